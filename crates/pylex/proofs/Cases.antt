@@ -1,0 +1,15 @@
+-- A test gives true or false.
+use Rattle.std.proofs.Common.{◌≡◌, Bool, true, false, ◌&&◌, not, refl, inl, inr, ◌⊎◌}
+
+pub bool_cases : (b : Bool) → (b ≡ true) ⊎ (b ≡ false)
+bool_cases true = inl refl
+bool_cases false = inr refl
+
+pub and_parts : (a b : Bool) → (a && b) ≡ true → (a ≡ true) × (b ≡ true)
+and_parts true true h = (refl, refl)
+and_parts true false h = cc
+and_parts false b h = cc
+
+pub not_false : (b : Bool) → not b ≡ false → b ≡ true
+not_false true h = refl
+not_false false h = cc

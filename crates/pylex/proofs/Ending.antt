@@ -1,0 +1,120 @@
+-- What a lister meets where the lexemes end.
+use Rattle.std.proofs.Common.{◌≡◌, ℕ, suc, ◌+◌, ◌<◌, Bool, true, false, not, ◌&&◌, ◌||◌, ◌==◌, List, [], ◌∷◌, ◌++◌, length, refl, ap, ◌∙◌, sym, subst, arith, cond, replicate, zero, Option, Some, None, ⊎_elim}
+use Rattle.std.specs.Prelude.{count_by, nat_lt}
+use Rattle.std.specs.Str.{chars, encode_utf8_all, IsUtf8}
+use Rattle.std.proofs.lemmas.Str.{chars-nil, encodes-chars}
+use Rattle.std.proofs.lemmas.Bool.Decides.{nat_tests}
+use Rattle.pylex.specs.declared.entries.Entry.{Entry}
+use Rattle.pylex.specs.declared.entries.ListingFault.{ListingFault}
+use Rattle.pylex.specs.declared.entries.ListingError.TheVariants as errors
+use Rattle.pylex.specs.declared.entries.Step.{Step}
+use Rattle.pylex.specs.declared.entries.Step.TheVariants as steps
+use Rattle.pylex.specs.declared.kinds.Kind.TheVariants as kinds
+use Rattle.pysource.specs.declared.places.Place.{Place}
+use Rattle.pylex.specs.declared.state.Progress.{Progress}
+use Rattle.pylex.specs.Lexemes.{lexeme_at}
+use Rattle.pylex.specs.Cuts.{begins_thing}
+use Rattle.pylex.specs.Listing.{fault_at, stop_fault, row_after, up_to_end}
+use Rattle.pylex.specs.Machine.{State, layout_of, stop_of, tail_of, last_line_end, last_place, remaining, behind_steps, mark_at, dedents_at}
+use Rattle.pylex.specs.Progress.{with_levels, closing, StopAhead}
+use Rattle.pylex.proofs.Cases.{bool_cases}
+use Rattle.pylex.proofs.Run.{up_to_end-append}
+use Rattle.pylex.proofs.Steps.{remaining_stop}
+use Rattle.pylex.proofs.Measured.{stop_within, behind_steps-append}
+use Rattle.pylex.proofs.Things.{all_cut}
+use Rattle.pylex.proofs.Finding.{settled_layout}
+
+-- a text with bytes has characters
+pub some_chars : (bytes : List ℕ) → IsUtf8 bytes → chars bytes ≡ [] → bytes ≡ []
+some_chars bytes u e = sym (encodes-chars bytes u) ∙ ap encode_utf8_all e
+
+-- at a stop within the text no layout is left
+thing_at_stop : (c : ℕ) (cs : List ℕ) → lexeme_at (c ∷ cs) ≡ None → begins_thing (c ∷ cs) ≡ true
+thing_at_stop c cs e = ⊎_elim
+    (λ (b : begins_thing (c ∷ cs) ≡ true). b)
+    (λ (b : begins_thing (c ∷ cs) ≡ false). let n = all_cut (c ∷ cs) b e in cc)
+    (bool_cases (begins_thing (c ∷ cs)))
+
+and_true : (b : Bool) → (b && true) ≡ b
+and_true true = refl
+and_true false = refl
+
+pub stop_found : (fault : Option ListingFault) (p : Progress) (ls : List ℕ) (c : ℕ) (cs : List ℕ) → StopAhead p (c ∷ cs) → remaining fault (with_levels p ls) (c ∷ cs) ≡ stop_fault fault p.now.place (c ∷ cs) ∷ []
+stop_found fault p ls c cs stop =
+    let s : State = with_levels p ls in
+    let last = stop_fault fault p.now.place (c ∷ cs) in
+    let thing = thing_at_stop c cs stop.none in
+    let margin : p.margin ≡ false = sym (and_true p.margin) ∙ ap (λ b. p.margin && b) (sym thing) ∙ stop.settled in
+    remaining_stop fault s (c ∷ cs) stop.none
+    ∙ ap up_to_end (stop_within fault s c cs ∙ ap (λ ss. ss ++ last ∷ []) (settled_layout s margin))
+    ∙ one_step fault p.now.place (c ∷ cs)
+  where
+    one_by : (step : Step) → up_to_end (step ∷ []) ≡ step ∷ []
+    one_by (steps.Entry e) = refl
+    one_by steps.End = refl
+    one_by (steps.Fault f) = refl
+
+    one_step : (fault : Option ListingFault) (q : Place) (left : List ℕ) → up_to_end ([] ++ stop_fault fault q left ∷ []) ≡ stop_fault fault q left ∷ []
+    one_step fault q left = one_by (stop_fault fault q left)
+
+-- the text's end, with a faulty line behind it
+stop_line : (f : ListingFault) (s : State) → stop_of (Some f) s [] ≡ steps.Fault f ∷ []
+unfolding stop_of
+stop_line f s = refl
+
+pub line_found : (f : ListingFault) (s : State) → lexeme_at [] ≡ None → remaining (Some f) s [] ≡ steps.Fault f ∷ []
+line_found f s e = remaining_stop (Some f) s [] e ∙ ap up_to_end (stop_line f s)
+
+-- within brackets, or after a join
+stop_open : (s : State) → (not (s.depth == 0) || s.joined) ≡ true → stop_of None s [] ≡ fault_at errors.EofInStatement (record { row = row_after s.now.place; column = 0 }) ∷ []
+unfolding stop_of tail_of
+stop_open s h = rw h refl
+
+pub open_found : (s : State) → lexeme_at [] ≡ None → (not (s.depth == 0) || s.joined) ≡ true → remaining None s [] ≡ fault_at errors.EofInStatement (record { row = row_after s.now.place; column = 0 }) ∷ []
+open_found s e h = remaining_stop None s [] e ∙ ap up_to_end (stop_open s h)
+
+-- the end itself
+abbrev end_of : State → List Step
+end_of s = mark_at kinds.EndMarker s.now.offset (last_place s) (last_place s) ∷ steps.End ∷ []
+
+abbrev dedents_of : State → List Step
+dedents_of s = dedents_at 0 s.levels s.now.offset (last_place s)
+
+stop_tail : (s : State) → (not (s.depth == 0) || s.joined) ≡ false → stop_of None s [] ≡ (last_line_end s ++ dedents_of s) ++ end_of s
+unfolding stop_of tail_of
+stop_tail s h = rw h refl
+
+entries_behind : (n : ℕ) (e : Entry) (r : List Step) → behind_steps (replicate n (steps.Entry e)) r ≡ replicate n (steps.Entry e) ++ r
+entries_behind zero e r = refl
+entries_behind (suc n) e r = ap (λ ss. steps.Entry e ∷ ss) (entries_behind n e r)
+
+-- the steps of the end are entries and the end
+pub tail_found : (s : State) → lexeme_at [] ≡ None → (not (s.depth == 0) || s.joined) ≡ false → remaining None s [] ≡ behind_steps (last_line_end s) (closing s)
+tail_found s e h =
+    remaining_stop None s [] e
+    ∙ ap up_to_end (stop_tail s h)
+    ∙ up_to_end-append (last_line_end s ++ dedents_of s) (end_of s)
+    ∙ behind_steps-append (last_line_end s) (dedents_of s) (end_of s)
+    ∙ ap (behind_steps (last_line_end s)) (entries_behind (count_by (nat_lt 0) s.levels) _ (end_of s))
+
+-- The same over bytes.
+pub stop_in : (fault : Option ListingFault) (p : Progress) (ls bytes : List ℕ) (f : ListingFault) → IsUtf8 bytes → (length bytes == 0) ≡ false → StopAhead p (chars bytes) → stop_fault fault p.now.place (chars bytes) ≡ steps.Fault f → remaining fault (with_levels p ls) (chars bytes) ≡ steps.Fault f ∷ []
+stop_in fault p ls bytes f u some stop is = by_chars (chars bytes) refl stop is
+  where
+    by_chars : (cs : List ℕ) → chars bytes ≡ cs → StopAhead p cs → stop_fault fault p.now.place cs ≡ steps.Fault f → remaining fault (with_levels p ls) cs ≡ steps.Fault f ∷ []
+    by_chars [] e stop is = let none = ap length (some_chars bytes u e) in let zero : (length bytes == 0) ≡ true = grind (arith, nat_tests) in let bad : false ≡ true = sym some ∙ zero in cc
+    by_chars (c ∷ cs) e stop is = stop_found fault p ls c cs stop ∙ ap (λ s. s ∷ []) is
+
+-- no bytes, no characters
+pub no_chars_left : (bytes : List ℕ) → (length bytes == 0) ≡ true → chars bytes ≡ []
+no_chars_left [] e = chars-nil
+no_chars_left (b ∷ bytes) e = let more : (length (b ∷ bytes) == 0) ≡ false = grind (arith, nat_tests) in let bad : true ≡ false = sym e ∙ more in cc
+
+pub line_in : (f g : ListingFault) (s : State) (bytes : List ℕ) → (length bytes == 0) ≡ true → lexeme_at (chars bytes) ≡ None → f ≡ g → remaining (Some g) s (chars bytes) ≡ steps.Fault f ∷ []
+line_in f g s bytes none at same = let e = no_chars_left bytes none in rw (e, same) (line_found g s (ap lexeme_at (sym e) ∙ at))
+
+pub open_in : (s : State) (bytes : List ℕ) (q : Place) → (length bytes == 0) ≡ true → lexeme_at (chars bytes) ≡ None → (not (s.depth == 0) || s.joined) ≡ true → q ≡ record { row = row_after s.now.place; column = 0 } → remaining None s (chars bytes) ≡ fault_at errors.EofInStatement q ∷ []
+open_in s bytes q none at open_now is = let e = no_chars_left bytes none in rw (e, is) (open_found s (ap lexeme_at (sym e) ∙ at) open_now)
+
+pub tail_in : (s : State) (bytes : List ℕ) (lasts : List Step) → (length bytes == 0) ≡ true → lexeme_at (chars bytes) ≡ None → (not (s.depth == 0) || s.joined) ≡ false → last_line_end s ≡ lasts → remaining None s (chars bytes) ≡ behind_steps lasts (closing s)
+tail_in s bytes lasts none at open_now is = let e = no_chars_left bytes none in rw (e, ← is) (tail_found s (ap lexeme_at (sym e) ∙ at) open_now)

@@ -1,0 +1,49 @@
+mod Cases
+mod Stack
+mod Law
+mod Front
+mod Run
+mod Steps
+mod Measured
+mod Layouts
+mod Tops
+mod Finding
+mod Ending
+mod Moving
+mod Resume
+mod Computing
+mod Full
+mod Resumed
+mod Rows
+pub mod Texts
+pub mod Walking
+pub mod Advancing
+pub mod Longest
+pub mod Best
+pub mod Joined
+pub mod Taking
+pub mod NumberSets
+pub mod Parts
+pub mod NumberBest
+pub mod Units
+pub mod Triples
+pub mod StringBest
+pub mod StringLongest
+pub mod Prefixes
+pub mod LiteralRows
+pub mod OpenStrings
+pub mod Classes
+pub mod Union
+pub mod Things
+pub mod OperatorLengths
+pub mod Cutting
+pub mod LinesLemmas
+pub mod LexemeClasses
+pub mod Lexed
+pub mod Lying
+pub mod Ends
+pub mod Order
+pub mod Covering
+pub mod Blocks
+pub mod Ahead
+pub mod Resuming

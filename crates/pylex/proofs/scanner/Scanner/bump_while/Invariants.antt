@@ -1,0 +1,10 @@
+use Rattle.std.proofs.Common.{◌≡◌, length}
+use Rattle.pylex.specs.Chars.{has}
+use Rattle.pylex.proofs.Texts.{after_run}
+use Rattle.pylex.proofs.scanner.Scanner.bump_while.Given as goal
+
+abbrev pub invariant-loop-first : goal.invariant-loop-first
+invariant-loop-first l = after_run (has l.set) l.self ≡ after_run (has l.initial.set) l.initial.self
+
+abbrev pub decreases-loop-first : goal.decreases-loop-first
+decreases-loop-first l = length l.self

@@ -1,0 +1,40 @@
+use Rattle.std.proofs.Common.{◌≡◌, ℕ, ◌≤◌, ap, ◌∙◌, sym, arith, length, refl}
+use Rattle.std.specs.Str.{chars}
+use Rattle.std.proofs.lemmas.Str.{length-le-encodes}
+use Rattle.pysource.specs.declared.places.Place.{Place}
+use Rattle.pylex.specs.declared.state.Point.{Point}
+use Rattle.pylex.specs.Lexemes.{Lexeme}
+use Rattle.pylex.specs.Machine.{past}
+use Rattle.pylex.proofs.Advancing.{IsAfter, is_after, more_room, place_offset}
+use Rattle.pylex.proofs.state.Progress.after.Goals as goal
+
+pub returns-clause-after : goal.returns-clause-after
+returns-clause-after c =
+    let x : Lexeme = record { «class» = c.args.class; text = chars c.args.text.now } in
+    is_after c.args.self x _ c.requires.settled (record {
+      now = place_offset _ _ _ _ c.walk-front.ensures.place c.requires.counted;
+      line = c.line_after.ensures;
+      depth = c.depth_after.ensures;
+      margin = c.margin_after.ensures;
+      width = c.width_past.ensures.value;
+      logical = c.logical_after.ensures;
+      joined = c.is_join.ensures;
+      front = c.walk-front.ensures.front;
+    })
+
+pub returns-clause-room : goal.returns-clause-room
+returns-clause-room c n room =
+    let x : Lexeme = record { «class» = c.args.class; text = chars c.args.text.now } in
+    let chars_le = length-le-encodes (chars c.args.text.now) in
+    let counted = c.requires.counted in
+    let fits : length (chars c.args.text.now) ≤ length c.args.text.now = omega arith in
+    more_room c.args.self x _ (length c.args.text.now) n (record {
+      now = place_offset _ _ _ _ c.walk-front.ensures.place c.requires.counted;
+      line = c.line_after.ensures;
+      depth = c.depth_after.ensures;
+      margin = c.margin_after.ensures;
+      width = c.width_past.ensures.value;
+      logical = c.logical_after.ensures;
+      joined = c.is_join.ensures;
+      front = c.walk-front.ensures.front;
+    }) refl fits c.width_past.ensures.bound c.requires.some room

@@ -1,0 +1,14 @@
+use Rattle.std.proofs.Common.{◌≡◌, ℕ, ◌+◌, ◌≤◌, length}
+use Rattle.std.specs.Str.{chars, IsUtf8}
+use Rattle.std.specs.Str.Iter.{chars_rest}
+use Rattle.pylex.specs.Machine.{advance, front_after}
+use Rattle.pylex.proofs.state.walk.Given as goal
+
+abbrev pub invariant-loop-c : goal.invariant-loop-c
+invariant-loop-c l = record {
+  advances : advance l.place (chars (chars_rest l.c-iterator)) ≡ advance l.initial.place (chars l.fn.text);
+  begins : front_after l.front (chars (chars_rest l.c-iterator)) ≡ front_after l.initial.front (chars l.fn.text);
+  utf8 : IsUtf8 (chars_rest l.c-iterator);
+  row : l.place.row + length (chars_rest l.c-iterator) ≤ l.initial.place.row + length l.fn.text;
+  column : l.place.column + length (chars_rest l.c-iterator) ≤ l.initial.place.column + length l.fn.text;
+}

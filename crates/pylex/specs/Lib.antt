@@ -1,0 +1,17 @@
+pub mod Numbers
+pub mod Strings
+pub mod Chars
+pub mod Lengths
+pub mod Operators
+pub mod Lexemes
+pub mod Cuts
+pub mod Lines
+pub mod Levels
+pub mod Listing
+pub mod Steps
+pub mod ListingLines
+pub mod Cursors
+pub mod Machine
+pub mod Progress
+pub mod Standing
+pub mod Laws

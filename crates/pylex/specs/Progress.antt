@@ -1,0 +1,146 @@
+-- How a lister stands: its progress, its open levels, and the steps that it has ahead.
+use Rattle.std.specs.Prelude.{◌≡◌, ℕ, ◌+◌, ◌-◌, ◌*◌, ◌^◌, ◌<◌, Bool, true, false, not, ◌&&◌, ◌==◌, nat_lt, List, [], ◌∷◌, ◌++◌, length, count_by, Option, Some, None}
+use Rattle.std.specs.List.{list_all, list_any}
+use Rattle.std.specs.Str.{chars, IsUtf8}
+use Rattle.pylex.specs.declared.entries.Entry.{Entry}
+use Rattle.pylex.specs.declared.entries.ListingFault.{ListingFault}
+use Rattle.pylex.specs.declared.entries.Step.{Step}
+use Rattle.pylex.specs.declared.entries.Step.TheVariants as steps
+use Rattle.pylex.specs.declared.kinds.Kind.TheVariants as kinds
+use Rattle.pylex.specs.declared.state.Given.{Given}
+use Rattle.pylex.specs.declared.state.Given.TheVariants as gives
+use Rattle.pylex.specs.declared.state.Progress.{Progress}
+use Rattle.pylex.specs.declared.lister.Phase.{Phase}
+use Rattle.pylex.specs.declared.lister.Phase.TheVariants.{Start, Text, Tail, Ended}
+use Rattle.pylex.specs.declared.lister.Layout.{Layout}
+use Rattle.pylex.specs.declared.lister.Layout.TheVariants as layouts
+use Rattle.pylex.specs.declared.lister.Meets.{Meets}
+use Rattle.pylex.specs.declared.lister.Meets.TheVariants as meets
+use Rattle.pylex.specs.Lexemes.{lexeme_at}
+use Rattle.pylex.specs.Cuts.{begins_thing}
+use Rattle.pylex.specs.Listing.{mark, origin}
+use Rattle.pylex.specs.Machine.{State, pushed, remaining, mark_at, dedents_at, last_place}
+
+-- the state of a lister, with the levels that are open
+abbrev pub with_levels : Progress → List ℕ → State
+with_levels p levels = record {
+  now = p.now;
+  line = p.line;
+  depth = p.depth;
+  levels = levels;
+  margin = p.margin;
+  width = p.width;
+  logical = p.logical;
+  joined = p.joined;
+  front = p.front;
+}
+
+-- the state after the layout before the first thing of a logical line
+abbrev pub measured : State → State
+measured s = record {
+  now = s.now;
+  line = s.line;
+  depth = s.depth;
+  levels = pushed s.width s.levels;
+  margin = false;
+  width = 0;
+  logical = true;
+  joined = s.joined;
+  front = s.front;
+}
+
+-- the counts of a lister that has n more bytes to go stay small
+pub record HasRoom (p : Progress) (n : ℕ) : Type 0 where
+  pub row : p.now.place.row + n < 2 ^ 62
+  pub column : p.now.place.column + n < 2 ^ 62
+  pub offset : p.now.offset + n < 2 ^ 62
+  pub depth : p.depth + n < 2 ^ 62
+  pub width : p.width + 8 * n < 2 ^ 62
+
+-- a lister may go on over these bytes
+pub record Stands (p : Progress) (bytes : List ℕ) : Type 0 where
+  pub utf8 : IsUtf8 bytes
+  pub room : HasRoom p (length bytes)
+
+-- numbers, each larger than the one before, the first larger than n
+abbrev pub IsAscending : ℕ → List ℕ → Type 0
+IsAscending n [] = Unit {0}
+IsAscending n (m ∷ ms) = (n < m) × IsAscending m ms
+
+-- what a lexeme gives: nothing, an entry or a fault
+abbrev pub given : Given → List Step
+given gives.Nothing = []
+given (gives.Entry e) = steps.Entry e ∷ []
+given (gives.Fault f) = steps.Fault f ∷ []
+
+-- the DEDENTs of the end and ENDMARKER
+abbrev pub closing : State → List Step
+closing s = dedents_at 0 s.levels s.now.offset (last_place s) ++ mark_at kinds.EndMarker s.now.offset (last_place s) (last_place s) ∷ steps.End ∷ []
+
+-- the width is that of an open level, of none but larger than all, or of none
+abbrev pub is_above : ℕ → List ℕ → Bool
+is_above w levels = list_all (λ v. nat_lt v w) levels
+
+abbrev pub is_level : ℕ → List ℕ → Bool
+is_level w levels = list_any (λ v. v == w) levels
+
+-- The steps that a lister has ahead.
+unfoldable pub steps_ahead : Phase → Option ListingFault → Progress → List ℕ → List ℕ → List Step
+steps_ahead Start fault p levels left = mark kinds.Encoding [] origin origin ∷ remaining fault (with_levels p (0 ∷ levels)) left
+steps_ahead Text fault p levels left = remaining fault (with_levels p (0 ∷ levels)) left
+steps_ahead Tail fault p levels left = closing (with_levels p (0 ∷ levels))
+steps_ahead Ended fault p levels left = steps.End ∷ []
+
+-- What is met next: a lister that stands at p, before these characters, comes to q, before those, and there is what it meets.
+pub record SameAhead (levels : List ℕ) (p : Progress) (cs : List ℕ) (q : Progress) (ds : List ℕ) : Type 0 where
+  pub same : (fault : Option ListingFault) → remaining fault (with_levels p (0 ∷ levels)) cs ≡ remaining fault (with_levels q (0 ∷ levels)) ds
+
+-- an entry comes, and then what is ahead there
+pub record EntryAhead (levels : List ℕ) (p : Progress) (cs : List ℕ) (e : Entry) (q : Progress) (ds : List ℕ) : Type 0 where
+  pub step : (fault : Option ListingFault) → remaining fault (with_levels p (0 ∷ levels)) cs ≡ steps.Entry e ∷ remaining fault (with_levels q (0 ∷ levels)) ds
+
+pub record FaultAhead (levels : List ℕ) (p : Progress) (cs : List ℕ) (f : ListingFault) : Type 0 where
+  pub step : (fault : Option ListingFault) → remaining fault (with_levels p (0 ∷ levels)) cs ≡ steps.Fault f ∷ []
+
+-- a first thing of a line stands here, whose width is above all levels
+pub record IndentAhead (levels : List ℕ) (q : Progress) (ds : List ℕ) : Type 0 where
+  pub margin : q.margin ≡ true
+  pub thing : begins_thing ds ≡ true
+  pub above : is_above q.width (0 ∷ levels) ≡ true
+
+-- or is that of a level below the last
+pub record DedentAhead (levels : List ℕ) (q : Progress) (ds : List ℕ) : Type 0 where
+  pub margin : q.margin ≡ true
+  pub thing : begins_thing ds ≡ true
+  pub level : is_level q.width (0 ∷ levels) ≡ true
+  pub some : 0 < length levels
+  pub last : (front : List ℕ) (v : ℕ) → levels ≡ front ++ v ∷ [] → q.width < v
+
+-- no lexeme stands here, and no layout is due
+pub record StopAhead (q : Progress) (ds : List ℕ) : Type 0 where
+  pub none : lexeme_at ds ≡ None
+  pub settled : (q.margin && begins_thing ds) ≡ false
+
+abbrev pub Finds : List ℕ → Progress → List ℕ → Meets → Progress → List ℕ → Type 0
+Finds levels p cs (meets.Entry e) q ds = EntryAhead levels p cs e q ds
+Finds levels p cs (meets.Fault f) q ds = FaultAhead levels p cs f
+Finds levels p cs meets.Indent q ds = SameAhead levels p cs q ds × IndentAhead levels q ds
+Finds levels p cs meets.Dedent q ds = SameAhead levels p cs q ds × DedentAhead levels q ds
+Finds levels p cs meets.Stop q ds = SameAhead levels p cs q ds × StopAhead q ds
+
+-- the last of the open levels, by those above 0
+pub record IsTop (levels : List ℕ) (top : ℕ) : Type 0 where
+  pub last : (front : List ℕ) (v : ℕ) → levels ≡ front ++ v ∷ [] → v ≡ top
+  pub none : length levels ≡ 0 → top ≡ 0
+
+-- the layout of a line by its width and the open levels above 0
+abbrev pub IsLayout : ℕ → List ℕ → Layout → Type 0
+IsLayout w levels layouts.Level = (is_above w (0 ∷ levels) ≡ false) × (is_level w (0 ∷ levels) ≡ true) × (count_by (nat_lt w) (0 ∷ levels) ≡ 0) × (pushed w (0 ∷ levels) ≡ 0 ∷ levels)
+IsLayout w levels layouts.Indent = is_above w (0 ∷ levels) ≡ true
+IsLayout w levels layouts.Dedent = (is_level w (0 ∷ levels) ≡ true) × (0 < length levels) × ((front : List ℕ) (v : ℕ) → levels ≡ front ++ v ∷ [] → w < v)
+IsLayout w levels layouts.Mismatch = (is_above w (0 ∷ levels) ≡ false) × (is_level w (0 ∷ levels) ≡ false)
+
+-- a lister that stands at p, before these characters, may as well stand at q, where no layout is due
+pub record Settles (levels : List ℕ) (p : Progress) (cs : List ℕ) (q : Progress) : Type 0 where
+  pub same : SameAhead levels p cs q cs
+  pub settled : (q.margin && begins_thing cs) ≡ false

@@ -1,0 +1,44 @@
+-- The steps of a listing: entries, and then its end or the fault that ends it.
+use Rattle.std.specs.Prelude.{◌≡◌, ℕ, Bool, true, false, List, [], ◌∷◌, Option, Some, None}
+use Rattle.pylex.specs.declared.entries.Entry.{Entry}
+use Rattle.pylex.specs.declared.entries.ListingFault.{ListingFault}
+use Rattle.pylex.specs.declared.kinds.Kind.TheVariants as kinds
+use Rattle.pylex.specs.declared.entries.Step.{Step}
+use Rattle.pylex.specs.declared.entries.Step.TheVariants as steps
+
+-- the entries among them
+abbrev pub entries_of : List Step → List Entry
+entries_of [] = []
+entries_of (steps.Entry e ∷ ss) = e ∷ entries_of ss
+entries_of (steps.End ∷ ss) = entries_of ss
+entries_of (steps.Fault f ∷ ss) = entries_of ss
+
+-- the fault that ends them, if one does
+abbrev pub fault_of : List Step → Option ListingFault
+fault_of [] = None
+fault_of (steps.Entry e ∷ ss) = fault_of ss
+fault_of (steps.End ∷ ss) = None
+fault_of (steps.Fault f ∷ ss) = Some f
+
+-- what a lister answers that has these steps ahead
+abbrev pub first_step : List Step → Step
+first_step [] = steps.End
+first_step (s ∷ ss) = s
+
+-- the steps that are ahead then: an end and a fault stay
+abbrev pub rest_of : List Step → List Step
+rest_of [] = []
+rest_of (steps.Entry e ∷ ss) = ss
+rest_of (steps.End ∷ ss) = steps.End ∷ ss
+rest_of (steps.Fault f ∷ ss) = steps.Fault f ∷ ss
+
+-- a lister that had the old steps ahead answers the first, and has the rest ahead
+pub record Moves (old : List Step) (answer : Step) (new : List Step) : Type 0 where
+  pub step : answer ≡ first_step old
+  pub rest : new ≡ rest_of old
+
+-- the step gives an INDENT
+abbrev pub IsIndent : Step → Type 0
+IsIndent (steps.Entry e) = elim e.kind [ kinds.Indent ↦ Unit {0} | _ ↦ ⊥ ]
+IsIndent steps.End = ⊥
+IsIndent (steps.Fault f) = ⊥

@@ -1,0 +1,69 @@
+//! The entries of a listing, and what can end it.
+
+ghost use Rattle.std.specs.Prelude.{◌≡◌, ◌≢◌};
+ghost use Rattle.pylex.specs.ListingLines.{text_of};
+ghost use Rattle.pylex.specs.Laws.{LiesIn};
+
+use crate::kinds::{Exact, Kind};
+use pysource::{LineError, Place, Source};
+
+/// One entry of a listing.
+///
+/// Rows count from 1 and columns from 0, in characters; the entry of the encoding stands at 0,0. `from` and `to` are
+/// offsets in the text, in bytes; an entry of empty text has both where it stands.
+#[derive(Clone, Copy, Debug, PartialEq, Eq)]
+pub struct Entry {
+    pub kind: Kind,
+    /// The exact type, of an operator alone.
+    pub exact: Option<Exact>,
+    pub start: Place,
+    pub end: Place,
+    pub from: usize,
+    pub to: usize,
+}
+
+/// What can be wrong with a source, so that its listing ends there.
+#[derive(Clone, Copy, Debug, PartialEq, Eq)]
+pub enum ListingError {
+    /// A byte that its line may not have.
+    Line(LineError),
+    /// A character that begins no token.
+    BadCharacter,
+    /// A string that is not ended.
+    UnterminatedString,
+    /// The text's end within a string that may go on over lines.
+    EofInString,
+    /// The text's end within brackets, or directly after a backslash and a line end.
+    EofInStatement,
+    /// A line that closes blocks, but not to the indentation of one that is open.
+    UnindentMismatch,
+    /// A closing bracket where none is open.
+    UnmatchedCloser,
+}
+
+/// A fault of a source, and its place.
+#[derive(Clone, Copy, Debug, PartialEq, Eq)]
+pub struct ListingFault {
+    pub code: ListingError,
+    pub place: Place,
+}
+
+/// What a lister answers: the next entry, that there is none, or the fault that ends the listing.
+#[derive(Clone, Copy, Debug, PartialEq, Eq)]
+pub enum Step {
+    Entry(Entry),
+    End,
+    Fault(ListingFault),
+}
+
+/// The text of an entry of a source: the encoding's name for the entry of the encoding, and otherwise what stands
+/// between its offsets.
+pub fn text<'a>(source: &'a Source, entry: &Entry) -> &'a str
+    requires { entry.now.kind ≢ Kind.Encoding → LiesIn source.now.text entry.now }
+    ensures { result.now ≡ text_of source.now entry.now }
+{
+    match entry.kind {
+        Kind::Encoding => source.encoding().text(),
+        _ => &source.text()[entry.from..entry.to],
+    }
+}

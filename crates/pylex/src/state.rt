@@ -1,0 +1,426 @@
+//! How far a lister has come in a text.
+
+ghost use Rattle.std.specs.Prelude.{◌≡◌, ℕ, ◌+◌, ◌*◌, ◌^◌, ◌<◌, ◌≤◌, ◌&&◌, ◌||◌, not, ◌==◌, if◌then◌else◌, List, [], ◌∷◌, length, false, Ok, ◌-◌};
+ghost use Rattle.std.specs.Str.{chars};
+ghost use Rattle.pylex.specs.Lines.{opens, closes, is_thing_class, is_blanks_class, is_line_end_class, column_after, width_from, bytes_in};
+ghost use Rattle.pylex.specs.Machine.{advance, front_after_char, front_after, past, behind, after, entry_by, step_of, mark_at, is_join_class, is_hash, still, count_if, pushed, first_state, last_line_end, last_place};
+ghost use Rattle.pylex.specs.Listing.{row_after};
+ghost use Rattle.pylex.specs.Progress.{with_levels, measured, given, HasRoom};
+
+use crate::entries::{Entry, ListingError, ListingFault, Step};
+use crate::kinds::{Exact, Kind};
+use crate::lexeme::Class;
+use crate::operators::{exact_of, is_closer, is_opener};
+use crate::scanner::char_count;
+use pysource::Place;
+
+/// A place of a text, and its offset in bytes.
+#[derive(Clone, Copy, Debug, PartialEq, Eq)]
+pub struct Point {
+    pub place: Place,
+    pub offset: usize,
+}
+
+/// What a physical line begins with, blanks aside.
+#[derive(Clone, Copy, Debug, PartialEq, Eq)]
+pub enum Front {
+    /// Nothing yet.
+    Nothing,
+    /// A `#`.
+    Hash,
+    /// Another character.
+    Other,
+}
+
+/// How far a lister has come, its open levels aside.
+#[derive(Clone, Copy, Debug, PartialEq, Eq)]
+pub struct Progress {
+    pub now: Point,
+    /// Where the measured line begins.
+    pub line: Point,
+    /// How many brackets are open.
+    pub depth: usize,
+    /// Only blanks stand before this place in its measured line.
+    pub margin: bool,
+    /// The width of these blanks; 0 past the margin.
+    pub width: usize,
+    /// The line holds more than blanks and a comment so far.
+    pub logical: bool,
+    /// The last lexeme was a backslash and a line end.
+    pub joined: bool,
+    pub front: Front,
+}
+
+/// What a lexeme or the text's end gives to a listing.
+#[derive(Clone, Copy, Debug, PartialEq, Eq)]
+pub enum Given {
+    Nothing,
+    Entry(Entry),
+    Fault(ListingFault),
+}
+
+impl Front {
+    /// What the line begins with after one more character.
+    fn after(self, c: char) -> Front
+        ensures { result ≡ front_after_char self c }
+    {
+        if c == '\n' {
+            return Front::Nothing;
+        }
+        match self {
+            Front::Nothing => match c {
+                ' ' | '\t' | '\x0c' => Front::Nothing,
+                '#' => Front::Hash,
+                _ => Front::Other,
+            },
+            Front::Hash => Front::Hash,
+            Front::Other => Front::Other,
+        }
+    }
+}
+
+impl Front {
+    fn is_hash(self) -> bool
+        ensures { result ≡ is_hash self }
+    {
+        matches!(self, Front::Hash)
+    }
+}
+
+/// The place after a text that begins at a place, and what its line begins with.
+fn walk(place: Place, front: Front, text: &str) -> (Place, Front)
+    requires row { place.row + length text.now < 2 ^ 63 }
+    requires column { place.column + length text.now < 2 ^ 63 }
+    ensures place { result.0 ≡ advance place (chars text.now) }
+    ensures front { result.1 ≡ front_after front (chars text.now) }
+{
+    let mut place = place;
+    let mut front = front;
+    for c in text.chars() {
+        front = front.after(c);
+        if c == '\n' {
+            place.row += 1;
+            place.column = 0;
+        } else {
+            place.column += 1;
+        }
+    }
+    (place, front)
+}
+
+/// The column that a blank goes on to: a tab goes to the next multiple of 8, a form feed sets 0.
+fn column_after(column: usize, blank: char) -> usize
+    requires { column < 2 ^ 63 }
+    ensures value { result ≡ column_after column blank }
+    ensures bound { result ≤ column + 8 }
+{
+    if blank == '\t' {
+        (column / 8 + 1) * 8
+    } else if blank == '\x0c' {
+        0
+    } else {
+        column + 1
+    }
+}
+
+/// The width of blanks that go on from a width.
+fn width_after(width: usize, blanks: &str) -> usize
+    requires { width + 8 * length blanks.now < 2 ^ 63 }
+    ensures value { result ≡ width_from width (chars blanks.now) }
+    ensures bound { result ≤ width + 8 * length blanks.now }
+{
+    let mut width = width;
+    for c in blanks.chars() {
+        width = column_after(width, c);
+    }
+    width
+}
+
+impl Class {
+    /// Whether such a lexeme makes a line logical.
+    fn is_thing(self) -> bool
+        ensures { result ≡ is_thing_class self }
+    {
+        match self {
+            Class::Blanks | Class::Comment | Class::LineEnd => false,
+            Class::Name | Class::Number | Class::String | Class::Operator | Class::Join => true,
+        }
+    }
+
+    fn is_blanks(self) -> bool
+        ensures { result ≡ is_blanks_class self }
+    {
+        matches!(self, Class::Blanks)
+    }
+
+    fn is_line_end(self) -> bool
+        ensures { result ≡ is_line_end_class self }
+    {
+        matches!(self, Class::LineEnd)
+    }
+
+    fn is_join(self) -> bool
+        ensures { result ≡ is_join_class self }
+    {
+        matches!(self, Class::Join)
+    }
+}
+
+impl Point {
+    /// The point after a text that begins here.
+    fn past(self, text: &str) -> Point
+        requires row { self.place.row + length text.now < 2 ^ 63 }
+        requires column { self.place.column + length text.now < 2 ^ 63 }
+        requires offset { self.offset + length text.now < 2 ^ 63 }
+        requires counted { bytes_in (chars text.now) ≡ length text.now }
+        ensures { result ≡ past self (chars text.now) }
+    {
+        let (place, _) = walk(self.place, Front::Nothing, text);
+        Point {
+            place,
+            offset: self.offset + text.len(),
+        }
+    }
+
+    /// The point after a line end that begins here, still on its row.
+    fn behind(self, text: &str) -> Point
+        requires column { self.place.column + length text.now < 2 ^ 63 }
+        requires offset { self.offset + length text.now < 2 ^ 63 }
+        requires counted { bytes_in (chars text.now) ≡ length text.now }
+        ensures { result ≡ behind self (chars text.now) }
+    {
+        Point {
+            place: Place {
+                row: self.place.row,
+                column: self.place.column + char_count(text),
+            },
+            offset: self.offset + text.len(),
+        }
+    }
+}
+
+/// The entry from a point to another.
+pub fn entry_of(kind: Kind, exact: Option<Exact>, from: Point, to: Point) -> Entry
+    ensures { step_of kind exact from to ≡ Step.Entry result }
+{
+    Entry {
+        kind,
+        exact,
+        start: from.place,
+        end: to.place,
+        from: from.offset,
+        to: to.offset,
+    }
+}
+
+/// An entry of empty text.
+pub fn mark(kind: Kind, offset: usize, start: Place, end: Place) -> Entry
+    ensures { mark_at kind offset start end ≡ Step.Entry result }
+{
+    Entry {
+        kind,
+        exact: None,
+        start,
+        end,
+        from: offset,
+        to: offset,
+    }
+}
+
+impl Progress {
+    /// At the start of a text.
+    pub fn start() -> Progress
+        ensures { with_levels result (0 ∷ []) ≡ first_state }
+    {
+        let point = Point {
+            place: Place { row: 1, column: 0 },
+            offset: 0,
+        };
+        Progress {
+            now: point,
+            line: point,
+            depth: 0,
+            margin: true,
+            width: 0,
+            logical: false,
+            joined: false,
+            front: Front::Nothing,
+        }
+    }
+
+    /// After the layout before the first thing of a logical line.
+    pub fn measured(self) -> Progress
+        ensures measured { (levels : List ℕ) → with_levels result (pushed self.width levels) ≡ measured (with_levels self levels) }
+        ensures room { (n : ℕ) → HasRoom self n → HasRoom result n }
+    {
+        Progress {
+            margin: false,
+            width: 0,
+            logical: true,
+            ..self
+        }
+    }
+
+    /// The depth after a lexeme.
+    fn depth_after(self, class: Class, text: &str) -> usize
+        requires { self.depth < 2 ^ 62 }
+        ensures { result ≡ self.depth + count_if (opens (record { «class» = class; text = chars text.now })) - count_if (closes (record { «class» = class; text = chars text.now })) }
+    {
+        match class {
+            Class::Operator => {
+                let opened = if is_opener(text) { self.depth + 1 } else { self.depth };
+                if is_closer(text) { opened.saturating_sub(1) } else { opened }
+            }
+            _ => self.depth,
+        }
+    }
+
+    #[tactic(auto, unfolding(crate::specs::Machine::entry_by))]
+    /// What a lexeme gives: an entry, nothing, or the fault of a closing bracket where none is open.
+    pub fn give(self, class: Class, text: &str) -> Given
+        requires room { HasRoom self (length text.now) }
+        requires counted { bytes_in (chars text.now) ≡ length text.now }
+        ensures { (levels : List ℕ) → entry_by (with_levels self levels) (record { «class» = class; text = chars text.now }) ≡ given result }
+    {
+        let (kind, exact) = match class {
+            Class::Blanks | Class::Join => return Given::Nothing,
+            Class::LineEnd => {
+                let kind = if self.logical && self.depth == 0 { Kind::Newline } else { Kind::Nl };
+                return Given::Entry(entry_of(kind, None, self.now, self.now.behind(text)));
+            }
+            Class::Operator => {
+                if self.depth == 0 && is_closer(text) {
+                    return Given::Fault(ListingFault {
+                        code: ListingError::UnmatchedCloser,
+                        place: self.now.place,
+                    });
+                }
+                (Kind::Op, exact_of(text))
+            }
+            Class::Name => (Kind::Name, None),
+            Class::Number => (Kind::Number, None),
+            Class::String => (Kind::String, None),
+            Class::Comment => (Kind::Comment, None),
+        };
+        Given::Entry(entry_of(kind, exact, self.now, self.now.past(text)))
+    }
+
+    /// Whether a lexeme ends the measured line.
+    fn ends_line(self, class: Class) -> bool
+        ensures { result ≡ (is_line_end_class class && (self.depth == 0)) }
+    {
+        class.is_line_end() && self.depth == 0
+    }
+
+    /// Where the measured line begins after a lexeme that ends here.
+    fn line_after(self, class: Class, now: Point) -> Point
+        ensures { result ≡ (if is_line_end_class class && (self.depth == 0) then now else self.line) }
+    {
+        if self.ends_line(class) { now } else { self.line }
+    }
+
+    /// Whether only blanks stand in the measured line after a lexeme.
+    fn margin_after(self, class: Class) -> bool
+        ensures { result ≡ ((is_line_end_class class && (self.depth == 0)) || (is_blanks_class class && self.margin)) }
+    {
+        self.ends_line(class) || class.is_blanks() && self.margin
+    }
+
+    /// The width of these blanks.
+    fn width_past(self, class: Class, text: &str) -> usize
+        requires { self.width + 8 * length text.now < 2 ^ 63 }
+        ensures value { result ≡ still (is_blanks_class class && self.margin) (width_from self.width (chars text.now)) }
+        ensures bound { result ≤ self.width + 8 * length text.now }
+    {
+        if class.is_blanks() && self.margin { width_after(self.width, text) } else { 0 }
+    }
+
+    /// Whether the line holds more than blanks and a comment after a lexeme.
+    fn logical_after(self, class: Class) -> bool
+        ensures { result ≡ (not (is_line_end_class class && (self.depth == 0)) && (is_thing_class class || self.logical)) }
+    {
+        !self.ends_line(class) && (class.is_thing() || self.logical)
+    }
+
+    /// How far the lister has come after a lexeme.
+    pub fn after(self, class: Class, text: &str) -> Progress
+        requires room { HasRoom self (length text.now) }
+        requires counted { bytes_in (chars text.now) ≡ length text.now }
+        requires some { 0 < length text.now }
+        requires settled { (self.margin && is_thing_class class) ≡ false }
+        ensures after { (levels : List ℕ) → with_levels result levels ≡ after (with_levels self levels) (record { «class» = class; text = chars text.now }) }
+        ensures room { (n : ℕ) → HasRoom self (length text.now + n) → HasRoom result n }
+    {
+        let (place, front) = walk(self.now.place, self.front, text);
+        let now = Point {
+            place,
+            offset: self.now.offset + text.len(),
+        };
+        Progress {
+            now,
+            line: self.line_after(class, now),
+            depth: self.depth_after(class, text),
+            margin: self.margin_after(class),
+            width: self.width_past(class, text),
+            logical: self.logical_after(class),
+            joined: class.is_join(),
+            front,
+        }
+    }
+
+    /// Whether a statement is open at the text's end: within brackets, or directly after a join.
+    pub fn is_open(self) -> bool
+        ensures { result ≡ (not (self.depth == 0) || self.joined) }
+    {
+        self.depth != 0 || self.joined
+    }
+
+    /// The line end that the text's end gives to a last line that lacks its own, if it does.
+    #[tactic(auto, unfolding(crate::specs::Machine::last_line_end))]
+    pub fn last_line_end(self) -> Given
+        requires { self.now.place.column < 2 ^ 62 }
+        ensures { (levels : List ℕ) → last_line_end (with_levels self levels) ≡ given result }
+    {
+        let end = self.now.place;
+        if self.logical {
+            if self.front.is_hash() {
+                return Given::Nothing;
+            }
+            let further = Place {
+                row: end.row,
+                column: end.column + 1,
+            };
+            return Given::Entry(mark(Kind::Newline, self.now.offset, end, further));
+        }
+        if self.margin {
+            return Given::Nothing;
+        }
+        Given::Entry(mark(Kind::Nl, self.now.offset, end, end))
+    }
+
+    /// The start of the row after the last line, an unfinished one counted.
+    pub fn row_after(self) -> Place
+        requires { self.now.place.row < 2 ^ 62 }
+        ensures { result ≡ record { row = row_after self.now.place; column = 0 } }
+    {
+        let end = self.now.place;
+        Place {
+            row: if end.column == 0 { end.row } else { end.row + 1 },
+            column: 0,
+        }
+    }
+
+    /// Where the entries of the end stand.
+    pub fn last_place(self) -> Place
+        requires { self.now.place.row < 2 ^ 62 }
+        ensures { (levels : List ℕ) → result ≡ last_place (with_levels self levels) }
+    {
+        if self.margin {
+            return Place {
+                row: self.now.place.row,
+                column: 0,
+            };
+        }
+        self.row_after()
+    }
+}

@@ -1,0 +1,11 @@
+pub mod PlacesLemmas
+pub mod Categories
+pub mod ReprsLemmas
+pub mod CookiesLemmas
+pub mod ReturnsLemmas
+pub mod LinesLemmas
+pub mod BadLemmas
+pub mod CutLemmas
+pub mod Rows
+pub mod ByteLemmas
+pub mod PushReprLemmas

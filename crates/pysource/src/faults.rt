@@ -1,0 +1,25 @@
+//! What can be wrong with a physical line of a source.
+//!
+//! Python language reference, 2.1.2 "Physical lines" and 2.1.4 "Encoding declarations".
+
+use crate::places::Place;
+
+/// What is wrong with a byte of a line.
+#[derive(Debug, Clone, Copy, PartialEq, Eq, Drop)]
+pub enum LineError {
+    /// The byte behind the longest front of the line that is UTF-8.
+    NotUtf8,
+    /// A byte above 7F in a source of ASCII.
+    NotAscii,
+    /// A carriage return that no line feed follows.
+    LoneReturn,
+}
+
+/// The first bad byte of a line: what is wrong with it, and its row and column.
+#[derive(Debug, Clone, Copy, PartialEq, Eq, Drop)]
+pub struct LineFault {
+    /// What is wrong.
+    pub code: LineError,
+    /// The row of the line, and the number of characters before the bad byte in it.
+    pub place: Place,
+}

@@ -1,0 +1,34 @@
+//! Source text of Python 3.11: its encoding, its physical lines, places in it, and the `repr` of
+//! texts and bytes.
+//!
+//! [`decode`] makes a [`Source`] of the bytes of a file: it finds the encoding that the first two
+//! lines declare, and gives the text of the lines before the first faulty one, and that line's
+//! fault. [`place_of`] tells the row and column of an offset of a text. [`repr_text`],
+//! [`push_repr`] and [`repr_bytes`] write what Python's `repr` writes. [`ByteIn`] and [`ByteOut`]
+//! are readers and writers of bytes that count their failures, with [`read_all`] and
+//! [`write_all`] over them.
+//!
+//! A contract that says `≡` of a word of `specs/` says that the call computes exactly that.
+#![tactic(auto)]
+
+mod bytes;
+mod encodings;
+mod faults;
+mod places;
+mod reprs;
+mod sources;
+
+pub use bytes::{
+    ByteIn, ByteOut, Counted, InputFault, ReadFailed, SOURCE_LIMIT, WriteFailed, read_all,
+    write_all,
+};
+pub use encodings::{Charset, Encoding, SourceFault, encoding_of};
+pub use faults::{LineError, LineFault};
+pub use places::{Place, place_of};
+pub use reprs::{push_repr, repr_bytes, repr_text};
+pub use sources::{Source, decode};
+
+#[cfg(test)]
+mod fakes;
+#[cfg(test)]
+mod tests;
