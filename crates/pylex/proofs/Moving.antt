@@ -130,7 +130,7 @@ closing_dedent f p ls ms left v e h levels is =
     let place = last_place (with_levels p (0 ∷ ls)) in
     let less : 0 < v = last_positive 0 ms v (subst (IsAscending 0) levels h) in
     let one : dedents_at 0 (0 ∷ ls) p.now.offset place ≡ steps.Entry e ∷ dedents_at 0 (0 ∷ ms) p.now.offset place =
-      ap (λ ns. dedents_at 0 (0 ∷ ns) p.now.offset place) levels ∙ dedents-push 0 v (0 ∷ ms) p.now.offset place less ∙ ap (λ s. s ∷ dedents_at 0 (0 ∷ ms) p.now.offset place) is in
+    ap (λ ns. dedents_at 0 (0 ∷ ns) p.now.offset place) levels ∙ dedents-push 0 v (0 ∷ ms) p.now.offset place less ∙ ap (λ s. s ∷ dedents_at 0 (0 ∷ ms) p.now.offset place) is in
     moves_by _ e _ (ap (λ ss. ss ++ mark_at kinds.EndMarker p.now.offset place place ∷ steps.End ∷ []) one)
 
 pub closing_end : (f : Option ListingFault) (p : Progress) (ls ms left : List ℕ) (e : Entry) → ls ≡ [] → mark_at kinds.EndMarker p.now.offset (last_place (with_levels p (0 ∷ ls))) (last_place (with_levels p (0 ∷ ls))) ≡ steps.Entry e → Moves (closing (with_levels p (0 ∷ ls))) (steps.Entry e) (steps_ahead phases.Ended f p ms left)

@@ -65,8 +65,7 @@ level_last : (v : ℕ) (front : List ℕ) → is_above v (0 ∷ front) ≡ true 
 level_last v front below =
     let counted = count_none v (0 ∷ front) below in
     let not_less : nat_lt v v ≡ false = grind (arith, nat_tests) in
-    let equal : (v == v) ≡ true = grind (arith, nat_tests) in
-    (
+    let equal : (v == v) ≡ true = grind (arith, nat_tests) in (
       last_above v v (0 ∷ front) (omega arith),
       level-push v v (0 ∷ front) ∙ rw equal (or_true (is_level v (0 ∷ front))),
       count-push v v (0 ∷ front) ∙ rw (not_less, counted) refl,

@@ -127,3 +127,13 @@ is_dedent e = elim e.kind [ kinds.Dedent ↦ true | _ ↦ false ]
 pub record ClosesBlocks (s : Source) : Type 0 where
   pub within : (k : ℕ) → count_by is_dedent (take k (entries_of (listing s))) ≤ count_by is_indent (take k (entries_of (listing s)))
   pub at_end : fault_of (listing s) ≡ None → count_by is_dedent (entries_of (listing s)) ≡ count_by is_indent (entries_of (listing s))
+
+-- The laws of a listing, in words that its definition doesn't use: its lexemes are each the longest of its place, and joined are the text up to the stop;
+-- its entries stand in order and don't overlap, with nothing but blanks and joins between them; it has one end; its blocks are closed.
+pub record IsLawful (s : Source) : Type 0 where
+  pub longest : (text : List ℕ) → LongestWins text
+  pub cut : IsCut s.text
+  pub ordered : IsOrdered s
+  pub covered : IsCovered s
+  pub whole : IsWhole s
+  pub blocks : ClosesBlocks s

@@ -5,6 +5,7 @@ ghost use Rattle.std.specs.Str.{chars};
 ghost use Rattle.pylex.specs.declared.entries.ListingFault.{ListingFault};
 ghost use Rattle.pylex.specs.Listing.{listing, in_characters, of_line, stop_fault, origin};
 ghost use Rattle.pylex.specs.Steps.{first_step, Moves, IsIndent};
+ghost use Rattle.pylex.specs.Laws.{IsLawful, AllLie};
 ghost use Rattle.pylex.specs.Machine.{remaining, behind_steps};
 ghost use Rattle.pylex.specs.Progress.{is_level, IsTop, Stands, IsAscending, IsLayout, Settles, Finds, StopAhead, closing, with_levels, given, steps_ahead};
 
@@ -234,9 +235,11 @@ impl<'a> Model for Lister<'a> {
 }
 
 impl<'a> Lister<'a> {
-    /// Begins at the start of a source.
+    /// Begins at the start of a source, with its whole listing ahead. No memory is taken.
     pub fn new(alloc: Global, source: &'a Source) -> Lister<'a>
-        ensures { result ≡ listing (in_characters source.now) }
+        ensures listing { result ≡ listing (in_characters source.now) }
+        ensures lawful { IsLawful (in_characters source.now) }
+        ensures lies { AllLie source.now.text result }
     {
         Lister {
             left: source.text(),

@@ -268,8 +268,16 @@ impl Progress {
     {
         match class {
             Class::Operator => {
-                let opened = if is_opener(text) { self.depth + 1 } else { self.depth };
-                if is_closer(text) { opened.saturating_sub(1) } else { opened }
+                let opened = if is_opener(text) {
+                    self.depth + 1
+                } else {
+                    self.depth
+                };
+                if is_closer(text) {
+                    opened.saturating_sub(1)
+                } else {
+                    opened
+                }
             }
             _ => self.depth,
         }
@@ -285,7 +293,11 @@ impl Progress {
         let (kind, exact) = match class {
             Class::Blanks | Class::Join => return Given::Nothing,
             Class::LineEnd => {
-                let kind = if self.logical && self.depth == 0 { Kind::Newline } else { Kind::Nl };
+                let kind = if self.logical && self.depth == 0 {
+                    Kind::Newline
+                } else {
+                    Kind::Nl
+                };
                 return Given::Entry(entry_of(kind, None, self.now, self.now.behind(text)));
             }
             Class::Operator => {
@@ -316,7 +328,11 @@ impl Progress {
     fn line_after(self, class: Class, now: Point) -> Point
         ensures { result ≡ (if is_line_end_class class && (self.depth == 0) then now else self.line) }
     {
-        if self.ends_line(class) { now } else { self.line }
+        if self.ends_line(class) {
+            now
+        } else {
+            self.line
+        }
     }
 
     /// Whether only blanks stand in the measured line after a lexeme.
@@ -332,7 +348,11 @@ impl Progress {
         ensures value { result ≡ still (is_blanks_class class && self.margin) (width_from self.width (chars text.now)) }
         ensures bound { result ≤ self.width + 8 * length text.now }
     {
-        if class.is_blanks() && self.margin { width_after(self.width, text) } else { 0 }
+        if class.is_blanks() && self.margin {
+            width_after(self.width, text)
+        } else {
+            0
+        }
     }
 
     /// Whether the line holds more than blanks and a comment after a lexeme.
@@ -405,7 +425,11 @@ impl Progress {
     {
         let end = self.now.place;
         Place {
-            row: if end.column == 0 { end.row } else { end.row + 1 },
+            row: if end.column == 0 {
+                end.row
+            } else {
+                end.row + 1
+            },
             column: 0,
         }
     }

@@ -29,8 +29,7 @@ loop-settled-smaller c = shorter_after c.loop-settled.rest.now c.in-Some.front.n
 
 pub loop-settled-preserved : goal.loop-settled-preserved
 loop-settled-preserved c =
-    let stands = stands_after c.in-Ok.settled c.after-now.result c.loop-settled.rest.now c.in-Some.front.now c.in-Some.back.now c.in-Some.class c.in-Some.ensures.some c.in-Ok.ensures.ok.1 c.after-now.ensures.room in
-    (
+    let stands = stands_after c.in-Ok.settled c.after-now.result c.loop-settled.rest.now c.in-Some.front.now c.in-Some.back.now c.in-Some.class c.in-Some.ensures.some c.in-Ok.ensures.ok.1 c.after-now.ensures.room in (
       stands.utf8,
       stands,
       nothing_found c.args.levels.now c.args.start (chars c.args.text.now) c.loop-settled.now c.in-Ok.settled c.after-now.result c.loop-settled.rest.now c.in-Some.front.now c.in-Some.back.now c.in-Some.class c.loop-settled.invariant.2 c.in-Ok.ensures.ok.0 c.in-Some.ensures.some c.in-Nothing.ensures c.after-now.ensures.after,

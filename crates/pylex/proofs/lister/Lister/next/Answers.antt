@@ -58,8 +58,7 @@ returns-in-Err-clause-indent c =
 
 pub invariant_of-self-in-Indent : goal.invariant_of-self-in-Indent
 invariant_of-self-in-Indent c =
-    let found = rw (c.as_slice.ensures.value, c.in-Indent.is) at c.find-meets.ensures.finds in
-    (
+    let found = rw (c.as_slice.ensures.value, c.in-Indent.is) at c.find-meets.ensures.finds in (
       record { utf8 = c.find-meets.ensures.stands.utf8; room = c.measured-self-inside.ensures.room _ c.find-meets.ensures.stands.room },
       subst (IsAscending 0) (sym c.in_default.ensures.items) (ascending-push 0 c.find-meets.result.1.width c.self.inside.levels.items c.self.invariant.1 found.1.above),
     )
