@@ -1,0 +1,86 @@
+//! Lists Python source.
+#![tactic(auto)]
+
+pub mod command;
+pub mod fault;
+pub mod run;
+
+use command::{Command, UsageFault};
+use fault::{Fault, FaultCode, tell};
+use pysource::{Counted, write_all};
+use std::fs::File;
+use std::io::ErrorKind;
+use std::process::ExitCode;
+use std::rt::Files;
+
+// The words after the program's name. They come as one list or not at all: where one is no text, they give no command.
+fn words(rt: &HostRuntime) -> Result<Vec<String>, UsageFault> {
+    match std::env::args(rt) {
+        Ok(all) => Ok(all.skip(1).collect(rt.alloc())?),
+        Err(error) if error.kind() == ErrorKind::OutOfMemory => Err(UsageFault::Memory),
+        Err(_) => Err(UsageFault::BadArguments),
+    }
+}
+
+/// Opens the file of a source. A directory opens too, and then its first read fails.
+pub fn open_source<R: Files>(rt: &R, name: &str) -> Result<R::File, Fault> {
+    match File::open(rt, name) {
+        Ok(file) => Ok(file),
+        Err(_) => Err(Fault::Plain(FaultCode::Open)),
+    }
+}
+
+// Runs a command over the standard streams, or over the file that it names.
+fn perform(rt: &HostRuntime, command: &Command) -> u8 {
+    let mut writer = Counted::new(rt.stdout());
+    let mut faults = Counted::new(rt.stderr());
+    let file = match command.file() {
+        None => {
+            let mut reader = Counted::new(rt.stdin());
+            return run::run(rt.alloc(), command, &mut reader, &mut writer, &mut faults);
+        }
+        Some(name) => open_source(rt, name),
+    };
+    match file {
+        Ok(file) => {
+            let mut reader = Counted::new(file);
+            run::run(rt.alloc(), command, &mut reader, &mut writer, &mut faults)
+        }
+        Err(fault) => tell(rt.alloc(), command.name(), fault, &mut faults).status(),
+    }
+}
+
+// Tells why the words gave no command. Help that was asked for goes to the standard output.
+fn refuse(rt: &HostRuntime, fault: UsageFault) -> u8 {
+    let code = match fault {
+        UsageFault::HelpAsked(text) => {
+            let mut writer = Counted::new(rt.stdout());
+            match write_all(&mut writer, text.as_bytes()) {
+                Ok(()) => return 0,
+                Err(_) => FaultCode::Write,
+            }
+        }
+        UsageFault::BadArguments => FaultCode::BadArguments,
+        UsageFault::Memory => FaultCode::Memory,
+    };
+    let mut faults = Counted::new(rt.stderr());
+    tell(rt.alloc(), "", Fault::Plain(code), &mut faults).status()
+}
+
+fn start(rt: &HostRuntime) -> Result<u8, UsageFault> {
+    let words = words(rt)?;
+    let command = Command::read(rt.alloc(), words.as_slice())?;
+    Ok(perform(rt, &command))
+}
+
+fn main(rt: HostRuntime) -> ExitCode {
+    ExitCode::from(match start(&rt) {
+        Ok(status) => status,
+        Err(fault) => refuse(&rt, fault),
+    })
+}
+
+#[cfg(test)]
+mod fakes;
+#[cfg(test)]
+mod tests;
