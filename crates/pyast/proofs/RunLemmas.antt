@@ -14,7 +14,7 @@ use Rattle.pyast.specs.Runs.{is_exact, lines_of, told_of, tokens_output, tokens_
 use Rattle.pyast.specs.declared.command.Command.{Command}
 use Rattle.pyast.specs.declared.command.Command.TheVariants.{Tokens}
 use Rattle.pyast.specs.declared.fault.FaultCode.{FaultCode}
-use Rattle.pyast.specs.declared.fault.FaultCode.TheVariants.{UnsupportedEncoding, BomConflict, NotUtf8, NotAscii, LoneReturn, Read, BadCharacter, UnterminatedString, EofInString, EofInStatement, UnindentMismatch, UnmatchedCloser, BadArguments, Open, Write, Memory}
+use Rattle.pyast.specs.declared.fault.FaultCode.TheVariants.{Read, Write, Memory}
 use Rattle.pyast.specs.declared.fault.Fault.{Fault}
 use Rattle.pyast.specs.declared.fault.Fault.TheVariants.{InSource, Plain}
 
@@ -83,6 +83,7 @@ whole_input None new given p q = tt
 whole_input (Some known) None given p q = absurd p
 whole_input (Some known) (Some rest) given p q = rw (q, append-nil given) at p
 
+-- so for a command, by the bytes
 pub refuses : (command : Command) (input : List ℕ) (fault : SourceFault) (x : Option (List ℕ)) → UnlessMemory {X = Parts} (Err fault) (source_of input)
     → WritesFor (output_of command input) (fault_in command input) x x (Some (of_source fault))
 refuses (Tokens exact file) input fault x u = refused exact (source_of input) fault x u

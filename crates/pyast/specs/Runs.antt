@@ -6,7 +6,6 @@ use Rattle.pysource.specs.Bytes.{TakesFront, GivesTooMany}
 use Rattle.pysource.specs.Parts.{Parts}
 use Rattle.pysource.specs.Sources.{source_of}
 use Rattle.pysource.specs.declared.encodings.SourceFault.{SourceFault}
-use Rattle.pylex.specs.declared.entries.Entry.{Entry}
 use Rattle.pylex.specs.declared.entries.Step.{Step}
 use Rattle.pylex.specs.Listing.{listing, in_characters}
 use Rattle.pylex.specs.Steps.{entries_of, fault_of}
