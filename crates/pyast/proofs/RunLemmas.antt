@@ -45,6 +45,11 @@ pub on_success : {A E : Type 0} {P : Type 0} (r : Result A E) → is_err r ≡ f
 on_success (Ok a) n p = p
 on_success (Err e) n p = cc
 
+-- what an error brings, where there was one
+pub on_failure : {A E : Type 0} {P : Type 0} (r : Result A E) → is_err r ≡ true → OnErr r P → P
+on_failure (Ok a) n p = cc
+on_failure (Err e) n p = p
+
 -- a further line is held, and no longer left
 pub TakesAllBut-held : (x y : Option (List ℕ)) (output held line left : List ℕ) → TakesAllBut x y output held (line ++ left) → TakesAllBut x y output (held ++ line) left
 TakesAllBut-held x y output held line left (written, is, p) = (written, is ∙ simp append_assoc, p)
@@ -119,8 +124,3 @@ told-plain (InSource other place) told code ne is = (λ e. elim is [ inl f ↦ c
   where
     injects : {a b : FaultCode} → Plain a ≡ Plain b → a ≡ b
     injects e = cc
-
--- what an error brings, where there was one
-pub on_failure : {A E : Type 0} {P : Type 0} (r : Result A E) → is_err r ≡ true → OnErr r P → P
-on_failure (Ok a) n p = cc
-on_failure (Err e) n p = p

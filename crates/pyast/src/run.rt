@@ -35,8 +35,6 @@ fn list<W: ByteOut>(
     ensures front { OnErr result (TakesFront (W.taken writer.old) (W.taken writer.new) (lines_of exact source.now (listing (in_characters source.now)))) }
     ensures failed { OnErr result (W.failure_count writer.new ≡ W.failure_count writer.old + 1) }
 {
-    // That this is text is what lets each entry's part of it be lent.
-    let _whole = source.text();
     let mut lister = Lister::new(alloc, source);
     loop {
         let Ok(step) = lister.next() else {

@@ -14,7 +14,7 @@ mod Resume
 mod Computing
 mod Full
 mod Resumed
-mod Rows
+mod Examples
 pub mod Texts
 pub mod Walking
 pub mod Advancing
@@ -30,7 +30,7 @@ pub mod Triples
 pub mod StringBest
 pub mod StringLongest
 pub mod Prefixes
-pub mod LiteralRows
+pub mod LiteralExamples
 pub mod OpenStrings
 pub mod Classes
 pub mod Union

@@ -6,6 +6,6 @@ pub mod ReturnsLemmas
 pub mod LinesLemmas
 pub mod BadLemmas
 pub mod CutLemmas
-pub mod Rows
+pub mod Examples
 pub mod ByteLemmas
 pub mod PushReprLemmas

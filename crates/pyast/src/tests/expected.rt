@@ -1,8 +1,12 @@
 //! What the tests compare with.
 ghost use Rattle.std.specs.Prelude.{◌≡◌};
 
+use crate::command::Command;
 use crate::fakes::{Narrow, Trickle};
+use crate::run::run;
 use std::alloc::{AllocError, Global};
+use std::process::Abort;
+use std::test::Fail;
 
 /// A reader that gives these bytes, and then ends.
 pub fn reader(bytes: &[u8]) -> Trickle<'_>
@@ -53,5 +57,45 @@ pub fn push_lines(out: &mut String, entries: &str) -> Result<(), AllocError> {
         push_filled(out, text, 15)?;
         out.push('\n')?;
     }
+    Ok(())
+}
+
+/// Asserts that `tokens` writes the entry of the encoding as it is shown (nothing where that is empty) and these entries,
+/// and tells this fault of the standard input behind them, if one is given.
+pub fn lists_as(
+    rt: &impl Abort,
+    alloc: Global,
+    source: &[u8],
+    encoding: &str,
+    entries: &str,
+    fault: &str,
+) -> Result<(), Fail> {
+    let mut wanted = String::new(alloc);
+    if !encoding.is_empty() {
+        let first = format!(in alloc; "0,0-0,0 ENCODING {encoding}")?;
+        push_lines(&mut wanted, first.as_str())?;
+    }
+    push_lines(&mut wanted, entries)?;
+    let mut told = String::new(alloc);
+    if !fault.is_empty() {
+        told.push_str("<stdin>:")?;
+        told.push_str(fault)?;
+        told.push('\n')?;
+    }
+    let mut reader = reader(source);
+    let mut output = writer(alloc);
+    let mut faults = writer(alloc);
+    let command = Command::Tokens {
+        exact: false,
+        file: None,
+    };
+    let status = run(alloc, &command, &mut reader, &mut output, &mut faults);
+    assert_eq!(rt; output.taken.as_slice(), wanted.as_bytes(), "at {source:?}");
+    assert_eq!(rt; faults.taken.as_slice(), told.as_bytes(), "at {source:?}");
+    assert_eq!(rt;
+        status,
+        if fault.is_empty() { 0 } else { 1 },
+        "at {source:?}"
+    );
     Ok(())
 }

@@ -2,7 +2,7 @@
 
 use crate::command::Command;
 use crate::run::run;
-use crate::tests::expected::{push_lines, reader, writer};
+use crate::tests::expected::{lists_as, reader, writer};
 use std::test::Fail;
 
 // Each is a source, its encoding as it is shown (empty where nothing is written), its entries but for that of the
@@ -299,33 +299,7 @@ fn lists(rt: HostRuntime) -> Result<(), Fail> {
             "1:0: error: byte order mark with another encoding",
         ),
     ] {
-        let mut wanted = String::new(rt.alloc());
-        if !encoding.is_empty() {
-            let first = format!(in rt.alloc(); "0,0-0,0 ENCODING {encoding}")?;
-            push_lines(&mut wanted, first.as_str())?;
-        }
-        push_lines(&mut wanted, entries)?;
-        let mut told = String::new(rt.alloc());
-        if !fault.is_empty() {
-            told.push_str("<stdin>:")?;
-            told.push_str(fault)?;
-            told.push('\n')?;
-        }
-        let mut reader = reader(source);
-        let mut output = writer(rt.alloc());
-        let mut faults = writer(rt.alloc());
-        let command = Command::Tokens {
-            exact: false,
-            file: None,
-        };
-        let status = run(rt.alloc(), &command, &mut reader, &mut output, &mut faults);
-        assert_eq!(rt; output.taken.as_slice(), wanted.as_bytes(), "at {source:?}");
-        assert_eq!(rt; faults.taken.as_slice(), told.as_bytes(), "at {source:?}");
-        assert_eq!(rt;
-            status,
-            if fault.is_empty() { 0 } else { 1 },
-            "at {source:?}"
-        );
+        lists_as(&rt, rt.alloc(), source, encoding, entries, fault)?;
     }
     Ok(())
 }

@@ -1,12 +1,12 @@
 use Rattle.std.proofs.Common.{◌≡◌, ◌++◌, [], ◌∷◌, refl, sym, ap, ◌∙◌, string_bytes}
-use Rattle.std.specs.Prelude.{IsUtf8}
 use Rattle.std.specs.Io.KnownBytes.{Appends}
 use Rattle.pysource.specs.Bytes.{TakesFront}
 use Rattle.pysource.proofs.ByteLemmas.{Appends-refl}
 use Rattle.pylex.specs.declared.entries.Step.TheVariants as steps
 use Rattle.pylex.specs.ListingLines.{listing_line, text_of}
+use Rattle.pylex.specs.Laws.{AllLie}
 use Rattle.pylex.specs.Listing.{listing, in_characters}
-use Rattle.pylex.proofs.Lying.{entries_lie, rest_lies}
+use Rattle.pylex.proofs.Lying.{rest_lies}
 use Rattle.pyast.specs.Runs.{lines_of, told_of, TakesAllBut}
 use Rattle.pyast.proofs.StepsLemmas.{listing_ends, entry_ahead, rest_ends, entry_lies}
 use Rattle.pyast.proofs.RunLemmas.{TakesAllBut-held, TakesAllBut-written, TakesAllBut-cut, on_success, on_error, on_failure}
@@ -14,10 +14,9 @@ use Rattle.pyast.proofs.run.list.Goals as goal
 
 pub loop-step-init : goal.loop-step-init
 loop-step-init g c =
-    let whole : c.text-whole.result.now ≡ c.args.source.now.text = c.text-whole.ensures.value in
-    let utf8 : IsUtf8 c.args.source.now.text = rw (← whole) c.text-whole.utf8 in
+    let lie : AllLie c.args.source.now.text (listing (in_characters c.args.source.now)) = rw (← c.new-lister.ensures.listing) c.new-lister.ensures.lies in
     rw c.new-lister.ensures.listing (record {
-      lie = entries_lie c.args.source.now utf8;
+      lie = lie;
       ends = listing_ends (in_characters c.args.source.now);
       holds = ([], rw c.requires.empty refl, Appends-refl _);
       told = refl;

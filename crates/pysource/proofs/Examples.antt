@@ -1,4 +1,4 @@
--- Worked rows of the definitions, by computation.
+-- Worked examples of the definitions, by computation.
 use Rattle.std.proofs.Common.{◌≡◌, [], ◌∷◌, ◌++◌, refl, Some, Ok, Err}
 use Rattle.std.specs.Prelude.{codes}
 use Rattle.std.specs.Str.{chars, is_utf8}

@@ -1,4 +1,4 @@
--- Worked rows.
+-- Worked examples: listings, cursors and what a lister gives that goes on from one, by computation.
 use Rattle.std.proofs.Common.{◌≡◌, ℕ, List, [], ◌∷◌, refl, Some, None, Option, true, false}
 use Rattle.std.specs.Prelude.{codes}
 use Rattle.pylex.specs.declared.kinds.Kind.{Kind}
@@ -29,25 +29,25 @@ abbrev op : Exact → ℕ → ℕ → ℕ → ℕ → ℕ → ℕ → Step
 op e r c s d a b = steps.Entry (record { kind = kinds.Op; exact = Some e; start = at r c; «end» = at s d; «from» = a; to = b })
 
 --
-row_1 : listing (source ([]) None) ≡
+empty_source : listing (source ([]) None) ≡
     entry kinds.Encoding 0 0 0 0 0 0 ∷
     entry kinds.EndMarker 1 0 1 0 0 0 ∷
     steps.End ∷ []
 unfolding listings
-row_1 = refl
+empty_source = refl
 
 -- x
-row_2 : listing (source (codes "x") None) ≡
+name_without_line_end : listing (source (codes "x") None) ≡
     entry kinds.Encoding 0 0 0 0 0 0 ∷
     entry kinds.Name 1 0 1 1 0 1 ∷
     entry kinds.Newline 1 1 1 2 1 1 ∷
     entry kinds.EndMarker 2 0 2 0 1 1 ∷
     steps.End ∷ []
 unfolding listings
-row_2 = refl
+name_without_line_end = refl
 
 -- if x:\n\ty\n
-row_3 : listing (source ((105 ∷ 102 ∷ 32 ∷ 120 ∷ 58 ∷ 10 ∷ 9 ∷ 121 ∷ 10 ∷ [])) None) ≡
+one_block : listing (source ((105 ∷ 102 ∷ 32 ∷ 120 ∷ 58 ∷ 10 ∷ 9 ∷ 121 ∷ 10 ∷ [])) None) ≡
     entry kinds.Encoding 0 0 0 0 0 0 ∷
     entry kinds.Name 1 0 1 2 0 2 ∷
     entry kinds.Name 1 3 1 4 3 4 ∷
@@ -60,10 +60,10 @@ row_3 : listing (source ((105 ∷ 102 ∷ 32 ∷ 120 ∷ 58 ∷ 10 ∷ 9 ∷ 121
     entry kinds.EndMarker 3 0 3 0 9 9 ∷
     steps.End ∷ []
 unfolding listings
-row_3 = refl
+one_block = refl
 
 -- if a:\n    b\n  c\n
-row_4 : listing (source (codes "if a:\n    b\n  c\n") None) ≡
+unindent_mismatch : listing (source (codes "if a:\n    b\n  c\n") None) ≡
     entry kinds.Encoding 0 0 0 0 0 0 ∷
     entry kinds.Name 1 0 1 2 0 2 ∷
     entry kinds.Name 1 3 1 4 3 4 ∷
@@ -74,10 +74,10 @@ row_4 : listing (source (codes "if a:\n    b\n  c\n") None) ≡
     entry kinds.Newline 2 5 2 6 11 12 ∷
     steps.Fault (record { code = errors.UnindentMismatch; place = at 3 2 }) ∷ []
 unfolding listings
-row_4 = refl
+unindent_mismatch = refl
 
 -- x = 1 \\\n\ny\n
-row_5 : listing (source (codes "x = 1 \\\n\ny\n") None) ≡
+empty_line_after_join : listing (source (codes "x = 1 \\\n\ny\n") None) ≡
     entry kinds.Encoding 0 0 0 0 0 0 ∷
     entry kinds.Name 1 0 1 1 0 1 ∷
     op exacts.Equal 1 2 1 3 2 3 ∷
@@ -88,10 +88,10 @@ row_5 : listing (source (codes "x = 1 \\\n\ny\n") None) ≡
     entry kinds.EndMarker 4 0 4 0 11 11 ∷
     steps.End ∷ []
 unfolding listings
-row_5 = refl
+empty_line_after_join = refl
 
 -- f(1,\n  # c\n
-row_6 : listing (source (codes "f(1,\n  # c\n") None) ≡
+bracket_not_closed : listing (source (codes "f(1,\n  # c\n") None) ≡
     entry kinds.Encoding 0 0 0 0 0 0 ∷
     entry kinds.Name 1 0 1 1 0 1 ∷
     op exacts.LPar 1 1 1 2 1 2 ∷
@@ -102,20 +102,20 @@ row_6 : listing (source (codes "f(1,\n  # c\n") None) ≡
     entry kinds.Nl 2 5 2 6 10 11 ∷
     steps.Fault (record { code = errors.EofInStatement; place = at 3 0 }) ∷ []
 unfolding listings
-row_6 = refl
+bracket_not_closed = refl
 
 -- # c
-row_7 : listing (source (codes "# c") None) ≡
+comment_without_line_end : listing (source (codes "# c") None) ≡
     entry kinds.Encoding 0 0 0 0 0 0 ∷
     entry kinds.Comment 1 0 1 3 0 3 ∷
     entry kinds.Nl 1 3 1 3 3 3 ∷
     entry kinds.EndMarker 2 0 2 0 3 3 ∷
     steps.End ∷ []
 unfolding listings
-row_7 = refl
+comment_without_line_end = refl
 
 -- \xef\xbb\xbf\xc3\xa9 = '\xc3\xbc'\n
-row_8 : listing (source ((233 ∷ 32 ∷ 61 ∷ 32 ∷ 39 ∷ 252 ∷ 39 ∷ 10 ∷ [])) None) ≡
+names_past_ascii : listing (source ((233 ∷ 32 ∷ 61 ∷ 32 ∷ 39 ∷ 252 ∷ 39 ∷ 10 ∷ [])) None) ≡
     entry kinds.Encoding 0 0 0 0 0 0 ∷
     entry kinds.Name 1 0 1 1 0 2 ∷
     op exacts.Equal 1 2 1 3 3 4 ∷
@@ -124,19 +124,19 @@ row_8 : listing (source ((233 ∷ 32 ∷ 61 ∷ 32 ∷ 39 ∷ 252 ∷ 39 ∷ 10 
     entry kinds.EndMarker 2 0 2 0 10 10 ∷
     steps.End ∷ []
 unfolding listings
-row_8 = refl
+names_past_ascii = refl
 
 -- a\nb\xff\n
-row_9 : listing (source (codes "a\n") (Some (record { code = errors.Line lines.NotUtf8; place = at 2 1 }))) ≡
+next_line_faulty : listing (source (codes "a\n") (Some (record { code = errors.Line lines.NotUtf8; place = at 2 1 }))) ≡
     entry kinds.Encoding 0 0 0 0 0 0 ∷
     entry kinds.Name 1 0 1 1 0 1 ∷
     entry kinds.Newline 1 1 1 2 1 2 ∷
     steps.Fault (record { code = errors.Line lines.NotUtf8; place = at 2 1 }) ∷ []
 unfolding listings
-row_9 = refl
+next_line_faulty = refl
 
 -- 012\n
-row_11 : listing (source (codes "012\n") None) ≡
+zero_before_digits : listing (source (codes "012\n") None) ≡
     entry kinds.Encoding 0 0 0 0 0 0 ∷
     entry kinds.Number 1 0 1 1 0 1 ∷
     entry kinds.Number 1 1 1 3 1 3 ∷
@@ -144,10 +144,10 @@ row_11 : listing (source (codes "012\n") None) ≡
     entry kinds.EndMarker 2 0 2 0 4 4 ∷
     steps.End ∷ []
 unfolding listings
-row_11 = refl
+zero_before_digits = refl
 
 -- x = 1.5\n
-row_12 : listing (source (codes "x = 1.5\n") None) ≡
+number_with_point : listing (source (codes "x = 1.5\n") None) ≡
     entry kinds.Encoding 0 0 0 0 0 0 ∷
     entry kinds.Name 1 0 1 1 0 1 ∷
     op exacts.Equal 1 2 1 3 2 3 ∷
@@ -156,10 +156,10 @@ row_12 : listing (source (codes "x = 1.5\n") None) ≡
     entry kinds.EndMarker 2 0 2 0 8 8 ∷
     steps.End ∷ []
 unfolding listings
-row_12 = refl
+number_with_point = refl
 
 -- if a:\n if b:\n  c\nd\n
-row_17 : listing (source (codes "if a:\n if b:\n  c\nd\n") None) ≡
+two_blocks : listing (source (codes "if a:\n if b:\n  c\nd\n") None) ≡
     entry kinds.Encoding 0 0 0 0 0 0 ∷
     entry kinds.Name 1 0 1 2 0 2 ∷
     entry kinds.Name 1 3 1 4 3 4 ∷
@@ -180,10 +180,10 @@ row_17 : listing (source (codes "if a:\n if b:\n  c\nd\n") None) ≡
     entry kinds.EndMarker 5 0 5 0 19 19 ∷
     steps.End ∷ []
 unfolding listings
-row_17 = refl
+two_blocks = refl
 
 -- if x:\n        y\n\tz\n
-row_19 : listing (source ((105 ∷ 102 ∷ 32 ∷ 120 ∷ 58 ∷ 10 ∷ 32 ∷ 32 ∷ 32 ∷ 32 ∷ 32 ∷ 32 ∷ 32 ∷ 32 ∷ 121 ∷ 10 ∷ 9 ∷ 122 ∷ 10 ∷ [])) None) ≡
+tab_as_wide_as_blanks : listing (source ((105 ∷ 102 ∷ 32 ∷ 120 ∷ 58 ∷ 10 ∷ 32 ∷ 32 ∷ 32 ∷ 32 ∷ 32 ∷ 32 ∷ 32 ∷ 32 ∷ 121 ∷ 10 ∷ 9 ∷ 122 ∷ 10 ∷ [])) None) ≡
     entry kinds.Encoding 0 0 0 0 0 0 ∷
     entry kinds.Name 1 0 1 2 0 2 ∷
     entry kinds.Name 1 3 1 4 3 4 ∷
@@ -198,59 +198,59 @@ row_19 : listing (source ((105 ∷ 102 ∷ 32 ∷ 120 ∷ 58 ∷ 10 ∷ 32 ∷ 3
     entry kinds.EndMarker 4 0 4 0 19 19 ∷
     steps.End ∷ []
 unfolding listings
-row_19 = refl
+tab_as_wide_as_blanks = refl
 
 -- x\r\n
-row_20a : listing (source ((120 ∷ 13 ∷ 10 ∷ [])) None) ≡
+carriage_return_line_feed : listing (source ((120 ∷ 13 ∷ 10 ∷ [])) None) ≡
     entry kinds.Encoding 0 0 0 0 0 0 ∷
     entry kinds.Name 1 0 1 1 0 1 ∷
     entry kinds.Newline 1 1 1 3 1 3 ∷
     entry kinds.EndMarker 2 0 2 0 3 3 ∷
     steps.End ∷ []
 unfolding listings
-row_20a = refl
+carriage_return_line_feed = refl
 
 -- x\ry\n
-row_20b : listing (source ([]) (Some (record { code = errors.Line lines.LoneReturn; place = at 1 1 }))) ≡
+lone_return : listing (source ([]) (Some (record { code = errors.Line lines.LoneReturn; place = at 1 1 }))) ≡
     entry kinds.Encoding 0 0 0 0 0 0 ∷
     steps.Fault (record { code = errors.Line lines.LoneReturn; place = at 1 1 }) ∷ []
 unfolding listings
-row_20b = refl
+lone_return = refl
 
 -- x = '''a\nb\n
-row_21a : listing (source (codes "x = '''a\nb\n") None) ≡
+triple_not_ended : listing (source (codes "x = '''a\nb\n") None) ≡
     entry kinds.Encoding 0 0 0 0 0 0 ∷
     entry kinds.Name 1 0 1 1 0 1 ∷
     op exacts.Equal 1 2 1 3 2 3 ∷
     steps.Fault (record { code = errors.EofInString; place = at 1 4 }) ∷ []
 unfolding listings
-row_21a = refl
+triple_not_ended = refl
 
 -- x b'a\n
-row_21b : listing (source (codes "x b'a\n") None) ≡
+prefix_before_unended : listing (source (codes "x b'a\n") None) ≡
     entry kinds.Encoding 0 0 0 0 0 0 ∷
     entry kinds.Name 1 0 1 1 0 1 ∷
     steps.Fault (record { code = errors.UnterminatedString; place = at 1 2 }) ∷ []
 unfolding listings
-row_21b = refl
+prefix_before_unended = refl
 
 -- )\n
-row_21c : listing (source (codes ")\n") None) ≡
+unmatched_closer : listing (source (codes ")\n") None) ≡
     entry kinds.Encoding 0 0 0 0 0 0 ∷
     steps.Fault (record { code = errors.UnmatchedCloser; place = at 1 0 }) ∷ []
 unfolding listings
-row_21c = refl
+unmatched_closer = refl
 
 -- x $\n
-row_21d : listing (source (codes "x $\n") None) ≡
+unexpected_character : listing (source (codes "x $\n") None) ≡
     entry kinds.Encoding 0 0 0 0 0 0 ∷
     entry kinds.Name 1 0 1 1 0 1 ∷
     steps.Fault (record { code = errors.BadCharacter; place = at 1 2 }) ∷ []
 unfolding listings
-row_21d = refl
+unexpected_character = refl
 
 -- x //= 2\n
-row_22 : listing (source (codes "x //= 2\n") None) ≡
+double_slash_equal : listing (source (codes "x //= 2\n") None) ≡
     entry kinds.Encoding 0 0 0 0 0 0 ∷
     entry kinds.Name 1 0 1 1 0 1 ∷
     op exacts.DoubleSlashEqual 1 2 1 5 2 5 ∷
@@ -259,20 +259,20 @@ row_22 : listing (source (codes "x //= 2\n") None) ≡
     entry kinds.EndMarker 2 0 2 0 8 8 ∷
     steps.End ∷ []
 unfolding listings
-row_22 = refl
+double_slash_equal = refl
 
 -- x\n
-row_R4a : listing (source (codes "x\n  ") None) ≡
+last_line_of_blanks : listing (source (codes "x\n  ") None) ≡
     entry kinds.Encoding 0 0 0 0 0 0 ∷
     entry kinds.Name 1 0 1 1 0 1 ∷
     entry kinds.Newline 1 1 1 2 1 2 ∷
     entry kinds.EndMarker 2 0 2 0 4 4 ∷
     steps.End ∷ []
 unfolding listings
-row_R4a = refl
+last_line_of_blanks = refl
 
 -- if a:\n  b\n\\\n
-row_R4b : listing (source (codes "if a:\n  b\n\\\n") None) ≡
+dedent_before_open_statement : listing (source (codes "if a:\n  b\n\\\n") None) ≡
     entry kinds.Encoding 0 0 0 0 0 0 ∷
     entry kinds.Name 1 0 1 2 0 2 ∷
     entry kinds.Name 1 3 1 4 3 4 ∷
@@ -284,80 +284,80 @@ row_R4b : listing (source (codes "if a:\n  b\n\\\n") None) ≡
     entry kinds.Dedent 3 0 3 0 10 10 ∷
     steps.Fault (record { code = errors.EofInStatement; place = at 4 0 }) ∷ []
 unfolding listings
-row_R4b = refl
+dedent_before_open_statement = refl
 
 --  after 0: pytok1 0 0 1 0 0 0 0
-cursor_1 : cursor_text (cursor (source ([]) None) 0) ≡ codes "pytok1 0 0 1 0 0 0 0"
+cursor_at_start : cursor_text (cursor (source ([]) None) 0) ≡ codes "pytok1 0 0 1 0 0 0 0"
 unfolding listings cursors
-cursor_1 = refl
+cursor_at_start = refl
 
 -- if x:\n\ty\n after 7: pytok1 7 8 2 0 1 0 0,8
-cursor_16 : cursor_text (cursor (source ((105 ∷ 102 ∷ 32 ∷ 120 ∷ 58 ∷ 10 ∷ 9 ∷ 121 ∷ 10 ∷ [])) None) 7) ≡ codes "pytok1 7 8 2 0 1 0 0,8"
+cursor_in_block : cursor_text (cursor (source ((105 ∷ 102 ∷ 32 ∷ 120 ∷ 58 ∷ 10 ∷ 9 ∷ 121 ∷ 10 ∷ [])) None) 7) ≡ codes "pytok1 7 8 2 0 1 0 0,8"
 unfolding listings cursors
-cursor_16 = refl
+cursor_in_block = refl
 
-rest_16 : rest (source ((105 ∷ 102 ∷ 32 ∷ 120 ∷ 58 ∷ 10 ∷ 9 ∷ 121 ∷ 10 ∷ [])) None) 7 ≡
+rest_in_block : rest (source ((105 ∷ 102 ∷ 32 ∷ 120 ∷ 58 ∷ 10 ∷ 9 ∷ 121 ∷ 10 ∷ [])) None) 7 ≡
     entry kinds.Newline 2 2 2 3 8 9 ∷
     entry kinds.Dedent 3 0 3 0 9 9 ∷
     entry kinds.EndMarker 3 0 3 0 9 9 ∷
     steps.End ∷ []
 unfolding listings
-rest_16 = refl
+rest_in_block = refl
 
 -- if a:\n if b:\n  c\nd\n after 14: pytok1 14 17 4 0 0 1 0,1,2
-cursor_17 : cursor_text (cursor (source (codes "if a:\n if b:\n  c\nd\n") None) 14) ≡ codes "pytok1 14 17 4 0 0 1 0,1,2"
+cursor_among_dedents : cursor_text (cursor (source (codes "if a:\n if b:\n  c\nd\n") None) 14) ≡ codes "pytok1 14 17 4 0 0 1 0,1,2"
 unfolding listings cursors
-cursor_17 = refl
+cursor_among_dedents = refl
 
-rest_17 : rest (source (codes "if a:\n if b:\n  c\nd\n") None) 14 ≡
+rest_among_dedents : rest (source (codes "if a:\n if b:\n  c\nd\n") None) 14 ≡
     entry kinds.Dedent 4 0 4 0 17 17 ∷
     entry kinds.Name 4 0 4 1 17 18 ∷
     entry kinds.Newline 4 1 4 2 18 19 ∷
     entry kinds.EndMarker 5 0 5 0 19 19 ∷
     steps.End ∷ []
 unfolding listings
-rest_17 = refl
+rest_among_dedents = refl
 
 -- x after 3: pytok1 3 1 1 0 1 1 0
-cursor_2_3 : cursor_text (cursor (source (codes "x") None) 3) ≡ codes "pytok1 3 1 1 0 1 1 0"
+cursor_after_empty_line_end : cursor_text (cursor (source (codes "x") None) 3) ≡ codes "pytok1 3 1 1 0 1 1 0"
 unfolding listings cursors
-cursor_2_3 = refl
+cursor_after_empty_line_end = refl
 
-rest_2_3 : rest (source (codes "x") None) 3 ≡
+rest_after_empty_line_end : rest (source (codes "x") None) 3 ≡
     entry kinds.EndMarker 2 0 2 0 1 1 ∷
     steps.End ∷ []
 unfolding listings
-rest_2_3 = refl
+rest_after_empty_line_end = refl
 
 -- x after 4: pytok1 4 1 1 0 1 2 0
-cursor_2_4 : cursor_text (cursor (source (codes "x") None) 4) ≡ codes "pytok1 4 1 1 0 1 2 0"
+cursor_after_marker : cursor_text (cursor (source (codes "x") None) 4) ≡ codes "pytok1 4 1 1 0 1 2 0"
 unfolding listings cursors
-cursor_2_4 = refl
+cursor_after_marker = refl
 
-rest_2_4 : rest (source (codes "x") None) 4 ≡
+rest_after_marker : rest (source (codes "x") None) 4 ≡
     steps.End ∷ []
 unfolding listings
-rest_2_4 = refl
+rest_after_marker = refl
 
 -- if a:\n    b\n  c\n after 8: pytok1 8 12 3 0 0 0 0,4
-cursor_4_8 : cursor_text (cursor (source (codes "if a:\n    b\n  c\n") None) 8) ≡ codes "pytok1 8 12 3 0 0 0 0,4"
+cursor_before_mismatch : cursor_text (cursor (source (codes "if a:\n    b\n  c\n") None) 8) ≡ codes "pytok1 8 12 3 0 0 0 0,4"
 unfolding listings cursors
-cursor_4_8 = refl
+cursor_before_mismatch = refl
 
-rest_4_8 : rest (source (codes "if a:\n    b\n  c\n") None) 8 ≡
+rest_before_mismatch : rest (source (codes "if a:\n    b\n  c\n") None) 8 ≡
     steps.Fault (record { code = errors.UnindentMismatch; place = at 3 2 }) ∷ []
 unfolding listings
-rest_4_8 = refl
+rest_before_mismatch = refl
 
 -- if x:\n\ty\n after 6: pytok1 6 7 2 0 1 0 0,8
-cursor_16_6 : cursor_text (cursor (source ((105 ∷ 102 ∷ 32 ∷ 120 ∷ 58 ∷ 10 ∷ 9 ∷ 121 ∷ 10 ∷ [])) None) 6) ≡ codes "pytok1 6 7 2 0 1 0 0,8"
+cursor_after_indent : cursor_text (cursor (source ((105 ∷ 102 ∷ 32 ∷ 120 ∷ 58 ∷ 10 ∷ 9 ∷ 121 ∷ 10 ∷ [])) None) 6) ≡ codes "pytok1 6 7 2 0 1 0 0,8"
 unfolding listings cursors
-cursor_16_6 = refl
+cursor_after_indent = refl
 
 -- \\\n# c\n after 2: pytok1 2 5 2 0 1 0 0
-cursor_join : cursor_text (cursor (source (codes "\\\n# c\n") None) 2) ≡ codes "pytok1 2 5 2 0 1 0 0"
+cursor_after_joined_comment : cursor_text (cursor (source (codes "\\\n# c\n") None) 2) ≡ codes "pytok1 2 5 2 0 1 0 0"
 unfolding listings cursors
-cursor_join = refl
+cursor_after_joined_comment = refl
 
 -- 012.5\n
 number_whole_1 : listing (source (codes "012.5\n") None) ≡
@@ -545,34 +545,34 @@ join_only_line : listing (source (codes "if x:\n y\n\\\n z\n") None) ≡
 unfolding listings
 join_only_line = refl
 
-resume_1_stands : standing (source ([]) None) 0 ≡ record { shown = record { given = 0; offset = 0; row = 1; depth = 0; begun = false; skip = 0; levels = 0 ∷ [] }; line = []; left = []; fault = None }
+resumed_at_start_stands : standing (source ([]) None) 0 ≡ record { shown = record { given = 0; offset = 0; row = 1; depth = 0; begun = false; skip = 0; levels = 0 ∷ [] }; line = []; left = []; fault = None }
 unfolding standings
-resume_1_stands = refl
+resumed_at_start_stands = refl
 
-resume_1 : to_give (record { shown = record { given = 0; offset = 0; row = 1; depth = 0; begun = false; skip = 0; levels = 0 ∷ [] }; line = []; left = []; fault = None }) ≡
+resumed_at_start : to_give (record { shown = record { given = 0; offset = 0; row = 1; depth = 0; begun = false; skip = 0; levels = 0 ∷ [] }; line = []; left = []; fault = None }) ≡
     entry kinds.Encoding 0 0 0 0 0 0 ∷
     entry kinds.EndMarker 1 0 1 0 0 0 ∷
     steps.End ∷ []
 unfolding standings
-resume_1 = refl
+resumed_at_start = refl
 
-resume_16_stands : standing (source ((105 ∷ 102 ∷ 32 ∷ 120 ∷ 58 ∷ 10 ∷ 9 ∷ 121 ∷ 10 ∷ [])) None) 7 ≡ record { shown = record { given = 7; offset = 8; row = 2; depth = 0; begun = true; skip = 0; levels = 0 ∷ 8 ∷ [] }; line = (9 ∷ 121 ∷ []); left = codes "\n"; fault = None }
+resumed_in_block_stands : standing (source ((105 ∷ 102 ∷ 32 ∷ 120 ∷ 58 ∷ 10 ∷ 9 ∷ 121 ∷ 10 ∷ [])) None) 7 ≡ record { shown = record { given = 7; offset = 8; row = 2; depth = 0; begun = true; skip = 0; levels = 0 ∷ 8 ∷ [] }; line = (9 ∷ 121 ∷ []); left = codes "\n"; fault = None }
 unfolding standings
-resume_16_stands = refl
+resumed_in_block_stands = refl
 
-resume_16 : to_give (record { shown = record { given = 7; offset = 8; row = 2; depth = 0; begun = true; skip = 0; levels = 0 ∷ 8 ∷ [] }; line = (9 ∷ 121 ∷ []); left = codes "\n"; fault = None }) ≡
+resumed_in_block : to_give (record { shown = record { given = 7; offset = 8; row = 2; depth = 0; begun = true; skip = 0; levels = 0 ∷ 8 ∷ [] }; line = (9 ∷ 121 ∷ []); left = codes "\n"; fault = None }) ≡
     entry kinds.Newline 2 2 2 3 8 9 ∷
     entry kinds.Dedent 3 0 3 0 9 9 ∷
     entry kinds.EndMarker 3 0 3 0 9 9 ∷
     steps.End ∷ []
 unfolding standings
-resume_16 = refl
+resumed_in_block = refl
 
-resume_16_5_stands : standing (source ((105 ∷ 102 ∷ 32 ∷ 120 ∷ 58 ∷ 10 ∷ 9 ∷ 121 ∷ 10 ∷ [])) None) 5 ≡ record { shown = record { given = 5; offset = 6; row = 2; depth = 0; begun = false; skip = 0; levels = 0 ∷ [] }; line = []; left = (9 ∷ 121 ∷ 10 ∷ []); fault = None }
+resumed_before_block_stands : standing (source ((105 ∷ 102 ∷ 32 ∷ 120 ∷ 58 ∷ 10 ∷ 9 ∷ 121 ∷ 10 ∷ [])) None) 5 ≡ record { shown = record { given = 5; offset = 6; row = 2; depth = 0; begun = false; skip = 0; levels = 0 ∷ [] }; line = []; left = (9 ∷ 121 ∷ 10 ∷ []); fault = None }
 unfolding standings
-resume_16_5_stands = refl
+resumed_before_block_stands = refl
 
-resume_16_5 : to_give (record { shown = record { given = 5; offset = 6; row = 2; depth = 0; begun = false; skip = 0; levels = 0 ∷ [] }; line = []; left = (9 ∷ 121 ∷ 10 ∷ []); fault = None }) ≡
+resumed_before_block : to_give (record { shown = record { given = 5; offset = 6; row = 2; depth = 0; begun = false; skip = 0; levels = 0 ∷ [] }; line = []; left = (9 ∷ 121 ∷ 10 ∷ []); fault = None }) ≡
     entry kinds.Indent 2 0 2 1 6 7 ∷
     entry kinds.Name 2 1 2 2 7 8 ∷
     entry kinds.Newline 2 2 2 3 8 9 ∷
@@ -580,95 +580,95 @@ resume_16_5 : to_give (record { shown = record { given = 5; offset = 6; row = 2;
     entry kinds.EndMarker 3 0 3 0 9 9 ∷
     steps.End ∷ []
 unfolding standings
-resume_16_5 = refl
+resumed_before_block = refl
 
-resume_16_6_stands : standing (source ((105 ∷ 102 ∷ 32 ∷ 120 ∷ 58 ∷ 10 ∷ 9 ∷ 121 ∷ 10 ∷ [])) None) 6 ≡ record { shown = record { given = 6; offset = 7; row = 2; depth = 0; begun = true; skip = 0; levels = 0 ∷ 8 ∷ [] }; line = (9 ∷ []); left = codes "y\n"; fault = None }
+resumed_after_indent_stands : standing (source ((105 ∷ 102 ∷ 32 ∷ 120 ∷ 58 ∷ 10 ∷ 9 ∷ 121 ∷ 10 ∷ [])) None) 6 ≡ record { shown = record { given = 6; offset = 7; row = 2; depth = 0; begun = true; skip = 0; levels = 0 ∷ 8 ∷ [] }; line = (9 ∷ []); left = codes "y\n"; fault = None }
 unfolding standings
-resume_16_6_stands = refl
+resumed_after_indent_stands = refl
 
-resume_16_6 : to_give (record { shown = record { given = 6; offset = 7; row = 2; depth = 0; begun = true; skip = 0; levels = 0 ∷ 8 ∷ [] }; line = (9 ∷ []); left = codes "y\n"; fault = None }) ≡
+resumed_after_indent : to_give (record { shown = record { given = 6; offset = 7; row = 2; depth = 0; begun = true; skip = 0; levels = 0 ∷ 8 ∷ [] }; line = (9 ∷ []); left = codes "y\n"; fault = None }) ≡
     entry kinds.Name 2 1 2 2 7 8 ∷
     entry kinds.Newline 2 2 2 3 8 9 ∷
     entry kinds.Dedent 3 0 3 0 9 9 ∷
     entry kinds.EndMarker 3 0 3 0 9 9 ∷
     steps.End ∷ []
 unfolding standings
-resume_16_6 = refl
+resumed_after_indent = refl
 
-resume_17_stands : standing (source (codes "if a:\n if b:\n  c\nd\n") None) 14 ≡ record { shown = record { given = 14; offset = 17; row = 4; depth = 0; begun = false; skip = 1; levels = 0 ∷ 1 ∷ 2 ∷ [] }; line = []; left = codes "d\n"; fault = None }
+resumed_among_dedents_stands : standing (source (codes "if a:\n if b:\n  c\nd\n") None) 14 ≡ record { shown = record { given = 14; offset = 17; row = 4; depth = 0; begun = false; skip = 1; levels = 0 ∷ 1 ∷ 2 ∷ [] }; line = []; left = codes "d\n"; fault = None }
 unfolding standings
-resume_17_stands = refl
+resumed_among_dedents_stands = refl
 
-resume_17 : to_give (record { shown = record { given = 14; offset = 17; row = 4; depth = 0; begun = false; skip = 1; levels = 0 ∷ 1 ∷ 2 ∷ [] }; line = []; left = codes "d\n"; fault = None }) ≡
+resumed_among_dedents : to_give (record { shown = record { given = 14; offset = 17; row = 4; depth = 0; begun = false; skip = 1; levels = 0 ∷ 1 ∷ 2 ∷ [] }; line = []; left = codes "d\n"; fault = None }) ≡
     entry kinds.Dedent 4 0 4 0 17 17 ∷
     entry kinds.Name 4 0 4 1 17 18 ∷
     entry kinds.Newline 4 1 4 2 18 19 ∷
     entry kinds.EndMarker 5 0 5 0 19 19 ∷
     steps.End ∷ []
 unfolding standings
-resume_17 = refl
+resumed_among_dedents = refl
 
-resume_17_15_stands : standing (source (codes "if a:\n if b:\n  c\nd\n") None) 15 ≡ record { shown = record { given = 15; offset = 17; row = 4; depth = 0; begun = false; skip = 2; levels = 0 ∷ 1 ∷ 2 ∷ [] }; line = []; left = codes "d\n"; fault = None }
+resumed_after_dedents_stands : standing (source (codes "if a:\n if b:\n  c\nd\n") None) 15 ≡ record { shown = record { given = 15; offset = 17; row = 4; depth = 0; begun = false; skip = 2; levels = 0 ∷ 1 ∷ 2 ∷ [] }; line = []; left = codes "d\n"; fault = None }
 unfolding standings
-resume_17_15_stands = refl
+resumed_after_dedents_stands = refl
 
-resume_17_15 : to_give (record { shown = record { given = 15; offset = 17; row = 4; depth = 0; begun = false; skip = 2; levels = 0 ∷ 1 ∷ 2 ∷ [] }; line = []; left = codes "d\n"; fault = None }) ≡
+resumed_after_dedents : to_give (record { shown = record { given = 15; offset = 17; row = 4; depth = 0; begun = false; skip = 2; levels = 0 ∷ 1 ∷ 2 ∷ [] }; line = []; left = codes "d\n"; fault = None }) ≡
     entry kinds.Name 4 0 4 1 17 18 ∷
     entry kinds.Newline 4 1 4 2 18 19 ∷
     entry kinds.EndMarker 5 0 5 0 19 19 ∷
     steps.End ∷ []
 unfolding standings
-resume_17_15 = refl
+resumed_after_dedents = refl
 
-resume_2_3_stands : standing (source (codes "x") None) 3 ≡ record { shown = record { given = 3; offset = 1; row = 1; depth = 0; begun = true; skip = 1; levels = 0 ∷ [] }; line = codes "x"; left = []; fault = None }
+resumed_after_empty_line_end_stands : standing (source (codes "x") None) 3 ≡ record { shown = record { given = 3; offset = 1; row = 1; depth = 0; begun = true; skip = 1; levels = 0 ∷ [] }; line = codes "x"; left = []; fault = None }
 unfolding standings
-resume_2_3_stands = refl
+resumed_after_empty_line_end_stands = refl
 
-resume_2_3 : to_give (record { shown = record { given = 3; offset = 1; row = 1; depth = 0; begun = true; skip = 1; levels = 0 ∷ [] }; line = codes "x"; left = []; fault = None }) ≡
+resumed_after_empty_line_end : to_give (record { shown = record { given = 3; offset = 1; row = 1; depth = 0; begun = true; skip = 1; levels = 0 ∷ [] }; line = codes "x"; left = []; fault = None }) ≡
     entry kinds.EndMarker 2 0 2 0 1 1 ∷
     steps.End ∷ []
 unfolding standings
-resume_2_3 = refl
+resumed_after_empty_line_end = refl
 
-resume_2_4_stands : standing (source (codes "x") None) 4 ≡ record { shown = record { given = 4; offset = 1; row = 1; depth = 0; begun = true; skip = 2; levels = 0 ∷ [] }; line = codes "x"; left = []; fault = None }
+resumed_after_marker_stands : standing (source (codes "x") None) 4 ≡ record { shown = record { given = 4; offset = 1; row = 1; depth = 0; begun = true; skip = 2; levels = 0 ∷ [] }; line = codes "x"; left = []; fault = None }
 unfolding standings
-resume_2_4_stands = refl
+resumed_after_marker_stands = refl
 
-resume_2_4 : to_give (record { shown = record { given = 4; offset = 1; row = 1; depth = 0; begun = true; skip = 2; levels = 0 ∷ [] }; line = codes "x"; left = []; fault = None }) ≡
+resumed_after_marker : to_give (record { shown = record { given = 4; offset = 1; row = 1; depth = 0; begun = true; skip = 2; levels = 0 ∷ [] }; line = codes "x"; left = []; fault = None }) ≡
     steps.End ∷ []
 unfolding standings
-resume_2_4 = refl
+resumed_after_marker = refl
 
-resume_4_8_stands : standing (source (codes "if a:\n    b\n  c\n") None) 8 ≡ record { shown = record { given = 8; offset = 12; row = 3; depth = 0; begun = false; skip = 0; levels = 0 ∷ 4 ∷ [] }; line = []; left = codes "  c\n"; fault = None }
+resumed_before_mismatch_stands : standing (source (codes "if a:\n    b\n  c\n") None) 8 ≡ record { shown = record { given = 8; offset = 12; row = 3; depth = 0; begun = false; skip = 0; levels = 0 ∷ 4 ∷ [] }; line = []; left = codes "  c\n"; fault = None }
 unfolding standings
-resume_4_8_stands = refl
+resumed_before_mismatch_stands = refl
 
-resume_4_8 : to_give (record { shown = record { given = 8; offset = 12; row = 3; depth = 0; begun = false; skip = 0; levels = 0 ∷ 4 ∷ [] }; line = []; left = codes "  c\n"; fault = None }) ≡
+resumed_before_mismatch : to_give (record { shown = record { given = 8; offset = 12; row = 3; depth = 0; begun = false; skip = 0; levels = 0 ∷ 4 ∷ [] }; line = []; left = codes "  c\n"; fault = None }) ≡
     steps.Fault (record { code = errors.UnindentMismatch; place = at 3 2 }) ∷ []
 unfolding standings
-resume_4_8 = refl
+resumed_before_mismatch = refl
 
-resume_join_stands : standing (source (codes "\\\n# c\n") None) 2 ≡ record { shown = record { given = 2; offset = 5; row = 2; depth = 0; begun = true; skip = 0; levels = 0 ∷ [] }; line = codes "# c"; left = codes "\n"; fault = None }
+resumed_after_joined_comment_stands : standing (source (codes "\\\n# c\n") None) 2 ≡ record { shown = record { given = 2; offset = 5; row = 2; depth = 0; begun = true; skip = 0; levels = 0 ∷ [] }; line = codes "# c"; left = codes "\n"; fault = None }
 unfolding standings
-resume_join_stands = refl
+resumed_after_joined_comment_stands = refl
 
-resume_join : to_give (record { shown = record { given = 2; offset = 5; row = 2; depth = 0; begun = true; skip = 0; levels = 0 ∷ [] }; line = codes "# c"; left = codes "\n"; fault = None }) ≡
+resumed_after_joined_comment : to_give (record { shown = record { given = 2; offset = 5; row = 2; depth = 0; begun = true; skip = 0; levels = 0 ∷ [] }; line = codes "# c"; left = codes "\n"; fault = None }) ≡
     entry kinds.Newline 2 3 2 4 5 6 ∷
     entry kinds.EndMarker 3 0 3 0 6 6 ∷
     steps.End ∷ []
 unfolding standings
-resume_join = refl
+resumed_after_joined_comment = refl
 
-resume_comment_stands : standing (source (codes "  # c") None) 2 ≡ record { shown = record { given = 2; offset = 5; row = 1; depth = 0; begun = false; skip = 0; levels = 0 ∷ [] }; line = codes "  # c"; left = []; fault = None }
+resumed_after_comment_stands : standing (source (codes "  # c") None) 2 ≡ record { shown = record { given = 2; offset = 5; row = 1; depth = 0; begun = false; skip = 0; levels = 0 ∷ [] }; line = codes "  # c"; left = []; fault = None }
 unfolding standings
-resume_comment_stands = refl
+resumed_after_comment_stands = refl
 
-resume_comment : to_give (record { shown = record { given = 2; offset = 5; row = 1; depth = 0; begun = false; skip = 0; levels = 0 ∷ [] }; line = codes "  # c"; left = []; fault = None }) ≡
+resumed_after_comment : to_give (record { shown = record { given = 2; offset = 5; row = 1; depth = 0; begun = false; skip = 0; levels = 0 ∷ [] }; line = codes "  # c"; left = []; fault = None }) ≡
     entry kinds.Nl 1 5 1 5 5 5 ∷
     entry kinds.EndMarker 2 0 2 0 5 5 ∷
     steps.End ∷ []
 unfolding standings
-resume_comment = refl
+resumed_after_comment = refl
 
 -- a source that agrees
 agreeing : standing_by (source ((105 ∷ 102 ∷ 32 ∷ 40 ∷ 58 ∷ 10 ∷ 9 ∷ 121 ∷ 10 ∷ [])) None) (cursor (source ((105 ∷ 102 ∷ 32 ∷ 120 ∷ 58 ∷ 10 ∷ 9 ∷ 121 ∷ 10 ∷ [])) None) 7) ≡ standing (source ((105 ∷ 102 ∷ 32 ∷ 120 ∷ 58 ∷ 10 ∷ 9 ∷ 121 ∷ 10 ∷ [])) None) 7
