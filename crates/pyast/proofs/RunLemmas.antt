@@ -8,13 +8,13 @@ use Rattle.pysource.specs.Sources.{source_of, UnlessMemory}
 use Rattle.pysource.specs.declared.encodings.SourceFault.{SourceFault}
 use Rattle.pysource.specs.declared.encodings.SourceFault.TheVariants as source_faults
 use Rattle.pysource.proofs.ByteLemmas.{Appends-append, Appends-refl, TakesFront-after, TakesFront-done}
-use Rattle.pylex.specs.Listing.{listing, in_characters}
+use Rattle.pylex.specs.Cursors.{CursorParts}
+use Rattle.pylex.specs.Listing.{in_characters}
 use Rattle.pyast.specs.Faults.{Tells, of_source, IsToldAs}
-use Rattle.pyast.specs.Runs.{is_exact, lines_of, told_of, tokens_output, tokens_fault, output_of, fault_in, TakesAllBut, HoldsFor, WritesFor, IsInput, Performs}
+use Rattle.pyast.specs.Runs.{is_exact, count_of, resume_of, output_from, fault_from, start_in, tokens_output, tokens_fault, output_of, fault_in, TakesAllBut, HoldsFor, WritesFor, IsInput, Performs}
 use Rattle.pyast.specs.declared.command.Command.{Command}
-use Rattle.pyast.specs.declared.command.Command.TheVariants.{Tokens}
 use Rattle.pyast.specs.declared.fault.FaultCode.{FaultCode}
-use Rattle.pyast.specs.declared.fault.FaultCode.TheVariants.{Read, Write, Memory}
+use Rattle.pyast.specs.declared.fault.FaultCode.TheVariants.{Read, Write, Memory, CursorOfAnotherSource}
 use Rattle.pyast.specs.declared.fault.Fault.{Fault}
 use Rattle.pyast.specs.declared.fault.Fault.TheVariants.{InSource, Plain}
 
@@ -76,11 +76,11 @@ some_input None = ([], tt)
 some_input (Some known) = (known, refl)
 
 -- bytes that are no source, or that there was no memory to decode: nothing is written
-pub refused : (exact : Bool) (stated : Result Parts SourceFault) (fault : SourceFault) (x : Option (List ℕ)) → UnlessMemory {X = Parts} (Err fault) stated
-    → WritesFor (tokens_output exact stated) (tokens_fault stated) x x (Some (of_source fault))
-refused exact stated (source_faults.UnsupportedEncoding place) x u = rw u (refl, Appends-refl x)
-refused exact stated (source_faults.BomConflict place) x u = rw u (refl, Appends-refl x)
-refused exact stated source_faults.Memory x u = ([], tokens_output exact stated, refl, Appends-refl x)
+pub refused : (exact : Bool) (count : Option ℕ) (resume : Option CursorParts) (stated : Result Parts SourceFault) (fault : SourceFault) (x : Option (List ℕ))
+    → UnlessMemory {X = Parts} (Err fault) stated → WritesFor (tokens_output exact count resume stated) (tokens_fault count resume stated) x x (Some (of_source fault))
+refused exact count resume stated (source_faults.UnsupportedEncoding place) x u = rw u (refl, Appends-refl x)
+refused exact count resume stated (source_faults.BomConflict place) x u = rw u (refl, Appends-refl x)
+refused exact count resume stated source_faults.Memory x u = ([], tokens_output exact count resume stated, refl, Appends-refl x)
 
 -- what a reader gave up to its end is its input
 pub whole_input : (old new : Option (List ℕ)) (given : List ℕ) → Consumes old new given → IsAtEnd new → IsInput old given
@@ -91,13 +91,33 @@ whole_input (Some known) (Some rest) given p q = rw (q, append-nil given) at p
 -- so for a command, by the bytes
 pub refuses : (command : Command) (input : List ℕ) (fault : SourceFault) (x : Option (List ℕ)) → UnlessMemory {X = Parts} (Err fault) (source_of input)
     → WritesFor (output_of command input) (fault_in command input) x x (Some (of_source fault))
-refuses (Tokens exact file) input fault x u = refused exact (source_of input) fault x u
+refuses command input fault x u = refused (is_exact command) (count_of command) (resume_of command) (source_of input) fault x u
 
 -- what `tokens` writes of a source is what the command writes of its bytes
-pub lists : (command : Command) (input : List ℕ) (p : Parts) (x y : Option (List ℕ)) (ended : Option Fault) → source_of input ≡ Ok p
-    → WritesFor (lines_of (is_exact command) p (listing (in_characters p))) (told_of (listing (in_characters p))) x y ended
+pub lists : (command : Command) (exact : Bool) (count : Option ℕ) (resume : Option CursorParts) (input : List ℕ) (p : Parts) (x y : Option (List ℕ)) (ended : Option Fault) → source_of input ≡ Ok p
+    → exact ≡ is_exact command → count ≡ count_of command → resume ≡ resume_of command
+    → WritesFor (tokens_output exact count resume (Ok p)) (tokens_fault count resume (Ok p)) x y ended
     → WritesFor (output_of command input) (fault_in command input) x y ended
-lists (Tokens exact file) input p x y ended is w = rw is w
+lists command exact count resume input p x y ended is e f r w = rw (is, ← e, ← f, ← r) w
+
+-- it is what stands behind the entries before the start
+pub from_start : (exact : Bool) (count : Option ℕ) (resume : Option CursorParts) (p : Parts) (k : ℕ) (x y : Option (List ℕ)) (ended : Option Fault) → start_in resume (in_characters p) ≡ Some k
+    → WritesFor (output_from exact p count k) (fault_from p count k) x y ended → WritesFor (tokens_output exact count resume (Ok p)) (tokens_fault count resume (Ok p)) x y ended
+from_start exact count resume p k x y ended is w = rw (is, tokens_output, tokens_fault) w
+
+-- all that was held at a listing's end is written
+pub HoldsFor-written : (output : List ℕ) (told : Option Fault) (x y z : Option (List ℕ)) (held : List ℕ) (ended : Option Fault)
+    → HoldsFor output told x y held ended → Appends y z held → WritesFor output told x z ended
+HoldsFor-written output told x y z held None p q = (p.0, whole output x y z held p.1 q)
+  where
+    whole : (output : List ℕ) (x y z : Option (List ℕ)) (held : List ℕ) → TakesAllBut x y output held [] → Appends y z held → Appends x z output
+    whole output x y z held (written, is, p) q = rw (is, append-nil (written ++ held)) (Appends-append x y z written held p q)
+HoldsFor-written output told x y z held (Some (InSource code place)) p q = (p.0, whole output x y z held p.1 q)
+  where
+    whole : (output : List ℕ) (x y z : Option (List ℕ)) (held : List ℕ) → TakesAllBut x y output held [] → Appends y z held → Appends x z output
+    whole output x y z held (written, is, p) q = rw (is, append-nil (written ++ held)) (Appends-append x y z written held p q)
+HoldsFor-written output told x y z held (Some (Plain Memory)) (left, (written, is, p)) q = (written ++ held, left, is, Appends-append x y z written held p q)
+HoldsFor-written output told x y z held (Some (Plain other)) p q = absurd p
 
 -- whatever was written stands at the front of the output
 pub WritesFor-front : (output : List ℕ) (told : Option Fault) (x y : Option (List ℕ)) (ended : Option Fault) → WritesFor output told x y ended → TakesFront x y output
@@ -106,6 +126,7 @@ WritesFor-front output told x y (Some (InSource code place)) p = (output, [], sy
 WritesFor-front output told x y (Some (Plain Read)) p = ([], output, refl, p)
 WritesFor-front output told x y (Some (Plain Memory)) p = p
 WritesFor-front output told x y (Some (Plain Write)) p = p
+WritesFor-front output told x y (Some (Plain CursorOfAnotherSource)) p = (output, [], sym (append-nil output), p.1)
 WritesFor-front output told x y (Some (Plain other)) p = absurd p
 
 -- a run whose fault was told as another ended by that one

@@ -9,7 +9,7 @@ use Rattle.pylex.specs.declared.entries.ListingError.{ListingError}
 use Rattle.pylex.specs.declared.entries.ListingError.TheVariants as errors
 use Rattle.pylex.specs.declared.entries.ListingFault.{ListingFault}
 use Rattle.pyast.specs.declared.fault.FaultCode.{FaultCode}
-use Rattle.pyast.specs.declared.fault.FaultCode.TheVariants.{UnsupportedEncoding, BomConflict, NotUtf8, NotAscii, LoneReturn, Read, BadCharacter, UnterminatedString, EofInString, EofInStatement, UnindentMismatch, UnmatchedCloser, BadArguments, Open, Write, Memory}
+use Rattle.pyast.specs.declared.fault.FaultCode.TheVariants.{UnsupportedEncoding, BomConflict, NotUtf8, NotAscii, LoneReturn, Read, BadCharacter, UnterminatedString, EofInString, EofInStatement, UnindentMismatch, UnmatchedCloser, CursorOfAnotherSource, CursorText, BadArguments, Open, Write, Memory}
 use Rattle.pyast.specs.declared.fault.Fault.{Fault}
 use Rattle.pyast.specs.declared.fault.Fault.TheVariants.{InSource, Plain}
 
@@ -27,12 +27,14 @@ text_of EofInString = codes "EOF in multi-line string"
 text_of EofInStatement = codes "EOF in multi-line statement"
 text_of UnindentMismatch = codes "unindent does not match any outer indentation level"
 text_of UnmatchedCloser = codes "unmatched closing bracket"
+text_of CursorOfAnotherSource = codes "cursor of another source"
+text_of CursorText = codes "malformed cursor"
 text_of BadArguments = codes "bad arguments"
 text_of Open = codes "cannot open file"
 text_of Write = codes "write failed"
 text_of Memory = codes "out of memory"
 
--- 1 where the source is at fault, 2 where the words are, 3 where a read, an opening or a write failed, 4 for want of memory
+-- 1 where the source is at fault, 2 where the words or the cursor are, 3 where a read, an opening or a write failed, 4 for want of memory
 abbrev pub code_status : FaultCode → ℕ
 code_status UnsupportedEncoding = 1
 code_status BomConflict = 1
@@ -46,6 +48,8 @@ code_status EofInString = 1
 code_status EofInStatement = 1
 code_status UnindentMismatch = 1
 code_status UnmatchedCloser = 1
+code_status CursorOfAnotherSource = 2
+code_status CursorText = 2
 code_status BadArguments = 2
 code_status Open = 3
 code_status Write = 3

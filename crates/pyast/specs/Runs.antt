@@ -1,57 +1,122 @@
 -- What a run of the program is, whatever its reader and its writers do.
-use Rattle.std.specs.Prelude.{◌≡◌, ◌≢◌, string_bytes, ℕ, ◌+◌, Bool, List, [], ◌++◌, ⊤, Option, Some, None, Result, Ok, Err, codes, option_map, unwrap_or}
+use Rattle.std.specs.Prelude.{◌≡◌, ◌≢◌, ◌≤◌, string_bytes, ℕ, ◌+◌, ◌-◌, nat_le, ◌==◌, eqb, Bool, true, false, not, ◌&&◌, if◌then◌else◌, List, [], ◌∷◌, ◌++◌, length, take, ⊤, Option, Some, None, IfSome, Result, Ok, Err, codes, option_map, unwrap_or}
+use lib.Pointwise.{pointwise}
 use Rattle.std.specs.List.{flat_map}
 use Rattle.std.specs.Io.KnownBytes.{Appends}
 use Rattle.pysource.specs.Bytes.{TakesFront, GivesTooMany}
 use Rattle.pysource.specs.Parts.{Parts}
 use Rattle.pysource.specs.Sources.{source_of}
 use Rattle.pysource.specs.declared.encodings.SourceFault.{SourceFault}
+use Rattle.pylex.specs.declared.entries.Entry.{Entry}
 use Rattle.pylex.specs.declared.entries.Step.{Step}
-use Rattle.pylex.specs.Listing.{listing, in_characters}
+use Rattle.pylex.specs.declared.kinds.Kind.{Kind}
+use Rattle.pylex.specs.declared.kinds.Kind.TheVariants.{EndMarker}
+use Rattle.pylex.specs.Cursors.{CursorParts, cursor, cursor_text, flag}
+use Rattle.pylex.specs.CursorTexts.{IsWellFormed}
+use Rattle.pylex.specs.Listing.{Source, listing, rest, in_characters}
 use Rattle.pylex.specs.Steps.{entries_of, fault_of}
 use Rattle.pylex.specs.ListingLines.{listing_line, text_of}
 use Rattle.pyast.specs.Faults.{status_of, fault_line, Tells, of_listing, of_source}
-use Rattle.pyast.specs.declared.fault.FaultCode.TheVariants.{Read, Write, Memory}
+use Rattle.pyast.specs.declared.fault.FaultCode.TheVariants.{Read, Write, Memory, CursorOfAnotherSource}
 use Rattle.pyast.specs.declared.fault.Fault.{Fault}
 use Rattle.pyast.specs.declared.fault.Fault.TheVariants.{InSource, Plain}
 use Rattle.pyast.specs.declared.command.Command.{Command}
 use Rattle.pyast.specs.declared.command.Command.TheVariants.{Tokens}
 
--- the printed lines of the entries among steps of a source
-abbrev pub lines_of : Bool → Parts → List Step → List ℕ
-lines_of exact p steps = flat_map (λ e. listing_line exact e (text_of p e)) (entries_of steps)
+-- the printed lines of entries of a source
+abbrev pub lines_of : Bool → Parts → List Entry → List ℕ
+lines_of exact p es = flat_map (λ e. listing_line exact e (text_of p e)) es
+
+-- the line of a cursor: `cursor TEXT`
+abbrev pub cursor_line : CursorParts → List ℕ
+cursor_line c = codes "cursor " ++ (cursor_text c ++ codes "\n")
+
+-- whether a kind is ENDMARKER
+abbrev pub is_marker : Kind → Bool
+is_marker EndMarker = true
+is_marker kind = false
+
+-- the last of entries is ENDMARKER
+abbrev pub ends_in_marker : List Entry → Bool
+ends_in_marker [] = false
+ends_in_marker (e ∷ []) = is_marker e.kind
+ends_in_marker (e ∷ d ∷ es) = ends_in_marker (d ∷ es)
+
+-- a count stops a listing of entries: there are as many, and the last of those is not ENDMARKER
+abbrev pub stops_after : ℕ → List Entry → Bool
+stops_after n es = nat_le n (length es) && not (ends_in_marker (take n es))
+
+-- what is written of a source behind its first k entries: the lines of all the others, or, where a count stops it, those of as many and that of the cursor behind them
+abbrev pub output_from : Bool → Parts → Option ℕ → ℕ → List ℕ
+output_from exact p None k = lines_of exact p (entries_of (rest (in_characters p) k))
+output_from exact p (Some n) k =
+    let es = entries_of (rest (in_characters p) k) in
+    if stops_after n es then lines_of exact p (take n es) ++ cursor_line (cursor (in_characters p) (k + n)) else lines_of exact p es
+
+-- how many entries may still be listed behind one of this kind: without a count all, and so too where the last that it allows is ENDMARKER
+abbrev pub left_behind : Option ℕ → Kind → Option ℕ
+left_behind None kind = None
+left_behind (Some n) kind = if (n == 1) && is_marker kind then None else Some (n - 1)
 
 -- the fault that is told of steps, if they end by one
 abbrev pub told_of : List Step → Option Fault
 told_of steps = option_map of_listing (fault_of steps)
 
--- what `tokens` writes of a source, nothing where the bytes are none
-abbrev pub tokens_output : Bool → Result Parts SourceFault → List ℕ
-tokens_output exact (Ok p) = lines_of exact p (listing (in_characters p))
-tokens_output exact (Err fault) = []
+-- the fault that is told of a source behind its first k entries: none where a count stops it
+abbrev pub fault_from : Parts → Option ℕ → ℕ → Option Fault
+fault_from p None k = told_of (rest (in_characters p) k)
+fault_from p (Some n) k = if stops_after n (entries_of (rest (in_characters p) k)) then None else told_of (rest (in_characters p) k)
+
+-- the same number is in each part of two cursors
+abbrev pub same_parts : CursorParts → CursorParts → Bool
+same_parts c d = (c.given == d.given) && ((c.offset == d.offset) && ((c.row == d.row) && ((c.depth == d.depth) && ((flag c.begun == flag d.begun) && ((c.skip == d.skip) && pointwise eqb c.levels d.levels)))))
+
+-- a cursor is one of a source: that behind some of its entries
+abbrev pub is_cursor_of : CursorParts → Source → Bool
+is_cursor_of c s = nat_le c.given (length (entries_of (listing s))) && same_parts c (cursor s c.given)
+
+-- how many entries of a source stand before those that are listed, the source's start or a cursor being given; none where the source has no such cursor
+abbrev pub start_in : Option CursorParts → Source → Option ℕ
+start_in None s = Some 0
+start_in (Some c) s = if is_cursor_of c s then Some c.given else None
+
+-- what `tokens` writes of a source; nothing where the bytes are none, or it has no such cursor
+abbrev pub tokens_output : Bool → Option ℕ → Option CursorParts → Result Parts SourceFault → List ℕ
+tokens_output exact count resume (Ok p) = elim (start_in resume (in_characters p)) [ Some k ↦ output_from exact p count k | None ↦ [] ]
+tokens_output exact count resume (Err fault) = []
 
 -- the fault that `tokens` tells of a source
-abbrev pub tokens_fault : Result Parts SourceFault → Option Fault
-tokens_fault (Ok p) = told_of (listing (in_characters p))
-tokens_fault (Err fault) = Some (of_source fault)
+abbrev pub tokens_fault : Option ℕ → Option CursorParts → Result Parts SourceFault → Option Fault
+tokens_fault count resume (Ok p) = elim (start_in resume (in_characters p)) [ Some k ↦ fault_from p count k | None ↦ Some (Plain CursorOfAnotherSource) ]
+tokens_fault count resume (Err fault) = Some (of_source fault)
 
--- operators are shown by their exact names
+-- what a command has: whether operators are shown by their exact names, the largest count of entries, the cursor to go on from
 abbrev pub is_exact : Command → Bool
-is_exact (Tokens exact file) = exact
+is_exact (Tokens exact count resume file) = exact
+
+abbrev pub count_of : Command → Option ℕ
+count_of (Tokens exact count resume file) = count
+
+abbrev pub resume_of : Command → Option CursorParts
+resume_of (Tokens exact count resume file) = resume
 
 -- the whole output of a command on the bytes of a source, and the fault that it tells of them
 abbrev pub output_of : Command → List ℕ → List ℕ
-output_of (Tokens exact file) bytes = tokens_output exact (source_of bytes)
+output_of command bytes = tokens_output (is_exact command) (count_of command) (resume_of command) (source_of bytes)
 
 abbrev pub fault_in : Command → List ℕ → Option Fault
-fault_in (Tokens exact file) bytes = tokens_fault (source_of bytes)
+fault_in command bytes = tokens_fault (count_of command) (resume_of command) (source_of bytes)
+
+-- what the words can ask for: a count of at most 1,000,000,000, and a cursor that has a text
+abbrev pub IsWithinLimits : Command → Type 0
+IsWithinLimits (Tokens exact count resume file) = IfSome count (λ n. n ≤ 1_000_000_000) × IfSome resume IsWellFormed
 
 -- What a writer took, from old to new, where a run with this whole output and this fault of the source ended by a fault
--- or by none: all of the output where it ended by what the source says, nothing after a failed read, and else a front.
+-- or by none: all of the output where it ended by what the source says (a cursor of another one included), nothing after a failed read, and else a front.
 abbrev pub WritesFor : List ℕ → Option Fault → Option (List ℕ) → Option (List ℕ) → Option Fault → Type 0
 WritesFor output told old new None = (told ≡ None) × Appends old new output
 WritesFor output told old new (Some (InSource code place)) = (told ≡ Some (InSource code place)) × Appends old new output
-WritesFor output told old new (Some (Plain code)) = elim code [ Read ↦ Appends old new [] | Write ↦ TakesFront old new output | Memory ↦ TakesFront old new output | _ ↦ ⊥ ]
+WritesFor output told old new (Some (Plain code)) = elim code [ Read ↦ Appends old new [] | Write ↦ TakesFront old new output | Memory ↦ TakesFront old new output | CursorOfAnotherSource ↦ (told ≡ Some (Plain CursorOfAnotherSource)) × Appends old new output | _ ↦ ⊥ ]
 
 -- the writer took a front of the output, of which this much is held and the rest left
 abbrev pub TakesAllBut : Option (List ℕ) → Option (List ℕ) → List ℕ → List ℕ → List ℕ → Type 0
@@ -80,7 +145,7 @@ Performs command to_come old new ended =
 
 -- the file that a command names
 abbrev pub file_of : Command → Option (List ℕ)
-file_of (Tokens exact file) = option_map string_bytes file
+file_of (Tokens exact count resume file) = option_map string_bytes file
 
 -- the name of the source in a fault's line: the file as given, or `<stdin>`
 abbrev pub name_of : Command → List ℕ

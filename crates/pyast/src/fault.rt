@@ -33,6 +33,10 @@ pub enum FaultCode {
     UnindentMismatch,
     /// A closing bracket where none is open.
     UnmatchedCloser,
+    /// A cursor that the source doesn't have.
+    CursorOfAnotherSource,
+    /// A text that is no cursor's.
+    CursorText,
     /// Words that give no command.
     BadArguments,
     /// The file could not be opened.
@@ -69,6 +73,8 @@ pub fn fault_text(code: FaultCode) -> &'static str
         FaultCode::EofInStatement => "EOF in multi-line statement",
         FaultCode::UnindentMismatch => "unindent does not match any outer indentation level",
         FaultCode::UnmatchedCloser => "unmatched closing bracket",
+        FaultCode::CursorOfAnotherSource => "cursor of another source",
+        FaultCode::CursorText => "malformed cursor",
         FaultCode::BadArguments => "bad arguments",
         FaultCode::Open => "cannot open file",
         FaultCode::Write => "write failed",
@@ -116,7 +122,7 @@ fn listing_code(error: ListingError) -> FaultCode
 }
 
 impl FaultCode {
-    /// The status that the program ends with: 1 where the source is at fault, 2 where the words are, 3 where reading,
+    /// The status that the program ends with: 1 where the source is at fault, 2 where the words or the cursor are, 3 where reading,
     /// opening or writing failed, 4 where there was no memory.
     pub fn status(self) -> u8
         ensures { result ≡ code_status self }
@@ -133,7 +139,7 @@ impl FaultCode {
             | FaultCode::EofInStatement
             | FaultCode::UnindentMismatch
             | FaultCode::UnmatchedCloser => 1,
-            FaultCode::BadArguments => 2,
+            FaultCode::CursorOfAnotherSource | FaultCode::CursorText | FaultCode::BadArguments => 2,
             FaultCode::Read | FaultCode::Open | FaultCode::Write => 3,
             FaultCode::Memory => 4,
         }

@@ -61,6 +61,7 @@ fn refuse(rt: &HostRuntime, fault: UsageFault) -> u8 {
             }
         }
         UsageFault::BadArguments => FaultCode::BadArguments,
+        UsageFault::MalformedCursor => FaultCode::CursorText,
         UsageFault::Memory => FaultCode::Memory,
     };
     let mut faults = Counted::new(rt.stderr());

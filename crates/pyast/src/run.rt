@@ -1,16 +1,19 @@
 //! A run of the program, over a reader and two writers.
-ghost use Rattle.std.specs.Prelude.{◌≡◌, ◌≢◌, ◌+◌, ◌-◌, ◌^◌, ◌<◌, [], Option, Some, OnOk, OnErr, IfOk, string_bytes};
+ghost use Rattle.std.specs.Prelude.{◌≡◌, ◌≢◌, ◌⊎◌, ◌+◌, ◌-◌, ◌^◌, ◌<◌, [], ◌++◌, Option, Some, None, option_map, Ok, OnOk, OnErr, IfOk, IfErr, string_bytes};
 ghost use Rattle.pysource.specs.declared.bytes.TheConstants.{SOURCE_LIMIT};
 ghost use Rattle.pysource.specs.Bytes.{TakesFront, GivesTooMany};
+ghost use Rattle.pylex.specs.Laws.{AllLie};
+ghost use Rattle.pylex.specs.Listers.{StandsIn};
 ghost use Rattle.pylex.specs.Listing.{listing, in_characters};
 ghost use Rattle.pyast.specs.declared.fault.Fault.{Fault};
-ghost use Rattle.pyast.specs.Runs.{is_exact, lines_of, told_of, HoldsFor, WritesFor, ended_by, Performs, IsRun};
+ghost use Rattle.pyast.specs.Runs.{is_exact, count_of, resume_of, cursor_line, left_behind, output_from, fault_from, start_in, tokens_output, tokens_fault, HoldsFor, WritesFor, ended_by, Performs, IsRun};
 
 use crate::command::Command;
 use crate::fault::{Fault, FaultCode, tell};
-use pylex::{Lister, Step, push_line, text};
-use pysource::{ByteIn, ByteOut, InputFault, Source, WriteFailed, decode, read_all, write_all};
-use std::alloc::Global;
+use pylex::{Cursor, CursorFault, Kind, Lister, Step, push_line, text};
+pub use pysource::{ByteIn, ByteOut};
+use pysource::{InputFault, Source, WriteFailed, decode, read_all, write_all};
+use std::alloc::{AllocError, Global};
 
 /// How many bytes of lines are held at least before they are written.
 const ENOUGH: usize = 32_768;
@@ -18,25 +21,57 @@ const ENOUGH: usize = 32_768;
 /// Room for what is held, so that lines of usual length take no further memory.
 const ROOM: usize = 65_536;
 
-// Writes the line of each entry, and leaves the last of them in `held`. The answer is the fault that ends the listing, if
-// one does.
+// Appends the line of the cursor at which a lister stands.
+fn push_cursor(held: &mut String, lister: &Lister<'_>) -> Result<(), AllocError>
+    ensures ok { OnOk result (string_bytes held.new ≡ string_bytes held.old ++ cursor_line lister.entry.now.shown) }
+    ensures err { OnErr result (string_bytes held.new ≡ string_bytes held.old) }
+{
+    let text = lister.cursor()?.to_text()?;
+    let line = format!(in *held.allocator(); "cursor {text}\n")?;
+    held.push_str(line.as_str())
+}
+
+// How many entries may still be listed behind one of this kind, of those that a count allows. Where the last of them is
+// the end marker the count stops nothing: the listing comes to its end.
+fn left_behind(left: Option<u64>, kind: Kind) -> Option<u64>
+    requires { left ≢ Some 0 }
+    ensures { result ≡ left_behind left kind }
+{
+    match left {
+        Some(1) if kind == Kind::EndMarker => None,
+        Some(left) => Some(left - 1),
+        None => None,
+    }
+}
+
+// Writes the line of each entry that a lister still gives, up to a count and then that of the cursor, and leaves the last
+// of them in `held`. The answer is the fault that ends the listing, if one does.
 fn list<W: ByteOut>(
-    alloc: Global,
     source: &Source,
+    mut lister: Lister<'_>,
     exact: bool,
+    count: Option<u64>,
     held: &mut String,
     writer: &mut W,
 ) -> Result<Option<Fault>, WriteFailed>
     requires count { W.failure_count writer.old < 2 ^ 64 - 1 }
     requires empty { string_bytes held.old ≡ [] }
-    ensures holds { IfOk result (HoldsFor (lines_of exact source.now (listing (in_characters source.now))) (told_of (listing (in_characters source.now)))
+    requires stands { StandsIn lister (in_characters source.now) lister.shown.given }
+    requires lies { AllLie source.now.text (listing (in_characters source.now)) }
+    ensures holds { IfOk result (HoldsFor (output_from exact source.now count lister.entry.shown.given) (fault_from source.now count lister.entry.shown.given)
         (W.taken writer.old) (W.taken writer.new) (string_bytes held.new)) }
     ensures unfailed { OnOk result (W.failure_count writer.new ≡ W.failure_count writer.old) }
-    ensures front { OnErr result (TakesFront (W.taken writer.old) (W.taken writer.new) (lines_of exact source.now (listing (in_characters source.now)))) }
+    ensures front { OnErr result (TakesFront (W.taken writer.old) (W.taken writer.new) (output_from exact source.now count lister.entry.shown.given)) }
     ensures failed { OnErr result (W.failure_count writer.new ≡ W.failure_count writer.old + 1) }
 {
-    let mut lister = Lister::new(alloc, source);
+    let mut left = count;
     loop {
+        if let Some(0) = left {
+            let Ok(()) = push_cursor(held, &lister) else {
+                return Ok(Some(Fault::Plain(FaultCode::Memory)));
+            };
+            return Ok(None);
+        }
         let Ok(step) = lister.next() else {
             return Ok(Some(Fault::Plain(FaultCode::Memory)));
         };
@@ -45,6 +80,7 @@ fn list<W: ByteOut>(
                 if push_line(held, &entry, text(source, &entry), exact).is_err() {
                     return Ok(Some(Fault::Plain(FaultCode::Memory)));
                 }
+                left = left_behind(left, entry.kind);
                 if held.len() >= ENOUGH {
                     write_all(writer, held.as_bytes())?;
                     held.clear();
@@ -56,25 +92,51 @@ fn list<W: ByteOut>(
     }
 }
 
+// Begins at the start of a source, or behind a cursor, which must be one of the source.
+fn begin<'a>(
+    alloc: Global,
+    source: &'a Source,
+    resume: Option<&Cursor>,
+) -> Result<Lister<'a>, Fault>
+    ensures stands { IfOk result (λ lister. StandsIn lister (in_characters source.now) lister.shown.given) }
+    ensures start { IfOk result (λ lister. start_in (option_map (λ c. c.now) resume.entry) (in_characters source.now) ≡ Some lister.shown.given) }
+    ensures refused { IfErr result (λ fault. (fault ≡ Fault.Plain FaultCode.Memory) ⊎
+        ((fault ≡ Fault.Plain FaultCode.CursorOfAnotherSource) × (start_in (option_map (λ c. c.now) resume.entry) (in_characters source.now) ≡ None))) }
+    ensures lies { AllLie source.now.text (listing (in_characters source.now)) }
+{
+    let first = Lister::new(alloc, source);
+    let Some(cursor) = resume else {
+        return Ok(first);
+    };
+    match Lister::resume_checked(alloc, source, cursor) {
+        Ok(lister) => Ok(lister),
+        Err(CursorFault::AnotherSource) => Err(Fault::Plain(FaultCode::CursorOfAnotherSource)),
+        Err(_) => Err(Fault::Plain(FaultCode::Memory)),
+    }
+}
+
 // Writes the listing of a source. What is held at its end is written before a fault is told, and a failure of that
 // write is what ends the run then: it is met first.
 fn tokens<W: ByteOut>(
     alloc: Global,
     source: &Source,
     exact: bool,
+    count: Option<u64>,
+    resume: Option<&Cursor>,
     writer: &mut W,
 ) -> Result<(), Fault>
     requires { W.failure_count writer.old < 2 ^ 64 - 1 }
-    ensures writes { WritesFor (lines_of exact source.now (listing (in_characters source.now))) (told_of (listing (in_characters source.now)))
-        (W.taken writer.old) (W.taken writer.new) (ended_by result) }
+    ensures writes { WritesFor (tokens_output exact count (option_map (λ c. c.now) resume.entry) (Ok source.now))
+        (tokens_fault count (option_map (λ c. c.now) resume.entry) (Ok source.now)) (W.taken writer.old) (W.taken writer.new) (ended_by result) }
     ensures failed { ended_by result ≡ Some (Fault.Plain FaultCode.Write) → W.failure_count writer.new ≡ W.failure_count writer.old + 1 }
     ensures unfailed { ended_by result ≢ Some (Fault.Plain FaultCode.Write) → W.failure_count writer.new ≡ W.failure_count writer.old }
     ensures unread { ended_by result ≢ Some (Fault.Plain FaultCode.Read) }
 {
+    let lister = begin(alloc, source, resume)?;
     let Ok(mut held) = String::with_capacity(alloc, ROOM) else {
         return Err(Fault::Plain(FaultCode::Memory));
     };
-    let Ok(ended) = list(alloc, source, exact, &mut held, writer) else {
+    let Ok(ended) = list(source, lister, exact, count, &mut held, writer) else {
         return Err(Fault::Plain(FaultCode::Write));
     };
     if let Err(_) = write_all(writer, held.as_bytes()) {
@@ -92,6 +154,24 @@ fn is_exact(command: &Command) -> bool
 {
     match command {
         Command::Tokens { exact, .. } => *exact,
+    }
+}
+
+// How many entries are listed at most, if a count is given.
+fn count_of(command: &Command) -> Option<u64>
+    ensures { result ≡ count_of command.now }
+{
+    match command {
+        Command::Tokens { count, .. } => *count,
+    }
+}
+
+// The cursor behind which the listing begins, if one is given.
+fn resume_of(command: &Command) -> Option<&Cursor>
+    ensures { option_map (λ c. c.now) result ≡ resume_of command.now }
+{
+    match command {
+        Command::Tokens { resume, .. } => resume.as_ref(),
     }
 }
 
@@ -121,7 +201,9 @@ fn perform<R: ByteIn, W: ByteOut>(
         Err(fault) => return Err(Fault::from(fault)),
     };
     drop(bytes);
-    tokens(alloc, &source, is_exact(command), writer)
+    let exact = is_exact(command);
+    let count = count_of(command);
+    tokens(alloc, &source, exact, count, resume_of(command), writer)
 }
 
 /// A run of the program: reads the source of `reader` whole, writes to `writer` what the command gives, and tells what

@@ -62,13 +62,13 @@ history_is s h xs text left p =
     let f = full_behind p.fronts xs (subst Full p.whole (cut_full s.text)) in
     ap (λ g. lexemes_to (bytes_in (text_before g)) [] (cut s.text)) p.history ∙ ap (lexemes_to (bytes_in (text_before (onto p.fronts []))) []) p.whole ∙ lexemes_at p.fronts [] xs f ∙ sym p.history
 
-front_is : (a b : List ℕ) → front_to (bytes_in a) (a ++ b) ≡ a
+pub front_is : (a b : List ℕ) → front_to (bytes_in a) (a ++ b) ≡ a
 front_is a b = front_in a b (bytes_in a) (omega arith) ∙ ap (λ n. a ++ front_to n b) (none (bytes_in a)) ∙ ap (λ t. a ++ t) (front_zero b) ∙ append-nil a
   where
     none : (n : ℕ) → n - n ≡ 0
     none n = omega arith
 
-drop_front : (a b : List ℕ) → drop (length a) (a ++ b) ≡ b
+pub drop_front : (a b : List ℕ) → drop (length a) (a ++ b) ≡ b
 drop_front [] b = refl
 drop_front (c ∷ a) b = drop_front a b
 
@@ -158,7 +158,7 @@ closed_without (x ∷ before) e = ⊎_elim
     (bool_cases (is_of_line_end x && (depth before == 0)))
 
 -- The state that a cursor tells behind a lexeme with an entry.
-resumed_in : (h : List Lexeme) → is_at_margin h ≡ false → ends_in_join h ≡ false → (not (is_logical h) && (length (last_line (text_before h)) == 0)) ≡ false → resumed (cursor_at 0 0 false h) (last_line (text_before h)) ≡ begun_at (state_of h) (point_after (text_before h))
+pub resumed_in : (h : List Lexeme) → is_at_margin h ≡ false → ends_in_join h ≡ false → (not (is_logical h) && (length (last_line (text_before h)) == 0)) ≡ false → resumed (cursor_at 0 0 false h) (last_line (text_before h)) ≡ begun_at (state_of h) (point_after (text_before h))
 unfolding resumed cursor_at state_of
 resumed_in h m j b =
     let c = sym (column_is (text_before h)) in
@@ -166,18 +166,18 @@ resumed_in h m j b =
     rw (b, c, f, m, j) refl
 
 -- behind a line end at depth 0 a line begins
-starts_line : (h : List Lexeme) (x : Lexeme) → (is_of_line_end x && (depth h == 0)) ≡ true → line_so_far (x ∷ h) ≡ []
+pub starts_line : (h : List Lexeme) (x : Lexeme) → (is_of_line_end x && (depth h == 0)) ≡ true → line_so_far (x ∷ h) ≡ []
 unfolding line_so_far
 starts_line h x e = rw e refl
 
 -- elsewhere a line goes on
-line_is_on : (h : List Lexeme) (x : Lexeme) → is_of_blanks x ≡ false → (is_of_line_end x && (depth h == 0)) ≡ false → is_at_margin (x ∷ h) ≡ false
+pub line_is_on : (h : List Lexeme) (x : Lexeme) → is_of_blanks x ≡ false → (is_of_line_end x && (depth h == 0)) ≡ false → is_at_margin (x ∷ h) ≡ false
 line_is_on h x b e = margin_push h x ∙ ap (λ t. t || (is_of_blanks x && is_at_margin h)) e ∙ ap (λ t. t && is_at_margin h) b
 
-logical_on : (h : List Lexeme) (x : Lexeme) → (is_of_line_end x && (depth h == 0)) ≡ false → is_logical (x ∷ h) ≡ (is_thing x || is_logical h)
+pub logical_on : (h : List Lexeme) (x : Lexeme) → (is_of_line_end x && (depth h == 0)) ≡ false → is_logical (x ∷ h) ≡ (is_thing x || is_logical h)
 logical_on h x e = logical_push h x ∙ ap (λ t. not t && (is_thing x || is_logical h)) e
 
-begun_or_filled : (h : List Lexeme) (x : Lexeme) → Says x.«class» x.text → is_of_blanks x ≡ false → (is_of_line_end x && (depth h == 0)) ≡ false → (not (is_thing x || is_logical h) && (length (last_line (text_before h ++ x.text)) == 0)) ≡ false
+pub begun_or_filled : (h : List Lexeme) (x : Lexeme) → Says x.«class» x.text → is_of_blanks x ≡ false → (is_of_line_end x && (depth h == 0)) ≡ false → (not (is_thing x || is_logical h) && (length (last_line (text_before h ++ x.text)) == 0)) ≡ false
 begun_or_filled h x y b e = by_class x.«class» x.text y b e
   where
     in_brackets : (l : Bool) → is_logical h ≡ l → (depth h == 0) ≡ false → l ≡ true
@@ -204,7 +204,7 @@ begun_or_filled h x y b e = by_class x.«class» x.text y b e
     by_class LineEnd t y b e = logical (is_logical h) (length (last_line (text_before h ++ t)) == 0) (in_brackets (is_logical h) refl e)
     by_class Join t y b e = refl
 
-line_end_text : (h : List Lexeme) (x : Lexeme) → Says x.«class» x.text → is_of_line_end x ≡ true → last_line (text_before h ++ x.text) ≡ []
+pub line_end_text : (h : List Lexeme) (x : Lexeme) → Says x.«class» x.text → is_of_line_end x ≡ true → last_line (text_before h ++ x.text) ≡ []
 line_end_text h x y e = by_class x.«class» x.text y e
   where
     by_class : (k : Class) (t : List ℕ) → Says k t → is_of_line_end (record { «class» = k; text = t }) ≡ true → last_line (text_before h ++ t) ≡ []
@@ -236,10 +236,10 @@ pub ahead_own : (s : Source) (h xs : List Lexeme) (x : Lexeme) (text left : List
 ahead_own s h xs x text left p y b j = ahead_runs s false (x ∷ h) xs text left p ∙ ap up_to_end (own_run s.fault left h xs x y b j)
 
 -- The state that a cursor tells behind an INDENT: the line has begun, and its level is open.
-abbrev measured : List Lexeme → State
+abbrev pub measured : List Lexeme → State
 measured h = record (state_of h) { line = point_after (text_before h); levels = pushed (width_at h) (open_levels (widths h)); margin = false; width = 0; logical = true; joined = false }
 
-resumed_indented : (h : List Lexeme) → resumed (cursor_at 0 0 true h) (last_line (text_before h)) ≡ measured h
+pub resumed_indented : (h : List Lexeme) → resumed (cursor_at 0 0 true h) (last_line (text_before h)) ≡ measured h
 unfolding resumed cursor_at state_of
 resumed_indented h =
     let c = sym (column_is (text_before h)) in
@@ -284,7 +284,7 @@ measured_after h x m e = by_class x.«class» x.text e
     by_class LineEnd t e = cc
     by_class Join t e = rw m refl
 
-thing_margin : (s : State) (x : Lexeme) → is_thing x ≡ true → (after s x).margin ≡ false
+pub thing_margin : (s : State) (x : Lexeme) → is_thing x ≡ true → (after s x).margin ≡ false
 unfolding after
 thing_margin s x e = by_class x.«class» x.text e
   where

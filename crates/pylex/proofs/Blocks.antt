@@ -17,7 +17,7 @@ use Rattle.pylex.specs.declared.entries.Step.TheVariants as steps
 use Rattle.pylex.specs.Operators.{is_closer}
 use Rattle.pylex.specs.Lexemes.{Lexeme, cut, left_by_cut}
 use Rattle.pylex.specs.Lines.{is_thing}
-use Rattle.pylex.specs.Listing.{Source, listing, mark, origin, up_to_end, stop_fault}
+use Rattle.pylex.specs.Listing.{Source, mark, origin, up_to_end, stop_fault}
 use Rattle.pylex.specs.Steps.{entries_of, fault_of}
 use Rattle.pylex.specs.Cursors.{is_indent}
 use Rattle.pylex.specs.Machine.{State, behind, pushed, after, dedents_at, mark_at, line_end_kind_of, layout_of, entry_by, gives, is_hash, last_line_end, last_place, tail_of, stop_of, run, remaining, first_state}
@@ -27,7 +27,7 @@ use Rattle.pylex.proofs.Run.{listing_is}
 use Rattle.pylex.proofs.Ends.{stop_is_fault}
 
 -- Counts over a list of levels.
-count_step : {X : Type 0} (p : X → Bool) (x : X) (xs : List X) → count_by p (x ∷ xs) ≡ cond (p x) 1 0 + count_by p xs
+pub count_step : {X : Type 0} (p : X → Bool) (x : X) (xs : List X) → count_by p (x ∷ xs) ≡ cond (p x) 1 0 + count_by p xs
 count_step p x xs = grind (arith, common_steps)
 
 count_append : {X : Type 0} (p : X → Bool) (xs ys : List X) → count_by p (xs ++ ys) ≡ count_by p xs + count_by p ys
@@ -35,7 +35,7 @@ count_append p [] ys = omega arith
 count_append p (x ∷ xs) ys = let a = count_step p x (xs ++ ys) in let b = count_step p x xs in let h = count_append p xs ys in omega arith
 
 -- each level is below, at or above a width
-three_ways : (w : ℕ) (levels : List ℕ) → count_by (λ v. nat_lt v w) levels + count_by (λ v. v == w) levels + count_by (nat_lt w) levels ≡ length levels
+pub three_ways : (w : ℕ) (levels : List ℕ) → count_by (λ v. nat_lt v w) levels + count_by (λ v. v == w) levels + count_by (nat_lt w) levels ≡ length levels
 three_ways w [] = omega arith
 three_ways w (v ∷ levels) =
     let a = count_step (λ v. nat_lt v w) v levels in
@@ -48,7 +48,7 @@ three_ways w (v ∷ levels) =
     one_way : (v w : ℕ) → cond (nat_lt v w) 1 0 + cond (v == w) 1 0 + cond (nat_lt w v) 1 0 ≡ 1
     one_way v w = grind (arith, nat_tests)
 
-all_below : (w : ℕ) (levels : List ℕ) → list_all (λ v. nat_lt v w) levels ≡ true → count_by (λ v. nat_lt v w) levels ≡ length levels
+pub all_below : (w : ℕ) (levels : List ℕ) → list_all (λ v. nat_lt v w) levels ≡ true → count_by (λ v. nat_lt v w) levels ≡ length levels
 all_below w [] e = refl
 all_below w (v ∷ levels) e =
     let a = count_step (λ v. nat_lt v w) v levels in
@@ -61,7 +61,7 @@ all_below w (v ∷ levels) e =
     both true t e = (refl, e)
     both false t e = cc
 
-some_at : (w : ℕ) (levels : List ℕ) → list_any (λ v. v == w) levels ≡ true → 1 ≤ count_by (λ v. v == w) levels
+pub some_at : (w : ℕ) (levels : List ℕ) → list_any (λ v. v == w) levels ≡ true → 1 ≤ count_by (λ v. v == w) levels
 some_at w [] e = absurd cc
 some_at w (v ∷ levels) e =
     let a = count_step (λ v. v == w) v levels in
@@ -73,9 +73,9 @@ some_at w (v ∷ levels) e =
     either false t n e h = let k = h e in omega arith
 
 -- the levels are apart, and 0 is one
-record AreApart (levels : List ℕ) : Type 0 where
-  once : (v : ℕ) → count_by (λ u. u == v) levels ≤ 1
-  ground : count_by (λ u. u == 0) levels ≡ 1
+pub record AreApart (levels : List ℕ) : Type 0 where
+  pub once : (v : ℕ) → count_by (λ u. u == v) levels ≤ 1
+  pub ground : count_by (λ u. u == 0) levels ≡ 1
 
 kept_count : (u v w n : ℕ) → nat_lt u w ≡ true → cond (u == v) 1 0 + cond (nat_lt v w) n 0 ≡ cond (nat_lt v w) (cond (u == v) 1 0 + n) 0
 kept_count u v w n e = grind (arith, nat_tests)
@@ -105,10 +105,10 @@ pushed_count v w levels =
     let c = count_step (λ u. u == v) w [] in
     omega arith
 
-pushed_length : (w : ℕ) (levels : List ℕ) → length (pushed w levels) ≡ count_by (λ v. nat_lt v w) levels + 1
+pub pushed_length : (w : ℕ) (levels : List ℕ) → length (pushed w levels) ≡ count_by (λ v. nat_lt v w) levels + 1
 pushed_length w levels = let f = length-filter (λ v. nat_lt v w) levels in let a = length-append (filter (λ v. nat_lt v w) levels) (w ∷ []) in omega arith
 
-pushed_apart : (w : ℕ) (levels : List ℕ) → AreApart levels → AreApart (pushed w levels)
+pub pushed_apart : (w : ℕ) (levels : List ℕ) → AreApart levels → AreApart (pushed w levels)
 pushed_apart w levels a = record {
   once = λ v. let p = pushed_count v w levels in let o = a.once v in let f = at_most v (count_by (λ u. u == v) levels) o in omega arith;
   ground = let p = pushed_count 0 w levels in let f = at_ground (count_by (λ u. u == 0) levels) a.ground in omega arith;

@@ -13,3 +13,12 @@ and_parts false b h = cc
 pub not_false : (b : Bool) → not b ≡ false → b ≡ true
 not_false true h = refl
 not_false false h = cc
+
+pub left_false : (a b : Bool) → not a ≡ true → (a && b) ≡ false
+left_false true b h = cc
+left_false false b h = refl
+
+pub right_false : (a b : Bool) → b ≡ false → (a && b) ≡ false
+right_false a true h = cc
+right_false true false h = refl
+right_false false false h = refl

@@ -1,9 +1,10 @@
 -- What a lister meets where the lexemes end.
-use Rattle.std.proofs.Common.{◌≡◌, ℕ, suc, ◌+◌, ◌<◌, Bool, true, false, not, ◌&&◌, ◌||◌, ◌==◌, List, [], ◌∷◌, ◌++◌, length, refl, ap, ◌∙◌, sym, subst, arith, cond, replicate, zero, Option, Some, None, ⊎_elim}
+use Rattle.std.proofs.Common.{◌≡◌, ℕ, suc, ◌-◌, ◌<◌, ◌≤◌, drop, Bool, true, false, not, ◌&&◌, ◌||◌, ◌==◌, List, [], ◌∷◌, ◌++◌, length, refl, ap, ◌∙◌, sym, subst, arith, cond, replicate, zero, Option, Some, None, ⊎_elim}
 use Rattle.std.specs.Prelude.{count_by, nat_lt}
 use Rattle.std.specs.Str.{chars, encode_utf8_all, IsUtf8}
 use Rattle.std.proofs.lemmas.Str.{chars-nil, encodes-chars}
 use Rattle.std.proofs.lemmas.Bool.Decides.{nat_tests}
+use Rattle.std.proofs.lemmas.Grind.{common_steps}
 use Rattle.pylex.specs.declared.entries.Entry.{Entry}
 use Rattle.pylex.specs.declared.entries.ListingFault.{ListingFault}
 use Rattle.pylex.specs.declared.entries.ListingError.TheVariants as errors
@@ -11,12 +12,15 @@ use Rattle.pylex.specs.declared.entries.Step.{Step}
 use Rattle.pylex.specs.declared.entries.Step.TheVariants as steps
 use Rattle.pylex.specs.declared.kinds.Kind.TheVariants as kinds
 use Rattle.pysource.specs.declared.places.Place.{Place}
+use Rattle.pylex.specs.declared.state.Given.{Given}
+use Rattle.pylex.specs.declared.state.Given.TheVariants as gives
 use Rattle.pylex.specs.declared.state.Progress.{Progress}
 use Rattle.pylex.specs.Lexemes.{lexeme_at}
 use Rattle.pylex.specs.Cuts.{begins_thing}
-use Rattle.pylex.specs.Listing.{fault_at, stop_fault, row_after, up_to_end}
-use Rattle.pylex.specs.Machine.{State, layout_of, stop_of, tail_of, last_line_end, last_place, remaining, behind_steps, mark_at, dedents_at}
-use Rattle.pylex.specs.Progress.{with_levels, closing, StopAhead}
+use Rattle.pylex.specs.Listing.{fault_at, further, stop_fault, row_after, up_to_end}
+use Rattle.pylex.specs.Steps.{first_step}
+use Rattle.pylex.specs.Machine.{State, is_hash, stop_of, tail_of, last_line_end, last_place, remaining, behind_steps, mark_at, dedents_at}
+use Rattle.pylex.specs.Progress.{with_levels, given, GivesNoText, closing, IsAscending, StopAhead}
 use Rattle.pylex.proofs.Cases.{bool_cases}
 use Rattle.pylex.proofs.Run.{up_to_end-append}
 use Rattle.pylex.proofs.Steps.{remaining_stop}
@@ -118,3 +122,78 @@ open_in s bytes q none at open_now is = let e = no_chars_left bytes none in rw (
 
 pub tail_in : (s : State) (bytes : List ℕ) (lasts : List Step) → (length bytes == 0) ≡ true → lexeme_at (chars bytes) ≡ None → (not (s.depth == 0) || s.joined) ≡ false → last_line_end s ≡ lasts → remaining None s (chars bytes) ≡ behind_steps lasts (closing s)
 tail_in s bytes lasts none at open_now is = let e = no_chars_left bytes none in rw (e, ← is) (tail_found s (ap lexeme_at (sym e) ∙ at) open_now)
+
+-- The steps of the end, one by one.
+above_ground : (n : ℕ) (levels : List ℕ) → IsAscending n levels → count_by (nat_lt 0) levels ≡ length levels
+above_ground n [] h = refl
+above_ground n (m ∷ levels) h =
+    let more : nat_lt 0 m ≡ true = grind (arith, nat_tests, h.0) in
+    let rest = above_ground m levels h.1 in
+    grind (arith, common_steps)
+
+-- a DEDENT for each level above 0, ENDMARKER and the end
+closing_steps : (p : Progress) (levels : List ℕ) (n : ℕ) → IsAscending 0 levels → length levels ≡ n → closing (with_levels p (0 ∷ levels)) ≡ replicate n (mark_at kinds.Dedent p.now.offset (last_place (with_levels p [])) (last_place (with_levels p []))) ++ mark_at kinds.EndMarker p.now.offset (last_place (with_levels p [])) (last_place (with_levels p [])) ∷ steps.End ∷ []
+closing_steps p levels n h e =
+    let place = last_place (with_levels p []) in
+    let counted : count_by (nat_lt 0) (0 ∷ levels) ≡ n = above_ground 0 levels h ∙ e in
+    ap (λ k. replicate k (mark_at kinds.Dedent p.now.offset place place) ++ mark_at kinds.EndMarker p.now.offset place place ∷ steps.End ∷ []) counted
+
+behind_end : (k : ℕ) → first_step (drop k (steps.End ∷ [])) ≡ steps.End
+behind_end zero = refl
+behind_end (suc k) = behind_none k
+  where
+    behind_none : (k : ℕ) → first_step (drop k []) ≡ steps.End
+    behind_none zero = refl
+    behind_none (suc k) = refl
+
+first_repeated : (n k : ℕ) (d : Step) (ss : List Step) → k < n → first_step (drop k (replicate n d ++ ss)) ≡ d
+first_repeated zero k d ss h = absurd (omega arith)
+first_repeated (suc n) zero d ss h = refl
+first_repeated (suc n) (suc k) d ss h = first_repeated n k d ss (omega arith)
+
+behind_repeated : (n k : ℕ) (d : Step) (ss : List Step) → n ≤ k → drop k (replicate n d ++ ss) ≡ drop (k - n) ss
+behind_repeated zero k d ss h = let z : k - 0 ≡ k = omega arith in rw z refl
+behind_repeated (suc n) zero d ss h = absurd (omega arith)
+behind_repeated (suc n) (suc k) d ss h = let z : suc k - suc n ≡ k - n = omega arith in rw z (behind_repeated n k d ss (omega arith))
+
+pub closing_dedent : (p : Progress) (levels : List ℕ) (n k : ℕ) (e : Entry) → IsAscending 0 levels → length levels ≡ n → k < n → mark_at kinds.Dedent p.now.offset (last_place (with_levels p [])) (last_place (with_levels p [])) ≡ steps.Entry e → steps.Entry e ≡ first_step (drop k (closing (with_levels p (0 ∷ levels))))
+closing_dedent p levels n k e h c less is = sym (ap (λ ss. first_step (drop k ss)) (closing_steps p levels n h c) ∙ first_repeated n k _ _ less ∙ is)
+
+pub closing_marker : (p : Progress) (levels : List ℕ) (n k : ℕ) (e : Entry) → IsAscending 0 levels → length levels ≡ n → k ≡ n → mark_at kinds.EndMarker p.now.offset (last_place (with_levels p [])) (last_place (with_levels p [])) ≡ steps.Entry e → steps.Entry e ≡ first_step (drop k (closing (with_levels p (0 ∷ levels))))
+closing_marker p levels n k e h c same is =
+    let z : k - n ≡ 0 = omega arith in
+    sym (ap (λ ss. first_step (drop k ss)) (closing_steps p levels n h c) ∙ ap first_step (behind_repeated n k _ _ (omega arith)) ∙ ap (λ j. first_step (drop j (mark_at kinds.EndMarker p.now.offset (last_place (with_levels p [])) (last_place (with_levels p [])) ∷ steps.End ∷ []))) z ∙ is)
+
+pub closing_end : (p : Progress) (levels : List ℕ) (n k : ℕ) → IsAscending 0 levels → length levels ≡ n → n < k → steps.End ≡ first_step (drop k (closing (with_levels p (0 ∷ levels))))
+closing_end p levels n k h c more =
+    let z : k - n ≡ suc (k - suc n) = omega arith in
+    sym (ap (λ ss. first_step (drop k ss)) (closing_steps p levels n h c) ∙ ap first_step (behind_repeated n k _ _ (omega arith)) ∙ ap (λ j. first_step (drop j (mark_at kinds.EndMarker p.now.offset (last_place (with_levels p [])) (last_place (with_levels p [])) ∷ steps.End ∷ []))) z ∙ behind_end (k - suc n))
+
+-- Where they begin with a fault, or with a line end.
+pub end_fault : (ss : List Step) (f : ListingFault) (c : List Step) (k : ℕ) → ss ≡ behind_steps (steps.Fault f ∷ []) c → k < length ss → steps.Fault f ≡ first_step (drop k ss)
+end_fault ss f c k is h = let one : length ss ≡ 1 = ap length is in let z : k ≡ 0 = omega arith in rw (z, is) refl
+
+pub end_first : (ss : List Step) (e : Entry) (c : List Step) (k : ℕ) → ss ≡ behind_steps (steps.Entry e ∷ []) c → k ≡ 0 → steps.Entry e ≡ first_step (drop k ss)
+end_first ss e c k is z = rw (z, is) refl
+
+pub end_later : (ss : List Step) (e : Entry) (c : List Step) (k : ℕ) (r : Step) → ss ≡ behind_steps (steps.Entry e ∷ []) c → 0 < k → r ≡ first_step (drop (k - 1) c) → r ≡ first_step (drop k ss)
+end_later ss e c k r is h by = let z : k ≡ suc (k - 1) = omega arith in by ∙ sym (ap (λ ts. first_step (drop k ts)) is ∙ ap (λ j. first_step (drop j (steps.Entry e ∷ c))) z)
+
+-- the line end that the text's end gives has no text
+last_line_end_empty : (s : State) (e : Entry) → last_line_end s ≡ steps.Entry e ∷ [] → e.«from» ≡ e.to
+unfolding last_line_end
+last_line_end_empty s e is = by s.logical (is_hash s.front) s.margin is
+  where
+    same_entry : (d e : Entry) → d.«from» ≡ d.to → steps.Entry d ∷ [] ≡ steps.Entry e ∷ [] → e.«from» ≡ e.to
+    same_entry d e h q = let x : d ≡ e = cc in subst (λ (y : Entry). y.«from» ≡ y.to) x h
+
+    by : (l h m : Bool) → cond l (cond h [] (mark_at kinds.Newline s.now.offset s.now.place (further s.now.place 1) ∷ [])) (cond m [] (mark_at kinds.Nl s.now.offset s.now.place s.now.place ∷ [])) ≡ steps.Entry e ∷ [] → e.«from» ≡ e.to
+    by true true m q = absurd cc
+    by true false m q = same_entry _ e refl q
+    by false h true q = absurd cc
+    by false h false q = same_entry _ e refl q
+
+pub given_empty : (s : State) (g : Given) → last_line_end s ≡ given g → GivesNoText g
+given_empty s gives.Nothing is = tt
+given_empty s (gives.Entry e) is = last_line_end_empty s e is
+given_empty s (gives.Fault f) is = tt

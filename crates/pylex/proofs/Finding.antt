@@ -1,5 +1,5 @@
 -- What a lister meets next.
-use Rattle.std.proofs.Common.{◌≡◌, ℕ, ◌+◌, ◌<◌, Bool, true, false, not, ◌&&◌, List, [], ◌∷◌, ◌++◌, length, refl, ap, cond, replicate, inl, inr, ◌⊎◌, ◌∙◌, sym, subst, arith, Option, Some, None, ⊎_elim}
+use Rattle.std.proofs.Common.{◌≡◌, ℕ, zero, suc, ◌+◌, ◌<◌, Bool, true, false, ◌&&◌, ◌||◌, ◌==◌, take, drop, List, [], ◌∷◌, ◌++◌, length, refl, ap, cond, replicate, inl, inr, ◌⊎◌, ◌∙◌, sym, subst, arith, Option, Some, None, ⊎_elim}
 use Rattle.std.specs.Str.{chars}
 use Rattle.std.specs.Prelude.{count_by, nat_lt}
 use Rattle.pylex.specs.declared.lexeme.Class.{Class}
@@ -8,23 +8,24 @@ use Rattle.pylex.specs.declared.entries.ListingFault.{ListingFault}
 use Rattle.pylex.specs.declared.entries.ListingError.TheVariants as errors
 use Rattle.pylex.specs.declared.kinds.Kind.TheVariants as kinds
 use Rattle.pylex.specs.declared.entries.Step.{Step}
-use Rattle.pylex.specs.declared.entries.Step.TheVariants as steps
 use Rattle.pylex.specs.declared.state.Given.{Given}
 use Rattle.pylex.specs.declared.state.Given.TheVariants as gives
 use Rattle.pylex.specs.declared.state.Progress.{Progress}
 use Rattle.pylex.specs.declared.lister.Layout.TheVariants as layouts
+use Rattle.pylex.specs.declared.lister.Meets.{Meets}
 use Rattle.pylex.specs.declared.lister.Meets.TheVariants as meets
-use Rattle.pylex.specs.Lexemes.{Lexeme, lexeme_at}
+use Rattle.pylex.specs.Lexemes.{Lexeme, lexeme_at, lexeme_len}
 use Rattle.pylex.specs.Lines.{is_thing, is_thing_class}
 use Rattle.pylex.specs.Cuts.{Cuts, begins_thing}
 use Rattle.pylex.specs.Machine.{State, after, gives, entry_by, layout_of, remaining, behind_steps, pushed, dedents_at, mark_at}
-use Rattle.pylex.specs.Progress.{with_levels, measured, given, Stands, HasRoom, SameAhead, EntryAhead, FaultAhead, IndentAhead, DedentAhead, StopAhead, Settles, IsLayout, is_above, is_level}
+use Rattle.pylex.specs.Progress.{with_levels, measured, given, Stands, HasRoom, Comes, Walks, stays, silent, level, dedent, EntryAhead, FaultAhead, IndentAhead, DedentAhead, Finds, Settles, IsLayout, is_level}
+use Rattle.std.proofs.lemmas.Bool.Decides.{nat_tests}
 use Rattle.std.proofs.lemmas.Str.{length-le-encodes}
-use Rattle.pylex.proofs.Cases.{bool_cases, and_parts}
+use Rattle.pylex.proofs.Cases.{bool_cases}
 use Rattle.pylex.proofs.Steps.{remaining_step}
-use Rattle.pylex.proofs.Measured.{measured_lexeme, measured_stop}
-use Rattle.pylex.proofs.Layouts.{layout_indent, layout_dedents, layout_mismatch, level_not_above, pushed_above}
-use Rattle.pylex.proofs.Things.{thing_at, plain_at, all_cut}
+use Rattle.pylex.proofs.Measured.{lexeme_front, remaining_lexeme, measured_lexeme, measured_stop}
+use Rattle.pylex.proofs.Layouts.{layout_dedents, layout_mismatch, level_not_above, level-push, pushed_less, dedents-push}
+use Rattle.pylex.proofs.Things.{thing_at, plain_at}
 
 false_or_true : (b : Bool) → (b ≡ false) ⊎ (b ≡ true)
 false_or_true true = inr refl
@@ -51,40 +52,12 @@ measured_by fault s [] None e m t = no_thing t
 pub measured_thing : (fault : Option ListingFault) (s : State) (cs : List ℕ) → s.margin ≡ true → begins_thing cs ≡ true → remaining fault s cs ≡ behind_steps (layout_of s) (remaining fault (measured s) cs)
 measured_thing fault s cs m t = measured_by fault s cs (lexeme_at cs) refl m t
 
--- A line of the last level.
-pub settles_level : (levels : List ℕ) (p q : Progress) (cs : List ℕ) → p.margin ≡ true → begins_thing cs ≡ true → IsLayout p.width levels layouts.Level → ((ls : List ℕ) → with_levels q (pushed p.width ls) ≡ measured (with_levels p ls)) → Settles levels p cs q
-settles_level levels p q cs m t h is =
-    let s : State = with_levels p (0 ∷ levels) in
-    let none : layout_of s ≡ [] = layout_dedents s m h.0 h.1 ∙ ap (λ n. replicate n (mark_at kinds.Dedent p.now.offset p.now.place p.now.place)) h.2 in
-    let state : measured s ≡ with_levels q (0 ∷ levels) = sym (is (0 ∷ levels)) ∙ ap (with_levels q) h.3 in
-    let margin : q.margin ≡ false = ap (λ (r : State). r.margin) (is (0 ∷ levels)) in
-    record {
-      same = record { same = λ fault. measured_thing fault s cs m t ∙ ap (λ ss. behind_steps ss (remaining fault (measured s) cs)) none ∙ ap (λ r. remaining fault r cs) state };
-      settled = rw margin refl;
-    }
-
--- No layout is due.
-pub settles_same : (levels : List ℕ) (p : Progress) (cs : List ℕ) → (p.margin && begins_thing cs) ≡ false → Settles levels p cs p
-settles_same levels p cs h = record { same = record { same = λ fault. refl }; settled = h }
-
--- A line that closes levels to none that is open.
-pub fault_mismatch : (levels : List ℕ) (p : Progress) (cs : List ℕ) → p.margin ≡ true → begins_thing cs ≡ true → IsLayout p.width levels layouts.Mismatch → FaultAhead levels p cs (record { code = errors.UnindentMismatch; place = p.now.place })
-fault_mismatch levels p cs m t h =
-    let s : State = with_levels p (0 ∷ levels) in
-    record { step = λ fault. measured_thing fault s cs m t ∙ ap (λ ss. behind_steps ss (remaining fault (measured s) cs)) (layout_mismatch s m h.0 h.1) }
-
-pub indent_ahead : (levels : List ℕ) (p : Progress) (cs : List ℕ) → p.margin ≡ true → begins_thing cs ≡ true → IsLayout p.width levels layouts.Indent → SameAhead levels p cs p cs × IndentAhead levels p cs
-indent_ahead levels p cs m t h = (record { same = λ fault. refl }, record { margin = m; thing = t; above = h })
-
-pub dedent_ahead : (levels : List ℕ) (p : Progress) (cs : List ℕ) → p.margin ≡ true → begins_thing cs ≡ true → IsLayout p.width levels layouts.Dedent → SameAhead levels p cs p cs × DedentAhead levels p cs
-dedent_ahead levels p cs m t h = (record { same = λ fault. refl }, record { margin = m; thing = t; level = h.0; some = h.1; last = h.2 })
-
 -- One lexeme, where no layout is due.
 pub settled_layout : (s : State) → s.margin ≡ false → layout_of s ≡ []
 unfolding layout_of
 settled_layout s m = rw m refl
 
-no_layout : (s : State) (x : Lexeme) → (s.margin && is_thing x) ≡ false → gives s x ≡ entry_by s x
+pub no_layout : (s : State) (x : Lexeme) → (s.margin && is_thing x) ≡ false → gives s x ≡ entry_by s x
 unfolding gives
 no_layout s x h = ⊎_elim
     (λ (m : s.margin ≡ false). let none = settled_layout s m in rw none (no_choice (is_thing x) (entry_by s x)))
@@ -94,6 +67,106 @@ no_layout s x h = ⊎_elim
     no_choice : (b : Bool) (ss : List Step) → cond b [] [] ++ ss ≡ ss
     no_choice true ss = refl
     no_choice false ss = refl
+
+drop_front : (u v : List ℕ) → drop (length u) (u ++ v) ≡ v
+drop_front [] v = refl
+drop_front (c ∷ u) v = drop_front u v
+
+same_drop : (n : ℕ) (cs : List ℕ) → drop n cs ≡ drop (length (take n cs)) cs
+same_drop zero cs = refl
+same_drop (suc n) [] = refl
+same_drop (suc n) (c ∷ cs) = same_drop n cs
+
+-- what is behind the first lexeme
+pub behind_first : (cs b : List ℕ) (x : Lexeme) → lexeme_at cs ≡ Some x → cs ≡ x.text ++ b → drop (lexeme_len cs) cs ≡ b
+behind_first cs b x e p =
+    let f = lexeme_front cs x e in
+    same_drop (lexeme_len cs) cs ∙ ap (λ t. drop (length t) cs) (sym f) ∙ ap (drop (length x.text)) p ∙ drop_front x.text b
+
+-- A DEDENT for the last level, where the width is that of one before it.
+pub dedent_step : (f : Option ListingFault) (s : State) (cs ls : List ℕ) (v : ℕ) → s.margin ≡ true → begins_thing cs ≡ true → s.levels ≡ ls ++ v ∷ [] → s.width < v → is_level s.width ls ≡ true → remaining f s cs ≡ mark_at kinds.Dedent s.now.offset s.now.place s.now.place ∷ remaining f (record s { levels = ls }) cs
+dedent_step f s cs ls v m t levels less is =
+    let r : State = record s { levels = ls } in
+    let one : Step = mark_at kinds.Dedent s.now.offset s.now.place s.now.place in
+    let not_v : (v == s.width) ≡ false = grind (arith, nat_tests) in
+    let whole : is_level s.width s.levels ≡ true = ap (is_level s.width) levels ∙ level-push s.width v ls ∙ ap (λ b. b || (v == s.width)) is in
+    let before : layout_of s ≡ dedents_at s.width s.levels s.now.offset s.now.place = layout_dedents s m (level_not_above s.width s.levels whole) whole in
+    let later : layout_of r ≡ dedents_at s.width ls s.now.offset s.now.place = layout_dedents r m (level_not_above s.width ls is) is in
+    let first : layout_of s ≡ one ∷ layout_of r = before ∙ ap (λ ns. dedents_at s.width ns s.now.offset s.now.place) levels ∙ dedents-push s.width v ls s.now.offset s.now.place less ∙ ap (λ ss. one ∷ ss) (sym later) in
+    let state : measured s ≡ measured r = ap (λ ns. record (measured s) { levels = ns }) (ap (pushed s.width) levels ∙ pushed_less s.width v ls less) in
+    measured_thing f s cs m t ∙ ap (λ ss. behind_steps ss (remaining f (measured s) cs)) first ∙ ap (λ u. one ∷ behind_steps (layout_of r) (remaining f u cs)) state ∙ ap (λ ss. one ∷ ss) (sym (measured_thing f r cs m t))
+
+-- a line of an open level with none above it gives no layout
+level_layout : (s : State) → s.margin ≡ true → is_level s.width s.levels ≡ true → count_by (nat_lt s.width) s.levels ≡ 0 → layout_of s ≡ []
+level_layout s m l n = layout_dedents s m (level_not_above s.width s.levels l) l ∙ ap (λ k. replicate k (mark_at kinds.Dedent s.now.offset s.now.place s.now.place)) n
+
+-- Past n DEDENTs, the steps there are left.
+pub walks_steps : (f : Option ListingFault) (t : State) (ds : List ℕ) (n : ℕ) (s : State) (cs : List ℕ) → Walks t ds n s cs → drop n (remaining f s cs) ≡ remaining f t ds
+walks_steps f t ds n s cs stays = refl
+walks_steps f t ds n s cs (silent m r bs x d e g w) =
+    let thing : (s.margin && is_thing x) ≡ false = ap (λ b. s.margin && b) (thing_is cs x e) ∙ d in
+    ap (drop n) (remaining_lexeme f s cs x e ∙ ap (λ ss. behind_steps ss (remaining f (after s x) (drop (lexeme_len cs) cs))) (no_layout s x thing ∙ g))
+    ∙ walks_steps f t ds n (after s x) (drop (lexeme_len cs) cs) w
+walks_steps f t ds n s cs (level m r bs a b l c w) =
+    ap (drop n) (measured_thing f s cs a b ∙ ap (λ ss. behind_steps ss (remaining f (measured s) cs)) (level_layout s a l c))
+    ∙ walks_steps f t ds n (measured s) cs w
+walks_steps f t ds n s cs (dedent m r bs ls v a b e l i w) =
+    ap (drop (suc m)) (dedent_step f s cs ls v a b e l i)
+    ∙ walks_steps f t ds m (record s { levels = ls }) cs w
+
+-- one walk behind another
+pub walks_on : (t u : State) (ds es : List ℕ) (m n : ℕ) (s : State) (cs : List ℕ) → Walks t ds m s cs → Walks u es n t ds → Walks u es (m + n) s cs
+walks_on t u ds es m n s cs stays v = let z : 0 + n ≡ n = omega arith in rw z v
+walks_on t u ds es m n s cs (silent k r bs x d e g w) v = silent (m + n) s cs x d e g (walks_on t u ds es m n (after s x) (drop (lexeme_len cs) cs) w v)
+walks_on t u ds es m n s cs (level k r bs a b l c w) v = level (m + n) s cs a b l c (walks_on t u ds es m n (measured s) cs w v)
+walks_on t u ds es m n s cs (dedent k r bs ls x a b e l i w) v =
+    let z : suc k + n ≡ suc (k + n) = omega arith in
+    rw z (dedent (k + n) s cs ls x a b e l i (walks_on t u ds es k n (record s { levels = ls }) cs w v))
+
+-- A lister may look on from another place.
+pub stays_there : (levels : List ℕ) (p : Progress) (cs : List ℕ) → Comes levels p cs p cs
+stays_there levels p cs = record { walks = stays }
+
+pub comes_on : (levels : List ℕ) (p : Progress) (cs : List ℕ) (q : Progress) (ds : List ℕ) (r : Progress) (es : List ℕ) → Comes levels p cs q ds → Comes levels q ds r es → Comes levels p cs r es
+comes_on levels p cs q ds r es a b = record { walks = walks_on (with_levels q (0 ∷ levels)) (with_levels r (0 ∷ levels)) ds es 0 0 (with_levels p (0 ∷ levels)) cs a.walks b.walks }
+
+pub same_ahead : (levels : List ℕ) (p : Progress) (cs : List ℕ) (q : Progress) (ds : List ℕ) → Comes levels p cs q ds → (f : Option ListingFault) → remaining f (with_levels p (0 ∷ levels)) cs ≡ remaining f (with_levels q (0 ∷ levels)) ds
+same_ahead levels p cs q ds c f = walks_steps f (with_levels q (0 ∷ levels)) ds 0 (with_levels p (0 ∷ levels)) cs c.walks
+
+-- What is met from there is met from here.
+pub finds_on : (levels : List ℕ) (p : Progress) (cs : List ℕ) (q : Progress) (ds : List ℕ) (m : Meets) (r : Progress) (es : List ℕ) → Comes levels p cs q ds → Finds levels q ds m r es → Finds levels p cs m r es
+finds_on levels p cs q ds (meets.Entry e) r es c f = record { there = f.there; before = f.before; lexeme = f.lexeme; comes = comes_on levels p cs q ds f.there f.before c f.comes; settled = f.settled; stands = f.stands; own = f.own; behind = f.behind; goes = f.goes }
+finds_on levels p cs q ds (meets.Fault f) r es c g = record { step = λ fault. same_ahead levels p cs q ds c fault ∙ g.step fault }
+finds_on levels p cs q ds meets.Indent r es c f = (comes_on levels p cs q ds r es c f.0, f.1)
+finds_on levels p cs q ds meets.Dedent r es c f = (comes_on levels p cs q ds r es c f.0, f.1)
+finds_on levels p cs q ds meets.Stop r es c f = (comes_on levels p cs q ds r es c f.0, f.1)
+
+-- A line of the last level.
+pub settles_level : (levels : List ℕ) (p q : Progress) (cs : List ℕ) → p.margin ≡ true → begins_thing cs ≡ true → IsLayout p.width levels layouts.Level → ((ls : List ℕ) → with_levels q (pushed p.width ls) ≡ measured (with_levels p ls)) → Settles levels p cs q
+settles_level levels p q cs m t h is =
+    let s : State = with_levels p (0 ∷ levels) in
+    let state : measured s ≡ with_levels q (0 ∷ levels) = sym (is (0 ∷ levels)) ∙ ap (with_levels q) h.3 in
+    let margin : q.margin ≡ false = ap (λ (r : State). r.margin) (is (0 ∷ levels)) in
+    record {
+      comes = record { walks = level 0 s cs m t h.1 h.2 (subst (λ (r : State). Walks (with_levels q (0 ∷ levels)) cs 0 r cs) (sym state) stays) };
+      settled = rw margin refl;
+    }
+
+-- No layout is due.
+pub settles_same : (levels : List ℕ) (p : Progress) (cs : List ℕ) → (p.margin && begins_thing cs) ≡ false → Settles levels p cs p
+settles_same levels p cs h = record { comes = stays_there levels p cs; settled = h }
+
+-- A line that closes levels to none that is open.
+pub fault_mismatch : (levels : List ℕ) (p : Progress) (cs : List ℕ) → p.margin ≡ true → begins_thing cs ≡ true → IsLayout p.width levels layouts.Mismatch → FaultAhead levels p cs (record { code = errors.UnindentMismatch; place = p.now.place })
+fault_mismatch levels p cs m t h =
+    let s : State = with_levels p (0 ∷ levels) in
+    record { step = λ fault. measured_thing fault s cs m t ∙ ap (λ ss. behind_steps ss (remaining fault (measured s) cs)) (layout_mismatch s m h.0 h.1) }
+
+pub indent_ahead : (levels : List ℕ) (p : Progress) (cs : List ℕ) → p.margin ≡ true → begins_thing cs ≡ true → IsLayout p.width levels layouts.Indent → Comes levels p cs p cs × IndentAhead levels p cs
+indent_ahead levels p cs m t h = (stays_there levels p cs, record { margin = m; thing = t; above = h })
+
+pub dedent_ahead : (levels : List ℕ) (p : Progress) (cs : List ℕ) → p.margin ≡ true → begins_thing cs ≡ true → IsLayout p.width levels layouts.Dedent → Comes levels p cs p cs × DedentAhead levels p cs
+dedent_ahead levels p cs m t h = (stays_there levels p cs, record { margin = m; thing = t; level = h.0; some = h.1; last = h.2 })
 
 pub lexeme_ahead : (levels : List ℕ) (p : Progress) (bytes front back : List ℕ) (k : Class) (r : Given) → Cuts bytes k front back → (p.margin && begins_thing (chars bytes)) ≡ false → ((ls : List ℕ) → entry_by (with_levels p ls) (record { «class» = k; text = chars front }) ≡ given r) → (fault : Option ListingFault) → remaining fault (with_levels p (0 ∷ levels)) (chars bytes) ≡ behind_steps (given r) (remaining fault (after (with_levels p (0 ∷ levels)) (record { «class» = k; text = chars front })) (chars back))
 lexeme_ahead levels p bytes front back k r c settled gave fault =
@@ -106,14 +179,33 @@ lexeme_ahead levels p bytes front back k r c settled gave fault =
     ∙ ap (λ ss. behind_steps ss (remaining fault (after s x) (chars back))) (no_layout s x thing ∙ gave (0 ∷ levels))
 
 -- what a lexeme gives, where the lister came to here from a place before
-pub fault_found : (levels : List ℕ) (p0 : Progress) (cs : List ℕ) (q p : Progress) (bytes front back : List ℕ) (k : Class) (f : ListingFault) → SameAhead levels p0 cs q (chars bytes) → Settles levels q (chars bytes) p → Cuts bytes k front back → ((ls : List ℕ) → entry_by (with_levels p ls) (record { «class» = k; text = chars front }) ≡ given (gives.Fault f)) → FaultAhead levels p0 cs f
-fault_found levels p0 cs q p bytes front back k f came settles c gave = record { step = λ fault. came.same fault ∙ settles.same.same fault ∙ lexeme_ahead levels p bytes front back k (gives.Fault f) c settles.settled gave fault }
+pub fault_found : (levels : List ℕ) (p0 : Progress) (cs : List ℕ) (q p : Progress) (bytes front back : List ℕ) (k : Class) (f : ListingFault) → Comes levels p0 cs q (chars bytes) → Settles levels q (chars bytes) p → Cuts bytes k front back → ((ls : List ℕ) → entry_by (with_levels p ls) (record { «class» = k; text = chars front }) ≡ given (gives.Fault f)) → FaultAhead levels p0 cs f
+fault_found levels p0 cs q p bytes front back k f came settles c gave = record { step = λ fault. same_ahead levels p0 cs p (chars bytes) (comes_on levels p0 cs q (chars bytes) p (chars bytes) came settles.comes) fault ∙ lexeme_ahead levels p bytes front back k (gives.Fault f) c settles.settled gave fault }
 
-pub entry_found : (levels : List ℕ) (p0 : Progress) (cs : List ℕ) (q p r : Progress) (bytes front back : List ℕ) (k : Class) (e : Entry) → SameAhead levels p0 cs q (chars bytes) → Settles levels q (chars bytes) p → Cuts bytes k front back → ((ls : List ℕ) → entry_by (with_levels p ls) (record { «class» = k; text = chars front }) ≡ given (gives.Entry e)) → ((ls : List ℕ) → with_levels r ls ≡ after (with_levels p ls) (record { «class» = k; text = chars front })) → EntryAhead levels p0 cs e r (chars back)
-entry_found levels p0 cs q p r bytes front back k e came settles c gave is = record { step = λ fault. came.same fault ∙ settles.same.same fault ∙ lexeme_ahead levels p bytes front back k (gives.Entry e) c settles.settled gave fault ∙ ap (λ s. steps.Entry e ∷ remaining fault s (chars back)) (sym (is (0 ∷ levels))) }
+-- the text behind a lexeme
+cut_behind : (bytes front back : List ℕ) (k : Class) → Cuts bytes k front back → chars back ≡ drop (lexeme_len (chars bytes)) (chars bytes)
+cut_behind bytes front back k c = sym (behind_first (chars bytes) (chars back) (record { «class» = k; text = chars front }) c.lexeme c.whole)
 
-pub nothing_found : (levels : List ℕ) (p0 : Progress) (cs : List ℕ) (q p r : Progress) (bytes front back : List ℕ) (k : Class) → SameAhead levels p0 cs q (chars bytes) → Settles levels q (chars bytes) p → Cuts bytes k front back → ((ls : List ℕ) → entry_by (with_levels p ls) (record { «class» = k; text = chars front }) ≡ given gives.Nothing) → ((ls : List ℕ) → with_levels r ls ≡ after (with_levels p ls) (record { «class» = k; text = chars front })) → SameAhead levels p0 cs r (chars back)
-nothing_found levels p0 cs q p r bytes front back k came settles c gave is = record { same = λ fault. came.same fault ∙ settles.same.same fault ∙ lexeme_ahead levels p bytes front back k gives.Nothing c settles.settled gave fault ∙ ap (λ s. remaining fault s (chars back)) (sym (is (0 ∷ levels))) }
+pub entry_found : (levels : List ℕ) (p0 : Progress) (cs : List ℕ) (q p r : Progress) (bytes front back : List ℕ) (k : Class) (e : Entry) → Comes levels p0 cs q (chars bytes) → Settles levels q (chars bytes) p → Cuts bytes k front back → ((ls : List ℕ) → entry_by (with_levels p ls) (record { «class» = k; text = chars front }) ≡ given (gives.Entry e)) → ((ls : List ℕ) → with_levels r ls ≡ after (with_levels p ls) (record { «class» = k; text = chars front })) → EntryAhead levels p0 cs e r (chars back)
+entry_found levels p0 cs q p r bytes front back k e came settles c gave is = record {
+  there = p;
+  before = chars bytes;
+  lexeme = record { «class» = k; text = chars front };
+  comes = comes_on levels p0 cs q (chars bytes) p (chars bytes) came settles.comes;
+  settled = settles.settled;
+  stands = c.lexeme;
+  own = gave (0 ∷ levels);
+  behind = cut_behind bytes front back k c;
+  goes = is (0 ∷ levels);
+}
+
+pub nothing_found : (levels : List ℕ) (p0 : Progress) (cs : List ℕ) (q p r : Progress) (bytes front back : List ℕ) (k : Class) → Comes levels p0 cs q (chars bytes) → Settles levels q (chars bytes) p → Cuts bytes k front back → ((ls : List ℕ) → entry_by (with_levels p ls) (record { «class» = k; text = chars front }) ≡ given gives.Nothing) → ((ls : List ℕ) → with_levels r ls ≡ after (with_levels p ls) (record { «class» = k; text = chars front })) → Comes levels p0 cs r (chars back)
+nothing_found levels p0 cs q p r bytes front back k came settles c gave is =
+    let x : Lexeme = record { «class» = k; text = chars front } in
+    let t : State = with_levels r (0 ∷ levels) in
+    let s : State = with_levels p (0 ∷ levels) in
+    let last : Walks t (chars back) 0 (after s x) (drop (lexeme_len (chars bytes)) (chars bytes)) = subst (λ (u : State). Walks t (chars back) 0 u (drop (lexeme_len (chars bytes)) (chars bytes))) (is (0 ∷ levels)) (subst (λ (es : List ℕ). Walks t (chars back) 0 t es) (cut_behind bytes front back k c) stays) in
+    comes_on levels p0 cs p (chars bytes) r (chars back) (comes_on levels p0 cs q (chars bytes) p (chars bytes) came settles.comes) (record { walks = silent 0 s (chars bytes) x settles.settled c.lexeme (gave (0 ∷ levels)) last })
 
 -- a lexeme makes no line logical where no layout is due before it
 pub no_thing_due : (p : Progress) (bytes front back : List ℕ) (k : Class) → Cuts bytes k front back → (p.margin && begins_thing (chars bytes)) ≡ false → (p.margin && is_thing_class k) ≡ false

@@ -1,12 +1,10 @@
 -- The layout of a line by its width and the open levels, which ascend.
-use Rattle.std.proofs.Common.{◌≡◌, ℕ, zero, suc, ◌+◌, ◌-◌, ◌<◌, ◌≤◌, Bool, true, false, not, ◌&&◌, ◌||◌, ◌==◌, List, [], ◌∷◌, ◌++◌, length, take, drop, refl, ap, ◌∙◌, sym, subst, arith, cond, Option, Some, None, filter, ltb, ⊎_elim}
-use Rattle.std.specs.Prelude.{nat_lt, count_by, replicate, slice_get}
-use Rattle.std.specs.List.{list_all, list_any}
+use Rattle.std.proofs.Common.{◌≡◌, ℕ, suc, ◌+◌, ◌<◌, true, false, ◌&&◌, ◌||◌, ◌==◌, List, [], ◌∷◌, ◌++◌, refl, ap, ◌∙◌, arith, cond, None, filter, ⊎_elim}
+use Rattle.std.specs.Prelude.{nat_lt, count_by}
 use Rattle.std.proofs.lemmas.Bool.Decides.{nat_tests}
 use Rattle.std.proofs.lemmas.Grind.{common_steps}
-use Rattle.std.proofs.lemmas.List.{take-append-drop, append-nil}
+use Rattle.std.proofs.lemmas.List.{append-nil}
 use Rattle.std.proofs.lemmas.List.Elements.{filter-append}
-use Rattle.pylex.specs.declared.entries.Step.{Step}
 use Rattle.pylex.specs.declared.entries.ListingError.TheVariants as errors
 use Rattle.pylex.specs.declared.kinds.Kind.TheVariants as kinds
 use Rattle.pylex.specs.Listing.{fault_at}
@@ -14,7 +12,7 @@ use Rattle.pylex.specs.Machine.{State, layout_of, pushed, step_of, mark_at, dede
 use Rattle.pylex.proofs.Cases.{bool_cases, and_parts}
 use Rattle.std.proofs.Math.Bool.{and-false}
 use Rattle.pysource.specs.declared.places.Place.{Place}
-use Rattle.pylex.specs.Progress.{measured, IsAscending, is_above, is_level}
+use Rattle.pylex.specs.Progress.{IsAscending, is_above, is_level}
 
 -- one more at the end
 pub above-push : (w v : ℕ) (ls : List ℕ) → is_above w (ls ++ v ∷ []) ≡ (is_above w ls && nat_lt v w)

@@ -9,7 +9,6 @@ mod Layouts
 mod Tops
 mod Finding
 mod Ending
-mod Moving
 mod Resume
 mod Computing
 mod Full
@@ -47,3 +46,18 @@ pub mod Covering
 pub mod Blocks
 pub mod Ahead
 pub mod Resuming
+pub mod Points
+pub mod Passing
+pub mod Agreement
+pub mod OpenLevels
+pub mod Cursoring
+pub mod CursorBounds
+pub mod Looking
+pub mod Counts
+pub mod Skips
+pub mod Moving
+pub mod LevelLemmas
+pub mod CursorLemmas
+pub mod GroundLevels
+pub mod LastLines
+pub mod Returning

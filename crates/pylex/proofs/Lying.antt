@@ -1,5 +1,5 @@
 -- Each entry of a listing lies in the text.
-use Rattle.std.proofs.Common.{◌≡◌, ℕ, ◌+◌, Bool, true, false, not, ◌&&◌, ◌||◌, ◌==◌, zero, suc, List, [], ◌∷◌, ◌++◌, length, refl, ap, ◌∙◌, sym, subst, arith, cond, replicate, Option, Some, None, append_assoc, IsUtf8}
+use Rattle.std.proofs.Common.{◌≡◌, ℕ, ◌+◌, Bool, true, false, not, ◌&&◌, ◌||◌, ◌==◌, zero, suc, List, [], ◌∷◌, ◌++◌, length, refl, ap, ◌∙◌, sym, subst, arith, cond, replicate, Option, Some, None, append_assoc, IsUtf8, slice_get}
 use Rattle.std.specs.Str.{encode_utf8_all, all_scalars, IsCharBoundary}
 use Rattle.std.proofs.Math.Utf8.{scalar}
 use Rattle.std.specs.List.{list_all, list_any}
@@ -28,7 +28,7 @@ use Rattle.pylex.proofs.Run.{line_split}
 use Rattle.pylex.proofs.Lexed.{cut_lexed}
 
 -- what is behind a place is text, and so the place may be cut at
-scalars_behind : (a b : List ℕ) → all_scalars (a ++ b) ≡ true → all_scalars b ≡ true
+pub scalars_behind : (a b : List ℕ) → all_scalars (a ++ b) ≡ true → all_scalars b ≡ true
 scalars_behind [] b h = h
 scalars_behind (c ∷ a) b h = scalars_behind a b (later (scalar c) (all_scalars (a ++ b)) h)
   where
@@ -171,3 +171,9 @@ rest_lies text [] h = tt
 rest_lies text (steps.Entry e ∷ ss) h = h.1
 rest_lies text (steps.End ∷ ss) h = h
 rest_lies text (steps.Fault f ∷ ss) h = h
+
+-- and so does each
+pub step_lies : (text : List ℕ) (ss : List Step) (k : ℕ) (s : Step) → AllLie text ss → slice_get ss k ≡ Some s → StepLies text s
+step_lies text [] k s h e = cc
+step_lies text (r ∷ ss) zero s h e = let same : r ≡ s = cc in subst (StepLies text) same h.0
+step_lies text (r ∷ ss) (suc k) s h e = step_lies text ss k s h.1 e

@@ -16,7 +16,7 @@ use Rattle.pylex.specs.declared.state.Point.{Point}
 use Rattle.pylex.specs.Operators.{is_closer, exact_of}
 use Rattle.pylex.specs.Lexemes.{Lexeme, cut, left_by_cut}
 use Rattle.pylex.specs.Lines.{is_of_blanks, is_thing}
-use Rattle.pylex.specs.Listing.{Source, listing, origin, up_to_end}
+use Rattle.pylex.specs.Listing.{Source, origin, up_to_end}
 use Rattle.pylex.specs.Steps.{entries_of}
 use Rattle.pylex.specs.Machine.{State, advance, past, after, ends_line, dedents_at, mark_at, step_of, layout_of, entry_by, gives, is_hash, last_line_end, last_place, tail_of, stop_of, run, remaining, first_state, first_point}
 use Rattle.pylex.specs.Laws.{RunsForward, EndsBefore, AreOrdered, IsOrdered}

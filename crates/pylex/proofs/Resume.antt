@@ -85,7 +85,7 @@ front_zero (c ∷ t) =
     let l : leb (bytes_in (c ∷ [])) 0 ≡ false = grind (arith, nat_tests) in
     rw l refl
 
-front_bytes : (t : List ℕ) (n : ℕ) → bytes_in (front_to n t) ≤ n
+pub front_bytes : (t : List ℕ) (n : ℕ) → bytes_in (front_to n t) ≤ n
 unfolding front_to
 front_bytes [] n = omega arith
 front_bytes (c ∷ t) n = ⊎_elim
@@ -97,7 +97,7 @@ front_bytes (c ∷ t) n = ⊎_elim
     (λ (l : leb (bytes_in (c ∷ [])) n ≡ false). rw l (omega arith))
     (bool_cases (leb (bytes_in (c ∷ [])) n))
 
-front_and_back : (t : List ℕ) (n : ℕ) → front_to n t ++ back_from n t ≡ t
+pub front_and_back : (t : List ℕ) (n : ℕ) → front_to n t ++ back_from n t ≡ t
 unfolding front_to
 front_and_back [] n = refl
 front_and_back (c ∷ t) n = ⊎_elim
@@ -106,20 +106,20 @@ front_and_back (c ∷ t) n = ⊎_elim
     (bool_cases (leb (bytes_in (c ∷ [])) n))
 
 -- A line's begin, by bytes: its text and what is behind it depend on what stands from the begin on.
-abbrev goes_on : ℕ → Bool
+abbrev pub goes_on : ℕ → Bool
 goes_on c = not (c == 10)
 
-abbrev lines_before : List ℕ → List ℕ
+abbrev pub lines_before : List ℕ → List ℕ
 lines_before f = reverse (drop (prefix_len goes_on (reverse f)) (reverse f))
 
-last_split : (f : List ℕ) → lines_before f ++ last_line f ≡ f
+pub last_split : (f : List ℕ) → lines_before f ++ last_line f ≡ f
 unfolding last_line
 last_split f =
     sym (reverse-append (take (prefix_len goes_on (reverse f)) (reverse f)) (drop (prefix_len goes_on (reverse f)) (reverse f)))
     ∙ ap reverse (take-append-drop (prefix_len goes_on (reverse f)) (reverse f))
     ∙ reverse-reverse f
 
-drop_of : (a b : List ℕ) → drop (length a) (a ++ b) ≡ b
+pub drop_of : (a b : List ℕ) → drop (length a) (a ++ b) ≡ b
 drop_of [] b = refl
 drop_of (c ∷ a) b = drop_of a b
 
@@ -181,7 +181,7 @@ after_goes : (s : State) (p : Point) (x : Lexeme) → s.margin ≡ false → end
 unfolding after
 after_goes s p x m e = let b = and_false (is_of_blanks x) in rw (e, m, b) refl
 
-margin_goes : (s : State) (x : Lexeme) → s.margin ≡ false → ends_line s x ≡ false → (after s x).margin ≡ false
+pub margin_goes : (s : State) (x : Lexeme) → s.margin ≡ false → ends_line s x ≡ false → (after s x).margin ≡ false
 unfolding after
 margin_goes s x m e = let b = and_false (is_of_blanks x) in rw (e, m) b
 

@@ -122,15 +122,15 @@ tail_resumable s t =
     pick false a c h k = k
 
 -- the places of the machine's state are those of the lexemes
-state_offset : (h : List Lexeme) → (state_of h).now.offset ≡ bytes_in (text_before h)
+pub state_offset : (h : List Lexeme) → (state_of h).now.offset ≡ bytes_in (text_before h)
 unfolding state_of
 state_offset h = refl
 
-state_at_margin : (h : List Lexeme) → (state_of h).margin ≡ is_at_margin h
+pub state_at_margin : (h : List Lexeme) → (state_of h).margin ≡ is_at_margin h
 unfolding state_of
 state_at_margin h = refl
 
-state_depth : (h : List Lexeme) → (state_of h).depth ≡ depth h
+pub state_depth : (h : List Lexeme) → (state_of h).depth ≡ depth h
 unfolding state_of
 state_depth h = refl
 
@@ -260,11 +260,11 @@ begins_so s =
     let r = resumed_start [] 0 0 refl refl refl in
     ahead_runs s false [] (cut s.text) s.text (left_by_cut s.text) p ∙ ap (λ t. up_to_end (run s.fault (left_by_cut s.text) t (cut s.text))) r
 
-begun_state : state_of [] ≡ first_state
+pub begun_state : state_of [] ≡ first_state
 unfolding state_of place_after depth open_levels widths is_at_margin width_at line_so_far is_logical width_from
 begun_state = refl
 
-abbrev encoding_entry : Entry
+abbrev pub encoding_entry : Entry
 encoding_entry = record { kind = kinds.Encoding; exact = None; start = origin; «end» = origin; «from» = 0; to = 0 }
 
 begins_leaving : (s : Source) → Leaves s (encoding_entry ∷ []) (remaining s.fault first_state s.text)
@@ -285,7 +285,7 @@ given_first s j =
     let t = take j (entries_of (remaining s.fault first_state s.text)) in
     ap (λ ss. reverse (take (suc j) (entries_of ss))) (listing_is s) ∙ reverse-append (encoding_entry ∷ []) t
 
-some_given : (j : ℕ) → (suc j == 0) ≡ false
+pub some_given : (j : ℕ) → (suc j == 0) ≡ false
 some_given j = grind (arith, nat_tests)
 
 gives_from_point : (s : Source) (j : ℕ) → to_give (standing s (suc j)) ≡ drop (skipped (given_last_first s (suc j))) (from_point s (given_last_first s (suc j)))

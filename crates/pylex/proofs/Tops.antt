@@ -1,13 +1,11 @@
 -- The layout of a line by the last open level.
-use Rattle.std.proofs.Common.{◌≡◌, ℕ, zero, suc, ◌+◌, ◌-◌, ◌<◌, ◌≤◌, Bool, true, false, ◌&&◌, ◌||◌, ◌==◌, List, [], ◌∷◌, ◌++◌, length, refl, ap, ◌∙◌, sym, subst, arith, cond, Option, Some, None, inl, inr, ◌⊎◌, length-append}
-use Rattle.std.specs.Prelude.{nat_lt, count_by, slice_get, option_copied}
+use Rattle.std.proofs.Common.{◌≡◌, ℕ, ◌<◌, ◌≤◌, Bool, true, false, ◌&&◌, ◌||◌, ◌==◌, List, [], ◌∷◌, ◌++◌, length, refl, ap, ◌∙◌, sym, subst, arith, length-append}
+use Rattle.std.specs.Prelude.{nat_lt}
 use Rattle.std.proofs.lemmas.Bool.Decides.{nat_tests}
-use Rattle.std.proofs.lemmas.Grind.{common_steps}
 use Rattle.pylex.specs.declared.lister.Layout.TheVariants as layouts
-use Rattle.pylex.specs.Machine.{pushed}
 use Rattle.pylex.specs.Progress.{IsAscending, IsTop, IsLayout, is_above, is_level}
 use Rattle.pylex.proofs.Cases.{and_parts}
-use Rattle.pylex.proofs.Layouts.{above-push, level-push, count-push, ascending_above, pushed_last, level_not_above, count_none}
+use Rattle.pylex.proofs.Layouts.{above-push, level-push, count-push, ascending_above, pushed_last, count_none}
 
 -- a list is empty, or has a last member
 pub data Snoc (ls : List ℕ) : Type 0 where
@@ -23,7 +21,7 @@ snoc (a ∷ ls) = onto a ls (snoc ls)
     onto a ls (last front v e) = last (a ∷ front) v (ap (λ xs. a ∷ xs) e)
 
 -- all below a number are below a larger one
-above_more : (v w : ℕ) (ls : List ℕ) → v ≤ w → is_above v ls ≡ true → is_above w ls ≡ true
+pub above_more : (v w : ℕ) (ls : List ℕ) → v ≤ w → is_above v ls ≡ true → is_above w ls ≡ true
 above_more v w [] h a = refl
 above_more v w (u ∷ ls) h a =
     let p = and_parts (nat_lt u v) (is_above v ls) a in

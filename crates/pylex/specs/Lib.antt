@@ -11,7 +11,9 @@ pub mod Listing
 pub mod Steps
 pub mod ListingLines
 pub mod Cursors
+pub mod CursorTexts
 pub mod Machine
 pub mod Progress
 pub mod Standing
 pub mod Laws
+pub mod Listers

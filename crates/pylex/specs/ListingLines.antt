@@ -1,5 +1,5 @@
 -- The line of an entry, as `python -m tokenize` prints it (library reference, `tokenize`, command-line usage).
-use Rattle.std.specs.Prelude.{ℕ, ◌-◌, Bool, true, false, List, [], ◌∷◌, ◌++◌, codes, length, replicate, if◌then◌else◌, decimal, Option, Some, None}
+use Rattle.std.specs.Prelude.{ℕ, ◌-◌, Bool, List, ◌++◌, codes, length, replicate, if◌then◌else◌, decimal, Some, None}
 use Rattle.std.specs.Str.{chars}
 use Rattle.std.specs.Prelude.{slice_range}
 use Rattle.pysource.specs.Parts.{Parts}
@@ -8,7 +8,6 @@ use Rattle.pysource.specs.declared.places.Place.{Place}
 use Rattle.pylex.specs.declared.entries.Entry.{Entry}
 use Rattle.pylex.specs.declared.kinds.Kind.{Kind}
 use Rattle.pylex.specs.declared.kinds.Kind.TheVariants.{Encoding, Name, Number, String, Op, Comment, Nl, Newline, Indent, Dedent, EndMarker}
-use Rattle.pylex.specs.declared.kinds.Exact.{Exact}
 use Rattle.pylex.specs.Operators.{exact_name}
 
 -- the name of a type of tokens

@@ -1,7 +1,7 @@
--- How a lister stands: its progress, its open levels, and the steps that it has ahead.
-use Rattle.std.specs.Prelude.{◌≡◌, ℕ, ◌+◌, ◌-◌, ◌*◌, ◌^◌, ◌<◌, Bool, true, false, not, ◌&&◌, ◌==◌, nat_lt, List, [], ◌∷◌, ◌++◌, length, count_by, Option, Some, None}
+-- How far a lister looks: its progress, its open levels, and what it meets next.
+use Rattle.std.specs.Prelude.{◌≡◌, ℕ, ◌+◌, ◌*◌, ◌^◌, ◌<◌, suc, Bool, true, false, not, ◌&&◌, ◌==◌, nat_lt, List, [], ◌∷◌, ◌++◌, length, drop, count_by, Option, Some, None}
 use Rattle.std.specs.List.{list_all, list_any}
-use Rattle.std.specs.Str.{chars, IsUtf8}
+use Rattle.std.specs.Str.{IsUtf8}
 use Rattle.pylex.specs.declared.entries.Entry.{Entry}
 use Rattle.pylex.specs.declared.entries.ListingFault.{ListingFault}
 use Rattle.pylex.specs.declared.entries.Step.{Step}
@@ -10,16 +10,13 @@ use Rattle.pylex.specs.declared.kinds.Kind.TheVariants as kinds
 use Rattle.pylex.specs.declared.state.Given.{Given}
 use Rattle.pylex.specs.declared.state.Given.TheVariants as gives
 use Rattle.pylex.specs.declared.state.Progress.{Progress}
-use Rattle.pylex.specs.declared.lister.Phase.{Phase}
-use Rattle.pylex.specs.declared.lister.Phase.TheVariants.{Start, Text, Tail, Ended}
 use Rattle.pylex.specs.declared.lister.Layout.{Layout}
 use Rattle.pylex.specs.declared.lister.Layout.TheVariants as layouts
 use Rattle.pylex.specs.declared.lister.Meets.{Meets}
 use Rattle.pylex.specs.declared.lister.Meets.TheVariants as meets
-use Rattle.pylex.specs.Lexemes.{lexeme_at}
+use Rattle.pylex.specs.Lexemes.{Lexeme, lexeme_at, lexeme_len}
 use Rattle.pylex.specs.Cuts.{begins_thing}
-use Rattle.pylex.specs.Listing.{mark, origin}
-use Rattle.pylex.specs.Machine.{State, pushed, remaining, mark_at, dedents_at, last_place}
+use Rattle.pylex.specs.Machine.{State, after, entry_by, pushed, remaining, mark_at, dedents_at, last_place}
 
 -- the state of a lister, with the levels that are open
 abbrev pub with_levels : Progress → List ℕ → State
@@ -49,6 +46,10 @@ measured s = record {
   front = s.front;
 }
 
+-- the state directly behind an entry: a line is yet to be measured only at its start
+abbrev pub begun_anew : State → State
+begun_anew s = record { now = s.now; line = s.now; depth = s.depth; levels = s.levels; margin = not s.logical && (s.now.place.column == 0); width = 0; logical = s.logical; joined = false; front = s.front }
+
 -- the counts of a lister that has n more bytes to go stay small
 pub record HasRoom (p : Progress) (n : ℕ) : Type 0 where
   pub row : p.now.place.row + n < 2 ^ 62
@@ -73,6 +74,12 @@ given gives.Nothing = []
 given (gives.Entry e) = steps.Entry e ∷ []
 given (gives.Fault f) = steps.Fault f ∷ []
 
+-- if an entry is given, that has no text
+abbrev pub GivesNoText : Given → Type 0
+GivesNoText gives.Nothing = Unit {0}
+GivesNoText (gives.Entry e) = e.«from» ≡ e.to
+GivesNoText (gives.Fault f) = Unit {0}
+
 -- the DEDENTs of the end and ENDMARKER
 abbrev pub closing : State → List Step
 closing s = dedents_at 0 s.levels s.now.offset (last_place s) ++ mark_at kinds.EndMarker s.now.offset (last_place s) (last_place s) ∷ steps.End ∷ []
@@ -84,20 +91,28 @@ is_above w levels = list_all (λ v. nat_lt v w) levels
 abbrev pub is_level : ℕ → List ℕ → Bool
 is_level w levels = list_any (λ v. v == w) levels
 
--- The steps that a lister has ahead.
-unfoldable pub steps_ahead : Phase → Option ListingFault → Progress → List ℕ → List ℕ → List Step
-steps_ahead Start fault p levels left = mark kinds.Encoding [] origin origin ∷ remaining fault (with_levels p (0 ∷ levels)) left
-steps_ahead Text fault p levels left = remaining fault (with_levels p (0 ∷ levels)) left
-steps_ahead Tail fault p levels left = closing (with_levels p (0 ∷ levels))
-steps_ahead Ended fault p levels left = steps.End ∷ []
+-- From a state before some characters, past lexemes that give nothing and past n DEDENTs, one after another, to a state before others.
+pub data Walks (t : State) (ds : List ℕ) : ℕ → State → List ℕ → Type 0 where
+  stays : Walks t ds 0 t ds
+  silent : (n : ℕ) (s : State) (cs : List ℕ) (x : Lexeme) → (s.margin && begins_thing cs) ≡ false → lexeme_at cs ≡ Some x → entry_by s x ≡ [] → Walks t ds n (after s x) (drop (lexeme_len cs) cs) → Walks t ds n s cs
+  level : (n : ℕ) (s : State) (cs : List ℕ) → s.margin ≡ true → begins_thing cs ≡ true → is_level s.width s.levels ≡ true → count_by (nat_lt s.width) s.levels ≡ 0 → Walks t ds n (measured s) cs → Walks t ds n s cs
+  dedent : (n : ℕ) (s : State) (cs ls : List ℕ) (v : ℕ) → s.margin ≡ true → begins_thing cs ≡ true → s.levels ≡ ls ++ v ∷ [] → s.width < v → is_level s.width ls ≡ true → Walks t ds n (record s { levels = ls }) cs → Walks t ds (suc n) s cs
 
--- What is met next: a lister that stands at p, before these characters, comes to q, before those, and there is what it meets.
-pub record SameAhead (levels : List ℕ) (p : Progress) (cs : List ℕ) (q : Progress) (ds : List ℕ) : Type 0 where
-  pub same : (fault : Option ListingFault) → remaining fault (with_levels p (0 ∷ levels)) cs ≡ remaining fault (with_levels q (0 ∷ levels)) ds
+-- What is met next: a lister that stands at p, before these characters, comes to q, before those, past what gives nothing, and there is what it meets.
+pub record Comes (levels : List ℕ) (p : Progress) (cs : List ℕ) (q : Progress) (ds : List ℕ) : Type 0 where
+  pub walks : Walks (with_levels q (0 ∷ levels)) ds 0 (with_levels p (0 ∷ levels)) cs
 
--- an entry comes, and then what is ahead there
+-- the entry of a lexeme, where no layout is due, and q is behind it
 pub record EntryAhead (levels : List ℕ) (p : Progress) (cs : List ℕ) (e : Entry) (q : Progress) (ds : List ℕ) : Type 0 where
-  pub step : (fault : Option ListingFault) → remaining fault (with_levels p (0 ∷ levels)) cs ≡ steps.Entry e ∷ remaining fault (with_levels q (0 ∷ levels)) ds
+  pub there : Progress
+  pub before : List ℕ
+  pub lexeme : Lexeme
+  pub comes : Comes levels p cs there before
+  pub settled : (there.margin && begins_thing before) ≡ false
+  pub stands : lexeme_at before ≡ Some lexeme
+  pub own : entry_by (with_levels there (0 ∷ levels)) lexeme ≡ steps.Entry e ∷ []
+  pub behind : ds ≡ drop (lexeme_len before) before
+  pub goes : with_levels q (0 ∷ levels) ≡ after (with_levels there (0 ∷ levels)) lexeme
 
 pub record FaultAhead (levels : List ℕ) (p : Progress) (cs : List ℕ) (f : ListingFault) : Type 0 where
   pub step : (fault : Option ListingFault) → remaining fault (with_levels p (0 ∷ levels)) cs ≡ steps.Fault f ∷ []
@@ -124,9 +139,9 @@ pub record StopAhead (q : Progress) (ds : List ℕ) : Type 0 where
 abbrev pub Finds : List ℕ → Progress → List ℕ → Meets → Progress → List ℕ → Type 0
 Finds levels p cs (meets.Entry e) q ds = EntryAhead levels p cs e q ds
 Finds levels p cs (meets.Fault f) q ds = FaultAhead levels p cs f
-Finds levels p cs meets.Indent q ds = SameAhead levels p cs q ds × IndentAhead levels q ds
-Finds levels p cs meets.Dedent q ds = SameAhead levels p cs q ds × DedentAhead levels q ds
-Finds levels p cs meets.Stop q ds = SameAhead levels p cs q ds × StopAhead q ds
+Finds levels p cs meets.Indent q ds = Comes levels p cs q ds × IndentAhead levels q ds
+Finds levels p cs meets.Dedent q ds = Comes levels p cs q ds × DedentAhead levels q ds
+Finds levels p cs meets.Stop q ds = Comes levels p cs q ds × StopAhead q ds
 
 -- the last of the open levels, by those above 0
 pub record IsTop (levels : List ℕ) (top : ℕ) : Type 0 where
@@ -142,5 +157,5 @@ IsLayout w levels layouts.Mismatch = (is_above w (0 ∷ levels) ≡ false) × (i
 
 -- a lister that stands at p, before these characters, may as well stand at q, where no layout is due
 pub record Settles (levels : List ℕ) (p : Progress) (cs : List ℕ) (q : Progress) : Type 0 where
-  pub same : SameAhead levels p cs q cs
+  pub comes : Comes levels p cs q cs
   pub settled : (q.margin && begins_thing cs) ≡ false

@@ -1,5 +1,5 @@
 -- The steps of a listing: entries, and then its end or the fault that ends it.
-use Rattle.std.specs.Prelude.{◌≡◌, ℕ, Bool, true, false, List, [], ◌∷◌, Option, Some, None}
+use Rattle.std.specs.Prelude.{◌≡◌, ℕ, List, [], ◌∷◌, Option, Some, None}
 use Rattle.pylex.specs.declared.entries.Entry.{Entry}
 use Rattle.pylex.specs.declared.entries.ListingFault.{ListingFault}
 use Rattle.pylex.specs.declared.kinds.Kind.TheVariants as kinds
@@ -32,13 +32,20 @@ rest_of (steps.Entry e ∷ ss) = ss
 rest_of (steps.End ∷ ss) = steps.End ∷ ss
 rest_of (steps.Fault f ∷ ss) = steps.Fault f ∷ ss
 
--- a lister that had the old steps ahead answers the first, and has the rest ahead
-pub record Moves (old : List Step) (answer : Step) (new : List Step) : Type 0 where
-  pub step : answer ≡ first_step old
-  pub rest : new ≡ rest_of old
-
 -- the step gives an INDENT
 abbrev pub IsIndent : Step → Type 0
 IsIndent (steps.Entry e) = elim e.kind [ kinds.Indent ↦ Unit {0} | _ ↦ ⊥ ]
 IsIndent steps.End = ⊥
 IsIndent (steps.Fault f) = ⊥
+
+-- the entries that a step gives
+abbrev pub entries_in : Step → ℕ
+entries_in (steps.Entry e) = 1
+entries_in steps.End = 0
+entries_in (steps.Fault f) = 0
+
+-- if the step gives an entry, that has no text
+abbrev pub HasNoText : Step → Type 0
+HasNoText (steps.Entry e) = e.«from» ≡ e.to
+HasNoText steps.End = Unit {0}
+HasNoText (steps.Fault f) = Unit {0}

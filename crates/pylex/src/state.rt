@@ -5,7 +5,7 @@ ghost use Rattle.std.specs.Str.{chars};
 ghost use Rattle.pylex.specs.Lines.{opens, closes, is_thing_class, is_blanks_class, is_line_end_class, column_after, width_from, bytes_in};
 ghost use Rattle.pylex.specs.Machine.{advance, front_after_char, front_after, past, behind, after, entry_by, step_of, mark_at, is_join_class, is_hash, still, count_if, pushed, first_state, last_line_end, last_place};
 ghost use Rattle.pylex.specs.Listing.{row_after};
-ghost use Rattle.pylex.specs.Progress.{with_levels, measured, given, HasRoom};
+ghost use Rattle.pylex.specs.Progress.{with_levels, measured, begun_anew, given, HasRoom};
 
 use crate::entries::{Entry, ListingError, ListingFault, Step};
 use crate::kinds::{Exact, Kind};
@@ -106,6 +106,15 @@ fn walk(place: Place, front: Front, text: &str) -> (Place, Front)
         }
     }
     (place, front)
+}
+
+/// What a line begins with.
+pub fn front_of(line: &str) -> Front
+    requires { length line.now < 2 ^ 62 }
+    ensures { result ≡ front_after Front.Nothing (chars line.now) }
+{
+    let (_, front) = walk(Place { row: 1, column: 0 }, Front::Nothing, line);
+    front
 }
 
 /// The column that a blank goes on to: a tab goes to the next multiple of 8, a form feed sets 0.
@@ -257,6 +266,20 @@ impl Progress {
             margin: false,
             width: 0,
             logical: true,
+            ..self
+        }
+    }
+
+    /// Directly behind an entry with text: a line is yet to be measured only at its start.
+    pub fn begun_anew(self) -> Progress
+        ensures begun { (levels : List ℕ) → with_levels result levels ≡ begun_anew (with_levels self levels) }
+        ensures room { (n : ℕ) → HasRoom self n → HasRoom result n }
+    {
+        Progress {
+            line: self.now,
+            margin: !self.logical && self.now.place.column == 0,
+            width: 0,
+            joined: false,
             ..self
         }
     }

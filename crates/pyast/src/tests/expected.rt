@@ -87,6 +87,8 @@ pub fn lists_as(
     let mut faults = writer(alloc);
     let command = Command::Tokens {
         exact: false,
+        count: None,
+        resume: None,
         file: None,
     };
     let status = run(alloc, &command, &mut reader, &mut output, &mut faults);

@@ -13,6 +13,8 @@ use std::test::Fail;
 
 const TOKENS: Command = Command::Tokens {
     exact: false,
+    count: None,
+    resume: None,
     file: None,
 };
 
@@ -43,6 +45,38 @@ fn stops_where_the_writer_fails(rt: HostRuntime) -> Result<(), Fail> {
             let mut output = narrow(rt.alloc(), 1, room, takes_none);
             let mut faults = writer(rt.alloc());
             let status = run(rt.alloc(), &TOKENS, &mut reader, &mut output, &mut faults);
+            let told: &[u8] = if room < whole.len() {
+                b"pyast: write failed\n"
+            } else {
+                b""
+            };
+            assert_eq!(rt; output.taken.as_slice(), &whole[..room], "at {room}");
+            assert_eq!(rt; faults.taken.as_slice(), told, "at {room}");
+            assert_eq!(rt; status, if room < whole.len() { 3 } else { 0 }, "at {room}");
+        }
+    }
+    Ok(())
+}
+
+// The line of the cursor behind a count is written as the entries' lines are.
+#[test]
+fn stops_where_the_writer_fails_in_the_line_of_a_cursor(rt: HostRuntime) -> Result<(), Fail> {
+    let mut wanted = String::new(rt.alloc());
+    push_lines(&mut wanted, "0,0-0,0 ENCODING 'utf-8'")?;
+    wanted.push_str("cursor pytok1 1 0 1 0 0 0 0\n")?;
+    let whole = wanted.as_bytes();
+    let command = Command::Tokens {
+        exact: false,
+        count: Some(1),
+        resume: None,
+        file: None,
+    };
+    for room in 0..=whole.len() {
+        for takes_none in [false, true] {
+            let mut reader = reader(b"x $\n");
+            let mut output = narrow(rt.alloc(), 1, room, takes_none);
+            let mut faults = writer(rt.alloc());
+            let status = run(rt.alloc(), &command, &mut reader, &mut output, &mut faults);
             let told: &[u8] = if room < whole.len() {
                 b"pyast: write failed\n"
             } else {

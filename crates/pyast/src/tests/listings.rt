@@ -311,6 +311,8 @@ fn shows_exact_names(rt: HostRuntime) -> Result<(), Fail> {
     let mut faults = writer(rt.alloc());
     let command = Command::Tokens {
         exact: true,
+        count: None,
+        resume: None,
         file: None,
     };
     let status = run(rt.alloc(), &command, &mut reader, &mut output, &mut faults);
@@ -333,6 +335,8 @@ fn names_the_file_in_a_fault(rt: HostRuntime) -> Result<(), Fail> {
     let mut faults = writer(rt.alloc());
     let command = Command::Tokens {
         exact: false,
+        count: None,
+        resume: None,
         file: Some(String::from_str(rt.alloc(), "dir/a b.py")?),
     };
     let status = run(rt.alloc(), &command, &mut reader, &mut output, &mut faults);

@@ -1,17 +1,16 @@
 use Rattle.std.proofs.Common.{◌≡◌, string_bytes, length}
-use Rattle.pylex.specs.Laws.{AllLie}
-use Rattle.pylex.specs.Listing.{listing, in_characters, up_to_end}
-use Rattle.pyast.specs.Runs.{lines_of, told_of, TakesAllBut}
+use Rattle.pylex.specs.Listers.{StandsIn}
+use Rattle.pylex.specs.Listing.{in_characters, rest}
+use Rattle.pyast.specs.Runs.{output_from, fault_from, TakesAllBut}
 use Rattle.pyast.proofs.run.list.Given as goal
 
-abbrev pub invariant-loop-step : goal.invariant-loop-step
-invariant-loop-step g l = record {
-  lie : AllLie l.source.text l.lister;
-  ends : up_to_end l.lister ≡ l.lister;
-  holds : TakesAllBut (g.W.ByteOut.taken l.fn.writer) (g.W.ByteOut.taken l.writer) (lines_of l.exact l.source (listing (in_characters l.source))) (string_bytes l.held) (lines_of l.exact l.source l.lister);
-  told : told_of (listing (in_characters l.source)) ≡ told_of l.lister;
+abbrev pub invariant-loop-left : goal.invariant-loop-left
+invariant-loop-left g l = record {
+  stands : StandsIn l.lister (in_characters l.source) l.lister.shown.given;
+  holds : TakesAllBut (g.W.ByteOut.taken l.fn.writer) (g.W.ByteOut.taken l.writer) (output_from l.exact l.source l.fn.count l.fn.lister.shown.given) (string_bytes l.held) (output_from l.exact l.source l.left l.lister.shown.given);
+  told : fault_from l.source l.fn.count l.fn.lister.shown.given ≡ fault_from l.source l.left l.lister.shown.given;
   counted : g.W.ByteOut.failure_count l.writer ≡ g.W.ByteOut.failure_count l.fn.writer;
 }
 
-abbrev pub decreases-loop-step : goal.decreases-loop-step
-decreases-loop-step g l = length l.lister
+abbrev pub decreases-loop-left : goal.decreases-loop-left
+decreases-loop-left g l = length (rest (in_characters l.source) l.lister.shown.given)

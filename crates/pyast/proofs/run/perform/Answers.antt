@@ -24,5 +24,9 @@ returns-in-Err-clause-performs g c =
 pub returns-clause-performs : goal.returns-clause-performs
 returns-clause-performs g c =
     let given : Consumes (g.R.ByteIn.to_come c.args.reader.now) (g.R.ByteIn.to_come c.read_all.new.reader) c.as_slice.result.now = rw c.as_slice.ensures.value c.in-Ok.ensures.ok in
-    let input = whole_input _ _ _ given c.in-Ok.ensures.end in
-    (c.as_slice.result.now, input, lists c.args.command.now c.as_slice.result.now c.in-Ok-decode.source _ _ (ended_by c.tokens.result) c.in-Ok-decode.ensures (rw (← c.is_exact.ensures) c.tokens.ensures.writes))
+    let input = whole_input _ _ _ given c.in-Ok.ensures.end in (
+      c.as_slice.result.now,
+      input,
+      lists c.args.command.now _ _ _ c.as_slice.result.now c.in-Ok-decode.source _ _ (ended_by c.tokens.result) c.in-Ok-decode.ensures
+          c.is_exact-exact.ensures c.count_of-count.ensures c.resume_of.ensures c.tokens.ensures.writes,
+    )

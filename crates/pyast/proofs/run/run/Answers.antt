@@ -14,7 +14,7 @@ returns g c =
       Some told,
       record {
         status = c.status.ensures;
-        output = Performs-told _ _ _ _ c.in-Err.fault told same p.performs;
+        output = Performs-told c.args.command.now (g.R.ByteIn.to_come c.args.reader.now) (g.W.ByteOut.taken c.args.writer.now) (g.W.ByteOut.taken c.perform.new.writer) c.in-Err.fault told same p.performs;
         told = rw (← c.name.ensures) c.tell.ensures.told;
         read_failed = λ e. let e' : told ≡ Plain Read = cc in p.read_failed (ap Some (read.0 e'));
         read_told = λ ne. p.read_told (λ e. let e' : c.in-Err.fault ≡ Plain Read = cc in ne (ap Some (read.1 e')));

@@ -1,8 +1,8 @@
-use Rattle.std.proofs.Common.{rules, ◌≡◌, ◌++◌, ℕ, List, length, sym, ap, ◌∙◌, arith}
+use Rattle.std.proofs.Common.{rules, ◌≡◌, ◌++◌, length, sym, ap, ◌∙◌}
 use Rattle.std.specs.Str.{chars}
 use Rattle.std.specs.String.{string_bytes}
 use Rattle.std.proofs.lemmas.Result.{IfOk-weaker}
-use Rattle.pylex.specs.ListingLines.{shown_name, shown_range}
+use Rattle.pylex.specs.ListingLines.{shown_name}
 use Rattle.pylex.proofs.LinesLemmas.{field_filled, name_characters}
 use Rattle.pylex.proofs.lines.push_name.Goals as goal
 

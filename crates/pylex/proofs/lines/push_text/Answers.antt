@@ -1,8 +1,7 @@
-use Rattle.std.proofs.Common.{rules, ◌≡◌, ◌++◌, ℕ, List, length, sym, ap, ◌∙◌, arith, drop}
+use Rattle.std.proofs.Common.{◌≡◌, ◌++◌, length, ap, ◌∙◌, arith, drop}
 use Rattle.std.specs.Str.{chars}
 use Rattle.std.specs.String.{string_bytes}
 use Rattle.std.proofs.lemmas.Result.{IfOk-weaker}
-use Rattle.pylex.specs.ListingLines.{shown_name, shown_range}
 use Rattle.pysource.specs.Reprs.{repr_text}
 use Rattle.pylex.proofs.LinesLemmas.{field_filled, behind}
 use Rattle.pylex.proofs.lines.push_text.Goals as goal

@@ -1,6 +1,5 @@
-use Rattle.std.proofs.Common.{◌≡◌}
 use Rattle.std.specs.Str.{chars}
-use Rattle.pylex.proofs.Finding.{fault_found, entry_found, nothing_found, no_thing_due, some_bytes, stands_after, shorter_after}
+use Rattle.pylex.proofs.Finding.{stays_there, comes_on, finds_on, fault_found, entry_found, nothing_found, no_thing_due, some_bytes, stands_after, shorter_after}
 use Rattle.pylex.proofs.lister.find.Goals as goal
 
 pub returns-in-Fault-clause-finds : goal.returns-in-Fault-clause-finds
@@ -34,3 +33,15 @@ loop-settled-preserved c =
       stands,
       nothing_found c.args.levels.now c.args.start (chars c.args.text.now) c.loop-settled.now c.in-Ok.settled c.after-now.result c.loop-settled.rest.now c.in-Some.front.now c.in-Some.back.now c.in-Some.class c.loop-settled.invariant.2 c.in-Ok.ensures.ok.0 c.in-Some.ensures.some c.in-Nothing.ensures c.after-now.ensures.after,
     )
+
+pub loop-settled-init : goal.loop-settled-init
+loop-settled-init c = (c.utf8.text, c.requires.stands, stays_there c.args.levels.now c.args.start (chars c.args.text.now))
+
+pub returns-in-Err-clause-finds : goal.returns-in-Err-clause-finds
+returns-in-Err-clause-finds c = finds_on c.args.levels.now c.args.start (chars c.args.text.now) c.loop-settled.now (chars c.loop-settled.rest.now) c.in-Err.meets c.loop-settled.now (chars c.loop-settled.rest.now) c.loop-settled.invariant.2 c.in-Err.ensures.err
+
+pub returns-in_default-clause-finds : goal.returns-in_default-clause-finds
+returns-in_default-clause-finds c = (
+  comes_on c.args.levels.now c.args.start (chars c.args.text.now) c.loop-settled.now (chars c.loop-settled.rest.now) c.in-Ok.settled (chars c.loop-settled.rest.now) c.loop-settled.invariant.2 c.in-Ok.ensures.ok.0.comes,
+  record { none = c.in_default.ensures.none; settled = c.in-Ok.ensures.ok.0.settled },
+)

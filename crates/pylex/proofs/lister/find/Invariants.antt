@@ -1,12 +1,12 @@
-use Rattle.std.proofs.Common.{◌≡◌, ℕ, length}
+use Rattle.std.proofs.Common.{length}
 use denote.Text.{Utf8}
 use denote.Shadow.{shadow}
 use Rattle.std.specs.Str.{chars}
-use Rattle.pylex.specs.Progress.{Stands, SameAhead}
+use Rattle.pylex.specs.Progress.{Stands, Comes}
 use Rattle.pylex.proofs.lister.find.Given as goal
 
 abbrev pub invariant-loop-settled : goal.invariant-loop-settled
-invariant-loop-settled l = shadow (Utf8 l.rest) × Stands l.now l.rest × SameAhead l.levels l.fn.start (chars l.fn.text) l.now (chars l.rest)
+invariant-loop-settled l = shadow (Utf8 l.rest) × Stands l.now l.rest × Comes l.levels l.fn.start (chars l.fn.text) l.now (chars l.rest)
 
 abbrev pub decreases-loop-settled : goal.decreases-loop-settled
 decreases-loop-settled l = length l.rest

@@ -1,4 +1,3 @@
-use Rattle.std.proofs.Common.{arith}
 use Rattle.pylex.proofs.Tops.{top_level}
 use Rattle.pylex.proofs.lister.layout_for.Goals as goal
 

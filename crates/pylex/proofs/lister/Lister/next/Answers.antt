@@ -1,149 +1,198 @@
-use Rattle.std.proofs.Common.{◌≡◌, ℕ, List, [], ◌∷◌, ◌++◌, ap, ◌∙◌, sym, subst, arith, length}
-use Rattle.std.specs.Prelude.{option_map}
+use Rattle.std.proofs.Common.{◌≡◌, ℕ, zero, suc, ◌+◌, ◌-◌, ◌<◌, List, length, take, refl, ap, ◌∙◌, subst, arith}
+use Rattle.std.specs.Prelude.{Result, Ok, Err, OnErr}
+use Rattle.std.specs.declared.alloc.AllocError.{AllocError}
 use Rattle.std.specs.Str.{chars}
+use Rattle.std.proofs.lemmas.List.{length-take-le}
+use Rattle.pylex.specs.declared.entries.Entry.{Entry}
+use Rattle.pylex.specs.declared.entries.ListingFault.{ListingFault}
 use Rattle.pylex.specs.declared.entries.Step.{Step}
 use Rattle.pylex.specs.declared.entries.Step.TheVariants as steps
-use Rattle.pylex.specs.declared.lister.Phase.TheVariants as phases
-use Rattle.pylex.specs.Listing.{of_line}
-use Rattle.pylex.specs.Steps.{first_step, Moves, IsIndent}
-use Rattle.pylex.specs.Progress.{steps_ahead, IsAscending}
-use Rattle.pylex.proofs.Layouts.{ascending-push, ascending-front}
-use Rattle.pylex.proofs.Moving.{moves_as, moves_start, moves_entry, stays_fault, first_indent, moves_indent, moves_dedent, stays_stop, moves_last, closing_is, tail_is, stays_ended, popped}
+use Rattle.pylex.specs.declared.lister.Meets.{Meets}
+use Rattle.pylex.specs.declared.lister.Meets.TheVariants as meets
+use Rattle.pylex.specs.Steps.{entries_in}
+use Rattle.pylex.specs.Listers.{Listed, Moves, AwaitsIndent, shown_by}
+use Rattle.pylex.proofs.Moving.{ascending-take, moves_from, leads_moves, leads_fault, leads_stop, awaits_indent, goes_first, goes_entry, goes_indent, goes_dedent, goes_end, given_fits, skip_fits}
 use Rattle.pylex.proofs.lister.Lister.next.Goals as goal
 
-pub returns-in-Start-clause-moves : goal.returns-in-Start-clause-moves
-returns-in-Start-clause-moves c =
-    let f = option_map of_line c.self.inside.fault in
-    let p = c.self.inside.progress in
+-- what is met behind a stop
+not_stopped : (n : ℕ) (m : Meets) → (0 < n → m ≡ meets.Stop) → (m ≡ meets.Stop → ⊥) → n ≡ 0
+not_stopped zero m h never = refl
+not_stopped (suc n) m h never = absurd (never (h (omega arith)))
+
+not_entry : (m : Meets) (e : Entry) → m ≡ meets.Entry e → m ≡ meets.Stop → ⊥
+not_entry m e h k = cc
+
+not_fault : (m : Meets) (f : ListingFault) → m ≡ meets.Fault f → m ≡ meets.Stop → ⊥
+not_fault m f h k = cc
+
+not_indent : (m : Meets) → m ≡ meets.Indent → m ≡ meets.Stop → ⊥
+not_indent m h k = cc
+
+not_dedent : (m : Meets) → m ≡ meets.Dedent → m ≡ meets.Stop → ⊥
+not_dedent m h k = cc
+
+on_err : (r : Result Step AllocError) (P : Type 0) → P → OnErr r P
+on_err (Ok s) P p = tt
+on_err (Err e) P p = p
+
+no_entries : (s : Step) → ((e : Entry) → s ≡ steps.Entry e → ⊥) → entries_in s ≡ 0
+no_entries (steps.Entry e) h = absurd (h e refl)
+no_entries steps.End h = refl
+no_entries (steps.Fault f) h = refl
+
+-- the levels that are open there
+items_are : (n : ℕ) (slice ls : List ℕ) → slice ≡ ls → take n slice ≡ take n ls
+items_are n slice ls e = ap (take n) e
+
+pub invariant_of-self : goal.invariant_of-self
+invariant_of-self c =
     let ls = c.self.inside.levels.items in
-    let cs = chars c.self.inside.left.now in
-    let here : steps_ahead phases.Start f p ls cs ≡ c.args.self.now = rw c.in-Start.is at c.self.view_is in
-    moves_as _ _ _ _ (sym here) (moves_start f p ls cs c.mark.result c.mark.ensures)
+    let l : Listed = record { source = c.self.inside.source.now; shown = shown_by c.self.inside.given c.self.inside.point ls ((length ls - c.self.inside.nested) + c.self.inside.tail) } in
+    (goes_first l c.self.inside.now c.self.inside.left.now ls c.self.inside.nested c.self.inside.tail c.mark.result c.self.invariant c.if-self-eq0.true c.mark.ensures).keeps
+
+pub returns-then-self-eq0-clause-moves : goal.returns-then-self-eq0-clause-moves
+returns-then-self-eq0-clause-moves c =
+    let ls = c.self.inside.levels.items in
+    let l : Listed = record { source = c.self.inside.source.now; shown = shown_by c.self.inside.given c.self.inside.point ls ((length ls - c.self.inside.nested) + c.self.inside.tail) } in
+    moves_from l _ _ _ c.self.view_is (goes_first l c.self.inside.now c.self.inside.left.now ls c.self.inside.nested c.self.inside.tail c.mark.result c.self.invariant c.if-self-eq0.true c.mark.ensures).leads
+
+pub meet-meets-requires-clause-ascending : goal.meet-meets-requires-clause-ascending
+meet-meets-requires-clause-ascending c = rw c.as_slice.ensures.value (ascending-take 0 c.self.inside.nested c.self.inside.levels.items c.self.invariant.ascending)
+
+pub overflow_add-self : goal.overflow_add-self
+overflow_add-self c =
+    let ls = c.self.inside.levels.items in
+    let l : Listed = record { source = c.self.inside.source.now; shown = shown_by c.self.inside.given c.self.inside.point ls ((length ls - c.self.inside.nested) + c.self.inside.tail) } in
+    let g = given_fits l c.self.inside.now c.self.inside.left.now ls c.self.inside.nested c.self.inside.tail c.self.invariant in
+    omega arith
+
+pub overflow_add-self-in-Indent : goal.overflow_add-self-in-Indent
+overflow_add-self-in-Indent c =
+    let ls = c.self.inside.levels.items in
+    let l : Listed = record { source = c.self.inside.source.now; shown = shown_by c.self.inside.given c.self.inside.point ls ((length ls - c.self.inside.nested) + c.self.inside.tail) } in
+    let g = given_fits l c.self.inside.now c.self.inside.left.now ls c.self.inside.nested c.self.inside.tail c.self.invariant in
+    omega arith
+
+pub overflow_add-self-in-Dedent : goal.overflow_add-self-in-Dedent
+overflow_add-self-in-Dedent c =
+    let ls = c.self.inside.levels.items in
+    let l : Listed = record { source = c.self.inside.source.now; shown = shown_by c.self.inside.given c.self.inside.point ls ((length ls - c.self.inside.nested) + c.self.inside.tail) } in
+    let g = given_fits l c.self.inside.now c.self.inside.left.now ls c.self.inside.nested c.self.inside.tail c.self.invariant in
+    omega arith
+
+pub overflow_add-self-in-Entry-step : goal.overflow_add-self-in-Entry-step
+overflow_add-self-in-Entry-step c =
+    let ls = c.self.inside.levels.items in
+    let l : Listed = record { source = c.self.inside.source.now; shown = shown_by c.self.inside.given c.self.inside.point ls ((length ls - c.self.inside.nested) + c.self.inside.tail) } in
+    let g = given_fits l c.self.inside.now c.self.inside.left.now ls c.self.inside.nested c.self.inside.tail c.self.invariant in
+    omega arith
+
+pub overflow_add-self-in-Entry-step-2 : goal.overflow_add-self-in-Entry-step-2
+overflow_add-self-in-Entry-step-2 c =
+    let ls = c.self.inside.levels.items in
+    let l : Listed = record { source = c.self.inside.source.now; shown = shown_by c.self.inside.given c.self.inside.point ls ((length ls - c.self.inside.nested) + c.self.inside.tail) } in
+    let s = skip_fits l c.self.inside.now c.self.inside.left.now ls c.self.inside.nested c.self.inside.tail c.self.invariant in
+    omega (arith, c.self.inside.levels.ok, c.self.inside.levels.small)
+
+pub invariant_of-self-in-Entry : goal.invariant_of-self-in-Entry
+invariant_of-self-in-Entry c =
+    let ls = c.self.inside.levels.items in
+    let l : Listed = record { source = c.self.inside.source.now; shown = shown_by c.self.inside.given c.self.inside.point ls ((length ls - c.self.inside.nested) + c.self.inside.tail) } in
+    let some : 0 < c.self.inside.given = omega (arith, c.if-self-eq0.false) in
+    let found = rw (items_are c.self.inside.nested c.as_slice.result.now ls c.as_slice.ensures.value, c.in-Entry.is) at c.meet-meets.ensures.finds in
+    let none : c.self.inside.tail ≡ 0 = not_stopped c.self.inside.tail c.meet-meets.result.0 c.meet-meets.ensures.stop (not_entry c.meet-meets.result.0 c.in-Entry.entry c.in-Entry.is) in
+    (goes_entry l c.self.inside.now c.self.inside.left.now ls c.self.inside.nested c.self.inside.tail c.self.invariant refl some none c.in-Entry.entry c.meet-meets.result.1 c.begun_anew-self-inside.result c.meet-meets.result.2.now c.truncate.new.self.items c.at-self-inside.result found c.meet-meets.ensures.stands c.begun_anew-self-inside.ensures.begun c.begun_anew-self-inside.ensures.room c.at-self-inside.ensures c.truncate.ensures.items).keeps
 
 pub returns-in-Entry-clause-moves : goal.returns-in-Entry-clause-moves
 returns-in-Entry-clause-moves c =
-    let f = option_map of_line c.self.inside.fault in
-    let p = c.self.inside.progress in
-    let q = c.find-meets.result.1 in
     let ls = c.self.inside.levels.items in
-    let cs = chars c.self.inside.left.now in
-    let ds = chars c.find-meets.result.2.now in
-    let here : steps_ahead phases.Text f p ls cs ≡ c.args.self.now = rw c.in-Text.is at c.self.view_is in
-    let found = rw (c.as_slice.ensures.value, c.in-Entry.is) at c.find-meets.ensures.finds in
-    rw c.in-Text.is (moves_as _ _ _ _ (sym here) (moves_entry f p q ls cs ds c.in-Entry.entry found))
+    let l : Listed = record { source = c.self.inside.source.now; shown = shown_by c.self.inside.given c.self.inside.point ls ((length ls - c.self.inside.nested) + c.self.inside.tail) } in
+    let some : 0 < c.self.inside.given = omega (arith, c.if-self-eq0.false) in
+    let found = rw (items_are c.self.inside.nested c.as_slice.result.now ls c.as_slice.ensures.value, c.in-Entry.is) at c.meet-meets.ensures.finds in
+    let none : c.self.inside.tail ≡ 0 = not_stopped c.self.inside.tail c.meet-meets.result.0 c.meet-meets.ensures.stop (not_entry c.meet-meets.result.0 c.in-Entry.entry c.in-Entry.is) in
+    moves_from l _ _ _ c.self.view_is (goes_entry l c.self.inside.now c.self.inside.left.now ls c.self.inside.nested c.self.inside.tail c.self.invariant refl some none c.in-Entry.entry c.meet-meets.result.1 c.begun_anew-self-inside.result c.meet-meets.result.2.now c.truncate.new.self.items c.at-self-inside.result found c.meet-meets.ensures.stands c.begun_anew-self-inside.ensures.begun c.begun_anew-self-inside.ensures.room c.at-self-inside.ensures c.truncate.ensures.items).leads
 
 pub returns-in-Fault-clause-moves : goal.returns-in-Fault-clause-moves
 returns-in-Fault-clause-moves c =
-    let f = option_map of_line c.self.inside.fault in
-    let p = c.self.inside.progress in
-    let q = c.find-meets.result.1 in
     let ls = c.self.inside.levels.items in
-    let cs = chars c.self.inside.left.now in
-    let ds = chars c.find-meets.result.2.now in
-    let here : steps_ahead phases.Text f p ls cs ≡ c.args.self.now = rw c.in-Text.is at c.self.view_is in
-    let found = rw (c.as_slice.ensures.value, c.in-Fault.is) at c.find-meets.ensures.finds in
-    subst (λ (ss : List Step). Moves ss (steps.Fault c.in-Fault.fault) ss) here (stays_fault f p ls cs c.in-Fault.fault found)
+    let l : Listed = record { source = c.self.inside.source.now; shown = shown_by c.self.inside.given c.self.inside.point ls ((length ls - c.self.inside.nested) + c.self.inside.tail) } in
+    let some : 0 < c.self.inside.given = omega (arith, c.if-self-eq0.false) in
+    let found = rw (items_are c.self.inside.nested c.as_slice.result.now ls c.as_slice.ensures.value, c.in-Fault.is) at c.meet-meets.ensures.finds in
+    let none : c.self.inside.tail ≡ 0 = not_stopped c.self.inside.tail c.meet-meets.result.0 c.meet-meets.ensures.stop (not_fault c.meet-meets.result.0 c.in-Fault.fault c.in-Fault.is) in
+    subst (λ (v : Listed). Moves v (steps.Fault c.in-Fault.fault) v) c.self.view_is (leads_moves l _ _ (leads_fault l c.self.inside.now c.self.inside.left.now ls c.self.inside.nested c.self.inside.tail c.self.invariant refl some none c.in-Fault.fault found))
 
-pub returns-in-Err-clause-indent : goal.returns-in-Err-clause-indent
-returns-in-Err-clause-indent c =
-    let f = option_map of_line c.self.inside.fault in
-    let p = c.self.inside.progress in
-    let q = c.find-meets.result.1 in
+pub returns-in_err-open_level-in-Indent-clause-indent : goal.returns-in_err-open_level-in-Indent-clause-indent
+returns-in_err-open_level-in-Indent-clause-indent c =
     let ls = c.self.inside.levels.items in
-    let cs = chars c.self.inside.left.now in
-    let ds = chars c.find-meets.result.2.now in
-    let here : steps_ahead phases.Text f p ls cs ≡ c.args.self.now = rw c.in-Text.is at c.self.view_is in
-    let found = rw (c.as_slice.ensures.value, c.in-Indent.is) at c.find-meets.ensures.finds in
-    subst (λ (ss : List Step). IsIndent (first_step ss)) here (first_indent f p q ls cs ds found.0 found.1)
+    let l : Listed = record { source = c.self.inside.source.now; shown = shown_by c.self.inside.given c.self.inside.point ls ((length ls - c.self.inside.nested) + c.self.inside.tail) } in
+    let some : 0 < c.self.inside.given = omega (arith, c.if-self-eq0.false) in
+    let found = rw (items_are c.self.inside.nested c.as_slice.result.now ls c.as_slice.ensures.value, c.in-Indent.is) at c.meet-meets.ensures.finds in
+    let none : c.self.inside.tail ≡ 0 = not_stopped c.self.inside.tail c.meet-meets.result.0 c.meet-meets.ensures.stop (not_indent c.meet-meets.result.0 c.in-Indent.is) in
+    let awaits : AwaitsIndent c.args.self.now = subst AwaitsIndent c.self.view_is (awaits_indent l c.self.inside.now c.self.inside.left.now ls c.self.inside.nested c.self.inside.tail c.self.invariant refl some none c.meet-meets.result.1 (chars c.meet-meets.result.2.now) found.0 found.1) in
+    on_err c.from_residual.result (AwaitsIndent c.args.self.now) awaits
 
 pub invariant_of-self-in-Indent : goal.invariant_of-self-in-Indent
 invariant_of-self-in-Indent c =
-    let found = rw (c.as_slice.ensures.value, c.in-Indent.is) at c.find-meets.ensures.finds in (
-      record { utf8 = c.find-meets.ensures.stands.utf8; room = c.measured-self-inside.ensures.room _ c.find-meets.ensures.stands.room },
-      subst (IsAscending 0) (sym c.in_default.ensures.items) (ascending-push 0 c.find-meets.result.1.width c.self.inside.levels.items c.self.invariant.1 found.1.above),
-    )
+    let ls = c.self.inside.levels.items in
+    let l : Listed = record { source = c.self.inside.source.now; shown = shown_by c.self.inside.given c.self.inside.point ls ((length ls - c.self.inside.nested) + c.self.inside.tail) } in
+    let some : 0 < c.self.inside.given = omega (arith, c.if-self-eq0.false) in
+    let found = rw (items_are c.self.inside.nested c.as_slice.result.now ls c.as_slice.ensures.value, c.in-Indent.is) at c.meet-meets.ensures.finds in
+    let none : c.self.inside.tail ≡ 0 = not_stopped c.self.inside.tail c.meet-meets.result.0 c.meet-meets.ensures.stop (not_indent c.meet-meets.result.0 c.in-Indent.is) in
+    (goes_indent l c.self.inside.now c.self.inside.left.now ls c.self.inside.nested c.self.inside.tail c.self.invariant refl some none c.entry_of.result c.meet-meets.result.1 c.measured-measured.result c.begun_anew-self-inside-in-Indent.result c.meet-meets.result.2.now c.open_level.new.levels.items c.len-self-inside.result c.at-self-inside-in-Indent.result found.0 found.1 c.entry_of.ensures c.meet-meets.ensures.stands c.measured-measured.ensures.measured c.measured-measured.ensures.room c.begun_anew-self-inside-in-Indent.ensures.begun c.begun_anew-self-inside-in-Indent.ensures.room c.at-self-inside-in-Indent.ensures c.in_ok-open_level-in-Indent.ensures.ok (c.len-self-inside.ensures ∙ c.open_level.new.levels.ok.0)).keeps
+
+pub returns-in_ok-open_level-in-Indent-clause-moves : goal.returns-in_ok-open_level-in-Indent-clause-moves
+returns-in_ok-open_level-in-Indent-clause-moves c =
+    let ls = c.self.inside.levels.items in
+    let l : Listed = record { source = c.self.inside.source.now; shown = shown_by c.self.inside.given c.self.inside.point ls ((length ls - c.self.inside.nested) + c.self.inside.tail) } in
+    let some : 0 < c.self.inside.given = omega (arith, c.if-self-eq0.false) in
+    let found = rw (items_are c.self.inside.nested c.as_slice.result.now ls c.as_slice.ensures.value, c.in-Indent.is) at c.meet-meets.ensures.finds in
+    let none : c.self.inside.tail ≡ 0 = not_stopped c.self.inside.tail c.meet-meets.result.0 c.meet-meets.ensures.stop (not_indent c.meet-meets.result.0 c.in-Indent.is) in
+    moves_from l _ _ _ c.self.view_is (goes_indent l c.self.inside.now c.self.inside.left.now ls c.self.inside.nested c.self.inside.tail c.self.invariant refl some none c.entry_of.result c.meet-meets.result.1 c.measured-measured.result c.begun_anew-self-inside-in-Indent.result c.meet-meets.result.2.now c.open_level.new.levels.items c.len-self-inside.result c.at-self-inside-in-Indent.result found.0 found.1 c.entry_of.ensures c.meet-meets.ensures.stands c.measured-measured.ensures.measured c.measured-measured.ensures.room c.begun_anew-self-inside-in-Indent.ensures.begun c.begun_anew-self-inside-in-Indent.ensures.room c.at-self-inside-in-Indent.ensures c.in_ok-open_level-in-Indent.ensures.ok (c.len-self-inside.ensures ∙ c.open_level.new.levels.ok.0)).leads
 
 pub invariant_of-self-in-Dedent : goal.invariant_of-self-in-Dedent
-invariant_of-self-in-Dedent c = (
-  c.find-meets.ensures.stands,
-  ascending-front 0 c.pop.new.self.items _ (subst (IsAscending 0) c.pop.ensures.items c.self.invariant.1),
-)
-
-pub returns-in_default-clause-moves : goal.returns-in_default-clause-moves
-returns-in_default-clause-moves c =
-    let f = option_map of_line c.self.inside.fault in
-    let p = c.self.inside.progress in
-    let q = c.find-meets.result.1 in
+invariant_of-self-in-Dedent c =
     let ls = c.self.inside.levels.items in
-    let cs = chars c.self.inside.left.now in
-    let ds = chars c.find-meets.result.2.now in
-    let here : steps_ahead phases.Text f p ls cs ≡ c.args.self.now = rw c.in-Text.is at c.self.view_is in
-    let found = rw (c.as_slice.ensures.value, c.in-Indent.is) at c.find-meets.ensures.finds in
-    rw c.in-Text.is (moves_as _ _ _ _ (sym here) (moves_indent f p q c.measured-self-inside.result ls c.push.new.self.items cs ds c.entry_of.result found.0 found.1 c.entry_of.ensures c.measured-self-inside.ensures.measured c.in_default.ensures.items))
+    let l : Listed = record { source = c.self.inside.source.now; shown = shown_by c.self.inside.given c.self.inside.point ls ((length ls - c.self.inside.nested) + c.self.inside.tail) } in
+    let some : 0 < c.self.inside.given = omega (arith, c.if-self-eq0.false) in
+    let found = rw (items_are c.self.inside.nested c.as_slice.result.now ls c.as_slice.ensures.value, c.in-Dedent.is) at c.meet-meets.ensures.finds in
+    let none : c.self.inside.tail ≡ 0 = not_stopped c.self.inside.tail c.meet-meets.result.0 c.meet-meets.ensures.stop (not_dedent c.meet-meets.result.0 c.in-Dedent.is) in
+    (goes_dedent l c.self.inside.now c.self.inside.left.now ls c.self.inside.nested c.self.inside.tail c.self.invariant refl some none c.mark-in-Dedent.result c.meet-meets.result.1 c.meet-meets.result.2.now ((length ls - (c.self.inside.nested - 1)) + c.self.inside.tail) found.0 found.1 c.mark-in-Dedent.ensures c.meet-meets.ensures.stands refl).keeps
 
 pub returns-in-Dedent-clause-moves : goal.returns-in-Dedent-clause-moves
 returns-in-Dedent-clause-moves c =
-    let f = option_map of_line c.self.inside.fault in
-    let p = c.self.inside.progress in
-    let q = c.find-meets.result.1 in
     let ls = c.self.inside.levels.items in
-    let cs = chars c.self.inside.left.now in
-    let ds = chars c.find-meets.result.2.now in
-    let here : steps_ahead phases.Text f p ls cs ≡ c.args.self.now = rw c.in-Text.is at c.self.view_is in
-    let found = rw (c.as_slice.ensures.value, c.in-Dedent.is) at c.find-meets.ensures.finds in
-    let last : (v : ℕ) × (ls ≡ c.pop.new.self.items ++ v ∷ []) = popped ls c.pop.new.self.items c.pop.result _ found.1.some (omega (arith, c.self.inside.levels.ok)) c.pop.ensures.items c.pop.ensures.rest in
-    rw c.in-Text.is (moves_as _ _ _ _ (sym here) (moves_dedent f p q ls c.pop.new.self.items cs ds last.0 c.mark-in-Dedent.result found.0 found.1 c.mark-in-Dedent.ensures last.1))
+    let l : Listed = record { source = c.self.inside.source.now; shown = shown_by c.self.inside.given c.self.inside.point ls ((length ls - c.self.inside.nested) + c.self.inside.tail) } in
+    let some : 0 < c.self.inside.given = omega (arith, c.if-self-eq0.false) in
+    let found = rw (items_are c.self.inside.nested c.as_slice.result.now ls c.as_slice.ensures.value, c.in-Dedent.is) at c.meet-meets.ensures.finds in
+    let none : c.self.inside.tail ≡ 0 = not_stopped c.self.inside.tail c.meet-meets.result.0 c.meet-meets.ensures.stop (not_dedent c.meet-meets.result.0 c.in-Dedent.is) in
+    moves_from l _ _ _ c.self.view_is (goes_dedent l c.self.inside.now c.self.inside.left.now ls c.self.inside.nested c.self.inside.tail c.self.invariant refl some none c.mark-in-Dedent.result c.meet-meets.result.1 c.meet-meets.result.2.now ((length ls - (c.self.inside.nested - 1)) + c.self.inside.tail) found.0 found.1 c.mark-in-Dedent.ensures c.meet-meets.ensures.stands refl).leads
 
-pub returns-in-Fault-stop-clause-moves : goal.returns-in-Fault-stop-clause-moves
-returns-in-Fault-stop-clause-moves c =
-    let f = option_map of_line c.self.inside.fault in
-    let p = c.self.inside.progress in
-    let q = c.find-meets.result.1 in
+pub invariant_of-self-in-Entry-step : goal.invariant_of-self-in-Entry-step
+invariant_of-self-in-Entry-step c =
     let ls = c.self.inside.levels.items in
-    let cs = chars c.self.inside.left.now in
-    let ds = chars c.find-meets.result.2.now in
-    let here : steps_ahead phases.Text f p ls cs ≡ c.args.self.now = rw c.in-Text.is at c.self.view_is in
-    let found = rw (c.as_slice.ensures.value, c.in-Stop.is) at c.find-meets.ensures.finds in
-    subst (λ (ss : List Step). Moves ss (steps.Fault c.in-Fault-stop.fault) ss) here (stays_stop f p q ls cs ds c.in-Fault-stop.fault found.0 (c.in-Fault-stop.ensures (0 ∷ ls)))
+    let l : Listed = record { source = c.self.inside.source.now; shown = shown_by c.self.inside.given c.self.inside.point ls ((length ls - c.self.inside.nested) + c.self.inside.tail) } in
+    let some : 0 < c.self.inside.given = omega (arith, c.if-self-eq0.false) in
+    let found = rw (items_are c.self.inside.nested c.as_slice.result.now ls c.as_slice.ensures.value, c.in-Stop.is) at c.meet-meets.ensures.finds in
+    let count : length (take c.self.inside.nested ls) ≡ c.self.inside.nested = length-take-le c.self.inside.nested ls c.self.invariant.within in
+    let ascending = ascending-take 0 c.self.inside.nested ls c.self.invariant.ascending in
+    (goes_end l c.self.inside.now c.self.inside.left.now ls c.self.inside.nested c.self.inside.tail c.self.invariant refl some c.in-Entry-step.field-0 c.meet-meets.result.1 c.meet-meets.result.2.now ((length ls - c.self.inside.nested) + (c.self.inside.tail + 1)) found.0 found.1 (rw c.line_fault.ensures at (c.in-Entry-step.ensures.step (take c.self.inside.nested ls) ascending count)) c.in-Entry-step.ensures.empty c.meet-meets.ensures.stands refl).keeps
 
-pub returns-in-Entry-stop-clause-moves : goal.returns-in-Entry-stop-clause-moves
-returns-in-Entry-stop-clause-moves c =
-    let f = option_map of_line c.self.inside.fault in
-    let p = c.self.inside.progress in
-    let q = c.find-meets.result.1 in
+pub returns-in-Entry-step-clause-moves : goal.returns-in-Entry-step-clause-moves
+returns-in-Entry-step-clause-moves c =
     let ls = c.self.inside.levels.items in
-    let cs = chars c.self.inside.left.now in
-    let ds = chars c.find-meets.result.2.now in
-    let here : steps_ahead phases.Text f p ls cs ≡ c.args.self.now = rw c.in-Text.is at c.self.view_is in
-    let found = rw (c.as_slice.ensures.value, c.in-Stop.is) at c.find-meets.ensures.finds in
-    moves_as _ _ _ _ (sym here) (moves_last f p q ls cs ds c.in-Entry-stop.entry found.0 (c.in-Entry-stop.ensures (0 ∷ ls)))
+    let l : Listed = record { source = c.self.inside.source.now; shown = shown_by c.self.inside.given c.self.inside.point ls ((length ls - c.self.inside.nested) + c.self.inside.tail) } in
+    let some : 0 < c.self.inside.given = omega (arith, c.if-self-eq0.false) in
+    let found = rw (items_are c.self.inside.nested c.as_slice.result.now ls c.as_slice.ensures.value, c.in-Stop.is) at c.meet-meets.ensures.finds in
+    let count : length (take c.self.inside.nested ls) ≡ c.self.inside.nested = length-take-le c.self.inside.nested ls c.self.invariant.within in
+    let ascending = ascending-take 0 c.self.inside.nested ls c.self.invariant.ascending in
+    rw c.in-Entry-step.is (moves_from l _ _ _ c.self.view_is (goes_end l c.self.inside.now c.self.inside.left.now ls c.self.inside.nested c.self.inside.tail c.self.invariant refl some c.in-Entry-step.field-0 c.meet-meets.result.1 c.meet-meets.result.2.now ((length ls - c.self.inside.nested) + (c.self.inside.tail + 1)) found.0 found.1 (rw c.line_fault.ensures at (c.in-Entry-step.ensures.step (take c.self.inside.nested ls) ascending count)) c.in-Entry-step.ensures.empty c.meet-meets.ensures.stands refl).leads)
 
-pub returns-in-Nothing-clause-moves : goal.returns-in-Nothing-clause-moves
-returns-in-Nothing-clause-moves c =
-    let f = option_map of_line c.self.inside.fault in
-    let p = c.self.inside.progress in
-    let q = c.find-meets.result.1 in
+pub returns-in_default : goal.returns-in_default
+returns-in_default c =
     let ls = c.self.inside.levels.items in
-    let cs = chars c.self.inside.left.now in
-    let ds = chars c.find-meets.result.2.now in
-    let here : steps_ahead phases.Text f p ls cs ≡ c.args.self.now = rw c.in-Text.is at c.self.view_is in
-    let found = rw (c.as_slice.ensures.value, c.in-Stop.is) at c.find-meets.ensures.finds in
-    moves_as _ _ _ _ (sym here ∙ closing_is f p q ls cs ds found.0 (c.in-Nothing.ensures (0 ∷ ls))) (c.close-phase.ensures.moves f ds)
-
-pub returns-in-Tail-clause-moves : goal.returns-in-Tail-clause-moves
-returns-in-Tail-clause-moves c =
-    let f = option_map of_line c.self.inside.fault in
-    let p = c.self.inside.progress in
-    let ls = c.self.inside.levels.items in
-    let cs = chars c.self.inside.left.now in
-    let here : steps_ahead phases.Tail f p ls cs ≡ c.args.self.now = rw c.in-Tail.is at c.self.view_is in
-    moves_as _ _ _ _ (sym here ∙ tail_is f p ls cs) (c.close-phase-in-Tail.ensures.moves f cs)
-
-pub returns-in-Ended-clause-moves : goal.returns-in-Ended-clause-moves
-returns-in-Ended-clause-moves c =
-    let f = option_map of_line c.self.inside.fault in
-    let p = c.self.inside.progress in
-    let ls = c.self.inside.levels.items in
-    let cs = chars c.self.inside.left.now in
-    let here : steps_ahead phases.Ended f p ls cs ≡ c.args.self.now = rw c.in-Ended.is at c.self.view_is in
-    subst (λ (ss : List Step). Moves ss steps.End ss) here (stays_ended f p ls cs)
+    let l : Listed = record { source = c.self.inside.source.now; shown = shown_by c.self.inside.given c.self.inside.point ls ((length ls - c.self.inside.nested) + c.self.inside.tail) } in
+    let some : 0 < c.self.inside.given = omega (arith, c.if-self-eq0.false) in
+    let found = rw (items_are c.self.inside.nested c.as_slice.result.now ls c.as_slice.ensures.value, c.in-Stop.is) at c.meet-meets.ensures.finds in
+    let count : length (take c.self.inside.nested ls) ≡ c.self.inside.nested = length-take-le c.self.inside.nested ls c.self.invariant.within in
+    let ascending = ascending-take 0 c.self.inside.nested ls c.self.invariant.ascending in
+    record { moves = subst (λ (v : Listed). Moves v c.end_step-step.result v) c.self.view_is (leads_moves l _ _ (leads_stop l c.self.inside.now c.self.inside.left.now ls c.self.inside.nested c.self.inside.tail c.self.invariant refl some c.meet-meets.result.1 (chars c.meet-meets.result.2.now) c.end_step-step.result found.0 (rw c.line_fault.ensures at (c.end_step-step.ensures.step (take c.self.inside.nested ls) ascending count)) (no_entries c.end_step-step.result c.in_default.not-Entry))); source = refl; same = tt; indent = tt }

@@ -1,11 +1,8 @@
-use Rattle.std.proofs.Common.{◌≡◌, ℕ, ◌≤◌, ap, ◌∙◌, sym, arith, length, refl}
+use Rattle.std.proofs.Common.{◌≤◌, arith, length, refl}
 use Rattle.std.specs.Str.{chars}
 use Rattle.std.proofs.lemmas.Str.{length-le-encodes}
-use Rattle.pysource.specs.declared.places.Place.{Place}
-use Rattle.pylex.specs.declared.state.Point.{Point}
 use Rattle.pylex.specs.Lexemes.{Lexeme}
-use Rattle.pylex.specs.Machine.{past}
-use Rattle.pylex.proofs.Advancing.{IsAfter, is_after, more_room, place_offset}
+use Rattle.pylex.proofs.Advancing.{is_after, more_room, place_offset}
 use Rattle.pylex.proofs.state.Progress.after.Goals as goal
 
 pub returns-clause-after : goal.returns-clause-after

@@ -1,0 +1,387 @@
+//! Listings that stop after a count of entries, and that go on behind a cursor.
+
+use crate::command::Command;
+use crate::run::run;
+use crate::tests::expected::{push_lines, reader, writer};
+use pylex::Cursor;
+use std::alloc::AllocError;
+use std::test::Fail;
+
+// Appends a line, if there is one.
+fn push_told(out: &mut String, line: &str) -> Result<(), AllocError> {
+    if line.is_empty() {
+        return Ok(());
+    }
+    out.push_str(line)?;
+    out.push('\n')
+}
+
+// Each is a source, a count, a cursor to go on from (none where it is empty), the entries that are listed, the line of the
+// cursor behind them and the fault that is told (none where they are empty), and the status.
+#[test]
+fn stops_and_goes_on(rt: HostRuntime) -> Result<(), Fail> {
+    for (source, count, resume, entries, line, fault, wanted_status) in [
+        (
+            b"".as_slice(),
+            Some(0u64),
+            "",
+            "",
+            "cursor pytok1 0 0 1 0 0 0 0",
+            "",
+            0,
+        ),
+        (
+            b"".as_slice(),
+            Some(1),
+            "",
+            "0,0-0,0 ENCODING 'utf-8'",
+            "cursor pytok1 1 0 1 0 0 0 0",
+            "",
+            0,
+        ),
+        (
+            b"".as_slice(),
+            Some(2),
+            "",
+            "0,0-0,0 ENCODING 'utf-8'\n\
+             1,0-1,0 ENDMARKER ''",
+            "",
+            "",
+            0,
+        ),
+        (
+            b"".as_slice(),
+            Some(3),
+            "",
+            "0,0-0,0 ENCODING 'utf-8'\n\
+             1,0-1,0 ENDMARKER ''",
+            "",
+            "",
+            0,
+        ),
+        (
+            b"if x:\n\ty\n".as_slice(),
+            Some(7),
+            "",
+            "0,0-0,0 ENCODING 'utf-8'\n\
+             1,0-1,2 NAME 'if'\n\
+             1,3-1,4 NAME 'x'\n\
+             1,4-1,5 OP ':'\n\
+             1,5-1,6 NEWLINE '\\n'\n\
+             2,0-2,1 INDENT '\\t'\n\
+             2,1-2,2 NAME 'y'",
+            "cursor pytok1 7 8 2 0 1 0 0,8",
+            "",
+            0,
+        ),
+        (
+            b"if x:\n\ty\n".as_slice(),
+            None,
+            "pytok1 7 8 2 0 1 0 0,8",
+            "2,2-2,3 NEWLINE '\\n'\n\
+             3,0-3,0 DEDENT ''\n\
+             3,0-3,0 ENDMARKER ''",
+            "",
+            "",
+            0,
+        ),
+        (
+            b"x\n".as_slice(),
+            None,
+            "pytok1 7 8 2 0 1 0 0,8",
+            "",
+            "",
+            "pyast: cursor of another source",
+            2,
+        ),
+        (
+            b"if x:\n\ty\n".as_slice(),
+            Some(6),
+            "",
+            "0,0-0,0 ENCODING 'utf-8'\n\
+             1,0-1,2 NAME 'if'\n\
+             1,3-1,4 NAME 'x'\n\
+             1,4-1,5 OP ':'\n\
+             1,5-1,6 NEWLINE '\\n'\n\
+             2,0-2,1 INDENT '\\t'",
+            "cursor pytok1 6 7 2 0 1 0 0,8",
+            "",
+            0,
+        ),
+        (
+            b"if x:\n\ty\n".as_slice(),
+            None,
+            "pytok1 6 7 2 0 1 0 0,8",
+            "2,1-2,2 NAME 'y'\n\
+             2,2-2,3 NEWLINE '\\n'\n\
+             3,0-3,0 DEDENT ''\n\
+             3,0-3,0 ENDMARKER ''",
+            "",
+            "",
+            0,
+        ),
+        (
+            b"if a:\n if b:\n  c\nd\n".as_slice(),
+            Some(14),
+            "",
+            "0,0-0,0 ENCODING 'utf-8'\n\
+             1,0-1,2 NAME 'if'\n\
+             1,3-1,4 NAME 'a'\n\
+             1,4-1,5 OP ':'\n\
+             1,5-1,6 NEWLINE '\\n'\n\
+             2,0-2,1 INDENT ' '\n\
+             2,1-2,3 NAME 'if'\n\
+             2,4-2,5 NAME 'b'\n\
+             2,5-2,6 OP ':'\n\
+             2,6-2,7 NEWLINE '\\n'\n\
+             3,0-3,2 INDENT '  '\n\
+             3,2-3,3 NAME 'c'\n\
+             3,3-3,4 NEWLINE '\\n'\n\
+             4,0-4,0 DEDENT ''",
+            "cursor pytok1 14 17 4 0 0 1 0,1,2",
+            "",
+            0,
+        ),
+        (
+            b"if a:\n if b:\n  c\nd\n".as_slice(),
+            None,
+            "pytok1 14 17 4 0 0 1 0,1,2",
+            "4,0-4,0 DEDENT ''\n\
+             4,0-4,1 NAME 'd'\n\
+             4,1-4,2 NEWLINE '\\n'\n\
+             5,0-5,0 ENDMARKER ''",
+            "",
+            "",
+            0,
+        ),
+        (
+            b"if a:\n if b:\n  c\nd\n".as_slice(),
+            Some(1),
+            "pytok1 14 17 4 0 0 1 0,1,2",
+            "4,0-4,0 DEDENT ''",
+            "cursor pytok1 15 17 4 0 0 2 0,1,2",
+            "",
+            0,
+        ),
+        (
+            b"x".as_slice(),
+            Some(3),
+            "",
+            "0,0-0,0 ENCODING 'utf-8'\n\
+             1,0-1,1 NAME 'x'\n\
+             1,1-1,2 NEWLINE ''",
+            "cursor pytok1 3 1 1 0 1 1 0",
+            "",
+            0,
+        ),
+        (
+            b"x".as_slice(),
+            None,
+            "pytok1 3 1 1 0 1 1 0",
+            "2,0-2,0 ENDMARKER ''",
+            "",
+            "",
+            0,
+        ),
+        (
+            b"x".as_slice(),
+            Some(4),
+            "",
+            "0,0-0,0 ENCODING 'utf-8'\n\
+             1,0-1,1 NAME 'x'\n\
+             1,1-1,2 NEWLINE ''\n\
+             2,0-2,0 ENDMARKER ''",
+            "",
+            "",
+            0,
+        ),
+        (b"x".as_slice(), None, "pytok1 4 1 1 0 1 2 0", "", "", "", 0),
+        (
+            b"x".as_slice(),
+            Some(0),
+            "pytok1 4 1 1 0 1 2 0",
+            "",
+            "cursor pytok1 4 1 1 0 1 2 0",
+            "",
+            0,
+        ),
+        (
+            b"x".as_slice(),
+            Some(1000000000),
+            "pytok1 4 1 1 0 1 2 0",
+            "",
+            "",
+            "",
+            0,
+        ),
+        (
+            b"if a:\n    b\n  c\n".as_slice(),
+            Some(8),
+            "",
+            "0,0-0,0 ENCODING 'utf-8'\n\
+             1,0-1,2 NAME 'if'\n\
+             1,3-1,4 NAME 'a'\n\
+             1,4-1,5 OP ':'\n\
+             1,5-1,6 NEWLINE '\\n'\n\
+             2,0-2,4 INDENT '    '\n\
+             2,4-2,5 NAME 'b'\n\
+             2,5-2,6 NEWLINE '\\n'",
+            "cursor pytok1 8 12 3 0 0 0 0,4",
+            "",
+            0,
+        ),
+        (
+            b"if a:\n    b\n  c\n".as_slice(),
+            Some(9),
+            "",
+            "0,0-0,0 ENCODING 'utf-8'\n\
+             1,0-1,2 NAME 'if'\n\
+             1,3-1,4 NAME 'a'\n\
+             1,4-1,5 OP ':'\n\
+             1,5-1,6 NEWLINE '\\n'\n\
+             2,0-2,4 INDENT '    '\n\
+             2,4-2,5 NAME 'b'\n\
+             2,5-2,6 NEWLINE '\\n'",
+            "",
+            "<stdin>:3:2: error: unindent does not match any outer indentation level",
+            1,
+        ),
+        (
+            b"if a:\n    b\n  c\n".as_slice(),
+            None,
+            "pytok1 8 12 3 0 0 0 0,4",
+            "",
+            "",
+            "<stdin>:3:2: error: unindent does not match any outer indentation level",
+            1,
+        ),
+        (
+            b"if a:\n    b\n  c\n".as_slice(),
+            Some(0),
+            "pytok1 8 12 3 0 0 0 0,4",
+            "",
+            "cursor pytok1 8 12 3 0 0 0 0,4",
+            "",
+            0,
+        ),
+        (
+            b"if a:\n    b\n  c\n".as_slice(),
+            Some(1),
+            "pytok1 8 12 3 0 0 0 0,4",
+            "",
+            "",
+            "<stdin>:3:2: error: unindent does not match any outer indentation level",
+            1,
+        ),
+        (
+            b"# x\n# coding: latin-1\n".as_slice(),
+            Some(0),
+            "",
+            "",
+            "",
+            "<stdin>:2:0: error: unsupported encoding",
+            1,
+        ),
+        (
+            b"# x\n# coding: latin-1\n".as_slice(),
+            None,
+            "pytok1 7 8 2 0 1 0 0,8",
+            "",
+            "",
+            "<stdin>:2:0: error: unsupported encoding",
+            1,
+        ),
+        (
+            b"x\n".as_slice(),
+            None,
+            "pytok1 18446744073709551615 0 1 0 0 0 0",
+            "",
+            "",
+            "pyast: cursor of another source",
+            2,
+        ),
+        (
+            b"x\n".as_slice(),
+            Some(0),
+            "pytok1 18446744073709551615 0 1 0 0 0 0",
+            "",
+            "",
+            "pyast: cursor of another source",
+            2,
+        ),
+        (
+            b"x\n".as_slice(),
+            Some(0),
+            "pytok1 1 0 2 0 0 0 0",
+            "",
+            "",
+            "pyast: cursor of another source",
+            2,
+        ),
+        (
+            b"x\n".as_slice(),
+            None,
+            "pytok1 0 0 1 0 0 0 0",
+            "0,0-0,0 ENCODING 'utf-8'\n\
+             1,0-1,1 NAME 'x'\n\
+             1,1-1,2 NEWLINE '\\n'\n\
+             2,0-2,0 ENDMARKER ''",
+            "",
+            "",
+            0,
+        ),
+        (
+            b"(\n".as_slice(),
+            Some(2),
+            "",
+            "0,0-0,0 ENCODING 'utf-8'\n\
+             1,0-1,1 OP '('",
+            "cursor pytok1 2 1 1 1 1 0 0",
+            "",
+            0,
+        ),
+        (
+            b"# c\n".as_slice(),
+            Some(2),
+            "",
+            "0,0-0,0 ENCODING 'utf-8'\n\
+             1,0-1,3 COMMENT '# c'",
+            "cursor pytok1 2 3 1 0 0 0 0",
+            "",
+            0,
+        ),
+    ] {
+        let mut wanted = String::new(rt.alloc());
+        push_lines(&mut wanted, entries)?;
+        push_told(&mut wanted, line)?;
+        let mut told = String::new(rt.alloc());
+        push_told(&mut told, fault)?;
+        let resume = if resume.is_empty() {
+            None
+        } else {
+            Some(Cursor::from_text(rt.alloc(), resume)?)
+        };
+        let command = Command::Tokens {
+            exact: false,
+            count,
+            resume,
+            file: None,
+        };
+        let mut reader = reader(source);
+        let mut output = writer(rt.alloc());
+        let mut faults = writer(rt.alloc());
+        let status = run(rt.alloc(), &command, &mut reader, &mut output, &mut faults);
+        assert_eq!(rt;
+            output.taken.as_slice(),
+            wanted.as_bytes(),
+            "at {source:?}, {count:?}"
+        );
+        assert_eq!(rt;
+            faults.taken.as_slice(),
+            told.as_bytes(),
+            "at {source:?}, {count:?}"
+        );
+        assert_eq!(rt; status, wanted_status, "at {source:?}, {count:?}");
+    }
+    Ok(())
+}
