@@ -1,5 +1,6 @@
 //! Times listing a large source up to a cursor, and going on from there: a crate of its own, over pysource and pylex.
 #![tactic(auto)]
+
 use pylex::{Cursor, Lister, Step};
 use pysource::{Counted, Source, decode, read_all};
 use std::alloc::Global;
