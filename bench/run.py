@@ -1,14 +1,15 @@
 #!/usr/bin/env python3
 """Times `pyast tokens` beside Python's own tokenizers and a plain copy of the bytes, on sources of 1, 10 and 100 MB.
 
-    bench/run.py [--program PATH] [--quick]        the table of times: about five minutes
-    bench/run.py --memory [--limit MB]             the peak memory on 10, 100 and 1,000 MB of short lines
+    bench/run.py [--program PATH] [--quick] [--goal TIMES]     the table of times: five to eight minutes
+    bench/run.py --memory [--limit MB]                         the peak memory on 10, 100 and 1,000 MB of short lines
 
 The sources are made of the library of Python 3.11: one of files that are ASCII alone, one of files that aren't. Times are
-those of the processor, which other work on the machine disturbs less than the clock's: the least of some runs. All write
-to /dev/null.
+those of the processor, which other work on the machine disturbs less than the clock's: the least of three rounds, in which
+the programs take turns. All write to /dev/null.
 
-The exit status is 0, but 1 where a program failed or --limit was passed, and 2 where nothing could be measured.
+The exit status is 0, but 1 where a program failed, --limit was passed or --goal was missed, and 2 where nothing could be
+measured.
 """
 
 import argparse
@@ -18,7 +19,7 @@ import glob
 import os
 import platform
 import random
-import re
+import resource
 import shutil
 import subprocess
 import sys
@@ -33,7 +34,8 @@ SIZES = (1, 10, 100)
 LARGEST_OF_PYTHONS = 10
 ROUNDS = 3
 # No further round of a program that took this long already.
-ENOUGH_SECONDS = 20
+ENOUGH_SECONDS = 40
+PEER = "python3.11 -m tokenize"
 SHORT_LINE = b"total = total + 1  # one more\n"
 # Python's C tokenizer alone, with nothing written: from 3.12 on it is what the module tokenize stands on.
 C_TOKENIZER = """\
@@ -43,23 +45,36 @@ with open(sys.argv[1], "rb") as file:
 """
 
 
-class Run:
+class Runs:
     """What some runs of a program took: processor and clock seconds, the least of each, and the peak of memory in MB."""
 
-    def __init__(self, words, rounds=ROUNDS):
-        self.processor, self.clock, self.memory, self.status = float("inf"), float("inf"), 0.0, 0
-        started = time.monotonic()
-        for done in range(rounds):
-            if done and time.monotonic() - started > ENOUGH_SECONDS:
-                break
-            before = time.monotonic()
-            process = subprocess.Popen(words, stdin=subprocess.DEVNULL, stdout=subprocess.DEVNULL, stderr=subprocess.DEVNULL)
-            _, status, used = os.wait4(process.pid, 0)
-            process.returncode = os.waitstatus_to_exitcode(status)
-            self.clock = min(self.clock, time.monotonic() - before)
-            self.processor = min(self.processor, used.ru_utime + used.ru_stime)
-            self.memory = max(self.memory, used.ru_maxrss / 1000)
-            self.status = self.status or process.returncode
+    def __init__(self, name, words):
+        self.name, self.words = name, words
+        self.processor, self.clock, self.taken, self.memory, self.status = float("inf"), float("inf"), 0.0, 0.0, 0
+
+    def run(self):
+        """Runs the program once more, unless it took long already."""
+        if self.taken > ENOUGH_SECONDS:
+            return
+        before = time.monotonic()
+        process = subprocess.Popen(self.words, stdin=subprocess.DEVNULL, stdout=subprocess.DEVNULL, stderr=subprocess.DEVNULL)
+        _, status, used = os.wait4(process.pid, 0)
+        process.returncode = os.waitstatus_to_exitcode(status)
+        seconds = time.monotonic() - before
+        self.taken += seconds
+        self.clock = min(self.clock, seconds)
+        self.processor = min(self.processor, used.ru_utime + used.ru_stime)
+        self.memory = max(self.memory, used.ru_maxrss / 1000)
+        self.status = self.status or process.returncode
+
+    def shown_memory(self):
+        """The peak of memory. A child's begins at that of this script, which starts it: less than that can't be seen."""
+        own = resource.getrusage(resource.RUSAGE_SELF).ru_maxrss / 1000
+        return f"{self.memory:.0f}" if self.memory > own + 1 else f"under {self.memory:.0f}"
+
+    def failed(self):
+        """What is to be said of a run that failed."""
+        return f"  status {self.status}" if self.status else ""
 
 
 # --- the sources ------------------------------------------------------------------------------------------------------
@@ -161,7 +176,7 @@ def find_python(version):
 def programs(options, python):
     """The name of each program, its words before the source, and the largest source that it is run on, in MB."""
     yield "pyast tokens", [options.program, "tokens"], SIZES[-1]
-    yield "python3.11 -m tokenize", [python, "-m", "tokenize"], LARGEST_OF_PYTHONS
+    yield PEER, [python, "-m", "tokenize"], LARGEST_OF_PYTHONS
     for minor in range(12, 20):
         newer = find_python(f"3.{minor}")
         if newer:
@@ -176,46 +191,45 @@ def show_machine():
     with contextlib.suppress(OSError, StopIteration), open("/proc/cpuinfo") as file:
         model = next(line.split(":")[1].strip() for line in file if line.startswith("model name"))
     load = os.getloadavg()[0]
-    print(f"{model}, {os.cpu_count()} cores, {platform.system()} {platform.release()}; load {load:.1f} when it began\n")
+    print(f"{model}, {os.cpu_count()} cores, {platform.system()} {platform.release()}; load {load:.1f} when it began\n", flush=True)
 
 
 # --- the tables -------------------------------------------------------------------------------------------------------
 
 
-def ratio(run, mine):
-    """How many times as long as pyast a program took."""
-    return f"{run.processor / mine.processor:.2f}" if mine.processor else "-"
+def write_listing(program, source, path):
+    """Writes pyast's listing of a source to a file, and answers how many MB it has."""
+    with open(path, "wb") as file:
+        subprocess.run([program, "tokens", source], stdout=file, check=False)
+    return os.path.getsize(path) / MEGABYTE
 
 
-def measure_source(options, python, folder, name, before):
-    """Measures all programs on a kind of source, size by size, and prints the rows; answers whether all ended well."""
-    well = True
-    listing = os.path.join(folder, "listing")
+def measure_source(options, peers, folder, name):
+    """Measures all programs on a kind of source, size by size, and prints the rows; answers whether all ended well, and how
+    many times pyast's time Python 3.11 took on the largest source that it was run on."""
+    well, times, before, listing = True, 0.0, {}, os.path.join(folder, "listing")
     for size in SIZES[:2] if options.quick else SIZES:
         path = source_path(folder, name, size)
-        data_size = os.path.getsize(path) / MEGABYTE
-        mine = None
-        listed = [options.program, "tokens", path]
-        rows = [(program, [*words, path]) for program, words, largest in programs(options, python) if size <= largest]
+        megabytes = os.path.getsize(path) / MEGABYTE
+        rows = [Runs(program, [*words, path]) for program, words, largest in peers if size <= largest]
         if size <= LARGEST_OF_PYTHONS:
-            with open(listing, "wb") as file:
-                subprocess.run(listed, stdout=file, check=False)
-            listing_size = os.path.getsize(listing) / MEGABYTE
-            rows.append((f"copy of the listing, {listing_size:.0f} MB (cat)", ["cat", listing]))
-        for program, words in rows:
-            run = Run(words)
-            mine = mine or run
-            # What the time would be at this size if it grew as the bytes do is 1.00.
-            kind = program.partition(",")[0] if program.startswith("copy of the listing") else program
-            was = before.get(kind)
-            growth = f"{run.processor / was[0] / (data_size / was[1]):.2f}" if was and was[0] > 0.005 else ""
-            before[kind] = run.processor, data_size
-            speed = data_size / run.processor if run.processor else float("inf")
-            failed = f"  status {run.status}" if run.status else ""
-            well &= not run.status
-            print(f"| {name} | {data_size:.1f} | {program} | {run.processor:.3f} | {run.clock:.3f} | {speed:.1f} "
-                  f"| {ratio(run, mine)} | {run.memory:.0f} | {growth} |{failed}", flush=True)
-    return well
+            listed = write_listing(options.program, path, listing)
+            rows.append(Runs(f"copy of the listing, {listed:.0f} MB (cat)", ["cat", listing]))
+        for _ in range(ROUNDS):
+            for row in rows:
+                row.run()
+        mine = rows[0].processor
+        for row in rows:
+            # 1.00 where the time grew as the bytes did; what takes next to none can't be judged.
+            was = before.get(row.name)
+            growth = f"{row.processor / was[0] / (megabytes / was[1]):.2f}" if was and was[0] > 0.02 else ""
+            before[row.name] = row.processor, megabytes
+            speed = megabytes / row.processor if row.processor else float("inf")
+            print(f"| {name} | {megabytes:.1f} | {row.name} | {row.processor:.3f} | {row.clock:.3f} | {speed:.1f} "
+                  f"| {row.processor / mine:.2f} | {row.shown_memory()} | {growth} |{row.failed()}", flush=True)
+            well &= not row.status
+            times = row.processor / mine if row.name == PEER else times
+    return well, times
 
 
 def measure(options, folder):
@@ -228,12 +242,18 @@ def measure(options, folder):
     kinds = {"ASCII": bytes.isascii, "past ASCII": lambda data: not data.isascii() and is_text(data)}
     for name, wanted in kinds.items():
         apart(lambda name=name, wanted=wanted: write_sources(folder, library, name, wanted))
+    peers = list(programs(options, python))
     print("| source | MB | program | processor s | clock s | MB/s | times pyast's | peak MB | growth |")
     print("|---|---|---|---|---|---|---|---|---|", flush=True)
-    well = all([measure_source(options, python, folder, name, {}) for name in kinds])
-    print(f"\nMB/s of source, by processor time. Growth: the time a byte, as a multiple of that of the source before it. The peak of memory"
-          f"\nis at least this script's own, some 10 MB. The Pythons are run on at most {LARGEST_OF_PYTHONS} MB.")
-    return int(not well)
+    found = {name: measure_source(options, peers, folder, name) for name in kinds}
+    print(f"\nMB/s of source, by processor time. Growth: how the time a byte changed from the size before. The Pythons are run on at"
+          f"\nmost {LARGEST_OF_PYTHONS} MB: on more, Python's listings take minutes, and some GB of memory.")
+    for name, (_, times) in found.items():
+        print(f"{name}: {PEER} takes {times:.1f} times as long as pyast tokens")
+    missed = options.goal is not None and min(times for _, times in found.values()) < options.goal
+    if options.goal is not None:
+        print(f"The goal of {options.goal:g} times is {'missed' if missed else 'reached'}.")
+    return int(missed or not all(well for well, _ in found.values()))
 
 
 def is_text(data):
@@ -245,18 +265,19 @@ def is_text(data):
 
 def measure_memory(options, folder):
     """Prints the peak of memory on sources of short lines, and answers the exit status."""
-    path, passed = os.path.join(folder, "short.py"), False
+    path, well, passed = os.path.join(folder, "short.py"), True, False
     show_machine()
     print("| short lines, MB | peak MB | a byte | processor s | clock s |\n|---|---|---|---|---|")
     for size in (10, 100) if options.quick else (10, 100, 1000):
         apart(lambda size=size: write_short_lines(path, size))
-        run = Run([options.program, "tokens", path], rounds=1)
-        passed |= bool(run.status) or options.limit is not None and run.memory > options.limit
-        told = f"  status {run.status}" if run.status else ""
-        print(f"| {size} | {run.memory:.0f} | {run.memory / size:.2f} | {run.processor:.2f} | {run.clock:.2f} |{told}", flush=True)
+        row = Runs("pyast tokens", [options.program, "tokens", path])
+        row.run()
+        well &= not row.status
+        passed |= options.limit is not None and row.memory > options.limit
+        print(f"| {size} | {row.shown_memory()} | {row.memory / size:.2f} | {row.processor:.2f} | {row.clock:.2f} |{row.failed()}", flush=True)
     if options.limit is not None:
-        print(f"\n{'More than' if passed else 'Never more than'} the {options.limit} MB that are allowed.")
-    return int(passed)
+        print(f"\n{'More than' if passed else 'Never more than'} the {options.limit:g} MB that are allowed.")
+    return int(passed or not well)
 
 
 def refuse(text):
@@ -270,6 +291,8 @@ def main():
     parser.add_argument("--program", default=os.path.join(TOP, "crates", "pyast", "out", "pyast"), metavar="PATH",
                         help="the built program; default: that of this project")
     parser.add_argument("--quick", action="store_true", help="without the largest size")
+    parser.add_argument("--goal", type=float, metavar="TIMES",
+                        help="status 1 where Python 3.11 doesn't take so many times as long, on the largest source for both")
     parser.add_argument("--memory", action="store_true", help="the peak of memory on short lines, and no times")
     parser.add_argument("--limit", type=float, metavar="MB", help="with --memory: status 1 where the peak is more than this")
     options = parser.parse_args()
