@@ -3,12 +3,13 @@
 
     conformance/compare.py [FOLDER ..] [--quick] [--mutate N]
 
-Every .py file below the folders is listed by both, with and without -e; by default the folder is that of Python's own
-library, and the sources of the library's own tests of `tokenize` are listed too. Where the two differ, what pyast has to
+Every .py file below the folders is listed by both, with and without -e, and from the standard input too; by default the
+folder is that of Python's own library, and the sources of the library's own tests of `tokenize` are listed too. Where the two differ, what pyast has to
 write is worked out again from the module's tokens and the rules of docs/DECISIONS.md: if it is that, to the byte, the
 difference is put in the class of the rule. Any other difference is a failure, shown by the smallest input that has it.
 
-The exit status is 0 where every difference has a class, 1 where one has none, and 2 where nothing could be compared.
+The exit status is 0 where every difference has a class, 1 where one has none, and 2 where nothing could be compared; with
+--or-skip it is 0 too where there is no Python 3.11.
 """
 
 import argparse
@@ -92,11 +93,12 @@ class Fault(Exception):
 # --- the two programs -------------------------------------------------------------------------------------------------
 
 
-def real_outcome(path, exact):
-    """What `python -m tokenize [-e] PATH` does. Its own main is called, since a process for each file would take long."""
+def real_outcome(words, stdin=None):
+    """What `python -m tokenize WORDS` does. Its own main is called, since a process for each file would take long."""
     out, err, status = io.StringIO(), io.StringIO(), 0
-    words = ["tokenize", *["-e"] * exact, path]
-    with contextlib.redirect_stdout(out), contextlib.redirect_stderr(err), mock.patch.object(sys, "argv", words):
+    stdin = io.TextIOWrapper(io.BytesIO(stdin or b""), encoding="utf-8")
+    with contextlib.redirect_stdout(out), contextlib.redirect_stderr(err), \
+            mock.patch.object(sys, "argv", ["tokenize", *words]), mock.patch.object(sys, "stdin", stdin):
         try:
             tokenize.main()
         except SystemExit as stop:
@@ -115,17 +117,19 @@ def run(words, **more):
     return Outcome(done.returncode, done.stdout, done.stderr)
 
 
-def program_outcome(program, path, exact):
-    """What `pyast tokens [-e] PATH` does."""
-    return run([program, "tokens", *["-e"] * exact, path], stdin=subprocess.DEVNULL)
+def program_outcome(program, words, stdin=b""):
+    """What `pyast tokens WORDS` does."""
+    return run([program, "tokens", *words], input=stdin)
 
 
 def main_is_the_real_program():
     """Whether calling main gives what a process gives, seen on this file: all comparisons rest on it."""
     path = os.path.abspath(__file__)
+    with open(path, "rb") as file:
+        data = file.read()
     in_utf8 = {**os.environ, "PYTHONIOENCODING": "utf-8"}
-    return all(run([sys.executable, "-m", "tokenize", *["-e"] * exact, path], env=in_utf8) == real_outcome(path, exact)
-               for exact in (False, True))
+    return all(run([sys.executable, "-m", "tokenize", *words], env=in_utf8, input=data) == real_outcome(words, data)
+               for words in ([path], ["-e", path], []))
 
 
 # --- characters -------------------------------------------------------------------------------------------------------
@@ -378,21 +382,51 @@ def class_of(program, mine, data, path, exact):
     return NEWER if [token[:4] for token in tokens] == by_words else NAMES
 
 
-def compare_modes(program, path):
-    """The class of the first difference of a file's two listings, and the seconds that both programs took."""
+def can_be_text(data):
+    """Whether Python reads a source from its standard input, as text in UTF-8 with universal newlines, as it stands."""
+    try:
+        return b"\r" not in data and not data.startswith(BYTE_ORDER_MARK) and data.decode() is not None
+    except UnicodeDecodeError:
+        return False
+
+
+def stream_differs(program, path, mine, found, data):
+    """What is wrong with pyast's listing of the standard input, if anything. It has to be the file's, but for the name.
+    Python's own has to be the same less the line of ENCODING, where the file made no difference or only that the tokens
+    before a fault are left out: from its standard input Python shows these."""
+    stream = program_outcome(program, [], data)
+    told = mine.err.removeprefix(os.fsencode(path))
+    if stream != mine._replace(err=told if told == mine.err else b"<stdin>" + told):
+        return "pyast lists the standard input otherwise than the file"
+    behind_encoding = stream._replace(out=stream.out.partition(b"\n")[2])
+    if found in (SAME, BEFORE) and can_be_text(data) and behind_encoding != real_outcome([], data):
+        return "tokenize lists the standard input otherwise, ENCODING aside"
+    return None
+
+
+def compare_files(program, path, data):
+    """The class of the first difference of a file's two listings, pyast's plain one, and the seconds that both took."""
     seconds, found = [0.0, 0.0], SAME
-    for exact in (False, True):
+    for exact in (True, False):  # the plain one last, since it is kept
+        words = [*["-e"] * exact, path]
         times = [time.perf_counter()]
-        mine = program_outcome(program, path, exact)
+        mine = program_outcome(program, words)
         times.append(time.perf_counter())
-        real = real_outcome(path, exact)
+        real = real_outcome(words)
         times.append(time.perf_counter())
         seconds = [seconds[i] + times[i + 1] - times[i] for i in (0, 1)]
         if mine != real:
-            with open(path, "rb") as file:
-                one = class_of(program, mine, file.read(), path, exact) or UNEXPLAINED
+            one = class_of(program, mine, data, path, exact) or UNEXPLAINED
             found = one if found in (SAME, one) else UNEXPLAINED
-    return found, seconds
+    return found, mine, seconds
+
+
+def compare_path(program, path):
+    """The class of a file's difference, the standard input's too, and the seconds that both took for the file."""
+    with open(path, "rb") as file:
+        data = file.read()
+    found, mine, seconds = compare_files(program, path, data)
+    return UNEXPLAINED if stream_differs(program, path, mine, found, data) else found, seconds
 
 
 def compare_data(program, folder, data):
@@ -400,13 +434,13 @@ def compare_data(program, folder, data):
     path = os.path.join(folder, f"{os.getpid()}.py")
     with open(path, "wb") as file:
         file.write(data)
-    return compare_modes(program, path)
+    return compare_path(program, path)
 
 
 def compare_case(program, folder, case):
     """The comparison of one case: its name, and its path or its bytes."""
     name, path, data = case
-    found, seconds = compare_modes(program, path) if path else compare_data(program, folder, data)
+    found, seconds = compare_path(program, path) if path else compare_data(program, folder, data)
     return Result(name, path, data, found, seconds)
 
 
@@ -468,9 +502,12 @@ def show_failure(program, folder, result, reduce):
         file.write(data)
     print(f"  smallest input: {data!r}")
     for exact in (False, True):
-        mine, real = program_outcome(program, path, exact), real_outcome(path, exact)
+        words = [*["-e"] * exact, path]
+        mine, real = program_outcome(program, words), real_outcome(words)
         if mine != real:
             show_outcomes(program, data, path, exact, mine, real)
+    found, mine, _ = compare_files(program, path, data)
+    print(f"  {stream_differs(program, path, mine, found, data) or 'the standard input is listed as the file is'}")
 
 
 # --- the cases --------------------------------------------------------------------------------------------------------
@@ -589,6 +626,8 @@ def all_cases(options):
     if options.replay and not sources:
         print("The library's own test, test/test_tokenize.py, isn't there: its cases are left out.")
     kept = list(files_of_tests()) if options.replay else []
+    if options.replay and not any(os.path.basename(path) == "tokenize_tests.txt" for path in kept):
+        print("The library's tests have no tokenize_tests.txt here: it is left out.")
     files = [(short_name(path), path, None) for path in dict.fromkeys(paths + kept)]
     replayed = [(f"case {number} of test_tokenize", None, source) for number, source in enumerate(sources)]
     count = len(files) + len(replayed) + options.mutate
@@ -679,6 +718,7 @@ def read_options():
     parser.add_argument("--seed", type=int, default=1, metavar="S", help="what the changes depend on; default: 1")
     parser.add_argument("--smallest", type=int, default=10, metavar="N",
                         help="for how many failures the smallest input is looked for; default: 10")
+    parser.add_argument("--or-skip", action="store_true", help="where there is no Python 3.11, say so with status 0")
     options = parser.parse_args()
     options.folders = [os.path.abspath(folder) for folder in options.folders or [sysconfig.get_path("stdlib")]]
     options.program = os.path.abspath(options.program)
@@ -700,8 +740,11 @@ def go_on_with_python_311():
         version = path and run([path, "-c", "import sys; print(*sys.version_info[:2])"]).out.split()
         if version == [b"3", b"11"]:
             os.execv(path, [path, os.path.abspath(__file__), *sys.argv[1:]])
-    refuse("no Python 3.11 is found: there is no working `python3.11` on the PATH, and `python3` isn't of that version. "
-           "Install Python 3.11 (its standard library is all that is needed) and run this again.")
+    why = "no Python 3.11 is found: there is no working `python3.11` on the PATH, and `python3` isn't of that version"
+    if "--or-skip" in sys.argv[1:]:
+        print(f"skipped: {why}")
+        sys.exit(0)
+    refuse(f"{why}. Install Python 3.11 (its standard library is all that is needed) and run this again.")
 
 
 def main():
