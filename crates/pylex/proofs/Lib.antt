@@ -48,6 +48,7 @@ pub mod Ahead
 pub mod Resuming
 pub mod Points
 pub mod Passing
+pub mod Plain
 pub mod Agreement
 pub mod OpenLevels
 pub mod Cursoring

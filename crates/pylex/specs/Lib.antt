@@ -17,3 +17,4 @@ pub mod Progress
 pub mod Standing
 pub mod Laws
 pub mod Listers
+pub mod Plain

@@ -1,14 +1,18 @@
 //! The lines of a listing, as `python -m tokenize` prints them (library reference, `tokenize`, command-line usage).
 
-ghost use Rattle.std.specs.Prelude.{◌≡◌, ◌≤◌, ◌-◌, ◌++◌, length, replicate, decimal, IfOk, OnOk, OnErr};
+ghost use Rattle.std.specs.Prelude.{◌≡◌, ◌≤◌, ◌<◌, ◌-◌, ◌+◌, ◌∷◌, ◌++◌, [], true, codes, length, replicate, decimal, IfOk, OnOk, OnErr};
 ghost use Rattle.std.specs.Str.{chars};
+ghost use Rattle.std.specs.Io.{StartsWith};
+ghost use Rattle.std.specs.List.{list_all};
 ghost use Rattle.std.specs.String.{string_bytes};
-ghost use Rattle.pysource.specs.Reprs.{repr_text};
-ghost use Rattle.pylex.specs.ListingLines.{filled, listing_line, shown_name, shown_place, shown_range};
+ghost use Rattle.pysource.specs.Reprs.{is_plain, repr_text};
+ghost use Rattle.pylex.specs.ListingLines.{filled, kind_name, listing_line, shown_name, shown_place, shown_range};
+ghost use Rattle.pylex.specs.Operators.{exact_name};
 
 use crate::entries::Entry;
+use crate::kinds::{Exact, Kind};
 use itoa::Buffer;
-use pysource::{Place, push_repr};
+use pysource::{is_plain_text, push_repr};
 use std::alloc::{AllocError, Global};
 
 /// The width of a field of places, in characters.
@@ -26,37 +30,82 @@ const BLANKS: &str = "                    ";
 /// Fills a field that has `taken` characters.
 fn push_filling(out: &mut String, width: usize, taken: usize) -> Result<(), AllocError>
     requires { width ≤ 20 }
-    ensures { OnOk result (string_bytes out.new ≡ string_bytes out.old ++ replicate (width - taken) 32) }
+    ensures ok { OnOk result (string_bytes out.new ≡ string_bytes out.old ++ replicate (width - taken) 32) }
+    ensures kept { StartsWith (string_bytes out.new) (string_bytes out.old) }
 {
-    out.push_str(&BLANKS[..width.saturating_sub(taken)])
+    if taken >= width {
+        return Ok(());
+    }
+    // A copy of a fixed length, cut off again, takes less time than one of a few bytes.
+    let end = out.len() + (width - taken);
+    out.push_str(BLANKS)?;
+    out.truncate(end);
+    Ok(())
+}
+
+/// Writes a digit.
+fn push_digit(out: &mut String, digit: usize) -> Result<(), AllocError>
+    requires { digit < 10 }
+    ensures ok { OnOk result (string_bytes out.new ≡ string_bytes out.old ++ (48 + digit) ∷ []) }
+    ensures kept { StartsWith (string_bytes out.new) (string_bytes out.old) }
+{
+    out.push(char::from(b'0' + digit as u8))?;
+    Ok(())
 }
 
 fn push_number(out: &mut String, number: usize) -> Result<(), AllocError>
-    ensures { OnOk result (string_bytes out.new ≡ string_bytes out.old ++ decimal number) }
+    ensures ok { OnOk result (string_bytes out.new ≡ string_bytes out.old ++ decimal number) }
+    ensures kept { StartsWith (string_bytes out.new) (string_bytes out.old) }
 {
-    out.push_str(Buffer::new().format(number))
+    // Most columns have one digit or two, which need no buffer.
+    if number < 10 {
+        push_digit(out, number)
+    } else if number < 100 {
+        push_digit(out, number / 10)?;
+        push_digit(out, number % 10)
+    } else {
+        out.push_str(Buffer::new().format(number))
+    }
 }
 
-fn push_place(out: &mut String, place: Place) -> Result<(), AllocError>
-    ensures { OnOk result (string_bytes out.new ≡ string_bytes out.old ++ shown_place place) }
+/// Writes a place whose row's digits are given.
+fn push_place(out: &mut String, row: &str, column: usize) -> Result<(), AllocError>
+    ensures ok { OnOk result (string_bytes out.new ≡ string_bytes out.old ++ (row.now ++ codes "," ++ decimal column)) }
+    ensures kept { StartsWith (string_bytes out.new) (string_bytes out.old) }
 {
-    push_number(out, place.row)?;
+    out.push_str(row)?;
     out.push_str(",")?;
-    push_number(out, place.column)
+    push_number(out, column)
+}
+
+/// Writes an entry's end, given the digits of the row that it starts in: few entries end in another.
+fn push_end(out: &mut String, entry: &Entry, row: &str) -> Result<(), AllocError>
+    requires { row.now ≡ decimal entry.now.start.row }
+    ensures ok { OnOk result (string_bytes out.new ≡ string_bytes out.old ++ shown_place entry.now.end) }
+    ensures kept { StartsWith (string_bytes out.new) (string_bytes out.old) }
+{
+    if entry.end.row == entry.start.row {
+        return push_place(out, row, entry.end.column);
+    }
+    push_place(out, Buffer::new().format(entry.end.row), entry.end.column)
 }
 
 fn push_places(out: &mut String, entry: &Entry) -> Result<(), AllocError>
-    ensures { OnOk result (string_bytes out.new ≡ string_bytes out.old ++ shown_range entry.now) }
+    ensures ok { OnOk result (string_bytes out.new ≡ string_bytes out.old ++ shown_range entry.now) }
+    ensures kept { StartsWith (string_bytes out.new) (string_bytes out.old) }
 {
-    push_place(out, entry.start)?;
+    let mut digits = Buffer::new();
+    let row = digits.format(entry.start.row);
+    push_place(out, row, entry.start.column)?;
     out.push_str("-")?;
-    push_place(out, entry.end)?;
+    push_end(out, entry, row)?;
     out.push_str(":")
 }
 
 /// Writes the field of an entry's places.
 fn push_range(out: &mut String, entry: &Entry) -> Result<(), AllocError>
-    ensures { OnOk result (string_bytes out.new ≡ string_bytes out.old ++ filled 20 (shown_range entry.now)) }
+    ensures ok { OnOk result (string_bytes out.new ≡ string_bytes out.old ++ filled 20 (shown_range entry.now)) }
+    ensures kept { StartsWith (string_bytes out.new) (string_bytes out.old) }
 {
     let start = out.len();
     push_places(out, entry)?;
@@ -65,23 +114,45 @@ fn push_range(out: &mut String, entry: &Entry) -> Result<(), AllocError>
     push_filling(out, RANGE_WIDTH, taken)
 }
 
-/// The name that is shown for an entry.
-fn shown_name(entry: &Entry, exact: bool) -> &'static str
-    ensures { result.now ≡ shown_name exact entry.now }
+/// The name of a type of tokens, filled to the width of its field.
+#[tactic(auto, using(crate::proofs::LinesLemmas::kind_filled))]
+fn kind_field(kind: Kind) -> &'static str
+    ensures { result.now ≡ filled 15 (kind_name kind) }
 {
-    match entry.exact {
-        Some(operator) if exact => operator.name(),
-        _ => entry.kind.name(),
+    match kind {
+        Kind::Encoding => "ENCODING       ",
+        Kind::Name => "NAME           ",
+        Kind::Number => "NUMBER         ",
+        Kind::String => "STRING         ",
+        Kind::Op => "OP             ",
+        Kind::Comment => "COMMENT        ",
+        Kind::Nl => "NL             ",
+        Kind::Newline => "NEWLINE        ",
+        Kind::Indent => "INDENT         ",
+        Kind::Dedent => "DEDENT         ",
+        Kind::EndMarker => "ENDMARKER      ",
     }
 }
 
-/// Writes the field of an entry's name.
-fn push_name(out: &mut String, entry: &Entry, exact: bool) -> Result<(), AllocError>
-    ensures { OnOk result (string_bytes out.new ≡ string_bytes out.old ++ filled 15 (shown_name exact entry.now)) }
+/// Writes the field of an operator's own name.
+fn push_operator(out: &mut String, operator: Exact) -> Result<(), AllocError>
+    ensures ok { OnOk result (string_bytes out.new ≡ string_bytes out.old ++ filled 15 (exact_name operator)) }
+    ensures kept { StartsWith (string_bytes out.new) (string_bytes out.old) }
 {
-    let name = shown_name(entry, exact);
+    let name = operator.name();
     out.push_str(name)?;
     push_filling(out, FIELD_WIDTH, name.len())
+}
+
+/// Writes the field of the name that is shown for an entry.
+fn push_name(out: &mut String, entry: &Entry, exact: bool) -> Result<(), AllocError>
+    ensures ok { OnOk result (string_bytes out.new ≡ string_bytes out.old ++ filled 15 (shown_name exact entry.now)) }
+    ensures kept { StartsWith (string_bytes out.new) (string_bytes out.old) }
+{
+    match entry.exact {
+        Some(operator) if exact => push_operator(out, operator),
+        _ => out.push_str(kind_field(entry.kind)),
+    }
 }
 
 fn char_count(text: &str) -> usize
@@ -90,10 +161,26 @@ fn char_count(text: &str) -> usize
     text.chars().count()
 }
 
+/// Writes the field of a text whose `repr` shows it as it is.
+fn push_plain(out: &mut String, text: &str) -> Result<(), AllocError>
+    requires { list_all is_plain text.now ≡ true }
+    ensures ok { OnOk result (string_bytes out.new ≡ string_bytes out.old ++ filled 15 (repr_text (chars text.now))) }
+    ensures kept { StartsWith (string_bytes out.new) (string_bytes out.old) }
+{
+    out.push('\'')?;
+    out.push_str(text)?;
+    out.push('\'')?;
+    push_filling(out, FIELD_WIDTH, text.len() + 2)
+}
+
 /// Writes the field of a text.
 fn push_text(out: &mut String, text: &str) -> Result<(), AllocError>
-    ensures { OnOk result (string_bytes out.new ≡ string_bytes out.old ++ filled 15 (repr_text (chars text.now))) }
+    ensures ok { OnOk result (string_bytes out.new ≡ string_bytes out.old ++ filled 15 (repr_text (chars text.now))) }
+    ensures kept { StartsWith (string_bytes out.new) (string_bytes out.old) }
 {
+    if is_plain_text(text) {
+        return push_plain(out, text);
+    }
     let start = out.len();
     push_repr(out, text)?;
     let taken = char_count(&out.as_str()[start..]);
@@ -101,7 +188,8 @@ fn push_text(out: &mut String, text: &str) -> Result<(), AllocError>
 }
 
 fn push_fields(out: &mut String, entry: &Entry, text: &str, exact: bool) -> Result<(), AllocError>
-    ensures { OnOk result (string_bytes out.new ≡ string_bytes out.old ++ listing_line exact entry.now text.now) }
+    ensures ok { OnOk result (string_bytes out.new ≡ string_bytes out.old ++ listing_line exact entry.now text.now) }
+    ensures kept { StartsWith (string_bytes out.new) (string_bytes out.old) }
 {
     push_range(out, entry)?;
     push_name(out, entry, exact)?;
@@ -129,8 +217,12 @@ pub fn push_line(out: &mut String, entry: &Entry, text: &str, exact: bool) -> Re
     ensures ok { OnOk result (string_bytes out.new ≡ string_bytes out.old ++ listing_line exact entry.now text.now) }
     ensures err { OnErr result (string_bytes out.new ≡ string_bytes out.old) }
 {
-    let line = line_text(*out.allocator(), entry, text, exact)?;
-    out.push_str(line.as_str())
+    let start = out.len();
+    let pushed = push_fields(out, entry, text, exact);
+    if pushed.is_err() {
+        out.truncate(start);
+    }
+    pushed
 }
 
 #[cfg(test)]

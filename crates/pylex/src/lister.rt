@@ -116,11 +116,12 @@ fn find<'a>(start: Progress, levels: &[usize], text: &'a str) -> (Meets, Progres
         let Some((class, front, back)) = cut(rest) else {
             return (Meets::Stop, now, rest);
         };
-        match now.give(class, front) {
+        let ahead = now.after(class, front);
+        match now.give(class, front, ahead.now) {
             Given::Fault(fault) => return (Meets::Fault(fault), now, rest),
-            Given::Entry(entry) => return (Meets::Entry(entry), now.after(class, front), back),
+            Given::Entry(entry) => return (Meets::Entry(entry), ahead, back),
             Given::Nothing => {
-                now = now.after(class, front);
+                now = ahead;
                 rest = back;
             }
         }

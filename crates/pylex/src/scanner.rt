@@ -3,6 +3,7 @@
 ghost use Rattle.std.specs.Prelude.{◌≡◌, ◌==◌, ◌&&◌, ℕ, ◌≤◌, List, length, drop, take, slice_get};
 ghost use Rattle.std.specs.Str.{chars, encode_utf8_all, IsUtf8, bytes_eq};
 ghost use Rattle.std.specs.List.{prefix_len};
+ghost use Rattle.unicode_ident.specs.Ident.{is_xid_continue};
 ghost use Rattle.pylex.specs.Chars.{has, begins};
 ghost use Rattle.pylex.specs.Lengths.{joined_len, begins_some, begins_quotes};
 
@@ -79,17 +80,21 @@ impl<'a> Scanner<'a> {
     }
 
     /// Takes the characters of a set from here on.
+    #[inline(always)]
     pub fn bump_while(&mut self, set: CharSet)
         ensures { self.new ≡ drop (prefix_len (has set) self.old) self.old }
     {
-        while let Some(first) = self.first()
+        let mut ahead = self.again();
+        while let Some(first) = ahead.first()
             && set.has(first)
         {
-            let _ = self.bump();
+            let _ = ahead.bump();
         }
+        *self = ahead;
     }
 
     /// Whether the character after some others is in a set.
+    #[inline(always)]
     pub fn has_next(&self, skipped: usize, set: CharSet) -> bool
         ensures { result ≡ begins (has set) (drop skipped self.now) }
     {
@@ -146,6 +151,17 @@ impl<'a> Scanner<'a> {
     }
 }
 
+/// Whether a name may go on with a character. Those of ASCII are told without a table.
+#[inline(always)]
+fn is_name_part(c: char) -> bool
+    ensures { result ≡ is_xid_continue c }
+{
+    if c.is_ascii() {
+        return c.is_ascii_alphanumeric() || c == '_';
+    }
+    unicode_ident::is_xid_continue(c)
+}
+
 /// A set of characters.
 #[derive(Clone, Copy)]
 pub enum CharSet {
@@ -173,11 +189,12 @@ pub enum CharSet {
 
 impl CharSet {
     /// Whether a character is in the set.
+    #[inline(always)]
     pub fn has(self, c: char) -> bool
         ensures { result ≡ has self c }
     {
         match self {
-            CharSet::NamePart => unicode_ident::is_xid_continue(c),
+            CharSet::NamePart => is_name_part(c),
             CharSet::Digit => c.is_ascii_digit(),
             CharSet::CommentPart => c != '\n' && c != '\r',
             CharSet::Blank => c == ' ' || c == '\t' || c == '\x0c',

@@ -1,10 +1,11 @@
 //! How far a lister has come in a text.
 
-ghost use Rattle.std.specs.Prelude.{◌≡◌, ℕ, ◌+◌, ◌*◌, ◌^◌, ◌<◌, ◌≤◌, ◌&&◌, ◌||◌, not, ◌==◌, if◌then◌else◌, List, [], ◌∷◌, length, false, Ok, ◌-◌};
+ghost use Rattle.std.specs.Prelude.{◌≡◌, ◌↔◌, IsTrue, ℕ, ◌+◌, ◌*◌, ◌^◌, ◌<◌, ◌≤◌, ◌&&◌, ◌||◌, not, ◌==◌, if◌then◌else◌, List, [], ◌∷◌, length, false, Ok, ◌-◌};
 ghost use Rattle.std.specs.Str.{chars};
 ghost use Rattle.pylex.specs.Lines.{opens, closes, is_thing_class, is_blanks_class, is_line_end_class, column_after, width_from, bytes_in};
 ghost use Rattle.pylex.specs.Machine.{advance, front_after_char, front_after, past, behind, after, entry_by, step_of, mark_at, is_join_class, is_hash, still, count_if, pushed, first_state, last_line_end, last_place};
 ghost use Rattle.pylex.specs.Listing.{row_after};
+ghost use Rattle.pylex.specs.Plain.{IsPlain};
 ghost use Rattle.pylex.specs.Progress.{with_levels, measured, begun_anew, given, HasRoom};
 
 use crate::entries::{Entry, ListingError, ListingFault, Step};
@@ -80,6 +81,12 @@ impl Front {
 }
 
 impl Front {
+    fn is_nothing(self) -> bool
+        ensures { IsTrue result ↔ (self ≡ Front.Nothing) }
+    {
+        matches!(self, Front::Nothing)
+    }
+
     fn is_hash(self) -> bool
         ensures { result ≡ is_hash self }
     {
@@ -87,8 +94,42 @@ impl Front {
     }
 }
 
-/// The place after a text that begins at a place, and what its line begins with.
-fn walk(place: Place, front: Front, text: &str) -> (Place, Front)
+/// Whether a text is in ASCII and has no line feed: each of its bytes is a character of one line.
+fn is_plain(text: &str) -> bool
+    ensures { IsTrue result ↔ IsPlain text.now }
+{
+    text.as_bytes().iter().all(|b| *b < 128 && *b != b'\n')
+}
+
+/// What a line begins with after plain text at its start.
+fn front_of_plain(text: &str) -> Front
+    requires { IsPlain text.now }
+    ensures { result ≡ front_after Front.Nothing (chars text.now) }
+{
+    for c in text.chars() {
+        let front = Front::Nothing.after(c);
+        if !front.is_nothing() {
+            return front;
+        }
+    }
+    Front::Nothing
+}
+
+impl Front {
+    /// What the line begins with after some more plain text.
+    fn after_plain(self, text: &str) -> Front
+        requires { IsPlain text.now }
+        ensures { result ≡ front_after self (chars text.now) }
+    {
+        if self.is_nothing() {
+            return front_of_plain(text);
+        }
+        self
+    }
+}
+
+/// The place after a text that begins at a place, and what its line begins with: by each character.
+fn walk_chars(place: Place, front: Front, text: &str) -> (Place, Front)
     requires row { place.row + length text.now < 2 ^ 63 }
     requires column { place.column + length text.now < 2 ^ 63 }
     ensures place { result.0 ≡ advance place (chars text.now) }
@@ -106,6 +147,23 @@ fn walk(place: Place, front: Front, text: &str) -> (Place, Front)
         }
     }
     (place, front)
+}
+
+/// The place after a text that begins at a place, and what its line begins with.
+fn walk(place: Place, front: Front, text: &str) -> (Place, Front)
+    requires row { place.row + length text.now < 2 ^ 63 }
+    requires column { place.column + length text.now < 2 ^ 63 }
+    ensures place { result.0 ≡ advance place (chars text.now) }
+    ensures front { result.1 ≡ front_after front (chars text.now) }
+{
+    if !is_plain(text) {
+        return walk_chars(place, front, text);
+    }
+    let further = Place {
+        row: place.row,
+        column: place.column + text.len(),
+    };
+    (further, front.after_plain(text))
 }
 
 /// What a line begins with.
@@ -176,21 +234,6 @@ impl Class {
 }
 
 impl Point {
-    /// The point after a text that begins here.
-    fn past(self, text: &str) -> Point
-        requires row { self.place.row + length text.now < 2 ^ 63 }
-        requires column { self.place.column + length text.now < 2 ^ 63 }
-        requires offset { self.offset + length text.now < 2 ^ 63 }
-        requires counted { bytes_in (chars text.now) ≡ length text.now }
-        ensures { result ≡ past self (chars text.now) }
-    {
-        let (place, _) = walk(self.place, Front::Nothing, text);
-        Point {
-            place,
-            offset: self.offset + text.len(),
-        }
-    }
-
     /// The point after a line end that begins here, still on its row.
     fn behind(self, text: &str) -> Point
         requires column { self.place.column + length text.now < 2 ^ 63 }
@@ -307,9 +350,10 @@ impl Progress {
     }
 
     #[tactic(auto, unfolding(crate::specs::Machine::entry_by))]
-    /// What a lexeme gives: an entry, nothing, or the fault of a closing bracket where none is open.
-    pub fn give(self, class: Class, text: &str) -> Given
+    /// What a lexeme gives that ends at a point: an entry, nothing, or the fault of a closing bracket where none is open.
+    pub fn give(self, class: Class, text: &str, end: Point) -> Given
         requires room { HasRoom self (length text.now) }
+        requires end { end ≡ past self.now (chars text.now) }
         requires counted { bytes_in (chars text.now) ≡ length text.now }
         ensures { (levels : List ℕ) → entry_by (with_levels self levels) (record { «class» = class; text = chars text.now }) ≡ given result }
     {
@@ -337,7 +381,7 @@ impl Progress {
             Class::String => (Kind::String, None),
             Class::Comment => (Kind::Comment, None),
         };
-        Given::Entry(entry_of(kind, exact, self.now, self.now.past(text)))
+        Given::Entry(entry_of(kind, exact, self.now, end))
     }
 
     /// Whether a lexeme ends the measured line.
@@ -392,6 +436,7 @@ impl Progress {
         requires some { 0 < length text.now }
         requires settled { (self.margin && is_thing_class class) ≡ false }
         ensures after { (levels : List ℕ) → with_levels result levels ≡ after (with_levels self levels) (record { «class» = class; text = chars text.now }) }
+        ensures now { result.now ≡ past self.now (chars text.now) }
         ensures room { (n : ℕ) → HasRoom self (length text.now + n) → HasRoom result n }
     {
         let (place, front) = walk(self.now.place, self.front, text);

@@ -1,19 +1,20 @@
 -- The repr of a text, from its bytes and its characters.
-use Rattle.std.proofs.Common.{◌≡◌, ℕ, suc, ◌+◌, ◌-◌, ◌<◌, Bool, nat_le, leb-true, true, false, List, [], ◌∷◌, ◌++◌, get_or, length, take, refl, sym, subst, ap, ap₂, ◌∙◌, arith, inl, inr, append-nil}
+use Rattle.std.proofs.Common.{◌≡◌, ℕ, suc, ◌+◌, ◌-◌, ◌<◌, Bool, nat_le, leb-true, true, false, List, [], ◌∷◌, ◌++◌, get_or, length, take, refl, sym, subst, ap, ap₂, ◌∙◌, arith, inl, inr, append-nil, length-append}
 use Rattle.std.specs.Prelude.{◌==◌, ◌||◌, not, ◌&&◌, IsUtf8, All, if◌then◌else◌}
 use Rattle.std.specs.List.{list_all, list_any, prefix_len, flat_map}
 use Rattle.std.specs.Char.{encode_utf8}
 use Rattle.std.specs.Str.{IsAscii, IsCharBoundary, chars, encode_utf8_all}
 use Rattle.std.proofs.Math.Bool.{or-false}
+use Rattle.std.proofs.lemmas.Bool.Decides.{nat_tests}
 use Rattle.std.proofs.lemmas.Bool.{and_from, and_parts, both_ways, cases_Bool, cases_eq, cases_lt, ne_eqb}
-use Rattle.std.proofs.lemmas.Str.{IsCharBoundary-start, IsCharBoundary-after_ascii, IsUtf8-from_ascii, chars-IsAscii, chars-append, chars-nil, chars_past_char, encode_ascii, encodes-IsAscii, encodes-append, encodes-chars, inside_one}
+use Rattle.std.proofs.lemmas.Str.{IsCharBoundary-start, IsCharBoundary-after_ascii, IsUtf8-from_ascii, IsAscii-append, chars-IsAscii, chars-append, chars-nil, chars_past_char, encode_ascii, encodes-IsAscii, encodes-append, encodes-chars, inside_one}
 use Rattle.std.proofs.lemmas.Str.Ascii.{IsAscii-nil, IsAscii-cons}
 use Rattle.std.proofs.lemmas.List.{append_assoc}
 use Rattle.std.proofs.lemmas.List.Elements.{All-from_get_or}
 use Rattle.std.proofs.lemmas.List.Folds.{list_any-append, list_any_none}
 use Rattle.std.proofs.lemmas.List.Sums.{prefix_len-le-length, prefix_len_passes}
 use Rattle.std.proofs.lemmas.Grind.{flat_map-append}
-use Rattle.pysource.specs.Reprs.{escaped, is_plain, is_unprintable, quote_for}
+use Rattle.pysource.specs.Reprs.{escaped, is_plain, is_unprintable, quote_for, repr_text}
 use Rattle.pysource.proofs.Categories.{printable_ascii}
 
 abbrev pub has : ℕ → List ℕ → Bool
@@ -152,3 +153,43 @@ plain_boundary bs n text is = elim (cases_eq n 0) [
       let last : is_plain (get_or bs (n - 1) 0) ≡ true = prefix_len_passes is_plain bs (n - 1) 0 (omega (arith, is)) in
       subst (λ (k : ℕ). IsCharBoundary bs k) place (IsCharBoundary-after_ascii bs (n - 1) text (omega (arith, within, is)) (plain_below (get_or bs (n - 1) 0) last))
 ]
+
+one_more : (m n : ℕ) → (1 + m == suc n) ≡ (m == n)
+one_more m n = grind (arith, nat_tests)
+
+none : (n : ℕ) → (0 == suc n) ≡ false
+none n = ne_eqb 0 (suc n) (λ same. absurd (omega (arith, same)))
+
+-- all bytes of a text pass where its longest front that passes is the whole
+pub all_by_prefix : (p : ℕ → Bool) (bs : List ℕ) → (prefix_len p bs == length bs) ≡ list_all p bs
+all_by_prefix p [] = refl
+all_by_prefix p (b ∷ bs) = elim (cases_Bool (p b)) [
+  | inl passes ↦
+      rw passes (one_more (prefix_len p bs) (length bs) ∙ all_by_prefix p bs)
+  | inr other ↦ rw other (none (length bs))
+]
+
+no_quote : (bs : List ℕ) → list_all is_plain bs ≡ true → has 39 bs ≡ false
+no_quote [] plain = refl
+no_quote (b ∷ bs) plain =
+    let parts = and_parts (is_plain b) (list_all is_plain bs) plain in
+    rw (differs b 39 parts.0 refl) (no_quote bs parts.1)
+
+quoted_ascii : (bs : List ℕ) → list_all is_plain bs ≡ true → IsAscii (39 ∷ bs ++ 39 ∷ [])
+quoted_ascii bs plain =
+    IsAscii-append (39 ∷ bs) (39 ∷ []) (IsAscii-cons 39 bs (omega arith) (plain_ascii bs plain)) (IsAscii-cons 39 [] (omega arith) IsAscii-nil)
+
+-- the repr of a plain text
+pub plain_repr : (bs : List ℕ) → list_all is_plain bs ≡ true → repr_text (chars bs) ≡ 39 ∷ bs ++ 39 ∷ []
+plain_repr bs plain =
+    let same = chars-IsAscii bs (plain_ascii bs plain) in
+    let quote : quote_for bs ≡ 39 = rw (no_quote bs plain) refl in
+    ap repr_text same
+    ∙ ap (λ (q : ℕ). encode_utf8_all (q ∷ flat_map (escaped is_unprintable q) bs ++ q ∷ [])) quote
+    ∙ ap (λ (ds : List ℕ). encode_utf8_all (39 ∷ ds ++ 39 ∷ [])) (plain_all 39 bs refl plain)
+    ∙ encodes-IsAscii (39 ∷ bs ++ 39 ∷ []) (quoted_ascii bs plain)
+
+-- its characters
+pub plain_repr_characters : (bs : List ℕ) → list_all is_plain bs ≡ true → length (chars (39 ∷ bs ++ 39 ∷ [])) ≡ length bs + 2
+plain_repr_characters bs plain =
+    ap length (chars-IsAscii (39 ∷ bs ++ 39 ∷ []) (quoted_ascii bs plain)) ∙ omega (arith, length-append (39 ∷ bs) (39 ∷ []))

@@ -25,7 +25,7 @@ pub use bytes::{
 pub use encodings::{Charset, Encoding, SourceFault, encoding_of};
 pub use faults::{LineError, LineFault};
 pub use places::{Place, place_of};
-pub use reprs::{push_repr, repr_bytes, repr_text};
+pub use reprs::{is_plain_text, push_repr, repr_bytes, repr_text};
 pub use sources::{Source, decode};
 
 #[cfg(test)]

@@ -6,6 +6,7 @@
 ghost use Rattle.std.specs.Prelude.{◌≡◌, ◌≤◌, ◌<◌, ◌+◌, ◌++◌, [], ◌∷◌, IfOk, IsUtf8, OnOk, true, length, All, if◌then◌else◌};
 ghost use Rattle.std.specs.List.{list_all, prefix_len};
 ghost use Rattle.std.specs.Str.{chars, encode_utf8_all};
+ghost use Rattle.std.specs.Io.{StartsWith};
 ghost use Rattle.std.specs.String.{string_bytes};
 ghost use Rattle.pysource.specs.Reprs.{hex, escaped, hex_escape, quote_for, repr_bytes, repr_text, is_plain, is_unprintable, is_unprintable_byte};
 
@@ -14,7 +15,8 @@ use unicode::properties::{GeneralCategory, GeneralCategoryGroup};
 
 /// Appends the last `width` digits of a number in base 16, in lower case.
 fn push_hex(out: &mut String, width: u32, number: u32) -> Result<(), AllocError>
-    ensures { OnOk result (string_bytes out.new ≡ string_bytes out.old ++ hex width number) }
+    ensures ok { OnOk result (string_bytes out.new ≡ string_bytes out.old ++ hex width number) }
+    ensures kept { StartsWith (string_bytes out.new) (string_bytes out.old) }
 {
     if width == 0 {
         return Ok(());
@@ -36,6 +38,7 @@ fn push_escape(out: &mut String, number: u32) -> Result<(), AllocError>
     ensures encoded { OnOk result
         (string_bytes out.new ≡ string_bytes out.old ++ encode_utf8_all (hex_escape number)) }
     ensures bytes { OnOk result (string_bytes out.new ≡ string_bytes out.old ++ hex_escape number) }
+    ensures kept { StartsWith (string_bytes out.new) (string_bytes out.old) }
 {
     if number < 0x100 {
         out.push_str("\\x")?;
@@ -126,8 +129,9 @@ fn printable(point: u32) -> Option<char>
 fn push_point(out: &mut String, quote: u8, point: u32) -> Result<(), AllocError>
     requires quote { quote < 128 }
     requires point { point ≤ 0x10_FFFF }
-    ensures { OnOk result (string_bytes out.new ≡
+    ensures ok { OnOk result (string_bytes out.new ≡
         string_bytes out.old ++ encode_utf8_all (escaped is_unprintable quote point)) }
+    ensures kept { StartsWith (string_bytes out.new) (string_bytes out.old) }
 {
     if point == u32::from(b'\\') || point == u32::from(quote) {
         out.push('\\')?;
@@ -195,6 +199,13 @@ fn plain_len(bytes: &[u8]) -> usize
     bytes.iter().take_while(|byte| is_plain(**byte)).count()
 }
 
+/// Whether the `repr` of a text is the text as it is between single quotes.
+pub fn is_plain_text(text: &str) -> bool
+    ensures { result ≡ list_all is_plain text.now }
+{
+    plain_len(text.as_bytes()) == text.len()
+}
+
 /// The longest front of a text that stands for itself between quotes, and what follows it.
 fn split_plain(text: &str) -> (&str, &str)
     ensures whole { text.now ≡ result.0.now ++ result.1.now }
@@ -205,9 +216,10 @@ fn split_plain(text: &str) -> (&str, &str)
 }
 
 /// Appends the `repr` of a text to an output, without memory of its own: what [`repr_text`] gives
-/// for the text's characters. Where the output can't grow it may have taken a front of that.
+/// for the text's characters. Where the output can't grow, it keeps what it had, and may have taken a front of that.
 pub fn push_repr(out: &mut String, text: &str) -> Result<(), AllocError>
-    ensures { OnOk result (string_bytes out.new ≡ string_bytes out.old ++ repr_text (chars text.now)) }
+    ensures ok { OnOk result (string_bytes out.new ≡ string_bytes out.old ++ repr_text (chars text.now)) }
+    ensures kept { StartsWith (string_bytes out.new) (string_bytes out.old) }
 {
     let quote = quote_of(text.as_bytes());
     out.push(char::from(quote))?;

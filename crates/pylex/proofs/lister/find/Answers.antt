@@ -5,33 +5,27 @@ use Rattle.pylex.proofs.lister.find.Goals as goal
 pub returns-in-Fault-clause-finds : goal.returns-in-Fault-clause-finds
 returns-in-Fault-clause-finds c = fault_found c.args.levels.now c.args.start (chars c.args.text.now) c.loop-settled.now c.in-Ok.settled c.loop-settled.rest.now c.in-Some.front.now c.in-Some.back.now c.in-Some.class c.in-Fault.fault c.loop-settled.invariant.2 c.in-Ok.ensures.ok.0 c.in-Some.ensures.some c.in-Fault.ensures
 
-pub after-requires-clause-some : goal.after-requires-clause-some
-after-requires-clause-some c = some_bytes c.loop-settled.rest.now c.in-Some.front.now c.in-Some.back.now c.in-Some.class c.in-Some.ensures.some
+pub after-ahead-requires-clause-some : goal.after-ahead-requires-clause-some
+after-ahead-requires-clause-some c = some_bytes c.loop-settled.rest.now c.in-Some.front.now c.in-Some.back.now c.in-Some.class c.in-Some.ensures.some
 
-pub after-requires-clause-settled : goal.after-requires-clause-settled
-after-requires-clause-settled c = no_thing_due c.in-Ok.settled c.loop-settled.rest.now c.in-Some.front.now c.in-Some.back.now c.in-Some.class c.in-Some.ensures.some c.in-Ok.ensures.ok.0.settled
+pub after-ahead-requires-clause-settled : goal.after-ahead-requires-clause-settled
+after-ahead-requires-clause-settled c = no_thing_due c.in-Ok.settled c.loop-settled.rest.now c.in-Some.front.now c.in-Some.back.now c.in-Some.class c.in-Some.ensures.some c.in-Ok.ensures.ok.0.settled
 
 pub returns-in-Entry-clause-finds : goal.returns-in-Entry-clause-finds
-returns-in-Entry-clause-finds c = entry_found c.args.levels.now c.args.start (chars c.args.text.now) c.loop-settled.now c.in-Ok.settled c.after.result c.loop-settled.rest.now c.in-Some.front.now c.in-Some.back.now c.in-Some.class c.in-Entry.entry c.loop-settled.invariant.2 c.in-Ok.ensures.ok.0 c.in-Some.ensures.some c.in-Entry.ensures c.after.ensures.after
+returns-in-Entry-clause-finds c = entry_found c.args.levels.now c.args.start (chars c.args.text.now) c.loop-settled.now c.in-Ok.settled c.after-ahead.result c.loop-settled.rest.now c.in-Some.front.now c.in-Some.back.now c.in-Some.class c.in-Entry.entry c.loop-settled.invariant.2 c.in-Ok.ensures.ok.0 c.in-Some.ensures.some c.in-Entry.ensures c.after-ahead.ensures.after
 
 pub returns-in-Entry-clause-stands : goal.returns-in-Entry-clause-stands
-returns-in-Entry-clause-stands c = stands_after c.in-Ok.settled c.after.result c.loop-settled.rest.now c.in-Some.front.now c.in-Some.back.now c.in-Some.class c.in-Some.ensures.some c.in-Ok.ensures.ok.1 c.after.ensures.room
-
-pub after-now-requires-clause-some : goal.after-now-requires-clause-some
-after-now-requires-clause-some c = some_bytes c.loop-settled.rest.now c.in-Some.front.now c.in-Some.back.now c.in-Some.class c.in-Some.ensures.some
-
-pub after-now-requires-clause-settled : goal.after-now-requires-clause-settled
-after-now-requires-clause-settled c = no_thing_due c.in-Ok.settled c.loop-settled.rest.now c.in-Some.front.now c.in-Some.back.now c.in-Some.class c.in-Some.ensures.some c.in-Ok.ensures.ok.0.settled
+returns-in-Entry-clause-stands c = stands_after c.in-Ok.settled c.after-ahead.result c.loop-settled.rest.now c.in-Some.front.now c.in-Some.back.now c.in-Some.class c.in-Some.ensures.some c.in-Ok.ensures.ok.1 c.after-ahead.ensures.room
 
 pub loop-settled-smaller : goal.loop-settled-smaller
 loop-settled-smaller c = shorter_after c.loop-settled.rest.now c.in-Some.front.now c.in-Some.back.now c.in-Some.class c.in-Some.ensures.some
 
 pub loop-settled-preserved : goal.loop-settled-preserved
 loop-settled-preserved c =
-    let stands = stands_after c.in-Ok.settled c.after-now.result c.loop-settled.rest.now c.in-Some.front.now c.in-Some.back.now c.in-Some.class c.in-Some.ensures.some c.in-Ok.ensures.ok.1 c.after-now.ensures.room in (
+    let stands = stands_after c.in-Ok.settled c.after-ahead.result c.loop-settled.rest.now c.in-Some.front.now c.in-Some.back.now c.in-Some.class c.in-Some.ensures.some c.in-Ok.ensures.ok.1 c.after-ahead.ensures.room in (
       stands.utf8,
       stands,
-      nothing_found c.args.levels.now c.args.start (chars c.args.text.now) c.loop-settled.now c.in-Ok.settled c.after-now.result c.loop-settled.rest.now c.in-Some.front.now c.in-Some.back.now c.in-Some.class c.loop-settled.invariant.2 c.in-Ok.ensures.ok.0 c.in-Some.ensures.some c.in-Nothing.ensures c.after-now.ensures.after,
+      nothing_found c.args.levels.now c.args.start (chars c.args.text.now) c.loop-settled.now c.in-Ok.settled c.after-ahead.result c.loop-settled.rest.now c.in-Some.front.now c.in-Some.back.now c.in-Some.class c.loop-settled.invariant.2 c.in-Ok.ensures.ok.0 c.in-Some.ensures.some c.in-Nothing.ensures c.after-ahead.ensures.after,
     )
 
 pub loop-settled-init : goal.loop-settled-init

@@ -4,7 +4,7 @@ use Rattle.pylex.proofs.Texts.{after_run}
 use Rattle.pylex.proofs.scanner.Scanner.bump_while.Given as goal
 
 abbrev pub invariant-loop-first : goal.invariant-loop-first
-invariant-loop-first l = after_run (has l.set) l.self ≡ after_run (has l.initial.set) l.initial.self
+invariant-loop-first l = after_run (has l.set) l.ahead ≡ after_run (has l.initial.set) l.initial.ahead
 
 abbrev pub decreases-loop-first : goal.decreases-loop-first
-decreases-loop-first l = length l.self
+decreases-loop-first l = length l.ahead

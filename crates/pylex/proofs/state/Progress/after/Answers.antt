@@ -19,6 +19,9 @@ returns-clause-after c =
       front = c.walk-front.ensures.front;
     })
 
+pub returns-clause-now : goal.returns-clause-now
+returns-clause-now c = place_offset _ _ _ _ c.walk-front.ensures.place c.requires.counted
+
 pub returns-clause-room : goal.returns-clause-room
 returns-clause-room c n room =
     let x : Lexeme = record { «class» = c.args.class; text = chars c.args.text.now } in
