@@ -9,3 +9,11 @@ pub mod CutLemmas
 pub mod Examples
 pub mod ByteLemmas
 pub mod PushReprLemmas
+pub mod BufferLemmas
+pub mod TakingLemmas
+pub mod ComingLemmas
+pub mod StreamLemmas
+pub mod MovesLemmas
+pub mod HeadLemmas
+pub mod OpenLemmas
+pub mod GoodLemmas

@@ -6,3 +6,6 @@ pub mod Cookies
 pub mod Lines
 pub mod Sources
 pub mod Bytes
+pub mod Taking
+pub mod Streams
+pub mod Heads

@@ -181,7 +181,7 @@ pub fn write_all<W: ByteOut>(writer: &mut W, bytes: &[u8]) -> Result<(), WriteFa
 pub const SOURCE_LIMIT: usize = 1_073_741_824;
 
 /// How many bytes are asked of a reader at once.
-const PIECE: usize = 8192;
+pub(crate) const PIECE: usize = 8192;
 
 /// Why a source could not be read whole.
 #[derive(Debug, Drop, Error)]

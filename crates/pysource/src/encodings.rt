@@ -157,7 +157,7 @@ fn declared_first(bytes: &[u8]) -> &[u8]
 
 /// The cookie of a line: its first non-blank is a `#`, and the cookie stands behind that. Nothing
 /// where the line has none.
-fn cookie_of(line: &[u8]) -> &[u8]
+pub(crate) fn cookie_of(line: &[u8]) -> &[u8]
     ensures { result.now ≡ cookie_of line.now }
 {
     let rest = &line[blanks_len(line)..];
@@ -169,7 +169,7 @@ fn cookie_of(line: &[u8]) -> &[u8]
 
 /// Whether the second line is searched too where this first one has no cookie: it holds blanks
 /// alone, or a comment alone.
-fn leads_on(line: &[u8]) -> bool
+pub(crate) fn leads_on(line: &[u8]) -> bool
     ensures { result ≡ leads_on line.now }
 {
     let rest = &line[blanks_len(line)..];
@@ -199,7 +199,7 @@ fn is_spelled(cookie: &[u8], word: &[u8]) -> bool
 }
 
 /// Whether the byte order mark of UTF-8 stands in front.
-fn has_mark(bytes: &[u8]) -> bool
+pub(crate) fn has_mark(bytes: &[u8]) -> bool
     ensures value { result ≡ has_mark bytes.now }
     ensures within { IsTrue result → 3 ≤ length bytes.now }
 {

@@ -3,7 +3,9 @@
 //!
 //! [`decode`] makes a [`Source`] of the bytes of a file: it finds the encoding that the first two
 //! lines declare, and gives the text of the lines before the first faulty one, and that line's
-//! fault. [`place_of`] tells the row and column of an offset of a text. [`repr_text`],
+//! fault. [`LineReader`] gives the same line by line, from a reader that is lent to each call, and
+//! [`Chunks`] from a reader of its own; there a failed read is the fault of the line that it cut
+//! off. [`place_of`] tells the row and column of an offset of a text. [`repr_text`],
 //! [`push_repr`] and [`repr_bytes`] write what Python's `repr` writes. [`ByteIn`] and [`ByteOut`]
 //! are readers and writers of bytes that count their failures, with [`read_all`] and
 //! [`write_all`] over them.
@@ -11,12 +13,14 @@
 //! A contract that says `≡` of a word of `specs/` says that the call computes exactly that.
 #![tactic(auto)]
 
+mod buffers;
 mod bytes;
 mod encodings;
 mod faults;
 mod places;
 mod reprs;
 mod sources;
+mod streams;
 
 pub use bytes::{
     ByteIn, ByteOut, Counted, InputFault, ReadFailed, SOURCE_LIMIT, WriteFailed, read_all,
@@ -27,6 +31,7 @@ pub use faults::{LineError, LineFault};
 pub use places::{Place, place_of};
 pub use reprs::{is_plain_text, push_repr, repr_bytes, repr_text};
 pub use sources::{Source, decode};
+pub use streams::{Chunks, Line, LineReader, Reach, StreamFault};
 
 #[cfg(test)]
 mod fakes;

@@ -199,7 +199,8 @@ fn plain_len(bytes: &[u8]) -> usize
     bytes.iter().take_while(|byte| is_plain(**byte)).count()
 }
 
-/// Whether the `repr` of a text is the text as it is between single quotes.
+/// Whether a text is of printable ASCII without quotes and backslashes. Its `repr` is then the text
+/// as it is between single quotes.
 pub fn is_plain_text(text: &str) -> bool
     ensures { result ≡ list_all is_plain text.now }
 {

@@ -151,7 +151,7 @@ fn invalid(charset: Charset) -> LineError
 }
 
 /// The offset of the first bad byte, over all lines at once, and what is wrong with it.
-fn first_bad(charset: Charset, bytes: &[u8]) -> Option<(usize, LineError)>
+pub(crate) fn first_bad(charset: Charset, bytes: &[u8]) -> Option<(usize, LineError)>
     ensures value { result ≡ first_bad charset bytes.now }
     ensures front { MatchOption result (IsUtf8 bytes.now)
         (λ bad. (bad.0 < length bytes.now) × IsUtf8 (take bad.0 bytes.now)) }

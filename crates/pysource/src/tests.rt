@@ -1,6 +1,8 @@
 //! Rows whose outcome was taken from Python 3.11, and each call once where all goes well.
 ghost use Rattle.std.specs.Prelude.{◌≡◌};
 
+mod streams;
+
 use crate::fakes::{Narrow, Trickle};
 use crate::{
     ByteIn, ByteOut, Counted, Encoding, InputFault, LineError, SourceFault, decode, encoding_of,

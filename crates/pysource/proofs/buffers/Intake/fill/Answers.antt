@@ -1,0 +1,44 @@
+use Rattle.std.proofs.Common.{◌<◌, [], ◌∙◌, sym, take, arith, append-nil, refl}
+use Rattle.std.proofs.lemmas.List.{length-take-le}
+use Rattle.pysource.proofs.ByteLemmas.{Keeps-Consumes}
+use Rattle.pysource.proofs.TakingLemmas.{Takes-some, Takes-end, Takes-failed, Takes-passed}
+use Rattle.pysource.proofs.buffers.Intake.fill.Goals as goal
+use Rattle.pysource.proofs.buffers.Intake.fill.Goals.{in-Ok-eq0, in-Ok, in-Err}
+
+pub returns-then-left-eq0-clause-grows : goal.returns-then-left-eq0-clause-grows
+returns-then-left-eq0-clause-grows g c = record {
+  taken = [];
+  takes = elim c.match-read.branch [
+    | in-Ok-eq0 w ↦
+        let e = rw w.in-Ok-eq0.field-0-test at w.in-Ok-eq0.ensures in
+        rw (c.requires.reading, w.self-is) (Takes-end _ _ _ _ _ e.bytes.0 (e.bytes.1 refl (omega (arith, c.read.auto.buf))) (omega (arith, e.failed)))
+    | in-Ok w ↦
+        let e = w.in-Ok.ensures in
+        let size = length-take-le w.in-Ok.field-0 c.read.new.buf e.bound.0 in
+        let some : 0 < w.in-Ok.field-0 = omega (arith, w.in-Ok.field-0-test.1) in
+        rw (c.requires.reading, w.self-is)
+        (Takes-passed _ _ _ _ _ (take w.in-Ok.field-0 c.read.new.buf) e.bytes.0 (omega (arith, size, some)) (omega (arith, c.requires.within)) (omega (arith, e.failed)))
+    | in-Err w ↦
+        let e = w.in-Err.ensures in
+        rw (c.requires.reading, w.self-is) (Takes-failed _ _ _ _ _ (Keeps-Consumes _ _ e.bytes) e.failed)
+  ];
+  bytes = sym (append-nil c.args.self.now.buffer);
+}
+
+pub returns-in_err-read_from-clause-grows : goal.returns-in_err-read_from-clause-grows
+returns-in_err-read_from-clause-grows g c =
+    let e = c.in_err-read_from.ensures in
+    record {
+      taken = [];
+      takes = rw c.requires.reading (Takes-some _ _ _ _ _ _ [] e.consumes (omega arith) (λ h. h) (omega (arith, e.told)));
+      bytes = e.bytes ∙ sym (append-nil c.args.self.now.buffer);
+    }
+
+pub returns-in-None-clause-grows : goal.returns-in-None-clause-grows
+returns-in-None-clause-grows g c =
+    let e = rw c.in-None.is at c.in_ok-read_from.ensures in
+    record {
+      taken = [];
+      takes = rw c.requires.reading (Takes-failed _ _ _ _ _ e.consumes e.told);
+      bytes = e.bytes ∙ sym (append-nil c.args.self.now.buffer);
+    }

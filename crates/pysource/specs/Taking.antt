@@ -1,0 +1,110 @@
+-- How reads take bytes, and how far they have come.
+use Rattle.std.specs.Prelude.{◌≡◌, ◌≢◌, ◌⊎◌, ℕ, ◌+◌, ◌-◌, ◌<◌, ◌≤◌, max, List, [], ◌++◌, length, Option, None, Some, Result, Ok, Err, slice_index}
+use Rattle.std.specs.Io.KnownBytes.{Consumes, IsAtEnd}
+use Rattle.std.specs.declared.alloc.AllocError.{AllocError}
+use Rattle.pysource.specs.declared.bytes.TheConstants.{SOURCE_LIMIT}
+use Rattle.pysource.specs.declared.buffers.Intake.{Intake}
+use Rattle.pysource.specs.declared.streams.Reach.{Reach}
+use Rattle.pysource.specs.declared.streams.Reach.TheVariants.{Reading, End, Broken, Passed}
+use Rattle.pysource.specs.declared.streams.StreamFault.{StreamFault}
+use Rattle.pysource.specs.declared.streams.StreamFault.TheVariants.{UnsupportedEncoding, BomConflict, Read, Memory}
+
+-- how many reads failed on the way
+abbrev pub fails : Reach → ℕ
+fails Reading = 0
+fails End = 0
+fails Broken = 1
+fails Passed = 0
+
+-- What reads took from a reader (its bytes to come and its failures, before and after): some bytes, and the one that passes the limit, which is lost.
+pub record Takes (come_old come_new : Option (List ℕ)) (told_old told_new : ℕ) (reach_old reach_new : Reach) (count_old count_new : ℕ) (taken : List ℕ) : Type 0 where
+  pub lost : List ℕ
+  pub consumes : Consumes come_old come_new (taken ++ lost)
+  pub count : count_new ≡ count_old + length taken
+  pub within : count_old ≤ SOURCE_LIMIT → count_new ≤ SOURCE_LIMIT
+  pub told : told_new + fails reach_old ≡ told_old + fails reach_new
+  pub passed : 0 < length lost → (reach_new ≡ Passed) × (count_new ≡ SOURCE_LIMIT)
+  pub newly : reach_old ≢ Passed → reach_new ≡ Passed → 0 < length lost
+  -- the end is told only where no byte is to come
+  pub ended : reach_old ≢ End → reach_new ≡ End → IsAtEnd come_new
+  -- once reading is over nothing more is read
+  pub over : reach_old ≢ Reading → (reach_new ≡ reach_old) × (taken ++ lost ≡ []) × (come_new ≡ come_old)
+
+-- what reads took stands behind the bytes that were there
+pub record Grows (come_old come_new : Option (List ℕ)) (told_old told_new : ℕ) (old new : Intake) : Type 0 where
+  pub taken : List ℕ
+  pub takes : Takes come_old come_new told_old told_new old.reach new.reach old.count new.count taken
+  pub bytes : new.buffer ≡ old.buffer ++ taken
+
+-- one read into a buffer
+pub record Gave (come_old come_new : Option (List ℕ)) (told_old told_new most : ℕ) (old new : List ℕ) (count : ℕ) : Type 0 where
+  pub taken : List ℕ
+  pub consumes : Consumes come_old come_new taken
+  pub bytes : new ≡ old ++ taken
+  pub size : length taken ≡ count
+  pub short : count ≤ most
+  pub ended : count ≡ 0 → IsAtEnd come_new
+  pub told : told_new ≡ told_old
+
+-- none was made, or it failed
+pub record GaveNone (come_old come_new : Option (List ℕ)) (told_old told_new : ℕ) (old new : List ℕ) (failed : ℕ) : Type 0 where
+  pub consumes : Consumes come_old come_new []
+  pub bytes : new ≡ old
+  pub told : told_new ≡ told_old + failed
+
+abbrev pub GaveInto : Option (List ℕ) → Option (List ℕ) → ℕ → ℕ → ℕ → List ℕ → List ℕ → Result (Option ℕ) AllocError → Type 0
+GaveInto come_old come_new told_old told_new most old new (Ok (Some count)) = Gave come_old come_new told_old told_new most old new count
+GaveInto come_old come_new told_old told_new most old new (Ok None) = GaveNone come_old come_new told_old told_new old new 1
+GaveInto come_old come_new told_old told_new most old new (Err e) = GaveNone come_old come_new told_old told_new old new 0
+
+-- no line feed stands from `start` up to `end`
+abbrev pub NoLfFrom : ℕ → ℕ → List ℕ → Type 0
+NoLfFrom start end bytes = (k : ℕ) → start ≤ k → k < end → slice_index bytes k ≢ 10
+
+-- a line from `start` up to `end`, the last byte of which is its line feed
+pub record LineAt (start end : ℕ) (bytes : List ℕ) : Type 0 where
+  pub some : start < end
+  pub within : end ≤ length bytes
+  pub before : NoLfFrom start (end - 1) bytes
+  pub at : slice_index bytes (end - 1) ≡ 10
+
+pub record LineThere (start end : ℕ) (old new : Intake) : Type 0 where
+  pub line : LineAt start end new.buffer
+  pub reach : new.reach ≡ old.reach
+  -- no more is taken past the line than one read gives
+  pub ahead : length new.buffer ≤ max (end + 8_192) (length old.buffer)
+
+pub record LineCut (start : ℕ) (new : Intake) : Type 0 where
+  pub none : NoLfFrom start (length new.buffer) new.buffer
+  pub over : new.reach ≢ Reading
+
+-- the line that begins at `start` was searched
+abbrev pub FoundLine : ℕ → Intake → Intake → Result (Option ℕ) AllocError → Type 0
+FoundLine start old new (Ok (Some end)) = LineThere start end old new
+FoundLine start old new (Ok None) = LineCut start new
+FoundLine start old new (Err e) = (new.reach ≡ Reading) × NoLfFrom start (length new.buffer) new.buffer
+
+-- a last line without line feed, or nothing, at the reader's end
+pub record LineLeft (start end : ℕ) (new : Intake) : Type 0 where
+  pub none : NoLfFrom start (length new.buffer) new.buffer
+  pub reach : new.reach ≡ End
+  pub all : end ≡ length new.buffer
+
+-- a line without line feed, where no more can be read
+pub record LineUnread (start : ℕ) (new : Intake) : Type 0 where
+  pub none : NoLfFrom start (length new.buffer) new.buffer
+  pub reach : (new.reach ≡ Broken) ⊎ (new.reach ≡ Passed)
+
+-- a line that decides the encoding
+abbrev pub FoundHead : ℕ → Intake → Intake → Result ℕ StreamFault → Type 0
+FoundHead start old new (Ok end) = LineThere start end old new ⊎ LineLeft start end new
+FoundHead start old new (Err Read) = LineUnread start new
+FoundHead start old new (Err Memory) = new.reach ≡ Reading
+FoundHead start old new (Err (UnsupportedEncoding place)) = ⊥
+FoundHead start old new (Err (BomConflict place)) = ⊥
+
+-- the line that is due
+abbrev pub FoundDue : Intake → Intake → Result (Option ℕ) AllocError → Type 0
+FoundDue old new (Ok (Some end)) = LineThere 0 end old new ⊎ LineLeft 0 end new
+FoundDue old new (Ok None) = LineUnread 0 new
+FoundDue old new (Err e) = NoLfFrom 0 (length new.buffer) new.buffer
