@@ -8,21 +8,20 @@ use Rattle.pylex.specs.declared.entries.ListingFault.{ListingFault}
 use Rattle.pylex.specs.declared.entries.ListingError.TheVariants as errors
 use Rattle.pylex.specs.declared.kinds.Kind.TheVariants as kinds
 use Rattle.pylex.specs.declared.entries.Step.{Step}
-use Rattle.pylex.specs.declared.state.Given.{Given}
+use Rattle.pylex.specs.declared.entries.Step.TheVariants as steps
 use Rattle.pylex.specs.declared.state.Given.TheVariants as gives
 use Rattle.pylex.specs.declared.state.Progress.{Progress}
-use Rattle.pylex.specs.declared.lister.Layout.TheVariants as layouts
-use Rattle.pylex.specs.declared.lister.Meets.{Meets}
-use Rattle.pylex.specs.declared.lister.Meets.TheVariants as meets
+use Rattle.pylex.specs.declared.position.Layout.TheVariants as layouts
+use Rattle.pylex.specs.declared.position.Meets.{Meets}
+use Rattle.pylex.specs.declared.position.Meets.TheVariants as meets
 use Rattle.pylex.specs.Lexemes.{Lexeme, lexeme_at, lexeme_len}
 use Rattle.pylex.specs.Lines.{is_thing, is_thing_class}
 use Rattle.pylex.specs.Cuts.{Cuts, begins_thing}
 use Rattle.pylex.specs.Machine.{State, after, gives, entry_by, layout_of, remaining, behind_steps, pushed, dedents_at, mark_at}
-use Rattle.pylex.specs.Progress.{with_levels, measured, given, Stands, HasRoom, Comes, Walks, stays, silent, level, dedent, EntryAhead, FaultAhead, IndentAhead, DedentAhead, Finds, Settles, IsLayout, is_level}
+use Rattle.pylex.specs.Progress.{with_levels, measured, given, Stands, HasRoom, Comes, Walks, stays, silent, level, dedent, EntryAhead, GivesFault, mismatch, faulty, FaultAhead, IndentAhead, DedentAhead, Finds, Settles, IsLayout, is_level}
 use Rattle.std.proofs.lemmas.Bool.Decides.{nat_tests}
 use Rattle.std.proofs.lemmas.Str.{length-le-encodes}
 use Rattle.pylex.proofs.Cases.{bool_cases}
-use Rattle.pylex.proofs.Steps.{remaining_step}
 use Rattle.pylex.proofs.Measured.{lexeme_front, remaining_lexeme, measured_lexeme, measured_stop}
 use Rattle.pylex.proofs.Layouts.{layout_dedents, layout_mismatch, level_not_above, level-push, pushed_less, dedents-push}
 use Rattle.pylex.proofs.Things.{thing_at, plain_at}
@@ -39,7 +38,7 @@ thing_is cs x e = ⊎_elim
     (bool_cases (begins_thing cs))
 
 -- a thing begins no empty text
-no_thing : {A : Type 0} → begins_thing [] ≡ true → A
+pub no_thing : {A : Type 0} → begins_thing [] ≡ true → A
 unfolding begins_thing
 no_thing t = cc
 
@@ -136,7 +135,7 @@ same_ahead levels p cs q ds c f = walks_steps f (with_levels q (0 ∷ levels)) d
 -- What is met from there is met from here.
 pub finds_on : (levels : List ℕ) (p : Progress) (cs : List ℕ) (q : Progress) (ds : List ℕ) (m : Meets) (r : Progress) (es : List ℕ) → Comes levels p cs q ds → Finds levels q ds m r es → Finds levels p cs m r es
 finds_on levels p cs q ds (meets.Entry e) r es c f = record { there = f.there; before = f.before; lexeme = f.lexeme; comes = comes_on levels p cs q ds f.there f.before c f.comes; settled = f.settled; stands = f.stands; own = f.own; behind = f.behind; goes = f.goes }
-finds_on levels p cs q ds (meets.Fault f) r es c g = record { step = λ fault. same_ahead levels p cs q ds c fault ∙ g.step fault }
+finds_on levels p cs q ds (meets.Fault f) r es c g = record { there = g.there; before = g.before; comes = comes_on levels p cs q ds g.there g.before c g.comes; cause = g.cause }
 finds_on levels p cs q ds meets.Indent r es c f = (comes_on levels p cs q ds r es c f.0, f.1)
 finds_on levels p cs q ds meets.Dedent r es c f = (comes_on levels p cs q ds r es c f.0, f.1)
 finds_on levels p cs q ds meets.Stop r es c f = (comes_on levels p cs q ds r es c f.0, f.1)
@@ -158,9 +157,7 @@ settles_same levels p cs h = record { comes = stays_there levels p cs; settled =
 
 -- A line that closes levels to none that is open.
 pub fault_mismatch : (levels : List ℕ) (p : Progress) (cs : List ℕ) → p.margin ≡ true → begins_thing cs ≡ true → IsLayout p.width levels layouts.Mismatch → FaultAhead levels p cs (record { code = errors.UnindentMismatch; place = p.now.place })
-fault_mismatch levels p cs m t h =
-    let s : State = with_levels p (0 ∷ levels) in
-    record { step = λ fault. measured_thing fault s cs m t ∙ ap (λ ss. behind_steps ss (remaining fault (measured s) cs)) (layout_mismatch s m h.0 h.1) }
+fault_mismatch levels p cs m t h = record { there = p; before = cs; comes = stays_there levels p cs; cause = mismatch m t h.0 h.1 refl }
 
 pub indent_ahead : (levels : List ℕ) (p : Progress) (cs : List ℕ) → p.margin ≡ true → begins_thing cs ≡ true → IsLayout p.width levels layouts.Indent → Comes levels p cs p cs × IndentAhead levels p cs
 indent_ahead levels p cs m t h = (stays_there levels p cs, record { margin = m; thing = t; above = h })
@@ -168,19 +165,27 @@ indent_ahead levels p cs m t h = (stays_there levels p cs, record { margin = m; 
 pub dedent_ahead : (levels : List ℕ) (p : Progress) (cs : List ℕ) → p.margin ≡ true → begins_thing cs ≡ true → IsLayout p.width levels layouts.Dedent → Comes levels p cs p cs × DedentAhead levels p cs
 dedent_ahead levels p cs m t h = (stays_there levels p cs, record { margin = m; thing = t; level = h.0; some = h.1; last = h.2 })
 
-pub lexeme_ahead : (levels : List ℕ) (p : Progress) (bytes front back : List ℕ) (k : Class) (r : Given) → Cuts bytes k front back → (p.margin && begins_thing (chars bytes)) ≡ false → ((ls : List ℕ) → entry_by (with_levels p ls) (record { «class» = k; text = chars front }) ≡ given r) → (fault : Option ListingFault) → remaining fault (with_levels p (0 ∷ levels)) (chars bytes) ≡ behind_steps (given r) (remaining fault (after (with_levels p (0 ∷ levels)) (record { «class» = k; text = chars front })) (chars back))
-lexeme_ahead levels p bytes front back k r c settled gave fault =
-    let s : State = with_levels p (0 ∷ levels) in
-    let x : Lexeme = record { «class» = k; text = chars front } in
-    let at : lexeme_at (chars front ++ chars back) ≡ Some x = ap lexeme_at (sym c.whole) ∙ c.lexeme in
-    let thing : (p.margin && is_thing x) ≡ false = ap (λ b. p.margin && b) (thing_is (chars bytes) x c.lexeme) ∙ settled in
-    ap (remaining fault s) c.whole
-    ∙ remaining_step fault s (chars front) (chars back) x at refl c.nonempty
-    ∙ ap (λ ss. behind_steps ss (remaining fault (after s x) (chars back))) (no_layout s x thing ∙ gave (0 ∷ levels))
-
 -- what a lexeme gives, where the lister came to here from a place before
 pub fault_found : (levels : List ℕ) (p0 : Progress) (cs : List ℕ) (q p : Progress) (bytes front back : List ℕ) (k : Class) (f : ListingFault) → Comes levels p0 cs q (chars bytes) → Settles levels q (chars bytes) p → Cuts bytes k front back → ((ls : List ℕ) → entry_by (with_levels p ls) (record { «class» = k; text = chars front }) ≡ given (gives.Fault f)) → FaultAhead levels p0 cs f
-fault_found levels p0 cs q p bytes front back k f came settles c gave = record { step = λ fault. same_ahead levels p0 cs p (chars bytes) (comes_on levels p0 cs q (chars bytes) p (chars bytes) came settles.comes) fault ∙ lexeme_ahead levels p bytes front back k (gives.Fault f) c settles.settled gave fault }
+fault_found levels p0 cs q p bytes front back k f came settles c gave = record {
+  there = p;
+  before = chars bytes;
+  comes = comes_on levels p0 cs q (chars bytes) p (chars bytes) came settles.comes;
+  cause = faulty (record { «class» = k; text = chars front }) settles.settled c.lexeme (gave (0 ∷ levels));
+}
+
+-- Where a fault is met, that is all there is left.
+fault_given : (levels : List ℕ) (q : Progress) (ds : List ℕ) (f : ListingFault) → GivesFault levels q ds f → (fault : Option ListingFault) → remaining fault (with_levels q (0 ∷ levels)) ds ≡ steps.Fault f ∷ []
+fault_given levels q ds f (mismatch m t a l e) fault =
+    let s : State = with_levels q (0 ∷ levels) in
+    measured_thing fault s ds m t ∙ ap (λ ss. behind_steps ss (remaining fault (measured s) ds)) (layout_mismatch s m a l) ∙ ap (λ g. steps.Fault g ∷ []) (sym e)
+fault_given levels q ds f (faulty x d e g) fault =
+    let s : State = with_levels q (0 ∷ levels) in
+    let thing : (q.margin && is_thing x) ≡ false = ap (λ b. q.margin && b) (thing_is ds x e) ∙ d in
+    remaining_lexeme fault s ds x e ∙ ap (λ ss. behind_steps ss (remaining fault (after s x) (drop (lexeme_len ds) ds))) (no_layout s x thing ∙ g)
+
+pub fault_step : (levels : List ℕ) (p : Progress) (cs : List ℕ) (f : ListingFault) → FaultAhead levels p cs f → (fault : Option ListingFault) → remaining fault (with_levels p (0 ∷ levels)) cs ≡ steps.Fault f ∷ []
+fault_step levels p cs f h fault = same_ahead levels p cs h.there h.before h.comes fault ∙ fault_given levels h.there h.before f h.cause fault
 
 -- the text behind a lexeme
 cut_behind : (bytes front back : List ℕ) (k : Class) → Cuts bytes k front back → chars back ≡ drop (lexeme_len (chars bytes)) (chars bytes)

@@ -31,7 +31,7 @@ use Rattle.pylex.proofs.Resuming.{begun_state}
 use Rattle.pylex.proofs.Cases.{bool_cases}
 use Rattle.pylex.proofs.Ends.{is_whole}
 use Rattle.pylex.proofs.Layouts.{level-push, pushed_above, ascending-push, ascending-front}
-use Rattle.pylex.proofs.Finding.{walks_steps, walks_on, same_ahead, dedent_step}
+use Rattle.pylex.proofs.Finding.{walks_steps, walks_on, same_ahead, fault_step, dedent_step}
 use Rattle.pylex.proofs.Looking.{in_after, walks_in, line_in, left_in, resumed_anew, settled_ready, above_ready, walks_pass}
 use Rattle.pylex.proofs.Cursoring.{rest_in, ahead_is, after_empty, lexeme_first, after_lexeme, indent_first, after_indent, after_first, encoding_first, stands_first}
 use Rattle.pylex.proofs.Counts.{given_within}
@@ -157,7 +157,7 @@ module _ (l : Listed) (p : Progress) (left levels : List ℕ) (nested tail : ℕ
     pub leads_fault : (f : ListingFault) → FaultAhead (take nested levels) p (chars left) f → Leads l (steps.Fault f) l
     leads_fault f h a s =
         let zero_more : l.shown.given ≡ l.shown.given + 0 = omega arith in (
-          ap first_step (rest_left a s ∙ ap (λ n. drop n (remaining source.fault now (chars left))) none ∙ h.step source.fault),
+          ap first_step (rest_left a s ∙ ap (λ n. drop n (remaining source.fault now (chars left))) none ∙ fault_step (take nested levels) p (chars left) f h source.fault),
           subst (λ (n : ℕ). StandsIn l a n) zero_more s,
         )
 

@@ -163,7 +163,7 @@ thing_line_end (c ∷ cs) n h l =
     let p = and_parts (not (is_blank_char c) && not (c == 35)) (not (begins_line_end (c ∷ cs))) h in
     end_front (c ∷ cs) n (not_true (begins_line_end (c ∷ cs)) p.1) l
 
-len_within : (cs : List ℕ) → lexeme_len cs ≤ length cs
+pub len_within : (cs : List ℕ) → lexeme_len cs ≤ length cs
 unfolding lexeme_len
 len_within cs = within (length cs)
   where
@@ -243,7 +243,7 @@ class_by cs new k x t e = let f : Some k ≡ Some x.«class» = t.«class» ∙ 
 some_by : (cs new : List ℕ) (k : Class) → Takes cs (Some k) new → lexeme_at cs ≡ None → ⊥
 some_by cs new k t e = let f : Some k ≡ None = t.«class» ∙ ap (option_map (λ (y : Lexeme). y.«class»)) e in cc
 
-none_at_all : (x : Lexeme) → lexeme_at [] ≡ Some x → ⊥
+pub none_at_all : (x : Lexeme) → lexeme_at [] ≡ Some x → ⊥
 none_at_all x e = let f : None ≡ Some x.«class» = nothing_takes.«class» ∙ ap (option_map (λ (y : Lexeme). y.«class»)) e in cc
 
 -- a lexeme elsewhere is none

@@ -4,6 +4,7 @@ pub mod Chars
 pub mod Lengths
 pub mod Operators
 pub mod Lexemes
+pub mod Chunks
 pub mod Cuts
 pub mod Lines
 pub mod Levels
@@ -17,4 +18,10 @@ pub mod Progress
 pub mod Standing
 pub mod Laws
 pub mod Listers
+pub mod Positions
+pub mod Held
+pub mod Chunked
+pub mod Streamed
+pub mod Ranges
 pub mod Plain
+pub mod OpenLiterals

@@ -1,22 +1,23 @@
 -- How far a lister looks: its progress, its open levels, and what it meets next.
-use Rattle.std.specs.Prelude.{◌≡◌, ℕ, ◌+◌, ◌*◌, ◌^◌, ◌<◌, suc, Bool, true, false, not, ◌&&◌, ◌==◌, nat_lt, List, [], ◌∷◌, ◌++◌, length, drop, count_by, Option, Some, None}
+use Rattle.std.specs.Prelude.{◌≡◌, ℕ, ◌+◌, ◌*◌, ◌^◌, ◌<◌, suc, Bool, true, false, not, ◌&&◌, ◌==◌, nat_lt, List, [], ◌∷◌, ◌++◌, length, drop, count_by, Some, None}
 use Rattle.std.specs.List.{list_all, list_any}
 use Rattle.std.specs.Str.{IsUtf8}
 use Rattle.pylex.specs.declared.entries.Entry.{Entry}
 use Rattle.pylex.specs.declared.entries.ListingFault.{ListingFault}
+use Rattle.pylex.specs.declared.entries.ListingError.TheVariants as errors
 use Rattle.pylex.specs.declared.entries.Step.{Step}
 use Rattle.pylex.specs.declared.entries.Step.TheVariants as steps
 use Rattle.pylex.specs.declared.kinds.Kind.TheVariants as kinds
 use Rattle.pylex.specs.declared.state.Given.{Given}
 use Rattle.pylex.specs.declared.state.Given.TheVariants as gives
 use Rattle.pylex.specs.declared.state.Progress.{Progress}
-use Rattle.pylex.specs.declared.lister.Layout.{Layout}
-use Rattle.pylex.specs.declared.lister.Layout.TheVariants as layouts
-use Rattle.pylex.specs.declared.lister.Meets.{Meets}
-use Rattle.pylex.specs.declared.lister.Meets.TheVariants as meets
+use Rattle.pylex.specs.declared.position.Layout.{Layout}
+use Rattle.pylex.specs.declared.position.Layout.TheVariants as layouts
+use Rattle.pylex.specs.declared.position.Meets.{Meets}
+use Rattle.pylex.specs.declared.position.Meets.TheVariants as meets
 use Rattle.pylex.specs.Lexemes.{Lexeme, lexeme_at, lexeme_len}
 use Rattle.pylex.specs.Cuts.{begins_thing}
-use Rattle.pylex.specs.Machine.{State, after, entry_by, pushed, remaining, mark_at, dedents_at, last_place}
+use Rattle.pylex.specs.Machine.{State, after, entry_by, pushed, mark_at, dedents_at, last_place}
 
 -- the state of a lister, with the levels that are open
 abbrev pub with_levels : Progress → List ℕ → State
@@ -80,6 +81,18 @@ GivesNoText gives.Nothing = Unit {0}
 GivesNoText (gives.Entry e) = e.«from» ≡ e.to
 GivesNoText (gives.Fault f) = Unit {0}
 
+-- a fault is given
+abbrev pub IsGivenFault : Given → Type 0
+IsGivenFault gives.Nothing = ⊥
+IsGivenFault (gives.Entry e) = ⊥
+IsGivenFault (gives.Fault f) = Unit {0}
+
+-- if an entry is given, that is of empty text at an offset
+abbrev pub GivesAt : ℕ → Given → Type 0
+GivesAt o gives.Nothing = Unit {0}
+GivesAt o (gives.Entry e) = (e.«from» ≡ o) × (e.to ≡ o)
+GivesAt o (gives.Fault f) = Unit {0}
+
 -- the DEDENTs of the end and ENDMARKER
 abbrev pub closing : State → List Step
 closing s = dedents_at 0 s.levels s.now.offset (last_place s) ++ mark_at kinds.EndMarker s.now.offset (last_place s) (last_place s) ∷ steps.End ∷ []
@@ -114,8 +127,17 @@ pub record EntryAhead (levels : List ℕ) (p : Progress) (cs : List ℕ) (e : En
   pub behind : ds ≡ drop (lexeme_len before) before
   pub goes : with_levels q (0 ∷ levels) ≡ after (with_levels there (0 ∷ levels)) lexeme
 
+-- what gives a fault where a lister stands: a line whose width is that of no level, or a lexeme
+pub data GivesFault (levels : List ℕ) (q : Progress) (ds : List ℕ) (f : ListingFault) : Type 0 where
+  mismatch : q.margin ≡ true → begins_thing ds ≡ true → is_above q.width (0 ∷ levels) ≡ false → is_level q.width (0 ∷ levels) ≡ false → f ≡ record { code = errors.UnindentMismatch; place = q.now.place } → GivesFault levels q ds f
+  faulty : (x : Lexeme) → (q.margin && begins_thing ds) ≡ false → lexeme_at ds ≡ Some x → entry_by (with_levels q (0 ∷ levels)) x ≡ steps.Fault f ∷ [] → GivesFault levels q ds f
+
+-- a fault, where the lister comes to what gives it
 pub record FaultAhead (levels : List ℕ) (p : Progress) (cs : List ℕ) (f : ListingFault) : Type 0 where
-  pub step : (fault : Option ListingFault) → remaining fault (with_levels p (0 ∷ levels)) cs ≡ steps.Fault f ∷ []
+  pub there : Progress
+  pub before : List ℕ
+  pub comes : Comes levels p cs there before
+  pub cause : GivesFault levels there before f
 
 -- a first thing of a line stands here, whose width is above all levels
 pub record IndentAhead (levels : List ℕ) (q : Progress) (ds : List ℕ) : Type 0 where
@@ -159,3 +181,7 @@ IsLayout w levels layouts.Mismatch = (is_above w (0 ∷ levels) ≡ false) × (i
 pub record Settles (levels : List ℕ) (p : Progress) (cs : List ℕ) (q : Progress) : Type 0 where
   pub comes : Comes levels p cs q cs
   pub settled : (q.margin && begins_thing cs) ≡ false
+
+-- a text stands at the end of another
+abbrev pub Behind : List ℕ → List ℕ → Type 0
+Behind whole rest = (front : List ℕ) × (whole ≡ front ++ rest)

@@ -49,3 +49,15 @@ abbrev pub HasNoText : Step → Type 0
 HasNoText (steps.Entry e) = e.«from» ≡ e.to
 HasNoText steps.End = Unit {0}
 HasNoText (steps.Fault f) = Unit {0}
+
+-- if the step gives an entry, that is of empty text at an offset
+abbrev pub IsAt : ℕ → Step → Type 0
+IsAt o (steps.Entry e) = (e.«from» ≡ o) × (e.to ≡ o)
+IsAt o steps.End = Unit {0}
+IsAt o (steps.Fault f) = Unit {0}
+
+-- the step gives no entry
+abbrev pub IsNoEntry : Step → Type 0
+IsNoEntry (steps.Entry e) = ⊥
+IsNoEntry steps.End = Unit {0}
+IsNoEntry (steps.Fault f) = Unit {0}

@@ -25,7 +25,7 @@ pub struct Entry {
 /// What can be wrong with a source, so that its listing ends there.
 #[derive(Clone, Copy, Debug, PartialEq, Eq)]
 pub enum ListingError {
-    /// A byte that its line may not have.
+    /// A byte that its line may not have, or a line that could not be read whole.
     Line(LineError),
     /// A character that begins no token.
     BadCharacter,

@@ -145,6 +145,7 @@ fn has_number(text: &Scanner) -> bool
 
 /// Takes the longest lexeme that stands here, and says its class; none and nothing where no lexeme stands.
 #[tactic(auto, using(crate::proofs::Union::begins_by))]
+#[inline(always)]
 pub fn lexeme(text: &mut Scanner) -> Option<Class>
     ensures { Takes text.old result text.new }
 {
@@ -178,6 +179,7 @@ pub fn lexeme(text: &mut Scanner) -> Option<Class>
 }
 
 /// The longest lexeme at the front of a text: its class, its text, and what is behind it.
+#[inline(always)]
 pub fn cut(text: &str) -> Option<(Class, &str, &str)>
     ensures some { IfSome result (λ x. Cuts text.now x.0 x.1.now x.2.now) }
     ensures none { IfNone result (lexeme_at (chars text.now) ≡ None) }

@@ -1,6 +1,13 @@
 //! The tokens of a Python source: its lexemes, and the listing of their entries.
+//!
+//! Python library reference, `tokenize`; language reference, 2 "Lexical analysis".
+//!
+//! A [`Lister`] lists a source that is held whole. A [`LineLister`] reads it line by line, from a reader that is lent to
+//! each call, and a [`StreamLister`] from a reader of its own. All three give the same steps of a source, and a [`Cursor`]
+//! of one goes on with another.
 #![tactic(auto)]
 
+mod chunk;
 mod cursors;
 mod entries;
 mod kinds;
@@ -9,8 +16,11 @@ mod lines;
 mod lister;
 mod number;
 mod operators;
+mod position;
 mod scanner;
 mod state;
+mod stream;
+mod stream_lister;
 mod string;
 
 pub use cursors::{Cursor, CursorFault};
@@ -18,3 +28,8 @@ pub use entries::{Entry, ListingError, ListingFault, Step, text};
 pub use kinds::{Exact, Kind};
 pub use lines::{line_text, push_line};
 pub use lister::Lister;
+pub use stream::{LineLister, ResumeFault};
+pub use stream_lister::StreamLister;
+
+#[cfg(test)]
+mod fakes;

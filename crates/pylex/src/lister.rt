@@ -1,257 +1,20 @@
 //! The listing of a source, one entry after another.
 
-ghost use Rattle.std.specs.Prelude.{◌≡◌, ◌≢◌, ◌↔◌, IsTrue, ℕ, ◌+◌, ◌-◌, ◌^◌, ◌<◌, ◌≤◌, List, [], ◌∷◌, ◌++◌, length, take, drop, IfOk, IfErr, OnOk, OnErr, Ok, Err, Option, Some, None, option_map};
+ghost use Rattle.std.specs.Prelude.{◌≡◌, ◌≢◌, ◌↔◌, IsTrue, ◌+◌, ◌-◌, ◌^◌, ◌<◌, ◌≤◌, length, IfOk, IfErr, OnOk, OnErr, Ok, Err};
 ghost use Rattle.std.specs.Str.{chars};
-ghost use Rattle.pylex.specs.Listing.{last_line, listing, in_characters, of_line, stop_fault};
-ghost use Rattle.pylex.specs.Steps.{first_step, HasNoText};
+ghost use Rattle.pylex.specs.Listing.{last_line, listing, in_characters};
 ghost use Rattle.pylex.specs.Laws.{IsLawful, AllLie};
-ghost use Rattle.pylex.specs.Machine.{remaining, behind_steps};
-ghost use Rattle.pylex.specs.Progress.{is_level, IsTop, Stands, IsAscending, IsLayout, Settles, Finds, StopAhead, closing, with_levels, given, GivesNoText};
 ghost use Rattle.pylex.specs.Standing.{IsCursorOf};
-ghost use Rattle.pylex.specs.Listers.{StandsIn, LeadsInto, Moves, AwaitsIndent, shown_at, shown_by};
+ghost use Rattle.pylex.specs.Listers.{StandsIn, LeadsInto, Moves, AwaitsIndent};
 
-use crate::cursors::{Cursor, CursorFault, Shown};
-use crate::entries::{Entry, ListingError, ListingFault, Step};
+use crate::cursors::{Cursor, CursorFault};
+use crate::entries::Step;
 use crate::kinds::Kind;
-use crate::lexeme::{begins_thing, cut};
-use crate::state::{Given, Progress, entry_of, mark};
-use crate::string::{is_open_string, opens_string};
-use pysource::{LineFault, Place, Source};
+use crate::position::Position;
+use crate::state::mark;
+use pysource::{Place, Source};
 use std::alloc::{AllocError, Global};
 use std::marker::Model;
-
-/// What a lister meets next.
-#[derive(Clone, Copy, Debug, PartialEq, Eq)]
-pub enum Meets {
-    Entry(Entry),
-    Fault(ListingFault),
-    /// The first thing of a line that opens a level.
-    Indent,
-    /// The first thing of a line that closes a level.
-    Dedent,
-    /// The end of the lexemes.
-    Stop,
-}
-
-/// What the width of a line asks for.
-#[derive(Clone, Copy, Debug, PartialEq, Eq)]
-pub enum Layout {
-    /// Nothing: it is the width of the last open level.
-    Level,
-    Indent,
-    Dedent,
-    Mismatch,
-}
-
-/// The last open level, by the levels above 0.
-fn top_level(levels: &[usize]) -> usize
-    ensures { IsTop levels.now result }
-{
-    match levels.last() {
-        Some(top) => *top,
-        None => 0,
-    }
-}
-
-/// Whether a width is that of an open level.
-fn is_level(width: usize, levels: &[usize]) -> bool
-    ensures { result ≡ is_level width (0 ∷ levels.now) }
-{
-    width == 0 || levels.contains(&width)
-}
-
-/// The layout of a line by its width and the open levels above 0.
-#[tactic(auto, using(crate::proofs::Tops::top_indent, crate::proofs::Tops::top_level, crate::proofs::Tops::top_dedent, crate::proofs::Tops::top_mismatch))]
-fn layout_for(width: usize, levels: &[usize]) -> Layout
-    requires { IsAscending 0 levels.now }
-    ensures { IsLayout width levels.now result }
-{
-    let top = top_level(levels);
-    if width > top {
-        Layout::Indent
-    } else if width == top {
-        Layout::Level
-    } else if is_level(width, levels) {
-        Layout::Dedent
-    } else {
-        Layout::Mismatch
-    }
-}
-
-/// Goes past the layout before the first thing of a logical line, or tells what it is.
-fn line_start(now: Progress, levels: &[usize], text: &str) -> Result<Progress, Meets>
-    requires stands { Stands now text.now }
-    requires ascending { IsAscending 0 levels.now }
-    ensures ok { IfOk result (λ p. Settles levels.now now (chars text.now) p × Stands p text.now) }
-    ensures err { IfErr result (λ m. Finds levels.now now (chars text.now) m now (chars text.now)) }
-{
-    if !now.margin || !begins_thing(text) {
-        return Ok(now);
-    }
-    match layout_for(now.width, levels) {
-        Layout::Level => Ok(now.measured()),
-        Layout::Indent => Err(Meets::Indent),
-        Layout::Dedent => Err(Meets::Dedent),
-        Layout::Mismatch => Err(Meets::Fault(ListingFault {
-            code: ListingError::UnindentMismatch,
-            place: now.now.place,
-        })),
-    }
-}
-
-/// Goes on to what a lister meets next.
-fn find<'a>(start: Progress, levels: &[usize], text: &'a str) -> (Meets, Progress, &'a str)
-    requires stands { Stands start text.now }
-    requires ascending { IsAscending 0 levels.now }
-    ensures finds { Finds levels.now start (chars text.now) result.0 result.1 (chars result.2.now) }
-    ensures stands { Stands result.1 result.2.now }
-{
-    let mut now = start;
-    let mut rest = text;
-    loop {
-        now = match line_start(now, levels, rest) {
-            Ok(settled) => settled,
-            Err(meets) => return (meets, now, rest),
-        };
-        let Some((class, front, back)) = cut(rest) else {
-            return (Meets::Stop, now, rest);
-        };
-        let ahead = now.after(class, front);
-        match now.give(class, front, ahead.now) {
-            Given::Fault(fault) => return (Meets::Fault(fault), now, rest),
-            Given::Entry(entry) => return (Meets::Entry(entry), ahead, back),
-            Given::Nothing => {
-                now = ahead;
-                rest = back;
-            }
-        }
-    }
-}
-
-/// What a lister meets next. Where entries of the end were given that is the end.
-fn meet<'a>(
-    tail: usize,
-    start: Progress,
-    levels: &[usize],
-    text: &'a str,
-) -> (Meets, Progress, &'a str)
-    requires stands { Stands start text.now }
-    requires ascending { IsAscending 0 levels.now }
-    requires stop { 0 < tail → StopAhead start (chars text.now) }
-    ensures finds { Finds levels.now start (chars text.now) result.0 result.1 (chars result.2.now) }
-    ensures stands { Stands result.1 result.2.now }
-    ensures stop { 0 < tail → result.0 ≡ Meets.Stop }
-{
-    if tail > 0 {
-        return (Meets::Stop, start, text);
-    }
-    find(start, levels, text)
-}
-
-/// The fault of a line, as one of the listing.
-fn line_fault(fault: LineFault) -> ListingFault
-    ensures { result ≡ of_line fault }
-{
-    ListingFault {
-        code: ListingError::Line(fault.code),
-        place: fault.place,
-    }
-}
-
-#[tactic(auto, unfolding(crate::specs::Listing::stop_fault))]
-/// The fault where no lexeme stands before the text's end.
-fn stop_fault_at(place: Place, left: &str, fault: Option<LineFault>) -> ListingFault
-    ensures { stop_fault (option_map of_line fault) place (chars left.now) ≡ Step.Fault result }
-{
-    if !opens_string(left) {
-        return ListingFault {
-            code: ListingError::BadCharacter,
-            place,
-        };
-    }
-    if !is_open_string(left) {
-        return ListingFault {
-            code: ListingError::UnterminatedString,
-            place,
-        };
-    }
-    match fault {
-        Some(fault) => line_fault(fault),
-        None => ListingFault {
-            code: ListingError::EofInString,
-            place,
-        },
-    }
-}
-
-/// What comes where the lexemes end: a fault, or what the text's end gives its last line.
-fn stop(now: Progress, left: &str, fault: Option<LineFault>) -> Given
-    requires stands { Stands now left.now }
-    requires stop { StopAhead now (chars left.now) }
-    ensures steps { (levels : List ℕ) → remaining (option_map of_line fault) (with_levels now levels) (chars left.now) ≡ behind_steps (given result) (closing (with_levels now levels)) }
-    ensures empty { GivesNoText result }
-{
-    if !left.is_empty() {
-        return Given::Fault(stop_fault_at(now.now.place, left, fault));
-    }
-    if let Some(fault) = fault {
-        return Given::Fault(line_fault(fault));
-    }
-    if now.is_open() {
-        return Given::Fault(ListingFault {
-            code: ListingError::EofInStatement,
-            place: now.row_after(),
-        });
-    }
-    now.last_line_end()
-}
-
-/// The step of the end behind the line end, by how many of these steps were given: a DEDENT for each open level, and then
-/// the end marker.
-fn closing_step(now: Progress, nested: usize, closed: usize) -> Step
-    requires { now.now.place.row < 2 ^ 62 }
-    ensures step { (levels : List ℕ) → IsAscending 0 levels → length levels ≡ nested → result ≡ first_step (drop closed (closing (with_levels now (0 ∷ levels)))) }
-    ensures empty { HasNoText result }
-{
-    let place = now.last_place();
-    let offset = now.now.offset;
-    if closed < nested {
-        Step::Entry(mark(Kind::Dedent, offset, place, place))
-    } else if closed == nested {
-        Step::Entry(mark(Kind::EndMarker, offset, place, place))
-    } else {
-        Step::End
-    }
-}
-
-/// The step that is due where the lexemes end, by how many of the entries there were given.
-fn end_step(now: Progress, left: &str, fault: Option<LineFault>, nested: usize, tail: usize) -> Step
-    requires stands { Stands now left.now }
-    requires stop { StopAhead now (chars left.now) }
-    ensures step { (levels : List ℕ) → IsAscending 0 levels → length levels ≡ nested → tail < length (remaining (option_map of_line fault) (with_levels now (0 ∷ levels)) (chars left.now)) → result ≡ first_step (drop tail (remaining (option_map of_line fault) (with_levels now (0 ∷ levels)) (chars left.now))) }
-    ensures empty { HasNoText result }
-{
-    match stop(now, left, fault) {
-        Given::Fault(fault) => Step::Fault(fault),
-        Given::Entry(entry) if tail == 0 => Step::Entry(entry),
-        Given::Entry(_) => closing_step(now, nested, tail - 1),
-        Given::Nothing => closing_step(now, nested, tail),
-    }
-}
-
-/// Opens a level above the first ones. Where more stood there no memory is taken.
-fn open_level(levels: &mut Vec<usize>, nested: usize, width: usize) -> Result<(), AllocError>
-    requires { nested ≤ length levels.old.items }
-    ensures ok { OnOk result (levels.new.items ≡ take nested levels.old.items ++ width ∷ []) }
-    ensures same { OnErr result (levels.new.items ≡ levels.old.items) }
-{
-    if nested == levels.len() {
-        return levels.push(width).map_err(|_| AllocError);
-    }
-    levels.truncate(nested + 1);
-    levels[nested] = width;
-    Ok(())
-}
 
 /// The line that a text ends in.
 fn last_line(text: &str) -> &str
@@ -268,30 +31,20 @@ fn last_line(text: &str) -> &str
 #[derive(Drop)]
 pub struct Lister<'a> {
     source: &'a Source,
-    /// How many entries were given.
-    given: usize,
-    /// The point of the lister's cursor.
-    point: Shown,
-    /// The levels above 0 that are open at the point.
-    levels: Vec<usize>,
-    /// How far the lister has looked from there: past lexemes that give nothing, and DEDENTs that were given.
-    now: Progress,
+    position: Position,
+    /// The text behind what the lister has looked at.
     left: &'a str,
-    /// How many of the levels are open there.
-    nested: usize,
-    /// How many entries of the end were given.
-    tail: usize,
 }
 
 impl<'a> Model for Lister<'a> {
-    ghost use Rattle.std.specs.Prelude.{◌+◌, ◌-◌, length};
-    ghost use Rattle.pylex.specs.Listers.{Listed, Keeps, shown_by};
+    ghost use Rattle.pylex.specs.Listers.{Listed};
+    ghost use Rattle.pylex.specs.Positions.{shown_from, Holds};
 
     ghost Value = { Listed };
 
-    ghost view = { λ l. record { source = l.source.now; shown = shown_by l.given l.point l.levels.items ((length l.levels.items - l.nested) + l.tail) } };
+    ghost view = { λ l. record { source = l.source.now; shown = shown_from l.position } };
 
-    ghost invariant = { λ l. Keeps (record { source = l.source.now; shown = shown_by l.given l.point l.levels.items ((length l.levels.items - l.nested) + l.tail) }) l.now l.left.now l.levels.items l.nested l.tail };
+    ghost invariant = { λ l. Holds l.source.now l.position l.left.now };
 }
 
 impl<'a> Lister<'a> {
@@ -302,16 +55,10 @@ impl<'a> Lister<'a> {
         ensures lawful { IsLawful (in_characters source.now) }
         ensures lies { AllLie source.now.text (listing (in_characters source.now)) }
     {
-        let now = Progress::start();
         Lister {
             source,
-            given: 0,
-            point: Shown::at(now),
-            levels: Vec::new(alloc),
-            now,
+            position: Position::start(alloc),
             left: source.text(),
-            nested: 0,
-            tail: 0,
         }
     }
 
@@ -325,79 +72,32 @@ impl<'a> Lister<'a> {
         ensures same { OnErr result (self.new ≡ self.old) }
         ensures indent { OnErr result (AwaitsIndent self.old) }
     {
-        if self.given == 0 {
-            self.given = 1;
+        if self.position.given == 0 {
+            self.position.given = 1;
             let origin = Place { row: 0, column: 0 };
             return Ok(Step::Entry(mark(Kind::Encoding, 0, origin, origin)));
         }
-        let levels = &self.levels.as_slice()[..self.nested];
-        let (meets, now, left) = meet(self.tail, self.now, levels, self.left);
-        match meets {
-            Meets::Entry(entry) => {
-                self.levels.truncate(self.nested);
-                self.given += 1;
-                self.point = Shown::at(now);
-                self.now = now.begun_anew();
-                self.left = left;
-                Ok(Step::Entry(entry))
-            }
-            Meets::Fault(fault) => Ok(Step::Fault(fault)),
-            Meets::Indent => {
-                open_level(&mut self.levels, self.nested, now.width)?;
-                let measured = now.measured();
-                self.given += 1;
-                self.point = Shown::at(measured);
-                self.now = measured.begun_anew();
-                self.left = left;
-                self.nested = self.levels.len();
-                Ok(Step::Entry(entry_of(Kind::Indent, None, now.line, now.now)))
-            }
-            Meets::Dedent => {
-                self.given += 1;
-                self.now = now;
-                self.left = left;
-                self.nested -= 1;
-                let place = now.now.place;
-                Ok(Step::Entry(mark(Kind::Dedent, now.now.offset, place, place)))
-            }
-            Meets::Stop => {
-                let step = end_step(now, left, self.source.line_fault(), self.nested, self.tail);
-                if let Step::Entry(_) = step {
-                    self.given += 1;
-                    self.now = now;
-                    self.left = left;
-                    self.tail += 1;
-                }
-                Ok(step)
-            }
+        let (meets, now, left) = self.position.meet(self.left);
+        let fault = self.source.line_fault();
+        let step = self.position.go(meets, now, left, fault)?;
+        if let Step::Entry(_) = step {
+            self.left = left;
         }
-    }
-
-    /// How many entries without text were given behind the point.
-    fn skip(&self) -> usize
-        ensures { result ≡ self.entry.now.shown.skip }
-    {
-        self.levels.len() - self.nested + self.tail
+        Ok(step)
     }
 
     /// Whether this is the lister's cursor.
     fn shows(&self, cursor: &Cursor) -> bool
         ensures { IsTrue result ↔ (cursor.now ≡ self.entry.now.shown) }
     {
-        cursor.is_at(self.given, self.point, self.levels.as_slice(), self.skip())
+        self.position.is_at(cursor)
     }
 
     /// The lister's cursor: what is kept of the listing behind the entries that were given.
     pub fn cursor(&self) -> Result<Cursor, AllocError>
         ensures { IfOk result (λ cursor. cursor ≡ self.entry.now.shown) }
     {
-        Cursor::at(
-            *self.levels.allocator(),
-            self.given,
-            self.point,
-            self.levels.as_slice(),
-            self.skip(),
-        )
+        self.position.cursor()
     }
 
     /// Begins at a cursor's point, with none of the entries given that stand behind it.
@@ -415,13 +115,15 @@ impl<'a> Lister<'a> {
         let nested = levels.len();
         Ok(Lister {
             source,
-            given: cursor.given() - cursor.skip(),
-            point,
-            levels,
-            now: point.progress(last_line(before)),
+            position: Position {
+                given: cursor.given() - cursor.skip(),
+                point,
+                levels,
+                now: point.progress(last_line(before)),
+                nested,
+                tail: 0,
+            },
             left,
-            nested,
-            tail: 0,
         })
     }
 

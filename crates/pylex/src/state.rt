@@ -150,6 +150,7 @@ fn walk_chars(place: Place, front: Front, text: &str) -> (Place, Front)
 }
 
 /// The place after a text that begins at a place, and what its line begins with.
+#[inline(always)]
 fn walk(place: Place, front: Front, text: &str) -> (Place, Front)
     requires row { place.row + length text.now < 2 ^ 63 }
     requires column { place.column + length text.now < 2 ^ 63 }
@@ -351,6 +352,7 @@ impl Progress {
 
     #[tactic(auto, unfolding(crate::specs::Machine::entry_by))]
     /// What a lexeme gives that ends at a point: an entry, nothing, or the fault of a closing bracket where none is open.
+    #[inline(always)]
     pub fn give(self, class: Class, text: &str, end: Point) -> Given
         requires room { HasRoom self (length text.now) }
         requires end { end ≡ past self.now (chars text.now) }
@@ -430,6 +432,7 @@ impl Progress {
     }
 
     /// How far the lister has come after a lexeme.
+    #[inline(always)]
     pub fn after(self, class: Class, text: &str) -> Progress
         requires room { HasRoom self (length text.now) }
         requires counted { bytes_in (chars text.now) ≡ length text.now }

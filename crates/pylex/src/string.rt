@@ -1,15 +1,18 @@
 //! Strings: where one opens, and where the longest one ends (reference 2.4.1).
 
-ghost use Rattle.std.specs.Prelude.{◌≡◌, ◌||◌, ◌==◌, true, false, drop, IfSome, IfNone};
+ghost use Rattle.std.specs.Prelude.{◌≡◌, ◌||◌, ◌==◌, true, false, ℕ, List, ◌++◌, drop, None, IfSome, IfNone, IsTrue};
 ghost use Rattle.std.specs.Str.{chars};
 ghost use Rattle.pylex.specs.Chars.{has, begins};
 ghost use Rattle.pylex.specs.Strings.{begins_quote, counts_as_string, opens_string, units};
-ghost use Rattle.pylex.specs.Lexemes.{ends_by_join, is_open_string};
+ghost use Rattle.pylex.specs.Lexemes.{lexeme_at, ends_by_join, is_open_string};
+ghost use Rattle.pylex.specs.Chunks.{EndsLine};
+ghost use Rattle.pylex.specs.OpenLiterals.{IsOpenBy};
 ghost use Rattle.pylex.specs.Lengths.{Closed, unit_len, single_len, triple_len, quoted_len, Opens, longest, begins_pair, begins_join, begins_quotes};
 
 use crate::scanner::{CharSet, Scanner};
 
 /// Takes the unit that stands here: a backslash and the character or the CR LF after it, or one other character.
+#[inline(always)]
 fn unit(text: &mut Scanner)
     ensures { text.new ≡ drop (unit_len text.old) text.old }
 {
@@ -170,19 +173,57 @@ pub fn opens_string(text: &str) -> bool
     opening(&Scanner::new(text)).is_some()
 }
 
+/// A literal that is open at the end of some lines: its quote, and whether it opens in three of them.
+#[derive(Clone, Copy, Debug, PartialEq, Eq)]
+pub struct OpenLiteral {
+    quote: char,
+    triple: bool,
+}
+
+/// The literal that opens at the front of a text and is open up to its end (see is_open_string), if one does.
+///
+/// Only asked where no lexeme stands at the text's front.
+pub fn open_literal(text: &str) -> Option<OpenLiteral>
+    ensures some { IfSome result (λ o. IsOpenBy o (chars text.now)) }
+    ensures none { IfNone result (is_open_string (chars text.now) ≡ false) }
+{
+    let mut left = Scanner::new(text);
+    let Some(prefix_len) = opening(&left) else {
+        return None;
+    };
+    left.bump_count(prefix_len);
+    let quote = quote_here(&left);
+    let triple = left.has_three(quote);
+    if is_open(&mut left, quote) {
+        return Some(OpenLiteral { quote, triple });
+    }
+    None
+}
+
+impl OpenLiteral {
+    /// Whether it is still open behind one more line.
+    pub fn goes_on(self, line: &str) -> bool
+        ensures { IsTrue result → (cs : List ℕ) → EndsLine cs → IsOpenBy self cs → lexeme_at cs ≡ None → IsOpenBy self (cs ++ chars line.now) × (lexeme_at (cs ++ chars line.now) ≡ None) }
+    {
+        // What isn't a quote opens nothing.
+        if !CharSet::Quote.has(self.quote) {
+            return false;
+        }
+        let mut left = Scanner::new(line);
+        if self.triple {
+            return !close_triple(&mut left, self.quote);
+        }
+        ends_by_join(&mut left, self.quote)
+    }
+}
+
 /// Whether a literal that opens at the front of a text, and doesn't end in it, is open up to the text's end, so that
 /// more text could still end it: one in three quotes always, one in single quotes directly after a backslash and a
 /// line end.
 pub fn is_open_string(text: &str) -> bool
     ensures { result ≡ is_open_string (chars text.now) }
 {
-    let mut left = Scanner::new(text);
-    let Some(prefix_len) = opening(&left) else {
-        return false;
-    };
-    left.bump_count(prefix_len);
-    let quote = quote_here(&left);
-    is_open(&mut left, quote)
+    open_literal(text).is_some()
 }
 
 #[cfg(test)]
@@ -208,6 +249,49 @@ mod tests {
             "'", "'a\n", "'a\\", "'a\\\nb", "'a\\\n\n", "a\\\n", "''\\\n",
         ] {
             assert!(rt; !is_open_string(text), "{text}");
+        }
+    }
+
+    #[test]
+    fn tells_which_literal_is_open(rt: HostRuntime) {
+        let rows = [
+            ("'''", '\'', true),
+            ("rb\"\"\"a\n", '"', true),
+            ("'a\\\n", '\'', false),
+            ("u\"\\\r\n", '"', false),
+        ];
+        for (text, quote, triple) in rows {
+            assert_eq!(rt;
+                open_literal(text),
+                Some(OpenLiteral { quote, triple }),
+                "{text}"
+            );
+        }
+    }
+
+    #[test]
+    fn tells_where_an_open_literal_goes_on(rt: HostRuntime) {
+        let rows = [
+            ("'''\n", "a\n", true),
+            ("'''\n", "\"\"\" '' \\'''\n", true),
+            ("rb\"\"\"\r\n", "\\\"\"\"\\\r\n", true),
+            ("\"\"\"\\\n", "\"\" '''\\\n", true),
+            ("'''\n", "a'''\n", false),
+            ("\"\"\"\r\n", "\\\\\"\"\"\r\n", false),
+            ("'\\\n", "a\\\n", true),
+            ("'a\\\n", "\\'\" \\\\\\\n", true),
+            ("f\"\\\r\n", "\\\"'\\\r\n", true),
+            ("'\\\n", "\\\n", true),
+            ("'\\\n", "a\n", false),
+            ("'\\\n", "a\\\\\n", false),
+            ("\"\\\r\n", "a\"\\\r\n", false),
+        ];
+        for (text, line, goes) in rows {
+            assert_eq!(rt;
+                open_literal(text).map(|o| o.goes_on(line)),
+                Some(goes),
+                "{text}{line}"
+            );
         }
     }
 }

@@ -1,10 +1,8 @@
-use Rattle.std.proofs.Common.{◌+◌, ◌-◌, length}
-use Rattle.pylex.specs.Listers.{Listed, shown_by}
-use Rattle.pylex.proofs.Moving.{row_from_one}
+use Rattle.pylex.proofs.Placing.{has_place, has_row}
 use Rattle.pylex.proofs.lister.Lister.cursor.Goals as goal
 
-pub at-requires-clause-row : goal.at-requires-clause-row
-at-requires-clause-row c =
-    let ls = c.self.inside.levels.items in
-    let l : Listed = record { source = c.self.inside.source.now; shown = shown_by c.self.inside.given c.self.inside.point ls ((length ls - c.self.inside.nested) + c.self.inside.tail) } in
-    row_from_one l c.self.inside.now c.self.inside.left.now ls c.self.inside.nested c.self.inside.tail c.self.invariant
+pub cursor-requires-clause-place : goal.cursor-requires-clause-place
+cursor-requires-clause-place c = has_place c.self.inside.source.now c.self.inside.position c.self.inside.left.now c.self.invariant
+
+pub cursor-requires-clause-row : goal.cursor-requires-clause-row
+cursor-requires-clause-row c = has_row c.self.inside.source.now c.self.inside.position c.self.inside.left.now c.self.invariant

@@ -1,0 +1,6 @@
+-- A text that is read by whole lines.
+use Rattle.std.specs.Prelude.{◌≡◌, ℕ, List, [], ◌∷◌, ◌++◌}
+
+-- characters whose last is a line feed
+abbrev pub EndsLine : List ℕ → Type 0
+EndsLine cs = (front : List ℕ) × (cs ≡ front ++ 10 ∷ [])

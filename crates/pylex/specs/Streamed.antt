@@ -1,0 +1,231 @@
+-- How a lister stands that reads its source line by line.
+use Rattle.std.specs.Prelude.{◌≡◌, ◌≢◌, ◌⊎◌, ◌||◌, ◌==◌, ℕ, ◌+◌, ◌≤◌, Bool, true, List, [], ◌++◌, take, length, drop, string_bytes, suc, false, ◌<◌, slice_get, Option, Some, None, Result, Ok, IfOk, OnErr}
+use Rattle.std.specs.declared.alloc.AllocError.{AllocError}
+use Rattle.std.specs.Str.{chars, IsUtf8}
+use Rattle.pysource.specs.Parts.{Parts}
+use Rattle.pysource.specs.Streams.{Buffered, Follows, comes, ends_line, head_len, stream_of, unread, Reads, Refuses, Coming}
+use Rattle.pysource.specs.Taking.{Takes}
+use Rattle.pysource.specs.declared.streams.Reach.{Reach}
+use Rattle.pylex.specs.declared.stream.ResumeFault.{ResumeFault}
+use Rattle.pylex.specs.declared.stream.ResumeFault.TheVariants as resumes
+use Rattle.pysource.specs.declared.bytes.TheConstants.{SOURCE_LIMIT}
+use Rattle.pysource.specs.declared.faults.LineError.TheVariants.{Unread}
+use Rattle.pysource.specs.declared.faults.LineFault.{LineFault}
+use Rattle.pysource.specs.declared.streams.Line.{Line}
+use Rattle.pysource.specs.declared.streams.Line.TheVariants as lines
+use Rattle.pylex.specs.declared.position.Meets.{Meets}
+use Rattle.pylex.specs.declared.position.Meets.TheVariants as met
+use Rattle.pylex.specs.declared.stream.Found.{Found}
+use Rattle.pylex.specs.Lexemes.{is_open_string, left_by_cut}
+use Rattle.pylex.specs.Progress.{Finds, HasRoom, Stands, StopAhead}
+use Rattle.pysource.specs.declared.streams.Reach.TheVariants as reach
+use Rattle.pysource.specs.declared.streams.StreamFault.TheVariants as faults
+use Rattle.pylex.specs.declared.entries.Entry.{Entry}
+use Rattle.pylex.specs.declared.entries.ListingError.{ListingError}
+use Rattle.pylex.specs.declared.entries.ListingError.TheVariants as errors
+use Rattle.pylex.specs.declared.entries.ListingFault.{ListingFault}
+use Rattle.pylex.specs.declared.entries.Step.{Step}
+use Rattle.pylex.specs.declared.entries.Step.TheVariants as steps
+use Rattle.pylex.specs.declared.kinds.Kind.TheVariants as kinds
+use Rattle.pylex.specs.declared.state.Progress.{Progress}
+use Rattle.pylex.specs.Ranges.{IsMeasuring}
+use Rattle.pylex.specs.declared.chunk.Chunk.{Chunk}
+use Rattle.pylex.specs.declared.position.Position.{Position}
+use Rattle.pylex.specs.Positions.{shown_from}
+use Rattle.pylex.specs.Chunked.{IsChunk}
+use Rattle.pylex.specs.Held.{Ahead, IsJoined, LexedTo}
+use Rattle.pylex.specs.Cursors.{CursorParts}
+use Rattle.pylex.specs.Listing.{listing, in_characters}
+use Rattle.pylex.specs.Steps.{entries_of, entries_in, fault_of}
+use Rattle.pylex.specs.Laws.{LiesIn}
+use Rattle.pylex.specs.Standing.{IsCursorOf}
+use Rattle.pylex.specs.Listers.{StandsIn, Keeps}
+
+-- A lister over lines: the lines that are to come, the cursor that it shows, the text that it holds and where that begins, how far it has looked, and the entry that it gave last.
+pub record Streamed : Type 0 where
+  pub lines : Buffered
+  pub shown : CursorParts
+  pub base : ℕ
+  pub held : List ℕ
+  pub left : List ℕ
+  pub now : Progress
+  pub levels : List ℕ
+  pub nested : ℕ
+  pub tail : ℕ
+  pub last : Option Entry
+
+-- what may follow the bytes that were taken, of a source within its limit
+abbrev pub Continues : Buffered → List ℕ → Bool → Type 0
+Continues b more broken = Follows b more broken × (b.count + length more ≤ SOURCE_LIMIT)
+
+-- what is to come behind the text that is held
+abbrev pub ahead : Streamed → List ℕ → Bool → Coming
+ahead v more broken = comes v.lines more broken
+
+-- an entry's text stands in a text that is held from an offset on
+pub record IsHeld (base : ℕ) (held : List ℕ) (e : Entry) : Type 0 where
+  pub begins : base ≤ e.«from»
+  pub ends : e.to ≤ base + length held
+
+-- if an entry was given last, its text is held, and for the encoding, which has none in the source, nothing
+abbrev pub HoldsLast : ℕ → List ℕ → List ℕ → Option Entry → Type 0
+HoldsLast base held text None = Unit {0}
+HoldsLast base held text (Some e) = ((e.kind ≡ kinds.Encoding) × (held ≡ [])) ⊎ ((e.kind ≢ kinds.Encoding) × IsHeld base held e × LiesIn text e)
+
+-- Where these bytes follow, and perhaps a failed read, the lister stands in a source of which k entries have been given: the text that it holds is whole lines of that, and behind them comes what is to come.
+pub record StreamsIn (v : Streamed) (p : Parts) (k : ℕ) (more : List ℕ) (broken : Bool) : Type 0 where
+  pub before : List ℕ
+  pub whole : p.text ≡ before ++ (v.held ++ (ahead v more broken).text)
+  pub base : length before ≡ v.base
+  pub begins : (before ≡ []) ⊎ (ends_line before ≡ true)
+  -- what stands before is lexed whole, and what is held are lines that literals join
+  pub closed : left_by_cut (chars before) ≡ []
+  pub joined : IsJoined before v.held
+  pub ends : (v.held ≡ []) ⊎ ((ends_line v.held ≡ true) ⊎ ((ahead v more broken).text ≡ []))
+  pub encoding : p.encoding ≡ v.lines.encoding
+  pub fault : p.fault ≡ (ahead v more broken).fault
+  pub stands : StandsIn (record { source = p; shown = v.shown }) (in_characters p) k
+  pub keeps : Keeps (record { source = p; shown = v.shown }) v.now (v.left ++ (ahead v more broken).text) v.levels v.nested v.tail
+  pub measuring : IsMeasuring v.now
+  pub last : HoldsLast v.base v.held p.text v.last
+
+-- a lister by its position, the lines that it holds, and the entry that it gave last
+abbrev pub streamed : Position → Chunk → Option Entry → Streamed
+streamed p c last = record {
+  lines = c.lines;
+  shown = shown_from p;
+  base = c.base;
+  held = string_bytes c.text;
+  left = drop c.at (string_bytes c.text);
+  now = p.now;
+  levels = p.levels.items;
+  nested = p.nested;
+  tail = p.tail;
+  last = last;
+}
+
+-- a lister that stands in a source whatever follows
+pub record IsStreaming (p : Position) (c : Chunk) (last : Option Entry) : Type 0 where
+  pub chunk : IsChunk c
+  pub text : IsUtf8 (string_bytes c.text)
+  pub within : c.lines.count ≤ SOURCE_LIMIT
+  pub left : IsUtf8 (drop c.at (string_bytes c.text))
+  pub lexed : LexedTo (chars (drop c.at (string_bytes c.text))) (chars (string_bytes c.text))
+  pub joined : IsJoined [] (string_bytes c.text)
+  pub fresh : p.given ≡ 0 → string_bytes c.text ≡ []
+  pub stands : (more : List ℕ) (broken : Bool) → Continues c.lines more broken → (s : Parts) × StreamsIn (streamed p c last) s p.given more broken
+
+-- nothing is left, or a literal that is open
+abbrev pub lacks : List ℕ → Bool
+lacks left = (length left == 0) || is_open_string (chars left)
+
+-- a stop is one of the source: no literal is open there, or nothing follows and the fault is the source's
+abbrev pub Stops : Meets → List ℕ → List ℕ → Option LineFault → Option LineFault → Type 0
+Stops m left coming fault own = m ≡ met.Stop → (lacks left ≡ false) ⊎ ((coming ≡ []) × (own ≡ fault))
+
+-- what is met in the lines held, and where
+pub record Looks (p : Position) (c : Chunk) (f : Found) : Type 0 where
+  pub at : f.at ≤ length (string_bytes c.text)
+  pub left : IsUtf8 (drop f.at (string_bytes c.text))
+  pub finds : Finds (take p.nested p.levels.items) p.now (chars (drop c.at (string_bytes c.text))) f.meets f.now (chars (drop f.at (string_bytes c.text)))
+  pub stands : Stands f.now (drop f.at (string_bytes c.text))
+  pub room : (n : ℕ) → HasRoom p.now (length (drop c.at (string_bytes c.text)) + n) → HasRoom f.now (length (drop f.at (string_bytes c.text)) + n)
+  pub tail : 0 < p.tail → (f.meets ≡ met.Stop) × (f.now ≡ p.now) × (drop f.at (string_bytes c.text) ≡ drop c.at (string_bytes c.text))
+
+-- that is met in the source
+pub record MeetsIn (p : Position) (c : Chunk) (f : Found) : Type 0 where
+  pub looks : Looks p c f
+  pub stops : (s : Parts) (k : ℕ) (more : List ℕ) (broken : Bool) → Continues c.lines more broken → StreamsIn (streamed p c None) s k more broken → Stops f.meets (drop f.at (string_bytes c.text)) (comes c.lines more broken).text f.fault s.fault
+
+-- A search for what is met next: the lister stands where it stood, and holds other lines.
+pub record Searches (come_old come_new : Option (List ℕ)) (told_old told_new : ℕ) (old new : Position) (c d : Chunk) : Type 0 where
+  pub taken : List ℕ
+  pub reads : Reads come_old come_new told_old told_new c.lines d.lines taken
+  pub follows : (more : List ℕ) (broken : Bool) → Continues d.lines more broken → Continues c.lines (taken ++ more) broken
+  pub stands : (s : Parts) (k : ℕ) (more : List ℕ) (broken : Bool) → Continues d.lines more broken → StreamsIn (streamed old c None) s k (taken ++ more) broken → StreamsIn (streamed new d None) s k more broken
+  pub position : new ≡ record old { now = new.now }
+  pub streaming : IsStreaming new d None
+
+-- no more was read ahead than one read gives, or a fault was met in place of the next line
+abbrev pub LooksAhead : Found → Buffered → Buffered → Type 0
+LooksAhead f old new = ((f.meets ≡ met.Stop) × (fault : LineFault) × (f.fault ≡ Some fault)) ⊎ Ahead old new
+
+-- a literal is open at the end of the lines held, and no lexeme and no layout come before it
+pub record IsWaiting (p : Position) (c : Chunk) : Type 0 where
+  pub stop : StopAhead p.now (chars (drop c.at (string_bytes c.text)))
+  pub unended : is_open_string (chars (drop c.at (string_bytes c.text))) ≡ true
+
+-- the fault of an answer that is no line
+abbrev pub Lacks : Line → ℕ → Option LineFault → Type 0
+Lacks lines.Text row fault = Unit {0}
+Lacks lines.End row fault = fault ≡ None
+Lacks (lines.Fault f) row fault = fault ≡ Some f
+Lacks lines.Read row fault = fault ≡ Some (unread row)
+
+-- a lister that has begun over a reader, behind k entries: what it took, and in which sources it stands
+pub record Begins (come_old come_new : Option (List ℕ)) (told_old told_new : ℕ) (v : Streamed) (k : ℕ) : Type 0 where
+  pub taken : List ℕ
+  pub reads : Takes come_old come_new told_old told_new reach.Reading v.lines.reach 0 v.lines.count taken
+  -- no more is taken past the lines that are held, and those that decide the encoding, than one read gives
+  pub ahead : (length v.lines.pending ≤ 8_192) ⊎ (v.lines.count ≤ 8_192 + head_len taken)
+  pub stands : (more : List ℕ) (broken : Bool) → Continues v.lines more broken → (p : Parts) × (stream_of broken (taken ++ more) ≡ Ok p) × StreamsIn v p k more broken
+
+-- the entry that was given last
+abbrev pub IsLast : Streamed → Step → Type 0
+IsLast v (steps.Entry e) = v.last ≡ Some e
+IsLast v steps.End = Unit {0}
+IsLast v (steps.Fault f) = Unit {0}
+
+-- an entry is given: nothing was taken for it, or no more past the lines that are held than one read gives
+abbrev pub IsAhead : Buffered → Buffered → Step → Type 0
+IsAhead old new (steps.Entry e) = Ahead old new
+IsAhead old new steps.End = Unit {0}
+IsAhead old new (steps.Fault f) = Unit {0}
+
+-- A step: in each source in which the lister stood it comes next, and the lister stands behind it. Where memory is refused it stands where it stood.
+pub record Steps (come_old come_new : Option (List ℕ)) (told_old told_new : ℕ) (old new : Streamed) (result : Result Step AllocError) : Type 0 where
+  pub taken : List ℕ
+  pub reads : Reads come_old come_new told_old told_new old.lines new.lines taken
+  pub follows : (more : List ℕ) (broken : Bool) → Continues new.lines more broken → Continues old.lines (taken ++ more) broken
+  pub moves : IfOk result (λ step. (p : Parts) (k : ℕ) (more : List ℕ) (broken : Bool) → Continues new.lines more broken → StreamsIn old p k (taken ++ more) broken
+      → (slice_get (listing (in_characters p)) k ≡ Some step) × StreamsIn new p (k + entries_in step) more broken)
+  pub last : IfOk result (IsLast new)
+  pub ahead : IfOk result (IsAhead old.lines new.lines)
+  pub same : OnErr result ((p : Parts) (k : ℕ) (more : List ℕ) (broken : Bool) → Continues new.lines more broken → StreamsIn old p k (taken ++ more) broken → StreamsIn new p k more broken)
+
+-- a source's listing ends by a line that could not be read whole, before this many entries
+pub record EndsUnread (p : Parts) (n : ℕ) : Type 0 where
+  pub fault : (f : ListingFault) × (fault_of (listing (in_characters p)) ≡ Some f) × (f.code ≡ errors.Line Unread)
+  pub before : suc (length (entries_of (listing (in_characters p)))) ≤ n
+
+-- A lister that was not to go on behind a cursor: a read failed before it, or the source has no such cursor.
+pub record Misses (come_old come_new : Option (List ℕ)) (told_old told_new : ℕ) (cursor : CursorParts) (unread : Bool) : Type 0 where
+  pub taken : List ℕ
+  pub lines : Buffered
+  pub reads : Takes come_old come_new told_old told_new reach.Reading lines.reach 0 lines.count taken
+  pub misses : (more : List ℕ) (broken : Bool) → Continues lines more broken → (p : Parts) × (stream_of broken (taken ++ more) ≡ Ok p) × (IsCursorOf cursor (in_characters p) → ⊥) × (unread ≡ true → EndsUnread p cursor.given) × (unread ≡ false → EndsUnread p cursor.given → ⊥)
+
+-- a call took bytes from a reader
+pub record Took (come_old come_new : Option (List ℕ)) (told_old told_new : ℕ) : Type 0 where
+  pub taken : List ℕ
+  pub at : Reach
+  pub reads : Takes come_old come_new told_old told_new reach.Reading at 0 (length taken) taken
+
+-- why a lister could not go on behind a cursor
+abbrev pub MissesBy : Option (List ℕ) → Option (List ℕ) → ℕ → ℕ → CursorParts → ResumeFault → Type 0
+MissesBy come_old come_new told_old told_new cursor (resumes.Stream fault) = Refuses come_old come_new told_old told_new fault ⊎ (((fault ≡ faults.Read) × Misses come_old come_new told_old told_new cursor true) ⊎ ((fault ≡ faults.Memory) × Took come_old come_new told_old told_new))
+MissesBy come_old come_new told_old told_new cursor resumes.AnotherSource = Misses come_old come_new told_old told_new cursor false
+
+-- a step tells of a line that could not be read whole
+abbrev pub is_unread_code : ListingError → Bool
+is_unread_code (errors.Line Unread) = true
+is_unread_code code = false
+
+abbrev pub is_unread : Step → Bool
+is_unread (steps.Fault f) = is_unread_code f.code
+is_unread s = false
+
+-- why a lister can't go on that met this step too early
+pub record IsEndedBy (step : Step) (fault : ResumeFault) : Type 0 where
+  pub read : is_unread step ≡ true → fault ≡ resumes.Stream faults.Read
+  pub other : is_unread step ≡ false → fault ≡ resumes.AnotherSource

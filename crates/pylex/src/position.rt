@@ -1,0 +1,414 @@
+//! Where a lister stands in a listing, and its steps from there: what all listers share, whatever text they hold.
+
+ghost use Rattle.std.specs.Prelude.{◌≡◌, ℕ, ◌+◌, ◌-◌, ◌^◌, ◌<◌, ◌≤◌, List, [], ◌∷◌, ◌++◌, length, take, drop, OnOk, OnErr, IfOk, IfErr, Ok, Err, Option, option_map, OnSome, IsTrue, ◌↔◌};
+ghost use Rattle.std.specs.Str.{chars};
+ghost use Rattle.pylex.specs.Listing.{of_line, stop_fault};
+ghost use Rattle.pylex.specs.Steps.{first_step, HasNoText, IsNoEntry, IsAt};
+ghost use Rattle.pylex.specs.Machine.{remaining, behind_steps, first_state};
+ghost use Rattle.pylex.specs.Progress.{is_level, IsTop, Stands, IsAscending, IsLayout, Settles, Finds, StopAhead, HasRoom, Behind, closing, with_levels, given, GivesNoText, IsGivenFault, GivesAt};
+ghost use Rattle.pylex.specs.Listers.{shown_by, shown_at};
+ghost use Rattle.pylex.specs.Positions.{FaultsFirst, HasPlace, IsSame, Went, shown_from};
+
+use crate::cursors::{Cursor, Shown};
+use crate::entries::{Entry, ListingError, ListingFault, Step};
+use crate::kinds::Kind;
+use crate::lexeme::{begins_thing, cut};
+use crate::state::{Given, Progress, entry_of, mark};
+use crate::string::{is_open_string, opens_string};
+use pysource::{LineFault, Place};
+use std::alloc::{AllocError, Global};
+
+/// What a lister meets next.
+#[derive(Clone, Copy, Debug, PartialEq, Eq)]
+pub enum Meets {
+    Entry(Entry),
+    Fault(ListingFault),
+    /// The first thing of a line that opens a level.
+    Indent,
+    /// The first thing of a line that closes a level.
+    Dedent,
+    /// The end of the lexemes.
+    Stop,
+}
+
+/// What the width of a line asks for.
+#[derive(Clone, Copy, Debug, PartialEq, Eq)]
+pub enum Layout {
+    /// Nothing: it is the width of the last open level.
+    Level,
+    Indent,
+    Dedent,
+    Mismatch,
+}
+
+/// The last open level, by the levels above 0.
+fn top_level(levels: &[usize]) -> usize
+    ensures { IsTop levels.now result }
+{
+    match levels.last() {
+        Some(top) => *top,
+        None => 0,
+    }
+}
+
+/// Whether a width is that of an open level.
+fn is_level(width: usize, levels: &[usize]) -> bool
+    ensures { result ≡ is_level width (0 ∷ levels.now) }
+{
+    width == 0 || levels.contains(&width)
+}
+
+/// The layout of a line by its width and the open levels above 0.
+#[tactic(auto, using(crate::proofs::Tops::top_indent, crate::proofs::Tops::top_level, crate::proofs::Tops::top_dedent, crate::proofs::Tops::top_mismatch))]
+fn layout_for(width: usize, levels: &[usize]) -> Layout
+    requires { IsAscending 0 levels.now }
+    ensures { IsLayout width levels.now result }
+{
+    let top = top_level(levels);
+    if width > top {
+        Layout::Indent
+    } else if width == top {
+        Layout::Level
+    } else if is_level(width, levels) {
+        Layout::Dedent
+    } else {
+        Layout::Mismatch
+    }
+}
+
+/// Goes past the layout before the first thing of a logical line, or tells what it is.
+#[inline(always)]
+fn line_start(now: Progress, levels: &[usize], text: &str) -> Result<Progress, Meets>
+    requires stands { Stands now text.now }
+    requires ascending { IsAscending 0 levels.now }
+    ensures ok { IfOk result (λ p. Settles levels.now now (chars text.now) p × Stands p text.now) }
+    ensures room { IfOk result (λ p. (n : ℕ) → HasRoom now n → HasRoom p n) }
+    ensures err { IfErr result (λ m. Finds levels.now now (chars text.now) m now (chars text.now)) }
+{
+    if !now.margin || !begins_thing(text) {
+        return Ok(now);
+    }
+    match layout_for(now.width, levels) {
+        Layout::Level => Ok(now.measured()),
+        Layout::Indent => Err(Meets::Indent),
+        Layout::Dedent => Err(Meets::Dedent),
+        Layout::Mismatch => Err(Meets::Fault(ListingFault {
+            code: ListingError::UnindentMismatch,
+            place: now.now.place,
+        })),
+    }
+}
+
+/// Goes on to what a lister meets next.
+#[inline(always)]
+fn find<'a>(start: Progress, levels: &[usize], text: &'a str) -> (Meets, Progress, &'a str)
+    requires stands { Stands start text.now }
+    requires ascending { IsAscending 0 levels.now }
+    ensures finds { Finds levels.now start (chars text.now) result.0 result.1 (chars result.2.now) }
+    ensures stands { Stands result.1 result.2.now }
+    ensures room { (n : ℕ) → HasRoom start (length text.now + n) → HasRoom result.1 (length result.2.now + n) }
+    ensures behind { Behind text.now result.2.now }
+{
+    let mut now = start;
+    let mut rest = text;
+    loop {
+        now = match line_start(now, levels, rest) {
+            Ok(settled) => settled,
+            Err(meets) => return (meets, now, rest),
+        };
+        let Some((class, front, back)) = cut(rest) else {
+            return (Meets::Stop, now, rest);
+        };
+        let ahead = now.after(class, front);
+        match now.give(class, front, ahead.now) {
+            Given::Fault(fault) => return (Meets::Fault(fault), now, rest),
+            Given::Entry(entry) => return (Meets::Entry(entry), ahead, back),
+            Given::Nothing => {
+                now = ahead;
+                rest = back;
+            }
+        }
+    }
+}
+
+/// What a lister meets next. Where entries of the end were given that is the end.
+#[inline(always)]
+fn meet<'a>(
+    tail: usize,
+    start: Progress,
+    levels: &[usize],
+    text: &'a str,
+) -> (Meets, Progress, &'a str)
+    requires stands { Stands start text.now }
+    requires ascending { IsAscending 0 levels.now }
+    requires stop { 0 < tail → StopAhead start (chars text.now) }
+    ensures finds { Finds levels.now start (chars text.now) result.0 result.1 (chars result.2.now) }
+    ensures stands { Stands result.1 result.2.now }
+    ensures room { (n : ℕ) → HasRoom start (length text.now + n) → HasRoom result.1 (length result.2.now + n) }
+    ensures behind { Behind text.now result.2.now }
+    ensures stop { 0 < tail → result.0 ≡ Meets.Stop }
+    ensures stay { 0 < tail → (result.1 ≡ start) × (result.2.now ≡ text.now) }
+{
+    if tail > 0 {
+        return (Meets::Stop, start, text);
+    }
+    find(start, levels, text)
+}
+
+/// The fault of a line, as one of the listing.
+fn line_fault(fault: LineFault) -> ListingFault
+    ensures { result ≡ of_line fault }
+{
+    ListingFault {
+        code: ListingError::Line(fault.code),
+        place: fault.place,
+    }
+}
+
+#[tactic(auto, unfolding(crate::specs::Listing::stop_fault))]
+/// The fault where no lexeme stands before the text's end.
+fn stop_fault_at(place: Place, left: &str, fault: Option<LineFault>) -> ListingFault
+    ensures { stop_fault (option_map of_line fault) place (chars left.now) ≡ Step.Fault result }
+{
+    if !opens_string(left) {
+        return ListingFault {
+            code: ListingError::BadCharacter,
+            place,
+        };
+    }
+    if !is_open_string(left) {
+        return ListingFault {
+            code: ListingError::UnterminatedString,
+            place,
+        };
+    }
+    match fault {
+        Some(fault) => line_fault(fault),
+        None => ListingFault {
+            code: ListingError::EofInString,
+            place,
+        },
+    }
+}
+
+/// What comes where the lexemes end: a fault, or what the text's end gives its last line.
+fn stop(now: Progress, left: &str, fault: Option<LineFault>) -> Given
+    requires stands { Stands now left.now }
+    requires stop { StopAhead now (chars left.now) }
+    ensures steps { (levels : List ℕ) → remaining (option_map of_line fault) (with_levels now levels) (chars left.now) ≡ behind_steps (given result) (closing (with_levels now levels)) }
+    ensures empty { GivesNoText result }
+    ensures at { GivesAt now.now.offset result }
+    ensures fault { OnSome fault (IsGivenFault result) }
+{
+    if !left.is_empty() {
+        return Given::Fault(stop_fault_at(now.now.place, left, fault));
+    }
+    if let Some(fault) = fault {
+        return Given::Fault(line_fault(fault));
+    }
+    if now.is_open() {
+        return Given::Fault(ListingFault {
+            code: ListingError::EofInStatement,
+            place: now.row_after(),
+        });
+    }
+    now.last_line_end()
+}
+
+/// The step of the end behind the line end, by how many of these steps were given: a DEDENT for each open level, and then
+/// the end marker.
+fn closing_step(now: Progress, nested: usize, closed: usize) -> Step
+    requires { now.now.place.row < 2 ^ 62 }
+    ensures step { (levels : List ℕ) → IsAscending 0 levels → length levels ≡ nested → result ≡ first_step (drop closed (closing (with_levels now (0 ∷ levels)))) }
+    ensures empty { HasNoText result }
+    ensures at { IsAt now.now.offset result }
+{
+    let place = now.last_place();
+    let offset = now.now.offset;
+    if closed < nested {
+        Step::Entry(mark(Kind::Dedent, offset, place, place))
+    } else if closed == nested {
+        Step::Entry(mark(Kind::EndMarker, offset, place, place))
+    } else {
+        Step::End
+    }
+}
+
+/// The step that is due where the lexemes end, by how many of the entries there were given.
+fn end_step(now: Progress, left: &str, fault: Option<LineFault>, nested: usize, tail: usize) -> Step
+    requires stands { Stands now left.now }
+    requires stop { StopAhead now (chars left.now) }
+    ensures step { (levels : List ℕ) → IsAscending 0 levels → length levels ≡ nested → tail < length (remaining (option_map of_line fault) (with_levels now (0 ∷ levels)) (chars left.now)) → result ≡ first_step (drop tail (remaining (option_map of_line fault) (with_levels now (0 ∷ levels)) (chars left.now))) }
+    ensures empty { HasNoText result }
+    ensures at { IsAt now.now.offset result }
+    ensures fault { OnSome fault (IsNoEntry result) }
+{
+    match stop(now, left, fault) {
+        Given::Fault(fault) => Step::Fault(fault),
+        Given::Entry(entry) if tail == 0 => Step::Entry(entry),
+        Given::Entry(_) => closing_step(now, nested, tail - 1),
+        Given::Nothing => closing_step(now, nested, tail),
+    }
+}
+
+/// Opens a level above the first ones. Where more stood there no memory is taken.
+fn open_level(levels: &mut Vec<usize>, nested: usize, width: usize) -> Result<(), AllocError>
+    requires { nested ≤ length levels.old.items }
+    ensures ok { OnOk result (levels.new.items ≡ take nested levels.old.items ++ width ∷ []) }
+    ensures same { OnErr result (levels.new.items ≡ levels.old.items) }
+{
+    if nested == levels.len() {
+        return levels.push(width).map_err(|_| AllocError);
+    }
+    levels.truncate(nested + 1);
+    levels[nested] = width;
+    Ok(())
+}
+
+/// What a lister has given, and how far it has looked from there.
+#[derive(Drop)]
+pub struct Position {
+    /// How many entries were given.
+    pub given: usize,
+    /// The point of the lister's cursor.
+    pub point: Shown,
+    /// The levels above 0 that are open at the point.
+    pub levels: Vec<usize>,
+    /// How far the lister has looked from there: past lexemes that give nothing, and DEDENTs that were given.
+    pub now: Progress,
+    /// How many of the levels are open there.
+    pub nested: usize,
+    /// How many entries of the end were given.
+    pub tail: usize,
+}
+
+impl Position {
+    /// At the start of a source. No memory is taken.
+    pub fn start(alloc: Global) -> Position
+        ensures given { result.given ≡ 0 }
+        ensures point { (k : ℕ) (levels : List ℕ) → shown_by k result.point levels 0 ≡ shown_at k (with_levels result.now (0 ∷ levels)) }
+        ensures levels { result.levels.items ≡ [] }
+        ensures now { with_levels result.now (0 ∷ []) ≡ first_state }
+        ensures nested { result.nested ≡ 0 }
+        ensures tail { result.tail ≡ 0 }
+    {
+        let now = Progress::start();
+        Position {
+            given: 0,
+            point: Shown::at(now),
+            levels: Vec::new(alloc),
+            now,
+            nested: 0,
+            tail: 0,
+        }
+    }
+
+    /// What is met next in a text, and how far from it.
+    #[inline(always)]
+    pub fn meet<'a>(&self, text: &'a str) -> (Meets, Progress, &'a str)
+        requires stands { Stands self.now.now text.now }
+        requires ascending { IsAscending 0 self.now.levels.items }
+        requires within { self.now.nested ≤ length self.now.levels.items }
+        requires stop { 0 < self.now.tail → StopAhead self.now.now (chars text.now) }
+        ensures finds { Finds (take self.entry.now.nested self.entry.now.levels.items) self.entry.now.now (chars text.now) result.0 result.1 (chars result.2.now) }
+        ensures stands { Stands result.1 result.2.now }
+        ensures room { (n : ℕ) → HasRoom self.entry.now.now (length text.now + n) → HasRoom result.1 (length result.2.now + n) }
+        ensures behind { Behind text.now result.2.now }
+        ensures stop { 0 < self.entry.now.tail → result.0 ≡ Meets.Stop }
+        ensures stay { 0 < self.entry.now.tail → (result.1 ≡ self.entry.now.now) × (result.2.now ≡ text.now) }
+    {
+        let levels = &self.levels.as_slice()[..self.nested];
+        meet(self.tail, self.now, levels, text)
+    }
+
+    /// Goes on past what was met, where that gives an entry. `left` is the text that is left there, and `fault` that of
+    /// the line behind it.
+    ///
+    /// Memory is taken only for an INDENT; where it is refused nothing is changed.
+    #[inline(always)]
+    pub fn go(
+        &mut self,
+        meets: Meets,
+        now: Progress,
+        left: &str,
+        fault: Option<LineFault>,
+    ) -> Result<Step, AllocError>
+        requires some { 0 < self.old.given }
+        requires place { HasPlace self.old }
+        requires stands { Stands now left.now }
+        requires stop { meets ≡ Meets.Stop → StopAhead now (chars left.now) }
+        requires tail { 0 < self.old.tail → meets ≡ Meets.Stop }
+        requires dedent { meets ≡ Meets.Dedent → 0 < self.old.nested }
+        ensures went { IfOk result (λ step. Went self.old meets now left.now fault step self.new) }
+        ensures fault { IfOk result (FaultsFirst meets fault) }
+        ensures same { OnErr result (IsSame self.old self.new) }
+        ensures indent { OnErr result (meets ≡ Meets.Indent) }
+    {
+        match meets {
+            Meets::Entry(entry) => {
+                self.levels.truncate(self.nested);
+                self.given += 1;
+                self.point = Shown::at(now);
+                self.now = now.begun_anew();
+                Ok(Step::Entry(entry))
+            }
+            Meets::Fault(fault) => Ok(Step::Fault(fault)),
+            Meets::Indent => {
+                open_level(&mut self.levels, self.nested, now.width)?;
+                let measured = now.measured();
+                self.given += 1;
+                self.point = Shown::at(measured);
+                self.now = measured.begun_anew();
+                self.nested = self.levels.len();
+                Ok(Step::Entry(entry_of(Kind::Indent, None, now.line, now.now)))
+            }
+            Meets::Dedent => {
+                self.given += 1;
+                self.now = now;
+                self.nested -= 1;
+                let place = now.now.place;
+                Ok(Step::Entry(mark(Kind::Dedent, now.now.offset, place, place)))
+            }
+            Meets::Stop => {
+                let step = end_step(now, left, fault, self.nested, self.tail);
+                if let Step::Entry(_) = step {
+                    self.given += 1;
+                    self.now = now;
+                    self.tail += 1;
+                }
+                Ok(step)
+            }
+        }
+    }
+
+    /// How many entries without text were given behind the point.
+    pub fn skip(&self) -> usize
+        requires { HasPlace self.now }
+        ensures { result ≡ (length self.entry.now.levels.items - self.entry.now.nested) + self.entry.now.tail }
+    {
+        self.levels.len() - self.nested + self.tail
+    }
+
+    /// Whether this is the cursor of the position.
+    pub fn is_at(&self, cursor: &Cursor) -> bool
+        requires { HasPlace self.now }
+        ensures { IsTrue result ↔ (cursor.now ≡ shown_from self.entry.now) }
+    {
+        cursor.is_at(self.given, self.point, self.levels.as_slice(), self.skip())
+    }
+
+    /// The cursor of the position.
+    pub fn cursor(&self) -> Result<Cursor, AllocError>
+        requires place { HasPlace self.now }
+        requires row { 1 ≤ self.now.point.row }
+        ensures { IfOk result (λ cursor. cursor ≡ shown_from self.entry.now) }
+    {
+        Cursor::at(
+            *self.levels.allocator(),
+            self.given,
+            self.point,
+            self.levels.as_slice(),
+            self.skip(),
+        )
+    }
+}
