@@ -3,3 +3,7 @@ pub mod RunLemmas
 pub mod FakesLemmas
 pub mod OutputLemmas
 pub mod CursorLemmas
+pub mod TakenLemmas
+pub mod ListLemmas
+pub mod StartLemmas
+pub mod UnreadLemmas

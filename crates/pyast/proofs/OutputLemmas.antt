@@ -1,14 +1,13 @@
 -- What is written of a source behind some of its entries, a step on.
-use Rattle.std.proofs.Common.{◌≡◌, ◌≢◌, ℕ, zero, suc, ◌+◌, ◌-◌, Bool, true, false, not, ◌==◌, if◌then◌else◌, List, [], ◌∷◌, ◌++◌, take, length, slice_get, ◌<◌, refl, sym, ap, ◌∙◌, Option, Some, None, append_assoc, append-nil, nat_le, arith}
+use Rattle.std.proofs.Common.{◌≡◌, ◌≢◌, ℕ, zero, suc, ◌+◌, ◌-◌, Bool, true, false, not, ◌==◌, if◌then◌else◌, List, [], ◌∷◌, ◌++◌, take, length, slice_get, refl, sym, ap, ◌∙◌, Option, Some, None, append_assoc, append-nil, nat_le, arith}
 use Rattle.std.proofs.lemmas.Bool.Decides.{nat_tests}
 use Rattle.pysource.specs.Parts.{Parts}
 use Rattle.pylex.specs.declared.entries.Entry.{Entry}
-use Rattle.pylex.specs.declared.entries.Step.{Step}
 use Rattle.pylex.specs.declared.entries.Step.TheVariants as steps
 use Rattle.pylex.specs.declared.kinds.Kind.{Kind}
-use Rattle.pylex.specs.Cursors.{cursor}
-use Rattle.pylex.specs.Listers.{Listed, StandsIn, Moves}
-use Rattle.pylex.specs.Listing.{Source, in_characters, listing, rest}
+use Rattle.pylex.specs.Cursors.{CursorParts, cursor}
+use Rattle.pylex.specs.Standing.{IsCursorOf}
+use Rattle.pylex.specs.Listing.{in_characters, listing, rest}
 use Rattle.pylex.specs.ListingLines.{listing_line, text_of}
 use Rattle.pylex.specs.Steps.{entries_of}
 use Rattle.pyast.specs.Runs.{is_marker, stops_after, lines_of, cursor_line, told_of, left_behind, output_from, fault_from, TakesAllBut}
@@ -107,47 +106,26 @@ fault_next p (Some (suc zero)) k e n h = rw h (by_kind (is_marker e.kind) refl)
     by_kind false is = rw (stops_first e (entries_of (rest (in_characters p) (k + 1))), ← is, stops_at_once (entries_of (rest (in_characters p) (k + 1)))) refl
 fault_next p (Some (suc (suc m))) k e n h = rw (h, behind_more m e.kind, stops_next m e (entries_of (rest (in_characters p) (k + 1)))) refl
 
--- an entry comes where a lister stands, and behind it the lister stands then
-pub record Passes (old new : Listed) (a : Source) (e : Entry) : Type 0 where
-  pub next : slice_get (listing a) old.shown.given ≡ Some (steps.Entry e)
-  pub ahead : rest a old.shown.given ≡ steps.Entry e ∷ rest a (old.shown.given + 1)
-  pub given : new.shown.given ≡ old.shown.given + 1
-  pub stands : StandsIn new a new.shown.given
+-- the line of the next entry is held then
+pub held_next : (exact : Bool) (p : Parts) (k : ℕ) (left : Option ℕ) (e : Entry) (x y : Option (List ℕ)) (output before held : List ℕ)
+    → slice_get (listing (in_characters p)) k ≡ Some (steps.Entry e) → left ≢ Some 0 → held ≡ before ++ listing_line exact e (text_of p e)
+    → TakesAllBut x y output before (output_from exact p left k) → TakesAllBut x y output held (output_from exact p (left_behind left e.kind) (k + 1))
+held_next exact p k left e x y output before held t n is h =
+    rw is (TakesAllBut-held x y output before (listing_line exact e (text_of p e)) (output_from exact p (left_behind left e.kind) (k + 1))
+    (rw (output_next exact p left k e n (next_is (in_characters p) k (steps.Entry e) t)) at h))
 
-pub passes : (old new : Listed) (a : Source) (step : Step) (e : Entry) → Moves old step new → step ≡ steps.Entry e → StandsIn old a old.shown.given → Passes old new a e
-passes old new a step e moves is stands =
-    let m = rw is at moves a old.shown.given stands in
-    record {
-      next = m.0;
-      ahead = next_is a old.shown.given (steps.Entry e) m.0;
-      given = m.1.count;
-      stands = record { cursor = m.1.cursor; count = refl; agrees = m.1.agrees };
-    }
-
--- there are fewer steps ahead then
-pub fewer_ahead : (old new : Listed) (a : Source) (e : Entry) → Passes old new a e → length (rest a new.shown.given) < length (rest a old.shown.given)
-fewer_ahead old new a e t = rw (t.ahead, t.given) (omega arith)
-
--- the line of the entry is held then
-pub held_next : (exact : Bool) (p : Parts) (old new : Listed) (left : Option ℕ) (e : Entry) (x y : Option (List ℕ)) (output before held : List ℕ)
-    → Passes old new (in_characters p) e → left ≢ Some 0 → held ≡ before ++ listing_line exact e (text_of p e)
-    → TakesAllBut x y output before (output_from exact p left old.shown.given) → TakesAllBut x y output held (output_from exact p (left_behind left e.kind) new.shown.given)
-held_next exact p old new left e x y output before held t n is h =
-    rw (is, t.given) (TakesAllBut-held x y output before (listing_line exact e (text_of p e)) (output_from exact p (left_behind left e.kind) (old.shown.given + 1))
-    (rw (output_next exact p left old.shown.given e n t.ahead) at h))
-
-pub told_next : (p : Parts) (old new : Listed) (left : Option ℕ) (e : Entry) → Passes old new (in_characters p) e → left ≢ Some 0
-    → fault_from p left old.shown.given ≡ fault_from p (left_behind left e.kind) new.shown.given
-told_next p old new left e t n = rw t.given (fault_next p left old.shown.given e n t.ahead)
+pub told_next : (p : Parts) (k : ℕ) (left : Option ℕ) (e : Entry) → slice_get (listing (in_characters p)) k ≡ Some (steps.Entry e) → left ≢ Some 0
+    → fault_from p left k ≡ fault_from p (left_behind left e.kind) (k + 1)
+told_next p k left e t n = fault_next p left k e n (next_is (in_characters p) k (steps.Entry e) t)
 
 -- the line of the cursor at which a lister stands is held, and nothing is left
-pub cursor_held : (exact : Bool) (p : Parts) (lister : Listed) (left : Option ℕ) (x y : Option (List ℕ)) (output before held : List ℕ) → left ≡ Some 0
-    → StandsIn lister (in_characters p) lister.shown.given → held ≡ before ++ cursor_line lister.shown
-    → TakesAllBut x y output before (output_from exact p left lister.shown.given) → TakesAllBut x y output held []
-cursor_held exact p lister left x y output before held zero_left stands is h =
-    let line : output_from exact p left lister.shown.given ≡ cursor_line lister.shown ++ [] =
-    ap (λ n. output_from exact p n lister.shown.given) zero_left ∙ output_stopped exact p lister.shown.given ∙ ap cursor_line (sym stands.cursor.is) ∙ sym (append-nil (cursor_line lister.shown)) in
-    rw is (TakesAllBut-held x y output before (cursor_line lister.shown) [] (rw line at h))
+pub cursor_held : (exact : Bool) (p : Parts) (shown : CursorParts) (left : Option ℕ) (x y : Option (List ℕ)) (output before held : List ℕ) → left ≡ Some 0
+    → IsCursorOf shown (in_characters p) → held ≡ before ++ cursor_line shown
+    → TakesAllBut x y output before (output_from exact p left shown.given) → TakesAllBut x y output held []
+cursor_held exact p shown left x y output before held zero_left own is h =
+    let line : output_from exact p left shown.given ≡ cursor_line shown ++ [] =
+    ap (λ n. output_from exact p n shown.given) zero_left ∙ output_stopped exact p shown.given ∙ ap cursor_line (sym own.is) ∙ sym (append-nil (cursor_line shown)) in
+    rw is (TakesAllBut-held x y output before (cursor_line shown) [] (rw line at h))
 
 pub told_none : (p : Parts) (left : Option ℕ) (k : ℕ) → left ≡ Some 0 → fault_from p left k ≡ None
 told_none p left k zero_left = ap (λ n. fault_from p n k) zero_left ∙ fault_stopped p k

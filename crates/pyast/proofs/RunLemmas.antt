@@ -1,18 +1,12 @@
 -- Laws of a run.
 use Rattle.std.proofs.Common.{true, Bool, ◌≡◌, ◌≢◌, ◌+◌, ◌++◌, arith, ℕ, List, [], false, Option, None, Some, Ok, Err, Result, refl, sym, ap, inl, inr, ◌∙◌, append_assoc, append-nil}
 use Rattle.std.specs.Prelude.{OnOk, OnErr, is_err}
-use Rattle.std.specs.Io.KnownBytes.{Appends, Consumes, IsAtEnd}
+use Rattle.std.specs.Io.KnownBytes.{Appends}
 use Rattle.pysource.specs.Bytes.{TakesFront}
-use Rattle.pysource.specs.Parts.{Parts}
-use Rattle.pysource.specs.Sources.{source_of, UnlessMemory}
-use Rattle.pysource.specs.declared.encodings.SourceFault.{SourceFault}
-use Rattle.pysource.specs.declared.encodings.SourceFault.TheVariants as source_faults
-use Rattle.pysource.proofs.ByteLemmas.{Appends-append, Appends-refl, TakesFront-after, TakesFront-done}
-use Rattle.pylex.specs.Cursors.{CursorParts}
-use Rattle.pylex.specs.Listing.{in_characters}
-use Rattle.pyast.specs.Faults.{Tells, of_source, IsToldAs}
-use Rattle.pyast.specs.Runs.{is_exact, count_of, resume_of, output_from, fault_from, start_in, tokens_output, tokens_fault, output_of, fault_in, TakesAllBut, HoldsFor, WritesFor, IsInput, Performs}
-use Rattle.pyast.specs.declared.command.Command.{Command}
+use Rattle.pysource.proofs.ByteLemmas.{Appends-append, TakesFront-after, TakesFront-done}
+use Rattle.pylex.specs.declared.entries.ListingFault.{ListingFault}
+use Rattle.pyast.specs.Faults.{Tells, is_unread, of_listing, IsToldAs}
+use Rattle.pyast.specs.Runs.{TakesAllBut, HoldsFor, WritesFor, Performs}
 use Rattle.pyast.specs.declared.fault.FaultCode.{FaultCode}
 use Rattle.pyast.specs.declared.fault.FaultCode.TheVariants.{Read, Write, Memory, CursorOfAnotherSource}
 use Rattle.pyast.specs.declared.fault.Fault.{Fault}
@@ -68,74 +62,55 @@ pub HoldsFor-cut : (output : List ℕ) (told : Option Fault) (x y z : Option (Li
 HoldsFor-cut output told x y z held None p q = TakesAllBut-cut x y z output held [] p.1 q
 HoldsFor-cut output told x y z held (Some (InSource code place)) p q = TakesAllBut-cut x y z output held [] p.1 q
 HoldsFor-cut output told x y z held (Some (Plain Memory)) p q = TakesAllBut-cut x y z output held p.0 p.1 q
+HoldsFor-cut output told x y z held (Some (Plain Read)) p q = TakesAllBut-cut x y z output held [] p.1 q
 HoldsFor-cut output told x y z held (Some (Plain other)) p q = absurd p
 
--- a reader has some input
-pub some_input : (to_come : Option (List ℕ)) → (input : List ℕ) × IsInput to_come input
-some_input None = ([], tt)
-some_input (Some known) = (known, refl)
-
--- bytes that are no source, or that there was no memory to decode: nothing is written
-pub refused : (exact : Bool) (count : Option ℕ) (resume : Option CursorParts) (stated : Result Parts SourceFault) (fault : SourceFault) (x : Option (List ℕ))
-    → UnlessMemory {X = Parts} (Err fault) stated → WritesFor (tokens_output exact count resume stated) (tokens_fault count resume stated) x x (Some (of_source fault))
-refused exact count resume stated (source_faults.UnsupportedEncoding place) x u = rw u (refl, Appends-refl x)
-refused exact count resume stated (source_faults.BomConflict place) x u = rw u (refl, Appends-refl x)
-refused exact count resume stated source_faults.Memory x u = ([], tokens_output exact count resume stated, refl, Appends-refl x)
-
--- what a reader gave up to its end is its input
-pub whole_input : (old new : Option (List ℕ)) (given : List ℕ) → Consumes old new given → IsAtEnd new → IsInput old given
-whole_input None new given p q = tt
-whole_input (Some known) None given p q = absurd p
-whole_input (Some known) (Some rest) given p q = rw (q, append-nil given) at p
-
--- so for a command, by the bytes
-pub refuses : (command : Command) (input : List ℕ) (fault : SourceFault) (x : Option (List ℕ)) → UnlessMemory {X = Parts} (Err fault) (source_of input)
-    → WritesFor (output_of command input) (fault_in command input) x x (Some (of_source fault))
-refuses command input fault x u = refused (is_exact command) (count_of command) (resume_of command) (source_of input) fault x u
-
--- what `tokens` writes of a source is what the command writes of its bytes
-pub lists : (command : Command) (exact : Bool) (count : Option ℕ) (resume : Option CursorParts) (input : List ℕ) (p : Parts) (x y : Option (List ℕ)) (ended : Option Fault) → source_of input ≡ Ok p
-    → exact ≡ is_exact command → count ≡ count_of command → resume ≡ resume_of command
-    → WritesFor (tokens_output exact count resume (Ok p)) (tokens_fault count resume (Ok p)) x y ended
-    → WritesFor (output_of command input) (fault_in command input) x y ended
-lists command exact count resume input p x y ended is e f r w = rw (is, ← e, ← f, ← r) w
-
--- it is what stands behind the entries before the start
-pub from_start : (exact : Bool) (count : Option ℕ) (resume : Option CursorParts) (p : Parts) (k : ℕ) (x y : Option (List ℕ)) (ended : Option Fault) → start_in resume (in_characters p) ≡ Some k
-    → WritesFor (output_from exact p count k) (fault_from p count k) x y ended → WritesFor (tokens_output exact count resume (Ok p)) (tokens_fault count resume (Ok p)) x y ended
-from_start exact count resume p k x y ended is w = rw (is, tokens_output, tokens_fault) w
+-- all of the output is written
+all_written : (output : List ℕ) (x y z : Option (List ℕ)) (held : List ℕ) → TakesAllBut x y output held [] → Appends y z held → Appends x z output
+all_written output x y z held (written, is, p) q = rw (is, append-nil (written ++ held)) (Appends-append x y z written held p q)
 
 -- all that was held at a listing's end is written
 pub HoldsFor-written : (output : List ℕ) (told : Option Fault) (x y z : Option (List ℕ)) (held : List ℕ) (ended : Option Fault)
     → HoldsFor output told x y held ended → Appends y z held → WritesFor output told x z ended
-HoldsFor-written output told x y z held None p q = (p.0, whole output x y z held p.1 q)
-  where
-    whole : (output : List ℕ) (x y z : Option (List ℕ)) (held : List ℕ) → TakesAllBut x y output held [] → Appends y z held → Appends x z output
-    whole output x y z held (written, is, p) q = rw (is, append-nil (written ++ held)) (Appends-append x y z written held p q)
-HoldsFor-written output told x y z held (Some (InSource code place)) p q = (p.0, whole output x y z held p.1 q)
-  where
-    whole : (output : List ℕ) (x y z : Option (List ℕ)) (held : List ℕ) → TakesAllBut x y output held [] → Appends y z held → Appends x z output
-    whole output x y z held (written, is, p) q = rw (is, append-nil (written ++ held)) (Appends-append x y z written held p q)
+HoldsFor-written output told x y z held None p q = (p.0, all_written output x y z held p.1 q)
+HoldsFor-written output told x y z held (Some (InSource code place)) p q = (p.0, all_written output x y z held p.1 q)
+HoldsFor-written output told x y z held (Some (Plain Read)) p q = (p.0, all_written output x y z held p.1 q)
 HoldsFor-written output told x y z held (Some (Plain Memory)) (left, (written, is, p)) q = (written ++ held, left, is, Appends-append x y z written held p q)
 HoldsFor-written output told x y z held (Some (Plain other)) p q = absurd p
+
+-- a listing ended by a fault, and all before that is held
+pub HoldsFor-fault : (output : List ℕ) (told : Option Fault) (x y : Option (List ℕ)) (held : List ℕ) (f : ListingFault) → told ≡ Some (of_listing f) → TakesAllBut x y output held []
+    → HoldsFor output told x y held (Some (of_listing f))
+HoldsFor-fault output told x y held f is p = by_code (is_unread f.code) refl
+  where
+    by_code : (b : Bool) → is_unread f.code ≡ b → HoldsFor output told x y held (Some (of_listing f))
+    by_code true e = rw e (rw e at is, p)
+    by_code false e = rw e (rw e at is, p)
 
 -- whatever was written stands at the front of the output
 pub WritesFor-front : (output : List ℕ) (told : Option Fault) (x y : Option (List ℕ)) (ended : Option Fault) → WritesFor output told x y ended → TakesFront x y output
 WritesFor-front output told x y None p = (output, [], sym (append-nil output), p.1)
 WritesFor-front output told x y (Some (InSource code place)) p = (output, [], sym (append-nil output), p.1)
-WritesFor-front output told x y (Some (Plain Read)) p = ([], output, refl, p)
+WritesFor-front output told x y (Some (Plain Read)) p = (output, [], sym (append-nil output), p.1)
 WritesFor-front output told x y (Some (Plain Memory)) p = p
 WritesFor-front output told x y (Some (Plain Write)) p = p
 WritesFor-front output told x y (Some (Plain CursorOfAnotherSource)) p = (output, [], sym (append-nil output), p.1)
 WritesFor-front output told x y (Some (Plain other)) p = absurd p
 
 -- a run whose fault was told as another ended by that one
-pub Performs-told : (command : Command) (to_come x y : Option (List ℕ)) (fault told : Fault) → IsToldAs fault told → Performs command to_come x y (Some fault)
-    → Performs command to_come x y (Some told)
-Performs-told command to_come x y (Plain code) told is p = rw is p
-Performs-told command to_come x y (InSource code place) told is p = elim is [
+pub Performs-told : (output : Bool → List ℕ → List ℕ) (told : Bool → List ℕ → Option Fault) (come_old come_new : Option (List ℕ)) (reads_old reads_new : ℕ) (x y : Option (List ℕ)) (limit : ℕ) (fault other : Fault)
+    → IsToldAs fault other → Performs output told come_old come_new reads_old reads_new x y limit (Some fault) → Performs output told come_old come_new reads_old reads_new x y limit (Some other)
+Performs-told output told come_old come_new reads_old reads_new x y limit (Plain code) other is p = rw is p
+Performs-told output told come_old come_new reads_old reads_new x y limit (InSource code place) other is p = elim is [
   | inl e ↦ rw e p
-  | inr e ↦ rw e (p.0, p.1, WritesFor-front (output_of command p.0) (fault_in command p.0) x y (Some (InSource code place)) p.2)
+  | inr e ↦ rw e (record {
+    input = p.input;
+    broken = p.broken;
+    whole = p.whole;
+    cut = p.cut;
+    read = λ e. cc;
+    writes = WritesFor-front (output p.broken p.input) (told p.broken p.input) x y (Some (InSource code place)) p.writes;
+  })
 ]
 
 -- a fault without a place is told as itself, and only as that

@@ -1,10 +1,10 @@
 -- The faults, what is printed for each, and the status that the program ends with.
-use Rattle.std.specs.Prelude.{◌≡◌, ℕ, List, ◌++◌, ◌⊎◌, codes, Option, Some, None, decimal}
+use Rattle.std.specs.Prelude.{◌≡◌, ℕ, Bool, true, false, if◌then◌else◌, List, ◌++◌, ◌⊎◌, codes, Option, Some, None, decimal}
 use Rattle.std.specs.Io.KnownBytes.{Appends}
 use Rattle.pysource.specs.Bytes.{TakesFront}
 use Rattle.pysource.specs.declared.faults.LineError.TheVariants as line_errors
-use Rattle.pysource.specs.declared.encodings.SourceFault.{SourceFault}
-use Rattle.pysource.specs.declared.encodings.SourceFault.TheVariants as source_faults
+use Rattle.pysource.specs.declared.streams.StreamFault.{StreamFault}
+use Rattle.pysource.specs.declared.streams.StreamFault.TheVariants as stream_faults
 use Rattle.pylex.specs.declared.entries.ListingError.{ListingError}
 use Rattle.pylex.specs.declared.entries.ListingError.TheVariants as errors
 use Rattle.pylex.specs.declared.entries.ListingFault.{ListingFault}
@@ -66,6 +66,7 @@ abbrev pub code_of : ListingError → FaultCode
 code_of (errors.Line line_errors.NotUtf8) = NotUtf8
 code_of (errors.Line line_errors.NotAscii) = NotAscii
 code_of (errors.Line line_errors.LoneReturn) = LoneReturn
+code_of (errors.Line line_errors.Unread) = Read
 code_of errors.BadCharacter = BadCharacter
 code_of errors.UnterminatedString = UnterminatedString
 code_of errors.EofInString = EofInString
@@ -73,15 +74,21 @@ code_of errors.EofInStatement = EofInStatement
 code_of errors.UnindentMismatch = UnindentMismatch
 code_of errors.UnmatchedCloser = UnmatchedCloser
 
--- the fault that is told where a listing ends by one
-abbrev pub of_listing : ListingFault → Fault
-of_listing f = InSource (code_of f.code) f.place
+-- what ends the listing is a line that could not be read whole
+abbrev pub is_unread : ListingError → Bool
+is_unread (errors.Line line_errors.Unread) = true
+is_unread error = false
 
--- the fault that is told where bytes are no source
-abbrev pub of_source : SourceFault → Fault
-of_source (source_faults.UnsupportedEncoding place) = InSource UnsupportedEncoding place
-of_source (source_faults.BomConflict place) = InSource BomConflict place
-of_source source_faults.Memory = Plain Memory
+-- the fault that is told where a listing ends by one: a failed read has no place
+abbrev pub of_listing : ListingFault → Fault
+of_listing f = if is_unread f.code then Plain Read else InSource (code_of f.code) f.place
+
+-- the fault that is told where a reader gives no source
+abbrev pub of_stream : StreamFault → Fault
+of_stream (stream_faults.UnsupportedEncoding place) = InSource UnsupportedEncoding place
+of_stream (stream_faults.BomConflict place) = InSource BomConflict place
+of_stream stream_faults.Read = Plain Read
+of_stream stream_faults.Memory = Plain Memory
 
 -- `NAME:ROW:COLUMN: error: TEXT`
 abbrev pub source_line : List ℕ → ℕ → ℕ → List ℕ → List ℕ

@@ -1,12 +1,12 @@
 -- What a run of the program is, whatever its reader and its writers do.
-use Rattle.std.specs.Prelude.{◌≡◌, ◌≢◌, ◌≤◌, string_bytes, ℕ, ◌+◌, ◌-◌, nat_le, ◌==◌, eqb, Bool, true, false, not, ◌&&◌, if◌then◌else◌, List, [], ◌∷◌, ◌++◌, length, take, ⊤, Option, Some, None, IfSome, Result, Ok, Err, codes, option_map, unwrap_or}
+use Rattle.std.specs.Prelude.{◌≡◌, ◌≢◌, ◌⊎◌, ◌≤◌, string_bytes, ℕ, ◌+◌, ◌-◌, ◌<◌, nat_le, nat_lt, ◌==◌, eqb, Bool, true, false, not, ◌&&◌, if◌then◌else◌, List, [], ◌∷◌, ◌++◌, length, take, Option, Some, None, IfSome, Result, Ok, Err, codes, option_map, unwrap_or}
 use lib.Pointwise.{pointwise}
 use Rattle.std.specs.List.{flat_map}
-use Rattle.std.specs.Io.KnownBytes.{Appends}
+use Rattle.std.specs.Io.KnownBytes.{Appends, Consumes}
 use Rattle.pysource.specs.Bytes.{TakesFront, GivesTooMany}
 use Rattle.pysource.specs.Parts.{Parts}
-use Rattle.pysource.specs.Sources.{source_of}
-use Rattle.pysource.specs.declared.encodings.SourceFault.{SourceFault}
+use Rattle.pysource.specs.Streams.{stream_of}
+use Rattle.pysource.specs.declared.streams.StreamFault.{StreamFault}
 use Rattle.pylex.specs.declared.entries.Entry.{Entry}
 use Rattle.pylex.specs.declared.entries.Step.{Step}
 use Rattle.pylex.specs.declared.kinds.Kind.{Kind}
@@ -16,7 +16,8 @@ use Rattle.pylex.specs.CursorTexts.{IsWellFormed}
 use Rattle.pylex.specs.Listing.{Source, listing, rest, in_characters}
 use Rattle.pylex.specs.Steps.{entries_of, fault_of}
 use Rattle.pylex.specs.ListingLines.{listing_line, text_of}
-use Rattle.pyast.specs.Faults.{status_of, fault_line, Tells, of_listing, of_source}
+use Rattle.pyast.specs.Faults.{status_of, fault_line, Tells, is_unread, of_listing, of_stream}
+use Rattle.pyast.specs.declared.fault.FaultCode.{FaultCode}
 use Rattle.pyast.specs.declared.fault.FaultCode.TheVariants.{Read, Write, Memory, CursorOfAnotherSource}
 use Rattle.pyast.specs.declared.fault.Fault.{Fault}
 use Rattle.pyast.specs.declared.fault.Fault.TheVariants.{InSource, Plain}
@@ -80,15 +81,24 @@ abbrev pub start_in : Option CursorParts → Source → Option ℕ
 start_in None s = Some 0
 start_in (Some c) s = if is_cursor_of c s then Some c.given else None
 
--- what `tokens` writes of a source; nothing where the bytes are none, or it has no such cursor
-abbrev pub tokens_output : Bool → Option ℕ → Option CursorParts → Result Parts SourceFault → List ℕ
+-- steps end by a line that could not be read whole
+abbrev pub ends_unread : List Step → Bool
+ends_unread steps = elim (fault_of steps) [ Some f ↦ is_unread f.code | None ↦ false ]
+
+-- why a source has no such cursor: a read failed before so many entries, or the cursor is of another source
+abbrev pub missed : Option CursorParts → Source → FaultCode
+missed None s = CursorOfAnotherSource
+missed (Some c) s = if ends_unread (listing s) && nat_lt (length (entries_of (listing s))) c.given then Read else CursorOfAnotherSource
+
+-- what `tokens` writes of a source; nothing where there is none, or it has no such cursor
+abbrev pub tokens_output : Bool → Option ℕ → Option CursorParts → Result Parts StreamFault → List ℕ
 tokens_output exact count resume (Ok p) = elim (start_in resume (in_characters p)) [ Some k ↦ output_from exact p count k | None ↦ [] ]
 tokens_output exact count resume (Err fault) = []
 
 -- the fault that `tokens` tells of a source
-abbrev pub tokens_fault : Option ℕ → Option CursorParts → Result Parts SourceFault → Option Fault
-tokens_fault count resume (Ok p) = elim (start_in resume (in_characters p)) [ Some k ↦ fault_from p count k | None ↦ Some (Plain CursorOfAnotherSource) ]
-tokens_fault count resume (Err fault) = Some (of_source fault)
+abbrev pub tokens_fault : Option ℕ → Option CursorParts → Result Parts StreamFault → Option Fault
+tokens_fault count resume (Ok p) = elim (start_in resume (in_characters p)) [ Some k ↦ fault_from p count k | None ↦ Some (Plain (missed resume (in_characters p))) ]
+tokens_fault count resume (Err fault) = Some (of_stream fault)
 
 -- what a command has: whether operators are shown by their exact names, the largest count of entries, the cursor to go on from
 abbrev pub is_exact : Command → Bool
@@ -100,48 +110,63 @@ count_of (Tokens exact count resume file) = count
 abbrev pub resume_of : Command → Option CursorParts
 resume_of (Tokens exact count resume file) = resume
 
--- the whole output of a command on the bytes of a source, and the fault that it tells of them
-abbrev pub output_of : Command → List ℕ → List ℕ
-output_of command bytes = tokens_output (is_exact command) (count_of command) (resume_of command) (source_of bytes)
+-- the whole output of a command on the bytes of a source, behind which a read failed or not, and the fault that it tells of them
+abbrev pub output_of : Command → Bool → List ℕ → List ℕ
+output_of command broken bytes = tokens_output (is_exact command) (count_of command) (resume_of command) (stream_of broken bytes)
 
-abbrev pub fault_in : Command → List ℕ → Option Fault
-fault_in command bytes = tokens_fault (count_of command) (resume_of command) (source_of bytes)
+abbrev pub fault_in : Command → Bool → List ℕ → Option Fault
+fault_in command broken bytes = tokens_fault (count_of command) (resume_of command) (stream_of broken bytes)
 
 -- what the words can ask for: a count of at most 1,000,000,000, and a cursor that has a text
 abbrev pub IsWithinLimits : Command → Type 0
 IsWithinLimits (Tokens exact count resume file) = IfSome count (λ n. n ≤ 1_000_000_000) × IfSome resume IsWellFormed
 
 -- What a writer took, from old to new, where a run with this whole output and this fault of the source ended by a fault
--- or by none: all of the output where it ended by what the source says (a cursor of another one included), nothing after a failed read, and else a front.
+-- or by none: all of the output where it ended by what the source says (a cursor of another one and a failed read included), and else a front.
 abbrev pub WritesFor : List ℕ → Option Fault → Option (List ℕ) → Option (List ℕ) → Option Fault → Type 0
 WritesFor output told old new None = (told ≡ None) × Appends old new output
 WritesFor output told old new (Some (InSource code place)) = (told ≡ Some (InSource code place)) × Appends old new output
-WritesFor output told old new (Some (Plain code)) = elim code [ Read ↦ Appends old new [] | Write ↦ TakesFront old new output | Memory ↦ TakesFront old new output | CursorOfAnotherSource ↦ (told ≡ Some (Plain CursorOfAnotherSource)) × Appends old new output | _ ↦ ⊥ ]
+WritesFor output told old new (Some (Plain code)) = elim code [ Read ↦ (told ≡ Some (Plain Read)) × Appends old new output | Write ↦ TakesFront old new output | Memory ↦ TakesFront old new output | CursorOfAnotherSource ↦ (told ≡ Some (Plain CursorOfAnotherSource)) × Appends old new output | _ ↦ ⊥ ]
 
 -- the writer took a front of the output, of which this much is held and the rest left
 abbrev pub TakesAllBut : Option (List ℕ) → Option (List ℕ) → List ℕ → List ℕ → List ℕ → Type 0
 TakesAllBut old new output held left = (written : List ℕ) × (output ≡ (written ++ held) ++ left) × Appends old new written
 
--- as WritesFor where no read or write failed, but that the last of what is to be written is still held
+-- as WritesFor where no write failed and a cursor was found, but that the last of what is to be written is still held
 abbrev pub HoldsFor : List ℕ → Option Fault → Option (List ℕ) → Option (List ℕ) → List ℕ → Option Fault → Type 0
 HoldsFor output told old new held None = (told ≡ None) × TakesAllBut old new output held []
 HoldsFor output told old new held (Some (InSource code place)) = (told ≡ Some (InSource code place)) × TakesAllBut old new output held []
-HoldsFor output told old new held (Some (Plain code)) = elim code [ Memory ↦ (left : List ℕ) × TakesAllBut old new output held left | _ ↦ ⊥ ]
+HoldsFor output told old new held (Some (Plain code)) = elim code [ Memory ↦ (left : List ℕ) × TakesAllBut old new output held left | Read ↦ (told ≡ Some (Plain Read)) × TakesAllBut old new output held [] | _ ↦ ⊥ ]
 
 -- the outcome of a call as the fault that ended it, if one did
 abbrev pub ended_by : {A : Type 0} → Result A Fault → Option Fault
 ended_by (Ok a) = None
 ended_by (Err fault) = Some fault
 
--- the input is these bytes, where it is known
-abbrev pub IsInput : Option (List ℕ) → List ℕ → Type 0
-IsInput None input = ⊤
-IsInput (Some known) input = known ≡ input
+-- a read failed behind these bytes
+pub record FailsBehind (come_old come_new : Option (List ℕ)) (reads_old reads_new : ℕ) (input : List ℕ) : Type 0 where
+  pub front : Consumes come_old come_new input
+  pub failed : reads_new ≡ reads_old + 1
 
--- what a command does with some input, which is what the reader was to give
-abbrev pub Performs : Command → Option (List ℕ) → Option (List ℕ) → Option (List ℕ) → Option Fault → Type 0
-Performs command to_come old new ended =
-    (input : List ℕ) × IsInput to_come input × WritesFor (output_of command input) (fault_in command input) old new ended
+-- these are as many bytes as a source may have, and the reader gave more, or has more to give
+pub record PassesLimit (come_old come_new : Option (List ℕ)) (reads_old reads_new limit : ℕ) (input : List ℕ) : Type 0 where
+  pub past : List ℕ
+  pub some : 0 < length past
+  pub full : length input ≡ limit
+  pub front : Consumes come_old come_new (input ++ past) ⊎ (come_old ≡ Some (input ++ past))
+  pub unfailed : reads_new ≡ reads_old
+
+-- A run whose output and fault are known by what it reads (bytes, behind which a read failed or not) did so with what its reader gives:
+-- the bytes up to the end, or those before a failed read or before the one that passes the limit.
+-- A failed read ends a run only where a read failed, or the reader gave more than a source may have.
+pub record Performs (output : Bool → List ℕ → List ℕ) (told : Bool → List ℕ → Option Fault) (come_old come_new : Option (List ℕ)) (reads_old reads_new : ℕ)
+    (old new : Option (List ℕ)) (limit : ℕ) (ended : Option Fault) : Type 0 where
+  pub input : List ℕ
+  pub broken : Bool
+  pub whole : broken ≡ false → IfSome come_old (λ known. known ≡ input) × (reads_new ≡ reads_old)
+  pub cut : broken ≡ true → FailsBehind come_old come_new reads_old reads_new input ⊎ PassesLimit come_old come_new reads_old reads_new limit input
+  pub read : ended ≡ Some (Plain Read) → (reads_new ≡ reads_old + 1) ⊎ GivesTooMany come_old come_new limit
+  pub writes : WritesFor (output broken input) (told broken input) old new ended
 
 -- the file that a command names
 abbrev pub file_of : Command → Option (List ℕ)
@@ -157,12 +182,10 @@ told_line name None = []
 told_line name (Some fault) = fault_line name fault
 
 -- a run of a command that ended by this fault or by none: its status, what it wrote and told, and when a read or a write is blamed
-pub record IsRun (command : Command) (to_come left : Option (List ℕ)) (reads_old reads_new : ℕ) (old new : Option (List ℕ)) (writes_old writes_new : ℕ)
+pub record IsRun (command : Command) (come_old come_new : Option (List ℕ)) (reads_old reads_new : ℕ) (old new : Option (List ℕ)) (writes_old writes_new : ℕ)
     (told_old told_new : Option (List ℕ)) (tells_old tells_new limit : ℕ) (answer : ℕ) (ended : Option Fault) : Type 0 where
   pub status : answer ≡ status_of ended
-  pub output : Performs command to_come old new ended
+  pub output : Performs (output_of command) (fault_in command) come_old come_new reads_old reads_new old new limit ended
   pub told : Tells told_old told_new tells_old tells_new (told_line (name_of command) ended)
-  pub read_failed : ended ≡ Some (Plain Read) → reads_new ≡ reads_old → GivesTooMany to_come left limit
-  pub read_told : ended ≢ Some (Plain Read) → reads_new ≡ reads_old
   pub write_failed : ended ≡ Some (Plain Write) → writes_new ≡ writes_old + 1
   pub write_told : ended ≢ Some (Plain Write) → writes_new ≡ writes_old

@@ -1,9 +1,9 @@
 //! The faults that the program tells: their texts, their statuses and their lines.
 ghost use Rattle.std.specs.Prelude.{◌≡◌, ◌<◌, ◌-◌, ◌^◌, IfOk, string_bytes, Some};
-ghost use Rattle.pyast.specs.Faults.{text_of, code_status, status_of, fault_line, source_line, plain_line, of_listing, of_source, code_of, Tells, IsToldAs};
+ghost use Rattle.pyast.specs.Faults.{text_of, code_status, status_of, fault_line, source_line, plain_line, of_listing, of_stream, is_unread, code_of, Tells, IsToldAs};
 
 use pylex::{ListingError, ListingFault};
-use pysource::{ByteOut, LineError, Place, SourceFault, WriteFailed, write_all};
+use pysource::{ByteOut, LineError, Place, StreamFault, WriteFailed, write_all};
 use std::alloc::{AllocError, Global};
 
 /// What can be told at the end of a run.
@@ -86,21 +86,35 @@ impl From<ListingFault> for Fault {
     ghost from_gives = { λ fault r. r ≡ of_listing fault };
 
     fn from(fault: ListingFault) -> Fault {
+        if is_unread(fault.code) {
+            return Fault::Plain(FaultCode::Read);
+        }
         Fault::InSource(listing_code(fault.code), fault.place)
     }
 }
 
-impl From<SourceFault> for Fault {
-    ghost from_gives = { λ fault r. r ≡ of_source fault };
+impl From<StreamFault> for Fault {
+    ghost from_gives = { λ fault r. r ≡ of_stream fault };
 
-    fn from(fault: SourceFault) -> Fault {
+    fn from(fault: StreamFault) -> Fault {
         match fault {
-            SourceFault::UnsupportedEncoding(place) => {
+            StreamFault::UnsupportedEncoding(place) => {
                 Fault::InSource(FaultCode::UnsupportedEncoding, place)
             }
-            SourceFault::BomConflict(place) => Fault::InSource(FaultCode::BomConflict, place),
-            SourceFault::Memory => Fault::Plain(FaultCode::Memory),
+            StreamFault::BomConflict(place) => Fault::InSource(FaultCode::BomConflict, place),
+            StreamFault::Read => Fault::Plain(FaultCode::Read),
+            StreamFault::Memory => Fault::Plain(FaultCode::Memory),
         }
+    }
+}
+
+// Whether what ends a listing is a line that could not be read whole.
+fn is_unread(error: ListingError) -> bool
+    ensures { result ≡ is_unread error }
+{
+    match error {
+        ListingError::Line(LineError::Unread) => true,
+        _ => false,
     }
 }
 
@@ -112,6 +126,7 @@ fn listing_code(error: ListingError) -> FaultCode
         ListingError::Line(LineError::NotUtf8) => FaultCode::NotUtf8,
         ListingError::Line(LineError::NotAscii) => FaultCode::NotAscii,
         ListingError::Line(LineError::LoneReturn) => FaultCode::LoneReturn,
+        ListingError::Line(LineError::Unread) => FaultCode::Read,
         ListingError::BadCharacter => FaultCode::BadCharacter,
         ListingError::UnterminatedString => FaultCode::UnterminatedString,
         ListingError::EofInString => FaultCode::EofInString,

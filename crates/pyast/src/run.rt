@@ -1,18 +1,20 @@
 //! A run of the program, over a reader and two writers.
-ghost use Rattle.std.specs.Prelude.{◌≡◌, ◌≢◌, ◌⊎◌, ◌+◌, ◌-◌, ◌^◌, ◌<◌, [], ◌++◌, Option, Some, None, option_map, Ok, OnOk, OnErr, IfOk, IfErr, string_bytes};
+ghost use Rattle.std.specs.Prelude.{◌≡◌, ◌≢◌, ℕ, ◌+◌, ◌-◌, ◌^◌, ◌<◌, ◌≤◌, Bool, true, false, List, [], ◌++◌, Option, Some, None, option_map, OnOk, OnErr, IfOk, IfErr, string_bytes};
 ghost use Rattle.pysource.specs.declared.bytes.TheConstants.{SOURCE_LIMIT};
-ghost use Rattle.pysource.specs.Bytes.{TakesFront, GivesTooMany};
-ghost use Rattle.pylex.specs.Laws.{AllLie};
-ghost use Rattle.pylex.specs.Listers.{StandsIn};
-ghost use Rattle.pylex.specs.Listing.{listing, in_characters};
+ghost use Rattle.pysource.specs.Bytes.{TakesFront};
+ghost use Rattle.pysource.specs.Parts.{Parts};
+ghost use Rattle.pysource.specs.Streams.{stream_of};
+ghost use Rattle.pysource.specs.Taking.{fails};
+ghost use Rattle.pylex.specs.Streamed.{Continues, StreamsIn};
 ghost use Rattle.pyast.specs.declared.fault.Fault.{Fault};
-ghost use Rattle.pyast.specs.Runs.{is_exact, count_of, resume_of, cursor_line, left_behind, output_from, fault_from, start_in, tokens_output, tokens_fault, HoldsFor, WritesFor, ended_by, Performs, IsRun};
+ghost use Rattle.pyast.specs.Runs.{is_exact, count_of, resume_of, cursor_line, left_behind, tokens_output, tokens_fault, output_of, fault_in, HoldsFor, ended_by, Performs, IsRun};
+ghost use Rattle.pyast.specs.Taken.{Starts, Goes};
 
 use crate::command::Command;
 use crate::fault::{Fault, FaultCode, tell};
-use pylex::{Cursor, CursorFault, Kind, Lister, Step, push_line, text};
+use pylex::{Cursor, Kind, LineLister, ResumeFault, Step, push_line};
 pub use pysource::{ByteIn, ByteOut};
-use pysource::{InputFault, Source, WriteFailed, decode, read_all, write_all};
+use pysource::{WriteFailed, write_all};
 use std::alloc::{AllocError, Global};
 
 /// How many bytes of lines are held at least before they are written.
@@ -22,7 +24,7 @@ const ENOUGH: usize = 32_768;
 const ROOM: usize = 65_536;
 
 // Appends the line of the cursor at which a lister stands.
-fn push_cursor(held: &mut String, lister: &Lister<'_>) -> Result<(), AllocError>
+fn push_cursor(held: &mut String, lister: &LineLister) -> Result<(), AllocError>
     ensures ok { OnOk result (string_bytes held.new ≡ string_bytes held.old ++ cursor_line lister.entry.now.shown) }
     ensures err { OnErr result (string_bytes held.new ≡ string_bytes held.old) }
 {
@@ -44,40 +46,50 @@ fn left_behind(left: Option<u64>, kind: Kind) -> Option<u64>
     }
 }
 
+// Whether a count allows no further entry.
+fn is_reached(left: Option<u64>) -> bool
+    ensures reached { result ≡ true → left ≡ Some 0 }
+    ensures open { result ≡ false → left ≢ Some 0 }
+{
+    matches!(left, Some(0))
+}
+
 // Writes the line of each entry that a lister still gives, up to a count and then that of the cursor, and leaves the last
 // of them in `held`. The answer is the fault that ends the listing, if one does.
-fn list<W: ByteOut>(
-    source: &Source,
-    mut lister: Lister<'_>,
+fn list<R: ByteIn, W: ByteOut>(
+    mut lister: LineLister,
     exact: bool,
     count: Option<u64>,
     held: &mut String,
+    reader: &mut R,
     writer: &mut W,
 ) -> Result<Option<Fault>, WriteFailed>
-    requires count { W.failure_count writer.old < 2 ^ 64 - 1 }
+    requires reads { R.failure_count reader.old < 2 ^ 64 - 1 + fails lister.lines.reach }
+    requires writes { W.failure_count writer.old < 2 ^ 64 - 1 }
     requires empty { string_bytes held.old ≡ [] }
-    requires stands { StandsIn lister (in_characters source.now) lister.shown.given }
-    requires lies { AllLie source.now.text (listing (in_characters source.now)) }
-    ensures holds { IfOk result (HoldsFor (output_from exact source.now count lister.entry.shown.given) (fault_from source.now count lister.entry.shown.given)
-        (W.taken writer.old) (W.taken writer.new) (string_bytes held.new)) }
+    requires within { lister.lines.count ≤ SOURCE_LIMIT }
+    requires stands { (more : List ℕ) (broken : Bool) → Continues lister.lines more broken → (p : Parts) × StreamsIn lister p lister.shown.given more broken }
+    ensures holds { IfOk result (λ ended. Goes (R.to_come reader.old) (R.to_come reader.new) (R.failure_count reader.old) (R.failure_count reader.new) lister exact count
+        (λ output told. HoldsFor output told (W.taken writer.old) (W.taken writer.new) (string_bytes held.new) ended)) }
     ensures unfailed { OnOk result (W.failure_count writer.new ≡ W.failure_count writer.old) }
-    ensures front { OnErr result (TakesFront (W.taken writer.old) (W.taken writer.new) (output_from exact source.now count lister.entry.shown.given)) }
+    ensures front { OnErr result (Goes (R.to_come reader.old) (R.to_come reader.new) (R.failure_count reader.old) (R.failure_count reader.new) lister exact count
+        (λ output told. TakesFront (W.taken writer.old) (W.taken writer.new) output)) }
     ensures failed { OnErr result (W.failure_count writer.new ≡ W.failure_count writer.old + 1) }
 {
     let mut left = count;
     loop {
-        if let Some(0) = left {
+        if is_reached(left) {
             let Ok(()) = push_cursor(held, &lister) else {
                 return Ok(Some(Fault::Plain(FaultCode::Memory)));
             };
             return Ok(None);
         }
-        let Ok(step) = lister.next() else {
+        let Ok(step) = lister.next(reader) else {
             return Ok(Some(Fault::Plain(FaultCode::Memory)));
         };
         match step {
             Step::Entry(entry) => {
-                if push_line(held, &entry, text(source, &entry), exact).is_err() {
+                if push_line(held, &entry, lister.text(&entry), exact).is_err() {
                     return Ok(Some(Fault::Plain(FaultCode::Memory)));
                 }
                 left = left_behind(left, entry.kind);
@@ -92,51 +104,57 @@ fn list<W: ByteOut>(
     }
 }
 
-// Begins at the start of a source, or behind a cursor, which must be one of the source.
-fn begin<'a>(
+// Begins at the start of what a reader gives, or behind a cursor, which must be one of that source.
+fn begin<R: ByteIn>(
     alloc: Global,
-    source: &'a Source,
     resume: Option<&Cursor>,
-) -> Result<Lister<'a>, Fault>
-    ensures stands { IfOk result (λ lister. StandsIn lister (in_characters source.now) lister.shown.given) }
-    ensures start { IfOk result (λ lister. start_in (option_map (λ c. c.now) resume.entry) (in_characters source.now) ≡ Some lister.shown.given) }
-    ensures refused { IfErr result (λ fault. (fault ≡ Fault.Plain FaultCode.Memory) ⊎
-        ((fault ≡ Fault.Plain FaultCode.CursorOfAnotherSource) × (start_in (option_map (λ c. c.now) resume.entry) (in_characters source.now) ≡ None))) }
-    ensures lies { AllLie source.now.text (listing (in_characters source.now)) }
+    reader: &mut R,
+) -> Result<LineLister, Fault>
+    requires { R.failure_count reader.old < 2 ^ 64 - 1 }
+    ensures starts { IfOk result (λ lister. Starts (R.to_come reader.old) (R.to_come reader.new) (R.failure_count reader.old) (R.failure_count reader.new)
+        (option_map (λ c. c.now) resume.entry) lister) }
+    ensures refused { IfErr result (λ fault. (exact : Bool) (count : Option ℕ) (taken : Option (List ℕ)) →
+        Performs (λ broken input. tokens_output exact count (option_map (λ c. c.now) resume.entry) (stream_of broken input))
+        (λ broken input. tokens_fault count (option_map (λ c. c.now) resume.entry) (stream_of broken input))
+        (R.to_come reader.old) (R.to_come reader.new) (R.failure_count reader.old) (R.failure_count reader.new) taken taken SOURCE_LIMIT (Some fault)) }
+    ensures untouched { IfErr result (λ fault. fault ≢ Fault.Plain FaultCode.Write) }
 {
-    let first = Lister::new(alloc, source);
     let Some(cursor) = resume else {
-        return Ok(first);
+        return match LineLister::new(alloc, reader) {
+            Ok(lister) => Ok(lister),
+            Err(fault) => Err(Fault::from(fault)),
+        };
     };
-    match Lister::resume_checked(alloc, source, cursor) {
+    match LineLister::resume_checked(alloc, reader, cursor) {
         Ok(lister) => Ok(lister),
-        Err(CursorFault::AnotherSource) => Err(Fault::Plain(FaultCode::CursorOfAnotherSource)),
-        Err(_) => Err(Fault::Plain(FaultCode::Memory)),
+        Err(ResumeFault::Stream(fault)) => Err(Fault::from(fault)),
+        Err(ResumeFault::AnotherSource) => Err(Fault::Plain(FaultCode::CursorOfAnotherSource)),
     }
 }
 
-// Writes the listing of a source. What is held at its end is written before a fault is told, and a failure of that
-// write is what ends the run then: it is met first.
-fn tokens<W: ByteOut>(
+// Writes the listing of what a reader gives, read line by line. What is held at its end is written before a fault is
+// told, and a failure of that write is what ends the run then: it is met first.
+fn tokens<R: ByteIn, W: ByteOut>(
     alloc: Global,
-    source: &Source,
     exact: bool,
     count: Option<u64>,
     resume: Option<&Cursor>,
+    reader: &mut R,
     writer: &mut W,
 ) -> Result<(), Fault>
-    requires { W.failure_count writer.old < 2 ^ 64 - 1 }
-    ensures writes { WritesFor (tokens_output exact count (option_map (λ c. c.now) resume.entry) (Ok source.now))
-        (tokens_fault count (option_map (λ c. c.now) resume.entry) (Ok source.now)) (W.taken writer.old) (W.taken writer.new) (ended_by result) }
+    requires reader { R.failure_count reader.old < 2 ^ 64 - 1 }
+    requires writer { W.failure_count writer.old < 2 ^ 64 - 1 }
+    ensures performs { Performs (λ broken input. tokens_output exact count (option_map (λ c. c.now) resume.entry) (stream_of broken input))
+        (λ broken input. tokens_fault count (option_map (λ c. c.now) resume.entry) (stream_of broken input))
+        (R.to_come reader.old) (R.to_come reader.new) (R.failure_count reader.old) (R.failure_count reader.new) (W.taken writer.old) (W.taken writer.new) SOURCE_LIMIT (ended_by result) }
     ensures failed { ended_by result ≡ Some (Fault.Plain FaultCode.Write) → W.failure_count writer.new ≡ W.failure_count writer.old + 1 }
     ensures unfailed { ended_by result ≢ Some (Fault.Plain FaultCode.Write) → W.failure_count writer.new ≡ W.failure_count writer.old }
-    ensures unread { ended_by result ≢ Some (Fault.Plain FaultCode.Read) }
 {
-    let lister = begin(alloc, source, resume)?;
+    let lister = begin(alloc, resume, reader)?;
     let Ok(mut held) = String::with_capacity(alloc, ROOM) else {
         return Err(Fault::Plain(FaultCode::Memory));
     };
-    let Ok(ended) = list(source, lister, exact, count, &mut held, writer) else {
+    let Ok(ended) = list(lister, exact, count, &mut held, reader, writer) else {
         return Err(Fault::Plain(FaultCode::Write));
     };
     if let Err(_) = write_all(writer, held.as_bytes()) {
@@ -175,7 +193,7 @@ fn resume_of(command: &Command) -> Option<&Cursor>
     }
 }
 
-// Reads the source whole, and does what the command says.
+// Does what the command says with what a reader gives.
 fn perform<R: ByteIn, W: ByteOut>(
     alloc: Global,
     command: &Command,
@@ -184,31 +202,22 @@ fn perform<R: ByteIn, W: ByteOut>(
 ) -> Result<(), Fault>
     requires reader { R.failure_count reader.old < 2 ^ 64 - 1 }
     requires writer { W.failure_count writer.old < 2 ^ 64 - 1 }
-    ensures performs { Performs command.now (R.to_come reader.old) (W.taken writer.old) (W.taken writer.new) (ended_by result) }
-    ensures read_failed { ended_by result ≡ Some (Fault.Plain FaultCode.Read) → R.failure_count reader.new ≡ R.failure_count reader.old →
-        GivesTooMany (R.to_come reader.old) (R.to_come reader.new) SOURCE_LIMIT }
-    ensures read_told { ended_by result ≢ Some (Fault.Plain FaultCode.Read) → R.failure_count reader.new ≡ R.failure_count reader.old }
+    ensures performs { Performs (output_of command.now) (fault_in command.now) (R.to_come reader.old) (R.to_come reader.new) (R.failure_count reader.old) (R.failure_count reader.new)
+        (W.taken writer.old) (W.taken writer.new) SOURCE_LIMIT (ended_by result) }
     ensures write_failed { ended_by result ≡ Some (Fault.Plain FaultCode.Write) → W.failure_count writer.new ≡ W.failure_count writer.old + 1 }
     ensures write_told { ended_by result ≢ Some (Fault.Plain FaultCode.Write) → W.failure_count writer.new ≡ W.failure_count writer.old }
 {
-    let bytes = match read_all(alloc, reader) {
-        Ok(bytes) => bytes,
-        Err(InputFault::Read) => return Err(Fault::Plain(FaultCode::Read)),
-        Err(InputFault::Memory) => return Err(Fault::Plain(FaultCode::Memory)),
-    };
-    let source = match decode(alloc, bytes.as_slice()) {
-        Ok(source) => source,
-        Err(fault) => return Err(Fault::from(fault)),
-    };
-    drop(bytes);
     let exact = is_exact(command);
     let count = count_of(command);
-    tokens(alloc, &source, exact, count, resume_of(command), writer)
+    tokens(alloc, exact, count, resume_of(command), reader, writer)
 }
 
-/// A run of the program: reads the source of `reader` whole, writes to `writer` what the command gives, and tells what
-/// ended the run early, if anything did, in a line to `faults`. The answer is the status that the program ends with: 0
-/// where all was done, or that of the fault told.
+/// A run of the program: reads the source of `reader` line by line, writes to `writer` what the command gives, and tells
+/// what ended the run early, if anything did, in a line to `faults`. The answer is the status that the program ends with:
+/// 0 where all was done, or that of the fault told.
+///
+/// Where a read fails, or the source is too long, what is written and told is that of the lines that were read whole: the
+/// entries of those, and then the failed read, unless a count or a fault of the source ends the run before.
 ///
 /// The file that the command names is the caller's to open; its name is used in the fault's line alone.
 pub fn run<R: ByteIn, W: ByteOut, F: ByteOut>(

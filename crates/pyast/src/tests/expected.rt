@@ -1,9 +1,10 @@
 //! What the tests compare with.
-ghost use Rattle.std.specs.Prelude.{◌≡◌};
+ghost use Rattle.std.specs.Prelude.{◌≡◌, ◌<◌, ◌-◌, ◌^◌};
 
 use crate::command::Command;
 use crate::fakes::{Narrow, Trickle};
 use crate::run::run;
+use pysource::{ByteIn, Counted};
 use std::alloc::{AllocError, Global};
 use std::process::Abort;
 use std::test::Fail;
@@ -82,7 +83,23 @@ pub fn lists_as(
         told.push_str(fault)?;
         told.push('\n')?;
     }
-    let mut reader = reader(source);
+    // A byte a read, and as many as there is room for.
+    let mut slow = reader(source);
+    let mut fast = Counted::new(source);
+    writes_and_tells(rt, alloc, &mut slow, wanted.as_bytes(), told.as_bytes())?;
+    writes_and_tells(rt, alloc, &mut fast, wanted.as_bytes(), told.as_bytes())
+}
+
+// Asserts that `tokens` writes and tells this of what a reader gives.
+fn writes_and_tells<R: ByteIn>(
+    rt: &impl Abort,
+    alloc: Global,
+    reader: &mut R,
+    wanted: &[u8],
+    told: &[u8],
+) -> Result<(), Fail>
+    requires { R.failure_count reader.old < 2 ^ 64 - 1 }
+{
     let mut output = writer(alloc);
     let mut faults = writer(alloc);
     let command = Command::Tokens {
@@ -91,13 +108,13 @@ pub fn lists_as(
         resume: None,
         file: None,
     };
-    let status = run(alloc, &command, &mut reader, &mut output, &mut faults);
-    assert_eq!(rt; output.taken.as_slice(), wanted.as_bytes(), "at {source:?}");
-    assert_eq!(rt; faults.taken.as_slice(), told.as_bytes(), "at {source:?}");
+    let status = run(alloc, &command, reader, &mut output, &mut faults);
+    assert_eq!(rt; output.taken.as_slice(), wanted);
+    assert_eq!(rt; faults.taken.as_slice(), told, "behind {wanted:?}");
     assert_eq!(rt;
         status,
-        if fault.is_empty() { 0 } else { 1 },
-        "at {source:?}"
+        if told.is_empty() { 0 } else { 1 },
+        "behind {wanted:?}"
     );
     Ok(())
 }

@@ -7,8 +7,10 @@ use crate::fault::{Fault, FaultCode};
 use crate::open_source;
 use crate::run::run;
 use crate::tests::expected::{push_lines, reader, writer};
+use pylex::Cursor;
 use pysource::Counted;
 use std::alloc::Global;
+use std::process::Abort;
 use std::test::Fail;
 
 const TOKENS: Command = Command::Tokens {
@@ -141,25 +143,186 @@ fn tells_a_failed_write_before_a_fault_of_the_source(rt: HostRuntime) -> Result<
     Ok(())
 }
 
+// Asserts that `tokens` writes these lines where the reader fails behind these bytes, and then tells the failed read.
+fn lists_read_lines(
+    rt: &impl Abort,
+    alloc: Global,
+    source: &[u8],
+    entries: &str,
+) -> Result<(), Fail> {
+    let mut wanted = String::new(alloc);
+    push_lines(&mut wanted, entries)?;
+    let mut reader = Trickle {
+        bytes: source,
+        fails: true,
+        failures: 0,
+    };
+    let mut output = writer(alloc);
+    let mut faults = writer(alloc);
+    let status = run(alloc, &TOKENS, &mut reader, &mut output, &mut faults);
+    assert_eq!(rt; output.taken.as_slice(), wanted.as_bytes(), "at {source:?}");
+    assert_eq!(rt;
+        faults.taken.as_slice(),
+        b"pyast: read failed\n".as_slice(),
+        "at {source:?}"
+    );
+    assert_eq!(rt; status, 3, "at {source:?}");
+    Ok(())
+}
+
+// Each is what was read before a read failed, and the lines that are written.
 #[test]
-fn writes_nothing_where_the_reader_fails(rt: HostRuntime) -> Result<(), Fail> {
+fn writes_the_lines_that_were_read_whole(rt: HostRuntime) -> Result<(), Fail> {
+    for (source, entries) in [
+        // The second line isn't whole.
+        (
+            b"x\ny".as_slice(),
+            "0,0-0,0 ENCODING 'utf-8'\n\
+             1,0-1,1 NAME 'x'\n\
+             1,1-1,2 NEWLINE '\\n'",
+        ),
+        (
+            b"x\n".as_slice(),
+            "0,0-0,0 ENCODING 'utf-8'\n\
+             1,0-1,1 NAME 'x'\n\
+             1,1-1,2 NEWLINE '\\n'",
+        ),
+        // Whether the block ends stands in the line that wasn't read.
+        (
+            b"if x:\n y\n".as_slice(),
+            "0,0-0,0 ENCODING 'utf-8'\n\
+             1,0-1,2 NAME 'if'\n\
+             1,3-1,4 NAME 'x'\n\
+             1,4-1,5 OP ':'\n\
+             1,5-1,6 NEWLINE '\\n'\n\
+             2,0-2,1 INDENT ' '\n\
+             2,1-2,2 NAME 'y'\n\
+             2,2-2,3 NEWLINE '\\n'",
+        ),
+        // The string may go on.
+        (
+            b"x = '''a\n".as_slice(),
+            "0,0-0,0 ENCODING 'utf-8'\n\
+             1,0-1,1 NAME 'x'\n\
+             1,2-1,3 OP '='",
+        ),
+        // The first line isn't whole, or the second may name the encoding.
+        (b"".as_slice(), ""),
+        (b"x".as_slice(), ""),
+        (b"# c\n".as_slice(), ""),
+        (b"\n# c".as_slice(), ""),
+    ] {
+        lists_read_lines(&rt, rt.alloc(), source, entries)?;
+    }
+    Ok(())
+}
+
+#[test]
+fn writes_nothing_where_the_reader_fails_before_the_encoding(rt: HostRuntime) -> Result<(), Fail> {
     let source = b"# x\n# coding: latin-1\n";
-    for given in 0..=source.len() {
+    for given in 0..source.len() {
+        lists_read_lines(&rt, rt.alloc(), &source[..given], "")?;
+    }
+    Ok(())
+}
+
+// A fault of the lines that were read whole stands before the failed read.
+#[test]
+fn tells_a_fault_before_a_failed_read(rt: HostRuntime) -> Result<(), Fail> {
+    for (source, line) in [
+        (
+            b"# x\n# coding: latin-1\n".as_slice(),
+            b"<stdin>:2:0: error: unsupported encoding\n".as_slice(),
+        ),
+        (
+            b"\xFF\nx".as_slice(),
+            b"<stdin>:1:0: error: invalid UTF-8\n".as_slice(),
+        ),
+        (
+            b")\nx".as_slice(),
+            b"<stdin>:1:0: error: unmatched closing bracket\n".as_slice(),
+        ),
+    ] {
         let mut reader = Trickle {
-            bytes: &source[..given],
+            bytes: source,
             fails: true,
             failures: 0,
         };
         let mut output = writer(rt.alloc());
         let mut faults = writer(rt.alloc());
         let status = run(rt.alloc(), &TOKENS, &mut reader, &mut output, &mut faults);
-        assert!(rt; output.taken.is_empty(), "at {given}");
-        assert_eq!(rt;
-            faults.taken.as_slice(),
+        assert_eq!(rt; faults.taken.as_slice(), line, "at {source:?}");
+        assert_eq!(rt; status, 1, "at {source:?}");
+    }
+    Ok(())
+}
+
+// A count stops the listing before the line that can't be read.
+#[test]
+fn stops_at_a_count_before_a_failed_read(rt: HostRuntime) -> Result<(), Fail> {
+    let mut wanted = String::new(rt.alloc());
+    push_lines(
+        &mut wanted,
+        "0,0-0,0 ENCODING 'utf-8'\n1,0-1,1 NAME 'x'\n1,1-1,2 NEWLINE '\\n'",
+    )?;
+    wanted.push_str("cursor pytok1 3 2 2 0 0 0 0\n")?;
+    let command = Command::Tokens {
+        exact: false,
+        count: Some(3),
+        resume: None,
+        file: None,
+    };
+    let mut reader = Trickle {
+        bytes: b"x\ny",
+        fails: true,
+        failures: 0,
+    };
+    let mut output = writer(rt.alloc());
+    let mut faults = writer(rt.alloc());
+    let status = run(rt.alloc(), &command, &mut reader, &mut output, &mut faults);
+    assert_eq!(rt; output.taken.as_slice(), wanted.as_bytes());
+    assert!(rt; faults.taken.is_empty());
+    assert_eq!(rt; status, 0);
+    Ok(())
+}
+
+// Whether a cursor behind more entries than were read is one of the source isn't known, so the failed read is told.
+#[test]
+fn tells_a_failed_read_before_a_cursor(rt: HostRuntime) -> Result<(), Fail> {
+    for (resume, line, wanted_status) in [
+        (
+            "pytok1 3 2 2 0 0 0 0",
             b"pyast: read failed\n".as_slice(),
-            "at {given}"
-        );
-        assert_eq!(rt; status, 3, "at {given}");
+            3,
+        ),
+        (
+            "pytok1 5 4 3 0 0 0 0",
+            b"pyast: read failed\n".as_slice(),
+            3,
+        ),
+        (
+            "pytok1 3 3 2 0 0 0 0",
+            b"pyast: cursor of another source\n".as_slice(),
+            2,
+        ),
+    ] {
+        let command = Command::Tokens {
+            exact: false,
+            count: None,
+            resume: Some(Cursor::from_text(rt.alloc(), resume)?),
+            file: None,
+        };
+        let mut reader = Trickle {
+            bytes: b"x\ny",
+            fails: true,
+            failures: 0,
+        };
+        let mut output = writer(rt.alloc());
+        let mut faults = writer(rt.alloc());
+        let status = run(rt.alloc(), &command, &mut reader, &mut output, &mut faults);
+        assert!(rt; output.taken.is_empty(), "at {resume}");
+        assert_eq!(rt; faults.taken.as_slice(), line, "at {resume}");
+        assert_eq!(rt; status, wanted_status, "at {resume}");
     }
     Ok(())
 }

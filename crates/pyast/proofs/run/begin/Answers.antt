@@ -1,10 +1,19 @@
-use Rattle.std.proofs.Common.{◌≡◌, ◌∙◌, ap, sym, Some}
-use Rattle.pylex.specs.Listing.{in_characters}
-use Rattle.pyast.proofs.CursorLemmas.{starts_behind}
+use Rattle.std.proofs.Common.{refl}
+use Rattle.pyast.proofs.StartLemmas.{starts, starts_at, refused, misses, misses_stream}
 use Rattle.pyast.proofs.run.begin.Goals as goal
 
-pub returns-in-Ok-clause-start : goal.returns-in-Ok-clause-start
-returns-in-Ok-clause-start c =
-    let behind = starts_behind c.in-Some.cursor.now (in_characters c.args.source.now) c.in-Ok.ensures.own in
-    let given : c.in-Ok.lister.shown.given ≡ c.in-Some.cursor.now.given = ap (λ l. l.shown.given) c.in-Ok.ensures.lister in
-    rw c.in-Some.is (behind ∙ ap (λ n. Some n) (sym given))
+pub returns-in-Ok-clause-starts : goal.returns-in-Ok-clause-starts
+returns-in-Ok-clause-starts g c = rw c.in_default.is (starts _ _ _ _ _ _ 0 c.in-Ok.ensures.begins c.in-Ok.ensures.given (λ p more broken s. refl))
+
+pub returns-in-Ok-resume_checked-clause-starts : goal.returns-in-Ok-resume_checked-clause-starts
+returns-in-Ok-resume_checked-clause-starts g c = rw c.in-Some.is (starts_at _ _ _ _ _ _ c.in-Ok-resume_checked.ensures.begins c.in-Ok-resume_checked.ensures.shown)
+
+pub returns-in-Err-clause-refused : goal.returns-in-Err-clause-refused
+returns-in-Err-clause-refused g c = λ exact count taken. rw c.from.ensures (refused exact count _ _ _ _ _ c.in-Err.fault taken c.in-Err.ensures.refuses)
+
+pub returns-in-Err-Stream-clause-refused : goal.returns-in-Err-Stream-clause-refused
+returns-in-Err-Stream-clause-refused g c = λ exact count taken.
+    rw (c.in-Some.is, c.from-in-Err-Stream.ensures) (misses_stream exact count _ _ _ _ _ c.in-Err-Stream.fault taken (rw c.in-Err-Stream.field-0-is at c.in-Err-Stream.ensures.misses))
+
+pub returns-in-Err-AnotherSource-clause-refused : goal.returns-in-Err-AnotherSource-clause-refused
+returns-in-Err-AnotherSource-clause-refused g c = λ exact count taken. rw c.in-Some.is (misses exact count _ _ _ _ _ taken (rw c.in-Err-AnotherSource.field-0-is at c.in-Err-AnotherSource.ensures.misses))

@@ -1,16 +1,15 @@
-use Rattle.std.proofs.Common.{◌≡◌, string_bytes, length}
-use Rattle.pylex.specs.Listers.{StandsIn}
-use Rattle.pylex.specs.Listing.{in_characters, rest}
-use Rattle.pyast.specs.Runs.{output_from, fault_from, TakesAllBut}
+use Rattle.std.proofs.Common.{◌≡◌, ◌+◌, ◌-◌, ◌^◌, ◌<◌, string_bytes}
+use Rattle.pysource.specs.Taking.{fails}
+use Rattle.pyast.proofs.ListLemmas.{Came, MOST}
 use Rattle.pyast.proofs.run.list.Given as goal
 
 abbrev pub invariant-loop-left : goal.invariant-loop-left
 invariant-loop-left g l = record {
-  stands : StandsIn l.lister (in_characters l.source) l.lister.shown.given;
-  holds : TakesAllBut (g.W.ByteOut.taken l.fn.writer) (g.W.ByteOut.taken l.writer) (output_from l.exact l.source l.fn.count l.fn.lister.shown.given) (string_bytes l.held) (output_from l.exact l.source l.left l.lister.shown.given);
-  told : fault_from l.source l.fn.count l.fn.lister.shown.given ≡ fault_from l.source l.left l.lister.shown.given;
+  came : Came (g.R.ByteIn.to_come l.fn.reader) (g.R.ByteIn.to_come l.reader) (g.R.ByteIn.failure_count l.fn.reader) (g.R.ByteIn.failure_count l.reader) l.fn.lister l.lister l.exact l.fn.count l.left
+      (g.W.ByteOut.taken l.fn.writer) (g.W.ByteOut.taken l.writer) (string_bytes l.held);
+  room : g.R.ByteIn.failure_count l.reader < 2 ^ 64 - 1 + fails l.lister.lines.reach;
   counted : g.W.ByteOut.failure_count l.writer ≡ g.W.ByteOut.failure_count l.fn.writer;
 }
 
 abbrev pub decreases-loop-left : goal.decreases-loop-left
-decreases-loop-left g l = length (rest (in_characters l.source) l.lister.shown.given)
+decreases-loop-left g l = MOST - l.lister.shown.given
