@@ -5,7 +5,8 @@ use Rattle.std.specs.Io.KnownBytes.{Appends}
 use Rattle.pysource.specs.Bytes.{TakesFront}
 use Rattle.pysource.proofs.ByteLemmas.{Appends-append, TakesFront-after, TakesFront-done}
 use Rattle.pylex.specs.declared.entries.ListingFault.{ListingFault}
-use Rattle.pyast.specs.Faults.{Tells, is_unread, of_listing, IsToldAs}
+use Rattle.pylex.specs.Streamed.{is_unread_code}
+use Rattle.pyast.specs.Faults.{Tells, of_listing, IsToldAs}
 use Rattle.pyast.specs.Runs.{TakesAllBut, HoldsFor, WritesFor, Performs}
 use Rattle.pyast.specs.declared.fault.FaultCode.{FaultCode}
 use Rattle.pyast.specs.declared.fault.FaultCode.TheVariants.{Read, Write, Memory, CursorOfAnotherSource}
@@ -81,9 +82,9 @@ HoldsFor-written output told x y z held (Some (Plain other)) p q = absurd p
 -- a listing ended by a fault, and all before that is held
 pub HoldsFor-fault : (output : List ℕ) (told : Option Fault) (x y : Option (List ℕ)) (held : List ℕ) (f : ListingFault) → told ≡ Some (of_listing f) → TakesAllBut x y output held []
     → HoldsFor output told x y held (Some (of_listing f))
-HoldsFor-fault output told x y held f is p = by_code (is_unread f.code) refl
+HoldsFor-fault output told x y held f is p = by_code (is_unread_code f.code) refl
   where
-    by_code : (b : Bool) → is_unread f.code ≡ b → HoldsFor output told x y held (Some (of_listing f))
+    by_code : (b : Bool) → is_unread_code f.code ≡ b → HoldsFor output told x y held (Some (of_listing f))
     by_code true e = rw e (rw e at is, p)
     by_code false e = rw e (rw e at is, p)
 

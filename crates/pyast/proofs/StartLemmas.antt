@@ -22,8 +22,8 @@ use Rattle.pylex.specs.Cursors.{CursorParts}
 use Rattle.pylex.specs.Listing.{in_characters, listing}
 use Rattle.pylex.specs.Standing.{IsCursorOf}
 use Rattle.pylex.specs.Steps.{entries_of, fault_of}
-use Rattle.pylex.specs.Streamed.{Streamed, StreamsIn, Begins, Misses, MissesBy, EndsUnread}
-use Rattle.pyast.specs.Faults.{is_unread, of_stream}
+use Rattle.pylex.specs.Streamed.{Streamed, StreamsIn, Begins, Misses, MissesBy, EndsUnread, is_unread_code}
+use Rattle.pyast.specs.Faults.{of_stream}
 use Rattle.pyast.specs.Runs.{start_in, ends_unread, missed, tokens_output, tokens_fault, HoldsFor, WritesFor, Performs}
 use Rattle.pyast.specs.Taken.{TookAll, Starts, Goes}
 use Rattle.pyast.specs.declared.fault.Fault.{Fault}
@@ -75,7 +75,7 @@ refused exact count resume come new told_old told_new (stream_faults.Unsupported
 refused exact count resume come new told_old told_new (stream_faults.BomConflict place) x r =
     performs _ _ told_old told_new x x _ r.taken _ (quiet count resume) come new r.reach r.reads (λ more broken f w. rw (r.explains.1 more broken f) (refl, Appends-refl x))
 
-is_unread_is : (e : ListingError) → is_unread e ≡ true → e ≡ errors.Line line_errors.Unread
+is_unread_is : (e : ListingError) → is_unread_code e ≡ true → e ≡ errors.Line line_errors.Unread
 is_unread_is (errors.Line line_errors.Unread) h = refl
 is_unread_is (errors.Line line_errors.NotUtf8) h = cc
 is_unread_is (errors.Line line_errors.NotAscii) h = cc
@@ -91,7 +91,7 @@ both : (a b : Bool) → (a && b) ≡ true → (a ≡ true) × (b ≡ true)
 both true b h = (refl, h)
 both false b h = cc
 
-unread_of : (o : Option ListingFault) → elim o [ Some f ↦ is_unread f.code | None ↦ false ] ≡ true → (f : ListingFault) × (o ≡ Some f) × (f.code ≡ errors.Line line_errors.Unread)
+unread_of : (o : Option ListingFault) → elim o [ Some f ↦ is_unread_code f.code | None ↦ false ] ≡ true → (f : ListingFault) × (o ≡ Some f) × (f.code ≡ errors.Line line_errors.Unread)
 unread_of None h = cc
 unread_of (Some f) h = (f, refl, is_unread_is f.code h)
 

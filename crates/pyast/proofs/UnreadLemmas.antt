@@ -35,7 +35,8 @@ use Rattle.pylex.specs.Listing.{Source, in_characters, of_line, listing, rest, f
 use Rattle.pylex.specs.Operators.{is_closer}
 use Rattle.pylex.specs.Steps.{entries_of, fault_of}
 use Rattle.pylex.specs.Strings.{opens_string}
-use Rattle.pyast.specs.Faults.{is_unread, of_listing}
+use Rattle.pylex.specs.Streamed.{is_unread_code}
+use Rattle.pyast.specs.Faults.{of_listing}
 use Rattle.pyast.specs.Runs.{stops_after, start_in, ends_unread, missed, told_of, fault_from, tokens_fault}
 use Rattle.pyast.specs.declared.fault.Fault.{Fault}
 use Rattle.pyast.specs.declared.fault.Fault.TheVariants.{Plain}
@@ -46,12 +47,12 @@ abbrev AllRead : List Step → Type 0
 AllRead [] = Unit {0}
 AllRead (steps.Entry e ∷ ss) = AllRead ss
 AllRead (steps.End ∷ ss) = AllRead ss
-AllRead (steps.Fault f ∷ ss) = (is_unread f.code ≡ false) × AllRead ss
+AllRead (steps.Fault f ∷ ss) = (is_unread_code f.code ≡ false) × AllRead ss
 
 -- nor is this one
 abbrev IsRead : Option ListingFault → Type 0
 IsRead None = Unit {0}
-IsRead (Some f) = is_unread f.code ≡ false
+IsRead (Some f) = is_unread_code f.code ≡ false
 
 AllRead-append : (a b : List Step) → AllRead a → AllRead b → AllRead (a ++ b)
 AllRead-append [] b h k = k
@@ -122,7 +123,7 @@ stopped_read : (fault : Option ListingFault) (p : Place) (left : List ℕ) → I
 unfolding stop_fault
 stopped_read fault p left h = one (not (opens_string left)) _ _ refl (one (not (is_open_string left)) _ _ refl (by_fault fault h))
   where
-    one : (b : Bool) (g : ListingFault) (s : Step) → is_unread g.code ≡ false → AllRead (s ∷ []) → AllRead (cond b (steps.Fault g) s ∷ [])
+    one : (b : Bool) (g : ListingFault) (s : Step) → is_unread_code g.code ≡ false → AllRead (s ∷ []) → AllRead (cond b (steps.Fault g) s ∷ [])
     one true g s u h = (u, tt)
     one false g s u h = h
 
@@ -155,7 +156,7 @@ fault_read (steps.Fault f ∷ ss) h = h.0
 -- a line's own fault is another
 abbrev IsOwn : Option LineError → Type 0
 IsOwn None = Unit {0}
-IsOwn (Some e) = is_unread (errors.Line e) ≡ false
+IsOwn (Some e) = is_unread_code (errors.Line e) ≡ false
 
 own_if : (b : Bool) (o p : Option LineError) → IsOwn o → IsOwn p → IsOwn (cond b o p)
 own_if true o p h k = h
@@ -167,7 +168,7 @@ bad_own Ascii line i = own_if (nat_le 128 (slice_index line i)) _ _ refl (own_if
 
 abbrev IsOwnAt : Option (ℕ × LineError) → Type 0
 IsOwnAt None = Unit {0}
-IsOwnAt (Some bad) = is_unread (errors.Line bad.1) ≡ false
+IsOwnAt (Some bad) = is_unread_code (errors.Line bad.1) ≡ false
 
 first_own : (f : ℕ → Option LineError) (i n : ℕ) → ((i : ℕ) → IsOwn (f i)) → IsOwnAt (first_given f i n)
 first_own f i zero h = tt
@@ -196,9 +197,9 @@ quiet_told ss h = by_fault (fault_of ss) (fault_read ss h)
   where
     by_fault : (o : Option ListingFault) → IsRead o → Quiet (option_map of_listing o)
     by_fault None u = λ e. cc
-    by_fault (Some f) u = by_code (is_unread f.code) refl
+    by_fault (Some f) u = by_code (is_unread_code f.code) refl
       where
-        by_code : (b : Bool) → is_unread f.code ≡ b → Quiet (Some (of_listing f))
+        by_code : (b : Bool) → is_unread_code f.code ≡ b → Quiet (Some (of_listing f))
         by_code true e = cc
         by_code false e = rw e (λ g. cc)
 
@@ -213,7 +214,7 @@ quiet_from p (Some n) k h = by_stop (stops_after n (entries_of (rest (in_charact
 quiet_ends : (ss : List Step) → AllRead ss → ends_unread ss ≡ false
 quiet_ends ss h = by_fault (fault_of ss) (fault_read ss h)
   where
-    by_fault : (o : Option ListingFault) → IsRead o → elim o [ Some f ↦ is_unread f.code | None ↦ false ] ≡ false
+    by_fault : (o : Option ListingFault) → IsRead o → elim o [ Some f ↦ is_unread_code f.code | None ↦ false ] ≡ false
     by_fault None u = refl
     by_fault (Some f) u = u
 

@@ -8,6 +8,7 @@ use Rattle.pysource.specs.declared.streams.StreamFault.TheVariants as stream_fau
 use Rattle.pylex.specs.declared.entries.ListingError.{ListingError}
 use Rattle.pylex.specs.declared.entries.ListingError.TheVariants as errors
 use Rattle.pylex.specs.declared.entries.ListingFault.{ListingFault}
+use Rattle.pylex.specs.Streamed.{is_unread_code}
 use Rattle.pyast.specs.declared.fault.FaultCode.{FaultCode}
 use Rattle.pyast.specs.declared.fault.FaultCode.TheVariants.{UnsupportedEncoding, BomConflict, NotUtf8, NotAscii, LoneReturn, Read, BadCharacter, UnterminatedString, EofInString, EofInStatement, UnindentMismatch, UnmatchedCloser, CursorOfAnotherSource, CursorText, BadArguments, Open, Write, Memory}
 use Rattle.pyast.specs.declared.fault.Fault.{Fault}
@@ -74,14 +75,9 @@ code_of errors.EofInStatement = EofInStatement
 code_of errors.UnindentMismatch = UnindentMismatch
 code_of errors.UnmatchedCloser = UnmatchedCloser
 
--- what ends the listing is a line that could not be read whole
-abbrev pub is_unread : ListingError → Bool
-is_unread (errors.Line line_errors.Unread) = true
-is_unread error = false
-
 -- the fault that is told where a listing ends by one: a failed read has no place
 abbrev pub of_listing : ListingFault → Fault
-of_listing f = if is_unread f.code then Plain Read else InSource (code_of f.code) f.place
+of_listing f = if is_unread_code f.code then Plain Read else InSource (code_of f.code) f.place
 
 -- the fault that is told where a reader gives no source
 abbrev pub of_stream : StreamFault → Fault

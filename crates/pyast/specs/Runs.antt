@@ -16,7 +16,8 @@ use Rattle.pylex.specs.CursorTexts.{IsWellFormed}
 use Rattle.pylex.specs.Listing.{Source, listing, rest, in_characters}
 use Rattle.pylex.specs.Steps.{entries_of, fault_of}
 use Rattle.pylex.specs.ListingLines.{listing_line, text_of}
-use Rattle.pyast.specs.Faults.{status_of, fault_line, Tells, is_unread, of_listing, of_stream}
+use Rattle.pylex.specs.Streamed.{is_unread_code}
+use Rattle.pyast.specs.Faults.{status_of, fault_line, Tells, of_listing, of_stream}
 use Rattle.pyast.specs.declared.fault.FaultCode.{FaultCode}
 use Rattle.pyast.specs.declared.fault.FaultCode.TheVariants.{Read, Write, Memory, CursorOfAnotherSource}
 use Rattle.pyast.specs.declared.fault.Fault.{Fault}
@@ -83,7 +84,7 @@ start_in (Some c) s = if is_cursor_of c s then Some c.given else None
 
 -- steps end by a line that could not be read whole
 abbrev pub ends_unread : List Step → Bool
-ends_unread steps = elim (fault_of steps) [ Some f ↦ is_unread f.code | None ↦ false ]
+ends_unread steps = elim (fault_of steps) [ Some f ↦ is_unread_code f.code | None ↦ false ]
 
 -- why a source has no such cursor: a read failed before so many entries, or the cursor is of another source
 abbrev pub missed : Option CursorParts → Source → FaultCode

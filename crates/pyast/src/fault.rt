@@ -1,6 +1,7 @@
 //! The faults that the program tells: their texts, their statuses and their lines.
 ghost use Rattle.std.specs.Prelude.{◌≡◌, ◌<◌, ◌-◌, ◌^◌, IfOk, string_bytes, Some};
-ghost use Rattle.pyast.specs.Faults.{text_of, code_status, status_of, fault_line, source_line, plain_line, of_listing, of_stream, is_unread, code_of, Tells, IsToldAs};
+ghost use Rattle.pylex.specs.Streamed.{is_unread_code};
+ghost use Rattle.pyast.specs.Faults.{text_of, code_status, status_of, fault_line, source_line, plain_line, of_listing, of_stream, code_of, Tells, IsToldAs};
 
 use pylex::{ListingError, ListingFault};
 use pysource::{ByteOut, LineError, Place, StreamFault, WriteFailed, write_all};
@@ -110,7 +111,7 @@ impl From<StreamFault> for Fault {
 
 // Whether what ends a listing is a line that could not be read whole.
 fn is_unread(error: ListingError) -> bool
-    ensures { result ≡ is_unread error }
+    ensures { result ≡ is_unread_code error }
 {
     match error {
         ListingError::Line(LineError::Unread) => true,

@@ -1,5 +1,5 @@
 -- A test gives true or false.
-use Rattle.std.proofs.Common.{◌≡◌, Bool, true, false, ◌&&◌, not, refl, inl, inr, ◌⊎◌}
+use Rattle.std.proofs.Common.{◌≡◌, Bool, true, false, ◌&&◌, refl, inl, inr, ◌⊎◌}
 
 pub bool_cases : (b : Bool) → (b ≡ true) ⊎ (b ≡ false)
 bool_cases true = inl refl
@@ -9,14 +9,6 @@ pub and_parts : (a b : Bool) → (a && b) ≡ true → (a ≡ true) × (b ≡ tr
 and_parts true true h = (refl, refl)
 and_parts true false h = cc
 and_parts false b h = cc
-
-pub not_false : (b : Bool) → not b ≡ false → b ≡ true
-not_false true h = refl
-not_false false h = cc
-
-pub left_false : (a b : Bool) → not a ≡ true → (a && b) ≡ false
-left_false true b h = cc
-left_false false b h = refl
 
 pub right_false : (a b : Bool) → b ≡ false → (a && b) ≡ false
 right_false a true h = cc

@@ -1,6 +1,6 @@
 -- The steps of a lister that reads line by line, each in all the sources in which it stands.
 use Rattle.std.proofs.Common.{◌≡◌, inl, inr, ℕ, ◌+◌, ◌<◌, ◌-◌, Bool, List, [], ◌++◌, length, take, drop, refl, ap, sym, ◌∙◌, subst, arith, Option, Some, None, string_bytes}
-use Rattle.std.specs.Prelude.{slice_get, Ok, Err}
+use Rattle.std.specs.Prelude.{slice_get, Result, Ok, Err}
 use Rattle.std.specs.declared.alloc.AllocError.{AllocError}
 use Rattle.std.specs.Str.{chars}
 use Rattle.pysource.specs.Parts.{Parts}
@@ -22,7 +22,7 @@ use Rattle.pylex.specs.Listers.{Listed, shown_by}
 use Rattle.pylex.specs.Machine.{mark_at}
 use Rattle.pylex.specs.Positions.{shown_from, FaultsFirst, HasPlace, IsSame, Went}
 use Rattle.pylex.specs.Steps.{entries_in}
-use Rattle.pylex.specs.Streamed.{Continues, StreamsIn, IsStreaming, IsLast, IsAhead, LooksAhead, Steps, Searches, streamed, MeetsIn}
+use Rattle.pylex.specs.Streamed.{Continues, Streamed, StreamsIn, IsStreaming, IsLast, IsAhead, LooksAhead, Steps, Searches, streamed, MeetsIn}
 use Rattle.pylex.specs.Held.{Ahead}
 use Rattle.pylex.proofs.AheadOn.{ahead_none}
 use Rattle.pylex.proofs.LexedOn.{lexed_both, lexed_finds}
@@ -59,6 +59,27 @@ drop_last p c last h = record {
   joined = h.joined;
   fresh = h.fresh;
   stands = λ more broken g. let s = h.stands more broken g in (s.0, none_last p c last s.0 p.given more broken s.1);
+}
+
+-- nor in a step
+pub steps_last : (come_old come_new : Option (List ℕ)) (told_old told_new : ℕ) (p : Position) (c : Chunk) (last : Option Entry) (v : Streamed) (r : Result Step AllocError) → Steps come_old come_new told_old told_new (streamed p c None) v r → Steps come_old come_new told_old told_new (streamed p c last) v r
+steps_last come_old come_new told_old told_new p c last v (Ok step) h = record {
+  taken = h.taken;
+  reads = h.reads;
+  follows = h.follows;
+  moves = λ s k more broken g x. h.moves s k more broken g (none_last p c last s k (h.taken ++ more) broken x);
+  last = h.last;
+  ahead = h.ahead;
+  same = tt;
+}
+steps_last come_old come_new told_old told_new p c last v (Err e) h = record {
+  taken = h.taken;
+  reads = h.reads;
+  follows = h.follows;
+  moves = tt;
+  last = tt;
+  ahead = tt;
+  same = λ s k more broken g x. h.same s k more broken g (none_last p c last s k (h.taken ++ more) broken x);
 }
 
 pub place_held : (p : Position) (c : Chunk) (last : Option Entry) → IsStreaming p c last → HasPlace p

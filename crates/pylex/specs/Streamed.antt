@@ -193,6 +193,11 @@ pub record Steps (come_old come_new : Option (List ℕ)) (told_old told_new : �
   pub ahead : IfOk result (IsAhead old.lines new.lines)
   pub same : OnErr result ((p : Parts) (k : ℕ) (more : List ℕ) (broken : Bool) → Continues new.lines more broken → StreamsIn old p k (taken ++ more) broken → StreamsIn new p k more broken)
 
+-- Past what a search found: that is a step, behind whatever was searched.
+abbrev pub Passes : Position → Chunk → Found → Streamed → Result Step AllocError → Type 0
+Passes q d f new result = (come_old come_new : Option (List ℕ)) (told_old told_new : ℕ) (p : Position) (c : Chunk) (last : Option Entry) → Searches come_old come_new told_old told_new p q c d → 0 < p.given → LooksAhead f c.lines d.lines
+    → Steps come_old come_new told_old told_new (streamed p c last) new result
+
 -- a source's listing ends by a line that could not be read whole, before this many entries
 pub record EndsUnread (p : Parts) (n : ℕ) : Type 0 where
   pub fault : (f : ListingFault) × (fault_of (listing (in_characters p)) ≡ Some f) × (f.code ≡ errors.Line Unread)

@@ -44,8 +44,8 @@ pub enum ListingError {
 /// A fault of a source, and its place.
 #[derive(Clone, Copy, Debug, PartialEq, Eq)]
 pub struct ListingFault {
-    pub code: ListingError,
     pub place: Place,
+    pub code: ListingError,
 }
 
 /// What a lister answers: the next entry, that there is none, or the fault that ends the listing.

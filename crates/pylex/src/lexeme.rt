@@ -89,6 +89,7 @@ fn join(text: &mut Scanner) -> Option<Class>
 }
 
 /// Takes the operator that stands here, if one does.
+#[inline(always)]
 fn operator(text: &mut Scanner) -> Option<Class>
     requires { BeginsOther text.old }
     ensures { Takes text.old result text.new }

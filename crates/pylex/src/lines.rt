@@ -53,6 +53,7 @@ fn push_digit(out: &mut String, digit: usize) -> Result<(), AllocError>
     Ok(())
 }
 
+#[inline(always)]
 fn push_number(out: &mut String, number: usize) -> Result<(), AllocError>
     ensures ok { OnOk result (string_bytes out.new ≡ string_bytes out.old ++ decimal number) }
     ensures kept { StartsWith (string_bytes out.new) (string_bytes out.old) }
@@ -69,6 +70,7 @@ fn push_number(out: &mut String, number: usize) -> Result<(), AllocError>
 }
 
 /// Writes a place whose row's digits are given.
+#[inline(always)]
 fn push_place(out: &mut String, row: &str, column: usize) -> Result<(), AllocError>
     ensures ok { OnOk result (string_bytes out.new ≡ string_bytes out.old ++ (row.now ++ codes "," ++ decimal column)) }
     ensures kept { StartsWith (string_bytes out.new) (string_bytes out.old) }

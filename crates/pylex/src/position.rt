@@ -1,6 +1,6 @@
 //! Where a lister stands in a listing, and its steps from there: what all listers share, whatever text they hold.
 
-ghost use Rattle.std.specs.Prelude.{◌≡◌, ℕ, ◌+◌, ◌-◌, ◌^◌, ◌<◌, ◌≤◌, List, [], ◌∷◌, ◌++◌, length, take, drop, OnOk, OnErr, IfOk, IfErr, Ok, Err, Option, option_map, OnSome, IsTrue, ◌↔◌};
+ghost use Rattle.std.specs.Prelude.{◌≡◌, ℕ, ◌+◌, ◌-◌, ◌^◌, ◌<◌, ◌≤◌, List, [], ◌∷◌, ◌++◌, length, take, drop, OnOk, OnErr, IfOk, IfErr, Ok, Err, Option, None, option_map, OnSome, IfSome, IsTrue, ◌↔◌};
 ghost use Rattle.std.specs.Str.{chars};
 ghost use Rattle.pylex.specs.Listing.{of_line, stop_fault};
 ghost use Rattle.pylex.specs.Steps.{first_step, HasNoText, IsNoEntry, IsAt};
@@ -78,21 +78,25 @@ fn layout_for(width: usize, levels: &[usize]) -> Layout
 
 /// Goes past the layout before the first thing of a logical line, or tells what it is.
 #[inline(always)]
-fn line_start(now: Progress, levels: &[usize], text: &str) -> Result<Progress, Meets>
-    requires stands { Stands now text.now }
+fn line_start(now: &mut Progress, levels: &[usize], text: &str) -> Option<Meets>
+    requires stands { Stands now.old text.now }
     requires ascending { IsAscending 0 levels.now }
-    ensures ok { IfOk result (λ p. Settles levels.now now (chars text.now) p × Stands p text.now) }
-    ensures room { IfOk result (λ p. (n : ℕ) → HasRoom now n → HasRoom p n) }
-    ensures err { IfErr result (λ m. Finds levels.now now (chars text.now) m now (chars text.now)) }
+    ensures settles { result ≡ None → Settles levels.now now.old (chars text.now) now.new }
+    ensures room { (n : ℕ) → HasRoom now.old n → HasRoom now.new n }
+    ensures finds { IfSome result (λ m. Finds levels.now now.old (chars text.now) m now.new (chars text.now)) }
+    ensures stands { Stands now.new text.now }
 {
     if !now.margin || !begins_thing(text) {
-        return Ok(now);
+        return None;
     }
     match layout_for(now.width, levels) {
-        Layout::Level => Ok(now.measured()),
-        Layout::Indent => Err(Meets::Indent),
-        Layout::Dedent => Err(Meets::Dedent),
-        Layout::Mismatch => Err(Meets::Fault(ListingFault {
+        Layout::Level => {
+            *now = now.measured();
+            None
+        }
+        Layout::Indent => Some(Meets::Indent),
+        Layout::Dedent => Some(Meets::Dedent),
+        Layout::Mismatch => Some(Meets::Fault(ListingFault {
             code: ListingError::UnindentMismatch,
             place: now.now.place,
         })),
@@ -112,10 +116,9 @@ fn find<'a>(start: Progress, levels: &[usize], text: &'a str) -> (Meets, Progres
     let mut now = start;
     let mut rest = text;
     loop {
-        now = match line_start(now, levels, rest) {
-            Ok(settled) => settled,
-            Err(meets) => return (meets, now, rest),
-        };
+        if let Some(meets) = line_start(&mut now, levels, rest) {
+            return (meets, now, rest);
+        }
         let Some((class, front, back)) = cut(rest) else {
             return (Meets::Stop, now, rest);
         };

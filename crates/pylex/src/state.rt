@@ -41,10 +41,10 @@ pub struct Progress {
     pub line: Point,
     /// How many brackets are open.
     pub depth: usize,
+    /// The width of the blanks in the margin; 0 past it.
+    pub width: usize,
     /// Only blanks stand before this place in its measured line.
     pub margin: bool,
-    /// The width of these blanks; 0 past the margin.
-    pub width: usize,
     /// The line holds more than blanks and a comment so far.
     pub logical: bool,
     /// The last lexeme was a backslash and a line end.
@@ -329,6 +329,7 @@ impl Progress {
     }
 
     /// The depth after a lexeme.
+    #[inline(always)]
     fn depth_after(self, class: Class, text: &str) -> usize
         requires { self.depth < 2 ^ 62 }
         ensures { result ≡ self.depth + count_if (opens (record { «class» = class; text = chars text.now })) - count_if (closes (record { «class» = class; text = chars text.now })) }

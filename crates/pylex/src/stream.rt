@@ -9,7 +9,7 @@ ghost use Rattle.pysource.specs.declared.streams.Reach.{Reach};
 ghost use Rattle.pysource.specs.Streams.{Refuses};
 ghost use Rattle.pylex.specs.ListingLines.{text_of};
 ghost use Rattle.pylex.specs.Lexemes.{is_open_string};
-ghost use Rattle.pylex.specs.Streamed.{Begins, MissesBy, IsEndedBy, StreamsIn, IsStreaming, MeetsIn, Looks, LooksAhead, Searches, Steps, Lacks, lacks};
+ghost use Rattle.pylex.specs.Streamed.{Begins, MissesBy, IsEndedBy, StreamsIn, IsStreaming, MeetsIn, Looks, LooksAhead, Passes, Searches, Steps, Lacks, lacks, streamed};
 
 use crate::chunk::Chunk;
 use crate::cursors::Cursor;
@@ -105,6 +105,33 @@ fn find<R: ByteIn>(
         };
         position.now = found.now;
     }
+}
+
+/// Goes on past what was found, where that gives an entry.
+#[inline(always)]
+fn pass(
+    position: &mut Position,
+    chunk: &mut Chunk,
+    last: &mut Option<Entry>,
+    found: Found,
+) -> Result<Step, AllocError>
+    requires streaming { IsStreaming position.old chunk.old None }
+    requires given { 0 < position.old.given }
+    requires last { last.old ≡ None }
+    requires meets { MeetsIn position.old chunk.old found }
+    ensures streaming { IsStreaming position.new chunk.new last.new }
+    ensures passes { Passes position.old chunk.old found (streamed position.new chunk.new last.new) result }
+{
+    let left = &chunk.text[found.at..];
+    let step = match position.go(found.meets, found.now, left, found.fault) {
+        Ok(step) => step,
+        Err(error) => return Err(error),
+    };
+    if let Step::Entry(entry) = step {
+        chunk.at = found.at;
+        *last = Some(entry);
+    }
+    Ok(step)
 }
 
 /// Why a lister can't go on behind a cursor.
@@ -224,6 +251,7 @@ impl LineLister {
     /// # Errors
     ///
     /// Memory is taken where a line is read and where an INDENT comes. Where it is refused the same step is still due.
+    #[inline(always)]
     pub fn next<R: ByteIn>(&mut self, reader: &mut R) -> Result<Step, AllocError>
         requires { self.old.lines.reach ≡ Reach.Reading → R.failure_count reader.old < 2 ^ 64 - 1 }
         ensures { Steps (R.to_come reader.old) (R.to_come reader.new) (R.failure_count reader.old) (R.failure_count reader.new) self.old self.new result }
@@ -236,20 +264,29 @@ impl LineLister {
             return Ok(Step::Entry(entry));
         }
         self.last = None;
+        if self.chunk.at == self.chunk.text.len() {
+            return self.next_behind(reader);
+        }
+        let found = look(&self.position, &self.chunk);
+        let Meets::Entry(_) = found.meets else {
+            return self.next_behind(reader);
+        };
+        pass(&mut self.position, &mut self.chunk, &mut self.last, found)
+    }
+
+    /// The next step, where the lines that are held may not tell it, or it is none of a lexeme.
+    #[inline(never)]
+    fn next_behind<R: ByteIn>(&mut self, reader: &mut R) -> Result<Step, AllocError>
+        requires reading { self.old.lines.reach ≡ Reach.Reading → R.failure_count reader.old < 2 ^ 64 - 1 }
+        requires given { 0 < self.old.shown.given }
+        requires last { self.old.last ≡ None }
+        ensures { Steps (R.to_come reader.old) (R.to_come reader.new) (R.failure_count reader.old) (R.failure_count reader.new) self.old self.new result }
+    {
         let found = match find(&mut self.position, &mut self.chunk, reader) {
             Ok(found) => found,
             Err(error) => return Err(error),
         };
-        let left = &self.chunk.text[found.at..];
-        let step = match self.position.go(found.meets, found.now, left, found.fault) {
-            Ok(step) => step,
-            Err(error) => return Err(error),
-        };
-        if let Step::Entry(entry) = step {
-            self.chunk.at = found.at;
-            self.last = Some(entry);
-        }
-        Ok(step)
+        pass(&mut self.position, &mut self.chunk, &mut self.last, found)
     }
 
     /// The lister's cursor: what is kept of the listing behind the entries that were given.

@@ -26,62 +26,65 @@ behind_cut : (text bytes front back : List ℕ) (k : Class) → IsUtf8 bytes →
 behind_cut text bytes front back k u c b = (b.0 ++ front, b.1 ∙ ap (λ t. b.0 ++ t) (cut_bytes bytes front back k u c) ∙ sym (append_assoc b.0 front back))
 
 pub returns-in-Fault-clause-finds : goal.returns-in-Fault-clause-finds
-returns-in-Fault-clause-finds c = fault_found c.args.levels.now c.args.start (chars c.args.text.now) c.loop-settled.now c.in-Ok.settled c.loop-settled.rest.now c.in-Some.front.now c.in-Some.back.now c.in-Some.class c.in-Fault.fault c.loop-settled.invariant.2 c.in-Ok.ensures.ok.0 c.in-Some.ensures.some c.in-Fault.ensures
+returns-in-Fault-clause-finds c = fault_found c.args.levels.now c.args.start (chars c.args.text.now) c.loop-meets.now c.line_start.new.now c.loop-meets.rest.now c.in-Some-cut.front.now c.in-Some-cut.back.now c.in-Some-cut.class c.in-Fault.fault c.loop-meets.invariant.2 (c.in_default.ensures.settles refl) c.in-Some-cut.ensures.some c.in-Fault.ensures
 
 pub after-ahead-requires-clause-some : goal.after-ahead-requires-clause-some
-after-ahead-requires-clause-some c = some_bytes c.loop-settled.rest.now c.in-Some.front.now c.in-Some.back.now c.in-Some.class c.in-Some.ensures.some
+after-ahead-requires-clause-some c = some_bytes c.loop-meets.rest.now c.in-Some-cut.front.now c.in-Some-cut.back.now c.in-Some-cut.class c.in-Some-cut.ensures.some
 
 pub after-ahead-requires-clause-settled : goal.after-ahead-requires-clause-settled
-after-ahead-requires-clause-settled c = no_thing_due c.in-Ok.settled c.loop-settled.rest.now c.in-Some.front.now c.in-Some.back.now c.in-Some.class c.in-Some.ensures.some c.in-Ok.ensures.ok.0.settled
+after-ahead-requires-clause-settled c = no_thing_due c.line_start.new.now c.loop-meets.rest.now c.in-Some-cut.front.now c.in-Some-cut.back.now c.in-Some-cut.class c.in-Some-cut.ensures.some (c.in_default.ensures.settles refl).settled
 
 pub returns-in-Entry-clause-finds : goal.returns-in-Entry-clause-finds
-returns-in-Entry-clause-finds c = entry_found c.args.levels.now c.args.start (chars c.args.text.now) c.loop-settled.now c.in-Ok.settled c.after-ahead.result c.loop-settled.rest.now c.in-Some.front.now c.in-Some.back.now c.in-Some.class c.in-Entry.entry c.loop-settled.invariant.2 c.in-Ok.ensures.ok.0 c.in-Some.ensures.some c.in-Entry.ensures c.after-ahead.ensures.after
+returns-in-Entry-clause-finds c = entry_found c.args.levels.now c.args.start (chars c.args.text.now) c.loop-meets.now c.line_start.new.now c.after-ahead.result c.loop-meets.rest.now c.in-Some-cut.front.now c.in-Some-cut.back.now c.in-Some-cut.class c.in-Entry.entry c.loop-meets.invariant.2 (c.in_default.ensures.settles refl) c.in-Some-cut.ensures.some c.in-Entry.ensures c.after-ahead.ensures.after
 
 pub returns-in-Entry-clause-stands : goal.returns-in-Entry-clause-stands
-returns-in-Entry-clause-stands c = stands_after c.in-Ok.settled c.after-ahead.result c.loop-settled.rest.now c.in-Some.front.now c.in-Some.back.now c.in-Some.class c.in-Some.ensures.some c.in-Ok.ensures.ok.1 c.after-ahead.ensures.room
+returns-in-Entry-clause-stands c = stands_after c.line_start.new.now c.after-ahead.result c.loop-meets.rest.now c.in-Some-cut.front.now c.in-Some-cut.back.now c.in-Some-cut.class c.in-Some-cut.ensures.some c.in_default.ensures.stands c.after-ahead.ensures.room
 
 pub returns-in-Entry-clause-room : goal.returns-in-Entry-clause-room
-returns-in-Entry-clause-room c n h = room_after c.in-Ok.settled c.after-ahead.result c.loop-settled.rest.now c.in-Some.front.now c.in-Some.back.now c.in-Some.class c.in-Some.ensures.some c.after-ahead.ensures.room n (c.in-Ok.ensures.room (length c.loop-settled.rest.now + n) (c.loop-settled.invariant.3 n h))
+returns-in-Entry-clause-room c n h = room_after c.line_start.new.now c.after-ahead.result c.loop-meets.rest.now c.in-Some-cut.front.now c.in-Some-cut.back.now c.in-Some-cut.class c.in-Some-cut.ensures.some c.after-ahead.ensures.room n (c.in_default.ensures.room (length c.loop-meets.rest.now + n) (c.loop-meets.invariant.3 n h))
 
 pub returns-in-Fault-clause-room : goal.returns-in-Fault-clause-room
-returns-in-Fault-clause-room c n h = c.in-Ok.ensures.room (length c.loop-settled.rest.now + n) (c.loop-settled.invariant.3 n h)
+returns-in-Fault-clause-room c n h = c.in_default.ensures.room (length c.loop-meets.rest.now + n) (c.loop-meets.invariant.3 n h)
 
-pub loop-settled-smaller : goal.loop-settled-smaller
-loop-settled-smaller c = shorter_after c.loop-settled.rest.now c.in-Some.front.now c.in-Some.back.now c.in-Some.class c.in-Some.ensures.some
+pub loop-meets-smaller : goal.loop-meets-smaller
+loop-meets-smaller c = shorter_after c.loop-meets.rest.now c.in-Some-cut.front.now c.in-Some-cut.back.now c.in-Some-cut.class c.in-Some-cut.ensures.some
 
-pub loop-settled-preserved : goal.loop-settled-preserved
-loop-settled-preserved c =
-    let stands = stands_after c.in-Ok.settled c.after-ahead.result c.loop-settled.rest.now c.in-Some.front.now c.in-Some.back.now c.in-Some.class c.in-Some.ensures.some c.in-Ok.ensures.ok.1 c.after-ahead.ensures.room in (
+pub loop-meets-preserved : goal.loop-meets-preserved
+loop-meets-preserved c =
+    let stands = stands_after c.line_start.new.now c.after-ahead.result c.loop-meets.rest.now c.in-Some-cut.front.now c.in-Some-cut.back.now c.in-Some-cut.class c.in-Some-cut.ensures.some c.in_default.ensures.stands c.after-ahead.ensures.room in (
       stands.utf8,
       stands,
-      nothing_found c.args.levels.now c.args.start (chars c.args.text.now) c.loop-settled.now c.in-Ok.settled c.after-ahead.result c.loop-settled.rest.now c.in-Some.front.now c.in-Some.back.now c.in-Some.class c.loop-settled.invariant.2 c.in-Ok.ensures.ok.0 c.in-Some.ensures.some c.in-Nothing.ensures c.after-ahead.ensures.after,
-      λ n h. room_after c.in-Ok.settled c.after-ahead.result c.loop-settled.rest.now c.in-Some.front.now c.in-Some.back.now c.in-Some.class c.in-Some.ensures.some c.after-ahead.ensures.room n (c.in-Ok.ensures.room (length c.loop-settled.rest.now + n) (c.loop-settled.invariant.3 n h)),
-      behind_cut c.args.text.now c.loop-settled.rest.now c.in-Some.front.now c.in-Some.back.now c.in-Some.class c.in-Ok.ensures.ok.1.utf8 c.in-Some.ensures.some c.loop-settled.invariant.4,
+      nothing_found c.args.levels.now c.args.start (chars c.args.text.now) c.loop-meets.now c.line_start.new.now c.after-ahead.result c.loop-meets.rest.now c.in-Some-cut.front.now c.in-Some-cut.back.now c.in-Some-cut.class c.loop-meets.invariant.2 (c.in_default.ensures.settles refl) c.in-Some-cut.ensures.some c.in-Nothing.ensures c.after-ahead.ensures.after,
+      λ n h. room_after c.line_start.new.now c.after-ahead.result c.loop-meets.rest.now c.in-Some-cut.front.now c.in-Some-cut.back.now c.in-Some-cut.class c.in-Some-cut.ensures.some c.after-ahead.ensures.room n (c.in_default.ensures.room (length c.loop-meets.rest.now + n) (c.loop-meets.invariant.3 n h)),
+      behind_cut c.args.text.now c.loop-meets.rest.now c.in-Some-cut.front.now c.in-Some-cut.back.now c.in-Some-cut.class c.in_default.ensures.stands.utf8 c.in-Some-cut.ensures.some c.loop-meets.invariant.4,
     )
 
-pub loop-settled-init : goal.loop-settled-init
-loop-settled-init c = (c.utf8.text, c.requires.stands, stays_there c.args.levels.now c.args.start (chars c.args.text.now), λ n h. h, ([], refl))
+pub loop-meets-init : goal.loop-meets-init
+loop-meets-init c = (c.utf8.text, c.requires.stands, stays_there c.args.levels.now c.args.start (chars c.args.text.now), λ n h. h, ([], refl))
 
-pub returns-in-Err-clause-finds : goal.returns-in-Err-clause-finds
-returns-in-Err-clause-finds c = finds_on c.args.levels.now c.args.start (chars c.args.text.now) c.loop-settled.now (chars c.loop-settled.rest.now) c.in-Err.meets c.loop-settled.now (chars c.loop-settled.rest.now) c.loop-settled.invariant.2 c.in-Err.ensures.err
+pub returns-in-Some-clause-finds : goal.returns-in-Some-clause-finds
+returns-in-Some-clause-finds c = finds_on c.args.levels.now c.args.start (chars c.args.text.now) c.loop-meets.now (chars c.loop-meets.rest.now) c.in-Some.meets c.line_start.new.now (chars c.loop-meets.rest.now) c.loop-meets.invariant.2 c.in-Some.ensures.finds
 
-pub returns-in_default-clause-finds : goal.returns-in_default-clause-finds
-returns-in_default-clause-finds c = (
-  comes_on c.args.levels.now c.args.start (chars c.args.text.now) c.loop-settled.now (chars c.loop-settled.rest.now) c.in-Ok.settled (chars c.loop-settled.rest.now) c.loop-settled.invariant.2 c.in-Ok.ensures.ok.0.comes,
-  record { none = c.in_default.ensures.none; settled = c.in-Ok.ensures.ok.0.settled },
+pub returns-in_default-cut-clause-finds : goal.returns-in_default-cut-clause-finds
+returns-in_default-cut-clause-finds c = (
+  comes_on c.args.levels.now c.args.start (chars c.args.text.now) c.loop-meets.now (chars c.loop-meets.rest.now) c.line_start.new.now (chars c.loop-meets.rest.now) c.loop-meets.invariant.2 (c.in_default.ensures.settles refl).comes,
+  record { none = c.in_default-cut.ensures.none; settled = (c.in_default.ensures.settles refl).settled },
 )
 
-pub returns-in_default-clause-room : goal.returns-in_default-clause-room
-returns-in_default-clause-room c n h = c.in-Ok.ensures.room (length c.loop-settled.rest.now + n) (c.loop-settled.invariant.3 n h)
+pub returns-in_default-cut-clause-room : goal.returns-in_default-cut-clause-room
+returns-in_default-cut-clause-room c n h = c.in_default.ensures.room (length c.loop-meets.rest.now + n) (c.loop-meets.invariant.3 n h)
 
-pub returns-in-Err-clause-behind : goal.returns-in-Err-clause-behind
-returns-in-Err-clause-behind c = c.loop-settled.invariant.4
+pub returns-in-Some-clause-behind : goal.returns-in-Some-clause-behind
+returns-in-Some-clause-behind c = c.loop-meets.invariant.4
 
 pub returns-in-Fault-clause-behind : goal.returns-in-Fault-clause-behind
-returns-in-Fault-clause-behind c = c.loop-settled.invariant.4
+returns-in-Fault-clause-behind c = c.loop-meets.invariant.4
 
-pub returns-in_default-clause-behind : goal.returns-in_default-clause-behind
-returns-in_default-clause-behind c = c.loop-settled.invariant.4
+pub returns-in_default-cut-clause-behind : goal.returns-in_default-cut-clause-behind
+returns-in_default-cut-clause-behind c = c.loop-meets.invariant.4
 
 pub returns-in-Entry-clause-behind : goal.returns-in-Entry-clause-behind
-returns-in-Entry-clause-behind c = behind_cut c.args.text.now c.loop-settled.rest.now c.in-Some.front.now c.in-Some.back.now c.in-Some.class c.in-Ok.ensures.ok.1.utf8 c.in-Some.ensures.some c.loop-settled.invariant.4
+returns-in-Entry-clause-behind c = behind_cut c.args.text.now c.loop-meets.rest.now c.in-Some-cut.front.now c.in-Some-cut.back.now c.in-Some-cut.class c.in_default.ensures.stands.utf8 c.in-Some-cut.ensures.some c.loop-meets.invariant.4
+
+pub returns-in-Some-clause-room : goal.returns-in-Some-clause-room
+returns-in-Some-clause-room c n h = c.in-Some.ensures.room (length c.loop-meets.rest.now + n) (c.loop-meets.invariant.3 n h)
