@@ -5,7 +5,7 @@ use Rattle.pylex.specs.declared.entries.ListingFault.{ListingFault}
 use Rattle.pylex.specs.declared.entries.Step.{Step}
 use Rattle.pylex.specs.declared.entries.Step.TheVariants as steps
 use Rattle.pylex.specs.declared.kinds.Kind.TheVariants as kinds
-use Rattle.pylex.specs.Lexemes.{cut, left_by_cut}
+use Rattle.pylexeme.specs.Lexemes.{cut, left_by_cut}
 use Rattle.pylex.specs.Listing.{Source, listing, rest, up_to_end, mark, origin, steps_from}
 use Rattle.pylex.specs.Laws.{LiesIn, AllLie}
 use Rattle.pylex.specs.Steps.{entries_of, fault_of}

@@ -1,14 +1,15 @@
 -- The state after a lexeme, part by part.
 use Rattle.std.proofs.Common.{◌≡◌, ℕ, ◌+◌, ◌-◌, ◌*◌, ◌<◌, ◌≤◌, Bool, true, false, not, ◌&&◌, ◌||◌, ◌==◌, List, [], ◌∷◌, length, refl, ap, ◌∙◌, arith, cond, ⊎_elim}
-use Rattle.pylex.specs.declared.lexeme.Class.{Class}
-use Rattle.pylex.specs.declared.lexeme.Class.TheVariants.{Name, Number, String, Operator, Comment, Blanks, LineEnd, Join}
+use Rattle.pylexeme.specs.declared.lexeme.Class.{Class}
+use Rattle.pylexeme.specs.declared.lexeme.Class.TheVariants.{Name, Number, String, Operator, Comment, Blanks, LineEnd, Join}
 use Rattle.pysource.specs.declared.places.Place.{Place}
 use Rattle.pylex.specs.declared.state.Point.{Point}
 use Rattle.pylex.specs.declared.state.Progress.{Progress}
-use Rattle.pylex.specs.Lexemes.{Lexeme}
-use Rattle.pylex.specs.Lines.{opens, closes, is_thing, is_of_blanks, is_of_line_end, width_from, bytes_in}
+use Rattle.pylexeme.specs.Lexemes.{Lexeme}
+use Rattle.pylex.specs.Lines.{opens, closes, is_thing, is_of_blanks, is_of_line_end, width_from}
+use Rattle.pylexeme.specs.Chars.{bytes_in}
 use Rattle.pylex.specs.Machine.{advance, front_after, after, past, count_if, still, is_of_join}
-use Rattle.pylex.proofs.Cases.{bool_cases}
+use Rattle.pylexeme.proofs.Cases.{bool_cases}
 use Rattle.pylex.specs.Progress.{with_levels, HasRoom}
 
 abbrev pub ends : Progress → Lexeme → Bool

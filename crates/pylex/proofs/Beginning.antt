@@ -16,7 +16,7 @@ use Rattle.pylex.specs.declared.kinds.Kind.TheVariants as kinds
 use Rattle.pylex.specs.declared.position.Position.{Position}
 use Rattle.pylex.specs.Laws.{LiesIn}
 use Rattle.pylex.specs.Held.{IsJoined, at_left}
-use Rattle.pylex.specs.Lexemes.{left_by_cut}
+use Rattle.pylexeme.specs.Lexemes.{left_by_cut}
 use Rattle.pylex.proofs.LexedOn.{left_all}
 use Rattle.pylex.specs.ListingLines.{text_of}
 use Rattle.pylex.proofs.Searching.{witness}

@@ -10,9 +10,9 @@ use Rattle.pylex.specs.declared.entries.ListingFault.{ListingFault}
 use Rattle.pylex.specs.declared.state.Progress.{Progress}
 use Rattle.pylex.specs.declared.position.Meets.{Meets}
 use Rattle.pylex.specs.declared.position.Meets.TheVariants as meets
-use Rattle.pylex.specs.Chunks.{EndsLine}
-use Rattle.pylex.specs.Cuts.{begins_thing}
-use Rattle.pylex.specs.Lexemes.{Lexeme, lexeme_at, lexeme_len, is_open_string}
+use Rattle.pylexeme.specs.Chunks.{EndsLine}
+use Rattle.pylexeme.specs.Cuts.{begins_thing}
+use Rattle.pylexeme.specs.Lexemes.{Lexeme, lexeme_at, lexeme_len, is_open_string}
 use Rattle.pylex.specs.Listing.{stop_fault, up_to_end}
 use Rattle.pylex.specs.Machine.{State, after, layout_of, stop_of, remaining}
 use Rattle.pylex.specs.Progress.{measured, Walks, stays, silent, level, dedent, Comes, EntryAhead, GivesFault, mismatch, faulty, FaultAhead, IndentAhead, DedentAhead, Finds}
@@ -20,8 +20,8 @@ use Rattle.pylex.proofs.Steps.{remaining_stop}
 use Rattle.pylex.proofs.Measured.{stop_within}
 use Rattle.pylex.proofs.Things.{none_at_all, len_within}
 use Rattle.pylex.proofs.Finding.{no_thing}
-use Rattle.pylex.proofs.Kept.{lexeme_kept, len_kept, none_kept, open_kept}
-use Rattle.pylex.proofs.LineFronts.{opens_kept, thing_kept}
+use Rattle.pylexeme.proofs.Kept.{lexeme_kept, len_kept, none_kept, open_kept}
+use Rattle.pylexeme.proofs.LineFronts.{opens_kept, thing_kept}
 
 -- Behind a front of whole lines are whole lines, or nothing.
 line_left : (c : ℕ) (cs front : List ℕ) → c ∷ cs ≡ front ++ 10 ∷ [] → EndsLine cs ⊎ (cs ≡ [])

@@ -8,19 +8,20 @@ use Rattle.std.proofs.lemmas.Bool.Decides.{nat_tests}
 use Rattle.std.proofs.lemmas.List.Sums.{count_by-le-length, take_while-cons}
 use Rattle.std.proofs.lemmas.List.Elements.{All-cons, All-nil, All-from_recursion, recursion_from_All}
 use Rattle.std.proofs.Math.Nat.{div-mul-le_self}
-use Rattle.pylex.specs.declared.lexeme.Class.{Class}
-use Rattle.pylex.specs.declared.lexeme.Class.TheVariants.{Name, Number, String, Operator, Comment, Blanks, LineEnd, Join}
-use Rattle.pylex.specs.Operators.{is_opener}
-use Rattle.pylex.specs.Lexemes.{Lexeme}
-use Rattle.pylex.specs.Lines.{text_before, bytes_in, place_after, depth, opens, is_thing, line_so_far, is_at_margin, column_after, width_from, width_at, widths}
+use Rattle.pylexeme.specs.declared.lexeme.Class.{Class}
+use Rattle.pylexeme.specs.declared.lexeme.Class.TheVariants.{Name, Number, String, Operator, Comment, Blanks, LineEnd, Join}
+use Rattle.pylexeme.specs.Operators.{is_opener}
+use Rattle.pylexeme.specs.Lexemes.{Lexeme}
+use Rattle.pylex.specs.Lines.{text_before, place_after, depth, opens, is_thing, line_so_far, is_at_margin, column_after, width_from, width_at, widths}
+use Rattle.pylexeme.specs.Chars.{bytes_in}
 use Rattle.pylex.specs.Levels.{below, is_open, open_levels}
 use Rattle.pylex.specs.Listing.{Source, in_characters}
 use Rattle.pylex.specs.Cursors.{CursorParts, cursor_at, cursor}
 use Rattle.pylex.specs.Standing.{front_to, back_from}
 use Rattle.pylex.specs.Listers.{Listed, StandsIn}
-use Rattle.pylex.proofs.Cases.{bool_cases}
+use Rattle.pylexeme.proofs.Cases.{bool_cases}
 use Rattle.pylex.proofs.Law.{bytes_in-append, count_cons}
-use Rattle.pylex.proofs.Texts.{length-text}
+use Rattle.pylexeme.proofs.Texts.{length-text}
 use Rattle.pylex.proofs.Lying.{scalars_behind}
 use Rattle.pylex.proofs.Resume.{front_and_back}
 use Rattle.pylex.proofs.Ahead.{front_is}

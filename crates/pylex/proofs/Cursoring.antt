@@ -4,17 +4,18 @@ use Rattle.std.specs.List.{count_by, prefix_len}
 use Rattle.std.specs.Prelude.{nat_lt}
 use Rattle.std.proofs.lemmas.List.{reverse-append, drop-drop}
 use Rattle.std.proofs.lemmas.Bool.Decides.{nat_tests}
-use Rattle.pylex.specs.declared.lexeme.Class.{Class}
-use Rattle.pylex.specs.declared.lexeme.Class.TheVariants.{Name, Number, String, Operator, Comment, Blanks, LineEnd, Join}
+use Rattle.pylexeme.specs.declared.lexeme.Class.{Class}
+use Rattle.pylexeme.specs.declared.lexeme.Class.TheVariants.{Name, Number, String, Operator, Comment, Blanks, LineEnd, Join}
 use Rattle.pylex.specs.declared.kinds.Kind.TheVariants as kinds
 use Rattle.pylex.specs.declared.entries.Entry.{Entry}
 use Rattle.pylex.specs.declared.entries.ListingFault.{ListingFault}
 use Rattle.pylex.specs.declared.entries.Step.{Step}
 use Rattle.pylex.specs.declared.entries.Step.TheVariants as steps
-use Rattle.pylex.specs.Operators.{is_closer}
-use Rattle.pylex.specs.Cuts.{begins_thing}
-use Rattle.pylex.specs.Lexemes.{Lexeme, lexeme_at, lexeme_len, cut}
-use Rattle.pylex.specs.Lines.{text_before, bytes_in, depth, closes, is_thing, line_so_far, before_line, is_at_margin, width_from, width_at, widths}
+use Rattle.pylexeme.specs.Operators.{is_closer}
+use Rattle.pylexeme.specs.Cuts.{begins_thing}
+use Rattle.pylexeme.specs.Lexemes.{Lexeme, lexeme_at, lexeme_len, cut}
+use Rattle.pylex.specs.Lines.{text_before, depth, closes, is_thing, line_so_far, before_line, is_at_margin, width_from, width_at, widths}
+use Rattle.pylexeme.specs.Chars.{bytes_in}
 use Rattle.pylex.specs.Levels.{open_levels}
 use Rattle.pysource.specs.Parts.{Parts}
 use Rattle.pylex.specs.Listing.{Source, in_characters, listing, rest, mark, origin, last_line, up_to_end, fault_at}

@@ -15,13 +15,13 @@ use Rattle.pysource.specs.declared.places.Place.{Place}
 use Rattle.pylex.specs.declared.state.Given.{Given}
 use Rattle.pylex.specs.declared.state.Given.TheVariants as gives
 use Rattle.pylex.specs.declared.state.Progress.{Progress}
-use Rattle.pylex.specs.Lexemes.{lexeme_at}
-use Rattle.pylex.specs.Cuts.{begins_thing}
+use Rattle.pylexeme.specs.Lexemes.{lexeme_at}
+use Rattle.pylexeme.specs.Cuts.{begins_thing}
 use Rattle.pylex.specs.Listing.{fault_at, further, stop_fault, row_after, up_to_end}
 use Rattle.pylex.specs.Steps.{first_step}
 use Rattle.pylex.specs.Machine.{State, is_hash, stop_of, tail_of, last_line_end, last_place, remaining, behind_steps, mark_at, dedents_at}
 use Rattle.pylex.specs.Progress.{with_levels, given, GivesNoText, closing, IsAscending, StopAhead}
-use Rattle.pylex.proofs.Cases.{bool_cases}
+use Rattle.pylexeme.proofs.Cases.{bool_cases}
 use Rattle.pylex.proofs.Run.{up_to_end-append}
 use Rattle.pylex.proofs.Steps.{remaining_stop}
 use Rattle.pylex.proofs.Measured.{stop_within, behind_steps-append}

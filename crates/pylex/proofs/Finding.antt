@@ -2,7 +2,7 @@
 use Rattle.std.proofs.Common.{◌≡◌, ℕ, zero, suc, ◌+◌, ◌<◌, Bool, true, false, ◌&&◌, ◌||◌, ◌==◌, take, drop, List, [], ◌∷◌, ◌++◌, length, refl, ap, cond, replicate, inl, inr, ◌⊎◌, ◌∙◌, sym, subst, arith, Option, Some, None, ⊎_elim}
 use Rattle.std.specs.Str.{chars}
 use Rattle.std.specs.Prelude.{count_by, nat_lt}
-use Rattle.pylex.specs.declared.lexeme.Class.{Class}
+use Rattle.pylexeme.specs.declared.lexeme.Class.{Class}
 use Rattle.pylex.specs.declared.entries.Entry.{Entry}
 use Rattle.pylex.specs.declared.entries.ListingFault.{ListingFault}
 use Rattle.pylex.specs.declared.entries.ListingError.TheVariants as errors
@@ -14,14 +14,14 @@ use Rattle.pylex.specs.declared.state.Progress.{Progress}
 use Rattle.pylex.specs.declared.position.Layout.TheVariants as layouts
 use Rattle.pylex.specs.declared.position.Meets.{Meets}
 use Rattle.pylex.specs.declared.position.Meets.TheVariants as meets
-use Rattle.pylex.specs.Lexemes.{Lexeme, lexeme_at, lexeme_len}
-use Rattle.pylex.specs.Lines.{is_thing, is_thing_class}
-use Rattle.pylex.specs.Cuts.{Cuts, begins_thing}
+use Rattle.pylexeme.specs.Lexemes.{Lexeme, lexeme_at, lexeme_len, is_thing_class}
+use Rattle.pylex.specs.Lines.{is_thing}
+use Rattle.pylexeme.specs.Cuts.{Cuts, begins_thing}
 use Rattle.pylex.specs.Machine.{State, after, gives, entry_by, layout_of, remaining, behind_steps, pushed, dedents_at, mark_at}
 use Rattle.pylex.specs.Progress.{with_levels, measured, given, Stands, HasRoom, Comes, Walks, stays, silent, level, dedent, EntryAhead, GivesFault, mismatch, faulty, FaultAhead, IndentAhead, DedentAhead, Finds, Settles, IsLayout, is_level}
 use Rattle.std.proofs.lemmas.Bool.Decides.{nat_tests}
 use Rattle.std.proofs.lemmas.Str.{length-le-encodes}
-use Rattle.pylex.proofs.Cases.{bool_cases}
+use Rattle.pylexeme.proofs.Cases.{bool_cases}
 use Rattle.pylex.proofs.Measured.{lexeme_front, remaining_lexeme, measured_lexeme, measured_stop}
 use Rattle.pylex.proofs.Layouts.{layout_dedents, layout_mismatch, level_not_above, level-push, pushed_less, dedents-push}
 use Rattle.pylex.proofs.Things.{thing_at, plain_at}

@@ -12,13 +12,13 @@ use Rattle.pysource.specs.Lines.{lines_of}
 use Rattle.pysource.specs.declared.bytes.TheConstants.{SOURCE_LIMIT}
 use Rattle.pysource.specs.declared.streams.Line.{Line}
 use Rattle.pysource.specs.declared.streams.Line.TheVariants as met
-use Rattle.pylex.specs.declared.string.OpenLiteral.{OpenLiteral}
+use Rattle.pylexeme.specs.declared.string.OpenLiteral.{OpenLiteral}
 use Rattle.pylex.specs.declared.chunk.Chunk.{Chunk}
-use Rattle.pylex.specs.Chars.{begins}
-use Rattle.pylex.specs.Chunks.{EndsLine}
+use Rattle.pylexeme.specs.Chars.{begins}
+use Rattle.pylexeme.specs.Chunks.{EndsLine}
 use Rattle.pylex.specs.Chunked.{AddsLine, IsLineMore, HoldsOn}
-use Rattle.pylex.specs.Lexemes.{lexeme_at, left_by_cut, is_open_string}
-use Rattle.pylex.specs.OpenLiterals.{IsOpenBy}
+use Rattle.pylexeme.specs.Lexemes.{lexeme_at, left_by_cut, is_open_string}
+use Rattle.pylexeme.specs.OpenLiterals.{IsOpenBy}
 use Rattle.pylex.specs.Held.{AheadBut, IsJoined, LexedTo, at_left, IsAtStop, Holds, IsOpenAt, LinesBehind, Joins}
 use Rattle.pylex.proofs.ChunkLemmas.{line_some}
 use Rattle.pylex.proofs.Lined.{lined_chars, lined_or_last}

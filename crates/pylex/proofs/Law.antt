@@ -6,15 +6,16 @@ use Rattle.std.proofs.lemmas.Str.{encodes-append}
 use Rattle.std.proofs.lemmas.List.{append-nil, reverse-append}
 use Rattle.std.proofs.lemmas.Grind.{common_steps}
 use Rattle.std.proofs.lemmas.Bool.Decides.{nat_tests}
-use Rattle.pylex.specs.Lexemes.{Lexeme}
-use Rattle.pylex.specs.Lines.{text_before, bytes_in, place_after, depth, is_of_blanks, is_of_line_end, is_thing, opens, closes, line_so_far, before_line, is_at_margin, is_logical, column_after, width_from, width_at, widths}
+use Rattle.pylexeme.specs.Lexemes.{Lexeme}
+use Rattle.pylex.specs.Lines.{text_before, place_after, depth, is_of_blanks, is_of_line_end, is_thing, opens, closes, line_so_far, before_line, is_at_margin, is_logical, column_after, width_from, width_at, widths}
+use Rattle.pylexeme.specs.Chars.{bytes_in}
 use Rattle.pylex.specs.Levels.{open_levels}
 use Rattle.pylex.specs.Listing.{ends_in_join}
 use Rattle.pylex.specs.Machine.{State, advance, front_after_char, front_after, past, after, still, count_if, pushed}
 use Rattle.pylex.specs.declared.state.Point.{Point}
 use Rattle.pylex.specs.declared.state.Front.{Front}
 use Rattle.pylex.specs.declared.state.Front.TheVariants.{Nothing}
-use Rattle.pylex.proofs.Cases.{bool_cases}
+use Rattle.pylexeme.proofs.Cases.{bool_cases}
 use Rattle.pylex.proofs.Stack.{push}
 
 -- Places and offsets.

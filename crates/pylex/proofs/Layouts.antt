@@ -9,7 +9,7 @@ use Rattle.pylex.specs.declared.entries.ListingError.TheVariants as errors
 use Rattle.pylex.specs.declared.kinds.Kind.TheVariants as kinds
 use Rattle.pylex.specs.Listing.{fault_at}
 use Rattle.pylex.specs.Machine.{State, layout_of, pushed, step_of, mark_at, dedents_at}
-use Rattle.pylex.proofs.Cases.{bool_cases, and_parts}
+use Rattle.pylexeme.proofs.Cases.{bool_cases, and_parts}
 use Rattle.std.proofs.Math.Bool.{and-false}
 use Rattle.pysource.specs.declared.places.Place.{Place}
 use Rattle.pylex.specs.Progress.{IsAscending, is_above, is_level}

@@ -11,17 +11,17 @@ use Rattle.pylex.specs.declared.entries.ListingFault.{ListingFault}
 use Rattle.pylex.specs.declared.position.Meets.{Meets}
 use Rattle.pylex.specs.declared.position.Meets.TheVariants as meets
 use Rattle.pylex.specs.declared.state.Progress.{Progress}
-use Rattle.pylex.specs.Chunks.{EndsLine}
-use Rattle.pylex.specs.Cuts.{begins_thing}
+use Rattle.pylexeme.specs.Chunks.{EndsLine}
+use Rattle.pylexeme.specs.Cuts.{begins_thing}
 use Rattle.pylex.specs.Laws.{AreLexemes}
-use Rattle.pylex.specs.Lexemes.{Lexeme, lexeme_at, lexeme_len, cut, left_by_cut, is_open_string}
+use Rattle.pylexeme.specs.Lexemes.{Lexeme, lexeme_at, lexeme_len, cut, left_by_cut, is_open_string}
 use Rattle.pylex.specs.Machine.{State}
 use Rattle.pylex.specs.Progress.{Walks, stays, silent, level, dedent, Comes, GivesFault, mismatch, faulty, StopAhead, Finds}
 use Rattle.pylex.specs.Held.{IsJoined, LexedTo, at_left, past_lexeme}
 use Rattle.pylex.proofs.Carried.{drop_ends, drop_carried}
-use Rattle.pylex.proofs.Kept.{lexeme_kept}
+use Rattle.pylexeme.proofs.Kept.{lexeme_kept}
 use Rattle.pylex.proofs.Lexed.{cut_lexed, lexeme_front, lexeme_parts, lexeme_some}
-use Rattle.pylex.proofs.Cases.{bool_cases}
+use Rattle.pylexeme.proofs.Cases.{bool_cases}
 use Rattle.pylex.proofs.Lined.{lined_chars, feed_behind, ends_on}
 use Rattle.pylex.proofs.Steps.{left_step, left_stop}
 use Rattle.pylex.proofs.Things.{none_at_all}

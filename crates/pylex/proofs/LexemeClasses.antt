@@ -5,15 +5,15 @@ use Rattle.std.specs.Str.{bytes_eq}
 use Rattle.std.proofs.lemmas.List.{append-nil}
 use Rattle.std.proofs.lemmas.Slice.Eq.{bytes_eq-Decides}
 use Rattle.std.proofs.lemmas.Bool.Decides.{nat_tests}
-use Rattle.pylex.specs.declared.lexeme.Class.{Class}
-use Rattle.pylex.specs.declared.lexeme.Class.TheVariants.{Name, Number, String, Operator, Comment, Blanks, LineEnd, Join}
-use Rattle.pylex.specs.Chars.{is_comment_part}
-use Rattle.pylex.specs.Operators.{is_operator}
-use Rattle.pylex.specs.Numbers.{is_number}
-use Rattle.pylex.specs.Strings.{opens_string, counts_as_string}
-use Rattle.pylex.specs.Lexemes.{Lexeme, is_name, is_comment, are_blanks, is_line_end, is_join, plain_class, class_in, lexeme_at}
+use Rattle.pylexeme.specs.declared.lexeme.Class.{Class}
+use Rattle.pylexeme.specs.declared.lexeme.Class.TheVariants.{Name, Number, String, Operator, Comment, Blanks, LineEnd, Join}
+use Rattle.pylexeme.specs.Chars.{is_comment_part}
+use Rattle.pylexeme.specs.Operators.{is_operator}
+use Rattle.pylexeme.specs.Numbers.{is_number}
+use Rattle.pylexeme.specs.Strings.{opens_string, counts_as_string}
+use Rattle.pylexeme.specs.Lexemes.{Lexeme, is_name, is_comment, are_blanks, is_line_end, is_join, plain_class, class_in, lexeme_at}
 use Rattle.pylex.specs.Listing.{last_line}
-use Rattle.pylex.proofs.Cases.{bool_cases}
+use Rattle.pylexeme.proofs.Cases.{bool_cases}
 use Rattle.pylex.proofs.Front.{last_push}
 use Rattle.pylex.proofs.Lexed.{lexeme_class}
 

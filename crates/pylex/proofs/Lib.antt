@@ -1,4 +1,4 @@
-mod Cases
+mod Computing
 mod Stack
 mod Law
 mod Front
@@ -10,32 +10,13 @@ mod Tops
 mod Finding
 mod Ending
 mod Resume
-mod Computing
 mod Full
 mod Resumed
 mod Examples
-pub mod Texts
 pub mod Walking
 pub mod Advancing
-pub mod Longest
-pub mod Best
-pub mod Joined
-pub mod Taking
-pub mod NumberSets
-pub mod Parts
-pub mod NumberBest
-pub mod Units
-pub mod Triples
-pub mod StringBest
-pub mod StringLongest
-pub mod Prefixes
 pub mod LiteralExamples
-pub mod OpenStrings
-pub mod Classes
-pub mod Union
 pub mod Things
-pub mod OperatorLengths
-pub mod Cutting
 pub mod LinesLemmas
 pub mod LexemeClasses
 pub mod Lexed
@@ -61,11 +42,6 @@ pub mod CursorLemmas
 pub mod GroundLevels
 pub mod LastLines
 pub mod Returning
-pub mod InLine
-pub mod LinedUnits
-pub mod LineFronts
-pub mod Kept
-pub mod Lengthened
 pub mod Carried
 pub mod Placing
 pub mod ChunkLemmas
@@ -78,7 +54,6 @@ pub mod Stepping
 pub mod Steppings
 pub mod Beginning
 pub mod Plain
-pub mod OpenLiterals
 pub mod Behind
 pub mod Adding
 pub mod LexedOn

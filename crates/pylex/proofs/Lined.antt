@@ -6,9 +6,9 @@ use Rattle.std.proofs.lemmas.Str.{chars-nil}
 use Rattle.pysource.specs.Streams.{ends_line}
 use Rattle.pylex.specs.declared.entries.ListingFault.{ListingFault}
 use Rattle.pylex.specs.declared.state.Progress.{Progress}
-use Rattle.pylex.specs.Chunks.{EndsLine}
-use Rattle.pylex.specs.Cuts.{begins_thing}
-use Rattle.pylex.specs.Lexemes.{Lexeme, lexeme_at, is_open_string}
+use Rattle.pylexeme.specs.Chunks.{EndsLine}
+use Rattle.pylexeme.specs.Cuts.{begins_thing}
+use Rattle.pylexeme.specs.Lexemes.{Lexeme, lexeme_at, is_open_string}
 use Rattle.pylex.specs.Listing.{stop_fault, up_to_end}
 use Rattle.pylex.specs.Listers.{Listed, Keeps}
 use Rattle.pylex.specs.Machine.{State, layout_of, remaining}
@@ -18,8 +18,8 @@ use Rattle.pylex.proofs.Measured.{stop_within}
 use Rattle.pylex.proofs.Things.{none_at_all}
 use Rattle.pylex.proofs.Finding.{walks_on}
 use Rattle.pylex.proofs.Looking.{walks_in}
-use Rattle.pylex.proofs.Kept.{lexeme_kept}
-use Rattle.pylex.proofs.LineFronts.{thing_kept}
+use Rattle.pylexeme.proofs.Kept.{lexeme_kept}
+use Rattle.pylexeme.proofs.LineFronts.{thing_kept}
 use Rattle.pylex.proofs.Carried.{chars_lines}
 
 -- A lister that may go on over some bytes may go on over their front.
@@ -43,6 +43,10 @@ nothing_begins : (b : Bool) → (b && begins_thing []) ≡ false
 unfolding begins_thing
 nothing_begins true = refl
 nothing_begins false = refl
+
+-- no lexeme stands where nothing is left
+pub stop_empty : (q : Progress) → StopAhead q []
+stop_empty q = record { none = nothing_at (lexeme_at []) refl; settled = nothing_begins q.margin }
 
 pub stop_back : (q : Progress) (cs es : List ℕ) → EndsLine cs ⊎ (cs ≡ []) → StopAhead q (cs ++ es) → StopAhead q cs
 stop_back q cs es (inl l) s = record {

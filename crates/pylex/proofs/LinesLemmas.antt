@@ -1,21 +1,24 @@
 -- The widths of what a line's fields hold.
-use Rattle.std.proofs.Common.{◌≡◌, ℕ, true, false, ◌<◌, ◌-◌, List, [], ◌∷◌, ◌++◌, length, drop, replicate, refl, ap, ap₂, ◌∙◌, arith, ◌≤◌, ◌+◌, Result, Ok, Err, is_ok, get_or, length-append, sym, take}
-use Rattle.std.specs.Prelude.{zero, suc, ◌/◌, ◌%◌, ◌==◌, if◌then◌else◌, decimal, codes}
+use Rattle.std.proofs.Common.{◌≡◌, ℕ, true, false, ◌<◌, ◌-◌, List, [], ◌∷◌, ◌++◌, length, drop, replicate, refl, ap, ap₂, ◌∙◌, arith, ◌≤◌, ◌+◌, Result, Ok, Err, is_ok, get_or, length-append, sym, take, subst, append-nil, nat_le, leb-true}
+use Rattle.std.specs.Prelude.{zero, suc, ◌/◌, ◌%◌, ◌==◌, ◌&&◌, if◌then◌else◌, decimal, codes, slice_set}
+use Rattle.std.specs.List.{list_all}
 use Rattle.std.specs.Result.{OnOk}
 use Rattle.std.specs.Str.{chars, IsAscii}
 use Rattle.std.proofs.lemmas.Str.{chars-IsAscii, IsAscii-append}
 use Rattle.std.proofs.lemmas.Str.Ascii.{IsAscii-nil, IsAscii-cons}
-use Rattle.std.proofs.lemmas.List.{append_assoc, drop-append-le, drop_all, get_or-append_right, get_or-replicate, length-replicate, replicate-append-replicate, take_at}
+use Rattle.std.proofs.lemmas.List.{append_assoc, drop-append-le, drop_all, get_or-append_right, get_or-replicate, length-replicate, replicate-append-replicate, take_at, drop-replicate, set-append_right}
 use Rattle.std.specs.Fmt.{digits, digits_onto, digit_glyph}
-use Rattle.std.proofs.lemmas.Bool.{ne_eqb}
+use Rattle.std.proofs.lemmas.Bool.{ne_eqb, and_parts}
 use Rattle.std.proofs.lemmas.Bool.Decides.{nat_tests}
 use Rattle.pysource.specs.declared.places.Place.{Place}
+use Rattle.pysource.specs.Reprs.{is_plain, repr_text}
+use Rattle.pysource.proofs.PushReprLemmas.{plain_repr, plain_repr_characters}
 use Rattle.pylex.specs.declared.entries.Entry.{Entry}
-use Rattle.pylex.specs.declared.kinds.Exact.{Exact}
-use Rattle.pylex.specs.declared.kinds.Exact.TheVariants.{LPar}
+use Rattle.pylexeme.specs.declared.kinds.Exact.{Exact}
+use Rattle.pylexeme.specs.declared.kinds.Exact.TheVariants.{LPar}
 use Rattle.pylex.specs.declared.kinds.Kind.{Kind}
 use Rattle.pylex.specs.declared.kinds.Kind.TheVariants.{Op}
-use Rattle.pylex.specs.Operators.{exact_name}
+use Rattle.pylexeme.specs.Operators.{exact_name}
 use Rattle.pylex.specs.ListingLines.{filled, kind_name, shown_place, shown_range}
 
 one_ascii : (b : ℕ) → b < 128 → IsAscii (b ∷ [])
@@ -120,3 +123,93 @@ cut_filling old n k at new fewer start grown =
     grown ∙ ap (λ bs. old ++ bs) parts ∙ sym (append_assoc old (replicate k 32) (replicate (n - k) 32)) in
     let place : length (old ++ replicate k 32) ≡ at + k = omega (arith, start, length-append old (replicate k 32), length-replicate {A = ℕ} k 32) in
     ap (take (at + k)) cut ∙ take_at (old ++ replicate k 32) (replicate (n - k) 32) (at + k) place
+
+-- Below, fields that are written to an array.
+blanks_ascii : (n : ℕ) → IsAscii (replicate n 32)
+blanks_ascii zero = IsAscii-nil
+blanks_ascii (suc n) = IsAscii-cons 32 (replicate n 32) (omega arith) (blanks_ascii n)
+
+range_ascii : (e : Entry) → IsAscii (shown_range e)
+range_ascii e =
+    IsAscii-append (shown_place e.start ++ codes "-" ++ shown_place e.end) (codes ":")
+    (IsAscii-append (shown_place e.start ++ codes "-") (shown_place e.end)
+    (IsAscii-append (shown_place e.start) (codes "-") (place_ascii e.start) (one_ascii 45 (omega arith)))
+    (place_ascii e.end))
+    (one_ascii 58 (omega arith))
+
+-- a place before more text, and its length
+pub place_front : (p : Place) (rest : List ℕ) → decimal p.row ++ (44 ∷ (decimal p.column ++ rest)) ≡ shown_place p ++ rest
+place_front p rest =
+    sym (append_assoc (decimal p.row ++ codes ",") (decimal p.column) rest ∙ append_assoc (decimal p.row) (codes ",") (decimal p.column ++ rest))
+
+pub place_length : (p : Place) → length (shown_place p) ≡ length (decimal p.row) + 1 + length (decimal p.column)
+place_length p = length-append (decimal p.row ++ codes ",") (decimal p.column) ∙ ap (λ n. n + length (decimal p.column)) (length-append (decimal p.row) (codes ","))
+
+-- a range of places before more text
+pub range_front : (e : Entry) (rest : List ℕ) → shown_place e.start ++ (45 ∷ (shown_place e.end ++ (58 ∷ rest))) ≡ shown_range e ++ rest
+range_front e rest =
+    sym (append_assoc (shown_place e.start ++ codes "-" ++ shown_place e.end) (codes ":") rest
+    ∙ append_assoc (shown_place e.start ++ codes "-") (shown_place e.end) (58 ∷ rest)
+    ∙ append_assoc (shown_place e.start) (codes "-") (shown_place e.end ++ (58 ∷ rest)))
+
+-- the field of places that are no wider than it, and of wider ones
+pub short_range : (e : Entry) (rest : List ℕ) (n : ℕ) → rest ≡ shown_range e ++ replicate 20 32 → n ≡ 20 → length (shown_range e) ≤ 20 → take n rest ≡ filled 20 (shown_range e)
+short_range e rest n is width short =
+    let size = length (shown_range e) in
+    let all : n ≡ size + (20 - size) = omega arith in
+    ap (λ k. take k rest) all ∙ cut_filling (shown_range e) 20 (20 - size) size rest (omega arith) refl is
+    ∙ ap (λ k. shown_range e ++ replicate (20 - k) 32) (sym (range_characters e))
+
+pub wide_range : (e : Entry) (rest : List ℕ) (n : ℕ) → rest ≡ shown_range e ++ replicate 20 32 → n ≡ length (shown_range e) → 20 < n → take n rest ≡ filled 20 (shown_range e)
+wide_range e rest n is size wide =
+    let none : 20 - length (chars (shown_range e)) ≡ 0 = omega (arith, range_characters e) in
+    ap (take n) is ∙ take_at (shown_range e) (replicate 20 32) n (sym size)
+    ∙ sym (append-nil (shown_range e)) ∙ ap (λ k. shown_range e ++ replicate k 32) (sym none)
+
+pub filled_range_ascii : (e : Entry) → IsAscii (filled 20 (shown_range e))
+filled_range_ascii e = IsAscii-append (shown_range e) (replicate (20 - length (chars (shown_range e))) 32) (range_ascii e) (blanks_ascii (20 - length (chars (shown_range e))))
+
+plain_below : (b : ℕ) → is_plain b ≡ true → b < 128
+plain_below b plain =
+    let high = leb-true b 126 (and_parts (nat_le 32 b) (nat_le b 126) (and_parts (nat_le 32 b && nat_le b 126) _ plain).0).1 in
+    omega (arith, high)
+
+plain_ascii : (bs : List ℕ) → list_all is_plain bs ≡ true → IsAscii bs
+plain_ascii [] plain = IsAscii-nil
+plain_ascii (b ∷ bs) plain =
+    let parts = and_parts (is_plain b) (list_all is_plain bs) plain in
+    IsAscii-cons b bs (plain_below b parts.0) (plain_ascii bs parts.1)
+
+-- the field of a short plain text
+plain_field : (text : List ℕ) → list_all is_plain text ≡ true → length text ≤ 13 → 39 ∷ (text ++ 39 ∷ replicate (13 - length text) 32) ≡ filled 15 (repr_text (chars text))
+plain_field text plain short =
+    let shown = plain_repr text plain in
+    let count : length text + 2 ≡ length (chars (repr_text (chars text))) = sym (ap (λ bs. length (chars bs)) shown ∙ plain_repr_characters text plain) in
+    let rest : 13 - length text ≡ 15 - (length text + 2) = omega arith in
+    field_filled 15 (length text + 2) (repr_text (chars text)) [] (39 ∷ (text ++ 39 ∷ [])) (39 ∷ (text ++ 39 ∷ replicate (13 - length text) 32)) (sym shown) count
+    (ap (λ k. 39 ∷ (text ++ 39 ∷ replicate k 32)) rest ∙ ap (λ (bs : List ℕ). 39 ∷ bs) (sym (append_assoc text (39 ∷ []) (replicate (15 - (length text + 2)) 32))))
+
+pub short_field : (text copied : List ℕ) → list_all is_plain text ≡ true → length text ≤ 13 → copied ≡ text
+    → slice_set (39 ∷ (copied ++ drop (length text + 1 - 1) (replicate {A = ℕ} 14 32))) (length text + 1) 39 ≡ filled 15 (repr_text (chars text))
+short_field text copied plain short same =
+    let n = length text in
+    let len : n + 1 - 1 ≡ n = omega arith in
+    let back : drop n (replicate {A = ℕ} 14 32) ≡ 32 ∷ replicate (13 - n) 32 =
+    let more : 14 - n ≡ suc (13 - n) = omega arith in
+    drop-replicate n 14 32 ∙ ap (λ k. replicate {A = ℕ} k 32) more in
+    let start : n + 1 - (n + 1) ≡ 0 = omega arith in
+    let size : length (39 ∷ text) ≡ n + 1 = omega arith in
+    rw (same, len, back) (set-append_right (39 ∷ text) (32 ∷ replicate (13 - n) 32) (n + 1) (n + 1) 39 size (omega arith)
+    ∙ ap (λ k. (39 ∷ text) ++ slice_set (32 ∷ replicate (13 - n) 32) k 39) start ∙ plain_field text plain short)
+
+pub filled_plain_ascii : (text : List ℕ) → list_all is_plain text ≡ true → length text ≤ 13 → IsAscii (filled 15 (repr_text (chars text)))
+filled_plain_ascii text plain short =
+    subst IsAscii (plain_field text plain short)
+    (IsAscii-cons 39 (text ++ 39 ∷ replicate (13 - length text) 32) (omega arith)
+    (IsAscii-append text (39 ∷ replicate (13 - length text) 32) (plain_ascii text plain)
+    (IsAscii-cons 39 (replicate (13 - length text) 32) (omega arith) (blanks_ascii (13 - length text)))))
+
+-- the field of a line feed
+pub line_feed_field : filled 15 (repr_text (chars (10 ∷ []))) ≡ codes "'\\n'           "
+unfolding chars lib.Utf8.encode
+line_feed_field = refl

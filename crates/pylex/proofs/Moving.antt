@@ -15,7 +15,7 @@ use Rattle.pylex.specs.declared.kinds.Kind.TheVariants as kinds
 use Rattle.pysource.specs.declared.places.Place.{Place}
 use Rattle.pylex.specs.declared.state.Progress.{Progress}
 use Rattle.pylex.specs.declared.state.Front.TheVariants.{Nothing}
-use Rattle.pylex.specs.Lexemes.{cut, left_by_cut}
+use Rattle.pylexeme.specs.Lexemes.{cut, left_by_cut}
 use Rattle.pylex.specs.Cursors.{CursorParts, has_no_text, given_last_first, with_text, lexemes_to, cursor_at, cursor}
 use Rattle.pylex.specs.Listing.{Source, in_characters, listing, rest, mark, origin, last_line}
 use Rattle.pylex.specs.Steps.{entries_of, first_step, entries_in, IsIndent}
@@ -28,7 +28,7 @@ use Rattle.pylex.specs.Listers.{Listed, StandsIn, Moves, AwaitsIndent, Keeps, Is
 use Rattle.pylex.proofs.Law.{state_of}
 use Rattle.pylex.proofs.Ahead.{history_is, placed_first}
 use Rattle.pylex.proofs.Resuming.{begun_state}
-use Rattle.pylex.proofs.Cases.{bool_cases}
+use Rattle.pylexeme.proofs.Cases.{bool_cases}
 use Rattle.pylex.proofs.Ends.{is_whole}
 use Rattle.pylex.proofs.Layouts.{level-push, pushed_above, ascending-push, ascending-front}
 use Rattle.pylex.proofs.Finding.{walks_steps, walks_on, same_ahead, fault_step, dedent_step}

@@ -3,9 +3,9 @@ use Rattle.std.proofs.Common.{◌≡◌, ℕ, ◌+◌, ◌≤◌, ◌<◌, zero,
 use Rattle.std.specs.List.{list_all, list_any}
 use Rattle.std.specs.Prelude.{nat_lt}
 use Rattle.pysource.specs.declared.places.Place.{Place}
-use Rattle.pylex.specs.declared.lexeme.Class.{Class}
-use Rattle.pylex.specs.declared.lexeme.Class.TheVariants.{Name, Number, String, Operator, Comment, Blanks, LineEnd, Join}
-use Rattle.pylex.specs.declared.kinds.Exact.{Exact}
+use Rattle.pylexeme.specs.declared.lexeme.Class.{Class}
+use Rattle.pylexeme.specs.declared.lexeme.Class.TheVariants.{Name, Number, String, Operator, Comment, Blanks, LineEnd, Join}
+use Rattle.pylexeme.specs.declared.kinds.Exact.{Exact}
 use Rattle.pylex.specs.declared.kinds.Kind.{Kind}
 use Rattle.pylex.specs.declared.kinds.Kind.TheVariants as kinds
 use Rattle.pylex.specs.declared.entries.Entry.{Entry}
@@ -13,14 +13,14 @@ use Rattle.pylex.specs.declared.entries.ListingFault.{ListingFault}
 use Rattle.pylex.specs.declared.entries.Step.{Step}
 use Rattle.pylex.specs.declared.entries.Step.TheVariants as steps
 use Rattle.pylex.specs.declared.state.Point.{Point}
-use Rattle.pylex.specs.Operators.{is_closer, exact_of}
-use Rattle.pylex.specs.Lexemes.{Lexeme, cut, left_by_cut}
+use Rattle.pylexeme.specs.Operators.{is_closer, exact_of}
+use Rattle.pylexeme.specs.Lexemes.{Lexeme, cut, left_by_cut}
 use Rattle.pylex.specs.Lines.{is_of_blanks, is_thing}
 use Rattle.pylex.specs.Listing.{Source, origin, up_to_end}
 use Rattle.pylex.specs.Steps.{entries_of}
 use Rattle.pylex.specs.Machine.{State, advance, past, after, ends_line, dedents_at, mark_at, step_of, layout_of, entry_by, gives, is_hash, last_line_end, last_place, tail_of, stop_of, run, remaining, first_state, first_point}
 use Rattle.pylex.specs.Laws.{RunsForward, EndsBefore, AreOrdered, IsOrdered}
-use Rattle.pylex.proofs.Cases.{bool_cases}
+use Rattle.pylexeme.proofs.Cases.{bool_cases}
 use Rattle.pylex.proofs.Run.{listing_is}
 use Rattle.pylex.proofs.Ends.{stop_is_fault}
 

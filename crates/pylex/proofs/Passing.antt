@@ -2,15 +2,15 @@
 use Rattle.std.proofs.Common.{◌≡◌, ℕ, ◌+◌, zero, suc, Bool, true, false, ◌&&◌, ◌==◌, cond, List, [], ◌∷◌, ◌++◌, drop, replicate, refl, ap, ◌∙◌, sym, subst, arith, Option, Some, None}
 use Rattle.std.specs.List.{count_by}
 use Rattle.std.specs.Prelude.{nat_lt}
-use Rattle.pylex.specs.declared.lexeme.Class.{Class}
-use Rattle.pylex.specs.declared.lexeme.Class.TheVariants.{Name, Number, String, Operator, Comment, Blanks, LineEnd, Join}
+use Rattle.pylexeme.specs.declared.lexeme.Class.{Class}
+use Rattle.pylexeme.specs.declared.lexeme.Class.TheVariants.{Name, Number, String, Operator, Comment, Blanks, LineEnd, Join}
 use Rattle.pylex.specs.declared.entries.Entry.{Entry}
 use Rattle.pylex.specs.declared.entries.ListingFault.{ListingFault}
 use Rattle.pylex.specs.declared.entries.Step.{Step}
 use Rattle.pylex.specs.declared.entries.Step.TheVariants as steps
-use Rattle.pylex.specs.Operators.{is_closer}
-use Rattle.pylex.specs.Cuts.{begins_thing}
-use Rattle.pylex.specs.Lexemes.{Lexeme, lexeme_at, lexeme_len}
+use Rattle.pylexeme.specs.Operators.{is_closer}
+use Rattle.pylexeme.specs.Cuts.{begins_thing}
+use Rattle.pylexeme.specs.Lexemes.{Lexeme, lexeme_at, lexeme_len}
 use Rattle.pylex.specs.Lines.{closes, is_thing, depth}
 use Rattle.pylex.specs.Listing.{Source}
 use Rattle.pylex.specs.Machine.{State, after, layout_of, entry_by, gives, remaining, behind_steps}

@@ -4,8 +4,8 @@ use Rattle.std.specs.List.{list_all}
 use Rattle.std.proofs.lemmas.Bool.Decides.{nat_tests}
 use Rattle.std.proofs.lemmas.Str.{encode_ascii, length-le-encodes}
 use Rattle.pysource.specs.declared.places.Place.{Place}
-use Rattle.pylex.specs.declared.lexeme.Class.{Class}
-use Rattle.pylex.specs.declared.lexeme.Class.TheVariants.{Name, Number, String, Operator, Comment, Blanks, LineEnd, Join}
+use Rattle.pylexeme.specs.declared.lexeme.Class.{Class}
+use Rattle.pylexeme.specs.declared.lexeme.Class.TheVariants.{Name, Number, String, Operator, Comment, Blanks, LineEnd, Join}
 use Rattle.pylex.specs.declared.entries.Entry.{Entry}
 use Rattle.pylex.specs.declared.entries.ListingFault.{ListingFault}
 use Rattle.pylex.specs.declared.entries.Step.TheVariants as steps
@@ -15,17 +15,18 @@ use Rattle.pylex.specs.declared.state.Given.{Given}
 use Rattle.pylex.specs.declared.state.Given.TheVariants as gives
 use Rattle.pylex.specs.declared.state.Point.{Point}
 use Rattle.pylex.specs.declared.state.Progress.{Progress}
-use Rattle.pylex.specs.Chars.{is_blank_char}
-use Rattle.pylex.specs.Chunks.{EndsLine}
-use Rattle.pylex.specs.Operators.{is_closer}
-use Rattle.pylex.specs.Lexemes.{Lexeme, lexeme_at, lexeme_len}
-use Rattle.pylex.specs.Lines.{bytes_in, is_blanks_class, is_of_blanks, place_after}
+use Rattle.pylexeme.specs.Chars.{is_blank_char}
+use Rattle.pylexeme.specs.Chunks.{EndsLine}
+use Rattle.pylexeme.specs.Operators.{is_closer}
+use Rattle.pylexeme.specs.Lexemes.{Lexeme, lexeme_at, lexeme_len, is_blanks_class}
+use Rattle.pylex.specs.Lines.{is_of_blanks, place_after}
+use Rattle.pylexeme.specs.Chars.{bytes_in}
 use Rattle.pylex.specs.Listing.{last_line, further}
 use Rattle.pylex.specs.Machine.{State, advance, past, after, entry_by, ends_line, first_state, is_hash, last_line_end, mark_at, step_of}
 use Rattle.pylex.specs.Progress.{with_levels, measured, begun_anew, Walks, stays, silent, level, dedent, Comes, EntryAhead, given, GivesAt}
 use Rattle.pylex.specs.Listers.{IsIn}
 use Rattle.pylex.specs.Ranges.{IsMeasuring}
-use Rattle.pylex.proofs.Cases.{bool_cases, and_parts}
+use Rattle.pylexeme.proofs.Cases.{bool_cases, and_parts}
 use Rattle.pylex.proofs.Law.{place_after-append, bytes_in-append}
 use Rattle.pylex.proofs.Resumed.{column_is}
 use Rattle.pylex.proofs.Things.{blanks_text}

@@ -16,7 +16,7 @@ use Rattle.pylex.specs.Positions.{shown_from}
 use Rattle.pylex.specs.Progress.{Comes, HasRoom, StopAhead}
 use Rattle.pylex.specs.Streamed.{StreamsIn, streamed}
 use Rattle.pylex.specs.Held.{IsJoined, LexedTo}
-use Rattle.pylex.specs.Lexemes.{left_by_cut}
+use Rattle.pylexeme.specs.Lexemes.{left_by_cut}
 use Rattle.pylex.proofs.LexedOn.{joined_behind, left_behind, left_all}
 use Rattle.pylex.proofs.Carried.{comes_carried}
 use Rattle.pylex.proofs.Lined.{keeps_on, lined_or_last, ends_on}

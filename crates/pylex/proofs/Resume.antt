@@ -5,18 +5,18 @@ use Rattle.std.proofs.lemmas.List.{append-nil, reverse-append, reverse-reverse, 
 use Rattle.std.proofs.lemmas.Str.{length-le-encodes}
 use Rattle.std.proofs.lemmas.Bool.Decides.{nat_tests}
 use Rattle.pylex.specs.declared.entries.ListingFault.{ListingFault}
-use Rattle.pylex.specs.Lexemes.{Lexeme}
-use Rattle.pylex.specs.Lines.{text_before, bytes_in, is_of_blanks}
+use Rattle.pylexeme.specs.Lexemes.{Lexeme, cut}
+use Rattle.pylex.specs.Lines.{text_before, is_of_blanks}
+use Rattle.pylexeme.specs.Chars.{bytes_in}
 use Rattle.pylex.specs.Listing.{last_line, Source}
 use Rattle.std.specs.List.{count_by}
 use Rattle.std.proofs.lemmas.Grind.{common_steps}
 use Rattle.pylex.specs.declared.entries.Entry.{Entry}
-use Rattle.pylex.specs.Lexemes.{cut}
 use Rattle.pylex.specs.Cursors.{lexemes_to, CursorParts, given_last_first, has_no_text, is_encoding, is_indent, cursor, cursor_at, with_text}
 use Rattle.pylex.specs.Machine.{State, gives, layout_of, entry_by, after, ends_line, stop_of, tail_of, last_line_end, run}
 use Rattle.pylex.specs.declared.state.Point.{Point}
 use Rattle.pylex.specs.Standing.{front_to, back_from, line_begin, Agrees, standing_by}
-use Rattle.pylex.proofs.Cases.{bool_cases}
+use Rattle.pylexeme.proofs.Cases.{bool_cases}
 use Rattle.pylex.proofs.Law.{bytes_in-append}
 
 -- Where a line has begun, its start counts no more.

@@ -12,8 +12,8 @@ use Rattle.pylex.specs.declared.state.Progress.{Progress}
 use Rattle.std.specs.Prelude.{slice_get}
 use Rattle.pylex.specs.declared.entries.Step.{Step}
 use Rattle.pylex.specs.declared.entries.Step.TheVariants as steps
-use Rattle.pylex.specs.Lexemes.{Lexeme, cut}
-use Rattle.pylex.specs.Lines.{bytes_in}
+use Rattle.pylexeme.specs.Lexemes.{Lexeme, cut}
+use Rattle.pylexeme.specs.Chars.{bytes_in}
 use Rattle.pylex.specs.Listing.{Source, in_characters, last_line, listing, rest}
 use Rattle.pylex.specs.Steps.{entries_of, first_step, entries_in}
 use Rattle.pylex.specs.Cursors.{CursorParts, has_no_text, lexemes_to, cursor_at, cursor}
@@ -21,12 +21,12 @@ use Rattle.pylex.specs.Machine.{State, front_after}
 use Rattle.pylex.specs.Progress.{with_levels, IsAscending, Walks, stays}
 use Rattle.pylex.specs.Standing.{resumed, standing_by, Agrees, IsCursorOf}
 use Rattle.pylex.specs.Listers.{Listed, StandsIn, LeadsInto, Keeps, IsIn, shown_by}
-use Rattle.pylex.proofs.Cases.{bool_cases}
+use Rattle.pylexeme.proofs.Cases.{bool_cases}
 use Rattle.pylex.proofs.Resume.{cursor_skips, cursor_moves, last_split, lines_before}
 use Rattle.pylex.proofs.Looking.{line_in, left_in}
 use Rattle.pylex.proofs.Cursoring.{GivenNext, given_next, not_encoding, given_of, none_given, first_given, cursor_by, cursor_is, cursor_first, agrees_itself}
 use Rattle.pylex.proofs.CursorBounds.{shown_fits}
-use Rattle.pylex.proofs.Texts.{length-text}
+use Rattle.pylexeme.proofs.Texts.{length-text}
 use Rattle.pylex.proofs.Moving.{first_at, listing_length, cursor_opens, entry_due}
 
 skip_of : (k n : ℕ) (b : Bool) (h : List Lexeme) → (cursor_at k n b h).skip ≡ n

@@ -26,11 +26,11 @@ use Rattle.pylex.specs.Chunked.{Grows, HoldsOn, Stays, Adds, ReadsOn}
 use Rattle.pylex.specs.Progress.{Stands, StopAhead, IsAscending, Behind}
 use Rattle.pylex.specs.Streamed.{Continues, StreamsIn, IsStreaming, IsWaiting, streamed, Looks, LooksAhead, MeetsIn, Searches, Lacks, lacks}
 use Rattle.pylex.specs.Held.{Ahead, AheadBut, IsAtStop}
-use Rattle.pylex.specs.Cuts.{begins_thing}
-use Rattle.pylex.specs.Lexemes.{is_open_string}
+use Rattle.pylexeme.specs.Cuts.{begins_thing}
+use Rattle.pylexeme.specs.Lexemes.{is_open_string}
 use Rattle.pylex.proofs.AheadOn.{ahead_but}
 use Rattle.pylex.proofs.LexedOn.{lexed_both, lexed_comes, stuck_finds}
-use Rattle.pylex.proofs.LineFronts.{thing_kept}
+use Rattle.pylexeme.proofs.LineFronts.{thing_kept}
 use Rattle.pylex.proofs.Lined.{lined_or_last, stands_front, stop_back}
 use Rattle.pylex.proofs.Reading.{lined_left, no_text, only_line, reads_line, reads_none}
 

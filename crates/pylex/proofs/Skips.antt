@@ -5,16 +5,17 @@ use Rattle.std.specs.Prelude.{nat_lt}
 use Rattle.std.proofs.lemmas.Bool.Decides.{nat_tests}
 use Rattle.std.proofs.Math.Bool.{and-false}
 use Rattle.pysource.specs.declared.places.Place.{Place}
-use Rattle.pylex.specs.declared.lexeme.Class.{Class}
-use Rattle.pylex.specs.declared.lexeme.Class.TheVariants.{Name, Number, String, Operator, Comment, Blanks, LineEnd, Join}
+use Rattle.pylexeme.specs.declared.lexeme.Class.{Class}
+use Rattle.pylexeme.specs.declared.lexeme.Class.TheVariants.{Name, Number, String, Operator, Comment, Blanks, LineEnd, Join}
 use Rattle.pylex.specs.declared.kinds.Kind.TheVariants as kinds
 use Rattle.pylex.specs.declared.entries.Entry.{Entry}
 use Rattle.pylex.specs.declared.entries.ListingFault.{ListingFault}
 use Rattle.pylex.specs.declared.entries.Step.{Step}
 use Rattle.pylex.specs.declared.entries.Step.TheVariants as steps
-use Rattle.pylex.specs.Operators.{is_closer}
-use Rattle.pylex.specs.Lexemes.{Lexeme, cut, left_by_cut}
-use Rattle.pylex.specs.Lines.{bytes_in, is_thing, is_of_blanks, is_of_line_end, width_from}
+use Rattle.pylexeme.specs.Operators.{is_closer}
+use Rattle.pylexeme.specs.Lexemes.{Lexeme, cut, left_by_cut}
+use Rattle.pylex.specs.Lines.{is_thing, is_of_blanks, is_of_line_end, width_from}
+use Rattle.pylexeme.specs.Chars.{bytes_in}
 use Rattle.pylex.specs.Listing.{Source, listing, rest, stop_fault, up_to_end}
 use Rattle.pylex.specs.Steps.{entries_of, first_step}
 use Rattle.pylex.specs.Cursors.{CursorParts, cursor_at, cursor, has_no_text}
@@ -22,7 +23,7 @@ use Rattle.pylex.specs.Machine.{State, past, pushed, after, ends_line, still, de
 use Rattle.pylex.specs.Progress.{IsAscending, is_above, is_level}
 use Rattle.pylex.specs.Standing.{standing, resumed}
 use Rattle.pylex.specs.Listers.{Listed, StandsIn}
-use Rattle.pylex.proofs.Cases.{bool_cases, and_parts}
+use Rattle.pylexeme.proofs.Cases.{bool_cases, and_parts}
 use Rattle.pylex.proofs.Ends.{is_whole, stop_is_fault}
 use Rattle.pylex.proofs.Resume.{Full, margin_goes, cursor_skips, cursor_moves}
 use Rattle.pylex.proofs.Full.{cut_full}

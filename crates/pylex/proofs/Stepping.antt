@@ -12,9 +12,9 @@ use Rattle.pylex.specs.declared.entries.Step.{Step}
 use Rattle.pylex.specs.declared.entries.Step.TheVariants as steps
 use Rattle.pylex.specs.declared.position.Position.{Position}
 use Rattle.pylex.specs.declared.stream.Found.{Found}
-use Rattle.pylex.specs.Chunks.{EndsLine}
+use Rattle.pylexeme.specs.Chunks.{EndsLine}
 use Rattle.pylex.specs.Laws.{AllLie, StepLies}
-use Rattle.pylex.specs.Lines.{bytes_in}
+use Rattle.pylexeme.specs.Chars.{bytes_in}
 use Rattle.pylex.specs.Listing.{in_characters, listing}
 use Rattle.pylex.specs.Listers.{StandsIn, Moves}
 use Rattle.pylex.specs.Positions.{shown_from, Holds, Went, Ranges, left_by}
@@ -26,7 +26,7 @@ use Rattle.pylex.proofs.Lying.{entries_lie}
 use Rattle.pylex.proofs.Ranges.{in_offset}
 use Rattle.pylex.proofs.Reading.{lined_left}
 use Rattle.pylex.proofs.Streaming.{Lined, utf8_after, finds_whole, end_whole, stands_whole}
-use Rattle.pylex.proofs.Texts.{length-text}
+use Rattle.pylexeme.proofs.Texts.{length-text}
 use Rattle.pylex.proofs.Unencoded.{not_encoding}
 
 -- a step lies in the text with all of them

@@ -10,8 +10,8 @@ use Rattle.pysource.specs.declared.faults.LineFault.{LineFault}
 use Rattle.pylex.specs.declared.position.Meets.{Meets}
 use Rattle.pylex.specs.declared.position.Meets.TheVariants as meets
 use Rattle.pylex.specs.declared.state.Progress.{Progress}
-use Rattle.pylex.specs.Chunks.{EndsLine}
-use Rattle.pylex.specs.Lexemes.{is_open_string}
+use Rattle.pylexeme.specs.Chunks.{EndsLine}
+use Rattle.pylexeme.specs.Lexemes.{is_open_string}
 use Rattle.pylex.specs.Listing.{of_line}
 use Rattle.pylex.specs.Machine.{remaining}
 use Rattle.pylex.specs.Progress.{Finds, HasRoom, Stands, with_levels}

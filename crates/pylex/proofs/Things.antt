@@ -4,18 +4,18 @@ use Rattle.std.specs.Prelude.{option_map}
 use Rattle.std.specs.List.{list_all}
 use Rattle.std.specs.Str.{bytes_eq}
 use Rattle.std.proofs.lemmas.Bool.{eqb-true}
-use Rattle.pylex.specs.declared.lexeme.Class.{Class}
-use Rattle.pylex.specs.declared.lexeme.Class.TheVariants.{Name, Number, Operator, Comment, Blanks, LineEnd, Join, String}
-use Rattle.pylex.specs.Chars.{is_comment_part, is_blank_char}
-use Rattle.pylex.specs.Strings.{opens_string, counts_as_string}
-use Rattle.pylex.specs.Lexemes.{longest_within, class_in, plain_class, lexeme_len, lexeme_at, Lexeme, is_name, is_comment, are_blanks, is_line_end, is_join}
-use Rattle.pylex.specs.Numbers.{is_number}
-use Rattle.pylex.specs.Operators.{is_operator}
+use Rattle.pylexeme.specs.declared.lexeme.Class.{Class}
+use Rattle.pylexeme.specs.declared.lexeme.Class.TheVariants.{Name, Number, Operator, Comment, Blanks, LineEnd, Join, String}
+use Rattle.pylexeme.specs.Chars.{is_comment_part, is_blank_char}
+use Rattle.pylexeme.specs.Strings.{opens_string, counts_as_string}
+use Rattle.pylexeme.specs.Lexemes.{longest_within, class_in, plain_class, lexeme_len, lexeme_at, Lexeme, is_name, is_comment, are_blanks, is_line_end, is_join}
+use Rattle.pylexeme.specs.Numbers.{is_number}
+use Rattle.pylexeme.specs.Operators.{is_operator}
 use Rattle.pylex.specs.Lines.{is_thing}
-use Rattle.pylex.specs.Cuts.{Takes, begins_thing, begins_line_end}
-use Rattle.pylex.proofs.Cases.{bool_cases}
-use Rattle.pylex.proofs.Best.{and_parts, or_parts}
-use Rattle.pylex.proofs.Union.{nothing_takes, comment_takes, blanks_take, feed_takes, both_take, no_end_front}
+use Rattle.pylexeme.specs.Cuts.{Takes, begins_thing, begins_line_end}
+use Rattle.pylexeme.proofs.Cases.{bool_cases}
+use Rattle.pylexeme.proofs.Best.{and_parts, or_parts}
+use Rattle.pylexeme.proofs.Union.{nothing_takes, comment_takes, blanks_take, feed_takes, both_take, no_end_front}
 
 -- a lexeme by its class and its text
 record At (cs : List ℕ) (x : Lexeme) : Type 0 where

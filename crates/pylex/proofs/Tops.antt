@@ -4,7 +4,7 @@ use Rattle.std.specs.Prelude.{nat_lt}
 use Rattle.std.proofs.lemmas.Bool.Decides.{nat_tests}
 use Rattle.pylex.specs.declared.position.Layout.TheVariants as layouts
 use Rattle.pylex.specs.Progress.{IsAscending, IsTop, IsLayout, is_above, is_level}
-use Rattle.pylex.proofs.Cases.{and_parts}
+use Rattle.pylexeme.proofs.Cases.{and_parts}
 use Rattle.pylex.proofs.Layouts.{above-push, level-push, count-push, ascending_above, pushed_last, count_none}
 
 -- a list is empty, or has a last member

@@ -3,18 +3,18 @@ use Rattle.std.proofs.Common.{◌≡◌, ◌≢◌, ℕ, ◌<◌, Bool, true, fa
 use Rattle.std.specs.List.{list_all, list_any}
 use Rattle.std.specs.Prelude.{nat_lt}
 use Rattle.pysource.specs.declared.places.Place.{Place}
-use Rattle.pylex.specs.declared.lexeme.Class.{Class}
-use Rattle.pylex.specs.declared.lexeme.Class.TheVariants.{Name, Number, String, Operator, Comment, Blanks, LineEnd, Join}
+use Rattle.pylexeme.specs.declared.lexeme.Class.{Class}
+use Rattle.pylexeme.specs.declared.lexeme.Class.TheVariants.{Name, Number, String, Operator, Comment, Blanks, LineEnd, Join}
 use Rattle.pylex.specs.declared.entries.Entry.{Entry}
 use Rattle.pylex.specs.declared.entries.ListingFault.{ListingFault}
 use Rattle.pylex.specs.declared.entries.ListingError.TheVariants as errors
 use Rattle.pylex.specs.declared.entries.Step.{Step}
 use Rattle.pylex.specs.declared.entries.Step.TheVariants as steps
 use Rattle.pylex.specs.declared.kinds.Kind.TheVariants as kinds
-use Rattle.pylex.specs.Strings.{opens_string}
-use Rattle.pylex.specs.Operators.{is_closer}
+use Rattle.pylexeme.specs.Strings.{opens_string}
+use Rattle.pylexeme.specs.Operators.{is_closer}
 use Rattle.pylex.specs.Levels.{open_levels}
-use Rattle.pylex.specs.Lexemes.{Lexeme, cut, left_by_cut, is_open_string}
+use Rattle.pylexeme.specs.Lexemes.{Lexeme, cut, left_by_cut, is_open_string}
 use Rattle.pylex.specs.Lines.{text_before, place_after, depth, is_thing, is_at_margin, is_logical, width_at, widths}
 use Rattle.pylex.specs.Listing.{Source, listing, fault_at, layout_by, layout, line_end_kind, entry_of, steps_of, stop_fault, last_line, begins_comment, line_end_of_last, ends_in_join, tail, stop, steps_from, up_to_end}
 

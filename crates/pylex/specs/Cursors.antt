@@ -3,8 +3,9 @@ use Rattle.std.specs.Prelude.{ℕ, nat_le, Bool, true, false, not, ◌||◌, ◌
 use Rattle.std.specs.List.{prefix_len}
 use Rattle.pylex.specs.declared.entries.Entry.{Entry}
 use Rattle.pylex.specs.declared.kinds.Kind.TheVariants as kinds
-use Rattle.pylex.specs.Lexemes.{Lexeme, cut}
-use Rattle.pylex.specs.Lines.{text_before, bytes_in, place_after, depth, is_logical, width_at, widths}
+use Rattle.pylexeme.specs.Lexemes.{Lexeme, cut}
+use Rattle.pylex.specs.Lines.{text_before, place_after, depth, is_logical, width_at, widths}
+use Rattle.pylexeme.specs.Chars.{bytes_in}
 use Rattle.pylex.specs.Levels.{open_levels}
 use Rattle.pylex.specs.Listing.{Source, listing}
 use Rattle.pylex.specs.Steps.{entries_of}

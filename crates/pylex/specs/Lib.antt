@@ -1,11 +1,3 @@
-pub mod Numbers
-pub mod Strings
-pub mod Chars
-pub mod Lengths
-pub mod Operators
-pub mod Lexemes
-pub mod Chunks
-pub mod Cuts
 pub mod Lines
 pub mod Levels
 pub mod Listing
@@ -24,4 +16,3 @@ pub mod Chunked
 pub mod Streamed
 pub mod Ranges
 pub mod Plain
-pub mod OpenLiterals

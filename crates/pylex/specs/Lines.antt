@@ -2,20 +2,16 @@
 use Rattle.std.specs.Prelude.{ℕ, ◌-◌, ◌+◌, ◌*◌, ◌/◌, Bool, true, false, not, ◌&&◌, ◌==◌, List, [], ◌∷◌, ◌++◌, length, drop, reverse, count_by, if◌then◌else◌}
 use Rattle.std.specs.List.{list_all, list_any, prefix_len}
 use Rattle.std.specs.Str.{encode_utf8_all}
-use Rattle.pylex.specs.declared.lexeme.Class.{Class}
-use Rattle.pylex.specs.declared.lexeme.Class.TheVariants.{Operator, Comment, Blanks, LineEnd}
+use Rattle.pylexeme.specs.declared.lexeme.Class.{Class}
+use Rattle.pylexeme.specs.declared.lexeme.Class.TheVariants.{Operator, Comment, Blanks, LineEnd}
 use Rattle.pysource.specs.declared.places.Place.{Place}
-use Rattle.pylex.specs.Operators.{is_opener, is_closer}
-use Rattle.pylex.specs.Lexemes.{Lexeme}
+use Rattle.pylexeme.specs.Operators.{is_opener, is_closer}
+use Rattle.pylexeme.specs.Lexemes.{Lexeme, is_blanks_class, is_line_end_class, is_thing_class}
 
 -- the text of the lexemes before a place
 abbrev pub text_before : List Lexeme → List ℕ
 text_before [] = []
 text_before (x ∷ before) = text_before before ++ x.text
-
--- how many bytes a text takes
-abbrev pub bytes_in : List ℕ → ℕ
-bytes_in cs = length (encode_utf8_all cs)
 
 -- the place after a text: 1 and its LFs, and the characters since the last LF
 unfoldable pub place_after : List ℕ → Place
@@ -30,17 +26,6 @@ closes x = elim x.«class» [ Operator ↦ is_closer x.text | _ ↦ false ]
 -- the brackets that are open at a place: opening ones less closing ones, whatever their kind (reference 2.1.6)
 unfoldable pub depth : List Lexeme → ℕ
 depth before = count_by opens before - count_by closes before
-
--- what a class is to the lines
-abbrev pub is_blanks_class : Class → Bool
-is_blanks_class k = elim k [ Blanks ↦ true | _ ↦ false ]
-
-abbrev pub is_line_end_class : Class → Bool
-is_line_end_class k = elim k [ LineEnd ↦ true | _ ↦ false ]
-
--- what makes a line logical: anything but blanks, a comment and a line end (reference 2.1.7)
-abbrev pub is_thing_class : Class → Bool
-is_thing_class k = elim k [ Blanks ↦ false | Comment ↦ false | LineEnd ↦ false | _ ↦ true ]
 
 abbrev pub is_of_blanks : Lexeme → Bool
 is_of_blanks x = is_blanks_class x.«class»

@@ -4,8 +4,8 @@ use Rattle.std.specs.List.{list_all, list_any, take_while}
 use Rattle.std.specs.Str.{chars}
 use Rattle.pysource.specs.Parts.{Parts}
 use Rattle.pysource.specs.declared.faults.LineFault.{LineFault}
-use Rattle.pylex.specs.declared.kinds.Exact.{Exact}
-use Rattle.pylex.specs.declared.lexeme.Class.TheVariants.{Name, Number, String, Operator, Comment, Blanks, LineEnd, Join}
+use Rattle.pylexeme.specs.declared.kinds.Exact.{Exact}
+use Rattle.pylexeme.specs.declared.lexeme.Class.TheVariants.{Name, Number, String, Operator, Comment, Blanks, LineEnd, Join}
 use Rattle.pysource.specs.declared.places.Place.{Place}
 use Rattle.pylex.specs.declared.kinds.Kind.{Kind}
 use Rattle.pylex.specs.declared.kinds.Kind.TheVariants as kinds
@@ -14,11 +14,12 @@ use Rattle.pylex.specs.declared.entries.ListingError.{ListingError}
 use Rattle.pylex.specs.declared.entries.ListingError.TheVariants as errors
 use Rattle.pylex.specs.declared.entries.Step.{Step}
 use Rattle.pylex.specs.declared.entries.Step.TheVariants as steps
-use Rattle.pylex.specs.Chars.{is_blank_char}
-use Rattle.pylex.specs.Strings.{opens_string}
-use Rattle.pylex.specs.Operators.{exact_of, is_closer}
-use Rattle.pylex.specs.Lexemes.{Lexeme, cut, left_by_cut, is_open_string}
-use Rattle.pylex.specs.Lines.{text_before, bytes_in, place_after, depth, is_thing, line_so_far, before_line, is_at_margin, is_logical, width_at, widths}
+use Rattle.pylexeme.specs.Chars.{is_blank_char}
+use Rattle.pylexeme.specs.Strings.{opens_string}
+use Rattle.pylexeme.specs.Operators.{exact_of, is_closer}
+use Rattle.pylexeme.specs.Lexemes.{Lexeme, cut, left_by_cut, is_open_string}
+use Rattle.pylex.specs.Lines.{text_before, place_after, depth, is_thing, line_so_far, before_line, is_at_margin, is_logical, width_at, widths}
+use Rattle.pylexeme.specs.Chars.{bytes_in}
 use Rattle.pylex.specs.Levels.{open_levels}
 
 -- what decoding gives: the encoding's text, the good lines, and the fault of the line after them

@@ -8,7 +8,7 @@ use Rattle.pysource.specs.declared.places.Place.{Place}
 use Rattle.pylex.specs.declared.entries.Entry.{Entry}
 use Rattle.pylex.specs.declared.kinds.Kind.{Kind}
 use Rattle.pylex.specs.declared.kinds.Kind.TheVariants.{Encoding, Name, Number, String, Op, Comment, Nl, Newline, Indent, Dedent, EndMarker}
-use Rattle.pylex.specs.Operators.{exact_name}
+use Rattle.pylexeme.specs.Operators.{exact_name}
 
 -- the name of a type of tokens
 abbrev pub kind_name : Kind → List ℕ

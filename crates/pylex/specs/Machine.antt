@@ -1,9 +1,9 @@
 -- The listing as a lister makes it: by a state, which one lexeme after another changes.
 use Rattle.std.specs.Prelude.{ℕ, ◌+◌, ◌-◌, nat_lt, Bool, true, false, not, ◌&&◌, ◌||◌, ◌==◌, List, [], ◌∷◌, ◌++◌, length, filter, replicate, count_by, if◌then◌else◌, Option, Some, None}
 use Rattle.std.specs.List.{list_all, list_any}
-use Rattle.pylex.specs.declared.lexeme.Class.{Class}
-use Rattle.pylex.specs.declared.lexeme.Class.TheVariants.{Name, Number, String, Operator, Comment, Blanks, LineEnd, Join}
-use Rattle.pylex.specs.declared.kinds.Exact.{Exact}
+use Rattle.pylexeme.specs.declared.lexeme.Class.{Class}
+use Rattle.pylexeme.specs.declared.lexeme.Class.TheVariants.{Name, Number, String, Operator, Comment, Blanks, LineEnd, Join}
+use Rattle.pylexeme.specs.declared.kinds.Exact.{Exact}
 use Rattle.pysource.specs.declared.places.Place.{Place}
 use Rattle.pylex.specs.declared.kinds.Kind.{Kind}
 use Rattle.pylex.specs.declared.kinds.Kind.TheVariants as kinds
@@ -14,10 +14,11 @@ use Rattle.pylex.specs.declared.entries.Step.TheVariants as steps
 use Rattle.pylex.specs.declared.state.Point.{Point}
 use Rattle.pylex.specs.declared.state.Front.{Front}
 use Rattle.pylex.specs.declared.state.Front.TheVariants.{Nothing, Hash, Other}
-use Rattle.pylex.specs.Chars.{is_blank_char}
-use Rattle.pylex.specs.Operators.{exact_of, is_closer}
-use Rattle.pylex.specs.Lexemes.{Lexeme, cut, left_by_cut}
-use Rattle.pylex.specs.Lines.{bytes_in, is_of_blanks, is_of_line_end, is_thing, opens, closes, width_from}
+use Rattle.pylexeme.specs.Chars.{is_blank_char}
+use Rattle.pylexeme.specs.Operators.{exact_of, is_closer}
+use Rattle.pylexeme.specs.Lexemes.{Lexeme, cut, left_by_cut, is_join_class}
+use Rattle.pylex.specs.Lines.{is_of_blanks, is_of_line_end, is_thing, opens, closes, width_from}
+use Rattle.pylexeme.specs.Chars.{bytes_in}
 use Rattle.pylex.specs.Listing.{fault_at, further, row_after, stop_fault, up_to_end}
 
 pub record State : Type 0 where
@@ -49,9 +50,6 @@ past p t = record { place = advance p.place t; offset = p.offset + bytes_in t }
 -- the open levels after a line of a width: those below it, and it
 abbrev pub pushed : ℕ → List ℕ → List ℕ
 pushed w levels = filter (λ v. nat_lt v w) levels ++ w ∷ []
-
-abbrev pub is_join_class : Class → Bool
-is_join_class k = elim k [ Join ↦ true | _ ↦ false ]
 
 abbrev pub is_of_join : Lexeme → Bool
 is_of_join x = is_join_class x.«class»

@@ -9,9 +9,9 @@ use Rattle.pylex.specs.declared.position.Meets.{Meets}
 use Rattle.pylex.specs.declared.position.Meets.TheVariants as meets
 use Rattle.pylex.specs.declared.position.Position.{Position}
 use Rattle.pylex.specs.declared.state.Progress.{Progress}
-use Rattle.pylex.specs.Chunks.{EndsLine}
+use Rattle.pylexeme.specs.Chunks.{EndsLine}
 use Rattle.pylex.specs.Cursors.{CursorParts}
-use Rattle.pylex.specs.Lines.{bytes_in}
+use Rattle.pylexeme.specs.Chars.{bytes_in}
 use Rattle.pylex.specs.Ranges.{IsMeasuring}
 use Rattle.pylex.specs.Listing.{of_line}
 use Rattle.pylex.specs.Listers.{Keeps, Moves, shown_by}

@@ -15,8 +15,8 @@ use Rattle.pylex.specs.declared.position.Layout.{Layout}
 use Rattle.pylex.specs.declared.position.Layout.TheVariants as layouts
 use Rattle.pylex.specs.declared.position.Meets.{Meets}
 use Rattle.pylex.specs.declared.position.Meets.TheVariants as meets
-use Rattle.pylex.specs.Lexemes.{Lexeme, lexeme_at, lexeme_len}
-use Rattle.pylex.specs.Cuts.{begins_thing}
+use Rattle.pylexeme.specs.Lexemes.{Lexeme, lexeme_at, lexeme_len}
+use Rattle.pylexeme.specs.Cuts.{begins_thing}
 use Rattle.pylex.specs.Machine.{State, after, entry_by, pushed, mark_at, dedents_at, last_place}
 
 -- the state of a lister, with the levels that are open

@@ -3,7 +3,7 @@ use Rattle.std.specs.Prelude.{◌≡◌, ℕ, ◌-◌, ◌≤◌, nat_le, false,
 use Rattle.pylex.specs.declared.entries.ListingFault.{ListingFault}
 use Rattle.pylex.specs.declared.entries.Step.{Step}
 use Rattle.pylex.specs.declared.kinds.Kind.TheVariants as kinds
-use Rattle.pylex.specs.Lines.{bytes_in}
+use Rattle.pylexeme.specs.Chars.{bytes_in}
 use Rattle.pylex.specs.Listing.{Source, listing, rest, last_line, mark, origin}
 use Rattle.pylex.specs.Cursors.{CursorParts, cursor}
 use Rattle.pylex.specs.Steps.{entries_of}

@@ -16,7 +16,7 @@ use Rattle.pysource.specs.declared.streams.Line.TheVariants as lines
 use Rattle.pylex.specs.declared.position.Meets.{Meets}
 use Rattle.pylex.specs.declared.position.Meets.TheVariants as met
 use Rattle.pylex.specs.declared.stream.Found.{Found}
-use Rattle.pylex.specs.Lexemes.{is_open_string, left_by_cut}
+use Rattle.pylexeme.specs.Lexemes.{is_open_string, left_by_cut}
 use Rattle.pylex.specs.Progress.{Finds, HasRoom, Stands, StopAhead}
 use Rattle.pysource.specs.declared.streams.Reach.TheVariants as reach
 use Rattle.pysource.specs.declared.streams.StreamFault.TheVariants as faults

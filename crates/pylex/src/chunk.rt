@@ -8,7 +8,7 @@ ghost use Rattle.std.specs.Str.{IsCharBoundary};
 ghost use Rattle.pylex.specs.Held.{Joins, LinesBehind};
 ghost use Rattle.pylex.specs.Chunked.{AddsLine, AddsOn, HoldsOn, IsChunk, IsLonger, ReadsOn};
 
-use crate::string::{OpenLiteral, open_literal};
+use pylexeme::string::{OpenLiteral, open_literal};
 use pysource::{ByteIn, Line, LineReader};
 use std::alloc::{AllocError, Global};
 use std::mem;

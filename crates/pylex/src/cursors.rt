@@ -11,7 +11,7 @@ ghost use Rattle.pylex.specs.Standing.{resumed};
 ghost use Rattle.pylex.specs.Listers.{shown_at, shown_by};
 ghost use Rattle.std.specs.Str.{chars};
 
-use crate::scanner::char_count;
+use pylexeme::scanner::char_count;
 use crate::state::{Point, Progress, front_of};
 use itoa::Buffer;
 use pysource::Place;

@@ -10,18 +10,13 @@
 mod chunk;
 mod cursors;
 mod entries;
-mod kinds;
-mod lexeme;
+pub mod kinds;
 mod lines;
 mod lister;
-mod number;
-mod operators;
 mod position;
-mod scanner;
 mod state;
 mod stream;
 mod stream_lister;
-mod string;
 
 pub use cursors::{Cursor, CursorFault};
 pub use entries::{Entry, ListingError, ListingFault, Step, text};

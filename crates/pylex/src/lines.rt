@@ -1,19 +1,20 @@
 //! The lines of a listing, as `python -m tokenize` prints them (library reference, `tokenize`, command-line usage).
 
-ghost use Rattle.std.specs.Prelude.{◌≡◌, ◌≤◌, ◌<◌, ◌-◌, ◌+◌, ◌∷◌, ◌++◌, [], true, codes, length, replicate, decimal, IfOk, OnOk, OnErr};
-ghost use Rattle.std.specs.Str.{chars};
+ghost use Rattle.std.specs.Prelude.{◌≡◌, ◌≤◌, ◌-◌, ◌+◌, ◌∷◌, [], ◌++◌, true, drop, length, replicate, decimal, IfOk, OnOk, OnErr};
+ghost use Rattle.std.specs.Str.{chars, IsAscii};
 ghost use Rattle.std.specs.Io.{StartsWith};
 ghost use Rattle.std.specs.List.{list_all};
 ghost use Rattle.std.specs.String.{string_bytes};
 ghost use Rattle.pysource.specs.Reprs.{is_plain, repr_text};
 ghost use Rattle.pylex.specs.ListingLines.{filled, kind_name, listing_line, shown_name, shown_place, shown_range};
-ghost use Rattle.pylex.specs.Operators.{exact_name};
+ghost use Rattle.pylexeme.specs.Operators.{exact_name};
 
 use crate::entries::Entry;
 use crate::kinds::{Exact, Kind};
-use itoa::Buffer;
-use pysource::{is_plain_text, push_repr};
+use itoa::write_digits;
+use pysource::{Place, is_plain_text, push_repr};
 use std::alloc::{AllocError, Global};
+use std::str::from_utf8_unchecked;
 
 /// The width of a field of places, in characters.
 const RANGE_WIDTH: usize = 20;
@@ -23,6 +24,10 @@ const FIELD_WIDTH: usize = 15;
 
 /// The room that most lines take besides their text, in bytes.
 const LINE_ROOM: usize = 64;
+
+/// Where the places of an entry end in the field that they are written to, from the last to the first: the widest have
+/// room before it, and behind it stand the blanks of the shortest.
+const RANGE_END: usize = 84;
 
 /// As many blanks as the widest field has.
 const BLANKS: &str = "                    ";
@@ -43,77 +48,76 @@ fn push_filling(out: &mut String, width: usize, taken: usize) -> Result<(), Allo
     Ok(())
 }
 
-/// Writes a digit.
-fn push_digit(out: &mut String, digit: usize) -> Result<(), AllocError>
-    requires { digit < 10 }
-    ensures ok { OnOk result (string_bytes out.new ≡ string_bytes out.old ++ (48 + digit) ∷ []) }
-    ensures kept { StartsWith (string_bytes out.new) (string_bytes out.old) }
-{
-    out.push(char::from(b'0' + digit as u8))?;
-    Ok(())
-}
-
+/// Writes a sign before what stands from `end` on, and answers where it stands.
 #[inline(always)]
-fn push_number(out: &mut String, number: usize) -> Result<(), AllocError>
-    ensures ok { OnOk result (string_bytes out.new ≡ string_bytes out.old ++ decimal number) }
-    ensures kept { StartsWith (string_bytes out.new) (string_bytes out.old) }
+fn put_sign(field: &mut [u8; 104], end: usize, sign: u8) -> usize
+    requires { (1 ≤ end) × (end ≤ 104) }
+    ensures start { result + 1 ≡ end }
+    ensures written { drop result field.new ≡ sign ∷ drop end field.old }
 {
-    // Most columns have one digit or two, which need no buffer.
-    if number < 10 {
-        push_digit(out, number)
-    } else if number < 100 {
-        push_digit(out, number / 10)?;
-        push_digit(out, number % 10)
-    } else {
-        out.push_str(Buffer::new().format(number))
-    }
+    field[end - 1] = sign;
+    end - 1
 }
 
-/// Writes a place whose row's digits are given.
+/// Writes a number before what stands from `end` on, and answers where it begins.
 #[inline(always)]
-fn push_place(out: &mut String, row: &str, column: usize) -> Result<(), AllocError>
-    ensures ok { OnOk result (string_bytes out.new ≡ string_bytes out.old ++ (row.now ++ codes "," ++ decimal column)) }
-    ensures kept { StartsWith (string_bytes out.new) (string_bytes out.old) }
+fn put_number(field: &mut [u8; 104], end: usize, number: usize) -> usize
+    requires { (20 ≤ end) × (end ≤ 104) }
+    ensures start { result + length (decimal number) ≡ end }
+    ensures short { end ≤ result + 20 }
+    ensures written { drop result field.new ≡ decimal number ++ drop end field.old }
 {
-    out.push_str(row)?;
-    out.push_str(",")?;
-    push_number(out, column)
+    write_digits(number as u64, field, end)
 }
 
-/// Writes an entry's end, given the digits of the row that it starts in: few entries end in another.
-fn push_end(out: &mut String, entry: &Entry, row: &str) -> Result<(), AllocError>
-    requires { row.now ≡ decimal entry.now.start.row }
-    ensures ok { OnOk result (string_bytes out.new ≡ string_bytes out.old ++ shown_place entry.now.end) }
-    ensures kept { StartsWith (string_bytes out.new) (string_bytes out.old) }
+/// Writes a place before what stands from `end` on, and answers where it begins.
+#[inline(always)]
+fn put_place(field: &mut [u8; 104], end: usize, place: Place) -> usize
+    requires { (41 ≤ end) × (end ≤ 104) }
+    ensures start { result + length (shown_place place) ≡ end }
+    ensures short { end ≤ result + 41 }
+    ensures written { drop result field.new ≡ shown_place place ++ drop end field.old }
 {
-    if entry.end.row == entry.start.row {
-        return push_place(out, row, entry.end.column);
-    }
-    push_place(out, Buffer::new().format(entry.end.row), entry.end.column)
+    let column = put_number(field, end, place.column);
+    let comma = put_sign(field, column, b',');
+    put_number(field, comma, place.row)
 }
 
-fn push_places(out: &mut String, entry: &Entry) -> Result<(), AllocError>
-    ensures ok { OnOk result (string_bytes out.new ≡ string_bytes out.old ++ shown_range entry.now) }
+/// Writes the places of an entry before the blanks that end the field, and answers where they begin.
+#[inline(always)]
+fn put_range(field: &mut [u8; 104], entry: &Entry) -> usize
+    ensures start { result + length (shown_range entry.now) ≡ 84 }
+    ensures written { drop result field.new ≡ shown_range entry.now ++ drop 84 field.old }
+{
+    let colon = put_sign(field, RANGE_END, b':');
+    let end = put_place(field, colon, entry.end);
+    let dash = put_sign(field, end, b'-');
+    put_place(field, dash, entry.start)
+}
+
+/// Appends bytes that are ASCII.
+#[inline(always)]
+fn push_ascii(out: &mut String, bytes: &[u8]) -> Result<(), AllocError>
+    requires { IsAscii bytes.now }
+    ensures ok { OnOk result (string_bytes out.new ≡ string_bytes out.old ++ bytes.now) }
     ensures kept { StartsWith (string_bytes out.new) (string_bytes out.old) }
 {
-    let mut digits = Buffer::new();
-    let row = digits.format(entry.start.row);
-    push_place(out, row, entry.start.column)?;
-    out.push_str("-")?;
-    push_end(out, entry, row)?;
-    out.push_str(":")
+    out.push_str(unsafe { from_utf8_unchecked(bytes) })
 }
 
 /// Writes the field of an entry's places.
+#[inline(always)]
 fn push_range(out: &mut String, entry: &Entry) -> Result<(), AllocError>
     ensures ok { OnOk result (string_bytes out.new ≡ string_bytes out.old ++ filled 20 (shown_range entry.now)) }
     ensures kept { StartsWith (string_bytes out.new) (string_bytes out.old) }
 {
-    let start = out.len();
-    push_places(out, entry)?;
-    // Digits and signs take a byte each.
-    let taken = out.len() - start;
-    push_filling(out, RANGE_WIDTH, taken)
+    let mut field = [b' '; 104];
+    let start = put_range(&mut field, entry);
+    // Few ranges are wider than their field; the others are copied with a fixed length.
+    if RANGE_END - start > RANGE_WIDTH {
+        return push_ascii(out, &field[start..RANGE_END]);
+    }
+    push_ascii(out, &field[start..start + RANGE_WIDTH])
 }
 
 /// The name of a type of tokens, filled to the width of its field.
@@ -147,6 +151,7 @@ fn push_operator(out: &mut String, operator: Exact) -> Result<(), AllocError>
 }
 
 /// Writes the field of the name that is shown for an entry.
+#[inline(always)]
 fn push_name(out: &mut String, entry: &Entry, exact: bool) -> Result<(), AllocError>
     ensures ok { OnOk result (string_bytes out.new ≡ string_bytes out.old ++ filled 15 (shown_name exact entry.now)) }
     ensures kept { StartsWith (string_bytes out.new) (string_bytes out.old) }
@@ -163,16 +168,44 @@ fn char_count(text: &str) -> usize
     text.chars().count()
 }
 
+/// Writes the field of a short text whose `repr` shows it as it is.
+#[inline(always)]
+fn push_short(out: &mut String, text: &str) -> Result<(), AllocError>
+    requires plain { list_all is_plain text.now ≡ true }
+    requires short { length text.now ≤ 13 }
+    ensures ok { OnOk result (string_bytes out.new ≡ string_bytes out.old ++ filled 15 (repr_text (chars text.now))) }
+    ensures kept { StartsWith (string_bytes out.new) (string_bytes out.old) }
+{
+    let mut field = *b"'              ";
+    let end = text.len() + 1;
+    field[1..end].copy_from_slice(text.as_bytes());
+    field[end] = b'\'';
+    push_ascii(out, &field)
+}
+
 /// Writes the field of a text whose `repr` shows it as it is.
+#[inline(always)]
 fn push_plain(out: &mut String, text: &str) -> Result<(), AllocError>
     requires { list_all is_plain text.now ≡ true }
     ensures ok { OnOk result (string_bytes out.new ≡ string_bytes out.old ++ filled 15 (repr_text (chars text.now))) }
     ensures kept { StartsWith (string_bytes out.new) (string_bytes out.old) }
 {
+    if text.len() <= FIELD_WIDTH - 2 {
+        return push_short(out, text);
+    }
     out.push('\'')?;
     out.push_str(text)?;
     out.push('\'')?;
     push_filling(out, FIELD_WIDTH, text.len() + 2)
+}
+
+/// Writes the field of a line feed, with which most lines of a source end.
+#[tactic(auto, using(crate::proofs::LinesLemmas::line_feed_field))]
+fn push_line_feed(out: &mut String) -> Result<(), AllocError>
+    ensures ok { OnOk result (string_bytes out.new ≡ string_bytes out.old ++ filled 15 (repr_text (chars (10 ∷ [])))) }
+    ensures kept { StartsWith (string_bytes out.new) (string_bytes out.old) }
+{
+    out.push_str("'\\n'           ")
 }
 
 /// Writes the field of a text.
@@ -183,12 +216,16 @@ fn push_text(out: &mut String, text: &str) -> Result<(), AllocError>
     if is_plain_text(text) {
         return push_plain(out, text);
     }
+    if text == "\n" {
+        return push_line_feed(out);
+    }
     let start = out.len();
     push_repr(out, text)?;
     let taken = char_count(&out.as_str()[start..]);
     push_filling(out, FIELD_WIDTH, taken)
 }
 
+#[inline(always)]
 fn push_fields(out: &mut String, entry: &Entry, text: &str, exact: bool) -> Result<(), AllocError>
     ensures ok { OnOk result (string_bytes out.new ≡ string_bytes out.old ++ listing_line exact entry.now text.now) }
     ensures kept { StartsWith (string_bytes out.new) (string_bytes out.old) }
@@ -215,6 +252,7 @@ pub fn line_text(
 }
 
 /// Appends the line of an entry with this text, whole or not at all.
+#[inline(always)]
 pub fn push_line(out: &mut String, entry: &Entry, text: &str, exact: bool) -> Result<(), AllocError>
     ensures ok { OnOk result (string_bytes out.new ≡ string_bytes out.old ++ listing_line exact entry.now text.now) }
     ensures err { OnErr result (string_bytes out.new ≡ string_bytes out.old) }

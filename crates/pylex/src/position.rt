@@ -12,9 +12,9 @@ ghost use Rattle.pylex.specs.Positions.{FaultsFirst, HasPlace, IsSame, Went, sho
 use crate::cursors::{Cursor, Shown};
 use crate::entries::{Entry, ListingError, ListingFault, Step};
 use crate::kinds::Kind;
-use crate::lexeme::{begins_thing, cut};
+use pylexeme::lexeme::{begins_thing, cut};
 use crate::state::{Given, Progress, entry_of, mark};
-use crate::string::{is_open_string, opens_string};
+use pylexeme::string::{is_open_string, opens_string};
 use pysource::{LineFault, Place};
 use std::alloc::{AllocError, Global};
 

@@ -2,17 +2,19 @@
 
 ghost use Rattle.std.specs.Prelude.{◌≡◌, ◌↔◌, IsTrue, ℕ, ◌+◌, ◌*◌, ◌^◌, ◌<◌, ◌≤◌, ◌&&◌, ◌||◌, not, ◌==◌, if◌then◌else◌, List, [], ◌∷◌, length, false, Ok, ◌-◌};
 ghost use Rattle.std.specs.Str.{chars};
-ghost use Rattle.pylex.specs.Lines.{opens, closes, is_thing_class, is_blanks_class, is_line_end_class, column_after, width_from, bytes_in};
-ghost use Rattle.pylex.specs.Machine.{advance, front_after_char, front_after, past, behind, after, entry_by, step_of, mark_at, is_join_class, is_hash, still, count_if, pushed, first_state, last_line_end, last_place};
+ghost use Rattle.pylex.specs.Lines.{opens, closes, column_after, width_from};
+ghost use Rattle.pylexeme.specs.Lexemes.{is_thing_class, is_blanks_class, is_line_end_class, is_join_class};
+ghost use Rattle.pylexeme.specs.Chars.{bytes_in};
+ghost use Rattle.pylex.specs.Machine.{advance, front_after_char, front_after, past, behind, after, entry_by, step_of, mark_at, is_hash, still, count_if, pushed, first_state, last_line_end, last_place};
 ghost use Rattle.pylex.specs.Listing.{row_after};
 ghost use Rattle.pylex.specs.Plain.{IsPlain};
 ghost use Rattle.pylex.specs.Progress.{with_levels, measured, begun_anew, given, HasRoom};
 
 use crate::entries::{Entry, ListingError, ListingFault, Step};
 use crate::kinds::{Exact, Kind};
-use crate::lexeme::Class;
-use crate::operators::{exact_of, is_closer, is_opener};
-use crate::scanner::char_count;
+use pylexeme::lexeme::Class;
+use pylexeme::operators::{exact_of, is_closer, is_opener};
+use pylexeme::scanner::char_count;
 use pysource::Place;
 
 /// A place of a text, and its offset in bytes.
@@ -202,36 +204,6 @@ fn width_after(width: usize, blanks: &str) -> usize
         width = column_after(width, c);
     }
     width
-}
-
-impl Class {
-    /// Whether such a lexeme makes a line logical.
-    fn is_thing(self) -> bool
-        ensures { result ≡ is_thing_class self }
-    {
-        match self {
-            Class::Blanks | Class::Comment | Class::LineEnd => false,
-            Class::Name | Class::Number | Class::String | Class::Operator | Class::Join => true,
-        }
-    }
-
-    fn is_blanks(self) -> bool
-        ensures { result ≡ is_blanks_class self }
-    {
-        matches!(self, Class::Blanks)
-    }
-
-    fn is_line_end(self) -> bool
-        ensures { result ≡ is_line_end_class self }
-    {
-        matches!(self, Class::LineEnd)
-    }
-
-    fn is_join(self) -> bool
-        ensures { result ≡ is_join_class self }
-    {
-        matches!(self, Class::Join)
-    }
 }
 
 impl Point {

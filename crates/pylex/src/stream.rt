@@ -8,7 +8,7 @@ ghost use Rattle.pysource.specs.Parts.{Parts};
 ghost use Rattle.pysource.specs.declared.streams.Reach.{Reach};
 ghost use Rattle.pysource.specs.Streams.{Refuses};
 ghost use Rattle.pylex.specs.ListingLines.{text_of};
-ghost use Rattle.pylex.specs.Lexemes.{is_open_string};
+ghost use Rattle.pylexeme.specs.Lexemes.{is_open_string};
 ghost use Rattle.pylex.specs.Streamed.{Begins, MissesBy, IsEndedBy, StreamsIn, IsStreaming, MeetsIn, Looks, LooksAhead, Passes, Searches, Steps, Lacks, lacks, streamed};
 
 use crate::chunk::Chunk;
@@ -17,7 +17,7 @@ use crate::entries::{Entry, ListingError, Step};
 use crate::kinds::Kind;
 use crate::position::{Meets, Position};
 use crate::state::{Progress, mark};
-use crate::string::is_open_string;
+use pylexeme::string::is_open_string;
 use pysource::{ByteIn, Line, LineError, LineFault, LineReader, Place, StreamFault};
 use std::alloc::{AllocError, Global};
 use std::marker::Model;
@@ -40,6 +40,15 @@ fn look(position: &Position, chunk: &Chunk) -> Found
     ensures looks { Looks position.entry.now chunk.entry.now result }
     ensures fault { result.fault ≡ None }
 {
+    // Where all was looked at the lexemes end.
+    if chunk.at == chunk.text.len() {
+        return Found {
+            meets: Meets::Stop,
+            now: position.now,
+            at: chunk.at,
+            fault: None,
+        };
+    }
     let (meets, now, left) = position.meet(chunk.rest());
     Found {
         meets,
@@ -264,12 +273,15 @@ impl LineLister {
             return Ok(Step::Entry(entry));
         }
         self.last = None;
+        // The answer of `next_behind` is a value of its own: it stands in memory, and so would that of the way below.
         if self.chunk.at == self.chunk.text.len() {
-            return self.next_behind(reader);
+            let step = self.next_behind(reader);
+            return step;
         }
         let found = look(&self.position, &self.chunk);
         let Meets::Entry(_) = found.meets else {
-            return self.next_behind(reader);
+            let step = self.next_behind(reader);
+            return step;
         };
         pass(&mut self.position, &mut self.chunk, &mut self.last, found)
     }

@@ -3,9 +3,9 @@ use lib.Utf8.{encodes}
 use Rattle.std.specs.Str.{IsUtf8}
 use Rattle.std.proofs.lemmas.Str.{encodes-chars, encodes-append}
 use Rattle.std.specs.Str.{chars}
-use Rattle.pylex.specs.declared.lexeme.Class.{Class}
+use Rattle.pylexeme.specs.declared.lexeme.Class.{Class}
 use Rattle.pylex.specs.declared.state.Progress.{Progress}
-use Rattle.pylex.specs.Cuts.{Cuts}
+use Rattle.pylexeme.specs.Cuts.{Cuts}
 use Rattle.pylex.specs.Progress.{HasRoom, Behind}
 use Rattle.pylex.proofs.Finding.{stays_there, comes_on, finds_on, fault_found, entry_found, nothing_found, no_thing_due, some_bytes, stands_after, shorter_after}
 use Rattle.pylex.proofs.position.find.Goals as goal

@@ -1,8 +1,8 @@
 use Rattle.std.proofs.Common.{◌∙◌, refl, sym}
 use Rattle.std.specs.Str.{chars}
-use Rattle.pylex.proofs.Cases.{right_false}
+use Rattle.pylexeme.proofs.Cases.{right_false}
 use Rattle.pylex.proofs.Finding.{settles_level, settles_same, indent_ahead, dedent_ahead, fault_mismatch}
-use Rattle.pylex.specs.Cuts.{begins_thing}
+use Rattle.pylexeme.specs.Cuts.{begins_thing}
 use Rattle.pylex.proofs.position.line_start.Goals as goal
 use Rattle.pylex.proofs.position.line_start.Goals.{then-not-now-via-then-not-now, then-not-now-via-else-not-now+then-not-begins_thing}
 

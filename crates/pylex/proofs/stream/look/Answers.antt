@@ -1,6 +1,27 @@
-use Rattle.std.proofs.Common.{◌≡◌, ◌-◌, ◌∙◌, length, drop, ap, arith, string_bytes}
+use Rattle.std.proofs.Common.{◌≡◌, ◌-◌, [], ◌∙◌, refl, length, drop, take, ap, sym, subst, arith, string_bytes}
+use Rattle.std.specs.Str.{chars}
+use Rattle.std.proofs.lemmas.List.{drop_all}
+use Rattle.std.proofs.lemmas.Str.{chars-nil}
+use Rattle.pylex.specs.Progress.{StopAhead}
+use Rattle.pylex.proofs.Finding.{stays_there}
+use Rattle.pylex.proofs.Lined.{stop_empty}
 use Rattle.pylex.proofs.Searching.{boundary_held, stands_held, ascending_held, within_held, stop_held, drop_behind}
 use Rattle.pylex.proofs.stream.look.Goals as goal
+
+pub returns-then-chunk-len-clause-looks : goal.returns-then-chunk-len-clause-looks
+returns-then-chunk-len-clause-looks c =
+    let p = c.args.position.now in
+    let d = c.args.chunk.now in
+    let rest = drop d.at (string_bytes d.text) in
+    let none : rest ≡ [] = drop_all d.at (string_bytes d.text) (omega arith) in
+    record {
+      at = omega arith;
+      left = c.requires.left;
+      finds = (stays_there (take p.nested p.levels.items) p.now (chars rest), subst (StopAhead p.now) (sym (ap chars none ∙ chars-nil)) (stop_empty p.now));
+      stands = stands_held p d c.requires;
+      room = λ n h. h;
+      tail = λ _. (refl, refl, refl);
+    }
 
 pub rest-requires : goal.rest-requires
 rest-requires c = boundary_held c.args.position.now c.args.chunk.now c.requires
@@ -23,7 +44,7 @@ returns-clause-looks c =
     let behind = rw c.rest.ensures at c.meet-meets.ensures.behind in
     let left = c.meet-meets.result.2.now in
     let is = drop_behind text c.args.chunk.now.at left behind in
-    let size : c.len.result ≡ length text = omega (arith, c.len.ensures) in
+    let size : c.len-2.result ≡ length text = omega (arith, c.len-2.ensures) in
     let at = ap (λ n. drop (n - length left) text) size ∙ is in
     record {
       at = omega (arith, size);

@@ -1,7 +1,7 @@
 use Rattle.std.proofs.Common.{◌≤◌, arith, length, refl}
 use Rattle.std.specs.Str.{chars}
 use Rattle.std.proofs.lemmas.Str.{length-le-encodes}
-use Rattle.pylex.specs.Lexemes.{Lexeme}
+use Rattle.pylexeme.specs.Lexemes.{Lexeme}
 use Rattle.pylex.proofs.Advancing.{is_after, more_room, place_offset}
 use Rattle.pylex.proofs.state.Progress.after.Goals as goal
 

@@ -14,10 +14,10 @@ pub look-found-requires : goal.look-found-requires
 look-found-requires g c = drop_last c.self.inside.position c.self.inside.chunk c.self.inside.last c.self.invariant
 
 pub returns-then-self-len : goal.returns-then-self-len
-returns-then-self-len g c = rw (← c.self.view_is) (steps_last _ _ _ _ c.self.inside.position c.self.inside.chunk c.self.inside.last _ _ c.next_behind.ensures)
+returns-then-self-len g c = rw (← c.self.view_is) (steps_last _ _ _ _ c.self.inside.position c.self.inside.chunk c.self.inside.last _ _ c.next_behind-step.ensures)
 
 pub returns-in_default : goal.returns-in_default
-returns-in_default g c = rw (← c.self.view_is) (steps_last _ _ _ _ c.self.inside.position c.self.inside.chunk c.self.inside.last _ _ c.next_behind-in_default.ensures)
+returns-in_default g c = rw (← c.self.view_is) (steps_last _ _ _ _ c.self.inside.position c.self.inside.chunk c.self.inside.last _ _ c.next_behind-step-in_default.ensures)
 
 pub returns : goal.returns
 returns g c = rw (← c.self.view_is) (c.pass.ensures.passes _ _ _ _ c.self.inside.position c.self.inside.chunk c.self.inside.last (searches_none _ _ _ _ (drop_last c.self.inside.position c.self.inside.chunk c.self.inside.last c.self.invariant)) (omega (arith, c.if-self-eq0.false)) (inr (ahead_none c.self.inside.chunk.lines)))

@@ -1,7 +1,7 @@
 use Rattle.std.proofs.Common.{◌≡◌, ◌<◌, true, false, ◌⊎◌, inl, inr, refl, arith}
 use Rattle.pylex.specs.Streamed.{MissesBy, is_unread}
 use Rattle.pylex.proofs.Behind.{begins_next, misses_stop, took_on, misses_shown}
-use Rattle.pylex.proofs.Cases.{bool_cases}
+use Rattle.pylexeme.proofs.Cases.{bool_cases}
 use Rattle.pylex.proofs.stream.LineLister.resume_checked.Goals as goal
 
 pub returns-in-Err-next-clause-misses : goal.returns-in-Err-next-clause-misses

@@ -1,5 +1,0 @@
-use Rattle.pylex.proofs.Union.{prefix_starts}
-use Rattle.pylex.proofs.lexeme.prefixed.Goals as goal
-
-pub name-requires-clause-start : goal.name-requires-clause-start
-name-requires-clause-start c = prefix_starts c.args.text.now c.requires

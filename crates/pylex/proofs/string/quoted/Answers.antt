@@ -1,9 +1,0 @@
-use Rattle.std.proofs.Common.{sym}
-use Rattle.pylex.proofs.StringLongest.{quoted_triple, quoted_single}
-use Rattle.pylex.proofs.string.quoted.Goals as goal
-
-pub returns-then-has_three : goal.returns-then-has_three
-returns-then-has_three c = quoted_triple c.args.quote c.args.text.now _ _ _ (sym c.if-has_three.ensures) c.bump_count.ensures c.close_triple.ensures
-
-pub returns : goal.returns
-returns c = quoted_single c.args.quote c.args.text.now _ _ _ (sym c.if-has_three.ensures) c.bump_count-2.ensures c.close_single.ensures

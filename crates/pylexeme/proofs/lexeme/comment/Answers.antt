@@ -1,0 +1,5 @@
+use Rattle.pylexeme.proofs.Union.{comment_takes}
+use Rattle.pylexeme.proofs.lexeme.comment.Goals as goal
+
+pub returns : goal.returns
+returns c = rw c.bump_while.ensures (comment_takes c.args.text.now c.requires)

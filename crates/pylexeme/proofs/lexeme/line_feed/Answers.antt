@@ -1,0 +1,5 @@
+use Rattle.pylexeme.proofs.Union.{feed_takes}
+use Rattle.pylexeme.proofs.lexeme.line_feed.Goals as goal
+
+pub returns : goal.returns
+returns c = rw c.bump_count.ensures (feed_takes c.args.text.now c.requires)

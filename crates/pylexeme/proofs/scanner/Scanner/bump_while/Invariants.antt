@@ -1,0 +1,10 @@
+use Rattle.std.proofs.Common.{◌≡◌, length}
+use Rattle.pylexeme.specs.Chars.{has}
+use Rattle.pylexeme.proofs.Texts.{after_run}
+use Rattle.pylexeme.proofs.scanner.Scanner.bump_while.Given as goal
+
+abbrev pub invariant-loop-first : goal.invariant-loop-first
+invariant-loop-first l = after_run (has l.set) l.ahead ≡ after_run (has l.initial.set) l.initial.ahead
+
+abbrev pub decreases-loop-first : goal.decreases-loop-first
+decreases-loop-first l = length l.ahead

@@ -1,0 +1,45 @@
+-- One lexeme off the front of a text.
+use Rattle.std.specs.Prelude.{◌≡◌, ℕ, ◌+◌, ◌<◌, Bool, true, false, not, if◌then◌else◌, ◌&&◌, ◌==◌, List, [], ◌∷◌, ◌++◌, length, drop, Option, Some, option_map}
+use Rattle.std.specs.Str.{chars, IsUtf8}
+use Rattle.pylexeme.specs.declared.lexeme.Class.{Class}
+use Rattle.pylexeme.specs.Chars.{is_blank_char, starts_name, begins}
+use Rattle.pylexeme.specs.Strings.{opens_string}
+use Rattle.pylexeme.specs.Lengths.{begins_number}
+use Rattle.pylexeme.specs.Lexemes.{lexeme_at, lexeme_len}
+use Rattle.pylexeme.specs.Chars.{bytes_in}
+
+-- the longest lexeme at the front of old is taken, and its class is said; new is what is left, all of old where there is none
+pub record Takes (old : List ℕ) (k : Option Class) (new : List ℕ) : Type 0 where
+  pub «class» : k ≡ option_map (λ x. x.«class») (lexeme_at old)
+  pub rest : new ≡ drop (lexeme_len old) old
+
+-- what begins no name, comment, blanks, line end or join
+abbrev pub starts_other : ℕ → Bool
+starts_other c = not (starts_name c) && not (c == 35) && not (is_blank_char c) && not (c == 10) && not (c == 13) && not (c == 92)
+
+-- no lexeme but an operator begins here
+pub record BeginsOther (cs : List ℕ) : Type 0 where
+  pub string : opens_string cs ≡ false
+  pub number : begins_number cs ≡ false
+  pub first : begins starts_other cs ≡ true
+
+-- the front of a text, in bytes, is its first lexeme, of this class, and the rest is behind it
+pub record Cuts (bytes : List ℕ) (k : Class) (front back : List ℕ) : Type 0 where
+  pub lexeme : lexeme_at (chars bytes) ≡ Some (record { «class» = k; text = chars front })
+  pub whole : chars bytes ≡ chars front ++ chars back
+  pub counted : bytes_in (chars front) ≡ length front
+  pub sizes : length bytes ≡ length front + length back
+  pub nonempty : 0 < length (chars front)
+  pub front_utf8 : IsUtf8 front
+  pub back_utf8 : IsUtf8 back
+
+-- a text begins with LF, or with CR LF
+abbrev pub begins_line_end : List ℕ → Bool
+begins_line_end [] = false
+begins_line_end (c ∷ []) = c == 10
+begins_line_end (c ∷ d ∷ cs) = if c == 10 then true else (c == 13) && (d == 10)
+
+-- a text begins with what makes a line logical: a lexeme other than blanks, a comment and a line end, or what begins none
+unfoldable pub begins_thing : List ℕ → Bool
+begins_thing [] = false
+begins_thing (c ∷ cs) = not (is_blank_char c) && not (c == 35) && not (begins_line_end (c ∷ cs))

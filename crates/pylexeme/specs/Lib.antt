@@ -1,0 +1,9 @@
+pub mod Numbers
+pub mod Strings
+pub mod Chars
+pub mod Lengths
+pub mod Operators
+pub mod Lexemes
+pub mod Chunks
+pub mod Cuts
+pub mod OpenLiterals

@@ -1,0 +1,280 @@
+//! The lexemes of a text, each the longest at its place (reference 2.1 and 2.3 to 2.6).
+
+ghost use Rattle.std.specs.Prelude.{◌≡◌, ◌==◌, ℕ, List, true, false, Some, IfSome, IfNone};
+ghost use Rattle.std.specs.Str.{chars};
+ghost use Rattle.pylexeme.specs.Chars.{begins, starts_name, is_blank_char, is_prefix_letter};
+ghost use Rattle.pylexeme.specs.Strings.{opens_string};
+ghost use Rattle.pylexeme.specs.Lengths.{begins_number, Opens};
+ghost use Rattle.pylexeme.specs.Lexemes.{lexeme_at, is_thing_class, is_blanks_class, is_line_end_class, is_join_class};
+ghost use Rattle.pylexeme.specs.Cuts.{Takes, Cuts, BeginsOther, begins_thing};
+
+use crate::number::number;
+use crate::operators::operator_len;
+use crate::scanner::{CharSet, Scanner};
+use crate::string::{opening, string};
+
+/// The classes of lexemes.
+#[derive(Clone, Copy, Debug, PartialEq, Eq)]
+pub enum Class {
+    Name,
+    Number,
+    String,
+    Operator,
+    Comment,
+    Blanks,
+    LineEnd,
+    /// A backslash and a line end.
+    Join,
+}
+
+impl Class {
+    /// Whether such a lexeme makes a line logical.
+    pub fn is_thing(self) -> bool
+        ensures { result ≡ is_thing_class self }
+    {
+        match self {
+            Class::Blanks | Class::Comment | Class::LineEnd => false,
+            Class::Name | Class::Number | Class::String | Class::Operator | Class::Join => true,
+        }
+    }
+
+    pub fn is_blanks(self) -> bool
+        ensures { result ≡ is_blanks_class self }
+    {
+        matches!(self, Class::Blanks)
+    }
+
+    pub fn is_line_end(self) -> bool
+        ensures { result ≡ is_line_end_class self }
+    {
+        matches!(self, Class::LineEnd)
+    }
+
+    pub fn is_join(self) -> bool
+        ensures { result ≡ is_join_class self }
+    {
+        matches!(self, Class::Join)
+    }
+}
+
+/// Takes the name that stands here.
+fn name(text: &mut Scanner)
+    requires no_string { opens_string text.old ≡ false }
+    requires start { begins starts_name text.old ≡ true }
+    ensures { Takes text.old (Some Class.Name) text.new }
+{
+    text.bump_while(CharSet::NamePart);
+}
+
+/// Takes the comment that stands here.
+fn comment(text: &mut Scanner)
+    requires { begins (λ c. c == 35) text.old ≡ true }
+    ensures { Takes text.old (Some Class.Comment) text.new }
+{
+    text.bump_while(CharSet::CommentPart);
+}
+
+/// Takes the blanks that stand here.
+fn blanks(text: &mut Scanner)
+    requires { begins is_blank_char text.old ≡ true }
+    ensures { Takes text.old (Some Class.Blanks) text.new }
+{
+    text.bump_while(CharSet::Blank);
+}
+
+/// Takes the LF that stands here.
+fn line_feed(text: &mut Scanner)
+    requires { begins (λ c. c == 10) text.old ≡ true }
+    ensures { Takes text.old (Some Class.LineEnd) text.new }
+{
+    text.bump_count(1);
+}
+
+/// Takes the CR that stands here and the LF behind it; a lone CR is no lexeme.
+fn carriage_return(text: &mut Scanner) -> Option<Class>
+    requires { begins (λ c. c == 13) text.old ≡ true }
+    ensures { Takes text.old result text.new }
+{
+    if !text.has_next(1, CharSet::One('\n')) {
+        return None;
+    }
+    text.bump_count(2);
+    Some(Class::LineEnd)
+}
+
+/// Takes the backslash that stands here and the line end behind it; another backslash is no lexeme.
+fn join(text: &mut Scanner) -> Option<Class>
+    requires { begins (λ c. c == 92) text.old ≡ true }
+    ensures { Takes text.old result text.new }
+{
+    if text.has_next(1, CharSet::One('\n')) {
+        text.bump_count(2);
+        return Some(Class::Join);
+    }
+    if !text.has_line_end(1) {
+        return None;
+    }
+    text.bump_count(3);
+    Some(Class::Join)
+}
+
+/// Takes the operator that stands here, if one does.
+#[inline(always)]
+fn operator(text: &mut Scanner) -> Option<Class>
+    requires { BeginsOther text.old }
+    ensures { Takes text.old result text.new }
+{
+    let len = operator_len(text);
+    if len == 0 {
+        return None;
+    }
+    text.bump_count(len);
+    Some(Class::Operator)
+}
+
+/// Takes the string that stands here, behind a prefix of `prefix_len` characters; one that isn't ended is no lexeme.
+fn literal(text: &mut Scanner, prefix_len: usize) -> Option<Class>
+    requires { Opens prefix_len text.old }
+    ensures { Takes text.old result text.new }
+{
+    let start = text.again();
+    if string(text, prefix_len) {
+        return Some(Class::String);
+    }
+    *text = start;
+    None
+}
+
+/// Takes the string whose prefix begins here, or otherwise the name.
+fn prefixed(text: &mut Scanner) -> Option<Class>
+    requires { begins is_prefix_letter text.old ≡ true }
+    ensures { Takes text.old result text.new }
+{
+    match opening(text) {
+        Some(prefix_len) => literal(text, prefix_len),
+        None => {
+            name(text);
+            Some(Class::Name)
+        }
+    }
+}
+
+/// Whether a name may begin with a character. Those of ASCII are told without a table.
+fn is_name_start(c: char) -> bool
+    ensures { result ≡ starts_name c }
+{
+    if c.is_ascii() {
+        return c.is_ascii_alphabetic() || c == '_';
+    }
+    unicode_ident::is_xid_start(c) || c == '_'
+}
+
+/// Whether a number begins here.
+fn has_number(text: &Scanner) -> bool
+    ensures { result ≡ begins_number text.now }
+{
+    text.has_next(0, CharSet::Digit)
+        || text.has_next(0, CharSet::One('.')) && text.has_next(1, CharSet::Digit)
+}
+
+/// Takes the longest lexeme that stands here, and says its class; none and nothing where no lexeme stands.
+#[tactic(auto, using(crate::proofs::Union::begins_by))]
+#[inline(always)]
+pub fn lexeme(text: &mut Scanner) -> Option<Class>
+    ensures { Takes text.old result text.new }
+{
+    match text.first()? {
+        '#' => {
+            comment(text);
+            Some(Class::Comment)
+        }
+        '\n' => {
+            line_feed(text);
+            Some(Class::LineEnd)
+        }
+        '\r' => carriage_return(text),
+        '\\' => join(text),
+        c if CharSet::Blank.has(c) => {
+            blanks(text);
+            Some(Class::Blanks)
+        }
+        c if CharSet::Quote.has(c) => literal(text, 0),
+        c if CharSet::PrefixLetter.has(c) => prefixed(text),
+        c if is_name_start(c) => {
+            name(text);
+            Some(Class::Name)
+        }
+        _ if has_number(text) => {
+            number(text);
+            Some(Class::Number)
+        }
+        _ => operator(text),
+    }
+}
+
+/// The longest lexeme at the front of a text: its class, its text, and what is behind it.
+#[inline(always)]
+pub fn cut(text: &str) -> Option<(Class, &str, &str)>
+    ensures some { IfSome result (λ x. Cuts text.now x.0 x.1.now x.2.now) }
+    ensures none { IfNone result (lexeme_at (chars text.now) ≡ None) }
+{
+    let mut scanner = Scanner::new(text);
+    let class = lexeme(&mut scanner)?;
+    let (front, back) = text.split_at(text.len() - scanner.len());
+    Some((class, front, back))
+}
+
+/// Whether a text begins with what makes a line logical: neither a blank, a comment, a line end, nor its end.
+pub fn begins_thing(text: &str) -> bool
+    ensures { result ≡ begins_thing (chars text.now) }
+{
+    let scanner = Scanner::new(text);
+    let Some(first) = scanner.first() else {
+        return false;
+    };
+    if CharSet::Blank.has(first) {
+        return false;
+    }
+    if first == '#' {
+        return false;
+    }
+    if first == '\n' {
+        return false;
+    }
+    first != '\r' || !scanner.has_next(1, CharSet::One('\n'))
+}
+
+#[cfg(test)]
+mod tests {
+    use super::*;
+    use std::test::Fail;
+
+    #[test]
+    fn cuts_a_lexeme(rt: HostRuntime) -> Result<(), Fail> {
+        match cut("rb'x' + .5") {
+            Some((class, lexeme, rest)) => {
+                assert_eq!(rt; class, Class::String);
+                assert_eq!(rt; lexeme, "rb'x'");
+                assert_eq!(rt; rest, " + .5");
+            }
+            None => assert!(rt; false),
+        }
+        match cut("été**=1") {
+            Some((class, lexeme, rest)) => {
+                assert_eq!(rt; class, Class::Name);
+                assert_eq!(rt; lexeme, "été");
+                assert_eq!(rt; rest, "**=1");
+            }
+            None => assert!(rt; false),
+        }
+        assert!(rt; cut("$").is_none());
+        Ok(())
+    }
+
+    #[test]
+    fn begins_a_thing(rt: HostRuntime) -> Result<(), Fail> {
+        assert!(rt; begins_thing("x # y"));
+        assert!(rt; !begins_thing("# y"));
+        Ok(())
+    }
+}

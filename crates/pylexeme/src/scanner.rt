@@ -1,0 +1,232 @@
+//! A text that is read from its front, one character after another.
+
+ghost use Rattle.std.specs.Prelude.{◌≡◌, ◌==◌, ◌&&◌, ℕ, ◌≤◌, List, length, drop, take, slice_get};
+ghost use Rattle.std.specs.Str.{chars, encode_utf8_all, IsUtf8, bytes_eq};
+ghost use Rattle.std.specs.List.{prefix_len};
+ghost use Rattle.unicode_ident.specs.Ident.{is_xid_continue};
+ghost use Rattle.pylexeme.specs.Chars.{has, begins};
+ghost use Rattle.pylexeme.specs.Lengths.{joined_len, begins_some, begins_quotes};
+
+use std::marker::Model;
+
+/// What is left of a text.
+#[derive(Drop)]
+pub struct Scanner<'a> {
+    rest: &'a str,
+}
+
+impl<'a> Model for Scanner<'a> {
+    ghost Value = { List ℕ };
+
+    ghost view = { λ s. chars s.rest.now };
+
+    ghost invariant = { λ s. IsUtf8 s.rest.now };
+}
+
+impl<'a> Scanner<'a> {
+    /// Begins at the front of a text.
+    pub fn new(text: &'a str) -> Self
+        ensures { result ≡ chars text.now }
+    {
+        Scanner { rest: text }
+    }
+
+    /// Another scanner that stands here.
+    pub fn again(&self) -> Scanner<'a>
+        ensures { result ≡ self.now }
+    {
+        Scanner { rest: self.rest }
+    }
+
+    /// How many bytes are left.
+    pub fn len(&self) -> usize
+        ensures { result ≡ length (encode_utf8_all self.now) }
+    {
+        self.rest.len()
+    }
+
+    /// The next character.
+    pub fn first(&self) -> Option<char>
+        ensures { result ≡ slice_get self.now 0 }
+    {
+        self.rest.chars().next()
+    }
+
+    /// Whether a word stands here.
+    pub fn starts_with(&self, word: &str) -> bool
+        ensures { result ≡ bytes_eq (take (length (chars word.now)) self.now) (chars word.now) }
+    {
+        self.rest.starts_with(word)
+    }
+
+    /// Takes the next character.
+    pub fn bump(&mut self) -> Option<char>
+        ensures first { result ≡ slice_get self.old 0 }
+        ensures rest { self.new ≡ drop 1 self.old }
+    {
+        let mut left = self.rest.chars();
+        let first = left.next();
+        self.rest = left.as_str();
+        first
+    }
+
+    /// Takes some characters.
+    pub fn bump_count(&mut self, count: usize)
+        ensures { self.new ≡ drop count self.old }
+    {
+        for _ in 0..count {
+            let _ = self.bump();
+        }
+    }
+
+    /// Takes the characters of a set from here on.
+    #[inline(always)]
+    pub fn bump_while(&mut self, set: CharSet)
+        ensures { self.new ≡ drop (prefix_len (has set) self.old) self.old }
+    {
+        let mut ahead = self.again();
+        while let Some(first) = ahead.first()
+            && set.has(first)
+        {
+            let _ = ahead.bump();
+        }
+        *self = ahead;
+    }
+
+    /// Whether the character after some others is in a set.
+    #[inline(always)]
+    pub fn has_next(&self, skipped: usize, set: CharSet) -> bool
+        ensures { result ≡ begins (has set) (drop skipped self.now) }
+    {
+        let mut ahead = self.again();
+        ahead.bump_count(skipped);
+        match ahead.first() {
+            Some(c) => set.has(c),
+            None => false,
+        }
+    }
+
+    /// Whether a digit of a kind, or an underscore and one, stands after some characters.
+    pub fn has_digits(&self, skipped: usize, digits: CharSet) -> bool
+        ensures { result ≡ begins_some (has digits) (drop skipped self.now) }
+    {
+        let mut ahead = self.again();
+        ahead.bump_count(skipped);
+        ahead.has_next(0, digits)
+            || ahead.has_next(0, CharSet::One('_')) && ahead.has_next(1, digits)
+    }
+
+    /// Whether a CR and an LF stand after some characters.
+    pub fn has_line_end(&self, skipped: usize) -> bool
+        ensures { result ≡ (begins (λ c. c == 13) (drop skipped self.now) && begins (λ c. c == 10) (drop 1 (drop skipped self.now))) }
+    {
+        let mut ahead = self.again();
+        ahead.bump_count(skipped);
+        ahead.has_next(0, CharSet::One('\r')) && ahead.has_next(1, CharSet::One('\n'))
+    }
+
+    /// Whether a quote stands here three times.
+    pub fn has_three(&self, quote: char) -> bool
+        ensures { result ≡ begins_quotes quote self.now }
+    {
+        self.has_next(0, CharSet::One(quote))
+            && self.has_next(1, CharSet::One(quote))
+            && self.has_next(2, CharSet::One(quote))
+    }
+
+    /// Takes digits of a kind from here on, each with perhaps an underscore before it.
+    #[tactic(auto, using(crate::proofs::Joined::step_digit, crate::proofs::Joined::step_both, crate::proofs::Joined::stop_first, crate::proofs::Joined::stop_second, crate::proofs::Joined::shorter, crate::proofs::Joined::shorter_two))]
+    pub fn bump_joined(&mut self, digits: CharSet)
+        ensures { self.new ≡ drop (joined_len (has digits) self.old) self.old }
+    {
+        loop {
+            if self.has_next(0, digits) {
+                let _ = self.bump();
+            } else if self.has_next(0, CharSet::One('_')) && self.has_next(1, digits) {
+                self.bump_count(2);
+            } else {
+                break;
+            }
+        }
+    }
+}
+
+/// Whether a name may go on with a character. Those of ASCII are told without a table.
+#[inline(always)]
+fn is_name_part(c: char) -> bool
+    ensures { result ≡ is_xid_continue c }
+{
+    if c.is_ascii() {
+        return c.is_ascii_alphanumeric() || c == '_';
+    }
+    unicode_ident::is_xid_continue(c)
+}
+
+/// A set of characters.
+#[derive(Clone, Copy)]
+pub enum CharSet {
+    NamePart,
+    Digit,
+    CommentPart,
+    Blank,
+    /// One character alone.
+    One(char),
+    HexDigit,
+    OctalDigit,
+    BinaryDigit,
+    LetterX,
+    LetterO,
+    LetterB,
+    LetterE,
+    LetterJ,
+    Sign,
+    Quote,
+    Any,
+    LetterR,
+    LetterBorF,
+    PrefixLetter,
+}
+
+impl CharSet {
+    /// Whether a character is in the set.
+    #[inline(always)]
+    pub fn has(self, c: char) -> bool
+        ensures { result ≡ has self c }
+    {
+        match self {
+            CharSet::NamePart => is_name_part(c),
+            CharSet::Digit => c.is_ascii_digit(),
+            CharSet::CommentPart => c != '\n' && c != '\r',
+            CharSet::Blank => c == ' ' || c == '\t' || c == '\x0c',
+            CharSet::One(d) => c == d,
+            CharSet::HexDigit => {
+                c.is_ascii_digit() || ('a' <= c && c <= 'f') || ('A' <= c && c <= 'F')
+            }
+            CharSet::OctalDigit => '0' <= c && c <= '7',
+            CharSet::BinaryDigit => c == '0' || c == '1',
+            CharSet::LetterX => c == 'x' || c == 'X',
+            CharSet::LetterO => c == 'o' || c == 'O',
+            CharSet::LetterB => c == 'b' || c == 'B',
+            CharSet::LetterE => c == 'e' || c == 'E',
+            CharSet::LetterJ => c == 'j' || c == 'J',
+            CharSet::Sign => c == '+' || c == '-',
+            CharSet::Quote => c == '\'' || c == '"',
+            CharSet::Any => true,
+            CharSet::LetterR => c == 'r' || c == 'R',
+            CharSet::LetterBorF => (c == 'b' || c == 'B') || (c == 'f' || c == 'F'),
+            CharSet::PrefixLetter => {
+                (c == 'r' || c == 'R')
+                    || ((c == 'u' || c == 'U')
+                        || ((c == 'b' || c == 'B') || (c == 'f' || c == 'F')))
+            }
+        }
+    }
+}
+
+/// How many characters a text has.
+pub fn char_count(text: &str) -> usize
+    ensures count { result ≡ length (chars text.now) }
+    ensures bound { result ≤ length text.now }
+{
+    text.chars().count()
+}

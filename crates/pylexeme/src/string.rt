@@ -1,0 +1,297 @@
+//! Strings: where one opens, and where the longest one ends (reference 2.4.1).
+
+ghost use Rattle.std.specs.Prelude.{◌≡◌, ◌||◌, ◌==◌, true, false, ℕ, List, ◌++◌, drop, None, IfSome, IfNone, IsTrue};
+ghost use Rattle.std.specs.Str.{chars};
+ghost use Rattle.pylexeme.specs.Chars.{has, begins};
+ghost use Rattle.pylexeme.specs.Strings.{begins_quote, counts_as_string, opens_string, units};
+ghost use Rattle.pylexeme.specs.Lexemes.{lexeme_at, ends_by_join, is_open_string};
+ghost use Rattle.pylexeme.specs.Chunks.{EndsLine};
+ghost use Rattle.pylexeme.specs.OpenLiterals.{IsOpenBy};
+ghost use Rattle.pylexeme.specs.Lengths.{Closed, unit_len, single_len, triple_len, quoted_len, Opens, longest, begins_pair, begins_join, begins_quotes};
+
+use crate::scanner::{CharSet, Scanner};
+
+/// Takes the unit that stands here: a backslash and the character or the CR LF after it, or one other character.
+#[inline(always)]
+fn unit(text: &mut Scanner)
+    ensures { text.new ≡ drop (unit_len text.old) text.old }
+{
+    if !text.has_next(0, CharSet::One('\\')) {
+        text.bump_count(1);
+        return;
+    }
+    if text.has_line_end(1) {
+        text.bump_count(3);
+        return;
+    }
+    text.bump_count(2);
+}
+
+/// Takes the units up to the quote that closes a literal; false where a line end or the text's end comes before it.
+fn close_single(text: &mut Scanner, quote: char) -> bool
+    requires { has CharSet.Quote quote ≡ true }
+    ensures { Closed (single_len quote text.old) result text.old text.new }
+{
+    loop {
+        if text.has_next(0, CharSet::One(quote)) {
+            text.bump_count(1);
+            return true;
+        }
+        if !text.has_next(0, CharSet::CommentPart) {
+            return false;
+        }
+        unit(text);
+    }
+}
+
+/// Takes the units up to the three quotes that close a literal; false where the text's end comes before them.
+fn close_triple(text: &mut Scanner, quote: char) -> bool
+    requires { has CharSet.Quote quote ≡ true }
+    ensures { Closed (triple_len quote text.old) result text.old text.new }
+{
+    loop {
+        if text.has_three(quote) {
+            text.bump_count(3);
+            return true;
+        }
+        if !text.has_next(0, CharSet::Any) {
+            return false;
+        }
+        unit(text);
+    }
+}
+
+/// Takes the literal whose quotes stand here; false where it isn't ended.
+fn quoted(text: &mut Scanner, quote: char) -> bool
+    requires is_quote { has CharSet.Quote quote ≡ true }
+    ensures { Closed (quoted_len quote text.old) result text.old text.new }
+{
+    if text.has_three(quote) {
+        text.bump_count(3);
+        return close_triple(text, quote);
+    }
+    text.bump_count(1);
+    close_single(text, quote)
+}
+
+/// The quote that stands here.
+fn quote_here(text: &Scanner) -> char
+    requires { begins_quote text.now ≡ true }
+    ensures is_quote { has CharSet.Quote result ≡ true }
+    ensures here { begins (λ c. c == result) text.now ≡ true }
+{
+    if text.has_next(0, CharSet::One('"')) {
+        return '"';
+    }
+    '\''
+}
+
+/// Takes the longest string that stands here, behind a prefix of `prefix_len` characters; false where it isn't ended.
+///
+/// Where three equal quotes stand behind the prefix, only a literal in three quotes counts.
+pub fn string(text: &mut Scanner, prefix_len: usize) -> bool
+    requires { Opens prefix_len text.old }
+    ensures { Closed (longest (counts_as_string text.old) text.old) result text.old text.new }
+{
+    text.bump_count(prefix_len);
+    let quote = quote_here(text);
+    quoted(text, quote)
+}
+
+/// Whether the two letters of a prefix stand here.
+fn has_pair(text: &Scanner) -> bool
+    ensures { result ≡ begins_pair text.now }
+{
+    text.has_next(0, CharSet::LetterR) && text.has_next(1, CharSet::LetterBorF)
+        || text.has_next(0, CharSet::LetterBorF) && text.has_next(1, CharSet::LetterR)
+}
+
+/// How many characters the prefix has behind which a quote stands, perhaps none, if a string opens here.
+pub fn opening(text: &Scanner) -> Option<usize>
+    ensures some { IfSome result (λ n. Opens n text.now) }
+    ensures none { IfNone result (opens_string text.now ≡ false) }
+{
+    if text.has_next(0, CharSet::Quote) {
+        return Some(0);
+    }
+    if text.has_next(1, CharSet::Quote) {
+        if text.has_next(0, CharSet::PrefixLetter) {
+            return Some(1);
+        }
+        return None;
+    }
+    if !text.has_next(2, CharSet::Quote) {
+        return None;
+    }
+    if has_pair(text) {
+        return Some(2);
+    }
+    None
+}
+
+/// Whether a backslash and a line end stand here.
+fn has_join(text: &Scanner) -> bool
+    ensures { result ≡ begins_join text.now }
+{
+    text.has_next(0, CharSet::One('\\'))
+        && (text.has_next(1, CharSet::One('\n')) || text.has_line_end(1))
+}
+
+/// Whether a backslash and a line end are the last unit of what is left, with no quote and no other line end before it.
+fn ends_by_join(text: &mut Scanner, quote: char) -> bool
+    requires { has CharSet.Quote quote ≡ true }
+    ensures { result ≡ ends_by_join quote (units text.old) }
+{
+    loop {
+        if text.has_next(0, CharSet::One(quote)) || !text.has_next(0, CharSet::CommentPart) {
+            return false;
+        }
+        let joins = has_join(text);
+        unit(text);
+        if !text.has_next(0, CharSet::Any) {
+            return joins;
+        }
+    }
+}
+
+/// Whether the literal whose quotes stand here, and which isn't ended, is open up to the text's end.
+fn is_open(text: &mut Scanner, quote: char) -> bool
+    requires is_quote { has CharSet.Quote quote ≡ true }
+    ensures { result ≡ (begins_quotes quote text.old || ends_by_join quote (units (drop 1 text.old))) }
+{
+    if !text.has_three(quote) {
+        text.bump_count(1);
+        return ends_by_join(text, quote);
+    }
+    true
+}
+
+/// Whether a prefix, perhaps empty, and a quote stand at the front of a text.
+pub fn opens_string(text: &str) -> bool
+    ensures { result ≡ opens_string (chars text.now) }
+{
+    opening(&Scanner::new(text)).is_some()
+}
+
+/// A literal that is open at the end of some lines: its quote, and whether it opens in three of them.
+#[derive(Clone, Copy, Debug, PartialEq, Eq)]
+pub struct OpenLiteral {
+    quote: char,
+    triple: bool,
+}
+
+/// The literal that opens at the front of a text and is open up to its end (see is_open_string), if one does.
+///
+/// Only asked where no lexeme stands at the text's front.
+pub fn open_literal(text: &str) -> Option<OpenLiteral>
+    ensures some { IfSome result (λ o. IsOpenBy o (chars text.now)) }
+    ensures none { IfNone result (is_open_string (chars text.now) ≡ false) }
+{
+    let mut left = Scanner::new(text);
+    let Some(prefix_len) = opening(&left) else {
+        return None;
+    };
+    left.bump_count(prefix_len);
+    let quote = quote_here(&left);
+    let triple = left.has_three(quote);
+    if is_open(&mut left, quote) {
+        return Some(OpenLiteral { quote, triple });
+    }
+    None
+}
+
+impl OpenLiteral {
+    /// Whether it is still open behind one more line.
+    pub fn goes_on(self, line: &str) -> bool
+        ensures { IsTrue result → (cs : List ℕ) → EndsLine cs → IsOpenBy self cs → lexeme_at cs ≡ None → IsOpenBy self (cs ++ chars line.now) × (lexeme_at (cs ++ chars line.now) ≡ None) }
+    {
+        // What isn't a quote opens nothing.
+        if !CharSet::Quote.has(self.quote) {
+            return false;
+        }
+        let mut left = Scanner::new(line);
+        if self.triple {
+            return !close_triple(&mut left, self.quote);
+        }
+        ends_by_join(&mut left, self.quote)
+    }
+}
+
+/// Whether a literal that opens at the front of a text, and doesn't end in it, is open up to the text's end, so that
+/// more text could still end it: one in three quotes always, one in single quotes directly after a backslash and a
+/// line end.
+pub fn is_open_string(text: &str) -> bool
+    ensures { result ≡ is_open_string (chars text.now) }
+{
+    open_literal(text).is_some()
+}
+
+#[cfg(test)]
+mod tests {
+    use super::*;
+
+    #[test]
+    fn tells_what_opens_a_string(rt: HostRuntime) {
+        for text in ["'", "\"a", "Rb'", "f\"", "u''"] {
+            assert!(rt; opens_string(text), "{text}");
+        }
+        for text in ["", "b", "rx'", "ur'", "a'", " '"] {
+            assert!(rt; !opens_string(text), "{text}");
+        }
+    }
+
+    #[test]
+    fn tells_what_more_text_could_end(rt: HostRuntime) {
+        for text in ["'''", "rb\"\"\"a\n", "'a\\\n", "'\\\na\\\r\n"] {
+            assert!(rt; is_open_string(text), "{text}");
+        }
+        for text in [
+            "'", "'a\n", "'a\\", "'a\\\nb", "'a\\\n\n", "a\\\n", "''\\\n",
+        ] {
+            assert!(rt; !is_open_string(text), "{text}");
+        }
+    }
+
+    #[test]
+    fn tells_which_literal_is_open(rt: HostRuntime) {
+        let rows = [
+            ("'''", '\'', true),
+            ("rb\"\"\"a\n", '"', true),
+            ("'a\\\n", '\'', false),
+            ("u\"\\\r\n", '"', false),
+        ];
+        for (text, quote, triple) in rows {
+            assert_eq!(rt;
+                open_literal(text),
+                Some(OpenLiteral { quote, triple }),
+                "{text}"
+            );
+        }
+    }
+
+    #[test]
+    fn tells_where_an_open_literal_goes_on(rt: HostRuntime) {
+        let rows = [
+            ("'''\n", "a\n", true),
+            ("'''\n", "\"\"\" '' \\'''\n", true),
+            ("rb\"\"\"\r\n", "\\\"\"\"\\\r\n", true),
+            ("\"\"\"\\\n", "\"\" '''\\\n", true),
+            ("'''\n", "a'''\n", false),
+            ("\"\"\"\r\n", "\\\\\"\"\"\r\n", false),
+            ("'\\\n", "a\\\n", true),
+            ("'a\\\n", "\\'\" \\\\\\\n", true),
+            ("f\"\\\r\n", "\\\"'\\\r\n", true),
+            ("'\\\n", "\\\n", true),
+            ("'\\\n", "a\n", false),
+            ("'\\\n", "a\\\\\n", false),
+            ("\"\\\r\n", "a\"\\\r\n", false),
+        ];
+        for (text, line, goes) in rows {
+            assert_eq!(rt;
+                open_literal(text).map(|o| o.goes_on(line)),
+                Some(goes),
+                "{text}{line}"
+            );
+        }
+    }
+}
