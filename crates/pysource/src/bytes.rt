@@ -9,6 +9,7 @@ ghost use Rattle.std.specs.Prelude.{◌≡◌, ◌≤◌, ℕ, ◌+◌, ◌-◌,
 ghost use Rattle.std.specs.Io.{ReadsAtMost, WritesAtMost};
 ghost use Rattle.std.specs.Io.KnownBytes.{ReadConsumes, WriteAppends, Appends, Consumes, IsAtEnd};
 ghost use Rattle.pysource.specs.Bytes.{read_failures, write_failures, TakesFront, GivesTooMany};
+ghost use Rattle.pysource.specs.Limits.{source_limit};
 
 use std::alloc::Global;
 use std::io::{Read, Write};
@@ -200,11 +201,11 @@ pub fn read_all<R: ByteIn>(alloc: Global, reader: &mut R) -> Result<Vec<u8>, Inp
     requires { R.failure_count reader.old < 2 ^ 64 - 1 }
     ensures ok { IfOk result (λ v. Consumes (R.to_come reader.old) (R.to_come reader.new) v.items) }
     ensures end { OnOk result (IsAtEnd (R.to_come reader.new)) }
-    ensures within { IfOk result (λ v. vec_len v ≤ SOURCE_LIMIT) }
+    ensures within { IfOk result (λ v. vec_len v ≤ source_limit) }
     ensures unfailed { OnOk result (R.failure_count reader.new ≡ R.failure_count reader.old) }
     ensures read { IsErrOf result InputFault.Read →
         R.failure_count reader.new ≡ R.failure_count reader.old →
-        GivesTooMany (R.to_come reader.old) (R.to_come reader.new) SOURCE_LIMIT }
+        GivesTooMany (R.to_come reader.old) (R.to_come reader.new) source_limit }
     ensures memory { IsErrOf result InputFault.Memory →
         R.failure_count reader.new ≡ R.failure_count reader.old }
     ensures once { R.failure_count reader.new ≤ R.failure_count reader.old + 1 }

@@ -6,12 +6,13 @@
 
 ghost use Rattle.std.specs.Prelude.{◌≡◌, ℕ, ◌+◌, ◌-◌, ◌^◌, ◌<◌, ◌≤◌, List, [], Option, length, IfOk, IfErr};
 ghost use Rattle.std.specs.String.{string_bytes};
+ghost use Rattle.pysource.specs.Limits.{source_limit};
 ghost use Rattle.pysource.specs.Streams.{Moves, Opening, Opens, Refuses, searches_second, PushesLine};
 ghost use Rattle.pysource.specs.Taking.{Takes, Grows, FoundHead, FoundDue, fails};
 ghost use Rattle.pysource.specs.Heads.{FoundHeads};
 
 use crate::buffers::Intake;
-use crate::bytes::{ByteIn, SOURCE_LIMIT};
+use crate::bytes::ByteIn;
 use crate::encodings::{
     Charset, Encoding, SourceFault, cookie_of, encoding_of, has_mark, leads_on, without_mark,
 };
@@ -78,14 +79,14 @@ pub struct LineReader {
 
 impl Model for LineReader {
     ghost use Rattle.std.specs.Prelude.{ℕ, ◌+◌, ◌≤◌, length};
-    ghost use Rattle.pysource.specs.declared.bytes.TheConstants.{SOURCE_LIMIT};
+    ghost use Rattle.pysource.specs.Limits.{source_limit};
     ghost use Rattle.pysource.specs.Streams.{Buffered};
 
     ghost Value = { Buffered };
 
     ghost view = { λ s. record { encoding = s.encoding; row = s.row; pending = s.intake.buffer; reach = s.intake.reach; count = s.intake.count; fault = s.fault } };
 
-    ghost invariant = { λ s. (1 ≤ s.row) × (s.row + length s.intake.buffer ≤ s.intake.count + 1) × (s.intake.count ≤ SOURCE_LIMIT) };
+    ghost invariant = { λ s. (1 ≤ s.row) × (s.row + length s.intake.buffer ≤ s.intake.count + 1) × (s.intake.count ≤ source_limit) };
 }
 
 /// Whether the second line is searched for a cookie behind this first one.
@@ -129,10 +130,10 @@ fn head_line<R: ByteIn>(
     start: usize,
 ) -> Result<usize, StreamFault>
     requires possible { intake.old.reach ≡ Reach.Reading → R.failure_count reader.old < 2 ^ 64 - 1 }
-    requires within { intake.old.count ≤ SOURCE_LIMIT }
+    requires within { intake.old.count ≤ source_limit }
     requires start { start ≤ length intake.old.buffer }
     ensures grows { Grows (R.to_come reader.old) (R.to_come reader.new) (R.failure_count reader.old) (R.failure_count reader.new) intake.old intake.new }
-    ensures within { intake.new.count ≤ SOURCE_LIMIT }
+    ensures within { intake.new.count ≤ source_limit }
     ensures found { FoundHead start intake.old intake.new result }
 {
     match intake.line_end(reader, start) {
@@ -153,7 +154,7 @@ fn read_head<R: ByteIn>(intake: &mut Intake, reader: &mut R) -> Result<(usize, u
     requires reach { intake.old.reach ≡ Reach.Reading }
     requires count { intake.old.count ≡ 0 }
     ensures takes { Takes (R.to_come reader.old) (R.to_come reader.new) (R.failure_count reader.old) (R.failure_count reader.new) Reach.Reading intake.new.reach 0 intake.new.count intake.new.buffer }
-    ensures within { intake.new.count ≤ SOURCE_LIMIT }
+    ensures within { intake.new.count ≤ source_limit }
     ensures found { FoundHeads intake.new result }
 {
     let first = head_line(intake, reader, 0)?;
@@ -172,9 +173,9 @@ fn read_head<R: ByteIn>(intake: &mut Intake, reader: &mut R) -> Result<(usize, u
 /// read whole.
 fn due_line<R: ByteIn>(intake: &mut Intake, reader: &mut R) -> Result<Option<usize>, AllocError>
     requires possible { intake.old.reach ≡ Reach.Reading → R.failure_count reader.old < 2 ^ 64 - 1 }
-    requires within { intake.old.count ≤ SOURCE_LIMIT }
+    requires within { intake.old.count ≤ source_limit }
     ensures grows { Grows (R.to_come reader.old) (R.to_come reader.new) (R.failure_count reader.old) (R.failure_count reader.new) intake.old intake.new }
-    ensures within { intake.new.count ≤ SOURCE_LIMIT }
+    ensures within { intake.new.count ≤ source_limit }
     ensures found { FoundDue intake.old intake.new result }
 {
     match intake.line_end(reader, 0)? {
@@ -252,7 +253,7 @@ impl LineReader {
     ) -> Result<Line, AllocError>
         requires { self.old.reach ≡ Reach.Reading → R.failure_count reader.old < 2 ^ 64 - 1 }
         ensures moves { Moves (R.to_come reader.old) (R.to_come reader.new) (R.failure_count reader.old) (R.failure_count reader.new) self.old self.new (string_bytes chunk.old) (string_bytes chunk.new) result }
-        ensures within { self.new.count ≤ SOURCE_LIMIT }
+        ensures within { self.new.count ≤ source_limit }
         ensures pending { length self.new.pending ≤ self.new.count }
     {
         if let Some(fault) = self.fault {
@@ -326,7 +327,7 @@ impl<R: ByteIn> Chunks<R> {
     /// Appends the next line, as [`LineReader::next_line`] does.
     pub fn next_line(&mut self, chunk: &mut String) -> Result<Line, AllocError>
         ensures moves { Moves (R.to_come self.old.reader) (R.to_come self.new.reader) (R.failure_count self.old.reader) (R.failure_count self.new.reader) self.old.lines self.new.lines (string_bytes chunk.old) (string_bytes chunk.new) result }
-        ensures within { self.new.lines.count ≤ SOURCE_LIMIT }
+        ensures within { self.new.lines.count ≤ source_limit }
         ensures pending { length self.new.lines.pending ≤ self.new.lines.count }
         ensures told { self.new.told ≡ self.old.told }
     {
