@@ -4,8 +4,9 @@
 //!
 //! Only the bytes of the line that is due are held, and at most 8,192 behind it.
 
-ghost use Rattle.std.specs.Prelude.{◌≡◌, ℕ, ◌+◌, ◌-◌, ◌^◌, ◌<◌, ◌≤◌, List, [], Option, length, IfOk, IfErr};
+ghost use Rattle.std.specs.Prelude.{◌≡◌, ℕ, ◌+◌, ◌-◌, ◌^◌, ◌<◌, ◌≤◌, false, List, [], Option, length, IfOk, IfErr};
 ghost use Rattle.std.specs.String.{string_bytes};
+ghost use Rattle.pysource.specs.Bytes.{IsSteady};
 ghost use Rattle.pysource.specs.Limits.{source_limit};
 ghost use Rattle.pysource.specs.Streams.{Moves, Opening, Opens, Refuses, searches_second, PushesLine};
 ghost use Rattle.pysource.specs.Taking.{Takes, Grows, FoundHead, FoundDue, fails};
@@ -135,6 +136,7 @@ fn head_line<R: ByteIn>(
     ensures grows { Grows (R.to_come reader.old) (R.to_come reader.new) (R.failure_count reader.old) (R.failure_count reader.new) intake.old intake.new }
     ensures within { intake.new.count ≤ source_limit }
     ensures found { FoundHead start intake.old intake.new result }
+    ensures steady { IsSteady (R.may_fail reader.old) (R.may_fail reader.new) (R.failure_count reader.old) (R.failure_count reader.new) }
 {
     match intake.line_end(reader, start) {
         Err(_) => Err(StreamFault::Memory),
@@ -156,6 +158,7 @@ fn read_head<R: ByteIn>(intake: &mut Intake, reader: &mut R) -> Result<(usize, u
     ensures takes { Takes (R.to_come reader.old) (R.to_come reader.new) (R.failure_count reader.old) (R.failure_count reader.new) Reach.Reading intake.new.reach 0 intake.new.count intake.new.buffer }
     ensures within { intake.new.count ≤ source_limit }
     ensures found { FoundHeads intake.new result }
+    ensures steady { IsSteady (R.may_fail reader.old) (R.may_fail reader.new) (R.failure_count reader.old) (R.failure_count reader.new) }
 {
     let first = head_line(intake, reader, 0)?;
     match intake.reach {
@@ -177,6 +180,7 @@ fn due_line<R: ByteIn>(intake: &mut Intake, reader: &mut R) -> Result<Option<usi
     ensures grows { Grows (R.to_come reader.old) (R.to_come reader.new) (R.failure_count reader.old) (R.failure_count reader.new) intake.old intake.new }
     ensures within { intake.new.count ≤ source_limit }
     ensures found { FoundDue intake.old intake.new result }
+    ensures steady { IsSteady (R.may_fail reader.old) (R.may_fail reader.new) (R.failure_count reader.old) (R.failure_count reader.new) }
 {
     match intake.line_end(reader, 0)? {
         Some(end) => Ok(Some(end)),
@@ -199,7 +203,8 @@ impl LineReader {
     /// of them could not be read whole, and `Memory`. What was taken of the reader is lost then.
     pub fn new<R: ByteIn>(alloc: Global, reader: &mut R) -> Result<LineReader, StreamFault>
         requires { R.failure_count reader.old < 2 ^ 64 - 1 }
-        ensures { Opening (R.to_come reader.old) (R.to_come reader.new) (R.failure_count reader.old) (R.failure_count reader.new) result }
+        ensures opening { Opening (R.to_come reader.old) (R.to_come reader.new) (R.failure_count reader.old) (R.failure_count reader.new) result }
+        ensures steady { IsSteady (R.may_fail reader.old) (R.may_fail reader.new) (R.failure_count reader.old) (R.failure_count reader.new) }
     {
         let mut intake = Intake::new(alloc);
         let (first, second) = read_head(&mut intake, reader)?;
@@ -255,6 +260,7 @@ impl LineReader {
         ensures moves { Moves (R.to_come reader.old) (R.to_come reader.new) (R.failure_count reader.old) (R.failure_count reader.new) self.old self.new (string_bytes chunk.old) (string_bytes chunk.new) result }
         ensures within { self.new.count ≤ source_limit }
         ensures pending { length self.new.pending ≤ self.new.count }
+        ensures steady { IsSteady (R.may_fail reader.old) (R.may_fail reader.new) (R.failure_count reader.old) (R.failure_count reader.new) }
     {
         if let Some(fault) = self.fault {
             return Ok(Line::Fault(fault));
@@ -292,14 +298,16 @@ pub struct Chunks<R: ByteIn> {
 }
 
 impl<R: ByteIn> Chunks<R> {
-    /// Opens the lines of a source, as [`LineReader::new`] does. A refusal drops the reader.
+    /// Opens the lines of a source, as [`LineReader::new`] does. A refusal drops the reader. Where
+    /// no read can fail, `Read` tells that the source has more bytes than `SOURCE_LIMIT`.
     pub fn new(alloc: Global, mut reader: R) -> Result<Chunks<R>, StreamFault>
     where
         R: Drop,
         requires { R.failure_count reader < 2 ^ 64 - 1 }
         ensures opens { IfOk result (λ c. Opens (R.to_come reader) (R.to_come c.reader) (R.failure_count reader) (R.failure_count c.reader) c.lines) }
         ensures told { IfOk result (λ c. c.told ≡ R.failure_count reader) }
-        ensures refuses { IfErr result (λ e. (come : Option (List ℕ)) × (told : ℕ) × Refuses (R.to_come reader) come (R.failure_count reader) told e) }
+        ensures steady { IfOk result (λ c. IsSteady (R.may_fail reader) (R.may_fail c.reader) (R.failure_count reader) (R.failure_count c.reader)) }
+        ensures refuses { IfErr result (λ e. (come : Option (List ℕ)) × (told : ℕ) × (R.may_fail reader ≡ false → told ≡ R.failure_count reader) × Refuses (R.to_come reader) come (R.failure_count reader) told e) }
     {
         let told = reader.failures();
         let lines = LineReader::new(alloc, &mut reader)?;
@@ -330,6 +338,7 @@ impl<R: ByteIn> Chunks<R> {
         ensures within { self.new.lines.count ≤ source_limit }
         ensures pending { length self.new.lines.pending ≤ self.new.lines.count }
         ensures told { self.new.told ≡ self.old.told }
+        ensures steady { IsSteady (R.may_fail self.old.reader) (R.may_fail self.new.reader) (R.failure_count self.old.reader) (R.failure_count self.new.reader) }
     {
         self.lines.next_line(&mut self.reader, chunk)
     }

@@ -1,5 +1,6 @@
 use Rattle.std.proofs.Common.{◌≡◌, ◌-◌, ◌≤◌, vec_len}
 use Rattle.std.specs.Io.KnownBytes.{Consumes}
+use Rattle.pysource.specs.Bytes.{IsSteady}
 use Rattle.pysource.specs.Limits.{source_limit}
 use Rattle.pysource.proofs.bytes.read_all.Given as goal
 
@@ -8,6 +9,7 @@ invariant-loop-all g l = record {
   within : vec_len l.all ≤ source_limit;
   gave : Consumes (g.R.ByteIn.to_come l.fn.reader) (g.R.ByteIn.to_come l.reader) l.all.items;
   counted : g.R.ByteIn.failure_count l.reader ≡ g.R.ByteIn.failure_count l.fn.reader;
+  steady : IsSteady (g.R.ByteIn.may_fail l.fn.reader) (g.R.ByteIn.may_fail l.reader) (g.R.ByteIn.failure_count l.fn.reader) (g.R.ByteIn.failure_count l.reader);
 }
 
 abbrev pub decreases-loop-all : goal.decreases-loop-all

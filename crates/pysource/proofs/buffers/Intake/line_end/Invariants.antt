@@ -1,5 +1,6 @@
 use Rattle.std.proofs.Common.{◌≡◌, ◌+◌, ◌-◌, ◌≤◌, length}
 use Rattle.std.specs.Prelude.{◌⊎◌, max}
+use Rattle.pysource.specs.Bytes.{IsSteady}
 use Rattle.pysource.specs.Limits.{source_limit}
 use Rattle.pysource.specs.Taking.{Grows, NoLfFrom}
 use Rattle.pysource.proofs.TakingLemmas.{left}
@@ -13,6 +14,7 @@ invariant-loop-at g l = record {
   high : l.searched ≤ length l.self.buffer;
   clean : NoLfFrom l.start l.searched l.self.buffer;
   ahead : length l.self.buffer ≤ max (l.searched + 8_192) (length l.fn.self.buffer);
+  steady : IsSteady (g.R.ByteIn.may_fail l.fn.reader) (g.R.ByteIn.may_fail l.reader) (g.R.ByteIn.failure_count l.fn.reader) (g.R.ByteIn.failure_count l.reader);
   kept : (l.self.reach ≡ l.fn.self.reach) ⊎ (l.searched ≡ length l.self.buffer);
 }
 
