@@ -25,6 +25,3 @@ pub use lines::{line_text, push_line};
 pub use lister::Lister;
 pub use stream::{LineLister, ResumeFault};
 pub use stream_lister::StreamLister;
-
-#[cfg(test)]
-mod fakes;

@@ -243,38 +243,3 @@ pub fn begins_thing(text: &str) -> bool
     }
     first != '\r' || !scanner.has_next(1, CharSet::One('\n'))
 }
-
-#[cfg(test)]
-mod tests {
-    use super::*;
-    use std::test::Fail;
-
-    #[test]
-    fn cuts_a_lexeme(rt: HostRuntime) -> Result<(), Fail> {
-        match cut("rb'x' + .5") {
-            Some((class, lexeme, rest)) => {
-                assert_eq!(rt; class, Class::String);
-                assert_eq!(rt; lexeme, "rb'x'");
-                assert_eq!(rt; rest, " + .5");
-            }
-            None => assert!(rt; false),
-        }
-        match cut("été**=1") {
-            Some((class, lexeme, rest)) => {
-                assert_eq!(rt; class, Class::Name);
-                assert_eq!(rt; lexeme, "été");
-                assert_eq!(rt; rest, "**=1");
-            }
-            None => assert!(rt; false),
-        }
-        assert!(rt; cut("$").is_none());
-        Ok(())
-    }
-
-    #[test]
-    fn begins_a_thing(rt: HostRuntime) -> Result<(), Fail> {
-        assert!(rt; begins_thing("x # y"));
-        assert!(rt; !begins_thing("# y"));
-        Ok(())
-    }
-}

@@ -200,19 +200,3 @@ pub fn operator_len(text: &Scanner) -> usize
     }
     pair_len(first, second)
 }
-
-#[cfg(test)]
-mod tests {
-    use super::*;
-    use std::test::Fail;
-
-    #[test]
-    fn names_operators(rt: HostRuntime) -> Result<(), Fail> {
-        assert_eq!(rt; exact_of("->"), Some(Exact::RArrow));
-        assert_eq!(rt; exact_of("//="), Some(Exact::DoubleSlashEqual));
-        assert!(rt; exact_of("<>").is_none());
-        assert!(rt; is_opener("["));
-        assert!(rt; is_closer("]"));
-        Ok(())
-    }
-}

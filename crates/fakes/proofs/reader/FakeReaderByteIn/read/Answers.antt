@@ -2,7 +2,7 @@ use Rattle.std.proofs.Common.{◌≡◌, ◌≤◌, ◌∙◌, ◌++◌, length,
 use Rattle.std.proofs.lemmas.List.{take-append-drop, length-take-le, length-append, length-drop}
 use Rattle.std.proofs.Math.Seq.{take-append_seam}
 use Rattle.std.proofs.Math.ListN.{drop_of_length-le}
-use Rattle.pylex.proofs.fakes.SlowByteIn.read.Goals as goal
+use Rattle.fakes.proofs.reader.FakeReaderByteIn.read.Goals as goal
 
 pub returns-clause-bytes : goal.returns-clause-bytes
 returns-clause-bytes c =
@@ -18,6 +18,6 @@ returns-clause-bytes c =
     let behind = length-drop n c.args.buf.now in (
       rw (given, front, c.split_at.ensures.back) (sym (take-append-drop n bytes)),
       λ none some.
-          let all : length bytes ≤ n = omega (arith, none, some, size, whole, behind, c.min-count.ensures, c.min.ensures, c.args.self.now.some) in
+          let all : length bytes ≤ n = omega (arith, none, some, size, whole, behind, c.min-count.ensures, c.min.ensures, c.args.self.now.gives_some) in
           c.split_at.ensures.back ∙ drop_of_length-le bytes all,
     )

@@ -1,20 +1,9 @@
 //! Lines as readers give them, and the reads that fail in mid-stream.
-ghost use Rattle.std.specs.Prelude.{◌≡◌};
 
-use crate::fakes::Trickle;
-use crate::{ByteIn, Chunks, Counted, Line, LineError, LineReader, StreamFault};
+use fakes::FakeReader;
+use pysource::{ByteIn, Chunks, Counted, Line, LineError, LineReader, StreamFault};
 use std::alloc::Global;
 use std::test::Fail;
-
-fn trickle(bytes: &[u8], fails: bool) -> Trickle<'_>
-    ensures { result.failures ≡ 0 }
-{
-    Trickle {
-        bytes,
-        fails,
-        failures: 0,
-    }
-}
 
 /// What an answer is called.
 fn name(line: &Line) -> &'static str {
@@ -42,7 +31,7 @@ fn refusal(fault: &StreamFault) -> &'static str {
 
 /// The encoding, and each of `calls` answers with the text so far behind it.
 fn told(alloc: Global, bytes: &[u8], fails: bool, calls: usize) -> Result<String, Fail> {
-    let mut reader = trickle(bytes, fails);
+    let mut reader = FakeReader::new(bytes, 1, fails);
     let mut lines = match LineReader::new(alloc, &mut reader) {
         Ok(lines) => lines,
         Err(fault) => return Ok(String::from_str(alloc, refusal(&fault))?),
@@ -162,7 +151,7 @@ fn reads_long_lines(rt: HostRuntime) -> Result<(), Fail> {
 
 #[test]
 fn counts_failures(rt: HostRuntime) -> Result<(), Fail> {
-    let mut lines = match Chunks::new(rt.alloc(), trickle(b"a\nb", true)) {
+    let mut lines = match Chunks::new(rt.alloc(), FakeReader::new(b"a\nb", 1, true)) {
         Ok(lines) => lines,
         Err(_) => {
             assert!(rt; false);
@@ -175,5 +164,16 @@ fn counts_failures(rt: HostRuntime) -> Result<(), Fail> {
     assert_eq!(rt; lines.next_line(&mut chunk)?, Line::Read);
     assert_eq!(rt; chunk.as_str(), "a\n");
     assert_eq!(rt; lines.reader().failures(), 1);
+    Ok(())
+}
+
+#[test]
+fn counts_rows(rt: HostRuntime) -> Result<(), Fail> {
+    let mut reader = FakeReader::new(b"a\nb", 2, false);
+    let mut lines = LineReader::new(rt.alloc(), &mut reader)?;
+    let mut chunk = String::new(rt.alloc());
+    assert_eq!(rt; lines.row(), 1);
+    assert_eq!(rt; lines.next_line(&mut reader, &mut chunk)?, Line::Text);
+    assert_eq!(rt; lines.row(), 2);
     Ok(())
 }
