@@ -15,6 +15,7 @@ use Rattle.pysource.specs.declared.streams.Line.TheVariants as met
 use Rattle.pylexeme.specs.declared.string.OpenLiteral.{OpenLiteral}
 use Rattle.pylex.specs.declared.chunk.Chunk.{Chunk}
 use Rattle.pylexeme.specs.Chars.{begins}
+use Rattle.pylexeme.specs.Strings.{quote_char}
 use Rattle.pylexeme.specs.Chunks.{EndsLine}
 use Rattle.pylex.specs.Chunked.{AddsLine, IsLineMore, HoldsOn}
 use Rattle.pylexeme.specs.Lexemes.{lexeme_at, left_by_cut, is_open_string}
@@ -34,9 +35,9 @@ GoesOn o line = (cs : List ℕ) → EndsLine cs → IsOpenBy o cs → lexeme_at 
 
 -- something stands where a literal is open
 not_nothing : (o : OpenLiteral) (cs : List ℕ) → IsOpenBy o cs → cs ≡ [] → ⊥
-not_nothing o cs i e = none i.«prefix» (ap (λ t. begins (λ c. c == o.quote) (drop i.«prefix» t)) (sym e) ∙ i.here)
+not_nothing o cs i e = none i.«prefix» (ap (λ t. begins (λ c. c == quote_char o.quote) (drop i.«prefix» t)) (sym e) ∙ i.here)
   where
-    none : (n : ℕ) → begins (λ c. c == o.quote) (drop n []) ≡ true → ⊥
+    none : (n : ℕ) → begins (λ c. c == quote_char o.quote) (drop n []) ≡ true → ⊥
     none zero h = let f : false ≡ true = h in cc
     none (suc n) h = let f : false ≡ true = h in cc
 

@@ -527,10 +527,6 @@ thing_head cs l c e f = of cs (same_head cs l c e f)
     of [] g = cc
     of (d ∷ cs) g = let h : d ≡ c = cc in ap (λ x. x ∷ cs) h
 
-blank_of : (c : ℕ) (t : List ℕ) → is_blank_char c ≡ true → begins_thing (c ∷ t) ≡ false
-unfolding begins_thing
-blank_of c t e = rw e refl
-
 hash_of : (t : List ℕ) → begins_thing (35 ∷ t) ≡ false
 unfolding begins_thing
 hash_of t = refl
@@ -545,16 +541,18 @@ unfolding begins_thing
 return_of [] = refl
 return_of (d ∷ t) = refl
 
-other_of : (c : ℕ) (t : List ℕ) → is_blank_char c ≡ false → (c == 35) ≡ false → (c == 10) ≡ false → (c == 13) ≡ false → begins_thing (c ∷ t) ≡ true
+other_of : (c : ℕ) (t : List ℕ) → (c == 35) ≡ false → (c == 10) ≡ false → (c == 13) ≡ false → begins_thing (c ∷ t) ≡ not (is_blank_char c)
 unfolding begins_thing
-other_of c [] b h f r = rw (b, h, f) refl
-other_of c (d ∷ t) b h f r = rw (b, h, f, r) refl
-
-not_eq : (c k : ℕ) → (c ≡ k → ⊥) → (c == k) ≡ false
-not_eq c k n = ⊎_elim (λ (e : eqb c k ≡ true). absurd (n (eqb-true c k e))) (λ (e : eqb c k ≡ false). e) (bool_cases (eqb c k))
-
-pub thing_blank : (cs l : List ℕ) (c : ℕ) → l ≡ cs → Some c ≡ slice_get l 0 → is_blank_char c ≡ true → false ≡ begins_thing cs
-thing_blank cs l c e f b = sym (ap begins_thing (thing_head cs l c e f) ∙ blank_of c (drop 1 cs) b)
+other_of c [] h f r = rw (h, f) (both (is_blank_char c))
+  where
+    both : (b : Bool) → (not b && true && true) ≡ not b
+    both true = refl
+    both false = refl
+other_of c (d ∷ t) h f r = rw (h, f, r) (both (is_blank_char c))
+  where
+    both : (b : Bool) → (not b && true && true) ≡ not b
+    both true = refl
+    both false = refl
 
 pub thing_hash : (cs l : List ℕ) (c : ℕ) → l ≡ cs → Some c ≡ slice_get l 0 → c ≡ 35 → false ≡ begins_thing cs
 thing_hash cs l c e f h = sym (ap begins_thing (thing_head cs l c e f ∙ ap (λ x. x ∷ drop 1 cs) h) ∙ hash_of (drop 1 cs))
@@ -562,8 +560,8 @@ thing_hash cs l c e f h = sym (ap begins_thing (thing_head cs l c e f ∙ ap (λ
 pub thing_feed : (cs l : List ℕ) (c : ℕ) → l ≡ cs → Some c ≡ slice_get l 0 → c ≡ 10 → false ≡ begins_thing cs
 thing_feed cs l c e f h = sym (ap begins_thing (thing_head cs l c e f ∙ ap (λ x. x ∷ drop 1 cs) h) ∙ feed_of (drop 1 cs))
 
-pub thing_other : (cs l : List ℕ) (c : ℕ) → l ≡ cs → Some c ≡ slice_get l 0 → is_blank_char c ≡ false → (c ≡ 35 → ⊥) → (c ≡ 10 → ⊥) → (c ≡ 13 → ⊥) → not (eqb c 13) ≡ begins_thing cs
-thing_other cs l c e f b h i r = let g = not_eq c 13 r in ap not g ∙ sym (ap begins_thing (thing_head cs l c e f) ∙ other_of c (drop 1 cs) b (not_eq c 35 h) (not_eq c 10 i) g)
+pub thing_other : (cs l : List ℕ) (c : ℕ) → l ≡ cs → Some c ≡ slice_get l 0 → eqb c 35 ≡ false → eqb c 10 ≡ false → eqb c 13 ≡ false → not (is_blank_char c) ≡ begins_thing cs
+thing_other cs l c e f h i r = sym (ap begins_thing (thing_head cs l c e f) ∙ other_of c (drop 1 cs) h i r)
 
 pub thing_return : (cs l : List ℕ) (c : ℕ) → l ≡ cs → Some c ≡ slice_get l 0 → c ≡ 13 → not (begins (λ d. d == 10) (drop 1 l)) ≡ begins_thing cs
 thing_return cs l c e f r = ap (λ t. not (begins (λ d. d == 10) (drop 1 t))) e ∙ sym (ap begins_thing (thing_head cs l c e f ∙ ap (λ x. x ∷ drop 1 cs) r) ∙ return_of (drop 1 cs))

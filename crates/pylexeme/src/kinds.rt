@@ -3,7 +3,6 @@
 ghost use Rattle.std.specs.Prelude.{◌≡◌};
 ghost use Rattle.pylexeme.specs.Operators.{exact_name};
 
-
 /// The exact type of an operator or delimiter, as the module `token` names them.
 #[derive(Clone, Copy, Debug, PartialEq, Eq)]
 pub enum Exact {

@@ -180,7 +180,7 @@ fn has_number(text: &Scanner) -> bool
 /// Takes the longest lexeme that stands here, and says its class; none and nothing where no lexeme stands.
 #[tactic(auto, using(crate::proofs::Union::begins_by))]
 #[inline(always)]
-pub fn lexeme(text: &mut Scanner) -> Option<Class>
+pub(crate) fn lexeme(text: &mut Scanner) -> Option<Class>
     ensures { Takes text.old result text.new }
 {
     match text.first()? {
@@ -232,14 +232,9 @@ pub fn begins_thing(text: &str) -> bool
     let Some(first) = scanner.first() else {
         return false;
     };
-    if CharSet::Blank.has(first) {
-        return false;
+    match first {
+        '#' | '\n' => false,
+        '\r' => !scanner.has_next(1, CharSet::One('\n')),
+        _ => !CharSet::Blank.has(first),
     }
-    if first == '#' {
-        return false;
-    }
-    if first == '\n' {
-        return false;
-    }
-    first != '\r' || !scanner.has_next(1, CharSet::One('\n'))
 }

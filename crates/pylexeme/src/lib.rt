@@ -5,7 +5,7 @@
 
 pub mod kinds;
 pub mod lexeme;
-pub mod number;
+mod number;
 pub mod operators;
 pub mod scanner;
 pub mod string;

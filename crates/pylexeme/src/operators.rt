@@ -179,7 +179,7 @@ fn pair_len(first: char, second: char) -> usize
 }
 
 /// How many characters the longest operator has that stands here, or 0.
-pub fn operator_len(text: &Scanner) -> usize
+pub(crate) fn operator_len(text: &Scanner) -> usize
     ensures { result ≡ longest is_operator text.now }
 {
     let mut ahead = text.again();
