@@ -1,12 +1,13 @@
 -- How the lines of a source are opened, and why not.
-use Rattle.std.proofs.Common.{◌≡◌, ℕ, ◌-◌, ◌≤◌, Bool, true, false, List, [], ◌++◌, length, take, drop, None, Ok, Err, Option, Result, sym, ap, subst, refl, inl, inr, ◌∙◌, arith, append-nil, length-drop}
+use Rattle.std.proofs.Common.{◌≡◌, ℕ, ◌-◌, ◌<◌, ◌≤◌, Bool, true, false, List, [], ◌++◌, length, take, drop, None, Some, Ok, Err, Option, Result, sym, ap, subst, refl, inl, inr, ◌∙◌, arith, append-nil, length-append, length-drop}
 use Rattle.std.specs.Prelude.{◌⊎◌, ◌&&◌, codes, nat_lt, if◌then◌else◌}
+use Rattle.std.specs.Io.KnownBytes.{Consumes}
 use Rattle.std.proofs.lemmas.Bool.{cases_Bool}
 use Rattle.pysource.specs.Names.{Named}
 use Rattle.pysource.specs.Parts.{Parts}
 use Rattle.pysource.specs.Cookies.{encoding_of, named_by, cookie_of, leads_on, is_utf_8, is_ascii_name, is_spelled, without_mark, has_mark}
 use Rattle.pysource.specs.Sources.{nth_line}
-use Rattle.pysource.specs.Taking.{Takes}
+use Rattle.pysource.specs.Taking.{Takes, fails}
 use Rattle.pysource.specs.Streams.{Coming, FollowsAt, comes, coming, decides, of_source, stream_of, stream_under, Opens, Refuses}
 use Rattle.pysource.specs.Heads.{Head, FoundHeads}
 use Rattle.pysource.specs.declared.buffers.Intake.{Intake}
@@ -157,3 +158,18 @@ unmarked_skip i e = rw e refl
 
 pub unmarked_same : (i : Intake) → has_mark i.buffer ≡ false → i.buffer ≡ without_mark i.buffer
 unmarked_same i e = rw e refl
+
+-- Where no read failed, known bytes are refused by `Read` only past the limit.
+pub read_past_limit : (bytes : List ℕ) (come : Option (List ℕ)) (told : ℕ) → Refuses (Some bytes) come told told Read → source_limit < length bytes
+read_past_limit bytes come told r = elim r.explains.0 [
+  | inl broken ↦ absurd (let failed = ap fails broken in omega (arith, r.reads.told, failed))
+  | inr passed ↦
+      let some = r.reads.newly (λ e. let e' : Reading ≡ Passed = e in cc) passed in
+      let full = (r.reads.passed some).1 in
+      let long = length-append r.taken r.reads.lost in
+      given come (r.taken ++ r.reads.lost) r.reads.consumes (omega (arith, some, full, long))
+]
+  where
+    given : (come : Option (List ℕ)) (t : List ℕ) → Consumes (Some bytes) come t → source_limit < length t → source_limit < length bytes
+    given None t p past = absurd p
+    given (Some rest) t p past = let size = ap length p in let parts = length-append t rest in omega (arith, size, parts, past)
