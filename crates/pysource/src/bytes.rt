@@ -176,11 +176,11 @@ pub fn write_all<W: ByteOut>(writer: &mut W, bytes: &[u8]) -> Result<(), WriteFa
 {
     let mut at = 0;
     while at < bytes.len() {
-        match writer.write(&bytes[at..]) {
-            Ok(0) => return Err(WriteFailed),
-            Ok(n) => at += n,
-            Err(e) => return Err(e),
+        let count = writer.write(&bytes[at..])?;
+        if count == 0 {
+            return Err(WriteFailed);
         }
+        at += count;
     }
     Ok(())
 }

@@ -8,7 +8,7 @@ ghost use Rattle.std.specs.Prelude.{◌≡◌, ℕ, ◌+◌, ◌-◌, ◌^◌, �
 ghost use Rattle.std.specs.String.{string_bytes};
 ghost use Rattle.pysource.specs.Bytes.{IsSteady};
 ghost use Rattle.pysource.specs.Limits.{source_limit};
-ghost use Rattle.pysource.specs.Streams.{Moves, Opening, Opens, Refuses, searches_second, PushesLine};
+ghost use Rattle.pysource.specs.Streams.{Moves, Opening, Opens, Refuses, of_source, searches_second, PushesLine};
 ghost use Rattle.pysource.specs.Taking.{Takes, Grows, FoundHead, FoundDue, fails};
 ghost use Rattle.pysource.specs.Heads.{FoundHeads};
 
@@ -54,6 +54,18 @@ pub enum StreamFault {
     /// There was no memory for the bytes.
     #[error("out of memory")]
     Memory,
+}
+
+impl From<SourceFault> for StreamFault {
+    ghost from_gives = { λ fault result. result ≡ of_source fault };
+
+    fn from(fault: SourceFault) -> StreamFault {
+        match fault {
+            SourceFault::UnsupportedEncoding(place) => StreamFault::UnsupportedEncoding(place),
+            SourceFault::BomConflict(place) => StreamFault::BomConflict(place),
+            SourceFault::Memory => StreamFault::Memory,
+        }
+    }
 }
 
 /// How far reading has come.
@@ -209,14 +221,7 @@ impl LineReader {
         let mut intake = Intake::new(alloc);
         let (first, second) = read_head(&mut intake, reader)?;
         let bytes = intake.buffer.bytes();
-        let encoding = match encoding_of(&bytes[..first], &bytes[first..second]) {
-            Ok(encoding) => encoding,
-            Err(SourceFault::UnsupportedEncoding(place)) => {
-                return Err(StreamFault::UnsupportedEncoding(place));
-            }
-            Err(SourceFault::BomConflict(place)) => return Err(StreamFault::BomConflict(place)),
-            Err(SourceFault::Memory) => return Err(StreamFault::Memory),
-        };
+        let encoding = encoding_of(&bytes[..first], &bytes[first..second])?;
         if has_mark(bytes) {
             intake.buffer.skip(3);
         }
