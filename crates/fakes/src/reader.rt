@@ -1,6 +1,6 @@
 //! A reader that fails when it is told to.
 
-ghost use Rattle.std.specs.Prelude.{◌≡◌, ◌≤◌, ◌<◌, ◌+◌, ◌-◌, ◌^◌, List, [], Some, IfOk, OnErr, true};
+ghost use Rattle.std.specs.Prelude.{◌≡◌, ◌≤◌, ◌<◌, ◌+◌, ◌-◌, ◌^◌, [], true, Some, IfOk, OnErr};
 ghost use Rattle.std.specs.Io.{ReadsAtMost};
 ghost use Rattle.std.specs.Io.KnownBytes.{ReadConsumes};
 ghost use Rattle.pysource.specs.Bytes.{read_failures};
@@ -61,9 +61,9 @@ impl ByteIn for FakeReader<'_> {
         ensures bound { ReadsAtMost result buf.new }
         ensures bytes { ReadConsumes (Some self.old.bytes.now) (Some self.new.bytes.now) result buf.new }
         ensures failed { self.new.failures ≡ self.old.failures + read_failures result }
-        ensures most { IfOk result (λ count. count ≤ self.old.most) }
         ensures same { self.new.fails ≡ self.old.fails }
         ensures able { OnErr result (self.old.fails ≡ true) }
+        ensures most { IfOk result (λ count. count ≤ self.old.most) }
         ensures last { OnErr result (self.old.bytes.now ≡ []) }
     {
         if self.bytes.is_empty() && self.fails && !buf.is_empty() {
