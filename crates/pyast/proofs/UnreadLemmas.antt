@@ -100,7 +100,7 @@ entry_read before x = by_class x.«class» x.text
     by_class Name t = tt
     by_class Number t = tt
     by_class String t = tt
-    by_class Operator t = either (is_closer t && (depth before == 0)) _ _ (refl, tt) tt
+    by_class (Operator o) t = either (is_closer o && (depth before == 0)) _ _ (refl, tt) tt
     by_class Comment t = tt
     by_class Blanks t = tt
     by_class LineEnd t = tt

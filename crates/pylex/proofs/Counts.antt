@@ -92,7 +92,7 @@ entry_many s x = by_class x.«class» x.text
     by_class Name t = omega arith
     by_class Number t = omega arith
     by_class String t = omega arith
-    by_class Operator t = cond_many (is_closer t && (s.depth == 0)) 1 _ _ (λ _. omega arith) (λ _. omega arith)
+    by_class (Operator o) t = cond_many (is_closer o && (s.depth == 0)) 1 _ _ (λ _. omega arith) (λ _. omega arith)
     by_class Comment t = omega arith
     by_class Blanks t = omega arith
     by_class LineEnd t = omega arith

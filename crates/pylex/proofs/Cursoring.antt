@@ -4,6 +4,7 @@ use Rattle.std.specs.List.{count_by, prefix_len}
 use Rattle.std.specs.Prelude.{nat_lt}
 use Rattle.std.proofs.lemmas.List.{reverse-append, drop-drop}
 use Rattle.std.proofs.lemmas.Bool.Decides.{nat_tests}
+use Rattle.pylexeme.specs.declared.kinds.Exact.{Exact}
 use Rattle.pylexeme.specs.declared.lexeme.Class.{Class}
 use Rattle.pylexeme.specs.declared.lexeme.Class.TheVariants.{Name, Number, String, Operator, Comment, Blanks, LineEnd, Join}
 use Rattle.pylex.specs.declared.kinds.Kind.TheVariants as kinds
@@ -219,9 +220,9 @@ own_entry t x e q = by_class x.«class» x.text q
     line_end true = refl
     line_end false = refl
 
-    by_operator : (u : List ℕ) (b : Bool) (f : Step) (d : Entry) → (is_closer u && (t.depth == 0)) ≡ b → (f ≡ steps.Entry e → ⊥) → OwnPlaces t u d → cond b (f ∷ []) (steps.Entry d ∷ []) ≡ steps.Entry e ∷ [] → OwnEntry t (record { «class» = Operator; text = u }) e
-    by_operator u true f d m n p q = let g : f ≡ steps.Entry e = cc in absurd (n g)
-    by_operator u false f d m n p q = own Operator u d m p q
+    by_operator : (o : Exact) (u : List ℕ) (b : Bool) (f : Step) (d : Entry) → (is_closer o && (t.depth == 0)) ≡ b → (f ≡ steps.Entry e → ⊥) → OwnPlaces t u d → cond b (f ∷ []) (steps.Entry d ∷ []) ≡ steps.Entry e ∷ [] → OwnEntry t (record { «class» = Operator o; text = u }) e
+    by_operator o u true f d m n p q = let g : f ≡ steps.Entry e = cc in absurd (n g)
+    by_operator o u false f d m n p q = own (Operator o) u d m p q
 
     no_fault : (f : ListingFault) → steps.Fault f ≡ steps.Entry e → ⊥
     no_fault f q = cc
@@ -230,7 +231,7 @@ own_entry t x e q = by_class x.«class» x.text q
     by_class Name u q = own Name u _ refl (record { indent = refl; begins = refl; ends = refl }) q
     by_class Number u q = own Number u _ refl (record { indent = refl; begins = refl; ends = refl }) q
     by_class String u q = own String u _ refl (record { indent = refl; begins = refl; ends = refl }) q
-    by_class Operator u q = by_operator u (is_closer u && (t.depth == 0)) _ _ refl (no_fault _) (record { indent = refl; begins = refl; ends = refl }) q
+    by_class (Operator o) u q = by_operator o u (is_closer o && (t.depth == 0)) _ _ refl (no_fault _) (record { indent = refl; begins = refl; ends = refl }) q
     by_class Comment u q = own Comment u _ refl (record { indent = refl; begins = refl; ends = refl }) q
     by_class Blanks u q = absurd cc
     by_class LineEnd u q = own LineEnd u _ refl (record { indent = line_end (t.logical && (t.depth == 0)); begins = refl; ends = refl }) q

@@ -103,7 +103,7 @@ module _ (cs : List ℕ) (good : all_scalars cs ≡ true) (before : List Lexeme)
       by_class Name t h = (piece_lies cs (text_before before) t rest _ good h refl refl, tt)
       by_class Number t h = (piece_lies cs (text_before before) t rest _ good h refl refl, tt)
       by_class String t h = (piece_lies cs (text_before before) t rest _ good h refl refl, tt)
-      by_class Operator t h = cond_lies (encode_utf8_all cs) (is_closer t && (depth before == 0)) _ _ (tt, tt) (piece_lies cs (text_before before) t rest _ good h refl refl, tt)
+      by_class (Operator o) t h = cond_lies (encode_utf8_all cs) (is_closer o && (depth before == 0)) _ _ (tt, tt) (piece_lies cs (text_before before) t rest _ good h refl refl, tt)
       by_class Comment t h = (piece_lies cs (text_before before) t rest _ good h refl refl, tt)
       by_class Blanks t h = tt
       by_class LineEnd t h = (piece_lies cs (text_before before) t rest _ good h refl refl, tt)

@@ -65,7 +65,7 @@ own_spans s x e q = by_class x.«class» x.text q
     by_class Name t q = one t _ (record { begins = refl; ends = refl }) q
     by_class Number t q = one t _ (record { begins = refl; ends = refl }) q
     by_class String t q = one t _ (record { begins = refl; ends = refl }) q
-    by_class Operator t q = by_closer t (is_closer t && (s.depth == 0)) _ _ (record { begins = refl; ends = refl }) q
+    by_class (Operator o) t q = by_closer t (is_closer o && (s.depth == 0)) _ _ (record { begins = refl; ends = refl }) q
     by_class Comment t q = one t _ (record { begins = refl; ends = refl }) q
     by_class Blanks t q = absurd cc
     by_class LineEnd t q = one t _ (record { begins = refl; ends = refl }) q

@@ -85,7 +85,7 @@ entry_resumable s t x ss h r = by_class x.«class» x.text h
     by_class Name u h = (refl, (λ _. h refl refl), r)
     by_class Number u h = (refl, (λ _. h refl refl), r)
     by_class String u h = (refl, (λ _. h refl refl), r)
-    by_class Operator u h = cond_resumable s (is_closer u && (t.depth == 0)) _ _ ss (λ _. tt) (λ _. (refl, (λ _. h refl refl), r))
+    by_class (Operator o) u h = cond_resumable s (is_closer o && (t.depth == 0)) _ _ ss (λ _. tt) (λ _. (refl, (λ _. h refl refl), r))
     by_class Comment u h = (refl, (λ _. h refl refl), r)
     by_class Blanks u h = r
     by_class LineEnd u h = by_end (t.logical && (t.depth == 0)) (record { kind = line_end_kind_of t; exact = None; start = t.now.place; «end» = (behind t.now u).place; «from» = t.now.offset; to = (behind t.now u).offset }) refl (h refl refl)
@@ -97,7 +97,7 @@ unfolding entry_by
 unmatched_resumable s t x ss e = by_class x.«class» x.text e
   where
     by_class : (k : Class) (u : List ℕ) → (closes (record { «class» = k; text = u }) && (t.depth == 0)) ≡ true → Resumable s (entry_by t (record { «class» = k; text = u }) ++ ss)
-    by_class Operator u e = rw e tt
+    by_class (Operator o) u e = rw e tt
     by_class Name u e = cc
     by_class Number u e = cc
     by_class String u e = cc

@@ -46,7 +46,7 @@ entry_is before x = by_class x.«class» x.text
     by_class Name t = rw (place_after-append (text_before before) t) refl
     by_class Number t = rw (place_after-append (text_before before) t) refl
     by_class String t = rw (place_after-append (text_before before) t) refl
-    by_class Operator t = rw (place_after-append (text_before before) t) refl
+    by_class (Operator o) t = rw (place_after-append (text_before before) t) refl
     by_class Comment t = rw (place_after-append (text_before before) t) refl
     by_class Blanks t = refl
     by_class LineEnd t = refl
@@ -86,7 +86,7 @@ unfolding gives entry_by
 unmatched s x b c e = by_class x.«class» x.text e
   where
     by_class : (k : Class) (t : List ℕ) → (closes (record { «class» = k; text = t }) && (s.depth == 0)) ≡ true → behind_steps (gives s (record { «class» = k; text = t })) b ≡ behind_steps (gives s (record { «class» = k; text = t })) c
-    by_class Operator t e = rw e (after_fault (layout_of s) (record { code = errors.UnmatchedCloser; place = s.now.place }) b c)
+    by_class (Operator o) t e = rw e (after_fault (layout_of s) (record { code = errors.UnmatchedCloser; place = s.now.place }) b c)
     by_class Name t e = cc
     by_class Number t e = cc
     by_class String t e = cc

@@ -82,7 +82,7 @@ entry_leads s x n ss f h = by_class x.«class» x.text f h
     by_class Name t f h = λ q. absurd (full_entry s.now.offset (bytes_in t) f q)
     by_class Number t f h = λ q. absurd (full_entry s.now.offset (bytes_in t) f q)
     by_class String t f h = λ q. absurd (full_entry s.now.offset (bytes_in t) f q)
-    by_class Operator t f h = cond_leads (is_closer t && (s.depth == 0)) n _ _ ss (λ _. tt) (λ _ q. absurd (full_entry s.now.offset (bytes_in t) f q))
+    by_class (Operator o) t f h = cond_leads (is_closer o && (s.depth == 0)) n _ _ ss (λ _. tt) (λ _ q. absurd (full_entry s.now.offset (bytes_in t) f q))
     by_class Comment t f h = λ q. absurd (full_entry s.now.offset (bytes_in t) f q)
     by_class Blanks t f h = h refl
     by_class LineEnd t f h = λ q. absurd (full_entry s.now.offset (bytes_in t) f q)

@@ -75,7 +75,7 @@ module _ (before : List Lexeme) where
       by_class Name t = (λ e. cc, tt)
       by_class Number t = (λ e. cc, tt)
       by_class String t = (λ e. cc, tt)
-      by_class Operator t = give_cond (is_closer t && (depth before == 0)) _ _ (tt, tt) (λ e. cc, tt)
+      by_class (Operator o) t = give_cond (is_closer o && (depth before == 0)) _ _ (tt, tt) (λ e. cc, tt)
       by_class Comment t = (λ e. cc, tt)
       by_class Blanks t = tt
       by_class LineEnd t = (line_end, tt)

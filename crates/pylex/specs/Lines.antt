@@ -3,10 +3,9 @@ use Rattle.std.specs.Prelude.{ℕ, ◌-◌, ◌+◌, ◌*◌, ◌/◌, Bool, tru
 use Rattle.std.specs.List.{list_all, list_any, prefix_len}
 use Rattle.std.specs.Str.{encode_utf8_all}
 use Rattle.pylexeme.specs.declared.lexeme.Class.{Class}
-use Rattle.pylexeme.specs.declared.lexeme.Class.TheVariants.{Operator, Comment, Blanks, LineEnd}
+use Rattle.pylexeme.specs.declared.lexeme.Class.TheVariants.{Comment, Blanks, LineEnd}
 use Rattle.pysource.specs.declared.places.Place.{Place}
-use Rattle.pylexeme.specs.Operators.{is_opener, is_closer}
-use Rattle.pylexeme.specs.Lexemes.{Lexeme, is_blanks_class, is_line_end_class, is_thing_class}
+use Rattle.pylexeme.specs.Lexemes.{Lexeme, is_blanks_class, is_line_end_class, is_thing_class, is_opener_class, is_closer_class}
 
 -- the text of the lexemes before a place
 abbrev pub text_before : List Lexeme → List ℕ
@@ -18,10 +17,10 @@ unfoldable pub place_after : List ℕ → Place
 place_after cs = record { row = 1 + count_by (λ c. c == 10) cs; column = prefix_len (λ c. not (c == 10)) (reverse cs) }
 
 abbrev pub opens : Lexeme → Bool
-opens x = elim x.«class» [ Operator ↦ is_opener x.text | _ ↦ false ]
+opens x = is_opener_class x.«class»
 
 abbrev pub closes : Lexeme → Bool
-closes x = elim x.«class» [ Operator ↦ is_closer x.text | _ ↦ false ]
+closes x = is_closer_class x.«class»
 
 -- the brackets that are open at a place: opening ones less closing ones, whatever their kind (reference 2.1.6)
 unfoldable pub depth : List Lexeme → ℕ

@@ -16,7 +16,7 @@ use Rattle.pylex.specs.declared.entries.Step.{Step}
 use Rattle.pylex.specs.declared.entries.Step.TheVariants as steps
 use Rattle.pylexeme.specs.Chars.{is_blank_char}
 use Rattle.pylexeme.specs.Strings.{opens_string}
-use Rattle.pylexeme.specs.Operators.{exact_of, is_closer}
+use Rattle.pylexeme.specs.Operators.{is_closer}
 use Rattle.pylexeme.specs.Lexemes.{Lexeme, cut, left_by_cut, is_open_string}
 use Rattle.pylex.specs.Lines.{text_before, place_after, depth, is_thing, line_so_far, before_line, is_at_margin, is_logical, width_at, widths}
 use Rattle.pylexeme.specs.Chars.{bytes_in}
@@ -78,7 +78,7 @@ entry_of before x = elim x.«class» [
   | Name ↦ lexeme_piece kinds.Name None before x.text
   | Number ↦ lexeme_piece kinds.Number None before x.text
   | String ↦ lexeme_piece kinds.String None before x.text
-  | Operator ↦ if is_closer x.text && (depth before == 0) then fault_at errors.UnmatchedCloser (place_after (text_before before)) ∷ [] else lexeme_piece kinds.Op (exact_of x.text) before x.text
+  | Operator o ↦ if is_closer o && (depth before == 0) then fault_at errors.UnmatchedCloser (place_after (text_before before)) ∷ [] else lexeme_piece kinds.Op (Some o) before x.text
   | Comment ↦ lexeme_piece kinds.Comment None before x.text
   | Blanks ↦ []
   | LineEnd ↦ piece (line_end_kind before) None (text_before before) x.text (further (place_after (text_before before)) (length x.text)) ∷ []

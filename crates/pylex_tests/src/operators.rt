@@ -1,7 +1,7 @@
 //! The exact types of operators.
 
 use pylexeme::kinds::Exact;
-use pylexeme::operators::{exact_of, is_closer, is_opener};
+use pylexeme::operators::exact_of;
 use std::test::Fail;
 
 #[test]
@@ -18,15 +18,13 @@ fn names_operators(rt: HostRuntime) -> Result<(), Fail> {
 }
 
 #[test]
-fn tells_brackets(rt: HostRuntime) -> Result<(), Fail> {
-    for (text, opens, closes) in [
-        ("[", true, false),
-        ("]", false, true),
-        ("<", false, false),
-        ("([", false, false),
+fn tells_brackets(rt: HostRuntime) {
+    for (exact, opens, closes) in [
+        (Exact::LSqb, true, false),
+        (Exact::RSqb, false, true),
+        (Exact::Less, false, false),
     ] {
-        assert_eq!(rt; is_opener(text), opens, "{text}");
-        assert_eq!(rt; is_closer(text), closes, "{text}");
+        assert_eq!(rt; exact.is_opener(), opens);
+        assert_eq!(rt; exact.is_closer(), closes);
     }
-    Ok(())
 }
