@@ -28,6 +28,7 @@ use Rattle.pylex.proofs.Ahead.{front_is}
 use Rattle.pylex.proofs.Agreement.{same_front_bytes}
 use Rattle.pylex.proofs.OpenLevels.{Grounded, grounded}
 use Rattle.pylex.proofs.Cursoring.{cursor_point, offset_at, line_bytes}
+use Rattle.pylex.proofs.Callers.{is_behind}
 
 -- The row.
 rows_within : (t : List ℕ) → (place_after t).row ≤ 1 + bytes_in t
@@ -233,7 +234,7 @@ boundary_at text n u e =
     subst (IsCharBoundary text) e (IsCharBoundary-at_seam text (encode_utf8_all f) (encode_utf8_all b) parts (b, (good, refl)))
 
 shown_small : (l : Listed) (a : Source) (k : ℕ) → StandsIn l a k → SmallParts l.shown a
-shown_small l a k h = subst (λ (c : CursorParts). SmallParts c a) (sym h.cursor.is) (small_parts a l.shown.given)
+shown_small l a k h = subst (λ (c : CursorParts). SmallParts c a) (sym (is_behind h.cursor).is) (small_parts a l.shown.given)
 
 -- the length of the text in hand is that of the source that the lister stands in
 pub text_length : (l : Listed) (a : Source) (k : ℕ) → IsUtf8 l.source.text → StandsIn l a k → bytes_in a.text ≡ length l.source.text

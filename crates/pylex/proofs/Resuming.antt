@@ -32,6 +32,7 @@ use Rattle.pylex.proofs.Ends.{stop_is_fault}
 use Rattle.pylex.proofs.Resumed.{resumed_start}
 use Rattle.pylex.proofs.LexemeClasses.{lexeme_says}
 use Rattle.pylex.proofs.Ahead.{ahead, Placed, placed_next, placed_first, history_is, ahead_runs, ahead_own, ahead_indented, ahead_indented_stop}
+use Rattle.pylex.proofs.Callers.{is_behind}
 
 -- behind each entry with text there stands what is ahead by the cursor there
 abbrev Resumable : Source → List Step → Type 0
@@ -316,4 +317,4 @@ resumes v s k h = ap to_give h.is ∙ at_each s k h.within
 
 -- a cursor of a source stands in each source that agrees with it from its line on
 pub stands_in_agreeing : StandsInAgreeing
-stands_in_agreeing a b c h g = record { within = h.within; is = agreeing a b c g ∙ ap (standing_by a) h.is }
+stands_in_agreeing a b c h g = let own = is_behind h in record { within = own.within; is = agreeing a b c g ∙ ap (standing_by a) own.is }

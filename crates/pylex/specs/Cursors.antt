@@ -1,5 +1,6 @@
 -- Cursors: what is kept of a listing after some of its entries.
-use Rattle.std.specs.Prelude.{ℕ, nat_le, Bool, true, false, not, ◌||◌, ◌==◌, List, [], ◌∷◌, ◌++◌, take, drop, reverse, count_by, if◌then◌else◌, decimal, codes}
+use Rattle.std.specs.Prelude.{ℕ, nat_le, Bool, true, false, not, ◌&&◌, ◌||◌, ◌==◌, eqb, List, [], ◌∷◌, ◌++◌, take, drop, reverse, count_by, if◌then◌else◌, decimal, codes}
+use lib.Pointwise.{pointwise}
 use Rattle.std.specs.List.{prefix_len}
 use Rattle.pylex.specs.declared.entries.Entry.{Entry}
 use Rattle.pylex.specs.declared.kinds.Kind.TheVariants as kinds
@@ -76,6 +77,10 @@ with_commas (n ∷ m ∷ ns) = decimal n ++ codes "," ++ with_commas (m ∷ ns)
 
 abbrev pub flag : Bool → ℕ
 flag b = if b then 1 else 0
+
+-- the same number is in each part of two cursors
+abbrev pub same_parts : CursorParts → CursorParts → Bool
+same_parts c d = (c.given == d.given) && ((c.offset == d.offset) && ((c.row == d.row) && ((c.depth == d.depth) && ((flag c.begun == flag d.begun) && ((c.skip == d.skip) && pointwise eqb c.levels d.levels)))))
 
 -- a part, and a blank before it
 abbrev pub part : ℕ → List ℕ

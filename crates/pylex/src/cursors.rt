@@ -11,9 +11,9 @@ ghost use Rattle.pylex.specs.Standing.{resumed};
 ghost use Rattle.pylex.specs.Listers.{shown_at, shown_by};
 ghost use Rattle.std.specs.Str.{chars};
 
-use pylexeme::scanner::char_count;
 use crate::state::{Point, Progress, front_of};
 use itoa::Buffer;
+use pylexeme::scanner::char_count;
 use pysource::Place;
 use std::alloc::{AllocError, Global};
 use std::marker::Model;

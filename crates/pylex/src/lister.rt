@@ -6,6 +6,7 @@ ghost use Rattle.pylex.specs.Listing.{last_line, listing, in_characters};
 ghost use Rattle.pylex.specs.Laws.{IsLawful, AllLie};
 ghost use Rattle.pylex.specs.Standing.{IsCursorOf};
 ghost use Rattle.pylex.specs.Listers.{StandsIn, LeadsInto, Moves, AwaitsIndent};
+ghost use Rattle.pylex.specs.Steps.{most_entries};
 
 use crate::cursors::{Cursor, CursorFault};
 use crate::entries::Step;
@@ -71,6 +72,7 @@ impl<'a> Lister<'a> {
         ensures source { self.new.source ≡ self.old.source }
         ensures same { OnErr result (self.new ≡ self.old) }
         ensures indent { OnErr result (AwaitsIndent self.old) }
+        ensures given { self.new.shown.given ≤ most_entries }
     {
         if self.position.given == 0 {
             self.position.given = 1;
@@ -95,7 +97,8 @@ impl<'a> Lister<'a> {
 
     /// The lister's cursor: what is kept of the listing behind the entries that were given.
     pub fn cursor(&self) -> Result<Cursor, AllocError>
-        ensures { IfOk result (λ cursor. cursor ≡ self.entry.now.shown) }
+        ensures shown { IfOk result (λ cursor. cursor ≡ self.entry.now.shown) }
+        ensures leads { IfOk result (λ cursor. LeadsInto cursor self.entry.now.source) }
     {
         self.position.cursor()
     }
@@ -157,6 +160,7 @@ impl<'a> Lister<'a> {
     ) -> Result<Lister<'a>, CursorFault>
         ensures lister { IfOk result (λ lister. lister ≡ record { source = source.now; shown = cursor.now }) }
         ensures own { OnOk result (IsCursorOf cursor.now (in_characters source.now)) }
+        ensures leads { OnOk result (LeadsInto cursor.now source.now) }
         ensures another { IfErr result (λ fault. fault ≡ CursorFault.AnotherSource → IsCursorOf cursor.now (in_characters source.now) → ⊥) }
         ensures fault { IfErr result (λ fault. fault ≢ CursorFault.Text) }
     {

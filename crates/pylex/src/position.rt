@@ -12,8 +12,8 @@ ghost use Rattle.pylex.specs.Positions.{FaultsFirst, HasPlace, IsSame, Went, sho
 use crate::cursors::{Cursor, Shown};
 use crate::entries::{Entry, ListingError, ListingFault, Step};
 use crate::kinds::Kind;
-use pylexeme::lexeme::{begins_thing, cut};
 use crate::state::{Given, Progress, entry_of, mark};
+use pylexeme::lexeme::{begins_thing, cut};
 use pylexeme::string::{is_open_string, opens_string};
 use pysource::{LineFault, Place};
 use std::alloc::{AllocError, Global};

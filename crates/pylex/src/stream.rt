@@ -9,7 +9,8 @@ ghost use Rattle.pysource.specs.declared.streams.Reach.{Reach};
 ghost use Rattle.pysource.specs.Streams.{Refuses};
 ghost use Rattle.pylex.specs.ListingLines.{text_of};
 ghost use Rattle.pylexeme.specs.Lexemes.{is_open_string};
-ghost use Rattle.pylex.specs.Streamed.{Begins, MissesBy, IsEndedBy, StreamsIn, IsStreaming, MeetsIn, Looks, LooksAhead, Passes, Searches, Steps, Lacks, lacks, streamed};
+ghost use Rattle.pylex.specs.Steps.{most_entries};
+ghost use Rattle.pylex.specs.Streamed.{Begins, BeginsAnew, MissesBy, IsEndedBy, StreamsIn, IsStreaming, MeetsIn, Looks, LooksAhead, Passes, Searches, Steps, Lacks, lacks, streamed};
 
 use crate::chunk::Chunk;
 use crate::cursors::Cursor;
@@ -196,7 +197,7 @@ impl LineLister {
     /// As [`LineReader::new`].
     pub fn new<R: ByteIn>(alloc: Global, reader: &mut R) -> Result<LineLister, StreamFault>
         requires { R.failure_count reader.old < 2 ^ 64 - 1 }
-        ensures begins { IfOk result (λ v. Begins (R.to_come reader.old) (R.to_come reader.new) (R.failure_count reader.old) (R.failure_count reader.new) v 0) }
+        ensures begins { IfOk result (BeginsAnew (R.to_come reader.old) (R.to_come reader.new) (R.failure_count reader.old) (R.failure_count reader.new)) }
         ensures given { IfOk result (λ v. v.shown.given ≡ 0) }
         ensures refuses { IfErr result (λ fault. Refuses (R.to_come reader.old) (R.to_come reader.new) (R.failure_count reader.old) (R.failure_count reader.new) fault) }
     {
@@ -263,7 +264,8 @@ impl LineLister {
     #[inline(always)]
     pub fn next<R: ByteIn>(&mut self, reader: &mut R) -> Result<Step, AllocError>
         requires { self.old.lines.reach ≡ Reach.Reading → R.failure_count reader.old < 2 ^ 64 - 1 }
-        ensures { Steps (R.to_come reader.old) (R.to_come reader.new) (R.failure_count reader.old) (R.failure_count reader.new) self.old self.new result }
+        ensures steps { Steps (R.to_come reader.old) (R.to_come reader.new) (R.failure_count reader.old) (R.failure_count reader.new) self.old self.new result }
+        ensures given { self.new.shown.given ≤ most_entries }
     {
         if self.position.given == 0 {
             self.position.given = 1;
@@ -292,7 +294,8 @@ impl LineLister {
         requires reading { self.old.lines.reach ≡ Reach.Reading → R.failure_count reader.old < 2 ^ 64 - 1 }
         requires given { 0 < self.old.shown.given }
         requires last { self.old.last ≡ None }
-        ensures { Steps (R.to_come reader.old) (R.to_come reader.new) (R.failure_count reader.old) (R.failure_count reader.new) self.old self.new result }
+        ensures steps { Steps (R.to_come reader.old) (R.to_come reader.new) (R.failure_count reader.old) (R.failure_count reader.new) self.old self.new result }
+        ensures given { self.new.shown.given ≤ most_entries }
     {
         let found = match find(&mut self.position, &mut self.chunk, reader) {
             Ok(found) => found,

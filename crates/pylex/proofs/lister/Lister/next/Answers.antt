@@ -8,6 +8,7 @@ use Rattle.pylex.specs.declared.entries.Entry.{Entry}
 use Rattle.pylex.specs.declared.entries.Step.{Step}
 use Rattle.pylex.specs.declared.entries.Step.TheVariants as steps
 use Rattle.pylex.specs.declared.position.Meets.{Meets}
+use Rattle.pylex.specs.declared.position.Position.{Position}
 use Rattle.pylex.specs.declared.position.Meets.TheVariants as meets
 use Rattle.pylex.specs.Listing.{of_line}
 use Rattle.pylex.specs.Listers.{Listed, Moves, AwaitsIndent}
@@ -80,7 +81,18 @@ returns-in-Entry-clause-moves c =
     let g = c.in_ok-step.ensures.went.goes c.self.inside.source.now c.self.inside.left.now c.meet-meets.result.2.now c.self.invariant c.meet-meets.ensures.finds c.meet-meets.ensures.stands (alike c.self.inside.source.now.fault c.line_fault-fault.result c.meet-meets.result.1 (chars c.meet-meets.result.2.now) c.meet-meets.result.0 c.line_fault-fault.ensures) in
     seen _ _ _ _ c.self.view_is g.0
 
+pub returns-in-Entry-clause-given : goal.returns-in-Entry-clause-given
+returns-in-Entry-clause-given c =
+    let g = c.in_ok-step.ensures.went.goes c.self.inside.source.now c.self.inside.left.now c.meet-meets.result.2.now c.self.invariant c.meet-meets.ensures.finds c.meet-meets.ensures.stands (alike c.self.inside.source.now.fault c.line_fault-fault.result c.meet-meets.result.1 (chars c.meet-meets.result.2.now) c.meet-meets.result.0 c.line_fault-fault.ensures) in
+    (has_place c.self.inside.source.now c.go.new.self _ g.1).given
+
+pub returns-in_err-step-clause-given : goal.returns-in_err-step-clause-given
+returns-in_err-step-clause-given c =
+    let few = (has_place c.self.inside.source.now c.self.inside.position c.self.inside.left.now c.self.invariant).given in
+    let same = ap (λ (p : Position). p.given) c.in_err-step.ensures.same.0 in
+    omega arith
+
 pub returns-in_default : goal.returns-in_default
 returns-in_default c =
     let g = c.in_ok-step.ensures.went.goes c.self.inside.source.now c.self.inside.left.now c.meet-meets.result.2.now c.self.invariant c.meet-meets.ensures.finds c.meet-meets.ensures.stands (alike c.self.inside.source.now.fault c.line_fault-fault.result c.meet-meets.result.1 (chars c.meet-meets.result.2.now) c.meet-meets.result.0 c.line_fault-fault.ensures) in
-    record { moves = seen _ _ _ _ c.self.view_is g.0; source = ap (λ (l : Listed). l.source) c.self.view_is; same = tt; indent = tt }
+    record { moves = seen _ _ _ _ c.self.view_is g.0; source = ap (λ (l : Listed). l.source) c.self.view_is; same = tt; indent = tt; given = (has_place c.self.inside.source.now c.go.new.self _ g.1).given }

@@ -15,12 +15,16 @@ returns-clause-begins g c =
     let o = c.in-Ok.ensures in
     let e = c.new-2.ensures.lines in
     record {
-      taken = o.taken;
-      reads = rw e o.reads;
-      ahead = inr (rw e o.ahead);
-      stands = λ more broken f. (
-        source_by p c.new-2.result c.start.ensures.given c.start.ensures.point c.start.ensures.levels c.start.ensures.now c.start.ensures.nested c.start.ensures.tail c.new-2.ensures.text c.new-2.ensures.base c.new-2.ensures.at (rw e o.within) (rw e o.pending) more broken,
-        rw e (o.source more broken (rw e at f.0)),
-        streams_begin p c.new-2.result c.start.ensures.given c.start.ensures.point c.start.ensures.levels c.start.ensures.now c.start.ensures.nested c.start.ensures.tail c.new-2.ensures.text c.new-2.ensures.base c.new-2.ensures.at (rw e o.within) (rw e o.pending) more broken f,
-      );
+      begins = record {
+        taken = o.taken;
+        reads = rw e o.reads;
+        ahead = inr (rw e o.ahead);
+        stands = λ more broken f. (
+          source_by p c.new-2.result c.start.ensures.given c.start.ensures.point c.start.ensures.levels c.start.ensures.now c.start.ensures.nested c.start.ensures.tail c.new-2.ensures.text c.new-2.ensures.base c.new-2.ensures.at (rw e o.within) (rw e o.pending) more broken,
+          rw e (o.source more broken (rw e at f.0)),
+          streams_begin p c.new-2.result c.start.ensures.given c.start.ensures.point c.start.ensures.levels c.start.ensures.now c.start.ensures.nested c.start.ensures.tail c.new-2.ensures.text c.new-2.ensures.base c.new-2.ensures.at (rw e o.within) (rw e o.pending) more broken f,
+        );
+      };
+      ahead = rw e o.ahead;
+      held = c.new-2.ensures.text;
     }

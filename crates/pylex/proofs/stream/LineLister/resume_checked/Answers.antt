@@ -5,10 +5,10 @@ use Rattle.pylexeme.proofs.Cases.{bool_cases}
 use Rattle.pylex.proofs.stream.LineLister.resume_checked.Goals as goal
 
 pub returns-in-Err-next-clause-misses : goal.returns-in-Err-next-clause-misses
-returns-in-Err-next-clause-misses g c = inr (inr (refl, took_on _ _ _ _ _ _ _ _ _ c.loop-given.invariant _ c.in-Err-next.ensures))
+returns-in-Err-next-clause-misses g c = inr (inr (refl, took_on _ _ _ _ _ _ _ _ _ c.loop-given.invariant _ c.in-Err-next.ensures.steps))
 
 pub loop-given-preserved : goal.loop-given-preserved
-loop-given-preserved g c = begins_next _ _ _ _ _ _ _ _ _ c.loop-given.invariant c.in-Ok-next.step c.in-Ok-next.ensures _ c.in-Entry.is
+loop-given-preserved g c = begins_next _ _ _ _ _ _ _ _ _ c.loop-given.invariant c.in-Ok-next.step c.in-Ok-next.ensures.steps _ c.in-Entry.is
 
 pub returns-then-not-shows-clause-misses : goal.returns-then-not-shows-clause-misses
 returns-then-not-shows-clause-misses g c =
@@ -26,8 +26,8 @@ returns-in_default g c = record {
     less = omega (arith, c.loop-given-test.true, c.given-given-end.ensures)
 
     by : (is_unread c.in-Ok-next.step ≡ true) ⊎ (is_unread c.in-Ok-next.step ≡ false) → MissesBy (g.R.ByteIn.to_come c.args.reader.now) (g.R.ByteIn.to_come c.next.new.reader) (g.R.ByteIn.failure_count c.args.reader.now) (g.R.ByteIn.failure_count c.next.new.reader) c.args.cursor.now c.ended_before.result
-    by (inr u) = rw (c.ended_before.ensures.other u) (misses_stop _ _ _ _ _ _ _ _ _ c.loop-given.invariant c.in-Ok-next.step c.in-Ok-next.ensures c.in_default.not-Entry c.args.cursor.now false less u)
-    by (inl u) = rw (c.ended_before.ensures.read u) (inr (inl (refl, misses_stop _ _ _ _ _ _ _ _ _ c.loop-given.invariant c.in-Ok-next.step c.in-Ok-next.ensures c.in_default.not-Entry c.args.cursor.now true less u)))
+    by (inr u) = rw (c.ended_before.ensures.other u) (misses_stop _ _ _ _ _ _ _ _ _ c.loop-given.invariant c.in-Ok-next.step c.in-Ok-next.ensures.steps c.in_default.not-Entry c.args.cursor.now false less u)
+    by (inl u) = rw (c.ended_before.ensures.read u) (inr (inl (refl, misses_stop _ _ _ _ _ _ _ _ _ c.loop-given.invariant c.in-Ok-next.step c.in-Ok-next.ensures.steps c.in_default.not-Entry c.args.cursor.now true less u)))
 
 pub returns-clause-begins : goal.returns-clause-begins
 returns-clause-begins g c =
