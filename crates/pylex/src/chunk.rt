@@ -125,10 +125,7 @@ impl Chunk {
     {
         let literal = open_literal(&self.text[at..]);
         let from = self.text.len();
-        let line = match self.add_line(reader, at) {
-            Ok(line) => line,
-            Err(error) => return Err(error),
-        };
+        let line = self.add_line(reader, at)?;
         let Line::Text = line else {
             return Ok(line);
         };
@@ -147,10 +144,7 @@ impl Chunk {
         ensures longer { IfOk result (λ _. IsLonger (string_bytes self.old.text) (string_bytes self.new.text)) }
         ensures on { ReadsOn (R.to_come reader.old) (R.to_come reader.new) (R.failure_count reader.old) (R.failure_count reader.new) self.old self.new at result }
     {
-        let line = match self.lines.next_line(reader, &mut self.text) {
-            Ok(line) => line,
-            Err(error) => return Err(error),
-        };
+        let line = self.lines.next_line(reader, &mut self.text)?;
         if let Line::Text = line {
             self.at = at;
         }
@@ -165,10 +159,7 @@ impl Chunk {
         ensures on { ReadsOn (R.to_come reader.old) (R.to_come reader.new) (R.failure_count reader.old) (R.failure_count reader.new) self.old self.new (length (string_bytes self.old.text)) result }
         ensures holds { HoldsOn self.old self.new (length (string_bytes self.old.text)) result }
     {
-        let line = match self.lines.next_line(reader, &mut self.spare) {
-            Ok(line) => line,
-            Err(error) => return Err(error),
-        };
+        let line = self.lines.next_line(reader, &mut self.spare)?;
         if let Line::Text = line {
             self.base += self.text.len();
             mem::swap(&mut self.text, &mut self.spare);

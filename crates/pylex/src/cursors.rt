@@ -57,7 +57,7 @@ pub struct Cursor {
 
 /// What a cursor tells of its point: directly behind the last entry with text in the source, or at its start.
 #[derive(Clone, Copy, Debug, PartialEq, Eq)]
-pub struct Shown {
+pub(crate) struct Shown {
     pub offset: usize,
     pub row: usize,
     pub depth: usize,
@@ -66,7 +66,7 @@ pub struct Shown {
 
 impl Shown {
     /// Directly behind an entry.
-    pub fn at(now: Progress) -> Shown
+    pub(crate) fn at(now: Progress) -> Shown
         ensures { (k : ℕ) (levels : List ℕ) → shown_by k result levels 0 ≡ shown_at k (with_levels now (0 ∷ levels)) }
     {
         Shown {
@@ -79,7 +79,7 @@ impl Shown {
 
     #[tactic(auto, unfolding(crate::specs::Standing::resumed))]
     /// How far a lister has come there; the point's line so far is this.
-    pub fn progress(self, line: &str) -> Progress
+    pub(crate) fn progress(self, line: &str) -> Progress
         requires { length line.now < 2 ^ 62 }
         ensures { (k n : ℕ) (levels : List ℕ) → with_levels result (0 ∷ levels) ≡ resumed (shown_by k self levels n) (chars line.now) }
     {
@@ -259,21 +259,21 @@ impl Cursor {
     }
 
     /// How many entries were given.
-    pub fn given(&self) -> usize
+    pub(crate) fn given(&self) -> usize
         ensures { result ≡ self.now.given }
     {
         self.given as usize
     }
 
     /// How many entries of empty text were given after the point.
-    pub fn skip(&self) -> usize
+    pub(crate) fn skip(&self) -> usize
         ensures { result ≡ self.now.skip }
     {
         self.skip as usize
     }
 
     /// The cursor's point.
-    pub fn point(&self) -> Shown
+    pub(crate) fn point(&self) -> Shown
         ensures { (k n : ℕ) (levels : List ℕ) → shown_by k result levels n ≡ record self.now { given = k; levels = 0 ∷ levels; skip = n } }
     {
         Shown {
@@ -285,7 +285,7 @@ impl Cursor {
     }
 
     /// The levels above 0 that are open at the point.
-    pub fn levels(&self, alloc: Global) -> Result<Vec<usize>, AllocError>
+    pub(crate) fn levels(&self, alloc: Global) -> Result<Vec<usize>, AllocError>
         ensures { IfOk result (λ levels. self.now.levels ≡ 0 ∷ levels.items) }
     {
         let mut levels = Vec::new(alloc);
@@ -296,7 +296,7 @@ impl Cursor {
     }
 
     /// Whether this is the cursor at a point, by the same parts.
-    pub fn is_at(&self, given: usize, point: Shown, levels: &[usize], skip: usize) -> bool
+    pub(crate) fn is_at(&self, given: usize, point: Shown, levels: &[usize], skip: usize) -> bool
         ensures { IsTrue result ↔ (self.now ≡ shown_by given point levels.now skip) }
     {
         self.given == given as u64

@@ -103,10 +103,7 @@ fn find<R: ByteIn>(
         if !lacks(&chunk.text[found.at..]) {
             return Ok(found);
         }
-        let line = match chunk.read_on(reader, found.at) {
-            Ok(line) => line,
-            Err(error) => return Err(error),
-        };
+        let line = chunk.read_on(reader, found.at)?;
         let Line::Text = line else {
             return Ok(Found {
                 fault: fault_of(line, chunk.lines.row()),
@@ -133,10 +130,7 @@ fn pass(
     ensures passes { Passes position.old chunk.old found (streamed position.new chunk.new last.new) result }
 {
     let left = &chunk.text[found.at..];
-    let step = match position.go(found.meets, found.now, left, found.fault) {
-        Ok(step) => step,
-        Err(error) => return Err(error),
-    };
+    let step = position.go(found.meets, found.now, left, found.fault)?;
     if let Step::Entry(entry) = step {
         chunk.at = found.at;
         *last = Some(entry);
@@ -201,10 +195,7 @@ impl LineLister {
         ensures given { IfOk result (λ v. v.shown.given ≡ 0) }
         ensures refuses { IfErr result (λ fault. Refuses (R.to_come reader.old) (R.to_come reader.new) (R.failure_count reader.old) (R.failure_count reader.new) fault) }
     {
-        let lines = match LineReader::new(alloc, reader) {
-            Ok(lines) => lines,
-            Err(fault) => return Err(fault),
-        };
+        let lines = LineReader::new(alloc, reader)?;
         Ok(LineLister {
             position: Position::start(alloc),
             chunk: Chunk::new(alloc, lines),
@@ -228,14 +219,10 @@ impl LineLister {
         ensures shown { IfOk result (λ v. v.shown ≡ cursor.now) }
         ensures misses { IfErr result (MissesBy (R.to_come reader.old) (R.to_come reader.new) (R.failure_count reader.old) (R.failure_count reader.new) cursor.now) }
     {
-        let mut lister = match LineLister::new(alloc, reader) {
-            Ok(lister) => lister,
-            Err(fault) => return Err(ResumeFault::Stream(fault)),
-        };
+        let mut lister = LineLister::new(alloc, reader).map_err(ResumeFault::Stream)?;
         for _given in 0..cursor.given() {
-            let step = match lister.next(reader) {
-                Ok(step) => step,
-                Err(_) => return Err(ResumeFault::Stream(StreamFault::Memory)),
+            let Ok(step) = lister.next(reader) else {
+                return Err(ResumeFault::Stream(StreamFault::Memory));
             };
             let Step::Entry(_) = step else {
                 return Err(ended_before(step));
@@ -297,10 +284,7 @@ impl LineLister {
         ensures steps { Steps (R.to_come reader.old) (R.to_come reader.new) (R.failure_count reader.old) (R.failure_count reader.new) self.old self.new result }
         ensures given { self.new.shown.given ≤ most_entries }
     {
-        let found = match find(&mut self.position, &mut self.chunk, reader) {
-            Ok(found) => found,
-            Err(error) => return Err(error),
-        };
+        let found = find(&mut self.position, &mut self.chunk, reader)?;
         pass(&mut self.position, &mut self.chunk, &mut self.last, found)
     }
 

@@ -44,10 +44,7 @@ impl<R: ByteIn> StreamLister<R> {
         ensures refuses { IfErr result (λ e. (come : Option (List ℕ)) × (told : ℕ) × Refuses (R.to_come reader) come (R.failure_count reader) told e) }
     {
         let told = reader.failures();
-        let lister = match LineLister::new(alloc, &mut reader) {
-            Ok(lister) => lister,
-            Err(fault) => return Err(fault),
-        };
+        let lister = LineLister::new(alloc, &mut reader)?;
         Ok(StreamLister {
             reader,
             told,
@@ -75,10 +72,7 @@ impl<R: ByteIn> StreamLister<R> {
         ensures misses { IfErr result (λ e. (come : Option (List ℕ)) × (told : ℕ) × MissesBy (R.to_come reader) come (R.failure_count reader) told cursor.now e) }
     {
         let told = reader.failures();
-        let lister = match LineLister::resume_checked(alloc, &mut reader, cursor) {
-            Ok(lister) => lister,
-            Err(fault) => return Err(fault),
-        };
+        let lister = LineLister::resume_checked(alloc, &mut reader, cursor)?;
         Ok(StreamLister {
             reader,
             told,
