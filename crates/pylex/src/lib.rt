@@ -10,7 +10,7 @@
 mod chunk;
 mod cursors;
 mod entries;
-pub mod kinds;
+mod kinds;
 mod lines;
 mod lister;
 mod position;

@@ -10,10 +10,8 @@ ghost use Rattle.pylex.specs.Steps.{most_entries};
 
 use crate::cursors::{Cursor, CursorFault};
 use crate::entries::Step;
-use crate::kinds::Kind;
 use crate::position::Position;
-use crate::state::mark;
-use pysource::{Place, Source};
+use pysource::Source;
 use std::alloc::{AllocError, Global};
 use std::marker::Model;
 
@@ -74,10 +72,8 @@ impl<'a> Lister<'a> {
         ensures indent { OnErr result (AwaitsIndent self.old) }
         ensures given { self.new.shown.given ≤ most_entries }
     {
-        if self.position.given == 0 {
-            self.position.given = 1;
-            let origin = Place { row: 0, column: 0 };
-            return Ok(Step::Entry(mark(Kind::Encoding, 0, origin, origin)));
+        if self.position.is_at_start() {
+            return Ok(Step::Entry(self.position.begin()));
         }
         let (meets, now, left) = self.position.meet(self.left);
         let fault = self.source.line_fault();
@@ -115,17 +111,10 @@ impl<'a> Lister<'a> {
         let point = cursor.point();
         let levels = cursor.levels(alloc)?;
         let (before, left) = source.text().split_at(point.offset);
-        let nested = levels.len();
+        let given = cursor.given() - cursor.skip();
         Ok(Lister {
             source,
-            position: Position {
-                given: cursor.given() - cursor.skip(),
-                point,
-                levels,
-                now: point.progress(last_line(before)),
-                nested,
-                tail: 0,
-            },
+            position: Position::at(given, point, levels, last_line(before)),
             left,
         })
     }

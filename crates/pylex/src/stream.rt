@@ -17,7 +17,7 @@ use crate::cursors::Cursor;
 use crate::entries::{Entry, ListingError, Step};
 use crate::kinds::Kind;
 use crate::position::{Meets, Position};
-use crate::state::{Progress, mark};
+use crate::state::Progress;
 use pylexeme::string::is_open_string;
 use pysource::{ByteIn, Line, LineError, LineFault, LineReader, Place, StreamFault};
 use std::alloc::{AllocError, Global};
@@ -45,7 +45,7 @@ fn look(position: &Position, chunk: &Chunk) -> Found
     if chunk.at == chunk.text.len() {
         return Found {
             meets: Meets::Stop,
-            now: position.now,
+            now: position.now(),
             at: chunk.at,
             fault: None,
         };
@@ -110,7 +110,7 @@ fn find<R: ByteIn>(
                 ..found
             });
         };
-        position.now = found.now;
+        position.look_from(found.now);
     }
 }
 
@@ -254,10 +254,8 @@ impl LineLister {
         ensures steps { Steps (R.to_come reader.old) (R.to_come reader.new) (R.failure_count reader.old) (R.failure_count reader.new) self.old self.new result }
         ensures given { self.new.shown.given ≤ most_entries }
     {
-        if self.position.given == 0 {
-            self.position.given = 1;
-            let origin = Place { row: 0, column: 0 };
-            let entry = mark(Kind::Encoding, 0, origin, origin);
+        if self.position.is_at_start() {
+            let entry = self.position.begin();
             self.last = Some(entry);
             return Ok(Step::Entry(entry));
         }

@@ -36,8 +36,8 @@ loop-chunk-preserved g c =
     let holds = rw c.in-Text.is at c.in_ok-line.ensures.holds in
     let lack : lacks (drop c.look-found.result.at (string_bytes c.loop-chunk.chunk.text)) ≡ true = (rw (← c.deref.ensures, ← c.range_from.ensures.value) (sym c.if-not-lacks.ensures)) in
     record {
-      searches = searches_line _ _ _ _ _ _ c.args.position.now c.loop-chunk.position c.args.chunk.now c.loop-chunk.chunk c.read_on.new.self c.look-found.result c.loop-chunk.invariant.searches c.look-found.ensures.looks c.in-Stop.is o lack c.requires.given holds;
-      ahead = ahead_then _ _ _ _ _ _ c.args.position.now c.loop-chunk.position c.args.chunk.now c.loop-chunk.chunk c.read_on.new.self c.look-found.result c.loop-chunk.invariant.searches c.look-found.ensures.looks c.in-Stop.is o lack holds c.loop-chunk.invariant.ahead;
+      searches = rw c.look_from.ensures (searches_line _ _ _ _ _ _ c.args.position.now c.loop-chunk.position c.args.chunk.now c.loop-chunk.chunk c.read_on.new.self c.look-found.result c.loop-chunk.invariant.searches c.look-found.ensures.looks c.in-Stop.is o lack c.requires.given holds);
+      ahead = rw c.look_from.ensures (ahead_then _ _ _ _ _ _ c.args.position.now c.loop-chunk.position c.args.chunk.now c.loop-chunk.chunk c.read_on.new.self c.look-found.result c.loop-chunk.invariant.searches c.look-found.ensures.looks c.in-Stop.is o lack holds c.loop-chunk.invariant.ahead);
     }
 
 pub loop-chunk-smaller : goal.loop-chunk-smaller

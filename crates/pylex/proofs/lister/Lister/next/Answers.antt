@@ -46,12 +46,12 @@ seen old same step new e m = rw (← e) m
 pub invariant_of-self : goal.invariant_of-self
 invariant_of-self c =
     let p = c.self.inside.position in
-    (goes_first (record { source = c.self.inside.source.now; shown = shown_from p }) p.now c.self.inside.left.now p.levels.items p.nested p.tail c.mark.result c.self.invariant c.if-self-eq0.true c.mark.ensures).keeps
+    rw c.begin.ensures.given (goes_first (record { source = c.self.inside.source.now; shown = shown_from p }) p.now c.self.inside.left.now p.levels.items p.nested p.tail c.begin.result c.self.invariant (c.is_at_start.ensures.start c.if-is_at_start.true) c.begin.ensures.entry).keeps
 
-pub returns-then-self-eq0-clause-moves : goal.returns-then-self-eq0-clause-moves
-returns-then-self-eq0-clause-moves c =
+pub returns-then-is_at_start-clause-moves : goal.returns-then-is_at_start-clause-moves
+returns-then-is_at_start-clause-moves c =
     let p = c.self.inside.position in
-    moves_from _ _ _ _ c.self.view_is (goes_first (record { source = c.self.inside.source.now; shown = shown_from p }) p.now c.self.inside.left.now p.levels.items p.nested p.tail c.mark.result c.self.invariant c.if-self-eq0.true c.mark.ensures).leads
+    rw c.begin.ensures.given (moves_from _ _ _ _ c.self.view_is (goes_first (record { source = c.self.inside.source.now; shown = shown_from p }) p.now c.self.inside.left.now p.levels.items p.nested p.tail c.begin.result c.self.invariant (c.is_at_start.ensures.start c.if-is_at_start.true) c.begin.ensures.entry).leads)
 
 pub go-requires-clause-place : goal.go-requires-clause-place
 go-requires-clause-place c = has_place c.self.inside.source.now c.self.inside.position c.self.inside.left.now c.self.invariant
@@ -59,7 +59,7 @@ go-requires-clause-place c = has_place c.self.inside.source.now c.self.inside.po
 pub returns-in_err-step-clause-indent : goal.returns-in_err-step-clause-indent
 returns-in_err-step-clause-indent c =
     let p = c.self.inside.position in
-    let some : 0 < p.given = omega (arith, c.if-self-eq0.false) in
+    let some : 0 < p.given = c.is_at_start.ensures.behind c.if-is_at_start.false in
     let indent = c.in_err-step.ensures.indent in
     let none : p.tail ≡ 0 = not_stopped p.tail c.meet-meets.result.0 c.meet-meets.ensures.stop indent in
     let found = rw indent at c.meet-meets.ensures.finds in
