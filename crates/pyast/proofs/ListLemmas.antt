@@ -4,7 +4,7 @@ use Rattle.std.specs.declared.alloc.AllocError.{AllocError}
 use Rattle.std.specs.Io.KnownBytes.{Appends}
 use Rattle.pysource.specs.Parts.{Parts}
 use Rattle.pysource.specs.Streams.{Reads}
-use Rattle.pysource.specs.declared.bytes.TheConstants.{SOURCE_LIMIT}
+use Rattle.pysource.specs.Limits.{source_limit}
 use Rattle.pysource.proofs.ByteLemmas.{Appends-refl}
 use Rattle.pysource.proofs.TakingLemmas.{Takes-none, Takes-on}
 use Rattle.pylex.specs.declared.entries.Entry.{Entry}
@@ -112,7 +112,7 @@ came_next come_old come_mid come_new told_old told_mid told_new old mid new step
 
 -- a further entry is one more of those that a listing can have
 pub counts_up : (come_old come_mid come_new : Option (List ℕ)) (told_old told_mid told_new : ℕ) (old mid new : Streamed) (step : Step) (e : Entry) (exact : Bool) (count left : Option ℕ) (x y : Option (List ℕ)) (held : List ℕ)
-    → old.lines.count ≤ SOURCE_LIMIT → ((more : List ℕ) (broken : Bool) → Continues old.lines more broken → (p : Parts) × StreamsIn old p old.shown.given more broken)
+    → old.lines.count ≤ source_limit → ((more : List ℕ) (broken : Bool) → Continues old.lines more broken → (p : Parts) × StreamsIn old p old.shown.given more broken)
     → Came come_old come_mid told_old told_mid old mid exact count left x y held → Steps come_mid come_new told_mid told_new mid new (Ok step) → step ≡ steps.Entry e → new.shown.given ≤ most_entries
     → most_entries - new.shown.given < most_entries - mid.shown.given
 counts_up come_old come_mid come_new told_old told_mid told_new old mid new step e exact count left x y held limited somewhere c s is bound =

@@ -8,11 +8,12 @@ use Rattle.std.proofs.lemmas.Bool.Decides.{nat_tests}
 use Rattle.std.proofs.lemmas.List.Sums.{count_by-le-length, take_while-cons}
 use Rattle.std.proofs.lemmas.List.Elements.{All-cons, All-nil, All-from_recursion, recursion_from_All}
 use Rattle.std.proofs.Math.Nat.{div-mul-le_self}
+use Rattle.pysource.specs.Places.{place_after}
 use Rattle.pylexeme.specs.declared.lexeme.Class.{Class}
 use Rattle.pylexeme.specs.declared.lexeme.Class.TheVariants.{Name, Number, String, Operator, Comment, Blanks, LineEnd, Join}
 use Rattle.pylexeme.specs.Operators.{is_opener}
 use Rattle.pylexeme.specs.Lexemes.{Lexeme}
-use Rattle.pylex.specs.Lines.{text_before, place_after, depth, opens, is_thing, line_so_far, is_at_margin, column_after, width_from, width_at, widths}
+use Rattle.pylex.specs.Lines.{text_before, depth, opens, is_thing, line_so_far, is_at_margin, column_after, width_from, width_at, widths}
 use Rattle.pylexeme.specs.Chars.{bytes_in}
 use Rattle.pylex.specs.Levels.{below, is_open, open_levels}
 use Rattle.pylex.specs.Listing.{Source, in_characters}

@@ -5,6 +5,7 @@ use Rattle.std.specs.Str.{chars, IsUtf8}
 use Rattle.std.proofs.Math.Seq.{take-suc, take-length}
 use Rattle.std.proofs.lemmas.Bool.Decides.{nat_tests}
 use Rattle.std.proofs.lemmas.List.{length-take-le, take-append-drop}
+use Rattle.pysource.specs.Limits.{source_limit}
 use Rattle.pysource.specs.Parts.{Parts}
 use Rattle.pylex.specs.declared.entries.Entry.{Entry}
 use Rattle.pylex.specs.declared.entries.ListingFault.{ListingFault}
@@ -266,7 +267,7 @@ module _ (l : Listed) (p : Progress) (left levels : List ℕ) (nested tail : ℕ
   stop_in q ds c = is_there q ds c
 
 -- Directly behind an entry with text.
-pub keeps_behind : (l : Listed) (q r : Progress) (left ls : List ℕ) (nested tail : ℕ) → IsUtf8 l.source.text → length l.source.text ≤ 1_073_741_824 → (a : Source) × StandsIn l a l.shown.given → l.shown ≡ shown_at l.shown.given (with_levels q (0 ∷ ls)) → Stands r left → IsAscending 0 ls → nested ≡ length ls → tail ≡ 0 → IsIn (chars l.source.text) (with_levels q (0 ∷ ls)) (chars left) → ((ns : List ℕ) → with_levels r ns ≡ begun_anew (with_levels q ns)) → Keeps l r left ls nested tail
+pub keeps_behind : (l : Listed) (q r : Progress) (left ls : List ℕ) (nested tail : ℕ) → IsUtf8 l.source.text → length l.source.text ≤ source_limit → (a : Source) × StandsIn l a l.shown.given → l.shown ≡ shown_at l.shown.given (with_levels q (0 ∷ ls)) → Stands r left → IsAscending 0 ls → nested ≡ length ls → tail ≡ 0 → IsIn (chars l.source.text) (with_levels q (0 ∷ ls)) (chars left) → ((ns : List ℕ) → with_levels r ns ≡ begun_anew (with_levels q ns)) → Keeps l r left ls nested tail
 keeps_behind l q r left ls nested tail utf8 small stood is stands ascending n z i anew =
     let a : Source = in_characters l.source in
     let s : State = with_levels q (0 ∷ ls) in
@@ -417,7 +418,7 @@ module _ (l : Listed) (p : Progress) (left levels : List ℕ) (nested tail : ℕ
       }
 
 -- The counts of a lister fit.
-pub given_fits : (l : Listed) (p : Progress) (left levels : List ℕ) (nested tail : ℕ) → Keeps l p left levels nested tail → l.shown.given ≤ 3 * 1_073_741_824 + 4
+pub given_fits : (l : Listed) (p : Progress) (left levels : List ℕ) (nested tail : ℕ) → Keeps l p left levels nested tail → l.shown.given ≤ 3 * source_limit + 4
 given_fits l p left levels nested tail keeps =
     let g = given_within l keeps.stood.0 l.shown.given keeps.utf8 keeps.stood.1 in
     let s = keeps.small in
@@ -447,7 +448,7 @@ shown_first source p point ls e first at =
     let shown : shown_by 0 point ls ((length ls - 0) + 0) ≡ cursor (in_characters source) 0 = ap (λ ms. shown_by 0 point ms ((length ms - 0) + 0)) e ∙ at 0 [] ∙ ap (shown_at 0) first ∙ sym (cursor_start (in_characters source)) in
     subst (λ (c : CursorParts). StandsIn (record { source = source; shown = c }) (in_characters source) 0) (sym shown) (stands_first source)
 
-pub keeps_first : (source : Parts) (p : Progress) (point : Shown) (ls : List ℕ) → IsUtf8 source.text → length source.text ≤ 1_073_741_824 → ls ≡ [] → with_levels p (0 ∷ []) ≡ first_state → ((k : ℕ) (ms : List ℕ) → shown_by k point ms 0 ≡ shown_at k (with_levels p (0 ∷ ms))) → Keeps (record { source = source; shown = shown_by 0 point ls ((length ls - 0) + 0) }) p source.text ls 0 0
+pub keeps_first : (source : Parts) (p : Progress) (point : Shown) (ls : List ℕ) → IsUtf8 source.text → length source.text ≤ source_limit → ls ≡ [] → with_levels p (0 ∷ []) ≡ first_state → ((k : ℕ) (ms : List ℕ) → shown_by k point ms 0 ≡ shown_at k (with_levels p (0 ∷ ms))) → Keeps (record { source = source; shown = shown_by 0 point ls ((length ls - 0) + 0) }) p source.text ls 0 0
 keeps_first source p point ls utf8 small e first at =
     let none : length ls ≡ 0 = ap length e in
     let no_skip : (length ls - 0) + 0 ≡ 0 = omega arith in

@@ -4,6 +4,7 @@ use Rattle.std.specs.Str.{chars, IsUtf8, IsCharBoundary}
 use Rattle.std.proofs.Math.Seq.{take-length}
 use Rattle.std.proofs.lemmas.List.{length-take-le, take-append-drop, length-drop}
 use Rattle.std.proofs.lemmas.Str.{chars-append, length-le-encodes, IsUtf8-take, IsUtf8-drop}
+use Rattle.pysource.specs.Limits.{source_limit}
 use Rattle.pysource.specs.Parts.{Parts}
 use Rattle.pylex.specs.declared.cursors.Shown.{Shown}
 use Rattle.pylex.specs.declared.entries.Entry.{Entry}
@@ -142,7 +143,7 @@ line_within : (t : List ℕ) → length (last_line t) ≤ length t
 line_within t = let e = ap length (last_split t) in let s = length-append (lines_before t) (last_line t) in omega arith
 
 -- A lister at the point of a cursor keeps what it has to.
-pub keeps_point : (l : Listed) (p : Progress) (front left ls line : List ℕ) (nested : ℕ) → IsUtf8 l.source.text → length l.source.text ≤ 1_073_741_824 → (a : Source) × StandsIn l a l.shown.given → l.shown.levels ≡ 0 ∷ ls → nested ≡ length ls → front ≡ take l.shown.offset l.source.text → left ≡ drop l.shown.offset l.source.text → line ≡ last_line (chars front) → with_levels p (0 ∷ ls) ≡ resumed l.shown line → Keeps l p left ls nested 0
+pub keeps_point : (l : Listed) (p : Progress) (front left ls line : List ℕ) (nested : ℕ) → IsUtf8 l.source.text → length l.source.text ≤ source_limit → (a : Source) × StandsIn l a l.shown.given → l.shown.levels ≡ 0 ∷ ls → nested ≡ length ls → front ≡ take l.shown.offset l.source.text → left ≡ drop l.shown.offset l.source.text → line ≡ last_line (chars front) → with_levels p (0 ∷ ls) ≡ resumed l.shown line → Keeps l p left ls nested 0
 keeps_point l p front left ls line nested utf8 small stood levels counted front_is left_is line_is state =
     let a : Source = in_characters l.source in
     let c = l.shown in
@@ -213,13 +214,13 @@ skip_led c p h = skip_in_given (record { source = p; shown = c }) h.0 (led_stand
 pub point_led : (c : CursorParts) (p : Parts) (a : Source) → StandsIn (record { source = p; shown = c }) a c.given → StandsIn (record { source = p; shown = record c { given = c.given - c.skip; skip = 0 } }) a (c.given - c.skip)
 point_led c p a h = stands_back (record { source = p; shown = c }) a h
 
-pub keeps_led : (c : CursorParts) (p : Parts) (point : Shown) (given skip nested : ℕ) (ls : List ℕ) (now : Progress) (text front left line : List ℕ) → (h : LeadsInto c p) → Tells point c → c.levels ≡ 0 ∷ ls → given ≡ c.given → skip ≡ c.skip → nested ≡ length ls → text ≡ p.text → IsUtf8 text → length text ≤ 1_073_741_824 → front ≡ take point.offset text → left ≡ drop point.offset text → line ≡ last_line (chars front) → ((k n : ℕ) (ms : List ℕ) → with_levels now (0 ∷ ms) ≡ resumed (shown_by k point ms n) line) → Keeps (record { source = p; shown = shown_by (given - skip) point ls ((length ls - nested) + 0) }) now left ls nested 0
+pub keeps_led : (c : CursorParts) (p : Parts) (point : Shown) (given skip nested : ℕ) (ls : List ℕ) (now : Progress) (text front left line : List ℕ) → (h : LeadsInto c p) → Tells point c → c.levels ≡ 0 ∷ ls → given ≡ c.given → skip ≡ c.skip → nested ≡ length ls → text ≡ p.text → IsUtf8 text → length text ≤ source_limit → front ≡ take point.offset text → left ≡ drop point.offset text → line ≡ last_line (chars front) → ((k n : ℕ) (ms : List ℕ) → with_levels now (0 ∷ ms) ≡ resumed (shown_by k point ms n) line) → Keeps (record { source = p; shown = shown_by (given - skip) point ls ((length ls - nested) + 0) }) now left ls nested 0
 keeps_led c p point given skip nested ls now text front left line h tells levels g s n t utf8 small front_is left_is line_is state =
     let shown : CursorParts = shown_by (given - skip) point ls ((length ls - nested) + 0) in
     let parts : shown ≡ record c { given = c.given - c.skip; skip = 0 } = point_parts c point given skip nested ls tells levels g s n in
     let count : c.given - c.skip ≡ given - skip = omega arith in
     let stands : StandsIn (record { source = p; shown = shown }) h.0 (given - skip) = subst (λ (k : ℕ). StandsIn (record { source = p; shown = shown }) h.0 k) count (subst (λ (d : CursorParts). StandsIn (record { source = p; shown = d }) h.0 (c.given - c.skip)) (sym parts) (point_led c p h.0 (led_stands c p h))) in
-    keeps_point (record { source = p; shown = shown }) now front left ls line nested (subst IsUtf8 t utf8) (subst (λ (xs : List ℕ). length xs ≤ 1_073_741_824) t small) (h.0, stands) refl n (front_is ∙ ap (take point.offset) t) (left_is ∙ ap (drop point.offset) t) line_is (state (given - skip) ((length ls - nested) + 0) ls)
+    keeps_point (record { source = p; shown = shown }) now front left ls line nested (subst IsUtf8 t utf8) (subst (λ (xs : List ℕ). length xs ≤ source_limit) t small) (h.0, stands) refl n (front_is ∙ ap (take point.offset) t) (left_is ∙ ap (drop point.offset) t) line_is (state (given - skip) ((length ls - nested) + 0) ls)
 
 -- Past the entries without text, a lister stands where the cursor does.
 pub begins_back : (c : CursorParts) (p : Parts) (l : Listed) (a : Source) → l ≡ record { source = p; shown = record c { given = c.given - c.skip; skip = 0 } } → IsCursorOf c a → Agrees a (in_characters p) c.offset → StandsIn l a ((c.given - c.skip) + 0)

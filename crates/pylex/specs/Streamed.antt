@@ -8,7 +8,7 @@ use Rattle.pysource.specs.Taking.{Takes}
 use Rattle.pysource.specs.declared.streams.Reach.{Reach}
 use Rattle.pylex.specs.declared.stream.ResumeFault.{ResumeFault}
 use Rattle.pylex.specs.declared.stream.ResumeFault.TheVariants as resumes
-use Rattle.pysource.specs.declared.bytes.TheConstants.{SOURCE_LIMIT}
+use Rattle.pysource.specs.Limits.{source_limit}
 use Rattle.pysource.specs.declared.faults.LineError.TheVariants.{Unread}
 use Rattle.pysource.specs.declared.faults.LineFault.{LineFault}
 use Rattle.pysource.specs.declared.streams.Line.{Line}
@@ -56,7 +56,7 @@ pub record Streamed : Type 0 where
 
 -- what may follow the bytes that were taken, of a source within its limit
 abbrev pub Continues : Buffered → List ℕ → Bool → Type 0
-Continues b more broken = Follows b more broken × (b.count + length more ≤ SOURCE_LIMIT)
+Continues b more broken = Follows b more broken × (b.count + length more ≤ source_limit)
 
 -- what is to come behind the text that is held
 abbrev pub ahead : Streamed → List ℕ → Bool → Coming
@@ -108,7 +108,7 @@ streamed p c last = record {
 pub record IsStreaming (p : Position) (c : Chunk) (last : Option Entry) : Type 0 where
   pub chunk : IsChunk c
   pub text : IsUtf8 (string_bytes c.text)
-  pub within : c.lines.count ≤ SOURCE_LIMIT
+  pub within : c.lines.count ≤ source_limit
   pub left : IsUtf8 (drop c.at (string_bytes c.text))
   pub lexed : LexedTo (chars (drop c.at (string_bytes c.text))) (chars (string_bytes c.text))
   pub joined : IsJoined [] (string_bytes c.text)
