@@ -1,10 +1,7 @@
 -- Places, depth and lines. The lexemes before a place stand last first.
-use Rattle.std.specs.Prelude.{ℕ, ◌-◌, ◌+◌, ◌*◌, ◌/◌, Bool, true, false, not, ◌&&◌, ◌==◌, List, [], ◌∷◌, ◌++◌, length, drop, reverse, count_by, if◌then◌else◌}
-use Rattle.std.specs.List.{list_all, list_any, prefix_len}
-use Rattle.std.specs.Str.{encode_utf8_all}
-use Rattle.pylexeme.specs.declared.lexeme.Class.{Class}
-use Rattle.pylexeme.specs.declared.lexeme.Class.TheVariants.{Operator, Comment, Blanks, LineEnd}
-use Rattle.pysource.specs.declared.places.Place.{Place}
+use Rattle.std.specs.Prelude.{ℕ, ◌-◌, ◌+◌, ◌*◌, ◌/◌, Bool, false, ◌&&◌, ◌==◌, List, [], ◌∷◌, ◌++◌, length, drop, count_by, if◌then◌else◌}
+use Rattle.std.specs.List.{list_all, list_any}
+use Rattle.pylexeme.specs.declared.lexeme.Class.TheVariants.{Operator}
 use Rattle.pylexeme.specs.Operators.{is_opener, is_closer}
 use Rattle.pylexeme.specs.Lexemes.{Lexeme, is_blanks_class, is_line_end_class, is_thing_class}
 

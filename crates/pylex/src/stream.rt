@@ -4,6 +4,7 @@
 
 ghost use Rattle.std.specs.Prelude.{◌≡◌, ◌≤◌, ◌<◌, ◌-◌, ◌+◌, ◌^◌, ◌||◌, ℕ, List, Bool, length, drop, string_bytes, Ok, Err, Option, Some, None, IfOk, IfErr, IfSome, IsTrue, ◌↔◌, Result};
 ghost use Rattle.std.specs.Str.{chars};
+ghost use Rattle.pysource.specs.Bytes.{IsSteady};
 ghost use Rattle.pysource.specs.Parts.{Parts};
 ghost use Rattle.pysource.specs.declared.streams.Reach.{Reach};
 ghost use Rattle.pysource.specs.Streams.{Refuses};
@@ -94,6 +95,7 @@ fn find<R: ByteIn>(
     ensures ahead { IfOk result (λ f. LooksAhead f chunk.old.lines chunk.new.lines) }
     ensures searches { Searches (R.to_come reader.old) (R.to_come reader.new) (R.failure_count reader.old) (R.failure_count reader.new) position.old position.new chunk.old chunk.new }
     ensures meets { IfOk result (MeetsIn position.new chunk.new) }
+    ensures steady { IsSteady (R.may_fail reader.old) (R.may_fail reader.new) (R.failure_count reader.old) (R.failure_count reader.new) }
 {
     loop {
         let found = look(position, chunk);
@@ -194,6 +196,7 @@ impl LineLister {
         ensures begins { IfOk result (BeginsAnew (R.to_come reader.old) (R.to_come reader.new) (R.failure_count reader.old) (R.failure_count reader.new)) }
         ensures given { IfOk result (λ v. v.shown.given ≡ 0) }
         ensures refuses { IfErr result (λ fault. Refuses (R.to_come reader.old) (R.to_come reader.new) (R.failure_count reader.old) (R.failure_count reader.new) fault) }
+        ensures steady { IsSteady (R.may_fail reader.old) (R.may_fail reader.new) (R.failure_count reader.old) (R.failure_count reader.new) }
     {
         let lines = LineReader::new(alloc, reader)?;
         Ok(LineLister {
@@ -218,6 +221,7 @@ impl LineLister {
         ensures begins { IfOk result (λ v. Begins (R.to_come reader.old) (R.to_come reader.new) (R.failure_count reader.old) (R.failure_count reader.new) v cursor.now.given) }
         ensures shown { IfOk result (λ v. v.shown ≡ cursor.now) }
         ensures misses { IfErr result (MissesBy (R.to_come reader.old) (R.to_come reader.new) (R.failure_count reader.old) (R.failure_count reader.new) cursor.now) }
+        ensures steady { IsSteady (R.may_fail reader.old) (R.may_fail reader.new) (R.failure_count reader.old) (R.failure_count reader.new) }
     {
         let mut lister = LineLister::new(alloc, reader).map_err(ResumeFault::Stream)?;
         for _given in 0..cursor.given() {
@@ -253,6 +257,7 @@ impl LineLister {
         requires { self.old.lines.reach ≡ Reach.Reading → R.failure_count reader.old < 2 ^ 64 - 1 }
         ensures steps { Steps (R.to_come reader.old) (R.to_come reader.new) (R.failure_count reader.old) (R.failure_count reader.new) self.old self.new result }
         ensures given { self.new.shown.given ≤ most_entries }
+        ensures steady { IsSteady (R.may_fail reader.old) (R.may_fail reader.new) (R.failure_count reader.old) (R.failure_count reader.new) }
     {
         if self.position.is_at_start() {
             let entry = self.position.begin();
@@ -281,6 +286,7 @@ impl LineLister {
         requires last { self.old.last ≡ None }
         ensures steps { Steps (R.to_come reader.old) (R.to_come reader.new) (R.failure_count reader.old) (R.failure_count reader.new) self.old self.new result }
         ensures given { self.new.shown.given ≤ most_entries }
+        ensures steady { IsSteady (R.may_fail reader.old) (R.may_fail reader.new) (R.failure_count reader.old) (R.failure_count reader.new) }
     {
         let found = find(&mut self.position, &mut self.chunk, reader)?;
         pass(&mut self.position, &mut self.chunk, &mut self.last, found)

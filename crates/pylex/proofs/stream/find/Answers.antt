@@ -1,6 +1,7 @@
 use Rattle.std.proofs.Common.{◌≡◌, true, length, drop, ap, sym, arith, string_bytes, length-append}
 use Rattle.std.specs.Prelude.{Ok, Err}
 use Rattle.std.proofs.lemmas.Str.{IsCharBoundary-from_drop}
+use Rattle.pysource.proofs.ByteLemmas.{Steady-append}
 use Rattle.pylex.specs.Streamed.{lacks}
 use Rattle.pylex.proofs.ChunkLemmas.{no_line, stays_other}
 use Rattle.pylex.proofs.Searching.{ahead_found, ahead_end, ahead_then, searches_line, searches_stay, meets_end, small_held}
@@ -26,6 +27,7 @@ returns-in_default-line g c =
     record {
       searches = searches_stay _ _ _ _ _ _ c.args.position.now c.loop-chunk.position c.args.chunk.now c.loop-chunk.chunk c.read_on.new.self c.look-found.result c.loop-chunk.invariant.searches c.look-found.ensures.looks c.in-Stop.is (Ok c.in_ok-line.line) o
           (no_line c.in_ok-line.line o.line c.read_on.new.self.lines c.in_default-line.not-Text o.adds) stays;
+      steady = Steady-append _ _ _ _ _ _ c.loop-chunk.invariant.steady c.in_ok-line.ensures.steady;
       ahead = ahead_end c.args.chunk.now.lines c.read_on.new.self.lines c.look-found.result c.in_ok-line.line o.line c.fault_of.result c.in-Stop.is c.in_default-line.not-Text o.adds (rw c.row.ensures at c.fault_of.ensures);
       meets = meets_end (g.R.ByteIn.to_come c.args.reader.now) (g.R.ByteIn.to_come c.loop-chunk.reader) (g.R.ByteIn.to_come c.read_on.new.reader) (g.R.ByteIn.failure_count c.args.reader.now) (g.R.ByteIn.failure_count c.loop-chunk.reader) (g.R.ByteIn.failure_count c.read_on.new.reader) c.args.position.now c.loop-chunk.position c.args.chunk.now c.loop-chunk.chunk c.read_on.new.self c.look-found.result c.loop-chunk.invariant.searches c.look-found.ensures.looks c.in-Stop.is c.in_ok-line.line o.line c.fault_of.result c.in_default-line.not-Text o.adds (rw c.row.ensures at c.fault_of.ensures) stays;
     }
@@ -37,6 +39,7 @@ loop-chunk-preserved g c =
     let lack : lacks (drop c.look-found.result.at (string_bytes c.loop-chunk.chunk.text)) ≡ true = (rw (← c.deref.ensures, ← c.range_from.ensures.value) (sym c.if-not-lacks.ensures)) in
     record {
       searches = rw c.look_from.ensures (searches_line _ _ _ _ _ _ c.args.position.now c.loop-chunk.position c.args.chunk.now c.loop-chunk.chunk c.read_on.new.self c.look-found.result c.loop-chunk.invariant.searches c.look-found.ensures.looks c.in-Stop.is o lack c.requires.given holds);
+      steady = Steady-append _ _ _ _ _ _ c.loop-chunk.invariant.steady c.in_ok-line.ensures.steady;
       ahead = rw c.look_from.ensures (ahead_then _ _ _ _ _ _ c.args.position.now c.loop-chunk.position c.args.chunk.now c.loop-chunk.chunk c.read_on.new.self c.look-found.result c.loop-chunk.invariant.searches c.look-found.ensures.looks c.in-Stop.is o lack holds c.loop-chunk.invariant.ahead);
     }
 
@@ -59,3 +62,6 @@ returns-in_default-clause-ahead g c = ahead_found c.args.chunk.now.lines c.loop-
 
 pub returns-then-not-lacks-clause-ahead : goal.returns-then-not-lacks-clause-ahead
 returns-then-not-lacks-clause-ahead g c = ahead_found c.args.chunk.now.lines c.loop-chunk.position c.loop-chunk.chunk c.look-found.result c.look-found.ensures.looks (λ is. rw (← c.deref.ensures, ← c.range_from.ensures.value) (sym c.if-not-lacks.ensures)) c.loop-chunk.invariant.ahead
+
+pub returns-in_err-line-clause-steady : goal.returns-in_err-line-clause-steady
+returns-in_err-line-clause-steady g c = Steady-append _ _ _ _ _ _ c.loop-chunk.invariant.steady c.in_err-line.ensures.steady

@@ -1,5 +1,6 @@
 use Rattle.std.proofs.Common.{◌≡◌, length, refl, subst, string_bytes, arith}
 use Rattle.std.specs.Str.{IsCharBoundary}
+use Rattle.pysource.proofs.ByteLemmas.{Steady-append}
 use Rattle.pylex.proofs.Adding.{boundary_longer, reads_more}
 use Rattle.pylex.specs.Held.{LinesBehind}
 use Rattle.pylex.proofs.JoinedOn.{behind_first, holds_joined, holds_none}
@@ -29,3 +30,6 @@ pub returns-in_default-literal-clause-holds : goal.returns-in_default-literal-cl
 returns-in_default-literal-clause-holds g c =
     let none = rw (c.range_from.ensures.value, c.deref.ensures) at c.in_default-literal.ensures.none in
     rw c.in-Text.is (holds_none c.args.self.now c.add_line.new.self c.args.at c.requires.at none)
+
+pub returns-in-Some-clause-steady : goal.returns-in-Some-clause-steady
+returns-in-Some-clause-steady g c = Steady-append _ _ _ _ _ _ c.in_ok-line.ensures.steady c.add_lines.ensures.steady

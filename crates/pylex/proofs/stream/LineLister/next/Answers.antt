@@ -1,4 +1,4 @@
-use Rattle.std.proofs.Common.{inr}
+use Rattle.std.proofs.Common.{inr, refl}
 use Rattle.pylex.proofs.AheadOn.{ahead_none}
 use Rattle.pylex.proofs.Searching.{searches_none}
 use Rattle.pylex.proofs.Steppings.{drop_last, place_held, streaming_first, steps_first, steps_last}
@@ -24,3 +24,9 @@ returns-clause-steps g c = rw (← c.self.view_is) (c.pass.ensures.passes _ _ _ 
 
 pub returns-clause-given : goal.returns-clause-given
 returns-clause-given g c = (place_held _ _ _ c.pass.ensures.streaming).given
+
+pub returns-then-is_at_start-clause-steady : goal.returns-then-is_at_start-clause-steady
+returns-then-is_at_start-clause-steady g c = (refl, λ _. refl)
+
+pub returns-clause-steady : goal.returns-clause-steady
+returns-clause-steady g c = (refl, λ _. refl)
