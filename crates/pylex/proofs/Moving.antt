@@ -38,6 +38,7 @@ use Rattle.pylex.proofs.Cursoring.{rest_in, ahead_is, after_empty, lexeme_first,
 use Rattle.pylex.proofs.Counts.{given_within}
 use Rattle.pylex.proofs.Skips.{skip_within}
 use Rattle.pylex.proofs.CursorBounds.{shown_fits}
+use Rattle.pylex.proofs.Callers.{is_behind}
 
 -- The first of some steps is the one at its place.
 pub first_at : (ss : List Step) (k : ℕ) → k < length ss → slice_get ss k ≡ Some (first_step (drop k ss))
@@ -60,7 +61,7 @@ pub leads_moves : (old : Listed) (step : Step) (new : Listed) → Leads old step
 leads_moves old step new f a k h =
     let c = h.count in
     let g = f a (record { cursor = h.cursor; count = refl; agrees = h.agrees }) in
-    let w = h.cursor.within in
+    let w = (is_behind h.cursor).within in
     let l = listing_length a in
     let first : first_step (rest a k) ≡ step = ap (λ n. first_step (rest a n)) (sym c) ∙ g.0 in (
       first_at (listing a) k (omega arith) ∙ ap Some first,
@@ -239,11 +240,11 @@ module _ (l : Listed) (p : Progress) (left levels : List ℕ) (nested tail : ℕ
   end_rest q ds step c is a s =
       let ss = remaining source.fault (with_levels q (0 ∷ take nested levels)) ds in
       let same : rest a l.shown.given ≡ drop tail ss = rest_left a s ∙ ap (drop tail) (same_ahead (take nested levels) p (chars left) q ds c source.fault) in
-      let left_over : length (rest a l.shown.given) + l.shown.given ≡ length (listing a) = drop_length (listing a) l.shown.given (omega (arith, s.cursor.within, listing_length a)) in
+      let within = (is_behind s.cursor).within in
+      let left_over : length (rest a l.shown.given) + l.shown.given ≡ length (listing a) = drop_length (listing a) l.shown.given (omega (arith, within, listing_length a)) in
       let there_too : length (drop tail ss) ≡ length ss - tail = length-drop tail ss in
       let counted = ap length same in
       let whole = listing_length a in
-      let within = s.cursor.within in
       ap first_step same ∙ sym (is (omega arith))
 
   pub leads_end : (q : Progress) (ds : List ℕ) (e : Entry) (skip : ℕ) → Comes (take nested levels) p (chars left) q ds → (tail < length (remaining source.fault (with_levels q (0 ∷ take nested levels)) ds) → steps.Entry e ≡ first_step (drop tail (remaining source.fault (with_levels q (0 ∷ take nested levels)) ds))) → e.«from» ≡ e.to → skip ≡ l.shown.skip + 1 → Leads l (steps.Entry e) (record l { shown = record l.shown { given = l.shown.given + 1; skip = skip } })

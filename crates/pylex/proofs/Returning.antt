@@ -29,6 +29,7 @@ use Rattle.pylex.proofs.Cursoring.{GivenNext, given_next, not_encoding, given_of
 use Rattle.pylex.proofs.CursorBounds.{shown_fits}
 use Rattle.pylexeme.proofs.Texts.{length-text}
 use Rattle.pylex.proofs.Moving.{first_at, listing_length, cursor_opens, entry_due}
+use Rattle.pylex.proofs.Callers.{is_behind, is_own}
 
 skip_of : (k n : ℕ) (b : Bool) (h : List Lexeme) → (cursor_at k n b h).skip ≡ n
 unfolding cursor_at
@@ -92,20 +93,20 @@ cursor_back a (suc m) (suc j) w e =
 -- A lister at the point of a cursor stands in the sources that the cursor leads into.
 pub stands_back : (l : Listed) (a : Source) → StandsIn l a l.shown.given → StandsIn (record l { shown = record l.shown { given = l.shown.given - l.shown.skip; skip = 0 } }) a (l.shown.given - l.shown.skip)
 stands_back l a h =
-    let c : l.shown ≡ cursor a l.shown.given = h.cursor.is in
-    let w = h.cursor.within in
+    let c : l.shown ≡ cursor a l.shown.given = (is_behind h.cursor).is in
+    let w = (is_behind h.cursor).within in
     let b = cursor_back a l.shown.skip l.shown.given w (ap (λ (p : CursorParts). p.skip) (sym c)) in
     record {
-      cursor = record {
+      cursor = is_own (record {
         within = omega arith;
         is = ap (λ (p : CursorParts). record p { given = l.shown.given - l.shown.skip; skip = 0 }) c ∙ sym b.is;
-      };
+      });
       count = refl;
       agrees = h.agrees;
     }
 
 pub skip_in_given : (l : Listed) (a : Source) → StandsIn l a l.shown.given → l.shown.skip ≤ l.shown.given
-skip_in_given l a h = (cursor_back a l.shown.skip l.shown.given h.cursor.within (ap (λ (p : CursorParts). p.skip) (sym h.cursor.is))).within
+skip_in_given l a h = let own = is_behind h.cursor in (cursor_back a l.shown.skip l.shown.given own.within (ap (λ (p : CursorParts). p.skip) (sym own.is))).within
 
 pub led_stands : (c : CursorParts) (p : Parts) → (h : LeadsInto c p) → StandsIn (record { source = p; shown = c }) h.0 c.given
 led_stands c p h = record { cursor = h.1.0; count = refl; agrees = h.1.1 }
@@ -229,7 +230,7 @@ begins_back c p l a e is agrees =
 
 pub goes_back_on : (c : CursorParts) (p : Parts) (new : Listed) (a : Source) (step : Step) (i : ℕ) → i < c.skip → IsCursorOf c a → Agrees a (in_characters p) c.offset → (slice_get (listing a) ((c.given - c.skip) + i) ≡ Some step) × StandsIn new a (((c.given - c.skip) + i) + entries_in step) → StandsIn new a ((c.given - c.skip) + (i + 1))
 goes_back_on c p new a step i less is agrees moved =
-    let w = is.within in
+    let w = (is_behind is).within in
     let s = skip_in_given (record { source = p; shown = c }) a (record { cursor = is; count = refl; agrees = agrees }) in
     let due = entry_due a ((c.given - c.skip) + i) step (omega arith) moved.0 in
     let one : entries_in step ≡ 1 = ap entries_in due.1 in
@@ -240,7 +241,7 @@ pub arrives : (c : CursorParts) (p : Parts) (l : Listed) (i : ℕ) → (h : Lead
 arrives c p l i h stands all source =
     let s = skip_led c p h in
     let n : (c.given - c.skip) + i ≡ c.given = omega arith in
-    let shown : l.shown ≡ c = stands.cursor.is ∙ ap (cursor h.0) (stands.count ∙ n) ∙ sym h.1.0.is in
+    let shown : l.shown ≡ c = (is_behind stands.cursor).is ∙ ap (cursor h.0) (stands.count ∙ n) ∙ sym (is_behind h.1.0).is in
     ap (λ q. record l { source = q }) source ∙ ap (λ d. record { source = p; shown = d }) shown
 
 -- A cursor leads into its own source.

@@ -170,6 +170,12 @@ pub record Begins (come_old come_new : Option (List ℕ)) (told_old told_new : �
   pub ahead : (length v.lines.pending ≤ 8_192) ⊎ (v.lines.count ≤ 8_192 + head_len taken)
   pub stands : (more : List ℕ) (broken : Bool) → Continues v.lines more broken → (p : Parts) × (stream_of broken (taken ++ more) ≡ Ok p) × StreamsIn v p k more broken
 
+-- A lister that has begun at a source's start: nothing is held, and no more is taken past the lines that decide the encoding than one read gives.
+pub record BeginsAnew (come_old come_new : Option (List ℕ)) (told_old told_new : ℕ) (v : Streamed) : Type 0 where
+  pub begins : Begins come_old come_new told_old told_new v 0
+  pub ahead : v.lines.count ≤ 8_192 + head_len begins.taken
+  pub held : v.held ≡ []
+
 -- the entry that was given last
 abbrev pub IsLast : Streamed → Step → Type 0
 IsLast v (steps.Entry e) = v.last ≡ Some e

@@ -2,12 +2,14 @@
 //!
 //! Python library reference, `tokenize`.
 
-ghost use Rattle.std.specs.Prelude.{◌≡◌, ◌<◌, ◌-◌, ◌+◌, ◌^◌, ℕ, List, Bool, Option, Some, IfOk, IfErr};
+ghost use Rattle.std.specs.Prelude.{◌≡◌, ◌<◌, ◌≤◌, ◌-◌, ◌+◌, ◌^◌, ℕ, List, Bool, false, Option, Some, IfOk, IfErr};
+ghost use Rattle.pysource.specs.Bytes.{IsSteady};
 ghost use Rattle.pysource.specs.Parts.{Parts};
 ghost use Rattle.pysource.specs.Streams.{Refuses};
 ghost use Rattle.pysource.specs.Taking.{fails};
 ghost use Rattle.pylex.specs.ListingLines.{text_of};
-ghost use Rattle.pylex.specs.Streamed.{Begins, MissesBy, Steps, StreamsIn};
+ghost use Rattle.pylex.specs.Steps.{most_entries};
+ghost use Rattle.pylex.specs.Streamed.{Begins, BeginsAnew, MissesBy, Steps, StreamsIn};
 
 use crate::cursors::Cursor;
 use crate::entries::{Entry, Step};
@@ -33,20 +35,18 @@ impl<R: ByteIn> StreamLister<R> {
     ///
     /// # Errors
     ///
-    /// As [`LineLister::new`].
+    /// As [`LineLister::new`]. Where no read can fail, `Read` tells that the source has too many bytes.
     pub fn new(alloc: Global, mut reader: R) -> Result<StreamLister<R>, StreamFault>
     where
         R: Drop,
         requires { R.failure_count reader < 2 ^ 64 - 1 }
-        ensures begins { IfOk result (λ s. Begins (R.to_come reader) (R.to_come s.reader) (R.failure_count reader) (R.failure_count s.reader) s.lister 0) }
+        ensures begins { IfOk result (λ s. BeginsAnew (R.to_come reader) (R.to_come s.reader) (R.failure_count reader) (R.failure_count s.reader) s.lister) }
         ensures told { IfOk result (λ s. s.told ≡ R.failure_count reader) }
-        ensures refuses { IfErr result (λ e. (come : Option (List ℕ)) × (told : ℕ) × Refuses (R.to_come reader) come (R.failure_count reader) told e) }
+        ensures steady { IfOk result (λ s. IsSteady (R.may_fail reader) (R.may_fail s.reader) (R.failure_count reader) (R.failure_count s.reader)) }
+        ensures refuses { IfErr result (λ e. (come : Option (List ℕ)) × (told : ℕ) × (R.may_fail reader ≡ false → told ≡ R.failure_count reader) × Refuses (R.to_come reader) come (R.failure_count reader) told e) }
     {
         let told = reader.failures();
-        let lister = match LineLister::new(alloc, &mut reader) {
-            Ok(lister) => lister,
-            Err(fault) => return Err(fault),
-        };
+        let lister = LineLister::new(alloc, &mut reader)?;
         Ok(StreamLister {
             reader,
             told,
@@ -71,13 +71,11 @@ impl<R: ByteIn> StreamLister<R> {
         ensures begins { IfOk result (λ s. Begins (R.to_come reader) (R.to_come s.reader) (R.failure_count reader) (R.failure_count s.reader) s.lister cursor.now.given) }
         ensures shown { IfOk result (λ s. s.lister.shown ≡ cursor.now) }
         ensures told { IfOk result (λ s. s.told ≡ R.failure_count reader) }
-        ensures misses { IfErr result (λ e. (come : Option (List ℕ)) × (told : ℕ) × MissesBy (R.to_come reader) come (R.failure_count reader) told cursor.now e) }
+        ensures steady { IfOk result (λ s. IsSteady (R.may_fail reader) (R.may_fail s.reader) (R.failure_count reader) (R.failure_count s.reader)) }
+        ensures misses { IfErr result (λ e. (come : Option (List ℕ)) × (told : ℕ) × (R.may_fail reader ≡ false → told ≡ R.failure_count reader) × MissesBy (R.to_come reader) come (R.failure_count reader) told cursor.now e) }
     {
         let told = reader.failures();
-        let lister = match LineLister::resume_checked(alloc, &mut reader, cursor) {
-            Ok(lister) => lister,
-            Err(fault) => return Err(fault),
-        };
+        let lister = LineLister::resume_checked(alloc, &mut reader, cursor)?;
         Ok(StreamLister {
             reader,
             told,
@@ -95,7 +93,9 @@ impl<R: ByteIn> StreamLister<R> {
     /// The next entry, the end, or the fault that ends the listing, as [`LineLister::next`].
     pub fn next(&mut self) -> Result<Step, AllocError>
         ensures steps { Steps (R.to_come self.old.reader) (R.to_come self.new.reader) (R.failure_count self.old.reader) (R.failure_count self.new.reader) self.old.lister self.new.lister result }
+        ensures given { self.new.lister.shown.given ≤ most_entries }
         ensures told { self.new.told ≡ self.old.told }
+        ensures steady { IsSteady (R.may_fail self.old.reader) (R.may_fail self.new.reader) (R.failure_count self.old.reader) (R.failure_count self.new.reader) }
     {
         self.lister.next(&mut self.reader)
     }

@@ -1,6 +1,6 @@
 //! The lexeme at the front of a text.
 
-use pylexeme::lexeme::{Class, begins_thing, cut};
+use pylex::{Class, begins_thing, cut};
 use std::test::Fail;
 
 /// What the class of a lexeme is called.
@@ -9,7 +9,7 @@ fn name(class: Class) -> &'static str {
         Class::Name => "name",
         Class::Number => "number",
         Class::String => "string",
-        Class::Operator => "operator",
+        Class::Operator(_) => "operator",
         Class::Comment => "comment",
         Class::Blanks => "blanks",
         Class::LineEnd => "line end",

@@ -1,6 +1,6 @@
 //! How far a number goes at the front of a text, as Python 3.11 cuts it.
 
-use pylexeme::lexeme::{Class, cut};
+use pylex::{Class, cut};
 use std::test::Fail;
 
 #[test]

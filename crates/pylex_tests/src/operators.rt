@@ -1,7 +1,6 @@
 //! The exact types of operators.
 
-use pylexeme::kinds::Exact;
-use pylexeme::operators::exact_of;
+use pylex::{Exact, exact_of};
 use std::test::Fail;
 
 #[test]

@@ -1,6 +1,6 @@
 //! String literals, and those that go on over lines.
 
-use pylexeme::string::{is_open_string, open_literal, opens_string};
+use pylex::{is_open_string, open_literal, opens_string};
 
 #[test]
 fn tells_what_opens_a_string(rt: HostRuntime) {

@@ -3,7 +3,7 @@ use Rattle.pyast.proofs.StartLemmas.{starts, starts_at, refused, misses, misses_
 use Rattle.pyast.proofs.run.begin.Goals as goal
 
 pub returns-in-Ok-clause-starts : goal.returns-in-Ok-clause-starts
-returns-in-Ok-clause-starts g c = rw c.in_default.is (starts _ _ _ _ _ _ 0 c.in-Ok.ensures.begins c.in-Ok.ensures.given (λ p more broken s. refl))
+returns-in-Ok-clause-starts g c = rw c.in_default.is (starts _ _ _ _ _ _ 0 c.in-Ok.ensures.begins.begins c.in-Ok.ensures.given (λ p more broken s. refl))
 
 pub returns-in-Ok-resume_checked-clause-starts : goal.returns-in-Ok-resume_checked-clause-starts
 returns-in-Ok-resume_checked-clause-starts g c = rw c.in-Some.is (starts_at _ _ _ _ _ _ c.in-Ok-resume_checked.ensures.begins c.in-Ok-resume_checked.ensures.shown)
