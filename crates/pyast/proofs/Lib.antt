@@ -1,4 +1,3 @@
-pub mod StepsLemmas
 pub mod RunLemmas
 pub mod FakesLemmas
 pub mod OutputLemmas

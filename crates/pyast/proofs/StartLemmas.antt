@@ -6,7 +6,7 @@ use Rattle.pysource.specs.Parts.{Parts}
 use Rattle.pysource.specs.Bytes.{TakesFront}
 use Rattle.pysource.specs.Streams.{stream_of, Refuses}
 use Rattle.pysource.specs.Taking.{Takes}
-use Rattle.pysource.specs.declared.bytes.TheConstants.{SOURCE_LIMIT}
+use Rattle.pysource.specs.Limits.{source_limit}
 use Rattle.pysource.specs.declared.faults.LineError.TheVariants as line_errors
 use Rattle.pysource.specs.declared.streams.Reach.{Reach}
 use Rattle.pysource.specs.declared.streams.Reach.TheVariants as reach
@@ -61,13 +61,13 @@ front_of : (output : List ℕ) (x : Option (List ℕ)) → TakesFront x x output
 front_of output x = ([], output, refl, Appends-refl x)
 
 unread : (exact : Bool) (count : Option ℕ) (resume : Option CursorParts) (come new : Option (List ℕ)) (told_old told_new : ℕ) (x : Option (List ℕ)) (r : Reach) (n : ℕ) (taken : List ℕ)
-    → Takes come new told_old told_new reach.Reading r 0 n taken → Performs (output_by exact count resume) (fault_by count resume) come new told_old told_new x x SOURCE_LIMIT (Some (Plain Memory))
+    → Takes come new told_old told_new reach.Reading r 0 n taken → Performs (output_by exact count resume) (fault_by count resume) come new told_old told_new x x source_limit (Some (Plain Memory))
 unread exact count resume come new told_old told_new x r n taken t =
     performs _ _ told_old told_new x x n taken _ (quiet count resume) come new r t (λ more broken f w. front_of (output_by exact count resume broken (taken ++ more)) x)
 
 -- what gives no source
 pub refused : (exact : Bool) (count : Option ℕ) (resume : Option CursorParts) (come new : Option (List ℕ)) (told_old told_new : ℕ) (fault : StreamFault) (x : Option (List ℕ)) → Refuses come new told_old told_new fault
-    → Performs (output_by exact count resume) (fault_by count resume) come new told_old told_new x x SOURCE_LIMIT (Some (of_stream fault))
+    → Performs (output_by exact count resume) (fault_by count resume) come new told_old told_new x x source_limit (Some (of_stream fault))
 refused exact count resume come new told_old told_new stream_faults.Memory x r = unread exact count resume come new told_old told_new x r.reach _ r.taken r.reads
 refused exact count resume come new told_old told_new stream_faults.Read x r =
     performs _ _ told_old told_new x x _ r.taken _ (quiet count resume) come new r.reach r.reads (λ more broken f w. rw (r.explains.1 more broken f) (refl, Appends-refl x))
@@ -117,13 +117,13 @@ missed_another c p n = by_test (ends_unread (listing (in_characters p)) && nat_l
 
 -- a source without the cursor, or that could not be read so far
 misses_by : (exact : Bool) (count : Option ℕ) (come new : Option (List ℕ)) (told_old told_new : ℕ) (c : CursorParts) (x : Option (List ℕ)) → Misses come new told_old told_new c true
-    → Performs (output_by exact count (Some c)) (fault_by count (Some c)) come new told_old told_new x x SOURCE_LIMIT (Some (Plain Read))
+    → Performs (output_by exact count (Some c)) (fault_by count (Some c)) come new told_old told_new x x source_limit (Some (Plain Read))
 misses_by exact count come new told_old told_new c x m =
     performs _ _ told_old told_new x x _ m.taken _ (quiet count (Some c)) come new m.lines.reach m.reads
     (λ more broken f w. let s = m.misses more broken (f, w) in rw (s.1, starts_nowhere c (in_characters s.0) s.2, tokens_output, tokens_fault) (ap (λ code. Some (Plain code)) (missed_unread c s.0 (s.3 refl)), Appends-refl x))
 
 misses_stream : (exact : Bool) (count : Option ℕ) (come new : Option (List ℕ)) (told_old told_new : ℕ) (c : CursorParts) (fault : StreamFault) (x : Option (List ℕ))
-    → MissesBy come new told_old told_new c (resumes.Stream fault) → Performs (output_by exact count (Some c)) (fault_by count (Some c)) come new told_old told_new x x SOURCE_LIMIT (Some (of_stream fault))
+    → MissesBy come new told_old told_new c (resumes.Stream fault) → Performs (output_by exact count (Some c)) (fault_by count (Some c)) come new told_old told_new x x source_limit (Some (of_stream fault))
 misses_stream exact count come new told_old told_new c fault x m = elim m [
   | inl r ↦ refused exact count (Some c) come new told_old told_new fault x r
   | inr (inl r) ↦ rw r.0 (misses_by exact count come new told_old told_new c x r.1)
@@ -131,20 +131,20 @@ misses_stream exact count come new told_old told_new c fault x m = elim m [
 ]
 
 misses : (exact : Bool) (count : Option ℕ) (come new : Option (List ℕ)) (told_old told_new : ℕ) (c : CursorParts) (x : Option (List ℕ)) → Misses come new told_old told_new c false
-    → Performs (output_by exact count (Some c)) (fault_by count (Some c)) come new told_old told_new x x SOURCE_LIMIT (Some (Plain CursorOfAnotherSource))
+    → Performs (output_by exact count (Some c)) (fault_by count (Some c)) come new told_old told_new x x source_limit (Some (Plain CursorOfAnotherSource))
 misses exact count come new told_old told_new c x m =
     performs _ _ told_old told_new x x _ m.taken _ (quiet count (Some c)) come new m.lines.reach m.reads
     (λ more broken f w. let s = m.misses more broken (f, w) in rw (s.1, starts_nowhere c (in_characters s.0) s.2, tokens_output, tokens_fault) (ap (λ code. Some (Plain code)) (missed_another c s.0 (s.4 refl)), Appends-refl x))
 
 -- what gives no source with such a cursor
 pub unresumed : (exact : Bool) (count : Option ℕ) (come new : Option (List ℕ)) (told_old told_new : ℕ) (c : CursorParts) (fault : ResumeFault) (x : Option (List ℕ))
-    → MissesBy come new told_old told_new c fault → Performs (output_by exact count (Some c)) (fault_by count (Some c)) come new told_old told_new x x SOURCE_LIMIT (Some (of_resume fault))
+    → MissesBy come new told_old told_new c fault → Performs (output_by exact count (Some c)) (fault_by count (Some c)) come new told_old told_new x x source_limit (Some (of_resume fault))
 unresumed exact count come new told_old told_new c (resumes.Stream fault) x m = misses_stream exact count come new told_old told_new c fault x m
 unresumed exact count come new told_old told_new c resumes.AnotherSource x m = misses exact count come new told_old told_new c x m
 
 -- where there is no memory behind the start, nothing is written
 pub begun : (exact : Bool) (count : Option ℕ) (resume : Option CursorParts) (come new : Option (List ℕ)) (told_old told_new : ℕ) (x : Option (List ℕ)) (v : Streamed) → Starts come new told_old told_new resume v
-    → Performs (output_by exact count resume) (fault_by count resume) come new told_old told_new x x SOURCE_LIMIT (Some (Plain Memory))
+    → Performs (output_by exact count resume) (fault_by count resume) come new told_old told_new x x source_limit (Some (Plain Memory))
 begun exact count resume come new told_old told_new x v s = unread exact count resume come new told_old told_new x v.lines.reach _ s.all s.took
 
 -- what was taken at the start, and behind it
@@ -155,7 +155,7 @@ all_taken come mid new told_old told_mid told_new resume exact count v done s g 
 -- what was done behind the start
 pub listed : (exact : Bool) (count : Option ℕ) (resume : Option CursorParts) (come mid new : Option (List ℕ)) (told_old told_mid told_new : ℕ) (x y : Option (List ℕ)) (v : Streamed) (done : List ℕ → Option Fault → Type 0) (ended : Option Fault)
     → Starts come mid told_old told_mid resume v → Goes mid new told_mid told_new v exact count done → ((output : List ℕ) (told : Option Fault) → done output told → WritesFor output told x y ended)
-    → Performs (output_by exact count resume) (fault_by count resume) come new told_old told_new x y SOURCE_LIMIT ended
+    → Performs (output_by exact count resume) (fault_by count resume) come new told_old told_new x y source_limit ended
 listed exact count resume come mid new told_old told_mid told_new x y v done ended s g does =
     performs _ _ told_old told_new x y _ (s.all ++ g.taken) ended (quiet count resume) come new g.new.reach (all_taken come mid new told_old told_mid told_new resume exact count v done s g)
     (λ more broken f w.

@@ -6,7 +6,7 @@ use Rattle.std.proofs.lemmas.Bool.{cases_lt}
 use Rattle.std.proofs.lemmas.List.{length-take-le, take-append-drop}
 use Rattle.pysource.specs.Streams.{Buffered, FollowsAt}
 use Rattle.pysource.specs.Taking.{Takes}
-use Rattle.pysource.specs.declared.bytes.TheConstants.{SOURCE_LIMIT}
+use Rattle.pysource.specs.Limits.{source_limit}
 use Rattle.pysource.specs.declared.streams.Reach.{Reach}
 use Rattle.pysource.specs.declared.streams.Reach.TheVariants as reach
 use Rattle.pylex.specs.Streamed.{Continues}
@@ -28,7 +28,7 @@ follows_none reach.End = (refl, refl)
 follows_none reach.Broken = (refl, refl)
 follows_none reach.Passed = (refl, refl)
 
-pub continues_none : (b : Buffered) → b.count ≤ SOURCE_LIMIT → Continues b [] (is_broken b.reach)
+pub continues_none : (b : Buffered) → b.count ≤ source_limit → Continues b [] (is_broken b.reach)
 continues_none b within = (follows_none b.reach, omega arith)
 
 none_long : (a : List ℕ) → (0 < length a → a ≡ []) → a ≡ []
@@ -45,16 +45,16 @@ all_known (Some known) (Some rest) all c e = c ∙ ap (λ r. all ++ r) e ∙ app
 module _ (output : Bool → List ℕ → List ℕ) (told : Bool → List ℕ → Option Fault) (told_old told_new : ℕ) (x y : Option (List ℕ)) (n : ℕ) (all : List ℕ) (ended : Option Fault) (quiet : (bytes : List ℕ) → told false bytes ≢ Some (Plain Read)) where
   -- whatever may follow
   abbrev Does : Reach → Type 0
-  Does r = (more : List ℕ) (broken : Bool) → FollowsAt r more broken → n + length more ≤ SOURCE_LIMIT → WritesFor (output broken (all ++ more)) (told broken (all ++ more)) x y ended
+  Does r = (more : List ℕ) (broken : Bool) → FollowsAt r more broken → n + length more ≤ source_limit → WritesFor (output broken (all ++ more)) (told broken (all ++ more)) x y ended
 
   abbrev Done : Option (List ℕ) → Option (List ℕ) → Type 0
-  Done come new = Performs output told come new told_old told_new x y SOURCE_LIMIT ended
+  Done come new = Performs output told come new told_old told_new x y source_limit ended
 
   -- no failed read is told of bytes behind which none failed
   unread : (bytes : List ℕ) → WritesFor (output false bytes) (told false bytes) x y ended → ended ≡ Some (Plain Read) → ⊥
   unread bytes w is = quiet bytes (rw is at w).0
 
-  reading : (come new : Option (List ℕ)) → n ≤ SOURCE_LIMIT → n ≡ length all → told_new ≡ told_old → Consumes come new all → Does reach.Reading → Done come new
+  reading : (come new : Option (List ℕ)) → n ≤ source_limit → n ≡ length all → told_new ≡ told_old → Consumes come new all → Does reach.Reading → Done come new
   reading None new within size same c does = record {
     input = all ++ [];
     broken = false;
@@ -65,14 +65,14 @@ module _ (output : Bool → List ℕ → List ℕ) (told : Bool → List ℕ →
     writes = does [] false tt (omega arith);
   }
   reading (Some known) None within size same c does = absurd c
-  reading (Some known) (Some rest) within size same c does = elim (cases_lt SOURCE_LIMIT (n + length rest)) [
+  reading (Some known) (Some rest) within size same c does = elim (cases_lt source_limit (n + length rest)) [
     | inl past ↦
-        let front = take (SOURCE_LIMIT - n) rest in
-        let back = drop (SOURCE_LIMIT - n) rest in
-        let long : length front ≡ SOURCE_LIMIT - n = length-take-le (SOURCE_LIMIT - n) rest (omega (arith, past, within)) in
-        let left = length-drop (SOURCE_LIMIT - n) rest in
+        let front = take (source_limit - n) rest in
+        let back = drop (source_limit - n) rest in
+        let long : length front ≡ source_limit - n = length-take-le (source_limit - n) rest (omega (arith, past, within)) in
+        let left = length-drop (source_limit - n) rest in
         let both = length-append all front in
-        let split : front ++ back ≡ rest = take-append-drop (SOURCE_LIMIT - n) rest in
+        let split : front ++ back ≡ rest = take-append-drop (source_limit - n) rest in
         let parts : known ≡ (all ++ front) ++ back = c ∙ ap (λ r. all ++ r) (sym split) ∙ sym (append_assoc all front back) in
         record {
           input = all ++ front;

@@ -9,7 +9,7 @@ use Rattle.pysource.specs.Cookies.{encoding_of, without_mark}
 use Rattle.pysource.specs.Lines.{bad_at, first_given, first_bad, good_text, line_fault}
 use Rattle.pysource.specs.Names.{Named}
 use Rattle.pysource.specs.Parts.{Parts}
-use Rattle.pysource.specs.Places.{is_lf}
+use Rattle.pysource.specs.Places.{is_lf, place_after}
 use Rattle.pysource.specs.Sources.{nth_line}
 use Rattle.pysource.specs.Streams.{coming, lines_read, stream_under, stream_of}
 use Rattle.pysource.specs.declared.encodings.Charset.{Charset}
@@ -27,17 +27,17 @@ use Rattle.pylex.specs.declared.entries.ListingFault.{ListingFault}
 use Rattle.pylex.specs.declared.entries.Step.{Step}
 use Rattle.pylex.specs.declared.entries.Step.TheVariants as steps
 use Rattle.pylex.specs.declared.kinds.Kind.TheVariants as kinds
-use Rattle.pylexeme.specs.declared.lexeme.Class.{Class}
-use Rattle.pylexeme.specs.declared.lexeme.Class.TheVariants.{Name, Number, String, Operator, Comment, Blanks, LineEnd, Join}
+use Rattle.pylex.specs.Class.{Class}
+use Rattle.pylex.specs.Class.TheVariants.{Name, Number, String, Operator, Comment, Blanks, LineEnd, Join}
 use Rattle.pylex.specs.Cursors.{CursorParts}
-use Rattle.pylexeme.specs.Lexemes.{Lexeme, cut, left_by_cut, is_open_string}
+use Rattle.pylex.specs.Lexemes.{Lexeme, cut, left_by_cut, is_open_string}
 use Rattle.pylex.specs.Levels.{open_levels}
-use Rattle.pylex.specs.Lines.{text_before, place_after, depth, is_thing, is_at_margin, is_logical, width_at, widths}
-use Rattle.pylexeme.specs.Chars.{bytes_in}
+use Rattle.pylex.specs.Lines.{text_before, depth, is_thing, is_at_margin, is_logical, width_at, widths}
+use Rattle.pylex.specs.Chars.{bytes_in}
 use Rattle.pylex.specs.Listing.{Source, in_characters, of_line, listing, rest, fault_at, dedents, layout, layout_by, entry_of, steps_of, stop_fault, begins_comment, last_line, line_end_of_last, end_place, ends_in_join, tail, stop, steps_from, up_to_end}
-use Rattle.pylexeme.specs.Operators.{is_closer}
+use Rattle.pylex.specs.Operators.{is_closer}
 use Rattle.pylex.specs.Steps.{entries_of, fault_of}
-use Rattle.pylexeme.specs.Strings.{opens_string}
+use Rattle.pylex.specs.Strings.{opens_string}
 use Rattle.pylex.specs.Streamed.{is_unread_code}
 use Rattle.pyast.specs.Faults.{code_of, told_at, of_listing}
 use Rattle.pyast.specs.Runs.{stops_after, start_in, ends_unread, missed, told_of, fault_from, tokens_fault}

@@ -1,5 +1,5 @@
 -- The faults, what is printed for each, and the status that the program ends with.
-use Rattle.std.specs.Prelude.{◌≡◌, ℕ, Bool, true, false, if◌then◌else◌, List, ◌++◌, ◌⊎◌, codes, Option, Some, None, decimal}
+use Rattle.std.specs.Prelude.{◌≡◌, ℕ, if◌then◌else◌, List, ◌++◌, ◌⊎◌, codes, Option, Some, None, decimal}
 use Rattle.std.specs.Io.KnownBytes.{Appends}
 use Rattle.pysource.specs.Bytes.{TakesFront}
 use Rattle.pysource.specs.declared.faults.LineError.TheVariants as line_errors

@@ -1,6 +1,5 @@
 -- What a run of the program is, whatever its reader and its writers do.
-use Rattle.std.specs.Prelude.{◌≡◌, ◌≢◌, ◌⊎◌, ◌≤◌, string_bytes, ℕ, ◌+◌, ◌-◌, ◌<◌, nat_le, nat_lt, ◌==◌, eqb, Bool, true, false, not, ◌&&◌, if◌then◌else◌, List, [], ◌∷◌, ◌++◌, length, take, Option, Some, None, IfSome, Result, Ok, Err, codes, option_map, unwrap_or}
-use lib.Pointwise.{pointwise}
+use Rattle.std.specs.Prelude.{◌≡◌, ◌≢◌, ◌⊎◌, ◌≤◌, string_bytes, ℕ, ◌+◌, ◌-◌, ◌<◌, nat_le, nat_lt, ◌==◌, Bool, true, false, not, ◌&&◌, if◌then◌else◌, List, [], ◌∷◌, ◌++◌, length, take, Option, Some, None, IfSome, Result, Ok, Err, codes, option_map, unwrap_or}
 use Rattle.std.specs.List.{flat_map}
 use Rattle.std.specs.Io.KnownBytes.{Appends, Consumes}
 use Rattle.pysource.specs.Bytes.{TakesFront, GivesTooMany}
@@ -13,6 +12,7 @@ use Rattle.pylex.specs.declared.kinds.Kind.{Kind}
 use Rattle.pylex.specs.declared.kinds.Kind.TheVariants.{EndMarker}
 use Rattle.pylex.specs.Cursors.{CursorParts, cursor, cursor_text, flag}
 use Rattle.pylex.specs.Listing.{Source, listing, rest, in_characters}
+use Rattle.pylex.specs.Standing.{is_cursor_of}
 use Rattle.pylex.specs.Steps.{entries_of, fault_of}
 use Rattle.pylex.specs.ListingLines.{listing_line, text_of}
 use Rattle.pylex.specs.Streamed.{is_unread_code}
@@ -67,14 +67,6 @@ told_of steps = option_map of_listing (fault_of steps)
 abbrev pub fault_from : Parts → Option ℕ → ℕ → Option Fault
 fault_from p None k = told_of (rest (in_characters p) k)
 fault_from p (Some n) k = if stops_after n (entries_of (rest (in_characters p) k)) then None else told_of (rest (in_characters p) k)
-
--- the same number is in each part of two cursors
-abbrev pub same_parts : CursorParts → CursorParts → Bool
-same_parts c d = (c.given == d.given) && ((c.offset == d.offset) && ((c.row == d.row) && ((c.depth == d.depth) && ((flag c.begun == flag d.begun) && ((c.skip == d.skip) && pointwise eqb c.levels d.levels)))))
-
--- a cursor is one of a source: that behind some of its entries
-abbrev pub is_cursor_of : CursorParts → Source → Bool
-is_cursor_of c s = nat_le c.given (length (entries_of (listing s))) && same_parts c (cursor s c.given)
 
 -- how many entries of a source stand before those that are listed, the source's start or a cursor being given; none where the source has no such cursor
 abbrev pub start_in : Option CursorParts → Source → Option ℕ

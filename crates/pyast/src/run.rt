@@ -1,6 +1,6 @@
 //! A run of the program, over a reader and two writers.
 ghost use Rattle.std.specs.Prelude.{◌≡◌, ◌≢◌, ℕ, ◌+◌, ◌-◌, ◌^◌, ◌<◌, ◌≤◌, Bool, true, false, List, [], ◌++◌, Option, Some, None, option_map, OnOk, OnErr, IfOk, IfErr, string_bytes};
-ghost use Rattle.pysource.specs.declared.bytes.TheConstants.{SOURCE_LIMIT};
+ghost use Rattle.pysource.specs.Limits.{source_limit};
 ghost use Rattle.pysource.specs.Bytes.{TakesFront};
 ghost use Rattle.pysource.specs.Parts.{Parts};
 ghost use Rattle.pysource.specs.Streams.{stream_of};
@@ -68,7 +68,7 @@ fn list<R: ByteIn, W: ByteOut>(
     requires reads { R.failure_count reader.old < 2 ^ 64 - 1 + fails lister.lines.reach }
     requires writes { W.failure_count writer.old < 2 ^ 64 - 1 }
     requires empty { string_bytes held.old ≡ [] }
-    requires within { lister.lines.count ≤ SOURCE_LIMIT }
+    requires within { lister.lines.count ≤ source_limit }
     requires stands { (more : List ℕ) (broken : Bool) → Continues lister.lines more broken → (p : Parts) × StreamsIn lister p lister.shown.given more broken }
     ensures holds { Goes (R.to_come reader.old) (R.to_come reader.new) (R.failure_count reader.old) (R.failure_count reader.new) lister exact count
         (λ output told. HoldsFor output told (W.taken writer.old) (W.taken writer.new) (string_bytes held.new) (ended_by result)) }
@@ -106,7 +106,7 @@ fn begin<R: ByteIn>(
     ensures refused { IfErr result (λ fault. (exact : Bool) (count : Option ℕ) (taken : Option (List ℕ)) →
         Performs (λ broken input. tokens_output exact count (option_map (λ c. c.now) resume.entry) (stream_of broken input))
         (λ broken input. tokens_fault count (option_map (λ c. c.now) resume.entry) (stream_of broken input))
-        (R.to_come reader.old) (R.to_come reader.new) (R.failure_count reader.old) (R.failure_count reader.new) taken taken SOURCE_LIMIT (Some fault)) }
+        (R.to_come reader.old) (R.to_come reader.new) (R.failure_count reader.old) (R.failure_count reader.new) taken taken source_limit (Some fault)) }
     ensures untouched { IfErr result (λ fault. fault ≢ Fault.Plain RunFaultCode.Write) }
 {
     match resume {
@@ -134,7 +134,7 @@ fn tokens<R: ByteIn, W: ByteOut>(
     requires reader { R.failure_count reader.old < 2 ^ 64 - 1 }
     requires writer { W.failure_count writer.old < 2 ^ 64 - 1 }
     ensures performs { Performs (output_of (Command.Tokens asked.now)) (fault_in (Command.Tokens asked.now)) (R.to_come reader.old) (R.to_come reader.new) (R.failure_count reader.old) (R.failure_count reader.new)
-        (W.taken writer.old) (W.taken writer.new) SOURCE_LIMIT (ended_by result) }
+        (W.taken writer.old) (W.taken writer.new) source_limit (ended_by result) }
     ensures failed { ended_by result ≡ Some (Fault.Plain RunFaultCode.Write) → W.failure_count writer.new ≡ W.failure_count writer.old + 1 }
     ensures unfailed { ended_by result ≢ Some (Fault.Plain RunFaultCode.Write) → W.failure_count writer.new ≡ W.failure_count writer.old }
 {
@@ -158,7 +158,7 @@ fn perform<R: ByteIn, W: ByteOut>(
     requires reader { R.failure_count reader.old < 2 ^ 64 - 1 }
     requires writer { W.failure_count writer.old < 2 ^ 64 - 1 }
     ensures performs { Performs (output_of command.now) (fault_in command.now) (R.to_come reader.old) (R.to_come reader.new) (R.failure_count reader.old) (R.failure_count reader.new)
-        (W.taken writer.old) (W.taken writer.new) SOURCE_LIMIT (ended_by result) }
+        (W.taken writer.old) (W.taken writer.new) source_limit (ended_by result) }
     ensures write_failed { ended_by result ≡ Some (Fault.Plain RunFaultCode.Write) → W.failure_count writer.new ≡ W.failure_count writer.old + 1 }
     ensures write_told { ended_by result ≢ Some (Fault.Plain RunFaultCode.Write) → W.failure_count writer.new ≡ W.failure_count writer.old }
 {
@@ -187,7 +187,7 @@ pub fn run<R: ByteIn, W: ByteOut, F: ByteOut>(
     requires faults { F.failure_count faults.old < 2 ^ 64 - 1 }
     ensures { (ended : Option Fault) × IsRun command.now (R.to_come reader.old) (R.to_come reader.new) (R.failure_count reader.old) (R.failure_count reader.new)
         (W.taken writer.old) (W.taken writer.new) (W.failure_count writer.old) (W.failure_count writer.new)
-        (F.taken faults.old) (F.taken faults.new) (F.failure_count faults.old) (F.failure_count faults.new) SOURCE_LIMIT result ended }
+        (F.taken faults.old) (F.taken faults.new) (F.failure_count faults.old) (F.failure_count faults.new) source_limit result ended }
 {
     match perform(alloc, command, reader, writer) {
         Ok(()) => 0,

@@ -31,6 +31,7 @@ use Rattle.pylex.proofs.Full.{lexeme_full}
 use Rattle.pylex.proofs.Lexed.{cut_lexed}
 use Rattle.pylex.proofs.Blocks.{three_ways, some_at, pushed_length}
 use Rattle.pylex.proofs.CursorBounds.{text_length}
+use Rattle.pylex.proofs.Callers.{is_behind}
 
 abbrev many : List Step → ℕ
 many ss = length (entries_of ss)
@@ -177,5 +178,5 @@ given_within l a k u h =
     let e = entries_within a in
     let t = text_length l a k u h in
     let c = h.count in
-    let w = h.cursor.within in
+    let w = (is_behind h.cursor).within in
     omega arith

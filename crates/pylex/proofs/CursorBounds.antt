@@ -8,11 +8,12 @@ use Rattle.std.proofs.lemmas.Bool.Decides.{nat_tests}
 use Rattle.std.proofs.lemmas.List.Sums.{count_by-le-length, take_while-cons}
 use Rattle.std.proofs.lemmas.List.Elements.{All-cons, All-nil, All-from_recursion, recursion_from_All}
 use Rattle.std.proofs.Math.Nat.{div-mul-le_self}
+use Rattle.pysource.specs.Places.{place_after}
 use Rattle.pylexeme.specs.declared.lexeme.Class.{Class}
 use Rattle.pylexeme.specs.declared.lexeme.Class.TheVariants.{Name, Number, String, Operator, Comment, Blanks, LineEnd, Join}
 use Rattle.pylexeme.specs.Operators.{is_opener}
 use Rattle.pylexeme.specs.Lexemes.{Lexeme}
-use Rattle.pylex.specs.Lines.{text_before, place_after, depth, opens, is_thing, line_so_far, is_at_margin, column_after, width_from, width_at, widths}
+use Rattle.pylex.specs.Lines.{text_before, depth, opens, is_thing, line_so_far, is_at_margin, column_after, width_from, width_at, widths}
 use Rattle.pylexeme.specs.Chars.{bytes_in}
 use Rattle.pylex.specs.Levels.{below, is_open, open_levels}
 use Rattle.pylex.specs.Listing.{Source, in_characters}
@@ -28,6 +29,7 @@ use Rattle.pylex.proofs.Ahead.{front_is}
 use Rattle.pylex.proofs.Agreement.{same_front_bytes}
 use Rattle.pylex.proofs.OpenLevels.{Grounded, grounded}
 use Rattle.pylex.proofs.Cursoring.{cursor_point, offset_at, line_bytes}
+use Rattle.pylex.proofs.Callers.{is_behind}
 
 -- The row.
 rows_within : (t : List ℕ) → (place_after t).row ≤ 1 + bytes_in t
@@ -233,7 +235,7 @@ boundary_at text n u e =
     subst (IsCharBoundary text) e (IsCharBoundary-at_seam text (encode_utf8_all f) (encode_utf8_all b) parts (b, (good, refl)))
 
 shown_small : (l : Listed) (a : Source) (k : ℕ) → StandsIn l a k → SmallParts l.shown a
-shown_small l a k h = subst (λ (c : CursorParts). SmallParts c a) (sym h.cursor.is) (small_parts a l.shown.given)
+shown_small l a k h = subst (λ (c : CursorParts). SmallParts c a) (sym (is_behind h.cursor).is) (small_parts a l.shown.given)
 
 -- the length of the text in hand is that of the source that the lister stands in
 pub text_length : (l : Listed) (a : Source) (k : ℕ) → IsUtf8 l.source.text → StandsIn l a k → bytes_in a.text ≡ length l.source.text

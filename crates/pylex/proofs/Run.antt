@@ -1,6 +1,7 @@
 -- The steps of all lexemes are the machine's run.
 use Rattle.std.proofs.Common.{◌≡◌, ℕ, ◌+◌, Bool, true, false, ◌&&◌, ◌==◌, List, [], ◌∷◌, ◌++◌, refl, ap, ◌∙◌, sym, arith, cond, Option, Some, None, append_assoc, ⊎_elim}
 use Rattle.std.proofs.lemmas.List.{append-nil}
+use Rattle.pysource.specs.Places.{place_after}
 use Rattle.pylexeme.specs.declared.lexeme.Class.{Class}
 use Rattle.pylexeme.specs.declared.lexeme.Class.TheVariants.{Name, Number, String, Operator, Comment, Blanks, LineEnd, Join}
 use Rattle.pylex.specs.declared.entries.ListingFault.{ListingFault}
@@ -8,7 +9,7 @@ use Rattle.pylex.specs.declared.entries.ListingError.TheVariants as errors
 use Rattle.pylex.specs.declared.entries.Step.{Step}
 use Rattle.pylex.specs.declared.entries.Step.TheVariants as steps
 use Rattle.pylexeme.specs.Lexemes.{Lexeme, cut, left_by_cut}
-use Rattle.pylex.specs.Lines.{text_before, place_after, depth, closes, line_so_far, before_line, is_of_line_end, is_at_margin, is_logical, width_from, width_at, widths}
+use Rattle.pylex.specs.Lines.{text_before, depth, closes, line_so_far, before_line, is_of_line_end, is_at_margin, is_logical, width_from, width_at, widths}
 use Rattle.pylexeme.specs.Chars.{bytes_in}
 use Rattle.pylex.specs.Levels.{open_levels}
 use Rattle.pylex.specs.Listing.{Source, layout_by, layout, entry_of, steps_of, line_end_of_last, end_place, tail, stop, steps_from, up_to_end, listing, mark, origin}

@@ -13,10 +13,6 @@ abbrev pub text_before : List Lexeme → List ℕ
 text_before [] = []
 text_before (x ∷ before) = text_before before ++ x.text
 
--- the place after a text: 1 and its LFs, and the characters since the last LF
-unfoldable pub place_after : List ℕ → Place
-place_after cs = record { row = 1 + count_by (λ c. c == 10) cs; column = prefix_len (λ c. not (c == 10)) (reverse cs) }
-
 abbrev pub opens : Lexeme → Bool
 opens x = elim x.«class» [ Operator ↦ is_opener x.text | _ ↦ false ]
 

@@ -2,6 +2,7 @@
 use Rattle.std.specs.Prelude.{ℕ, ◌+◌, nat_lt, Bool, true, false, not, ◌&&◌, ◌||◌, ◌==◌, List, [], ◌∷◌, ◌++◌, length, drop, reverse, count_by, replicate, if◌then◌else◌, Option, Some, None, option_map}
 use Rattle.std.specs.List.{list_all, list_any, take_while}
 use Rattle.std.specs.Str.{chars}
+use Rattle.pysource.specs.Places.{place_after}
 use Rattle.pysource.specs.Parts.{Parts}
 use Rattle.pysource.specs.declared.faults.LineFault.{LineFault}
 use Rattle.pylexeme.specs.declared.kinds.Exact.{Exact}
@@ -18,7 +19,7 @@ use Rattle.pylexeme.specs.Chars.{is_blank_char}
 use Rattle.pylexeme.specs.Strings.{opens_string}
 use Rattle.pylexeme.specs.Operators.{exact_of, is_closer}
 use Rattle.pylexeme.specs.Lexemes.{Lexeme, cut, left_by_cut, is_open_string}
-use Rattle.pylex.specs.Lines.{text_before, place_after, depth, is_thing, line_so_far, before_line, is_at_margin, is_logical, width_at, widths}
+use Rattle.pylex.specs.Lines.{text_before, depth, is_thing, line_so_far, before_line, is_at_margin, is_logical, width_at, widths}
 use Rattle.pylexeme.specs.Chars.{bytes_in}
 use Rattle.pylex.specs.Levels.{open_levels}
 

@@ -10,7 +10,7 @@
 mod chunk;
 mod cursors;
 mod entries;
-pub mod kinds;
+mod kinds;
 mod lines;
 mod lister;
 mod position;
@@ -23,6 +23,7 @@ pub use entries::{Entry, ListingError, ListingFault, Step, text};
 pub use kinds::{Exact, Kind};
 pub use lines::{line_text, push_line};
 pub use lister::Lister;
+pub use pylexeme::lexeme::{Class, cut};
 pub use stream::{LineLister, ResumeFault};
 pub use stream_lister::StreamLister;
 

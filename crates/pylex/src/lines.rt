@@ -12,6 +12,7 @@ ghost use Rattle.pylexeme.specs.Operators.{exact_name};
 use crate::entries::Entry;
 use crate::kinds::{Exact, Kind};
 use itoa::write_digits;
+use pylexeme::scanner::char_count;
 use pysource::{Place, is_plain_text, push_repr};
 use std::alloc::{AllocError, Global};
 use std::str::from_utf8_unchecked;
@@ -160,12 +161,6 @@ fn push_name(out: &mut String, entry: &Entry, exact: bool) -> Result<(), AllocEr
         Some(operator) if exact => push_operator(out, operator),
         _ => out.push_str(kind_field(entry.kind)),
     }
-}
-
-fn char_count(text: &str) -> usize
-    ensures { result ≡ length (chars text.now) }
-{
-    text.chars().count()
 }
 
 /// Writes the field of a short text whose `repr` shows it as it is.

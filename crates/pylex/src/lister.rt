@@ -6,13 +6,12 @@ ghost use Rattle.pylex.specs.Listing.{last_line, listing, in_characters};
 ghost use Rattle.pylex.specs.Laws.{IsLawful, AllLie};
 ghost use Rattle.pylex.specs.Standing.{IsCursorOf};
 ghost use Rattle.pylex.specs.Listers.{StandsIn, LeadsInto, Moves, AwaitsIndent};
+ghost use Rattle.pylex.specs.Steps.{most_entries};
 
 use crate::cursors::{Cursor, CursorFault};
 use crate::entries::Step;
-use crate::kinds::Kind;
 use crate::position::Position;
-use crate::state::mark;
-use pysource::{Place, Source};
+use pysource::Source;
 use std::alloc::{AllocError, Global};
 use std::marker::Model;
 
@@ -71,11 +70,10 @@ impl<'a> Lister<'a> {
         ensures source { self.new.source ≡ self.old.source }
         ensures same { OnErr result (self.new ≡ self.old) }
         ensures indent { OnErr result (AwaitsIndent self.old) }
+        ensures given { self.new.shown.given ≤ most_entries }
     {
-        if self.position.given == 0 {
-            self.position.given = 1;
-            let origin = Place { row: 0, column: 0 };
-            return Ok(Step::Entry(mark(Kind::Encoding, 0, origin, origin)));
+        if self.position.is_at_start() {
+            return Ok(Step::Entry(self.position.begin()));
         }
         let (meets, now, left) = self.position.meet(self.left);
         let fault = self.source.line_fault();
@@ -95,7 +93,8 @@ impl<'a> Lister<'a> {
 
     /// The lister's cursor: what is kept of the listing behind the entries that were given.
     pub fn cursor(&self) -> Result<Cursor, AllocError>
-        ensures { IfOk result (λ cursor. cursor ≡ self.entry.now.shown) }
+        ensures shown { IfOk result (λ cursor. cursor ≡ self.entry.now.shown) }
+        ensures leads { IfOk result (λ cursor. LeadsInto cursor self.entry.now.source) }
     {
         self.position.cursor()
     }
@@ -112,17 +111,10 @@ impl<'a> Lister<'a> {
         let point = cursor.point();
         let levels = cursor.levels(alloc)?;
         let (before, left) = source.text().split_at(point.offset);
-        let nested = levels.len();
+        let given = cursor.given() - cursor.skip();
         Ok(Lister {
             source,
-            position: Position {
-                given: cursor.given() - cursor.skip(),
-                point,
-                levels,
-                now: point.progress(last_line(before)),
-                nested,
-                tail: 0,
-            },
+            position: Position::at(given, point, levels, last_line(before)),
             left,
         })
     }
@@ -157,6 +149,7 @@ impl<'a> Lister<'a> {
     ) -> Result<Lister<'a>, CursorFault>
         ensures lister { IfOk result (λ lister. lister ≡ record { source = source.now; shown = cursor.now }) }
         ensures own { OnOk result (IsCursorOf cursor.now (in_characters source.now)) }
+        ensures leads { OnOk result (LeadsInto cursor.now source.now) }
         ensures another { IfErr result (λ fault. fault ≡ CursorFault.AnotherSource → IsCursorOf cursor.now (in_characters source.now) → ⊥) }
         ensures fault { IfErr result (λ fault. fault ≢ CursorFault.Text) }
     {

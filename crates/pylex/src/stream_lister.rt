@@ -2,12 +2,13 @@
 //!
 //! Python library reference, `tokenize`.
 
-ghost use Rattle.std.specs.Prelude.{◌≡◌, ◌<◌, ◌-◌, ◌+◌, ◌^◌, ℕ, List, Bool, Option, Some, IfOk, IfErr};
+ghost use Rattle.std.specs.Prelude.{◌≡◌, ◌<◌, ◌≤◌, ◌-◌, ◌+◌, ◌^◌, ℕ, List, Bool, Option, Some, IfOk, IfErr};
 ghost use Rattle.pysource.specs.Parts.{Parts};
 ghost use Rattle.pysource.specs.Streams.{Refuses};
 ghost use Rattle.pysource.specs.Taking.{fails};
 ghost use Rattle.pylex.specs.ListingLines.{text_of};
-ghost use Rattle.pylex.specs.Streamed.{Begins, MissesBy, Steps, StreamsIn};
+ghost use Rattle.pylex.specs.Steps.{most_entries};
+ghost use Rattle.pylex.specs.Streamed.{Begins, BeginsAnew, MissesBy, Steps, StreamsIn};
 
 use crate::cursors::Cursor;
 use crate::entries::{Entry, Step};
@@ -38,15 +39,12 @@ impl<R: ByteIn> StreamLister<R> {
     where
         R: Drop,
         requires { R.failure_count reader < 2 ^ 64 - 1 }
-        ensures begins { IfOk result (λ s. Begins (R.to_come reader) (R.to_come s.reader) (R.failure_count reader) (R.failure_count s.reader) s.lister 0) }
+        ensures begins { IfOk result (λ s. BeginsAnew (R.to_come reader) (R.to_come s.reader) (R.failure_count reader) (R.failure_count s.reader) s.lister) }
         ensures told { IfOk result (λ s. s.told ≡ R.failure_count reader) }
         ensures refuses { IfErr result (λ e. (come : Option (List ℕ)) × (told : ℕ) × Refuses (R.to_come reader) come (R.failure_count reader) told e) }
     {
         let told = reader.failures();
-        let lister = match LineLister::new(alloc, &mut reader) {
-            Ok(lister) => lister,
-            Err(fault) => return Err(fault),
-        };
+        let lister = LineLister::new(alloc, &mut reader)?;
         Ok(StreamLister {
             reader,
             told,
@@ -74,10 +72,7 @@ impl<R: ByteIn> StreamLister<R> {
         ensures misses { IfErr result (λ e. (come : Option (List ℕ)) × (told : ℕ) × MissesBy (R.to_come reader) come (R.failure_count reader) told cursor.now e) }
     {
         let told = reader.failures();
-        let lister = match LineLister::resume_checked(alloc, &mut reader, cursor) {
-            Ok(lister) => lister,
-            Err(fault) => return Err(fault),
-        };
+        let lister = LineLister::resume_checked(alloc, &mut reader, cursor)?;
         Ok(StreamLister {
             reader,
             told,
@@ -95,6 +90,7 @@ impl<R: ByteIn> StreamLister<R> {
     /// The next entry, the end, or the fault that ends the listing, as [`LineLister::next`].
     pub fn next(&mut self) -> Result<Step, AllocError>
         ensures steps { Steps (R.to_come self.old.reader) (R.to_come self.new.reader) (R.failure_count self.old.reader) (R.failure_count self.new.reader) self.old.lister self.new.lister result }
+        ensures given { self.new.lister.shown.given ≤ most_entries }
         ensures told { self.new.told ≡ self.old.told }
     {
         self.lister.next(&mut self.reader)

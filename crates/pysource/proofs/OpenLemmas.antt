@@ -10,7 +10,7 @@ use Rattle.pysource.specs.Taking.{Takes}
 use Rattle.pysource.specs.Streams.{Coming, FollowsAt, comes, coming, decides, stream_of, stream_under, Opens, Refuses}
 use Rattle.pysource.specs.Heads.{Head, FoundHeads}
 use Rattle.pysource.specs.declared.buffers.Intake.{Intake}
-use Rattle.pysource.specs.declared.bytes.TheConstants.{SOURCE_LIMIT}
+use Rattle.pysource.specs.Limits.{source_limit}
 use Rattle.pysource.specs.declared.encodings.SourceFault.{SourceFault}
 use Rattle.pysource.specs.declared.encodings.SourceFault.TheVariants as cookies
 use Rattle.pysource.specs.declared.places.Place.{Place}
@@ -53,7 +53,7 @@ without_mark_short bytes = elim (cases_Bool (has_mark bytes)) [
 ]
 
 -- the lines are opened
-pub opens : {x y : Option (List ℕ)} {a b : ℕ} (i : Intake) (first second : ℕ) (named : Named) → Takes x y a b Reading i.reach 0 i.count i.buffer → i.count ≤ SOURCE_LIMIT → Head i first second
+pub opens : {x y : Option (List ℕ)} {a b : ℕ} (i : Intake) (first second : ℕ) (named : Named) → Takes x y a b Reading i.reach 0 i.count i.buffer → i.count ≤ source_limit → Head i first second
     → encoding_of (take first i.buffer) (take (second - first) (drop first i.buffer)) ≡ Ok named → Opens x y a b (held named 1 None (unmarked i))
 opens i first second named takes within h is =
     let short = without_mark_short i.buffer in

@@ -11,7 +11,7 @@ use Rattle.pysource.specs.Lines.{lines_of, good_text, line_fault, first_bad}
 use Rattle.pysource.specs.Cookies.{encoding_of, without_mark, cookie_of, leads_on}
 use Rattle.pysource.specs.Sources.{nth_line}
 use Rattle.pysource.specs.Taking.{Takes}
-use Rattle.pysource.specs.declared.bytes.TheConstants.{SOURCE_LIMIT}
+use Rattle.pysource.specs.Limits.{source_limit}
 use Rattle.pysource.specs.declared.encodings.Charset.{Charset}
 use Rattle.pysource.specs.declared.encodings.SourceFault.{SourceFault}
 use Rattle.pysource.specs.declared.encodings.SourceFault.TheVariants as cookies
@@ -177,7 +177,7 @@ pub record Opens (come_old come_new : Option (List ℕ)) (told_old told_new : �
       stream_of broken (taken ++ more) ≡ Ok (record { encoding = b.encoding; text = (comes b more broken).text; fault = (comes b more broken).fault })
   pub row : b.row ≡ 1
   pub fault : b.fault ≡ None
-  pub within : b.count ≤ SOURCE_LIMIT
+  pub within : b.count ≤ source_limit
   pub pending : length b.pending ≤ b.count
   -- no more is taken past the lines that decide than one read gives
   pub ahead : b.count ≤ 8_192 + head_len taken

@@ -16,6 +16,8 @@ impl ByteIn for Trickle<'_> {
 
     ghost failure_count = { λ r. r.failures };
 
+    ghost may_fail = { λ r. r.fails };
+
     fn failures(&self) -> u64 {
         self.failures
     }

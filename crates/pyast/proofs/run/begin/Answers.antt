@@ -4,7 +4,7 @@ use Rattle.pyast.proofs.StartLemmas.{starts, starts_at, refused, unresumed}
 use Rattle.pyast.proofs.run.begin.Goals as goal
 
 pub returns-in_ok-new-in-None-clause-starts : goal.returns-in_ok-new-in-None-clause-starts
-returns-in_ok-new-in-None-clause-starts g c = rw c.in-None.is (starts _ _ _ _ _ _ 0 c.in_ok-new-in-None.ensures.begins c.in_ok-new-in-None.ensures.given (λ p more broken s. refl))
+returns-in_ok-new-in-None-clause-starts g c = rw c.in-None.is (starts _ _ _ _ _ _ 0 c.in_ok-new-in-None.ensures.begins.begins c.in_ok-new-in-None.ensures.given (λ p more broken s. refl))
 
 pub returns-in_ok-resume_checked-in-Some-clause-starts :
     goal.returns-in_ok-resume_checked-in-Some-clause-starts

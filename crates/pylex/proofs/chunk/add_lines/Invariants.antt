@@ -1,7 +1,7 @@
 use Rattle.std.proofs.Common.{◌≡◌, ◌+◌, ◌-◌, ◌<◌, ◌^◌, ℕ, length, string_bytes}
 use Rattle.std.specs.Str.{IsCharBoundary}
 use Rattle.pysource.specs.Streams.{Buffered}
-use Rattle.pysource.specs.declared.bytes.TheConstants.{SOURCE_LIMIT}
+use Rattle.pysource.specs.Limits.{source_limit}
 use Rattle.pysource.specs.declared.streams.Reach.TheVariants.{Reading}
 use Rattle.pylex.specs.Held.{LinesBehind}
 use Rattle.pylex.specs.Chunked.{AddsOn}
@@ -16,4 +16,4 @@ invariant-loop-literal g l = record {
 }
 
 abbrev pub decreases-loop-literal : goal.decreases-loop-literal
-decreases-loop-literal g l = (SOURCE_LIMIT - l.lines.count) + length l.lines.pending
+decreases-loop-literal g l = (source_limit - l.lines.count) + length l.lines.pending

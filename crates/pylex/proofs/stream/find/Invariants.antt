@@ -1,6 +1,6 @@
 use Rattle.std.proofs.Common.{◌+◌, ◌-◌, length, string_bytes}
 use Rattle.std.specs.Prelude.{◌⊎◌}
-use Rattle.pysource.specs.declared.bytes.TheConstants.{SOURCE_LIMIT}
+use Rattle.pysource.specs.Limits.{source_limit}
 use Rattle.pylex.specs.Held.{Ahead, AheadBut}
 use Rattle.pylex.specs.Streamed.{IsWaiting, Searches}
 use Rattle.pylex.proofs.stream.find.Given as goal
@@ -12,4 +12,4 @@ invariant-loop-chunk g l = record {
 }
 
 abbrev pub decreases-loop-chunk : goal.decreases-loop-chunk
-decreases-loop-chunk g l = SOURCE_LIMIT - (l.chunk.base + length (string_bytes l.chunk.text))
+decreases-loop-chunk g l = source_limit - (l.chunk.base + length (string_bytes l.chunk.text))

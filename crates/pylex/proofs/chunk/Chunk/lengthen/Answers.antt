@@ -8,16 +8,16 @@ use Rattle.pylex.proofs.chunk.Chunk.lengthen.Goals as goal
 pub add_lines-requires-clause-from : goal.add_lines-requires-clause-from
 add_lines-requires-clause-from g c =
     let size : length (string_bytes c.args.self.now.text) ≡ c.len-from.result = omega (arith, c.len-from.ensures) in
-    subst (IsCharBoundary (string_bytes c.add_line.new.self.text)) size (boundary_longer _ _ c.in-Ok.ensures.longer)
+    subst (IsCharBoundary (string_bytes c.add_line.new.self.text)) size (boundary_longer _ _ c.in_ok-line.ensures.longer)
 
 pub returns-in-Some-clause-on : goal.returns-in-Some-clause-on
 returns-in-Some-clause-on g c =
-    let r = rw c.in-Text.is at c.in-Ok.ensures.on in
+    let r = rw c.in-Text.is at c.in_ok-line.ensures.on in
     rw c.in-Text.is (reads_more _ _ _ _ _ _ c.args.self.now c.add_line.new.self _ c.args.at r c.add_lines.ensures.adds refl refl refl)
 
 pub returns-in-Some-clause-holds : goal.returns-in-Some-clause-holds
 returns-in-Some-clause-holds g c =
-    let r = rw c.in-Text.is at c.in-Ok.ensures.line in
+    let r = rw c.in-Text.is at c.in_ok-line.ensures.line in
     let old = c.args.self.now in
     let size : length (string_bytes old.text) ≡ c.len-from.result = omega (arith, c.len-from.ensures) in
     rw c.in-Text.is (λ s.

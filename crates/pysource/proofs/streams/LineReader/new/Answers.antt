@@ -6,29 +6,29 @@ use Rattle.pysource.proofs.OpenLemmas.{opens, unmarked, unmarked_skip, unmarked_
 use Rattle.pysource.proofs.streams.LineReader.new.Goals as goal
 use Rattle.pysource.proofs.streams.LineReader.new.Goals.{then-has_mark, else-has_mark}
 
-pub returns-in_err-first : goal.returns-in_err-first
-returns-in_err-first g c =
+pub returns-in_err-first-clause-opening : goal.returns-in_err-first-clause-opening
+returns-in_err-first-clause-opening g c =
     let p = err_from_is_err_and c.from_residual.result c.from_residual.ensures.1 in
     rw (p.1, p.2) (refuses_head c.read_head.new.intake c.in_err-first.field-0.0 c.in_err-first.ensures.takes c.in_err-first.ensures.found)
 
-pub returns-in-Err-UnsupportedEncoding : goal.returns-in-Err-UnsupportedEncoding
-returns-in-Err-UnsupportedEncoding g c =
+pub returns-in-Err-UnsupportedEncoding-clause-opening : goal.returns-in-Err-UnsupportedEncoding-clause-opening
+returns-in-Err-UnsupportedEncoding-clause-opening g c =
     let at = c.in_ok-first in
     let e = at.ensures in
     let w = c.in-Err-UnsupportedEncoding in
     let said = ap (λ (x : List ℕ). encoding_of (take at.first x) (take (at.second - at.first) (drop at.first x))) (sym c.bytes-bytes.ensures) ∙ sym c.encoding_of.ensures ∙ w.is in
     rw w.field-0-is (refuses_unsupported c.read_head.new.intake at.first at.second w.place e.takes e.found (rw w.field-0-is at said))
 
-pub returns-in-Err-BomConflict : goal.returns-in-Err-BomConflict
-returns-in-Err-BomConflict g c =
+pub returns-in-Err-BomConflict-clause-opening : goal.returns-in-Err-BomConflict-clause-opening
+returns-in-Err-BomConflict-clause-opening g c =
     let at = c.in_ok-first in
     let e = at.ensures in
     let w = c.in-Err-BomConflict in
     let said = ap (λ (x : List ℕ). encoding_of (take at.first x) (take (at.second - at.first) (drop at.first x))) (sym c.bytes-bytes.ensures) ∙ sym c.encoding_of.ensures ∙ w.is in
     rw w.field-0-is (refuses_conflict c.read_head.new.intake at.first at.second w.place e.takes e.found (rw w.field-0-is at said))
 
-pub returns : goal.returns
-returns g c =
+pub returns-clause-opening : goal.returns-clause-opening
+returns-clause-opening g c =
     let i = c.read_head.new.intake in
     let same : c.if-has_mark.intake ≡ unmarked i = elim c.if-has_mark.branch [
       | then-has_mark w ↦

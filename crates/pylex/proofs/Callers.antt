@@ -1,14 +1,74 @@
--- The steps of a listing behind its first ones: nothing follows an end or a fault.
-use Rattle.std.proofs.Common.{◌≡◌, ℕ, zero, suc, ◌+◌, List, [], ◌∷◌, drop, refl, ap, subst, Some, None, slice_get, arith}
+-- What callers compute with: when a cursor is one of a source, and the steps of a listing behind its first ones.
+use Rattle.std.proofs.Common.{◌≡◌, ℕ, zero, suc, ◌+◌, ◌≤◌, Bool, true, false, ◌&&◌, ◌==◌, List, [], ◌∷◌, drop, length, refl, sym, ap, ◌∙◌, subst, Some, None, slice_get, nat_le, arith}
+use Rattle.std.proofs.lemmas.Bool.Decides.{nat_tests}
+use lib.Pointwise.{bytes_decides}
 use Rattle.pylex.specs.declared.entries.Entry.{Entry}
 use Rattle.pylex.specs.declared.entries.ListingFault.{ListingFault}
 use Rattle.pylex.specs.declared.entries.Step.{Step}
 use Rattle.pylex.specs.declared.entries.Step.TheVariants as steps
 use Rattle.pylex.specs.declared.kinds.Kind.TheVariants as kinds
 use Rattle.pylexeme.specs.Lexemes.{cut, left_by_cut}
-use Rattle.pylex.specs.Listing.{Source, listing, rest, up_to_end, mark, origin, steps_from}
+use Rattle.pylex.specs.Cursors.{CursorParts, cursor, flag, same_parts}
 use Rattle.pylex.specs.Laws.{LiesIn, AllLie}
+use Rattle.pylex.specs.Listing.{Source, listing, rest, up_to_end, mark, origin, steps_from}
+use Rattle.pylex.specs.Standing.{is_cursor_of, IsCursorOf}
 use Rattle.pylex.specs.Steps.{entries_of, fault_of}
+
+equals_itself : (n : ℕ) → (n == n) ≡ true
+equals_itself n = grind (arith, nat_tests)
+
+equal : (m n : ℕ) → (m == n) ≡ true → m ≡ n
+equal m n h = grind (arith, nat_tests)
+
+both : (a b : Bool) → (a && b) ≡ true → (a ≡ true) × (b ≡ true)
+both true b h = (refl, h)
+both false b h = cc
+
+same_flag : (a b : Bool) → flag a ≡ flag b → a ≡ b
+same_flag true true h = refl
+same_flag true false h = absurd (omega arith)
+same_flag false true h = absurd (omega arith)
+same_flag false false h = refl
+
+same_cursor : (c d : CursorParts) → c.given ≡ d.given → c.offset ≡ d.offset → c.row ≡ d.row → c.depth ≡ d.depth → c.begun ≡ d.begun → c.skip ≡ d.skip → c.levels ≡ d.levels → c ≡ d
+same_cursor c d given offset row depth begun skip levels = built c.given d.given c.offset d.offset c.row d.row c.depth d.depth c.begun d.begun c.skip d.skip c.levels d.levels given offset row depth begun skip levels
+  where
+    built : (g g' o o' r r' e e' : ℕ) (b b' : Bool) (k k' : ℕ) (l l' : List ℕ) → g ≡ g' → o ≡ o' → r ≡ r' → e ≡ e' → b ≡ b' → k ≡ k' → l ≡ l'
+        → record { given = g; offset = o; row = r; depth = e; begun = b; skip = k; levels = l } ≡ (let d : CursorParts = record { given = g'; offset = o'; row = r'; depth = e'; begun = b'; skip = k'; levels = l' } in d)
+    built g g' o o' r r' e e' b b' k k' l l' p1 p2 p3 p4 p5 p6 p7 = rw (p1, p2, p3, p4, p5, p6, p7) refl
+
+-- two cursors of the same parts are one
+pub same_is : (c d : CursorParts) → same_parts c d ≡ true → c ≡ d
+same_is c d h =
+    let a = both (c.given == d.given) _ h in
+    let b = both (c.offset == d.offset) _ a.1 in
+    let e = both (c.row == d.row) _ b.1 in
+    let f = both (c.depth == d.depth) _ e.1 in
+    let i = both (flag c.begun == flag d.begun) _ f.1 in
+    let j = both (c.skip == d.skip) _ i.1 in
+    same_cursor c d (equal _ _ a.0) (equal _ _ b.0) (equal _ _ e.0) (equal _ _ f.0) (same_flag _ _ (equal _ _ i.0)) (equal _ _ j.0) ((bytes_decides c.levels d.levels).0 j.1)
+
+pub same_itself : (c : CursorParts) → same_parts c c ≡ true
+same_itself c = rw (equals_itself c.given, equals_itself c.offset, equals_itself c.row, equals_itself c.depth, equals_itself (flag c.begun), equals_itself c.skip) ((bytes_decides c.levels c.levels).1 refl)
+
+-- a cursor of a source, by the entries of that
+pub record IsBehind (c : CursorParts) (s : Source) : Type 0 where
+  pub within : c.given ≤ length (entries_of (listing s))
+  pub is : c ≡ cursor s c.given
+
+-- to be a cursor of a source is to be that behind so many of its entries
+pub is_behind : {c : CursorParts} {s : Source} → IsCursorOf c s → IsBehind c s
+unfolding is_cursor_of
+is_behind {c} {s} h = let t = both (nat_le c.given (length (entries_of (listing s)))) _ h in let w = t.0 in record { within = grind (arith, nat_tests); is = same_is c (cursor s c.given) t.1 }
+
+is_within : (m n : ℕ) → m ≤ n → nat_le m n ≡ true
+is_within m n h = grind (arith, nat_tests)
+
+pub is_own : {c : CursorParts} {s : Source} → IsBehind c s → IsCursorOf c s
+unfolding is_cursor_of
+is_own {c} {s} o =
+    let same : same_parts c (cursor s c.given) ≡ true = ap (λ d. same_parts c d) (sym o.is) ∙ same_itself c in
+    rw (is_within c.given (length (entries_of (listing s))) o.within) same
 
 -- a list behind its first k elements, of which the next is known
 pub drop_at : {X : Type 0} (xs : List X) (k : ℕ) (x : X) → slice_get xs k ≡ Some x → drop k xs ≡ x ∷ drop (k + 1) xs
