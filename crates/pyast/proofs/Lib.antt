@@ -6,3 +6,4 @@ pub mod TakenLemmas
 pub mod ListLemmas
 pub mod StartLemmas
 pub mod UnreadLemmas
+pub mod WordsLemmas

@@ -21,7 +21,7 @@ use Rattle.pyast.specs.Runs.{cursor_line, left_behind, output_from, fault_from, 
 use Rattle.pyast.specs.Taken.{Goes}
 use Rattle.pyast.specs.declared.fault.Fault.{Fault}
 use Rattle.pyast.specs.declared.fault.Fault.TheVariants.{Plain}
-use Rattle.pyast.specs.declared.fault.FaultCode.TheVariants.{Memory}
+use Rattle.pyast.specs.declared.fault.RunFaultCode.TheVariants.{Memory}
 use Rattle.pyast.proofs.RunLemmas.{HoldsFor-fault, TakesAllBut-written}
 use Rattle.pyast.proofs.OutputLemmas.{held_next, told_next, output_ended, fault_ended, cursor_held, told_none}
 use Rattle.pyast.proofs.TakenLemmas.{is_broken, continues_none}

@@ -13,7 +13,7 @@ use Rattle.pylex.specs.Streamed.{Continues}
 use Rattle.pyast.specs.Runs.{WritesFor, Performs}
 use Rattle.pyast.specs.declared.fault.Fault.{Fault}
 use Rattle.pyast.specs.declared.fault.Fault.TheVariants.{Plain}
-use Rattle.pyast.specs.declared.fault.FaultCode.TheVariants.{Read}
+use Rattle.pyast.specs.declared.fault.RunFaultCode.TheVariants.{Read}
 
 -- no byte comes any more, since a read failed or the limit was passed
 abbrev pub is_broken : Reach → Bool
@@ -58,6 +58,7 @@ module _ (output : Bool → List ℕ → List ℕ) (told : Bool → List ℕ →
   reading None new within size same c does = record {
     input = all ++ [];
     broken = false;
+    within = rw length-append (omega (arith, size, within));
     whole = λ e. (tt, same);
     cut = λ e. cc;
     read = λ is. absurd (unread (all ++ []) (does [] false tt (omega arith)) is);
@@ -76,6 +77,7 @@ module _ (output : Bool → List ℕ → List ℕ) (told : Bool → List ℕ →
         record {
           input = all ++ front;
           broken = true;
+          within = omega (arith, both, long, size, within);
           whole = λ e. cc;
           cut = λ e. inr (record { past = back; some = omega (arith, left, past, within); full = omega (arith, both, long, size, within); front = inr (ap (λ b. Some b) parts); unfailed = same });
           read = λ is. absurd (unread (all ++ []) (does [] false tt (omega (arith, within))) is);
@@ -84,6 +86,7 @@ module _ (output : Bool → List ℕ → List ℕ) (told : Bool → List ℕ →
     | inr fits ↦ record {
       input = all ++ rest;
       broken = false;
+      within = rw length-append (omega (arith, fits, size));
       whole = λ e. (c, same);
       cut = λ e. cc;
       read = λ is. absurd (unread (all ++ []) (does [] false tt (omega (arith, within))) is);
@@ -102,6 +105,7 @@ module _ (output : Bool → List ℕ → List ℕ) (told : Bool → List ℕ →
       record {
         input = all ++ [];
         broken = false;
+        within = rw length-append (omega (arith, within, t.count));
         whole = λ e. (all_known come new (all ++ []) (subst (λ l. Consumes come new (all ++ l)) none t.consumes) (t.ended (λ e. cc) refl), omega (arith, t.told));
         cut = λ e. cc;
         read = λ is. absurd (unread (all ++ []) writes is);
@@ -113,6 +117,7 @@ module _ (output : Bool → List ℕ → List ℕ) (told : Bool → List ℕ →
       record {
         input = all ++ [];
         broken = true;
+        within = rw length-append (omega (arith, within, t.count));
         whole = λ e. cc;
         cut = λ e. inl (record { front = subst (λ l. Consumes come new (all ++ l)) none t.consumes; failed = omega (arith, t.told) });
         read = λ is. inl (omega (arith, t.told));
@@ -126,6 +131,7 @@ module _ (output : Bool → List ℕ → List ℕ) (told : Bool → List ℕ →
       record {
         input = all ++ [];
         broken = true;
+        within = rw length-append (omega (arith, within, t.count));
         whole = λ e. cc;
         cut = λ e. inr (record { past = t.lost; some = some; full = ap length same ∙ omega (arith, full, t.count); front = inl (rw same t.consumes); unfailed = omega (arith, t.told) });
         read = λ is. inr (all ++ t.lost, rw length-append (omega (arith, some, full, t.count)), t.consumes);

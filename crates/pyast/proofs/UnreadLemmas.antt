@@ -17,9 +17,11 @@ use Rattle.pysource.specs.declared.encodings.Charset.TheVariants.{Utf8, Ascii}
 use Rattle.pysource.specs.declared.encodings.SourceFault.{SourceFault}
 use Rattle.pysource.specs.declared.encodings.SourceFault.TheVariants as refused
 use Rattle.pysource.specs.declared.faults.LineError.{LineError}
+use Rattle.pysource.specs.declared.faults.LineError.TheVariants as line_errors
 use Rattle.pysource.specs.declared.faults.LineFault.{LineFault}
 use Rattle.pysource.specs.declared.places.Place.{Place}
 use Rattle.pylex.specs.declared.entries.Entry.{Entry}
+use Rattle.pylex.specs.declared.entries.ListingError.{ListingError}
 use Rattle.pylex.specs.declared.entries.ListingError.TheVariants as errors
 use Rattle.pylex.specs.declared.entries.ListingFault.{ListingFault}
 use Rattle.pylex.specs.declared.entries.Step.{Step}
@@ -37,11 +39,11 @@ use Rattle.pylex.specs.Operators.{is_closer}
 use Rattle.pylex.specs.Steps.{entries_of, fault_of}
 use Rattle.pylex.specs.Strings.{opens_string}
 use Rattle.pylex.specs.Streamed.{is_unread_code}
-use Rattle.pyast.specs.Faults.{of_listing}
+use Rattle.pyast.specs.Faults.{code_of, told_at, of_listing}
 use Rattle.pyast.specs.Runs.{stops_after, start_in, ends_unread, missed, told_of, fault_from, tokens_fault}
 use Rattle.pyast.specs.declared.fault.Fault.{Fault}
 use Rattle.pyast.specs.declared.fault.Fault.TheVariants.{Plain}
-use Rattle.pyast.specs.declared.fault.FaultCode.TheVariants.{Read, CursorOfAnotherSource}
+use Rattle.pyast.specs.declared.fault.RunFaultCode.TheVariants.{Read, CursorOfAnotherSource}
 
 -- no fault among the steps is a line that could not be read whole
 abbrev AllRead : List Step → Type 0
@@ -193,16 +195,24 @@ line_read charset row (line ∷ lines) = by_first (first_bad charset line) (firs
 abbrev Quiet : Option Fault → Type 0
 Quiet told = told ≢ Some (Plain Read)
 
+code_read : (e : ListingError) (place : Place) → is_unread_code e ≡ false → Quiet (Some (told_at (code_of e) place))
+code_read (errors.Line line_errors.NotUtf8) place h = λ g. cc
+code_read (errors.Line line_errors.NotAscii) place h = λ g. cc
+code_read (errors.Line line_errors.LoneReturn) place h = λ g. cc
+code_read (errors.Line line_errors.Unread) place h = cc
+code_read errors.BadCharacter place h = λ g. cc
+code_read errors.UnterminatedString place h = λ g. cc
+code_read errors.EofInString place h = λ g. cc
+code_read errors.EofInStatement place h = λ g. cc
+code_read errors.UnindentMismatch place h = λ g. cc
+code_read errors.UnmatchedCloser place h = λ g. cc
+
 quiet_told : (ss : List Step) → AllRead ss → Quiet (told_of ss)
 quiet_told ss h = by_fault (fault_of ss) (fault_read ss h)
   where
     by_fault : (o : Option ListingFault) → IsRead o → Quiet (option_map of_listing o)
     by_fault None u = λ e. cc
-    by_fault (Some f) u = by_code (is_unread_code f.code) refl
-      where
-        by_code : (b : Bool) → is_unread_code f.code ≡ b → Quiet (Some (of_listing f))
-        by_code true e = cc
-        by_code false e = rw e (λ g. cc)
+    by_fault (Some f) u = code_read f.code f.place u
 
 quiet_from : (p : Parts) (count : Option ℕ) (k : ℕ) → IsRead (option_map of_line p.fault) → Quiet (fault_from p count k)
 quiet_from p None k h = quiet_told (rest (in_characters p) k) (AllRead-drop (listing (in_characters p)) k (listing_read (in_characters p) h))

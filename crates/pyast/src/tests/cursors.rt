@@ -1,6 +1,6 @@
 //! Listings that stop after a count of entries, and that go on behind a cursor.
 
-use crate::command::Command;
+use crate::command::{Command, Tokens};
 use crate::run::run;
 use crate::tests::expected::{push_lines, reader, writer};
 use pylex::Cursor;
@@ -361,12 +361,12 @@ fn stops_and_goes_on(rt: HostRuntime) -> Result<(), Fail> {
         } else {
             Some(Cursor::from_text(rt.alloc(), resume)?)
         };
-        let command = Command::Tokens {
+        let command = Command::Tokens(Tokens {
             exact: false,
             count,
             resume,
             file: None,
-        };
+        });
         let mut reader = reader(source);
         let mut output = writer(rt.alloc());
         let mut faults = writer(rt.alloc());

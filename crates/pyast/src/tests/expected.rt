@@ -1,7 +1,7 @@
 //! What the tests compare with.
 ghost use Rattle.std.specs.Prelude.{◌≡◌, ◌<◌, ◌-◌, ◌^◌};
 
-use crate::command::Command;
+use crate::command::{Command, Tokens};
 use crate::fakes::{Narrow, Trickle};
 use crate::run::run;
 use pysource::{ByteIn, Counted};
@@ -102,12 +102,12 @@ fn writes_and_tells<R: ByteIn>(
 {
     let mut output = writer(alloc);
     let mut faults = writer(alloc);
-    let command = Command::Tokens {
+    let command = Command::Tokens(Tokens {
         exact: false,
         count: None,
         resume: None,
         file: None,
-    };
+    });
     let status = run(alloc, &command, reader, &mut output, &mut faults);
     assert_eq!(rt; output.taken.as_slice(), wanted);
     assert_eq!(rt; faults.taken.as_slice(), told, "behind {wanted:?}");

@@ -1,9 +1,9 @@
 //! What is told where reading, writing or opening fails.
 ghost use Rattle.std.specs.Prelude.{◌≡◌};
 
-use crate::command::Command;
+use crate::command::{Command, Tokens};
 use crate::fakes::{Narrow, Trickle};
-use crate::fault::{Fault, FaultCode};
+use crate::fault::{Fault, RunFaultCode};
 use crate::open_source;
 use crate::run::run;
 use crate::tests::expected::{push_lines, reader, writer};
@@ -13,12 +13,12 @@ use std::alloc::Global;
 use std::process::Abort;
 use std::test::Fail;
 
-const TOKENS: Command = Command::Tokens {
+const TOKENS: Command = Command::Tokens(Tokens {
     exact: false,
     count: None,
     resume: None,
     file: None,
-};
+});
 
 // A writer that takes so many bytes, and then fails or takes none.
 fn narrow(alloc: Global, step: usize, room: usize, takes_none: bool) -> Narrow
@@ -67,12 +67,12 @@ fn stops_where_the_writer_fails_in_the_line_of_a_cursor(rt: HostRuntime) -> Resu
     push_lines(&mut wanted, "0,0-0,0 ENCODING 'utf-8'")?;
     wanted.push_str("cursor pytok1 1 0 1 0 0 0 0\n")?;
     let whole = wanted.as_bytes();
-    let command = Command::Tokens {
+    let command = Command::Tokens(Tokens {
         exact: false,
         count: Some(1),
         resume: None,
         file: None,
-    };
+    });
     for room in 0..=whole.len() {
         for takes_none in [false, true] {
             let mut reader = reader(b"x $\n");
@@ -266,12 +266,12 @@ fn stops_at_a_count_before_a_failed_read(rt: HostRuntime) -> Result<(), Fail> {
         "0,0-0,0 ENCODING 'utf-8'\n1,0-1,1 NAME 'x'\n1,1-1,2 NEWLINE '\\n'",
     )?;
     wanted.push_str("cursor pytok1 3 2 2 0 0 0 0\n")?;
-    let command = Command::Tokens {
+    let command = Command::Tokens(Tokens {
         exact: false,
         count: Some(3),
         resume: None,
         file: None,
-    };
+    });
     let mut reader = Trickle {
         bytes: b"x\ny",
         fails: true,
@@ -306,12 +306,12 @@ fn tells_a_failed_read_before_a_cursor(rt: HostRuntime) -> Result<(), Fail> {
             2,
         ),
     ] {
-        let command = Command::Tokens {
+        let command = Command::Tokens(Tokens {
             exact: false,
             count: None,
             resume: Some(Cursor::from_text(rt.alloc(), resume)?),
             file: None,
-        };
+        });
         let mut reader = Trickle {
             bytes: b"x\ny",
             fails: true,
@@ -357,7 +357,7 @@ fn keeps_its_status_where_the_fault_line_fails(rt: HostRuntime) -> Result<(), Fa
 #[test]
 fn opens_a_file_or_tells_that_it_cannot(rt: HostRuntime) -> Result<(), Fail> {
     let missing = open_source(&rt, "no such folder/no such file");
-    assert!(rt; matches!(missing, Err(Fault::Plain(FaultCode::Open))));
+    assert!(rt; matches!(missing, Err(Fault::Plain(RunFaultCode::Open))));
 
     // A folder opens, and its first read fails.
     let Ok(folder) = open_source(&rt, ".") else {

@@ -1,13 +1,13 @@
 use Rattle.std.proofs.Common.{◌≡◌, Some, ap}
 use Rattle.pysource.specs.Limits.{source_limit}
 use Rattle.pyast.specs.declared.fault.Fault.TheVariants.{Plain}
-use Rattle.pyast.specs.declared.fault.FaultCode.TheVariants.{Write}
+use Rattle.pyast.specs.declared.fault.RunFaultCode.TheVariants.{Write}
 use Rattle.pyast.specs.Runs.{output_of, fault_in}
 use Rattle.pyast.proofs.RunLemmas.{Performs-told, told-plain}
 use Rattle.pyast.proofs.run.run.Goals as goal
 
-pub returns : goal.returns
-returns g c =
+pub returns-in-Err : goal.returns-in-Err
+returns-in-Err g c =
     let p = rw c.in-Err.is at c.perform.ensures in
     let told = c.tell.result in
     let same = c.tell.ensures.same in
