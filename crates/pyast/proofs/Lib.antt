@@ -1,6 +1,5 @@
 pub mod StepsLemmas
 pub mod RunLemmas
-pub mod FakesLemmas
 pub mod OutputLemmas
 pub mod CursorLemmas
 pub mod TakenLemmas

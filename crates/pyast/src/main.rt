@@ -82,6 +82,4 @@ fn main(rt: HostRuntime) -> ExitCode {
 }
 
 #[cfg(test)]
-mod fakes;
-#[cfg(test)]
 mod tests;
