@@ -1,5 +1,4 @@
 pub mod RunLemmas
-pub mod FakesLemmas
 pub mod OutputLemmas
 pub mod CursorLemmas
 pub mod TakenLemmas

@@ -83,6 +83,4 @@ fn main(rt: HostRuntime) -> ExitCode {
 }
 
 #[cfg(test)]
-mod fakes;
-#[cfg(test)]
 mod tests;

@@ -372,15 +372,11 @@ fn stops_and_goes_on(rt: HostRuntime) -> Result<(), Fail> {
         let mut faults = writer(rt.alloc());
         let status = run(rt.alloc(), &command, &mut reader, &mut output, &mut faults);
         assert_eq!(rt;
-            output.taken.as_slice(),
+            output.taken(),
             wanted.as_bytes(),
             "at {source:?}, {count:?}"
         );
-        assert_eq!(rt;
-            faults.taken.as_slice(),
-            told.as_bytes(),
-            "at {source:?}, {count:?}"
-        );
+        assert_eq!(rt; faults.taken(), told.as_bytes(), "at {source:?}, {count:?}");
         assert_eq!(rt; status, wanted_status, "at {source:?}, {count:?}");
     }
     Ok(())

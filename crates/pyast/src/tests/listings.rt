@@ -322,8 +322,8 @@ fn shows_exact_names(rt: HostRuntime) -> Result<(), Fail> {
                   1,6-1,7:            NUMBER         '2'            \n\
                   1,7-1,8:            NEWLINE        '\\n'           \n\
                   2,0-2,0:            ENDMARKER      ''             \n";
-    assert_eq!(rt; output.taken.as_slice(), wanted.as_bytes());
-    assert!(rt; faults.taken.is_empty());
+    assert_eq!(rt; output.taken(), wanted.as_bytes());
+    assert!(rt; faults.taken().is_empty());
     assert_eq!(rt; status, 0);
     Ok(())
 }
@@ -341,7 +341,7 @@ fn names_the_file_in_a_fault(rt: HostRuntime) -> Result<(), Fail> {
     });
     let status = run(rt.alloc(), &command, &mut reader, &mut output, &mut faults);
     let wanted = "dir/a b.py:2:2: error: unexpected character\n";
-    assert_eq!(rt; faults.taken.as_slice(), wanted.as_bytes());
+    assert_eq!(rt; faults.taken(), wanted.as_bytes());
     assert_eq!(rt; status, 1);
     Ok(())
 }
