@@ -42,11 +42,13 @@ fn has_quote(text: &Scanner, quote: Quote) -> bool
 }
 
 /// Whether a quote stands here three times.
+#[inline(always)]
 fn has_three(text: &Scanner, quote: Quote) -> bool
     ensures { result ≡ begins_quotes (quote_char quote) text.now }
 {
-    let mark = CharSet::One(quote.as_char());
-    text.has_next(0, mark) && text.has_next(1, mark) && text.has_next(2, mark)
+    has_quote(text, quote)
+        && text.has_next(1, CharSet::One(quote.as_char()))
+        && text.has_next(2, CharSet::One(quote.as_char()))
 }
 
 /// Takes the unit that stands here: a backslash and the character or the CR LF after it, or one other character.
