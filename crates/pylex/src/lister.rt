@@ -91,7 +91,8 @@ impl<'a> Lister<'a> {
         self.position.is_at(cursor)
     }
 
-    /// The lister's cursor: what is kept of the listing behind the entries that were given.
+    /// The lister's cursor: what is kept of the listing behind the entries that were given. With it [`Lister::resume`] goes
+    /// on in this source.
     pub fn cursor(&self) -> Result<Cursor, AllocError>
         ensures shown { IfOk result (λ cursor. cursor ≡ self.entry.now.shown) }
         ensures leads { IfOk result (λ cursor. LeadsInto cursor self.entry.now.source) }

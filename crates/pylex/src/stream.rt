@@ -186,7 +186,8 @@ impl Model for LineLister {
 }
 
 impl LineLister {
-    /// Begins at the start of the source that the reader gives. It reads the lines that decide the encoding.
+    /// Begins at the start of the source that the reader gives. It reads the lines that decide the encoding, and at most
+    /// 8,192 bytes past them; none is held yet.
     ///
     /// # Errors
     ///
