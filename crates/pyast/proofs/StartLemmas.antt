@@ -1,5 +1,5 @@
 -- How a run begins, or is refused.
-use Rattle.std.proofs.Common.{◌≡◌, ◌≢◌, ℕ, Bool, true, false, ◌&&◌, List, [], ◌++◌, length, refl, sym, ap, subst, inl, inr, ◌∙◌, Option, Some, None, Ok, append_assoc, arith}
+use Rattle.std.proofs.Common.{◌≡◌, ℕ, Bool, true, false, ◌&&◌, List, [], ◌++◌, length, refl, sym, ap, subst, inl, inr, ◌∙◌, Option, Some, None, Ok, append_assoc, arith}
 use Rattle.std.specs.Prelude.{nat_lt}
 use Rattle.std.proofs.lemmas.Bool.Decides.{nat_tests}
 use Rattle.pysource.specs.Parts.{Parts}
@@ -25,13 +25,13 @@ use Rattle.pylex.specs.Standing.{IsCursorOf}
 use Rattle.pylex.specs.Steps.{entries_of, fault_of}
 use Rattle.pylex.specs.Streamed.{Streamed, StreamsIn, Begins, Misses, MissesBy, EndsUnread, is_unread_code}
 use Rattle.pyast.specs.Faults.{of_resume, of_stream}
-use Rattle.pyast.specs.Runs.{start_in, ends_unread, missed, tokens_output, tokens_fault, HoldsFor, WritesFor, Performs}
+use Rattle.pyast.specs.Runs.{start_in, ends_unread, missed, tokens_output, tokens_fault, WritesFor, Performs}
 use Rattle.pyast.specs.Taken.{TookAll, Starts, Goes}
 use Rattle.pyast.specs.declared.fault.Fault.{Fault}
 use Rattle.pyast.specs.declared.fault.Fault.TheVariants.{Plain}
-use Rattle.pyast.specs.declared.fault.RunFaultCode.TheVariants.{Read, Write, Memory, CursorOfAnotherSource}
+use Rattle.pyast.specs.declared.fault.RunFaultCode.TheVariants.{Read, Memory, CursorOfAnotherSource}
 use Rattle.pyast.proofs.CursorLemmas.{starts_behind, starts_nowhere}
-use Rattle.pyast.proofs.TakenLemmas.{is_broken, performs}
+use Rattle.pyast.proofs.TakenLemmas.{performs}
 use Rattle.pyast.proofs.UnreadLemmas.{quiet}
 
 -- a lister that has begun

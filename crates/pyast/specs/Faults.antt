@@ -1,5 +1,5 @@
 -- The faults, what is printed for each, and the status that the program ends with.
-use Rattle.std.specs.Prelude.{◌≡◌, ℕ, if◌then◌else◌, List, ◌++◌, ◌⊎◌, codes, Option, Some, None, decimal}
+use Rattle.std.specs.Prelude.{◌≡◌, ℕ, List, ◌++◌, ◌⊎◌, codes, Option, Some, None, decimal}
 use Rattle.std.specs.Io.KnownBytes.{Appends}
 use Rattle.pysource.specs.Bytes.{TakesFront}
 use Rattle.pysource.specs.declared.faults.LineError.TheVariants as line_errors
@@ -13,7 +13,6 @@ use Rattle.pylex.specs.declared.stream.ResumeFault.{ResumeFault}
 use Rattle.pylex.specs.declared.stream.ResumeFault.TheVariants as resume_faults
 use Rattle.pyast.specs.declared.fault.SourceFaultCode.{SourceFaultCode}
 use Rattle.pyast.specs.declared.fault.SourceFaultCode.TheVariants.{UnsupportedEncoding, BomConflict, NotUtf8, NotAscii, LoneReturn, BadCharacter, UnterminatedString, EofInString, EofInStatement, UnindentMismatch, UnmatchedCloser}
-use Rattle.pyast.specs.declared.fault.RunFaultCode.{RunFaultCode}
 use Rattle.pyast.specs.declared.fault.RunFaultCode.TheVariants.{Read, CursorOfAnotherSource, CursorText, BadArguments, Open, Write, Memory}
 use Rattle.pyast.specs.declared.fault.FaultCode.{FaultCode}
 use Rattle.pyast.specs.declared.fault.FaultCode.TheVariants.{Source, Run}

@@ -204,7 +204,8 @@ impl Command {
         let Some(matches) = matches.subcommand_matches("tokens") else {
             return Err(UsageFault::BadArguments);
         };
-        Ok(Command::Tokens(tokens_of(alloc, matches)?))
+        let asked = tokens_of(alloc, matches)?;
+        Ok(Command::Tokens(asked))
     }
 
     /// The file to read, if it isn't the standard input.

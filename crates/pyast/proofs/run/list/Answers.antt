@@ -1,8 +1,7 @@
-use Rattle.std.proofs.Common.{◌≡◌, ◌≢◌, ◌++◌, refl, sym, ◌∙◌, string_bytes, Some, arith}
+use Rattle.std.proofs.Common.{◌≡◌, ◌≢◌, refl, ◌∙◌, string_bytes, Some, arith}
 use Rattle.std.proofs.lemmas.Result.{err_from_is_err_and}
 use Rattle.std.specs.Io.KnownBytes.{Appends}
 use Rattle.pysource.specs.Bytes.{TakesFront}
-use Rattle.pylex.specs.ListingLines.{listing_line}
 use Rattle.pyast.proofs.ListLemmas.{came_none, came_next, came_written, goes_here, goes_on, counts_up, next_in, memory_held, stopped_held, ended_held, faulty_held}
 use Rattle.pyast.proofs.RunLemmas.{TakesAllBut-cut}
 use Rattle.pyast.proofs.run.list.Goals as goal

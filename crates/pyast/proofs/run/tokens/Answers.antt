@@ -1,10 +1,7 @@
-use Rattle.std.proofs.Common.{◌≡◌, ◌≢◌, arith, Some, None, string_bytes}
+use Rattle.std.proofs.Common.{arith, string_bytes}
 use Rattle.std.proofs.lemmas.Result.{err_from_is_err_and}
 use Rattle.std.specs.Io.KnownBytes.{Appends}
 use Rattle.pysource.specs.Bytes.{TakesFront}
-use Rattle.pyast.specs.Runs.{ended_by}
-use Rattle.pyast.specs.declared.fault.Fault.TheVariants.{Plain}
-use Rattle.pyast.specs.declared.fault.RunFaultCode.TheVariants.{Write}
 use Rattle.pyast.proofs.RunLemmas.{HoldsFor-cut, HoldsFor-failed, HoldsFor-written}
 use Rattle.pyast.proofs.StartLemmas.{begun, listed}
 use Rattle.pyast.proofs.run.tokens.Goals as goal
