@@ -195,7 +195,7 @@ fn is_name_start(c: char) -> bool
     if c.is_ascii() {
         return c.is_ascii_alphabetic() || c == '_';
     }
-    unicode_ident::is_xid_start(c) || c == '_'
+    unicode_ident::is_xid_start(c)
 }
 
 /// Whether a number begins here.
