@@ -1,9 +1,8 @@
-pub mod StepsLemmas
 pub mod RunLemmas
-pub mod FakesLemmas
 pub mod OutputLemmas
 pub mod CursorLemmas
 pub mod TakenLemmas
 pub mod ListLemmas
 pub mod StartLemmas
 pub mod UnreadLemmas
+pub mod WordsLemmas

@@ -4,7 +4,7 @@ use Rattle.std.specs.declared.alloc.AllocError.{AllocError}
 use Rattle.std.specs.Io.KnownBytes.{Appends}
 use Rattle.pysource.specs.Parts.{Parts}
 use Rattle.pysource.specs.Streams.{Reads}
-use Rattle.pysource.specs.declared.bytes.TheConstants.{SOURCE_LIMIT}
+use Rattle.pysource.specs.Limits.{source_limit}
 use Rattle.pysource.proofs.ByteLemmas.{Appends-refl}
 use Rattle.pysource.proofs.TakingLemmas.{Takes-none, Takes-on}
 use Rattle.pylex.specs.declared.entries.Entry.{Entry}
@@ -13,16 +13,16 @@ use Rattle.pylex.specs.declared.entries.Step.{Step}
 use Rattle.pylex.specs.declared.entries.Step.TheVariants as steps
 use Rattle.pylex.specs.Listing.{in_characters, listing}
 use Rattle.pylex.specs.ListingLines.{listing_line, text_of}
+use Rattle.pylex.specs.Steps.{most_entries}
 use Rattle.pylex.specs.Streamed.{Streamed, StreamsIn, Steps, Continues}
-use Rattle.pylex.proofs.Counts.{given_within}
+use Rattle.pylex.proofs.Callers.{end_last, fault_last}
 use Rattle.pyast.specs.Faults.{of_listing}
 use Rattle.pyast.specs.Runs.{cursor_line, left_behind, output_from, fault_from, TakesAllBut, HoldsFor}
 use Rattle.pyast.specs.Taken.{Goes}
 use Rattle.pyast.specs.declared.fault.Fault.{Fault}
 use Rattle.pyast.specs.declared.fault.Fault.TheVariants.{Plain}
-use Rattle.pyast.specs.declared.fault.FaultCode.TheVariants.{Memory}
+use Rattle.pyast.specs.declared.fault.RunFaultCode.TheVariants.{Memory}
 use Rattle.pyast.proofs.RunLemmas.{HoldsFor-fault, TakesAllBut-written}
-use Rattle.pyast.proofs.StepsLemmas.{end_last, fault_last}
 use Rattle.pyast.proofs.OutputLemmas.{held_next, told_next, output_ended, fault_ended, cursor_held, told_none}
 use Rattle.pyast.proofs.TakenLemmas.{is_broken, continues_none}
 
@@ -110,22 +110,12 @@ came_next come_old come_mid come_new told_old told_mid told_new old mid new step
         → (slice_get (listing (in_characters p)) k ≡ Some (steps.Entry e)) × StreamsIn new p (k + 1) more broken
     moved p k more broken f t = rw is at s.moves p k more broken f t
 
--- so many entries has every source
-abbrev pub MOST : ℕ
-MOST = 3_221_225_476
-
-within : (v : Streamed) (p : Parts) (k : ℕ) (more : List ℕ) (broken : Bool) → StreamsIn v p k more broken → k ≤ MOST
-within v p k more broken t =
-    let w = given_within (record { source = p; shown = v.shown }) (in_characters p) k t.keeps.utf8 t.stands in
-    let small = t.keeps.small in
-    omega arith
-
--- a further entry is one more of those
+-- a further entry is one more of those that a listing can have
 pub counts_up : (come_old come_mid come_new : Option (List ℕ)) (told_old told_mid told_new : ℕ) (old mid new : Streamed) (step : Step) (e : Entry) (exact : Bool) (count left : Option ℕ) (x y : Option (List ℕ)) (held : List ℕ)
-    → old.lines.count ≤ SOURCE_LIMIT → ((more : List ℕ) (broken : Bool) → Continues old.lines more broken → (p : Parts) × StreamsIn old p old.shown.given more broken)
-    → Came come_old come_mid told_old told_mid old mid exact count left x y held → Steps come_mid come_new told_mid told_new mid new (Ok step) → step ≡ steps.Entry e
-    → MOST - new.shown.given < MOST - mid.shown.given
-counts_up come_old come_mid come_new told_old told_mid told_new old mid new step e exact count left x y held limited somewhere c s is =
+    → old.lines.count ≤ source_limit → ((more : List ℕ) (broken : Bool) → Continues old.lines more broken → (p : Parts) × StreamsIn old p old.shown.given more broken)
+    → Came come_old come_mid told_old told_mid old mid exact count left x y held → Steps come_mid come_new told_mid told_new mid new (Ok step) → step ≡ steps.Entry e → new.shown.given ≤ most_entries
+    → most_entries - new.shown.given < most_entries - mid.shown.given
+counts_up come_old come_mid come_new told_old told_mid told_new old mid new step e exact count left x y held limited somewhere c s is bound =
     let broken = is_broken new.lines.reach in
     let after = continues_none new.lines (s.reads.within (c.reads.within limited)) in
     let before = s.follows [] broken after in
@@ -133,7 +123,6 @@ counts_up come_old come_mid come_new told_old told_mid told_new old mid new step
     let m = c.stood source.0 (s.taken ++ []) broken before source.1 in
     let next : StreamsIn new source.0 (mid.shown.given + 1) [] broken = (rw is at s.moves source.0 mid.shown.given [] broken after m.stands).1 in
     let given : new.shown.given ≡ mid.shown.given + 1 = next.stands.count in
-    let bound = within new source.0 (mid.shown.given + 1) [] broken next in
     omega arith
 
 -- which step comes next

@@ -12,7 +12,7 @@ use Rattle.pylex.specs.ListingLines.{listing_line, text_of}
 use Rattle.pylex.specs.Steps.{entries_of}
 use Rattle.pyast.specs.Runs.{is_marker, stops_after, lines_of, cursor_line, told_of, left_behind, output_from, fault_from, TakesAllBut}
 use Rattle.pyast.proofs.RunLemmas.{TakesAllBut-held}
-use Rattle.pyast.proofs.StepsLemmas.{next_is}
+use Rattle.pylex.proofs.Callers.{is_behind, next_is}
 use Rattle.pyast.specs.declared.fault.Fault.{Fault}
 
 le_zero : (n : ℕ) → nat_le 0 n ≡ true
@@ -124,7 +124,7 @@ pub cursor_held : (exact : Bool) (p : Parts) (shown : CursorParts) (left : Optio
     → TakesAllBut x y output before (output_from exact p left shown.given) → TakesAllBut x y output held []
 cursor_held exact p shown left x y output before held zero_left own is h =
     let line : output_from exact p left shown.given ≡ cursor_line shown ++ [] =
-    ap (λ n. output_from exact p n shown.given) zero_left ∙ output_stopped exact p shown.given ∙ ap cursor_line (sym own.is) ∙ sym (append-nil (cursor_line shown)) in
+    ap (λ n. output_from exact p n shown.given) zero_left ∙ output_stopped exact p shown.given ∙ ap cursor_line (sym (is_behind own).is) ∙ sym (append-nil (cursor_line shown)) in
     rw is (TakesAllBut-held x y output before (cursor_line shown) [] (rw line at h))
 
 pub told_none : (p : Parts) (left : Option ℕ) (k : ℕ) → left ≡ Some 0 → fault_from p left k ≡ None

@@ -5,11 +5,11 @@ use Rattle.std.specs.Io.KnownBytes.{Appends}
 use Rattle.pysource.specs.Bytes.{TakesFront}
 use Rattle.pysource.proofs.ByteLemmas.{Appends-append, TakesFront-after, TakesFront-done}
 use Rattle.pylex.specs.declared.entries.ListingFault.{ListingFault}
-use Rattle.pylex.specs.Streamed.{is_unread_code}
-use Rattle.pyast.specs.Faults.{Tells, of_listing, IsToldAs}
+use Rattle.pyast.specs.Faults.{Tells, code_of, told_at, of_listing, IsToldAs}
 use Rattle.pyast.specs.Runs.{TakesAllBut, HoldsFor, WritesFor, Performs}
-use Rattle.pyast.specs.declared.fault.FaultCode.{FaultCode}
-use Rattle.pyast.specs.declared.fault.FaultCode.TheVariants.{Read, Write, Memory, CursorOfAnotherSource}
+use Rattle.pyast.specs.declared.fault.RunFaultCode.{RunFaultCode}
+use Rattle.pyast.specs.declared.fault.SourceFaultCode.{SourceFaultCode}
+use Rattle.pyast.specs.declared.fault.RunFaultCode.TheVariants.{Read, Write, Memory, CursorOfAnotherSource}
 use Rattle.pyast.specs.declared.fault.Fault.{Fault}
 use Rattle.pyast.specs.declared.fault.Fault.TheVariants.{InSource, Plain}
 
@@ -59,12 +59,18 @@ TakesAllBut-cut x y z output held left (written, is, p) q = TakesFront-after x y
 
 -- a front of what is held at a listing's end is written
 pub HoldsFor-cut : (output : List ℕ) (told : Option Fault) (x y z : Option (List ℕ)) (held : List ℕ) (ended : Option Fault)
-    → HoldsFor output told x y held ended → TakesFront y z held → TakesFront x z output
-HoldsFor-cut output told x y z held None p q = TakesAllBut-cut x y z output held [] p.1 q
-HoldsFor-cut output told x y z held (Some (InSource code place)) p q = TakesAllBut-cut x y z output held [] p.1 q
-HoldsFor-cut output told x y z held (Some (Plain Memory)) p q = TakesAllBut-cut x y z output held p.0 p.1 q
-HoldsFor-cut output told x y z held (Some (Plain Read)) p q = TakesAllBut-cut x y z output held [] p.1 q
-HoldsFor-cut output told x y z held (Some (Plain other)) p q = absurd p
+    → ended ≢ Some (Plain Write) → HoldsFor output told x y held ended → TakesFront y z held → TakesFront x z output
+HoldsFor-cut output told x y z held None n p q = TakesAllBut-cut x y z output held [] p.1 q
+HoldsFor-cut output told x y z held (Some (InSource code place)) n p q = TakesAllBut-cut x y z output held [] p.1 q
+HoldsFor-cut output told x y z held (Some (Plain Memory)) n p q = TakesAllBut-cut x y z output held p.0 p.1 q
+HoldsFor-cut output told x y z held (Some (Plain Read)) n p q = TakesAllBut-cut x y z output held [] p.1 q
+HoldsFor-cut output told x y z held (Some (Plain Write)) n p q = absurd (n refl)
+HoldsFor-cut output told x y z held (Some (Plain other)) n p q = absurd p
+
+-- where a write failed, a front is written
+pub HoldsFor-failed : (output : List ℕ) (told : Option Fault) (x y : Option (List ℕ)) (held : List ℕ) (ended : Option Fault)
+    → ended ≡ Some (Plain Write) → HoldsFor output told x y held ended → WritesFor output told x y ended
+HoldsFor-failed output told x y held ended is p = rw is (rw is at p)
 
 -- all of the output is written
 all_written : (output : List ℕ) (x y z : Option (List ℕ)) (held : List ℕ) → TakesAllBut x y output held [] → Appends y z held → Appends x z output
@@ -72,21 +78,22 @@ all_written output x y z held (written, is, p) q = rw (is, append-nil (written +
 
 -- all that was held at a listing's end is written
 pub HoldsFor-written : (output : List ℕ) (told : Option Fault) (x y z : Option (List ℕ)) (held : List ℕ) (ended : Option Fault)
-    → HoldsFor output told x y held ended → Appends y z held → WritesFor output told x z ended
-HoldsFor-written output told x y z held None p q = (p.0, all_written output x y z held p.1 q)
-HoldsFor-written output told x y z held (Some (InSource code place)) p q = (p.0, all_written output x y z held p.1 q)
-HoldsFor-written output told x y z held (Some (Plain Read)) p q = (p.0, all_written output x y z held p.1 q)
-HoldsFor-written output told x y z held (Some (Plain Memory)) (left, (written, is, p)) q = (written ++ held, left, is, Appends-append x y z written held p q)
-HoldsFor-written output told x y z held (Some (Plain other)) p q = absurd p
+    → ended ≢ Some (Plain Write) → HoldsFor output told x y held ended → Appends y z held → WritesFor output told x z ended
+HoldsFor-written output told x y z held None n p q = (p.0, all_written output x y z held p.1 q)
+HoldsFor-written output told x y z held (Some (InSource code place)) n p q = (p.0, all_written output x y z held p.1 q)
+HoldsFor-written output told x y z held (Some (Plain Read)) n p q = (p.0, all_written output x y z held p.1 q)
+HoldsFor-written output told x y z held (Some (Plain Memory)) n (left, (written, is, p)) q = (written ++ held, left, is, Appends-append x y z written held p q)
+HoldsFor-written output told x y z held (Some (Plain Write)) n p q = absurd (n refl)
+HoldsFor-written output told x y z held (Some (Plain other)) n p q = absurd p
 
 -- a listing ended by a fault, and all before that is held
 pub HoldsFor-fault : (output : List ℕ) (told : Option Fault) (x y : Option (List ℕ)) (held : List ℕ) (f : ListingFault) → told ≡ Some (of_listing f) → TakesAllBut x y output held []
     → HoldsFor output told x y held (Some (of_listing f))
-HoldsFor-fault output told x y held f is p = by_code (is_unread_code f.code) refl
+HoldsFor-fault output told x y held f is p = by_code (code_of f.code) is
   where
-    by_code : (b : Bool) → is_unread_code f.code ≡ b → HoldsFor output told x y held (Some (of_listing f))
-    by_code true e = rw e (rw e at is, p)
-    by_code false e = rw e (rw e at is, p)
+    by_code : (o : Option SourceFaultCode) → told ≡ Some (told_at o f.place) → HoldsFor output told x y held (Some (told_at o f.place))
+    by_code None e = (e, p)
+    by_code (Some code) e = (e, p)
 
 -- whatever was written stands at the front of the output
 pub WritesFor-front : (output : List ℕ) (told : Option Fault) (x y : Option (List ℕ)) (ended : Option Fault) → WritesFor output told x y ended → TakesFront x y output
@@ -107,6 +114,7 @@ Performs-told output told come_old come_new reads_old reads_new x y limit (InSou
   | inr e ↦ rw e (record {
     input = p.input;
     broken = p.broken;
+    within = p.within;
     whole = p.whole;
     cut = p.cut;
     read = λ e. cc;
@@ -115,9 +123,9 @@ Performs-told output told come_old come_new reads_old reads_new x y limit (InSou
 ]
 
 -- a fault without a place is told as itself, and only as that
-pub told-plain : (fault told : Fault) (code : FaultCode) → code ≢ Memory → IsToldAs fault told → (told ≡ Plain code → fault ≡ Plain code) × (fault ≡ Plain code → told ≡ Plain code)
+pub told-plain : (fault told : Fault) (code : RunFaultCode) → code ≢ Memory → IsToldAs fault told → (told ≡ Plain code → fault ≡ Plain code) × (fault ≡ Plain code → told ≡ Plain code)
 told-plain (Plain other) told code ne is = (λ e. cc, λ e. cc)
 told-plain (InSource other place) told code ne is = (λ e. elim is [ inl f ↦ cc | inr f ↦ absurd (ne (injects (sym e ∙ f))) ], λ e. cc)
   where
-    injects : {a b : FaultCode} → Plain a ≡ Plain b → a ≡ b
+    injects : {a b : RunFaultCode} → Plain a ≡ Plain b → a ≡ b
     injects e = cc

@@ -1,12 +1,12 @@
 -- How a run begins, or is refused.
-use Rattle.std.proofs.Common.{◌≡◌, ◌≢◌, ℕ, Bool, true, false, ◌&&◌, List, [], ◌++◌, length, refl, sym, ap, subst, inl, inr, ◌∙◌, Option, Some, None, Ok, append_assoc, arith}
+use Rattle.std.proofs.Common.{◌≡◌, ℕ, Bool, true, false, ◌&&◌, List, [], ◌++◌, length, refl, sym, ap, subst, inl, inr, ◌∙◌, Option, Some, None, Ok, append_assoc, arith}
 use Rattle.std.specs.Prelude.{nat_lt}
 use Rattle.std.proofs.lemmas.Bool.Decides.{nat_tests}
 use Rattle.pysource.specs.Parts.{Parts}
 use Rattle.pysource.specs.Bytes.{TakesFront}
 use Rattle.pysource.specs.Streams.{stream_of, Refuses}
 use Rattle.pysource.specs.Taking.{Takes}
-use Rattle.pysource.specs.declared.bytes.TheConstants.{SOURCE_LIMIT}
+use Rattle.pysource.specs.Limits.{source_limit}
 use Rattle.pysource.specs.declared.faults.LineError.TheVariants as line_errors
 use Rattle.pysource.specs.declared.streams.Reach.{Reach}
 use Rattle.pysource.specs.declared.streams.Reach.TheVariants as reach
@@ -17,20 +17,21 @@ use Rattle.pysource.proofs.TakingLemmas.{Takes-on}
 use Rattle.pylex.specs.declared.entries.ListingError.{ListingError}
 use Rattle.pylex.specs.declared.entries.ListingError.TheVariants as errors
 use Rattle.pylex.specs.declared.entries.ListingFault.{ListingFault}
+use Rattle.pylex.specs.declared.stream.ResumeFault.{ResumeFault}
 use Rattle.pylex.specs.declared.stream.ResumeFault.TheVariants as resumes
 use Rattle.pylex.specs.Cursors.{CursorParts}
 use Rattle.pylex.specs.Listing.{in_characters, listing}
 use Rattle.pylex.specs.Standing.{IsCursorOf}
 use Rattle.pylex.specs.Steps.{entries_of, fault_of}
 use Rattle.pylex.specs.Streamed.{Streamed, StreamsIn, Begins, Misses, MissesBy, EndsUnread, is_unread_code}
-use Rattle.pyast.specs.Faults.{of_stream}
-use Rattle.pyast.specs.Runs.{start_in, ends_unread, missed, tokens_output, tokens_fault, HoldsFor, WritesFor, Performs}
+use Rattle.pyast.specs.Faults.{of_resume, of_stream}
+use Rattle.pyast.specs.Runs.{start_in, ends_unread, missed, tokens_output, tokens_fault, WritesFor, Performs}
 use Rattle.pyast.specs.Taken.{TookAll, Starts, Goes}
 use Rattle.pyast.specs.declared.fault.Fault.{Fault}
 use Rattle.pyast.specs.declared.fault.Fault.TheVariants.{Plain}
-use Rattle.pyast.specs.declared.fault.FaultCode.TheVariants.{Read, Write, Memory, CursorOfAnotherSource}
+use Rattle.pyast.specs.declared.fault.RunFaultCode.TheVariants.{Read, Memory, CursorOfAnotherSource}
 use Rattle.pyast.proofs.CursorLemmas.{starts_behind, starts_nowhere}
-use Rattle.pyast.proofs.TakenLemmas.{is_broken, continues_none, performs}
+use Rattle.pyast.proofs.TakenLemmas.{performs}
 use Rattle.pyast.proofs.UnreadLemmas.{quiet}
 
 -- a lister that has begun
@@ -60,13 +61,13 @@ front_of : (output : List ℕ) (x : Option (List ℕ)) → TakesFront x x output
 front_of output x = ([], output, refl, Appends-refl x)
 
 unread : (exact : Bool) (count : Option ℕ) (resume : Option CursorParts) (come new : Option (List ℕ)) (told_old told_new : ℕ) (x : Option (List ℕ)) (r : Reach) (n : ℕ) (taken : List ℕ)
-    → Takes come new told_old told_new reach.Reading r 0 n taken → Performs (output_by exact count resume) (fault_by count resume) come new told_old told_new x x SOURCE_LIMIT (Some (Plain Memory))
+    → Takes come new told_old told_new reach.Reading r 0 n taken → Performs (output_by exact count resume) (fault_by count resume) come new told_old told_new x x source_limit (Some (Plain Memory))
 unread exact count resume come new told_old told_new x r n taken t =
     performs _ _ told_old told_new x x n taken _ (quiet count resume) come new r t (λ more broken f w. front_of (output_by exact count resume broken (taken ++ more)) x)
 
 -- what gives no source
 pub refused : (exact : Bool) (count : Option ℕ) (resume : Option CursorParts) (come new : Option (List ℕ)) (told_old told_new : ℕ) (fault : StreamFault) (x : Option (List ℕ)) → Refuses come new told_old told_new fault
-    → Performs (output_by exact count resume) (fault_by count resume) come new told_old told_new x x SOURCE_LIMIT (Some (of_stream fault))
+    → Performs (output_by exact count resume) (fault_by count resume) come new told_old told_new x x source_limit (Some (of_stream fault))
 refused exact count resume come new told_old told_new stream_faults.Memory x r = unread exact count resume come new told_old told_new x r.reach _ r.taken r.reads
 refused exact count resume come new told_old told_new stream_faults.Read x r =
     performs _ _ told_old told_new x x _ r.taken _ (quiet count resume) come new r.reach r.reads (λ more broken f w. rw (r.explains.1 more broken f) (refl, Appends-refl x))
@@ -116,28 +117,34 @@ missed_another c p n = by_test (ends_unread (listing (in_characters p)) && nat_l
 
 -- a source without the cursor, or that could not be read so far
 misses_by : (exact : Bool) (count : Option ℕ) (come new : Option (List ℕ)) (told_old told_new : ℕ) (c : CursorParts) (x : Option (List ℕ)) → Misses come new told_old told_new c true
-    → Performs (output_by exact count (Some c)) (fault_by count (Some c)) come new told_old told_new x x SOURCE_LIMIT (Some (Plain Read))
+    → Performs (output_by exact count (Some c)) (fault_by count (Some c)) come new told_old told_new x x source_limit (Some (Plain Read))
 misses_by exact count come new told_old told_new c x m =
     performs _ _ told_old told_new x x _ m.taken _ (quiet count (Some c)) come new m.lines.reach m.reads
     (λ more broken f w. let s = m.misses more broken (f, w) in rw (s.1, starts_nowhere c (in_characters s.0) s.2, tokens_output, tokens_fault) (ap (λ code. Some (Plain code)) (missed_unread c s.0 (s.3 refl)), Appends-refl x))
 
-pub misses_stream : (exact : Bool) (count : Option ℕ) (come new : Option (List ℕ)) (told_old told_new : ℕ) (c : CursorParts) (fault : StreamFault) (x : Option (List ℕ))
-    → MissesBy come new told_old told_new c (resumes.Stream fault) → Performs (output_by exact count (Some c)) (fault_by count (Some c)) come new told_old told_new x x SOURCE_LIMIT (Some (of_stream fault))
+misses_stream : (exact : Bool) (count : Option ℕ) (come new : Option (List ℕ)) (told_old told_new : ℕ) (c : CursorParts) (fault : StreamFault) (x : Option (List ℕ))
+    → MissesBy come new told_old told_new c (resumes.Stream fault) → Performs (output_by exact count (Some c)) (fault_by count (Some c)) come new told_old told_new x x source_limit (Some (of_stream fault))
 misses_stream exact count come new told_old told_new c fault x m = elim m [
   | inl r ↦ refused exact count (Some c) come new told_old told_new fault x r
   | inr (inl r) ↦ rw r.0 (misses_by exact count come new told_old told_new c x r.1)
   | inr (inr r) ↦ rw r.0 (unread exact count (Some c) come new told_old told_new x r.1.at _ r.1.taken r.1.reads)
 ]
 
-pub misses : (exact : Bool) (count : Option ℕ) (come new : Option (List ℕ)) (told_old told_new : ℕ) (c : CursorParts) (x : Option (List ℕ)) → Misses come new told_old told_new c false
-    → Performs (output_by exact count (Some c)) (fault_by count (Some c)) come new told_old told_new x x SOURCE_LIMIT (Some (Plain CursorOfAnotherSource))
+misses : (exact : Bool) (count : Option ℕ) (come new : Option (List ℕ)) (told_old told_new : ℕ) (c : CursorParts) (x : Option (List ℕ)) → Misses come new told_old told_new c false
+    → Performs (output_by exact count (Some c)) (fault_by count (Some c)) come new told_old told_new x x source_limit (Some (Plain CursorOfAnotherSource))
 misses exact count come new told_old told_new c x m =
     performs _ _ told_old told_new x x _ m.taken _ (quiet count (Some c)) come new m.lines.reach m.reads
     (λ more broken f w. let s = m.misses more broken (f, w) in rw (s.1, starts_nowhere c (in_characters s.0) s.2, tokens_output, tokens_fault) (ap (λ code. Some (Plain code)) (missed_another c s.0 (s.4 refl)), Appends-refl x))
 
+-- what gives no source with such a cursor
+pub unresumed : (exact : Bool) (count : Option ℕ) (come new : Option (List ℕ)) (told_old told_new : ℕ) (c : CursorParts) (fault : ResumeFault) (x : Option (List ℕ))
+    → MissesBy come new told_old told_new c fault → Performs (output_by exact count (Some c)) (fault_by count (Some c)) come new told_old told_new x x source_limit (Some (of_resume fault))
+unresumed exact count come new told_old told_new c (resumes.Stream fault) x m = misses_stream exact count come new told_old told_new c fault x m
+unresumed exact count come new told_old told_new c resumes.AnotherSource x m = misses exact count come new told_old told_new c x m
+
 -- where there is no memory behind the start, nothing is written
 pub begun : (exact : Bool) (count : Option ℕ) (resume : Option CursorParts) (come new : Option (List ℕ)) (told_old told_new : ℕ) (x : Option (List ℕ)) (v : Streamed) → Starts come new told_old told_new resume v
-    → Performs (output_by exact count resume) (fault_by count resume) come new told_old told_new x x SOURCE_LIMIT (Some (Plain Memory))
+    → Performs (output_by exact count resume) (fault_by count resume) come new told_old told_new x x source_limit (Some (Plain Memory))
 begun exact count resume come new told_old told_new x v s = unread exact count resume come new told_old told_new x v.lines.reach _ s.all s.took
 
 -- what was taken at the start, and behind it
@@ -148,20 +155,10 @@ all_taken come mid new told_old told_mid told_new resume exact count v done s g 
 -- what was done behind the start
 pub listed : (exact : Bool) (count : Option ℕ) (resume : Option CursorParts) (come mid new : Option (List ℕ)) (told_old told_mid told_new : ℕ) (x y : Option (List ℕ)) (v : Streamed) (done : List ℕ → Option Fault → Type 0) (ended : Option Fault)
     → Starts come mid told_old told_mid resume v → Goes mid new told_mid told_new v exact count done → ((output : List ℕ) (told : Option Fault) → done output told → WritesFor output told x y ended)
-    → Performs (output_by exact count resume) (fault_by count resume) come new told_old told_new x y SOURCE_LIMIT ended
+    → Performs (output_by exact count resume) (fault_by count resume) come new told_old told_new x y source_limit ended
 listed exact count resume come mid new told_old told_mid told_new x y v done ended s g does =
     performs _ _ told_old told_new x y _ (s.all ++ g.taken) ended (quiet count resume) come new g.new.reach (all_taken come mid new told_old told_mid told_new resume exact count v done s g)
     (λ more broken f w.
     let p = s.stands (g.taken ++ more) broken (g.follows more broken (f, w)) in
     let is : stream_of broken ((s.all ++ g.taken) ++ more) ≡ Ok p.0 = ap (stream_of broken) (append_assoc s.all g.taken more) ∙ p.1 in
     rw (is, p.2, tokens_output, tokens_fault) (does _ _ (g.holds p.0 more broken (f, w) p.3)))
-
--- a listing whose last lines are still held did not end by a failed write
-pub unwritten : (come mid new : Option (List ℕ)) (told_old told_mid told_new : ℕ) (exact : Bool) (count : Option ℕ) (resume : Option CursorParts) (v : Streamed) (x y : Option (List ℕ)) (held : List ℕ) (fault : Fault)
-    → Starts come mid told_old told_mid resume v → Goes mid new told_mid told_new v exact count (λ output told. HoldsFor output told x y held (Some fault)) → fault ≢ Plain Write
-unwritten come mid new told_old told_mid told_new exact count resume v x y held fault s g is =
-    let all = all_taken come mid new told_old told_mid told_new resume exact count v _ s g in
-    let broken = is_broken g.new.reach in
-    let continues = continues_none g.new (all.within (omega arith)) in
-    let p = s.stands (g.taken ++ []) broken (g.follows [] broken continues) in
-    rw is at g.holds p.0 [] broken continues p.3

@@ -9,7 +9,7 @@ use Rattle.pysource.specs.Cookies.{encoding_of, without_mark}
 use Rattle.pysource.specs.Lines.{bad_at, first_given, first_bad, good_text, line_fault}
 use Rattle.pysource.specs.Names.{Named}
 use Rattle.pysource.specs.Parts.{Parts}
-use Rattle.pysource.specs.Places.{is_lf}
+use Rattle.pysource.specs.Places.{is_lf, place_after}
 use Rattle.pysource.specs.Sources.{nth_line}
 use Rattle.pysource.specs.Streams.{coming, lines_read, stream_under, stream_of}
 use Rattle.pysource.specs.declared.encodings.Charset.{Charset}
@@ -17,31 +17,33 @@ use Rattle.pysource.specs.declared.encodings.Charset.TheVariants.{Utf8, Ascii}
 use Rattle.pysource.specs.declared.encodings.SourceFault.{SourceFault}
 use Rattle.pysource.specs.declared.encodings.SourceFault.TheVariants as refused
 use Rattle.pysource.specs.declared.faults.LineError.{LineError}
+use Rattle.pysource.specs.declared.faults.LineError.TheVariants as line_errors
 use Rattle.pysource.specs.declared.faults.LineFault.{LineFault}
 use Rattle.pysource.specs.declared.places.Place.{Place}
 use Rattle.pylex.specs.declared.entries.Entry.{Entry}
+use Rattle.pylex.specs.declared.entries.ListingError.{ListingError}
 use Rattle.pylex.specs.declared.entries.ListingError.TheVariants as errors
 use Rattle.pylex.specs.declared.entries.ListingFault.{ListingFault}
 use Rattle.pylex.specs.declared.entries.Step.{Step}
 use Rattle.pylex.specs.declared.entries.Step.TheVariants as steps
 use Rattle.pylex.specs.declared.kinds.Kind.TheVariants as kinds
-use Rattle.pylexeme.specs.declared.lexeme.Class.{Class}
-use Rattle.pylexeme.specs.declared.lexeme.Class.TheVariants.{Name, Number, String, Operator, Comment, Blanks, LineEnd, Join}
+use Rattle.pylex.specs.Class.{Class}
+use Rattle.pylex.specs.Class.TheVariants.{Name, Number, String, Operator, Comment, Blanks, LineEnd, Join}
 use Rattle.pylex.specs.Cursors.{CursorParts}
-use Rattle.pylexeme.specs.Lexemes.{Lexeme, cut, left_by_cut, is_open_string}
+use Rattle.pylex.specs.Lexemes.{Lexeme, cut, left_by_cut, is_open_string}
 use Rattle.pylex.specs.Levels.{open_levels}
-use Rattle.pylex.specs.Lines.{text_before, place_after, depth, is_thing, is_at_margin, is_logical, width_at, widths}
-use Rattle.pylexeme.specs.Chars.{bytes_in}
+use Rattle.pylex.specs.Lines.{text_before, depth, is_thing, is_at_margin, is_logical, width_at, widths}
+use Rattle.pylex.specs.Chars.{bytes_in}
 use Rattle.pylex.specs.Listing.{Source, in_characters, of_line, listing, rest, fault_at, dedents, layout, layout_by, entry_of, steps_of, stop_fault, begins_comment, last_line, line_end_of_last, end_place, ends_in_join, tail, stop, steps_from, up_to_end}
-use Rattle.pylexeme.specs.Operators.{is_closer}
+use Rattle.pylex.specs.Operators.{is_closer}
 use Rattle.pylex.specs.Steps.{entries_of, fault_of}
-use Rattle.pylexeme.specs.Strings.{opens_string}
+use Rattle.pylex.specs.Strings.{opens_string}
 use Rattle.pylex.specs.Streamed.{is_unread_code}
-use Rattle.pyast.specs.Faults.{of_listing}
+use Rattle.pyast.specs.Faults.{code_of, told_at, of_listing}
 use Rattle.pyast.specs.Runs.{stops_after, start_in, ends_unread, missed, told_of, fault_from, tokens_fault}
 use Rattle.pyast.specs.declared.fault.Fault.{Fault}
 use Rattle.pyast.specs.declared.fault.Fault.TheVariants.{Plain}
-use Rattle.pyast.specs.declared.fault.FaultCode.TheVariants.{Read, CursorOfAnotherSource}
+use Rattle.pyast.specs.declared.fault.RunFaultCode.TheVariants.{Read, CursorOfAnotherSource}
 
 -- no fault among the steps is a line that could not be read whole
 abbrev AllRead : List Step → Type 0
@@ -100,7 +102,7 @@ entry_read before x = by_class x.«class» x.text
     by_class Name t = tt
     by_class Number t = tt
     by_class String t = tt
-    by_class Operator t = either (is_closer t && (depth before == 0)) _ _ (refl, tt) tt
+    by_class (Operator o) t = either (is_closer o && (depth before == 0)) _ _ (refl, tt) tt
     by_class Comment t = tt
     by_class Blanks t = tt
     by_class LineEnd t = tt
@@ -193,16 +195,24 @@ line_read charset row (line ∷ lines) = by_first (first_bad charset line) (firs
 abbrev Quiet : Option Fault → Type 0
 Quiet told = told ≢ Some (Plain Read)
 
+code_read : (e : ListingError) (place : Place) → is_unread_code e ≡ false → Quiet (Some (told_at (code_of e) place))
+code_read (errors.Line line_errors.NotUtf8) place h = λ g. cc
+code_read (errors.Line line_errors.NotAscii) place h = λ g. cc
+code_read (errors.Line line_errors.LoneReturn) place h = λ g. cc
+code_read (errors.Line line_errors.Unread) place h = cc
+code_read errors.BadCharacter place h = λ g. cc
+code_read errors.UnterminatedString place h = λ g. cc
+code_read errors.EofInString place h = λ g. cc
+code_read errors.EofInStatement place h = λ g. cc
+code_read errors.UnindentMismatch place h = λ g. cc
+code_read errors.UnmatchedCloser place h = λ g. cc
+
 quiet_told : (ss : List Step) → AllRead ss → Quiet (told_of ss)
 quiet_told ss h = by_fault (fault_of ss) (fault_read ss h)
   where
     by_fault : (o : Option ListingFault) → IsRead o → Quiet (option_map of_listing o)
     by_fault None u = λ e. cc
-    by_fault (Some f) u = by_code (is_unread_code f.code) refl
-      where
-        by_code : (b : Bool) → is_unread_code f.code ≡ b → Quiet (Some (of_listing f))
-        by_code true e = cc
-        by_code false e = rw e (λ g. cc)
+    by_fault (Some f) u = code_read f.code f.place u
 
 quiet_from : (p : Parts) (count : Option ℕ) (k : ℕ) → IsRead (option_map of_line p.fault) → Quiet (fault_from p count k)
 quiet_from p None k h = quiet_told (rest (in_characters p) k) (AllRead-drop (listing (in_characters p)) k (listing_read (in_characters p) h))

@@ -1,6 +1,5 @@
 -- What a run of the program is, whatever its reader and its writers do.
-use Rattle.std.specs.Prelude.{◌≡◌, ◌≢◌, ◌⊎◌, ◌≤◌, string_bytes, ℕ, ◌+◌, ◌-◌, ◌<◌, nat_le, nat_lt, ◌==◌, eqb, Bool, true, false, not, ◌&&◌, if◌then◌else◌, List, [], ◌∷◌, ◌++◌, length, take, Option, Some, None, IfSome, Result, Ok, Err, codes, option_map, unwrap_or}
-use lib.Pointwise.{pointwise}
+use Rattle.std.specs.Prelude.{◌≡◌, ◌≢◌, ◌⊎◌, ◌≤◌, string_bytes, ℕ, ◌+◌, ◌-◌, ◌<◌, nat_le, nat_lt, ◌==◌, Bool, true, false, not, ◌&&◌, if◌then◌else◌, List, [], ◌∷◌, ◌++◌, length, take, Option, Some, None, IfSome, Result, Ok, Err, codes, option_map, unwrap_or}
 use Rattle.std.specs.List.{flat_map}
 use Rattle.std.specs.Io.KnownBytes.{Appends, Consumes}
 use Rattle.pysource.specs.Bytes.{TakesFront, GivesTooMany}
@@ -12,14 +11,14 @@ use Rattle.pylex.specs.declared.entries.Step.{Step}
 use Rattle.pylex.specs.declared.kinds.Kind.{Kind}
 use Rattle.pylex.specs.declared.kinds.Kind.TheVariants.{EndMarker}
 use Rattle.pylex.specs.Cursors.{CursorParts, cursor, cursor_text, flag}
-use Rattle.pylex.specs.CursorTexts.{IsWellFormed}
 use Rattle.pylex.specs.Listing.{Source, listing, rest, in_characters}
+use Rattle.pylex.specs.Standing.{is_cursor_of}
 use Rattle.pylex.specs.Steps.{entries_of, fault_of}
 use Rattle.pylex.specs.ListingLines.{listing_line, text_of}
 use Rattle.pylex.specs.Streamed.{is_unread_code}
 use Rattle.pyast.specs.Faults.{status_of, fault_line, Tells, of_listing, of_stream}
-use Rattle.pyast.specs.declared.fault.FaultCode.{FaultCode}
-use Rattle.pyast.specs.declared.fault.FaultCode.TheVariants.{Read, Write, Memory, CursorOfAnotherSource}
+use Rattle.pyast.specs.declared.fault.RunFaultCode.{RunFaultCode}
+use Rattle.pyast.specs.declared.fault.RunFaultCode.TheVariants.{Read, Write, Memory, CursorOfAnotherSource}
 use Rattle.pyast.specs.declared.fault.Fault.{Fault}
 use Rattle.pyast.specs.declared.fault.Fault.TheVariants.{InSource, Plain}
 use Rattle.pyast.specs.declared.command.Command.{Command}
@@ -69,14 +68,6 @@ abbrev pub fault_from : Parts → Option ℕ → ℕ → Option Fault
 fault_from p None k = told_of (rest (in_characters p) k)
 fault_from p (Some n) k = if stops_after n (entries_of (rest (in_characters p) k)) then None else told_of (rest (in_characters p) k)
 
--- the same number is in each part of two cursors
-abbrev pub same_parts : CursorParts → CursorParts → Bool
-same_parts c d = (c.given == d.given) && ((c.offset == d.offset) && ((c.row == d.row) && ((c.depth == d.depth) && ((flag c.begun == flag d.begun) && ((c.skip == d.skip) && pointwise eqb c.levels d.levels)))))
-
--- a cursor is one of a source: that behind some of its entries
-abbrev pub is_cursor_of : CursorParts → Source → Bool
-is_cursor_of c s = nat_le c.given (length (entries_of (listing s))) && same_parts c (cursor s c.given)
-
 -- how many entries of a source stand before those that are listed, the source's start or a cursor being given; none where the source has no such cursor
 abbrev pub start_in : Option CursorParts → Source → Option ℕ
 start_in None s = Some 0
@@ -87,7 +78,7 @@ abbrev pub ends_unread : List Step → Bool
 ends_unread steps = elim (fault_of steps) [ Some f ↦ is_unread_code f.code | None ↦ false ]
 
 -- why a source has no such cursor: a read failed before so many entries, or the cursor is of another source
-abbrev pub missed : Option CursorParts → Source → FaultCode
+abbrev pub missed : Option CursorParts → Source → RunFaultCode
 missed None s = CursorOfAnotherSource
 missed (Some c) s = if ends_unread (listing s) && nat_lt (length (entries_of (listing s))) c.given then Read else CursorOfAnotherSource
 
@@ -101,26 +92,12 @@ abbrev pub tokens_fault : Option ℕ → Option CursorParts → Result Parts Str
 tokens_fault count resume (Ok p) = elim (start_in resume (in_characters p)) [ Some k ↦ fault_from p count k | None ↦ Some (Plain (missed resume (in_characters p))) ]
 tokens_fault count resume (Err fault) = Some (of_stream fault)
 
--- what a command has: whether operators are shown by their exact names, the largest count of entries, the cursor to go on from
-abbrev pub is_exact : Command → Bool
-is_exact (Tokens exact count resume file) = exact
-
-abbrev pub count_of : Command → Option ℕ
-count_of (Tokens exact count resume file) = count
-
-abbrev pub resume_of : Command → Option CursorParts
-resume_of (Tokens exact count resume file) = resume
-
 -- the whole output of a command on the bytes of a source, behind which a read failed or not, and the fault that it tells of them
 abbrev pub output_of : Command → Bool → List ℕ → List ℕ
-output_of command broken bytes = tokens_output (is_exact command) (count_of command) (resume_of command) (stream_of broken bytes)
+output_of (Tokens asked) broken bytes = tokens_output asked.exact asked.count asked.resume (stream_of broken bytes)
 
 abbrev pub fault_in : Command → Bool → List ℕ → Option Fault
-fault_in command broken bytes = tokens_fault (count_of command) (resume_of command) (stream_of broken bytes)
-
--- what the words can ask for: a count of at most 1,000,000,000, and a cursor that has a text
-abbrev pub IsWithinLimits : Command → Type 0
-IsWithinLimits (Tokens exact count resume file) = IfSome count (λ n. n ≤ 1_000_000_000) × IfSome resume IsWellFormed
+fault_in (Tokens asked) broken bytes = tokens_fault asked.count asked.resume (stream_of broken bytes)
 
 -- What a writer took, from old to new, where a run with this whole output and this fault of the source ended by a fault
 -- or by none: all of the output where it ended by what the source says (a cursor of another one and a failed read included), and else a front.
@@ -133,11 +110,11 @@ WritesFor output told old new (Some (Plain code)) = elim code [ Read ↦ (told �
 abbrev pub TakesAllBut : Option (List ℕ) → Option (List ℕ) → List ℕ → List ℕ → List ℕ → Type 0
 TakesAllBut old new output held left = (written : List ℕ) × (output ≡ (written ++ held) ++ left) × Appends old new written
 
--- as WritesFor where no write failed and a cursor was found, but that the last of what is to be written is still held
+-- as WritesFor where a cursor was found, but that the last of what is to be written is still held, unless a write failed
 abbrev pub HoldsFor : List ℕ → Option Fault → Option (List ℕ) → Option (List ℕ) → List ℕ → Option Fault → Type 0
 HoldsFor output told old new held None = (told ≡ None) × TakesAllBut old new output held []
 HoldsFor output told old new held (Some (InSource code place)) = (told ≡ Some (InSource code place)) × TakesAllBut old new output held []
-HoldsFor output told old new held (Some (Plain code)) = elim code [ Memory ↦ (left : List ℕ) × TakesAllBut old new output held left | Read ↦ (told ≡ Some (Plain Read)) × TakesAllBut old new output held [] | _ ↦ ⊥ ]
+HoldsFor output told old new held (Some (Plain code)) = elim code [ Memory ↦ (left : List ℕ) × TakesAllBut old new output held left | Read ↦ (told ≡ Some (Plain Read)) × TakesAllBut old new output held [] | Write ↦ TakesFront old new output | _ ↦ ⊥ ]
 
 -- the outcome of a call as the fault that ended it, if one did
 abbrev pub ended_by : {A : Type 0} → Result A Fault → Option Fault
@@ -164,6 +141,7 @@ pub record Performs (output : Bool → List ℕ → List ℕ) (told : Bool → L
     (old new : Option (List ℕ)) (limit : ℕ) (ended : Option Fault) : Type 0 where
   pub input : List ℕ
   pub broken : Bool
+  pub within : length input ≤ limit
   pub whole : broken ≡ false → IfSome come_old (λ known. known ≡ input) × (reads_new ≡ reads_old)
   pub cut : broken ≡ true → FailsBehind come_old come_new reads_old reads_new input ⊎ PassesLimit come_old come_new reads_old reads_new limit input
   pub read : ended ≡ Some (Plain Read) → (reads_new ≡ reads_old + 1) ⊎ GivesTooMany come_old come_new limit
@@ -171,7 +149,7 @@ pub record Performs (output : Bool → List ℕ → List ℕ) (told : Bool → L
 
 -- the file that a command names
 abbrev pub file_of : Command → Option (List ℕ)
-file_of (Tokens exact count resume file) = option_map string_bytes file
+file_of (Tokens asked) = option_map string_bytes asked.file
 
 -- the name of the source in a fault's line: the file as given, or `<stdin>`
 abbrev pub name_of : Command → List ℕ

@@ -1,15 +1,17 @@
 //! The faults that the program tells: their texts, their statuses and their lines.
 ghost use Rattle.std.specs.Prelude.{◌≡◌, ◌<◌, ◌-◌, ◌^◌, IfOk, string_bytes, Some};
-ghost use Rattle.pylex.specs.Streamed.{is_unread_code};
-ghost use Rattle.pyast.specs.Faults.{text_of, code_status, status_of, fault_line, source_line, plain_line, of_listing, of_stream, code_of, Tells, IsToldAs};
+ghost use Rattle.pyast.specs.declared.fault.Fault.{Fault};
+ghost use Rattle.pyast.specs.declared.fault.FaultCode.{FaultCode};
+ghost use Rattle.pyast.specs.declared.fault.RunFaultCode.{RunFaultCode};
+ghost use Rattle.pyast.specs.Faults.{text_of, code_status, status_of, fault_code, fault_line, source_line, plain_line, of_listing, of_resume, of_stream, code_of, Tells, IsToldAs};
 
-use pylex::{ListingError, ListingFault};
+use pylex::{ListingError, ListingFault, ResumeFault};
 use pysource::{ByteOut, LineError, Place, StreamFault, WriteFailed, write_all};
 use std::alloc::{AllocError, Global};
 
-/// What can be told at the end of a run.
+/// What is wrong with a source.
 #[derive(Clone, Copy, Debug, PartialEq, Eq)]
-pub enum FaultCode {
+pub enum SourceFaultCode {
     /// The cookie names an encoding that is neither UTF-8 nor ASCII.
     UnsupportedEncoding,
     /// The cookie names ASCII, though a byte order mark stands in front.
@@ -20,8 +22,6 @@ pub enum FaultCode {
     NotAscii,
     /// A CR that no LF follows.
     LoneReturn,
-    /// A read failed, or the source has more bytes than a source may have.
-    Read,
     /// A character that begins no token.
     BadCharacter,
     /// A string that is not ended.
@@ -34,6 +34,13 @@ pub enum FaultCode {
     UnindentMismatch,
     /// A closing bracket where none is open.
     UnmatchedCloser,
+}
+
+/// What else can end a run before its work is done.
+#[derive(Clone, Copy, Debug, PartialEq, Eq)]
+pub enum RunFaultCode {
+    /// A read failed, or the source has more bytes than a source may have.
+    Read,
     /// A cursor that the source doesn't have.
     CursorOfAnotherSource,
     /// A text that is no cursor's.
@@ -48,13 +55,22 @@ pub enum FaultCode {
     Memory,
 }
 
+/// What can be told at the end of a run.
+#[derive(Clone, Copy, Debug, PartialEq, Eq)]
+pub enum FaultCode {
+    /// What is wrong with the source.
+    Source(SourceFaultCode),
+    /// What else ended the run.
+    Run(RunFaultCode),
+}
+
 /// What ends a run before its work is done.
 #[derive(Clone, Copy, Debug, PartialEq, Eq)]
 pub enum Fault {
     /// A fault of the source, at this place of it.
-    InSource(FaultCode, Place),
+    InSource(SourceFaultCode, Place),
     /// A fault without a place: of the words, of reading or writing, or want of memory.
-    Plain(FaultCode),
+    Plain(RunFaultCode),
 }
 
 /// The text of a fault, without its place.
@@ -62,35 +78,41 @@ pub fn fault_text(code: FaultCode) -> &'static str
     ensures { result.now ≡ text_of code }
 {
     match code {
-        FaultCode::UnsupportedEncoding => "unsupported encoding",
-        FaultCode::BomConflict => "byte order mark with another encoding",
-        FaultCode::NotUtf8 => "invalid UTF-8",
-        FaultCode::NotAscii => "not ASCII",
-        FaultCode::LoneReturn => "carriage return without line feed",
-        FaultCode::Read => "read failed",
-        FaultCode::BadCharacter => "unexpected character",
-        FaultCode::UnterminatedString => "unterminated string literal",
-        FaultCode::EofInString => "EOF in multi-line string",
-        FaultCode::EofInStatement => "EOF in multi-line statement",
-        FaultCode::UnindentMismatch => "unindent does not match any outer indentation level",
-        FaultCode::UnmatchedCloser => "unmatched closing bracket",
-        FaultCode::CursorOfAnotherSource => "cursor of another source",
-        FaultCode::CursorText => "malformed cursor",
-        FaultCode::BadArguments => "bad arguments",
-        FaultCode::Open => "cannot open file",
-        FaultCode::Write => "write failed",
-        FaultCode::Memory => "out of memory",
+        FaultCode::Source(SourceFaultCode::UnsupportedEncoding) => "unsupported encoding",
+        FaultCode::Source(SourceFaultCode::BomConflict) => "byte order mark with another encoding",
+        FaultCode::Source(SourceFaultCode::NotUtf8) => "invalid UTF-8",
+        FaultCode::Source(SourceFaultCode::NotAscii) => "not ASCII",
+        FaultCode::Source(SourceFaultCode::LoneReturn) => "carriage return without line feed",
+        FaultCode::Source(SourceFaultCode::BadCharacter) => "unexpected character",
+        FaultCode::Source(SourceFaultCode::UnterminatedString) => "unterminated string literal",
+        FaultCode::Source(SourceFaultCode::EofInString) => "EOF in multi-line string",
+        FaultCode::Source(SourceFaultCode::EofInStatement) => "EOF in multi-line statement",
+        FaultCode::Source(SourceFaultCode::UnindentMismatch) =>
+            "unindent does not match any outer indentation level",
+        FaultCode::Source(SourceFaultCode::UnmatchedCloser) => "unmatched closing bracket",
+        FaultCode::Run(RunFaultCode::Read) => "read failed",
+        FaultCode::Run(RunFaultCode::CursorOfAnotherSource) => "cursor of another source",
+        FaultCode::Run(RunFaultCode::CursorText) => "malformed cursor",
+        FaultCode::Run(RunFaultCode::BadArguments) => "bad arguments",
+        FaultCode::Run(RunFaultCode::Open) => "cannot open file",
+        FaultCode::Run(RunFaultCode::Write) => "write failed",
+        FaultCode::Run(RunFaultCode::Memory) => "out of memory",
     }
 }
 
-impl From<ListingFault> for Fault {
-    ghost from_gives = { λ fault r. r ≡ of_listing fault };
+impl From<AllocError> for Fault {
+    ghost from_gives = { λ error r. r ≡ Fault.Plain RunFaultCode.Memory };
 
-    fn from(fault: ListingFault) -> Fault {
-        if is_unread(fault.code) {
-            return Fault::Plain(FaultCode::Read);
-        }
-        Fault::InSource(listing_code(fault.code), fault.place)
+    fn from(_error: AllocError) -> Fault {
+        Fault::Plain(RunFaultCode::Memory)
+    }
+}
+
+impl From<WriteFailed> for Fault {
+    ghost from_gives = { λ error r. r ≡ Fault.Plain RunFaultCode.Write };
+
+    fn from(_error: WriteFailed) -> Fault {
+        Fault::Plain(RunFaultCode::Write)
     }
 }
 
@@ -100,40 +122,52 @@ impl From<StreamFault> for Fault {
     fn from(fault: StreamFault) -> Fault {
         match fault {
             StreamFault::UnsupportedEncoding(place) => {
-                Fault::InSource(FaultCode::UnsupportedEncoding, place)
+                Fault::InSource(SourceFaultCode::UnsupportedEncoding, place)
             }
-            StreamFault::BomConflict(place) => Fault::InSource(FaultCode::BomConflict, place),
-            StreamFault::Read => Fault::Plain(FaultCode::Read),
-            StreamFault::Memory => Fault::Plain(FaultCode::Memory),
+            StreamFault::BomConflict(place) => Fault::InSource(SourceFaultCode::BomConflict, place),
+            StreamFault::Read => Fault::Plain(RunFaultCode::Read),
+            StreamFault::Memory => Fault::Plain(RunFaultCode::Memory),
         }
     }
 }
 
-// Whether what ends a listing is a line that could not be read whole.
-fn is_unread(error: ListingError) -> bool
-    ensures { result ≡ is_unread_code error }
-{
-    match error {
-        ListingError::Line(LineError::Unread) => true,
-        _ => false,
+impl From<ResumeFault> for Fault {
+    ghost from_gives = { λ fault r. r ≡ of_resume fault };
+
+    fn from(fault: ResumeFault) -> Fault {
+        match fault {
+            ResumeFault::Stream(fault) => Fault::from(fault),
+            ResumeFault::AnotherSource => Fault::Plain(RunFaultCode::CursorOfAnotherSource),
+        }
     }
 }
 
-// The code of what ends a listing.
-fn listing_code(error: ListingError) -> FaultCode
+impl From<ListingFault> for Fault {
+    ghost from_gives = { λ fault r. r ≡ of_listing fault };
+
+    fn from(fault: ListingFault) -> Fault {
+        match source_code(fault.code) {
+            Some(code) => Fault::InSource(code, fault.place),
+            None => Fault::Plain(RunFaultCode::Read),
+        }
+    }
+}
+
+/// What is wrong with the source where a listing ends so: nothing where a line could not be read whole.
+fn source_code(error: ListingError) -> Option<SourceFaultCode>
     ensures { result ≡ code_of error }
 {
     match error {
-        ListingError::Line(LineError::NotUtf8) => FaultCode::NotUtf8,
-        ListingError::Line(LineError::NotAscii) => FaultCode::NotAscii,
-        ListingError::Line(LineError::LoneReturn) => FaultCode::LoneReturn,
-        ListingError::Line(LineError::Unread) => FaultCode::Read,
-        ListingError::BadCharacter => FaultCode::BadCharacter,
-        ListingError::UnterminatedString => FaultCode::UnterminatedString,
-        ListingError::EofInString => FaultCode::EofInString,
-        ListingError::EofInStatement => FaultCode::EofInStatement,
-        ListingError::UnindentMismatch => FaultCode::UnindentMismatch,
-        ListingError::UnmatchedCloser => FaultCode::UnmatchedCloser,
+        ListingError::Line(LineError::NotUtf8) => Some(SourceFaultCode::NotUtf8),
+        ListingError::Line(LineError::NotAscii) => Some(SourceFaultCode::NotAscii),
+        ListingError::Line(LineError::LoneReturn) => Some(SourceFaultCode::LoneReturn),
+        ListingError::Line(LineError::Unread) => None,
+        ListingError::BadCharacter => Some(SourceFaultCode::BadCharacter),
+        ListingError::UnterminatedString => Some(SourceFaultCode::UnterminatedString),
+        ListingError::EofInString => Some(SourceFaultCode::EofInString),
+        ListingError::EofInStatement => Some(SourceFaultCode::EofInStatement),
+        ListingError::UnindentMismatch => Some(SourceFaultCode::UnindentMismatch),
+        ListingError::UnmatchedCloser => Some(SourceFaultCode::UnmatchedCloser),
     }
 }
 
@@ -144,37 +178,38 @@ impl FaultCode {
         ensures { result ≡ code_status self }
     {
         match self {
-            FaultCode::UnsupportedEncoding
-            | FaultCode::BomConflict
-            | FaultCode::NotUtf8
-            | FaultCode::NotAscii
-            | FaultCode::LoneReturn
-            | FaultCode::BadCharacter
-            | FaultCode::UnterminatedString
-            | FaultCode::EofInString
-            | FaultCode::EofInStatement
-            | FaultCode::UnindentMismatch
-            | FaultCode::UnmatchedCloser => 1,
-            FaultCode::CursorOfAnotherSource | FaultCode::CursorText | FaultCode::BadArguments => 2,
-            FaultCode::Read | FaultCode::Open | FaultCode::Write => 3,
-            FaultCode::Memory => 4,
+            FaultCode::Source(_) => 1,
+            FaultCode::Run(
+                RunFaultCode::CursorOfAnotherSource
+                | RunFaultCode::CursorText
+                | RunFaultCode::BadArguments,
+            ) => 2,
+            FaultCode::Run(RunFaultCode::Read | RunFaultCode::Open | RunFaultCode::Write) => 3,
+            FaultCode::Run(RunFaultCode::Memory) => 4,
         }
     }
 }
 
 impl Fault {
+    /// What is told of it.
+    pub fn code(self) -> FaultCode
+        ensures { result ≡ fault_code self }
+    {
+        match self {
+            Fault::InSource(code, _) => FaultCode::Source(code),
+            Fault::Plain(code) => FaultCode::Run(code),
+        }
+    }
+
     /// The status that the program ends with.
     pub fn status(self) -> u8
         ensures { result ≡ status_of (Some self) }
     {
-        match self {
-            Fault::InSource(code, _) => code.status(),
-            Fault::Plain(code) => code.status(),
-        }
+        self.code().status()
     }
 }
 
-// The line of a fault of the source.
+/// The line of a fault of the source.
 fn source_line(
     alloc: Global,
     name: &str,
@@ -187,13 +222,13 @@ fn source_line(
     format!(in alloc; "{name}:{row}:{column}: error: {text}\n")
 }
 
-// Writes the line of a fault without a place. It takes no memory.
-fn tell_plain<F: ByteOut>(code: FaultCode, faults: &mut F) -> Result<(), WriteFailed>
+/// Writes the line of a fault without a place. It takes no memory.
+fn tell_plain<F: ByteOut>(code: RunFaultCode, faults: &mut F) -> Result<(), WriteFailed>
     requires { F.failure_count faults.old < 2 ^ 64 - 1 }
-    ensures { Tells (F.taken faults.old) (F.taken faults.new) (F.failure_count faults.old) (F.failure_count faults.new) (plain_line (text_of code)) }
+    ensures { Tells (F.taken faults.old) (F.taken faults.new) (F.failure_count faults.old) (F.failure_count faults.new) (plain_line (text_of (FaultCode.Run code))) }
 {
     write_all(faults, b"pyast: ")?;
-    write_all(faults, fault_text(code).as_bytes())?;
+    write_all(faults, fault_text(FaultCode::Run(code)).as_bytes())?;
     write_all(faults, b"\n")
 }
 
@@ -208,13 +243,13 @@ pub fn tell<F: ByteOut>(alloc: Global, name: &str, fault: Fault, faults: &mut F)
 {
     let told = match fault {
         Fault::InSource(code, place) => {
-            let text = fault_text(code);
+            let text = fault_text(FaultCode::Source(code));
             match source_line(alloc, name, place.row, place.column, text) {
                 Ok(line) => {
                     let _ = write_all(faults, line.as_bytes());
                     return fault;
                 }
-                Err(_) => FaultCode::Memory,
+                Err(_) => RunFaultCode::Memory,
             }
         }
         Fault::Plain(code) => code,

@@ -6,14 +6,14 @@ pub mod fault;
 pub mod run;
 
 use command::{Command, UsageFault};
-use fault::{Fault, FaultCode, tell};
+use fault::{Fault, RunFaultCode, tell};
 use pysource::{Counted, write_all};
 use std::fs::File;
 use std::io::ErrorKind;
 use std::process::ExitCode;
 use std::rt::Files;
 
-// The words after the program's name. They come as one list or not at all: where one is no text, they give no command.
+/// The words after the program's name. They come as one list or not at all: where one is no text, they give no command.
 fn words(rt: &HostRuntime) -> Result<Vec<String>, UsageFault> {
     match std::env::args(rt) {
         Ok(all) => Ok(all.skip(1).collect(rt.alloc())?),
@@ -26,11 +26,11 @@ fn words(rt: &HostRuntime) -> Result<Vec<String>, UsageFault> {
 pub fn open_source<R: Files>(rt: &R, name: &str) -> Result<R::File, Fault> {
     match File::open(rt, name) {
         Ok(file) => Ok(file),
-        Err(_) => Err(Fault::Plain(FaultCode::Open)),
+        Err(_) => Err(Fault::Plain(RunFaultCode::Open)),
     }
 }
 
-// Runs a command over the standard streams, or over the file that it names.
+/// Runs a command over the standard streams, or over the file that it names.
 fn perform(rt: &HostRuntime, command: &Command) -> u8 {
     let mut writer = Counted::new(rt.stdout());
     let mut faults = Counted::new(rt.stderr());
@@ -50,24 +50,25 @@ fn perform(rt: &HostRuntime, command: &Command) -> u8 {
     }
 }
 
-// Tells why the words gave no command. Help that was asked for goes to the standard output.
+/// Tells why the words gave no command. Help that was asked for goes to the standard output.
 fn refuse(rt: &HostRuntime, fault: UsageFault) -> u8 {
     let code = match fault {
         UsageFault::HelpAsked(text) => {
             let mut writer = Counted::new(rt.stdout());
             match write_all(&mut writer, text.as_bytes()) {
                 Ok(()) => return 0,
-                Err(_) => FaultCode::Write,
+                Err(_) => RunFaultCode::Write,
             }
         }
-        UsageFault::BadArguments => FaultCode::BadArguments,
-        UsageFault::MalformedCursor => FaultCode::CursorText,
-        UsageFault::Memory => FaultCode::Memory,
+        UsageFault::BadArguments => RunFaultCode::BadArguments,
+        UsageFault::MalformedCursor => RunFaultCode::CursorText,
+        UsageFault::Memory => RunFaultCode::Memory,
     };
     let mut faults = Counted::new(rt.stderr());
     tell(rt.alloc(), "", Fault::Plain(code), &mut faults).status()
 }
 
+/// Reads the command and runs it.
 fn start(rt: &HostRuntime) -> Result<u8, UsageFault> {
     let words = words(rt)?;
     let command = Command::read(rt.alloc(), words.as_slice())?;
@@ -81,7 +82,5 @@ fn main(rt: HostRuntime) -> ExitCode {
     })
 }
 
-#[cfg(test)]
-mod fakes;
 #[cfg(test)]
 mod tests;

@@ -1,4 +1,4 @@
-//! What no clause says: which words give which command, worked listings, and what is told where reading or writing
+//! Worked rows: which words give which command, what is listed of which source, and what is told where reading or writing
 //! fails.
 
 mod cursors;

@@ -6,7 +6,7 @@ use Rattle.std.proofs.Math.Seq.{drop-append-add}
 use Rattle.std.proofs.lemmas.List.{take-append-le, drop-append-le, get_or-append-add, get_or_append_left}
 use Rattle.std.proofs.lemmas.Str.{IsUtf8-nil, chars-nil}
 use Rattle.pysource.specs.Parts.{Parts}
-use Rattle.pysource.specs.declared.bytes.TheConstants.{SOURCE_LIMIT}
+use Rattle.pysource.specs.Limits.{source_limit}
 use Rattle.pysource.specs.Streams.{comes, ends_line}
 use Rattle.pysource.proofs.GoodLemmas.{comes_utf8, comes_len}
 use Rattle.pylex.specs.declared.chunk.Chunk.{Chunk}
@@ -35,7 +35,7 @@ joined_none text before none front back e feed some = absurd (no_front front bac
     no_front [] back e feed = let f : false ≡ true = feed in cc
     no_front (c ∷ front) back e feed = cc
 
-module _ (p : Position) (c : Chunk) (given : p.given ≡ 0) (point : (k : ℕ) (ls : List ℕ) → shown_by k p.point ls 0 ≡ shown_at k (with_levels p.now (0 ∷ ls))) (levels : p.levels.items ≡ []) (now : with_levels p.now (0 ∷ []) ≡ first_state) (nested : p.nested ≡ 0) (tail : p.tail ≡ 0) (text : string_bytes c.text ≡ []) (base : c.base ≡ 0) (at : c.at ≡ 0) (within : c.lines.count ≤ SOURCE_LIMIT) (pending : length c.lines.pending ≤ c.lines.count) where
+module _ (p : Position) (c : Chunk) (given : p.given ≡ 0) (point : (k : ℕ) (ls : List ℕ) → shown_by k p.point ls 0 ≡ shown_at k (with_levels p.now (0 ∷ ls))) (levels : p.levels.items ≡ []) (now : with_levels p.now (0 ∷ []) ≡ first_state) (nested : p.nested ≡ 0) (tail : p.tail ≡ 0) (text : string_bytes c.text ≡ []) (base : c.base ≡ 0) (at : c.at ≡ 0) (within : c.lines.count ≤ source_limit) (pending : length c.lines.pending ≤ c.lines.count) where
   -- the source that comes
   abbrev pub source_by : List ℕ → Bool → Parts
   source_by more broken = record { encoding = c.lines.encoding; text = (comes c.lines more broken).text; fault = (comes c.lines more broken).fault }
@@ -47,7 +47,7 @@ module _ (p : Position) (c : Chunk) (given : p.given ≡ 0) (point : (k : ℕ) (
   streams_begin more broken g =
       let s = source_by more broken in
       let utf8 = comes_utf8 c.lines more broken in
-      let small : length s.text ≤ 1_073_741_824 = omega (arith, comes_len c.lines more broken, g.1) in
+      let small : length s.text ≤ source_limit = omega (arith, comes_len c.lines more broken, g.1) in
       record {
         before = [];
         whole = ap (λ t. t ++ s.text) (sym text);

@@ -22,6 +22,7 @@ use Rattle.pylex.specs.Streamed.{Continues, IsAhead, Streamed, StreamsIn, Begins
 use Rattle.pylex.specs.Held.{Ahead}
 use Rattle.pylex.proofs.Ends.{is_whole}
 use Rattle.pylex.proofs.Moving.{entry_due}
+use Rattle.pylex.proofs.Callers.{is_behind}
 
 module _ (come_0 come_1 come_2 : Option (List ℕ)) (told_0 told_1 told_2 : ℕ) (v w : Streamed) (k : ℕ) (b : Begins come_0 come_1 told_0 told_1 v k) where
   module _ (step : Step) (t : Steps come_1 come_2 told_1 told_2 v w (Ok step)) where
@@ -61,7 +62,7 @@ module _ (come_0 come_1 come_2 : Option (List ℕ)) (told_0 told_1 told_2 : ℕ)
     module _ (no_entry : (e : Entry) → step ≡ steps.Entry e → ⊥) where
       -- The listing ends before a cursor behind more entries.
       never_there : (p : Parts) (c : CursorParts) → k < c.given → slice_get (listing (in_characters p)) k ≡ Some step → IsCursorOf c (in_characters p) → ⊥
-      never_there p c less at is = let within = is.within in let due = entry_due (in_characters p) k step (omega arith) at in no_entry due.0 due.1
+      never_there p c less at is = let within = (is_behind is).within in let due = entry_due (in_characters p) k step (omega arith) at in no_entry due.0 due.1
 
       fault_at : (es : List Entry) (last : Step) (n : ℕ) → slice_get (map steps.Entry es ++ last ∷ []) n ≡ Some step → (last ≡ step) × (length es ≡ n)
       fault_at [] last zero h = (let f : last ≡ step = cc in f, refl)
@@ -146,12 +147,12 @@ misses_shown come_0 come_1 told_0 told_1 v c b other = record {
   reads = b.reads;
   misses = λ more broken g.
       let s = b.stands more broken g in
-      let cursor = s.2.stands.cursor in
       let count = s.2.stands.count in
-      let within = cursor.within in (
+      let shown = is_behind s.2.stands.cursor in
+      let within = shown.within in (
         s.0,
         s.1,
-        λ is. other (is.is ∙ ap (cursor_of (in_characters s.0)) (sym count) ∙ sym cursor.is),
+        λ own. other ((is_behind own).is ∙ ap (cursor_of (in_characters s.0)) (sym count) ∙ sym shown.is),
         λ e. absurd (let f : false ≡ true = e in cc),
         λ e ends. let before = ends.before in absurd (omega arith),
       );

@@ -184,7 +184,7 @@ entry_nested s x n ss h = by_class x.«class» x.text
     by_class Name t = h
     by_class Number t = h
     by_class String t = h
-    by_class Operator t = cond_nested (is_closer t && (s.depth == 0)) n _ _ ss (λ _. tt) (λ _. h)
+    by_class (Operator o) t = cond_nested (is_closer o && (s.depth == 0)) n _ _ ss (λ _. tt) (λ _. h)
     by_class Comment t = h
     by_class Blanks t = h
     by_class LineEnd t = by_end (s.logical && (s.depth == 0)) (record { kind = line_end_kind_of s; exact = None; start = s.now.place; «end» = (behind s.now t).place; «from» = s.now.offset; to = (behind s.now t).offset }) refl

@@ -31,6 +31,7 @@ use Rattle.pylex.proofs.Full.{lexeme_full}
 use Rattle.pylex.proofs.Lexed.{cut_lexed}
 use Rattle.pylex.proofs.Blocks.{three_ways, some_at, pushed_length}
 use Rattle.pylex.proofs.CursorBounds.{text_length}
+use Rattle.pylex.proofs.Callers.{is_behind}
 
 abbrev many : List Step → ℕ
 many ss = length (entries_of ss)
@@ -92,7 +93,7 @@ entry_many s x = by_class x.«class» x.text
     by_class Name t = omega arith
     by_class Number t = omega arith
     by_class String t = omega arith
-    by_class Operator t = cond_many (is_closer t && (s.depth == 0)) 1 _ _ (λ _. omega arith) (λ _. omega arith)
+    by_class (Operator o) t = cond_many (is_closer o && (s.depth == 0)) 1 _ _ (λ _. omega arith) (λ _. omega arith)
     by_class Comment t = omega arith
     by_class Blanks t = omega arith
     by_class LineEnd t = omega arith
@@ -177,5 +178,5 @@ given_within l a k u h =
     let e = entries_within a in
     let t = text_length l a k u h in
     let c = h.count in
-    let w = h.cursor.within in
+    let w = (is_behind h.cursor).within in
     omega arith

@@ -120,7 +120,7 @@ entry_spans s x text ss b j k n gap g w = by_class x.«class» x.text b j k
     by_class Name t b j k = one t _ refl refl (k (past s.now t).offset [] no_gap (omega arith) (λ _. refl))
     by_class Number t b j k = one t _ refl refl (k (past s.now t).offset [] no_gap (omega arith) (λ _. refl))
     by_class String t b j k = one t _ refl refl (k (past s.now t).offset [] no_gap (omega arith) (λ _. refl))
-    by_class Operator t b j k = cond_spans (is_closer t && (s.depth == 0)) n (gap ++ (t ++ text)) _ _ ss tt (one t _ refl refl (k (past s.now t).offset [] no_gap (omega arith) (λ _. refl)))
+    by_class (Operator o) t b j k = cond_spans (is_closer o && (s.depth == 0)) n (gap ++ (t ++ text)) _ _ ss tt (one t _ refl refl (k (past s.now t).offset [] no_gap (omega arith) (λ _. refl)))
     by_class Comment t b j k = one t _ refl refl (k (past s.now t).offset [] no_gap (omega arith) (λ _. refl))
     by_class Blanks t b j k = absurd (b refl)
     by_class LineEnd t b j k = one t _ refl refl (k (past s.now t).offset [] no_gap (omega arith) (λ _. refl))
@@ -134,7 +134,7 @@ is_blanks x e = by_class x.«class» x.text e
     by_class Name t e = cc
     by_class Number t e = cc
     by_class String t e = cc
-    by_class Operator t e = cc
+    by_class (Operator o) t e = cc
     by_class Comment t e = cc
     by_class LineEnd t e = cc
     by_class Join t e = cc

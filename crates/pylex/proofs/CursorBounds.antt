@@ -1,5 +1,5 @@
 -- The parts of a cursor stay small, and its offset is a place where a text may be cut.
-use Rattle.std.proofs.Common.{◌≡◌, ℕ, ◌+◌, ◌*◌, ◌/◌, ◌≤◌, Bool, true, false, ◌&&◌, ◌||◌, ◌==◌, cond, List, [], ◌∷◌, ◌++◌, length, refl, ap, ◌∙◌, sym, subst, arith, filter, sum, IsUtf8, ⊎_elim}
+use Rattle.std.proofs.Common.{◌≡◌, ℕ, ◌+◌, ◌*◌, ◌/◌, ◌≤◌, ◌<◌, Bool, true, false, ◌&&◌, ◌||◌, ◌==◌, cond, List, [], ◌∷◌, ◌++◌, length, refl, ap, ◌∙◌, sym, subst, arith, filter, sum, IsUtf8, ⊎_elim}
 use Rattle.std.specs.Prelude.{nat_le}
 use Rattle.std.specs.List.{All, list_any, count_by, take_while}
 use Rattle.std.specs.Str.{chars, encode_utf8_all, all_scalars, IsCharBoundary}
@@ -8,11 +8,9 @@ use Rattle.std.proofs.lemmas.Bool.Decides.{nat_tests}
 use Rattle.std.proofs.lemmas.List.Sums.{count_by-le-length, take_while-cons}
 use Rattle.std.proofs.lemmas.List.Elements.{All-cons, All-nil, All-from_recursion, recursion_from_All}
 use Rattle.std.proofs.Math.Nat.{div-mul-le_self}
-use Rattle.pylexeme.specs.declared.lexeme.Class.{Class}
-use Rattle.pylexeme.specs.declared.lexeme.Class.TheVariants.{Name, Number, String, Operator, Comment, Blanks, LineEnd, Join}
-use Rattle.pylexeme.specs.Operators.{is_opener}
+use Rattle.pysource.specs.Places.{place_after}
 use Rattle.pylexeme.specs.Lexemes.{Lexeme}
-use Rattle.pylex.specs.Lines.{text_before, place_after, depth, opens, is_thing, line_so_far, is_at_margin, column_after, width_from, width_at, widths}
+use Rattle.pylex.specs.Lines.{text_before, depth, opens, is_thing, line_so_far, is_at_margin, column_after, width_from, width_at, widths}
 use Rattle.pylexeme.specs.Chars.{bytes_in}
 use Rattle.pylex.specs.Levels.{below, is_open, open_levels}
 use Rattle.pylex.specs.Listing.{Source, in_characters}
@@ -23,11 +21,13 @@ use Rattle.pylexeme.proofs.Cases.{bool_cases}
 use Rattle.pylex.proofs.Law.{bytes_in-append, count_cons}
 use Rattle.pylexeme.proofs.Texts.{length-text}
 use Rattle.pylex.proofs.Lying.{scalars_behind}
-use Rattle.pylex.proofs.Resume.{front_and_back}
-use Rattle.pylex.proofs.Ahead.{front_is}
+use Rattle.pylex.proofs.Resume.{front_and_back, Full, onto}
+use Rattle.pylex.proofs.Full.{cut_full}
+use Rattle.pylex.proofs.Ahead.{front_is, Placed}
 use Rattle.pylex.proofs.Agreement.{same_front_bytes}
 use Rattle.pylex.proofs.OpenLevels.{Grounded, grounded}
 use Rattle.pylex.proofs.Cursoring.{cursor_point, offset_at, line_bytes}
+use Rattle.pylex.proofs.Callers.{is_behind}
 
 -- The row.
 rows_within : (t : List ℕ) → (place_after t).row ≤ 1 + bytes_in t
@@ -42,40 +42,37 @@ unfolding place_after
 rows_from t = omega arith
 
 -- The depth.
-opener_bytes : (t : List ℕ) → is_opener t ≡ true → 1 ≤ bytes_in t
-unfolding is_opener
-opener_bytes [] e = absurd cc
-opener_bytes (c ∷ t) e = let b = length-le-encodes (c ∷ t) in omega arith
-
-opens_bytes : (x : Lexeme) → cond (opens x) 1 0 ≤ bytes_in x.text
-opens_bytes x = by_class x.«class» x.text
+opens_bytes : (x : Lexeme) → 0 < bytes_in x.text → cond (opens x) 1 0 ≤ bytes_in x.text
+opens_bytes x f = either (opens x)
   where
-    by_operator : (b : Bool) (t : List ℕ) → is_opener t ≡ b → cond b 1 0 ≤ bytes_in t
-    by_operator true t e = opener_bytes t e
-    by_operator false t e = omega arith
+    either : (b : Bool) → cond b 1 0 ≤ bytes_in x.text
+    either true = f
+    either false = omega arith
 
-    by_class : (k : Class) (t : List ℕ) → cond (opens (record { «class» = k; text = t })) 1 0 ≤ bytes_in t
-    by_class Name t = omega arith
-    by_class Number t = omega arith
-    by_class String t = omega arith
-    by_class Operator t = by_operator (is_opener t) t refl
-    by_class Comment t = omega arith
-    by_class Blanks t = omega arith
-    by_class LineEnd t = omega arith
-    by_class Join t = omega arith
-
-openers_within : (h : List Lexeme) → count_by opens h ≤ bytes_in (text_before h)
-openers_within [] = omega arith
-openers_within (x ∷ h) =
+openers_within : (h : List Lexeme) → Full h → count_by opens h ≤ bytes_in (text_before h)
+openers_within [] f = omega arith
+openers_within (x ∷ h) f =
     let c = count_cons opens x h in
-    let i = openers_within h in
-    let o = opens_bytes x in
+    let i = openers_within h f.1 in
+    let o = opens_bytes x f.0 in
     let b = bytes_in-append (text_before h) x.text in
     omega arith
 
-depth_within : (h : List Lexeme) → depth h ≤ bytes_in (text_before h)
+depth_within : (h : List Lexeme) → Full h → depth h ≤ bytes_in (text_before h)
 unfolding depth
-depth_within h = let o = openers_within h in omega arith
+depth_within h f = let o = openers_within h f in omega arith
+
+-- the lexemes before a place of a source have text
+full_front : (fs xs : List Lexeme) → Full (fs ++ xs) → Full fs
+full_front [] xs f = tt
+full_front (x ∷ fs) xs f = (f.0, full_front fs xs f.1)
+
+full_onto : (fs h : List Lexeme) → Full fs → Full h → Full (onto fs h)
+full_onto [] h f g = g
+full_onto (x ∷ fs) h f g = full_onto fs (x ∷ h) f.1 (f.0, g)
+
+full_before : (s : Source) (h xs : List Lexeme) (text left : List ℕ) → Placed s h xs text left → Full h
+full_before s h xs text left p = subst Full (sym p.history) (full_onto p.fronts [] (full_front p.fronts xs (subst Full p.whole (cut_full s.text))) tt)
 
 -- The levels.
 eight_more : (n : ℕ) → (n / 8 + 1) * 8 ≤ n + 8
@@ -209,7 +206,7 @@ small_parts a k =
     let front : front_to (cursor a k).offset a.text ≡ text_before h = ap (λ n. front_to n a.text) o ∙ ap (front_to (bytes_in (text_before h))) p.placed.parts ∙ front_is (text_before h) p.text in
     let rw1 = rows_within (text_before h) in
     let rw2 = rows_from (text_before h) in
-    let dw = depth_within h in
+    let dw = depth_within h (full_before a h p.later p.text p.left p.placed) in
     let ls : AtMost (8 * bytes_in (text_before h)) (cursor a k).levels = subst (AtMost (8 * bytes_in (text_before h))) (sym l) (levels_within (8 * bytes_in (text_before h)) (cond q.indented (width_at h ∷ widths h) (widths h)) (opened_within q.indented h)) in
     record {
       within = omega arith;
@@ -233,7 +230,7 @@ boundary_at text n u e =
     subst (IsCharBoundary text) e (IsCharBoundary-at_seam text (encode_utf8_all f) (encode_utf8_all b) parts (b, (good, refl)))
 
 shown_small : (l : Listed) (a : Source) (k : ℕ) → StandsIn l a k → SmallParts l.shown a
-shown_small l a k h = subst (λ (c : CursorParts). SmallParts c a) (sym h.cursor.is) (small_parts a l.shown.given)
+shown_small l a k h = subst (λ (c : CursorParts). SmallParts c a) (sym (is_behind h.cursor).is) (small_parts a l.shown.given)
 
 -- the length of the text in hand is that of the source that the lister stands in
 pub text_length : (l : Listed) (a : Source) (k : ℕ) → IsUtf8 l.source.text → StandsIn l a k → bytes_in a.text ≡ length l.source.text

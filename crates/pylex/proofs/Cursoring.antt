@@ -4,6 +4,7 @@ use Rattle.std.specs.List.{count_by, prefix_len}
 use Rattle.std.specs.Prelude.{nat_lt}
 use Rattle.std.proofs.lemmas.List.{reverse-append, drop-drop}
 use Rattle.std.proofs.lemmas.Bool.Decides.{nat_tests}
+use Rattle.pylexeme.specs.declared.kinds.Exact.{Exact}
 use Rattle.pylexeme.specs.declared.lexeme.Class.{Class}
 use Rattle.pylexeme.specs.declared.lexeme.Class.TheVariants.{Name, Number, String, Operator, Comment, Blanks, LineEnd, Join}
 use Rattle.pylex.specs.declared.kinds.Kind.TheVariants as kinds
@@ -45,6 +46,7 @@ use Rattle.pylex.proofs.Passing.{passes_steps, passes_reach, Reached, plain_stoo
 use Rattle.pylex.proofs.OpenLevels.{grounded, above_ground}
 use Rattle.pylex.specs.declared.state.Point.{Point}
 use Rattle.std.proofs.lemmas.Str.{length-le-encodes}
+use Rattle.pylex.proofs.Callers.{is_behind, is_own}
 
 -- What a lister that stands in a source still gives is the rest of that source's listing.
 stands_as : (l : Listed) (a : Source) (k : ℕ) → StandsIn l a k → standing_by (in_characters l.source) l.shown ≡ standing a k
@@ -101,12 +103,12 @@ pub after_empty : (l : Listed) (a : Source) (k : ℕ) (e : Entry) → StandsIn l
 after_empty l a k e h n f t =
     let g = given_next a k e f in
     let w = g.within in
-    let c : l.shown ≡ cursor a k = h.cursor.is ∙ ap (cursor a) h.count in
+    let c : l.shown ≡ cursor a k = (is_behind h.cursor).is ∙ ap (cursor a) h.count in
     record {
-      cursor = record {
+      cursor = is_own (record {
         within = omega arith;
         is = ap (λ (p : CursorParts). record p { given = k + 1; skip = p.skip + 1 }) c ∙ sym (cursor_skips a k e g.given t (not_encoding a k e n f));
-      };
+      });
       count = refl;
       agrees = h.agrees;
     }
@@ -170,7 +172,7 @@ reached_cursor a k =
 -- so does a lister that stands in it
 reached_in : (l : Listed) (a : Source) (k : ℕ) → StandsIn l a k → Reached a (resumed l.shown (standing_by (in_characters l.source) l.shown).line) (standing_by (in_characters l.source) l.shown).left
 reached_in l a k h =
-    let c : l.shown ≡ cursor a k = h.cursor.is ∙ ap (cursor a) h.count in
+    let c : l.shown ≡ cursor a k = (is_behind h.cursor).is ∙ ap (cursor a) h.count in
     let v = stands_as l a k h in
     subst (λ (u : Standing). Reached a (resumed l.shown u.line) u.left) (sym v)
     (subst (λ (p : CursorParts). Reached a (resumed p (standing a k).line) (standing a k).left) (sym c) (reached_cursor a k))
@@ -219,9 +221,9 @@ own_entry t x e q = by_class x.«class» x.text q
     line_end true = refl
     line_end false = refl
 
-    by_operator : (u : List ℕ) (b : Bool) (f : Step) (d : Entry) → (is_closer u && (t.depth == 0)) ≡ b → (f ≡ steps.Entry e → ⊥) → OwnPlaces t u d → cond b (f ∷ []) (steps.Entry d ∷ []) ≡ steps.Entry e ∷ [] → OwnEntry t (record { «class» = Operator; text = u }) e
-    by_operator u true f d m n p q = let g : f ≡ steps.Entry e = cc in absurd (n g)
-    by_operator u false f d m n p q = own Operator u d m p q
+    by_operator : (o : Exact) (u : List ℕ) (b : Bool) (f : Step) (d : Entry) → (is_closer o && (t.depth == 0)) ≡ b → (f ≡ steps.Entry e → ⊥) → OwnPlaces t u d → cond b (f ∷ []) (steps.Entry d ∷ []) ≡ steps.Entry e ∷ [] → OwnEntry t (record { «class» = Operator o; text = u }) e
+    by_operator o u true f d m n p q = let g : f ≡ steps.Entry e = cc in absurd (n g)
+    by_operator o u false f d m n p q = own (Operator o) u d m p q
 
     no_fault : (f : ListingFault) → steps.Fault f ≡ steps.Entry e → ⊥
     no_fault f q = cc
@@ -230,7 +232,7 @@ own_entry t x e q = by_class x.«class» x.text q
     by_class Name u q = own Name u _ refl (record { indent = refl; begins = refl; ends = refl }) q
     by_class Number u q = own Number u _ refl (record { indent = refl; begins = refl; ends = refl }) q
     by_class String u q = own String u _ refl (record { indent = refl; begins = refl; ends = refl }) q
-    by_class Operator u q = by_operator u (is_closer u && (t.depth == 0)) _ _ refl (no_fault _) (record { indent = refl; begins = refl; ends = refl }) q
+    by_class (Operator o) u q = by_operator o u (is_closer o && (t.depth == 0)) _ _ refl (no_fault _) (record { indent = refl; begins = refl; ends = refl }) q
     by_class Comment u q = own Comment u _ refl (record { indent = refl; begins = refl; ends = refl }) q
     by_class Blanks u q = absurd cc
     by_class LineEnd u q = own LineEnd u _ refl (record { indent = line_end (t.logical && (t.depth == 0)); begins = refl; ends = refl }) q
@@ -267,7 +269,7 @@ moved l a k e c h xs text left st f t p o q n le =
     let to : lexemes_to e.to [] (cut a.text) ≡ h = ap (λ m. lexemes_to m [] (cut a.text)) o ∙ history_is a h xs text left p in
     let m : cursor a (k + 1) ≡ cursor_at (k + 1) 0 (is_indent e) h = cursor_moves a k e g.given t ∙ ap (cursor_at (k + 1) 0 (is_indent e)) to in
     record {
-      cursor = record { within = omega arith; is = q ∙ sym m ∙ ap (cursor a) (sym n) };
+      cursor = is_own (record { within = omega arith; is = q ∙ sym m ∙ ap (cursor a) (sym n) });
       count = n;
       agrees = agrees_on a (in_characters l.source) l.shown.offset c.offset le st.agrees;
     }
@@ -380,7 +382,7 @@ stands_first p =
     let a : Source = in_characters p in
     let g = given_of a 0 in
     record {
-      cursor = record { within = omega arith; is = ap (cursor a) (sym g) };
+      cursor = is_own (record { within = omega arith; is = ap (cursor a) (sym g) });
       count = g;
       agrees = agrees_itself a (cursor a 0).offset;
     }
@@ -406,13 +408,13 @@ cursor_first a = refl
 
 pub after_first : (l : Listed) (a : Source) → StandsIn l a 0 → StandsIn (record l { shown = record l.shown { given = 1 } }) a 1
 after_first l a h =
-    let c : l.shown ≡ cursor a 0 = h.cursor.is ∙ ap (cursor a) h.count in
+    let c : l.shown ≡ cursor a 0 = (is_behind h.cursor).is ∙ ap (cursor a) h.count in
     let some : 1 ≤ length (entries_of (listing a)) = let e : length (entries_of (listing a)) ≡ suc (length (entries_of (remaining a.fault first_state a.text))) = ap (λ ss. length (entries_of ss)) (listing_is a) in omega arith in
     record {
-      cursor = record {
+      cursor = is_own (record {
         within = some;
         is = ap (λ (p : CursorParts). record p { given = 1 }) (c ∙ cursor_is a 0 ∙ ap (cursor_by a 0) (none_given a)) ∙ sym (cursor_is a 1 ∙ ap (cursor_by a 1) (first_given a) ∙ cursor_first a);
-      };
+      });
       count = refl;
       agrees = h.agrees;
     }

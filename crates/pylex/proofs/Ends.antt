@@ -87,7 +87,7 @@ entry_no_end s x = by_class x.«class» x.text
     by_class Name t = tt
     by_class Number t = tt
     by_class String t = tt
-    by_class Operator t = cond_no_end (is_closer t && (s.depth == 0)) _ _ tt tt
+    by_class (Operator o) t = cond_no_end (is_closer o && (s.depth == 0)) _ _ tt tt
     by_class Comment t = tt
     by_class Blanks t = tt
     by_class LineEnd t = tt

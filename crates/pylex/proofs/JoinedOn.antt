@@ -9,12 +9,13 @@ use Rattle.std.proofs.Math.Seq.{drop-append_seam}
 use lib.Seq.{drop-append-le}
 use Rattle.pysource.specs.Streams.{Buffered, Coming, ComesOnly, Moves, IsText, comes, ends_line}
 use Rattle.pysource.specs.Lines.{lines_of}
-use Rattle.pysource.specs.declared.bytes.TheConstants.{SOURCE_LIMIT}
+use Rattle.pysource.specs.Limits.{source_limit}
 use Rattle.pysource.specs.declared.streams.Line.{Line}
 use Rattle.pysource.specs.declared.streams.Line.TheVariants as met
 use Rattle.pylexeme.specs.declared.string.OpenLiteral.{OpenLiteral}
 use Rattle.pylex.specs.declared.chunk.Chunk.{Chunk}
 use Rattle.pylexeme.specs.Chars.{begins}
+use Rattle.pylexeme.specs.Strings.{quote_char}
 use Rattle.pylexeme.specs.Chunks.{EndsLine}
 use Rattle.pylex.specs.Chunked.{AddsLine, IsLineMore, HoldsOn}
 use Rattle.pylexeme.specs.Lexemes.{lexeme_at, left_by_cut, is_open_string}
@@ -34,9 +35,9 @@ GoesOn o line = (cs : List ℕ) → EndsLine cs → IsOpenBy o cs → lexeme_at 
 
 -- something stands where a literal is open
 not_nothing : (o : OpenLiteral) (cs : List ℕ) → IsOpenBy o cs → cs ≡ [] → ⊥
-not_nothing o cs i e = none i.«prefix» (ap (λ t. begins (λ c. c == o.quote) (drop i.«prefix» t)) (sym e) ∙ i.here)
+not_nothing o cs i e = none i.«prefix» (ap (λ t. begins (λ c. c == quote_char o.quote) (drop i.«prefix» t)) (sym e) ∙ i.here)
   where
-    none : (n : ℕ) → begins (λ c. c == o.quote) (drop n []) ≡ true → ⊥
+    none : (n : ℕ) → begins (λ c. c == quote_char o.quote) (drop n []) ≡ true → ⊥
     none zero h = let f : false ≡ true = h in cc
     none (suc n) h = let f : false ≡ true = h in cc
 
@@ -62,7 +63,7 @@ pub left_open : (o : OpenLiteral) (at : ℕ) (text : List ℕ) → IsOpenAt o at
 left_open o at text i = ap is_open_string (left_lexed (chars (drop at text)) (chars text) i.lexed ∙ left_stop (chars (drop at text)) i.none) ∙ i.opened.unended
 
 -- nothing follows a last line without line feed
-pub comes_some : {x y : Option (List ℕ)} {k m : ℕ} {text_b text_c : List ℕ} (b c : Buffered) → (r : Moves x y k m b c text_b text_c (Ok met.Text)) → c.count ≤ SOURCE_LIMIT → ComesOnly b None → ⊥
+pub comes_some : {x y : Option (List ℕ)} {k m : ℕ} {text_b text_c : List ℕ} (b c : Buffered) → (r : Moves x y k m b c text_b text_c (Ok met.Text)) → c.count ≤ source_limit → ComesOnly b None → ⊥
 comes_some b c r within only =
     let f = some_future c within in
     let g = r.gives f.more f.broken f.follows.0 in
@@ -81,7 +82,7 @@ module _ (x y : Option (List ℕ)) (k m : ℕ) (o : OpenLiteral) (at from : ℕ)
       subst (IsOpenAt o at) (sym l.whole) (open_on o at l.front l.line l.utf8 l.line_utf8 l.feed l.opened (subst (GoesOn o) line goes))
 
   -- One line more.
-  pub behind_line : GoesOn o (drop from text_b) → (r : Moves x y k m b c text_b text_c (Ok met.Text)) → c.count ≤ SOURCE_LIMIT → LinesBehind o at (length text_b) a c text_c
+  pub behind_line : GoesOn o (drop from text_b) → (r : Moves x y k m b c text_b text_c (Ok met.Text)) → c.count ≤ source_limit → LinesBehind o at (length text_b) a c text_c
   behind_line goes r within =
       let open_at = open_behind goes in
       record {

@@ -1,5 +1,6 @@
 -- What a lexeme's class says of its text.
-use Rattle.std.proofs.Common.{◌≡◌, ℕ, suc, ◌+◌, Bool, true, false, not, ◌&&◌, ◌==◌, cond, List, [], ◌∷◌, ◌++◌, length, refl, ap, ◌∙◌, sym, subst, arith, Some, None, append_assoc, length-append, ⊎_elim}
+use Rattle.std.proofs.Common.{◌≡◌, ℕ, suc, ◌+◌, Bool, true, false, not, ◌&&◌, ◌==◌, cond, List, [], ◌∷◌, ◌++◌, length, refl, ap, ◌∙◌, sym, subst, arith, Option, Some, None, append_assoc, length-append, ⊎_elim}
+use Rattle.std.specs.Prelude.{option_map}
 use Rattle.std.specs.List.{list_all}
 use Rattle.std.specs.Str.{bytes_eq}
 use Rattle.std.proofs.lemmas.List.{append-nil}
@@ -8,7 +9,8 @@ use Rattle.std.proofs.lemmas.Bool.Decides.{nat_tests}
 use Rattle.pylexeme.specs.declared.lexeme.Class.{Class}
 use Rattle.pylexeme.specs.declared.lexeme.Class.TheVariants.{Name, Number, String, Operator, Comment, Blanks, LineEnd, Join}
 use Rattle.pylexeme.specs.Chars.{is_comment_part}
-use Rattle.pylexeme.specs.Operators.{is_operator}
+use Rattle.pylexeme.specs.Operators.{is_operator, exact_of}
+use Rattle.pylexeme.specs.declared.kinds.Exact.{Exact}
 use Rattle.pylexeme.specs.Numbers.{is_number}
 use Rattle.pylexeme.specs.Strings.{opens_string, counts_as_string}
 use Rattle.pylexeme.specs.Lexemes.{Lexeme, is_name, is_comment, are_blanks, is_line_end, is_join, plain_class, class_in, lexeme_at}
@@ -25,15 +27,16 @@ Said LineEnd c b l j = l ≡ true
 Said Join c b l j = j ≡ true
 Said _ c b l j = Unit {0}
 
-said : (n u o c b l j : Bool) (k : Class) → cond n (Some Name) (cond u (Some Number) (cond o (Some Operator) (cond c (Some Comment) (cond b (Some Blanks) (cond l (Some LineEnd) (cond j (Some Join) None)))))) ≡ Some k → Said k c b l j
-said true u o c b l j k e = let f : Name ≡ k = cc in subst (λ (m : Class). Said m c b l j) f tt
-said false true o c b l j k e = let f : Number ≡ k = cc in subst (λ (m : Class). Said m c b l j) f tt
-said false false true c b l j k e = let f : Operator ≡ k = cc in subst (λ (m : Class). Said m c b l j) f tt
-said false false false true b l j k e = let f : Comment ≡ k = cc in subst (λ (m : Class). Said m true b l j) f refl
-said false false false false true l j k e = let f : Blanks ≡ k = cc in subst (λ (m : Class). Said m false true l j) f refl
-said false false false false false true j k e = let f : LineEnd ≡ k = cc in subst (λ (m : Class). Said m false false true j) f refl
-said false false false false false false true k e = let f : Join ≡ k = cc in subst (λ (m : Class). Said m false false false true) f refl
-said false false false false false false false k e = absurd cc
+said : (n u o c b l j : Bool) (e : Option Exact) (k : Class) → cond n (Some Name) (cond u (Some Number) (cond o (option_map Operator e) (cond c (Some Comment) (cond b (Some Blanks) (cond l (Some LineEnd) (cond j (Some Join) None)))))) ≡ Some k → Said k c b l j
+said true u o c b l j e k h = let f : Name ≡ k = cc in subst (λ (m : Class). Said m c b l j) f tt
+said false true o c b l j e k h = let f : Number ≡ k = cc in subst (λ (m : Class). Said m c b l j) f tt
+said false false true c b l j (Some e) k h = let f : Operator e ≡ k = cc in subst (λ (m : Class). Said m c b l j) f tt
+said false false true c b l j None k h = absurd cc
+said false false false true b l j e k h = let f : Comment ≡ k = cc in subst (λ (m : Class). Said m true b l j) f refl
+said false false false false true l j e k h = let f : Blanks ≡ k = cc in subst (λ (m : Class). Said m false true l j) f refl
+said false false false false false true j e k h = let f : LineEnd ≡ k = cc in subst (λ (m : Class). Said m false false true j) f refl
+said false false false false false false true e k h = let f : Join ≡ k = cc in subst (λ (m : Class). Said m false false false true) f refl
+said false false false false false false false e k h = absurd cc
 
 -- what a class says of a text
 abbrev pub Says : Class → List ℕ → Type 0
@@ -41,7 +44,7 @@ Says k t = Said k (is_comment t) (are_blanks t) (is_line_end t) (is_join t)
 
 plain_says : (t : List ℕ) (k : Class) → plain_class t ≡ Some k → Says k t
 unfolding plain_class
-plain_says t k e = said (is_name t) (is_number t) (is_operator t) (is_comment t) (are_blanks t) (is_line_end t) (is_join t) k e
+plain_says t k e = said (is_name t) (is_number t) (is_operator t) (is_comment t) (are_blanks t) (is_line_end t) (is_join t) (exact_of t) k e
 
 pub class_says : (cs t : List ℕ) (k : Class) → class_in cs t ≡ Some k → Says k t
 unfolding class_in

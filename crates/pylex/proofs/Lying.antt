@@ -5,6 +5,7 @@ use Rattle.std.proofs.Math.Utf8.{scalar}
 use Rattle.std.specs.List.{list_all, list_any}
 use Rattle.std.specs.Prelude.{nat_lt}
 use Rattle.std.proofs.lemmas.Str.{encodes-append, encodes-chars, scalars-chars, IsCharBoundary-at_seam}
+use Rattle.pysource.specs.Places.{place_after}
 use Rattle.pysource.specs.Parts.{Parts}
 use Rattle.pylexeme.specs.declared.lexeme.Class.{Class}
 use Rattle.pylexeme.specs.declared.lexeme.Class.TheVariants.{Name, Number, String, Operator, Comment, Blanks, LineEnd, Join}
@@ -18,7 +19,7 @@ use Rattle.pylex.specs.declared.entries.ListingError.TheVariants as errors
 use Rattle.pylexeme.specs.Strings.{opens_string}
 use Rattle.pylexeme.specs.Operators.{is_closer}
 use Rattle.pylexeme.specs.Lexemes.{Lexeme, cut, left_by_cut, is_open_string}
-use Rattle.pylex.specs.Lines.{text_before, place_after, depth, is_thing, line_so_far, before_line, is_at_margin, is_logical, width_at, widths}
+use Rattle.pylex.specs.Lines.{text_before, depth, is_thing, line_so_far, before_line, is_at_margin, is_logical, width_at, widths}
 use Rattle.pylexeme.specs.Chars.{bytes_in}
 use Rattle.pylex.specs.Levels.{open_levels}
 use Rattle.pylex.specs.Listing.{Source, listing, in_characters, mark, origin, fault_at, dedents, layout_by, layout, entry_of, steps_of, stop_fault, last_line, begins_comment, line_end_of_last, end_place, ends_in_join, tail, stop, steps_from, up_to_end}
@@ -103,7 +104,7 @@ module _ (cs : List ℕ) (good : all_scalars cs ≡ true) (before : List Lexeme)
       by_class Name t h = (piece_lies cs (text_before before) t rest _ good h refl refl, tt)
       by_class Number t h = (piece_lies cs (text_before before) t rest _ good h refl refl, tt)
       by_class String t h = (piece_lies cs (text_before before) t rest _ good h refl refl, tt)
-      by_class Operator t h = cond_lies (encode_utf8_all cs) (is_closer t && (depth before == 0)) _ _ (tt, tt) (piece_lies cs (text_before before) t rest _ good h refl refl, tt)
+      by_class (Operator o) t h = cond_lies (encode_utf8_all cs) (is_closer o && (depth before == 0)) _ _ (tt, tt) (piece_lies cs (text_before before) t rest _ good h refl refl, tt)
       by_class Comment t h = (piece_lies cs (text_before before) t rest _ good h refl refl, tt)
       by_class Blanks t h = tt
       by_class LineEnd t h = (piece_lies cs (text_before before) t rest _ good h refl refl, tt)

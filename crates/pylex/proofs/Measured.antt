@@ -24,7 +24,7 @@ unfolding after
 after_measured s Name t m e = rw m refl
 after_measured s Number t m e = rw m refl
 after_measured s String t m e = rw m refl
-after_measured s Operator t m e = rw m refl
+after_measured s (Operator o) t m e = rw m refl
 after_measured s Join t m e = rw m refl
 after_measured s Blanks t m e = cc
 after_measured s Comment t m e = cc
@@ -36,7 +36,7 @@ unfolding gives entry_by layout_of
 gives_measured s Name t m e = refl
 gives_measured s Number t m e = refl
 gives_measured s String t m e = refl
-gives_measured s Operator t m e = refl
+gives_measured s (Operator o) t m e = refl
 gives_measured s Join t m e = refl
 gives_measured s Blanks t m e = cc
 gives_measured s Comment t m e = cc

@@ -5,6 +5,7 @@ use Rattle.std.specs.Str.{chars, IsUtf8}
 use Rattle.std.proofs.Math.Seq.{take-suc, take-length}
 use Rattle.std.proofs.lemmas.Bool.Decides.{nat_tests}
 use Rattle.std.proofs.lemmas.List.{length-take-le, take-append-drop}
+use Rattle.pysource.specs.Limits.{source_limit}
 use Rattle.pysource.specs.Parts.{Parts}
 use Rattle.pylex.specs.declared.entries.Entry.{Entry}
 use Rattle.pylex.specs.declared.entries.ListingFault.{ListingFault}
@@ -37,6 +38,7 @@ use Rattle.pylex.proofs.Cursoring.{rest_in, ahead_is, after_empty, lexeme_first,
 use Rattle.pylex.proofs.Counts.{given_within}
 use Rattle.pylex.proofs.Skips.{skip_within}
 use Rattle.pylex.proofs.CursorBounds.{shown_fits}
+use Rattle.pylex.proofs.Callers.{is_behind}
 
 -- The first of some steps is the one at its place.
 pub first_at : (ss : List Step) (k : ℕ) → k < length ss → slice_get ss k ≡ Some (first_step (drop k ss))
@@ -59,7 +61,7 @@ pub leads_moves : (old : Listed) (step : Step) (new : Listed) → Leads old step
 leads_moves old step new f a k h =
     let c = h.count in
     let g = f a (record { cursor = h.cursor; count = refl; agrees = h.agrees }) in
-    let w = h.cursor.within in
+    let w = (is_behind h.cursor).within in
     let l = listing_length a in
     let first : first_step (rest a k) ≡ step = ap (λ n. first_step (rest a n)) (sym c) ∙ g.0 in (
       first_at (listing a) k (omega arith) ∙ ap Some first,
@@ -238,11 +240,11 @@ module _ (l : Listed) (p : Progress) (left levels : List ℕ) (nested tail : ℕ
   end_rest q ds step c is a s =
       let ss = remaining source.fault (with_levels q (0 ∷ take nested levels)) ds in
       let same : rest a l.shown.given ≡ drop tail ss = rest_left a s ∙ ap (drop tail) (same_ahead (take nested levels) p (chars left) q ds c source.fault) in
-      let left_over : length (rest a l.shown.given) + l.shown.given ≡ length (listing a) = drop_length (listing a) l.shown.given (omega (arith, s.cursor.within, listing_length a)) in
+      let within = (is_behind s.cursor).within in
+      let left_over : length (rest a l.shown.given) + l.shown.given ≡ length (listing a) = drop_length (listing a) l.shown.given (omega (arith, within, listing_length a)) in
       let there_too : length (drop tail ss) ≡ length ss - tail = length-drop tail ss in
       let counted = ap length same in
       let whole = listing_length a in
-      let within = s.cursor.within in
       ap first_step same ∙ sym (is (omega arith))
 
   pub leads_end : (q : Progress) (ds : List ℕ) (e : Entry) (skip : ℕ) → Comes (take nested levels) p (chars left) q ds → (tail < length (remaining source.fault (with_levels q (0 ∷ take nested levels)) ds) → steps.Entry e ≡ first_step (drop tail (remaining source.fault (with_levels q (0 ∷ take nested levels)) ds))) → e.«from» ≡ e.to → skip ≡ l.shown.skip + 1 → Leads l (steps.Entry e) (record l { shown = record l.shown { given = l.shown.given + 1; skip = skip } })
@@ -265,7 +267,7 @@ module _ (l : Listed) (p : Progress) (left levels : List ℕ) (nested tail : ℕ
   stop_in q ds c = is_there q ds c
 
 -- Directly behind an entry with text.
-pub keeps_behind : (l : Listed) (q r : Progress) (left ls : List ℕ) (nested tail : ℕ) → IsUtf8 l.source.text → length l.source.text ≤ 1_073_741_824 → (a : Source) × StandsIn l a l.shown.given → l.shown ≡ shown_at l.shown.given (with_levels q (0 ∷ ls)) → Stands r left → IsAscending 0 ls → nested ≡ length ls → tail ≡ 0 → IsIn (chars l.source.text) (with_levels q (0 ∷ ls)) (chars left) → ((ns : List ℕ) → with_levels r ns ≡ begun_anew (with_levels q ns)) → Keeps l r left ls nested tail
+pub keeps_behind : (l : Listed) (q r : Progress) (left ls : List ℕ) (nested tail : ℕ) → IsUtf8 l.source.text → length l.source.text ≤ source_limit → (a : Source) × StandsIn l a l.shown.given → l.shown ≡ shown_at l.shown.given (with_levels q (0 ∷ ls)) → Stands r left → IsAscending 0 ls → nested ≡ length ls → tail ≡ 0 → IsIn (chars l.source.text) (with_levels q (0 ∷ ls)) (chars left) → ((ns : List ℕ) → with_levels r ns ≡ begun_anew (with_levels q ns)) → Keeps l r left ls nested tail
 keeps_behind l q r left ls nested tail utf8 small stood is stands ascending n z i anew =
     let a : Source = in_characters l.source in
     let s : State = with_levels q (0 ∷ ls) in
@@ -416,7 +418,7 @@ module _ (l : Listed) (p : Progress) (left levels : List ℕ) (nested tail : ℕ
       }
 
 -- The counts of a lister fit.
-pub given_fits : (l : Listed) (p : Progress) (left levels : List ℕ) (nested tail : ℕ) → Keeps l p left levels nested tail → l.shown.given ≤ 3 * 1_073_741_824 + 4
+pub given_fits : (l : Listed) (p : Progress) (left levels : List ℕ) (nested tail : ℕ) → Keeps l p left levels nested tail → l.shown.given ≤ 3 * source_limit + 4
 given_fits l p left levels nested tail keeps =
     let g = given_within l keeps.stood.0 l.shown.given keeps.utf8 keeps.stood.1 in
     let s = keeps.small in
@@ -446,7 +448,7 @@ shown_first source p point ls e first at =
     let shown : shown_by 0 point ls ((length ls - 0) + 0) ≡ cursor (in_characters source) 0 = ap (λ ms. shown_by 0 point ms ((length ms - 0) + 0)) e ∙ at 0 [] ∙ ap (shown_at 0) first ∙ sym (cursor_start (in_characters source)) in
     subst (λ (c : CursorParts). StandsIn (record { source = source; shown = c }) (in_characters source) 0) (sym shown) (stands_first source)
 
-pub keeps_first : (source : Parts) (p : Progress) (point : Shown) (ls : List ℕ) → IsUtf8 source.text → length source.text ≤ 1_073_741_824 → ls ≡ [] → with_levels p (0 ∷ []) ≡ first_state → ((k : ℕ) (ms : List ℕ) → shown_by k point ms 0 ≡ shown_at k (with_levels p (0 ∷ ms))) → Keeps (record { source = source; shown = shown_by 0 point ls ((length ls - 0) + 0) }) p source.text ls 0 0
+pub keeps_first : (source : Parts) (p : Progress) (point : Shown) (ls : List ℕ) → IsUtf8 source.text → length source.text ≤ source_limit → ls ≡ [] → with_levels p (0 ∷ []) ≡ first_state → ((k : ℕ) (ms : List ℕ) → shown_by k point ms 0 ≡ shown_at k (with_levels p (0 ∷ ms))) → Keeps (record { source = source; shown = shown_by 0 point ls ((length ls - 0) + 0) }) p source.text ls 0 0
 keeps_first source p point ls utf8 small e first at =
     let none : length ls ≡ 0 = ap length e in
     let no_skip : (length ls - 0) + 0 ≡ 0 = omega arith in

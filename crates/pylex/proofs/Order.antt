@@ -13,7 +13,7 @@ use Rattle.pylex.specs.declared.entries.ListingFault.{ListingFault}
 use Rattle.pylex.specs.declared.entries.Step.{Step}
 use Rattle.pylex.specs.declared.entries.Step.TheVariants as steps
 use Rattle.pylex.specs.declared.state.Point.{Point}
-use Rattle.pylexeme.specs.Operators.{is_closer, exact_of}
+use Rattle.pylexeme.specs.Operators.{is_closer}
 use Rattle.pylexeme.specs.Lexemes.{Lexeme, cut, left_by_cut}
 use Rattle.pylex.specs.Lines.{is_of_blanks, is_thing}
 use Rattle.pylex.specs.Listing.{Source, origin, up_to_end}
@@ -122,7 +122,7 @@ entry_reaches s x n = by_class x.«class» x.text n
     by_class Name t n = one kinds.Name None t
     by_class Number t n = one kinds.Number None t
     by_class String t n = one kinds.String None t
-    by_class Operator t n = cond_reaches (is_closer t && (s.depth == 0)) _ _ s.now (past s.now t) tt (one kinds.Op (exact_of t) t)
+    by_class (Operator o) t n = cond_reaches (is_closer o && (s.depth == 0)) _ _ s.now (past s.now t) tt (one kinds.Op (Some o) t)
     by_class Comment t n = one kinds.Comment None t
     by_class Blanks t n = cc
     by_class LineEnd t n = let h = past_not_behind s.now t in (same_point s.now, record { offset = omega arith; row = omega arith }, record { offset = omega arith; row = omega arith })
@@ -150,7 +150,7 @@ blanks_reach s x b h = by_class x.«class» x.text b
     by_class Name t e = cc
     by_class Number t e = cc
     by_class String t e = cc
-    by_class Operator t e = cc
+    by_class (Operator o) t e = cc
     by_class Comment t e = cc
     by_class LineEnd t e = cc
     by_class Join t e = cc

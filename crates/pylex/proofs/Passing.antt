@@ -52,7 +52,7 @@ silent_closes s x e = by_class x.«class» x.text e
     by_class Name t e = refl
     by_class Number t e = refl
     by_class String t e = refl
-    by_class Operator t e = by_operator (is_closer t) (s.depth == 0) _ _ e
+    by_class (Operator o) t e = by_operator (is_closer o) (s.depth == 0) _ _ e
     by_class Comment t e = refl
     by_class Blanks t e = refl
     by_class LineEnd t e = refl

@@ -180,7 +180,7 @@ entry_pointed s t x h = by_class x.«class» x.text h
     by_class Name u h = ((refl, λ _. h refl refl), tt)
     by_class Number u h = ((refl, λ _. h refl refl), tt)
     by_class String u h = ((refl, λ _. h refl refl), tt)
-    by_class Operator u h = cond_pointed s (is_closer u && (t.depth == 0)) _ _ (λ _. tt) (λ _. ((refl, λ _. h refl refl), tt))
+    by_class (Operator o) u h = cond_pointed s (is_closer o && (t.depth == 0)) _ _ (λ _. tt) (λ _. ((refl, λ _. h refl refl), tt))
     by_class Comment u h = ((refl, λ _. h refl refl), tt)
     by_class Blanks u h = tt
     by_class LineEnd u h = by_end (t.logical && (t.depth == 0)) (record { kind = line_end_kind_of t; exact = None; start = t.now.place; «end» = (behind t.now u).place; «from» = t.now.offset; to = (behind t.now u).offset }) refl (h refl refl)
@@ -192,7 +192,7 @@ unfolding entry_by
 unmatched_pointed s t x ss e = by_class x.«class» x.text e
   where
     by_class : (k : Class) (u : List ℕ) → (closes (record { «class» = k; text = u }) && (t.depth == 0)) ≡ true → AllPointed s (entry_by t (record { «class» = k; text = u }) ++ ss)
-    by_class Operator u e = rw e tt
+    by_class (Operator o) u e = rw e tt
     by_class Name u e = cc
     by_class Number u e = cc
     by_class String u e = cc

@@ -3,6 +3,7 @@ use Rattle.std.proofs.Common.{◌≡◌, ℕ, ◌+◌, ◌≤◌, ◌<◌, Bool,
 use Rattle.std.specs.List.{list_all}
 use Rattle.std.proofs.lemmas.Bool.Decides.{nat_tests}
 use Rattle.std.proofs.lemmas.Str.{encode_ascii, length-le-encodes}
+use Rattle.pysource.specs.Places.{place_after}
 use Rattle.pysource.specs.declared.places.Place.{Place}
 use Rattle.pylexeme.specs.declared.lexeme.Class.{Class}
 use Rattle.pylexeme.specs.declared.lexeme.Class.TheVariants.{Name, Number, String, Operator, Comment, Blanks, LineEnd, Join}
@@ -19,7 +20,7 @@ use Rattle.pylexeme.specs.Chars.{is_blank_char}
 use Rattle.pylexeme.specs.Chunks.{EndsLine}
 use Rattle.pylexeme.specs.Operators.{is_closer}
 use Rattle.pylexeme.specs.Lexemes.{Lexeme, lexeme_at, lexeme_len, is_blanks_class}
-use Rattle.pylex.specs.Lines.{is_of_blanks, place_after}
+use Rattle.pylex.specs.Lines.{is_of_blanks}
 use Rattle.pylexeme.specs.Chars.{bytes_in}
 use Rattle.pylex.specs.Listing.{last_line, further}
 use Rattle.pylex.specs.Machine.{State, advance, past, after, entry_by, ends_line, first_state, is_hash, last_line_end, mark_at, step_of}
@@ -65,7 +66,7 @@ own_spans s x e q = by_class x.«class» x.text q
     by_class Name t q = one t _ (record { begins = refl; ends = refl }) q
     by_class Number t q = one t _ (record { begins = refl; ends = refl }) q
     by_class String t q = one t _ (record { begins = refl; ends = refl }) q
-    by_class Operator t q = by_closer t (is_closer t && (s.depth == 0)) _ _ (record { begins = refl; ends = refl }) q
+    by_class (Operator o) t q = by_closer t (is_closer o && (s.depth == 0)) _ _ (record { begins = refl; ends = refl }) q
     by_class Comment t q = one t _ (record { begins = refl; ends = refl }) q
     by_class Blanks t q = absurd cc
     by_class LineEnd t q = one t _ (record { begins = refl; ends = refl }) q

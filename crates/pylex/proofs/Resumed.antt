@@ -3,8 +3,9 @@ use Rattle.std.proofs.Common.{◌≡◌, ℕ, Bool, true, false, not, ◌==◌, 
 use Rattle.std.specs.List.{take_while, prefix_len}
 use Rattle.std.proofs.lemmas.List.{reverse-reverse, length-reverse}
 use Rattle.std.proofs.lemmas.List.Sums.{take_while-cons}
+use Rattle.pysource.specs.Places.{place_after}
 use Rattle.pylexeme.specs.Lexemes.{Lexeme}
-use Rattle.pylex.specs.Lines.{text_before, place_after, line_so_far, is_at_margin, is_logical, width_from, width_at}
+use Rattle.pylex.specs.Lines.{text_before, line_so_far, is_at_margin, is_logical, width_from, width_at}
 use Rattle.pylex.specs.Listing.{last_line, ends_in_join}
 use Rattle.pylex.specs.Cursors.{cursor_at}
 use Rattle.pylex.specs.Machine.{front_after}

@@ -5,6 +5,7 @@ use Rattle.std.specs.Prelude.{nat_lt}
 use Rattle.std.proofs.lemmas.List.{reverse-append, drop-drop}
 use Rattle.std.proofs.lemmas.Grind.{common_steps}
 use Rattle.std.proofs.lemmas.Bool.Decides.{nat_tests}
+use Rattle.pysource.specs.Places.{place_after}
 use Rattle.pysource.specs.declared.places.Place.{Place}
 use Rattle.pylexeme.specs.declared.lexeme.Class.{Class}
 use Rattle.pylexeme.specs.declared.lexeme.Class.TheVariants.{Name, Number, String, Operator, Comment, Blanks, LineEnd, Join}
@@ -16,7 +17,7 @@ use Rattle.pylex.specs.declared.entries.Step.{Step}
 use Rattle.pylex.specs.declared.entries.Step.TheVariants as steps
 use Rattle.pylexeme.specs.Operators.{is_closer}
 use Rattle.pylexeme.specs.Lexemes.{Lexeme, cut, left_by_cut}
-use Rattle.pylex.specs.Lines.{text_before, place_after, depth, closes, is_of_blanks, is_thing, line_so_far, is_at_margin, is_logical, width_from, width_at, widths}
+use Rattle.pylex.specs.Lines.{text_before, depth, closes, is_of_blanks, is_thing, line_so_far, is_at_margin, is_logical, width_from, width_at, widths}
 use Rattle.pylexeme.specs.Chars.{bytes_in}
 use Rattle.pylex.specs.Levels.{open_levels}
 use Rattle.pylex.specs.Listing.{Source, listing, rest, mark, origin, further, last_line, up_to_end, stop_fault}
@@ -32,6 +33,7 @@ use Rattle.pylex.proofs.Ends.{stop_is_fault}
 use Rattle.pylex.proofs.Resumed.{resumed_start}
 use Rattle.pylex.proofs.LexemeClasses.{lexeme_says}
 use Rattle.pylex.proofs.Ahead.{ahead, Placed, placed_next, placed_first, history_is, ahead_runs, ahead_own, ahead_indented, ahead_indented_stop}
+use Rattle.pylex.proofs.Callers.{is_behind}
 
 -- behind each entry with text there stands what is ahead by the cursor there
 abbrev Resumable : Source → List Step → Type 0
@@ -85,7 +87,7 @@ entry_resumable s t x ss h r = by_class x.«class» x.text h
     by_class Name u h = (refl, (λ _. h refl refl), r)
     by_class Number u h = (refl, (λ _. h refl refl), r)
     by_class String u h = (refl, (λ _. h refl refl), r)
-    by_class Operator u h = cond_resumable s (is_closer u && (t.depth == 0)) _ _ ss (λ _. tt) (λ _. (refl, (λ _. h refl refl), r))
+    by_class (Operator o) u h = cond_resumable s (is_closer o && (t.depth == 0)) _ _ ss (λ _. tt) (λ _. (refl, (λ _. h refl refl), r))
     by_class Comment u h = (refl, (λ _. h refl refl), r)
     by_class Blanks u h = r
     by_class LineEnd u h = by_end (t.logical && (t.depth == 0)) (record { kind = line_end_kind_of t; exact = None; start = t.now.place; «end» = (behind t.now u).place; «from» = t.now.offset; to = (behind t.now u).offset }) refl (h refl refl)
@@ -97,7 +99,7 @@ unfolding entry_by
 unmatched_resumable s t x ss e = by_class x.«class» x.text e
   where
     by_class : (k : Class) (u : List ℕ) → (closes (record { «class» = k; text = u }) && (t.depth == 0)) ≡ true → Resumable s (entry_by t (record { «class» = k; text = u }) ++ ss)
-    by_class Operator u e = rw e tt
+    by_class (Operator o) u e = rw e tt
     by_class Name u e = cc
     by_class Number u e = cc
     by_class String u e = cc
@@ -316,4 +318,4 @@ resumes v s k h = ap to_give h.is ∙ at_each s k h.within
 
 -- a cursor of a source stands in each source that agrees with it from its line on
 pub stands_in_agreeing : StandsInAgreeing
-stands_in_agreeing a b c h g = record { within = h.within; is = agreeing a b c g ∙ ap (standing_by a) h.is }
+stands_in_agreeing a b c h g = let own = is_behind h in record { within = own.within; is = agreeing a b c g ∙ ap (standing_by a) own.is }

@@ -4,6 +4,7 @@ use Rattle.std.specs.Str.{chars, IsUtf8, IsCharBoundary}
 use Rattle.std.proofs.Math.Seq.{take-length}
 use Rattle.std.proofs.lemmas.List.{length-take-le, take-append-drop, length-drop}
 use Rattle.std.proofs.lemmas.Str.{chars-append, length-le-encodes, IsUtf8-take, IsUtf8-drop}
+use Rattle.pysource.specs.Limits.{source_limit}
 use Rattle.pysource.specs.Parts.{Parts}
 use Rattle.pylex.specs.declared.cursors.Shown.{Shown}
 use Rattle.pylex.specs.declared.entries.Entry.{Entry}
@@ -28,6 +29,7 @@ use Rattle.pylex.proofs.Cursoring.{GivenNext, given_next, not_encoding, given_of
 use Rattle.pylex.proofs.CursorBounds.{shown_fits}
 use Rattle.pylexeme.proofs.Texts.{length-text}
 use Rattle.pylex.proofs.Moving.{first_at, listing_length, cursor_opens, entry_due}
+use Rattle.pylex.proofs.Callers.{is_behind, is_own}
 
 skip_of : (k n : ℕ) (b : Bool) (h : List Lexeme) → (cursor_at k n b h).skip ≡ n
 unfolding cursor_at
@@ -91,20 +93,20 @@ cursor_back a (suc m) (suc j) w e =
 -- A lister at the point of a cursor stands in the sources that the cursor leads into.
 pub stands_back : (l : Listed) (a : Source) → StandsIn l a l.shown.given → StandsIn (record l { shown = record l.shown { given = l.shown.given - l.shown.skip; skip = 0 } }) a (l.shown.given - l.shown.skip)
 stands_back l a h =
-    let c : l.shown ≡ cursor a l.shown.given = h.cursor.is in
-    let w = h.cursor.within in
+    let c : l.shown ≡ cursor a l.shown.given = (is_behind h.cursor).is in
+    let w = (is_behind h.cursor).within in
     let b = cursor_back a l.shown.skip l.shown.given w (ap (λ (p : CursorParts). p.skip) (sym c)) in
     record {
-      cursor = record {
+      cursor = is_own (record {
         within = omega arith;
         is = ap (λ (p : CursorParts). record p { given = l.shown.given - l.shown.skip; skip = 0 }) c ∙ sym b.is;
-      };
+      });
       count = refl;
       agrees = h.agrees;
     }
 
 pub skip_in_given : (l : Listed) (a : Source) → StandsIn l a l.shown.given → l.shown.skip ≤ l.shown.given
-skip_in_given l a h = (cursor_back a l.shown.skip l.shown.given h.cursor.within (ap (λ (p : CursorParts). p.skip) (sym h.cursor.is))).within
+skip_in_given l a h = let own = is_behind h.cursor in (cursor_back a l.shown.skip l.shown.given own.within (ap (λ (p : CursorParts). p.skip) (sym own.is))).within
 
 pub led_stands : (c : CursorParts) (p : Parts) → (h : LeadsInto c p) → StandsIn (record { source = p; shown = c }) h.0 c.given
 led_stands c p h = record { cursor = h.1.0; count = refl; agrees = h.1.1 }
@@ -141,7 +143,7 @@ line_within : (t : List ℕ) → length (last_line t) ≤ length t
 line_within t = let e = ap length (last_split t) in let s = length-append (lines_before t) (last_line t) in omega arith
 
 -- A lister at the point of a cursor keeps what it has to.
-pub keeps_point : (l : Listed) (p : Progress) (front left ls line : List ℕ) (nested : ℕ) → IsUtf8 l.source.text → length l.source.text ≤ 1_073_741_824 → (a : Source) × StandsIn l a l.shown.given → l.shown.levels ≡ 0 ∷ ls → nested ≡ length ls → front ≡ take l.shown.offset l.source.text → left ≡ drop l.shown.offset l.source.text → line ≡ last_line (chars front) → with_levels p (0 ∷ ls) ≡ resumed l.shown line → Keeps l p left ls nested 0
+pub keeps_point : (l : Listed) (p : Progress) (front left ls line : List ℕ) (nested : ℕ) → IsUtf8 l.source.text → length l.source.text ≤ source_limit → (a : Source) × StandsIn l a l.shown.given → l.shown.levels ≡ 0 ∷ ls → nested ≡ length ls → front ≡ take l.shown.offset l.source.text → left ≡ drop l.shown.offset l.source.text → line ≡ last_line (chars front) → with_levels p (0 ∷ ls) ≡ resumed l.shown line → Keeps l p left ls nested 0
 keeps_point l p front left ls line nested utf8 small stood levels counted front_is left_is line_is state =
     let a : Source = in_characters l.source in
     let c = l.shown in
@@ -212,13 +214,13 @@ skip_led c p h = skip_in_given (record { source = p; shown = c }) h.0 (led_stand
 pub point_led : (c : CursorParts) (p : Parts) (a : Source) → StandsIn (record { source = p; shown = c }) a c.given → StandsIn (record { source = p; shown = record c { given = c.given - c.skip; skip = 0 } }) a (c.given - c.skip)
 point_led c p a h = stands_back (record { source = p; shown = c }) a h
 
-pub keeps_led : (c : CursorParts) (p : Parts) (point : Shown) (given skip nested : ℕ) (ls : List ℕ) (now : Progress) (text front left line : List ℕ) → (h : LeadsInto c p) → Tells point c → c.levels ≡ 0 ∷ ls → given ≡ c.given → skip ≡ c.skip → nested ≡ length ls → text ≡ p.text → IsUtf8 text → length text ≤ 1_073_741_824 → front ≡ take point.offset text → left ≡ drop point.offset text → line ≡ last_line (chars front) → ((k n : ℕ) (ms : List ℕ) → with_levels now (0 ∷ ms) ≡ resumed (shown_by k point ms n) line) → Keeps (record { source = p; shown = shown_by (given - skip) point ls ((length ls - nested) + 0) }) now left ls nested 0
+pub keeps_led : (c : CursorParts) (p : Parts) (point : Shown) (given skip nested : ℕ) (ls : List ℕ) (now : Progress) (text front left line : List ℕ) → (h : LeadsInto c p) → Tells point c → c.levels ≡ 0 ∷ ls → given ≡ c.given → skip ≡ c.skip → nested ≡ length ls → text ≡ p.text → IsUtf8 text → length text ≤ source_limit → front ≡ take point.offset text → left ≡ drop point.offset text → line ≡ last_line (chars front) → ((k n : ℕ) (ms : List ℕ) → with_levels now (0 ∷ ms) ≡ resumed (shown_by k point ms n) line) → Keeps (record { source = p; shown = shown_by (given - skip) point ls ((length ls - nested) + 0) }) now left ls nested 0
 keeps_led c p point given skip nested ls now text front left line h tells levels g s n t utf8 small front_is left_is line_is state =
     let shown : CursorParts = shown_by (given - skip) point ls ((length ls - nested) + 0) in
     let parts : shown ≡ record c { given = c.given - c.skip; skip = 0 } = point_parts c point given skip nested ls tells levels g s n in
     let count : c.given - c.skip ≡ given - skip = omega arith in
     let stands : StandsIn (record { source = p; shown = shown }) h.0 (given - skip) = subst (λ (k : ℕ). StandsIn (record { source = p; shown = shown }) h.0 k) count (subst (λ (d : CursorParts). StandsIn (record { source = p; shown = d }) h.0 (c.given - c.skip)) (sym parts) (point_led c p h.0 (led_stands c p h))) in
-    keeps_point (record { source = p; shown = shown }) now front left ls line nested (subst IsUtf8 t utf8) (subst (λ (xs : List ℕ). length xs ≤ 1_073_741_824) t small) (h.0, stands) refl n (front_is ∙ ap (take point.offset) t) (left_is ∙ ap (drop point.offset) t) line_is (state (given - skip) ((length ls - nested) + 0) ls)
+    keeps_point (record { source = p; shown = shown }) now front left ls line nested (subst IsUtf8 t utf8) (subst (λ (xs : List ℕ). length xs ≤ source_limit) t small) (h.0, stands) refl n (front_is ∙ ap (take point.offset) t) (left_is ∙ ap (drop point.offset) t) line_is (state (given - skip) ((length ls - nested) + 0) ls)
 
 -- Past the entries without text, a lister stands where the cursor does.
 pub begins_back : (c : CursorParts) (p : Parts) (l : Listed) (a : Source) → l ≡ record { source = p; shown = record c { given = c.given - c.skip; skip = 0 } } → IsCursorOf c a → Agrees a (in_characters p) c.offset → StandsIn l a ((c.given - c.skip) + 0)
@@ -228,7 +230,7 @@ begins_back c p l a e is agrees =
 
 pub goes_back_on : (c : CursorParts) (p : Parts) (new : Listed) (a : Source) (step : Step) (i : ℕ) → i < c.skip → IsCursorOf c a → Agrees a (in_characters p) c.offset → (slice_get (listing a) ((c.given - c.skip) + i) ≡ Some step) × StandsIn new a (((c.given - c.skip) + i) + entries_in step) → StandsIn new a ((c.given - c.skip) + (i + 1))
 goes_back_on c p new a step i less is agrees moved =
-    let w = is.within in
+    let w = (is_behind is).within in
     let s = skip_in_given (record { source = p; shown = c }) a (record { cursor = is; count = refl; agrees = agrees }) in
     let due = entry_due a ((c.given - c.skip) + i) step (omega arith) moved.0 in
     let one : entries_in step ≡ 1 = ap entries_in due.1 in
@@ -239,7 +241,7 @@ pub arrives : (c : CursorParts) (p : Parts) (l : Listed) (i : ℕ) → (h : Lead
 arrives c p l i h stands all source =
     let s = skip_led c p h in
     let n : (c.given - c.skip) + i ≡ c.given = omega arith in
-    let shown : l.shown ≡ c = stands.cursor.is ∙ ap (cursor h.0) (stands.count ∙ n) ∙ sym h.1.0.is in
+    let shown : l.shown ≡ c = (is_behind stands.cursor).is ∙ ap (cursor h.0) (stands.count ∙ n) ∙ sym (is_behind h.1.0).is in
     ap (λ q. record l { source = q }) source ∙ ap (λ d. record { source = p; shown = d }) shown
 
 -- A cursor leads into its own source.

@@ -1,6 +1,7 @@
 -- The steps of all lexemes are the machine's run.
 use Rattle.std.proofs.Common.{◌≡◌, ℕ, ◌+◌, Bool, true, false, ◌&&◌, ◌==◌, List, [], ◌∷◌, ◌++◌, refl, ap, ◌∙◌, sym, arith, cond, Option, Some, None, append_assoc, ⊎_elim}
 use Rattle.std.proofs.lemmas.List.{append-nil}
+use Rattle.pysource.specs.Places.{place_after}
 use Rattle.pylexeme.specs.declared.lexeme.Class.{Class}
 use Rattle.pylexeme.specs.declared.lexeme.Class.TheVariants.{Name, Number, String, Operator, Comment, Blanks, LineEnd, Join}
 use Rattle.pylex.specs.declared.entries.ListingFault.{ListingFault}
@@ -8,7 +9,7 @@ use Rattle.pylex.specs.declared.entries.ListingError.TheVariants as errors
 use Rattle.pylex.specs.declared.entries.Step.{Step}
 use Rattle.pylex.specs.declared.entries.Step.TheVariants as steps
 use Rattle.pylexeme.specs.Lexemes.{Lexeme, cut, left_by_cut}
-use Rattle.pylex.specs.Lines.{text_before, place_after, depth, closes, line_so_far, before_line, is_of_line_end, is_at_margin, is_logical, width_from, width_at, widths}
+use Rattle.pylex.specs.Lines.{text_before, depth, closes, line_so_far, before_line, is_of_line_end, is_at_margin, is_logical, width_from, width_at, widths}
 use Rattle.pylexeme.specs.Chars.{bytes_in}
 use Rattle.pylex.specs.Levels.{open_levels}
 use Rattle.pylex.specs.Listing.{Source, layout_by, layout, entry_of, steps_of, line_end_of_last, end_place, tail, stop, steps_from, up_to_end, listing, mark, origin}
@@ -46,7 +47,7 @@ entry_is before x = by_class x.«class» x.text
     by_class Name t = rw (place_after-append (text_before before) t) refl
     by_class Number t = rw (place_after-append (text_before before) t) refl
     by_class String t = rw (place_after-append (text_before before) t) refl
-    by_class Operator t = rw (place_after-append (text_before before) t) refl
+    by_class (Operator o) t = rw (place_after-append (text_before before) t) refl
     by_class Comment t = rw (place_after-append (text_before before) t) refl
     by_class Blanks t = refl
     by_class LineEnd t = refl
@@ -86,7 +87,7 @@ unfolding gives entry_by
 unmatched s x b c e = by_class x.«class» x.text e
   where
     by_class : (k : Class) (t : List ℕ) → (closes (record { «class» = k; text = t }) && (s.depth == 0)) ≡ true → behind_steps (gives s (record { «class» = k; text = t })) b ≡ behind_steps (gives s (record { «class» = k; text = t })) c
-    by_class Operator t e = rw e (after_fault (layout_of s) (record { code = errors.UnmatchedCloser; place = s.now.place }) b c)
+    by_class (Operator o) t e = rw e (after_fault (layout_of s) (record { code = errors.UnmatchedCloser; place = s.now.place }) b c)
     by_class Name t e = cc
     by_class Number t e = cc
     by_class String t e = cc

@@ -9,7 +9,7 @@ use Rattle.std.proofs.lemmas.List.{take-append-drop, length-drop}
 use Rattle.std.proofs.lemmas.Str.{encodes-chars, chars-append, IsUtf8-append, IsCharBoundary-from_drop}
 use Rattle.std.proofs.Math.Seq.{drop-append_seam}
 use Rattle.pysource.specs.Parts.{Parts}
-use Rattle.pysource.specs.declared.bytes.TheConstants.{SOURCE_LIMIT}
+use Rattle.pysource.specs.Limits.{source_limit}
 use Rattle.pysource.specs.declared.faults.LineFault.{LineFault}
 use Rattle.pysource.specs.declared.streams.Line.{Line}
 use Rattle.pysource.specs.declared.streams.Line.TheVariants as lines
@@ -40,7 +40,7 @@ pub record Future (b : Buffered) : Type 0 where
   pub broken : Bool
   pub follows : Continues b more broken
 
-pub some_future : (b : Buffered) → b.count ≤ SOURCE_LIMIT → Future b
+pub some_future : (b : Buffered) → b.count ≤ source_limit → Future b
 some_future b within = by b.reach refl
   where
     at : (r : Reach) (broken : Bool) → b.reach ≡ r → FollowsAt r [] broken → Future b
@@ -96,7 +96,7 @@ module _ (p : Position) (c : Chunk) (h : IsStreaming p c None) where
       (lined_left held c.at ahead h.left w.streams.ends)
 
   -- the text that is held is within the limit of a source
-  pub small_held : c.base + length held ≤ SOURCE_LIMIT
+  pub small_held : c.base + length held ≤ source_limit
   small_held =
       let w = witness p c None h in
       let x = w.streams in

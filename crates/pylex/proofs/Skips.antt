@@ -35,6 +35,7 @@ use Rattle.pylex.proofs.OpenLevels.{Grounded}
 use Rattle.pylex.proofs.CursorBounds.{small_parts}
 use Rattle.pylex.proofs.Cursoring.{given_next, not_encoding, ahead_is, given_of, first_skip, no_skip}
 use Rattle.pylex.proofs.Resuming.{resumes}
+use Rattle.pylex.proofs.Callers.{is_behind}
 
 -- at most n entries without text stand before the first with text, or before the end
 abbrev Leads : ℕ → List Step → Type 0
@@ -82,7 +83,7 @@ entry_leads s x n ss f h = by_class x.«class» x.text f h
     by_class Name t f h = λ q. absurd (full_entry s.now.offset (bytes_in t) f q)
     by_class Number t f h = λ q. absurd (full_entry s.now.offset (bytes_in t) f q)
     by_class String t f h = λ q. absurd (full_entry s.now.offset (bytes_in t) f q)
-    by_class Operator t f h = cond_leads (is_closer t && (s.depth == 0)) n _ _ ss (λ _. tt) (λ _ q. absurd (full_entry s.now.offset (bytes_in t) f q))
+    by_class (Operator o) t f h = cond_leads (is_closer o && (s.depth == 0)) n _ _ ss (λ _. tt) (λ _ q. absurd (full_entry s.now.offset (bytes_in t) f q))
     by_class Comment t f h = λ q. absurd (full_entry s.now.offset (bytes_in t) f q)
     by_class Blanks t f h = h refl
     by_class LineEnd t f h = λ q. absurd (full_entry s.now.offset (bytes_in t) f q)
@@ -375,4 +376,4 @@ skip_of a zero w = let z = no_skip a in omega arith
 skip_of a (suc j) w = let o : j + 1 ≡ suc j = omega arith in let s = subst (SkipsFew a) o (skips_few a j (omega arith)) in s.few
 
 pub skip_within : (l : Listed) (a : Source) (k : ℕ) → StandsIn l a k → l.shown.skip ≤ length l.shown.levels + 1
-skip_within l a k h = subst (λ (c : CursorParts). c.skip ≤ length c.levels + 1) (sym h.cursor.is) (skip_of a l.shown.given h.cursor.within)
+skip_within l a k h = subst (λ (c : CursorParts). c.skip ≤ length c.levels + 1) (sym (is_behind h.cursor).is) (skip_of a l.shown.given (is_behind h.cursor).within)

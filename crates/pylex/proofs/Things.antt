@@ -10,7 +10,8 @@ use Rattle.pylexeme.specs.Chars.{is_comment_part, is_blank_char}
 use Rattle.pylexeme.specs.Strings.{opens_string, counts_as_string}
 use Rattle.pylexeme.specs.Lexemes.{longest_within, class_in, plain_class, lexeme_len, lexeme_at, Lexeme, is_name, is_comment, are_blanks, is_line_end, is_join}
 use Rattle.pylexeme.specs.Numbers.{is_number}
-use Rattle.pylexeme.specs.Operators.{is_operator}
+use Rattle.pylexeme.specs.Operators.{is_operator, exact_of}
+use Rattle.pylexeme.specs.declared.kinds.Exact.{Exact}
 use Rattle.pylex.specs.Lines.{is_thing}
 use Rattle.pylexeme.specs.Cuts.{Takes, begins_thing, begins_line_end}
 use Rattle.pylexeme.proofs.Cases.{bool_cases}
@@ -43,38 +44,41 @@ plain_in cs t k e n = by (opens_string cs) (counts_as_string cs t) e
     by true false f = cc
     by false s f = f
 
-abbrev chosen : Bool → Bool → Bool → Bool → Bool → Bool → Bool → Option Class
-chosen a b c d e f g = cond a (Some Name) (cond b (Some Number) (cond c (Some Operator) (cond d (Some Comment) (cond e (Some Blanks) (cond f (Some LineEnd) (cond g (Some Join) None))))))
+abbrev chosen : Bool → Bool → Bool → Bool → Bool → Bool → Bool → Option Exact → Option Class
+chosen a b c d e f g x = cond a (Some Name) (cond b (Some Number) (cond c (option_map Operator x) (cond d (Some Comment) (cond e (Some Blanks) (cond f (Some LineEnd) (cond g (Some Join) None))))))
 
-comment_of : (a b c d e f g : Bool) → chosen a b c d e f g ≡ Some Comment → d ≡ true
-comment_of true b c d e f g h = cc
-comment_of false true c d e f g h = cc
-comment_of false false true d e f g h = cc
-comment_of false false false true e f g h = refl
-comment_of false false false false true f g h = cc
-comment_of false false false false false true g h = cc
-comment_of false false false false false false true h = cc
-comment_of false false false false false false false h = cc
+comment_of : (a b c d e f g : Bool) (x : Option Exact) → chosen a b c d e f g x ≡ Some Comment → d ≡ true
+comment_of true b c d e f g x h = cc
+comment_of false true c d e f g x h = cc
+comment_of false false true d e f g (Some x) h = cc
+comment_of false false true d e f g None h = cc
+comment_of false false false true e f g x h = refl
+comment_of false false false false true f g x h = cc
+comment_of false false false false false true g x h = cc
+comment_of false false false false false false true x h = cc
+comment_of false false false false false false false x h = cc
 
-blanks_of : (a b c d e f g : Bool) → chosen a b c d e f g ≡ Some Blanks → e ≡ true
-blanks_of true b c d e f g h = cc
-blanks_of false true c d e f g h = cc
-blanks_of false false true d e f g h = cc
-blanks_of false false false true e f g h = cc
-blanks_of false false false false true f g h = refl
-blanks_of false false false false false true g h = cc
-blanks_of false false false false false false true h = cc
-blanks_of false false false false false false false h = cc
+blanks_of : (a b c d e f g : Bool) (x : Option Exact) → chosen a b c d e f g x ≡ Some Blanks → e ≡ true
+blanks_of true b c d e f g x h = cc
+blanks_of false true c d e f g x h = cc
+blanks_of false false true d e f g (Some x) h = cc
+blanks_of false false true d e f g None h = cc
+blanks_of false false false true e f g x h = cc
+blanks_of false false false false true f g x h = refl
+blanks_of false false false false false true g x h = cc
+blanks_of false false false false false false true x h = cc
+blanks_of false false false false false false false x h = cc
 
-line_end_of : (a b c d e f g : Bool) → chosen a b c d e f g ≡ Some LineEnd → f ≡ true
-line_end_of true b c d e f g h = cc
-line_end_of false true c d e f g h = cc
-line_end_of false false true d e f g h = cc
-line_end_of false false false true e f g h = cc
-line_end_of false false false false true f g h = cc
-line_end_of false false false false false true g h = refl
-line_end_of false false false false false false true h = cc
-line_end_of false false false false false false false h = cc
+line_end_of : (a b c d e f g : Bool) (x : Option Exact) → chosen a b c d e f g x ≡ Some LineEnd → f ≡ true
+line_end_of true b c d e f g x h = cc
+line_end_of false true c d e f g x h = cc
+line_end_of false false true d e f g (Some x) h = cc
+line_end_of false false true d e f g None h = cc
+line_end_of false false false true e f g x h = cc
+line_end_of false false false false true f g x h = cc
+line_end_of false false false false false true g x h = refl
+line_end_of false false false false false false true x h = cc
+line_end_of false false false false false false false x h = cc
 
 is_by : (k : Class) (cs : List ℕ) (x : Lexeme) → lexeme_at cs ≡ Some x → x.«class» ≡ k → (k ≡ String → ⊥) → plain_class x.text ≡ Some k
 is_by k cs x e f n = plain_in cs x.text k ((at cs x e).classed ∙ ap (λ i. Some i) f) n
@@ -106,17 +110,17 @@ end_parts t e = ⊎_elim (λ (h : bytes_eq t (10 ∷ []) ≡ true). inl (same_by
 -- a comment holds no CR and no LF
 pub comment_text : (cs : List ℕ) (x : Lexeme) → lexeme_at cs ≡ Some x → x.«class» ≡ Comment → list_all is_comment_part x.text ≡ true
 unfolding plain_class
-comment_text cs x e f = comment_parts x.text (comment_of (is_name x.text) (is_number x.text) (is_operator x.text) (is_comment x.text) (are_blanks x.text) (is_line_end x.text) (is_join x.text) (is_by Comment cs x e f (λ h. cc)))
+comment_text cs x e f = comment_parts x.text (comment_of (is_name x.text) (is_number x.text) (is_operator x.text) (is_comment x.text) (are_blanks x.text) (is_line_end x.text) (is_join x.text) (exact_of x.text) (is_by Comment cs x e f (λ h. cc)))
 
 -- blanks are spaces, tabs and form feeds
 pub blanks_text : (cs : List ℕ) (x : Lexeme) → lexeme_at cs ≡ Some x → x.«class» ≡ Blanks → list_all is_blank_char x.text ≡ true
 unfolding plain_class
-blanks_text cs x e f = blank_parts x.text (blanks_of (is_name x.text) (is_number x.text) (is_operator x.text) (is_comment x.text) (are_blanks x.text) (is_line_end x.text) (is_join x.text) (is_by Blanks cs x e f (λ h. cc)))
+blanks_text cs x e f = blank_parts x.text (blanks_of (is_name x.text) (is_number x.text) (is_operator x.text) (is_comment x.text) (are_blanks x.text) (is_line_end x.text) (is_join x.text) (exact_of x.text) (is_by Blanks cs x e f (λ h. cc)))
 
 -- a line end is LF or CR LF
 pub line_end_text : (cs : List ℕ) (x : Lexeme) → lexeme_at cs ≡ Some x → x.«class» ≡ LineEnd → (x.text ≡ 10 ∷ []) ⊎ (x.text ≡ 13 ∷ 10 ∷ [])
 unfolding plain_class
-line_end_text cs x e f = end_parts x.text (line_end_of (is_name x.text) (is_number x.text) (is_operator x.text) (is_comment x.text) (are_blanks x.text) (is_line_end x.text) (is_join x.text) (is_by LineEnd cs x e f (λ h. cc)))
+line_end_text cs x e f = end_parts x.text (line_end_of (is_name x.text) (is_number x.text) (is_operator x.text) (is_comment x.text) (are_blanks x.text) (is_line_end x.text) (is_join x.text) (exact_of x.text) (is_by LineEnd cs x e f (λ h. cc)))
 
 -- What a thing begins with
 not_true : (b : Bool) → not b ≡ true → b ≡ false
@@ -187,16 +191,16 @@ unfolding plain_class
 thing_by cs x Name h e f = ap thing_of f
 thing_by cs x Number h e f = ap thing_of f
 thing_by cs x String h e f = ap thing_of f
-thing_by cs x Operator h e f = ap thing_of f
+thing_by cs x (Operator o) h e f = ap thing_of f
 thing_by cs x Join h e f = ap thing_of f
 thing_by cs x Comment h e f =
-    let t = comment_of (is_name x.text) (is_number x.text) (is_operator x.text) (is_comment x.text) (are_blanks x.text) (is_line_end x.text) (is_join x.text) (is_by Comment cs x e f (λ h. cc)) in
+    let t = comment_of (is_name x.text) (is_number x.text) (is_operator x.text) (is_comment x.text) (are_blanks x.text) (is_line_end x.text) (is_join x.text) (exact_of x.text) (is_by Comment cs x e f (λ h. cc)) in
     absurd (not_both (is_comment x.text) t (ap is_comment (at cs x e).text ∙ thing_comment cs (lexeme_len cs) h))
 thing_by cs x Blanks h e f =
-    let t = blanks_of (is_name x.text) (is_number x.text) (is_operator x.text) (is_comment x.text) (are_blanks x.text) (is_line_end x.text) (is_join x.text) (is_by Blanks cs x e f (λ h. cc)) in
+    let t = blanks_of (is_name x.text) (is_number x.text) (is_operator x.text) (is_comment x.text) (are_blanks x.text) (is_line_end x.text) (is_join x.text) (exact_of x.text) (is_by Blanks cs x e f (λ h. cc)) in
     absurd (not_both (are_blanks x.text) t (ap are_blanks (at cs x e).text ∙ thing_blanks cs (lexeme_len cs) h))
 thing_by cs x LineEnd h e f =
-    let t = line_end_of (is_name x.text) (is_number x.text) (is_operator x.text) (is_comment x.text) (are_blanks x.text) (is_line_end x.text) (is_join x.text) (is_by LineEnd cs x e f (λ h. cc)) in
+    let t = line_end_of (is_name x.text) (is_number x.text) (is_operator x.text) (is_comment x.text) (are_blanks x.text) (is_line_end x.text) (is_join x.text) (exact_of x.text) (is_by LineEnd cs x e f (λ h. cc)) in
     absurd (not_both (is_line_end x.text) t (ap is_line_end (at cs x e).text ∙ thing_line_end cs (lexeme_len cs) h (len_within cs)))
 
 -- a lexeme at the front of what begins a thing is one

@@ -2,6 +2,7 @@
 use Rattle.std.proofs.Common.{◌≡◌, ◌≢◌, ℕ, ◌<◌, Bool, true, false, not, ◌&&◌, ◌||◌, ◌==◌, zero, suc, List, [], ◌∷◌, ◌++◌, length, subst, arith, cond, replicate, Option, Some, None, slice_get}
 use Rattle.std.specs.List.{list_all, list_any}
 use Rattle.std.specs.Prelude.{nat_lt}
+use Rattle.pysource.specs.Places.{place_after}
 use Rattle.pysource.specs.declared.places.Place.{Place}
 use Rattle.pylexeme.specs.declared.lexeme.Class.{Class}
 use Rattle.pylexeme.specs.declared.lexeme.Class.TheVariants.{Name, Number, String, Operator, Comment, Blanks, LineEnd, Join}
@@ -15,7 +16,7 @@ use Rattle.pylexeme.specs.Strings.{opens_string}
 use Rattle.pylexeme.specs.Operators.{is_closer}
 use Rattle.pylex.specs.Levels.{open_levels}
 use Rattle.pylexeme.specs.Lexemes.{Lexeme, cut, left_by_cut, is_open_string}
-use Rattle.pylex.specs.Lines.{text_before, place_after, depth, is_thing, is_at_margin, is_logical, width_at, widths}
+use Rattle.pylex.specs.Lines.{text_before, depth, is_thing, is_at_margin, is_logical, width_at, widths}
 use Rattle.pylex.specs.Listing.{Source, listing, fault_at, layout_by, layout, line_end_kind, entry_of, steps_of, stop_fault, last_line, begins_comment, line_end_of_last, ends_in_join, tail, stop, steps_from, up_to_end}
 
 -- if a step gives an entry, that is none of the encoding
@@ -75,7 +76,7 @@ module _ (before : List Lexeme) where
       by_class Name t = (λ e. cc, tt)
       by_class Number t = (λ e. cc, tt)
       by_class String t = (λ e. cc, tt)
-      by_class Operator t = give_cond (is_closer t && (depth before == 0)) _ _ (tt, tt) (λ e. cc, tt)
+      by_class (Operator o) t = give_cond (is_closer o && (depth before == 0)) _ _ (tt, tt) (λ e. cc, tt)
       by_class Comment t = (λ e. cc, tt)
       by_class Blanks t = tt
       by_class LineEnd t = (line_end, tt)

@@ -2,7 +2,7 @@
 use Rattle.std.specs.Prelude.{◌≡◌, ◌⊎◌, ℕ, ◌+◌, ◌≤◌, ◌<◌, true, List, [], ◌++◌, length, drop, string_bytes, Option, Some, None, Result, Ok, Err, IsUtf8}
 use Rattle.std.specs.declared.alloc.AllocError.{AllocError}
 use Rattle.pysource.specs.Streams.{Buffered, Reads, Gives, ComesOnly, IsLine, ends_line, unread}
-use Rattle.pysource.specs.declared.bytes.TheConstants.{SOURCE_LIMIT}
+use Rattle.pysource.specs.Limits.{source_limit}
 use Rattle.pysource.specs.declared.streams.Line.{Line}
 use Rattle.pysource.specs.declared.streams.Line.TheVariants as met
 use Rattle.pylex.specs.declared.chunk.Chunk.{Chunk}
@@ -52,7 +52,7 @@ pub record ReadsOn (come_old come_new : Option (List ℕ)) (told_old told_new : 
   pub adds : Adds result line new.lines
   pub same : new.lines.encoding ≡ old.lines.encoding
   pub sizes : length line + length new.lines.pending ≡ length old.lines.pending + length taken
-  pub within : new.lines.count ≤ SOURCE_LIMIT
+  pub within : new.lines.count ≤ source_limit
   pub chunk : IsChunk new
   pub holding : Holding old new from line result
 
@@ -67,7 +67,7 @@ pub record AddsOn (come_old come_new : Option (List ℕ)) (told_old told_new : �
   pub ends : (added ≡ []) ⊎ ((ends_line added ≡ true) ⊎ ComesOnly new None)
   pub same : new.encoding ≡ old.encoding
   pub sizes : length added + length new.pending ≡ length old.pending + length taken
-  pub within : new.count ≤ SOURCE_LIMIT
+  pub within : new.count ≤ source_limit
 
 -- a text that grew by another
 abbrev pub IsLonger : List ℕ → List ℕ → Type 0

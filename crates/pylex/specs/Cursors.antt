@@ -1,10 +1,12 @@
 -- Cursors: what is kept of a listing after some of its entries.
-use Rattle.std.specs.Prelude.{ℕ, nat_le, Bool, true, false, not, ◌||◌, ◌==◌, List, [], ◌∷◌, ◌++◌, take, drop, reverse, count_by, if◌then◌else◌, decimal, codes}
+use Rattle.std.specs.Prelude.{ℕ, nat_le, Bool, true, false, not, ◌&&◌, ◌||◌, ◌==◌, eqb, List, [], ◌∷◌, ◌++◌, take, drop, reverse, count_by, if◌then◌else◌, decimal, codes}
+use lib.Pointwise.{pointwise}
 use Rattle.std.specs.List.{prefix_len}
+use Rattle.pysource.specs.Places.{place_after}
 use Rattle.pylex.specs.declared.entries.Entry.{Entry}
 use Rattle.pylex.specs.declared.kinds.Kind.TheVariants as kinds
 use Rattle.pylexeme.specs.Lexemes.{Lexeme, cut}
-use Rattle.pylex.specs.Lines.{text_before, place_after, depth, is_logical, width_at, widths}
+use Rattle.pylex.specs.Lines.{text_before, depth, is_logical, width_at, widths}
 use Rattle.pylexeme.specs.Chars.{bytes_in}
 use Rattle.pylex.specs.Levels.{open_levels}
 use Rattle.pylex.specs.Listing.{Source, listing}
@@ -76,6 +78,10 @@ with_commas (n ∷ m ∷ ns) = decimal n ++ codes "," ++ with_commas (m ∷ ns)
 
 abbrev pub flag : Bool → ℕ
 flag b = if b then 1 else 0
+
+-- the same number is in each part of two cursors
+abbrev pub same_parts : CursorParts → CursorParts → Bool
+same_parts c d = (c.given == d.given) && ((c.offset == d.offset) && ((c.row == d.row) && ((c.depth == d.depth) && ((flag c.begun == flag d.begun) && ((c.skip == d.skip) && pointwise eqb c.levels d.levels)))))
 
 -- a part, and a blank before it
 abbrev pub part : ℕ → List ℕ

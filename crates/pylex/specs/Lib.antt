@@ -16,3 +16,15 @@ pub mod Chunked
 pub mod Streamed
 pub mod Ranges
 pub mod Plain
+pub use Rattle.pylexeme.specs.Chars
+pub use Rattle.pylexeme.specs.Strings
+pub use Rattle.pylexeme.specs.Numbers
+pub use Rattle.pylexeme.specs.Lengths
+pub use Rattle.pylexeme.specs.Operators
+pub use Rattle.pylexeme.specs.Lexemes
+pub use Rattle.pylexeme.specs.Cuts
+pub use Rattle.pylexeme.specs.Chunks
+pub use Rattle.pylexeme.specs.OpenLiterals
+pub use Rattle.pylexeme.specs.declared.kinds.Exact
+pub use Rattle.pylexeme.specs.declared.lexeme.Class
+pub use Rattle.pylexeme.specs.declared.string.OpenLiteral

@@ -1,27 +1,18 @@
 -- Places, depth and lines. The lexemes before a place stand last first.
-use Rattle.std.specs.Prelude.{ℕ, ◌-◌, ◌+◌, ◌*◌, ◌/◌, Bool, true, false, not, ◌&&◌, ◌==◌, List, [], ◌∷◌, ◌++◌, length, drop, reverse, count_by, if◌then◌else◌}
-use Rattle.std.specs.List.{list_all, list_any, prefix_len}
-use Rattle.std.specs.Str.{encode_utf8_all}
-use Rattle.pylexeme.specs.declared.lexeme.Class.{Class}
-use Rattle.pylexeme.specs.declared.lexeme.Class.TheVariants.{Operator, Comment, Blanks, LineEnd}
-use Rattle.pysource.specs.declared.places.Place.{Place}
-use Rattle.pylexeme.specs.Operators.{is_opener, is_closer}
-use Rattle.pylexeme.specs.Lexemes.{Lexeme, is_blanks_class, is_line_end_class, is_thing_class}
+use Rattle.std.specs.Prelude.{ℕ, ◌-◌, ◌+◌, ◌*◌, ◌/◌, Bool, ◌&&◌, ◌==◌, List, [], ◌∷◌, ◌++◌, length, drop, count_by, if◌then◌else◌}
+use Rattle.std.specs.List.{list_all, list_any}
+use Rattle.pylexeme.specs.Lexemes.{Lexeme, is_blanks_class, is_line_end_class, is_thing_class, is_opener_class, is_closer_class}
 
 -- the text of the lexemes before a place
 abbrev pub text_before : List Lexeme → List ℕ
 text_before [] = []
 text_before (x ∷ before) = text_before before ++ x.text
 
--- the place after a text: 1 and its LFs, and the characters since the last LF
-unfoldable pub place_after : List ℕ → Place
-place_after cs = record { row = 1 + count_by (λ c. c == 10) cs; column = prefix_len (λ c. not (c == 10)) (reverse cs) }
-
 abbrev pub opens : Lexeme → Bool
-opens x = elim x.«class» [ Operator ↦ is_opener x.text | _ ↦ false ]
+opens x = is_opener_class x.«class»
 
 abbrev pub closes : Lexeme → Bool
-closes x = elim x.«class» [ Operator ↦ is_closer x.text | _ ↦ false ]
+closes x = is_closer_class x.«class»
 
 -- the brackets that are open at a place: opening ones less closing ones, whatever their kind (reference 2.1.6)
 unfoldable pub depth : List Lexeme → ℕ

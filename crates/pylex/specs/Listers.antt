@@ -1,6 +1,7 @@
 -- How a lister stands: a source in hand, and the cursor that it shows.
 use Rattle.std.specs.Prelude.{◌≡◌, ℕ, ◌+◌, ◌-◌, ◌<◌, ◌≤◌, true, nat_lt, List, [], ◌∷◌, ◌++◌, length, take, drop, count_by, slice_get, Some}
 use Rattle.std.specs.Str.{chars, IsUtf8}
+use Rattle.pysource.specs.Limits.{source_limit}
 use Rattle.pysource.specs.Parts.{Parts}
 use Rattle.pylex.specs.declared.entries.Step.{Step}
 use Rattle.pylex.specs.declared.cursors.Shown.{Shown}
@@ -64,7 +65,7 @@ pub record IsIn (text : List ℕ) (s : State) (ds : List ℕ) : Type 0 where
 -- What a lister keeps beside its cursor: how far it has looked from the cursor's point on, and how many of the levels above 0 that are open there it has not closed.
 pub record Keeps (l : Listed) (p : Progress) (left levels : List ℕ) (nested tail : ℕ) : Type 0 where
   pub utf8 : IsUtf8 l.source.text
-  pub small : length l.source.text ≤ 1_073_741_824
+  pub small : length l.source.text ≤ source_limit
   pub stood : (a : Source) × StandsIn l a l.shown.given
   pub stands : Stands p left
   pub ascending : IsAscending 0 levels

@@ -2,6 +2,7 @@
 use Rattle.std.specs.Prelude.{ℕ, ◌+◌, nat_lt, Bool, true, false, not, ◌&&◌, ◌||◌, ◌==◌, List, [], ◌∷◌, ◌++◌, length, drop, reverse, count_by, replicate, if◌then◌else◌, Option, Some, None, option_map}
 use Rattle.std.specs.List.{list_all, list_any, take_while}
 use Rattle.std.specs.Str.{chars}
+use Rattle.pysource.specs.Places.{place_after}
 use Rattle.pysource.specs.Parts.{Parts}
 use Rattle.pysource.specs.declared.faults.LineFault.{LineFault}
 use Rattle.pylexeme.specs.declared.kinds.Exact.{Exact}
@@ -16,9 +17,9 @@ use Rattle.pylex.specs.declared.entries.Step.{Step}
 use Rattle.pylex.specs.declared.entries.Step.TheVariants as steps
 use Rattle.pylexeme.specs.Chars.{is_blank_char}
 use Rattle.pylexeme.specs.Strings.{opens_string}
-use Rattle.pylexeme.specs.Operators.{exact_of, is_closer}
+use Rattle.pylexeme.specs.Operators.{is_closer}
 use Rattle.pylexeme.specs.Lexemes.{Lexeme, cut, left_by_cut, is_open_string}
-use Rattle.pylex.specs.Lines.{text_before, place_after, depth, is_thing, line_so_far, before_line, is_at_margin, is_logical, width_at, widths}
+use Rattle.pylex.specs.Lines.{text_before, depth, is_thing, line_so_far, before_line, is_at_margin, is_logical, width_at, widths}
 use Rattle.pylexeme.specs.Chars.{bytes_in}
 use Rattle.pylex.specs.Levels.{open_levels}
 
@@ -78,7 +79,7 @@ entry_of before x = elim x.«class» [
   | Name ↦ lexeme_piece kinds.Name None before x.text
   | Number ↦ lexeme_piece kinds.Number None before x.text
   | String ↦ lexeme_piece kinds.String None before x.text
-  | Operator ↦ if is_closer x.text && (depth before == 0) then fault_at errors.UnmatchedCloser (place_after (text_before before)) ∷ [] else lexeme_piece kinds.Op (exact_of x.text) before x.text
+  | Operator o ↦ if is_closer o && (depth before == 0) then fault_at errors.UnmatchedCloser (place_after (text_before before)) ∷ [] else lexeme_piece kinds.Op (Some o) before x.text
   | Comment ↦ lexeme_piece kinds.Comment None before x.text
   | Blanks ↦ []
   | LineEnd ↦ piece (line_end_kind before) None (text_before before) x.text (further (place_after (text_before before)) (length x.text)) ∷ []

@@ -15,7 +15,7 @@ use Rattle.pylex.specs.declared.state.Point.{Point}
 use Rattle.pylex.specs.declared.state.Front.{Front}
 use Rattle.pylex.specs.declared.state.Front.TheVariants.{Nothing, Hash, Other}
 use Rattle.pylexeme.specs.Chars.{is_blank_char}
-use Rattle.pylexeme.specs.Operators.{exact_of, is_closer}
+use Rattle.pylexeme.specs.Operators.{is_closer}
 use Rattle.pylexeme.specs.Lexemes.{Lexeme, cut, left_by_cut, is_join_class}
 use Rattle.pylex.specs.Lines.{is_of_blanks, is_of_line_end, is_thing, opens, closes, width_from}
 use Rattle.pylexeme.specs.Chars.{bytes_in}
@@ -111,7 +111,7 @@ entry_by s x = elim x.«class» [
   | Name ↦ step_of kinds.Name None s.now (past s.now x.text) ∷ []
   | Number ↦ step_of kinds.Number None s.now (past s.now x.text) ∷ []
   | String ↦ step_of kinds.String None s.now (past s.now x.text) ∷ []
-  | Operator ↦ if is_closer x.text && (s.depth == 0) then fault_at errors.UnmatchedCloser s.now.place ∷ [] else step_of kinds.Op (exact_of x.text) s.now (past s.now x.text) ∷ []
+  | Operator o ↦ if is_closer o && (s.depth == 0) then fault_at errors.UnmatchedCloser s.now.place ∷ [] else step_of kinds.Op (Some o) s.now (past s.now x.text) ∷ []
   | Comment ↦ step_of kinds.Comment None s.now (past s.now x.text) ∷ []
   | Blanks ↦ []
   | LineEnd ↦ step_of (line_end_kind_of s) None s.now (behind s.now x.text) ∷ []

@@ -1,5 +1,5 @@
 -- Where a lister stands, and its steps from there.
-use Rattle.std.specs.Prelude.{◌≡◌, ◌⊎◌, ℕ, ◌+◌, ◌-◌, ◌*◌, ◌≤◌, List, [], ◌++◌, length, take, Option, OnSome, option_map}
+use Rattle.std.specs.Prelude.{◌≡◌, ◌⊎◌, ℕ, ◌+◌, ◌-◌, ◌≤◌, List, [], ◌++◌, length, take, Option, OnSome, option_map}
 use Rattle.std.specs.Str.{chars}
 use Rattle.pysource.specs.Parts.{Parts}
 use Rattle.pysource.specs.declared.faults.LineFault.{LineFault}
@@ -17,7 +17,7 @@ use Rattle.pylex.specs.Listing.{of_line}
 use Rattle.pylex.specs.Listers.{Keeps, Moves, shown_by}
 use Rattle.pylex.specs.Machine.{remaining}
 use Rattle.pylex.specs.Progress.{with_levels, Stands, IsAscending, Finds}
-use Rattle.pylex.specs.Steps.{IsNoEntry}
+use Rattle.pylex.specs.Steps.{IsNoEntry, most_entries}
 
 -- the cursor of a position
 abbrev pub shown_from : Position → CursorParts
@@ -29,7 +29,7 @@ Holds source p left = Keeps (record { source = source; shown = shown_from p }) p
 
 -- the counts of a position are small, and its levels ascend
 pub record HasPlace (p : Position) : Type 0 where
-  pub given : p.given ≤ 3 * 1_073_741_824 + 4
+  pub given : p.given ≤ most_entries
   pub skip : (length p.levels.items - p.nested) + p.tail ≤ length p.levels.items + 2
   pub within : p.nested ≤ length p.levels.items
   pub ascending : IsAscending 0 p.levels.items

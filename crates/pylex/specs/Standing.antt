@@ -1,11 +1,11 @@
 -- How a lister stands, and what a cursor tells of it.
-use Rattle.std.specs.Prelude.{◌≡◌, ℕ, ◌-◌, ◌≤◌, nat_le, false, not, ◌&&◌, ◌==◌, List, [], ◌∷◌, length, drop, if◌then◌else◌, Option}
+use Rattle.std.specs.Prelude.{◌≡◌, ℕ, ◌-◌, ◌≤◌, nat_le, Bool, true, false, not, ◌&&◌, ◌==◌, List, [], ◌∷◌, length, drop, if◌then◌else◌, Option}
 use Rattle.pylex.specs.declared.entries.ListingFault.{ListingFault}
 use Rattle.pylex.specs.declared.entries.Step.{Step}
 use Rattle.pylex.specs.declared.kinds.Kind.TheVariants as kinds
 use Rattle.pylexeme.specs.Chars.{bytes_in}
 use Rattle.pylex.specs.Listing.{Source, listing, rest, last_line, mark, origin}
-use Rattle.pylex.specs.Cursors.{CursorParts, cursor}
+use Rattle.pylex.specs.Cursors.{CursorParts, cursor, same_parts}
 use Rattle.pylex.specs.Steps.{entries_of}
 use Rattle.pylex.specs.Machine.{State, front_after, remaining}
 use Rattle.pylex.specs.declared.state.Point.{Point}
@@ -58,10 +58,12 @@ pub record Agrees (a b : Source) (n : ℕ) : Type 0 where
   pub begins : line_begin n a.text ≡ line_begin n b.text
   pub same : back_from (line_begin n a.text) a.text ≡ back_from (line_begin n b.text) b.text
 
--- a cursor is one of a source
-pub record IsCursorOf (c : CursorParts) (s : Source) : Type 0 where
-  pub within : c.given ≤ length (entries_of (listing s))
-  pub is : c ≡ cursor s c.given
+-- whether a cursor is one of a source: that behind some of its entries
+unfoldable pub is_cursor_of : CursorParts → Source → Bool
+is_cursor_of c s = nat_le c.given (length (entries_of (listing s))) && same_parts c (cursor s c.given)
+
+abbrev pub IsCursorOf : CursorParts → Source → Type 0
+IsCursorOf c s = is_cursor_of c s ≡ true
 
 -- a lister stands in a source after k entries
 pub record StandsAt (v : Standing) (s : Source) (k : ℕ) : Type 0 where

@@ -1,5 +1,6 @@
 -- The steps of a listing: entries, and then its end or the fault that ends it.
-use Rattle.std.specs.Prelude.{◌≡◌, ℕ, List, [], ◌∷◌, Option, Some, None}
+use Rattle.std.specs.Prelude.{◌≡◌, ℕ, ◌+◌, ◌*◌, List, [], ◌∷◌, Option, Some, None}
+use Rattle.pysource.specs.Limits.{source_limit}
 use Rattle.pylex.specs.declared.entries.Entry.{Entry}
 use Rattle.pylex.specs.declared.entries.ListingFault.{ListingFault}
 use Rattle.pylex.specs.declared.kinds.Kind.TheVariants as kinds
@@ -12,6 +13,10 @@ entries_of [] = []
 entries_of (steps.Entry e ∷ ss) = e ∷ entries_of ss
 entries_of (steps.End ∷ ss) = entries_of ss
 entries_of (steps.Fault f ∷ ss) = entries_of ss
+
+-- no listing has more entries: three for each byte that a source can have, and four
+abbrev pub most_entries : ℕ
+most_entries = 3 * source_limit + 4
 
 -- the fault that ends them, if one does
 abbrev pub fault_of : List Step → Option ListingFault

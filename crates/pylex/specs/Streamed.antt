@@ -8,7 +8,7 @@ use Rattle.pysource.specs.Taking.{Takes}
 use Rattle.pysource.specs.declared.streams.Reach.{Reach}
 use Rattle.pylex.specs.declared.stream.ResumeFault.{ResumeFault}
 use Rattle.pylex.specs.declared.stream.ResumeFault.TheVariants as resumes
-use Rattle.pysource.specs.declared.bytes.TheConstants.{SOURCE_LIMIT}
+use Rattle.pysource.specs.Limits.{source_limit}
 use Rattle.pysource.specs.declared.faults.LineError.TheVariants.{Unread}
 use Rattle.pysource.specs.declared.faults.LineFault.{LineFault}
 use Rattle.pysource.specs.declared.streams.Line.{Line}
@@ -56,7 +56,7 @@ pub record Streamed : Type 0 where
 
 -- what may follow the bytes that were taken, of a source within its limit
 abbrev pub Continues : Buffered → List ℕ → Bool → Type 0
-Continues b more broken = Follows b more broken × (b.count + length more ≤ SOURCE_LIMIT)
+Continues b more broken = Follows b more broken × (b.count + length more ≤ source_limit)
 
 -- what is to come behind the text that is held
 abbrev pub ahead : Streamed → List ℕ → Bool → Coming
@@ -108,7 +108,7 @@ streamed p c last = record {
 pub record IsStreaming (p : Position) (c : Chunk) (last : Option Entry) : Type 0 where
   pub chunk : IsChunk c
   pub text : IsUtf8 (string_bytes c.text)
-  pub within : c.lines.count ≤ SOURCE_LIMIT
+  pub within : c.lines.count ≤ source_limit
   pub left : IsUtf8 (drop c.at (string_bytes c.text))
   pub lexed : LexedTo (chars (drop c.at (string_bytes c.text))) (chars (string_bytes c.text))
   pub joined : IsJoined [] (string_bytes c.text)
@@ -169,6 +169,12 @@ pub record Begins (come_old come_new : Option (List ℕ)) (told_old told_new : �
   -- no more is taken past the lines that are held, and those that decide the encoding, than one read gives
   pub ahead : (length v.lines.pending ≤ 8_192) ⊎ (v.lines.count ≤ 8_192 + head_len taken)
   pub stands : (more : List ℕ) (broken : Bool) → Continues v.lines more broken → (p : Parts) × (stream_of broken (taken ++ more) ≡ Ok p) × StreamsIn v p k more broken
+
+-- A lister that has begun at a source's start: nothing is held, and no more is taken past the lines that decide the encoding than one read gives.
+pub record BeginsAnew (come_old come_new : Option (List ℕ)) (told_old told_new : ℕ) (v : Streamed) : Type 0 where
+  pub begins : Begins come_old come_new told_old told_new v 0
+  pub ahead : v.lines.count ≤ 8_192 + head_len begins.taken
+  pub held : v.held ≡ []
 
 -- the entry that was given last
 abbrev pub IsLast : Streamed → Step → Type 0

@@ -1,8 +1,9 @@
 //! The lines of a source that a lister holds, and how it reads on.
 
 ghost use Rattle.std.specs.Prelude.{◌≡◌, ◌≤◌, ◌<◌, ◌-◌, ◌+◌, ◌^◌, ℕ, [], length, drop, string_bytes, slice_range, IfOk, Ok, Err};
+ghost use Rattle.pysource.specs.Bytes.{IsSteady};
 ghost use Rattle.pysource.specs.Streams.{Buffered};
-ghost use Rattle.pysource.specs.declared.bytes.TheConstants.{SOURCE_LIMIT};
+ghost use Rattle.pysource.specs.Limits.{source_limit};
 ghost use Rattle.pysource.specs.declared.streams.Reach.{Reach};
 ghost use Rattle.std.specs.Str.{IsCharBoundary};
 ghost use Rattle.pylex.specs.Held.{Joins, LinesBehind};
@@ -37,10 +38,11 @@ fn add_lines<R: ByteIn>(
     text: &mut String,
 )
     requires reading { lines.old.reach ≡ Reach.Reading → R.failure_count reader.old < 2 ^ 64 - 1 }
-    requires within { lines.old.count ≤ SOURCE_LIMIT }
+    requires within { lines.old.count ≤ source_limit }
     requires from { IsCharBoundary (string_bytes text.old) from }
     ensures joins { (at : ℕ) (start : Buffered) → LinesBehind literal at from start lines.old (string_bytes text.old) → Joins literal at start lines.new (string_bytes text.new) }
     ensures adds { AddsOn (R.to_come reader.old) (R.to_come reader.new) (R.failure_count reader.old) (R.failure_count reader.new) lines.old lines.new (string_bytes text.old) (string_bytes text.new) }
+    ensures steady { IsSteady (R.may_fail reader.old) (R.may_fail reader.new) (R.failure_count reader.old) (R.failure_count reader.new) }
 {
     let mut from = from;
     while literal.goes_on(&text[from..]) {
@@ -97,13 +99,14 @@ impl Chunk {
     /// held, and else it lengthens them. Where no line comes nothing is changed.
     pub fn read_on<R: ByteIn>(&mut self, reader: &mut R, at: usize) -> Result<Line, AllocError>
         requires reading { self.old.lines.reach ≡ Reach.Reading → R.failure_count reader.old < 2 ^ 64 - 1 }
-        requires within { self.old.lines.count ≤ SOURCE_LIMIT }
+        requires within { self.old.lines.count ≤ source_limit }
         requires chunk { IsChunk self.old }
         requires at { at ≤ length (string_bytes self.old.text) }
         requires boundary { IsCharBoundary (string_bytes self.old.text) at }
         requires room { self.old.base + length (string_bytes self.old.text) < 2 ^ 62 }
         ensures on { ReadsOn (R.to_come reader.old) (R.to_come reader.new) (R.failure_count reader.old) (R.failure_count reader.new) self.old self.new at result }
         ensures holds { HoldsOn self.old self.new at result }
+        ensures steady { IsSteady (R.may_fail reader.old) (R.may_fail reader.new) (R.failure_count reader.old) (R.failure_count reader.new) }
     {
         if at < self.text.len() {
             self.lengthen(reader, at)
@@ -116,19 +119,17 @@ impl Chunk {
     /// line, and not from its start again for each.
     fn lengthen<R: ByteIn>(&mut self, reader: &mut R, at: usize) -> Result<Line, AllocError>
         requires reading { self.old.lines.reach ≡ Reach.Reading → R.failure_count reader.old < 2 ^ 64 - 1 }
-        requires within { self.old.lines.count ≤ SOURCE_LIMIT }
+        requires within { self.old.lines.count ≤ source_limit }
         requires chunk { IsChunk self.old }
         requires at { at < length (string_bytes self.old.text) }
         requires boundary { IsCharBoundary (string_bytes self.old.text) at }
         ensures on { ReadsOn (R.to_come reader.old) (R.to_come reader.new) (R.failure_count reader.old) (R.failure_count reader.new) self.old self.new at result }
         ensures holds { HoldsOn self.old self.new at result }
+        ensures steady { IsSteady (R.may_fail reader.old) (R.may_fail reader.new) (R.failure_count reader.old) (R.failure_count reader.new) }
     {
         let literal = open_literal(&self.text[at..]);
         let from = self.text.len();
-        let line = match self.add_line(reader, at) {
-            Ok(line) => line,
-            Err(error) => return Err(error),
-        };
+        let line = self.add_line(reader, at)?;
         let Line::Text = line else {
             return Ok(line);
         };
@@ -146,11 +147,9 @@ impl Chunk {
         ensures line { AddsLine self.old self.new at result }
         ensures longer { IfOk result (λ _. IsLonger (string_bytes self.old.text) (string_bytes self.new.text)) }
         ensures on { ReadsOn (R.to_come reader.old) (R.to_come reader.new) (R.failure_count reader.old) (R.failure_count reader.new) self.old self.new at result }
+        ensures steady { IsSteady (R.may_fail reader.old) (R.may_fail reader.new) (R.failure_count reader.old) (R.failure_count reader.new) }
     {
-        let line = match self.lines.next_line(reader, &mut self.text) {
-            Ok(line) => line,
-            Err(error) => return Err(error),
-        };
+        let line = self.lines.next_line(reader, &mut self.text)?;
         if let Line::Text = line {
             self.at = at;
         }
@@ -164,11 +163,9 @@ impl Chunk {
         requires room { self.old.base + length (string_bytes self.old.text) < 2 ^ 62 }
         ensures on { ReadsOn (R.to_come reader.old) (R.to_come reader.new) (R.failure_count reader.old) (R.failure_count reader.new) self.old self.new (length (string_bytes self.old.text)) result }
         ensures holds { HoldsOn self.old self.new (length (string_bytes self.old.text)) result }
+        ensures steady { IsSteady (R.may_fail reader.old) (R.may_fail reader.new) (R.failure_count reader.old) (R.failure_count reader.new) }
     {
-        let line = match self.lines.next_line(reader, &mut self.spare) {
-            Ok(line) => line,
-            Err(error) => return Err(error),
-        };
+        let line = self.lines.next_line(reader, &mut self.spare)?;
         if let Line::Text = line {
             self.base += self.text.len();
             mem::swap(&mut self.text, &mut self.spare);

@@ -11,9 +11,9 @@ ghost use Rattle.pylex.specs.Standing.{resumed};
 ghost use Rattle.pylex.specs.Listers.{shown_at, shown_by};
 ghost use Rattle.std.specs.Str.{chars};
 
-use pylexeme::scanner::char_count;
 use crate::state::{Point, Progress, front_of};
 use itoa::Buffer;
+use pylexeme::scanner::char_count;
 use pysource::Place;
 use std::alloc::{AllocError, Global};
 use std::marker::Model;
@@ -40,24 +40,24 @@ pub enum CursorFault {
 #[derive(Debug, Drop)]
 pub struct Cursor {
     /// The entries that were given.
-    given: u64,
+    given: usize,
     /// The bytes before the point.
-    offset: u64,
+    offset: usize,
     /// The point's row, from 1 on.
-    row: u64,
+    row: usize,
     /// The brackets that are open at the point.
-    depth: u64,
+    depth: usize,
     /// Whether a logical line has begun and has not ended.
     begun: bool,
     /// The entries of empty text that were given after the point.
-    skip: u64,
+    skip: usize,
     /// The open columns, ascending from 0.
-    levels: Vec<u64>,
+    levels: Vec<usize>,
 }
 
 /// What a cursor tells of its point: directly behind the last entry with text in the source, or at its start.
 #[derive(Clone, Copy, Debug, PartialEq, Eq)]
-pub struct Shown {
+pub(crate) struct Shown {
     pub offset: usize,
     pub row: usize,
     pub depth: usize,
@@ -66,7 +66,7 @@ pub struct Shown {
 
 impl Shown {
     /// Directly behind an entry.
-    pub fn at(now: Progress) -> Shown
+    pub(crate) fn at(now: Progress) -> Shown
         ensures { (k : ℕ) (levels : List ℕ) → shown_by k result levels 0 ≡ shown_at k (with_levels now (0 ∷ levels)) }
     {
         Shown {
@@ -79,7 +79,7 @@ impl Shown {
 
     #[tactic(auto, unfolding(crate::specs::Standing::resumed))]
     /// How far a lister has come there; the point's line so far is this.
-    pub fn progress(self, line: &str) -> Progress
+    pub(crate) fn progress(self, line: &str) -> Progress
         requires { length line.now < 2 ^ 62 }
         ensures { (k n : ℕ) (levels : List ℕ) → with_levels result (0 ∷ levels) ≡ resumed (shown_by k self levels n) (chars line.now) }
     {
@@ -115,7 +115,7 @@ impl Model for Cursor {
 }
 
 /// Writes a blank and a number.
-fn push_part(text: &mut String, number: u64) -> Result<(), AllocError>
+fn push_part(text: &mut String, number: usize) -> Result<(), AllocError>
     ensures { OnOk result (string_bytes text.new ≡ string_bytes text.old ++ part number) }
 {
     text.push(' ')?;
@@ -123,7 +123,7 @@ fn push_part(text: &mut String, number: u64) -> Result<(), AllocError>
 }
 
 /// Writes numbers with commas between them.
-fn push_levels(text: &mut String, levels: &[u64]) -> Result<(), AllocError>
+fn push_levels(text: &mut String, levels: &[usize]) -> Result<(), AllocError>
     ensures { OnOk result (string_bytes text.new ≡ string_bytes text.old ++ with_commas levels.now) }
 {
     for (index, level) in levels.iter().enumerate() {
@@ -136,7 +136,7 @@ fn push_levels(text: &mut String, levels: &[u64]) -> Result<(), AllocError>
 }
 
 /// Reads the number in front, up to a blank, and gives what stands behind that. Other spellings of a number are read too.
-fn number(text: &str) -> Option<(u64, &str)>
+fn number(text: &str) -> Option<(usize, &str)>
     ensures { (n : ℕ) (rest : List ℕ) → n < 2 ^ 64 → text.now ≡ decimal n ++ 32 ∷ rest → IsSomeAnd result (λ r. (r.0 ≡ n) × (r.1.now ≡ rest)) }
 {
     let (front, rest) = text.split_once(' ')?;
@@ -144,7 +144,7 @@ fn number(text: &str) -> Option<(u64, &str)>
 }
 
 /// Reads the six numbers before the levels, each with a blank behind it, and gives the levels.
-fn numbers(text: &str) -> Option<([u64; 6], &str)>
+fn numbers(text: &str) -> Option<([usize; 6], &str)>
     ensures { (ns rest : List ℕ) → length ns ≡ 6 → All (λ n. n < 2 ^ 64) ns → text.now ≡ flat_map (λ n. decimal n ++ 32 ∷ []) ns ++ rest
         → IsSomeAnd result (λ r. (r.0 ≡ ns) × (r.1.now ≡ rest)) }
 {
@@ -159,7 +159,7 @@ fn numbers(text: &str) -> Option<([u64; 6], &str)>
 }
 
 /// Reads the first level, and gives what stands behind its comma. Other spellings of a number are read too.
-fn first_level(text: &str) -> Option<(u64, Option<&str>)>
+fn first_level(text: &str) -> Option<(usize, Option<&str>)>
     ensures reads { (n : ℕ) (ns : List ℕ) → n < 2 ^ 64 → text.now ≡ with_commas (n ∷ ns)
         → IsSomeAnd result (λ r. (r.0 ≡ n) × MatchOption r.1 (ns ≡ []) (λ back. (0 < length ns) × (back.now ≡ with_commas ns))) }
     ensures text { IfSome result (λ r. IfSome r.1 (λ back. IsUtf8 back.now)) }
@@ -172,7 +172,7 @@ fn first_level(text: &str) -> Option<(u64, Option<&str>)>
 }
 
 /// Whether a level can stand behind these: 0 in front, and else a larger one.
-fn can_follow(levels: &[u64], level: u64) -> bool
+fn can_follow(levels: &[usize], level: usize) -> bool
     ensures first { length levels.now ≡ 0 → (IsTrue result ↔ (level ≡ 0)) }
     ensures above { 0 < length levels.now → (IsTrue result ↔ (slice_index levels.now (length levels.now - 1) < level)) }
 {
@@ -183,7 +183,7 @@ fn can_follow(levels: &[u64], level: u64) -> bool
 }
 
 /// Reads the levels, which take the whole text.
-fn read_levels(alloc: Global, text: &str) -> Result<Vec<u64>, CursorFault>
+fn read_levels(alloc: Global, text: &str) -> Result<Vec<usize>, CursorFault>
     ensures levels { IfOk result (λ levels. AreLevels levels.items) }
     ensures reads { (ns : List ℕ) → AreLevels ns → with_commas ns ≡ text.now → MatchResult result (λ levels. levels.items ≡ ns) (λ fault. fault ≡ CursorFault.Memory) }
     ensures fault { IfErr result (λ fault. fault ≢ CursorFault.AnotherSource) }
@@ -202,7 +202,7 @@ fn read_levels(alloc: Global, text: &str) -> Result<Vec<u64>, CursorFault>
 }
 
 /// 0, and the levels above it.
-fn from_ground(alloc: Global, levels: &[usize]) -> Result<Vec<u64>, AllocError>
+fn from_ground(alloc: Global, levels: &[usize]) -> Result<Vec<usize>, AllocError>
     requires { IsAscending 0 levels.now }
     ensures items { IfOk result (λ all. all.items ≡ 0 ∷ levels.now) }
     ensures levels { IfOk result (λ all. AreLevels all.items) }
@@ -210,13 +210,13 @@ fn from_ground(alloc: Global, levels: &[usize]) -> Result<Vec<u64>, AllocError>
     let mut all = Vec::new(alloc);
     all.push(0)?;
     for level in levels {
-        all.push(*level as u64)?;
+        all.push(*level)?;
     }
     Ok(all)
 }
 
 /// Whether these are 0 and the levels above it.
-fn are_from_ground(all: &[u64], levels: &[usize]) -> bool
+fn are_from_ground(all: &[usize], levels: &[usize]) -> bool
     ensures { IsTrue result ↔ (all.now ≡ 0 ∷ levels.now) }
 {
     let Some((first, above)) = all.split_first() else {
@@ -226,7 +226,7 @@ fn are_from_ground(all: &[u64], levels: &[usize]) -> bool
         return false;
     }
     for index in 0..levels.len() {
-        if above[index] != levels[index] as u64 {
+        if above[index] != levels[index] {
             return false;
         }
     }
@@ -248,63 +248,63 @@ impl Cursor {
     {
         let levels = from_ground(alloc, levels)?;
         Ok(Cursor {
-            given: given as u64,
-            offset: point.offset as u64,
-            row: point.row as u64,
-            depth: point.depth as u64,
+            given: given,
+            offset: point.offset,
+            row: point.row,
+            depth: point.depth,
             begun: point.begun,
-            skip: skip as u64,
+            skip: skip,
             levels,
         })
     }
 
     /// How many entries were given.
-    pub fn given(&self) -> usize
+    pub(crate) fn given(&self) -> usize
         ensures { result ≡ self.now.given }
     {
-        self.given as usize
+        self.given
     }
 
     /// How many entries of empty text were given after the point.
-    pub fn skip(&self) -> usize
+    pub(crate) fn skip(&self) -> usize
         ensures { result ≡ self.now.skip }
     {
-        self.skip as usize
+        self.skip
     }
 
     /// The cursor's point.
-    pub fn point(&self) -> Shown
+    pub(crate) fn point(&self) -> Shown
         ensures { (k n : ℕ) (levels : List ℕ) → shown_by k result levels n ≡ record self.now { given = k; levels = 0 ∷ levels; skip = n } }
     {
         Shown {
-            offset: self.offset as usize,
-            row: self.row as usize,
-            depth: self.depth as usize,
+            offset: self.offset,
+            row: self.row,
+            depth: self.depth,
             begun: self.begun,
         }
     }
 
     /// The levels above 0 that are open at the point.
-    pub fn levels(&self, alloc: Global) -> Result<Vec<usize>, AllocError>
+    pub(crate) fn levels(&self, alloc: Global) -> Result<Vec<usize>, AllocError>
         ensures { IfOk result (λ levels. self.now.levels ≡ 0 ∷ levels.items) }
     {
         let mut levels = Vec::new(alloc);
         for level in &self.levels.as_slice()[1..] {
-            levels.push(*level as usize)?;
+            levels.push(*level)?;
         }
         Ok(levels)
     }
 
     /// Whether this is the cursor at a point, by the same parts.
-    pub fn is_at(&self, given: usize, point: Shown, levels: &[usize], skip: usize) -> bool
+    pub(crate) fn is_at(&self, given: usize, point: Shown, levels: &[usize], skip: usize) -> bool
         ensures { IsTrue result ↔ (self.now ≡ shown_by given point levels.now skip) }
     {
-        self.given == given as u64
-            && self.offset == point.offset as u64
-            && self.row == point.row as u64
-            && self.depth == point.depth as u64
+        self.given == given
+            && self.offset == point.offset
+            && self.row == point.row
+            && self.depth == point.depth
             && self.begun == point.begun
-            && self.skip == skip as u64
+            && self.skip == skip
             && are_from_ground(self.levels.as_slice(), levels)
     }
 }
@@ -366,96 +366,10 @@ impl Cursor {
         push_part(&mut text, self.offset)?;
         push_part(&mut text, self.row)?;
         push_part(&mut text, self.depth)?;
-        push_part(&mut text, u64::from(self.begun))?;
+        push_part(&mut text, usize::from(self.begun))?;
         push_part(&mut text, self.skip)?;
         text.push(' ')?;
         push_levels(&mut text, self.levels.as_slice())?;
         Ok(text)
-    }
-}
-
-#[cfg(test)]
-mod tests {
-    use crate::cursors::{Cursor, CursorFault};
-    use std::alloc::{AllocError, Global};
-    use std::test::Fail;
-
-    /// What the cursor of a text writes, or why there is none.
-    fn answer(alloc: Global, text: &str) -> Result<String, AllocError> {
-        match Cursor::from_text(alloc, text) {
-            Ok(cursor) => cursor.to_text(),
-            Err(fault) => format!(in alloc; "{fault}"),
-        }
-    }
-
-    #[test]
-    fn reads_cursors(rt: HostRuntime) -> Result<(), Fail> {
-        let rows = [
-            "pytok1 0 0 1 0 0 0 0",
-            "pytok1 3 1 1 0 1 1 0",
-            "pytok1 6 7 2 0 1 0 0,8",
-            "pytok1 8 12 3 0 0 0 0,4",
-            "pytok1 18446744073709551615 0 1 0 0 0 0",
-            "pytok1 1 2 3 4 1 5 0,1,18446744073709551615",
-        ];
-        for row in rows {
-            assert_eq!(rt; answer(rt.alloc(), row)?.as_str(), row);
-        }
-        Ok(())
-    }
-
-    #[test]
-    fn refuses_other_texts(rt: HostRuntime) -> Result<(), Fail> {
-        let rows = [
-            "",
-            "pytok1",
-            "pytok2 0 0 1 0 0 0 0",
-            // no row, no flag, no levels
-            "pytok1 0 0 0 0 0 0 0",
-            "pytok1 0 0 1 0 2 0 0",
-            "pytok1 0 0 1 0 0 0",
-            "pytok1 0 0 1 0 0 0 ",
-            // levels that don't ascend from 0
-            "pytok1 0 0 1 0 0 0 1",
-            "pytok1 0 0 1 0 0 0 0,0",
-            "pytok1 0 0 1 0 0 0 0,2,1",
-            "pytok1 0 0 1 0 0 0 0,",
-            "pytok1 0 0 1 0 0 0 ,0",
-            // numbers in another spelling, or none
-            "pytok1 00 0 1 0 0 0 0",
-            "pytok1 +0 0 1 0 0 0 0",
-            "pytok1 0 0 1 0 0 0 00",
-            "pytok1 18446744073709551616 0 1 0 0 0 0",
-            "pytok1 0 0 1 0 0 0 0,18446744073709551616",
-            "pytok1 a 0 1 0 0 0 0",
-            // other blanks
-            " pytok1 0 0 1 0 0 0 0",
-            "pytok1  0 0 1 0 0 0 0",
-            "pytok1\t0 0 1 0 0 0 0",
-            "pytok1 0 0 1 0 0 0 0 ",
-            "pytok1 0 0 1 0 0 0 0\n",
-            "pytok1 0 0 1 0 0 0 0, 1",
-        ];
-        for row in rows {
-            assert_eq!(rt;
-                answer(rt.alloc(), row)?.as_str(),
-                "malformed cursor",
-                "{row}"
-            );
-        }
-        Ok(())
-    }
-
-    #[test]
-    fn tells_faults(rt: HostRuntime) -> Result<(), Fail> {
-        let rows = [
-            (CursorFault::AnotherSource, "cursor of another source"),
-            (CursorFault::Text, "malformed cursor"),
-            (CursorFault::Memory, "out of memory"),
-        ];
-        for (fault, told) in rows {
-            assert_eq!(rt; format!(in rt.alloc(); "{fault}")?.as_str(), told);
-        }
-        Ok(())
     }
 }

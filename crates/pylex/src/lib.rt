@@ -10,7 +10,7 @@
 mod chunk;
 mod cursors;
 mod entries;
-pub mod kinds;
+mod kinds;
 mod lines;
 mod lister;
 mod position;
@@ -23,8 +23,8 @@ pub use entries::{Entry, ListingError, ListingFault, Step, text};
 pub use kinds::{Exact, Kind};
 pub use lines::{line_text, push_line};
 pub use lister::Lister;
+pub use pylexeme::lexeme::{Class, begins_thing, cut};
+pub use pylexeme::operators::exact_of;
+pub use pylexeme::string::{OpenLiteral, is_open_string, open_literal, opens_string};
 pub use stream::{LineLister, ResumeFault};
 pub use stream_lister::StreamLister;
-
-#[cfg(test)]
-mod fakes;

@@ -6,13 +6,12 @@ ghost use Rattle.pylex.specs.Listing.{last_line, listing, in_characters};
 ghost use Rattle.pylex.specs.Laws.{IsLawful, AllLie};
 ghost use Rattle.pylex.specs.Standing.{IsCursorOf};
 ghost use Rattle.pylex.specs.Listers.{StandsIn, LeadsInto, Moves, AwaitsIndent};
+ghost use Rattle.pylex.specs.Steps.{most_entries};
 
 use crate::cursors::{Cursor, CursorFault};
 use crate::entries::Step;
-use crate::kinds::Kind;
 use crate::position::Position;
-use crate::state::mark;
-use pysource::{Place, Source};
+use pysource::Source;
 use std::alloc::{AllocError, Global};
 use std::marker::Model;
 
@@ -71,11 +70,10 @@ impl<'a> Lister<'a> {
         ensures source { self.new.source ≡ self.old.source }
         ensures same { OnErr result (self.new ≡ self.old) }
         ensures indent { OnErr result (AwaitsIndent self.old) }
+        ensures given { self.new.shown.given ≤ most_entries }
     {
-        if self.position.given == 0 {
-            self.position.given = 1;
-            let origin = Place { row: 0, column: 0 };
-            return Ok(Step::Entry(mark(Kind::Encoding, 0, origin, origin)));
+        if self.position.is_at_start() {
+            return Ok(Step::Entry(self.position.begin()));
         }
         let (meets, now, left) = self.position.meet(self.left);
         let fault = self.source.line_fault();
@@ -93,9 +91,11 @@ impl<'a> Lister<'a> {
         self.position.is_at(cursor)
     }
 
-    /// The lister's cursor: what is kept of the listing behind the entries that were given.
+    /// The lister's cursor: what is kept of the listing behind the entries that were given. With it [`Lister::resume`] goes
+    /// on in this source.
     pub fn cursor(&self) -> Result<Cursor, AllocError>
-        ensures { IfOk result (λ cursor. cursor ≡ self.entry.now.shown) }
+        ensures shown { IfOk result (λ cursor. cursor ≡ self.entry.now.shown) }
+        ensures leads { IfOk result (λ cursor. LeadsInto cursor self.entry.now.source) }
     {
         self.position.cursor()
     }
@@ -112,17 +112,10 @@ impl<'a> Lister<'a> {
         let point = cursor.point();
         let levels = cursor.levels(alloc)?;
         let (before, left) = source.text().split_at(point.offset);
-        let nested = levels.len();
+        let given = cursor.given() - cursor.skip();
         Ok(Lister {
             source,
-            position: Position {
-                given: cursor.given() - cursor.skip(),
-                point,
-                levels,
-                now: point.progress(last_line(before)),
-                nested,
-                tail: 0,
-            },
+            position: Position::at(given, point, levels, last_line(before)),
             left,
         })
     }
@@ -157,6 +150,7 @@ impl<'a> Lister<'a> {
     ) -> Result<Lister<'a>, CursorFault>
         ensures lister { IfOk result (λ lister. lister ≡ record { source = source.now; shown = cursor.now }) }
         ensures own { OnOk result (IsCursorOf cursor.now (in_characters source.now)) }
+        ensures leads { OnOk result (LeadsInto cursor.now source.now) }
         ensures another { IfErr result (λ fault. fault ≡ CursorFault.AnotherSource → IsCursorOf cursor.now (in_characters source.now) → ⊥) }
         ensures fault { IfErr result (λ fault. fault ≢ CursorFault.Text) }
     {
@@ -173,91 +167,5 @@ impl<'a> Lister<'a> {
             return Err(CursorFault::AnotherSource);
         }
         Ok(lister)
-    }
-}
-
-#[cfg(test)]
-mod tests {
-    use crate::cursors::{Cursor, CursorFault};
-    use crate::entries::Step;
-    use crate::kinds::Kind;
-    use crate::lister::Lister;
-    use pysource::{Place, decode};
-    use std::process::Abort;
-    use std::test::Fail;
-
-    /// The rest of a listing has these kinds, and begins and ends at these rows and columns.
-    fn gives(
-        rt: &impl Abort,
-        lister: &mut Lister,
-        rows: &[(Kind, (usize, usize), (usize, usize))],
-    ) -> Result<(), Fail> {
-        for (kind, start, end) in rows {
-            let Step::Entry(entry) = lister.next()? else {
-                return Err(Fail::from("no entry"));
-            };
-            assert_eq!(rt; entry.kind, *kind);
-            assert_eq!(rt; (entry.start.row, entry.start.column), *start);
-            assert_eq!(rt; (entry.end.row, entry.end.column), *end);
-        }
-        assert!(rt; matches!(lister.next()?, Step::End));
-        Ok(())
-    }
-
-    #[test]
-    fn goes_on_behind_an_indent(rt: HostRuntime) -> Result<(), Fail> {
-        let rows = [
-            (Kind::Newline, (2, 2), (2, 3)),
-            (Kind::Dedent, (3, 0), (3, 0)),
-            (Kind::EndMarker, (3, 0), (3, 0)),
-        ];
-        let source = decode(rt.alloc(), b"if x:\n\ty\n")?;
-        let mut lister = Lister::new(rt.alloc(), &source);
-        for _ in 0..7 {
-            let _ = lister.next()?;
-        }
-        let cursor = lister.cursor()?;
-        assert_eq!(rt; cursor.to_text()?.as_str(), "pytok1 7 8 2 0 1 0 0,8");
-        gives(&rt, &mut lister, &rows)?;
-        let mut checked = Lister::resume_checked(rt.alloc(), &source, &cursor)?;
-        gives(&rt, &mut checked, &rows)?;
-        let mut resumed = Lister::resume(rt.alloc(), &source, &cursor)?;
-        gives(&rt, &mut resumed, &rows)
-    }
-
-    #[test]
-    fn goes_on_among_dedents(rt: HostRuntime) -> Result<(), Fail> {
-        let rows = [
-            (Kind::Dedent, (4, 0), (4, 0)),
-            (Kind::Name, (4, 0), (4, 1)),
-            (Kind::Newline, (4, 1), (4, 2)),
-            (Kind::EndMarker, (5, 0), (5, 0)),
-        ];
-        let source = decode(rt.alloc(), b"if a:\n if b:\n  c\nd\n")?;
-        let cursor = Cursor::from_text(rt.alloc(), "pytok1 14 17 4 0 0 1 0,1,2")?;
-        let mut checked = Lister::resume_checked(rt.alloc(), &source, &cursor)?;
-        gives(&rt, &mut checked, &rows)?;
-        let mut resumed = Lister::resume(rt.alloc(), &source, &cursor)?;
-        gives(&rt, &mut resumed, &rows)
-    }
-
-    #[test]
-    fn refuses_cursors_of_other_sources(rt: HostRuntime) -> Result<(), Fail> {
-        let source = decode(rt.alloc(), b"x\n")?;
-        let texts = [
-            "pytok1 7 8 2 0 1 0 0,8",
-            "pytok1 2 1 1 0 0 0 0",
-            "pytok1 5 2 2 0 0 1 0",
-        ];
-        for text in texts {
-            let cursor = Cursor::from_text(rt.alloc(), text)?;
-            assert!(rt;
-                matches!(
-                    Lister::resume_checked(rt.alloc(), &source, &cursor),
-                    Err(CursorFault::AnotherSource)
-                )
-            );
-        }
-        Ok(())
     }
 }

@@ -1,10 +1,11 @@
 //! Where a lister stands in a listing, and its steps from there: what all listers share, whatever text they hold.
 
-ghost use Rattle.std.specs.Prelude.{◌≡◌, ℕ, ◌+◌, ◌-◌, ◌^◌, ◌<◌, ◌≤◌, List, [], ◌∷◌, ◌++◌, length, take, drop, OnOk, OnErr, IfOk, IfErr, Ok, Err, Option, None, option_map, OnSome, IfSome, IsTrue, ◌↔◌};
+ghost use Rattle.std.specs.Prelude.{◌≡◌, ℕ, ◌+◌, ◌-◌, ◌^◌, ◌<◌, ◌≤◌, true, false, List, [], ◌∷◌, ◌++◌, length, take, drop, OnOk, OnErr, IfOk, IfErr, Ok, Err, Option, None, option_map, OnSome, IfSome, IsTrue, ◌↔◌};
 ghost use Rattle.std.specs.Str.{chars};
-ghost use Rattle.pylex.specs.Listing.{of_line, stop_fault};
+ghost use Rattle.pylex.specs.Listing.{of_line, origin, stop_fault};
 ghost use Rattle.pylex.specs.Steps.{first_step, HasNoText, IsNoEntry, IsAt};
-ghost use Rattle.pylex.specs.Machine.{remaining, behind_steps, first_state};
+ghost use Rattle.pylex.specs.Machine.{remaining, behind_steps, first_state, mark_at};
+ghost use Rattle.pylex.specs.Standing.{resumed};
 ghost use Rattle.pylex.specs.Progress.{is_level, IsTop, Stands, IsAscending, IsLayout, Settles, Finds, StopAhead, HasRoom, Behind, closing, with_levels, given, GivesNoText, IsGivenFault, GivesAt};
 ghost use Rattle.pylex.specs.Listers.{shown_by, shown_at};
 ghost use Rattle.pylex.specs.Positions.{FaultsFirst, HasPlace, IsSame, Went, shown_from};
@@ -12,8 +13,8 @@ ghost use Rattle.pylex.specs.Positions.{FaultsFirst, HasPlace, IsSame, Went, sho
 use crate::cursors::{Cursor, Shown};
 use crate::entries::{Entry, ListingError, ListingFault, Step};
 use crate::kinds::Kind;
-use pylexeme::lexeme::{begins_thing, cut};
 use crate::state::{Given, Progress, entry_of, mark};
+use pylexeme::lexeme::{begins_thing, cut};
 use pylexeme::string::{is_open_string, opens_string};
 use pysource::{LineFault, Place};
 use std::alloc::{AllocError, Global};
@@ -272,17 +273,17 @@ fn open_level(levels: &mut Vec<usize>, nested: usize, width: usize) -> Result<()
 #[derive(Drop)]
 pub struct Position {
     /// How many entries were given.
-    pub given: usize,
+    given: usize,
     /// The point of the lister's cursor.
-    pub point: Shown,
+    point: Shown,
     /// The levels above 0 that are open at the point.
-    pub levels: Vec<usize>,
+    levels: Vec<usize>,
     /// How far the lister has looked from there: past lexemes that give nothing, and DEDENTs that were given.
-    pub now: Progress,
+    now: Progress,
     /// How many of the levels are open there.
-    pub nested: usize,
+    nested: usize,
     /// How many entries of the end were given.
-    pub tail: usize,
+    tail: usize,
 }
 
 impl Position {
@@ -304,6 +305,63 @@ impl Position {
             nested: 0,
             tail: 0,
         }
+    }
+
+    /// At the point of a cursor, where nothing is looked at behind it.
+    pub fn at(given: usize, point: Shown, levels: Vec<usize>, line: &str) -> Position
+        requires { length line.now < 2 ^ 62 }
+        ensures given { result.given ≡ given }
+        ensures point { result.point ≡ point }
+        ensures levels { result.levels ≡ levels }
+        ensures now { (k n : ℕ) (levels : List ℕ) → with_levels result.now (0 ∷ levels) ≡ resumed (shown_by k point levels n) (chars line.now) }
+        ensures nested { result.nested ≡ length levels.items }
+        ensures tail { result.tail ≡ 0 }
+    {
+        let nested = levels.len();
+        Position {
+            given,
+            point,
+            levels,
+            now: point.progress(line),
+            nested,
+            tail: 0,
+        }
+    }
+
+    /// Whether no entry was given.
+    #[inline(always)]
+    pub fn is_at_start(&self) -> bool
+        ensures start { result ≡ true → self.entry.now.given ≡ 0 }
+        ensures behind { result ≡ false → 0 < self.entry.now.given }
+    {
+        self.given == 0
+    }
+
+    /// Gives the entry of the encoding, the first one.
+    #[inline(always)]
+    pub fn begin(&mut self) -> Entry
+        ensures entry { mark_at Kind.Encoding 0 origin origin ≡ Step.Entry result }
+        ensures given { self.new ≡ record self.old { given = 1 } }
+    {
+        self.given = 1;
+        let origin = Place { row: 0, column: 0 };
+        mark(Kind::Encoding, 0, origin, origin)
+    }
+
+    /// How far the lister has looked from the point.
+    #[inline(always)]
+    pub fn now(&self) -> Progress
+        ensures { result ≡ self.entry.now.now }
+    {
+        self.now
+    }
+
+    /// Goes on from here at the next look.
+    #[inline(always)]
+    pub fn look_from(&mut self, now: Progress)
+        ensures { self.new ≡ record self.old { now = now } }
+    {
+        self.now = now;
     }
 
     /// What is met next in a text, and how far from it.

@@ -2,8 +2,8 @@
 
 ghost use Rattle.std.specs.Prelude.{◌≡◌, ◌↔◌, IsTrue, ℕ, ◌+◌, ◌*◌, ◌^◌, ◌<◌, ◌≤◌, ◌&&◌, ◌||◌, not, ◌==◌, if◌then◌else◌, List, [], ◌∷◌, length, false, Ok, ◌-◌};
 ghost use Rattle.std.specs.Str.{chars};
-ghost use Rattle.pylex.specs.Lines.{opens, closes, column_after, width_from};
-ghost use Rattle.pylexeme.specs.Lexemes.{is_thing_class, is_blanks_class, is_line_end_class, is_join_class};
+ghost use Rattle.pylex.specs.Lines.{column_after, width_from};
+ghost use Rattle.pylexeme.specs.Lexemes.{is_thing_class, is_blanks_class, is_line_end_class, is_join_class, is_opener_class, is_closer_class};
 ghost use Rattle.pylexeme.specs.Chars.{bytes_in};
 ghost use Rattle.pylex.specs.Machine.{advance, front_after_char, front_after, past, behind, after, entry_by, step_of, mark_at, is_hash, still, count_if, pushed, first_state, last_line_end, last_place};
 ghost use Rattle.pylex.specs.Listing.{row_after};
@@ -13,7 +13,6 @@ ghost use Rattle.pylex.specs.Progress.{with_levels, measured, begun_anew, given,
 use crate::entries::{Entry, ListingError, ListingFault, Step};
 use crate::kinds::{Exact, Kind};
 use pylexeme::lexeme::Class;
-use pylexeme::operators::{exact_of, is_closer, is_opener};
 use pylexeme::scanner::char_count;
 use pysource::Place;
 
@@ -302,25 +301,17 @@ impl Progress {
 
     /// The depth after a lexeme.
     #[inline(always)]
-    fn depth_after(self, class: Class, text: &str) -> usize
+    fn depth_after(self, class: Class) -> usize
         requires { self.depth < 2 ^ 62 }
-        ensures { result ≡ self.depth + count_if (opens (record { «class» = class; text = chars text.now })) - count_if (closes (record { «class» = class; text = chars text.now })) }
+        ensures { result ≡ self.depth + count_if (is_opener_class class) - count_if (is_closer_class class) }
     {
-        match class {
-            Class::Operator => {
-                let opened = if is_opener(text) {
-                    self.depth + 1
-                } else {
-                    self.depth
-                };
-                if is_closer(text) {
-                    opened.saturating_sub(1)
-                } else {
-                    opened
-                }
-            }
-            _ => self.depth,
+        if class.is_opener() {
+            return self.depth + 1;
         }
+        if class.is_closer() {
+            return self.depth.saturating_sub(1);
+        }
+        self.depth
     }
 
     #[tactic(auto, unfolding(crate::specs::Machine::entry_by))]
@@ -342,14 +333,14 @@ impl Progress {
                 };
                 return Given::Entry(entry_of(kind, None, self.now, self.now.behind(text)));
             }
-            Class::Operator => {
-                if self.depth == 0 && is_closer(text) {
+            Class::Operator(operator) => {
+                if self.depth == 0 && operator.is_closer() {
                     return Given::Fault(ListingFault {
                         code: ListingError::UnmatchedCloser,
                         place: self.now.place,
                     });
                 }
-                (Kind::Op, exact_of(text))
+                (Kind::Op, Some(operator))
             }
             Class::Name => (Kind::Name, None),
             Class::Number => (Kind::Number, None),
@@ -423,7 +414,7 @@ impl Progress {
         Progress {
             now,
             line: self.line_after(class, now),
-            depth: self.depth_after(class, text),
+            depth: self.depth_after(class),
             margin: self.margin_after(class),
             width: self.width_past(class, text),
             logical: self.logical_after(class),

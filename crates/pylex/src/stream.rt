@@ -4,19 +4,21 @@
 
 ghost use Rattle.std.specs.Prelude.{◌≡◌, ◌≤◌, ◌<◌, ◌-◌, ◌+◌, ◌^◌, ◌||◌, ℕ, List, Bool, length, drop, string_bytes, Ok, Err, Option, Some, None, IfOk, IfErr, IfSome, IsTrue, ◌↔◌, Result};
 ghost use Rattle.std.specs.Str.{chars};
+ghost use Rattle.pysource.specs.Bytes.{IsSteady};
 ghost use Rattle.pysource.specs.Parts.{Parts};
 ghost use Rattle.pysource.specs.declared.streams.Reach.{Reach};
 ghost use Rattle.pysource.specs.Streams.{Refuses};
 ghost use Rattle.pylex.specs.ListingLines.{text_of};
 ghost use Rattle.pylexeme.specs.Lexemes.{is_open_string};
-ghost use Rattle.pylex.specs.Streamed.{Begins, MissesBy, IsEndedBy, StreamsIn, IsStreaming, MeetsIn, Looks, LooksAhead, Passes, Searches, Steps, Lacks, lacks, streamed};
+ghost use Rattle.pylex.specs.Steps.{most_entries};
+ghost use Rattle.pylex.specs.Streamed.{Begins, BeginsAnew, MissesBy, IsEndedBy, StreamsIn, IsStreaming, MeetsIn, Looks, LooksAhead, Passes, Searches, Steps, Lacks, lacks, streamed};
 
 use crate::chunk::Chunk;
 use crate::cursors::Cursor;
 use crate::entries::{Entry, ListingError, Step};
 use crate::kinds::Kind;
 use crate::position::{Meets, Position};
-use crate::state::{Progress, mark};
+use crate::state::Progress;
 use pylexeme::string::is_open_string;
 use pysource::{ByteIn, Line, LineError, LineFault, LineReader, Place, StreamFault};
 use std::alloc::{AllocError, Global};
@@ -44,7 +46,7 @@ fn look(position: &Position, chunk: &Chunk) -> Found
     if chunk.at == chunk.text.len() {
         return Found {
             meets: Meets::Stop,
-            now: position.now,
+            now: position.now(),
             at: chunk.at,
             fault: None,
         };
@@ -93,6 +95,7 @@ fn find<R: ByteIn>(
     ensures ahead { IfOk result (λ f. LooksAhead f chunk.old.lines chunk.new.lines) }
     ensures searches { Searches (R.to_come reader.old) (R.to_come reader.new) (R.failure_count reader.old) (R.failure_count reader.new) position.old position.new chunk.old chunk.new }
     ensures meets { IfOk result (MeetsIn position.new chunk.new) }
+    ensures steady { IsSteady (R.may_fail reader.old) (R.may_fail reader.new) (R.failure_count reader.old) (R.failure_count reader.new) }
 {
     loop {
         let found = look(position, chunk);
@@ -102,17 +105,14 @@ fn find<R: ByteIn>(
         if !lacks(&chunk.text[found.at..]) {
             return Ok(found);
         }
-        let line = match chunk.read_on(reader, found.at) {
-            Ok(line) => line,
-            Err(error) => return Err(error),
-        };
+        let line = chunk.read_on(reader, found.at)?;
         let Line::Text = line else {
             return Ok(Found {
                 fault: fault_of(line, chunk.lines.row()),
                 ..found
             });
         };
-        position.now = found.now;
+        position.look_from(found.now);
     }
 }
 
@@ -132,10 +132,7 @@ fn pass(
     ensures passes { Passes position.old chunk.old found (streamed position.new chunk.new last.new) result }
 {
     let left = &chunk.text[found.at..];
-    let step = match position.go(found.meets, found.now, left, found.fault) {
-        Ok(step) => step,
-        Err(error) => return Err(error),
-    };
+    let step = position.go(found.meets, found.now, left, found.fault)?;
     if let Step::Entry(entry) = step {
         chunk.at = found.at;
         *last = Some(entry);
@@ -189,21 +186,20 @@ impl Model for LineLister {
 }
 
 impl LineLister {
-    /// Begins at the start of the source that the reader gives. It reads the lines that decide the encoding.
+    /// Begins at the start of the source that the reader gives. It reads the lines that decide the encoding, and at most
+    /// 8,192 bytes past them; none is held yet.
     ///
     /// # Errors
     ///
     /// As [`LineReader::new`].
     pub fn new<R: ByteIn>(alloc: Global, reader: &mut R) -> Result<LineLister, StreamFault>
         requires { R.failure_count reader.old < 2 ^ 64 - 1 }
-        ensures begins { IfOk result (λ v. Begins (R.to_come reader.old) (R.to_come reader.new) (R.failure_count reader.old) (R.failure_count reader.new) v 0) }
+        ensures begins { IfOk result (BeginsAnew (R.to_come reader.old) (R.to_come reader.new) (R.failure_count reader.old) (R.failure_count reader.new)) }
         ensures given { IfOk result (λ v. v.shown.given ≡ 0) }
         ensures refuses { IfErr result (λ fault. Refuses (R.to_come reader.old) (R.to_come reader.new) (R.failure_count reader.old) (R.failure_count reader.new) fault) }
+        ensures steady { IsSteady (R.may_fail reader.old) (R.may_fail reader.new) (R.failure_count reader.old) (R.failure_count reader.new) }
     {
-        let lines = match LineReader::new(alloc, reader) {
-            Ok(lines) => lines,
-            Err(fault) => return Err(fault),
-        };
+        let lines = LineReader::new(alloc, reader)?;
         Ok(LineLister {
             position: Position::start(alloc),
             chunk: Chunk::new(alloc, lines),
@@ -226,15 +222,12 @@ impl LineLister {
         ensures begins { IfOk result (λ v. Begins (R.to_come reader.old) (R.to_come reader.new) (R.failure_count reader.old) (R.failure_count reader.new) v cursor.now.given) }
         ensures shown { IfOk result (λ v. v.shown ≡ cursor.now) }
         ensures misses { IfErr result (MissesBy (R.to_come reader.old) (R.to_come reader.new) (R.failure_count reader.old) (R.failure_count reader.new) cursor.now) }
+        ensures steady { IsSteady (R.may_fail reader.old) (R.may_fail reader.new) (R.failure_count reader.old) (R.failure_count reader.new) }
     {
-        let mut lister = match LineLister::new(alloc, reader) {
-            Ok(lister) => lister,
-            Err(fault) => return Err(ResumeFault::Stream(fault)),
-        };
+        let mut lister = LineLister::new(alloc, reader).map_err(ResumeFault::Stream)?;
         for _given in 0..cursor.given() {
-            let step = match lister.next(reader) {
-                Ok(step) => step,
-                Err(_) => return Err(ResumeFault::Stream(StreamFault::Memory)),
+            let Ok(step) = lister.next(reader) else {
+                return Err(ResumeFault::Stream(StreamFault::Memory));
             };
             let Step::Entry(_) = step else {
                 return Err(ended_before(step));
@@ -263,12 +256,12 @@ impl LineLister {
     #[inline(always)]
     pub fn next<R: ByteIn>(&mut self, reader: &mut R) -> Result<Step, AllocError>
         requires { self.old.lines.reach ≡ Reach.Reading → R.failure_count reader.old < 2 ^ 64 - 1 }
-        ensures { Steps (R.to_come reader.old) (R.to_come reader.new) (R.failure_count reader.old) (R.failure_count reader.new) self.old self.new result }
+        ensures steps { Steps (R.to_come reader.old) (R.to_come reader.new) (R.failure_count reader.old) (R.failure_count reader.new) self.old self.new result }
+        ensures given { self.new.shown.given ≤ most_entries }
+        ensures steady { IsSteady (R.may_fail reader.old) (R.may_fail reader.new) (R.failure_count reader.old) (R.failure_count reader.new) }
     {
-        if self.position.given == 0 {
-            self.position.given = 1;
-            let origin = Place { row: 0, column: 0 };
-            let entry = mark(Kind::Encoding, 0, origin, origin);
+        if self.position.is_at_start() {
+            let entry = self.position.begin();
             self.last = Some(entry);
             return Ok(Step::Entry(entry));
         }
@@ -292,12 +285,11 @@ impl LineLister {
         requires reading { self.old.lines.reach ≡ Reach.Reading → R.failure_count reader.old < 2 ^ 64 - 1 }
         requires given { 0 < self.old.shown.given }
         requires last { self.old.last ≡ None }
-        ensures { Steps (R.to_come reader.old) (R.to_come reader.new) (R.failure_count reader.old) (R.failure_count reader.new) self.old self.new result }
+        ensures steps { Steps (R.to_come reader.old) (R.to_come reader.new) (R.failure_count reader.old) (R.failure_count reader.new) self.old self.new result }
+        ensures given { self.new.shown.given ≤ most_entries }
+        ensures steady { IsSteady (R.may_fail reader.old) (R.may_fail reader.new) (R.failure_count reader.old) (R.failure_count reader.new) }
     {
-        let found = match find(&mut self.position, &mut self.chunk, reader) {
-            Ok(found) => found,
-            Err(error) => return Err(error),
-        };
+        let found = find(&mut self.position, &mut self.chunk, reader)?;
         pass(&mut self.position, &mut self.chunk, &mut self.last, found)
     }
 

@@ -4,7 +4,7 @@ use Rattle.std.proofs.lemmas.List.{append-nil}
 use Rattle.std.specs.Prelude.{IfSome, IfNone, IsTrue}
 use Rattle.std.proofs.lemmas.Bool.Decides.{nat_tests}
 use Rattle.pylexeme.specs.Chars.{begins}
-use Rattle.pylexeme.specs.Strings.{units, begins_three}
+use Rattle.pylexeme.specs.Strings.{units, begins_three, quote_char}
 use Rattle.pylexeme.specs.Lexemes.{lexeme_at, ends_by_join, is_open_string}
 use Rattle.pylexeme.specs.Lengths.{single_of, single_len, triple_len, begins_quotes, Opens}
 use Rattle.pylexeme.specs.Chunks.{EndsLine}
@@ -22,15 +22,15 @@ open_is None cs s n = sym n
 open_is (Some o) cs s n = sym s.unended
 
 -- The literal at a text's front
-pub opened : (o : OpenLiteral) (n : ℕ) (cs r : List ℕ) → Which o.quote → Opens n cs → r ≡ drop n cs → begins (λ c. c == o.quote) r ≡ true → o.triple ≡ begins_quotes o.quote r → true ≡ (begins_quotes o.quote r || ends_by_join o.quote (units (drop 1 r))) → IsOpenBy o cs
+pub opened : (o : OpenLiteral) (n : ℕ) (cs r : List ℕ) → Which (quote_char o.quote) → Opens n cs → r ≡ drop n cs → begins (λ c. c == quote_char o.quote) r ≡ true → o.triple ≡ begins_quotes (quote_char o.quote) r → true ≡ (begins_quotes (quote_char o.quote) r || ends_by_join (quote_char o.quote) (units (drop 1 r))) → IsOpenBy o cs
 opened o n cs r w p e h t u =
-    let i = head_is o.quote r h in
+    let i = head_is (quote_char o.quote) r h in
     record {
       «prefix» = n;
       opens = p;
-      here = ap (begins (λ c. c == o.quote)) (sym e) ∙ h;
-      triple = triple_opens n cs p ∙ ap begins_three (sym e ∙ i) ∙ quotes_three o.quote (drop 1 r) w ∙ ap (begins_quotes o.quote) (sym i) ∙ sym t;
-      unended = open_behind o.quote n cs r w p e h ∙ sym u;
+      here = ap (begins (λ c. c == quote_char o.quote)) (sym e) ∙ h;
+      triple = triple_opens n cs p ∙ ap begins_three (sym e ∙ i) ∙ quotes_three (quote_char o.quote) (drop 1 r) w ∙ ap (begins_quotes (quote_char o.quote)) (sym i) ∙ sym t;
+      unended = open_behind (quote_char o.quote) n cs r w p e h ∙ sym u;
     }
 
 pub unopened : (q n : ℕ) (cs r : List ℕ) → Which q → Opens n cs → r ≡ drop n cs → begins (λ c. c == q) r ≡ true → false ≡ (begins_quotes q r || ends_by_join q (units (drop 1 r))) → is_open_string cs ≡ false
@@ -46,7 +46,7 @@ longer o cs line l i u =
     record {
       «prefix» = i.«prefix»;
       opens = opens_longer i.«prefix» cs line i.opens;
-      here = here_longer o.quote i.«prefix» cs line i.opens i.here;
+      here = here_longer (quote_char o.quote) i.«prefix» cs line i.opens i.here;
       triple = triples_kept cs line l ∙ i.triple;
       unended = u;
     }
@@ -54,12 +54,12 @@ longer o cs line l i u =
 pub unclosed : (b : Bool) (n : ℕ) → b ≡ nat_lt 0 n → IsTrue (not b) → n ≡ 0
 unclosed b n e h = grind (arith, nat_tests)
 
-pub triple_on : (o : OpenLiteral) (line : List ℕ) → o.triple ≡ true → triple_len o.quote line ≡ 0 → (cs : List ℕ) → EndsLine cs → IsOpenBy o cs → lexeme_at cs ≡ None → IsOpenBy o (cs ++ line) × (lexeme_at (cs ++ line) ≡ None)
+pub triple_on : (o : OpenLiteral) (line : List ℕ) → o.triple ≡ true → triple_len (quote_char o.quote) line ≡ 0 → (cs : List ℕ) → EndsLine cs → IsOpenBy o cs → lexeme_at cs ≡ None → IsOpenBy o (cs ++ line) × (lexeme_at (cs ++ line) ≡ None)
 triple_on o line t f cs l i e =
-    let g = triple_goes_on o.quote i.«prefix» cs line l i.opens i.here (i.triple ∙ t) e f in
+    let g = triple_goes_on (quote_char o.quote) i.«prefix» cs line l i.opens i.here (i.triple ∙ t) e f in
     (longer o cs line l i g.1, g.0)
 
-pub single_on : (o : OpenLiteral) (line : List ℕ) → o.triple ≡ false → ends_by_join o.quote (units line) ≡ true → (cs : List ℕ) → EndsLine cs → IsOpenBy o cs → lexeme_at cs ≡ None → IsOpenBy o (cs ++ line) × (lexeme_at (cs ++ line) ≡ None)
+pub single_on : (o : OpenLiteral) (line : List ℕ) → o.triple ≡ false → ends_by_join (quote_char o.quote) (units line) ≡ true → (cs : List ℕ) → EndsLine cs → IsOpenBy o cs → lexeme_at cs ≡ None → IsOpenBy o (cs ++ line) × (lexeme_at (cs ++ line) ≡ None)
 single_on o line t j cs l i e =
-    let g = single_goes_on o.quote i.«prefix» cs line l i.opens i.here (i.triple ∙ t) i.unended (joins_unclosed o.quote line j) j in
+    let g = single_goes_on (quote_char o.quote) i.«prefix» cs line l i.opens i.here (i.triple ∙ t) i.unended (joins_unclosed (quote_char o.quote) line j) j in
     (longer o cs line l i g.1, g.0)

@@ -1,11 +1,12 @@
 -- The longest operator at a place, by its first three characters.
-use Rattle.std.proofs.Common.{◌≡◌, ℕ, ◌≤◌, ◌<◌, Bool, true, false, ◌&&◌, List, [], ◌∷◌, length, drop, take, refl, sym, ◌∙◌, ap, subst, Option, Some, None, arith, suc, zero, ⊎_elim, eqb, leb, is_some, slice_get, if◌then◌else◌, ◌≢◌}
+use Rattle.std.proofs.Common.{◌≡◌, ℕ, ◌≤◌, ◌<◌, Bool, true, false, ◌&&◌, List, [], ◌∷◌, length, drop, take, refl, sym, ◌∙◌, ap, subst, Option, Some, None, arith, suc, zero, ⊎_elim, eqb, leb, is_some, slice_get, if◌then◌else◌}
+use Rattle.std.specs.Prelude.{option_map}
 use Rattle.std.specs.List.{list_all, list_any}
 use Rattle.std.specs.Str.{bytes_eq}
 use Rattle.std.proofs.lemmas.Bool.{leb-true, cases_lt}
 use Rattle.pylexeme.specs.declared.kinds.Exact.{Exact}
-use Rattle.pylexeme.specs.Operators.{operators, is_operator, exact_of, is_opener, is_closer}
-use Rattle.pylexeme.specs.Lengths.{longest}
+use Rattle.pylexeme.specs.Operators.{operators, is_operator, exact_of}
+use Rattle.pylexeme.specs.Lengths.{longest, operator_at, pair_at}
 use Rattle.pylexeme.proofs.Cases.{bool_cases}
 use Rattle.std.proofs.lemmas.List.{length-take}
 use Rattle.pylexeme.proofs.Longest.{IsBest}
@@ -149,30 +150,7 @@ only_two cs a b e f g = at_one cs a e ∙ ap (λ t. a ∷ t) (only_one (drop 1 c
 pub at_three : (cs : List ℕ) (a b c : ℕ) → slice_get cs 0 ≡ Some a → slice_get (drop 1 cs) 0 ≡ Some b → slice_get (drop 1 (drop 1 cs)) 0 ≡ Some c → cs ≡ a ∷ b ∷ c ∷ drop 1 (drop 1 (drop 1 cs))
 at_three cs a b c e f g = at_one cs a e ∙ ap (λ t. a ∷ t) (at_one (drop 1 cs) b f ∙ ap (λ t. b ∷ t) (at_one (drop 1 (drop 1 cs)) c g))
 
-no_pair : (a b : ℕ) (t : List ℕ) (x y z : ℕ) → list_any (bytes_eq (a ∷ b ∷ t)) ((x ∷ []) ∷ (y ∷ []) ∷ (z ∷ []) ∷ []) ≡ false
-no_pair a b t x y z =
-    let p : bytes_eq (a ∷ b ∷ t) (x ∷ []) ≡ false = other_length (a ∷ b ∷ t) (x ∷ []) 1 (omega arith) (omega arith) in
-    let q : bytes_eq (a ∷ b ∷ t) (y ∷ []) ≡ false = other_length (a ∷ b ∷ t) (y ∷ []) 1 (omega arith) (omega arith) in
-    let r : bytes_eq (a ∷ b ∷ t) (z ∷ []) ≡ false = other_length (a ∷ b ∷ t) (z ∷ []) 1 (omega arith) (omega arith) in
-    rw (p, q, r) refl
-
-pub opener_off : (cs : List ℕ) → length cs ≢ 1 → is_opener cs ≡ false
-unfolding is_opener
-opener_off [] n = refl
-opener_off (a ∷ []) n = absurd (n refl)
-opener_off (a ∷ b ∷ t) n = no_pair a b t 40 91 123
-
-pub closer_off : (cs : List ℕ) → length cs ≢ 1 → is_closer cs ≡ false
-unfolding is_closer
-closer_off [] n = refl
-closer_off (a ∷ []) n = absurd (n refl)
-closer_off (a ∷ b ∷ t) n = no_pair a b t 41 93 125
-
 -- what the steps of a reader say
-pub operator_by : (t : List ℕ) (o : Option Exact) (b : Bool) → o ≡ exact_of t → b ≡ is_some o → is_operator t ≡ b
-unfolding is_operator
-operator_by t o b e f = ap is_some (sym e) ∙ sym f
-
 pub one_of : (cs l m : List ℕ) (x : ℕ) → l ≡ cs → Some x ≡ slice_get l 0 → m ≡ drop 1 l → None ≡ slice_get m 0 → cs ≡ x ∷ []
 one_of cs l m x e f g h = sym e ∙ only_one l x (sym f) (ap (λ r. slice_get r 0) (sym g) ∙ sym h)
 
@@ -182,23 +160,8 @@ two_of cs l m n x y e f g h i j = sym e ∙ at_one l x (sym f) ∙ ap (λ t. x �
 pub three_of : (cs l m n : List ℕ) (x y z : ℕ) → l ≡ cs → Some x ≡ slice_get l 0 → m ≡ drop 1 l → Some y ≡ slice_get m 0 → n ≡ drop 1 m → Some z ≡ slice_get n 0 → cs ≡ x ∷ y ∷ z ∷ drop 1 n
 three_of cs l m n x y z e f g h i j = sym e ∙ at_one l x (sym f) ∙ ap (λ t. x ∷ t) (sym g ∙ at_one m y (sym h) ∙ ap (λ t. y ∷ t) (sym i ∙ at_one n z (sym j)))
 
-pub longest_of : (cs ds : List ℕ) → cs ≡ ds → longest is_operator cs ≡ len_of ds
-longest_of cs ds e = len_longest cs ∙ ap len_of e
-
-pub len_none : (a : ℕ) → is_operator (a ∷ []) ≡ false → len_of (a ∷ []) ≡ 0
-len_none a e = rw e refl
-
-pub len_one : (a : ℕ) → is_operator (a ∷ []) ≡ true → len_of (a ∷ []) ≡ 1
-len_one a e = rw e refl
-
-pub len_three : (a b c : ℕ) (t : List ℕ) → is_operator (a ∷ b ∷ c ∷ []) ≡ true → len_of (a ∷ b ∷ c ∷ t) ≡ 3
-len_three a b c t e = rw e refl
-
-pub len_pair : (a b c : ℕ) (t : List ℕ) → is_operator (a ∷ b ∷ c ∷ []) ≡ false → len_of (a ∷ b ∷ c ∷ t) ≡ pair_of a b
-len_pair a b c t e = rw e refl
-
 -- names
-operator_some : (t : List ℕ) → is_some (exact_of t) ≡ is_operator t
+pub operator_some : (t : List ℕ) → is_some (exact_of t) ≡ is_operator t
 unfolding is_operator
 operator_some t = refl
 
@@ -212,6 +175,70 @@ exact_long t h = none_by (exact_of t) (operator_some t ∙ long_off t h)
     none_by : (o : Option Exact) → is_some o ≡ false → o ≡ None
     none_by None e = refl
     none_by (Some x) e = cc
+
+pub exact_off : (t : List ℕ) → is_operator t ≡ false → exact_of t ≡ None
+exact_off t h = none_by (exact_of t) (operator_some t ∙ h)
+  where
+    none_by : (o : Option Exact) → is_some o ≡ false → o ≡ None
+    none_by None e = refl
+    none_by (Some x) e = cc
+
+is_by : (t : List ℕ) (o : Option Exact) → exact_of t ≡ o → is_operator t ≡ is_some o
+is_by t o e = sym (operator_some t) ∙ ap is_some e
+
+-- the longest operator by the first three characters
+abbrev pub at_of : List ℕ → Option (Exact × ℕ)
+at_of [] = None
+at_of (a ∷ []) = option_map (λ e. (e, 1)) (exact_of (a ∷ []))
+at_of (a ∷ b ∷ []) = pair_at a b
+at_of (a ∷ b ∷ c ∷ t) = elim (exact_of (a ∷ b ∷ c ∷ [])) [ Some e ↦ Some (e, 3) | None ↦ pair_at a b ]
+
+abbrev at_length : List ℕ → ℕ → Option (Exact × ℕ)
+at_length cs n = option_map (λ e. (e, n)) (exact_of (take n cs))
+
+pair_is : (a b : ℕ) (t : List ℕ) → at_length (a ∷ b ∷ t) (pair_of a b) ≡ pair_at a b
+pair_is a b t = two (exact_of (a ∷ b ∷ [])) refl
+  where
+    one : (o : Option Exact) → exact_of (a ∷ []) ≡ o → at_length (a ∷ b ∷ t) (if is_operator (a ∷ []) then 1 else 0) ≡ option_map (λ e. (e, 1)) o
+    one None h = let i = is_by (a ∷ []) None h in rw (i, exact_none) refl
+    one (Some e) h = let i = is_by (a ∷ []) (Some e) h in rw (i, h) refl
+
+    two : (o : Option Exact) → exact_of (a ∷ b ∷ []) ≡ o → at_length (a ∷ b ∷ t) (pair_of a b) ≡ elim o [ Some e ↦ Some (e, 2) | None ↦ option_map (λ e. (e, 1)) (exact_of (a ∷ [])) ]
+    two None h = let i = is_by (a ∷ b ∷ []) None h in rw i (one (exact_of (a ∷ [])) refl)
+    two (Some e) h = let i = is_by (a ∷ b ∷ []) (Some e) h in rw (i, h) refl
+
+at_is : (cs : List ℕ) → at_length cs (len_of cs) ≡ at_of cs
+at_is [] = rw exact_none refl
+at_is (a ∷ []) = one (exact_of (a ∷ [])) refl
+  where
+    one : (o : Option Exact) → exact_of (a ∷ []) ≡ o → at_length (a ∷ []) (len_of (a ∷ [])) ≡ option_map (λ e. (e, 1)) o
+    one None h = let i = is_by (a ∷ []) None h in rw (i, exact_none) refl
+    one (Some e) h = let i = is_by (a ∷ []) (Some e) h in rw (i, h) refl
+at_is (a ∷ b ∷ []) = pair_is a b []
+at_is (a ∷ b ∷ c ∷ t) = three (exact_of (a ∷ b ∷ c ∷ [])) refl
+  where
+    three : (o : Option Exact) → exact_of (a ∷ b ∷ c ∷ []) ≡ o → at_length (a ∷ b ∷ c ∷ t) (len_of (a ∷ b ∷ c ∷ t)) ≡ elim o [ Some e ↦ Some (e, 3) | None ↦ pair_at a b ]
+    three None h = let i = is_by (a ∷ b ∷ c ∷ []) None h in rw i (pair_is a b (c ∷ t))
+    three (Some e) h = let i = is_by (a ∷ b ∷ c ∷ []) (Some e) h in rw (i, h) refl
+
+pub operator_is : (cs ds : List ℕ) → cs ≡ ds → operator_at cs ≡ at_of ds
+unfolding operator_at
+operator_is cs ds e = ap (at_length cs) (len_longest cs) ∙ at_is cs ∙ ap at_of e
+
+pub none_at : (cs : List ℕ) → cs ≡ [] → None ≡ operator_at cs
+none_at cs e = sym (operator_is cs [] e)
+
+pub one_at : (cs : List ℕ) (a : ℕ) (o : Option Exact) → cs ≡ a ∷ [] → o ≡ exact_of (a ∷ []) → option_map (λ e. (e, 1)) o ≡ operator_at cs
+one_at cs a o e h = ap (option_map (λ e. (e, 1))) h ∙ sym (operator_is cs (a ∷ []) e)
+
+pub two_at : (cs : List ℕ) (a b : ℕ) → cs ≡ a ∷ b ∷ [] → pair_at a b ≡ operator_at cs
+two_at cs a b e = sym (operator_is cs (a ∷ b ∷ []) e)
+
+pub three_at : (cs t : List ℕ) (a b c : ℕ) (x : Exact) → cs ≡ a ∷ b ∷ c ∷ t → Some x ≡ exact_of (a ∷ b ∷ c ∷ []) → Some (x, 3) ≡ operator_at cs
+three_at cs t a b c x e h = let f = sym h in let g : at_of (a ∷ b ∷ c ∷ t) ≡ Some (x, 3) = rw (f, at_of) refl in sym (operator_is cs (a ∷ b ∷ c ∷ t) e ∙ g)
+
+pub pair_at_three : (cs t : List ℕ) (a b c : ℕ) → cs ≡ a ∷ b ∷ c ∷ t → None ≡ exact_of (a ∷ b ∷ c ∷ []) → pair_at a b ≡ operator_at cs
+pair_at_three cs t a b c e h = let f = sym h in let g : at_of (a ∷ b ∷ c ∷ t) ≡ pair_at a b = rw (f, at_of) refl in sym (operator_is cs (a ∷ b ∷ c ∷ t) e ∙ g)
 
 pub none_of : (cs l : List ℕ) → l ≡ cs → None ≡ slice_get l 0 → cs ≡ []
 none_of cs l e f = sym e ∙ at_none l (sym f)

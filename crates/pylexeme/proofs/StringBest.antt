@@ -2,7 +2,9 @@
 use Rattle.std.proofs.Common.{◌≡◌, ℕ, ◌+◌, Bool, true, false, ◌||◌, ◌==◌, not, List, [], ◌∷◌, refl, ◌∙◌, ap, subst, arith, zero, suc, ⊎_elim}
 use Rattle.std.proofs.lemmas.Bool.{eqb-true}
 use Rattle.pylexeme.specs.Numbers.{headed}
-use Rattle.pylexeme.specs.Strings.{units, ends_by_one, ends_by_three, is_single, is_triple, is_prefix, begins_quote, begins_three}
+use Rattle.pylexeme.specs.declared.string.Quote.{Quote}
+use Rattle.pylexeme.specs.declared.string.Quote.TheVariants.{Single, Double}
+use Rattle.pylexeme.specs.Strings.{units, ends_by_one, ends_by_three, is_single, is_triple, is_prefix, begins_quote, begins_three, quote_char}
 use Rattle.pylexeme.specs.Lengths.{shift, single_len, triple_len, single_of, triple_of}
 use Rattle.pylexeme.proofs.Best.{NoFront, Reads, Starts, or_parts, headed_best, headed_none, headed_rest, or_left, or_right, or_none, none_above}
 use Rattle.pylexeme.proofs.Joined.{or_parts_false}
@@ -60,6 +62,10 @@ pub data Which (q : ℕ) : Type 0 where
 
 pub which : (q : ℕ) → ((q == 39) || (q == 34)) ≡ true → Which q
 which q e = ⊎_elim (λ (h : (q == 39) ≡ true). one (eqb-true q 39 h)) (λ (h : (q == 34) ≡ true). two (eqb-true q 34 h)) (or_parts (q == 39) (q == 34) e)
+
+pub which_mark : (q : Quote) → Which (quote_char q)
+which_mark Single = one refl
+which_mark Double = two refl
 
 quote_39 : IsQuote 39
 quote_39 = quote_is 39 refl

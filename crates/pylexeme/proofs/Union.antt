@@ -2,7 +2,8 @@
 use Rattle.std.proofs.Common.{◌≡◌, ℕ, ◌≤◌, ◌<◌, Bool, true, false, ◌&&◌, ◌||◌, ◌==◌, List, [], ◌∷◌, length, drop, take, refl, sym, ◌∙◌, ap, subst, Option, Some, None, arith, suc, zero, cond, ⊎_elim, eqb, leb, ltb, not, is_some, slice_get, add_comm, add-one}
 use Rattle.std.specs.Prelude.{option_map}
 use Rattle.std.specs.List.{list_all, list_any, prefix_len}
-use Rattle.std.proofs.lemmas.Bool.{eqb-true, leb-true}
+use Rattle.std.proofs.lemmas.Bool.{eqb-true, leb-true, cases_lt}
+use Rattle.pylexeme.specs.declared.kinds.Exact.{Exact}
 use Rattle.std.proofs.lemmas.Bool.Decides.{nat_tests}
 use Rattle.unicode_ident.proofs.IdentLemmas.{is_xid_start-ascii}
 use Rattle.std.specs.Char.{is_ascii_alphabetic}
@@ -13,8 +14,8 @@ use Rattle.pylexeme.specs.Chars.{begins, starts_name, is_comment_part, is_blank_
 use Rattle.pylexeme.specs.Numbers.{headed, is_decimal_digit, is_point, is_number}
 use Rattle.pylexeme.specs.Strings.{opens_string, opens_triple, is_triple_string, is_single_string, counts_as_string, is_prefix, begins_quote}
 use Rattle.pylexeme.specs.Lexemes.{is_name, is_comment, are_blanks, is_join, longest_within, class_in, plain_class, lexeme_len, lexeme_at, Lexeme, is_line_end}
-use Rattle.pylexeme.specs.Lengths.{longest, begins_pair, begins_number, number_len, Opens}
-use Rattle.pylexeme.specs.Operators.{is_operator}
+use Rattle.pylexeme.specs.Lengths.{longest, begins_pair, begins_number, number_len, Opens, operator_at}
+use Rattle.pylexeme.specs.Operators.{is_operator, exact_of}
 use Rattle.pylexeme.specs.Cuts.{Takes, BeginsOther, starts_other, begins_thing}
 use Rattle.pylexeme.proofs.Computing.{classes}
 use Rattle.pylexeme.proofs.Cases.{bool_cases}
@@ -23,7 +24,7 @@ use Rattle.pylexeme.proofs.Best.{NoFront, headed_best, headed_rest, or_parts, an
 use Rattle.pylexeme.proofs.Joined.{or_parts_false}
 use Rattle.pylexeme.proofs.Prefixes.{one_prefix, two_prefix}
 use Rattle.pylexeme.proofs.NumberBest.{number_best, longest_number, longest_more}
-use Rattle.pylexeme.proofs.OperatorLengths.{operator_best, operator_none_at}
+use Rattle.pylexeme.proofs.OperatorLengths.{operator_best, operator_none_at, operator_some, exact_off, exact_none}
 use Rattle.pylexeme.proofs.Classes.{words, heads, by_words, no_operator, no_number, start_continues, name_class, comment_class, blank_class, end_class, join_class}
 
 not_true : (b : Bool) → not b ≡ true → b ≡ false
@@ -364,8 +365,8 @@ number_takes (c ∷ cs) e = rw (longest_number (c ∷ cs) e) (by (number_len (c 
         (λ j i l. plainly (c ∷ cs) (take j (c ∷ cs)) (number_opens (c ∷ cs) e) ∙ none j (omega arith) l (b.longest j i l))
 
 -- Operators
-other_class : (c : ℕ) (t : List ℕ) → starts_other c ≡ true → is_number (c ∷ t) ≡ false → plain_class (c ∷ t) ≡ cond (is_operator (c ∷ t)) (Some OperatorClass) None
-unfolding plain_class is_name is_comment are_blanks is_line_end is_join
+other_class : (c : ℕ) (t : List ℕ) → starts_other c ≡ true → is_number (c ∷ t) ≡ false → plain_class (c ∷ t) ≡ option_map OperatorClass (exact_of (c ∷ t))
+unfolding plain_class is_operator is_name is_comment are_blanks is_line_end is_join
 other_class c t h n =
     let p1 = and_parts (not (starts_name c) && not (c == 35) && not (is_blank_char c) && not (c == 10) && not (c == 13)) (not (c == 92)) h in
     let p2 = and_parts (not (starts_name c) && not (c == 35) && not (is_blank_char c) && not (c == 10)) (not (c == 13)) p1.0 in
@@ -378,7 +379,11 @@ other_class c t h n =
     let e4 = not_true (c == 10) p3.1 in
     let e5 = not_true (c == 13) p2.1 in
     let e6 = not_true (c == 92) p1.1 in
-    rw (e1, n, e2, e3, e4, e5, e6) refl
+    rw (e1, n, e2, e3, e4, e5, e6) (by (exact_of (c ∷ t)))
+  where
+    by : (o : Option Exact) → cond (is_some o) (option_map OperatorClass o) None ≡ option_map OperatorClass o
+    by None = refl
+    by (Some e) = refl
 
 point_front : (c : ℕ) (cs : List ℕ) (j : ℕ) → (is_point c && begins is_decimal_digit cs) ≡ false → (is_point c && begins is_decimal_digit (take j cs)) ≡ false
 point_front c cs zero e = none (is_point c)
@@ -389,19 +394,63 @@ point_front c cs zero e = none (is_point c)
 point_front c [] (suc j) e = e
 point_front c (d ∷ cs) (suc j) e = e
 
-other_only : (c : ℕ) (cs : List ℕ) → starts_other c ≡ true → begins_number (c ∷ cs) ≡ false → Only is_operator OperatorClass (c ∷ cs)
-other_only c cs h n zero a b = absurd (omega arith)
-other_only c cs h n (suc j) a b =
+-- of the fronts of a text only operators are lexemes
+abbrev OnlyOperators : List ℕ → Type 0
+OnlyOperators cs = (j : ℕ) → 0 < j → j ≤ length cs → plain_class (take j cs) ≡ option_map OperatorClass (exact_of (take j cs))
+
+other_only : (cs : List ℕ) → begins starts_other cs ≡ true → begins_number cs ≡ false → OnlyOperators cs
+other_only [] f n j h i = cc
+other_only (c ∷ cs) f n zero h i = absurd (omega arith)
+other_only (c ∷ cs) f n (suc j) h i =
     let p = or_parts_false (is_decimal_digit c) (is_point c && begins is_decimal_digit cs) n in
-    other_class c (take j cs) h (no_number c (take j cs) p.0 (point_front c cs j p.1))
+    other_class c (take j cs) f (no_number c (take j cs) p.0 (point_front c cs j p.1))
 
-pub operator_takes : (cs : List ℕ) → BeginsOther cs → 0 < longest is_operator cs → Takes cs (Some OperatorClass) (drop (longest is_operator cs) cs)
-operator_takes [] b h = let e : false ≡ true = b.first in cc
-operator_takes (c ∷ cs) b h = best_takes is_operator OperatorClass (c ∷ cs) (longest is_operator (c ∷ cs)) b.string h (operator_best (c ∷ cs) h) (other_only c cs b.first b.number)
+no_class_at : (cs : List ℕ) → BeginsOther cs → (j : ℕ) → 0 < j → j ≤ length cs → is_operator (take j cs) ≡ false → class_in cs (take j cs) ≡ None
+no_class_at cs b j h i e = plainly cs (take j cs) b.string ∙ other_only cs b.first b.number j h i ∙ ap (option_map OperatorClass) (exact_off (take j cs) e)
 
-pub operator_none : (cs : List ℕ) → BeginsOther cs → longest is_operator cs ≡ 0 → Takes cs None cs
-operator_none [] b h = nothing_takes
-operator_none (c ∷ cs) b h = none_takes is_operator OperatorClass (c ∷ cs) b.string (operator_none_at (c ∷ cs) h) (other_only c cs b.first b.number)
+pub operator_takes : (cs : List ℕ) (o : Option (Exact × ℕ)) (e : Exact) (n : ℕ) → BeginsOther cs → o ≡ operator_at cs → o ≡ Some (e, n) → Takes cs (Some (OperatorClass e)) (drop n cs)
+unfolding operator_at
+operator_takes cs o e n b f g = by (exact_of (take (longest is_operator cs) cs)) refl (sym f ∙ g)
+  where
+    some : (x : Exact) → exact_of (take (longest is_operator cs) cs) ≡ Some x → 0 < longest is_operator cs
+    some x h = ⊎_elim (λ (z : longest is_operator cs < 1). absurd (none_there (longest is_operator cs) (omega arith) h)) (λ (z : 1 ≤ longest is_operator cs). z) (cases_lt (longest is_operator cs) 1)
+      where
+        none_there : (l : ℕ) → l ≡ 0 → exact_of (take l cs) ≡ Some x → ⊥
+        none_there l z h = let i : exact_of [] ≡ Some x = ap (λ l. exact_of (take l cs)) (sym z) ∙ h in let j : None ≡ Some x = sym exact_none ∙ i in cc
+
+    there : (x : Exact) → exact_of (take (longest is_operator cs) cs) ≡ Some x → Takes cs (Some (OperatorClass x)) (drop (longest is_operator cs) cs)
+    there x h =
+        let p = some x h in
+        let best = operator_best cs p in
+        takes_some cs (longest is_operator cs) (OperatorClass x) best.within
+        (plainly cs (take (longest is_operator cs) cs) b.string ∙ other_only cs b.first b.number (longest is_operator cs) p best.within ∙ ap (option_map OperatorClass) h)
+        (λ j i l. no_class_at cs b j (omega arith) l (best.longest j i l))
+
+    by : (o : Option Exact) → exact_of (take (longest is_operator cs) cs) ≡ o → option_map {U = Exact × ℕ} (λ e. (e, longest is_operator cs)) o ≡ Some (e, n) → Takes cs (Some (OperatorClass e)) (drop n cs)
+    by None h i = absurd cc
+    by (Some x) h i = let z : (x, longest is_operator cs) ≡ (e, n) = cc in let y : x ≡ e = ap (λ (p : Exact × ℕ). p.0) z in let l : longest is_operator cs ≡ n = ap (λ (p : Exact × ℕ). p.1) z in subst (λ (k : Exact). Takes cs (Some (OperatorClass k)) (drop n cs)) y (subst (λ (m : ℕ). Takes cs (Some (OperatorClass x)) (drop m cs)) l (there x h))
+
+pub operator_none : (cs : List ℕ) (o : Option (Exact × ℕ)) → BeginsOther cs → o ≡ operator_at cs → o ≡ None → Takes cs None cs
+unfolding operator_at
+operator_none cs o b f g = by (exact_of (take (longest is_operator cs) cs)) refl (sym f ∙ g)
+  where
+    none : longest is_operator cs ≡ 0 → Takes cs None cs
+    none z = takes_none cs (λ j i l. no_class_at cs b j i l (operator_none_at cs z j l))
+
+    never : true ≡ false → ⊥
+    never r = cc
+
+    by : (o : Option Exact) → exact_of (take (longest is_operator cs) cs) ≡ o → option_map {U = Exact × ℕ} (λ e. (e, longest is_operator cs)) o ≡ None → Takes cs None cs
+    by (Some x) h i = absurd cc
+    by None h i =
+        ⊎_elim
+        (λ (z : longest is_operator cs < 1). none (omega arith))
+        (λ (z : 1 ≤ longest is_operator cs).
+        let p = (operator_best cs z).passes in
+        let q : is_operator (take (longest is_operator cs) cs) ≡ false = sym (operator_some (take (longest is_operator cs) cs)) ∙ ap is_some h in
+        let r : true ≡ false = sym p ∙ q in
+        absurd (never r))
+        (cases_lt (longest is_operator cs) 1)
 
 -- Strings
 stringly : (cs t : List ℕ) → opens_string cs ≡ true → class_in cs t ≡ cond (counts_as_string cs t) (Some String) None
@@ -527,10 +576,6 @@ thing_head cs l c e f = of cs (same_head cs l c e f)
     of [] g = cc
     of (d ∷ cs) g = let h : d ≡ c = cc in ap (λ x. x ∷ cs) h
 
-blank_of : (c : ℕ) (t : List ℕ) → is_blank_char c ≡ true → begins_thing (c ∷ t) ≡ false
-unfolding begins_thing
-blank_of c t e = rw e refl
-
 hash_of : (t : List ℕ) → begins_thing (35 ∷ t) ≡ false
 unfolding begins_thing
 hash_of t = refl
@@ -545,16 +590,18 @@ unfolding begins_thing
 return_of [] = refl
 return_of (d ∷ t) = refl
 
-other_of : (c : ℕ) (t : List ℕ) → is_blank_char c ≡ false → (c == 35) ≡ false → (c == 10) ≡ false → (c == 13) ≡ false → begins_thing (c ∷ t) ≡ true
+other_of : (c : ℕ) (t : List ℕ) → (c == 35) ≡ false → (c == 10) ≡ false → (c == 13) ≡ false → begins_thing (c ∷ t) ≡ not (is_blank_char c)
 unfolding begins_thing
-other_of c [] b h f r = rw (b, h, f) refl
-other_of c (d ∷ t) b h f r = rw (b, h, f, r) refl
-
-not_eq : (c k : ℕ) → (c ≡ k → ⊥) → (c == k) ≡ false
-not_eq c k n = ⊎_elim (λ (e : eqb c k ≡ true). absurd (n (eqb-true c k e))) (λ (e : eqb c k ≡ false). e) (bool_cases (eqb c k))
-
-pub thing_blank : (cs l : List ℕ) (c : ℕ) → l ≡ cs → Some c ≡ slice_get l 0 → is_blank_char c ≡ true → false ≡ begins_thing cs
-thing_blank cs l c e f b = sym (ap begins_thing (thing_head cs l c e f) ∙ blank_of c (drop 1 cs) b)
+other_of c [] h f r = rw (h, f) (both (is_blank_char c))
+  where
+    both : (b : Bool) → (not b && true && true) ≡ not b
+    both true = refl
+    both false = refl
+other_of c (d ∷ t) h f r = rw (h, f, r) (both (is_blank_char c))
+  where
+    both : (b : Bool) → (not b && true && true) ≡ not b
+    both true = refl
+    both false = refl
 
 pub thing_hash : (cs l : List ℕ) (c : ℕ) → l ≡ cs → Some c ≡ slice_get l 0 → c ≡ 35 → false ≡ begins_thing cs
 thing_hash cs l c e f h = sym (ap begins_thing (thing_head cs l c e f ∙ ap (λ x. x ∷ drop 1 cs) h) ∙ hash_of (drop 1 cs))
@@ -562,8 +609,8 @@ thing_hash cs l c e f h = sym (ap begins_thing (thing_head cs l c e f ∙ ap (λ
 pub thing_feed : (cs l : List ℕ) (c : ℕ) → l ≡ cs → Some c ≡ slice_get l 0 → c ≡ 10 → false ≡ begins_thing cs
 thing_feed cs l c e f h = sym (ap begins_thing (thing_head cs l c e f ∙ ap (λ x. x ∷ drop 1 cs) h) ∙ feed_of (drop 1 cs))
 
-pub thing_other : (cs l : List ℕ) (c : ℕ) → l ≡ cs → Some c ≡ slice_get l 0 → is_blank_char c ≡ false → (c ≡ 35 → ⊥) → (c ≡ 10 → ⊥) → (c ≡ 13 → ⊥) → not (eqb c 13) ≡ begins_thing cs
-thing_other cs l c e f b h i r = let g = not_eq c 13 r in ap not g ∙ sym (ap begins_thing (thing_head cs l c e f) ∙ other_of c (drop 1 cs) b (not_eq c 35 h) (not_eq c 10 i) g)
+pub thing_other : (cs l : List ℕ) (c : ℕ) → l ≡ cs → Some c ≡ slice_get l 0 → eqb c 35 ≡ false → eqb c 10 ≡ false → eqb c 13 ≡ false → not (is_blank_char c) ≡ begins_thing cs
+thing_other cs l c e f h i r = sym (ap begins_thing (thing_head cs l c e f) ∙ other_of c (drop 1 cs) h i r)
 
 pub thing_return : (cs l : List ℕ) (c : ℕ) → l ≡ cs → Some c ≡ slice_get l 0 → c ≡ 13 → not (begins (λ d. d == 10) (drop 1 l)) ≡ begins_thing cs
 thing_return cs l c e f r = ap (λ t. not (begins (λ d. d == 10) (drop 1 t))) e ∙ sym (ap begins_thing (thing_head cs l c e f ∙ ap (λ x. x ∷ drop 1 cs) r) ∙ return_of (drop 1 cs))

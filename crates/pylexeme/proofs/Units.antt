@@ -3,7 +3,9 @@ use Rattle.std.proofs.Common.{◌≡◌, ℕ, ◌+◌, ◌-◌, ◌≤◌, ◌<�
 use Rattle.std.proofs.lemmas.Bool.{cases_lt, eqb-true}
 use Rattle.std.proofs.lemmas.Bool.Decides.{nat_tests}
 use Rattle.pylexeme.specs.Numbers.{is_nil}
-use Rattle.pylexeme.specs.Strings.{units, is_unit, no_units, ends_by_one}
+use Rattle.pylexeme.specs.declared.string.Quote.{Quote}
+use Rattle.pylexeme.specs.declared.string.Quote.TheVariants.{Single, Double}
+use Rattle.pylexeme.specs.Strings.{units, is_unit, no_units, ends_by_one, quote_char}
 use Rattle.pylexeme.specs.Lengths.{shift, single_of, Closed}
 use Rattle.pylexeme.proofs.Cases.{bool_cases}
 use Rattle.pylexeme.proofs.Longest.{IsBest}
@@ -96,6 +98,10 @@ quote_is q e =
     (λ (h : (q == 39) ≡ true). let z : q ≡ 39 = eqb-true q 39 h in rw z (record { slash = refl; other = refl; feed = refl; ret = refl }))
     (λ (h : (q == 34) ≡ true). let z : q ≡ 34 = eqb-true q 34 h in rw z (record { slash = refl; other = refl; feed = refl; ret = refl }))
     (or_parts (q == 39) (q == 34) e)
+
+pub mark_is : (q : Quote) → IsQuote (quote_char q)
+mark_is Single = quote_is 39 refl
+mark_is Double = quote_is 34 refl
 
 pub slash_not : (q a : ℕ) → (92 == q) ≡ false → (a == 92) ≡ true → (a == q) ≡ false
 slash_not q a e h = let z : a ≡ 92 = eqb-true a 92 h in rw z e

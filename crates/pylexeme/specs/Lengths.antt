@@ -2,8 +2,10 @@
 --
 -- Internal: they say what each reader of numbers and strings does. What a number and a string are, is said in Numbers
 -- and Strings.
-use Rattle.std.specs.Prelude.{◌≡◌, ℕ, ◌+◌, zero, suc, Bool, true, ◌&&◌, ◌||◌, ◌==◌, not, nat_lt, List, [], ◌∷◌, drop, take, ◌≤◌, length, if◌then◌else◌}
+use Rattle.std.specs.Prelude.{◌≡◌, ℕ, ◌+◌, zero, suc, Bool, true, ◌&&◌, ◌||◌, ◌==◌, not, nat_lt, List, [], ◌∷◌, drop, take, ◌≤◌, length, if◌then◌else◌, Option, Some, None, option_map}
 use Rattle.pylexeme.specs.Chars.{begins, is_r, is_b_or_f}
+use Rattle.pylexeme.specs.declared.kinds.Exact.{Exact}
+use Rattle.pylexeme.specs.Operators.{is_operator, exact_of}
 use Rattle.pylexeme.specs.Lexemes.{longest_within}
 use Rattle.pylexeme.specs.Strings.{units, is_unit, begins_quote, is_prefix}
 use Rattle.pylexeme.specs.Numbers.{is_decimal_digit, is_zero, is_hex_digit, is_octal_digit, is_binary_digit, is_point, is_e, is_j, is_x, is_o, is_b, is_sign}
@@ -11,6 +13,14 @@ use Rattle.pylexeme.specs.Numbers.{is_decimal_digit, is_zero, is_hex_digit, is_o
 -- the length of the longest front that passes; 0 where there is none
 unfoldable pub longest : (List ℕ → Bool) → List ℕ → ℕ
 longest p cs = longest_within p cs (length cs)
+
+-- the operator that the longest front of a text is, and its length
+unfoldable pub operator_at : List ℕ → Option (Exact × ℕ)
+operator_at cs = option_map (λ e. (e, longest is_operator cs)) (exact_of (take (longest is_operator cs) cs))
+
+-- the longest operator of at most two characters that begins with these, and its length
+abbrev pub pair_at : ℕ → ℕ → Option (Exact × ℕ)
+pair_at a b = elim (exact_of (a ∷ b ∷ [])) [ Some e ↦ Some (e, 2) | None ↦ option_map (λ e. (e, 1)) (exact_of (a ∷ [])) ]
 
 -- n characters are taken from the front of old, and whether there are any is said
 pub record Took (n : ℕ) (any : Bool) (old new : List ℕ) : Type 0 where

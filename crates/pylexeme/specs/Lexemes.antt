@@ -6,7 +6,7 @@ use Rattle.unicode_ident.specs.Ident.{is_xid_continue}
 use Rattle.pylexeme.specs.Chars.{starts_name, is_comment_part, is_blank_char}
 use Rattle.pylexeme.specs.Numbers.{is_number}
 use Rattle.pylexeme.specs.Strings.{opens_string, opens_triple, counts_as_string, after_prefix, units, is_unit, no_units}
-use Rattle.pylexeme.specs.Operators.{is_operator}
+use Rattle.pylexeme.specs.Operators.{is_operator, exact_of, is_opener, is_closer}
 use Rattle.pylexeme.specs.declared.lexeme.Class.{Class}
 use Rattle.pylexeme.specs.declared.lexeme.Class.TheVariants.{Name, Number, String, Operator, Comment, Blanks, LineEnd, Join}
 
@@ -39,7 +39,7 @@ unfoldable pub plain_class : List ℕ → Option Class
 plain_class t =
     if is_name t then Some Name
     else (if is_number t then Some Number
-    else (if is_operator t then Some Operator
+    else (if is_operator t then option_map Operator (exact_of t)
     else (if is_comment t then Some Comment
     else (if are_blanks t then Some Blanks
     else (if is_line_end t then Some LineEnd
@@ -112,3 +112,9 @@ is_thing_class k = elim k [ Blanks ↦ false | Comment ↦ false | LineEnd ↦ f
 
 abbrev pub is_join_class : Class → Bool
 is_join_class k = elim k [ Join ↦ true | _ ↦ false ]
+
+abbrev pub is_opener_class : Class → Bool
+is_opener_class k = elim k [ Operator e ↦ is_opener e | _ ↦ false ]
+
+abbrev pub is_closer_class : Class → Bool
+is_closer_class k = elim k [ Operator e ↦ is_closer e | _ ↦ false ]

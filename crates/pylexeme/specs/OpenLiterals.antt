@@ -1,7 +1,7 @@
 -- Literals that are open at the end of some lines.
 use Rattle.std.specs.Prelude.{◌≡◌, ℕ, true, ◌==◌, List, drop}
 use Rattle.pylexeme.specs.Chars.{begins}
-use Rattle.pylexeme.specs.Strings.{opens_triple}
+use Rattle.pylexeme.specs.Strings.{opens_triple, quote_char}
 use Rattle.pylexeme.specs.Lexemes.{is_open_string}
 use Rattle.pylexeme.specs.Lengths.{Opens}
 use Rattle.pylexeme.specs.declared.string.OpenLiteral.{OpenLiteral}
@@ -10,6 +10,6 @@ use Rattle.pylexeme.specs.declared.string.OpenLiteral.{OpenLiteral}
 pub record IsOpenBy (o : OpenLiteral) (cs : List ℕ) : Type 0 where
   pub «prefix» : ℕ
   pub opens : Opens «prefix» cs
-  pub here : begins (λ c. c == o.quote) (drop «prefix» cs) ≡ true
+  pub here : begins (λ c. c == quote_char o.quote) (drop «prefix» cs) ≡ true
   pub triple : opens_triple cs ≡ o.triple
   pub unended : is_open_string cs ≡ true

@@ -1,6 +1,6 @@
 -- The 47 operators and delimiters, with their names (reference 2.5 and 2.6, `token`).
-use Rattle.std.specs.Prelude.{ℕ, Bool, List, [], ◌∷◌, codes, Option, is_some, option_map}
-use Rattle.std.specs.List.{list_any, find}
+use Rattle.std.specs.Prelude.{ℕ, Bool, true, false, List, [], ◌∷◌, codes, Option, is_some, option_map}
+use Rattle.std.specs.List.{find}
 use Rattle.std.specs.Str.{bytes_eq}
 use Rattle.pylexeme.specs.declared.kinds.Exact.{Exact}
 use Rattle.pylexeme.specs.declared.kinds.Exact.TheVariants.{LPar, RPar, LSqb, RSqb, LBrace, RBrace, Colon, Comma, Semi, Plus, Minus, Star, Slash, VBar, Amper, Less, Greater, Equal, Dot, Percent, EqEqual, NotEqual, LessEqual, GreaterEqual, Tilde, Circumflex, LeftShift, RightShift, DoubleStar, PlusEqual, MinEqual, StarEqual, SlashEqual, PercentEqual, AmperEqual, VBarEqual, CircumflexEqual, LeftShiftEqual, RightShiftEqual, DoubleStarEqual, DoubleSlash, DoubleSlashEqual, At, AtEqual, RArrow, Ellipsis, ColonEqual}
@@ -35,12 +35,12 @@ exact_of t = option_map (λ o. o.exact) (find (λ o. bytes_eq t o.spelling) oper
 unfoldable pub is_operator : List ℕ → Bool
 is_operator t = is_some (exact_of t)
 
--- the brackets
-unfoldable pub is_opener : List ℕ → Bool
-is_opener t = list_any (bytes_eq t) (codes "(" ∷ codes "[" ∷ codes "{" ∷ [])
+-- the brackets: parentheses, square brackets and braces (reference 2.6)
+abbrev pub is_opener : Exact → Bool
+is_opener e = elim e [ LPar ↦ true | LSqb ↦ true | LBrace ↦ true | _ ↦ false ]
 
-unfoldable pub is_closer : List ℕ → Bool
-is_closer t = list_any (bytes_eq t) (codes ")" ∷ codes "]" ∷ codes "}" ∷ [])
+abbrev pub is_closer : Exact → Bool
+is_closer e = elim e [ RPar ↦ true | RSqb ↦ true | RBrace ↦ true | _ ↦ false ]
 
 -- the exact name that the module `token` gives an operator
 abbrev pub exact_name : Exact → List ℕ

@@ -2,6 +2,8 @@
 use Rattle.std.specs.Prelude.{ℕ, ◌+◌, Bool, true, false, not, ◌&&◌, ◌||◌, ◌==◌, nat_le, List, [], ◌∷◌, map, take, drop, codes, if◌then◌else◌}
 use Rattle.std.specs.List.{list_any}
 use Rattle.std.specs.Str.{bytes_eq}
+use Rattle.pylexeme.specs.declared.string.Quote.{Quote}
+use Rattle.pylexeme.specs.declared.string.Quote.TheVariants.{Single, Double}
 use Rattle.pylexeme.specs.Numbers.{split_any, headed}
 
 -- A to Z as a to z
@@ -63,6 +65,11 @@ is_single_string t = split_any is_prefix (λ u. is_single 39 u || is_single 34 u
 
 unfoldable pub is_string : List ℕ → Bool
 is_string t = is_triple_string t || is_single_string t
+
+-- the quotes, as characters
+abbrev pub quote_char : Quote → ℕ
+quote_char Single = 39
+quote_char Double = 34
 
 abbrev pub begins_quote : List ℕ → Bool
 begins_quote [] = false

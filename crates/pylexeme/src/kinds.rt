@@ -1,8 +1,7 @@
 //! The names of the operators.
 
 ghost use Rattle.std.specs.Prelude.{◌≡◌};
-ghost use Rattle.pylexeme.specs.Operators.{exact_name};
-
+ghost use Rattle.pylexeme.specs.Operators.{exact_name, is_opener, is_closer};
 
 /// The exact type of an operator or delimiter, as the module `token` names them.
 #[derive(Clone, Copy, Debug, PartialEq, Eq)]
@@ -57,6 +56,22 @@ pub enum Exact {
 }
 
 impl Exact {
+    /// Whether it is an opening bracket.
+    #[inline(always)]
+    pub fn is_opener(self) -> bool
+        ensures { result ≡ is_opener self }
+    {
+        matches!(self, Exact::LPar | Exact::LSqb | Exact::LBrace)
+    }
+
+    /// Whether it is a closing bracket.
+    #[inline(always)]
+    pub fn is_closer(self) -> bool
+        ensures { result ≡ is_closer self }
+    {
+        matches!(self, Exact::RPar | Exact::RSqb | Exact::RBrace)
+    }
+
     /// The name of the operator, as the module `token` spells it.
     pub fn name(self) -> &'static str
         ensures { result.now ≡ exact_name self }

@@ -5,23 +5,30 @@ ghost use Rattle.std.specs.Str.{chars};
 ghost use Rattle.pylexeme.specs.Chars.{begins, starts_name, is_blank_char, is_prefix_letter};
 ghost use Rattle.pylexeme.specs.Strings.{opens_string};
 ghost use Rattle.pylexeme.specs.Lengths.{begins_number, Opens};
-ghost use Rattle.pylexeme.specs.Lexemes.{lexeme_at, is_thing_class, is_blanks_class, is_line_end_class, is_join_class};
+ghost use Rattle.pylexeme.specs.Lexemes.{lexeme_at, is_thing_class, is_blanks_class, is_line_end_class, is_join_class, is_opener_class, is_closer_class};
 ghost use Rattle.pylexeme.specs.Cuts.{Takes, Cuts, BeginsOther, begins_thing};
 
+use crate::kinds::Exact;
 use crate::number::number;
-use crate::operators::operator_len;
+use crate::operators::longest_operator;
 use crate::scanner::{CharSet, Scanner};
 use crate::string::{opening, string};
 
 /// The classes of lexemes.
 #[derive(Clone, Copy, Debug, PartialEq, Eq)]
 pub enum Class {
+    /// An identifier or keyword.
     Name,
     Number,
+    /// A string or bytes literal, its prefix included.
     String,
-    Operator,
+    /// An operator or delimiter, with its exact type.
+    Operator(Exact),
+    /// `#` and what follows it in its line.
     Comment,
+    /// Spaces, tabs and form feeds.
     Blanks,
+    /// LF or CR LF.
     LineEnd,
     /// A backslash and a line end.
     Join,
@@ -34,26 +41,51 @@ impl Class {
     {
         match self {
             Class::Blanks | Class::Comment | Class::LineEnd => false,
-            Class::Name | Class::Number | Class::String | Class::Operator | Class::Join => true,
+            Class::Name | Class::Number | Class::String | Class::Operator(_) | Class::Join => true,
         }
     }
 
+    /// Whether it is blanks.
     pub fn is_blanks(self) -> bool
         ensures { result ≡ is_blanks_class self }
     {
         matches!(self, Class::Blanks)
     }
 
+    /// Whether it is a line end.
     pub fn is_line_end(self) -> bool
         ensures { result ≡ is_line_end_class self }
     {
         matches!(self, Class::LineEnd)
     }
 
+    /// Whether it is a backslash and a line end.
     pub fn is_join(self) -> bool
         ensures { result ≡ is_join_class self }
     {
         matches!(self, Class::Join)
+    }
+
+    /// Whether it is an opening bracket.
+    #[inline(always)]
+    pub fn is_opener(self) -> bool
+        ensures { result ≡ is_opener_class self }
+    {
+        match self {
+            Class::Operator(operator) => operator.is_opener(),
+            _ => false,
+        }
+    }
+
+    /// Whether it is a closing bracket.
+    #[inline(always)]
+    pub fn is_closer(self) -> bool
+        ensures { result ≡ is_closer_class self }
+    {
+        match self {
+            Class::Operator(operator) => operator.is_closer(),
+            _ => false,
+        }
     }
 }
 
@@ -124,12 +156,9 @@ fn operator(text: &mut Scanner) -> Option<Class>
     requires { BeginsOther text.old }
     ensures { Takes text.old result text.new }
 {
-    let len = operator_len(text);
-    if len == 0 {
-        return None;
-    }
+    let (exact, len) = longest_operator(text)?;
     text.bump_count(len);
-    Some(Class::Operator)
+    Some(Class::Operator(exact))
 }
 
 /// Takes the string that stands here, behind a prefix of `prefix_len` characters; one that isn't ended is no lexeme.
@@ -166,7 +195,7 @@ fn is_name_start(c: char) -> bool
     if c.is_ascii() {
         return c.is_ascii_alphabetic() || c == '_';
     }
-    unicode_ident::is_xid_start(c) || c == '_'
+    unicode_ident::is_xid_start(c)
 }
 
 /// Whether a number begins here.
@@ -180,7 +209,7 @@ fn has_number(text: &Scanner) -> bool
 /// Takes the longest lexeme that stands here, and says its class; none and nothing where no lexeme stands.
 #[tactic(auto, using(crate::proofs::Union::begins_by))]
 #[inline(always)]
-pub fn lexeme(text: &mut Scanner) -> Option<Class>
+pub(crate) fn lexeme(text: &mut Scanner) -> Option<Class>
     ensures { Takes text.old result text.new }
 {
     match text.first()? {
@@ -212,7 +241,7 @@ pub fn lexeme(text: &mut Scanner) -> Option<Class>
     }
 }
 
-/// The longest lexeme at the front of a text: its class, its text, and what is behind it.
+/// The longest lexeme at the front of a text: its class, its text, and what is behind it; none where no lexeme stands.
 #[inline(always)]
 pub fn cut(text: &str) -> Option<(Class, &str, &str)>
     ensures some { IfSome result (λ x. Cuts text.now x.0 x.1.now x.2.now) }
@@ -232,49 +261,9 @@ pub fn begins_thing(text: &str) -> bool
     let Some(first) = scanner.first() else {
         return false;
     };
-    if CharSet::Blank.has(first) {
-        return false;
-    }
-    if first == '#' {
-        return false;
-    }
-    if first == '\n' {
-        return false;
-    }
-    first != '\r' || !scanner.has_next(1, CharSet::One('\n'))
-}
-
-#[cfg(test)]
-mod tests {
-    use super::*;
-    use std::test::Fail;
-
-    #[test]
-    fn cuts_a_lexeme(rt: HostRuntime) -> Result<(), Fail> {
-        match cut("rb'x' + .5") {
-            Some((class, lexeme, rest)) => {
-                assert_eq!(rt; class, Class::String);
-                assert_eq!(rt; lexeme, "rb'x'");
-                assert_eq!(rt; rest, " + .5");
-            }
-            None => assert!(rt; false),
-        }
-        match cut("été**=1") {
-            Some((class, lexeme, rest)) => {
-                assert_eq!(rt; class, Class::Name);
-                assert_eq!(rt; lexeme, "été");
-                assert_eq!(rt; rest, "**=1");
-            }
-            None => assert!(rt; false),
-        }
-        assert!(rt; cut("$").is_none());
-        Ok(())
-    }
-
-    #[test]
-    fn begins_a_thing(rt: HostRuntime) -> Result<(), Fail> {
-        assert!(rt; begins_thing("x # y"));
-        assert!(rt; !begins_thing("# y"));
-        Ok(())
+    match first {
+        '#' | '\n' => false,
+        '\r' => !scanner.has_next(1, CharSet::One('\n')),
+        _ => !CharSet::Blank.has(first),
     }
 }

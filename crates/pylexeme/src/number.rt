@@ -138,7 +138,7 @@ fn read_number(text: &mut Scanner)
 }
 
 /// Takes the longest number that stands here: a digit, or a point and a digit, must be its front.
-pub fn number(text: &mut Scanner)
+pub(crate) fn number(text: &mut Scanner)
     requires { begins_number text.old ≡ true }
     ensures some { 0 < longest is_number text.old }
     ensures rest { text.new ≡ drop (longest is_number text.old) text.old }

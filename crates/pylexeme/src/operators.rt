@@ -1,9 +1,9 @@
 //! The operators and delimiters (reference 2.5 and 2.6): their names, and the longest one at a place.
 
-ghost use Rattle.std.specs.Prelude.{◌≡◌, ℕ, List, [], ◌∷◌, if◌then◌else◌, length, ◌≢◌, IfSome, IfNone};
+ghost use Rattle.std.specs.Prelude.{◌≡◌, ℕ, List, [], ◌∷◌};
 ghost use Rattle.std.specs.Str.{chars};
-ghost use Rattle.pylexeme.specs.Operators.{is_operator, exact_of, is_opener, is_closer};
-ghost use Rattle.pylexeme.specs.Lengths.{longest};
+ghost use Rattle.pylexeme.specs.Operators.{exact_of};
+ghost use Rattle.pylexeme.specs.Lengths.{operator_at, pair_at};
 
 use crate::kinds::Exact;
 use crate::scanner::Scanner;
@@ -103,116 +103,30 @@ pub fn exact_of(text: &str) -> Option<Exact>
     exact_of_three(first, second, third)
 }
 
-/// The character that a text is, if it is one.
-fn only_char(text: &str) -> Option<char>
-    ensures some { IfSome result (λ c. chars text.now ≡ c ∷ []) }
-    ensures none { IfNone result (length (chars text.now) ≢ 1) }
+/// The longest operator of at most two characters that begins with these, and how many it has.
+fn longest_of_two(first: char, second: char) -> Option<(Exact, usize)>
+    ensures { result ≡ pair_at first second }
 {
-    let mut left = Scanner::new(text);
-    let first = left.bump()?;
-    if left.first().is_some() {
-        return None;
+    if let Some(exact) = exact_of_two(first, second) {
+        return Some((exact, 2));
     }
-    Some(first)
+    Some((exact_of_one(first)?, 1))
 }
 
-/// Whether a character is an opening bracket.
-#[tactic(auto, unfolding(crate::specs::Operators::is_opener))]
-fn opens(bracket: char) -> bool
-    ensures { result ≡ is_opener (bracket ∷ []) }
-{
-    match bracket {
-        '(' => true,
-        '[' => true,
-        '{' => true,
-        _ => false,
-    }
-}
-
-/// Whether a character is a closing bracket.
-#[tactic(auto, unfolding(crate::specs::Operators::is_closer))]
-fn closes(bracket: char) -> bool
-    ensures { result ≡ is_closer (bracket ∷ []) }
-{
-    match bracket {
-        ')' => true,
-        ']' => true,
-        '}' => true,
-        _ => false,
-    }
-}
-
-/// Whether a text is an opening bracket.
-#[tactic(auto, using(crate::proofs::OperatorLengths::opener_off))]
-pub fn is_opener(text: &str) -> bool
-    ensures { result ≡ is_opener (chars text.now) }
-{
-    match only_char(text) {
-        Some(bracket) => opens(bracket),
-        None => false,
-    }
-}
-
-/// Whether a text is a closing bracket.
-#[tactic(auto, using(crate::proofs::OperatorLengths::closer_off))]
-pub fn is_closer(text: &str) -> bool
-    ensures { result ≡ is_closer (chars text.now) }
-{
-    match only_char(text) {
-        Some(bracket) => closes(bracket),
-        None => false,
-    }
-}
-
-/// How many characters the longest operator of at most two has that begins with these, or 0.
-#[tactic(auto, unfolding(crate::specs::Operators::is_operator))]
-fn pair_len(first: char, second: char) -> usize
-    ensures { result ≡ (if is_operator (first ∷ second ∷ []) then 2 else (if is_operator (first ∷ []) then 1 else 0)) }
-{
-    if exact_of_two(first, second).is_some() {
-        return 2;
-    }
-    if exact_of_one(first).is_some() {
-        return 1;
-    }
-    0
-}
-
-/// How many characters the longest operator has that stands here, or 0.
-pub fn operator_len(text: &Scanner) -> usize
-    ensures { result ≡ longest is_operator text.now }
+/// The longest operator that stands here, and how many characters it has.
+pub(crate) fn longest_operator(text: &Scanner) -> Option<(Exact, usize)>
+    ensures { result ≡ operator_at text.now }
 {
     let mut ahead = text.again();
-    let Some(first) = ahead.bump() else {
-        return 0;
-    };
+    let first = ahead.bump()?;
     let Some(second) = ahead.bump() else {
-        if exact_of_one(first).is_some() {
-            return 1;
-        }
-        return 0;
+        return Some((exact_of_one(first)?, 1));
     };
     let Some(third) = ahead.bump() else {
-        return pair_len(first, second);
+        return longest_of_two(first, second);
     };
-    if exact_of_three(first, second, third).is_some() {
-        return 3;
+    if let Some(exact) = exact_of_three(first, second, third) {
+        return Some((exact, 3));
     }
-    pair_len(first, second)
-}
-
-#[cfg(test)]
-mod tests {
-    use super::*;
-    use std::test::Fail;
-
-    #[test]
-    fn names_operators(rt: HostRuntime) -> Result<(), Fail> {
-        assert_eq!(rt; exact_of("->"), Some(Exact::RArrow));
-        assert_eq!(rt; exact_of("//="), Some(Exact::DoubleSlashEqual));
-        assert!(rt; exact_of("<>").is_none());
-        assert!(rt; is_opener("["));
-        assert!(rt; is_closer("]"));
-        Ok(())
-    }
+    longest_of_two(first, second)
 }

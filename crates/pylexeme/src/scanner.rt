@@ -1,17 +1,17 @@
 //! A text that is read from its front, one character after another.
 
-ghost use Rattle.std.specs.Prelude.{◌≡◌, ◌==◌, ◌&&◌, ℕ, ◌≤◌, List, length, drop, take, slice_get};
-ghost use Rattle.std.specs.Str.{chars, encode_utf8_all, IsUtf8, bytes_eq};
+ghost use Rattle.std.specs.Prelude.{◌≡◌, ◌==◌, ◌&&◌, ℕ, ◌≤◌, List, length, drop, slice_get};
+ghost use Rattle.std.specs.Str.{chars, encode_utf8_all, IsUtf8};
 ghost use Rattle.std.specs.List.{prefix_len};
 ghost use Rattle.unicode_ident.specs.Ident.{is_xid_continue};
 ghost use Rattle.pylexeme.specs.Chars.{has, begins};
-ghost use Rattle.pylexeme.specs.Lengths.{joined_len, begins_some, begins_quotes};
+ghost use Rattle.pylexeme.specs.Lengths.{joined_len, begins_some};
 
 use std::marker::Model;
 
 /// What is left of a text.
 #[derive(Drop)]
-pub struct Scanner<'a> {
+pub(crate) struct Scanner<'a> {
     rest: &'a str,
 }
 
@@ -25,42 +25,35 @@ impl<'a> Model for Scanner<'a> {
 
 impl<'a> Scanner<'a> {
     /// Begins at the front of a text.
-    pub fn new(text: &'a str) -> Self
+    pub(crate) fn new(text: &'a str) -> Self
         ensures { result ≡ chars text.now }
     {
         Scanner { rest: text }
     }
 
     /// Another scanner that stands here.
-    pub fn again(&self) -> Scanner<'a>
+    pub(crate) fn again(&self) -> Scanner<'a>
         ensures { result ≡ self.now }
     {
         Scanner { rest: self.rest }
     }
 
     /// How many bytes are left.
-    pub fn len(&self) -> usize
+    pub(crate) fn len(&self) -> usize
         ensures { result ≡ length (encode_utf8_all self.now) }
     {
         self.rest.len()
     }
 
     /// The next character.
-    pub fn first(&self) -> Option<char>
+    pub(crate) fn first(&self) -> Option<char>
         ensures { result ≡ slice_get self.now 0 }
     {
         self.rest.chars().next()
     }
 
-    /// Whether a word stands here.
-    pub fn starts_with(&self, word: &str) -> bool
-        ensures { result ≡ bytes_eq (take (length (chars word.now)) self.now) (chars word.now) }
-    {
-        self.rest.starts_with(word)
-    }
-
     /// Takes the next character.
-    pub fn bump(&mut self) -> Option<char>
+    pub(crate) fn bump(&mut self) -> Option<char>
         ensures first { result ≡ slice_get self.old 0 }
         ensures rest { self.new ≡ drop 1 self.old }
     {
@@ -71,7 +64,7 @@ impl<'a> Scanner<'a> {
     }
 
     /// Takes some characters.
-    pub fn bump_count(&mut self, count: usize)
+    pub(crate) fn bump_count(&mut self, count: usize)
         ensures { self.new ≡ drop count self.old }
     {
         for _ in 0..count {
@@ -81,7 +74,7 @@ impl<'a> Scanner<'a> {
 
     /// Takes the characters of a set from here on.
     #[inline(always)]
-    pub fn bump_while(&mut self, set: CharSet)
+    pub(crate) fn bump_while(&mut self, set: CharSet)
         ensures { self.new ≡ drop (prefix_len (has set) self.old) self.old }
     {
         let mut ahead = self.again();
@@ -93,21 +86,29 @@ impl<'a> Scanner<'a> {
         *self = ahead;
     }
 
-    /// Whether the character after some others is in a set.
+    /// The character after some others.
     #[inline(always)]
-    pub fn has_next(&self, skipped: usize, set: CharSet) -> bool
-        ensures { result ≡ begins (has set) (drop skipped self.now) }
+    pub(crate) fn peek(&self, skipped: usize) -> Option<char>
+        ensures { result ≡ slice_get (drop skipped self.now) 0 }
     {
         let mut ahead = self.again();
         ahead.bump_count(skipped);
-        match ahead.first() {
+        ahead.first()
+    }
+
+    /// Whether the character after some others is in a set.
+    #[inline(always)]
+    pub(crate) fn has_next(&self, skipped: usize, set: CharSet) -> bool
+        ensures { result ≡ begins (has set) (drop skipped self.now) }
+    {
+        match self.peek(skipped) {
             Some(c) => set.has(c),
             None => false,
         }
     }
 
     /// Whether a digit of a kind, or an underscore and one, stands after some characters.
-    pub fn has_digits(&self, skipped: usize, digits: CharSet) -> bool
+    pub(crate) fn has_digits(&self, skipped: usize, digits: CharSet) -> bool
         ensures { result ≡ begins_some (has digits) (drop skipped self.now) }
     {
         let mut ahead = self.again();
@@ -117,7 +118,7 @@ impl<'a> Scanner<'a> {
     }
 
     /// Whether a CR and an LF stand after some characters.
-    pub fn has_line_end(&self, skipped: usize) -> bool
+    pub(crate) fn has_line_end(&self, skipped: usize) -> bool
         ensures { result ≡ (begins (λ c. c == 13) (drop skipped self.now) && begins (λ c. c == 10) (drop 1 (drop skipped self.now))) }
     {
         let mut ahead = self.again();
@@ -125,18 +126,9 @@ impl<'a> Scanner<'a> {
         ahead.has_next(0, CharSet::One('\r')) && ahead.has_next(1, CharSet::One('\n'))
     }
 
-    /// Whether a quote stands here three times.
-    pub fn has_three(&self, quote: char) -> bool
-        ensures { result ≡ begins_quotes quote self.now }
-    {
-        self.has_next(0, CharSet::One(quote))
-            && self.has_next(1, CharSet::One(quote))
-            && self.has_next(2, CharSet::One(quote))
-    }
-
     /// Takes digits of a kind from here on, each with perhaps an underscore before it.
     #[tactic(auto, using(crate::proofs::Joined::step_digit, crate::proofs::Joined::step_both, crate::proofs::Joined::stop_first, crate::proofs::Joined::stop_second, crate::proofs::Joined::shorter, crate::proofs::Joined::shorter_two))]
-    pub fn bump_joined(&mut self, digits: CharSet)
+    pub(crate) fn bump_joined(&mut self, digits: CharSet)
         ensures { self.new ≡ drop (joined_len (has digits) self.old) self.old }
     {
         loop {
@@ -164,7 +156,7 @@ fn is_name_part(c: char) -> bool
 
 /// A set of characters.
 #[derive(Clone, Copy)]
-pub enum CharSet {
+pub(crate) enum CharSet {
     NamePart,
     Digit,
     CommentPart,
@@ -190,7 +182,7 @@ pub enum CharSet {
 impl CharSet {
     /// Whether a character is in the set.
     #[inline(always)]
-    pub fn has(self, c: char) -> bool
+    pub(crate) fn has(self, c: char) -> bool
         ensures { result ≡ has self c }
     {
         match self {

@@ -37,7 +37,7 @@ pub record Last (t : List ℕ) : Type 0 where
   pub clean : NoLf t
   pub lines : lines_of t ≡ t ∷ []
 
-NoLf-cons : (b : ℕ) (xs : List ℕ) → is_lf b ≡ false → NoLf xs → NoLf (b ∷ xs)
+pub NoLf-cons : (b : ℕ) (xs : List ℕ) → is_lf b ≡ false → NoLf xs → NoLf (b ∷ xs)
 NoLf-cons b xs e h zero l = e
 NoLf-cons b xs e h (suc k) l = h k (omega arith)
 
@@ -75,7 +75,7 @@ cut (b ∷ d ∷ bs) h = elim (cases_Bool (is_lf b)) [
 ]
 
 -- no line feed is counted there
-count_none : (xs : List ℕ) → NoLf xs → count_by is_lf xs ≡ 0
+pub count_none : (xs : List ℕ) → NoLf xs → count_by is_lf xs ≡ 0
 count_none [] h = refl
 count_none (x ∷ xs) h =
     let here = h 0 (omega arith) in
@@ -118,7 +118,7 @@ pick a n z none = elim (cases_eq a n) [
 ]
 
 -- a line in front leaves what stands behind the last line feed
-suffix_behind : (front x : List ℕ) → suffix_len (λ b. not (is_lf b)) ((front ++ 10 ∷ []) ++ x) ≡ suffix_len (λ b. not (is_lf b)) x
+pub suffix_behind : (front x : List ℕ) → suffix_len (λ b. not (is_lf b)) ((front ++ 10 ∷ []) ++ x) ≡ suffix_len (λ b. not (is_lf b)) x
 suffix_behind front x =
     let p = λ (b : ℕ). not (is_lf b) in
     let l = front ++ 10 ∷ [] in
@@ -138,7 +138,7 @@ after_last_behind front x =
     ∙ ap (drop (length x - suffix_len (λ b. not (is_lf b)) x)) (drop_at l x (length l) refl)
 
 -- a line in front counts one
-count_behind : (front x : List ℕ) → NoLf front → count_by is_lf ((front ++ 10 ∷ []) ++ x) ≡ 1 + count_by is_lf x
+pub count_behind : (front x : List ℕ) → NoLf front → count_by is_lf ((front ++ 10 ∷ []) ++ x) ≡ 1 + count_by is_lf x
 count_behind front x clean =
     let f = λ (b : ℕ). cond (is_lf b) 1 0 in
     let none = count_none front clean in

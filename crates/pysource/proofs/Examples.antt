@@ -8,7 +8,7 @@ use Rattle.ucd_category.proofs.Computing.{ucd_category}
 use Rattle.pysource.specs.declared.encodings.Charset.TheVariants.{Ascii}
 use Rattle.pysource.specs.declared.encodings.SourceFault.TheVariants.{UnsupportedEncoding, BomConflict}
 use Rattle.pysource.specs.declared.faults.LineError.TheVariants.{NotUtf8, NotAscii, LoneReturn}
-use Rattle.pysource.specs.Places.{place_at}
+use Rattle.pysource.specs.Places.{place_at, place_after}
 use Rattle.pysource.specs.Reprs.{repr_text, repr_bytes}
 use Rattle.pysource.specs.Cookies.{encoding_of, declared_first, plain}
 use Rattle.pysource.specs.Lines.{lines_of, good_text, line_fault}
@@ -16,7 +16,7 @@ use Rattle.pysource.specs.Sources.{source_of}
 
 -- `place_of("é\nx", 3)` is row 2, column 0
 place : place_at (0xC3 ∷ 0xA9 ∷ 10 ∷ 120 ∷ []) 3 ≡ record { row = 2; column = 0 }
-unfolding chars
+unfolding chars place_after
 place = refl
 
 bytes : repr_bytes (0 ∷ 39 ∷ []) ≡ codes "b\"\\x00'\""

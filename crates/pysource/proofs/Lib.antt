@@ -9,6 +9,7 @@ pub mod CutLemmas
 pub mod Examples
 pub mod ByteLemmas
 pub mod PushReprLemmas
+pub mod CharPlaces
 pub mod BufferLemmas
 pub mod TakingLemmas
 pub mod ComingLemmas

@@ -60,7 +60,7 @@ valid_cases bs = elim (cases_lt (utf8_valid_len bs) (length bs)) [
 ]
 
 -- Below, a line is a front and its LF.
-line_text : (front rest : List ℕ) → IsUtf8 ((front ++ 10 ∷ []) ++ rest) → IsUtf8 (front ++ 10 ∷ [])
+pub line_text : (front rest : List ℕ) → IsUtf8 ((front ++ 10 ∷ []) ++ rest) → IsUtf8 (front ++ 10 ∷ [])
 line_text front rest u =
     let l = front ++ 10 ∷ [] in
     let long : length l ≡ length front + 1 = length-append front (10 ∷ []) in
@@ -69,7 +69,7 @@ line_text front rest u =
     let cut = IsUtf8-take (l ++ rest) (length front + 1) u (IsCharBoundary-after_ascii (l ++ rest) (length front) u inside (omega arith)) in
     subst IsUtf8 (take_at l rest (length front + 1) long) cut
 
-rest_text : (front rest : List ℕ) → IsUtf8 ((front ++ 10 ∷ []) ++ rest) → IsUtf8 rest
+pub rest_text : (front rest : List ℕ) → IsUtf8 ((front ++ 10 ∷ []) ++ rest) → IsUtf8 rest
 rest_text front rest u =
     let l = front ++ 10 ∷ [] in
     let long : length l ≡ length front + 1 = length-append front (10 ∷ []) in

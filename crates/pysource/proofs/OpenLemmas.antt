@@ -1,16 +1,17 @@
 -- How the lines of a source are opened, and why not.
-use Rattle.std.proofs.Common.{◌≡◌, ℕ, ◌-◌, ◌≤◌, Bool, true, false, List, [], ◌++◌, length, take, drop, None, Ok, Err, Option, Result, sym, ap, subst, refl, inl, inr, ◌∙◌, arith, append-nil, length-drop}
-use Rattle.std.specs.Prelude.{◌⊎◌}
+use Rattle.std.proofs.Common.{◌≡◌, ℕ, ◌-◌, ◌<◌, ◌≤◌, Bool, true, false, List, [], ◌++◌, length, take, drop, None, Some, Ok, Err, Option, Result, sym, ap, subst, refl, inl, inr, ◌∙◌, arith, append-nil, length-append, length-drop}
+use Rattle.std.specs.Prelude.{◌⊎◌, ◌&&◌, codes, nat_lt, if◌then◌else◌}
+use Rattle.std.specs.Io.KnownBytes.{Consumes}
 use Rattle.std.proofs.lemmas.Bool.{cases_Bool}
 use Rattle.pysource.specs.Names.{Named}
 use Rattle.pysource.specs.Parts.{Parts}
-use Rattle.pysource.specs.Cookies.{encoding_of, without_mark, has_mark}
+use Rattle.pysource.specs.Cookies.{encoding_of, named_by, cookie_of, leads_on, is_utf_8, is_ascii_name, is_spelled, without_mark, has_mark}
 use Rattle.pysource.specs.Sources.{nth_line}
-use Rattle.pysource.specs.Taking.{Takes}
-use Rattle.pysource.specs.Streams.{Coming, FollowsAt, comes, coming, decides, stream_of, stream_under, Opens, Refuses}
+use Rattle.pysource.specs.Taking.{Takes, fails}
+use Rattle.pysource.specs.Streams.{Coming, FollowsAt, comes, coming, decides, of_source, stream_of, stream_under, Opens, Refuses}
 use Rattle.pysource.specs.Heads.{Head, FoundHeads}
 use Rattle.pysource.specs.declared.buffers.Intake.{Intake}
-use Rattle.pysource.specs.declared.bytes.TheConstants.{SOURCE_LIMIT}
+use Rattle.pysource.specs.Limits.{source_limit}
 use Rattle.pysource.specs.declared.encodings.SourceFault.{SourceFault}
 use Rattle.pysource.specs.declared.encodings.SourceFault.TheVariants as cookies
 use Rattle.pysource.specs.declared.places.Place.{Place}
@@ -53,7 +54,7 @@ without_mark_short bytes = elim (cases_Bool (has_mark bytes)) [
 ]
 
 -- the lines are opened
-pub opens : {x y : Option (List ℕ)} {a b : ℕ} (i : Intake) (first second : ℕ) (named : Named) → Takes x y a b Reading i.reach 0 i.count i.buffer → i.count ≤ SOURCE_LIMIT → Head i first second
+pub opens : {x y : Option (List ℕ)} {a b : ℕ} (i : Intake) (first second : ℕ) (named : Named) → Takes x y a b Reading i.reach 0 i.count i.buffer → i.count ≤ source_limit → Head i first second
     → encoding_of (take first i.buffer) (take (second - first) (drop first i.buffer)) ≡ Ok named → Opens x y a b (held named 1 None (unmarked i))
 opens i first second named takes within h is =
     let short = without_mark_short i.buffer in
@@ -73,7 +74,7 @@ opens i first second named takes within h is =
     }
 
 -- the encoding is refused
-pub refuses_unsupported : {x y : Option (List ℕ)} {a b : ℕ} (i : Intake) (first second : ℕ) (place : Place) → Takes x y a b Reading i.reach 0 i.count i.buffer → Head i first second
+refuses_unsupported : {x y : Option (List ℕ)} {a b : ℕ} (i : Intake) (first second : ℕ) (place : Place) → Takes x y a b Reading i.reach 0 i.count i.buffer → Head i first second
     → encoding_of (take first i.buffer) (take (second - first) (drop first i.buffer)) ≡ Err (cookies.UnsupportedEncoding place) → Refuses x y a b (UnsupportedEncoding place)
 unfolding stream_under
 refuses_unsupported {x} {y} {a} {b} i first second place takes h is = record {
@@ -83,7 +84,7 @@ refuses_unsupported {x} {y} {a} {b} i first second place takes h is = record {
   explains = (h.reach, λ more broken f. streamed i first second h more broken f ∙ ap (λ (r : Result Named SourceFault). stream_under r broken (i.buffer ++ more)) is);
 }
 
-pub refuses_conflict : {x y : Option (List ℕ)} {a b : ℕ} (i : Intake) (first second : ℕ) (place : Place) → Takes x y a b Reading i.reach 0 i.count i.buffer → Head i first second
+refuses_conflict : {x y : Option (List ℕ)} {a b : ℕ} (i : Intake) (first second : ℕ) (place : Place) → Takes x y a b Reading i.reach 0 i.count i.buffer → Head i first second
     → encoding_of (take first i.buffer) (take (second - first) (drop first i.buffer)) ≡ Err (cookies.BomConflict place) → Refuses x y a b (BomConflict place)
 unfolding stream_under
 refuses_conflict {x} {y} {a} {b} i first second place takes h is = record {
@@ -92,6 +93,33 @@ refuses_conflict {x} {y} {a} {b} i first second place takes h is = record {
   reads = subst (λ (n : ℕ). Takes x y a b Reading i.reach 0 n i.buffer) (let e : i.count ≡ length i.buffer = omega (arith, takes.count) in e) takes;
   explains = (h.reach, λ more broken f. streamed i first second h more broken f ∙ ap (λ (r : Result Named SourceFault). stream_under r broken (i.buffer ++ more)) is);
 }
+
+-- want of memory is never why lines declare no encoding
+abbrev NotMemory : Result Named SourceFault → Type 0
+NotMemory (Err cookies.Memory) = ⊥
+NotMemory (Err (cookies.UnsupportedEncoding place)) = Unit {0}
+NotMemory (Err (cookies.BomConflict place)) = Unit {0}
+NotMemory (Ok named) = Unit {0}
+
+neither : (b : Bool) (x y : Result Named SourceFault) → NotMemory x → NotMemory y → NotMemory (if b then x else y)
+neither true x y p q = p
+neither false x y p q = q
+
+named_never : (marked : Bool) (row : ℕ) (cookie : List ℕ) → NotMemory (named_by marked row cookie)
+named_never marked row cookie =
+    neither (is_utf_8 cookie) _ _ tt (neither (is_spelled cookie (codes "utf8")) _ _ tt (neither (is_ascii_name cookie) _ _ (neither marked _ _ tt tt) tt))
+
+never_memory : (first second : List ℕ) → NotMemory (encoding_of first second)
+never_memory first second =
+    let line = without_mark first in
+    neither (nat_lt 0 (length (cookie_of line))) _ _ (named_never (has_mark first) 1 (cookie_of line))
+    (neither (leads_on line && nat_lt 0 (length (cookie_of second))) _ _ (named_never (has_mark first) 2 (cookie_of second)) tt)
+
+pub refuses_source : {x y : Option (List ℕ)} {a b : ℕ} (i : Intake) (first second : ℕ) (fault : SourceFault) → Takes x y a b Reading i.reach 0 i.count i.buffer → Head i first second
+    → encoding_of (take first i.buffer) (take (second - first) (drop first i.buffer)) ≡ Err fault → Refuses x y a b (of_source fault)
+refuses_source i first second (cookies.UnsupportedEncoding place) takes h is = refuses_unsupported i first second place takes h is
+refuses_source i first second (cookies.BomConflict place) takes h is = refuses_conflict i first second place takes h is
+refuses_source i first second cookies.Memory takes h is = absurd (subst NotMemory is (never_memory (take first i.buffer) (take (second - first) (drop first i.buffer))))
 
 cut_off : (r : Reach) (more : List ℕ) (broken : Bool) → (r ≡ Broken) ⊎ (r ≡ Passed) → FollowsAt r more broken → (more ≡ []) × (broken ≡ true)
 cut_off r more broken (inl e) f = subst (λ (q : Reach). FollowsAt q more broken) e f
@@ -130,3 +158,18 @@ unmarked_skip i e = rw e refl
 
 pub unmarked_same : (i : Intake) → has_mark i.buffer ≡ false → i.buffer ≡ without_mark i.buffer
 unmarked_same i e = rw e refl
+
+-- Where no read failed, known bytes are refused by `Read` only past the limit.
+pub read_past_limit : (bytes : List ℕ) (come : Option (List ℕ)) (told : ℕ) → Refuses (Some bytes) come told told Read → source_limit < length bytes
+read_past_limit bytes come told r = elim r.explains.0 [
+  | inl broken ↦ absurd (let failed = ap fails broken in omega (arith, r.reads.told, failed))
+  | inr passed ↦
+      let some = r.reads.newly (λ e. let e' : Reading ≡ Passed = e in cc) passed in
+      let full = (r.reads.passed some).1 in
+      let long = length-append r.taken r.reads.lost in
+      given come (r.taken ++ r.reads.lost) r.reads.consumes (omega (arith, some, full, long))
+]
+  where
+    given : (come : Option (List ℕ)) (t : List ℕ) → Consumes (Some bytes) come t → source_limit < length t → source_limit < length bytes
+    given None t p past = absurd p
+    given (Some rest) t p past = let size = ap length p in let parts = length-append t rest in omega (arith, size, parts, past)

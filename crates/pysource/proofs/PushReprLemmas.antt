@@ -32,7 +32,7 @@ one_character b c ascii = elim (cases_lt c 128) [
       list_any_none (λ x. x == b) (encode_utf8 c) other ∙ sym (ne_eqb c b (λ same. absurd (omega (arith, same))))
 ]
 
-some_character : (b : ℕ) (cs : List ℕ) → b < 128 → has b (encode_utf8_all cs) ≡ has b cs
+pub some_character : (b : ℕ) (cs : List ℕ) → b < 128 → has b (encode_utf8_all cs) ≡ has b cs
 some_character b [] ascii = refl
 some_character b (c ∷ cs) ascii =
     list_any-append (λ x. x == b) (encode_utf8 c) (encode_utf8_all cs)

@@ -12,7 +12,6 @@ use Rattle.pysource.specs.Taking.{Takes, Grows, LineAt, LineLeft, LineUnread}
 use Rattle.pysource.specs.Streams.{Buffered, FollowsAt, comes, coming, onto, Gives, ComesOnly, unread, fault_at, IsLine, ends_line, stream_of, stream_under, as_stream}
 use Rattle.pysource.specs.declared.buffers.Intake.{Intake}
 use Rattle.pysource.specs.declared.encodings.SourceFault.{SourceFault}
-use Rattle.pysource.specs.declared.encodings.SourceFault.TheVariants as cookies
 use Rattle.pysource.specs.declared.streams.StreamFault.{StreamFault}
 use Rattle.pysource.specs.declared.streams.Reach.{Reach}
 use Rattle.pysource.specs.declared.streams.Reach.TheVariants.{Reading, End, Broken, Passed}
@@ -221,9 +220,7 @@ under_whole (Ok named) bytes =
     let lines = lines_of (without_mark bytes) in
     ap (λ (f : Option LineFault). let x : Result Parts StreamFault = Ok (record { encoding = named; text = good_text named.charset lines; fault = f }) in x)
     (or_none (line_fault named.charset 1 lines))
-under_whole (Err (cookies.UnsupportedEncoding place)) bytes = refl
-under_whole (Err (cookies.BomConflict place)) bytes = refl
-under_whole (Err cookies.Memory) bytes = refl
+under_whole (Err fault) bytes = refl
 
 pub stream_is_source : (bytes : List ℕ) → stream_of false bytes ≡ as_stream (source_of bytes)
 unfolding stream_of

@@ -5,7 +5,7 @@ use Rattle.std.specs.Io.KnownBytes.{Consumes, IsAtEnd}
 use Rattle.std.proofs.lemmas.Bool.{cases_lt}
 use Rattle.std.proofs.lemmas.List.{get_or_append_left}
 use Rattle.pysource.specs.declared.buffers.Intake.{Intake}
-use Rattle.pysource.specs.declared.bytes.TheConstants.{SOURCE_LIMIT}
+use Rattle.pysource.specs.Limits.{source_limit}
 use Rattle.pysource.specs.Taking.{Takes, Grows, fails, NoLfFrom}
 use Rattle.pysource.specs.declared.streams.Reach.{Reach}
 use Rattle.pysource.specs.declared.streams.Reach.TheVariants.{Reading, End, Broken, Passed}
@@ -57,7 +57,7 @@ Takes-append {x} {y} {z} {a} {b} {c} {k} {l} {m} {r} {s} t u p q =
     }
 
 -- one read that gave some bytes
-pub Takes-some : (x y : Option (List ℕ)) (a b c d : ℕ) (t : List ℕ) → Consumes x y t → d ≡ c + length t → (c ≤ SOURCE_LIMIT → d ≤ SOURCE_LIMIT) → b ≡ a → Takes x y a b Reading Reading c d t
+pub Takes-some : (x y : Option (List ℕ)) (a b c d : ℕ) (t : List ℕ) → Consumes x y t → d ≡ c + length t → (c ≤ source_limit → d ≤ source_limit) → b ≡ a → Takes x y a b Reading Reading c d t
 Takes-some x y a b c d t p size within told = record {
   lost = [];
   consumes = subst (Consumes x y) (sym (append-nil t)) p;
@@ -99,7 +99,7 @@ Takes-failed x y a b c p told = record {
 }
 
 -- that passed the limit
-pub Takes-passed : (x y : Option (List ℕ)) (a b c : ℕ) (t : List ℕ) → Consumes x y t → 0 < length t → c ≡ SOURCE_LIMIT → b ≡ a → Takes x y a b Reading Passed c c []
+pub Takes-passed : (x y : Option (List ℕ)) (a b c : ℕ) (t : List ℕ) → Consumes x y t → 0 < length t → c ≡ source_limit → b ≡ a → Takes x y a b Reading Passed c c []
 Takes-passed x y a b c t p some full told = record {
   lost = t;
   consumes = p;

@@ -11,7 +11,7 @@ use Rattle.pysource.specs.Lines.{lines_of, good_text, line_fault, first_bad}
 use Rattle.pysource.specs.Cookies.{encoding_of, without_mark, cookie_of, leads_on}
 use Rattle.pysource.specs.Sources.{nth_line}
 use Rattle.pysource.specs.Taking.{Takes}
-use Rattle.pysource.specs.declared.bytes.TheConstants.{SOURCE_LIMIT}
+use Rattle.pysource.specs.Limits.{source_limit}
 use Rattle.pysource.specs.declared.encodings.Charset.{Charset}
 use Rattle.pysource.specs.declared.encodings.SourceFault.{SourceFault}
 use Rattle.pysource.specs.declared.encodings.SourceFault.TheVariants as cookies
@@ -56,12 +56,16 @@ searches_second first = (length (cookie_of (without_mark first)) == 0) && leads_
 abbrev pub decides : Bool → List ℕ → Bool
 decides broken bytes = not broken || (ends_line (nth_line bytes 0) && (not (searches_second (nth_line bytes 0)) || ends_line (nth_line bytes 1)))
 
+-- why bytes are no source, as it is told of a stream
+abbrev pub of_source : SourceFault → StreamFault
+of_source (cookies.UnsupportedEncoding place) = UnsupportedEncoding place
+of_source (cookies.BomConflict place) = BomConflict place
+of_source cookies.Memory = Memory
+
 -- the source under an encoding, or why it is none
 unfoldable pub stream_under : Result Named SourceFault → Bool → List ℕ → Result Parts StreamFault
 stream_under (Ok named) broken bytes = let c = coming named.charset 1 broken (without_mark bytes) in Ok (record { encoding = named; text = c.text; fault = c.fault })
-stream_under (Err (cookies.UnsupportedEncoding place)) broken bytes = Err (UnsupportedEncoding place)
-stream_under (Err (cookies.BomConflict place)) broken bytes = Err (BomConflict place)
-stream_under (Err cookies.Memory) broken bytes = Err Memory
+stream_under (Err fault) broken bytes = Err (of_source fault)
 
 -- the source that a reader gives: its bytes, and whether a read failed behind them
 unfoldable pub stream_of : Bool → List ℕ → Result Parts StreamFault
@@ -70,9 +74,7 @@ stream_of broken bytes = if decides broken bytes then stream_under (encoding_of 
 -- an answer on bytes that are there as a whole, as a reader's
 abbrev pub as_stream : Result Parts SourceFault → Result Parts StreamFault
 as_stream (Ok parts) = Ok parts
-as_stream (Err (cookies.UnsupportedEncoding place)) = Err (UnsupportedEncoding place)
-as_stream (Err (cookies.BomConflict place)) = Err (BomConflict place)
-as_stream (Err cookies.Memory) = Err Memory
+as_stream (Err fault) = Err (of_source fault)
 
 -- A line reader: the encoding, the row of the line that is due, the bytes taken and not yet given, how far reading has come, how many bytes it took in all,
 -- and the fault of the line that ended it.
@@ -177,7 +179,7 @@ pub record Opens (come_old come_new : Option (List ℕ)) (told_old told_new : �
       stream_of broken (taken ++ more) ≡ Ok (record { encoding = b.encoding; text = (comes b more broken).text; fault = (comes b more broken).fault })
   pub row : b.row ≡ 1
   pub fault : b.fault ≡ None
-  pub within : b.count ≤ SOURCE_LIMIT
+  pub within : b.count ≤ source_limit
   pub pending : length b.pending ≤ b.count
   -- no more is taken past the lines that decide than one read gives
   pub ahead : b.count ≤ 8_192 + head_len taken

@@ -2,7 +2,7 @@
 use Rattle.std.specs.Prelude.{◌≡◌, ◌≢◌, ◌⊎◌, ℕ, ◌+◌, ◌-◌, ◌<◌, ◌≤◌, max, List, [], ◌++◌, length, Option, None, Some, Result, Ok, Err, slice_index}
 use Rattle.std.specs.Io.KnownBytes.{Consumes, IsAtEnd}
 use Rattle.std.specs.declared.alloc.AllocError.{AllocError}
-use Rattle.pysource.specs.declared.bytes.TheConstants.{SOURCE_LIMIT}
+use Rattle.pysource.specs.Limits.{source_limit}
 use Rattle.pysource.specs.declared.buffers.Intake.{Intake}
 use Rattle.pysource.specs.declared.streams.Reach.{Reach}
 use Rattle.pysource.specs.declared.streams.Reach.TheVariants.{Reading, End, Broken, Passed}
@@ -21,9 +21,9 @@ pub record Takes (come_old come_new : Option (List ℕ)) (told_old told_new : �
   pub lost : List ℕ
   pub consumes : Consumes come_old come_new (taken ++ lost)
   pub count : count_new ≡ count_old + length taken
-  pub within : count_old ≤ SOURCE_LIMIT → count_new ≤ SOURCE_LIMIT
+  pub within : count_old ≤ source_limit → count_new ≤ source_limit
   pub told : told_new + fails reach_old ≡ told_old + fails reach_new
-  pub passed : 0 < length lost → (reach_new ≡ Passed) × (count_new ≡ SOURCE_LIMIT)
+  pub passed : 0 < length lost → (reach_new ≡ Passed) × (count_new ≡ source_limit)
   pub newly : reach_old ≢ Passed → reach_new ≡ Passed → 0 < length lost
   -- the end is told only where no byte is to come
   pub ended : reach_old ≢ End → reach_new ≡ End → IsAtEnd come_new

@@ -3,6 +3,8 @@
 //! Bytes are read only into room that is already there, so that want of memory loses none.
 
 ghost use Rattle.std.specs.Prelude.{◌≡◌, ◌≢◌, ℕ, ◌+◌, ◌-◌, ◌^◌, ◌<◌, ◌≤◌, ◌++◌, [], length, take, drop, max, vec_len, OnOk, OnErr, IfOk, Ok, Err, Some, None, slice_index};
+ghost use Rattle.pysource.specs.Bytes.{IsSteady};
+ghost use Rattle.pysource.specs.Limits.{source_limit};
 ghost use Rattle.pysource.specs.Taking.{Grows, GaveInto, FoundLine};
 
 use crate::bytes::{ByteIn, PIECE, SOURCE_LIMIT};
@@ -86,7 +88,8 @@ impl Buffer {
     ) -> Result<Option<usize>, AllocError>
         requires possible { R.failure_count reader.old < 2 ^ 64 - 1 }
         requires some { 0 < most }
-        ensures { GaveInto (R.to_come reader.old) (R.to_come reader.new) (R.failure_count reader.old) (R.failure_count reader.new) most self.old self.new result }
+        ensures gave { GaveInto (R.to_come reader.old) (R.to_come reader.new) (R.failure_count reader.old) (R.failure_count reader.new) most self.old self.new result }
+        ensures steady { IsSteady (R.may_fail reader.old) (R.may_fail reader.new) (R.failure_count reader.old) (R.failure_count reader.new) }
     {
         let (from, to) = make_room(&mut self.room, self.from, self.to)?;
         self.from = from;
@@ -129,13 +132,14 @@ impl Intake {
     fn fill<R: ByteIn>(&mut self, reader: &mut R) -> Result<(), AllocError>
         requires reading { self.old.reach ≡ Reach.Reading }
         requires possible { R.failure_count reader.old < 2 ^ 64 - 1 }
-        requires within { self.old.count ≤ SOURCE_LIMIT }
+        requires within { self.old.count ≤ source_limit }
         ensures grows { Grows (R.to_come reader.old) (R.to_come reader.new) (R.failure_count reader.old) (R.failure_count reader.new) self.old self.new }
-        ensures within { self.new.count ≤ SOURCE_LIMIT }
+        ensures within { self.new.count ≤ source_limit }
         ensures short { length self.new.buffer ≤ length self.old.buffer + 8_192 }
         ensures more { OnOk result (self.new.reach ≡ Reach.Reading → self.old.count < self.new.count) }
         ensures same { self.new.reach ≢ Reach.Reading → self.new.buffer ≡ self.old.buffer }
         ensures err { OnErr result ((self.new.reach ≡ Reach.Reading) × (self.new.buffer ≡ self.old.buffer)) }
+        ensures steady { IsSteady (R.may_fail reader.old) (R.may_fail reader.new) (R.failure_count reader.old) (R.failure_count reader.new) }
     {
         let left = SOURCE_LIMIT - self.count;
         if left == 0 {
@@ -164,11 +168,12 @@ impl Intake {
         start: usize,
     ) -> Result<Option<usize>, AllocError>
         requires possible { self.old.reach ≡ Reach.Reading → R.failure_count reader.old < 2 ^ 64 - 1 }
-        requires within { self.old.count ≤ SOURCE_LIMIT }
+        requires within { self.old.count ≤ source_limit }
         requires start { start ≤ length self.old.buffer }
         ensures grows { Grows (R.to_come reader.old) (R.to_come reader.new) (R.failure_count reader.old) (R.failure_count reader.new) self.old self.new }
-        ensures within { self.new.count ≤ SOURCE_LIMIT }
+        ensures within { self.new.count ≤ source_limit }
         ensures found { FoundLine start self.old self.new result }
+        ensures steady { IsSteady (R.may_fail reader.old) (R.may_fail reader.new) (R.failure_count reader.old) (R.failure_count reader.new) }
     {
         let mut searched = start;
         loop {

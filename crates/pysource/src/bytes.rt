@@ -1,14 +1,15 @@
 //! Readers and writers of bytes that count their failures, and the two loops over them.
 //!
 //! A contract can't name what a file, a pipe or a terminal will give. So a reader tells the bytes
-//! that it will give where they are known, and `None` where they aren't; a writer likewise tells
-//! those that it took. Each counts its failures, so that a caller can say of a whole run whether
-//! any read or write in it failed.
+//! that it will give where they are known, and `None` where they aren't, and whether a read may
+//! fail; a writer likewise tells those that it took. Each counts its failures, so that a caller
+//! can say of a whole run whether any read or write in it failed.
 
-ghost use Rattle.std.specs.Prelude.{◌≡◌, ◌≤◌, ℕ, ◌+◌, ◌-◌, ◌^◌, ◌<◌, List, Option, None, OnOk, OnErr, IfOk, IsErrOf, length, vec_len};
+ghost use Rattle.std.specs.Prelude.{◌≡◌, ◌≤◌, ℕ, ◌+◌, ◌-◌, ◌^◌, ◌<◌, Bool, true, List, Option, None, OnOk, OnErr, IfOk, IsErrOf, length, vec_len};
 ghost use Rattle.std.specs.Io.{ReadsAtMost, WritesAtMost};
 ghost use Rattle.std.specs.Io.KnownBytes.{ReadConsumes, WriteAppends, Appends, Consumes, IsAtEnd};
-ghost use Rattle.pysource.specs.Bytes.{read_failures, write_failures, TakesFront, GivesTooMany};
+ghost use Rattle.pysource.specs.Bytes.{read_failures, IsSteady, write_failures, TakesFront, GivesTooMany};
+ghost use Rattle.pysource.specs.Limits.{source_limit};
 
 use std::alloc::Global;
 use std::io::{Read, Write};
@@ -32,17 +33,22 @@ pub trait ByteIn {
     // How many reads failed.
     ghost failure_count: { Self → ℕ };
 
+    // Whether a read may fail, now or later.
+    ghost may_fail: { Self → Bool } = { λ _. true };
+
     /// How many reads failed so far.
     fn failures(&self) -> u64
         ensures { result ≡ failure_count self.now };
 
     /// Fills the front of `buf` with the next bytes, and answers how many they are: 0 at the end
-    /// (or for an empty `buf`). An error is counted.
+    /// (or for an empty `buf`). An error is counted, and comes only where a read may fail.
     fn read(&mut self, buf: &mut [u8]) -> Result<usize, ReadFailed>
         requires { failure_count self.old < 2 ^ 64 - 1 }
         ensures bound { ReadsAtMost result buf.new }
         ensures bytes { ReadConsumes (to_come self.old) (to_come self.new) result buf.new }
-        ensures failed { failure_count self.new ≡ failure_count self.old + read_failures result };
+        ensures failed { failure_count self.new ≡ failure_count self.old + read_failures result }
+        ensures same { may_fail self.new ≡ may_fail self.old }
+        ensures able { OnErr result (may_fail self.old ≡ true) };
 }
 
 /// A writer of bytes that counts its failures.
@@ -70,6 +76,8 @@ impl<R: ByteIn> ByteIn for &mut R {
     ghost to_come = { λ r. R.to_come r.now };
 
     ghost failure_count = { λ r. R.failure_count r.now };
+
+    ghost may_fail = { λ r. R.may_fail r.now };
 
     fn failures(&self) -> u64 {
         (**self).failures()
@@ -168,11 +176,11 @@ pub fn write_all<W: ByteOut>(writer: &mut W, bytes: &[u8]) -> Result<(), WriteFa
 {
     let mut at = 0;
     while at < bytes.len() {
-        match writer.write(&bytes[at..]) {
-            Ok(0) => return Err(WriteFailed),
-            Ok(n) => at += n,
-            Err(e) => return Err(e),
+        let count = writer.write(&bytes[at..])?;
+        if count == 0 {
+            return Err(WriteFailed);
         }
+        at += count;
     }
     Ok(())
 }
@@ -196,18 +204,20 @@ pub enum InputFault {
 
 /// All the bytes that the reader gives up to its end, at most `SOURCE_LIMIT`. A failed read and a
 /// byte too many are both `InputFault::Read`; the reader's count of failures tells them apart.
+/// Where no read can fail, `Read` tells a byte too many.
 pub fn read_all<R: ByteIn>(alloc: Global, reader: &mut R) -> Result<Vec<u8>, InputFault>
     requires { R.failure_count reader.old < 2 ^ 64 - 1 }
     ensures ok { IfOk result (λ v. Consumes (R.to_come reader.old) (R.to_come reader.new) v.items) }
     ensures end { OnOk result (IsAtEnd (R.to_come reader.new)) }
-    ensures within { IfOk result (λ v. vec_len v ≤ SOURCE_LIMIT) }
+    ensures within { IfOk result (λ v. vec_len v ≤ source_limit) }
     ensures unfailed { OnOk result (R.failure_count reader.new ≡ R.failure_count reader.old) }
     ensures read { IsErrOf result InputFault.Read →
         R.failure_count reader.new ≡ R.failure_count reader.old →
-        GivesTooMany (R.to_come reader.old) (R.to_come reader.new) SOURCE_LIMIT }
+        GivesTooMany (R.to_come reader.old) (R.to_come reader.new) source_limit }
     ensures memory { IsErrOf result InputFault.Memory →
         R.failure_count reader.new ≡ R.failure_count reader.old }
     ensures once { R.failure_count reader.new ≤ R.failure_count reader.old + 1 }
+    ensures steady { IsSteady (R.may_fail reader.old) (R.may_fail reader.new) (R.failure_count reader.old) (R.failure_count reader.new) }
 {
     let mut all = Vec::new(alloc);
     let mut piece = [0u8; PIECE];

@@ -32,8 +32,3 @@ pub use places::{Place, place_of};
 pub use reprs::{is_plain_text, push_repr, repr_bytes, repr_text};
 pub use sources::{Source, decode};
 pub use streams::{Chunks, Line, LineReader, Reach, StreamFault};
-
-#[cfg(test)]
-mod fakes;
-#[cfg(test)]
-mod tests;

@@ -7,10 +7,12 @@
 //! return. No multi-byte sequence of UTF-8 goes past a line feed, so the first bad byte of the
 //! whole is the first bad byte of the first faulty line: one pass over all the bytes finds it.
 
-ghost use Rattle.std.specs.Prelude.{◌≡◌, ◌≢◌, ℕ, ◌≤◌, ◌<◌, ◌+◌, ◌-◌, length, take, drop, slice_index, IsUtf8, MatchOption};
+ghost use Rattle.std.specs.Prelude.{◌≡◌, ◌≢◌, ℕ, ◌≤◌, ◌<◌, ◌+◌, ◌-◌, false, length, take, drop, slice_index, IsUtf8, MatchOption};
 ghost use Rattle.std.specs.Str.Lossy.{utf8_valid_len};
+ghost use Rattle.pysource.specs.Limits.{source_limit};
 ghost use Rattle.pysource.specs.Lines.{first_bad, good_text, line_fault, lines_of, lone_return_at, bad_at, invalid};
 ghost use Rattle.pysource.specs.Sources.{source_of, UnlessMemory, nth_line};
+ghost use Rattle.pysource.specs.Streams.{stream_of, as_stream};
 
 use crate::encodings::{Charset, Encoding, SourceFault, encoding_of, without_mark};
 use crate::faults::{LineError, LineFault};
@@ -30,13 +32,14 @@ pub struct Source {
 impl Model for Source {
     ghost use Rattle.std.specs.Prelude.{◌≤◌, length};
     ghost use Rattle.std.specs.String.{string_bytes};
+    ghost use Rattle.pysource.specs.Limits.{source_limit};
     ghost use Rattle.pysource.specs.Parts.{Parts};
 
     ghost Value = { Parts };
 
     ghost view = { λ s. record { encoding = s.encoding; text = string_bytes s.text; fault = s.fault } };
 
-    ghost invariant = { λ s. length (string_bytes s.text) ≤ 1_073_741_824 };
+    ghost invariant = { λ s. length (string_bytes s.text) ≤ source_limit };
 }
 
 impl Source {
@@ -51,7 +54,7 @@ impl Source {
     /// text where no line is faulty.
     pub fn text(&self) -> &str
         ensures value { result.now ≡ self.now.text }
-        ensures within { length result.now ≤ 1_073_741_824 }
+        ensures within { length result.now ≤ source_limit }
     {
         self.text.as_str()
     }
@@ -201,9 +204,14 @@ fn cut_line(bytes: &[u8]) -> (&[u8], &[u8])
 /// It answers `UnsupportedEncoding` and `BomConflict` as [`encoding_of`] does for the first two
 /// lines, whatever the lines hold otherwise, and `Memory` where there is none for the text. A
 /// faulty line is no error: the source tells it.
+///
+/// Where no read fails the source of a stream, as [`LineReader`](crate::LineReader) gives it, is
+/// that of its bytes.
+#[tactic(auto, using(crate::proofs::StreamLemmas::stream_is_source))]
 pub fn decode(alloc: Global, bytes: &[u8]) -> Result<Source, SourceFault>
-    requires { length bytes.now ≤ 1_073_741_824 }
-    ensures { UnlessMemory result (source_of bytes.now) }
+    requires { length bytes.now ≤ source_limit }
+    ensures value { UnlessMemory result (source_of bytes.now) }
+    ensures stream { stream_of false bytes.now ≡ as_stream (source_of bytes.now) }
 {
     let (first, rest) = cut_line(bytes);
     let (second, _) = cut_line(rest);

@@ -4,14 +4,16 @@
 //!
 //! Only the bytes of the line that is due are held, and at most 8,192 behind it.
 
-ghost use Rattle.std.specs.Prelude.{◌≡◌, ℕ, ◌+◌, ◌-◌, ◌^◌, ◌<◌, ◌≤◌, List, [], Option, length, IfOk, IfErr};
+ghost use Rattle.std.specs.Prelude.{◌≡◌, ℕ, ◌+◌, ◌-◌, ◌^◌, ◌<◌, ◌≤◌, false, List, [], Option, length, IfOk, IfErr};
 ghost use Rattle.std.specs.String.{string_bytes};
-ghost use Rattle.pysource.specs.Streams.{Moves, Opening, Opens, Refuses, searches_second, PushesLine};
+ghost use Rattle.pysource.specs.Bytes.{IsSteady};
+ghost use Rattle.pysource.specs.Limits.{source_limit};
+ghost use Rattle.pysource.specs.Streams.{Moves, Opening, Opens, Refuses, of_source, searches_second, PushesLine};
 ghost use Rattle.pysource.specs.Taking.{Takes, Grows, FoundHead, FoundDue, fails};
 ghost use Rattle.pysource.specs.Heads.{FoundHeads};
 
 use crate::buffers::Intake;
-use crate::bytes::{ByteIn, SOURCE_LIMIT};
+use crate::bytes::ByteIn;
 use crate::encodings::{
     Charset, Encoding, SourceFault, cookie_of, encoding_of, has_mark, leads_on, without_mark,
 };
@@ -54,6 +56,18 @@ pub enum StreamFault {
     Memory,
 }
 
+impl From<SourceFault> for StreamFault {
+    ghost from_gives = { λ fault result. result ≡ of_source fault };
+
+    fn from(fault: SourceFault) -> StreamFault {
+        match fault {
+            SourceFault::UnsupportedEncoding(place) => StreamFault::UnsupportedEncoding(place),
+            SourceFault::BomConflict(place) => StreamFault::BomConflict(place),
+            SourceFault::Memory => StreamFault::Memory,
+        }
+    }
+}
+
 /// How far reading has come.
 #[derive(Clone, Copy, Debug, PartialEq, Eq, Drop)]
 pub enum Reach {
@@ -78,14 +92,14 @@ pub struct LineReader {
 
 impl Model for LineReader {
     ghost use Rattle.std.specs.Prelude.{ℕ, ◌+◌, ◌≤◌, length};
-    ghost use Rattle.pysource.specs.declared.bytes.TheConstants.{SOURCE_LIMIT};
+    ghost use Rattle.pysource.specs.Limits.{source_limit};
     ghost use Rattle.pysource.specs.Streams.{Buffered};
 
     ghost Value = { Buffered };
 
     ghost view = { λ s. record { encoding = s.encoding; row = s.row; pending = s.intake.buffer; reach = s.intake.reach; count = s.intake.count; fault = s.fault } };
 
-    ghost invariant = { λ s. (1 ≤ s.row) × (s.row + length s.intake.buffer ≤ s.intake.count + 1) × (s.intake.count ≤ SOURCE_LIMIT) };
+    ghost invariant = { λ s. (1 ≤ s.row) × (s.row + length s.intake.buffer ≤ s.intake.count + 1) × (s.intake.count ≤ source_limit) };
 }
 
 /// Whether the second line is searched for a cookie behind this first one.
@@ -129,11 +143,12 @@ fn head_line<R: ByteIn>(
     start: usize,
 ) -> Result<usize, StreamFault>
     requires possible { intake.old.reach ≡ Reach.Reading → R.failure_count reader.old < 2 ^ 64 - 1 }
-    requires within { intake.old.count ≤ SOURCE_LIMIT }
+    requires within { intake.old.count ≤ source_limit }
     requires start { start ≤ length intake.old.buffer }
     ensures grows { Grows (R.to_come reader.old) (R.to_come reader.new) (R.failure_count reader.old) (R.failure_count reader.new) intake.old intake.new }
-    ensures within { intake.new.count ≤ SOURCE_LIMIT }
+    ensures within { intake.new.count ≤ source_limit }
     ensures found { FoundHead start intake.old intake.new result }
+    ensures steady { IsSteady (R.may_fail reader.old) (R.may_fail reader.new) (R.failure_count reader.old) (R.failure_count reader.new) }
 {
     match intake.line_end(reader, start) {
         Err(_) => Err(StreamFault::Memory),
@@ -153,8 +168,9 @@ fn read_head<R: ByteIn>(intake: &mut Intake, reader: &mut R) -> Result<(usize, u
     requires reach { intake.old.reach ≡ Reach.Reading }
     requires count { intake.old.count ≡ 0 }
     ensures takes { Takes (R.to_come reader.old) (R.to_come reader.new) (R.failure_count reader.old) (R.failure_count reader.new) Reach.Reading intake.new.reach 0 intake.new.count intake.new.buffer }
-    ensures within { intake.new.count ≤ SOURCE_LIMIT }
+    ensures within { intake.new.count ≤ source_limit }
     ensures found { FoundHeads intake.new result }
+    ensures steady { IsSteady (R.may_fail reader.old) (R.may_fail reader.new) (R.failure_count reader.old) (R.failure_count reader.new) }
 {
     let first = head_line(intake, reader, 0)?;
     match intake.reach {
@@ -172,10 +188,11 @@ fn read_head<R: ByteIn>(intake: &mut Intake, reader: &mut R) -> Result<(usize, u
 /// read whole.
 fn due_line<R: ByteIn>(intake: &mut Intake, reader: &mut R) -> Result<Option<usize>, AllocError>
     requires possible { intake.old.reach ≡ Reach.Reading → R.failure_count reader.old < 2 ^ 64 - 1 }
-    requires within { intake.old.count ≤ SOURCE_LIMIT }
+    requires within { intake.old.count ≤ source_limit }
     ensures grows { Grows (R.to_come reader.old) (R.to_come reader.new) (R.failure_count reader.old) (R.failure_count reader.new) intake.old intake.new }
-    ensures within { intake.new.count ≤ SOURCE_LIMIT }
+    ensures within { intake.new.count ≤ source_limit }
     ensures found { FoundDue intake.old intake.new result }
+    ensures steady { IsSteady (R.may_fail reader.old) (R.may_fail reader.new) (R.failure_count reader.old) (R.failure_count reader.new) }
 {
     match intake.line_end(reader, 0)? {
         Some(end) => Ok(Some(end)),
@@ -198,19 +215,13 @@ impl LineReader {
     /// of them could not be read whole, and `Memory`. What was taken of the reader is lost then.
     pub fn new<R: ByteIn>(alloc: Global, reader: &mut R) -> Result<LineReader, StreamFault>
         requires { R.failure_count reader.old < 2 ^ 64 - 1 }
-        ensures { Opening (R.to_come reader.old) (R.to_come reader.new) (R.failure_count reader.old) (R.failure_count reader.new) result }
+        ensures opening { Opening (R.to_come reader.old) (R.to_come reader.new) (R.failure_count reader.old) (R.failure_count reader.new) result }
+        ensures steady { IsSteady (R.may_fail reader.old) (R.may_fail reader.new) (R.failure_count reader.old) (R.failure_count reader.new) }
     {
         let mut intake = Intake::new(alloc);
         let (first, second) = read_head(&mut intake, reader)?;
         let bytes = intake.buffer.bytes();
-        let encoding = match encoding_of(&bytes[..first], &bytes[first..second]) {
-            Ok(encoding) => encoding,
-            Err(SourceFault::UnsupportedEncoding(place)) => {
-                return Err(StreamFault::UnsupportedEncoding(place));
-            }
-            Err(SourceFault::BomConflict(place)) => return Err(StreamFault::BomConflict(place)),
-            Err(SourceFault::Memory) => return Err(StreamFault::Memory),
-        };
+        let encoding = encoding_of(&bytes[..first], &bytes[first..second])?;
         if has_mark(bytes) {
             intake.buffer.skip(3);
         }
@@ -252,8 +263,9 @@ impl LineReader {
     ) -> Result<Line, AllocError>
         requires { self.old.reach ≡ Reach.Reading → R.failure_count reader.old < 2 ^ 64 - 1 }
         ensures moves { Moves (R.to_come reader.old) (R.to_come reader.new) (R.failure_count reader.old) (R.failure_count reader.new) self.old self.new (string_bytes chunk.old) (string_bytes chunk.new) result }
-        ensures within { self.new.count ≤ SOURCE_LIMIT }
+        ensures within { self.new.count ≤ source_limit }
         ensures pending { length self.new.pending ≤ self.new.count }
+        ensures steady { IsSteady (R.may_fail reader.old) (R.may_fail reader.new) (R.failure_count reader.old) (R.failure_count reader.new) }
     {
         if let Some(fault) = self.fault {
             return Ok(Line::Fault(fault));
@@ -291,14 +303,16 @@ pub struct Chunks<R: ByteIn> {
 }
 
 impl<R: ByteIn> Chunks<R> {
-    /// Opens the lines of a source, as [`LineReader::new`] does. A refusal drops the reader.
+    /// Opens the lines of a source, as [`LineReader::new`] does. A refusal drops the reader. Where
+    /// no read can fail, `Read` tells that the source has more bytes than `SOURCE_LIMIT`.
     pub fn new(alloc: Global, mut reader: R) -> Result<Chunks<R>, StreamFault>
     where
         R: Drop,
         requires { R.failure_count reader < 2 ^ 64 - 1 }
         ensures opens { IfOk result (λ c. Opens (R.to_come reader) (R.to_come c.reader) (R.failure_count reader) (R.failure_count c.reader) c.lines) }
         ensures told { IfOk result (λ c. c.told ≡ R.failure_count reader) }
-        ensures refuses { IfErr result (λ e. (come : Option (List ℕ)) × (told : ℕ) × Refuses (R.to_come reader) come (R.failure_count reader) told e) }
+        ensures steady { IfOk result (λ c. IsSteady (R.may_fail reader) (R.may_fail c.reader) (R.failure_count reader) (R.failure_count c.reader)) }
+        ensures refuses { IfErr result (λ e. (come : Option (List ℕ)) × (told : ℕ) × (R.may_fail reader ≡ false → told ≡ R.failure_count reader) × Refuses (R.to_come reader) come (R.failure_count reader) told e) }
     {
         let told = reader.failures();
         let lines = LineReader::new(alloc, &mut reader)?;
@@ -326,9 +340,10 @@ impl<R: ByteIn> Chunks<R> {
     /// Appends the next line, as [`LineReader::next_line`] does.
     pub fn next_line(&mut self, chunk: &mut String) -> Result<Line, AllocError>
         ensures moves { Moves (R.to_come self.old.reader) (R.to_come self.new.reader) (R.failure_count self.old.reader) (R.failure_count self.new.reader) self.old.lines self.new.lines (string_bytes chunk.old) (string_bytes chunk.new) result }
-        ensures within { self.new.lines.count ≤ SOURCE_LIMIT }
+        ensures within { self.new.lines.count ≤ source_limit }
         ensures pending { length self.new.lines.pending ≤ self.new.lines.count }
         ensures told { self.new.told ≡ self.old.told }
+        ensures steady { IsSteady (R.may_fail self.old.reader) (R.may_fail self.new.reader) (R.failure_count self.old.reader) (R.failure_count self.new.reader) }
     {
         self.lines.next_line(&mut self.reader, chunk)
     }

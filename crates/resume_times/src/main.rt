@@ -18,7 +18,6 @@ fn count(mut lister: Lister<'_>) -> usize {
     n
 }
 
-#[tactic(auto, using(pylex::proofs::Returning::leads_itself))]
 fn times(rt: &HostRuntime, alloc: Global, source: &Source, cursor: &Cursor) -> u8 {
     let Ok(t1) = Instant::now(rt) else {
         return 1;

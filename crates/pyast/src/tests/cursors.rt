@@ -1,6 +1,6 @@
 //! Listings that stop after a count of entries, and that go on behind a cursor.
 
-use crate::command::Command;
+use crate::command::{Command, Tokens};
 use crate::run::run;
 use crate::tests::expected::{push_lines, reader, writer};
 use pylex::Cursor;
@@ -361,26 +361,22 @@ fn stops_and_goes_on(rt: HostRuntime) -> Result<(), Fail> {
         } else {
             Some(Cursor::from_text(rt.alloc(), resume)?)
         };
-        let command = Command::Tokens {
+        let command = Command::Tokens(Tokens {
             exact: false,
             count,
             resume,
             file: None,
-        };
+        });
         let mut reader = reader(source);
         let mut output = writer(rt.alloc());
         let mut faults = writer(rt.alloc());
         let status = run(rt.alloc(), &command, &mut reader, &mut output, &mut faults);
         assert_eq!(rt;
-            output.taken.as_slice(),
+            output.taken(),
             wanted.as_bytes(),
             "at {source:?}, {count:?}"
         );
-        assert_eq!(rt;
-            faults.taken.as_slice(),
-            told.as_bytes(),
-            "at {source:?}, {count:?}"
-        );
+        assert_eq!(rt; faults.taken(), told.as_bytes(), "at {source:?}, {count:?}");
         assert_eq!(rt; status, wanted_status, "at {source:?}, {count:?}");
     }
     Ok(())

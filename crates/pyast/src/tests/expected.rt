@@ -1,36 +1,33 @@
 //! What the tests compare with.
 ghost use Rattle.std.specs.Prelude.{◌≡◌, ◌<◌, ◌-◌, ◌^◌};
 
-use crate::command::Command;
-use crate::fakes::{Narrow, Trickle};
+use crate::command::{Command, Tokens};
 use crate::run::run;
+use fakes::{FakeReader, FakeWriter};
 use pysource::{ByteIn, Counted};
 use std::alloc::{AllocError, Global};
 use std::process::Abort;
 use std::test::Fail;
 
-/// A reader that gives these bytes, and then ends.
-pub fn reader(bytes: &[u8]) -> Trickle<'_>
+/// A reader that gives these bytes, one at a read, and then ends.
+pub fn reader(bytes: &[u8]) -> FakeReader<'_>
     ensures { result.failures ≡ 0 }
 {
-    Trickle {
-        bytes,
-        fails: false,
-        failures: 0,
-    }
+    FakeReader::new(bytes, 1, false)
+}
+
+/// A reader that gives these bytes, one at a read, and then fails.
+pub fn failing_reader(bytes: &[u8]) -> FakeReader<'_>
+    ensures { result.failures ≡ 0 }
+{
+    FakeReader::new(bytes, 1, true)
 }
 
 /// A writer that takes all that it is given.
-pub fn writer(alloc: Global) -> Narrow
+pub fn writer(alloc: Global) -> FakeWriter
     ensures { result.failures ≡ 0 }
 {
-    Narrow {
-        taken: Vec::new(alloc),
-        step: usize::MAX,
-        room: usize::MAX,
-        takes_none: false,
-        failures: 0,
-    }
+    FakeWriter::new(alloc, usize::MAX, usize::MAX, false)
 }
 
 fn push_filled(out: &mut String, field: &str, width: usize) -> Result<(), AllocError> {
@@ -102,15 +99,15 @@ fn writes_and_tells<R: ByteIn>(
 {
     let mut output = writer(alloc);
     let mut faults = writer(alloc);
-    let command = Command::Tokens {
+    let command = Command::Tokens(Tokens {
         exact: false,
         count: None,
         resume: None,
         file: None,
-    };
+    });
     let status = run(alloc, &command, reader, &mut output, &mut faults);
-    assert_eq!(rt; output.taken.as_slice(), wanted);
-    assert_eq!(rt; faults.taken.as_slice(), told, "behind {wanted:?}");
+    assert_eq!(rt; output.taken(), wanted);
+    assert_eq!(rt; faults.taken(), told, "behind {wanted:?}");
     assert_eq!(rt;
         status,
         if told.is_empty() { 0 } else { 1 },

@@ -1,37 +1,23 @@
 //! What is told where reading, writing or opening fails.
-ghost use Rattle.std.specs.Prelude.{◌≡◌};
 
-use crate::command::Command;
-use crate::fakes::{Narrow, Trickle};
-use crate::fault::{Fault, FaultCode};
+use crate::command::{Command, Tokens};
+use crate::fault::{Fault, RunFaultCode};
 use crate::open_source;
 use crate::run::run;
-use crate::tests::expected::{push_lines, reader, writer};
+use crate::tests::expected::{failing_reader, push_lines, reader, writer};
+use fakes::{FakeReader, FakeWriter};
 use pylex::Cursor;
 use pysource::Counted;
 use std::alloc::Global;
 use std::process::Abort;
 use std::test::Fail;
 
-const TOKENS: Command = Command::Tokens {
+const TOKENS: Command = Command::Tokens(Tokens {
     exact: false,
     count: None,
     resume: None,
     file: None,
-};
-
-// A writer that takes so many bytes, and then fails or takes none.
-fn narrow(alloc: Global, step: usize, room: usize, takes_none: bool) -> Narrow
-    ensures { result.failures ≡ 0 }
-{
-    Narrow {
-        taken: Vec::new(alloc),
-        step,
-        room,
-        takes_none,
-        failures: 0,
-    }
-}
+});
 
 #[test]
 fn stops_where_the_writer_fails(rt: HostRuntime) -> Result<(), Fail> {
@@ -44,7 +30,7 @@ fn stops_where_the_writer_fails(rt: HostRuntime) -> Result<(), Fail> {
     for room in 0..=whole.len() {
         for takes_none in [false, true] {
             let mut reader = reader(b"x\n");
-            let mut output = narrow(rt.alloc(), 1, room, takes_none);
+            let mut output = FakeWriter::new(rt.alloc(), 1, room, takes_none);
             let mut faults = writer(rt.alloc());
             let status = run(rt.alloc(), &TOKENS, &mut reader, &mut output, &mut faults);
             let told: &[u8] = if room < whole.len() {
@@ -52,8 +38,8 @@ fn stops_where_the_writer_fails(rt: HostRuntime) -> Result<(), Fail> {
             } else {
                 b""
             };
-            assert_eq!(rt; output.taken.as_slice(), &whole[..room], "at {room}");
-            assert_eq!(rt; faults.taken.as_slice(), told, "at {room}");
+            assert_eq!(rt; output.taken(), &whole[..room], "at {room}");
+            assert_eq!(rt; faults.taken(), told, "at {room}");
             assert_eq!(rt; status, if room < whole.len() { 3 } else { 0 }, "at {room}");
         }
     }
@@ -67,16 +53,16 @@ fn stops_where_the_writer_fails_in_the_line_of_a_cursor(rt: HostRuntime) -> Resu
     push_lines(&mut wanted, "0,0-0,0 ENCODING 'utf-8'")?;
     wanted.push_str("cursor pytok1 1 0 1 0 0 0 0\n")?;
     let whole = wanted.as_bytes();
-    let command = Command::Tokens {
+    let command = Command::Tokens(Tokens {
         exact: false,
         count: Some(1),
         resume: None,
         file: None,
-    };
+    });
     for room in 0..=whole.len() {
         for takes_none in [false, true] {
             let mut reader = reader(b"x $\n");
-            let mut output = narrow(rt.alloc(), 1, room, takes_none);
+            let mut output = FakeWriter::new(rt.alloc(), 1, room, takes_none);
             let mut faults = writer(rt.alloc());
             let status = run(rt.alloc(), &command, &mut reader, &mut output, &mut faults);
             let told: &[u8] = if room < whole.len() {
@@ -84,8 +70,8 @@ fn stops_where_the_writer_fails_in_the_line_of_a_cursor(rt: HostRuntime) -> Resu
             } else {
                 b""
             };
-            assert_eq!(rt; output.taken.as_slice(), &whole[..room], "at {room}");
-            assert_eq!(rt; faults.taken.as_slice(), told, "at {room}");
+            assert_eq!(rt; output.taken(), &whole[..room], "at {room}");
+            assert_eq!(rt; faults.taken(), told, "at {room}");
             assert_eq!(rt; status, if room < whole.len() { 3 } else { 0 }, "at {room}");
         }
     }
@@ -119,10 +105,10 @@ fn stops_within_a_long_listing(rt: HostRuntime) -> Result<(), Fail> {
     ] {
         let room = room.min(whole.len());
         let mut reader = reader(source.as_bytes());
-        let mut output = narrow(rt.alloc(), 5000, room, false);
+        let mut output = FakeWriter::new(rt.alloc(), 5000, room, false);
         let mut faults = writer(rt.alloc());
         let status = run(rt.alloc(), &TOKENS, &mut reader, &mut output, &mut faults);
-        assert!(rt; output.taken.as_slice() == &whole[..room], "at {room}");
+        assert!(rt; output.taken() == &whole[..room], "at {room}");
         assert_eq!(rt; status, if room < whole.len() { 3 } else { 0 }, "at {room}");
     }
     Ok(())
@@ -132,13 +118,10 @@ fn stops_within_a_long_listing(rt: HostRuntime) -> Result<(), Fail> {
 #[test]
 fn tells_a_failed_write_before_a_fault_of_the_source(rt: HostRuntime) -> Result<(), Fail> {
     let mut reader = reader(b"x $\n");
-    let mut output = narrow(rt.alloc(), 1, 60, false);
+    let mut output = FakeWriter::new(rt.alloc(), 1, 60, false);
     let mut faults = writer(rt.alloc());
     let status = run(rt.alloc(), &TOKENS, &mut reader, &mut output, &mut faults);
-    assert_eq!(rt;
-        faults.taken.as_slice(),
-        b"pyast: write failed\n".as_slice()
-    );
+    assert_eq!(rt; faults.taken(), b"pyast: write failed\n".as_slice());
     assert_eq!(rt; status, 3);
     Ok(())
 }
@@ -152,17 +135,13 @@ fn lists_read_lines(
 ) -> Result<(), Fail> {
     let mut wanted = String::new(alloc);
     push_lines(&mut wanted, entries)?;
-    let mut reader = Trickle {
-        bytes: source,
-        fails: true,
-        failures: 0,
-    };
+    let mut reader = failing_reader(source);
     let mut output = writer(alloc);
     let mut faults = writer(alloc);
     let status = run(alloc, &TOKENS, &mut reader, &mut output, &mut faults);
-    assert_eq!(rt; output.taken.as_slice(), wanted.as_bytes(), "at {source:?}");
+    assert_eq!(rt; output.taken(), wanted.as_bytes(), "at {source:?}");
     assert_eq!(rt;
-        faults.taken.as_slice(),
+        faults.taken(),
         b"pyast: read failed\n".as_slice(),
         "at {source:?}"
     );
@@ -243,15 +222,11 @@ fn tells_a_fault_before_a_failed_read(rt: HostRuntime) -> Result<(), Fail> {
             b"<stdin>:1:0: error: unmatched closing bracket\n".as_slice(),
         ),
     ] {
-        let mut reader = Trickle {
-            bytes: source,
-            fails: true,
-            failures: 0,
-        };
+        let mut reader = failing_reader(source);
         let mut output = writer(rt.alloc());
         let mut faults = writer(rt.alloc());
         let status = run(rt.alloc(), &TOKENS, &mut reader, &mut output, &mut faults);
-        assert_eq!(rt; faults.taken.as_slice(), line, "at {source:?}");
+        assert_eq!(rt; faults.taken(), line, "at {source:?}");
         assert_eq!(rt; status, 1, "at {source:?}");
     }
     Ok(())
@@ -266,22 +241,18 @@ fn stops_at_a_count_before_a_failed_read(rt: HostRuntime) -> Result<(), Fail> {
         "0,0-0,0 ENCODING 'utf-8'\n1,0-1,1 NAME 'x'\n1,1-1,2 NEWLINE '\\n'",
     )?;
     wanted.push_str("cursor pytok1 3 2 2 0 0 0 0\n")?;
-    let command = Command::Tokens {
+    let command = Command::Tokens(Tokens {
         exact: false,
         count: Some(3),
         resume: None,
         file: None,
-    };
-    let mut reader = Trickle {
-        bytes: b"x\ny",
-        fails: true,
-        failures: 0,
-    };
+    });
+    let mut reader = failing_reader(b"x\ny");
     let mut output = writer(rt.alloc());
     let mut faults = writer(rt.alloc());
     let status = run(rt.alloc(), &command, &mut reader, &mut output, &mut faults);
-    assert_eq!(rt; output.taken.as_slice(), wanted.as_bytes());
-    assert!(rt; faults.taken.is_empty());
+    assert_eq!(rt; output.taken(), wanted.as_bytes());
+    assert!(rt; faults.taken().is_empty());
     assert_eq!(rt; status, 0);
     Ok(())
 }
@@ -306,22 +277,18 @@ fn tells_a_failed_read_before_a_cursor(rt: HostRuntime) -> Result<(), Fail> {
             2,
         ),
     ] {
-        let command = Command::Tokens {
+        let command = Command::Tokens(Tokens {
             exact: false,
             count: None,
             resume: Some(Cursor::from_text(rt.alloc(), resume)?),
             file: None,
-        };
-        let mut reader = Trickle {
-            bytes: b"x\ny",
-            fails: true,
-            failures: 0,
-        };
+        });
+        let mut reader = failing_reader(b"x\ny");
         let mut output = writer(rt.alloc());
         let mut faults = writer(rt.alloc());
         let status = run(rt.alloc(), &command, &mut reader, &mut output, &mut faults);
-        assert!(rt; output.taken.is_empty(), "at {resume}");
-        assert_eq!(rt; faults.taken.as_slice(), line, "at {resume}");
+        assert!(rt; output.taken().is_empty(), "at {resume}");
+        assert_eq!(rt; faults.taken(), line, "at {resume}");
         assert_eq!(rt; status, wanted_status, "at {resume}");
     }
     Ok(())
@@ -339,15 +306,11 @@ fn keeps_its_status_where_the_fault_line_fails(rt: HostRuntime) -> Result<(), Fa
         (b"".as_slice(), true, b"pyast: read failed\n".as_slice(), 3),
     ] {
         for room in 0..=line.len() {
-            let mut reader = Trickle {
-                bytes: source,
-                fails,
-                failures: 0,
-            };
+            let mut reader = FakeReader::new(source, 1, fails);
             let mut output = writer(rt.alloc());
-            let mut faults = narrow(rt.alloc(), 1, room, false);
+            let mut faults = FakeWriter::new(rt.alloc(), 1, room, false);
             let status = run(rt.alloc(), &TOKENS, &mut reader, &mut output, &mut faults);
-            assert_eq!(rt; faults.taken.as_slice(), &line[..room], "at {room}");
+            assert_eq!(rt; faults.taken(), &line[..room], "at {room}");
             assert_eq!(rt; status, wanted, "at {room}");
         }
     }
@@ -357,7 +320,7 @@ fn keeps_its_status_where_the_fault_line_fails(rt: HostRuntime) -> Result<(), Fa
 #[test]
 fn opens_a_file_or_tells_that_it_cannot(rt: HostRuntime) -> Result<(), Fail> {
     let missing = open_source(&rt, "no such folder/no such file");
-    assert!(rt; matches!(missing, Err(Fault::Plain(FaultCode::Open))));
+    assert!(rt; matches!(missing, Err(Fault::Plain(RunFaultCode::Open))));
 
     // A folder opens, and its first read fails.
     let Ok(folder) = open_source(&rt, ".") else {
@@ -368,8 +331,8 @@ fn opens_a_file_or_tells_that_it_cannot(rt: HostRuntime) -> Result<(), Fail> {
     let mut output = writer(rt.alloc());
     let mut faults = writer(rt.alloc());
     let status = run(rt.alloc(), &TOKENS, &mut reader, &mut output, &mut faults);
-    assert!(rt; output.taken.is_empty());
-    assert_eq!(rt; faults.taken.as_slice(), b"pyast: read failed\n".as_slice());
+    assert!(rt; output.taken().is_empty());
+    assert_eq!(rt; faults.taken(), b"pyast: read failed\n".as_slice());
     assert_eq!(rt; status, 3);
     Ok(())
 }

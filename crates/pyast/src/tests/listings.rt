@@ -1,6 +1,6 @@
 //! Worked listings: what `tokens` writes of a source, and the fault that it tells.
 
-use crate::command::Command;
+use crate::command::{Command, Tokens};
 use crate::run::run;
 use crate::tests::expected::{lists_as, reader, writer};
 use std::test::Fail;
@@ -309,12 +309,12 @@ fn shows_exact_names(rt: HostRuntime) -> Result<(), Fail> {
     let mut reader = reader(b"x //= 2\n");
     let mut output = writer(rt.alloc());
     let mut faults = writer(rt.alloc());
-    let command = Command::Tokens {
+    let command = Command::Tokens(Tokens {
         exact: true,
         count: None,
         resume: None,
         file: None,
-    };
+    });
     let status = run(rt.alloc(), &command, &mut reader, &mut output, &mut faults);
     let wanted = "0,0-0,0:            ENCODING       'utf-8'        \n\
                   1,0-1,1:            NAME           'x'            \n\
@@ -322,8 +322,8 @@ fn shows_exact_names(rt: HostRuntime) -> Result<(), Fail> {
                   1,6-1,7:            NUMBER         '2'            \n\
                   1,7-1,8:            NEWLINE        '\\n'           \n\
                   2,0-2,0:            ENDMARKER      ''             \n";
-    assert_eq!(rt; output.taken.as_slice(), wanted.as_bytes());
-    assert!(rt; faults.taken.is_empty());
+    assert_eq!(rt; output.taken(), wanted.as_bytes());
+    assert!(rt; faults.taken().is_empty());
     assert_eq!(rt; status, 0);
     Ok(())
 }
@@ -333,15 +333,15 @@ fn names_the_file_in_a_fault(rt: HostRuntime) -> Result<(), Fail> {
     let mut reader = reader(b"if (\n  $\n");
     let mut output = writer(rt.alloc());
     let mut faults = writer(rt.alloc());
-    let command = Command::Tokens {
+    let command = Command::Tokens(Tokens {
         exact: false,
         count: None,
         resume: None,
         file: Some(String::from_str(rt.alloc(), "dir/a b.py")?),
-    };
+    });
     let status = run(rt.alloc(), &command, &mut reader, &mut output, &mut faults);
     let wanted = "dir/a b.py:2:2: error: unexpected character\n";
-    assert_eq!(rt; faults.taken.as_slice(), wanted.as_bytes());
+    assert_eq!(rt; faults.taken(), wanted.as_bytes());
     assert_eq!(rt; status, 1);
     Ok(())
 }

@@ -1,9 +1,45 @@
 //! Which words give which command.
 
 use crate::command::{Command, UsageFault};
+use std::alloc::Global;
+use std::process::Abort;
 use std::test::Fail;
 
-// What words give, with blanks between them: `bad`, `malformed`, `help`, or the command and what it has.
+// What words give: `bad`, `malformed`, `help`, or the command and what it has.
+fn answer(rt: &impl Abort, alloc: Global, words: &[String]) -> Result<String, Fail> {
+    let mut given = String::new(alloc);
+    match Command::read(alloc, words) {
+        Ok(Command::Tokens(asked)) => {
+            given.push_str("tokens")?;
+            if asked.exact {
+                given.push_str(" exact")?;
+            }
+            if let Some(count) = asked.count {
+                let shown = format!(in alloc; " count {count}")?;
+                given.push_str(shown.as_str())?;
+            }
+            if let Some(cursor) = &asked.resume {
+                let text = cursor.to_text()?;
+                given.push_str(" behind ")?;
+                given.push_str(text.as_str())?;
+            }
+            if let Some(file) = &asked.file {
+                given.push_str(" of ")?;
+                given.push_str(file.as_str())?;
+            }
+        }
+        Err(UsageFault::BadArguments) => given.push_str("bad")?,
+        Err(UsageFault::MalformedCursor) => given.push_str("malformed")?,
+        Err(UsageFault::HelpAsked(text)) => {
+            assert!(rt; text.as_str().contains("tokens"));
+            given.push_str("help")?;
+        }
+        Err(UsageFault::Memory) => given.push_str("memory")?,
+    }
+    Ok(given)
+}
+
+// The words are given with blanks between them.
 #[test]
 fn reads_words(rt: HostRuntime) -> Result<(), Fail> {
     for (words, wanted) in [
@@ -58,69 +94,80 @@ fn reads_words(rt: HostRuntime) -> Result<(), Fail> {
         for word in words.split_whitespace() {
             owned.push(String::from_str(rt.alloc(), word)?)?;
         }
-        let mut given = String::new(rt.alloc());
-        match Command::read(rt.alloc(), owned.as_slice()) {
-            Ok(command) => {
-                let Command::Tokens { exact, count, .. } = &command;
-                given.push_str("tokens")?;
-                if *exact {
-                    given.push_str(" exact")?;
-                }
-                if let Some(count) = count {
-                    let shown = format!(in rt.alloc(); " count {count}")?;
-                    given.push_str(shown.as_str())?;
-                }
-                if let Some(file) = command.file() {
-                    given.push_str(" of ")?;
-                    given.push_str(file)?;
-                }
-            }
-            Err(UsageFault::BadArguments) => given.push_str("bad")?,
-            Err(UsageFault::MalformedCursor) => given.push_str("malformed")?,
-            Err(UsageFault::HelpAsked(text)) => {
-                assert!(rt; text.as_str().contains("tokens"), "at {words}");
-                given.push_str("help")?;
-            }
-            Err(UsageFault::Memory) => given.push_str("memory")?,
-        }
+        let given = answer(&rt, rt.alloc(), owned.as_slice())?;
         assert_eq!(rt; given.as_str(), wanted, "at {words}");
     }
     Ok(())
 }
 
-// A cursor is one word, though its text has blanks.
+// A cursor is one word, though its text has blanks. It stands between other words here.
 #[test]
 fn reads_cursors(rt: HostRuntime) -> Result<(), Fail> {
-    for (word, wanted) in [
-        ("pytok1 7 8 2 0 1 0 0,8", "pytok1 7 8 2 0 1 0 0,8"),
-        ("pytok1 07 8 2 0 1 0 0,8", "malformed"),
-        ("pytok1 0 0 0 0 0 0 0", "malformed"),
-        ("pytok1 0 0 1 0 2 0 0", "malformed"),
-        ("pytok1 0 0 1 0 0 0 0,2,1", "malformed"),
-        ("pytok1 18446744073709551616 0 1 0 0 0 0", "malformed"),
+    for (before, cursor, behind, wanted) in [
+        (
+            "",
+            "pytok1 7 8 2 0 1 0 0,8",
+            "",
+            "tokens behind pytok1 7 8 2 0 1 0 0,8",
+        ),
+        (
+            "-e --count 3",
+            "pytok1 7 8 2 0 1 0 0,8",
+            "a.py",
+            "tokens exact count 3 behind pytok1 7 8 2 0 1 0 0,8 of a.py",
+        ),
+        (
+            "a.py",
+            "pytok1 0 0 1 0 0 0 0",
+            "--count 0 -e",
+            "tokens exact count 0 behind pytok1 0 0 1 0 0 0 0 of a.py",
+        ),
+        ("", "pytok1 07 8 2 0 1 0 0,8", "", "malformed"),
+        (
+            "-e --count 3",
+            "pytok1 07 8 2 0 1 0 0,8",
+            "a.py",
+            "malformed",
+        ),
+        ("", "pytok1 0 0 0 0 0 0 0", "", "malformed"),
+        ("", "pytok1 0 0 1 0 2 0 0", "", "malformed"),
+        ("", "pytok1 0 0 1 0 0 0 0,2,1", "", "malformed"),
+        (
+            "",
+            "pytok1 18446744073709551616 0 1 0 0 0 0",
+            "",
+            "malformed",
+        ),
     ] {
         let mut words = Vec::new(rt.alloc());
-        for text in ["tokens", "--resume", word] {
-            words.push(String::from_str(rt.alloc(), text)?)?;
+        words.push(String::from_str(rt.alloc(), "tokens")?)?;
+        for word in before.split_whitespace() {
+            words.push(String::from_str(rt.alloc(), word)?)?;
         }
-        let mut given = String::new(rt.alloc());
-        match Command::read(rt.alloc(), words.as_slice()) {
-            Ok(command) => {
-                let Command::Tokens { resume, .. } = &command;
-                match resume {
-                    Some(cursor) => {
-                        let text = cursor.to_text()?;
-                        given.push_str(text.as_str())?;
-                    }
-                    None => given.push_str("none")?,
-                }
-            }
-            Err(UsageFault::MalformedCursor) => given.push_str("malformed")?,
-            Err(UsageFault::BadArguments) => given.push_str("bad")?,
-            Err(UsageFault::HelpAsked(text)) => given.push_str(text.as_str())?,
-            Err(UsageFault::Memory) => given.push_str("memory")?,
+        for word in ["--resume", cursor] {
+            words.push(String::from_str(rt.alloc(), word)?)?;
         }
-        assert_eq!(rt; given.as_str(), wanted, "at {word}");
+        for word in behind.split_whitespace() {
+            words.push(String::from_str(rt.alloc(), word)?)?;
+        }
+        let given = answer(&rt, rt.alloc(), words.as_slice())?;
+        assert_eq!(rt; given.as_str(), wanted, "at {before} {cursor} {behind}");
     }
+    Ok(())
+}
+
+// The help of `tokens` shows how it is called.
+#[test]
+fn helps_with_the_whole_call(rt: HostRuntime) -> Result<(), Fail> {
+    let mut words = Vec::new(rt.alloc());
+    for word in ["tokens", "-h"] {
+        words.push(String::from_str(rt.alloc(), word)?)?;
+    }
+    let Err(UsageFault::HelpAsked(text)) = Command::read(rt.alloc(), words.as_slice()) else {
+        assert!(rt; false);
+        return Ok(());
+    };
+    let usage = "\nUsage: pyast tokens [OPTIONS] [FILE]\n";
+    assert!(rt; text.as_str().contains(usage), "in {text}");
     Ok(())
 }

@@ -1,19 +1,23 @@
 use Rattle.std.proofs.Common.{refl}
-use Rattle.pyast.proofs.StartLemmas.{starts, starts_at, refused, misses, misses_stream}
+use Rattle.std.proofs.lemmas.Result.{err_from_is_err_and}
+use Rattle.pyast.proofs.StartLemmas.{starts, starts_at, refused, unresumed}
 use Rattle.pyast.proofs.run.begin.Goals as goal
 
-pub returns-in-Ok-clause-starts : goal.returns-in-Ok-clause-starts
-returns-in-Ok-clause-starts g c = rw c.in_default.is (starts _ _ _ _ _ _ 0 c.in-Ok.ensures.begins c.in-Ok.ensures.given (λ p more broken s. refl))
+pub returns-in_ok-new-in-None-clause-starts : goal.returns-in_ok-new-in-None-clause-starts
+returns-in_ok-new-in-None-clause-starts g c = rw c.in-None.is (starts _ _ _ _ _ _ 0 c.in_ok-new-in-None.ensures.begins.begins c.in_ok-new-in-None.ensures.given (λ p more broken s. refl))
 
-pub returns-in-Ok-resume_checked-clause-starts : goal.returns-in-Ok-resume_checked-clause-starts
-returns-in-Ok-resume_checked-clause-starts g c = rw c.in-Some.is (starts_at _ _ _ _ _ _ c.in-Ok-resume_checked.ensures.begins c.in-Ok-resume_checked.ensures.shown)
+pub returns-in_ok-resume_checked-in-Some-clause-starts :
+    goal.returns-in_ok-resume_checked-in-Some-clause-starts
+returns-in_ok-resume_checked-in-Some-clause-starts g c =
+    rw c.in-Some.is (starts_at _ _ _ _ _ _ c.in_ok-resume_checked-in-Some.ensures.begins c.in_ok-resume_checked-in-Some.ensures.shown)
 
-pub returns-in-Err-clause-refused : goal.returns-in-Err-clause-refused
-returns-in-Err-clause-refused g c = λ exact count taken. rw c.from.ensures (refused exact count _ _ _ _ _ c.in-Err.fault taken c.in-Err.ensures.refuses)
+pub returns-in_err-new-in-None-clause-refused : goal.returns-in_err-new-in-None-clause-refused
+returns-in_err-new-in-None-clause-refused g c =
+    let p = err_from_is_err_and c.from_residual.result c.from_residual.ensures.1 in
+    rw (p.1, p.2) (λ exact count taken. refused exact count _ _ _ _ _ c.in_err-new-in-None.field-0.0 taken c.in_err-new-in-None.ensures.refuses)
 
-pub returns-in-Err-Stream-clause-refused : goal.returns-in-Err-Stream-clause-refused
-returns-in-Err-Stream-clause-refused g c = λ exact count taken.
-    rw (c.in-Some.is, c.from-in-Err-Stream.ensures) (misses_stream exact count _ _ _ _ _ c.in-Err-Stream.fault taken (rw c.in-Err-Stream.field-0-is at c.in-Err-Stream.ensures.misses))
-
-pub returns-in-Err-AnotherSource-clause-refused : goal.returns-in-Err-AnotherSource-clause-refused
-returns-in-Err-AnotherSource-clause-refused g c = λ exact count taken. rw c.in-Some.is (misses exact count _ _ _ _ _ taken (rw c.in-Err-AnotherSource.field-0-is at c.in-Err-AnotherSource.ensures.misses))
+pub returns-in_err-resume_checked-in-Some-clause-refused :
+    goal.returns-in_err-resume_checked-in-Some-clause-refused
+returns-in_err-resume_checked-in-Some-clause-refused g c =
+    let p = err_from_is_err_and c.from_residual-in_err-resume_checked-in-Some.result c.from_residual-in_err-resume_checked-in-Some.ensures.1 in
+    rw (p.1, p.2, c.in-Some.is) (λ exact count taken. unresumed exact count _ _ _ _ _ c.in_err-resume_checked-in-Some.field-0.0 taken c.in_err-resume_checked-in-Some.ensures.misses)

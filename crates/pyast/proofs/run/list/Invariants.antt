@@ -1,6 +1,7 @@
 use Rattle.std.proofs.Common.{◌≡◌, ◌+◌, ◌-◌, ◌^◌, ◌<◌, string_bytes}
 use Rattle.pysource.specs.Taking.{fails}
-use Rattle.pyast.proofs.ListLemmas.{Came, MOST}
+use Rattle.pylex.specs.Steps.{most_entries}
+use Rattle.pyast.proofs.ListLemmas.{Came}
 use Rattle.pyast.proofs.run.list.Given as goal
 
 abbrev pub invariant-loop-left : goal.invariant-loop-left
@@ -12,4 +13,4 @@ invariant-loop-left g l = record {
 }
 
 abbrev pub decreases-loop-left : goal.decreases-loop-left
-decreases-loop-left g l = MOST - l.lister.shown.given
+decreases-loop-left g l = most_entries - l.lister.shown.given

@@ -1,18 +1,18 @@
 use Rattle.std.proofs.Common.{◌≡◌, Some, ap}
-use Rattle.pysource.specs.declared.bytes.TheConstants.{SOURCE_LIMIT}
+use Rattle.pysource.specs.Limits.{source_limit}
 use Rattle.pyast.specs.declared.fault.Fault.TheVariants.{Plain}
-use Rattle.pyast.specs.declared.fault.FaultCode.TheVariants.{Write}
+use Rattle.pyast.specs.declared.fault.RunFaultCode.TheVariants.{Write}
 use Rattle.pyast.specs.Runs.{output_of, fault_in}
 use Rattle.pyast.proofs.RunLemmas.{Performs-told, told-plain}
 use Rattle.pyast.proofs.run.run.Goals as goal
 
-pub returns : goal.returns
-returns g c =
+pub returns-in-Err : goal.returns-in-Err
+returns-in-Err g c =
     let p = rw c.in-Err.is at c.perform.ensures in
     let told = c.tell.result in
     let same = c.tell.ensures.same in
     let write = told-plain c.in-Err.fault told Write (λ e. cc) same in
-    let output = Performs-told (output_of c.args.command.now) (fault_in c.args.command.now) _ _ _ _ _ _ SOURCE_LIMIT c.in-Err.fault told same p.performs in (
+    let output = Performs-told (output_of c.args.command.now) (fault_in c.args.command.now) _ _ _ _ _ _ source_limit c.in-Err.fault told same p.performs in (
       Some told,
       record {
         status = c.status.ensures;

@@ -1,8 +1,8 @@
 use Rattle.std.proofs.Common.{◌<◌, sym, ◌∙◌, ap, subst, length, ℕ, List, true}
 use Rattle.pylexeme.specs.Chars.{begins, is_comment_part}
-use Rattle.pylexeme.specs.Strings.{units}
+use Rattle.pylexeme.specs.Strings.{units, quote_char}
 use Rattle.pylexeme.specs.Lexemes.{ends_by_join}
-use Rattle.pylexeme.proofs.Units.{quote_is}
+use Rattle.pylexeme.proofs.Units.{mark_is}
 use Rattle.pylexeme.proofs.Triples.{unit_shorter}
 use Rattle.pylexeme.proofs.OpenStrings.{join_last, join_step}
 use Rattle.pylexeme.proofs.string.ends_by_join.Goals as goal
@@ -10,7 +10,7 @@ use Rattle.pylexeme.proofs.string.ends_by_join.Goals as goal
 pub returns-then-not-has_next-2 : goal.returns-then-not-has_next-2
 returns-then-not-has_next-2 c =
     c.has_join-joins.ensures
-    ∙ join_last c.args.quote c.loop-quote.text (quote_is c.args.quote c.requires) (sym c.if-has_next.ensures) (sym c.if-not-has_next.ensures) (ap (begins (λ d. true)) (sym c.unit.ensures) ∙ sym c.if-not-has_next-2.ensures)
+    ∙ join_last (quote_char c.args.quote) c.loop-quote.text (mark_is c.args.quote) (sym c.if-has_quote.ensures) (sym c.if-not-has_next.ensures) (ap (begins (λ d. true)) (sym c.unit.ensures) ∙ sym c.if-not-has_next-2.ensures)
     ∙ c.loop-quote.invariant
 
 pub loop-quote-smaller : goal.loop-quote-smaller
@@ -18,6 +18,6 @@ loop-quote-smaller c = subst (λ (u : List ℕ). length u < length c.loop-quote.
 
 pub loop-quote-preserved : goal.loop-quote-preserved
 loop-quote-preserved c =
-    ap (λ (u : List ℕ). ends_by_join c.args.quote (units u)) c.unit.ensures
-    ∙ join_step c.args.quote c.loop-quote.text (quote_is c.args.quote c.requires) (sym c.if-has_next.ensures) (sym c.if-not-has_next.ensures) (ap (begins (λ d. true)) (sym c.unit.ensures) ∙ sym c.if-not-has_next-2.ensures)
+    ap (λ (u : List ℕ). ends_by_join (quote_char c.args.quote) (units u)) c.unit.ensures
+    ∙ join_step (quote_char c.args.quote) c.loop-quote.text (mark_is c.args.quote) (sym c.if-has_quote.ensures) (sym c.if-not-has_next.ensures) (ap (begins (λ d. true)) (sym c.unit.ensures) ∙ sym c.if-not-has_next-2.ensures)
     ∙ c.loop-quote.invariant

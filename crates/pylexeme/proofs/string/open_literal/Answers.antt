@@ -1,7 +1,8 @@
 use Rattle.std.proofs.Common.{sym, ◌∙◌, ap, subst, ℕ, List}
+use Rattle.pylexeme.specs.Strings.{quote_char}
 use Rattle.pylexeme.specs.Lexemes.{is_open_string}
 use Rattle.pylexeme.specs.OpenLiterals.{IsOpenBy}
-use Rattle.pylexeme.proofs.StringBest.{which}
+use Rattle.pylexeme.proofs.StringBest.{which_mark}
 use Rattle.pylexeme.proofs.OpenStrings.{open_none}
 use Rattle.pylexeme.proofs.OpenLiterals.{opened, unopened}
 use Rattle.pylexeme.proofs.string.open_literal.Goals as goal
@@ -12,9 +13,9 @@ returns-in_default-clause-none c = ap is_open_string (sym c.new-left.ensures) �
 pub returns-then-is_open-clause-some : goal.returns-then-is_open-clause-some
 returns-then-is_open-clause-some c =
     subst (λ (cs : List ℕ). IsOpenBy (record { quote = c.quote_here-quote.result; triple = c.has_three-triple.result }) cs) c.new-left.ensures
-    (opened _ c.in-Some.prefix_len c.new-left.result c.bump_count.new.self (which c.quote_here-quote.result c.quote_here-quote.ensures.is_quote) c.in-Some.ensures.some c.bump_count.ensures c.quote_here-quote.ensures.here c.has_three-triple.ensures c.if-is_open.ensures)
+    (opened _ c.in-Some.prefix_len c.new-left.result c.bump_count.new.self (which_mark c.quote_here-quote.result) c.in-Some.ensures.some c.bump_count.ensures c.quote_here-quote.ensures c.has_three-triple.ensures c.if-is_open.ensures)
 
 pub returns-clause-none : goal.returns-clause-none
 returns-clause-none c =
     ap is_open_string (sym c.new-left.ensures)
-    ∙ unopened c.quote_here-quote.result c.in-Some.prefix_len c.new-left.result c.bump_count.new.self (which c.quote_here-quote.result c.quote_here-quote.ensures.is_quote) c.in-Some.ensures.some c.bump_count.ensures c.quote_here-quote.ensures.here c.if-is_open.ensures
+    ∙ unopened (quote_char c.quote_here-quote.result) c.in-Some.prefix_len c.new-left.result c.bump_count.new.self (which_mark c.quote_here-quote.result) c.in-Some.ensures.some c.bump_count.ensures c.quote_here-quote.ensures c.if-is_open.ensures

@@ -1,11 +1,11 @@
-use Rattle.std.proofs.Common.{sym, ◌∙◌, ◌≡◌, ◌+◌, ◌-◌, ap, ℕ, List, Some, None, Option, arith, rules, take, length, take-take}
-use Rattle.std.specs.Prelude.{count_by}
+use Rattle.std.proofs.Common.{sym, ◌∙◌, ◌≡◌, ◌-◌, ap, ℕ, List, Some, None, Option, arith, rules, take, length, take-take}
 use Rattle.std.specs.List.{after_last}
 use Rattle.std.specs.Str.{chars}
 use Rattle.std.proofs.lemmas.List.{length-take-le}
-use Rattle.pysource.specs.Places.{is_lf}
+use Rattle.pysource.specs.Places.{is_lf, place_after}
 use Rattle.pysource.specs.declared.places.Place.{Place}
 use Rattle.pysource.specs.declared.faults.LineFault.{LineFault}
+use Rattle.pysource.proofs.CharPlaces.{place_by_bytes}
 use Rattle.pysource.proofs.CutLemmas.{told_all, last_boundary}
 use Rattle.pysource.proofs.sources.good_part.Goals as goal
 
@@ -38,5 +38,5 @@ returns-in-Some-clause-fault c =
     let t = c.args.bytes.now in
     let told = (told_all c.args.charset 1 t (Some (at, c.in-Some.code)) c.in-Some.ensures.value).1 in
     let before : take at c.from_utf8_unchecked-before.result.now ≡ take at t = ap (take at) c.from_utf8_unchecked-before.ensures ∙ take-take at at t (omega arith) in
-    let place = c.place_of-place.ensures ∙ ap (λ (x : List ℕ). let p : Place = record { row = 1 + count_by is_lf x; column = length (chars (after_last is_lf x)) } in p) before in
+    let place = c.place_of-place.ensures ∙ ap (λ (x : List ℕ). place_after (chars x)) before ∙ place_by_bytes (take at t) c.in-Some.ensures.front.1 in
     ap (λ (p : Place). let f : Option LineFault = Some (record { code = c.in-Some.code; place = p }) in f) place ∙ sym told

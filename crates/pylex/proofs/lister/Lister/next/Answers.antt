@@ -8,6 +8,7 @@ use Rattle.pylex.specs.declared.entries.Entry.{Entry}
 use Rattle.pylex.specs.declared.entries.Step.{Step}
 use Rattle.pylex.specs.declared.entries.Step.TheVariants as steps
 use Rattle.pylex.specs.declared.position.Meets.{Meets}
+use Rattle.pylex.specs.declared.position.Position.{Position}
 use Rattle.pylex.specs.declared.position.Meets.TheVariants as meets
 use Rattle.pylex.specs.Listing.{of_line}
 use Rattle.pylex.specs.Listers.{Listed, Moves, AwaitsIndent}
@@ -45,12 +46,12 @@ seen old same step new e m = rw (← e) m
 pub invariant_of-self : goal.invariant_of-self
 invariant_of-self c =
     let p = c.self.inside.position in
-    (goes_first (record { source = c.self.inside.source.now; shown = shown_from p }) p.now c.self.inside.left.now p.levels.items p.nested p.tail c.mark.result c.self.invariant c.if-self-eq0.true c.mark.ensures).keeps
+    rw c.begin.ensures.given (goes_first (record { source = c.self.inside.source.now; shown = shown_from p }) p.now c.self.inside.left.now p.levels.items p.nested p.tail c.begin.result c.self.invariant (c.is_at_start.ensures.start c.if-is_at_start.true) c.begin.ensures.entry).keeps
 
-pub returns-then-self-eq0-clause-moves : goal.returns-then-self-eq0-clause-moves
-returns-then-self-eq0-clause-moves c =
+pub returns-then-is_at_start-clause-moves : goal.returns-then-is_at_start-clause-moves
+returns-then-is_at_start-clause-moves c =
     let p = c.self.inside.position in
-    moves_from _ _ _ _ c.self.view_is (goes_first (record { source = c.self.inside.source.now; shown = shown_from p }) p.now c.self.inside.left.now p.levels.items p.nested p.tail c.mark.result c.self.invariant c.if-self-eq0.true c.mark.ensures).leads
+    rw c.begin.ensures.given (moves_from _ _ _ _ c.self.view_is (goes_first (record { source = c.self.inside.source.now; shown = shown_from p }) p.now c.self.inside.left.now p.levels.items p.nested p.tail c.begin.result c.self.invariant (c.is_at_start.ensures.start c.if-is_at_start.true) c.begin.ensures.entry).leads)
 
 pub go-requires-clause-place : goal.go-requires-clause-place
 go-requires-clause-place c = has_place c.self.inside.source.now c.self.inside.position c.self.inside.left.now c.self.invariant
@@ -58,7 +59,7 @@ go-requires-clause-place c = has_place c.self.inside.source.now c.self.inside.po
 pub returns-in_err-step-clause-indent : goal.returns-in_err-step-clause-indent
 returns-in_err-step-clause-indent c =
     let p = c.self.inside.position in
-    let some : 0 < p.given = omega (arith, c.if-self-eq0.false) in
+    let some : 0 < p.given = c.is_at_start.ensures.behind c.if-is_at_start.false in
     let indent = c.in_err-step.ensures.indent in
     let none : p.tail ≡ 0 = not_stopped p.tail c.meet-meets.result.0 c.meet-meets.ensures.stop indent in
     let found = rw indent at c.meet-meets.ensures.finds in
@@ -80,7 +81,18 @@ returns-in-Entry-clause-moves c =
     let g = c.in_ok-step.ensures.went.goes c.self.inside.source.now c.self.inside.left.now c.meet-meets.result.2.now c.self.invariant c.meet-meets.ensures.finds c.meet-meets.ensures.stands (alike c.self.inside.source.now.fault c.line_fault-fault.result c.meet-meets.result.1 (chars c.meet-meets.result.2.now) c.meet-meets.result.0 c.line_fault-fault.ensures) in
     seen _ _ _ _ c.self.view_is g.0
 
+pub returns-in-Entry-clause-given : goal.returns-in-Entry-clause-given
+returns-in-Entry-clause-given c =
+    let g = c.in_ok-step.ensures.went.goes c.self.inside.source.now c.self.inside.left.now c.meet-meets.result.2.now c.self.invariant c.meet-meets.ensures.finds c.meet-meets.ensures.stands (alike c.self.inside.source.now.fault c.line_fault-fault.result c.meet-meets.result.1 (chars c.meet-meets.result.2.now) c.meet-meets.result.0 c.line_fault-fault.ensures) in
+    (has_place c.self.inside.source.now c.go.new.self _ g.1).given
+
+pub returns-in_err-step-clause-given : goal.returns-in_err-step-clause-given
+returns-in_err-step-clause-given c =
+    let few = (has_place c.self.inside.source.now c.self.inside.position c.self.inside.left.now c.self.invariant).given in
+    let same = ap (λ (p : Position). p.given) c.in_err-step.ensures.same.0 in
+    omega arith
+
 pub returns-in_default : goal.returns-in_default
 returns-in_default c =
     let g = c.in_ok-step.ensures.went.goes c.self.inside.source.now c.self.inside.left.now c.meet-meets.result.2.now c.self.invariant c.meet-meets.ensures.finds c.meet-meets.ensures.stands (alike c.self.inside.source.now.fault c.line_fault-fault.result c.meet-meets.result.1 (chars c.meet-meets.result.2.now) c.meet-meets.result.0 c.line_fault-fault.ensures) in
-    record { moves = seen _ _ _ _ c.self.view_is g.0; source = ap (λ (l : Listed). l.source) c.self.view_is; same = tt; indent = tt }
+    record { moves = seen _ _ _ _ c.self.view_is g.0; source = ap (λ (l : Listed). l.source) c.self.view_is; same = tt; indent = tt; given = (has_place c.self.inside.source.now c.go.new.self _ g.1).given }

@@ -1,9 +1,11 @@
-use Rattle.std.proofs.Common.{◌≡◌, ◌+◌, ℕ, subst, ap, arith, rules}
+use Rattle.std.proofs.Common.{◌≡◌, ◌+◌, ℕ, subst, ap, sym, ◌∙◌, arith, rules}
+use Rattle.pylex.specs.Cursors.{cursor}
 use Rattle.pylex.specs.Listing.{in_characters}
 use Rattle.pylex.specs.Steps.{entries_in}
 use Rattle.pylex.specs.Listers.{StandsIn}
 use Rattle.pylex.proofs.Moving.{entry_due}
 use Rattle.pylex.proofs.lister.Lister.resume_checked.Goals as goal
+use Rattle.pylex.proofs.Callers.{is_behind}
 
 pub returns-in_default-step : goal.returns-in_default-step
 returns-in_default-step c =
@@ -12,7 +14,8 @@ returns-in_default-step c =
     record {
       lister = tt;
       own = tt;
-      another = λ _ is. let w = is.within in let due = entry_due a c.loop-given._given c.in-Ok.step (omega arith) moved.0 in c.in_default-step.not-Entry due.0 due.1;
+      leads = tt;
+      another = λ _ is. let w = (is_behind is).within in let due = entry_due a c.loop-given._given c.in-Ok.step (omega arith) moved.0 in c.in_default-step.not-Entry due.0 due.1;
       fault = λ e. absurd cc;
     }
 
@@ -25,3 +28,14 @@ loop-given-preserved c =
       stands = subst (λ (n : ℕ). StandsIn c.next.new.self a (c.loop-given._given + n)) one moved.1;
       source = search rules;
     }
+
+pub returns-then-not-shows-clause-another : goal.returns-then-not-shows-clause-another
+returns-then-not-shows-clause-another c = λ _ own.
+    let a = in_characters c.args.source.now in
+    let stands = c.loop-given.invariant.stands in
+    let end : c.loop-given._given ≡ c.args.cursor.now.given = omega (arith, c.loop-given-test.false, c.loop-given.auto._given-end, c.given-given-end.ensures) in
+    let same : c.args.cursor.now ≡ c.loop-given.lister.shown = (is_behind own).is ∙ ap (cursor a) (sym end ∙ sym stands.count) ∙ sym (is_behind stands.cursor).is in
+    let t = c.shows.ensures.1 same in
+    let n = c.if-not-shows.ensures in
+    let f = rw (n, t) at c.if-not-shows.true in
+    cc

@@ -1,23 +1,32 @@
-use Rattle.std.proofs.Common.{arith, inr}
+use Rattle.std.proofs.Common.{inr, refl}
 use Rattle.pylex.proofs.AheadOn.{ahead_none}
 use Rattle.pylex.proofs.Searching.{searches_none}
-use Rattle.pylex.proofs.Steppings.{drop_last, streaming_first, steps_first, steps_last}
+use Rattle.pylex.proofs.Steppings.{drop_last, place_held, streaming_first, steps_first, steps_last}
 use Rattle.pylex.proofs.stream.LineLister.next.Goals as goal
 
 pub invariant_of-self : goal.invariant_of-self
-invariant_of-self g c = streaming_first c.self.inside.position c.self.inside.chunk c.self.inside.last c.mark-entry.result c.if-self-eq0.true c.mark-entry.ensures c.self.invariant
+invariant_of-self g c = rw c.begin-entry.ensures.given (streaming_first c.self.inside.position c.self.inside.chunk c.self.inside.last c.begin-entry.result (c.is_at_start.ensures.start c.if-is_at_start.true) c.begin-entry.ensures.entry c.self.invariant)
 
-pub returns-then-self-eq0 : goal.returns-then-self-eq0
-returns-then-self-eq0 g c = rw (← c.self.view_is) (steps_first c.self.inside.position c.self.inside.chunk c.self.inside.last c.mark-entry.result c.if-self-eq0.true c.mark-entry.ensures c.self.invariant (g.R.ByteIn.to_come c.args.reader.now) (g.R.ByteIn.failure_count c.args.reader.now))
+pub returns-then-is_at_start-clause-steps : goal.returns-then-is_at_start-clause-steps
+returns-then-is_at_start-clause-steps g c = rw (c.begin-entry.ensures.given, ← c.self.view_is) (steps_first c.self.inside.position c.self.inside.chunk c.self.inside.last c.begin-entry.result (c.is_at_start.ensures.start c.if-is_at_start.true) c.begin-entry.ensures.entry c.self.invariant (g.R.ByteIn.to_come c.args.reader.now) (g.R.ByteIn.failure_count c.args.reader.now))
 
 pub look-found-requires : goal.look-found-requires
 look-found-requires g c = drop_last c.self.inside.position c.self.inside.chunk c.self.inside.last c.self.invariant
 
-pub returns-then-self-len : goal.returns-then-self-len
-returns-then-self-len g c = rw (← c.self.view_is) (steps_last _ _ _ _ c.self.inside.position c.self.inside.chunk c.self.inside.last _ _ c.next_behind-step.ensures)
+pub returns-then-self-len-clause-steps : goal.returns-then-self-len-clause-steps
+returns-then-self-len-clause-steps g c = rw (← c.self.view_is) (steps_last _ _ _ _ c.self.inside.position c.self.inside.chunk c.self.inside.last _ _ c.next_behind-step.ensures.steps)
 
-pub returns-in_default : goal.returns-in_default
-returns-in_default g c = rw (← c.self.view_is) (steps_last _ _ _ _ c.self.inside.position c.self.inside.chunk c.self.inside.last _ _ c.next_behind-step-in_default.ensures)
+pub returns-in_default-clause-steps : goal.returns-in_default-clause-steps
+returns-in_default-clause-steps g c = rw (← c.self.view_is) (steps_last _ _ _ _ c.self.inside.position c.self.inside.chunk c.self.inside.last _ _ c.next_behind-step-in_default.ensures.steps)
 
-pub returns : goal.returns
-returns g c = rw (← c.self.view_is) (c.pass.ensures.passes _ _ _ _ c.self.inside.position c.self.inside.chunk c.self.inside.last (searches_none _ _ _ _ (drop_last c.self.inside.position c.self.inside.chunk c.self.inside.last c.self.invariant)) (omega (arith, c.if-self-eq0.false)) (inr (ahead_none c.self.inside.chunk.lines)))
+pub returns-clause-steps : goal.returns-clause-steps
+returns-clause-steps g c = rw (← c.self.view_is) (c.pass.ensures.passes _ _ _ _ c.self.inside.position c.self.inside.chunk c.self.inside.last (searches_none _ _ _ _ (drop_last c.self.inside.position c.self.inside.chunk c.self.inside.last c.self.invariant)) (c.is_at_start.ensures.behind c.if-is_at_start.false) (inr (ahead_none c.self.inside.chunk.lines)))
+
+pub returns-clause-given : goal.returns-clause-given
+returns-clause-given g c = (place_held _ _ _ c.pass.ensures.streaming).given
+
+pub returns-then-is_at_start-clause-steady : goal.returns-then-is_at_start-clause-steady
+returns-then-is_at_start-clause-steady g c = (refl, λ _. refl)
+
+pub returns-clause-steady : goal.returns-clause-steady
+returns-clause-steady g c = (refl, λ _. refl)

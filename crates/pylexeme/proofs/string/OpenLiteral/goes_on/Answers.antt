@@ -1,6 +1,6 @@
 use Rattle.std.proofs.Common.{sym, ◌∙◌, ap, ℕ, List}
 use Rattle.std.specs.Str.{chars}
-use Rattle.pylexeme.specs.Strings.{units}
+use Rattle.pylexeme.specs.Strings.{units, quote_char}
 use Rattle.pylexeme.specs.Lexemes.{ends_by_join}
 use Rattle.pylexeme.specs.Lengths.{triple_len}
 use Rattle.pylexeme.proofs.OpenLiterals.{unclosed, triple_on, single_on}
@@ -9,9 +9,9 @@ use Rattle.pylexeme.proofs.string.OpenLiteral.goes_on.Goals as goal
 pub returns-then-self : goal.returns-then-self
 returns-then-self c =
     λ u. triple_on c.args.self (chars c.args.line.now) c.if-self.true
-    (ap (triple_len c.args.self.quote) (sym c.new-left.ensures) ∙ unclosed c.close_triple.result (triple_len c.args.self.quote c.new-left.result) c.close_triple.ensures.found u)
+    (ap (triple_len (quote_char c.args.self.quote)) (sym c.new-left.ensures) ∙ unclosed c.close_triple.result (triple_len (quote_char c.args.self.quote) c.new-left.result) c.close_triple.ensures.found u)
 
 pub returns : goal.returns
 returns c =
     λ u. single_on c.args.self (chars c.args.line.now) c.if-self.false
-    (ap (λ (cs : List ℕ). ends_by_join c.args.self.quote (units cs)) (sym c.new-left.ensures) ∙ sym c.ends_by_join.ensures ∙ u)
+    (ap (λ (cs : List ℕ). ends_by_join (quote_char c.args.self.quote) (units cs)) (sym c.new-left.ensures) ∙ sym c.ends_by_join.ensures ∙ u)

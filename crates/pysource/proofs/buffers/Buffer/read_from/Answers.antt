@@ -4,8 +4,8 @@ use Rattle.pysource.proofs.ByteLemmas.{Keeps-Consumes}
 use Rattle.pysource.proofs.BufferLemmas.{read_view, read_view_none, put_size}
 use Rattle.pysource.proofs.buffers.Buffer.read_from.Goals as goal
 
-pub returns-in-Ok : goal.returns-in-Ok
-returns-in-Ok g c =
+pub returns-in-Ok-clause-gave : goal.returns-in-Ok-clause-gave
+returns-in-Ok-clause-gave g c =
     let xs = c.deref_mut.result.now in
     let buf = c.read.new.buf in
     let from = c.in_ok-from.from in
@@ -32,8 +32,8 @@ returns-in-Ok g c =
       told = omega (arith, c.in-Ok.ensures.failed);
     }
 
-pub returns-in-Err : goal.returns-in-Err
-returns-in-Err g c =
+pub returns-in-Err-clause-gave : goal.returns-in-Err-clause-gave
+returns-in-Err-clause-gave g c =
     let xs = c.deref_mut.result.now in
     let buf = c.read.new.buf in
     let from = c.in_ok-from.from in

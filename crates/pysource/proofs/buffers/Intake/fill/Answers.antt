@@ -27,7 +27,7 @@ returns-then-left-eq0-clause-grows g c = record {
 
 pub returns-in_err-read_from-clause-grows : goal.returns-in_err-read_from-clause-grows
 returns-in_err-read_from-clause-grows g c =
-    let e = c.in_err-read_from.ensures in
+    let e = c.in_err-read_from.ensures.gave in
     record {
       taken = [];
       takes = rw c.requires.reading (Takes-some _ _ _ _ _ _ [] e.consumes (omega arith) (λ h. h) (omega (arith, e.told)));
@@ -36,7 +36,7 @@ returns-in_err-read_from-clause-grows g c =
 
 pub returns-in-None-clause-grows : goal.returns-in-None-clause-grows
 returns-in-None-clause-grows g c =
-    let e = rw c.in-None.is at c.in_ok-read_from.ensures in
+    let e = rw c.in-None.is at c.in_ok-read_from.ensures.gave in
     record {
       taken = [];
       takes = rw c.requires.reading (Takes-failed _ _ _ _ _ e.consumes e.told);

@@ -1,0 +1,90 @@
+//! The encoding that the first two lines declare, as Python 3.11 finds it.
+
+use pysource::{Charset, Encoding, SourceFault, encoding_of, place_of};
+use std::test::Fail;
+
+/// What was found: the name, or the fault with its row and column.
+fn told(found: &Result<Encoding, SourceFault>) -> (&str, usize, usize) {
+    match found {
+        Ok(encoding) => (encoding.text(), 0, 0),
+        Err(SourceFault::UnsupportedEncoding(place)) => ("unsupported", place.row, place.column),
+        Err(SourceFault::BomConflict(place)) => ("conflict", place.row, place.column),
+        Err(SourceFault::Memory) => ("memory", 0, 0),
+    }
+}
+
+#[test]
+fn finds_encodings(rt: HostRuntime) -> Result<(), Fail> {
+    let rows: [(&[u8], &[u8], (&str, usize, usize)); 18] = [
+        (b"", b"", ("utf-8", 0, 0)),
+        (b"# coding: US_ASCII\n", b"", ("US_ASCII", 0, 0)),
+        (b"# coding: UTF-8-SIG\n", b"", ("utf-8", 0, 0)),
+        (
+            b"# -*- Coding: latin-1 -*- coding=Utf_8\n",
+            b"",
+            ("utf-8", 0, 0),
+        ),
+        (b"\t# vim: set fileencoding=utf8 :\n", b"", ("utf8", 0, 0)),
+        (b"#coding:\tascii", b"", ("ascii", 0, 0)),
+        (b"# coding : ascii\n", b"", ("utf-8", 0, 0)),
+        (b"# coding: utf-8x\n", b"", ("unsupported", 1, 0)),
+        (
+            b"# coding: latin-1\n",
+            b"# coding: utf-8\n",
+            ("unsupported", 1, 0),
+        ),
+        (b"x # coding: latin-1\n", b"", ("utf-8", 0, 0)),
+        (b"\xEF\xBB\xBF# coding: ascii\n", b"", ("conflict", 1, 0)),
+        (b"\xEF\xBB\xBF# coding: utf8\n", b"", ("utf-8", 0, 0)),
+        (b"\xEF\xBB\xBF\n", b"# coding: ascii\n", ("conflict", 2, 0)),
+        (b"# x\n", b"# coding: latin-1\n", ("unsupported", 2, 0)),
+        (
+            b" \t\x0C\r\n",
+            b"# coding: latin-1\n",
+            ("unsupported", 2, 0),
+        ),
+        (b"x = 1\n", b"# coding: latin-1\n", ("utf-8", 0, 0)),
+        (b"# \xFF\n", b"# coding: latin-1\n", ("unsupported", 2, 0)),
+        (b"\n", b"#coding=ASCII", ("ASCII", 0, 0)),
+    ];
+    for (first, second, expected) in rows {
+        let found = encoding_of(first, second);
+        assert_eq!(rt; told(&found), expected, "at {first:?} and {second:?}");
+    }
+    Ok(())
+}
+
+#[test]
+fn tells_charsets(rt: HostRuntime) -> Result<(), Fail> {
+    for (first, charset) in [
+        (b"".as_slice(), Charset::Utf8),
+        (b"# coding: utf8\n".as_slice(), Charset::Utf8),
+        (b"# coding: US_ASCII\n".as_slice(), Charset::Ascii),
+    ] {
+        match encoding_of(first, b"") {
+            Ok(encoding) => assert_eq!(rt; encoding.charset(), charset, "at {first:?}"),
+            Err(_) => assert!(rt; false, "at {first:?}"),
+        }
+    }
+    Ok(())
+}
+
+#[test]
+fn names_faults(rt: HostRuntime) -> Result<(), Fail> {
+    let place = place_of("", 0);
+    for (fault, text) in [
+        (
+            SourceFault::UnsupportedEncoding(place),
+            "unsupported encoding",
+        ),
+        (
+            SourceFault::BomConflict(place),
+            "byte order mark with another encoding",
+        ),
+        (SourceFault::Memory, "out of memory"),
+    ] {
+        let shown = format!(in rt.alloc(); "{fault}")?;
+        assert_eq!(rt; shown.as_str(), text);
+    }
+    Ok(())
+}

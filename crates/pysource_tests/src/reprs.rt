@@ -1,0 +1,58 @@
+//! What Python's `repr` writes.
+
+use pysource::{is_plain_text, push_repr, repr_bytes, repr_text};
+use std::test::Fail;
+
+#[test]
+fn shows_texts(rt: HostRuntime) -> Result<(), Fail> {
+    for (text, expected) in [
+        ("", "''"),
+        ("a b~", "'a b~'"),
+        ("it's", "\"it's\""),
+        ("a\"b", "'a\"b'"),
+        ("'\"", "'\\'\"'"),
+        ("\n", "'\\n'"),
+        ("\r\n", "'\\r\\n'"),
+        ("\\t\t", "'\\\\t\\t'"),
+        ("\u{A0}", "'\\xa0'"),
+        ("\u{1F600}", "'\u{1F600}'"),
+        ("é", "'é'"),
+        ("\u{7F}\0", "'\\x7f\\x00'"),
+        ("\u{3000}\u{2028}", "'\\u3000\\u2028'"),
+        ("\u{E000}", "'\\ue000'"),
+        ("\u{10FFFF}", "'\\U0010ffff'"),
+        ("'''doc\nline'''", "\"'''doc\\nline'''\""),
+    ] {
+        let mut out = String::from_str(rt.alloc(), "> ")?;
+        push_repr(&mut out, text)?;
+        assert!(rt; out.as_str().starts_with("> "));
+        assert_eq!(rt; &out.as_bytes()[2..], expected.as_bytes(), "at {text:?}");
+    }
+    let halves = repr_text(rt.alloc(), &[0xD800, 0x27])?;
+    assert_eq!(rt; halves.as_str(), "\"\\ud800'\"");
+    Ok(())
+}
+
+#[test]
+fn shows_bytes(rt: HostRuntime) -> Result<(), Fail> {
+    for (bytes, expected) in [
+        (b"".as_slice(), "b''"),
+        (b"\x00'".as_slice(), "b\"\\x00'\""),
+        (
+            b"\t\n\r\\\x7F\xFF~ '\"".as_slice(),
+            "b'\\t\\n\\r\\\\\\x7f\\xff~ \\'\"'",
+        ),
+    ] {
+        let text = repr_bytes(rt.alloc(), bytes)?;
+        assert_eq!(rt; text.as_str(), expected, "at {bytes:?}");
+    }
+    Ok(())
+}
+
+#[test]
+fn tells_plain_texts(rt: HostRuntime) -> Result<(), Fail> {
+    for (text, plain) in [("", true), ("a b~", true), ("it's", false), ("\\", false)] {
+        assert_eq!(rt; is_plain_text(text), plain, "at {text:?}");
+    }
+    Ok(())
+}
