@@ -1,4 +1,4 @@
--- Surrogates are unprintable, and the characters of ASCII from the space to the tilde are printable.
+-- Surrogates and numbers past the code points are unprintable, and the characters of ASCII from the space to the tilde are printable.
 use Rattle.std.proofs.Common.{◌≡◌, ℕ, ◌<◌, ◌≤◌, Bool, true, false, not, ◌||◌, [], ◌∷◌, List, inl, inr, refl, sym, ap, arith}
 use Rattle.std.proofs.lemmas.Bool.{cases_eq, eq-eqb, le-leb, ne_eqb, and_from, or_left}
 use Rattle.std.proofs.Math.Bool.{and-false}
@@ -6,7 +6,7 @@ use Rattle.std.specs.Prelude.{◌==◌}
 use Rattle.std.specs.Char.{OutOfScalarRange}
 use Rattle.ucd_table.specs.Rows.{Range, in_ranges}
 use Rattle.ucd_table.proofs.Stepped.{of_ranges, zip_stepped}
-use Rattle.ucd_table.proofs.Facts.{Stepped-always}
+use Rattle.ucd_table.proofs.Facts.{Stepped-always, Stepped-beyond}
 use Rattle.ucd_category.proofs.Computing.{ucd_category}
 use Rattle.ucd_category.proofs.GeneralCategoryLemmas.{general_category_stepped}
 use Rattle.ucd_category.specs.declared.GeneralCategory.{GeneralCategory}
@@ -55,14 +55,22 @@ surrogate_other c low high =
     let whole = surrogates_other c (omega arith) in
     rw (above, below) at whole
 
--- a code point that is no character
-pub unprintable_surrogate : (c : ℕ) → OutOfScalarRange c → c ≤ 0x10_FFFF → is_unprintable c ≡ true
-unprintable_surrogate c out le = elim out [
-  | inl within ↦
-      let space = ne_eqb c 32 (λ e. absurd (omega arith)) in
-      and_from (not (c == 32)) (in_group Other (general_category c) || in_group Separator (general_category c)) (ap not space)
-      (or_left (in_group Other (general_category c)) (in_group Separator (general_category c)) (surrogate_other c within.0 (omega arith)))
-  | inr beyond ↦ absurd (omega arith)
+-- a number past the code points has no category
+beyond_other : (c : ℕ) → 0x10_FFFF < c → in_group Other (general_category c) ≡ true
+unfolding ucd_category
+beyond_other c lt = ap (in_group Other) (Stepped-beyond general_category general_category_stepped refl c lt)
+
+-- a number that is no character's is not printed as it is
+other_unprintable : (c : ℕ) → 32 < c → in_group Other (general_category c) ≡ true → is_unprintable c ≡ true
+other_unprintable c lt other =
+    let space = ne_eqb c 32 (λ e. absurd (omega (arith, e, lt))) in
+    and_from (not (c == 32)) (in_group Other (general_category c) || in_group Separator (general_category c)) (ap not space)
+    (or_left (in_group Other (general_category c)) (in_group Separator (general_category c)) other)
+
+pub unprintable_no_character : (c : ℕ) → OutOfScalarRange c → is_unprintable c ≡ true
+unprintable_no_character c out = elim out [
+  | inl within ↦ other_unprintable c (omega arith) (surrogate_other c within.0 (omega arith))
+  | inr beyond ↦ other_unprintable c (omega arith) (beyond_other c (omega arith))
 ]
 
 not_true : (b : Bool) → not b ≡ true → b ≡ false

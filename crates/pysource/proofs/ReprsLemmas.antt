@@ -6,7 +6,9 @@ use Rattle.std.specs.Str.{IsAscii, encode_utf8_all}
 use Rattle.std.proofs.lemmas.Bool.Decides.{nat_tests}
 use Rattle.std.proofs.lemmas.Str.{IsAscii-append, encodes-IsAscii, encodes-append}
 use Rattle.std.specs.List.{flat_map}
-use Rattle.std.proofs.lemmas.List.{take_more, flat_map_more}
+use Rattle.std.specs.Io.{StartsWith}
+use Rattle.std.proofs.Transfers.{starts_with_of_append, starts_with_trans}
+use Rattle.std.proofs.lemmas.List.{append_assoc, take_more, flat_map_more}
 use Rattle.std.proofs.lemmas.Str.Ascii.{IsAscii-nil, IsAscii-cons}
 use Rattle.pysource.specs.Reprs.{hex, hex_escape}
 
@@ -42,12 +44,18 @@ hex_escape_ascii c =
 pub encodes_hex_escape : (c : ℕ) → encode_utf8_all (hex_escape c) ≡ hex_escape c
 encodes_hex_escape c = encodes-IsAscii (hex_escape c) (hex_escape_ascii c)
 
--- a text that grows by what stands for one element, and its end
-pub more_encoded : (f : ℕ → List ℕ) (q : ℕ) (xs : List ℕ) (i : ℕ) (old new : List ℕ) → i < length xs → old ≡ encode_utf8_all (q ∷ flat_map f (take i xs)) → new ≡ old ++ encode_utf8_all (f (get_or xs i 0)) → new ≡ encode_utf8_all (q ∷ flat_map f (take (i + 1) xs))
-more_encoded f q xs i old new h e g =
+-- an output that grows by what stands for one element, and its end
+pub more_encoded : (f : ℕ → List ℕ) (q : ℕ) (xs : List ℕ) (i : ℕ) (base old new : List ℕ) → i < length xs → old ≡ base ++ encode_utf8_all (q ∷ flat_map f (take i xs)) → new ≡ old ++ encode_utf8_all (f (get_or xs i 0)) → new ≡ base ++ encode_utf8_all (q ∷ flat_map f (take (i + 1) xs))
+more_encoded f q xs i base old new h e g =
     let parts = flat_map_more f (q ∷ []) (take i xs) (get_or xs i 0) in
     let joined = sym (encodes-append (q ∷ flat_map f (take i xs)) (f (get_or xs i 0))) in
-    g ∙ ap (λ bs. bs ++ encode_utf8_all (f (get_or xs i 0))) e ∙ joined ∙ ap encode_utf8_all parts ∙ ap (λ t. encode_utf8_all (q ∷ flat_map f t)) (sym (take_more xs i 0 h))
+    let whole = joined ∙ ap encode_utf8_all parts ∙ ap (λ t. encode_utf8_all (q ∷ flat_map f t)) (sym (take_more xs i 0 h)) in
+    g ∙ ap (λ bs. bs ++ encode_utf8_all (f (get_or xs i 0))) e ∙ append_assoc base _ _ ∙ ap (λ bs. base ++ bs) whole
 
-pub end_encoded : (f : ℕ → List ℕ) (q : ℕ) (xs : List ℕ) (old new : List ℕ) → old ≡ encode_utf8_all (q ∷ flat_map f xs) → new ≡ old ++ encode_utf8_all (q ∷ []) → new ≡ encode_utf8_all (q ∷ flat_map f xs ++ q ∷ [])
-end_encoded f q xs old new e g = g ∙ ap (λ bs. bs ++ encode_utf8_all (q ∷ [])) e ∙ sym (encodes-append (q ∷ flat_map f xs) (q ∷ []))
+pub end_encoded : (f : ℕ → List ℕ) (q : ℕ) (xs base old new : List ℕ) → old ≡ base ++ encode_utf8_all (q ∷ flat_map f xs) → new ≡ old ++ encode_utf8_all (q ∷ []) → new ≡ base ++ encode_utf8_all (q ∷ flat_map f xs ++ q ∷ [])
+end_encoded f q xs base old new e g =
+    g ∙ ap (λ bs. bs ++ encode_utf8_all (q ∷ [])) e ∙ append_assoc base _ _ ∙ ap (λ bs. base ++ bs) (sym (encodes-append (q ∷ flat_map f xs) (q ∷ [])))
+
+-- what kept an output that had grown, kept the output
+pub kept_front : (base mid new more : List ℕ) → mid ≡ base ++ more → StartsWith new mid → StartsWith new base
+kept_front base mid new more e kept = starts_with_trans new mid base kept (starts_with_of_append mid base more e)

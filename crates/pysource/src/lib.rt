@@ -6,9 +6,9 @@
 //! fault. [`LineReader`] gives the same line by line, from a reader that is lent to each call, and
 //! [`Chunks`] from a reader of its own; there a failed read is the fault of the line that it cut
 //! off. [`place_of`] tells the row and column of an offset of a text. [`repr_text`],
-//! [`push_repr`] and [`repr_bytes`] write what Python's `repr` writes. [`ByteIn`] and [`ByteOut`]
-//! are readers and writers of bytes that count their failures, with [`read_all`] and
-//! [`write_all`] over them.
+//! [`push_repr`], [`push_repr_points`], [`repr_bytes`] and [`push_repr_bytes`] write what Python's
+//! `repr` writes. [`ByteIn`] and [`ByteOut`] are readers and writers of bytes that count their
+//! failures, with [`read_all`] and [`write_all`] over them.
 //!
 //! A contract that says `≡` of a word of `specs/` says that the call computes exactly that.
 #![tactic(auto)]
@@ -29,6 +29,8 @@ pub use bytes::{
 pub use encodings::{Charset, Encoding, SourceFault, encoding_of};
 pub use faults::{LineError, LineFault};
 pub use places::{Place, place_of};
-pub use reprs::{is_plain_text, push_repr, repr_bytes, repr_text};
+pub use reprs::{
+    is_plain_text, push_repr, push_repr_bytes, push_repr_points, repr_bytes, repr_text,
+};
 pub use sources::{Source, decode};
 pub use streams::{Chunks, Line, LineReader, Reach, StreamFault};

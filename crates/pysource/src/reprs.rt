@@ -55,8 +55,9 @@ fn push_escape(out: &mut String, number: u32) -> Result<(), AllocError>
 /// Appends what stands for a byte between quotes.
 fn push_byte(out: &mut String, quote: u8, byte: u8) -> Result<(), AllocError>
     requires { quote < 128 }
-    ensures { OnOk result
+    ensures ok { OnOk result
         (string_bytes out.new ≡ string_bytes out.old ++ escaped is_unprintable_byte quote byte) }
+    ensures kept { StartsWith (string_bytes out.new) (string_bytes out.old) }
 {
     if byte == b'\\' || byte == quote {
         out.push('\\')?;
@@ -93,20 +94,30 @@ pub fn repr_bytes(alloc: Global, bytes: &[u8]) -> Result<String, AllocError>
     ensures { IfOk result (λ text. string_bytes text ≡ repr_bytes bytes.now) }
 {
     let mut out = String::new(alloc);
+    push_repr_bytes(&mut out, bytes)?;
+    Ok(out)
+}
+
+/// Appends the `repr` of bytes to an output, without memory of its own: what [`repr_bytes`] gives.
+/// Where the output can't grow, it keeps what it had, and may have taken a front of that.
+#[tactic(auto, using(crate::proofs::ReprsLemmas::kept_front))]
+pub fn push_repr_bytes(out: &mut String, bytes: &[u8]) -> Result<(), AllocError>
+    ensures ok { OnOk result (string_bytes out.new ≡ string_bytes out.old ++ repr_bytes bytes.now) }
+    ensures kept { StartsWith (string_bytes out.new) (string_bytes out.old) }
+{
     let quote = quote_of(bytes);
     out.push('b')?;
     out.push(char::from(quote))?;
     for byte in bytes {
-        push_byte(&mut out, quote, *byte)?;
+        push_byte(out, quote, *byte)?;
     }
     out.push(char::from(quote))?;
-    Ok(out)
+    Ok(())
 }
 
-/// The character of a code point, where it is printed as it is.
-#[tactic(auto, using(crate::proofs::Categories::unprintable_surrogate, crate::proofs::Categories::printable_ascii))]
+/// The character of a number, where it is one that is printed as it is.
+#[tactic(auto, using(crate::proofs::Categories::unprintable_no_character, crate::proofs::Categories::printable_ascii))]
 fn printable(point: u32) -> Option<char>
-    requires { point ≤ 0x10_FFFF }
     ensures { result ≡ (if is_unprintable point then None else Some point) }
 {
     let c = char::from_u32(point)?;
@@ -127,8 +138,7 @@ fn printable(point: u32) -> Option<char>
 
 /// Appends what stands for a code point between quotes.
 fn push_point(out: &mut String, quote: u8, point: u32) -> Result<(), AllocError>
-    requires quote { quote < 128 }
-    requires point { point ≤ 0x10_FFFF }
+    requires { quote < 128 }
     ensures ok { OnOk result (string_bytes out.new ≡
         string_bytes out.old ++ encode_utf8_all (escaped is_unprintable quote point)) }
     ensures kept { StartsWith (string_bytes out.new) (string_bytes out.old) }
@@ -169,19 +179,31 @@ fn quote_of_points(points: &[u32]) -> u8
 /// double ones where the text holds single ones alone. Escaped are the backslash, the quote, the
 /// tab, the line feed, the carriage return and every unprintable code point: one of category
 /// "Other" or "Separator", but for the space.
-#[tactic(auto, using(crate::proofs::ReprsLemmas::more_encoded))]
 pub fn repr_text(alloc: Global, points: &[u32]) -> Result<String, AllocError>
     requires { All (λ point. point ≤ 0x10_FFFF) points.now }
     ensures { IfOk result (λ text. string_bytes text ≡ repr_text points.now) }
 {
     let mut out = String::new(alloc);
+    push_repr_points(&mut out, points)?;
+    Ok(out)
+}
+
+/// Appends the `repr` of a text, given as its code points, to an output, without memory of its
+/// own: what [`repr_text`] gives. A number past 10FFFF is no code point, and is escaped as one
+/// that is unprintable. Where the output can't grow, it keeps what it had, and may have taken a
+/// front of that.
+#[tactic(auto, using(crate::proofs::ReprsLemmas::more_encoded, crate::proofs::ReprsLemmas::kept_front))]
+pub fn push_repr_points(out: &mut String, points: &[u32]) -> Result<(), AllocError>
+    ensures ok { OnOk result (string_bytes out.new ≡ string_bytes out.old ++ repr_text points.now) }
+    ensures kept { StartsWith (string_bytes out.new) (string_bytes out.old) }
+{
     let quote = quote_of_points(points);
     out.push(char::from(quote))?;
     for point in points {
-        push_point(&mut out, quote, *point)?;
+        push_point(out, quote, *point)?;
     }
     out.push(char::from(quote))?;
-    Ok(out)
+    Ok(())
 }
 
 /// Whether a byte stands for itself between quotes of either kind.

@@ -1,6 +1,8 @@
 //! What Python's `repr` writes.
 
-use pysource::{is_plain_text, push_repr, repr_bytes, repr_text};
+use pysource::{
+    is_plain_text, push_repr, push_repr_bytes, push_repr_points, repr_bytes, repr_text,
+};
 use std::test::Fail;
 
 #[test]
@@ -46,6 +48,15 @@ fn shows_bytes(rt: HostRuntime) -> Result<(), Fail> {
         let text = repr_bytes(rt.alloc(), bytes)?;
         assert_eq!(rt; text.as_str(), expected, "at {bytes:?}");
     }
+    Ok(())
+}
+
+#[test]
+fn appends_points_and_bytes(rt: HostRuntime) -> Result<(), Fail> {
+    let mut out = String::from_str(rt.alloc(), "> ")?;
+    push_repr_points(&mut out, &[0xD800, 0x27, 0x11_0000])?;
+    push_repr_bytes(&mut out, b"\x00'")?;
+    assert_eq!(rt; out.as_str(), "> \"\\ud800'\\U00110000\"b\"\\x00'\"");
     Ok(())
 }
 

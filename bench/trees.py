@@ -1,0 +1,88 @@
+#!/usr/bin/env python3
+"""Times what is done with large trees, and finds how deep a tree may be: `drop`, `height`, `copy`, `same` and `dump` of pytree.
+
+    bench/trees.py [--timer PATH] [--statements N]
+
+The timer is the program of crates/tree_times, which is built anew where it isn't there; with --backend rattle in its folder `rt run`
+builds it by the other compiler. Of a tree of N statements it tells how long each call takes, and of `dump` the megabytes of text a
+second; of a tree of one statement how many expressions may stand in one another before the stack of 8 MB ends the program. The exit
+status is 0, 1 where `dump` writes less than 200 MB a second, and 2 where nothing could be measured.
+"""
+
+import argparse
+import os
+import resource
+import subprocess
+import sys
+
+TOP = os.path.dirname(os.path.dirname(os.path.abspath(__file__)))
+CALLS = ("drop", "height", "copy", "same", "dump")
+STACK = 8 << 20
+LEAST_SPEED = 200
+DEEPEST = 1 << 22
+ROUNDS = 5
+
+
+def refuse(text):
+    """Ends the run, as nothing can be measured."""
+    print(f"trees.py: {text}", file=sys.stderr)
+    sys.exit(2)
+
+
+def build(timer):
+    """Builds the timer where it isn't there: without words it ends with a status of its own."""
+    folder = os.path.dirname(os.path.dirname(timer))
+    if not os.path.exists(timer):
+        print("building crates/tree_times, which takes some minutes", file=sys.stderr)
+        subprocess.run(["rt", "run"], cwd=folder, stdin=subprocess.DEVNULL, stdout=subprocess.DEVNULL, stderr=subprocess.DEVNULL, check=False)
+    if not os.access(timer, os.X_OK):
+        refuse(f"{timer} isn't there, and `rt run` in {folder} didn't build it")
+
+
+def limit_stack():
+    """The stack that a login shell gives."""
+    resource.setrlimit(resource.RLIMIT_STACK, (STACK, STACK))
+
+
+def told(timer, call, shape, count):
+    """What the timer tells of a call, or None where the stack didn't hold the tree."""
+    done = subprocess.run([timer, call, shape, str(count)], stdout=subprocess.PIPE, stderr=subprocess.DEVNULL, preexec_fn=limit_stack, check=False)
+    if done.returncode > 0:
+        refuse(f"{timer} {call} {shape} {count} ended with status {done.returncode}")
+    return None if done.returncode else [int(word) for word in done.stdout.split()]
+
+
+def deepest(timer, call):
+    """The greatest depth, to within a hundredth, of a tree on which a call and the tree's drop end rightly."""
+    low, high = 1, 2
+    while high <= DEEPEST and told(timer, call, "deep", high):
+        low, high = high, 2 * high
+    while high <= DEEPEST and high - low > low // 100 + 1:
+        middle = (low + high) // 2
+        low, high = (middle, high) if told(timer, call, "deep", middle) else (low, middle)
+    return low
+
+
+def main():
+    parser = argparse.ArgumentParser(description="Times what is done with large trees, and finds how deep a tree may be.")
+    parser.add_argument("--timer", default=os.path.join(TOP, "crates", "tree_times", "out", "tree_times"), metavar="PATH",
+                        help="the built program of crates/tree_times")
+    parser.add_argument("--statements", type=int, default=100_000, metavar="N", help="the statements of the wide tree")
+    options = parser.parse_args()
+    timer = os.path.abspath(options.timer)
+    build(timer)
+    speed = 0
+    print("| call | ms | MB of text a second | deepest |\n|---|---|---|---|")
+    for call in CALLS:
+        runs = [told(timer, call, "wide", options.statements) for _ in range(ROUNDS)]
+        if None in runs:
+            refuse(f"{call} of a tree of {options.statements} statements was ended by a signal")
+        nanoseconds, *size = min(runs)
+        if size:
+            speed = size[0] * 1e3 / nanoseconds
+        print(f"| `{call}` | {nanoseconds / 1e6:.1f} | {f'{speed:.0f}' if size else '-'} | {deepest(timer, call):,} |")
+    return int(speed < LEAST_SPEED)
+
+
+if __name__ == "__main__":
+    sys.exit(main())

@@ -1,0 +1,222 @@
+use Rattle.std.proofs.Common.{◌≡◌, ◌+◌, ◌++◌, OnOk, arith, refl, ap, sym, subst, map, codes, ◌∙◌, true}
+use Rattle.std.specs.String.{string_bytes}
+use Rattle.pynode.specs.Trees.{optional}
+use Rattle.pynode.specs.TreeOf.{tree_of, option_of, comprehension_of, keyword_of, arg_of, arguments_of, alias_of, item_of, type_param_of}
+use Rattle.pydump.specs.Layout.{text, before, is_flat}
+use Rattle.pydump.specs.Shows.{shown, shown_optional, shown_comprehension, shown_keyword, shown_arg, shown_alias, shown_item, shown_type_param, word, comparison_name, showns, Row, no_field}
+use Rattle.pydump.specs.Inner.Slots.{slot_of, with_slot}
+use Rattle.pydump.specs.Inner.Weights.{weight, field_weights}
+use Rattle.pydump.proofs.ArgumentsLemmas.{alone, five_shown, seven_weigh, arguments_shown}
+use Rattle.pydump.proofs.RowLemmas.{slot_weighs, member_weight, exprs_row, comprehensions_row, keywords_row, comparisons_row}
+use Rattle.pydump.proofs.TextLemmas.{left, node_closed, one_field, two_fields, three_fields, four_fields, then_fields, member_shown}
+use Rattle.pynode.proofs.Callers.ExprShapes.{generator_exp_tree, dict_comp_tree, compare_tree, call_tree, slice_tree, comprehension_tree}
+use Rattle.pydump.proofs.+showing.Goals as goal
+
+pub nodes::show_one-returns-clause-text : goal.nodes::show_one-returns-clause-text
+nodes::show_one-returns-clause-text t c = node_closed c.args.style (string_bytes c.args.front.now) _ c.args.class.now (with_slot (slot_of c.args.a) no_field) _ _ _ _ _ _
+    c.in_ok-outer.ensures.front c.is_short_one.ensures refl refl
+    c.in_ok-push_str.ensures.bytes c.in_ok-outer.ensures.text
+    (one_field _ _ (string_bytes c.open.new.out) _ (record { one_line = c.is_short_one.result; named = c.args.style.names; first = true }) _ (slot_of c.args.a) c.in_ok-show_field.ensures.text) c.in_ok-close.ensures.text
+
+pub nodes::show_two-returns-clause-text : goal.nodes::show_two-returns-clause-text
+nodes::show_two-returns-clause-text t c = node_closed c.args.style (string_bytes c.args.front.now) _ c.args.class.now (with_slot (slot_of c.args.a) (with_slot (slot_of c.args.b) no_field)) _ _ _ _ _ _
+    c.in_ok-outer.ensures.front c.is_short_two.ensures refl refl
+    c.in_ok-push_str.ensures.bytes c.in_ok-outer.ensures.text
+    (two_fields _ _ _ (string_bytes c.open.new.out) _ _ (record { one_line = c.is_short_two.result; named = c.args.style.names; first = true }) _ _ (slot_of c.args.a) _ c.in_ok-told.ensures.front c.in_ok-told.ensures.text c.in_ok-show_field.ensures.text) c.in_ok-close.ensures.text
+
+pub nodes::show_three-returns-clause-text : goal.nodes::show_three-returns-clause-text
+nodes::show_three-returns-clause-text t c = node_closed c.args.style (string_bytes c.args.front.now) _ c.args.class.now (with_slot (slot_of c.args.a) (with_slot (slot_of c.args.b) (with_slot (slot_of c.args.c) no_field))) _ _ _ _ _ _
+    c.in_ok-outer.ensures.front c.is_short_three.ensures refl refl
+    c.in_ok-push_str.ensures.bytes c.in_ok-outer.ensures.text
+    (three_fields _ _ _ _ (string_bytes c.open.new.out) _ _ _ (record { one_line = c.is_short_three.result; named = c.args.style.names; first = true }) _ _ _ (slot_of c.args.a) _ _ c.in_ok-told.ensures.front c.in_ok-told-2.ensures.front c.in_ok-told.ensures.text c.in_ok-told-2.ensures.text c.in_ok-show_field.ensures.text) c.in_ok-close.ensures.text
+
+pub nodes::show_four-returns-clause-text : goal.nodes::show_four-returns-clause-text
+nodes::show_four-returns-clause-text t c = node_closed c.args.style (string_bytes c.args.front.now) _ c.args.class.now (with_slot (slot_of c.args.a) (with_slot (slot_of c.args.b) (with_slot (slot_of c.args.c) (with_slot (slot_of c.args.d) no_field)))) _ _ _ _ _ _
+    c.in_ok-outer.ensures.front c.is_short_four.ensures refl refl
+    c.in_ok-push_str.ensures.bytes c.in_ok-outer.ensures.text
+    (four_fields _ _ _ _ _ (string_bytes c.open.new.out) _ _ _ _ (record { one_line = c.is_short_four.result; named = c.args.style.names; first = true }) _ _ _ _ (slot_of c.args.a) _ _ _ c.in_ok-told.ensures.front c.in_ok-told-2.ensures.front c.in_ok-told-3.ensures.front c.in_ok-told.ensures.text c.in_ok-told-2.ensures.text c.in_ok-told-3.ensures.text c.in_ok-show_field.ensures.text) c.in_ok-close.ensures.text
+
+pub nodes::show_seven-returns-clause-text : goal.nodes::show_seven-returns-clause-text
+nodes::show_seven-returns-clause-text t c = λ long. node_closed c.args.style (string_bytes c.args.front.now) _ c.args.class.now (with_slot (slot_of c.args.a) (with_slot (slot_of c.args.b) (with_slot (slot_of c.args.c) (with_slot (slot_of c.args.d) (with_slot (slot_of c.args.e) (with_slot (slot_of c.args.f) (with_slot (slot_of c.args.g) no_field))))))) _ _ _ _ _ _
+    c.in_ok-outer.ensures.front (c.is_flat.ensures ∙ alone _ _ long) refl refl
+    c.in_ok-push_str.ensures.bytes c.in_ok-outer.ensures.text
+    (then_fields _ _ _ (string_bytes c.open.new.out) _ _ (record { one_line = c.is_flat.result; named = c.args.style.names; first = true }) _ (slot_of c.args.a) (with_slot (slot_of c.args.b) (with_slot (slot_of c.args.c) (with_slot (slot_of c.args.d) (with_slot (slot_of c.args.e) (with_slot (slot_of c.args.f) (with_slot (slot_of c.args.g) no_field)))))) c.in_ok-told.ensures.front c.in_ok-told.ensures.text
+    (then_fields _ _ _ _ _ _ _ _ (slot_of c.args.b) (with_slot (slot_of c.args.c) (with_slot (slot_of c.args.d) (with_slot (slot_of c.args.e) (with_slot (slot_of c.args.f) (with_slot (slot_of c.args.g) no_field))))) c.in_ok-told-2.ensures.front c.in_ok-told-2.ensures.text
+    (then_fields _ _ _ _ _ _ _ _ (slot_of c.args.c) (with_slot (slot_of c.args.d) (with_slot (slot_of c.args.e) (with_slot (slot_of c.args.f) (with_slot (slot_of c.args.g) no_field)))) c.in_ok-told-3.ensures.front c.in_ok-told-3.ensures.text
+    (then_fields _ _ _ _ _ _ _ _ (slot_of c.args.d) (with_slot (slot_of c.args.e) (with_slot (slot_of c.args.f) (with_slot (slot_of c.args.g) no_field))) c.in_ok-told-4.ensures.front c.in_ok-told-4.ensures.text
+    (then_fields _ _ _ _ _ _ _ _ (slot_of c.args.e) (with_slot (slot_of c.args.f) (with_slot (slot_of c.args.g) no_field)) c.in_ok-told-5.ensures.front c.in_ok-told-5.ensures.text
+    (then_fields _ _ _ _ _ _ _ _ (slot_of c.args.f) (with_slot (slot_of c.args.g) no_field) c.in_ok-told-6.ensures.front c.in_ok-told-6.ensures.text
+    (one_field _ _ _ _ _ _ (slot_of c.args.g) c.in_ok-show_field.ensures.text))))))) c.in_ok-close.ensures.text
+
+pub nodes::show_two-returns-clause-front : goal.nodes::show_two-returns-clause-front
+nodes::show_two-returns-clause-front t c = left c.args.style.indent _ _ _ _ c.in_ok-outer.ensures.len
+    (c.in_ok-show_field.ensures.front ∙ c.in_ok-told.ensures.front ∙ c.in_ok-outer.ensures.front) c.close.ensures.front
+
+pub nodes::show_two-show_field-requires-2 : goal.nodes::show_two-show_field-requires-2
+nodes::show_two-show_field-requires-2 t c =
+    let e0 = slot_weighs (slot_of c.args.a) (with_slot (slot_of c.args.b) no_field) in
+    let e1 = slot_weighs (slot_of c.args.b) no_field in (omega (arith, e0, e1), tt)
+
+pub nodes::show_three-returns-clause-front : goal.nodes::show_three-returns-clause-front
+nodes::show_three-returns-clause-front t c = left c.args.style.indent _ _ _ _ c.in_ok-outer.ensures.len
+    (c.in_ok-show_field.ensures.front ∙ c.in_ok-told-2.ensures.front ∙ c.in_ok-told.ensures.front ∙ c.in_ok-outer.ensures.front) c.close.ensures.front
+
+pub nodes::show_three-show_field-requires-2 : goal.nodes::show_three-show_field-requires-2
+nodes::show_three-show_field-requires-2 t c =
+    let e0 = slot_weighs (slot_of c.args.a) (with_slot (slot_of c.args.b) (with_slot (slot_of c.args.c) no_field)) in
+    let e1 = slot_weighs (slot_of c.args.b) (with_slot (slot_of c.args.c) no_field) in
+    let e2 = slot_weighs (slot_of c.args.c) no_field in (omega (arith, e0, e1, e2), tt)
+
+pub nodes::show_three-show_field-requires-3 : goal.nodes::show_three-show_field-requires-3
+nodes::show_three-show_field-requires-3 t c =
+    let e0 = slot_weighs (slot_of c.args.a) (with_slot (slot_of c.args.b) (with_slot (slot_of c.args.c) no_field)) in
+    let e1 = slot_weighs (slot_of c.args.b) (with_slot (slot_of c.args.c) no_field) in
+    let e2 = slot_weighs (slot_of c.args.c) no_field in (omega (arith, e0, e1, e2), tt)
+
+pub nodes::show_four-returns-clause-front : goal.nodes::show_four-returns-clause-front
+nodes::show_four-returns-clause-front t c = left c.args.style.indent _ _ _ _ c.in_ok-outer.ensures.len
+    (c.in_ok-show_field.ensures.front ∙ c.in_ok-told-3.ensures.front ∙ c.in_ok-told-2.ensures.front ∙ c.in_ok-told.ensures.front ∙ c.in_ok-outer.ensures.front) c.close.ensures.front
+
+pub nodes::show_four-show_field-requires-2 : goal.nodes::show_four-show_field-requires-2
+nodes::show_four-show_field-requires-2 t c =
+    let e0 = slot_weighs (slot_of c.args.a) (with_slot (slot_of c.args.b) (with_slot (slot_of c.args.c) (with_slot (slot_of c.args.d) no_field))) in
+    let e1 = slot_weighs (slot_of c.args.b) (with_slot (slot_of c.args.c) (with_slot (slot_of c.args.d) no_field)) in
+    let e2 = slot_weighs (slot_of c.args.c) (with_slot (slot_of c.args.d) no_field) in
+    let e3 = slot_weighs (slot_of c.args.d) no_field in (omega (arith, e0, e1, e2, e3), tt)
+
+pub nodes::show_four-show_field-requires-3 : goal.nodes::show_four-show_field-requires-3
+nodes::show_four-show_field-requires-3 t c =
+    let e0 = slot_weighs (slot_of c.args.a) (with_slot (slot_of c.args.b) (with_slot (slot_of c.args.c) (with_slot (slot_of c.args.d) no_field))) in
+    let e1 = slot_weighs (slot_of c.args.b) (with_slot (slot_of c.args.c) (with_slot (slot_of c.args.d) no_field)) in
+    let e2 = slot_weighs (slot_of c.args.c) (with_slot (slot_of c.args.d) no_field) in
+    let e3 = slot_weighs (slot_of c.args.d) no_field in (omega (arith, e0, e1, e2, e3), tt)
+
+pub nodes::show_four-show_field-requires-4 : goal.nodes::show_four-show_field-requires-4
+nodes::show_four-show_field-requires-4 t c =
+    let e0 = slot_weighs (slot_of c.args.a) (with_slot (slot_of c.args.b) (with_slot (slot_of c.args.c) (with_slot (slot_of c.args.d) no_field))) in
+    let e1 = slot_weighs (slot_of c.args.b) (with_slot (slot_of c.args.c) (with_slot (slot_of c.args.d) no_field)) in
+    let e2 = slot_weighs (slot_of c.args.c) (with_slot (slot_of c.args.d) no_field) in
+    let e3 = slot_weighs (slot_of c.args.d) no_field in (omega (arith, e0, e1, e2, e3), tt)
+
+pub nodes::show_seven-returns-clause-front : goal.nodes::show_seven-returns-clause-front
+nodes::show_seven-returns-clause-front t c = left c.args.style.indent _ _ _ _ c.in_ok-outer.ensures.len
+    (c.in_ok-show_field.ensures.front ∙ c.in_ok-told-6.ensures.front ∙ c.in_ok-told-5.ensures.front ∙ c.in_ok-told-4.ensures.front ∙ c.in_ok-told-3.ensures.front ∙ c.in_ok-told-2.ensures.front ∙ c.in_ok-told.ensures.front ∙ c.in_ok-outer.ensures.front) c.close.ensures.front
+
+pub nodes::show_seven-show_field-requires : goal.nodes::show_seven-show_field-requires
+nodes::show_seven-show_field-requires t c = let e = seven_weigh (slot_of c.args.a) (slot_of c.args.b) (slot_of c.args.c) (slot_of c.args.d) (slot_of c.args.e) (slot_of c.args.f) (slot_of c.args.g) in (omega (arith, e), tt)
+
+pub nodes::show_seven-show_field-requires-2 : goal.nodes::show_seven-show_field-requires-2
+nodes::show_seven-show_field-requires-2 t c = let e = seven_weigh (slot_of c.args.a) (slot_of c.args.b) (slot_of c.args.c) (slot_of c.args.d) (slot_of c.args.e) (slot_of c.args.f) (slot_of c.args.g) in (omega (arith, e), tt)
+
+pub nodes::show_seven-show_field-requires-3 : goal.nodes::show_seven-show_field-requires-3
+nodes::show_seven-show_field-requires-3 t c = let e = seven_weigh (slot_of c.args.a) (slot_of c.args.b) (slot_of c.args.c) (slot_of c.args.d) (slot_of c.args.e) (slot_of c.args.f) (slot_of c.args.g) in (omega (arith, e), tt)
+
+pub nodes::show_seven-show_field-requires-4 : goal.nodes::show_seven-show_field-requires-4
+nodes::show_seven-show_field-requires-4 t c = let e = seven_weigh (slot_of c.args.a) (slot_of c.args.b) (slot_of c.args.c) (slot_of c.args.d) (slot_of c.args.e) (slot_of c.args.f) (slot_of c.args.g) in (omega (arith, e), tt)
+
+pub nodes::show_seven-show_field-requires-5 : goal.nodes::show_seven-show_field-requires-5
+nodes::show_seven-show_field-requires-5 t c = let e = seven_weigh (slot_of c.args.a) (slot_of c.args.b) (slot_of c.args.c) (slot_of c.args.d) (slot_of c.args.e) (slot_of c.args.f) (slot_of c.args.g) in (omega (arith, e), tt)
+
+pub nodes::show_seven-show_field-requires-6 : goal.nodes::show_seven-show_field-requires-6
+nodes::show_seven-show_field-requires-6 t c = let e = seven_weigh (slot_of c.args.a) (slot_of c.args.b) (slot_of c.args.c) (slot_of c.args.d) (slot_of c.args.e) (slot_of c.args.f) (slot_of c.args.g) in (omega (arith, e), tt)
+
+pub nodes::show_seven-show_field-requires-7 : goal.nodes::show_seven-show_field-requires-7
+nodes::show_seven-show_field-requires-7 t c = let e = seven_weigh (slot_of c.args.a) (slot_of c.args.b) (slot_of c.args.c) (slot_of c.args.d) (slot_of c.args.e) (slot_of c.args.f) (slot_of c.args.g) in (omega (arith, e), tt)
+
+pub lists::show_exprs-show_expr-requires : goal.lists::show_exprs-show_expr-requires
+lists::show_exprs-show_expr-requires t c = let h : _ = member_weight (λ e. shown (tree_of e)) _ _ _ c.loop-e-test.true c.e-item.is in (omega (arith, h), tt)
+
+pub lists::show_comprehensions-show_comprehension-requires : goal.lists::show_comprehensions-show_comprehension-requires
+lists::show_comprehensions-show_comprehension-requires t c = let h : _ = member_weight (λ c. shown_comprehension (comprehension_of c)) _ _ _ c.loop-c-test.true c.c-item.is in (omega (arith, h), tt)
+
+pub lists::show_keywords-show_keyword-requires : goal.lists::show_keywords-show_keyword-requires
+lists::show_keywords-show_keyword-requires t c = let h : _ = member_weight (λ k. shown_keyword (keyword_of k)) _ _ _ c.loop-k-test.true c.k-item.is in (omega (arith, h), tt)
+
+pub lists::show_args-show_arg-requires : goal.lists::show_args-show_arg-requires
+lists::show_args-show_arg-requires t c = let h : _ = member_weight (λ a. shown_arg (arg_of a)) _ _ _ c.loop-a-test.true c.a-item.is in (omega (arith, h), tt)
+
+pub lists::show_items-show_item-requires : goal.lists::show_items-show_item-requires
+lists::show_items-show_item-requires t c = let h : _ = member_weight (λ item. shown_item (item_of item)) _ _ _ c.loop-item-test.true c.item-item.is in (omega (arith, h), tt)
+
+pub lists::show_type_params-show_type_param-requires : goal.lists::show_type_params-show_type_param-requires
+lists::show_type_params-show_type_param-requires t c = let h : _ = member_weight (λ p. shown_type_param (type_param_of p)) _ _ _ c.loop-p-test.true c.p-item.is in (omega (arith, h), tt)
+
+pub lists::show_options-show_expr-requires : goal.lists::show_options-show_expr-requires
+lists::show_options-show_expr-requires t c =
+    let h : _ = member_weight (λ e. shown_optional (optional (option_of e))) _ _ _ c.loop-e-test.true c.e-item.is in
+    let k : _ = ap (λ o. weight (shown_optional (optional (option_of o)))) c.in-Some.is in (omega (arith, h, k), tt)
+
+pub lists::show_comprehensions-loop-c-preserved : goal.lists::show_comprehensions-loop-c-preserved
+lists::show_comprehensions-loop-c-preserved t c = record {
+  text =
+      let e1 : string_bytes c.push_before.new.out ≡ string_bytes c.loop-c.out ++ before (is_flat c.args.style.indent) (string_bytes c.loop-c.front) c.loop-c.first =
+      c.in_ok-push_before.ensures ∙ (λ i. string_bytes c.loop-c.out ++ before (c.is_flat.ensures i) (c.as_str.ensures.value i) c.loop-c.first) in
+      member_shown (λ c. shown_comprehension (comprehension_of c)) _ _ _ c.args.style _ _ _ _ _ _ _ c.loop-c-test.true c.c-item.is c.loop-c.invariant.front c.loop-c.invariant.text
+      e1 c.in_ok-show_comprehension.ensures.text;
+  front = c.in_ok-show_comprehension.ensures.front ∙ c.loop-c.invariant.front;
+}
+
+pub members::show_comprehension-returns-clause-text : goal.members::show_comprehension-returns-clause-text
+members::show_comprehension-returns-clause-text t c = rw (comprehension_tree, exprs_row c.args.c.now.ifs.items, sym c.deref.ensures.value) c.show_four.ensures.text
+
+pub members::show_arguments-show_seven-requires : goal.members::show_arguments-show_seven-requires
+members::show_arguments-show_seven-requires t c =
+    let e = ap weight (arguments_shown c.args.a.now _ _ _ _ _ (slot_of c.arg_part.result) (slot_of c.arg_part-2.result)
+    c.deref.ensures.value c.deref-2.ensures.value c.arg_part.ensures c.deref-3.ensures.value c.deref-4.ensures.value c.arg_part-2.ensures c.deref-5.ensures.value) in
+    (omega (arith, e), tt)
+
+pub members::show_arguments-returns-clause-text : goal.members::show_arguments-returns-clause-text
+members::show_arguments-returns-clause-text t c =
+    let e = arguments_shown c.args.a.now _ _ _ _ _ (slot_of c.arg_part.result) (slot_of c.arg_part-2.result)
+    c.deref.ensures.value c.deref-2.ensures.value c.arg_part.ensures c.deref-3.ensures.value c.deref-4.ensures.value c.arg_part-2.ensures c.deref-5.ensures.value in
+    subst (λ x. OnOk c.show_seven.result (string_bytes c.show_seven.new.out ≡ string_bytes c.args.out.now ++ text c.args.style (string_bytes c.args.front.now) x))
+    (sym e) (c.show_seven.ensures.text (five_shown (codes "posonlyargs") (codes "args") (codes "kwonlyargs") (codes "kw_defaults") (codes "defaults")
+    (Row (showns (map (λ a. shown_arg (arg_of a)) c.deref.result.now))) (Row (showns (map (λ a. shown_arg (arg_of a)) c.deref-2.result.now))) (Row (showns (map (λ a. shown_arg (arg_of a)) c.deref-3.result.now)))
+    (Row (showns (map (λ e. shown_optional (optional (option_of e))) c.deref-4.result.now))) (Row (showns (map (λ e. shown (tree_of e)) c.deref-5.result.now)))
+    (slot_of c.arg_part.result) (slot_of c.arg_part-2.result)))
+
+pub expressions::show_expr-returns-in-GeneratorExp-clause-text : goal.expressions::show_expr-returns-in-GeneratorExp-clause-text
+expressions::show_expr-returns-in-GeneratorExp-clause-text t c = rw (c.in-GeneratorExp.is, generator_exp_tree, comprehensions_row, sym c.deref-in-GeneratorExp.ensures, sym c.deref-in-GeneratorExp-2.ensures.value) c.show_two-in-GeneratorExp.ensures.text
+
+pub expressions::show_expr-returns-in-DictComp-clause-text : goal.expressions::show_expr-returns-in-DictComp-clause-text
+expressions::show_expr-returns-in-DictComp-clause-text t c = rw (c.in-DictComp.is, dict_comp_tree, comprehensions_row, sym c.deref-in-DictComp.ensures, sym c.deref-in-DictComp-2.ensures, sym c.deref-in-DictComp-3.ensures.value) c.show_three-in-DictComp.ensures.text
+
+pub expressions::show_expr-show_three-requires-in-DictComp : goal.expressions::show_expr-show_three-requires-in-DictComp
+expressions::show_expr-show_three-requires-in-DictComp t c =
+    let e : weight (shown (tree_of c.args.e.now)) ≡ weight (shown (tree_of c.deref-in-DictComp.result.now)) + (weight (shown (tree_of c.deref-in-DictComp-2.result.now)) + (weight (Row (showns (map (λ c. shown_comprehension (comprehension_of c)) c.deref-in-DictComp-3.result.now))) + 0)) + 1 =
+    rw (c.in-DictComp.is, dict_comp_tree, comprehensions_row c.in-DictComp.generators.items, sym c.deref-in-DictComp.ensures, sym c.deref-in-DictComp-2.ensures, sym c.deref-in-DictComp-3.ensures.value) refl in (omega (arith, e), tt)
+
+pub expressions::show_expr-returns-in-Compare-clause-text : goal.expressions::show_expr-returns-in-Compare-clause-text
+expressions::show_expr-returns-in-Compare-clause-text t c = rw (c.in-Compare.is, compare_tree, exprs_row, comparisons_row, sym c.deref-in-Compare.ensures, sym c.deref-in-Compare-2.ensures.value, sym c.deref-in-Compare-3.ensures.value) c.show_three-in-Compare.ensures.text
+
+pub expressions::show_expr-show_three-requires-in-Compare : goal.expressions::show_expr-show_three-requires-in-Compare
+expressions::show_expr-show_three-requires-in-Compare t c =
+    let e : weight (shown (tree_of c.args.e.now)) ≡ weight (shown (tree_of c.deref-in-Compare.result.now)) + (weight (Row (showns (map (λ c. word (comparison_name c)) c.deref-in-Compare-2.result.now))) + (weight (Row (showns (map (λ e. shown (tree_of e)) c.deref-in-Compare-3.result.now))) + 0)) + 1 =
+    rw (c.in-Compare.is, compare_tree, exprs_row c.in-Compare.comparators.items, comparisons_row c.in-Compare.ops.items, sym c.deref-in-Compare.ensures, sym c.deref-in-Compare-2.ensures.value, sym c.deref-in-Compare-3.ensures.value) refl in (omega (arith, e), tt)
+
+pub expressions::show_expr-returns-in-Call-clause-text : goal.expressions::show_expr-returns-in-Call-clause-text
+expressions::show_expr-returns-in-Call-clause-text t c = rw (c.in-Call.is, call_tree, exprs_row, keywords_row, sym c.deref-in-Call.ensures, sym c.deref-in-Call-2.ensures.value, sym c.deref-in-Call-3.ensures.value) c.show_three-in-Call.ensures.text
+
+pub expressions::show_expr-show_three-requires-in-Call : goal.expressions::show_expr-show_three-requires-in-Call
+expressions::show_expr-show_three-requires-in-Call t c =
+    let e : weight (shown (tree_of c.args.e.now)) ≡ weight (shown (tree_of c.deref-in-Call.result.now)) + (weight (Row (showns (map (λ e. shown (tree_of e)) c.deref-in-Call-2.result.now))) + (weight (Row (showns (map (λ k. shown_keyword (keyword_of k)) c.deref-in-Call-3.result.now))) + 0)) + 1 =
+    rw (c.in-Call.is, call_tree, exprs_row c.in-Call.args.items, keywords_row c.in-Call.keywords.items, sym c.deref-in-Call.ensures, sym c.deref-in-Call-2.ensures.value, sym c.deref-in-Call-3.ensures.value) refl in (omega (arith, e), tt)
+
+pub expressions::show_expr-returns-in-Slice-clause-text : goal.expressions::show_expr-returns-in-Slice-clause-text
+expressions::show_expr-returns-in-Slice-clause-text t c = rw (c.in-Slice.is, slice_tree)
+    (rw (
+      sym (c.boxed_part-in-Slice-3.ensures no_field),
+      sym (c.boxed_part-in-Slice-2.ensures (with_slot (slot_of c.boxed_part-in-Slice-3.result) no_field)),
+      sym (c.boxed_part-in-Slice.ensures (with_slot (slot_of c.boxed_part-in-Slice-2.result) (with_slot (slot_of c.boxed_part-in-Slice-3.result) no_field))),
+    ) c.show_three-in-Slice.ensures.text)
+
+pub expressions::show_expr-show_three-requires-in-Slice : goal.expressions::show_expr-show_three-requires-in-Slice
+expressions::show_expr-show_three-requires-in-Slice t c =
+    let e : weight (shown (tree_of c.args.e.now)) ≡ field_weights (with_slot (slot_of c.boxed_part-in-Slice.result) (with_slot (slot_of c.boxed_part-in-Slice-2.result) (with_slot (slot_of c.boxed_part-in-Slice-3.result) no_field))) + 1 =
+    rw (
+      c.in-Slice.is,
+      slice_tree,
+      sym (c.boxed_part-in-Slice-3.ensures no_field),
+      sym (c.boxed_part-in-Slice-2.ensures (with_slot (slot_of c.boxed_part-in-Slice-3.result) no_field)),
+      sym (c.boxed_part-in-Slice.ensures (with_slot (slot_of c.boxed_part-in-Slice-2.result) (with_slot (slot_of c.boxed_part-in-Slice-3.result) no_field))),
+    ) refl in (omega (arith, e), tt)

@@ -1,0 +1,7 @@
+mod ArgumentsLemmas
+pub mod BlockLemmas
+mod Examples
+pub mod LineLemmas
+pub mod SlotLemmas
+pub mod RowLemmas
+pub mod TextLemmas

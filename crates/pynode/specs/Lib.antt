@@ -1,0 +1,5 @@
+pub mod Inner
+pub mod Points
+pub mod TreeOf
+pub mod Trees
+pub mod Values

@@ -1,0 +1,183 @@
+//! The expressions of a tree, and the parts that stand in them.
+//!
+//! Python library reference, `ast`: "Abstract grammar", `expr`.
+
+use crate::constants::Constant;
+use crate::identifiers::Identifier;
+use crate::operators::{BoolOperator, Comparison, Context, Operator, UnaryOperator};
+
+/// An expression: the class `expr`. It takes 64 bytes.
+#[derive(Drop)]
+#[cycle(expressions)]
+pub enum Expr {
+    /// `a and b and c`.
+    BoolOp {
+        op: BoolOperator,
+        values: Vec<Expr>,
+    },
+    /// `a := b`.
+    NamedExpr {
+        target: Box<Expr>,
+        value: Box<Expr>,
+    },
+    /// `a + b`.
+    BinOp {
+        left: Box<Expr>,
+        op: Operator,
+        right: Box<Expr>,
+    },
+    /// `-a`, `not a`.
+    UnaryOp {
+        op: UnaryOperator,
+        operand: Box<Expr>,
+    },
+    /// `lambda a: b`.
+    Lambda {
+        args: Box<Arguments>,
+        body: Box<Expr>,
+    },
+    /// `body if test else orelse`.
+    IfExp {
+        test: Box<Expr>,
+        body: Box<Expr>,
+        orelse: Box<Expr>,
+    },
+    /// `{a: b, **c}`. A `**c` has no key, and the value `c`.
+    Dict {
+        keys: Vec<Option<Expr>>,
+        values: Vec<Expr>,
+    },
+    /// `{a, b}`.
+    Set {
+        elts: Vec<Expr>,
+    },
+    /// `[a for b in c]`.
+    ListComp {
+        elt: Box<Expr>,
+        generators: Vec<Comprehension>,
+    },
+    /// `{a for b in c}`.
+    SetComp {
+        elt: Box<Expr>,
+        generators: Vec<Comprehension>,
+    },
+    /// `{a: b for c in d}`.
+    DictComp {
+        key: Box<Expr>,
+        value: Box<Expr>,
+        generators: Vec<Comprehension>,
+    },
+    /// `(a for b in c)`.
+    GeneratorExp {
+        elt: Box<Expr>,
+        generators: Vec<Comprehension>,
+    },
+    /// `await a`.
+    Await {
+        value: Box<Expr>,
+    },
+    /// `yield`, `yield a`.
+    Yield {
+        value: Option<Box<Expr>>,
+    },
+    /// `yield from a`.
+    YieldFrom {
+        value: Box<Expr>,
+    },
+    /// `a < b == c`: as many operators as comparators.
+    Compare {
+        left: Box<Expr>,
+        ops: Vec<Comparison>,
+        comparators: Vec<Expr>,
+    },
+    /// `f(a, *b, c=d, **e)`.
+    Call {
+        func: Box<Expr>,
+        args: Vec<Expr>,
+        keywords: Vec<Keyword>,
+    },
+    /// `1`, `'a'`, `b'a'`, `None`, `...`.
+    Constant {
+        value: Constant,
+    },
+    /// `value.attr`.
+    Attribute {
+        value: Box<Expr>,
+        attr: Identifier,
+        ctx: Context,
+    },
+    /// `value[slice]`.
+    Subscript {
+        value: Box<Expr>,
+        slice: Box<Expr>,
+        ctx: Context,
+    },
+    /// `*value`.
+    Starred {
+        value: Box<Expr>,
+        ctx: Context,
+    },
+    /// A name.
+    Name {
+        id: Identifier,
+        ctx: Context,
+    },
+    /// `[a, b]`.
+    List {
+        elts: Vec<Expr>,
+        ctx: Context,
+    },
+    /// `(a, b)`, `a, b`.
+    Tuple {
+        elts: Vec<Expr>,
+        ctx: Context,
+    },
+    /// `lower:upper:step`, in a subscript.
+    Slice {
+        lower: Option<Box<Expr>>,
+        upper: Option<Box<Expr>>,
+        step: Option<Box<Expr>>,
+    },
+}
+
+/// A `for` with its `if`s: the class `comprehension`.
+#[derive(Drop)]
+#[cycle(expressions)]
+pub struct Comprehension {
+    pub target: Expr,
+    pub iter: Expr,
+    pub ifs: Vec<Expr>,
+    pub is_async: bool,
+}
+
+/// An argument by name, or one of `**`, which has no name: the class `keyword`.
+#[derive(Drop)]
+#[cycle(expressions)]
+pub struct Keyword {
+    pub arg: Option<Identifier>,
+    pub value: Expr,
+}
+
+/// A parameter: the class `arg`.
+#[derive(Drop)]
+#[cycle(expressions)]
+pub struct Arg {
+    pub arg: Identifier,
+    pub annotation: Option<Box<Expr>>,
+}
+
+/// The parameters of a function: the class `arguments`.
+///
+/// `kw_defaults` has an element for each of `kwonlyargs`, none for one without a default;
+/// `defaults` are those of the last of `posonlyargs` and `args`.
+#[derive(Drop)]
+#[cycle(expressions)]
+pub struct Arguments {
+    pub posonlyargs: Vec<Arg>,
+    pub args: Vec<Arg>,
+    pub vararg: Option<Arg>,
+    pub kwonlyargs: Vec<Arg>,
+    pub kw_defaults: Vec<Option<Expr>>,
+    pub kwarg: Option<Arg>,
+    pub defaults: Vec<Expr>,
+}

@@ -1,0 +1,206 @@
+//! The statements of a tree, and the parts that stand in them.
+//!
+//! Python library reference, `ast`: "Abstract grammar", `stmt`.
+
+use crate::expressions::{Arguments, Expr, Keyword};
+use crate::identifiers::Identifier;
+use crate::operators::Operator;
+
+/// A statement: the class `stmt`. It takes 160 bytes.
+///
+/// An expression stands in its statement; it is boxed where the statement would be larger than
+/// all others.
+#[derive(Drop)]
+#[cycle(statements)]
+pub enum Stmt {
+    /// `def`.
+    FunctionDef {
+        name: Identifier,
+        args: Box<Arguments>,
+        body: Vec<Stmt>,
+        decorator_list: Vec<Expr>,
+        returns: Option<Box<Expr>>,
+        type_params: Vec<TypeParam>,
+    },
+    /// `async def`.
+    AsyncFunctionDef {
+        name: Identifier,
+        args: Box<Arguments>,
+        body: Vec<Stmt>,
+        decorator_list: Vec<Expr>,
+        returns: Option<Box<Expr>>,
+        type_params: Vec<TypeParam>,
+    },
+    /// `class`.
+    ClassDef {
+        name: Identifier,
+        bases: Vec<Expr>,
+        keywords: Vec<Keyword>,
+        body: Vec<Stmt>,
+        decorator_list: Vec<Expr>,
+        type_params: Vec<TypeParam>,
+    },
+    /// `return`, `return a`.
+    Return {
+        value: Option<Expr>,
+    },
+    /// `del a, b`.
+    Delete {
+        targets: Vec<Expr>,
+    },
+    /// `a = b = c`: the targets are `a` and `b`.
+    Assign {
+        targets: Vec<Expr>,
+        value: Expr,
+    },
+    /// `type a = b`, of Python 3.12.
+    TypeAlias {
+        name: Expr,
+        type_params: Vec<TypeParam>,
+        value: Expr,
+    },
+    /// `a += b`.
+    AugAssign {
+        target: Expr,
+        op: Operator,
+        value: Expr,
+    },
+    /// `a: b`, `a: b = c`. It is simple where the target is a name without brackets.
+    AnnAssign {
+        target: Box<Expr>,
+        annotation: Box<Expr>,
+        value: Option<Box<Expr>>,
+        simple: bool,
+    },
+    /// `for`.
+    For {
+        target: Box<Expr>,
+        iter: Box<Expr>,
+        body: Vec<Stmt>,
+        orelse: Vec<Stmt>,
+    },
+    /// `async for`.
+    AsyncFor {
+        target: Box<Expr>,
+        iter: Box<Expr>,
+        body: Vec<Stmt>,
+        orelse: Vec<Stmt>,
+    },
+    /// `while`.
+    While {
+        test: Expr,
+        body: Vec<Stmt>,
+        orelse: Vec<Stmt>,
+    },
+    /// `if`. An `elif` is an `if` alone in `orelse`.
+    If {
+        test: Expr,
+        body: Vec<Stmt>,
+        orelse: Vec<Stmt>,
+    },
+    /// `with`.
+    With {
+        items: Vec<Item>,
+        body: Vec<Stmt>,
+    },
+    /// `async with`.
+    AsyncWith {
+        items: Vec<Item>,
+        body: Vec<Stmt>,
+    },
+    /// `raise`, `raise a`, `raise a from b`.
+    Raise {
+        exc: Option<Expr>,
+        cause: Option<Expr>,
+    },
+    /// `try` with `except`s, or with `finally` alone.
+    Try {
+        body: Vec<Stmt>,
+        handlers: Vec<Handler>,
+        orelse: Vec<Stmt>,
+        finalbody: Vec<Stmt>,
+    },
+    /// `try` with `except*`s.
+    TryStar {
+        body: Vec<Stmt>,
+        handlers: Vec<Handler>,
+        orelse: Vec<Stmt>,
+        finalbody: Vec<Stmt>,
+    },
+    /// `assert a`, `assert a, b`.
+    Assert {
+        test: Expr,
+        msg: Option<Expr>,
+    },
+    /// `import a.b as c, d`.
+    Import {
+        names: Vec<Alias>,
+    },
+    /// `from ..a import b as c, d`: its level is the number of dots in front, and it has no module
+    /// where nothing stands behind them.
+    ImportFrom {
+        module: Option<Identifier>,
+        names: Vec<Alias>,
+        level: u64,
+    },
+    /// `global a, b`.
+    Global {
+        names: Vec<Identifier>,
+    },
+    /// `nonlocal a, b`.
+    Nonlocal {
+        names: Vec<Identifier>,
+    },
+    /// An expression that stands as a statement.
+    Expr {
+        value: Expr,
+    },
+    /// `pass`.
+    Pass,
+    /// `break`.
+    Break,
+    /// `continue`.
+    Continue,
+}
+
+/// An `except` with its block: the class `ExceptHandler`. `class` is its field `type`.
+#[derive(Drop)]
+#[cycle(statements)]
+pub struct Handler {
+    pub class: Option<Expr>,
+    pub name: Option<Identifier>,
+    pub body: Vec<Stmt>,
+}
+
+/// A name of an import: the class `alias`. The name may hold dots, and is `*` in
+/// `from a import *`.
+#[derive(Drop)]
+pub struct Alias {
+    pub name: Identifier,
+    pub asname: Option<Identifier>,
+}
+
+/// An item of a `with`: the class `withitem`.
+#[derive(Drop)]
+pub struct Item {
+    pub context_expr: Expr,
+    pub optional_vars: Option<Expr>,
+}
+
+/// A parameter of a type, of Python 3.12: the class `type_param`.
+#[derive(Drop)]
+pub enum TypeParam {
+    /// `T`, `T: int`.
+    TypeVar {
+        name: Identifier,
+        bound: Option<Expr>,
+    },
+    /// `**P`.
+    ParamSpec {
+        name: Identifier,
+    },
+    /// `*Ts`.
+    TypeVarTuple {
+        name: Identifier,
+    },
+}

@@ -1,0 +1,9 @@
+mod CapLemmas
+mod ArgumentsLemmas
+mod IdentifierLemmas
+mod NameLemmas
+mod ExprClasses
+mod StmtClasses
+mod SameLists
+mod Members
+mod Refuted

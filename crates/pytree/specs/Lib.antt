@@ -1,0 +1,9 @@
+pub mod Heights
+pub mod Names
+pub use Rattle.pynode.specs.Points
+pub use Rattle.pynode.specs.TreeOf
+pub use Rattle.pynode.specs.Trees
+pub use Rattle.pynode.specs.Values
+pub use Rattle.pydump.specs.Layout
+pub use Rattle.pydump.specs.Shows
+pub use Rattle.pydump.specs.declared.styles.Style

@@ -1,0 +1,99 @@
+//! Keywords, identifiers and names, as the language reference has them.
+
+use pytree::{is_identifier, is_keyword, is_name};
+use std::test::Fail;
+
+/// The keywords of Python 3.11 (language reference, 2.3.1), row by row.
+const KEYWORDS: [&str; 35] = [
+    "False", "await", "else", "import", "pass", "None", "break", "except", "in", "raise", "True",
+    "class", "finally", "is", "return", "and", "continue", "for", "lambda", "try", "as", "def",
+    "from", "nonlocal", "while", "assert", "del", "global", "not", "with", "async", "elif", "if",
+    "or", "yield",
+];
+
+#[test]
+fn keywords(rt: HostRuntime) {
+    for text in KEYWORDS {
+        assert!(rt; is_keyword(text), "{text}");
+    }
+}
+
+/// Other cases, soft keywords, what was a keyword, fronts, longer texts, another form.
+#[test]
+fn no_keywords(rt: HostRuntime) {
+    let rows = [
+        "",
+        "Match",
+        "none",
+        "NONE",
+        "true",
+        "IF",
+        "match",
+        "case",
+        "type",
+        "_",
+        "print",
+        "exec",
+        "i",
+        "cont",
+        "iff",
+        "nonlocals",
+        "if ",
+        " if",
+        "elseif",
+        "ﬁnally",
+    ];
+    for text in rows {
+        assert!(rt; !is_keyword(text), "{text}");
+    }
+}
+
+/// By `str.isidentifier` of Python.
+#[test]
+fn identifiers(rt: HostRuntime) {
+    let rows = [
+        ("x1", true),
+        ("_", true),
+        ("__init__", true),
+        ("é", true),
+        ("ﬁ", true),
+        ("变量", true),
+        ("if", true),
+        ("x·", true),
+        ("", false),
+        ("1x", false),
+        ("a b", false),
+        ("a-b", false),
+        ("a.b", false),
+        ("a ", false),
+        ("²", false),
+        ("x²", false),
+        ("·x", false),
+        ("$x", false),
+    ];
+    for (text, expected) in rows {
+        assert_eq!(rt; is_identifier(text), expected, "{text}");
+    }
+}
+
+/// What `ast.parse` gives as the `id` of a `Name`: `ﬁ` is read as `fi`, `ª` as `a`.
+#[test]
+fn names(rt: HostRuntime) -> Result<(), Fail> {
+    let rows = [
+        ("fi", true),
+        ("é", true),
+        ("_", true),
+        ("match", true),
+        ("if", false),
+        ("None", false),
+        ("ﬁ", false),
+        ("ª", false),
+        ("e\u{301}", false),
+        ("1x", false),
+        ("", false),
+    ];
+    for (text, expected) in rows {
+        assert_eq!(rt; is_name(rt.alloc(), text)?, expected, "{text}");
+    }
+    Ok(())
+}
