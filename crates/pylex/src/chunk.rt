@@ -59,7 +59,7 @@ fn add_lines<R: ByteIn>(
 
 impl Chunk {
     /// Before the first line.
-    pub fn new(alloc: Global, lines: LineReader) -> Chunk
+    pub(crate) fn new(alloc: Global, lines: LineReader) -> Chunk
         ensures lines { result.lines ≡ lines }
         ensures text { string_bytes result.text ≡ [] }
         ensures spare { string_bytes result.spare ≡ [] }
@@ -76,7 +76,7 @@ impl Chunk {
     }
 
     /// The text that a lister has not looked at.
-    pub fn rest(&self) -> &str
+    pub(crate) fn rest(&self) -> &str
         requires { IsCharBoundary (string_bytes self.now.text) self.now.at }
         ensures { result.now ≡ drop self.entry.now.at (string_bytes self.entry.now.text) }
     {
@@ -84,7 +84,7 @@ impl Chunk {
     }
 
     /// The text between two offsets of the source's text.
-    pub fn between(&self, from: usize, to: usize) -> &str
+    pub(crate) fn between(&self, from: usize, to: usize) -> &str
         requires low { self.now.base ≤ from }
         requires order { from ≤ to }
         requires high { to ≤ self.now.base + length (string_bytes self.now.text) }
@@ -97,7 +97,7 @@ impl Chunk {
 
     /// Reads the next line, behind what is left from `at` on: where that is nothing the line takes the place of those
     /// held, and else it lengthens them. Where no line comes nothing is changed.
-    pub fn read_on<R: ByteIn>(&mut self, reader: &mut R, at: usize) -> Result<Line, AllocError>
+    pub(crate) fn read_on<R: ByteIn>(&mut self, reader: &mut R, at: usize) -> Result<Line, AllocError>
         requires reading { self.old.lines.reach ≡ Reach.Reading → R.failure_count reader.old < 2 ^ 64 - 1 }
         requires within { self.old.lines.count ≤ source_limit }
         requires chunk { IsChunk self.old }

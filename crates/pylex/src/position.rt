@@ -288,7 +288,7 @@ pub struct Position {
 
 impl Position {
     /// At the start of a source. No memory is taken.
-    pub fn start(alloc: Global) -> Position
+    pub(crate) fn start(alloc: Global) -> Position
         ensures given { result.given ≡ 0 }
         ensures point { (k : ℕ) (levels : List ℕ) → shown_by k result.point levels 0 ≡ shown_at k (with_levels result.now (0 ∷ levels)) }
         ensures levels { result.levels.items ≡ [] }
@@ -308,7 +308,7 @@ impl Position {
     }
 
     /// At the point of a cursor, where nothing is looked at behind it.
-    pub fn at(given: usize, point: Shown, levels: Vec<usize>, line: &str) -> Position
+    pub(crate) fn at(given: usize, point: Shown, levels: Vec<usize>, line: &str) -> Position
         requires { length line.now < 2 ^ 62 }
         ensures given { result.given ≡ given }
         ensures point { result.point ≡ point }
@@ -330,7 +330,7 @@ impl Position {
 
     /// Whether no entry was given.
     #[inline(always)]
-    pub fn is_at_start(&self) -> bool
+    pub(crate) fn is_at_start(&self) -> bool
         ensures start { result ≡ true → self.entry.now.given ≡ 0 }
         ensures behind { result ≡ false → 0 < self.entry.now.given }
     {
@@ -339,7 +339,7 @@ impl Position {
 
     /// Gives the entry of the encoding, the first one.
     #[inline(always)]
-    pub fn begin(&mut self) -> Entry
+    pub(crate) fn begin(&mut self) -> Entry
         ensures entry { mark_at Kind.Encoding 0 origin origin ≡ Step.Entry result }
         ensures given { self.new ≡ record self.old { given = 1 } }
     {
@@ -350,7 +350,7 @@ impl Position {
 
     /// How far the lister has looked from the point.
     #[inline(always)]
-    pub fn now(&self) -> Progress
+    pub(crate) fn now(&self) -> Progress
         ensures { result ≡ self.entry.now.now }
     {
         self.now
@@ -358,7 +358,7 @@ impl Position {
 
     /// Goes on from here at the next look.
     #[inline(always)]
-    pub fn look_from(&mut self, now: Progress)
+    pub(crate) fn look_from(&mut self, now: Progress)
         ensures { self.new ≡ record self.old { now = now } }
     {
         self.now = now;
@@ -366,7 +366,7 @@ impl Position {
 
     /// What is met next in a text, and how far from it.
     #[inline(always)]
-    pub fn meet<'a>(&self, text: &'a str) -> (Meets, Progress, &'a str)
+    pub(crate) fn meet<'a>(&self, text: &'a str) -> (Meets, Progress, &'a str)
         requires stands { Stands self.now.now text.now }
         requires ascending { IsAscending 0 self.now.levels.items }
         requires within { self.now.nested ≤ length self.now.levels.items }
@@ -387,7 +387,7 @@ impl Position {
     ///
     /// Memory is taken only for an INDENT; where it is refused nothing is changed.
     #[inline(always)]
-    pub fn go(
+    pub(crate) fn go(
         &mut self,
         meets: Meets,
         now: Progress,
@@ -443,7 +443,7 @@ impl Position {
     }
 
     /// How many entries without text were given behind the point.
-    pub fn skip(&self) -> usize
+    pub(crate) fn skip(&self) -> usize
         requires { HasPlace self.now }
         ensures { result ≡ (length self.entry.now.levels.items - self.entry.now.nested) + self.entry.now.tail }
     {
@@ -451,7 +451,7 @@ impl Position {
     }
 
     /// Whether this is the cursor of the position.
-    pub fn is_at(&self, cursor: &Cursor) -> bool
+    pub(crate) fn is_at(&self, cursor: &Cursor) -> bool
         requires { HasPlace self.now }
         ensures { IsTrue result ↔ (cursor.now ≡ shown_from self.entry.now) }
     {
@@ -459,7 +459,7 @@ impl Position {
     }
 
     /// The cursor of the position.
-    pub fn cursor(&self) -> Result<Cursor, AllocError>
+    pub(crate) fn cursor(&self) -> Result<Cursor, AllocError>
         requires place { HasPlace self.now }
         requires row { 1 ≤ self.now.point.row }
         ensures { IfOk result (λ cursor. cursor ≡ shown_from self.entry.now) }

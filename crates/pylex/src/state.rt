@@ -169,7 +169,7 @@ fn walk(place: Place, front: Front, text: &str) -> (Place, Front)
 }
 
 /// What a line begins with.
-pub fn front_of(line: &str) -> Front
+pub(crate) fn front_of(line: &str) -> Front
     requires { length line.now < 2 ^ 62 }
     ensures { result ≡ front_after Front.Nothing (chars line.now) }
 {
@@ -224,7 +224,7 @@ impl Point {
 }
 
 /// The entry from a point to another.
-pub fn entry_of(kind: Kind, exact: Option<Exact>, from: Point, to: Point) -> Entry
+pub(crate) fn entry_of(kind: Kind, exact: Option<Exact>, from: Point, to: Point) -> Entry
     ensures { step_of kind exact from to ≡ Step.Entry result }
 {
     Entry {
@@ -238,7 +238,7 @@ pub fn entry_of(kind: Kind, exact: Option<Exact>, from: Point, to: Point) -> Ent
 }
 
 /// An entry of empty text.
-pub fn mark(kind: Kind, offset: usize, start: Place, end: Place) -> Entry
+pub(crate) fn mark(kind: Kind, offset: usize, start: Place, end: Place) -> Entry
     ensures { mark_at kind offset start end ≡ Step.Entry result }
 {
     Entry {
@@ -253,7 +253,7 @@ pub fn mark(kind: Kind, offset: usize, start: Place, end: Place) -> Entry
 
 impl Progress {
     /// At the start of a text.
-    pub fn start() -> Progress
+    pub(crate) fn start() -> Progress
         ensures { with_levels result (0 ∷ []) ≡ first_state }
     {
         let point = Point {
@@ -273,7 +273,7 @@ impl Progress {
     }
 
     /// After the layout before the first thing of a logical line.
-    pub fn measured(self) -> Progress
+    pub(crate) fn measured(self) -> Progress
         ensures measured { (levels : List ℕ) → with_levels result (pushed self.width levels) ≡ measured (with_levels self levels) }
         ensures room { (n : ℕ) → HasRoom self n → HasRoom result n }
     {
@@ -286,7 +286,7 @@ impl Progress {
     }
 
     /// Directly behind an entry with text: a line is yet to be measured only at its start.
-    pub fn begun_anew(self) -> Progress
+    pub(crate) fn begun_anew(self) -> Progress
         ensures begun { (levels : List ℕ) → with_levels result levels ≡ begun_anew (with_levels self levels) }
         ensures room { (n : ℕ) → HasRoom self n → HasRoom result n }
     {
@@ -317,7 +317,7 @@ impl Progress {
     #[tactic(auto, unfolding(crate::specs::Machine::entry_by))]
     /// What a lexeme gives that ends at a point: an entry, nothing, or the fault of a closing bracket where none is open.
     #[inline(always)]
-    pub fn give(self, class: Class, text: &str, end: Point) -> Given
+    pub(crate) fn give(self, class: Class, text: &str, end: Point) -> Given
         requires room { HasRoom self (length text.now) }
         requires end { end ≡ past self.now (chars text.now) }
         requires counted { bytes_in (chars text.now) ≡ length text.now }
@@ -397,7 +397,7 @@ impl Progress {
 
     /// How far the lister has come after a lexeme.
     #[inline(always)]
-    pub fn after(self, class: Class, text: &str) -> Progress
+    pub(crate) fn after(self, class: Class, text: &str) -> Progress
         requires room { HasRoom self (length text.now) }
         requires counted { bytes_in (chars text.now) ≡ length text.now }
         requires some { 0 < length text.now }
@@ -424,7 +424,7 @@ impl Progress {
     }
 
     /// Whether a statement is open at the text's end: within brackets, or directly after a join.
-    pub fn is_open(self) -> bool
+    pub(crate) fn is_open(self) -> bool
         ensures { result ≡ (not (self.depth == 0) || self.joined) }
     {
         self.depth != 0 || self.joined
@@ -432,7 +432,7 @@ impl Progress {
 
     /// The line end that the text's end gives to a last line that lacks its own, if it does.
     #[tactic(auto, unfolding(crate::specs::Machine::last_line_end))]
-    pub fn last_line_end(self) -> Given
+    pub(crate) fn last_line_end(self) -> Given
         requires { self.now.place.column < 2 ^ 62 }
         ensures { (levels : List ℕ) → last_line_end (with_levels self levels) ≡ given result }
     {
@@ -454,7 +454,7 @@ impl Progress {
     }
 
     /// The start of the row after the last line, an unfinished one counted.
-    pub fn row_after(self) -> Place
+    pub(crate) fn row_after(self) -> Place
         requires { self.now.place.row < 2 ^ 62 }
         ensures { result ≡ record { row = row_after self.now.place; column = 0 } }
     {
@@ -470,7 +470,7 @@ impl Progress {
     }
 
     /// Where the entries of the end stand.
-    pub fn last_place(self) -> Place
+    pub(crate) fn last_place(self) -> Place
         requires { self.now.place.row < 2 ^ 62 }
         ensures { (levels : List ℕ) → result ≡ last_place (with_levels self levels) }
     {
