@@ -97,7 +97,11 @@ impl Chunk {
 
     /// Reads the next line, behind what is left from `at` on: where that is nothing the line takes the place of those
     /// held, and else it lengthens them. Where no line comes nothing is changed.
-    pub(crate) fn read_on<R: ByteIn>(&mut self, reader: &mut R, at: usize) -> Result<Line, AllocError>
+    pub(crate) fn read_on<R: ByteIn>(
+        &mut self,
+        reader: &mut R,
+        at: usize,
+    ) -> Result<Line, AllocError>
         requires reading { self.old.lines.reach ≡ Reach.Reading → R.failure_count reader.old < 2 ^ 64 - 1 }
         requires within { self.old.lines.count ≤ source_limit }
         requires chunk { IsChunk self.old }
