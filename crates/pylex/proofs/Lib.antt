@@ -61,3 +61,4 @@ mod LexedOn
 mod AheadOn
 mod JoinedOn
 mod Unencoded
+mod MarginLemmas

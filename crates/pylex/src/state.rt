@@ -178,7 +178,7 @@ pub(crate) fn front_of(line: &str) -> Front
 }
 
 /// The column that a blank goes on to: a tab goes to the next multiple of 8, a form feed sets 0.
-fn column_after(column: usize, blank: char) -> usize
+pub(crate) fn column_after(column: usize, blank: char) -> usize
     requires { column < 2 ^ 63 }
     ensures value { result ≡ column_after column blank }
     ensures bound { result ≤ column + 8 }

@@ -7,3 +7,14 @@ pub use Rattle.pynode.specs.Values
 pub use Rattle.pydump.specs.Layout
 pub use Rattle.pydump.specs.Shows
 pub use Rattle.pydump.specs.declared.styles.Style
+pub use Rattle.pytoken.specs.Brackets
+pub use Rattle.pytoken.specs.Escapes
+pub use Rattle.pytoken.specs.Indentation
+pub use Rattle.pytoken.specs.Keywords
+pub use Rattle.pytoken.specs.Laws
+pub use Rattle.pytoken.specs.NameValues
+pub use Rattle.pytoken.specs.NumberValues
+pub use Rattle.pytoken.specs.Refusals
+pub use Rattle.pytoken.specs.StringValues
+pub use Rattle.pytoken.specs.Terminals
+pub use Rattle.pytoken.specs.Tokens

@@ -4,12 +4,18 @@
 //! [`copy`] makes an equal one, [`same`] tells whether two are equal, and [`dump`] gives the text
 //! that Python's `ast.dump` gives, by the crate `pydump`.
 //!
+//! What the tokens of a source are to the grammar, and what they say, comes from `pytoken`:
+//! [`Refusal`], [`TokenError`], [`Meaning`]. Its `Keyword` is named there alone, since [`Keyword`]
+//! here is the one of calls and classes, `name=value`.
+//!
 //! What makes a tree well formed is said in terms of the levels of the expression grammar
 //! ([`Level`]) and of names ([`is_name`], [`is_identifier`], [`is_keyword`]).
 //!
 //! The words of contracts are in `specs/`: `Heights` defines heights, `Names` names. Those of
 //! `pynode` and `pydump` come from here too: `Trees` has the trees as values with no addresses,
-//! `TreeOf` the value of each node, `Shows` what a tree shows, `Layout` the text of that.
+//! `TreeOf` the value of each node, `Shows` what a tree shows, `Layout` the text of that. So do
+//! those of `pytoken`: `Tokens` has the tokens of a source, `Terminals` what each is to the
+//! grammar, `Refusals` why a source has none, and `Laws` what holds of the values of tokens.
 #![tactic(auto)]
 
 mod copies;
@@ -40,3 +46,4 @@ pub use pynode::{
     Handler, Identifier, Integer, Item, Keyword, Module, Operator, Points, Profile, Stmt,
     TypeParam, UnaryOperator,
 };
+pub use pytoken::{Meaning, Refusal, TokenError};

@@ -1,0 +1,10 @@
+mod TextLemmas
+mod NameLemmas
+mod NumberLemmas
+mod DigitLemmas
+mod EscapeLemmas
+mod Filtered
+mod LiteralLemmas
+mod ListingLemmas
+mod IndentLemmas
+mod GatherLemmas

@@ -1,0 +1,57 @@
+-- Carries: is_name, form_fault, name_fault. On: names by their characters, and the tests of a form.
+use Rattle.std.proofs.Common.{◌≡◌, ℕ, Bool, true, false, List, [], ◌∷◌, refl, sym, ap, Some, None, is_some}
+use Rattle.std.specs.Prelude.{◌&&◌, ◌↔◌, IsTrue}
+use Rattle.std.specs.List.{list_all}
+use Rattle.std.specs.Str.{chars}
+use Rattle.std.proofs.lemmas.Slice.Eq.{bytes_eq-Decides}
+use Rattle.unicode_ident.specs.Ident.{is_xid_continue}
+use Rattle.unicode_normalization.specs.Forms.{Nfkc, nfkc, is_in_form, IsInForm}
+use Rattle.pylexeme.specs.Chars.{starts_name}
+use Rattle.pylexeme.specs.Lexemes.{is_name}
+use Rattle.pytoken.specs.declared.faults.TokenError.TheVariants.{NameForm}
+use Rattle.pytoken.specs.Keywords.{keyword_of}
+use Rattle.pytoken.specs.NameValues.{form_fault, name_fault}
+
+pub spelled : (bs rest : List ℕ) (c : ℕ) → chars bs ≡ c ∷ chars rest → (starts_name c && list_all is_xid_continue (chars rest)) ≡ is_name (chars bs)
+unfolding is_name
+spelled bs rest c e = sym (ap is_name e)
+
+pub empty : (bs : List ℕ) → chars bs ≡ [] → false ≡ is_name (chars bs)
+unfolding is_name
+empty bs e = sym (ap is_name e)
+
+-- a test tells whether a text is its own form
+pub told : (b : Bool) (t : List ℕ) → IsTrue b ↔ IsInForm Nfkc t → b ≡ is_in_form Nfkc t
+told b t by =
+    let decides = bytes_eq-Decides (nfkc t) t in
+    same b (is_in_form Nfkc t) (λ is. decides.1 (by.0 is)) (λ own. by.1 (decides.0 own))
+  where
+    same : (a b : Bool) → (a ≡ true → b ≡ true) → (b ≡ true → a ≡ true) → a ≡ b
+    same true true to from = refl
+    same true false to from = sym (to refl)
+    same false true to from = from refl
+    same false false to from = refl
+
+pub form_of_keyword : (t : List ℕ) → is_some (keyword_of t) ≡ true → form_fault t ≡ Some NameForm
+unfolding form_fault
+form_of_keyword t word = rw word refl
+
+pub form_of_no_name : (t : List ℕ) → is_some (keyword_of t) ≡ false → is_name t ≡ false → form_fault t ≡ Some NameForm
+unfolding form_fault
+form_of_no_name t word name = rw (word, name) refl
+
+pub form_own : (t : List ℕ) → is_some (keyword_of t) ≡ false → is_name t ≡ true → is_in_form Nfkc t ≡ true → form_fault t ≡ None
+unfolding form_fault
+form_own t word name own = rw (word, name, own) refl
+
+pub form_other : (t : List ℕ) → is_some (keyword_of t) ≡ false → is_name t ≡ true → is_in_form Nfkc t ≡ false → form_fault t ≡ Some NameForm
+unfolding form_fault
+form_other t word name other = rw (word, name, other) refl
+
+pub name_own : (t : List ℕ) → is_in_form Nfkc t ≡ true → name_fault t ≡ None
+unfolding name_fault
+name_own t own = rw own refl
+
+pub name_other : (t : List ℕ) → is_in_form Nfkc t ≡ false → name_fault t ≡ form_fault (nfkc t)
+unfolding name_fault
+name_other t other = rw other refl

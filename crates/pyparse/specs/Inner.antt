@@ -1,0 +1,3 @@
+pub mod Gathering
+pub mod Indenting
+pub mod Readings

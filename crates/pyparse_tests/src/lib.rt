@@ -1,0 +1,10 @@
+//! Tests of `pyparse`: rows whose outcome was taken from Python 3.11 (`ast.literal_eval`, `ast.parse`), and each call once where all
+//! goes well.
+#![tactic(auto)]
+
+#[cfg(test)]
+mod refusals;
+#[cfg(test)]
+mod tokens;
+#[cfg(test)]
+mod values;

@@ -1,0 +1,123 @@
+//! Why sources have no tokens, and which reason is told.
+
+use pylex::{ListingError, ListingFault};
+use pyparse::{ParseFault, tokens_of};
+use pysource::{Place, decode};
+use pytoken::{Refusal, TokenError};
+use std::alloc::Global;
+use std::test::Fail;
+
+/// Why a source has no tokens, or that it has some.
+fn refusal_of(alloc: Global, text: &str) -> Result<Option<Refusal>, Fail> {
+    let source = decode(alloc, text.as_bytes())?;
+    match tokens_of(alloc, &source) {
+        Ok(_) => Ok(None),
+        Err(ParseFault::Refused(refusal)) => Ok(Some(refusal)),
+        Err(ParseFault::Memory) => Err(Fail::from("no memory")),
+    }
+}
+
+#[test]
+fn tokens_with_a_fault_of_their_own(rt: HostRuntime) -> Result<(), Fail> {
+    for (text, fault, row, column) in [
+        ("x = 1.5\n", TokenError::Float, 1, 4),
+        ("match 1.5:\n", TokenError::Float, 1, 6),
+        ("a + 1j\n", TokenError::Complex, 1, 4),
+        ("f'' + 1j\n", TokenError::FString, 1, 0),
+        ("'\\N{DASH}'\n", TokenError::NamedEscape, 1, 0),
+        ("'\\x4'\n", TokenError::BadEscape, 1, 0),
+        ("b'\\400'\n", TokenError::BadEscape, 1, 0),
+        ("b'é'\n", TokenError::NonAsciiBytes, 1, 0),
+        ("# \0\n", TokenError::Nul, 1, 0),
+        ("ｉｆ = 1\n", TokenError::NameForm, 1, 0),
+        (
+            "x = 340282366920938463463374607431768211456\n",
+            TokenError::IntegerTooLarge,
+            1,
+            4,
+        ),
+        // The first that has one, though another kind comes before it in the table.
+        ("'\\x4'\nx = 1.5\n", TokenError::BadEscape, 1, 0),
+        // Before tabs and spaces, and before brackets.
+        ("if x:\n        y\n\tz = 1.5\n", TokenError::Float, 3, 5),
+    ] {
+        let expected = Refusal::Token(fault, Place { row, column });
+        assert_eq!(rt;
+            refusal_of(rt.alloc(), text)?,
+            Some(expected),
+            "at {text:?}"
+        );
+    }
+    Ok(())
+}
+
+#[test]
+fn the_fault_of_the_listing_before_all(rt: HostRuntime) -> Result<(), Fail> {
+    let fault = ListingFault {
+        code: ListingError::UnmatchedCloser,
+        place: Place { row: 2, column: 0 },
+    };
+    assert_eq!(rt;
+        refusal_of(rt.alloc(), "x = 1.5\n)\n")?,
+        Some(Refusal::Listing(fault))
+    );
+    Ok(())
+}
+
+#[test]
+fn tabs_and_spaces(rt: HostRuntime) -> Result<(), Fail> {
+    for (text, row, column) in [
+        ("if x:\n        y\n\tz\n", 3, 1),
+        ("if x:\n\ty\n        z\n", 3, 8),
+        ("if x:\n  y\n\tz\n", 3, 1),
+        ("if x:\n \ty\n\t z\n", 3, 2),
+        ("if a:\n\tif b:\n\t        c\n        d\n", 4, 8),
+    ] {
+        let expected = Refusal::MixedTabs(Place { row, column });
+        assert_eq!(rt;
+            refusal_of(rt.alloc(), text)?,
+            Some(expected),
+            "at {text:?}"
+        );
+    }
+    for text in ["if x:\n\ty\n\tz\n", "if x:\n    y\n\t# c\n    z\n"] {
+        assert_eq!(rt; refusal_of(rt.alloc(), text)?, None, "at {text:?}");
+    }
+    Ok(())
+}
+
+/// A source of `count` brackets round a text.
+fn bracketed(alloc: Global, count: usize, text: &str) -> Result<String, Fail> {
+    let mut source = String::new(alloc);
+    for _ in 0..count {
+        source.push_str("(")?;
+    }
+    source.push_str(text)?;
+    for _ in 0..count {
+        source.push_str(")")?;
+    }
+    source.push_str("\n")?;
+    Ok(source)
+}
+
+#[test]
+fn brackets(rt: HostRuntime) -> Result<(), Fail> {
+    let source = bracketed(rt.alloc(), 600, "x")?;
+    assert_eq!(rt; refusal_of(rt.alloc(), source.as_str())?, None);
+    let source = bracketed(rt.alloc(), 601, "x")?;
+    let expected = Refusal::TooDeep(Place {
+        row: 1,
+        column: 600,
+    });
+    assert_eq!(rt; refusal_of(rt.alloc(), source.as_str())?, Some(expected));
+    let source = bracketed(rt.alloc(), 601, "1.5")?;
+    let expected = Refusal::Token(
+        TokenError::Float,
+        Place {
+            row: 1,
+            column: 601,
+        },
+    );
+    assert_eq!(rt; refusal_of(rt.alloc(), source.as_str())?, Some(expected));
+    Ok(())
+}

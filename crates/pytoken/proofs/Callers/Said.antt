@@ -1,0 +1,38 @@
+-- On: what the text of a tree writes for names and constants comes back; faults of numbers by their class; the points of literals;
+-- the tokens of a source that isn't refused.
+use Rattle.std.proofs.Common.{◌≡◌, ℕ, true, List, None}
+use Rattle.std.specs.List.{list_all}
+use Rattle.pylex.specs.Listing.{Source}
+use Rattle.pylex.specs.Laws.{IsLawful}
+use Rattle.pytoken.specs.StringValues.{is_bytes, points_of, literal_fault}
+use Rattle.pytoken.specs.Laws.{is_byte, ComeBack, NamesAreProper, FaultsAreByClass, BytesAreSmall, PointsAreInRange, AreLawful, TokensAreSound}
+use Rattle.pytoken.proofs.Words
+use Rattle.pytoken.proofs.NumberClasses
+use Rattle.pytoken.proofs.SmallBytes
+use Rattle.pytoken.proofs.TextPoints
+use Rattle.pytoken.proofs.Sound
+
+pub come_back : ComeBack
+come_back = Words.come_back
+
+pub names_are_proper : NamesAreProper
+names_are_proper = Words.names_are_proper
+
+pub faults_are_by_class : FaultsAreByClass
+faults_are_by_class = NumberClasses.faults_are_by_class
+
+pub bytes_are_small : BytesAreSmall
+bytes_are_small = SmallBytes.bytes_are_small
+
+pub points_are_in_range : PointsAreInRange
+points_are_in_range = TextPoints.points_are_in_range
+
+pub points_small : (t : List ℕ) → is_bytes t ≡ true → literal_fault t ≡ None → list_all is_byte (points_of t) ≡ true
+points_small = SmallBytes.points_small
+
+pub values_are_lawful : AreLawful
+values_are_lawful =
+    record { constants = come_back; names = names_are_proper; numbers = faults_are_by_class; bytes = bytes_are_small; points = points_are_in_range }
+
+pub tokens_are_sound : (s : Source) → IsLawful s → TokensAreSound s
+tokens_are_sound = Sound.tokens_are_sound

@@ -1,0 +1,33 @@
+-- `unfolding values` lets `refl` compute what the text of a token stands for, `unfolding sources` the tokens and lines of a source.
+use lib.Utf8.{encode}
+use Rattle.std.specs.Str.{chars}
+use Rattle.unicode_normalization.proofs.Computing.{unicode_normalization}
+use Rattle.pysource.specs.Places.{place_after}
+use Rattle.pylexeme.proofs.Computing.{lexemes}
+use Rattle.pylexeme.specs.Cuts.{begins_thing}
+use Rattle.pylex.specs.Margins.{width_by_one}
+use Rattle.pylex.specs.Lines.{depth, line_so_far, is_at_margin, is_logical, width_from, width_at, widths}
+use Rattle.pylex.specs.Levels.{open_levels}
+use Rattle.pylex.specs.Listing.{layout_by, layout, entry_of, steps_of, stop_fault, last_line, line_end_of_last, end_place, tail, stop, listing}
+use Rattle.pytoken.specs.Keywords.{keywords, keyword_of}
+use Rattle.pytoken.specs.NumberValues.{whole_value, number_fault}
+use Rattle.pytoken.specs.Escapes.{escaped_by, meanings, escape_fault}
+use Rattle.pytoken.specs.StringValues.{points_of, value_of, string_value, nul_fault, literal_fault, string_fault}
+use Rattle.pytoken.specs.NameValues.{form_fault, name_fault}
+use Rattle.pytoken.specs.Terminals.{terminal_of, fault_of}
+use Rattle.pytoken.specs.Tokens.{tokens, lines}
+
+-- the listing of a source, as pylex has it for itself
+unfoldable listings : Unit {0}
+unfolding lexemes encode place_after depth line_so_far is_at_margin is_logical width_from width_at widths open_levels layout_by layout entry_of
+    steps_of stop_fault last_line line_end_of_last end_place tail stop listing
+listings = tt
+
+unfoldable pub values : Unit {0}
+unfolding lexemes unicode_normalization keywords keyword_of whole_value number_fault escaped_by meanings points_of value_of string_value nul_fault
+    escape_fault literal_fault string_fault form_fault name_fault terminal_of fault_of
+values = tt
+
+unfoldable pub sources : Unit {0}
+unfolding listings chars begins_thing width_by_one tokens lines
+sources = tt

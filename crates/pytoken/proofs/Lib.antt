@@ -1,0 +1,13 @@
+pub mod Callers
+mod Computing
+mod ReadBack
+mod Constants
+mod Lexing
+mod Words
+mod NumberClasses
+mod SmallBytes
+mod TextPoints
+mod Sound
+mod ValueRows
+mod TokenRows
+mod RefusalRows

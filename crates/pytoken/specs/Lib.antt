@@ -1,0 +1,12 @@
+pub mod Inner
+pub mod Keywords
+pub mod NumberValues
+pub mod Escapes
+pub mod StringValues
+pub mod NameValues
+pub mod Terminals
+pub mod Tokens
+pub mod Brackets
+pub mod Indentation
+pub mod Refusals
+pub mod Laws

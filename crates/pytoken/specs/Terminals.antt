@@ -1,0 +1,65 @@
+-- What the grammar reads of a token, and the fault that a token may be by itself.
+use Rattle.std.specs.Prelude.{◌≡◌, ℕ, Bool, true, List, Option, Some, None}
+use Rattle.unicode_normalization.specs.Forms.{nfkc}
+use Rattle.pylexeme.specs.declared.kinds.Exact.{Exact}
+use Rattle.pylexeme.specs.Numbers.{is_number}
+use Rattle.pylexeme.specs.Strings.{is_string}
+use Rattle.pylexeme.specs.Operators.{exact_of, is_operator}
+use Rattle.pylexeme.specs.Lexemes.{is_name}
+use Rattle.pylex.specs.declared.kinds.Kind.{Kind}
+use Rattle.pylex.specs.declared.kinds.Kind.TheVariants as kinds
+use Rattle.pynode.specs.Values.{Value}
+use Rattle.pytoken.specs.declared.keywords.Keyword.{Keyword}
+use Rattle.pytoken.specs.declared.faults.TokenError.{TokenError}
+use Rattle.pytoken.specs.Keywords.{keyword_of}
+use Rattle.pytoken.specs.NumberValues.{whole_value, number_fault}
+use Rattle.pytoken.specs.StringValues.{string_value, string_fault, nul_fault}
+use Rattle.pytoken.specs.NameValues.{name_fault}
+
+pub data Terminal : Type 0 where
+  Op : Exact → Terminal
+  Word : Keyword → Terminal
+  Ident : List ℕ → Terminal  -- a NAME that is no keyword, in its form NFKC
+  Whole : ℕ → Terminal
+  Literal : Value → Terminal  -- the value of one STRING: Str with its kind, or Bytes
+  Layout : Terminal  -- NEWLINE, INDENT, DEDENT, ENDMARKER
+
+-- what a token of this type and text is; one with a fault of its own may be anything
+unfoldable pub terminal_of : Kind → List ℕ → Terminal
+terminal_of k t = elim k [
+  | kinds.Name ↦ elim (keyword_of t) [ Some w ↦ Word w | None ↦ Ident (nfkc t) ]
+  | kinds.Number ↦ Whole (whole_value t)
+  | kinds.String ↦ Literal (string_value t)
+  | kinds.Op ↦ elim (exact_of t) [ Some e ↦ Op e | None ↦ Layout ]
+  | _ ↦ Layout
+]
+
+-- the fault of an entry of this type and text
+unfoldable pub fault_of : Kind → List ℕ → Option TokenError
+fault_of k t = elim k [
+  | kinds.Name ↦ name_fault t
+  | kinds.Number ↦ number_fault t
+  | kinds.String ↦ string_fault t
+  | kinds.Comment ↦ nul_fault t
+  | _ ↦ None
+]
+
+-- the text of a NAME, NUMBER, STRING or OP is of the class of lexemes with that name
+abbrev pub is_of : Kind → List ℕ → Bool
+is_of k t = elim k [
+  | kinds.Name ↦ is_name t
+  | kinds.Number ↦ is_number t
+  | kinds.String ↦ is_string t
+  | kinds.Op ↦ is_operator t
+  | _ ↦ true
+]
+
+-- A token that is what its type says, and has no fault: what laws about lists of tokens speak of. Without that `1 2` could be a name.
+pub record IsSound (k : Kind) (t : List ℕ) : Type 0 where
+  pub of_kind : is_of k t ≡ true
+  pub faultless : fault_of k t ≡ None
+
+-- a token of this type and text is this terminal, and has no fault by itself
+pub record Gives (k : Kind) (t : List ℕ) (x : Terminal) : Type 0 where
+  pub terminal : terminal_of k t ≡ x
+  pub sound : IsSound k t

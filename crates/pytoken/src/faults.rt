@@ -1,0 +1,26 @@
+//! What may be wrong with a token by itself.
+
+/// What may be wrong with a token by itself. Where a token has several faults, the first of these
+/// is told.
+#[derive(Clone, Copy, Debug, PartialEq, Eq)]
+pub enum TokenError {
+    /// A floating point number.
+    Float,
+    /// An imaginary number: one that ends in `j`.
+    Complex,
+    /// An f-string.
+    FString,
+    /// A whole number above 2^128-1.
+    IntegerTooLarge,
+    /// `\N` in a text that isn't raw.
+    NamedEscape,
+    /// `\x`, `\u` or `\U` with too few digits or above 10FFFF, or an octal escape above 377 in
+    /// bytes.
+    BadEscape,
+    /// A character above 7F in bytes.
+    NonAsciiBytes,
+    /// U+0000 in a string or a comment.
+    Nul,
+    /// A name whose form NFKC differs from it and is a keyword or no name.
+    NameForm,
+}
