@@ -25,7 +25,7 @@ further radix k d (c ∷ cs) e = elim (cases_Bool (nat_lt (digit_value c) radix)
       let same : Some (digit_value c) ≡ Some d = rw digit at e in
       let is : digit_value c ≡ d = cc in
       let front : digits_at_front radix (suc k) (c ∷ cs) ≡ c ∷ digits_at_front radix k cs = take_while-cons (λ x. is_digit x radix) c (take k cs)
-          ∙ (rw digit refl) in
+      ∙ (rw digit refl) in
       record {
         below = omega (arith, is, ltb-true (digit_value c) radix digit);
         value = λ n. ap (digits_value_after radix n) front ∙ ap (λ (v : ℕ). digits_value_after radix (n * radix + v) (digits_at_front radix k cs)) is;
@@ -94,10 +94,12 @@ far_on radix most count value d t start new far more high e cut = go far.left re
 -- all digits have been read
 pub far_end : (radix most count value : ℕ) (t start : List ℕ) → (far : Far radix most count value t start) → digits_at_front radix far.left t ≡ []
     → (count ≡ length (digits_at_front radix most start)) × (value ≡ digits_value_after radix 0 (digits_at_front radix most start)) ×
-        (t ≡ drop (length (digits_at_front radix most start)) start)
-far_end radix most count value t start far none =
-    (omega (arith, ap length none, far.counts), sym (ap (digits_value_after radix value) none) ∙ far.values,
-        sym (ap (λ (ds : List ℕ). drop (length ds) t) none) ∙ far.behind)
+    (t ≡ drop (length (digits_at_front radix most start)) start)
+far_end radix most count value t start far none = (
+  omega (arith, ap length none, far.counts),
+  sym (ap (digits_value_after radix value) none) ∙ far.values,
+  sym (ap (λ (ds : List ℕ). drop (length ds) t) none) ∙ far.behind,
+)
 
 pub none_wanted : (radix most count value : ℕ) (t start : List ℕ) → (far : Far radix most count value t start) → most ≤ count →
     digits_at_front radix far.left t ≡ []

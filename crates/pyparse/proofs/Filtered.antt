@@ -37,14 +37,14 @@ at_end : (bs front : List ℕ) (c : ℕ) → IsUtf8 bs → IsUtf8 front → bs �
 at_end bs front c utf8 before e =
     ap chars e ∙ chars-append front (encode_utf8 c) before
     ∙ ap (λ (t : List ℕ). chars front ++ t) (chars_past_char (encode_utf8 c) [] c (last_is_text bs front c utf8 before e)
-        (sym (append-nil (encode_utf8 c))) ∙ ap (λ (t : List ℕ). c ∷ t) chars-nil)
+    (sym (append-nil (encode_utf8 c))) ∙ ap (λ (t : List ℕ). c ∷ t) chars-nil)
 
 pub last_skipped : (bs front : List ℕ) (c : ℕ) → IsUtf8 bs → IsUtf8 front → bs ≡ front ++ encode_utf8 c → c ≡ 13 →
     with_line_feeds (chars bs) ≡ with_line_feeds (chars front)
 last_skipped bs front c utf8 before e is =
     let test = eq-eqb c 13 is in
     ap with_line_feeds (at_end bs front c utf8 before e) ∙ filter-append (λ x. not (x == 13)) (chars front) (c ∷ [])
-        ∙ (rw test (append-nil (with_line_feeds (chars front))))
+    ∙ (rw test (append-nil (with_line_feeds (chars front))))
 
 pub last_taken : (bs front : List ℕ) (c : ℕ) → IsUtf8 bs → IsUtf8 front → bs ≡ front ++ encode_utf8 c → (c ≡ 13 → ⊥) →
     with_line_feeds (chars front) ≡ without_last 1 (with_line_feeds (chars bs))
@@ -52,7 +52,7 @@ last_taken bs front c utf8 before e other =
     let test = ne_eqb c 13 other in
     let f = with_line_feeds (chars front) in
     let whole : with_line_feeds (chars bs) ≡ f ++ c ∷ [] = ap with_line_feeds (at_end bs front c utf8 before e)
-        ∙ filter-append (λ x. not (x == 13)) (chars front) (c ∷ []) ∙ (rw test refl) in
+    ∙ filter-append (λ x. not (x == 13)) (chars front) (c ∷ []) ∙ (rw test refl) in
     let size : length f ≡ length (f ++ c ∷ []) - 1 = omega (arith, length-append f (c ∷ [])) in
     sym (ap (without_last 1) whole ∙ take_at f (c ∷ []) (length (f ++ c ∷ []) - 1) size)
 

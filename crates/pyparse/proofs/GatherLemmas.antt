@@ -79,9 +79,10 @@ length_behind before (e ∷ es) = let rest = length_behind (e ∷ before) es in 
 
 pub few : (text : List ℕ) (es : List Entry) (g : Gather) → Gathered text es g → (g.opened ≤ length es) × (g.closed ≤ length es)
 few text es g had =
-    let size = length_behind [] es in
-    (omega (arith, had.opened, count_by-le-length opens (behind [] es), size),
-        omega (arith, had.closed, count_by-le-length closes (behind [] es), size))
+    let size = length_behind [] es in (
+      omega (arith, had.opened, count_by-le-length opens (behind [] es), size),
+      omega (arith, had.closed, count_by-le-length closes (behind [] es), size),
+    )
 
 -- behind all entries
 
@@ -96,7 +97,7 @@ unfolding refusal_at
 all_refusals s es g had all none =
     ap₂ or_refusal (had.faulty ∙ ap (first_entry_refusal s.text) all)
     (ap₂ or_refusal (had.deep ∙ ap (first_too_deep most_brackets []) all)
-        (had.indents.mixed ∙ ap (λ (es : List Entry). first_mixed [] (margins s.text es)) all))
+    (had.indents.mixed ∙ ap (λ (es : List Entry). first_mixed [] (margins s.text es)) all))
     ∙ sym (rw (none, refusal_at) refl)
 
 pub refused_listing : (s : Source) (f : ListingFault) → fault_of (listing s) ≡ Some f → refusal s ≡ Some (refusals.Listing f)

@@ -64,7 +64,7 @@ mixed_past between (w ∷ earlier) m =
     let later : is_mixed_past (w ∷ between) earlier m ≡ list_any test (filter within rest) =
     mixed_past (w ∷ between) earlier m
     ∙ any_same (λ v. is_least (w ∷ between) v && not (are_alike v m.widths)) (λ v. within v && test v)
-        (λ v. and_assoc (within v) (is_least between v) (not (are_alike v m.widths))) rest
+    (λ v. and_assoc (within v) (is_least between v) (not (are_alike v m.widths))) rest
     ∙ sym (any_filter test within rest) in
     ap (λ (b : Bool). test w.widths || b) later
     ∙ or_comm (test w.widths) (list_any test (filter within rest))
@@ -84,7 +84,7 @@ clash_is : (earlier ms : List Margin) → clash_on (standing_of earlier) ms ≡ 
 clash_is earlier [] = refl
 clash_is earlier (m ∷ ms) =
     ap₂ or_refusal (ap (λ (b : Bool). let r : Option Refusal = if b then Some (MixedTabs m.start) else None in r) (mixed_is earlier m))
-        (clash_is (m ∷ earlier) ms)
+    (clash_is (m ∷ earlier) ms)
 
 behind-append : {X : Type 0} (before xs ys : List X) → behind before (xs ++ ys) ≡ behind (behind before xs) ys
 behind-append before [] ys = refl
@@ -125,7 +125,7 @@ passes_on start now left c had cut blank =
     let one : encode_utf8 c ≡ c ∷ [] = encode_ascii c (blank_low c blank) in
     let s = past now left c had.utf8 cut in
     let more : blanks_of (chars now) ≡ c ∷ blanks_of (chars left) = ap blanks_of s.same ∙ take_while-cons is_blank_char c (chars left)
-        ∙ (rw blank refl) in
+    ∙ (rw blank refl) in
     record {
       front = had.front ++ c ∷ [];
       cut = had.cut ∙ ap (λ (t : List ℕ). had.front ++ t) (cut ∙ ap (λ (t : List ℕ). t ++ left) one) ∙ sym (append_assoc had.front (c ∷ []) left);
@@ -180,7 +180,7 @@ seam bs line front behind o within is cut utf8 =
 -- a logical line was taken
 pub takes_line : (text : List ℕ) (o : ℕ) (w : Widths) (old new : Indents) → is_logical_at text o ≡ true → w ≡ widths_of (behind_offset text o)
     → new.standing.items ≡ standing_past old.standing.items w → new.mixed
-        ≡ or_refusal old.mixed (clash_refusal old.standing.items (margin w (start_at text o)))
+    ≡ or_refusal old.mixed (clash_refusal old.standing.items (margin w (start_at text o)))
     → Measures (margin_at text o) old new
 takes_line text o w old new logical is standing mixed = subst (λ (ms : List Margin). Measures ms old new) (sym one) (record {
   standing = standing ∙ ap (standing_past old.standing.items) is;

@@ -50,9 +50,11 @@ at_entry ss k e whole h =
 pub at_stop : (ss : List Step) (k : ℕ) (s : Step) → AreWhole ss → k ≤ length (entries_of ss) → IsStop s → slice_get ss k ≡ Some s →
     (take k (entries_of ss) ≡ entries_of ss) × (fault_of ss ≡ fault_of (s ∷ []))
 at_stop ss k s whole within stops h =
-    let last = walk_stop (entries_of ss) whole.last k s within stops (ap (λ (t : List Step). slice_get t k) (sym whole.whole) ∙ h) in
-    (take_all k (entries_of ss) (omega (arith, last.0)), ap fault_of whole.whole ∙ fault_last (entries_of ss) whole.last
-        ∙ ap (λ (x : Step). fault_of (x ∷ [])) last.1)
+    let last = walk_stop (entries_of ss) whole.last k s within stops (ap (λ (t : List Step). slice_get t k) (sym whole.whole) ∙ h) in (
+      take_all k (entries_of ss) (omega (arith, last.0)),
+      ap fault_of whole.whole ∙ fault_last (entries_of ss) whole.last
+          ∙ ap (λ (x : Step). fault_of (x ∷ [])) last.1,
+    )
 
 -- a move of a lister, by the step that came
 pub moved : (old new : Listed) (step came : Step) (s : Source) (k : ℕ) → Moves old step new → step ≡ came → StandsIn old s k →

@@ -162,11 +162,11 @@ literal_sound t f escape low none = rw (f, escape, low, none) refl
 pub parts_on : (p : ℕ → Bool) (raw bytes : Bool) (t new : List ℕ) (m : Meaning) → first_meaning raw bytes t ≡ Some m →
     new ≡ behind_meaning raw bytes t
     → list_all p (flat_map points_in (meanings raw bytes t)) ≡ true →
-        (list_all p (points_in m) ≡ true) × (list_all p (flat_map points_in (meanings raw bytes new)) ≡ true)
+    (list_all p (points_in m) ≡ true) × (list_all p (flat_map points_in (meanings raw bytes new)) ≡ true)
 parts_on p raw bytes t new m e cut all =
     let rest = flat_map points_in (meanings raw bytes (behind_meaning raw bytes t)) in
     let step = ap (λ (ms : List Meaning). list_all p (flat_map points_in ms)) (meanings_step raw bytes t m e)
-        ∙ list_all-append p (points_in m) rest in
+    ∙ list_all-append p (points_in m) rest in
     let parts = and_parts (list_all p (points_in m)) (list_all p rest) (sym step ∙ all) in
     (parts.0, ap (λ (u : List ℕ). list_all p (flat_map points_in (meanings raw bytes u))) cut ∙ parts.1)
 
@@ -189,7 +189,7 @@ value_of_text t text = rw text refl
 pub bytes_value : (t literal body bs : List ℕ) (raw : Bool) → literal ≡ with_line_feeds t → raw ≡ is_raw literal → true ≡ is_bytes literal →
     body ≡ body_of literal
     → (list_all is_byte (flat_map points_in (meanings raw true body)) ≡ true → bs ≡ flat_map points_in (meanings raw true body)) →
-        string_fault t ≡ None → Bytes bs ≡ string_value t
+    string_fault t ≡ None → Bytes bs ≡ string_value t
 unfolding string_value string_fault
 bytes_value t literal body bs raw is r b inner made sound =
     let u = with_line_feeds t in

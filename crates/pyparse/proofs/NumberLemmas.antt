@@ -57,7 +57,7 @@ read_on radix value c v bs rest cut e = elim (cases_Bool (nat_le (2 ^ 128) (more
       let some : Some (more_of radix value c) ≡ Some v = rw below at e in
       let same : more_of radix value c ≡ v = cc in
       let on = ap (λ (n : ℕ). value_on radix n (chars rest)) (sym same) ∙ value_more radix value c (chars rest)
-          ∙ sym (ap (value_on radix value) cut) in
+      ∙ sym (ap (value_on radix value) cut) in
       (on, omega (arith, leb-false (2 ^ 128) (more_of radix value c) below, same))
 ]
 

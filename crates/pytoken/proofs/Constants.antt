@@ -57,7 +57,7 @@ digits_no_j [] all = refl
 digits_no_j (a ∷ ds) all =
     let d = digit_from_value a all.0 in
     or_from (is_j a) (list_any is_j ds) (or_from (a == 106) (a == 74) (digit_not a 106 d (inr (omega arith))) (digit_not a 74 d (inr (omega arith))))
-        (digits_no_j ds all.1)
+    (digits_no_j ds all.1)
 
 digits_no_point : (ds : List ℕ) → AllDigits 10 ds → list_any (λ c. is_point c || is_e c) ds ≡ false
 digits_no_point [] all = refl
@@ -65,7 +65,7 @@ digits_no_point (a ∷ ds) all =
     let d = digit_from_value a all.0 in
     or_from (is_point a || is_e a) (list_any (λ c. is_point c || is_e c) ds)
     (or_from (is_point a) (is_e a) (digit_not a 46 d (inl (omega arith)))
-        (or_from (a == 101) (a == 69) (digit_not a 101 d (inr (omega arith))) (digit_not a 69 d (inr (omega arith)))))
+    (or_from (a == 101) (a == 69) (digit_not a 101 d (inr (omega arith))) (digit_not a 69 d (inr (omega arith)))))
     (digits_no_point ds all.1)
 
 digits_whole : (ds : List ℕ) → AllDigits 10 ds → whole_value ds ≡ digits_value 10 ds
@@ -199,11 +199,13 @@ none_between : (p test : ℕ → Bool) (q : ℕ) (cs : List ℕ) → IsMark q �
 none_between p test q cs mark ascii shown =
     let body = flat_map (escaped test q) cs in
     let inner = none_of p body (all_pass test (λ c. not (p c)) q cs mark (λ a low high. ap not (ascii a low high))
-        (λ k d within differs seen. ap not (shown k d within differs seen))) in
-    let own : p q ≡ false = elim mark [ inl single ↦ ascii q (omega (arith, single)) (omega (arith, single))
-        | inr double ↦ ascii q (omega (arith, double)) (omega (arith, double)) ] in
+    (λ k d within differs seen. ap not (shown k d within differs seen))) in
+    let own : p q ≡ false = elim mark [
+      | inl single ↦ ascii q (omega (arith, single)) (omega (arith, single))
+      | inr double ↦ ascii q (omega (arith, double)) (omega (arith, double))
+    ] in
     or_from (p q) (list_any p (body ++ q ∷ [])) own (list_any-append p body (q ∷ [])
-        ∙ or_from (list_any p body) (list_any p (q ∷ [])) inner (or_from (p q) false own refl))
+    ∙ or_from (list_any p body) (list_any p (q ∷ [])) inner (or_from (p q) false own refl))
 
 nul_shown : is_unprintable 0 ≡ true
 unfolding ucd_category
@@ -219,7 +221,7 @@ no_high : (q : ℕ) (cs : List ℕ) → IsMark q → list_any (nat_lt 0x7F) (bet
 no_high q cs mark =
     none_between (nat_lt 0x7F) is_unprintable_byte q cs mark (λ a low high. le-ltb 0x7F a (omega (arith, high)))
     (λ k d within differs seen. let low = ltb-false 0x7E (get_or cs k d)
-        (or_parts (nat_lt (get_or cs k d) 0x20) (nat_lt 0x7E (get_or cs k d)) seen).1 in le-ltb 0x7F (get_or cs k d) (omega (arith, low)))
+    (or_parts (nat_lt (get_or cs k d) 0x20) (nat_lt 0x7E (get_or cs k d)) seen).1 in le-ltb 0x7F (get_or cs k d) (omega (arith, low)))
 
 -- a repr holds no CR
 no_return : (test : ℕ → Bool) (q : ℕ) (cs : List ℕ) → IsMark q → list_any (λ c. c == 13) (between test q cs) ≡ false
@@ -255,7 +257,7 @@ literal_sound test bytes u q t cs mark fit o low none =
 
 sound_back : (test : ℕ → Bool) (bytes u : Bool) (q : ℕ) (t cs : List ℕ) → IsMark q → All (Fits bytes) cs → Opened bytes u t (between test q cs)
     → list_any (λ c. c == 13) t ≡ false → (bytes && list_any (nat_lt 0x7F) t) ≡ false → list_any (λ c. c == 0) t ≡ false →
-        fault_of kinds.String t ≡ None
+    fault_of kinds.String t ≡ None
 unfolding fault_of string_fault
 sound_back test bytes u q t cs mark fit o whole low none =
     ap literal_fault (kept_whole t whole) ∙ literal_sound test bytes u q t cs mark fit o low none

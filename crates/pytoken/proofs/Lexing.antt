@@ -65,7 +65,7 @@ letter_units q l n c b t mark other = behind (hex n c ++ (b ∷ t)) (hex_units q
         ends_by_one q (units (92 ∷ l ∷ rest)) ≡ ends_by_one q (units (b ∷ t))
     behind rest same (d, u, e) =
         ap (λ (v : List ℕ). ends_by_one q (units (92 ∷ l ∷ v))) e ∙ slash_unit q l d u mark other
-            ∙ sym (ap (λ (v : List ℕ). ends_by_one q (units v)) e) ∙ same
+        ∙ sym (ap (λ (v : List ℕ). ends_by_one q (units v)) e) ∙ same
 
 -- what is written for a point goes on to the same end
 written_units : (test : ℕ → Bool) (q c b : ℕ) (t text : List ℕ) → IsMark q → Written test q c text →
@@ -81,8 +81,12 @@ written_units test q c b t text mark (short low) = letter_units q 120 2 c b t ma
 written_units test q c b t text mark (middle high below) = letter_units q 117 4 c b t mark refl
 written_units test q c b t text mark (long above) = letter_units q 85 8 c b t mark refl
 written_units test q c b t text mark (itself no_slash no_quote no_return no_feed shown) =
-    plain_unit q c b t (record { slash = ne_eqb c 92 no_slash; quote = ne_eqb c q no_quote; return = ne_eqb c 13 no_return;
-        feed = ne_eqb c 10 no_feed })
+    plain_unit q c b t (record {
+      slash = ne_eqb c 92 no_slash;
+      quote = ne_eqb c q no_quote;
+      return = ne_eqb c 13 no_return;
+      feed = ne_eqb c 10 no_feed;
+    })
 
 all_units : (test : ℕ → Bool) (q : ℕ) (cs : List ℕ) → IsMark q → ends_by_one q (units (flat_map (escaped test q) cs ++ q ∷ [])) ≡ true
 all_units test q [] (inl is) = subst (λ (k : ℕ). ends_by_one k (units (k ∷ [])) ≡ true) (sym is) refl
@@ -100,7 +104,7 @@ all_units test q (c ∷ cs) mark =
     on : (rest : List ℕ) → (b : ℕ) × (t : List ℕ) × (rest ≡ b ∷ t) → ends_by_one q (units (escaped test q c ++ rest)) ≡ ends_by_one q (units rest)
     on rest (b, t, e) =
         ap (λ (v : List ℕ). ends_by_one q (units (escaped test q c ++ v))) e ∙ written_units test q c b t (escaped test q c) mark (written test q c)
-            ∙ sym (ap (λ (v : List ℕ). ends_by_one q (units v)) e)
+        ∙ sym (ap (λ (v : List ℕ). ends_by_one q (units v)) e)
 
 -- a quote, what is written for the points, and the quote again
 pub single : (test : ℕ → Bool) (q : ℕ) (cs : List ℕ) → IsMark q → is_single q (q ∷ flat_map (escaped test q) cs ++ q ∷ []) ≡ true
@@ -134,7 +138,7 @@ unfolding is_single_string
 with_prefix p q t prefix h =
     or_right (is_prefix [] && in_quotes (p ∷ q ∷ t)) (split_any (λ u. is_prefix (p ∷ u)) in_quotes (q ∷ t))
     (or_left (is_prefix (p ∷ []) && in_quotes (q ∷ t)) (split_any (λ u. is_prefix (p ∷ q ∷ u)) in_quotes t)
-        (and_from (is_prefix (p ∷ [])) (in_quotes (q ∷ t)) prefix h))
+    (and_from (is_prefix (p ∷ [])) (in_quotes (q ∷ t)) prefix h))
 
 u_prefix : is_prefix (117 ∷ []) ≡ true
 unfolding is_prefix
@@ -152,19 +156,19 @@ pub text_is_string : (points : List ℕ) → is_string (repr_chars points) ≡ t
 text_is_string points =
     let q = quote_for points in
     string_by (repr_chars points) (without_prefix q (flat_map (escaped is_unprintable q) points ++ q ∷ [])
-        (either_single is_unprintable q points (quote_mark points)))
+    (either_single is_unprintable q points (quote_mark points)))
 
 pub u_text_is_string : (points : List ℕ) → is_string (117 ∷ repr_chars points) ≡ true
 u_text_is_string points =
     let q = quote_for points in
     string_by (117 ∷ repr_chars points) (with_prefix 117 q (flat_map (escaped is_unprintable q) points ++ q ∷ []) u_prefix
-        (either_single is_unprintable q points (quote_mark points)))
+    (either_single is_unprintable q points (quote_mark points)))
 
 pub bytes_are_string : (bs : List ℕ) → is_string (repr_bytes bs) ≡ true
 bytes_are_string bs =
     let q = quote_for bs in
     string_by (repr_bytes bs) (with_prefix 98 q (flat_map (escaped is_unprintable_byte q) bs ++ q ∷ []) b_prefix
-        (either_single is_unprintable_byte q bs (quote_mark bs)))
+    (either_single is_unprintable_byte q bs (quote_mark bs)))
 
 -- numbers
 

@@ -96,7 +96,7 @@ float_plain t h = elim (or_parts (is_point_after t || is_point_before t) (is_rai
     | inl after ↦
         let fraction = split_any (optional is_digit_part) (optional is_exponent) in
         let behind = then_plain (optional is_digit_part) (optional is_exponent) (optional_all is_plain is_digit_part part_plain)
-            (optional_all is_plain is_exponent exponent_plain) in
+        (optional_all is_plain is_exponent exponent_plain) in
         then_plain is_digit_part (headed is_point fraction) part_plain (headed_all is_plain is_point fraction point_plain behind) t after
     | inr before ↦
         let fraction = split_any is_digit_part (optional is_exponent) in
@@ -184,7 +184,7 @@ based_no_j : (f d : ℕ → Bool) → ((c : ℕ) → f c ≡ true → not (is_j 
     → (t : List ℕ) → headed is_zero (headed f (are_some d)) t ≡ true → list_all (λ c. not (is_j c)) t ≡ true
 based_no_j f d letter digit t h =
     headed_all (λ c. not (is_j c)) is_zero (headed f (are_some d)) (no_j is_zero refl refl)
-        (headed_all (λ c. not (is_j c)) f (are_some d) letter some) t h
+    (headed_all (λ c. not (is_j c)) f (are_some d) letter some) t h
   where
     some : (u : List ℕ) → are_some d u ≡ true → list_all (λ c. not (is_j c)) u ≡ true
     some [] e = refl
@@ -248,7 +248,7 @@ imaginary_is : (t : List ℕ) → is_imaginary t ≡ true → number_fault t ≡
 unfolding number_fault is_imaginary
 imaginary_is t h =
     let complex : is_complex t ≡ true = split_has (λ u. is_digit_part u || is_float u) (headed is_j is_nil) is_j
-        (headed_has is_j is_nil is_j (λ c j. j)) t h in
+    (headed_has is_j is_nil is_j (λ c j. j)) t h in
     rw complex refl
 
 float_is : (t : List ℕ) → is_float t ≡ true → number_fault t ≡ Some Float

@@ -56,7 +56,7 @@ written test q c = elim (cases_Bool ((c == 92) || (c == q))) [
           | inr shown ↦
               let parts = or_parts (c == 92) (c == q) other in
               rw (other, no_tab, no_feed, no_return, shown) (itself (eqb-false c 92 parts.0) (eqb-false c q parts.1) (eqb-false c 13 no_return)
-                  (eqb-false c 10 no_feed) shown)
+              (eqb-false c 10 no_feed) shown)
         ]
       ]
     ]
@@ -236,10 +236,12 @@ pub written_pass : (test p : ℕ → Bool) (q c : ℕ) (text : List ℕ) → IsM
     → Written test q c text → list_all p text ≡ true
 written_pass test p q c text mark ascii itself_passes (marked which) =
     two p 92 (c ∷ []) (ascii 92 (omega arith) (omega arith)) (two p c [] (elim which [
-  | inl is ↦ ascii c (omega (arith, is)) (omega (arith, is))
-  | inr is ↦ elim mark [ inl single ↦ ascii c (omega (arith, is, single)) (omega (arith, is, single))
-      | inr double ↦ ascii c (omega (arith, is, double)) (omega (arith, is, double)) ]
-]) refl)
+      | inl is ↦ ascii c (omega (arith, is)) (omega (arith, is))
+      | inr is ↦ elim mark [
+        | inl single ↦ ascii c (omega (arith, is, single)) (omega (arith, is, single))
+        | inr double ↦ ascii c (omega (arith, is, double)) (omega (arith, is, double))
+      ]
+    ]) refl)
 written_pass test p q c text mark ascii itself_passes (tab is) =
     two p 92 (116 ∷ []) (ascii 92 (omega arith) (omega arith)) (two p 116 [] (ascii 116 (omega arith) (omega arith)) refl)
 written_pass test p q c text mark ascii itself_passes (feed is) =
@@ -250,7 +252,7 @@ written_pass test p q c text mark ascii itself_passes (short low) = two p 92 (12
     (two p 120 (hex 2 c) (ascii 120 (omega arith) (omega arith)) (hex_pass p ascii 2 c))
 written_pass test p q c text mark ascii itself_passes (middle high below) =
     two p 92 (117 ∷ hex 4 c) (ascii 92 (omega arith) (omega arith)) (two p 117 (hex 4 c) (ascii 117 (omega arith) (omega arith))
-        (hex_pass p ascii 4 c))
+    (hex_pass p ascii 4 c))
 written_pass test p q c text mark ascii itself_passes (long above) =
     two p 92 (85 ∷ hex 8 c) (ascii 92 (omega arith) (omega arith)) (two p 85 (hex 8 c) (ascii 85 (omega arith) (omega arith)) (hex_pass p ascii 8 c))
 written_pass test p q c text mark ascii itself_passes (itself no_slash no_quote no_return no_feed shown) =
@@ -264,7 +266,7 @@ all_pass test p q (c ∷ cs) mark ascii shown =
     list_all-append p (escaped test q c) (flat_map (escaped test q) cs)
     ∙ and_from (list_all p (escaped test q c)) (list_all p (flat_map (escaped test q) cs))
     (written_pass test p q c (escaped test q c) mark ascii (All-head P c cs shown) (written test q c))
-        (all_pass test p q cs mark ascii (All-tail P c cs shown))
+    (all_pass test p q cs mark ascii (All-tail P c cs shown))
 
 -- it doesn't begin with the quote
 pub data Begins (q : ℕ) : List ℕ → Type 0 where

@@ -183,8 +183,10 @@ faultless t bytes sound = elim (cases_Bool (is_formatted t)) [
   | inl formatted ↦ absurd (let some : Some errors.FString ≡ None = rw formatted at sound in cc)
   | inr plain ↦
       let ms = meanings (is_raw t) true (body_of t) in
-      let rest : or_else (escape_fault ms) (if list_any (nat_lt 0x7F) t then Some errors.NonAsciiBytes else nul_fault t) ≡ None = rw (plain,
-          bytes) at sound in
+      let rest : or_else (escape_fault ms) (if list_any (nat_lt 0x7F) t then Some errors.NonAsciiBytes else nul_fault t) ≡ None = rw (
+        plain,
+        bytes,
+      ) at sound in
       let parts = neither (escape_fault ms) (if list_any (nat_lt 0x7F) t then Some errors.NonAsciiBytes else nul_fault t) rest in
       record { good = no_bad ms parts.0; low = none_high t (all_low (list_any (nat_lt 0x7F) t) parts.1) }
 ]

@@ -69,14 +69,14 @@ own_text a t b e good first last =
     let own = encode_utf8_all t in
     let rest = encode_utf8_all b in
     let whole : encode_utf8_all (a ++ (t ++ b)) ≡ front ++ (own ++ rest) =
-        encodes-append a (t ++ b) ∙ ap (λ (bs : List ℕ). front ++ bs) (encodes-append t b) in
+    encodes-append a (t ++ b) ∙ ap (λ (bs : List ℕ). front ++ bs) (encodes-append t b) in
     let size : e.to - e.«from» ≡ length own = omega (arith, first, last) in
     let between : take (e.to - e.«from») (drop e.«from» (encode_utf8_all (a ++ (t ++ b)))) ≡ own =
-        ap (λ (bs : List ℕ). take (e.to - e.«from») (drop e.«from» bs)) whole
-        ∙ ap (λ (n : ℕ). take (e.to - e.«from») (drop n (front ++ (own ++ rest)))) first
-        ∙ ap (take (e.to - e.«from»)) (drop_whole front (own ++ rest))
-        ∙ ap (λ (n : ℕ). take n (own ++ rest)) size
-        ∙ take_whole own rest in
+    ap (λ (bs : List ℕ). take (e.to - e.«from») (drop e.«from» bs)) whole
+    ∙ ap (λ (n : ℕ). take (e.to - e.«from») (drop n (front ++ (own ++ rest)))) first
+    ∙ ap (take (e.to - e.«from»)) (drop_whole front (own ++ rest))
+    ∙ ap (λ (n : ℕ). take n (own ++ rest)) size
+    ∙ take_whole own rest in
     let scalars = scalars_of t b (scalars_behind a (t ++ b) good) in
     ap chars between ∙ sym (chars_from_encodes t own (t, (scalars, refl)) refl)
 
@@ -88,7 +88,7 @@ of_piece : (cs a t b : List ℕ) (k : Kind) (e : Entry) → all_scalars cs ≡ t
     → e.kind ≡ k → e.«from» ≡ bytes_in a → e.to ≡ bytes_in a + bytes_in t → IsOf cs e
 of_piece cs a t b k e good h said kind first last =
     let own : text_of cs e ≡ t =
-        ap (λ (u : List ℕ). text_of u e) h ∙ own_text a t b e (sym (ap all_scalars h) ∙ good) first last in
+    ap (λ (u : List ℕ). text_of u e) h ∙ own_text a t b e (sym (ap all_scalars h) ∙ good) first last in
     record { is = ap (λ (j : Kind). is_of j (text_of cs e)) kind ∙ ap (is_of k) own ∙ said }
 
 -- entries of the other types may have any text
@@ -112,7 +112,7 @@ Said _ n u o = Unit {0}
 
 said : (n u o c b l j : Bool) (e : Option Exact) (k : Class)
     → cond n (Some Name) (cond u (Some Number) (cond o (option_map Operator e) (cond c (Some Comment) (cond b (Some Blanks)
-        (cond l (Some LineEnd) (cond j (Some Join) None)))))) ≡ Some k
+    (cond l (Some LineEnd) (cond j (Some Join) None)))))) ≡ Some k
     → Said k n u o
 said true u o c b l j e k h = let f : Name ≡ k = cc in subst (λ (m : Class). Said m true u o) f refl
 said false true o c b l j e k h = let f : Number ≡ k = cc in subst (λ (m : Class). Said m false true o) f refl
@@ -281,9 +281,10 @@ all_are cs fault left wins good (x ∷ xs) before text h l =
 listing_are : (s : Source) → all_scalars s.text ≡ true → IsLawful s → AllAre s.text (listing s)
 unfolding listing
 listing_are s good lawful =
-    up_to_end_are s.text (mark kinds.Encoding [] origin origin ∷ steps_from s.fault (left_by_cut s.text) [] (cut s.text))
-    (of_any s.text kinds.Encoding _ (λ t. refl) refl,
-        all_are s.text s.fault (left_by_cut s.text) lawful.longest good (cut s.text) [] s.text refl lawful.cut.lexemes)
+    up_to_end_are s.text (mark kinds.Encoding [] origin origin ∷ steps_from s.fault (left_by_cut s.text) [] (cut s.text)) (
+      of_any s.text kinds.Encoding _ (λ t. refl) refl,
+      all_are s.text s.fault (left_by_cut s.text) lawful.longest good (cut s.text) [] s.text refl lawful.cut.lexemes,
+    )
 
 abbrev EntriesAre : List ℕ → List Entry → Type 0
 EntriesAre text [] = Unit {0}
@@ -367,7 +368,7 @@ tokens_are text before (e ∷ es) are none =
     let faultless = no_fault (fault_of e.kind (text_of text e)) e.start parts.0 in
     let own : IsSound e.kind (text_of text e) = record { of_kind = are.0.is; faultless = faultless } in
     All-append Sound (tokens_of_entry text (is_open before) e) (tokens_from text (e ∷ before) es)
-        (of_entry text (is_open before) e own) (tokens_are text (e ∷ before) es are.1 parts.1)
+    (of_entry text (is_open before) e own) (tokens_are text (e ∷ before) es are.1 parts.1)
 
 pub tokens_are_sound : (s : Source) → IsLawful s → TokensAreSound s
 unfolding tokens refusal_at

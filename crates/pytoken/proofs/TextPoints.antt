@@ -44,7 +44,7 @@ front radix (suc n) (c ∷ cs) = elim (cases_Bool (is_digit c radix)) [
   | inl digit ↦
       let rest = front radix n cs in
       subst (IsFront radix (suc n)) (sym (one_front radix n c cs digit))
-          (record { digits = (ltb-true (digit_value c) radix digit, rest.digits); short = omega (arith, rest.short) })
+      (record { digits = (ltb-true (digit_value c) radix digit, rest.digits); short = omega (arith, rest.short) })
   | inr other ↦ subst (IsFront radix (suc n)) (sym (no_front radix n c cs other)) (record { digits = tt; short = omega arith })
 ]
 
@@ -125,7 +125,7 @@ all_meant raw bytes zero (c ∷ cs) own =
     let parts = and_parts (is_point c) (list_all is_point cs) own in
     list_all-append is_point (points_in here.meaning) rest
     ∙ and_from (list_all is_point (points_in here.meaning)) (list_all is_point rest) (reading_meant raw bytes c cs parts.0)
-        (all_meant raw bytes here.more cs parts.1)
+    (all_meant raw bytes here.more cs parts.1)
 
 pub points_are_in_range : PointsAreInRange
 unfolding meanings

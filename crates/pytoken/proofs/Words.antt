@@ -175,7 +175,7 @@ pub keyword_chars : (bs : List ℕ) → IsUtf8 bs → keyword_of (chars bs) ≡ 
 unfolding keyword_of
 keyword_chars bs utf8 =
     same_find (λ k. bytes_eq (chars bs) (spelling_of k)) (λ k. bytes_eq bs (spelling_of k))
-        (λ k. same_word bs (spelling_of k) utf8 (ascii_from (spelling_of k) (word_ascii k))) keywords
+    (λ k. same_word bs (spelling_of k) utf8 (ascii_from (spelling_of k) (word_ascii k))) keywords
 
 word_is : (k : Keyword) → terminal_of kinds.Name (spelling_of k) ≡ Word k
 unfolding terminal_of
@@ -185,7 +185,7 @@ word_form : (k : Keyword) → nfkc (spelling_of k) ≡ spelling_of k
 word_form k =
     normalize-ascii Nfkc (spelling_of k)
     (λ i d within. ltb-true (get_or (spelling_of k) i d) 128 (and_at (list_all is_ascii) is_ascii refl (λ x xs. refl) (spelling_of k) i d within
-        (word_ascii k)))
+    (word_ascii k)))
 
 -- Names
 
@@ -208,8 +208,11 @@ fit_form form sound = elim (cases_Bool (is_unfit form)) [
   | inr fit ↦
       let parts = or_parts (is_some (keyword_of form) || not (is_name form)) (not (is_in_form Nfkc form)) fit in
       let first = or_parts (is_some (keyword_of form)) (not (is_name form)) parts.0 in
-      record { name = not_false (is_name form) first.1; free = none_from (keyword_of form) first.0;
-          form = (bytes_eq-Decides (nfkc form) form).0 (not_false (is_in_form Nfkc form) parts.1) }
+      record {
+        name = not_false (is_name form) first.1;
+        free = none_from (keyword_of form) first.0;
+        form = (bytes_eq-Decides (nfkc form) form).0 (not_false (is_in_form Nfkc form) parts.1);
+      }
 ]
   where
     not_false : (b : Bool) → not b ≡ false → b ≡ true
@@ -258,8 +261,10 @@ repr_scalars points most =
     let p : ℕ → Bool = λ x. cond (nat_lt x 55296) true (nat_le 57344 x && nat_lt x 1114112) in
     let q = quote_for points in
     let mark = quote_mark points in
-    let own : p q ≡ true = elim mark [ inl single ↦ scalar_in q (inl (omega (arith, single)))
-        | inr double ↦ scalar_in q (inl (omega (arith, double))) ] in
+    let own : p q ≡ true = elim mark [
+      | inl single ↦ scalar_in q (inl (omega (arith, single)))
+      | inr double ↦ scalar_in q (inl (omega (arith, double)))
+    ] in
     let body = flat_map (escaped is_unprintable q) points in
     let inner = all_pass is_unprintable p q points mark (λ a low high. scalar_in a (inl (omega (arith, high))))
     (λ k d within differs seen. shown_scalar (get_or points k d) (most k d within) seen) in

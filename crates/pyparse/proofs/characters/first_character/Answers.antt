@@ -9,19 +9,19 @@ use Rattle.pyparse.proofs.characters.first_character.Goals as goal
 pub returns-then-first-ne13-clause-first : goal.returns-then-first-ne13-clause-first
 returns-then-first-ne13-clause-first c =
     let step = kept (chars_rest c.loop-first.left) (chars_rest c.next.new.self) c.in-Some.first c.loop-first.invariant.utf8 c.in-Some.ensures.steps.0
-        c.if-first-ne13.true in
+    c.if-first-ne13.true in
     ap (λ (t : List ℕ). slice_get t 0) (sym step ∙ c.loop-first.invariant.same)
 
 pub returns-then-first-ne13-clause-rest : goal.returns-then-first-ne13-clause-rest
 returns-then-first-ne13-clause-rest c =
     let step = kept (chars_rest c.loop-first.left) (chars_rest c.next.new.self) c.in-Some.first c.loop-first.invariant.utf8 c.in-Some.ensures.steps.0
-        c.if-first-ne13.true in
+    c.if-first-ne13.true in
     ap (λ (bs : List ℕ). with_line_feeds (chars bs)) c.as_str.ensures ∙ ap (drop 1) (sym step ∙ c.loop-first.invariant.same)
 
 pub loop-first-preserved : goal.loop-first-preserved
 loop-first-preserved c =
     let s : Past (chars_rest c.loop-first.left) (chars_rest c.next.new.self) c.in-Some.first = past (chars_rest c.loop-first.left)
-        (chars_rest c.next.new.self) c.in-Some.first c.loop-first.invariant.utf8 c.in-Some.ensures.steps.0 in
+    (chars_rest c.next.new.self) c.in-Some.first c.loop-first.invariant.utf8 c.in-Some.ensures.steps.0 in
     record {
       same = sym (skipped (chars_rest c.loop-first.left) (chars_rest c.next.new.self) c.in-Some.first c.loop-first.invariant.utf8
           c.in-Some.ensures.steps.0 c.if-first-ne13.false) ∙ c.loop-first.invariant.same;

@@ -16,38 +16,38 @@ pub returns-then-is_some : goal.returns-then-is_some
 returns-then-is_some c =
     let first = sym c.first.ensures ∙ c.in-Some.is in
     takes_by _ _ _ _ _ (by_octal c.args.bytes c.in-Some.first c.args.text.now first c.if-first-eq10.false
-        (ap (λ (o : Option ℕ). is_some o) (sym c.digit.ensures) ∙ sym c.if-is_some.ensures)) c.octal.ensures
+    (ap (λ (o : Option ℕ). is_some o) (sym c.digit.ensures) ∙ sym c.if-is_some.ensures)) c.octal.ensures
 
 pub returns-then-wanted-gt0 : goal.returns-then-wanted-gt0
 returns-then-wanted-gt0 c =
     let first = sym c.first.ensures ∙ c.in-Some.is in
     let other = no_octal c.in-Some.first c.args.text.now first c.if-first-eq10.false
-        (ap (λ (o : Option ℕ). is_some o) (sym c.digit.ensures) ∙ sym c.if-is_some.ensures) in
+    (ap (λ (o : Option ℕ). is_some o) (sym c.digit.ensures) ∙ sym c.if-is_some.ensures) in
     takes_by _ _ _ _ _ (by_hexadecimal c.args.bytes c.in-Some.first c.hexadecimal_len-wanted.result c.args.text.now other
-        c.hexadecimal_len-wanted.ensures.len c.if-wanted-gt0.true) c.hexadecimal.ensures
+    c.hexadecimal_len-wanted.ensures.len c.if-wanted-gt0.true) c.hexadecimal.ensures
 
 pub returns-then-names_character : goal.returns-then-names_character
 returns-then-names_character c =
     let first = sym c.first.ensures ∙ c.in-Some.is in
     let other = no_octal c.in-Some.first c.args.text.now first c.if-first-eq10.false
-        (ap (λ (o : Option ℕ). is_some o) (sym c.digit.ensures) ∙ sym c.if-is_some.ensures) in
+    (ap (λ (o : Option ℕ). is_some o) (sym c.digit.ensures) ∙ sym c.if-is_some.ensures) in
     takes_by _ _ _ _ _ (by_name c.args.bytes c.in-Some.first c.hexadecimal_len-wanted.result c.args.text.now other
-        c.hexadecimal_len-wanted.ensures.len c.if-wanted-gt0.false (sym c.if-names_character.ensures)) c.letter-then-names_character.ensures
+    c.hexadecimal_len-wanted.ensures.len c.if-wanted-gt0.false (sym c.if-names_character.ensures)) c.letter-then-names_character.ensures
 
 pub returns-in-Some-point_of : goal.returns-in-Some-point_of
 returns-in-Some-point_of c =
     let first = sym c.first.ensures ∙ c.in-Some.is in
     let other = no_octal c.in-Some.first c.args.text.now first c.if-first-eq10.false
-        (ap (λ (o : Option ℕ). is_some o) (sym c.digit.ensures) ∙ sym c.if-is_some.ensures) in
+    (ap (λ (o : Option ℕ). is_some o) (sym c.digit.ensures) ∙ sym c.if-is_some.ensures) in
     takes_by _ _ _ _ _ (by_letter c.args.bytes c.in-Some.first c.hexadecimal_len-wanted.result c.in-Some-point_of.point c.args.text.now other
-        c.hexadecimal_len-wanted.ensures.len c.if-wanted-gt0.false (sym c.if-names_character.ensures)
-        (sym c.point_of.ensures ∙ c.in-Some-point_of.is)) c.letter-in-Some-point_of.ensures
+    c.hexadecimal_len-wanted.ensures.len c.if-wanted-gt0.false (sym c.if-names_character.ensures)
+    (sym c.point_of.ensures ∙ c.in-Some-point_of.is)) c.letter-in-Some-point_of.ensures
 
 pub returns-in-None : goal.returns-in-None
 returns-in-None c =
     let first = sym c.first.ensures ∙ c.in-Some.is in
     let other = no_octal c.in-Some.first c.args.text.now first c.if-first-eq10.false
-        (ap (λ (o : Option ℕ). is_some o) (sym c.digit.ensures) ∙ sym c.if-is_some.ensures) in
+    (ap (λ (o : Option ℕ). is_some o) (sym c.digit.ensures) ∙ sym c.if-is_some.ensures) in
     takes_by _ _ _ _ _ (by_other c.args.bytes c.in-Some.first c.hexadecimal_len-wanted.result c.args.text.now other
-        c.hexadecimal_len-wanted.ensures.len c.if-wanted-gt0.false (sym c.if-names_character.ensures) (sym c.point_of.ensures ∙ c.in-None.is))
-        (record { meaning = refl; behind = refl })
+    c.hexadecimal_len-wanted.ensures.len c.if-wanted-gt0.false (sym c.if-names_character.ensures) (sym c.point_of.ensures ∙ c.in-None.is))
+    (record { meaning = refl; behind = refl })

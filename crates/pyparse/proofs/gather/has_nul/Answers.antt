@@ -9,14 +9,14 @@ use Rattle.pyparse.proofs.gather.has_nul.Goals as goal
 pub returns-then-c-eq0 : goal.returns-then-c-eq0
 returns-then-c-eq0 c =
     let front : Past (chars_rest c.loop-c.c-iterator) (chars_rest c.next.new.self) c.in-Some.c = past (chars_rest c.loop-c.c-iterator)
-        (chars_rest c.next.new.self) c.in-Some.c c.loop-c.invariant.utf8 c.in-Some.ensures.steps.0 in
+    (chars_rest c.next.new.self) c.in-Some.c c.loop-c.invariant.utf8 c.in-Some.ensures.steps.0 in
     sym (met (λ x. x == 0) (chars_rest c.loop-c.c-iterator) (chars_rest c.next.new.self) c.in-Some.c front.same
-        (eq-eqb c.in-Some.c 0 c.if-c-eq0.true)) ∙ c.loop-c.invariant.same
+    (eq-eqb c.in-Some.c 0 c.if-c-eq0.true)) ∙ c.loop-c.invariant.same
 
 pub loop-c-preserved : goal.loop-c-preserved
 loop-c-preserved c =
     let front : Past (chars_rest c.loop-c.c-iterator) (chars_rest c.next.new.self) c.in-Some.c = past (chars_rest c.loop-c.c-iterator)
-        (chars_rest c.next.new.self) c.in-Some.c c.loop-c.invariant.utf8 c.in-Some.ensures.steps.0 in
+    (chars_rest c.next.new.self) c.in-Some.c c.loop-c.invariant.utf8 c.in-Some.ensures.steps.0 in
     record {
       same = passed (λ x. x == 0) (chars_rest c.loop-c.c-iterator) (chars_rest c.next.new.self) c.in-Some.c front.same
           (ne_eqb c.in-Some.c 0 c.if-c-eq0.false) ∙ c.loop-c.invariant.same;

@@ -8,4 +8,4 @@ pub returns : goal.returns
 returns c =
     let token : List ℕ → Token = λ t. record { kind = c.args.entry.now.kind; start = c.args.entry.now.start; text = t } in
     subst (λ (t : List ℕ). OnOk c.push.result (map token_of c.push.new.tokens.items ≡ map token_of c.args.tokens.now.items ++ token t ∷ []))
-        c.text_of.ensures c.push.ensures
+    c.text_of.ensures c.push.ensures

@@ -10,4 +10,4 @@ pub returns : goal.returns
 returns c =
     let same = supplied_at c.text-text.result.now c.place_of.result c.place_of.ensures ∙ ap supplied (ap chars c.text-text.ensures.value) in
     subst (λ (t : Token). OnOk c.push.result (map token_of c.push.new.tokens.items ≡ map token_of c.args.tokens.now.items ++ t ∷ [])) same
-        c.push.ensures
+    c.push.ensures

@@ -8,7 +8,7 @@ use Rattle.pyparse.proofs.gather.token_fault.Goals as goal
 pub returns-in-Name : goal.returns-in-Name
 returns-in-Name c =
     subst (λ (f : Option TokenError). IfOk c.name_fault.result (λ fault. fault ≡ f)) (of_name c.args.kind (chars c.args.text.now) c.in-Name.is)
-        c.name_fault.ensures
+    c.name_fault.ensures
 
 pub returns-in-Number : goal.returns-in-Number
 returns-in-Number c = c.number_fault.ensures ∙ of_number c.args.kind (chars c.args.text.now) c.in-Number.is

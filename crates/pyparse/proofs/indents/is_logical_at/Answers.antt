@@ -8,7 +8,7 @@ use Rattle.pyparse.proofs.indents.is_logical_at.Goals as goal
 pub returns-clause-logical : goal.returns-clause-logical
 returns-clause-logical c =
     let line = ap chars c.range_from.ensures.value ∙ line_of c.text.result.now c.args.source.now.text c.args.offset c.text.utf8
-        c.text.ensures.value in
+    c.text.ensures.value in
     c.begins_thing.ensures ∙ ap begins_thing (c.behind_blanks.ensures.rest ∙ ap (λ (t : List ℕ). drop (length (blanks_of t)) t) line)
 
 pub returns-clause-line : goal.returns-clause-line

@@ -16,13 +16,13 @@ pub push_point-requires : goal.push_point-requires
 push_point-requires c =
     let first = sym c.next_meaning.ensures.meaning ∙ c.in-Some.is in
     (parts_on is_point c.args.raw _ c.loop-meaning.left c.next_meaning.new.text c.in-Some.meaning first c.next_meaning.ensures.behind
-        c.loop-meaning.invariant.points).0
+    c.loop-meaning.invariant.points).0
 
 pub loop-meaning-preserved : goal.loop-meaning-preserved
 loop-meaning-preserved c =
     let first = sym c.next_meaning.ensures.meaning ∙ c.in-Some.is in
     let parts = parts_on is_point c.args.raw _ c.loop-meaning.left c.next_meaning.new.text c.in-Some.meaning first c.next_meaning.ensures.behind
-        c.loop-meaning.invariant.points in
+    c.loop-meaning.invariant.points in
     record {
       whole = points_on c.args.raw _ c.loop-meaning.left c.next_meaning.new.text c.in-Some.meaning c.loop-meaning.points c.push_point.new.points _
           first c.next_meaning.ensures.behind c.in_ok-push_point.ensures c.loop-meaning.invariant.whole;

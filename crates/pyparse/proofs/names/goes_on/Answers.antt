@@ -8,14 +8,14 @@ use Rattle.pyparse.proofs.names.goes_on.Goals as goal
 pub returns-then-not-is_xid_continue : goal.returns-then-not-is_xid_continue
 returns-then-not-is_xid_continue c =
     let front : Past (chars_rest c.loop-c.c-iterator) (chars_rest c.next.new.self) c.in-Some.c = past (chars_rest c.loop-c.c-iterator)
-        (chars_rest c.next.new.self) c.in-Some.c c.loop-c.invariant.utf8 c.in-Some.ensures.steps.0 in
+    (chars_rest c.next.new.self) c.in-Some.c c.loop-c.invariant.utf8 c.in-Some.ensures.steps.0 in
     sym (stops is_xid_continue (chars_rest c.loop-c.c-iterator) (chars_rest c.next.new.self) c.in-Some.c front.same
-        (sym c.if-not-is_xid_continue.ensures.value)) ∙ c.loop-c.invariant.same
+    (sym c.if-not-is_xid_continue.ensures.value)) ∙ c.loop-c.invariant.same
 
 pub loop-c-preserved : goal.loop-c-preserved
 loop-c-preserved c =
     let front : Past (chars_rest c.loop-c.c-iterator) (chars_rest c.next.new.self) c.in-Some.c = past (chars_rest c.loop-c.c-iterator)
-        (chars_rest c.next.new.self) c.in-Some.c c.loop-c.invariant.utf8 c.in-Some.ensures.steps.0 in
+    (chars_rest c.next.new.self) c.in-Some.c c.loop-c.invariant.utf8 c.in-Some.ensures.steps.0 in
     record {
       same = goes is_xid_continue (chars_rest c.loop-c.c-iterator) (chars_rest c.next.new.self) c.in-Some.c front.same
           (sym c.if-not-is_xid_continue.ensures.value) ∙ c.loop-c.invariant.same;

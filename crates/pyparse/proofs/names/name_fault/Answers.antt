@@ -17,6 +17,6 @@ pub returns : goal.returns
 returns c =
     let own = told c.in_ok-own.own (chars c.args.text.now) c.in_ok-own.ensures.answer in
     let spelled = chars_from_encodes (nfkc (chars c.args.text.now)) c.as_str.result.now c.as_str.utf8
-        (sym (c.as_str.ensures.value ∙ c.in_ok-form.ensures)) in
+    (sym (c.as_str.ensures.value ∙ c.in_ok-form.ensures)) in
     subst (λ (f : Option TokenError). IfOk c.form_fault.result (λ fault. fault ≡ f))
-        (ap form_fault (sym spelled) ∙ sym (name_other (chars c.args.text.now) (sym own ∙ c.if-own.false))) c.form_fault.ensures
+    (ap form_fault (sym spelled) ∙ sym (name_other (chars c.args.text.now) (sym own ∙ c.if-own.false))) c.form_fault.ensures

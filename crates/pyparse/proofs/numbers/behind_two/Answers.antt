@@ -8,15 +8,15 @@ use Rattle.pyparse.proofs.numbers.behind_two.Goals as goal
 pub returns-in_default-next : goal.returns-in_default-next
 returns-in_default-next c =
     let one : Past c.args.text.now (chars_rest c.next.new.self) c.in-Some._first = past c.args.text.now (chars_rest c.next.new.self) c.in-Some._first
-        c.utf8.text (sym c.chars-left.ensures.rest ∙ c.in-Some.ensures.steps.0) in
+    c.utf8.text (sym c.chars-left.ensures.rest ∙ c.in-Some.ensures.steps.0) in
     behind_one c.args.text.now (chars_rest c.next.new.self) c.in-Some._first one.same
-        (no_chars (chars_rest c.next.new.self) c.in_default-next.ensures.steps.0.0)
+    (no_chars (chars_rest c.next.new.self) c.in_default-next.ensures.steps.0.0)
 
 pub returns : goal.returns
 returns c =
     let one : Past c.args.text.now (chars_rest c.next.new.self) c.in-Some._first = past c.args.text.now (chars_rest c.next.new.self) c.in-Some._first
-        c.utf8.text (sym c.chars-left.ensures.rest ∙ c.in-Some.ensures.steps.0) in
+    c.utf8.text (sym c.chars-left.ensures.rest ∙ c.in-Some.ensures.steps.0) in
     let two : Past (chars_rest c.next.new.self) (chars_rest c.next-2.new.self) c.in-Some-next._second = past (chars_rest c.next.new.self)
-        (chars_rest c.next-2.new.self) c.in-Some-next._second one.utf8 c.in-Some-next.ensures.steps.0 in
+    (chars_rest c.next-2.new.self) c.in-Some-next._second one.utf8 c.in-Some-next.ensures.steps.0 in
     ap chars c.as_str.ensures ∙ behind_both c.args.text.now (chars_rest c.next.new.self) (chars_rest c.next-2.new.self) c.in-Some._first
-        c.in-Some-next._second one.same two.same
+    c.in-Some-next._second one.same two.same

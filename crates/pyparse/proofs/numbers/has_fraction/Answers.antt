@@ -9,14 +9,14 @@ use Rattle.pyparse.proofs.numbers.has_fraction.Goals as goal
 pub returns-then-is_of_float : goal.returns-then-is_of_float
 returns-then-is_of_float c =
     let front : Past (chars_rest c.loop-c.c-iterator) (chars_rest c.next.new.self) c.in-Some.c = past (chars_rest c.loop-c.c-iterator)
-        (chars_rest c.next.new.self) c.in-Some.c c.loop-c.invariant.utf8 c.in-Some.ensures.steps.0 in
+    (chars_rest c.next.new.self) c.in-Some.c c.loop-c.invariant.utf8 c.in-Some.ensures.steps.0 in
     sym (met (λ c. is_point c || is_e c) (chars_rest c.loop-c.c-iterator) (chars_rest c.next.new.self) c.in-Some.c front.same
-        (sym c.if-is_of_float.ensures)) ∙ c.loop-c.invariant.same
+    (sym c.if-is_of_float.ensures)) ∙ c.loop-c.invariant.same
 
 pub loop-c-preserved : goal.loop-c-preserved
 loop-c-preserved c =
     let front : Past (chars_rest c.loop-c.c-iterator) (chars_rest c.next.new.self) c.in-Some.c = past (chars_rest c.loop-c.c-iterator)
-        (chars_rest c.next.new.self) c.in-Some.c c.loop-c.invariant.utf8 c.in-Some.ensures.steps.0 in
+    (chars_rest c.next.new.self) c.in-Some.c c.loop-c.invariant.utf8 c.in-Some.ensures.steps.0 in
     record {
       same = passed (λ c. is_point c || is_e c) (chars_rest c.loop-c.c-iterator) (chars_rest c.next.new.self) c.in-Some.c front.same
           (sym c.if-is_of_float.ensures) ∙ c.loop-c.invariant.same;

@@ -8,14 +8,14 @@ use Rattle.pyparse.proofs.numbers.is_complex.Goals as goal
 pub returns-then-is_j : goal.returns-then-is_j
 returns-then-is_j c =
     let front : Past (chars_rest c.loop-c.c-iterator) (chars_rest c.next.new.self) c.in-Some.c = past (chars_rest c.loop-c.c-iterator)
-        (chars_rest c.next.new.self) c.in-Some.c c.loop-c.invariant.utf8 c.in-Some.ensures.steps.0 in
+    (chars_rest c.next.new.self) c.in-Some.c c.loop-c.invariant.utf8 c.in-Some.ensures.steps.0 in
     sym (met is_j (chars_rest c.loop-c.c-iterator) (chars_rest c.next.new.self) c.in-Some.c front.same (sym c.if-is_j.ensures))
-        ∙ c.loop-c.invariant.same
+    ∙ c.loop-c.invariant.same
 
 pub loop-c-preserved : goal.loop-c-preserved
 loop-c-preserved c =
     let front : Past (chars_rest c.loop-c.c-iterator) (chars_rest c.next.new.self) c.in-Some.c = past (chars_rest c.loop-c.c-iterator)
-        (chars_rest c.next.new.self) c.in-Some.c c.loop-c.invariant.utf8 c.in-Some.ensures.steps.0 in
+    (chars_rest c.next.new.self) c.in-Some.c c.loop-c.invariant.utf8 c.in-Some.ensures.steps.0 in
     record {
       same = passed is_j (chars_rest c.loop-c.c-iterator) (chars_rest c.next.new.self) c.in-Some.c front.same (sym c.if-is_j.ensures)
           ∙ c.loop-c.invariant.same;

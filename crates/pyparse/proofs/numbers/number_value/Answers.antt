@@ -14,7 +14,7 @@ pub returns-in-Some : goal.returns-in-Some
 returns-in-Some c =
     let digits = ap₂ (λ (r : ℕ) (ds : List ℕ). whole_below r ds) (sym c.radix_of.ensures.value) (sym c.digits.ensures) in
     sym (answer_some (chars c.args.text.now) c.in-Some.value (sym c.if-is_complex.ensures) (sym c.if-is_real.ensures)
-        (digits ∙ sym c.whole.ensures ∙ c.in-Some.is))
+    (digits ∙ sym c.whole.ensures ∙ c.in-Some.is))
 
 pub returns-in-None : goal.returns-in-None
 returns-in-None c =

@@ -22,7 +22,7 @@ loop-meaning-preserved c =
 pub returns-then-named : goal.returns-then-named
 returns-then-named c =
     let named = any_end is_named_escape c.args.raw c.args.bytes c.loop-meaning.left c.loop-meaning.named _
-        (sym c.next_meaning.ensures.meaning ∙ c.in_default.is) c.loop-meaning.invariant.named in
+    (sym c.next_meaning.ensures.meaning ∙ c.in_default.is) c.loop-meaning.invariant.named in
     sym (fault_named (meanings c.args.raw c.args.bytes c.args.body) (sym named ∙ c.if-named.true))
 
 pub returns-then-bad : goal.returns-then-bad

@@ -40,7 +40,7 @@ take-requires-clause-lies c =
     let k = c.loop-gather.lister.shown.given in
     let entry = c.in-Entry.entry in
     let m = moved c.loop-gather.lister c.next.new.self c.in_ok-entry.field-0 (steps.Entry entry) s k c.in_ok-entry.ensures.moves c.in-Entry.is
-        c.loop-gather.invariant.stands in
+    c.loop-gather.invariant.stands in
     entry_lies c.args.source.now.text (listing s) k entry c.loop-gather.invariant.lies m.0
 
 pub take-requires-clause-opened : goal.take-requires-clause-opened
@@ -63,7 +63,7 @@ loop-gather-smaller c =
     let k = c.loop-gather.lister.shown.given in
     let entry = c.in-Entry.entry in
     let m = moved c.loop-gather.lister c.next.new.self c.in_ok-entry.field-0 (steps.Entry entry) s k c.in_ok-entry.ensures.moves c.in-Entry.is
-        c.loop-gather.invariant.stands in
+    c.loop-gather.invariant.stands in
     let next = at_entry (listing s) k entry c.loop-gather.invariant.whole m.0 in
     omega (arith, m.1.count, next.0)
 
@@ -75,7 +75,7 @@ loop-gather-preserved c =
     let text = chars c.args.source.now.text in
     let entry = c.in-Entry.entry in
     let m = moved c.loop-gather.lister c.next.new.self c.in_ok-entry.field-0 (steps.Entry entry) s k c.in_ok-entry.ensures.moves c.in-Entry.is
-        c.loop-gather.invariant.stands in
+    c.loop-gather.invariant.stands in
     let next = at_entry (listing s) k entry c.loop-gather.invariant.whole m.0 in
     let grown = ap (λ (n : ℕ). take n es) m.1.count ∙ next.1 in
     record {
@@ -95,7 +95,7 @@ returns-in-End-clause-tokens c =
     let s = in_characters c.args.source.now in
     let k = c.loop-gather.lister.shown.given in
     let m = moved c.loop-gather.lister c.next.new.self c.in_ok-entry.field-0 steps.End s k c.in_ok-entry.ensures.moves c.in-End.is
-        c.loop-gather.invariant.stands in
+    c.loop-gather.invariant.stands in
     let last = at_stop (listing s) k steps.End c.loop-gather.invariant.whole c.loop-gather.invariant.within tt m.0 in
     let all = all_tokens s (take k (entries_of (listing s))) c.loop-gather.gather c.loop-gather.invariant.gathered last.0 in
     subst (λ (ts : List Token). IfOk c.finish.result (λ v. map token_of v.items ≡ ts)) all c.finish.ensures.tokens
@@ -105,7 +105,7 @@ returns-in-End-clause-sound c =
     let s = in_characters c.args.source.now in
     let k = c.loop-gather.lister.shown.given in
     let m = moved c.loop-gather.lister c.next.new.self c.in_ok-entry.field-0 steps.End s k c.in_ok-entry.ensures.moves c.in-End.is
-        c.loop-gather.invariant.stands in
+    c.loop-gather.invariant.stands in
     let last = at_stop (listing s) k steps.End c.loop-gather.invariant.whole c.loop-gather.invariant.within tt m.0 in
     let all = all_refusals s (take k (entries_of (listing s))) c.loop-gather.gather c.loop-gather.invariant.gathered last.0 last.1 in
     subst (λ (r : Option Refusal). OnOk c.finish.result (r ≡ None)) all c.finish.ensures.sound
@@ -115,7 +115,7 @@ returns-in-End-clause-refused c =
     let s = in_characters c.args.source.now in
     let k = c.loop-gather.lister.shown.given in
     let m = moved c.loop-gather.lister c.next.new.self c.in_ok-entry.field-0 steps.End s k c.in_ok-entry.ensures.moves c.in-End.is
-        c.loop-gather.invariant.stands in
+    c.loop-gather.invariant.stands in
     let last = at_stop (listing s) k steps.End c.loop-gather.invariant.whole c.loop-gather.invariant.within tt m.0 in
     let all = all_refusals s (take k (entries_of (listing s))) c.loop-gather.gather c.loop-gather.invariant.gathered last.0 last.1 in
     subst (λ (r : Option Refusal). IfErr c.finish.result (Tells r)) all c.finish.ensures.refused
@@ -126,7 +126,7 @@ returns-in-Fault-clause-refused c =
     let k = c.loop-gather.lister.shown.given in
     let fault = c.in-Fault.fault in
     let m = moved c.loop-gather.lister c.next.new.self c.in_ok-entry.field-0 (steps.Fault fault) s k c.in_ok-entry.ensures.moves c.in-Fault.is
-        c.loop-gather.invariant.stands in
+    c.loop-gather.invariant.stands in
     let last = at_stop (listing s) k (steps.Fault fault) c.loop-gather.invariant.whole c.loop-gather.invariant.within tt m.0 in
     refused_listing s fault last.1
 
