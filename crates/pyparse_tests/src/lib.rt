@@ -5,6 +5,8 @@
 #[cfg(test)]
 mod refusals;
 #[cfg(test)]
+mod sources;
+#[cfg(test)]
 mod tokens;
 #[cfg(test)]
 mod values;

@@ -1,15 +1,16 @@
 //! Why sources have no tokens, and which reason is told.
 
+use crate::sources::source_of;
 use pylex::{ListingError, ListingFault};
 use pyparse::{ParseFault, tokens_of};
-use pysource::{Place, decode};
+use pysource::Place;
 use pytoken::{Refusal, TokenError};
 use std::alloc::Global;
 use std::test::Fail;
 
 /// Why a source has no tokens, or that it has some.
 fn refusal_of(alloc: Global, text: &str) -> Result<Option<Refusal>, Fail> {
-    let source = decode(alloc, text.as_bytes())?;
+    let source = source_of(alloc, text)?;
     match tokens_of(alloc, &source) {
         Ok(_) => Ok(None),
         Err(ParseFault::Refused(refusal)) => Ok(Some(refusal)),

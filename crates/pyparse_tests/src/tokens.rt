@@ -1,8 +1,8 @@
 //! The tokens of sources.
 
+use crate::sources::source_of;
 use pylex::Kind;
 use pyparse::tokens_of;
-use pysource::decode;
 use std::alloc::Global;
 use std::process::Abort;
 use std::test::Fail;
@@ -14,7 +14,7 @@ fn gives(
     text: &str,
     rows: &[(Kind, (usize, usize), &str)],
 ) -> Result<(), Fail> {
-    let source = decode(alloc, text.as_bytes())?;
+    let source = source_of(alloc, text)?;
     let Ok(tokens) = tokens_of(alloc, &source) else {
         return Err(Fail::from("no tokens"));
     };
