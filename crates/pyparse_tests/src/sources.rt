@@ -5,7 +5,7 @@ use std::alloc::Global;
 use std::test::Fail;
 
 /// The source that a text is.
-pub fn source_of(alloc: Global, text: &str) -> Result<Source, Fail> {
+pub(crate) fn source_of(alloc: Global, text: &str) -> Result<Source, Fail> {
     let bytes = text.as_bytes();
     if bytes.len() > SOURCE_LIMIT {
         return Err(Fail::from("too long"));

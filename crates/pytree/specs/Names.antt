@@ -1,25 +1,12 @@
 -- Identifiers, keywords, and the names that a well-formed tree holds (reference 2.3).
-use Rattle.std.specs.Prelude.{ℕ, Bool, ◌&&◌, not, List, [], ◌∷◌, codes}
-use Rattle.std.specs.List.{list_any}
-use Rattle.std.specs.Str.{bytes_eq}
+use Rattle.std.specs.Prelude.{ℕ, Bool, ◌&&◌, not, List, is_some}
 use Rattle.unicode_normalization.specs.Forms.{Nfkc, is_in_form}
 use Rattle.pylexeme.specs.Lexemes
+use Rattle.pytoken.specs.Keywords.{keyword_of}
 
--- the keywords, in rows as the reference has them (2.3.1)
-unfoldable pub keywords : List (List ℕ)
-keywords =
-    codes "False" ∷ codes "await" ∷ codes "else" ∷ codes "import" ∷ codes "pass" ∷
-    codes "None" ∷ codes "break" ∷ codes "except" ∷ codes "in" ∷ codes "raise" ∷
-    codes "True" ∷ codes "class" ∷ codes "finally" ∷ codes "is" ∷ codes "return" ∷
-    codes "and" ∷ codes "continue" ∷ codes "for" ∷ codes "lambda" ∷ codes "try" ∷
-    codes "as" ∷ codes "def" ∷ codes "from" ∷ codes "nonlocal" ∷ codes "while" ∷
-    codes "assert" ∷ codes "del" ∷ codes "global" ∷ codes "not" ∷ codes "with" ∷
-    codes "async" ∷ codes "elif" ∷ codes "if" ∷ codes "or" ∷ codes "yield" ∷
-    []
-
--- one of the keywords
+-- one of the keywords (2.3.1)
 abbrev pub is_keyword : List ℕ → Bool
-is_keyword text = list_any (bytes_eq text) keywords
+is_keyword text = is_some (keyword_of text)
 
 -- an identifier is a text that is a name as a lexeme (2.3)
 abbrev pub is_identifier : List ℕ → Bool

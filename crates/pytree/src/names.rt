@@ -7,6 +7,7 @@ ghost use Rattle.unicode_ident.specs.Ident.{is_xid_continue};
 ghost use Rattle.pylexeme.specs.Chars.{starts_name};
 ghost use Rattle.pytree.specs.Names.{is_identifier, is_keyword, is_name};
 
+use pytoken::Keyword;
 use std::alloc::{AllocError, Global};
 use unicode_ident::{is_xid_continue, is_xid_start};
 use unicode_normalization::is_nfkc;
@@ -15,52 +16,7 @@ use unicode_normalization::is_nfkc;
 pub fn is_keyword(text: &str) -> bool
     ensures { result ≡ is_keyword (chars text.now) }
 {
-    spells_keyword(text)
-}
-
-/// Whether the bytes of a text are those of a keyword.
-#[tactic(auto, unfolding(crate::specs::Names::keywords))]
-fn spells_keyword(text: &str) -> bool
-    ensures { result ≡ is_keyword text.now }
-{
-    matches!(
-        text,
-        "False"
-            | "None"
-            | "True"
-            | "and"
-            | "as"
-            | "assert"
-            | "async"
-            | "await"
-            | "break"
-            | "class"
-            | "continue"
-            | "def"
-            | "del"
-            | "elif"
-            | "else"
-            | "except"
-            | "finally"
-            | "for"
-            | "from"
-            | "global"
-            | "if"
-            | "import"
-            | "in"
-            | "is"
-            | "lambda"
-            | "nonlocal"
-            | "not"
-            | "or"
-            | "pass"
-            | "raise"
-            | "return"
-            | "try"
-            | "while"
-            | "with"
-            | "yield"
-    )
+    Keyword::of(text).is_some()
 }
 
 /// Whether a text is an identifier, be it a keyword or not.

@@ -1,4 +1,4 @@
-use Rattle.std.proofs.Common.{◌≡◌, ◌∙◌, ap, IsTrue, arith}
+use Rattle.std.proofs.Common.{◌∙◌, ap, IsTrue, arith}
 use Rattle.pynode.specs.TreeOf.{handler_of, stmt_of}
 use Rattle.pynode.proofs.Callers.StmtShapes.{function_def_tree, async_function_def_tree, class_def_tree, return_tree, delete_tree, assign_tree, type_alias_tree, aug_assign_tree, ann_assign_tree, for_tree, async_for_tree, while_tree, if_tree, with_tree, async_with_tree, raise_tree, try_tree, try_star_tree, assert_tree, import_tree, import_from_tree, global_tree, nonlocal_tree, expr_stmt_tree, pass_tree, break_tree, continue_tree}
 use Rattle.pytree.proofs.StmtClasses.{other_class}
