@@ -1,17 +1,13 @@
 //! Lists Python source.
 #![tactic(auto)]
 
-pub mod command;
-pub mod fault;
-pub mod run;
-
-use command::{Command, UsageFault};
-use fault::{Fault, RunFaultCode, tell};
+use pycommand::command::{Command, UsageFault};
+use pycommand::fault::{Fault, RunFaultCode, tell};
+use pycommand::run::run;
+use pycommand::source_file::open_source;
 use pysource::{Counted, write_all};
-use std::fs::File;
 use std::io::ErrorKind;
 use std::process::ExitCode;
-use std::rt::Files;
 
 /// The words after the program's name. They come as one list or not at all: where one is no text, they give no command.
 fn words(rt: &HostRuntime) -> Result<Vec<String>, UsageFault> {
@@ -22,14 +18,6 @@ fn words(rt: &HostRuntime) -> Result<Vec<String>, UsageFault> {
     }
 }
 
-/// Opens the file of a source. A directory opens too, and then its first read fails.
-pub fn open_source<R: Files>(rt: &R, name: &str) -> Result<R::File, Fault> {
-    match File::open(rt, name) {
-        Ok(file) => Ok(file),
-        Err(_) => Err(Fault::Plain(RunFaultCode::Open)),
-    }
-}
-
 /// Runs a command over the standard streams, or over the file that it names.
 fn perform(rt: &HostRuntime, command: &Command) -> u8 {
     let mut writer = Counted::new(rt.stdout());
@@ -37,14 +25,14 @@ fn perform(rt: &HostRuntime, command: &Command) -> u8 {
     let file = match command.file() {
         None => {
             let mut reader = Counted::new(rt.stdin());
-            return run::run(rt.alloc(), command, &mut reader, &mut writer, &mut faults);
+            return run(rt.alloc(), command, &mut reader, &mut writer, &mut faults);
         }
         Some(name) => open_source(rt, name),
     };
     match file {
         Ok(file) => {
             let mut reader = Counted::new(file);
-            run::run(rt.alloc(), command, &mut reader, &mut writer, &mut faults)
+            run(rt.alloc(), command, &mut reader, &mut writer, &mut faults)
         }
         Err(fault) => tell(rt.alloc(), command.name(), fault, &mut faults).status(),
     }
@@ -81,6 +69,3 @@ fn main(rt: HostRuntime) -> ExitCode {
         Err(fault) => refuse(&rt, fault),
     })
 }
-
-#[cfg(test)]
-mod tests;

@@ -1,4 +1,4 @@
--- What callers compute with: when a cursor is one of a source, and the steps of a listing behind its first ones.
+-- What callers compute with: when a cursor is one of a source, the steps of a listing behind its first ones, and the lexemes of a text.
 use Rattle.std.proofs.Common.{◌≡◌, ℕ, zero, suc, ◌+◌, ◌≤◌, Bool, true, false, ◌&&◌, ◌==◌, List, [], ◌∷◌, drop, length, refl, sym, ap, ◌∙◌, subst, Some, None, slice_get, nat_le, arith}
 use Rattle.std.proofs.lemmas.Bool.Decides.{nat_tests}
 use lib.Pointwise.{bytes_decides}
@@ -7,12 +7,16 @@ use Rattle.pylex.specs.declared.entries.ListingFault.{ListingFault}
 use Rattle.pylex.specs.declared.entries.Step.{Step}
 use Rattle.pylex.specs.declared.entries.Step.TheVariants as steps
 use Rattle.pylex.specs.declared.kinds.Kind.TheVariants as kinds
-use Rattle.pylexeme.specs.Lexemes.{cut, left_by_cut}
+use Rattle.pylexeme.specs.Cuts.{begins_thing}
+use Rattle.pylexeme.specs.Lexemes.{Lexeme, lexeme_at, cut, left_by_cut}
+use Rattle.pylex.specs.Lines.{is_thing}
 use Rattle.pylex.specs.Cursors.{CursorParts, cursor, flag, same_parts}
-use Rattle.pylex.specs.Laws.{LiesIn, AllLie}
+use Rattle.pylex.specs.Laws.{LiesIn, AllLie, IsCut, LongestWins}
 use Rattle.pylex.specs.Listing.{Source, listing, rest, up_to_end, mark, origin, steps_from}
 use Rattle.pylex.specs.Standing.{is_cursor_of, IsCursorOf}
 use Rattle.pylex.specs.Steps.{entries_of, fault_of}
+use Rattle.pylex.proofs.Finding as finding
+use Rattle.pylex.proofs.Lexed as lexed
 
 equals_itself : (n : ℕ) → (n == n) ≡ true
 equals_itself n = grind (arith, nat_tests)
@@ -127,3 +131,13 @@ entry_lies text (steps.Entry d ∷ ss) zero e l h = let is : d ≡ e = cc in sub
 entry_lies text (steps.End ∷ ss) zero e l h = cc
 entry_lies text (steps.Fault f ∷ ss) zero e l h = cc
 entry_lies text (s ∷ ss) (suc k) e l h = entry_lies text ss k e l.1 h
+
+pub is_cut : (text : List ℕ) → IsCut text
+is_cut = lexed.is_cut
+
+pub longest_wins : (text : List ℕ) → LongestWins text
+longest_wins = lexed.longest_wins
+
+-- a lexeme makes its line logical exactly where it is seen to
+pub thing_is : (text : List ℕ) (x : Lexeme) → lexeme_at text ≡ Some x → is_thing x ≡ begins_thing text
+thing_is = finding.thing_is

@@ -1,6 +1,7 @@
--- Carries: Indents::take, tokens_of. On: the lines from which on no line has a smaller width, and the first mixed line.
+-- Carries: Indents::take, tokens_of. On: the first mixed line, behind more lines.
 use Rattle.std.proofs.Common.{◌≡◌, ℕ, ◌<◌, Bool, true, false, List, [], ◌∷◌, ◌++◌, ◌+◌, ◌-◌, ◌≤◌, length, take, drop, refl, sym, ap, ap₂, subst, ◌∙◌}
-use Rattle.std.proofs.Common.{inl, inr, arith, length-append, length-take, take-append-drop, Option, Some, None, append_assoc, append-nil}
+use Rattle.std.proofs.Common.{arith, length-append, length-take, take-append-drop, Option, Some, None, append_assoc, append-nil}
+use Rattle.pysource.specs.declared.places.Place.{Place}
 use Rattle.std.specs.Char.{encode_utf8}
 use Rattle.std.specs.Str.{chars, encode_utf8_all, IsUtf8, IsCharBoundary}
 use Rattle.std.proofs.lemmas.Bool.Decides.{nat_tests}
@@ -9,100 +10,108 @@ use Rattle.std.proofs.lemmas.Str.{encode_ascii, encodes-chars, IsCharBoundary-at
 use Rattle.pylexeme.specs.Chars.{is_blank_char}
 use Rattle.pylex.specs.Margins.{blanks_of, widths_of}
 use Rattle.pyparse.proofs.TextLemmas.{past, no_chars}
-use Rattle.std.specs.Prelude.{◌||◌, ◌&&◌, not, nat_le, filter, if◌then◌else◌}
-use Rattle.std.specs.List.{list_any, list_all}
-use Rattle.std.proofs.lemmas.Bool.{cases_Bool}
-use Rattle.std.proofs.lemmas.List.Folds.{list_any-append}
-use Rattle.std.proofs.Math.Bool.{or-false}
+use Rattle.std.specs.Prelude.{if◌then◌else◌}
+use Rattle.std.specs.Option.{is_some}
+use Rattle.std.specs.List.{list_any}
 use Rattle.pylex.specs.declared.margins.Widths.{Widths}
 use Rattle.pytoken.specs.declared.refusals.Refusal.{Refusal}
 use Rattle.pytoken.specs.declared.refusals.Refusal.TheVariants.{MixedTabs}
 use Rattle.pytoken.specs.Inner.Behind.{behind}
-use Rattle.pytoken.specs.Indentation.{Margin, behind_offset, margin_at, are_alike, is_mixed_past, is_mixed}
-use Rattle.pytoken.specs.Refusals.{or_refusal, first_mixed}
-use Rattle.pytoken.proofs.Callers.OnePass.{mixed_on}
+use Rattle.pytoken.specs.Indentation.{Margin, behind_offset, margin_at, is_mixed}
+use Rattle.pytoken.specs.Refusals.{or_refusal, margin_refusal, first_mixed}
+use Rattle.pytoken.proofs.Callers.OnePass.{behind_on, mixed_on}
 use Rattle.pyparse.specs.declared.indents.Indents.{Indents}
-use Rattle.pyparse.specs.Inner.Indenting.{is_logical_at, start_at, margin, clashes, standing_past, clash_refusal, standing_on, clash_on, standing_of}
+use Rattle.pyparse.specs.Inner.Indenting.{is_logical_at, start_at, are_rising, narrower, Drops}
 use Rattle.pyparse.specs.Inner.Indenting.{Measures, Measured}
-
--- Some of those that pass a test pass another
-
-any_same : {X : Type 0} (p q : X → Bool) → ((x : X) → p x ≡ q x) → (xs : List X) → list_any p xs ≡ list_any q xs
-any_same p q same [] = refl
-any_same p q same (x ∷ xs) = ap₂ (λ (a b : Bool). a || b) (same x) (any_same p q same xs)
-
-any_filter : {X : Type 0} (p q : X → Bool) (xs : List X) → list_any p (filter q xs) ≡ list_any (λ x. q x && p x) xs
-any_filter p q [] = refl
-any_filter p q (x ∷ xs) = elim (cases_Bool (q x)) [
-  | inl kept ↦ rw kept (ap (λ (b : Bool). p x || b) (any_filter p q xs))
-  | inr left_out ↦ rw left_out (any_filter p q xs)
-]
-
-or_comm : (a b : Bool) → (a || b) ≡ (b || a)
-or_comm true true = refl
-or_comm true false = refl
-or_comm false true = refl
-or_comm false false = refl
-
-and_assoc : (a b c : Bool) → ((a && b) && c) ≡ (a && (b && c))
-and_assoc true b c = refl
-and_assoc false b c = refl
-
--- A line is mixed where it clashes with one that still stands
-
--- no line between has a smaller width
-abbrev is_least : List Margin → Widths → Bool
-is_least between v = list_all (λ u. nat_le v.eight u.widths.eight) between
-
-mixed_past : (between earlier : List Margin) (m : Margin) → is_mixed_past between earlier m
-    ≡ list_any (λ v. is_least between v && not (are_alike v m.widths)) (standing_of earlier)
-mixed_past between [] m = refl
-mixed_past between (w ∷ earlier) m =
-    let test : Widths → Bool = λ v. is_least between v && not (are_alike v m.widths) in
-    let within : Widths → Bool = λ v. nat_le v.eight w.widths.eight in
-    let rest = standing_of earlier in
-    let later : is_mixed_past (w ∷ between) earlier m ≡ list_any test (filter within rest) =
-    mixed_past (w ∷ between) earlier m
-    ∙ any_same (λ v. is_least (w ∷ between) v && not (are_alike v m.widths)) (λ v. within v && test v)
-    (λ v. and_assoc (within v) (is_least between v) (not (are_alike v m.widths))) rest
-    ∙ sym (any_filter test within rest) in
-    ap (λ (b : Bool). test w.widths || b) later
-    ∙ or_comm (test w.widths) (list_any test (filter within rest))
-    ∙ ap (λ (b : Bool). list_any test (filter within rest) || b) (sym (or-false (test w.widths)))
-    ∙ sym (list_any-append test (filter within rest) (w.widths ∷ []))
-
-mixed_is : (earlier : List Margin) (m : Margin) → clashes (standing_of earlier) m.widths ≡ is_mixed earlier m
-mixed_is earlier m = sym (mixed_past [] earlier m)
+use Rattle.pyparse.proofs.RisingLemmas.{mixed_is, stands_on}
 
 -- Behind more lines
 
-standing_is : (earlier ms : List Margin) → standing_on (standing_of earlier) ms ≡ standing_of (behind earlier ms)
-standing_is earlier [] = refl
-standing_is earlier (m ∷ ms) = standing_is (m ∷ earlier) ms
-
-clash_is : (earlier ms : List Margin) → clash_on (standing_of earlier) ms ≡ first_mixed earlier ms
-clash_is earlier [] = refl
-clash_is earlier (m ∷ ms) =
-    ap₂ or_refusal (ap (λ (b : Bool). let r : Option Refusal = if b then Some (MixedTabs m.start) else None in r) (mixed_is earlier m))
-    (clash_is (m ∷ earlier) ms)
-
-behind-append : {X : Type 0} (before xs ys : List X) → behind before (xs ++ ys) ≡ behind (behind before xs) ys
-behind-append before [] ys = refl
-behind-append before (x ∷ xs) ys = behind-append (x ∷ before) xs ys
-
 pub measures : (ms more : List Margin) (old new : Indents) → Measured ms old → Measures more old new → Measured (ms ++ more) new
-measures ms more old new had gains = record {
-  standing =
-      gains.standing ∙ ap (λ (ws : List Widths). standing_on ws more) had.standing ∙ standing_is (behind [] ms) more
-      ∙ sym (ap standing_of (behind-append [] ms more));
-  mixed =
-      gains.mixed ∙ ap₂ (λ (r : Option Refusal) (ws : List Widths). or_refusal r (clash_on ws more)) had.mixed had.standing
-      ∙ ap (or_refusal (first_mixed [] ms)) (clash_is (behind [] ms) more)
-      ∙ sym (mixed_on [] ms more);
-}
+measures ms more old new had gains = gains ms had
 
 pub none_measured : (i : Indents) → i.standing.items ≡ [] → i.mixed ≡ None → Measured [] i
-none_measured i standing mixed = record { standing = standing; mixed = mixed }
+none_measured i standing mixed = record {
+  mixed = mixed;
+  standing = λ none. record { rising = ap are_rising standing; same = λ p. ap (list_any p) standing };
+}
+
+-- no line was taken
+pub takes_none : (text : List ℕ) (o : ℕ) (i : Indents) → is_logical_at text o ≡ false → Measures (margin_at text o) i i
+takes_none text o i other ms had =
+    let none : margin_at text o ≡ [] = rw other refl in
+    subst (λ (ls : List Margin). Measured ls i) (sym (ap (λ (ls : List Margin). ms ++ ls) none ∙ append-nil ms)) had
+
+pub none_of : (o : Option Refusal) → is_some o ≡ false → o ≡ None
+none_of (Some r) h = absurd cc
+none_of None h = refl
+
+some_of : (o : Option Refusal) → is_some o ≡ true → (r : Refusal) × (o ≡ Some r)
+some_of (Some r) h = (r, refl)
+some_of None h = absurd cc
+
+none_some : (o : Option Refusal) (r : Refusal) → o ≡ Some r → o ≡ None → ⊥
+none_some o r is none = absurd cc
+
+-- behind a mixed line none counts
+pub takes_behind : (more : List Margin) (i : Indents) → is_some i.mixed ≡ true → Measures more i i
+takes_behind more i is ms had =
+    let told = some_of i.mixed is in
+    let first : first_mixed [] ms ≡ Some told.0 = sym had.mixed ∙ told.1 in
+    record {
+      mixed = told.1 ∙ sym (mixed_on [] ms more ∙ ap (λ (r : Option Refusal). or_refusal r (first_mixed (behind [] ms) more)) first);
+      standing = λ none. absurd (none_some i.mixed told.0 told.1 none);
+    }
+
+abbrev margin : Widths → Place → Margin
+margin w p = record { widths = w; start = p }
+
+one_more : (text : List ℕ) (o : ℕ) → is_logical_at text o ≡ true → margin_at text o ≡ margin (widths_of (behind_offset text o)) (start_at text o) ∷ []
+one_more text o logical = rw logical refl
+
+-- the first mixed line among some and one more
+mixed_one : (ms : List Margin) (m : Margin) → first_mixed [] ms ≡ None → first_mixed [] (ms ++ m ∷ []) ≡ margin_refusal (behind [] ms) m
+mixed_one ms m none = mixed_on [] ms (m ∷ []) ∙ (rw none (or_none (margin_refusal (behind [] ms) m)))
+  where
+    or_none : (r : Option Refusal) → or_refusal r None ≡ r
+    or_none (Some x) = refl
+    or_none None = refl
+
+mixed_by : (m : Margin) (b : Bool) → Option Refusal
+mixed_by m b = if b then Some (MixedTabs m.start) else None
+
+-- a mixed line was taken
+pub takes_mixed : (text : List ℕ) (o : ℕ) (w : Widths) (old new : Indents) → is_logical_at text o ≡ true → w ≡ widths_of (behind_offset text o)
+    → old.mixed ≡ None → (are_rising old.standing.items ≡ true → Drops old.standing.items new.standing.items w true)
+    → new.mixed ≡ Some (MixedTabs (start_at text o)) → Measures (margin_at text o) old new
+takes_mixed text o w old new logical is none drops mixed ms had =
+    let m = margin w (start_at text o) in
+    let stood = had.standing none in
+    let met : is_mixed (behind [] ms) m ≡ true = sym (mixed_is (behind [] ms) old.standing.items m stood.same) ∙ sym (drops stood.rising).clash in
+    let whole : margin_at text o ≡ m ∷ [] = one_more text o logical ∙ ap (λ (v : Widths). margin v (start_at text o) ∷ []) (sym is) in
+    subst (λ (ls : List Margin). Measured (ms ++ ls) new) (sym whole) (record {
+      mixed = mixed ∙ sym (mixed_one ms m (sym had.mixed ∙ none) ∙ (rw met refl));
+      standing = λ free. absurd (none_some new.mixed (MixedTabs (start_at text o)) mixed free);
+    })
+
+-- a line that isn't mixed was taken
+pub takes_line : (text : List ℕ) (o : ℕ) (w : Widths) (dropped : List Widths) (old new : Indents) → is_logical_at text o ≡ true
+    → w ≡ widths_of (behind_offset text o) → old.mixed ≡ None
+    → (are_rising old.standing.items ≡ true → Drops old.standing.items dropped w false)
+    → new.standing.items ≡ dropped ++ w ∷ [] → new.mixed ≡ None → Measures (margin_at text o) old new
+takes_line text o w dropped old new logical is none drops standing mixed ms had =
+    let m = margin w (start_at text o) in
+    let stood = had.standing none in
+    let done = drops stood.rising in
+    let free : is_mixed (behind [] ms) m ≡ false = sym (mixed_is (behind [] ms) old.standing.items m stood.same) ∙ sym done.clash in
+    let whole : margin_at text o ≡ m ∷ [] = one_more text o logical ∙ ap (λ (v : Widths). margin v (start_at text o) ∷ []) (sym is) in
+    let items : new.standing.items ≡ narrower old.standing.items w ++ w ∷ [] = standing ∙ ap (λ (vs : List Widths). vs ++ w ∷ []) (done.kept refl) in
+    let order : behind [] (ms ++ m ∷ []) ≡ m ∷ behind [] ms = behind_on [] ms m in
+    subst (λ (ls : List Margin). Measured (ms ++ ls) new) (sym whole) (record {
+      mixed = mixed ∙ sym (mixed_one ms m (sym had.mixed ∙ none) ∙ (rw free refl));
+      standing = λ still.
+          rw (order, items) (stands_on (behind [] ms) old.standing.items m stood (sym done.clash));
+    })
 
 -- Blanks at the front of a text
 
@@ -176,22 +185,3 @@ seam bs line front behind o within is cut utf8 =
       boundary = subst (IsCharBoundary bs) (sym place) (IsCharBoundary-at_seam bs before behind whole utf8);
       at = place ∙ size;
     }
-
--- a logical line was taken
-pub takes_line : (text : List ℕ) (o : ℕ) (w : Widths) (old new : Indents) → is_logical_at text o ≡ true → w ≡ widths_of (behind_offset text o)
-    → new.standing.items ≡ standing_past old.standing.items w → new.mixed
-    ≡ or_refusal old.mixed (clash_refusal old.standing.items (margin w (start_at text o)))
-    → Measures (margin_at text o) old new
-takes_line text o w old new logical is standing mixed = subst (λ (ms : List Margin). Measures ms old new) (sym one) (record {
-  standing = standing ∙ ap (standing_past old.standing.items) is;
-  mixed =
-      mixed ∙ ap (λ (v : Widths). or_refusal old.mixed (clash_refusal old.standing.items (margin v (start_at text o)))) is
-      ∙ ap (or_refusal old.mixed) (sym (or_none (clash_refusal old.standing.items (margin (widths_of (behind_offset text o)) (start_at text o)))));
-})
-  where
-    one : margin_at text o ≡ margin (widths_of (behind_offset text o)) (start_at text o) ∷ []
-    one = rw logical refl
-
-    or_none : (r : Option Refusal) → or_refusal r None ≡ r
-    or_none (Some x) = refl
-    or_none None = refl

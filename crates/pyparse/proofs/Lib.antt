@@ -1,10 +1,6 @@
-mod TextLemmas
-mod NameLemmas
-mod NumberLemmas
-mod DigitLemmas
-mod EscapeLemmas
-mod Filtered
-mod LiteralLemmas
+pub use Rattle.pyvalue.proofs.Callers.TextLemmas
 mod ListingLemmas
+mod RisingLemmas
 mod IndentLemmas
+mod PassLemmas
 mod GatherLemmas

@@ -1,3 +1,3 @@
+pub mod Passing
 pub mod Gathering
 pub mod Indenting
-pub mod Readings

@@ -2,14 +2,13 @@
 //!
 //! Python language reference, 2.1.8 "Indentation".
 
-ghost use Rattle.std.specs.Prelude.{◌≡◌, ◌++◌, [], nat_le, length, drop, filter, OnOk, None};
+ghost use Rattle.std.specs.Prelude.{◌≡◌, ◌++◌, true, [], length, drop, OnOk, None};
 ghost use Rattle.std.specs.Str.{chars, IsCharBoundary};
 ghost use Rattle.pylexeme.specs.Chars.{is_blank_char};
 ghost use Rattle.pylex.specs.Margins.{blanks_of};
 ghost use Rattle.pytoken.specs.Indentation.{behind_offset, are_alike, margin_at};
-ghost use Rattle.pytoken.specs.Refusals.{or_refusal};
-ghost use Rattle.pyparse.specs.Inner.Indenting.{is_logical_at, start_at, margin, clashes};
-ghost use Rattle.pyparse.specs.Inner.Indenting.{clash_refusal, Measures};
+ghost use Rattle.pyparse.specs.Inner.Indenting.{is_logical_at, start_at, are_rising};
+ghost use Rattle.pyparse.specs.Inner.Indenting.{Drops, Measures};
 
 use pylex::{Widths, begins_thing, widths};
 use pysource::{Place, Source, place_of};
@@ -68,43 +67,33 @@ fn are_alike(one: Widths, other: Widths) -> bool
         && (other.eight < one.eight) == (other.one < one.one)
 }
 
-/// Whether a line stands in another order to some of these.
-fn clashes(standing: &[Widths], widths: Widths) -> bool
-    ensures { result ≡ clashes standing.now widths }
+/// Drops those that aren't narrower than a line, from the last on, up to one that the line stands in
+/// another order to; whether there is one among them all.
+///
+/// Those that stay rise by both widths, so the last of them decides for all.
+fn drop_wider(standing: &mut Vec<Widths>, widths: Widths) -> bool
+    ensures { are_rising standing.old.items ≡ true
+        → Drops standing.old.items standing.new.items widths result }
 {
-    for earlier in standing {
-        if !are_alike(*earlier, widths) {
+    while let Some(last) = standing.last() {
+        if !are_alike(*last, widths) {
             return true;
         }
+        if last.eight < widths.eight {
+            return false;
+        }
+        standing.pop();
     }
     false
-}
-
-/// The refusal of a line that begins at an offset and stands in another order to some of these.
-fn clash(standing: &[Widths], source: &Source, offset: usize, widths: Widths) -> Option<Refusal>
-    requires { IsCharBoundary source.now.text offset }
-    ensures { result ≡ clash_refusal standing.now
-        (margin widths (start_at (chars source.now.text) offset)) }
-{
-    if clashes(standing, widths) {
-        return Some(Refusal::MixedTabs(start_of(source, offset)));
-    }
-    None
-}
-
-/// Drops those that are wider than a line.
-fn drop_wider(standing: &mut Vec<Widths>, widths: Widths)
-    ensures { standing.new.items ≡ filter (λ v. nat_le v.eight widths.eight) standing.old.items }
-{
-    standing.retain(|earlier| earlier.eight <= widths.eight);
 }
 
 /// What one pass over the lines of a source keeps of their indentation.
 #[derive(Drop)]
 pub(crate) struct Indents {
-    /// The lines from which on none has a smaller width.
+    /// The widths of the lines from which on none has a smaller one: each once, rising, up to the
+    /// first mixed line.
     standing: Vec<Widths>,
-    /// The first line whose indentation depends on how wide a tab is.
+    /// The first line whose indentation depends on how wide a tab is; behind it none is measured.
     mixed: Option<Refusal>,
 }
 
@@ -127,30 +116,20 @@ impl Indents {
         self.mixed
     }
 
-    /// The first refusal, behind a line of these widths that begins at an offset.
-    fn first_clash(&self, source: &Source, offset: usize, widths: Widths) -> Option<Refusal>
-        requires { IsCharBoundary source.now.text offset }
-        ensures { result ≡ or_refusal self.now.mixed (clash_refusal self.now.standing.items
-            (margin widths (start_at (chars source.now.text) offset))) }
-    {
-        match self.mixed {
-            Some(refusal) => Some(refusal),
-            None => clash(self.standing.as_slice(), source, offset, widths),
-        }
-    }
-
     /// Takes the line that begins at an offset, where it is a logical one.
     pub(crate) fn take(&mut self, source: &Source, offset: usize) -> Result<(), AllocError>
         requires { IsCharBoundary source.now.text offset }
         ensures { OnOk result
             (Measures (margin_at (chars source.now.text) offset) self.old self.new) }
     {
-        if !is_logical_at(source, offset) {
+        if self.mixed.is_some() || !is_logical_at(source, offset) {
             return Ok(());
         }
         let widths = widths(source, offset);
-        self.mixed = self.first_clash(source, offset, widths);
-        drop_wider(&mut self.standing, widths);
+        if drop_wider(&mut self.standing, widths) {
+            self.mixed = Some(Refusal::MixedTabs(start_of(source, offset)));
+            return Ok(());
+        }
         self.standing.push(widths)?;
         Ok(())
     }

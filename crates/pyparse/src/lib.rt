@@ -3,25 +3,21 @@
 //! [`tokens_of`] gives the tokens of a source in one pass over its listing, or the first reason why
 //! it has none ([`ParseFault`]). [`number_value`], [`string_value`] and [`name_value`] tell what the
 //! text of a number, a string or a name stands for, [`string_fault`] and [`name_fault`] what is
-//! wrong with it by itself.
+//! wrong with it by itself. [`terminal_of`] tells what a token is to the grammar ([`Terminal`]). These
+//! are `pyvalue`'s.
 //!
 //! The words of contracts are `pytoken`'s, and here in `specs/` those of `Answers`.
 #![tactic(auto)]
 
-mod characters;
-mod escapes;
 mod faults;
 mod gather;
 mod indents;
-mod literals;
-mod names;
-mod numbers;
-mod strings;
+mod pass;
 mod tokens;
 
 pub use faults::ParseFault;
-pub use literals::{Literal, string_value};
-pub use names::{name_fault, name_value};
-pub use numbers::number_value;
-pub use strings::string_fault;
+pub use pyvalue::{
+    Literal, LiteralText, Terminal, TerminalFault, name_fault, name_value, number_value,
+    string_fault, string_value, terminal_of, token_fault,
+};
 pub use tokens::{Token, tokens_of};

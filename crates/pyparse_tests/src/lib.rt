@@ -7,6 +7,8 @@ mod refusals;
 #[cfg(test)]
 mod sources;
 #[cfg(test)]
+mod terminals;
+#[cfg(test)]
 mod tokens;
 #[cfg(test)]
 mod values;

@@ -8,6 +8,8 @@ mod NumberClasses
 mod SmallBytes
 mod TextPoints
 mod Sound
+mod MarginParts
+mod MarginWidths
 mod ValueRows
 mod TokenRows
 mod RefusalRows

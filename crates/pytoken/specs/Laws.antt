@@ -1,13 +1,16 @@
 -- What holds of the values and the faults of tokens: what the text of a tree writes for a name or a constant stands for that again.
-use Rattle.std.specs.Prelude.{◌≡◌, ℕ, ◌^◌, ◌<◌, Bool, true, false, ◌||◌, nat_lt, nat_le, List, ◌∷◌, Some, None, All, decimal, if◌then◌else◌}
+use Rattle.std.specs.Prelude.{◌≡◌, ℕ, ◌^◌, ◌<◌, Bool, true, false, ◌||◌, nat_lt, nat_le, List, ◌∷◌, map, reverse, Some, None, All, decimal, if◌then◌else◌}
 use Rattle.std.specs.List.{list_all, flat_map}
 use Rattle.std.specs.Str.{chars, all_scalars}
 use Rattle.unicode_normalization.specs.Forms.{nfkc}
 use Rattle.pysource.specs.Reprs.{repr_chars, repr_text, repr_bytes}
 use Rattle.pylexeme.specs.Numbers.{is_decimal, is_radix, is_float, is_imaginary}
-use Rattle.pylexeme.specs.Lexemes.{is_name}
+use Rattle.pylexeme.specs.Lexemes.{is_name, cut}
 use Rattle.pylex.specs.declared.kinds.Kind.TheVariants as kinds
-use Rattle.pylex.specs.Listing.{Source}
+use Rattle.pylex.specs.Lines.{widths}
+use Rattle.pylex.specs.Listing.{Source, listing}
+use Rattle.pylex.specs.Steps.{entries_of}
+use Rattle.pylex.specs.Steps.{fault_of as listing_fault}
 use Rattle.pynode.specs.Points.{IsPoint}
 use Rattle.pynode.specs.Values.{Str, Bytes}
 use Rattle.pytoken.specs.declared.keywords.Keyword.{Keyword}
@@ -19,6 +22,7 @@ use Rattle.pytoken.specs.StringValues.{string_value, string_fault}
 use Rattle.pytoken.specs.NameValues.{name_fault}
 use Rattle.pytoken.specs.Terminals.{IsSound, Gives, Word, Ident, Whole, Literal}
 use Rattle.pytoken.specs.Tokens.{Token, tokens}
+use Rattle.pytoken.specs.Indentation.{margins}
 use Rattle.pytoken.specs.Refusals.{refusal}
 
 -- a name that a tree may hold: an identifier that is no keyword and is its own form NFKC
@@ -69,6 +73,12 @@ abbrev pub PointsAreInRange : Type 0
 PointsAreInRange = (raw bytes : Bool) (cs : List ℕ) → list_all is_point cs ≡ true
     → list_all is_point (flat_map points_in (meanings raw bytes cs)) ≡ true
 
+-- The margins of a listing that comes to its end are of the lines that open and close its levels, one after another, and each is as wide, a tab
+-- going to the next multiple of 8, as the line is where an INDENT or DEDENT is decided (reference 2.1.8).
+abbrev pub MarginsAreWidths : Type 0
+MarginsAreWidths = (s : Source) → all_scalars s.text ≡ true → listing_fault (listing s) ≡ None
+    → map (λ m. m.widths.eight) (margins s.text (entries_of (listing s))) ≡ reverse (widths (reverse (cut s.text)))
+
 -- the laws of what tokens say
 pub record AreLawful : Type 0 where
   pub constants : ComeBack
@@ -76,6 +86,7 @@ pub record AreLawful : Type 0 where
   pub numbers : FaultsAreByClass
   pub bytes : BytesAreSmall
   pub points : PointsAreInRange
+  pub margins : MarginsAreWidths
 
 -- Where a source of Unicode characters isn't refused, each of its tokens is what its type says, and has no fault.
 abbrev pub TokensAreSound : Source → Type 0

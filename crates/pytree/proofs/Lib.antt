@@ -1,9 +1,2 @@
-mod CapLemmas
-mod ArgumentsLemmas
 mod IdentifierLemmas
 mod NameLemmas
-mod ExprClasses
-mod StmtClasses
-mod SameLists
-mod Members
-mod Refuted

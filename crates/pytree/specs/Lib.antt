@@ -1,5 +1,5 @@
-pub mod Heights
 pub mod Names
+pub use Rattle.pyheight.specs.Heights
 pub use Rattle.pynode.specs.Points
 pub use Rattle.pynode.specs.TreeOf
 pub use Rattle.pynode.specs.Trees

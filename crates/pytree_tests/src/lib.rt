@@ -12,3 +12,13 @@ mod names;
 mod nodes;
 #[cfg(test)]
 mod trees;
+#[cfg(test)]
+mod word_expressions;
+#[cfg(test)]
+mod word_lists;
+#[cfg(test)]
+mod word_stack;
+#[cfg(test)]
+mod word_statements;
+#[cfg(test)]
+mod words;

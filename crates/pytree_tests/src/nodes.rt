@@ -1,11 +1,10 @@
 //! Sizes, the texts and numbers that are kept, and a tree of many classes made by hand.
 
+use crate::words::module;
 use pytree::{
-    Alias, Arg, Arguments, BoolOperator, Comparison, Comprehension, Constant, Context, Expr,
-    Handler, Identifier, Integer, Item, Keyword, Module, Operator, Points, Stmt, TypeParam,
-    UnaryOperator,
+    Alias, Arg, Comprehension, Constant, Expr, Handler, Identifier, Integer, Item, Keyword, Points,
+    Stmt, TypeParam,
 };
-use std::alloc::{AllocError, Global};
 use std::test::Fail;
 
 #[test]
@@ -84,195 +83,28 @@ fn keeps_points(rt: HostRuntime) -> Result<(), Fail> {
     Ok(())
 }
 
-/// The name of this text, as it is read.
-fn load(alloc: Global, id: &str) -> Result<Expr, AllocError> {
-    Ok(Expr::Name {
-        id: Identifier::new(alloc, id)?,
-        ctx: Context::Load,
-    })
-}
-
-/// The name of this text, as it is assigned to.
-fn store(alloc: Global, id: &str) -> Result<Expr, AllocError> {
-    Ok(Expr::Name {
-        id: Identifier::new(alloc, id)?,
-        ctx: Context::Store,
-    })
-}
-
-/// A whole number.
-fn whole(alloc: Global, value: u128) -> Result<Expr, AllocError> {
-    Ok(Expr::Constant {
-        value: Constant::Int(Integer::new(alloc, value)?),
-    })
-}
-
-/// One parameter, without annotation and default.
-fn parameter(alloc: Global, name: &str) -> Result<Arguments, AllocError> {
-    let arg = Arg {
-        arg: Identifier::new(alloc, name)?,
-        annotation: None,
-    };
-    Ok(Arguments {
-        posonlyargs: Vec::new(alloc),
-        args: vec![in alloc; arg]?,
-        vararg: None,
-        kwonlyargs: Vec::new(alloc),
-        kw_defaults: Vec::new(alloc),
-        kwarg: None,
-        defaults: Vec::new(alloc),
-    })
-}
-
-/// `x = 1`.
-fn assignment(alloc: Global) -> Result<Stmt, AllocError> {
-    Ok(Stmt::Assign {
-        targets: vec![in alloc; store(alloc, "x")?]?,
-        value: whole(alloc, 1)?,
-    })
-}
-
-/// `return [-y for y in x if y < 1 and y] + f(*x, key={**x}, **x)[1:]`.
-fn answer(alloc: Global) -> Result<Stmt, AllocError> {
-    let below = Expr::Compare {
-        left: Box::new(alloc, load(alloc, "y")?)?,
-        ops: vec![in alloc; Comparison::Lt]?,
-        comparators: vec![in alloc; whole(alloc, 1)?]?,
-    };
-    let condition = Expr::BoolOp {
-        op: BoolOperator::And,
-        values: vec![in alloc; below, load(alloc, "y")?]?,
-    };
-    let clause = Comprehension {
-        target: store(alloc, "y")?,
-        iter: load(alloc, "x")?,
-        ifs: vec![in alloc; condition]?,
-        is_async: false,
-    };
-    let negative = Expr::UnaryOp {
-        op: UnaryOperator::USub,
-        operand: Box::new(alloc, load(alloc, "y")?)?,
-    };
-    let list = Expr::ListComp {
-        elt: Box::new(alloc, negative)?,
-        generators: vec![in alloc; clause]?,
-    };
-    let unpacked = Expr::Dict {
-        keys: vec![in alloc; None]?,
-        values: vec![in alloc; load(alloc, "x")?]?,
-    };
-    let key = Keyword {
-        arg: Some(Identifier::new(alloc, "key")?),
-        value: unpacked,
-    };
-    let rest = Keyword {
-        arg: None,
-        value: load(alloc, "x")?,
-    };
-    let starred = Expr::Starred {
-        value: Box::new(alloc, load(alloc, "x")?)?,
-        ctx: Context::Load,
-    };
-    let call = Expr::Call {
-        func: Box::new(alloc, load(alloc, "f")?)?,
-        args: vec![in alloc; starred]?,
-        keywords: vec![in alloc; key, rest]?,
-    };
-    let slice = Expr::Slice {
-        lower: Some(Box::new(alloc, whole(alloc, 1)?)?),
-        upper: None,
-        step: None,
-    };
-    let tail = Expr::Subscript {
-        value: Box::new(alloc, call)?,
-        slice: Box::new(alloc, slice)?,
-        ctx: Context::Load,
-    };
-    let sum = Expr::BinOp {
-        left: Box::new(alloc, list)?,
-        op: Operator::Add,
-        right: Box::new(alloc, tail)?,
-    };
-    Ok(Stmt::Return { value: Some(sum) })
-}
-
-/// `def f[T](x):` with that answer.
-fn definition(alloc: Global) -> Result<Stmt, AllocError> {
-    let parameter_of_a_type = TypeParam::TypeVar {
-        name: Identifier::new(alloc, "T")?,
-        bound: None,
-    };
-    Ok(Stmt::FunctionDef {
-        name: Identifier::new(alloc, "f")?,
-        args: Box::new(alloc, parameter(alloc, "x")?)?,
-        body: vec![in alloc; answer(alloc)?]?,
-        decorator_list: Vec::new(alloc),
-        returns: None,
-        type_params: vec![in alloc; parameter_of_a_type]?,
-    })
-}
-
-/// `try:` with `pass`, and `except E as e:` with `e.args: u'a' = b'a'`.
-fn trial(alloc: Global) -> Result<Stmt, AllocError> {
-    let mut points = Points::new(alloc);
-    points.push(0x61)?;
-    let text = Expr::Constant {
-        value: Constant::Str {
-            points,
-            unicode: true,
-        },
-    };
-    let bytes = Expr::Constant {
-        value: Constant::Bytes(vec![in alloc; 0x61]?),
-    };
-    let attribute = Expr::Attribute {
-        value: Box::new(alloc, load(alloc, "e")?)?,
-        attr: Identifier::new(alloc, "args")?,
-        ctx: Context::Store,
-    };
-    let annotated = Stmt::AnnAssign {
-        target: Box::new(alloc, attribute)?,
-        annotation: Box::new(alloc, text)?,
-        value: Some(Box::new(alloc, bytes)?),
-        simple: false,
-    };
-    let handler = Handler {
-        class: Some(load(alloc, "E")?),
-        name: Some(Identifier::new(alloc, "e")?),
-        body: vec![in alloc; annotated]?,
-    };
-    Ok(Stmt::Try {
-        body: vec![in alloc; Stmt::Pass]?,
-        handlers: vec![in alloc; handler]?,
-        orelse: Vec::new(alloc),
-        finalbody: Vec::new(alloc),
-    })
-}
-
-/// `from .. import a as b`.
-fn import(alloc: Global) -> Result<Stmt, AllocError> {
-    let alias = Alias {
-        name: Identifier::new(alloc, "a")?,
-        asname: Some(Identifier::new(alloc, "b")?),
-    };
-    Ok(Stmt::ImportFrom {
-        module: None,
-        names: vec![in alloc; alias]?,
-        level: 2,
-    })
-}
+/// `from .. import a as b`, `x = 1`, then
+///
+/// ```text
+/// def f[T](x):
+///     return [-y for y in x if y < 1 and y] + f(*x, key={**x}, **x)[1:]
+/// try:
+///     pass
+/// except E as e:
+///     e.args: u'a' = b'a'
+/// ```
+const MANY: &str = "ImportFrom:a=b exprs Store:x also Int:1 Assign \
+    types exprs type:T args args arg:x args args keys args exprs arguments \
+    body Load:y USub Store:y Load:x exprs exprs Load:y exprs Int:1 also Lt also Load:y also And also ListComp \
+    Load:f exprs Load:x Starred also \
+    keywords keys none exprs Load:x also Dict keyword:key Load:x keyword Call \
+    Int:1 Slice Subscript:Load Add Return FunctionDef:f \
+    body Pass Load:E body Load:e Attribute:args UStr:a exprs Bytes:a also AnnAssign Try:e";
 
 #[test]
 fn makes_and_drops_a_tree(rt: HostRuntime) -> Result<(), Fail> {
     let alloc = rt.alloc();
-    let module = Module {
-        body: vec![in alloc;
-            import(alloc)?,
-            assignment(alloc)?,
-            definition(alloc)?,
-            trial(alloc)?,
-        ]?,
-    };
+    let module = module(&rt, alloc, MANY)?;
     assert!(rt; module.body.len() == 4);
     let value = match &module.body[1] {
         Stmt::Assign {

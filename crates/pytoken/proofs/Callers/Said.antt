@@ -1,16 +1,17 @@
 -- On: what the text of a tree writes for names and constants comes back; faults of numbers by their class; the points of literals;
--- the tokens of a source that isn't refused.
+-- the tokens of a source that isn't refused; the widths of margins.
 use Rattle.std.proofs.Common.{◌≡◌, ℕ, true, List, None}
 use Rattle.std.specs.List.{list_all}
 use Rattle.pylex.specs.Listing.{Source}
 use Rattle.pylex.specs.Laws.{IsLawful}
 use Rattle.pytoken.specs.StringValues.{is_bytes, points_of, literal_fault}
-use Rattle.pytoken.specs.Laws.{is_byte, ComeBack, NamesAreProper, FaultsAreByClass, BytesAreSmall, PointsAreInRange, AreLawful, TokensAreSound}
+use Rattle.pytoken.specs.Laws.{is_byte, ComeBack, NamesAreProper, FaultsAreByClass, BytesAreSmall, PointsAreInRange, MarginsAreWidths, AreLawful, TokensAreSound}
 use Rattle.pytoken.proofs.Words
 use Rattle.pytoken.proofs.NumberClasses
 use Rattle.pytoken.proofs.SmallBytes
 use Rattle.pytoken.proofs.TextPoints
 use Rattle.pytoken.proofs.Sound
+use Rattle.pytoken.proofs.MarginWidths
 
 pub come_back : ComeBack
 come_back = Words.come_back
@@ -27,12 +28,22 @@ bytes_are_small = SmallBytes.bytes_are_small
 pub points_are_in_range : PointsAreInRange
 points_are_in_range = TextPoints.points_are_in_range
 
+pub margins_are_widths : MarginsAreWidths
+margins_are_widths = MarginWidths.margins_are_widths
+
 pub points_small : (t : List ℕ) → is_bytes t ≡ true → literal_fault t ≡ None → list_all is_byte (points_of t) ≡ true
 points_small = SmallBytes.points_small
 
 pub values_are_lawful : AreLawful
 values_are_lawful =
-    record { constants = come_back; names = names_are_proper; numbers = faults_are_by_class; bytes = bytes_are_small; points = points_are_in_range }
+    record {
+      constants = come_back;
+      names = names_are_proper;
+      numbers = faults_are_by_class;
+      bytes = bytes_are_small;
+      points = points_are_in_range;
+      margins = margins_are_widths;
+    }
 
 pub tokens_are_sound : (s : Source) → IsLawful s → TokensAreSound s
 tokens_are_sound = Sound.tokens_are_sound

@@ -13,7 +13,8 @@ use Rattle.pytoken.proofs.Callers.Said.{values_are_lawful, tokens_are_sound}
 use Rattle.pyparse.specs.Answers.{token_of, Tells}
 use Rattle.pyparse.specs.Inner.Gathering.{Gathered}
 use Rattle.pyparse.proofs.ListingLemmas.{moved, at_entry, at_stop, starts_at}
-use Rattle.pyparse.proofs.GatherLemmas.{gathers, few, all_tokens, all_refusals, refused_listing}
+use Rattle.pyparse.proofs.PassLemmas.{few, all_refusals, refused_listing}
+use Rattle.pyparse.proofs.GatherLemmas.{gathers, all_tokens}
 use Rattle.pyparse.proofs.tokens.tokens_of.Goals as goal
 
 pub new-requires : goal.new-requires
@@ -47,14 +48,14 @@ pub take-requires-clause-opened : goal.take-requires-clause-opened
 take-requires-clause-opened c =
     let es = entries_of (listing (in_characters c.args.source.now)) in
     let k = c.loop-gather.lister.shown.given in
-    let counts = few (chars c.args.source.now.text) (take k es) c.loop-gather.gather c.loop-gather.invariant.gathered in
+    let counts = few (chars c.args.source.now.text) (take k es) c.loop-gather.gather.pass c.loop-gather.invariant.gathered.pass in
     omega (arith, counts.0, length-take k es, c.loop-gather.invariant.few)
 
 pub take-requires-clause-closed : goal.take-requires-clause-closed
 take-requires-clause-closed c =
     let es = entries_of (listing (in_characters c.args.source.now)) in
     let k = c.loop-gather.lister.shown.given in
-    let counts = few (chars c.args.source.now.text) (take k es) c.loop-gather.gather c.loop-gather.invariant.gathered in
+    let counts = few (chars c.args.source.now.text) (take k es) c.loop-gather.gather.pass c.loop-gather.invariant.gathered.pass in
     omega (arith, counts.1, length-take k es, c.loop-gather.invariant.few)
 
 pub loop-gather-smaller : goal.loop-gather-smaller
@@ -107,7 +108,7 @@ returns-in-End-clause-sound c =
     let m = moved c.loop-gather.lister c.next.new.self c.in_ok-entry.field-0 steps.End s k c.in_ok-entry.ensures.moves c.in-End.is
     c.loop-gather.invariant.stands in
     let last = at_stop (listing s) k steps.End c.loop-gather.invariant.whole c.loop-gather.invariant.within tt m.0 in
-    let all = all_refusals s (take k (entries_of (listing s))) c.loop-gather.gather c.loop-gather.invariant.gathered last.0 last.1 in
+    let all = all_refusals s (take k (entries_of (listing s))) c.loop-gather.gather.pass c.loop-gather.invariant.gathered.pass last.0 last.1 in
     subst (λ (r : Option Refusal). OnOk c.finish.result (r ≡ None)) all c.finish.ensures.sound
 
 pub returns-in-End-clause-refused : goal.returns-in-End-clause-refused
@@ -117,7 +118,7 @@ returns-in-End-clause-refused c =
     let m = moved c.loop-gather.lister c.next.new.self c.in_ok-entry.field-0 steps.End s k c.in_ok-entry.ensures.moves c.in-End.is
     c.loop-gather.invariant.stands in
     let last = at_stop (listing s) k steps.End c.loop-gather.invariant.whole c.loop-gather.invariant.within tt m.0 in
-    let all = all_refusals s (take k (entries_of (listing s))) c.loop-gather.gather c.loop-gather.invariant.gathered last.0 last.1 in
+    let all = all_refusals s (take k (entries_of (listing s))) c.loop-gather.gather.pass c.loop-gather.invariant.gathered.pass last.0 last.1 in
     subst (λ (r : Option Refusal). IfErr c.finish.result (Tells r)) all c.finish.ensures.refused
 
 pub returns-in-Fault-clause-refused : goal.returns-in-Fault-clause-refused

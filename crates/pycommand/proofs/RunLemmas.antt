@@ -1,0 +1,131 @@
+-- Laws of a run.
+use Rattle.std.proofs.Common.{true, Bool, ◌≡◌, ◌≢◌, ◌+◌, ◌++◌, arith, ℕ, List, [], false, Option, None, Some, Ok, Err, Result, refl, sym, ap, inl, inr, ◌∙◌, append_assoc, append-nil}
+use Rattle.std.specs.Prelude.{OnOk, OnErr, is_err}
+use Rattle.std.specs.Io.KnownBytes.{Appends}
+use Rattle.pysource.specs.Bytes.{TakesFront}
+use Rattle.pysource.proofs.ByteLemmas.{Appends-append, TakesFront-after, TakesFront-done}
+use Rattle.pylex.specs.declared.entries.ListingFault.{ListingFault}
+use Rattle.pycommand.specs.Faults.{Tells, code_of, told_at, of_listing, IsToldAs}
+use Rattle.pycommand.specs.Runs.{TakesAllBut, HoldsFor, WritesFor, Performs}
+use Rattle.pycommand.specs.declared.fault.RunFaultCode.{RunFaultCode}
+use Rattle.pycommand.specs.declared.fault.SourceFaultCode.{SourceFaultCode}
+use Rattle.pycommand.specs.declared.fault.RunFaultCode.TheVariants.{Read, Write, Memory, CursorOfAnotherSource}
+use Rattle.pycommand.specs.declared.fault.Fault.{Fault}
+use Rattle.pycommand.specs.declared.fault.Fault.TheVariants.{InSource, Plain}
+
+-- a write that failed within a line
+pub tells_cut : (x y z : Option (List ℕ)) (before after : ℕ) (done part rest line : List ℕ) → line ≡ done ++ (part ++ rest) → Appends x y done
+    → TakesFront y z part → after ≡ before + 1 → Tells x z before after line
+tells_cut x y z before after done part rest line is p t f = record {
+  front = TakesFront-after x y z done part rest line is p t;
+  whole = λ unfailed. absurd (omega arith);
+}
+
+-- the last part of a line is written, or not all of it
+pub tells_last : {A E : Type 0} (r : Result A E) (x y z : Option (List ℕ)) (before mid after : ℕ) (done part line : List ℕ) → line ≡ done ++ part → mid ≡ before → Appends x y done
+    → OnOk r (Appends y z part) → OnErr r (TakesFront y z part) → OnErr r (after ≡ mid + 1) → Tells x z before after line
+tells_last (Ok a) x y z before mid after done part line is same p q t f = record {
+  front = TakesFront-done x z (done ++ part) [] line (is ∙ sym (append-nil (done ++ part))) (Appends-append x y z done part p q);
+  whole = λ unfailed. rw is (Appends-append x y z done part p q);
+}
+tells_last (Err e) x y z before mid after done part line is same p q t f = tells_cut x y z before after done part [] line (is ∙ ap (λ u. done ++ u) (sym (append-nil part))) p t (omega arith)
+
+-- what holds anyway, holds where there is an error
+pub on_error : {A E : Type 0} (r : Result A E) (P : Type 0) → P → OnErr r P
+on_error (Ok a) P p = tt
+on_error (Err e) P p = p
+
+-- what a success brings, where there was no error
+pub on_success : {A E : Type 0} {P : Type 0} (r : Result A E) → is_err r ≡ false → OnOk r P → P
+on_success (Ok a) n p = p
+on_success (Err e) n p = cc
+
+-- what an error brings, where there was one
+pub on_failure : {A E : Type 0} {P : Type 0} (r : Result A E) → is_err r ≡ true → OnErr r P → P
+on_failure (Ok a) n p = cc
+on_failure (Err e) n p = p
+
+-- a further line is held, and no longer left
+pub TakesAllBut-held : (x y : Option (List ℕ)) (output held line left : List ℕ) → TakesAllBut x y output held (line ++ left) → TakesAllBut x y output (held ++ line) left
+TakesAllBut-held x y output held line left (written, is, p) = (written, is ∙ simp append_assoc, p)
+
+-- what was held is written
+pub TakesAllBut-written : (x y z : Option (List ℕ)) (output held left : List ℕ) → TakesAllBut x y output held left → Appends y z held → TakesAllBut x z output [] left
+TakesAllBut-written x y z output held left (written, is, p) q = (written ++ held, is ∙ ap (λ t. t ++ left) (sym (append-nil (written ++ held))), Appends-append x y z written held p q)
+
+-- a front of what was held is written
+pub TakesAllBut-cut : (x y z : Option (List ℕ)) (output held left : List ℕ) → TakesAllBut x y output held left → TakesFront y z held → TakesFront x z output
+TakesAllBut-cut x y z output held left (written, is, p) q = TakesFront-after x y z written held left output (is ∙ append_assoc written held left) p q
+
+-- a front of what is held at a listing's end is written
+pub HoldsFor-cut : (output : List ℕ) (told : Option Fault) (x y z : Option (List ℕ)) (held : List ℕ) (ended : Option Fault)
+    → ended ≢ Some (Plain Write) → HoldsFor output told x y held ended → TakesFront y z held → TakesFront x z output
+HoldsFor-cut output told x y z held None n p q = TakesAllBut-cut x y z output held [] p.1 q
+HoldsFor-cut output told x y z held (Some (InSource code place)) n p q = TakesAllBut-cut x y z output held [] p.1 q
+HoldsFor-cut output told x y z held (Some (Plain Memory)) n p q = TakesAllBut-cut x y z output held p.0 p.1 q
+HoldsFor-cut output told x y z held (Some (Plain Read)) n p q = TakesAllBut-cut x y z output held [] p.1 q
+HoldsFor-cut output told x y z held (Some (Plain Write)) n p q = absurd (n refl)
+HoldsFor-cut output told x y z held (Some (Plain other)) n p q = absurd p
+
+-- where a write failed, a front is written
+pub HoldsFor-failed : (output : List ℕ) (told : Option Fault) (x y : Option (List ℕ)) (held : List ℕ) (ended : Option Fault)
+    → ended ≡ Some (Plain Write) → HoldsFor output told x y held ended → WritesFor output told x y ended
+HoldsFor-failed output told x y held ended is p = rw is (rw is at p)
+
+-- all of the output is written
+all_written : (output : List ℕ) (x y z : Option (List ℕ)) (held : List ℕ) → TakesAllBut x y output held [] → Appends y z held → Appends x z output
+all_written output x y z held (written, is, p) q = rw (is, append-nil (written ++ held)) (Appends-append x y z written held p q)
+
+-- all that was held at a listing's end is written
+pub HoldsFor-written : (output : List ℕ) (told : Option Fault) (x y z : Option (List ℕ)) (held : List ℕ) (ended : Option Fault)
+    → ended ≢ Some (Plain Write) → HoldsFor output told x y held ended → Appends y z held → WritesFor output told x z ended
+HoldsFor-written output told x y z held None n p q = (p.0, all_written output x y z held p.1 q)
+HoldsFor-written output told x y z held (Some (InSource code place)) n p q = (p.0, all_written output x y z held p.1 q)
+HoldsFor-written output told x y z held (Some (Plain Read)) n p q = (p.0, all_written output x y z held p.1 q)
+HoldsFor-written output told x y z held (Some (Plain Memory)) n (left, (written, is, p)) q = (written ++ held, left, is, Appends-append x y z written held p q)
+HoldsFor-written output told x y z held (Some (Plain Write)) n p q = absurd (n refl)
+HoldsFor-written output told x y z held (Some (Plain other)) n p q = absurd p
+
+-- a listing ended by a fault, and all before that is held
+pub HoldsFor-fault : (output : List ℕ) (told : Option Fault) (x y : Option (List ℕ)) (held : List ℕ) (f : ListingFault) → told ≡ Some (of_listing f) → TakesAllBut x y output held []
+    → HoldsFor output told x y held (Some (of_listing f))
+HoldsFor-fault output told x y held f is p = by_code (code_of f.code) is
+  where
+    by_code : (o : Option SourceFaultCode) → told ≡ Some (told_at o f.place) → HoldsFor output told x y held (Some (told_at o f.place))
+    by_code None e = (e, p)
+    by_code (Some code) e = (e, p)
+
+-- whatever was written stands at the front of the output
+pub WritesFor-front : (output : List ℕ) (told : Option Fault) (x y : Option (List ℕ)) (ended : Option Fault) → WritesFor output told x y ended → TakesFront x y output
+WritesFor-front output told x y None p = (output, [], sym (append-nil output), p.1)
+WritesFor-front output told x y (Some (InSource code place)) p = (output, [], sym (append-nil output), p.1)
+WritesFor-front output told x y (Some (Plain Read)) p = (output, [], sym (append-nil output), p.1)
+WritesFor-front output told x y (Some (Plain Memory)) p = p
+WritesFor-front output told x y (Some (Plain Write)) p = p
+WritesFor-front output told x y (Some (Plain CursorOfAnotherSource)) p = (output, [], sym (append-nil output), p.1)
+WritesFor-front output told x y (Some (Plain other)) p = absurd p
+
+-- a run whose fault was told as another ended by that one
+pub Performs-told : (output : Bool → List ℕ → List ℕ) (told : Bool → List ℕ → Option Fault) (come_old come_new : Option (List ℕ)) (reads_old reads_new : ℕ) (x y : Option (List ℕ)) (limit : ℕ) (fault other : Fault)
+    → IsToldAs fault other → Performs output told come_old come_new reads_old reads_new x y limit (Some fault) → Performs output told come_old come_new reads_old reads_new x y limit (Some other)
+Performs-told output told come_old come_new reads_old reads_new x y limit (Plain code) other is p = rw is p
+Performs-told output told come_old come_new reads_old reads_new x y limit (InSource code place) other is p = elim is [
+  | inl e ↦ rw e p
+  | inr e ↦ rw e (record {
+    input = p.input;
+    broken = p.broken;
+    within = p.within;
+    whole = p.whole;
+    cut = p.cut;
+    read = λ e. cc;
+    writes = WritesFor-front (output p.broken p.input) (told p.broken p.input) x y (Some (InSource code place)) p.writes;
+  })
+]
+
+-- a fault without a place is told as itself, and only as that
+pub told-plain : (fault told : Fault) (code : RunFaultCode) → code ≢ Memory → IsToldAs fault told → (told ≡ Plain code → fault ≡ Plain code) × (fault ≡ Plain code → told ≡ Plain code)
+told-plain (Plain other) told code ne is = (λ e. cc, λ e. cc)
+told-plain (InSource other place) told code ne is = (λ e. elim is [ inl f ↦ cc | inr f ↦ absurd (ne (injects (sym e ∙ f))) ], λ e. cc)
+  where
+    injects : {a b : RunFaultCode} → Plain a ≡ Plain b → a ≡ b
+    injects e = cc

@@ -1,0 +1,141 @@
+//! What the tests compare with.
+ghost use Rattle.std.specs.Prelude.{◌≡◌, ◌<◌, ◌-◌, ◌^◌};
+
+use fakes::{FakeReader, FakeWriter};
+use pycommand::command::{Command, Tokens};
+use pycommand::run::run;
+use pysource::{ByteIn, Counted};
+use std::alloc::{AllocError, Global};
+use std::process::Abort;
+use std::test::Fail;
+
+/// A reader that gives these bytes, one at a read, and then ends.
+pub(crate) fn reader(bytes: &[u8]) -> FakeReader<'_>
+    ensures { result.failures ≡ 0 }
+{
+    FakeReader::new(bytes, 1, false)
+}
+
+/// A reader that gives these bytes, one at a read, and then fails.
+pub(crate) fn failing_reader(bytes: &[u8]) -> FakeReader<'_>
+    ensures { result.failures ≡ 0 }
+{
+    FakeReader::new(bytes, 1, true)
+}
+
+/// A writer that takes all that it is given.
+pub(crate) fn writer(alloc: Global) -> FakeWriter
+    ensures { result.failures ≡ 0 }
+{
+    FakeWriter::new(alloc, usize::MAX, usize::MAX, false)
+}
+
+fn push_filled(out: &mut String, field: &str, width: usize) -> Result<(), AllocError> {
+    out.push_str(field)?;
+    for _ in field.chars().count()..width {
+        out.push(' ')?;
+    }
+    Ok(())
+}
+
+/// Appends the lines of entries. Each is given on a line of its own, as its places, its type and its text, with a blank
+/// between them.
+pub(crate) fn push_lines(out: &mut String, entries: &str) -> Result<(), AllocError> {
+    for entry in entries.lines() {
+        let (places, rest) = entry.split_once(' ').unwrap_or((entry, ""));
+        let (name, text) = rest.split_once(' ').unwrap_or((rest, ""));
+        let start = out.len();
+        out.push_str(places)?;
+        push_filled(
+            out,
+            ":",
+            20usize.saturating_sub(out.len().saturating_sub(start)),
+        )?;
+        push_filled(out, name, 15)?;
+        push_filled(out, text, 15)?;
+        out.push('\n')?;
+    }
+    Ok(())
+}
+
+/// Asserts that `tokens` writes the entry of the encoding as it is shown (nothing where that is empty) and these entries
+/// of a text, and tells this fault of the standard input behind them, if one is given.
+pub(crate) fn lists_as(
+    rt: &impl Abort,
+    alloc: Global,
+    source: &str,
+    encoding: &str,
+    entries: &str,
+    fault: &str,
+) -> Result<(), Fail> {
+    lists_bytes_as(rt, alloc, source.as_bytes(), encoding, entries, fault)
+}
+
+/// Asserts the same of each row.
+pub(crate) fn lists_all(
+    rt: &impl Abort,
+    alloc: Global,
+    rows: &[(&str, &str, &str, &str)],
+) -> Result<(), Fail> {
+    for (source, encoding, entries, fault) in rows {
+        lists_as(rt, alloc, source, encoding, entries, fault)?;
+    }
+    Ok(())
+}
+
+/// The same of bytes.
+pub(crate) fn lists_bytes_as(
+    rt: &impl Abort,
+    alloc: Global,
+    source: &[u8],
+    encoding: &str,
+    entries: &str,
+    fault: &str,
+) -> Result<(), Fail> {
+    let mut wanted = String::new(alloc);
+    if !encoding.is_empty() {
+        let first = format!(in alloc; "0,0-0,0 ENCODING {encoding}")?;
+        push_lines(&mut wanted, first.as_str())?;
+    }
+    push_lines(&mut wanted, entries)?;
+    let mut told = String::new(alloc);
+    if !fault.is_empty() {
+        told.push_str("<stdin>:")?;
+        told.push_str(fault)?;
+        told.push('\n')?;
+    }
+    // A byte a read, and as many as there is room for.
+    let mut slow = reader(source);
+    let mut fast = Counted::new(source);
+    writes_and_tells(rt, alloc, &mut slow, wanted.as_bytes(), told.as_bytes())?;
+    writes_and_tells(rt, alloc, &mut fast, wanted.as_bytes(), told.as_bytes())
+}
+
+// Asserts that `tokens` writes and tells this of what a reader gives.
+fn writes_and_tells<R: ByteIn>(
+    rt: &impl Abort,
+    alloc: Global,
+    reader: &mut R,
+    wanted: &[u8],
+    told: &[u8],
+) -> Result<(), Fail>
+    requires { R.failure_count reader.old < 2 ^ 64 - 1 }
+{
+    let mut output = writer(alloc);
+    let mut faults = writer(alloc);
+    let command = Command::Tokens(Tokens {
+        exact: false,
+        count: None,
+        resume: None,
+        file: None,
+    });
+    let status = run(alloc, &command, reader, &mut output, &mut faults);
+    assert_eq!(rt; output.taken(), wanted);
+    assert_eq!(rt; faults.taken(), told, "behind {wanted:?}");
+    assert_eq!(rt;
+        status,
+        if told.is_empty() { 0 } else { 1 },
+        "behind {wanted:?}"
+    );
+    Ok(())
+}

@@ -1,0 +1,186 @@
+//! The line that is told of each fault, and the status that it gives.
+
+use crate::expected::writer;
+use pycommand::fault::{Fault, FaultCode, RunFaultCode, SourceFaultCode, fault_text, tell};
+use pyparse::{ParseFault, tokens_of};
+use pysource::{Place, SOURCE_LIMIT, decode};
+use pytoken::TokenError;
+use std::alloc::Global;
+use std::process::Abort;
+use std::test::Fail;
+
+/// Asserts that this line, and an LF behind it, is told of a fault of `a.py`, and that the status
+/// is this.
+fn tells(rt: &impl Abort, alloc: Global, fault: Fault, line: &str, status: u8) -> Result<(), Fail> {
+    let wanted = format!(in alloc; "{line}\n")?;
+    let mut faults = writer(alloc);
+    let told = tell(alloc, "a.py", fault, &mut faults);
+    assert_eq!(rt; faults.taken(), wanted.as_bytes(), "at {line}");
+    assert_eq!(rt; told, fault, "at {line}");
+    assert_eq!(rt; told.status(), status, "at {line}");
+    Ok(())
+}
+
+/// Asserts the text of each fault of a source, its line at a place, and the status.
+fn tells_all(rt: &impl Abort, alloc: Global, rows: &[(SourceFaultCode, &str)]) -> Result<(), Fail> {
+    let place = Place { row: 3, column: 7 };
+    for (code, text) in rows {
+        assert_eq!(rt; fault_text(FaultCode::Source(*code)), *text);
+        let line = format!(in alloc; "a.py:3:7: error: {text}")?;
+        tells(rt, alloc, Fault::InSource(*code, place), line.as_str(), 1)?;
+    }
+    Ok(())
+}
+
+#[test]
+fn tells_what_is_wrong_with_a_source(rt: HostRuntime) -> Result<(), Fail> {
+    let rows = [
+        (SourceFaultCode::UnsupportedEncoding, "unsupported encoding"),
+        (
+            SourceFaultCode::BomConflict,
+            "byte order mark with another encoding",
+        ),
+        (SourceFaultCode::NotUtf8, "invalid UTF-8"),
+        (SourceFaultCode::NotAscii, "not ASCII"),
+        (
+            SourceFaultCode::LoneReturn,
+            "carriage return without line feed",
+        ),
+        (SourceFaultCode::BadCharacter, "unexpected character"),
+        (
+            SourceFaultCode::UnterminatedString,
+            "unterminated string literal",
+        ),
+        (SourceFaultCode::EofInString, "EOF in multi-line string"),
+        (
+            SourceFaultCode::EofInStatement,
+            "EOF in multi-line statement",
+        ),
+        (
+            SourceFaultCode::UnindentMismatch,
+            "unindent does not match any outer indentation level",
+        ),
+        (
+            SourceFaultCode::UnmatchedCloser,
+            "unmatched closing bracket",
+        ),
+        (SourceFaultCode::Token(TokenError::Float), "float literal"),
+        (
+            SourceFaultCode::Token(TokenError::Complex),
+            "complex literal",
+        ),
+        (SourceFaultCode::Token(TokenError::FString), "f-string"),
+        (
+            SourceFaultCode::Token(TokenError::IntegerTooLarge),
+            "integer too large",
+        ),
+        (
+            SourceFaultCode::Token(TokenError::NamedEscape),
+            "named escape",
+        ),
+        (SourceFaultCode::Token(TokenError::BadEscape), "bad escape"),
+        (
+            SourceFaultCode::Token(TokenError::NonAsciiBytes),
+            "non-ASCII bytes literal",
+        ),
+        (SourceFaultCode::Token(TokenError::Nul), "null character"),
+        (SourceFaultCode::Token(TokenError::NameForm), "name form"),
+        (SourceFaultCode::TooDeep, "too deep"),
+        (
+            SourceFaultCode::InconsistentTabs,
+            "inconsistent tabs and spaces",
+        ),
+    ];
+    tells_all(&rt, rt.alloc(), &rows)
+}
+
+#[test]
+fn tells_what_else_ends_a_run(rt: HostRuntime) -> Result<(), Fail> {
+    for (code, text, status) in [
+        (RunFaultCode::Read, "read failed", 3),
+        (
+            RunFaultCode::CursorOfAnotherSource,
+            "cursor of another source",
+            2,
+        ),
+        (RunFaultCode::CursorText, "malformed cursor", 2),
+        (RunFaultCode::BadArguments, "bad arguments", 2),
+        (RunFaultCode::Open, "cannot open file", 3),
+        (RunFaultCode::Write, "write failed", 3),
+        (RunFaultCode::Memory, "out of memory", 4),
+    ] {
+        assert_eq!(rt; fault_text(FaultCode::Run(code)), text);
+        let line = format!(in rt.alloc(); "pyast: {text}")?;
+        tells(&rt, rt.alloc(), Fault::Plain(code), line.as_str(), status)?;
+    }
+    Ok(())
+}
+
+/// Asserts that this line is told of a source that has no tokens.
+fn refuses(rt: &impl Abort, alloc: Global, text: &str, line: &str) -> Result<(), Fail> {
+    let bytes = text.as_bytes();
+    if bytes.len() > SOURCE_LIMIT {
+        return Err(Fail::from("too long"));
+    }
+    let source = decode(alloc, bytes)?;
+    match tokens_of(alloc, &source) {
+        Ok(_) => Err(Fail::from("tokens")),
+        Err(fault) => tells(rt, alloc, Fault::from(fault), line, 1),
+    }
+}
+
+// Rows count from 1, and columns from 0 in characters.
+#[test]
+fn tells_why_a_source_has_no_tokens(rt: HostRuntime) -> Result<(), Fail> {
+    for (text, line) in [
+        ("x = 1.5\n", "a.py:1:4: error: float literal"),
+        ("'é' + 1j\n", "a.py:1:6: error: complex literal"),
+        ("x\nf''\n", "a.py:2:0: error: f-string"),
+        (
+            "x = 340282366920938463463374607431768211456\n",
+            "a.py:1:4: error: integer too large",
+        ),
+        ("'\\N{DASH}'\n", "a.py:1:0: error: named escape"),
+        ("'\\x4'\n", "a.py:1:0: error: bad escape"),
+        ("b'é'\n", "a.py:1:0: error: non-ASCII bytes literal"),
+        ("x # \0\n", "a.py:1:2: error: null character"),
+        ("ｉｆ = 1\n", "a.py:1:0: error: name form"),
+        (
+            "if x:\n        y\n\tz\n",
+            "a.py:3:1: error: inconsistent tabs and spaces",
+        ),
+        ("x $ 1.5\n", "a.py:1:2: error: unexpected character"),
+        (
+            "x\ry\n",
+            "a.py:1:1: error: carriage return without line feed",
+        ),
+    ] {
+        refuses(&rt, rt.alloc(), text, line)?;
+    }
+    Ok(())
+}
+
+#[test]
+fn tells_brackets_that_are_too_deep(rt: HostRuntime) -> Result<(), Fail> {
+    let mut text = String::new(rt.alloc());
+    for _ in 0..601 {
+        text.push('(')?;
+    }
+    text.push('x')?;
+    for _ in 0..601 {
+        text.push(')')?;
+    }
+    refuses(
+        &rt,
+        rt.alloc(),
+        text.as_str(),
+        "a.py:1:600: error: too deep",
+    )
+}
+
+// A failed read has no place, and want of memory is told as such.
+#[test]
+fn tells_what_is_no_fault_of_a_source(rt: HostRuntime) -> Result<(), Fail> {
+    let fault = Fault::from(ParseFault::Memory);
+    tells(&rt, rt.alloc(), fault, "pyast: out of memory", 4)
+}

@@ -1,0 +1,19 @@
+//! Tests of `pycommand`: which words give which command, what is listed of which source, and what
+//! is told where reading or writing fails. The rows are worked by hand from the documentation of
+//! Python, or taken from Python 3.11.
+#![tactic(auto)]
+
+#[cfg(test)]
+mod cursors;
+#[cfg(test)]
+mod edges;
+#[cfg(test)]
+mod expected;
+#[cfg(test)]
+mod failures;
+#[cfg(test)]
+mod fault_lines;
+#[cfg(test)]
+mod listings;
+#[cfg(test)]
+mod words;

@@ -1,0 +1,188 @@
+//! Which words give which command.
+
+use pycommand::command::{Command, UsageFault};
+use std::alloc::{AllocError, Global};
+use std::process::Abort;
+use std::test::Fail;
+
+// What words give: `bad`, `malformed`, `help`, or the command and what it has.
+fn answer(rt: &impl Abort, alloc: Global, words: &[String]) -> Result<String, Fail> {
+    let mut given = String::new(alloc);
+    match Command::read(alloc, words) {
+        Ok(Command::Tokens(asked)) => {
+            given.push_str("tokens")?;
+            if asked.exact {
+                given.push_str(" exact")?;
+            }
+            if let Some(count) = asked.count {
+                let shown = format!(in alloc; " count {count}")?;
+                given.push_str(shown.as_str())?;
+            }
+            if let Some(cursor) = &asked.resume {
+                let text = cursor.to_text()?;
+                given.push_str(" behind ")?;
+                given.push_str(text.as_str())?;
+            }
+            if let Some(file) = &asked.file {
+                given.push_str(" of ")?;
+                given.push_str(file.as_str())?;
+            }
+        }
+        Err(UsageFault::BadArguments) => given.push_str("bad")?,
+        Err(UsageFault::MalformedCursor) => given.push_str("malformed")?,
+        Err(UsageFault::HelpAsked(text)) => {
+            assert!(rt; text.as_str().contains("tokens"));
+            given.push_str("help")?;
+        }
+        Err(UsageFault::Memory) => given.push_str("memory")?,
+    }
+    Ok(given)
+}
+
+/// The words that stand in a text with blanks between them.
+fn split(alloc: Global, text: &str) -> Result<Vec<String>, AllocError> {
+    let mut words = Vec::new(alloc);
+    for word in text.split_whitespace() {
+        words.push(String::from_str(alloc, word)?)?;
+    }
+    Ok(words)
+}
+
+/// Asserts what the words of each row give.
+fn gives_all(rt: &impl Abort, alloc: Global, rows: &[(&str, &str)]) -> Result<(), Fail> {
+    for (words, wanted) in rows {
+        let owned = split(alloc, words)?;
+        let given = answer(rt, alloc, owned.as_slice())?;
+        assert_eq!(rt; given.as_str(), *wanted, "at {words}");
+    }
+    Ok(())
+}
+
+#[test]
+fn reads_words(rt: HostRuntime) -> Result<(), Fail> {
+    let rows = [
+        ("tokens", "tokens"),
+        ("tokens -e", "tokens exact"),
+        ("tokens a.py", "tokens of a.py"),
+        ("tokens -e a.py", "tokens exact of a.py"),
+        ("tokens a.py -e", "tokens exact of a.py"),
+        ("tokens -- -e", "tokens of -e"),
+        ("", "bad"),
+        ("frob", "bad"),
+        ("-e", "bad"),
+        ("tokens -e -e", "bad"),
+        ("tokens a.py b.py", "bad"),
+        ("tokens --exact", "bad"),
+        ("tokens -x", "bad"),
+        ("tokens --count 7", "tokens count 7"),
+        ("tokens --count 0 -e a.py", "tokens exact count 0 of a.py"),
+        ("tokens --count=1000000000", "tokens count 1000000000"),
+        ("tokens --count +5", "tokens count 5"),
+        ("tokens --count 05", "tokens count 5"),
+        ("tokens --count 1000000001", "bad"),
+        ("tokens --count 18446744073709551616", "bad"),
+        ("tokens --count -1", "bad"),
+        ("tokens --count=-1", "bad"),
+        ("tokens --count x", "bad"),
+        ("tokens --count 1.0", "bad"),
+        ("tokens --count 1_000", "bad"),
+        ("tokens --count", "bad"),
+        ("tokens --count=", "bad"),
+        ("tokens --count 1 --count 1", "bad"),
+        ("tokens --resume", "bad"),
+        ("tokens --resume x", "malformed"),
+        ("tokens --resume=", "malformed"),
+        ("tokens --resume x --count 7 a.py", "malformed"),
+        ("tokens --resume x --count y", "bad"),
+        ("tokens --resume x --resume x", "bad"),
+        ("tokens --resume x a.py b.py", "bad"),
+        ("tokens --resume x --frob", "bad"),
+        ("tokens --resume x --help", "help"),
+        ("dump", "bad"),
+        ("unparse", "bad"),
+        ("--version", "bad"),
+        ("help", "help"),
+        ("help tokens", "help"),
+        ("-h", "help"),
+        ("--help", "help"),
+        ("tokens -h", "help"),
+        ("tokens --help", "help"),
+    ];
+    gives_all(&rt, rt.alloc(), &rows)
+}
+
+/// Asserts what `tokens` with a cursor between other words gives, in each row. A cursor is one word, though its text has
+/// blanks.
+fn gives_all_with_cursors(
+    rt: &impl Abort,
+    alloc: Global,
+    rows: &[(&str, &str, &str, &str)],
+) -> Result<(), Fail> {
+    for (before, cursor, behind, wanted) in rows {
+        let mut words = split(alloc, "tokens")?;
+        words.append(&mut split(alloc, before)?)?;
+        words.push(String::from_str(alloc, "--resume")?)?;
+        words.push(String::from_str(alloc, cursor)?)?;
+        words.append(&mut split(alloc, behind)?)?;
+        let given = answer(rt, alloc, words.as_slice())?;
+        assert_eq!(rt; given.as_str(), *wanted, "at {before} {cursor} {behind}");
+    }
+    Ok(())
+}
+
+#[test]
+fn reads_cursors(rt: HostRuntime) -> Result<(), Fail> {
+    let rows = [
+        (
+            "",
+            "pytok1 7 8 2 0 1 0 0,8",
+            "",
+            "tokens behind pytok1 7 8 2 0 1 0 0,8",
+        ),
+        (
+            "-e --count 3",
+            "pytok1 7 8 2 0 1 0 0,8",
+            "a.py",
+            "tokens exact count 3 behind pytok1 7 8 2 0 1 0 0,8 of a.py",
+        ),
+        (
+            "a.py",
+            "pytok1 0 0 1 0 0 0 0",
+            "--count 0 -e",
+            "tokens exact count 0 behind pytok1 0 0 1 0 0 0 0 of a.py",
+        ),
+        ("", "pytok1 07 8 2 0 1 0 0,8", "", "malformed"),
+        (
+            "-e --count 3",
+            "pytok1 07 8 2 0 1 0 0,8",
+            "a.py",
+            "malformed",
+        ),
+        ("", "pytok1 0 0 0 0 0 0 0", "", "malformed"),
+        ("", "pytok1 0 0 1 0 2 0 0", "", "malformed"),
+        ("", "pytok1 0 0 1 0 0 0 0,2,1", "", "malformed"),
+        (
+            "",
+            "pytok1 18446744073709551616 0 1 0 0 0 0",
+            "",
+            "malformed",
+        ),
+    ];
+    gives_all_with_cursors(&rt, rt.alloc(), &rows)
+}
+
+// The help of `tokens` shows how it is called.
+#[test]
+fn helps_with_the_whole_call(rt: HostRuntime) -> Result<(), Fail> {
+    let mut words = Vec::new(rt.alloc());
+    for word in ["tokens", "-h"] {
+        words.push(String::from_str(rt.alloc(), word)?)?;
+    }
+    let Err(UsageFault::HelpAsked(text)) = Command::read(rt.alloc(), words.as_slice()) else {
+        assert!(rt; false);
+        return Ok(());
+    };
+    let usage = "\nUsage: pyast tokens [OPTIONS] [FILE]\n";
+    assert!(rt; text.as_str().contains(usage), "in {text}");
+    Ok(())
+}

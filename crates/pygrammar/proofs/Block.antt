@@ -1,0 +1,8 @@
+pub mod Steps
+pub mod Goes
+pub mod Standing
+pub mod Sound
+pub mod Fitting
+pub mod Law
+pub mod Answer
+mod Worked

@@ -1,0 +1,22 @@
+pub mod Tools
+pub mod Imports
+pub mod Values
+pub mod Simple
+pub mod Headers
+pub mod SoundParts
+pub mod Invert
+pub mod With
+pub mod Law
+pub mod SoundSimple
+pub mod SoundLines
+pub mod Depth
+pub mod Answered
+mod WorkedFirst
+mod WorkedSecond
+mod WorkedThird
+mod DepthsFirst
+mod DepthsSecond
+mod DepthsThird
+mod DrawnFirst
+mod DrawnSecond
+mod DrawnThird

@@ -1,0 +1,220 @@
+-- The reader never goes too deep where as many expressions may stand inside one another as there are terminals.
+use Rattle.std.proofs.Common.{◌≡◌, ◌⊎◌, inl, inr, refl, sym, ap, subst, ◌∙◌, ℕ, zero, suc, ◌≤◌, ◌<◌, arith, List, [], ◌∷◌, ◌++◌, length, Option, Some, None, Bool, true, false}
+use Rattle.std.specs.Prelude.{leb}
+use Rattle.pylexeme.specs.declared.kinds.Exact.TheVariants as Sign
+use Rattle.pytoken.specs.declared.keywords.Keyword.TheVariants as Key
+use Rattle.pygrammar.specs.declared.levels.Level.{Level}
+use Rattle.pygrammar.specs.declared.levels.Level.TheVariants.{Value, Stars, Named, Expression}
+use Rattle.pynode.specs.Trees.{Expr, Identifier}
+use Rattle.pynode.specs.Trees as Trees
+use Rattle.pytoken.specs.Terminals.{Terminal, Op, Word}
+use Rattle.pygrammar.specs.Looks.{is_op, is_word, name_in}
+use Rattle.pygrammar.specs.Entries.{Of, Argument, Parameter}
+use Rattle.pygrammar.specs.Arguments.{in_order}
+use Rattle.pygrammar.specs.Parameters.{arranged}
+use Rattle.pygrammar.specs.Targets.{stored, deleted, single_stored}
+use Rattle.pygrammar.specs.Reader.{Answer, Found, NoForm, TooDeep, and_then, on_some, Reads, read}
+use Rattle.pygrammar.specs.Precedence.{starts}
+use Rattle.pygrammar.proofs.Enough.{Good, GoodTo, good_then, good_first, good_cond, good_made, good_closed, good_read, g_name_with, g_listing_of, g_target}
+use Rattle.pygrammar.specs.Lines.{Form, Header}
+use Rattle.pygrammar.specs.Forms.{FormOf}
+use Rattle.pygrammar.specs.LineReader.{or_else, on_none, same_as, starts_name, always, commas, read_name, read_as, dotted, dotted_alias, name_alias, read_dots, read_names, import_from, augmented_sign, Start, Values, Returns, Raises, Asserts, Deletes, Globals, Nonlocals, Passes, Breaks, Continues, Imports, Froms, start, if_any, after, annotation, end_value, value_loop, value_statement, deleted_one, statement_of, statement, statements, item_target, read_item, bracketed, for_rest, with_rest, def_rest, class_rest, except_of, except_rest, read_header, Kind, Decorates, Heads, States, kind, suite, line_of, line_front, line, plain, read_line, read_line_to}
+use Rattle.pygrammar.proofs.Line.Law.{read_goes}
+use Rattle.pygrammar.proofs.Line.SoundLines.{read_gives}
+
+g_some : {A B : Type 0} (n : ℕ) (o : Option A) (k : A → Answer B) (x : Answer B) → ((a : A) → Good n (k a)) → Good n x → Good n (on_some o k x)
+g_some n (Some a) k x h g = h a
+g_some n None k x h g = g
+
+g_none : {B : Type 0} (n : ℕ) (r : List Terminal) (x y : Answer B) → Good n x → Good n y → Good n (on_none r x y)
+g_none n [] x y h g = h
+g_none n (t ∷ r) x y h g = g
+
+g_else : {A : Type 0} (n : ℕ) (x y : Answer A) → Good n x → Good n y → Good n (or_else x y)
+g_else n (Found a r) y h g = h
+g_else n NoForm y h g = g
+g_else n TooDeep y h g = h
+
+less : {A : Type 0} (m n : ℕ) (x : Answer A) → m ≤ n → Good m x → Good n x
+less m n (Found a r) h g = omega arith
+less m n NoForm h g = tt
+less m n TooDeep h g = g
+
+-- all lists have fewer than b terminals
+module _ (b : ℕ) where
+  then_ : {A B : Type 0} (x : Answer A) (k : A → List Terminal → Answer B) → Good b x → ((a : A) (r : List Terminal) → length r < b → Good b (k a r)) → Good b (and_then x k)
+  then_ x k g h = good_then b b x k g h
+
+  g_commas : {A : Type 0} (one : List Terminal → Answer A) (more : List Terminal → Bool) → ((r : List Terminal) → length r < b → Good b (one r)) → (n : ℕ) (r : List Terminal) → length r < b → Good b (commas one more n r)
+  g_commas one more h zero r w = tt
+  g_commas one more h (suc n) r w = then_ _ _ (h r w) (λ a r1 p. good_first b (is_op Sign.Comma) r1 _ _ (λ _ r2 q. good_cond b (more r2) _ _ (then_ _ _ (g_commas one more h n r2 (omega arith)) (λ as_ r3 z. z)) (omega arith)) p)
+
+  g_name : (i : List Terminal) → length i < b → Good b (read_name i)
+  g_name i w = good_first b name_in i _ _ (λ x r q. omega arith) tt
+
+  g_as : (i : List Terminal) → length i < b → Good b (read_as i)
+  g_as i w = good_first b (is_word Key.As) i _ _ (λ _ r q. good_first b name_in r _ _ (λ x r1 p. omega arith) tt) w
+
+  g_dotted : (n : ℕ) (i : List Terminal) → length i < b → Good b (dotted n i)
+  g_dotted zero i w = tt
+  g_dotted (suc n) i w = good_first b name_in i _ _ (λ x r q. good_first b (is_op Sign.Dot) r _ _ (λ _ r1 p. then_ _ _ (g_dotted n r1 (omega arith)) (λ y r2 z. z)) (omega arith)) tt
+
+  g_dotted_alias : (i : List Terminal) → length i < b → Good b (dotted_alias i)
+  g_dotted_alias i w = then_ _ _ (g_dotted (suc (length i)) i w) (λ x r p. then_ _ _ (g_as r p) (λ a r1 q. q))
+
+  g_name_alias : (i : List Terminal) → length i < b → Good b (name_alias i)
+  g_name_alias i w = good_first b name_in i _ _ (λ x r q. then_ _ _ (g_as r (omega arith)) (λ a r1 p. p)) tt
+
+  g_dots : (i : List Terminal) → length i < b → Good b (read_dots i)
+  g_dots (Op Sign.Dot ∷ r) w = then_ _ _ (g_dots r (omega (arith, w))) (λ n r1 p. p)
+  g_dots (Op Sign.Ellipsis ∷ r) w = then_ _ _ (g_dots r (omega (arith, w))) (λ n r1 p. p)
+  g_dots (Op _ ∷ r) w = w
+  g_dots [] w = w
+  g_dots (_ ∷ r) w = w
+
+  g_names : (i : List Terminal) → length i < b → Good b (read_names i)
+  g_names i w = good_first b (is_op Sign.Star) i _ _ (λ _ r q. omega arith) (good_first b (is_op Sign.LPar) i _ _ (λ _ r q. then_ _ _ (g_commas name_alias starts_name g_name_alias (suc (length r)) r (omega arith)) (λ as_ r1 p. good_closed b Sign.RPar r1 as_ p)) (g_commas name_alias always g_name_alias (suc (length i)) i w))
+
+  g_from : (i : List Terminal) → length i < b → Good b (import_from i)
+  g_from i w = then_ _ _ (g_dots i w) (λ n r p. good_first b (is_word Key.Import) r _ _ (λ _ r1 q. good_cond b (leb 1 n) _ _ (then_ _ _ (g_names r1 (omega arith)) (λ as_ r2 z. z)) tt) (then_ _ _ (g_dotted (suc (length r)) r p) (λ m r1 q. good_first b (is_word Key.Import) r1 _ _ (λ _ r2 z. then_ _ _ (g_names r2 (omega arith)) (λ as_ r3 v. v)) tt)))
+
+module _ (self : Reads) (b : ℕ) (all : GoodTo b self) where
+  g_self : (l : Level) (i : List Terminal) → length i < b → Good b (self l i)
+  g_self l i w = less (length i) b (self l i) (omega (arith, w)) (all l i w)
+
+  one : {B : Type 0} (l : Level) (i : List Terminal) (k : Expr → List Terminal → Answer B) → length i < b → ((e : Expr) (r : List Terminal) → length r < b → Good b (k e r)) → Good b (and_then (self l i) k)
+  one l i k w h = good_then b b _ _ (g_self l i w) h
+
+  g_if_any : (l : Level) (i : List Terminal) → length i < b → Good b (if_any self l i)
+  g_if_any l i w = good_cond b (starts (Of l) i) _ _ (one l i _ w (λ e r p. p)) w
+
+  g_after : (t : Terminal) (l : Level) (i : List Terminal) → length i < b → Good b (after self t l i)
+  g_after t l i w = good_first b (same_as t) i _ _ (λ _ s q. one l s _ (omega arith) (λ e r p. p)) w
+
+  g_annotation : (t : Expr) (c : Bool) (i : List Terminal) → length i < b → Good b (annotation self t c i)
+  g_annotation t c i w = one Expression i _ w (λ a r p. good_then b b _ _ (g_after (Op Sign.Equal) Value r p) (λ v r1 q. q))
+
+  g_end : (acc : List Expr) (e : Expr) (r : List Terminal) → length r < b → Good b (end_value self acc e r)
+  g_end (t ∷ ts) e r w = w
+  g_end [] e r w = good_first b augmented_sign r _ _ (λ o s q. g_some b (single_stored e) _ _ (λ t. one Value s _ (omega arith) (λ v r2 p. p)) tt) (good_first b (is_op Sign.Colon) r _ _ (λ _ s q. g_some b (single_stored e) _ _ (λ t. g_annotation t false s (omega arith)) tt) w)
+
+  g_loop : (n : ℕ) (acc : List Expr) (i : List Terminal) → length i < b → Good b (value_loop self n acc i)
+  g_loop zero acc i w = tt
+  g_loop (suc n) acc i w = one Value i _ w (λ e r p. good_first b (is_op Sign.Equal) r _ _ (λ _ s q. g_some b (stored e) _ _ (λ t. g_loop n (acc ++ (t ∷ [])) s (omega arith)) tt) (g_end acc e r p))
+
+  g_value : (i : List Terminal) → length i < b → Good b (value_statement self i)
+  g_value i w = g_name_with b Sign.Colon i _ _ (λ x s q. g_annotation _ true s (omega arith)) (g_loop (suc (length i)) [] i w)
+
+  g_deleted : (i : List Terminal) → length i < b → Good b (deleted_one self i)
+  g_deleted i w = one Expression i _ w (λ e r p. good_made b (deleted e) r p)
+
+  g_start : (s : Start) (i r : List Terminal) → length i < b → length r < b → Good b (statement_of self s i r)
+  g_start Values i r v w = g_value i v
+  g_start Returns i r v w = good_then b b _ _ (g_if_any Stars r w) (λ e r1 p. p)
+  g_start Raises i r v w = good_cond b (starts (Of Expression) r) _ _ (one Expression r _ w (λ e r1 p. good_then b b _ _ (g_after (Word Key.From) Expression r1 p) (λ c r2 q. q))) w
+  g_start Asserts i r v w = one Expression r _ w (λ e r1 p. good_then b b _ _ (g_after (Op Sign.Comma) Expression r1 p) (λ c r2 q. q))
+  g_start Deletes i r v w = good_then b b _ _ (g_commas b (deleted_one self) (starts (Of Expression)) g_deleted (suc (length r)) r w) (λ es r1 p. p)
+  g_start Globals i r v w = good_then b b _ _ (g_commas b read_name always (g_name b) (suc (length r)) r w) (λ es r1 p. p)
+  g_start Nonlocals i r v w = good_then b b _ _ (g_commas b read_name always (g_name b) (suc (length r)) r w) (λ es r1 p. p)
+  g_start Passes i r v w = w
+  g_start Breaks i r v w = w
+  g_start Continues i r v w = w
+  g_start Imports i r v w = good_then b b _ _ (g_commas b dotted_alias always (g_dotted_alias b) (suc (length r)) r w) (λ es r1 p. p)
+  g_start Froms i r v w = g_from b r w
+
+  g_statement : (i : List Terminal) → length i < b → Good b (statement self i)
+  g_statement [] w = tt
+  g_statement (t ∷ r) w = g_start (start t) (t ∷ r) r w (omega (arith, w))
+
+  g_statements : (n : ℕ) (i : List Terminal) → length i < b → Good b (statements self n i)
+  g_statements zero i w = tt
+  g_statements (suc n) i w = good_then b b _ _ (g_statement i w) (λ s r p. good_first b (is_op Sign.Semi) r _ _ (λ _ u q. g_none b u _ _ (omega arith) (good_then b b _ _ (g_statements n u (omega arith)) (λ ss r2 z. z))) p)
+
+  g_item_target : (i : List Terminal) → length i < b → Good b (item_target self i)
+  g_item_target i w = good_first b (is_op Sign.Star) i _ _ (λ _ s q. one Expression s _ (omega arith) (λ e r1 p. good_made b (stored (Trees.Starred e _)) r1 p)) (one Expression i _ w (λ e r p. good_made b (stored e) r p))
+
+  g_item : (i : List Terminal) → length i < b → Good b (read_item self i)
+  g_item i w = one Expression i _ w (λ e r p. good_first b (is_word Key.As) r _ _ (λ _ s q. good_then b b _ _ (g_item_target s (omega arith)) (λ t r2 z. z)) p)
+
+  g_bracketed : (i : List Terminal) → length i < b → Good b (bracketed self i)
+  g_bracketed i w = good_first b (is_op Sign.LPar) i _ _ (λ _ r q. good_then b b _ _ (g_commas b (read_item self) (starts (Of Expression)) g_item (suc (length r)) r (omega arith)) (λ is r1 p. good_first b (is_op Sign.RPar) r1 _ _ (λ _ r2 v. good_first b (is_op Sign.Colon) r2 _ _ (λ _ _ _. omega arith) tt) tt)) tt
+
+  g_with : (c : Bool) (i : List Terminal) → length i < b → Good b (with_rest self c i)
+  g_with c i w = good_then b b _ _ (g_else b _ _ (g_bracketed i w) (g_commas b (read_item self) always g_item (suc (length i)) i w)) (λ is r p. p)
+
+  g_for : (c : Bool) (i : List Terminal) → length i < b → Good b (for_rest self c i)
+  g_for c i w = good_then b b _ _ (g_target self b all b i (omega (arith, w)) w) (λ t r p. good_first b (is_word Key.In) r _ _ (λ _ s q. one Stars s _ (omega arith) (λ e r2 z. g_some b (stored t) _ _ (λ v. z) tt)) tt)
+
+  g_def : (c : Bool) (i : List Terminal) → length i < b → Good b (def_rest self c i)
+  g_def c i w = g_name_with b Sign.LPar i _ _ (λ x r q. good_then b b _ _ (g_listing_of self b all b (Parameter true) [] r (omega arith) (omega arith)) (λ ps r1 p. good_first b (is_op Sign.RPar) r1 _ _ (λ _ r2 v. g_some b (arranged ps) _ _ (λ a. good_then b b _ _ (g_after (Op Sign.RArrow) Expression r2 (omega arith)) (λ e r3 z. z)) tt) tt)) tt
+
+  g_class : (i : List Terminal) → length i < b → Good b (class_rest self i)
+  g_class i w = good_first b name_in i _ _ (λ x r q. good_first b (is_op Sign.LPar) r _ _ (λ _ r1 p. good_then b b _ _ (g_listing_of self b all b Argument [] r1 (omega arith) (omega arith)) (λ es r2 v. good_first b (is_op Sign.RPar) r2 _ _ (λ _ r3 z. good_cond b (in_order false false es) _ _ (omega arith) tt) tt)) (omega arith)) tt
+
+  g_except_of : (c : Bool) (i : List Terminal) → length i < b → Good b (except_of self c i)
+  g_except_of c i w = one Expression i _ w (λ e r p. good_then b b _ _ (g_as b r p) (λ x r1 q. q))
+
+  g_except : (i : List Terminal) → length i < b → Good b (except_rest self i)
+  g_except i w = good_first b (is_op Sign.Star) i _ _ (λ _ s q. g_except_of true s (omega arith)) (good_cond b (starts (Of Expression) i) _ _ (g_except_of false i w) w)
+
+  g_header : (i : List Terminal) → length i < b → Good b (read_header self i)
+  g_header (Word Key.If ∷ r) w = one Named r _ (omega (arith, w)) (λ e r1 p. p)
+  g_header (Word Key.Elif ∷ r) w = one Named r _ (omega (arith, w)) (λ e r1 p. p)
+  g_header (Word Key.While ∷ r) w = one Named r _ (omega (arith, w)) (λ e r1 p. p)
+  g_header (Word Key.Else ∷ r) w = omega (arith, w)
+  g_header (Word Key.Try ∷ r) w = omega (arith, w)
+  g_header (Word Key.Finally ∷ r) w = omega (arith, w)
+  g_header (Word Key.For ∷ r) w = g_for false r (omega (arith, w))
+  g_header (Word Key.With ∷ r) w = g_with false r (omega (arith, w))
+  g_header (Word Key.Except ∷ r) w = g_except r (omega (arith, w))
+  g_header (Word Key.Def ∷ r) w = g_def false r (omega (arith, w))
+  g_header (Word Key.Class ∷ r) w = g_class r (omega (arith, w))
+  g_header (Word Key.Async ∷ (Word Key.For ∷ r)) w = g_for true r (omega (arith, w))
+  g_header (Word Key.Async ∷ (Word Key.With ∷ r)) w = g_with true r (omega (arith, w))
+  g_header (Word Key.Async ∷ (Word Key.Def ∷ r)) w = g_def true r (omega (arith, w))
+  g_header (Word Key.Async ∷ (Word _ ∷ r)) w = tt
+  g_header (Word Key.Async ∷ (_ ∷ r)) w = tt
+  g_header (Word _ ∷ r) w = tt
+  g_header _ w = tt
+
+  g_suite : (h : Header) (u : List Terminal) → length u < b → Good b (suite self h u)
+  g_suite h [] w = w
+  g_suite h (t ∷ u) w = good_then b b _ _ (g_statements (suc (length (t ∷ u))) (t ∷ u) w) (λ ss r1 p. p)
+
+  g_line_of : (k : Kind) (i r : List Terminal) → length i < b → length r < b → Good b (line_of self k i r)
+  g_line_of Decorates i r v w = one Named r _ w (λ e r1 p. p)
+  g_line_of Heads i r v w = good_then b b _ _ (g_header i v) (λ h r1 p. good_first b (is_op Sign.Colon) r1 _ _ (λ _ u q. g_suite h u (omega arith)) tt)
+  g_line_of States i r v w = good_then b b _ _ (g_statements (suc (length i)) i v) (λ ss r1 p. p)
+
+  g_front : (i : List Terminal) → length i < b → Good b (line_front self i)
+  g_front [] w = tt
+  g_front (t ∷ r) w = g_line_of (kind t) (t ∷ r) r w (omega (arith, w))
+
+  g_line : (i : List Terminal) → length i < b → Good b (line self i)
+  g_line i w = good_then b b _ _ (g_front i w) (λ f r p. g_none b r _ _ (omega (arith, w)) tt)
+
+-- above the number of terminals no depth is too deep
+pub enough : (d : ℕ) (ts : List Terminal) → length ts < d → read_line_to d ts ≡ TooDeep → ⊥
+enough d ts w h = subst (Good d) h (g_line (read d) d (good_read d) ts w)
+
+plain_good : (b : ℕ) → GoodTo b plain
+plain_good b l i w = good_read (suc (length i)) l i (omega arith)
+
+-- so the plain reader finds the form, or says that there is none
+abbrev pub Answers : List Terminal → Type 0
+Answers ts = ((f : Form) × (read_line ts ≡ Found f []) × FormOf ts f) ⊎ ((read_line ts ≡ NoForm) × ((f : Form) → FormOf ts f → ⊥))
+
+pub read_or_not : (ts : List Terminal) → Answers ts
+read_or_not ts = go (line_front plain ts) refl (g_front plain (suc (length ts)) (plain_good (suc (length ts))) ts (omega arith))
+  where
+    bad : (f : Form) → ◌≡◌ {A = Answer Form} (Found f []) NoForm → ⊥
+    bad f h = absurd (cc)
+
+    none : read_line ts ≡ NoForm → Answers ts
+    none h = inr (h, λ f p. bad f (sym (read_goes p) ∙ h))
+
+    go : (a : Answer Form) → line_front plain ts ≡ a → Good (suc (length ts)) a → Answers ts
+    go (Found f []) q g = let h = ap (λ a. and_then a (λ f r. on_none r (Found f []) NoForm)) q in inl (f, h, read_gives ts f h)
+    go (Found f (t ∷ r)) q g = none (ap (λ a. and_then a (λ f r. on_none r (Found f []) NoForm)) q)
+    go NoForm q g = none (ap (λ a. and_then a (λ f r. on_none r (Found f []) NoForm)) q)
+    go TooDeep q g = absurd g

@@ -1,0 +1,163 @@
+-- Completeness for statements that begin with a Value.
+use Rattle.std.proofs.Common.{◌≡◌, refl, sym, ap, ◌∙◌, ℕ, zero, suc, ◌≤◌, ◌<◌, arith, List, [], ◌∷◌, ◌++◌, length, Option, Some, None, Bool, true, false, append_assoc, length-append}
+use Rattle.pylexeme.specs.declared.kinds.Exact.{Exact}
+use Rattle.pylexeme.specs.declared.kinds.Exact.TheVariants as Sign
+use Rattle.pytoken.specs.declared.keywords.Keyword.TheVariants as Key
+use Rattle.pynode.specs.declared.operators.Operator.{Operator}
+use Rattle.pynode.specs.declared.operators.Context.TheVariants.{Load, Store}
+use Rattle.pygrammar.specs.declared.levels.Level.TheVariants.{Value, Stars, Expression, Or, Primary}
+use Rattle.pynode.specs.Trees.{Expr, Identifier, Assign, AugAssign, AnnAssign, ExprOf}
+use Rattle.pynode.specs.Trees as Trees
+use Rattle.pytoken.specs.Terminals.{Terminal, Op, Word, Ident}
+use Rattle.pygrammar.specs.Looks.{is_op}
+use Rattle.pygrammar.specs.Targets.{stored, single_stored}
+use Rattle.pygrammar.specs.Grammar as G
+use Rattle.pygrammar.specs.Reader.{Answer, Found, NoForm, and_then, on_some, on_first}
+use Rattle.pygrammar.specs.Precedence.{lead}
+use Rattle.pygrammar.proofs.LookLemmas.{grip, grip_of, lead_of, lead_front, miss_name_with}
+use Rattle.pygrammar.proofs.LevelLemmas.{led, free}
+use Rattle.pygrammar.proofs.Says.{lower}
+use Rattle.pygrammar.specs.Forms as F
+use Rattle.pygrammar.specs.Forms.{augmented}
+use Rattle.pygrammar.specs.LineReader.{augmented_sign, Values, start, plain, annotation, end_value, value_loop, value_statement, statement_of, statement}
+use Rattle.pygrammar.proofs.Line.Tools.{thus, peek, missed, Ends, ends_grip, ends_lead, ends_miss, front, item_of, value_front, after_goes, behind_grip}
+
+valued : (t : Terminal) → 0 < lead t → start t ≡ Values
+valued (Word Key.Return) h = absurd (omega (arith, h))
+valued (Word Key.Raise) h = absurd (omega (arith, h))
+valued (Word Key.Assert) h = absurd (omega (arith, h))
+valued (Word Key.Del) h = absurd (omega (arith, h))
+valued (Word Key.Global) h = absurd (omega (arith, h))
+valued (Word Key.Nonlocal) h = absurd (omega (arith, h))
+valued (Word Key.Pass) h = absurd (omega (arith, h))
+valued (Word Key.Break) h = absurd (omega (arith, h))
+valued (Word Key.Continue) h = absurd (omega (arith, h))
+valued (Word Key.Import) h = absurd (omega (arith, h))
+valued (Word Key.From) h = absurd (omega (arith, h))
+valued (Word _) h = refl
+valued _ h = refl
+
+pub by_value : (ts r : List Terminal) → 0 < lead_of ts → statement plain (ts ++ r) ≡ value_statement plain (ts ++ r)
+by_value [] r h = absurd (omega (arith, h))
+by_value (t ∷ ts) r h = ap (λ s. statement_of plain s (t ∷ (ts ++ r)) (ts ++ r)) (valued t h)
+
+pub unannotated : (i r : List Terminal) (e : Expr) → plain Value i ≡ Found e r → (grip_of r ≡ 5 → ⊥) → value_statement plain i ≡ value_loop plain (suc (length i)) [] i
+unannotated i r e h g = miss_name_with Sign.Colon i _ _ (λ x us q. free (length i) Value Sign.Colon i r e (λ y vs. refl) h g x us q)
+
+pub loop_ends : (n : ℕ) (acc : List Expr) (i r : List Terminal) (e : Expr) → plain Value i ≡ Found e r → peek (is_op Sign.Equal) r ≡ None → value_loop plain (suc n) acc i ≡ end_value plain acc e r
+loop_ends n acc i r e h m = thus _ _ h (missed (is_op Sign.Equal) r _ _ m)
+
+value_stops : {r : List Terminal} → Ends r → (grip_of r ≤ 2) × (lead_of r ≤ 6)
+value_stops w = (omega (arith, ends_grip w), omega (arith, ends_lead w))
+
+-- an expression alone
+pub expression_goes : {ts : List Terminal} {e : Expr} → G.Derives Value ts e → (r : List Terminal) → Ends r → statement plain (ts ++ r) ≡ Found (ExprOf e) r
+expression_goes {ts} {e} p r w =
+    let h = front p r (value_stops w) in
+    by_value ts r (omega (arith, led p)) ∙ (unannotated (ts ++ r) r e h (λ q. omega (arith, ends_grip w, q)) ∙ (loop_ends (length (ts ++ r)) [] (ts ++ r) r e h (ends_miss (is_op Sign.Equal) refl w) ∙ (missed augmented_sign r _ _ (ends_miss augmented_sign refl w) ∙ missed (is_op Sign.Colon) r _ _ (ends_miss (is_op Sign.Colon) refl w))))
+
+-- assignments
+stars_value : {ts : List Terminal} {e : Expr} → G.Derives Stars ts e → G.Derives Value ts e
+stars_value p = G.next p
+
+one_target : {ts : List Terminal} {e s : Expr} → G.Derives Stars ts e → stored e ≡ Some s → (n : ℕ) (acc : List Expr) (r : List Terminal) → value_loop plain (suc n) acc (ts ++ (Op Sign.Equal ∷ r)) ≡ value_loop plain n (acc ++ (s ∷ [])) r
+one_target p q n acc r = thus _ _ (front (stars_value p) (Op Sign.Equal ∷ r) (omega arith, omega arith)) (ap (λ o. on_some o (λ t. value_loop plain n (acc ++ (t ∷ [])) r) NoForm) q)
+
+targets_goes : (n : ℕ) {ts : List Terminal} {es : List Expr} → F.Targets ts es → (i r : List Terminal) (e : Expr) → plain Value i ≡ Found e r → peek (is_op Sign.Equal) r ≡ None → (acc : List Expr) → length (ts ++ i) < n → value_loop plain n acc (ts ++ i) ≡ end_value plain (acc ++ es) e r
+targets_goes zero c i r e h m acc l = absurd (omega (arith, l))
+targets_goes (suc n) (F.last_target {ts = ts} (G.target {s = s} p q)) i r e h m acc l = ap (value_loop plain (suc n) acc) (append_assoc ts (Op Sign.Equal ∷ []) i) ∙ (one_target p q n acc i ∙ last n (omega (arith, l, length-append (ts ++ (Op Sign.Equal ∷ [])) i, length-append ts (Op Sign.Equal ∷ []))))
+  where
+    last : (n : ℕ) → 0 < n → value_loop plain n (acc ++ (s ∷ [])) i ≡ end_value plain (acc ++ (s ∷ [])) e r
+    last zero k = absurd (omega (arith, k))
+    last (suc n) k = loop_ends n _ i r e h m
+targets_goes (suc n) (F.more_targets {ts = ts} {us = us} {es = es} (G.target {s = s} p q) c) i r e h m acc l =
+    ap (value_loop plain (suc n) acc) (append_assoc ts (Op Sign.Equal ∷ us) i) ∙ (one_target p q n acc (us ++ i) ∙ (targets_goes n c i r e h m (acc ++ (s ∷ [])) (omega (arith, l, length-append (ts ++ (Op Sign.Equal ∷ us)) i, length-append ts (Op Sign.Equal ∷ us), length-append us i)) ∙ ap (λ z. end_value plain z e r) (append_assoc acc (s ∷ []) es)))
+
+-- the first target
+module _ {ts : List Terminal} {e : Expr} (p : G.Derives Stars ts e) (us i : List Terminal) where
+  target_front : plain Value ((ts ++ (Op Sign.Equal ∷ us)) ++ i) ≡ Found e (Op Sign.Equal ∷ (us ++ i))
+  target_front = ap (plain Value) (append_assoc ts (Op Sign.Equal ∷ us) i) ∙ front (stars_value p) (Op Sign.Equal ∷ (us ++ i)) (omega arith, omega arith)
+
+  target_led : 0 < lead_of (ts ++ (Op Sign.Equal ∷ us))
+  target_led = omega (arith, lead_front ts (Op Sign.Equal ∷ us) 7 (omega arith) (led p))
+
+first_target : {ts : List Terminal} {es : List Expr} → F.Targets ts es → (i : List Terminal) → (e : Expr) × (r : List Terminal) × (plain Value (ts ++ i) ≡ Found e (Op Sign.Equal ∷ r)) × (0 < lead_of ts)
+first_target (F.last_target {ts = ts} (G.target {e = e} p q)) i = (e, i, target_front p [] i, target_led p [] i)
+first_target (F.more_targets {ts = ts} {us = us} (G.target {e = e} p q) c) i = (e, us ++ i, target_front p us i, target_led p us i)
+
+assigned : {ts : List Terminal} {es : List Expr} → F.Targets ts es → (e : Expr) (r : List Terminal) → end_value plain es e r ≡ Found (Assign es e) r
+assigned (F.last_target p) e r = refl
+assigned (F.more_targets p c) e r = refl
+
+pub assign_goes : {ts us : List Terminal} {es : List Expr} {e : Expr} → F.Targets ts es → G.Derives Value us e → (r : List Terminal) → Ends r → statement plain ((ts ++ us) ++ r) ≡ Found (Assign es e) r
+assign_goes {ts} {us} {es} {e} c p r w =
+    let i = us ++ r in
+    let f = first_target c i in
+    ap (statement plain) (append_assoc ts us r) ∙ (by_value ts i f.3 ∙ (unannotated (ts ++ i) (Op Sign.Equal ∷ f.1) f.0 f.2 (λ q. omega (arith, q)) ∙ (targets_goes (suc (length (ts ++ i))) c i r e (front p r (value_stops w)) (ends_miss (is_op Sign.Equal) refl w) [] (omega arith) ∙ assigned c e r)))
+
+-- augmented ones
+plain_sign : (x : Exact) (o : Operator) → augmented x ≡ Some o → (grip (Op x) ≡ 0) × (is_op Sign.Equal (Op x) ≡ None)
+plain_sign Sign.PlusEqual o h = (refl, refl)
+plain_sign Sign.MinEqual o h = (refl, refl)
+plain_sign Sign.StarEqual o h = (refl, refl)
+plain_sign Sign.AtEqual o h = (refl, refl)
+plain_sign Sign.SlashEqual o h = (refl, refl)
+plain_sign Sign.PercentEqual o h = (refl, refl)
+plain_sign Sign.AmperEqual o h = (refl, refl)
+plain_sign Sign.VBarEqual o h = (refl, refl)
+plain_sign Sign.CircumflexEqual o h = (refl, refl)
+plain_sign Sign.LeftShiftEqual o h = (refl, refl)
+plain_sign Sign.RightShiftEqual o h = (refl, refl)
+plain_sign Sign.DoubleStarEqual o h = (refl, refl)
+plain_sign Sign.DoubleSlashEqual o h = (refl, refl)
+plain_sign _ o h = absurd (cc)
+
+pub augmented_goes : {ts us : List Terminal} (x : Exact) {o : Operator} {t e : Expr} → G.SingleTarget ts t → augmented x ≡ Some o → G.Derives Value us e → (r : List Terminal) → Ends r → statement plain ((ts ++ (Op x ∷ us)) ++ r) ≡ Found (AugAssign t o e) r
+augmented_goes {ts} {us} x {o} {t} {e} (G.single_target {e = f} p q) a v r w =
+    let z = Op x ∷ (us ++ r) in
+    let s = plain_sign x o a in
+    let h = value_front (item_of p) z (omega (arith, s.0)) (λ k. omega (arith, s.0, k)) in
+    ap (statement plain) (append_assoc ts (Op x ∷ us) r) ∙ (by_value ts z (omega (arith, led p)) ∙ (unannotated (ts ++ z) z f h (λ k. omega (arith, s.0, k)) ∙ (loop_ends (length (ts ++ z)) [] (ts ++ z) z f h s.1
+    ∙ (ap (λ b. on_some b (λ o. on_some (single_stored f) (λ t. and_then (plain Value (us ++ r)) (λ v r2. Found (AugAssign t o v) r2)) NoForm) (on_first (is_op Sign.Colon) z (λ _ r1. on_some (single_stored f) (λ t. annotation plain t false r1) NoForm) (Found (ExprOf f) z))) a
+    ∙ (ap (λ b. on_some b (λ t. and_then (plain Value (us ++ r)) (λ v r2. Found (AugAssign t o v) r2)) NoForm) q ∙ thus _ _ (front v r (value_stops w)) refl)))))
+
+-- annotated ones
+annotation_goes : {us vs : List Terminal} {a : Expr} {v : Option Expr} (t : Expr) (b : Bool) → G.Derives Expression us a → F.Behind (Op Sign.Equal) Value vs v → (r : List Terminal) → Ends r → annotation plain t b ((us ++ vs) ++ r) ≡ Found (AnnAssign t a v b) r
+annotation_goes {us} {vs} t b p q r w = ap (annotation plain t b) (append_assoc us vs r) ∙ thus _ _ (front p (vs ++ r) (behind_grip q r (omega arith) (omega (arith, ends_grip w)))) (thus _ _ (after_goes q refl r (value_stops w) (ends_miss (is_op Sign.Equal) refl w)) refl)
+
+pub name_annotated_goes : {us vs : List Terminal} {a : Expr} {v : Option Expr} (x : Identifier) → G.Derives Expression us a → F.Behind (Op Sign.Equal) Value vs v → (r : List Terminal) → Ends r → statement plain (Ident x ∷ (Op Sign.Colon ∷ ((us ++ vs) ++ r))) ≡ Found (AnnAssign (Trees.Name x Store) a v true) r
+name_annotated_goes x p q r w = annotation_goes (Trees.Name x Store) true p q r w
+
+-- a target that is no NAME alone
+annotated_goes : (r : List Terminal) {ts us vs : List Terminal} {f t a : Expr} {v : Option Expr} → G.Derives Primary ts f → single_stored f ≡ Some t → ((x : List ℕ) (zs : List Terminal) → ts ++ (Op Sign.Colon ∷ ((us ++ vs) ++ r)) ≡ Ident x ∷ (Op Sign.Colon ∷ zs) → ⊥) → G.Derives Expression us a → F.Behind (Op Sign.Equal) Value vs v → Ends r → statement plain (ts ++ (Op Sign.Colon ∷ ((us ++ vs) ++ r))) ≡ Found (AnnAssign t a v false) r
+annotated_goes r {ts} {us} {vs} {f} {t} p q n k b w =
+    let y = (us ++ vs) ++ r in
+    let z = Op Sign.Colon ∷ ((us ++ vs) ++ r) in
+    let h = value_front (item_of p) z (omega arith) (λ k. omega (arith, k)) in
+    by_value ts z (omega (arith, led p)) ∙ (miss_name_with Sign.Colon (ts ++ z) _ _ n ∙ (loop_ends (length (ts ++ z)) [] (ts ++ z) z f h refl
+    ∙ (ap (λ b. on_some b (λ t. annotation plain t false y) NoForm) q ∙ annotation_goes t false k b r w)))
+
+found_tree : (a b : Expr) (r s : List Terminal) → ◌≡◌ {A = Answer Expr} (Found a r) (Found b s) → a ≡ b
+found_tree a b r s h = cc
+
+some_same : (a b : Expr) → ◌≡◌ {A = Option Expr} (Some a) (Some b) → a ≡ b
+some_same a b h = cc
+
+differ : ◌≡◌ {A = Bool} true false → ⊥
+differ h = absurd (cc)
+
+pub part_annotated_goes : {ts us vs : List Terminal} {t a : Expr} {v : Option Expr} → G.SingleTarget ts t → F.is_name t ≡ false → G.Derives Expression us a → F.Behind (Op Sign.Equal) Value vs v → (r : List Terminal) → Ends r → statement plain ((ts ++ (Op Sign.Colon ∷ (us ++ vs))) ++ r) ≡ Found (AnnAssign t a v false) r
+part_annotated_goes {ts} {us} {vs} {t} (G.single_target {e = f} p q) n k b r w = ap (statement plain) (append_assoc ts (Op Sign.Colon ∷ (us ++ vs)) r) ∙ annotated_goes r p q (λ x zs e.
+    let z = Op Sign.Colon ∷ ((us ++ vs) ++ r) in
+    let h = value_front (item_of p) z (omega arith) (λ k. omega (arith, k)) in
+    let g = found_tree f (Trees.Name x Load) z (Op Sign.Colon ∷ zs) (sym h ∙ ap (plain Value) e) in
+    differ (ap F.is_name (some_same (Trees.Name x Store) t (ap single_stored (sym g) ∙ q)) ∙ n)) k b w
+
+pub group_annotated_goes : {ts us vs : List Terminal} {t a : Expr} {v : Option Expr} → G.SingleTarget ts t → G.Derives Expression us a → F.Behind (Op Sign.Equal) Value vs v → (r : List Terminal) → Ends r → statement plain ((Op Sign.LPar ∷ (ts ++ (Op Sign.RPar ∷ (Op Sign.Colon ∷ (us ++ vs))))) ++ r) ≡ Found (AnnAssign t a v false) r
+group_annotated_goes {ts} {us} {vs} {t} (G.single_target {e = f} p q) k b r w = ap (λ z. statement plain (Op Sign.LPar ∷ z)) (shape ts (us ++ vs) r) ∙ annotated_goes r (G.next (G.group (G.next (G.next (lower Or Primary ts f (omega arith) (omega arith) (omega arith) p))))) q (λ x zs e. different x _ _ e) k b w
+  where
+    shape : (ts us r : List Terminal) → (ts ++ (Op Sign.RPar ∷ (Op Sign.Colon ∷ us))) ++ r ≡ (ts ++ (Op Sign.RPar ∷ [])) ++ (Op Sign.Colon ∷ (us ++ r))
+    shape ts us r = simp append_assoc refl
+
+    different : (x : List ℕ) (us vs : List Terminal) → Op Sign.LPar ∷ us ≡ Ident x ∷ vs → ⊥
+    different x us vs e = absurd (cc)

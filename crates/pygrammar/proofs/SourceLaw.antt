@@ -1,0 +1,31 @@
+-- On: the laws of lines, of blocks and of the answer for a source.
+use Rattle.pygrammar.specs.SourceLaws.{LinesAreLawful, BlocksAreLawful, AnswersAreLawful}
+use Rattle.pygrammar.proofs.Line.Answered.{enough, read_or_not}
+use Rattle.pygrammar.proofs.Line.Depth.{at_depth}
+use Rattle.pygrammar.proofs.Line.Law.{one_form}
+use Rattle.pygrammar.proofs.Line.SoundLines.{exactly}
+use Rattle.pygrammar.proofs.Block.Goes.{one_tree}
+use Rattle.pygrammar.proofs.Block.Law.{fault_or_tree, tree_faultless, one_first, no_first}
+use Rattle.pygrammar.proofs.Block.Answer.{one_answer, never_both}
+
+pub lines_are_lawful : LinesAreLawful
+lines_are_lawful = record {
+  unique = λ ts f g p q. one_form p q;
+  exact = exactly;
+  decided = read_or_not;
+  deep = λ d ts. (at_depth d ts, enough d ts);
+}
+
+pub blocks_are_lawful : BlocksAreLawful
+blocks_are_lawful = record {
+  unique = λ xs a b p q. one_tree p q;
+  decided = fault_or_tree;
+  faultless = λ xs rest ss f p q. no_first (tree_faultless xs ss p) q;
+  first = λ xs a b e f p q. one_first p q;
+}
+
+pub answers_are_lawful : AnswersAreLawful
+answers_are_lawful = record {
+  unique = λ s a b p q. one_answer p q;
+  apart = λ s m r p q. never_both p q;
+}

@@ -1,0 +1,6 @@
+-- Worked rows: the reader computes them.
+mod Expressions
+mod DrawnFirst
+mod DrawnSecond
+mod DrawnThird
+mod Rooms

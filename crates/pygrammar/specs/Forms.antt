@@ -1,0 +1,246 @@
+-- The forms of a logical line (reference 7 and 8): which lists of terminals are which line, a constructor for each
+-- alternative of the table. The NEWLINE is not part of the list.
+use Rattle.std.specs.Prelude.{◌≡◌, ℕ, ◌+◌, ◌<◌, List, [], ◌∷◌, ◌++◌, Option, Some, None, Bool, true, false}
+use Rattle.pylexeme.specs.declared.kinds.Exact.{Exact}
+use Rattle.pylexeme.specs.declared.kinds.Exact.TheVariants as Sign
+use Rattle.pytoken.specs.declared.keywords.Keyword.TheVariants as Key
+use Rattle.pynode.specs.declared.operators.Operator.{Operator}
+use Rattle.pynode.specs.declared.operators.Operator.TheVariants as Bin
+use Rattle.pynode.specs.declared.operators.Context.TheVariants.{Store}
+use Rattle.pygrammar.specs.declared.levels.Level.{Level}
+use Rattle.pygrammar.specs.declared.levels.Level.TheVariants.{Value, Stars, Named, Expression}
+use Rattle.pynode.specs.Trees.{Expr, Exprs, no_exprs, an_expr, Arguments, Keywords, no_keyword, Identifier, Stmt, Alias, Item, Return, Delete, Assign, AugAssign, AnnAssign, Raise, Assert, Import, ImportFrom, Global, Nonlocal, ExprOf, Pass, Break, Continue}
+use Rattle.pynode.specs.Trees as Trees
+use Rattle.pytoken.specs.Terminals.{Terminal, Op, Word, Ident}
+use Rattle.pygrammar.specs.Entries.{Argument, Parameter, Entry}
+use Rattle.pygrammar.specs.Arguments.{in_order, positional, keywords}
+use Rattle.pygrammar.specs.Parameters.{arranged}
+use Rattle.pygrammar.specs.Grammar.{Derives, Listing, Target, SingleTarget, DelTarget, ItemTarget}
+use Rattle.pygrammar.specs.Lines.{Form, simple_form, decorator_form, header_form, Header, if_header, elif_header, else_header, loop_header, with_header, try_header, except_header, finally_header, def_header, while_head, for_head, function_head, class_head}
+
+-- ---- Parts.
+
+-- X,..: one or more with commas between
+pub data Commas (A : Type 0) (X : List Terminal → A → Type 0) : List Terminal → List A → Type 0 where
+  alone : {ts : List Terminal} {a : A} → X ts a → Commas A X ts (a ∷ [])
+  comma : {ts us : List Terminal} {a : A} {as_ : List A} → X ts a → Commas A X us as_ → Commas A X (ts ++ (Op Sign.Comma ∷ us)) (a ∷ as_)
+
+-- X,.. [,]
+pub data Commas? (A : Type 0) (X : List Terminal → A → Type 0) : List Terminal → List A → Type 0 where
+  ends_bare : {ts : List Terminal} {as_ : List A} → Commas A X ts as_ → Commas? A X ts as_
+  ends_comma : {ts : List Terminal} {as_ : List A} → Commas A X ts as_ → Commas? A X (ts ++ (Op Sign.Comma ∷ [])) as_
+
+-- [X]
+pub data Perhaps : Level → List Terminal → Option Expr → Type 0 where
+  left_out : {l : Level} → Perhaps l [] None
+  given : {l : Level} {ts : List Terminal} {e : Expr} → Derives l ts e → Perhaps l ts (Some e)
+
+-- [t X]
+pub data Behind : Terminal → Level → List Terminal → Option Expr → Type 0 where
+  none_behind : {t : Terminal} {l : Level} → Behind t l [] None
+  behind : {t : Terminal} {l : Level} {ts : List Terminal} {e : Expr} → Derives l ts e → Behind t l (t ∷ ts) (Some e)
+
+-- ["as" NAME]
+pub data As : List Terminal → Option Identifier → Type 0 where
+  no_as : As [] None
+  as_name : {x : Identifier} → As (Word Key.As ∷ (Ident x ∷ [])) (Some x)
+
+-- ["async"]
+pub data Async : List Terminal → Bool → Type 0 where
+  no_async : Async [] false
+  async : Async (Word Key.Async ∷ []) true
+
+pub data Name : List Terminal → Identifier → Type 0 where
+  name : {x : Identifier} → Name (Ident x ∷ []) x
+
+-- ---- Imports.
+
+-- Dotted = NAME ("." NAME)*
+pub data Dotted : List Terminal → Identifier → Type 0 where
+  one_name : {x : Identifier} → Dotted (Ident x ∷ []) x
+  dot_name : {x y : Identifier} {ts : List Terminal} → Dotted ts y → Dotted (Ident x ∷ (Op Sign.Dot ∷ ts)) (x ++ (46 ∷ y))
+
+abbrev pub alias : Identifier → Option Identifier → Alias
+alias x a = record { name = x; asname = a }
+
+-- Dotted ["as" NAME]
+pub data DottedAlias : List Terminal → Alias → Type 0 where
+  dotted_as : {ts us : List Terminal} {x : Identifier} {a : Option Identifier} → Dotted ts x → As us a → DottedAlias (ts ++ us) (alias x a)
+
+-- NAME ["as" NAME]
+pub data NameAlias : List Terminal → Alias → Type 0 where
+  name_as : {us : List Terminal} {x : Identifier} {a : Option Identifier} → As us a → NameAlias (Ident x ∷ us) (alias x a)
+
+-- ("." | "...")*, with the level that they make
+pub data Dots : List Terminal → ℕ → Type 0 where
+  no_dot : Dots [] 0
+  dot : {ts : List Terminal} {n : ℕ} → Dots ts n → Dots (Op Sign.Dot ∷ ts) (1 + n)
+  dots : {ts : List Terminal} {n : ℕ} → Dots ts n → Dots (Op Sign.Ellipsis ∷ ts) (3 + n)
+
+-- Names = "*" | (NAME ["as" NAME]),.. | "(" (NAME ["as" NAME]),.. [,] ")"
+pub data Names : List Terminal → List Alias → Type 0 where
+  all_names : Names (Op Sign.Star ∷ []) (alias (42 ∷ []) None ∷ [])
+  names : {ts : List Terminal} {as_ : List Alias} → Commas Alias NameAlias ts as_ → Names ts as_
+  bracketed_names : {ts : List Terminal} {as_ : List Alias} → Commas? Alias NameAlias ts as_ → Names (Op Sign.LPar ∷ (ts ++ (Op Sign.RPar ∷ []))) as_
+
+-- ---- Simple statements.
+
+-- `+= -= *= @= /= %= &= |= ^= <<= >>= **= //=`
+abbrev pub augmented : Exact → Option Operator
+augmented Sign.PlusEqual = Some Bin.Add
+augmented Sign.MinEqual = Some Bin.Sub
+augmented Sign.StarEqual = Some Bin.Mult
+augmented Sign.AtEqual = Some Bin.MatMult
+augmented Sign.SlashEqual = Some Bin.Div
+augmented Sign.PercentEqual = Some Bin.Mod
+augmented Sign.AmperEqual = Some Bin.BitAnd
+augmented Sign.VBarEqual = Some Bin.BitOr
+augmented Sign.CircumflexEqual = Some Bin.BitXor
+augmented Sign.LeftShiftEqual = Some Bin.LShift
+augmented Sign.RightShiftEqual = Some Bin.RShift
+augmented Sign.DoubleStarEqual = Some Bin.Pow
+augmented Sign.DoubleSlashEqual = Some Bin.FloorDiv
+augmented _ = None
+
+abbrev pub is_name : Expr → Bool
+is_name (Trees.Name x c) = true
+is_name _ = false
+
+-- (Target "=")+
+pub data Targets : List Terminal → List Expr → Type 0 where
+  last_target : {ts : List Terminal} {e : Expr} → Target ts e → Targets (ts ++ (Op Sign.Equal ∷ [])) (e ∷ [])
+  more_targets : {ts us : List Terminal} {e : Expr} {es : List Expr} → Target ts e → Targets us es → Targets (ts ++ (Op Sign.Equal ∷ us)) (e ∷ es)
+
+pub data Simple : List Terminal → Stmt → Type 0 where
+  -- Value
+  value : {ts : List Terminal} {e : Expr} → Derives Value ts e → Simple ts (ExprOf e)
+  -- (Target "=")+ Value
+  assign : {ts us : List Terminal} {targets : List Expr} {e : Expr} →
+      Targets ts targets → Derives Value us e → Simple (ts ++ us) (Assign targets e)
+  -- SingleTarget augmented Value
+  augmented_assign : {ts us : List Terminal} (x : Exact) {o : Operator} {t e : Expr} →
+      SingleTarget ts t → augmented x ≡ Some o → Derives Value us e → Simple (ts ++ (Op x ∷ us)) (AugAssign t o e)
+  -- NAME ":" Expression ["=" Value]
+  annotated_name : {x : Identifier} {ts us : List Terminal} {a : Expr} {v : Option Expr} →
+      Derives Expression ts a → Behind (Op Sign.Equal) Value us v →
+      Simple (Ident x ∷ (Op Sign.Colon ∷ (ts ++ us))) (AnnAssign (Trees.Name x Store) a v true)
+  -- "(" SingleTarget ")" ":" Expression ["=" Value]
+  annotated_group : {ts us vs : List Terminal} {t a : Expr} {v : Option Expr} →
+      SingleTarget ts t → Derives Expression us a → Behind (Op Sign.Equal) Value vs v →
+      Simple (Op Sign.LPar ∷ (ts ++ (Op Sign.RPar ∷ (Op Sign.Colon ∷ (us ++ vs))))) (AnnAssign t a v false)
+  -- Attribute or Subscript ":" Expression ["=" Value]
+  annotated_part : {ts us vs : List Terminal} {t a : Expr} {v : Option Expr} →
+      SingleTarget ts t → is_name t ≡ false → Derives Expression us a → Behind (Op Sign.Equal) Value vs v →
+      Simple (ts ++ (Op Sign.Colon ∷ (us ++ vs))) (AnnAssign t a v false)
+  -- "return" [Stars]
+  return_of : {ts : List Terminal} {e : Option Expr} → Perhaps Stars ts e → Simple (Word Key.Return ∷ ts) (Return e)
+  -- "raise" [Expression ["from" Expression]], without them
+  raise_alone : Simple (Word Key.Raise ∷ []) (Raise None None)
+  -- "raise" [Expression ["from" Expression]], with the first
+  raise_of : {ts us : List Terminal} {e : Expr} {c : Option Expr} →
+      Derives Expression ts e → Behind (Word Key.From) Expression us c → Simple (Word Key.Raise ∷ (ts ++ us)) (Raise (Some e) c)
+  -- "assert" Expression ["," Expression]
+  assert_of : {ts us : List Terminal} {e : Expr} {m : Option Expr} →
+      Derives Expression ts e → Behind (Op Sign.Comma) Expression us m → Simple (Word Key.Assert ∷ (ts ++ us)) (Assert e m)
+  -- "del" DelTarget,.. [,]
+  delete : {ts : List Terminal} {es : List Expr} → Commas? Expr DelTarget ts es → Simple (Word Key.Del ∷ ts) (Delete es)
+  -- "global" NAME,..
+  global : {ts : List Terminal} {xs : List Identifier} → Commas Identifier Name ts xs → Simple (Word Key.Global ∷ ts) (Global xs)
+  -- "nonlocal" NAME,..
+  nonlocal : {ts : List Terminal} {xs : List Identifier} → Commas Identifier Name ts xs → Simple (Word Key.Nonlocal ∷ ts) (Nonlocal xs)
+  -- "pass"
+  pass : Simple (Word Key.Pass ∷ []) Pass
+  -- "break"
+  break : Simple (Word Key.Break ∷ []) Break
+  -- "continue"
+  continue : Simple (Word Key.Continue ∷ []) Continue
+  -- "import" (Dotted ["as" NAME]),..
+  import_names : {ts : List Terminal} {as_ : List Alias} → Commas Alias DottedAlias ts as_ → Simple (Word Key.Import ∷ ts) (Import as_)
+  -- "from" ("." | "...")* Dotted "import" Names
+  from_module : {ts us vs : List Terminal} {n : ℕ} {m : Identifier} {as_ : List Alias} →
+      Dots ts n → Dotted us m → Names vs as_ → Simple (Word Key.From ∷ (ts ++ (us ++ (Word Key.Import ∷ vs)))) (ImportFrom (Some m) as_ n)
+  -- "from" ("." | "...")+ "import" Names
+  from_dots : {ts vs : List Terminal} {n : ℕ} {as_ : List Alias} →
+      Dots ts n → 0 < n → Names vs as_ → Simple (Word Key.From ∷ (ts ++ (Word Key.Import ∷ vs))) (ImportFrom None as_ n)
+
+-- simple statements with `;` between and perhaps one at the end
+pub data Simples : List Terminal → List Stmt → Type 0 where
+  last_simple : {ts : List Terminal} {s : Stmt} → Simple ts s → Simples ts (s ∷ [])
+  ended_simple : {ts : List Terminal} {s : Stmt} → Simple ts s → Simples (ts ++ (Op Sign.Semi ∷ [])) (s ∷ [])
+  more_simples : {ts us : List Terminal} {s : Stmt} {ss : List Stmt} → Simple ts s → Simples us ss → Simples (ts ++ (Op Sign.Semi ∷ us)) (s ∷ ss)
+
+-- ---- Headers, up to their colon.
+
+abbrev pub item : Expr → Option Expr → Item
+item e t = record { context_expr = e; optional_vars = t }
+
+-- Item = Expression ["as" ItemTarget]
+pub data ItemOf : List Terminal → Item → Type 0 where
+  bare_item : {ts : List Terminal} {e : Expr} → Derives Expression ts e → ItemOf ts (item e None)
+  item_as : {ts us : List Terminal} {e t : Expr} → Derives Expression ts e → ItemTarget us t → ItemOf (ts ++ (Word Key.As ∷ us)) (item e (Some t))
+
+-- "(" Item,.. [,] ")"
+pub data Bracketed : List Terminal → List Item → Type 0 where
+  bracketed : {ts : List Terminal} {is : List Item} → Commas? Item ItemOf ts is → Bracketed (Op Sign.LPar ∷ (ts ++ (Op Sign.RPar ∷ []))) is
+
+-- Items; of the two readings the bracketed one counts where both exist
+pub data Items : List Terminal → List Item → Type 0 where
+  in_brackets : {ts : List Terminal} {is : List Item} → Bracketed ts is → Items ts is
+  without : {ts : List Terminal} {is : List Item} → Commas Item ItemOf ts is → ((others : List Item) → Bracketed ts others → ⊥) → Items ts is
+
+abbrev pub listed : Exprs → List Expr
+listed no_exprs = []
+listed (an_expr e es) = e ∷ listed es
+
+-- ["(" [Args] ")"]
+pub data Bases : List Terminal → List Expr → Keywords → Type 0 where
+  no_bases : Bases [] [] no_keyword
+  bases : {ts : List Terminal} {es : List Entry} → Listing Argument ts es → in_order false false es ≡ true →
+      Bases (Op Sign.LPar ∷ (ts ++ (Op Sign.RPar ∷ []))) (listed (positional es)) (keywords es)
+
+pub data HeaderOf : List Terminal → Header → Type 0 where
+  -- "if" Named
+  if_line : {ts : List Terminal} {e : Expr} → Derives Named ts e → HeaderOf (Word Key.If ∷ ts) (if_header e)
+  -- "elif" Named
+  elif_line : {ts : List Terminal} {e : Expr} → Derives Named ts e → HeaderOf (Word Key.Elif ∷ ts) (elif_header e)
+  -- "else"
+  else_line : HeaderOf (Word Key.Else ∷ []) else_header
+  -- "while" Named
+  while_line : {ts : List Terminal} {e : Expr} → Derives Named ts e → HeaderOf (Word Key.While ∷ ts) (loop_header (while_head e))
+  -- ["async"] "for" Target "in" Stars
+  for_line : {ts us vs : List Terminal} {b : Bool} {t e : Expr} → Async ts b → Target us t → Derives Stars vs e →
+      HeaderOf (ts ++ (Word Key.For ∷ (us ++ (Word Key.In ∷ vs)))) (loop_header (for_head b t e))
+  -- ["async"] "with" Items
+  with_line : {ts us : List Terminal} {b : Bool} {is : List Item} → Async ts b → Items us is → HeaderOf (ts ++ (Word Key.With ∷ us)) (with_header b is)
+  -- "try"
+  try_line : HeaderOf (Word Key.Try ∷ []) try_header
+  -- "finally"
+  finally_line : HeaderOf (Word Key.Finally ∷ []) finally_header
+  -- "except" [Expression ["as" NAME]], without the Expression
+  except_all : HeaderOf (Word Key.Except ∷ []) (except_header false None None)
+  -- "except" [Expression ["as" NAME]], with it
+  except_line : {ts us : List Terminal} {e : Expr} {x : Option Identifier} → Derives Expression ts e → As us x →
+      HeaderOf (Word Key.Except ∷ (ts ++ us)) (except_header false (Some e) x)
+  -- "except" "*" Expression ["as" NAME]
+  except_star : {ts us : List Terminal} {e : Expr} {x : Option Identifier} → Derives Expression ts e → As us x →
+      HeaderOf (Word Key.Except ∷ (Op Sign.Star ∷ (ts ++ us))) (except_header true (Some e) x)
+  -- ["async"] "def" NAME "(" [Params] ")" ["->" Expression]
+  def_line : {ts us vs : List Terminal} {b : Bool} (x : Identifier) {ps : List Entry} {a : Arguments} {r : Option Expr} →
+      Async ts b → Listing (Parameter true) us ps → arranged ps ≡ Some a → Behind (Op Sign.RArrow) Expression vs r →
+      HeaderOf (ts ++ (Word Key.Def ∷ (Ident x ∷ (Op Sign.LPar ∷ (us ++ (Op Sign.RPar ∷ vs)))))) (def_header (function_head b x a r))
+  -- "class" NAME ["(" [Args] ")"]
+  class_line : {x : Identifier} {ts : List Terminal} {es : List Expr} {ks : Keywords} → Bases ts es ks →
+      HeaderOf (Word Key.Class ∷ (Ident x ∷ ts)) (def_header (class_head x es ks))
+
+-- ---- Lines.
+
+pub data FormOf : List Terminal → Form → Type 0 where
+  -- simple statements, with `;` between and perhaps one at the end
+  simple_statements : {ts : List Terminal} {ss : List Stmt} → Simples ts ss → FormOf ts (simple_form ss)
+  -- "@" Named
+  decorator_line : {ts : List Terminal} {e : Expr} → Derives Named ts e → FormOf (Op Sign.At ∷ ts) (decorator_form e)
+  -- a header and its colon, nothing behind it
+  header_line : {ts : List Terminal} {h : Header} → HeaderOf ts h → FormOf (ts ++ (Op Sign.Colon ∷ [])) (header_form h None)
+  -- a header, its colon and an inline suite
+  header_suite : {ts us : List Terminal} {h : Header} {ss : List Stmt} → HeaderOf ts h → Simples us ss →
+      FormOf (ts ++ (Op Sign.Colon ∷ us)) (header_form h (Some ss))

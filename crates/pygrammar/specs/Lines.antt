@@ -1,0 +1,64 @@
+-- Logical lines: what each says of itself, before it is known what stands round it.
+use Rattle.std.specs.Prelude.{ℕ, Bool, true, false, List, [], Option, None}
+use Rattle.pynode.specs.Trees.{Expr, Arguments, Keywords, Identifier, Stmt, Item, Handler, FunctionDef, AsyncFunctionDef, ClassDef, While, For, AsyncFor, With, AsyncWith, Try, TryStar, stmts, handlers}
+
+-- the heads of `while` and `for`, which differ in nothing else
+pub data LoopHead : Type 0 where
+  while_head : Expr → LoopHead
+  for_head : Bool → Expr → Expr → LoopHead  -- whether async, target, iter
+
+-- the heads of `def` and `class`
+pub data DefHead : Type 0 where
+  function_head : Bool → Identifier → Arguments → Option Expr → DefHead  -- whether async, name, args, returns
+  class_head : Identifier → List Expr → Keywords → DefHead  -- name, bases, keywords
+
+-- a header, up to its colon
+pub data Header : Type 0 where
+  if_header : Expr → Header
+  elif_header : Expr → Header
+  else_header : Header
+  loop_header : LoopHead → Header
+  with_header : Bool → List Item → Header  -- whether async
+  try_header : Header
+  except_header : Bool → Option Expr → Option Identifier → Header  -- whether it has a star, type, name
+  finally_header : Header
+  def_header : DefHead → Header
+
+-- the form of a logical line
+pub data Form : Type 0 where
+  simple_form : List Stmt → Form  -- simple statements, with `;` between
+  decorator_form : Expr → Form
+  header_form : Header → Option (List Stmt) → Form  -- with its inline suite, if it has one
+
+-- a logical line: the number of levels above 0 that are open at it, and its form
+pub record Line : Type 0 where
+  pub level : ℕ
+  pub form : Form
+
+abbrev pub line : ℕ → Form → Line
+line l f = record { level = l; form = f }
+
+-- whether a line is a header whose block is the lines that follow it
+abbrev pub opens : Form → Bool
+opens (header_form _ None) = true
+opens _ = false
+
+-- the statement of a head and its blocks
+abbrev pub loop : LoopHead → List Stmt → List Stmt → Stmt
+loop (while_head test) body orelse = While test (stmts body) (stmts orelse)
+loop (for_head false target iter) body orelse = For target iter (stmts body) (stmts orelse)
+loop (for_head true target iter) body orelse = AsyncFor target iter (stmts body) (stmts orelse)
+
+abbrev pub with_of : Bool → List Item → List Stmt → Stmt
+with_of false items body = With items (stmts body)
+with_of true items body = AsyncWith items (stmts body)
+
+abbrev pub definition : List Expr → DefHead → List Stmt → Stmt
+definition decorators (function_head false name args returns) body = FunctionDef name args (stmts body) decorators returns []
+definition decorators (function_head true name args returns) body = AsyncFunctionDef name args (stmts body) decorators returns []
+definition decorators (class_head name bases keywords) body = ClassDef name bases keywords (stmts body) decorators []
+
+-- the Try, or TryStar, of its four parts
+abbrev pub try_of : Bool → List Stmt → List Handler → List Stmt → List Stmt → Stmt
+try_of false body hs orelse final = Try (stmts body) (handlers hs) (stmts orelse) (stmts final)
+try_of true body hs orelse final = TryStar (stmts body) (handlers hs) (stmts orelse) (stmts final)

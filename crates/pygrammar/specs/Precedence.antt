@@ -1,0 +1,170 @@
+-- The levels in one order, what a terminal can begin, and all operators in two tables: behind an expression and before one.
+use Rattle.std.specs.Prelude.{ℕ, List, [], ◌∷◌, Option, Some, None, Bool, true, false, cond, leb}
+use Rattle.pylexeme.specs.declared.kinds.Exact.TheVariants.{LPar, LSqb, LBrace, Colon, Plus, Minus, Star, Slash, VBar, Amper, Less, Greater, Percent, EqEqual, NotEqual, LessEqual, GreaterEqual, Tilde, Circumflex, LeftShift, RightShift, DoubleStar, DoubleSlash, At, Ellipsis}
+use Rattle.pytoken.specs.declared.keywords.Keyword.TheVariants as Key
+use Rattle.pynode.specs.declared.operators.Operator.{Operator}
+use Rattle.pynode.specs.declared.operators.Operator.TheVariants as Bin
+use Rattle.pynode.specs.declared.operators.UnaryOperator.{UnaryOperator}
+use Rattle.pynode.specs.declared.operators.UnaryOperator.TheVariants as Un
+use Rattle.pynode.specs.declared.operators.BoolOperator.{BoolOperator}
+use Rattle.pynode.specs.declared.operators.BoolOperator.TheVariants as Join
+use Rattle.pygrammar.specs.declared.levels.Level.{Level}
+use Rattle.pygrammar.specs.declared.levels.Level.TheVariants.{Value, Stars, StarItem, Named, Expression, Or, And, Not, Compare, BitOr, BitXor, BitAnd, Shift, Sum, Term, Factor, Power, Await, Primary, Atom, Elem, Slices, Part, Slice}
+use Rattle.pytoken.specs.Terminals.{Terminal, Op, Word, Ident, Whole, Literal}
+use Rattle.pygrammar.specs.Operators.{chain_level}
+use Rattle.pygrammar.specs.Entries.{Item, Of, Pair, Argument, Parameter}
+
+-- the levels in one order: a level of a higher rank is further in
+abbrev pub rank : Level → ℕ
+rank Value = 1
+rank Slices = 2
+rank Stars = 3
+rank Part = 4
+rank Slice = 5
+rank StarItem = 6
+rank Elem = 7
+rank Named = 8
+rank Expression = 9
+rank Or = 10
+rank And = 11
+rank Not = 12
+rank Compare = 13
+rank BitOr = 14
+rank BitXor = 15
+rank BitAnd = 16
+rank Shift = 17
+rank Sum = 18
+rank Term = 19
+rank Factor = 20
+rank Power = 21
+rank Await = 22
+rank Primary = 23
+rank Atom = 24
+
+-- the highest rank of a level that begins with a terminal
+abbrev pub lead : Terminal → ℕ
+lead (Word Key.Yield) = 1
+lead (Op Colon) = 5
+lead (Op Star) = 7
+lead (Word Key.Lambda) = 9
+lead (Word Key.Not) = 12
+lead (Op Plus) = 20
+lead (Op Minus) = 20
+lead (Op Tilde) = 20
+lead (Word Key.Await) = 22
+lead (Op LPar) = 24
+lead (Op LSqb) = 24
+lead (Op LBrace) = 24
+lead (Op Ellipsis) = 24
+lead (Word Key.None) = 24
+lead (Word Key.True) = 24
+lead (Word Key.False) = 24
+lead (Ident x) = 24
+lead (Whole n) = 24
+lead (Literal v) = 24
+lead _ = 0
+
+-- the least lead of a first terminal of a level
+abbrev pub first : Level → ℕ
+first Slices = 5
+first Part = 5
+first Slice = 5
+first Stars = 7
+first StarItem = 7
+first Elem = 7
+first Named = 9
+first l = rank l
+
+-- the terminals that begin an item
+abbrev pub begins : Item → Terminal → Bool
+begins (Of l) t = leb (first l) (lead t)
+begins Pair (Op DoubleStar) = true
+begins Pair t = leb 9 (lead t)
+begins Argument (Op DoubleStar) = true
+begins Argument t = leb 7 (lead t)
+begins (Parameter b) (Ident x) = true
+begins (Parameter b) (Op Star) = true
+begins (Parameter b) (Op DoubleStar) = true
+begins (Parameter b) (Op Slash) = true
+begins (Parameter b) t = false
+
+abbrev pub starts : Item → List Terminal → Bool
+starts i [] = false
+starts i (t ∷ r) = begins i t
+
+abbrev pub begins_comp : Terminal → Bool
+begins_comp (Word Key.For) = true
+begins_comp (Word Key.Async) = true
+begins_comp _ = false
+
+abbrev pub starts_comp : List Terminal → Bool
+starts_comp [] = false
+starts_comp (t ∷ r) = begins_comp t
+
+-- what an operator behind an expression makes: its rank, and how it goes on
+pub data Infix : Type 0 where
+  Left : Level → Operator → Infix  -- of this level, its right side of the next
+  Raise : Infix  -- `**`
+  Joins : BoolOperator → Infix
+  Compares : Infix
+
+abbrev pub infix_rank : Infix → ℕ
+infix_rank (Left l o) = rank l
+infix_rank Raise = 21
+infix_rank (Joins o) = rank (chain_level o)
+infix_rank Compares = 13
+
+abbrev pub behind : Terminal → Option Infix
+behind (Word Key.Or) = Some (Joins Join.Or)
+behind (Word Key.And) = Some (Joins Join.And)
+behind (Op EqEqual) = Some Compares
+behind (Op NotEqual) = Some Compares
+behind (Op Less) = Some Compares
+behind (Op LessEqual) = Some Compares
+behind (Op Greater) = Some Compares
+behind (Op GreaterEqual) = Some Compares
+behind (Word Key.In) = Some Compares
+behind (Word Key.Not) = Some Compares
+behind (Word Key.Is) = Some Compares
+behind (Op VBar) = Some (Left BitOr Bin.BitOr)
+behind (Op Circumflex) = Some (Left BitXor Bin.BitXor)
+behind (Op Amper) = Some (Left BitAnd Bin.BitAnd)
+behind (Op LeftShift) = Some (Left Shift Bin.LShift)
+behind (Op RightShift) = Some (Left Shift Bin.RShift)
+behind (Op Plus) = Some (Left Sum Bin.Add)
+behind (Op Minus) = Some (Left Sum Bin.Sub)
+behind (Op Star) = Some (Left Term Bin.Mult)
+behind (Op Slash) = Some (Left Term Bin.Div)
+behind (Op DoubleSlash) = Some (Left Term Bin.FloorDiv)
+behind (Op Percent) = Some (Left Term Bin.Mod)
+behind (Op At) = Some (Left Term Bin.MatMult)
+behind (Op DoubleStar) = Some Raise
+behind _ = None
+
+-- what an operator in front of an expression makes
+pub data Prefix : Type 0 where
+  Signed : Level → UnaryOperator → Prefix
+  Awaits : Prefix
+
+abbrev pub prefix_rank : Prefix → ℕ
+prefix_rank (Signed l o) = rank l
+prefix_rank Awaits = 22
+
+abbrev pub before : Terminal → Option Prefix
+before (Word Key.Not) = Some (Signed Not Un.Not)
+before (Op Plus) = Some (Signed Factor Un.UAdd)
+before (Op Minus) = Some (Signed Factor Un.USub)
+before (Op Tilde) = Some (Signed Factor Un.Invert)
+before (Word Key.Await) = Some Awaits
+before _ = None
+
+-- those of a rank of at least k
+abbrev pub at_least : {A : Type 0} → (A → ℕ) → ℕ → Option A → Option A
+at_least f k None = None
+at_least f k (Some a) = cond (leb k (f a)) (Some a) None
+
+abbrev pub infix_from : ℕ → Terminal → Option Infix
+infix_from k t = at_least infix_rank k (behind t)
+
+abbrev pub prefix_from : ℕ → Terminal → Option Prefix
+prefix_from k t = at_least prefix_rank k (before t)

@@ -1,0 +1,136 @@
+-- What is accepted, and what is refused where. A refusal of the tokens comes first, in the order that `refusal` gives; then the first line
+-- without a form, the first faulty line of the blocks, and the first statement that stands too deep.
+use Rattle.std.specs.Prelude.{◌≡◌, ℕ, suc, ◌+◌, ◌<◌, ◌≤◌, Bool, true, false, ◌&&◌, nat_lt, cond, List, [], ◌∷◌, ◌++◌, length, map, Option, Some, None}
+use Rattle.std.specs.Str.{bytes_eq}
+use Rattle.pysource.specs.declared.places.Place.{Place}
+use Rattle.pylex.specs.Listing.{Source}
+use Rattle.pynode.specs.Trees.{Module}
+use Rattle.pyheight.specs.Heights.{statement_height}
+use Rattle.pytoken.specs.declared.refusals.Refusal.{Refusal}
+use Rattle.pytoken.specs.Tokens.{Token, tokens, lines}
+use Rattle.pytoken.specs.Tokens as Tokens
+use Rattle.pytoken.specs.Terminals.{Terminal, terminal_of}
+use Rattle.pytoken.specs.Refusals.{refusal}
+use Rattle.pygrammar.specs.Lines.{Line, line, Form, header_form}
+use Rattle.pygrammar.specs.Forms.{FormOf}
+use Rattle.pygrammar.specs.FormHeights.{form_height}
+use Rattle.pygrammar.specs.Blocks.{Block, Fault, FirstFault, Kind, ElifLine, ElseLine, ExceptLine, FinallyLine, kind_of, header_kind}
+
+-- why a line, or what stands at ENDMARKER, is refused
+pub data Code : Type 0 where
+  Syntax : Code
+  MatchStatement : Code
+  Indentation : Fault → Code
+  TooDeep : Code
+
+-- why a source is refused: by its tokens, or by the grammar at a place
+pub data Reason : Type 0 where
+  in_tokens : Refusal → Reason
+  at : Place → Code → Reason
+
+-- where the line of this number starts, the first being 0; where there is none, ENDMARKER, the last token
+pub data StartsAt (s : Source) (n : ℕ) : Place → Type 0 where
+  at_line : (before behind : List Tokens.Line) (x : Tokens.Line) (t : Token) (ts : List Token) →
+      lines s ≡ before ++ (x ∷ behind) → length before ≡ n → x.tokens ≡ t ∷ ts → StartsAt s n t.start
+  at_end : (before : List Token) (t : Token) → length (lines s) ≡ n → tokens s ≡ before ++ (t ∷ []) → StartsAt s n t.start
+
+-- ---- Lines and forms.
+
+-- what the grammar reads of a line
+abbrev pub terminals : Tokens.Line → List Terminal
+terminals x = map (λ t. terminal_of t.kind t.text) x.tokens
+
+-- the last of some tokens is a colon
+abbrev pub ends_in_colon : List Token → Bool
+ends_in_colon [] = false
+ends_in_colon (t ∷ []) = bytes_eq t.text (58 ∷ [])
+ends_in_colon (_ ∷ ts) = ends_in_colon ts
+
+-- they begin with the text `match`, as it is written, and end in a colon
+abbrev pub is_match : List Token → Bool
+is_match [] = false
+is_match (t ∷ ts) = bytes_eq t.text (109 ∷ 97 ∷ 116 ∷ 99 ∷ 104 ∷ []) && ends_in_colon (t ∷ ts)
+
+-- a form whose expressions are no higher than 500
+pub record HasForm (x : Tokens.Line) (f : Form) : Type 0 where
+  pub is : FormOf (terminals x) f
+  pub low : form_height f ≤ 500
+
+pub data Formed : List Tokens.Line → List Line → Type 0 where
+  formed_end : Formed [] []
+  formed_line : {x : Tokens.Line} {xs : List Tokens.Line} {f : Form} {ys : List Line} →
+      HasForm x f → Formed xs ys → Formed (x ∷ xs) (line x.level f ∷ ys)
+
+abbrev pub HasNone : Tokens.Line → Type 0
+HasNone x = (f : Form) → FormOf (terminals x) f → ⊥
+
+-- why a line has no such form; the last is the one free choice: a long line without any form may be too deep
+pub data Unread (x : Tokens.Line) : Code → Type 0 where
+  too_high : {f : Form} → FormOf (terminals x) f → 500 < form_height f → Unread x TooDeep
+  no_match : HasNone x → is_match x.tokens ≡ true → Unread x MatchStatement
+  no_form : HasNone x → is_match x.tokens ≡ false → Unread x Syntax
+  too_long : HasNone x → 500 < length x.tokens → Unread x TooDeep
+
+-- the first such line
+pub data FirstUnread : List Tokens.Line → ℕ → Code → Type 0 where
+  unread : {x : Tokens.Line} {xs : List Tokens.Line} {c : Code} → Unread x c → FirstUnread (x ∷ xs) 0 c
+  unread_behind : {x : Tokens.Line} {xs : List Tokens.Line} {f : Form} {n : ℕ} {c : Code} →
+      HasForm x f → FirstUnread xs n c → FirstUnread (x ∷ xs) (suc n) c
+
+-- ---- Statement heights.
+
+-- the `elif`s of the `if` that a line of this kind belongs to, up to it; the lines before it nearest first
+abbrev pub elifs : Kind → ℕ → List Line → ℕ
+elifs k l [] = 0
+elifs ElifLine l (x ∷ earlier) = cond (nat_lt l x.level) (elifs ElifLine l earlier) (1 + elifs (kind_of x.form) l earlier)
+elifs ElseLine l (x ∷ earlier) = cond (nat_lt l x.level) (elifs ElseLine l earlier) (elifs (kind_of x.form) l earlier)
+elifs _ l (x ∷ earlier) = 0
+
+-- how many statements stand round a line of this level: its header's, and the header and its `elif`s
+abbrev pub around : ℕ → List Line → ℕ
+around l [] = 0
+around l (x ∷ earlier) = cond (nat_lt x.level l) (around x.level earlier + (elifs (kind_of x.form) x.level earlier + 1)) (around l earlier)
+
+abbrev pub is_clause : Kind → Bool
+is_clause ElseLine = true
+is_clause (ExceptLine _) = true
+is_clause FinallyLine = true
+is_clause _ = false
+
+-- how many stand round the innermost statement that begins in this line, if one does
+abbrev pub beginning : Line → List Line → Option ℕ
+beginning x earlier = elim x.form [
+  | header_form h (Some suite) ↦ Some (around x.level earlier + (elifs (header_kind h) x.level earlier + 1))
+  | header_form h None ↦ cond (is_clause (header_kind h)) None (Some (around x.level earlier + elifs (header_kind h) x.level earlier))
+  | _ ↦ Some (around x.level earlier)
+]
+
+abbrev pub IsDeep : Option ℕ → Type 0
+IsDeep None = ⊥
+IsDeep (Some n) = 500 ≤ n
+
+-- the first line that begins a statement with 500 round it
+pub data FirstDeep : List Line → List Line → ℕ → Type 0 where
+  deep : {earlier : List Line} {x : Line} {xs : List Line} → IsDeep (beginning x earlier) → FirstDeep earlier (x ∷ xs) 0
+  deep_behind : {earlier : List Line} {x : Line} {xs : List Line} {n : ℕ} → (IsDeep (beginning x earlier) → ⊥) → FirstDeep (x ∷ earlier) xs n → FirstDeep earlier (x ∷ xs) (suc n)
+
+-- ---- The answer.
+
+-- nothing refuses the tokens, each line has a form, the forms' tree is this module, and no height of it is past 500
+pub record Accepted (s : Source) (m : Module) : Type 0 where
+  pub clear : refusal s ≡ None
+  pub forms : List Line
+  pub formed : Formed (lines s) forms
+  pub block : Block 0 forms m.body
+  pub low : statement_height m ≤ 500
+
+-- the first of the reasons, in their order
+pub data Refused (s : Source) : Reason → Type 0 where
+  by_tokens : {r : Refusal} → refusal s ≡ Some r → Refused s (in_tokens r)
+  by_line : {n : ℕ} {p : Place} {c : Code} → refusal s ≡ None → FirstUnread (lines s) n c → StartsAt s n p → Refused s (at p c)
+  by_block : {forms rest : List Line} {f : Fault} {n : ℕ} {p : Place} →
+      refusal s ≡ None → Formed (lines s) forms → FirstFault [] forms rest f → n + length rest ≡ length forms → StartsAt s n p →
+      Refused s (at p (Indentation f))
+  by_height : {forms : List Line} {m : Module} {n : ℕ} {p : Place} →
+      refusal s ≡ None → Formed (lines s) forms → Block 0 forms m.body → 500 < statement_height m → FirstDeep [] forms n → StartsAt s n p →
+      Refused s (at p TooDeep)

@@ -1,0 +1,22 @@
+//! The grammar of Python: definitions and laws alone, with the one type that they name, [`Level`].
+//!
+//! Python language reference, 6 "Expressions" to 8 "Compound statements", and 10 "Full Grammar
+//! specification".
+//!
+//! The words of contracts are in `specs/`. `Grammar` is the table: which list of terminals is which
+//! expression at which level. What it names stands beside it: `Operators`, `Constants`, `Entries`
+//! of lists with commas, the order of `Arguments` and `Parameters`, `Targets`.
+//!
+//! `Reader` is the table as a function: what it finds at the front of a list of terminals, with the
+//! operators of `Precedence` and the tests of `Looks`. `Capped` is that function within a height,
+//! and `Meets` what its answers mean. `Laws` says that they agree, hence that a list is at most one
+//! expression.
+//!
+//! `Lines` and `Forms` are the forms of a logical line, `LineReader` the reader of one. `Blocks` has
+//! the tree and the faults of lines, `Reading` the reading line by line. `Refusals` says which
+//! sources are accepted and which refused, `SourceLaws` that each has at most one answer.
+#![tactic(auto)]
+
+mod levels;
+
+pub use levels::Level;

@@ -1,0 +1,5 @@
+mod ExprClasses
+mod StmtClasses
+mod SameLists
+mod Members
+mod Refuted

@@ -1,0 +1,10 @@
+use Rattle.std.proofs.Common.{sym}
+use Rattle.std.specs.Str.{chars}
+use Rattle.pyvalue.proofs.FaultLemmas.{with_nul, without_nul}
+use Rattle.pyvalue.proofs.faults.comment_fault.Goals as goal
+
+pub returns-then-has_nul : goal.returns-then-has_nul
+returns-then-has_nul c = sym (with_nul (chars c.args.text.now) (sym c.if-has_nul.ensures))
+
+pub returns-else-has_nul : goal.returns-else-has_nul
+returns-else-has_nul c = sym (without_nul (chars c.args.text.now) (sym c.if-has_nul.ensures))

@@ -1,0 +1,22 @@
+use Rattle.std.proofs.Common.{ℕ, List, sym, ap₂, ◌∙◌}
+use Rattle.std.specs.Str.{chars}
+use Rattle.pyvalue.specs.Inner.Readings.{whole_below}
+use Rattle.pyvalue.proofs.NumberLemmas.{answer_complex, answer_real, answer_some, answer_none}
+use Rattle.pyvalue.proofs.numbers.number_value.Goals as goal
+
+pub returns-then-is_complex : goal.returns-then-is_complex
+returns-then-is_complex c = sym (answer_complex (chars c.args.text.now) (sym c.if-is_complex.ensures))
+
+pub returns-then-is_real : goal.returns-then-is_real
+returns-then-is_real c = sym (answer_real (chars c.args.text.now) (sym c.if-is_complex.ensures) (sym c.if-is_real.ensures))
+
+pub returns-in-Some : goal.returns-in-Some
+returns-in-Some c =
+    let digits = ap₂ (λ (r : ℕ) (ds : List ℕ). whole_below r ds) (sym c.radix_of.ensures.value) (sym c.digits.ensures) in
+    sym (answer_some (chars c.args.text.now) c.in-Some.value (sym c.if-is_complex.ensures) (sym c.if-is_real.ensures)
+    (digits ∙ sym c.whole.ensures ∙ c.in-Some.is))
+
+pub returns-in-None : goal.returns-in-None
+returns-in-None c =
+    let digits = ap₂ (λ (r : ℕ) (ds : List ℕ). whole_below r ds) (sym c.radix_of.ensures.value) (sym c.digits.ensures) in
+    sym (answer_none (chars c.args.text.now) (sym c.if-is_complex.ensures) (sym c.if-is_real.ensures) (digits ∙ sym c.whole.ensures ∙ c.in-None.is))

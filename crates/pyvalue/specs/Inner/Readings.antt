@@ -1,0 +1,55 @@
+-- What the code reads of a token's text from a place on.
+use Rattle.std.specs.Prelude.{◌≡◌, ℕ, ◌+◌, ◌*◌, ◌^◌, ◌==◌, ◌&&◌, not, Bool, List, [], ◌∷◌, drop, filter, nat_lt, nat_le, Option, Some, None, if◌then◌else◌}
+use Rattle.std.specs.Char.{digit_value}
+use Rattle.std.specs.List.{flat_map}
+use Rattle.std.specs.Str.Parse.{digits_value}
+use Rattle.pylexeme.specs.Numbers.{is_x, is_o, is_b}
+use Rattle.pytoken.specs.declared.meanings.Meaning.{Meaning}
+use Rattle.pytoken.specs.NumberValues.{radix_of, is_no_underscore}
+use Rattle.pytoken.specs.Escapes.{Reading, reading, meanings, points_in}
+
+-- a reading was made of the front of a text: what it means, and what is left of the text
+pub record Takes (r : Reading) (old : List ℕ) (m : Meaning) (new : List ℕ) : Type 0 where
+  pub meaning : m ≡ r.meaning
+  pub behind : new ≡ drop r.more old
+
+-- the value of a digit at the front
+abbrev pub first_digit : ℕ → List ℕ → Option ℕ
+first_digit radix [] = None
+first_digit radix (c ∷ cs) = if nat_lt (digit_value c) radix then Some (digit_value c) else None
+
+abbrev pub first_meaning : Bool → Bool → List ℕ → Option Meaning
+first_meaning raw bytes [] = None
+first_meaning raw bytes (c ∷ cs) = Some (reading raw bytes c cs).meaning
+
+abbrev pub behind_meaning : Bool → Bool → List ℕ → List ℕ
+behind_meaning raw bytes [] = []
+behind_meaning raw bytes (c ∷ cs) = drop (reading raw bytes c cs).more cs
+
+-- the base of a number by the letter behind its leading 0
+abbrev pub radix_by : ℕ → ℕ
+radix_by c = if is_x c then 16 else (if is_o c then 8 else (if is_b c then 2 else 10))
+
+-- a number's digits, with underscores
+abbrev pub digits_behind : List ℕ → List ℕ
+digits_behind t = if radix_of t == 10 then t else drop 2 t
+
+-- a value with one more digit, unless it is past 2^128-1
+abbrev pub one_more : ℕ → ℕ → ℕ → Option ℕ
+one_more radix value c =
+    let n = if c == 95 then value else value * radix + digit_value c in
+    if nat_le (2 ^ 128) n then None else Some n
+
+-- the value of some digits, unless it is past 2^128-1
+abbrev pub whole_below : ℕ → List ℕ → Option ℕ
+whole_below radix ds =
+    let n = digits_value radix (filter is_no_underscore ds) in
+    if nat_le (2 ^ 128) n then None else Some n
+
+-- a character that stands for itself in each literal: ASCII, but no backslash and not U+0000
+abbrev pub is_plain : ℕ → Bool
+is_plain c = nat_le c 0x7F && (not (c == 92) && not (c == 0))
+
+-- the points of a literal's body
+abbrev pub body_points : Bool → Bool → List ℕ → List ℕ
+body_points raw bytes body = flat_map points_in (meanings raw bytes body)
