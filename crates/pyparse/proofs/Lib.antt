@@ -1,4 +1,4 @@
-pub use Rattle.pyvalue.proofs.Callers.TextLemmas
+pub use Rattle.pytoken.proofs.Callers.TextLemmas
 mod ListingLemmas
 mod RisingLemmas
 mod IndentLemmas

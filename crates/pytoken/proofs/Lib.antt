@@ -13,3 +13,4 @@ mod MarginWidths
 mod ValueRows
 mod TokenRows
 mod RefusalRows
+mod NameLemmas

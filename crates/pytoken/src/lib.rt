@@ -2,7 +2,8 @@
 //!
 //! Here stand the definitions alone, with the laws that tie them to the language, and the few
 //! types that they name: [`Keyword`], what an escape stands for ([`Meaning`]), and what may be
-//! wrong with a token ([`TokenError`]) or a source ([`Refusal`]). The code that reads tokens and
+//! wrong with a token ([`TokenError`]) or a source ([`Refusal`]). [`is_identifier`] tells which texts are
+//! names. The code that reads tokens and
 //! their values is `pyparse`'s.
 //!
 //! Python language reference, 2.3 "Identifiers and keywords" and 2.4 "Literals".
@@ -17,9 +18,11 @@
 mod faults;
 mod keywords;
 mod meanings;
+mod names;
 mod refusals;
 
 pub use faults::TokenError;
 pub use keywords::Keyword;
 pub use meanings::Meaning;
+pub use names::is_identifier;
 pub use refusals::Refusal;

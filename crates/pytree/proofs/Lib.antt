@@ -1,2 +1,1 @@
-mod IdentifierLemmas
 mod NameLemmas

@@ -20,7 +20,7 @@
 
 mod names;
 
-pub use names::{is_identifier, is_keyword, is_name};
+pub use names::{is_keyword, is_name};
 pub use pycopy::copy;
 pub use pydump::{Style, dump, dump_expr};
 pub use pygrammar::Level;
@@ -31,4 +31,4 @@ pub use pynode::{
     TypeParam, UnaryOperator,
 };
 pub use pysame::same;
-pub use pytoken::{Meaning, Refusal, TokenError};
+pub use pytoken::{Meaning, Refusal, TokenError, is_identifier};

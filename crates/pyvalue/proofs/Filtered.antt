@@ -7,7 +7,7 @@ use Rattle.std.proofs.lemmas.Bool.{eq-eqb, ne_eqb}
 use Rattle.std.proofs.lemmas.List.{take_at, drop_at}
 use Rattle.std.proofs.lemmas.List.Elements.{filter-append}
 use Rattle.std.proofs.lemmas.Str.{chars-nil, chars-append, chars_past_char, IsUtf8-drop, IsCharBoundary-from_take}
-use Rattle.pyvalue.proofs.Callers.TextLemmas.{past, no_chars}
+use Rattle.pytoken.proofs.Callers.TextLemmas.{past, no_chars}
 use Rattle.pytoken.specs.StringValues.{with_line_feeds, without_last}
 
 pub skipped : (bs rest : List ℕ) (c : ℕ) → IsUtf8 bs → bs ≡ encode_utf8 c ++ rest → c ≡ 13 → with_line_feeds (chars bs) ≡ with_line_feeds (chars rest)

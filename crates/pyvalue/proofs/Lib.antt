@@ -1,4 +1,3 @@
-pub mod Callers
 mod NameLemmas
 mod NumberLemmas
 mod DigitLemmas

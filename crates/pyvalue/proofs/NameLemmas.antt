@@ -1,24 +1,13 @@
--- Carries: is_name, form_fault, name_fault. On: names by their characters, and the tests of a form.
+-- Carries: form_fault, name_fault. On: the tests of a form.
 use Rattle.std.proofs.Common.{◌≡◌, ℕ, Bool, true, false, List, [], ◌∷◌, refl, sym, ap, Some, None, is_some}
 use Rattle.std.specs.Prelude.{◌&&◌, ◌↔◌, IsTrue}
-use Rattle.std.specs.List.{list_all}
 use Rattle.std.specs.Str.{chars}
 use Rattle.std.proofs.lemmas.Slice.Eq.{bytes_eq-Decides}
-use Rattle.unicode_ident.specs.Ident.{is_xid_continue}
 use Rattle.unicode_normalization.specs.Forms.{Nfkc, nfkc, is_in_form, IsInForm}
-use Rattle.pylexeme.specs.Chars.{starts_name}
 use Rattle.pylexeme.specs.Lexemes.{is_name}
 use Rattle.pytoken.specs.declared.faults.TokenError.TheVariants.{NameForm}
 use Rattle.pytoken.specs.Keywords.{keyword_of}
 use Rattle.pytoken.specs.NameValues.{form_fault, name_fault}
-
-pub spelled : (bs rest : List ℕ) (c : ℕ) → chars bs ≡ c ∷ chars rest → (starts_name c && list_all is_xid_continue (chars rest)) ≡ is_name (chars bs)
-unfolding is_name
-spelled bs rest c e = sym (ap is_name e)
-
-pub empty : (bs : List ℕ) → chars bs ≡ [] → false ≡ is_name (chars bs)
-unfolding is_name
-empty bs e = sym (ap is_name e)
 
 -- a test tells whether a text is its own form
 pub told : (b : Bool) (t : List ℕ) → IsTrue b ↔ IsInForm Nfkc t → b ≡ is_in_form Nfkc t

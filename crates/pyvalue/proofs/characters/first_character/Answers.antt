@@ -1,7 +1,7 @@
 use Rattle.std.proofs.Common.{ℕ, List, drop, slice_get, sym, ap, ◌∙◌}
 use Rattle.std.specs.Str.{chars}
 use Rattle.std.specs.Str.Iter.{chars_rest}
-use Rattle.pyvalue.proofs.Callers.TextLemmas.{Past, past}
+use Rattle.pytoken.proofs.Callers.TextLemmas.{Past, past}
 use Rattle.pytoken.specs.StringValues.{with_line_feeds}
 use Rattle.pyvalue.proofs.Filtered.{kept, skipped, nothing, nothing_left}
 use Rattle.pyvalue.proofs.characters.first_character.Goals as goal

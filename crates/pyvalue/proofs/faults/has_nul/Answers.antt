@@ -3,7 +3,7 @@ use Rattle.std.specs.List.{list_any}
 use Rattle.std.specs.Str.Iter.{chars_rest}
 use Rattle.std.specs.Prelude.{◌==◌}
 use Rattle.std.proofs.lemmas.Bool.{eq-eqb, ne_eqb}
-use Rattle.pyvalue.proofs.Callers.TextLemmas.{Past, past, no_chars, met, passed}
+use Rattle.pytoken.proofs.Callers.TextLemmas.{Past, past, no_chars, met, passed}
 use Rattle.pyvalue.proofs.faults.has_nul.Goals as goal
 
 pub returns-then-c-eq0 : goal.returns-then-c-eq0

@@ -1,7 +1,7 @@
 use Rattle.std.proofs.Common.{sym, ap, ◌∙◌}
 use Rattle.std.specs.Str.{chars}
 use Rattle.std.specs.Str.Iter.{chars_rest}
-use Rattle.pyvalue.proofs.Callers.TextLemmas.{Past, past, no_chars}
+use Rattle.pytoken.proofs.Callers.TextLemmas.{Past, past, no_chars}
 use Rattle.pyvalue.proofs.NumberLemmas.{behind_one, behind_both}
 use Rattle.pyvalue.proofs.numbers.behind_two.Goals as goal
 

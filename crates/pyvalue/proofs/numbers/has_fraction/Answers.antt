@@ -3,7 +3,7 @@ use Rattle.std.specs.List.{list_any}
 use Rattle.std.specs.Str.Iter.{chars_rest}
 use Rattle.std.specs.Prelude.{◌||◌}
 use Rattle.pylexeme.specs.Numbers.{is_point, is_e}
-use Rattle.pyvalue.proofs.Callers.TextLemmas.{Past, past, no_chars, met, passed}
+use Rattle.pytoken.proofs.Callers.TextLemmas.{Past, past, no_chars, met, passed}
 use Rattle.pyvalue.proofs.numbers.has_fraction.Goals as goal
 
 pub returns-then-is_of_float : goal.returns-then-is_of_float

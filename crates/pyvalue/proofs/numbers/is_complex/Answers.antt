@@ -2,7 +2,7 @@ use Rattle.std.proofs.Common.{sym, ap, ◌∙◌}
 use Rattle.std.specs.List.{list_any}
 use Rattle.std.specs.Str.Iter.{chars_rest}
 use Rattle.pylexeme.specs.Numbers.{is_j}
-use Rattle.pyvalue.proofs.Callers.TextLemmas.{Past, past, no_chars, met, passed}
+use Rattle.pytoken.proofs.Callers.TextLemmas.{Past, past, no_chars, met, passed}
 use Rattle.pyvalue.proofs.numbers.is_complex.Goals as goal
 
 pub returns-then-is_j : goal.returns-then-is_j

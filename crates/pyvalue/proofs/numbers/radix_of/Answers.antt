@@ -1,6 +1,6 @@
 use Rattle.std.proofs.Common.{sym, ◌∙◌}
 use Rattle.std.specs.Str.Iter.{chars_rest}
-use Rattle.pyvalue.proofs.Callers.TextLemmas.{Past, past, no_chars}
+use Rattle.pytoken.proofs.Callers.TextLemmas.{Past, past, no_chars}
 use Rattle.pyvalue.proofs.NumberLemmas.{radix_of_one, radix_of_two}
 use Rattle.pyvalue.proofs.numbers.radix_of.Goals as goal
 

@@ -1,6 +1,6 @@
 use Rattle.std.proofs.Common.{sym, ◌∙◌}
 use Rattle.std.specs.Str.Iter.{chars_rest}
-use Rattle.pyvalue.proofs.Callers.TextLemmas.{Past, past, no_chars}
+use Rattle.pytoken.proofs.Callers.TextLemmas.{Past, past, no_chars}
 use Rattle.pyvalue.proofs.NumberLemmas.{read_on, read_past, read_all}
 use Rattle.pyvalue.proofs.numbers.whole.Goals as goal
 

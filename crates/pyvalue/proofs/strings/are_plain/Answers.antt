@@ -2,7 +2,7 @@ use Rattle.std.proofs.Common.{sym, ap, ◌∙◌}
 use Rattle.std.specs.List.{list_all}
 use Rattle.std.specs.Str.Iter.{chars_rest}
 use Rattle.pyvalue.specs.Inner.Readings.{is_plain}
-use Rattle.pyvalue.proofs.Callers.TextLemmas.{Past, past, no_chars, stops, goes}
+use Rattle.pytoken.proofs.Callers.TextLemmas.{Past, past, no_chars, stops, goes}
 use Rattle.pyvalue.proofs.strings.are_plain.Goals as goal
 
 pub returns-then-not-is_plain : goal.returns-then-not-is_plain

@@ -1,8 +1,8 @@
 use Rattle.std.proofs.Common.{◌≡◌, sym, ap, ◌∙◌, List, ℕ, length, ◌++◌}
 use Rattle.std.specs.Char.{encode_utf8}
-use Rattle.pyvalue.proofs.Callers.TextLemmas.{Past, past, no_chars}
-use Rattle.pyvalue.proofs.NameLemmas.{spelled, empty}
-use Rattle.pyvalue.proofs.names.is_name.Goals as goal
+use Rattle.pytoken.proofs.Callers.TextLemmas.{Past, past, no_chars}
+use Rattle.pytoken.proofs.NameLemmas.{spelled, empty}
+use Rattle.pytoken.proofs.names.is_identifier.Goals as goal
 
 pub returns-in_default : goal.returns-in_default
 returns-in_default c = empty c.args.text.now (no_chars c.args.text.now (ap length (sym c.chars-left.ensures.rest) ∙ c.in_default.ensures.steps.0.0))

@@ -3,7 +3,7 @@ use Rattle.std.specs.List.{list_all}
 use Rattle.std.specs.Str.{chars, IsUtf8}
 use Rattle.std.specs.Str.Iter.{chars_rest}
 use Rattle.unicode_ident.specs.Ident.{is_xid_continue}
-use Rattle.pytree.proofs.names.goes_on.Given as goal
+use Rattle.pytoken.proofs.names.goes_on.Given as goal
 
 abbrev pub invariant-loop-c : goal.invariant-loop-c
 invariant-loop-c l = record {

@@ -2,8 +2,8 @@ use Rattle.std.proofs.Common.{sym, ap, ◌∙◌}
 use Rattle.std.specs.List.{list_all}
 use Rattle.std.specs.Str.Iter.{chars_rest}
 use Rattle.unicode_ident.specs.Ident.{is_xid_continue}
-use Rattle.pyvalue.proofs.Callers.TextLemmas.{Past, past, no_chars, stops, goes}
-use Rattle.pyvalue.proofs.names.goes_on.Goals as goal
+use Rattle.pytoken.proofs.Callers.TextLemmas.{Past, past, no_chars, stops, goes}
+use Rattle.pytoken.proofs.names.goes_on.Goals as goal
 
 pub returns-then-not-is_xid_continue : goal.returns-then-not-is_xid_continue
 returns-then-not-is_xid_continue c =
