@@ -14,6 +14,7 @@ pub mod Answered
 mod WorkedFirst
 mod WorkedSecond
 mod WorkedThird
+mod WorkedTypes
 mod DepthsFirst
 mod DepthsSecond
 mod DepthsThird
