@@ -23,3 +23,4 @@ mod DepthsThird
 mod DrawnFirst
 mod DrawnSecond
 mod DrawnThird
+mod DrawnTypes
