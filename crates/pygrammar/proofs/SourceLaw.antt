@@ -4,7 +4,7 @@ use Rattle.pygrammar.proofs.Line.Answered.{enough, read_or_not}
 use Rattle.pygrammar.proofs.Line.Depth.{at_depth}
 use Rattle.pygrammar.proofs.Line.Law.{one_form}
 use Rattle.pygrammar.proofs.Line.SoundLines.{exactly}
-use Rattle.pygrammar.proofs.Line.Stays.{form_stays}
+use Rattle.pygrammar.proofs.Line.Stays.{old_is_untyped}
 use Rattle.pygrammar.proofs.Block.Goes.{one_tree}
 use Rattle.pygrammar.proofs.Block.Law.{fault_or_tree, tree_faultless, one_first, no_first}
 use Rattle.pygrammar.proofs.Block.Answer.{one_answer, never_both, answer_stays}
@@ -15,7 +15,7 @@ lines_are_lawful = record {
   exact = exactly;
   decided = read_or_not;
   deep = λ profile d ts. (at_depth profile d ts, enough profile d ts);
-  stays = λ ts f p. form_stays p;
+  new = old_is_untyped;
 }
 
 pub blocks_are_lawful : BlocksAreLawful

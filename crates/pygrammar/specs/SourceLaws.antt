@@ -1,12 +1,12 @@
 -- What holds of logical lines, of their blocks, and of the answer for a source.
-use Rattle.std.specs.Prelude.{◌≡◌, ◌⊎◌, ◌↔◌, ℕ, ◌<◌, List, [], length}
+use Rattle.std.specs.Prelude.{◌≡◌, ◌⊎◌, ◌↔◌, ℕ, ◌<◌, true, List, [], length}
 use Rattle.pylex.specs.Listing.{Source}
 use Rattle.pynode.specs.declared.profiles.Profile.{Profile}
 use Rattle.pynode.specs.declared.profiles.Profile.TheVariants.{Py311, Py312}
 use Rattle.pynode.specs.Trees.{Stmt, Module}
 use Rattle.pytoken.specs.Terminals.{Terminal}
 use Rattle.pygrammar.specs.Reader.{Found, NoForm, TooDeep}
-use Rattle.pygrammar.specs.Lines.{Line, Form}
+use Rattle.pygrammar.specs.Lines.{Line, Form, untyped}
 use Rattle.pygrammar.specs.Forms.{FormOf}
 use Rattle.pygrammar.specs.LineReader.{read_line, read_line_to}
 use Rattle.pygrammar.specs.Blocks.{Block, Fault, FirstFault}
@@ -30,9 +30,9 @@ abbrev pub DepthIsKept : Type 0
 DepthIsKept = (profile : Profile) (d : ℕ) (ts : List Terminal) →
     ((read_line_to profile d ts ≡ TooDeep) ⊎ (read_line_to profile d ts ≡ read_line profile ts)) × (length ts < d → read_line_to profile d ts ≡ TooDeep → ⊥)
 
--- each form of Python 3.11 is one of 3.12
-abbrev pub FormsStay : Type 0
-FormsStay = (ts : List Terminal) (f : Form) → FormOf Py311 ts f → FormOf Py312 ts f
+-- the forms of Python 3.11 are those of 3.12 without types
+abbrev pub TypesAreNew : Type 0
+TypesAreNew = (ts : List Terminal) (f : Form) → FormOf Py311 ts f ↔ (FormOf Py312 ts f × (untyped f ≡ true))
 
 -- the laws of the forms of a line
 pub record LinesAreLawful : Type 0 where
@@ -40,7 +40,7 @@ pub record LinesAreLawful : Type 0 where
   pub exact : LineReaderIsExact
   pub decided : FormsAreDecided
   pub deep : DepthIsKept
-  pub stays : FormsStay
+  pub new : TypesAreNew
 
 -- lines have at most one tree
 abbrev pub TreesAreUnique : Type 0
