@@ -7,7 +7,7 @@ use Rattle.pygrammar.specs.Lines.{Line, line, Form, simple_form, decorator_form,
 use Rattle.pygrammar.specs.Blocks.{ExpectedIndent, UnexpectedIndent, MisplacedClause, Block, Body, Decorators, nothing, simple_line, inline, indented, no_decorator, decorator}
 use Rattle.pygrammar.specs.Reading.{Answer, Fine, Faulty, then, Group, Idle, Marked, closes, Part, part, meets, decorated, or_misplaced, place_header, Waiting, State, state, start, joined, settle_in, settle, place, placed, step, run, finish, read}
 use Rattle.pygrammar.proofs.Block.Steps.{popped}
-use Rattle.pygrammar.proofs.Block.Growing.{Prefix, block_to, closed_prefix, prefix_to, begins, whole, extends, behind, grows_by}
+use Rattle.pygrammar.proofs.Block.Growing.{Prefix, block_to, closed_prefix, prefix_to, begins, whole, extends, grows_by}
 
 -- ---- The lines behind a state.
 

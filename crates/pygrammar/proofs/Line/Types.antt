@@ -1,5 +1,5 @@
 -- Completeness for parameters of types, and for `type`.
-use Rattle.std.proofs.Common.{◌≡◌, refl, ap, ◌∙◌, ◌≤◌, arith, List, [], ◌∷◌, ◌++◌, Some, None, Bool, true, false, cond, append_assoc}
+use Rattle.std.proofs.Common.{◌≡◌, refl, ap, ◌∙◌, arith, List, [], ◌∷◌, ◌++◌, None, Bool, true, false, cond, append_assoc}
 use Rattle.pylexeme.specs.declared.kinds.Exact.TheVariants as Sign
 use Rattle.pynode.specs.declared.operators.Context.TheVariants.{Store}
 use Rattle.pynode.specs.declared.profiles.Profile.{Profile}
@@ -9,7 +9,7 @@ use Rattle.pynode.specs.Trees as Trees
 use Rattle.pytoken.specs.Terminals.{Terminal, Op, Ident}
 use Rattle.pygrammar.specs.Looks.{is_op}
 use Rattle.pygrammar.specs.Grammar as G
-use Rattle.pygrammar.specs.Reader.{Answer, Found}
+use Rattle.pygrammar.specs.Reader.{Found}
 use Rattle.pygrammar.proofs.Climb.{Stops}
 use Rattle.pygrammar.specs.Forms as F
 use Rattle.pygrammar.specs.Forms.{has_types, type_name}
