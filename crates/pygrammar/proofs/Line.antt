@@ -1,6 +1,7 @@
 pub mod Tools
 pub mod Imports
 pub mod Values
+pub mod Types
 pub mod Simple
 pub mod Headers
 pub mod SoundParts
@@ -11,12 +12,15 @@ pub mod SoundSimple
 pub mod SoundLines
 pub mod Depth
 pub mod Answered
+pub mod Stays
 mod WorkedFirst
 mod WorkedSecond
 mod WorkedThird
+mod WorkedTypes
 mod DepthsFirst
 mod DepthsSecond
 mod DepthsThird
 mod DrawnFirst
 mod DrawnSecond
 mod DrawnThird
+mod DrawnTypes

@@ -4,16 +4,18 @@ use Rattle.pygrammar.proofs.Line.Answered.{enough, read_or_not}
 use Rattle.pygrammar.proofs.Line.Depth.{at_depth}
 use Rattle.pygrammar.proofs.Line.Law.{one_form}
 use Rattle.pygrammar.proofs.Line.SoundLines.{exactly}
+use Rattle.pygrammar.proofs.Line.Stays.{old_is_untyped}
 use Rattle.pygrammar.proofs.Block.Goes.{one_tree}
 use Rattle.pygrammar.proofs.Block.Law.{fault_or_tree, tree_faultless, one_first, no_first}
-use Rattle.pygrammar.proofs.Block.Answer.{one_answer, never_both}
+use Rattle.pygrammar.proofs.Block.Answer.{one_answer, never_both, answer_stays}
 
 pub lines_are_lawful : LinesAreLawful
 lines_are_lawful = record {
-  unique = λ ts f g p q. one_form p q;
+  unique = λ profile ts f g p q. one_form p q;
   exact = exactly;
   decided = read_or_not;
-  deep = λ d ts. (at_depth d ts, enough d ts);
+  deep = λ profile d ts. (at_depth profile d ts, enough profile d ts);
+  new = old_is_untyped;
 }
 
 pub blocks_are_lawful : BlocksAreLawful
@@ -26,6 +28,7 @@ blocks_are_lawful = record {
 
 pub answers_are_lawful : AnswersAreLawful
 answers_are_lawful = record {
-  unique = λ s a b p q. one_answer p q;
-  apart = λ s m r p q. never_both p q;
+  unique = λ profile s a b p q. one_answer p q;
+  apart = λ profile s m r p q. never_both p q;
+  stays = λ s m p. answer_stays p;
 }

@@ -1,7 +1,7 @@
 -- The height of a form of a logical line: that of its highest expression, or 0 where it has none.
 use Rattle.std.specs.Prelude.{ℕ, max, Some, None}
 use Rattle.pynode.specs.Trees.{stmts}
-use Rattle.pyheight.specs.Heights.{height, option_height, list_height, item_heights, keyword_heights, arguments_height, highest_in_all}
+use Rattle.pyheight.specs.Heights.{height, option_height, list_height, item_heights, keyword_heights, arguments_height, type_param_heights, highest_in_all}
 use Rattle.pygrammar.specs.Lines.{Form, simple_form, decorator_form, header_form, Header, if_header, elif_header, else_header, loop_header, with_header, try_header, except_header, finally_header, def_header, while_head, for_head, function_head, class_head}
 
 abbrev pub header_height : Header → ℕ
@@ -14,8 +14,10 @@ header_height (with_header is_async items) = item_heights items
 header_height try_header = 0
 header_height (except_header star matched name) = option_height matched
 header_height finally_header = 0
-header_height (def_header (function_head is_async name args returns)) = max (arguments_height args) (option_height returns)
-header_height (def_header (class_head name bases keywords)) = max (list_height bases) (keyword_heights keywords)
+header_height (def_header (function_head is_async name parameters args returns)) =
+    max (type_param_heights parameters) (max (arguments_height args) (option_height returns))
+header_height (def_header (class_head name parameters bases keywords)) =
+    max (type_param_heights parameters) (max (list_height bases) (keyword_heights keywords))
 
 abbrev pub form_height : Form → ℕ
 form_height (simple_form ss) = highest_in_all (stmts ss)

@@ -1,15 +1,17 @@
--- The forms of a logical line (reference 7 and 8): which lists of terminals are which line, a constructor for each
+-- The forms of a logical line (reference 7 and 8): which lists of terminals are which line in a version of Python, a constructor for each
 -- alternative of the table. The NEWLINE is not part of the list.
-use Rattle.std.specs.Prelude.{◌≡◌, ℕ, ◌+◌, ◌<◌, List, [], ◌∷◌, ◌++◌, Option, Some, None, Bool, true, false}
+use Rattle.std.specs.Prelude.{◌≡◌, ℕ, ◌+◌, ◌<◌, List, [], ◌∷◌, ◌++◌, Option, Some, None, Bool, true, false, codes}
 use Rattle.pylexeme.specs.declared.kinds.Exact.{Exact}
 use Rattle.pylexeme.specs.declared.kinds.Exact.TheVariants as Sign
 use Rattle.pytoken.specs.declared.keywords.Keyword.TheVariants as Key
 use Rattle.pynode.specs.declared.operators.Operator.{Operator}
 use Rattle.pynode.specs.declared.operators.Operator.TheVariants as Bin
 use Rattle.pynode.specs.declared.operators.Context.TheVariants.{Store}
+use Rattle.pynode.specs.declared.profiles.Profile.{Profile}
+use Rattle.pynode.specs.declared.profiles.Profile.TheVariants.{Py311, Py312}
 use Rattle.pygrammar.specs.declared.levels.Level.{Level}
 use Rattle.pygrammar.specs.declared.levels.Level.TheVariants.{Value, Stars, Named, Expression}
-use Rattle.pynode.specs.Trees.{Expr, Exprs, no_exprs, an_expr, Arguments, Keywords, no_keyword, Identifier, Stmt, Alias, Item, Return, Delete, Assign, AugAssign, AnnAssign, Raise, Assert, Import, ImportFrom, Global, Nonlocal, ExprOf, Pass, Break, Continue}
+use Rattle.pynode.specs.Trees.{Expr, Exprs, no_exprs, an_expr, Arguments, Keywords, no_keyword, Identifier, Stmt, Alias, Item, TypeParam, TypeVar, ParamSpec, TypeVarTuple, Return, Delete, Assign, TypeAlias, AugAssign, AnnAssign, Raise, Assert, Import, ImportFrom, Global, Nonlocal, ExprOf, Pass, Break, Continue}
 use Rattle.pynode.specs.Trees as Trees
 use Rattle.pytoken.specs.Terminals.{Terminal, Op, Word, Ident}
 use Rattle.pygrammar.specs.Entries.{Argument, Parameter, Entry}
@@ -52,6 +54,29 @@ pub data Async : List Terminal → Bool → Type 0 where
 
 pub data Name : List Terminal → Identifier → Type 0 where
   name : {x : Identifier} → Name (Ident x ∷ []) x
+
+-- ---- Parameters of types.
+
+-- whether a version has parameters of types, and the statement `type`
+abbrev pub has_types : Profile → Bool
+has_types Py311 = false
+has_types Py312 = true
+
+-- `type` is no keyword
+abbrev pub type_name : Identifier
+type_name = codes "type"
+
+-- TypeParam = NAME [":" Expression] | "*" NAME | "**" NAME
+pub data TypeParamOf : List Terminal → TypeParam → Type 0 where
+  type_var : {x : Identifier} {ts : List Terminal} {bound : Option Expr} → Behind (Op Sign.Colon) Expression ts bound → TypeParamOf (Ident x ∷ ts) (TypeVar x bound)
+  type_var_tuple : {x : Identifier} → TypeParamOf (Op Sign.Star ∷ (Ident x ∷ [])) (TypeVarTuple x)
+  param_spec : {x : Identifier} → TypeParamOf (Op Sign.DoubleStar ∷ (Ident x ∷ [])) (ParamSpec x)
+
+-- ["[" TypeParam,.. [,] "]"]
+pub data TypeParams (profile : Profile) : List Terminal → List TypeParam → Type 0 where
+  no_type_params : TypeParams profile [] []
+  type_params : {ts : List Terminal} {ps : List TypeParam} → has_types profile ≡ true → Commas? TypeParam TypeParamOf ts ps →
+      TypeParams profile (Op Sign.LSqb ∷ (ts ++ (Op Sign.RSqb ∷ []))) ps
 
 -- ---- Imports.
 
@@ -111,63 +136,67 @@ pub data Targets : List Terminal → List Expr → Type 0 where
   last_target : {ts : List Terminal} {e : Expr} → Target ts e → Targets (ts ++ (Op Sign.Equal ∷ [])) (e ∷ [])
   more_targets : {ts us : List Terminal} {e : Expr} {es : List Expr} → Target ts e → Targets us es → Targets (ts ++ (Op Sign.Equal ∷ us)) (e ∷ es)
 
-pub data Simple : List Terminal → Stmt → Type 0 where
+pub data Simple (profile : Profile) : List Terminal → Stmt → Type 0 where
   -- Value
-  value : {ts : List Terminal} {e : Expr} → Derives Value ts e → Simple ts (ExprOf e)
+  value : {ts : List Terminal} {e : Expr} → Derives Value ts e → Simple profile ts (ExprOf e)
   -- (Target "=")+ Value
   assign : {ts us : List Terminal} {targets : List Expr} {e : Expr} →
-      Targets ts targets → Derives Value us e → Simple (ts ++ us) (Assign targets e)
+      Targets ts targets → Derives Value us e → Simple profile (ts ++ us) (Assign targets e)
   -- SingleTarget augmented Value
   augmented_assign : {ts us : List Terminal} (x : Exact) {o : Operator} {t e : Expr} →
-      SingleTarget ts t → augmented x ≡ Some o → Derives Value us e → Simple (ts ++ (Op x ∷ us)) (AugAssign t o e)
+      SingleTarget ts t → augmented x ≡ Some o → Derives Value us e → Simple profile (ts ++ (Op x ∷ us)) (AugAssign t o e)
   -- NAME ":" Expression ["=" Value]
   annotated_name : {x : Identifier} {ts us : List Terminal} {a : Expr} {v : Option Expr} →
       Derives Expression ts a → Behind (Op Sign.Equal) Value us v →
-      Simple (Ident x ∷ (Op Sign.Colon ∷ (ts ++ us))) (AnnAssign (Trees.Name x Store) a v true)
+      Simple profile (Ident x ∷ (Op Sign.Colon ∷ (ts ++ us))) (AnnAssign (Trees.Name x Store) a v true)
   -- "(" SingleTarget ")" ":" Expression ["=" Value]
   annotated_group : {ts us vs : List Terminal} {t a : Expr} {v : Option Expr} →
       SingleTarget ts t → Derives Expression us a → Behind (Op Sign.Equal) Value vs v →
-      Simple (Op Sign.LPar ∷ (ts ++ (Op Sign.RPar ∷ (Op Sign.Colon ∷ (us ++ vs))))) (AnnAssign t a v false)
+      Simple profile (Op Sign.LPar ∷ (ts ++ (Op Sign.RPar ∷ (Op Sign.Colon ∷ (us ++ vs))))) (AnnAssign t a v false)
   -- Attribute or Subscript ":" Expression ["=" Value]
   annotated_part : {ts us vs : List Terminal} {t a : Expr} {v : Option Expr} →
       SingleTarget ts t → is_name t ≡ false → Derives Expression us a → Behind (Op Sign.Equal) Value vs v →
-      Simple (ts ++ (Op Sign.Colon ∷ (us ++ vs))) (AnnAssign t a v false)
+      Simple profile (ts ++ (Op Sign.Colon ∷ (us ++ vs))) (AnnAssign t a v false)
+  -- "type" NAME [TypeParams] "=" Expression
+  type_alias : {x : Identifier} {ts us : List Terminal} {ps : List TypeParam} {e : Expr} →
+      has_types profile ≡ true → TypeParams profile ts ps → Derives Expression us e →
+      Simple profile (Ident type_name ∷ (Ident x ∷ (ts ++ (Op Sign.Equal ∷ us)))) (TypeAlias (Trees.Name x Store) ps e)
   -- "return" [Stars]
-  return_of : {ts : List Terminal} {e : Option Expr} → Perhaps Stars ts e → Simple (Word Key.Return ∷ ts) (Return e)
+  return_of : {ts : List Terminal} {e : Option Expr} → Perhaps Stars ts e → Simple profile (Word Key.Return ∷ ts) (Return e)
   -- "raise" [Expression ["from" Expression]], without them
-  raise_alone : Simple (Word Key.Raise ∷ []) (Raise None None)
+  raise_alone : Simple profile (Word Key.Raise ∷ []) (Raise None None)
   -- "raise" [Expression ["from" Expression]], with the first
   raise_of : {ts us : List Terminal} {e : Expr} {c : Option Expr} →
-      Derives Expression ts e → Behind (Word Key.From) Expression us c → Simple (Word Key.Raise ∷ (ts ++ us)) (Raise (Some e) c)
+      Derives Expression ts e → Behind (Word Key.From) Expression us c → Simple profile (Word Key.Raise ∷ (ts ++ us)) (Raise (Some e) c)
   -- "assert" Expression ["," Expression]
   assert_of : {ts us : List Terminal} {e : Expr} {m : Option Expr} →
-      Derives Expression ts e → Behind (Op Sign.Comma) Expression us m → Simple (Word Key.Assert ∷ (ts ++ us)) (Assert e m)
+      Derives Expression ts e → Behind (Op Sign.Comma) Expression us m → Simple profile (Word Key.Assert ∷ (ts ++ us)) (Assert e m)
   -- "del" DelTarget,.. [,]
-  delete : {ts : List Terminal} {es : List Expr} → Commas? Expr DelTarget ts es → Simple (Word Key.Del ∷ ts) (Delete es)
+  delete : {ts : List Terminal} {es : List Expr} → Commas? Expr DelTarget ts es → Simple profile (Word Key.Del ∷ ts) (Delete es)
   -- "global" NAME,..
-  global : {ts : List Terminal} {xs : List Identifier} → Commas Identifier Name ts xs → Simple (Word Key.Global ∷ ts) (Global xs)
+  global : {ts : List Terminal} {xs : List Identifier} → Commas Identifier Name ts xs → Simple profile (Word Key.Global ∷ ts) (Global xs)
   -- "nonlocal" NAME,..
-  nonlocal : {ts : List Terminal} {xs : List Identifier} → Commas Identifier Name ts xs → Simple (Word Key.Nonlocal ∷ ts) (Nonlocal xs)
+  nonlocal : {ts : List Terminal} {xs : List Identifier} → Commas Identifier Name ts xs → Simple profile (Word Key.Nonlocal ∷ ts) (Nonlocal xs)
   -- "pass"
-  pass : Simple (Word Key.Pass ∷ []) Pass
+  pass : Simple profile (Word Key.Pass ∷ []) Pass
   -- "break"
-  break : Simple (Word Key.Break ∷ []) Break
+  break : Simple profile (Word Key.Break ∷ []) Break
   -- "continue"
-  continue : Simple (Word Key.Continue ∷ []) Continue
+  continue : Simple profile (Word Key.Continue ∷ []) Continue
   -- "import" (Dotted ["as" NAME]),..
-  import_names : {ts : List Terminal} {as_ : List Alias} → Commas Alias DottedAlias ts as_ → Simple (Word Key.Import ∷ ts) (Import as_)
+  import_names : {ts : List Terminal} {as_ : List Alias} → Commas Alias DottedAlias ts as_ → Simple profile (Word Key.Import ∷ ts) (Import as_)
   -- "from" ("." | "...")* Dotted "import" Names
   from_module : {ts us vs : List Terminal} {n : ℕ} {m : Identifier} {as_ : List Alias} →
-      Dots ts n → Dotted us m → Names vs as_ → Simple (Word Key.From ∷ (ts ++ (us ++ (Word Key.Import ∷ vs)))) (ImportFrom (Some m) as_ n)
+      Dots ts n → Dotted us m → Names vs as_ → Simple profile (Word Key.From ∷ (ts ++ (us ++ (Word Key.Import ∷ vs)))) (ImportFrom (Some m) as_ n)
   -- "from" ("." | "...")+ "import" Names
   from_dots : {ts vs : List Terminal} {n : ℕ} {as_ : List Alias} →
-      Dots ts n → 0 < n → Names vs as_ → Simple (Word Key.From ∷ (ts ++ (Word Key.Import ∷ vs))) (ImportFrom None as_ n)
+      Dots ts n → 0 < n → Names vs as_ → Simple profile (Word Key.From ∷ (ts ++ (Word Key.Import ∷ vs))) (ImportFrom None as_ n)
 
 -- simple statements with `;` between and perhaps one at the end
-pub data Simples : List Terminal → List Stmt → Type 0 where
-  last_simple : {ts : List Terminal} {s : Stmt} → Simple ts s → Simples ts (s ∷ [])
-  ended_simple : {ts : List Terminal} {s : Stmt} → Simple ts s → Simples (ts ++ (Op Sign.Semi ∷ [])) (s ∷ [])
-  more_simples : {ts us : List Terminal} {s : Stmt} {ss : List Stmt} → Simple ts s → Simples us ss → Simples (ts ++ (Op Sign.Semi ∷ us)) (s ∷ ss)
+pub data Simples (profile : Profile) : List Terminal → List Stmt → Type 0 where
+  last_simple : {ts : List Terminal} {s : Stmt} → Simple profile ts s → Simples profile ts (s ∷ [])
+  ended_simple : {ts : List Terminal} {s : Stmt} → Simple profile ts s → Simples profile (ts ++ (Op Sign.Semi ∷ [])) (s ∷ [])
+  more_simples : {ts us : List Terminal} {s : Stmt} {ss : List Stmt} → Simple profile ts s → Simples profile us ss → Simples profile (ts ++ (Op Sign.Semi ∷ us)) (s ∷ ss)
 
 -- ---- Headers, up to their colon.
 
@@ -198,49 +227,49 @@ pub data Bases : List Terminal → List Expr → Keywords → Type 0 where
   bases : {ts : List Terminal} {es : List Entry} → Listing Argument ts es → in_order false false es ≡ true →
       Bases (Op Sign.LPar ∷ (ts ++ (Op Sign.RPar ∷ []))) (listed (positional es)) (keywords es)
 
-pub data HeaderOf : List Terminal → Header → Type 0 where
+pub data HeaderOf (profile : Profile) : List Terminal → Header → Type 0 where
   -- "if" Named
-  if_line : {ts : List Terminal} {e : Expr} → Derives Named ts e → HeaderOf (Word Key.If ∷ ts) (if_header e)
+  if_line : {ts : List Terminal} {e : Expr} → Derives Named ts e → HeaderOf profile (Word Key.If ∷ ts) (if_header e)
   -- "elif" Named
-  elif_line : {ts : List Terminal} {e : Expr} → Derives Named ts e → HeaderOf (Word Key.Elif ∷ ts) (elif_header e)
+  elif_line : {ts : List Terminal} {e : Expr} → Derives Named ts e → HeaderOf profile (Word Key.Elif ∷ ts) (elif_header e)
   -- "else"
-  else_line : HeaderOf (Word Key.Else ∷ []) else_header
+  else_line : HeaderOf profile (Word Key.Else ∷ []) else_header
   -- "while" Named
-  while_line : {ts : List Terminal} {e : Expr} → Derives Named ts e → HeaderOf (Word Key.While ∷ ts) (loop_header (while_head e))
+  while_line : {ts : List Terminal} {e : Expr} → Derives Named ts e → HeaderOf profile (Word Key.While ∷ ts) (loop_header (while_head e))
   -- ["async"] "for" Target "in" Stars
   for_line : {ts us vs : List Terminal} {b : Bool} {t e : Expr} → Async ts b → Target us t → Derives Stars vs e →
-      HeaderOf (ts ++ (Word Key.For ∷ (us ++ (Word Key.In ∷ vs)))) (loop_header (for_head b t e))
+      HeaderOf profile (ts ++ (Word Key.For ∷ (us ++ (Word Key.In ∷ vs)))) (loop_header (for_head b t e))
   -- ["async"] "with" Items
-  with_line : {ts us : List Terminal} {b : Bool} {is : List Item} → Async ts b → Items us is → HeaderOf (ts ++ (Word Key.With ∷ us)) (with_header b is)
+  with_line : {ts us : List Terminal} {b : Bool} {is : List Item} → Async ts b → Items us is → HeaderOf profile (ts ++ (Word Key.With ∷ us)) (with_header b is)
   -- "try"
-  try_line : HeaderOf (Word Key.Try ∷ []) try_header
+  try_line : HeaderOf profile (Word Key.Try ∷ []) try_header
   -- "finally"
-  finally_line : HeaderOf (Word Key.Finally ∷ []) finally_header
+  finally_line : HeaderOf profile (Word Key.Finally ∷ []) finally_header
   -- "except" [Expression ["as" NAME]], without the Expression
-  except_all : HeaderOf (Word Key.Except ∷ []) (except_header false None None)
+  except_all : HeaderOf profile (Word Key.Except ∷ []) (except_header false None None)
   -- "except" [Expression ["as" NAME]], with it
   except_line : {ts us : List Terminal} {e : Expr} {x : Option Identifier} → Derives Expression ts e → As us x →
-      HeaderOf (Word Key.Except ∷ (ts ++ us)) (except_header false (Some e) x)
+      HeaderOf profile (Word Key.Except ∷ (ts ++ us)) (except_header false (Some e) x)
   -- "except" "*" Expression ["as" NAME]
   except_star : {ts us : List Terminal} {e : Expr} {x : Option Identifier} → Derives Expression ts e → As us x →
-      HeaderOf (Word Key.Except ∷ (Op Sign.Star ∷ (ts ++ us))) (except_header true (Some e) x)
-  -- ["async"] "def" NAME "(" [Params] ")" ["->" Expression]
-  def_line : {ts us vs : List Terminal} {b : Bool} (x : Identifier) {ps : List Entry} {a : Arguments} {r : Option Expr} →
-      Async ts b → Listing (Parameter true) us ps → arranged ps ≡ Some a → Behind (Op Sign.RArrow) Expression vs r →
-      HeaderOf (ts ++ (Word Key.Def ∷ (Ident x ∷ (Op Sign.LPar ∷ (us ++ (Op Sign.RPar ∷ vs)))))) (def_header (function_head b x a r))
-  -- "class" NAME ["(" [Args] ")"]
-  class_line : {x : Identifier} {ts : List Terminal} {es : List Expr} {ks : Keywords} → Bases ts es ks →
-      HeaderOf (Word Key.Class ∷ (Ident x ∷ ts)) (def_header (class_head x es ks))
+      HeaderOf profile (Word Key.Except ∷ (Op Sign.Star ∷ (ts ++ us))) (except_header true (Some e) x)
+  -- ["async"] "def" NAME [TypeParams] "(" [Params] ")" ["->" Expression]
+  def_line : {ts us vs ws : List Terminal} {b : Bool} (x : Identifier) {tps : List TypeParam} {ps : List Entry} {a : Arguments} {r : Option Expr} →
+      Async ts b → TypeParams profile us tps → Listing (Parameter true) vs ps → arranged ps ≡ Some a → Behind (Op Sign.RArrow) Expression ws r →
+      HeaderOf profile (ts ++ (Word Key.Def ∷ (Ident x ∷ (us ++ (Op Sign.LPar ∷ (vs ++ (Op Sign.RPar ∷ ws))))))) (def_header (function_head b x tps a r))
+  -- "class" NAME [TypeParams] ["(" [Args] ")"]
+  class_line : {x : Identifier} {ts us : List Terminal} {tps : List TypeParam} {es : List Expr} {ks : Keywords} →
+      TypeParams profile ts tps → Bases us es ks → HeaderOf profile (Word Key.Class ∷ (Ident x ∷ (ts ++ us))) (def_header (class_head x tps es ks))
 
 -- ---- Lines.
 
-pub data FormOf : List Terminal → Form → Type 0 where
+pub data FormOf (profile : Profile) : List Terminal → Form → Type 0 where
   -- simple statements, with `;` between and perhaps one at the end
-  simple_statements : {ts : List Terminal} {ss : List Stmt} → Simples ts ss → FormOf ts (simple_form ss)
+  simple_statements : {ts : List Terminal} {ss : List Stmt} → Simples profile ts ss → FormOf profile ts (simple_form ss)
   -- "@" Named
-  decorator_line : {ts : List Terminal} {e : Expr} → Derives Named ts e → FormOf (Op Sign.At ∷ ts) (decorator_form e)
+  decorator_line : {ts : List Terminal} {e : Expr} → Derives Named ts e → FormOf profile (Op Sign.At ∷ ts) (decorator_form e)
   -- a header and its colon, nothing behind it
-  header_line : {ts : List Terminal} {h : Header} → HeaderOf ts h → FormOf (ts ++ (Op Sign.Colon ∷ [])) (header_form h None)
+  header_line : {ts : List Terminal} {h : Header} → HeaderOf profile ts h → FormOf profile (ts ++ (Op Sign.Colon ∷ [])) (header_form h None)
   -- a header, its colon and an inline suite
-  header_suite : {ts us : List Terminal} {h : Header} {ss : List Stmt} → HeaderOf ts h → Simples us ss →
-      FormOf (ts ++ (Op Sign.Colon ∷ us)) (header_form h (Some ss))
+  header_suite : {ts us : List Terminal} {h : Header} {ss : List Stmt} → HeaderOf profile ts h → Simples profile us ss →
+      FormOf profile (ts ++ (Op Sign.Colon ∷ us)) (header_form h (Some ss))

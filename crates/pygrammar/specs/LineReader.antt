@@ -1,12 +1,14 @@
 -- The plain reader of one logical line: which form its terminals are, by the first word and by small looks ahead.
 use Rattle.std.specs.Prelude.{ℕ, zero, suc, ◌+◌, List, [], ◌∷◌, ◌++◌, Option, Some, None, length, Bool, true, false, cond, leb}
+use Rattle.std.specs.Str.{bytes_eq}
 use Rattle.pylexeme.specs.declared.kinds.Exact.TheVariants as Sign
 use Rattle.pytoken.specs.declared.keywords.Keyword.TheVariants as Key
 use Rattle.pynode.specs.declared.operators.Operator.{Operator}
 use Rattle.pynode.specs.declared.operators.Context.TheVariants.{Load, Store}
+use Rattle.pynode.specs.declared.profiles.Profile.{Profile}
 use Rattle.pygrammar.specs.declared.levels.Level.{Level}
 use Rattle.pygrammar.specs.declared.levels.Level.TheVariants.{Value, Stars, Named, Expression}
-use Rattle.pynode.specs.Trees.{Expr, Arguments, Keywords, no_keyword, Identifier, Stmt, Alias, Item, Return, Delete, Assign, AugAssign, AnnAssign, Raise, Assert, Import, ImportFrom, Global, Nonlocal, ExprOf, Pass, Break, Continue}
+use Rattle.pynode.specs.Trees.{Expr, Arguments, Keywords, no_keyword, Identifier, Stmt, Alias, Item, TypeParam, TypeVar, ParamSpec, TypeVarTuple, Return, Delete, Assign, TypeAlias, AugAssign, AnnAssign, Raise, Assert, Import, ImportFrom, Global, Nonlocal, ExprOf, Pass, Break, Continue}
 use Rattle.pynode.specs.Trees as Trees
 use Rattle.pytoken.specs.Terminals.{Terminal, Op, Word, Ident}
 use Rattle.pygrammar.specs.Looks.{is_op, is_word, name_in}
@@ -17,7 +19,7 @@ use Rattle.pygrammar.specs.Targets.{stored, deleted, single_stored}
 use Rattle.pygrammar.specs.Reader.{Answer, Found, NoForm, TooDeep, and_then, on_some, on_first, on_name_with, closed, made, Reads, listing_of, read_target, read}
 use Rattle.pygrammar.specs.Precedence.{starts}
 use Rattle.pygrammar.specs.Lines.{Form, simple_form, decorator_form, header_form, Header, if_header, elif_header, else_header, loop_header, with_header, try_header, except_header, finally_header, def_header, while_head, for_head, function_head, class_head}
-use Rattle.pygrammar.specs.Forms.{alias, augmented, item, listed}
+use Rattle.pygrammar.specs.Forms.{alias, has_types, type_name, augmented, item, listed}
 
 -- ---- Parts.
 
@@ -40,6 +42,21 @@ same_as t = λ u. None
 abbrev pub starts_name : List Terminal → Bool
 starts_name (Ident x ∷ r) = true
 starts_name r = false
+
+-- the word `type`, which is no keyword
+abbrev pub is_type : Terminal → Option ℕ
+is_type (Ident x) = cond (bytes_eq x type_name) (Some 0) None
+is_type t = None
+
+-- `type` and a NAME, in a version that has types: no expression begins so
+abbrev pub on_type : {A : Type 0} → Profile → List Terminal → (Identifier → List Terminal → A) → A → A
+on_type profile i hit miss = cond (has_types profile) (on_first is_type i (λ _ r. on_first name_in r hit miss) miss) miss
+
+abbrev pub starts_type_param : List Terminal → Bool
+starts_type_param (Ident x ∷ r) = true
+starts_type_param (Op Sign.Star ∷ r) = true
+starts_type_param (Op Sign.DoubleStar ∷ r) = true
+starts_type_param r = false
 
 abbrev pub always : List Terminal → Bool
 always r = true
@@ -159,13 +176,31 @@ module _ (self : Reads) where
   abbrev pub deleted_one : List Terminal → Answer Expr
   deleted_one i = and_then (self Expression i) (λ e r. made (deleted e) r)
 
+  abbrev pub read_type_param : List Terminal → Answer TypeParam
+  read_type_param i =
+      on_first name_in i (λ x r. and_then (after (Op Sign.Colon) Expression r) (λ bound r1. Found (TypeVar x bound) r1))
+      (on_first (is_op Sign.Star) i (λ _ r. on_first name_in r (λ x r1. Found (TypeVarTuple x) r1) NoForm)
+      (on_first (is_op Sign.DoubleStar) i (λ _ r. on_first name_in r (λ x r1. Found (ParamSpec x) r1) NoForm) NoForm))
+
+  abbrev pub bracketed_type_params : List Terminal → Answer (List TypeParam)
+  bracketed_type_params i = on_first (is_op Sign.LSqb) i (λ _ r. and_then (commas_of read_type_param starts_type_param r) (λ ps r1. closed Sign.RSqb r1 ps)) (Found [] i)
+
+module _ (profile : Profile) (self : Reads) where
+  -- [TypeParams]
+  abbrev pub read_type_params : List Terminal → Answer (List TypeParam)
+  read_type_params i = cond (has_types profile) (bracketed_type_params self i) (Found [] i)
+
+  -- behind `type` and the NAME
+  abbrev pub alias_rest : Identifier → List Terminal → Answer Stmt
+  alias_rest x i = and_then (read_type_params i) (λ ps r. on_first (is_op Sign.Equal) r (λ _ r1. and_then (self Expression r1) (λ e r2. Found (TypeAlias (Trees.Name x Store) ps e) r2)) NoForm)
+
   -- r are the terminals behind the first
   abbrev pub statement_of : Start → (i r : List Terminal) → Answer Stmt
-  statement_of Values i r = value_statement i
-  statement_of Returns i r = and_then (if_any Stars r) (λ e r1. Found (Return e) r1)
-  statement_of Raises i r = cond (starts (Of Expression) r) (and_then (self Expression r) (λ e r1. and_then (after (Word Key.From) Expression r1) (λ c r2. Found (Raise (Some e) c) r2))) (Found (Raise None None) r)
-  statement_of Asserts i r = and_then (self Expression r) (λ e r1. and_then (after (Op Sign.Comma) Expression r1) (λ m r2. Found (Assert e m) r2))
-  statement_of Deletes i r = and_then (commas_of deleted_one (starts (Of Expression)) r) (λ es r1. Found (Delete es) r1)
+  statement_of Values i r = on_type profile i alias_rest (value_statement self i)
+  statement_of Returns i r = and_then (if_any self Stars r) (λ e r1. Found (Return e) r1)
+  statement_of Raises i r = cond (starts (Of Expression) r) (and_then (self Expression r) (λ e r1. and_then (after self (Word Key.From) Expression r1) (λ c r2. Found (Raise (Some e) c) r2))) (Found (Raise None None) r)
+  statement_of Asserts i r = and_then (self Expression r) (λ e r1. and_then (after self (Op Sign.Comma) Expression r1) (λ m r2. Found (Assert e m) r2))
+  statement_of Deletes i r = and_then (commas_of (deleted_one self) (starts (Of Expression)) r) (λ es r1. Found (Delete es) r1)
   statement_of Globals i r = and_then (commas_of read_name always r) (λ xs r1. Found (Global xs) r1)
   statement_of Nonlocals i r = and_then (commas_of read_name always r) (λ xs r1. Found (Nonlocal xs) r1)
   statement_of Passes i r = Found Pass r
@@ -183,8 +218,9 @@ module _ (self : Reads) where
   statements zero i = NoForm
   statements (suc n) i = and_then (statement i) (λ s r. on_first (is_op Sign.Semi) r (λ _ r1. on_none r1 (Found (s ∷ []) []) (and_then (statements n r1) (λ ss r2. Found (s ∷ ss) r2))) (Found (s ∷ []) r))
 
-  -- ---- Headers.
+-- ---- Headers.
 
+module _ (self : Reads) where
   abbrev pub item_target : List Terminal → Answer Expr
   item_target i = on_first (is_op Sign.Star) i (λ _ r. and_then (self Expression r) (λ e r1. made (stored (Trees.Starred e Load)) r1)) (and_then (self Expression i) (λ e r. made (stored e) r))
 
@@ -205,32 +241,41 @@ module _ (self : Reads) where
   abbrev pub with_rest : Bool → List Terminal → Answer Header
   with_rest b i = and_then (read_items i) (λ is r. Found (with_header b is) r)
 
-  abbrev pub def_rest : Bool → List Terminal → Answer Header
-  def_rest b i = on_name_with Sign.LPar i (λ x r. and_then (listing_of self (Parameter true) [] r) (λ ps r1. on_first (is_op Sign.RPar) r1 (λ _ r2. on_some (arranged ps) (λ a. and_then (after (Op Sign.RArrow) Expression r2) (λ e r3. Found (def_header (function_head b x a e)) r3)) NoForm) NoForm)) NoForm
-
-  abbrev pub class_rest : List Terminal → Answer Header
-  class_rest i = on_first name_in i (λ x r. on_first (is_op Sign.LPar) r (λ _ r1. and_then (listing_of self Argument [] r1) (λ es r2. on_first (is_op Sign.RPar) r2 (λ _ r3. cond (in_order false false es) (Found (def_header (class_head x (listed (positional es)) (keywords es))) r3) NoForm) NoForm)) (Found (def_header (class_head x [] no_keyword)) r)) NoForm
-
   abbrev pub except_of : Bool → List Terminal → Answer Header
   except_of b i = and_then (self Expression i) (λ e r. and_then (read_as r) (λ x r1. Found (except_header b (Some e) x) r1))
 
   abbrev pub except_rest : List Terminal → Answer Header
   except_rest i = on_first (is_op Sign.Star) i (λ _ r. except_of true r) (cond (starts (Of Expression) i) (except_of false i) (Found (except_header false None None) i))
 
+  -- behind `def`, its NAME and the parameters of types
+  abbrev pub function_rest : Bool → Identifier → List TypeParam → List Terminal → Answer Header
+  function_rest b x tps i = on_first (is_op Sign.LPar) i (λ _ r. and_then (listing_of self (Parameter true) [] r) (λ ps r1. on_first (is_op Sign.RPar) r1 (λ _ r2. on_some (arranged ps) (λ a. and_then (after self (Op Sign.RArrow) Expression r2) (λ e r3. Found (def_header (function_head b x tps a e)) r3)) NoForm) NoForm)) NoForm
+
+  -- behind `class`, its NAME and the parameters of types
+  abbrev pub bases_rest : Identifier → List TypeParam → List Terminal → Answer Header
+  bases_rest x tps i = on_first (is_op Sign.LPar) i (λ _ r. and_then (listing_of self Argument [] r) (λ es r1. on_first (is_op Sign.RPar) r1 (λ _ r2. cond (in_order false false es) (Found (def_header (class_head x tps (listed (positional es)) (keywords es))) r2) NoForm) NoForm)) (Found (def_header (class_head x tps [] no_keyword)) i)
+
+module _ (profile : Profile) (self : Reads) where
+  abbrev pub def_rest : Bool → List Terminal → Answer Header
+  def_rest b i = on_first name_in i (λ x r. and_then (read_type_params profile self r) (λ tps r1. function_rest self b x tps r1)) NoForm
+
+  abbrev pub class_rest : List Terminal → Answer Header
+  class_rest i = on_first name_in i (λ x r. and_then (read_type_params profile self r) (λ tps r1. bases_rest self x tps r1)) NoForm
+
   abbrev pub read_header : List Terminal → Answer Header
   read_header (Word Key.If ∷ r) = and_then (self Named r) (λ e r1. Found (if_header e) r1)
   read_header (Word Key.Elif ∷ r) = and_then (self Named r) (λ e r1. Found (elif_header e) r1)
   read_header (Word Key.Else ∷ r) = Found else_header r
   read_header (Word Key.While ∷ r) = and_then (self Named r) (λ e r1. Found (loop_header (while_head e)) r1)
-  read_header (Word Key.For ∷ r) = for_rest false r
-  read_header (Word Key.With ∷ r) = with_rest false r
+  read_header (Word Key.For ∷ r) = for_rest self false r
+  read_header (Word Key.With ∷ r) = with_rest self false r
   read_header (Word Key.Try ∷ r) = Found try_header r
   read_header (Word Key.Finally ∷ r) = Found finally_header r
-  read_header (Word Key.Except ∷ r) = except_rest r
+  read_header (Word Key.Except ∷ r) = except_rest self r
   read_header (Word Key.Def ∷ r) = def_rest false r
   read_header (Word Key.Class ∷ r) = class_rest r
-  read_header (Word Key.Async ∷ (Word Key.For ∷ r)) = for_rest true r
-  read_header (Word Key.Async ∷ (Word Key.With ∷ r)) = with_rest true r
+  read_header (Word Key.Async ∷ (Word Key.For ∷ r)) = for_rest self true r
+  read_header (Word Key.Async ∷ (Word Key.With ∷ r)) = with_rest self true r
   read_header (Word Key.Async ∷ (Word Key.Def ∷ r)) = def_rest true r
   read_header i = NoForm
 
@@ -258,17 +303,17 @@ kind (Word Key.Class) = Heads
 kind (Word Key.Async) = Heads
 kind t = States
 
-module _ (self : Reads) where
+module _ (profile : Profile) (self : Reads) where
   -- behind a header's colon
   abbrev pub suite : Header → List Terminal → Answer Form
   suite h [] = Found (header_form h None) []
-  suite h (t ∷ r) = and_then (statements self (suc (length (t ∷ r))) (t ∷ r)) (λ ss r1. Found (header_form h (Some ss)) r1)
+  suite h (t ∷ r) = and_then (statements profile self (suc (length (t ∷ r))) (t ∷ r)) (λ ss r1. Found (header_form h (Some ss)) r1)
 
   -- r are the terminals behind the first
   abbrev pub line_of : Kind → (i r : List Terminal) → Answer Form
   line_of Decorates i r = and_then (self Named r) (λ e r1. Found (decorator_form e) r1)
-  line_of Heads i r = and_then (read_header self i) (λ h r1. on_first (is_op Sign.Colon) r1 (λ _ r2. suite h r2) NoForm)
-  line_of States i r = and_then (statements self (suc (length i)) i) (λ ss r1. Found (simple_form ss) r1)
+  line_of Heads i r = and_then (read_header profile self i) (λ h r1. on_first (is_op Sign.Colon) r1 (λ _ r2. suite h r2) NoForm)
+  line_of States i r = and_then (statements profile self (suc (length i)) i) (λ ss r1. Found (simple_form ss) r1)
 
   abbrev pub line_front : List Terminal → Answer Form
   line_front [] = NoForm
@@ -281,9 +326,9 @@ module _ (self : Reads) where
 abbrev pub plain : Reads
 plain l ts = read (suc (length ts)) l ts
 
-abbrev pub read_line : List Terminal → Answer Form
-read_line ts = line plain ts
+abbrev pub read_line : Profile → List Terminal → Answer Form
+read_line profile ts = line profile plain ts
 
 -- with at most d expressions inside one another
-abbrev pub read_line_to : ℕ → List Terminal → Answer Form
-read_line_to d ts = line (read d) ts
+abbrev pub read_line_to : Profile → ℕ → List Terminal → Answer Form
+read_line_to profile d ts = line profile (read d) ts

@@ -1,6 +1,6 @@
 -- Logical lines: what each says of itself, before it is known what stands round it.
-use Rattle.std.specs.Prelude.{ℕ, Bool, true, false, List, [], Option, None}
-use Rattle.pynode.specs.Trees.{Expr, Arguments, Keywords, Identifier, Stmt, Item, Handler, FunctionDef, AsyncFunctionDef, ClassDef, While, For, AsyncFor, With, AsyncWith, Try, TryStar, stmts, handlers}
+use Rattle.std.specs.Prelude.{ℕ, Bool, true, false, not, ◌&&◌, List, [], ◌∷◌, Option, Some, None}
+use Rattle.pynode.specs.Trees.{Expr, Arguments, Keywords, Identifier, Stmt, Item, Handler, TypeParam, FunctionDef, AsyncFunctionDef, ClassDef, TypeAlias, While, For, AsyncFor, With, AsyncWith, Try, TryStar, stmts, handlers}
 
 -- the heads of `while` and `for`, which differ in nothing else
 pub data LoopHead : Type 0 where
@@ -9,8 +9,8 @@ pub data LoopHead : Type 0 where
 
 -- the heads of `def` and `class`
 pub data DefHead : Type 0 where
-  function_head : Bool → Identifier → Arguments → Option Expr → DefHead  -- whether async, name, args, returns
-  class_head : Identifier → List Expr → Keywords → DefHead  -- name, bases, keywords
+  function_head : Bool → Identifier → List TypeParam → Arguments → Option Expr → DefHead  -- whether async, name, type_params, args, returns
+  class_head : Identifier → List TypeParam → List Expr → Keywords → DefHead  -- name, type_params, bases, keywords
 
 -- a header, up to its colon
 pub data Header : Type 0 where
@@ -54,11 +54,36 @@ with_of false items body = With items (stmts body)
 with_of true items body = AsyncWith items (stmts body)
 
 abbrev pub definition : List Expr → DefHead → List Stmt → Stmt
-definition decorators (function_head false name args returns) body = FunctionDef name args (stmts body) decorators returns []
-definition decorators (function_head true name args returns) body = AsyncFunctionDef name args (stmts body) decorators returns []
-definition decorators (class_head name bases keywords) body = ClassDef name bases keywords (stmts body) decorators []
+definition decorators (function_head false name parameters args returns) body = FunctionDef name args (stmts body) decorators returns parameters
+definition decorators (function_head true name parameters args returns) body = AsyncFunctionDef name args (stmts body) decorators returns parameters
+definition decorators (class_head name parameters bases keywords) body = ClassDef name bases keywords (stmts body) decorators parameters
 
 -- the Try, or TryStar, of its four parts
 abbrev pub try_of : Bool → List Stmt → List Handler → List Stmt → List Stmt → Stmt
 try_of false body hs orelse final = Try (stmts body) (handlers hs) (stmts orelse) (stmts final)
 try_of true body hs orelse final = TryStar (stmts body) (handlers hs) (stmts orelse) (stmts final)
+
+-- ---- Forms without types: no parameters of types, and no statement `type`.
+
+abbrev pub no_types : List TypeParam → Bool
+no_types [] = true
+no_types (_ ∷ _) = false
+
+abbrev pub is_alias : Stmt → Bool
+is_alias (TypeAlias _ _ _) = true
+is_alias _ = false
+
+abbrev pub untyped_statements : List Stmt → Bool
+untyped_statements [] = true
+untyped_statements (s ∷ ss) = not (is_alias s) && untyped_statements ss
+
+abbrev pub untyped_header : Header → Bool
+untyped_header (def_header (function_head _ _ parameters _ _)) = no_types parameters
+untyped_header (def_header (class_head _ parameters _ _)) = no_types parameters
+untyped_header _ = true
+
+abbrev pub untyped : Form → Bool
+untyped (simple_form ss) = untyped_statements ss
+untyped (decorator_form _) = true
+untyped (header_form h None) = untyped_header h
+untyped (header_form h (Some suite)) = untyped_header h && untyped_statements suite

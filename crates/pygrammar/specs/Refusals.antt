@@ -1,9 +1,10 @@
--- What is accepted, and what is refused where. A refusal of the tokens comes first, in the order that `refusal` gives; then the first line
+-- What is accepted in a version of Python, and what is refused where. A refusal of the tokens comes first, in the order that `refusal` gives; then the first line
 -- without a form, the first faulty line of the blocks, and the first statement that stands too deep.
 use Rattle.std.specs.Prelude.{◌≡◌, ℕ, suc, ◌+◌, ◌<◌, ◌≤◌, Bool, true, false, ◌&&◌, nat_lt, cond, List, [], ◌∷◌, ◌++◌, length, map, Option, Some, None}
 use Rattle.std.specs.Str.{bytes_eq}
 use Rattle.pysource.specs.declared.places.Place.{Place}
 use Rattle.pylex.specs.Listing.{Source}
+use Rattle.pynode.specs.declared.profiles.Profile.{Profile}
 use Rattle.pynode.specs.Trees.{Module}
 use Rattle.pyheight.specs.Heights.{statement_height}
 use Rattle.pytoken.specs.declared.refusals.Refusal.{Refusal}
@@ -52,30 +53,30 @@ is_match [] = false
 is_match (t ∷ ts) = bytes_eq t.text (109 ∷ 97 ∷ 116 ∷ 99 ∷ 104 ∷ []) && ends_in_colon (t ∷ ts)
 
 -- a form whose expressions are no higher than 500
-pub record HasForm (x : Tokens.Line) (f : Form) : Type 0 where
-  pub is : FormOf (terminals x) f
+pub record HasForm (profile : Profile) (x : Tokens.Line) (f : Form) : Type 0 where
+  pub is : FormOf profile (terminals x) f
   pub low : form_height f ≤ 500
 
-pub data Formed : List Tokens.Line → List Line → Type 0 where
-  formed_end : Formed [] []
+pub data Formed (profile : Profile) : List Tokens.Line → List Line → Type 0 where
+  formed_end : Formed profile [] []
   formed_line : {x : Tokens.Line} {xs : List Tokens.Line} {f : Form} {ys : List Line} →
-      HasForm x f → Formed xs ys → Formed (x ∷ xs) (line x.level f ∷ ys)
+      HasForm profile x f → Formed profile xs ys → Formed profile (x ∷ xs) (line x.level f ∷ ys)
 
-abbrev pub HasNone : Tokens.Line → Type 0
-HasNone x = (f : Form) → FormOf (terminals x) f → ⊥
+abbrev pub HasNone : Profile → Tokens.Line → Type 0
+HasNone profile x = (f : Form) → FormOf profile (terminals x) f → ⊥
 
 -- why a line has no such form; the last is the one free choice: a long line without any form may be too deep
-pub data Unread (x : Tokens.Line) : Code → Type 0 where
-  too_high : {f : Form} → FormOf (terminals x) f → 500 < form_height f → Unread x TooDeep
-  no_match : HasNone x → is_match x.tokens ≡ true → Unread x MatchStatement
-  no_form : HasNone x → is_match x.tokens ≡ false → Unread x Syntax
-  too_long : HasNone x → 500 < length x.tokens → Unread x TooDeep
+pub data Unread (profile : Profile) (x : Tokens.Line) : Code → Type 0 where
+  too_high : {f : Form} → FormOf profile (terminals x) f → 500 < form_height f → Unread profile x TooDeep
+  no_match : HasNone profile x → is_match x.tokens ≡ true → Unread profile x MatchStatement
+  no_form : HasNone profile x → is_match x.tokens ≡ false → Unread profile x Syntax
+  too_long : HasNone profile x → 500 < length x.tokens → Unread profile x TooDeep
 
 -- the first such line
-pub data FirstUnread : List Tokens.Line → ℕ → Code → Type 0 where
-  unread : {x : Tokens.Line} {xs : List Tokens.Line} {c : Code} → Unread x c → FirstUnread (x ∷ xs) 0 c
+pub data FirstUnread (profile : Profile) : List Tokens.Line → ℕ → Code → Type 0 where
+  unread : {x : Tokens.Line} {xs : List Tokens.Line} {c : Code} → Unread profile x c → FirstUnread profile (x ∷ xs) 0 c
   unread_behind : {x : Tokens.Line} {xs : List Tokens.Line} {f : Form} {n : ℕ} {c : Code} →
-      HasForm x f → FirstUnread xs n c → FirstUnread (x ∷ xs) (suc n) c
+      HasForm profile x f → FirstUnread profile xs n c → FirstUnread profile (x ∷ xs) (suc n) c
 
 -- ---- Statement heights.
 
@@ -117,20 +118,20 @@ pub data FirstDeep : List Line → List Line → ℕ → Type 0 where
 -- ---- The answer.
 
 -- nothing refuses the tokens, each line has a form, the forms' tree is this module, and no height of it is past 500
-pub record Accepted (s : Source) (m : Module) : Type 0 where
+pub record Accepted (profile : Profile) (s : Source) (m : Module) : Type 0 where
   pub clear : refusal s ≡ None
   pub forms : List Line
-  pub formed : Formed (lines s) forms
+  pub formed : Formed profile (lines s) forms
   pub block : Block 0 forms m.body
   pub low : statement_height m ≤ 500
 
 -- the first of the reasons, in their order
-pub data Refused (s : Source) : Reason → Type 0 where
-  by_tokens : {r : Refusal} → refusal s ≡ Some r → Refused s (in_tokens r)
-  by_line : {n : ℕ} {p : Place} {c : Code} → refusal s ≡ None → FirstUnread (lines s) n c → StartsAt s n p → Refused s (at p c)
+pub data Refused (profile : Profile) (s : Source) : Reason → Type 0 where
+  by_tokens : {r : Refusal} → refusal s ≡ Some r → Refused profile s (in_tokens r)
+  by_line : {n : ℕ} {p : Place} {c : Code} → refusal s ≡ None → FirstUnread profile (lines s) n c → StartsAt s n p → Refused profile s (at p c)
   by_block : {forms rest : List Line} {f : Fault} {n : ℕ} {p : Place} →
-      refusal s ≡ None → Formed (lines s) forms → FirstFault [] forms rest f → n + length rest ≡ length forms → StartsAt s n p →
-      Refused s (at p (Indentation f))
+      refusal s ≡ None → Formed profile (lines s) forms → FirstFault [] forms rest f → n + length rest ≡ length forms → StartsAt s n p →
+      Refused profile s (at p (Indentation f))
   by_height : {forms : List Line} {m : Module} {n : ℕ} {p : Place} →
-      refusal s ≡ None → Formed (lines s) forms → Block 0 forms m.body → 500 < statement_height m → FirstDeep [] forms n → StartsAt s n p →
-      Refused s (at p TooDeep)
+      refusal s ≡ None → Formed profile (lines s) forms → Block 0 forms m.body → 500 < statement_height m → FirstDeep [] forms n → StartsAt s n p →
+      Refused profile s (at p TooDeep)

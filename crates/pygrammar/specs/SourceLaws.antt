@@ -1,30 +1,38 @@
 -- What holds of logical lines, of their blocks, and of the answer for a source.
-use Rattle.std.specs.Prelude.{◌≡◌, ◌⊎◌, ◌↔◌, ℕ, ◌<◌, List, [], length}
+use Rattle.std.specs.Prelude.{◌≡◌, ◌⊎◌, ◌↔◌, ℕ, ◌<◌, true, List, [], length}
 use Rattle.pylex.specs.Listing.{Source}
+use Rattle.pynode.specs.declared.profiles.Profile.{Profile}
+use Rattle.pynode.specs.declared.profiles.Profile.TheVariants.{Py311, Py312}
 use Rattle.pynode.specs.Trees.{Stmt, Module}
 use Rattle.pytoken.specs.Terminals.{Terminal}
 use Rattle.pygrammar.specs.Reader.{Found, NoForm, TooDeep}
-use Rattle.pygrammar.specs.Lines.{Line, Form}
+use Rattle.pygrammar.specs.Lines.{Line, Form, untyped}
 use Rattle.pygrammar.specs.Forms.{FormOf}
 use Rattle.pygrammar.specs.LineReader.{read_line, read_line_to}
 use Rattle.pygrammar.specs.Blocks.{Block, Fault, FirstFault}
 use Rattle.pygrammar.specs.Refusals.{Reason, Accepted, Refused}
 
--- a line has at most one form
+-- in a version a line has at most one form
 abbrev pub FormsAreUnique : Type 0
-FormsAreUnique = (ts : List Terminal) (f g : Form) → FormOf ts f → FormOf ts g → f ≡ g
+FormsAreUnique = (profile : Profile) (ts : List Terminal) (f g : Form) → FormOf profile ts f → FormOf profile ts g → f ≡ g
 
 -- the reader of a line gives its form, and none where there is none
 abbrev pub LineReaderIsExact : Type 0
-LineReaderIsExact = (ts : List Terminal) (f : Form) → FormOf ts f ↔ (read_line ts ≡ Found f [])
+LineReaderIsExact = (profile : Profile) (ts : List Terminal) (f : Form) → FormOf profile ts f ↔ (read_line profile ts ≡ Found f [])
 
 -- it gives the whole line's form, or says that there is none
 abbrev pub FormsAreDecided : Type 0
-FormsAreDecided = (ts : List Terminal) → ((f : Form) × (read_line ts ≡ Found f []) × FormOf ts f) ⊎ ((read_line ts ≡ NoForm) × ((f : Form) → FormOf ts f → ⊥))
+FormsAreDecided = (profile : Profile) (ts : List Terminal) →
+    ((f : Form) × (read_line profile ts ≡ Found f []) × FormOf profile ts f) ⊎ ((read_line profile ts ≡ NoForm) × ((f : Form) → FormOf profile ts f → ⊥))
 
 -- to a depth it answers the same or goes too deep, and it goes too deep in no line that has fewer terminals
 abbrev pub DepthIsKept : Type 0
-DepthIsKept = (d : ℕ) (ts : List Terminal) → ((read_line_to d ts ≡ TooDeep) ⊎ (read_line_to d ts ≡ read_line ts)) × (length ts < d → read_line_to d ts ≡ TooDeep → ⊥)
+DepthIsKept = (profile : Profile) (d : ℕ) (ts : List Terminal) →
+    ((read_line_to profile d ts ≡ TooDeep) ⊎ (read_line_to profile d ts ≡ read_line profile ts)) × (length ts < d → read_line_to profile d ts ≡ TooDeep → ⊥)
+
+-- the forms of Python 3.11 are those of 3.12 without types
+abbrev pub TypesAreNew : Type 0
+TypesAreNew = (ts : List Terminal) (f : Form) → FormOf Py311 ts f ↔ (FormOf Py312 ts f × (untyped f ≡ true))
 
 -- the laws of the forms of a line
 pub record LinesAreLawful : Type 0 where
@@ -32,6 +40,7 @@ pub record LinesAreLawful : Type 0 where
   pub exact : LineReaderIsExact
   pub decided : FormsAreDecided
   pub deep : DepthIsKept
+  pub new : TypesAreNew
 
 -- lines have at most one tree
 abbrev pub TreesAreUnique : Type 0
@@ -56,15 +65,20 @@ pub record BlocksAreLawful : Type 0 where
   pub faultless : FaultyLinesAreNoTree
   pub first : FirstFaultsAreUnique
 
--- a source has at most one tree
+-- in a version a source has at most one tree
 abbrev pub ModulesAreUnique : Type 0
-ModulesAreUnique = (s : Source) (a b : Module) → Accepted s a → Accepted s b → a ≡ b
+ModulesAreUnique = (profile : Profile) (s : Source) (a b : Module) → Accepted profile s a → Accepted profile s b → a ≡ b
 
 -- and none that is refused has one
 abbrev pub RefusedHaveNoModule : Type 0
-RefusedHaveNoModule = (s : Source) (m : Module) (r : Reason) → Accepted s m → Refused s r → ⊥
+RefusedHaveNoModule = (profile : Profile) (s : Source) (m : Module) (r : Reason) → Accepted profile s m → Refused profile s r → ⊥
+
+-- a source of Python 3.11 is one of 3.12, with the same tree
+abbrev pub ModulesStay : Type 0
+ModulesStay = (s : Source) (m : Module) → Accepted Py311 s m → Accepted Py312 s m
 
 -- the laws of the answer for a source
 pub record AnswersAreLawful : Type 0 where
   pub unique : ModulesAreUnique
   pub apart : RefusedHaveNoModule
+  pub stays : ModulesStay

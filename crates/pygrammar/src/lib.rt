@@ -12,9 +12,10 @@
 //! and `Meets` what its answers mean. `Laws` says that they agree, hence that a list is at most one
 //! expression.
 //!
-//! `Lines` and `Forms` are the forms of a logical line, `LineReader` the reader of one. `Blocks` has
-//! the tree and the faults of lines, `Reading` the reading line by line. `Refusals` says which
-//! sources are accepted and which refused, `SourceLaws` that each has at most one answer.
+//! `Lines` and `Forms` are the forms of a logical line in Python 3.11 and in 3.12, `LineReader` the
+//! reader of one. `Blocks` has the tree and the faults of lines, `Reading` the reading line by
+//! line. `Refusals` says which sources are accepted and which refused, `SourceLaws` that each has
+//! at most one answer, and that what 3.11 accepts 3.12 does.
 #![tactic(auto)]
 
 mod levels;

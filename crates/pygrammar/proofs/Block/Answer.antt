@@ -1,6 +1,8 @@
--- No source has two trees, and none is both accepted and refused.
+-- No source has two trees, none is both accepted and refused, and what is accepted stays so in Python 3.12.
 use Rattle.std.proofs.Common.{◌≡◌, ℕ, List, ◌∷◌, refl, ap, ◌∙◌, subst, arith}
 use Rattle.pylex.specs.Listing.{Source}
+use Rattle.pynode.specs.declared.profiles.Profile.{Profile}
+use Rattle.pynode.specs.declared.profiles.Profile.TheVariants.{Py312}
 use Rattle.pynode.specs.Trees.{Stmt, Module}
 use Rattle.pyheight.specs.Heights.{statement_height}
 use Rattle.pytoken.specs.Tokens as Tokens
@@ -9,10 +11,11 @@ use Rattle.pygrammar.specs.FormHeights.{form_height}
 use Rattle.pygrammar.specs.Blocks.{Block}
 use Rattle.pygrammar.specs.Refusals.{Code, Reason, HasForm, Formed, formed_end, formed_line, Unread, too_high, no_match, no_form, too_long, FirstUnread, unread, unread_behind, Accepted, Refused, by_tokens, by_line, by_block, by_height}
 use Rattle.pygrammar.proofs.Line.Law.{one_form}
+use Rattle.pygrammar.proofs.Line.Stays.{form_stays}
 use Rattle.pygrammar.proofs.Block.Goes.{one_tree}
 use Rattle.pygrammar.proofs.Block.Law.{tree_faultless, no_first}
 
-pub one_formed : {xs : List Tokens.Line} {ys zs : List Line} → Formed xs ys → Formed xs zs → ys ≡ zs
+pub one_formed : {profile : Profile} {xs : List Tokens.Line} {ys zs : List Line} → Formed profile xs ys → Formed profile xs zs → ys ≡ zs
 one_formed formed_end formed_end = refl
 one_formed (formed_line {x = x} {f = f} {ys = ys} p q) (formed_line {f = g} {ys = zs} r s) =
     let a : f ≡ g = one_form p.is r.is in
@@ -22,25 +25,25 @@ one_formed (formed_line {x = x} {f = f} {ys = ys} p q) (formed_line {f = g} {ys 
 abbrev module_of : List Stmt → Module
 module_of ss = record { body = ss }
 
-pub one_answer : {s : Source} {a b : Module} → Accepted s a → Accepted s b → a ≡ b
-one_answer {s} {a} {b} p q =
+pub one_answer : {profile : Profile} {s : Source} {a b : Module} → Accepted profile s a → Accepted profile s b → a ≡ b
+one_answer {a = a} {b = b} p q =
     let P : List Line → Type 0 = λ z. Block 0 z a.body in
     let e : a.body ≡ b.body = one_tree (subst P (one_formed p.formed q.formed) p.block) q.block in
     ap module_of e
 
-unread_formed : {x : Tokens.Line} {f : Form} {c : Code} → HasForm x f → Unread x c → ⊥
-unread_formed {x} {f} h (too_high {f = g} p n) =
+unread_formed : {profile : Profile} {x : Tokens.Line} {f : Form} {c : Code} → HasForm profile x f → Unread profile x c → ⊥
+unread_formed {f = f} h (too_high {f = g} p n) =
     let a : form_height f ≡ form_height g = ap form_height (one_form h.is p) in let b = h.low in omega arith
 unread_formed {f = f} h (no_match p e) = p f h.is
 unread_formed {f = f} h (no_form p e) = p f h.is
 unread_formed {f = f} h (too_long p n) = p f h.is
 
-unread_none : {xs : List Tokens.Line} {ys : List Line} {n : ℕ} {c : Code} → Formed xs ys → FirstUnread xs n c → ⊥
+unread_none : {profile : Profile} {xs : List Tokens.Line} {ys : List Line} {n : ℕ} {c : Code} → Formed profile xs ys → FirstUnread profile xs n c → ⊥
 unread_none formed_end h = elim h [ ]
 unread_none (formed_line p q) (unread h) = unread_formed p h
 unread_none (formed_line p q) (unread_behind r h) = unread_none q h
 
-pub never_both : {s : Source} {m : Module} {r : Reason} → Accepted s m → Refused s r → ⊥
+pub never_both : {profile : Profile} {s : Source} {m : Module} {r : Reason} → Accepted profile s m → Refused profile s r → ⊥
 never_both p (by_tokens e) = let a = p.clear in cc
 never_both p (by_line c h w) = unread_none p.formed h
 never_both {m = m} p (by_block {forms = xs} {rest = rest} {f = f} c q h l w) =
@@ -51,3 +54,10 @@ never_both {m = m} p (by_height {m = o} c q b n d w) =
     let e : m.body ≡ o.body = one_tree (subst P (one_formed p.formed q) p.block) b in
     let a : statement_height m ≡ statement_height o = ap statement_height (ap module_of e) in
     let l = p.low in omega arith
+
+formed_stays : {profile : Profile} {xs : List Tokens.Line} {ys : List Line} → Formed profile xs ys → Formed Py312 xs ys
+formed_stays formed_end = formed_end
+formed_stays (formed_line p q) = formed_line (record { is = form_stays p.is; low = p.low }) (formed_stays q)
+
+pub answer_stays : {profile : Profile} {s : Source} {m : Module} → Accepted profile s m → Accepted Py312 s m
+answer_stays p = record { clear = p.clear; forms = p.forms; formed = formed_stays p.formed; block = p.block; low = p.low }

@@ -4,7 +4,7 @@ use Rattle.pynode.specs.Trees.{Expr, Identifier, Stmt, Handler}
 use Rattle.pygrammar.specs.Lines.{Line, Header, if_header, elif_header, else_header, loop_header, with_header, try_header, except_header, finally_header, def_header, DefHead}
 use Rattle.pygrammar.specs.Blocks.{Kind, DecoratorLine, IfLine, LoopLine, WithLine, TryLine, DefLine, header_kind, kind_of, same_bool, is_try_clause, is_decorated}
 use Rattle.pygrammar.specs.Reading.{Group, Idle, Marked, Choice, Loop, Trial, Caught, Settled, closes, Part, part, ended, meets, grows, decorated}
-use Rattle.pygrammar.proofs.Block.Sound.{ended_of}
+use Rattle.pygrammar.proofs.Block.Growing.{ended_of}
 use Rattle.pygrammar.proofs.Block.Standing.{Standing, Free, AfterIf, AfterLoop, AfterTry, AfterExcept, AfterSettled, AfterDecorator, after, stand, admits}
 
 -- ---- What groups take.

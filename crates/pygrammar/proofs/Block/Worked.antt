@@ -84,6 +84,6 @@ try_group : Block 0 (short 0 try_header 1 ∷ short 0 (except_header false (Some
 try_group = read_gives _ _ refl
 
 -- decorators
-decorated_class : Block 0 (line 0 (decorator_form (v 1)) ∷ line 0 (decorator_form (v 2)) ∷ short 0 (def_header (class_head (3 ∷ []) [] no_keyword)) 4 ∷ [])
+decorated_class : Block 0 (line 0 (decorator_form (v 1)) ∷ line 0 (decorator_form (v 2)) ∷ short 0 (def_header (class_head (3 ∷ []) [] [] no_keyword)) 4 ∷ [])
     (ClassDef (3 ∷ []) [] no_keyword (stmts (s 4)) (v 1 ∷ v 2 ∷ []) [] ∷ [])
 decorated_class = read_gives _ _ refl

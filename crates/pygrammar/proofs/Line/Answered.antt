@@ -3,9 +3,10 @@ use Rattle.std.proofs.Common.{◌≡◌, ◌⊎◌, inl, inr, refl, sym, ap, sub
 use Rattle.std.specs.Prelude.{leb}
 use Rattle.pylexeme.specs.declared.kinds.Exact.TheVariants as Sign
 use Rattle.pytoken.specs.declared.keywords.Keyword.TheVariants as Key
+use Rattle.pynode.specs.declared.profiles.Profile.{Profile}
 use Rattle.pygrammar.specs.declared.levels.Level.{Level}
 use Rattle.pygrammar.specs.declared.levels.Level.TheVariants.{Value, Stars, Named, Expression}
-use Rattle.pynode.specs.Trees.{Expr, Identifier}
+use Rattle.pynode.specs.Trees.{Expr, Identifier, TypeParam}
 use Rattle.pynode.specs.Trees as Trees
 use Rattle.pytoken.specs.Terminals.{Terminal, Op, Word}
 use Rattle.pygrammar.specs.Looks.{is_op, is_word, name_in}
@@ -17,8 +18,8 @@ use Rattle.pygrammar.specs.Reader.{Answer, Found, NoForm, TooDeep, and_then, on_
 use Rattle.pygrammar.specs.Precedence.{starts}
 use Rattle.pygrammar.proofs.Enough.{Good, GoodTo, good_then, good_first, good_cond, good_made, good_closed, good_read, g_name_with, g_listing_of, g_target}
 use Rattle.pygrammar.specs.Lines.{Form, Header}
-use Rattle.pygrammar.specs.Forms.{FormOf}
-use Rattle.pygrammar.specs.LineReader.{or_else, on_none, same_as, starts_name, always, commas, read_name, read_as, dotted, dotted_alias, name_alias, read_dots, read_names, import_from, augmented_sign, Start, Values, Returns, Raises, Asserts, Deletes, Globals, Nonlocals, Passes, Breaks, Continues, Imports, Froms, start, if_any, after, annotation, end_value, value_loop, value_statement, deleted_one, statement_of, statement, statements, item_target, read_item, bracketed, for_rest, with_rest, def_rest, class_rest, except_of, except_rest, read_header, Kind, Decorates, Heads, States, kind, suite, line_of, line_front, line, plain, read_line, read_line_to}
+use Rattle.pygrammar.specs.Forms.{FormOf, has_types}
+use Rattle.pygrammar.specs.LineReader.{or_else, on_none, same_as, is_type, on_type, starts_name, starts_type_param, always, commas, read_name, read_as, dotted, dotted_alias, name_alias, read_dots, read_names, import_from, augmented_sign, Start, Values, Returns, Raises, Asserts, Deletes, Globals, Nonlocals, Passes, Breaks, Continues, Imports, Froms, start, if_any, after, annotation, end_value, value_loop, value_statement, deleted_one, read_type_param, bracketed_type_params, read_type_params, alias_rest, statement_of, statement, statements, item_target, read_item, bracketed, for_rest, with_rest, function_rest, bases_rest, def_rest, class_rest, except_of, except_rest, read_header, Kind, Decorates, Heads, States, kind, suite, line_of, line_front, line, plain, read_line, read_line_to}
 use Rattle.pygrammar.proofs.Line.Law.{read_goes}
 use Rattle.pygrammar.proofs.Line.SoundLines.{read_gives}
 
@@ -108,27 +109,42 @@ module _ (self : Reads) (b : ℕ) (all : GoodTo b self) where
   g_deleted : (i : List Terminal) → length i < b → Good b (deleted_one self i)
   g_deleted i w = one Expression i _ w (λ e r p. good_made b (deleted e) r p)
 
-  g_start : (s : Start) (i r : List Terminal) → length i < b → length r < b → Good b (statement_of self s i r)
-  g_start Values i r v w = g_value i v
-  g_start Returns i r v w = good_then b b _ _ (g_if_any Stars r w) (λ e r1 p. p)
-  g_start Raises i r v w = good_cond b (starts (Of Expression) r) _ _ (one Expression r _ w (λ e r1 p. good_then b b _ _ (g_after (Word Key.From) Expression r1 p) (λ c r2 q. q))) w
-  g_start Asserts i r v w = one Expression r _ w (λ e r1 p. good_then b b _ _ (g_after (Op Sign.Comma) Expression r1 p) (λ c r2 q. q))
-  g_start Deletes i r v w = good_then b b _ _ (g_commas b (deleted_one self) (starts (Of Expression)) g_deleted (suc (length r)) r w) (λ es r1 p. p)
-  g_start Globals i r v w = good_then b b _ _ (g_commas b read_name always (g_name b) (suc (length r)) r w) (λ es r1 p. p)
-  g_start Nonlocals i r v w = good_then b b _ _ (g_commas b read_name always (g_name b) (suc (length r)) r w) (λ es r1 p. p)
-  g_start Passes i r v w = w
-  g_start Breaks i r v w = w
-  g_start Continues i r v w = w
-  g_start Imports i r v w = good_then b b _ _ (g_commas b dotted_alias always (g_dotted_alias b) (suc (length r)) r w) (λ es r1 p. p)
-  g_start Froms i r v w = g_from b r w
+  g_type_param : (i : List Terminal) → length i < b → Good b (read_type_param self i)
+  g_type_param i w = good_first b name_in i _ _ (λ x r q. good_then b b _ _ (g_after (Op Sign.Colon) Expression r (omega arith)) (λ v r1 p. p)) (good_first b (is_op Sign.Star) i _ _ (λ _ r q. good_first b name_in r _ _ (λ x r1 p. omega arith) tt) (good_first b (is_op Sign.DoubleStar) i _ _ (λ _ r q. good_first b name_in r _ _ (λ x r1 p. omega arith) tt) tt))
 
-  g_statement : (i : List Terminal) → length i < b → Good b (statement self i)
-  g_statement [] w = tt
-  g_statement (t ∷ r) w = g_start (start t) (t ∷ r) r w (omega (arith, w))
+  g_bracketed_types : (i : List Terminal) → length i < b → Good b (bracketed_type_params self i)
+  g_bracketed_types i w = good_first b (is_op Sign.LSqb) i _ _ (λ _ r q. good_then b b _ _ (g_commas b (read_type_param self) starts_type_param g_type_param (suc (length r)) r (omega arith)) (λ ps r1 p. good_closed b Sign.RSqb r1 ps p)) w
 
-  g_statements : (n : ℕ) (i : List Terminal) → length i < b → Good b (statements self n i)
-  g_statements zero i w = tt
-  g_statements (suc n) i w = good_then b b _ _ (g_statement i w) (λ s r p. good_first b (is_op Sign.Semi) r _ _ (λ _ u q. g_none b u _ _ (omega arith) (good_then b b _ _ (g_statements n u (omega arith)) (λ ss r2 z. z))) p)
+  g_type_params : (profile : Profile) (i : List Terminal) → length i < b → Good b (read_type_params profile self i)
+  g_type_params profile i w = good_cond b (has_types profile) _ _ (g_bracketed_types i w) w
+
+  g_alias : (profile : Profile) (x : Identifier) (i : List Terminal) → length i < b → Good b (alias_rest profile self x i)
+  g_alias profile x i w = good_then b b _ _ (g_type_params profile i w) (λ ps r p. good_first b (is_op Sign.Equal) r _ _ (λ _ r1 q. one Expression r1 _ (omega arith) (λ e r2 z. z)) tt)
+
+  g_type : (profile : Profile) (i : List Terminal) → length i < b → Good b (on_type profile i (alias_rest profile self) (value_statement self i))
+  g_type profile i w = good_cond b (has_types profile) _ _ (good_first b is_type i _ _ (λ _ r q. good_first b name_in r _ _ (λ x r1 p. g_alias profile x r1 (omega arith)) (g_value i w)) (g_value i w)) (g_value i w)
+
+  g_start : (profile : Profile) (s : Start) (i r : List Terminal) → length i < b → length r < b → Good b (statement_of profile self s i r)
+  g_start profile Values i r v w = g_type profile i v
+  g_start profile Returns i r v w = good_then b b _ _ (g_if_any Stars r w) (λ e r1 p. p)
+  g_start profile Raises i r v w = good_cond b (starts (Of Expression) r) _ _ (one Expression r _ w (λ e r1 p. good_then b b _ _ (g_after (Word Key.From) Expression r1 p) (λ c r2 q. q))) w
+  g_start profile Asserts i r v w = one Expression r _ w (λ e r1 p. good_then b b _ _ (g_after (Op Sign.Comma) Expression r1 p) (λ c r2 q. q))
+  g_start profile Deletes i r v w = good_then b b _ _ (g_commas b (deleted_one self) (starts (Of Expression)) g_deleted (suc (length r)) r w) (λ es r1 p. p)
+  g_start profile Globals i r v w = good_then b b _ _ (g_commas b read_name always (g_name b) (suc (length r)) r w) (λ es r1 p. p)
+  g_start profile Nonlocals i r v w = good_then b b _ _ (g_commas b read_name always (g_name b) (suc (length r)) r w) (λ es r1 p. p)
+  g_start profile Passes i r v w = w
+  g_start profile Breaks i r v w = w
+  g_start profile Continues i r v w = w
+  g_start profile Imports i r v w = good_then b b _ _ (g_commas b dotted_alias always (g_dotted_alias b) (suc (length r)) r w) (λ es r1 p. p)
+  g_start profile Froms i r v w = g_from b r w
+
+  g_statement : (profile : Profile) (i : List Terminal) → length i < b → Good b (statement profile self i)
+  g_statement profile [] w = tt
+  g_statement profile (t ∷ r) w = g_start profile (start t) (t ∷ r) r w (omega (arith, w))
+
+  g_statements : (profile : Profile) (n : ℕ) (i : List Terminal) → length i < b → Good b (statements profile self n i)
+  g_statements profile zero i w = tt
+  g_statements profile (suc n) i w = good_then b b _ _ (g_statement profile i w) (λ s r p. good_first b (is_op Sign.Semi) r _ _ (λ _ u q. g_none b u _ _ (omega arith) (good_then b b _ _ (g_statements profile n u (omega arith)) (λ ss r2 z. z))) p)
 
   g_item_target : (i : List Terminal) → length i < b → Good b (item_target self i)
   g_item_target i w = good_first b (is_op Sign.Star) i _ _ (λ _ s q. one Expression s _ (omega arith) (λ e r1 p. good_made b (stored (Trees.Starred e _)) r1 p)) (one Expression i _ w (λ e r p. good_made b (stored e) r p))
@@ -145,11 +161,17 @@ module _ (self : Reads) (b : ℕ) (all : GoodTo b self) where
   g_for : (c : Bool) (i : List Terminal) → length i < b → Good b (for_rest self c i)
   g_for c i w = good_then b b _ _ (g_target self b all b i (omega (arith, w)) w) (λ t r p. good_first b (is_word Key.In) r _ _ (λ _ s q. one Stars s _ (omega arith) (λ e r2 z. g_some b (stored t) _ _ (λ v. z) tt)) tt)
 
-  g_def : (c : Bool) (i : List Terminal) → length i < b → Good b (def_rest self c i)
-  g_def c i w = g_name_with b Sign.LPar i _ _ (λ x r q. good_then b b _ _ (g_listing_of self b all b (Parameter true) [] r (omega arith) (omega arith)) (λ ps r1 p. good_first b (is_op Sign.RPar) r1 _ _ (λ _ r2 v. g_some b (arranged ps) _ _ (λ a. good_then b b _ _ (g_after (Op Sign.RArrow) Expression r2 (omega arith)) (λ e r3 z. z)) tt) tt)) tt
+  g_function : (c : Bool) (x : Identifier) (tps : List TypeParam) (i : List Terminal) → length i < b → Good b (function_rest self c x tps i)
+  g_function c x tps i w = good_first b (is_op Sign.LPar) i _ _ (λ _ r q. good_then b b _ _ (g_listing_of self b all b (Parameter true) [] r (omega arith) (omega arith)) (λ ps r1 p. good_first b (is_op Sign.RPar) r1 _ _ (λ _ r2 v. g_some b (arranged ps) _ _ (λ a. good_then b b _ _ (g_after (Op Sign.RArrow) Expression r2 (omega arith)) (λ e r3 z. z)) tt) tt)) tt
 
-  g_class : (i : List Terminal) → length i < b → Good b (class_rest self i)
-  g_class i w = good_first b name_in i _ _ (λ x r q. good_first b (is_op Sign.LPar) r _ _ (λ _ r1 p. good_then b b _ _ (g_listing_of self b all b Argument [] r1 (omega arith) (omega arith)) (λ es r2 v. good_first b (is_op Sign.RPar) r2 _ _ (λ _ r3 z. good_cond b (in_order false false es) _ _ (omega arith) tt) tt)) (omega arith)) tt
+  g_def : (profile : Profile) (c : Bool) (i : List Terminal) → length i < b → Good b (def_rest profile self c i)
+  g_def profile c i w = good_first b name_in i _ _ (λ x r q. good_then b b _ _ (g_type_params profile r (omega arith)) (λ tps r1 p. g_function c x tps r1 p)) tt
+
+  g_bases : (x : Identifier) (tps : List TypeParam) (i : List Terminal) → length i < b → Good b (bases_rest self x tps i)
+  g_bases x tps i w = good_first b (is_op Sign.LPar) i _ _ (λ _ r p. good_then b b _ _ (g_listing_of self b all b Argument [] r (omega arith) (omega arith)) (λ es r1 v. good_first b (is_op Sign.RPar) r1 _ _ (λ _ r2 z. good_cond b (in_order false false es) _ _ (omega arith) tt) tt)) w
+
+  g_class : (profile : Profile) (i : List Terminal) → length i < b → Good b (class_rest profile self i)
+  g_class profile i w = good_first b name_in i _ _ (λ x r q. good_then b b _ _ (g_type_params profile r (omega arith)) (λ tps r1 p. g_bases x tps r1 p)) tt
 
   g_except_of : (c : Bool) (i : List Terminal) → length i < b → Good b (except_of self c i)
   g_except_of c i w = one Expression i _ w (λ e r p. good_then b b _ _ (g_as b r p) (λ x r1 q. q))
@@ -157,64 +179,64 @@ module _ (self : Reads) (b : ℕ) (all : GoodTo b self) where
   g_except : (i : List Terminal) → length i < b → Good b (except_rest self i)
   g_except i w = good_first b (is_op Sign.Star) i _ _ (λ _ s q. g_except_of true s (omega arith)) (good_cond b (starts (Of Expression) i) _ _ (g_except_of false i w) w)
 
-  g_header : (i : List Terminal) → length i < b → Good b (read_header self i)
-  g_header (Word Key.If ∷ r) w = one Named r _ (omega (arith, w)) (λ e r1 p. p)
-  g_header (Word Key.Elif ∷ r) w = one Named r _ (omega (arith, w)) (λ e r1 p. p)
-  g_header (Word Key.While ∷ r) w = one Named r _ (omega (arith, w)) (λ e r1 p. p)
-  g_header (Word Key.Else ∷ r) w = omega (arith, w)
-  g_header (Word Key.Try ∷ r) w = omega (arith, w)
-  g_header (Word Key.Finally ∷ r) w = omega (arith, w)
-  g_header (Word Key.For ∷ r) w = g_for false r (omega (arith, w))
-  g_header (Word Key.With ∷ r) w = g_with false r (omega (arith, w))
-  g_header (Word Key.Except ∷ r) w = g_except r (omega (arith, w))
-  g_header (Word Key.Def ∷ r) w = g_def false r (omega (arith, w))
-  g_header (Word Key.Class ∷ r) w = g_class r (omega (arith, w))
-  g_header (Word Key.Async ∷ (Word Key.For ∷ r)) w = g_for true r (omega (arith, w))
-  g_header (Word Key.Async ∷ (Word Key.With ∷ r)) w = g_with true r (omega (arith, w))
-  g_header (Word Key.Async ∷ (Word Key.Def ∷ r)) w = g_def true r (omega (arith, w))
-  g_header (Word Key.Async ∷ (Word _ ∷ r)) w = tt
-  g_header (Word Key.Async ∷ (_ ∷ r)) w = tt
-  g_header (Word _ ∷ r) w = tt
-  g_header _ w = tt
+  g_header : (profile : Profile) (i : List Terminal) → length i < b → Good b (read_header profile self i)
+  g_header profile (Word Key.If ∷ r) w = one Named r _ (omega (arith, w)) (λ e r1 p. p)
+  g_header profile (Word Key.Elif ∷ r) w = one Named r _ (omega (arith, w)) (λ e r1 p. p)
+  g_header profile (Word Key.While ∷ r) w = one Named r _ (omega (arith, w)) (λ e r1 p. p)
+  g_header profile (Word Key.Else ∷ r) w = omega (arith, w)
+  g_header profile (Word Key.Try ∷ r) w = omega (arith, w)
+  g_header profile (Word Key.Finally ∷ r) w = omega (arith, w)
+  g_header profile (Word Key.For ∷ r) w = g_for false r (omega (arith, w))
+  g_header profile (Word Key.With ∷ r) w = g_with false r (omega (arith, w))
+  g_header profile (Word Key.Except ∷ r) w = g_except r (omega (arith, w))
+  g_header profile (Word Key.Def ∷ r) w = g_def profile false r (omega (arith, w))
+  g_header profile (Word Key.Class ∷ r) w = g_class profile r (omega (arith, w))
+  g_header profile (Word Key.Async ∷ (Word Key.For ∷ r)) w = g_for true r (omega (arith, w))
+  g_header profile (Word Key.Async ∷ (Word Key.With ∷ r)) w = g_with true r (omega (arith, w))
+  g_header profile (Word Key.Async ∷ (Word Key.Def ∷ r)) w = g_def profile true r (omega (arith, w))
+  g_header profile (Word Key.Async ∷ (Word _ ∷ r)) w = tt
+  g_header profile (Word Key.Async ∷ (_ ∷ r)) w = tt
+  g_header profile (Word _ ∷ r) w = tt
+  g_header profile _ w = tt
 
-  g_suite : (h : Header) (u : List Terminal) → length u < b → Good b (suite self h u)
-  g_suite h [] w = w
-  g_suite h (t ∷ u) w = good_then b b _ _ (g_statements (suc (length (t ∷ u))) (t ∷ u) w) (λ ss r1 p. p)
+  g_suite : (profile : Profile) (h : Header) (u : List Terminal) → length u < b → Good b (suite profile self h u)
+  g_suite profile h [] w = w
+  g_suite profile h (t ∷ u) w = good_then b b _ _ (g_statements profile (suc (length (t ∷ u))) (t ∷ u) w) (λ ss r1 p. p)
 
-  g_line_of : (k : Kind) (i r : List Terminal) → length i < b → length r < b → Good b (line_of self k i r)
-  g_line_of Decorates i r v w = one Named r _ w (λ e r1 p. p)
-  g_line_of Heads i r v w = good_then b b _ _ (g_header i v) (λ h r1 p. good_first b (is_op Sign.Colon) r1 _ _ (λ _ u q. g_suite h u (omega arith)) tt)
-  g_line_of States i r v w = good_then b b _ _ (g_statements (suc (length i)) i v) (λ ss r1 p. p)
+  g_line_of : (profile : Profile) (k : Kind) (i r : List Terminal) → length i < b → length r < b → Good b (line_of profile self k i r)
+  g_line_of profile Decorates i r v w = one Named r _ w (λ e r1 p. p)
+  g_line_of profile Heads i r v w = good_then b b _ _ (g_header profile i v) (λ h r1 p. good_first b (is_op Sign.Colon) r1 _ _ (λ _ u q. g_suite profile h u (omega arith)) tt)
+  g_line_of profile States i r v w = good_then b b _ _ (g_statements profile (suc (length i)) i v) (λ ss r1 p. p)
 
-  g_front : (i : List Terminal) → length i < b → Good b (line_front self i)
-  g_front [] w = tt
-  g_front (t ∷ r) w = g_line_of (kind t) (t ∷ r) r w (omega (arith, w))
+  g_front : (profile : Profile) (i : List Terminal) → length i < b → Good b (line_front profile self i)
+  g_front profile [] w = tt
+  g_front profile (t ∷ r) w = g_line_of profile (kind t) (t ∷ r) r w (omega (arith, w))
 
-  g_line : (i : List Terminal) → length i < b → Good b (line self i)
-  g_line i w = good_then b b _ _ (g_front i w) (λ f r p. g_none b r _ _ (omega (arith, w)) tt)
+  g_line : (profile : Profile) (i : List Terminal) → length i < b → Good b (line profile self i)
+  g_line profile i w = good_then b b _ _ (g_front profile i w) (λ f r p. g_none b r _ _ (omega (arith, w)) tt)
 
 -- above the number of terminals no depth is too deep
-pub enough : (d : ℕ) (ts : List Terminal) → length ts < d → read_line_to d ts ≡ TooDeep → ⊥
-enough d ts w h = subst (Good d) h (g_line (read d) d (good_read d) ts w)
+pub enough : (profile : Profile) (d : ℕ) (ts : List Terminal) → length ts < d → read_line_to profile d ts ≡ TooDeep → ⊥
+enough profile d ts w h = subst (Good d) h (g_line (read d) d (good_read d) profile ts w)
 
 plain_good : (b : ℕ) → GoodTo b plain
 plain_good b l i w = good_read (suc (length i)) l i (omega arith)
 
 -- so the plain reader finds the form, or says that there is none
-abbrev pub Answers : List Terminal → Type 0
-Answers ts = ((f : Form) × (read_line ts ≡ Found f []) × FormOf ts f) ⊎ ((read_line ts ≡ NoForm) × ((f : Form) → FormOf ts f → ⊥))
+abbrev pub Answers : Profile → List Terminal → Type 0
+Answers profile ts = ((f : Form) × (read_line profile ts ≡ Found f []) × FormOf profile ts f) ⊎ ((read_line profile ts ≡ NoForm) × ((f : Form) → FormOf profile ts f → ⊥))
 
-pub read_or_not : (ts : List Terminal) → Answers ts
-read_or_not ts = go (line_front plain ts) refl (g_front plain (suc (length ts)) (plain_good (suc (length ts))) ts (omega arith))
+pub read_or_not : (profile : Profile) (ts : List Terminal) → Answers profile ts
+read_or_not profile ts = go (line_front profile plain ts) refl (g_front plain (suc (length ts)) (plain_good (suc (length ts))) profile ts (omega arith))
   where
     bad : (f : Form) → ◌≡◌ {A = Answer Form} (Found f []) NoForm → ⊥
     bad f h = absurd (cc)
 
-    none : read_line ts ≡ NoForm → Answers ts
-    none h = inr (h, λ f p. bad f (sym (read_goes p) ∙ h))
+    none : read_line profile ts ≡ NoForm → Answers profile ts
+    none h = inr (h, λ f p. bad f (sym (read_goes profile p) ∙ h))
 
-    go : (a : Answer Form) → line_front plain ts ≡ a → Good (suc (length ts)) a → Answers ts
-    go (Found f []) q g = let h = ap (λ a. and_then a (λ f r. on_none r (Found f []) NoForm)) q in inl (f, h, read_gives ts f h)
+    go : (a : Answer Form) → line_front profile plain ts ≡ a → Good (suc (length ts)) a → Answers profile ts
+    go (Found f []) q g = let h = ap (λ a. and_then a (λ f r. on_none r (Found f []) NoForm)) q in inl (f, h, read_gives profile ts f h)
     go (Found f (t ∷ r)) q g = none (ap (λ a. and_then a (λ f r. on_none r (Found f []) NoForm)) q)
     go NoForm q g = none (ap (λ a. and_then a (λ f r. on_none r (Found f []) NoForm)) q)
     go TooDeep q g = absurd g

@@ -2,9 +2,10 @@
 use Rattle.std.proofs.Common.{◌≡◌, ◌⊎◌, inl, inr, refl, ap, ◌∙◌, ℕ, zero, suc, List, [], ◌∷◌, ◌++◌, length, Option, Some, None, Bool, true, false}
 use Rattle.pylexeme.specs.declared.kinds.Exact.TheVariants as Sign
 use Rattle.pytoken.specs.declared.keywords.Keyword.TheVariants as Key
+use Rattle.pynode.specs.declared.profiles.Profile.{Profile}
 use Rattle.pygrammar.specs.declared.levels.Level.{Level}
 use Rattle.pygrammar.specs.declared.levels.Level.TheVariants.{Value, Stars, Named, Expression}
-use Rattle.pynode.specs.Trees.{Expr}
+use Rattle.pynode.specs.Trees.{Expr, Identifier, TypeParam}
 use Rattle.pytoken.specs.Terminals.{Terminal, Op, Word}
 use Rattle.pygrammar.specs.Looks.{is_op, is_word, name_in}
 use Rattle.pygrammar.specs.Entries.{Of, Argument, Parameter}
@@ -15,7 +16,8 @@ use Rattle.pygrammar.specs.Precedence.{starts}
 use Rattle.pygrammar.proofs.Keeps.{Keeps, AllKeep, keeps_then, keeps_first, keeps_cond, k_one, k_name_with, k_listing_of, k_target}
 use Rattle.pygrammar.proofs.Whole.{final}
 use Rattle.pygrammar.specs.Lines.{Header}
-use Rattle.pygrammar.specs.LineReader.{or_else, on_none, same_as, always, commas, augmented_sign, Start, Values, Returns, Raises, Asserts, Deletes, start, if_any, after, annotation, end_value, value_loop, value_statement, deleted_one, statement_of, statement, statements, item_target, read_item, bracketed, for_rest, with_rest, def_rest, class_rest, except_of, except_rest, read_header, Kind, Decorates, Heads, States, kind, suite, line_of, line_front, line, plain, read_line, read_line_to}
+use Rattle.pygrammar.specs.Forms.{has_types}
+use Rattle.pygrammar.specs.LineReader.{or_else, on_none, same_as, is_type, on_type, starts_type_param, always, commas, augmented_sign, Start, Values, Returns, Raises, Asserts, Deletes, start, if_any, after, annotation, end_value, value_loop, value_statement, deleted_one, read_type_param, bracketed_type_params, read_type_params, alias_rest, statement_of, statement, statements, item_target, read_item, bracketed, for_rest, with_rest, function_rest, bases_rest, def_rest, class_rest, except_of, except_rest, read_header, Kind, Decorates, Heads, States, kind, suite, line_of, line_front, line, plain, read_line, read_line_to}
 
 -- ---- More depth changes no answer.
 k_some : {A B : Type 0} (o : Option A) (k j : A → Answer B) (x y : Answer B) → ((a : A) → Keeps (k a) (j a)) → Keeps x y → Keeps (on_some o k x) (on_some o j y)
@@ -60,21 +62,36 @@ module _ (self other : Reads) (all : AllKeep self other) where
   k_value : (i : List Terminal) → Keeps (value_statement self i) (value_statement other i)
   k_value i = k_name_with self other all Sign.Colon i _ _ _ _ (λ x s. k_annotation _ true s) (k_loop (suc (length i)) [] i)
 
-  k_start : (s : Start) (i r : List Terminal) → Keeps (statement_of self s i r) (statement_of other s i r)
-  k_start Values i r = k_value i
-  k_start Returns i r = keeps_then _ _ _ _ (k_if_any Stars r) (λ e r1. inr refl)
-  k_start Raises i r = keeps_cond (starts (Of Expression) r) _ _ _ _ (keeps_then _ _ _ _ (all Expression r) (λ e r1. keeps_then _ _ _ _ (k_after (Word Key.From) Expression r1) (λ c r2. inr refl))) (inr refl)
-  k_start Asserts i r = keeps_then _ _ _ _ (all Expression r) (λ e r1. keeps_then _ _ _ _ (k_after (Op Sign.Comma) Expression r1) (λ c r2. inr refl))
-  k_start Deletes i r = keeps_then _ _ _ _ (k_commas (deleted_one self) (deleted_one other) (starts (Of Expression)) (λ s. one Expression s _) (suc (length r)) r) (λ es r1. inr refl)
-  k_start _ i r = inr refl
+  k_type_param : (i : List Terminal) → Keeps (read_type_param self i) (read_type_param other i)
+  k_type_param i = keeps_first name_in i _ _ _ _ (λ x r. keeps_then _ _ _ _ (k_after (Op Sign.Colon) Expression r) (λ b r1. inr refl)) (inr refl)
 
-  k_statement : (i : List Terminal) → Keeps (statement self i) (statement other i)
-  k_statement [] = inr refl
-  k_statement (t ∷ r) = k_start (start t) (t ∷ r) r
+  k_bracketed_types : (i : List Terminal) → Keeps (bracketed_type_params self i) (bracketed_type_params other i)
+  k_bracketed_types i = keeps_first (is_op Sign.LSqb) i _ _ _ _ (λ _ r. keeps_then _ _ _ _ (k_commas (read_type_param self) (read_type_param other) starts_type_param k_type_param (suc (length r)) r) (λ ps r1. inr refl)) (inr refl)
 
-  k_statements : (n : ℕ) (i : List Terminal) → Keeps (statements self n i) (statements other n i)
-  k_statements zero i = inr refl
-  k_statements (suc n) i = keeps_then _ _ _ _ (k_statement i) (λ s r. keeps_first (is_op Sign.Semi) r _ _ _ _ (λ _ u. k_none u _ _ _ _ (inr refl) (keeps_then _ _ _ _ (k_statements n u) (λ ss r2. inr refl))) (inr refl))
+  k_type_params : (profile : Profile) (i : List Terminal) → Keeps (read_type_params profile self i) (read_type_params profile other i)
+  k_type_params profile i = keeps_cond (has_types profile) _ _ _ _ (k_bracketed_types i) (inr refl)
+
+  k_alias : (profile : Profile) (x : Identifier) (i : List Terminal) → Keeps (alias_rest profile self x i) (alias_rest profile other x i)
+  k_alias profile x i = keeps_then _ _ _ _ (k_type_params profile i) (λ ps r. keeps_first (is_op Sign.Equal) r _ _ _ _ (λ _ r1. keeps_then _ _ _ _ (all Expression r1) (λ e r2. inr refl)) (inr refl))
+
+  k_type : (profile : Profile) (i : List Terminal) → Keeps (on_type profile i (alias_rest profile self) (value_statement self i)) (on_type profile i (alias_rest profile other) (value_statement other i))
+  k_type profile i = keeps_cond (has_types profile) _ _ _ _ (keeps_first is_type i _ _ _ _ (λ _ r. keeps_first name_in r _ _ _ _ (λ x r1. k_alias profile x r1) (k_value i)) (k_value i)) (k_value i)
+
+  k_start : (profile : Profile) (s : Start) (i r : List Terminal) → Keeps (statement_of profile self s i r) (statement_of profile other s i r)
+  k_start profile Values i r = k_type profile i
+  k_start profile Returns i r = keeps_then _ _ _ _ (k_if_any Stars r) (λ e r1. inr refl)
+  k_start profile Raises i r = keeps_cond (starts (Of Expression) r) _ _ _ _ (keeps_then _ _ _ _ (all Expression r) (λ e r1. keeps_then _ _ _ _ (k_after (Word Key.From) Expression r1) (λ c r2. inr refl))) (inr refl)
+  k_start profile Asserts i r = keeps_then _ _ _ _ (all Expression r) (λ e r1. keeps_then _ _ _ _ (k_after (Op Sign.Comma) Expression r1) (λ c r2. inr refl))
+  k_start profile Deletes i r = keeps_then _ _ _ _ (k_commas (deleted_one self) (deleted_one other) (starts (Of Expression)) (λ s. one Expression s _) (suc (length r)) r) (λ es r1. inr refl)
+  k_start profile _ i r = inr refl
+
+  k_statement : (profile : Profile) (i : List Terminal) → Keeps (statement profile self i) (statement profile other i)
+  k_statement profile [] = inr refl
+  k_statement profile (t ∷ r) = k_start profile (start t) (t ∷ r) r
+
+  k_statements : (profile : Profile) (n : ℕ) (i : List Terminal) → Keeps (statements profile self n i) (statements profile other n i)
+  k_statements profile zero i = inr refl
+  k_statements profile (suc n) i = keeps_then _ _ _ _ (k_statement profile i) (λ s r. keeps_first (is_op Sign.Semi) r _ _ _ _ (λ _ u. k_none u _ _ _ _ (inr refl) (keeps_then _ _ _ _ (k_statements profile n u) (λ ss r2. inr refl))) (inr refl))
 
   k_item_target : (i : List Terminal) → Keeps (item_target self i) (item_target other i)
   k_item_target i = keeps_first (is_op Sign.Star) i _ _ _ _ (λ _ s. one Expression s _) (one Expression i _)
@@ -91,11 +108,17 @@ module _ (self other : Reads) (all : AllKeep self other) where
   k_for : (b : Bool) (i : List Terminal) → Keeps (for_rest self b i) (for_rest other b i)
   k_for b i = keeps_then _ _ _ _ (k_target self other all i) (λ t r. keeps_first (is_word Key.In) r _ _ _ _ (λ _ s. one Stars s _) (inr refl))
 
-  k_def : (b : Bool) (i : List Terminal) → Keeps (def_rest self b i) (def_rest other b i)
-  k_def b i = k_name_with self other all Sign.LPar i _ _ _ _ (λ x r. keeps_then _ _ _ _ (k_listing_of self other all (Parameter true) [] r) (λ ps r1. keeps_first (is_op Sign.RPar) r1 _ _ _ _ (λ _ r2. k_some (arranged ps) _ _ _ _ (λ a. keeps_then _ _ _ _ (k_after (Op Sign.RArrow) Expression r2) (λ e r3. inr refl)) (inr refl)) (inr refl))) (inr refl)
+  k_function : (b : Bool) (x : Identifier) (tps : List TypeParam) (i : List Terminal) → Keeps (function_rest self b x tps i) (function_rest other b x tps i)
+  k_function b x tps i = keeps_first (is_op Sign.LPar) i _ _ _ _ (λ _ r. keeps_then _ _ _ _ (k_listing_of self other all (Parameter true) [] r) (λ ps r1. keeps_first (is_op Sign.RPar) r1 _ _ _ _ (λ _ r2. k_some (arranged ps) _ _ _ _ (λ a. keeps_then _ _ _ _ (k_after (Op Sign.RArrow) Expression r2) (λ e r3. inr refl)) (inr refl)) (inr refl))) (inr refl)
 
-  k_class : (i : List Terminal) → Keeps (class_rest self i) (class_rest other i)
-  k_class i = keeps_first name_in i _ _ _ _ (λ x r. keeps_first (is_op Sign.LPar) r _ _ _ _ (λ _ r1. keeps_then _ _ _ _ (k_listing_of self other all Argument [] r1) (λ es r2. inr refl)) (inr refl)) (inr refl)
+  k_def : (profile : Profile) (b : Bool) (i : List Terminal) → Keeps (def_rest profile self b i) (def_rest profile other b i)
+  k_def profile b i = keeps_first name_in i _ _ _ _ (λ x r. keeps_then _ _ _ _ (k_type_params profile r) (λ tps r1. k_function b x tps r1)) (inr refl)
+
+  k_bases : (x : Identifier) (tps : List TypeParam) (i : List Terminal) → Keeps (bases_rest self x tps i) (bases_rest other x tps i)
+  k_bases x tps i = keeps_first (is_op Sign.LPar) i _ _ _ _ (λ _ r. keeps_then _ _ _ _ (k_listing_of self other all Argument [] r) (λ es r1. inr refl)) (inr refl)
+
+  k_class : (profile : Profile) (i : List Terminal) → Keeps (class_rest profile self i) (class_rest profile other i)
+  k_class profile i = keeps_first name_in i _ _ _ _ (λ x r. keeps_then _ _ _ _ (k_type_params profile r) (λ tps r1. k_bases x tps r1)) (inr refl)
 
   k_except_of : (b : Bool) (i : List Terminal) → Keeps (except_of self b i) (except_of other b i)
   k_except_of b i = one Expression i _
@@ -103,38 +126,38 @@ module _ (self other : Reads) (all : AllKeep self other) where
   k_except : (i : List Terminal) → Keeps (except_rest self i) (except_rest other i)
   k_except i = keeps_first (is_op Sign.Star) i _ _ _ _ (λ _ s. k_except_of true s) (keeps_cond (starts (Of Expression) i) _ _ _ _ (k_except_of false i) (inr refl))
 
-  k_header : (i : List Terminal) → Keeps (read_header self i) (read_header other i)
-  k_header (Word Key.If ∷ r) = one Named r _
-  k_header (Word Key.Elif ∷ r) = one Named r _
-  k_header (Word Key.While ∷ r) = one Named r _
-  k_header (Word Key.For ∷ r) = k_for false r
-  k_header (Word Key.With ∷ r) = k_with false r
-  k_header (Word Key.Except ∷ r) = k_except r
-  k_header (Word Key.Def ∷ r) = k_def false r
-  k_header (Word Key.Class ∷ r) = k_class r
-  k_header (Word Key.Async ∷ (Word Key.For ∷ r)) = k_for true r
-  k_header (Word Key.Async ∷ (Word Key.With ∷ r)) = k_with true r
-  k_header (Word Key.Async ∷ (Word Key.Def ∷ r)) = k_def true r
-  k_header (Word Key.Async ∷ (Word _ ∷ r)) = inr refl
-  k_header (Word Key.Async ∷ (_ ∷ r)) = inr refl
-  k_header (Word _ ∷ r) = inr refl
-  k_header _ = inr refl
+  k_header : (profile : Profile) (i : List Terminal) → Keeps (read_header profile self i) (read_header profile other i)
+  k_header profile (Word Key.If ∷ r) = one Named r _
+  k_header profile (Word Key.Elif ∷ r) = one Named r _
+  k_header profile (Word Key.While ∷ r) = one Named r _
+  k_header profile (Word Key.For ∷ r) = k_for false r
+  k_header profile (Word Key.With ∷ r) = k_with false r
+  k_header profile (Word Key.Except ∷ r) = k_except r
+  k_header profile (Word Key.Def ∷ r) = k_def profile false r
+  k_header profile (Word Key.Class ∷ r) = k_class profile r
+  k_header profile (Word Key.Async ∷ (Word Key.For ∷ r)) = k_for true r
+  k_header profile (Word Key.Async ∷ (Word Key.With ∷ r)) = k_with true r
+  k_header profile (Word Key.Async ∷ (Word Key.Def ∷ r)) = k_def profile true r
+  k_header profile (Word Key.Async ∷ (Word _ ∷ r)) = inr refl
+  k_header profile (Word Key.Async ∷ (_ ∷ r)) = inr refl
+  k_header profile (Word _ ∷ r) = inr refl
+  k_header profile _ = inr refl
 
-  k_suite : (h : Header) (u : List Terminal) → Keeps (suite self h u) (suite other h u)
-  k_suite h [] = inr refl
-  k_suite h (t ∷ u) = keeps_then _ _ _ _ (k_statements (suc (length (t ∷ u))) (t ∷ u)) (λ ss r1. inr refl)
+  k_suite : (profile : Profile) (h : Header) (u : List Terminal) → Keeps (suite profile self h u) (suite profile other h u)
+  k_suite profile h [] = inr refl
+  k_suite profile h (t ∷ u) = keeps_then _ _ _ _ (k_statements profile (suc (length (t ∷ u))) (t ∷ u)) (λ ss r1. inr refl)
 
-  k_line_of : (k : Kind) (i r : List Terminal) → Keeps (line_of self k i r) (line_of other k i r)
-  k_line_of Decorates i r = one Named r _
-  k_line_of Heads i r = keeps_then _ _ _ _ (k_header i) (λ h r1. keeps_first (is_op Sign.Colon) r1 _ _ _ _ (λ _ u. k_suite h u) (inr refl))
-  k_line_of States i r = keeps_then _ _ _ _ (k_statements (suc (length i)) i) (λ ss r1. inr refl)
+  k_line_of : (profile : Profile) (k : Kind) (i r : List Terminal) → Keeps (line_of profile self k i r) (line_of profile other k i r)
+  k_line_of profile Decorates i r = one Named r _
+  k_line_of profile Heads i r = keeps_then _ _ _ _ (k_header profile i) (λ h r1. keeps_first (is_op Sign.Colon) r1 _ _ _ _ (λ _ u. k_suite profile h u) (inr refl))
+  k_line_of profile States i r = keeps_then _ _ _ _ (k_statements profile (suc (length i)) i) (λ ss r1. inr refl)
 
-  k_front : (i : List Terminal) → Keeps (line_front self i) (line_front other i)
-  k_front [] = inr refl
-  k_front (t ∷ r) = k_line_of (kind t) (t ∷ r) r
+  k_front : (profile : Profile) (i : List Terminal) → Keeps (line_front profile self i) (line_front profile other i)
+  k_front profile [] = inr refl
+  k_front profile (t ∷ r) = k_line_of profile (kind t) (t ∷ r) r
 
-  k_line : (i : List Terminal) → Keeps (line self i) (line other i)
-  k_line i = keeps_then _ _ _ _ (k_front i) (λ f r. inr refl)
+  k_line : (profile : Profile) (i : List Terminal) → Keeps (line profile self i) (line profile other i)
+  k_line profile i = keeps_then _ _ _ _ (k_front profile i) (λ f r. inr refl)
 
-pub at_depth : (d : ℕ) (ts : List Terminal) → (read_line_to d ts ≡ TooDeep) ⊎ (read_line_to d ts ≡ read_line ts)
-at_depth d ts = k_line (read d) plain (λ l i. final d l i) ts
+pub at_depth : (profile : Profile) (d : ℕ) (ts : List Terminal) → (read_line_to profile d ts ≡ TooDeep) ⊎ (read_line_to profile d ts ≡ read_line profile ts)
+at_depth profile d ts = k_line (read d) plain (λ l i. final d l i) profile ts

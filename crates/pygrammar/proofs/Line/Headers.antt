@@ -8,12 +8,13 @@ use Rattle.pynode.specs.declared.operators.UnaryOperator.{UnaryOperator}
 use Rattle.pynode.specs.declared.operators.BoolOperator.{BoolOperator}
 use Rattle.pynode.specs.declared.operators.BoolOperator.TheVariants as Join
 use Rattle.pynode.specs.declared.operators.Context.TheVariants.{Load}
+use Rattle.pynode.specs.declared.profiles.Profile.{Profile}
 use Rattle.pygrammar.specs.declared.levels.Level.{Level}
 use Rattle.pygrammar.specs.declared.levels.Level.TheVariants.{Stars, StarItem, Expression}
-use Rattle.pynode.specs.Trees.{Expr, Keywords, an_expr, Identifier, Arguments}
+use Rattle.pynode.specs.Trees.{Expr, Keywords, an_expr, Identifier, Arguments, TypeParam}
 use Rattle.pynode.specs.Trees as Trees
 use Rattle.pytoken.specs.Terminals.{Terminal, Op, Word, Ident}
-use Rattle.pygrammar.specs.Looks.{is_word}
+use Rattle.pygrammar.specs.Looks.{is_op, is_word}
 use Rattle.pygrammar.specs.Operators.{below, left_operator, prefix_operator, chain_level}
 use Rattle.pygrammar.specs.Entries.{Item, Of, Argument, Parameter, Entry, singles}
 use Rattle.pygrammar.specs.Targets.{stored}
@@ -30,7 +31,8 @@ use Rattle.pygrammar.proofs.Keeps.{Keeps, AllKeep, k_listing_of, k_target}
 use Rattle.pygrammar.proofs.Whole.{final, target_front}
 use Rattle.pygrammar.specs.Lines.{Header, loop_header, with_header, except_header, def_header, for_head, function_head, class_head}
 use Rattle.pygrammar.specs.Forms as F
-use Rattle.pygrammar.specs.LineReader.{always, commas_of, plain, item_target, read_item, bracketed, for_rest, def_rest, class_rest, except_of, except_rest, with_rest, after, read_header}
+use Rattle.pygrammar.specs.LineReader.{always, commas_of, plain, item_target, read_item, bracketed, for_rest, function_rest, bases_rest, def_rest, class_rest, except_of, except_rest, with_rest, after, read_header}
+use Rattle.pygrammar.proofs.Line.Types.{type_params_goes}
 use Rattle.pygrammar.proofs.Line.Tools.{thus, when, peek, missed, front, started, after_goes, as_goes, commas_goes, commas?_goes}
 
 -- ---- From a depth that is enough to the plain reader.
@@ -146,19 +148,33 @@ except_goes {ts} {us} b p a r =
     let z = Op Sign.Colon ∷ r in
     ap (except_of plain b) (append_assoc ts us z) ∙ thus _ _ (front p (us ++ z) (as_grip a z (omega arith))) (thus _ _ (as_goes a z refl) refl)
 
-pub def_goes : {us vs : List Terminal} (b : Bool) (x : Identifier) {ps : List Entry} {a : Arguments} {e : Option Expr} → G.Listing (Parameter true) us ps → arranged ps ≡ Some a → F.Behind (Op Sign.RArrow) Expression vs e → (r : List Terminal) → def_rest plain b (Ident x ∷ (Op Sign.LPar ∷ ((us ++ (Op Sign.RPar ∷ vs)) ++ (Op Sign.Colon ∷ r)))) ≡ Found (def_header (function_head b x a e)) (Op Sign.Colon ∷ r)
-def_goes {us} {vs} b x {ps} {a} {e} c q k r =
+function_goes : {us vs : List Terminal} (b : Bool) (x : Identifier) (tps : List TypeParam) {ps : List Entry} {a : Arguments} {e : Option Expr} → G.Listing (Parameter true) us ps → arranged ps ≡ Some a → F.Behind (Op Sign.RArrow) Expression vs e → (r : List Terminal) → function_rest plain b x tps (Op Sign.LPar ∷ ((us ++ (Op Sign.RPar ∷ vs)) ++ (Op Sign.Colon ∷ r))) ≡ Found (def_header (function_head b x tps a e)) (Op Sign.Colon ∷ r)
+function_goes {us} {vs} b x tps {ps} {a} {e} c q k r =
     let z = Op Sign.Colon ∷ r in
     let y = Op Sign.RPar ∷ (vs ++ (Op Sign.Colon ∷ r)) in
     thus (listing_of plain (Parameter true) [] ((us ++ (Op Sign.RPar ∷ vs)) ++ z)) _ (ap (listing_of plain (Parameter true) []) (append_assoc us (Op Sign.RPar ∷ vs) z) ∙ listing_front c (λ r. ((λ q. absurd (omega (arith, q))), omega arith, omega arith, (λ q. absurd (omega (arith, q))))) y (refl, (λ q. absurd (omega (arith, q))), ((λ q. absurd (omega (arith, q))), omega arith, omega arith, (λ q. absurd (omega (arith, q))))))
-    (ap (λ o. on_some o (λ a. and_then (after plain (Op Sign.RArrow) Expression (vs ++ z)) (λ e r3. Found (def_header (function_head b x a e)) r3)) NoForm) q ∙ thus _ _ (after_goes k refl z (omega arith) refl) refl)
+    (ap (λ o. on_some o (λ a. and_then (after plain (Op Sign.RArrow) Expression (vs ++ z)) (λ e r3. Found (def_header (function_head b x tps a e)) r3)) NoForm) q ∙ thus _ _ (after_goes k refl z (omega arith) refl) refl)
 
-pub class_goes : {ts : List Terminal} (x : Identifier) {es : List Expr} {ks : Keywords} → F.Bases ts es ks → (r : List Terminal) → class_rest plain (Ident x ∷ (ts ++ (Op Sign.Colon ∷ r))) ≡ Found (def_header (class_head x es ks)) (Op Sign.Colon ∷ r)
-class_goes x F.no_bases r = refl
-class_goes x (F.bases {ts = ts} {es = es} c h) r =
+pub def_goes : (profile : Profile) {us vs ws : List Terminal} (b : Bool) (x : Identifier) {tps : List TypeParam} {ps : List Entry} {a : Arguments} {e : Option Expr} → F.TypeParams profile us tps → G.Listing (Parameter true) vs ps → arranged ps ≡ Some a → F.Behind (Op Sign.RArrow) Expression ws e → (r : List Terminal) → def_rest profile plain b (Ident x ∷ ((us ++ (Op Sign.LPar ∷ (vs ++ (Op Sign.RPar ∷ ws)))) ++ (Op Sign.Colon ∷ r))) ≡ Found (def_header (function_head b x tps a e)) (Op Sign.Colon ∷ r)
+def_goes profile {us} {vs} {ws} b x {tps} g c q k r =
+    let y = Op Sign.LPar ∷ (vs ++ (Op Sign.RPar ∷ ws)) in
+    ap (λ z. def_rest profile plain b (Ident x ∷ z)) (append_assoc us y (Op Sign.Colon ∷ r)) ∙ thus _ _ (type_params_goes profile g (y ++ (Op Sign.Colon ∷ r)) refl) (function_goes b x tps c q k r)
+
+bases_goes : {ts : List Terminal} (x : Identifier) (tps : List TypeParam) {es : List Expr} {ks : Keywords} → F.Bases ts es ks → (r : List Terminal) → bases_rest plain x tps (ts ++ (Op Sign.Colon ∷ r)) ≡ Found (def_header (class_head x tps es ks)) (Op Sign.Colon ∷ r)
+bases_goes x tps F.no_bases r = refl
+bases_goes x tps (F.bases {ts = ts} {es = es} c h) r =
     let z = Op Sign.Colon ∷ r in
     thus (listing_of plain Argument [] ((ts ++ (Op Sign.RPar ∷ [])) ++ z)) _ (ap (listing_of plain Argument []) (append_assoc ts (Op Sign.RPar ∷ []) z) ∙ listing_front c (λ r. (omega arith, (λ q. absurd (omega (arith, q))))) (Op Sign.RPar ∷ z) (refl, (λ q. absurd (omega (arith, q))), (omega arith, (λ q. absurd (omega (arith, q))))))
     (when _ _ _ h refl)
+
+unbracketed : {ts : List Terminal} {es : List Expr} {ks : Keywords} → F.Bases ts es ks → (r : List Terminal) → peek (is_op Sign.LSqb) (ts ++ (Op Sign.Colon ∷ r)) ≡ None
+unbracketed F.no_bases r = refl
+unbracketed (F.bases c h) r = refl
+
+pub class_goes : (profile : Profile) {ts us : List Terminal} (x : Identifier) {tps : List TypeParam} {es : List Expr} {ks : Keywords} → F.TypeParams profile ts tps → F.Bases us es ks → (r : List Terminal) → class_rest profile plain (Ident x ∷ ((ts ++ us) ++ (Op Sign.Colon ∷ r))) ≡ Found (def_header (class_head x tps es ks)) (Op Sign.Colon ∷ r)
+class_goes profile {ts} {us} x {tps} g c r =
+    let z = us ++ (Op Sign.Colon ∷ r) in
+    ap (λ z. class_rest profile plain (Ident x ∷ z)) (append_assoc ts us (Op Sign.Colon ∷ r)) ∙ thus _ _ (type_params_goes profile g z (unbracketed c r)) (bases_goes x tps c r)
 
 except_line_goes : {ts us : List Terminal} {e : Expr} {x : Option Identifier} → G.Derives Expression ts e → F.As us x → (r : List Terminal) → except_rest plain ((ts ++ us) ++ (Op Sign.Colon ∷ r)) ≡ Found (except_header false (Some e) x) (Op Sign.Colon ∷ r)
 except_line_goes {ts} {us} {e} p a r =
@@ -166,20 +182,20 @@ except_line_goes {ts} {us} {e} p a r =
     ap (except_rest plain) (append_assoc ts us z) ∙ (pass_op Sign.Star ts (us ++ z) _ _ (omega (arith, led p)) ∙ when _ _ _ (started p (us ++ z)) (ap (except_of plain false) (sym (append_assoc ts us z)) ∙ except_goes false p a r))
 
 module _ (with_goes : (ts : List Terminal) (is : List Trees.Item) → F.Items ts is → (b : Bool) (r : List Terminal) → with_rest plain b (ts ++ (Op Sign.Colon ∷ r)) ≡ Found (with_header b is) (Op Sign.Colon ∷ r)) where
-  pub header_by : {ts : List Terminal} {h : Header} → F.HeaderOf ts h → (r : List Terminal) → read_header plain (ts ++ (Op Sign.Colon ∷ r)) ≡ Found h (Op Sign.Colon ∷ r)
-  header_by (F.if_line p) r = thus _ _ (front p (Op Sign.Colon ∷ r) (omega arith)) refl
-  header_by (F.elif_line p) r = thus _ _ (front p (Op Sign.Colon ∷ r) (omega arith)) refl
-  header_by F.else_line r = refl
-  header_by (F.while_line p) r = thus _ _ (front p (Op Sign.Colon ∷ r) (omega arith)) refl
-  header_by (F.for_line F.no_async p q) r = for_goes false p q r
-  header_by (F.for_line F.async p q) r = for_goes true p q r
-  header_by (F.with_line F.no_async p) r = with_goes _ _ p false r
-  header_by (F.with_line F.async p) r = with_goes _ _ p true r
-  header_by F.try_line r = refl
-  header_by F.finally_line r = refl
-  header_by F.except_all r = refl
-  header_by (F.except_line p a) r = except_line_goes p a r
-  header_by (F.except_star p a) r = except_goes true p a r
-  header_by (F.def_line x F.no_async c q k) r = def_goes false x c q k r
-  header_by (F.def_line x F.async c q k) r = def_goes true x c q k r
-  header_by (F.class_line {x = x} c) r = class_goes x c r
+  pub header_by : (profile : Profile) {ts : List Terminal} {h : Header} → F.HeaderOf profile ts h → (r : List Terminal) → read_header profile plain (ts ++ (Op Sign.Colon ∷ r)) ≡ Found h (Op Sign.Colon ∷ r)
+  header_by profile (F.if_line p) r = thus _ _ (front p (Op Sign.Colon ∷ r) (omega arith)) refl
+  header_by profile (F.elif_line p) r = thus _ _ (front p (Op Sign.Colon ∷ r) (omega arith)) refl
+  header_by profile F.else_line r = refl
+  header_by profile (F.while_line p) r = thus _ _ (front p (Op Sign.Colon ∷ r) (omega arith)) refl
+  header_by profile (F.for_line F.no_async p q) r = for_goes false p q r
+  header_by profile (F.for_line F.async p q) r = for_goes true p q r
+  header_by profile (F.with_line F.no_async p) r = with_goes _ _ p false r
+  header_by profile (F.with_line F.async p) r = with_goes _ _ p true r
+  header_by profile F.try_line r = refl
+  header_by profile F.finally_line r = refl
+  header_by profile F.except_all r = refl
+  header_by profile (F.except_line p a) r = except_line_goes p a r
+  header_by profile (F.except_star p a) r = except_goes true p a r
+  header_by profile (F.def_line x F.no_async g c q k) r = def_goes profile false x g c q k r
+  header_by profile (F.def_line x F.async g c q k) r = def_goes profile true x g c q k r
+  header_by profile (F.class_line {x = x} g c) r = class_goes profile x g c r

@@ -3,6 +3,7 @@ use Rattle.std.proofs.Common.{◌≡◌, refl, sym, ap, ◌∙◌, ℕ, suc, ◌
 use Rattle.std.proofs.lemmas.List.{append-nil}
 use Rattle.pylexeme.specs.declared.kinds.Exact.TheVariants as Sign
 use Rattle.pytoken.specs.declared.keywords.Keyword.TheVariants as Key
+use Rattle.pynode.specs.declared.profiles.Profile.{Profile}
 use Rattle.pygrammar.specs.declared.levels.Level.TheVariants.{Named}
 use Rattle.pynode.specs.Trees.{Expr, Stmt}
 use Rattle.pytoken.specs.Terminals.{Terminal, Op, Word}
@@ -19,8 +20,8 @@ use Rattle.pygrammar.proofs.Line.Simple.{Full, simples_full, statements_goes}
 use Rattle.pygrammar.proofs.Line.Headers.{header_by}
 use Rattle.pygrammar.proofs.Line.With.{with_goes}
 
-header_goes : {ts : List Terminal} {h : Header} → F.HeaderOf ts h → (r : List Terminal) → read_header plain (ts ++ (Op Sign.Colon ∷ r)) ≡ Found h (Op Sign.Colon ∷ r)
-header_goes p r = header_by with_goes p r
+header_goes : (profile : Profile) {ts : List Terminal} {h : Header} → F.HeaderOf profile ts h → (r : List Terminal) → read_header profile plain (ts ++ (Op Sign.Colon ∷ r)) ≡ Found h (Op Sign.Colon ∷ r)
+header_goes profile p r = header_by with_goes profile p r
 
 -- the kind of a line by its first terminal
 abbrev kind_of : List Terminal → Kind
@@ -57,59 +58,59 @@ targets_kind : {ts : List Terminal} {es : List Expr} → F.Targets ts es → (us
 targets_kind (F.last_target {ts = ts} (G.target p q)) us = ap kind_of (append_assoc ts (Op Sign.Equal ∷ []) us) ∙ begun ts (Op Sign.Equal ∷ us) 7 (omega arith) (led p)
 targets_kind (F.more_targets {ts = ts} {us = vs} (G.target p q) c) us = ap kind_of (append_assoc ts (Op Sign.Equal ∷ vs) us) ∙ begun ts (Op Sign.Equal ∷ (vs ++ us)) 7 (omega arith) (led p)
 
-simple_kind : {ts : List Terminal} {s : Stmt} → F.Simple ts s → (r : List Terminal) → kind_of (ts ++ r) ≡ States
+simple_kind : {profile : Profile} {ts : List Terminal} {s : Stmt} → F.Simple profile ts s → (r : List Terminal) → kind_of (ts ++ r) ≡ States
 simple_kind (F.value {ts = ts} p) r = begun ts r 1 (omega arith) (led p)
 simple_kind (F.assign {ts = ts} {us = us} c p) r = ap kind_of (append_assoc ts us r) ∙ targets_kind c (us ++ r)
 simple_kind (F.augmented_assign {ts = ts} {us = us} x (G.single_target p q) h v) r = ap kind_of (append_assoc ts (Op x ∷ us) r) ∙ begun ts (Op x ∷ (us ++ r)) 23 (omega arith) (led p)
 simple_kind (F.annotated_part {ts = ts} {us = us} {vs = vs} (G.single_target p q) n k b) r = ap kind_of (append_assoc ts (Op Sign.Colon ∷ (us ++ vs)) r) ∙ begun ts (Op Sign.Colon ∷ ((us ++ vs) ++ r)) 23 (omega arith) (led p)
 simple_kind _ r = refl
 
-simples_kind : {ts : List Terminal} {ss : List Stmt} → F.Simples ts ss → kind_of ts ≡ States
+simples_kind : {profile : Profile} {ts : List Terminal} {ss : List Stmt} → F.Simples profile ts ss → kind_of ts ≡ States
 simples_kind (F.last_simple {ts = ts} p) = ap kind_of (sym (append-nil ts)) ∙ simple_kind p []
 simples_kind (F.ended_simple p) = simple_kind p _
 simples_kind (F.more_simples p c) = simple_kind p _
 
-header_kind : {ts : List Terminal} {h : Header} → F.HeaderOf ts h → (r : List Terminal) → (kind_of (ts ++ r) ≡ Heads) × Full (ts ++ r)
+header_kind : {profile : Profile} {ts : List Terminal} {h : Header} → F.HeaderOf profile ts h → (r : List Terminal) → (kind_of (ts ++ r) ≡ Heads) × Full (ts ++ r)
 header_kind (F.for_line F.no_async p q) r = (refl, (_, _, refl))
 header_kind (F.for_line F.async p q) r = (refl, (_, _, refl))
 header_kind (F.with_line F.no_async p) r = (refl, (_, _, refl))
 header_kind (F.with_line F.async p) r = (refl, (_, _, refl))
-header_kind (F.def_line x F.no_async c q k) r = (refl, (_, _, refl))
-header_kind (F.def_line x F.async c q k) r = (refl, (_, _, refl))
+header_kind (F.def_line x F.no_async g c q k) r = (refl, (_, _, refl))
+header_kind (F.def_line x F.async g c q k) r = (refl, (_, _, refl))
 header_kind _ r = (refl, (_, _, refl))
 
 -- a line of a kind
-line_by : (k : Kind) (i : List Terminal) → Full i → kind_of i ≡ k → (f : Form) → ((t : Terminal) (r : List Terminal) → i ≡ t ∷ r → line_of plain k i r ≡ Found f []) → read_line i ≡ Found f []
-line_by k [] g q f h = absurd (empty g)
+line_by : (profile : Profile) (k : Kind) (i : List Terminal) → Full i → kind_of i ≡ k → (f : Form) → ((t : Terminal) (r : List Terminal) → i ≡ t ∷ r → line_of profile plain k i r ≡ Found f []) → read_line profile i ≡ Found f []
+line_by profile k [] g q f h = absurd (empty g)
   where
     empty : Full [] → ⊥
     empty g = absurd (cc (g.2))
-line_by k (t ∷ r) g q f h = thus _ _ (ap (λ k. line_of plain k (t ∷ r) r) q ∙ h t r refl) refl
+line_by profile k (t ∷ r) g q f h = thus _ _ (ap (λ k. line_of profile plain k (t ∷ r) r) q ∙ h t r refl) refl
 
-suite_goes : {us : List Terminal} {ss : List Stmt} (h : Header) → F.Simples us ss → suite plain h us ≡ Found (header_form h (Some ss)) []
-suite_goes {us} {ss} h c = full us (simples_full c) (statements_goes c)
+suite_goes : (profile : Profile) {us : List Terminal} {ss : List Stmt} (h : Header) → F.Simples profile us ss → suite profile plain h us ≡ Found (header_form h (Some ss)) []
+suite_goes profile {us} {ss} h c = full us (simples_full profile c) (statements_goes profile c)
   where
-    full : (us : List Terminal) → Full us → statements plain (suc (length us)) us ≡ Found ss [] → suite plain h us ≡ Found (header_form h (Some ss)) []
+    full : (us : List Terminal) → Full us → statements profile plain (suc (length us)) us ≡ Found ss [] → suite profile plain h us ≡ Found (header_form h (Some ss)) []
     full [] g k = absurd (cc (g.2))
     full (t ∷ r) g k = thus _ _ k refl
 
-decorated : {ts : List Terminal} {e : Expr} → G.Derives Named ts e → line_front plain (Op Sign.At ∷ ts) ≡ Found (decorator_form e) []
-decorated {ts} p = thus (plain Named ts) _ (ap (plain Named) (sym (append-nil ts)) ∙ front p [] (omega arith)) refl
+decorated : (profile : Profile) {ts : List Terminal} {e : Expr} → G.Derives Named ts e → line_front profile plain (Op Sign.At ∷ ts) ≡ Found (decorator_form e) []
+decorated profile {ts} p = thus (plain Named ts) _ (ap (plain Named) (sym (append-nil ts)) ∙ front p [] (omega arith)) refl
 
 -- each form is read
-pub read_goes : {ts : List Terminal} {f : Form} → F.FormOf ts f → read_line ts ≡ Found f []
-read_goes (F.simple_statements {ts = ts} {ss = ss} c) = line_by States ts (simples_full c) (simples_kind c) (simple_form ss) (λ t r q. thus _ _ (statements_goes c) refl)
-read_goes (F.decorator_line {ts = ts} p) = thus (line_front plain (Op Sign.At ∷ ts)) _ (decorated p) refl
-read_goes (F.header_line {ts = ts} {h = h} p) =
+pub read_goes : (profile : Profile) {ts : List Terminal} {f : Form} → F.FormOf profile ts f → read_line profile ts ≡ Found f []
+read_goes profile (F.simple_statements {ts = ts} {ss = ss} c) = line_by profile States ts (simples_full profile c) (simples_kind c) (simple_form ss) (λ t r q. thus _ _ (statements_goes profile c) refl)
+read_goes profile (F.decorator_line {ts = ts} p) = thus (line_front profile plain (Op Sign.At ∷ ts)) _ (decorated profile p) refl
+read_goes profile (F.header_line {ts = ts} {h = h} p) =
     let k = header_kind p (Op Sign.Colon ∷ []) in
-    line_by Heads (ts ++ (Op Sign.Colon ∷ [])) k.1 k.0 (header_form h None) (λ t r q. thus _ _ (header_goes p []) refl)
-read_goes (F.header_suite {ts = ts} {us = us} {h = h} {ss = ss} p c) =
+    line_by profile Heads (ts ++ (Op Sign.Colon ∷ [])) k.1 k.0 (header_form h None) (λ t r q. thus _ _ (header_goes profile p []) refl)
+read_goes profile (F.header_suite {ts = ts} {us = us} {h = h} {ss = ss} p c) =
     let k = header_kind p (Op Sign.Colon ∷ us) in
-    line_by Heads (ts ++ (Op Sign.Colon ∷ us)) k.1 k.0 (header_form h (Some ss)) (λ t r q. thus _ _ (header_goes p us) (suite_goes h c))
+    line_by profile Heads (ts ++ (Op Sign.Colon ∷ us)) k.1 k.0 (header_form h (Some ss)) (λ t r q. thus _ _ (header_goes profile p us) (suite_goes profile h c))
 
 -- a line has one form alone
-pub one_form : {ts : List Terminal} {f g : Form} → F.FormOf ts f → F.FormOf ts g → f ≡ g
-one_form {ts} {f} {g} p q = same f g [] [] (sym (read_goes p) ∙ read_goes q)
+pub one_form : {profile : Profile} {ts : List Terminal} {f g : Form} → F.FormOf profile ts f → F.FormOf profile ts g → f ≡ g
+one_form {profile} {ts} {f} {g} p q = same f g [] [] (sym (read_goes profile p) ∙ read_goes profile q)
   where
     same : (f g : Form) (r s : List Terminal) → ◌≡◌ {A = Answer Form} (Found f r) (Found g s) → f ≡ g
     same f g r s h = cc

@@ -3,6 +3,7 @@ use Rattle.std.proofs.Common.{◌≡◌, ◌↔◌, refl, sym, ap, subst, ◌∙
 use Rattle.std.proofs.lemmas.List.{append-nil}
 use Rattle.pylexeme.specs.declared.kinds.Exact.TheVariants as Sign
 use Rattle.pytoken.specs.declared.keywords.Keyword.TheVariants as Key
+use Rattle.pynode.specs.declared.profiles.Profile.{Profile}
 use Rattle.pygrammar.specs.declared.levels.Level.TheVariants.{Stars, Named, Expression}
 use Rattle.pytoken.specs.Terminals.{Terminal, Op, Word, Ident}
 use Rattle.pygrammar.specs.Entries.{Of, Argument, Parameter}
@@ -13,129 +14,132 @@ use Rattle.pygrammar.specs.Grammar as G
 use Rattle.pygrammar.specs.Reader.{Answer, Found, NoForm}
 use Rattle.pygrammar.specs.Precedence.{starts}
 use Rattle.pygrammar.proofs.Says.{Says, found, no_form, says_then, says_op, says_word, says_name, says_cond, says_is}
-use Rattle.pygrammar.proofs.SoundLists.{says_if, says_name_with, target_sound, listing_of_sound}
+use Rattle.pygrammar.proofs.SoundLists.{says_if, target_sound, listing_of_sound}
 use Rattle.pygrammar.proofs.Whole.{says_found}
 use Rattle.pygrammar.specs.Lines.{Form, Header}
 use Rattle.pygrammar.specs.Forms as F
 use Rattle.pygrammar.specs.LineReader.{plain, on_none, for_rest, with_rest, def_rest, class_rest, except_of, except_rest, read_header, suite, line_of, line_front, read_line, Decorates, Heads, States}
-use Rattle.pygrammar.proofs.Line.SoundParts.{headed, joins, says_some, plain_sound, after_op_sound, as_sound}
+use Rattle.pygrammar.proofs.Line.SoundParts.{headed, joins, says_some, plain_sound, after_op_sound, type_params_sound, as_sound}
 use Rattle.pygrammar.proofs.Line.SoundSimple.{statements_sound}
 use Rattle.pygrammar.proofs.Line.With.{read_items_sound}
 use Rattle.pygrammar.proofs.Line.Law.{read_goes}
 
-header_at : {us vs : List Terminal} {h : Header} → us ≡ vs → F.HeaderOf vs h → F.HeaderOf us h
-header_at {h = h} q p = subst (λ k. F.HeaderOf k h) (sym q) p
+header_at : {profile : Profile} {us vs : List Terminal} {h : Header} → us ≡ vs → F.HeaderOf profile vs h → F.HeaderOf profile us h
+header_at {profile = profile} {h = h} q p = subst (λ k. F.HeaderOf profile k h) (sym q) p
 
-form_at : {us vs : List Terminal} {f : Form} → us ≡ vs → F.FormOf vs f → F.FormOf us f
-form_at {f = f} q p = subst (λ k. F.FormOf k f) (sym q) p
+form_at : {profile : Profile} {us vs : List Terminal} {f : Form} → us ≡ vs → F.FormOf profile vs f → F.FormOf profile us f
+form_at {profile = profile} {f = f} q p = subst (λ k. F.FormOf profile k f) (sym q) p
 
 -- a header in front of a colon
-abbrev HeaderAt : List Terminal → Header → List Terminal → Type 0
-HeaderAt i h r = (ts : List Terminal) × (i ≡ ts ++ r) × ((z : List Terminal) → r ≡ Op Sign.Colon ∷ z → F.HeaderOf ts h)
+abbrev HeaderAt : Profile → List Terminal → Header → List Terminal → Type 0
+HeaderAt profile i h r = (ts : List Terminal) × (i ≡ ts ++ r) × ((z : List Terminal) → r ≡ Op Sign.Colon ∷ z → F.HeaderOf profile ts h)
 
 -- behind the first words
-abbrev RestAt : List Terminal → List Terminal → Header → List Terminal → Type 0
-RestAt ws i h r = (ts : List Terminal) × (i ≡ ts ++ r) × ((z : List Terminal) → r ≡ Op Sign.Colon ∷ z → F.HeaderOf (ws ++ ts) h)
+abbrev RestAt : Profile → List Terminal → List Terminal → Header → List Terminal → Type 0
+RestAt profile ws i h r = (ts : List Terminal) × (i ≡ ts ++ r) × ((z : List Terminal) → r ≡ Op Sign.Colon ∷ z → F.HeaderOf profile (ws ++ ts) h)
 
-module _ (vs : List Terminal) (b : Bool) (a : F.Async vs b) where
-  for_sound : (i : List Terminal) → Says (RestAt (vs ++ (Word Key.For ∷ [])) i) (for_rest plain b i)
+module _ (profile : Profile) (vs : List Terminal) (b : Bool) (a : F.Async vs b) where
+  for_sound : (i : List Terminal) → Says (RestAt profile (vs ++ (Word Key.For ∷ [])) i) (for_rest plain b i)
   for_sound i = says_then _ _ (target_sound plain plain_sound i) (λ t r p. says_word Key.In r _ _ (λ _ r1 q. says_then _ _ (plain_sound Stars r1) (λ e r2 y. says_some (stored t) _ _ (λ s h. found (p.0 ++ (Word Key.In ∷ y.0), joins p.0 (Word Key.In ∷ y.0) r2 p.1 (headed (Word Key.In) q y.1), λ z w. header_at (append_assoc vs (Word Key.For ∷ []) (p.0 ++ (Word Key.In ∷ y.0))) (F.for_line a (G.target p.2 h) y.2))) no_form)) (λ _. no_form))
 
-  with_sound : (i : List Terminal) → Says (RestAt (vs ++ (Word Key.With ∷ [])) i) (with_rest plain b i)
+  with_sound : (i : List Terminal) → Says (RestAt profile (vs ++ (Word Key.With ∷ [])) i) (with_rest plain b i)
   with_sound i = says_then _ _ (read_items_sound i) (λ is r p. found (p.0, p.1, λ z w. header_at (append_assoc vs (Word Key.With ∷ []) p.0) (F.with_line a (p.2 z w))))
 
-  def_sound : (i : List Terminal) → Says (RestAt (vs ++ (Word Key.Def ∷ [])) i) (def_rest plain b i)
-  def_sound i = says_name_with Sign.LPar i _ _ (λ x u q. says_then _ _ (listing_of_sound plain plain_sound (Parameter true) u) (λ ps r1 p. says_op Sign.RPar r1 _ _ (λ _ r2 v. says_some (arranged ps) _ _ (λ c h. says_then _ _ (after_op_sound Sign.RArrow Expression r2) (λ e r3 y.
-      found (Ident x ∷ (Op Sign.LPar ∷ (p.0 ++ (Op Sign.RPar ∷ y.0))), q ∙ ap (λ z. Ident x ∷ (Op Sign.LPar ∷ z)) (joins p.0 (Op Sign.RPar ∷ y.0) r3 p.3 (headed (Op Sign.RPar) v y.1)), λ z w. header_at (append_assoc vs (Word Key.Def ∷ []) (Ident x ∷ (Op Sign.LPar ∷ (p.0 ++ (Op Sign.RPar ∷ y.0))))) (F.def_line x a p.4 (ap arranged (sym p.2) ∙ h) y.2)))) no_form) (λ _. no_form))) (λ _. no_form)
+  def_sound : (i : List Terminal) → Says (RestAt profile (vs ++ (Word Key.Def ∷ [])) i) (def_rest profile plain b i)
+  def_sound i = says_name i _ _ (λ x u q. says_then _ _ (type_params_sound profile u) (λ tps r g. says_op Sign.LPar r _ _ (λ _ r1 o. says_then _ _ (listing_of_sound plain plain_sound (Parameter true) r1) (λ ps r2 p. says_op Sign.RPar r2 _ _ (λ _ r3 v. says_some (arranged ps) _ _ (λ c h. says_then _ _ (after_op_sound Sign.RArrow Expression r3) (λ e r4 y.
+      let ws = Op Sign.LPar ∷ (p.0 ++ (Op Sign.RPar ∷ y.0)) in
+      found (Ident x ∷ (g.0 ++ ws), headed (Ident x) q (joins g.0 ws r4 g.1 (headed (Op Sign.LPar) o (joins p.0 (Op Sign.RPar ∷ y.0) r4 p.3 (headed (Op Sign.RPar) v y.1)))), λ z w. header_at (append_assoc vs (Word Key.Def ∷ []) (Ident x ∷ (g.0 ++ ws))) (F.def_line x a g.2 p.4 (ap arranged (sym p.2) ∙ h) y.2)))) no_form) (λ _. no_form))) (λ _. no_form))) no_form
 
-class_sound : (i : List Terminal) → Says (RestAt (Word Key.Class ∷ []) i) (class_rest plain i)
-class_sound i = says_name i _ _ (λ x r q. says_op Sign.LPar r _ _
-    (λ _ r1 v. says_then _ _ (listing_of_sound plain plain_sound Argument r1) (λ es r2 p. says_op Sign.RPar r2 _ _ (λ _ r3 w. says_if (in_order false false es) _ _ (λ h. found (Ident x ∷ (Op Sign.LPar ∷ (p.0 ++ (Op Sign.RPar ∷ []))), headed (Ident x) q (headed (Op Sign.LPar) v (joins p.0 (Op Sign.RPar ∷ []) r3 p.3 w)), λ z k. F.class_line (F.bases (subst (λ k. G.Listing Argument p.0 k) (sym p.2) p.4) h))) no_form) (λ _. no_form)))
-    (λ _. found (Ident x ∷ [], q, λ z k. F.class_line F.no_bases))) no_form
+class_sound : (profile : Profile) (i : List Terminal) → Says (RestAt profile (Word Key.Class ∷ []) i) (class_rest profile plain i)
+class_sound profile i = says_name i _ _ (λ x u q. says_then _ _ (type_params_sound profile u) (λ tps r g. says_op Sign.LPar r _ _
+    (λ _ r1 v. says_then _ _ (listing_of_sound plain plain_sound Argument r1) (λ es r2 p. says_op Sign.RPar r2 _ _ (λ _ r3 w. says_if (in_order false false es) _ _ (λ h.
+    let ws = Op Sign.LPar ∷ (p.0 ++ (Op Sign.RPar ∷ [])) in
+    found (Ident x ∷ (g.0 ++ ws), headed (Ident x) q (joins g.0 ws r3 g.1 (headed (Op Sign.LPar) v (joins p.0 (Op Sign.RPar ∷ []) r3 p.3 w))), λ z k. F.class_line g.2 (F.bases (subst (λ k. G.Listing Argument p.0 k) (sym p.2) p.4) h))) no_form) (λ _. no_form)))
+    (λ _. found (Ident x ∷ (g.0 ++ []), headed (Ident x) q (joins g.0 [] r g.1 refl), λ z k. F.class_line g.2 F.no_bases)))) no_form
 
-except_plain_sound : (i : List Terminal) → Says (λ h r. (ts : List Terminal) × (i ≡ ts ++ r) × F.HeaderOf (Word Key.Except ∷ ts) h) (except_of plain false i)
-except_plain_sound i = says_then _ _ (plain_sound Expression i) (λ e r p. says_then _ _ (as_sound r) (λ x r1 y. found (p.0 ++ y.0, joins p.0 y.0 r1 p.1 y.1, F.except_line p.2 y.2)))
+except_plain_sound : (profile : Profile) (i : List Terminal) → Says (λ h r. (ts : List Terminal) × (i ≡ ts ++ r) × F.HeaderOf profile (Word Key.Except ∷ ts) h) (except_of plain false i)
+except_plain_sound profile i = says_then _ _ (plain_sound Expression i) (λ e r p. says_then _ _ (as_sound r) (λ x r1 y. found (p.0 ++ y.0, joins p.0 y.0 r1 p.1 y.1, F.except_line p.2 y.2)))
 
-except_star_sound : (i : List Terminal) → Says (λ h r. (ts : List Terminal) × (i ≡ ts ++ r) × F.HeaderOf (Word Key.Except ∷ (Op Sign.Star ∷ ts)) h) (except_of plain true i)
-except_star_sound i = says_then _ _ (plain_sound Expression i) (λ e r p. says_then _ _ (as_sound r) (λ x r1 y. found (p.0 ++ y.0, joins p.0 y.0 r1 p.1 y.1, F.except_star p.2 y.2)))
+except_star_sound : (profile : Profile) (i : List Terminal) → Says (λ h r. (ts : List Terminal) × (i ≡ ts ++ r) × F.HeaderOf profile (Word Key.Except ∷ (Op Sign.Star ∷ ts)) h) (except_of plain true i)
+except_star_sound profile i = says_then _ _ (plain_sound Expression i) (λ e r p. says_then _ _ (as_sound r) (λ x r1 y. found (p.0 ++ y.0, joins p.0 y.0 r1 p.1 y.1, F.except_star p.2 y.2)))
 
-except_sound : (i : List Terminal) → Says (RestAt (Word Key.Except ∷ []) i) (except_rest plain i)
-except_sound i = says_op Sign.Star i _ _ (λ _ s q. says_is _ (except_star_sound s) (λ h r p. (Op Sign.Star ∷ p.0, headed (Op Sign.Star) q p.1, λ z w. p.2)))
-    (λ _. says_cond (starts (Of Expression) i) _ _ (says_is _ (except_plain_sound i) (λ h r p. (p.0, p.1, λ z w. p.2))) (found ([], refl, λ z w. F.except_all)))
+except_sound : (profile : Profile) (i : List Terminal) → Says (RestAt profile (Word Key.Except ∷ []) i) (except_rest plain i)
+except_sound profile i = says_op Sign.Star i _ _ (λ _ s q. says_is _ (except_star_sound profile s) (λ h r p. (Op Sign.Star ∷ p.0, headed (Op Sign.Star) q p.1, λ z w. p.2)))
+    (λ _. says_cond (starts (Of Expression) i) _ _ (says_is _ (except_plain_sound profile i) (λ h r p. (p.0, p.1, λ z w. p.2))) (found ([], refl, λ z w. F.except_all)))
 
-rest : (t : Terminal) {i : List Terminal} (x : Answer Header) → Says (RestAt (t ∷ []) i) x → Says (HeaderAt (t ∷ i)) x
-rest t x s = says_is x s (λ h r p. (t ∷ p.0, headed t refl p.1, p.2))
+rest : (profile : Profile) (t : Terminal) {i : List Terminal} (x : Answer Header) → Says (RestAt profile (t ∷ []) i) x → Says (HeaderAt profile (t ∷ i)) x
+rest profile t x s = says_is x s (λ h r p. (t ∷ p.0, headed t refl p.1, p.2))
 
-rest2 : (t u : Terminal) {i : List Terminal} (x : Answer Header) → Says (RestAt (t ∷ (u ∷ [])) i) x → Says (HeaderAt (t ∷ (u ∷ i))) x
-rest2 t u x s = says_is x s (λ h r p. (t ∷ (u ∷ p.0), headed t refl (headed u refl p.1), p.2))
+rest2 : (profile : Profile) (t u : Terminal) {i : List Terminal} (x : Answer Header) → Says (RestAt profile (t ∷ (u ∷ [])) i) x → Says (HeaderAt profile (t ∷ (u ∷ i))) x
+rest2 profile t u x s = says_is x s (λ h r p. (t ∷ (u ∷ p.0), headed t refl (headed u refl p.1), p.2))
 
-header_sound : (i : List Terminal) → Says (HeaderAt i) (read_header plain i)
-header_sound (Word Key.If ∷ r) = says_then _ _ (plain_sound Named r) (λ e r1 p. found (Word Key.If ∷ p.0, headed (Word Key.If) refl p.1, λ z w. F.if_line p.2))
-header_sound (Word Key.Elif ∷ r) = says_then _ _ (plain_sound Named r) (λ e r1 p. found (Word Key.Elif ∷ p.0, headed (Word Key.Elif) refl p.1, λ z w. F.elif_line p.2))
-header_sound (Word Key.Else ∷ r) = found (Word Key.Else ∷ [], refl, λ z w. F.else_line)
-header_sound (Word Key.While ∷ r) = says_then _ _ (plain_sound Named r) (λ e r1 p. found (Word Key.While ∷ p.0, headed (Word Key.While) refl p.1, λ z w. F.while_line p.2))
-header_sound (Word Key.For ∷ r) = rest (Word Key.For) _ (for_sound [] false F.no_async r)
-header_sound (Word Key.With ∷ r) = rest (Word Key.With) _ (with_sound [] false F.no_async r)
-header_sound (Word Key.Try ∷ r) = found (Word Key.Try ∷ [], refl, λ z w. F.try_line)
-header_sound (Word Key.Finally ∷ r) = found (Word Key.Finally ∷ [], refl, λ z w. F.finally_line)
-header_sound (Word Key.Except ∷ r) = rest (Word Key.Except) _ (except_sound r)
-header_sound (Word Key.Def ∷ r) = rest (Word Key.Def) _ (def_sound [] false F.no_async r)
-header_sound (Word Key.Class ∷ r) = rest (Word Key.Class) _ (class_sound r)
-header_sound (Word Key.Async ∷ (Word Key.For ∷ r)) = rest2 (Word Key.Async) (Word Key.For) _ (for_sound (Word Key.Async ∷ []) true F.async r)
-header_sound (Word Key.Async ∷ (Word Key.With ∷ r)) = rest2 (Word Key.Async) (Word Key.With) _ (with_sound (Word Key.Async ∷ []) true F.async r)
-header_sound (Word Key.Async ∷ (Word Key.Def ∷ r)) = rest2 (Word Key.Async) (Word Key.Def) _ (def_sound (Word Key.Async ∷ []) true F.async r)
-header_sound (Word Key.Async ∷ (Word x ∷ r)) = no_form
-header_sound (Word Key.Async ∷ (t ∷ r)) = no_form
-header_sound (Word x ∷ r) = no_form
-header_sound i = no_form
+header_sound : (profile : Profile) (i : List Terminal) → Says (HeaderAt profile i) (read_header profile plain i)
+header_sound profile (Word Key.If ∷ r) = says_then _ _ (plain_sound Named r) (λ e r1 p. found (Word Key.If ∷ p.0, headed (Word Key.If) refl p.1, λ z w. F.if_line p.2))
+header_sound profile (Word Key.Elif ∷ r) = says_then _ _ (plain_sound Named r) (λ e r1 p. found (Word Key.Elif ∷ p.0, headed (Word Key.Elif) refl p.1, λ z w. F.elif_line p.2))
+header_sound profile (Word Key.Else ∷ r) = found (Word Key.Else ∷ [], refl, λ z w. F.else_line)
+header_sound profile (Word Key.While ∷ r) = says_then _ _ (plain_sound Named r) (λ e r1 p. found (Word Key.While ∷ p.0, headed (Word Key.While) refl p.1, λ z w. F.while_line p.2))
+header_sound profile (Word Key.For ∷ r) = rest profile (Word Key.For) _ (for_sound profile [] false F.no_async r)
+header_sound profile (Word Key.With ∷ r) = rest profile (Word Key.With) _ (with_sound profile [] false F.no_async r)
+header_sound profile (Word Key.Try ∷ r) = found (Word Key.Try ∷ [], refl, λ z w. F.try_line)
+header_sound profile (Word Key.Finally ∷ r) = found (Word Key.Finally ∷ [], refl, λ z w. F.finally_line)
+header_sound profile (Word Key.Except ∷ r) = rest profile (Word Key.Except) _ (except_sound profile r)
+header_sound profile (Word Key.Def ∷ r) = rest profile (Word Key.Def) _ (def_sound profile [] false F.no_async r)
+header_sound profile (Word Key.Class ∷ r) = rest profile (Word Key.Class) _ (class_sound profile r)
+header_sound profile (Word Key.Async ∷ (Word Key.For ∷ r)) = rest2 profile (Word Key.Async) (Word Key.For) _ (for_sound profile (Word Key.Async ∷ []) true F.async r)
+header_sound profile (Word Key.Async ∷ (Word Key.With ∷ r)) = rest2 profile (Word Key.Async) (Word Key.With) _ (with_sound profile (Word Key.Async ∷ []) true F.async r)
+header_sound profile (Word Key.Async ∷ (Word Key.Def ∷ r)) = rest2 profile (Word Key.Async) (Word Key.Def) _ (def_sound profile (Word Key.Async ∷ []) true F.async r)
+header_sound profile (Word Key.Async ∷ (Word x ∷ r)) = no_form
+header_sound profile (Word Key.Async ∷ (t ∷ r)) = no_form
+header_sound profile (Word x ∷ r) = no_form
+header_sound profile i = no_form
 
 -- a line that ends
-abbrev LineAt : List Terminal → Form → List Terminal → Type 0
-LineAt i f r = r ≡ [] → F.FormOf i f
+abbrev LineAt : Profile → List Terminal → Form → List Terminal → Type 0
+LineAt profile i f r = r ≡ [] → F.FormOf profile i f
 
-suite_sound : (i r u : List Terminal) (h : Header) → HeaderAt i h r → r ≡ Op Sign.Colon ∷ u → Says (LineAt i) (suite plain h u)
-suite_sound i r [] h p q = found (λ e. form_at (p.1 ∙ ap (λ z. p.0 ++ z) q) (F.header_line (p.2 [] q)))
-suite_sound i r (t ∷ u) h p q = says_then _ _ (statements_sound (suc (length (t ∷ u))) (t ∷ u)) (λ ss r1 y. found (λ e. form_at (p.1 ∙ ap (λ z. p.0 ++ z) (q ∙ ap (λ z. Op Sign.Colon ∷ z) (y.1 ∙ (ap (λ z. y.0 ++ z) e ∙ append-nil y.0)))) (F.header_suite (p.2 (t ∷ u) q) y.2)))
+suite_sound : (profile : Profile) (i r u : List Terminal) (h : Header) → HeaderAt profile i h r → r ≡ Op Sign.Colon ∷ u → Says (LineAt profile i) (suite profile plain h u)
+suite_sound profile i r [] h p q = found (λ e. form_at (p.1 ∙ ap (λ z. p.0 ++ z) q) (F.header_line (p.2 [] q)))
+suite_sound profile i r (t ∷ u) h p q = says_then _ _ (statements_sound profile (suc (length (t ∷ u))) (t ∷ u)) (λ ss r1 y. found (λ e. form_at (p.1 ∙ ap (λ z. p.0 ++ z) (q ∙ ap (λ z. Op Sign.Colon ∷ z) (y.1 ∙ (ap (λ z. y.0 ++ z) e ∙ append-nil y.0)))) (F.header_suite (p.2 (t ∷ u) q) y.2)))
 
-heads_sound : (i r : List Terminal) → Says (LineAt i) (line_of plain Heads i r)
-heads_sound i r = says_then _ _ (header_sound i) (λ h r1 p. says_op Sign.Colon r1 _ _ (λ _ u q. suite_sound i r1 u h p q) (λ _. no_form))
+heads_sound : (profile : Profile) (i r : List Terminal) → Says (LineAt profile i) (line_of profile plain Heads i r)
+heads_sound profile i r = says_then _ _ (header_sound profile i) (λ h r1 p. says_op Sign.Colon r1 _ _ (λ _ u q. suite_sound profile i r1 u h p q) (λ _. no_form))
 
-states_sound : (i r : List Terminal) → Says (LineAt i) (line_of plain States i r)
-states_sound i r = says_then _ _ (statements_sound (suc (length i)) i) (λ ss r1 y. found (λ e. form_at (y.1 ∙ (ap (λ z. y.0 ++ z) e ∙ append-nil y.0)) (F.simple_statements y.2)))
+states_sound : (profile : Profile) (i r : List Terminal) → Says (LineAt profile i) (line_of profile plain States i r)
+states_sound profile i r = says_then _ _ (statements_sound profile (suc (length i)) i) (λ ss r1 y. found (λ e. form_at (y.1 ∙ (ap (λ z. y.0 ++ z) e ∙ append-nil y.0)) (F.simple_statements y.2)))
 
-decorates_sound : (r : List Terminal) → Says (LineAt (Op Sign.At ∷ r)) (line_of plain Decorates (Op Sign.At ∷ r) r)
-decorates_sound r = says_then _ _ (plain_sound Named r) (λ d r1 p. found (λ e. form_at (ap (λ z. Op Sign.At ∷ z) (p.1 ∙ (ap (λ z. p.0 ++ z) e ∙ append-nil p.0))) (F.decorator_line p.2)))
+decorates_sound : (profile : Profile) (r : List Terminal) → Says (LineAt profile (Op Sign.At ∷ r)) (line_of profile plain Decorates (Op Sign.At ∷ r) r)
+decorates_sound profile r = says_then _ _ (plain_sound Named r) (λ d r1 p. found (λ e. form_at (ap (λ z. Op Sign.At ∷ z) (p.1 ∙ (ap (λ z. p.0 ++ z) e ∙ append-nil p.0))) (F.decorator_line p.2)))
 
-front_sound : (i : List Terminal) → Says (LineAt i) (line_front plain i)
-front_sound [] = no_form
-front_sound (Op Sign.At ∷ r) = decorates_sound r
-front_sound (Op x ∷ r) = states_sound (Op x ∷ r) r
-front_sound (Word Key.If ∷ r) = heads_sound (Word Key.If ∷ r) r
-front_sound (Word Key.Elif ∷ r) = heads_sound (Word Key.Elif ∷ r) r
-front_sound (Word Key.Else ∷ r) = heads_sound (Word Key.Else ∷ r) r
-front_sound (Word Key.While ∷ r) = heads_sound (Word Key.While ∷ r) r
-front_sound (Word Key.For ∷ r) = heads_sound (Word Key.For ∷ r) r
-front_sound (Word Key.With ∷ r) = heads_sound (Word Key.With ∷ r) r
-front_sound (Word Key.Try ∷ r) = heads_sound (Word Key.Try ∷ r) r
-front_sound (Word Key.Finally ∷ r) = heads_sound (Word Key.Finally ∷ r) r
-front_sound (Word Key.Except ∷ r) = heads_sound (Word Key.Except ∷ r) r
-front_sound (Word Key.Def ∷ r) = heads_sound (Word Key.Def ∷ r) r
-front_sound (Word Key.Class ∷ r) = heads_sound (Word Key.Class ∷ r) r
-front_sound (Word Key.Async ∷ r) = heads_sound (Word Key.Async ∷ r) r
-front_sound (Word x ∷ r) = states_sound (Word x ∷ r) r
-front_sound (t ∷ r) = states_sound (t ∷ r) r
+front_sound : (profile : Profile) (i : List Terminal) → Says (LineAt profile i) (line_front profile plain i)
+front_sound profile [] = no_form
+front_sound profile (Op Sign.At ∷ r) = decorates_sound profile r
+front_sound profile (Op x ∷ r) = states_sound profile (Op x ∷ r) r
+front_sound profile (Word Key.If ∷ r) = heads_sound profile (Word Key.If ∷ r) r
+front_sound profile (Word Key.Elif ∷ r) = heads_sound profile (Word Key.Elif ∷ r) r
+front_sound profile (Word Key.Else ∷ r) = heads_sound profile (Word Key.Else ∷ r) r
+front_sound profile (Word Key.While ∷ r) = heads_sound profile (Word Key.While ∷ r) r
+front_sound profile (Word Key.For ∷ r) = heads_sound profile (Word Key.For ∷ r) r
+front_sound profile (Word Key.With ∷ r) = heads_sound profile (Word Key.With ∷ r) r
+front_sound profile (Word Key.Try ∷ r) = heads_sound profile (Word Key.Try ∷ r) r
+front_sound profile (Word Key.Finally ∷ r) = heads_sound profile (Word Key.Finally ∷ r) r
+front_sound profile (Word Key.Except ∷ r) = heads_sound profile (Word Key.Except ∷ r) r
+front_sound profile (Word Key.Def ∷ r) = heads_sound profile (Word Key.Def ∷ r) r
+front_sound profile (Word Key.Class ∷ r) = heads_sound profile (Word Key.Class ∷ r) r
+front_sound profile (Word Key.Async ∷ r) = heads_sound profile (Word Key.Async ∷ r) r
+front_sound profile (Word x ∷ r) = states_sound profile (Word x ∷ r) r
+front_sound profile (t ∷ r) = states_sound profile (t ∷ r) r
 
-line_sound : (i : List Terminal) → Says (λ f r. F.FormOf i f) (read_line i)
-line_sound i = says_then _ _ (front_sound i) (λ f r p. ended f r p)
+line_sound : (profile : Profile) (i : List Terminal) → Says (λ f r. F.FormOf profile i f) (read_line profile i)
+line_sound profile i = says_then _ _ (front_sound profile i) (λ f r p. ended f r p)
   where
-    ended : (f : Form) (r : List Terminal) → LineAt i f r → Says (λ f r. F.FormOf i f) (on_none r (Found f []) NoForm)
+    ended : (f : Form) (r : List Terminal) → LineAt profile i f r → Says (λ f r. F.FormOf profile i f) (on_none r (Found f []) NoForm)
     ended f [] p = found (p refl)
     ended f (t ∷ r) p = no_form
 
 -- what is read has that form
-pub read_gives : (ts : List Terminal) (f : Form) → read_line ts ≡ Found f [] → F.FormOf ts f
-read_gives ts f h = says_found f [] (subst (Says (λ f r. F.FormOf ts f)) h (line_sound ts))
+pub read_gives : (profile : Profile) (ts : List Terminal) (f : Form) → read_line profile ts ≡ Found f [] → F.FormOf profile ts f
+read_gives profile ts f h = says_found f [] (subst (Says (λ f r. F.FormOf profile ts f)) h (line_sound profile ts))
 
 -- the law: the plain reader of a line answers exactly the forms that the table gives
-pub exactly : (ts : List Terminal) (f : Form) → F.FormOf ts f ↔ (read_line ts ≡ Found f [])
-exactly ts f = (λ p. read_goes p, λ h. read_gives ts f h)
+pub exactly : (profile : Profile) (ts : List Terminal) (f : Form) → F.FormOf profile ts f ↔ (read_line profile ts ≡ Found f [])
+exactly profile ts f = (λ p. read_goes profile p, λ h. read_gives profile ts f h)

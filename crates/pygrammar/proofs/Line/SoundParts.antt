@@ -1,22 +1,27 @@
 -- What the reader answers has a form: tools, lists with commas, imports.
-use Rattle.std.proofs.Common.{◌≡◌, refl, sym, ap, subst, ◌∙◌, ℕ, zero, suc, arith, List, [], ◌∷◌, ◌++◌, length, Option, Some, None, Bool, append_assoc}
+use Rattle.std.proofs.Common.{◌≡◌, refl, sym, ap, subst, ◌∙◌, ℕ, zero, suc, arith, List, [], ◌∷◌, ◌++◌, length, Option, Some, None, Bool, true, false, cond, append_assoc}
 use Rattle.std.proofs.lemmas.Bool.{leb-true}
 use Rattle.std.specs.Prelude.{leb}
+use Rattle.std.specs.Str.{bytes_eq}
+use Rattle.std.proofs.lemmas.Slice.Eq.{bytes_eq-Decides}
 use Rattle.pylexeme.specs.declared.kinds.Exact.{Exact}
 use Rattle.pytoken.specs.declared.keywords.Keyword.{Keyword}
 use Rattle.pylexeme.specs.declared.kinds.Exact.TheVariants as Sign
 use Rattle.pytoken.specs.declared.keywords.Keyword.TheVariants as Key
+use Rattle.pynode.specs.declared.profiles.Profile.{Profile}
 use Rattle.pygrammar.specs.declared.levels.Level.{Level}
-use Rattle.pytoken.specs.Terminals.{Terminal, Op, Word, Ident}
+use Rattle.pygrammar.specs.declared.levels.Level.TheVariants.{Expression}
+use Rattle.pytoken.specs.Terminals.{Terminal, Op, Word, Ident, Whole, Literal, Layout}
 use Rattle.pygrammar.specs.Entries.{Of}
 use Rattle.pygrammar.specs.Reader.{Answer, on_some}
 use Rattle.pygrammar.specs.Precedence.{starts}
-use Rattle.pygrammar.proofs.Says.{Says, found, no_form, says_then, says_op, says_word, says_name, says_cond, says_is, SoundAt}
+use Rattle.pygrammar.proofs.Says.{Says, found, no_form, says_then, says_first, says_op, says_word, says_name, says_cond, says_is, SoundAt}
 use Rattle.pygrammar.proofs.Sound.{sound_read}
 use Rattle.pygrammar.proofs.SoundLists.{says_if, says_closed}
-use Rattle.pynode.specs.Trees.{Alias}
+use Rattle.pynode.specs.Trees.{Alias, TypeParam}
 use Rattle.pygrammar.specs.Forms as F
-use Rattle.pygrammar.specs.LineReader.{starts_name, always, commas, read_name, read_as, dotted, dotted_alias, name_alias, read_dots, read_names, import_from, plain, if_any, after}
+use Rattle.pygrammar.specs.Forms.{has_types, type_name}
+use Rattle.pygrammar.specs.LineReader.{is_type, on_type, starts_name, starts_type_param, always, commas, read_name, read_as, dotted, dotted_alias, name_alias, read_dots, read_names, import_from, plain, if_any, after, read_type_param, read_type_params}
 
 pub plain_sound : SoundAt plain
 plain_sound l i = sound_read (suc (length i)) l i
@@ -71,6 +76,33 @@ as_sound i = says_word Key.As i _ _ (λ _ s q. says_name s _ _ (λ x u v. found 
 pub name_sound : (i : List Terminal) → Says (At F.Name i) (read_name i)
 name_sound i = says_name i _ _ (λ x s q. found (Ident x ∷ [], q, F.name)) no_form
 
+-- parameters of types
+type_param_sound : (i : List Terminal) → Says (At F.TypeParamOf i) (read_type_param plain i)
+type_param_sound i =
+    says_name i _ _ (λ x s q. says_then _ _ (after_op_sound Sign.Colon Expression s) (λ b r p. found (Ident x ∷ p.0, headed (Ident x) q p.1, F.type_var p.2)))
+    (says_op Sign.Star i _ _ (λ _ s q. says_name s _ _ (λ x u v. found (Op Sign.Star ∷ (Ident x ∷ []), headed (Op Sign.Star) q v, F.type_var_tuple)) no_form) (λ _.
+    says_op Sign.DoubleStar i _ _ (λ _ s q. says_name s _ _ (λ x u v. found (Op Sign.DoubleStar ∷ (Ident x ∷ []), headed (Op Sign.DoubleStar) q v, F.param_spec)) no_form) (λ _. no_form)))
+
+pub type_params_sound : (profile : Profile) (i : List Terminal) → Says (At (F.TypeParams profile) i) (read_type_params profile plain i)
+type_params_sound profile i = says_if (has_types profile) _ _ (λ h. says_op Sign.LSqb i _ _
+    (λ _ s q. says_then _ _ (more_sound TypeParam F.TypeParamOf (read_type_param plain) type_param_sound starts_type_param (suc (length s)) s) (λ ps r p. says_closed Sign.RSqb r ps (λ r1 v. (Op Sign.LSqb ∷ (p.0 ++ (Op Sign.RSqb ∷ [])), headed (Op Sign.LSqb) q (joins p.0 (Op Sign.RSqb ∷ []) _ p.1 v), F.type_params h p.2))))
+    (λ _. found ([], refl, F.no_type_params))) (found ([], refl, F.no_type_params))
+
+type_is : (t : Terminal) (n : ℕ) → is_type t ≡ Some n → t ≡ Ident type_name
+type_is (Ident x) n h = go (bytes_eq x type_name) refl h
+  where
+    go : (b : Bool) → bytes_eq x type_name ≡ b → ◌≡◌ {A = Option ℕ} (cond b (Some 0) None) (Some n) → Ident x ≡ Ident type_name
+    go true q h = ap Ident ((bytes_eq-Decides x type_name).0 q)
+    go false q h = absurd (cc)
+type_is (Op _) n h = absurd (cc)
+type_is (Word _) n h = absurd (cc)
+type_is (Whole _) n h = absurd (cc)
+type_is (Literal _) n h = absurd (cc)
+type_is Layout n h = absurd (cc)
+
+pub says_type : {B : Type 0} {Q : B → List Terminal → Type 0} (profile : Profile) (i : List Terminal) (hit : List ℕ → List Terminal → Answer B) (miss : Answer B) → ((x : List ℕ) (r : List Terminal) → has_types profile ≡ true → i ≡ Ident type_name ∷ (Ident x ∷ r) → Says Q (hit x r)) → Says Q miss → Says Q (on_type profile i hit miss)
+says_type profile i hit miss h g = says_if (has_types profile) _ _ (λ k. says_first is_type i _ _ (λ t n s e q. says_name s _ _ (λ x r v. h x r k (headed (Ident type_name) (q ∙ ap (λ z. z ∷ s) (type_is t n e)) v)) g) (λ _. g)) g
+
 -- imports
 dotted_sound : (n : ℕ) (i : List Terminal) → Says (At F.Dotted i) (dotted n i)
 dotted_sound zero i = no_form
@@ -96,7 +128,7 @@ names_sound i =
     says_op Sign.LPar i _ _ (λ _ s q. says_then _ _ (more_sound Alias F.NameAlias name_alias name_alias_sound starts_name (suc (length s)) s) (λ as_ r1 p. says_closed Sign.RPar r1 as_ (λ r2 v. (Op Sign.LPar ∷ (p.0 ++ (Op Sign.RPar ∷ [])), headed (Op Sign.LPar) q (joins p.0 (Op Sign.RPar ∷ []) _ p.1 v), F.bracketed_names p.2)))) (λ _.
     says_is _ (always_sound Alias F.NameAlias name_alias name_alias_sound (suc (length i)) i) (λ as_ r p. (p.0, p.1, F.names p.2))))
 
-pub import_from_sound : (i : List Terminal) → Says (λ s r. (ts : List Terminal) × (i ≡ ts ++ r) × F.Simple (Word Key.From ∷ ts) s) (import_from i)
+pub import_from_sound : {profile : Profile} (i : List Terminal) → Says (λ s r. (ts : List Terminal) × (i ≡ ts ++ r) × F.Simple profile (Word Key.From ∷ ts) s) (import_from i)
 import_from_sound i = says_then _ _ (dots_sound i) (λ n r p.
     says_word Key.Import r _ _ (λ _ r1 q. says_if (leb 1 n) _ _ (λ h. says_then _ _ (names_sound r1) (λ as_ r2 y. found (p.0 ++ (Word Key.Import ∷ y.0), joins p.0 (Word Key.Import ∷ y.0) _ p.1 (headed (Word Key.Import) q y.1), F.from_dots p.2 (omega (arith, leb-true 1 n h)) y.2))) no_form) (λ _.
     says_then _ _ (dotted_sound (suc (length r)) r) (λ m r1 d. says_word Key.Import r1 _ _ (λ _ r2 q. says_then _ _ (names_sound r2) (λ as_ r3 y. found (p.0 ++ (d.0 ++ (Word Key.Import ∷ y.0)), joins p.0 (d.0 ++ (Word Key.Import ∷ y.0)) _ p.1 (joins d.0 (Word Key.Import ∷ y.0) _ d.1 (headed (Word Key.Import) q y.1)), F.from_module p.2 d.2 y.2))) (λ _. no_form))))
