@@ -1,15 +1,22 @@
-//! Tells what the numbers and strings of a source stand for: a crate of its own, over pyparse.
+//! Tells what the numbers and strings of a source stand for, or times how they are read: a crate of
+//! its own, over pyparse.
 //!
-//! For each it writes the row and the column, a word, and the value: `int` with the number in
-//! decimal, `text`, `u` or `bytes` with a repr. Where the source has no tokens it writes `refused`
-//! and why.
+//! `token_values [WHAT]` reads the standard input as a source. By `values`, and with no word, it
+//! writes for each number and string the row and the column, a word, and the value: `int` with the
+//! number in decimal, `text`, `u` or `bytes` with a repr. By `list` it lists the source with nothing
+//! written, and by `terminals` makes the source's tokens, and of each its terminal: it writes how
+//! many entries or terminals there are, and how many nanoseconds that took. Where the source has no
+//! tokens it writes `refused` and why.
 #![tactic(auto)]
 
-use pylex::Kind;
-use pyparse::{Literal, ParseFault, Token, number_value, string_value, tokens_of};
+use pylex::{Kind, Lister, Step};
+use pyparse::{
+    Literal, ParseFault, Terminal, Token, number_value, string_value, terminal_of, tokens_of,
+};
 use pysource::{Counted, Source, decode, push_repr_bytes, push_repr_points, read_all};
 use std::alloc::Global;
 use std::process::ExitCode;
+use std::time::Instant;
 
 /// Writes what a string stands for.
 fn tell_string(rt: &HostRuntime, alloc: Global, token: &Token) -> Option<()> {
@@ -45,26 +52,82 @@ fn tell(rt: &HostRuntime, alloc: Global, token: &Token) -> Option<()> {
     }
 }
 
+/// The tokens of a source. Where it has none, that is written.
+fn tokens(rt: &HostRuntime, alloc: Global, source: &Source) -> Option<Vec<Token>> {
+    match tokens_of(alloc, source) {
+        Ok(tokens) => Some(tokens),
+        Err(ParseFault::Refused(refusal)) => {
+            println!(rt; "refused {refusal:?}").ok()?;
+            None
+        }
+        Err(ParseFault::Memory) => None,
+    }
+}
+
 /// Writes what all tokens of a source stand for.
-fn tell_all(rt: &HostRuntime, alloc: Global, source: &Source) -> Option<()> {
-    let tokens = match tokens_of(alloc, source) {
-        Ok(tokens) => tokens,
-        Err(ParseFault::Refused(refusal)) => return println!(rt; "refused {refusal:?}").ok(),
-        Err(ParseFault::Memory) => return None,
-    };
-    for token in &tokens {
+fn tell_values(rt: &HostRuntime, alloc: Global, source: &Source) -> Option<()> {
+    for token in &tokens(rt, alloc, source)? {
         tell(rt, alloc, token)?;
     }
     Some(())
 }
 
-/// Reads the standard input as a source, and tells its values.
+/// How many entries a source has.
+fn entry_count(alloc: Global, source: &Source) -> usize {
+    let mut lister = Lister::new(alloc, source);
+    let mut count: usize = 0;
+    for _ in 0..u64::MAX {
+        let Ok(Step::Entry(_)) = lister.next() else {
+            break;
+        };
+        count = count.wrapping_add(1);
+    }
+    count
+}
+
+/// How many terminals tokens are that aren't layout.
+fn terminal_count(alloc: Global, tokens: &[Token]) -> Option<usize> {
+    let mut count: usize = 0;
+    for token in tokens {
+        match terminal_of(alloc, token.kind, token.text.as_str()).ok()? {
+            Terminal::Layout => {}
+            _ => count = count.wrapping_add(1),
+        }
+    }
+    Some(count)
+}
+
+/// Writes a count, and how many nanoseconds went by since then.
+fn tell_count(rt: &HostRuntime, start: Instant, count: usize) -> Option<()> {
+    let taken = start.elapsed(rt).ok()?.as_nanos();
+    println!(rt; "{count} {taken}").ok()
+}
+
+/// Does with a source what a word says.
+fn perform(rt: &HostRuntime, alloc: Global, what: &str, source: &Source) -> Option<()> {
+    let start = Instant::now(rt).ok()?;
+    match what {
+        "values" => tell_values(rt, alloc, source),
+        "list" => tell_count(rt, start, entry_count(alloc, source)),
+        "terminals" => {
+            let tokens = tokens(rt, alloc, source)?;
+            tell_count(rt, start, terminal_count(alloc, tokens.as_slice())?)
+        }
+        _ => None,
+    }
+}
+
+/// Reads the standard input as a source, and does with it what the word of the command line says.
 fn run(rt: &HostRuntime) -> Option<()> {
     let alloc = rt.alloc();
+    let word = std::env::args(rt).ok()?.skip(1).next();
     let mut reader = Counted::new(rt.stdin());
     let bytes = read_all(alloc, &mut reader).ok()?;
     let source = decode(alloc, bytes.as_slice()).ok()?;
-    tell_all(rt, alloc, &source)
+    match &word {
+        Some(word) => perform(rt, alloc, word.as_str(), &source),
+        None => perform(rt, alloc, "values", &source),
+    }
 }
 
 fn main(rt: HostRuntime) -> ExitCode {
