@@ -66,6 +66,16 @@ fn line_ends(kind: Kind, opened: usize, closed: usize) -> bool
     }
 }
 
+/// Keeps a refusal, if there is one, where none is kept yet.
+#[inline(always)]
+fn keep(kept: &mut Option<Refusal>, refusal: Option<Refusal>)
+    ensures { kept.new ≡ or_refusal kept.old refusal }
+{
+    if refusal.is_some() && kept.is_none() {
+        *kept = refusal;
+    }
+}
+
 /// The first of two refusals.
 fn first(one: Option<Refusal>, other: Option<Refusal>) -> Option<Refusal>
     ensures { result ≡ or_refusal one other }
@@ -118,6 +128,7 @@ impl Pass {
     }
 
     /// The refusal of an entry that opens one bracket too many.
+    #[inline(always)]
     fn exceeding(&self, entry: &Entry) -> Option<Refusal>
         requires { self.now.opened < 2 ^ 63 }
         ensures { result ≡ exceeding entry.now self.now.opened self.now.closed }
@@ -129,6 +140,7 @@ impl Pass {
     }
 
     /// Takes the next entry of a source's listing, with its refusal if it has a fault of its own.
+    #[inline(always)]
     pub(crate) fn take(
         &mut self,
         source: &Source,
@@ -143,8 +155,9 @@ impl Pass {
         if line_ends(entry.kind, self.opened, self.closed) {
             self.indents.take(source, entry.to)?;
         }
-        self.faulty = first(self.faulty, faulty);
-        self.deep = first(self.deep, self.exceeding(entry));
+        let deep = self.exceeding(entry);
+        keep(&mut self.faulty, faulty);
+        keep(&mut self.deep, deep);
         self.opened = counted(self.opened, opens(entry));
         self.closed = counted(self.closed, closes(entry));
         self.begun = still_open(entry.kind, self.begun);

@@ -2,10 +2,11 @@
 //!
 //! Python language reference, 2.3 "Identifiers and keywords".
 
-ghost use Rattle.std.specs.Prelude.{◌≡◌, IfOk, string_bytes};
+ghost use Rattle.std.specs.Prelude.{◌≡◌, ◌↔◌, ◌<◌, IsTrue, IfOk, string_bytes};
 ghost use Rattle.std.specs.Str.{chars, encode_utf8_all};
 ghost use Rattle.unicode_normalization.specs.Forms.{nfkc};
 ghost use Rattle.pytoken.specs.NameValues.{name_fault, form_fault};
+ghost use Rattle.pyvalue.specs.Inner.Readings.{AreLow};
 
 use pytoken::{Keyword, TokenError, is_identifier};
 use std::alloc::{AllocError, Global};
@@ -35,10 +36,20 @@ fn form_fault(alloc: Global, form: &str) -> Result<Option<TokenError>, AllocErro
     Ok(Some(TokenError::NameForm))
 }
 
+/// Whether a text is ASCII alone, and so its own form.
+fn is_ascii(text: &str) -> bool
+    ensures { IsTrue result ↔ AreLow text.now }
+{
+    text.as_bytes().iter().all(|byte| *byte < 128)
+}
+
 /// The fault that a name has by itself, if it has one.
 pub fn name_fault(alloc: Global, text: &str) -> Result<Option<TokenError>, AllocError>
     ensures { IfOk result (λ fault. fault ≡ name_fault (chars text.now)) }
 {
+    if is_ascii(text) {
+        return Ok(None);
+    }
     let own = is_nfkc(alloc, text)?;
     if own {
         return Ok(None);

@@ -21,7 +21,7 @@ use std::time::Instant;
 /// Writes what a string stands for.
 fn tell_string(rt: &HostRuntime, alloc: Global, token: &Token) -> Option<()> {
     let mut value = String::new(alloc);
-    let word = match string_value(alloc, token.text.as_str()).ok()? {
+    let word = match string_value(alloc, token.text).ok()? {
         Literal::Text { points, unicode } => {
             push_repr_points(&mut value, points.as_slice()).ok()?;
             if unicode { "u" } else { "text" }
@@ -44,7 +44,7 @@ fn tell_string(rt: &HostRuntime, alloc: Global, token: &Token) -> Option<()> {
 fn tell(rt: &HostRuntime, alloc: Global, token: &Token) -> Option<()> {
     match token.kind {
         Kind::Number => {
-            let value = number_value(token.text.as_str()).ok()?;
+            let value = number_value(token.text).ok()?;
             println!(rt; "{},{} int {value}", token.start.row, token.start.column).ok()
         }
         Kind::String => tell_string(rt, alloc, token),
@@ -53,7 +53,7 @@ fn tell(rt: &HostRuntime, alloc: Global, token: &Token) -> Option<()> {
 }
 
 /// The tokens of a source. Where it has none, that is written.
-fn tokens(rt: &HostRuntime, alloc: Global, source: &Source) -> Option<Vec<Token>> {
+fn tokens<'a>(rt: &HostRuntime, alloc: Global, source: &'a Source) -> Option<Vec<Token<'a>>> {
     match tokens_of(alloc, source) {
         Ok(tokens) => Some(tokens),
         Err(ParseFault::Refused(refusal)) => {
@@ -89,7 +89,7 @@ fn entry_count(alloc: Global, source: &Source) -> usize {
 fn terminal_count(alloc: Global, tokens: &[Token]) -> Option<usize> {
     let mut count: usize = 0;
     for token in tokens {
-        match terminal_of(alloc, token.kind, token.text.as_str()).ok()? {
+        match terminal_of(alloc, token.kind, token.text).ok()? {
             Terminal::Layout => {}
             _ => count = count.wrapping_add(1),
         }

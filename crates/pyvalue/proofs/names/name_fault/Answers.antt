@@ -5,8 +5,11 @@ use Rattle.std.proofs.lemmas.Str.{chars_from_encodes}
 use Rattle.unicode_normalization.specs.Forms.{nfkc}
 use Rattle.pytoken.specs.declared.faults.TokenError.{TokenError}
 use Rattle.pytoken.specs.NameValues.{form_fault}
-use Rattle.pyvalue.proofs.NameLemmas.{told, name_own, name_other}
+use Rattle.pyvalue.proofs.NameLemmas.{told, name_own, name_other, name_low}
 use Rattle.pyvalue.proofs.names.name_fault.Goals as goal
+
+pub returns-then-is_ascii : goal.returns-then-is_ascii
+returns-then-is_ascii c = sym (name_low c.args.text.now (c.if-is_ascii.ensures.0 c.if-is_ascii.true))
 
 pub returns-then-own : goal.returns-then-own
 returns-then-own c =
