@@ -7,7 +7,7 @@ use Rattle.std.proofs.lemmas.Bool.{cases_Bool, and_from, and_parts}
 use Rattle.pylexeme.specs.Strings.{begins_three}
 use Rattle.pytoken.specs.declared.meanings.Meaning.{Meaning}
 use Rattle.pytoken.specs.declared.meanings.Meaning.TheVariants.{Point, Nothing}
-use Rattle.pytoken.specs.Escapes.{reads, reading, escaped_by, escape_point, meanings, meanings_after, is_named_escape, is_bad_escape, escape_fault}
+use Rattle.pytoken.specs.Escapes.{Reading, reads, reading, escaped_by, escape_point, meanings, meanings_after, is_named_escape, is_bad_escape, escape_fault}
 use Rattle.pytoken.specs.StringValues.{with_line_feeds, is_raw, is_bytes, is_formatted, prefix_len_of, body_of, string_fault}
 use Rattle.pyvalue.specs.Inner.Readings.{asks, is_doubtful, is_calm}
 use Rattle.pyvalue.proofs.LiteralLemmas.{fault_none, literal_sound}
@@ -91,6 +91,10 @@ record Told (p : Meaning → Bool) : Type 0 where
   point : (m : ℕ) → p (Point m) ≡ false
   nothing : p Nothing ≡ false
 
+-- what a backslash stands for by the point of the letter behind it
+abbrev by_point : Option ℕ → Reading
+by_point o = elim o [ Some q ↦ reads (Point q) 1 | None ↦ reads (Point 92) 0 ]
+
 -- what a backslash stands for isn't wrong where the character behind it doesn't ask
 calm_letter : (p : Meaning → Bool) → Told p → (bytes : Bool) (c : ℕ) (cs : List ℕ) → is_digit c 8 ≡ false → (c == 120) ≡ false →
     (c == 117) ≡ false → (c == 85) ≡ false → (c == 78) ≡ false
@@ -98,7 +102,7 @@ calm_letter : (p : Meaning → Bool) → Told p → (bytes : Bool) (c : ℕ) (cs
 unfolding escaped_by
 calm_letter p told bytes c cs digit x u w n = by bytes
   where
-    last : (o : Option ℕ) → p (elim o [ Some q ↦ reads (Point q) 1 | None ↦ reads (Point 92) 0 ]).meaning ≡ false
+    last : (o : Option ℕ) → p (by_point o).meaning ≡ false
     last None = told.point 92
     last (Some q) = told.point q
     by : (b : Bool) → p (escaped_by b (c ∷ cs)).meaning ≡ false

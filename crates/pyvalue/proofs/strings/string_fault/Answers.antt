@@ -17,7 +17,7 @@ returns-then-are_plain c =
 
 pub returns-then-is_calm : goal.returns-then-is_calm
 returns-then-is_calm c =
-    let bytes = c.is_marked-1.ensures ∙ ap is_bytes c.new-literal.ensures in
+    let bytes = c.is_marked-2.ensures ∙ ap is_bytes c.new-literal.ensures in
     sym (calm_sound (chars c.args.text.now)
     (subst (λ (b : Bool). is_calm b false (chars c.args.text.now) ≡ true) bytes (sym c.if-is_calm.ensures))
     (sym (ap is_formatted c.new-literal.ensures) ∙ sym c.if-is_marked.ensures))
