@@ -1,4 +1,4 @@
-use Rattle.std.proofs.Common.{◌≡◌, sym, ap, subst, ◌∙◌, Option}
+use Rattle.std.proofs.Common.{◌≡◌, refl, sym, ap, subst, ◌∙◌, Option}
 use Rattle.std.specs.Prelude.{IfOk}
 use Rattle.std.specs.Str.{chars}
 use Rattle.std.proofs.lemmas.Str.{chars_from_encodes}
@@ -9,7 +9,7 @@ use Rattle.pyvalue.proofs.NameLemmas.{told, name_own, name_other, name_low}
 use Rattle.pyvalue.proofs.names.name_fault.Goals as goal
 
 pub returns-then-is_ascii : goal.returns-then-is_ascii
-returns-then-is_ascii c = sym (name_low c.args.text.now (c.if-is_ascii.ensures.0 c.if-is_ascii.true))
+returns-then-is_ascii c = sym (name_low c.args.text.now (c.if-is_ascii.ensures.0 refl))
 
 pub returns-then-own : goal.returns-then-own
 returns-then-own c =
