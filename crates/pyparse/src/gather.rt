@@ -146,9 +146,9 @@ impl<'a> Gather<'a> {
     /// The tokens, or the first refusal, behind all entries.
     pub(crate) fn finish(self) -> Result<Vec<Token<'a>>, ParseFault>
         ensures tokens { IfOk result (λ ts. map token_of ts.items
-            ≡ map token_of self.tokens.items) }
-        ensures sound { OnOk result (kept_refusal self.pass ≡ None) }
-        ensures refused { IfErr result (Tells (kept_refusal self.pass)) }
+            ≡ map token_of self.entry.tokens.items) }
+        ensures sound { OnOk result (kept_refusal self.entry.pass ≡ None) }
+        ensures refused { IfErr result (Tells (kept_refusal self.entry.pass)) }
     {
         match self.pass.refusal() {
             Some(refusal) => Err(ParseFault::Refused(refusal)),
