@@ -139,6 +139,24 @@ impl Pass {
         None
     }
 
+    /// Takes an entry that may be a bracket.
+    #[inline(always)]
+    fn take_bracket(&mut self, entry: &Entry)
+        requires opened { self.old.opened < 2 ^ 63 }
+        requires closed { self.old.closed < 2 ^ 63 }
+        ensures { TakesBracket entry.now self.old self.new }
+    {
+        let Some(exact) = entry.exact else {
+            return;
+        };
+        if exact.is_opener() {
+            let deep = self.exceeding(entry);
+            keep(&mut self.deep, deep);
+            self.opened += 1;
+        }
+        self.closed = counted(self.closed, exact.is_closer());
+    }
+
     /// Takes the next entry of a source's listing, with its refusal if it has a fault of its own.
     #[inline(always)]
     pub(crate) fn take(
@@ -155,11 +173,8 @@ impl Pass {
         if line_ends(entry.kind, self.opened, self.closed) {
             self.indents.take(source, entry.to)?;
         }
-        let deep = self.exceeding(entry);
         keep(&mut self.faulty, faulty);
-        keep(&mut self.deep, deep);
-        self.opened = counted(self.opened, opens(entry));
-        self.closed = counted(self.closed, closes(entry));
+        self.take_bracket(entry);
         self.begun = still_open(entry.kind, self.begun);
         Ok(())
     }

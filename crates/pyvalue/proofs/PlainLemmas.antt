@@ -1,4 +1,4 @@
--- Carries: string_fault. On: a literal of characters that stand for themselves.
+-- Carries: comment_fault, string_fault. On: a text of characters that stand for themselves.
 use Rattle.std.proofs.Common.{◌≡◌, ℕ, ◌<◌, ◌≤◌, Bool, true, false, List, [], ◌∷◌, refl, sym, ap, subst, ◌∙◌, arith, inl, inr, Option, Some, None}
 use Rattle.std.specs.Prelude.{◌==◌, ◌&&◌, not, nat_lt, nat_le, if◌then◌else◌}
 use Rattle.std.specs.List.{list_all, list_any}
@@ -9,7 +9,7 @@ use Rattle.std.proofs.lemmas.Str.Ascii.{IsAscii-nil, IsAscii-cons}
 use Rattle.pytoken.specs.declared.faults.TokenError.TheVariants.{FString}
 use Rattle.pytoken.specs.declared.meanings.Meaning.{Meaning}
 use Rattle.pytoken.specs.Escapes.{reading, meanings, meanings_after, is_named_escape, is_bad_escape, escape_fault}
-use Rattle.pytoken.specs.StringValues.{with_line_feeds, is_raw, is_bytes, is_formatted, body_of, literal_fault, string_fault}
+use Rattle.pytoken.specs.StringValues.{with_line_feeds, is_raw, is_bytes, is_formatted, body_of, nul_fault, literal_fault, string_fault}
 use Rattle.pytoken.proofs.Callers.Bodies.{body_all, filter_all}
 use Rattle.pyvalue.specs.Inner.Readings.{is_plain}
 use Rattle.pyvalue.proofs.LiteralLemmas.{fault_none, literal_formatted, literal_sound}
@@ -72,6 +72,11 @@ plain_ascii (b ∷ bs) all =
 -- plain bytes are plain characters
 pub plain_chars : (bs : List ℕ) → list_all is_plain bs ≡ true → list_all is_plain (chars bs) ≡ true
 plain_chars bs all = ap (list_all is_plain) (chars-IsAscii bs (plain_ascii bs all)) ∙ all
+
+pub plain_no_nul : (bs : List ℕ) → list_all is_plain bs ≡ true → nul_fault (chars bs) ≡ None
+unfolding nul_fault
+plain_no_nul bs all =
+    let none = none_passes (λ c. c == 0) (λ c is. (plain c is).nul) (chars bs) (plain_chars bs all) in rw none refl
 
 pub plain_formatted : (t : List ℕ) → is_formatted (with_line_feeds t) ≡ true → string_fault t ≡ Some FString
 unfolding string_fault

@@ -37,23 +37,32 @@ fn form_fault(alloc: Global, form: &str) -> Result<Option<TokenError>, AllocErro
 }
 
 /// Whether a text is ASCII alone, and so its own form.
+#[inline(always)]
 fn is_ascii(text: &str) -> bool
     ensures { IsTrue result ↔ AreLow text.now }
 {
     text.as_bytes().iter().all(|byte| *byte < 128)
 }
 
-/// The fault that a name has by itself, if it has one.
-pub fn name_fault(alloc: Global, text: &str) -> Result<Option<TokenError>, AllocError>
+/// The fault of a name, by its form.
+fn fault_by_form(alloc: Global, text: &str) -> Result<Option<TokenError>, AllocError>
     ensures { IfOk result (λ fault. fault ≡ name_fault (chars text.now)) }
 {
-    if is_ascii(text) {
-        return Ok(None);
-    }
     let own = is_nfkc(alloc, text)?;
     if own {
         return Ok(None);
     }
     let form = to_nfkc(alloc, text)?;
     form_fault(alloc, form.as_str())
+}
+
+/// The fault that a name has by itself, if it has one.
+#[inline(always)]
+pub fn name_fault(alloc: Global, text: &str) -> Result<Option<TokenError>, AllocError>
+    ensures { IfOk result (λ fault. fault ≡ name_fault (chars text.now)) }
+{
+    if is_ascii(text) {
+        return Ok(None);
+    }
+    fault_by_form(alloc, text)
 }

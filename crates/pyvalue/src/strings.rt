@@ -200,7 +200,7 @@ fn is_plain(byte: u8) -> bool
 }
 
 /// Whether each byte of a text is a character that stands for itself in each literal.
-fn are_plain(text: &str) -> bool
+pub(crate) fn are_plain(text: &str) -> bool
     ensures { result ≡ list_all is_plain text.now }
 {
     let bytes = text.as_bytes();

@@ -1,5 +1,5 @@
 -- What the code reads of a token's text from a place on.
-use Rattle.std.specs.Prelude.{◌≡◌, ℕ, ◌+◌, ◌*◌, ◌^◌, ◌<◌, EachIndex, slice_index, ◌==◌, ◌&&◌, ◌||◌, not, Bool, true, List, [], ◌∷◌, drop, filter, nat_lt, nat_le, Option, Some, None, if◌then◌else◌}
+use Rattle.std.specs.Prelude.{◌≡◌, ℕ, ◌+◌, ◌*◌, ◌^◌, ◌<◌, ◌≤◌, EachIndex, slice_index, ◌==◌, ◌&&◌, ◌||◌, not, Bool, true, List, [], ◌∷◌, drop, filter, nat_lt, nat_le, Option, Some, None, if◌then◌else◌}
 use Rattle.std.specs.Char.{digit_value, is_digit}
 use Rattle.std.specs.List.{flat_map}
 use Rattle.std.specs.Str.Parse.{digits_value}
@@ -45,6 +45,12 @@ abbrev pub whole_below : ℕ → List ℕ → Option ℕ
 whole_below radix ds =
     let n = digits_value radix (filter is_no_underscore ds) in
     if nat_le (2 ^ 128) n then None else Some n
+
+-- bytes are one decimal digit
+pub record IsOneDigit (bs : List ℕ) (digit : ℕ) : Type 0 where
+  pub whole : bs ≡ digit ∷ []
+  pub least : 48 ≤ digit
+  pub most : digit ≤ 57
 
 -- bytes of ASCII alone
 abbrev pub AreLow : List ℕ → Type 0
