@@ -6,7 +6,7 @@ ghost use Rattle.pylex.specs.Laws.{LiesIn};
 ghost use Rattle.pytoken.specs.Brackets.{opens, closes};
 ghost use Rattle.pytoken.specs.Refusals.{or_refusal};
 ghost use Rattle.pyparse.specs.Inner.Passing.{still_open, line_ends, exceeding, counted};
-ghost use Rattle.pyparse.specs.Inner.Passing.{kept_refusal, Gains, Passed};
+ghost use Rattle.pyparse.specs.Inner.Passing.{kept_refusal, TakesBracket, Gains, Passed};
 
 use crate::indents::Indents;
 use pylex::{Entry, Kind};
