@@ -124,9 +124,9 @@ impl<'a> Gather<'a> {
         })
     }
 
-    /// Takes the next entry of a source's listing.
+    /// Takes the next entry of a source's listing, whatever its type.
     #[inline(always)]
-    pub(crate) fn take(
+    fn take_entry(
         &mut self,
         alloc: Global,
         source: &'a Source,
@@ -141,6 +141,27 @@ impl<'a> Gather<'a> {
         push_given(&mut self.tokens, source, entry, begun)?;
         let faulty = entry_fault(alloc, source, entry)?;
         self.pass.take(source, entry, faulty)
+    }
+
+    /// Takes the next entry of a source's listing.
+    #[inline(always)]
+    pub(crate) fn take(
+        &mut self,
+        alloc: Global,
+        source: &'a Source,
+        entry: &Entry,
+    ) -> Result<(), AllocError>
+        requires lies { LiesIn source.now.text entry.now }
+        requires opened { self.old.pass.opened < 2 ^ 63 }
+        requires closed { self.old.pass.closed < 2 ^ 63 }
+        ensures { OnOk result (Gathers (chars source.now.text) entry.now self.old self.new) }
+    {
+        // Most entries are names and operators: what their type decides is decided once for all.
+        match entry.kind {
+            Kind::Name => self.take_entry(alloc, source, entry),
+            Kind::Op => self.take_entry(alloc, source, entry),
+            _ => self.take_entry(alloc, source, entry),
+        }
     }
 
     /// The tokens, or the first refusal, behind all entries.

@@ -85,13 +85,17 @@ fn entry_count(alloc: Global, source: &Source) -> usize {
     count
 }
 
-/// How many terminals tokens are that aren't layout.
-fn terminal_count(alloc: Global, tokens: &[Token]) -> Option<usize> {
+/// How many terminals the lines of some tokens have. One buffer takes those of each line.
+fn terminal_count(alloc: Global, tokens: &[Token<'_>]) -> Option<usize> {
+    let mut line = Vec::new(alloc);
     let mut count: usize = 0;
     for token in tokens {
         match terminal_of(alloc, token.kind, token.text).ok()? {
-            Terminal::Layout => {}
-            _ => count = count.wrapping_add(1),
+            Terminal::Layout => {
+                count = count.wrapping_add(line.len());
+                line.clear();
+            }
+            terminal => line.push(terminal).ok()?,
         }
     }
     Some(count)
