@@ -105,6 +105,7 @@ calm_letter p told bytes c cs digit x u w n = by bytes
     last : (o : Option ℕ) → p (by_point o).meaning ≡ false
     last None = told.point 92
     last (Some q) = told.point q
+
     by : (b : Bool) → p (escaped_by b (c ∷ cs)).meaning ≡ false
     by true = elim (cases_Bool (c == 10)) [
       | inl feed ↦ rw feed told.nothing

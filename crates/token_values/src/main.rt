@@ -52,24 +52,25 @@ fn tell(rt: &HostRuntime, alloc: Global, token: &Token) -> Option<()> {
     }
 }
 
-/// The tokens of a source. Where it has none, that is written.
-fn tokens<'a>(rt: &HostRuntime, alloc: Global, source: &'a Source) -> Option<Vec<Token<'a>>> {
-    match tokens_of(alloc, source) {
-        Ok(tokens) => Some(tokens),
-        Err(ParseFault::Refused(refusal)) => {
-            println!(rt; "refused {refusal:?}").ok()?;
-            None
-        }
-        Err(ParseFault::Memory) => None,
+/// Writes why a source has no tokens.
+fn tell_refusal(rt: &HostRuntime, fault: ParseFault) -> Option<()> {
+    match fault {
+        ParseFault::Refused(refusal) => println!(rt; "refused {refusal:?}").ok(),
+        ParseFault::Memory => None,
     }
 }
 
 /// Writes what all tokens of a source stand for.
 fn tell_values(rt: &HostRuntime, alloc: Global, source: &Source) -> Option<()> {
-    for token in &tokens(rt, alloc, source)? {
-        tell(rt, alloc, token)?;
+    match tokens_of(alloc, source) {
+        Ok(tokens) => {
+            for token in &tokens {
+                tell(rt, alloc, token)?;
+            }
+            Some(())
+        }
+        Err(fault) => tell_refusal(rt, fault),
     }
-    Some(())
 }
 
 /// How many entries a source has.
@@ -113,10 +114,10 @@ fn perform(rt: &HostRuntime, alloc: Global, what: &str, source: &Source) -> Opti
     match what {
         "values" => tell_values(rt, alloc, source),
         "list" => tell_count(rt, start, entry_count(alloc, source)),
-        "terminals" => {
-            let tokens = tokens(rt, alloc, source)?;
-            tell_count(rt, start, terminal_count(alloc, tokens.as_slice())?)
-        }
+        "terminals" => match tokens_of(alloc, source) {
+            Ok(tokens) => tell_count(rt, start, terminal_count(alloc, tokens.as_slice())?),
+            Err(fault) => tell_refusal(rt, fault),
+        },
         _ => None,
     }
 }
