@@ -1,16 +1,18 @@
 -- Carries: Indents::take, tokens_of. On: the first mixed line, behind more lines.
-use Rattle.std.proofs.Common.{◌≡◌, ℕ, ◌<◌, Bool, true, false, List, [], ◌∷◌, ◌++◌, ◌+◌, ◌-◌, ◌≤◌, length, take, drop, refl, sym, ap, ap₂, subst, ◌∙◌}
+use Rattle.std.proofs.Common.{◌≡◌, ℕ, zero, suc, ◌<◌, Bool, true, false, List, [], ◌∷◌, ◌++◌, ◌+◌, ◌-◌, ◌≤◌, length, take, drop, refl, sym, ap, ap₂, subst, ◌∙◌}
 use Rattle.std.proofs.Common.{arith, length-append, length-take, take-append-drop, Option, Some, None, append_assoc, append-nil}
 use Rattle.pysource.specs.declared.places.Place.{Place}
 use Rattle.std.specs.Char.{encode_utf8}
 use Rattle.std.specs.Str.{chars, encode_utf8_all, IsUtf8, IsCharBoundary}
 use Rattle.std.proofs.lemmas.Bool.Decides.{nat_tests}
+use Rattle.std.proofs.lemmas.List.{length-replicate}
 use Rattle.std.proofs.lemmas.List.Sums.{take_while-cons}
 use Rattle.std.proofs.lemmas.Str.{encode_ascii, encodes-chars, IsCharBoundary-at_seam}
 use Rattle.pylexeme.specs.Chars.{is_blank_char}
-use Rattle.pylex.specs.Margins.{blanks_of, widths_of}
+use Rattle.pylex.specs.Lines.{width_from}
+use Rattle.pylex.specs.Margins.{blanks_of, width_by_one, widths_of}
 use Rattle.pyparse.proofs.TextLemmas.{past, no_chars}
-use Rattle.std.specs.Prelude.{if◌then◌else◌}
+use Rattle.std.specs.Prelude.{replicate, if◌then◌else◌}
 use Rattle.std.specs.Option.{is_some}
 use Rattle.std.specs.List.{list_any}
 use Rattle.pylex.specs.declared.margins.Widths.{Widths}
@@ -21,7 +23,7 @@ use Rattle.pytoken.specs.Indentation.{Margin, behind_offset, margin_at, is_mixed
 use Rattle.pytoken.specs.Refusals.{or_refusal, margin_refusal, first_mixed}
 use Rattle.pytoken.proofs.Callers.OnePass.{behind_on, mixed_on}
 use Rattle.pyparse.specs.declared.indents.Indents.{Indents}
-use Rattle.pyparse.specs.Inner.Indenting.{is_logical_at, start_at, are_rising, narrower, Drops}
+use Rattle.pyparse.specs.Inner.Indenting.{is_logical_at, start_at, AreSpaces, begins_blank, are_rising, narrower, Drops}
 use Rattle.pyparse.specs.Inner.Indenting.{Measures, Measured}
 use Rattle.pyparse.proofs.RisingLemmas.{mixed_is, stands_on}
 
@@ -158,6 +160,70 @@ stops_at start now left c had cut other =
 pub stops_at_end : (start now : List ℕ) → Passed start now → length now ≡ 0 →
     (start ≡ blanks_of (chars start) ++ now) × (chars now ≡ drop (length (blanks_of (chars start))) (chars start))
 stops_at_end start now had none = stopped start now had (ap blanks_of (no_chars now none))
+
+-- Spaces at the front of a text
+
+space_front : (t : List ℕ) → 32 ∷ t ≡ encode_utf8 32 ++ t
+space_front t = sym (ap (λ (front : List ℕ). front ++ t) (encode_ascii 32 (omega arith)))
+
+spaces_utf8 : (n : ℕ) (rest : List ℕ) → IsUtf8 (replicate n 32 ++ rest) → IsUtf8 rest
+spaces_utf8 zero rest utf8 = utf8
+spaces_utf8 (suc n) rest utf8 = spaces_utf8 n rest (past (32 ∷ (replicate n 32 ++ rest)) (replicate n 32 ++ rest) 32 utf8 (space_front (replicate n 32 ++ rest))).utf8
+
+spaces_chars : (n : ℕ) (rest : List ℕ) → IsUtf8 (replicate n 32 ++ rest) → chars (replicate n 32 ++ rest) ≡ replicate n 32 ++ chars rest
+spaces_chars zero rest utf8 = refl
+spaces_chars (suc n) rest utf8 =
+    let s = past (32 ∷ (replicate n 32 ++ rest)) (replicate n 32 ++ rest) 32 utf8 (space_front (replicate n 32 ++ rest)) in
+    s.same ∙ ap (λ (t : List ℕ). 32 ∷ t) (spaces_chars n rest s.utf8)
+
+spaces_blanks : (n : ℕ) (cs : List ℕ) → begins_blank cs ≡ false → blanks_of (replicate n 32 ++ cs) ≡ replicate n 32
+spaces_blanks zero [] other = refl
+spaces_blanks zero (c ∷ cs) other = take_while-cons is_blank_char c cs ∙ (rw other refl)
+spaces_blanks (suc n) cs other =
+    take_while-cons is_blank_char 32 (replicate n 32 ++ cs) ∙ ap (λ (t : List ℕ). 32 ∷ t) (spaces_blanks n cs other)
+
+behind_spaces : (n : ℕ) (cs : List ℕ) → drop n (replicate n 32 ++ cs) ≡ cs
+behind_spaces zero cs = refl
+behind_spaces (suc n) cs = behind_spaces n cs
+
+eight_spaces : (m n : ℕ) → width_from m (replicate n 32) ≡ m + n
+unfolding width_from
+eight_spaces m zero = omega arith
+eight_spaces m (suc n) = eight_spaces (m + 1) n ∙ omega arith
+
+one_spaces : (m n : ℕ) → width_by_one m (replicate n 32) ≡ m + n
+unfolding width_by_one
+one_spaces m zero = omega arith
+one_spaces m (suc n) = one_spaces (m + 1) n ∙ omega arith
+
+abbrev pub widths_by : ℕ → ℕ → Widths
+widths_by eight one = record { eight = eight; one = one }
+
+-- a text that begins with so many spaces
+pub record Spaced (bs : List ℕ) (n : ℕ) : Type 0 where
+  pub boundary : IsCharBoundary bs n
+  pub widths : begins_blank (chars (drop n bs)) ≡ false → widths_by n n ≡ widths_of (chars bs)
+  pub rest : begins_blank (chars (drop n bs)) ≡ false → drop (length (blanks_of (chars bs))) (chars bs) ≡ chars (drop n bs)
+
+pub spaced : (bs : List ℕ) (n : ℕ) → IsUtf8 bs → AreSpaces bs n → Spaced bs n
+spaced bs n utf8 is =
+    let behind = drop n bs in
+    let whole : replicate n 32 ++ behind ≡ bs = ap (λ (t : List ℕ). t ++ behind) (sym is.spaces) ∙ take-append-drop n bs in
+    let split : IsUtf8 (replicate n 32 ++ behind) = subst IsUtf8 (sym whole) utf8 in
+    let same : chars bs ≡ replicate n 32 ++ chars behind = ap chars (sym whole) ∙ spaces_chars n behind split in
+    let blanks : begins_blank (chars behind) ≡ false → blanks_of (chars bs) ≡ replicate n 32 =
+    λ other. ap blanks_of same ∙ spaces_blanks n (chars behind) other in
+    let none : 0 + n ≡ n = omega arith in
+    record {
+      boundary =
+          subst (IsCharBoundary bs) (length-replicate n 32)
+          (IsCharBoundary-at_seam bs (replicate n 32) behind (sym whole) (spaces_utf8 n behind split));
+      widths = λ other.
+          sym (ap₂ widths_by (ap (width_from 0) (blanks other) ∙ eight_spaces 0 n ∙ none) (ap (width_by_one 0) (blanks other) ∙ one_spaces 0 n ∙ none));
+      rest = λ other.
+          ap₂ (λ (b t : List ℕ). drop (length b) t) (blanks other) same
+          ∙ ap (λ (k : ℕ). drop k (replicate n 32 ++ chars behind)) (length-replicate n 32) ∙ behind_spaces n (chars behind);
+    }
 
 -- The line that begins at an offset
 

@@ -1,5 +1,5 @@
 -- What the answers for a source say.
-use Rattle.std.specs.Prelude.{◌≡◌, Option, Some, string_bytes}
+use Rattle.std.specs.Prelude.{◌≡◌, Option, Some}
 use Rattle.std.specs.Str.{chars}
 use Rattle.pytoken.specs.declared.refusals.Refusal.{Refusal}
 use Rattle.pytoken.specs.Tokens
@@ -9,7 +9,7 @@ use Rattle.pyparse.specs.declared.tokens.Token.{Token}
 
 -- a token, its text as characters
 abbrev pub token_of : Token → Tokens.Token
-token_of t = record { kind = t.kind; start = t.start; text = chars (string_bytes t.text) }
+token_of t = record { kind = t.kind; start = t.start; text = chars t.text.now }
 
 -- a fault is the reason why a source is refused, or memory was wanting, as it may be at any point
 abbrev pub Tells : Option Refusal → ParseFault → Type 0

@@ -20,6 +20,7 @@ use pyvalue::token_fault;
 use std::alloc::{AllocError, Global};
 
 /// What stands between an entry's offsets in a source.
+#[inline(always)]
 fn text_of<'a>(source: &'a Source, entry: &Entry) -> &'a str
     requires { LiesIn source.now.text entry.now }
     ensures { chars result.now ≡ text_of (chars source.now.text) entry.now }
@@ -28,6 +29,7 @@ fn text_of<'a>(source: &'a Source, entry: &Entry) -> &'a str
 }
 
 /// The refusal of an entry with a fault of its own.
+#[inline(always)]
 fn entry_fault(alloc: Global, source: &Source, entry: &Entry) -> Result<Option<Refusal>, AllocError>
     requires { LiesIn source.now.text entry.now }
     ensures { IfOk result (λ fault. fault ≡ entry_refusal (chars source.now.text) entry.now) }
@@ -39,52 +41,45 @@ fn entry_fault(alloc: Global, source: &Source, entry: &Entry) -> Result<Option<R
 }
 
 /// Appends a token.
-fn push(
-    tokens: &mut Vec<Token>,
-    alloc: Global,
+#[inline(always)]
+fn push<'a>(
+    tokens: &mut Vec<Token<'a>>,
     kind: Kind,
     start: Place,
-    text: &str,
+    text: &'a str,
 ) -> Result<(), AllocError>
     ensures { OnOk result (Grows tokens.old.items tokens.new.items (record { kind = kind; start = start; text = chars text.now } ∷ [])) }
 {
-    let text = String::from_str(alloc, text)?;
     tokens.push(Token { kind, start, text })?;
     Ok(())
 }
 
 /// Appends the token of an entry.
-fn push_entry(
-    tokens: &mut Vec<Token>,
-    alloc: Global,
-    source: &Source,
+#[inline(always)]
+fn push_entry<'a>(
+    tokens: &mut Vec<Token<'a>>,
+    source: &'a Source,
     entry: &Entry,
 ) -> Result<(), AllocError>
     requires { LiesIn source.now.text entry.now }
     ensures { OnOk result (Grows tokens.old.items tokens.new.items (text_token (chars source.now.text) entry.now ∷ [])) }
 {
-    push(
-        tokens,
-        alloc,
-        entry.kind,
-        entry.start,
-        text_of(source, entry),
-    )
+    push(tokens, entry.kind, entry.start, text_of(source, entry))
 }
 
 /// Appends the NEWLINE that stands for a missing one.
-fn push_newline(tokens: &mut Vec<Token>, alloc: Global, source: &Source) -> Result<(), AllocError>
+fn push_newline<'a>(tokens: &mut Vec<Token<'a>>, source: &'a Source) -> Result<(), AllocError>
     ensures { OnOk result (Grows tokens.old.items tokens.new.items (supplied (chars source.now.text) ∷ [])) }
 {
     let text = source.text();
-    push(tokens, alloc, Kind::Newline, place_of(text, text.len()), "")
+    push(tokens, Kind::Newline, place_of(text, text.len()), "")
 }
 
 /// Appends the tokens that an entry gives, by whether its line has tokens and no NEWLINE yet.
-fn push_given(
-    tokens: &mut Vec<Token>,
-    alloc: Global,
-    source: &Source,
+#[inline(always)]
+fn push_given<'a>(
+    tokens: &mut Vec<Token<'a>>,
+    source: &'a Source,
     entry: &Entry,
     begun: bool,
 ) -> Result<(), AllocError>
@@ -95,31 +90,31 @@ fn push_given(
         Kind::Encoding | Kind::Comment | Kind::Nl => Ok(()),
         Kind::Newline => {
             if begun {
-                push_entry(tokens, alloc, source, entry)
+                push_entry(tokens, source, entry)
             } else {
                 Ok(())
             }
         }
         Kind::Dedent | Kind::EndMarker => {
             if begun {
-                push_newline(tokens, alloc, source)?;
+                push_newline(tokens, source)?;
             }
-            push_entry(tokens, alloc, source, entry)
+            push_entry(tokens, source, entry)
         }
-        _ => push_entry(tokens, alloc, source, entry),
+        _ => push_entry(tokens, source, entry),
     }
 }
 
 /// What one pass over a listing has gathered behind some of its entries.
 #[derive(Drop)]
-pub(crate) struct Gather {
-    tokens: Vec<Token>,
+pub(crate) struct Gather<'a> {
+    tokens: Vec<Token<'a>>,
     pass: Pass,
 }
 
-impl Gather {
+impl<'a> Gather<'a> {
     /// No entry of a source was read.
-    pub(crate) fn new(alloc: Global, source: &Source) -> Result<Gather, AllocError>
+    pub(crate) fn new(alloc: Global, source: &'a Source) -> Result<Gather<'a>, AllocError>
         requires { IsCharBoundary source.now.text 0 }
         ensures { IfOk result (λ made. Gathered (chars source.now.text) [] made) }
     {
@@ -129,11 +124,12 @@ impl Gather {
         })
     }
 
-    /// Takes the next entry of a source's listing.
-    pub(crate) fn take(
+    /// Takes the next entry of a source's listing, whatever its type.
+    #[inline(always)]
+    fn take_entry(
         &mut self,
         alloc: Global,
-        source: &Source,
+        source: &'a Source,
         entry: &Entry,
     ) -> Result<(), AllocError>
         requires lies { LiesIn source.now.text entry.now }
@@ -142,17 +138,38 @@ impl Gather {
         ensures { OnOk result (Gathers (chars source.now.text) entry.now self.old self.new) }
     {
         let begun = self.pass.has_begun();
-        push_given(&mut self.tokens, alloc, source, entry, begun)?;
+        push_given(&mut self.tokens, source, entry, begun)?;
         let faulty = entry_fault(alloc, source, entry)?;
         self.pass.take(source, entry, faulty)
     }
 
+    /// Takes the next entry of a source's listing.
+    #[inline(always)]
+    pub(crate) fn take(
+        &mut self,
+        alloc: Global,
+        source: &'a Source,
+        entry: &Entry,
+    ) -> Result<(), AllocError>
+        requires lies { LiesIn source.now.text entry.now }
+        requires opened { self.old.pass.opened < 2 ^ 63 }
+        requires closed { self.old.pass.closed < 2 ^ 63 }
+        ensures { OnOk result (Gathers (chars source.now.text) entry.now self.old self.new) }
+    {
+        // Most entries are names and operators: what their type decides is decided once for all.
+        match entry.kind {
+            Kind::Name => self.take_entry(alloc, source, entry),
+            Kind::Op => self.take_entry(alloc, source, entry),
+            _ => self.take_entry(alloc, source, entry),
+        }
+    }
+
     /// The tokens, or the first refusal, behind all entries.
-    pub(crate) fn finish(self) -> Result<Vec<Token>, ParseFault>
+    pub(crate) fn finish(self) -> Result<Vec<Token<'a>>, ParseFault>
         ensures tokens { IfOk result (λ ts. map token_of ts.items
-            ≡ map token_of self.tokens.items) }
-        ensures sound { OnOk result (kept_refusal self.pass ≡ None) }
-        ensures refused { IfErr result (Tells (kept_refusal self.pass)) }
+            ≡ map token_of self.entry.tokens.items) }
+        ensures sound { OnOk result (kept_refusal self.entry.pass ≡ None) }
+        ensures refused { IfErr result (Tells (kept_refusal self.entry.pass)) }
     {
         match self.pass.refusal() {
             Some(refusal) => Err(ParseFault::Refused(refusal)),

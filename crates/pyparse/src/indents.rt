@@ -5,10 +5,10 @@
 ghost use Rattle.std.specs.Prelude.{◌≡◌, ◌++◌, true, [], length, drop, OnOk, None};
 ghost use Rattle.std.specs.Str.{chars, IsCharBoundary};
 ghost use Rattle.pylexeme.specs.Chars.{is_blank_char};
-ghost use Rattle.pylex.specs.Margins.{blanks_of};
+ghost use Rattle.pylex.specs.Margins.{blanks_of, widths_of};
 ghost use Rattle.pytoken.specs.Indentation.{behind_offset, are_alike, margin_at};
 ghost use Rattle.pyparse.specs.Inner.Indenting.{is_logical_at, start_at, are_rising};
-ghost use Rattle.pyparse.specs.Inner.Indenting.{Drops, Measures};
+ghost use Rattle.pyparse.specs.Inner.Indenting.{AreSpaces, begins_blank, Drops, Measures};
 
 use pylex::{Widths, begins_thing, widths};
 use pysource::{Place, Source, place_of};
@@ -37,6 +37,28 @@ fn behind_blanks(text: &str) -> &str
             return text;
         }
         text = left.as_str();
+    }
+}
+
+/// How many spaces stand at the front of a text.
+fn space_count(text: &str) -> usize
+    ensures { AreSpaces text.now result }
+{
+    let bytes = text.as_bytes();
+    let mut count = 0;
+    while count < bytes.len() && bytes[count] == b' ' {
+        count += 1;
+    }
+    count
+}
+
+/// Whether a blank stands at the front of a text.
+fn begins_blank(text: &str) -> bool
+    ensures { result ≡ begins_blank (chars text.now) }
+{
+    match text.chars().next() {
+        Some(first) => is_blank(first),
+        None => false,
     }
 }
 
@@ -116,21 +138,64 @@ impl Indents {
         self.mixed
     }
 
-    /// Takes the line that begins at an offset, where it is a logical one.
-    pub(crate) fn take(&mut self, source: &Source, offset: usize) -> Result<(), AllocError>
-        requires { IsCharBoundary source.now.text offset }
+    /// Takes the logical line of these widths that begins at an offset.
+    fn take_line(
+        &mut self,
+        source: &Source,
+        offset: usize,
+        widths: Widths,
+    ) -> Result<(), AllocError>
+        requires boundary { IsCharBoundary source.now.text offset }
+        requires free { self.old.mixed ≡ None }
+        requires logical { is_logical_at (chars source.now.text) offset ≡ true }
+        requires widths { widths ≡ widths_of (behind_offset (chars source.now.text) offset) }
         ensures { OnOk result
             (Measures (margin_at (chars source.now.text) offset) self.old self.new) }
     {
-        if self.mixed.is_some() || !is_logical_at(source, offset) {
-            return Ok(());
-        }
-        let widths = widths(source, offset);
         if drop_wider(&mut self.standing, widths) {
             self.mixed = Some(Refusal::MixedTabs(start_of(source, offset)));
             return Ok(());
         }
         self.standing.push(widths)?;
         Ok(())
+    }
+
+    /// Takes the line that begins at an offset with any blanks, where it is a logical one.
+    fn take_any(&mut self, source: &Source, offset: usize) -> Result<(), AllocError>
+        requires boundary { IsCharBoundary source.now.text offset }
+        requires free { self.old.mixed ≡ None }
+        ensures { OnOk result
+            (Measures (margin_at (chars source.now.text) offset) self.old self.new) }
+    {
+        if !is_logical_at(source, offset) {
+            return Ok(());
+        }
+        self.take_line(source, offset, widths(source, offset))
+    }
+
+    /// Takes the line that begins at an offset, where it is a logical one.
+    pub(crate) fn take(&mut self, source: &Source, offset: usize) -> Result<(), AllocError>
+        requires { IsCharBoundary source.now.text offset }
+        ensures { OnOk result
+            (Measures (margin_at (chars source.now.text) offset) self.old self.new) }
+    {
+        if self.mixed.is_some() {
+            return Ok(());
+        }
+        let line = &source.text()[offset..];
+        let count = space_count(line);
+        let behind = &line[count..];
+        // Most lines begin with spaces alone, so many by both widths.
+        if begins_blank(behind) {
+            return self.take_any(source, offset);
+        }
+        if !begins_thing(behind) {
+            return Ok(());
+        }
+        let widths = Widths {
+            eight: count,
+            one: count,
+        };
+        self.take_line(source, offset, widths)
     }
 }

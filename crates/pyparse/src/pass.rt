@@ -6,7 +6,7 @@ ghost use Rattle.pylex.specs.Laws.{LiesIn};
 ghost use Rattle.pytoken.specs.Brackets.{opens, closes};
 ghost use Rattle.pytoken.specs.Refusals.{or_refusal};
 ghost use Rattle.pyparse.specs.Inner.Passing.{still_open, line_ends, exceeding, counted};
-ghost use Rattle.pyparse.specs.Inner.Passing.{kept_refusal, Gains, Passed};
+ghost use Rattle.pyparse.specs.Inner.Passing.{kept_refusal, TakesBracket, Gains, Passed};
 
 use crate::indents::Indents;
 use pylex::{Entry, Kind};
@@ -66,6 +66,16 @@ fn line_ends(kind: Kind, opened: usize, closed: usize) -> bool
     }
 }
 
+/// Keeps a refusal, if there is one, where none is kept yet.
+#[inline(always)]
+fn keep(kept: &mut Option<Refusal>, refusal: Option<Refusal>)
+    ensures { kept.new ≡ or_refusal kept.old refusal }
+{
+    if refusal.is_some() && kept.is_none() {
+        *kept = refusal;
+    }
+}
+
 /// The first of two refusals.
 fn first(one: Option<Refusal>, other: Option<Refusal>) -> Option<Refusal>
     ensures { result ≡ or_refusal one other }
@@ -118,6 +128,7 @@ impl Pass {
     }
 
     /// The refusal of an entry that opens one bracket too many.
+    #[inline(always)]
     fn exceeding(&self, entry: &Entry) -> Option<Refusal>
         requires { self.now.opened < 2 ^ 63 }
         ensures { result ≡ exceeding entry.now self.now.opened self.now.closed }
@@ -128,7 +139,26 @@ impl Pass {
         None
     }
 
+    /// Takes an entry that may be a bracket.
+    #[inline(always)]
+    fn take_bracket(&mut self, entry: &Entry)
+        requires opened { self.old.opened < 2 ^ 63 }
+        requires closed { self.old.closed < 2 ^ 63 }
+        ensures { TakesBracket entry.now self.old self.new }
+    {
+        let Some(exact) = entry.exact else {
+            return;
+        };
+        if exact.is_opener() {
+            let deep = self.exceeding(entry);
+            keep(&mut self.deep, deep);
+            self.opened += 1;
+        }
+        self.closed = counted(self.closed, exact.is_closer());
+    }
+
     /// Takes the next entry of a source's listing, with its refusal if it has a fault of its own.
+    #[inline(always)]
     pub(crate) fn take(
         &mut self,
         source: &Source,
@@ -143,10 +173,8 @@ impl Pass {
         if line_ends(entry.kind, self.opened, self.closed) {
             self.indents.take(source, entry.to)?;
         }
-        self.faulty = first(self.faulty, faulty);
-        self.deep = first(self.deep, self.exceeding(entry));
-        self.opened = counted(self.opened, opens(entry));
-        self.closed = counted(self.closed, closes(entry));
+        keep(&mut self.faulty, faulty);
+        self.take_bracket(entry);
         self.begun = still_open(entry.kind, self.begun);
         Ok(())
     }

@@ -14,12 +14,12 @@ use pysource::{Place, Source};
 use pytoken::Refusal;
 use std::alloc::Global;
 
-/// A token as the grammar reads it: its type, where it starts, and its text.
-#[derive(Drop)]
-pub struct Token {
+/// A token as the grammar reads it: its type, where it starts, and its text, lent from the source.
+#[derive(Clone, Copy, Debug, PartialEq, Eq)]
+pub struct Token<'a> {
     pub kind: Kind,
     pub start: Place,
-    pub text: String,
+    pub text: &'a str,
 }
 
 /// The tokens of a source: its listing without the encoding, comments, and line ends that close no
@@ -30,7 +30,7 @@ pub struct Token {
 /// [`ParseFault::Refused`] by the fault that ends the listing; else by the first token or comment
 /// with a fault of its own; else by the first bracket with 600 open around it; else by the first
 /// line whose indentation depends on how wide a tab is.
-pub fn tokens_of(alloc: Global, source: &Source) -> Result<Vec<Token>, ParseFault>
+pub fn tokens_of<'a>(alloc: Global, source: &'a Source) -> Result<Vec<Token<'a>>, ParseFault>
     ensures tokens { IfOk result (λ ts. map token_of ts.items ≡ tokens (in_characters source.now)) }
     ensures sound { OnOk result (refusal (in_characters source.now) ≡ None) }
     ensures refused { IfErr result (Tells (refusal (in_characters source.now))) }

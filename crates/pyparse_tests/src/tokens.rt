@@ -26,7 +26,7 @@ fn gives(
             *start,
             "at {text:?}"
         );
-        assert_eq!(rt; token.text.as_str(), *expected, "at {text:?}");
+        assert_eq!(rt; token.text, *expected, "at {text:?}");
     }
     Ok(())
 }

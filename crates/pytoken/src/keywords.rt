@@ -46,47 +46,105 @@ pub enum Keyword {
     Yield,
 }
 
-/// The keyword whose bytes a text has.
+/// The keyword whose bytes a text has: its first byte leaves few to compare it with.
 #[tactic(auto, unfolding(crate::specs::Keywords::keywords, crate::specs::Keywords::keyword_of))]
 fn spelled(text: &str) -> Option<Keyword>
     ensures { result ≡ keyword_of text.now }
 {
-    match text {
-        "False" => Some(Keyword::False),
-        "None" => Some(Keyword::None),
-        "True" => Some(Keyword::True),
-        "and" => Some(Keyword::And),
-        "as" => Some(Keyword::As),
-        "assert" => Some(Keyword::Assert),
-        "async" => Some(Keyword::Async),
-        "await" => Some(Keyword::Await),
-        "break" => Some(Keyword::Break),
-        "class" => Some(Keyword::Class),
-        "continue" => Some(Keyword::Continue),
-        "def" => Some(Keyword::Def),
-        "del" => Some(Keyword::Del),
-        "elif" => Some(Keyword::Elif),
-        "else" => Some(Keyword::Else),
-        "except" => Some(Keyword::Except),
-        "finally" => Some(Keyword::Finally),
-        "for" => Some(Keyword::For),
-        "from" => Some(Keyword::From),
-        "global" => Some(Keyword::Global),
-        "if" => Some(Keyword::If),
-        "import" => Some(Keyword::Import),
-        "in" => Some(Keyword::In),
-        "is" => Some(Keyword::Is),
-        "lambda" => Some(Keyword::Lambda),
-        "nonlocal" => Some(Keyword::Nonlocal),
-        "not" => Some(Keyword::Not),
-        "or" => Some(Keyword::Or),
-        "pass" => Some(Keyword::Pass),
-        "raise" => Some(Keyword::Raise),
-        "return" => Some(Keyword::Return),
-        "try" => Some(Keyword::Try),
-        "while" => Some(Keyword::While),
-        "with" => Some(Keyword::With),
-        "yield" => Some(Keyword::Yield),
+    let first = text.as_bytes().first()?;
+    match *first {
+        b'F' => match text {
+            "False" => Some(Keyword::False),
+            _ => None,
+        },
+        b'N' => match text {
+            "None" => Some(Keyword::None),
+            _ => None,
+        },
+        b'T' => match text {
+            "True" => Some(Keyword::True),
+            _ => None,
+        },
+        b'a' => match text {
+            "and" => Some(Keyword::And),
+            "as" => Some(Keyword::As),
+            "assert" => Some(Keyword::Assert),
+            "async" => Some(Keyword::Async),
+            "await" => Some(Keyword::Await),
+            _ => None,
+        },
+        b'b' => match text {
+            "break" => Some(Keyword::Break),
+            _ => None,
+        },
+        b'c' => match text {
+            "class" => Some(Keyword::Class),
+            "continue" => Some(Keyword::Continue),
+            _ => None,
+        },
+        b'd' => match text {
+            "def" => Some(Keyword::Def),
+            "del" => Some(Keyword::Del),
+            _ => None,
+        },
+        b'e' => match text {
+            "elif" => Some(Keyword::Elif),
+            "else" => Some(Keyword::Else),
+            "except" => Some(Keyword::Except),
+            _ => None,
+        },
+        b'f' => match text {
+            "finally" => Some(Keyword::Finally),
+            "for" => Some(Keyword::For),
+            "from" => Some(Keyword::From),
+            _ => None,
+        },
+        b'g' => match text {
+            "global" => Some(Keyword::Global),
+            _ => None,
+        },
+        b'i' => match text {
+            "if" => Some(Keyword::If),
+            "import" => Some(Keyword::Import),
+            "in" => Some(Keyword::In),
+            "is" => Some(Keyword::Is),
+            _ => None,
+        },
+        b'l' => match text {
+            "lambda" => Some(Keyword::Lambda),
+            _ => None,
+        },
+        b'n' => match text {
+            "nonlocal" => Some(Keyword::Nonlocal),
+            "not" => Some(Keyword::Not),
+            _ => None,
+        },
+        b'o' => match text {
+            "or" => Some(Keyword::Or),
+            _ => None,
+        },
+        b'p' => match text {
+            "pass" => Some(Keyword::Pass),
+            _ => None,
+        },
+        b'r' => match text {
+            "raise" => Some(Keyword::Raise),
+            "return" => Some(Keyword::Return),
+            _ => None,
+        },
+        b't' => match text {
+            "try" => Some(Keyword::Try),
+            _ => None,
+        },
+        b'w' => match text {
+            "while" => Some(Keyword::While),
+            "with" => Some(Keyword::With),
+            _ => None,
+        },
+        b'y' => match text {
+            "yield" => Some(Keyword::Yield),
+            _ => None,
+        },
         _ => None,
     }
 }

@@ -5,5 +5,6 @@ mod EscapeLemmas
 mod Filtered
 mod LiteralLemmas
 mod PlainLemmas
+mod CalmLemmas
 mod FaultLemmas
 mod TerminalLemmas

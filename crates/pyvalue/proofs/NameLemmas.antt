@@ -1,9 +1,16 @@
--- Carries: form_fault, name_fault. On: the tests of a form.
-use Rattle.std.proofs.Common.{◌≡◌, ℕ, Bool, true, false, List, [], ◌∷◌, refl, sym, ap, Some, None, is_some}
+-- Carries: form_fault, name_fault. On: the tests of a form, and names of ASCII alone.
+use Rattle.std.proofs.Common.{◌≡◌, ℕ, Bool, true, false, List, [], ◌∷◌, refl, sym, ap, ◌∙◌, get_or, Some, None, is_some}
 use Rattle.std.specs.Prelude.{◌&&◌, ◌↔◌, IsTrue}
-use Rattle.std.specs.Str.{chars}
+use Rattle.std.specs.Char.{is_ascii}
+use Rattle.std.specs.List.{list_all}
+use Rattle.std.specs.Str.{chars, IsAscii}
+use Rattle.std.proofs.lemmas.Bool.{and_parts, ltb-true}
+use Rattle.std.proofs.lemmas.List.Recursion.{and_at}
+use Rattle.std.proofs.lemmas.Str.Ascii.{IsAscii-nil, IsAscii-cons}
+use Rattle.std.proofs.lemmas.Str.{chars-IsAscii}
 use Rattle.std.proofs.lemmas.Slice.Eq.{bytes_eq-Decides}
 use Rattle.unicode_normalization.specs.Forms.{Nfkc, nfkc, is_in_form, IsInForm}
+use Rattle.unicode_normalization.proofs.FormsLemmas.{normalize-ascii}
 use Rattle.pylexeme.specs.Lexemes.{is_name}
 use Rattle.pytoken.specs.declared.faults.TokenError.TheVariants.{NameForm}
 use Rattle.pytoken.specs.Keywords.{keyword_of}
@@ -44,3 +51,15 @@ name_own t own = rw own refl
 pub name_other : (t : List ℕ) → is_in_form Nfkc t ≡ false → name_fault t ≡ form_fault (nfkc t)
 unfolding name_fault
 name_other t other = rw other refl
+
+ascii_from : (bs : List ℕ) → list_all is_ascii bs ≡ true → IsAscii bs
+ascii_from [] all = IsAscii-nil
+ascii_from (b ∷ bs) all =
+    let parts = and_parts (is_ascii b) (list_all is_ascii bs) all in IsAscii-cons b bs (ltb-true b 128 parts.0) (ascii_from bs parts.1)
+
+pub name_ascii : (bs : List ℕ) → list_all is_ascii bs ≡ true → name_fault (chars bs) ≡ None
+name_ascii bs all =
+    let same = chars-IsAscii bs (ascii_from bs all) in
+    let form =
+    normalize-ascii Nfkc bs (λ k d within. ltb-true (get_or bs k d) 128 (and_at (list_all is_ascii) is_ascii refl (λ x xs. refl) bs k d within all)) in
+    name_own (chars bs) ((bytes_eq-Decides (nfkc (chars bs)) (chars bs)).1 (ap nfkc same ∙ form ∙ sym same))

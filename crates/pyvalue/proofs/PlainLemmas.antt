@@ -1,12 +1,15 @@
--- Carries: string_fault. On: a literal of characters that stand for themselves.
-use Rattle.std.proofs.Common.{◌≡◌, ℕ, Bool, true, false, List, [], ◌∷◌, refl, sym, ap, ◌∙◌, inl, inr, Option, Some, None}
+-- Carries: comment_fault, string_fault. On: a text of characters that stand for themselves.
+use Rattle.std.proofs.Common.{◌≡◌, ℕ, ◌<◌, ◌≤◌, Bool, true, false, List, [], ◌∷◌, refl, sym, ap, subst, ◌∙◌, arith, inl, inr, Option, Some, None}
 use Rattle.std.specs.Prelude.{◌==◌, ◌&&◌, not, nat_lt, nat_le, if◌then◌else◌}
 use Rattle.std.specs.List.{list_all, list_any}
+use Rattle.std.specs.Str.{chars, IsAscii}
 use Rattle.std.proofs.lemmas.Bool.{cases_Bool, and_parts, leb-true, le-ltb}
+use Rattle.std.proofs.lemmas.Str.{chars-IsAscii}
+use Rattle.std.proofs.lemmas.Str.Ascii.{IsAscii-nil, IsAscii-cons}
 use Rattle.pytoken.specs.declared.faults.TokenError.TheVariants.{FString}
 use Rattle.pytoken.specs.declared.meanings.Meaning.{Meaning}
 use Rattle.pytoken.specs.Escapes.{reading, meanings, meanings_after, is_named_escape, is_bad_escape, escape_fault}
-use Rattle.pytoken.specs.StringValues.{with_line_feeds, is_raw, is_bytes, is_formatted, body_of, literal_fault, string_fault}
+use Rattle.pytoken.specs.StringValues.{with_line_feeds, is_raw, is_bytes, is_formatted, body_of, nul_fault, literal_fault, string_fault}
 use Rattle.pytoken.proofs.Callers.Bodies.{body_all, filter_all}
 use Rattle.pyvalue.specs.Inner.Readings.{is_plain}
 use Rattle.pyvalue.proofs.LiteralLemmas.{fault_none, literal_formatted, literal_sound}
@@ -58,6 +61,22 @@ unfolding meanings
 no_fault raw bytes cs all =
     fault_none (meanings_after raw bytes 0 cs) (no_escape is_named_escape (λ m. refl) raw bytes cs all)
     (no_escape is_bad_escape (λ m. refl) raw bytes cs all)
+
+plain_ascii : (bs : List ℕ) → list_all is_plain bs ≡ true → IsAscii bs
+plain_ascii [] all = IsAscii-nil
+plain_ascii (b ∷ bs) all =
+    let parts = and_parts (is_plain b) (list_all is_plain bs) all in
+    let first = and_parts (nat_le b 0x7F) (not (b == 92) && not (b == 0)) parts.0 in
+    IsAscii-cons b bs (omega (arith, leb-true b 0x7F first.0)) (plain_ascii bs parts.1)
+
+-- plain bytes are plain characters
+pub plain_chars : (bs : List ℕ) → list_all is_plain bs ≡ true → list_all is_plain (chars bs) ≡ true
+plain_chars bs all = ap (list_all is_plain) (chars-IsAscii bs (plain_ascii bs all)) ∙ all
+
+pub plain_no_nul : (bs : List ℕ) → list_all is_plain bs ≡ true → nul_fault (chars bs) ≡ None
+unfolding nul_fault
+plain_no_nul bs all =
+    let none = none_passes (λ c. c == 0) (λ c is. (plain c is).nul) (chars bs) (plain_chars bs all) in rw none refl
 
 pub plain_formatted : (t : List ℕ) → is_formatted (with_line_feeds t) ≡ true → string_fault t ≡ Some FString
 unfolding string_fault

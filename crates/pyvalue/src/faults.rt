@@ -9,7 +9,7 @@ ghost use Rattle.pytoken.specs.Terminals.{fault_of};
 
 use crate::names::name_fault;
 use crate::numbers::number_value;
-use crate::strings::string_fault;
+use crate::strings::{are_plain, string_fault};
 use pylex::Kind;
 use pytoken::TokenError;
 use std::alloc::{AllocError, Global};
@@ -40,6 +40,9 @@ fn has_nul(text: &str) -> bool
 pub(crate) fn comment_fault(text: &str) -> Option<TokenError>
     ensures { result ≡ nul_fault (chars text.now) }
 {
+    if are_plain(text) {
+        return None;
+    }
     if has_nul(text) {
         Some(TokenError::Nul)
     } else {

@@ -2,7 +2,9 @@
 //!
 //! Python language reference, 2.3 "Identifiers and keywords".
 
-ghost use Rattle.std.specs.Prelude.{◌≡◌, IfOk, string_bytes};
+ghost use Rattle.std.specs.Prelude.{◌≡◌, ◌&&◌, IfOk, string_bytes};
+ghost use Rattle.std.specs.Char.{is_ascii};
+ghost use Rattle.std.specs.List.{list_all};
 ghost use Rattle.std.specs.Str.{chars, encode_utf8_all};
 ghost use Rattle.unicode_normalization.specs.Forms.{nfkc};
 ghost use Rattle.pytoken.specs.NameValues.{name_fault, form_fault};
@@ -35,8 +37,38 @@ fn form_fault(alloc: Global, form: &str) -> Result<Option<TokenError>, AllocErro
     Ok(Some(TokenError::NameForm))
 }
 
-/// The fault that a name has by itself, if it has one.
-pub fn name_fault(alloc: Global, text: &str) -> Result<Option<TokenError>, AllocError>
+/// Whether four bytes are ASCII.
+#[inline(always)]
+fn are_four_ascii(a: u8, b: u8, c: u8, d: u8) -> bool
+    ensures { result ≡ (is_ascii a && (is_ascii b && (is_ascii c && is_ascii d))) }
+{
+    a < 128 && b < 128 && c < 128 && d < 128
+}
+
+/// Whether a text is ASCII alone, and so its own form.
+#[inline(always)]
+fn is_ascii(text: &str) -> bool
+    ensures { result ≡ list_all is_ascii text.now }
+{
+    let mut left = text.as_bytes();
+    // Four at a time, as there are many names.
+    while let [a, b, c, d, behind @ ..] = left {
+        if !are_four_ascii(*a, *b, *c, *d) {
+            return false;
+        }
+        left = behind;
+    }
+    while let [first, behind @ ..] = left {
+        if *first >= 128 {
+            return false;
+        }
+        left = behind;
+    }
+    true
+}
+
+/// The fault of a name, by its form.
+fn fault_by_form(alloc: Global, text: &str) -> Result<Option<TokenError>, AllocError>
     ensures { IfOk result (λ fault. fault ≡ name_fault (chars text.now)) }
 {
     let own = is_nfkc(alloc, text)?;
@@ -45,4 +77,15 @@ pub fn name_fault(alloc: Global, text: &str) -> Result<Option<TokenError>, Alloc
     }
     let form = to_nfkc(alloc, text)?;
     form_fault(alloc, form.as_str())
+}
+
+/// The fault that a name has by itself, if it has one.
+#[inline(always)]
+pub fn name_fault(alloc: Global, text: &str) -> Result<Option<TokenError>, AllocError>
+    ensures { IfOk result (λ fault. fault ≡ name_fault (chars text.now)) }
+{
+    if is_ascii(text) {
+        return Ok(None);
+    }
+    fault_by_form(alloc, text)
 }

@@ -2,14 +2,14 @@
 //!
 //! Python language reference, 2.4.1 "String and Bytes literals".
 
-ghost use Rattle.std.specs.Prelude.{◌≡◌, ◌==◌, ◌||◌, ◌&&◌, drop, nat_lt};
+ghost use Rattle.std.specs.Prelude.{◌≡◌, ◌==◌, ◌||◌, ◌&&◌, drop, nat_lt, false};
 ghost use Rattle.std.specs.Str.{chars};
 ghost use Rattle.std.specs.List.{list_all, list_any};
 ghost use Rattle.pylexeme.specs.Strings.{begins_three};
 ghost use Rattle.pytoken.specs.Escapes.{meanings, escape_fault, is_named_escape, is_bad_escape};
 ghost use Rattle.pytoken.specs.StringValues.{is_quote, is_marked, prefix_len_of, without_last};
 ghost use Rattle.pytoken.specs.StringValues.{body_of, literal_fault, string_fault};
-ghost use Rattle.pyvalue.specs.Inner.Readings.{is_plain};
+ghost use Rattle.pyvalue.specs.Inner.Readings.{is_plain, asks, is_doubtful, is_calm};
 
 use crate::characters::Characters;
 use crate::escapes::next_meaning;
@@ -192,36 +192,68 @@ fn literal_fault(literal: &Characters) -> Option<TokenError>
     None
 }
 
-/// Whether a character stands for itself in each literal.
-fn is_plain(c: char) -> bool
-    ensures { result ≡ is_plain c }
+/// Whether a byte is a character that stands for itself in each literal.
+fn is_plain(byte: u8) -> bool
+    ensures { result ≡ is_plain byte }
 {
-    c <= '\x7f' && c != '\\' && c != '\0'
+    byte <= 0x7F && byte != b'\\' && byte != 0
 }
 
-/// Whether each character of a text stands for itself in each literal.
-fn are_plain(text: &str) -> bool
-    ensures { result ≡ list_all is_plain (chars text.now) }
+/// Whether each byte of a text is a character that stands for itself in each literal.
+pub(crate) fn are_plain(text: &str) -> bool
+    ensures { result ≡ list_all is_plain text.now }
 {
+    let bytes = text.as_bytes();
+    let mut plain = true;
+    for byte in bytes {
+        // The loop looks at all bytes, so that one step may take many.
+        plain &= is_plain(*byte);
+    }
+    plain
+}
+
+/// Whether a character behind a backslash may begin an escape that is wrong.
+fn asks(c: char) -> bool
+    ensures { result ≡ asks c }
+{
+    matches!(c, '0'..='7' | 'x' | 'u' | 'U' | 'N')
+}
+
+/// Whether a character may be wrong in a literal, by whether a backslash stands before it.
+fn is_doubtful(bytes: bool, behind: bool, c: char) -> bool
+    ensures { result ≡ is_doubtful bytes behind c }
+{
+    behind && asks(c) || bytes && c > '\x7f' || c == '\0' || c == '\r'
+}
+
+/// Whether no character of a literal may be wrong.
+fn is_calm(text: &str, bytes: bool) -> bool
+    ensures { result ≡ is_calm bytes false (chars text.now) }
+{
+    let mut behind = false;
     for c in text.chars() {
-        if !is_plain(c) {
+        if is_doubtful(bytes, behind, c) {
             return false;
         }
+        behind = c == '\\';
     }
     true
 }
 
-/// The fault that a string has by itself, if it has one: the first one. Where each character
-/// stands for itself only its prefix can be wrong.
+/// The fault that a string has by itself, if it has one: the first one. Most literals are seen to
+/// have none without reading their escapes.
 pub fn string_fault(text: &str) -> Option<TokenError>
     ensures { result ≡ string_fault (chars text.now) }
 {
     let literal = Characters::new(text);
-    if !are_plain(text) {
-        return literal_fault(&literal);
-    }
     if is_marked(&literal, 'f', 'F') {
         return Some(TokenError::FString);
     }
-    None
+    if are_plain(text) {
+        return None;
+    }
+    if is_calm(text, is_marked(&literal, 'b', 'B')) {
+        return None;
+    }
+    literal_fault(&literal)
 }

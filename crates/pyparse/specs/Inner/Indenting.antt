@@ -1,9 +1,10 @@
 -- What one pass over the lines of a source keeps of their indentation.
-use Rattle.std.specs.Prelude.{◌≡◌, ℕ, ◌+◌, Bool, true, false, not, ◌&&◌, nat_lt, nat_le, List, [], ◌∷◌, ◌++◌, length, drop, filter, None}
+use Rattle.std.specs.Prelude.{◌≡◌, ℕ, ◌+◌, ◌≤◌, replicate, Bool, true, false, not, ◌&&◌, nat_lt, nat_le, List, [], ◌∷◌, ◌++◌, length, take, drop, filter, None}
 use Rattle.std.specs.List.{list_any, list_all}
 use Rattle.std.specs.Str.{encode_utf8_all}
 use Rattle.pysource.specs.declared.places.Place.{Place}
 use Rattle.pysource.specs.Places.{place_at}
+use Rattle.pylexeme.specs.Chars.{is_blank_char}
 use Rattle.pylexeme.specs.Cuts.{begins_thing}
 use Rattle.pylex.specs.declared.margins.Widths.{Widths}
 use Rattle.pylex.specs.Margins.{blanks_of}
@@ -19,6 +20,16 @@ is_logical_at text o = begins_thing (drop (length (blanks_of (behind_offset text
 -- the place of the first character that isn't a blank, in the line that begins at an offset
 abbrev pub start_at : List ℕ → ℕ → Place
 start_at text o = place_at (encode_utf8_all text) (o + length (blanks_of (behind_offset text o)))
+
+-- so many spaces stand at the front of these bytes
+pub record AreSpaces (bs : List ℕ) (count : ℕ) : Type 0 where
+  pub within : count ≤ length bs
+  pub spaces : take count bs ≡ replicate count 32
+
+-- a blank stands at the front of a text
+abbrev pub begins_blank : List ℕ → Bool
+begins_blank [] = false
+begins_blank (c ∷ cs) = is_blank_char c
 
 -- a line is less than another, whichever way tabs count
 abbrev pub is_less : Widths → Widths → Bool

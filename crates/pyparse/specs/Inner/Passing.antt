@@ -41,6 +41,15 @@ line_ends k opened closed = elim k [ kinds.Newline ↦ opened - closed == 0 | ki
 abbrev pub given_margins : List ℕ → Entry → ℕ → ℕ → List Margin
 given_margins text e opened closed = if line_ends e.kind opened closed then margin_at text e.to else []
 
+-- what is kept of an entry that may be a bracket
+pub record TakesBracket (e : Entry) (old new : Pass) : Type 0 where
+  pub begun : new.begun ≡ old.begun
+  pub opened : new.opened ≡ counted old.opened (opens e)
+  pub closed : new.closed ≡ counted old.closed (closes e)
+  pub faulty : new.faulty ≡ old.faulty
+  pub deep : new.deep ≡ or_refusal old.deep (exceeding e old.opened old.closed)
+  pub indents : new.indents ≡ old.indents
+
 -- what is kept behind one entry more, with its refusal if it has a fault of its own
 pub record Gains (text : List ℕ) (e : Entry) (own : Option Refusal) (old new : Pass) : Type 0 where
   pub begun : new.begun ≡ still_open e.kind old.begun

@@ -1,6 +1,6 @@
 -- What the code reads of a token's text from a place on.
-use Rattle.std.specs.Prelude.{◌≡◌, ℕ, ◌+◌, ◌*◌, ◌^◌, ◌==◌, ◌&&◌, not, Bool, List, [], ◌∷◌, drop, filter, nat_lt, nat_le, Option, Some, None, if◌then◌else◌}
-use Rattle.std.specs.Char.{digit_value}
+use Rattle.std.specs.Prelude.{◌≡◌, ℕ, ◌+◌, ◌*◌, ◌^◌, ◌≤◌, ◌==◌, ◌&&◌, ◌||◌, not, Bool, true, List, [], ◌∷◌, drop, filter, nat_lt, nat_le, Option, Some, None, if◌then◌else◌}
+use Rattle.std.specs.Char.{digit_value, is_digit}
 use Rattle.std.specs.List.{flat_map}
 use Rattle.std.specs.Str.Parse.{digits_value}
 use Rattle.pylexeme.specs.Numbers.{is_x, is_o, is_b}
@@ -46,9 +46,28 @@ whole_below radix ds =
     let n = digits_value radix (filter is_no_underscore ds) in
     if nat_le (2 ^ 128) n then None else Some n
 
+-- bytes are one decimal digit
+pub record IsOneDigit (bs : List ℕ) (digit : ℕ) : Type 0 where
+  pub whole : bs ≡ digit ∷ []
+  pub least : 48 ≤ digit
+  pub most : digit ≤ 57
+
 -- a character that stands for itself in each literal: ASCII, but no backslash and not U+0000
 abbrev pub is_plain : ℕ → Bool
 is_plain c = nat_le c 0x7F && (not (c == 92) && not (c == 0))
+
+-- a character that may begin a wrong escape, behind a backslash: of an octal or hexadecimal escape, or \N
+abbrev pub asks : ℕ → Bool
+asks c = is_digit c 8 || ((c == 120) || ((c == 117) || ((c == 85) || (c == 78))))
+
+-- a character that may be wrong in a literal, by whether a backslash stands before it
+abbrev pub is_doubtful : Bool → Bool → ℕ → Bool
+is_doubtful bytes behind c = (behind && asks c) || ((bytes && nat_lt 0x7F c) || ((c == 0) || (c == 13)))
+
+-- no character of a text may be wrong in a literal, by whether a backslash stands before the first
+abbrev pub is_calm : Bool → Bool → List ℕ → Bool
+is_calm bytes behind [] = true
+is_calm bytes behind (c ∷ cs) = not (is_doubtful bytes behind c) && is_calm bytes (c == 92) cs
 
 -- the points of a literal's body
 abbrev pub body_points : Bool → Bool → List ℕ → List ℕ

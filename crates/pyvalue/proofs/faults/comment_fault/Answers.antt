@@ -1,7 +1,11 @@
 use Rattle.std.proofs.Common.{sym}
 use Rattle.std.specs.Str.{chars}
 use Rattle.pyvalue.proofs.FaultLemmas.{with_nul, without_nul}
+use Rattle.pyvalue.proofs.PlainLemmas.{plain_no_nul}
 use Rattle.pyvalue.proofs.faults.comment_fault.Goals as goal
+
+pub returns-then-are_plain : goal.returns-then-are_plain
+returns-then-are_plain c = sym (plain_no_nul c.args.text.now (sym c.if-are_plain.ensures))
 
 pub returns-then-has_nul : goal.returns-then-has_nul
 returns-then-has_nul c = sym (with_nul (chars c.args.text.now) (sym c.if-has_nul.ensures))

@@ -1,36 +1,46 @@
-use Rattle.std.proofs.Common.{sym, ap, ◌∙◌, Some}
+use Rattle.std.proofs.Common.{◌≡◌, ℕ, List, Bool, drop, length, sym, ap, ◌∙◌}
 use Rattle.std.specs.Str.{chars}
-use Rattle.pysource.specs.declared.places.Place.{Place}
-use Rattle.pylex.specs.Margins.{widths_of}
-use Rattle.pytoken.specs.declared.refusals.Refusal.TheVariants.{MixedTabs}
+use Rattle.pylexeme.specs.Cuts.{begins_thing}
+use Rattle.pylex.specs.Margins.{blanks_of, widths_of}
 use Rattle.pytoken.specs.Indentation.{margin_at}
-use Rattle.pyparse.proofs.IndentLemmas.{none_of, takes_none, takes_behind, takes_mixed, takes_line}
+use Rattle.pyparse.specs.Inner.Indenting.{begins_blank}
+use Rattle.pyparse.proofs.IndentLemmas.{takes_none, takes_behind, none_of, spaced, line_of}
 use Rattle.pyparse.proofs.indents.Indents.take.Goals as goal
-use Rattle.pyparse.proofs.indents.Indents.take.Goals.{then-is_some-via-then-is_some, then-is_some-via-else-is_some+then-not-is_logical_at}
 
 pub returns-then-is_some : goal.returns-then-is_some
-returns-then-is_some c = elim c.then-is_some.branch [
-  | then-is_some-via-then-is_some w ↦
-      takes_behind (margin_at (chars c.args.source.now.text) c.args.offset) c.args.self.now (sym w.if-is_some.ensures)
-  | then-is_some-via-else-is_some+then-not-is_logical_at w ↦
-      takes_none (chars c.args.source.now.text) c.args.offset c.args.self.now (sym w.if-not-is_logical_at.ensures.logical)
-]
+returns-then-is_some c = takes_behind (margin_at (chars c.args.source.now.text) c.args.offset) c.args.self.now (sym c.if-is_some.ensures)
 
-pub returns-then-drop_wider : goal.returns-then-drop_wider
-returns-then-drop_wider c =
-    takes_mixed (chars c.args.source.now.text) c.args.offset c.widths-widths.result c.args.self.now
-    (record { standing = c.drop_wider.new.standing; mixed = Some (MixedTabs c.start_of.result) })
-    (sym c.if-not-is_logical_at.ensures.logical)
-    (c.widths-widths.ensures ∙ ap widths_of c.is_logical_at.ensures.line)
-    (none_of c.args.self.now.mixed (sym c.if-is_some.ensures))
-    c.if-drop_wider.ensures
-    (ap (λ (p : Place). Some (MixedTabs p)) c.start_of.ensures)
+pub range_from-behind-requires : goal.range_from-behind-requires
+range_from-behind-requires c = λ some. (spaced c.range_from-line.result.now c.space_count-count.result c.range_from-line.utf8 c.space_count-count.ensures).boundary
 
-pub returns : goal.returns
-returns c =
-    let none = none_of c.args.self.now.mixed (sym c.if-is_some.ensures) in
-    takes_line (chars c.args.source.now.text) c.args.offset c.widths-widths.result c.drop_wider.new.standing.items c.args.self.now
-    (record { standing = c.push.new.self; mixed = c.args.self.now.mixed })
-    (sym c.if-not-is_logical_at.ensures.logical)
-    (c.widths-widths.ensures ∙ ap widths_of c.is_logical_at.ensures.line)
-    none c.if-drop_wider.ensures c.in_ok-push.ensures.items none
+pub returns-then-not-begins_thing : goal.returns-then-not-begins_thing
+returns-then-not-begins_thing c =
+    let line = c.range_from-line.result.now in
+    let s = spaced line c.space_count-count.result c.range_from-line.utf8 c.space_count-count.ensures in
+    let other = ap (λ (t : List ℕ). begins_blank (chars t)) (sym c.range_from-behind.ensures.value) ∙ sym c.if-begins_blank.ensures in
+    let same = ap chars c.range_from-line.ensures.value ∙ line_of c.text.result.now c.args.source.now.text c.args.offset c.text.utf8
+    c.text.ensures.value in
+    takes_none (chars c.args.source.now.text) c.args.offset c.args.self.now
+    (sym (ap (λ (t : List ℕ). begins_thing (drop (length (blanks_of t)) t)) same)
+    ∙ ap begins_thing (s.rest other) ∙ ap (λ (t : List ℕ). begins_thing (chars t)) (sym c.range_from-behind.ensures.value)
+    ∙ sym c.if-not-begins_thing.ensures)
+
+pub take_line-requires-clause-logical : goal.take_line-requires-clause-logical
+take_line-requires-clause-logical c =
+    let line = c.range_from-line.result.now in
+    let s = spaced line c.space_count-count.result c.range_from-line.utf8 c.space_count-count.ensures in
+    let other = ap (λ (t : List ℕ). begins_blank (chars t)) (sym c.range_from-behind.ensures.value) ∙ sym c.if-begins_blank.ensures in
+    let same = ap chars c.range_from-line.ensures.value ∙ line_of c.text.result.now c.args.source.now.text c.args.offset c.text.utf8
+    c.text.ensures.value in
+    sym (ap (λ (t : List ℕ). begins_thing (drop (length (blanks_of t)) t)) same)
+    ∙ ap begins_thing (s.rest other) ∙ ap (λ (t : List ℕ). begins_thing (chars t)) (sym c.range_from-behind.ensures.value)
+    ∙ sym c.if-not-begins_thing.ensures
+
+pub take_line-requires-clause-widths : goal.take_line-requires-clause-widths
+take_line-requires-clause-widths c =
+    let line = c.range_from-line.result.now in
+    let s = spaced line c.space_count-count.result c.range_from-line.utf8 c.space_count-count.ensures in
+    let other = ap (λ (t : List ℕ). begins_blank (chars t)) (sym c.range_from-behind.ensures.value) ∙ sym c.if-begins_blank.ensures in
+    let same = ap chars c.range_from-line.ensures.value ∙ line_of c.text.result.now c.args.source.now.text c.args.offset c.text.utf8
+    c.text.ensures.value in
+    s.widths other ∙ ap widths_of same
