@@ -46,11 +46,9 @@ def build(timer):
 
 
 def told(timer, call, data):
-    """What the timer tells of a call on a source: how many entries or terminals, and the nanoseconds; None of a source without tokens."""
+    """What the timer tells of a call on a source: how many entries or terminals, and the nanoseconds. None where it can't be read."""
     done = subprocess.run([timer, call], input=data, stdout=subprocess.PIPE, check=False)
-    if done.returncode:
-        refuse(f"{timer} {call} ended with status {done.returncode}")
-    return None if done.stdout.startswith(b"refused") else [int(word) for word in done.stdout.split()]
+    return None if done.returncode or done.stdout.startswith(b"refused") else [int(word) for word in done.stdout.split()]
 
 
 def pieces(timer):

@@ -139,6 +139,7 @@ impl Indents {
     }
 
     /// Takes the logical line of these widths that begins at an offset.
+    #[inline(always)]
     fn take_line(
         &mut self,
         source: &Source,

@@ -1,12 +1,8 @@
 -- Carries: form_fault, name_fault. On: the tests of a form, and names of ASCII alone.
-use Rattle.std.proofs.Common.{◌≡◌, ℕ, Bool, true, false, List, [], ◌∷◌, refl, sym, ap, ◌∙◌, get_or, Some, None, is_some}
-use Rattle.std.specs.Prelude.{◌&&◌, ◌↔◌, IsTrue}
-use Rattle.std.specs.Char.{is_ascii}
-use Rattle.std.specs.List.{list_all}
+use Rattle.std.proofs.Common.{◌≡◌, ℕ, zero, suc, ◌<◌, ◌≤◌, Bool, true, false, List, [], ◌∷◌, length, refl, sym, ap, ◌∙◌, arith, get_or, ⊎_elim, Some, None, is_some}
+use Rattle.std.specs.Prelude.{◌&&◌, ◌↔◌, IsTrue, All}
 use Rattle.std.specs.Str.{chars, IsAscii}
-use Rattle.std.proofs.lemmas.Bool.{and_parts, ltb-true}
-use Rattle.std.proofs.lemmas.List.Recursion.{and_at}
-use Rattle.std.proofs.lemmas.Str.Ascii.{IsAscii-nil, IsAscii-cons}
+use Rattle.std.proofs.lemmas.Bool.{cases_lt}
 use Rattle.std.proofs.lemmas.Str.{chars-IsAscii}
 use Rattle.std.proofs.lemmas.Slice.Eq.{bytes_eq-Decides}
 use Rattle.unicode_normalization.specs.Forms.{Nfkc, nfkc, is_in_form, IsInForm}
@@ -15,6 +11,7 @@ use Rattle.pylexeme.specs.Lexemes.{is_name}
 use Rattle.pytoken.specs.declared.faults.TokenError.TheVariants.{NameForm}
 use Rattle.pytoken.specs.Keywords.{keyword_of}
 use Rattle.pytoken.specs.NameValues.{form_fault, name_fault}
+use Rattle.pyvalue.specs.Inner.Readings.{AreLow}
 
 -- a test tells whether a text is its own form
 pub told : (b : Bool) (t : List ℕ) → IsTrue b ↔ IsInForm Nfkc t → b ≡ is_in_form Nfkc t
@@ -52,14 +49,24 @@ pub name_other : (t : List ℕ) → is_in_form Nfkc t ≡ false → name_fault t
 unfolding name_fault
 name_other t other = rw other refl
 
-ascii_from : (bs : List ℕ) → list_all is_ascii bs ≡ true → IsAscii bs
-ascii_from [] all = IsAscii-nil
-ascii_from (b ∷ bs) all =
-    let parts = and_parts (is_ascii b) (list_all is_ascii bs) all in IsAscii-cons b bs (ltb-true b 128 parts.0) (ascii_from bs parts.1)
+low_all : (bs : List ℕ) → AreLow bs → All (λ b. b < 128) bs
+low_all [] low k d within = absurd (omega (arith, within))
+low_all (b ∷ bs) low zero d within = low 0 (omega arith)
+low_all (b ∷ bs) low (suc k) d within = low_all bs (λ j h. low (suc j) (omega (arith, h))) k d (omega (arith, within))
 
-pub name_ascii : (bs : List ℕ) → list_all is_ascii bs ≡ true → name_fault (chars bs) ≡ None
-name_ascii bs all =
-    let same = chars-IsAscii bs (ascii_from bs all) in
-    let form =
-    normalize-ascii Nfkc bs (λ k d within. ltb-true (get_or bs k d) 128 (and_at (list_all is_ascii) is_ascii refl (λ x xs. refl) bs k d within all)) in
-    name_own (chars bs) ((bytes_eq-Decides (nfkc (chars bs)) (chars bs)).1 (ap nfkc same ∙ form ∙ sym same))
+low_ascii : (bs : List ℕ) → AreLow bs → IsAscii bs
+low_ascii bs low i = ⊎_elim (λ (h : i < length bs). low i h) (λ (h : length bs ≤ i). past_end bs i h) (cases_lt i (length bs))
+  where
+    past_end : (cs : List ℕ) (k : ℕ) → length cs ≤ k → get_or cs k 0 < 128
+    past_end [] k h = omega arith
+    past_end (c ∷ cs) zero h = absurd (omega (arith, h))
+    past_end (c ∷ cs) (suc k) h = past_end cs k (omega (arith, h))
+
+-- bytes of ASCII are the characters of their text
+pub low_chars : (bs : List ℕ) → AreLow bs → chars bs ≡ bs
+low_chars bs low = chars-IsAscii bs (low_ascii bs low)
+
+pub name_low : (bs : List ℕ) → AreLow bs → name_fault (chars bs) ≡ None
+name_low bs low =
+    let same = low_chars bs low in
+    name_own (chars bs) ((bytes_eq-Decides (nfkc (chars bs)) (chars bs)).1 (ap nfkc same ∙ normalize-ascii Nfkc bs (low_all bs low) ∙ sym same))

@@ -51,6 +51,7 @@ pub(crate) fn comment_fault(text: &str) -> Option<TokenError>
 }
 
 /// The fault that an entry of this type and text is by itself: a token or a comment.
+#[inline(always)]
 pub fn token_fault(alloc: Global, kind: Kind, text: &str) -> Result<Option<TokenError>, AllocError>
     ensures { IfOk result (λ fault. fault ≡ fault_of kind (chars text.now)) }
 {

@@ -2,12 +2,11 @@
 //!
 //! Python language reference, 2.3 "Identifiers and keywords".
 
-ghost use Rattle.std.specs.Prelude.{◌≡◌, ◌&&◌, IfOk, string_bytes};
-ghost use Rattle.std.specs.Char.{is_ascii};
-ghost use Rattle.std.specs.List.{list_all};
+ghost use Rattle.std.specs.Prelude.{◌≡◌, ◌↔◌, ◌<◌, IsTrue, IfOk, string_bytes};
 ghost use Rattle.std.specs.Str.{chars, encode_utf8_all};
 ghost use Rattle.unicode_normalization.specs.Forms.{nfkc};
 ghost use Rattle.pytoken.specs.NameValues.{name_fault, form_fault};
+ghost use Rattle.pyvalue.specs.Inner.Readings.{AreLow};
 
 use pytoken::{Keyword, TokenError, is_identifier};
 use std::alloc::{AllocError, Global};
@@ -37,34 +36,12 @@ fn form_fault(alloc: Global, form: &str) -> Result<Option<TokenError>, AllocErro
     Ok(Some(TokenError::NameForm))
 }
 
-/// Whether four bytes are ASCII.
-#[inline(always)]
-fn are_four_ascii(a: u8, b: u8, c: u8, d: u8) -> bool
-    ensures { result ≡ (is_ascii a && (is_ascii b && (is_ascii c && is_ascii d))) }
-{
-    a < 128 && b < 128 && c < 128 && d < 128
-}
-
 /// Whether a text is ASCII alone, and so its own form.
 #[inline(always)]
 fn is_ascii(text: &str) -> bool
-    ensures { result ≡ list_all is_ascii text.now }
+    ensures { IsTrue result ↔ AreLow text.now }
 {
-    let mut left = text.as_bytes();
-    // Four at a time, as there are many names.
-    while let [a, b, c, d, behind @ ..] = left {
-        if !are_four_ascii(*a, *b, *c, *d) {
-            return false;
-        }
-        left = behind;
-    }
-    while let [first, behind @ ..] = left {
-        if *first >= 128 {
-            return false;
-        }
-        left = behind;
-    }
-    true
+    text.as_bytes().iter().all(|byte| *byte < 128)
 }
 
 /// The fault of a name, by its form.

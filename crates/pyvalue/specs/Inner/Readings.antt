@@ -1,5 +1,5 @@
 -- What the code reads of a token's text from a place on.
-use Rattle.std.specs.Prelude.{◌≡◌, ℕ, ◌+◌, ◌*◌, ◌^◌, ◌≤◌, ◌==◌, ◌&&◌, ◌||◌, not, Bool, true, List, [], ◌∷◌, drop, filter, nat_lt, nat_le, Option, Some, None, if◌then◌else◌}
+use Rattle.std.specs.Prelude.{◌≡◌, ℕ, ◌+◌, ◌*◌, ◌^◌, ◌<◌, ◌≤◌, EachIndex, slice_index, ◌==◌, ◌&&◌, ◌||◌, not, Bool, true, List, [], ◌∷◌, drop, filter, nat_lt, nat_le, Option, Some, None, if◌then◌else◌}
 use Rattle.std.specs.Char.{digit_value, is_digit}
 use Rattle.std.specs.List.{flat_map}
 use Rattle.std.specs.Str.Parse.{digits_value}
@@ -51,6 +51,10 @@ pub record IsOneDigit (bs : List ℕ) (digit : ℕ) : Type 0 where
   pub whole : bs ≡ digit ∷ []
   pub least : 48 ≤ digit
   pub most : digit ≤ 57
+
+-- bytes of ASCII alone
+abbrev pub AreLow : List ℕ → Type 0
+AreLow bs = EachIndex bs (λ k. slice_index bs k < 128)
 
 -- a character that stands for itself in each literal: ASCII, but no backslash and not U+0000
 abbrev pub is_plain : ℕ → Bool
