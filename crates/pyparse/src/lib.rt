@@ -12,10 +12,13 @@
 mod faults;
 mod gather;
 mod indents;
+mod line_gather;
+mod logical_lines;
 mod pass;
 mod tokens;
 
 pub use faults::ParseFault;
+pub use logical_lines::LogicalLines;
 pub use pyvalue::{
     Literal, LiteralText, Terminal, TerminalFault, name_fault, name_value, number_value,
     string_fault, string_value, terminal_of, token_fault,
