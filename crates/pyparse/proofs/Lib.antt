@@ -4,3 +4,4 @@ mod RisingLemmas
 mod IndentLemmas
 mod PassLemmas
 mod GatherLemmas
+pub mod LineLemmas

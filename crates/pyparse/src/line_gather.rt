@@ -54,6 +54,9 @@ impl<'a> LineGather<'a> {
     pub(crate) fn new(alloc: Global, source: &Source) -> Result<LineGather<'a>, AllocError>
         requires { IsCharBoundary source.now.text 0 }
         ensures pass { IfOk result (λ made. Passed (chars source.now.text) [] made.pass) }
+        ensures empty { IfOk result (λ made. made.terminals.items ≡ []) }
+        ensures start { IfOk result (λ made. made.start ≡ record { row = 1; column = 0 }) }
+        ensures level { IfOk result (λ made. made.level ≡ 0) }
         ensures indents { IfOk result (λ made. made.indents ≡ 0) }
         ensures dedents { IfOk result (λ made. made.dedents ≡ 0) }
     {

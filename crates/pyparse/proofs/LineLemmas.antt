@@ -1,0 +1,87 @@
+-- Carries: read_line. On: the tokens and the logical lines of a front of a listing, with one entry more, and what stands behind it.
+use Rattle.std.proofs.Common.{◌≡◌, ℕ, ◌+◌, ◌-◌, ◌<◌, Bool, true, false, ◌&&◌, List, [], ◌∷◌, ◌++◌, length, refl, sym, ap, ap₂, subst, ◌∙◌, append_assoc, append-nil, arith}
+use Rattle.std.specs.Prelude.{count_by, if◌then◌else◌}
+use Rattle.pylex.specs.declared.kinds.Kind.{Kind}
+use Rattle.pylex.specs.declared.kinds.Kind.TheVariants as kinds
+use Rattle.pylex.specs.declared.entries.Entry.{Entry}
+use Rattle.pytoken.specs.Inner.Behind.{behind}
+use Rattle.pytoken.specs.Tokens.{Token, Line, token_of, is_open, tokens_of_entry, tokens_from, level_behind, lines_from}
+use Rattle.pytoken.proofs.Callers.OnePass.{tokens_on}
+use Rattle.pyparse.specs.Inner.Passing.{counted}
+use Rattle.pyparse.specs.Inner.LineGathering.{stands_in_line, ends_open_line, is_indent, is_dedent, line_behind, tokens_of, open_line, lines_of}
+
+-- the tokens of the entries of a front, and those of what stands behind it
+pub tokens_past : (text : List ℕ) (before es more : List Entry)
+    → tokens_from text before (es ++ more) ≡ tokens_from text before es ++ tokens_from text (behind before es) more
+tokens_past text before [] more = refl
+tokens_past text before (e ∷ es) more =
+    let here = tokens_of_entry text (is_open before) e in
+    ap (λ (ts : List Token). here ++ ts) (tokens_past text (e ∷ before) es more)
+    ∙ sym (append_assoc here (tokens_from text (e ∷ before) es) (tokens_from text (behind (e ∷ before) es) more))
+
+-- what a token of this type does to a line: it ends it, it stands beside it, or it is put to it
+abbrev by_kind : {X : Type 0} → Kind → X → X → X → X
+by_kind k ended beside put = elim k [
+  | kinds.Newline ↦ ended
+  | kinds.Indent ↦ beside
+  | kinds.Dedent ↦ beside
+  | kinds.EndMarker ↦ beside
+  | _ ↦ put
+]
+
+-- the lines of a front of the tokens, and those of what stands behind it
+pub lines_past : (before line ts more : List Token)
+    → lines_from before line (ts ++ more) ≡ lines_from before line ts ++ lines_from (behind before ts) (line_behind line ts) more
+lines_past before line [] more = refl
+lines_past before line (t ∷ ts) more =
+    let rest : List Token → List Line = λ l. lines_from (behind (t ∷ before) ts) l more in
+    let all : List Token → List Line = λ l. lines_from (t ∷ before) l (ts ++ more) in
+    let here : List Token → List Line = λ l. lines_from (t ∷ before) l ts in
+    by t.kind (record { level = level_behind before; tokens = line }) rest
+    (all []) (here []) (line_behind [] ts) (lines_past (t ∷ before) [] ts more)
+    (all line) (here line) (line_behind line ts) (lines_past (t ∷ before) line ts more)
+    (all (line ++ t ∷ [])) (here (line ++ t ∷ [])) (line_behind (line ++ t ∷ []) ts) (lines_past (t ∷ before) (line ++ t ∷ []) ts more)
+  where
+    by : (k : Kind) (own : Line) (rest : List Token → List Line)
+        (all0 here0 : List Line) (left0 : List Token) → all0 ≡ here0 ++ rest left0
+        → (all1 here1 : List Line) (left1 : List Token) → all1 ≡ here1 ++ rest left1
+        → (all2 here2 : List Line) (left2 : List Token) → all2 ≡ here2 ++ rest left2
+        → by_kind k (own ∷ all0) all1 all2 ≡ by_kind k (own ∷ here0) here1 here2 ++ rest (by_kind k left0 left1 left2)
+    by kinds.Newline own rest a0 b0 c0 h0 a1 b1 c1 h1 a2 b2 c2 h2 = ap (λ (ls : List Line). own ∷ ls) h0
+    by kinds.Indent own rest a0 b0 c0 h0 a1 b1 c1 h1 a2 b2 c2 h2 = h1
+    by kinds.Dedent own rest a0 b0 c0 h0 a1 b1 c1 h1 a2 b2 c2 h2 = h1
+    by kinds.EndMarker own rest a0 b0 c0 h0 a1 b1 c1 h1 a2 b2 c2 h2 = h1
+    by kinds.Encoding own rest a0 b0 c0 h0 a1 b1 c1 h1 a2 b2 c2 h2 = h2
+    by kinds.Comment own rest a0 b0 c0 h0 a1 b1 c1 h1 a2 b2 c2 h2 = h2
+    by kinds.Nl own rest a0 b0 c0 h0 a1 b1 c1 h1 a2 b2 c2 h2 = h2
+    by kinds.Name own rest a0 b0 c0 h0 a1 b1 c1 h1 a2 b2 c2 h2 = h2
+    by kinds.Number own rest a0 b0 c0 h0 a1 b1 c1 h1 a2 b2 c2 h2 = h2
+    by kinds.String own rest a0 b0 c0 h0 a1 b1 c1 h1 a2 b2 c2 h2 = h2
+    by kinds.Op own rest a0 b0 c0 h0 a1 b1 c1 h1 a2 b2 c2 h2 = h2
+
+-- and the open line
+pub line_past : (line ts more : List Token) → line_behind line (ts ++ more) ≡ line_behind (line_behind line ts) more
+line_past line [] more = refl
+line_past line (t ∷ ts) more =
+    let all : List Token → List Token = λ l. line_behind l (ts ++ more) in
+    let here : List Token → List Token = λ l. line_behind l ts in
+    by t.kind (λ l. line_behind l more) (all []) (here []) (line_past [] ts more) (all line) (here line) (line_past line ts more)
+    (all (line ++ t ∷ [])) (here (line ++ t ∷ [])) (line_past (line ++ t ∷ []) ts more)
+  where
+    by : (k : Kind) (rest : List Token → List Token) (all0 here0 : List Token) → all0 ≡ rest here0 → (all1 here1 : List Token) → all1 ≡ rest here1
+        → (all2 here2 : List Token) → all2 ≡ rest here2 → by_kind k all0 all1 all2 ≡ rest (by_kind k here0 here1 here2)
+    by kinds.Newline rest a0 b0 h0 a1 b1 h1 a2 b2 h2 = h0
+    by kinds.Indent rest a0 b0 h0 a1 b1 h1 a2 b2 h2 = h1
+    by kinds.Dedent rest a0 b0 h0 a1 b1 h1 a2 b2 h2 = h1
+    by kinds.EndMarker rest a0 b0 h0 a1 b1 h1 a2 b2 h2 = h1
+    by kinds.Encoding rest a0 b0 h0 a1 b1 h1 a2 b2 h2 = h2
+    by kinds.Comment rest a0 b0 h0 a1 b1 h1 a2 b2 h2 = h2
+    by kinds.Nl rest a0 b0 h0 a1 b1 h1 a2 b2 h2 = h2
+    by kinds.Name rest a0 b0 h0 a1 b1 h1 a2 b2 h2 = h2
+    by kinds.Number rest a0 b0 h0 a1 b1 h1 a2 b2 h2 = h2
+    by kinds.String rest a0 b0 h0 a1 b1 h1 a2 b2 h2 = h2
+    by kinds.Op rest a0 b0 h0 a1 b1 h1 a2 b2 h2 = h2
+
+-- the levels that are open, by my own tests
+level_is : (ts : List Token) → level_behind ts ≡ count_by (λ t. is_indent t.kind) ts - count_by (λ t. is_dedent t.kind) ts
+level_is ts = refl
