@@ -8,7 +8,7 @@ use Rattle.pytoken.specs.Inner.Behind.{behind}
 use Rattle.pytoken.specs.Tokens.{Token, Line, token_of, is_open, tokens_of_entry, tokens_from, level_behind, lines_from}
 use Rattle.pytoken.proofs.Callers.OnePass.{tokens_on}
 use Rattle.pyparse.specs.Inner.Passing.{counted}
-use Rattle.pyparse.specs.Inner.LineGathering.{stands_in_line, ends_open_line, is_indent, is_dedent, line_behind, tokens_of, open_line, lines_of}
+use Rattle.pyparse.specs.Inner.LineGathering.{stands_in_line, ended_by, is_indent, is_dedent, line_behind, tokens_of, open_line, lines_of}
 
 -- the tokens of the entries of a front, and those of what stands behind it
 pub tokens_past : (text : List ℕ) (before es more : List Entry)
@@ -81,6 +81,76 @@ line_past line (t ∷ ts) more =
     by kinds.Number rest a0 b0 h0 a1 b1 h1 a2 b2 h2 = h2
     by kinds.String rest a0 b0 h0 a1 b1 h1 a2 b2 h2 = h2
     by kinds.Op rest a0 b0 h0 a1 b1 h1 a2 b2 h2 = h2
+
+-- one entry more
+
+abbrev with_own : List ℕ → Entry → List Token → List Token
+with_own text e line = if stands_in_line e.kind then line ++ token_of text e ∷ [] else line
+
+-- what an entry does to the line that is open
+line_by : (text : List ℕ) (begun : Bool) (e : Entry) (line : List Token)
+    → line_behind line (tokens_of_entry text begun e) ≡ (if ended_by e begun then [] else with_own text e line)
+line_by text begun e line = by begun e.kind refl
+  where
+    by : (b : Bool) (k : Kind) → e.kind ≡ k → line_behind line (tokens_of_entry text b e) ≡ (if ended_by e b then [] else with_own text e line)
+    by true kinds.Newline is = rw is refl
+    by false kinds.Newline is = rw is refl
+    by true kinds.Dedent is = rw is refl
+    by false kinds.Dedent is = rw is refl
+    by true kinds.EndMarker is = rw is refl
+    by false kinds.EndMarker is = rw is refl
+    by b kinds.Indent is = rw is refl
+    by b kinds.Encoding is = rw is refl
+    by b kinds.Comment is = rw is refl
+    by b kinds.Nl is = rw is refl
+    by b kinds.Name is = rw is refl
+    by b kinds.Number is = rw is refl
+    by b kinds.String is = rw is refl
+    by b kinds.Op is = rw is refl
+
+-- and which line ends by it
+lines_by : (text : List ℕ) (begun : Bool) (e : Entry) (before line : List Token)
+    → lines_from before line (tokens_of_entry text begun e) ≡ (if ended_by e begun then record { level = level_behind before; tokens = line } ∷ [] else [])
+lines_by text begun e before line = by begun e.kind refl
+  where
+    by : (b : Bool) (k : Kind) → e.kind ≡ k
+        → lines_from before line (tokens_of_entry text b e) ≡ (if ended_by e b then record { level = level_behind before; tokens = line } ∷ [] else [])
+    by true kinds.Newline is = rw is refl
+    by false kinds.Newline is = rw is refl
+    by true kinds.Dedent is = rw is refl
+    by false kinds.Dedent is = rw is refl
+    by true kinds.EndMarker is = rw is refl
+    by false kinds.EndMarker is = rw is refl
+    by b kinds.Indent is = rw is refl
+    by b kinds.Encoding is = rw is refl
+    by b kinds.Comment is = rw is refl
+    by b kinds.Nl is = rw is refl
+    by b kinds.Name is = rw is refl
+    by b kinds.Number is = rw is refl
+    by b kinds.String is = rw is refl
+    by b kinds.Op is = rw is refl
+
+behind_past : (before ts more : List Token) → behind before (ts ++ more) ≡ behind (behind before ts) more
+behind_past before [] more = refl
+behind_past before (t ∷ ts) more = behind_past (t ∷ before) ts more
+
+pub line_on : (text : List ℕ) (es : List Entry) (e : Entry)
+    → open_line text (es ++ e ∷ []) ≡ (if ended_by e (is_open (behind [] es)) then [] else with_own text e (open_line text es))
+line_on text es e =
+    let begun = is_open (behind [] es) in
+    ap (line_behind []) (tokens_on text [] es e)
+    ∙ line_past [] (tokens_of text es) (tokens_of_entry text begun e)
+    ∙ line_by text begun e (open_line text es)
+
+pub lines_on : (text : List ℕ) (es : List Entry) (e : Entry)
+    → lines_of text (es ++ e ∷ []) ≡ lines_of text es
+      ++ (if ended_by e (is_open (behind [] es)) then record { level = level_behind (behind [] (tokens_of text es)); tokens = open_line text es } ∷ [] else [])
+lines_on text es e =
+    let begun = is_open (behind [] es) in
+    let ts = tokens_of text es in
+    ap (lines_from [] []) (tokens_on text [] es e)
+    ∙ lines_past [] [] ts (tokens_of_entry text begun e)
+    ∙ ap (λ (ls : List Line). lines_of text es ++ ls) (lines_by text begun e (behind [] ts) (open_line text es))
 
 -- the levels that are open, by my own tests
 level_is : (ts : List Token) → level_behind ts ≡ count_by (λ t. is_indent t.kind) ts - count_by (λ t. is_dedent t.kind) ts

@@ -1,5 +1,5 @@
 -- What one pass over a listing gathers of its lines behind some entries.
-use Rattle.std.specs.Prelude.{◌≡◌, ℕ, ◌+◌, ◌-◌, ◌≤◌, Bool, true, false, List, [], ◌∷◌, ◌++◌, length, take, map, count_by, slice_get, Some, None, if◌then◌else◌}
+use Rattle.std.specs.Prelude.{◌≡◌, ℕ, ◌+◌, ◌-◌, ◌<◌, ◌≤◌, ◌&&◌, Bool, true, false, List, [], ◌∷◌, ◌++◌, length, take, map, count_by, slice_get, Some, None, if◌then◌else◌}
 use Rattle.std.specs.Str.{chars}
 use Rattle.pysource.specs.declared.places.Place.{Place}
 use Rattle.pysource.specs.Parts.{Parts}
@@ -35,6 +35,10 @@ is_indent k = elim k [ kinds.Indent ↦ true | _ ↦ false ]
 abbrev pub is_dedent : Kind → Bool
 is_dedent k = elim k [ kinds.Dedent ↦ true | _ ↦ false ]
 
+-- the line that is open ends by an entry, by whether it has a token
+abbrev pub ended_by : Entry → Bool → Bool
+ended_by e begun = ends_open_line e.kind && begun
+
 -- what an entry adds to the line that is open
 abbrev pub own_terminals : List ℕ → Entry → List Terminals.Terminal
 own_terminals text e = if stands_in_line e.kind then terminal_of e.kind (text_of text e) ∷ [] else []
@@ -68,19 +72,6 @@ line_behind line (t ∷ ts) = elim t.kind [
   | _ ↦ line_behind (line ++ t ∷ []) ts
 ]
 
--- what the entries say of faults and of levels
-pub record Counts (text : List ℕ) (es : List Entry) (g : LineGather) : Type 0 where
-  pub pass : Passed text es g.pass
-  pub indents : g.indents ≡ count_by (λ t. is_indent t.kind) (behind [] (tokens_from text [] es))
-  pub dedents : g.dedents ≡ count_by (λ t. is_dedent t.kind) (behind [] (tokens_from text [] es))
-  pub few_indents : g.indents ≤ length es
-  pub few_dedents : g.dedents ≤ length es
-
--- what is kept of the line that is open
-pub record KeepsLine (line : List Token) (g : LineGather) : Type 0 where
-  pub terminals : map terminal g.terminals.items ≡ map terminal_at line
-  pub start : (p : Place) → start_of line ≡ Some p → g.start ≡ p
-
 -- the tokens and the lines of some entries
 abbrev pub tokens_of : List ℕ → List Entry → List Token
 tokens_of text es = tokens_from text [] es
@@ -90,6 +81,20 @@ open_line text es = line_behind [] (tokens_of text es)
 
 abbrev pub lines_of : List ℕ → List Entry → List Line
 lines_of text es = lines_from [] [] (tokens_of text es)
+
+-- what the entries say of faults and of levels, and that a line with tokens has one
+pub record Counts (text : List ℕ) (es : List Entry) (g : LineGather) : Type 0 where
+  pub pass : Passed text es g.pass
+  pub indents : g.indents ≡ count_by (λ t. is_indent t.kind) (behind [] (tokens_from text [] es))
+  pub dedents : g.dedents ≡ count_by (λ t. is_dedent t.kind) (behind [] (tokens_from text [] es))
+  pub few_indents : g.indents ≤ length es
+  pub few_dedents : g.dedents ≤ length es
+  pub some : g.pass.begun ≡ true → 0 < length (open_line text es)
+
+-- what is kept of the line that is open
+pub record KeepsLine (line : List Token) (g : LineGather) : Type 0 where
+  pub terminals : map terminal g.terminals.items ≡ map terminal_at line
+  pub start : (p : Place) → start_of line ≡ Some p → g.start ≡ p
 
 -- a lister and what is gathered stand behind the same entries of a source
 pub record StandsAt (p : Parts) (l : Listed) (g : LineGather) : Type 0 where
