@@ -1,13 +1,14 @@
 -- Carries: read_line. On: the tokens and the logical lines of a front of a listing, with one entry more, and what stands behind it.
-use Rattle.std.proofs.Common.{◌≡◌, ℕ, ◌+◌, ◌-◌, ◌<◌, Bool, true, false, ◌&&◌, List, [], ◌∷◌, ◌++◌, length, refl, sym, ap, ap₂, subst, ◌∙◌, append_assoc, append-nil, arith}
+use Rattle.std.proofs.Common.{◌≡◌, ℕ, ◌+◌, ◌-◌, ◌<◌, Bool, true, false, ◌&&◌, List, [], ◌∷◌, ◌++◌, length, refl, sym, ap, ap₂, subst, ◌∙◌, append_assoc, append-nil, arith, length-append}
 use Rattle.std.specs.Prelude.{count_by, if◌then◌else◌}
 use Rattle.pylex.specs.declared.kinds.Kind.{Kind}
 use Rattle.pylex.specs.declared.kinds.Kind.TheVariants as kinds
 use Rattle.pylex.specs.declared.entries.Entry.{Entry}
 use Rattle.pytoken.specs.Inner.Behind.{behind}
-use Rattle.pytoken.specs.Tokens.{Token, Line, token_of, is_open, tokens_of_entry, tokens_from, level_behind, lines_from}
+use Rattle.pytoken.specs.Tokens.{Token, Line, text_of, token_of, supplied, is_open, tokens_of_entry, tokens_from, level_behind, lines_from}
 use Rattle.pytoken.proofs.Callers.OnePass.{tokens_on}
-use Rattle.pyparse.specs.Inner.Passing.{counted}
+use Rattle.pyparse.specs.Inner.Passing.{counted, still_open}
+use Rattle.pyparse.proofs.PassLemmas.{count_on}
 use Rattle.pyparse.specs.Inner.LineGathering.{stands_in_line, ended_by, is_indent, is_dedent, line_behind, tokens_of, open_line, lines_of}
 
 -- the tokens of the entries of a front, and those of what stands behind it
@@ -152,6 +153,69 @@ lines_on text es e =
     ∙ lines_past [] [] ts (tokens_of_entry text begun e)
     ∙ ap (λ (ls : List Line). lines_of text es ++ ls) (lines_by text begun e (behind [] ts) (open_line text es))
 
--- the levels that are open, by my own tests
-level_is : (ts : List Token) → level_behind ts ≡ count_by (λ t. is_indent t.kind) ts - count_by (λ t. is_dedent t.kind) ts
+-- so many tokens of a type
+abbrev pub tally : (Kind → Bool) → List Token → ℕ
+tally p ts = count_by (λ t. p t.kind) ts
+
+-- the tokens of an entry: none of them is counted but its own
+tally_by : (p : Kind → Bool) → p kinds.Newline ≡ false → p kinds.Encoding ≡ false → p kinds.Comment ≡ false → p kinds.Nl ≡ false
+    → (text : List ℕ) (begun : Bool) (e : Entry) (before : List Token)
+    → tally p (behind before (tokens_of_entry text begun e)) ≡ counted (tally p before) (p e.kind)
+tally_by p newline encoding comment nl text begun e before = by begun e.kind refl
+  where
+    none : (k : Kind) → p k ≡ false → tally p before ≡ counted (tally p before) (p k)
+    none k is = sym (ap (counted (tally p before)) is)
+    one : (ts : List Token) (t : Token) → tally p (t ∷ ts) ≡ counted (tally p ts) (p t.kind)
+    one ts t = sym (count_on (λ (t : Token). p t.kind) ts t)
+    own : (ts : List Token) (k : Kind) → tally p (record { kind = k; start = e.start; text = text_of text e } ∷ ts) ≡ counted (tally p ts) (p k)
+    own ts k = one ts (record { kind = k; start = e.start; text = text_of text e })
+    behind_newline : (k : Kind) → tally p (record { kind = k; start = e.start; text = text_of text e } ∷ supplied text ∷ before) ≡ counted (tally p before) (p k)
+    behind_newline k =
+        own (supplied text ∷ before) k ∙ ap (λ (n : ℕ). counted n (p k)) (one before (supplied text) ∙ ap (counted (tally p before)) newline)
+    by : (b : Bool) (k : Kind) → e.kind ≡ k → tally p (behind before (tokens_of_entry text b e)) ≡ counted (tally p before) (p e.kind)
+    by true kinds.Newline is = rw is (own before kinds.Newline)
+    by false kinds.Newline is = rw is (none kinds.Newline newline)
+    by true kinds.Dedent is = rw is (behind_newline kinds.Dedent)
+    by false kinds.Dedent is = rw is (own before kinds.Dedent)
+    by true kinds.EndMarker is = rw is (behind_newline kinds.EndMarker)
+    by false kinds.EndMarker is = rw is (own before kinds.EndMarker)
+    by b kinds.Indent is = rw is (own before kinds.Indent)
+    by b kinds.Encoding is = rw is (none kinds.Encoding encoding)
+    by b kinds.Comment is = rw is (none kinds.Comment comment)
+    by b kinds.Nl is = rw is (none kinds.Nl nl)
+    by b kinds.Name is = rw is (own before kinds.Name)
+    by b kinds.Number is = rw is (own before kinds.Number)
+    by b kinds.String is = rw is (own before kinds.String)
+    by b kinds.Op is = rw is (own before kinds.Op)
+
+tally_past : (p : Kind → Bool) → p kinds.Newline ≡ false → p kinds.Encoding ≡ false → p kinds.Comment ≡ false → p kinds.Nl ≡ false
+    → (text : List ℕ) (es : List Entry) (e : Entry)
+    → tally p (behind [] (tokens_of text (es ++ e ∷ []))) ≡ counted (tally p (behind [] (tokens_of text es))) (p e.kind)
+tally_past p newline encoding comment nl text es e =
+    let begun = is_open (behind [] es) in
+    let ts = tokens_of text es in
+    ap (λ (ts : List Token). tally p (behind [] ts)) (tokens_on text [] es e)
+    ∙ ap (tally p) (behind_past [] ts (tokens_of_entry text begun e))
+    ∙ tally_by p newline encoding comment nl text begun e (behind [] ts)
+
+-- a line with tokens has one
+some_by : (text : List ℕ) (e : Entry) (begun : Bool) (line : List Token) → (begun ≡ true → 0 < length line)
+    → still_open e.kind begun ≡ true → 0 < length (if ended_by e begun then [] else with_own text e line)
+some_by text e begun line some opened = by e.kind refl
+  where
+    by : (k : Kind) → e.kind ≡ k → 0 < length (if ended_by e begun then [] else with_own text e line)
+    by kinds.Comment is = rw is (let b : begun ≡ true = rw is at opened in some b)
+    by kinds.Nl is = rw is (let b : begun ≡ true = rw is at opened in some b)
+    by kinds.Name is = rw is (grind (arith, length-append))
+    by kinds.Number is = rw is (grind (arith, length-append))
+    by kinds.String is = rw is (grind (arith, length-append))
+    by kinds.Op is = rw is (grind (arith, length-append))
+    by kinds.Newline is = let h : false ≡ true = rw is at opened in absurd (cc)
+    by kinds.Dedent is = let h : false ≡ true = rw is at opened in absurd (cc)
+    by kinds.EndMarker is = let h : false ≡ true = rw is at opened in absurd (cc)
+    by kinds.Indent is = let h : false ≡ true = rw is at opened in absurd (cc)
+    by kinds.Encoding is = let h : false ≡ true = rw is at opened in absurd (cc)
+
+-- the levels that are open behind some tokens
+level_is : (ts : List Token) → level_behind ts ≡ tally is_indent ts - tally is_dedent ts
 level_is ts = refl

@@ -20,8 +20,8 @@ use Rattle.pyparse.specs.Inner.Passing.{still_open, exceeding, counted, given_ma
 use Rattle.pyparse.specs.Inner.Indenting.{Measures, Measured}
 use Rattle.pyparse.proofs.IndentLemmas.{measures}
 
--- a count of entries with one more
-pub count_on : (p : Entry → Bool) (es : List Entry) (e : Entry) → counted (count_by p es) (p e) ≡ count_by p (e ∷ es)
+-- a count with one more
+pub count_on : {X : Type 0} (p : X → Bool) (es : List X) (e : X) → counted (count_by p es) (p e) ≡ count_by p (e ∷ es)
 count_on p es e = by (p e) ∙ sym (sum_by-cons (λ x. if p x then 1 else 0) e es)
   where
     by : (b : Bool) → counted (count_by p es) b ≡ (if b then 1 else 0) + count_by p es
