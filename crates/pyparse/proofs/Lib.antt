@@ -4,4 +4,5 @@ mod RisingLemmas
 mod IndentLemmas
 mod PassLemmas
 mod GatherLemmas
-pub mod LineLemmas
+mod LineLemmas
+mod LineGatherLemmas

@@ -85,7 +85,7 @@ line_past line (t ∷ ts) more =
 
 -- one entry more
 
-abbrev with_own : List ℕ → Entry → List Token → List Token
+abbrev pub with_own : List ℕ → Entry → List Token → List Token
 with_own text e line = if stands_in_line e.kind then line ++ token_of text e ∷ [] else line
 
 -- what an entry does to the line that is open
@@ -188,7 +188,7 @@ tally_by p newline encoding comment nl text begun e before = by begun e.kind ref
     by b kinds.String is = rw is (own before kinds.String)
     by b kinds.Op is = rw is (own before kinds.Op)
 
-tally_past : (p : Kind → Bool) → p kinds.Newline ≡ false → p kinds.Encoding ≡ false → p kinds.Comment ≡ false → p kinds.Nl ≡ false
+pub tally_past : (p : Kind → Bool) → p kinds.Newline ≡ false → p kinds.Encoding ≡ false → p kinds.Comment ≡ false → p kinds.Nl ≡ false
     → (text : List ℕ) (es : List Entry) (e : Entry)
     → tally p (behind [] (tokens_of text (es ++ e ∷ []))) ≡ counted (tally p (behind [] (tokens_of text es))) (p e.kind)
 tally_past p newline encoding comment nl text es e =
@@ -199,7 +199,7 @@ tally_past p newline encoding comment nl text es e =
     ∙ tally_by p newline encoding comment nl text begun e (behind [] ts)
 
 -- a line with tokens has one
-some_by : (text : List ℕ) (e : Entry) (begun : Bool) (line : List Token) → (begun ≡ true → 0 < length line)
+pub some_by : (text : List ℕ) (e : Entry) (begun : Bool) (line : List Token) → (begun ≡ true → 0 < length line)
     → still_open e.kind begun ≡ true → 0 < length (if ended_by e begun then [] else with_own text e line)
 some_by text e begun line some opened = by e.kind refl
   where
@@ -217,5 +217,5 @@ some_by text e begun line some opened = by e.kind refl
     by kinds.Encoding is = let h : false ≡ true = rw is at opened in absurd (cc)
 
 -- the levels that are open behind some tokens
-level_is : (ts : List Token) → level_behind ts ≡ tally is_indent ts - tally is_dedent ts
+pub level_is : (ts : List Token) → level_behind ts ≡ tally is_indent ts - tally is_dedent ts
 level_is ts = refl
