@@ -1,16 +1,24 @@
 -- Carries: read_line. On: what one pass gathers of its lines, with one entry more and at the listing's end.
-use Rattle.std.proofs.Common.{◌≡◌, ℕ, suc, ◌+◌, ◌≤◌, ◌<◌, Bool, true, false, List, [], ◌∷◌, ◌++◌, length, take, drop, map, refl, sym, ap, ap₂, subst, ◌∙◌, append-nil, arith, length-append, Option, Some, None}
+use Rattle.std.proofs.Common.{◌≡◌, ℕ, ◌+◌, ◌-◌, ◌≤◌, ◌<◌, Bool, true, false, List, [], ◌∷◌, ◌++◌, length, take, drop, map, refl, sym, ap, ap₂, subst, ◌∙◌, append-nil, arith, length-append, Option, Some, None}
 use Rattle.std.specs.Prelude.{if◌then◌else◌, slice_get}
 use Rattle.std.proofs.lemmas.List.{map-append, take-append-drop}
+use Rattle.std.specs.Str.{chars}
+use Rattle.std.proofs.lemmas.Bool.{and_parts}
 use Rattle.pysource.specs.declared.places.Place.{Place}
+use Rattle.pysource.specs.Parts.{Parts}
 use Rattle.pylex.specs.declared.kinds.Kind.{Kind}
 use Rattle.pylex.specs.declared.kinds.Kind.TheVariants as kinds
 use Rattle.pylex.specs.declared.entries.Entry.{Entry}
 use Rattle.pytoken.specs.declared.refusals.Refusal.{Refusal}
 use Rattle.pytoken.specs.Inner.Behind.{behind}
 use Rattle.pytoken.specs.Terminals
-use Rattle.pylex.specs.Listing.{Source, listing}
-use Rattle.pylex.specs.Steps.{entries_of}
+use Rattle.pylex.specs.declared.entries.Step.{Step}
+use Rattle.pylex.specs.declared.entries.Step.TheVariants as steps
+use Rattle.pylex.specs.Laws.{LiesIn}
+use Rattle.pylex.specs.Listing.{Source, in_characters, listing}
+use Rattle.pylex.specs.Listers.{Listed, StandsIn, Moves}
+use Rattle.pylex.proofs.Callers.{entry_lies}
+use Rattle.pylex.specs.Steps.{entries_of, most_entries}
 use Rattle.pytoken.specs.Tokens.{Token, Line, token_of, is_open, level_behind, tokens_from, lines_from, tokens, lines}
 use Rattle.pytoken.specs.Refusals.{or_refusal, entry_refusal}
 use Rattle.pyvalue.specs.Terminals.{terminal}
@@ -18,8 +26,9 @@ use Rattle.pyvalue.specs.declared.terminals.Terminal.{Terminal}
 use Rattle.pyparse.specs.declared.line_gather.LineGather.{LineGather}
 use Rattle.pyparse.specs.LineReadings.{start_of, terminal_at, lines_within}
 use Rattle.pyparse.specs.Inner.Passing.{counted, still_open, kept_refusal}
-use Rattle.pyparse.specs.Inner.LineGathering.{stands_in_line, ended_by, is_indent, is_dedent, own_terminals, start_before, line_behind, tokens_of, open_line, lines_of, Adds, Gathers, Counts, KeepsLine}
-use Rattle.pyparse.proofs.PassLemmas.{passes}
+use Rattle.pyparse.specs.Inner.LineGathering.{stands_in_line, ends_open_line, ended_by, is_indent, is_dedent, own_terminals, start_before, line_behind, tokens_of, open_line, lines_of, Adds, Gathers, Counts, KeepsLine, StandsAt, ReadsLine}
+use Rattle.pyparse.proofs.PassLemmas.{passes, kept_before}
+use Rattle.pyparse.proofs.ListingLemmas.{moved, at_entry}
 use Rattle.pyparse.proofs.LineLemmas.{with_own, tally_past, some_by, line_on, lines_on, tokens_past, lines_past}
 
 counted_few : (n m : ℕ) (b : Bool) → n ≤ m → counted n b ≤ m + 1
@@ -86,7 +95,7 @@ keeps text e line old new had adds = by (stands_in_line e.kind) refl
         rw is all
 
 -- the line that ends by an entry
-pub line_at : List ℕ → List Entry → Line
+abbrev pub line_at : List ℕ → List Entry → Line
 line_at text es = record { level = level_behind (behind [] (tokens_of text es)); tokens = open_line text es }
 
 pub lines_more : (s : Source) (k : ℕ) (e : Entry) → (ended : Bool) → ended_by e (is_open (behind [] (take k (entries_of (listing s))))) ≡ ended
@@ -124,3 +133,133 @@ line_stands s k l next =
 pub all_lines : (s : Source) (k : ℕ) → take k (entries_of (listing s)) ≡ entries_of (listing s) → lines_within s k ≡ lines s
 unfolding tokens lines
 all_lines s k all = ap (lines_of s.text) all
+
+-- a lister has gone past an entry
+
+pub record Read (p : Parts) (old new : Listed) (e : Entry) : Type 0 where
+  pub lies : LiesIn p.text e
+  pub count : new.shown.given ≡ old.shown.given + 1
+  pub within : old.shown.given < length (entries_of (listing (in_characters p)))
+  pub grown : take (old.shown.given + 1) (entries_of (listing (in_characters p))) ≡ take old.shown.given (entries_of (listing (in_characters p))) ++ e ∷ []
+  pub stands : StandsIn new (in_characters p) new.shown.given
+
+pub entry_read : (p : Parts) (old new : Listed) (g : LineGather) (step : Step) (e : Entry) → StandsAt p old g → Moves old step new → step ≡ steps.Entry e →
+    Read p old new e
+entry_read p old new g step e had moves is =
+    let s = in_characters p in
+    let k = old.shown.given in
+    let m = moved old new step (steps.Entry e) s k moves is had.stands in
+    let next = at_entry (listing s) k e had.whole m.0 in
+    record {
+      lies = entry_lies p.text (listing s) k e had.lies m.0;
+      count = m.1.count;
+      within = next.0;
+      grown = next.1;
+      stands = subst (λ (n : ℕ). StandsIn new s n) (sym m.1.count) m.1;
+    }
+
+pub stands_on : (p : Parts) (old new : Listed) (e : Entry) (g h : LineGather) → StandsAt p old g → Read p old new e → new.shown.given ≤ most_entries →
+    Gathers (chars p.text) e g h → StandsAt p new h
+stands_on p old new e g h had read few gains =
+    let es = entries_of (listing (in_characters p)) in
+    record {
+      stands = read.stands;
+      within = omega (arith, read.count, read.within);
+      few = few;
+      whole = had.whole;
+      lies = had.lies;
+      counts =
+          subst (λ (front : List Entry). Counts (chars p.text) front h) (sym (ap (λ (n : ℕ). take n es) read.count ∙ read.grown))
+          (counts (chars p.text) (take old.shown.given es) e g h had.counts gains);
+    }
+
+-- what is gathered has no refusal, so it had none before the entry
+pub none_before : (p : Parts) (l : Listed) (e : Entry) (g h : LineGather) → StandsAt p l g → Gathers (chars p.text) e g h → kept_refusal h.pass ≡ None →
+    (kept_refusal g.pass ≡ None) × (entry_refusal (chars p.text) e ≡ None)
+none_before p l e g h had gains none =
+    kept_before (chars p.text) (take l.shown.given (entries_of (listing (in_characters p)))) e (entry_refusal (chars p.text) e) g.pass h.pass
+    had.counts.pass gains.pass none
+
+-- the same line, by an entry that doesn't end it
+pub same_line : (p : Parts) (old new : Listed) (e : Entry) (g h : LineGather) → StandsAt p old g → Read p old new e → Gathers (chars p.text) e g h →
+    ended_by e g.pass.begun ≡ false → kept_refusal h.pass ≡ None →
+    KeepsLine (open_line (chars p.text) (take old.shown.given (entries_of (listing (in_characters p))))) g →
+    KeepsLine (open_line (chars p.text) (take new.shown.given (entries_of (listing (in_characters p))))) h
+same_line p old new e g h had read gains goes none keep =
+    let text = chars p.text in
+    let es = entries_of (listing (in_characters p)) in
+    let front = take old.shown.given es in
+    let before = none_before p old e g h had gains none in
+    let ended : ended_by e (is_open (behind [] front)) ≡ false = ap (ended_by e) (sym had.counts.pass.begun) ∙ goes in
+    let line : open_line text (take new.shown.given es) ≡ with_own text e (open_line text front) =
+        ap (λ (n : ℕ). open_line text (take n es)) read.count ∙ ap (open_line text) read.grown ∙ line_on text front e
+        ∙ ap (λ (b : Bool). if b then [] else with_own text e (open_line text front)) ended
+    in
+    subst (λ (l : List Token). KeepsLine l h) (sym line) (keeps text e (open_line text front) g h keep (gains.line before.1))
+
+pub same_lines : (p : Parts) (old new : Listed) (e : Entry) (g : LineGather) → StandsAt p old g → Read p old new e → ended_by e g.pass.begun ≡ false →
+    lines_within (in_characters p) new.shown.given ≡ lines_within (in_characters p) old.shown.given
+same_lines p old new e g had read goes =
+    let s = in_characters p in
+    let k = old.shown.given in
+    ap (lines_within s) read.count
+    ∙ lines_more s k e false (ap (ended_by e) (sym had.counts.pass.begun) ∙ goes) read.grown
+    ∙ append-nil (lines_within s k)
+
+-- a line that ends
+
+stands_beside : (k : Kind) → ends_open_line k ≡ true → stands_in_line k ≡ false
+stands_beside kinds.Newline is = refl
+stands_beside kinds.Dedent is = refl
+stands_beside kinds.EndMarker is = refl
+stands_beside kinds.Indent is = refl
+stands_beside kinds.Encoding is = refl
+stands_beside kinds.Comment is = refl
+stands_beside kinds.Nl is = refl
+stands_beside kinds.Name is = absurd (cc)
+stands_beside kinds.Number is = absurd (cc)
+stands_beside kinds.String is = absurd (cc)
+stands_beside kinds.Op is = absurd (cc)
+
+first_starts : (l : List Token) (p : Place) → 0 < length l → ((q : Place) → start_of l ≡ Some q → p ≡ q) → start_of l ≡ Some p
+first_starts [] p some start = absurd (omega (arith, some))
+first_starts (t ∷ l) p some start = ap Some (sym (start t.start refl))
+
+pub line_read : (p : Parts) (first old new : Listed) (e : Entry) (g h : LineGather) → StandsAt p old g → Read p old new e → new.shown.given ≤ most_entries →
+    Gathers (chars p.text) e g h → ended_by e g.pass.begun ≡ true → kept_refusal h.pass ≡ None →
+    KeepsLine (open_line (chars p.text) (take old.shown.given (entries_of (listing (in_characters p))))) g →
+    lines_within (in_characters p) old.shown.given ≡ lines_within (in_characters p) first.shown.given →
+    ReadsLine p first new h
+line_read p first old new e g h had read few gains ends none keep same =
+    let s = in_characters p in
+    let text = chars p.text in
+    let es = entries_of (listing s) in
+    let k = old.shown.given in
+    let front = take k es in
+    let line = open_line text front in
+    let ended : ended_by e (is_open (behind [] front)) ≡ true = ap (ended_by e) (sym had.counts.pass.begun) ∙ ends in
+    let parts = and_parts (ends_open_line e.kind) g.pass.begun ends in
+    let before = none_before p old e g h had gains none in
+    let beside : with_own text e line ≡ line = ap (λ (b : Bool). if b then line ++ token_of text e ∷ [] else line) (stands_beside e.kind parts.0) in
+    let kept = subst (λ (l : List Token). KeepsLine l h) beside (keeps text e line g h keep (gains.line before.1)) in
+    let more = lines_more s k e true ended read.grown in
+    let size : length (lines_within s new.shown.given) ≡ length (lines_within s k) + 1 =
+        ap (λ (n : ℕ). length (lines_within s n)) read.count ∙ ap length more ∙ length-append (lines_within s k) (line_at text front ∷ [])
+    in
+    record {
+      between =
+          record {
+            at = stands_on p old new e g h had read few gains;
+            closed =
+                ap (λ (n : ℕ). open_line text (take n es)) read.count ∙ ap (open_line text) read.grown ∙ line_on text front e
+                ∙ ap (λ (b : Bool). if b then [] else with_own text e line) ended;
+          };
+      given = size ∙ ap (λ (ls : List Line). length ls + 1) same;
+      line = line_at text front;
+      stands =
+          subst (λ (ls : List Line). slice_get (lines s) (length ls) ≡ Some (line_at text front)) same
+          (line_stands s k (line_at text front) more);
+      level = gains.level ∙ ap₂ (λ (a b : ℕ). a - b) had.counts.indents had.counts.dedents;
+      terminals = kept.terminals;
+      start = first_starts line h.start (had.counts.some parts.1) kept.start;
+    }
