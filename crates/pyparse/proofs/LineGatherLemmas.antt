@@ -173,6 +173,28 @@ stands_on p old new e g h had read few gains =
           (counts (chars p.text) (take old.shown.given es) e g h had.counts gains);
     }
 
+-- without the tokens of the line
+pub cleared : (p : Parts) (l : Listed) (g h : LineGather) → StandsAt p l g → h ≡ record g { terminals = h.terminals } → StandsAt p l h
+cleared p l g h had is =
+    let counts = had.counts in
+    subst (StandsAt p l) (sym is)
+    record {
+      stands = had.stands;
+      within = had.within;
+      few = had.few;
+      whole = had.whole;
+      lies = had.lies;
+      counts =
+          record {
+            pass = counts.pass;
+            indents = counts.indents;
+            dedents = counts.dedents;
+            few_indents = counts.few_indents;
+            few_dedents = counts.few_dedents;
+            some = counts.some;
+          };
+    }
+
 -- what is gathered has no refusal, so it had none before the entry
 pub none_before : (p : Parts) (l : Listed) (e : Entry) (g h : LineGather) → StandsAt p l g → Gathers (chars p.text) e g h → kept_refusal h.pass ≡ None →
     (kept_refusal g.pass ≡ None) × (entry_refusal (chars p.text) e ≡ None)
