@@ -1,5 +1,5 @@
 -- Carries: read_line. On: what one pass gathers of its lines, with one entry more and at the listing's end.
-use Rattle.std.proofs.Common.{◌≡◌, ℕ, ◌+◌, ◌-◌, ◌≤◌, ◌<◌, Bool, true, false, List, [], ◌∷◌, ◌++◌, length, take, drop, map, refl, sym, ap, ap₂, subst, ◌∙◌, append-nil, arith, length-append, Option, Some, None}
+use Rattle.std.proofs.Common.{◌≡◌, ℕ, ◌+◌, ◌-◌, ◌≤◌, ◌<◌, Bool, true, false, List, [], ◌∷◌, ◌++◌, length, take, drop, map, refl, sym, ap, ap₂, subst, ◌∙◌, append-nil, arith, length-append, Some, None}
 use Rattle.std.specs.Prelude.{if◌then◌else◌, slice_get}
 use Rattle.std.proofs.lemmas.List.{map-append, take-append-drop}
 use Rattle.std.specs.Str.{chars}
@@ -9,7 +9,6 @@ use Rattle.pysource.specs.Parts.{Parts}
 use Rattle.pylex.specs.declared.kinds.Kind.{Kind}
 use Rattle.pylex.specs.declared.kinds.Kind.TheVariants as kinds
 use Rattle.pylex.specs.declared.entries.Entry.{Entry}
-use Rattle.pytoken.specs.declared.refusals.Refusal.{Refusal}
 use Rattle.pytoken.specs.Inner.Behind.{behind}
 use Rattle.pytoken.specs.Terminals
 use Rattle.pylex.specs.declared.entries.Step.{Step}
@@ -20,7 +19,7 @@ use Rattle.pylex.specs.Listers.{Listed, StandsIn, Moves}
 use Rattle.pylex.proofs.Callers.{entry_lies}
 use Rattle.pylex.specs.Steps.{entries_of, most_entries}
 use Rattle.pytoken.specs.Tokens.{Token, Line, token_of, is_open, level_behind, tokens_from, lines_from, tokens, lines}
-use Rattle.pytoken.specs.Refusals.{or_refusal, entry_refusal}
+use Rattle.pytoken.specs.Refusals.{entry_refusal}
 use Rattle.pyvalue.specs.Terminals.{terminal}
 use Rattle.pyvalue.specs.declared.terminals.Terminal.{Terminal}
 use Rattle.pyparse.specs.declared.line_gather.LineGather.{LineGather}

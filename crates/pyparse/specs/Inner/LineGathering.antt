@@ -19,7 +19,7 @@ use Rattle.pyvalue.specs.Terminals.{terminal}
 use Rattle.pyvalue.specs.declared.terminals.Terminal.{Terminal}
 use Rattle.pyparse.specs.declared.line_gather.LineGather.{LineGather}
 use Rattle.pyparse.specs.LineReadings.{start_of, terminal_at, lines_within}
-use Rattle.pyparse.specs.Inner.Passing.{counted, kept_refusal, Gains, Passed}
+use Rattle.pyparse.specs.Inner.Passing.{counted, Gains, Passed}
 
 -- a token of this type stands in a line
 abbrev pub stands_in_line : Kind → Bool

@@ -1,16 +1,13 @@
 -- What a reader of lines keeps between its calls.
-use Rattle.std.specs.Prelude.{◌≡◌, ℕ, ◌+◌, Bool, false, length, slice_get, Option, Some, None, Result, Ok, Err, map}
-use Rattle.pysource.specs.Parts.{Parts}
+use Rattle.std.specs.Prelude.{◌≡◌, ℕ, Bool, false, length, Some, None, Result, Ok, Err, map}
 use Rattle.pylex.specs.Listing.{Source, in_characters}
-use Rattle.pylex.specs.Listers.{Listed}
-use Rattle.pytoken.specs.Tokens.{Line, lines}
+use Rattle.pytoken.specs.Tokens.{lines}
 use Rattle.pytoken.specs.Refusals.{refusal}
 use Rattle.pyvalue.specs.Terminals.{terminal}
 use Rattle.pyparse.specs.declared.faults.ParseFault.{ParseFault}
-use Rattle.pyparse.specs.declared.line_gather.LineGather.{LineGather}
 use Rattle.pyparse.specs.declared.logical_lines.LogicalLines.TheInside.{Inside}
 use Rattle.pyparse.specs.Answers.{Tells}
-use Rattle.pyparse.specs.LineReadings.{LineReading, lines_within, start_of, terminal_at}
+use Rattle.pyparse.specs.LineReadings.{LineReading, lines_within}
 use Rattle.pyparse.specs.Inner.LineGathering.{StandsBetween}
 
 -- what a reader shows

@@ -1,12 +1,10 @@
 use Rattle.std.proofs.Common.{rules, ◌≡◌, ℕ, true, length, take, sym, ap, subst, ◌∙◌, arith, Option, Some, None}
-use Rattle.std.specs.Prelude.{IfOk, IfErr, not, is_some}
+use Rattle.std.specs.Prelude.{IfErr, not, is_some}
 use Rattle.std.proofs.lemmas.Result.{IfOk-weaker}
 use Rattle.pylex.specs.declared.entries.Step.TheVariants as steps
 use Rattle.pylex.specs.Listing.{in_characters, listing}
 use Rattle.pylex.specs.Steps.{entries_of}
 use Rattle.pytoken.specs.declared.refusals.Refusal.{Refusal}
-use Rattle.pytoken.specs.Tokens.{Line, lines}
-use Rattle.pytoken.specs.Refusals.{refusal}
 use Rattle.pyparse.specs.declared.line_gather.LineGather.{LineGather}
 use Rattle.pyparse.specs.Answers.{Tells}
 use Rattle.pyparse.specs.Inner.Passing.{kept_refusal}

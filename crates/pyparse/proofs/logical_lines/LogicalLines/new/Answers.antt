@@ -1,4 +1,3 @@
-use Rattle.pyparse.proofs.LineGatherLemmas.{line_read}
 use Rattle.pytoken.proofs.Callers.Said.{values_are_lawful, tokens_are_sound}
 use Rattle.pylex.specs.Listing.{in_characters}
 use Rattle.pyparse.proofs.ListingLemmas.{starts_at}
