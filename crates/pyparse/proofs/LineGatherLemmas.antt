@@ -23,9 +23,9 @@ use Rattle.pytoken.specs.Refusals.{entry_refusal}
 use Rattle.pyvalue.specs.Terminals.{terminal}
 use Rattle.pyvalue.specs.declared.terminals.Terminal.{Terminal}
 use Rattle.pyparse.specs.declared.line_gather.LineGather.{LineGather}
-use Rattle.pyparse.specs.LineReadings.{start_of, terminal_at, lines_within}
+use Rattle.pyparse.specs.LineReadings.{first_start, token_terminal, lines_within}
 use Rattle.pyparse.specs.Inner.Passing.{counted, still_open, kept_refusal}
-use Rattle.pyparse.specs.Inner.LineGathering.{stands_in_line, ends_open_line, ended_by, is_indent, is_dedent, own_terminals, start_before, line_behind, tokens_of, open_line, lines_of, Adds, Gathers, Counts, KeepsLine, StandsAt, ReadsLine}
+use Rattle.pyparse.specs.Inner.LineGathering.{stands_in_line, ends_open_line, ended_by, is_indent, is_dedent, own_terminals, start_before, line_behind, front_tokens, front_line, front_lines, Adds, Takes, Counts, KeepsLine, StandsAt, ReadsLine}
 use Rattle.pyparse.proofs.PassLemmas.{passes, kept_before}
 use Rattle.pyparse.proofs.ListingLemmas.{moved, at_entry}
 use Rattle.pyparse.proofs.LineLemmas.{with_own, tally_past, some_by, line_on, lines_on, tokens_past, lines_past}
@@ -35,7 +35,7 @@ counted_few n m true low = omega (arith, low)
 counted_few n m false low = omega (arith, low)
 
 -- one entry more
-pub counts : (text : List ℕ) (es : List Entry) (e : Entry) (old new : LineGather) → Counts text es old → Gathers text e old new →
+pub counts : (text : List ℕ) (es : List Entry) (e : Entry) (old new : LineGather) → Counts text es old → Takes text e old new →
     Counts text (es ++ e ∷ []) new
 counts text es e old new had gains =
     let size : length (es ++ e ∷ []) ≡ length es + 1 = length-append es (e ∷ []) in
@@ -55,7 +55,7 @@ counts text es e old new had gains =
       some =
           λ now.
             subst (λ (l : List Token). 0 < length l) (sym (line_on text es e))
-            (some_by text e begun (open_line text es) (λ b. had.some (had.pass.begun ∙ b))
+            (some_by text e begun (front_line text es) (λ b. had.some (had.pass.begun ∙ b))
             (ap (still_open e.kind) (sym had.pass.begun) ∙ sym gains.pass.begun ∙ now));
     }
 
@@ -64,22 +64,22 @@ pub keeps : (text : List ℕ) (e : Entry) (line : List Token) (old new : LineGat
     KeepsLine (with_own text e line) new
 keeps text e line old new had adds = by (stands_in_line e.kind) refl
   where
-    starts : (ts : List Terminal) (l : List Token) → map terminal ts ≡ map terminal_at l → (p : Place) → ((q : Place) → start_of l ≡ Some q → p ≡ q) → (q : Place)
-        → start_of (l ++ token_of text e ∷ []) ≡ Some q → start_before ts p e.start ≡ q
+    starts : (ts : List Terminal) (l : List Token) → map terminal ts ≡ map token_terminal l → (p : Place) → ((q : Place) → first_start l ≡ Some q → p ≡ q) → (q : Place)
+        → first_start (l ++ token_of text e ∷ []) ≡ Some q → start_before ts p e.start ≡ q
     starts [] [] same p was q is = cc
     starts [] (t ∷ l) same p was q is = absurd (cc)
     starts (x ∷ ts) [] same p was q is = absurd (cc)
     starts (x ∷ ts) (t ∷ l) same p was q is = was q is
     by : (b : Bool) → stands_in_line e.kind ≡ b → KeepsLine (with_own text e line) new
     by true is =
-        let own : own_terminals text e ≡ terminal_at (token_of text e) ∷ [] = rw is refl in
+        let own : own_terminals text e ≡ token_terminal (token_of text e) ∷ [] = rw is refl in
         let start : new.start ≡ start_before old.terminals.items old.start e.start = rw is at adds.start in
         let all : KeepsLine (line ++ token_of text e ∷ []) new =
             record {
               terminals =
                   adds.terminals
                   ∙ ap₂ (λ (a b : List Terminals.Terminal). a ++ b) had.terminals own
-                  ∙ sym (map-append terminal_at line (token_of text e ∷ []));
+                  ∙ sym (map-append token_terminal line (token_of text e ∷ []));
               start = λ p at. start ∙ starts old.terminals.items line had.terminals old.start had.start p at;
             } in
         rw is all
@@ -88,22 +88,22 @@ keeps text e line old new had adds = by (stands_in_line e.kind) refl
         let start : new.start ≡ old.start = rw is at adds.start in
         let all : KeepsLine line new =
             record {
-              terminals = adds.terminals ∙ ap₂ (λ (a b : List Terminals.Terminal). a ++ b) had.terminals own ∙ append-nil (map terminal_at line);
+              terminals = adds.terminals ∙ ap₂ (λ (a b : List Terminals.Terminal). a ++ b) had.terminals own ∙ append-nil (map token_terminal line);
               start = λ p at. start ∙ had.start p at;
             } in
         rw is all
 
 -- the line that ends by an entry
 abbrev pub line_at : List ℕ → List Entry → Line
-line_at text es = record { level = level_behind (behind [] (tokens_of text es)); tokens = open_line text es }
+line_at text es = record { level = level_behind (behind [] (front_tokens text es)); tokens = front_line text es }
 
 pub lines_more : (s : Source) (k : ℕ) (e : Entry) → (ended : Bool) → ended_by e (is_open (behind [] (take k (entries_of (listing s))))) ≡ ended
     → take (k + 1) (entries_of (listing s)) ≡ take k (entries_of (listing s)) ++ e ∷ []
     → lines_within s (k + 1) ≡ lines_within s k ++ (if ended then line_at s.text (take k (entries_of (listing s))) ∷ [] else [])
 lines_more s k e ended is next =
     let read = take k (entries_of (listing s)) in
-    ap (lines_of s.text) next ∙ lines_on s.text read e
-    ∙ ap (λ (b : Bool). lines_of s.text read ++ (if b then line_at s.text read ∷ [] else [])) is
+    ap (front_lines s.text) next ∙ lines_on s.text read e
+    ∙ ap (λ (b : Bool). front_lines s.text read ++ (if b then line_at s.text read ∷ [] else [])) is
 
 get_at : (before behind : List Line) (l : Line) → slice_get ((before ++ l ∷ []) ++ behind) (length before) ≡ Some l
 get_at [] behind l = refl
@@ -117,7 +117,7 @@ line_stands s k l next =
     let es = entries_of (listing s) in
     let front = take (k + 1) es in
     let rest = drop (k + 1) es in
-    let ts = tokens_of s.text front in
+    let ts = front_tokens s.text front in
     let more = tokens_from s.text (behind [] front) rest in
     let whole =
         ap (λ (es : List Entry). lines_from [] [] (tokens_from s.text [] es)) (sym (take-append-drop (k + 1) es))
@@ -131,7 +131,7 @@ line_stands s k l next =
 -- behind all entries
 pub all_lines : (s : Source) (k : ℕ) → take k (entries_of (listing s)) ≡ entries_of (listing s) → lines_within s k ≡ lines s
 unfolding tokens lines
-all_lines s k all = ap (lines_of s.text) all
+all_lines s k all = ap (front_lines s.text) all
 
 -- a lister has gone past an entry
 
@@ -158,7 +158,7 @@ entry_read p old new g step e had moves is =
     }
 
 pub stands_on : (p : Parts) (old new : Listed) (e : Entry) (g h : LineGather) → StandsAt p old g → Read p old new e → new.shown.given ≤ most_entries →
-    Gathers (chars p.text) e g h → StandsAt p new h
+    Takes (chars p.text) e g h → StandsAt p new h
 stands_on p old new e g h had read few gains =
     let es = entries_of (listing (in_characters p)) in
     record {
@@ -195,28 +195,28 @@ cleared p l g h had is =
     }
 
 -- what is gathered has no refusal, so it had none before the entry
-pub none_before : (p : Parts) (l : Listed) (e : Entry) (g h : LineGather) → StandsAt p l g → Gathers (chars p.text) e g h → kept_refusal h.pass ≡ None →
+pub none_before : (p : Parts) (l : Listed) (e : Entry) (g h : LineGather) → StandsAt p l g → Takes (chars p.text) e g h → kept_refusal h.pass ≡ None →
     (kept_refusal g.pass ≡ None) × (entry_refusal (chars p.text) e ≡ None)
 none_before p l e g h had gains none =
     kept_before (chars p.text) (take l.shown.given (entries_of (listing (in_characters p)))) e (entry_refusal (chars p.text) e) g.pass h.pass
     had.counts.pass gains.pass none
 
 -- the same line, by an entry that doesn't end it
-pub same_line : (p : Parts) (old new : Listed) (e : Entry) (g h : LineGather) → StandsAt p old g → Read p old new e → Gathers (chars p.text) e g h →
+pub same_line : (p : Parts) (old new : Listed) (e : Entry) (g h : LineGather) → StandsAt p old g → Read p old new e → Takes (chars p.text) e g h →
     ended_by e g.pass.begun ≡ false → kept_refusal h.pass ≡ None →
-    KeepsLine (open_line (chars p.text) (take old.shown.given (entries_of (listing (in_characters p))))) g →
-    KeepsLine (open_line (chars p.text) (take new.shown.given (entries_of (listing (in_characters p))))) h
+    KeepsLine (front_line (chars p.text) (take old.shown.given (entries_of (listing (in_characters p))))) g →
+    KeepsLine (front_line (chars p.text) (take new.shown.given (entries_of (listing (in_characters p))))) h
 same_line p old new e g h had read gains goes none keep =
     let text = chars p.text in
     let es = entries_of (listing (in_characters p)) in
     let front = take old.shown.given es in
     let before = none_before p old e g h had gains none in
     let ended : ended_by e (is_open (behind [] front)) ≡ false = ap (ended_by e) (sym had.counts.pass.begun) ∙ goes in
-    let line : open_line text (take new.shown.given es) ≡ with_own text e (open_line text front) =
-        ap (λ (n : ℕ). open_line text (take n es)) read.count ∙ ap (open_line text) read.grown ∙ line_on text front e
-        ∙ ap (λ (b : Bool). if b then [] else with_own text e (open_line text front)) ended
+    let line : front_line text (take new.shown.given es) ≡ with_own text e (front_line text front) =
+        ap (λ (n : ℕ). front_line text (take n es)) read.count ∙ ap (front_line text) read.grown ∙ line_on text front e
+        ∙ ap (λ (b : Bool). if b then [] else with_own text e (front_line text front)) ended
     in
-    subst (λ (l : List Token). KeepsLine l h) (sym line) (keeps text e (open_line text front) g h keep (gains.line before.1))
+    subst (λ (l : List Token). KeepsLine l h) (sym line) (keeps text e (front_line text front) g h keep (gains.line before.1))
 
 pub same_lines : (p : Parts) (old new : Listed) (e : Entry) (g : LineGather) → StandsAt p old g → Read p old new e → ended_by e g.pass.begun ≡ false →
     lines_within (in_characters p) new.shown.given ≡ lines_within (in_characters p) old.shown.given
@@ -242,13 +242,13 @@ stands_beside kinds.Number is = absurd (cc)
 stands_beside kinds.String is = absurd (cc)
 stands_beside kinds.Op is = absurd (cc)
 
-first_starts : (l : List Token) (p : Place) → 0 < length l → ((q : Place) → start_of l ≡ Some q → p ≡ q) → start_of l ≡ Some p
+first_starts : (l : List Token) (p : Place) → 0 < length l → ((q : Place) → first_start l ≡ Some q → p ≡ q) → first_start l ≡ Some p
 first_starts [] p some start = absurd (omega (arith, some))
 first_starts (t ∷ l) p some start = ap Some (sym (start t.start refl))
 
 pub line_read : (p : Parts) (first old new : Listed) (e : Entry) (g h : LineGather) → StandsAt p old g → Read p old new e → new.shown.given ≤ most_entries →
-    Gathers (chars p.text) e g h → ended_by e g.pass.begun ≡ true → kept_refusal h.pass ≡ None →
-    KeepsLine (open_line (chars p.text) (take old.shown.given (entries_of (listing (in_characters p))))) g →
+    Takes (chars p.text) e g h → ended_by e g.pass.begun ≡ true → kept_refusal h.pass ≡ None →
+    KeepsLine (front_line (chars p.text) (take old.shown.given (entries_of (listing (in_characters p))))) g →
     lines_within (in_characters p) old.shown.given ≡ lines_within (in_characters p) first.shown.given →
     ReadsLine p first new h
 line_read p first old new e g h had read few gains ends none keep same =
@@ -257,7 +257,7 @@ line_read p first old new e g h had read few gains ends none keep same =
     let es = entries_of (listing s) in
     let k = old.shown.given in
     let front = take k es in
-    let line = open_line text front in
+    let line = front_line text front in
     let ended : ended_by e (is_open (behind [] front)) ≡ true = ap (ended_by e) (sym had.counts.pass.begun) ∙ ends in
     let parts = and_parts (ends_open_line e.kind) g.pass.begun ends in
     let before = none_before p old e g h had gains none in
@@ -272,7 +272,7 @@ line_read p first old new e g h had read few gains ends none keep same =
           record {
             at = stands_on p old new e g h had read few gains;
             closed =
-                ap (λ (n : ℕ). open_line text (take n es)) read.count ∙ ap (open_line text) read.grown ∙ line_on text front e
+                ap (λ (n : ℕ). front_line text (take n es)) read.count ∙ ap (front_line text) read.grown ∙ line_on text front e
                 ∙ ap (λ (b : Bool). if b then [] else with_own text e line) ended;
           };
       given = size ∙ ap (λ (ls : List Line). length ls + 1) same;

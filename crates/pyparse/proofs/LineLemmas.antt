@@ -9,7 +9,7 @@ use Rattle.pytoken.specs.Tokens.{Token, Line, text_of, token_of, supplied, is_op
 use Rattle.pytoken.proofs.Callers.OnePass.{tokens_on}
 use Rattle.pyparse.specs.Inner.Passing.{counted, still_open}
 use Rattle.pyparse.proofs.PassLemmas.{count_on}
-use Rattle.pyparse.specs.Inner.LineGathering.{stands_in_line, ended_by, is_indent, is_dedent, line_behind, tokens_of, open_line, lines_of}
+use Rattle.pyparse.specs.Inner.LineGathering.{stands_in_line, ended_by, is_indent, is_dedent, line_behind, front_tokens, front_line, front_lines}
 
 -- the tokens of the entries of a front, and those of what stands behind it
 pub tokens_past : (text : List ℕ) (before es more : List Entry)
@@ -136,22 +136,22 @@ behind_past before [] more = refl
 behind_past before (t ∷ ts) more = behind_past (t ∷ before) ts more
 
 pub line_on : (text : List ℕ) (es : List Entry) (e : Entry)
-    → open_line text (es ++ e ∷ []) ≡ (if ended_by e (is_open (behind [] es)) then [] else with_own text e (open_line text es))
+    → front_line text (es ++ e ∷ []) ≡ (if ended_by e (is_open (behind [] es)) then [] else with_own text e (front_line text es))
 line_on text es e =
     let begun = is_open (behind [] es) in
     ap (line_behind []) (tokens_on text [] es e)
-    ∙ line_past [] (tokens_of text es) (tokens_of_entry text begun e)
-    ∙ line_by text begun e (open_line text es)
+    ∙ line_past [] (front_tokens text es) (tokens_of_entry text begun e)
+    ∙ line_by text begun e (front_line text es)
 
 pub lines_on : (text : List ℕ) (es : List Entry) (e : Entry)
-    → lines_of text (es ++ e ∷ []) ≡ lines_of text es
-      ++ (if ended_by e (is_open (behind [] es)) then record { level = level_behind (behind [] (tokens_of text es)); tokens = open_line text es } ∷ [] else [])
+    → front_lines text (es ++ e ∷ []) ≡ front_lines text es
+      ++ (if ended_by e (is_open (behind [] es)) then record { level = level_behind (behind [] (front_tokens text es)); tokens = front_line text es } ∷ [] else [])
 lines_on text es e =
     let begun = is_open (behind [] es) in
-    let ts = tokens_of text es in
+    let ts = front_tokens text es in
     ap (lines_from [] []) (tokens_on text [] es e)
     ∙ lines_past [] [] ts (tokens_of_entry text begun e)
-    ∙ ap (λ (ls : List Line). lines_of text es ++ ls) (lines_by text begun e (behind [] ts) (open_line text es))
+    ∙ ap (λ (ls : List Line). front_lines text es ++ ls) (lines_by text begun e (behind [] ts) (front_line text es))
 
 -- so many tokens of a type
 abbrev pub tally : (Kind → Bool) → List Token → ℕ
@@ -190,10 +190,10 @@ tally_by p newline encoding comment nl text begun e before = by begun e.kind ref
 
 pub tally_past : (p : Kind → Bool) → p kinds.Newline ≡ false → p kinds.Encoding ≡ false → p kinds.Comment ≡ false → p kinds.Nl ≡ false
     → (text : List ℕ) (es : List Entry) (e : Entry)
-    → tally p (behind [] (tokens_of text (es ++ e ∷ []))) ≡ counted (tally p (behind [] (tokens_of text es))) (p e.kind)
+    → tally p (behind [] (front_tokens text (es ++ e ∷ []))) ≡ counted (tally p (behind [] (front_tokens text es))) (p e.kind)
 tally_past p newline encoding comment nl text es e =
     let begun = is_open (behind [] es) in
-    let ts = tokens_of text es in
+    let ts = front_tokens text es in
     ap (λ (ts : List Token). tally p (behind [] ts)) (tokens_on text [] es e)
     ∙ ap (tally p) (behind_past [] ts (tokens_of_entry text begun e))
     ∙ tally_by p newline encoding comment nl text begun e (behind [] ts)

@@ -12,30 +12,30 @@ use Rattle.pyparse.specs.declared.faults.ParseFault.{ParseFault}
 abbrev pub lines_within : Source → ℕ → List Line
 lines_within s n = lines_from [] [] (tokens_from s.text [] (take n (entries_of (listing s))))
 
--- A source in hand; how many of its lines are behind the reader; the line that is held; and what each later call answers, once that
--- is known.
+-- A source in hand; how many of its lines were given, which behind a fault says nothing; of the line that is held its level, its start and its
+-- terminals; and what each later call answers, once that is known.
 pub record LineReading : Type 0 where
   pub source : Parts
   pub given : ℕ
   pub level : ℕ
   pub start : Place
   pub terminals : List Terminal
-  pub last : Option (Result Bool ParseFault)
+  pub outcome : Option (Result Bool ParseFault)
 
--- where some tokens start
-abbrev pub start_of : List Token → Option Place
-start_of [] = None
-start_of (t ∷ ts) = Some t.start
+-- where the first of some tokens starts
+abbrev pub first_start : List Token → Option Place
+first_start [] = None
+first_start (t ∷ ts) = Some t.start
 
--- what the grammar reads of a token
-abbrev pub terminal_at : Token → Terminal
-terminal_at t = terminal_of t.kind t.text
+-- what a token is to the grammar
+abbrev pub token_terminal : Token → Terminal
+token_terminal t = terminal_of t.kind t.text
 
 -- the line that is held is this one, which has a token
 pub record Holds (l : Line) (r : LineReading) : Type 0 where
   pub level : r.level ≡ l.level
-  pub terminals : r.terminals ≡ map terminal_at l.tokens
-  pub start : start_of l.tokens ≡ Some r.start
+  pub terminals : r.terminals ≡ map token_terminal l.tokens
+  pub start : first_start l.tokens ≡ Some r.start
 
 -- the line of this number is held, the first of the source being 0
 pub record HoldsLine (s : Source) (k : ℕ) (r : LineReading) : Type 0 where
@@ -44,11 +44,11 @@ pub record HoldsLine (s : Source) (k : ℕ) (r : LineReading) : Type 0 where
   pub holds : Holds line r
 
 -- a reader before the first line of a source, which holds none
-abbrev pub begun : Parts → LineReading
-begun p = record { source = p; given = 0; level = 0; start = record { row = 1; column = 0 }; terminals = []; last = None }
+abbrev pub before_first : Parts → LineReading
+before_first p = record { source = p; given = 0; level = 0; start = record { row = 1; column = 0 }; terminals = []; outcome = None }
 
--- what each call answers behind this answer, where that is known
-abbrev pub last_of : Result Bool ParseFault → Option (Result Bool ParseFault)
-last_of (Ok true) = None
-last_of (Ok false) = Some (Ok false)
-last_of (Err fault) = Some (Err fault)
+-- what each call answers behind this answer: the same again, but for a line
+abbrev pub outcome_of : Result Bool ParseFault → Option (Result Bool ParseFault)
+outcome_of (Ok true) = None
+outcome_of (Ok false) = Some (Ok false)
+outcome_of (Err fault) = Some (Err fault)

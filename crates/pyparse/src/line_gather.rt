@@ -8,7 +8,7 @@ ghost use Rattle.pytoken.specs.Refusals.{entry_refusal};
 ghost use Rattle.pyvalue.specs.Terminals.{terminal};
 ghost use Rattle.pyparse.specs.Inner.Passing.{counted, kept_refusal, Passed};
 ghost use Rattle.pyparse.specs.Inner.LineGathering.{
-    stands_in_line, ends_open_line, is_indent, is_dedent, own_terminals, start_before, ended_by, Adds, Gathers,
+    stands_in_line, ends_open_line, is_indent, is_dedent, own_terminals, start_before, ended_by, Adds, Takes,
 };
 
 use crate::gather::text_of;
@@ -145,7 +145,7 @@ impl<'a> LineGather<'a> {
         requires indents { self.old.indents < 2 ^ 63 }
         requires dedents { self.old.dedents < 2 ^ 63 }
         ensures ends { IfOk result (λ ends. ends ≡ ended_by entry.now self.old.pass.begun) }
-        ensures gathers { OnOk result (Gathers (chars source.now.text) entry.now self.old self.new) }
+        ensures gathers { OnOk result (Takes (chars source.now.text) entry.now self.old self.new) }
     {
         let ends = ends_open_line(entry.kind) && self.pass.has_begun();
         let faulty = self.push(alloc, source, entry)?;

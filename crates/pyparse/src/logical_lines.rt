@@ -11,8 +11,8 @@ ghost use Rattle.pytoken.specs.Laws.{AreLawful, TokensAreSound};
 ghost use Rattle.pyparse.specs.declared.faults.ParseFault.{ParseFault};
 ghost use Rattle.pyparse.specs.Answers.{Tells};
 ghost use Rattle.pyparse.specs.Inner.Passing.{kept_refusal};
-ghost use Rattle.pyparse.specs.LineReadings.{lines_within, begun, last_of, HoldsLine};
-ghost use Rattle.pyparse.specs.Inner.LineGathering.{StandsBetween, ReadsLine};
+ghost use Rattle.pyparse.specs.LineReadings.{before_first, outcome_of, HoldsLine};
+ghost use Rattle.pyparse.specs.Inner.LineGathering.{lines_given, StandsBetween, ReadsLine};
 
 use crate::faults::ParseFault;
 use crate::line_gather::LineGather;
@@ -43,8 +43,8 @@ fn read_line<'a>(
 ) -> Result<bool, ParseFault>
     requires { StandsBetween source.now lister.old gather.old }
     ensures line { IfOk result (λ more. more ≡ true → ReadsLine source.now lister.old lister.new gather.new) }
-    ensures same { IfOk result (λ more. more ≡ false → length (lines_within (in_characters source.now) lister.new.shown.given) ≡ length (lines_within (in_characters source.now) lister.old.shown.given)) }
-    ensures all { IfOk result (λ more. more ≡ false → length (lines_within (in_characters source.now) lister.new.shown.given) ≡ length (lines (in_characters source.now))) }
+    ensures same { IfOk result (λ more. more ≡ false → lines_given source.now lister.new ≡ lines_given source.now lister.old) }
+    ensures all { IfOk result (λ more. more ≡ false → lines_given source.now lister.new ≡ length (lines (in_characters source.now))) }
     ensures sound { IfOk result (λ more. more ≡ false → refusal (in_characters source.now) ≡ None) }
     ensures refused { IfErr result (Tells (refusal (in_characters source.now))) }
 {
@@ -74,7 +74,7 @@ pub struct LogicalLines<'a> {
     lister: Lister<'a>,
     gather: LineGather<'a>,
     /// What each later call of `next` answers, once that is known.
-    last: Option<Result<bool, ParseFault>>,
+    outcome: Option<Result<bool, ParseFault>>,
 }
 
 impl<'a> Model for LogicalLines<'a> {
@@ -92,7 +92,7 @@ impl<'a> Model for LogicalLines<'a> {
 impl<'a> LogicalLines<'a> {
     /// Begins before the first line of a source; none is held.
     pub fn new(alloc: Global, source: &'a Source) -> Result<LogicalLines<'a>, AllocError>
-        ensures begun { IfOk result (λ made. made ≡ begun source.now) }
+        ensures begun { IfOk result (λ made. made ≡ before_first source.now) }
         ensures lawful { AreLawful }
         ensures typed { TokensAreSound (in_characters source.now) }
     {
@@ -101,7 +101,7 @@ impl<'a> LogicalLines<'a> {
             source,
             lister: Lister::new(alloc, source),
             gather: LineGather::new(alloc, source)?,
-            last: None,
+            outcome: None,
         })
     }
 
@@ -144,15 +144,15 @@ impl<'a> LogicalLines<'a> {
         ensures all { IfOk result (λ more. more ≡ false → self.old.given ≡ length (lines (in_characters self.old.source))) }
         ensures sound { IfOk result (λ more. more ≡ false → refusal (in_characters self.old.source) ≡ None) }
         ensures refused { IfErr result (Tells (refusal (in_characters self.old.source))) }
-        ensures last { self.new.last ≡ last_of result }
-        ensures again { (answer : Result Bool ParseFault) → self.old.last ≡ Some answer → (result ≡ answer) × (self.new ≡ self.old) }
+        ensures outcome { self.new.outcome ≡ outcome_of result }
+        ensures again { (answer : Result Bool ParseFault) → self.old.outcome ≡ Some answer → (result ≡ answer) × (self.new ≡ self.old) }
     {
-        if let Some(last) = self.last {
-            return last;
+        if let Some(outcome) = self.outcome {
+            return outcome;
         }
         let answer = read_line(self.alloc, self.source, &mut self.lister, &mut self.gather);
         if !matches!(answer, Ok(true)) {
-            self.last = Some(answer);
+            self.outcome = Some(answer);
         }
         answer
     }

@@ -18,7 +18,7 @@ use Rattle.pytoken.specs.Refusals.{entry_refusal}
 use Rattle.pyvalue.specs.Terminals.{terminal}
 use Rattle.pyvalue.specs.declared.terminals.Terminal.{Terminal}
 use Rattle.pyparse.specs.declared.line_gather.LineGather.{LineGather}
-use Rattle.pyparse.specs.LineReadings.{start_of, terminal_at, lines_within}
+use Rattle.pyparse.specs.LineReadings.{first_start, token_terminal, lines_within}
 use Rattle.pyparse.specs.Inner.Passing.{counted, Gains, Passed}
 
 -- a token of this type stands in a line
@@ -54,7 +54,7 @@ pub record Adds (text : List ℕ) (e : Entry) (old new : LineGather) : Type 0 wh
   pub start : new.start ≡ (if stands_in_line e.kind then start_before old.terminals.items old.start e.start else old.start)
 
 -- what is gathered behind one entry more
-pub record Gathers (text : List ℕ) (e : Entry) (old new : LineGather) : Type 0 where
+pub record Takes (text : List ℕ) (e : Entry) (old new : LineGather) : Type 0 where
   pub pass : Gains text e (entry_refusal text e) old.pass new.pass
   pub level : new.level ≡ old.indents - old.dedents
   pub indents : new.indents ≡ counted old.indents (is_indent e.kind)
@@ -72,29 +72,29 @@ line_behind line (t ∷ ts) = elim t.kind [
   | _ ↦ line_behind (line ++ t ∷ []) ts
 ]
 
--- the tokens and the lines of some entries
-abbrev pub tokens_of : List ℕ → List Entry → List Token
-tokens_of text es = tokens_from text [] es
+-- of some entries the tokens, the line that is open behind them, and the lines
+abbrev pub front_tokens : List ℕ → List Entry → List Token
+front_tokens text es = tokens_from text [] es
 
-abbrev pub open_line : List ℕ → List Entry → List Token
-open_line text es = line_behind [] (tokens_of text es)
+abbrev pub front_line : List ℕ → List Entry → List Token
+front_line text es = line_behind [] (front_tokens text es)
 
-abbrev pub lines_of : List ℕ → List Entry → List Line
-lines_of text es = lines_from [] [] (tokens_of text es)
+abbrev pub front_lines : List ℕ → List Entry → List Line
+front_lines text es = lines_from [] [] (front_tokens text es)
 
--- what the entries say of faults and of levels, and that a line with tokens has one
+-- what is kept of faults and of levels is what the entries say, and where a line is open it has a token
 pub record Counts (text : List ℕ) (es : List Entry) (g : LineGather) : Type 0 where
   pub pass : Passed text es g.pass
-  pub indents : g.indents ≡ count_by (λ t. is_indent t.kind) (behind [] (tokens_from text [] es))
-  pub dedents : g.dedents ≡ count_by (λ t. is_dedent t.kind) (behind [] (tokens_from text [] es))
+  pub indents : g.indents ≡ count_by (λ t. is_indent t.kind) (behind [] (front_tokens text es))
+  pub dedents : g.dedents ≡ count_by (λ t. is_dedent t.kind) (behind [] (front_tokens text es))
   pub few_indents : g.indents ≤ length es
   pub few_dedents : g.dedents ≤ length es
-  pub some : g.pass.begun ≡ true → 0 < length (open_line text es)
+  pub some : g.pass.begun ≡ true → 0 < length (front_line text es)
 
 -- what is kept of the line that is open
 pub record KeepsLine (line : List Token) (g : LineGather) : Type 0 where
-  pub terminals : map terminal g.terminals.items ≡ map terminal_at line
-  pub start : (p : Place) → start_of line ≡ Some p → g.start ≡ p
+  pub terminals : map terminal g.terminals.items ≡ map token_terminal line
+  pub start : (p : Place) → first_start line ≡ Some p → g.start ≡ p
 
 -- a lister and what is gathered stand behind the same entries of a source
 pub record StandsAt (p : Parts) (l : Listed) (g : LineGather) : Type 0 where
@@ -108,14 +108,18 @@ pub record StandsAt (p : Parts) (l : Listed) (g : LineGather) : Type 0 where
 -- and no line is open there that has a token
 pub record StandsBetween (p : Parts) (l : Listed) (g : LineGather) : Type 0 where
   pub at : StandsAt p l g
-  pub closed : open_line (chars p.text) (take l.shown.given (entries_of (listing (in_characters p)))) ≡ []
+  pub closed : front_line (chars p.text) (take l.shown.given (entries_of (listing (in_characters p)))) ≡ []
+
+-- how many lines of a source are behind a lister
+abbrev pub lines_given : Parts → Listed → ℕ
+lines_given p l = length (lines_within (in_characters p) l.shown.given)
 
 -- the next line was read: what is kept of it, and where the reader stands then
 pub record ReadsLine (p : Parts) (old new : Listed) (g : LineGather) : Type 0 where
   pub between : StandsBetween p new g
-  pub given : length (lines_within (in_characters p) new.shown.given) ≡ length (lines_within (in_characters p) old.shown.given) + 1
+  pub given : lines_given p new ≡ lines_given p old + 1
   pub line : Line
-  pub stands : slice_get (lines (in_characters p)) (length (lines_within (in_characters p) old.shown.given)) ≡ Some line
+  pub stands : slice_get (lines (in_characters p)) (lines_given p old) ≡ Some line
   pub level : g.level ≡ line.level
-  pub terminals : map terminal g.terminals.items ≡ map terminal_at line.tokens
-  pub start : start_of line.tokens ≡ Some g.start
+  pub terminals : map terminal g.terminals.items ≡ map token_terminal line.tokens
+  pub start : first_start line.tokens ≡ Some g.start

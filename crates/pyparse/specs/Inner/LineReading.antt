@@ -8,17 +8,17 @@ use Rattle.pyparse.specs.declared.faults.ParseFault.{ParseFault}
 use Rattle.pyparse.specs.declared.logical_lines.LogicalLines.TheInside.{Inside}
 use Rattle.pyparse.specs.Answers.{Tells}
 use Rattle.pyparse.specs.LineReadings.{LineReading, lines_within}
-use Rattle.pyparse.specs.Inner.LineGathering.{StandsBetween}
+use Rattle.pyparse.specs.Inner.LineGathering.{StandsBetween, lines_given}
 
 -- what a reader shows
 abbrev pub reading : Inside → LineReading
 reading l = record {
   source = l.source.now;
-  given = length (lines_within (in_characters l.source.now) l.lister.shown.given);
+  given = lines_given l.source.now l.lister;
   level = l.gather.level;
   start = l.gather.start;
   terminals = map terminal l.gather.terminals.items;
-  last = l.last;
+  outcome = l.outcome;
 }
 
 -- what is answered where no line comes, behind so many
@@ -28,6 +28,6 @@ Ends s k (Err fault) = Tells (refusal s) fault
 
 -- it stands between two lines until it has told the end or a fault
 pub record IsReading (l : Inside) : Type 0 where
-  pub between : l.last ≡ None → StandsBetween l.source.now l.lister l.gather
-  pub ended : (answer : Result Bool ParseFault) → l.last ≡ Some answer
-      → Ends (in_characters l.source.now) (length (lines_within (in_characters l.source.now) l.lister.shown.given)) answer
+  pub between : l.outcome ≡ None → StandsBetween l.source.now l.lister l.gather
+  pub ended : (answer : Result Bool ParseFault) → l.outcome ≡ Some answer
+      → Ends (in_characters l.source.now) (lines_given l.source.now l.lister) answer

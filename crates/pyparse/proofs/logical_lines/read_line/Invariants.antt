@@ -4,14 +4,14 @@ use Rattle.pylex.specs.Listing.{in_characters, listing}
 use Rattle.pylex.specs.Steps.{entries_of}
 use Rattle.pyparse.specs.LineReadings.{lines_within}
 use Rattle.pyparse.specs.Inner.Passing.{kept_refusal}
-use Rattle.pyparse.specs.Inner.LineGathering.{StandsAt, KeepsLine, open_line}
+use Rattle.pyparse.specs.Inner.LineGathering.{StandsAt, KeepsLine, front_line}
 use Rattle.pyparse.proofs.logical_lines.read_line.Given as goal
 
 abbrev pub invariant-loop-entry : goal.invariant-loop-entry
 invariant-loop-entry l = record {
   at : StandsAt l.source l.lister l.gather;
   keeps : kept_refusal l.gather.pass ≡ None
-      → KeepsLine (open_line (chars l.source.text) (take l.lister.shown.given (entries_of (listing (in_characters l.source))))) l.gather;
+      → KeepsLine (front_line (chars l.source.text) (take l.lister.shown.given (entries_of (listing (in_characters l.source))))) l.gather;
   same : kept_refusal l.gather.pass ≡ None
       → lines_within (in_characters l.source) l.lister.shown.given ≡ lines_within (in_characters l.source) l.fn.lister.shown.given;
 }

@@ -5,7 +5,7 @@ use Rattle.pytoken.specs.Tokens.{lines}
 use Rattle.pytoken.specs.Refusals.{refusal}
 use Rattle.pyparse.specs.declared.faults.ParseFault.{ParseFault}
 use Rattle.pyparse.specs.Answers.{Tells}
-use Rattle.pyparse.specs.LineReadings.{LineReading, last_of, HoldsLine}
+use Rattle.pyparse.specs.LineReadings.{LineReading, outcome_of, HoldsLine}
 use Rattle.pyparse.specs.Inner.LineReading.{Ends}
 use Rattle.pyparse.proofs.logical_lines.LogicalLines.next.Goals as goal
 
@@ -29,30 +29,30 @@ told : (s : Source) (k : ℕ) (answer : Result Bool ParseFault) → Ends s k ans
 told s k (Ok more) ends = tt
 told s k (Err fault) ends = ends
 
-stays : (s : Source) (k : ℕ) (answer : Result Bool ParseFault) → Ends s k answer → Some answer ≡ last_of answer
+stays : (s : Source) (k : ℕ) (answer : Result Bool ParseFault) → Ends s k answer → Some answer ≡ outcome_of answer
 stays s k (Ok more) ends = rw ends.0 refl
 stays s k (Err fault) ends = refl
 
-ended : (c : goal.In-Some) → Ends (in_characters c.args.self.now.source) c.args.self.now.given c.in-Some.last
+ended : (c : goal.In-Some) → Ends (in_characters c.args.self.now.source) c.args.self.now.given c.in-Some.outcome
 ended c =
-    subst (λ (r : LineReading). Ends (in_characters r.source) r.given c.in-Some.last) c.self.view_is (c.self.invariant.ended c.in-Some.last c.in-Some.is)
+    subst (λ (r : LineReading). Ends (in_characters r.source) r.given c.in-Some.outcome) c.self.view_is (c.self.invariant.ended c.in-Some.outcome c.in-Some.is)
 
 pub returns-in-Some-clause-line : goal.returns-in-Some-clause-line
-returns-in-Some-clause-line c = no_line (in_characters c.args.self.now.source) c.args.self.now c.args.self.now.given c.in-Some.last (ended c)
+returns-in-Some-clause-line c = no_line (in_characters c.args.self.now.source) c.args.self.now c.args.self.now.given c.in-Some.outcome (ended c)
 
 pub returns-in-Some-clause-given : goal.returns-in-Some-clause-given
-returns-in-Some-clause-given c = none_given (in_characters c.args.self.now.source) c.args.self.now.given c.in-Some.last (ended c)
+returns-in-Some-clause-given c = none_given (in_characters c.args.self.now.source) c.args.self.now.given c.in-Some.outcome (ended c)
 
 pub returns-in-Some-clause-all : goal.returns-in-Some-clause-all
-returns-in-Some-clause-all c = all_given (in_characters c.args.self.now.source) c.args.self.now.given c.in-Some.last (ended c)
+returns-in-Some-clause-all c = all_given (in_characters c.args.self.now.source) c.args.self.now.given c.in-Some.outcome (ended c)
 
 pub returns-in-Some-clause-sound : goal.returns-in-Some-clause-sound
-returns-in-Some-clause-sound c = not_refused (in_characters c.args.self.now.source) c.args.self.now.given c.in-Some.last (ended c)
+returns-in-Some-clause-sound c = not_refused (in_characters c.args.self.now.source) c.args.self.now.given c.in-Some.outcome (ended c)
 
 pub returns-in-Some-clause-refused : goal.returns-in-Some-clause-refused
-returns-in-Some-clause-refused c = told (in_characters c.args.self.now.source) c.args.self.now.given c.in-Some.last (ended c)
+returns-in-Some-clause-refused c = told (in_characters c.args.self.now.source) c.args.self.now.given c.in-Some.outcome (ended c)
 
-pub returns-in-Some-clause-last : goal.returns-in-Some-clause-last
-returns-in-Some-clause-last c =
-    sym (ap (λ (r : LineReading). r.last) c.self.view_is) ∙ c.in-Some.is
-    ∙ stays (in_characters c.args.self.now.source) c.args.self.now.given c.in-Some.last (ended c)
+pub returns-in-Some-clause-outcome : goal.returns-in-Some-clause-outcome
+returns-in-Some-clause-outcome c =
+    sym (ap (λ (r : LineReading). r.outcome) c.self.view_is) ∙ c.in-Some.is
+    ∙ stays (in_characters c.args.self.now.source) c.args.self.now.given c.in-Some.outcome (ended c)
