@@ -54,9 +54,9 @@ counts text es e old new had gains =
       few_dedents = omega (arith, size, gains.dedents, dedents);
       some =
           λ now.
-            subst (λ (l : List Token). 0 < length l) (sym (line_on text es e))
-            (some_by text e begun (front_line text es) (λ b. had.some (had.pass.begun ∙ b))
-            (ap (still_open e.kind) (sym had.pass.begun) ∙ sym gains.pass.begun ∙ now));
+          subst (λ (l : List Token). 0 < length l) (sym (line_on text es e))
+          (some_by text e begun (front_line text es) (λ b. had.some (had.pass.begun ∙ b))
+          (ap (still_open e.kind) (sym had.pass.begun) ∙ sym gains.pass.begun ∙ now));
     }
 
 -- what is kept of the line, with one entry more that doesn't end it
@@ -70,27 +70,28 @@ keeps text e line old new had adds = by (stands_in_line e.kind) refl
     starts [] (t ∷ l) same p was q is = absurd (cc)
     starts (x ∷ ts) [] same p was q is = absurd (cc)
     starts (x ∷ ts) (t ∷ l) same p was q is = was q is
+
     by : (b : Bool) → stands_in_line e.kind ≡ b → KeepsLine (with_own text e line) new
     by true is =
         let own : own_terminals text e ≡ token_terminal (token_of text e) ∷ [] = rw is refl in
         let start : new.start ≡ start_before old.terminals.items old.start e.start = rw is at adds.start in
         let all : KeepsLine (line ++ token_of text e ∷ []) new =
-            record {
-              terminals =
-                  adds.terminals
-                  ∙ ap₂ (λ (a b : List Terminals.Terminal). a ++ b) had.terminals own
-                  ∙ sym (map-append token_terminal line (token_of text e ∷ []));
-              start = λ p at. start ∙ starts old.terminals.items line had.terminals old.start had.start p at;
-            } in
+        record {
+          terminals =
+              adds.terminals
+              ∙ ap₂ (λ (a b : List Terminals.Terminal). a ++ b) had.terminals own
+              ∙ sym (map-append token_terminal line (token_of text e ∷ []));
+          start = λ p at. start ∙ starts old.terminals.items line had.terminals old.start had.start p at;
+        } in
         rw is all
     by false is =
         let own : own_terminals text e ≡ [] = rw is refl in
         let start : new.start ≡ old.start = rw is at adds.start in
         let all : KeepsLine line new =
-            record {
-              terminals = adds.terminals ∙ ap₂ (λ (a b : List Terminals.Terminal). a ++ b) had.terminals own ∙ append-nil (map token_terminal line);
-              start = λ p at. start ∙ had.start p at;
-            } in
+        record {
+          terminals = adds.terminals ∙ ap₂ (λ (a b : List Terminals.Terminal). a ++ b) had.terminals own ∙ append-nil (map token_terminal line);
+          start = λ p at. start ∙ had.start p at;
+        } in
         rw is all
 
 -- the line that ends by an entry
@@ -120,10 +121,10 @@ line_stands s k l next =
     let ts = front_tokens s.text front in
     let more = tokens_from s.text (behind [] front) rest in
     let whole =
-        ap (λ (es : List Entry). lines_from [] [] (tokens_from s.text [] es)) (sym (take-append-drop (k + 1) es))
-        ∙ ap (lines_from [] []) (tokens_past s.text [] front rest)
-        ∙ lines_past [] [] ts more
-        ∙ ap (λ (ls : List Line). ls ++ lines_from (behind [] ts) (line_behind [] ts) more) next
+    ap (λ (es : List Entry). lines_from [] [] (tokens_from s.text [] es)) (sym (take-append-drop (k + 1) es))
+    ∙ ap (lines_from [] []) (tokens_past s.text [] front rest)
+    ∙ lines_past [] [] ts more
+    ∙ ap (λ (ls : List Line). ls ++ lines_from (behind [] ts) (line_behind [] ts) more) next
     in
     ap (λ (ls : List Line). slice_get ls (length (lines_within s k))) whole
     ∙ get_at (lines_within s k) (lines_from (behind [] ts) (line_behind [] ts) more) l
@@ -213,8 +214,8 @@ same_line p old new e g h had read gains goes none keep =
     let before = none_before p old e g h had gains none in
     let ended : ended_by e (is_open (behind [] front)) ≡ false = ap (ended_by e) (sym had.counts.pass.begun) ∙ goes in
     let line : front_line text (take new.shown.given es) ≡ with_own text e (front_line text front) =
-        ap (λ (n : ℕ). front_line text (take n es)) read.count ∙ ap (front_line text) read.grown ∙ line_on text front e
-        ∙ ap (λ (b : Bool). if b then [] else with_own text e (front_line text front)) ended
+    ap (λ (n : ℕ). front_line text (take n es)) read.count ∙ ap (front_line text) read.grown ∙ line_on text front e
+    ∙ ap (λ (b : Bool). if b then [] else with_own text e (front_line text front)) ended
     in
     subst (λ (l : List Token). KeepsLine l h) (sym line) (keeps text e (front_line text front) g h keep (gains.line before.1))
 
@@ -265,7 +266,7 @@ line_read p first old new e g h had read few gains ends none keep same =
     let kept = subst (λ (l : List Token). KeepsLine l h) beside (keeps text e line g h keep (gains.line before.1)) in
     let more = lines_more s k e true ended read.grown in
     let size : length (lines_within s new.shown.given) ≡ length (lines_within s k) + 1 =
-        ap (λ (n : ℕ). length (lines_within s n)) read.count ∙ ap length more ∙ length-append (lines_within s k) (line_at text front ∷ [])
+    ap (λ (n : ℕ). length (lines_within s n)) read.count ∙ ap length more ∙ length-append (lines_within s k) (line_at text front ∷ [])
     in
     record {
       between =

@@ -145,7 +145,7 @@ line_on text es e =
 
 pub lines_on : (text : List ℕ) (es : List Entry) (e : Entry)
     → front_lines text (es ++ e ∷ []) ≡ front_lines text es
-      ++ (if ended_by e (is_open (behind [] es)) then record { level = level_behind (behind [] (front_tokens text es)); tokens = front_line text es } ∷ [] else [])
+    ++ (if ended_by e (is_open (behind [] es)) then record { level = level_behind (behind [] (front_tokens text es)); tokens = front_line text es } ∷ [] else [])
 lines_on text es e =
     let begun = is_open (behind [] es) in
     let ts = front_tokens text es in
@@ -165,13 +165,17 @@ tally_by p newline encoding comment nl text begun e before = by begun e.kind ref
   where
     none : (k : Kind) → p k ≡ false → tally p before ≡ counted (tally p before) (p k)
     none k is = sym (ap (counted (tally p before)) is)
+
     one : (ts : List Token) (t : Token) → tally p (t ∷ ts) ≡ counted (tally p ts) (p t.kind)
     one ts t = sym (count_on (λ (t : Token). p t.kind) ts t)
+
     own : (ts : List Token) (k : Kind) → tally p (record { kind = k; start = e.start; text = text_of text e } ∷ ts) ≡ counted (tally p ts) (p k)
     own ts k = one ts (record { kind = k; start = e.start; text = text_of text e })
+
     behind_newline : (k : Kind) → tally p (record { kind = k; start = e.start; text = text_of text e } ∷ supplied text ∷ before) ≡ counted (tally p before) (p k)
     behind_newline k =
         own (supplied text ∷ before) k ∙ ap (λ (n : ℕ). counted n (p k)) (one before (supplied text) ∙ ap (counted (tally p before)) newline)
+
     by : (b : Bool) (k : Kind) → e.kind ≡ k → tally p (behind before (tokens_of_entry text b e)) ≡ counted (tally p before) (p e.kind)
     by true kinds.Newline is = rw is (own before kinds.Newline)
     by false kinds.Newline is = rw is (none kinds.Newline newline)

@@ -8,7 +8,15 @@ ghost use Rattle.pytoken.specs.Refusals.{entry_refusal};
 ghost use Rattle.pyvalue.specs.Terminals.{terminal};
 ghost use Rattle.pyparse.specs.Inner.Passing.{counted, kept_refusal, Passed};
 ghost use Rattle.pyparse.specs.Inner.LineGathering.{
-    stands_in_line, ends_open_line, is_indent, is_dedent, own_terminals, start_before, ended_by, Adds, Takes,
+  stands_in_line,
+  ends_open_line,
+  is_indent,
+  is_dedent,
+  own_terminals,
+  start_before,
+  ended_by,
+  Adds,
+  Takes,
 };
 
 use crate::gather::text_of;
