@@ -92,7 +92,7 @@ impl<'a> Model for LogicalLines<'a> {
 impl<'a> LogicalLines<'a> {
     /// Begins before the first line of a source; none is held.
     pub fn new(alloc: Global, source: &'a Source) -> Result<LogicalLines<'a>, AllocError>
-        ensures begun { IfOk result (λ made. made ≡ before_first source.now) }
+        ensures before { IfOk result (λ made. made ≡ before_first source.now) }
         ensures lawful { AreLawful }
         ensures typed { TokensAreSound (in_characters source.now) }
     {

@@ -7,7 +7,7 @@ use Rattle.pyvalue.specs.Terminals.{terminal}
 use Rattle.pyparse.specs.declared.faults.ParseFault.{ParseFault}
 use Rattle.pyparse.specs.declared.logical_lines.LogicalLines.TheInside.{Inside}
 use Rattle.pyparse.specs.Answers.{Tells}
-use Rattle.pyparse.specs.LineReadings.{LineReading, lines_within}
+use Rattle.pyparse.specs.LineReadings.{LineReading}
 use Rattle.pyparse.specs.Inner.LineGathering.{StandsBetween, lines_given}
 
 -- what a reader shows
