@@ -1,5 +1,5 @@
 -- Carries: read_line. On: the tokens and the logical lines of a front of a listing, with one entry more, and what stands behind it.
-use Rattle.std.proofs.Common.{◌≡◌, ℕ, ◌-◌, ◌<◌, Bool, true, false, List, [], ◌∷◌, ◌++◌, length, refl, sym, ap, ◌∙◌, append_assoc, arith, length-append}
+use Rattle.std.proofs.Common.{◌≡◌, ℕ, ◌<◌, Bool, true, false, List, [], ◌∷◌, ◌++◌, length, refl, sym, ap, ◌∙◌, append_assoc, arith, length-append}
 use Rattle.std.specs.Prelude.{count_by, if◌then◌else◌}
 use Rattle.pylex.specs.declared.kinds.Kind.{Kind}
 use Rattle.pylex.specs.declared.kinds.Kind.TheVariants as kinds
@@ -9,7 +9,7 @@ use Rattle.pytoken.specs.Tokens.{Token, Line, text_of, token_of, supplied, is_op
 use Rattle.pytoken.proofs.Callers.OnePass.{tokens_on}
 use Rattle.pyparse.specs.Inner.Passing.{counted, still_open}
 use Rattle.pyparse.proofs.PassLemmas.{count_on}
-use Rattle.pyparse.specs.Inner.LineGathering.{stands_in_line, ended_by, is_indent, is_dedent, line_behind, front_tokens, front_line, front_lines}
+use Rattle.pyparse.specs.Inner.LineGathering.{stands_in_line, ended_by, line_behind, front_tokens, front_line, front_lines}
 
 -- the tokens of the entries of a front, and those of what stands behind it
 pub tokens_past : (text : List ℕ) (before es more : List Entry)
@@ -219,7 +219,3 @@ some_by text e begun line some opened = by e.kind refl
     by kinds.EndMarker is = let h : false ≡ true = rw is at opened in absurd (cc)
     by kinds.Indent is = let h : false ≡ true = rw is at opened in absurd (cc)
     by kinds.Encoding is = let h : false ≡ true = rw is at opened in absurd (cc)
-
--- the levels that are open behind some tokens
-pub level_is : (ts : List Token) → level_behind ts ≡ tally is_indent ts - tally is_dedent ts
-level_is ts = refl
