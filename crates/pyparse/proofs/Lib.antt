@@ -4,3 +4,5 @@ mod RisingLemmas
 mod IndentLemmas
 mod PassLemmas
 mod GatherLemmas
+mod LineLemmas
+mod LineGatherLemmas

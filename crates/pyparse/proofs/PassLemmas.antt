@@ -14,14 +14,14 @@ use Rattle.pytoken.specs.Indentation.{Margin, margin_at, margins_from, margins}
 use Rattle.pytoken.specs.Inner.Behind.{behind}
 use Rattle.pytoken.specs.Tokens.{is_open}
 use Rattle.pytoken.specs.Refusals.{most_brackets, or_refusal, entry_refusal, first_entry_refusal, first_too_deep, first_mixed, refusal_at, refusal}
-use Rattle.pytoken.proofs.Callers.OnePass.{behind_on, refusal_on, too_deep_on, margins_of_entry, margins_on}
+use Rattle.pytoken.proofs.Callers.OnePass.{behind_on, refusal_on, too_deep_on, mixed_on, margins_of_entry, margins_on}
 use Rattle.pyparse.specs.declared.pass.Pass.{Pass}
 use Rattle.pyparse.specs.Inner.Passing.{still_open, exceeding, counted, given_margins, kept_refusal, Gains, Passed}
 use Rattle.pyparse.specs.Inner.Indenting.{Measures, Measured}
 use Rattle.pyparse.proofs.IndentLemmas.{measures}
 
--- a count of entries with one more
-count_on : (p : Entry → Bool) (es : List Entry) (e : Entry) → counted (count_by p es) (p e) ≡ count_by p (e ∷ es)
+-- a count with one more
+pub count_on : {X : Type 0} (p : X → Bool) (es : List X) (e : X) → counted (count_by p es) (p e) ≡ count_by p (e ∷ es)
 count_on p es e = by (p e) ∙ sym (sum_by-cons (λ x. if p x then 1 else 0) e es)
   where
     by : (b : Bool) → counted (count_by p es) b ≡ (if b then 1 else 0) + count_by p es
@@ -53,6 +53,23 @@ passes text es e old new had gains =
           (measures (margins text es) (margins_of_entry text (behind [] es) e) old.indents new.indents had.indents
           (subst (λ (ms : List Margin). Measures ms old.indents new.indents) (ap₂ (given_margins text e) had.opened had.closed) gains.indents));
     }
+
+-- where no refusal is kept, none was before, and the entry has none
+pub kept_before : (text : List ℕ) (es : List Entry) (e : Entry) (own : Option Refusal) (old new : Pass) → Passed text es old → Gains text e own old new →
+    kept_refusal new ≡ None → (kept_refusal old ≡ None) × (own ≡ None)
+kept_before text es e own old new had gains none =
+    let more = given_margins text e old.opened old.closed in
+    let mixed = (gains.indents (margins text es) had.indents).mixed ∙ mixed_on [] (margins text es) more in
+    let a = parts new.faulty (or_refusal new.deep new.indents.mixed) none in
+    let b = parts new.deep new.indents.mixed a.1 in
+    let faulty = parts old.faulty own (sym gains.faulty ∙ a.0) in
+    let deep = parts old.deep (exceeding e old.opened old.closed) (sym gains.deep ∙ b.0) in
+    let mix = parts (first_mixed [] (margins text es)) (first_mixed (behind [] (margins text es)) more) (sym mixed ∙ b.1) in
+    (rw (faulty.0, deep.0) (had.indents.mixed ∙ mix.0), faulty.1)
+  where
+    parts : (a b : Option Refusal) → or_refusal a b ≡ None → (a ≡ None) × (b ≡ None)
+    parts None b is = (refl, is)
+    parts (Some r) b is = absurd (cc)
 
 -- no more are counted than entries were read
 

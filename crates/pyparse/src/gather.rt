@@ -21,7 +21,7 @@ use std::alloc::{AllocError, Global};
 
 /// What stands between an entry's offsets in a source.
 #[inline(always)]
-fn text_of<'a>(source: &'a Source, entry: &Entry) -> &'a str
+pub(crate) fn text_of<'a>(source: &'a Source, entry: &Entry) -> &'a str
     requires { LiesIn source.now.text entry.now }
     ensures { chars result.now ≡ text_of (chars source.now.text) entry.now }
 {

@@ -3,6 +3,8 @@
 #![tactic(auto)]
 
 #[cfg(test)]
+mod logical_lines;
+#[cfg(test)]
 mod refusals;
 #[cfg(test)]
 mod sources;

@@ -1,0 +1,33 @@
+-- What a reader of lines keeps between its calls.
+use Rattle.std.specs.Prelude.{◌≡◌, ℕ, Bool, false, length, Some, None, Result, Ok, Err, map}
+use Rattle.pylex.specs.Listing.{Source, in_characters}
+use Rattle.pytoken.specs.Tokens.{lines}
+use Rattle.pytoken.specs.Refusals.{refusal}
+use Rattle.pyvalue.specs.Terminals.{terminal}
+use Rattle.pyparse.specs.declared.faults.ParseFault.{ParseFault}
+use Rattle.pyparse.specs.declared.logical_lines.LogicalLines.TheInside.{Inside}
+use Rattle.pyparse.specs.Answers.{Tells}
+use Rattle.pyparse.specs.LineReadings.{LineReading}
+use Rattle.pyparse.specs.Inner.LineGathering.{StandsBetween, lines_given}
+
+-- what a reader shows
+abbrev pub reading : Inside → LineReading
+reading l = record {
+  source = l.source.now;
+  given = lines_given l.source.now l.lister;
+  level = l.gather.level;
+  start = l.gather.start;
+  terminals = map terminal l.gather.terminals.items;
+  outcome = l.outcome;
+}
+
+-- what is answered where no line comes, behind so many
+abbrev pub Ends : Source → ℕ → Result Bool ParseFault → Type 0
+Ends s k (Ok more) = (more ≡ false) × (k ≡ length (lines s)) × (refusal s ≡ None)
+Ends s k (Err fault) = Tells (refusal s) fault
+
+-- it stands between two lines until it has told the end or a fault
+pub record IsReading (l : Inside) : Type 0 where
+  pub between : l.outcome ≡ None → StandsBetween l.source.now l.lister l.gather
+  pub ended : (answer : Result Bool ParseFault) → l.outcome ≡ Some answer
+      → Ends (in_characters l.source.now) (lines_given l.source.now l.lister) answer

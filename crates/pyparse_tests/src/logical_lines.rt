@@ -1,0 +1,215 @@
+//! The logical lines of sources.
+
+use crate::sources::source_of;
+use pylex::{Exact, ListingError, ListingFault};
+use pyparse::{LiteralText, LogicalLines, ParseFault, Terminal};
+use pysource::Place;
+use pytoken::{Keyword, Refusal, TokenError};
+use std::alloc::Global;
+use std::process::Abort;
+use std::test::Fail;
+
+/// The next line is this one: its level, row and column of its start, terminals.
+fn holds(
+    rt: &impl Abort,
+    lines: &mut LogicalLines,
+    text: &str,
+    line: &(usize, (usize, usize), &[Terminal]),
+) {
+    let (level, start, terminals) = line;
+    assert_eq!(rt; lines.next(), Ok(true), "at {text:?}");
+    assert_eq!(rt; lines.level(), *level, "at {text:?}");
+    assert_eq!(rt;
+        (lines.start().row, lines.start().column),
+        *start,
+        "at {text:?}"
+    );
+    assert_eq!(rt; lines.terminals(), *terminals, "at {text:?}");
+}
+
+/// The lines of a source are these, and no more, however often it is asked.
+fn gives(
+    rt: &impl Abort,
+    alloc: Global,
+    text: &str,
+    rows: &[(usize, (usize, usize), &[Terminal])],
+) -> Result<(), Fail> {
+    let source = source_of(alloc, text)?;
+    let mut lines = LogicalLines::new(alloc, &source)?;
+    for row in rows {
+        holds(rt, &mut lines, text, row);
+    }
+    assert_eq!(rt; lines.next(), Ok(false), "at {text:?}");
+    assert_eq!(rt; lines.next(), Ok(false), "at {text:?}");
+    Ok(())
+}
+
+const COLON: Terminal = Terminal::Op(Exact::Colon);
+
+#[test]
+fn no_line(rt: HostRuntime) -> Result<(), Fail> {
+    for text in ["", "\n# c\n  # d\n", "\\\n\n"] {
+        gives(&rt, rt.alloc(), text, &[])?;
+    }
+    Ok(())
+}
+
+#[test]
+fn levels(rt: HostRuntime) -> Result<(), Fail> {
+    gives(
+        &rt,
+        rt.alloc(),
+        "if a:\n  if b:\n    c\n\n  # c\n  d\ne\n",
+        &[
+            (
+                0,
+                (1, 0),
+                &[Terminal::Word(Keyword::If), Terminal::Ident("a"), COLON],
+            ),
+            (
+                1,
+                (2, 2),
+                &[Terminal::Word(Keyword::If), Terminal::Ident("b"), COLON],
+            ),
+            (2, (3, 4), &[Terminal::Ident("c")]),
+            (1, (6, 2), &[Terminal::Ident("d")]),
+            (0, (7, 0), &[Terminal::Ident("e")]),
+        ],
+    )
+}
+
+#[test]
+fn lines_of_several_rows(rt: HostRuntime) -> Result<(), Fail> {
+    gives(
+        &rt,
+        rt.alloc(),
+        "x = [1,\n 2] # c\n\na + \\\n  b'c'\n",
+        &[
+            (
+                0,
+                (1, 0),
+                &[
+                    Terminal::Ident("x"),
+                    Terminal::Op(Exact::Equal),
+                    Terminal::Op(Exact::LSqb),
+                    Terminal::Whole(1),
+                    Terminal::Op(Exact::Comma),
+                    Terminal::Whole(2),
+                    Terminal::Op(Exact::RSqb),
+                ],
+            ),
+            (
+                0,
+                (4, 0),
+                &[
+                    Terminal::Ident("a"),
+                    Terminal::Op(Exact::Plus),
+                    Terminal::Literal(LiteralText::new("b'c'")?),
+                ],
+            ),
+        ],
+    )
+}
+
+#[test]
+fn a_last_line_without_its_end(rt: HostRuntime) -> Result<(), Fail> {
+    gives(
+        &rt,
+        rt.alloc(),
+        "if x:\n  pass",
+        &[
+            (
+                0,
+                (1, 0),
+                &[Terminal::Word(Keyword::If), Terminal::Ident("x"), COLON],
+            ),
+            (1, (2, 2), &[Terminal::Word(Keyword::Pass)]),
+        ],
+    )
+}
+
+/// So many lines are given before the refusal, which is told again.
+fn refuses(
+    rt: &impl Abort,
+    alloc: Global,
+    text: &str,
+    given: usize,
+    refusal: Refusal,
+) -> Result<(), Fail> {
+    let source = source_of(alloc, text)?;
+    let mut lines = LogicalLines::new(alloc, &source)?;
+    for _line in 0..given {
+        assert_eq!(rt; lines.next(), Ok(true), "at {text:?}");
+    }
+    assert_eq!(rt;
+        lines.next(),
+        Err(ParseFault::Refused(refusal)),
+        "at {text:?}"
+    );
+    assert_eq!(rt;
+        lines.next(),
+        Err(ParseFault::Refused(refusal)),
+        "at {text:?}"
+    );
+    Ok(())
+}
+
+#[test]
+fn the_first_reason_behind_lines(rt: HostRuntime) -> Result<(), Fail> {
+    for (text, given, refusal) in [
+        (
+            "x\ny = 1.5\nz\n",
+            1,
+            Refusal::Token(TokenError::Float, Place { row: 2, column: 4 }),
+        ),
+        // The fault of the listing comes before all, though it stands behind them.
+        (
+            "x\ny = 1.5\nz\n)\n",
+            1,
+            Refusal::Listing(ListingFault {
+                code: ListingError::UnmatchedCloser,
+                place: Place { row: 4, column: 0 },
+            }),
+        ),
+        // The line before it ends where the line of mixed tabs and spaces begins.
+        (
+            "if x:\n  y\n\tz\n",
+            1,
+            Refusal::MixedTabs(Place { row: 3, column: 1 }),
+        ),
+        (
+            "x\n# \0\n",
+            1,
+            Refusal::Token(TokenError::Nul, Place { row: 2, column: 0 }),
+        ),
+    ] {
+        refuses(&rt, rt.alloc(), text, given, refusal)?;
+    }
+    Ok(())
+}
+
+#[test]
+fn two_sources_at_once(rt: HostRuntime) -> Result<(), Fail> {
+    let alloc = rt.alloc();
+    let one = source_of(alloc, "a\nb c\n")?;
+    let other = source_of(alloc, "if x:\n  d\n")?;
+    let mut ones = LogicalLines::new(alloc, &one)?;
+    let mut others = LogicalLines::new(alloc, &other)?;
+    holds(&rt, &mut ones, "one", &(0, (1, 0), &[Terminal::Ident("a")]));
+    assert_eq!(rt; others.next(), Ok(true));
+    holds(
+        &rt,
+        &mut others,
+        "other",
+        &(1, (2, 2), &[Terminal::Ident("d")]),
+    );
+    assert_eq!(rt; others.next(), Ok(false));
+    holds(
+        &rt,
+        &mut ones,
+        "one",
+        &(0, (2, 0), &[Terminal::Ident("b"), Terminal::Ident("c")]),
+    );
+    assert_eq!(rt; ones.next(), Ok(false));
+    Ok(())
+}
