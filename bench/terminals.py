@@ -1,5 +1,5 @@
 #!/usr/bin/env python3
-"""Times reading a source into terminals beside listing it: `tokens_of` and `terminal_of` of each token are to take at most 1.3 times as
+"""Times reading a source into terminals beside listing it: `LogicalLines` is to take at most 1.3 times as
 long as the lister's walk over the same source, with nothing written.
 
     bench/terminals.py [--timer PATH] [--goal TIMES] [--instructions]

@@ -2,10 +2,17 @@
 
 use crate::sources::source_of;
 use pylex::Kind;
-use pyparse::tokens_of;
+use pyparse::{Token, tokens_of};
 use std::alloc::Global;
 use std::process::Abort;
 use std::test::Fail;
+
+/// Whether a token has this kind, row and column of the start, and text.
+fn is_row(token: &Token<'_>, row: &(Kind, (usize, usize), &str)) -> bool {
+    let (kind, start, text) = row;
+    let found = (token.start.row, token.start.column);
+    token.kind == *kind && found == *start && token.text == *text
+}
 
 /// The tokens of a source are these: kind, row and column of the start, text.
 fn gives(
@@ -19,14 +26,8 @@ fn gives(
         return Err(Fail::from("no tokens"));
     };
     assert_eq!(rt; tokens.len(), rows.len(), "at {text:?}");
-    for (token, (kind, start, expected)) in tokens.iter().zip(rows) {
-        assert_eq!(rt; token.kind, *kind, "at {text:?}");
-        assert_eq!(rt;
-            (token.start.row, token.start.column),
-            *start,
-            "at {text:?}"
-        );
-        assert_eq!(rt; token.text, *expected, "at {text:?}");
+    for (token, row) in tokens.iter().zip(rows) {
+        assert!(rt; is_row(token, row), "{token:?} in {text:?}");
     }
     Ok(())
 }

@@ -4,15 +4,13 @@
 //! `token_values [WHAT]` reads the standard input as a source. By `values`, and with no word, it
 //! writes for each number and string the row and the column, a word, and the value: `int` with the
 //! number in decimal, `text`, `u` or `bytes` with a repr. By `list` it lists the source with nothing
-//! written, and by `terminals` makes the source's tokens, and of each its terminal: it writes how
+//! written, and by `terminals` reads its logical lines: it writes how
 //! many entries or terminals there are, and how many nanoseconds that took. Where the source has no
 //! tokens it writes `refused` and why.
 #![tactic(auto)]
 
 use pylex::{Kind, Lister, Step};
-use pyparse::{
-    Literal, ParseFault, Terminal, Token, number_value, string_value, terminal_of, tokens_of,
-};
+use pyparse::{Literal, LogicalLines, ParseFault, Token, number_value, string_value, tokens_of};
 use pysource::{Counted, Source, decode, push_repr_bytes, push_repr_points, read_all};
 use std::alloc::Global;
 use std::process::ExitCode;
@@ -86,20 +84,17 @@ fn entry_count(alloc: Global, source: &Source) -> usize {
     count
 }
 
-/// How many terminals the lines of some tokens have. One buffer takes those of each line.
-fn terminal_count(alloc: Global, tokens: &[Token<'_>]) -> Option<usize> {
-    let mut line = Vec::new(alloc);
+/// How many terminals the logical lines of a source have.
+fn terminal_count(alloc: Global, source: &Source) -> Result<usize, ParseFault> {
+    let mut lines = LogicalLines::new(alloc, source)?;
     let mut count: usize = 0;
-    for token in tokens {
-        match terminal_of(alloc, token.kind, token.text).ok()? {
-            Terminal::Layout => {
-                count = count.wrapping_add(line.len());
-                line.clear();
-            }
-            terminal => line.push(terminal).ok()?,
+    for _ in 0..u64::MAX {
+        if !lines.next()? {
+            break;
         }
+        count = count.wrapping_add(lines.terminals().len());
     }
-    Some(count)
+    Ok(count)
 }
 
 /// Writes a count, and how many nanoseconds went by since then.
@@ -114,8 +109,8 @@ fn perform(rt: &HostRuntime, alloc: Global, what: &str, source: &Source) -> Opti
     match what {
         "values" => tell_values(rt, alloc, source),
         "list" => tell_count(rt, start, entry_count(alloc, source)),
-        "terminals" => match tokens_of(alloc, source) {
-            Ok(tokens) => tell_count(rt, start, terminal_count(alloc, tokens.as_slice())?),
+        "terminals" => match terminal_count(alloc, source) {
+            Ok(count) => tell_count(rt, start, count),
             Err(fault) => tell_refusal(rt, fault),
         },
         _ => None,
