@@ -29,7 +29,6 @@ pub(crate) fn text_of<'a>(source: &'a Source, entry: &Entry) -> &'a str
 }
 
 /// The refusal of an entry with a fault of its own.
-#[inline(always)]
 fn entry_fault(alloc: Global, source: &Source, entry: &Entry) -> Result<Option<Refusal>, AllocError>
     requires { LiesIn source.now.text entry.now }
     ensures { IfOk result (λ fault. fault ≡ entry_refusal (chars source.now.text) entry.now) }
@@ -41,7 +40,6 @@ fn entry_fault(alloc: Global, source: &Source, entry: &Entry) -> Result<Option<R
 }
 
 /// Appends a token.
-#[inline(always)]
 fn push<'a>(
     tokens: &mut Vec<Token<'a>>,
     kind: Kind,
@@ -55,7 +53,6 @@ fn push<'a>(
 }
 
 /// Appends the token of an entry.
-#[inline(always)]
 fn push_entry<'a>(
     tokens: &mut Vec<Token<'a>>,
     source: &'a Source,
@@ -76,7 +73,6 @@ fn push_newline<'a>(tokens: &mut Vec<Token<'a>>, source: &'a Source) -> Result<(
 }
 
 /// Appends the tokens that an entry gives, by whether its line has tokens and no NEWLINE yet.
-#[inline(always)]
 fn push_given<'a>(
     tokens: &mut Vec<Token<'a>>,
     source: &'a Source,
@@ -124,9 +120,8 @@ impl<'a> Gather<'a> {
         })
     }
 
-    /// Takes the next entry of a source's listing, whatever its type.
-    #[inline(always)]
-    fn take_entry(
+    /// Takes the next entry of a source's listing.
+    pub(crate) fn take(
         &mut self,
         alloc: Global,
         source: &'a Source,
@@ -141,27 +136,6 @@ impl<'a> Gather<'a> {
         push_given(&mut self.tokens, source, entry, begun)?;
         let faulty = entry_fault(alloc, source, entry)?;
         self.pass.take(source, entry, faulty)
-    }
-
-    /// Takes the next entry of a source's listing.
-    #[inline(always)]
-    pub(crate) fn take(
-        &mut self,
-        alloc: Global,
-        source: &'a Source,
-        entry: &Entry,
-    ) -> Result<(), AllocError>
-        requires lies { LiesIn source.now.text entry.now }
-        requires opened { self.old.pass.opened < 2 ^ 63 }
-        requires closed { self.old.pass.closed < 2 ^ 63 }
-        ensures { OnOk result (Gathers (chars source.now.text) entry.now self.old self.new) }
-    {
-        // Most entries are names and operators: what their type decides is decided once for all.
-        match entry.kind {
-            Kind::Name => self.take_entry(alloc, source, entry),
-            Kind::Op => self.take_entry(alloc, source, entry),
-            _ => self.take_entry(alloc, source, entry),
-        }
     }
 
     /// The tokens, or the first refusal, behind all entries.

@@ -87,6 +87,7 @@ impl<'a> LineGather<'a> {
     }
 
     /// Appends a token of the line.
+    #[inline(always)]
     fn keep(&mut self, start: Place, terminal: Terminal<'a>) -> Result<(), AllocError>
         ensures terminals { OnOk result (self.new.terminals.items ≡ self.old.terminals.items ++ terminal.entry ∷ []) }
         ensures start { self.new.start ≡ start_before self.old.terminals.items self.old.start start }
@@ -100,6 +101,7 @@ impl<'a> LineGather<'a> {
     }
 
     /// Takes what an entry adds to the line, or tells the fault that the entry has by itself.
+    #[inline(always)]
     fn push(
         &mut self,
         alloc: Global,
@@ -124,6 +126,7 @@ impl<'a> LineGather<'a> {
     }
 
     /// Counts an INDENT or a DEDENT, and keeps the levels that were open before it.
+    #[inline(always)]
     fn count(&mut self, kind: Kind)
         requires indents { self.old.indents < 2 ^ 63 }
         requires dedents { self.old.dedents < 2 ^ 63 }
@@ -140,8 +143,10 @@ impl<'a> LineGather<'a> {
         }
     }
 
-    /// Takes the next entry of a source's listing: whether the line that is open ends by it.
-    pub(crate) fn take(
+    /// Takes the next entry of a source's listing, whatever its type: whether the line that is open
+    /// ends by it.
+    #[inline(always)]
+    fn take_entry(
         &mut self,
         alloc: Global,
         source: &'a Source,
@@ -160,6 +165,30 @@ impl<'a> LineGather<'a> {
         self.pass.take(source, entry, faulty)?;
         self.count(entry.kind);
         Ok(ends)
+    }
+
+    /// Takes the next entry of a source's listing: whether the line that is open ends by it.
+    #[inline(always)]
+    pub(crate) fn take(
+        &mut self,
+        alloc: Global,
+        source: &'a Source,
+        entry: &Entry,
+    ) -> Result<bool, AllocError>
+        requires lies { LiesIn source.now.text entry.now }
+        requires opened { self.old.pass.opened < 2 ^ 63 }
+        requires closed { self.old.pass.closed < 2 ^ 63 }
+        requires indents { self.old.indents < 2 ^ 63 }
+        requires dedents { self.old.dedents < 2 ^ 63 }
+        ensures ends { IfOk result (λ ends. ends ≡ ended_by entry.now self.old.pass.begun) }
+        ensures gathers { OnOk result (Takes (chars source.now.text) entry.now self.old self.new) }
+    {
+        // Most entries are names and operators: what their type decides is decided once for all.
+        match entry.kind {
+            Kind::Name => self.take_entry(alloc, source, entry),
+            Kind::Op => self.take_entry(alloc, source, entry),
+            _ => self.take_entry(alloc, source, entry),
+        }
     }
 
     /// The first refusal that is kept.
