@@ -17,6 +17,8 @@ import subprocess
 import sys
 import tempfile
 
+from timers import build, refuse
+
 TOP = os.path.dirname(os.path.dirname(os.path.abspath(__file__)))
 SIZE = 48_000_000
 LARGEST_SHARE = 0.1
@@ -34,12 +36,6 @@ lines''' + "x" * 0x10
 TOLD = re.compile(r"left (\d+)(?: (\d+))? list ([\d.]+)(ns|µs|ms|s) resume ([\d.]+)(ns|µs|ms|s)\s*")
 SECONDS = {"ns": 1e-9, "µs": 1e-6, "ms": 1e-3, "s": 1.0}
 ROUNDS = 3
-
-
-def refuse(text):
-    """Ends the run, as nothing can be measured."""
-    print(f"resume.py: {text}", file=sys.stderr)
-    sys.exit(2)
 
 
 def entry_count(program, path):
@@ -63,17 +59,6 @@ def cursor_behind(program, path, count):
     if process.wait() or word != "cursor":
         refuse(f"{program} tokens --count wrote no cursor, with status {process.returncode}")
     return cursor
-
-
-def build(timer):
-    """Builds the timer where it isn't there: it ends with a status of its own on a text that is no cursor's."""
-    folder = os.path.dirname(os.path.dirname(timer))
-    if not os.path.exists(timer):
-        print("building crates/resume_times, which takes a minute or more", file=sys.stderr)
-        subprocess.run(["rt", "run", "--", "no cursor"], cwd=folder, stdin=subprocess.DEVNULL, stdout=subprocess.DEVNULL,
-                       stderr=subprocess.DEVNULL, check=False)
-    if not os.access(timer, os.X_OK):
-        refuse(f"{timer} isn't there, and `rt run` in {folder} didn't build it")
 
 
 def times(timer, path, cursor):

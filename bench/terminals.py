@@ -21,28 +21,13 @@ import sys
 import tempfile
 
 import run
+from timers import build, refuse
 
 TOP = os.path.dirname(os.path.dirname(os.path.abspath(__file__)))
 SIZE = 9_500_000
 SMALL = SIZE // 10
 ROUNDS = 5
 CALLS = ("list", "terminals")
-
-
-def refuse(text):
-    """Ends the run, as nothing can be measured."""
-    print(f"terminals.py: {text}", file=sys.stderr)
-    sys.exit(2)
-
-
-def build(timer):
-    """Builds the timer where it isn't there."""
-    folder = os.path.dirname(os.path.dirname(timer))
-    if not os.path.exists(timer):
-        print("building crates/token_values, which takes some minutes", file=sys.stderr)
-        subprocess.run(["rt", "run"], cwd=folder, stdin=subprocess.DEVNULL, stdout=subprocess.DEVNULL, stderr=subprocess.DEVNULL, check=False)
-    if not os.access(timer, os.X_OK):
-        refuse(f"{timer} isn't there, and `rt run` in {folder} didn't build it")
 
 
 def told(timer, call, data):

@@ -15,28 +15,14 @@ import resource
 import subprocess
 import sys
 
+from timers import build, refuse
+
 TOP = os.path.dirname(os.path.dirname(os.path.abspath(__file__)))
 CALLS = ("drop", "height", "copy", "same", "dump")
 STACK = 8 << 20
 LEAST_SPEED = 200
 DEEPEST = 1 << 22
 ROUNDS = 5
-
-
-def refuse(text):
-    """Ends the run, as nothing can be measured."""
-    print(f"trees.py: {text}", file=sys.stderr)
-    sys.exit(2)
-
-
-def build(timer):
-    """Builds the timer where it isn't there: without words it ends with a status of its own."""
-    folder = os.path.dirname(os.path.dirname(timer))
-    if not os.path.exists(timer):
-        print("building crates/tree_times, which takes some minutes", file=sys.stderr)
-        subprocess.run(["rt", "run"], cwd=folder, stdin=subprocess.DEVNULL, stdout=subprocess.DEVNULL, stderr=subprocess.DEVNULL, check=False)
-    if not os.access(timer, os.X_OK):
-        refuse(f"{timer} isn't there, and `rt run` in {folder} didn't build it")
 
 
 def limit_stack():
