@@ -17,8 +17,9 @@ use Rattle.pytoken.specs.declared.refusals.Refusal.{Refusal}
 use Rattle.pytoken.specs.declared.refusals.Refusal.TheVariants as refusals
 use Rattle.pyparse.specs.declared.faults.ParseFault.{ParseFault}
 use Rattle.pyparse.specs.declared.faults.ParseFault.TheVariants as parse_faults
+use Rattle.pyparse.specs.declared.faults.GrammarError.TheVariants as grammar_errors
 use Rattle.pycommand.specs.declared.fault.SourceFaultCode.{SourceFaultCode}
-use Rattle.pycommand.specs.declared.fault.SourceFaultCode.TheVariants.{UnsupportedEncoding, BomConflict, NotUtf8, NotAscii, LoneReturn, BadCharacter, UnterminatedString, EofInString, EofInStatement, UnindentMismatch, UnmatchedCloser, Token, TooDeep, InconsistentTabs}
+use Rattle.pycommand.specs.declared.fault.SourceFaultCode.TheVariants.{UnsupportedEncoding, BomConflict, NotUtf8, NotAscii, LoneReturn, BadCharacter, UnterminatedString, EofInString, EofInStatement, UnindentMismatch, UnmatchedCloser, Token, Syntax, TooDeep, InconsistentTabs}
 use Rattle.pycommand.specs.declared.fault.RunFaultCode.TheVariants.{Read, CursorOfAnotherSource, CursorText, BadArguments, Open, Write, Memory}
 use Rattle.pycommand.specs.declared.fault.FaultCode.{FaultCode}
 use Rattle.pycommand.specs.declared.fault.FaultCode.TheVariants.{Source, Run}
@@ -51,6 +52,7 @@ text_of (Source EofInStatement) = codes "EOF in multi-line statement"
 text_of (Source UnindentMismatch) = codes "unindent does not match any outer indentation level"
 text_of (Source UnmatchedCloser) = codes "unmatched closing bracket"
 text_of (Source (Token error)) = token_text error
+text_of (Source Syntax) = codes "invalid syntax"
 text_of (Source TooDeep) = codes "too deep"
 text_of (Source InconsistentTabs) = codes "inconsistent tabs and spaces"
 text_of (Run Read) = codes "read failed"
@@ -114,6 +116,8 @@ of_refusal (refusals.MixedTabs place) = InSource InconsistentTabs place
 -- the fault that is told where a source is not read
 abbrev pub of_parse : ParseFault → Fault
 of_parse (parse_faults.Refused refusal) = of_refusal refusal
+of_parse (parse_faults.Grammar grammar_errors.Syntax place) = InSource Syntax place
+of_parse (parse_faults.Grammar grammar_errors.TooDeep place) = InSource TooDeep place
 of_parse parse_faults.Memory = Plain Memory
 
 -- the fault that is told where a reader gives no source

@@ -6,7 +6,7 @@ ghost use Rattle.pycommand.specs.declared.fault.RunFaultCode.{RunFaultCode};
 ghost use Rattle.pycommand.specs.Faults.{text_of, token_text, code_status, status_of, fault_code, fault_line, source_line, plain_line, of_listing, of_resume, of_stream, of_refusal, of_parse, code_of, Tells, IsToldAs};
 
 use pylex::{ListingError, ListingFault, ResumeFault};
-use pyparse::ParseFault;
+use pyparse::{GrammarError, ParseFault};
 use pysource::{ByteOut, LineError, Place, StreamFault, WriteFailed, write_all};
 use pytoken::{Refusal, TokenError};
 use std::alloc::{AllocError, Global};
@@ -38,7 +38,9 @@ pub enum SourceFaultCode {
     UnmatchedCloser,
     /// A token that is wrong by itself.
     Token(TokenError),
-    /// More brackets within one another than may be open at once.
+    /// Tokens without a form.
+    Syntax,
+    /// More brackets within one another than may be open at once, or a form that is too high.
     TooDeep,
     /// A line whose indentation depends on how wide a tab is.
     InconsistentTabs,
@@ -116,6 +118,7 @@ pub fn fault_text(code: FaultCode) -> &'static str
             "unindent does not match any outer indentation level",
         FaultCode::Source(SourceFaultCode::UnmatchedCloser) => "unmatched closing bracket",
         FaultCode::Source(SourceFaultCode::Token(error)) => token_text(error),
+        FaultCode::Source(SourceFaultCode::Syntax) => "invalid syntax",
         FaultCode::Source(SourceFaultCode::TooDeep) => "too deep",
         FaultCode::Source(SourceFaultCode::InconsistentTabs) => "inconsistent tabs and spaces",
         FaultCode::Run(RunFaultCode::Read) => "read failed",
@@ -200,6 +203,12 @@ impl From<ParseFault> for Fault {
     fn from(fault: ParseFault) -> Fault {
         match fault {
             ParseFault::Refused(refusal) => Fault::from(refusal),
+            ParseFault::Grammar(GrammarError::Syntax, place) => {
+                Fault::InSource(SourceFaultCode::Syntax, place)
+            }
+            ParseFault::Grammar(GrammarError::TooDeep, place) => {
+                Fault::InSource(SourceFaultCode::TooDeep, place)
+            }
             ParseFault::Memory => Fault::Plain(RunFaultCode::Memory),
         }
     }

@@ -34,17 +34,17 @@ pub data Over {A : Type 0} (s : A → ℕ) (n : ℕ) : Answer A → Type 0 where
   none : Over s n NoForm
   sunk : Over s n TooDeep
 
-over_then : {A B : Type 0} (s : B → ℕ) (n : ℕ) (x : Answer A) (k : A → List Terminal → Answer B) → ((a : A) (r : List Terminal) → Over s n (k a r)) → Over s n (and_then x k)
+pub over_then : {A B : Type 0} (s : B → ℕ) (n : ℕ) (x : Answer A) (k : A → List Terminal → Answer B) → ((a : A) (r : List Terminal) → Over s n (k a r)) → Over s n (and_then x k)
 over_then s n (Found a r) k h = h a r
 over_then s n NoForm k h = none
 over_then s n TooDeep k h = sunk
 
-over_on : {A B : Type 0} (t : A → ℕ) (s : B → ℕ) (m n : ℕ) (x : Answer A) (k : A → List Terminal → Answer B) → Over t m x → ((a : A) (r : List Terminal) → m ≤ t a → Over s n (k a r)) → Over s n (and_then x k)
+pub over_on : {A B : Type 0} (t : A → ℕ) (s : B → ℕ) (m n : ℕ) (x : Answer A) (k : A → List Terminal → Answer B) → Over t m x → ((a : A) (r : List Terminal) → m ≤ t a → Over s n (k a r)) → Over s n (and_then x k)
 over_on t s m n x k (over {a = a} {r = r} p) h = h a r p
 over_on t s m n x k none h = none
 over_on t s m n x k sunk h = sunk
 
-over_first : {A B : Type 0} (s : B → ℕ) (n : ℕ) (f : Terminal → Option A) (r : List Terminal) (k : A → List Terminal → Answer B) (x : Answer B) → ((a : A) (u : List Terminal) → Over s n (k a u)) → Over s n x → Over s n (on_first f r k x)
+pub over_first : {A B : Type 0} (s : B → ℕ) (n : ℕ) (f : Terminal → Option A) (r : List Terminal) (k : A → List Terminal → Answer B) (x : Answer B) → ((a : A) (u : List Terminal) → Over s n (k a u)) → Over s n x → Over s n (on_first f r k x)
 over_first s n f [] k x h g = g
 over_first {A} {B} s n f (t ∷ r) k x h g = go (f t)
   where
@@ -52,28 +52,28 @@ over_first {A} {B} s n f (t ∷ r) k x h g = go (f t)
     go (Some a) = h a r
     go None = g
 
-over_cond : {B : Type 0} (s : B → ℕ) (n : ℕ) (b : Bool) (x y : Answer B) → Over s n x → Over s n y → Over s n (cond b x y)
+pub over_cond : {B : Type 0} (s : B → ℕ) (n : ℕ) (b : Bool) (x y : Answer B) → Over s n x → Over s n y → Over s n (cond b x y)
 over_cond s n true x y h k = h
 over_cond s n false x y h k = k
 
-over_made : {B : Type 0} (s : B → ℕ) (n : ℕ) (o : Option B) (r : List Terminal) → ((a : B) → o ≡ Some a → n ≤ s a) → Over s n (made o r)
+pub over_made : {B : Type 0} (s : B → ℕ) (n : ℕ) (o : Option B) (r : List Terminal) → ((a : B) → o ≡ Some a → n ≤ s a) → Over s n (made o r)
 over_made s n (Some a) r h = over (h a refl)
 over_made s n None r h = none
 
-over_closed : {B : Type 0} (s : B → ℕ) (n : ℕ) (x : Exact) (r : List Terminal) (a : B) → n ≤ s a → Over s n (closed x r a)
+pub over_closed : {B : Type 0} (s : B → ℕ) (n : ℕ) (x : Exact) (r : List Terminal) (a : B) → n ≤ s a → Over s n (closed x r a)
 over_closed s n x r a h = over_first s n (is_op x) r _ _ (λ _ _. over h) none
 
 -- the same answer, or too deep where what the other finds is higher than d
 abbrev pub Caps : {A : Type 0} → (A → ℕ) → ℕ → Answer A → Answer A → Type 0
 Caps s d x y = (x ≡ y) ⊎ ((x ≡ TooDeep) × Over s (suc d) y)
 
-caps_then : {A B : Type 0} (s : A → ℕ) (t : B → ℕ) (m n : ℕ) (x y : Answer A) (k j : A → List Terminal → Answer B) → Caps s m x y → ((a : A) (r : List Terminal) → Caps t n (k a r) (j a r)) → ((a : A) (r : List Terminal) → suc m ≤ s a → Over t (suc n) (j a r)) → Caps t n (and_then x k) (and_then y j)
+pub caps_then : {A B : Type 0} (s : A → ℕ) (t : B → ℕ) (m n : ℕ) (x y : Answer A) (k j : A → List Terminal → Answer B) → Caps s m x y → ((a : A) (r : List Terminal) → Caps t n (k a r) (j a r)) → ((a : A) (r : List Terminal) → suc m ≤ s a → Over t (suc n) (j a r)) → Caps t n (and_then x k) (and_then y j)
 caps_then s t m n x y k j (inr (e, w)) h o = inr (ap (λ z. and_then z k) e, over_on s t (suc m) (suc n) y j w o)
 caps_then s t m n (Found a r) y k j (inl e) h o = elim (h a r) [ inl p ↦ inl (p ∙ ap (λ z. and_then z j) e) | inr p ↦ inr (p.0, subst (λ z. Over t (suc n) (and_then z j)) e p.1) ]
 caps_then s t m n NoForm y k j (inl e) h o = inl (ap (λ z. and_then z j) e)
 caps_then s t m n TooDeep y k j (inl e) h o = inl (ap (λ z. and_then z j) e)
 
-caps_first : {A B : Type 0} (s : B → ℕ) (d : ℕ) (f : Terminal → Option A) (r : List Terminal) (k j : A → List Terminal → Answer B) (x y : Answer B) → ((a : A) (u : List Terminal) → Caps s d (k a u) (j a u)) → Caps s d x y → Caps s d (on_first f r k x) (on_first f r j y)
+pub caps_first : {A B : Type 0} (s : B → ℕ) (d : ℕ) (f : Terminal → Option A) (r : List Terminal) (k j : A → List Terminal → Answer B) (x y : Answer B) → ((a : A) (u : List Terminal) → Caps s d (k a u) (j a u)) → Caps s d x y → Caps s d (on_first f r k x) (on_first f r j y)
 caps_first s d f [] k j x y h m = m
 caps_first {A} {B} s d f (t ∷ r) k j x y h m = go (f t)
   where
@@ -81,7 +81,7 @@ caps_first {A} {B} s d f (t ∷ r) k j x y h m = go (f t)
     go (Some a) = h a r
     go None = m
 
-caps_cond : {B : Type 0} (s : B → ℕ) (d : ℕ) (b : Bool) (x x' y y' : Answer B) → Caps s d x x' → Caps s d y y' → Caps s d (cond b x y) (cond b x' y')
+pub caps_cond : {B : Type 0} (s : B → ℕ) (d : ℕ) (b : Bool) (x x' y y' : Answer B) → Caps s d x x' → Caps s d y y' → Caps s d (cond b x y) (cond b x' y')
 caps_cond s d true x x' y y' h k = h
 caps_cond s d false x x' y y' h k = k
 
@@ -100,7 +100,7 @@ caps_checked : (d : ℕ) (x y : Answer Expr) (k j : Expr → List Terminal → A
 caps_checked d x y k j p h o = caps_then height height d d (cap d x) y k j (caps_cap d x y p) h o
 
 -- sizes
-abbrev entry_size : Item → Entry → ℕ
+abbrev pub entry_size : Item → Entry → ℕ
 entry_size (Of l) (Single e) = height e
 entry_size (Of l) a = 0
 entry_size Pair (Paired k e) = max (height k) (height e)
@@ -109,15 +109,15 @@ entry_size Pair a = 0
 entry_size Argument a = entry_height a
 entry_size (Parameter b) a = entry_height a
 
-abbrev list_size : Item → List Entry → ℕ
+abbrev pub list_size : Item → List Entry → ℕ
 list_size i [] = 0
 list_size i (a ∷ es) = max (entry_size i a) (list_size i es)
 
-list_last : (i : Item) (es : List Entry) (a : Entry) → list_size i (es ++ (a ∷ [])) ≡ max (list_size i es) (entry_size i a)
+pub list_last : (i : Item) (es : List Entry) (a : Entry) → list_size i (es ++ (a ∷ [])) ≡ max (list_size i es) (entry_size i a)
 list_last i [] a = omega arith
 list_last i (e ∷ es) a = omega (arith, list_last i es a)
 
-singles_size : (l : Level) (es : List Entry) → list_size (Of l) es ≤ heights (singles es)
+pub singles_size : (l : Level) (es : List Entry) → list_size (Of l) es ≤ heights (singles es)
 singles_size l [] = omega arith
 singles_size l (Single e ∷ es) = omega (arith, singles_size l es)
 singles_size l (_ ∷ es) = omega (arith, singles_size l es)
@@ -128,18 +128,18 @@ pairs_size (Paired k e ∷ es) = omega (arith, pairs_size es)
 pairs_size (Doubled e ∷ es) = omega (arith, pairs_size es)
 pairs_size (_ ∷ es) = omega (arith, pairs_size es)
 
-arguments_size : (es : List Entry) → list_size Argument es ≡ entries_height es
+pub arguments_size : (es : List Entry) → list_size Argument es ≡ entries_height es
 arguments_size [] = refl
 arguments_size (a ∷ es) = ap (max (entry_height a)) (arguments_size es)
 
-parameters_size : (b : Bool) (es : List Entry) → list_size (Parameter b) es ≡ entries_height es
+pub parameters_size : (b : Bool) (es : List Entry) → list_size (Parameter b) es ≡ entries_height es
 parameters_size b [] = refl
 parameters_size b (a ∷ es) = ap (max (entry_height a)) (parameters_size b es)
 
-abbrev exprs_size : List Expr → ℕ
+abbrev pub exprs_size : List Expr → ℕ
 exprs_size es = heights (exprs es)
 
-exprs_last : (es : List Expr) (e : Expr) → exprs_size (es ++ (e ∷ [])) ≡ max (exprs_size es) (height e)
+pub exprs_last : (es : List Expr) (e : Expr) → exprs_size (es ++ (e ∷ [])) ≡ max (exprs_size es) (height e)
 exprs_last [] e = omega arith
 exprs_last (a ∷ es) e = omega (arith, exprs_last es e)
 
@@ -155,7 +155,7 @@ gens_last (f ∷ gs) g = omega (arith, gens_last gs g)
 
 -- what is read holds what was read before
 module _ (self : Reads) (n : ℕ) where
-  over_listing : (one : List Terminal → Answer Entry) (i : Item) (m : ℕ) (acc : List Entry) (r : List Terminal) → n ≤ list_size i acc → Over (list_size i) n (listing_loop one i m acc r)
+  pub over_listing : (one : List Terminal → Answer Entry) (i : Item) (m : ℕ) (acc : List Entry) (r : List Terminal) → n ≤ list_size i acc → Over (list_size i) n (listing_loop one i m acc r)
   over_listing one i zero acc r h = over h
   over_listing one i (suc m) acc r h = over_cond (list_size i) n (starts i r) _ _ (over_then (list_size i) n (one r) _ (λ e r1. over_first (list_size i) n (is_op Comma) r1 _ _ (λ _ r2. over_listing one i m (acc ++ (e ∷ [])) r2 (omega (arith, list_last i acc e))) (over (omega (arith, list_last i acc e))))) (over h)
 
@@ -180,10 +180,10 @@ module _ (self : Reads) (n : ℕ) where
   over_comps zero acc r h = over h
   over_comps (suc m) acc r h = over_first gens_size n (is_word Key.For) r _ _ (λ _ r1. over_then gens_size n _ _ (λ g r2. over_comps m (acc ++ (g ∷ [])) r2 (omega (arith, gens_last acc g)))) (over_first gens_size n (is_word Key.Async) r _ _ (λ _ r1. over_first gens_size n (is_word Key.For) r1 _ _ (λ _ r2. over_then gens_size n _ _ (λ g r3. over_comps m (acc ++ (g ∷ [])) r3 (omega (arith, gens_last acc g)))) none) (over h))
 
-  over_comps_closed : (s : Exact) (r : List Terminal) (make : List Comprehension → Expr) → ((gs : List Comprehension) → n ≤ height (make gs)) → Over height n (comps_closed self s r make)
+  pub over_comps_closed : (s : Exact) (r : List Terminal) (make : List Comprehension → Expr) → ((gs : List Comprehension) → n ≤ height (make gs)) → Over height n (comps_closed self s r make)
   over_comps_closed s r make h = over_then height n _ _ (λ gs r1. over_closed height n s r1 (make gs) (h gs))
 
-  over_unstarred : {A : Type 0} (s : A → ℕ) (r : List Terminal) (x : Answer A) → Over s n x → Over s n (unstarred r x)
+  pub over_unstarred : {A : Type 0} (s : A → ℕ) (r : List Terminal) (x : Answer A) → Over s n x → Over s n (unstarred r x)
   over_unstarred s r x h = over_first s n (is_op Star) r _ _ (λ _ _. none) h
 
   over_name_with : {B : Type 0} (s : B → ℕ) (y : Exact) (r : List Terminal) (k : Identifier → List Terminal → Answer B) (x : Answer B) → ((a : Identifier) (u : List Terminal) → Over s n (k a u)) → Over s n x → Over s n (on_name_with y r k x)
@@ -206,7 +206,7 @@ module _ (self : Reads) (n : ℕ) where
   over_call : (f : Expr) (r : List Terminal) → n ≤ height f → Over height (suc n) (call_step self f r)
   over_call f r h = over_cond height (suc n) (starts Argument r) _ _ (over_then height (suc n) (piece self Argument r) _ (λ a r1. over_cond height (suc n) (starts_comp r1) _ _ (over_generator_call f a r1 (omega (arith, h))) (over_then height (suc n) (others_of self Argument a r1) _ (λ es r2. over_called f es r2 (omega (arith, h)))))) (over_called f [] r (omega (arith, h)))
 
-  over_primary : (m : ℕ) (e : Expr) (r : List Terminal) → n ≤ height e → Over height n (primary_loop self m e r)
+  pub over_primary : (m : ℕ) (e : Expr) (r : List Terminal) → n ≤ height e → Over height n (primary_loop self m e r)
   over_primary zero e r h = over h
   over_primary (suc m) e r h =
       over_first height n (is_op Dot) r _ _ (λ _ r1. over_first height n name_in r1 _ _ (λ x r2. over_primary m (Trees.Attribute e x Load) r2 (omega (arith, h))) none)
@@ -228,7 +228,7 @@ module _ (self : Reads) (n : ℕ) where
   over_slice_rest : (a : OptionalExpr) (r : List Terminal) → n ≤ optional_height a → Over height (suc n) (slice_rest self a r)
   over_slice_rest a r h = over_then height (suc n) (perhaps self Expression r) _ (λ b r1. over_first height (suc n) (is_op Colon) r1 _ _ (λ _ r2. over_then height (suc n) (perhaps self Expression r2) (λ c r3. Found (Trees.Slice a b c) r3) (λ c r3. over (omega (arith, h)))) (over {a = Trees.Slice a b absent} (omega (arith, h))))
 
-  over_if_else : (b : Expr) (r : List Terminal) → n ≤ height b → Over height n (if_else_step self b r)
+  pub over_if_else : (b : Expr) (r : List Terminal) → n ≤ height b → Over height n (if_else_step self b r)
   over_if_else b r h = over_first height n (is_word Key.If) r _ _ (λ _ r1. over_then height n (self Or r1) _ (λ a r2. over_first height n (is_word Key.Else) r2 _ _ (λ _ r3. over_then height n (self Expression r3) (λ c r4. Found (Trees.IfExp a b c) r4) (λ c r4. over (omega (arith, h)))) none)) (over h)
 
 module _ (self : Reads) (n : ℕ) where
@@ -238,7 +238,7 @@ module _ (self : Reads) (n : ℕ) where
   over_operation e (Joins o) r r1 h = over_then height n _ _ (λ es r2. over (omega (arith, h)))
   over_operation e Compares r r1 h = over_compare self n 0 (length r) [] [] r _ (λ xs ys u w. over (omega (arith, h))) (omega arith)
 
-  over_loop : (k m : ℕ) (e : Expr) (r : List Terminal) → n ≤ height e → Over height n (climb_loop self k m e r)
+  pub over_loop : (k m : ℕ) (e : Expr) (r : List Terminal) → n ≤ height e → Over height n (climb_loop self k m e r)
   over_loop k zero e r h = over h
   over_loop k (suc m) e r h = over_first height n (infix_from k) r _ _ (λ o r1. over_on height height n n _ _ (over_operation e o r r1 h) (λ f r2 w. over_loop k m f r2 w)) (over h)
 
@@ -248,7 +248,7 @@ CapsAt d self other = (l : Level) (i : List Terminal) → Caps height d (self l 
 
 -- the parts of an expression that is read with room suc d
 module _ (d : ℕ) (self other : Reads) (all : CapsAt d self other) where
-  c_one : {B : Type 0} (t : B → ℕ) (n : ℕ) (l : Level) (i : List Terminal) (k : Expr → List Terminal → Answer B) → ((e : Expr) (r : List Terminal) → suc d ≤ height e → Over t (suc n) (k e r)) → Caps t n (and_then (self l i) k) (and_then (other l i) k)
+  pub c_one : {B : Type 0} (t : B → ℕ) (n : ℕ) (l : Level) (i : List Terminal) (k : Expr → List Terminal → Answer B) → ((e : Expr) (r : List Terminal) → suc d ≤ height e → Over t (suc n) (k e r)) → Caps t n (and_then (self l i) k) (and_then (other l i) k)
   c_one t n l i k o = caps_then height t d n _ _ _ _ (all l i) (λ a r. inl refl) o
 
   c_perhaps : (l : Level) (r : List Terminal) → Caps optional_height d (perhaps self l r) (perhaps other l r)
@@ -271,7 +271,7 @@ module _ (d : ℕ) (self other : Reads) (all : CapsAt d self other) where
       (λ k r1. caps_first (entry_size Pair) d (is_op Colon) r1 _ _ _ _ (λ a s. c_one (entry_size Pair) d Expression s (λ e r3. Found (Paired k e) r3) (λ e r2 w. over (omega (arith, w)))) (inl refl))
       (λ k r1 w. over_first (entry_size Pair) (suc d) (is_op Colon) r1 _ _ (λ _ r2. over_then (entry_size Pair) (suc d) (other Expression r2) (λ e r3. Found (Paired k e) r3) (λ e r3. over (omega (arith, w)))) none))
 
-  c_name_with : {B : Type 0} (t : B → ℕ) (n : ℕ) (s : Exact) (r : List Terminal) (k j : Identifier → List Terminal → Answer B) (x y : Answer B) → ((a : Identifier) (u : List Terminal) → Caps t n (k a u) (j a u)) → Caps t n x y → Caps t n (on_name_with s r k x) (on_name_with s r j y)
+  pub c_name_with : {B : Type 0} (t : B → ℕ) (n : ℕ) (s : Exact) (r : List Terminal) (k j : Identifier → List Terminal → Answer B) (x y : Answer B) → ((a : Identifier) (u : List Terminal) → Caps t n (k a u) (j a u)) → Caps t n x y → Caps t n (on_name_with s r k x) (on_name_with s r j y)
   c_name_with t n s r k j x y h m = caps_first t n name_in r _ _ _ _ (λ a u. caps_first t n (is_op s) u _ _ _ _ (λ _ v. h a v) m) m
 
   c_argument : (r : List Terminal) → Caps (entry_size Argument) d (read_argument self r) (read_argument other r)
@@ -301,7 +301,7 @@ c_listing d other i one two h (suc m) acc r = caps_cond (list_size i) d (starts 
     (λ e r1 w. over_first (list_size i) (suc d) (is_op Comma) r1 _ _ (λ _ r2. over_listing other (suc d) two i m (acc ++ (e ∷ [])) r2 (omega (arith, w, list_last i acc e))) (over (omega (arith, w, list_last i acc e))))) (inl refl)
 
 module _ (d : ℕ) (self other : Reads) (all : CapsAt d self other) where
-  c_listing_of : (i : Item) (acc : List Entry) (r : List Terminal) → Caps (list_size i) d (listing_of self i acc r) (listing_of other i acc r)
+  pub c_listing_of : (i : Item) (acc : List Entry) (r : List Terminal) → Caps (list_size i) d (listing_of self i acc r) (listing_of other i acc r)
   c_listing_of i acc r = c_listing d other i (piece self i) (piece other i) (c_piece d self other all i) (length r) acc r
 
   c_others : (i : Item) (e : Entry) (r : List Terminal) → Caps (list_size i) d (others_of self i e r) (others_of other i e r)

@@ -2,10 +2,10 @@
 use Rattle.std.proofs.Common.{◌≡◌, refl, sym, ap, ◌∙◌, ℕ, ◌+◌, arith, List, [], ◌∷◌, Option, Some, None, Bool, true, false, cond}
 use Rattle.std.specs.Prelude.{max}
 use Rattle.pynode.specs.declared.operators.Context.{Context}
-use Rattle.pynode.specs.declared.operators.Context.TheVariants.{Store}
+use Rattle.pynode.specs.declared.operators.Context.TheVariants.{Store, Del}
 use Rattle.pynode.specs.Trees
 use Rattle.pynode.specs.Trees.{Expr, Exprs, no_exprs, an_expr, OptionalExpr, absent, present, Arg, Arguments, arguments}
-use Rattle.pygrammar.specs.Targets.{mapped, both, stored, all_stored}
+use Rattle.pygrammar.specs.Targets.{mapped, both, stored, all_stored, deleted, all_deleted, single_stored}
 use Rattle.pygrammar.specs.Entries.{Entry, Single, Spread, Doubled, Keyed, Plain, Slashed, Bare, Gathered, Collected}
 use Rattle.pygrammar.specs.Arguments.{in_order, positional, keywords, called}
 use Rattle.pygrammar.specs.Parameters.{arranged, at_star, after_star, plain_ones, before_slash, has_slash, with_kwarg, with_default, add_keyword_only, set_vararg, add_plain, add_before_slash, no_arguments}
@@ -42,6 +42,25 @@ mutual
   all_height : (es fs : Exprs) → all_stored es ≡ Some fs → heights fs ≡ heights es
   all_height no_exprs fs h = ap heights (sym (some_is no_exprs fs h))
   all_height (an_expr e es) fs h = both_height (stored e) (all_stored es) fs (height e) (heights es) (λ s q. stored_height e s q) (λ gs q. all_height es gs q) h
+
+mutual
+  pub deleted_height : (e s : Expr) → deleted e ≡ Some s → height s ≡ height e
+  deleted_height (Trees.Name x c) s h = ap height (sym (some_is (Trees.Name x Del) s h))
+  deleted_height (Trees.Attribute e x c) s h = ap height (sym (some_is (Trees.Attribute e x Del) s h))
+  deleted_height (Trees.Subscript e i c) s h = ap height (sym (some_is (Trees.Subscript e i Del) s h))
+  deleted_height (Trees.Tuple es c) s h = mapped_keeps (λ fs. Trees.Tuple fs Del) (all_deleted es) s heights height (heights es + 1) (λ fs q. ap (λ n. n + 1) (deleted_heights es fs q)) h
+  deleted_height (Trees.ListOf es c) s h = mapped_keeps (λ fs. Trees.ListOf fs Del) (all_deleted es) s heights height (heights es + 1) (λ fs q. ap (λ n. n + 1) (deleted_heights es fs q)) h
+  deleted_height _ s h = absurd (cc)
+
+  deleted_heights : (es fs : Exprs) → all_deleted es ≡ Some fs → heights fs ≡ heights es
+  deleted_heights no_exprs fs h = ap heights (sym (some_is no_exprs fs h))
+  deleted_heights (an_expr e es) fs h = both_height (deleted e) (all_deleted es) fs (height e) (heights es) (λ s q. deleted_height e s q) (λ gs q. deleted_heights es gs q) h
+
+pub single_height : (e s : Expr) → single_stored e ≡ Some s → height s ≡ height e
+single_height (Trees.Name x c) s h = ap height (sym (some_is (Trees.Name x Store) s h))
+single_height (Trees.Attribute e x c) s h = ap height (sym (some_is (Trees.Attribute e x Store) s h))
+single_height (Trees.Subscript e i c) s h = ap height (sym (some_is (Trees.Subscript e i Store) s h))
+single_height _ s h = absurd (cc)
 
 -- arguments
 pub ordered_height : (k d : Bool) (es : List Entry) → in_order k d es ≡ true → entries_height es ≡ max (heights (positional es)) (keyword_heights (keywords es))

@@ -13,6 +13,12 @@ pub mod SoundLines
 pub mod Depth
 pub mod Answered
 pub mod Stays
+pub mod CapsTools
+pub mod CapsSimple
+pub mod CapsHeaders
+pub mod CapsBrackets
+pub mod CapsLines
+pub mod Limit
 mod WorkedFirst
 mod WorkedSecond
 mod WorkedThird
@@ -24,3 +30,4 @@ mod DrawnFirst
 mod DrawnSecond
 mod DrawnThird
 mod DrawnTypes
+mod WorkedHeights

@@ -3,11 +3,16 @@ use Rattle.pygrammar.specs.SourceLaws.{LinesAreLawful, BlocksAreLawful, AnswersA
 use Rattle.pygrammar.proofs.Line.Answered.{enough, read_or_not}
 use Rattle.pygrammar.proofs.Line.Depth.{at_depth}
 use Rattle.pygrammar.proofs.Line.Law.{one_form}
+use Rattle.pygrammar.proofs.Line.Limit.{line_limit_exactly, line_limit_meets}
 use Rattle.pygrammar.proofs.Line.SoundLines.{exactly}
 use Rattle.pygrammar.proofs.Line.Stays.{old_is_untyped}
 use Rattle.pygrammar.proofs.Block.Goes.{one_tree}
 use Rattle.pygrammar.proofs.Block.Law.{fault_or_tree, tree_faultless, one_first, no_first}
 use Rattle.pygrammar.proofs.Block.Answer.{one_answer, never_both, answer_stays}
+use Rattle.pygrammar.proofs.Block.Deep.{formed_flat, deep_is_high}
+use Rattle.pygrammar.proofs.Block.Total.{answered}
+use Rattle.pygrammar.proofs.Block.Reasons.{one_reason}
+use Rattle.pygrammar.proofs.Block.Types.{old_has_no_types}
 
 pub lines_are_lawful : LinesAreLawful
 lines_are_lawful = record {
@@ -15,6 +20,8 @@ lines_are_lawful = record {
   exact = exactly;
   decided = read_or_not;
   deep = λ profile d ts. (at_depth profile d ts, enough profile d ts);
+  limited = line_limit_exactly;
+  meets = line_limit_meets;
   new = old_is_untyped;
 }
 
@@ -31,4 +38,8 @@ answers_are_lawful = record {
   unique = λ profile s a b p q. one_answer p q;
   apart = λ profile s m r p q. never_both p q;
   stays = λ s m p. answer_stays p;
+  new = old_has_no_types;
+  total = answered;
+  one = λ profile s r q a b. one_reason a b;
+  depths = λ profile xs forms m p b. deep_is_high b (formed_flat p);
 }

@@ -17,6 +17,9 @@ pub mod LineReader
 pub mod Blocks
 pub mod Reading
 pub mod FormHeights
+pub mod LimitedLines
+pub mod Types
 pub mod Refusals
+pub mod Depths
 pub mod Laws
 pub mod SourceLaws

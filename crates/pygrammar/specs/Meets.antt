@@ -1,10 +1,14 @@
--- What the answer of a reader of expressions up to a height means.
+-- What the answer of a reader up to a height means: of expressions, and of a logical line.
 use Rattle.std.specs.Prelude.{ℕ, List, [], ◌∷◌, length, ◌≤◌, ◌<◌}
 use Rattle.pygrammar.specs.declared.levels.Level.{Level}
+use Rattle.pynode.specs.declared.profiles.Profile.{Profile}
 use Rattle.pynode.specs.Trees.{Expr}
 use Rattle.pytoken.specs.Terminals.{Terminal}
 use Rattle.pyheight.specs.Heights.{height}
 use Rattle.pygrammar.specs.Grammar.{Derives}
+use Rattle.pygrammar.specs.Lines.{Form}
+use Rattle.pygrammar.specs.Forms.{FormOf}
+use Rattle.pygrammar.specs.FormHeights.{form_height}
 use Rattle.pygrammar.specs.Reader.{Answer, Found, NoForm, TooDeep}
 
 -- at this level the list is no expression
@@ -22,3 +26,19 @@ Meets d l ts (Found e []) = Derives l ts e × (height e ≤ d)
 Meets d l ts (Found e (t ∷ r)) = Shapeless l ts
 Meets d l ts NoForm = Shapeless l ts
 Meets d l ts TooDeep = High d l ts
+
+-- the list is no form of a line
+abbrev pub Formless : Profile → List Terminal → Type 0
+Formless profile ts = (f : Form) → FormOf profile ts f → ⊥
+
+-- It is none of a height of at most d; and where it is none at all, it has more than d terminals.
+abbrev pub HighLine : Profile → ℕ → List Terminal → Type 0
+HighLine profile d ts = ((f : Form) → FormOf profile ts f → d < form_height f) × (Formless profile ts → d < length ts)
+
+-- The whole list is the form found, or it is none, or it is none of a height of at most d. No terminal is left over. The one free choice
+-- is that of expressions.
+abbrev pub LineMeets : Profile → ℕ → List Terminal → Answer Form → Type 0
+LineMeets profile d ts (Found f []) = FormOf profile ts f × (form_height f ≤ d)
+LineMeets profile d ts (Found f (t ∷ r)) = ⊥
+LineMeets profile d ts NoForm = Formless profile ts
+LineMeets profile d ts TooDeep = HighLine profile d ts

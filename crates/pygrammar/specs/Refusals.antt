@@ -1,6 +1,6 @@
 -- What is accepted in a version of Python, and what is refused where. A refusal of the tokens comes first, in the order that `refusal` gives; then the first line
 -- without a form, the first faulty line of the blocks, and the first statement that stands too deep.
-use Rattle.std.specs.Prelude.{◌≡◌, ℕ, suc, ◌+◌, ◌<◌, ◌≤◌, Bool, true, false, ◌&&◌, nat_lt, cond, List, [], ◌∷◌, ◌++◌, length, map, Option, Some, None}
+use Rattle.std.specs.Prelude.{◌≡◌, ℕ, suc, ◌+◌, ◌<◌, ◌≤◌, Bool, true, false, ◌&&◌, nat_lt, ◌==◌, cond, List, [], ◌∷◌, ◌++◌, length, map, Option, Some, None}
 use Rattle.std.specs.Str.{bytes_eq}
 use Rattle.pysource.specs.declared.places.Place.{Place}
 use Rattle.pylex.specs.Listing.{Source}
@@ -83,8 +83,8 @@ pub data FirstUnread (profile : Profile) : List Tokens.Line → ℕ → Code →
 -- the `elif`s of the `if` that a line of this kind belongs to, up to it; the lines before it nearest first
 abbrev pub elifs : Kind → ℕ → List Line → ℕ
 elifs k l [] = 0
-elifs ElifLine l (x ∷ earlier) = cond (nat_lt l x.level) (elifs ElifLine l earlier) (1 + elifs (kind_of x.form) l earlier)
-elifs ElseLine l (x ∷ earlier) = cond (nat_lt l x.level) (elifs ElseLine l earlier) (elifs (kind_of x.form) l earlier)
+elifs ElifLine l (x ∷ earlier) = cond (nat_lt l x.level) (elifs ElifLine l earlier) (cond (x.level == l) (1 + elifs (kind_of x.form) l earlier) 0)
+elifs ElseLine l (x ∷ earlier) = cond (nat_lt l x.level) (elifs ElseLine l earlier) (cond (x.level == l) (elifs (kind_of x.form) l earlier) 0)
 elifs _ l (x ∷ earlier) = 0
 
 -- how many statements stand round a line of this level: its header's, and the header and its `elif`s

@@ -1,16 +1,24 @@
 -- What holds of logical lines, of their blocks, and of the answer for a source.
-use Rattle.std.specs.Prelude.{◌≡◌, ◌⊎◌, ◌↔◌, ℕ, ◌<◌, true, List, [], length}
+use Rattle.std.specs.Prelude.{◌≡◌, ◌⊎◌, ◌↔◌, ℕ, ◌<◌, ◌≤◌, true, List, [], length, Contains}
+use Rattle.pysource.specs.declared.places.Place.{Place}
 use Rattle.pylex.specs.Listing.{Source}
 use Rattle.pynode.specs.declared.profiles.Profile.{Profile}
 use Rattle.pynode.specs.declared.profiles.Profile.TheVariants.{Py311, Py312}
 use Rattle.pynode.specs.Trees.{Stmt, Module}
+use Rattle.pyheight.specs.Heights.{statement_height}
+use Rattle.pytoken.specs.Tokens.{lines}
+use Rattle.pytoken.specs.Tokens as Tokens
 use Rattle.pytoken.specs.Terminals.{Terminal}
 use Rattle.pygrammar.specs.Reader.{Found, NoForm, TooDeep}
 use Rattle.pygrammar.specs.Lines.{Line, Form, untyped}
 use Rattle.pygrammar.specs.Forms.{FormOf}
 use Rattle.pygrammar.specs.LineReader.{read_line, read_line_to}
+use Rattle.pygrammar.specs.FormHeights.{form_height}
+use Rattle.pygrammar.specs.LimitedLines.{limit_line}
+use Rattle.pygrammar.specs.Meets.{LineMeets}
 use Rattle.pygrammar.specs.Blocks.{Block, Fault, FirstFault}
-use Rattle.pygrammar.specs.Refusals.{Reason, Accepted, Refused}
+use Rattle.pygrammar.specs.Types.{is_module_untyped}
+use Rattle.pygrammar.specs.Refusals.{Code, Reason, at, HasNone, Formed, FirstDeep, Accepted, Refused}
 
 -- in a version a line has at most one form
 abbrev pub FormsAreUnique : Type 0
@@ -30,6 +38,14 @@ abbrev pub DepthIsKept : Type 0
 DepthIsKept = (profile : Profile) (d : ℕ) (ts : List Terminal) →
     ((read_line_to profile d ts ≡ TooDeep) ⊎ (read_line_to profile d ts ≡ read_line profile ts)) × (length ts < d → read_line_to profile d ts ≡ TooDeep → ⊥)
 
+-- within a height it gives a line's form exactly where that is no higher
+abbrev pub LineLimitIsExact : Type 0
+LineLimitIsExact = (profile : Profile) (d : ℕ) (ts : List Terminal) (f : Form) → (FormOf profile ts f × (form_height f ≤ d)) ↔ (limit_line profile d ts ≡ Found f [])
+
+-- and each of its answers means what `LineMeets` says
+abbrev pub LineLimitMeets : Type 0
+LineLimitMeets = (profile : Profile) (d : ℕ) (ts : List Terminal) → LineMeets profile d ts (limit_line profile d ts)
+
 -- the forms of Python 3.11 are those of 3.12 without types
 abbrev pub TypesAreNew : Type 0
 TypesAreNew = (ts : List Terminal) (f : Form) → FormOf Py311 ts f ↔ (FormOf Py312 ts f × (untyped f ≡ true))
@@ -40,6 +56,8 @@ pub record LinesAreLawful : Type 0 where
   pub exact : LineReaderIsExact
   pub decided : FormsAreDecided
   pub deep : DepthIsKept
+  pub limited : LineLimitIsExact
+  pub meets : LineLimitMeets
   pub new : TypesAreNew
 
 -- lines have at most one tree
@@ -77,8 +95,33 @@ RefusedHaveNoModule = (profile : Profile) (s : Source) (m : Module) (r : Reason)
 abbrev pub ModulesStay : Type 0
 ModulesStay = (s : Source) (m : Module) → Accepted Py311 s m → Accepted Py312 s m
 
+-- and the sources of 3.11 are those of 3.12 whose trees have no types
+abbrev pub ModulesReturn : Type 0
+ModulesReturn = (s : Source) (m : Module) → Accepted Py311 s m ↔ (Accepted Py312 s m × (is_module_untyped m ≡ true))
+
+-- each source is accepted or refused
+abbrev pub SourcesAreAnswered : Type 0
+SourcesAreAnswered = (profile : Profile) (s : Source) → ((m : Module) × Accepted profile s m) ⊎ ((r : Reason) × Refused profile s r)
+
+-- the one free choice: a long line without any form may be refused by either of two reasons, at one place
+pub data IsFreeChoice (profile : Profile) (s : Source) : Reason → Reason → Type 0 where
+  free : {p : Place} {c d : Code} (x : Tokens.Line) → Contains (lines s) x → HasNone profile x → 500 < length x.tokens → IsFreeChoice profile s (at p c) (at p d)
+
+-- what is refused has one reason otherwise
+abbrev pub ReasonsAreUnique : Type 0
+ReasonsAreUnique = (profile : Profile) (s : Source) (r q : Reason) → Refused profile s r → Refused profile s q → (r ≡ q) ⊎ IsFreeChoice profile s r q
+
+-- where the lines of a source have a tree, a line begins a statement too deep exactly where the tree is too high
+abbrev pub DepthsAreHeights : Type 0
+DepthsAreHeights = (profile : Profile) (xs : List Tokens.Line) (forms : List Line) (m : Module) → Formed profile xs forms → Block 0 forms m.body →
+    ((n : ℕ) × FirstDeep [] forms n) ↔ (500 < statement_height m)
+
 -- the laws of the answer for a source
 pub record AnswersAreLawful : Type 0 where
   pub unique : ModulesAreUnique
   pub apart : RefusedHaveNoModule
   pub stays : ModulesStay
+  pub new : ModulesReturn
+  pub total : SourcesAreAnswered
+  pub one : ReasonsAreUnique
+  pub depths : DepthsAreHeights

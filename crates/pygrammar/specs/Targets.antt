@@ -41,7 +41,7 @@ abbrev mutual
   deleted (Trees.ListOf es c) = mapped (λ fs. Trees.ListOf fs Del) (all_deleted es)
   deleted _ = None
 
-  all_deleted : Exprs → Option Exprs
+  pub all_deleted : Exprs → Option Exprs
   all_deleted no_exprs = Some no_exprs
   all_deleted (an_expr e es) = both (deleted e) (all_deleted es)
 

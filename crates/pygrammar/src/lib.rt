@@ -13,9 +13,11 @@
 //! expression.
 //!
 //! `Lines` and `Forms` are the forms of a logical line in Python 3.11 and in 3.12, `LineReader` the
-//! reader of one. `Blocks` has the tree and the faults of lines, `Reading` the reading line by
-//! line. `Refusals` says which sources are accepted and which refused, `SourceLaws` that each has
-//! at most one answer, and that what 3.11 accepts 3.12 does.
+//! reader of one, `LimitedLines` that reader within a height. `Blocks` has the tree and the faults
+//! of lines, `Reading` the reading line by line. `Refusals` says which sources are accepted and
+//! which refused, and `Depths` counts line by line how many statements stand round the next one.
+//! `SourceLaws` says that each source has one answer, and that 3.11 accepts what 3.12 does of the
+//! sources without the `Types` of 3.12.
 #![tactic(auto)]
 
 mod levels;

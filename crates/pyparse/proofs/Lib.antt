@@ -1,5 +1,6 @@
 pub use Rattle.pytoken.proofs.Callers.TextLemmas
 mod ListingLemmas
+mod ExpressionLemmas
 mod RisingLemmas
 mod IndentLemmas
 mod PassLemmas

@@ -281,7 +281,7 @@ line_read p first old new e g h had read few gains ends none keep same =
       stands =
           subst (λ (ls : List Line). slice_get (lines s) (length ls) ≡ Some (line_at text front)) same
           (line_stands s k (line_at text front) more);
-      level = gains.level ∙ ap₂ (λ (a b : ℕ). a - b) had.counts.indents had.counts.dedents;
+      level = gains.level ends ∙ ap₂ (λ (a b : ℕ). a - b) had.counts.indents had.counts.dedents;
       terminals = kept.terminals;
       start = first_starts line h.start (had.counts.some parts.1) kept.start;
     }

@@ -1,3 +1,4 @@
 pub mod Answers
+pub mod Expressions
 pub mod LineReadings
 pub mod Inner

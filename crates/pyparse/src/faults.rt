@@ -2,16 +2,29 @@
 
 ghost use Rattle.std.specs.Prelude.{◌≡◌};
 
+use pysource::Place;
 use pytoken::Refusal;
 use std::alloc::AllocError;
 use thiserror::Error;
 
+/// What the grammar says against tokens.
+#[derive(Clone, Copy, Debug, PartialEq, Eq)]
+pub enum GrammarError {
+    /// They have no form.
+    Syntax,
+    /// Their form is too high.
+    TooDeep,
+}
+
 /// Why a source was not read.
 #[derive(Clone, Copy, Debug, PartialEq, Eq, Error)]
 pub enum ParseFault {
-    /// Something is wrong with the source.
+    /// Something is wrong with the source's tokens.
     #[error("refused source")]
     Refused(Refusal),
+    /// The grammar says this against the tokens that start here.
+    #[error("refused by the grammar")]
+    Grammar(GrammarError, Place),
     /// There was no memory.
     #[error("out of memory")]
     Memory,

@@ -11,6 +11,7 @@
 //! `LineReadings`.
 #![tactic(auto)]
 
+mod expressions;
 mod faults;
 mod gather;
 mod indents;
@@ -19,7 +20,8 @@ mod logical_lines;
 mod pass;
 mod tokens;
 
-pub use faults::ParseFault;
+pub use expressions::parse_expression;
+pub use faults::{GrammarError, ParseFault};
 pub use logical_lines::LogicalLines;
 pub use pyvalue::{
     Literal, LiteralText, Terminal, TerminalFault, name_fault, name_value, number_value,

@@ -1,7 +1,7 @@
 //! What one pass over a listing gathers of its lines: the tokens of the one that is open, and the
 //! first faults.
 
-ghost use Rattle.std.specs.Prelude.{◌≡◌, ◌^◌, ◌<◌, ◌-◌, ◌++◌, ◌&&◌, [], ◌∷◌, map, IfOk, OnOk, None};
+ghost use Rattle.std.specs.Prelude.{◌≡◌, ◌^◌, ◌<◌, ◌-◌, ◌++◌, ◌&&◌, [], ◌∷◌, map, IfOk, OnOk, None, true};
 ghost use Rattle.std.specs.Str.{chars, IsCharBoundary};
 ghost use Rattle.pylex.specs.Laws.{LiesIn};
 ghost use Rattle.pytoken.specs.Refusals.{entry_refusal};
@@ -49,7 +49,7 @@ pub(crate) struct LineGather<'a> {
     terminals: Vec<Terminal<'a>>,
     /// Where the first of them starts.
     start: Place,
-    /// The levels above 0 that were open before the last entry.
+    /// The levels above 0 that were open before the entry that ended the last line.
     level: usize,
     /// The INDENTs.
     indents: usize,
@@ -125,17 +125,19 @@ impl<'a> LineGather<'a> {
         }
     }
 
-    /// Counts an INDENT or a DEDENT, and keeps the levels that were open before it.
+    /// Counts an INDENT or a DEDENT, and where a line ends keeps the levels that were open before.
     #[inline(always)]
-    fn count(&mut self, kind: Kind)
+    fn count(&mut self, kind: Kind, ends: bool)
         requires indents { self.old.indents < 2 ^ 63 }
         requires dedents { self.old.dedents < 2 ^ 63 }
-        ensures level { self.new.level ≡ self.old.indents - self.old.dedents }
+        ensures level { ends ≡ true → self.new.level ≡ self.old.indents - self.old.dedents }
         ensures indents { self.new.indents ≡ counted self.old.indents (is_indent kind) }
         ensures dedents { self.new.dedents ≡ counted self.old.dedents (is_dedent kind) }
         ensures rest { self.new ≡ record self.old { level = self.new.level; indents = self.new.indents; dedents = self.new.dedents } }
     {
-        self.level = self.indents.saturating_sub(self.dedents);
+        if ends {
+            self.level = self.indents.saturating_sub(self.dedents);
+        }
         match kind {
             Kind::Indent => self.indents += 1,
             Kind::Dedent => self.dedents += 1,
@@ -163,7 +165,7 @@ impl<'a> LineGather<'a> {
         let ends = ends_open_line(entry.kind) && self.pass.has_begun();
         let faulty = self.push(alloc, source, entry)?;
         self.pass.take(source, entry, faulty)?;
-        self.count(entry.kind);
+        self.count(entry.kind, ends);
         Ok(ends)
     }
 
@@ -212,7 +214,7 @@ impl<'a> LineGather<'a> {
         self.start
     }
 
-    /// The levels above 0 that were open before the last entry.
+    /// The levels above 0 that were open before the entry that ended the last line.
     pub(crate) fn level(&self) -> usize
         ensures { result ≡ self.now.level }
     {

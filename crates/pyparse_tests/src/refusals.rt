@@ -14,6 +14,7 @@ fn refusal_of(alloc: Global, text: &str) -> Result<Option<Refusal>, Fail> {
     match tokens_of(alloc, &source) {
         Ok(_) => Ok(None),
         Err(ParseFault::Refused(refusal)) => Ok(Some(refusal)),
+        Err(ParseFault::Grammar(_, _)) => Err(Fail::from("no fault of tokens")),
         Err(ParseFault::Memory) => Err(Fail::from("no memory")),
     }
 }

@@ -95,6 +95,7 @@ fn string_terminal<'a>(text: &'a str) -> Result<Terminal<'a>, TerminalFault>
 }
 
 /// The terminal of an OP.
+#[inline(always)]
 fn operator_terminal<'a>(text: &'a str) -> Terminal<'a>
     ensures { terminal result ≡ terminal_of Kind.Op (chars text.now) }
 {
@@ -110,6 +111,7 @@ fn operator_terminal<'a>(text: &'a str) -> Terminal<'a>
 /// # Errors
 ///
 /// [`TerminalFault::Token`] by the fault that the token is by itself.
+#[inline(always)]
 pub fn terminal_of<'a>(
     alloc: Global,
     kind: Kind,

@@ -54,6 +54,7 @@ fn tell(rt: &HostRuntime, alloc: Global, token: &Token) -> Option<()> {
 fn tell_refusal(rt: &HostRuntime, fault: ParseFault) -> Option<()> {
     match fault {
         ParseFault::Refused(refusal) => println!(rt; "refused {refusal:?}").ok(),
+        ParseFault::Grammar(_, _) => None,
         ParseFault::Memory => None,
     }
 }

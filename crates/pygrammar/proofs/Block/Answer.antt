@@ -31,14 +31,14 @@ one_answer {a = a} {b = b} p q =
     let e : a.body ≡ b.body = one_tree (subst P (one_formed p.formed q.formed) p.block) q.block in
     ap module_of e
 
-unread_formed : {profile : Profile} {x : Tokens.Line} {f : Form} {c : Code} → HasForm profile x f → Unread profile x c → ⊥
+pub unread_formed : {profile : Profile} {x : Tokens.Line} {f : Form} {c : Code} → HasForm profile x f → Unread profile x c → ⊥
 unread_formed {f = f} h (too_high {f = g} p n) =
     let a : form_height f ≡ form_height g = ap form_height (one_form h.is p) in let b = h.low in omega arith
 unread_formed {f = f} h (no_match p e) = p f h.is
 unread_formed {f = f} h (no_form p e) = p f h.is
 unread_formed {f = f} h (too_long p n) = p f h.is
 
-unread_none : {profile : Profile} {xs : List Tokens.Line} {ys : List Line} {n : ℕ} {c : Code} → Formed profile xs ys → FirstUnread profile xs n c → ⊥
+pub unread_none : {profile : Profile} {xs : List Tokens.Line} {ys : List Line} {n : ℕ} {c : Code} → Formed profile xs ys → FirstUnread profile xs n c → ⊥
 unread_none formed_end h = elim h [ ]
 unread_none (formed_line p q) (unread h) = unread_formed p h
 unread_none (formed_line p q) (unread_behind r h) = unread_none q h

@@ -10,19 +10,19 @@ use Rattle.pygrammar.proofs.Block.Sound.{read_gives}
 use Rattle.pygrammar.proofs.Block.Law.{read_finds, Finds}
 
 -- a name; the statement of it; a line of it
-v : ℕ → Expr
+pub v : ℕ → Expr
 v n = Trees.Name (n ∷ []) Load
 
-abbrev s : ℕ → List Stmt
+abbrev pub s : ℕ → List Stmt
 s n = ExprOf (v n) ∷ []
 
-abbrev says : ℕ → ℕ → Line
+abbrev pub says : ℕ → ℕ → Line
 says l n = line l (simple_form (s n))
 
-abbrev head : ℕ → Header → Line
+abbrev pub head : ℕ → Header → Line
 head l h = line l (header_form h None)
 
-abbrev short : ℕ → Header → ℕ → Line
+abbrev pub short : ℕ → Header → ℕ → Line
 short l h n = line l (header_form h (Some (s n)))
 
 refused : (xs rest : List Line) (f : Fault) → read xs ≡ Faulty f → stops xs start ≡ rest → FirstFault [] xs rest f

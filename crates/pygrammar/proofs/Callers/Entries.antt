@@ -7,11 +7,17 @@ use Rattle.pygrammar.specs.Entries.{Entry}
 use Rattle.pygrammar.specs.Inner.EntryHeights.{entries_height}
 use Rattle.pygrammar.specs.Arguments.{called}
 use Rattle.pygrammar.specs.Parameters.{arranged}
-use Rattle.pygrammar.specs.Targets.{stored}
+use Rattle.pygrammar.specs.Targets.{stored, deleted, single_stored}
 use Rattle.pygrammar.proofs.HeightLemmas
 
 pub stored_height : (e s : Expr) → stored e ≡ Some s → height s ≡ height e
 stored_height = HeightLemmas.stored_height
+
+pub single_height : (e s : Expr) → single_stored e ≡ Some s → height s ≡ height e
+single_height = HeightLemmas.single_height
+
+pub deleted_height : (e s : Expr) → deleted e ≡ Some s → height s ≡ height e
+deleted_height = HeightLemmas.deleted_height
 
 pub called_height : (f e : Expr) (es : List Entry) → called f es ≡ Some e → height e ≡ max (height f) (entries_height es) + 1
 called_height = HeightLemmas.called_height

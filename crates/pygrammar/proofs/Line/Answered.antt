@@ -212,7 +212,7 @@ module _ (self : Reads) (b : ℕ) (all : GoodTo b self) where
   g_front profile [] w = tt
   g_front profile (t ∷ r) w = g_line_of profile (kind t) (t ∷ r) r w (omega (arith, w))
 
-  g_line : (profile : Profile) (i : List Terminal) → length i < b → Good b (line profile self i)
+  pub g_line : (profile : Profile) (i : List Terminal) → length i < b → Good b (line profile self i)
   g_line profile i w = good_then b b _ _ (g_front profile i w) (λ f r p. g_none b r _ _ (omega (arith, w)) tt)
 
 -- above the number of terminals no depth is too deep

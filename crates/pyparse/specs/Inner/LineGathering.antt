@@ -56,7 +56,7 @@ pub record Adds (text : List ℕ) (e : Entry) (old new : LineGather) : Type 0 wh
 -- what is gathered behind one entry more
 pub record Takes (text : List ℕ) (e : Entry) (old new : LineGather) : Type 0 where
   pub pass : Gains text e (entry_refusal text e) old.pass new.pass
-  pub level : new.level ≡ old.indents - old.dedents
+  pub level : ended_by e old.pass.begun ≡ true → new.level ≡ old.indents - old.dedents
   pub indents : new.indents ≡ counted old.indents (is_indent e.kind)
   pub dedents : new.dedents ≡ counted old.dedents (is_dedent e.kind)
   pub line : entry_refusal text e ≡ None → Adds text e old new

@@ -1,0 +1,11 @@
+use Rattle.std.proofs.Common.{sym, ◌∙◌}
+use Rattle.std.specs.Str.{chars}
+use Rattle.std.proofs.lemmas.Str.{chars_from_encodes}
+use Rattle.unicode_normalization.specs.Forms.{nfkc}
+use Rattle.pyexpr.proofs.makers.identifier_of.Goals as goal
+
+pub returns : goal.returns
+returns c =
+    let spelled = chars_from_encodes (nfkc (chars c.args.text.now)) c.as_str.result.now c.as_str.utf8
+    (sym (c.as_str.ensures.value ∙ c.in_ok-form.ensures)) in
+    c.in_ok-new.ensures.value ∙ sym spelled

@@ -1,0 +1,10 @@
+use Rattle.std.proofs.Common.{refl, sym}
+use Rattle.pynode.proofs.Callers.ExprShapes.{starred_tree}
+use Rattle.pyexpr.proofs.TargetShapes.{not_starred}
+use Rattle.pyexpr.proofs.targets.is_starred.Goals as goal
+
+pub returns-in-Starred : goal.returns-in-Starred
+returns-in-Starred c = rw (c.in-Starred.is, starred_tree) refl
+
+pub returns-in_default : goal.returns-in_default
+returns-in_default c = sym (not_starred c.args.e.now c.in_default.not-Starred)
