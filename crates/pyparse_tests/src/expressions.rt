@@ -383,7 +383,6 @@ fn none_at_all(rt: HostRuntime) -> Result<(), Fail> {
         "not",
         "a if b",
         "a not b",
-        "(a",
         "a := b",
         "f(a=1, b)",
         "f(**a, *b)",
