@@ -1,4 +1,5 @@
--- What callers compute with: when a cursor is one of a source, the steps of a listing behind its first ones, and the lexemes of a text.
+-- What callers compute with: when a cursor is one of a source, the steps of a listing behind its first ones, the lexemes of a text, and the machine's
+-- run over these.
 use Rattle.std.proofs.Common.{◌≡◌, ℕ, zero, suc, ◌+◌, ◌≤◌, Bool, true, false, ◌&&◌, ◌==◌, List, [], ◌∷◌, drop, length, refl, sym, ap, ◌∙◌, subst, Some, None, slice_get, nat_le, arith}
 use Rattle.std.proofs.lemmas.Bool.Decides.{nat_tests}
 use lib.Pointwise.{bytes_decides}
@@ -11,12 +12,14 @@ use Rattle.pylexeme.specs.Cuts.{begins_thing}
 use Rattle.pylexeme.specs.Lexemes.{Lexeme, lexeme_at, cut, left_by_cut}
 use Rattle.pylex.specs.Lines.{is_thing}
 use Rattle.pylex.specs.Cursors.{CursorParts, cursor, flag, same_parts}
-use Rattle.pylex.specs.Laws.{LiesIn, AllLie, IsCut, LongestWins}
+use Rattle.pylex.specs.Laws.{LiesIn, AllLie, AreLexemes, IsCut, LongestWins}
+use Rattle.pylex.specs.Machine.{remaining, first_state}
 use Rattle.pylex.specs.Listing.{Source, listing, rest, up_to_end, mark, origin, steps_from}
 use Rattle.pylex.specs.Standing.{is_cursor_of, IsCursorOf}
 use Rattle.pylex.specs.Steps.{entries_of, fault_of}
 use Rattle.pylex.proofs.Finding as finding
 use Rattle.pylex.proofs.Lexed as lexed
+use Rattle.pylex.proofs.Run as run
 
 equals_itself : (n : ℕ) → (n == n) ≡ true
 equals_itself n = grind (arith, nat_tests)
@@ -132,6 +135,9 @@ entry_lies text (steps.End ∷ ss) zero e l h = cc
 entry_lies text (steps.Fault f ∷ ss) zero e l h = cc
 entry_lies text (s ∷ ss) (suc k) e l h = entry_lies text ss k e l.1 h
 
+pub cut_lexed : (text : List ℕ) → AreLexemes text (cut text) (left_by_cut text)
+cut_lexed = lexed.cut_lexed
+
 pub is_cut : (text : List ℕ) → IsCut text
 is_cut = lexed.is_cut
 
@@ -141,3 +147,7 @@ longest_wins = lexed.longest_wins
 -- a lexeme makes its line logical exactly where it is seen to
 pub thing_is : (text : List ℕ) (x : Lexeme) → lexeme_at text ≡ Some x → is_thing x ≡ begins_thing text
 thing_is = finding.thing_is
+
+-- a source is listed as the machine runs over its lexemes
+pub listing_is : (s : Source) → listing s ≡ mark kinds.Encoding [] origin origin ∷ remaining s.fault first_state s.text
+listing_is = run.listing_is
