@@ -1,1 +1,3 @@
-pub mod Forgetting
+mod Forgetting
+mod LevelLemmas
+mod DepthLemmas

@@ -1,6 +1,7 @@
 //! What a level has open.
 
 ghost use Rattle.std.specs.Prelude.{◌≡◌};
+ghost use Rattle.std.specs.List.{list_all};
 ghost use Rattle.pyoutline.specs.Inner.Steps.{ended, goes_on, is_whole, next};
 
 use crate::shapes::{Clause, Shape};
@@ -91,4 +92,11 @@ impl Group {
             Shape::Opening { clause } | Shape::Inline { clause } => self.goes_on(clause),
         }
     }
+}
+
+/// Whether all of these may end.
+pub(crate) fn are_whole(groups: &[Group]) -> bool
+    ensures { result ≡ list_all is_whole groups.now }
+{
+    groups.iter().all(|group| group.is_whole())
 }

@@ -8,9 +8,13 @@
 //! The words of contracts are `pygrammar`'s, and here in `specs/` those of `Faults` and `Outlines`.
 #![tactic(auto)]
 
+mod depths;
 mod faults;
 mod groups;
+mod levels;
 mod shapes;
 
 pub use faults::{BlockFault, Stop};
+pub(crate) use depths::Depths;
+pub(crate) use levels::Levels;
 pub(crate) use shapes::shape_of;

@@ -5,6 +5,8 @@
 ghost use Rattle.std.specs.Prelude.{◌≡◌};
 ghost use Rattle.pyform.specs.FormOf.{form_of, header_of};
 ghost use Rattle.pyoutline.specs.Outlines.{clause_of, shape_of};
+ghost use Rattle.pyoutline.specs.Inner.Counting.{clause_in};
+ghost use Rattle.pyoutline.specs.Inner.Steps.{opens};
 
 use pyform::{Form, Header};
 
@@ -48,6 +50,25 @@ pub(crate) enum Shape {
     Inline {
         clause: Clause,
     },
+}
+
+impl Shape {
+    /// What a header begins or goes on with, if the line is one.
+    pub(crate) fn clause(self) -> Option<Clause>
+        ensures { result ≡ clause_in self }
+    {
+        match self {
+            Shape::Simple | Shape::Decorator => None,
+            Shape::Opening { clause } | Shape::Inline { clause } => Some(clause),
+        }
+    }
+
+    /// Whether its block is the lines that follow.
+    pub(crate) fn opens(self) -> bool
+        ensures { result ≡ opens self }
+    {
+        matches!(self, Shape::Opening { clause: _ })
+    }
 }
 
 /// What a header begins or goes on with.

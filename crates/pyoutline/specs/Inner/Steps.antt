@@ -1,5 +1,6 @@
 -- The reading of blocks without the trees.
-use Rattle.std.specs.Prelude.{ℕ, Bool, true, false, not, ◌||◌, nat_lt, cond, List, [], ◌∷◌, length, Option, Some, None}
+use Rattle.std.specs.Prelude.{ℕ, Bool, true, false, ◌&&◌, nat_lt, cond, List, [], ◌∷◌, length, Option, Some, None}
+use Rattle.std.specs.List.{list_all}
 use Rattle.pygrammar.specs.Blocks.{ExpectedIndent, UnexpectedIndent, MisplacedClause, same_bool}
 use Rattle.pygrammar.specs.Reading.{Answer, Fine, Faulty, then}
 use Rattle.pyoutline.specs.declared.shapes.Clause.{Clause}
@@ -81,6 +82,14 @@ placed l x s = cond (nat_lt (length s.below) l) (Faulty UnexpectedIndent) (place
 
 abbrev pub step : ℕ → Shape → Levels → Answer Levels
 step l x s = then (settle l s) (placed l x)
+
+-- whether the last line waits for a block
+abbrev pub awaits_block : Levels → Bool
+awaits_block s = elim s.below [ [] ↦ false | _ ∷ _ ↦ s.fresh ]
+
+-- whether what the levels have open may end
+abbrev pub is_all_whole : Levels → Bool
+is_all_whole s = is_whole s.group && list_all is_whole s.below
 
 -- all levels come to their end
 abbrev pub finish : Levels → Answer (Unit {0})
