@@ -10,12 +10,9 @@ use Rattle.pygrammar.specs.Reading as reading
 use Rattle.pyoutline.specs.declared.shapes.Shape.TheVariants as shape
 use Rattle.pyoutline.specs.declared.groups.Group.TheVariants as group
 use Rattle.pyoutline.specs.declared.groups.Group as bare
-use Rattle.pyoutline.specs.Outlines.{clause_of, shape_of, group_of, awaited, Levels, levels, outline}
+use Rattle.pyoutline.specs.Outlines.{group_of, awaited, Levels, levels, outline, outlined}
+use Rattle.pyoutline.specs.Inner.Shapes.{clause_of, shape_of}
 use Rattle.pyoutline.specs.Inner.Steps.{is_whole, ended, goes_on, next, opens, settle_in, settle, place, placed, step, finish}
-
--- an answer without the trees
-abbrev pub outlined : Answer State → Answer Levels
-outlined a = then a (λ s. Fine (outline s))
 
 -- a reading that is done, without its statements
 abbrev pub bare_end : Answer (List Stmt) → Answer (Unit {0})

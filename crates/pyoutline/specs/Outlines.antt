@@ -1,36 +1,16 @@
--- The outline of lines: what their reading keeps of them, without the trees.
-use Rattle.std.specs.Prelude.{◌≡◌, ℕ, Bool, List, [], ◌∷◌, map, reverse, Option, Some, None, min}
-use Rattle.pygrammar.specs.Lines.{Line, Header, if_header, elif_header, else_header, loop_header, with_header, try_header, except_header, finally_header, def_header, Form, simple_form, decorator_form, header_form}
-use Rattle.pygrammar.specs.Reading.{Answer, Fine, then, Waiting, State, start, grows, run}
+-- The outline of lines: what their reading keeps of them without the trees, and how deep their last ones stand.
+use Rattle.std.specs.Prelude.{◌≡◌, ℕ, Bool, List, [], map, reverse, min}
+use Rattle.pygrammar.specs.Lines.{Line}
+use Rattle.pygrammar.specs.Reading.{Answer, Fine, then, grows, Waiting, State, start, run}
 use Rattle.pygrammar.specs.Reading as reading
 use Rattle.pygrammar.specs.Depths.{Depth, count}
-use Rattle.pyoutline.specs.declared.shapes.Clause.{Clause}
-use Rattle.pyoutline.specs.declared.shapes.Clause.TheVariants as clause
-use Rattle.pyoutline.specs.declared.shapes.Shape.{Shape}
-use Rattle.pyoutline.specs.declared.shapes.Shape.TheVariants as shape
 use Rattle.pyoutline.specs.declared.groups.Group.{Group}
 use Rattle.pyoutline.specs.declared.groups.Group.TheVariants as group
+use Rattle.pyoutline.specs.declared.levels.Levels as given_levels
+use Rattle.pyoutline.specs.declared.depths.Last as given_last
+use Rattle.pyoutline.specs.declared.outlines.Outline.{Outline}
 
--- ---- Without the trees.
-
--- a header
-abbrev pub clause_of : Header → Clause
-clause_of (if_header _) = clause.If
-clause_of (elif_header _) = clause.Elif
-clause_of else_header = clause.Else
-clause_of (loop_header _) = clause.Loop
-clause_of (with_header _ _) = clause.With
-clause_of try_header = clause.Try
-clause_of (except_header star _ _) = clause.Except star
-clause_of finally_header = clause.Finally
-clause_of (def_header _) = clause.Def
-
--- the form of a line
-abbrev pub shape_of : Form → Shape
-shape_of (simple_form _) = shape.Simple
-shape_of (decorator_form _) = shape.Decorator
-shape_of (header_form h None) = shape.Opening (clause_of h)
-shape_of (header_form h (Some _)) = shape.Inline (clause_of h)
+-- ---- What is kept of a reading.
 
 -- the statement that a level has open
 abbrev pub group_of : reading.Group → Group
@@ -56,5 +36,32 @@ pub record Levels : Type 0 where
 abbrev pub levels : Group → Bool → List Group → Levels
 levels g fresh below = record { group = g; fresh = fresh; below = below }
 
+-- of a state of the reading
 abbrev pub outline : State → Levels
 outline s = levels (group_of s.group) s.fresh (map awaited s.below)
+
+-- and of its answer
+abbrev pub outlined : Answer State → Answer Levels
+outlined a = then a (λ s. Fine (outline s))
+
+-- ---- What is kept of depths.
+
+-- no more is counted than 500, from which on a statement stands too deep
+abbrev pub capped : Depth → Depth
+capped d = record { level = d.level; round = min 500 d.round; arms = min 500 d.arms }
+
+-- ---- What the program keeps. The deepest level stands last there.
+
+abbrev pub levels_of : given_levels.Levels → Levels
+levels_of s = levels s.group s.fresh (reverse s.below.items)
+
+abbrev pub last_of : given_last.Last → Depth
+last_of d = record { level = d.level; round = d.round; arms = d.arms }
+
+abbrev pub lasts_of : List given_last.Last → List Depth
+lasts_of ds = reverse (map last_of ds)
+
+-- it is what is kept of these lines, none of which is faulty
+pub record Follows (xs : List Line) (o : Outline) : Type 0 where
+  pub read : outlined (run xs start) ≡ Fine (levels_of o.levels)
+  pub counted : lasts_of o.depths.lasts.items ≡ map capped (count [] xs)

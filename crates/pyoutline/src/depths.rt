@@ -2,8 +2,8 @@
 
 ghost use Rattle.std.specs.Prelude.{◌≡◌, ◌+◌, ◌∷◌, [], suc, min, IfOk};
 ghost use Rattle.pygrammar.specs.Depths.{under};
+ghost use Rattle.pyoutline.specs.Outlines.{lasts_of};
 ghost use Rattle.pyoutline.specs.Inner.Counting.{Counts, arms_top, deep_in, round_top};
-ghost use Rattle.pyoutline.specs.Inner.Values.{last_of, lasts_of};
 
 use crate::shapes::{Clause, Shape};
 use std::alloc::{AllocError, Global};

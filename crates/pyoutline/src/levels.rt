@@ -3,9 +3,8 @@
 ghost use Rattle.std.specs.Prelude.{◌≡◌, IfErr, OnOk};
 ghost use Rattle.pygrammar.specs.Reading.{Fine, start};
 ghost use Rattle.pyoutline.specs.Faults.{Tells};
-ghost use Rattle.pyoutline.specs.Outlines.{outline};
+ghost use Rattle.pyoutline.specs.Outlines.{levels_of, outline};
 ghost use Rattle.pyoutline.specs.Inner.Steps.{awaits_block, is_all_whole, finish, place, settle, step};
-ghost use Rattle.pyoutline.specs.Inner.Values.{levels_of};
 
 use crate::faults::{BlockFault, Stop};
 use crate::groups::{Group, are_whole};

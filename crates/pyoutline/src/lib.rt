@@ -12,9 +12,8 @@ mod depths;
 mod faults;
 mod groups;
 mod levels;
+mod outlines;
 mod shapes;
 
 pub use faults::{BlockFault, Stop};
-pub(crate) use depths::Depths;
-pub(crate) use levels::Levels;
-pub(crate) use shapes::shape_of;
+pub use outlines::Outline;

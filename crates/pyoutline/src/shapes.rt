@@ -4,7 +4,7 @@
 
 ghost use Rattle.std.specs.Prelude.{◌≡◌};
 ghost use Rattle.pyform.specs.FormOf.{form_of, header_of};
-ghost use Rattle.pyoutline.specs.Outlines.{clause_of, shape_of};
+ghost use Rattle.pyoutline.specs.Inner.Shapes.{clause_of, shape_of};
 ghost use Rattle.pyoutline.specs.Inner.Counting.{clause_in};
 ghost use Rattle.pyoutline.specs.Inner.Steps.{opens};
 

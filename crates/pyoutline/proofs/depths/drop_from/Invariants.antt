@@ -1,6 +1,6 @@
 use Rattle.std.proofs.Common.{◌≡◌, length}
 use Rattle.pygrammar.specs.Depths.{under}
-use Rattle.pyoutline.specs.Inner.Values.{lasts_of}
+use Rattle.pyoutline.specs.Outlines.{lasts_of}
 use Rattle.pyoutline.proofs.depths.drop_from.Given as goal
 
 abbrev pub invariant-loop-last : goal.invariant-loop-last

@@ -1,5 +1,5 @@
 use Rattle.std.proofs.Common.{sym}
-use Rattle.pyoutline.specs.Inner.Values.{levels_of}
+use Rattle.pyoutline.specs.Outlines.{levels_of}
 use Rattle.pyoutline.proofs.LevelLemmas.{finish_misplaced, finish_fine}
 use Rattle.pyoutline.proofs.levels.Levels.finish.Goals as goal
 

@@ -1,6 +1,6 @@
 use Rattle.std.proofs.Common.{◌∙◌, sym, length, arith}
 use Rattle.std.proofs.lemmas.List.{length-reverse}
-use Rattle.pyoutline.specs.Inner.Values.{levels_of}
+use Rattle.pyoutline.specs.Outlines.{levels_of}
 use Rattle.pyoutline.proofs.LevelLemmas.{settle_stays, settle_fresh, settle_misplaced}
 use Rattle.pyoutline.proofs.levels.Levels.settle.Goals as goal
 

@@ -1,6 +1,6 @@
 use Rattle.std.proofs.Common.{◌≡◌, length}
 use Rattle.pyoutline.specs.Inner.Steps.{settle}
-use Rattle.pyoutline.specs.Inner.Values.{levels_of}
+use Rattle.pyoutline.specs.Outlines.{levels_of}
 use Rattle.pyoutline.proofs.levels.Levels.settle.Given as goal
 
 abbrev pub invariant-loop-level : goal.invariant-loop-level
