@@ -1,9 +1,9 @@
 -- Carries: drop_deeper, drop_from, Depths::step. On: the count of depths by shapes, no further than it counts.
-use Rattle.std.proofs.Common.{◌≡◌, ℕ, suc, ◌+◌, ◌-◌, ◌<◌, ◌≤◌, min, List, [], ◌∷◌, ◌++◌, length, map, reverse, Option, Some, None, Bool, true, false, cond, refl, sym, ap, ◌∙◌, arith}
+use Rattle.std.proofs.Common.{◌≡◌, ℕ, suc, ◌+◌, ◌<◌, ◌≤◌, min, List, [], ◌∷◌, ◌++◌, map, reverse, Option, Some, None, Bool, true, false, cond, refl, sym, ap, ◌∙◌, arith}
 use Rattle.std.specs.Prelude.{nat_lt, nat_le, ◌==◌}
 use borrow.Author.Tests.{ltb-true, ltb-false, lt-ltb, leb-true, le-leb}
 use Rattle.std.proofs.lemmas.List.{map-append, reverse-append}
-use Rattle.pygrammar.specs.Lines.{Line, line, Header, if_header, elif_header, else_header, Form, simple_form, decorator_form, header_form}
+use Rattle.pygrammar.specs.Lines.{line, Header, if_header, elif_header, else_header, Form, simple_form, decorator_form, header_form}
 use Rattle.pygrammar.specs.Blocks.{Kind, ElifLine, ElseLine, kind_of, header_kind}
 use Rattle.pygrammar.specs.Refusals.{is_clause}
 use Rattle.pygrammar.specs.Depths.{Depth, round_at, arms_at, under, depth_of, counted, begins, innermost, is_deep}

@@ -1,9 +1,9 @@
 -- Carries: Outline. On: the reading of blocks, whose steps are those of its outline: `step_outlined`, `finish_outlined`.
-use Rattle.std.proofs.Common.{◌≡◌, ℕ, suc, ◌+◌, ◌≤◌, List, [], ◌∷◌, ◌++◌, length, map, Option, Some, None, Bool, true, false, cond, refl, sym, ap, ◌∙◌}
+use Rattle.std.proofs.Common.{◌≡◌, ℕ, suc, List, [], ◌∷◌, ◌++◌, length, map, Option, Some, None, Bool, true, false, cond, refl, sym, ap, ◌∙◌}
 use Rattle.std.specs.Prelude.{nat_lt}
 use Rattle.std.proofs.lemmas.List.{length-map}
 use Rattle.pynode.specs.Trees.{Expr, Stmt}
-use Rattle.pygrammar.specs.Lines.{Line, line, Header, DefHead, if_header, elif_header, else_header, loop_header, with_header, try_header, except_header, finally_header, def_header, Form, simple_form, decorator_form, header_form}
+use Rattle.pygrammar.specs.Lines.{Line, Header, DefHead, if_header, elif_header, else_header, loop_header, with_header, try_header, except_header, finally_header, def_header, Form, simple_form, decorator_form, header_form}
 use Rattle.pygrammar.specs.Blocks.{Fault, ExpectedIndent, UnexpectedIndent, MisplacedClause, same_bool}
 use Rattle.pygrammar.specs.Reading.{Answer, Fine, Faulty, then, Group, Idle, Marked, Choice, Loop, Trial, Caught, Settled, closes, Part, part, meets, grows, decorated, or_misplaced, place_header, Waiting, waiting, State, state, start, joined}
 use Rattle.pygrammar.specs.Reading as reading
@@ -12,7 +12,7 @@ use Rattle.pyoutline.specs.declared.groups.Group.TheVariants as group
 use Rattle.pyoutline.specs.declared.groups.Group as bare
 use Rattle.pyoutline.specs.Outlines.{group_of, awaited, Levels, levels, outline, outlined}
 use Rattle.pyoutline.specs.Inner.Shapes.{clause_of, shape_of}
-use Rattle.pyoutline.specs.Inner.Steps.{is_whole, ended, goes_on, next, opens, settle_in, settle, place, placed, step, finish}
+use Rattle.pyoutline.specs.Inner.Steps.{is_whole, ended, goes_on, next, opens, settle_in, place, placed, step, finish}
 
 -- a reading that is done, without its statements
 abbrev pub bare_end : Answer (List Stmt) → Answer (Unit {0})

@@ -5,7 +5,7 @@ use Rattle.pygrammar.specs.Lines.{Line, line, Form}
 use Rattle.pygrammar.specs.Blocks.{Block, Fault}
 use Rattle.pygrammar.specs.Reading.{Answer, Fine, Faulty, State, start, run}
 use Rattle.pygrammar.specs.Reading as reading
-use Rattle.pygrammar.specs.Depths.{Depth, counted, count, innermost, is_deep}
+use Rattle.pygrammar.specs.Depths.{Depth, count, innermost, is_deep}
 use Rattle.pygrammar.proofs.Callers.Blocks.{step_on, fault_found, end_fault_found, block_found, count_on}
 use Rattle.pyoutline.specs.declared.faults.Stop.{Stop}
 use Rattle.pyoutline.specs.declared.faults.Stop.TheVariants as stop

@@ -1,5 +1,5 @@
 -- The outline of lines: what their reading keeps of them without the trees, and how deep their last ones stand.
-use Rattle.std.specs.Prelude.{◌≡◌, ℕ, Bool, List, [], map, reverse, min}
+use Rattle.std.specs.Prelude.{◌≡◌, Bool, List, [], map, reverse, min}
 use Rattle.pygrammar.specs.Lines.{Line}
 use Rattle.pygrammar.specs.Reading.{Answer, Fine, then, grows, Waiting, State, start, run}
 use Rattle.pygrammar.specs.Reading as reading

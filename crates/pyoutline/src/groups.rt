@@ -20,9 +20,7 @@ pub(crate) enum Group {
     /// A `try` alone.
     Trial,
     /// A `try` and its `except`s.
-    Caught {
-        star: bool,
-    },
+    Caught { star: bool },
     /// These and an `else`.
     Settled,
 }

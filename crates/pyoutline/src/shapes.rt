@@ -26,9 +26,7 @@ pub(crate) enum Clause {
     /// `try`: 8.4 "The `try` statement".
     Try,
     /// `except`: 8.4.1 "`except` clause"; with a star: 8.4.2 "`except*` clause".
-    Except {
-        star: bool,
-    },
+    Except { star: bool },
     /// `finally`: 8.4.4 "`finally` clause".
     Finally,
     /// `def` or `class`: 8.7 "Function definitions", 8.8 "Class definitions".
@@ -43,13 +41,9 @@ pub(crate) enum Shape {
     /// A decorator.
     Decorator,
     /// A header whose block is the lines that follow.
-    Opening {
-        clause: Clause,
-    },
+    Opening { clause: Clause },
     /// A header with its block behind its colon.
-    Inline {
-        clause: Clause,
-    },
+    Inline { clause: Clause },
 }
 
 impl Shape {

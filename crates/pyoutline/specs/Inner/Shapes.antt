@@ -1,5 +1,5 @@
 -- Lines without the trees.
-use Rattle.std.specs.Prelude.{List, Some, None}
+use Rattle.std.specs.Prelude.{Some, None}
 use Rattle.pygrammar.specs.Lines.{Header, if_header, elif_header, else_header, loop_header, with_header, try_header, except_header, finally_header, def_header, Form, simple_form, decorator_form, header_form}
 use Rattle.pyoutline.specs.declared.shapes.Clause.{Clause}
 use Rattle.pyoutline.specs.declared.shapes.Clause.TheVariants as clause

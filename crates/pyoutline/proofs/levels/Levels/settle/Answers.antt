@@ -1,4 +1,4 @@
-use Rattle.std.proofs.Common.{◌∙◌, sym, length, arith}
+use Rattle.std.proofs.Common.{◌∙◌, sym, arith}
 use Rattle.std.proofs.lemmas.List.{length-reverse}
 use Rattle.pyoutline.specs.Outlines.{levels_of}
 use Rattle.pyoutline.proofs.LevelLemmas.{settle_stays, settle_fresh, settle_misplaced}
