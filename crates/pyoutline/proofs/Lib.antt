@@ -1,0 +1,4 @@
+mod Forgetting
+mod LevelLemmas
+mod DepthLemmas
+mod OutlineLemmas
