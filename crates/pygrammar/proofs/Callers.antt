@@ -6,3 +6,4 @@ pub mod Lines
 pub mod Terminals
 pub mod Entries
 pub mod Blocks
+pub mod Readings

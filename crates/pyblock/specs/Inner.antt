@@ -1,0 +1,3 @@
+pub mod Values
+pub mod Meeting
+pub mod Levels
