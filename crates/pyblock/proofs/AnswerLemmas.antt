@@ -2,7 +2,7 @@
 use Rattle.std.proofs.Common.{◌≡◌, List, [], ◌∷◌, ◌++◌, ap, subst}
 use Rattle.pygrammar.specs.Lines.{Line}
 use Rattle.pygrammar.specs.Reading.{Answer, Fine, then, State, start, step, run, finish}
-use Rattle.pygrammar.proofs.Callers.Readings.{reads_more, reads_block, faulty_line, faulty_end}
+use Rattle.pygrammar.proofs.Callers.Blocks.{step_on, fault_found, end_fault_found, block_found}
 use Rattle.pyblock.specs.declared.faults.Stop.{Stop}
 use Rattle.pyblock.specs.declared.faults.Stop.TheVariants as stop
 use Rattle.pyblock.specs.Faults.{fault_of, Blames, Tells}
@@ -17,13 +17,13 @@ tells_along {A} a b e h t = let P : Answer A → Type 0 = λ z. Tells z e in sub
 
 -- a line that is refused is the first faulty one
 pub line_blamed : (xs more : List Line) (x : Line) (s : State) (e : Stop) → run xs start ≡ Fine s → Tells (step s x) e → Blames (xs ++ x ∷ more) (x ∷ more) e
-line_blamed xs more x s (stop.Faulty f) h t = faulty_line xs more x s (fault_of f) h t
+line_blamed xs more x s (stop.Faulty f) h t = fault_found xs x s (fault_of f) h t more
 line_blamed xs more x s stop.Memory h t = tt
 
 -- and so is an end
 pub end_blamed : (xs : List Line) (s : State) (e : Stop) → run xs start ≡ Fine s → Tells (finish s) e → Blames xs [] e
-end_blamed xs s (stop.Faulty f) h t = faulty_end xs s (fault_of f) h t
+end_blamed xs s (stop.Faulty f) h t = end_fault_found xs s (fault_of f) h t
 end_blamed xs s stop.Memory h t = tt
 
 -- what the answers say of the lines
-pub ruleset reading = (reads_more, reads_block, line_blamed, end_blamed)
+pub ruleset reading = (step_on, block_found, line_blamed, end_blamed)

@@ -1,17 +1,16 @@
 -- Carries: Stack. On: what comes to its end, and what a line makes of the deepest level.
 use Rattle.std.proofs.Common.{◌≡◌, ℕ, suc, ◌+◌, ◌<◌, ◌≤◌, List, [], ◌∷◌, ◌++◌, length, map, reverse, Option, Some, None, Bool, true, false, cond, refl, sym, ap, ◌∙◌, arith}
 use Rattle.std.specs.Prelude.{nat_lt}
-use borrow.Author.Tests.{ltb-true}
 use Rattle.std.proofs.lemmas.List.{map-append, reverse-append, length-reverse, length-map}
 use Rattle.pynode.specs.Trees.{Expr, Stmt}
 use Rattle.pygrammar.specs.Lines.{Header, Form, simple_form, decorator_form, header_form}
 use Rattle.pygrammar.specs.Blocks.{Fault, ExpectedIndent, UnexpectedIndent, MisplacedClause}
 use Rattle.pygrammar.specs.Reading.{Answer, Fine, Faulty, then, Group, Idle, closes, Part, part, decorated, meets, or_misplaced, place_header, Waiting, State, state, joined, settle_in, settle, place, placed}
-use Rattle.pygrammar.proofs.Callers.Readings.{is_less, settle_here}
+use Rattle.pygrammar.proofs.Callers.Blocks.{is_less, not_less, settle_here}
 use Rattle.pyblock.specs.declared.stack.Waiting as given_waiting
 use Rattle.pyblock.specs.Inner.Levels.{ended, popped}
 use Rattle.pyblock.specs.Inner.Meeting.{closed, marked, met}
-use Rattle.pyblock.specs.Inner.Values.{waiting_of, below_of}
+use Rattle.pyblock.specs.Values.{waiting_of, below_of}
 
 -- ---- The levels below.
 
@@ -117,12 +116,6 @@ place_header_is s h suite = by_found (meets s.group h) suite
 -- a line that is deeper than all open levels, and one that isn't
 pub placed_deep : (l : ℕ) (f : Form) (s : State) → length s.below < l → placed l f s ≡ Faulty UnexpectedIndent
 placed_deep l f s h = ap (λ b. cond b (Faulty UnexpectedIndent) (place s f)) (is_less (length s.below) l h)
-
-not_less : (a b : ℕ) → b ≤ a → nat_lt a b ≡ false
-not_less a b h = elim (nat_lt a b) as (λ c. nat_lt a b ≡ c → nat_lt a b ≡ false) [
-  | true ↦ λ e. absurd (let k : a < b = ltb-true a b e in omega arith)
-  | false ↦ λ e. e
-] refl
 
 pub placed_here : (l : ℕ) (f : Form) (s : State) → l ≤ length s.below → placed l f s ≡ place s f
 placed_here l f s h = ap (λ b. cond b (Faulty UnexpectedIndent) (place s f)) (not_less (length s.below) l h)

@@ -10,7 +10,7 @@ use Rattle.pygrammar.specs.Reading.{Answer, Fine, Faulty, then, Group, Idle, Mar
 use Rattle.pyblock.specs.declared.groups.Group as given_group
 use Rattle.pyblock.specs.declared.groups.Group.TheVariants as variant
 use Rattle.pyblock.specs.Inner.Meeting.{begins, closed, continues, marked, met}
-use Rattle.pyblock.specs.Inner.Values.{group_of}
+use Rattle.pyblock.specs.Values.{group_of}
 
 -- what a header finds, by two tests
 abbrev pub by_tests : List Stmt → Group → Header → Answer Part

@@ -8,9 +8,9 @@ use Rattle.pynode.specs.declared.statements.Stmt.TheVariants as variant
 use Rattle.pynode.specs.TreeOf.{tree_of, stmt_of}
 use Rattle.pynode.proofs.Callers.StmtShapes.{if_tree}
 use Rattle.pygrammar.specs.Reading.{choice}
-use Rattle.pygrammar.proofs.Callers.Readings.{choice-append}
+use Rattle.pygrammar.proofs.Callers.Blocks.{choice-append}
 use Rattle.pyblock.specs.declared.groups.Arm as given_arm
-use Rattle.pyblock.specs.Inner.Values.{arm_of}
+use Rattle.pyblock.specs.Values.{arm_of}
 
 -- the last arm goes into the `else` of the one before
 pub choice_popped : (all rest : List given_arm.Arm) (a : given_arm.Arm) (inner : Vec Stmt Global) (outer start : List Stmt) (whole : List plain.Stmt) →

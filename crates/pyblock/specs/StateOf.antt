@@ -1,7 +1,7 @@
 -- What is kept of lines, as the reading has it.
 use Rattle.pygrammar.specs.Reading.{State}
 use Rattle.pyblock.specs.declared.blocks.Blocks.{Blocks}
-use Rattle.pyblock.specs.Inner.Values as value
+use Rattle.pyblock.specs.Values as value
 
 -- the state of the reading behind the lines so far
 abbrev pub state_of : Blocks → State

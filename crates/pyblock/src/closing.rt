@@ -5,7 +5,7 @@ ghost use Rattle.pynode.specs.TreeOf.{stmt_of};
 ghost use Rattle.pygrammar.specs.Reading.{Fine};
 ghost use Rattle.pyblock.specs.Faults.{Tells};
 ghost use Rattle.pyblock.specs.Inner.Meeting.{closed};
-ghost use Rattle.pyblock.specs.Inner.Values.{group_of};
+ghost use Rattle.pyblock.specs.Values.{group_of};
 
 use crate::faults::{BlockFault, Stop};
 use crate::groups::Group;

@@ -5,7 +5,7 @@ ghost use Rattle.pynode.specs.TreeOf.{handler_of, stmt_of, tree_of};
 ghost use Rattle.pygrammar.specs.Lines.{def_header, elif_header, else_header, except_header, finally_header};
 ghost use Rattle.pygrammar.specs.Reading.{joined};
 ghost use Rattle.pyform.specs.FormOf.{def_head_of, header_of};
-ghost use Rattle.pyblock.specs.Inner.Values.{arm_of, group_of, part_of};
+ghost use Rattle.pyblock.specs.Values.{arm_of, group_of, part_of};
 
 use crate::closing::with_one;
 use crate::groups::{Arm, Group, Part};

@@ -6,7 +6,7 @@ ghost use Rattle.pygrammar.specs.Reading.{Fine};
 ghost use Rattle.pyform.specs.FormOf.{header_of};
 ghost use Rattle.pyblock.specs.Faults.{Tells};
 ghost use Rattle.pyblock.specs.Inner.Meeting.{begins, continues, marked, met};
-ghost use Rattle.pyblock.specs.Inner.Values.{group_of, part_of};
+ghost use Rattle.pyblock.specs.Values.{group_of, part_of};
 
 use crate::closing::close;
 use crate::faults::{BlockFault, Stop};

@@ -8,7 +8,7 @@ ghost use Rattle.pygrammar.specs.Lines.{decorator_form, header_form, simple_form
 ghost use Rattle.pyform.specs.FormOf.{form_of, header_of, suite_of};
 ghost use Rattle.pyblock.specs.Faults.{Tells};
 ghost use Rattle.pyblock.specs.Inner.Levels.{ended};
-ghost use Rattle.pyblock.specs.Inner.Values.{state_of};
+ghost use Rattle.pyblock.specs.Values.{state_of};
 
 use crate::closing::{close, with_all};
 use crate::faults::{BlockFault, Stop};

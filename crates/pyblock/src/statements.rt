@@ -5,7 +5,7 @@ ghost use Rattle.pynode.specs.TreeOf.{handler_of, item_of, stmt_of, tree_of};
 ghost use Rattle.pygrammar.specs.Lines.{definition, loop, try_of, with_of};
 ghost use Rattle.pygrammar.specs.Reading.{choice};
 ghost use Rattle.pyform.specs.FormOf.{def_head_of, loop_head_of};
-ghost use Rattle.pyblock.specs.Inner.Values.{arm_of};
+ghost use Rattle.pyblock.specs.Values.{arm_of};
 
 use crate::groups::Arm;
 use pyform::{DefHead, LoopHead};

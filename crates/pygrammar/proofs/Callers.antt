@@ -6,4 +6,3 @@ pub mod Lines
 pub mod Terminals
 pub mod Entries
 pub mod Blocks
-pub mod Readings

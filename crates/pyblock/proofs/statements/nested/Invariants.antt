@@ -1,7 +1,7 @@
 use Rattle.std.proofs.Common.{◌≡◌, map, length}
 use Rattle.pynode.specs.TreeOf.{stmt_of}
 use Rattle.pygrammar.specs.Reading.{choice}
-use Rattle.pyblock.specs.Inner.Values.{arm_of}
+use Rattle.pyblock.specs.Values.{arm_of}
 use Rattle.pyblock.proofs.statements.nested.Given as goal
 
 abbrev pub invariant-loop-arm : goal.invariant-loop-arm

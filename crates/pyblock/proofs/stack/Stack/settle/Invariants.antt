@@ -1,6 +1,6 @@
 use Rattle.std.proofs.Common.{◌≡◌, length}
 use Rattle.pygrammar.specs.Reading.{settle}
-use Rattle.pyblock.specs.Inner.Values.{state_of}
+use Rattle.pyblock.specs.Values.{state_of}
 use Rattle.pyblock.proofs.stack.Stack.settle.Given as goal
 
 abbrev pub invariant-loop-alloc : goal.invariant-loop-alloc
