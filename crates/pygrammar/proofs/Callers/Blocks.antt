@@ -4,3 +4,5 @@ pub use Rattle.pygrammar.proofs.Block.Depths.{count_on, innermost_on, depths, co
 pub use Rattle.pygrammar.proofs.Block.FirstDeep.{deep_is, not_deep, first_deep_found, no_deep_found, one_deep, deep_more, deep_last, deep_parts}
 pub use Rattle.pygrammar.proofs.Block.Deep.{formed_flat, deep_is_high, deep_within}
 pub use Rattle.pygrammar.proofs.Block.Starts.{starts_line, starts_end, starts}
+pub use Rattle.pygrammar.proofs.Block.Steps.{is_less, not_less, settle_here}
+pub use Rattle.pygrammar.proofs.Block.Goes.{choice-append}

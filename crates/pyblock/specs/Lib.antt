@@ -1,0 +1,4 @@
+pub mod Inner
+pub mod Faults
+pub mod Values
+pub mod StateOf
