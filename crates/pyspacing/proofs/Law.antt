@@ -1,0 +1,30 @@
+-- The law of written lines.
+use Rattle.std.proofs.Common.{refl, None}
+use Rattle.std.specs.List.{list_all}
+use Rattle.std.specs.Str.{encode_utf8_all}
+use Rattle.pysource.specs.Cookies.{plain}
+use Rattle.pysource.specs.Parts.{Parts}
+use Rattle.pylex.specs.Listing.{in_characters}
+use Rattle.pylexeme.proofs.Best.{and_parts}
+use Rattle.pyspacing.specs.Spacing.{lines_text}
+use Rattle.pyspacing.specs.Tokens.{tokens_behind, is_written, rise_by_one, IsListedAs}
+use Rattle.pyspacing.specs.Laws.{WrittenIsRead}
+use Rattle.pyspacing.proofs.Decoding.{lines_source, lines_chars}
+use Rattle.pyspacing.proofs.Relisting.{lines_listed}
+use Rattle.pyspacing.proofs.SourceLines.{tokens_are, lines_are}
+
+pub written_is_read : WrittenIsRead
+written_is_read ls w =
+    let a = and_parts (list_all is_written ls) (rise_by_one 0 ls) w in
+    let p : Parts = record { encoding = plain; text = encode_utf8_all (lines_text ls); fault = None } in
+    let l : IsListedAs (in_characters p) (tokens_behind 0 ls) = lines_listed (in_characters p) ls (lines_chars ls a.0) refl w in
+    record {
+      parts = p;
+      source = lines_source ls a.0;
+      encoding = refl;
+      text = refl;
+      fault = refl;
+      listed = l;
+      tokens = tokens_are (in_characters p) ls w l;
+      lines = lines_are (in_characters p) ls w l;
+    }

@@ -1,0 +1,3 @@
+pub mod Relexed
+pub mod Edges
+pub mod PlainLines

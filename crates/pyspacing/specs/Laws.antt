@@ -1,0 +1,25 @@
+-- The law of written lines (reference 2.1).
+use Rattle.std.specs.Prelude.{◌≡◌, ℕ, true, List, map, None, Ok}
+use Rattle.std.specs.Str.{encode_utf8_all}
+use Rattle.pysource.specs.Cookies.{plain}
+use Rattle.pysource.specs.Parts.{Parts}
+use Rattle.pysource.specs.Sources.{source_of}
+use Rattle.pylex.specs.Listing.{in_characters}
+use Rattle.pyspacing.specs.Spacing.{Line, lines_text}
+use Rattle.pyspacing.specs.Tokens.{tokens_behind, are_written, IsListedAs, unplaced, unplaced_line, token_line}
+use Rattle.pytoken.specs.Tokens.{tokens, lines}
+
+-- Bytes are a source in UTF-8 without a mark, a cookie or a fault; it is listed as these lines, and its tokens and logical lines are theirs.
+pub record ReadsBack (bytes : List ℕ) (ls : List Line) : Type 0 where
+  pub parts : Parts
+  pub source : source_of bytes ≡ Ok parts
+  pub encoding : parts.encoding ≡ plain
+  pub text : parts.text ≡ bytes
+  pub fault : parts.fault ≡ None
+  pub listed : IsListedAs (in_characters parts) (tokens_behind 0 ls)
+  pub tokens : map unplaced (tokens (in_characters parts)) ≡ tokens_behind 0 ls
+  pub lines : map unplaced_line (lines (in_characters parts)) ≡ map token_line ls
+
+-- The law of written lines: the UTF-8 of their text is read back as them.
+abbrev pub WrittenIsRead : Type 0
+WrittenIsRead = (ls : List Line) → are_written ls ≡ true → ReadsBack (encode_utf8_all (lines_text ls)) ls

@@ -1,0 +1,4 @@
+pub mod Inner
+pub mod Spacing
+pub mod Tokens
+pub mod Laws
