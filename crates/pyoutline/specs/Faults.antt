@@ -22,3 +22,8 @@ Tells answer stop.Memory = Unit {0}
 abbrev pub Blames : (lines rest : List Line) → Stop → Type 0
 Blames lines rest (stop.Faulty f) = FirstFault [] lines rest (fault_of f)
 Blames lines rest stop.Memory = Unit {0}
+
+-- an error that is a fault, where no memory is needed
+abbrev pub IsFaulty : Stop → Type 0
+IsFaulty (stop.Faulty f) = Unit {0}
+IsFaulty stop.Memory = ⊥

@@ -11,8 +11,8 @@ use std::alloc::{AllocError, Global};
 /// So many statements round it make a statement stand too deep. None is counted further.
 const DEEP: u32 = 500;
 
-/// The last line of a level: how many statements stand round it, and the `elif`s of the `if` that it
-/// belongs to, up to it.
+/// The last line of a level: how many statements stand round it, and the `elif`s of the `if` that
+/// it belongs to, up to it.
 #[derive(Clone, Copy)]
 pub(crate) struct Last {
     level: usize,
@@ -123,7 +123,8 @@ impl Depths {
     /// The next line: its level, and its shape. Whether a statement begins in it that stands too
     /// deep.
     pub(crate) fn step(&mut self, level: usize, shape: Shape) -> Result<bool, AllocError>
-        ensures { IfOk result (Counts level shape (lasts_of self.old.lasts.items) (lasts_of self.new.lasts.items)) }
+        ensures { IfOk result
+            (Counts level shape (lasts_of self.old.lasts.items) (lasts_of self.new.lasts.items)) }
     {
         drop_deeper(&mut self.lasts, level);
         let arms = arms_behind(&self.lasts, level, shape);

@@ -2,9 +2,10 @@
 
 ghost use Rattle.std.specs.Prelude.{◌≡◌, IfErr, OnOk};
 ghost use Rattle.pygrammar.specs.Reading.{Fine, start};
-ghost use Rattle.pyoutline.specs.Faults.{Tells};
+ghost use Rattle.pyoutline.specs.Faults.{IsFaulty, Tells};
 ghost use Rattle.pyoutline.specs.Outlines.{levels_of, outline};
-ghost use Rattle.pyoutline.specs.Inner.Steps.{awaits_block, is_all_whole, finish, place, settle, step};
+ghost use Rattle.pyoutline.specs.Inner.Steps.{awaits_block, is_all_whole};
+ghost use Rattle.pyoutline.specs.Inner.Steps.{finish, place, settle, step};
 
 use crate::faults::{BlockFault, Stop};
 use crate::groups::{Group, are_whole};
@@ -71,7 +72,8 @@ impl Levels {
 
     /// The next line: its level, and its shape.
     pub(crate) fn step(&mut self, level: usize, shape: Shape) -> Result<(), Stop>
-        ensures ok { OnOk result (step level shape (levels_of self.old) ≡ Fine (levels_of self.new)) }
+        ensures ok { OnOk result
+            (step level shape (levels_of self.old) ≡ Fine (levels_of self.new)) }
         ensures refused { IfErr result (Tells (step level shape (levels_of self.old))) }
     {
         self.settle(level)?;
@@ -101,6 +103,7 @@ impl Levels {
     pub(crate) fn finish(&self) -> Result<(), Stop>
         ensures ok { OnOk result (finish (levels_of self.now) ≡ Fine tt) }
         ensures refused { IfErr result (Tells (finish (levels_of self.now))) }
+        ensures faulty { IfErr result IsFaulty }
     {
         if self.awaits_block() {
             return Err(Stop::Faulty(BlockFault::ExpectedIndent));

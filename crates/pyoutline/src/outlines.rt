@@ -7,7 +7,7 @@ ghost use Rattle.pygrammar.specs.Blocks.{Block};
 ghost use Rattle.pygrammar.specs.Depths.{count, innermost, is_deep};
 ghost use Rattle.pyform.specs.FormOf.{form_of};
 ghost use Rattle.pygrammar.specs.Reading.{Fine};
-ghost use Rattle.pyoutline.specs.Faults.{Blames, Tells};
+ghost use Rattle.pyoutline.specs.Faults.{Blames, IsFaulty, Tells};
 ghost use Rattle.pyoutline.specs.Inner.Counting.{Counts};
 ghost use Rattle.pyoutline.specs.Inner.Steps.{step};
 
@@ -50,9 +50,13 @@ impl Outline {
     /// [`Stop::Memory`].
     #[tactic(auto, using(crate::proofs::OutlineLemmas::following))]
     pub fn step(&mut self, alloc: Global, level: usize, form: &Form) -> Result<bool, Stop>
-        ensures ok { (xs : List Line) → Follows xs self.old → OnOk result (Follows (xs ++ line level (form_of form.now) ∷ []) self.new) }
-        ensures deep { (xs : List Line) → Follows xs self.old → IfOk result (λ deep. deep ≡ is_deep (innermost (line level (form_of form.now)) (count [] xs))) }
-        ensures blamed { (xs more : List Line) → Follows xs self.old → IfErr result (Blames (xs ++ line level (form_of form.now) ∷ more) (line level (form_of form.now) ∷ more)) }
+        ensures ok { (xs : List Line) → Follows xs self.old
+            → OnOk result (Follows (xs ++ line level (form_of form.now) ∷ []) self.new) }
+        ensures deep { (xs : List Line) → Follows xs self.old → IfOk result
+            (λ deep. deep ≡ is_deep (innermost (line level (form_of form.now)) (count [] xs))) }
+        ensures blamed { (xs more : List Line) → Follows xs self.old → IfErr result
+            (Blames (xs ++ line level (form_of form.now) ∷ more)
+            (line level (form_of form.now) ∷ more)) }
         ensures err { OnErr result (Follows [] self.new) }
     {
         match self.take(level, shape_of(form)) {
@@ -66,8 +70,11 @@ impl Outline {
 
     /// Takes the next line, by its shape.
     fn take(&mut self, level: usize, shape: Shape) -> Result<bool, Stop>
-        ensures ok { OnOk result (step level shape (levels_of self.old.levels) ≡ Fine (levels_of self.new.levels)) }
-        ensures counts { IfOk result (Counts level shape (lasts_of self.old.depths.lasts.items) (lasts_of self.new.depths.lasts.items)) }
+        ensures ok { OnOk result
+            (step level shape (levels_of self.old.levels) ≡ Fine (levels_of self.new.levels)) }
+        ensures counts { IfOk result
+            (Counts level shape (lasts_of self.old.depths.lasts.items)
+            (lasts_of self.new.depths.lasts.items)) }
         ensures refused { IfErr result (Tells (step level shape (levels_of self.old.levels))) }
     {
         self.levels.step(level, shape)?;
@@ -78,11 +85,13 @@ impl Outline {
     ///
     /// # Errors
     ///
-    /// [`Stop::Faulty`] where the end of the lines is faulty, by its fault. It takes no memory.
+    /// [`Stop::Faulty`] where the end of the lines is faulty, by its fault; it takes no memory.
     #[tactic(auto, using(crate::proofs::OutlineLemmas::following))]
     pub fn finish(&self) -> Result<(), Stop>
-        ensures ok { (xs : List Line) → Follows xs self.now → OnOk result ((ss : List Stmt) × Block 0 xs ss) }
+        ensures ok { (xs : List Line) → Follows xs self.now
+            → OnOk result ((ss : List Stmt) × Block 0 xs ss) }
         ensures blamed { (xs : List Line) → Follows xs self.now → IfErr result (Blames xs []) }
+        ensures faulty { IfErr result IsFaulty }
     {
         self.levels.finish()
     }
