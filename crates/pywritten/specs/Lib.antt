@@ -1,0 +1,4 @@
+pub mod Levels
+pub mod Written
+pub mod Terminals
+pub mod Pieces
