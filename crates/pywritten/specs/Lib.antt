@@ -2,3 +2,5 @@ pub mod Levels
 pub mod Written
 pub mod Terminals
 pub mod Pieces
+pub mod Brackets
+pub mod Laws

@@ -6,7 +6,6 @@ use Rattle.pylexeme.specs.declared.kinds.Exact.TheVariants.{LPar, RPar, LSqb, RS
 use Rattle.pytoken.specs.declared.keywords.Keyword.{Keyword}
 use Rattle.pytoken.specs.declared.keywords.Keyword.TheVariants as Key
 use Rattle.pynode.specs.declared.operators.UnaryOperator.{UnaryOperator}
-use Rattle.pynode.specs.declared.operators.UnaryOperator.TheVariants as Un
 use Rattle.pynode.specs.declared.operators.Comparison.{Comparison}
 use Rattle.pygrammar.specs.declared.levels.Level.{Level}
 use Rattle.pygrammar.specs.declared.levels.Level.TheVariants.{Value, Stars, StarItem, Named, Expression, Or, Compare, BitOr, Await, Primary, Elem, Slices, Part, Slice}
@@ -62,6 +61,10 @@ element_level _ _ = Elem
 abbrev pub lone_generator : Exprs → Keywords → Bool
 lone_generator (an_expr (Trees.GeneratorExp e gs) no_exprs) no_keyword = true
 lone_generator _ _ = false
+
+abbrev pub is_sign : Terminal → Bool
+is_sign (Op x) = true
+is_sign _ = false
 
 abbrev pub constant_terminal : Values.Value → Terminal
 constant_terminal (Values.Int n) = Whole n
@@ -124,8 +127,7 @@ module _ {A : Type 0} (make : Maker A) where
 
   -- `not` is a word, the others are prefixes
   abbrev pub unary : UnaryOperator → A
-  unary Un.Not = word Key.Not
-  unary o = make (unary_sign o) false true
+  unary o = make (unary_sign o) false (is_sign (unary_sign o))
 
   abbrev pub compared : List Comparison → List (List A) → List A
   compared (o ∷ os) (ts ∷ tss) = map free (comparison_signs o) ++ (ts ++ compared os tss)
@@ -142,7 +144,7 @@ module _ {A : Type 0} (make : Maker A) where
 
   -- the last ones have the defaults
   abbrev pub with_defaults : List (List A) → List (List A) → List (List A)
-  with_defaults tss ds = beside tss (replicate (length tss - length ds) [] ++ map behind_equal ds)
+  with_defaults tss ds = beside tss (replicate (length tss - length ds) [] ++ ds)
 
   -- `/` behind as many as there are positional ones
   abbrev pub with_slash : List (List A) → List (List A) → List (List A)
@@ -181,7 +183,7 @@ module _ {A : Type 0} (make : Maker A) where
     written l (Trees.GeneratorExp e gs) = bracketed (written Named e ++ clauses gs)
     written l (Trees.ListOf es c) = enclosed (leading LSqb) RSqb (listed (each Elem es))
     written l (Trees.ListComp e gs) = enclosed (leading LSqb) RSqb (written Named e ++ clauses gs)
-    written l (Trees.Dict ks es) = enclosed (leading LBrace) RBrace (listed (pairs (keys ks) es))
+    written l (Trees.Dict ks es) = enclosed (leading LBrace) RBrace (listed (pairs (written_keys ks) es))
     written l (Trees.DictComp k e gs) = enclosed (leading LBrace) RBrace (written Expression k ++ (trailing Colon ∷ (written Expression e ++ clauses gs)))
     written l (Trees.Set es) = enclosed (leading LBrace) RBrace (listed (each Elem es))
     written l (Trees.SetComp e gs) = enclosed (leading LBrace) RBrace (written Named e ++ clauses gs)
@@ -211,10 +213,10 @@ module _ {A : Type 0} (make : Maker A) where
     by_name (a_keyword None e ks) = (leading DoubleStar ∷ written Expression e) ∷ by_name ks
     by_name (a_keyword (Some x) e ks) = (free (Ident x) ∷ (tight Equal ∷ written Expression e)) ∷ by_name ks
 
-    pub keys : OptionalExprs → List (Option (List A))
-    keys no_optional = []
-    keys (an_optional absent ks) = None ∷ keys ks
-    keys (an_optional (present k) ks) = Some (written Expression k) ∷ keys ks
+    pub written_keys : OptionalExprs → List (Option (List A))
+    written_keys no_optional = []
+    written_keys (an_optional absent ks) = None ∷ written_keys ks
+    written_keys (an_optional (present k) ks) = Some (written Expression k) ∷ written_keys ks
 
     -- the pairs of a Dict, and those of `**`, which have no key
     pub pairs : List (Option (List A)) → Exprs → List (List A)
@@ -232,7 +234,7 @@ module _ {A : Type 0} (make : Maker A) where
 
     pub parameters : Arguments → List (List A)
     parameters (arguments ps qs v ks kds k ds) =
-        with_slash (names ps) (with_defaults (names ps ++ names qs) (each Expression ds)) ++
+        with_slash (names ps) (with_defaults (names ps ++ names qs) (map behind_equal (each Expression ds))) ++
         (with_star (gathered Star v) (names ks) ++ (beside (names ks) (defaults kds) ++ gathered DoubleStar k))
 
     pub names : Args → List (List A)
