@@ -1,6 +1,6 @@
 -- On: expressions, targets, parameters and arguments are written in the fewest terminals that give them, with no more brackets open at once
 -- than they are high.
-use Rattle.std.proofs.Common.{◌≡◌, ◌≤◌, List, length, sym, subst, ap, ◌∙◌, Bool, Some}
+use Rattle.std.proofs.Common.{◌≡◌, ◌≤◌, List, ◌++◌, length, sym, subst, ap, ◌∙◌, Bool, Some}
 use Rattle.pynode.specs.Trees.{Expr, Exprs, Keywords}
 use Rattle.pytoken.specs.Terminals.{Terminal}
 use Rattle.pygrammar.specs.declared.levels.Level.{Level}
