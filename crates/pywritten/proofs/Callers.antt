@@ -1,0 +1,2 @@
+-- What other crates cite: the laws of what a tree is written in.
+pub mod Shortest

@@ -1,0 +1,3 @@
+mod WorkedExpressions
+mod Fewest
+pub mod Callers

@@ -1,0 +1,73 @@
+-- What holds of what an expression is written in.
+use Rattle.std.specs.Prelude.{◌≡◌, ◌≤◌, ◌↔◌, List, [], ◌++◌, length, Bool, true, false, Some}
+use Rattle.pynode.specs.Trees.{Expr, Exprs, Keywords, Arguments}
+use Rattle.pytoken.specs.Terminals.{Terminal}
+use Rattle.pyheight.specs.Heights.{height}
+use Rattle.pygrammar.specs.declared.levels.Level.{Level}
+use Rattle.pygrammar.specs.declared.levels.Level.TheVariants.{Stars, Named, Expression, Primary, Atom}
+use Rattle.pygrammar.specs.Entries.{Entry, Argument, Parameter}
+use Rattle.pygrammar.specs.Arguments.{in_order, positional, keywords}
+use Rattle.pygrammar.specs.Parameters.{arranged}
+use Rattle.pygrammar.specs.Grammar.{Derives, Listing, Target, SingleTarget, DelTarget, ItemTarget}
+use Rattle.pygrammar.specs.Reader.{Found, reads}
+use Rattle.pywritten.specs.Written.{listed, each, by_name, parameters}
+use Rattle.pywritten.specs.Terminals.{terminal, terminals}
+use Rattle.pywritten.specs.Brackets.{brackets}
+
+-- ---- Fewest brackets.
+
+-- by a relation, a list of terminals gives something, and no shorter list does
+pub record Shortest {A : Type 0} (Gives : List Terminal → A → Type 0) (ts : List Terminal) (a : A) : Type 0 where
+  pub gives : Gives ts a
+  pub least : (us : List Terminal) → Gives us a → length ts ≤ length us
+
+-- An expression that the grammar gives to some list at a level is written there in terminals that give it back, and in no more than any list
+-- that does.
+abbrev pub ExpressionsAreShortest : Type 0
+ExpressionsAreShortest = (l : Level) (ts : List Terminal) (e : Expr) → Derives l ts e → Shortest (Derives l) (terminals l e) e
+
+-- So the reader finds it in its own terminals exactly where some list gives it.
+abbrev pub ExpressionsComeBack : Type 0
+ExpressionsComeBack = (l : Level) (e : Expr) → ((ts : List Terminal) × Derives l ts e) ↔ (reads l (terminals l e) ≡ Found e [])
+
+-- Targets are written as expressions at the level of their place, as if their contexts were Load.
+pub record TargetIsShortest (ts : List Terminal) (s : Expr) : Type 0 where
+  pub target : Target ts s → Shortest Target (terminals Stars s) s
+  pub single : SingleTarget ts s → Shortest SingleTarget (terminals Primary s) s
+  pub del : DelTarget ts s → Shortest DelTarget (terminals Expression s) s
+  -- at Named what stands behind a star is an Expression, and all else that can be a target is as at Expression
+  pub item : ItemTarget ts s → Shortest ItemTarget (terminals Named s) s
+
+abbrev pub TargetsAreShortest : Type 0
+TargetsAreShortest = (ts : List Terminal) (s : Expr) → TargetIsShortest ts s
+
+-- a list of parameters gives the arguments of a `lambda`, or with annotations of a `def`
+pub record IsArranged (annotated : Bool) (ts : List Terminal) (a : Arguments) : Type 0 where
+  pub entries : List Entry
+  pub listing : Listing (Parameter annotated) ts entries
+  pub arranged_as : arranged entries ≡ Some a
+
+abbrev pub ParametersAreShortest : Type 0
+ParametersAreShortest = (annotated : Bool) (ts : List Terminal) (a : Arguments) → IsArranged annotated ts a → Shortest (IsArranged annotated) (listed terminal (parameters terminal a)) a
+
+-- a list of arguments gives the fields `args` and `keywords`, of a call or of a class
+pub record AreArguments (ts : List Terminal) (fields : Exprs × Keywords) : Type 0 where
+  pub entries : List Entry
+  pub listing : Listing Argument ts entries
+  pub order : in_order false false entries ≡ true
+  pub positional_are : positional entries ≡ fields.0
+  pub keywords_are : keywords entries ≡ fields.1
+
+abbrev pub ArgumentsAreShortest : Type 0
+ArgumentsAreShortest = (ts : List Terminal) (es : Exprs) (ks : Keywords) → AreArguments ts (es, ks) → Shortest AreArguments (listed terminal (each terminal Named es ++ by_name terminal ks)) (es, ks)
+
+-- ---- Brackets within heights.
+
+-- no place is at Atom
+abbrev pub not_atom : Level → Bool
+not_atom Atom = false
+not_atom _ = true
+
+-- no more brackets are open at once than the expression is high
+abbrev pub BracketsAreWithinHeight : Type 0
+BracketsAreWithinHeight = (l : Level) (e : Expr) → not_atom l ≡ true → brackets (terminals l e) ≤ height e

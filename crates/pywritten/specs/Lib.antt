@@ -1,0 +1,6 @@
+pub mod Levels
+pub mod Written
+pub mod Terminals
+pub mod Pieces
+pub mod Brackets
+pub mod Laws

@@ -1,0 +1,2 @@
+//! The text of a tree: definitions and laws alone.
+#![tactic(auto)]
