@@ -1,0 +1,6 @@
+mod Tests
+mod Levels
+mod Entries
+mod TargetShapes
+mod Arranging
+mod Fits
