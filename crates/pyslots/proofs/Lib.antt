@@ -4,3 +4,5 @@ mod Entries
 mod TargetShapes
 mod Arranging
 mod Fits
+mod Places
+mod Making
