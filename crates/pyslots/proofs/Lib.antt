@@ -6,3 +6,5 @@ mod Arranging
 mod Fits
 mod Places
 mod Making
+mod Calls
+mod Parameters
