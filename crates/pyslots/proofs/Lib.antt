@@ -8,3 +8,4 @@ mod Places
 mod Making
 mod Calls
 mod Parameters
+mod Gives
