@@ -9,3 +9,4 @@ mod Making
 mod Calls
 mod Parameters
 mod Gives
+pub mod Exactly
