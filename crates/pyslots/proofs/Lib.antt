@@ -10,3 +10,5 @@ mod Calls
 mod Parameters
 mod Gives
 pub mod Exactly
+mod Dots
+mod FormFits
