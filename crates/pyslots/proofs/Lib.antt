@@ -12,3 +12,4 @@ mod Gives
 pub mod Exactly
 mod Dots
 mod FormFits
+mod BlockFits
