@@ -13,3 +13,4 @@ pub mod Exactly
 mod Dots
 mod FormFits
 mod BlockFits
+mod FormGives
