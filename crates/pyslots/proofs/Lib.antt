@@ -14,3 +14,4 @@ mod Dots
 mod FormFits
 mod BlockFits
 mod FormGives
+mod BlockGives
