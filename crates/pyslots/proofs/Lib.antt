@@ -15,3 +15,5 @@ mod FormFits
 mod BlockFits
 mod FormGives
 mod BlockGives
+mod Scalars
+mod Tokens

@@ -13,7 +13,8 @@ use Rattle.pynode.specs.Values
 use Rattle.pytoken.specs.Terminals.{Terminal, Op, Word, Literal}
 use Rattle.pygrammar.specs.Constants.{constant_word, joined}
 use Rattle.pygrammar.specs.Targets.{mapped, both, stored}
-use Rattle.pyslots.specs.Literals.{is_point, is_byte, is_value}
+use Rattle.pytoken.specs.Laws.{is_point, is_byte}
+use Rattle.pyslots.specs.Literals.{is_value}
 use Rattle.pyslots.specs.Slots.{is_context}
 use Rattle.pyslots.specs.Given.{is_literal, passes, all_pass}
 

@@ -1,5 +1,6 @@
 -- Which trees the grammar gives: to terminals whose names pass a test, and to the tokens of a source. Heights play no part.
 use Rattle.std.specs.Prelude.{◌≡◌, Bool, true, false, ◌&&◌, List, [], ◌∷◌, map, All, nat_lt, ◌^◌}
+use Rattle.std.specs.Str.{all_scalars}
 use Rattle.pynode.specs.declared.profiles.Profile.{Profile}
 use Rattle.pynode.specs.Trees.{Identifier, Expr, Stmt, Module}
 use Rattle.pynode.specs.Values.{Value, Int, Str, Bytes}
@@ -48,21 +49,24 @@ GivenModule profile n m = (xs : List Line) × AreGiven profile n xs × Block 0 x
 
 -- ---- Tokens.
 
--- tokens that are what their types say, and have no fault
-abbrev pub AreSound : List Token → Type 0
-AreSound ts = All (λ t. IsSound t.kind t.text) ts
+-- a token of Unicode characters that is what its type says, and has no fault
+abbrev pub IsOfSource : Token → Type 0
+IsOfSource t = (all_scalars t.text ≡ true) × IsSound t.kind t.text
 
--- some tokens are this expression at a level
+abbrev pub AreOfSource : List Token → Type 0
+AreOfSource ts = All IsOfSource ts
+
+-- some such tokens are this expression at a level
 pub record Expressed (l : Level) (e : Expr) : Type 0 where
   pub tokens : List Token
-  pub sound : AreSound tokens
+  pub sound : AreOfSource tokens
   pub derived : Derives l (map (λ t. terminal_of t.kind t.text) tokens) e
 
--- lines of sound tokens, and their forms in a version of Python
+-- lines of such tokens, and their forms in a version of Python
 pub data HaveForms (profile : Profile) : List Tokens.Line → List Line → Type 0 where
   no_form : HaveForms profile [] []
   a_form : {x : Tokens.Line} {xs : List Tokens.Line} {f : Form} {ys : List Line} →
-      AreSound x.tokens → FormOf profile (terminals x) f → HaveForms profile xs ys → HaveForms profile (x ∷ xs) (line x.level f ∷ ys)
+      AreOfSource x.tokens → FormOf profile (terminals x) f → HaveForms profile xs ys → HaveForms profile (x ∷ xs) (line x.level f ∷ ys)
 
 -- some lines of tokens are this module in a version of Python
 pub record Stated (profile : Profile) (m : Module) : Type 0 where

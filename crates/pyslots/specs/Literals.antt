@@ -1,14 +1,8 @@
 -- Which constants the literals of a source stand for (reference 2.4).
-use Rattle.std.specs.Prelude.{ℕ, ◌^◌, Bool, true, nat_lt, nat_le, List}
+use Rattle.std.specs.Prelude.{◌^◌, Bool, true, nat_lt}
 use Rattle.std.specs.List.{list_all}
 use Rattle.pynode.specs.Values.{Value, Int, Str, Bytes}
-
--- a code point, surrogates among them
-abbrev pub is_point : ℕ → Bool
-is_point point = nat_le point 0x10_FFFF
-
-abbrev pub is_byte : ℕ → Bool
-is_byte byte = nat_lt byte 0x100
+use Rattle.pytoken.specs.Laws.{is_point, is_byte}
 
 -- a whole number below 2 to the 128, a text of code points, bytes, or one of the constants that are words or signs
 abbrev pub is_value : Value → Bool

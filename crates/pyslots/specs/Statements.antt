@@ -1,6 +1,7 @@
 -- Which statements and modules the grammar gives in a version of Python to some lines, with no regard to heights (reference 7 and 8).
 -- Each function takes the test of names, and those that ask for it the version.
 use Rattle.std.specs.Prelude.{ℕ, ◌==◌, nat_lt, Bool, true, false, ◌&&◌, ◌||◌, not, cond, List, [], ◌∷◌, Option, Some, None, is_none}
+use Rattle.std.specs.List.{list_all}
 use Rattle.pynode.specs.declared.operators.Context.TheVariants.{Store, Del}
 use Rattle.pynode.specs.declared.profiles.Profile.{Profile}
 use Rattle.pynode.specs.Trees
@@ -24,10 +25,6 @@ has_handler (a_handler class name body hs) = true
 
 -- ---- Names.
 
-abbrev pub each_name : (Identifier → Bool) → List Identifier → Bool
-each_name n [] = true
-each_name n (x ∷ xs) = n x && each_name n xs
-
 abbrev pub lengthen : ℕ → List Identifier → List Identifier
 lengthen c [] = (c ∷ []) ∷ []
 lengthen c (part ∷ parts) = (c ∷ part) ∷ parts
@@ -39,15 +36,15 @@ parts (c ∷ cs) = cond (c == 46) ([] ∷ parts cs) (lengthen c (parts cs))
 
 -- the name of a module: names with dots between
 abbrev pub dotted : (Identifier → Bool) → Identifier → Bool
-dotted n x = each_name n (parts x)
+dotted n x = list_all n (parts x)
 
-abbrev pub each_module : (Identifier → Bool) → List Alias → Bool
-each_module n [] = true
-each_module n (a ∷ rest) = dotted n a.name && perhaps_name n a.asname && each_module n rest
+-- what `import` imports
+abbrev pub import_fits : (Identifier → Bool) → Alias → Bool
+import_fits n a = dotted n a.name && perhaps_name n a.asname
 
-abbrev pub each_alias : (Identifier → Bool) → List Alias → Bool
-each_alias n [] = true
-each_alias n (a ∷ rest) = n a.name && perhaps_name n a.asname && each_alias n rest
+-- one of the names that are imported from a module
+abbrev pub alias_fits : (Identifier → Bool) → Alias → Bool
+alias_fits n a = n a.name && perhaps_name n a.asname
 
 -- the name `*`
 abbrev pub is_star : Identifier → Bool
@@ -60,7 +57,7 @@ is_all _ = false
 
 -- what is imported from a module: names, or all of them
 abbrev pub imports_fit : (Identifier → Bool) → List Alias → Bool
-imports_fit n names = is_all names || has_one names && each_alias n names
+imports_fit n names = is_all names || (has_one names && list_all (alias_fits n) names)
 
 -- the module that names are imported from; without one a dot is needed
 abbrev pub source_fits : (Identifier → Bool) → Option Identifier → (level : ℕ) → Bool
@@ -74,22 +71,17 @@ perhaps_target_fits n None = true
 perhaps_target_fits n (Some e) = fits_target n Store e
 
 -- what `with` opens, and the target of that
-abbrev pub each_item_fits : (Identifier → Bool) → List Item → Bool
-each_item_fits n [] = true
-each_item_fits n (i ∷ rest) = fits_at n Expression i.context_expr && perhaps_target_fits n i.optional_vars && each_item_fits n rest
+abbrev pub item_fits : (Identifier → Bool) → Item → Bool
+item_fits n i = fits_at n Expression i.context_expr && perhaps_target_fits n i.optional_vars
 
 abbrev pub type_param_fits : (Identifier → Bool) → TypeParam → Bool
 type_param_fits n (Trees.TypeVar name bound) = n name && perhaps_fits n Expression (optional bound)
 type_param_fits n (Trees.ParamSpec name) = n name
 type_param_fits n (Trees.TypeVarTuple name) = n name
 
-abbrev pub each_type_param_fits : (Identifier → Bool) → List TypeParam → Bool
-each_type_param_fits n [] = true
-each_type_param_fits n (p ∷ ps) = type_param_fits n p && each_type_param_fits n ps
-
 -- parameters of types, in a version that has these
 abbrev pub types_fit : Profile → (Identifier → Bool) → List TypeParam → Bool
-types_fit profile n ps = (no_types ps || has_types profile) && each_type_param_fits n ps
+types_fit profile n ps = (no_types ps || has_types profile) && list_all (type_param_fits n) ps
 
 -- what `raise` raises, and from what
 abbrev pub raised_fits : (Identifier → Bool) → Option Expr → Option Expr → Bool
@@ -124,7 +116,7 @@ abbrev mutual
   statement_fits p n (Trees.Delete targets) = has_one targets && each_target_fits n Del (exprs targets)
   statement_fits p n (Trees.Assign targets value) = has_one targets && each_target_fits n Store (exprs targets) && fits_at n Value value
   statement_fits p n (Trees.TypeAlias name parameters value) =
-      has_types p && is_a_name name && fits_target n Store name && each_type_param_fits n parameters && fits_at n Expression value
+      has_types p && is_a_name name && fits_target n Store name && list_all (type_param_fits n) parameters && fits_at n Expression value
   statement_fits p n (Trees.AugAssign target op value) = is_single target && fits_target n Store target && fits_at n Value value
   statement_fits p n (Trees.AnnAssign target annotation value simple) =
       is_single target && (not simple || is_a_name target) && fits_target n Store target && fits_at n Expression annotation
@@ -135,8 +127,8 @@ abbrev mutual
       fits_target n Store target && fits_at n Stars iter && has_stmt body && statements_fit p n body && statements_fit p n orelse
   statement_fits p n (Trees.While test body orelse) = fits_at n Expression test && has_stmt body && statements_fit p n body && statements_fit p n orelse
   statement_fits p n (Trees.If test body orelse) = fits_at n Expression test && has_stmt body && statements_fit p n body && statements_fit p n orelse
-  statement_fits p n (Trees.With items body) = has_one items && each_item_fits n items && has_stmt body && statements_fit p n body
-  statement_fits p n (Trees.AsyncWith items body) = has_one items && each_item_fits n items && has_stmt body && statements_fit p n body
+  statement_fits p n (Trees.With items body) = has_one items && list_all (item_fits n) items && has_stmt body && statements_fit p n body
+  statement_fits p n (Trees.AsyncWith items body) = has_one items && list_all (item_fits n) items && has_stmt body && statements_fit p n body
   statement_fits p n (Trees.Raise exc cause) = raised_fits n exc cause
   statement_fits p n (Trees.Try body handlers orelse finalbody) =
       clauses_fit false handlers orelse finalbody && has_stmt body && statements_fit p n body && handlers_fit p n false handlers
@@ -145,10 +137,10 @@ abbrev mutual
       clauses_fit true handlers orelse finalbody && has_stmt body && statements_fit p n body && handlers_fit p n true handlers
       && statements_fit p n orelse && statements_fit p n finalbody
   statement_fits p n (Trees.Assert test msg) = fits_at n Expression test && perhaps_fits n Expression (optional msg)
-  statement_fits p n (Trees.Import names) = has_one names && each_module n names
+  statement_fits p n (Trees.Import names) = has_one names && list_all (import_fits n) names
   statement_fits p n (Trees.ImportFrom source names level) = source_fits n source level && imports_fit n names
-  statement_fits p n (Trees.Global names) = has_one names && each_name n names
-  statement_fits p n (Trees.Nonlocal names) = has_one names && each_name n names
+  statement_fits p n (Trees.Global names) = has_one names && list_all n names
+  statement_fits p n (Trees.Nonlocal names) = has_one names && list_all n names
   statement_fits p n (Trees.ExprOf value) = fits_at n Value value
   statement_fits p n Trees.Pass = true
   statement_fits p n Trees.Break = true
