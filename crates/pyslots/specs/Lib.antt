@@ -1,0 +1,6 @@
+pub mod Names
+pub mod Literals
+pub mod Slots
+pub mod Statements
+pub mod Given
+pub mod Laws
