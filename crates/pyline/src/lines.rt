@@ -1,6 +1,6 @@
 //! A logical line.
 
-ghost use Rattle.std.specs.Prelude.{◌≤◌, ◌×◌, MatchResult, map};
+ghost use Rattle.std.specs.Prelude.{◌≤◌, MatchResult, map};
 ghost use Rattle.pygrammar.specs.Forms.{FormOf};
 ghost use Rattle.pygrammar.specs.FormHeights.{form_height};
 ghost use Rattle.pyvalue.specs.Terminals.{terminal};
