@@ -27,11 +27,10 @@ use Rattle.pyexpr.specs.declared.actual.Kind.TheVariants as kind
 use Rattle.pyexpr.specs.declared.depth.Depth.{Depth}
 use Rattle.pyexpr.specs.declared.found.Read.{Read}
 use Rattle.pyexpr.specs.declared.stop.Stop.{Stop}
-use Rattle.pyexpr.specs.Inner.Answers.{Failed, Answered}
+use Rattle.pyexpr.specs.Answers.{Failed, Answered, FoundAt}
 use Rattle.pyexpr.specs.Inner.Arguments.{State, start, step, steps, state_of, level_of, place_of, entry_of, IsKindAt, AddedAt, ActualAt, finished, called_from}
-use Rattle.pyexpr.specs.Inner.Found.{FoundAt}
 use Rattle.pyexpr.specs.Inner.Readings.{inner_reads}
-use Rattle.pyexpr.specs.Inner.Views.{Stands, IsNamed, IsNotNamed, seen, first_is, lead_of}
+use Rattle.pyexpr.specs.Views.{Stands, IsNamed, IsNotNamed, seen, first_is, lead_of}
 use Rattle.pyexpr.proofs.ArgumentOrder.{called_steps}
 use Rattle.pyexpr.proofs.LevelSteps.{name_miss}
 use Rattle.pyexpr.proofs.Pushes.{pushed_height}

@@ -14,7 +14,8 @@ use Rattle.pynode.specs.Trees.{Expr, Exprs, exprs}
 use Rattle.pynode.specs.TreeOf.{tree_of}
 use Rattle.pynode.proofs.Callers.ExprShapes.{list_tree, starred_tree, tuple_tree}
 use Rattle.pygrammar.specs.Targets.{all_stored, both, mapped, stored}
-use Rattle.pyexpr.specs.Inner.Answers.{IsChanged, is_starred}
+use Rattle.pyexpr.specs.Answers.{IsChanged}
+use Rattle.pyexpr.specs.Inner.Answers.{is_starred}
 
 -- a `*` in front of a starred expression, and in front of another one
 pub star_twice : (v : Expr) (c : Context) → is_starred v ≡ true → stored (Trees.Starred v c) ≡ None

@@ -8,11 +8,11 @@ ghost use Rattle.pygrammar.specs.Capped.{cap};
 ghost use Rattle.pygrammar.specs.Entries as entries;
 ghost use Rattle.pygrammar.specs.Precedence as precedence;
 ghost use Rattle.pygrammar.specs.Reader as reader;
-ghost use Rattle.pyexpr.specs.Inner.Answers.{Answered, Failed};
+ghost use Rattle.pyexpr.specs.Answers.{Answered, Failed};
 ghost use Rattle.pyexpr.specs.Inner.Arguments as arguments;
 ghost use Rattle.pyexpr.specs.Inner.Arguments.{ActualAt, AddedAt, IsKindAt, arguments_of, entry_of, level_of, place_of, state_of};
 ghost use Rattle.pyexpr.specs.Inner.Readings.{IsOpen, inner_reads};
-ghost use Rattle.pyexpr.specs.Inner.Views.{seen};
+ghost use Rattle.pyexpr.specs.Views.{seen};
 
 use crate::actual::{Actual, Kind};
 use crate::comprehensions::comps;
@@ -28,7 +28,7 @@ use pyvalue::Terminal;
 use std::alloc::Global;
 
 /// No arguments, at a place.
-fn none_at(alloc: Global, at: usize) -> Actual
+pub(crate) fn none_at(alloc: Global, at: usize) -> Actual
     ensures state { state_of result ≡ arguments.start }
     ensures next { result.next ≡ at }
     ensures height { result.height ≡ 0 }
@@ -254,22 +254,6 @@ pub(crate) fn more_arguments(
         let next = grown.next + 1;
         actual = moved(grown, next);
     }
-}
-
-/// The arguments from a place on.
-pub(crate) fn arguments_at(
-    alloc: Global,
-    tokens: &[Terminal],
-    at: usize,
-    depth: Depth,
-) -> Result<Actual, Stop>
-    requires within { at ≤ length tokens.now }
-    requires open { IsOpen depth }
-    ensures { MatchResult result
-        (λ r. ActualAt tokens.now depth.room at arguments.start (arguments_of depth [] (seen tokens.now at)) r)
-        (λ s. Failed s (arguments_of depth [] (seen tokens.now at))) }
-{
-    more_arguments(alloc, tokens, none_at(alloc, at), depth)
 }
 
 /// The call of these arguments, behind which its bracket has to stand.

@@ -7,11 +7,11 @@ ghost use Rattle.pytoken.specs.Terminals as terminals;
 ghost use Rattle.pygrammar.specs.Entries as entries;
 ghost use Rattle.pygrammar.specs.Reader as reader;
 ghost use Rattle.pygrammar.specs.Targets.{stored};
-ghost use Rattle.pyexpr.specs.Inner.Answers.{Answered, Failed};
+ghost use Rattle.pyexpr.specs.Answers.{Answered, Failed};
 ghost use Rattle.pyexpr.specs.Inner.Found.{ClauseAt, ClausesAt, TestsAt};
 ghost use Rattle.pyexpr.specs.Inner.Lists.{items_of};
 ghost use Rattle.pyexpr.specs.Inner.Readings.{IsOpen, inner_reads};
-ghost use Rattle.pyexpr.specs.Inner.Views.{Stands, seen};
+ghost use Rattle.pyexpr.specs.Views.{Stands, seen};
 
 use crate::climbing::climb;
 use crate::depth::Depth;

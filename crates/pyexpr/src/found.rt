@@ -11,7 +11,7 @@ use std::alloc::Global;
 
 /// An expression, its height, and the place behind it.
 #[derive(Drop)]
-pub(crate) struct Read {
+pub struct Read {
     pub expr: Box<Expr>,
     pub height: usize,
     pub next: usize,

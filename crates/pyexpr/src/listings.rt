@@ -8,11 +8,11 @@ ghost use Rattle.pygrammar.specs.Capped.{cap};
 ghost use Rattle.pygrammar.specs.Entries as entries;
 ghost use Rattle.pygrammar.specs.Precedence as precedence;
 ghost use Rattle.pygrammar.specs.Reader as reader;
-ghost use Rattle.pyexpr.specs.Inner.Answers.{Answered, Failed};
+ghost use Rattle.pyexpr.specs.Answers.{Answered, Failed};
 ghost use Rattle.pyexpr.specs.Inner.Found.{ListedAt, entries_of};
 ghost use Rattle.pyexpr.specs.Inner.Lists.{item_reads, items_of, least_of, more_at};
 ghost use Rattle.pyexpr.specs.Inner.Readings.{IsOpen, inner_reads};
-ghost use Rattle.pyexpr.specs.Inner.Views.{Stands, seen};
+ghost use Rattle.pyexpr.specs.Views.{Stands, seen};
 
 use crate::comprehensions::target_item;
 use crate::depth::Depth;
