@@ -1,5 +1,5 @@
 -- What is read at a depth.
-use Rattle.std.specs.Prelude.{List, [], false, cond}
+use Rattle.std.specs.Prelude.{List, [], false, true, cond}
 use Rattle.pynode.specs.Trees.{Arguments, Exprs, Keywords}
 use Rattle.pytoken.specs.Terminals.{Terminal}
 use Rattle.pygrammar.specs.Arguments.{in_order, keywords, positional}

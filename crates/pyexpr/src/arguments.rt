@@ -28,7 +28,7 @@ use pyvalue::Terminal;
 use std::alloc::Global;
 
 /// No arguments, at a place.
-pub(crate) fn none_at(alloc: Global, at: usize) -> Actual
+fn none_at(alloc: Global, at: usize) -> Actual
     ensures state { state_of result ≡ arguments.start }
     ensures next { result.next ≡ at }
     ensures height { result.height ≡ 0 }
@@ -254,6 +254,22 @@ pub(crate) fn more_arguments(
         let next = grown.next + 1;
         actual = moved(grown, next);
     }
+}
+
+/// The arguments from a place on.
+pub(crate) fn arguments(
+    alloc: Global,
+    tokens: &[Terminal],
+    at: usize,
+    depth: Depth,
+) -> Result<Actual, Stop>
+    requires within { at ≤ length tokens.now }
+    requires open { IsOpen depth }
+    ensures { MatchResult result
+        (λ r. ActualAt tokens.now depth.room at arguments.start (arguments_of depth [] (seen tokens.now at)) r)
+        (λ s. Failed s (arguments_of depth [] (seen tokens.now at))) }
+{
+    more_arguments(alloc, tokens, none_at(alloc, at), depth)
 }
 
 /// The call of these arguments, behind which its bracket has to stand.

@@ -30,7 +30,8 @@ mod turns;
 
 pub use depth::Depth;
 pub use expressions::{MOST_HEIGHT, read_at, read_whole};
-pub use found::Read;
+pub use found::{Items, Optional, Read};
+pub use listings::{no_items, push};
 pub use looks::{is_op, is_word, lead_at, name_at, name_with, terminal_at};
 pub use makers::{identifier_of, make_name, starred};
 pub use parts::{ReadArguments, ReadParameters, arguments_at, parameters_at, target_at};

@@ -37,6 +37,18 @@ pub(crate) enum Item {
     Target,
 }
 
+/// A list of no items.
+pub fn no_items(alloc: Global, at: usize) -> Items
+    ensures items { map tree_of result.exprs.items ≡ [] }
+    ensures next { result.next ≡ at }
+{
+    Items {
+        exprs: Vec::new(alloc),
+        height: 0,
+        next: at,
+    }
+}
+
 /// A list of one item.
 pub(crate) fn first_items(alloc: Global, e: Read) -> Result<Items, Stop>
     ensures items { MatchResult result (λ r. map tree_of r.exprs.items ≡ tree_of e.expr.value ∷ [])
@@ -55,7 +67,7 @@ pub(crate) fn first_items(alloc: Global, e: Read) -> Result<Items, Stop>
 
 /// A list with one more item.
 #[tactic(auto, using(crate::proofs::Pushes::pushed, crate::proofs::Pushes::pushed_height))]
-pub(crate) fn push(items: Items, e: Read) -> Result<Items, Stop>
+pub fn push(items: Items, e: Read) -> Result<Items, Stop>
     ensures items { MatchResult result
         (λ r. map tree_of r.exprs.items ≡ map tree_of items.exprs.items ++ (tree_of e.expr.value ∷ []))
         (λ s. s ≡ Stop.Memory) }

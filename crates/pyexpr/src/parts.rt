@@ -13,7 +13,7 @@ ghost use Rattle.pyexpr.specs.Answers.{Answered, PartAnswered};
 ghost use Rattle.pyexpr.specs.Readings.{read_arguments, read_parameters, reads};
 ghost use Rattle.pyexpr.specs.Views.{seen};
 
-use crate::arguments::{more_arguments, none_at};
+use crate::arguments::arguments;
 use crate::comprehensions::read_target;
 use crate::depth::Depth;
 use crate::found::Read;
@@ -47,6 +47,7 @@ pub struct ReadArguments {
 }
 
 /// A target in front of `in`.
+#[tactic(auto, using(crate::proofs::PartSteps::outer_open, crate::proofs::PartSteps::target_outer))]
 pub fn target_at(alloc: Global, tokens: &[Terminal], at: usize, depth: Depth) -> Result<Read, Stop>
     requires { at ≤ length tokens.now }
     ensures { Answered tokens.now (depth.room + 2) (at + 1) (reader.read_target (reads depth) (seen tokens.now at)) result }
@@ -56,6 +57,7 @@ pub fn target_at(alloc: Global, tokens: &[Terminal], at: usize, depth: Depth) ->
 }
 
 /// Parameters with commas between them, with annotations, in their order.
+#[tactic(auto, using(crate::proofs::PartSteps::outer_open))]
 pub fn parameters_at(
     alloc: Global,
     tokens: &[Terminal],
@@ -78,6 +80,7 @@ pub fn parameters_at(
 }
 
 /// Arguments with commas between them, in their order.
+#[tactic(auto, using(crate::proofs::PartSteps::outer_open))]
 pub fn arguments_at(
     alloc: Global,
     tokens: &[Terminal],
@@ -88,7 +91,7 @@ pub fn arguments_at(
     ensures { PartAnswered tokens.now at (read_arguments depth (seen tokens.now at)) (λ r. (exprs (map tree_of r.args.items) , plain.keywords (map keyword_of r.keywords.items))) (λ r. r.next) result }
 {
     let outer = depth.outer()?;
-    let actual = more_arguments(alloc, tokens, none_at(alloc, at), outer)?;
+    let actual = arguments(alloc, tokens, at, outer)?;
     if actual.wrong {
         return Err(Stop::NoForm);
     }
