@@ -16,7 +16,7 @@ use Rattle.pynode.specs.TreeOf.{tree_of, keyword_of}
 use Rattle.pytoken.specs.Terminals.{Terminal, Op}
 use Rattle.pyvalue.specs.declared.terminals.Terminal as given
 use Rattle.pyheight.specs.Heights.{height, list_height, keyword_heights}
-use Rattle.pygrammar.specs.Entries.{Entry, Argument, Single, Spread, Doubled, Keyed}
+use Rattle.pygrammar.specs.Entries.{Entry, Argument}
 use Rattle.pygrammar.specs.Looks.{is_op}
 use Rattle.pygrammar.specs.Precedence.{starts, starts_comp}
 use Rattle.pygrammar.specs.Reader.{Answer, Found, NoForm, TooDeep, and_then, on_first, on_some, made, listing_loop, others_of, read_argument, called_with, call_step, generator_call}

@@ -1,7 +1,7 @@
 -- Targets, parameters and arguments of a line, by those of the parts of an expression.
 --
 -- Carries: target_at, parameters_at, arguments_at. On: Readings, Formals, ArgumentOrder.
-use Rattle.std.proofs.Common.{◌≡◌, refl, sym, ap, ◌∙◌, arith, ℕ, ◌+◌, ◌-◌, ◌≤◌, List, [], length, map, Some, None, Bool, true, false, not, cond, Result}
+use Rattle.std.proofs.Common.{◌≡◌, refl, sym, ap, ◌∙◌, arith, ℕ, ◌+◌, ◌-◌, List, [], map, Some, None, true, false, not, cond, Result}
 use Rattle.pynode.specs.Trees
 use Rattle.pynode.specs.Trees.{Arguments, Exprs, Keywords, exprs}
 use Rattle.pynode.specs.TreeOf.{keyword_of, tree_of}
@@ -69,7 +69,7 @@ module _ (ts : List given.Terminal) (o d : Depth) (at : ℕ) (h : IsOuter o d) w
   arguments_outer = ap (λ (self : Reads). listing_of self Argument [] (seen ts at)) (outer_reads o d h)
 
   abbrev ordered : List Entry → List Terminal → Answer (Exprs × Keywords)
-  ordered es r = cond (in_order false false es) (Found (positional es , rule.keywords es) r) NoForm
+  ordered es r = cond (in_order false false es) (Found (positional es, rule.keywords es) r) NoForm
 
   pub arguments_failed : (e : Stop) → Failed e (arguments_of o [] (seen ts at)) → Failed e (read_arguments d (seen ts at))
   arguments_failed e f = failed_then e (listing_of (reads d) Argument [] (seen ts at)) ordered (rw (← arguments_outer) f)
@@ -78,19 +78,19 @@ module _ (ts : List given.Terminal) (o d : Depth) (at : ℕ) (h : IsOuter o d) w
     order_is : in_order false false f.entries ≡ not a.wrong
     order_is = order_steps f.entries ∙ ap (λ s. not (actuals.wrong_in s)) (sym f.gives)
 
-    arguments_is : read_arguments d (seen ts at) ≡ cond (not a.wrong) (Found (exprs (map tree_of a.args.items) , Trees.keywords (map keyword_of a.keywords.items)) (seen ts a.next)) NoForm
+    arguments_is : read_arguments d (seen ts at) ≡ cond (not a.wrong) (Found (exprs (map tree_of a.args.items), Trees.keywords (map keyword_of a.keywords.items)) (seen ts a.next)) NoForm
     arguments_is =
         let p : positional f.entries ≡ exprs (map tree_of a.args.items) = args_steps f.entries ∙ ap (λ s. exprs (actuals.args_in s)) (sym f.gives) in
         let k : rule.keywords f.entries ≡ Trees.keywords (map keyword_of a.keywords.items) = keywords_steps f.entries ∙ ap (λ s. Trees.keywords (actuals.keywords_in s)) (sym f.gives) in
         ap (λ z. and_then z ordered) (sym arguments_outer ∙ f.is)
-        ∙ (λ i. cond (order_is i) (Found (p i , k i) (seen ts a.next)) NoForm)
+        ∙ (λ i. cond (order_is i) (Found (p i, k i) (seen ts a.next)) NoForm)
 
     pub arguments_wrong : a.wrong ≡ true → read_arguments d (seen ts at) ≡ NoForm
-    arguments_wrong q = arguments_is ∙ ap (λ b. cond (not b) (Found (exprs (map tree_of a.args.items) , Trees.keywords (map keyword_of a.keywords.items)) (seen ts a.next)) NoForm) q
+    arguments_wrong q = arguments_is ∙ ap (λ b. cond (not b) (Found (exprs (map tree_of a.args.items), Trees.keywords (map keyword_of a.keywords.items)) (seen ts a.next)) NoForm) q
 
-    pub arguments_found : a.wrong ≡ false → PartAt ts at (read_arguments d (seen ts at)) (exprs (map tree_of a.args.items) , Trees.keywords (map keyword_of a.keywords.items)) a.next
+    pub arguments_found : a.wrong ≡ false → PartAt ts at (read_arguments d (seen ts at)) (exprs (map tree_of a.args.items), Trees.keywords (map keyword_of a.keywords.items)) a.next
     arguments_found q = record {
       ahead = f.ahead;
       within = f.within;
-      is = arguments_is ∙ ap (λ b. cond (not b) (Found (exprs (map tree_of a.args.items) , Trees.keywords (map keyword_of a.keywords.items)) (seen ts a.next)) NoForm) q;
+      is = arguments_is ∙ ap (λ b. cond (not b) (Found (exprs (map tree_of a.args.items), Trees.keywords (map keyword_of a.keywords.items)) (seen ts a.next)) NoForm) q;
     }

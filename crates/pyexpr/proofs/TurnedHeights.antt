@@ -1,7 +1,7 @@
 -- An expression with other contexts is as high as before.
 --
 -- Carries: stored, single_stored, deleted. On: the heights of targets.
-use Rattle.std.proofs.Common.{◌≡◌, ap, ◌∙◌, sym, ℕ, Some}
+use Rattle.std.proofs.Common.{◌≡◌, ◌∙◌, sym, ℕ, Some}
 use Rattle.pynode.specs.declared.expressions.Expr as given
 use Rattle.pynode.specs.TreeOf.{tree_of}
 use Rattle.pyheight.specs.Heights.{height}

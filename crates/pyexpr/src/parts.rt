@@ -88,7 +88,7 @@ pub fn arguments_at(
     depth: Depth,
 ) -> Result<ReadArguments, Stop>
     requires { at ≤ length tokens.now }
-    ensures { PartAnswered tokens.now at (read_arguments depth (seen tokens.now at)) (λ r. (exprs (map tree_of r.args.items) , plain.keywords (map keyword_of r.keywords.items))) (λ r. r.next) result }
+    ensures { PartAnswered tokens.now at (read_arguments depth (seen tokens.now at)) (λ r. (exprs (map tree_of r.args.items), plain.keywords (map keyword_of r.keywords.items))) (λ r. r.next) result }
 {
     let outer = depth.outer()?;
     let actual = arguments(alloc, tokens, at, outer)?;

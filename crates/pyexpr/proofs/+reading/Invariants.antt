@@ -1,4 +1,4 @@
-use Rattle.std.proofs.Common.{[], ◌+◌, ◌-◌, ◌*◌, ◌≤◌, length, ℕ, ◌<◌, ◌≡◌, map}
+use Rattle.std.proofs.Common.{[], ◌+◌, ◌-◌, ◌*◌, ◌≤◌, length, map}
 use Rattle.pygrammar.specs.Reader.{operation}
 use Rattle.std.proofs.Common.{◌+◌, ◌-◌, ◌*◌, ◌≤◌, length, [], map}
 use Rattle.pygrammar.specs.Reader.{comps_loop, ifs_loop, operation}

@@ -14,7 +14,7 @@ use Rattle.pyexpr.specs.Readings.{read_arguments, read_parameters, reads}
 -- no form behind a sign, and none without it
 never : {B : Type 0} (f : Terminal → Option ℕ) (r : List Terminal) → ◌≡◌ {A = Answer B} (on_first f r (λ _ _. NoForm) NoForm) NoForm
 never f [] = refl
-never f (t ∷ r) = go (f t)
+never {B = B} f (t ∷ r) = go (f t)
   where
     go : (o : Option ℕ) → ◌≡◌ {A = Answer B} (on_some o (λ _. NoForm) NoForm) NoForm
     go None = refl
@@ -36,11 +36,11 @@ module _ {B : Type 0} (d : Depth) (i : List Terminal) where
   pub arguments_then : (k : Exprs → Keywords → List Terminal → Answer B) → and_then (listing_of (reads d) Argument [] i) (λ es r. on_first (is_op RPar) r (λ _ s. cond (in_order false false es) (k (positional es) (keywords es) s) NoForm) NoForm) ≡ and_then {A = Exprs × Keywords} (read_arguments d i) (λ p r. on_first (is_op RPar) r (λ _ s. k p.0 p.1 s) NoForm)
   arguments_then k = go (listing_of (reads d) Argument [] i)
     where
-      one : (b : Bool) (xs : Exprs) (ks : Keywords) (r : List Terminal) → on_first (is_op RPar) r (λ _ s. cond b (k xs ks s) NoForm) NoForm ≡ and_then {A = Exprs × Keywords} (cond b (Found (xs , ks) r) NoForm) (λ p r. on_first (is_op RPar) r (λ _ s. k p.0 p.1 s) NoForm)
+      one : (b : Bool) (xs : Exprs) (ks : Keywords) (r : List Terminal) → on_first (is_op RPar) r (λ _ s. cond b (k xs ks s) NoForm) NoForm ≡ and_then {A = Exprs × Keywords} (cond b (Found (xs, ks) r) NoForm) (λ p r. on_first (is_op RPar) r (λ _ s. k p.0 p.1 s) NoForm)
       one false xs ks r = never (is_op RPar) r
       one true xs ks r = refl
 
-      go : (x : Answer (List Entry)) → and_then x (λ es r. on_first (is_op RPar) r (λ _ s. cond (in_order false false es) (k (positional es) (keywords es) s) NoForm) NoForm) ≡ and_then {A = Exprs × Keywords} (and_then x (λ es r. cond (in_order false false es) (Found (positional es , keywords es) r) NoForm)) (λ p r. on_first (is_op RPar) r (λ _ s. k p.0 p.1 s) NoForm)
+      go : (x : Answer (List Entry)) → and_then x (λ es r. on_first (is_op RPar) r (λ _ s. cond (in_order false false es) (k (positional es) (keywords es) s) NoForm) NoForm) ≡ and_then {A = Exprs × Keywords} (and_then x (λ es r. cond (in_order false false es) (Found (positional es, keywords es) r) NoForm)) (λ p r. on_first (is_op RPar) r (λ _ s. k p.0 p.1 s) NoForm)
       go NoForm = refl
       go TooDeep = refl
       go (Found es r) = one (in_order false false es) (positional es) (keywords es) r

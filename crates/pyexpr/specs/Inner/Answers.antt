@@ -1,5 +1,5 @@
 -- What the program's answers say of the reader's, for nodes that were made.
-use Rattle.std.specs.Prelude.{◌≡◌, ℕ, ◌<◌, Bool, true, false, List, Result, MatchResult}
+use Rattle.std.specs.Prelude.{ℕ, ◌<◌, Bool, true, false, List, Result, MatchResult}
 use Rattle.pynode.specs.Trees.{Expr}
 use Rattle.pynode.specs.Trees as plain
 use Rattle.pyheight.specs.Heights.{height}
