@@ -16,7 +16,7 @@ use Rattle.pynode.specs.TreeOf.{tree_of, keyword_of}
 use Rattle.pytoken.specs.Terminals.{Terminal, Op}
 use Rattle.pyvalue.specs.declared.terminals.Terminal as given
 use Rattle.pyheight.specs.Heights.{height, list_height, keyword_heights}
-use Rattle.pygrammar.specs.Entries.{Entry, Argument, Single, Spread, Doubled, Keyed}
+use Rattle.pygrammar.specs.Entries.{Entry, Argument}
 use Rattle.pygrammar.specs.Looks.{is_op}
 use Rattle.pygrammar.specs.Precedence.{starts, starts_comp}
 use Rattle.pygrammar.specs.Reader.{Answer, Found, NoForm, TooDeep, and_then, on_first, on_some, made, listing_loop, others_of, read_argument, called_with, call_step, generator_call}
@@ -27,11 +27,10 @@ use Rattle.pyexpr.specs.declared.actual.Kind.TheVariants as kind
 use Rattle.pyexpr.specs.declared.depth.Depth.{Depth}
 use Rattle.pyexpr.specs.declared.found.Read.{Read}
 use Rattle.pyexpr.specs.declared.stop.Stop.{Stop}
-use Rattle.pyexpr.specs.Inner.Answers.{Failed, Answered}
+use Rattle.pyexpr.specs.Answers.{Failed, Answered, FoundAt}
 use Rattle.pyexpr.specs.Inner.Arguments.{State, start, step, steps, state_of, level_of, place_of, entry_of, IsKindAt, AddedAt, ActualAt, finished, called_from}
-use Rattle.pyexpr.specs.Inner.Found.{FoundAt}
 use Rattle.pyexpr.specs.Inner.Readings.{inner_reads}
-use Rattle.pyexpr.specs.Inner.Views.{Stands, IsNamed, IsNotNamed, seen, first_is, lead_of}
+use Rattle.pyexpr.specs.Views.{Stands, IsNamed, IsNotNamed, seen, first_is, lead_of}
 use Rattle.pyexpr.proofs.ArgumentOrder.{called_steps}
 use Rattle.pyexpr.proofs.LevelSteps.{name_miss}
 use Rattle.pyexpr.proofs.Pushes.{pushed_height}

@@ -15,9 +15,10 @@ use Rattle.pyexpr.specs.declared.depth.Depth.{Depth}
 use Rattle.pyexpr.specs.declared.found.Read.{Read}
 use Rattle.pyexpr.specs.declared.stop.Stop.{Stop}
 use Rattle.pyexpr.specs.declared.stop.Stop.TheVariants as stop
-use Rattle.pyexpr.specs.Inner.Answers.{Answered}
-use Rattle.pyexpr.specs.Inner.Readings.{IsOpen, reads, inner_reads, same_reads}
-use Rattle.pyexpr.specs.Inner.Views.{seen, first_of}
+use Rattle.pyexpr.specs.Answers.{Answered}
+use Rattle.pyexpr.specs.Readings.{reads}
+use Rattle.pyexpr.specs.Inner.Readings.{IsOpen, inner_reads, same_reads}
+use Rattle.pyexpr.specs.Views.{seen, first_of}
 use Rattle.pyexpr.proofs.Reading.{by_level}
 use Rattle.pyexpr.proofs.Stands.{front}
 

@@ -21,12 +21,13 @@ use Rattle.pyexpr.specs.declared.found.Pair.{Pair}
 use Rattle.pyexpr.specs.declared.found.Pairs.{Pairs}
 use Rattle.pyexpr.specs.declared.listings.Item.TheVariants as item
 use Rattle.pyexpr.specs.declared.stop.Stop.{Stop}
-use Rattle.pyexpr.specs.Inner.Answers.{Failed, Answered, Makes}
+use Rattle.pyexpr.specs.Answers.{Failed, Answered}
+use Rattle.pyexpr.specs.Inner.Answers.{Makes}
 use Rattle.pyexpr.specs.Inner.Found.{ListedAt}
 use Rattle.pyexpr.specs.Inner.Lists.{more_at}
 use Rattle.pyexpr.specs.Inner.Pairs.{PairsAt, more_pairs_at, pair_of, pairs_of}
 use Rattle.pyexpr.specs.Inner.Readings.{inner_reads}
-use Rattle.pyexpr.specs.Inner.Views.{Stands, seen, first_is}
+use Rattle.pyexpr.specs.Views.{Stands, seen, first_is}
 use Rattle.pyexpr.proofs.Reading.{first_miss, failed_then, failed_cap, node}
 use Rattle.pyexpr.proofs.ListSteps.{singles_all}
 use Rattle.pyexpr.proofs.PairSteps.{pairs_keys, pairs_values}

@@ -22,11 +22,11 @@ use Rattle.pyexpr.specs.declared.depth.Depth.{Depth}
 use Rattle.pyexpr.specs.declared.found.Read.{Read}
 use Rattle.pyexpr.specs.declared.found.Items.{Items}
 use Rattle.pyexpr.specs.declared.stop.Stop.{Stop}
-use Rattle.pyexpr.specs.Inner.Answers.{Failed, Answered, Makes}
+use Rattle.pyexpr.specs.Answers.{Failed, Answered, FoundAt}
+use Rattle.pyexpr.specs.Inner.Answers.{Makes}
 use Rattle.pyexpr.specs.Inner.Chains.{LinkedAt, links_of, ComparedAt, MisComparedAt, NotComparedAt}
-use Rattle.pyexpr.specs.Inner.Found.{FoundAt}
 use Rattle.pyexpr.specs.Inner.Readings.{inner_reads}
-use Rattle.pyexpr.specs.Inner.Views.{Stands, seen, first_is}
+use Rattle.pyexpr.specs.Views.{Stands, seen, first_is}
 use Rattle.pyexpr.proofs.Signs.{compares}
 use Rattle.pyexpr.proofs.Reading.{first_miss, failed_then, failed_cap, node, seen_length}
 

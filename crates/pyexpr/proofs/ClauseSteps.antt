@@ -17,10 +17,10 @@ use Rattle.pyexpr.specs.declared.found.Items.{Items}
 use Rattle.pyexpr.specs.declared.found.Clause.{Clause}
 use Rattle.pyexpr.specs.declared.found.Clauses.{Clauses}
 use Rattle.pyexpr.specs.declared.stop.Stop.{Stop}
-use Rattle.pyexpr.specs.Inner.Answers.{Failed}
-use Rattle.pyexpr.specs.Inner.Found.{FoundAt, TestsAt, ClauseAt, ClausesAt}
+use Rattle.pyexpr.specs.Answers.{Failed, FoundAt}
+use Rattle.pyexpr.specs.Inner.Found.{TestsAt, ClauseAt, ClausesAt}
 use Rattle.pyexpr.specs.Inner.Readings.{inner_reads}
-use Rattle.pyexpr.specs.Inner.Views.{Stands, seen, first_is}
+use Rattle.pyexpr.specs.Views.{Stands, seen, first_is}
 use Rattle.pyexpr.proofs.Reading.{first_miss, failed_then, seen_length}
 
 -- one clause

@@ -14,10 +14,10 @@ use Rattle.pygrammar.specs.Capped.{cap, capped_step, capped_climb, capped_loop}
 use Rattle.pyexpr.specs.declared.depth.Depth.{Depth}
 use Rattle.pyexpr.specs.declared.found.Read.{Read}
 use Rattle.pyexpr.specs.declared.stop.Stop.{Stop}
-use Rattle.pyexpr.specs.Inner.Answers.{Failed, Answered}
-use Rattle.pyexpr.specs.Inner.Found.{FoundAt}
-use Rattle.pyexpr.specs.Inner.Readings.{IsOpen, climbing, reads, inner_reads, same_reads, fronts}
-use Rattle.pyexpr.specs.Inner.Views.{seen, first_is}
+use Rattle.pyexpr.specs.Answers.{Failed, Answered, FoundAt}
+use Rattle.pyexpr.specs.Readings.{reads}
+use Rattle.pyexpr.specs.Inner.Readings.{IsOpen, climbing, inner_reads, same_reads, fronts}
+use Rattle.pyexpr.specs.Views.{seen, first_is}
 use Rattle.pyexpr.proofs.Reading.{seen_next, seen_length, first_hit, first_miss, failed_then, again, earlier, by_level}
 
 -- the levels of operators are read by their ranks

@@ -19,11 +19,12 @@ use Rattle.pyexpr.specs.declared.found.Read.{Read}
 use Rattle.pyexpr.specs.declared.found.Items.{Items}
 use Rattle.pyexpr.specs.declared.listings.Item.TheVariants as item
 use Rattle.pyexpr.specs.declared.stop.Stop.{Stop}
-use Rattle.pyexpr.specs.Inner.Answers.{Failed, Answered, Makes}
-use Rattle.pyexpr.specs.Inner.Found.{FoundAt, ListedAt, TestsAt}
+use Rattle.pyexpr.specs.Answers.{Failed, Answered, FoundAt}
+use Rattle.pyexpr.specs.Inner.Answers.{Makes}
+use Rattle.pyexpr.specs.Inner.Found.{ListedAt, TestsAt}
 use Rattle.pyexpr.specs.Inner.Lists.{items_of, more_at}
 use Rattle.pyexpr.specs.Inner.Readings.{inner_reads}
-use Rattle.pyexpr.specs.Inner.Views.{Stands, seen, first_is}
+use Rattle.pyexpr.specs.Views.{Stands, seen, first_is}
 use Rattle.pyexpr.proofs.Reading.{first_miss, failed_then, earlier, low_node, seen_length}
 use Rattle.pyexpr.proofs.ListSteps.{fronted_failed, fronted_found}
 

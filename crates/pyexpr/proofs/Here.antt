@@ -3,7 +3,7 @@
 -- Carries: terminal_at. On: Views.
 use Rattle.std.proofs.Common.{◌≡◌, ℕ, zero, suc, ◌≤◌, ◌<◌, List, [], ◌∷◌, length, get_or, refl, arith, Some, None}
 use Rattle.pyvalue.specs.declared.terminals.Terminal as given
-use Rattle.pyexpr.specs.Inner.Views.{seen, first_of}
+use Rattle.pyexpr.specs.Views.{seen, first_of}
 use Rattle.pyvalue.specs.Terminals.{terminal}
 
 pub here : (ts : List given.Terminal) (at : ℕ) (d : given.Terminal) → at < length ts → first_of (seen ts at) ≡ Some (terminal (get_or ts at d))

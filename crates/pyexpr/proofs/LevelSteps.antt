@@ -20,10 +20,11 @@ use Rattle.pygrammar.specs.Capped.{cap}
 use Rattle.pyexpr.specs.declared.depth.Depth.{Depth}
 use Rattle.pyexpr.specs.declared.found.Read.{Read}
 use Rattle.pyexpr.specs.declared.stop.Stop.{Stop}
-use Rattle.pyexpr.specs.Inner.Answers.{Answered, Makes}
-use Rattle.pyexpr.specs.Inner.Found.{FoundAt, Made}
-use Rattle.pyexpr.specs.Inner.Readings.{IsOpen, reads, inner_reads, level_at}
-use Rattle.pyexpr.specs.Inner.Views.{Stands, IsNamed, IsNotNamed, seen, first_is}
+use Rattle.pyexpr.specs.Answers.{Answered, FoundAt, Made}
+use Rattle.pyexpr.specs.Inner.Answers.{Makes}
+use Rattle.pyexpr.specs.Readings.{reads}
+use Rattle.pyexpr.specs.Inner.Readings.{IsOpen, inner_reads, level_at}
+use Rattle.pyexpr.specs.Views.{Stands, IsNamed, IsNotNamed, seen, first_is}
 use Rattle.pyexpr.proofs.Reading.{by_level, again, earlier, node, first_miss}
 
 -- what was read is the answer

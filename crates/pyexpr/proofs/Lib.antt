@@ -1,3 +1,4 @@
+pub mod Callers
 mod Here
 pub mod Stands
 pub mod Reading
@@ -25,6 +26,9 @@ pub mod BraceSteps
 pub mod CompSteps
 pub mod ClauseSteps
 pub mod TargetShapes
+pub mod Changes
+pub mod TurnedHeights
+pub mod PartSteps
 pub mod TargetSteps
 pub mod ClausePushes
 pub mod ClauseParts

@@ -23,11 +23,11 @@ use Rattle.pyexpr.specs.declared.found.Items.{Items}
 use Rattle.pyexpr.specs.declared.listings.Item.{Item}
 use Rattle.pyexpr.specs.declared.listings.Item.TheVariants as item
 use Rattle.pyexpr.specs.declared.stop.Stop.{Stop}
-use Rattle.pyexpr.specs.Inner.Answers.{Failed}
-use Rattle.pyexpr.specs.Inner.Found.{FoundAt, ListedAt, entries_of}
+use Rattle.pyexpr.specs.Answers.{Failed, FoundAt, Answered}
+use Rattle.pyexpr.specs.Inner.Found.{ListedAt, entries_of}
 use Rattle.pyexpr.specs.Inner.Lists.{item_of, item_reads, items_of, least_of, more_at}
-use Rattle.pyexpr.specs.Inner.Views.{Stands, seen, first_is, lead_of}
-use Rattle.pyexpr.specs.Inner.Answers.{Answered, Makes}
+use Rattle.pyexpr.specs.Views.{Stands, seen, first_is, lead_of}
+use Rattle.pyexpr.specs.Inner.Answers.{Makes}
 use Rattle.pyexpr.proofs.Reading.{first_miss, failed_then, failed_cap, node, seen_length}
 
 abbrev pub loop : Depth → Item → ℕ → List Entry → List Terminal → Answer (List Entry)

@@ -18,10 +18,10 @@ use Rattle.pyexpr.specs.declared.depth.Depth.{Depth}
 use Rattle.pyexpr.specs.declared.found.Pair as pair
 use Rattle.pyexpr.specs.declared.found.Pairs.{Pairs}
 use Rattle.pyexpr.specs.declared.stop.Stop.{Stop}
-use Rattle.pyexpr.specs.Inner.Answers.{Failed}
+use Rattle.pyexpr.specs.Answers.{Failed}
 use Rattle.pyexpr.specs.Inner.Pairs.{PairAt, PairsAt, entry, more_pairs_at, pair_of, pairs_of, zipped}
 use Rattle.pyexpr.specs.Inner.Readings.{inner_reads}
-use Rattle.pyexpr.specs.Inner.Views.{Stands, seen, first_is, lead_of}
+use Rattle.pyexpr.specs.Views.{Stands, seen, first_is, lead_of}
 use Rattle.pyexpr.proofs.Pushes.{pushed}
 use Rattle.pyexpr.proofs.Reading.{first_miss, failed_then, seen_length}
 

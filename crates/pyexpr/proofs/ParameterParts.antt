@@ -18,11 +18,11 @@ use Rattle.pyexpr.specs.declared.found.Optional.{Optional}
 use Rattle.pyexpr.specs.declared.found.Read.{Read}
 use Rattle.pyexpr.specs.declared.signatures.ReadParameter.{ReadParameter}
 use Rattle.pyexpr.specs.declared.stop.Stop.{Stop}
-use Rattle.pyexpr.specs.Inner.Answers.{Failed}
-use Rattle.pyexpr.specs.Inner.Found.{FoundAt, OptionalAt}
+use Rattle.pyexpr.specs.Answers.{Failed, FoundAt}
+use Rattle.pyexpr.specs.Inner.Found.{OptionalAt}
 use Rattle.pyexpr.specs.Inner.Readings.{inner_reads}
 use Rattle.pyexpr.specs.Inner.Signatures.{ParameterAnswered, plain_reads, gathered_reads, collected_reads}
-use Rattle.pyexpr.specs.Inner.Views.{Stands, seen, first_is}
+use Rattle.pyexpr.specs.Views.{Stands, seen, first_is}
 use Rattle.pyexpr.proofs.Reading.{failed_then, first_hit, seen_next}
 
 module _ (ts : List given.Terminal) (d : Depth) (at : ℕ) where

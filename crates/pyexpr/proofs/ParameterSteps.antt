@@ -21,14 +21,14 @@ use Rattle.pyexpr.specs.declared.found.Read.{Read}
 use Rattle.pyexpr.specs.declared.signatures.ReadParameter.{ReadParameter}
 use Rattle.pyexpr.specs.declared.signatures.Signature.{Signature}
 use Rattle.pyexpr.specs.declared.stop.Stop.{Stop}
-use Rattle.pyexpr.specs.Inner.Answers.{Answered, Failed, Makes}
+use Rattle.pyexpr.specs.Answers.{Answered, Failed, FoundAt}
+use Rattle.pyexpr.specs.Inner.Answers.{Makes}
 use Rattle.pyexpr.specs.Inner.FormalHeights.{entry_height, entry_heights}
 use Rattle.pyexpr.specs.Inner.Formals.{State, start, step, steps, outcome}
 use Rattle.pyexpr.specs.Inner.FormalStates.{state_of, entry_of}
-use Rattle.pyexpr.specs.Inner.Found.{FoundAt}
 use Rattle.pyexpr.specs.Inner.Readings.{inner_reads}
 use Rattle.pyexpr.specs.Inner.Signatures.{ParameterAt, SignatureAt}
-use Rattle.pyexpr.specs.Inner.Views.{Stands, seen, first_is}
+use Rattle.pyexpr.specs.Views.{Stands, seen, first_is}
 use Rattle.pyexpr.proofs.Formals.{arranged_steps}
 use Rattle.pyexpr.proofs.Reading.{failed_cap, failed_then, first_miss, node, seen_length}
 use Rattle.pyexpr.proofs.SignatureHeights.{arranged_height, entry_heights_more}

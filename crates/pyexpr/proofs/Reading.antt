@@ -17,9 +17,11 @@ use Rattle.pyexpr.specs.declared.depth.Depth.{Depth}
 use Rattle.pyexpr.specs.declared.found.Read.{Read}
 use Rattle.pyexpr.specs.declared.stop.Stop.{Stop}
 use Rattle.pyexpr.specs.declared.stop.Stop.TheVariants as stop
-use Rattle.pyexpr.specs.Inner.Answers.{Failed, Answered, Makes}
-use Rattle.pyexpr.specs.Inner.Readings.{IsOpen, reads, level_at}
-use Rattle.pyexpr.specs.Inner.Views.{seen, first_is}
+use Rattle.pyexpr.specs.Answers.{Failed, Answered}
+use Rattle.pyexpr.specs.Inner.Answers.{Makes}
+use Rattle.pyexpr.specs.Readings.{reads}
+use Rattle.pyexpr.specs.Inner.Readings.{IsOpen, level_at}
+use Rattle.pyexpr.specs.Views.{seen, first_is}
 
 -- places
 pub seen_next : (ts : List given.Terminal) (n : ℕ) → drop 1 (seen ts n) ≡ seen ts (n + 1)

@@ -12,7 +12,8 @@ use Rattle.pyvalue.specs.Terminals.{terminal}
 use Rattle.pygrammar.specs.Constants.{joined}
 use Rattle.pygrammar.specs.Reader.{Answer, Found, NoForm, TooDeep, and_then, made, constant_of, string_run}
 use Rattle.pyexpr.specs.Inner.Runs.{run}
-use Rattle.pyexpr.specs.Inner.Views.{seen, first_is, literal_in}
+use Rattle.pyexpr.specs.Views.{seen, first_is}
+use Rattle.pyexpr.specs.Inner.Views.{literal_in}
 
 run_front : (v : Value) (acc : List Value) (r : List Terminal) → string_run (v ∷ acc) r ≡ and_then (string_run acc r) (λ vs s. Found (v ∷ vs) s)
 run_front v acc [] = refl

@@ -19,7 +19,7 @@ use Rattle.pygrammar.specs.Reader.{Answer, NoForm, TooDeep, Reads, on_first, on_
 use Rattle.pyexpr.specs.declared.chains.Compared.{Compared}
 use Rattle.pyexpr.specs.declared.stop.Stop.TheVariants as stop
 use Rattle.pyexpr.specs.Inner.Chains.{ComparedAt, MisComparedAt, NotComparedAt}
-use Rattle.pyexpr.specs.Inner.Views.{Stands, seen, first_is, first_of}
+use Rattle.pyexpr.specs.Views.{Stands, seen, first_is, first_of}
 use Rattle.pyexpr.proofs.Reading.{first_hit, first_miss, seen_next}
 use Rattle.pyexpr.proofs.Stands.{front}
 

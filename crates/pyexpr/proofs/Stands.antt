@@ -11,7 +11,7 @@ use Rattle.pyvalue.specs.Terminals.{terminal}
 use Rattle.pygrammar.specs.Looks.{is_op, is_word, name_in}
 use Rattle.pygrammar.specs.Reader.{on_some, on_first, on_name_with}
 use Rattle.pygrammar.proofs.Callers.Terminals.{op_is, op_or_not, word_is, word_or_not}
-use Rattle.pyexpr.specs.Inner.Views.{Stands, IsNamed, IsNotNamed, seen, first_of, first_is}
+use Rattle.pyexpr.specs.Views.{Stands, IsNamed, IsNotNamed, seen, first_of, first_is}
 
 uncons : (xs : List Terminal) (t : Terminal) → first_of xs ≡ Some t → xs ≡ t ∷ drop 1 xs
 uncons [] t h = absurd (cc)

@@ -1,6 +1,6 @@
 -- An expression of the program is a target of the shape that its value has.
 --
--- Carries: is_starred, store. On: TreeOf.
+-- Carries: is_starred, store, store_single, delete. On: TreeOf.
 use Rattle.std.proofs.Common.{◌≡◌, Global, refl, sym, subst, None, false}
 use Rattle.std.specs.declared.vec.Vec.{Vec}
 use Rattle.std.specs.declared.boxed.Box.{Box}
@@ -16,7 +16,7 @@ use Rattle.pynode.specs.declared.expressions.Keyword.{Keyword}
 use Rattle.pynode.specs.Trees as plain
 use Rattle.pynode.specs.Trees.{Identifier}
 use Rattle.pynode.specs.TreeOf.{tree_of, arg_of, arguments_of, comprehension_of, keyword_of, expr_step, arg_step, arguments_step, comprehension_step, keyword_step}
-use Rattle.pygrammar.specs.Targets.{stored}
+use Rattle.pygrammar.specs.Targets.{deleted, single_stored, stored}
 use Rattle.pyexpr.specs.Inner.Answers.{is_starred}
 
 -- one node, whose children are nodes of the program
@@ -84,3 +84,30 @@ module _ (e : Expr) where
 
     pub not_stored : stored (tree_of e) ≡ None
     not_stored = none_stored (tree_of e) (has_shape e)
+
+  module _
+      (no_attribute : (value : Box Expr Global) (attr : Identifier) (ctx : Context) → e ≡ variant.Attribute value attr ctx → ⊥)
+      (no_subscript : (value : Box Expr Global) (slice : Box Expr Global) (ctx : Context) → e ≡ variant.Subscript value slice ctx → ⊥)
+      (no_name : (id : Identifier) (ctx : Context) → e ≡ variant.Name id ctx → ⊥) where
+    none_single : (t : plain.Expr) → HasShape t e → single_stored t ≡ None
+    none_single (plain.Attribute _ _ _) h = absurd (no_attribute h.0 h.1 h.2 h.3)
+    none_single (plain.Subscript _ _ _) h = absurd (no_subscript h.0 h.1 h.2 h.3)
+    none_single (plain.Name _ _) h = absurd (no_name h.0 h.1 h.2)
+    none_single _ h = refl
+
+    pub not_single : single_stored (tree_of e) ≡ None
+    not_single = none_single (tree_of e) (has_shape e)
+
+    module _
+        (no_list : (elts : Vec Expr Global) (ctx : Context) → e ≡ variant.List elts ctx → ⊥)
+        (no_tuple : (elts : Vec Expr Global) (ctx : Context) → e ≡ variant.Tuple elts ctx → ⊥) where
+      none_deleted : (t : plain.Expr) → HasShape t e → deleted t ≡ None
+      none_deleted (plain.Attribute _ _ _) h = absurd (no_attribute h.0 h.1 h.2 h.3)
+      none_deleted (plain.Subscript _ _ _) h = absurd (no_subscript h.0 h.1 h.2 h.3)
+      none_deleted (plain.Name _ _) h = absurd (no_name h.0 h.1 h.2)
+      none_deleted (plain.ListOf _ _) h = absurd (no_list h.0 h.1 h.2)
+      none_deleted (plain.Tuple _ _) h = absurd (no_tuple h.0 h.1 h.2)
+      none_deleted _ h = refl
+
+      pub not_deleted : deleted (tree_of e) ≡ None
+      not_deleted = none_deleted (tree_of e) (has_shape e)

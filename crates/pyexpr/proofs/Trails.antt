@@ -16,10 +16,11 @@ use Rattle.pygrammar.specs.Capped.{cap, capped_primary}
 use Rattle.pyexpr.specs.declared.depth.Depth.{Depth}
 use Rattle.pyexpr.specs.declared.found.Read.{Read}
 use Rattle.pyexpr.specs.declared.stop.Stop.{Stop}
-use Rattle.pyexpr.specs.Inner.Answers.{Failed, Answered, Makes}
-use Rattle.pyexpr.specs.Inner.Found.{FoundAt}
-use Rattle.pyexpr.specs.Inner.Readings.{IsOpen, reads, inner_reads}
-use Rattle.pyexpr.specs.Inner.Views.{Stands, seen, first_is}
+use Rattle.pyexpr.specs.Answers.{Failed, Answered, FoundAt}
+use Rattle.pyexpr.specs.Inner.Answers.{Makes}
+use Rattle.pyexpr.specs.Readings.{reads}
+use Rattle.pyexpr.specs.Inner.Readings.{IsOpen, inner_reads}
+use Rattle.pyexpr.specs.Views.{Stands, seen, first_is}
 use Rattle.pyexpr.proofs.Reading.{seen_next, seen_length, first_hit, first_miss, failed_then, failed_cap, again, node, by_level}
 
 abbrev pub primary_step : Reads → Reads → ℕ → List Terminal → Answer Expr

@@ -15,8 +15,8 @@ use Rattle.pygrammar.specs.Capped.{cap, capped, limit}
 use Rattle.pygrammar.proofs.Callers.Law.{limit_meets}
 use Rattle.pyexpr.specs.declared.stop.Stop.{Stop}
 use Rattle.pyexpr.specs.declared.stop.Stop.TheVariants as stop
-use Rattle.pyexpr.specs.Inner.Answers.{Failed}
-use Rattle.pyexpr.specs.Inner.Views.{seen}
+use Rattle.pyexpr.specs.Answers.{Failed}
+use Rattle.pyexpr.specs.Views.{seen}
 use Rattle.pyexpr.specs.Expressions.{IsExpression, Refused}
 use Rattle.pyexpr.proofs.Reading.{cap_low, cap_high, seen_length}
 

@@ -1,2 +1,5 @@
 pub mod Inner
+pub mod Answers
 pub mod Expressions
+pub mod Readings
+pub mod Views

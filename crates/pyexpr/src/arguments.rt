@@ -8,11 +8,11 @@ ghost use Rattle.pygrammar.specs.Capped.{cap};
 ghost use Rattle.pygrammar.specs.Entries as entries;
 ghost use Rattle.pygrammar.specs.Precedence as precedence;
 ghost use Rattle.pygrammar.specs.Reader as reader;
-ghost use Rattle.pyexpr.specs.Inner.Answers.{Answered, Failed};
+ghost use Rattle.pyexpr.specs.Answers.{Answered, Failed};
 ghost use Rattle.pyexpr.specs.Inner.Arguments as arguments;
 ghost use Rattle.pyexpr.specs.Inner.Arguments.{ActualAt, AddedAt, IsKindAt, arguments_of, entry_of, level_of, place_of, state_of};
 ghost use Rattle.pyexpr.specs.Inner.Readings.{IsOpen, inner_reads};
-ghost use Rattle.pyexpr.specs.Inner.Views.{seen};
+ghost use Rattle.pyexpr.specs.Views.{seen};
 
 use crate::actual::{Actual, Kind};
 use crate::comprehensions::comps;
@@ -257,7 +257,7 @@ pub(crate) fn more_arguments(
 }
 
 /// The arguments from a place on.
-pub(crate) fn arguments_at(
+pub(crate) fn arguments(
     alloc: Global,
     tokens: &[Terminal],
     at: usize,

@@ -8,9 +8,10 @@ ghost use Rattle.pygrammar.specs.Entries as entries;
 ghost use Rattle.pygrammar.specs.Looks as signs;
 ghost use Rattle.pygrammar.specs.Precedence as precedence;
 ghost use Rattle.pygrammar.specs.Reader as reader;
-ghost use Rattle.pyexpr.specs.Inner.Answers.{Answered, Failed};
-ghost use Rattle.pyexpr.specs.Inner.Readings.{IsOpen, inner_reads, level_at, reads, same_reads};
-ghost use Rattle.pyexpr.specs.Inner.Views.{Stands, seen};
+ghost use Rattle.pyexpr.specs.Answers.{Answered, Failed};
+ghost use Rattle.pyexpr.specs.Readings.{reads};
+ghost use Rattle.pyexpr.specs.Inner.Readings.{IsOpen, inner_reads, level_at, same_reads};
+ghost use Rattle.pyexpr.specs.Views.{Stands, seen};
 ghost use Rattle.pyvalue.specs.Terminals.{terminal};
 ghost use Rattle.pytoken.specs.Terminals as terminals;
 

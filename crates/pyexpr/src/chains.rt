@@ -7,10 +7,11 @@ ghost use Rattle.pygrammar.specs.Capped.{cap};
 ghost use Rattle.pygrammar.specs.Operators as operators;
 ghost use Rattle.pygrammar.specs.Precedence as precedence;
 ghost use Rattle.pygrammar.specs.Reader as reader;
-ghost use Rattle.pyexpr.specs.Inner.Answers.{Answered, Failed};
+ghost use Rattle.pyexpr.specs.Answers.{Answered, Failed};
 ghost use Rattle.pyexpr.specs.Inner.Chains.{ComparedAt, LinkedAt, MisComparedAt, NotComparedAt, links_of};
 ghost use Rattle.pyexpr.specs.Inner.Readings.{IsOpen, climbing, inner_reads};
-ghost use Rattle.pyexpr.specs.Inner.Views.{Stands, first_is, infix_value, seen};
+ghost use Rattle.pyexpr.specs.Views.{Stands, first_is, seen};
+ghost use Rattle.pyexpr.specs.Inner.Views.{infix_value};
 
 use crate::climbing::climb;
 use crate::depth::Depth;

@@ -6,9 +6,11 @@ ghost use Rattle.pynode.specs.Trees as plain;
 ghost use Rattle.pygrammar.specs.Capped.{cap};
 ghost use Rattle.pygrammar.specs.Precedence as precedence;
 ghost use Rattle.pygrammar.specs.Reader as reader;
-ghost use Rattle.pyexpr.specs.Inner.Answers.{Answered};
-ghost use Rattle.pyexpr.specs.Inner.Readings.{IsInfix, IsOpen, IsPrefix, climbing, fronts, inner_reads, reads};
-ghost use Rattle.pyexpr.specs.Inner.Views.{first_is, infix_value, prefix_value, seen};
+ghost use Rattle.pyexpr.specs.Answers.{Answered};
+ghost use Rattle.pyexpr.specs.Readings.{reads};
+ghost use Rattle.pyexpr.specs.Inner.Readings.{IsInfix, IsOpen, IsPrefix, climbing, fronts, inner_reads};
+ghost use Rattle.pyexpr.specs.Views.{first_is, seen};
+ghost use Rattle.pyexpr.specs.Inner.Views.{infix_value, prefix_value};
 
 use crate::chains::{chain, compare};
 use crate::depth::Depth;

@@ -7,16 +7,16 @@ ghost use Rattle.pytoken.specs.Terminals as terminals;
 ghost use Rattle.pygrammar.specs.Entries as entries;
 ghost use Rattle.pygrammar.specs.Reader as reader;
 ghost use Rattle.pygrammar.specs.Targets.{stored};
-ghost use Rattle.pyexpr.specs.Inner.Answers.{Answered, Failed};
+ghost use Rattle.pyexpr.specs.Answers.{Answered, Failed};
 ghost use Rattle.pyexpr.specs.Inner.Found.{ClauseAt, ClausesAt, TestsAt};
 ghost use Rattle.pyexpr.specs.Inner.Lists.{items_of};
 ghost use Rattle.pyexpr.specs.Inner.Readings.{IsOpen, inner_reads};
-ghost use Rattle.pyexpr.specs.Inner.Views.{Stands, seen};
+ghost use Rattle.pyexpr.specs.Views.{Stands, seen};
 
 use crate::climbing::climb;
 use crate::depth::Depth;
 use crate::found::{Clause, Clauses, Items, Read};
-use crate::listings::{Item, others, push};
+use crate::listings::{Item, no_items, others, push};
 use crate::looks::{is_op, is_word};
 use crate::makers::{make_starred, make_tuple};
 use crate::primaries::read_primary;
@@ -87,18 +87,6 @@ fn target_tuple(alloc: Global, tokens: &[Terminal], first: Read, depth: Depth) -
         Some(room) => make_tuple(alloc, items.exprs, items.height, items.next, room),
         // No memory holds a tree of such a height.
         None => Err(Stop::Memory),
-    }
-}
-
-/// A list of no items.
-fn no_items(alloc: Global, at: usize) -> Items
-    ensures items { map tree_of result.exprs.items ≡ [] }
-    ensures next { result.next ≡ at }
-{
-    Items {
-        exprs: Vec::new(alloc),
-        height: 0,
-        next: at,
     }
 }
 

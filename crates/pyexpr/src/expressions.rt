@@ -1,12 +1,12 @@
 //! An expression of a list of terminals.
 
-ghost use Rattle.std.specs.Prelude.{◌≡◌, ◌≤◌, MatchResult, map};
+ghost use Rattle.std.specs.Prelude.{◌≡◌, ◌+◌, ◌≤◌, MatchResult, length, map};
 ghost use Rattle.pynode.specs.TreeOf.{tree_of};
 ghost use Rattle.pyvalue.specs.Terminals.{terminal};
 ghost use Rattle.pyexpr.specs.Expressions.{IsExpression, Refused};
-ghost use Rattle.pyexpr.specs.Inner.Answers.{Answered};
-ghost use Rattle.pyexpr.specs.Inner.Readings.{reads};
-ghost use Rattle.pyexpr.specs.Inner.Views.{seen};
+ghost use Rattle.pyexpr.specs.Answers.{Answered};
+ghost use Rattle.pyexpr.specs.Readings.{reads};
+ghost use Rattle.pyexpr.specs.Views.{seen};
 
 use crate::atoms::read_atom;
 use crate::climbing::climb;
@@ -26,35 +26,42 @@ use std::alloc::Global;
 /// How high an expression may be.
 pub const MOST_HEIGHT: usize = 500;
 
-/// Reads an expression of a level at the front of some terminals.
-fn read_level(alloc: Global, tokens: &[Terminal], level: Level, depth: Depth) -> Result<Read, Stop>
-    ensures { Answered tokens.now depth.room 1 (reads depth level (seen tokens.now 0)) result }
+/// Reads an expression of a level at a place of some terminals.
+pub fn read_at(
+    alloc: Global,
+    tokens: &[Terminal],
+    level: Level,
+    at: usize,
+    depth: Depth,
+) -> Result<Read, Stop>
+    requires { at ≤ length tokens.now }
+    ensures { Answered tokens.now depth.room (at + 1) (reads depth level (seen tokens.now at)) result }
 {
     match level {
-        Level::Value => read_value(alloc, tokens, 0, depth),
-        Level::Stars => read_stars(alloc, tokens, 0, depth),
-        Level::StarItem => read_star_item(alloc, tokens, 0, depth),
-        Level::Elem => read_elem(alloc, tokens, 0, depth),
-        Level::Named => read_named(alloc, tokens, 0, depth),
-        Level::Expression => read_expression(alloc, tokens, 0, depth),
-        Level::Or => climb(alloc, tokens, Level::Or, 0, depth),
-        Level::And => climb(alloc, tokens, Level::And, 0, depth),
-        Level::Not => climb(alloc, tokens, Level::Not, 0, depth),
-        Level::Compare => climb(alloc, tokens, Level::Compare, 0, depth),
-        Level::BitOr => climb(alloc, tokens, Level::BitOr, 0, depth),
-        Level::BitXor => climb(alloc, tokens, Level::BitXor, 0, depth),
-        Level::BitAnd => climb(alloc, tokens, Level::BitAnd, 0, depth),
-        Level::Shift => climb(alloc, tokens, Level::Shift, 0, depth),
-        Level::Sum => climb(alloc, tokens, Level::Sum, 0, depth),
-        Level::Term => climb(alloc, tokens, Level::Term, 0, depth),
-        Level::Factor => climb(alloc, tokens, Level::Factor, 0, depth),
-        Level::Power => climb(alloc, tokens, Level::Power, 0, depth),
-        Level::Await => climb(alloc, tokens, Level::Await, 0, depth),
-        Level::Primary => read_primary(alloc, tokens, 0, depth),
-        Level::Atom => read_atom(alloc, tokens, 0, depth),
-        Level::Slices => read_slices(alloc, tokens, 0, depth),
-        Level::Part => read_part(alloc, tokens, 0, depth),
-        Level::Slice => read_slice(alloc, tokens, 0, depth),
+        Level::Value => read_value(alloc, tokens, at, depth),
+        Level::Stars => read_stars(alloc, tokens, at, depth),
+        Level::StarItem => read_star_item(alloc, tokens, at, depth),
+        Level::Elem => read_elem(alloc, tokens, at, depth),
+        Level::Named => read_named(alloc, tokens, at, depth),
+        Level::Expression => read_expression(alloc, tokens, at, depth),
+        Level::Or => climb(alloc, tokens, Level::Or, at, depth),
+        Level::And => climb(alloc, tokens, Level::And, at, depth),
+        Level::Not => climb(alloc, tokens, Level::Not, at, depth),
+        Level::Compare => climb(alloc, tokens, Level::Compare, at, depth),
+        Level::BitOr => climb(alloc, tokens, Level::BitOr, at, depth),
+        Level::BitXor => climb(alloc, tokens, Level::BitXor, at, depth),
+        Level::BitAnd => climb(alloc, tokens, Level::BitAnd, at, depth),
+        Level::Shift => climb(alloc, tokens, Level::Shift, at, depth),
+        Level::Sum => climb(alloc, tokens, Level::Sum, at, depth),
+        Level::Term => climb(alloc, tokens, Level::Term, at, depth),
+        Level::Factor => climb(alloc, tokens, Level::Factor, at, depth),
+        Level::Power => climb(alloc, tokens, Level::Power, at, depth),
+        Level::Await => climb(alloc, tokens, Level::Await, at, depth),
+        Level::Primary => read_primary(alloc, tokens, at, depth),
+        Level::Atom => read_atom(alloc, tokens, at, depth),
+        Level::Slices => read_slices(alloc, tokens, at, depth),
+        Level::Part => read_part(alloc, tokens, at, depth),
+        Level::Slice => read_slice(alloc, tokens, at, depth),
     }
 }
 
@@ -71,11 +78,7 @@ pub fn read_whole(alloc: Global, tokens: &[Terminal], level: Level) -> Result<Bo
         (λ e. IsExpression level (map terminal tokens.now) (tree_of e.value))
         (λ s. Refused s level (map terminal tokens.now)) }
 {
-    let depth = Depth {
-        steps: tokens.len() + 1,
-        room: MOST_HEIGHT + 1,
-    };
-    let read = read_level(alloc, tokens, level, depth)?;
+    let read = read_at(alloc, tokens, level, 0, Depth::of(tokens))?;
     if read.height > MOST_HEIGHT {
         return Err(Stop::TooDeep);
     }

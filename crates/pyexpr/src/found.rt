@@ -11,7 +11,7 @@ use std::alloc::Global;
 
 /// An expression, its height, and the place behind it.
 #[derive(Drop)]
-pub(crate) struct Read {
+pub struct Read {
     pub expr: Box<Expr>,
     pub height: usize,
     pub next: usize,
@@ -20,7 +20,7 @@ pub(crate) struct Read {
 
 /// The expressions of a list, the height of the highest, and the place behind the last.
 #[derive(Drop)]
-pub(crate) struct Items {
+pub struct Items {
     pub exprs: Vec<Expr>,
     pub height: usize,
     pub next: usize,
@@ -73,7 +73,7 @@ pub(crate) struct Clauses {
 
 /// An expression that may be left out.
 #[derive(Drop)]
-pub(crate) struct Optional {
+pub struct Optional {
     pub expr: Option<Box<Expr>>,
     pub height: usize,
     pub next: usize,

@@ -6,9 +6,10 @@ ghost use Rattle.pynode.specs.Trees as plain;
 ghost use Rattle.pygrammar.specs.Capped.{cap};
 ghost use Rattle.pygrammar.specs.Reader as reader;
 ghost use Rattle.pygrammar.specs.Looks as signs;
-ghost use Rattle.pyexpr.specs.Inner.Answers.{Answered};
-ghost use Rattle.pyexpr.specs.Inner.Readings.{IsOpen, inner_reads, level_at, reads};
-ghost use Rattle.pyexpr.specs.Inner.Views.{seen};
+ghost use Rattle.pyexpr.specs.Answers.{Answered};
+ghost use Rattle.pyexpr.specs.Readings.{reads};
+ghost use Rattle.pyexpr.specs.Inner.Readings.{IsOpen, inner_reads, level_at};
+ghost use Rattle.pyexpr.specs.Views.{seen};
 
 use crate::climbing::climb;
 use crate::depth::Depth;

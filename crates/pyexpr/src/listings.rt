@@ -8,11 +8,11 @@ ghost use Rattle.pygrammar.specs.Capped.{cap};
 ghost use Rattle.pygrammar.specs.Entries as entries;
 ghost use Rattle.pygrammar.specs.Precedence as precedence;
 ghost use Rattle.pygrammar.specs.Reader as reader;
-ghost use Rattle.pyexpr.specs.Inner.Answers.{Answered, Failed};
+ghost use Rattle.pyexpr.specs.Answers.{Answered, Failed};
 ghost use Rattle.pyexpr.specs.Inner.Found.{ListedAt, entries_of};
 ghost use Rattle.pyexpr.specs.Inner.Lists.{item_reads, items_of, least_of, more_at};
 ghost use Rattle.pyexpr.specs.Inner.Readings.{IsOpen, inner_reads};
-ghost use Rattle.pyexpr.specs.Inner.Views.{Stands, seen};
+ghost use Rattle.pyexpr.specs.Views.{Stands, seen};
 
 use crate::comprehensions::target_item;
 use crate::depth::Depth;
@@ -37,6 +37,18 @@ pub(crate) enum Item {
     Target,
 }
 
+/// A list of no items.
+pub fn no_items(alloc: Global, at: usize) -> Items
+    ensures items { map tree_of result.exprs.items ≡ [] }
+    ensures next { result.next ≡ at }
+{
+    Items {
+        exprs: Vec::new(alloc),
+        height: 0,
+        next: at,
+    }
+}
+
 /// A list of one item.
 pub(crate) fn first_items(alloc: Global, e: Read) -> Result<Items, Stop>
     ensures items { MatchResult result (λ r. map tree_of r.exprs.items ≡ tree_of e.expr.value ∷ [])
@@ -55,7 +67,7 @@ pub(crate) fn first_items(alloc: Global, e: Read) -> Result<Items, Stop>
 
 /// A list with one more item.
 #[tactic(auto, using(crate::proofs::Pushes::pushed, crate::proofs::Pushes::pushed_height))]
-pub(crate) fn push(items: Items, e: Read) -> Result<Items, Stop>
+pub fn push(items: Items, e: Read) -> Result<Items, Stop>
     ensures items { MatchResult result
         (λ r. map tree_of r.exprs.items ≡ map tree_of items.exprs.items ++ (tree_of e.expr.value ∷ []))
         (λ s. s ≡ Stop.Memory) }

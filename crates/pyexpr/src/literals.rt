@@ -4,9 +4,9 @@ ghost use Rattle.std.specs.Prelude.{◌≡◌, ◌++◌, ◌≤◌, MatchResult,
 ghost use Rattle.pynode.specs.Values as values;
 ghost use Rattle.pytoken.specs.StringValues.{string_value};
 ghost use Rattle.pyvalue.specs.Terminals.{literal_characters};
-ghost use Rattle.pyexpr.specs.Inner.Answers.{Answered};
+ghost use Rattle.pyexpr.specs.Answers.{Answered};
 ghost use Rattle.pyexpr.specs.Inner.Runs.{Joins, Parts, run};
-ghost use Rattle.pyexpr.specs.Inner.Views.{seen};
+ghost use Rattle.pyexpr.specs.Views.{seen};
 
 use crate::found::Read;
 use crate::looks::literal_at;

@@ -8,7 +8,8 @@ ghost use Rattle.pygrammar.specs.Precedence as precedence;
 ghost use Rattle.pygrammar.specs.Targets.{mapped};
 ghost use Rattle.pygrammar.specs.Looks as signs;
 ghost use Rattle.pytoken.specs.Terminals as plain;
-ghost use Rattle.pyexpr.specs.Inner.Views.{IsNamed, IsNotNamed, Stands, first_is, first_of, lead_of, literal_in, seen};
+ghost use Rattle.pyexpr.specs.Views.{IsNamed, IsNotNamed, Stands, first_is, first_of, lead_of, seen};
+ghost use Rattle.pyexpr.specs.Inner.Views.{literal_in};
 ghost use Rattle.pyvalue.specs.Terminals.{literal_characters, terminal};
 
 use pylex::Exact;
@@ -17,7 +18,7 @@ use pyvalue::{LiteralText, Terminal};
 
 /// The terminal at a place.
 #[tactic(auto, using(crate::proofs::Here::here, crate::proofs::Here::past))]
-pub(crate) fn terminal_at<'a>(tokens: &[Terminal<'a>], at: usize) -> Option<Terminal<'a>>
+pub fn terminal_at<'a>(tokens: &[Terminal<'a>], at: usize) -> Option<Terminal<'a>>
     ensures within { IfSome result (λ _. at < length tokens.now) }
     ensures is { first_of (seen tokens.now at) ≡ mapped terminal result }
 {
@@ -39,7 +40,7 @@ fn op_is(t: Terminal, sign: Exact) -> bool
 }
 
 /// Whether this sign stands at the place.
-pub(crate) fn is_op(tokens: &[Terminal], at: usize, sign: Exact) -> bool
+pub fn is_op(tokens: &[Terminal], at: usize, sign: Exact) -> bool
     ensures { MatchBool result (Stands (plain.Op sign) tokens.now at)
         (None ≡ first_is (signs.is_op sign) (seen tokens.now at)) }
 {
@@ -60,7 +61,7 @@ fn word_is(t: Terminal, word: Keyword) -> bool
 }
 
 /// Whether this word stands at the place.
-pub(crate) fn is_word(tokens: &[Terminal], at: usize, word: Keyword) -> bool
+pub fn is_word(tokens: &[Terminal], at: usize, word: Keyword) -> bool
     ensures { MatchBool result (Stands (plain.Word word) tokens.now at)
         (None ≡ first_is (signs.is_word word) (seen tokens.now at)) }
 {
@@ -81,7 +82,7 @@ fn name_of<'a>(t: Terminal<'a>) -> Option<&'a str>
 }
 
 /// The name at the place, as it stands in the source.
-pub(crate) fn name_at<'a>(tokens: &[Terminal<'a>], at: usize) -> Option<&'a str>
+pub fn name_at<'a>(tokens: &[Terminal<'a>], at: usize) -> Option<&'a str>
     ensures is { option_map (λ s. nfkc (chars s.now)) result
         ≡ first_is signs.name_in (seen tokens.now at) }
     ensures within { IfSome result (λ _. at < length tokens.now) }
@@ -94,7 +95,7 @@ pub(crate) fn name_at<'a>(tokens: &[Terminal<'a>], at: usize) -> Option<&'a str>
 
 /// A name, if this sign stands behind it.
 #[tactic(auto, using(crate::proofs::Stands::named_stands, crate::proofs::Stands::unnamed_sign, crate::proofs::Stands::unnamed_first))]
-pub(crate) fn name_with<'a>(tokens: &[Terminal<'a>], at: usize, sign: Exact) -> Option<&'a str>
+pub fn name_with<'a>(tokens: &[Terminal<'a>], at: usize, sign: Exact) -> Option<&'a str>
     ensures { MatchOption result (IsNotNamed sign tokens.now at)
         (λ name. IsNamed sign (nfkc (chars name.now)) tokens.now at) }
 {
@@ -166,7 +167,7 @@ fn lead(t: Terminal) -> u8
 }
 
 /// The lead of the terminal at a place, or 0 behind the last one.
-pub(crate) fn lead_at(tokens: &[Terminal], at: usize) -> u8
+pub fn lead_at(tokens: &[Terminal], at: usize) -> u8
     ensures is { result ≡ lead_of (seen tokens.now at) }
     ensures within { 0 < result → at < length tokens.now }
 {

@@ -10,7 +10,7 @@ ghost use Rattle.pynode.specs.Trees.{comprehensions, exprs, optional, optionals}
 ghost use Rattle.pynode.specs.Values as values;
 ghost use Rattle.pyheight.specs.Heights as Heights;
 ghost use Rattle.pyexpr.specs.Inner.Answers.{Makes};
-ghost use Rattle.pyexpr.specs.Inner.Found.{Made};
+ghost use Rattle.pyexpr.specs.Answers.{Made};
 
 use crate::found::Read;
 use crate::stop::Stop;
@@ -43,7 +43,7 @@ fn boxed(alloc: Global, expr: Expr, height: usize, next: usize) -> Result<Read, 
 }
 
 /// The name of a tree that a NAME of this text stands for.
-pub(crate) fn identifier_of(alloc: Global, text: &str) -> Result<Identifier, Stop>
+pub fn identifier_of(alloc: Global, text: &str) -> Result<Identifier, Stop>
     ensures { MatchResult result (λ name. name ≡ nfkc (chars text.now)) (λ s. s ≡ Stop.Memory) }
 {
     let form = name_value(alloc, text)?;
@@ -107,7 +107,7 @@ pub(crate) fn make_whole(alloc: Global, value: u128, next: usize) -> Result<Read
 
 /// A name.
 #[tactic(auto, using(pynode::proofs::Callers::ExprShapes::expr_shapes))]
-pub(crate) fn make_name(alloc: Global, name: &str, ctx: Context, next: usize) -> Result<Read, Stop>
+pub fn make_name(alloc: Global, name: &str, ctx: Context, next: usize) -> Result<Read, Stop>
     ensures { MatchResult result (λ r. Made 1 (plain.Name (nfkc (chars name.now)) ctx) next r) (λ s. s ≡ Stop.Memory) }
 {
     let id = identifier_of(alloc, name)?;
@@ -191,6 +191,27 @@ pub(crate) fn make_starred(alloc: Global, e: Read, room: usize) -> Result<Read, 
         },
         height,
         e.next,
+    )
+}
+
+/// A starred expression, of any height.
+#[tactic(auto, using(pynode::proofs::Callers::ExprShapes::expr_shapes))]
+pub fn starred(alloc: Global, e: Read) -> Result<Read, Stop>
+    ensures tree { MatchResult result
+        (λ r. tree_of r.expr.value ≡ plain.Starred (tree_of e.expr.value) Context.Load) (λ s. s ≡ Stop.Memory) }
+    ensures next { MatchResult result (λ r. r.next ≡ e.next) (λ s. s ≡ Stop.Memory) }
+{
+    let next = e.next;
+    // No memory holds a tree of a height behind all numbers.
+    let height = e.height.checked_add(1).ok_or(Stop::Memory)?;
+    boxed(
+        alloc,
+        Expr::Starred {
+            value: e.expr,
+            ctx: Context::Load,
+        },
+        height,
+        next,
     )
 }
 

@@ -4,7 +4,8 @@ ghost use Rattle.std.specs.Prelude.{◌≡◌, ◌<◌, IfSome, Some, length, op
 ghost use Rattle.pygrammar.specs.Precedence as precedence;
 ghost use Rattle.pygrammar.specs.Operators as operators;
 ghost use Rattle.pyexpr.specs.Inner.Readings.{IsInfix, IsPrefix};
-ghost use Rattle.pyexpr.specs.Inner.Views.{first_is, infix_value, prefix_value, seen};
+ghost use Rattle.pyexpr.specs.Views.{first_is, seen};
+ghost use Rattle.pyexpr.specs.Inner.Views.{infix_value, prefix_value};
 ghost use Rattle.pyvalue.specs.Terminals.{terminal};
 
 use crate::looks::terminal_at;

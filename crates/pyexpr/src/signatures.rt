@@ -10,13 +10,13 @@ ghost use Rattle.pygrammar.specs.Capped.{cap};
 ghost use Rattle.pygrammar.specs.Entries as entries;
 ghost use Rattle.pygrammar.specs.Precedence as precedence;
 ghost use Rattle.pygrammar.specs.Reader as reader;
-ghost use Rattle.pyexpr.specs.Inner.Answers.{Answered, Failed};
+ghost use Rattle.pyexpr.specs.Answers.{Answered, Failed};
 ghost use Rattle.pyexpr.specs.Inner.FormalStates.{entry_of, state_of};
 ghost use Rattle.pyexpr.specs.Inner.Formals as formals;
 ghost use Rattle.pyexpr.specs.Inner.Found.{OptionalAt};
 ghost use Rattle.pyexpr.specs.Inner.Readings.{IsOpen, inner_reads};
 ghost use Rattle.pyexpr.specs.Inner.Signatures.{ParameterAnswered, SignatureAt, collected_reads, gathered_reads, plain_reads};
-ghost use Rattle.pyexpr.specs.Inner.Views.{seen};
+ghost use Rattle.pyexpr.specs.Views.{seen};
 
 use crate::climbing::climb;
 use crate::depth::Depth;

@@ -4,7 +4,7 @@ ghost use Rattle.std.specs.Prelude.{◌≡◌, map};
 ghost use Rattle.pynode.specs.TreeOf.{tree_of};
 ghost use Rattle.pynode.specs.Trees.{exprs};
 ghost use Rattle.pygrammar.specs.Targets.{all_stored, stored};
-ghost use Rattle.pyexpr.specs.Inner.Answers.{IsChanged};
+ghost use Rattle.pyexpr.specs.Answers.{IsChanged};
 ghost use Rattle.pyexpr.specs.Inner.Answers as shapes;
 
 use pynode::{Context, Expr};

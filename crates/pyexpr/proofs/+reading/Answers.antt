@@ -1,7 +1,7 @@
 use Rattle.std.proofs.Common.{refl, arith, rules, ◌+◌, ap, map, ◌≡◌, ◌-◌, true, false, ◌++◌, ◌∷◌, []}
 use Rattle.pynode.specs.TreeOf.{tree_of}
 use Rattle.pyexpr.specs.Inner.Readings.{same_reads, inner_reads}
-use Rattle.pyexpr.specs.Inner.Views.{seen}
+use Rattle.pyexpr.specs.Views.{seen}
 use Rattle.pyexpr.specs.Inner.Chains.{ComparedAt}
 use Rattle.pyexpr.proofs.Signs.{joins_stands, hit_sign, miss_sign}
 use Rattle.pyexpr.proofs.ChainSteps.{chain_failed, chain_made, links_start, links_error, links_more, links_end, sides_wrong, sides_error, sides_more, compare_made}

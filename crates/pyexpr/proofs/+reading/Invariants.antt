@@ -1,4 +1,4 @@
-use Rattle.std.proofs.Common.{[], ◌+◌, ◌-◌, ◌*◌, ◌≤◌, length, ℕ, ◌<◌, ◌≡◌, map}
+use Rattle.std.proofs.Common.{[], ◌+◌, ◌-◌, ◌*◌, ◌≤◌, length, map}
 use Rattle.pygrammar.specs.Reader.{operation}
 use Rattle.std.proofs.Common.{◌+◌, ◌-◌, ◌*◌, ◌≤◌, length, [], map}
 use Rattle.pygrammar.specs.Reader.{comps_loop, ifs_loop, operation}
@@ -9,8 +9,9 @@ use Rattle.pyexpr.specs.Inner.Arguments.{arguments_of, state_of}
 use Rattle.pyexpr.specs.Inner.Chains.{links_of}
 use Rattle.pynode.specs.TreeOf.{tree_of}
 use Rattle.pygrammar.specs.Capped.{capped_climb}
-use Rattle.pyexpr.specs.Inner.Readings.{reads, same_reads, inner_reads}
-use Rattle.pyexpr.specs.Inner.Views.{seen}
+use Rattle.pyexpr.specs.Readings.{reads}
+use Rattle.pyexpr.specs.Inner.Readings.{same_reads, inner_reads}
+use Rattle.pyexpr.specs.Views.{seen}
 use Rattle.pyexpr.proofs.Climbs.{Climbs}
 use Rattle.pyexpr.proofs.ListSteps.{Lists}
 use Rattle.pyexpr.proofs.ParameterSteps.{Parameters, listed}

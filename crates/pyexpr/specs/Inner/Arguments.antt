@@ -19,7 +19,7 @@ use Rattle.pyexpr.specs.declared.actual.Kind.{Kind}
 use Rattle.pyexpr.specs.declared.actual.Kind.TheVariants as kind
 use Rattle.pyexpr.specs.declared.depth.Depth.{Depth}
 use Rattle.pyexpr.specs.Inner.Readings.{inner_reads}
-use Rattle.pyexpr.specs.Inner.Views.{seen}
+use Rattle.pyexpr.specs.Views.{seen}
 
 -- Whether a `NAME =` or a `**` stood, whether a `**` did, and whether one stood where it may not; then the parts of the node.
 pub data State : Type 0 where

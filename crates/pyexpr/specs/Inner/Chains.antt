@@ -11,9 +11,9 @@ use Rattle.pyexpr.specs.declared.chains.Compared.{Compared}
 use Rattle.pyexpr.specs.declared.depth.Depth.{Depth}
 use Rattle.pyexpr.specs.declared.found.Items.{Items}
 use Rattle.pyexpr.specs.declared.stop.Stop.{Stop}
-use Rattle.pyexpr.specs.Inner.Answers.{Failed}
+use Rattle.pyexpr.specs.Answers.{Failed}
 use Rattle.pyexpr.specs.Inner.Readings.{inner_reads}
-use Rattle.pyexpr.specs.Inner.Views.{seen}
+use Rattle.pyexpr.specs.Views.{seen}
 
 -- what stands behind `and` and `or`, and behind some that were read
 abbrev pub links_of : Depth → BoolOperator → List Expr → List tokens.Terminal → Answer (List Expr)

@@ -1,29 +1,15 @@
--- A node that was made, and one that was found.
+-- Parts of an expression that were found.
 use Rattle.std.specs.Prelude.{◌≡◌, ℕ, ◌≤◌, List, length, map}
 use Rattle.pynode.specs.Trees.{Expr, OptionalExpr, Comprehension, optional}
 use Rattle.pynode.specs.TreeOf.{tree_of, boxed_of, comprehension_of}
 use Rattle.pygrammar.specs.Entries.{Entry, Single}
 use Rattle.pygrammar.specs.Reader.{Answer, Found}
-use Rattle.pyexpr.specs.declared.found.Read.{Read}
 use Rattle.pyexpr.specs.declared.found.Clause.{Clause}
 use Rattle.pyexpr.specs.declared.found.Clauses.{Clauses}
 use Rattle.pyexpr.specs.declared.found.Items.{Items}
 use Rattle.pyexpr.specs.declared.found.Optional.{Optional}
 use Rattle.pyvalue.specs.declared.terminals.Terminal.{Terminal}
-use Rattle.pyexpr.specs.Inner.Views.{seen}
-
--- an expression, and the place behind it
-pub record Made (room : ℕ) (e : Expr) (next : ℕ) (r : Read) : Type 0 where
-  pub tree : tree_of r.expr.value ≡ e
-  pub next_is : r.next ≡ next
-  pub low : r.height ≤ room
-
--- found at a place of a list
-pub record FoundAt (ts : List Terminal) (room least : ℕ) (x : Answer Expr) (r : Read) : Type 0 where
-  pub ahead : least ≤ r.next
-  pub within : r.next ≤ length ts
-  pub low : r.height ≤ room
-  pub is : x ≡ Found (tree_of r.expr.value) (seen ts r.next)
+use Rattle.pyexpr.specs.Views.{seen}
 
 -- what was read of a list of expressions
 abbrev pub entries_of : Items → List Entry

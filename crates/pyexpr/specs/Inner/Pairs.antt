@@ -13,7 +13,7 @@ use Rattle.pyexpr.specs.declared.depth.Depth.{Depth}
 use Rattle.pyexpr.specs.declared.found.Pair.{Pair}
 use Rattle.pyexpr.specs.declared.found.Pairs.{Pairs}
 use Rattle.pyexpr.specs.Inner.Readings.{inner_reads}
-use Rattle.pyexpr.specs.Inner.Views.{seen}
+use Rattle.pyexpr.specs.Views.{seen}
 
 abbrev pub entry : Option Expr → Expr → Entry
 entry None v = Doubled v

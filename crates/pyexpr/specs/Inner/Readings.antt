@@ -1,5 +1,5 @@
 -- The parts of the capped reader that the program's functions read.
-use Rattle.std.specs.Prelude.{◌≡◌, ℕ, ◌-◌, ◌<◌, List, Bool, true, false}
+use Rattle.std.specs.Prelude.{◌≡◌, ℕ, ◌+◌, ◌-◌, ◌<◌, List, Bool, true, false}
 use Rattle.pynode.specs.Trees.{Expr}
 use Rattle.pytoken.specs.Terminals.{Terminal}
 use Rattle.pygrammar.specs.declared.levels.Level.{Level}
@@ -10,11 +10,9 @@ use Rattle.pygrammar.specs.Precedence.{Infix, Prefix, Left, Signed, prefix_from}
 use Rattle.pygrammar.specs.Reader.{Answer, Reads, on_first, prefixed}
 use Rattle.pygrammar.specs.Capped.{cap, capped, capped_step}
 use Rattle.pyexpr.specs.declared.depth.Depth.{Depth}
+use Rattle.pyexpr.specs.Readings.{reads}
 
--- with the steps and the room of a depth; with those of the parts of an expression; and with those of the same one within brackets
-abbrev pub reads : Depth → Reads
-reads d = capped d.steps d.room
-
+-- with the steps and the room of the parts of an expression; and with those of the same one within brackets
 abbrev pub inner_reads : Depth → Reads
 inner_reads d = capped (d.steps - 1) (d.room - 1)
 
@@ -29,6 +27,11 @@ level_at d l i = cap d.room (capped_step d.room (reads d) (same_reads d) (inner_
 pub record IsOpen (d : Depth) : Type 0 where
   pub steps : 0 < d.steps
   pub room : 0 < d.room
+
+-- the parts of an expression of this depth have that one
+pub record IsOuter (outer d : Depth) : Type 0 where
+  pub steps : outer.steps ≡ d.steps + 1
+  pub room : outer.room ≡ d.room + 1
 
 -- the levels that are read by climbing
 abbrev pub climbing : Level → Bool

@@ -6,7 +6,7 @@ use Rattle.pytoken.specs.Terminals.{Terminal, Literal}
 use Rattle.pygrammar.specs.Constants.{joined}
 use Rattle.pygrammar.specs.Reader.{Answer, and_then, made, constant_of, string_run}
 use Rattle.pyexpr.specs.declared.stop.Stop.{Stop}
-use Rattle.pyexpr.specs.Inner.Answers.{Failed}
+use Rattle.pyexpr.specs.Answers.{Failed}
 
 abbrev pub run : Value → List Terminal → Answer Expr
 run v r = and_then (string_run [] r) (λ vs s. made (constant_of (joined v vs)) s)

@@ -10,11 +10,11 @@ use Rattle.pyexpr.specs.declared.depth.Depth.{Depth}
 use Rattle.pyexpr.specs.declared.signatures.ReadParameter.{ReadParameter}
 use Rattle.pyexpr.specs.declared.signatures.Signature.{Signature}
 use Rattle.pyexpr.specs.declared.stop.Stop.{Stop}
-use Rattle.pyexpr.specs.Inner.Answers.{Failed}
+use Rattle.pyexpr.specs.Answers.{Failed}
 use Rattle.pyexpr.specs.Inner.Formals.{start, steps}
 use Rattle.pyexpr.specs.Inner.FormalStates.{state_of, entry_of}
 use Rattle.pyexpr.specs.Inner.Readings.{inner_reads}
-use Rattle.pyexpr.specs.Inner.Views.{seen}
+use Rattle.pyexpr.specs.Views.{seen}
 use Rattle.pyexpr.specs.Inner.FormalHeights.{entry_height, entry_heights}
 
 -- what stands behind the name of a parameter

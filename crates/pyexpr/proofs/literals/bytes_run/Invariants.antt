@@ -1,7 +1,7 @@
 use Rattle.std.proofs.Common.{◌≡◌, ◌≤◌, ◌-◌, length}
 use Rattle.pynode.specs.Values as values
 use Rattle.pyexpr.specs.Inner.Runs.{run}
-use Rattle.pyexpr.specs.Inner.Views.{seen}
+use Rattle.pyexpr.specs.Views.{seen}
 use Rattle.pyexpr.proofs.literals.bytes_run.Given as goal
 
 abbrev pub invariant-loop-more : goal.invariant-loop-more

@@ -1,15 +1,16 @@
-use Rattle.std.proofs.Common.{sym, ap, ◌∙◌, Some, Global, arith}
+use Rattle.std.proofs.Common.{refl, sym, ap, ◌∙◌, Some, Global, arith}
 use Rattle.std.specs.declared.vec.Vec.{Vec}
 use Rattle.std.specs.declared.boxed.Box.{Box}
 use Rattle.pynode.specs.declared.expressions.Expr as given
 use Rattle.pynode.specs.declared.expressions.Expr.{Expr}
 use Rattle.pynode.specs.declared.operators.Context.TheVariants.{Store}
 use Rattle.pynode.specs.TreeOf.{tree_of}
-use Rattle.pygrammar.specs.Targets.{stored}
+use Rattle.pygrammar.specs.Targets.{all_stored, stored}
 use Rattle.pynode.proofs.Callers.ExprShapes.{attribute_tree, subscript_tree, name_tree}
 use Rattle.pyexpr.specs.Inner.Answers.{is_starred}
 use Rattle.pyexpr.proofs.TargetShapes.{not_stored}
-use Rattle.pyexpr.proofs.TargetSteps.{list_changed, tuple_changed, star_changed, star_refused, refilled, one_fails, all_changed}
+use Rattle.pyexpr.proofs.Changes.{list_changed, tuple_changed, refilled, one_fails, all_changed}
+use Rattle.pyexpr.proofs.TargetSteps.{star_changed, star_refused}
 use Rattle.pyexpr.proofs.targets.+targets.Goals as goal
 
 pub store-returns-in-Name : goal.store-returns-in-Name
@@ -25,14 +26,14 @@ unfolding given.out-Expr tree_of denote.Hole.Carrier.out
 store-returns-in-Subscript t c = rw c.in-Subscript.is (ap (λ e. stored e) (subscript_tree c.in-Subscript.value c.in-Subscript.slice c.in-Subscript.ctx) ∙ ap (λ e. Some e) (sym (subscript_tree c.in-Subscript.value c.in-Subscript.slice Store)))
 
 pub store-returns-in-Tuple : goal.store-returns-in-Tuple
-store-returns-in-Tuple t c = tuple_changed c.args.e.now c.in-Tuple.elts _ c.in-Tuple.ctx c.store_all.result c.deref_mut.result.now c.store_all.new.es c.in-Tuple.is
+store-returns-in-Tuple t c = tuple_changed stored all_stored Store c.args.e.now c.in-Tuple.elts _ c.in-Tuple.ctx c.store_all.result c.deref_mut.result.now c.store_all.new.es
     (c.deref_mut.ensures.value ∙ ap (λ (v : Vec Expr Global). v.items) c.in-Tuple.elts-is)
-    (refilled _ _ c.store_all.new.es (c.store_all.auto.es ∙ c.deref_mut.ensures.len)) c.store_all.ensures
+    (refilled _ _ c.store_all.new.es (c.store_all.auto.es ∙ c.deref_mut.ensures.len)) c.store_all.ensures (λ es. refl) c.in-Tuple.is
 
 pub store-returns-in-List : goal.store-returns-in-List
-store-returns-in-List t c = list_changed c.args.e.now c.in-List.elts _ c.in-List.ctx c.store_all-in-List.result c.deref_mut-in-List.result.now c.store_all-in-List.new.es c.in-List.is
+store-returns-in-List t c = list_changed stored all_stored Store c.args.e.now c.in-List.elts _ c.in-List.ctx c.store_all-in-List.result c.deref_mut-in-List.result.now c.store_all-in-List.new.es
     (c.deref_mut-in-List.ensures.value ∙ ap (λ (v : Vec Expr Global). v.items) c.in-List.elts-is)
-    (refilled _ _ c.store_all-in-List.new.es (c.store_all-in-List.auto.es ∙ c.deref_mut-in-List.ensures.len)) c.store_all-in-List.ensures
+    (refilled _ _ c.store_all-in-List.new.es (c.store_all-in-List.auto.es ∙ c.deref_mut-in-List.ensures.len)) c.store_all-in-List.ensures (λ es. refl) c.in-List.is
 
 pub store-returns-then-not-is_starred : goal.store-returns-then-not-is_starred
 store-returns-then-not-is_starred t c = star_changed c.args.e.now c.deref_mut-then-not-is_starred.result.now c.in-Starred.value _ c.in-Starred.ctx c.store.result c.in-Starred.is
@@ -47,8 +48,8 @@ pub store-returns-in_default : goal.store-returns-in_default
 store-returns-in_default t c = not_stored c.args.e.now c.in_default.not-Attribute c.in_default.not-Subscript c.in_default.not-Starred c.in_default.not-Name c.in_default.not-List c.in_default.not-Tuple
 
 pub store_all-returns-then-not-store : goal.store_all-returns-then-not-store
-store_all-returns-then-not-store t c = one_fails c.args.es.now c.loop-e.e-index c.e-item.result c.loop-e-test.true
+store_all-returns-then-not-store t c = one_fails stored all_stored refl (λ e es. refl) c.args.es.now c.loop-e.e-index c.e-item.result c.loop-e-test.true
     (ap (λ e. stored (tree_of e)) (sym (c.loop-e.invariant.rest.1 c.loop-e.e-index c.e-item.result (omega arith))) ∙ c.if-not-store.ensures)
 
 pub store_all-returns : goal.store_all-returns
-store_all-returns t c = all_changed c.args.es.now c.loop-e.e-items (sym c.loop-e.auto.e-items) (λ k d m. c.loop-e.invariant.done k d (omega (arith, m, c.loop-e-test.false)))
+store_all-returns t c = all_changed stored all_stored refl (λ e es. refl) c.args.es.now c.loop-e.e-items (sym c.loop-e.auto.e-items) (λ k d m. c.loop-e.invariant.done k d (omega (arith, m, c.loop-e-test.false)))
