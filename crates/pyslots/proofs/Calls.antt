@@ -273,7 +273,8 @@ module _ (n : Identifier → Bool) where
   pub dict_comp_given : (l : Level) (k e : Expr) (gs : Comprehensions) → has_some gs ≡ true → P.At n Expression k → P.At n Expression e → Clauses n gs → P.At n l (Trees.DictComp k e gs)
   dict_comp_given l k e gs h g f s =
       let w = claused gs h s in
-      lifted n l (subst (λ z. P.At n Atom (Trees.DictComp k e z)) w.is
-      (Op LBrace ∷ (g.0 ++ (Op Colon ∷ (f.0 ++ (w.comps.0 ++ (Op RBrace ∷ []))))),
-      pass_on n g.0 (Op Colon ∷ (f.0 ++ (w.comps.0 ++ (Op RBrace ∷ [])))) g.1 (pass_on n f.0 (w.comps.0 ++ (Op RBrace ∷ [])) f.1 (pass_on n w.comps.0 (Op RBrace ∷ []) w.comps.1 refl)),
-      G.dict_comp g.2 f.2 w.comps.2))
+      lifted n l (subst (λ z. P.At n Atom (Trees.DictComp k e z)) w.is (
+        Op LBrace ∷ (g.0 ++ (Op Colon ∷ (f.0 ++ (w.comps.0 ++ (Op RBrace ∷ []))))),
+        pass_on n g.0 (Op Colon ∷ (f.0 ++ (w.comps.0 ++ (Op RBrace ∷ [])))) g.1 (pass_on n f.0 (w.comps.0 ++ (Op RBrace ∷ [])) f.1 (pass_on n w.comps.0 (Op RBrace ∷ []) w.comps.1 refl)),
+        G.dict_comp g.2 f.2 w.comps.2,
+      ))

@@ -135,7 +135,7 @@ module _ (n : Identifier → Bool) where
   parameters_given b (arguments ps qs v ks ds k es) h =
       let p = fit_parts n b (arguments ps qs v ks ds k es) h in
       let w = arrangement n b ps qs v ks ds k es (noted_args b ps p.before) (noted_args b qs p.middle) (star_arg b v p.star) (noted_args b ks p.only)
-          (keys n ds p.only_defaults) (noted_optional b k p.double) (each n Expression es p.defaults) p.even p.few in
+      (keys n ds p.only_defaults) (noted_optional b k p.double) (each n Expression es p.defaults) p.even p.few in
       let u = listing n w.pieces in
       (u.0, u.1, (w.list, u.2, w.is))
 

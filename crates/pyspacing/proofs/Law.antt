@@ -1,4 +1,7 @@
 -- The law of written lines.
+--
+-- What other crates cite: `written_is_read`, with the lemmas of the files named Fronts, Literals, Decimals, Scalars on single tokens, and of Joins, Forms and
+-- Writing on lists of them.
 use Rattle.std.proofs.Common.{refl, None}
 use Rattle.std.specs.List.{list_all}
 use Rattle.std.specs.Str.{encode_utf8_all}

@@ -1,14 +1,11 @@
-//! Source text for a tree. Here so far: the pieces that lines of such text are written from, and the law that they are read back.
+//! The text of lines of tokens: definitions and laws alone.
+//!
+//! Python language reference, 2.1 "Line structure" to 2.6 "Delimiters".
+//!
+//! `Spacing` says how tokens are written: a piece is a token with its text, and whether it keeps
+//! close to its neighbours; the text of a line follows. `Tokens` says which lines can be read back:
+//! each piece is a token of its type, pieces that touch are told apart, brackets are closed within
+//! their line, and no line stands more than a level deeper than the one before. `Laws` says that
+//! they are: the UTF-8 of their text is a source without a mark, a cookie and a fault, its tokens are
+//! the pieces, and its logical lines are the lines, each at its level.
 #![tactic(auto)]
-
-ghost use Rattle.pyspacing.specs.Laws.{WrittenIsRead};
-
-/// The law of written lines, as the contract of a function that does nothing.
-///
-/// Of lines of pieces, each piece being a token of its kind, with no pieces touching that are not told apart, with brackets closed
-/// within each line, and no line more than a level deeper than the one before: the UTF-8 of their text is a source without
-/// mark, cookie and fault. Its listing is ENCODING, exactly the pieces with the lines' NEWLINEs, the INDENTs and DEDENTs of their
-/// levels and ENDMARKER, and the end. So its tokens are the pieces, and its logical lines are the lines, each at its level.
-pub fn written_lines_are_read_back()
-    ensures { WrittenIsRead }
-{}
