@@ -1,4 +1,0 @@
-mod StatementLemmas
-mod MeetingLemmas
-mod LevelLemmas
-mod AnswerLemmas

@@ -1,4 +1,0 @@
-pub mod Inner
-pub mod Faults
-pub mod Values
-pub mod StateOf
