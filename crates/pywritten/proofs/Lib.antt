@@ -1,3 +1,4 @@
 mod WorkedExpressions
 mod Fewest
+mod Pieces
 pub mod Callers

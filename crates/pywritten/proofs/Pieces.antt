@@ -1,0 +1,3 @@
+-- The laws of pieces.
+pub mod NameCharacters
+pub mod Fair
