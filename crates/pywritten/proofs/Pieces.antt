@@ -1,3 +1,10 @@
 -- The laws of pieces.
 pub mod NameCharacters
 pub mod Fair
+pub mod Apart
+pub mod Sorts
+pub mod Segments
+pub mod Sound
+pub mod Shapes
+pub mod Listings
+pub mod Readable

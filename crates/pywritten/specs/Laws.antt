@@ -1,7 +1,7 @@
 -- What holds of what an expression is written in.
-use Rattle.std.specs.Prelude.{◌≡◌, ◌≤◌, ◌↔◌, List, [], ◌++◌, length, Bool, true, false, Some}
+use Rattle.std.specs.Prelude.{◌≡◌, ◌≤◌, ◌↔◌, List, [], ◌∷◌, ◌++◌, length, Bool, true, false, Some}
 use Rattle.pynode.specs.Trees.{Expr, Exprs, Keywords, Arguments}
-use Rattle.pytoken.specs.Terminals.{Terminal}
+use Rattle.pytoken.specs.Terminals.{Terminal, Gives}
 use Rattle.pyheight.specs.Heights.{height}
 use Rattle.pygrammar.specs.declared.levels.Level.{Level}
 use Rattle.pygrammar.specs.declared.levels.Level.TheVariants.{Stars, Named, Expression, Primary, Atom}
@@ -10,6 +10,7 @@ use Rattle.pygrammar.specs.Arguments.{in_order, positional, keywords}
 use Rattle.pygrammar.specs.Parameters.{arranged}
 use Rattle.pygrammar.specs.Grammar.{Derives, Listing, Target, SingleTarget, DelTarget, ItemTarget}
 use Rattle.pygrammar.specs.Reader.{Found, reads}
+use Rattle.pyspacing.specs.Spacing.{Piece}
 use Rattle.pywritten.specs.Written.{listed, each, by_name, parameters}
 use Rattle.pywritten.specs.Terminals.{terminal, terminals}
 use Rattle.pywritten.specs.Brackets.{brackets}
@@ -71,3 +72,10 @@ not_atom _ = true
 -- no more brackets are open at once than the expression is high
 abbrev pub BracketsAreWithinHeight : Type 0
 BracketsAreWithinHeight = (l : Level) (e : Expr) → not_atom l ≡ true → brackets (terminals l e) ≤ height e
+
+-- ---- Pieces.
+
+-- pieces give terminals one by one: each is what its type says, has no fault, and is the terminal
+pub data Give : List Piece → List Terminal → Type 0 where
+  give_none : Give [] []
+  give : {p : Piece} {ps : List Piece} {t : Terminal} {ts : List Terminal} → Gives p.kind p.text t → Give ps ts → Give (p ∷ ps) (t ∷ ts)

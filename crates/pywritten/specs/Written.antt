@@ -32,6 +32,10 @@ abbrev pub beside : {A : Type 0} → List (List A) → List (List A) → List (L
 beside (ts ∷ tss) (us ∷ uss) = (ts ++ us) ∷ beside tss uss
 beside _ _ = []
 
+-- parameters, of which the last ones have the defaults
+abbrev pub with_defaults : {A : Type 0} → List (List A) → List (List A) → List (List A)
+with_defaults tss ds = beside tss (replicate (length tss - length ds) [] ++ ds)
+
 -- ---- What depends on the place of an expression.
 
 -- what stands behind a star, by the level of its place; at Named it is an argument, at Expression an annotation
@@ -141,10 +145,6 @@ module _ {A : Type 0} (make : Maker A) where
 
   abbrev pub behind_equal : List A → List A
   behind_equal ts = tight Equal ∷ ts
-
-  -- the last ones have the defaults
-  abbrev pub with_defaults : List (List A) → List (List A) → List (List A)
-  with_defaults tss ds = beside tss (replicate (length tss - length ds) [] ++ ds)
 
   -- `/` behind as many as there are positional ones
   abbrev pub with_slash : List (List A) → List (List A) → List (List A)
