@@ -8,3 +8,4 @@ pub mod Sound
 pub mod Shapes
 pub mod Listings
 pub mod Readable
+pub mod OfTokens

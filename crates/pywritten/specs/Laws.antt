@@ -1,5 +1,6 @@
 -- What holds of what an expression is written in.
-use Rattle.std.specs.Prelude.{◌≡◌, ◌≤◌, ◌↔◌, List, [], ◌∷◌, ◌++◌, length, Bool, true, false, Some}
+use Rattle.std.specs.Prelude.{◌≡◌, ◌≤◌, ◌↔◌, List, [], ◌∷◌, ◌++◌, length, Bool, true, false, Some, ℕ, All}
+use Rattle.std.specs.Str.{all_scalars}
 use Rattle.pynode.specs.Trees.{Expr, Exprs, Keywords, Arguments}
 use Rattle.pytoken.specs.Terminals.{Terminal, Gives}
 use Rattle.pyheight.specs.Heights.{height}
@@ -10,9 +11,12 @@ use Rattle.pygrammar.specs.Arguments.{in_order, positional, keywords}
 use Rattle.pygrammar.specs.Parameters.{arranged}
 use Rattle.pygrammar.specs.Grammar.{Derives, Listing, Target, SingleTarget, DelTarget, ItemTarget}
 use Rattle.pygrammar.specs.Reader.{Found, reads}
+use Rattle.pylex.specs.declared.kinds.Kind.{Kind}
 use Rattle.pyspacing.specs.Spacing.{Piece}
+use Rattle.pyspacing.specs.Tokens.{is_written}
 use Rattle.pywritten.specs.Written.{listed, each, by_name, parameters}
 use Rattle.pywritten.specs.Terminals.{terminal, terminals}
+use Rattle.pywritten.specs.Pieces.{pieces}
 use Rattle.pywritten.specs.Brackets.{brackets}
 
 -- ---- Fewest brackets.
@@ -79,3 +83,19 @@ BracketsAreWithinHeight = (l : Level) (e : Expr) → not_atom l ≡ true → bra
 pub data Give : List Piece → List Terminal → Type 0 where
   give_none : Give [] []
   give : {p : Piece} {ps : List Piece} {t : Terminal} {ts : List Terminal} → Gives p.kind p.text t → Give ps ts → Give (p ∷ ps) (t ∷ ts)
+
+-- a terminal of some token of Unicode characters that has no fault
+pub record IsOfToken (t : Terminal) : Type 0 where
+  pub kind : Kind
+  pub text : List ℕ
+  pub characters : all_scalars text ≡ true
+  pub gives : Gives kind text t
+
+-- Pieces give these terminals, and are a line that is read back: those that touch are told apart, and brackets are closed.
+pub record AreRead (ps : List Piece) (ts : List Terminal) : Type 0 where
+  pub give : Give ps ts
+  pub line : (level : ℕ) → is_written (record { level = level; pieces = ps }) ≡ true
+
+-- what is written for an expression that the grammar gives to some tokens
+abbrev pub ExpressionsAreRead : Type 0
+ExpressionsAreRead = (l : Level) (ts : List Terminal) (e : Expr) → All IsOfToken ts → Derives l ts e → AreRead (pieces l e) (terminals l e)
