@@ -9,3 +9,5 @@ pub mod Shapes
 pub mod Listings
 pub mod Readable
 pub mod OfTokens
+pub mod Derived
+pub mod Law
