@@ -5,7 +5,7 @@ use Rattle.pynode.specs.Trees.{Expr, Exprs, Keywords, Arguments}
 use Rattle.pytoken.specs.Terminals.{Terminal, Gives}
 use Rattle.pyheight.specs.Heights.{height}
 use Rattle.pygrammar.specs.declared.levels.Level.{Level}
-use Rattle.pygrammar.specs.declared.levels.Level.TheVariants.{Stars, Named, Expression, Primary, Atom}
+use Rattle.pygrammar.specs.declared.levels.Level.TheVariants.{Stars, Expression, Primary, Atom, Named}
 use Rattle.pygrammar.specs.Entries.{Entry, Argument, Parameter}
 use Rattle.pygrammar.specs.Arguments.{in_order, positional, keywords}
 use Rattle.pygrammar.specs.Parameters.{arranged}
@@ -17,6 +17,7 @@ use Rattle.pyspacing.specs.Tokens.{is_written}
 use Rattle.pywritten.specs.Written.{listed, each, by_name, parameters}
 use Rattle.pywritten.specs.Terminals.{terminal, terminals}
 use Rattle.pywritten.specs.Pieces.{pieces}
+use Rattle.pywritten.specs.Statements.{item_target}
 use Rattle.pywritten.specs.Brackets.{brackets}
 
 -- ---- Fewest brackets.
@@ -40,8 +41,7 @@ pub record TargetIsShortest (ts : List Terminal) (s : Expr) : Type 0 where
   pub target : Target ts s → Shortest Target (terminals Stars s) s
   pub single : SingleTarget ts s → Shortest SingleTarget (terminals Primary s) s
   pub del : DelTarget ts s → Shortest DelTarget (terminals Expression s) s
-  -- at Named what stands behind a star is an Expression, and all else that can be a target is as at Expression
-  pub item : ItemTarget ts s → Shortest ItemTarget (terminals Named s) s
+  pub item : ItemTarget ts s → Shortest ItemTarget (item_target terminal s) s
 
 abbrev pub TargetsAreShortest : Type 0
 TargetsAreShortest = (ts : List Terminal) (s : Expr) → TargetIsShortest ts s
