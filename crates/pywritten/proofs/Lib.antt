@@ -1,4 +1,5 @@
 mod WorkedExpressions
+mod WorkedModules
 mod Fewest
 mod Pieces
 pub mod Callers
