@@ -22,7 +22,6 @@ abbrev pub written_line : {A : Type 0} → ℕ → List A → WrittenLine A
 written_line l ts = record { level = l; tokens = ts }
 
 module _ {A : Type 0} (make : Maker A) where
-
   abbrev pub header : ℕ → Header → WrittenLine A
   header l h = written_line l (header_tokens make h ++ (trailing make Colon ∷ []))
 

@@ -7,7 +7,7 @@ use Rattle.pynode.specs.declared.operators.Operator.{Operator}
 use Rattle.pynode.specs.declared.operators.Operator.TheVariants as Bin
 use Rattle.pynode.specs.Trees
 use Rattle.pynode.specs.Trees.{Identifier, Expr, Exprs, no_exprs, an_expr, exprs, Keywords, no_keyword, Alias, Item, TypeParam, TypeVar, ParamSpec, TypeVarTuple, Stmt}
-use Rattle.pytoken.specs.Terminals.{Terminal, Op, Word, Ident}
+use Rattle.pytoken.specs.Terminals.{Op, Ident}
 use Rattle.pygrammar.specs.declared.levels.Level.{Level}
 use Rattle.pygrammar.specs.declared.levels.Level.TheVariants.{Value, Stars, Named, Expression, Primary}
 use Rattle.pygrammar.specs.Lines.{Header, if_header, elif_header, else_header, loop_header, with_header, try_header, except_header, finally_header, def_header, while_head, for_head, function_head, class_head}
@@ -74,7 +74,6 @@ need_brackets (i ∷ []) = reads_as_items i.context_expr i.optional_vars
 need_brackets _ = false
 
 module _ {A : Type 0} (make : Maker A) where
-
   -- ---- Parts. Targets are written as expressions: contexts are not seen.
 
   -- [X]

@@ -1,5 +1,5 @@
 -- Carries: the laws of pieces. On: what the grammar gives to tokens can be written.
-use Rattle.std.proofs.Common.{◌≡◌, Bool, true, false, List, [], ◌∷◌, ◌++◌, Option, Some, None, refl, sym, ap, ◌∙◌, subst, ◌<◌, map}
+use Rattle.std.proofs.Common.{◌≡◌, Bool, true, false, List, [], ◌∷◌, ◌++◌, Option, Some, refl, sym, ap, ◌∙◌, subst, ◌<◌, map}
 use Rattle.std.specs.Prelude.{All, cond}
 use Rattle.std.proofs.lemmas.List.Elements.{All-head, All-tail, All-append}
 use Rattle.pylexeme.specs.declared.kinds.Exact.{Exact}
@@ -33,7 +33,7 @@ use Rattle.pywritten.proofs.Fewest.Claims.{given, row, prefixed}
 use Rattle.pywritten.proofs.Fewest.Clauses.{mapped_is, both_is, star_stored}
 use Rattle.pywritten.proofs.Fewest.Calls.{called_is}
 use Rattle.pywritten.proofs.Pieces.Fair.{IsConstant}
-use Rattle.pywritten.proofs.Pieces.Sound.{AreSome, Sound, AreSound, SoundOptional, SoundOptionals, SoundClauses, SoundKeywords, SoundArgs, SoundArg, SoundArguments}
+use Rattle.pywritten.proofs.Pieces.Sound.{Sound, AreSound, SoundOptional, SoundOptionals, SoundClauses, SoundKeywords, SoundArguments}
 use Rattle.pywritten.proofs.Pieces.OfTokens.{Sayable}
 
 -- ---- Terminals that can be written.

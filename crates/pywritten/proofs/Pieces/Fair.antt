@@ -1,5 +1,5 @@
 -- Carries: the laws of pieces. On: the text of a terminal is a token of its type, and gives the terminal.
-use Rattle.std.proofs.Common.{◌≡◌, ℕ, ◌<◌, ◌^◌, ◌≤◌, Bool, true, false, ◌&&◌, List, [], ◌∷◌, refl, arith, ⊎_elim, leb, Option, Some, None, ap, ◌∙◌}
+use Rattle.std.proofs.Common.{◌≡◌, ℕ, ◌<◌, ◌^◌, Bool, true, false, ◌&&◌, List, [], ◌∷◌, refl, arith, ⊎_elim, leb, Option, Some, None, ap, ◌∙◌}
 use Rattle.std.specs.Prelude.{decimal, is_some}
 use Rattle.std.specs.List.{list_all}
 use Rattle.std.specs.Str.{all_scalars}
@@ -18,7 +18,7 @@ use Rattle.pynode.specs.Values
 use Rattle.pytoken.specs.declared.keywords.Keyword.{Keyword}
 use Rattle.pytoken.specs.declared.keywords.Keyword.TheVariants as Key
 use Rattle.pytoken.specs.Keywords.{spelling_of}
-use Rattle.pytoken.specs.Terminals.{Terminal, Op, Word, Ident, Whole, Literal, Layout, Gives, terminal_of, fault_of}
+use Rattle.pytoken.specs.Terminals.{Terminal, Op, Word, Ident, Whole, Layout, Gives, terminal_of, fault_of}
 use Rattle.pytoken.specs.Laws.{IsProper}
 use Rattle.pytoken.proofs.Callers.Said.{come_back}
 use Rattle.pyspacing.specs.Spacing.{is_whole, is_token}

@@ -2,10 +2,7 @@
 use Rattle.std.proofs.Common.{◌≡◌, Bool, true, List, [], ◌∷◌, refl}
 use Rattle.std.specs.Prelude.{All}
 use Rattle.std.proofs.lemmas.List.Elements.{All-nil, All-cons, All-head, All-tail}
-use Rattle.pygrammar.specs.declared.levels.Level.{Level}
-use Rattle.pynode.specs.Trees.{Expr}
 use Rattle.pytoken.specs.Terminals.{Terminal}
-use Rattle.pygrammar.specs.Grammar as G
 use Rattle.pyspacing.specs.Spacing.{Piece, are_readable}
 use Rattle.pyspacing.specs.Tokens.{closes_all}
 use Rattle.pyspacing.specs.Inner.Edges.{begins_by}

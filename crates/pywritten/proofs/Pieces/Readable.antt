@@ -1,6 +1,6 @@
 -- Carries: the laws of pieces. On: the pieces of an expression are told apart, close their brackets, and are read as its terminals.
 use Rattle.std.proofs.Common.{◌≡◌, Bool, true, false, List, [], ◌∷◌, Option, Some, None}
-use Rattle.pylexeme.specs.declared.kinds.Exact.TheVariants.{LPar, Colon, Star, Equal, DoubleStar}
+use Rattle.pylexeme.specs.declared.kinds.Exact.TheVariants.{Colon, Star, Equal, DoubleStar}
 use Rattle.pytoken.specs.declared.keywords.Keyword.TheVariants as Key
 use Rattle.pygrammar.specs.declared.levels.Level.{Level}
 use Rattle.pygrammar.specs.declared.levels.Level.TheVariants.{Stars, Named, Expression, Or, Compare, BitOr, Await, Primary, Elem, Slices}
