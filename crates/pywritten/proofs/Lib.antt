@@ -2,4 +2,5 @@ mod WorkedExpressions
 mod WorkedModules
 mod Fewest
 mod Pieces
+mod Modules
 pub mod Callers

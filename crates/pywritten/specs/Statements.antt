@@ -49,12 +49,12 @@ names_in [] = [] ∷ []
 names_in (c ∷ cs) = if c == 46 then [] ∷ names_in cs else longer c (names_in cs)
 
 -- `*` alone, for all names
+abbrev pub is_star : Identifier → Option Identifier → Bool
+is_star (c ∷ []) None = c == 42
+is_star _ _ = false
+
 abbrev pub are_all : List Alias → Bool
 are_all (a ∷ []) = is_star a.name a.asname
-  where
-    is_star : Identifier → Option Identifier → Bool
-    is_star (c ∷ []) None = c == 42
-    is_star _ _ = false
 are_all _ = false
 
 -- no Starred and no NamedExpr is among them

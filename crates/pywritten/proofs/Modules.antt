@@ -1,0 +1,6 @@
+-- The law of modules.
+pub mod Parts
+pub mod Simple
+pub mod Headers
+pub mod Balanced
+pub mod With
