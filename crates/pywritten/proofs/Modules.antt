@@ -4,3 +4,6 @@ pub mod Simple
 pub mod Headers
 pub mod Balanced
 pub mod With
+pub mod Wells
+pub mod Again
+pub mod Law

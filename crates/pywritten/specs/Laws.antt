@@ -1,7 +1,8 @@
 -- What holds of what an expression is written in.
 use Rattle.std.specs.Prelude.{◌≡◌, ◌≤◌, ◌↔◌, List, [], ◌∷◌, ◌++◌, length, Bool, true, false, Some, ℕ, All}
 use Rattle.std.specs.Str.{all_scalars}
-use Rattle.pynode.specs.Trees.{Expr, Exprs, Keywords, Arguments}
+use Rattle.pynode.specs.declared.profiles.Profile.{Profile}
+use Rattle.pynode.specs.Trees.{Expr, Exprs, Keywords, Arguments, Module}
 use Rattle.pytoken.specs.Terminals.{Terminal, Gives}
 use Rattle.pyheight.specs.Heights.{height}
 use Rattle.pygrammar.specs.declared.levels.Level.{Level}
@@ -10,6 +11,9 @@ use Rattle.pygrammar.specs.Entries.{Entry, Argument, Parameter}
 use Rattle.pygrammar.specs.Arguments.{in_order, positional, keywords}
 use Rattle.pygrammar.specs.Parameters.{arranged}
 use Rattle.pygrammar.specs.Grammar.{Derives, Listing, Target, SingleTarget, DelTarget, ItemTarget}
+use Rattle.pygrammar.specs.Lines.{Line, line, Form}
+use Rattle.pygrammar.specs.Forms.{FormOf}
+use Rattle.pygrammar.specs.Blocks.{Block}
 use Rattle.pygrammar.specs.Reader.{Found, reads}
 use Rattle.pylex.specs.declared.kinds.Kind.{Kind}
 use Rattle.pyspacing.specs.Spacing.{Piece}
@@ -18,6 +22,7 @@ use Rattle.pywritten.specs.Written.{listed, each, by_name, parameters}
 use Rattle.pywritten.specs.Terminals.{terminal, terminals}
 use Rattle.pywritten.specs.Pieces.{pieces}
 use Rattle.pywritten.specs.Statements.{item_target}
+use Rattle.pywritten.specs.Modules.{WrittenLine, written_line, terminal_lines}
 use Rattle.pywritten.specs.Brackets.{brackets}
 
 -- ---- Fewest brackets.
@@ -99,3 +104,22 @@ pub record AreRead (ps : List Piece) (ts : List Terminal) : Type 0 where
 -- what is written for an expression that the grammar gives to some tokens
 abbrev pub ExpressionsAreRead : Type 0
 ExpressionsAreRead = (l : Level) (ts : List Terminal) (e : Expr) → All IsOfToken ts → Derives l ts e → AreRead (pieces l e) (terminals l e)
+
+-- ---- Modules.
+
+-- the lines have these forms in a version of Python
+pub data HaveForms (profile : Profile) : List (WrittenLine Terminal) → List Line → Type 0 where
+  no_form : HaveForms profile [] []
+  a_form : {l : ℕ} {ts : List Terminal} {f : Form} {ws : List (WrittenLine Terminal)} {xs : List Line}
+      → FormOf profile ts f → HaveForms profile ws xs → HaveForms profile (written_line l ts ∷ ws) (line l f ∷ xs)
+
+-- they have forms, and the statements of these are a module's
+pub record AreModule (profile : Profile) (ws : List (WrittenLine Terminal)) (m : Module) : Type 0 where
+  pub forms : List Line
+  pub formed : HaveForms profile ws forms
+  pub block : Block 0 forms m.body
+
+-- A module that some lines are is that of the lines that it is written in. Lines are one module at most (`pygrammar`'s laws), so these are
+-- no other.
+abbrev pub ModulesComeBack : Type 0
+ModulesComeBack = (profile : Profile) (ws : List (WrittenLine Terminal)) (m : Module) → AreModule profile ws m → AreModule profile (terminal_lines m) m
