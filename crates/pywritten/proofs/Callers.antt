@@ -1,2 +1,4 @@
 -- What other crates cite: the laws of what a tree is written in.
 pub mod Shortest
+pub mod Read
+pub mod Modules

@@ -1,3 +1,6 @@
 mod WorkedExpressions
+mod WorkedModules
 mod Fewest
+mod Pieces
+mod Modules
 pub mod Callers

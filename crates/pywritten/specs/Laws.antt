@@ -1,17 +1,28 @@
 -- What holds of what an expression is written in.
-use Rattle.std.specs.Prelude.{◌≡◌, ◌≤◌, ◌↔◌, List, [], ◌++◌, length, Bool, true, false, Some}
-use Rattle.pynode.specs.Trees.{Expr, Exprs, Keywords, Arguments}
-use Rattle.pytoken.specs.Terminals.{Terminal}
+use Rattle.std.specs.Prelude.{◌≡◌, ◌≤◌, ◌↔◌, List, [], ◌∷◌, ◌++◌, length, Bool, true, false, Some, ℕ, All}
+use Rattle.std.specs.Str.{all_scalars}
+use Rattle.pynode.specs.declared.profiles.Profile.{Profile}
+use Rattle.pynode.specs.Trees.{Expr, Exprs, Keywords, Arguments, Module}
+use Rattle.pytoken.specs.Terminals.{Terminal, Gives}
 use Rattle.pyheight.specs.Heights.{height}
 use Rattle.pygrammar.specs.declared.levels.Level.{Level}
-use Rattle.pygrammar.specs.declared.levels.Level.TheVariants.{Stars, Named, Expression, Primary, Atom}
+use Rattle.pygrammar.specs.declared.levels.Level.TheVariants.{Stars, Expression, Primary, Atom, Named}
 use Rattle.pygrammar.specs.Entries.{Entry, Argument, Parameter}
 use Rattle.pygrammar.specs.Arguments.{in_order, positional, keywords}
 use Rattle.pygrammar.specs.Parameters.{arranged}
 use Rattle.pygrammar.specs.Grammar.{Derives, Listing, Target, SingleTarget, DelTarget, ItemTarget}
+use Rattle.pygrammar.specs.Lines.{Line, line, Form}
+use Rattle.pygrammar.specs.Forms.{FormOf}
+use Rattle.pygrammar.specs.Blocks.{Block}
 use Rattle.pygrammar.specs.Reader.{Found, reads}
+use Rattle.pylex.specs.declared.kinds.Kind.{Kind}
+use Rattle.pyspacing.specs.Spacing.{Piece}
+use Rattle.pyspacing.specs.Tokens.{is_written}
 use Rattle.pywritten.specs.Written.{listed, each, by_name, parameters}
 use Rattle.pywritten.specs.Terminals.{terminal, terminals}
+use Rattle.pywritten.specs.Pieces.{pieces}
+use Rattle.pywritten.specs.Statements.{item_target}
+use Rattle.pywritten.specs.Modules.{WrittenLine, written_line, terminal_lines}
 use Rattle.pywritten.specs.Brackets.{brackets}
 
 -- ---- Fewest brackets.
@@ -35,8 +46,7 @@ pub record TargetIsShortest (ts : List Terminal) (s : Expr) : Type 0 where
   pub target : Target ts s → Shortest Target (terminals Stars s) s
   pub single : SingleTarget ts s → Shortest SingleTarget (terminals Primary s) s
   pub del : DelTarget ts s → Shortest DelTarget (terminals Expression s) s
-  -- at Named what stands behind a star is an Expression, and all else that can be a target is as at Expression
-  pub item : ItemTarget ts s → Shortest ItemTarget (terminals Named s) s
+  pub item : ItemTarget ts s → Shortest ItemTarget (item_target terminal s) s
 
 abbrev pub TargetsAreShortest : Type 0
 TargetsAreShortest = (ts : List Terminal) (s : Expr) → TargetIsShortest ts s
@@ -71,3 +81,45 @@ not_atom _ = true
 -- no more brackets are open at once than the expression is high
 abbrev pub BracketsAreWithinHeight : Type 0
 BracketsAreWithinHeight = (l : Level) (e : Expr) → not_atom l ≡ true → brackets (terminals l e) ≤ height e
+
+-- ---- Pieces.
+
+-- pieces give terminals one by one: each is what its type says, has no fault, and is the terminal
+pub data Give : List Piece → List Terminal → Type 0 where
+  give_none : Give [] []
+  give : {p : Piece} {ps : List Piece} {t : Terminal} {ts : List Terminal} → Gives p.kind p.text t → Give ps ts → Give (p ∷ ps) (t ∷ ts)
+
+-- a terminal of some token of Unicode characters that has no fault
+pub record IsOfToken (t : Terminal) : Type 0 where
+  pub kind : Kind
+  pub text : List ℕ
+  pub characters : all_scalars text ≡ true
+  pub gives : Gives kind text t
+
+-- Pieces give these terminals, and are a line that is read back: those that touch are told apart, and brackets are closed.
+pub record AreRead (ps : List Piece) (ts : List Terminal) : Type 0 where
+  pub give : Give ps ts
+  pub line : (level : ℕ) → is_written (record { level = level; pieces = ps }) ≡ true
+
+-- what is written for an expression that the grammar gives to some tokens
+abbrev pub ExpressionsAreRead : Type 0
+ExpressionsAreRead = (l : Level) (ts : List Terminal) (e : Expr) → All IsOfToken ts → Derives l ts e → AreRead (pieces l e) (terminals l e)
+
+-- ---- Modules.
+
+-- the lines have these forms in a version of Python
+pub data HaveForms (profile : Profile) : List (WrittenLine Terminal) → List Line → Type 0 where
+  no_form : HaveForms profile [] []
+  a_form : {l : ℕ} {ts : List Terminal} {f : Form} {ws : List (WrittenLine Terminal)} {xs : List Line}
+      → FormOf profile ts f → HaveForms profile ws xs → HaveForms profile (written_line l ts ∷ ws) (line l f ∷ xs)
+
+-- they have forms, and the statements of these are a module's
+pub record AreModule (profile : Profile) (ws : List (WrittenLine Terminal)) (m : Module) : Type 0 where
+  pub forms : List Line
+  pub formed : HaveForms profile ws forms
+  pub block : Block 0 forms m.body
+
+-- A module that some lines are is that of the lines that it is written in. Lines are one module at most (`pygrammar`'s laws), so these are
+-- no other.
+abbrev pub ModulesComeBack : Type 0
+ModulesComeBack = (profile : Profile) (ws : List (WrittenLine Terminal)) (m : Module) → AreModule profile ws m → AreModule profile (terminal_lines m) m

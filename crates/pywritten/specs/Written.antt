@@ -1,6 +1,6 @@
 -- The tokens that an expression is written in at a level of the grammar, in as few brackets as its place allows, and how close each token
 -- keeps to its neighbours (reference 6 and 10).
-use Rattle.std.specs.Prelude.{ℕ, ◌-◌, List, [], ◌∷◌, ◌++◌, map, length, replicate, Option, Some, None, Bool, true, false, if◌then◌else◌}
+use Rattle.std.specs.Prelude.{◌-◌, List, [], ◌∷◌, ◌++◌, map, length, replicate, Option, Some, None, Bool, true, false, if◌then◌else◌}
 use Rattle.pylexeme.specs.declared.kinds.Exact.{Exact}
 use Rattle.pylexeme.specs.declared.kinds.Exact.TheVariants.{LPar, RPar, LSqb, RSqb, LBrace, RBrace, Colon, Comma, Star, Slash, Equal, Dot, DoubleStar, Ellipsis, ColonEqual}
 use Rattle.pytoken.specs.declared.keywords.Keyword.{Keyword}
@@ -31,6 +31,10 @@ separated t (ts ∷ tss) = ts ++ (t ∷ separated t tss)
 abbrev pub beside : {A : Type 0} → List (List A) → List (List A) → List (List A)
 beside (ts ∷ tss) (us ∷ uss) = (ts ++ us) ∷ beside tss uss
 beside _ _ = []
+
+-- parameters, of which the last ones have the defaults
+abbrev pub with_defaults : {A : Type 0} → List (List A) → List (List A) → List (List A)
+with_defaults tss ds = beside tss (replicate (length tss - length ds) [] ++ ds)
 
 -- ---- What depends on the place of an expression.
 
@@ -141,10 +145,6 @@ module _ {A : Type 0} (make : Maker A) where
 
   abbrev pub behind_equal : List A → List A
   behind_equal ts = tight Equal ∷ ts
-
-  -- the last ones have the defaults
-  abbrev pub with_defaults : List (List A) → List (List A) → List (List A)
-  with_defaults tss ds = beside tss (replicate (length tss - length ds) [] ++ ds)
 
   -- `/` behind as many as there are positional ones
   abbrev pub with_slash : List (List A) → List (List A) → List (List A)

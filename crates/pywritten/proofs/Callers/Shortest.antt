@@ -1,17 +1,16 @@
 -- On: expressions, targets, parameters and arguments are written in the fewest terminals that give them, with no more brackets open at once
 -- than they are high.
-use Rattle.std.proofs.Common.{◌≡◌, ◌≤◌, List, ◌++◌, length, sym, subst, ap, ◌∙◌, Bool, Some}
-use Rattle.pynode.specs.Trees.{Expr, Exprs, Keywords}
+use Rattle.std.proofs.Common.{◌≤◌, List, ◌++◌, length, subst}
+use Rattle.pynode.specs.Trees.{Exprs, Keywords}
 use Rattle.pytoken.specs.Terminals.{Terminal}
-use Rattle.pygrammar.specs.declared.levels.Level.{Level}
 use Rattle.pygrammar.specs.declared.levels.Level.TheVariants.{Named}
 use Rattle.pygrammar.specs.Entries.{Entry, Argument}
-use Rattle.pygrammar.specs.Arguments.{in_order, positional, keywords}
-use Rattle.pygrammar.specs.Grammar.{Derives, Listing, Target, SingleTarget, DelTarget, ItemTarget}
+use Rattle.pygrammar.specs.Arguments.{positional, keywords}
+use Rattle.pygrammar.specs.Grammar.{Listing}
 use Rattle.pygrammar.proofs.Callers.Law.{reader_is_exact}
 use Rattle.pywritten.specs.Written.{listed, each, by_name}
 use Rattle.pywritten.specs.Terminals.{terminal, terminals}
-use Rattle.pywritten.specs.Laws.{Shortest, ExpressionsAreShortest, ExpressionsComeBack, TargetsAreShortest, IsArranged, ParametersAreShortest, AreArguments, ArgumentsAreShortest, BracketsAreWithinHeight}
+use Rattle.pywritten.specs.Laws.{ExpressionsAreShortest, ExpressionsComeBack, TargetsAreShortest, ParametersAreShortest, AreArguments, ArgumentsAreShortest, BracketsAreWithinHeight}
 use Rattle.pywritten.proofs.Fewest.Induction.{fewest}
 use Rattle.pywritten.proofs.Fewest.Places.{target_law, single_target_law, del_target_law, item_target_law, parameters_law, bases_law}
 use Rattle.pywritten.proofs.Fewest.Flat.{brackets_height}

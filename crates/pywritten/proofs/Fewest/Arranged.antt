@@ -71,19 +71,19 @@ abbrev Full : Bool → ℕ → ℕ → Type 0
 Full true m n = m ≡ n
 Full false m n = m ≤ n
 
-default_none : (n : List Terminal) (xs ds : List (List Terminal)) → length ds ≤ length xs → with_defaults terminal (n ∷ xs) ds ≡ (n ++ []) ∷ with_defaults terminal xs ds
+default_none : (n : List Terminal) (xs ds : List (List Terminal)) → length ds ≤ length xs → with_defaults (n ∷ xs) ds ≡ (n ++ []) ∷ with_defaults xs ds
 default_none n xs ds h =
     let e : length (n ∷ xs) - length ds ≡ suc (length xs - length ds) = omega (arith, h) in
     ap (λ k. beside (n ∷ xs) (replicate k [] ++ ds)) e
 
-default_some : (n d : List Terminal) (xs ds : List (List Terminal)) → length ds ≡ length xs → with_defaults terminal (n ∷ xs) (d ∷ ds) ≡ (n ++ d) ∷ with_defaults terminal xs ds
+default_some : (n d : List Terminal) (xs ds : List (List Terminal)) → length ds ≡ length xs → with_defaults (n ∷ xs) (d ∷ ds) ≡ (n ++ d) ∷ with_defaults xs ds
 default_some n d xs ds h =
     let e : length (n ∷ xs) - length (d ∷ ds) ≡ 0 = omega (arith, h) in
     let f : 0 ≡ length xs - length ds = omega (arith, h) in
     ap (λ k. beside (n ∷ xs) (replicate k [] ++ (d ∷ ds))) e ∙ ap (λ k. (n ++ d) ∷ beside xs (replicate k [] ++ ds)) f
 
 data Plains (b : Bool) : Arguments → List Entry → Type 0 where
-  plains : {qs : Args} {v : OptionalArg} {ks : Args} {kds : OptionalExprs} {k : OptionalArg} {ds : Exprs} {es : List Entry} → with_defaults terminal (names terminal qs) (texts ds) ++ behind v ks kds k ≡ entries es → Full b (length (texts ds)) (length (names terminal qs)) → Plains b (arguments no_arg qs v ks kds k ds) es
+  plains : {qs : Args} {v : OptionalArg} {ks : Args} {kds : OptionalExprs} {k : OptionalArg} {ds : Exprs} {es : List Entry} → with_defaults (names terminal qs) (texts ds) ++ behind v ks kds k ≡ entries es → Full b (length (texts ds)) (length (names terminal qs)) → Plains b (arguments no_arg qs v ks kds k ds) es
 
 plains_none : {x : Arguments} {es : List Entry} (a : Arg) → Plains false x es → Plains false (add_plain a absent x) (Plain a absent ∷ es)
 unfolding names suffixed
@@ -110,7 +110,7 @@ plains_says b es x h = plains_end b (at_says es x h)
 
 -- those before the slash
 data Slashes (b : Bool) : Arguments → List Entry → Type 0 where
-  slashes : {a : Arg} {ps qs : Args} {v : OptionalArg} {ks : Args} {kds : OptionalExprs} {k : OptionalArg} {ds : Exprs} {es : List Entry} → with_slash terminal (names terminal (an_arg a ps)) (with_defaults terminal (names terminal (an_arg a ps) ++ names terminal qs) (texts ds)) ++ behind v ks kds k ≡ entries es → Full b (length (texts ds)) (length (names terminal (an_arg a ps) ++ names terminal qs)) → Slashes b (arguments (an_arg a ps) qs v ks kds k ds) es
+  slashes : {a : Arg} {ps qs : Args} {v : OptionalArg} {ks : Args} {kds : OptionalExprs} {k : OptionalArg} {ds : Exprs} {es : List Entry} → with_slash terminal (names terminal (an_arg a ps)) (with_defaults (names terminal (an_arg a ps) ++ names terminal qs) (texts ds)) ++ behind v ks kds k ≡ entries es → Full b (length (texts ds)) (length (names terminal (an_arg a ps) ++ names terminal qs)) → Slashes b (arguments (an_arg a ps) qs v ks kds k ds) es
 
 slash_none : {x : Arguments} {es : List Entry} (a : Arg) → Plains false x es → Slashes false (add_before_slash a absent x) (Plain a absent ∷ (Slashed ∷ es))
 unfolding names suffixed

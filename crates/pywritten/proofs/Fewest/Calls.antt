@@ -180,7 +180,7 @@ unfolding written
 call_node f (an_expr (Trees.GeneratorExp e cs) no_exprs) no_keyword ts p i r s = lone_node f e cs ts p i s
 call_node f zs ks ts p i r s = node Primary _ _ ts (λ m. refl) refl tt r deep_primary.named (omega (arith, s, length-append (written terminal Primary f) (bracketed terminal (separated (Op Comma) (each terminal Named zs ++ by_name terminal ks))), length_bracketed (separated (Op Comma) (each terminal Named zs ++ by_name terminal ks))))
 
-called_is : (f e : Expr) (es : List Entry) → called f es ≡ Some e → Trees.Call f (positional es) (keywords es) ≡ e
+pub called_is : (f e : Expr) (es : List Entry) → called f es ≡ Some e → Trees.Call f (positional es) (keywords es) ≡ e
 called_is f e es h = by (in_order false false es) h
   where
     by : (b : Bool) → cond b (Some (Trees.Call f (positional es) (keywords es))) None ≡ Some e → Trees.Call f (positional es) (keywords es) ≡ e

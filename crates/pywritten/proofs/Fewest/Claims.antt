@@ -91,11 +91,11 @@ unfolding written
 power_claim p q = node Power _ _ _ (λ m. refl) refl tt (G.power (here p) (here q)) (operator_deep Bin.Pow).named (simp length-append (omega (arith, p.short, q.short)))
 
 -- an operator's row in the table
-record Row (l : Level) (t : Terminal) (o : Operator) : Type 0 where
-  level : operator_level o ≡ l
-  sign : operator_sign o ≡ t
-  left : left_level o ≡ l
-  right : right_level o ≡ below l
+pub record Row (l : Level) (t : Terminal) (o : Operator) : Type 0 where
+  pub level : operator_level o ≡ l
+  pub sign : operator_sign o ≡ t
+  pub left : left_level o ≡ l
+  pub right : right_level o ≡ below l
 
 pub given : {A : Type 0} (P : A → Type 0) {a b : A} → ◌≡◌ {A = Option A} (Some a) (Some b) → P a → P b
 given {A} P {a} {b} h p = subst P (same a b h) p
@@ -103,7 +103,7 @@ given {A} P {a} {b} h p = subst P (same a b h) p
     same : (a b : A) → ◌≡◌ {A = Option A} (Some a) (Some b) → a ≡ b
     same a b h = cc
 
-row : (l : Level) (t : Terminal) (o : Operator) → left_operator l t ≡ Some o → Row l t o
+pub row : (l : Level) (t : Terminal) (o : Operator) → left_operator l t ≡ Some o → Row l t o
 row BitOr (Op VBar) o h = given (Row BitOr (Op VBar)) h (record { level = refl; sign = refl; left = refl; right = refl })
 row BitXor (Op Circumflex) o h = given (Row BitXor (Op Circumflex)) h (record { level = refl; sign = refl; left = refl; right = refl })
 row BitAnd (Op Amper) o h = given (Row BitAnd (Op Amper)) h (record { level = refl; sign = refl; left = refl; right = refl })
@@ -124,11 +124,11 @@ binary_claim {l} {ts} {us} {a} {b} {o} t h p q =
     let r : Row l t o = row l t o h in
     node l (Trees.BinOp a o b) (written terminal l a ++ (t ∷ written terminal (below l) b)) (ts ++ (t ∷ us)) (λ m. cc (r.level, r.sign, r.left, r.right)) refl tt (G.binary t h (here p) (here q)) (subst (λ k. reaches Named k ≡ true) r.level (operator_deep o).named) (simp length-append (omega (arith, p.short, q.short)))
 
-record Prefix (l : Level) (t : Terminal) (o : UnaryOperator) : Type 0 where
-  level : unary_level o ≡ l
-  sign : unary_sign o ≡ t
+pub record Prefix (l : Level) (t : Terminal) (o : UnaryOperator) : Type 0 where
+  pub level : unary_level o ≡ l
+  pub sign : unary_sign o ≡ t
 
-prefixed : (l : Level) (t : Terminal) (o : UnaryOperator) → prefix_operator l t ≡ Some o → Prefix l t o
+pub prefixed : (l : Level) (t : Terminal) (o : UnaryOperator) → prefix_operator l t ≡ Some o → Prefix l t o
 prefixed Not (Word Key.Not) o h = given (Prefix Not (Word Key.Not)) h (record { level = refl; sign = refl })
 prefixed Factor (Op Plus) o h = given (Prefix Factor (Op Plus)) h (record { level = refl; sign = refl })
 prefixed Factor (Op Minus) o h = given (Prefix Factor (Op Minus)) h (record { level = refl; sign = refl })

@@ -10,7 +10,7 @@ use Rattle.pynode.specs.Trees.{Expr, Exprs, no_exprs, an_expr, arg, Identifier}
 use Rattle.pytoken.specs.Terminals.{Terminal, Op, Ident}
 use Rattle.pygrammar.specs.Entries.{Item, Of, Pair, Argument, Parameter, Entry, Single, Paired, Spread, Doubled, Keyed, Plain, Slashed, Bare, Gathered, Collected, singles, keys, values}
 use Rattle.pygrammar.specs.Grammar as G
-use Rattle.pywritten.specs.Written.{separated, some_named, lone_star, element_level, free, bracketed, with_comma, tuple_of, written, each, suffixed, written_keys, pairs}
+use Rattle.pywritten.specs.Written.{separated, some_named, lone_star, element_level, bracketed, with_comma, tuple_of, written, each, suffixed, written_keys, pairs}
 use Rattle.pywritten.specs.Terminals.{terminal}
 use Rattle.pywritten.proofs.Fewest.Reach.{climb, to_atom, length_bracketed}
 use Rattle.pywritten.proofs.Fewest.Less.{some_slice, tuple_place, allowed, length_separated, length_with_comma, total_named, length_part}

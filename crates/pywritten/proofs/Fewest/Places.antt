@@ -2,7 +2,7 @@
 use Rattle.std.proofs.Common.{◌≡◌, refl, sym, ap, subst, ◌∙◌, ◌≤◌, arith, List, [], ◌∷◌, ◌++◌, length, Some, Bool, true, false}
 use Rattle.std.specs.Prelude.{map}
 use Rattle.pylexeme.specs.declared.kinds.Exact.TheVariants.{LSqb, RSqb, Comma, Star}
-use Rattle.pynode.specs.declared.operators.Context.TheVariants.{Load, Del}
+use Rattle.pynode.specs.declared.operators.Context.TheVariants.{Load, Store, Del}
 use Rattle.pygrammar.specs.declared.levels.Level.{Level}
 use Rattle.pygrammar.specs.declared.levels.Level.TheVariants.{Stars, Named, Expression, Primary, Elem}
 use Rattle.pynode.specs.Trees
@@ -11,15 +11,16 @@ use Rattle.pytoken.specs.Terminals.{Terminal, Op}
 use Rattle.pygrammar.specs.Entries.{Argument, Parameter, Entry}
 use Rattle.pygrammar.specs.Arguments.{in_order, positional, keywords}
 use Rattle.pygrammar.specs.Parameters.{arranged}
-use Rattle.pygrammar.specs.Targets.{stored, deleted, all_deleted, single_stored}
+use Rattle.pygrammar.specs.Targets.{stored, all_stored, deleted, all_deleted, single_stored}
 use Rattle.pygrammar.specs.Grammar as G
 use Rattle.pywritten.specs.Written.{separated, written, each, by_name, parameters}
 use Rattle.pywritten.specs.Terminals.{terminal}
+use Rattle.pywritten.specs.Statements.{item_target}
 use Rattle.pywritten.proofs.Fewest.Reach.{fit_within, deep_primary, expression_primary}
 use Rattle.pywritten.proofs.Fewest.Less.{allowed}
 use Rattle.pywritten.proofs.Fewest.Claims.{given, here}
 use Rattle.pywritten.proofs.Fewest.Entries.{entry, listing_of}
-use Rattle.pywritten.proofs.Fewest.Clauses.{mapped_is, both_is, stored_same, SameClass, SameList, same_grown, tuple_same}
+use Rattle.pywritten.proofs.Fewest.Clauses.{mapped_is, both_is, star_stored, stored_same, SameClass, SameList, same_grown, tuple_same}
 use Rattle.pywritten.proofs.Fewest.Calls.{sorted, sorted_in_order, sorted_positional, sorted_keywords, sorted_written, sorted_short, appended, firsts_standing, lasts_standing}
 use Rattle.pywritten.proofs.Fewest.Arranged.{parameters_are}
 use Rattle.pywritten.proofs.Fewest.Induction.{claim, listing}
@@ -83,15 +84,25 @@ named_expression (Trees.ListOf es c) s h a = refl
 named_expression (Trees.Starred e c) s h a = absurd (cc)
 named_expression _ s h a = absurd (cc)
 
-pub item_target_law : {ts : List Terminal} {s : Expr} → G.ItemTarget ts s → G.ItemTarget (written terminal Named s) s × (length (written terminal Named s) ≤ length ts)
+target_is : (e s : Expr) → stored e ≡ Some s → written terminal Named s ≡ item_target terminal s
+unfolding written
+target_is (Trees.Name x c) s h = given (λ z. written terminal Named z ≡ item_target terminal z) h refl
+target_is (Trees.Attribute e x c) s h = given (λ z. written terminal Named z ≡ item_target terminal z) h (fit_within Named Primary _ deep_primary.named ∙ sym (fit_within Expression Primary _ expression_primary))
+target_is (Trees.Subscript e i c) s h = given (λ z. written terminal Named z ≡ item_target terminal z) h (fit_within Named Primary _ deep_primary.named ∙ sym (fit_within Expression Primary _ expression_primary))
+target_is (Trees.Tuple es c) s h = let w = mapped_is (λ fs. Trees.Tuple fs Store) (all_stored es) s h in subst (λ z. written terminal Named z ≡ item_target terminal z) w.2 refl
+target_is (Trees.ListOf es c) s h = let w = mapped_is (λ fs. Trees.ListOf fs Store) (all_stored es) s h in subst (λ z. written terminal Named z ≡ item_target terminal z) w.2 refl
+target_is (Trees.Starred e c) s h = let w = star_stored e c s h in subst (λ z. written terminal Named z ≡ item_target terminal z) w.2 refl
+target_is _ s h = absurd (cc)
+
+pub item_target_law : {ts : List Terminal} {s : Expr} → G.ItemTarget ts s → G.ItemTarget (item_target terminal s) s × (length (item_target terminal s) ≤ length ts)
 unfolding written
 item_target_law {ts} (G.item_target {e = e} {s = s} p h) =
     let c = claim p in
-    let q = named_expression e s h c.place ∙ stored_same e s h Named in
+    let q = named_expression e s h c.place ∙ (stored_same e s h Named ∙ target_is e s h) in
     (subst (λ z. G.ItemTarget z s) q (G.item_target (here c) h), subst (λ z. length z ≤ length ts) q c.short)
 item_target_law {ts} (G.star_target {ts = us} {e = e} {s = s} p h) =
     let c = claim p in
-    let q = stored_same (Trees.Starred e Load) s h Named in
+    let q = stored_same (Trees.Starred e Load) s h Named ∙ target_is (Trees.Starred e Load) s h in
     (subst (λ z. G.ItemTarget z s) q (G.star_target (here c) h), subst (λ z. length z ≤ length (Op Star ∷ us)) q (omega (arith, c.short)))
 
 -- parameters, with or without annotations

@@ -1,0 +1,6 @@
+-- On: what is written is read back.
+use Rattle.pywritten.specs.Laws.{ExpressionsAreRead}
+use Rattle.pywritten.proofs.Pieces.Law
+
+pub expressions_are_read : ExpressionsAreRead
+expressions_are_read = Law.expressions_read
