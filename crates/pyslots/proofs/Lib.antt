@@ -17,3 +17,4 @@ mod FormGives
 mod BlockGives
 mod Scalars
 mod Tokens
+mod Modules
