@@ -87,55 +87,38 @@ fn tell(rt: &HostRuntime, start: Instant) -> Option<()> {
     println!(rt; "{taken}").ok()
 }
 
-/// Lets a tree go, and tells how long that took.
-fn time_drop(rt: &HostRuntime, tree: Module) -> Option<()> {
+/// Does one thing with a tree, and tells how long it took.
+fn time(rt: &HostRuntime, alloc: Global, what: &str, tree: Module) -> Option<()> {
     let start = Instant::now(rt).ok()?;
-    drop(tree);
-    tell(rt, start)
-}
-
-/// Measures a tree, and tells how long that took.
-fn time_height(rt: &HostRuntime, tree: &Module) -> Option<()> {
-    let start = Instant::now(rt).ok()?;
-    let heights = height(tree);
-    if heights.statement == 0 {
-        return None;
-    }
-    tell(rt, start)
-}
-
-/// Copies a tree, and tells how long that took.
-fn time_copy(rt: &HostRuntime, alloc: Global, tree: &Module) -> Option<()> {
-    let start = Instant::now(rt).ok()?;
-    let _copied = copy(alloc, tree).ok()?;
-    tell(rt, start)
-}
-
-/// Compares a tree with its copy, and tells how long that took.
-fn time_same(rt: &HostRuntime, alloc: Global, tree: &Module) -> Option<()> {
-    let copied = copy(alloc, tree).ok()?;
-    let start = Instant::now(rt).ok()?;
-    if !same(tree, &copied) {
-        return None;
-    }
-    tell(rt, start)
-}
-
-/// Dumps a tree, and tells how long that took, and how long the text is.
-fn time_dump(rt: &HostRuntime, alloc: Global, tree: &Module) -> Option<()> {
-    let start = Instant::now(rt).ok()?;
-    let text = dump(alloc, tree, PLAIN).ok()?;
-    let taken = start.elapsed(rt).ok()?.as_nanos();
-    println!(rt; "{taken} {}", text.len()).ok()
-}
-
-/// Does one thing with a tree that stays, and tells how long it took.
-fn time(rt: &HostRuntime, alloc: Global, what: &str, tree: &Module) -> Option<()> {
     match what {
-        "height" => time_height(rt, tree),
-        "copy" => time_copy(rt, alloc, tree),
-        "same" => time_same(rt, alloc, tree),
-        "dump" => time_dump(rt, alloc, tree),
+        "drop" => {
+            drop(tree);
+            tell(rt, start)
+        }
+        "height" => {
+            let heights = height(&tree);
+            if heights.statement == 0 {
+                return None;
+            }
+            tell(rt, start)
+        }
+        "copy" => {
+            let _copied = copy(alloc, &tree).ok()?;
+            tell(rt, start)
+        }
+        "same" => {
+            let copied = copy(alloc, &tree).ok()?;
+            let start = Instant::now(rt).ok()?;
+            if !same(&tree, &copied) {
+                return None;
+            }
+            tell(rt, start)
+        }
+        "dump" => {
+            let text = dump(alloc, &tree, PLAIN).ok()?;
+            let taken = start.elapsed(rt).ok()?.as_nanos();
+            println!(rt; "{taken} {}", text.len()).ok()
+        }
         _ => None,
     }
 }
@@ -147,10 +130,7 @@ fn run(rt: &HostRuntime, alloc: Global) -> Option<()> {
     let shape = words.next()?;
     let count = words.next()?.as_str().parse::<u64>().ok()?;
     let tree = tree_of_shape(alloc, shape.as_str(), count)?;
-    if what.as_str() == "drop" {
-        return time_drop(rt, tree);
-    }
-    time(rt, alloc, what.as_str(), &tree)
+    time(rt, alloc, what.as_str(), tree)
 }
 
 fn main(rt: HostRuntime) -> ExitCode {
