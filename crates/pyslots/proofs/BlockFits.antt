@@ -1,15 +1,15 @@
 -- Carries: the law of modules. On: the tree of lines that fit, fits.
-use Rattle.std.proofs.Common.{◌≡◌, refl, ℕ, suc, List, [], ◌∷◌, ◌++◌, Option, Some, None, Bool, true, false}
-use Rattle.std.specs.Prelude.{not, ◌&&◌}
+use Rattle.std.proofs.Common.{◌≡◌, refl, ℕ, List, [], ◌∷◌, ◌++◌, Option, Some, None, Bool, true, false}
+use Rattle.std.specs.Prelude.{◌&&◌}
 use Rattle.std.specs.List.{list_all}
 use Rattle.std.proofs.lemmas.Bool.{and_parts, and_from}
 use Rattle.pynode.specs.declared.operators.Context.TheVariants.{Store}
 use Rattle.pynode.specs.declared.profiles.Profile.{Profile}
-use Rattle.pynode.specs.Trees.{Identifier, Expr, exprs, optional, Stmt, Stmts, stmts, Handler, handlers, Item, no_stmt}
+use Rattle.pynode.specs.Trees.{Identifier, Expr, exprs, optional, Stmt, stmts, Handler, handlers, Item}
 use Rattle.pygrammar.specs.declared.levels.Level.TheVariants.{Stars, Expression, Elem}
-use Rattle.pygrammar.specs.Lines.{Line, line, Form, simple_form, decorator_form, header_form, Header, if_header, elif_header, else_header, loop_header, with_header, try_header, except_header, finally_header, def_header, LoopHead, while_head, for_head, DefHead, function_head, class_head, loop, with_of, definition, try_of}
+use Rattle.pygrammar.specs.Lines.{Line, line, header_form, Header, if_header, elif_header, else_header, loop_header, with_header, try_header, except_header, finally_header, def_header, LoopHead, while_head, for_head, DefHead, function_head, class_head, loop, with_of, definition, try_of}
 use Rattle.pygrammar.specs.Blocks.{Block, Statement, Body, Alternative, Otherwise, Excepts, Ending, Decorators, nothing, and_then, simple_line, if_statement, loop_statement, with_statement, try_finally, try_except, definition_of, inline, indented, an_else, an_elif, no_else, else_clause, no_except, except_clause, no_finally, finally_clause, no_decorator, decorator}
-use Rattle.pyslots.specs.Slots.{perhaps_name, fits_at, fits_target, each_fits, perhaps_fits, each_keyword_fits, fits_arguments}
+use Rattle.pyslots.specs.Slots.{fits_at, fits_target, each_fits, perhaps_fits, each_keyword_fits, fits_arguments}
 use Rattle.pyslots.specs.Statements.{has_one, has_stmt, item_fits, types_fit, caught_fits, clauses_fit, statement_fits, statements_fit, handlers_fit}
 use Rattle.pyslots.specs.Given.{AreGiven, no_line, a_line}
 use Rattle.pyslots.proofs.Tests.{parts4, from4}

@@ -1,7 +1,7 @@
 -- Carries: the laws of the slots. On: arguments, pairs of a Dict, targets and comprehensions of what is given are given.
-use Rattle.std.proofs.Common.{◌≡◌, refl, sym, ap, subst, ◌∙◌, ◌+◌, arith, List, [], ◌∷◌, ◌++◌, Option, Some, None, Bool, true, false, cond}
-use Rattle.std.specs.Prelude.{◌&&◌, not}
-use Rattle.pylexeme.specs.declared.kinds.Exact.TheVariants.{LPar, RPar, LSqb, RSqb, LBrace, RBrace, Colon, Comma, Star, Equal, DoubleStar}
+use Rattle.std.proofs.Common.{◌≡◌, refl, ap, subst, arith, List, [], ◌∷◌, ◌++◌, Option, Some, None, Bool, true, false}
+use Rattle.std.specs.Prelude.{not}
+use Rattle.pylexeme.specs.declared.kinds.Exact.TheVariants.{LPar, RPar, LSqb, RSqb, LBrace, RBrace, Colon, Star, Equal, DoubleStar}
 use Rattle.pytoken.specs.declared.keywords.Keyword.TheVariants as Key
 use Rattle.pynode.specs.declared.operators.Context.TheVariants.{Load, Store}
 use Rattle.pynode.specs.Trees

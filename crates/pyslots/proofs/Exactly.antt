@@ -1,22 +1,21 @@
 -- Carries: the laws of the slots. On: expressions, targets, parameters and arguments fit exactly where they are given.
-use Rattle.std.proofs.Common.{◌≡◌, refl, ap, subst, List, [], ◌∷◌, Some, None, Bool, true, false}
-use Rattle.std.specs.Prelude.{not, ◌&&◌, ◌||◌}
+use Rattle.std.proofs.Common.{◌≡◌, refl, ap, subst, List, ◌∷◌, Some, Bool, true, false}
+use Rattle.std.specs.Prelude.{not, ◌&&◌}
 use Rattle.std.proofs.lemmas.Bool.{and_parts, and_from}
 use Rattle.pylexeme.specs.declared.kinds.Exact.TheVariants.{Star}
 use Rattle.pynode.specs.declared.operators.Context.TheVariants.{Load, Store, Del}
 use Rattle.pynode.specs.Trees
 use Rattle.pynode.specs.Trees.{Identifier, Expr, Exprs, no_exprs, an_expr, absent, present, Keywords, Arg, arg, Args, no_arg, an_arg, OptionalArg, absent_arg, present_arg, Arguments, arguments}
 use Rattle.pytoken.specs.Terminals.{Terminal, Op}
-use Rattle.pygrammar.specs.declared.levels.Level.{Level}
 use Rattle.pygrammar.specs.declared.levels.Level.TheVariants.{Stars, StarItem, Expression, Primary, Elem, Slices}
-use Rattle.pygrammar.specs.Entries.{Entry, Argument, Parameter}
-use Rattle.pygrammar.specs.Arguments.{in_order, positional, keywords}
+use Rattle.pygrammar.specs.Entries.{Entry, Parameter}
+use Rattle.pygrammar.specs.Arguments.{positional, keywords}
 use Rattle.pygrammar.specs.Parameters.{arranged}
-use Rattle.pygrammar.specs.Targets.{mapped, stored, deleted, all_deleted, single_stored}
+use Rattle.pygrammar.specs.Targets.{mapped, deleted, all_deleted, single_stored}
 use Rattle.pygrammar.specs.Grammar as G
 use Rattle.pyslots.specs.Slots.{is_context, is_starred, is_single, fits_at, fits_target, each_target_fits, each_fits, each_keyword_fits, fits_arguments, arg_fits, each_arg_fits, perhaps_arg_fits}
 use Rattle.pyslots.specs.Given.{all_pass, Given}
-use Rattle.pyslots.specs.Laws.{FitsExactly, TargetFits, TargetsFitExactly, ParametersFitExactly, AreArguments, ArgumentsFitExactly}
+use Rattle.pyslots.specs.Laws.{FitsExactly, TargetsFitExactly, ParametersFitExactly, AreArguments, ArgumentsFitExactly}
 use Rattle.pyslots.proofs.Tests.{parts3, not_true, never, in_context, both_some}
 use Rattle.pyslots.proofs.Levels.{anywhere}
 use Rattle.pyslots.proofs.Entries.{positional_fit, keywords_fit}

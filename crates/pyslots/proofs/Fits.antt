@@ -13,13 +13,13 @@ use Rattle.pynode.specs.Trees
 use Rattle.pynode.specs.Trees.{Expr, Exprs, OptionalExpr, Identifier, exprs, Comprehension, comprehensions}
 use Rattle.pytoken.specs.Terminals.{Terminal, Op, Word, Ident, Literal}
 use Rattle.pygrammar.specs.declared.levels.Level.{Level}
-use Rattle.pygrammar.specs.declared.levels.Level.TheVariants.{Value, Stars, StarItem, Named, Expression, Or, BitOr, Factor, Await, Primary, Atom, Elem, Slices, Part}
+use Rattle.pygrammar.specs.declared.levels.Level.TheVariants.{Value, StarItem, Named, Expression, Or, BitOr, Factor, Await, Primary, Atom, Elem, Slices, Part}
 use Rattle.pygrammar.specs.Operators.{below, left_operator, chain_level, chain_word}
 use Rattle.pygrammar.specs.Entries.{Item, Entry, singles, keys, values}
 use Rattle.pygrammar.specs.Grammar as G
 use Rattle.pyslots.specs.Slots.{count, count_optional, has_some, is_absent, is_single, fits_at, fits_target, each_fits, perhaps_fits, each_perhaps_fits, each_clause_fits, fits_arguments}
 use Rattle.pyslots.specs.Given.{is_literal, all_pass}
-use Rattle.pyslots.proofs.Tests.{parts3, from3, from4, left, right, behind, word_value, joined_value}
+use Rattle.pyslots.proofs.Tests.{from3, from4, left, right, behind, word_value, joined_value}
 use Rattle.pyslots.proofs.Levels.{chain_inner, prefix_inner, left_inner, star_elem, stars_elem, fits_below, anywhere, plain}
 use Rattle.pyslots.proofs.Entries.{entry_fits, all_fit, clause_fits, singles_fit, keys_fit, values_fit, as_many, called_fit, set_some}
 use Rattle.pyslots.proofs.TargetShapes.{stored_fits, single_fits, deleted_fits}

@@ -1,14 +1,13 @@
 -- Carries: the law of modules. On: what a form of a line is given of, fits.
-use Rattle.std.proofs.Common.{◌≡◌, refl, sym, ap, subst, ◌+◌, ◌<◌, List, [], ◌∷◌, ◌++◌, Option, Some, None, Bool, true, false}
-use Rattle.std.specs.Prelude.{ℕ, nat_lt, not, ◌&&◌, ◌||◌, is_none}
+use Rattle.std.proofs.Common.{◌≡◌, refl, sym, ap, subst, List, [], ◌∷◌, ◌++◌, Option, Some, None, Bool, true, false}
+use Rattle.std.specs.Prelude.{nat_lt, ◌&&◌, ◌||◌}
 use Rattle.std.specs.List.{list_all}
 use Rattle.std.proofs.lemmas.Bool.{and_parts, and_from, or_right, lt-ltb}
 use Rattle.pylexeme.specs.declared.kinds.Exact.TheVariants as Sign
 use Rattle.pytoken.specs.declared.keywords.Keyword.TheVariants as Key
 use Rattle.pynode.specs.declared.operators.Context.TheVariants.{Store, Del}
 use Rattle.pynode.specs.declared.profiles.Profile.{Profile}
-use Rattle.pynode.specs.Trees
-use Rattle.pynode.specs.Trees.{Identifier, Expr, Exprs, no_exprs, an_expr, exprs, optional, Arguments, Keywords, Stmt, stmts, Alias, Item, TypeParam}
+use Rattle.pynode.specs.Trees.{Identifier, Expr, Exprs, no_exprs, an_expr, exprs, optional, Keywords, Stmt, stmts, Alias, Item, TypeParam}
 use Rattle.pytoken.specs.Terminals.{Terminal, Op, Word, Ident}
 use Rattle.pygrammar.specs.declared.levels.Level.{Level}
 use Rattle.pygrammar.specs.declared.levels.Level.TheVariants.{Value, Stars, Named, Expression, Elem}
@@ -17,8 +16,8 @@ use Rattle.pygrammar.specs.Grammar as G
 use Rattle.pygrammar.specs.Lines.{Form, simple_form, decorator_form, header_form, Header, if_header, elif_header, else_header, loop_header, with_header, try_header, except_header, finally_header, def_header, while_head, for_head, function_head, class_head, no_types}
 use Rattle.pygrammar.specs.Forms as F
 use Rattle.pygrammar.specs.Forms.{listed, has_types}
-use Rattle.pyslots.specs.Slots.{is_a_name, is_single, perhaps_name, fits_at, fits_target, each_target_fits, each_fits, perhaps_fits, each_keyword_fits, fits_arguments}
-use Rattle.pyslots.specs.Statements.{has_one, dotted, import_fits, alias_fits, imports_fit, source_fits, perhaps_target_fits, item_fits, type_param_fits, types_fit, raised_fits, caught_fits, statement_fits, statements_fit}
+use Rattle.pyslots.specs.Slots.{is_single, perhaps_name, fits_at, fits_target, each_target_fits, each_fits, perhaps_fits, each_keyword_fits, fits_arguments}
+use Rattle.pyslots.specs.Statements.{has_one, dotted, import_fits, alias_fits, imports_fit, item_fits, type_param_fits, types_fit, raised_fits, caught_fits, statement_fits, statements_fit}
 use Rattle.pyslots.specs.Given.{all_pass}
 use Rattle.pyslots.proofs.Tests.{from3, from4, left, right, behind}
 use Rattle.pyslots.proofs.Levels.{plain}

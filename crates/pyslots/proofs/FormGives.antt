@@ -1,6 +1,6 @@
 -- Carries: the law of modules. On: simple statements and headers that fit are given.
-use Rattle.std.proofs.Common.{◌≡◌, refl, sym, ap, subst, ◌⊎◌, inl, inr, ℕ, zero, suc, ◌+◌, ◌<◌, arith, List, [], ◌∷◌, ◌++◌, Option, Some, None, Bool, true, false}
-use Rattle.std.specs.Prelude.{nat_lt, not, ◌&&◌, ◌||◌, ◌==◌, is_none}
+use Rattle.std.proofs.Common.{◌≡◌, refl, sym, ap, subst, inl, inr, ℕ, zero, suc, arith, List, [], ◌∷◌, ◌++◌, Option, Some, None, Bool, true, false}
+use Rattle.std.specs.Prelude.{not, ◌&&◌, ◌||◌, is_none}
 use Rattle.std.specs.List.{list_all}
 use Rattle.std.proofs.lemmas.Bool.{and_parts, and_from, or_cases, ltb-true, eqb-true}
 use Rattle.pylexeme.specs.declared.kinds.Exact.{Exact}
@@ -15,17 +15,15 @@ use Rattle.pynode.specs.Trees.{Identifier, Expr, Exprs, no_exprs, an_expr, exprs
 use Rattle.pytoken.specs.Terminals.{Terminal, Op, Word, Ident}
 use Rattle.pygrammar.specs.declared.levels.Level.{Level}
 use Rattle.pygrammar.specs.declared.levels.Level.TheVariants.{Value, Stars, Named, Expression, Elem}
-use Rattle.pygrammar.specs.Entries.{Entry, Parameter}
 use Rattle.pygrammar.specs.Arguments.{positional}
-use Rattle.pygrammar.specs.Parameters.{arranged}
 use Rattle.pygrammar.specs.Grammar as G
-use Rattle.pygrammar.specs.Lines.{Header, if_header, else_header, loop_header, with_header, try_header, except_header, finally_header, def_header, while_head, for_head, function_head, class_head, no_types}
+use Rattle.pygrammar.specs.Lines.{if_header, loop_header, with_header, except_header, def_header, while_head, for_head, function_head, class_head, no_types}
 use Rattle.pygrammar.specs.Forms as F
 use Rattle.pygrammar.specs.Forms.{alias, item, augmented, listed, has_types, type_name}
 use Rattle.pyslots.specs.Slots.{is_context, is_a_name, is_single, perhaps_name, fits_at, fits_target, each_target_fits, each_fits, perhaps_fits, each_keyword_fits, fits_arguments}
 use Rattle.pyslots.specs.Statements.{has_one, dotted, import_fits, alias_fits, is_star, is_all, imports_fit, source_fits, perhaps_target_fits, item_fits, type_param_fits, types_fit, raised_fits, caught_fits}
 use Rattle.pyslots.specs.Given.{all_pass, Given}
-use Rattle.pyslots.proofs.Tests.{parts3, parts4, pass_on, never, not_true, in_context}
+use Rattle.pyslots.proofs.Tests.{pass_on, never, in_context}
 use Rattle.pyslots.proofs.Places.{named_pass}
 use Rattle.pyslots.proofs.Places as P
 use Rattle.pyslots.proofs.Gives.{made}

@@ -1,14 +1,12 @@
 -- Carries: the laws of the slots. On: an expression that fits is given.
-use Rattle.std.proofs.Common.{◌≡◌, refl, ap, List, [], ◌∷◌, Some, None, Bool, true, false}
-use Rattle.std.specs.Prelude.{not, ◌&&◌, ◌||◌, eqb, leb, length}
-use Rattle.std.proofs.lemmas.Bool.{and_parts, and_from, eqb-true, leb-true}
-use Rattle.pynode.specs.declared.operators.Context.{Context}
-use Rattle.pynode.specs.declared.operators.Context.TheVariants.{Load, Store, Del}
+use Rattle.std.proofs.Common.{◌≡◌, Bool, true, false}
+use Rattle.std.specs.Prelude.{not, eqb, leb, length}
+use Rattle.std.proofs.lemmas.Bool.{and_parts, eqb-true, leb-true}
+use Rattle.pynode.specs.declared.operators.Context.TheVariants.{Load, Store}
 use Rattle.pynode.specs.Trees
 use Rattle.pynode.specs.Trees.{Identifier, Expr, Exprs, no_exprs, an_expr, OptionalExpr, absent, present, OptionalExprs, no_optional, an_optional, Keywords, no_keyword, a_keyword, Comprehensions, no_comprehension, a_comprehension, arguments}
 use Rattle.pygrammar.specs.declared.levels.Level.{Level}
-use Rattle.pygrammar.specs.declared.levels.Level.TheVariants.{Stars, StarItem, Named, Expression, Elem, Slices}
-use Rattle.pyslots.specs.Literals.{is_value}
+use Rattle.pygrammar.specs.declared.levels.Level.TheVariants.{Stars, Named, Expression, Elem, Slices}
 use Rattle.pyslots.specs.Slots.{takes_star, takes_slice, member_level, is_context, is_starred, is_a_name, count, count_optional, has_some, perhaps_name, fits_at, fits_target, each_target_fits, each_fits, perhaps_fits, each_perhaps_fits, each_keyword_fits, each_clause_fits, fits_arguments}
 use Rattle.pyslots.proofs.Tests.{parts3, parts4, never, in_context}
 use Rattle.pyslots.proofs.Places as P

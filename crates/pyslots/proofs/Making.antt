@@ -1,6 +1,6 @@
 -- Carries: the laws of the slots. On: nodes of what is given are given: operators, displays, primaries.
-use Rattle.std.proofs.Common.{◌≡◌, refl, sym, ap, subst, ◌+◌, ◌≤◌, arith, List, [], ◌∷◌, ◌++◌, length, Option, Some, None, Bool, true, false}
-use Rattle.std.specs.Prelude.{◌&&◌, nat_lt, ◌^◌}
+use Rattle.std.proofs.Common.{◌≡◌, refl, ap, subst, ◌≤◌, arith, List, [], ◌∷◌, ◌++◌, length, Some, Bool, true, false}
+use Rattle.std.specs.Prelude.{nat_lt, ◌^◌}
 use Rattle.std.proofs.lemmas.Bool.{and_from}
 use Rattle.pylexeme.specs.declared.kinds.Exact.TheVariants.{LPar, RPar, LSqb, RSqb, LBrace, RBrace, Colon, Comma, Star, Slash, Dot, DoubleStar, ColonEqual, VBar, Circumflex, Amper, LeftShift, RightShift, Plus, Minus, DoubleSlash, Percent, At, Tilde, EqEqual, NotEqual, Less, LessEqual, Greater, GreaterEqual, Ellipsis}
 use Rattle.pytoken.specs.declared.keywords.Keyword.TheVariants as Key
@@ -18,15 +18,15 @@ use Rattle.pynode.specs.Trees.{Identifier, Expr, Exprs, no_exprs, an_expr, Optio
 use Rattle.pynode.specs.Values
 use Rattle.pytoken.specs.Terminals.{Terminal, Op, Word, Ident, Whole, Literal}
 use Rattle.pygrammar.specs.declared.levels.Level.{Level}
-use Rattle.pygrammar.specs.declared.levels.Level.TheVariants.{Value, Stars, StarItem, Named, Expression, Or, Not, Compare, BitOr, BitXor, BitAnd, Shift, Sum, Term, Factor, Power, Await, Primary, Atom, Elem, Slices, Part, Slice}
+use Rattle.pygrammar.specs.declared.levels.Level.TheVariants.{Stars, Named, Expression, Or, Not, Compare, BitOr, BitXor, BitAnd, Shift, Sum, Term, Factor, Power, Await, Primary, Atom, Elem, Slices, Part, Slice}
 use Rattle.pygrammar.specs.Operators.{below, left_operator, prefix_operator, chain_level, chain_word}
-use Rattle.pygrammar.specs.Entries.{Item, Of, Pair, Entry, Single, Paired, Doubled, singles, keys, values}
+use Rattle.pygrammar.specs.Entries.{Item, Of, Entry, Single, singles}
 use Rattle.pygrammar.specs.Grammar as G
 use Rattle.pyslots.specs.Literals.{is_value}
-use Rattle.pyslots.specs.Slots.{member_level, takes_slice, takes_star, count, count_optional}
+use Rattle.pyslots.specs.Slots.{member_level, takes_slice, count}
 use Rattle.pyslots.specs.Given.{is_literal, all_pass, Given}
-use Rattle.pyslots.proofs.Tests.{pass_on, never}
-use Rattle.pyslots.proofs.Levels.{inner, chain_inner}
+use Rattle.pyslots.proofs.Tests.{pass_on}
+use Rattle.pyslots.proofs.Levels.{inner}
 use Rattle.pyslots.proofs.Places as P
 use Rattle.pyslots.proofs.Places.{MayBe, left_out, there, Each, no_more, one_more, lifted, anywhere_at, at, named_pass}
 

@@ -1,41 +1,39 @@
 -- Carries: the laws by tokens. On: expressions and modules fit exactly where some tokens are these.
-use Rattle.std.proofs.Common.{◌≡◌, refl, sym, ap, subst, ◌∙◌, ℕ, ◌<◌, List, [], ◌∷◌, Option, None, Bool, true, false, get_or, length}
-use Rattle.std.specs.Prelude.{◌&&◌, ◌||◌, ◌==◌, not, map, is_some}
+use Rattle.std.proofs.Common.{◌≡◌, refl, sym, ap, subst, ◌∙◌, ℕ, List, [], ◌∷◌, None, Bool, true, false, get_or}
+use Rattle.std.specs.Prelude.{◌==◌, not, map}
 use Rattle.std.specs.List.{list_all}
 use Rattle.std.specs.Char.{is_ascii}
-use Rattle.std.proofs.lemmas.Bool.{and_parts, and_from, both_ways, eqb-true, ltb-true, or_cases}
+use Rattle.std.proofs.lemmas.Bool.{and_parts, and_from, both_ways, eqb-true, ltb-true}
 use Rattle.std.proofs.lemmas.List.Recursion.{and_at}
 use Rattle.unicode_ident.proofs.Computing.{unicode_ident}
-use Rattle.unicode_ident.specs.Ident.{is_xid_start, is_xid_continue}
+use Rattle.unicode_ident.specs.Ident.{is_xid_continue}
 use Rattle.unicode_normalization.specs.Forms.{Nfkc, nfkc}
 use Rattle.unicode_normalization.proofs.FormsLemmas.{normalize-ascii}
 use Rattle.pylexeme.specs.Chars.{starts_name}
 use Rattle.pylexeme.specs.Lexemes as Lexemes
 use Rattle.pynode.specs.declared.profiles.Profile.{Profile}
-use Rattle.pynode.specs.Trees.{Identifier, Expr, Module, stmts, Stmt}
+use Rattle.pynode.specs.Trees.{Identifier, Expr, Module, stmts}
 use Rattle.pytoken.specs.Keywords.{keywords, keyword_of}
-use Rattle.pytoken.specs.Terminals.{Terminal, terminal_of}
+use Rattle.pytoken.specs.Terminals.{terminal_of}
 use Rattle.pytoken.specs.Tokens.{Token}
 use Rattle.pytoken.specs.Tokens as Tokens
-use Rattle.pytoken.specs.Laws.{IsProper}
 use Rattle.pygrammar.specs.declared.levels.Level.{Level}
 use Rattle.pygrammar.specs.Grammar.{Derives}
-use Rattle.pygrammar.specs.Lines.{Line, line, Form}
+use Rattle.pygrammar.specs.Lines.{Line}
 use Rattle.pygrammar.specs.Forms.{FormOf, type_name}
 use Rattle.pygrammar.specs.Blocks.{Block}
 use Rattle.pyslots.specs.Names.{is_name}
 use Rattle.pyslots.specs.Slots.{fits_at}
-use Rattle.pyslots.specs.Statements.{statements_fit, module_fits}
-use Rattle.pyslots.specs.Given.{Given, AreGiven, no_line, a_line, GivenModule, Expressed, HaveForms, no_form, a_form, Stated}
+use Rattle.pyslots.specs.Statements.{module_fits}
+use Rattle.pyslots.specs.Given.{AreGiven, no_line, a_line, GivenModule, Expressed, HaveForms, no_form, a_form, Stated}
 use Rattle.pyslots.specs.Laws.{ExpressionsFitExactly, ModulesFitExactly, SlotsAreLawful}
-use Rattle.pyslots.proofs.Tests.{never}
 use Rattle.pyslots.proofs.Fits.{slots}
 use Rattle.pyslots.proofs.Gives.{made}
 use Rattle.pyslots.proofs.Exactly.{fits_exactly, targets_fit_exactly, parameters_fit_exactly, arguments_fit_exactly}
 use Rattle.pyslots.proofs.Dots.{is_other}
 use Rattle.pyslots.proofs.BlockFits.{block_fits, given_fit}
-use Rattle.pyslots.proofs.BlockGives.{of_stmts, of_stmts_back, drawn_all}
-use Rattle.pyslots.proofs.Tokens.{proper, proper_name, tokens_pass, AreWritten, all_written}
+use Rattle.pyslots.proofs.BlockGives.{of_stmts_back, drawn_all}
+use Rattle.pyslots.proofs.Tokens.{proper, proper_name, tokens_pass, all_written}
 
 -- ---- A name holds no dot.
 

@@ -1,22 +1,21 @@
 -- Carries: the laws of the slots. On: parameters whose parts are given are arranged from entries that are given.
-use Rattle.std.proofs.Common.{◌≡◌, refl, sym, ap, subst, ◌∙◌, ℕ, zero, suc, ◌+◌, ◌≤◌, arith, List, [], ◌∷◌, ◌++◌, Option, Some, None, Bool, true, false, cond}
-use Rattle.std.specs.Prelude.{◌-◌, ◌&&◌}
+use Rattle.std.proofs.Common.{◌≡◌, refl, sym, ap, subst, ◌∙◌, ℕ, zero, suc, ◌+◌, ◌≤◌, arith, List, [], ◌∷◌, ◌++◌, Option, Some, Bool, true, false}
+use Rattle.std.specs.Prelude.{◌-◌}
 use Rattle.std.proofs.lemmas.Bool.{and_parts}
-use Rattle.pylexeme.specs.declared.kinds.Exact.{Exact}
 use Rattle.pylexeme.specs.declared.kinds.Exact.TheVariants.{Colon, Equal, Star, Slash, DoubleStar}
 use Rattle.pytoken.specs.declared.keywords.Keyword.TheVariants as Key
 use Rattle.pynode.specs.declared.operators.Context.TheVariants.{Load}
 use Rattle.pynode.specs.Trees
 use Rattle.pynode.specs.Trees.{Identifier, Expr, Exprs, no_exprs, OptionalExpr, OptionalExprs, absent, present, Arg, arg, Args, no_arg, an_arg, OptionalArg, absent_arg, present_arg, Arguments, arguments}
-use Rattle.pytoken.specs.Terminals.{Terminal, Op, Word, Ident}
+use Rattle.pytoken.specs.Terminals.{Op, Word, Ident}
 use Rattle.pygrammar.specs.declared.levels.Level.{Level}
 use Rattle.pygrammar.specs.declared.levels.Level.TheVariants.{StarItem, Expression, BitOr}
 use Rattle.pygrammar.specs.Targets.{mapped}
 use Rattle.pygrammar.specs.Entries.{Parameter, Entry, Plain, Slashed, Bare, Gathered, Collected}
-use Rattle.pygrammar.specs.Parameters.{with_kwarg, add_keyword_only, set_vararg, add_plain, add_before_slash, after_star, at_star, plain_ones, before_slash, has_slash, arranged}
+use Rattle.pygrammar.specs.Parameters.{add_keyword_only, set_vararg, add_plain, add_before_slash, after_star, at_star, plain_ones, before_slash, has_slash, arranged}
 use Rattle.pygrammar.specs.Grammar as G
 use Rattle.pyslots.specs.Slots.{count, count_optional, count_args, fits_at, arg_fits, each_arg_fits, perhaps_arg_fits}
-use Rattle.pyslots.specs.Given.{all_pass, Given}
+use Rattle.pyslots.specs.Given.{Given}
 use Rattle.pyslots.proofs.Tests.{parts3, pass_on, never}
 use Rattle.pyslots.proofs.Places as P
 use Rattle.pyslots.proofs.Places.{Each, no_more, one_more, anywhere_at, at, named_pass}

@@ -1,13 +1,11 @@
 -- Carries: the laws of the slots. On: what is given at one level is given at others, in brackets where it needs them.
-use Rattle.std.proofs.Common.{◌≡◌, refl, List, [], ◌∷◌, ◌++◌, Bool, true, false}
-use Rattle.std.specs.Prelude.{◌&&◌}
+use Rattle.std.proofs.Common.{◌≡◌, refl, List, [], ◌∷◌, ◌++◌, Bool, true}
 use Rattle.std.proofs.lemmas.Bool.{and_from}
 use Rattle.pylexeme.specs.declared.kinds.Exact.TheVariants.{LPar, RPar, Star}
-use Rattle.pytoken.specs.declared.keywords.Keyword.TheVariants as Key
 use Rattle.pynode.specs.declared.operators.Context.TheVariants.{Load}
 use Rattle.pynode.specs.Trees
 use Rattle.pynode.specs.Trees.{Identifier, Expr}
-use Rattle.pytoken.specs.Terminals.{Terminal, Op, Word, Ident}
+use Rattle.pytoken.specs.Terminals.{Terminal, Op, Ident}
 use Rattle.pygrammar.specs.declared.levels.Level.{Level}
 use Rattle.pygrammar.specs.declared.levels.Level.TheVariants.{Value, Stars, StarItem, Named, Expression, Or, And, Not, Compare, BitOr, BitXor, BitAnd, Shift, Sum, Term, Factor, Power, Await, Primary, Atom, Elem, Slices, Part, Slice}
 use Rattle.pygrammar.specs.Grammar as G

@@ -1,5 +1,5 @@
 -- Carries: the laws of the slots. On: tests that hold together, values that are there, terminals that pass.
-use Rattle.std.proofs.Common.{◌≡◌, refl, subst, ℕ, map, List, [], ◌∷◌, ◌++◌, Option, Some, None, Bool, true, false, cond}
+use Rattle.std.proofs.Common.{◌≡◌, refl, subst, ℕ, map, List, [], ◌∷◌, ◌++◌, Option, Some, None, Bool, true, false}
 use Rattle.std.specs.Prelude.{◌&&◌, not}
 use Rattle.std.specs.List.{list_all}
 use Rattle.std.proofs.lemmas.Bool.{and_parts, and_from}

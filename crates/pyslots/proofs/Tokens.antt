@@ -1,10 +1,10 @@
 -- Carries: the laws by tokens. On: a token of a source stands for a terminal that passes, and each of these is that of a token.
-use Rattle.std.proofs.Common.{◌≡◌, refl, sym, ap, subst, ◌∙◌, inl, inr, ℕ, ◌<◌, ◌≤◌, arith, List, [], ◌∷◌, length, Option, Some, None, Bool, true, false, is_some}
-use Rattle.std.specs.Prelude.{◌&&◌, ◌||◌, ◌^◌, ◌==◌, not, nat_lt, nat_le, All, map, codes, decimal, if◌then◌else◌}
-use Rattle.std.specs.List.{list_all, list_any, filter}
+use Rattle.std.proofs.Common.{◌≡◌, refl, ap, ◌∙◌, inl, inr, ℕ, ◌<◌, arith, List, [], ◌∷◌, Option, Some, None, Bool, true, false, is_some}
+use Rattle.std.specs.Prelude.{◌^◌, ◌==◌, not, nat_le, All, map, codes, decimal, if◌then◌else◌}
+use Rattle.std.specs.List.{list_all}
 use Rattle.std.specs.Str.{all_scalars}
 use Rattle.std.proofs.Math.Utf8.{scalar, scalar_cases}
-use Rattle.std.proofs.lemmas.Bool.{and_parts, and_from, lt-ltb, leb-false, leb-true, ltb-true, cases_Bool, le-leb}
+use Rattle.std.proofs.lemmas.Bool.{and_parts, and_from, lt-ltb, leb-false, leb-true, ltb-true, le-leb}
 use Rattle.std.proofs.lemmas.List.Elements.{All-nil, All-cons, All-head, All-tail}
 use Rattle.std.proofs.lemmas.Slice.Eq.{bytes_eq-Decides}
 use Rattle.unicode_normalization.specs.Forms.{nfkc}
@@ -18,15 +18,14 @@ use Rattle.pylex.specs.declared.kinds.Kind.{Kind}
 use Rattle.pylex.specs.declared.kinds.Kind.TheVariants as kinds
 use Rattle.pynode.specs.Points.{IsPoint}
 use Rattle.pynode.specs.Trees.{Identifier}
-use Rattle.pynode.specs.Values.{Value, Str, Bytes, Int}
-use Rattle.pynode.specs.Values as Values
+use Rattle.pynode.specs.Values.{Value, Str, Bytes}
 use Rattle.pytoken.specs.declared.keywords.Keyword.{Keyword}
 use Rattle.pytoken.specs.declared.keywords.Keyword.TheVariants as Key
 use Rattle.pytoken.specs.declared.faults.TokenError.TheVariants.{Float, Complex, IntegerTooLarge}
 use Rattle.pytoken.specs.Keywords.{keyword_of, spelling_of}
 use Rattle.pytoken.specs.NumberValues.{whole_value, number_fault}
 use Rattle.pytoken.specs.NumberValues as Numbers
-use Rattle.pytoken.specs.StringValues.{with_line_feeds, prefix_len_of, is_raw, is_bytes, is_unicode, without_last, inside, body_of, points_of, value_of, string_value, string_fault}
+use Rattle.pytoken.specs.StringValues.{with_line_feeds, is_raw, is_bytes, is_unicode, body_of, points_of, value_of, string_value, string_fault}
 use Rattle.pytoken.specs.NameValues.{name_fault}
 use Rattle.pytoken.specs.Terminals.{Terminal, Op, Word, Ident, Whole, Literal, Layout, terminal_of, fault_of, is_of, IsSound, Gives}
 use Rattle.pytoken.specs.Tokens.{Token}
@@ -35,7 +34,7 @@ use Rattle.pytoken.proofs.Callers.Bodies.{body_all, filter_all}
 use Rattle.pytoken.proofs.Callers.Said.{come_back, names_are_proper, points_are_in_range, bytes_are_small}
 use Rattle.pyslots.specs.Names.{is_keyword, is_identifier, is_name}
 use Rattle.pyslots.specs.Given.{is_literal, passes, all_pass, IsOfSource, AreOfSource}
-use Rattle.pyslots.proofs.Tests.{parts3, from3, not_true, never}
+use Rattle.pyslots.proofs.Tests.{parts3, from3, never}
 use Rattle.pyslots.proofs.Scalars.{name_scalars, decimal_scalars, text_scalars, bytes_scalars}
 
 -- ---- Names.

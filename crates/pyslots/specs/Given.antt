@@ -2,8 +2,8 @@
 use Rattle.std.specs.Prelude.{◌≡◌, Bool, true, false, ◌&&◌, List, [], ◌∷◌, map, All, nat_lt, ◌^◌}
 use Rattle.std.specs.Str.{all_scalars}
 use Rattle.pynode.specs.declared.profiles.Profile.{Profile}
-use Rattle.pynode.specs.Trees.{Identifier, Expr, Stmt, Module}
-use Rattle.pynode.specs.Values.{Value, Int, Str, Bytes}
+use Rattle.pynode.specs.Trees.{Identifier, Expr, Module}
+use Rattle.pynode.specs.Values.{Value, Str, Bytes}
 use Rattle.pytoken.specs.Terminals.{Terminal, Ident, Whole, Literal, terminal_of, IsSound}
 use Rattle.pytoken.specs.Tokens.{Token}
 use Rattle.pytoken.specs.Tokens as Tokens

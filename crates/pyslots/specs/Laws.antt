@@ -13,7 +13,7 @@ use Rattle.pygrammar.specs.Grammar.{Derives, Target, SingleTarget, DelTarget, It
 use Rattle.pyslots.specs.Names.{is_name}
 use Rattle.pyslots.specs.Slots.{is_single, fits_at, fits_target, each_fits, each_keyword_fits, fits_arguments}
 use Rattle.pyslots.specs.Statements.{module_fits}
-use Rattle.pyslots.specs.Given.{all_pass, Given, GivenModule, Expressed, Stated}
+use Rattle.pyslots.specs.Given.{all_pass, Given, Expressed, Stated}
 
 -- ---- By terminals, for any test of names.
 

@@ -1,14 +1,13 @@
 -- Carries: the law of modules. On: a header comes back from its own terminals.
-use Rattle.std.proofs.Common.{◌≡◌, refl, sym, ap, subst, ◌∙◌, List, [], ◌∷◌, ◌++◌, Some, Bool, true, false, append_assoc}
+use Rattle.std.proofs.Common.{◌≡◌, refl, sym, ap, subst, List, [], ◌∷◌, ◌++◌, Bool, append_assoc}
 use Rattle.pylexeme.specs.declared.kinds.Exact.TheVariants.{LPar, RPar, RArrow}
 use Rattle.pytoken.specs.declared.keywords.Keyword.TheVariants as Key
 use Rattle.pynode.specs.declared.profiles.Profile.{Profile}
 use Rattle.pygrammar.specs.declared.levels.Level.TheVariants.{Named, Expression}
-use Rattle.pynode.specs.Trees.{Expr, Exprs, no_exprs, an_expr, Arguments, Keywords, no_keyword, a_keyword, exprs, Item}
+use Rattle.pynode.specs.Trees.{Expr, Exprs, no_exprs, an_expr, Keywords, no_keyword, a_keyword, exprs, Item}
 use Rattle.pytoken.specs.Terminals.{Terminal, Op, Word, Ident}
-use Rattle.pygrammar.specs.Entries.{Argument, Parameter, Entry}
+use Rattle.pygrammar.specs.Entries.{Argument, Entry}
 use Rattle.pygrammar.specs.Arguments.{positional, keywords}
-use Rattle.pygrammar.specs.Parameters.{arranged}
 use Rattle.pygrammar.specs.Grammar as G
 use Rattle.pygrammar.specs.Forms as F
 use Rattle.pygrammar.specs.Lines.{Header, def_header, function_head}

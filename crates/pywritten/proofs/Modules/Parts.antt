@@ -1,10 +1,10 @@
 -- Carries: the law of modules. On: lists with commas, names, imports, parameters of types: each comes back from its own terminals.
-use Rattle.std.proofs.Common.{◌≡◌, refl, sym, subst, ℕ, zero, suc, ◌+◌, arith, List, [], ◌∷◌, ◌++◌, Option, None, Some, Bool, true, false, cond}
+use Rattle.std.proofs.Common.{◌≡◌, refl, sym, subst, ℕ, zero, suc, ◌+◌, arith, List, [], ◌∷◌, Option, None, Bool, true, false, cond}
 use Rattle.std.specs.Prelude.{eqb, map}
 use Rattle.std.proofs.lemmas.Bool.{eqb-true}
-use Rattle.pylexeme.specs.declared.kinds.Exact.TheVariants.{LSqb, RSqb, Comma, Star, Dot, DoubleStar, Ellipsis}
+use Rattle.pylexeme.specs.declared.kinds.Exact.TheVariants.{Star, Dot, Ellipsis}
 use Rattle.pynode.specs.declared.profiles.Profile.{Profile}
-use Rattle.pynode.specs.Trees.{Identifier, Expr, Alias, TypeParam, TypeVar, ParamSpec, TypeVarTuple}
+use Rattle.pynode.specs.Trees.{Identifier, Expr, Alias, TypeParam}
 use Rattle.pytoken.specs.Terminals.{Terminal, Op, Ident}
 use Rattle.pygrammar.specs.declared.levels.Level.{Level}
 use Rattle.pygrammar.specs.Grammar as G

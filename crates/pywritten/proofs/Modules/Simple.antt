@@ -1,8 +1,7 @@
 -- Carries: the law of modules. On: a simple statement comes back from its own terminals.
-use Rattle.std.proofs.Common.{◌≡◌, refl, sym, ap, subst, ◌∙◌, ℕ, zero, suc, ◌<◌, List, [], ◌∷◌, ◌++◌, Option, Some, None, true, false}
+use Rattle.std.proofs.Common.{◌≡◌, refl, sym, ap, subst, ℕ, zero, suc, ◌<◌, List, [], ◌∷◌, ◌++◌, Option, Some, None, true, false}
 use Rattle.std.specs.Prelude.{map}
 use Rattle.pylexeme.specs.declared.kinds.Exact.TheVariants.{Colon, Equal}
-use Rattle.pytoken.specs.declared.keywords.Keyword.TheVariants as Key
 use Rattle.pynode.specs.declared.operators.Operator.{Operator}
 use Rattle.pynode.specs.declared.operators.Operator.TheVariants as Bin
 use Rattle.pynode.specs.declared.profiles.Profile.{Profile}
@@ -10,7 +9,7 @@ use Rattle.pygrammar.specs.declared.levels.Level.{Level}
 use Rattle.pygrammar.specs.declared.levels.Level.TheVariants.{Value, Stars, Expression, Primary}
 use Rattle.pynode.specs.Trees
 use Rattle.pynode.specs.Trees.{Identifier, Expr, exprs, Alias, Stmt, ImportFrom}
-use Rattle.pytoken.specs.Terminals.{Terminal, Op, Word}
+use Rattle.pytoken.specs.Terminals.{Terminal, Op}
 use Rattle.pygrammar.specs.Grammar as G
 use Rattle.pygrammar.specs.Forms as F
 use Rattle.pywritten.specs.Written.{listed, written, each}

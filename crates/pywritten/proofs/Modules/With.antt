@@ -1,9 +1,9 @@
 -- Carries: the law of modules. On: the items of a `with`: where they are written without brackets nothing else reads them.
 use Rattle.std.proofs.Common.{◌≡◌, refl, sym, ap, subst, ◌∙◌, ℕ, suc, ◌+◌, ◌≤◌, arith, List, [], ◌∷◌, ◌++◌, length, Option, Some, None, Bool, true, false, cond, append_assoc, append-nil, length-append}
 use Rattle.std.specs.Prelude.{map}
-use Rattle.pylexeme.specs.declared.kinds.Exact.TheVariants.{LPar, RPar, Comma, Star}
+use Rattle.pylexeme.specs.declared.kinds.Exact.TheVariants.{LPar, RPar, Comma}
 use Rattle.pytoken.specs.declared.keywords.Keyword.TheVariants as Key
-use Rattle.pynode.specs.declared.operators.Context.TheVariants.{Load, Store}
+use Rattle.pynode.specs.declared.operators.Context.TheVariants.{Load}
 use Rattle.pygrammar.specs.declared.levels.Level.TheVariants.{StarItem, Expression, Atom, Elem}
 use Rattle.pynode.specs.Trees
 use Rattle.pynode.specs.Trees.{Expr, Exprs, no_exprs, an_expr, exprs, Item}
@@ -12,7 +12,7 @@ use Rattle.pygrammar.specs.Entries.{Of, Single, singles}
 use Rattle.pygrammar.specs.Grammar as G
 use Rattle.pywritten.specs.Written.{some_named, bracketed, listed, with_comma, written, each}
 use Rattle.pywritten.specs.Terminals.{terminal}
-use Rattle.pywritten.specs.Statements.{are_plain, reads_as_items, need_brackets, as_target, item_target, item, items}
+use Rattle.pywritten.specs.Statements.{are_plain, reads_as_items, need_brackets, as_target, item_target, item}
 use Rattle.pygrammar.specs.Forms as F
 use Rattle.pygrammar.proofs.Callers.Law.{expressions_are_unique}
 use Rattle.pywritten.proofs.Fewest.Reach.{climb, to_atom, length_bracketed}
