@@ -52,12 +52,12 @@ class Runs:
         self.name, self.words = name, words
         self.processor, self.clock, self.taken, self.memory, self.status = float("inf"), float("inf"), 0.0, 0.0, 0
 
-    def run(self, watched=False):
+    def run(self, watched=False, stdin=subprocess.DEVNULL):
         """Runs the program once more, unless it took long already. Watched, its own peak of memory is read while it runs."""
         if self.taken > ENOUGH_SECONDS:
             return
         before = time.monotonic()
-        process = subprocess.Popen(self.words, stdin=subprocess.DEVNULL, stdout=subprocess.DEVNULL, stderr=subprocess.DEVNULL)
+        process = subprocess.Popen(self.words, stdin=stdin, stdout=subprocess.DEVNULL, stderr=subprocess.DEVNULL)
         peak = watch(process.pid) if watched else None
         _, status, used = os.wait4(process.pid, 0)
         process.returncode = os.waitstatus_to_exitcode(status)

@@ -1,10 +1,7 @@
-//! Lists Python source.
+//! Lists and dumps Python source.
 #![tactic(auto)]
 
-use pycommand::command::{Command, UsageFault};
-use pycommand::fault::{Fault, RunFaultCode, tell};
-use pycommand::run::run;
-use pycommand::source_file::open_source;
+use pycommand::{Command, Fault, RunFaultCode, UsageFault, open_source, run, tell};
 use pysource::{Counted, write_all};
 use std::io::ErrorKind;
 use std::process::ExitCode;

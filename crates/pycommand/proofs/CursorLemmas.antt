@@ -3,7 +3,7 @@ use Rattle.std.proofs.Common.{◌≡◌, Bool, true, false, refl, Some, None}
 use Rattle.pylex.specs.Cursors.{CursorParts}
 use Rattle.pylex.specs.Listing.{Source}
 use Rattle.pylex.specs.Standing.{is_cursor_of, IsCursorOf}
-use Rattle.pycommand.specs.Runs.{start_in}
+use Rattle.pycommand.specs.Listings.{start_in}
 
 -- a cursor of a source: the listing begins behind the entries that it gives
 pub starts_behind : (c : CursorParts) (s : Source) → IsCursorOf c s → start_in (Some c) s ≡ Some c.given

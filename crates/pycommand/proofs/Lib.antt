@@ -1,8 +1,8 @@
-pub mod RunLemmas
-pub mod OutputLemmas
-pub mod CursorLemmas
-pub mod TakenLemmas
-pub mod ListLemmas
-pub mod StartLemmas
-pub mod UnreadLemmas
-pub mod WordsLemmas
+mod RunLemmas
+mod OutputLemmas
+mod CursorLemmas
+mod TakenLemmas
+mod ListLemmas
+mod StartLemmas
+mod UnreadLemmas
+mod DumpLemmas

@@ -16,12 +16,13 @@ use Rattle.pylex.specs.ListingLines.{listing_line, text_of}
 use Rattle.pylex.specs.Steps.{most_entries}
 use Rattle.pylex.specs.Streamed.{Streamed, StreamsIn, Steps, Continues}
 use Rattle.pylex.proofs.Callers.{end_last, fault_last}
-use Rattle.pycommand.specs.Faults.{of_listing}
-use Rattle.pycommand.specs.Runs.{cursor_line, left_behind, output_from, fault_from, TakesAllBut, HoldsFor}
+use Rattle.pyfault.specs.Faults.{of_listing}
+use Rattle.pycommand.specs.Listings.{cursor_line, left_behind, output_from, fault_from}
+use Rattle.pycommand.specs.Runs.{TakesAllBut, HoldsFor}
 use Rattle.pycommand.specs.Taken.{Goes}
-use Rattle.pycommand.specs.declared.fault.Fault.{Fault}
-use Rattle.pycommand.specs.declared.fault.Fault.TheVariants.{Plain}
-use Rattle.pycommand.specs.declared.fault.RunFaultCode.TheVariants.{Memory}
+use Rattle.pyfault.specs.declared.fault.Fault.{Fault}
+use Rattle.pyfault.specs.declared.fault.Fault.TheVariants.{Plain}
+use Rattle.pyfault.specs.declared.fault.RunFaultCode.TheVariants.{Memory}
 use Rattle.pycommand.proofs.RunLemmas.{HoldsFor-fault, TakesAllBut-written}
 use Rattle.pycommand.proofs.OutputLemmas.{held_next, told_next, output_ended, fault_ended, cursor_held, told_none}
 use Rattle.pycommand.proofs.TakenLemmas.{is_broken, continues_none}

@@ -10,10 +10,11 @@ use Rattle.pylex.specs.Standing.{IsCursorOf}
 use Rattle.pylex.specs.Listing.{in_characters, listing, rest}
 use Rattle.pylex.specs.ListingLines.{listing_line, text_of}
 use Rattle.pylex.specs.Steps.{entries_of}
-use Rattle.pycommand.specs.Runs.{is_marker, stops_after, lines_of, cursor_line, told_of, left_behind, output_from, fault_from, TakesAllBut}
+use Rattle.pycommand.specs.Listings.{is_marker, stops_after, lines_of, cursor_line, told_of, left_behind, output_from, fault_from}
+use Rattle.pycommand.specs.Runs.{TakesAllBut}
 use Rattle.pycommand.proofs.RunLemmas.{TakesAllBut-held}
 use Rattle.pylex.proofs.Callers.{is_behind, next_is}
-use Rattle.pycommand.specs.declared.fault.Fault.{Fault}
+use Rattle.pyfault.specs.declared.fault.Fault.{Fault}
 
 le_zero : (n : ℕ) → nat_le 0 n ≡ true
 le_zero n = grind (arith, nat_tests)

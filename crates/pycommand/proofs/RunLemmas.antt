@@ -1,34 +1,21 @@
 -- Laws of a run.
-use Rattle.std.proofs.Common.{true, Bool, ◌≡◌, ◌≢◌, ◌+◌, ◌++◌, arith, ℕ, List, [], false, Option, None, Some, Ok, Err, Result, refl, sym, ap, inl, inr, ◌∙◌, append_assoc, append-nil}
+use Rattle.std.proofs.Common.{true, Bool, ◌≡◌, ◌≢◌, ◌++◌, ℕ, List, [], false, Option, None, Some, Ok, Err, Result, refl, sym, ap, inl, inr, ◌∙◌, append_assoc, append-nil}
 use Rattle.std.specs.Prelude.{OnOk, OnErr, is_err}
 use Rattle.std.specs.Io.KnownBytes.{Appends}
 use Rattle.pysource.specs.Bytes.{TakesFront}
-use Rattle.pysource.proofs.ByteLemmas.{Appends-append, TakesFront-after, TakesFront-done}
+use Rattle.pysource.proofs.ByteLemmas.{Appends-append, TakesFront-after}
 use Rattle.pylex.specs.declared.entries.ListingFault.{ListingFault}
-use Rattle.pycommand.specs.Faults.{Tells, code_of, told_at, of_listing, IsToldAs}
-use Rattle.pycommand.specs.Runs.{TakesAllBut, HoldsFor, WritesFor, Performs}
-use Rattle.pycommand.specs.declared.fault.RunFaultCode.{RunFaultCode}
-use Rattle.pycommand.specs.declared.fault.SourceFaultCode.{SourceFaultCode}
-use Rattle.pycommand.specs.declared.fault.RunFaultCode.TheVariants.{Read, Write, Memory, CursorOfAnotherSource}
-use Rattle.pycommand.specs.declared.fault.Fault.{Fault}
-use Rattle.pycommand.specs.declared.fault.Fault.TheVariants.{InSource, Plain}
-
--- a write that failed within a line
-pub tells_cut : (x y z : Option (List ℕ)) (before after : ℕ) (done part rest line : List ℕ) → line ≡ done ++ (part ++ rest) → Appends x y done
-    → TakesFront y z part → after ≡ before + 1 → Tells x z before after line
-tells_cut x y z before after done part rest line is p t f = record {
-  front = TakesFront-after x y z done part rest line is p t;
-  whole = λ unfailed. absurd (omega arith);
-}
-
--- the last part of a line is written, or not all of it
-pub tells_last : {A E : Type 0} (r : Result A E) (x y z : Option (List ℕ)) (before mid after : ℕ) (done part line : List ℕ) → line ≡ done ++ part → mid ≡ before → Appends x y done
-    → OnOk r (Appends y z part) → OnErr r (TakesFront y z part) → OnErr r (after ≡ mid + 1) → Tells x z before after line
-tells_last (Ok a) x y z before mid after done part line is same p q t f = record {
-  front = TakesFront-done x z (done ++ part) [] line (is ∙ sym (append-nil (done ++ part))) (Appends-append x y z done part p q);
-  whole = λ unfailed. rw is (Appends-append x y z done part p q);
-}
-tells_last (Err e) x y z before mid after done part line is same p q t f = tells_cut x y z before after done part [] line (is ∙ ap (λ u. done ++ u) (sym (append-nil part))) p t (omega arith)
+use Rattle.pyfault.specs.Faults.{listing_code, told_at, of_listing, IsToldAs}
+use Rattle.pywords.specs.declared.command.Command.{Command}
+use Rattle.pywords.specs.declared.command.Command.TheVariants.{Tokens, Dump}
+use Rattle.pycommand.specs.Dumps.{Dumps}
+use Rattle.pycommand.specs.Listings.{output_of, fault_in}
+use Rattle.pycommand.specs.Runs.{TakesAllBut, HoldsFor, WritesFor, Performs, PerformsWhole, Does}
+use Rattle.pyfault.specs.declared.fault.RunFaultCode.{RunFaultCode}
+use Rattle.pyfault.specs.declared.fault.SourceFaultCode.{SourceFaultCode}
+use Rattle.pyfault.specs.declared.fault.RunFaultCode.TheVariants.{Read, Write, Memory, CursorOfAnotherSource}
+use Rattle.pyfault.specs.declared.fault.Fault.{Fault}
+use Rattle.pyfault.specs.declared.fault.Fault.TheVariants.{InSource, Plain}
 
 -- what holds anyway, holds where there is an error
 pub on_error : {A E : Type 0} (r : Result A E) (P : Type 0) → P → OnErr r P
@@ -89,7 +76,7 @@ HoldsFor-written output told x y z held (Some (Plain other)) n p q = absurd p
 -- a listing ended by a fault, and all before that is held
 pub HoldsFor-fault : (output : List ℕ) (told : Option Fault) (x y : Option (List ℕ)) (held : List ℕ) (f : ListingFault) → told ≡ Some (of_listing f) → TakesAllBut x y output held []
     → HoldsFor output told x y held (Some (of_listing f))
-HoldsFor-fault output told x y held f is p = by_code (code_of f.code) is
+HoldsFor-fault output told x y held f is p = by_code (listing_code f.code) is
   where
     by_code : (o : Option SourceFaultCode) → told ≡ Some (told_at o f.place) → HoldsFor output told x y held (Some (told_at o f.place))
     by_code None e = (e, p)
@@ -105,8 +92,8 @@ WritesFor-front output told x y (Some (Plain Write)) p = p
 WritesFor-front output told x y (Some (Plain CursorOfAnotherSource)) p = (output, [], sym (append-nil output), p.1)
 WritesFor-front output told x y (Some (Plain other)) p = absurd p
 
--- a run whose fault was told as another ended by that one
-pub Performs-told : (output : Bool → List ℕ → List ℕ) (told : Bool → List ℕ → Option Fault) (come_old come_new : Option (List ℕ)) (reads_old reads_new : ℕ) (x y : Option (List ℕ)) (limit : ℕ) (fault other : Fault)
+-- A run whose fault was told as another ended by that one.
+Performs-told : (output : Bool → List ℕ → List ℕ) (told : Bool → List ℕ → Option Fault) (come_old come_new : Option (List ℕ)) (reads_old reads_new : ℕ) (x y : Option (List ℕ)) (limit : ℕ) (fault other : Fault)
     → IsToldAs fault other → Performs output told come_old come_new reads_old reads_new x y limit (Some fault) → Performs output told come_old come_new reads_old reads_new x y limit (Some other)
 Performs-told output told come_old come_new reads_old reads_new x y limit (Plain code) other is p = rw is p
 Performs-told output told come_old come_new reads_old reads_new x y limit (InSource code place) other is p = elim is [
@@ -121,6 +108,19 @@ Performs-told output told come_old come_new reads_old reads_new x y limit (InSou
     writes = WritesFor-front (output p.broken p.input) (told p.broken p.input) x y (Some (InSource code place)) p.writes;
   })
 ]
+
+PerformsWhole-told : (does : List ℕ → List ℕ → Option Fault → Type 0) (come_old come_new : Option (List ℕ)) (reads_old reads_new : ℕ) (x y : Option (List ℕ)) (limit : ℕ) (fault other : Fault)
+    → IsToldAs fault other → PerformsWhole does come_old come_new reads_old reads_new x y limit (Some fault) → PerformsWhole does come_old come_new reads_old reads_new x y limit (Some other)
+PerformsWhole-told does come_old come_new reads_old reads_new x y limit (Plain code) other is p = rw is p
+PerformsWhole-told does come_old come_new reads_old reads_new x y limit (InSource code place) other is p = elim is [
+  | inl e ↦ rw e p
+  | inr e ↦ rw e (p.1.unfailed, p.3)
+]
+
+pub Does-told : (command : Command) (come_old come_new : Option (List ℕ)) (reads_old reads_new : ℕ) (x y : Option (List ℕ)) (limit : ℕ) (fault other : Fault)
+    → IsToldAs fault other → Does command come_old come_new reads_old reads_new x y limit (Some fault) → Does command come_old come_new reads_old reads_new x y limit (Some other)
+Does-told (Tokens asked) come_old come_new reads_old reads_new x y limit fault other is p = Performs-told (output_of asked) (fault_in asked) come_old come_new reads_old reads_new x y limit fault other is p
+Does-told (Dump asked) come_old come_new reads_old reads_new x y limit fault other is p = PerformsWhole-told (Dumps asked.style) come_old come_new reads_old reads_new x y limit fault other is p
 
 -- a fault without a place is told as itself, and only as that
 pub told-plain : (fault told : Fault) (code : RunFaultCode) → code ≢ Memory → IsToldAs fault told → (told ≡ Plain code → fault ≡ Plain code) × (fault ≡ Plain code → told ≡ Plain code)

@@ -24,12 +24,13 @@ use Rattle.pylex.specs.Listing.{in_characters, listing}
 use Rattle.pylex.specs.Standing.{IsCursorOf}
 use Rattle.pylex.specs.Steps.{entries_of, fault_of}
 use Rattle.pylex.specs.Streamed.{Streamed, StreamsIn, Begins, Misses, MissesBy, EndsUnread, is_unread_code}
-use Rattle.pycommand.specs.Faults.{of_resume, of_stream}
-use Rattle.pycommand.specs.Runs.{start_in, ends_unread, missed, tokens_output, tokens_fault, WritesFor, Performs}
+use Rattle.pyfault.specs.Faults.{of_resume, of_stream}
+use Rattle.pycommand.specs.Listings.{start_in, ends_unread, missed, tokens_output, tokens_fault}
+use Rattle.pycommand.specs.Runs.{WritesFor, Performs}
 use Rattle.pycommand.specs.Taken.{TookAll, Starts, Goes}
-use Rattle.pycommand.specs.declared.fault.Fault.{Fault}
-use Rattle.pycommand.specs.declared.fault.Fault.TheVariants.{Plain}
-use Rattle.pycommand.specs.declared.fault.RunFaultCode.TheVariants.{Read, Memory, CursorOfAnotherSource}
+use Rattle.pyfault.specs.declared.fault.Fault.{Fault}
+use Rattle.pyfault.specs.declared.fault.Fault.TheVariants.{Plain}
+use Rattle.pyfault.specs.declared.fault.RunFaultCode.TheVariants.{Read, Memory, CursorOfAnotherSource}
 use Rattle.pycommand.proofs.CursorLemmas.{starts_behind, starts_nowhere}
 use Rattle.pycommand.proofs.TakenLemmas.{performs}
 use Rattle.pycommand.proofs.UnreadLemmas.{quiet}

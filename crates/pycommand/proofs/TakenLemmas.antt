@@ -11,9 +11,9 @@ use Rattle.pysource.specs.declared.streams.Reach.{Reach}
 use Rattle.pysource.specs.declared.streams.Reach.TheVariants as reach
 use Rattle.pylex.specs.Streamed.{Continues}
 use Rattle.pycommand.specs.Runs.{WritesFor, Performs}
-use Rattle.pycommand.specs.declared.fault.Fault.{Fault}
-use Rattle.pycommand.specs.declared.fault.Fault.TheVariants.{Plain}
-use Rattle.pycommand.specs.declared.fault.RunFaultCode.TheVariants.{Read}
+use Rattle.pyfault.specs.declared.fault.Fault.{Fault}
+use Rattle.pyfault.specs.declared.fault.Fault.TheVariants.{Plain}
+use Rattle.pyfault.specs.declared.fault.RunFaultCode.TheVariants.{Read}
 
 -- no byte comes any more, since a read failed or the limit was passed
 abbrev pub is_broken : Reach → Bool

@@ -1,16 +1,16 @@
 -- Where no read failed, none is told.
-use Rattle.std.proofs.Common.{◌≡◌, ◌≢◌, ℕ, zero, suc, ◌+◌, Bool, true, false, not, ◌&&◌, ◌||◌, ◌==◌, cond, List, [], ◌∷◌, ◌++◌, drop, take, length, replicate, refl, Option, Some, None, Result, Ok, Err}
+use Rattle.std.proofs.Common.{◌≡◌, ◌≢◌, ℕ, zero, suc, ◌+◌, Bool, true, false, not, ◌&&◌, ◌||◌, ◌==◌, cond, List, [], ◌∷◌, ◌++◌, drop, take, length, replicate, refl, Option, Some, None, Result, Ok, Err, subst}
 use Rattle.std.specs.List.{count_by, list_all, list_any}
 use Rattle.std.specs.Option.{option_map, option_or, option_map_or}
 use Rattle.std.specs.Prelude.{nat_lt, nat_le, slice_index}
 use Rattle.std.specs.Str.{chars}
 use Rattle.std.specs.Str.Lossy.{utf8_valid_len}
 use Rattle.pysource.specs.Cookies.{encoding_of, without_mark}
-use Rattle.pysource.specs.Lines.{bad_at, first_given, first_bad, good_text, line_fault}
+use Rattle.pysource.specs.Lines.{lines_of, bad_at, first_given, first_bad, good_text, line_fault}
 use Rattle.pysource.specs.Names.{Named}
 use Rattle.pysource.specs.Parts.{Parts}
 use Rattle.pysource.specs.Places.{is_lf, place_after}
-use Rattle.pysource.specs.Sources.{nth_line}
+use Rattle.pysource.specs.Sources.{nth_line, parts_under, source_of, source_under}
 use Rattle.pysource.specs.Streams.{coming, lines_read, stream_under, stream_of}
 use Rattle.pysource.specs.declared.encodings.Charset.{Charset}
 use Rattle.pysource.specs.declared.encodings.Charset.TheVariants.{Utf8, Ascii}
@@ -39,11 +39,11 @@ use Rattle.pylex.specs.Operators.{is_closer}
 use Rattle.pylex.specs.Steps.{entries_of, fault_of}
 use Rattle.pylex.specs.Strings.{opens_string}
 use Rattle.pylex.specs.Streamed.{is_unread_code}
-use Rattle.pycommand.specs.Faults.{code_of, told_at, of_listing}
-use Rattle.pycommand.specs.Runs.{stops_after, start_in, ends_unread, missed, told_of, fault_from, tokens_fault}
-use Rattle.pycommand.specs.declared.fault.Fault.{Fault}
-use Rattle.pycommand.specs.declared.fault.Fault.TheVariants.{Plain}
-use Rattle.pycommand.specs.declared.fault.RunFaultCode.TheVariants.{Read, CursorOfAnotherSource}
+use Rattle.pyfault.specs.Faults.{listing_code, told_at, of_listing}
+use Rattle.pycommand.specs.Listings.{stops_after, start_in, ends_unread, missed, told_of, fault_from, tokens_fault}
+use Rattle.pyfault.specs.declared.fault.Fault.{Fault}
+use Rattle.pyfault.specs.declared.fault.Fault.TheVariants.{Plain}
+use Rattle.pyfault.specs.declared.fault.RunFaultCode.TheVariants.{Read, CursorOfAnotherSource}
 
 -- no fault among the steps is a line that could not be read whole
 abbrev AllRead : List Step → Type 0
@@ -191,11 +191,20 @@ line_read charset row (line ∷ lines) = by_first (first_bad charset line) (firs
     by_first None u rest = rest
     by_first (Some bad) u rest = u
 
+-- bytes behind which no read failed are a source without such a line
+by_named : (r : Result Named SourceFault) (bytes : List ℕ) (p : Parts) → source_under r bytes ≡ Ok p → IsRead (option_map of_line p.fault)
+by_named (Err fault) bytes p is = cc
+by_named (Ok named) bytes p is = let e : parts_under named bytes ≡ p = cc in subst (λ (q : Parts). IsRead (option_map of_line q.fault)) e (line_read named.charset 1 (lines_of (without_mark bytes)))
+
+pub listing_is_read : (bytes : List ℕ) (p : Parts) (f : ListingFault) → source_of bytes ≡ Ok p → fault_of (listing (in_characters p)) ≡ Some f → is_unread_code f.code ≡ false
+listing_is_read bytes p f is told =
+    subst IsRead told (fault_read (listing (in_characters p)) (listing_read (in_characters p) (by_named (encoding_of (nth_line bytes 0) (nth_line bytes 1)) bytes p is)))
+
 -- the fault of a source that was read whole
 abbrev Quiet : Option Fault → Type 0
 Quiet told = told ≢ Some (Plain Read)
 
-code_read : (e : ListingError) (place : Place) → is_unread_code e ≡ false → Quiet (Some (told_at (code_of e) place))
+code_read : (e : ListingError) (place : Place) → is_unread_code e ≡ false → Quiet (Some (told_at (listing_code e) place))
 code_read (errors.Line line_errors.NotUtf8) place h = λ g. cc
 code_read (errors.Line line_errors.NotAscii) place h = λ g. cc
 code_read (errors.Line line_errors.LoneReturn) place h = λ g. cc

@@ -1,4 +1,5 @@
-pub mod Faults
+pub mod Listings
+pub mod Dumps
 pub mod Runs
 pub mod Taken
-pub mod Words
+pub mod Inner

@@ -7,8 +7,8 @@ use Rattle.pysource.specs.declared.streams.Reach.TheVariants as reach
 use Rattle.pylex.specs.Cursors.{CursorParts}
 use Rattle.pylex.specs.Listing.{in_characters}
 use Rattle.pylex.specs.Streamed.{Streamed, StreamsIn, Continues}
-use Rattle.pycommand.specs.Runs.{start_in, output_from, fault_from}
-use Rattle.pycommand.specs.declared.fault.Fault.{Fault}
+use Rattle.pycommand.specs.Listings.{start_in, output_from, fault_from}
+use Rattle.pyfault.specs.declared.fault.Fault.{Fault}
 
 -- all that was taken of a reader (bytes to come and failures, before and after) by lines that stand so now
 abbrev pub TookAll : Option (List ℕ) → Option (List ℕ) → ℕ → ℕ → Buffered → List ℕ → Type 0

@@ -1,16 +1,19 @@
-//! What the program does: its command line, its runs, and the faults that it tells.
+//! What the program does: a command on what a reader gives.
 //!
-//! [`Command::read`](command::Command::read) reads the words of the command line.
-//! [`run`](run::run) does what a command says with what a reader gives, over two writers, and
-//! answers the status that the program ends with. [`Fault`](fault::Fault) is what can end a run
-//! early: the table of the texts and statuses of faults is in `fault`.
+//! [`Command::read`] reads the words of the command line. [`run`] does what a command says with what
+//! a reader gives, over two writers, and answers the status that the program ends with. [`Fault`] is
+//! what can end a run early. The words are those of `pywords`, the faults those of `pyfault`.
 //!
-//! The words of contracts are in `specs/`: `Words` says which words give which command, `Runs` what
-//! a run writes and tells, `Faults` what is told of each fault. `Taken` is about what a run took of
-//! its reader.
+//! The words of contracts are in `specs/`: `Listings` says what `tokens` writes of a source and
+//! tells, `Dumps` what `dump` does, `Runs` what a run is, whatever its reader and its writers do.
+//! `Taken` is about what a run took of its reader.
 #![tactic(auto)]
 
-pub mod command;
-pub mod fault;
-pub mod run;
-pub mod source_file;
+mod dumps;
+mod listings;
+mod runs;
+
+pub use pyfault::{Fault, FaultCode, RunFaultCode, SourceFaultCode, fault_text, open_source, tell};
+pub use pysource::{ByteIn, ByteOut};
+pub use pywords::{Command, Dump, Tokens, UsageFault};
+pub use runs::run;

@@ -1,8 +1,7 @@
 //! Listings that stop after a count of entries, and that go on behind a cursor.
 
 use crate::expected::{push_lines, reader, writer};
-use pycommand::command::{Command, Tokens};
-use pycommand::run::run;
+use pycommand::{Command, Tokens, run};
 use pylex::Cursor;
 use std::alloc::{AllocError, Global};
 use std::process::Abort;

@@ -2,8 +2,7 @@
 ghost use Rattle.std.specs.Prelude.{◌≡◌, ◌<◌, ◌-◌, ◌^◌};
 
 use fakes::{FakeReader, FakeWriter};
-use pycommand::command::{Command, Tokens};
-use pycommand::run::run;
+use pycommand::{Command, Tokens, run};
 use pysource::{ByteIn, Counted};
 use std::alloc::{AllocError, Global};
 use std::process::Abort;

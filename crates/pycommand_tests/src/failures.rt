@@ -2,10 +2,7 @@
 
 use crate::expected::{failing_reader, push_lines, reader, writer};
 use fakes::{FakeReader, FakeWriter};
-use pycommand::command::{Command, Tokens};
-use pycommand::fault::{Fault, RunFaultCode};
-use pycommand::run::run;
-use pycommand::source_file::open_source;
+use pycommand::{Command, Fault, RunFaultCode, Tokens, open_source, run};
 use pylex::Cursor;
 use pysource::Counted;
 use std::alloc::Global;

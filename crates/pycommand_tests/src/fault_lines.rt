@@ -1,9 +1,9 @@
 //! The line that is told of each fault, and the status that it gives.
 
 use crate::expected::writer;
-use pycommand::fault::{Fault, FaultCode, RunFaultCode, SourceFaultCode, fault_text, tell};
-use pyparse::{ParseFault, tokens_of};
-use pysource::{Place, SOURCE_LIMIT, decode};
+use pycommand::{Fault, FaultCode, RunFaultCode, SourceFaultCode, fault_text, tell};
+use pyparse::{GrammarError, ParseFault, tokens_of};
+use pysource::{InputFault, Place, SOURCE_LIMIT, SourceFault, decode};
 use pytoken::TokenError;
 use std::alloc::Global;
 use std::process::Abort;
@@ -85,6 +85,14 @@ fn tells_what_is_wrong_with_a_source(rt: HostRuntime) -> Result<(), Fail> {
         ),
         (SourceFaultCode::Token(TokenError::Nul), "null character"),
         (SourceFaultCode::Token(TokenError::NameForm), "name form"),
+        (SourceFaultCode::Syntax, "invalid syntax"),
+        (SourceFaultCode::MatchStatement, "match statement"),
+        (
+            SourceFaultCode::ExpectedIndent,
+            "expected an indented block",
+        ),
+        (SourceFaultCode::UnexpectedIndent, "unexpected indent"),
+        (SourceFaultCode::MisplacedClause, "misplaced clause"),
         (SourceFaultCode::TooDeep, "too deep"),
         (
             SourceFaultCode::InconsistentTabs,
@@ -178,9 +186,46 @@ fn tells_brackets_that_are_too_deep(rt: HostRuntime) -> Result<(), Fail> {
     )
 }
 
+// What the grammar says against a line is told at its place.
+#[test]
+fn tells_what_the_grammar_says(rt: HostRuntime) -> Result<(), Fail> {
+    let place = Place { row: 3, column: 7 };
+    for (error, line) in [
+        (GrammarError::Syntax, "a.py:3:7: error: invalid syntax"),
+        (
+            GrammarError::MatchStatement,
+            "a.py:3:7: error: match statement",
+        ),
+        (
+            GrammarError::ExpectedIndent,
+            "a.py:3:7: error: expected an indented block",
+        ),
+        (
+            GrammarError::UnexpectedIndent,
+            "a.py:3:7: error: unexpected indent",
+        ),
+        (
+            GrammarError::MisplacedClause,
+            "a.py:3:7: error: misplaced clause",
+        ),
+        (GrammarError::TooDeep, "a.py:3:7: error: too deep"),
+    ] {
+        let fault = Fault::from(ParseFault::Grammar(error, place));
+        tells(&rt, rt.alloc(), fault, line, 1)?;
+    }
+    Ok(())
+}
+
 // A failed read has no place, and want of memory is told as such.
 #[test]
 fn tells_what_is_no_fault_of_a_source(rt: HostRuntime) -> Result<(), Fail> {
-    let fault = Fault::from(ParseFault::Memory);
-    tells(&rt, rt.alloc(), fault, "pyast: out of memory", 4)
+    for (fault, line, status) in [
+        (Fault::from(ParseFault::Memory), "pyast: out of memory", 4),
+        (Fault::from(SourceFault::Memory), "pyast: out of memory", 4),
+        (Fault::from(InputFault::Memory), "pyast: out of memory", 4),
+        (Fault::from(InputFault::Read), "pyast: read failed", 3),
+    ] {
+        tells(&rt, rt.alloc(), fault, line, status)?;
+    }
+    Ok(())
 }

@@ -1,10 +1,20 @@
-//! Tests of `pycommand`: which words give which command, what is listed of which source, and what
-//! is told where reading or writing fails. The rows are worked by hand from the documentation of
+//! Tests of `pycommand`: which words give which command, what is listed and dumped of which source,
+//! and what is told where reading or writing fails. The rows are worked by hand from the documentation of
 //! Python, or taken from Python 3.11.
 #![tactic(auto)]
 
 #[cfg(test)]
 mod cursors;
+#[cfg(test)]
+mod dump_failures;
+#[cfg(test)]
+mod dump_faults;
+#[cfg(test)]
+mod dump_limits;
+#[cfg(test)]
+mod dump_styles;
+#[cfg(test)]
+mod dumps;
 #[cfg(test)]
 mod edges;
 #[cfg(test)]

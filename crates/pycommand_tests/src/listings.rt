@@ -1,8 +1,7 @@
 //! Worked listings: what `tokens` writes of a source, and the fault that it tells.
 
 use crate::expected::{lists_all, lists_bytes_as, reader, writer};
-use pycommand::command::{Command, Tokens};
-use pycommand::run::run;
+use pycommand::{Command, Tokens, run};
 use std::test::Fail;
 
 // Each is a source, its encoding as it is shown (empty where nothing is written), its entries but for that of the

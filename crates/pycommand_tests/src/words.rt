@@ -1,6 +1,7 @@
 //! Which words give which command.
 
-use pycommand::command::{Command, UsageFault};
+use pycommand::{Command, UsageFault};
+use pynode::Profile;
 use std::alloc::{AllocError, Global};
 use std::process::Abort;
 use std::test::Fail;
@@ -28,10 +29,27 @@ fn answer(rt: &impl Abort, alloc: Global, words: &[String]) -> Result<String, Fa
                 given.push_str(file.as_str())?;
             }
         }
+        Ok(Command::Dump(asked)) => {
+            given.push_str("dump")?;
+            if let Some(blanks) = asked.style.indent {
+                let shown = format!(in alloc; " indent {blanks}")?;
+                given.push_str(shown.as_str())?;
+            }
+            if !asked.style.names {
+                given.push_str(" bare")?;
+            }
+            if asked.style.profile == Profile::Py312 {
+                given.push_str(" py312")?;
+            }
+            if let Some(file) = &asked.file {
+                given.push_str(" of ")?;
+                given.push_str(file.as_str())?;
+            }
+        }
         Err(UsageFault::BadArguments) => given.push_str("bad")?,
         Err(UsageFault::MalformedCursor) => given.push_str("malformed")?,
         Err(UsageFault::HelpAsked(text)) => {
-            assert!(rt; text.as_str().contains("tokens"));
+            assert!(rt; text.as_str().contains("pyast"));
             given.push_str("help")?;
         }
         Err(UsageFault::Memory) => given.push_str("memory")?,
@@ -98,7 +116,9 @@ fn reads_words(rt: HostRuntime) -> Result<(), Fail> {
         ("tokens --resume x a.py b.py", "bad"),
         ("tokens --resume x --frob", "bad"),
         ("tokens --resume x --help", "help"),
-        ("dump", "bad"),
+        ("tokens --indent 2", "bad"),
+        ("tokens --bare", "bad"),
+        ("tokens --py312", "bad"),
         ("unparse", "bad"),
         ("--version", "bad"),
         ("help", "help"),
@@ -107,6 +127,48 @@ fn reads_words(rt: HostRuntime) -> Result<(), Fail> {
         ("--help", "help"),
         ("tokens -h", "help"),
         ("tokens --help", "help"),
+    ];
+    gives_all(&rt, rt.alloc(), &rows)
+}
+
+#[test]
+fn reads_words_of_dump(rt: HostRuntime) -> Result<(), Fail> {
+    let rows = [
+        ("dump", "dump"),
+        ("dump a.py", "dump of a.py"),
+        ("dump --bare", "dump bare"),
+        ("dump --py312", "dump py312"),
+        ("dump --indent 0", "dump indent 0"),
+        ("dump --indent=16", "dump indent 16"),
+        ("dump --indent +5", "dump indent 5"),
+        ("dump --indent 05", "dump indent 5"),
+        (
+            "dump --bare a.py --py312 --indent 2",
+            "dump indent 2 bare py312 of a.py",
+        ),
+        ("dump -- --bare", "dump of --bare"),
+        ("dump --indent 17", "bad"),
+        ("dump --indent 256", "bad"),
+        ("dump --indent 18446744073709551616", "bad"),
+        ("dump --indent -1", "bad"),
+        ("dump --indent=-0", "bad"),
+        ("dump --indent x", "bad"),
+        ("dump --indent 2.0", "bad"),
+        ("dump --indent", "bad"),
+        ("dump --indent=", "bad"),
+        ("dump --indent 1 --indent 1", "bad"),
+        ("dump --bare --bare", "bad"),
+        ("dump --py312 --py312", "bad"),
+        ("dump --bare=x", "bad"),
+        ("dump -e", "bad"),
+        ("dump --count 1", "bad"),
+        ("dump --resume x", "bad"),
+        ("dump a.py b.py", "bad"),
+        ("dump tokens", "dump of tokens"),
+        ("tokens dump", "tokens of dump"),
+        ("help dump", "help"),
+        ("dump -h", "help"),
+        ("dump --help", "help"),
     ];
     gives_all(&rt, rt.alloc(), &rows)
 }
@@ -171,18 +233,19 @@ fn reads_cursors(rt: HostRuntime) -> Result<(), Fail> {
     gives_all_with_cursors(&rt, rt.alloc(), &rows)
 }
 
-// The help of `tokens` shows how it is called.
+// The help of a command shows how it is called.
 #[test]
 fn helps_with_the_whole_call(rt: HostRuntime) -> Result<(), Fail> {
-    let mut words = Vec::new(rt.alloc());
-    for word in ["tokens", "-h"] {
-        words.push(String::from_str(rt.alloc(), word)?)?;
+    for (command, usage) in [
+        ("tokens -h", "\nUsage: pyast tokens [OPTIONS] [FILE]\n"),
+        ("dump -h", "\nUsage: pyast dump [OPTIONS] [FILE]\n"),
+    ] {
+        let words = split(rt.alloc(), command)?;
+        let Err(UsageFault::HelpAsked(text)) = Command::read(rt.alloc(), words.as_slice()) else {
+            assert!(rt; false);
+            return Ok(());
+        };
+        assert!(rt; text.as_str().contains(usage), "in {text}");
     }
-    let Err(UsageFault::HelpAsked(text)) = Command::read(rt.alloc(), words.as_slice()) else {
-        assert!(rt; false);
-        return Ok(());
-    };
-    let usage = "\nUsage: pyast tokens [OPTIONS] [FILE]\n";
-    assert!(rt; text.as_str().contains(usage), "in {text}");
     Ok(())
 }

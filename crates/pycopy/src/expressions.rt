@@ -3,7 +3,7 @@
 ghost use Rattle.std.specs.Prelude.{◌≡◌, IfOk, map};
 ghost use Rattle.pynode.specs.TreeOf.{arg_of, arg_option_of, arguments_of, boxed_of, comprehension_of, keyword_of, option_of, tree_of};
 
-use crate::leaves::{copy_comparisons, copy_constant, copy_optional_name};
+use crate::leaves::{both, copy_comparisons, copy_constant, copy_optional_name};
 use pynode::{Arg, Arguments, Comprehension, Expr, Keyword};
 use std::alloc::{AllocError, Global};
 
@@ -192,10 +192,12 @@ fn copy_optional_exprs(alloc: Global, es: &[Option<Expr>]) -> Result<Vec<Option<
 fn copy_comprehension(alloc: Global, c: &Comprehension) -> Result<Comprehension, AllocError>
     ensures { IfOk result (λ made. comprehension_of made ≡ comprehension_of c.now) }
 {
+    let ifs = copy_exprs(alloc, &c.ifs)?;
+    let (target, iter) = both(copy_expr(alloc, &c.target)?, copy_expr(alloc, &c.iter))?;
     Ok(Comprehension {
-        ifs: copy_exprs(alloc, &c.ifs)?,
-        target: copy_expr(alloc, &c.target)?,
-        iter: copy_expr(alloc, &c.iter)?,
+        target,
+        iter,
+        ifs,
         is_async: c.is_async,
     })
 }
@@ -287,11 +289,11 @@ fn copy_arguments(alloc: Global, a: &Arguments) -> Result<Arguments, AllocError>
     Ok(Arguments {
         posonlyargs: copy_args(alloc, &a.posonlyargs)?,
         args: copy_args(alloc, &a.args)?,
-        vararg: copy_optional_arg(alloc, &a.vararg)?,
         kwonlyargs: copy_args(alloc, &a.kwonlyargs)?,
         kw_defaults: copy_optional_exprs(alloc, &a.kw_defaults)?,
-        kwarg: copy_optional_arg(alloc, &a.kwarg)?,
         defaults: copy_exprs(alloc, &a.defaults)?,
+        vararg: copy_optional_arg(alloc, &a.vararg)?,
+        kwarg: copy_optional_arg(alloc, &a.kwarg)?,
     })
 }
 

@@ -1,10 +1,21 @@
 //! Copies of what is no node: names, comparisons and the values of constants.
 
-ghost use Rattle.std.specs.Prelude.{◌≡◌, IfOk};
+ghost use Rattle.std.specs.Prelude.{◌≡◌, IfOk, Ok};
 ghost use Rattle.pynode.specs.TreeOf.{constant_of};
 
 use pynode::{Comparison, Constant, Identifier};
 use std::alloc::{AllocError, Global};
+
+/// Both values, where there was memory for the second.
+///
+/// A value is let go here, by a call, and not where it is made: of an enum with many classes that
+/// is long to prove.
+pub(crate) fn both<A: Drop, B>(a: A, b: Result<B, AllocError>) -> Result<(A, B), AllocError>
+    ensures first { IfOk result (λ made. made.0 ≡ a) }
+    ensures second { IfOk result (λ made. b ≡ Ok made.1) }
+{
+    Ok((a, b?))
+}
 
 /// A copy of a name that may be absent.
 pub(crate) fn copy_optional_name(

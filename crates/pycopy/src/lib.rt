@@ -1,10 +1,10 @@
-//! Copies of trees: [`copy`] makes a tree whose value (`pynode`'s `TreeOf`) is that of another.
+//! Copies of trees: [`copy_stmts`] makes statements whose values (`pynode`'s `TreeOf`) are those of
+//! others.
 #![tactic(auto)]
 
 mod expressions;
 mod leaves;
-mod modules;
 mod parts;
 mod statements;
 
-pub use modules::copy;
+pub use statements::copy_stmts;

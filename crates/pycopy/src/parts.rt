@@ -4,7 +4,7 @@ ghost use Rattle.std.specs.Prelude.{◌≡◌, IfOk, map};
 ghost use Rattle.pynode.specs.TreeOf.{alias_of, item_of, option_of, type_param_of};
 
 use crate::expressions::copy_expr;
-use crate::leaves::copy_optional_name;
+use crate::leaves::{both, copy_optional_name};
 use pynode::{Alias, Expr, Item, TypeParam};
 use std::alloc::{AllocError, Global};
 
@@ -25,9 +25,13 @@ pub(crate) fn copy_optional_expr(
 fn copy_item(alloc: Global, item: &Item) -> Result<Item, AllocError>
     ensures { IfOk result (λ made. item_of made ≡ item_of item.now) }
 {
+    let (context_expr, optional_vars) = both(
+        copy_expr(alloc, &item.context_expr)?,
+        copy_optional_expr(alloc, &item.optional_vars),
+    )?;
     Ok(Item {
-        context_expr: copy_expr(alloc, &item.context_expr)?,
-        optional_vars: copy_optional_expr(alloc, &item.optional_vars)?,
+        context_expr,
+        optional_vars,
     })
 }
 

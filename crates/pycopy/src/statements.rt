@@ -198,10 +198,10 @@ fn copy_stmt(alloc: Global, s: &Stmt) -> Result<Stmt, AllocError>
     }
 }
 
-/// A copy of some statements.
+/// Statements that are equal to these. Where memory is refused, what was made of them is dropped.
 #[cycle(copying)]
 #[tactic(auto, using(pynode::proofs::Callers::StmtShapes::stmt_shapes))]
-pub(crate) fn copy_stmts(alloc: Global, body: &[Stmt]) -> Result<Vec<Stmt>, AllocError>
+pub fn copy_stmts(alloc: Global, body: &[Stmt]) -> Result<Vec<Stmt>, AllocError>
     ensures { IfOk result (λ made. map stmt_of made.items ≡ map stmt_of body.now) }
 {
     let mut made = Vec::new(alloc);

@@ -18,7 +18,7 @@ use pynode::{
     Arguments, BoolOperator, Comparison, Comprehension, Constant, Context, Expr, Identifier,
     Integer, Keyword, Operator, UnaryOperator,
 };
-use pyvalue::name_value;
+use pyvalue::identifier_value;
 use std::alloc::Global;
 
 /// The height of a node over parts of this height, where there is room for it.
@@ -46,8 +46,7 @@ fn boxed(alloc: Global, expr: Expr, height: usize, next: usize) -> Result<Read, 
 pub fn identifier_of(alloc: Global, text: &str) -> Result<Identifier, Stop>
     ensures { MatchResult result (λ name. name ≡ nfkc (chars text.now)) (λ s. s ≡ Stop.Memory) }
 {
-    let form = name_value(alloc, text)?;
-    Ok(Identifier::new(alloc, form.as_str())?)
+    Ok(identifier_value(alloc, text)?)
 }
 
 /// Appends an expression.

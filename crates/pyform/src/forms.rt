@@ -14,7 +14,7 @@ pub enum Form {
     },
     /// `@value`: 8.7 "Function definitions" (`decorator`).
     Decorator {
-        value: Expr,
+        value: Box<Expr>,
     },
     /// A header and its colon, with the simple statements behind the colon, if there are any: 8
     /// (`suite`). Else its block is the lines that follow.

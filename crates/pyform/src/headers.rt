@@ -9,7 +9,7 @@ use pynode::{Arguments, Expr, Identifier, Item, Keyword, TypeParam};
 pub enum LoopHead {
     /// `while test`: 8.2.
     While {
-        test: Expr,
+        test: Box<Expr>,
     },
     /// `for target in iter`: 8.3; `async for target in iter`: 8.9.2 "The `async for` statement".
     For {
@@ -44,11 +44,11 @@ pub enum DefHead {
 pub enum Header {
     /// `if test`: 8.1 "The `if` statement".
     If {
-        test: Expr,
+        test: Box<Expr>,
     },
     /// `elif test`: 8.1.
     Elif {
-        test: Expr,
+        test: Box<Expr>,
     },
     /// `else`: 8.1, 8.2 "The `while` statement", 8.3 "The `for` statement", 8.4 "The `try`
     /// statement".
@@ -68,7 +68,7 @@ pub enum Header {
     /// `except* class`: 8.4.2 "`except*` clause".
     Except {
         star: bool,
-        class: Option<Expr>,
+        class: Option<Box<Expr>>,
         name: Option<Identifier>,
     },
     /// `finally`: 8.4.4 "`finally` clause".

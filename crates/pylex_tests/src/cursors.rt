@@ -1,7 +1,9 @@
 //! Cursors and their texts.
 
+use crate::expected::same_text;
 use pylex::{Cursor, CursorFault};
 use std::alloc::{AllocError, Global};
+use std::process::Abort;
 use std::test::Fail;
 
 /// What the cursor of a text writes, or why there is none.
@@ -12,9 +14,16 @@ fn answer(alloc: Global, text: &str) -> Result<String, AllocError> {
     }
 }
 
+/// Asserts what the cursor of a text writes, or why there is none.
+fn answers(rt: &impl Abort, alloc: Global, text: &str, expected: &str) -> Result<(), Fail> {
+    let told = answer(alloc, text)?;
+    same_text(rt, told.as_str(), expected, text);
+    Ok(())
+}
+
 #[test]
 fn reads_cursors(rt: HostRuntime) -> Result<(), Fail> {
-    let rows = [
+    let rows = &[
         "pytok1 0 0 1 0 0 0 0",
         "pytok1 3 1 1 0 1 1 0",
         "pytok1 6 7 2 0 1 0 0,8",
@@ -23,14 +32,14 @@ fn reads_cursors(rt: HostRuntime) -> Result<(), Fail> {
         "pytok1 1 2 3 4 1 5 0,1,18446744073709551615",
     ];
     for row in rows {
-        assert_eq!(rt; answer(rt.alloc(), row)?.as_str(), row);
+        answers(&rt, rt.alloc(), row, row)?;
     }
     Ok(())
 }
 
 #[test]
 fn refuses_other_texts(rt: HostRuntime) -> Result<(), Fail> {
-    let rows = [
+    let rows = &[
         "",
         "pytok1",
         "pytok2 0 0 1 0 0 0 0",
@@ -61,12 +70,15 @@ fn refuses_other_texts(rt: HostRuntime) -> Result<(), Fail> {
         "pytok1 0 0 1 0 0 0 0, 1",
     ];
     for row in rows {
-        assert_eq!(rt;
-            answer(rt.alloc(), row)?.as_str(),
-            "malformed cursor",
-            "{row}"
-        );
+        answers(&rt, rt.alloc(), row, "malformed cursor")?;
     }
+    Ok(())
+}
+
+/// Asserts how a fault is told.
+fn tells(rt: &impl Abort, alloc: Global, fault: CursorFault, told: &str) -> Result<(), Fail> {
+    let text = format!(in alloc; "{fault}")?;
+    same_text(rt, text.as_str(), told, told);
     Ok(())
 }
 
@@ -78,7 +90,7 @@ fn tells_faults(rt: HostRuntime) -> Result<(), Fail> {
         (CursorFault::Memory, "out of memory"),
     ];
     for (fault, told) in rows {
-        assert_eq!(rt; format!(in rt.alloc(); "{fault}")?.as_str(), told);
+        tells(&rt, rt.alloc(), fault, told)?;
     }
     Ok(())
 }

@@ -1,6 +1,8 @@
 //! The lexeme at the front of a text.
 
+use crate::expected::{same_answer, same_text};
 use pylex::{Class, begins_thing, cut};
+use std::process::Abort;
 use std::test::Fail;
 
 /// What the class of a lexeme is called.
@@ -17,9 +19,23 @@ fn name(class: Class) -> &'static str {
     }
 }
 
+/// Asserts what stands at the front of a text, and behind that.
+fn cuts(rt: &impl Abort, text: &str, class: &str, lexeme: &str, rest: &str) -> Result<(), Fail> {
+    let Some((found, front, behind)) = cut(text) else {
+        return Err(Fail::from("no lexeme"));
+    };
+    same_text(rt, name(found), class, text);
+    same_text(rt, front, lexeme, text);
+    same_text(rt, behind, rest, text);
+    same_answer(rt, found.is_blanks(), class == "blanks", text);
+    same_answer(rt, found.is_line_end(), class == "line end", text);
+    same_answer(rt, found.is_join(), class == "join", text);
+    Ok(())
+}
+
 #[test]
 fn cuts_lexemes(rt: HostRuntime) -> Result<(), Fail> {
-    for (text, class, lexeme, rest) in [
+    for (text, class, lexeme, rest) in &[
         ("rb'x' + .5", "string", "rb'x'", " + .5"),
         ("été**=1", "name", "été", "**=1"),
         ("**=1", "operator", "**=", "1"),
@@ -29,32 +45,32 @@ fn cuts_lexemes(rt: HostRuntime) -> Result<(), Fail> {
         ("\r\n\n", "line end", "\r\n", "\n"),
         ("\\\n x", "join", "\\\n", " x"),
     ] {
-        let Some(found) = cut(text) else {
-            return Err(Fail::from("no lexeme"));
-        };
-        assert_eq!(rt;
-            (name(found.0), found.1, found.2),
-            (class, lexeme, rest),
-            "{text:?}"
-        );
-        assert_eq!(rt; found.0.is_blanks(), class == "blanks");
-        assert_eq!(rt; found.0.is_line_end(), class == "line end");
-        assert_eq!(rt; found.0.is_join(), class == "join");
+        cuts(&rt, text, class, lexeme, rest)?;
     }
     Ok(())
 }
 
 #[test]
 fn cuts_no_other_text(rt: HostRuntime) {
-    for text in ["", "$", "\r", "\\", "\\x", "'a\n", "²"] {
-        assert!(rt; cut(text).is_none(), "{text:?}");
+    for text in &["", "$", "\r", "\\", "\\x", "'a\n", "²"] {
+        same_answer(&rt, cut(text).is_none(), true, text);
     }
+}
+
+/// Asserts whether the lexeme at the front of a text makes its line logical.
+fn is_thing(rt: &impl Abort, text: &str, thing: bool) -> Result<(), Fail> {
+    let Some((class, _, _)) = cut(text) else {
+        return Err(Fail::from("no lexeme"));
+    };
+    same_answer(rt, class.is_thing(), thing, text);
+    same_answer(rt, begins_thing(text), thing, text);
+    Ok(())
 }
 
 // Blanks, comments and line ends alone make no line logical.
 #[test]
 fn tells_things(rt: HostRuntime) -> Result<(), Fail> {
-    for (text, thing) in [
+    for (text, thing) in &[
         ("x # y", true),
         ("+", true),
         ("\\\n", true),
@@ -62,12 +78,8 @@ fn tells_things(rt: HostRuntime) -> Result<(), Fail> {
         ("\n", false),
         (" x", false),
     ] {
-        let Some((class, _, _)) = cut(text) else {
-            return Err(Fail::from("no lexeme"));
-        };
-        assert_eq!(rt; class.is_thing(), thing, "{text:?}");
-        assert_eq!(rt; begins_thing(text), thing, "{text:?}");
+        is_thing(&rt, text, *thing)?;
     }
-    assert!(rt; !begins_thing(""));
+    same_answer(&rt, begins_thing(""), false, "");
     Ok(())
 }

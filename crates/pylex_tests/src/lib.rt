@@ -5,6 +5,8 @@
 #[cfg(test)]
 mod cursors;
 #[cfg(test)]
+mod expected;
+#[cfg(test)]
 mod lexemes;
 #[cfg(test)]
 mod lines;

@@ -2,8 +2,11 @@
 
 ghost use Rattle.std.specs.Prelude.{◌≡◌};
 
+use crate::expected::{same_answer, same_number, same_text};
 use pylex::{Entry, Exact, Kind, line_text, push_line, text};
-use pysource::{Place, decode};
+use pysource::{Place, Source, decode};
+use std::alloc::Global;
+use std::process::Abort;
 use std::test::Fail;
 
 /// An entry whose offsets play no part.
@@ -24,6 +27,35 @@ fn entry_at(kind: Kind, exact: Option<Exact>, start: (usize, usize), end: (usize
         from: 0,
         to: 0,
     }
+}
+
+/// Asserts the line of an entry, also where it is pushed behind the lines of others.
+fn lists(
+    rt: &impl Abort,
+    whole: &mut String,
+    entry: &Entry,
+    text: &str,
+    exact: bool,
+    line: &str,
+) -> Result<(), Fail> {
+    let start = whole.len();
+    push_line(whole, entry, text, exact)?;
+    same_number(rt, whole.len() - start, line.len(), line);
+    Ok(())
+}
+
+/// Asserts the line of an entry.
+fn writes(
+    rt: &impl Abort,
+    alloc: Global,
+    entry: &Entry,
+    text: &str,
+    exact: bool,
+    line: &str,
+) -> Result<(), Fail> {
+    let told = line_text(alloc, entry, text, exact)?;
+    same_text(rt, told.as_str(), line, text);
+    Ok(())
 }
 
 // The lines are those of Python 3.11's `python -m tokenize`, but for the widest, whose places no small source has.
@@ -98,46 +130,49 @@ fn lists_entries(rt: HostRuntime) -> Result<(), Fail> {
     ];
     let mut whole = String::new(rt.alloc());
     for (entry, text, exact, line) in rows {
-        assert_eq!(rt; line_text(rt.alloc(), &entry, text, exact)?.as_str(), line);
-        let start = whole.len();
-        push_line(&mut whole, &entry, text, exact)?;
-        assert_eq!(rt; whole.len() - start, line.len());
+        writes(&rt, rt.alloc(), &entry, text, exact, line)?;
+        lists(&rt, &mut whole, &entry, text, exact, line)?;
     }
-    assert!(rt; whole.as_str().ends_with("\"'a longer one'\"\n"));
+    let ends = whole.as_str().ends_with("\"'a longer one'\"\n");
+    same_answer(&rt, ends, true, "the end");
     Ok(())
+}
+
+/// Asserts the line of a source's encoding.
+fn writes_encoding(
+    rt: &impl Abort,
+    alloc: Global,
+    source: &Source,
+    line: &str,
+) -> Result<(), Fail> {
+    let encoding = entry_at(Kind::Encoding, None, (0, 0), (0, 0));
+    writes(rt, alloc, &encoding, text(source, &encoding), false, line)
 }
 
 #[test]
 fn lists_the_encoding(rt: HostRuntime) -> Result<(), Fail> {
-    let encoding = entry_at(Kind::Encoding, None, (0, 0), (0, 0));
-    match decode(rt.alloc(), b"") {
-        Ok(source) => {
-            let line = line_text(rt.alloc(), &encoding, text(&source, &encoding), false)?;
-            assert_eq!(rt;
-                line.as_str(),
-                "0,0-0,0:            ENCODING       'utf-8'        \n"
-            );
-        }
-        Err(_) => assert!(rt; false),
-    }
-    Ok(())
+    let line = "0,0-0,0:            ENCODING       'utf-8'        \n";
+    let source = decode(rt.alloc(), b"")?;
+    writes_encoding(&rt, rt.alloc(), &source, line)
+}
+
+/// Asserts the text of a number in a source.
+fn cuts_number(rt: &impl Abort, source: &Source, from: usize, to: usize, expected: &str) {
+    let number = Entry {
+        from,
+        to,
+        ..entry_at(Kind::Number, None, (1, 4), (1, 5))
+    };
+    let whole = source.text();
+    assert!(rt; whole.is_char_boundary(from));
+    assert!(rt; whole.is_char_boundary(to));
+    assert!(rt; from <= to);
+    same_text(rt, text(source, &number), expected, whole);
 }
 
 #[test]
 fn cuts_texts(rt: HostRuntime) -> Result<(), Fail> {
-    let number = Entry {
-        from: 5,
-        to: 6,
-        ..entry_at(Kind::Number, None, (1, 4), (1, 5))
-    };
-    match decode(rt.alloc(), "é = 1\n".as_bytes()) {
-        Ok(source) => {
-            let whole = source.text();
-            assert!(rt; whole.is_char_boundary(5));
-            assert!(rt; whole.is_char_boundary(6));
-            assert_eq!(rt; text(&source, &number), "1");
-        }
-        Err(_) => assert!(rt; false),
-    }
+    let source = decode(rt.alloc(), "é = 1\n".as_bytes())?;
+    cuts_number(&rt, &source, 5, 6, "1");
     Ok(())
 }

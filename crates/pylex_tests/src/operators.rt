@@ -1,7 +1,14 @@
 //! The exact types of operators.
 
+use crate::expected::{same_answer, same_text};
 use pylex::{Exact, exact_of};
+use std::process::Abort;
 use std::test::Fail;
+
+/// Asserts the exact type of a text.
+fn is_exactly(rt: &impl Abort, text: &str, exact: Option<Exact>) {
+    assert_eq!(rt; exact_of(text), exact, "{text}");
+}
 
 #[test]
 fn names_operators(rt: HostRuntime) -> Result<(), Fail> {
@@ -10,9 +17,9 @@ fn names_operators(rt: HostRuntime) -> Result<(), Fail> {
         ("//=", Some(Exact::DoubleSlashEqual)),
         ("<>", None),
     ] {
-        assert_eq!(rt; exact_of(text), exact, "{text}");
+        is_exactly(&rt, text, exact);
     }
-    assert_eq!(rt; Exact::RArrow.name(), "RARROW");
+    same_text(&rt, Exact::RArrow.name(), "RARROW", "->");
     Ok(())
 }
 
@@ -23,7 +30,7 @@ fn tells_brackets(rt: HostRuntime) {
         (Exact::RSqb, false, true),
         (Exact::Less, false, false),
     ] {
-        assert_eq!(rt; exact.is_opener(), opens);
-        assert_eq!(rt; exact.is_closer(), closes);
+        same_answer(&rt, exact.is_opener(), opens, exact.name());
+        same_answer(&rt, exact.is_closer(), closes, exact.name());
     }
 }

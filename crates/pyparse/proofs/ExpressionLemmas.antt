@@ -1,7 +1,7 @@
 -- The first token that is faulty by itself, token by token.
 --
 -- Carries: terminals_of.
-use Rattle.std.proofs.Common.{◌≡◌, refl, ap, sym, ◌∙◌, ℕ, ◌+◌, zero, suc, List, [], ◌∷◌, ◌++◌, map, take, Option, Some, None, length, get_or, ◌<◌, arith}
+use Rattle.std.proofs.Common.{◌≡◌, refl, ap, ℕ, ◌+◌, zero, suc, List, [], ◌∷◌, ◌++◌, take, Option, Some, None, length, get_or, ◌<◌, arith}
 use Rattle.pytoken.specs.declared.refusals.Refusal.{Refusal}
 use Rattle.pytoken.specs.Refusals.{or_refusal}
 use Rattle.pyparse.specs.declared.faults.ParseFault.{ParseFault}

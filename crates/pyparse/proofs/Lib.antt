@@ -1,5 +1,6 @@
 pub use Rattle.pytoken.proofs.Callers.TextLemmas
 mod ListingLemmas
+mod EndLemmas
 mod ExpressionLemmas
 mod RisingLemmas
 mod IndentLemmas
@@ -7,3 +8,5 @@ mod PassLemmas
 mod GatherLemmas
 mod LineLemmas
 mod LineGatherLemmas
+mod ProgressLemmas
+mod FinishLemmas

@@ -18,16 +18,17 @@ use Rattle.pylex.specs.Listing.{Source, in_characters, listing}
 use Rattle.pylex.specs.Listers.{Listed, StandsIn, Moves}
 use Rattle.pylex.proofs.Callers.{entry_lies}
 use Rattle.pylex.specs.Steps.{entries_of, most_entries}
-use Rattle.pytoken.specs.Tokens.{Token, Line, token_of, is_open, level_behind, tokens_from, lines_from, tokens, lines}
+use Rattle.pytoken.specs.Tokens.{Token, Line, text_of, token_of, is_open, level_behind, tokens_from, lines_from, tokens, lines}
 use Rattle.pytoken.specs.Refusals.{entry_refusal}
 use Rattle.pyvalue.specs.Terminals.{terminal}
 use Rattle.pyvalue.specs.declared.terminals.Terminal.{Terminal}
 use Rattle.pyparse.specs.declared.line_gather.LineGather.{LineGather}
 use Rattle.pyparse.specs.LineReadings.{first_start, token_terminal, lines_within}
 use Rattle.pyparse.specs.Inner.Passing.{counted, still_open, kept_refusal}
-use Rattle.pyparse.specs.Inner.LineGathering.{stands_in_line, ends_open_line, ended_by, is_indent, is_dedent, own_terminals, start_before, line_behind, front_tokens, front_line, front_lines, Adds, Takes, Counts, KeepsLine, StandsAt, ReadsLine}
+use Rattle.pyparse.specs.Inner.LineGathering.{stands_in_line, ends_open_line, ended_by, is_indent, is_dedent, own_terminals, of_first, first_text, line_behind, front_tokens, front_line, front_lines, Adds, Takes, Counts, KeepsLine, StandsAt, ReadsLine}
 use Rattle.pyparse.proofs.PassLemmas.{passes, kept_before}
 use Rattle.pyparse.proofs.ListingLemmas.{moved, at_entry}
+use Rattle.pyparse.proofs.EndLemmas.{last_on, match_is, same_last}
 use Rattle.pyparse.proofs.LineLemmas.{with_own, tally_past, some_by, line_on, lines_on, tokens_past, lines_past}
 
 counted_few : (n m : ℕ) (b : Bool) → n ≤ m → counted n b ≤ m + 1
@@ -57,15 +58,30 @@ counts text es e old new had gains =
           subst (λ (l : List Token). 0 < length l) (sym (line_on text es e))
           (some_by text e begun (front_line text es) (λ b. had.some (had.pass.begun ∙ b))
           (ap (still_open e.kind) (sym had.pass.begun) ∙ sym gains.pass.begun ∙ now));
+      marker =
+          λ before last same is.
+          let one : e ≡ last = same_last es before e last same in
+          let kind : e.kind ≡ kinds.EndMarker = ap (λ (x : Entry). x.kind) one ∙ is in
+          gains.marker ∙ (rw kind refl) ∙ ap (λ (x : Entry). x.start) one;
     }
+
+some_same : (a b : List ℕ) → Some a ≡ Some b → a ≡ b
+some_same a b e = cc
 
 -- what is kept of the line, with one entry more that doesn't end it
 pub keeps : (text : List ℕ) (e : Entry) (line : List Token) (old new : LineGather) → KeepsLine line old → Adds text e old new →
     KeepsLine (with_own text e line) new
 keeps text e line old new had adds = by (stands_in_line e.kind) refl
   where
+    begins : (ts : List Terminal) (l : List Token) (w v : List ℕ) → map terminal ts ≡ map token_terminal l → ((t : List ℕ) → first_text l ≡ Some t → w ≡ t) → (t : List ℕ)
+        → first_text (l ++ token_of text e ∷ []) ≡ Some t → v ≡ text_of text e → of_first ts w v ≡ t
+    begins [] [] w v same was t is own = let one : text_of text e ≡ t = cc in own ∙ one
+    begins [] (u ∷ l) w v same was t is own = absurd (cc)
+    begins (x ∷ ts) [] w v same was t is own = absurd (cc)
+    begins (x ∷ ts) (u ∷ l) w v same was t is own = was t is
+
     starts : (ts : List Terminal) (l : List Token) → map terminal ts ≡ map token_terminal l → (p : Place) → ((q : Place) → first_start l ≡ Some q → p ≡ q) → (q : Place)
-        → first_start (l ++ token_of text e ∷ []) ≡ Some q → start_before ts p e.start ≡ q
+        → first_start (l ++ token_of text e ∷ []) ≡ Some q → of_first ts p e.start ≡ q
     starts [] [] same p was q is = cc
     starts [] (t ∷ l) same p was q is = absurd (cc)
     starts (x ∷ ts) [] same p was q is = absurd (cc)
@@ -74,7 +90,9 @@ keeps text e line old new had adds = by (stands_in_line e.kind) refl
     by : (b : Bool) → stands_in_line e.kind ≡ b → KeepsLine (with_own text e line) new
     by true is =
         let own : own_terminals text e ≡ token_terminal (token_of text e) ∷ [] = rw is refl in
-        let start : new.start ≡ start_before old.terminals.items old.start e.start = rw is at adds.start in
+        let start : new.start ≡ of_first old.terminals.items old.start e.start = rw is at adds.start in
+        let first : chars new.first.now ≡ of_first old.terminals.items (chars old.first.now) (text_of text e) = rw is at adds.first in
+        let last : chars new.last.now ≡ text_of text e = rw is at adds.last in
         let all : KeepsLine (line ++ token_of text e ∷ []) new =
         record {
           terminals =
@@ -82,15 +100,21 @@ keeps text e line old new had adds = by (stands_in_line e.kind) refl
               ∙ ap₂ (λ (a b : List Terminals.Terminal). a ++ b) had.terminals own
               ∙ sym (map-append token_terminal line (token_of text e ∷ []));
           start = λ p at. start ∙ starts old.terminals.items line had.terminals old.start had.start p at;
+          first = λ t at. first ∙ begins old.terminals.items line (chars old.first.now) (text_of text e) had.terminals had.first t at refl;
+          last = λ t at. let same : text_of text e ≡ t = some_same (text_of text e) t (sym (last_on line (token_of text e)) ∙ at) in last ∙ same;
         } in
         rw is all
     by false is =
         let own : own_terminals text e ≡ [] = rw is refl in
         let start : new.start ≡ old.start = rw is at adds.start in
+        let first : chars new.first.now ≡ chars old.first.now = rw is at adds.first in
+        let last : chars new.last.now ≡ chars old.last.now = rw is at adds.last in
         let all : KeepsLine line new =
         record {
           terminals = adds.terminals ∙ ap₂ (λ (a b : List Terminals.Terminal). a ++ b) had.terminals own ∙ append-nil (map token_terminal line);
           start = λ p at. start ∙ had.start p at;
+          first = λ t at. first ∙ had.first t at;
+          last = λ t at. last ∙ had.last t at;
         } in
         rw is all
 
@@ -192,6 +216,7 @@ cleared p l g h had is =
             few_indents = counts.few_indents;
             few_dedents = counts.few_dedents;
             some = counts.some;
+            marker = counts.marker;
           };
     }
 
@@ -284,4 +309,5 @@ line_read p first old new e g h had read few gains ends none keep same =
       level = gains.level ends ∙ ap₂ (λ (a b : ℕ). a - b) had.counts.indents had.counts.dedents;
       terminals = kept.terminals;
       start = first_starts line h.start (had.counts.some parts.1) kept.start;
+      is_match = match_is line (chars h.first.now) (chars h.last.now) kept.first kept.last (had.counts.some parts.1);
     }

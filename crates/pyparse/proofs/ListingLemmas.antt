@@ -34,7 +34,7 @@ walk_stop (x ∷ es) last (suc k) s within stops h =
     let rest = walk_stop es last k s (omega arith) stops h in
     (omega (arith, rest.0), rest.1)
 
-fault_last : (es : List Entry) (last : Step) → fault_of (map steps.Entry es ++ last ∷ []) ≡ fault_of (last ∷ [])
+pub fault_last : (es : List Entry) (last : Step) → fault_of (map steps.Entry es ++ last ∷ []) ≡ fault_of (last ∷ [])
 fault_last [] last = refl
 fault_last (x ∷ es) last = fault_last es last
 

@@ -36,4 +36,5 @@ abbrev pub Refuses : Level → List Token → ParseFault → Type 0
 Refuses l ts (Refused r) = first_refusal ts ≡ Some r
 Refuses l ts (Grammar Syntax p) = (first_refusal ts ≡ None) × Shapeless l (terminals ts) × (p ≡ first_place ts)
 Refuses l ts (Grammar TooDeep p) = (first_refusal ts ≡ None) × High 500 l (terminals ts) × (p ≡ first_place ts)
+Refuses l ts (Grammar _ p) = ⊥
 Refuses l ts Memory = Unit {0}

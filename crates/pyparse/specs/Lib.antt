@@ -1,4 +1,5 @@
 pub mod Answers
 pub mod Expressions
 pub mod LineReadings
+pub mod Modules
 pub mod Inner

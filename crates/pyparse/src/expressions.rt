@@ -49,7 +49,7 @@ fn terminals_of<'a>(alloc: Global, tokens: &[Token<'a>]) -> Result<Vec<Terminal<
     ensures sound { OnOk result (first_refusal tokens.now ≡ None) }
     ensures refused { IfErr result (Tells (first_refusal tokens.now)) }
 {
-    let mut made = Vec::new(alloc);
+    let mut made = Vec::with_capacity(alloc, tokens.len())?;
     for token in tokens {
         let terminal = terminal_at(alloc, *token)?;
         put(&mut made, terminal)?;

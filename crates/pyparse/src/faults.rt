@@ -12,7 +12,16 @@ use thiserror::Error;
 pub enum GrammarError {
     /// They have no form.
     Syntax,
-    /// Their form is too high.
+    /// They have no form, and look like the header of a `match` statement.
+    MatchStatement,
+    /// They are no deeper than the header before them, whose block is to follow.
+    ExpectedIndent,
+    /// They are deeper than the line before them, which is no header whose block is to follow.
+    UnexpectedIndent,
+    /// They are a clause whose statement isn't there, or stand where a statement needs another line:
+    /// behind a `try` an `except` or `finally`, behind a decorator a `def` or `class`.
+    MisplacedClause,
+    /// Their form is too high, or a statement that begins in them stands too deep in others.
     TooDeep,
 }
 

@@ -17,14 +17,17 @@ mod gather;
 mod indents;
 mod line_gather;
 mod logical_lines;
+mod modules;
 mod pass;
+mod progress;
 mod tokens;
 
 pub use expressions::parse_expression;
 pub use faults::{GrammarError, ParseFault};
 pub use logical_lines::LogicalLines;
+pub use modules::parse;
 pub use pyvalue::{
-    Literal, LiteralText, Terminal, TerminalFault, name_fault, name_value, number_value,
-    string_fault, string_value, terminal_of, token_fault,
+    Literal, LiteralText, Terminal, TerminalFault, identifier_value, name_fault, name_value,
+    number_value, string_fault, string_value, terminal_of, token_fault,
 };
 pub use tokens::{Token, tokens_of};

@@ -1,7 +1,7 @@
 //! What one pass over a listing gathers of its lines: the tokens of the one that is open, and the
 //! first faults.
 
-ghost use Rattle.std.specs.Prelude.{◌≡◌, ◌^◌, ◌<◌, ◌-◌, ◌++◌, ◌&&◌, [], ◌∷◌, map, IfOk, OnOk, None, true};
+ghost use Rattle.std.specs.Prelude.{◌≡◌, ◌^◌, ◌<◌, ◌-◌, ◌++◌, ◌&&◌, [], ◌∷◌, map, IfOk, OnOk, None, true, false};
 ghost use Rattle.std.specs.Str.{chars, IsCharBoundary};
 ghost use Rattle.pylex.specs.Laws.{LiesIn};
 ghost use Rattle.pytoken.specs.Refusals.{entry_refusal};
@@ -12,9 +12,11 @@ ghost use Rattle.pyparse.specs.Inner.LineGathering.{
   ends_open_line,
   is_indent,
   is_dedent,
-  own_terminals,
-  start_before,
   ended_by,
+  of_first,
+  marker_behind,
+  spell_match,
+  keeps_match,
   Adds,
   Takes,
 };
@@ -41,6 +43,14 @@ fn ends_open_line(kind: Kind) -> bool
     matches!(kind, Kind::Newline | Kind::Dedent | Kind::EndMarker)
 }
 
+/// Whether the texts of a line's first and last token are those of the header of a `match`
+/// statement.
+fn spell_match(first: &str, last: &str) -> bool
+    ensures { result ≡ spell_match (chars first.now) (chars last.now) }
+{
+    first == "match" && last == ":"
+}
+
 /// What one pass over a listing has gathered of its lines behind some of its entries.
 #[derive(Drop)]
 pub(crate) struct LineGather<'a> {
@@ -49,12 +59,18 @@ pub(crate) struct LineGather<'a> {
     terminals: Vec<Terminal<'a>>,
     /// Where the first of them starts.
     start: Place,
+    /// The text of the first of them.
+    first: &'a str,
+    /// The text of the last of them.
+    last: &'a str,
     /// The levels above 0 that were open before the entry that ended the last line.
     level: usize,
     /// The INDENTs.
     indents: usize,
     /// The DEDENTs.
     dedents: usize,
+    /// Where ENDMARKER starts, once it was read.
+    marker: Place,
 }
 
 impl<'a> LineGather<'a> {
@@ -67,14 +83,19 @@ impl<'a> LineGather<'a> {
         ensures level { IfOk result (λ made. made.level ≡ 0) }
         ensures indents { IfOk result (λ made. made.indents ≡ 0) }
         ensures dedents { IfOk result (λ made. made.dedents ≡ 0) }
+        ensures is_match { IfOk result (λ made. keeps_match made ≡ false) }
+        ensures marker { IfOk result (λ made. made.marker ≡ record { row = 1; column = 0 }) }
     {
         Ok(LineGather {
             pass: Pass::new(alloc, source)?,
             terminals: Vec::new(alloc),
             start: Place { row: 1, column: 0 },
+            first: "",
+            last: "",
             level: 0,
             indents: 0,
             dedents: 0,
+            marker: Place { row: 1, column: 0 },
         })
     }
 
@@ -88,14 +109,23 @@ impl<'a> LineGather<'a> {
 
     /// Appends a token of the line.
     #[inline(always)]
-    fn keep(&mut self, start: Place, terminal: Terminal<'a>) -> Result<(), AllocError>
+    fn keep(
+        &mut self,
+        start: Place,
+        text: &'a str,
+        terminal: Terminal<'a>,
+    ) -> Result<(), AllocError>
         ensures terminals { OnOk result (self.new.terminals.items ≡ self.old.terminals.items ++ terminal.entry ∷ []) }
-        ensures start { self.new.start ≡ start_before self.old.terminals.items self.old.start start }
-        ensures rest { self.new ≡ record self.old { terminals = self.new.terminals; start = self.new.start } }
+        ensures start { self.new.start ≡ of_first self.old.terminals.items self.old.start start }
+        ensures first { chars self.new.first.now ≡ of_first self.old.terminals.items (chars self.old.first.now) (chars text.now) }
+        ensures last { chars self.new.last.now ≡ chars text.now }
+        ensures rest { self.new ≡ record self.old { terminals = self.new.terminals; start = self.new.start; first = self.new.first; last = self.new.last } }
     {
         if self.terminals.is_empty() {
             self.start = start;
+            self.first = text;
         }
+        self.last = text;
         self.terminals.push(terminal)?;
         Ok(())
     }
@@ -111,14 +141,15 @@ impl<'a> LineGather<'a> {
         requires { LiesIn source.now.text entry.now }
         ensures fault { IfOk result (λ fault. fault ≡ entry_refusal (chars source.now.text) entry.now) }
         ensures line { OnOk result (entry_refusal (chars source.now.text) entry.now ≡ None → Adds (chars source.now.text) entry.now self.old self.new) }
-        ensures rest { self.new ≡ record self.old { terminals = self.new.terminals; start = self.new.start } }
+        ensures rest { self.new ≡ record self.old { terminals = self.new.terminals; start = self.new.start; first = self.new.first; last = self.new.last } }
     {
-        match terminal_of(alloc, entry.kind, text_of(source, entry)) {
+        let text = text_of(source, entry);
+        match terminal_of(alloc, entry.kind, text) {
             Err(TerminalFault::Memory) => Err(AllocError),
             Err(TerminalFault::Token(error)) => Ok(Some(Refusal::Token(error, entry.start))),
             Ok(terminal) => {
                 if stands_in_line(entry.kind) {
-                    self.keep(entry.start, terminal)?;
+                    self.keep(entry.start, text, terminal)?;
                 }
                 Ok(None)
             }
@@ -145,6 +176,17 @@ impl<'a> LineGather<'a> {
         }
     }
 
+    /// Keeps where ENDMARKER starts.
+    #[inline(always)]
+    fn keep_marker(&mut self, entry: &Entry)
+        ensures marker { self.new.marker ≡ marker_behind entry.now self.old.marker }
+        ensures rest { self.new ≡ record self.old { marker = self.new.marker } }
+    {
+        if matches!(entry.kind, Kind::EndMarker) {
+            self.marker = entry.start;
+        }
+    }
+
     /// Takes the next entry of a source's listing, whatever its type: whether the line that is open
     /// ends by it.
     #[inline(always)]
@@ -166,6 +208,7 @@ impl<'a> LineGather<'a> {
         let faulty = self.push(alloc, source, entry)?;
         self.pass.take(source, entry, faulty)?;
         self.count(entry.kind, ends);
+        self.keep_marker(entry);
         Ok(ends)
     }
 
@@ -212,6 +255,20 @@ impl<'a> LineGather<'a> {
         ensures { result ≡ self.now.start }
     {
         self.start
+    }
+
+    /// Whether it begins and ends as the header of a `match` statement does.
+    pub(crate) fn is_match(&self) -> bool
+        ensures { result ≡ keeps_match self.now }
+    {
+        spell_match(self.first, self.last)
+    }
+
+    /// Where ENDMARKER starts, once it was read.
+    pub(crate) fn marker(&self) -> Place
+        ensures { result ≡ self.now.marker }
+    {
+        self.marker
     }
 
     /// The levels above 0 that were open before the entry that ended the last line.

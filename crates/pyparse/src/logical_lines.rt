@@ -11,7 +11,7 @@ ghost use Rattle.pytoken.specs.Laws.{AreLawful, TokensAreSound};
 ghost use Rattle.pyparse.specs.declared.faults.ParseFault.{ParseFault};
 ghost use Rattle.pyparse.specs.Answers.{Tells};
 ghost use Rattle.pyparse.specs.Inner.Passing.{kept_refusal};
-ghost use Rattle.pyparse.specs.LineReadings.{before_first, outcome_of, HoldsLine};
+ghost use Rattle.pyparse.specs.LineReadings.{before_first, outcome_of, HoldsLine, EndsAt};
 ghost use Rattle.pyparse.specs.Inner.LineGathering.{lines_given, StandsBetween, ReadsLine};
 
 use crate::faults::ParseFault;
@@ -46,6 +46,7 @@ fn read_line<'a>(
     ensures same { IfOk result (λ more. more ≡ false → lines_given source.now lister.new ≡ lines_given source.now lister.old) }
     ensures all { IfOk result (λ more. more ≡ false → lines_given source.now lister.new ≡ length (lines (in_characters source.now))) }
     ensures sound { IfOk result (λ more. more ≡ false → refusal (in_characters source.now) ≡ None) }
+    ensures marker { IfOk result (λ more. more ≡ false → EndsAt (in_characters source.now) gather.new.marker) }
     ensures refused { IfErr result (Tells (refusal (in_characters source.now))) }
 {
     gather.clear();
@@ -126,6 +127,21 @@ impl<'a> LogicalLines<'a> {
         self.gather.start()
     }
 
+    /// Whether the line that is held begins with the text `match`, as it is written, and ends in a
+    /// colon: as no line of Python 3.9 does that has a form.
+    pub fn is_match(&self) -> bool
+        ensures { result ≡ self.now.is_match }
+    {
+        self.gather.is_match()
+    }
+
+    /// Where the source ends, behind its last line: the place of ENDMARKER, its last token.
+    pub fn end(&self) -> Place
+        ensures { result ≡ self.now.marker }
+    {
+        self.gather.marker()
+    }
+
     /// Goes to the next line: whether there is one. Once there is none, or an error was told, each
     /// later call answers the same, and changes nothing.
     ///
@@ -143,6 +159,7 @@ impl<'a> LogicalLines<'a> {
         ensures given { IfOk result (λ more. self.new.given ≡ (if more then self.old.given + 1 else self.old.given)) }
         ensures all { IfOk result (λ more. more ≡ false → self.old.given ≡ length (lines (in_characters self.old.source))) }
         ensures sound { IfOk result (λ more. more ≡ false → refusal (in_characters self.old.source) ≡ None) }
+        ensures end { IfOk result (λ more. more ≡ false → EndsAt (in_characters self.old.source) self.new.marker) }
         ensures refused { IfErr result (Tells (refusal (in_characters self.old.source))) }
         ensures outcome { self.new.outcome ≡ outcome_of result }
         ensures again { (answer : Result Bool ParseFault) → self.old.outcome ≡ Some answer → (result ≡ answer) × (self.new ≡ self.old) }

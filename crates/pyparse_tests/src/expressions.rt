@@ -83,7 +83,7 @@ fn nested(
 
 #[test]
 fn operators(rt: HostRuntime) -> Result<(), Fail> {
-    for (text, dump) in [
+    for (text, dump) in &[
         (
             "-x ** -y",
             "UnaryOp(USub(), BinOp(Name('x', Load()), Pow(), UnaryOp(USub(), Name('y', Load()))))",
@@ -151,7 +151,7 @@ fn operators(rt: HostRuntime) -> Result<(), Fail> {
 
 #[test]
 fn literals(rt: HostRuntime) -> Result<(), Fail> {
-    for (text, dump) in [
+    for (text, dump) in &[
         (
             "1if x else 2",
             "IfExp(Name('x', Load()), Constant(1), Constant(2))",
@@ -181,7 +181,7 @@ fn literals(rt: HostRuntime) -> Result<(), Fail> {
 
 #[test]
 fn calls(rt: HostRuntime) -> Result<(), Fail> {
-    for (text, dump) in [
+    for (text, dump) in &[
         (
             "f(a, b=1)",
             "Call(Name('f', Load()), [Name('a', Load())], [keyword('b', Constant(1))])",
@@ -199,7 +199,7 @@ fn calls(rt: HostRuntime) -> Result<(), Fail> {
 
 #[test]
 fn in_brackets(rt: HostRuntime) -> Result<(), Fail> {
-    for (text, dump) in [
+    for (text, dump) in &[
         (
             "(-x) ** y",
             "BinOp(UnaryOp(USub(), Name('x', Load())), Pow(), Name('y', Load()))",
@@ -278,7 +278,7 @@ fn in_brackets(rt: HostRuntime) -> Result<(), Fail> {
 
 #[test]
 fn comprehensions(rt: HostRuntime) -> Result<(), Fail> {
-    for (text, dump) in [
+    for (text, dump) in &[
         (
             "f(a for b in c)",
             "Call(Name('f', Load()), [GeneratorExp(Name('a', Load()), [comprehension(Name('b', Store()), Name('c', Load()), [], 0)])], [])",
@@ -315,7 +315,7 @@ fn comprehensions(rt: HostRuntime) -> Result<(), Fail> {
 
 #[test]
 fn lambdas(rt: HostRuntime) -> Result<(), Fail> {
-    for (text, dump) in [
+    for (text, dump) in &[
         (
             "lambda: 0",
             "Lambda(arguments([], [], kwonlyargs=[], kw_defaults=[], defaults=[]), Constant(0))",
@@ -346,37 +346,41 @@ fn lambdas(rt: HostRuntime) -> Result<(), Fail> {
     Ok(())
 }
 
+/// What is said against the first token.
+const SYNTAX: Option<(GrammarError, Place)> = Some((
+    GrammarError::Syntax,
+    Place { row: 1, column: 0 },
+));
+
 #[test]
 fn of_a_level(rt: HostRuntime) -> Result<(), Fail> {
-    let syntax = Some((GrammarError::Syntax, Place { row: 1, column: 0 }));
-    for (text, level, refused) in [
+    for (text, level, refused) in &[
         ("a, b", Level::Stars, None),
-        ("a, b", Level::Expression, syntax),
+        ("a, b", Level::Expression, SYNTAX),
         ("yield a", Level::Value, None),
-        ("yield a", Level::Stars, syntax),
+        ("yield a", Level::Stars, SYNTAX),
         ("*a", Level::StarItem, None),
-        ("*a", Level::Named, syntax),
+        ("*a", Level::Named, SYNTAX),
         ("a := b", Level::Named, None),
-        ("a := b", Level::Expression, syntax),
+        ("a := b", Level::Expression, SYNTAX),
         ("a if b else c", Level::Expression, None),
-        ("a if b else c", Level::Or, syntax),
+        ("a if b else c", Level::Or, SYNTAX),
         ("-a", Level::Factor, None),
-        ("-a", Level::Power, syntax),
+        ("-a", Level::Power, SYNTAX),
         ("a.b", Level::Primary, None),
-        ("a.b", Level::Atom, syntax),
+        ("a.b", Level::Atom, SYNTAX),
         ("*a, b:c", Level::Slices, None),
         ("a:b", Level::Slice, None),
-        ("a:b", Level::Elem, syntax),
+        ("a:b", Level::Elem, SYNTAX),
     ] {
-        assert_eq!(rt; refusal(rt.alloc(), text, level)?, refused, "at {text}");
+        assert_eq!(rt; refusal(rt.alloc(), text, *level)?, *refused, "at {text}");
     }
     Ok(())
 }
 
 #[test]
 fn none_at_all(rt: HostRuntime) -> Result<(), Fail> {
-    let syntax = Some((GrammarError::Syntax, Place { row: 1, column: 0 }));
-    for text in [
+    for text in &[
         "",
         "a b",
         "a +",
@@ -409,7 +413,7 @@ fn none_at_all(rt: HostRuntime) -> Result<(), Fail> {
     ] {
         assert_eq!(rt;
             refusal(rt.alloc(), text, Level::Value)?,
-            syntax,
+            SYNTAX,
             "at {text:?}"
         );
     }
@@ -426,37 +430,42 @@ fn at_the_first_token(rt: HostRuntime) -> Result<(), Fail> {
     Ok(())
 }
 
+/// What is said against too many nodes in one another.
+const DEEP: Option<(GrammarError, Place)> = Some((
+    GrammarError::TooDeep,
+    Place { row: 1, column: 0 },
+));
+
 // At most 500 nodes stand in one another, and 600 brackets.
 #[test]
 fn high(rt: HostRuntime) -> Result<(), Fail> {
-    let deep = Some((GrammarError::TooDeep, Place { row: 1, column: 0 }));
-    for (count, before, middle, behind, refused) in [
+    for (count, before, middle, behind, refused) in &[
         (600, "(", "x", ")", None),
         (499, "-", "x", "", None),
-        (500, "-", "x", "", deep),
+        (500, "-", "x", "", DEEP),
         (499, "lambda: ", "x", "", None),
-        (500, "lambda: ", "x", "", deep),
+        (500, "lambda: ", "x", "", DEEP),
         (499, "x if x else ", "x", "", None),
-        (500, "x if x else ", "x", "", deep),
+        (500, "x if x else ", "x", "", DEEP),
         (499, "[", "x", "]", None),
-        (500, "[", "x", "]", deep),
+        (500, "[", "x", "]", DEEP),
         (249, "[(yield ", "x", ")]", None),
-        (250, "[(yield ", "x", ")]", deep),
+        (250, "[(yield ", "x", ")]", DEEP),
         (499, "f(", "x", ")", None),
-        (500, "f(", "x", ")", deep),
+        (500, "f(", "x", ")", DEEP),
         (499, "", "x", " + x", None),
-        (500, "", "x", " + x", deep),
+        (500, "", "x", " + x", DEEP),
         (499, "", "x", ".a", None),
-        (500, "", "x", ".a", deep),
+        (500, "", "x", ".a", DEEP),
         (499, "", "x", "()", None),
-        (500, "", "x", "()", deep),
-        (30_000, "", "x", " + x", deep),
-        (600, "x + ", "x", "", deep),
+        (500, "", "x", "()", DEEP),
+        (30_000, "", "x", " + x", DEEP),
+        (600, "x + ", "x", "", DEEP),
     ] {
-        let text = nested(rt.alloc(), count, before, middle, behind)?;
+        let text = nested(rt.alloc(), *count, before, middle, behind)?;
         assert_eq!(rt;
             refusal(rt.alloc(), text.as_str(), Level::Value)?,
-            refused,
+            *refused,
             "at {count} times {before}{middle}{behind}"
         );
     }

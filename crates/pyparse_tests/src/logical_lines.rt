@@ -48,7 +48,7 @@ const COLON: Terminal = Terminal::Op(Exact::Colon);
 
 #[test]
 fn no_line(rt: HostRuntime) -> Result<(), Fail> {
-    for text in ["", "\n# c\n  # d\n", "\\\n\n"] {
+    for text in &["", "\n# c\n  # d\n", "\\\n\n"] {
         gives(&rt, rt.alloc(), text, &[])?;
     }
     Ok(())
@@ -156,7 +156,7 @@ fn refuses(
 
 #[test]
 fn the_first_reason_behind_lines(rt: HostRuntime) -> Result<(), Fail> {
-    for (text, given, refusal) in [
+    for (text, given, refusal) in &[
         (
             "x\ny = 1.5\nz\n",
             1,
@@ -183,7 +183,7 @@ fn the_first_reason_behind_lines(rt: HostRuntime) -> Result<(), Fail> {
             Refusal::Token(TokenError::Nul, Place { row: 2, column: 0 }),
         ),
     ] {
-        refuses(&rt, rt.alloc(), text, given, refusal)?;
+        refuses(&rt, rt.alloc(), text, *given, *refusal)?;
     }
     Ok(())
 }

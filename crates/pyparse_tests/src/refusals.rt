@@ -21,7 +21,7 @@ fn refusal_of(alloc: Global, text: &str) -> Result<Option<Refusal>, Fail> {
 
 #[test]
 fn tokens_with_a_fault_of_their_own(rt: HostRuntime) -> Result<(), Fail> {
-    for (text, fault, row, column) in [
+    for (text, fault, row, column) in &[
         ("x = 1.5\n", TokenError::Float, 1, 4),
         ("match 1.5:\n", TokenError::Float, 1, 6),
         ("a + 1j\n", TokenError::Complex, 1, 4),
@@ -43,7 +43,13 @@ fn tokens_with_a_fault_of_their_own(rt: HostRuntime) -> Result<(), Fail> {
         // Before tabs and spaces, and before brackets.
         ("if x:\n        y\n\tz = 1.5\n", TokenError::Float, 3, 5),
     ] {
-        let expected = Refusal::Token(fault, Place { row, column });
+        let expected = Refusal::Token(
+            *fault,
+            Place {
+                row: *row,
+                column: *column,
+            },
+        );
         assert_eq!(rt;
             refusal_of(rt.alloc(), text)?,
             Some(expected),
@@ -68,21 +74,24 @@ fn the_fault_of_the_listing_before_all(rt: HostRuntime) -> Result<(), Fail> {
 
 #[test]
 fn tabs_and_spaces(rt: HostRuntime) -> Result<(), Fail> {
-    for (text, row, column) in [
+    for (text, row, column) in &[
         ("if x:\n        y\n\tz\n", 3, 1),
         ("if x:\n\ty\n        z\n", 3, 8),
         ("if x:\n  y\n\tz\n", 3, 1),
         ("if x:\n \ty\n\t z\n", 3, 2),
         ("if a:\n\tif b:\n\t        c\n        d\n", 4, 8),
     ] {
-        let expected = Refusal::MixedTabs(Place { row, column });
+        let expected = Refusal::MixedTabs(Place {
+            row: *row,
+            column: *column,
+        });
         assert_eq!(rt;
             refusal_of(rt.alloc(), text)?,
             Some(expected),
             "at {text:?}"
         );
     }
-    for text in ["if x:\n\ty\n\tz\n", "if x:\n    y\n\t# c\n    z\n"] {
+    for text in &["if x:\n\ty\n\tz\n", "if x:\n    y\n\t# c\n    z\n"] {
         assert_eq!(rt; refusal_of(rt.alloc(), text)?, None, "at {text:?}");
     }
     Ok(())

@@ -8,7 +8,7 @@ use std::test::Fail;
 #[test]
 fn terminals(rt: HostRuntime) {
     let alloc = rt.alloc();
-    for (kind, text, terminal) in [
+    for (kind, text, terminal) in &[
         (Kind::Name, "if", Terminal::Word(Keyword::If)),
         (Kind::Name, "match", Terminal::Ident("match")),
         (Kind::Name, "é_1", Terminal::Ident("é_1")),
@@ -17,14 +17,14 @@ fn terminals(rt: HostRuntime) {
         (Kind::Newline, "\n", Terminal::Layout),
         (Kind::Comment, "# c", Terminal::Layout),
     ] {
-        assert_eq!(rt; terminal_of(alloc, kind, text), Ok(terminal), "at {text}");
+        assert_eq!(rt; terminal_of(alloc, *kind, text), Ok(*terminal), "at {text}");
     }
 }
 
 #[test]
 fn faulty_tokens(rt: HostRuntime) {
     let alloc = rt.alloc();
-    for (kind, text, fault) in [
+    for (kind, text, fault) in &[
         (Kind::Name, "ｉｆ", TokenError::NameForm),
         (Kind::Number, "1j", TokenError::Complex),
         (Kind::String, "f''", TokenError::FString),
@@ -32,13 +32,13 @@ fn faulty_tokens(rt: HostRuntime) {
         (Kind::Comment, "# \0", TokenError::Nul),
     ] {
         assert_eq!(rt;
-            terminal_of(alloc, kind, text),
-            Err(TerminalFault::Token(fault)),
+            terminal_of(alloc, *kind, text),
+            Err(TerminalFault::Token(*fault)),
             "at {text}"
         );
         assert_eq!(rt;
-            token_fault(alloc, kind, text),
-            Ok(Some(fault)),
+            token_fault(alloc, *kind, text),
+            Ok(Some(*fault)),
             "at {text}"
         );
     }

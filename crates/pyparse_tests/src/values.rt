@@ -1,6 +1,8 @@
 //! What numbers, strings and names stand for.
 
-use pyparse::{Literal, name_fault, name_value, number_value, string_fault, string_value};
+use pyparse::{
+    Literal, identifier_value, name_fault, name_value, number_value, string_fault, string_value,
+};
 use pysource::{push_repr_bytes, push_repr_points};
 use pytoken::TokenError;
 use std::alloc::Global;
@@ -9,7 +11,7 @@ use std::test::Fail;
 
 #[test]
 fn numbers(rt: HostRuntime) {
-    for (text, value) in [
+    for (text, value) in &[
         ("0", 0),
         ("00_0", 0),
         ("12_345", 12345),
@@ -21,13 +23,13 @@ fn numbers(rt: HostRuntime) {
         ("0xffffffffffffffffffffffffffffffff", u128::MAX),
         ("0o3777777777777777777777777777777777777777777", u128::MAX),
     ] {
-        assert_eq!(rt; number_value(text), Ok(value), "at {text}");
+        assert_eq!(rt; number_value(text), Ok(*value), "at {text}");
     }
 }
 
 #[test]
 fn numbers_of_other_kinds(rt: HostRuntime) {
-    for (text, fault) in [
+    for (text, fault) in &[
         ("1.5", TokenError::Float),
         ("1e5", TokenError::Float),
         (".5", TokenError::Float),
@@ -44,7 +46,7 @@ fn numbers_of_other_kinds(rt: HostRuntime) {
             TokenError::IntegerTooLarge,
         ),
     ] {
-        assert_eq!(rt; number_value(text), Err(fault), "at {text}");
+        assert_eq!(rt; number_value(text), Err(*fault), "at {text}");
     }
 }
 
@@ -65,7 +67,7 @@ fn stands_for(rt: &impl Abort, alloc: Global, text: &str, expected: &str) -> Res
 
 #[test]
 fn strings(rt: HostRuntime) -> Result<(), Fail> {
-    for (text, expected) in [
+    for (text, expected) in &[
         ("''", "''"),
         ("'\\777'", "'ǿ'"),
         ("'\\1234'", "'S4'"),
@@ -89,7 +91,7 @@ fn strings(rt: HostRuntime) -> Result<(), Fail> {
 
 #[test]
 fn strings_with_a_fault(rt: HostRuntime) {
-    for (text, fault) in [
+    for (text, fault) in &[
         ("f''", TokenError::FString),
         ("fR'\\N'", TokenError::FString),
         ("'\\N{DASH}'", TokenError::NamedEscape),
@@ -101,7 +103,7 @@ fn strings_with_a_fault(rt: HostRuntime) {
         ("b'\\x4é'", TokenError::BadEscape),
         ("'\0'", TokenError::Nul),
     ] {
-        assert_eq!(rt; string_fault(text), Some(fault), "at {text}");
+        assert_eq!(rt; string_fault(text), Some(*fault), "at {text}");
     }
 }
 
@@ -109,7 +111,9 @@ fn strings_with_a_fault(rt: HostRuntime) {
 fn names(rt: HostRuntime) -> Result<(), Fail> {
     assert_eq!(rt; name_value(rt.alloc(), "ﬁ")?.as_str(), "fi");
     assert_eq!(rt; name_value(rt.alloc(), "plain")?.as_str(), "plain");
-    for text in ["ﬁ", "while", "é", "match"] {
+    assert_eq!(rt; identifier_value(rt.alloc(), "ﬁ")?.as_str(), "fi");
+    assert_eq!(rt; identifier_value(rt.alloc(), "plain")?.as_str(), "plain");
+    for text in &["ﬁ", "while", "é", "match"] {
         assert_eq!(rt; name_fault(rt.alloc(), text)?, None, "at {text}");
     }
     assert_eq!(rt; name_fault(rt.alloc(), "ｉｆ")?, Some(TokenError::NameForm));

@@ -1,10 +1,10 @@
-//! Whether two trees are equal: [`same`] tells whether their values (`pynode`'s `TreeOf`) are.
+//! Whether trees are equal: [`same_stmts`] tells whether the values (`pynode`'s `TreeOf`) of
+//! statements are.
 #![tactic(auto)]
 
 mod expressions;
 mod leaves;
-mod modules;
 mod parts;
 mod statements;
 
-pub use modules::same;
+pub use statements::same_stmts;

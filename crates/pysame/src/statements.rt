@@ -359,10 +359,11 @@ fn same_stmt(a: &Stmt, b: &Stmt) -> bool
     }
 }
 
-/// Whether the statements are equal, each with its own.
+/// Whether the statements are equal, each with its own: whether each node has the class and the
+/// fields of that.
 #[cycle(same)]
 #[tactic(auto, using(pynode::proofs::Callers::StmtShapes::stmt_shapes, crate::proofs::Members::stmt_members))]
-pub(crate) fn same_stmts(a: &[Stmt], b: &[Stmt]) -> bool
+pub fn same_stmts(a: &[Stmt], b: &[Stmt]) -> bool
     ensures { IsTrue result ↔ (map stmt_of a.now ≡ map stmt_of b.now) }
 {
     if a.len() != b.len() {

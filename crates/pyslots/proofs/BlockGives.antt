@@ -16,7 +16,7 @@ use Rattle.pygrammar.specs.Forms as F
 use Rattle.pygrammar.specs.Forms.{has_types, type_name}
 use Rattle.pygrammar.specs.Blocks.{handler, Block, Statement, Body, Otherwise, Excepts, Ending, Decorators, nothing, and_then, simple_line, if_statement, loop_statement, with_statement, try_finally, try_except, definition_of, indented, an_else, no_else, else_clause, no_except, except_clause, no_finally, finally_clause, no_decorator, decorator}
 use Rattle.pyslots.specs.Slots.{is_a_name, is_single, fits_at, fits_target, each_target_fits, each_fits, perhaps_fits, each_keyword_fits, fits_arguments}
-use Rattle.pyslots.specs.Statements.{has_one, has_stmt, source_fits, imports_fit, item_fits, type_param_fits, import_fits, types_fit, caught_fits, clauses_fit, statement_fits, statements_fit, handlers_fit}
+use Rattle.pyslots.specs.Statements.{has_one, has_stmt, source_fits, imports_fit, item_fits, type_param_fits, import_fits, types_fit, caught_fits, clauses_fit, statement_fits, statements_fit, suite_fits, handlers_fit}
 use Rattle.pyslots.specs.Given.{Given, AreGiven, no_line, a_line}
 use Rattle.pyslots.proofs.Tests.{parts3, parts4, pass_on, never}
 use Rattle.pyslots.proofs.Places as P
@@ -32,10 +32,6 @@ parts5 false y z u v h = absurd (cc)
 pub parts6 : (x y z u v w : Bool) → (x && y && z && u && v && w) ≡ true → (x ≡ true) × (y ≡ true) × (z ≡ true) × (u ≡ true) × (v ≡ true) × (w ≡ true)
 parts6 true y z u v w h = let o = parts5 y z u v w h in (refl, o.0, o.1, o.2, o.3, o.4)
 parts6 false y z u v w h = absurd (cc)
-
-pub parts7 : (x y z u v w o : Bool) → (x && y && z && u && v && w && o) ≡ true → (x ≡ true) × (y ≡ true) × (z ≡ true) × (u ≡ true) × (v ≡ true) × (w ≡ true) × (o ≡ true)
-parts7 true y z u v w o h = let k = parts6 y z u v w o h in (refl, k.0, k.1, k.2, k.3, k.4, k.5)
-parts7 false y z u v w o h = absurd (cc)
 
 -- ---- The statements of a tree's list.
 
@@ -263,17 +259,24 @@ module _ (p : Profile) (n : Identifier → Bool) (typed : n type_name ≡ true) 
 
   -- ---- All classes.
 
+  suite_parts : (ss : Stmts) → suite_fits p n ss ≡ true → (has_stmt ss ≡ true) × (statements_fit p n ss ≡ true)
+  suite_parts no_stmt h = absurd (never h)
+  suite_parts (a_stmt s ss) h = (refl, h)
+
   mutual
     drawn : (l : ℕ) (s : Stmt) → statement_fits p n s ≡ true → Drawn l s
     drawn l (Trees.FunctionDef x a body es r ps) h =
-        let w = parts7 (n x) (fits_arguments n true a) (each_fits n Expression (exprs es)) (perhaps_fits n Expression (optional r)) (types_fit p n ps) (has_stmt body) (statements_fit p n body) h in
-        definition_drawn l es (function_head false x ps a r) body w.2 (function_given n p false x ps a r w.0 w.4 w.1 w.3) w.5 (drawn_all (suc l) body w.6)
+        let w = parts6 (n x) (fits_arguments n true a) (each_fits n Expression (exprs es)) (perhaps_fits n Expression (optional r)) (types_fit p n ps) (suite_fits p n body) h in
+        let u = suite_parts body w.5 in
+        definition_drawn l es (function_head false x ps a r) body w.2 (function_given n p false x ps a r w.0 w.4 w.1 w.3) u.0 (drawn_all (suc l) body u.1)
     drawn l (Trees.AsyncFunctionDef x a body es r ps) h =
-        let w = parts7 (n x) (fits_arguments n true a) (each_fits n Expression (exprs es)) (perhaps_fits n Expression (optional r)) (types_fit p n ps) (has_stmt body) (statements_fit p n body) h in
-        definition_drawn l es (function_head true x ps a r) body w.2 (function_given n p true x ps a r w.0 w.4 w.1 w.3) w.5 (drawn_all (suc l) body w.6)
+        let w = parts6 (n x) (fits_arguments n true a) (each_fits n Expression (exprs es)) (perhaps_fits n Expression (optional r)) (types_fit p n ps) (suite_fits p n body) h in
+        let u = suite_parts body w.5 in
+        definition_drawn l es (function_head true x ps a r) body w.2 (function_given n p true x ps a r w.0 w.4 w.1 w.3) u.0 (drawn_all (suc l) body u.1)
     drawn l (Trees.ClassDef x bases ks body es ps) h =
-        let w = parts7 (n x) (each_fits n Elem (exprs bases)) (each_keyword_fits n ks) (each_fits n Expression (exprs es)) (types_fit p n ps) (has_stmt body) (statements_fit p n body) h in
-        definition_drawn l es (class_head x ps bases ks) body w.3 (class_given n p x ps bases ks w.0 w.4 (and_from (each_fits n Elem (exprs bases)) (each_keyword_fits n ks) w.1 w.2)) w.5 (drawn_all (suc l) body w.6)
+        let w = parts6 (n x) (each_fits n Elem (exprs bases)) (each_keyword_fits n ks) (each_fits n Expression (exprs es)) (types_fit p n ps) (suite_fits p n body) h in
+        let u = suite_parts body w.5 in
+        definition_drawn l es (class_head x ps bases ks) body w.3 (class_given n p x ps bases ks w.0 w.4 (and_from (each_fits n Elem (exprs bases)) (each_keyword_fits n ks) w.1 w.2)) u.0 (drawn_all (suc l) body u.1)
     drawn l (Trees.Return e) h = simply l (Trees.Return e) (return_given n p e h)
     drawn l (Trees.Delete es) h = let w = and_parts (has_one es) (each_target_fits n Del (exprs es)) h in simply l (Trees.Delete es) (delete_given n p es w.0 w.1)
     drawn l (Trees.Assign ts e) h =
@@ -287,30 +290,38 @@ module _ (p : Profile) (n : Identifier → Bool) (typed : n type_name ≡ true) 
         let w = parts5 (is_single t) (not simple || is_a_name t) (fits_target n Store t) (fits_at n Expression a) (perhaps_fits n Value (optional v)) h in
         simply l (Trees.AnnAssign t a v simple) (annotated_given n p t a v simple (and_from (is_single t) (fits_target n Store t) w.0 w.2) w.1 w.3 w.4)
     drawn l (Trees.For t e body orelse) h =
-        let w = parts5 (fits_target n Store t) (fits_at n Stars e) (has_stmt body) (statements_fit p n body) (statements_fit p n orelse) h in
-        loop_drawn l (for_head false t e) body orelse (for_given n p false t e w.0 w.1) w.2 (drawn_all (suc l) body w.3) (drawn_all (suc l) orelse w.4)
+        let w = parts4 (fits_target n Store t) (fits_at n Stars e) (suite_fits p n body) (statements_fit p n orelse) h in
+        let u = suite_parts body w.2 in
+        loop_drawn l (for_head false t e) body orelse (for_given n p false t e w.0 w.1) u.0 (drawn_all (suc l) body u.1) (drawn_all (suc l) orelse w.3)
     drawn l (Trees.AsyncFor t e body orelse) h =
-        let w = parts5 (fits_target n Store t) (fits_at n Stars e) (has_stmt body) (statements_fit p n body) (statements_fit p n orelse) h in
-        loop_drawn l (for_head true t e) body orelse (for_given n p true t e w.0 w.1) w.2 (drawn_all (suc l) body w.3) (drawn_all (suc l) orelse w.4)
+        let w = parts4 (fits_target n Store t) (fits_at n Stars e) (suite_fits p n body) (statements_fit p n orelse) h in
+        let u = suite_parts body w.2 in
+        loop_drawn l (for_head true t e) body orelse (for_given n p true t e w.0 w.1) u.0 (drawn_all (suc l) body u.1) (drawn_all (suc l) orelse w.3)
     drawn l (Trees.While e body orelse) h =
-        let w = parts4 (fits_at n Expression e) (has_stmt body) (statements_fit p n body) (statements_fit p n orelse) h in
-        loop_drawn l (while_head e) body orelse (while_given n p e w.0) w.1 (drawn_all (suc l) body w.2) (drawn_all (suc l) orelse w.3)
+        let w = parts3 (fits_at n Expression e) (suite_fits p n body) (statements_fit p n orelse) h in
+        let u = suite_parts body w.1 in
+        loop_drawn l (while_head e) body orelse (while_given n p e w.0) u.0 (drawn_all (suc l) body u.1) (drawn_all (suc l) orelse w.2)
     drawn l (Trees.If e body orelse) h =
-        let w = parts4 (fits_at n Expression e) (has_stmt body) (statements_fit p n body) (statements_fit p n orelse) h in
-        if_drawn l e body orelse w.0 w.1 (drawn_all (suc l) body w.2) (drawn_all (suc l) orelse w.3)
+        let w = parts3 (fits_at n Expression e) (suite_fits p n body) (statements_fit p n orelse) h in
+        let u = suite_parts body w.1 in
+        if_drawn l e body orelse w.0 u.0 (drawn_all (suc l) body u.1) (drawn_all (suc l) orelse w.2)
     drawn l (Trees.With is body) h =
-        let w = parts4 (has_one is) (list_all (item_fits n) is) (has_stmt body) (statements_fit p n body) h in
-        with_drawn l false is body w.0 w.1 w.2 (drawn_all (suc l) body w.3)
+        let w = parts3 (has_one is) (list_all (item_fits n) is) (suite_fits p n body) h in
+        let u = suite_parts body w.2 in
+        with_drawn l false is body w.0 w.1 u.0 (drawn_all (suc l) body u.1)
     drawn l (Trees.AsyncWith is body) h =
-        let w = parts4 (has_one is) (list_all (item_fits n) is) (has_stmt body) (statements_fit p n body) h in
-        with_drawn l true is body w.0 w.1 w.2 (drawn_all (suc l) body w.3)
+        let w = parts3 (has_one is) (list_all (item_fits n) is) (suite_fits p n body) h in
+        let u = suite_parts body w.2 in
+        with_drawn l true is body w.0 w.1 u.0 (drawn_all (suc l) body u.1)
     drawn l (Trees.Raise e c) h = simply l (Trees.Raise e c) (raise_given n p e c h)
     drawn l (Trees.Try body hs orelse final) h =
-        let w = parts6 (clauses_fit false hs orelse final) (has_stmt body) (statements_fit p n body) (handlers_fit p n false hs) (statements_fit p n orelse) (statements_fit p n final) h in
-        try_drawn l false body hs orelse final w.0 w.1 (drawn_all (suc l) body w.2) (caught l false hs w.3) (drawn_all (suc l) orelse w.4) (drawn_all (suc l) final w.5)
+        let w = parts5 (clauses_fit false hs orelse final) (suite_fits p n body) (handlers_fit p n false hs) (statements_fit p n orelse) (statements_fit p n final) h in
+        let u = suite_parts body w.1 in
+        try_drawn l false body hs orelse final w.0 u.0 (drawn_all (suc l) body u.1) (caught l false hs w.2) (drawn_all (suc l) orelse w.3) (drawn_all (suc l) final w.4)
     drawn l (Trees.TryStar body hs orelse final) h =
-        let w = parts6 (clauses_fit true hs orelse final) (has_stmt body) (statements_fit p n body) (handlers_fit p n true hs) (statements_fit p n orelse) (statements_fit p n final) h in
-        try_drawn l true body hs orelse final w.0 w.1 (drawn_all (suc l) body w.2) (caught l true hs w.3) (drawn_all (suc l) orelse w.4) (drawn_all (suc l) final w.5)
+        let w = parts5 (clauses_fit true hs orelse final) (suite_fits p n body) (handlers_fit p n true hs) (statements_fit p n orelse) (statements_fit p n final) h in
+        let u = suite_parts body w.1 in
+        try_drawn l true body hs orelse final w.0 u.0 (drawn_all (suc l) body u.1) (caught l true hs w.2) (drawn_all (suc l) orelse w.3) (drawn_all (suc l) final w.4)
     drawn l (Trees.Assert e m) h = let w = and_parts (fits_at n Expression e) (perhaps_fits n Expression (optional m)) h in simply l (Trees.Assert e m) (assert_given n p e m w.0 w.1)
     drawn l (Trees.Import as_) h = let w = and_parts (has_one as_) (list_all (import_fits n) as_) h in simply l (Trees.Import as_) (import_given n p as_ w.0 w.1)
     drawn l (Trees.ImportFrom m as_ k) h = let w = and_parts (source_fits n m k) (imports_fit n as_) h in simply l (Trees.ImportFrom m as_ k) (import_from_given n p m as_ k w.0 w.1)
@@ -332,11 +343,12 @@ module _ (p : Profile) (n : Identifier → Bool) (typed : n type_name ≡ true) 
     caught : (l : ℕ) (star : Bool) (hs : Handlers) → handlers_fit p n star hs ≡ true → Caught l star hs
     caught l star no_handler h = record { lines = []; given = no_line; is = no_except }
     caught l star (a_handler class name body hs) h =
-        let w = parts4 (caught_fits n star class name) (has_stmt body) (statements_fit p n body) (handlers_fit p n star hs) h in
-        let b = drawn_all (suc l) body w.2 in
-        let r = caught l star hs w.3 in
+        let w = parts3 (caught_fits n star class name) (suite_fits p n body) (handlers_fit p n star hs) h in
+        let u = suite_parts body w.1 in
+        let b = drawn_all (suc l) body u.1 in
+        let r = caught l star hs w.2 in
         record {
           lines = line l (header_form (except_header star class name) None) ∷ (b.lines ++ r.lines);
           given = headed l (except_header star class name) (except_given n p star class name w.0) (given_on b.given r.given);
-          is = except_clause (body_of w.1 b) r.is;
+          is = except_clause (body_of u.0 b) r.is;
         }

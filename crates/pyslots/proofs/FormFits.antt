@@ -46,14 +46,14 @@ header_fits p n (def_header (function_head is_async name parameters args returns
 header_fits p n (def_header (class_head name parameters bases keywords)) =
     n name && each_fits n Elem (exprs bases) && each_keyword_fits n keywords && types_fit p n parameters
 
-abbrev pub suite_fits : Profile → (Identifier → Bool) → List Stmt → Bool
-suite_fits p n ss = has_one ss && statements_fit p n (stmts ss)
+abbrev pub inline_fits : Profile → (Identifier → Bool) → List Stmt → Bool
+inline_fits p n ss = has_one ss && statements_fit p n (stmts ss)
 
 abbrev pub form_fits : Profile → (Identifier → Bool) → Form → Bool
-form_fits p n (simple_form ss) = suite_fits p n ss
+form_fits p n (simple_form ss) = inline_fits p n ss
 form_fits p n (decorator_form e) = fits_at n Expression e
 form_fits p n (header_form h None) = header_fits p n h
-form_fits p n (header_form h (Some ss)) = header_fits p n h && suite_fits p n ss
+form_fits p n (header_form h (Some ss)) = header_fits p n h && inline_fits p n ss
 
 -- ---- Lists with commas.
 
@@ -187,7 +187,7 @@ module _ (n : Identifier → Bool) where
     simple (F.from_dots {ts = ts} {vs = vs} {n = k} {as_ = xs} d h c) s =
         and_from (nat_lt 0 k) (imports_fit n xs) (lt-ltb 0 k h) (names_fit c (right n ts (Word Key.Import ∷ vs) s))
 
-    pub simples : {profile : Profile} {ts : List Terminal} {ss : List Stmt} → F.Simples profile ts ss → all_pass n ts ≡ true → suite_fits profile n ss ≡ true
+    pub simples : {profile : Profile} {ts : List Terminal} {ss : List Stmt} → F.Simples profile ts ss → all_pass n ts ≡ true → inline_fits profile n ss ≡ true
     simples {profile} (F.last_simple {s = t} p) s = and_from (statement_fits profile n t) true (simple p s) refl
     simples {profile} (F.ended_simple {ts = ts} {s = t} p) s = and_from (statement_fits profile n t) true (simple p (left n ts (Op Sign.Semi ∷ []) s)) refl
     simples {profile} (F.more_simples {ts = ts} {us = us} {s = t} {ss = ss} p q) s =
@@ -247,4 +247,4 @@ module _ (n : Identifier → Bool) where
     form (F.decorator_line {e = e} p) s = plain n Named e refl (slots n p s)
     form (F.header_line {ts = ts} p) s = header p (left n ts (Op Sign.Colon ∷ []) s)
     form {profile} (F.header_suite {ts = ts} {us = us} {h = h} {ss = ss} p q) s =
-        and_from (header_fits profile n h) (suite_fits profile n ss) (header p (left n ts (Op Sign.Colon ∷ us) s)) (simples q (right n ts (Op Sign.Colon ∷ us) s))
+        and_from (header_fits profile n h) (inline_fits profile n ss) (header p (left n ts (Op Sign.Colon ∷ us) s)) (simples q (right n ts (Op Sign.Colon ∷ us) s))

@@ -1,3 +1,4 @@
+pub mod Callers
 mod Tests
 mod Levels
 mod Entries
@@ -9,7 +10,7 @@ mod Making
 mod Calls
 mod Parameters
 mod Gives
-pub mod Exactly
+mod Exactly
 mod Dots
 mod FormFits
 mod BlockFits

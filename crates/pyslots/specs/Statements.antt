@@ -105,13 +105,13 @@ abbrev mutual
   pub statement_fits : Profile → (Identifier → Bool) → Stmt → Bool
   statement_fits p n (Trees.FunctionDef name args body decorators returns parameters) =
       n name && fits_arguments n true args && each_fits n Expression (exprs decorators) && perhaps_fits n Expression (optional returns)
-      && types_fit p n parameters && has_stmt body && statements_fit p n body
+      && types_fit p n parameters && suite_fits p n body
   statement_fits p n (Trees.AsyncFunctionDef name args body decorators returns parameters) =
       n name && fits_arguments n true args && each_fits n Expression (exprs decorators) && perhaps_fits n Expression (optional returns)
-      && types_fit p n parameters && has_stmt body && statements_fit p n body
+      && types_fit p n parameters && suite_fits p n body
   statement_fits p n (Trees.ClassDef name bases keywords body decorators parameters) =
       n name && each_fits n Elem (exprs bases) && each_keyword_fits n keywords && each_fits n Expression (exprs decorators)
-      && types_fit p n parameters && has_stmt body && statements_fit p n body
+      && types_fit p n parameters && suite_fits p n body
   statement_fits p n (Trees.Return value) = perhaps_fits n Stars (optional value)
   statement_fits p n (Trees.Delete targets) = has_one targets && each_target_fits n Del (exprs targets)
   statement_fits p n (Trees.Assign targets value) = has_one targets && each_target_fits n Store (exprs targets) && fits_at n Value value
@@ -122,19 +122,19 @@ abbrev mutual
       is_single target && (not simple || is_a_name target) && fits_target n Store target && fits_at n Expression annotation
       && perhaps_fits n Value (optional value)
   statement_fits p n (Trees.For target iter body orelse) =
-      fits_target n Store target && fits_at n Stars iter && has_stmt body && statements_fit p n body && statements_fit p n orelse
+      fits_target n Store target && fits_at n Stars iter && suite_fits p n body && statements_fit p n orelse
   statement_fits p n (Trees.AsyncFor target iter body orelse) =
-      fits_target n Store target && fits_at n Stars iter && has_stmt body && statements_fit p n body && statements_fit p n orelse
-  statement_fits p n (Trees.While test body orelse) = fits_at n Expression test && has_stmt body && statements_fit p n body && statements_fit p n orelse
-  statement_fits p n (Trees.If test body orelse) = fits_at n Expression test && has_stmt body && statements_fit p n body && statements_fit p n orelse
-  statement_fits p n (Trees.With items body) = has_one items && list_all (item_fits n) items && has_stmt body && statements_fit p n body
-  statement_fits p n (Trees.AsyncWith items body) = has_one items && list_all (item_fits n) items && has_stmt body && statements_fit p n body
+      fits_target n Store target && fits_at n Stars iter && suite_fits p n body && statements_fit p n orelse
+  statement_fits p n (Trees.While test body orelse) = fits_at n Expression test && suite_fits p n body && statements_fit p n orelse
+  statement_fits p n (Trees.If test body orelse) = fits_at n Expression test && suite_fits p n body && statements_fit p n orelse
+  statement_fits p n (Trees.With items body) = has_one items && list_all (item_fits n) items && suite_fits p n body
+  statement_fits p n (Trees.AsyncWith items body) = has_one items && list_all (item_fits n) items && suite_fits p n body
   statement_fits p n (Trees.Raise exc cause) = raised_fits n exc cause
   statement_fits p n (Trees.Try body handlers orelse finalbody) =
-      clauses_fit false handlers orelse finalbody && has_stmt body && statements_fit p n body && handlers_fit p n false handlers
+      clauses_fit false handlers orelse finalbody && suite_fits p n body && handlers_fit p n false handlers
       && statements_fit p n orelse && statements_fit p n finalbody
   statement_fits p n (Trees.TryStar body handlers orelse finalbody) =
-      clauses_fit true handlers orelse finalbody && has_stmt body && statements_fit p n body && handlers_fit p n true handlers
+      clauses_fit true handlers orelse finalbody && suite_fits p n body && handlers_fit p n true handlers
       && statements_fit p n orelse && statements_fit p n finalbody
   statement_fits p n (Trees.Assert test msg) = fits_at n Expression test && perhaps_fits n Expression (optional msg)
   statement_fits p n (Trees.Import names) = has_one names && list_all (import_fits n) names
@@ -150,10 +150,15 @@ abbrev mutual
   statements_fit p n no_stmt = true
   statements_fit p n (a_stmt s ss) = statement_fits p n s && statements_fit p n ss
 
+  -- the block of a header: there is a statement
+  pub suite_fits : Profile → (Identifier → Bool) → Stmts → Bool
+  suite_fits p n no_stmt = false
+  suite_fits p n (a_stmt s ss) = statement_fits p n s && statements_fit p n ss
+
   pub handlers_fit : Profile → (Identifier → Bool) → (star : Bool) → Handlers → Bool
   handlers_fit p n star no_handler = true
   handlers_fit p n star (a_handler class name body hs) =
-      caught_fits n star class name && has_stmt body && statements_fit p n body && handlers_fit p n star hs
+      caught_fits n star class name && suite_fits p n body && handlers_fit p n star hs
 
 -- the statements of a module
 abbrev pub module_fits : Profile → (Identifier → Bool) → Module → Bool

@@ -1,6 +1,9 @@
 //! The encoding that the first two lines declare, as Python 3.11 finds it.
 
+use crate::expected::{same_number, same_text};
 use pysource::{Charset, Encoding, SourceFault, encoding_of, place_of};
+use std::alloc::Global;
+use std::process::Abort;
 use std::test::Fail;
 
 /// What was found: the name, or the fault with its row and column.
@@ -13,9 +16,18 @@ fn told(found: &Result<Encoding, SourceFault>) -> (&str, usize, usize) {
     }
 }
 
+/// Asserts what two lines declare.
+fn finds(rt: &impl Abort, first: &[u8], second: &[u8], expected: (&str, usize, usize)) {
+    let found = encoding_of(first, second);
+    let (name, row, column) = told(&found);
+    same_text(rt, name, expected.0, first);
+    same_number(rt, row, expected.1, first);
+    same_number(rt, column, expected.2, first);
+}
+
 #[test]
 fn finds_encodings(rt: HostRuntime) -> Result<(), Fail> {
-    let rows: [(&[u8], &[u8], (&str, usize, usize)); 18] = [
+    let rows: &[(&[u8], &[u8], (&str, usize, usize))] = &[
         (b"", b"", ("utf-8", 0, 0)),
         (b"# coding: US_ASCII\n", b"", ("US_ASCII", 0, 0)),
         (b"# coding: UTF-8-SIG\n", b"", ("utf-8", 0, 0)),
@@ -48,10 +60,17 @@ fn finds_encodings(rt: HostRuntime) -> Result<(), Fail> {
         (b"\n", b"#coding=ASCII", ("ASCII", 0, 0)),
     ];
     for (first, second, expected) in rows {
-        let found = encoding_of(first, second);
-        assert_eq!(rt; told(&found), expected, "at {first:?} and {second:?}");
+        finds(&rt, first, second, *expected);
     }
     Ok(())
+}
+
+/// Asserts the charset that a line declares.
+fn has_charset(rt: &impl Abort, first: &[u8], charset: Charset) {
+    match encoding_of(first, b"") {
+        Ok(encoding) => assert_eq!(rt; encoding.charset(), charset, "at {first:?}"),
+        Err(_) => assert!(rt; false, "at {first:?}"),
+    }
 }
 
 #[test]
@@ -61,11 +80,15 @@ fn tells_charsets(rt: HostRuntime) -> Result<(), Fail> {
         (b"# coding: utf8\n".as_slice(), Charset::Utf8),
         (b"# coding: US_ASCII\n".as_slice(), Charset::Ascii),
     ] {
-        match encoding_of(first, b"") {
-            Ok(encoding) => assert_eq!(rt; encoding.charset(), charset, "at {first:?}"),
-            Err(_) => assert!(rt; false, "at {first:?}"),
-        }
+        has_charset(&rt, first, charset);
     }
+    Ok(())
+}
+
+/// Asserts how a fault is told.
+fn tells(rt: &impl Abort, alloc: Global, fault: SourceFault, text: &str) -> Result<(), Fail> {
+    let shown = format!(in alloc; "{fault}")?;
+    same_text(rt, shown.as_str(), text, b"");
     Ok(())
 }
 
@@ -83,8 +106,7 @@ fn names_faults(rt: HostRuntime) -> Result<(), Fail> {
         ),
         (SourceFault::Memory, "out of memory"),
     ] {
-        let shown = format!(in rt.alloc(); "{fault}")?;
-        assert_eq!(rt; shown.as_str(), text);
+        tells(&rt, rt.alloc(), fault, text)?;
     }
     Ok(())
 }

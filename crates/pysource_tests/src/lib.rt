@@ -7,6 +7,8 @@ mod bytes;
 #[cfg(test)]
 mod encodings;
 #[cfg(test)]
+mod expected;
+#[cfg(test)]
 mod places;
 #[cfg(test)]
 mod reprs;

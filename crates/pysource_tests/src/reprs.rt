@@ -1,13 +1,32 @@
 //! What Python's `repr` writes.
 
+use crate::expected::{same_answer, same_bytes, same_text};
 use pysource::{
     is_plain_text, push_repr, push_repr_bytes, push_repr_points, repr_bytes, repr_text,
 };
+use std::alloc::Global;
+use std::process::Abort;
 use std::test::Fail;
+
+/// Asserts how a text is shown, behind others.
+fn shows(rt: &impl Abort, alloc: Global, text: &str, expected: &str) -> Result<(), Fail> {
+    let mut out = String::from_str(alloc, "> ")?;
+    push_repr(&mut out, text)?;
+    assert!(rt; out.as_str().starts_with("> "));
+    same_bytes(rt, &out.as_bytes()[2..], expected.as_bytes(), text);
+    Ok(())
+}
+
+/// Asserts how halves of characters are shown.
+fn shows_points(rt: &impl Abort, alloc: Global) -> Result<(), Fail> {
+    let halves = repr_text(alloc, &[0xD800, 0x27])?;
+    same_text(rt, halves.as_str(), "\"\\ud800'\"", b"halves");
+    Ok(())
+}
 
 #[test]
 fn shows_texts(rt: HostRuntime) -> Result<(), Fail> {
-    for (text, expected) in [
+    for (text, expected) in &[
         ("", "''"),
         ("a b~", "'a b~'"),
         ("it's", "\"it's\""),
@@ -25,13 +44,15 @@ fn shows_texts(rt: HostRuntime) -> Result<(), Fail> {
         ("\u{10FFFF}", "'\\U0010ffff'"),
         ("'''doc\nline'''", "\"'''doc\\nline'''\""),
     ] {
-        let mut out = String::from_str(rt.alloc(), "> ")?;
-        push_repr(&mut out, text)?;
-        assert!(rt; out.as_str().starts_with("> "));
-        assert_eq!(rt; &out.as_bytes()[2..], expected.as_bytes(), "at {text:?}");
+        shows(&rt, rt.alloc(), text, expected)?;
     }
-    let halves = repr_text(rt.alloc(), &[0xD800, 0x27])?;
-    assert_eq!(rt; halves.as_str(), "\"\\ud800'\"");
+    shows_points(&rt, rt.alloc())
+}
+
+/// Asserts how bytes are shown.
+fn shows_as(rt: &impl Abort, alloc: Global, bytes: &[u8], expected: &str) -> Result<(), Fail> {
+    let text = repr_bytes(alloc, bytes)?;
+    same_text(rt, text.as_str(), expected, bytes);
     Ok(())
 }
 
@@ -45,8 +66,7 @@ fn shows_bytes(rt: HostRuntime) -> Result<(), Fail> {
             "b'\\t\\n\\r\\\\\\x7f\\xff~ \\'\"'",
         ),
     ] {
-        let text = repr_bytes(rt.alloc(), bytes)?;
-        assert_eq!(rt; text.as_str(), expected, "at {bytes:?}");
+        shows_as(&rt, rt.alloc(), bytes, expected)?;
     }
     Ok(())
 }
@@ -56,14 +76,15 @@ fn appends_points_and_bytes(rt: HostRuntime) -> Result<(), Fail> {
     let mut out = String::from_str(rt.alloc(), "> ")?;
     push_repr_points(&mut out, &[0xD800, 0x27, 0x11_0000])?;
     push_repr_bytes(&mut out, b"\x00'")?;
-    assert_eq!(rt; out.as_str(), "> \"\\ud800'\\U00110000\"b\"\\x00'\"");
+    let expected = "> \"\\ud800'\\U00110000\"b\"\\x00'\"";
+    same_text(&rt, out.as_str(), expected, b"points");
     Ok(())
 }
 
 #[test]
 fn tells_plain_texts(rt: HostRuntime) -> Result<(), Fail> {
-    for (text, plain) in [("", true), ("a b~", true), ("it's", false), ("\\", false)] {
-        assert_eq!(rt; is_plain_text(text), plain, "at {text:?}");
+    for (text, plain) in &[("", true), ("a b~", true), ("it's", false), ("\\", false)] {
+        same_answer(&rt, is_plain_text(text), *plain, text);
     }
     Ok(())
 }

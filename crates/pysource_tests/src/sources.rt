@@ -1,11 +1,46 @@
 //! The text of a source, and the fault that ends it.
 
-use pysource::{LineError, SourceFault, decode};
+use crate::expected::{same_number, same_text};
+use pysource::{LineError, Source, SourceFault, decode};
+use std::alloc::Global;
+use std::process::Abort;
 use std::test::Fail;
+
+/// Asserts the fault that ends the text of a source.
+fn ends_with(
+    rt: &impl Abort,
+    source: &Source,
+    fault: Option<(LineError, usize, usize)>,
+    bytes: &[u8],
+) {
+    let found = source.line_fault();
+    let found = found.map(|fault| (fault.code, fault.place.row, fault.place.column));
+    assert_eq!(rt; found, fault, "at {bytes:?}");
+}
+
+/// Asserts the encoding and the text of a source, and the fault that ends it.
+fn decodes_as(
+    rt: &impl Abort,
+    alloc: Global,
+    bytes: &[u8],
+    name: &str,
+    text: &str,
+    fault: Option<(LineError, usize, usize)>,
+) {
+    assert!(rt; bytes.len() < 100);
+    match decode(alloc, bytes) {
+        Ok(source) => {
+            same_text(rt, source.encoding().text(), name, bytes);
+            same_text(rt, source.text(), text, bytes);
+            ends_with(rt, &source, fault, bytes);
+        }
+        Err(_) => assert!(rt; false, "at {bytes:?}"),
+    }
+}
 
 #[test]
 fn decodes(rt: HostRuntime) -> Result<(), Fail> {
-    let rows: [(&[u8], &str, &str, Option<(LineError, usize, usize)>); 11] = [
+    let rows: &[(&[u8], &str, &str, Option<(LineError, usize, usize)>)] = &[
         (b"", "utf-8", "", None),
         (b"\xEF\xBB\xBFx\r\ny", "utf-8", "x\r\ny", None),
         (
@@ -59,19 +94,21 @@ fn decodes(rt: HostRuntime) -> Result<(), Fail> {
         ),
     ];
     for (bytes, name, text, fault) in rows {
-        assert!(rt; bytes.len() < 100);
-        match decode(rt.alloc(), bytes) {
-            Ok(source) => {
-                assert_eq!(rt; source.encoding().text(), name, "at {bytes:?}");
-                assert_eq!(rt; source.text(), text, "at {bytes:?}");
-                let found = source.line_fault();
-                let found = found.map(|fault| (fault.code, fault.place.row, fault.place.column));
-                assert_eq!(rt; found, fault, "at {bytes:?}");
-            }
-            Err(_) => assert!(rt; false, "at {bytes:?}"),
-        }
+        decodes_as(&rt, rt.alloc(), bytes, name, text, *fault);
     }
     Ok(())
+}
+
+/// Asserts that the encoding that a row declares is refused.
+fn refuses(rt: &impl Abort, alloc: Global, bytes: &[u8], row: usize) {
+    assert!(rt; bytes.len() < 100);
+    match decode(alloc, bytes) {
+        Err(SourceFault::UnsupportedEncoding(place)) => {
+            same_number(rt, place.row, row, bytes);
+            same_number(rt, place.column, 0, bytes);
+        }
+        _ => assert!(rt; false, "at {bytes:?}"),
+    }
 }
 
 #[test]
@@ -81,13 +118,7 @@ fn refuses_sources(rt: HostRuntime) -> Result<(), Fail> {
         (b"# \xFF\n# coding: latin-1\n".as_slice(), 2),
         (b"# coding: latin-1\r\n".as_slice(), 1),
     ] {
-        assert!(rt; bytes.len() < 100);
-        match decode(rt.alloc(), bytes) {
-            Err(SourceFault::UnsupportedEncoding(place)) => {
-                assert_eq!(rt; (place.row, place.column), (row, 0), "at {bytes:?}");
-            }
-            _ => assert!(rt; false, "at {bytes:?}"),
-        }
+        refuses(&rt, rt.alloc(), bytes, row);
     }
     Ok(())
 }

@@ -1,8 +1,10 @@
 //! Lines as readers give them, and the reads that fail in mid-stream.
 
+use crate::expected::{same_count, same_line, same_number, same_text};
 use fakes::FakeReader;
 use pysource::{ByteIn, Chunks, Counted, Line, LineError, LineReader, StreamFault};
 use std::alloc::Global;
+use std::process::Abort;
 use std::test::Fail;
 
 /// What an answer is called.
@@ -29,6 +31,17 @@ fn refusal(fault: &StreamFault) -> &'static str {
     }
 }
 
+/// Appends what an answer is called, and where a fault stands.
+fn push_answer(alloc: Global, told: &mut String, line: Line) -> Result<(), Fail> {
+    told.push_str(" | ")?;
+    told.push_str(name(&line))?;
+    if let Line::Fault(fault) = line {
+        let place = format!(in alloc; " {} {}", fault.place.row, fault.place.column)?;
+        told.push_str(place.as_str())?;
+    }
+    Ok(())
+}
+
 /// The encoding, and each of `calls` answers with the text so far behind it.
 fn told(alloc: Global, bytes: &[u8], fails: bool, calls: usize) -> Result<String, Fail> {
     let mut reader = FakeReader::new(bytes, 1, fails);
@@ -44,21 +57,30 @@ fn told(alloc: Global, bytes: &[u8], fails: bool, calls: usize) -> Result<String
             break;
         }
         let line = lines.next_line(&mut reader, &mut chunk)?;
-        told.push_str(" | ")?;
-        told.push_str(name(&line))?;
-        if let Line::Fault(fault) = line {
-            let place = format!(in alloc; " {} {}", fault.place.row, fault.place.column)?;
-            told.push_str(place.as_str())?;
-        }
+        push_answer(alloc, &mut told, line)?;
     }
     told.push_str(" | ")?;
     told.push_str(chunk.as_str())?;
     Ok(told)
 }
 
+/// Asserts the answers of a source.
+fn gives(
+    rt: &impl Abort,
+    alloc: Global,
+    bytes: &[u8],
+    fails: bool,
+    calls: usize,
+    expected: &str,
+) -> Result<(), Fail> {
+    let told = told(alloc, bytes, fails, calls)?;
+    same_text(rt, told.as_str(), expected, bytes);
+    Ok(())
+}
+
 #[test]
 fn gives_lines(rt: HostRuntime) -> Result<(), Fail> {
-    let rows: [(&[u8], bool, usize, &str); 22] = [
+    let rows: &[(&[u8], bool, usize, &str)] = &[
         (b"", false, 2, "utf-8 | end | end | "),
         (b"a\nb", false, 1, "utf-8 | text | a\n"),
         (b"a\nb", false, 4, "utf-8 | text | text | end | end | a\nb"),
@@ -118,9 +140,41 @@ fn gives_lines(rt: HostRuntime) -> Result<(), Fail> {
         ),
     ];
     for (bytes, fails, calls, expected) in rows {
-        let told = told(rt.alloc(), bytes, fails, calls)?;
-        assert_eq!(rt; told.as_str(), expected, "at {bytes:?}");
+        gives(&rt, rt.alloc(), bytes, *fails, *calls, expected)?;
     }
+    Ok(())
+}
+
+/// The next line is a text of so many bytes.
+fn gives_text(
+    rt: &impl Abort,
+    alloc: Global,
+    lines: &mut Chunks<Counted<&[u8]>>,
+    expected: usize,
+) -> Result<(), Fail> {
+    let mut chunk = String::new(alloc);
+    let line = lines.next_line(&mut chunk)?;
+    same_line(rt, &line, &Line::Text);
+    same_number(rt, chunk.len(), expected, b"a line");
+    Ok(())
+}
+
+/// Asserts the lengths of the lines of a source.
+fn reads_lines(
+    rt: &impl Abort,
+    alloc: Global,
+    bytes: &[u8],
+    lengths: &[usize],
+) -> Result<(), Fail> {
+    let mut lines = Chunks::new(alloc, Counted::new(bytes))?;
+    same_text(rt, lines.encoding().text(), "utf-8", b"");
+    for expected in lengths {
+        gives_text(rt, alloc, &mut lines, *expected)?;
+    }
+    let mut chunk = String::new(alloc);
+    let line = lines.next_line(&mut chunk)?;
+    same_line(rt, &line, &Line::End);
+    same_count(rt, lines.reader().failures(), 0);
     Ok(())
 }
 
@@ -130,40 +184,30 @@ fn reads_long_lines(rt: HostRuntime) -> Result<(), Fail> {
     bytes.extend_from_slice(b"x\n")?;
     bytes.resize(20_002, b'y')?;
     bytes.extend_from_slice(b"\nz\n")?;
-    let mut lines = match Chunks::new(rt.alloc(), Counted::new(bytes.as_slice())) {
-        Ok(lines) => lines,
-        Err(_) => {
-            assert!(rt; false);
-            return Ok(());
-        }
-    };
-    assert_eq!(rt; lines.encoding().text(), "utf-8");
-    for expected in [2, 20_001, 2] {
-        let mut chunk = String::new(rt.alloc());
-        assert_eq!(rt; lines.next_line(&mut chunk)?, Line::Text);
-        assert_eq!(rt; chunk.len(), expected);
-    }
-    let mut chunk = String::new(rt.alloc());
-    assert_eq!(rt; lines.next_line(&mut chunk)?, Line::End);
-    assert_eq!(rt; lines.reader().failures(), 0);
+    reads_lines(&rt, rt.alloc(), bytes.as_slice(), &[2, 20_001, 2])
+}
+
+/// Asserts the next answer.
+fn answers(
+    rt: &impl Abort,
+    lines: &mut Chunks<FakeReader<'_>>,
+    chunk: &mut String,
+    expected: &Line,
+) -> Result<(), Fail> {
+    let line = lines.next_line(chunk)?;
+    same_line(rt, &line, expected);
     Ok(())
 }
 
 #[test]
 fn counts_failures(rt: HostRuntime) -> Result<(), Fail> {
-    let mut lines = match Chunks::new(rt.alloc(), FakeReader::new(b"a\nb", 1, true)) {
-        Ok(lines) => lines,
-        Err(_) => {
-            assert!(rt; false);
-            return Ok(());
-        }
-    };
+    let mut lines = Chunks::new(rt.alloc(), FakeReader::new(b"a\nb", 1, true))?;
     let mut chunk = String::new(rt.alloc());
-    assert_eq!(rt; lines.next_line(&mut chunk)?, Line::Text);
-    assert_eq!(rt; lines.next_line(&mut chunk)?, Line::Read);
-    assert_eq!(rt; lines.next_line(&mut chunk)?, Line::Read);
-    assert_eq!(rt; chunk.as_str(), "a\n");
-    assert_eq!(rt; lines.reader().failures(), 1);
+    answers(&rt, &mut lines, &mut chunk, &Line::Text)?;
+    answers(&rt, &mut lines, &mut chunk, &Line::Read)?;
+    answers(&rt, &mut lines, &mut chunk, &Line::Read)?;
+    same_text(&rt, chunk.as_str(), "a\n", b"a\nb");
+    same_count(&rt, lines.reader().failures(), 1);
     Ok(())
 }
 
@@ -172,8 +216,9 @@ fn counts_rows(rt: HostRuntime) -> Result<(), Fail> {
     let mut reader = FakeReader::new(b"a\nb", 2, false);
     let mut lines = LineReader::new(rt.alloc(), &mut reader)?;
     let mut chunk = String::new(rt.alloc());
-    assert_eq!(rt; lines.row(), 1);
-    assert_eq!(rt; lines.next_line(&mut reader, &mut chunk)?, Line::Text);
-    assert_eq!(rt; lines.row(), 2);
+    same_number(&rt, lines.row(), 1, b"before a line");
+    let line = lines.next_line(&mut reader, &mut chunk)?;
+    same_line(&rt, &line, &Line::Text);
+    same_number(&rt, lines.row(), 2, b"behind a line");
     Ok(())
 }

@@ -356,7 +356,7 @@ whole_unmarked (l ∷ ls) w =
     by zero (c ∷ t) e = e
     by (suc n) t e = refl
 
-lines_scalars : (ls : List Line) → AllPlainly ls → all_scalars (lines_text ls) ≡ true
+pub lines_scalars : (ls : List Line) → list_all is_written ls ≡ true → all_scalars (lines_text ls) ≡ true
 lines_scalars [] w = refl
 lines_scalars (l ∷ ls) w =
     let a = and_parts (is_written l) (list_all is_written ls) w in

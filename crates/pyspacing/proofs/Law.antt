@@ -11,7 +11,8 @@ use Rattle.pylex.specs.Listing.{in_characters}
 use Rattle.pylexeme.proofs.Best.{and_parts}
 use Rattle.pyspacing.specs.Spacing.{lines_text}
 use Rattle.pyspacing.specs.Tokens.{tokens_behind, is_written, rise_by_one, IsListedAs}
-use Rattle.pyspacing.specs.Laws.{WrittenIsRead}
+use Rattle.pyspacing.specs.Laws.{WrittenIsRead, WrittenIsClear}
+use Rattle.pyspacing.proofs.Clear.{clear}
 use Rattle.pyspacing.proofs.Decoding.{lines_source, lines_chars}
 use Rattle.pyspacing.proofs.Relisting.{lines_listed}
 use Rattle.pyspacing.proofs.SourceLines.{tokens_are, lines_are}
@@ -31,3 +32,6 @@ written_is_read ls w =
       tokens = tokens_are (in_characters p) ls w l;
       lines = lines_are (in_characters p) ls w l;
     }
+
+pub written_is_clear : WrittenIsClear
+written_is_clear ls w h r = clear (in_characters r.parts) ls w h r.listed

@@ -2,20 +2,26 @@
 use Rattle.std.proofs.Common.{◌≡◌, ℕ, Bool, true, List, [], ◌∷◌, ◌++◌, map, refl, sym, ◌∙◌, ap, subst, arith, replicate, None, append_assoc, if◌then◌else◌}
 use Rattle.std.specs.Prelude.{count_by, nat_lt}
 use Rattle.std.specs.List.{list_all}
+use Rattle.std.proofs.lemmas.List.Folds.{list_all-append}
 use Rattle.pylex.specs.declared.kinds.Kind.TheVariants as kinds
 use Rattle.pylex.specs.declared.entries.Entry.{Entry}
 use Rattle.pylex.specs.declared.entries.Step.{Step}
 use Rattle.pylex.specs.declared.entries.Step.TheVariants as steps
 use Rattle.pylexeme.specs.Lexemes.{Lexeme, cut, left_by_cut}
-use Rattle.pylex.specs.Listing.{Source, mark, origin, up_to_end}
+use Rattle.pylex.specs.Listing.{Source, mark, origin, up_to_end, listing}
+use Rattle.pylex.specs.Steps.{entries_of}
+use Rattle.pylexeme.specs.Chars.{bytes_in}
+use Rattle.pytoken.specs.Indentation.{margin_at, margins_from, margins}
 use Rattle.pylex.specs.Machine.{State, first_state, remaining, run, stop_of, tail_of, last_line_end, last_place, dedents_at, mark_at}
 use Rattle.pylexeme.proofs.Best.{and_parts}
 use Rattle.pylex.proofs.Callers.{listing_is}
 use Rattle.pyspacing.specs.Spacing.{Line, are_readable, lines_text}
 use Rattle.pyspacing.specs.Inner.Relexed.{lines_lexemes}
-use Rattle.pyspacing.specs.Tokens.{dedent, end_marker, tokens_behind, is_written, are_written, rise_by_one, IsListedAs}
+use Rattle.pyspacing.specs.Tokens.{dedent, end_marker, exact_in, tokens_behind, is_written, are_written, rise_by_one, is_even, IsListedAs}
 use Rattle.pyspacing.proofs.LineCuts.{lines_cut, lines_end}
 use Rattle.pyspacing.proofs.Columns.{columns, columns_above}
+use Rattle.pyspacing.proofs.Decoding.{lines_scalars}
+use Rattle.pyspacing.proofs.Margins.{lines_even, margin_even, margins_even}
 use Rattle.pyspacing.proofs.Tells.{Tells, tells_both, marks_told}
 use Rattle.pyspacing.proofs.Runs.{AtLine, steps_on, after_all, run_is, lines_run}
 
@@ -46,12 +52,19 @@ readable (l ∷ ls) w =
     let r = readable ls a.1 in
     rw (b.0, r) refl
 
+pub entries_all : (es : List Entry) → entries_of (map steps.Entry es ++ steps.End ∷ []) ≡ es
+entries_all [] = refl
+entries_all (e ∷ es) = ap (λ x. e ∷ x) (entries_all es)
+
+abbrev pub encoding_entry : Entry
+encoding_entry = record { kind = kinds.Encoding; exact = None; start = origin; «end» = origin; «from» = bytes_in []; to = bytes_in [] }
+
 stops : (text : List ℕ) (s : State) (m : ℕ) → AtLine text s m [] → stop_of None s [] ≡ (replicate m (mark_at kinds.Dedent s.now.offset (last_place s) (last_place s)) ++ mark_at kinds.EndMarker s.now.offset (last_place s) (last_place s) ∷ []) ++ steps.End ∷ []
 unfolding stop_of
 stops text s m i = tail_at text s m i
 
 end_told : (text : List ℕ) (s : State) (m : ℕ) → Tells text (replicate m (mark_at kinds.Dedent s.now.offset (last_place s) (last_place s)) ++ mark_at kinds.EndMarker s.now.offset (last_place s) (last_place s) ∷ []) (replicate m dedent ++ end_marker ∷ [])
-end_told text s m = tells_both text (replicate m (mark_at kinds.Dedent s.now.offset (last_place s) (last_place s))) (mark_at kinds.EndMarker s.now.offset (last_place s) (last_place s) ∷ []) (replicate m dedent) (end_marker ∷ []) (marks_told text m kinds.Dedent s.now.offset (last_place s) (last_place s)) (marks_told text 1 kinds.EndMarker s.now.offset (last_place s) (last_place s))
+end_told text s m = tells_both text (replicate m (mark_at kinds.Dedent s.now.offset (last_place s) (last_place s))) (mark_at kinds.EndMarker s.now.offset (last_place s) (last_place s) ∷ []) (replicate m dedent) (end_marker ∷ []) (marks_told text m kinds.Dedent s.now.offset (last_place s) (last_place s) refl refl) (marks_told text 1 kinds.EndMarker s.now.offset (last_place s) (last_place s) refl refl)
 
 remaining_is : (text : List ℕ) (xs : List Lexeme) → cut text ≡ xs → left_by_cut text ≡ [] → remaining None first_state text ≡ up_to_end (run None [] first_state xs)
 unfolding remaining
@@ -70,9 +83,15 @@ lines_listed s ls e f w =
     let t = tells_both s.text (steps_on first_state (lines_lexemes ls)) ends d.tokens (replicate d.level dedent ++ end_marker ∷ []) d.tells (end_told s.text z d.level) in
     let c : cut s.text ≡ lines_lexemes ls = ap cut e ∙ lines_cut ls r in
     let l : left_by_cut s.text ≡ [] = ap left_by_cut e ∙ lines_end ls r in
+    let u : listing s ≡ mark kinds.Encoding [] origin origin ∷ (map steps.Entry t.entries ++ steps.End ∷ []) = listing_is s ∙ ap (λ x. mark kinds.Encoding [] origin origin ∷ x)
+    (ap (λ x. remaining x first_state s.text) f ∙ remaining_is s.text (lines_lexemes ls) c l ∙ ap up_to_end (g ∙ ap (λ x. x ++ steps.End ∷ []) t.are) ∙ up_to_all t.entries) in
+    let v : entries_of (listing s) ≡ encoding_entry ∷ t.entries = ap entries_of u ∙ ap (λ x. encoding_entry ∷ x) (entries_all t.entries) in
+    let m : list_all is_even (margin_at s.text 0) ≡ true = margin_even s.text [] (lines_text ls) 0 e refl (lines_even ls a.0 (lines_scalars ls a.0)) in
+    let n : list_all is_even (margins s.text (encoding_entry ∷ t.entries)) ≡ true = list_all-append is_even (margin_at s.text 0) (margins_from s.text (encoding_entry ∷ []) t.entries) ∙ rw (m, margins_even s.text (encoding_entry ∷ []) t.entries t.even) refl in
     record {
       entries = t.entries;
-      listed = listing_is s ∙ ap (λ x. mark kinds.Encoding [] origin origin ∷ x)
-          (ap (λ x. remaining x first_state s.text) f ∙ remaining_is s.text (lines_lexemes ls) c l ∙ ap up_to_end (g ∙ ap (λ x. x ++ steps.End ∷ []) t.are) ∙ up_to_all t.entries);
+      listed = u;
       tokens = t.tokens ∙ d.whole;
+      exacts = t.exacts ∙ ap (map exact_in) d.whole;
+      even = ap (λ es. list_all is_even (margins s.text es)) v ∙ n;
     }

@@ -1,12 +1,11 @@
 -- What the machine gives for the lexemes of written lines.
-use Rattle.std.proofs.Common.{◌≡◌, ℕ, ◌+◌, ◌-◌, ◌*◌, ◌≤◌, ◌<◌, Bool, true, false, not, ◌&&◌, ◌||◌, ◌==◌, List, [], ◌∷◌, ◌++◌, map, refl, sym, ◌∙◌, ap, subst, arith, zero, suc, ◌⊎◌, inl, inr, ⊎_elim, cond, replicate, Option, Some, None, append_assoc, ltb}
+use Rattle.std.proofs.Common.{◌≡◌, ℕ, ◌+◌, ◌-◌, ◌*◌, ◌≤◌, ◌<◌, Bool, true, false, not, ◌&&◌, ◌==◌, List, [], ◌∷◌, ◌++◌, map, refl, sym, ◌∙◌, ap, subst, arith, zero, suc, ⊎_elim, cond, replicate, Option, Some, None, append_assoc, ltb}
 use Rattle.std.specs.Prelude.{nat_le}
 use Rattle.std.specs.List.{list_all}
-use Rattle.std.specs.Str.{all_scalars, bytes_eq}
+use Rattle.std.specs.Str.{all_scalars}
 use Rattle.std.proofs.lemmas.List.{append-nil}
 use Rattle.std.proofs.lemmas.Bool.{leb-true, eqb-true, cases_lt}
 use Rattle.std.proofs.lemmas.Bool.Decides.{nat_tests}
-use Rattle.std.proofs.lemmas.Slice.Eq.{bytes_eq-Decides}
 use Rattle.pylex.specs.declared.kinds.Kind.{Kind}
 use Rattle.pylex.specs.declared.kinds.Kind.TheVariants as kinds
 use Rattle.pylexeme.specs.declared.kinds.Exact.{Exact}
@@ -22,10 +21,12 @@ use Rattle.pylex.specs.Machine.{State, after, gives, run, stop_of, layout_of, en
 use Rattle.pylexeme.proofs.Best.{and_parts}
 use Rattle.pyspacing.specs.Spacing.{Piece, Line, is_token, is_operator_kind, touches, text_behind, spaced, are_readable, line_text, lines_text}
 use Rattle.pyspacing.specs.Inner.Relexed.{class_of, lexeme_of, blanks, feed, lexemes_behind, lexemes_of, indent_lexemes, line_lexemes, lines_lexemes}
-use Rattle.pyspacing.specs.Tokens.{PlainToken, token_of, newline, dedent, end_marker, level_tokens, line_tokens, tokens_behind, opens, closes, closes_all, rise_by_one, is_written, is_opening, is_closing}
+use Rattle.pyspacing.specs.Tokens.{PlainToken, token_of, exact_in, newline, dedent, end_marker, level_tokens, line_tokens, tokens_behind, opens, closes, closes_all, rise_by_one, is_written, is_opening, is_closing}
 use Rattle.pyspacing.proofs.PieceFronts.{IsPiece, ArePieces}
 use Rattle.pyspacing.proofs.Columns.{columns, deeper, not_deeper, is_column, columns_above, columns_pushed}
 use Rattle.pyspacing.proofs.Tells.{Tells, bytes_both, nothing_told, tells_both, piece_told, marks_told}
+use Rattle.pyspacing.proofs.Margins.{Even, lines_even, margin_even, token_even}
+use Rattle.pyspacing.proofs.Decoding.{lines_scalars}
 use Rattle.pyspacing.proofs.Cases.{bool_cases, off}
 
 -- the steps of lexemes from a state on, and the state behind them
@@ -87,6 +88,7 @@ record InLine (text : List ℕ) (s : State) (d n : ℕ) (rest : List ℕ) : Type
 record Gives (s : State) (k : Kind) (t : List ℕ) : Type 0 where
   pub exact : Option Exact
   pub is : gives s (record { «class» = class_of k t; text = t }) ≡ layout_of s ++ step_of k exact s.now (past s.now t) ∷ []
+  pub same : exact_in (record { kind = k; text = t }) ≡ exact
 
 abbrev shuts : Kind → List ℕ → Bool
 shuts k t = is_operator_kind k && is_closing t
@@ -102,16 +104,16 @@ closing_is t x f = ap (λ o. elim o [ Some e ↦ is_closer e | None ↦ false ])
 
 piece_gives : (s : State) (k : Kind) (t : List ℕ) → is_token k t ≡ true → (shuts k t && (s.depth == 0)) ≡ false → Gives s k t
 unfolding gives entry_by is_operator
-piece_gives s kinds.Name t e c = record { exact = None; is = refl }
-piece_gives s kinds.Number t e c = record { exact = None; is = refl }
-piece_gives s kinds.String t e c = record { exact = None; is = refl }
+piece_gives s kinds.Name t e c = record { exact = None; is = refl; same = refl }
+piece_gives s kinds.Number t e c = record { exact = None; is = refl; same = refl }
+piece_gives s kinds.String t e c = record { exact = None; is = refl; same = refl }
 piece_gives s kinds.Op t e c = by (exact_of t) refl
   where
     by : (o : Option Exact) → exact_of t ≡ o → Gives s kinds.Op t
     by (Some x) f =
         let d : (is_closer x && (s.depth == 0)) ≡ false = subst (λ (b : Bool). (b && (s.depth == 0)) ≡ false) (closing_is t x f) c in
         let i : gives s (record { «class» = Operator x; text = t }) ≡ layout_of s ++ step_of kinds.Op (Some x) s.now (past s.now t) ∷ [] = rw d refl in
-        record { exact = Some x; is = ap (λ k. gives s (record { «class» = k; text = t })) (class_is t x f) ∙ i }
+        record { exact = Some x; is = ap (λ k. gives s (record { «class» = k; text = t })) (class_is t x f) ∙ i; same = f }
     by None f = let g : false ≡ true = rw f at e in cc
 piece_gives s kinds.Encoding t e c = cc
 piece_gives s kinds.Comment t e c = cc
@@ -160,7 +162,7 @@ pub record Ran (text : List ℕ) (s : State) (xs : List Lexeme) (ts : List Plain
   pub at : AtLine text (after_all s xs) n rest
 
 -- The brackets
-opens_alone : (e : Exact) → is_opener e ≡ true → is_closer e ≡ false
+pub opens_alone : (e : Exact) → is_opener e ≡ true → is_closer e ≡ false
 opens_alone exact.LPar h = refl
 opens_alone exact.LSqb h = refl
 opens_alone exact.LBrace h = refl
@@ -223,7 +225,7 @@ goes text s d n p ps rest i e u c =
     let a = piece_after s p.kind p.text e in
     record {
       next = h.next;
-      tells = subst (λ (ss : List Step). Tells text ss (token_of p ∷ [])) (sym (g.is ∙ ap (λ l. l ++ step_of p.kind g.exact s.now (past s.now p.text) ∷ []) (no_layout s i.margin))) (piece_told text i.before p.text rest p.kind g.exact s.now (past s.now p.text) i.whole u i.offset refl);
+      tells = subst (λ (ss : List Step). Tells text ss (token_of p ∷ [])) (sym (g.is ∙ ap (λ l. l ++ step_of p.kind g.exact s.now (past s.now p.text) ∷ []) (no_layout s i.margin))) (piece_told text i.before p.text rest p.kind g.exact s.now (past s.now p.text) i.whole u i.offset refl g.same (token_even text (past s.now p.text).offset p.kind p.text e));
       at = record {
         before = i.before ++ p.text;
         whole = i.whole ∙ sym (append_assoc i.before p.text rest);
@@ -275,9 +277,10 @@ feed_after text s n rest i =
       joined = refl;
     }
 
-feed_runs : (text : List ℕ) (s : State) (n : ℕ) (rest : List ℕ) → InLine text s 0 n (10 ∷ rest) → Ran text s (feed ∷ []) (newline ∷ []) n rest
-feed_runs text s n rest i = record {
-  tells = subst (λ (ss : List Step). Tells text ss (newline ∷ [])) (sym (append-nil (gives s feed) ∙ feed_gives s i.logical i.depth)) (piece_told text i.before (10 ∷ []) rest kinds.Newline None s.now (behind s.now (10 ∷ [])) i.whole refl i.offset refl);
+feed_runs : (text : List ℕ) (s : State) (n : ℕ) (rest : List ℕ) → Even rest → InLine text s 0 n (10 ∷ rest) → Ran text s (feed ∷ []) (newline ∷ []) n rest
+feed_runs text s n rest v i = record {
+  tells = subst (λ (ss : List Step). Tells text ss (newline ∷ [])) (sym (append-nil (gives s feed) ∙ feed_gives s i.logical i.depth)) (piece_told text i.before (10 ∷ []) rest kinds.Newline None s.now (behind s.now (10 ∷ [])) i.whole refl i.offset refl refl
+      (margin_even text (i.before ++ 10 ∷ []) rest (behind s.now (10 ∷ [])).offset (i.whole ∙ sym (append_assoc i.before (10 ∷ []) rest)) (ap (λ o. o + bytes_in (10 ∷ [])) i.offset ∙ sym (bytes_both i.before (10 ∷ []))) v));
   at = feed_after text s n rest i;
 }
 
@@ -292,24 +295,24 @@ then_runs text s p n ps rest more xs ts w r = record {
 }
 
 -- what stands behind a piece of a line
-behind_runs : (text : List ℕ) (s : State) (d n : ℕ) (p : Piece) (qs : List Piece) (more : List ℕ) → InLine text s d n (text_behind p qs ++ 10 ∷ more) → ArePieces qs → AreScalar qs → closes_all d qs ≡ true → Ran text s (lexemes_behind p qs ++ feed ∷ []) (map token_of qs ++ newline ∷ []) n more
-behind_runs text s d n p [] more i a u c =
+behind_runs : (text : List ℕ) (s : State) (d n : ℕ) (p : Piece) (qs : List Piece) (more : List ℕ) → Even more → InLine text s d n (text_behind p qs ++ 10 ∷ more) → ArePieces qs → AreScalar qs → closes_all d qs ≡ true → Ran text s (lexemes_behind p qs ++ feed ∷ []) (map token_of qs ++ newline ∷ []) n more
+behind_runs text s d n p [] more f i a u c =
     let z : d ≡ 0 = eqb-true d 0 c in
-    feed_runs text s n more (subst (λ (x : ℕ). InLine text s x n (10 ∷ more)) z i)
-behind_runs text s d n p (q ∷ qs) more i a u c =
+    feed_runs text s n more f (subst (λ (x : ℕ). InLine text s x n (10 ∷ more)) z i)
+behind_runs text s d n p (q ∷ qs) more f i a u c =
     let e = and_parts (is_token q.kind q.text) (list_all (λ r. is_token r.kind r.text) qs) a in
     let v = and_parts (all_scalars q.text) (list_all (λ r. all_scalars r.text) qs) u in
     ⊎_elim
     (λ (t : touches p q ≡ true).
     let j : InLine text s d n ((q.text ++ text_behind q qs) ++ 10 ∷ more) = rw t at i in
     let w = goes text s d n q qs (text_behind q qs ++ 10 ∷ more) (again text s d n q qs more j) e.0 v.0 c in
-    rw t (then_runs text s q n qs (text_behind q qs ++ 10 ∷ more) more (lexemes_behind q qs ++ feed ∷ []) (map token_of qs ++ newline ∷ []) w (behind_runs text (after s (lexeme_of q)) w.next n q qs more w.at e.1 v.1 w.rest_closes)))
+    rw t (then_runs text s q n qs (text_behind q qs ++ 10 ∷ more) more (lexemes_behind q qs ++ feed ∷ []) (map token_of qs ++ newline ∷ []) w (behind_runs text (after s (lexeme_of q)) w.next n q qs more f w.at e.1 v.1 w.rest_closes)))
     (λ (t : touches p q ≡ false).
     let j : InLine text s d n (32 ∷ ((q.text ++ text_behind q qs) ++ 10 ∷ more)) = rw t at i in
     let b = blank_goes text s d n ((q.text ++ text_behind q qs) ++ 10 ∷ more) j in
     let r = after s (blanks (32 ∷ [])) in
     let w = goes text r d n q qs (text_behind q qs ++ 10 ∷ more) (again text r d n q qs more b) e.0 v.0 c in
-    let g = then_runs text r q n qs (text_behind q qs ++ 10 ∷ more) more (lexemes_behind q qs ++ feed ∷ []) (map token_of qs ++ newline ∷ []) w (behind_runs text (after r (lexeme_of q)) w.next n q qs more w.at e.1 v.1 w.rest_closes) in
+    let g = then_runs text r q n qs (text_behind q qs ++ 10 ∷ more) more (lexemes_behind q qs ++ feed ∷ []) (map token_of qs ++ newline ∷ []) w (behind_runs text (after r (lexeme_of q)) w.next n q qs more f w.at e.1 v.1 w.rest_closes) in
     rw t (record { tells = tells_both text (gives s (blanks (32 ∷ []))) (steps_on r (lexeme_of q ∷ (lexemes_behind q qs ++ feed ∷ []))) [] (token_of q ∷ (map token_of qs ++ newline ∷ [])) (subst (λ (ss : List Step). Tells text ss []) (sym (blank_gives s (32 ∷ []))) (nothing_told text)) g.tells; at = g.at }))
     (bool_cases (touches p q))
   where
@@ -372,13 +375,13 @@ layout_told text s m n rest i =
     (λ (h : m < n).
     let e : ltb m n ≡ true = grind (arith, nat_tests) in
     let d = deeper m n h in
-    rw (i.margin, i.width, i.levels, d, e) (piece_told text i.before (replicate (4 * n) 32) rest kinds.Indent None s.line s.now i.whole (blanks_scalar (4 * n)) i.line i.offset))
+    rw (i.margin, i.width, i.levels, d, e) (piece_told text i.before (replicate (4 * n) 32) rest kinds.Indent None s.line s.now i.whole (blanks_scalar (4 * n)) i.line i.offset refl refl))
     (λ (h : n ≤ m).
     let e : ltb m n ≡ false = grind (arith, nat_tests) in
     let d = not_deeper m n h in
     let c = is_column m n h in
     let k = columns_above m n in
-    rw (i.margin, i.width, i.levels, d, c, k, e) (marks_told text (m - n) kinds.Dedent s.now.offset s.now.place s.now.place))
+    rw (i.margin, i.width, i.levels, d, c, k, e) (marks_told text (m - n) kinds.Dedent s.now.offset s.now.place s.now.place refl refl))
     (cases_lt m n)
 
 record First (text : List ℕ) (s : State) (p : Piece) (m n : ℕ) (ps : List Piece) (rest : List ℕ) : Type 0 where
@@ -396,7 +399,7 @@ first_goes text s m n p ps rest i l e u c =
     let b : List ℕ = i.before ++ replicate (4 * n) 32 in
     let w : text ≡ b ++ (p.text ++ rest) = i.whole ∙ sym (append_assoc i.before (replicate (4 * n) 32) (p.text ++ rest)) in
     let o : s.now.offset ≡ bytes_in b = i.offset ∙ ap (λ x. x + bytes_in (replicate (4 * n) 32)) i.line ∙ sym (bytes_both i.before (replicate (4 * n) 32)) in
-    let t = piece_told text b p.text rest p.kind g.exact s.now (past s.now p.text) w u o refl in
+    let t = piece_told text b p.text rest p.kind g.exact s.now (past s.now p.text) w u o refl g.same (token_even text (past s.now p.text).offset p.kind p.text e) in
     record {
       next = h.next;
       tells = subst (λ (ss : List Step). Tells text ss (level_tokens m n ++ token_of p ∷ [])) (sym g.is) (tells_both text (layout_of s) (step_of p.kind g.exact s.now (past s.now p.text) ∷ []) (level_tokens m n) (token_of p ∷ []) (layout_told text s m n (p.text ++ rest) i) t);
@@ -413,29 +416,29 @@ first_goes text s m n p ps rest i l e u c =
     }
 
 -- A line
-pieces_run : (text : List ℕ) (s : State) (m n : ℕ) (ps : List Piece) (more : List ℕ) → AtMargin text s m n (spaced ps ++ 10 ∷ more) → n ≤ m + 1 → are_readable ps ≡ true → AreScalar ps → closes_all 0 ps ≡ true → Ran text s (lexemes_of ps ++ feed ∷ []) (level_tokens m n ++ (map token_of ps ++ newline ∷ [])) n more
-pieces_run text s m n [] more i l r u c = cc
-pieces_run text s m n (p ∷ ps) more i l r u c =
+pieces_run : (text : List ℕ) (s : State) (m n : ℕ) (ps : List Piece) (more : List ℕ) → Even more → AtMargin text s m n (spaced ps ++ 10 ∷ more) → n ≤ m + 1 → are_readable ps ≡ true → AreScalar ps → closes_all 0 ps ≡ true → Ran text s (lexemes_of ps ++ feed ∷ []) (level_tokens m n ++ (map token_of ps ++ newline ∷ [])) n more
+pieces_run text s m n [] more even i l r u c = cc
+pieces_run text s m n (p ∷ ps) more even i l r u c =
     let a = and_parts (list_all (λ q. is_token q.kind q.text) (p ∷ ps)) _ r in
     let e = and_parts (is_token p.kind p.text) (list_all (λ q. is_token q.kind q.text) ps) a.0 in
     let v = and_parts (all_scalars p.text) (list_all (λ q. all_scalars q.text) ps) u in
     let j : AtMargin text s m n (p.text ++ (text_behind p ps ++ 10 ∷ more)) = subst (AtMargin text s m n) (append_assoc p.text (text_behind p ps) (10 ∷ more)) i in
     let f = first_goes text s m n p ps (text_behind p ps ++ 10 ∷ more) j l e.0 v.0 c in
-    let b = behind_runs text (after s (lexeme_of p)) f.next n p ps more f.at e.1 v.1 f.rest_closes in
+    let b = behind_runs text (after s (lexeme_of p)) f.next n p ps more even f.at e.1 v.1 f.rest_closes in
     record {
       tells = subst (λ (ts : List PlainToken). Tells text (steps_on s (lexeme_of p ∷ (lexemes_behind p ps ++ feed ∷ []))) ts) (append_assoc (level_tokens m n) (token_of p ∷ []) (map token_of ps ++ newline ∷ []))
           (tells_both text (gives s (lexeme_of p)) (steps_on (after s (lexeme_of p)) (lexemes_behind p ps ++ feed ∷ [])) (level_tokens m n ++ token_of p ∷ []) (map token_of ps ++ newline ∷ []) f.tells b.tells);
       at = b.at;
     }
 
-pub line_runs : (text : List ℕ) (s : State) (m : ℕ) (l : Line) (more : List ℕ) → AtLine text s m (line_text l ++ more) → is_written l ≡ true → l.level ≤ m + 1 → Ran text s (line_lexemes l) (line_tokens m l) l.level more
-line_runs text s m l more i w h =
+pub line_runs : (text : List ℕ) (s : State) (m : ℕ) (l : Line) (more : List ℕ) → Even more → AtLine text s m (line_text l ++ more) → is_written l ≡ true → l.level ≤ m + 1 → Ran text s (line_lexemes l) (line_tokens m l) l.level more
+line_runs text s m l more even i w h =
     let a = and_parts (are_readable l.pieces) (closes_all 0 l.pieces && list_all (λ p. all_scalars p.text) l.pieces) w in
     let b = and_parts (closes_all 0 l.pieces) (list_all (λ p. all_scalars p.text) l.pieces) a.1 in
     let t : line_text l ++ more ≡ replicate (4 * l.level) 32 ++ (spaced l.pieces ++ 10 ∷ more) = append_assoc (replicate (4 * l.level) 32) (spaced l.pieces ++ 10 ∷ []) more ∙ ap (λ u. replicate (4 * l.level) 32 ++ u) (append_assoc (spaced l.pieces) (10 ∷ []) more) in
     let j : AtLine text s m (replicate (4 * l.level) 32 ++ (spaced l.pieces ++ 10 ∷ more)) = subst (AtLine text s m) t i in
     let g = margin_runs text s m l.level (spaced l.pieces ++ 10 ∷ more) j in
-    let p = pieces_run text (after_all s (indent_lexemes l.level)) m l.level l.pieces more g.at h a.0 b.1 b.0 in
+    let p = pieces_run text (after_all s (indent_lexemes l.level)) m l.level l.pieces more even g.at h a.0 b.1 b.0 in
     record {
       tells = subst (λ (ss : List Step). Tells text ss (line_tokens m l)) (sym (steps_both s (indent_lexemes l.level) (lexemes_of l.pieces ++ feed ∷ []))) (tells_both text (steps_on s (indent_lexemes l.level)) (steps_on (after_all s (indent_lexemes l.level)) (lexemes_of l.pieces ++ feed ∷ [])) [] (line_tokens m l) g.tells p.tells);
       at = subst (λ (r : State). AtLine text r l.level more) (sym (after_both s (indent_lexemes l.level) (lexemes_of l.pieces ++ feed ∷ []))) p.at;
@@ -454,7 +457,7 @@ lines_run text s m [] i w r = record { tokens = []; level = m; tells = nothing_t
 lines_run text s m (l ∷ ls) i w r =
     let a = and_parts (is_written l) (list_all is_written ls) w in
     let b = and_parts (nat_le l.level (m + 1)) (rise_by_one l.level ls) r in
-    let g = line_runs text s m l (lines_text ls) i a.0 (leb-true l.level (m + 1) b.0) in
+    let g = line_runs text s m l (lines_text ls) (lines_even ls a.1 (lines_scalars ls a.1)) i a.0 (leb-true l.level (m + 1) b.0) in
     let d = lines_run text (after_all s (line_lexemes l)) l.level ls g.at a.1 b.1 in
     record {
       tokens = line_tokens m l ++ d.tokens;

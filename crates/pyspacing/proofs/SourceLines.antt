@@ -1,5 +1,5 @@
 -- The tokens of a source that is written lines, and its logical lines.
-use Rattle.std.proofs.Common.{◌≡◌, ℕ, ◌+◌, ◌-◌, ◌<◌, ◌≤◌, Bool, true, false, ◌&&◌, List, [], ◌∷◌, ◌++◌, map, refl, sym, ◌∙◌, ap, subst, arith, zero, suc, replicate, ⊎_elim, append_assoc, if◌then◌else◌, ltb, None}
+use Rattle.std.proofs.Common.{◌≡◌, ℕ, ◌+◌, ◌-◌, ◌<◌, ◌≤◌, Bool, true, false, ◌&&◌, List, [], ◌∷◌, ◌++◌, map, refl, sym, ◌∙◌, ap, subst, arith, zero, suc, replicate, ⊎_elim, append_assoc, if◌then◌else◌, ltb}
 use Rattle.std.specs.Prelude.{count_by, nat_lt, nat_le}
 use Rattle.std.specs.List.{list_all}
 use Rattle.std.proofs.lemmas.Bool.{cases_lt, leb-true}
@@ -9,9 +9,7 @@ use Rattle.std.proofs.lemmas.List.{append-nil, map-append}
 use Rattle.pylex.specs.declared.kinds.Kind.{Kind}
 use Rattle.pylex.specs.declared.kinds.Kind.TheVariants as kinds
 use Rattle.pylex.specs.declared.entries.Entry.{Entry}
-use Rattle.pylex.specs.declared.entries.Step.TheVariants as steps
-use Rattle.pylex.specs.Listing.{Source, listing, origin}
-use Rattle.pylexeme.specs.Chars.{bytes_in}
+use Rattle.pylex.specs.Listing.{Source, listing}
 use Rattle.pylex.specs.Steps.{entries_of}
 use Rattle.pylexeme.proofs.Best.{and_parts}
 use Rattle.pyspacing.specs.Spacing.{Piece, Line, is_token, are_readable}
@@ -21,6 +19,7 @@ use Rattle.pytoken.specs.Tokens as source
 use Rattle.pysource.specs.declared.places.Place.{Place}
 use Rattle.pyspacing.specs.Inner.PlainLines.{is_indent, is_dedent, level_behind, lines_from}
 use Rattle.pyspacing.proofs.PieceFronts.{ArePieces}
+use Rattle.pyspacing.proofs.Relisting.{entries_all, encoding_entry}
 
 -- whether a line is open behind a token
 abbrev opens_line : Kind → Bool
@@ -138,13 +137,6 @@ lines_flow m (l ∷ ls) w =
     rw (shift_line m l (tokens_behind l.level ls)) (level_flows m l.level (map token_of l.pieces ++ newline ∷ tokens_behind l.level ls) (first_flows l.pieces (tokens_behind l.level ls) r.0 (lines_flow l.level ls a.1)))
 
 -- the tokens of a source that is listed as those of written lines
-entries_all : (es : List Entry) → entries_of (map steps.Entry es ++ steps.End ∷ []) ≡ es
-entries_all [] = refl
-entries_all (e ∷ es) = ap (λ x. e ∷ x) (entries_all es)
-
-abbrev encoding_entry : Entry
-encoding_entry = record { kind = kinds.Encoding; exact = None; start = origin; «end» = origin; «from» = bytes_in []; to = bytes_in [] }
-
 pub tokens_are : (s : Source) (ls : List Line) → are_written ls ≡ true → IsListedAs s (tokens_behind 0 ls) → map unplaced (tokens s) ≡ tokens_behind 0 ls
 unfolding tokens
 tokens_are s ls w i =

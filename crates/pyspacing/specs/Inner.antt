@@ -1,3 +1,4 @@
 pub mod Relexed
 pub mod Edges
 pub mod PlainLines
+pub mod Even

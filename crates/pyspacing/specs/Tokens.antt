@@ -1,15 +1,18 @@
 -- What lines of pieces are as tokens, and when they are these: each line's brackets are closed within it, and no line stands more than a level deeper
 -- than the one before.
-use Rattle.std.specs.Prelude.{◌≡◌, ℕ, ◌+◌, ◌-◌, ◌*◌, nat_le, nat_lt, Bool, true, not, ◌&&◌, ◌==◌, List, [], ◌∷◌, ◌++◌, map, replicate, if◌then◌else◌, slice_range, false, Some, None}
+use Rattle.std.specs.Prelude.{◌≡◌, ℕ, ◌+◌, ◌-◌, ◌*◌, nat_le, nat_lt, Bool, true, not, ◌&&◌, ◌==◌, List, [], ◌∷◌, ◌++◌, map, replicate, if◌then◌else◌, slice_range, false, Option, Some, None}
 use Rattle.std.specs.List.{list_all}
 use Rattle.std.specs.Str.{chars, encode_utf8_all, all_scalars}
 use Rattle.pylex.specs.declared.kinds.Kind.{Kind}
 use Rattle.pylex.specs.declared.kinds.Kind.TheVariants as kinds
 use Rattle.pylex.specs.declared.entries.Entry.{Entry}
 use Rattle.pylex.specs.declared.entries.Step.TheVariants as steps
+use Rattle.pylexeme.specs.declared.kinds.Exact.{Exact}
 use Rattle.pylexeme.specs.Operators.{exact_of, is_opener, is_closer}
 use Rattle.pylex.specs.Listing.{Source, mark, origin, listing}
+use Rattle.pylex.specs.Steps.{entries_of}
 use Rattle.pytoken.specs.Tokens as source
+use Rattle.pytoken.specs.Indentation.{Margin, margins}
 use Rattle.pyspacing.specs.Spacing.{Piece, Line, is_operator_kind, are_readable}
 
 -- a token without its place: its kind and text
@@ -20,6 +23,10 @@ pub record PlainToken : Type 0 where
 -- the token of an entry of a text, by its place in the text's bytes
 abbrev pub token_at : List ℕ → Entry → PlainToken
 token_at text e = record { kind = e.kind; text = chars (slice_range (encode_utf8_all text) e.«from» e.to) }
+
+-- which operator a token is
+abbrev pub exact_in : PlainToken → Option Exact
+exact_in t = elim t.kind [ kinds.Op ↦ exact_of t.text | _ ↦ None ]
 
 abbrev pub token_of : Piece → PlainToken
 token_of p = record { kind = p.kind; text = p.text }
@@ -94,8 +101,22 @@ is_written l = are_readable l.pieces && (closes_all 0 l.pieces && list_all (λ p
 abbrev pub are_written : List Line → Bool
 are_written ls = list_all is_written ls && rise_by_one 0 ls
 
--- A source is listed as these tokens: ENCODING, their entries, and the end.
+-- d brackets are open, and with those of the pieces no more than so many are at once
+abbrev pub opens_within : ℕ → ℕ → List Piece → Bool
+opens_within most d [] = true
+opens_within most d (p ∷ ps) =
+    if opens p then nat_lt d most && opens_within most (d + 1) ps
+    else (if closes p then opens_within most (d - 1) ps else opens_within most d ps)
+
+-- the blanks that a line begins with are as wide, whichever way tabs count
+abbrev pub is_even : Margin → Bool
+is_even m = m.widths.eight == m.widths.one
+
+-- A source is listed as these tokens: ENCODING, their entries, and the end. The entries say which operators the tokens are, and lines begin with
+-- blanks that are as wide, whichever way tabs count.
 pub record IsListedAs (s : Source) (ts : List PlainToken) : Type 0 where
   pub entries : List Entry
   pub listed : listing s ≡ mark kinds.Encoding [] origin origin ∷ (map steps.Entry entries ++ steps.End ∷ [])
   pub tokens : map (token_at s.text) entries ≡ ts
+  pub exacts : map (λ e. e.exact) entries ≡ map exact_in ts
+  pub even : list_all is_even (margins s.text (entries_of (listing s))) ≡ true

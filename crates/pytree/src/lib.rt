@@ -2,7 +2,8 @@
 //!
 //! The types are those of `pynode`, and come from here too. So do [`height`], which tells how high a
 //! tree is, [`copy`], which makes an equal one, [`same`], which tells whether two are equal, and
-//! [`dump`], which gives the text that Python's `ast.dump` gives: each of a crate of its own.
+//! [`dump`], which gives the text that Python's `ast.dump` gives: the walks of each are a crate of
+//! their own.
 //!
 //! What the tokens of a source are to the grammar, and what they say, comes from `pytoken`:
 //! [`Refusal`], [`TokenError`], [`Meaning`]. Its `Keyword` is named there alone, since [`Keyword`]
@@ -18,10 +19,11 @@
 //! grammar, `Refusals` why a source has none, and `Laws` what holds of the values of tokens.
 #![tactic(auto)]
 
+mod modules;
 mod names;
 
+pub use modules::{copy, same};
 pub use names::{is_keyword, is_name};
-pub use pycopy::copy;
 pub use pydump::{Style, dump, dump_expr};
 pub use pygrammar::Level;
 pub use pyheight::{Heights, height};
@@ -30,5 +32,4 @@ pub use pynode::{
     Handler, Identifier, Integer, Item, Keyword, Module, Operator, Points, Profile, Stmt,
     TypeParam, UnaryOperator,
 };
-pub use pysame::same;
 pub use pytoken::{Meaning, Refusal, TokenError, is_identifier};

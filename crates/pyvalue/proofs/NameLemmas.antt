@@ -1,4 +1,4 @@
--- Carries: form_fault, name_fault. On: the tests of a form, and names of ASCII alone.
+-- Carries: form_fault, identifier_value, name_fault. On: the tests of a form, and names of ASCII alone.
 use Rattle.std.proofs.Common.{◌≡◌, ℕ, zero, suc, ◌<◌, ◌≤◌, Bool, true, false, List, [], ◌∷◌, length, refl, sym, ap, ◌∙◌, arith, get_or, ⊎_elim, Some, None, is_some}
 use Rattle.std.specs.Prelude.{◌&&◌, ◌↔◌, IsTrue, All}
 use Rattle.std.specs.Str.{chars, IsAscii}
@@ -66,7 +66,11 @@ low_ascii bs low i = ⊎_elim (λ (h : i < length bs). low i h) (λ (h : length 
 pub low_chars : (bs : List ℕ) → AreLow bs → chars bs ≡ bs
 low_chars bs low = chars-IsAscii bs (low_ascii bs low)
 
-pub name_low : (bs : List ℕ) → AreLow bs → name_fault (chars bs) ≡ None
-name_low bs low =
+-- ASCII is its own form
+pub low_form : (bs : List ℕ) → AreLow bs → nfkc (chars bs) ≡ chars bs
+low_form bs low =
     let same = low_chars bs low in
-    name_own (chars bs) ((bytes_eq-Decides (nfkc (chars bs)) (chars bs)).1 (ap nfkc same ∙ normalize-ascii Nfkc bs (low_all bs low) ∙ sym same))
+    ap nfkc same ∙ normalize-ascii Nfkc bs (low_all bs low) ∙ sym same
+
+pub name_low : (bs : List ℕ) → AreLow bs → name_fault (chars bs) ≡ None
+name_low bs low = name_own (chars bs) ((bytes_eq-Decides (nfkc (chars bs)) (chars bs)).1 (low_form bs low))

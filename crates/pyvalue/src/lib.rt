@@ -1,7 +1,7 @@
 //! What the text of a token stands for, and what may be wrong with it by itself.
 //!
-//! [`number_value`], [`string_value`] and [`name_value`] tell what the text of a number, a string or
-//! a name stands for, [`string_fault`] and [`name_fault`] what is wrong with it by itself, and
+//! [`number_value`], [`string_value`], [`name_value`] and [`identifier_value`] tell what the text of a
+//! number, a string or a name stands for, [`string_fault`] and [`name_fault`] what is wrong with it by itself, and
 //! [`token_fault`] what is wrong with a token or a comment by its type. [`terminal_of`] tells what a
 //! token is to the grammar ([`Terminal`]); a string is a [`LiteralText`] there, whose value is made
 //! where it is asked for.
@@ -24,7 +24,7 @@ mod terminals;
 pub use faults::token_fault;
 pub use literal_text::LiteralText;
 pub use literals::{Literal, string_value};
-pub use names::{name_fault, name_value};
+pub use names::{identifier_value, name_fault, name_value};
 pub use numbers::number_value;
 pub use strings::string_fault;
 pub use terminals::{Terminal, TerminalFault, terminal_of};

@@ -8,6 +8,7 @@ ghost use Rattle.unicode_normalization.specs.Forms.{nfkc};
 ghost use Rattle.pytoken.specs.NameValues.{name_fault, form_fault};
 ghost use Rattle.pyvalue.specs.Inner.Readings.{AreLow};
 
+use pynode::Identifier;
 use pytoken::{Keyword, TokenError, is_identifier};
 use std::alloc::{AllocError, Global};
 use unicode_normalization::{is_nfkc, to_nfkc};
@@ -42,6 +43,25 @@ fn is_ascii(text: &str) -> bool
     ensures { IsTrue result ↔ AreLow text.now }
 {
     text.as_bytes().iter().all(|byte| *byte < 128)
+}
+
+/// The name of a tree that a text stands for, by its form.
+fn identifier_by_form(alloc: Global, text: &str) -> Result<Identifier, AllocError>
+    ensures { IfOk result (λ name. name ≡ nfkc (chars text.now)) }
+{
+    let form = name_value(alloc, text)?;
+    Identifier::new(alloc, form.as_str())
+}
+
+/// The name of a tree that a text stands for: its form NFKC, which of ASCII is the text itself.
+#[inline(always)]
+pub fn identifier_value(alloc: Global, text: &str) -> Result<Identifier, AllocError>
+    ensures { IfOk result (λ name. name ≡ nfkc (chars text.now)) }
+{
+    if is_ascii(text) {
+        return Identifier::new(alloc, text);
+    }
+    identifier_by_form(alloc, text)
 }
 
 /// The fault of a name, by its form.

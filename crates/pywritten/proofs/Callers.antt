@@ -2,3 +2,5 @@
 pub mod Shortest
 pub mod Read
 pub mod Modules
+pub mod Texts
+pub mod Law

@@ -1,5 +1,9 @@
 mod WorkedExpressions
 mod WorkedModules
+mod WorkedRows
+mod WorkedSimple
+mod WorkedBlocks
+mod WorkedTypes
 mod Fewest
 mod Pieces
 mod Modules

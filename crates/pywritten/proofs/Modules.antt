@@ -5,5 +5,12 @@ pub mod Headers
 pub mod Balanced
 pub mod With
 pub mod Wells
+pub mod Shapes
 pub mod Again
 pub mod Law
+pub mod Low
+pub mod FlatLines
+pub mod LinesRead
+pub mod Accepted
+pub mod High
+pub mod OfSources

@@ -1,10 +1,13 @@
--- What holds of what an expression is written in.
-use Rattle.std.specs.Prelude.{◌≡◌, ◌≤◌, ◌↔◌, List, [], ◌∷◌, ◌++◌, length, Bool, true, false, Some, ℕ, All}
-use Rattle.std.specs.Str.{all_scalars}
+-- What holds of what a tree is written in.
+use Rattle.std.specs.Prelude.{◌≡◌, ◌+◌, ◌≤◌, ◌↔◌, List, [], ◌∷◌, ◌++◌, length, Bool, true, false, Some, ℕ, All}
+use Rattle.std.specs.Str.{all_scalars, encode_utf8_all}
+use Rattle.pylex.specs.Listing.{Source, in_characters}
+use Rattle.pylex.specs.Laws.{IsLawful}
 use Rattle.pynode.specs.declared.profiles.Profile.{Profile}
 use Rattle.pynode.specs.Trees.{Expr, Exprs, Keywords, Arguments, Module}
-use Rattle.pytoken.specs.Terminals.{Terminal, Gives}
-use Rattle.pyheight.specs.Heights.{height}
+use Rattle.pytoken.specs.Tokens as Tokens
+use Rattle.pytoken.specs.Terminals.{Terminal, Gives, IsSound}
+use Rattle.pyheight.specs.Heights.{height, expression_height, statement_height}
 use Rattle.pygrammar.specs.declared.levels.Level.{Level}
 use Rattle.pygrammar.specs.declared.levels.Level.TheVariants.{Stars, Expression, Primary, Atom, Named}
 use Rattle.pygrammar.specs.Entries.{Entry, Argument, Parameter}
@@ -13,16 +16,20 @@ use Rattle.pygrammar.specs.Parameters.{arranged}
 use Rattle.pygrammar.specs.Grammar.{Derives, Listing, Target, SingleTarget, DelTarget, ItemTarget}
 use Rattle.pygrammar.specs.Lines.{Line, line, Form}
 use Rattle.pygrammar.specs.Forms.{FormOf}
+use Rattle.pygrammar.specs.FormHeights.{form_height}
 use Rattle.pygrammar.specs.Blocks.{Block}
+use Rattle.pygrammar.specs.Refusals as Refusals
+use Rattle.pygrammar.specs.Refusals.{Accepted}
 use Rattle.pygrammar.specs.Reader.{Found, reads}
 use Rattle.pylex.specs.declared.kinds.Kind.{Kind}
 use Rattle.pyspacing.specs.Spacing.{Piece}
-use Rattle.pyspacing.specs.Tokens.{is_written}
+use Rattle.pyspacing.specs.Tokens.{is_written, are_written}
+use Rattle.pyspacing.specs.Laws.{ReadsBack}
 use Rattle.pywritten.specs.Written.{listed, each, by_name, parameters}
 use Rattle.pywritten.specs.Terminals.{terminal, terminals}
-use Rattle.pywritten.specs.Pieces.{pieces}
+use Rattle.pywritten.specs.Pieces.{piece, pieces}
 use Rattle.pywritten.specs.Statements.{item_target}
-use Rattle.pywritten.specs.Modules.{WrittenLine, written_line, terminal_lines}
+use Rattle.pywritten.specs.Modules.{WrittenLine, written_line, module_lines, terminal_lines, piece_lines, module_text}
 use Rattle.pywritten.specs.Brackets.{brackets}
 
 -- ---- Fewest brackets.
@@ -123,3 +130,94 @@ pub record AreModule (profile : Profile) (ws : List (WrittenLine Terminal)) (m :
 -- no other.
 abbrev pub ModulesComeBack : Type 0
 ModulesComeBack = (profile : Profile) (ws : List (WrittenLine Terminal)) (m : Module) → AreModule profile ws m → AreModule profile (terminal_lines m) m
+
+-- lines are one module at most
+abbrev pub LinesAreOneModule : Type 0
+LinesAreOneModule = (profile : Profile) (ws : List (WrittenLine Terminal)) (m n : Module) → AreModule profile ws m → AreModule profile ws n → m ≡ n
+
+-- a module that is accepted is that of its own lines
+abbrev pub AcceptedComeBack : Type 0
+AcceptedComeBack = (profile : Profile) (s : Source) (m : Module) → Accepted profile s m → AreModule profile (terminal_lines m) m
+
+-- no expression of some forms is higher
+abbrev pub AreWithin : ℕ → List Line → Type 0
+AreWithin height [] = Unit {0}
+AreWithin height (x ∷ xs) = (form_height x.form ≤ height) × AreWithin height xs
+
+-- forms have no higher expressions than their module, nor has a module than they
+abbrev pub FormsAreLow : Type 0
+FormsAreLow = (xs : List Line) (m : Module) → Block 0 xs m.body → AreWithin (expression_height m) xs
+
+abbrev pub ModulesAreLow : Type 0
+ModulesAreLow = (n : ℕ) (xs : List Line) (m : Module) → Block 0 xs m.body → AreWithin n xs → expression_height m ≤ n
+
+-- a line's own brackets are one pair round its expressions, so in no line more are open at once than this
+abbrev pub LineBracketsAreWithinHeight : Type 0
+LineBracketsAreWithinHeight = (m : Module) → All (λ w. brackets w.tokens ≤ expression_height m + 1) (terminal_lines m)
+
+-- ---- Modules as text.
+
+-- terminals of tokens of Unicode characters that have no fault
+abbrev pub AreOfTokens : WrittenLine Terminal → Type 0
+AreOfTokens w = All IsOfToken w.tokens
+
+-- lines of pieces give lines of terminals, each at its level
+pub data GiveLines : List (WrittenLine Piece) → List (WrittenLine Terminal) → Type 0 where
+  no_line : GiveLines [] []
+  a_line : {l : ℕ} {ps : List Piece} {ts : List Terminal} {rs : List (WrittenLine Piece)} {qs : List (WrittenLine Terminal)}
+      → Give ps ts → GiveLines rs qs → GiveLines (written_line l ps ∷ rs) (written_line l ts ∷ qs)
+
+-- The lines of a module are read back, and give its lines of terminals.
+pub record ModuleIsRead (m : Module) : Type 0 where
+  pub written : are_written (piece_lines m) ≡ true
+  pub give : GiveLines (module_lines piece m) (terminal_lines m)
+
+-- so are those of a module that some lines of tokens are
+abbrev pub ModulesAreRead : Type 0
+ModulesAreRead = (profile : Profile) (ws : List (WrittenLine Terminal)) (m : Module) → AreModule profile ws m → All AreOfTokens ws → ModuleIsRead m
+
+-- The UTF-8 of a module's text is a source in UTF-8, without a mark, a cookie or a fault, whose tokens and lines are the module's pieces; it is
+-- accepted as this module, and as no other.
+pub record TextIsAccepted (profile : Profile) (m : Module) : Type 0 where
+  pub back : ReadsBack (encode_utf8_all (module_text m)) (piece_lines m)
+  pub accepted : Accepted profile (in_characters back.parts) m
+  pub only : (n : Module) → Accepted profile (in_characters back.parts) n → n ≡ m
+
+-- The law of source text: a module that some lines of tokens are, and that is no higher than 500, is the one that its own text is.
+abbrev pub ModuleTextsAreAccepted : Type 0
+ModuleTextsAreAccepted = (profile : Profile) (ws : List (WrittenLine Terminal)) (m : Module) → AreModule profile ws m → All AreOfTokens ws
+    → expression_height m ≤ 500 → statement_height m ≤ 500 → TextIsAccepted profile m
+
+-- the lines of a source as the grammar reads them
+abbrev pub source_lines : List Tokens.Line → List (WrittenLine Terminal)
+source_lines [] = []
+source_lines (x ∷ xs) = written_line x.level (Refusals.terminals x) ∷ source_lines xs
+
+-- a token of Unicode characters that is what its type says, and has no fault
+abbrev pub IsGood : Tokens.Token → Type 0
+IsGood t = (all_scalars t.text ≡ true) × IsSound t.kind t.text
+
+-- lines of such tokens are such lines of terminals
+abbrev pub TokensAreOfTokens : Type 0
+TokensAreOfTokens = (xs : List Tokens.Line) → All (λ (x : Tokens.Line). All IsGood x.tokens) xs → All AreOfTokens (source_lines xs)
+
+-- So a module that a source is accepted as, is the one that its own text is.
+abbrev pub AcceptedTextsAreAccepted : Type 0
+AcceptedTextsAreAccepted = (profile : Profile) (s : Source) (m : Module) → IsLawful s → all_scalars s.text ≡ true → Accepted profile s m → TextIsAccepted profile m
+
+-- ---- All of them.
+
+-- the laws of what a tree is written in
+pub record WritingIsLawful : Type 0 where
+  pub shortest : ExpressionsAreShortest
+  pub back : ExpressionsComeBack
+  pub targets : TargetsAreShortest
+  pub parameters : ParametersAreShortest
+  pub arguments : ArgumentsAreShortest
+  pub brackets : BracketsAreWithinHeight
+  pub read : ExpressionsAreRead
+  pub modules : ModulesComeBack
+  pub one : LinesAreOneModule
+  pub lines : ModulesAreRead
+  pub texts : ModuleTextsAreAccepted
+  pub sources : AcceptedTextsAreAccepted

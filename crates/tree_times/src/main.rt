@@ -32,34 +32,66 @@ fn name(alloc: Global, id: &str, ctx: Context) -> Result<Expr, AllocError> {
 
 /// The module of one statement, `x` under this many signs.
 fn deep(alloc: Global, count: u64) -> Result<Module, AllocError> {
-    let mut value = name(alloc, "x", Context::Load)?;
+    let mut value = Box::new(alloc, name(alloc, "x", Context::Load)?)?;
     for _ in 0..count {
-        value = Expr::UnaryOp {
-            op: UnaryOperator::USub,
-            operand: Box::new(alloc, value)?,
-        };
+        value = Box::new(
+            alloc,
+            Expr::UnaryOp {
+                op: UnaryOperator::USub,
+                operand: value,
+            },
+        )?;
     }
-    Ok(Module {
-        body: vec![in alloc; Stmt::Expr { value }]?,
+    let mut body = Vec::new(alloc);
+    body.push(Stmt::Expr {
+        value: Box::into_inner(value),
+    })?;
+    Ok(Module { body })
+}
+
+/// The number 1.
+fn one(alloc: Global) -> Result<Expr, AllocError> {
+    Ok(Expr::Constant {
+        value: Constant::Int(Integer::new(alloc, 1)?),
+    })
+}
+
+/// The argument `b=1`.
+fn keyword(alloc: Global) -> Result<Keyword, AllocError> {
+    Ok(Keyword {
+        arg: Some(Identifier::new(alloc, "b")?),
+        value: one(alloc)?,
+    })
+}
+
+/// The list of one name.
+fn names(alloc: Global, id: &str, ctx: Context) -> Result<Vec<Expr>, AllocError> {
+    let mut items = Vec::new(alloc);
+    items.push(name(alloc, id, ctx)?)?;
+    Ok(items)
+}
+
+/// The list of this argument.
+fn keywords(alloc: Global) -> Result<Vec<Keyword>, AllocError> {
+    let mut items = Vec::new(alloc);
+    items.push(keyword(alloc)?)?;
+    Ok(items)
+}
+
+/// The call `f(a, b=1)`.
+fn call(alloc: Global) -> Result<Expr, AllocError> {
+    Ok(Expr::Call {
+        func: Box::new(alloc, name(alloc, "f", Context::Load)?)?,
+        args: names(alloc, "a", Context::Load)?,
+        keywords: keywords(alloc)?,
     })
 }
 
 /// The statement `x = f(a, b=1)`.
 fn assignment(alloc: Global) -> Result<Stmt, AllocError> {
-    let keyword = Keyword {
-        arg: Some(Identifier::new(alloc, "b")?),
-        value: Expr::Constant {
-            value: Constant::Int(Integer::new(alloc, 1)?),
-        },
-    };
-    let call = Expr::Call {
-        func: Box::new(alloc, name(alloc, "f", Context::Load)?)?,
-        args: vec![in alloc; name(alloc, "a", Context::Load)?]?,
-        keywords: vec![in alloc; keyword]?,
-    };
     Ok(Stmt::Assign {
-        targets: vec![in alloc; name(alloc, "x", Context::Store)?]?,
-        value: call,
+        targets: names(alloc, "x", Context::Store)?,
+        value: call(alloc)?,
     })
 }
 
@@ -87,38 +119,55 @@ fn tell(rt: &HostRuntime, start: Instant) -> Option<()> {
     println!(rt; "{taken}").ok()
 }
 
-/// Does one thing with a tree, and tells how long it took.
-fn time(rt: &HostRuntime, alloc: Global, what: &str, tree: Module) -> Option<()> {
+/// Lets a tree go, and tells how long that took.
+fn time_drop(rt: &HostRuntime, tree: Module) -> Option<()> {
     let start = Instant::now(rt).ok()?;
+    drop(tree);
+    tell(rt, start)
+}
+
+/// Measures a tree, and tells how long that took.
+fn time_height(rt: &HostRuntime, tree: &Module) -> Option<()> {
+    let start = Instant::now(rt).ok()?;
+    let heights = height(tree);
+    if heights.statement == 0 {
+        return None;
+    }
+    tell(rt, start)
+}
+
+/// Copies a tree, and tells how long that took.
+fn time_copy(rt: &HostRuntime, alloc: Global, tree: &Module) -> Option<()> {
+    let start = Instant::now(rt).ok()?;
+    let _copied = copy(alloc, tree).ok()?;
+    tell(rt, start)
+}
+
+/// Compares a tree with its copy, and tells how long that took.
+fn time_same(rt: &HostRuntime, alloc: Global, tree: &Module) -> Option<()> {
+    let copied = copy(alloc, tree).ok()?;
+    let start = Instant::now(rt).ok()?;
+    if !same(tree, &copied) {
+        return None;
+    }
+    tell(rt, start)
+}
+
+/// Dumps a tree, and tells how long that took, and how long the text is.
+fn time_dump(rt: &HostRuntime, alloc: Global, tree: &Module) -> Option<()> {
+    let start = Instant::now(rt).ok()?;
+    let text = dump(alloc, tree, PLAIN).ok()?;
+    let taken = start.elapsed(rt).ok()?.as_nanos();
+    println!(rt; "{taken} {}", text.len()).ok()
+}
+
+/// Does one thing with a tree that stays, and tells how long it took.
+fn time(rt: &HostRuntime, alloc: Global, what: &str, tree: &Module) -> Option<()> {
     match what {
-        "drop" => {
-            drop(tree);
-            tell(rt, start)
-        }
-        "height" => {
-            let heights = height(&tree);
-            if heights.statement == 0 {
-                return None;
-            }
-            tell(rt, start)
-        }
-        "copy" => {
-            let _copied = copy(alloc, &tree).ok()?;
-            tell(rt, start)
-        }
-        "same" => {
-            let copied = copy(alloc, &tree).ok()?;
-            let start = Instant::now(rt).ok()?;
-            if !same(&tree, &copied) {
-                return None;
-            }
-            tell(rt, start)
-        }
-        "dump" => {
-            let text = dump(alloc, &tree, PLAIN).ok()?;
-            let taken = start.elapsed(rt).ok()?.as_nanos();
-            println!(rt; "{taken} {}", text.len()).ok()
-        }
+        "height" => time_height(rt, tree),
+        "copy" => time_copy(rt, alloc, tree),
+        "same" => time_same(rt, alloc, tree),
+        "dump" => time_dump(rt, alloc, tree),
         _ => None,
     }
 }
@@ -130,7 +179,10 @@ fn run(rt: &HostRuntime, alloc: Global) -> Option<()> {
     let shape = words.next()?;
     let count = words.next()?.as_str().parse::<u64>().ok()?;
     let tree = tree_of_shape(alloc, shape.as_str(), count)?;
-    time(rt, alloc, what.as_str(), tree)
+    if what.as_str() == "drop" {
+        return time_drop(rt, tree);
+    }
+    time(rt, alloc, what.as_str(), &tree)
 }
 
 fn main(rt: HostRuntime) -> ExitCode {

@@ -6,10 +6,10 @@ use Rattle.pydump.specs.Layout.{shown_count}
 use Rattle.pydump.specs.Inner.Blocks.{listed, shown_block, shown_caught, shown_handler}
 use Rattle.pydump.specs.Inner.Slots.{slot_of, with_slot}
 use Rattle.pydump.specs.Inner.Weights.{weight, field_weights}
-use Rattle.pydump.proofs.RowLemmas.{aliases_row, boxed_field, exprs_row, member_weight, type_params_row}
+use Rattle.pydump.proofs.RowLemmas.{aliases_row, boxed_field, exprs_row, items_row, keywords_row, member_weight, names_row, type_params_row}
 use Rattle.pydump.proofs.BlockLemmas.{ahead, ahead_as, at_end, handler_shows, handler_weighs, long_node, node_shown, stmts_row, text_as}
 use Rattle.pynode.specs.declared.statements.Handler as given_handler
-use Rattle.pynode.proofs.Callers.StmtShapes.{ann_assign_tree, async_function_def_tree, function_def_tree, import_from_tree, type_alias_tree}
+use Rattle.pynode.proofs.Callers.StmtShapes.{ann_assign_tree, assert_tree, assign_tree, async_function_def_tree, async_with_tree, aug_assign_tree, class_def_tree, delete_tree, expr_stmt_tree, function_def_tree, global_tree, if_tree, import_from_tree, import_tree, nonlocal_tree, raise_tree, return_tree, type_alias_tree, while_tree, with_tree}
 use Rattle.pydump.proofs.+blocks.Goals as goal
 
 pub statements::show_stmts-show_stmt-requires : goal.statements::show_stmts-show_stmt-requires
@@ -166,3 +166,48 @@ statements::show_stmt-returns-in-ImportFrom-clause-text t c =
     (a_field (codes "level") (Scalar (decimal c.in-ImportFrom.level)) no_field) in
     let e : name_field (codes "module") c.in-ImportFrom.module rest ≡ with_slot (slot_of c.name_part.result) rest = sym (c.name_part.ensures rest) in
     rw (c.in-ImportFrom.is, import_from_tree, aliases_row, sym c.deref-in-ImportFrom.ensures.value, e) c.show_three-in-ImportFrom.ensures.text
+
+pub statements::show_stmt-returns-in-ClassDef-clause-text : goal.statements::show_stmt-returns-in-ClassDef-clause-text
+statements::show_stmt-returns-in-ClassDef-clause-text t c = rw (c.in-ClassDef.is, class_def_tree, exprs_row, exprs_row, keywords_row, stmts_row, sym c.deref-in-ClassDef.ensures.value, sym c.deref-in-ClassDef-2.ensures.value, sym c.deref-in-ClassDef-3.ensures.value, sym c.deref-in-ClassDef-4.ensures.value, sym c.deref-in-ClassDef-5.ensures.value) c.show_class.ensures.text
+
+pub statements::show_stmt-returns-in-Return-clause-text : goal.statements::show_stmt-returns-in-Return-clause-text
+statements::show_stmt-returns-in-Return-clause-text t c = rw (c.in-Return.is, return_tree) (rw (sym (c.option_part.ensures no_field)) c.show_one.ensures.text)
+
+pub statements::show_stmt-returns-in-Delete-clause-text : goal.statements::show_stmt-returns-in-Delete-clause-text
+statements::show_stmt-returns-in-Delete-clause-text t c = rw (c.in-Delete.is, delete_tree, exprs_row, sym c.deref-in-Delete.ensures.value) c.show_one-in-Delete.ensures.text
+
+pub statements::show_stmt-returns-in-Assign-clause-text : goal.statements::show_stmt-returns-in-Assign-clause-text
+statements::show_stmt-returns-in-Assign-clause-text t c = rw (c.in-Assign.is, assign_tree, exprs_row, sym c.deref-in-Assign.ensures.value) c.show_three.ensures.text
+
+pub statements::show_stmt-returns-in-AugAssign-clause-text : goal.statements::show_stmt-returns-in-AugAssign-clause-text
+statements::show_stmt-returns-in-AugAssign-clause-text t c = rw (c.in-AugAssign.is, aug_assign_tree, sym c.operator_word.ensures) c.show_three-in-AugAssign.ensures.text
+
+pub statements::show_stmt-returns-in-While-clause-text : goal.statements::show_stmt-returns-in-While-clause-text
+statements::show_stmt-returns-in-While-clause-text t c = rw (c.in-While.is, while_tree, stmts_row, stmts_row, sym c.deref-in-While.ensures.value, sym c.deref-in-While-2.ensures.value) c.show_test.ensures.text
+
+pub statements::show_stmt-returns-in-If-clause-text : goal.statements::show_stmt-returns-in-If-clause-text
+statements::show_stmt-returns-in-If-clause-text t c = rw (c.in-If.is, if_tree, stmts_row, stmts_row, sym c.deref-in-If.ensures.value, sym c.deref-in-If-2.ensures.value) c.show_test-in-If.ensures.text
+
+pub statements::show_stmt-returns-in-With-clause-text : goal.statements::show_stmt-returns-in-With-clause-text
+statements::show_stmt-returns-in-With-clause-text t c = rw (c.in-With.is, with_tree, items_row, stmts_row, sym c.deref-in-With.ensures.value, sym c.deref-in-With-2.ensures.value) c.show_with.ensures.text
+
+pub statements::show_stmt-returns-in-AsyncWith-clause-text : goal.statements::show_stmt-returns-in-AsyncWith-clause-text
+statements::show_stmt-returns-in-AsyncWith-clause-text t c = rw (c.in-AsyncWith.is, async_with_tree, items_row, stmts_row, sym c.deref-in-AsyncWith.ensures.value, sym c.deref-in-AsyncWith-2.ensures.value) c.show_with-in-AsyncWith.ensures.text
+
+pub statements::show_stmt-returns-in-Raise-clause-text : goal.statements::show_stmt-returns-in-Raise-clause-text
+statements::show_stmt-returns-in-Raise-clause-text t c = rw (c.in-Raise.is, raise_tree) (rw (sym (c.option_part-in-Raise-2.ensures no_field), sym (c.option_part-in-Raise.ensures (with_slot (slot_of c.option_part-in-Raise-2.result) no_field))) c.show_two.ensures.text)
+
+pub statements::show_stmt-returns-in-Assert-clause-text : goal.statements::show_stmt-returns-in-Assert-clause-text
+statements::show_stmt-returns-in-Assert-clause-text t c = rw (c.in-Assert.is, assert_tree) (rw (sym (c.option_part-in-Assert.ensures no_field)) c.show_two-in-Assert.ensures.text)
+
+pub statements::show_stmt-returns-in-Import-clause-text : goal.statements::show_stmt-returns-in-Import-clause-text
+statements::show_stmt-returns-in-Import-clause-text t c = rw (c.in-Import.is, import_tree, aliases_row, sym c.deref-in-Import.ensures.value) c.show_one-in-Import.ensures.text
+
+pub statements::show_stmt-returns-in-Global-clause-text : goal.statements::show_stmt-returns-in-Global-clause-text
+statements::show_stmt-returns-in-Global-clause-text t c = rw (c.in-Global.is, global_tree, names_row, sym c.deref-in-Global.ensures.value) c.show_one-in-Global.ensures.text
+
+pub statements::show_stmt-returns-in-Nonlocal-clause-text : goal.statements::show_stmt-returns-in-Nonlocal-clause-text
+statements::show_stmt-returns-in-Nonlocal-clause-text t c = rw (c.in-Nonlocal.is, nonlocal_tree, names_row, sym c.deref-in-Nonlocal.ensures.value) c.show_one-in-Nonlocal.ensures.text
+
+pub statements::show_stmt-returns-in-Expr-clause-text : goal.statements::show_stmt-returns-in-Expr-clause-text
+statements::show_stmt-returns-in-Expr-clause-text t c = rw (c.in-Expr.is, expr_stmt_tree) c.show_one-in-Expr.ensures.text

@@ -3,13 +3,13 @@ use Rattle.std.specs.String.{string_bytes}
 use Rattle.pynode.specs.Trees.{optional}
 use Rattle.pynode.specs.TreeOf.{tree_of, option_of, comprehension_of, keyword_of, arg_of, arguments_of, alias_of, item_of, type_param_of}
 use Rattle.pydump.specs.Layout.{text, before, is_flat}
-use Rattle.pydump.specs.Shows.{shown, shown_optional, shown_comprehension, shown_keyword, shown_arg, shown_alias, shown_item, shown_type_param, word, comparison_name, showns, Row, no_field}
+use Rattle.pydump.specs.Shows.{shown, shown_optional, shown_comprehension, shown_keyword, shown_arg, shown_arguments, shown_alias, shown_item, shown_type_param, word, comparison_name, showns, Row, no_field}
 use Rattle.pydump.specs.Inner.Slots.{slot_of, with_slot}
 use Rattle.pydump.specs.Inner.Weights.{weight, field_weights}
 use Rattle.pydump.proofs.ArgumentsLemmas.{alone, five_shown, seven_weigh, arguments_shown}
-use Rattle.pydump.proofs.RowLemmas.{slot_weighs, member_weight, exprs_row, comprehensions_row, keywords_row, comparisons_row}
+use Rattle.pydump.proofs.RowLemmas.{slot_weighs, member_weight, exprs_row, comprehensions_row, keywords_row, comparisons_row, optionals_row}
 use Rattle.pydump.proofs.TextLemmas.{left, node_closed, one_field, two_fields, three_fields, four_fields, then_fields, member_shown}
-use Rattle.pynode.proofs.Callers.ExprShapes.{generator_exp_tree, dict_comp_tree, compare_tree, call_tree, slice_tree, comprehension_tree}
+use Rattle.pynode.proofs.Callers.ExprShapes.{generator_exp_tree, dict_comp_tree, compare_tree, call_tree, slice_tree, comprehension_tree, attribute_tree, await_tree, bin_op_tree, bool_op_tree, constant_tree, dict_tree, if_exp_tree, lambda_tree, list_comp_tree, list_tree, name_tree, named_expr_tree, set_comp_tree, set_tree, starred_tree, subscript_tree, tuple_tree, unary_op_tree, yield_from_tree, yield_tree}
 use Rattle.pydump.proofs.+showing.Goals as goal
 
 pub nodes::show_one-returns-clause-text : goal.nodes::show_one-returns-clause-text
@@ -220,3 +220,168 @@ expressions::show_expr-show_three-requires-in-Slice t c =
       sym (c.boxed_part-in-Slice-2.ensures (with_slot (slot_of c.boxed_part-in-Slice-3.result) no_field)),
       sym (c.boxed_part-in-Slice.ensures (with_slot (slot_of c.boxed_part-in-Slice-2.result) (with_slot (slot_of c.boxed_part-in-Slice-3.result) no_field))),
     ) refl in (omega (arith, e), tt)
+
+pub expressions::show_expr-returns-in-BoolOp-clause-text : goal.expressions::show_expr-returns-in-BoolOp-clause-text
+expressions::show_expr-returns-in-BoolOp-clause-text t c = rw (c.in-BoolOp.is, bool_op_tree, exprs_row, sym c.bool_word.ensures, sym c.deref.ensures.value) c.show_two.ensures.text
+
+pub expressions::show_expr-show_two-requires : goal.expressions::show_expr-show_two-requires
+expressions::show_expr-show_two-requires t c =
+    let e : weight (shown (tree_of c.args.e.now)) ≡ 1 + (weight (Row (showns (map (λ e. shown (tree_of e)) c.deref.result.now))) + 0) + 1 =
+    rw (c.in-BoolOp.is, bool_op_tree, exprs_row c.in-BoolOp.values.items, sym c.deref.ensures.value) refl in (omega (arith, e), tt)
+
+pub expressions::show_expr-returns-in-NamedExpr-clause-text : goal.expressions::show_expr-returns-in-NamedExpr-clause-text
+expressions::show_expr-returns-in-NamedExpr-clause-text t c = rw (c.in-NamedExpr.is, named_expr_tree, sym c.deref-in-NamedExpr.ensures, sym c.deref-in-NamedExpr-2.ensures) c.show_two-in-NamedExpr.ensures.text
+
+pub expressions::show_expr-show_two-requires-in-NamedExpr : goal.expressions::show_expr-show_two-requires-in-NamedExpr
+expressions::show_expr-show_two-requires-in-NamedExpr t c =
+    let e : weight (shown (tree_of c.args.e.now)) ≡ weight (shown (tree_of c.deref-in-NamedExpr.result.now)) + (weight (shown (tree_of c.deref-in-NamedExpr-2.result.now)) + 0) + 1 =
+    rw (c.in-NamedExpr.is, named_expr_tree, sym c.deref-in-NamedExpr.ensures, sym c.deref-in-NamedExpr-2.ensures) refl in (omega (arith, e), tt)
+
+pub expressions::show_expr-returns-in-BinOp-clause-text : goal.expressions::show_expr-returns-in-BinOp-clause-text
+expressions::show_expr-returns-in-BinOp-clause-text t c = rw (c.in-BinOp.is, bin_op_tree, sym c.deref-in-BinOp.ensures, sym c.operator_word.ensures, sym c.deref-in-BinOp-2.ensures) c.show_three.ensures.text
+
+pub expressions::show_expr-show_three-requires : goal.expressions::show_expr-show_three-requires
+expressions::show_expr-show_three-requires t c =
+    let e : weight (shown (tree_of c.args.e.now)) ≡ weight (shown (tree_of c.deref-in-BinOp.result.now)) + (1 + (weight (shown (tree_of c.deref-in-BinOp-2.result.now)) + 0)) + 1 =
+    rw (c.in-BinOp.is, bin_op_tree, sym c.deref-in-BinOp.ensures, sym c.deref-in-BinOp-2.ensures) refl in (omega (arith, e), tt)
+
+pub expressions::show_expr-returns-in-UnaryOp-clause-text : goal.expressions::show_expr-returns-in-UnaryOp-clause-text
+expressions::show_expr-returns-in-UnaryOp-clause-text t c = rw (c.in-UnaryOp.is, unary_op_tree, sym c.unary_word.ensures, sym c.deref-in-UnaryOp.ensures) c.show_two-in-UnaryOp.ensures.text
+
+pub expressions::show_expr-show_two-requires-in-UnaryOp : goal.expressions::show_expr-show_two-requires-in-UnaryOp
+expressions::show_expr-show_two-requires-in-UnaryOp t c =
+    let e : weight (shown (tree_of c.args.e.now)) ≡ 1 + (weight (shown (tree_of c.deref-in-UnaryOp.result.now)) + 0) + 1 =
+    rw (c.in-UnaryOp.is, unary_op_tree, sym c.deref-in-UnaryOp.ensures) refl in (omega (arith, e), tt)
+
+pub expressions::show_expr-returns-in-Lambda-clause-text : goal.expressions::show_expr-returns-in-Lambda-clause-text
+expressions::show_expr-returns-in-Lambda-clause-text t c = rw (c.in-Lambda.is, lambda_tree, sym c.deref-in-Lambda.ensures, sym c.deref-in-Lambda-2.ensures) c.show_two-in-Lambda.ensures.text
+
+pub expressions::show_expr-show_two-requires-in-Lambda : goal.expressions::show_expr-show_two-requires-in-Lambda
+expressions::show_expr-show_two-requires-in-Lambda t c =
+    let e : weight (shown (tree_of c.args.e.now)) ≡ weight (shown_arguments (arguments_of c.deref-in-Lambda.result.now)) + (weight (shown (tree_of c.deref-in-Lambda-2.result.now)) + 0) + 1 =
+    rw (c.in-Lambda.is, lambda_tree, sym c.deref-in-Lambda.ensures, sym c.deref-in-Lambda-2.ensures) refl in (omega (arith, e), tt)
+
+pub expressions::show_expr-returns-in-IfExp-clause-text : goal.expressions::show_expr-returns-in-IfExp-clause-text
+expressions::show_expr-returns-in-IfExp-clause-text t c = rw (c.in-IfExp.is, if_exp_tree, sym c.deref-in-IfExp.ensures, sym c.deref-in-IfExp-2.ensures, sym c.deref-in-IfExp-3.ensures) c.show_three-in-IfExp.ensures.text
+
+pub expressions::show_expr-show_three-requires-in-IfExp : goal.expressions::show_expr-show_three-requires-in-IfExp
+expressions::show_expr-show_three-requires-in-IfExp t c =
+    let e : weight (shown (tree_of c.args.e.now)) ≡ weight (shown (tree_of c.deref-in-IfExp.result.now)) + (weight (shown (tree_of c.deref-in-IfExp-2.result.now)) + (weight (shown (tree_of c.deref-in-IfExp-3.result.now)) + 0)) + 1 =
+    rw (c.in-IfExp.is, if_exp_tree, sym c.deref-in-IfExp.ensures, sym c.deref-in-IfExp-2.ensures, sym c.deref-in-IfExp-3.ensures) refl in (omega (arith, e), tt)
+
+pub expressions::show_expr-returns-in-Dict-clause-text : goal.expressions::show_expr-returns-in-Dict-clause-text
+expressions::show_expr-returns-in-Dict-clause-text t c = rw (c.in-Dict.is, dict_tree, optionals_row, exprs_row, sym c.deref-in-Dict.ensures.value, sym c.deref-in-Dict-2.ensures.value) c.show_two-in-Dict.ensures.text
+
+pub expressions::show_expr-show_two-requires-in-Dict : goal.expressions::show_expr-show_two-requires-in-Dict
+expressions::show_expr-show_two-requires-in-Dict t c =
+    let e : weight (shown (tree_of c.args.e.now)) ≡ weight (Row (showns (map (λ e. shown_optional (optional (option_of e))) c.deref-in-Dict.result.now))) + (weight (Row (showns (map (λ e. shown (tree_of e)) c.deref-in-Dict-2.result.now))) + 0) + 1 =
+    rw (c.in-Dict.is, dict_tree, optionals_row c.in-Dict.keys.items, exprs_row c.in-Dict.values.items, sym c.deref-in-Dict.ensures.value, sym c.deref-in-Dict-2.ensures.value) refl in (omega (arith, e), tt)
+
+pub expressions::show_expr-returns-in-Set-clause-text : goal.expressions::show_expr-returns-in-Set-clause-text
+expressions::show_expr-returns-in-Set-clause-text t c = rw (c.in-Set.is, set_tree, exprs_row, sym c.deref-in-Set.ensures.value) c.show_one.ensures.text
+
+pub expressions::show_expr-show_one-requires : goal.expressions::show_expr-show_one-requires
+expressions::show_expr-show_one-requires t c =
+    let e : weight (shown (tree_of c.args.e.now)) ≡ weight (Row (showns (map (λ e. shown (tree_of e)) c.deref-in-Set.result.now))) + 0 + 1 =
+    rw (c.in-Set.is, set_tree, exprs_row c.in-Set.elts.items, sym c.deref-in-Set.ensures.value) refl in (omega (arith, e), tt)
+
+pub expressions::show_expr-returns-in-ListComp-clause-text : goal.expressions::show_expr-returns-in-ListComp-clause-text
+expressions::show_expr-returns-in-ListComp-clause-text t c = rw (c.in-ListComp.is, list_comp_tree, comprehensions_row, sym c.deref-in-ListComp.ensures, sym c.deref-in-ListComp-2.ensures.value) c.show_two-in-ListComp.ensures.text
+
+pub expressions::show_expr-show_two-requires-in-ListComp : goal.expressions::show_expr-show_two-requires-in-ListComp
+expressions::show_expr-show_two-requires-in-ListComp t c =
+    let e : weight (shown (tree_of c.args.e.now)) ≡ weight (shown (tree_of c.deref-in-ListComp.result.now)) + (weight (Row (showns (map (λ c. shown_comprehension (comprehension_of c)) c.deref-in-ListComp-2.result.now))) + 0) + 1 =
+    rw (c.in-ListComp.is, list_comp_tree, comprehensions_row c.in-ListComp.generators.items, sym c.deref-in-ListComp.ensures, sym c.deref-in-ListComp-2.ensures.value) refl in (omega (arith, e), tt)
+
+pub expressions::show_expr-returns-in-SetComp-clause-text : goal.expressions::show_expr-returns-in-SetComp-clause-text
+expressions::show_expr-returns-in-SetComp-clause-text t c = rw (c.in-SetComp.is, set_comp_tree, comprehensions_row, sym c.deref-in-SetComp.ensures, sym c.deref-in-SetComp-2.ensures.value) c.show_two-in-SetComp.ensures.text
+
+pub expressions::show_expr-show_two-requires-in-SetComp : goal.expressions::show_expr-show_two-requires-in-SetComp
+expressions::show_expr-show_two-requires-in-SetComp t c =
+    let e : weight (shown (tree_of c.args.e.now)) ≡ weight (shown (tree_of c.deref-in-SetComp.result.now)) + (weight (Row (showns (map (λ c. shown_comprehension (comprehension_of c)) c.deref-in-SetComp-2.result.now))) + 0) + 1 =
+    rw (c.in-SetComp.is, set_comp_tree, comprehensions_row c.in-SetComp.generators.items, sym c.deref-in-SetComp.ensures, sym c.deref-in-SetComp-2.ensures.value) refl in (omega (arith, e), tt)
+
+pub expressions::show_expr-show_two-requires-in-GeneratorExp : goal.expressions::show_expr-show_two-requires-in-GeneratorExp
+expressions::show_expr-show_two-requires-in-GeneratorExp t c =
+    let e : weight (shown (tree_of c.args.e.now)) ≡ weight (shown (tree_of c.deref-in-GeneratorExp.result.now)) + (weight (Row (showns (map (λ c. shown_comprehension (comprehension_of c)) c.deref-in-GeneratorExp-2.result.now))) + 0) + 1 =
+    rw (c.in-GeneratorExp.is, generator_exp_tree, comprehensions_row c.in-GeneratorExp.generators.items, sym c.deref-in-GeneratorExp.ensures, sym c.deref-in-GeneratorExp-2.ensures.value) refl in (omega (arith, e), tt)
+
+pub expressions::show_expr-returns-in-Await-clause-text : goal.expressions::show_expr-returns-in-Await-clause-text
+expressions::show_expr-returns-in-Await-clause-text t c = rw (c.in-Await.is, await_tree, sym c.deref-in-Await.ensures) c.show_one-in-Await.ensures.text
+
+pub expressions::show_expr-show_one-requires-in-Await : goal.expressions::show_expr-show_one-requires-in-Await
+expressions::show_expr-show_one-requires-in-Await t c =
+    let e : weight (shown (tree_of c.args.e.now)) ≡ weight (shown (tree_of c.deref-in-Await.result.now)) + 0 + 1 =
+    rw (c.in-Await.is, await_tree, sym c.deref-in-Await.ensures) refl in (omega (arith, e), tt)
+
+pub expressions::show_expr-returns-in-Yield-clause-text : goal.expressions::show_expr-returns-in-Yield-clause-text
+expressions::show_expr-returns-in-Yield-clause-text t c = rw (c.in-Yield.is, yield_tree) (rw (sym (c.boxed_part.ensures no_field)) c.show_one-in-Yield.ensures.text)
+
+pub expressions::show_expr-show_one-requires-in-Yield : goal.expressions::show_expr-show_one-requires-in-Yield
+expressions::show_expr-show_one-requires-in-Yield t c =
+    let e : weight (shown (tree_of c.args.e.now)) ≡ field_weights (with_slot (slot_of c.boxed_part.result) no_field) + 1 =
+    rw (c.in-Yield.is, yield_tree, sym (c.boxed_part.ensures no_field)) refl in (omega (arith, e), tt)
+
+pub expressions::show_expr-returns-in-YieldFrom-clause-text : goal.expressions::show_expr-returns-in-YieldFrom-clause-text
+expressions::show_expr-returns-in-YieldFrom-clause-text t c = rw (c.in-YieldFrom.is, yield_from_tree, sym c.deref-in-YieldFrom.ensures) c.show_one-in-YieldFrom.ensures.text
+
+pub expressions::show_expr-show_one-requires-in-YieldFrom : goal.expressions::show_expr-show_one-requires-in-YieldFrom
+expressions::show_expr-show_one-requires-in-YieldFrom t c =
+    let e : weight (shown (tree_of c.args.e.now)) ≡ weight (shown (tree_of c.deref-in-YieldFrom.result.now)) + 0 + 1 =
+    rw (c.in-YieldFrom.is, yield_from_tree, sym c.deref-in-YieldFrom.ensures) refl in (omega (arith, e), tt)
+
+pub expressions::show_expr-returns-in-Constant-clause-text : goal.expressions::show_expr-returns-in-Constant-clause-text
+expressions::show_expr-returns-in-Constant-clause-text t c = rw (c.in-Constant.is, constant_tree) (rw (sym (c.kind_part.ensures no_field)) c.show_two-in-Constant.ensures.text)
+
+pub expressions::show_expr-show_two-requires-in-Constant : goal.expressions::show_expr-show_two-requires-in-Constant
+expressions::show_expr-show_two-requires-in-Constant t c =
+    let e : weight (shown (tree_of c.args.e.now)) ≡ 1 + field_weights (with_slot (slot_of c.kind_part.result) no_field) + 1 =
+    rw (c.in-Constant.is, constant_tree, sym (c.kind_part.ensures no_field)) refl in (omega (arith, e), tt)
+
+pub expressions::show_expr-returns-in-Attribute-clause-text : goal.expressions::show_expr-returns-in-Attribute-clause-text
+expressions::show_expr-returns-in-Attribute-clause-text t c = rw (c.in-Attribute.is, attribute_tree, sym c.deref-in-Attribute.ensures, sym c.context_word.ensures) c.show_three-in-Attribute.ensures.text
+
+pub expressions::show_expr-show_three-requires-in-Attribute : goal.expressions::show_expr-show_three-requires-in-Attribute
+expressions::show_expr-show_three-requires-in-Attribute t c =
+    let e : weight (shown (tree_of c.args.e.now)) ≡ weight (shown (tree_of c.deref-in-Attribute.result.now)) + (1 + (1 + 0)) + 1 =
+    rw (c.in-Attribute.is, attribute_tree, sym c.deref-in-Attribute.ensures) refl in (omega (arith, e), tt)
+
+pub expressions::show_expr-returns-in-Subscript-clause-text : goal.expressions::show_expr-returns-in-Subscript-clause-text
+expressions::show_expr-returns-in-Subscript-clause-text t c = rw (c.in-Subscript.is, subscript_tree, sym c.deref-in-Subscript.ensures, sym c.deref-in-Subscript-2.ensures, sym c.context_word-in-Subscript.ensures) c.show_three-in-Subscript.ensures.text
+
+pub expressions::show_expr-show_three-requires-in-Subscript : goal.expressions::show_expr-show_three-requires-in-Subscript
+expressions::show_expr-show_three-requires-in-Subscript t c =
+    let e : weight (shown (tree_of c.args.e.now)) ≡ weight (shown (tree_of c.deref-in-Subscript.result.now)) + (weight (shown (tree_of c.deref-in-Subscript-2.result.now)) + (1 + 0)) + 1 =
+    rw (c.in-Subscript.is, subscript_tree, sym c.deref-in-Subscript.ensures, sym c.deref-in-Subscript-2.ensures) refl in (omega (arith, e), tt)
+
+pub expressions::show_expr-returns-in-Starred-clause-text : goal.expressions::show_expr-returns-in-Starred-clause-text
+expressions::show_expr-returns-in-Starred-clause-text t c = rw (c.in-Starred.is, starred_tree, sym c.deref-in-Starred.ensures, sym c.context_word-in-Starred.ensures) c.show_two-in-Starred.ensures.text
+
+pub expressions::show_expr-show_two-requires-in-Starred : goal.expressions::show_expr-show_two-requires-in-Starred
+expressions::show_expr-show_two-requires-in-Starred t c =
+    let e : weight (shown (tree_of c.args.e.now)) ≡ weight (shown (tree_of c.deref-in-Starred.result.now)) + (1 + 0) + 1 =
+    rw (c.in-Starred.is, starred_tree, sym c.deref-in-Starred.ensures) refl in (omega (arith, e), tt)
+
+pub expressions::show_expr-returns-in-Name-clause-text : goal.expressions::show_expr-returns-in-Name-clause-text
+expressions::show_expr-returns-in-Name-clause-text t c = rw (c.in-Name.is, name_tree, sym c.context_word-in-Name.ensures) c.show_two-in-Name.ensures.text
+
+pub expressions::show_expr-show_two-requires-in-Name : goal.expressions::show_expr-show_two-requires-in-Name
+expressions::show_expr-show_two-requires-in-Name t c =
+    let e : weight (shown (tree_of c.args.e.now)) ≡ 1 + (1 + 0) + 1 =
+    rw (c.in-Name.is, name_tree) refl in (omega (arith, e), tt)
+
+pub expressions::show_expr-returns-in-List-clause-text : goal.expressions::show_expr-returns-in-List-clause-text
+expressions::show_expr-returns-in-List-clause-text t c = rw (c.in-List.is, list_tree, exprs_row, sym c.deref-in-List.ensures.value, sym c.context_word-in-List.ensures) c.show_two-in-List.ensures.text
+
+pub expressions::show_expr-show_two-requires-in-List : goal.expressions::show_expr-show_two-requires-in-List
+expressions::show_expr-show_two-requires-in-List t c =
+    let e : weight (shown (tree_of c.args.e.now)) ≡ weight (Row (showns (map (λ e. shown (tree_of e)) c.deref-in-List.result.now))) + (1 + 0) + 1 =
+    rw (c.in-List.is, list_tree, exprs_row c.in-List.elts.items, sym c.deref-in-List.ensures.value) refl in (omega (arith, e), tt)
+
+pub expressions::show_expr-returns-in-Tuple-clause-text : goal.expressions::show_expr-returns-in-Tuple-clause-text
+expressions::show_expr-returns-in-Tuple-clause-text t c = rw (c.in-Tuple.is, tuple_tree, exprs_row, sym c.deref-in-Tuple.ensures.value, sym c.context_word-in-Tuple.ensures) c.show_two-in-Tuple.ensures.text
+
+pub expressions::show_expr-show_two-requires-in-Tuple : goal.expressions::show_expr-show_two-requires-in-Tuple
+expressions::show_expr-show_two-requires-in-Tuple t c =
+    let e : weight (shown (tree_of c.args.e.now)) ≡ weight (Row (showns (map (λ e. shown (tree_of e)) c.deref-in-Tuple.result.now))) + (1 + 0) + 1 =
+    rw (c.in-Tuple.is, tuple_tree, exprs_row c.in-Tuple.elts.items, sym c.deref-in-Tuple.ensures.value) refl in (omega (arith, e), tt)

@@ -1,6 +1,6 @@
 -- What one pass over a listing gathers of its lines behind some entries.
-use Rattle.std.specs.Prelude.{◌≡◌, ℕ, ◌+◌, ◌-◌, ◌<◌, ◌≤◌, ◌&&◌, Bool, true, false, List, [], ◌∷◌, ◌++◌, length, take, map, count_by, slice_get, Some, None, if◌then◌else◌}
-use Rattle.std.specs.Str.{chars}
+use Rattle.std.specs.Prelude.{◌≡◌, ℕ, ◌+◌, ◌-◌, ◌<◌, ◌≤◌, ◌&&◌, Bool, true, false, List, [], ◌∷◌, ◌++◌, length, take, map, count_by, slice_get, Option, Some, None, if◌then◌else◌}
+use Rattle.std.specs.Str.{chars, bytes_eq}
 use Rattle.pysource.specs.declared.places.Place.{Place}
 use Rattle.pysource.specs.Parts.{Parts}
 use Rattle.pylex.specs.declared.kinds.Kind.{Kind}
@@ -15,6 +15,7 @@ use Rattle.pytoken.specs.Terminals
 use Rattle.pytoken.specs.Terminals.{terminal_of}
 use Rattle.pytoken.specs.Tokens.{Token, Line, text_of, tokens_from, lines_from, lines}
 use Rattle.pytoken.specs.Refusals.{entry_refusal}
+use Rattle.pygrammar.specs.Refusals.{is_match}
 use Rattle.pyvalue.specs.Terminals.{terminal}
 use Rattle.pyvalue.specs.declared.terminals.Terminal.{Terminal}
 use Rattle.pyparse.specs.declared.line_gather.LineGather.{LineGather}
@@ -43,15 +44,29 @@ ended_by e begun = ends_open_line e.kind && begun
 abbrev pub own_terminals : List ℕ → Entry → List Terminals.Terminal
 own_terminals text e = if stands_in_line e.kind then terminal_of e.kind (text_of text e) ∷ [] else []
 
--- where a line starts, behind one token more that starts there, by the terminals before
-abbrev pub start_before : List Terminal → Place → Place → Place
-start_before [] p q = q
-start_before (t ∷ ts) p q = p
+-- what a line begins with, behind one token more that has this, by the terminals before
+abbrev pub of_first : {A : Type 0} → List Terminal → A → A → A
+of_first [] p q = q
+of_first (t ∷ ts) p q = p
+
+-- where ENDMARKER starts, behind an entry that may be it
+abbrev pub marker_behind : Entry → Place → Place
+marker_behind e p = elim e.kind [ kinds.EndMarker ↦ e.start | _ ↦ p ]
+
+-- the texts of a line's first and last token are those of the header of a `match` statement
+abbrev pub spell_match : (first last : List ℕ) → Bool
+spell_match first last = bytes_eq first (109 ∷ 97 ∷ 116 ∷ 99 ∷ 104 ∷ []) && bytes_eq last (58 ∷ [])
+
+-- those that are kept are
+abbrev pub keeps_match : LineGather → Bool
+keeps_match g = spell_match (chars g.first.now) (chars g.last.now)
 
 -- what an entry without a fault of its own adds to the line that is open
 pub record Adds (text : List ℕ) (e : Entry) (old new : LineGather) : Type 0 where
   pub terminals : map terminal new.terminals.items ≡ map terminal old.terminals.items ++ own_terminals text e
-  pub start : new.start ≡ (if stands_in_line e.kind then start_before old.terminals.items old.start e.start else old.start)
+  pub start : new.start ≡ (if stands_in_line e.kind then of_first old.terminals.items old.start e.start else old.start)
+  pub first : chars new.first.now ≡ (if stands_in_line e.kind then of_first old.terminals.items (chars old.first.now) (text_of text e) else chars old.first.now)
+  pub last : chars new.last.now ≡ (if stands_in_line e.kind then text_of text e else chars old.last.now)
 
 -- what is gathered behind one entry more
 pub record Takes (text : List ℕ) (e : Entry) (old new : LineGather) : Type 0 where
@@ -59,6 +74,7 @@ pub record Takes (text : List ℕ) (e : Entry) (old new : LineGather) : Type 0 w
   pub level : ended_by e old.pass.begun ≡ true → new.level ≡ old.indents - old.dedents
   pub indents : new.indents ≡ counted old.indents (is_indent e.kind)
   pub dedents : new.dedents ≡ counted old.dedents (is_dedent e.kind)
+  pub marker : new.marker ≡ marker_behind e old.marker
   pub line : entry_refusal text e ≡ None → Adds text e old new
 
 -- the tokens of the line that is open behind some tokens
@@ -90,11 +106,24 @@ pub record Counts (text : List ℕ) (es : List Entry) (g : LineGather) : Type 0 
   pub few_indents : g.indents ≤ length es
   pub few_dedents : g.dedents ≤ length es
   pub some : g.pass.begun ≡ true → 0 < length (front_line text es)
+  pub marker : (before : List Entry) (e : Entry) → es ≡ before ++ e ∷ [] → e.kind ≡ kinds.EndMarker → g.marker ≡ e.start
+
+-- the text of the first and of the last token of a line
+abbrev pub first_text : List Token → Option (List ℕ)
+first_text [] = None
+first_text (t ∷ ts) = Some t.text
+
+abbrev pub last_text : List Token → Option (List ℕ)
+last_text [] = None
+last_text (t ∷ []) = Some t.text
+last_text (t ∷ ts) = last_text ts
 
 -- what is kept of the line that is open
 pub record KeepsLine (line : List Token) (g : LineGather) : Type 0 where
   pub terminals : map terminal g.terminals.items ≡ map token_terminal line
   pub start : (p : Place) → first_start line ≡ Some p → g.start ≡ p
+  pub first : (t : List ℕ) → first_text line ≡ Some t → chars g.first.now ≡ t
+  pub last : (t : List ℕ) → last_text line ≡ Some t → chars g.last.now ≡ t
 
 -- a lister and what is gathered stand behind the same entries of a source
 pub record StandsAt (p : Parts) (l : Listed) (g : LineGather) : Type 0 where
@@ -123,3 +152,4 @@ pub record ReadsLine (p : Parts) (old new : Listed) (g : LineGather) : Type 0 wh
   pub level : g.level ≡ line.level
   pub terminals : map terminal g.terminals.items ≡ map token_terminal line.tokens
   pub start : first_start line.tokens ≡ Some g.start
+  pub is_match : keeps_match g ≡ is_match line.tokens

@@ -1,5 +1,6 @@
 -- What a reader of lines keeps between its calls.
 use Rattle.std.specs.Prelude.{◌≡◌, ℕ, Bool, false, length, Some, None, Result, Ok, Err, map}
+use Rattle.pysource.specs.declared.places.Place.{Place}
 use Rattle.pylex.specs.Listing.{Source, in_characters}
 use Rattle.pytoken.specs.Tokens.{lines}
 use Rattle.pytoken.specs.Refusals.{refusal}
@@ -7,8 +8,8 @@ use Rattle.pyvalue.specs.Terminals.{terminal}
 use Rattle.pyparse.specs.declared.faults.ParseFault.{ParseFault}
 use Rattle.pyparse.specs.declared.logical_lines.LogicalLines.TheInside.{Inside}
 use Rattle.pyparse.specs.Answers.{Tells}
-use Rattle.pyparse.specs.LineReadings.{LineReading}
-use Rattle.pyparse.specs.Inner.LineGathering.{StandsBetween, lines_given}
+use Rattle.pyparse.specs.LineReadings.{LineReading, EndsAt}
+use Rattle.pyparse.specs.Inner.LineGathering.{keeps_match, StandsBetween, lines_given}
 
 -- what a reader shows
 abbrev pub reading : Inside → LineReading
@@ -18,16 +19,18 @@ reading l = record {
   level = l.gather.level;
   start = l.gather.start;
   terminals = map terminal l.gather.terminals.items;
+  is_match = keeps_match l.gather;
+  marker = l.gather.marker;
   outcome = l.outcome;
 }
 
--- what is answered where no line comes, behind so many
-abbrev pub Ends : Source → ℕ → Result Bool ParseFault → Type 0
-Ends s k (Ok more) = (more ≡ false) × (k ≡ length (lines s)) × (refusal s ≡ None)
-Ends s k (Err fault) = Tells (refusal s) fault
+-- what is answered where no line comes, behind so many, with ENDMARKER here
+abbrev pub Ends : Source → ℕ → Place → Result Bool ParseFault → Type 0
+Ends s k p (Ok more) = (more ≡ false) × (k ≡ length (lines s)) × (refusal s ≡ None) × EndsAt s p
+Ends s k p (Err fault) = Tells (refusal s) fault
 
 -- it stands between two lines until it has told the end or a fault
 pub record IsReading (l : Inside) : Type 0 where
   pub between : l.outcome ≡ None → StandsBetween l.source.now l.lister l.gather
   pub ended : (answer : Result Bool ParseFault) → l.outcome ≡ Some answer
-      → Ends (in_characters l.source.now) (lines_given l.source.now l.lister) answer
+      → Ends (in_characters l.source.now) (lines_given l.source.now l.lister) l.gather.marker answer

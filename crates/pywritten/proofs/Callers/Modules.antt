@@ -1,6 +1,25 @@
--- On: a module that some lines are is that of its own lines.
-use Rattle.pywritten.specs.Laws.{ModulesComeBack}
+-- On: a module that some lines are is that of its own lines, and lines are one module at most; the heights of forms, and the brackets of lines.
+use Rattle.pywritten.specs.Laws.{ModulesComeBack, LinesAreOneModule, AcceptedComeBack, FormsAreLow, ModulesAreLow, LineBracketsAreWithinHeight}
 use Rattle.pywritten.proofs.Modules.Law
+use Rattle.pywritten.proofs.Modules.Low
+use Rattle.pywritten.proofs.Modules.High
+use Rattle.pywritten.proofs.Modules.FlatLines
+use Rattle.pywritten.proofs.Modules.Accepted
 
 pub modules_come_back : ModulesComeBack
 modules_come_back = Law.modules_again
+
+pub lines_are_one_module : LinesAreOneModule
+lines_are_one_module = Accepted.one_module
+
+pub accepted_come_back : AcceptedComeBack
+accepted_come_back = Accepted.accepted_again
+
+pub forms_are_low : FormsAreLow
+forms_are_low = Low.forms_low
+
+pub line_brackets_are_within_height : LineBracketsAreWithinHeight
+line_brackets_are_within_height = FlatLines.line_brackets
+
+pub modules_are_low : ModulesAreLow
+modules_are_low = High.modules_low

@@ -28,62 +28,62 @@ use Rattle.pywritten.proofs.Fewest.Reach.{every, implied, fit_within}
 
 -- balanced, with no more than n open at once
 pub record Flat (n : ℕ) (ts : List Terminal) : Type 0 where
-  at : (d : ℕ) (us : List Terminal) → most_open d (ts ++ us) ≤ max (d + n) (most_open d us)
+  pub at : (d : ℕ) (us : List Terminal) → most_open d (ts ++ us) ≤ max (d + n) (most_open d us)
 
-flat_none : (n : ℕ) → Flat n []
+pub flat_none : (n : ℕ) → Flat n []
 flat_none n = record { at = λ d us. omega arith }
 
 flat_more : (m n : ℕ) {ts : List Terminal} → m ≤ n → Flat m ts → Flat n ts
 flat_more m n h f = record { at = λ d us. omega (arith, h, f.at d us) }
 
-start_open : (d : ℕ) (us : List Terminal) → d ≤ most_open d us
+pub start_open : (d : ℕ) (us : List Terminal) → d ≤ most_open d us
 start_open d [] = omega arith
 start_open d (t ∷ us) = omega arith
 
-both : {n : ℕ} {ts us : List Terminal} → Flat n ts → Flat n us → Flat n (ts ++ us)
+pub both : {n : ℕ} {ts us : List Terminal} → Flat n ts → Flat n us → Flat n (ts ++ us)
 both {n} {ts} {us} f g = record { at = λ d vs. rw (append_assoc ts us vs) (omega (arith, f.at d (us ++ vs), g.at d vs)) }
 
-abbrev Neutral : Terminal → Type 0
+abbrev pub Neutral : Terminal → Type 0
 Neutral t = (d : ℕ) → open_after d t ≡ d
 
-plain : {n : ℕ} {t : Terminal} {ts : List Terminal} → Neutral t → Flat n ts → Flat n (t ∷ ts)
+pub plain : {n : ℕ} {t : Terminal} {ts : List Terminal} → Neutral t → Flat n ts → Flat n (t ∷ ts)
 plain {n} {t} {ts} k f = record { at = λ d us. rw (k d) (omega (arith, f.at d us, start_open d us)) }
 
 -- a pair of brackets
-record Opens (t : Terminal) : Type 0 where
-  is : (d : ℕ) → open_after d t ≡ suc d
+pub record Opens (t : Terminal) : Type 0 where
+  pub is : (d : ℕ) → open_after d t ≡ suc d
 
-record Closes (t : Terminal) : Type 0 where
-  is : (d : ℕ) → open_after (suc d) t ≡ d
+pub record Closes (t : Terminal) : Type 0 where
+  pub is : (d : ℕ) → open_after (suc d) t ≡ d
 
-open_round : Opens (Op LPar)
+pub open_round : Opens (Op LPar)
 open_round = record { is = λ d. refl }
 
-open_square : Opens (Op LSqb)
+pub open_square : Opens (Op LSqb)
 open_square = record { is = λ d. refl }
 
 open_curly : Opens (Op LBrace)
 open_curly = record { is = λ d. refl }
 
-close_round : Closes (Op RPar)
+pub close_round : Closes (Op RPar)
 close_round = record { is = λ d. omega arith }
 
-close_square : Closes (Op RSqb)
+pub close_square : Closes (Op RSqb)
 close_square = record { is = λ d. omega arith }
 
 close_curly : Closes (Op RBrace)
 close_curly = record { is = λ d. omega arith }
 
-pair : {n : ℕ} {o c : Terminal} {ts : List Terminal} → Opens o → Closes c → Flat n ts → Flat (n + 1) (o ∷ (ts ++ (c ∷ [])))
+pub pair : {n : ℕ} {o c : Terminal} {ts : List Terminal} → Opens o → Closes c → Flat n ts → Flat (n + 1) (o ∷ (ts ++ (c ∷ [])))
 pair {n} {o} {c} {ts} p q f = record { at = λ d us. rw (p.is d, append_assoc ts (c ∷ []) us) (step d us) }
   where
     step : (d : ℕ) (us : List Terminal) → max d (most_open (suc d) (ts ++ (c ∷ us))) ≤ max (d + (n + 1)) (most_open d us)
     step d us = let h : most_open (suc d) (ts ++ (c ∷ us)) ≤ max (suc d + n) (max (suc d) (most_open d us)) = subst (λ k. most_open (suc d) (ts ++ (c ∷ us)) ≤ max (suc d + n) (max (suc d) (most_open k us))) (q.is d) (f.at (suc d) (c ∷ us)) in omega (arith, h, start_open d us)
 
-up : {m n : ℕ} {ts : List Terminal} → Flat m ts → m ≤ n → Flat n ts
+pub up : {m n : ℕ} {ts : List Terminal} → Flat m ts → m ≤ n → Flat n ts
 up {m} {n} f h = flat_more m n h f
 
-neutral : Neutral (Op Comma)
+pub neutral : Neutral (Op Comma)
 neutral d = refl
 
 fit_flat : {n : ℕ} {ts : List Terminal} (l k : Level) → Flat n ts → Flat (n + 1) (fit terminal l k ts)
@@ -95,15 +95,15 @@ fit_flat {n} {ts} l k f = by (reaches l k)
     by false = pair open_round close_round f
 
 -- lists of lists
-data AllFlat (n : ℕ) : List (List Terminal) → Type 0 where
+pub data AllFlat (n : ℕ) : List (List Terminal) → Type 0 where
   none : AllFlat n []
   one : {ts : List Terminal} {tss : List (List Terminal)} → Flat n ts → AllFlat n tss → AllFlat n (ts ∷ tss)
 
-all_up : {m n : ℕ} {tss : List (List Terminal)} → AllFlat m tss → m ≤ n → AllFlat n tss
+pub all_up : {m n : ℕ} {tss : List (List Terminal)} → AllFlat m tss → m ≤ n → AllFlat n tss
 all_up none h = none
 all_up (one f r) h = one (up f h) (all_up r h)
 
-separated_flat : {n : ℕ} {tss : List (List Terminal)} (t : Terminal) → Neutral t → AllFlat n tss → Flat n (separated t tss)
+pub separated_flat : {n : ℕ} {tss : List (List Terminal)} (t : Terminal) → Neutral t → AllFlat n tss → Flat n (separated t tss)
 separated_flat {n} t k none = flat_none n
 separated_flat t k (one f none) = f
 separated_flat t k (one f (one g r)) = both f (plain k (separated_flat t k (one g r)))
@@ -118,7 +118,7 @@ tuple_flat Elem s (one f r) = pair open_round close_round (with_comma_flat (one 
 tuple_flat Part true (one f r) = up (separated_flat (Op Comma) neutral (one f r)) (omega arith)
 tuple_flat _ _ (one f r) = up (with_comma_flat (one f r)) (omega arith)
 
-all_append : {n : ℕ} {xs ys : List (List Terminal)} → AllFlat n xs → AllFlat n ys → AllFlat n (xs ++ ys)
+pub all_append : {n : ℕ} {xs ys : List (List Terminal)} → AllFlat n xs → AllFlat n ys → AllFlat n (xs ++ ys)
 all_append none r = r
 all_append (one f q) r = one f (all_append q r)
 
@@ -293,7 +293,7 @@ mutual
   flat l a (Trees.SetComp e gs) = pair open_curly close_curly (both (up (flat Named refl e) (omega arith)) (up (flat_clauses gs) (omega arith)))
   flat l a (Trees.Slice x y z) = fit_flat l Slice (both (up (flat_perhaps Expression refl x) (omega arith)) (plain (λ d. refl) (both (up (flat_perhaps Expression refl y) (omega arith)) (up (flat_suffixed Colon (λ d. refl) z) (omega arith)))))
 
-  flat_each : (l : Level) → not_atom l ≡ true → (es : Exprs) → AllFlat (heights es) (each terminal l es)
+  pub flat_each : (l : Level) → not_atom l ≡ true → (es : Exprs) → AllFlat (heights es) (each terminal l es)
   flat_each l a no_exprs = none
   flat_each l a (an_expr e es) = one (up (flat l a e) (omega arith)) (all_up (flat_each l a es) (omega arith))
 
@@ -309,7 +309,7 @@ mutual
   flat_alone (an_expr (Trees.GeneratorExp e gs) es) = both (up (flat Named refl e) (omega arith)) (up (flat_clauses gs) (omega arith))
   flat_alone es = flat_none (heights es)
 
-  flat_by_name : (ks : Keywords) → AllFlat (keyword_heights ks) (by_name terminal ks)
+  pub flat_by_name : (ks : Keywords) → AllFlat (keyword_heights ks) (by_name terminal ks)
   flat_by_name no_keyword = none
   flat_by_name (a_keyword None e ks) = one (plain (λ d. refl) (up (flat Expression refl e) (omega arith))) (all_up (flat_by_name ks) (omega arith))
   flat_by_name (a_keyword (Some x) e ks) = one (plain (λ d. refl) (plain (λ d. refl) (up (flat Expression refl e) (omega arith)))) (all_up (flat_by_name ks) (omega arith))
@@ -334,7 +334,7 @@ mutual
   flat_conditions no_exprs = flat_none 0
   flat_conditions (an_expr e es) = plain (λ d. refl) (both (up (flat Or refl e) (omega arith)) (up (flat_conditions es) (omega arith)))
 
-  flat_parameters : (a : Arguments) → AllFlat (arguments_height a) (parameters terminal a)
+  pub flat_parameters : (a : Arguments) → AllFlat (arguments_height a) (parameters terminal a)
   flat_parameters (arguments ps qs v ks kds k ds) = all_append (slash_flat (names terminal ps) (beside_flat (all_append (all_up (flat_names ps) (omega arith)) (all_up (flat_names qs) (omega arith))) (all_append (replicate_flat _) (equal_flat (all_up (flat_each Expression refl ds) (omega arith)))))) (all_append (star_flat (names terminal ks) (all_up (flat_gathered Star (λ d. refl) v) (omega arith))) (all_append (beside_flat (all_up (flat_names ks) (omega arith)) (all_up (flat_defaults kds) (omega arith))) (all_up (flat_gathered DoubleStar (λ d. refl) k) (omega arith))))
 
   flat_names : (ps : Args) → AllFlat (arg_heights ps) (names terminal ps)

@@ -20,7 +20,7 @@ use Rattle.pyspacing.proofs.Forms as Form
 use Rattle.pywritten.proofs.Pieces.Sorts.{is_like, within, suit, sorts_fit, starts_plain, starts_part, ends_plain, ends_comma, ends_part, starts, ends, starts_more, ends_more, more_item, more_part, more_comma, more_colon}
 use Rattle.pywritten.proofs.Pieces.Fair.{Fair, fair_sign, is_bracket, opens_none, closes_none}
 
-give_both : {xs ys : List Piece} {ts us : List Terminal} → Give xs ts → Give ys us → Give (xs ++ ys) (ts ++ us)
+pub give_both : {xs ys : List Piece} {ts us : List Terminal} → Give xs ts → Give ys us → Give (xs ++ ys) (ts ++ us)
 give_both give_none y = y
 give_both (give g x) y = give g (give_both x y)
 

@@ -8,8 +8,9 @@ use Rattle.pytoken.specs.declared.refusals.Refusal.{Refusal}
 use Rattle.pyparse.specs.declared.line_gather.LineGather.{LineGather}
 use Rattle.pyparse.specs.Answers.{Tells}
 use Rattle.pyparse.specs.Inner.Passing.{kept_refusal}
-use Rattle.pyparse.specs.LineReadings.{lines_within}
+use Rattle.pyparse.specs.LineReadings.{lines_within, EndsAt}
 use Rattle.pyparse.proofs.ListingLemmas.{moved, at_stop}
+use Rattle.pyparse.proofs.EndLemmas.{ends_at}
 use Rattle.pyparse.proofs.PassLemmas.{all_refusals, refused_listing}
 use Rattle.pyparse.proofs.LineGatherLemmas.{entry_read, stands_on, cleared, none_before, same_line, same_lines, line_read, all_lines}
 use Rattle.pyparse.proofs.logical_lines.read_line.Goals as goal
@@ -128,6 +129,18 @@ returns-in-End-clause-sound c =
     let last = at_stop (listing s) k steps.End at.whole at.within tt m.0 in
     let all = all_refusals s (take k (entries_of (listing s))) c.loop-entry.gather.pass at.counts.pass last.0 last.1 in
     IfOk-weaker c.end.result _ _ (λ more ends _. sym all ∙ ends.1) c.end.ensures.end
+
+pub returns-in-End-clause-marker : goal.returns-in-End-clause-marker
+returns-in-End-clause-marker c =
+    let s = in_characters c.args.source.now in
+    let at = c.loop-entry.invariant.at in
+    let k = c.loop-entry.lister.shown.given in
+    let m = moved c.loop-entry.lister c.next.new.self c.in_ok-entry.field-0 steps.End s k c.in_ok-entry.ensures.moves c.in-End.is at.stands in
+    let last = at_stop (listing s) k steps.End at.whole at.within tt m.0 in
+    let end = ends_at s at.whole last.1 in
+    let start : c.loop-entry.gather.marker ≡ end.1.start = at.counts.marker end.0 end.1 (last.0 ∙ end.2) end.3 in
+    let ends : EndsAt s c.loop-entry.gather.marker = subst (EndsAt s) (sym start) end.4 in
+    IfOk-weaker c.end.result _ _ (λ more is _. ends) c.end.ensures.end
 
 pub returns-in-End-clause-refused : goal.returns-in-End-clause-refused
 returns-in-End-clause-refused c =

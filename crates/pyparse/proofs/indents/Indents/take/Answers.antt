@@ -1,10 +1,10 @@
-use Rattle.std.proofs.Common.{◌≡◌, ℕ, List, Bool, drop, length, sym, ap, ◌∙◌}
+use Rattle.std.proofs.Common.{ℕ, List, drop, length, sym, ap, ◌∙◌}
 use Rattle.std.specs.Str.{chars}
 use Rattle.pylexeme.specs.Cuts.{begins_thing}
 use Rattle.pylex.specs.Margins.{blanks_of, widths_of}
 use Rattle.pytoken.specs.Indentation.{margin_at}
 use Rattle.pyparse.specs.Inner.Indenting.{begins_blank}
-use Rattle.pyparse.proofs.IndentLemmas.{takes_none, takes_behind, none_of, spaced, line_of}
+use Rattle.pyparse.proofs.IndentLemmas.{takes_none, takes_behind, spaced, line_of}
 use Rattle.pyparse.proofs.indents.Indents.take.Goals as goal
 
 pub returns-then-is_some : goal.returns-then-is_some

@@ -1,4 +1,4 @@
-use Rattle.std.proofs.Common.{sym, ap, Some}
+use Rattle.std.proofs.Common.{ap, Some}
 use Rattle.std.specs.Str.{chars}
 use Rattle.pysource.specs.declared.places.Place.{Place}
 use Rattle.pytoken.specs.declared.refusals.Refusal.TheVariants.{MixedTabs}

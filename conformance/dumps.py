@@ -1,0 +1,552 @@
+#!/usr/bin/env python3
+"""Compares `pyast dump` with `ast.parse` and `ast.dump` of Python 3.11, byte for byte.
+
+    conformance/dumps.py [FOLDER ..] [--quick] [--mutate N]
+
+Every .py file below the folders (by default that of Python's own library with its tests) is dumped in three styles: plain, with
+--indent 2 and with --bare. What pyast writes has to be what `ast.dump` gives, or both have to refuse the source. Where pyast refuses
+what Python accepts, or the other way round, the difference has to be of a class of docs/DECISIONS.md. The forms that pyast leaves
+out are such classes: there the fault has to be the first such form of the source, at its place; and the parts of the file without
+one are compared as sources of their own: its statements, and those within statements that have one. Any other difference is a
+failure, shown by the smallest input that has it.
+
+The exit status is 0 where every difference has a class, 1 where one has none, and 2 where nothing could be compared; with
+--or-skip it is 0 too where there is no Python 3.11.
+"""
+
+import argparse
+import ast
+import collections
+import functools
+import io
+import keyword
+import multiprocessing
+import os
+import random
+import re
+import shlex
+import shutil
+import subprocess
+import sys
+import sysconfig
+import tempfile
+import time
+import tokenize
+import unicodedata
+import warnings
+
+from compare import LATER_IN_NAMES, Outcome, is_newer, python_files, short_name, show_progress, shrink
+from values import reason_of
+
+TOP = os.path.dirname(os.path.dirname(os.path.abspath(__file__)))
+STYLES = {(): {}, ("--indent", "2"): {"indent": 2}, ("--bare",): {"annotate_fields": False}}
+FAULT_LINE = re.compile(r"<stdin>:(\d+):(\d+): error: (.*)\n")
+OCTAL_IN_BYTES = re.compile(rb"\\[4-7][0-7][0-7]")
+# A backslash with what it takes along, or another byte.
+UNIT = re.compile(rb"\\[0-7]{1,3}|\\.|[^\\]", re.DOTALL)
+JOINED_MARGIN = re.compile(rb"^([ \t\f]*)\\\r?\n([ \t\f]*)", re.MULTILINE)
+MARGIN = re.compile(r"[ \t\f]*")
+ANNOTATED = re.compile(rb"AnnAssign\(target=(Attribute|Subscript)\(")
+HIGHEST = 500
+
+SAME = "the same tree"
+REFUSED = "refused by both"
+FLOAT = "left out: float"
+COMPLEX = "left out: complex number"
+FSTRING = "left out: f-string"
+LARGE = "left out: integer too large"
+NAMED = "left out: named escape"
+MATCH = "left out: match statement"
+FORM = "name form"
+OCTAL = "octal escape above 377 in bytes"
+ENCODING = "another encoding"
+MARK = "byte order mark with a cookie"
+RETURN = "lone carriage return"
+DEEP = "too deep"
+LIMIT = "a limit of Python's parser"
+NUMBER = "number with a letter behind it"
+TARGET = "annotated target with a front in brackets"
+NAMES = "identifier characters"
+NEWER = "characters newer than Unicode 14"
+JOIN = "line that begins with a join"
+UNEXPLAINED = "NO CLASS"
+
+# The classes, in the order of the table, each with a source that has to fall into it.
+SAMPLES = {
+    SAME: b"if x:\n  '''a\n b''' # c",
+    REFUSED: b"x = )\n",
+    FLOAT: b"x = 'a', 1.5\n",
+    COMPLEX: b"x\n1e5J\n",
+    FSTRING: b"x = 'a' f'b'\n",
+    LARGE: b"x = 340282366920938463463374607431768211456\n",
+    NAMED: b"'\\N{EM DASH}'\n",
+    MATCH: b"if x:\n  match x:\n    case 1: pass\n",
+    FORM: "x.\uff49\uff46 = 1\n".encode(),
+    OCTAL: b"b'\\400'\n",
+    ENCODING: b"# coding: latin-1\n",
+    MARK: b"\xef\xbb\xbf# coding: utf8\nx\n",
+    RETURN: b"x\ry\n",
+    DEEP: b"-" * 500 + b"x\n",
+    LIMIT: b"(" * 201 + b"x" + b")" * 201 + b"\n",
+    NUMBER: b"with 1as x: pass\n",
+    TARGET: b"(b).c: d\n",
+    NAMES: "a\u30fbb\n".encode(),
+    NEWER: "'\U0001fae8'\n".encode(),
+    JOIN: b"if x:\n y\n\\\n z\n",
+}
+LEFT_OUT = {"Float": (FLOAT, "float literal"), "Complex": (COMPLEX, "complex literal"), "FString": (FSTRING, "f-string"),
+            "IntegerTooLarge": (LARGE, "integer too large"), "NamedEscape": (NAMED, "named escape")}
+# What Python's parser says where it stops at a limit of its own, looks closer at a number than the tokens do, or takes the brackets
+# of `(b).c: d` for those of the whole target.
+LIMITS = ("too many nested parentheses", "too many levels of indentation", "parser stack overflow", "maximum recursion depth exceeded")
+NUMBERS = ("invalid decimal literal", "invalid hexadecimal literal", "invalid octal literal", "invalid binary literal",
+           "invalid imaginary literal")
+
+Fault = collections.namedtuple("Fault", "row column text rule")
+Result = collections.namedtuple("Result", "name data found parts seconds")
+
+
+# --- the two programs -------------------------------------------------------------------------------------------------
+
+
+def program_outcome(program, words, data):
+    """What `pyast dump WORDS` does with a source."""
+    try:
+        done = subprocess.run([*program, "dump", *words], input=data, stdout=subprocess.PIPE, stderr=subprocess.PIPE, timeout=300)
+    except subprocess.TimeoutExpired:
+        return Outcome(None, b"", b"no end within 300 s\n")
+    return Outcome(done.returncode, done.stdout, done.stderr)
+
+
+def python_tree(data):
+    """The tree that Python's parser gives a source, or None, and why there is none."""
+    try:
+        return ast.parse(data), None
+    except (SyntaxError, ValueError, RecursionError, MemoryError) as error:
+        return None, error
+
+
+def python_dump(tree, named):
+    """What pyast has to write for a tree, in a style."""
+    return ast.dump(tree, **named).encode("utf-8", "surrogatepass") + b"\n"
+
+
+# --- what is left out -------------------------------------------------------------------------------------------------
+
+
+def own_fault(token):
+    """What pyast leaves out in a token of a source that Python accepts, or None: a class and its text."""
+    if token.type in (tokenize.NUMBER, tokenize.STRING):
+        reason = reason_of(token.type, token.string)
+        if reason:
+            return LEFT_OUT[reason]
+    if token.type == tokenize.STRING and "b" in re.match(r"\w*", token.string)[0].lower() and "r" not in token.string[:2].lower():
+        if any(OCTAL_IN_BYTES.match(unit) for unit in UNIT.findall(token.string.encode())):
+            return OCTAL, "bad escape"
+    if token.type == tokenize.NAME and not token.string.isascii():
+        form = unicodedata.normalize("NFKC", token.string)
+        if form != token.string and keyword.iskeyword(form):
+            return FORM, "name form"
+    return None
+
+
+def first_match(tree, data):
+    """The place of the first `match` statement of a tree, or None."""
+    found = [(node.lineno, node.col_offset) for node in ast.walk(tree) if isinstance(node, ast.Match)]
+    if not found:
+        return None
+    row, offset = min(found)
+    line = data.split(b"\n")[row - 1].removeprefix(b"\xef\xbb\xbf" if row == 1 else b"")
+    return row, len(line[:offset].decode())
+
+
+def due_fault(tree, data):
+    """The fault that pyast has to tell of a source that Python accepts, for the first form that it leaves out; None without one."""
+    try:
+        for token in tokenize.tokenize(io.BytesIO(data).readline):
+            found = own_fault(token)
+            if found:
+                return Fault(*token.start, found[1], found[0])
+    except (tokenize.TokenError, SyntaxError, ValueError):
+        return None
+    place = first_match(tree, data)
+    return Fault(*place, "match statement", MATCH) if place else None
+
+
+# --- one comparison ---------------------------------------------------------------------------------------------------
+
+
+def told_fault(outcome):
+    """The fault that pyast tells, without a class, or None."""
+    line = FAULT_LINE.fullmatch(outcome.err.decode("utf-8", "replace"))
+    return Fault(int(line[1]), int(line[2]), line[3], None) if line and outcome.status == 1 and not outcome.out else None
+
+
+def is_high(tree):
+    """Whether more than 500 expressions or statements of a tree stand in one another."""
+    pending = [(tree, 0, 0)]
+    while pending:
+        node, expressions, statements = pending.pop()
+        expressions += isinstance(node, ast.expr)
+        statements += isinstance(node, ast.stmt)
+        if max(expressions, statements) > HIGHEST:
+            return True
+        pending += [(child, expressions, statements) for child in ast.iter_child_nodes(node)]
+    return False
+
+
+def class_of_refusal(told, tree, data):
+    """The class of a source that pyast refuses and Python accepts, or None."""
+    due = due_fault(tree, data)
+    if due and due._replace(rule=None) == told:
+        return due.rule
+    if told.text in ("unsupported encoding", "byte order mark with another encoding"):
+        return ENCODING
+    if told.text == "carriage return without line feed" and re.search(rb"\r(?!\n)", data):
+        return RETURN
+    return DEEP if told.text == "too deep" and is_high(tree) else None
+
+
+def class_of_acceptance(mine, error, data):
+    """The class of a source that pyast accepts and Python refuses, or None."""
+    said = str(error)
+    if isinstance(error, (RecursionError, MemoryError)) or any(limit in said for limit in LIMITS):
+        return LIMIT
+    if any(number in said for number in NUMBERS):
+        return NUMBER
+    if re.search(r"illegal target for annotation|only single target", said) and ANNOTATED.search(mine.out):
+        return TARGET
+    if "utf8 with BOM" in said:
+        return MARK
+    later = any(is_newer(one) or one in LATER_IN_NAMES for one in data.decode("utf-8", "replace"))
+    return NAMES if later and "invalid" in said else None
+
+
+def as_escapes(out):
+    """A dump in which characters that Python doesn't know are escaped, as it shows them."""
+    text = out.decode("utf-8", "surrogatepass")
+    newer = {ord(one): f"\\U{ord(one):08x}" if ord(one) > 0xFFFF else f"\\u{ord(one):04x}" for one in set(text) if is_newer(one)}
+    return text.translate(newer).encode("utf-8", "surrogatepass")
+
+
+def class_of_tree(program, data, tree, plain):
+    """The class of a source that both accept: pyast's plain dump is given, the other styles are asked for."""
+    outs = [plain, *(program_outcome(program, words, data) for words in list(STYLES)[1:])]
+    due = [python_dump(tree, named) for named in STYLES.values()]
+    if any(outcome.status != 0 or outcome.err for outcome in outs):
+        return None
+    if [outcome.out for outcome in outs] == due:
+        return SAME
+    return NEWER if [as_escapes(outcome.out) for outcome in outs] == due else None
+
+
+def by_first_margin(found):
+    """What Python takes for the margin of a line that begins with a join: that before the join, or that behind it where there is none."""
+    return found[1] or found[2]
+
+
+def class_of(program, data, joins=True):
+    """The class of what both make of a source."""
+    mine = program_outcome(program, (), data)
+    tree, error = python_tree(data)
+    told = told_fault(mine)
+    if mine.status == 0 and tree is not None:
+        found = class_of_tree(program, data, tree, mine)
+    elif mine.status == 0:
+        found = class_of_acceptance(mine, error, data) if not mine.err else None
+    elif told and tree is not None:
+        found = class_of_refusal(told, tree, data)
+    else:
+        found = REFUSED if told else None
+    if found is None and joins and JOINED_MARGIN.search(data):
+        straight = JOINED_MARGIN.sub(by_first_margin, data)
+        found = JOIN if class_of(program, straight, False) else None
+    return found
+
+
+# --- the parts of a file ----------------------------------------------------------------------------------------------
+
+
+def rows_of(statement):
+    """The first and the last row of a statement, its decorators included."""
+    return min([statement.lineno, *(one.lineno for one in getattr(statement, "decorator_list", []))]), statement.end_lineno
+
+
+def groups_of(statements):
+    """The rows of statements; those that share a row stand together."""
+    groups = []
+    for statement in statements:
+        first, last = rows_of(statement)
+        if groups and first <= groups[-1][1]:
+            groups[-1] = groups[-1][0], max(last, groups[-1][1])
+        else:
+            groups.append((first, last))
+    return groups
+
+
+def bodies_of(statement):
+    """The lists of statements that stand within a statement."""
+    yield from (getattr(statement, field, []) for field in ("body", "orelse", "finalbody"))
+    yield from (part.body for part in getattr(statement, "handlers", []) + getattr(statement, "cases", []))
+
+
+def cut_out(lines, first, last):
+    """Rows of a source, less the margin of the first of them in each that has it."""
+    rows = lines[first - 1:last]
+    margin = MARGIN.match(rows[0])[0]
+    return "".join(row.removeprefix(margin) for row in rows)
+
+
+def parts_of(text):
+    """The parts of a source without a form that is left out, the largest that are statements: each a source that Python accepts."""
+    tree, _ = python_tree(text.encode())
+    if tree is None:
+        return
+    lines = text.splitlines(keepends=True) if "\f" not in text and "\v" not in text else re.findall(r".*\n|.+", text)
+    if lines and not lines[-1].endswith("\n"):
+        lines[-1] += "\n"
+    pending = [tree.body]
+    while pending:
+        statements = pending.pop()
+        for first, last in groups_of(statements):
+            part = cut_out(lines, first, last)
+            whole, _ = python_tree(part.encode())
+            if whole is not None and due_fault(whole, part.encode()) is None:
+                yield part
+                continue
+            for statement in statements:
+                if first <= rows_of(statement)[0] <= last:
+                    pending += [body for body in bodies_of(statement) if body and rows_of(body[0])[0] > statement.lineno]
+
+
+def differing_parts(program, parts):
+    """The parts of which pyast dumps another tree than Python: all are dumped as one source, and by halves where that differs."""
+    if not parts:
+        return []
+    found = class_of(program, "".join(parts).encode())
+    if found in (SAME, NEWER):
+        return []
+    if len(parts) == 1:
+        return parts if found is None else []
+    half = len(parts) // 2
+    return differing_parts(program, parts[:half]) + differing_parts(program, parts[half:])
+
+
+def compare_case(program, case):
+    """The comparison of one case: a path or bytes. Of what is refused for a form that is left out, the parts without one too."""
+    name, path, data = case
+    started = time.perf_counter()
+    if path:
+        with open(path, "rb") as file:
+            data = file.read()
+    found, parts = class_of(program, data) or UNEXPLAINED, []
+    if path and found.startswith("left out") or found in (OCTAL, FORM):
+        with tokenize.open(path) if path else io.StringIO(data.decode()) as source:
+            parts = list(parts_of(source.read()))
+        wrong = differing_parts(program, parts)
+        if wrong:
+            return Result(f"{name}, a part of it", wrong[0].encode(), UNEXPLAINED, len(parts), time.perf_counter() - started)
+    kept = None if path and found != UNEXPLAINED else data
+    return Result(name, kept, found, len(parts), time.perf_counter() - started)
+
+
+# --- mutants ----------------------------------------------------------------------------------------------------------
+
+PIECE = re.compile(r"\w+|[ \t]+|\r?\n|.", re.DOTALL)
+LARGEST_BASE = 8
+FILES_OF_BASES = 200
+WORDS = """x y self f 1 2 0 'a' b'b' u'c' ( ) [ ] { } , : ; = := == != < >= not in is and or if elif else for while lambda * ** + - ~ | ^ & <<
+// @ . ... -> += async await yield from import as with return def del class try except finally raise assert global nonlocal pass break
+None True type match case _ 1.5 2j f'x' '\\N{DASH}' b'\\400' 0x1f 012 1_0 \\ # \u00e9 \ufb01 \uff49\uff46""".split() + [
+    " ", "  ", "\n", "\n ", "\n  ", "\n\t", "\\\n", ":\n  ", "\r\n", "\t", "\f"]
+
+
+def mutant(chance, text):
+    """A text in which some pieces were put in, left out, doubled or taken for others."""
+    pieces = PIECE.findall(text)
+    for _ in range(chance.choice((0, 1, 1, 1, 1, 2, 2, 3))):
+        at, other = chance.randint(0, len(pieces)), chance.randint(0, len(pieces))
+        how = chance.randrange(5)
+        if how == 0:
+            del pieces[at:at + 1]
+        elif how == 1:
+            pieces[at:at] = [chance.choice(WORDS)]
+        elif how == 2:
+            pieces[at:at + 1] = [" ", chance.choice(WORDS), " "]
+        elif how == 3:
+            pieces[at:at] = pieces[other:other + 1]
+        else:
+            pieces[at:at + 1], pieces[other:other + 1] = pieces[other:other + 1], pieces[at:at + 1]
+    return "".join(pieces)
+
+
+def short_statements(path):
+    """The statements of a file that have a few rows, each less its margin."""
+    with open(path, "rb") as file:
+        text = file.read().decode("utf-8", "replace")
+    tree, _ = python_tree(text.encode())
+    lines = re.findall(r".*\n|.+", text)
+    for node in ast.walk(tree) if tree else ():
+        first, last = rows_of(node) if isinstance(node, ast.stmt) else (1, len(lines))
+        if lines and last - first < LARGEST_BASE:
+            yield cut_out(lines, first, last)
+
+
+def mutants(count, seed, paths):
+    """Sources that nobody would write, the same for the same seed: short statements of some files, changed in some pieces."""
+    chance = random.Random(seed)
+    some = chance.sample(paths, min(len(paths), FILES_OF_BASES)) if count else []
+    bases = [text for path in some for text in short_statements(path)]
+    for number in range(count if bases else 0):
+        chance = random.Random(f"{seed}-{number}")
+        data = mutant(chance, "".join(chance.choice(bases) for _ in range(chance.choice((1, 1, 1, 2)))))
+        yield f"mutant {number} of seed {seed}", None, data.encode("utf-8", "surrogatepass")
+
+
+# --- the run ----------------------------------------------------------------------------------------------------------
+
+
+def smallest(program, data, limit=120):
+    """The smallest input found that still shows a difference without class: first lines are left out, then characters."""
+    end = time.monotonic() + limit
+
+    def fails(pieces):
+        source = "".join(pieces).encode("utf-8", "surrogateescape")
+        return time.monotonic() < end and class_of(program, source) is None
+
+    text = data.decode("utf-8", "surrogateescape")
+    lines = shrink(re.findall(r".*\n|.+", text), fails)
+    return "".join(shrink(list("".join(lines)), fails)).encode("utf-8", "surrogateescape")
+
+
+def show_failure(program, result, reduce):
+    """Prints a difference without class, on its smallest input unless told not to look for it."""
+    print(f"\n{UNEXPLAINED}: {result.name}")
+    if not reduce:
+        return
+    data = smallest(program, result.data)
+    print(f"  smallest input: {data!r}")
+    tree, error = python_tree(data)
+    for words, named in STYLES.items():
+        mine = program_outcome(program, words, data)
+        print(f"  {' '.join(('pyast', 'dump', *words)):24} status {mine.status}: {(mine.out or mine.err).decode('utf-8', 'replace').strip()}")
+        if tree is not None:
+            print(f"  {'ast.dump':24} {python_dump(tree, named).decode('utf-8', 'replace').strip()}")
+    if tree is None:
+        print(f"  ast.parse: {error!r}")
+
+
+def show_table(results):
+    """Prints each class with its number of cases and its shortest example, or its sample where it has no case."""
+    groups = collections.defaultdict(list)
+    for result in results:
+        groups[result.found].append(result)
+    print(f"\n{'class':44}{'cases':>8}  example")
+    for name in [*SAMPLES, UNEXPLAINED]:
+        group = groups.get(name, [])
+        if group or name != UNEXPLAINED:
+            examples = [repr(one.data) if one.data else one.name for one in group]
+            example = min(examples or [repr(SAMPLES[name])], key=len)
+            print(f"{name:44}{len(group):8}  {example if name != SAME else ''}"[:140].rstrip())
+
+
+def all_cases(options):
+    """The number of cases, and the cases: name, path or None, bytes or None."""
+    paths = list(dict.fromkeys(python_files(options.folders)))[::10 if options.quick else 1]
+    files = [(short_name(path), path, None) for path in paths]
+    print(f"{len(files)} files, {options.mutate} mutants", flush=True)
+    changed = mutants(options.mutate, options.seed, paths)
+    return len(files) + options.mutate, (case for group in (files, changed) for case in group)
+
+
+def compare_all(options):
+    """The results of all cases."""
+    count, cases = all_cases(options)
+    work = functools.partial(compare_case, options.program)
+    results = []
+    with multiprocessing.Pool(options.jobs, prepare) as pool:
+        for result in pool.imap_unordered(work, cases, 4):
+            results.append(result)
+            show_progress(len(results), count)
+    return results
+
+
+def prepare():
+    """What each process needs: no warnings of the sources, and room for high trees."""
+    warnings.simplefilter("ignore")
+    sys.setrecursionlimit(20_000)
+
+
+def misplaced_samples(program):
+    """The samples that don't fall into their class: then the table of classes would say what isn't so."""
+    for name, source in SAMPLES.items():
+        found = class_of(program, source)
+        if found != name:
+            yield Result(f"the sample {source!r} of the class `{name}`, found in `{found}`", source, UNEXPLAINED, 0, 0)
+
+
+def compare(options):
+    """Compares all, prints what was found, and answers the exit status."""
+    started = time.monotonic()
+    print(f"pyast: {' '.join(options.program)}\nast: Python {sys.version.split()[0]}")
+    failures = list(misplaced_samples(options.program))
+    results = compare_all(options)
+    failures += sorted((one for one in results if one.found == UNEXPLAINED), key=lambda one: one.name)
+    for number, failure in enumerate(failures):
+        show_failure(options.program, failure, number < options.smallest)
+    show_table(results)
+    parts = sum(result.parts for result in results)
+    print(f"\nOf files with a form that is left out {parts} parts without one were compared.")
+    print(f"{time.monotonic() - started:.0f} s in all; {sum(result.seconds for result in results):.0f} s summed over the jobs")
+    print(f"Differences without class: {len(failures)}" if failures else "Every difference has a class.")
+    return int(bool(failures))
+
+
+def read_options():
+    """The command line."""
+    parser = argparse.ArgumentParser(description="Compares `pyast dump` with Python 3.11's ast.dump, byte for byte.")
+    parser.add_argument("folders", nargs="*", metavar="FOLDER", help="a folder or file; default: Python's own library")
+    parser.add_argument("--program", default=os.path.join(TOP, "crates", "pyast", "out", "pyast"), metavar="WORDS",
+                        help="the built program, or the words that call it; default: that of this project")
+    parser.add_argument("--jobs", type=int, default=os.cpu_count() or 1, metavar="N", help="processes; default: cores")
+    parser.add_argument("--quick", action="store_true", help="every 10th file alone")
+    parser.add_argument("--mutate", type=int, default=0, metavar="N", help="also N changed pieces of source")
+    parser.add_argument("--seed", type=int, default=1, metavar="S", help="what the changes depend on; default: 1")
+    parser.add_argument("--smallest", type=int, default=10, metavar="N",
+                        help="for how many failures the smallest input is looked for; default: 10")
+    parser.add_argument("--or-skip", action="store_true", help="where there is no Python 3.11, say so with status 0")
+    options = parser.parse_args()
+    options.folders = [os.path.abspath(folder) for folder in options.folders or [sysconfig.get_path("stdlib")]]
+    options.program = shlex.split(options.program)
+    return options
+
+
+def refuse(text):
+    """Ends the run, as nothing can be compared."""
+    print(f"dumps.py: {text}", file=sys.stderr)
+    sys.exit(2)
+
+
+def main():
+    """Finds what is needed, and compares."""
+    if sys.version_info[:2] != (3, 11):
+        path = shutil.which("python3.11")
+        if path:
+            os.execv(path, [path, os.path.abspath(__file__), *sys.argv[1:]])
+        why = "no Python 3.11 is found: there is no `python3.11` on the PATH, and `python3` isn't of that version"
+        if "--or-skip" in sys.argv[1:]:
+            print(f"skipped: {why}")
+            sys.exit(0)
+        refuse(why)
+    options = read_options()
+    if not shutil.which(options.program[0]):
+        refuse(f"{options.program[0]} isn't there: run {os.path.join(TOP, 'pyast')} once, which builds it")
+    for folder in options.folders:
+        if not os.path.exists(folder):
+            refuse(f"{folder} isn't there")
+    prepare()
+    sys.exit(compare(options))
+
+
+if __name__ == "__main__":
+    main()

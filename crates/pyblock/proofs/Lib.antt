@@ -1,0 +1,4 @@
+mod StatementLemmas
+mod MeetingLemmas
+mod LevelLemmas
+mod AnswerLemmas

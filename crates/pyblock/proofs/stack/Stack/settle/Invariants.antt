@@ -1,0 +1,10 @@
+use Rattle.std.proofs.Common.{◌≡◌, length}
+use Rattle.pygrammar.specs.Reading.{settle}
+use Rattle.pyblock.specs.Values.{state_of}
+use Rattle.pyblock.proofs.stack.Stack.settle.Given as goal
+
+abbrev pub invariant-loop-alloc : goal.invariant-loop-alloc
+invariant-loop-alloc l = settle l.level (state_of l.stack) ≡ settle l.level (state_of l.fn.self)
+
+abbrev pub decreases-loop-alloc : goal.decreases-loop-alloc
+decreases-loop-alloc l = length l.stack.below.items

@@ -1,0 +1,121 @@
+//! What a line finds of the level that it stands in.
+
+ghost use Rattle.std.specs.Prelude.{◌≡◌, ◌++◌, ◌∷◌, [], map, IfOk, IfErr};
+ghost use Rattle.pynode.specs.TreeOf.{stmt_of, tree_of};
+ghost use Rattle.pygrammar.specs.Reading.{Fine};
+ghost use Rattle.pyform.specs.FormOf.{header_of};
+ghost use Rattle.pyoutline.specs.Faults.{Tells};
+ghost use Rattle.pyblock.specs.Inner.Meeting.{begins, continues, marked, met};
+ghost use Rattle.pyblock.specs.Values.{group_of, part_of};
+
+use crate::closing::close;
+use crate::groups::{Group, Part};
+use pyform::Header;
+use pynode::{Expr, Stmt};
+use pyoutline::{BlockFault, Stop};
+use std::alloc::{AllocError, Global};
+
+/// Whether a header is a clause of a group.
+fn continues(header: &Header, group: &Group) -> bool
+    ensures { result ≡ continues (header_of header.now) (group_of group.now) }
+{
+    match header {
+        Header::Elif { .. } => matches!(group, Group::Choice { .. }),
+        Header::Else => matches!(
+            group,
+            Group::Choice { .. } | Group::Loop { .. } | Group::Caught { .. }
+        ),
+        Header::Except { star, .. } => match group {
+            Group::Trial { .. } => true,
+            Group::Caught { star: first, .. } => *star == *first,
+            _ => false,
+        },
+        Header::Finally => matches!(
+            group,
+            Group::Trial { .. } | Group::Caught { .. } | Group::Settled { .. }
+        ),
+        Header::Def { .. } => matches!(group, Group::Marked { .. }),
+        _ => false,
+    }
+}
+
+/// Whether a header begins a statement.
+fn begins(header: &Header) -> bool
+    ensures { result ≡ begins (header_of header.now) }
+{
+    matches!(
+        header,
+        Header::If { .. }
+            | Header::Loop { .. }
+            | Header::With { .. }
+            | Header::Try
+            | Header::Def { .. }
+    )
+}
+
+/// What a header finds: it goes on with the group of its level, or that ends before it.
+#[tactic(auto, using(crate::proofs::MeetingLemmas::met_is))]
+pub(crate) fn meet(
+    alloc: Global,
+    done: Vec<Stmt>,
+    group: Group,
+    header: &Header,
+) -> Result<Part, Stop>
+    ensures met { IfOk result (λ p. met (map stmt_of done.items) (group_of group)
+        (header_of header.now) ≡ Fine (part_of p)) }
+    ensures refused { IfErr result
+        (Tells (met (map stmt_of done.items) (group_of group) (header_of header.now))) }
+{
+    if continues(header, &group) {
+        return Ok(Part { done, group });
+    }
+    if begins(header) {
+        let done = close(alloc, done, group)?;
+        return Ok(Part {
+            done,
+            group: Group::Idle,
+        });
+    }
+    Err(Stop::Faulty(BlockFault::MisplacedClause))
+}
+
+/// Expressions, and one more.
+fn with_expr(expressions: Vec<Expr>, one: Box<Expr>) -> Result<Vec<Expr>, AllocError>
+    ensures { IfOk result
+        (λ v. map tree_of v.items ≡ map tree_of expressions.items ++ tree_of one.value ∷ []) }
+{
+    let mut expressions = expressions;
+    expressions.push(Box::into_inner(one))?;
+    Ok(expressions)
+}
+
+/// What a decorator makes of its level: it goes on with decorators, or the group ends before it.
+pub(crate) fn mark(
+    alloc: Global,
+    done: Vec<Stmt>,
+    group: Group,
+    value: Box<Expr>,
+) -> Result<Part, Stop>
+    ensures marked { IfOk result (λ p. marked (map stmt_of done.items) (group_of group)
+        (tree_of value.value) ≡ Fine (part_of p)) }
+    ensures refused { IfErr result
+        (Tells (marked (map stmt_of done.items) (group_of group) (tree_of value.value))) }
+{
+    match group {
+        Group::Marked { decorators } => {
+            let decorators = with_expr(decorators, value)?;
+            Ok(Part {
+                done,
+                group: Group::Marked { decorators },
+            })
+        }
+        group => {
+            let done = close(alloc, done, group)?;
+            let decorators = with_expr(Vec::new(alloc), value)?;
+            Ok(Part {
+                done,
+                group: Group::Marked { decorators },
+            })
+        }
+    }
+}

@@ -1,0 +1,31 @@
+use Rattle.std.proofs.Common.{◌≡◌, ◌++◌, ◌+◌, [], ◌∙◌, codes, refl, arith}
+use Rattle.std.specs.Io.KnownBytes.{Appends}
+use Rattle.pysource.specs.Bytes.{TakesFront}
+use Rattle.pysource.proofs.ByteLemmas.{Appends-append, Appends-refl}
+use Rattle.pyfault.specs.Faults.{text_of}
+use Rattle.pyfault.specs.declared.fault.FaultCode.TheVariants.{Run}
+use Rattle.pyfault.proofs.TellLemmas.{tells_cut, tells_last}
+use Rattle.pyfault.proofs.fault.tell_plain.Goals as goal
+
+pub returns-in_err-write_all : goal.returns-in_err-write_all
+returns-in_err-write_all g c =
+    tells_cut _ _ _ _ _ [] (codes "pyast: ") (text_of (Run c.args.code) ++ codes "\n") _ refl (Appends-refl _) c.in_err-write_all.ensures.front c.in_err-write_all.ensures.failed
+
+pub returns-in_err-write_all-2 : goal.returns-in_err-write_all-2
+returns-in_err-write_all-2 g c =
+    let first : Appends (g.F.ByteOut.taken c.args.faults.now) (g.F.ByteOut.taken c.write_all.new.writer) (codes "pyast: ") = c.in_ok-write_all.ensures.ok in
+    let cut : TakesFront (g.F.ByteOut.taken c.write_all.new.writer) (g.F.ByteOut.taken c.write_all-2.new.writer) (text_of (Run c.args.code)) =
+    rw (← c.fault_text.ensures, ← c.as_bytes.ensures.value) c.in_err-write_all-2.ensures.front in
+    let failed : g.F.ByteOut.failure_count c.write_all-2.new.writer ≡ g.F.ByteOut.failure_count c.args.faults.now + 1 =
+    omega (arith, c.in_ok-write_all.ensures.unfailed, c.in_err-write_all-2.ensures.failed) in
+    tells_cut _ _ _ _ _ (codes "pyast: ") (text_of (Run c.args.code)) (codes "\n") _ refl first cut failed
+
+pub returns : goal.returns
+returns g c =
+    let first : Appends (g.F.ByteOut.taken c.args.faults.now) (g.F.ByteOut.taken c.write_all.new.writer) (codes "pyast: ") = c.in_ok-write_all.ensures.ok in
+    let second : Appends (g.F.ByteOut.taken c.write_all.new.writer) (g.F.ByteOut.taken c.write_all-2.new.writer) (text_of (Run c.args.code)) =
+    rw (← c.fault_text.ensures, ← c.as_bytes.ensures.value) c.in_ok-write_all-2.ensures.ok in
+    let same : g.F.ByteOut.failure_count c.write_all-2.new.writer ≡ g.F.ByteOut.failure_count c.args.faults.now =
+    c.in_ok-write_all-2.ensures.unfailed ∙ c.in_ok-write_all.ensures.unfailed in
+    tells_last c.write_all-3.result _ _ _ _ _ _ (codes "pyast: " ++ text_of (Run c.args.code)) (codes "\n") _ refl same (Appends-append _ _ _ _ _ first second)
+    c.write_all-3.ensures.ok c.write_all-3.ensures.front c.write_all-3.ensures.failed

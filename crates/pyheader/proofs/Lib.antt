@@ -1,0 +1,4 @@
+mod DefinitionSteps
+mod ItemPushes
+mod ItemSteps
+mod WordSteps

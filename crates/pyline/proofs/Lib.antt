@@ -1,0 +1,2 @@
+mod FrontSteps
+mod Wholes

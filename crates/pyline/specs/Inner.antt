@@ -1,0 +1,4 @@
+pub mod Answers
+pub mod Fronts
+pub mod Heights
+pub mod Kinds

@@ -1,0 +1,39 @@
+//! A logical line.
+
+ghost use Rattle.std.specs.Prelude.{◌≤◌, MatchResult, map};
+ghost use Rattle.pygrammar.specs.Forms.{FormOf};
+ghost use Rattle.pygrammar.specs.FormHeights.{form_height};
+ghost use Rattle.pyvalue.specs.Terminals.{terminal};
+ghost use Rattle.pyform.specs.FormOf.{form_of};
+ghost use Rattle.pyline.specs.Lines.{Refused};
+
+use crate::fronts::read_front;
+use pyexpr::{Depth, MOST_HEIGHT, Stop};
+use pyform::Form;
+use pynode::Profile;
+use pyvalue::Terminal;
+use std::alloc::Global;
+
+/// The form of a logical line that some terminals are, in a version of Python. At most
+/// [`MOST_HEIGHT`] nodes of an expression stand in one another.
+///
+/// # Errors
+///
+/// [`Stop::NoForm`]: they are none. [`Stop::TooDeep`]: they are none of this height; where they are
+/// none at all, there are more of them than [`MOST_HEIGHT`]. [`Stop::Memory`].
+#[tactic(auto, using(crate::proofs::Wholes::line_failed, crate::proofs::Wholes::line_more, crate::proofs::Wholes::line_high, crate::proofs::Wholes::line_found))]
+pub fn read_line(alloc: Global, tokens: &[Terminal], profile: Profile) -> Result<Form, Stop>
+    ensures { MatchResult result
+        (λ f. FormOf profile (map terminal tokens.now) (form_of f)
+        × (form_height (form_of f) ≤ 500))
+        (λ s. Refused s profile (map terminal tokens.now)) }
+{
+    let read = read_front(alloc, tokens, profile, Depth::of(tokens))?;
+    if read.next != tokens.len() {
+        return Err(Stop::NoForm);
+    }
+    if read.height > MOST_HEIGHT {
+        return Err(Stop::TooDeep);
+    }
+    Ok(read.form)
+}

@@ -1,0 +1,137 @@
+-- Carries: line_error, finish_sound, finish_deep, Progress::finish, parse. On: why a line has no form, and what is known of a source at its end.
+use Rattle.std.proofs.Common.{◌≡◌, inl, inr, ℕ, ◌≤◌, Bool, true, false, List, [], ◌++◌, length, take_all, refl, sym, subst, append-nil, arith, None}
+use Rattle.std.specs.Prelude.{nat_lt, Result, Err, IfErr}
+use Rattle.std.proofs.lemmas.Bool.{ltb-true, ltb-false}
+use Rattle.std.proofs.lemmas.List.{length-map}
+use Rattle.pysource.specs.declared.places.Place.{Place}
+use Rattle.pysource.specs.Parts.{Parts}
+use Rattle.pylex.specs.Listing.{Source, in_characters}
+use Rattle.pynode.specs.declared.profiles.Profile.{Profile}
+use Rattle.pynode.specs.Trees.{Stmt, Module}
+use Rattle.pyheight.specs.Heights.{statement_height}
+use Rattle.pytoken.specs.Terminals.{terminal_of}
+use Rattle.pytoken.specs.Tokens.{lines}
+use Rattle.pytoken.specs.Tokens as Tokens
+use Rattle.pytoken.specs.Refusals.{refusal}
+use Rattle.pygrammar.specs.Lines.{Line}
+use Rattle.pygrammar.specs.Meets.{HighLine}
+use Rattle.pygrammar.specs.Blocks.{Block, Fault, FirstFault}
+use Rattle.pygrammar.specs.Refusals.{Code, Indentation, at, StartsAt, at_end, is_match, terminals, Formed, FirstUnread, Unread, too_high, no_match, no_form, too_long, Accepted, Refused, by_tokens, by_line, by_block, by_height}
+use Rattle.pygrammar.specs.Refusals as code
+use Rattle.pygrammar.specs.Reading.{Fine, run, start}
+use Rattle.pygrammar.proofs.Callers.Blocks.{formed_flat, deep_is_high}
+use Rattle.pygrammar.proofs.SourceLaw.{lines_are_lawful}
+use Rattle.pyblock.specs.declared.blocks.Blocks.{Blocks}
+use Rattle.pyblock.specs.StateOf.{state_of}
+use Rattle.pyoutline.specs.declared.outlines.Outline.{Outline}
+use Rattle.pyoutline.specs.Outlines.{Follows}
+use Rattle.pyoutline.specs.declared.faults.Stop.{Stop}
+use Rattle.pyoutline.specs.declared.faults.Stop.TheVariants as variant
+use Rattle.pyoutline.specs.Faults.{fault_of, Blames}
+use Rattle.pyparse.specs.declared.faults.GrammarError.{GrammarError}
+use Rattle.pyparse.specs.declared.faults.ParseFault.{ParseFault}
+use Rattle.pyparse.specs.declared.faults.ParseFault.TheVariants as faults
+use Rattle.pyparse.specs.Answers.{Tells}
+use Rattle.pyparse.specs.LineReadings.{EndsAt}
+use Rattle.pyparse.specs.Modules.{code_of, Refuses}
+use Rattle.pyparse.proofs.ProgressLemmas.{formed_length}
+use Rattle.pyparse.specs.Inner.Progressing.{first_lines, IsSound, IsDeepAt, IsFaultyAt, IsUnreadAt, Closes, TellsFault}
+
+-- ---- A line without a form.
+
+pub unread_high : {profile : Profile} (x : Tokens.Line) → HighLine profile 500 (terminals x) → Unread profile x code.TooDeep
+unread_high {profile} x high = elim (lines_are_lawful.decided profile (terminals x)) [
+  | inl formed ↦ too_high formed.2 (high.0 formed.0 formed.2)
+  | inr none ↦ let long = high.1 none.1 in too_long none.1 (omega (arith, long, length-map x.tokens (λ (t : Tokens.Token). terminal_of t.kind t.text)))
+]
+
+-- ---- The end.
+
+all_lines : {s : Source} {k : ℕ} {end : Place} → Closes s k end → first_lines s k ≡ lines s
+all_lines {s} {k} closes = let all = closes.all in take_all k (lines s) (omega (arith, all))
+
+starts_at_end : {s : Source} {k : ℕ} {end : Place} → Closes s k end → StartsAt s k end
+starts_at_end {s} {k} closes = subst (StartsAt s k) closes.ends.start (at_end closes.ends.before closes.ends.last (sym closes.all) closes.ends.tokens)
+
+module _ {profile : Profile} {s : Source} {k : ℕ} {end : Place} (closes : Closes s k end) where
+  formed_to_end : {forms : List Line} → Formed profile (first_lines s k) forms → Formed profile (lines s) forms
+  formed_to_end {forms} formed = subst (λ (xs : List Tokens.Line). Formed profile xs forms) (all_lines closes) formed
+
+  -- no height of the tree is past 500 where no statement stands too deep
+  pub sound_accepted : {o : Outline} {b : Blocks} (body : List Stmt) (was : IsSound profile s k o b) → Block 0 was.forms body → Accepted profile s (record { body = body })
+  sound_accepted body was block =
+      let m : Module = record { body = body } in
+      record {
+        clear = closes.clear;
+        forms = was.forms;
+        formed = formed_to_end was.formed;
+        block = block;
+        low = by m was block (nat_lt 500 (statement_height m)) refl;
+      }
+    where
+      by : {o : Outline} {b : Blocks} (m : Module) (was : IsSound profile s k o b) → Block 0 was.forms m.body → (b : Bool) → nat_lt 500 (statement_height m) ≡ b → statement_height m ≤ 500
+      by m was block true is = let found = (deep_is_high block (formed_flat was.formed)).1 (ltb-true 500 (statement_height m) is) in absurd (was.low found.0 found.1)
+      by m was block false is = ltb-false 500 (statement_height m) is
+
+  faulty_end : {forms : List Line} (e : GrammarError) (fault : Fault) → Formed profile (first_lines s k) forms → code_of e ≡ Indentation fault → FirstFault [] forms [] fault →
+      Refused profile s (at end (code_of e))
+  faulty_end {forms} e fault formed is first =
+      let size : length forms ≡ length (lines s) = formed_length (formed_to_end formed) in
+      let all = closes.all in
+      subst (λ (c : Code). Refused profile s (at end c)) (sym is)
+      (by_block {n = k} closes.clear (formed_to_end formed) first (omega (arith, size, all)) (starts_at_end closes))
+
+  end_by : {forms : List Line} (e : GrammarError) (stop : Stop) → Formed profile (first_lines s k) forms → TellsFault stop e →
+      Blames forms [] stop → Refused profile s (at end (code_of e))
+  end_by e (variant.Faulty f) formed tells blames = faulty_end e (fault_of f) formed tells blames
+  end_by e variant.Memory formed tells blames = absurd tells
+
+  pub sound_refused : {o : Outline} {b : Blocks} (e : GrammarError) (stop : Stop) → IsSound profile s k o b → TellsFault stop e →
+      ((xs : List Line) → run xs start ≡ Fine (state_of b) → Blames xs [] stop) → Refused profile s (at end (code_of e))
+  sound_refused e stop was tells blames = end_by e stop was.formed tells (blames was.forms was.read)
+
+  pub deep_refused : {o : Outline} {p : Place} (e : GrammarError) (stop : Stop) → IsDeepAt profile s k o p → TellsFault stop e →
+      ((xs : List Line) → Follows xs o → Blames xs [] stop) → Refused profile s (at end (code_of e))
+  deep_refused e stop was tells blames = end_by e stop was.formed tells (blames was.forms was.follows)
+
+  -- a statement that stands too deep in a tree
+  pub high_refused : {o : Outline} {p : Place} (was : IsDeepAt profile s k o p) → ((xs : List Line) → Follows xs o → (ss : List Stmt) × Block 0 xs ss) →
+      Refused profile s (at p code.TooDeep)
+  high_refused was tree =
+      let body = tree was.forms was.follows in
+      let m : Module = record { body = body.0 } in
+      by_height {m = m} closes.clear (formed_to_end was.formed) body.1 ((deep_is_high {m = m} body.1 (formed_flat was.formed)).0 (was.n, was.deep)) was.deep was.starts
+
+  pub faulty_refused : {e : GrammarError} {p : Place} → IsFaultyAt profile s k e p → Refused profile s (at p (code_of e))
+  faulty_refused {e} {p} was =
+      let forms : List Line = was.forms in
+      let first : FirstFault [] forms was.rest was.fault =
+      subst (λ (xs : List Line). FirstFault [] xs was.rest was.fault) (append-nil forms)
+      (subst (λ (xs : List Line). FirstFault [] (forms ++ []) xs was.fault) (append-nil was.rest) (was.first []))
+      in
+      subst (λ (c : Code). Refused profile s (at p c)) (sym was.code)
+      (by_block {n = was.n} closes.clear (formed_to_end was.formed) first was.number was.starts)
+
+  pub unread_refused : {e : GrammarError} {p : Place} → IsUnreadAt profile s k e p → Refused profile s (at p (code_of e))
+  unread_refused {e} was =
+      by_line closes.clear (subst (λ (xs : List Tokens.Line). FirstUnread profile xs was.n (code_of e)) (all_lines closes) was.first) was.starts
+
+-- ---- The whole source.
+
+-- a reason why a source has no tokens comes first
+pub told : (profile : Profile) (s : Source) (fault : ParseFault) → Tells (refusal s) fault → Refuses profile s fault
+told profile s (faults.Refused r) is = by_tokens is
+told profile s (faults.Grammar e p) is = absurd is
+told profile s faults.Memory is = tt
+
+-- and so does an answer that passes it on
+pub told_on : {A : Type 0} (profile : Profile) (s : Source) (answer : Result A ParseFault) (fault : ParseFault) → Tells (refusal s) fault →
+    (x : ParseFault) × (answer ≡ Err x) × (x ≡ fault) → IfErr answer (Refuses profile s)
+told_on {A} profile s answer fault tells passed =
+    subst (λ (r : Result A ParseFault). IfErr r (Refuses profile s)) (sym passed.1) (subst (Refuses profile s) (sym passed.2) (told profile s fault tells))
+
+-- no line comes more
+pub closes_at : (s : Source) (given : ℕ) (p : Parts) (marker end : Place) → in_characters p ≡ s → given ≡ length (lines (in_characters p)) → refusal (in_characters p) ≡ None →
+    EndsAt (in_characters p) marker → end ≡ marker → Closes s given end
+closes_at s given p marker end same all clear ends is =
+    subst (λ (s : Source). Closes s given end) same (record { all = all; clear = clear; ends = subst (EndsAt (in_characters p)) (sym is) ends })

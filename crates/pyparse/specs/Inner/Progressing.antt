@@ -1,0 +1,100 @@
+-- What is known of a source behind some of its lines.
+use Rattle.std.specs.Prelude.{◌≡◌, ℕ, ◌+◌, Bool, true, false, List, [], ◌++◌, length, take, slice_get, Some, None}
+use Rattle.pysource.specs.declared.places.Place.{Place}
+use Rattle.pylex.specs.Listing.{Source}
+use Rattle.pynode.specs.declared.profiles.Profile.{Profile}
+use Rattle.pytoken.specs.Tokens.{lines}
+use Rattle.pytoken.specs.Tokens as Tokens
+use Rattle.pytoken.specs.Refusals.{refusal}
+use Rattle.pygrammar.specs.Lines.{Line}
+use Rattle.pygrammar.specs.Blocks.{Fault, FirstFault}
+use Rattle.pygrammar.specs.Reading.{Fine, run, start}
+use Rattle.pygrammar.specs.Refusals.{Indentation, StartsAt, HasForm, Formed, FirstUnread, FirstDeep}
+use Rattle.pyblock.specs.declared.blocks.Blocks.{Blocks}
+use Rattle.pyblock.specs.StateOf.{state_of}
+use Rattle.pyoutline.specs.declared.outlines.Outline.{Outline}
+use Rattle.pyoutline.specs.Outlines.{Follows}
+use Rattle.pyoutline.specs.declared.faults.Stop.{Stop}
+use Rattle.pyoutline.specs.declared.faults.Stop.TheVariants as variant
+use Rattle.pyoutline.specs.Faults.{fault_of}
+use Rattle.pyparse.specs.declared.faults.GrammarError.{GrammarError}
+use Rattle.pyparse.specs.declared.progress.Progress.{Progress}
+use Rattle.pyparse.specs.declared.progress.Progress.TheVariants.{Sound, Deep, Faulty, Unread}
+use Rattle.pyparse.specs.LineReadings.{EndsAt}
+use Rattle.pyparse.specs.Modules.{code_of}
+
+-- ---- The lines so far.
+
+-- the first lines of a source, so many
+abbrev pub first_lines : Source → ℕ → List Tokens.Line
+first_lines s k = take k (lines s)
+
+-- each of so many lines has a form; what is kept without their trees, and with them; and no statement stands too deep
+pub record IsSound (profile : Profile) (s : Source) (k : ℕ) (o : Outline) (b : Blocks) : Type 0 where
+  pub forms : List Line
+  pub formed : Formed profile (first_lines s k) forms
+  pub follows : Follows forms o
+  pub read : run forms start ≡ Fine (state_of b)
+  pub low : (n : ℕ) → FirstDeep [] forms n → ⊥
+
+-- each has a form; what is kept without their trees; and the first that begins a statement too deep starts here
+pub record IsDeepAt (profile : Profile) (s : Source) (k : ℕ) (o : Outline) (p : Place) : Type 0 where
+  pub forms : List Line
+  pub formed : Formed profile (first_lines s k) forms
+  pub follows : Follows forms o
+  pub n : ℕ
+  pub deep : FirstDeep [] forms n
+  pub starts : StartsAt s n p
+
+-- each has a form; and the first that is faulty among the others, whatever follows, starts here
+pub record IsFaultyAt (profile : Profile) (s : Source) (k : ℕ) (e : GrammarError) (p : Place) : Type 0 where
+  pub forms : List Line
+  pub formed : Formed profile (first_lines s k) forms
+  pub fault : Fault
+  pub code : code_of e ≡ Indentation fault
+  pub rest : List Line
+  pub first : (more : List Line) → FirstFault [] (forms ++ more) (rest ++ more) fault
+  pub n : ℕ
+  pub number : n + length rest ≡ length forms
+  pub starts : StartsAt s n p
+
+-- the first without a form starts here
+pub record IsUnreadAt (profile : Profile) (s : Source) (k : ℕ) (e : GrammarError) (p : Place) : Type 0 where
+  pub n : ℕ
+  pub first : FirstUnread profile (first_lines s k) n (code_of e)
+  pub starts : StartsAt s n p
+
+-- what is known of so many lines
+abbrev pub IsKnown : Profile → Source → ℕ → Progress → Type 0
+IsKnown profile s k (Sound o b) = IsSound profile s k o b
+IsKnown profile s k (Deep o p) = IsDeepAt profile s k o p
+IsKnown profile s k (Faulty e p) = IsFaultyAt profile s k e p
+IsKnown profile s k (Unread e p) = IsUnreadAt profile s k e p
+
+-- whether a line without a form is
+abbrev pub is_unread : Progress → Bool
+is_unread (Unread e p) = true
+is_unread _ = false
+
+-- ---- The next line, and the end.
+
+-- the line of this number is this one, by its form, and starts here
+pub record Comes (profile : Profile) (s : Source) (k : ℕ) (l : Line) (p : Place) : Type 0 where
+  pub line : Tokens.Line
+  pub stands : slice_get (lines s) k ≡ Some line
+  pub level : l.level ≡ line.level
+  pub form : HasForm profile line l.form
+  pub starts : StartsAt s k p
+
+-- behind so many lines a source ends, with ENDMARKER here, and its tokens are not refused
+pub record Closes (s : Source) (k : ℕ) (p : Place) : Type 0 where
+  pub all : k ≡ length (lines s)
+  pub clear : refusal s ≡ None
+  pub ends : EndsAt s p
+
+-- ---- Faults.
+
+-- the error is that of a faulty line
+abbrev pub TellsFault : Stop → GrammarError → Type 0
+TellsFault (variant.Faulty f) e = code_of e ≡ Indentation (fault_of f)
+TellsFault variant.Memory e = ⊥

@@ -1,0 +1,47 @@
+//! The tree of a source.
+//!
+//! Python language reference, 9.2 "File input" and 10 "Full Grammar specification".
+
+ghost use Rattle.std.specs.Prelude.{IfOk, IfErr};
+ghost use Rattle.pylex.specs.Listing.{in_characters};
+ghost use Rattle.pynode.specs.TreeOf.{module_of};
+ghost use Rattle.pygrammar.specs.Refusals.{Accepted};
+ghost use Rattle.pygrammar.specs.SourceLaws.{LinesAreLawful, BlocksAreLawful, AnswersAreLawful};
+ghost use Rattle.pyparse.specs.Modules.{Refuses};
+
+use crate::faults::ParseFault;
+use crate::logical_lines::LogicalLines;
+use crate::progress::Progress;
+use pynode::{Module, Profile};
+use pysource::Source;
+use std::alloc::Global;
+
+/// The tree of a source, in a version of Python. At most 500 expressions stand in one another, and
+/// at most 500 statements.
+///
+/// It is one pass: what is held of the source are the tokens of one line, the statements so far, and
+/// the levels that are open.
+///
+/// # Errors
+///
+/// [`ParseFault::Refused`] by the reason why the source has no tokens, as
+/// [`tokens_of`](crate::tokens_of) tells it. Else [`ParseFault::Grammar`]: by the first line
+/// without a form, `Syntax`, `MatchStatement` or `TooDeep`, of which a line of more than 500 tokens
+/// that has none at any height may be told either; else by the first line that is faulty among the
+/// others, or the end; else by the first line in which a statement begins with 500 around it,
+/// `TooDeep`. Its place is where the line starts, that of the end where ENDMARKER does.
+#[tactic(auto, using(pygrammar::proofs::SourceLaw::lines_are_lawful, pygrammar::proofs::SourceLaw::blocks_are_lawful, pygrammar::proofs::SourceLaw::answers_are_lawful))]
+pub fn parse(alloc: Global, source: &Source, profile: Profile) -> Result<Module, ParseFault>
+    ensures accepted { IfOk result (λ m. Accepted profile (in_characters source.now) (module_of m)) }
+    ensures refused { IfErr result (Refuses profile (in_characters source.now)) }
+    ensures forms { LinesAreLawful }
+    ensures trees { BlocksAreLawful }
+    ensures answers { AnswersAreLawful }
+{
+    let mut lines = LogicalLines::new(alloc, source)?;
+    let mut progress = Progress::new(alloc);
+    while lines.next()? {
+        progress = progress.take(alloc, &lines, profile)?;
+    }
+    progress.finish(alloc, lines.end())
+}

@@ -1,0 +1,3 @@
+-- What other crates cite: the laws of the slots, and names with dots between.
+pub mod Law
+pub mod Names

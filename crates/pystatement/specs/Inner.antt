@@ -1,0 +1,3 @@
+pub mod Imports
+pub mod Simple
+pub mod Types

@@ -1,0 +1,22 @@
+//! The simple statements of a logical line, and what headers share with them.
+//!
+//! Python language reference, 7 "Simple statements" and 8.10 "Type parameter lists".
+#![tactic(auto)]
+
+mod aliases;
+mod assignments;
+mod found;
+mod imports;
+mod names;
+mod options;
+mod simple;
+mod statements;
+mod type_names;
+mod types;
+mod values;
+
+pub use found::{ReadAs, ReadStatements, ReadTypeParams};
+pub use names::read_as;
+pub use options::{after_sign, after_word, starts_expression};
+pub use statements::read_statements;
+pub use types::read_type_params;

@@ -1,0 +1,14 @@
+use Rattle.std.proofs.Common.{◌≡◌, map, subst}
+use Rattle.std.specs.Prelude.{IfOk}
+use Rattle.pynode.specs.TreeOf.{module_of, stmt_of}
+use Rattle.pynode.specs.Trees.{stmts}
+use Rattle.pyslots.specs.Names.{is_name}
+use Rattle.pyslots.specs.Statements.{module_fits, statements_fit}
+use Rattle.pyslots.proofs.Callers.Law.{modules_fit_exactly}
+use Rattle.pywellformed.proofs.Exact.{told_by}
+use Rattle.pywellformed.proofs.modules.well_formed.Goals as goal
+
+pub returns-clause-given : goal.returns-clause-given
+returns-clause-given c =
+    told_by c.statements_fit.result (module_fits c.args.profile is_name (module_of c.args.tree.now)) (modules_fit_exactly c.args.profile (module_of c.args.tree.now))
+    (subst (λ ss. IfOk c.statements_fit.result (λ told. told ≡ statements_fit c.args.profile is_name (stmts (map stmt_of ss)))) c.deref.ensures.value c.statements_fit.ensures)

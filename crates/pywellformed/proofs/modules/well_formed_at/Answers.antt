@@ -1,0 +1,10 @@
+use Rattle.pynode.specs.TreeOf.{tree_of}
+use Rattle.pyslots.specs.Names.{is_name}
+use Rattle.pyslots.specs.Slots.{fits_at}
+use Rattle.pyslots.proofs.Callers.Law.{expressions_fit_exactly}
+use Rattle.pywellformed.proofs.Exact.{told_by}
+use Rattle.pywellformed.proofs.modules.well_formed_at.Goals as goal
+
+pub returns-clause-given : goal.returns-clause-given
+returns-clause-given c =
+    told_by c.expr_fits.result (fits_at is_name c.args.level (tree_of c.args.expr.now)) (expressions_fit_exactly c.args.level (tree_of c.args.expr.now)) c.expr_fits.ensures
