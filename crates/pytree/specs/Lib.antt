@@ -18,3 +18,6 @@ pub use Rattle.pytoken.specs.Refusals
 pub use Rattle.pytoken.specs.StringValues
 pub use Rattle.pytoken.specs.Terminals
 pub use Rattle.pytoken.specs.Tokens
+pub use Rattle.pyslots.specs.Given
+pub use Rattle.pyslots.specs.Slots
+pub use Rattle.pyslots.specs.Statements

@@ -9,19 +9,24 @@
 //! [`Refusal`], [`TokenError`], [`Meaning`]. Its `Keyword` is named there alone, since [`Keyword`]
 //! here is the one of calls and classes, `name=value`.
 //!
-//! What makes a tree well formed is said in terms of the levels of the expression grammar
-//! ([`Level`]) and of names ([`is_name`], [`is_identifier`], [`is_keyword`]).
+//! Whether a tree is well formed, and so has source text, tell [`well_formed`] and
+//! [`well_formed_at`]: in terms of the levels of the expression grammar ([`Level`]) and of names
+//! ([`is_name`], [`is_identifier`], [`is_keyword`]).
 //!
 //! The words of contracts are in `specs/`: `Names` defines names. Those of the crates below come
 //! from here too: `Trees` has the trees as values with no addresses, `TreeOf` the value of each
 //! node, `Heights` the heights of a tree, `Shows` what it shows, `Layout` the text of that. So do
 //! those of `pytoken`: `Tokens` has the tokens of a source, `Terminals` what each is to the
 //! grammar, `Refusals` why a source has none, and `Laws` what holds of the values of tokens.
+//! Which trees the grammar gives, and what fits each field, say those of `pyslots`: `Given`,
+//! `Slots` and `Statements`.
 #![tactic(auto)]
 
+mod fits;
 mod modules;
 mod names;
 
+pub use fits::{well_formed, well_formed_at};
 pub use modules::{copy, same};
 pub use names::{is_keyword, is_name};
 pub use pydump::{Style, dump, dump_expr};

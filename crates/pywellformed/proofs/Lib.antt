@@ -6,4 +6,3 @@ mod InRange
 mod Chains
 mod DottedLemmas
 mod Suites
-mod Exact

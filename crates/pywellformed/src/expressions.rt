@@ -19,10 +19,11 @@ use pygrammar::Level;
 use pynode::{Comprehension, Context, Expr, Keyword};
 use std::alloc::{AllocError, Global};
 
-/// Whether an expression fits a level.
+/// Whether an expression fits a level of the grammar: whether each of its fields has what may stand
+/// there. `Err` is want of memory alone, which the test of names may meet.
 #[cycle(fits)]
 #[tactic(auto, using(pynode::proofs::Callers::ExprShapes::expr_shapes))]
-pub(crate) fn expr_fits(alloc: Global, expr: &Expr, level: Level) -> Result<bool, AllocError>
+pub fn expr_fits(alloc: Global, expr: &Expr, level: Level) -> Result<bool, AllocError>
     ensures { IfOk result (λ told. told ≡ fits_at is_name level (tree_of expr.now)) }
 {
     match expr {

@@ -1,15 +1,15 @@
-//! Whether a tree is well formed: whether the grammar gives it to some tokens, with no regard to
-//! heights.
+//! Whether a tree has in each field what may stand there, by the grammar, with no regard to heights.
 //!
 //! `pyslots` defines that, slot by slot, and has the laws that tie the slots to the grammar. The
-//! walks here ask the same in the same order, and build nothing.
+//! walks here ask the same in the same order, and build nothing: [`expr_fits`] of an expression at
+//! a level, [`statements_fit`] of the statements of a module. They serve `pytree`, which tells by
+//! them whether a module is well formed.
 #![tactic(auto)]
 
 mod expressions;
 mod headers;
 mod imports;
 mod leaves;
-mod modules;
 mod names;
 mod parameters;
 mod places;
@@ -17,4 +17,5 @@ mod simple;
 mod statements;
 mod targets;
 
-pub use modules::{well_formed, well_formed_at};
+pub use expressions::expr_fits;
+pub use statements::statements_fit;

@@ -225,14 +225,11 @@ fn suite_fits(alloc: Global, profile: Profile, body: &[Stmt]) -> Result<bool, Al
     statements_fit(alloc, profile, body)
 }
 
-/// Whether each of some statements fits.
+/// Whether each of some statements fits in a version of Python: whether each of its fields has what
+/// may stand there. `Err` is want of memory alone.
 #[cycle(statements)]
 #[tactic(auto, using(pynode::proofs::Callers::StmtShapes::stmt_shapes))]
-pub(crate) fn statements_fit(
-    alloc: Global,
-    profile: Profile,
-    body: &[Stmt],
-) -> Result<bool, AllocError>
+pub fn statements_fit(alloc: Global, profile: Profile, body: &[Stmt]) -> Result<bool, AllocError>
     ensures { IfOk result (λ told. told ≡ statements_fit profile is_name (stmts (map stmt_of body.now))) }
 {
     for s in body {

@@ -3,7 +3,7 @@
 use crate::trees::{and_of, lambda, name, starred};
 use pygrammar::Level;
 use pynode::{Context, Expr};
-use pywellformed::well_formed_at;
+use pytree::well_formed_at;
 use std::alloc::{AllocError, Global};
 use std::test::Fail;
 

@@ -2,7 +2,7 @@
 
 use crate::trees::{assign, bare_except, call, import, name, type_alias};
 use pynode::{Context, Module, Profile};
-use pywellformed::well_formed;
+use pytree::well_formed;
 use std::alloc::{AllocError, Global};
 use std::test::Fail;
 

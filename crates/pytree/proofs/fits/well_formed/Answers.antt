@@ -5,8 +5,8 @@ use Rattle.pynode.specs.Trees.{stmts}
 use Rattle.pyslots.specs.Names.{is_name}
 use Rattle.pyslots.specs.Statements.{module_fits, statements_fit}
 use Rattle.pyslots.proofs.Callers.Law.{modules_fit_exactly}
-use Rattle.pywellformed.proofs.Exact.{told_by}
-use Rattle.pywellformed.proofs.modules.well_formed.Goals as goal
+use Rattle.pytree.proofs.FitLemmas.{told_by}
+use Rattle.pytree.proofs.fits.well_formed.Goals as goal
 
 pub returns-clause-given : goal.returns-clause-given
 returns-clause-given c =

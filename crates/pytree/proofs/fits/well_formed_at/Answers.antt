@@ -2,8 +2,8 @@ use Rattle.pynode.specs.TreeOf.{tree_of}
 use Rattle.pyslots.specs.Names.{is_name}
 use Rattle.pyslots.specs.Slots.{fits_at}
 use Rattle.pyslots.proofs.Callers.Law.{expressions_fit_exactly}
-use Rattle.pywellformed.proofs.Exact.{told_by}
-use Rattle.pywellformed.proofs.modules.well_formed_at.Goals as goal
+use Rattle.pytree.proofs.FitLemmas.{told_by}
+use Rattle.pytree.proofs.fits.well_formed_at.Goals as goal
 
 pub returns-clause-given : goal.returns-clause-given
 returns-clause-given c =

@@ -8,10 +8,9 @@ ghost use Rattle.pyslots.specs.Names.{is_name};
 ghost use Rattle.pyslots.specs.Slots.{fits_at};
 ghost use Rattle.pyslots.specs.Statements.{module_fits};
 
-use crate::expressions::expr_fits;
-use crate::statements::statements_fit;
 use pygrammar::Level;
 use pynode::{Expr, Module, Profile};
+use pywellformed::{expr_fits, statements_fit};
 use std::alloc::{AllocError, Global};
 
 /// Whether a module is well formed in a version of Python: whether the grammar gives it to some
