@@ -1,0 +1,193 @@
+use Rattle.std.proofs.Common.{◌≡◌, ◌++◌, ◌∷◌, [], ◌∙◌, ap, arith, false, true, map, refl, subst, suc, sym}
+use Rattle.std.proofs.lemmas.Result.{IfOk-weaker}
+use Rattle.pynode.specs.declared.statements.Handler as given_handler
+use Rattle.pynode.specs.Trees.{handlers, keywords, stmts}
+use Rattle.pynode.specs.TreeOf.{arguments_of, boxed_of, handler_of, item_of, keyword_of, option_of, stmt_of, tree_of, type_param_of}
+use Rattle.pygrammar.specs.Lines.{class_head, def_header, elif_header, else_header, except_header, finally_header, for_head, function_head, if_header, loop_header, try_header, while_head, with_header}
+use Rattle.pyheight.specs.Heights.{handler_heights, stmt_height, stmt_heights}
+use Rattle.pywritten.specs.Modules.{alternative, clause, decorators, handler_lines, lines_of, statement_lines}
+use Rattle.pylexeme.specs.declared.kinds.Exact.TheVariants.{Colon}
+use Rattle.pywritten.specs.Pieces.{piece}
+use Rattle.pywritten.specs.Written.{trailing}
+use Rattle.pyunparse.specs.Inner.Folds.{puts}
+use Rattle.pyunparse.specs.Inner.Writing.{behind}
+use Rattle.pynode.proofs.Callers.StmtShapes.{async_for_tree, async_function_def_tree, async_with_tree, class_def_tree, for_tree, function_def_tree, handler_tree, if_tree, try_star_tree, try_tree, while_tree, with_tree}
+use Rattle.pyunparse.specs.Inner.Lines.{Wrote, def_lines, one_handler}
+use Rattle.pyunparse.proofs.StatementLemmas.{not_compound, not_elif, not_one, one_if, one_other}
+use Rattle.pyunparse.proofs.LineLemmas.{all_lines, block_wrote, deeper, header_block, line_on, no_clause, some_clause, wrote_none, wrote_then}
+use Rattle.pyunparse.proofs.MemberLemmas.{no_higher}
+use Rattle.pyunparse.proofs.blocks.+blocks.Goals as goal
+
+pub write_stmts-loop-s-preserved : goal.write_stmts-loop-s-preserved
+unfolding lines_of
+write_stmts-loop-s-preserved t c = record {
+  text = line_on c.args.out.now c.loop-s.out (λ n xs. lines_of piece n (stmts (map stmt_of xs))) (λ n x. statement_lines piece n (stmt_of x))
+      (λ _ _ _. refl) c.args.body.now _ _ _ _ c.loop-s-test.true c.s-item.is c.loop-s.invariant.level c.loop-s.invariant.text c.in_ok-write_stmt.ensures;
+  level = c.in_ok-write_stmt.ensures.level ∙ c.loop-s.invariant.level;
+}
+
+pub write_stmts-returns : goal.write_stmts-returns
+unfolding lines_of
+write_stmts-returns t c = record {
+  text = all_lines c.args.out.now c.loop-s.out (λ n xs. lines_of piece n (stmts (map stmt_of xs))) c.args.out.now.level refl c.args.body.now _ c.loop-s-test.false c.loop-s.invariant.text;
+  level = c.loop-s.invariant.level;
+}
+
+pub write_stmts-write_stmt-requires : goal.write_stmts-write_stmt-requires
+write_stmts-write_stmt-requires t c = let h : _ = no_higher (λ xs. stmt_heights (stmts (map stmt_of xs))) (λ x. stmt_height (stmt_of x)) (λ _ _. refl) _ _ _ c.loop-s-test.true c.s-item.is in (omega (arith, h), tt)
+
+pub write_handlers-loop-handler-preserved : goal.write_handlers-loop-handler-preserved
+unfolding handler_lines
+write_handlers-loop-handler-preserved t c = record {
+  text = line_on c.args.out.now c.loop-handler.out (λ n xs. handler_lines piece n c.args.is_star (handlers (map handler_of xs))) (λ n x. one_handler n c.args.is_star (handler_of x))
+      (λ _ _ _. refl) c.args.caught.now _ _ _ _ c.loop-handler-test.true c.handler-item.is c.loop-handler.invariant.level c.loop-handler.invariant.text c.in_ok-write_handler.ensures;
+  level = c.in_ok-write_handler.ensures.level ∙ c.loop-handler.invariant.level;
+}
+
+pub write_handlers-returns : goal.write_handlers-returns
+unfolding handler_lines
+write_handlers-returns t c = record {
+  text = all_lines c.args.out.now c.loop-handler.out (λ n xs. handler_lines piece n c.args.is_star (handlers (map handler_of xs))) c.args.out.now.level refl c.args.caught.now _ c.loop-handler-test.false c.loop-handler.invariant.text;
+  level = c.loop-handler.invariant.level;
+}
+
+pub write_handlers-write_handler-requires : goal.write_handlers-write_handler-requires
+write_handlers-write_handler-requires t c = let h : _ = no_higher (λ xs. handler_heights (handlers (map handler_of xs))) (λ x. stmt_heights (stmts (handler_of x).body)) (λ _ _. refl) _ _ _ c.loop-handler-test.true c.handler-item.is in (omega (arith, h), tt)
+
+pub write_if-returns : goal.write_if-returns
+unfolding lines_of
+write_if-returns t c = IfOk-weaker _ _ _ (λ _ w. wrote_then c.args.out.now _ _ _ (λ n. alternative piece n (stmts (map stmt_of c.args.orelse.now)))
+    (header_block c.args.out.now _ _ _ (if_header (tree_of c.args.test.now)) (λ n. lines_of piece (suc n) (stmts (map stmt_of c.args.body.now)))
+    c.in_ok-begin_line.ensures c.in_ok-write_test_header.ensures c.in_ok-write_block.ensures) w) c.write_alternative.ensures
+
+pub write_while-returns : goal.write_while-returns
+unfolding lines_of
+write_while-returns t c = IfOk-weaker _ _ _ (λ _ w. wrote_then c.args.out.now _ _ _ (λ n. clause piece n else_header (stmts (map stmt_of c.args.orelse.now)))
+    (header_block c.args.out.now _ _ _ (loop_header (while_head (tree_of c.args.test.now))) (λ n. lines_of piece (suc n) (stmts (map stmt_of c.args.body.now)))
+    c.in_ok-begin_line.ensures c.in_ok-write_test_header.ensures c.in_ok-write_block.ensures) w) (c.write_clause.ensures else_header refl)
+
+pub write_for-returns : goal.write_for-returns
+write_for-returns t c = IfOk-weaker _ _ _ (λ _ w. wrote_then c.args.out.now _ _ _ (λ n. clause piece n else_header (stmts (map stmt_of c.args.orelse.now)))
+    (header_block c.args.out.now _ _ _ (loop_header (for_head c.args.is_async (tree_of c.args.target.now) (tree_of c.args.iter.now))) (λ n. lines_of piece (suc n) (stmts (map stmt_of c.args.body.now)))
+    c.in_ok-begin_line.ensures c.in_ok-write_for_header.ensures c.in_ok-write_block.ensures) w) (c.write_clause.ensures else_header refl)
+
+pub write_with-returns : goal.write_with-returns
+write_with-returns t c = IfOk-weaker _ _ _ (λ _ b. header_block c.args.out.now _ _ _ (with_header c.args.is_async (map item_of c.args.items.now)) (λ n. lines_of piece (suc n) (stmts (map stmt_of c.args.body.now)))
+    c.in_ok-begin_line.ensures c.in_ok-write_with_header.ensures b) c.write_block.ensures
+
+pub write_function-returns : goal.write_function-returns
+write_function-returns t c = IfOk-weaker _ _ _ (λ _ b. header_block c.args.out.now _ _ _
+    (def_header (function_head c.args.is_async c.args.name.now (map type_param_of c.args.type_params.now) (arguments_of c.args.args.now) (boxed_of c.args.returns.now))) (λ n. lines_of piece (suc n) (stmts (map stmt_of c.args.body.now)))
+    c.in_ok-begin_line.ensures c.in_ok-write_function_header.ensures b) c.write_block.ensures
+
+pub write_class-returns : goal.write_class-returns
+write_class-returns t c = IfOk-weaker _ _ _ (λ _ b. header_block c.args.out.now _ _ _
+    (def_header (class_head c.args.name.now (map type_param_of c.args.type_params.now) (map tree_of c.args.bases.now) (keywords (map keyword_of c.args.words.now)))) (λ n. lines_of piece (suc n) (stmts (map stmt_of c.args.body.now)))
+    c.in_ok-begin_line.ensures c.in_ok-write_class_header.ensures b) c.write_block.ensures
+
+pub write_try-returns : goal.write_try-returns
+unfolding lines_of
+write_try-returns t c = IfOk-weaker _ _ _ (λ _ w. wrote_then c.args.out.now _ _ _ (λ n. handler_lines piece n c.args.is_star (handlers (map handler_of c.args.caught.now)) ++ (clause piece n else_header (stmts (map stmt_of c.args.orelse.now)) ++ clause piece n finally_header (stmts (map stmt_of c.args.finalbody.now))))
+    (header_block c.args.out.now _ _ _ try_header (λ n. lines_of piece (suc n) (stmts (map stmt_of c.args.body.now)))
+    c.in_ok-begin_line.ensures c.in_ok-write_word_header.ensures c.in_ok-write_block.ensures)
+    (wrote_then _ _ _ _ (λ n. clause piece n else_header (stmts (map stmt_of c.args.orelse.now)) ++ clause piece n finally_header (stmts (map stmt_of c.args.finalbody.now))) c.in_ok-write_handlers.ensures
+    (wrote_then _ _ _ _ (λ n. clause piece n finally_header (stmts (map stmt_of c.args.finalbody.now))) (c.in_ok-write_clause.ensures else_header refl) w))) (c.write_clause.ensures finally_header refl)
+
+pub write_block-returns : goal.write_block-returns
+write_block-returns t c = block_wrote c.args.out.now _ _ _ _ (λ n. lines_of piece n (stmts (map stmt_of c.args.body.now)))
+    c.in_ok-end_line.ensures c.in_ok-indent.ensures c.in_ok-write_stmts.ensures c.dedent.ensures
+
+pub write_block-dedent-requires : goal.write_block-dedent-requires
+write_block-dedent-requires t c = deeper c.args.out.now _ _ _ _ c.in_ok-end_line.ensures c.in_ok-indent.ensures c.in_ok-write_stmts.ensures
+
+pub write_elif-returns-in_ok-write_block : goal.write_elif-returns-in_ok-write_block
+unfolding lines_of
+write_elif-returns-in_ok-write_block t c = rw (c.in-If.is, if_tree, sym c.deref.ensures.value, sym c.deref-2.ensures.value)
+    (IfOk-weaker _ _ _ (λ _ w. wrote_then c.args.out.now _ _ _ (λ n. alternative piece n (stmts (map stmt_of c.deref-2.result.now)))
+    (header_block c.args.out.now _ _ _ (elif_header (tree_of c.in-If.test)) (λ n. lines_of piece (suc n) (stmts (map stmt_of c.deref.result.now)))
+    c.in_ok-begin_line.ensures c.in_ok-write_test_header.ensures c.in_ok-write_block.ensures) w) c.write_alternative.ensures)
+
+pub write_elif-returns-in_default : goal.write_elif-returns-in_default
+write_elif-returns-in_default t c = subst (Wrote c.args.out.now c.args.out.now) (sym (not_elif c.args.s.now c.in_default.not-If c.args.out.now.level)) (wrote_none c.args.out.now)
+
+pub write_alternative-returns-then-count-ne1 : goal.write_alternative-returns-then-count-ne1
+write_alternative-returns-then-count-ne1 t c = IfOk-weaker _ _ _ (λ _ w. subst (Wrote c.args.out.now _) (not_one c.args.out.now.level c.args.body.now c.if-count-ne1.true) w) (c.write_clause.ensures else_header refl)
+
+pub write_alternative-returns-then-is_if : goal.write_alternative-returns-then-is_if
+write_alternative-returns-then-is_if t c = IfOk-weaker _ _ _ (λ _ w. subst (Wrote c.args.out.now _)
+    (one_if c.args.out.now.level c.args.body.now _ c.if-count-ne1.false c.index-body-0.is (sym c.is_if.ensures ∙ c.if-is_if.true)) w) c.write_elif.ensures
+
+pub write_alternative-returns : goal.write_alternative-returns
+write_alternative-returns t c = IfOk-weaker _ _ _ (λ _ w. subst (Wrote c.args.out.now _)
+    (one_other c.args.out.now.level c.args.body.now _ c.if-count-ne1.false c.index-body-0.is (sym c.is_if.ensures ∙ c.if-is_if.false)) w) (c.write_clause-2.ensures else_header refl)
+
+pub write_stmt-returns-in-If : goal.write_stmt-returns-in-If
+unfolding lines_of
+write_stmt-returns-in-If t c = rw (c.in-If.is, if_tree, sym c.deref.ensures.value, sym c.deref-2.ensures.value) c.write_if.ensures
+
+pub write_stmt-returns-in-While : goal.write_stmt-returns-in-While
+unfolding lines_of
+write_stmt-returns-in-While t c = rw (c.in-While.is, while_tree, sym c.deref-in-While.ensures.value, sym c.deref-in-While-2.ensures.value) c.write_while.ensures
+
+pub write_stmt-returns-in-For : goal.write_stmt-returns-in-For
+unfolding lines_of
+write_stmt-returns-in-For t c = rw (c.in-For.is, for_tree, sym c.deref-in-For.ensures, sym c.deref-in-For-2.ensures, sym c.deref-in-For-3.ensures.value, sym c.deref-in-For-4.ensures.value) c.write_for.ensures
+
+pub write_stmt-returns-in-AsyncFor : goal.write_stmt-returns-in-AsyncFor
+unfolding lines_of
+write_stmt-returns-in-AsyncFor t c = rw (c.in-AsyncFor.is, async_for_tree, sym c.deref-in-AsyncFor.ensures, sym c.deref-in-AsyncFor-2.ensures, sym c.deref-in-AsyncFor-3.ensures.value, sym c.deref-in-AsyncFor-4.ensures.value) c.write_for-in-AsyncFor.ensures
+
+pub write_stmt-returns-in-With : goal.write_stmt-returns-in-With
+unfolding lines_of
+write_stmt-returns-in-With t c = rw (c.in-With.is, with_tree, sym c.deref-in-With.ensures.value, sym c.deref-in-With-2.ensures.value) c.write_with.ensures
+
+pub write_stmt-returns-in-AsyncWith : goal.write_stmt-returns-in-AsyncWith
+unfolding lines_of
+write_stmt-returns-in-AsyncWith t c = rw (c.in-AsyncWith.is, async_with_tree, sym c.deref-in-AsyncWith.ensures.value, sym c.deref-in-AsyncWith-2.ensures.value) c.write_with-in-AsyncWith.ensures
+
+pub write_stmt-returns-in-Try : goal.write_stmt-returns-in-Try
+unfolding lines_of
+write_stmt-returns-in-Try t c = rw (c.in-Try.is, try_tree, sym c.deref-in-Try.ensures.value, sym c.deref-in-Try-2.ensures.value, sym c.deref-in-Try-3.ensures.value, sym c.deref-in-Try-4.ensures.value) c.write_try.ensures
+
+pub write_stmt-returns-in-TryStar : goal.write_stmt-returns-in-TryStar
+unfolding lines_of
+write_stmt-returns-in-TryStar t c = rw (c.in-TryStar.is, try_star_tree, sym c.deref-in-TryStar.ensures.value, sym c.deref-in-TryStar-2.ensures.value, sym c.deref-in-TryStar-3.ensures.value, sym c.deref-in-TryStar-4.ensures.value) c.write_try-in-TryStar.ensures
+
+pub write_stmt-returns-in_ok-write_decorators : goal.write_stmt-returns-in_ok-write_decorators
+unfolding lines_of
+write_stmt-returns-in_ok-write_decorators t c = rw (c.in-FunctionDef.is, function_def_tree, sym c.deref-in-FunctionDef.ensures.value, sym c.deref-in-FunctionDef-2.ensures.value, sym c.deref-in-FunctionDef-3.ensures, sym c.deref-in-FunctionDef-4.ensures.value) (IfOk-weaker _ _ _
+    (λ _ w. wrote_then c.args.out.now _ _ (decorators piece c.args.out.now.level (map tree_of c.deref-in-FunctionDef.result.now))
+    (λ n. def_lines n (function_head false c.in-FunctionDef.name (map type_param_of c.deref-in-FunctionDef-2.result.now) (arguments_of c.deref-in-FunctionDef-3.result.now) (boxed_of c.in-FunctionDef.returns)) (stmts (map stmt_of c.deref-in-FunctionDef-4.result.now)))
+    c.in_ok-write_decorators.ensures w) c.write_function.ensures)
+
+pub write_stmt-returns-in_ok-write_decorators-in-AsyncFunctionDef : goal.write_stmt-returns-in_ok-write_decorators-in-AsyncFunctionDef
+unfolding lines_of
+write_stmt-returns-in_ok-write_decorators-in-AsyncFunctionDef t c = rw (c.in-AsyncFunctionDef.is, async_function_def_tree, sym c.deref-in-AsyncFunctionDef.ensures.value, sym c.deref-in-AsyncFunctionDef-2.ensures.value, sym c.deref-in-AsyncFunctionDef-3.ensures, sym c.deref-in-AsyncFunctionDef-4.ensures.value) (IfOk-weaker _ _ _
+    (λ _ w. wrote_then c.args.out.now _ _ (decorators piece c.args.out.now.level (map tree_of c.deref-in-AsyncFunctionDef.result.now))
+    (λ n. def_lines n (function_head true c.in-AsyncFunctionDef.name (map type_param_of c.deref-in-AsyncFunctionDef-2.result.now) (arguments_of c.deref-in-AsyncFunctionDef-3.result.now) (boxed_of c.in-AsyncFunctionDef.returns)) (stmts (map stmt_of c.deref-in-AsyncFunctionDef-4.result.now)))
+    c.in_ok-write_decorators-in-AsyncFunctionDef.ensures w) c.write_function-in-AsyncFunctionDef.ensures)
+
+pub write_stmt-returns-in_ok-write_decorators-in-ClassDef : goal.write_stmt-returns-in_ok-write_decorators-in-ClassDef
+unfolding lines_of
+write_stmt-returns-in_ok-write_decorators-in-ClassDef t c = rw (c.in-ClassDef.is, class_def_tree, sym c.deref-in-ClassDef.ensures.value, sym c.deref-in-ClassDef-2.ensures.value, sym c.deref-in-ClassDef-3.ensures.value, sym c.deref-in-ClassDef-4.ensures.value, sym c.deref-in-ClassDef-5.ensures.value) (IfOk-weaker _ _ _
+    (λ _ w. wrote_then c.args.out.now _ _ (decorators piece c.args.out.now.level (map tree_of c.deref-in-ClassDef.result.now))
+    (λ n. def_lines n (class_head c.in-ClassDef.name (map type_param_of c.deref-in-ClassDef-2.result.now) (map tree_of c.deref-in-ClassDef-3.result.now) (keywords (map keyword_of c.deref-in-ClassDef-4.result.now))) (stmts (map stmt_of c.deref-in-ClassDef-5.result.now)))
+    c.in_ok-write_decorators-in-ClassDef.ensures w) c.write_class.ensures)
+
+pub write_stmt-returns-in_default : goal.write_stmt-returns-in_default
+write_stmt-returns-in_default t c = IfOk-weaker _ _ _ (λ _ w. subst (Wrote c.args.out.now _) (not_compound c.args.s.now c.in_default.not-If c.in_default.not-While c.in_default.not-For c.in_default.not-AsyncFor c.in_default.not-With c.in_default.not-AsyncWith c.in_default.not-Try c.in_default.not-TryStar c.in_default.not-FunctionDef c.in_default.not-AsyncFunctionDef c.in_default.not-ClassDef c.args.out.now.level) w) c.write_line.ensures
+
+pub write_handler-returns : goal.write_handler-returns
+write_handler-returns t c =
+    let o = given_handler.out-Handler c.args.handler.now in
+    rw (handler_tree, sym c.deref.ensures.value) (IfOk-weaker _ _ _ (λ _ b. header_block c.args.out.now _ _ _ (except_header c.args.is_star (option_of o.class) o.name)
+    (λ n. lines_of piece (suc n) (stmts (map stmt_of c.deref.result.now))) c.in_ok-begin_line.ensures c.in_ok-write_except_header.ensures b) c.write_block.ensures)
+
+pub write_clause-returns : goal.write_clause-returns
+unfolding lines_of
+write_clause-returns t c = λ h e. IfOk-weaker _ _ _ (λ _ b. subst (Wrote c.args.out.now _) (some_clause c.args.out.now.level h c.args.body.now _ c.is_empty.ensures c.if-is_empty.false)
+    (header_block c.args.out.now _ _ _ h (λ n. lines_of piece (suc n) (stmts (map stmt_of c.args.body.now)))
+    c.in_ok-begin_line.ensures (c.in_ok-write_word_header.ensures ∙ ap (λ z. puts behind _ (z ++ trailing piece Colon ∷ [])) (sym e)) b)) c.write_block.ensures
+
+pub write_clause-returns-then-is_empty : goal.write_clause-returns-then-is_empty
+write_clause-returns-then-is_empty t c = λ h e. subst (Wrote c.args.out.now c.args.out.now) (no_clause c.args.out.now.level h c.args.body.now _ c.is_empty.ensures c.if-is_empty.true) (wrote_none c.args.out.now)

@@ -1,0 +1,14 @@
+use Rattle.std.proofs.Common.{◌≡◌, true, map, drop}
+use Rattle.pylexeme.specs.declared.kinds.Exact.TheVariants.{Comma}
+use Rattle.pynode.specs.TreeOf.{item_of}
+use Rattle.pywritten.specs.Statements.{item}
+use Rattle.pywritten.specs.Pieces.{piece}
+use Rattle.pywritten.specs.Written.{trailing}
+use Rattle.pyunparse.specs.Inner.Folds.{puts}
+use Rattle.pyunparse.specs.Inner.Members.{members}
+use Rattle.pyunparse.proofs.headers.write_items.Given as goal
+
+abbrev pub invariant-loop-item : goal.invariant-loop-item
+invariant-loop-item g l =
+    puts g.W.Writer.after l.out (members l.first (trailing piece Comma) (map (item piece) (map item_of (drop l.item-index l.items))))
+    ≡ puts g.W.Writer.after l.initial.out (members true (trailing piece Comma) (map (item piece) (map item_of l.items)))

@@ -1,0 +1,11 @@
+use Rattle.std.proofs.Common.{◌∙◌, ◌++◌, map}
+use Rattle.pynode.specs.Trees.{stmts}
+use Rattle.pynode.specs.TreeOf.{stmt_of}
+use Rattle.pywritten.specs.Modules.{lines_of}
+use Rattle.pywritten.specs.Pieces.{piece}
+use Rattle.pyunparse.specs.Inner.Lines.{in_utf8}
+use Rattle.pyunparse.proofs.modules.unparse.Goals as goal
+
+pub returns : goal.returns
+returns c = c.into_text.ensures ∙ c.in_ok-write_stmts.ensures.text
+    ∙ (λ i. (c.new-out.ensures i).text ++ in_utf8 (lines_of piece (c.new-out.ensures i).level (stmts (map stmt_of (c.deref.ensures.value i)))))

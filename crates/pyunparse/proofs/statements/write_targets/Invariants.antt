@@ -1,0 +1,10 @@
+use Rattle.std.proofs.Common.{◌≡◌, map, drop}
+use Rattle.pynode.specs.TreeOf.{tree_of}
+use Rattle.pywritten.specs.Pieces.{piece}
+use Rattle.pywritten.specs.Statements.{targets}
+use Rattle.pyunparse.specs.Inner.Folds.{puts}
+use Rattle.pyunparse.proofs.statements.write_targets.Given as goal
+
+abbrev pub invariant-loop-target : goal.invariant-loop-target
+invariant-loop-target g l =
+    puts g.W.Writer.after l.out (targets piece (map tree_of (drop l.target-index l.targets))) ≡ puts g.W.Writer.after l.initial.out (targets piece (map tree_of l.targets))

@@ -1,0 +1,20 @@
+-- The clauses of a comprehension, one by one.
+use Rattle.std.specs.Prelude.{ℕ, max, List, ◌∷◌, ◌++◌}
+use Rattle.pytoken.specs.declared.keywords.Keyword.TheVariants as Key
+use Rattle.pygrammar.specs.declared.levels.Level.TheVariants.{Or, Stars}
+use Rattle.pynode.specs.Trees.{Comprehension, Expr, exprs}
+use Rattle.pyheight.specs.Heights.{height, heights}
+use Rattle.pyspacing.specs.Spacing.{Piece}
+use Rattle.pywritten.specs.Written.{conditions, for_in, word}
+use Rattle.pywritten.specs.Pieces.{piece, pieces}
+
+abbrev pub clause : Comprehension → List Piece
+clause c = for_in piece c.is_async (pieces Stars c.target ++ (word piece Key.In ∷ (pieces Or c.iter ++ conditions piece (exprs c.ifs))))
+
+-- the height of the highest expression in one
+abbrev pub clause_height : Comprehension → ℕ
+clause_height c = max (height c.target) (max (height c.iter) (heights (exprs c.ifs)))
+
+-- a condition of one
+abbrev pub condition : Expr → List Piece
+condition e = word piece Key.If ∷ pieces Or e

@@ -1,0 +1,56 @@
+-- Lines of a module, and what stands in them.
+use Rattle.std.specs.Prelude.{◌≡◌, ℕ, suc, Bool, true, false, List, [], ◌∷◌, ◌++◌, map}
+use Rattle.std.specs.Str.{encode_utf8_all}
+use Rattle.pylexeme.specs.declared.kinds.Exact.TheVariants.{Colon}
+use Rattle.pygrammar.specs.Lines.{DefHead, Header, def_header, elif_header, else_header, except_header, finally_header, for_head, loop_header, try_header, with_header}
+use Rattle.pynode.specs.Trees
+use Rattle.pynode.specs.Trees.{Expr, Handler, Handlers, Item, Stmt, Stmts, stmts}
+use Rattle.pyspacing.specs.Spacing.{Piece, lines_text}
+use Rattle.pyunparse.specs.Inner.Writing.{Writing}
+use Rattle.pywritten.specs.Written.{trailing}
+use Rattle.pywritten.specs.Pieces.{piece}
+use Rattle.pywritten.specs.Statements.{header_tokens}
+use Rattle.pywritten.specs.Modules.{WrittenLine, alternative, clause, handler_lines, header, line_of, lines_of}
+
+-- a header with its colon
+abbrev pub with_colon : Header → List Piece
+with_colon h = header_tokens piece h ++ (trailing piece Colon ∷ [])
+
+-- the text of lines
+abbrev pub in_utf8 : List (WrittenLine Piece) → List ℕ
+in_utf8 ls = encode_utf8_all (lines_text (map line_of ls))
+
+-- lines are written behind a text
+pub record Wrote (v w : Writing) (ls : List (WrittenLine Piece)) : Type 0 where
+  pub text : w.text ≡ v.text ++ in_utf8 ls
+  pub level : w.level ≡ v.level
+
+-- a header's line is ended, and its block written
+pub record Blocked (v w : Writing) (ls : List (WrittenLine Piece)) : Type 0 where
+  pub text : w.text ≡ v.text ++ 10 ∷ in_utf8 ls
+  pub level : w.level ≡ v.level
+
+-- those of a `for`, a `with`, a `def` or `class` behind its decorators, a `try`, and one of its handlers
+abbrev pub for_lines : ℕ → Bool → Expr → Expr → Stmts → Stmts → List (WrittenLine Piece)
+for_lines l b t e body orelse = header piece l (loop_header (for_head b t e)) ∷ (lines_of piece (suc l) body ++ clause piece l else_header orelse)
+
+abbrev pub with_lines : ℕ → Bool → List Item → Stmts → List (WrittenLine Piece)
+with_lines l b items body = header piece l (with_header b items) ∷ lines_of piece (suc l) body
+
+abbrev pub def_lines : ℕ → DefHead → Stmts → List (WrittenLine Piece)
+def_lines l h body = header piece l (def_header h) ∷ lines_of piece (suc l) body
+
+abbrev pub try_lines : ℕ → Bool → Stmts → Handlers → Stmts → Stmts → List (WrittenLine Piece)
+try_lines l b body hs orelse final = header piece l try_header ∷ (lines_of piece (suc l) body ++ (handler_lines piece l b hs ++ (clause piece l else_header orelse ++ clause piece l finally_header final)))
+
+abbrev pub one_handler : ℕ → Bool → Handler → List (WrittenLine Piece)
+one_handler l b h = header piece l (except_header b h.class h.name) ∷ lines_of piece (suc l) (stmts h.body)
+
+-- an `if`, and the lines of one as an `elif`
+abbrev pub is_if : Stmt → Bool
+is_if (Trees.If test body orelse) = true
+is_if _ = false
+
+abbrev pub elif_lines : ℕ → Stmt → List (WrittenLine Piece)
+elif_lines l (Trees.If test body orelse) = header piece l (elif_header test) ∷ (lines_of piece (suc l) body ++ alternative piece l orelse)
+elif_lines l _ = []

@@ -1,0 +1,32 @@
+-- Members of a list, with a token between each two.
+use Rattle.std.specs.Prelude.{ℕ, zero, suc, Bool, true, false, List, [], ◌∷◌, ◌++◌}
+use Rattle.pylexeme.specs.declared.kinds.Exact.TheVariants.{Comma}
+use Rattle.pytoken.specs.declared.keywords.Keyword.TheVariants as Key
+use Rattle.pyspacing.specs.Spacing.{Piece}
+use Rattle.pywritten.specs.Written.{separated, trailing, word}
+use Rattle.pywritten.specs.Pieces.{piece}
+use Rattle.pyunparse.specs.declared.marks.Between.{Between}
+use Rattle.pyunparse.specs.declared.marks.Between.TheVariants as between
+
+-- the token between two members
+abbrev pub mark : Between → Piece
+mark between.Comma = trailing piece Comma
+mark between.And = word piece Key.And
+mark between.Or = word piece Key.Or
+
+-- members behind others
+abbrev pub following : {A : Type 0} → A → List (List A) → List A
+following t [] = []
+following t (ts ∷ tss) = t ∷ (ts ++ following t tss)
+
+-- members, of which the first is the first of its list or is not
+abbrev pub members : {A : Type 0} → Bool → A → List (List A) → List A
+members true t tss = separated t tss
+members false t tss = following t tss
+
+-- so many lists, then others with what stands behind each of them, as far as there is any
+abbrev pub padded : {A : Type 0} → List (List A) → ℕ → List (List A) → List (List A)
+padded [] n uss = []
+padded (ts ∷ tss) (suc n) uss = ts ∷ padded tss n uss
+padded (ts ∷ tss) zero [] = ts ∷ padded tss zero []
+padded (ts ∷ tss) zero (us ∷ uss) = (ts ++ us) ∷ padded tss zero uss

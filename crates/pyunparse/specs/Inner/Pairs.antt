@@ -1,0 +1,13 @@
+-- The pairs of a dictionary, one by one.
+use Rattle.std.specs.Prelude.{List, ◌∷◌, ◌++◌, Option, Some, None}
+use Rattle.pylexeme.specs.declared.kinds.Exact.TheVariants.{Colon, DoubleStar}
+use Rattle.pynode.specs.Trees.{Expr}
+use Rattle.pygrammar.specs.declared.levels.Level.TheVariants.{BitOr, Expression}
+use Rattle.pyspacing.specs.Spacing.{Piece}
+use Rattle.pywritten.specs.Written.{leading, trailing}
+use Rattle.pywritten.specs.Pieces.{piece, pieces}
+
+-- a key and its value, or `**` and a value
+abbrev pub pair : Option Expr → Expr → List Piece
+pair None e = leading piece DoubleStar ∷ pieces BitOr e
+pair (Some k) e = pieces Expression k ++ (trailing piece Colon ∷ pieces Expression e)

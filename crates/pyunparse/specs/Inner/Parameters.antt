@@ -1,0 +1,33 @@
+-- Parameters, one by one.
+use Rattle.std.specs.Prelude.{ℕ, zero, suc, ◌-◌, nat_lt, if◌then◌else◌, List, [], ◌∷◌, ◌++◌, drop, map}
+use Rattle.pylexeme.specs.declared.kinds.Exact.TheVariants.{Colon, Comma, Equal, Slash}
+use Rattle.pynode.specs.Trees.{Arg, Args, arg, Arguments, arguments, Expr, Exprs}
+use Rattle.pygrammar.specs.declared.levels.Level.TheVariants.{Expression}
+use Rattle.pytoken.specs.Terminals.{Ident, Op}
+use Rattle.pyspacing.specs.Spacing.{Piece}
+use Rattle.pywritten.specs.Written.{behind_equal, each, free, names, suffixed, tight, trailing, with_defaults, with_slash}
+use Rattle.pywritten.specs.Pieces.{piece, pieces}
+
+-- a name with its annotation
+abbrev pub named : Arg → List Piece
+named (arg x a) = free piece (Ident x) ∷ suffixed piece (trailing piece Colon) a
+
+-- those that may be given by their places
+abbrev pub by_places : Args → Args → Exprs → List (List Piece)
+by_places ps qs ds = with_slash piece (names piece ps) (with_defaults (names piece ps ++ names piece qs) (map (behind_equal piece) (each piece Expression ds)))
+
+abbrev pub positional : Arguments → List (List Piece)
+positional (arguments ps qs v ks kds k ds) = by_places ps qs ds
+
+-- the `/` that stands behind so many
+abbrev pub slash_behind : ℕ → List Piece
+slash_behind zero = []
+slash_behind (suc n) = trailing piece Comma ∷ (free piece (Op Slash) ∷ [])
+
+-- the default of the one at a place, where so many have none
+abbrev pub head_default : List Expr → List Piece
+head_default [] = []
+head_default (e ∷ es) = tight piece Equal ∷ pieces Expression e
+
+abbrev pub default_at : ℕ → ℕ → List Expr → List Piece
+default_at bare i es = if nat_lt i bare then [] else head_default (drop (i - bare) es)

@@ -1,0 +1,323 @@
+//! Statements with their blocks, a line after another.
+
+ghost use Rattle.std.specs.Prelude.{◌≡◌, ◌∷◌, [], suc, OnOk, map};
+ghost use Rattle.pygrammar.specs.Lines.{Header, class_head, function_head};
+ghost use Rattle.pynode.specs.TreeOf.{arguments_of, boxed_of, handler_of, item_of, keyword_of, stmt_of, tree_of, type_param_of};
+ghost use Rattle.pynode.specs.Trees as plain;
+ghost use Rattle.pynode.specs.Trees.{handlers, keywords, stmts};
+ghost use Rattle.pyunparse.specs.Inner.Lines.{Blocked, Wrote, def_lines, elif_lines, for_lines, is_if, one_handler, try_lines, with_lines};
+ghost use Rattle.pywritten.specs.Modules as modules;
+ghost use Rattle.pywritten.specs.Pieces.{piece};
+ghost use Rattle.pywritten.specs.Statements.{header_tokens};
+ghost use Rattle.pywritten.specs.Written as written;
+
+use crate::headers::{
+    write_class_header, write_except_header, write_for_header, write_function_header,
+    write_test_header, write_with_header, write_word_header,
+};
+use crate::lines::{write_decorators, write_line};
+use crate::text_writer::TextWriter;
+use pynode::{Arguments, Expr, Handler, Identifier, Item, Keyword as Word, Stmt, TypeParam};
+use pytoken::Keyword;
+use std::alloc::AllocError;
+
+/// Writes statements, each on lines of its own.
+#[cycle(blocks)]
+pub(crate) fn write_stmts(out: &mut TextWriter, body: &[Stmt]) -> Result<(), AllocError>
+    ensures { OnOk result (Wrote out.old out.new (modules.lines_of piece out.old.level (stmts (map stmt_of body.now)))) }
+{
+    for s in body {
+        write_stmt(out, s)?;
+    }
+    Ok(())
+}
+
+/// Ends a header's line, and writes its block a level deeper.
+#[cycle(blocks)]
+fn write_block(out: &mut TextWriter, body: &[Stmt]) -> Result<(), AllocError>
+    ensures { OnOk result (Blocked out.old out.new (modules.lines_of piece (suc out.old.level) (stmts (map stmt_of body.now)))) }
+{
+    out.end_line()?;
+    out.indent()?;
+    write_stmts(out, body)?;
+    out.dedent();
+    Ok(())
+}
+
+/// Writes a statement.
+#[cycle(blocks)]
+fn write_stmt(out: &mut TextWriter, s: &Stmt) -> Result<(), AllocError>
+    ensures { OnOk result (Wrote out.old out.new (modules.statement_lines piece out.old.level (stmt_of s.now))) }
+{
+    match s {
+        Stmt::If { test, body, orelse } => write_if(out, test, body, orelse),
+        Stmt::While { test, body, orelse } => write_while(out, test, body, orelse),
+        Stmt::For {
+            target,
+            iter,
+            body,
+            orelse,
+        } => write_for(out, false, target, iter, body, orelse),
+        Stmt::AsyncFor {
+            target,
+            iter,
+            body,
+            orelse,
+        } => write_for(out, true, target, iter, body, orelse),
+        Stmt::With { items, body } => write_with(out, false, items, body),
+        Stmt::AsyncWith { items, body } => write_with(out, true, items, body),
+        Stmt::Try {
+            body,
+            handlers,
+            orelse,
+            finalbody,
+        } => write_try(out, false, body, handlers, orelse, finalbody),
+        Stmt::TryStar {
+            body,
+            handlers,
+            orelse,
+            finalbody,
+        } => write_try(out, true, body, handlers, orelse, finalbody),
+        Stmt::FunctionDef {
+            name,
+            args,
+            body,
+            decorator_list,
+            returns,
+            type_params,
+        } => {
+            write_decorators(out, decorator_list)?;
+            write_function(out, false, name, type_params, args, returns, body)
+        }
+        Stmt::AsyncFunctionDef {
+            name,
+            args,
+            body,
+            decorator_list,
+            returns,
+            type_params,
+        } => {
+            write_decorators(out, decorator_list)?;
+            write_function(out, true, name, type_params, args, returns, body)
+        }
+        Stmt::ClassDef {
+            name,
+            bases,
+            keywords,
+            body,
+            decorator_list,
+            type_params,
+        } => {
+            write_decorators(out, decorator_list)?;
+            write_class(out, name, type_params, bases, keywords, body)
+        }
+        _ => write_line(out, s),
+    }
+}
+
+/// Writes an `if` with what it has else.
+#[cycle(blocks)]
+fn write_if(
+    out: &mut TextWriter,
+    test: &Expr,
+    body: &[Stmt],
+    orelse: &[Stmt],
+) -> Result<(), AllocError>
+    ensures { OnOk result (Wrote out.old out.new (modules.statement_lines piece out.old.level
+        (plain.If (tree_of test.now) (stmts (map stmt_of body.now)) (stmts (map stmt_of orelse.now))))) }
+{
+    out.begin_line()?;
+    write_test_header(out, Keyword::If, test)?;
+    write_block(out, body)?;
+    write_alternative(out, orelse)
+}
+
+/// Writes a `while` with its `else`.
+#[cycle(blocks)]
+fn write_while(
+    out: &mut TextWriter,
+    test: &Expr,
+    body: &[Stmt],
+    orelse: &[Stmt],
+) -> Result<(), AllocError>
+    ensures { OnOk result (Wrote out.old out.new (modules.statement_lines piece out.old.level
+        (plain.While (tree_of test.now) (stmts (map stmt_of body.now)) (stmts (map stmt_of orelse.now))))) }
+{
+    out.begin_line()?;
+    write_test_header(out, Keyword::While, test)?;
+    write_block(out, body)?;
+    write_clause(out, Keyword::Else, orelse)
+}
+
+/// Writes a `for` with its `else`.
+#[cycle(blocks)]
+fn write_for(
+    out: &mut TextWriter,
+    is_async: bool,
+    target: &Expr,
+    iter: &Expr,
+    body: &[Stmt],
+    orelse: &[Stmt],
+) -> Result<(), AllocError>
+    ensures { OnOk result (Wrote out.old out.new (for_lines out.old.level is_async (tree_of target.now) (tree_of iter.now)
+        (stmts (map stmt_of body.now)) (stmts (map stmt_of orelse.now)))) }
+{
+    out.begin_line()?;
+    write_for_header(out, is_async, target, iter)?;
+    write_block(out, body)?;
+    write_clause(out, Keyword::Else, orelse)
+}
+
+/// Writes a `with`.
+#[cycle(blocks)]
+fn write_with(
+    out: &mut TextWriter,
+    is_async: bool,
+    items: &[Item],
+    body: &[Stmt],
+) -> Result<(), AllocError>
+    ensures { OnOk result (Wrote out.old out.new (with_lines out.old.level is_async (map item_of items.now) (stmts (map stmt_of body.now)))) }
+{
+    out.begin_line()?;
+    write_with_header(out, is_async, items)?;
+    write_block(out, body)
+}
+
+/// Writes a `def` behind its decorators.
+#[cycle(blocks)]
+fn write_function(
+    out: &mut TextWriter,
+    is_async: bool,
+    name: &Identifier,
+    type_params: &[TypeParam],
+    args: &Arguments,
+    returns: &Option<Box<Expr>>,
+    body: &[Stmt],
+) -> Result<(), AllocError>
+    ensures { OnOk result (Wrote out.old out.new (def_lines out.old.level
+        (function_head is_async name.now (map type_param_of type_params.now) (arguments_of args.now) (boxed_of returns.now)) (stmts (map stmt_of body.now)))) }
+{
+    out.begin_line()?;
+    write_function_header(out, is_async, name, type_params, args, returns)?;
+    write_block(out, body)
+}
+
+/// Writes a `class` behind its decorators.
+#[cycle(blocks)]
+fn write_class(
+    out: &mut TextWriter,
+    name: &Identifier,
+    type_params: &[TypeParam],
+    bases: &[Expr],
+    words: &[Word],
+    body: &[Stmt],
+) -> Result<(), AllocError>
+    ensures { OnOk result (Wrote out.old out.new (def_lines out.old.level
+        (class_head name.now (map type_param_of type_params.now) (map tree_of bases.now) (keywords (map keyword_of words.now))) (stmts (map stmt_of body.now)))) }
+{
+    out.begin_line()?;
+    write_class_header(out, name, type_params, bases, words)?;
+    write_block(out, body)
+}
+
+/// Writes a `try` with its clauses.
+#[cycle(blocks)]
+fn write_try(
+    out: &mut TextWriter,
+    is_star: bool,
+    body: &[Stmt],
+    caught: &[Handler],
+    orelse: &[Stmt],
+    finalbody: &[Stmt],
+) -> Result<(), AllocError>
+    ensures { OnOk result (Wrote out.old out.new (try_lines out.old.level is_star (stmts (map stmt_of body.now)) (handlers (map handler_of caught.now))
+        (stmts (map stmt_of orelse.now)) (stmts (map stmt_of finalbody.now)))) }
+{
+    out.begin_line()?;
+    write_word_header(out, Keyword::Try)?;
+    write_block(out, body)?;
+    write_handlers(out, is_star, caught)?;
+    write_clause(out, Keyword::Else, orelse)?;
+    write_clause(out, Keyword::Finally, finalbody)
+}
+
+/// Writes the handlers of a `try`.
+#[cycle(blocks)]
+fn write_handlers(
+    out: &mut TextWriter,
+    is_star: bool,
+    caught: &[Handler],
+) -> Result<(), AllocError>
+    ensures { OnOk result (Wrote out.old out.new (modules.handler_lines piece out.old.level is_star (handlers (map handler_of caught.now)))) }
+{
+    for handler in caught {
+        write_handler(out, is_star, handler)?;
+    }
+    Ok(())
+}
+
+/// Writes a handler of a `try`.
+#[cycle(blocks)]
+fn write_handler(
+    out: &mut TextWriter,
+    is_star: bool,
+    handler: &Handler,
+) -> Result<(), AllocError>
+    ensures { OnOk result (Wrote out.old out.new (one_handler out.old.level is_star (handler_of handler.now))) }
+{
+    out.begin_line()?;
+    write_except_header(out, is_star, &handler.class, &handler.name)?;
+    write_block(out, &handler.body)
+}
+
+/// Writes a clause that is a keyword and a block, if the block isn't empty.
+#[cycle(blocks)]
+fn write_clause(out: &mut TextWriter, word: Keyword, body: &[Stmt]) -> Result<(), AllocError>
+    ensures { (h : Header) → header_tokens piece h ≡ written.word piece word ∷ [] → OnOk result (Wrote out.old out.new (modules.clause piece out.old.level h (stmts (map stmt_of body.now)))) }
+{
+    if body.is_empty() {
+        return Ok(());
+    }
+    out.begin_line()?;
+    write_word_header(out, word)?;
+    write_block(out, body)
+}
+
+/// Whether a statement is an `if`.
+fn is_if(s: &Stmt) -> bool
+    ensures { result ≡ is_if (stmt_of s.now) }
+{
+    matches!(s, Stmt::If { .. })
+}
+
+/// Writes what an `if` has else: an `elif` where that is exactly one `if`.
+#[cycle(blocks)]
+fn write_alternative(out: &mut TextWriter, body: &[Stmt]) -> Result<(), AllocError>
+    ensures { OnOk result (Wrote out.old out.new (modules.alternative piece out.old.level (stmts (map stmt_of body.now)))) }
+{
+    let count = body.len();
+    if count != 1 {
+        return write_clause(out, Keyword::Else, body);
+    }
+    let s = &body[0];
+    if is_if(s) {
+        return write_elif(out, s);
+    }
+    write_clause(out, Keyword::Else, body)
+}
+
+/// Writes an `if` as an `elif`, and any other statement not at all.
+#[cycle(blocks)]
+fn write_elif(out: &mut TextWriter, s: &Stmt) -> Result<(), AllocError>
+    ensures { OnOk result (Wrote out.old out.new (elif_lines out.old.level (stmt_of s.now))) }
+{
+    match s {
+        Stmt::If { test, body, orelse } => {
+            out.begin_line()?;
+            write_test_header(out, Keyword::Elif, test)?;
+            write_block(out, body)?;
+            write_alternative(out, orelse)
+        }
+        _ => Ok(()),
+    }
+}

@@ -1,0 +1,41 @@
+//! Constants.
+
+ghost use Rattle.std.specs.Prelude.{◌≡◌, [], ◌∷◌, OnOk};
+ghost use Rattle.pynode.specs.TreeOf.{constant_of};
+ghost use Rattle.pyunparse.specs.Inner.Folds.{puts};
+ghost use Rattle.pywritten.specs.Pieces.{piece};
+ghost use Rattle.pywritten.specs.Written.{constant_terminal, free};
+
+use crate::tokens::{put_sign, put_word};
+use crate::writers::Writer;
+use itoa::Buffer;
+use pylex::{Exact, Kind};
+use pynode::Constant;
+use pytoken::Keyword;
+use std::alloc::AllocError;
+
+/// Writes a constant.
+pub(crate) fn put_constant<W: Writer>(out: &mut W, value: &Constant) -> Result<(), AllocError>
+    ensures { OnOk result (out.new ≡ puts W.after out.old (free piece (constant_terminal (constant_of value.now)) ∷ [])) }
+{
+    match value {
+        Constant::None => put_word(out, Keyword::None),
+        Constant::Ellipsis => put_sign(out, Exact::Ellipsis, false, false),
+        Constant::Bool(truth) => {
+            put_word(
+                out,
+                if *truth {
+                    Keyword::True
+                } else {
+                    Keyword::False
+                },
+            )
+        }
+        Constant::Int(number) => {
+            let mut buffer = Buffer::new();
+            out.put(Kind::Number, buffer.format(number.value()), false, false)
+        }
+        Constant::Str { points, unicode } => out.put_str(points.as_slice(), *unicode),
+        Constant::Bytes(bytes) => out.put_bytes(bytes),
+    }
+}

@@ -1,0 +1,107 @@
+//! Lists of expressions, and the displays of sets, lists and dictionaries.
+
+ghost use Rattle.std.specs.Prelude.{◌≡◌, Option, OnOk, map, true};
+ghost use Rattle.pylexeme.specs.declared.kinds.Exact.TheVariants.{LBrace, RBrace, Comma};
+ghost use Rattle.pynode.specs.TreeOf.{option_of, tree_of};
+ghost use Rattle.pynode.specs.Trees.{exprs, optionals};
+ghost use Rattle.pygrammar.specs.declared.levels.Level.TheVariants as Level;
+ghost use Rattle.pyunparse.specs.Inner.Folds.{puts};
+ghost use Rattle.pyunparse.specs.Inner.Members.{mark, members};
+ghost use Rattle.pyunparse.specs.Inner.Pairs.{pair};
+ghost use Rattle.pywritten.specs.Pieces.{piece};
+ghost use Rattle.pywritten.specs.Written.{each, enclosed, leading, listed, pairs, written_keys};
+
+use crate::expressions::write_expr;
+use crate::marks::Between;
+use crate::tokens::{put_between, put_sign};
+use crate::writers::Writer;
+use pygrammar::Level;
+use pylex::Exact;
+use pynode::Expr;
+use std::alloc::AllocError;
+
+/// Writes expressions with a token between each two, and before the first where it isn't the
+/// first of its list.
+#[cycle(writing)]
+pub(crate) fn write_members<W: Writer>(
+    out: &mut W,
+    is_first: bool,
+    between: Between,
+    level: Level,
+    es: &[Expr],
+) -> Result<(), AllocError>
+    ensures { OnOk result (out.new ≡ puts W.after out.old (members is_first (mark between) (each piece level (exprs (map tree_of es.now))))) }
+{
+    let mut first = is_first;
+    for e in es {
+        put_between(out, first, between)?;
+        write_expr(out, level, e)?;
+        first = false;
+    }
+    Ok(())
+}
+
+/// Writes members in brackets.
+#[cycle(writing)]
+pub(crate) fn write_display<W: Writer>(
+    out: &mut W,
+    opener: Exact,
+    closer: Exact,
+    elts: &[Expr],
+) -> Result<(), AllocError>
+    ensures { OnOk result (out.new ≡ puts W.after out.old (enclosed piece (leading piece opener) closer (listed piece (each piece Level.Elem (exprs (map tree_of elts.now)))))) }
+{
+    put_sign(out, opener, false, true)?;
+    write_members(out, true, Between::Comma, Level::Elem, elts)?;
+    put_sign(out, closer, true, false)
+}
+
+/// Writes a dictionary. What has no key stands behind `**`.
+#[cycle(writing)]
+pub(crate) fn write_dict<W: Writer>(
+    out: &mut W,
+    keys: &[Option<Expr>],
+    values: &[Expr],
+) -> Result<(), AllocError>
+    ensures { OnOk result (out.new ≡ puts W.after out.old (enclosed piece (leading piece LBrace) RBrace (listed piece (pairs piece (written_keys piece (optionals (map option_of keys.now))) (exprs (map tree_of values.now)))))) }
+{
+    put_sign(out, Exact::LBrace, false, true)?;
+    write_pairs(out, keys, values)?;
+    put_sign(out, Exact::RBrace, true, false)
+}
+
+/// Writes the pairs of a dictionary.
+#[cycle(writing)]
+fn write_pairs<W: Writer>(
+    out: &mut W,
+    keys: &[Option<Expr>],
+    values: &[Expr],
+) -> Result<(), AllocError>
+    ensures { OnOk result (out.new ≡ puts W.after out.old (listed piece (pairs piece (written_keys piece (optionals (map option_of keys.now))) (exprs (map tree_of values.now))))) }
+{
+    let mut first = true;
+    for i in 0..keys.len().min(values.len()) {
+        put_between(out, first, Between::Comma)?;
+        write_pair(out, &keys[i], &values[i])?;
+        first = false;
+    }
+    Ok(())
+}
+
+/// Writes a key and its value, or `**` and a value.
+#[cycle(writing)]
+fn write_pair<W: Writer>(out: &mut W, key: &Option<Expr>, value: &Expr) -> Result<(), AllocError>
+    ensures { OnOk result (out.new ≡ puts W.after out.old (pair (option_of key.now) (tree_of value.now))) }
+{
+    match key {
+        None => {
+            put_sign(out, Exact::DoubleStar, false, true)?;
+            write_expr(out, Level::BitOr, value)
+        }
+        Some(key) => {
+            write_expr(out, Level::Expression, key)?;
+            put_sign(out, Exact::Colon, true, false)?;
+            write_expr(out, Level::Expression, value)
+        }
+    }
+}

@@ -1,0 +1,99 @@
+//! Expressions.
+
+ghost use Rattle.std.specs.Prelude.{◌≡◌, All, IfOk, List, OnOk, map};
+ghost use Rattle.pynode.specs.TreeOf.{tree_of};
+ghost use Rattle.pyunparse.specs.Inner.Folds.{puts};
+ghost use Rattle.pyunparse.specs.Told.{in_bytes, told};
+ghost use Rattle.pytoken.specs.Terminals.{Terminal};
+ghost use Rattle.pygrammar.specs.Grammar.{Derives};
+ghost use Rattle.pywritten.specs.Laws.{AreRead, IsOfToken, Shortest};
+ghost use Rattle.pywritten.specs.Pieces.{pieces};
+ghost use Rattle.pywritten.specs.Terminals.{terminals};
+
+use crate::calls::{write_attribute, write_call, write_subscript};
+use crate::clauses::{write_comprehension, write_dict_comprehension};
+use crate::constants::put_constant;
+use crate::displays::{write_dict, write_display};
+use crate::levels::star_level;
+use crate::operators::{
+    write_await, write_binary, write_chain, write_compare, write_conditional, write_lambda,
+    write_named, write_unary, write_yield, write_yield_from,
+};
+use crate::piece_writer::PieceWriter;
+use crate::pieces::Piece;
+use crate::tokens::{put_name, put_sign};
+use crate::tuples::{write_slice, write_tuple};
+use crate::writers::Writer;
+use pygrammar::Level;
+use pylex::Exact;
+use pynode::Expr;
+use std::alloc::{AllocError, Global};
+
+/// Writes an expression at a level of the grammar.
+#[cycle(writing)]
+#[tactic(auto, using(pynode::proofs::Callers::ExprShapes::expr_shapes))]
+pub(crate) fn write_expr<W: Writer>(out: &mut W, level: Level, e: &Expr) -> Result<(), AllocError>
+    ensures { OnOk result (out.new ≡ puts W.after out.old (pieces level (tree_of e.now))) }
+{
+    match e {
+        Expr::BoolOp { op, values } => write_chain(out, level, *op, values),
+        Expr::NamedExpr { target, value } => write_named(out, level, target, value),
+        Expr::BinOp { left, op, right } => write_binary(out, level, left, *op, right),
+        Expr::UnaryOp { op, operand } => write_unary(out, level, *op, operand),
+        Expr::Lambda { args, body } => write_lambda(out, level, args, body),
+        Expr::IfExp { test, body, orelse } => write_conditional(out, level, test, body, orelse),
+        Expr::Dict { keys, values } => write_dict(out, keys, values),
+        Expr::Set { elts } => write_display(out, Exact::LBrace, Exact::RBrace, elts),
+        Expr::ListComp { elt, generators } => {
+            write_comprehension(out, Exact::LSqb, Exact::RSqb, elt, generators)
+        }
+        Expr::SetComp { elt, generators } => {
+            write_comprehension(out, Exact::LBrace, Exact::RBrace, elt, generators)
+        }
+        Expr::DictComp {
+            key,
+            value,
+            generators,
+        } => write_dict_comprehension(out, key, value, generators),
+        Expr::GeneratorExp { elt, generators } => {
+            write_comprehension(out, Exact::LPar, Exact::RPar, elt, generators)
+        }
+        Expr::Await { value } => write_await(out, level, value),
+        Expr::Yield { value } => write_yield(out, level, value),
+        Expr::YieldFrom { value } => write_yield_from(out, level, value),
+        Expr::Compare {
+            left,
+            ops,
+            comparators,
+        } => write_compare(out, level, left, ops, comparators),
+        Expr::Call {
+            func,
+            args,
+            keywords,
+        } => write_call(out, level, func, args, keywords),
+        Expr::Constant { value } => put_constant(out, value),
+        Expr::Attribute { value, attr, .. } => write_attribute(out, level, value, attr),
+        Expr::Subscript { value, slice, .. } => write_subscript(out, level, value, slice),
+        Expr::Starred { value, .. } => {
+            put_sign(out, Exact::Star, false, true)?;
+            write_expr(out, star_level(level), value)
+        }
+        Expr::Name { id, .. } => put_name(out, id),
+        Expr::List { elts, .. } => write_display(out, Exact::LSqb, Exact::RSqb, elts),
+        Expr::Tuple { elts, .. } => write_tuple(out, level, elts),
+        Expr::Slice { lower, upper, step } => write_slice(out, level, lower, upper, step),
+    }
+}
+
+/// The tokens that an expression is written in at a level of the grammar.
+///
+/// Each has its type and its text. The only error is of memory.
+pub fn expression_tokens(alloc: Global, expr: &Expr, level: Level) -> Result<Vec<Piece>, AllocError>
+    ensures tokens { IfOk result (λ tokens. map told tokens.items ≡ map in_bytes (pieces level (tree_of expr.now))) }
+    ensures fewest { (ts : List Terminal) → Derives level ts (tree_of expr.now) → Shortest (Derives level) (terminals level (tree_of expr.now)) (tree_of expr.now) }
+    ensures read { (ts : List Terminal) → All IsOfToken ts → Derives level ts (tree_of expr.now) → AreRead (pieces level (tree_of expr.now)) (terminals level (tree_of expr.now)) }
+{
+    let mut out = PieceWriter::new(alloc);
+    write_expr(&mut out, level, expr)?;
+    Ok(out.into_pieces())
+}

@@ -1,0 +1,140 @@
+//! Imports.
+
+#![tactic(auto, using(crate::proofs::FoldLemmas::puts_append))]
+
+ghost use Rattle.std.specs.Prelude.{◌≡◌, None, OnOk, map, false};
+ghost use Rattle.std.specs.Str.{chars};
+ghost use Rattle.pynode.specs.TreeOf.{alias_of};
+ghost use Rattle.pyunparse.specs.Inner.Folds.{puts};
+ghost use Rattle.pywritten.specs.Pieces.{piece};
+ghost use Rattle.pywritten.specs.Written.{listed};
+ghost use Rattle.pywritten.specs.Statements as written;
+
+use crate::marks::Between;
+use crate::tokens::{put_between, put_name, put_sign, put_text, put_word};
+use crate::writers::Writer;
+use pylex::Exact;
+use pynode::{Alias, Identifier};
+use pytoken::Keyword;
+use std::alloc::AllocError;
+
+/// Writes names with points between. The first may keep close to what stands before it.
+pub(crate) fn write_dotted<W: Writer>(
+    out: &mut W,
+    close: bool,
+    name: &str,
+) -> Result<(), AllocError>
+    ensures { OnOk result (out.new ≡ puts W.after out.old (written.dotted piece close (chars name.now))) }
+{
+    let mut before = close;
+    let mut rest = name;
+    while let Some((part, tail)) = rest.split_once('.') {
+        put_text(out, part, before)?;
+        put_sign(out, Exact::Dot, true, true)?;
+        before = false;
+        rest = tail;
+    }
+    put_text(out, rest, before)
+}
+
+/// Writes the points of a relative import: three of them are one token.
+pub(crate) fn write_points<W: Writer>(out: &mut W, count: u64) -> Result<(), AllocError>
+    ensures { OnOk result (out.new ≡ puts W.after out.old (written.point_signs piece false (written.points count))) }
+{
+    let mut close = false;
+    let mut left = count;
+    while left >= 3 {
+        put_sign(out, Exact::Ellipsis, close, false)?;
+        close = true;
+        left -= 3;
+    }
+    while left > 0 {
+        put_sign(out, Exact::Dot, close, false)?;
+        close = true;
+        left -= 1;
+    }
+    Ok(())
+}
+
+/// Writes the name that something is given, if it is given one.
+pub(crate) fn write_as<W: Writer>(out: &mut W, name: &Option<Identifier>) -> Result<(), AllocError>
+    ensures { OnOk result (out.new ≡ puts W.after out.old (written.as_name piece name.now)) }
+{
+    match name {
+        None => Ok(()),
+        Some(name) => {
+            put_word(out, Keyword::As)?;
+            put_name(out, name)
+        }
+    }
+}
+
+/// Writes the names of an `import`.
+pub(crate) fn write_modules<W: Writer>(out: &mut W, names: &[Alias]) -> Result<(), AllocError>
+    ensures { OnOk result (out.new ≡ puts W.after out.old (listed piece (map (written.dotted_alias piece) (map alias_of names.now)))) }
+{
+    let mut first = true;
+    for alias in names {
+        put_between(out, first, Between::Comma)?;
+        write_module(out, alias)?;
+        first = false;
+    }
+    Ok(())
+}
+
+/// Writes a module's name, and the name that it is given.
+fn write_module<W: Writer>(out: &mut W, alias: &Alias) -> Result<(), AllocError>
+    ensures { OnOk result (out.new ≡ puts W.after out.old (written.dotted_alias piece (alias_of alias.now))) }
+{
+    write_dotted(out, false, alias.name.as_str())?;
+    write_as(out, &alias.asname)
+}
+
+/// Whether a name is `*`.
+fn is_asterisk(name: &Identifier) -> bool
+    ensures { result ≡ written.is_star name.now None }
+{
+    name.as_str() == "*"
+}
+
+/// Whether the names of an import from a module are `*` alone, for all of them.
+fn are_all(names: &[Alias]) -> bool
+    ensures { result ≡ written.are_all (map alias_of names.now) }
+{
+    if names.len() != 1 {
+        return false;
+    }
+    let alias = &names[0];
+    alias.asname.is_none() & is_asterisk(&alias.name)
+}
+
+/// Writes the names of an import from a module.
+pub(crate) fn write_imported<W: Writer>(out: &mut W, names: &[Alias]) -> Result<(), AllocError>
+    ensures { OnOk result (out.new ≡ puts W.after out.old (written.imported piece (map alias_of names.now))) }
+{
+    if are_all(names) {
+        return put_sign(out, Exact::Star, false, false);
+    }
+    write_aliases(out, names)
+}
+
+/// Writes names with the names that they are given.
+fn write_aliases<W: Writer>(out: &mut W, names: &[Alias]) -> Result<(), AllocError>
+    ensures { OnOk result (out.new ≡ puts W.after out.old (listed piece (map (written.name_alias piece) (map alias_of names.now)))) }
+{
+    let mut first = true;
+    for alias in names {
+        put_between(out, first, Between::Comma)?;
+        write_alias(out, alias)?;
+        first = false;
+    }
+    Ok(())
+}
+
+/// Writes a name, and the name that it is given.
+fn write_alias<W: Writer>(out: &mut W, alias: &Alias) -> Result<(), AllocError>
+    ensures { OnOk result (out.new ≡ puts W.after out.old (written.name_alias piece (alias_of alias.now))) }
+{
+    put_name(out, &alias.name)?;
+    write_as(out, &alias.asname)
+}

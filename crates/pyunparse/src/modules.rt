@@ -1,0 +1,26 @@
+//! The text of a module.
+
+ghost use Rattle.std.specs.Prelude.{◌≡◌, IfOk};
+ghost use Rattle.std.specs.Str.{encode_utf8_all};
+ghost use Rattle.std.specs.String.{string_bytes};
+ghost use Rattle.pynode.specs.TreeOf.{module_of};
+ghost use Rattle.pywritten.specs.Modules.{module_text};
+ghost use Rattle.pyunparse.specs.RoundTrips.{RoundTrips};
+
+use crate::blocks::write_stmts;
+use crate::text_writer::TextWriter;
+use pynode::Module;
+use std::alloc::{AllocError, Global};
+
+/// Source text for a module: a statement a line, four blanks a level, and as few brackets as each
+/// place allows.
+///
+/// Each line ends in a line feed; an empty module has the empty text. The only error is of memory.
+pub fn unparse(alloc: Global, module: &Module) -> Result<String, AllocError>
+    ensures text { IfOk result (λ text. string_bytes text ≡ encode_utf8_all (module_text (module_of «module».now))) }
+    ensures round_trip { IfOk result (λ text. RoundTrips (string_bytes text) (module_of «module».now)) }
+{
+    let mut out = TextWriter::new(alloc);
+    write_stmts(&mut out, &module.body)?;
+    Ok(out.into_text())
+}

@@ -1,0 +1,51 @@
+//! Expressions that may be absent.
+
+ghost use Rattle.std.specs.Prelude.{◌≡◌, OnOk, true};
+ghost use Rattle.pynode.specs.TreeOf.{boxed_of};
+ghost use Rattle.pynode.specs.Trees.{optional};
+ghost use Rattle.pytoken.specs.Terminals.{Op};
+ghost use Rattle.pyunparse.specs.Inner.Folds.{puts};
+ghost use Rattle.pywritten.specs.Pieces.{piece};
+ghost use Rattle.pywritten.specs.Written.{perhaps, suffixed};
+
+use crate::expressions::write_expr;
+use crate::tokens::put_sign;
+use crate::writers::Writer;
+use pygrammar::Level;
+use pylex::Exact;
+use pynode::Expr;
+use std::alloc::AllocError;
+
+/// Writes an expression that may be absent.
+#[cycle(writing)]
+pub(crate) fn write_perhaps<W: Writer>(
+    out: &mut W,
+    level: Level,
+    e: &Option<Box<Expr>>,
+) -> Result<(), AllocError>
+    ensures { OnOk result (out.new ≡ puts W.after out.old (perhaps piece level (optional (boxed_of e.now)))) }
+{
+    match e {
+        None => Ok(()),
+        Some(e) => write_expr(out, level, e),
+    }
+}
+
+/// Writes a sign and an expression, or nothing.
+#[cycle(writing)]
+pub(crate) fn write_suffix<W: Writer>(
+    out: &mut W,
+    sign: Exact,
+    behind: bool,
+    e: &Option<Box<Expr>>,
+) -> Result<(), AllocError>
+    ensures { OnOk result (out.new ≡ puts W.after out.old (suffixed piece (piece (Op sign) true behind) (optional (boxed_of e.now)))) }
+{
+    match e {
+        None => Ok(()),
+        Some(e) => {
+            put_sign(out, sign, true, behind)?;
+            write_expr(out, Level::Expression, e)
+        }
+    }
+}

@@ -1,0 +1,96 @@
+//! Tokens of expressions, with a blank between each two.
+
+use crate::sources::source_of;
+use pygrammar::Level;
+use pynode::Expr;
+use pyparse::{parse_expression, tokens_of};
+use pyunparse::expression_tokens;
+use std::alloc::Global;
+use std::process::Abort;
+use std::test::Fail;
+
+/// The expression that a line is.
+fn read(alloc: Global, text: &str) -> Result<Expr, Fail> {
+    let source = source_of(alloc, text)?;
+    let Ok(mut tokens) = tokens_of(alloc, &source) else {
+        return Err(Fail::from("no tokens"));
+    };
+    tokens.pop();
+    tokens.pop();
+    match parse_expression(alloc, tokens.as_slice(), Level::Value) {
+        Ok(expr) => Ok(expr),
+        Err(_) => Err(Fail::from("no expression")),
+    }
+}
+
+/// The tokens of the expression that a line is, at a level.
+fn written(alloc: Global, text: &str, level: Level) -> Result<String, Fail> {
+    let expr = read(alloc, text)?;
+    let mut joined = String::new(alloc);
+    for piece in &expression_tokens(alloc, &expr, level)? {
+        if !joined.is_empty() {
+            joined.push(' ')?;
+        }
+        joined.push_str(piece.text.as_str())?;
+    }
+    Ok(joined)
+}
+
+/// A line is written so at a level.
+fn writes(
+    rt: &impl Abort,
+    alloc: Global,
+    text: &str,
+    level: Level,
+    tokens: &str,
+) -> Result<(), Fail> {
+    let found = written(alloc, text, level)?;
+    assert_eq!(rt; found.as_str(), tokens, "of {text}");
+    Ok(())
+}
+
+/// Brackets stand where the place needs them.
+#[test]
+fn places(rt: HostRuntime) -> Result<(), Fail> {
+    let alloc = rt.alloc();
+    for (text, level, tokens) in &[
+        ("a, b", Level::Stars, "a , b"),
+        ("a, b", Level::Expression, "( a , b )"),
+        ("(a := 1), (b := 2)", Level::Stars, "( a := 1 , b := 2 )"),
+        ("(x := 1)", Level::Named, "x := 1"),
+        ("(x := 1)", Level::Value, "( x := 1 )"),
+        ("(yield x)", Level::Value, "yield x"),
+        ("(yield x)", Level::Stars, "( yield x )"),
+        ("lambda: x", Level::Or, "( lambda : x )"),
+        ("a if b else c", Level::Expression, "a if b else c"),
+        ("a ** b", Level::Await, "( a ** b )"),
+    ] {
+        writes(&rt, alloc, *text, *level, *tokens)?;
+    }
+    Ok(())
+}
+
+/// As few brackets as each operand allows.
+#[test]
+fn operands(rt: HostRuntime) -> Result<(), Fail> {
+    let alloc = rt.alloc();
+    for (text, tokens) in &[
+        ("((a and b) and c)", "( a and b ) and c"),
+        ("-(x ** (-y))", "- x ** - y"),
+        ("(-x) ** y", "( - x ) ** y"),
+        ("(a + b) + c", "a + b + c"),
+        ("a + (b + c)", "a + ( b + c )"),
+        ("not (a in b)", "not a in b"),
+        ("a < (b < c)", "a < ( b < c )"),
+        ("f((a for b in c))", "f ( a for b in c )"),
+        ("f((a for b in c), d)", "f ( ( a for b in c ) , d )"),
+        ("{**(d), 1: 2}", "{ ** d , 1 : 2 }"),
+        ("x[(a):(b), ::(c)]", "x [ a : b , : : c ]"),
+        ("x[(*a,)]", "x [ * a ]"),
+        ("(1).real", "1 . real"),
+        ("0x10", "16"),
+    ] {
+        writes(&rt, alloc, *text, Level::Value, *tokens)?;
+    }
+    Ok(())
+}

@@ -1,0 +1,84 @@
+//! Modules that come back from their text.
+
+use crate::sources::source_of;
+use pynode::{Module, Profile};
+use pyparse::parse;
+use pytree::same;
+use pyunparse::unparse;
+use std::alloc::Global;
+use std::process::Abort;
+use std::test::Fail;
+
+/// The module that a text is in Python 3.12.
+pub(crate) fn module_of(alloc: Global, text: &str) -> Result<Module, Fail> {
+    let source = source_of(alloc, text)?;
+    match parse(alloc, &source, Profile::Py312) {
+        Ok(module) => Ok(module),
+        Err(_) => Err(Fail::from("no module")),
+    }
+}
+
+/// The text of the module that a text is, once it was seen to come back from it.
+pub(crate) fn text_of(rt: &impl Abort, alloc: Global, text: &str) -> Result<String, Fail> {
+    let module = module_of(alloc, text)?;
+    let written = unparse(alloc, &module)?;
+    let again = module_of(alloc, written.as_str())?;
+    assert!(rt; same(&module, &again), "{text}");
+    Ok(written)
+}
+
+/// A text is written so.
+fn writes(rt: &impl Abort, alloc: Global, text: &str, expected: &str) -> Result<(), Fail> {
+    let written = text_of(rt, alloc, text)?;
+    assert_eq!(rt; written.as_str(), expected);
+    Ok(())
+}
+
+#[test]
+fn statements(rt: HostRuntime) -> Result<(), Fail> {
+    let alloc = rt.alloc();
+    for (text, expected) in &[
+        ("", ""),
+        ("x = (a := 1), b", "x = (a := 1, b)\n"),
+        ("(x): int = 1", "(x): int = 1\n"),
+        ("from ....a import b", "from ....a import b\n"),
+        ("from . import (a as b, c,)", "from . import a as b, c\n"),
+        (
+            "import a.b as c; del (x), y[0]",
+            "import a.b as c\ndel x, y[0]\n",
+        ),
+        (
+            "type X[T: int, *Ts, **P] = list[T]",
+            "type X[T: int, *Ts, **P] = list[T]\n",
+        ),
+    ] {
+        writes(&rt, alloc, *text, *expected)?;
+    }
+    Ok(())
+}
+
+#[test]
+fn blocks(rt: HostRuntime) -> Result<(), Fail> {
+    let alloc = rt.alloc();
+    for (text, expected) in &[
+        (
+            "def f(a, /, b: int = 1, *, c=2, **d) -> g: return a",
+            "def f(a, /, b: int=1, *, c=2, **d) -> g:\n    return a\n",
+        ),
+        (
+            "if a: b\nelse:\n  if c: d\n",
+            "if a:\n    b\nelif c:\n    d\n",
+        ),
+        ("with ((a, b)): pass", "with ((a, b)):\n    pass\n"),
+        ("with (a, b): pass", "with a, b:\n    pass\n"),
+        ("with (*a, b): pass", "with (*a, b):\n    pass\n"),
+        (
+            "try: a\nexcept* (b) as c: d\nelse: e\nfinally: f\n",
+            "try:\n    a\nexcept *b as c:\n    d\nelse:\n    e\nfinally:\n    f\n",
+        ),
+        ("@(d)\nclass A(): pass", "@d\nclass A:\n    pass\n"),
+    ] {
+        writes(&rt, alloc, *text, *expected)?;
+    }
+    Ok(())
+}
