@@ -27,6 +27,7 @@ import tokenize
 import unicodedata
 import warnings
 
+import compare as listings
 from common import (UNEXPLAINED, chosen_files, files_parser, go_on_with_python_311, outcome_of, read_options, results_of, short_name,
                     show_end, show_table, smallest)
 from compare import LATER_IN_NAMES, is_newer
@@ -54,6 +55,7 @@ FORM = "name form"
 OCTAL = "octal escape above 377 in bytes"
 ENCODING = "another encoding"
 MARK = "byte order mark with a cookie"
+BYTES = "bytes outside the encoding"
 RETURN = "lone carriage return"
 DEEP = "too deep"
 LIMIT = "a limit of Python's parser"
@@ -77,6 +79,7 @@ SAMPLES = {
     OCTAL: b"b'\\400'\n",
     ENCODING: b"# coding: latin-1\n",
     MARK: b"\xef\xbb\xbf# coding: utf8\nx\n",
+    BYTES: b"x\n# \xff\n",
     RETURN: b"x\ry\n",
     DEEP: b"-" * 500 + b"x\n",
     LIMIT: b"(" * 201 + b"x" + b")" * 201 + b"\n",
@@ -161,6 +164,17 @@ def due_fault(tree, data):
     return Fault(*place, "match statement", MATCH) if place else None
 
 
+def byte_fault(data):
+    """The fault of a source's first line with a byte outside the encoding, or with a lone carriage return; None without one."""
+    try:
+        encoding, body, _ = listings.read_encoding(data)
+        for _ in listings.good_lines(body, encoding):
+            pass
+    except listings.Fault as fault:
+        return Fault(fault.row, fault.column, fault.text, None)
+    return None
+
+
 # --- one comparison ---------------------------------------------------------------------------------------------------
 
 
@@ -192,6 +206,8 @@ def class_of_refusal(told, tree, data):
         return ENCODING
     if told.text == "carriage return without line feed" and re.search(rb"\r(?!\n)", data):
         return RETURN
+    if told.text in ("invalid UTF-8", "not ASCII") and told == byte_fault(data):
+        return BYTES
     return DEEP if told.text == "too deep" and is_high(tree) else None
 
 
