@@ -114,7 +114,7 @@ def compare_case(program, case):
     parts = parts_of_case(finding.found or "", path, data)
     if parts:
         whole = examine(program, "".join(parts).encode())
-        wrong = [] if whole.found else differing_parts(parts, lambda part: examine(program, part).found)
+        wrong = [] if whole.found in (SAME, NEWER) else differing_parts(parts, lambda part: examine(program, part).found)
         if wrong:
             name, data, finding = f"{name}, a part of it", wrong[0].encode(), examine(program, wrong[0].encode())
         finding = finding._replace(brackets=whole.brackets)
