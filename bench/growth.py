@@ -1,78 +1,155 @@
 #!/usr/bin/env python3
-"""Times `pyast tokens` on hostile sources, each at two sizes, and prints how the time grows.
+"""Times pyast's commands on hostile sources, each at two sizes, and prints how the time grows.
 
-    bench/growth.py [PROGRAM]
+    bench/growth.py [COMMAND ..] [--program PATH] [--only TEXT]
 
-PROGRAM is the built program, by default the one that the script `pyast` at the top builds. Twice the input is to take at
-most 2.2 times the time; a line that takes more is marked, and the exit status is then 1. Times of less than 20 ms are
-mostly the start of a process and are not judged.
+COMMAND is `tokens`, `dump` or `unparse`; without one all three are timed. Twice the input is to take at most 2.2 times the time; a line
+that takes more is marked. Times of less than 20 ms are mostly the start of a process and are not judged. Each source is to be accepted
+or refused as its table says. All run within the stack of a login shell.
+
+The exit status is 0, but 1 where a source grew faster or was answered otherwise, and 2 where nothing could be measured.
 """
 
+import argparse
+import contextlib
 import os
 import resource
-import subprocess
 import sys
 import tempfile
 
-TOP = os.path.dirname(os.path.dirname(os.path.abspath(__file__)))
+from run import MEGABYTE, ROUNDS, Runs, apart, show_machine
+from timers import built_program
+
 LARGEST_GROWTH = 2.2
 SMALLEST_TIME = 0.02
-ROUNDS = 5
+ACCEPTED, REFUSED = 0, 1
+COMMANDS = ("tokens", "dump", "unparse")
+# The stack that a login shell gives.
+STACK = 8 << 20
 
 
-def sources():
-    """The name of each kind of source, and a maker of one of size 1 or 2."""
-    yield "one line of 10,000,000 characters", lambda n: b"abc + " * (n * 833_333) + b"x\n"
-    yield "one name of 10,000,000 characters", lambda n: b"a" * (n * 5_000_000) + b"\n"
-    yield "one string of 10,000,000 characters", lambda n: b"'" + b"a" * (n * 5_000_000) + b"'\n"
-    yield "100,000 nested brackets", lambda n: b"(" * (n * 50_000) + b")" * (n * 50_000) + b"\n"
-    yield "100,000 open brackets", lambda n: b"(" * (n * 50_000) + b"\n"
-    yield "a literal of 100,000 lines", lambda n: b"'''" + b"a b c\n" * (n * 50_000) + b"'''\n"
-    yield "a literal that is not ended", lambda n: b"x = '''" + b"a\n" * (n * 1_000_000)
-    yield "2,000,000 blank lines", lambda n: b"\n" * (n * 1_000_000)
-    yield "1,000,000 joined lines", lambda n: b"x = 1 " + b"\\\n" * (n * 500_000) + b"\n"
-    yield "names past ASCII", lambda n: "é = ü\n".encode() * (n * 300_000)
+# --- the sources ------------------------------------------------------------------------------------------------------
 
 
-def levels(n):
-    """n indentation levels, closed all at once; the source has about n * n / 2 bytes."""
-    return b"".join(b" " * i + b"if x:\n" for i in range(n)) + b" " * n + b"y\n" + b"z\n"
+def levels(count):
+    """So many indentation levels, closed all at once; the source has about half their square in bytes."""
+    return b"".join(b" " * i + b"if x:\n" for i in range(count)) + b" " * count + b"y\n" + b"z\n"
 
 
-def seconds(program, path):
-    """The least processor time of some runs: other work on the machine disturbs it less than it does the clock."""
-    best = None
-    for _ in range(ROUNDS):
-        before = resource.getrusage(resource.RUSAGE_CHILDREN)
-        subprocess.run([program, "tokens", path], stdout=subprocess.DEVNULL, stderr=subprocess.DEVNULL)
-        after = resource.getrusage(resource.RUSAGE_CHILDREN)
-        taken = after.ru_utime + after.ru_stime - before.ru_utime - before.ru_stime
-        best = taken if best is None else min(best, taken)
-    return best
+def nested(count):
+    """A name in so many brackets."""
+    return b"(" * count + b"x" + b")" * count
+
+
+def sources_of_lines():
+    """What is hard to list: the name of each kind of source, a maker of one of size 1 or 2, and how it is answered."""
+    yield "one line of 10,000,000 characters", lambda n: b"abc + " * (n * 833_333) + b"x\n", ACCEPTED
+    yield "one name of 10,000,000 characters", lambda n: b"a" * (n * 5_000_000) + b"\n", ACCEPTED
+    yield "one string of 10,000,000 characters", lambda n: b"'" + b"a" * (n * 5_000_000) + b"'\n", ACCEPTED
+    yield "100,000 nested brackets", lambda n: b"(" * (n * 50_000) + b")" * (n * 50_000) + b"\n", ACCEPTED
+    yield "100,000 open brackets", lambda n: b"(" * (n * 50_000) + b"\n", REFUSED
+    yield "a literal of 100,000 lines", lambda n: b"'''" + b"a b c\n" * (n * 50_000) + b"'''\n", ACCEPTED
+    yield "a literal that is not ended", lambda n: b"x = '''" + b"a\n" * (n * 1_000_000), REFUSED
+    yield "2,000,000 blank lines", lambda n: b"\n" * (n * 1_000_000), ACCEPTED
+    yield "1,000,000 joined lines", lambda n: b"x = 1 " + b"\\\n" * (n * 500_000) + b"\n", ACCEPTED
+    yield "names past ASCII", lambda n: "\u00e9 = \u00fc\n".encode() * (n * 300_000), ACCEPTED
+    yield "10,000 indentation levels", lambda n: levels((7_071, 10_000)[n - 1]), ACCEPTED
+
+
+def sources_of_trees():
+    """What is hard to read and to write as a tree, in the same way."""
+    yield "100,000 lines `elif`", lambda n: b"if a: pass\n" + b"elif a: pass\n" * (n * 50_000), REFUSED
+    yield "100,000 `+` without operands", lambda n: b"x" + b" +" * (n * 50_000) + b"\n", REFUSED
+    yield "a sum of 100,000", lambda n: b"x" + b"+x" * (n * 50_000) + b"\n", REFUSED
+    yield "100,000 signs `-`", lambda n: b"-" * (n * 50_000) + b"x\n", REFUSED
+    yield "a chain of 100,000 attributes", lambda n: b"x" + b".a" * (n * 50_000) + b"\n", REFUSED
+    yield "600 brackets on each of 10,000 lines", lambda n: (nested(600) + b"\n") * (n * 5_000), ACCEPTED
+    yield "600 brackets around each of 10,000 elements", lambda n: b"[" + (nested(599) + b",\n") * (n * 5_000) + b"]\n", ACCEPTED
+    yield "249 `yield` in one another, 1,000 times", lambda n: (b"[(yield " * 249 + b"x" + b")]" * 249 + b"\n") * (n * 500), ACCEPTED
+    yield "a sum of 499 on each of 1,000 lines", lambda n: (b"x" + b"+x" * 499 + b"\n") * (n * 500), ACCEPTED
+    yield "a list of 10 MB on one line", lambda n: b"[" + b"abc, " * (n * 1_000_000) + b"x]\n", ACCEPTED
+    yield "a sum of 10 MB on one line", lambda n: b"abc + " * (n * 833_333) + b"x\n", REFUSED
+    yield "a string of 10 MB", lambda n: b"'" + b"a" * (n * 5_000_000) + b"'\n", ACCEPTED
+    yield "a string of 2,000,000 escapes", lambda n: b"'" + b"\\0\\'" * (n * 500_000) + b"\"'\n", ACCEPTED
+    yield "1,000,000 strings side by side", lambda n: b"(" + b"'a'\n" * (n * 500_000) + b")\n", ACCEPTED
+    yield "1,000,000 operands of `or`", lambda n: b"x or " * (n * 500_000) + b"x\n", ACCEPTED
+    yield "1,000,000 comparisons in a chain", lambda n: b"x < " * (n * 500_000) + b"x\n", ACCEPTED
+    yield "200,000 parameters", lambda n: b"def f(" + b"".join(b"a%d, " % i for i in range(n * 100_000)) + b"): pass\n", ACCEPTED
+    yield "200,000 arguments", lambda n: b"f(" + b"a, b=c, " * (n * 50_000) + b")\n", REFUSED
+    yield "200,000 items of `with`", lambda n: b"with (" + b"a as b, " * (n * 100_000) + b"): pass\n", ACCEPTED
+    yield "200,000 names of an import", lambda n: b"import " + b"a.b as c, " * (n * 100_000) + b"x\n", ACCEPTED
+    yield "an import of 1,000,000 points", lambda n: b"from " + b"." * (n * 500_000) + b" import x\n", ACCEPTED
+    yield "1,000,000 simple statements on one line", lambda n: b"x; " * (n * 500_000) + b"x\n", ACCEPTED
+    yield "100,000 decorators", lambda n: b"@d\n" * (n * 50_000) + b"def f(): pass\n", ACCEPTED
+    yield "100,000 decorators of nothing", lambda n: b"@d\n" * (n * 50_000) + b"x\n", REFUSED
+    yield "100,000 clauses `except`", lambda n: b"try: pass\n" + b"except a: pass\n" * (n * 50_000), ACCEPTED
+    yield "1,000,000 short lines", lambda n: b"x\n" * (n * 500_000), ACCEPTED
+    yield "499 levels, 20 times", lambda n: levels(499)[:-2] * (n * 10), ACCEPTED
+    yield "498 lines `elif`, 200 times", lambda n: (b"if a: pass\n" + b"elif a: pass\n" * 498) * (n * 100), ACCEPTED
+    yield "50,000 blocks that open and close", lambda n: b"if x:\n if y:\n  z\n" * (n * 25_000), ACCEPTED
+    yield "names past ASCII", lambda n: "\u00e9 = \ufb01\n".encode() * (n * 300_000), ACCEPTED
+
+
+# --- the table --------------------------------------------------------------------------------------------------------
+
+
+def limit_stack():
+    """The stack that a login shell gives, here and in all programs that are started from here."""
+    with contextlib.suppress(ValueError, OSError):
+        resource.setrlimit(resource.RLIMIT_STACK, (STACK, resource.getrlimit(resource.RLIMIT_STACK)[1]))
+
+
+def write_bytes(path, data):
+    """Writes a source."""
+    with open(path, "wb") as file:
+        file.write(data)
+
+
+def show_growth(command, half, whole, megabytes, due):
+    """Prints what a command took of half a source and of the whole; answers whether it is as it should be."""
+    growth = whole.processor / half.processor
+    slow = growth > LARGEST_GROWTH and whole.processor > SMALLEST_TIME
+    statuses = sorted({half.status, whole.status})
+    marks = "  more than it may" * slow + f"  status {statuses}" * (statuses != [due])
+    print(f"{command:9}{whole.name:46}{megabytes:8.1f}{half.processor * 1e3:10.0f}{whole.processor * 1e3:11.0f}"
+          f"{growth:8.2f}{whole.shown_memory():>10}{marks}", flush=True)
+    return not marks
+
+
+def measure(program, commands, source, folder):
+    """Measures some commands on a source of two sizes; answers whether all is as it should be."""
+    name, make, due = source
+    paths = [os.path.join(folder, f"{size}.py") for size in (1, 2)]
+    for size, path in enumerate(paths, 1):
+        apart(lambda size=size, path=path: write_bytes(path, make(size)))
+    well = True
+    for command in commands:
+        rows = [Runs(name, [program, command, path]) for path in paths]
+        for _ in range(ROUNDS):
+            for row in rows:
+                row.run()
+        well &= show_growth(command, *rows, os.path.getsize(paths[1]) / MEGABYTE, due)
+    return well
 
 
 def main():
-    program = sys.argv[1] if len(sys.argv) > 1 else os.path.join(TOP, "crates", "pyast", "out", "pyast")
-    if not os.path.exists(program):
-        sys.exit(f"growth.py: {program} isn't there: run {TOP}/pyast once, which builds it")
-    cases = [(name, make(1), make(2)) for name, make in sources()]
-    cases.append(("10,000 indentation levels", levels(7_071), levels(10_000)))
-    failed = False
-    print(f"{'source':40}{'MB':>8}{'half, ms':>10}{'whole, ms':>11}{'growth':>8}")
-    with tempfile.TemporaryDirectory() as folder:
-        path = os.path.join(folder, "source.py")
-        for name, half, whole in cases:
-            times = []
-            for data in half, whole:
-                with open(path, "wb") as file:
-                    file.write(data)
-                times.append(seconds(program, path))
-            growth = times[1] / times[0]
-            slow = growth > LARGEST_GROWTH and times[1] > SMALLEST_TIME
-            failed |= slow
-            mark = "  more than it may" if slow else ""
-            print(f"{name:40}{len(whole) / 1e6:8.1f}{times[0] * 1e3:10.0f}{times[1] * 1e3:11.0f}{growth:8.2f}{mark}", flush=True)
-    return int(failed)
+    parser = argparse.ArgumentParser(description="Times pyast's commands on hostile sources, each at two sizes.")
+    parser.add_argument("commands", nargs="*", metavar="COMMAND", help="tokens, dump or unparse; default: all")
+    parser.add_argument("--program", metavar="PATH", help="the built program; default: that of this project")
+    parser.add_argument("--only", default="", metavar="TEXT", help="only the sources with this text in their names")
+    options = parser.parse_args()
+    if set(options.commands) - set(COMMANDS):
+        parser.error(f"a COMMAND is one of {', '.join(COMMANDS)}")
+    program, commands = built_program(options.program), [one for one in COMMANDS if one in (options.commands or COMMANDS)]
+    show_machine()
+    limit_stack()
+    print(f"{'command':9}{'source':46}{'MB':>8}{'half, ms':>10}{'whole, ms':>11}{'growth':>8}{'peak MB':>10}")
+    groups = [(commands[:1] if commands[0] == "tokens" else [], sources_of_lines()),
+              ([one for one in commands if one != "tokens"], sources_of_trees())]
+    with tempfile.TemporaryDirectory(prefix="pyast-bench-") as folder:
+        found = [measure(program, some, source, folder) for some, group in groups if some
+                 for source in group if options.only in source[0]]
+    return int(not all(found))
 
 
 if __name__ == "__main__":

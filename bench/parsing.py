@@ -23,8 +23,8 @@ from timers import build, refuse
 TOP = os.path.dirname(os.path.dirname(os.path.abspath(__file__)))
 sys.path.append(os.path.join(TOP, "conformance"))
 
+from common import python_files  # noqa: E402
 from expressions import expressions_in, python_tells  # noqa: E402
-from values import files_below  # noqa: E402
 
 SIZE = 1_000_000
 ROUNDS = 5
@@ -32,7 +32,7 @@ ROUNDS = 5
 
 def lines():
     """Expressions of the library, a line each, of so many bytes in all."""
-    texts = sorted({text for path in files_below([sysconfig.get_path("stdlib")]) for text in expressions_in(path) if "\n" not in text})
+    texts = sorted({text for path in python_files([sysconfig.get_path("stdlib")]) for text in expressions_in(path) if "\n" not in text})
     random.Random(1).shuffle(texts)
     found, size = [], 0
     for text in texts:

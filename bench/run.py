@@ -27,7 +27,8 @@ import tempfile
 import time
 import traceback
 
-TOP = os.path.dirname(os.path.dirname(os.path.abspath(__file__)))
+from timers import built_program, refuse
+
 MEGABYTE = 1_000_000
 SIZES = (1, 10, 100)
 # The whole of a run is to take less than ten minutes: Python's listing of 100 MB takes minutes, and over 20 GB of memory.
@@ -293,25 +294,16 @@ def measure_memory(options, folder):
     return int(passed or not well)
 
 
-def refuse(text):
-    """Ends the run, as nothing can be measured."""
-    print(f"run.py: {text}", file=sys.stderr)
-    sys.exit(2)
-
-
 def main():
     parser = argparse.ArgumentParser(description="Times `pyast tokens` beside Python's own tokenizers.")
-    parser.add_argument("--program", default=os.path.join(TOP, "crates", "pyast", "out", "pyast"), metavar="PATH",
-                        help="the built program; default: that of this project")
+    parser.add_argument("--program", metavar="PATH", help="the built program; default: that of this project")
     parser.add_argument("--quick", action="store_true", help="without the largest size")
     parser.add_argument("--goal", type=float, metavar="TIMES",
                         help="status 1 where Python 3.11 doesn't take so many times as long, on the largest source for both")
     parser.add_argument("--memory", action="store_true", help="the peak of memory on short lines, and no times")
     parser.add_argument("--limit", type=float, metavar="MB", help="with --memory: status 1 where the peak is more than this")
     options = parser.parse_args()
-    options.program = os.path.abspath(options.program)
-    if not os.access(options.program, os.X_OK):
-        refuse(f"{options.program} isn't there: run {os.path.join(TOP, 'pyast')} once, which builds it")
+    options.program = built_program(options.program)
     with tempfile.TemporaryDirectory(prefix="pyast-bench-") as folder:
         return measure_memory(options, folder) if options.memory else measure(options, folder)
 

@@ -1,14 +1,24 @@
-"""What the programs of bench/ share that time a crate's program: building it, and giving up."""
+"""What the programs of bench/ share: finding the built program, building a crate's program, and giving up."""
 
 import os
 import subprocess
 import sys
+
+TOP = os.path.dirname(os.path.dirname(os.path.abspath(__file__)))
 
 
 def refuse(text):
     """Ends the run, as nothing can be measured."""
     print(f"{os.path.basename(sys.argv[0])}: {text}", file=sys.stderr)
     sys.exit(2)
+
+
+def built_program(path):
+    """The path of the built program: that of this project where none is named."""
+    path = os.path.abspath(path or os.path.join(TOP, "crates", "pyast", "out", "pyast"))
+    if not os.access(path, os.X_OK) or os.path.isdir(path):
+        refuse(f"{path} isn't there: run {os.path.join(TOP, 'pyast')} once, which builds it")
+    return path
 
 
 def build(timer):

@@ -17,12 +17,9 @@ import collections
 import contextlib
 import functools
 import io
-import multiprocessing
 import os
 import random
 import re
-import shutil
-import subprocess
 import sys
 import sysconfig
 import tempfile
@@ -33,8 +30,9 @@ import unicodedata
 import unittest
 from unittest import mock
 
-TOP = os.path.dirname(os.path.dirname(os.path.abspath(__file__)))
-NOT_THE_LIBRARY = {"site-packages", "dist-packages", "__pycache__"}
+from common import (Outcome, UNEXPLAINED, chosen_files, files_parser, go_on_with_python_311, outcome_of, read_options, refuse,
+                    results_of, run, short_name, show_end, show_table, smallest)
+
 BLANKS = " \t\f"
 BYTE_ORDER_MARK = b"\xef\xbb\xbf"
 PREFIXES = {"b", "r", "u", "f", "br", "rb", "fr", "rf"}
@@ -59,7 +57,6 @@ CLOSER = "closing bracket at depth 0"
 ERROR = "a fault for an ERRORTOKEN"
 LAST = "last line without LF"
 BEFORE = "tokens before a fault"
-UNEXPLAINED = "NO CLASS"
 
 # The classes, in the order of the table, each with sources that have to fall into it.
 SAMPLES = {
@@ -78,7 +75,6 @@ SAMPLES = {
     BEFORE: [b"x = (\n", b"x '''\n", b"if a:\n    b\n  c\n", b"x \\\n"],
 }
 
-Outcome = collections.namedtuple("Outcome", "status out err")
 Result = collections.namedtuple("Result", "name path data found seconds")
 
 
@@ -108,18 +104,9 @@ def real_outcome(words, stdin=None):
     return Outcome(status, *(side.getvalue().encode("utf-8", "surrogatepass") for side in (out, err)))
 
 
-def run(words, **more):
-    """Runs a process to its end; one that doesn't end is an outcome too."""
-    try:
-        done = subprocess.run(words, stdout=subprocess.PIPE, stderr=subprocess.PIPE, timeout=300, **more)
-    except subprocess.TimeoutExpired:
-        return Outcome(None, b"", b"no end within 300 s\n")
-    return Outcome(done.returncode, done.stdout, done.stderr)
-
-
 def program_outcome(program, words, stdin=b""):
     """What `pyast tokens WORDS` does."""
-    return run([program, "tokens", *words], input=stdin)
+    return outcome_of(program, ["tokens", *words], stdin)
 
 
 def main_is_the_real_program():
@@ -138,13 +125,13 @@ def main_is_the_real_program():
 @functools.lru_cache(maxsize=None)
 def accepts(program, source):
     """Whether pyast lists a source without a fault."""
-    return run([program, "tokens"], input=source.encode()).status == 0
+    return program_outcome(program, [], source.encode()).status == 0
 
 
 @functools.lru_cache(maxsize=None)
 def shows(program, character):
     """Whether pyast shows a character in a repr as it is."""
-    return character.encode() in run([program, "tokens"], input=f"'{character}'\n".encode()).out
+    return character.encode() in program_outcome(program, [], f"'{character}'\n".encode()).out
 
 
 def is_newer(character):
@@ -444,35 +431,7 @@ def compare_case(program, folder, case):
     return Result(name, path, data, found, seconds)
 
 
-# --- the smallest input -----------------------------------------------------------------------------------------------
-
-
-def shrink(pieces, fails):
-    """The pieces less all runs of them that the failure doesn't need."""
-    size = max(1, len(pieces) // 2)
-    while size:
-        at, before = 0, len(pieces)
-        while at < len(pieces):
-            fewer = pieces[:at] + pieces[at + size:]
-            if fails(fewer):
-                pieces = fewer
-            else:
-                at += size
-        size = size // 2 if size > 1 else int(len(pieces) < before)
-    return pieces
-
-
-def smallest(program, folder, data, limit=120):
-    """The smallest input found that still shows a difference without class: first lines are left out, then characters."""
-    end = time.monotonic() + limit
-
-    def fails(pieces):
-        source = "".join(pieces).encode("utf-8", "surrogateescape")
-        return time.monotonic() < end and compare_data(program, folder, source)[0] == UNEXPLAINED
-
-    text = data.decode("utf-8", "surrogateescape")
-    lines = shrink(re.findall(r".*\n|.+", text), fails)
-    return "".join(shrink(list("".join(lines)), fails)).encode("utf-8", "surrogateescape")
+# --- what is shown ----------------------------------------------------------------------------------------------------
 
 
 def show_outcomes(program, data, path, exact, mine, real):
@@ -496,7 +455,7 @@ def show_failure(program, folder, result, reduce):
     print(f"\n{UNEXPLAINED}: {result.name}")
     if not reduce:
         return
-    data = smallest(program, folder, data)
+    data = smallest(data, lambda source: compare_data(program, folder, source)[0] == UNEXPLAINED)
     path = os.path.join(folder, "smallest.py")
     with open(path, "wb") as file:
         file.write(data)
@@ -511,22 +470,6 @@ def show_failure(program, folder, result, reduce):
 
 
 # --- the cases --------------------------------------------------------------------------------------------------------
-
-
-def python_files(folders):
-    """The Python files below some folders, in order, site-packages left out."""
-    for folder in folders:
-        if os.path.isfile(folder):
-            yield folder
-        for path, inner, names in os.walk(folder):
-            inner[:] = sorted(name for name in inner if name not in NOT_THE_LIBRARY)
-            yield from (os.path.join(path, name) for name in sorted(names) if name.endswith(".py"))
-
-
-def short_name(path):
-    """The path of a file of the library from there on, and any other as it is."""
-    library = sysconfig.get_path("stdlib") + os.sep
-    return path[len(library):] if path.startswith(library) else path
 
 
 def recorded(function, sources):
@@ -620,7 +563,7 @@ def mutants(count, seed, paths, sources):
 
 def all_cases(options):
     """The number of cases, and the cases: name, path or None, bytes or None."""
-    paths = list(dict.fromkeys(python_files(options.folders)))[::10 if options.quick else 1]
+    paths = chosen_files(options)
     samples = [source for group in SAMPLES.values() for source in group]
     sources = sources_of_tests() if options.replay else []
     if options.replay and not sources:
@@ -648,37 +591,11 @@ def misplaced_samples(program, folder):
                 yield Result(f"the sample {source!r} of the class `{name}`, found in `{found}`", None, source, UNEXPLAINED, None)
 
 
-def show_progress(done, count):
-    """One line that is written over, on a terminal alone."""
-    if sys.stderr.isatty():
-        end = "\n" if done == count else ""
-        print(f"\r{done} of {count} compared", end=end, file=sys.stderr, flush=True)
-
-
 def compare_all(options, folder):
     """The results of all cases."""
     count, cases = all_cases(options)
     work = functools.partial(compare_case, options.program, folder)
-    results = []
-    with multiprocessing.Pool(options.jobs) as pool:
-        for result in pool.imap_unordered(work, cases, 4):
-            results.append(result._replace(data=None) if result.found == SAME else result)
-            show_progress(len(results), count)
-    return results
-
-
-def show_table(results):
-    """Prints each class with its number of cases and its shortest example, or its sample where it has no case."""
-    groups = collections.defaultdict(list)
-    for result in results:
-        groups[result.found].append(result)
-    print(f"\n{'class':36}{'cases':>8}  example")
-    for name in [*SAMPLES, UNEXPLAINED]:
-        group = groups.get(name, [])
-        if group or name != UNEXPLAINED:
-            examples = [repr(one.data) if one.data else one.name for one in group]
-            example = min(examples or [repr(SAMPLES[name][0])], key=len)
-            print(f"{name:36}{len(group):8}  {example if name != SAME else ''}"[:140].rstrip())
+    return [result._replace(data=None) if result.found == SAME else result for result in results_of(work, count, cases, options.jobs)]
 
 
 def show_times(results, started):
@@ -690,72 +607,25 @@ def show_times(results, started):
 def compare(options):
     """Compares all, prints what was found, and answers the exit status."""
     started = time.monotonic()
-    print(f"pyast: {options.program}\ntokenize: {tokenize.__file__} of Python {sys.version.split()[0]}")
+    print(f"pyast: {' '.join(options.program)}\ntokenize: {tokenize.__file__} of Python {sys.version.split()[0]}")
     with tempfile.TemporaryDirectory() as folder:
         failures = list(misplaced_samples(options.program, folder))
         results = compare_all(options, folder)
         failures += sorted((one for one in results if one.found == UNEXPLAINED), key=lambda one: one.name)
         for number, failure in enumerate(failures):
             show_failure(options.program, folder, failure, number < options.smallest)
-    show_table(results)
+    show_table(results, {name: sources[0] for name, sources in SAMPLES.items()})
     show_times(results, started)
-    print(f"Differences without class: {len(failures)}" if failures else "Every difference has a class.")
-    return int(bool(failures))
-
-
-def read_options():
-    """The command line."""
-    parser = argparse.ArgumentParser(
-        description="Compares `pyast tokens` with Python 3.11's module tokenize, byte for byte.")
-    parser.add_argument("folders", nargs="*", metavar="FOLDER", help="a folder or file; default: Python's own library")
-    parser.add_argument("--program", default=os.path.join(TOP, "crates", "pyast", "out", "pyast"), metavar="PATH",
-                        help="the built program; default: that of this project")
-    parser.add_argument("--jobs", type=int, default=os.cpu_count() or 1, metavar="N", help="processes; default: cores")
-    parser.add_argument("--quick", action="store_true", help="every 10th file alone, and the replayed cases")
-    parser.add_argument("--replay", action=argparse.BooleanOptionalAction, default=True,
-                        help="also the cases of Python's own tests of tokenize, where they are installed")
-    parser.add_argument("--mutate", type=int, default=0, metavar="N", help="also N changed pieces of source")
-    parser.add_argument("--seed", type=int, default=1, metavar="S", help="what the changes depend on; default: 1")
-    parser.add_argument("--smallest", type=int, default=10, metavar="N",
-                        help="for how many failures the smallest input is looked for; default: 10")
-    parser.add_argument("--or-skip", action="store_true", help="where there is no Python 3.11, say so with status 0")
-    options = parser.parse_args()
-    options.folders = [os.path.abspath(folder) for folder in options.folders or [sysconfig.get_path("stdlib")]]
-    options.program = os.path.abspath(options.program)
-    return options
-
-
-def refuse(text):
-    """Ends the run, as nothing can be compared."""
-    print(f"compare.py: {text}", file=sys.stderr)
-    sys.exit(2)
-
-
-def go_on_with_python_311():
-    """Runs this file again by Python 3.11, whose module is the one to compare with, where it isn't that already."""
-    if sys.version_info[:2] == (3, 11):
-        return
-    for name in ("python3.11", "python3"):
-        path = shutil.which(name)
-        version = path and run([path, "-c", "import sys; print(*sys.version_info[:2])"]).out.split()
-        if version == [b"3", b"11"]:
-            os.execv(path, [path, os.path.abspath(__file__), *sys.argv[1:]])
-    why = "no Python 3.11 is found: there is no working `python3.11` on the PATH, and `python3` isn't of that version"
-    if "--or-skip" in sys.argv[1:]:
-        print(f"skipped: {why}")
-        sys.exit(0)
-    refuse(f"{why}. Install Python 3.11 (its standard library is all that is needed) and run this again.")
+    return show_end(failures)
 
 
 def main():
     """Finds what is needed, and compares."""
     go_on_with_python_311()
-    options = read_options()
-    if not os.access(options.program, os.X_OK) or os.path.isdir(options.program):
-        refuse(f"{options.program} isn't there: run {os.path.join(TOP, 'pyast')} once, which builds it")
-    for folder in options.folders:
-        if not os.path.exists(folder):
-            refuse(f"{folder} isn't there")
+    parser = files_parser("Compares `pyast tokens` with Python 3.11's module tokenize, byte for byte.")
+    parser.add_argument("--replay", action=argparse.BooleanOptionalAction, default=True,
+                        help="also the cases of Python's own tests of tokenize, where they are installed")
+    options = read_options(parser)
     if not main_is_the_real_program():
         refuse(f"{sys.executable} -m tokenize doesn't do what its main does: nothing can be compared")
     return compare(options)

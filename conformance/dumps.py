@@ -14,31 +14,25 @@ The exit status is 0 where every difference has a class, 1 where one has none, a
 --or-skip it is 0 too where there is no Python 3.11.
 """
 
-import argparse
 import ast
 import collections
 import functools
 import io
 import keyword
-import multiprocessing
-import os
 import random
 import re
-import shlex
-import shutil
-import subprocess
 import sys
-import sysconfig
-import tempfile
 import time
 import tokenize
 import unicodedata
 import warnings
 
-from compare import LATER_IN_NAMES, Outcome, is_newer, python_files, short_name, show_progress, shrink
+import compare as listings
+from common import (UNEXPLAINED, chosen_files, files_parser, go_on_with_python_311, outcome_of, read_options, results_of, short_name,
+                    show_end, show_table, smallest)
+from compare import LATER_IN_NAMES, is_newer
 from values import reason_of
 
-TOP = os.path.dirname(os.path.dirname(os.path.abspath(__file__)))
 STYLES = {(): {}, ("--indent", "2"): {"indent": 2}, ("--bare",): {"annotate_fields": False}}
 FAULT_LINE = re.compile(r"<stdin>:(\d+):(\d+): error: (.*)\n")
 OCTAL_IN_BYTES = re.compile(rb"\\[4-7][0-7][0-7]")
@@ -61,6 +55,7 @@ FORM = "name form"
 OCTAL = "octal escape above 377 in bytes"
 ENCODING = "another encoding"
 MARK = "byte order mark with a cookie"
+BYTES = "bytes outside the encoding"
 RETURN = "lone carriage return"
 DEEP = "too deep"
 LIMIT = "a limit of Python's parser"
@@ -69,7 +64,6 @@ TARGET = "annotated target with a front in brackets"
 NAMES = "identifier characters"
 NEWER = "characters newer than Unicode 14"
 JOIN = "line that begins with a join"
-UNEXPLAINED = "NO CLASS"
 
 # The classes, in the order of the table, each with a source that has to fall into it.
 SAMPLES = {
@@ -85,6 +79,7 @@ SAMPLES = {
     OCTAL: b"b'\\400'\n",
     ENCODING: b"# coding: latin-1\n",
     MARK: b"\xef\xbb\xbf# coding: utf8\nx\n",
+    BYTES: b"x\n# \xff\n",
     RETURN: b"x\ry\n",
     DEEP: b"-" * 500 + b"x\n",
     LIMIT: b"(" * 201 + b"x" + b")" * 201 + b"\n",
@@ -111,11 +106,7 @@ Result = collections.namedtuple("Result", "name data found parts seconds")
 
 def program_outcome(program, words, data):
     """What `pyast dump WORDS` does with a source."""
-    try:
-        done = subprocess.run([*program, "dump", *words], input=data, stdout=subprocess.PIPE, stderr=subprocess.PIPE, timeout=300)
-    except subprocess.TimeoutExpired:
-        return Outcome(None, b"", b"no end within 300 s\n")
-    return Outcome(done.returncode, done.stdout, done.stderr)
+    return outcome_of(program, ["dump", *words], data)
 
 
 def python_tree(data):
@@ -173,6 +164,17 @@ def due_fault(tree, data):
     return Fault(*place, "match statement", MATCH) if place else None
 
 
+def byte_fault(data):
+    """The fault of a source's first line with a byte outside the encoding, or with a lone carriage return; None without one."""
+    try:
+        encoding, body, _ = listings.read_encoding(data)
+        for _ in listings.good_lines(body, encoding):
+            pass
+    except listings.Fault as fault:
+        return Fault(fault.row, fault.column, fault.text, None)
+    return None
+
+
 # --- one comparison ---------------------------------------------------------------------------------------------------
 
 
@@ -204,6 +206,8 @@ def class_of_refusal(told, tree, data):
         return ENCODING
     if told.text == "carriage return without line feed" and re.search(rb"\r(?!\n)", data):
         return RETURN
+    if told.text in ("invalid UTF-8", "not ASCII") and told == byte_fault(data):
+        return BYTES
     return DEEP if told.text == "too deep" and is_high(tree) else None
 
 
@@ -229,10 +233,10 @@ def as_escapes(out):
     return text.translate(newer).encode("utf-8", "surrogatepass")
 
 
-def class_of_tree(program, data, tree, plain):
+def class_of_tree(program, data, tree, plain, styles):
     """The class of a source that both accept: pyast's plain dump is given, the other styles are asked for."""
-    outs = [plain, *(program_outcome(program, words, data) for words in list(STYLES)[1:])]
-    due = [python_dump(tree, named) for named in STYLES.values()]
+    outs = [plain, *(program_outcome(program, words, data) for words in list(styles)[1:])]
+    due = [python_dump(tree, named) for named in styles.values()]
     if any(outcome.status != 0 or outcome.err for outcome in outs):
         return None
     if [outcome.out for outcome in outs] == due:
@@ -245,13 +249,17 @@ def by_first_margin(found):
     return found[1] or found[2]
 
 
-def class_of(program, data, joins=True):
-    """The class of what both make of a source."""
-    mine = program_outcome(program, (), data)
+def class_of(program, data, styles=STYLES, joins=True):
+    """The class of what both make of a source, in some styles of which the plain one is the first."""
+    return class_of_outcome(program, data, program_outcome(program, (), data), styles, joins)
+
+
+def class_of_outcome(program, data, mine, styles=STYLES, joins=True):
+    """The same where the plain dump is there already."""
     tree, error = python_tree(data)
     told = told_fault(mine)
     if mine.status == 0 and tree is not None:
-        found = class_of_tree(program, data, tree, mine)
+        found = class_of_tree(program, data, tree, mine, styles)
     elif mine.status == 0:
         found = class_of_acceptance(mine, error, data) if not mine.err else None
     elif told and tree is not None:
@@ -260,7 +268,7 @@ def class_of(program, data, joins=True):
         found = REFUSED if told else None
     if found is None and joins and JOINED_MARGIN.search(data):
         straight = JOINED_MARGIN.sub(by_first_margin, data)
-        found = JOIN if class_of(program, straight, False) else None
+        found = JOIN if class_of(program, straight, styles, False) else None
     return found
 
 
@@ -319,17 +327,26 @@ def parts_of(text):
                     pending += [body for body in bodies_of(statement) if body and rows_of(body[0])[0] > statement.lineno]
 
 
-def differing_parts(program, parts):
-    """The parts of which pyast dumps another tree than Python: all are dumped as one source, and by halves where that differs."""
+def differing_parts(parts, find):
+    """The parts in which pyast differs from Python by the class that is found: all are taken as one source, and by halves where
+    that differs."""
     if not parts:
         return []
-    found = class_of(program, "".join(parts).encode())
+    found = find("".join(parts).encode())
     if found in (SAME, NEWER):
         return []
     if len(parts) == 1:
         return parts if found is None else []
     half = len(parts) // 2
-    return differing_parts(program, parts[:half]) + differing_parts(program, parts[half:])
+    return differing_parts(parts[:half], find) + differing_parts(parts[half:], find)
+
+
+def parts_of_case(found, path, data):
+    """The parts without a left-out form of a case of a class: none where all of it was compared."""
+    if not (path and found.startswith("left out") or found in (OCTAL, FORM)):
+        return []
+    with tokenize.open(path) if path else io.StringIO(data.decode()) as source:
+        return list(parts_of(source.read()))
 
 
 def compare_case(program, case):
@@ -339,13 +356,11 @@ def compare_case(program, case):
     if path:
         with open(path, "rb") as file:
             data = file.read()
-    found, parts = class_of(program, data) or UNEXPLAINED, []
-    if path and found.startswith("left out") or found in (OCTAL, FORM):
-        with tokenize.open(path) if path else io.StringIO(data.decode()) as source:
-            parts = list(parts_of(source.read()))
-        wrong = differing_parts(program, parts)
-        if wrong:
-            return Result(f"{name}, a part of it", wrong[0].encode(), UNEXPLAINED, len(parts), time.perf_counter() - started)
+    found = class_of(program, data) or UNEXPLAINED
+    parts = parts_of_case(found, path, data)
+    wrong = differing_parts(parts, functools.partial(class_of, program))
+    if wrong:
+        return Result(f"{name}, a part of it", wrong[0].encode(), UNEXPLAINED, len(parts), time.perf_counter() - started)
     kept = None if path and found != UNEXPLAINED else data
     return Result(name, kept, found, len(parts), time.perf_counter() - started)
 
@@ -406,25 +421,12 @@ def mutants(count, seed, paths):
 # --- the run ----------------------------------------------------------------------------------------------------------
 
 
-def smallest(program, data, limit=120):
-    """The smallest input found that still shows a difference without class: first lines are left out, then characters."""
-    end = time.monotonic() + limit
-
-    def fails(pieces):
-        source = "".join(pieces).encode("utf-8", "surrogateescape")
-        return time.monotonic() < end and class_of(program, source) is None
-
-    text = data.decode("utf-8", "surrogateescape")
-    lines = shrink(re.findall(r".*\n|.+", text), fails)
-    return "".join(shrink(list("".join(lines)), fails)).encode("utf-8", "surrogateescape")
-
-
 def show_failure(program, result, reduce):
     """Prints a difference without class, on its smallest input unless told not to look for it."""
     print(f"\n{UNEXPLAINED}: {result.name}")
     if not reduce:
         return
-    data = smallest(program, result.data)
+    data = smallest(result.data, lambda source: class_of(program, source) is None)
     print(f"  smallest input: {data!r}")
     tree, error = python_tree(data)
     for words, named in STYLES.items():
@@ -436,23 +438,9 @@ def show_failure(program, result, reduce):
         print(f"  ast.parse: {error!r}")
 
 
-def show_table(results):
-    """Prints each class with its number of cases and its shortest example, or its sample where it has no case."""
-    groups = collections.defaultdict(list)
-    for result in results:
-        groups[result.found].append(result)
-    print(f"\n{'class':44}{'cases':>8}  example")
-    for name in [*SAMPLES, UNEXPLAINED]:
-        group = groups.get(name, [])
-        if group or name != UNEXPLAINED:
-            examples = [repr(one.data) if one.data else one.name for one in group]
-            example = min(examples or [repr(SAMPLES[name])], key=len)
-            print(f"{name:44}{len(group):8}  {example if name != SAME else ''}"[:140].rstrip())
-
-
 def all_cases(options):
     """The number of cases, and the cases: name, path or None, bytes or None."""
-    paths = list(dict.fromkeys(python_files(options.folders)))[::10 if options.quick else 1]
+    paths = chosen_files(options)
     files = [(short_name(path), path, None) for path in paths]
     print(f"{len(files)} files, {options.mutate} mutants", flush=True)
     changed = mutants(options.mutate, options.seed, paths)
@@ -463,12 +451,7 @@ def compare_all(options):
     """The results of all cases."""
     count, cases = all_cases(options)
     work = functools.partial(compare_case, options.program)
-    results = []
-    with multiprocessing.Pool(options.jobs, prepare) as pool:
-        for result in pool.imap_unordered(work, cases, 4):
-            results.append(result)
-            show_progress(len(results), count)
-    return results
+    return results_of(work, count, cases, options.jobs, prepare)
 
 
 def prepare():
@@ -494,59 +477,20 @@ def compare(options):
     failures += sorted((one for one in results if one.found == UNEXPLAINED), key=lambda one: one.name)
     for number, failure in enumerate(failures):
         show_failure(options.program, failure, number < options.smallest)
-    show_table(results)
+    show_table(results, SAMPLES)
     parts = sum(result.parts for result in results)
     print(f"\nOf files with a form that is left out {parts} parts without one were compared.")
     print(f"{time.monotonic() - started:.0f} s in all; {sum(result.seconds for result in results):.0f} s summed over the jobs")
-    print(f"Differences without class: {len(failures)}" if failures else "Every difference has a class.")
-    return int(bool(failures))
-
-
-def read_options():
-    """The command line."""
-    parser = argparse.ArgumentParser(description="Compares `pyast dump` with Python 3.11's ast.dump, byte for byte.")
-    parser.add_argument("folders", nargs="*", metavar="FOLDER", help="a folder or file; default: Python's own library")
-    parser.add_argument("--program", default=os.path.join(TOP, "crates", "pyast", "out", "pyast"), metavar="WORDS",
-                        help="the built program, or the words that call it; default: that of this project")
-    parser.add_argument("--jobs", type=int, default=os.cpu_count() or 1, metavar="N", help="processes; default: cores")
-    parser.add_argument("--quick", action="store_true", help="every 10th file alone")
-    parser.add_argument("--mutate", type=int, default=0, metavar="N", help="also N changed pieces of source")
-    parser.add_argument("--seed", type=int, default=1, metavar="S", help="what the changes depend on; default: 1")
-    parser.add_argument("--smallest", type=int, default=10, metavar="N",
-                        help="for how many failures the smallest input is looked for; default: 10")
-    parser.add_argument("--or-skip", action="store_true", help="where there is no Python 3.11, say so with status 0")
-    options = parser.parse_args()
-    options.folders = [os.path.abspath(folder) for folder in options.folders or [sysconfig.get_path("stdlib")]]
-    options.program = shlex.split(options.program)
-    return options
-
-
-def refuse(text):
-    """Ends the run, as nothing can be compared."""
-    print(f"dumps.py: {text}", file=sys.stderr)
-    sys.exit(2)
+    return show_end(failures)
 
 
 def main():
     """Finds what is needed, and compares."""
-    if sys.version_info[:2] != (3, 11):
-        path = shutil.which("python3.11")
-        if path:
-            os.execv(path, [path, os.path.abspath(__file__), *sys.argv[1:]])
-        why = "no Python 3.11 is found: there is no `python3.11` on the PATH, and `python3` isn't of that version"
-        if "--or-skip" in sys.argv[1:]:
-            print(f"skipped: {why}")
-            sys.exit(0)
-        refuse(why)
-    options = read_options()
-    if not shutil.which(options.program[0]):
-        refuse(f"{options.program[0]} isn't there: run {os.path.join(TOP, 'pyast')} once, which builds it")
-    for folder in options.folders:
-        if not os.path.exists(folder):
-            refuse(f"{folder} isn't there")
+    go_on_with_python_311()
+    options = read_options(files_parser("Compares `pyast dump` with Python 3.11's ast.dump, byte for byte."))
     prepare()
-    sys.exit(compare(options))
+    return compare(options)
 
 
 if __name__ == "__main__":
-    main()
+    sys.exit(main())

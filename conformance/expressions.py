@@ -21,21 +21,14 @@ import sysconfig
 import tokenize
 import warnings
 
-from values import files_below
+from common import TOP, python_files, refuse
 
-TOP = os.path.dirname(os.path.dirname(os.path.abspath(__file__)))
 BATCH = 2000
 LARGEST = 2**128 - 1
 OPENERS, CLOSERS = "([{", ")]}"
 # What stands in for a token of a changed expression, beside tokens of other expressions.
 SIGNS = ["(", ")", "[", "]", "{", "}", ",", ":", ":=", "*", "**", "=", ".", "-", "not", "in", "is", "if", "else", "for", "async", "await",
          "lambda", "yield", "from", "and", "or", "x", "1", "'a'", "b'a'", "None", "...", "/", "<", "@", "~"]
-
-
-def refuse(text):
-    """Ends the run, as nothing can be compared."""
-    print(f"expressions.py: {text}", file=sys.stderr)
-    sys.exit(2)
 
 
 def left_out(tree, text):
@@ -162,7 +155,7 @@ def main():
         refuse(f"{words.dumper} isn't there: `rt run` in crates/expression_dumps builds it")
     warnings.simplefilter("ignore")
     random_ = random.Random(words.seed)
-    texts = sorted({text for path in files_below(words.folders or [sysconfig.get_path("stdlib")]) for text in expressions_in(path)})
+    texts = sorted({text for path in python_files(words.folders or [sysconfig.get_path("stdlib")]) for text in expressions_in(path)})
     random_.shuffle(texts)
     own = texts[:words.count]
     lists = [tokens for text in texts[:20 * words.count] if (tokens := tokens_of(text)) and len(tokens) > 1 and is_balanced(tokens)]

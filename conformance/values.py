@@ -19,27 +19,13 @@ import sysconfig
 import tokenize
 import warnings
 
-TOP = os.path.dirname(os.path.dirname(os.path.abspath(__file__)))
-NOT_THE_LIBRARY = {"site-packages", "dist-packages", "__pycache__"}
+from common import TOP, python_files, refuse
+
 PREFIX = re.compile(r"[A-Za-z]*")
 # A backslash with what it takes along, or another character.
 UNIT = re.compile(r"\\.|[^\\]", re.DOTALL)
 BATCH = 2000
 LARGEST = 2**128 - 1
-
-
-def refuse(text):
-    """Ends the run, as nothing can be compared."""
-    print(f"values.py: {text}", file=sys.stderr)
-    sys.exit(2)
-
-
-def files_below(folders):
-    """The sources below some folders."""
-    for folder in folders:
-        for top, inner, names in os.walk(folder):
-            inner[:] = sorted(set(inner) - NOT_THE_LIBRARY)
-            yield from (os.path.join(top, name) for name in sorted(names) if name.endswith(".py"))
 
 
 def tokens_in(path):
@@ -104,7 +90,7 @@ def main():
     if not os.access(words.teller, os.X_OK):
         refuse(f"{words.teller} isn't there: `rt run` in crates/token_values builds it")
     warnings.simplefilter("ignore")
-    texts = sorted({token for path in files_below(words.folders or [sysconfig.get_path("stdlib")]) for token in tokens_in(path)})
+    texts = sorted({token for path in python_files(words.folders or [sysconfig.get_path("stdlib")]) for token in tokens_in(path)})
     valued = [token for token in texts if reason_of(*token) is None]
     differences = []
     for start in range(0, len(valued), BATCH):

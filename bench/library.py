@@ -1,0 +1,87 @@
+"""What the programs share that time a command beside Python's module `ast`: the source, made of Python's library, and the table."""
+
+import argparse
+import contextlib
+import os
+import sys
+import tempfile
+
+TOP = os.path.dirname(os.path.dirname(os.path.abspath(__file__)))
+sys.path.append(os.path.join(TOP, "conformance"))
+
+from dumps import parts_of, prepare, program_outcome  # noqa: E402
+from run import MEGABYTE, ROUNDS, Runs, answer, apart, find_python, library_files, show_machine  # noqa: E402
+from timers import built_program, refuse  # noqa: E402
+
+
+def library_parts(program, library):
+    """The parts of the library's files that `dump` accepts, file by file."""
+    for path in library_files(library):
+        with contextlib.suppress(SyntaxError, UnicodeDecodeError, ValueError), open(path, encoding="utf-8") as file:
+            parts = "".join(parts_of(file.read())).encode()
+            if parts and program_outcome([program], (), parts).status == 0:
+                yield parts
+
+
+def write_library(program, library, path, size):
+    """Writes a source of so many bytes; where files run out they come again."""
+    prepare()
+    pieces, left = [], size
+    with open(path, "wb") as file:
+        for piece in library_parts(program, library):
+            pieces.append(piece)
+            left -= file.write(piece)
+            if left <= 0:
+                return
+        while pieces and left > 0:
+            for piece in pieces:
+                left -= file.write(piece) if left > 0 else 0
+
+
+def run_on(row, path):
+    """Runs a program on a source once more, on its standard input."""
+    with open(path, "rb") as file:
+        row.run(stdin=file)
+
+
+def show_rows(rows, megabytes):
+    """Prints what the programs took."""
+    print("| source, MB | program | processor s | clock s | MB/s | times pyast's | peak MB |\n|---|---|---|---|---|---|---|")
+    for row in rows:
+        print(f"| {megabytes:.1f} | {row.name} | {row.processor:.2f} | {row.clock:.2f} | {megabytes / row.processor:.1f} "
+              f"| {row.processor / rows[0].processor:.1f} | {row.shown_memory()} |{row.failed()}", flush=True)
+
+
+def measure(options, folder, command, peer):
+    """Measures a command and the function of `ast` on the library's source; answers the exit status."""
+    python = find_python("3.11")
+    if not python:
+        refuse("no Python 3.11 is found on the PATH or among those of pyenv: the source is made of its library")
+    library = answer(python, "import sysconfig; print(sysconfig.get_path('stdlib'))").strip()
+    path = os.path.join(folder, "library.py")
+    apart(lambda: write_library(options.program, library, path, options.size * MEGABYTE))
+    code = f"import ast,sys;{peer}(ast.parse(sys.stdin.read()))"
+    rows = [Runs(f"pyast {command}", [options.program, command]), Runs(f"python3.11, {peer}", [python, "-c", code])]
+    for _ in range(ROUNDS):
+        for row in rows:
+            run_on(row, path)
+    show_rows(rows, os.path.getsize(path) / MEGABYTE)
+    times = rows[1].processor / rows[0].processor
+    print(f"\n`{peer}` takes {times:.1f} times as long as `pyast {command}`, in {rows[1].memory / rows[0].memory:.1f} times the memory.")
+    missed = options.goal is not None and times < options.goal
+    if options.goal is not None:
+        print(f"The goal of {options.goal:g} times is {'missed' if missed else 'reached'}.")
+    return int(missed or any(row.status for row in rows))
+
+
+def measure_beside(command, peer):
+    """The program that times a command beside a function of `ast`; answers the exit status."""
+    parser = argparse.ArgumentParser(description=f"Times `pyast {command}` beside Python's own {peer}.")
+    parser.add_argument("--program", metavar="PATH", help="the built program; default: that of this project")
+    parser.add_argument("--size", type=int, default=10, metavar="MB", help="of the library's source; default: 10")
+    parser.add_argument("--goal", type=float, metavar="TIMES", help=f"status 1 where `{peer}` doesn't take so many times as long")
+    options = parser.parse_args()
+    options.program = built_program(options.program)
+    show_machine()
+    with tempfile.TemporaryDirectory(prefix="pyast-bench-") as folder:
+        return measure(options, folder, command, peer)

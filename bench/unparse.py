@@ -1,0 +1,16 @@
+#!/usr/bin/env python3
+"""Times `pyast unparse` beside Python's own `ast.unparse`.
+
+    bench/unparse.py [--program PATH] [--size MB] [--goal TIMES]
+
+The source is made of statements of Python 3.11's library that `dump` accepts, the files mixed in the same order each time. Times are
+those of the processor, the least of some rounds; the peak of memory is the greatest of them. The exit status is 0, but 1 where a program
+failed or --goal was missed, and 2 where nothing could be measured.
+"""
+
+import sys
+
+from library import measure_beside
+
+if __name__ == "__main__":
+    sys.exit(measure_beside("unparse", "ast.unparse"))
