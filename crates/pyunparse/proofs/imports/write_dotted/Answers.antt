@@ -7,10 +7,10 @@ pub split_once-requires-text-self : goal.split_once-requires-text-self
 split_once-requires-text-self g c κs = c.loop-part.invariant.0
 
 pub put_text-requires-text-name : goal.put_text-requires-text-name
-put_text-requires-text-name g c κs = (at_point c.loop-part.before c.loop-part.rest.now (Some (c.in-Some.part, c.in-Some.tail)) c.loop-part.invariant.0 c.in-Some.ensures.cases).0
+put_text-requires-text-name g c κs _ = (at_point c.loop-part.before c.loop-part.rest.now (Some (c.in-Some.part, c.in-Some.tail)) c.loop-part.invariant.0 c.in-Some.ensures.cases).0
 
 pub put_text-requires-2-text-name : goal.put_text-requires-2-text-name
-put_text-requires-2-text-name g c κs = c.loop-part.invariant.0
+put_text-requires-2-text-name g c κs _ = c.loop-part.invariant.0
 
 pub loop-part-init : goal.loop-part-init
 loop-part-init g c = (c.utf8.name, refl)
