@@ -8,26 +8,26 @@ use Rattle.pyunparse.proofs.statements.write_simple.Goals as goal
 pub returns-in-Expr : goal.returns-in-Expr
 returns-in-Expr g c = IfOk-equal _ _ _ _ c.write_expr.ensures (expression_is g.W.Writer.after c.args.out.now c.args.s.now _ c.in-Expr.is)
 
-pub returns-in_ok-write_targets : goal.returns-in_ok-write_targets
-returns-in_ok-write_targets g c = IfOk-equal _ _ _ _ c.write_expr-in-Assign.ensures
-    (assign_on g.W.Writer.after c.args.out.now c.args.s.now _ _ _ _ c.in-Assign.is c.deref.ensures.value c.in_ok-write_targets.ensures)
+pub returns-in_ok-write_targets-in-Assign : goal.returns-in_ok-write_targets-in-Assign
+returns-in_ok-write_targets-in-Assign g c = IfOk-equal _ _ _ _ c.write_expr-in-Assign.ensures
+    (assign_on g.W.Writer.after c.args.out.now c.args.s.now _ _ _ _ c.in-Assign.is c.deref.ensures.value c.in_ok-write_targets-in-Assign.ensures)
 
-pub returns-in_ok-put_sign : goal.returns-in_ok-put_sign
-returns-in_ok-put_sign g c = IfOk-equal _ _ _ _ c.write_expr-in-AugAssign-2.ensures
-    (augmented_on g.W.Writer.after c.args.out.now c.args.s.now _ _ _ _ _ _ c.in-AugAssign.is c.augmented_sign.ensures c.in_ok-write_expr.ensures c.in_ok-put_sign.ensures)
+pub returns-in_ok-put_sign-in-AugAssign : goal.returns-in_ok-put_sign-in-AugAssign
+returns-in_ok-put_sign-in-AugAssign g c = IfOk-equal _ _ _ _ c.write_expr-in-AugAssign-2.ensures
+    (augmented_on g.W.Writer.after c.args.out.now c.args.s.now _ _ _ _ _ _ c.in-AugAssign.is c.augmented_sign.ensures c.in_ok-write_expr-in-AugAssign.ensures c.in_ok-put_sign-in-AugAssign.ensures)
 
 pub returns-in_ok-write_expr-in-AnnAssign : goal.returns-in_ok-write_expr-in-AnnAssign
 returns-in_ok-write_expr-in-AnnAssign g c = IfOk-equal _ _ _ _ c.write_behind.ensures
     (annotation_on g.W.Writer.after c.args.out.now c.args.s.now _ _ _ _ _ _ _ _ _ c.in-AnnAssign.is c.deref-in-AnnAssign.ensures c.deref-in-AnnAssign-2.ensures
-    c.in_ok-write_annotated.ensures c.in_ok-put_sign-in-AnnAssign.ensures c.in_ok-write_expr-in-AnnAssign.ensures)
+    c.in_ok-write_annotated-in-AnnAssign.ensures c.in_ok-put_sign-in-AnnAssign.ensures c.in_ok-write_expr-in-AnnAssign.ensures)
 
 pub returns-in_ok-put_sign-in-TypeAlias : goal.returns-in_ok-put_sign-in-TypeAlias
 returns-in_ok-put_sign-in-TypeAlias g c = IfOk-equal _ _ _ _ c.write_expr-in-TypeAlias-2.ensures
     (alias_on g.W.Writer.after c.args.out.now c.args.s.now _ _ _ _ _ _ _ _ c.in-TypeAlias.is c.deref-in-TypeAlias.ensures.value
-    c.in_ok-put_text.ensures c.in_ok-write_expr-in-TypeAlias.ensures c.in_ok-write_type_params.ensures c.in_ok-put_sign-in-TypeAlias.ensures)
+    c.in_ok-put_text-in-TypeAlias.ensures c.in_ok-write_expr-in-TypeAlias.ensures c.in_ok-write_type_params-in-TypeAlias.ensures c.in_ok-put_sign-in-TypeAlias.ensures)
 
-pub returns-in_ok-put_word : goal.returns-in_ok-put_word
-returns-in_ok-put_word g c = IfOk-equal _ _ _ _ c.write_option.ensures (return_on g.W.Writer.after c.args.out.now c.args.s.now _ _ c.in-Return.is c.in_ok-put_word.ensures)
+pub returns-in_ok-put_word-in-Return : goal.returns-in_ok-put_word-in-Return
+returns-in_ok-put_word-in-Return g c = IfOk-equal _ _ _ _ c.write_option.ensures (return_on g.W.Writer.after c.args.out.now c.args.s.now _ _ c.in-Return.is c.in_ok-put_word-in-Return.ensures)
 
 pub returns-in-Raise : goal.returns-in-Raise
 returns-in-Raise g c = IfOk-equal _ _ _ _ c.write_raise.ensures (raise_is g.W.Writer.after c.args.out.now c.args.s.now _ _ c.in-Raise.is)
