@@ -8,7 +8,7 @@ pub returns-then-simple : goal.returns-then-simple
 returns-then-simple g c = rw (c.if-simple.true, simple_annotated (tree_of c.args.target.now)) c.write_expr.ensures
 
 pub returns-in_ok-put_name-in-Name : goal.returns-in_ok-put_name-in-Name
-returns-in_ok-put_name-in-Name g c = rw c.if-simple.false (IfOk-equal _ _ _ _ c.put_sign-2.ensures
+returns-in_ok-put_name-in-Name g c = rw c.if-simple.false (IfOk-equal _ _ _ _ c.put_sign-in-Name.ensures
     (bracketed_name g.W.Writer.after c.args.out.now c.args.target.now _ _ _ _ c.in-Name.is c.in_ok-put_sign-in-Name.ensures c.in_ok-put_name-in-Name.ensures))
 
 pub returns-in_default : goal.returns-in_default
