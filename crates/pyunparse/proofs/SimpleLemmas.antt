@@ -1,11 +1,10 @@
 -- Carries: write_simple and the functions that it calls. What is written for each simple statement, part by part.
-use Rattle.std.proofs.Common.{◌≡◌, ◌∙◌, ℕ, Bool, false, List, [], ◌∷◌, map, Global, Option, None, Some, refl, ap, sym}
+use Rattle.std.proofs.Common.{◌≡◌, ◌∙◌, ℕ, Bool, false, List, [], ◌∷◌, map, Global, Option, refl, ap, sym}
 use Rattle.std.specs.Str.{chars}
 use Rattle.std.specs.declared.vec.Vec.{Vec}
 use Rattle.std.specs.declared.boxed.Box.{Box}
 use Rattle.pylexeme.specs.declared.kinds.Exact.{Exact}
 use Rattle.pylexeme.specs.declared.kinds.Exact.TheVariants.{Colon, Comma, Equal, LPar, RPar}
-use Rattle.pytoken.specs.declared.keywords.Keyword.{Keyword}
 use Rattle.pytoken.specs.declared.keywords.Keyword.TheVariants as Key
 use Rattle.pynode.specs.declared.operators.Context.{Context}
 use Rattle.pynode.specs.declared.operators.Operator.{Operator}
@@ -30,15 +29,12 @@ use Rattle.pywritten.specs.Written.{each, free, leading, listed, trailing, word}
 use Rattle.pyunparse.specs.Inner.Folds.{puts}
 use Rattle.pyunparse.proofs.FoldLemmas.{five, four, three, two}
 
+-- `type` as it stands in the code
 type_text : chars (116 ∷ 121 ∷ 112 ∷ 101 ∷ []) ≡ type_name
 unfolding chars
 type_text = refl
 
 module _ {S : Type 0} (after : S → Piece → S) (s : S) where
-  -- parts behind one another
-  pub behind_on : (t : Piece) (e : plain.Expr) (s1 : S) → s1 ≡ puts after s (t ∷ []) → puts after s1 (pieces Level.Expression e) ≡ puts after s (behind piece t Level.Expression (Some e))
-  behind_on t e s1 e1 = two after s (t ∷ []) (pieces Level.Expression e) s1 e1
-
   pub raise_on : (e c : Option plain.Expr) (s1 s2 : S) → s1 ≡ puts after s (word piece Key.Raise ∷ []) → s2 ≡ puts after s1 (perhaps_written piece Level.Expression e) →
       puts after s2 (behind piece (word piece Key.From) Level.Expression c) ≡ puts after s (simple_tokens piece (plain.Raise e c))
   raise_on e c s1 s2 e1 e2 = three after s (word piece Key.Raise ∷ []) (perhaps_written piece Level.Expression e) (behind piece (word piece Key.From) Level.Expression c) s1 s2 e1 e2

@@ -1,5 +1,5 @@
 -- Carries: write_type_param, write_bound, write_type_params. The parameters of types, part by part.
-use Rattle.std.proofs.Common.{◌≡◌, ◌∙◌, ◌==◌, false, true, List, [], ◌∷◌, length, map, Option, None, Some, refl, ap, sym}
+use Rattle.std.proofs.Common.{◌≡◌, ◌∙◌, ◌==◌, false, true, List, [], ◌∷◌, length, map, Option, refl, ap, sym}
 use Rattle.std.proofs.lemmas.Bool.{false≢true}
 use Rattle.pylexeme.specs.declared.kinds.Exact.TheVariants.{Colon, DoubleStar, LSqb, RSqb, Star}
 use Rattle.pynode.specs.declared.expressions.Expr.{Expr}
@@ -10,7 +10,7 @@ use Rattle.pynode.specs.TreeOf.{option_of, type_param_of}
 use Rattle.pygrammar.specs.declared.levels.Level.TheVariants.{Expression}
 use Rattle.pyspacing.specs.Spacing.{Piece}
 use Rattle.pytoken.specs.Terminals.{Ident}
-use Rattle.pywritten.specs.Pieces.{piece, pieces}
+use Rattle.pywritten.specs.Pieces.{piece}
 use Rattle.pywritten.specs.Statements.{behind, type_param, type_params}
 use Rattle.pywritten.specs.Written.{free, leading, listed, tight, trailing}
 use Rattle.pyunparse.specs.Inner.Folds.{puts}
