@@ -1,6 +1,7 @@
 pub mod AloneLemmas
 pub mod ArgumentLemmas
 pub mod ClassLemmas
+pub mod DottedLemmas
 pub mod FoldLemmas
 pub mod StatementLemmas
 pub mod ImportLemmas
@@ -11,8 +12,11 @@ pub mod ParameterLemmas
 pub mod PartLemmas
 pub mod ReprLemmas
 pub mod ShapeLemmas
+pub mod SimpleLemmas
 pub mod SpaceLemmas
+pub mod StatedLemmas
 pub mod TokenLemmas
 pub mod TupleLemmas
+pub mod TypeLemmas
 pub mod WithLemmas
 pub mod WritingLemmas

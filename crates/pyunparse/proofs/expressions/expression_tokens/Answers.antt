@@ -2,11 +2,25 @@ use Rattle.std.proofs.Common.{◌∙◌, ◌++◌, ◌∷◌, [], ap}
 use Rattle.pynode.specs.TreeOf.{tree_of}
 use Rattle.pyspacing.specs.Tokens.{token_of}
 use Rattle.pywritten.specs.Pieces.{pieces}
+use Rattle.pywritten.proofs.Callers.Shortest.{expressions_are_shortest}
+use Rattle.pywritten.proofs.Callers.Read.{expressions_are_read}
 use Rattle.pyunparse.specs.Inner.Folds.{puts}
 use Rattle.pyunparse.proofs.TokenLemmas.{tokens_put}
 use Rattle.pyunparse.proofs.expressions.expression_tokens.Goals as goal
 
-pub returns : goal.returns
-returns c = c.into_pieces.ensures ∙ c.in_ok-write_expr.ensures
+pub returns-clause-tokens : goal.returns-clause-tokens
+returns-clause-tokens c = c.into_pieces.ensures ∙ c.in_ok-write_expr.ensures
     ∙ ap (λ z. puts (λ us p. us ++ token_of p ∷ []) z (pieces c.args.level (tree_of c.args.expr.now))) c.new-out.ensures
     ∙ tokens_put [] (pieces c.args.level (tree_of c.args.expr.now))
+
+pub returns-clause-fewest : goal.returns-clause-fewest
+returns-clause-fewest c ts = expressions_are_shortest c.args.level ts (tree_of c.args.expr.now)
+
+pub returns-clause-read : goal.returns-clause-read
+returns-clause-read c ts sound = expressions_are_read c.args.level ts (tree_of c.args.expr.now) sound
+
+pub returns-in_err-write_expr-clause-fewest : goal.returns-in_err-write_expr-clause-fewest
+returns-in_err-write_expr-clause-fewest c ts = expressions_are_shortest c.args.level ts (tree_of c.args.expr.now)
+
+pub returns-in_err-write_expr-clause-read : goal.returns-in_err-write_expr-clause-read
+returns-in_err-write_expr-clause-read c ts sound = expressions_are_read c.args.level ts (tree_of c.args.expr.now) sound

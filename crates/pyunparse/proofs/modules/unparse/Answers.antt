@@ -1,11 +1,15 @@
 use Rattle.std.proofs.Common.{◌∙◌, ◌++◌, map}
 use Rattle.pynode.specs.Trees.{stmts}
-use Rattle.pynode.specs.TreeOf.{stmt_of}
+use Rattle.pynode.specs.TreeOf.{module_of, stmt_of}
 use Rattle.pywritten.specs.Modules.{lines_of}
 use Rattle.pywritten.specs.Pieces.{piece}
 use Rattle.pyunparse.specs.Inner.Lines.{in_utf8}
+use Rattle.pyunparse.proofs.StatedLemmas.{gives_back}
 use Rattle.pyunparse.proofs.modules.unparse.Goals as goal
 
-pub returns : goal.returns
-returns c = c.into_text.ensures ∙ c.in_ok-write_stmts.ensures.text
+pub returns-clause-text : goal.returns-clause-text
+returns-clause-text c = c.into_text.ensures ∙ c.in_ok-write_stmts.ensures.text
     ∙ (λ i. (c.new-out.ensures i).text ++ in_utf8 (lines_of piece (c.new-out.ensures i).level (stmts (map stmt_of (c.deref.ensures.value i)))))
+
+pub returns-clause-round_trip : goal.returns-clause-round_trip
+returns-clause-round_trip c = gives_back _ (module_of c.args.«module».now) (returns-clause-text c)

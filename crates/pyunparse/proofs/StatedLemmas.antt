@@ -1,0 +1,37 @@
+-- Carries: unparse. A module that fits is the one that its own text is.
+use Rattle.std.proofs.Common.{◌≡◌, ℕ, ◌≤◌, List, sym, subst}
+use Rattle.std.specs.Prelude.{All}
+use Rattle.std.specs.Str.{encode_utf8_all}
+use Rattle.std.proofs.lemmas.List.Elements.{All-nil, All-cons}
+use Rattle.pynode.specs.declared.profiles.Profile.{Profile}
+use Rattle.pynode.specs.Trees.{Module}
+use Rattle.pytoken.specs.Tokens as Tokens
+use Rattle.pyheight.specs.Heights.{expression_height, statement_height}
+use Rattle.pygrammar.specs.Lines.{Line}
+use Rattle.pyslots.specs.Given as given
+use Rattle.pyslots.specs.Given.{Stated}
+use Rattle.pywritten.specs.Laws.{HaveForms, no_form, a_form, IsGood, source_lines, TextIsAccepted}
+use Rattle.pywritten.specs.Modules.{module_text}
+use Rattle.pywritten.proofs.Callers.Texts.{module_texts_are_accepted, tokens_are_of_tokens}
+use Rattle.pyunparse.specs.RoundTrips.{GivesBack, RoundTrips}
+
+forms_are : {profile : Profile} {xs : List Tokens.Line} {fs : List Line} → given.HaveForms profile xs fs → HaveForms profile (source_lines xs) fs
+forms_are given.no_form = no_form
+forms_are (given.a_form h p c) = a_form p (forms_are c)
+
+abbrev Good : Tokens.Line → Type 0
+Good x = All IsGood x.tokens
+
+good : {profile : Profile} {xs : List Tokens.Line} {fs : List Line} → given.HaveForms profile xs fs → All Good xs
+good given.no_form = All-nil Good
+good (given.a_form {x = x} {xs = xs} h p c) = All-cons Good x xs h (good c)
+
+stated_texts : (profile : Profile) (m : Module) → Stated profile m → expression_height m ≤ 500 → statement_height m ≤ 500 → TextIsAccepted profile m
+stated_texts profile m s a b =
+    module_texts_are_accepted profile (source_lines s.lines) m (record { forms = s.forms; formed = forms_are s.formed; block = s.block }) (tokens_are_of_tokens s.lines (good s.formed)) a b
+
+-- bytes that are its text give it back
+pub gives_back : (bytes : List ℕ) (m : Module) → bytes ≡ encode_utf8_all (module_text m) → RoundTrips bytes m
+gives_back bytes m e profile s a b =
+    let t : TextIsAccepted profile m = stated_texts profile m s a b in
+    subst (λ z. GivesBack profile z m) (sym e) (record { back = t.back; accepted = t.accepted; only = t.only })
