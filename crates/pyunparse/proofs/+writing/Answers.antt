@@ -4,6 +4,7 @@ use Rattle.pylexeme.specs.declared.kinds.Exact.TheVariants.{Colon, Comma, Double
 use Rattle.pynode.specs.declared.expressions.Arg as given_arg
 use Rattle.pynode.specs.declared.expressions.Arguments as given_arguments
 use Rattle.pynode.specs.declared.expressions.Keyword as given_keyword
+use Rattle.pynode.specs.declared.operators.Comparison.TheVariants as Is
 use Rattle.pynode.specs.Trees.{args, comprehensions, exprs, keywords, optional, optional_arg, optionals}
 use Rattle.pynode.specs.TreeOf.{arg_of, arg_option_of, arguments_of, boxed_of, comprehension_of, keyword_of, option_of, tree_of}
 use Rattle.pynode.proofs.Callers.ExprShapes.{arg_tree, arguments_tree, attribute_tree, await_tree, bin_op_tree, bool_op_tree, call_tree, compare_tree, comprehension_tree, constant_tree, dict_comp_tree, dict_tree, generator_exp_tree, if_exp_tree, keyword_tree, lambda_tree, list_comp_tree, list_tree, name_tree, named_expr_tree, set_comp_tree, set_tree, slice_tree, starred_tree, subscript_tree, tuple_tree, unary_op_tree, yield_from_tree, yield_tree}
@@ -22,7 +23,7 @@ use Rattle.pyunparse.specs.Inner.Parameters.{named as named_arg, positional}
 use Rattle.pyunparse.proofs.ArgumentLemmas.{alone_is, args_listed, lone_some}
 use Rattle.pyunparse.proofs.ClassLemmas.{attribute, awaited, binary, call, chain, comparison, conditional, dict_comprehension, lambda, named, prefixed, slice, subscript, yielded, yielded_from}
 use Rattle.pyunparse.proofs.FoldLemmas.{enclosed_on, three, two}
-use Rattle.pyunparse.proofs.MemberLemmas.{all_items, all_parts, both_done, both_on, compared_done, compared_on, read_again, take_rest, item_on, no_higher, part_on}
+use Rattle.pyunparse.proofs.MemberLemmas.{all_items, all_parts, both_done, both_on, compared_done, compared_on, item_on, no_higher, part_on, read_again, rest_no_higher, take_rest}
 use Rattle.pyunparse.proofs.ParameterLemmas.{D, N, places_on, default_bare, default_none, default_some, parameters_told, plain_done, plain_on, plain_start}
 use Rattle.pyunparse.proofs.PartLemmas.{by_name_more, clause_on, kwonly, kwonly_more, no_defaults, no_params, no_keys, no_values, pair_more, pairs_of}
 use Rattle.pyunparse.proofs.ShapeLemmas.{not_alone}
@@ -376,7 +377,7 @@ parameters::write_parameters-returns g t c =
 
 pub operators::write_compared-loop-i-preserved : goal.operators::write_compared-loop-i-preserved
 operators::write_compared-loop-i-preserved g t c = compared_on g.W.Writer.after _ c.loop-i.out BitOr c.args.ops.now c.args.comparators.now c.loop-i.i _ c.index-comparators-i.result _ _
-    (omega arith) (read_again _ _ _ (omega arith)) (omega arith) c.index-comparators-i.is c.loop-i.invariant c.in_ok-put_comparison.ensures c.in_ok-write_expr.ensures
+    (omega arith) (read_again c.args.ops.now c.loop-i.i Is.Eq (omega arith)) (omega arith) c.index-comparators-i.is c.loop-i.invariant c.in_ok-put_comparison.ensures c.in_ok-write_expr.ensures
 
 pub operators::write_compared-returns : goal.operators::write_compared-returns
 operators::write_compared-returns g t c = compared_done g.W.Writer.after _ c.loop-i.out BitOr c.args.ops.now c.args.comparators.now c.loop-i.i (omega arith) c.loop-i.invariant
@@ -391,3 +392,7 @@ parameters::write_both-returns g t c = IfOk-equal _ _ _ _ c.write_plain-2.ensure
     (ap (λ z. puts g.W.Writer.after c.put_slash.new.out (members (nat_eq (length c.args.only.now) 0) (trailing piece Comma) (padded (N c.args.others.now) c.saturating_sub-2.result (D z)))) (take_rest c.saturating_sub.result c.args.given.now)
     ∙ (λ i. puts g.W.Writer.after c.put_slash.new.out (members (nat_eq (length c.args.only.now) 0) (trailing piece Comma) (padded (N c.args.others.now) (c.saturating_sub-2.ensures i) (D (drop (c.saturating_sub.ensures i) c.args.given.now)))))
     ∙ places_on g.W.Writer.after c.args.out.now c.args.only.now c.args.others.now c.args.given.now c.saturating_sub-bare.result _ _ c.saturating_sub-bare.ensures c.in_ok-write_plain.ensures c.in_ok-put_slash.ensures)
+
+pub parameters::write_both-write_plain-requires-2 : goal.parameters::write_both-write_plain-requires-2
+parameters::write_both-write_plain-requires-2 g t c =
+    let h : _ = rest_no_higher (λ xs. heights (exprs (map tree_of xs))) (λ x. height (tree_of x)) (λ _ _. refl) c.saturating_sub.result c.args.given.now in (λ κs l. (omega (arith, h), l))
