@@ -6,12 +6,14 @@ pub mod StatementLemmas
 pub mod ImportLemmas
 pub mod LevelLemmas
 pub mod LineLemmas
+pub mod MeasureLemmas
 pub mod MemberLemmas
 pub mod ParameterLemmas
 pub mod PartLemmas
 pub mod ReprLemmas
 pub mod ShapeLemmas
 pub mod SpaceLemmas
+pub mod StarLemmas
 pub mod TokenLemmas
 pub mod TupleLemmas
 pub mod WithLemmas
