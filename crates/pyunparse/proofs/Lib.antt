@@ -7,6 +7,7 @@ pub mod StatementLemmas
 pub mod ImportLemmas
 pub mod LevelLemmas
 pub mod LineLemmas
+pub mod MeasureLemmas
 pub mod MemberLemmas
 pub mod ParameterLemmas
 pub mod PartLemmas
@@ -15,6 +16,7 @@ pub mod ShapeLemmas
 pub mod SimpleLemmas
 pub mod SpaceLemmas
 pub mod StatedLemmas
+pub mod StarLemmas
 pub mod TokenLemmas
 pub mod TupleLemmas
 pub mod TypeLemmas

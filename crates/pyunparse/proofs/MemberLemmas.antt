@@ -182,3 +182,13 @@ take_all (x ∷ xs) (suc m) e = ap (λ z. x ∷ z) (take_all xs m (omega (arith,
 -- the rest of a list as a slice
 pub take_rest : {A : Type 0} (n : ℕ) (xs : List A) → take (length xs - n) (drop n xs) ≡ drop n xs
 take_rest n xs = take_all (drop n xs) (length xs - n) (sym (length-drop n xs))
+
+-- nor is the rest of a list higher than the list
+module _ {A : Type 0} (H : List A → ℕ) (h : A → ℕ) (e : (x : A) (xs : List A) → H (x ∷ xs) ≡ max (h x) (H xs)) where
+  left_no_higher : (n : ℕ) (xs : List A) → H (drop n xs) ≤ H xs
+  left_no_higher zero xs = omega arith
+  left_no_higher (suc n) [] = omega arith
+  left_no_higher (suc n) (x ∷ xs) = let k : H (drop n xs) ≤ H xs = left_no_higher n xs in let m = e x xs in omega (arith, k, m)
+
+  pub rest_no_higher : (n : ℕ) (xs : List A) → H (take (length xs - n) (drop n xs)) ≤ H xs
+  rest_no_higher n xs = let k : H (drop n xs) ≤ H xs = left_no_higher n xs in rw (take_rest n xs) k

@@ -94,7 +94,7 @@ N ps = names piece (args (map arg_of ps))
 abbrev pub D : List given.Expr → List (List Piece)
 D ds = map (behind_equal piece) (each piece Expression (exprs (map tree_of ds)))
 
-one_more : (a : Arg) (rest : Args) → names piece (an_arg a rest) ≡ named a ∷ names piece rest
+pub one_more : (a : Arg) (rest : Args) → names piece (an_arg a rest) ≡ named a ∷ names piece rest
 unfolding written
 one_more (arg x t) rest = refl
 

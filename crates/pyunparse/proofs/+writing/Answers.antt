@@ -1,15 +1,16 @@
-use Rattle.std.proofs.Common.{◌≡◌, ◌==◌, ◌&&◌, nat_eq, drop, false, ◌<◌, ◌∙◌, ◌++◌, ◌∷◌, [], ap, arith, length, map, refl, sym}
+use Rattle.std.proofs.Common.{◌≡◌, ◌==◌, ◌&&◌, nat_eq, drop, false, true, ◌<◌, ◌∙◌, ◌++◌, ◌∷◌, [], ap, arith, length, map, refl, sym}
 use Rattle.std.proofs.lemmas.Result.{IfOk-equal}
 use Rattle.pylexeme.specs.declared.kinds.Exact.TheVariants.{Colon, Comma, DoubleStar, Equal, LBrace, RBrace, Star}
 use Rattle.pynode.specs.declared.expressions.Arg as given_arg
 use Rattle.pynode.specs.declared.expressions.Arguments as given_arguments
 use Rattle.pynode.specs.declared.expressions.Keyword as given_keyword
+use Rattle.pynode.specs.declared.operators.Comparison.TheVariants as Is
 use Rattle.pynode.specs.Trees.{args, comprehensions, exprs, keywords, optional, optional_arg, optionals}
 use Rattle.pynode.specs.TreeOf.{arg_of, arg_option_of, arguments_of, boxed_of, comprehension_of, keyword_of, option_of, tree_of}
 use Rattle.pynode.proofs.Callers.ExprShapes.{arg_tree, arguments_tree, attribute_tree, await_tree, bin_op_tree, bool_op_tree, call_tree, compare_tree, comprehension_tree, constant_tree, dict_comp_tree, dict_tree, generator_exp_tree, if_exp_tree, keyword_tree, lambda_tree, list_comp_tree, list_tree, name_tree, named_expr_tree, set_comp_tree, set_tree, slice_tree, starred_tree, subscript_tree, tuple_tree, unary_op_tree, yield_from_tree, yield_tree}
 use Rattle.pygrammar.specs.declared.levels.Level.TheVariants.{Atom, BitOr, Elem, Expression, Named}
 use Rattle.pyheight.specs.Heights.{arg_height, arg_heights, comprehension_heights, height, heights, keyword_heights, optional_height, optional_heights}
-use Rattle.pytoken.specs.Terminals.{Ident}
+use Rattle.pytoken.specs.Terminals.{Ident, Op}
 use Rattle.pywritten.specs.Levels.{reaches}
 use Rattle.pywritten.specs.Pieces.{piece, pieces}
 use Rattle.pywritten.specs.Written.{by_name, clauses, conditions, each, element_level, free, gathered, leading, listed, names, pairs, suffixed, tight, trailing, with_star, written, written_keys}
@@ -22,10 +23,12 @@ use Rattle.pyunparse.specs.Inner.Parameters.{named as named_arg, positional}
 use Rattle.pyunparse.proofs.ArgumentLemmas.{alone_is, args_listed, lone_some}
 use Rattle.pyunparse.proofs.ClassLemmas.{attribute, awaited, binary, call, chain, comparison, conditional, dict_comprehension, lambda, named, prefixed, slice, subscript, yielded, yielded_from}
 use Rattle.pyunparse.proofs.FoldLemmas.{enclosed_on, three, two}
-use Rattle.pyunparse.proofs.MemberLemmas.{all_items, all_parts, both_done, both_on, compared_done, compared_on, read_again, take_rest, item_on, no_higher, part_on}
+use Rattle.pyunparse.proofs.MeasureLemmas.{call_height, compare_height, dict_comp_height, gathered_lower, generator_height, keyword_height, keyword_only_lower, named_arg_height, parts_height, places_lower, star_lower}
+use Rattle.pyunparse.proofs.MemberLemmas.{all_items, all_parts, both_done, both_on, compared_done, compared_on, item_on, members_none, no_higher, part_on, read_again, rest_no_higher, take_rest}
 use Rattle.pyunparse.proofs.ParameterLemmas.{D, N, places_on, default_bare, default_none, default_some, parameters_told, plain_done, plain_on, plain_start}
 use Rattle.pyunparse.proofs.PartLemmas.{by_name_more, clause_on, kwonly, kwonly_more, no_defaults, no_params, no_keys, no_values, pair_more, pairs_of}
 use Rattle.pyunparse.proofs.ShapeLemmas.{not_alone}
+use Rattle.pyunparse.proofs.StarLemmas.{gathered_on, star_given, star_on}
 use Rattle.pyunparse.proofs.TupleLemmas.{tuple}
 use Rattle.pyunparse.proofs.+writing.Goals as goal
 
@@ -376,7 +379,7 @@ parameters::write_parameters-returns g t c =
 
 pub operators::write_compared-loop-i-preserved : goal.operators::write_compared-loop-i-preserved
 operators::write_compared-loop-i-preserved g t c = compared_on g.W.Writer.after _ c.loop-i.out BitOr c.args.ops.now c.args.comparators.now c.loop-i.i _ c.index-comparators-i.result _ _
-    (omega arith) (read_again _ _ _ (omega arith)) (omega arith) c.index-comparators-i.is c.loop-i.invariant c.in_ok-put_comparison.ensures c.in_ok-write_expr.ensures
+    (omega arith) (read_again c.args.ops.now c.loop-i.i Is.Eq (omega arith)) (omega arith) c.index-comparators-i.is c.loop-i.invariant c.in_ok-put_comparison.ensures c.in_ok-write_expr.ensures
 
 pub operators::write_compared-returns : goal.operators::write_compared-returns
 operators::write_compared-returns g t c = compared_done g.W.Writer.after _ c.loop-i.out BitOr c.args.ops.now c.args.comparators.now c.loop-i.i (omega arith) c.loop-i.invariant
@@ -391,3 +394,106 @@ parameters::write_both-returns g t c = IfOk-equal _ _ _ _ c.write_plain-2.ensure
     (ap (λ z. puts g.W.Writer.after c.put_slash.new.out (members (nat_eq (length c.args.only.now) 0) (trailing piece Comma) (padded (N c.args.others.now) c.saturating_sub-2.result (D z)))) (take_rest c.saturating_sub.result c.args.given.now)
     ∙ (λ i. puts g.W.Writer.after c.put_slash.new.out (members (nat_eq (length c.args.only.now) 0) (trailing piece Comma) (padded (N c.args.others.now) (c.saturating_sub-2.ensures i) (D (drop (c.saturating_sub.ensures i) c.args.given.now)))))
     ∙ places_on g.W.Writer.after c.args.out.now c.args.only.now c.args.others.now c.args.given.now c.saturating_sub-bare.result _ _ c.saturating_sub-bare.ensures c.in_ok-write_plain.ensures c.in_ok-put_slash.ensures)
+
+pub parameters::write_both-write_plain-requires-2 : goal.parameters::write_both-write_plain-requires-2
+parameters::write_both-write_plain-requires-2 g t c =
+    let h : _ = rest_no_higher (λ xs. heights (exprs (map tree_of xs))) (λ x. height (tree_of x)) (λ _ _. refl) c.saturating_sub.result c.args.given.now in (λ κs l. (omega (arith, h), l))
+
+-- ---- What stands inside is no higher.
+
+pub calls::write_alone-write_generator-requires : goal.calls::write_alone-write_generator-requires
+calls::write_alone-write_generator-requires g t c =
+    let h : _ = generator_height _ _ _ _ _ c.in-GeneratorExp.is c.deref.ensures c.deref-in-GeneratorExp.ensures.value in (λ κs l. (omega (arith, h), l))
+
+pub expressions::write_expr-write_dict_comprehension-requires : goal.expressions::write_expr-write_dict_comprehension-requires
+expressions::write_expr-write_dict_comprehension-requires g t c =
+    let h : _ = dict_comp_height _ _ _ _ _ _ _ c.in-DictComp.is c.deref-in-DictComp.ensures c.deref-in-DictComp-2.ensures c.deref-in-DictComp-3.ensures.value in (λ κs l. (omega (arith, h), l))
+
+pub expressions::write_expr-write_compare-requires : goal.expressions::write_expr-write_compare-requires
+expressions::write_expr-write_compare-requires g t c =
+    let h : _ = compare_height _ _ _ _ _ _ c.in-Compare.is c.deref-in-Compare.ensures c.deref-in-Compare-3.ensures.value in (λ κs l. (omega (arith, h), l))
+
+pub expressions::write_expr-write_call-requires : goal.expressions::write_expr-write_call-requires
+expressions::write_expr-write_call-requires g t c =
+    let h : _ = call_height _ _ _ _ _ _ _ c.in-Call.is c.deref-in-Call.ensures c.deref-in-Call-2.ensures.value c.deref-in-Call-3.ensures.value in (λ κs l. (omega (arith, h), l))
+
+pub calls::write_keyword-write_expr-requires : goal.calls::write_keyword-write_expr-requires
+calls::write_keyword-write_expr-requires g t c = let h : _ = keyword_height c.args.word.now in (λ κs l. (omega (arith, h), l))
+
+pub parameters::write_named_arg-write_suffix-requires : goal.parameters::write_named_arg-write_suffix-requires
+parameters::write_named_arg-write_suffix-requires g t c = let h : _ = named_arg_height c.args.arg.now in (λ κs l. (omega (arith, h), l))
+
+pub clauses::write_clause-write_expr-requires : goal.clauses::write_clause-write_expr-requires
+clauses::write_clause-write_expr-requires g t c = let h : _ = parts_height c.args.generator.now _ refl in (λ κs l. (omega (arith, h), l))
+
+pub clauses::write_clause-write_expr-requires-2 : goal.clauses::write_clause-write_expr-requires-2
+clauses::write_clause-write_expr-requires-2 g t c = let h : _ = parts_height c.args.generator.now _ refl in (λ κs l. (omega (arith, h), l))
+
+pub clauses::write_clause-write_conditions-requires : goal.clauses::write_clause-write_conditions-requires
+clauses::write_clause-write_conditions-requires g t c = let h : _ = parts_height c.args.generator.now _ c.deref.ensures.value in (λ κs l. (omega (arith, h), l))
+
+pub parameters::write_positional-write_both-requires : goal.parameters::write_positional-write_both-requires
+parameters::write_positional-write_both-requires g t c =
+    let h : _ = places_lower c.args.a.now _ _ _ c.deref.ensures.value c.deref-2.ensures.value c.deref-3.ensures.value in (λ κs l. (omega (arith, h), l))
+
+pub parameters::write_parameters-write_star-requires : goal.parameters::write_parameters-write_star-requires
+parameters::write_parameters-write_star-requires g t c = let h : _ = star_lower c.args.a.now in (λ κs l. (omega (arith, h), l))
+
+pub parameters::write_parameters-write_keyword_only-requires : goal.parameters::write_parameters-write_keyword_only-requires
+parameters::write_parameters-write_keyword_only-requires g t c =
+    let h : _ = keyword_only_lower c.args.a.now _ _ c.deref-2.ensures.value c.deref-3.ensures.value in (λ κs l. (omega (arith, h), l))
+
+pub parameters::write_parameters-write_gathered-requires : goal.parameters::write_parameters-write_gathered-requires
+parameters::write_parameters-write_gathered-requires g t c = let h : _ = gathered_lower c.args.a.now in (λ κs l. (omega (arith, h), l))
+
+-- ---- What may be absent.
+
+pub expressions::write_expr-returns-in_ok-put_sign-in-Starred : goal.expressions::write_expr-returns-in_ok-put_sign-in-Starred
+unfolding written
+expressions::write_expr-returns-in_ok-put_sign-in-Starred g t c = rw (c.in-Starred.is, starred_tree, sym c.deref-in-Starred.ensures) (IfOk-equal _ _ _ _ c.write_expr.ensures
+    (two g.W.Writer.after c.args.out.now (leading piece Star ∷ []) (pieces c.star_level.result (tree_of c.deref-in-Starred.result.now)) _ c.in_ok-put_sign-in-Starred.ensures
+    ∙ ap (λ k. puts g.W.Writer.after c.args.out.now (leading piece Star ∷ pieces k (tree_of c.deref-in-Starred.result.now))) c.star_level.ensures))
+
+pub options::write_perhaps-returns-in-None : goal.options::write_perhaps-returns-in-None
+unfolding written
+options::write_perhaps-returns-in-None g t c = rw c.in-None.is refl
+
+pub options::write_perhaps-returns-in-Some : goal.options::write_perhaps-returns-in-Some
+unfolding written
+options::write_perhaps-returns-in-Some g t c = rw (c.in-Some.is, sym c.deref.ensures) c.write_expr.ensures
+
+pub options::write_suffix-returns-in-None : goal.options::write_suffix-returns-in-None
+unfolding written
+options::write_suffix-returns-in-None g t c = rw c.in-None.is refl
+
+pub options::write_suffix-returns-in_ok-put_sign-in-Some : goal.options::write_suffix-returns-in_ok-put_sign-in-Some
+unfolding written
+options::write_suffix-returns-in_ok-put_sign-in-Some g t c = rw (c.in-Some.is, sym c.deref.ensures) (IfOk-equal _ _ _ _ c.write_expr.ensures
+    (two g.W.Writer.after c.args.out.now (piece (Op c.args.sign) true c.args.behind ∷ []) (pieces Expression (tree_of c.deref.result.now)) _ c.in_ok-put_sign-in-Some.ensures))
+
+pub parameters::write_own_default-returns-in-None : goal.parameters::write_own_default-returns-in-None
+unfolding written
+parameters::write_own_default-returns-in-None g t c = rw c.in-None.is refl
+
+pub parameters::write_own_default-returns-in_ok-put_sign-in-Some : goal.parameters::write_own_default-returns-in_ok-put_sign-in-Some
+unfolding written
+parameters::write_own_default-returns-in_ok-put_sign-in-Some g t c = rw c.in-Some.is (IfOk-equal _ _ _ _ c.write_expr.ensures
+    (two g.W.Writer.after c.args.out.now (tight piece Equal ∷ []) (pieces Expression (tree_of c.in-Some.e)) _ c.in_ok-put_sign-in-Some.ensures))
+
+pub parameters::write_gathered-returns-in-None : goal.parameters::write_gathered-returns-in-None
+unfolding written
+parameters::write_gathered-returns-in-None g t c = rw c.in-None.is (sym (ap (puts g.W.Writer.after c.args.out.now) (members_none c.args.is_first (trailing piece Comma))))
+
+pub parameters::write_gathered-returns-in_ok-put_sign-in-Some : goal.parameters::write_gathered-returns-in_ok-put_sign-in-Some
+parameters::write_gathered-returns-in_ok-put_sign-in-Some g t c = rw c.in-Some.is (IfOk-equal _ _ _ _ c.write_named_arg.ensures
+    (gathered_on g.W.Writer.after c.args.out.now c.args.is_first c.args.sign (arg_of c.in-Some.arg) _ _ c.in_ok-put_between-in-Some.ensures c.in_ok-put_sign-in-Some.ensures))
+
+pub parameters::write_star-returns-then-is_some-is_empty : goal.parameters::write_star-returns-then-is_some-is_empty
+parameters::write_star-returns-then-is_some-is_empty g t c = IfOk-equal _ _ _ _ c.write_gathered.ensures
+    (ap (λ z. puts g.W.Writer.after c.args.out.now (members c.args.is_first (trailing piece Comma) z))
+    (star_given c.args.vararg.now c.args.kwonlyargs.now _ _ c.is_some.ensures c.is_empty.ensures c.if-is_some-is_empty.true))
+
+pub parameters::write_star-returns : goal.parameters::write_star-returns
+parameters::write_star-returns g t c = IfOk-equal _ _ _ _ c.put_sign.ensures
+    (star_on g.W.Writer.after c.args.out.now c.args.is_first c.args.vararg.now c.args.kwonlyargs.now _ _ _
+    c.is_some.ensures c.is_empty.ensures c.if-is_some-is_empty.false c.in_ok-put_between.ensures)
