@@ -3,6 +3,8 @@ pub mod ArgumentLemmas
 pub mod ClassLemmas
 pub mod FoldLemmas
 pub mod StatementLemmas
+pub mod HeaderLemmas
+pub mod HeightLemmas
 pub mod ImportLemmas
 pub mod LevelLemmas
 pub mod LineLemmas

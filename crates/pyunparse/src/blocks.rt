@@ -46,6 +46,7 @@ fn write_block(out: &mut TextWriter, body: &[Stmt]) -> Result<(), AllocError>
 
 /// Writes a statement.
 #[cycle(blocks)]
+#[tactic(auto, using(pynode::proofs::Callers::StmtShapes::stmt_shapes))]
 fn write_stmt(out: &mut TextWriter, s: &Stmt) -> Result<(), AllocError>
     ensures { OnOk result (Wrote out.old out.new (modules.statement_lines piece out.old.level (stmt_of s.now))) }
 {
@@ -308,6 +309,7 @@ fn write_alternative(out: &mut TextWriter, body: &[Stmt]) -> Result<(), AllocErr
 
 /// Writes an `if` as an `elif`, and any other statement not at all.
 #[cycle(blocks)]
+#[tactic(auto, using(pynode::proofs::Callers::StmtShapes::stmt_shapes))]
 fn write_elif(out: &mut TextWriter, s: &Stmt) -> Result<(), AllocError>
     ensures { OnOk result (Wrote out.old out.new (elif_lines out.old.level (stmt_of s.now))) }
 {

@@ -1,4 +1,4 @@
-use Rattle.std.proofs.Common.{◌≡◌, ◌++◌, ◌∷◌, [], ◌∙◌, ap, arith, false, true, map, refl, subst, suc, sym}
+use Rattle.std.proofs.Common.{◌≡◌, ◌++◌, ◌∷◌, [], ◌∙◌, ◌<◌, ap, arith, false, true, length, map, refl, subst, suc, sym}
 use Rattle.std.proofs.lemmas.Result.{IfOk-weaker}
 use Rattle.pynode.specs.declared.statements.Handler as given_handler
 use Rattle.pynode.specs.Trees.{handlers, keywords, stmts}
@@ -15,6 +15,7 @@ use Rattle.pynode.proofs.Callers.StmtShapes.{async_for_tree, async_function_def_
 use Rattle.pyunparse.specs.Inner.Lines.{Wrote, def_lines, one_handler}
 use Rattle.pyunparse.proofs.StatementLemmas.{not_compound, not_elif, not_one, one_if, one_other}
 use Rattle.pyunparse.proofs.LineLemmas.{all_lines, block_wrote, deeper, header_block, line_on, no_clause, some_clause, wrote_none, wrote_then}
+use Rattle.pyunparse.proofs.HeightLemmas.{handler_height}
 use Rattle.pyunparse.proofs.MemberLemmas.{no_higher}
 use Rattle.pyunparse.proofs.blocks.+blocks.Goals as goal
 
@@ -110,6 +111,11 @@ write_elif-returns-in_ok-write_block t c = rw (c.in-If.is, if_tree, sym c.deref.
 pub write_elif-returns-in_default : goal.write_elif-returns-in_default
 write_elif-returns-in_default t c = subst (Wrote c.args.out.now c.args.out.now) (sym (not_elif c.args.s.now c.in_default.not-If c.args.out.now.level)) (wrote_none c.args.out.now)
 
+pub write_alternative-write_elif-requires : goal.write_alternative-write_elif-requires
+write_alternative-write_elif-requires t c =
+    let a : 0 < length c.args.body.now = omega arith in
+    let h : _ = no_higher (λ xs. stmt_heights (stmts (map stmt_of xs))) (λ x. stmt_height (stmt_of x)) (λ _ _. refl) c.args.body.now 0 _ a c.index-body-0.is in (omega (arith, h), tt)
+
 pub write_alternative-returns-then-count-ne1 : goal.write_alternative-returns-then-count-ne1
 write_alternative-returns-then-count-ne1 t c = IfOk-weaker _ _ _ (λ _ w. subst (Wrote c.args.out.now _) (not_one c.args.out.now.level c.args.body.now c.if-count-ne1.true) w) (c.write_clause.ensures else_header refl)
 
@@ -176,6 +182,9 @@ write_stmt-returns-in_ok-write_decorators-in-ClassDef t c = rw (c.in-ClassDef.is
 
 pub write_stmt-returns-in_default : goal.write_stmt-returns-in_default
 write_stmt-returns-in_default t c = IfOk-weaker _ _ _ (λ _ w. subst (Wrote c.args.out.now _) (not_compound c.args.s.now c.in_default.not-If c.in_default.not-While c.in_default.not-For c.in_default.not-AsyncFor c.in_default.not-With c.in_default.not-AsyncWith c.in_default.not-Try c.in_default.not-TryStar c.in_default.not-FunctionDef c.in_default.not-AsyncFunctionDef c.in_default.not-ClassDef c.args.out.now.level) w) c.write_line.ensures
+
+pub write_handler-write_block-requires : goal.write_handler-write_block-requires
+write_handler-write_block-requires t c = let h : _ = handler_height c.args.handler.now c.deref.result.now c.deref.ensures.value in (omega (arith, h), tt)
 
 pub write_handler-returns : goal.write_handler-returns
 write_handler-returns t c =

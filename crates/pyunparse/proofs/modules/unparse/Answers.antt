@@ -6,6 +6,6 @@ use Rattle.pywritten.specs.Pieces.{piece}
 use Rattle.pyunparse.specs.Inner.Lines.{in_utf8}
 use Rattle.pyunparse.proofs.modules.unparse.Goals as goal
 
-pub returns : goal.returns
-returns c = c.into_text.ensures ∙ c.in_ok-write_stmts.ensures.text
+pub returns-clause-text : goal.returns-clause-text
+returns-clause-text c = c.into_text.ensures ∙ c.in_ok-write_stmts.ensures.text
     ∙ (λ i. (c.new-out.ensures i).text ++ in_utf8 (lines_of piece (c.new-out.ensures i).level (stmts (map stmt_of (c.deref.ensures.value i)))))
