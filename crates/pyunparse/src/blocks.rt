@@ -244,11 +244,7 @@ fn write_try(
 
 /// Writes the handlers of a `try`.
 #[cycle(blocks)]
-fn write_handlers(
-    out: &mut TextWriter,
-    is_star: bool,
-    caught: &[Handler],
-) -> Result<(), AllocError>
+fn write_handlers(out: &mut TextWriter, is_star: bool, caught: &[Handler]) -> Result<(), AllocError>
     ensures { OnOk result (Wrote out.old out.new (modules.handler_lines piece out.old.level is_star (handlers (map handler_of caught.now)))) }
 {
     for handler in caught {
@@ -259,11 +255,7 @@ fn write_handlers(
 
 /// Writes a handler of a `try`.
 #[cycle(blocks)]
-fn write_handler(
-    out: &mut TextWriter,
-    is_star: bool,
-    handler: &Handler,
-) -> Result<(), AllocError>
+fn write_handler(out: &mut TextWriter, is_star: bool, handler: &Handler) -> Result<(), AllocError>
     ensures { OnOk result (Wrote out.old out.new (one_handler out.old.level is_star (handler_of handler.now))) }
 {
     out.begin_line()?;
