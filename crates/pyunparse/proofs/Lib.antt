@@ -4,6 +4,8 @@ pub mod ClassLemmas
 pub mod DottedLemmas
 pub mod FoldLemmas
 pub mod StatementLemmas
+pub mod HeaderLemmas
+pub mod HeightLemmas
 pub mod ImportLemmas
 pub mod LevelLemmas
 pub mod LineLemmas

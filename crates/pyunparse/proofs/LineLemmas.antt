@@ -1,17 +1,18 @@
 -- Carries: the lines of a module, and its blocks.
-use Rattle.std.proofs.Common.{◌≡◌, ◌∙◌, ℕ, zero, suc, ◌+◌, ◌-◌, ◌*◌, ◌<◌, ◌≤◌, ◌==◌, Bool, true, false, List, [], ◌∷◌, ◌++◌, map, length, drop, get_or, replicate, None, refl, ap, sym, arith, append-nil, append_assoc}
+use Rattle.std.proofs.Common.{◌≡◌, ◌∙◌, ℕ, zero, suc, ◌+◌, ◌-◌, ◌*◌, ◌<◌, ◌≤◌, ◌==◌, Bool, true, false, List, [], ◌∷◌, ◌++◌, map, length, drop, get_or, replicate, Option, None, refl, ap, sym, arith, append-nil, append_assoc}
 use Rattle.std.specs.Str.{encode_utf8_all}
 use Rattle.std.proofs.lemmas.Str.{encodes-append}
 use Rattle.std.proofs.lemmas.Bool.{false≢true}
 use Rattle.pynode.specs.declared.statements.Stmt as given_stmt
-use Rattle.pynode.specs.Trees.{stmts}
+use Rattle.pynode.specs.Trees
+use Rattle.pynode.specs.Trees.{Arguments, Expr, Identifier, Keywords, Stmts, TypeParam, stmts}
 use Rattle.pynode.specs.TreeOf.{stmt_of}
-use Rattle.pygrammar.specs.Lines.{Header}
+use Rattle.pygrammar.specs.Lines.{Header, class_head, else_header, function_head, if_header, loop_header, while_head}
 use Rattle.pyspacing.specs.Spacing.{Piece, line_text, lines_text, spaced}
-use Rattle.pywritten.specs.Modules.{WrittenLine, clause, header, line_of, lines_of, written_line}
+use Rattle.pywritten.specs.Modules.{WrittenLine, alternative, clause, decorators, header, line_of, lines_of, statement_lines, written_line}
 use Rattle.pywritten.specs.Pieces.{piece}
 use Rattle.pyunparse.specs.Inner.Folds.{puts}
-use Rattle.pyunparse.specs.Inner.Lines.{Blocked, Wrote, in_utf8, with_colon}
+use Rattle.pyunparse.specs.Inner.Lines.{Blocked, Wrote, def_lines, in_utf8, with_colon}
 use Rattle.pyunparse.specs.Inner.Writing.{Writing, behind}
 use Rattle.pyunparse.proofs.AloneLemmas.{not_zero}
 use Rattle.pyunparse.proofs.MemberLemmas.{dropped, none_left}
@@ -141,3 +142,28 @@ pub some_clause : (l : ℕ) (h : Header) (ss : List given_stmt.Stmt) (b : Bool) 
 unfolding lines_of
 some_clause l h [] b e f = absurd (false≢true (sym f ∙ e))
 some_clause l h (s ∷ ss) b e f = refl
+
+-- the lines of a statement, from those of its parts
+pub if_lines : (l : ℕ) (e : Expr) (body orelse : Stmts) → header piece l (if_header e) ∷ (lines_of piece (suc l) body ++ alternative piece l orelse) ≡ statement_lines piece l (Trees.If e body orelse)
+unfolding lines_of
+if_lines l e body orelse = refl
+
+pub while_lines : (l : ℕ) (e : Expr) (body orelse : Stmts) →
+    header piece l (loop_header (while_head e)) ∷ (lines_of piece (suc l) body ++ clause piece l else_header orelse) ≡ statement_lines piece l (Trees.While e body orelse)
+unfolding lines_of
+while_lines l e body orelse = refl
+
+pub function_lines : (l : ℕ) (x : Identifier) (a : Arguments) (body : Stmts) (ds : List Expr) (r : Option Expr) (ps : List TypeParam) →
+    decorators piece l ds ++ def_lines l (function_head false x ps a r) body ≡ statement_lines piece l (Trees.FunctionDef x a body ds r ps)
+unfolding lines_of
+function_lines l x a body ds r ps = refl
+
+pub async_function_lines : (l : ℕ) (x : Identifier) (a : Arguments) (body : Stmts) (ds : List Expr) (r : Option Expr) (ps : List TypeParam) →
+    decorators piece l ds ++ def_lines l (function_head true x ps a r) body ≡ statement_lines piece l (Trees.AsyncFunctionDef x a body ds r ps)
+unfolding lines_of
+async_function_lines l x a body ds r ps = refl
+
+pub class_lines : (l : ℕ) (x : Identifier) (es : List Expr) (ks : Keywords) (body : Stmts) (ds : List Expr) (ps : List TypeParam) →
+    decorators piece l ds ++ def_lines l (class_head x ps es ks) body ≡ statement_lines piece l (Trees.ClassDef x es ks body ds ps)
+unfolding lines_of
+class_lines l x es ks body ds ps = refl

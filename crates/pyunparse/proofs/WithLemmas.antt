@@ -1,5 +1,5 @@
 -- Carries: need_brackets, is_bare_tuple, write_with_header. The items of a `with`.
-use Rattle.std.proofs.Common.{◌≡◌, ◌∙◌, ℕ, ◌==◌, Bool, true, false, not, ◌&&◌, if◌then◌else◌, List, [], ◌∷◌, ◌++◌, Option, None, Some, length, get_or, map, refl, ap, sym, append-nil, append_assoc}
+use Rattle.std.proofs.Common.{◌≡◌, ◌∙◌, ◌==◌, Bool, true, false, not, ◌&&◌, if◌then◌else◌, List, [], ◌∷◌, ◌++◌, Option, None, Some, length, get_or, map, refl, ap, sym, append-nil, append_assoc}
 use Rattle.std.specs.Prelude.{is_some}
 use Rattle.std.proofs.lemmas.Bool.{false≢true}
 use Rattle.pylexeme.specs.declared.kinds.Exact.TheVariants.{Colon}
@@ -67,8 +67,8 @@ with_on after s b is r s1 s2 s3 s4 s5 h e1 e2 e3 e4 e5 =
     let L : List Piece = listed piece (map (item piece) is) in
     six after s (async piece b) (word piece Key.With ∷ []) (opened (not r)) L (closed (not r)) colon s1 s2 s3 s4 s5 e1 e2 e3 e4 e5
     ∙ ap (λ z. puts after s (async piece b ++ (word piece Key.With ∷ z)))
-        (ap (λ z. opened (not r) ++ z) (sym (append_assoc L (closed (not r)) colon))
-        ∙ sym (append_assoc (opened (not r)) (L ++ closed (not r)) colon)
-        ∙ ap (λ z. (opened (not z) ++ (L ++ closed (not z))) ++ colon) h
-        ∙ ap (λ z. z ++ colon) (items_parts is))
+    (ap (λ z. opened (not r) ++ z) (sym (append_assoc L (closed (not r)) colon))
+    ∙ sym (append_assoc (opened (not r)) (L ++ closed (not r)) colon)
+    ∙ ap (λ z. (opened (not z) ++ (L ++ closed (not z))) ++ colon) h
+    ∙ ap (λ z. z ++ colon) (items_parts is))
     ∙ ap (puts after s) (sym (append_assoc (async piece b) (word piece Key.With ∷ items piece is) colon))

@@ -46,6 +46,7 @@ fn write_block(out: &mut TextWriter, body: &[Stmt]) -> Result<(), AllocError>
 
 /// Writes a statement.
 #[cycle(blocks)]
+#[tactic(auto, using(pynode::proofs::Callers::StmtShapes::stmt_shapes))]
 fn write_stmt(out: &mut TextWriter, s: &Stmt) -> Result<(), AllocError>
     ensures { OnOk result (Wrote out.old out.new (modules.statement_lines piece out.old.level (stmt_of s.now))) }
 {
@@ -243,11 +244,7 @@ fn write_try(
 
 /// Writes the handlers of a `try`.
 #[cycle(blocks)]
-fn write_handlers(
-    out: &mut TextWriter,
-    is_star: bool,
-    caught: &[Handler],
-) -> Result<(), AllocError>
+fn write_handlers(out: &mut TextWriter, is_star: bool, caught: &[Handler]) -> Result<(), AllocError>
     ensures { OnOk result (Wrote out.old out.new (modules.handler_lines piece out.old.level is_star (handlers (map handler_of caught.now)))) }
 {
     for handler in caught {
@@ -258,11 +255,7 @@ fn write_handlers(
 
 /// Writes a handler of a `try`.
 #[cycle(blocks)]
-fn write_handler(
-    out: &mut TextWriter,
-    is_star: bool,
-    handler: &Handler,
-) -> Result<(), AllocError>
+fn write_handler(out: &mut TextWriter, is_star: bool, handler: &Handler) -> Result<(), AllocError>
     ensures { OnOk result (Wrote out.old out.new (one_handler out.old.level is_star (handler_of handler.now))) }
 {
     out.begin_line()?;
@@ -308,6 +301,7 @@ fn write_alternative(out: &mut TextWriter, body: &[Stmt]) -> Result<(), AllocErr
 
 /// Writes an `if` as an `elif`, and any other statement not at all.
 #[cycle(blocks)]
+#[tactic(auto, using(pynode::proofs::Callers::StmtShapes::stmt_shapes))]
 fn write_elif(out: &mut TextWriter, s: &Stmt) -> Result<(), AllocError>
     ensures { OnOk result (Wrote out.old out.new (elif_lines out.old.level (stmt_of s.now))) }
 {

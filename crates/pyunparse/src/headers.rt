@@ -236,12 +236,14 @@ pub(crate) fn write_function_header<W: Writer>(
 fn write_bases<W: Writer>(out: &mut W, bases: &[Expr], words: &[Word]) -> Result<(), AllocError>
     ensures { OnOk result (out.new ≡ puts W.after out.old (written.bases piece (map tree_of bases.now) (keywords (map keyword_of words.now)))) }
 {
-    if bases.is_empty() && words.is_empty() {
+    let first = bases.is_empty();
+    let none = first & words.is_empty();
+    if none {
         return Ok(());
     }
     put_sign(out, Exact::LPar, true, true)?;
     write_members(out, true, Between::Comma, Level::Named, bases)?;
-    write_keywords(out, bases.is_empty(), words)?;
+    write_keywords(out, first, words)?;
     put_sign(out, Exact::RPar, true, false)
 }
 

@@ -40,10 +40,7 @@ fn write_decorator(out: &mut TextWriter, e: &Expr) -> Result<(), AllocError>
 }
 
 /// Writes decorators, each on a line of its own.
-pub(crate) fn write_decorators(
-    out: &mut TextWriter,
-    decorators: &[Expr],
-) -> Result<(), AllocError>
+pub(crate) fn write_decorators(out: &mut TextWriter, decorators: &[Expr]) -> Result<(), AllocError>
     ensures { OnOk result (Wrote out.old out.new (modules.decorators piece out.old.level (map tree_of decorators.now))) }
 {
     for e in decorators {

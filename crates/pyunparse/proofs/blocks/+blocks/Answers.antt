@@ -1,4 +1,4 @@
-use Rattle.std.proofs.Common.{◌≡◌, ◌++◌, ◌∷◌, [], ◌∙◌, ap, arith, false, true, map, refl, subst, suc, sym}
+use Rattle.std.proofs.Common.{◌++◌, ◌∷◌, [], ◌∙◌, ◌<◌, ap, arith, false, true, length, map, refl, subst, suc, sym}
 use Rattle.std.proofs.lemmas.Result.{IfOk-weaker}
 use Rattle.pynode.specs.declared.statements.Handler as given_handler
 use Rattle.pynode.specs.Trees.{handlers, keywords, stmts}
@@ -14,7 +14,8 @@ use Rattle.pyunparse.specs.Inner.Writing.{behind}
 use Rattle.pynode.proofs.Callers.StmtShapes.{async_for_tree, async_function_def_tree, async_with_tree, class_def_tree, for_tree, function_def_tree, handler_tree, if_tree, try_star_tree, try_tree, while_tree, with_tree}
 use Rattle.pyunparse.specs.Inner.Lines.{Wrote, def_lines, one_handler}
 use Rattle.pyunparse.proofs.StatementLemmas.{not_compound, not_elif, not_one, one_if, one_other}
-use Rattle.pyunparse.proofs.LineLemmas.{all_lines, block_wrote, deeper, header_block, line_on, no_clause, some_clause, wrote_none, wrote_then}
+use Rattle.pyunparse.proofs.LineLemmas.{all_lines, async_function_lines, block_wrote, class_lines, deeper, function_lines, header_block, if_lines, line_on, no_clause, some_clause, while_lines, wrote_none, wrote_then}
+use Rattle.pyunparse.proofs.HeightLemmas.{handler_height}
 use Rattle.pyunparse.proofs.MemberLemmas.{no_higher}
 use Rattle.pyunparse.proofs.blocks.+blocks.Goals as goal
 
@@ -55,16 +56,23 @@ pub write_handlers-write_handler-requires : goal.write_handlers-write_handler-re
 write_handlers-write_handler-requires t c = let h : _ = no_higher (λ xs. handler_heights (handlers (map handler_of xs))) (λ x. stmt_heights (stmts (handler_of x).body)) (λ _ _. refl) _ _ _ c.loop-handler-test.true c.handler-item.is in (omega (arith, h), tt)
 
 pub write_if-returns : goal.write_if-returns
-unfolding lines_of
-write_if-returns t c = IfOk-weaker _ _ _ (λ _ w. wrote_then c.args.out.now _ _ _ (λ n. alternative piece n (stmts (map stmt_of c.args.orelse.now)))
-    (header_block c.args.out.now _ _ _ (if_header (tree_of c.args.test.now)) (λ n. lines_of piece (suc n) (stmts (map stmt_of c.args.body.now)))
-    c.in_ok-begin_line.ensures c.in_ok-write_test_header.ensures c.in_ok-write_block.ensures) w) c.write_alternative.ensures
+write_if-returns t c =
+    let n = c.args.out.now.level in
+    let e = tree_of c.args.test.now in
+    let body = stmts (map stmt_of c.args.body.now) in
+    let orelse = stmts (map stmt_of c.args.orelse.now) in
+    IfOk-weaker _ _ _ (λ _ w. subst (Wrote c.args.out.now _) (if_lines n e body orelse) (wrote_then c.args.out.now _ _ _ (λ l. alternative piece l orelse)
+    (header_block c.args.out.now _ _ _ (if_header e) (λ l. lines_of piece (suc l) body) c.in_ok-begin_line.ensures c.in_ok-write_test_header.ensures c.in_ok-write_block.ensures) w)) c.write_alternative.ensures
 
 pub write_while-returns : goal.write_while-returns
-unfolding lines_of
-write_while-returns t c = IfOk-weaker _ _ _ (λ _ w. wrote_then c.args.out.now _ _ _ (λ n. clause piece n else_header (stmts (map stmt_of c.args.orelse.now)))
-    (header_block c.args.out.now _ _ _ (loop_header (while_head (tree_of c.args.test.now))) (λ n. lines_of piece (suc n) (stmts (map stmt_of c.args.body.now)))
-    c.in_ok-begin_line.ensures c.in_ok-write_test_header.ensures c.in_ok-write_block.ensures) w) (c.write_clause.ensures else_header refl)
+write_while-returns t c =
+    let n = c.args.out.now.level in
+    let e = tree_of c.args.test.now in
+    let body = stmts (map stmt_of c.args.body.now) in
+    let orelse = stmts (map stmt_of c.args.orelse.now) in
+    IfOk-weaker _ _ _ (λ _ w. subst (Wrote c.args.out.now _) (while_lines n e body orelse) (wrote_then c.args.out.now _ _ _ (λ l. clause piece l else_header orelse)
+    (header_block c.args.out.now _ _ _ (loop_header (while_head e)) (λ l. lines_of piece (suc l) body) c.in_ok-begin_line.ensures c.in_ok-write_test_header.ensures c.in_ok-write_block.ensures) w))
+    (c.write_clause.ensures else_header refl)
 
 pub write_for-returns : goal.write_for-returns
 write_for-returns t c = IfOk-weaker _ _ _ (λ _ w. wrote_then c.args.out.now _ _ _ (λ n. clause piece n else_header (stmts (map stmt_of c.args.orelse.now)))
@@ -86,12 +94,11 @@ write_class-returns t c = IfOk-weaker _ _ _ (λ _ b. header_block c.args.out.now
     c.in_ok-begin_line.ensures c.in_ok-write_class_header.ensures b) c.write_block.ensures
 
 pub write_try-returns : goal.write_try-returns
-unfolding lines_of
 write_try-returns t c = IfOk-weaker _ _ _ (λ _ w. wrote_then c.args.out.now _ _ _ (λ n. handler_lines piece n c.args.is_star (handlers (map handler_of c.args.caught.now)) ++ (clause piece n else_header (stmts (map stmt_of c.args.orelse.now)) ++ clause piece n finally_header (stmts (map stmt_of c.args.finalbody.now))))
     (header_block c.args.out.now _ _ _ try_header (λ n. lines_of piece (suc n) (stmts (map stmt_of c.args.body.now)))
     c.in_ok-begin_line.ensures c.in_ok-write_word_header.ensures c.in_ok-write_block.ensures)
     (wrote_then _ _ _ _ (λ n. clause piece n else_header (stmts (map stmt_of c.args.orelse.now)) ++ clause piece n finally_header (stmts (map stmt_of c.args.finalbody.now))) c.in_ok-write_handlers.ensures
-    (wrote_then _ _ _ _ (λ n. clause piece n finally_header (stmts (map stmt_of c.args.finalbody.now))) (c.in_ok-write_clause.ensures else_header refl) w))) (c.write_clause.ensures finally_header refl)
+    (wrote_then _ _ _ _ (λ n. clause piece n finally_header (stmts (map stmt_of c.args.finalbody.now))) (c.in_ok-write_clause.ensures else_header refl) w))) (c.write_clause-2.ensures finally_header refl)
 
 pub write_block-returns : goal.write_block-returns
 write_block-returns t c = block_wrote c.args.out.now _ _ _ _ (λ n. lines_of piece n (stmts (map stmt_of c.args.body.now)))
@@ -100,15 +107,19 @@ write_block-returns t c = block_wrote c.args.out.now _ _ _ _ (λ n. lines_of pie
 pub write_block-dedent-requires : goal.write_block-dedent-requires
 write_block-dedent-requires t c = deeper c.args.out.now _ _ _ _ c.in_ok-end_line.ensures c.in_ok-indent.ensures c.in_ok-write_stmts.ensures
 
-pub write_elif-returns-in_ok-write_block : goal.write_elif-returns-in_ok-write_block
-unfolding lines_of
-write_elif-returns-in_ok-write_block t c = rw (c.in-If.is, if_tree, sym c.deref.ensures.value, sym c.deref-2.ensures.value)
-    (IfOk-weaker _ _ _ (λ _ w. wrote_then c.args.out.now _ _ _ (λ n. alternative piece n (stmts (map stmt_of c.deref-2.result.now)))
+pub write_elif-returns-in_ok-write_block-in-If : goal.write_elif-returns-in_ok-write_block-in-If
+write_elif-returns-in_ok-write_block-in-If t c = rw (c.in-If.is, if_tree, sym c.deref.ensures.value, sym c.deref-in-If.ensures.value)
+    (IfOk-weaker _ _ _ (λ _ w. wrote_then c.args.out.now _ _ _ (λ n. alternative piece n (stmts (map stmt_of c.deref-in-If.result.now)))
     (header_block c.args.out.now _ _ _ (elif_header (tree_of c.in-If.test)) (λ n. lines_of piece (suc n) (stmts (map stmt_of c.deref.result.now)))
-    c.in_ok-begin_line.ensures c.in_ok-write_test_header.ensures c.in_ok-write_block.ensures) w) c.write_alternative.ensures)
+    c.in_ok-begin_line-in-If.ensures c.in_ok-write_test_header-in-If.ensures c.in_ok-write_block-in-If.ensures) w) c.write_alternative.ensures)
 
 pub write_elif-returns-in_default : goal.write_elif-returns-in_default
 write_elif-returns-in_default t c = subst (Wrote c.args.out.now c.args.out.now) (sym (not_elif c.args.s.now c.in_default.not-If c.args.out.now.level)) (wrote_none c.args.out.now)
+
+pub write_alternative-write_elif-requires : goal.write_alternative-write_elif-requires
+write_alternative-write_elif-requires t c =
+    let a : 0 < length c.args.body.now = omega arith in
+    let h : _ = no_higher (λ xs. stmt_heights (stmts (map stmt_of xs))) (λ x. stmt_height (stmt_of x)) (λ _ _. refl) c.args.body.now 0 _ a c.index-body-0.is in (omega (arith, h), tt)
 
 pub write_alternative-returns-then-count-ne1 : goal.write_alternative-returns-then-count-ne1
 write_alternative-returns-then-count-ne1 t c = IfOk-weaker _ _ _ (λ _ w. subst (Wrote c.args.out.now _) (not_one c.args.out.now.level c.args.body.now c.if-count-ne1.true) w) (c.write_clause.ensures else_header refl)
@@ -123,7 +134,7 @@ write_alternative-returns t c = IfOk-weaker _ _ _ (λ _ w. subst (Wrote c.args.o
 
 pub write_stmt-returns-in-If : goal.write_stmt-returns-in-If
 unfolding lines_of
-write_stmt-returns-in-If t c = rw (c.in-If.is, if_tree, sym c.deref.ensures.value, sym c.deref-2.ensures.value) c.write_if.ensures
+write_stmt-returns-in-If t c = rw (c.in-If.is, if_tree, sym c.deref.ensures.value, sym c.deref-in-If.ensures.value) c.write_if.ensures
 
 pub write_stmt-returns-in-While : goal.write_stmt-returns-in-While
 unfolding lines_of
@@ -153,29 +164,50 @@ pub write_stmt-returns-in-TryStar : goal.write_stmt-returns-in-TryStar
 unfolding lines_of
 write_stmt-returns-in-TryStar t c = rw (c.in-TryStar.is, try_star_tree, sym c.deref-in-TryStar.ensures.value, sym c.deref-in-TryStar-2.ensures.value, sym c.deref-in-TryStar-3.ensures.value, sym c.deref-in-TryStar-4.ensures.value) c.write_try-in-TryStar.ensures
 
-pub write_stmt-returns-in_ok-write_decorators : goal.write_stmt-returns-in_ok-write_decorators
-unfolding lines_of
-write_stmt-returns-in_ok-write_decorators t c = rw (c.in-FunctionDef.is, function_def_tree, sym c.deref-in-FunctionDef.ensures.value, sym c.deref-in-FunctionDef-2.ensures.value, sym c.deref-in-FunctionDef-3.ensures, sym c.deref-in-FunctionDef-4.ensures.value) (IfOk-weaker _ _ _
-    (λ _ w. wrote_then c.args.out.now _ _ (decorators piece c.args.out.now.level (map tree_of c.deref-in-FunctionDef.result.now))
-    (λ n. def_lines n (function_head false c.in-FunctionDef.name (map type_param_of c.deref-in-FunctionDef-2.result.now) (arguments_of c.deref-in-FunctionDef-3.result.now) (boxed_of c.in-FunctionDef.returns)) (stmts (map stmt_of c.deref-in-FunctionDef-4.result.now)))
-    c.in_ok-write_decorators.ensures w) c.write_function.ensures)
+pub write_stmt-returns-in_ok-write_decorators-in-FunctionDef : goal.write_stmt-returns-in_ok-write_decorators-in-FunctionDef
+write_stmt-returns-in_ok-write_decorators-in-FunctionDef t c =
+    let n = c.args.out.now.level in
+    let x = c.in-FunctionDef.name in
+    let ds = map tree_of c.deref-in-FunctionDef.result.now in
+    let ps = map type_param_of c.deref-in-FunctionDef-2.result.now in
+    let a = arguments_of c.deref-in-FunctionDef-3.result.now in
+    let r = boxed_of c.in-FunctionDef.returns in
+    let body = stmts (map stmt_of c.deref-in-FunctionDef-4.result.now) in
+    rw (c.in-FunctionDef.is, function_def_tree, sym c.deref-in-FunctionDef.ensures.value, sym c.deref-in-FunctionDef-2.ensures.value, sym c.deref-in-FunctionDef-3.ensures, sym c.deref-in-FunctionDef-4.ensures.value)
+    (IfOk-weaker _ _ _ (λ _ w. subst (Wrote c.args.out.now _) (function_lines n x a body ds r ps) (wrote_then c.args.out.now _ _ (decorators piece n ds) (λ l. def_lines l (function_head false x ps a r) body)
+    c.in_ok-write_decorators-in-FunctionDef.ensures w)) c.write_function.ensures)
 
 pub write_stmt-returns-in_ok-write_decorators-in-AsyncFunctionDef : goal.write_stmt-returns-in_ok-write_decorators-in-AsyncFunctionDef
-unfolding lines_of
-write_stmt-returns-in_ok-write_decorators-in-AsyncFunctionDef t c = rw (c.in-AsyncFunctionDef.is, async_function_def_tree, sym c.deref-in-AsyncFunctionDef.ensures.value, sym c.deref-in-AsyncFunctionDef-2.ensures.value, sym c.deref-in-AsyncFunctionDef-3.ensures, sym c.deref-in-AsyncFunctionDef-4.ensures.value) (IfOk-weaker _ _ _
-    (λ _ w. wrote_then c.args.out.now _ _ (decorators piece c.args.out.now.level (map tree_of c.deref-in-AsyncFunctionDef.result.now))
-    (λ n. def_lines n (function_head true c.in-AsyncFunctionDef.name (map type_param_of c.deref-in-AsyncFunctionDef-2.result.now) (arguments_of c.deref-in-AsyncFunctionDef-3.result.now) (boxed_of c.in-AsyncFunctionDef.returns)) (stmts (map stmt_of c.deref-in-AsyncFunctionDef-4.result.now)))
-    c.in_ok-write_decorators-in-AsyncFunctionDef.ensures w) c.write_function-in-AsyncFunctionDef.ensures)
+write_stmt-returns-in_ok-write_decorators-in-AsyncFunctionDef t c =
+    let n = c.args.out.now.level in
+    let x = c.in-AsyncFunctionDef.name in
+    let ds = map tree_of c.deref-in-AsyncFunctionDef.result.now in
+    let ps = map type_param_of c.deref-in-AsyncFunctionDef-2.result.now in
+    let a = arguments_of c.deref-in-AsyncFunctionDef-3.result.now in
+    let r = boxed_of c.in-AsyncFunctionDef.returns in
+    let body = stmts (map stmt_of c.deref-in-AsyncFunctionDef-4.result.now) in
+    rw (c.in-AsyncFunctionDef.is, async_function_def_tree, sym c.deref-in-AsyncFunctionDef.ensures.value, sym c.deref-in-AsyncFunctionDef-2.ensures.value, sym c.deref-in-AsyncFunctionDef-3.ensures, sym c.deref-in-AsyncFunctionDef-4.ensures.value)
+    (IfOk-weaker _ _ _ (λ _ w. subst (Wrote c.args.out.now _) (async_function_lines n x a body ds r ps) (wrote_then c.args.out.now _ _ (decorators piece n ds) (λ l. def_lines l (function_head true x ps a r) body)
+    c.in_ok-write_decorators-in-AsyncFunctionDef.ensures w)) c.write_function-in-AsyncFunctionDef.ensures)
 
 pub write_stmt-returns-in_ok-write_decorators-in-ClassDef : goal.write_stmt-returns-in_ok-write_decorators-in-ClassDef
-unfolding lines_of
-write_stmt-returns-in_ok-write_decorators-in-ClassDef t c = rw (c.in-ClassDef.is, class_def_tree, sym c.deref-in-ClassDef.ensures.value, sym c.deref-in-ClassDef-2.ensures.value, sym c.deref-in-ClassDef-3.ensures.value, sym c.deref-in-ClassDef-4.ensures.value, sym c.deref-in-ClassDef-5.ensures.value) (IfOk-weaker _ _ _
-    (λ _ w. wrote_then c.args.out.now _ _ (decorators piece c.args.out.now.level (map tree_of c.deref-in-ClassDef.result.now))
-    (λ n. def_lines n (class_head c.in-ClassDef.name (map type_param_of c.deref-in-ClassDef-2.result.now) (map tree_of c.deref-in-ClassDef-3.result.now) (keywords (map keyword_of c.deref-in-ClassDef-4.result.now))) (stmts (map stmt_of c.deref-in-ClassDef-5.result.now)))
-    c.in_ok-write_decorators-in-ClassDef.ensures w) c.write_class.ensures)
+write_stmt-returns-in_ok-write_decorators-in-ClassDef t c =
+    let n = c.args.out.now.level in
+    let x = c.in-ClassDef.name in
+    let ds = map tree_of c.deref-in-ClassDef.result.now in
+    let ps = map type_param_of c.deref-in-ClassDef-2.result.now in
+    let es = map tree_of c.deref-in-ClassDef-3.result.now in
+    let ks = keywords (map keyword_of c.deref-in-ClassDef-4.result.now) in
+    let body = stmts (map stmt_of c.deref-in-ClassDef-5.result.now) in
+    rw (c.in-ClassDef.is, class_def_tree, sym c.deref-in-ClassDef.ensures.value, sym c.deref-in-ClassDef-2.ensures.value, sym c.deref-in-ClassDef-3.ensures.value, sym c.deref-in-ClassDef-4.ensures.value, sym c.deref-in-ClassDef-5.ensures.value)
+    (IfOk-weaker _ _ _ (λ _ w. subst (Wrote c.args.out.now _) (class_lines n x es ks body ds ps) (wrote_then c.args.out.now _ _ (decorators piece n ds) (λ l. def_lines l (class_head x ps es ks) body)
+    c.in_ok-write_decorators-in-ClassDef.ensures w)) c.write_class.ensures)
 
 pub write_stmt-returns-in_default : goal.write_stmt-returns-in_default
 write_stmt-returns-in_default t c = IfOk-weaker _ _ _ (λ _ w. subst (Wrote c.args.out.now _) (not_compound c.args.s.now c.in_default.not-If c.in_default.not-While c.in_default.not-For c.in_default.not-AsyncFor c.in_default.not-With c.in_default.not-AsyncWith c.in_default.not-Try c.in_default.not-TryStar c.in_default.not-FunctionDef c.in_default.not-AsyncFunctionDef c.in_default.not-ClassDef c.args.out.now.level) w) c.write_line.ensures
+
+pub write_handler-write_block-requires : goal.write_handler-write_block-requires
+write_handler-write_block-requires t c = let h : _ = handler_height c.args.handler.now c.deref.result.now c.deref.ensures.value in (omega (arith, h), tt)
 
 pub write_handler-returns : goal.write_handler-returns
 write_handler-returns t c =
@@ -184,10 +216,9 @@ write_handler-returns t c =
     (λ n. lines_of piece (suc n) (stmts (map stmt_of c.deref.result.now))) c.in_ok-begin_line.ensures c.in_ok-write_except_header.ensures b) c.write_block.ensures)
 
 pub write_clause-returns : goal.write_clause-returns
-unfolding lines_of
 write_clause-returns t c = λ h e. IfOk-weaker _ _ _ (λ _ b. subst (Wrote c.args.out.now _) (some_clause c.args.out.now.level h c.args.body.now _ c.is_empty.ensures c.if-is_empty.false)
     (header_block c.args.out.now _ _ _ h (λ n. lines_of piece (suc n) (stmts (map stmt_of c.args.body.now)))
-    c.in_ok-begin_line.ensures (c.in_ok-write_word_header.ensures ∙ ap (λ z. puts behind _ (z ++ trailing piece Colon ∷ [])) (sym e)) b)) c.write_block.ensures
+    c.in_ok-begin_line.ensures (c.in_ok-write_word_header.ensures ∙ ap (λ z. puts behind c.begin_line.new.self (z ++ trailing piece Colon ∷ [])) (sym e)) b)) c.write_block.ensures
 
 pub write_clause-returns-then-is_empty : goal.write_clause-returns-then-is_empty
 write_clause-returns-then-is_empty t c = λ h e. subst (Wrote c.args.out.now c.args.out.now) (no_clause c.args.out.now.level h c.args.body.now _ c.is_empty.ensures c.if-is_empty.true) (wrote_none c.args.out.now)

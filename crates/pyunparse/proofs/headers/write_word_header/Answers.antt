@@ -1,0 +1,10 @@
+use Rattle.std.proofs.Common.{◌∷◌, []}
+use Rattle.std.proofs.lemmas.Result.{IfOk-equal}
+use Rattle.pylexeme.specs.declared.kinds.Exact.TheVariants.{Colon}
+use Rattle.pywritten.specs.Pieces.{piece}
+use Rattle.pywritten.specs.Written.{trailing, word}
+use Rattle.pyunparse.proofs.FoldLemmas.{two}
+use Rattle.pyunparse.proofs.headers.write_word_header.Goals as goal
+
+pub returns : goal.returns
+returns g c = IfOk-equal _ _ _ _ c.put_colon.ensures (two g.W.Writer.after c.args.out.now (word piece c.args.word ∷ []) (trailing piece Colon ∷ []) _ c.in_ok-put_word.ensures)
