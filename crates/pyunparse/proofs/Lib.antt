@@ -1,26 +1,26 @@
-pub mod AloneLemmas
-pub mod ArgumentLemmas
-pub mod ClassLemmas
-pub mod DottedLemmas
-pub mod FoldLemmas
-pub mod StatementLemmas
-pub mod HeaderLemmas
-pub mod HeightLemmas
-pub mod ImportLemmas
-pub mod LevelLemmas
-pub mod LineLemmas
-pub mod MeasureLemmas
-pub mod MemberLemmas
-pub mod ParameterLemmas
-pub mod PartLemmas
-pub mod ReprLemmas
-pub mod ShapeLemmas
-pub mod SimpleLemmas
-pub mod SpaceLemmas
-pub mod StatedLemmas
-pub mod StarLemmas
-pub mod TokenLemmas
-pub mod TupleLemmas
-pub mod TypeLemmas
-pub mod WithLemmas
-pub mod WritingLemmas
+mod AloneLemmas
+mod ArgumentLemmas
+mod ClassLemmas
+mod DottedLemmas
+mod FoldLemmas
+mod StatementLemmas
+mod HeaderLemmas
+mod HeightLemmas
+mod ImportLemmas
+mod LevelLemmas
+mod LineLemmas
+mod MeasureLemmas
+mod MemberLemmas
+mod ParameterLemmas
+mod PartLemmas
+mod ReprLemmas
+mod ShapeLemmas
+mod SimpleLemmas
+mod SpaceLemmas
+mod StatedLemmas
+mod StarLemmas
+mod TokenLemmas
+mod TupleLemmas
+mod TypeLemmas
+mod WithLemmas
+mod WritingLemmas

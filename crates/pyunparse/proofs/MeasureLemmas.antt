@@ -82,16 +82,22 @@ module _ (a : Arguments) where
   -- the heights of the seven parts
   abbrev P : ℕ
   P = arg_heights (args (map arg_of (given_arguments.out-Arguments a).posonlyargs.items))
+
   abbrev Q : ℕ
   Q = arg_heights (args (map arg_of (given_arguments.out-Arguments a).args.items))
+
   abbrev V : ℕ
   V = optional_arg_height (optional_arg (arg_option_of (given_arguments.out-Arguments a).vararg))
+
   abbrev O : ℕ
   O = arg_heights (args (map arg_of (given_arguments.out-Arguments a).kwonlyargs.items))
+
   abbrev E : ℕ
   E = optional_heights (optionals (map option_of (given_arguments.out-Arguments a).kw_defaults.items))
+
   abbrev K : ℕ
   K = optional_arg_height (optional_arg (arg_option_of (given_arguments.out-Arguments a).kwarg))
+
   abbrev D : ℕ
   D = heights (exprs (map tree_of (given_arguments.out-Arguments a).defaults.items))
 
@@ -103,7 +109,7 @@ module _ (a : Arguments) where
       max (arg_heights (args (map arg_of ps))) (max (arg_heights (args (map arg_of qs))) (heights (exprs (map tree_of ds)))) ≤ arguments_height (arguments_of a)
   places_lower ps qs ds hp hq hd =
       let same : max (arg_heights (args (map arg_of ps))) (max (arg_heights (args (map arg_of qs))) (heights (exprs (map tree_of ds)))) ≡ max P (max Q D) =
-          (λ i. max (arg_heights (args (map arg_of (hp i)))) (max (arg_heights (args (map arg_of (hq i)))) (heights (exprs (map tree_of (hd i)))))) in
+      (λ i. max (arg_heights (args (map arg_of (hp i)))) (max (arg_heights (args (map arg_of (hq i)))) (heights (exprs (map tree_of (hd i)))))) in
       rw (same, whole) (seven_places P Q V O E K D)
 
   pub star_lower : V ≤ arguments_height (arguments_of a)
@@ -114,7 +120,7 @@ module _ (a : Arguments) where
       max (arg_heights (args (map arg_of ks))) (optional_heights (optionals (map option_of es))) ≤ arguments_height (arguments_of a)
   keyword_only_lower ks es hk he =
       let same : max (arg_heights (args (map arg_of ks))) (optional_heights (optionals (map option_of es))) ≡ max O E =
-          (λ i. max (arg_heights (args (map arg_of (hk i)))) (optional_heights (optionals (map option_of (he i))))) in
+      (λ i. max (arg_heights (args (map arg_of (hk i)))) (optional_heights (optionals (map option_of (he i))))) in
       rw (same, whole) (seven_keyword_only P Q V O E K D)
 
   pub gathered_lower : K ≤ arguments_height (arguments_of a)

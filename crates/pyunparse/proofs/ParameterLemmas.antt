@@ -284,10 +284,10 @@ parameters_on after s ps qs ks v k kds ds first none s1 s2 s3 hf hn e1 e2 e3 =
     let q : (is_nil P && is_nil V) ≡ (first && (a && is_nil ks)) = (λ i. p i && no_star v ks i) in
     let r : ((is_nil P && is_nil V) && is_nil B) ≡ none = ap (λ z. z && is_nil B) (q ∙ and_assoc first a (is_nil ks)) ∙ nil_beside (first && a) ks (defaults piece kds) ∙ sym (hn ∙ and_assoc first a (is_nil ks)) in
     let whole : members true comma (P ++ (V ++ (B ++ K))) ≡ members true comma P ++ (members first comma V ++ (members false comma B ++ members none comma K)) =
-        members_both true comma P (V ++ (B ++ K))
-        ∙ ap (λ z. members true comma P ++ z) (members_both (is_nil P) comma V (B ++ K) ∙ (λ i. members (p i) comma V ++ members (is_nil P && is_nil V) comma (B ++ K))
-        ∙ ap (λ z. members first comma V ++ z) (members_both (is_nil P && is_nil V) comma B K ∙ (λ i. members (q i) comma B ++ members (r i) comma K)
-        ∙ ap (λ z. z ++ members none comma K) (none_first first a ks kds))) in
+    members_both true comma P (V ++ (B ++ K))
+    ∙ ap (λ z. members true comma P ++ z) (members_both (is_nil P) comma V (B ++ K) ∙ (λ i. members (p i) comma V ++ members (is_nil P && is_nil V) comma (B ++ K))
+    ∙ ap (λ z. members first comma V ++ z) (members_both (is_nil P && is_nil V) comma B K ∙ (λ i. members (q i) comma B ++ members (r i) comma K)
+    ∙ ap (λ z. z ++ members none comma K) (none_first first a ks kds))) in
     four after s (members true comma P) (members first comma V) (members false comma B) (members none comma K) s1 s2 s3 e1 e2 e3
     ∙ ap (puts after s) (sym whole)
 

@@ -61,7 +61,7 @@ pub literal_on : (old w : Writing) (t out : List ℕ) → IsNoSign t →
     record { text = out; last = w.last; level = w.level } ≡ behind old (literal t)
 literal_on old w t out n h e =
     let a : out ≡ old.text ++ (blank old.last (literal t) ++ t) =
-        e ∙ ap (λ z. z.text ++ t) h ∙ append_assoc old.text (blank old.last (literal [])) t ∙ ap (λ z. old.text ++ (z ++ t)) (sym (same_blank old.last t n)) in
+    e ∙ ap (λ z. z.text ++ t) h ∙ append_assoc old.text (blank old.last (literal [])) t ∙ ap (λ z. old.text ++ (z ++ t)) (sym (same_blank old.last t n)) in
     let b : w.last ≡ Some (edge_of (literal t)) = ap (λ z. z.last) h ∙ ap Some (sym (same_edge t n)) in
     (λ i. record { text = a i; last = b i; level = ap (λ z. z.level) h i })
 

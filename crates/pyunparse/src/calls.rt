@@ -161,10 +161,7 @@ fn write_keyword<W: Writer>(out: &mut W, word: &Keyword) -> Result<(), AllocErro
 }
 
 /// Writes the name of an argument with its `=`, or `**`.
-fn put_argument_name<W: Writer>(
-    out: &mut W,
-    name: &Option<Identifier>,
-) -> Result<(), AllocError>
+fn put_argument_name<W: Writer>(out: &mut W, name: &Option<Identifier>) -> Result<(), AllocError>
     ensures { OnOk result (out.new ≡ puts W.after out.old (argument_name name.now)) }
 {
     match name {

@@ -15,6 +15,6 @@ map_push f (y ∷ ys) x = ap (λ z. f y ∷ z) (map_push f ys x)
 pub returns : goal.returns
 returns c =
     let e : string_bytes c.push_repr_bytes.new.out ≡ encode_utf8_all (repr_bytes c.args.bytes.now) =
-        c.in_ok-push_repr_bytes.ensures.ok ∙ ap (λ z. z ++ repr_bytes c.args.bytes.now) c.new-text.ensures.bytes ∙ sym (bytes_plain c.args.bytes.now) in
+    c.in_ok-push_repr_bytes.ensures.ok ∙ ap (λ z. z ++ repr_bytes c.args.bytes.now) c.new-text.ensures.bytes ∙ sym (bytes_plain c.args.bytes.now) in
     ap (map told) c.in_ok-push.ensures.items ∙ map_push told c.self.inside.pieces.items _
     ∙ (λ i. c.self.view_is i ++ record { kind = kinds.String; text = e i } ∷ [])
