@@ -19,6 +19,7 @@ use Rattle.pywords.specs.declared.command.Command.{Command}
 use Rattle.pywords.specs.declared.command.Command.TheVariants as commands
 use Rattle.pywords.specs.declared.command.Dump.{Dump}
 use Rattle.pywords.specs.declared.command.Tokens.{Tokens}
+use Rattle.pywords.specs.declared.command.Unparse.{Unparse}
 use Rattle.pywords.specs.declared.command.UsageFault.{UsageFault}
 use Rattle.pywords.specs.declared.command.UsageFault.TheVariants as faults
 
@@ -60,11 +61,15 @@ tokens_shape = record (new_shape (codes "tokens")) { rules = exact_rule ∷ numb
 abbrev pub dump_shape : Shape
 dump_shape = record (new_shape (codes "dump")) { rules = number_rule (codes "indent") largest_indent ∷ flag_rule (codes "bare") ∷ flag_rule (codes "py312") ∷ file_rule ∷ [] }
 
+-- `unparse [--py312] [FILE]`
+abbrev pub unparse_shape : Shape
+unparse_shape = record (new_shape (codes "unparse")) { rules = flag_rule (codes "py312") ∷ file_rule ∷ [] }
+
 -- what the words after the program's name may be: a subcommand with its arguments
 abbrev pub grammar : App
 grammar = record {
   top = record (new_shape (codes "pyast")) { is_leaf = false; no_binary_name = true; subcommand_required = true };
-  subs = tokens_shape ∷ dump_shape ∷ [];
+  subs = tokens_shape ∷ dump_shape ∷ unparse_shape ∷ [];
 }
 
 -- ---- What was found is what is asked.
@@ -99,10 +104,16 @@ pub record IsDump (found : List Row) (asked : Dump) : Type 0 where
   pub newer : IsFlag (one_of (codes "py312") found) (is_newer asked.style.profile)
   pub file : option_map string_bytes asked.file ≡ first_of (codes "FILE") found
 
+-- what was found for the arguments of `unparse` is what is asked: the version, the file
+pub record IsUnparse (found : List Row) (asked : Unparse) : Type 0 where
+  pub newer : IsFlag (one_of (codes "py312") found) (is_newer asked.profile)
+  pub file : option_map string_bytes asked.file ≡ first_of (codes "FILE") found
+
 -- the name of a subcommand and what was found behind it are the command
 abbrev pub IsCommand : Option (List ℕ × List Row) → Command → Type 0
 IsCommand sub (commands.Tokens asked) = (found : List Row) × (sub ≡ Some (codes "tokens", found)) × IsTokens found asked
 IsCommand sub (commands.Dump asked) = (found : List Row) × (sub ≡ Some (codes "dump", found)) × IsDump found asked
+IsCommand sub (commands.Unparse asked) = (found : List Row) × (sub ≡ Some (codes "unparse", found)) × IsUnparse found asked
 
 -- the words are of the grammar, and give this command
 abbrev pub Gives : List (List ℕ) → Command → Type 0
@@ -112,6 +123,7 @@ Gives words command = (fault_of grammar words ≡ []) × IsCommand (subcommand_o
 abbrev pub IsWithinLimits : Command → Type 0
 IsWithinLimits (commands.Tokens asked) = IfSome asked.count (λ n. n ≤ largest_count) × IfSome asked.resume IsWellFormed
 IsWithinLimits (commands.Dump asked) = IfSome asked.style.indent (λ n. n ≤ largest_indent)
+IsWithinLimits (commands.Unparse asked) = ⊤
 
 -- ---- Why the words give no command.
 
@@ -147,6 +159,7 @@ Refuses words faults.Memory = ⊤
 abbrev pub file_of : Command → Option (List ℕ)
 file_of (commands.Tokens asked) = option_map string_bytes asked.file
 file_of (commands.Dump asked) = option_map string_bytes asked.file
+file_of (commands.Unparse asked) = option_map string_bytes asked.file
 
 -- the name of the source in a fault's line: the file as given, or `<stdin>`
 abbrev pub name_of : Command → List ℕ

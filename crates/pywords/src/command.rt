@@ -8,7 +8,7 @@ ghost use Rattle.pylex.specs.CursorTexts.{IsWellFormed};
 ghost use Rattle.pylex.specs.Cursors.{cursor_text};
 ghost use Rattle.pywords.specs.declared.command.UsageFault.{UsageFault};
 ghost use Rattle.pywords.specs.Inner.Matching.{IsRule, IsForm, MissesNumber, MissesCursor, MissesTokens, MissesDump, MissesCommand, Explains};
-ghost use Rattle.pywords.specs.Words.{grammar, number_rule, flag_rule, exact_rule, resume_rule, file_rule, tokens_shape, dump_shape, largest_indent, file_of, name_of, of_cursor, is_newer, IsNumber, IsFlag, IsTokens, IsDump, IsCommand, Gives, Refuses, IsWithinLimits};
+ghost use Rattle.pywords.specs.Words.{grammar, number_rule, flag_rule, exact_rule, resume_rule, file_rule, tokens_shape, dump_shape, unparse_shape, largest_indent, file_of, name_of, of_cursor, is_newer, IsNumber, IsFlag, IsTokens, IsDump, IsUnparse, IsCommand, Gives, Refuses, IsWithinLimits};
 
 use clap::error::ErrorKind;
 use clap::{Arg, ArgAction, ArgMatches, value_parser};
@@ -90,6 +90,15 @@ pub struct Dump {
     pub file: Option<String>,
 }
 
+/// By which version a source's tree is to be written as source text.
+#[derive(Debug, Drop)]
+pub struct Unparse {
+    /// The version of Python by which the source is read.
+    pub profile: Profile,
+    /// The file of the source; the standard input if there is none.
+    pub file: Option<String>,
+}
+
 /// What the program is to do.
 #[derive(Debug, Drop)]
 pub enum Command {
@@ -97,6 +106,8 @@ pub enum Command {
     Tokens(Tokens),
     /// To dump the tree of a source.
     Dump(Dump),
+    /// To write the tree of a source as source text.
+    Unparse(Unparse),
 }
 
 /// The option `--NAME N`, N being a whole number up to the largest.
@@ -147,6 +158,14 @@ fn file_form<'a>(alloc: Global) -> Arg<'a>
     Arg::new(alloc, "FILE").help("The source; the standard input if it is left out")
 }
 
+/// The option `--py312`.
+fn newer_form<'a>(alloc: Global) -> Arg<'a>
+    ensures { IsRule (flag_rule (codes "py312")) result }
+{
+    let newer = "Read `type` statements and the parameters of types, as of Python 3.12";
+    flag_form(alloc, "py312", newer)
+}
+
 /// The words of `tokens`.
 fn tokens_form<'a>(alloc: Global) -> Result<clap::Command<'a>, AllocError>
     ensures { IfOk result (IsForm tokens_shape) }
@@ -166,12 +185,21 @@ fn dump_form<'a>(alloc: Global) -> Result<clap::Command<'a>, AllocError>
 {
     let lines = "Give each field and each member a line, with N blanks a level";
     let bare = "Leave the names of fields out";
-    let newer = "Read `type` statements and the parameters of types, as of Python 3.12";
     clap::Command::new(alloc, "dump")
         .about("Dump the tree of a source")
         .arg(number_form(alloc, "indent", LARGEST_INDENT, lines))?
         .arg(flag_form(alloc, "bare", bare))?
-        .arg(flag_form(alloc, "py312", newer))?
+        .arg(newer_form(alloc))?
+        .arg(file_form(alloc))
+}
+
+/// The words of `unparse`.
+fn unparse_form<'a>(alloc: Global) -> Result<clap::Command<'a>, AllocError>
+    ensures { IfOk result (IsForm unparse_shape) }
+{
+    clap::Command::new(alloc, "unparse")
+        .about("Write the tree of a source as source text")
+        .arg(newer_form(alloc))?
         .arg(file_form(alloc))
 }
 
@@ -181,11 +209,12 @@ fn grammar<'a>(alloc: Global) -> Result<clap::Command<'a>, AllocError>
 {
     clap::Command::new(alloc, "pyast")
         .bin_name("pyast")?
-        .about("List and dump Python source")
+        .about("List, dump and unparse Python source")
         .no_binary_name(true)
         .subcommand_required(true)
         .subcommand(tokens_form(alloc)?)?
-        .subcommand(dump_form(alloc)?)
+        .subcommand(dump_form(alloc)?)?
+        .subcommand(unparse_form(alloc)?)
 }
 
 /// What a refusal of the words is told as.
@@ -298,6 +327,16 @@ fn dump_of(alloc: Global, matches: &ArgMatches<'_>) -> Result<Dump, UsageFault>
     Ok(Dump { style, file })
 }
 
+/// What the words after `unparse` ask for.
+fn unparse_of(alloc: Global, matches: &ArgMatches<'_>) -> Result<Unparse, AllocError>
+    ensures { IfOk result (IsUnparse (rows_of (found_of matches.now))) }
+{
+    Ok(Unparse {
+        profile: profile_of(matches),
+        file: file_of(alloc, matches)?,
+    })
+}
+
 /// The command that was found among the words.
 fn command_of(alloc: Global, matches: &ArgMatches<'_>) -> Result<Command, UsageFault>
     ensures given { IfOk result (IsCommand (subcommand_rows_of matches.now)) }
@@ -309,14 +348,18 @@ fn command_of(alloc: Global, matches: &ArgMatches<'_>) -> Result<Command, UsageF
     if let Some(matches) = matches.subcommand_matches("dump") {
         return Ok(Command::Dump(dump_of(alloc, matches)?));
     }
+    if let Some(matches) = matches.subcommand_matches("unparse") {
+        return Ok(Command::Unparse(unparse_of(alloc, matches)?));
+    }
     Err(UsageFault::BadArguments)
 }
 
 impl Command {
     /// The command that the words give, without the program's name.
     ///
-    /// They are `tokens [-e] [--count N] [--resume CURSOR] [FILE]` or `dump [--indent N] [--bare] [--py312] [FILE]`, with the
-    /// options in any order. All others are bad arguments, but for those that ask for help: `help`, `-h` and `--help`.
+    /// They are `tokens [-e] [--count N] [--resume CURSOR] [FILE]`, `dump [--indent N] [--bare] [--py312] [FILE]` or
+    /// `unparse [--py312] [FILE]`, with the options in any order. All others are bad arguments, but for those that ask for
+    /// help: `help`, `-h` and `--help`.
     ///
     /// # Errors
     ///
@@ -340,6 +383,7 @@ impl Command {
         match self {
             Command::Tokens(asked) => asked.file.as_deref(),
             Command::Dump(asked) => asked.file.as_deref(),
+            Command::Unparse(asked) => asked.file.as_deref(),
         }
     }
 

@@ -8,4 +8,4 @@
 
 mod command;
 
-pub use command::{Command, Dump, Tokens, UsageFault};
+pub use command::{Command, Dump, Tokens, Unparse, UsageFault};
