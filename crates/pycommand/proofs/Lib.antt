@@ -5,4 +5,4 @@ mod TakenLemmas
 mod ListLemmas
 mod StartLemmas
 mod UnreadLemmas
-mod DumpLemmas
+mod ModuleLemmas

@@ -1,9 +1,19 @@
--- Carries: dump_text, write_dump. On: what refuses a source that was read whole.
-use Rattle.std.proofs.Common.{◌≡◌, ℕ, Bool, true, false, cond, List, [], ◌∷◌, Option, Some, None, Ok, Err, subst}
+-- Carries: accept, read_module, write_dump, write_unparse. On: what refuses a source that was read whole, and that the text of its module gives it back.
+use Rattle.std.proofs.Common.{◌≡◌, ◌≢◌, ℕ, Bool, true, false, cond, List, [], ◌∷◌, Option, Some, None, Result, Ok, Err, subst}
+use Rattle.std.specs.Prelude.{IsUtf8}
+use Rattle.std.specs.Str.{encode_utf8_all}
+use Rattle.std.proofs.lemmas.Str.{scalars-chars}
+use Rattle.pysource.specs.Cookies.{encoding_of, without_mark}
+use Rattle.pysource.specs.Limits.{source_limit}
+use Rattle.pysource.specs.Lines.{lines_of}
+use Rattle.pysource.specs.Names.{Named}
 use Rattle.pysource.specs.Parts.{Parts}
-use Rattle.pysource.specs.Sources.{source_of, UnlessMemory}
+use Rattle.pysource.specs.Sources.{nth_line, parts_under, source_of, source_under, UnlessMemory}
 use Rattle.pysource.specs.declared.encodings.SourceFault.{SourceFault}
 use Rattle.pysource.specs.declared.encodings.SourceFault.TheVariants as source_faults
+use Rattle.pysource.proofs.ByteLemmas.{Appends-refl}
+use Rattle.pysource.proofs.GoodLemmas.{good_utf8}
+use Rattle.pylex.specs.Laws.{IsLawful}
 use Rattle.pylex.specs.declared.entries.Entry.{Entry}
 use Rattle.pylex.specs.declared.entries.ListingError.{ListingError}
 use Rattle.pylex.specs.declared.entries.ListingError.TheVariants as errors
@@ -21,15 +31,21 @@ use Rattle.pytoken.specs.Refusals.{most_brackets, opens_too_many, or_refusal, en
 use Rattle.pytoken.specs.Terminals.{fault_of}
 use Rattle.pytoken.specs.Tokens.{text_of}
 use Rattle.pynode.specs.declared.profiles.Profile.{Profile}
-use Rattle.pydump.specs.declared.styles.Style.{Style}
-use Rattle.pygrammar.specs.Refusals.{Refused, in_tokens, by_tokens}
-use Rattle.pyparse.specs.Modules.{Refuses}
+use Rattle.pynode.specs.Trees.{Module}
+use Rattle.pygrammar.specs.Refusals.{Accepted, Refused, in_tokens, by_tokens}
+use Rattle.pyparse.specs.Modules as parsing
 use Rattle.pyparse.specs.declared.faults.ParseFault.{ParseFault}
 use Rattle.pyparse.specs.declared.faults.ParseFault.TheVariants as parse_faults
 use Rattle.pyfault.specs.Faults.{listing_code, told_at, of_parse, of_refusal, of_source}
 use Rattle.pyfault.specs.declared.fault.Fault.{Fault}
-use Rattle.pycommand.specs.Dumps.{Dumps, no_source, refused}
-use Rattle.pycommand.specs.Inner.Refusing.{RefusesBy}
+use Rattle.pyfault.specs.declared.fault.Fault.TheVariants.{InSource, Plain}
+use Rattle.pyfault.specs.declared.fault.RunFaultCode.TheVariants.{Read, Write, Memory}
+use Rattle.pywritten.specs.Modules.{module_text}
+use Rattle.pywritten.proofs.Callers.Texts.{accepted_texts_are_accepted}
+use Rattle.pyunparse.specs.RoundTrips.{GivesBack}
+use Rattle.pycommand.specs.Modules.{IsRefused, no_source, refused, Writes, of_none}
+use Rattle.pycommand.specs.Runs.{ReadsAll, PerformsWhole}
+use Rattle.pycommand.specs.Inner.Reading.{Refuses, ReadsNone}
 use Rattle.pycommand.proofs.UnreadLemmas.{listing_is_read}
 
 -- a refusal that is no fault of the listing
@@ -86,10 +102,11 @@ tokens_refused : (profile : Profile) (s : Source) (r : Refusal) → Refused prof
 tokens_refused profile s r (by_tokens h) = h
 
 -- what is not a line that could not be read whole is told at its place
-told_in_source : (does : List ℕ → Option Fault → Type 0) (f : ListingFault) → is_unread_code f.code ≡ false → does [] (Some (told_at (listing_code f.code) f.place)) → RefusesBy does (told_at (listing_code f.code) f.place)
-told_in_source does f read h = by_code f.code read h
+told_in_source : (profile : Profile) (bytes : List ℕ) (f : ListingFault) → is_unread_code f.code ≡ false → IsRefused profile bytes (told_at (listing_code f.code) f.place)
+    → Refuses profile bytes (told_at (listing_code f.code) f.place)
+told_in_source profile bytes f read h = by_code f.code read h
   where
-    by_code : (e : ListingError) → is_unread_code e ≡ false → does [] (Some (told_at (listing_code e) f.place)) → RefusesBy does (told_at (listing_code e) f.place)
+    by_code : (e : ListingError) → is_unread_code e ≡ false → IsRefused profile bytes (told_at (listing_code e) f.place) → Refuses profile bytes (told_at (listing_code e) f.place)
     by_code (errors.Line line_errors.NotUtf8) u k = k
     by_code (errors.Line line_errors.NotAscii) u k = k
     by_code (errors.Line line_errors.LoneReturn) u k = k
@@ -101,21 +118,57 @@ told_in_source does f read h = by_code f.code read h
     by_code errors.UnindentMismatch u k = k
     by_code errors.UnmatchedCloser u k = k
 
-refused_tokens : (style : Style) (bytes : List ℕ) (p : Parts) (r : Refusal) → source_of bytes ≡ Ok p → Refused style.profile (in_characters p) (in_tokens r) → RefusesBy (Dumps style bytes) (of_refusal r)
-refused_tokens style bytes p (refusals.Listing f) is h =
-    told_in_source (Dumps style bytes) f (listing_is_read bytes p f is (listing_refusal (in_characters p) f (tokens_refused style.profile (in_characters p) (refusals.Listing f) h))) (refused is h)
-refused_tokens style bytes p (refusals.Token error place) is h = refused is h
-refused_tokens style bytes p (refusals.TooDeep place) is h = refused is h
-refused_tokens style bytes p (refusals.MixedTabs place) is h = refused is h
+refused_tokens : (profile : Profile) (bytes : List ℕ) (p : Parts) (r : Refusal) → source_of bytes ≡ Ok p → Refused profile (in_characters p) (in_tokens r) → Refuses profile bytes (of_refusal r)
+refused_tokens profile bytes p (refusals.Listing f) is h =
+    told_in_source profile bytes f (listing_is_read bytes p f is (listing_refusal (in_characters p) f (tokens_refused profile (in_characters p) (refusals.Listing f) h))) (refused is h)
+refused_tokens profile bytes p (refusals.Token error place) is h = refused is h
+refused_tokens profile bytes p (refusals.TooDeep place) is h = refused is h
+refused_tokens profile bytes p (refusals.MixedTabs place) is h = refused is h
 
 -- what is told of a source that is refused
-pub refused_by : (style : Style) (bytes : List ℕ) (p : Parts) (fault : ParseFault) → source_of bytes ≡ Ok p → Refuses style.profile (in_characters p) fault → RefusesBy (Dumps style bytes) (of_parse fault)
-refused_by style bytes p (parse_faults.Refused r) is h = refused_tokens style bytes p r is h
-refused_by style bytes p (parse_faults.Grammar e place) is h = refused is h
-refused_by style bytes p parse_faults.Memory is h = tt
+pub refused_by : (profile : Profile) (bytes : List ℕ) (p : Parts) (fault : ParseFault) → source_of bytes ≡ Ok p → parsing.Refuses profile (in_characters p) fault → Refuses profile bytes (of_parse fault)
+refused_by profile bytes p (parse_faults.Refused r) is h = refused_tokens profile bytes p r is h
+refused_by profile bytes p (parse_faults.Grammar e place) is h = refused is h
+refused_by profile bytes p parse_faults.Memory is h = tt
 
 -- and of bytes that are none
-pub no_source_by : (style : Style) (bytes : List ℕ) (fault : SourceFault) → UnlessMemory {X = Parts} (Err fault) (source_of bytes) → RefusesBy (Dumps style bytes) (of_source fault)
-no_source_by style bytes (source_faults.UnsupportedEncoding place) is = no_source is
-no_source_by style bytes (source_faults.BomConflict place) is = no_source is
-no_source_by style bytes source_faults.Memory is = tt
+pub no_source_by : (profile : Profile) (bytes : List ℕ) (fault : SourceFault) → UnlessMemory {X = Parts} (Err fault) (source_of bytes) → Refuses profile bytes (of_source fault)
+no_source_by profile bytes (source_faults.UnsupportedEncoding place) is = no_source is
+no_source_by profile bytes (source_faults.BomConflict place) is = no_source is
+no_source_by profile bytes source_faults.Memory is = tt
+
+-- the text of a source is UTF-8
+text_utf8 : (named : Result Named SourceFault) (bytes : List ℕ) (p : Parts) → source_under named bytes ≡ Ok p → IsUtf8 p.text
+text_utf8 (Ok named) bytes p is = let same : parts_under named bytes ≡ p = cc in subst (λ (q : Parts). IsUtf8 q.text) same (good_utf8 named.charset (lines_of (without_mark bytes)))
+text_utf8 (Err fault) bytes p is = cc
+
+-- the text of the module that a source is accepted as gives it back
+pub gives_back : (profile : Profile) (bytes : List ℕ) (p : Parts) (m : Module) → source_of bytes ≡ Ok p → IsLawful (in_characters p) → Accepted profile (in_characters p) m
+    → GivesBack profile (encode_utf8_all (module_text m)) m
+gives_back profile bytes p m is lawful accepted =
+    let utf8 = text_utf8 (encoding_of (nth_line bytes 0) (nth_line bytes 1)) bytes p is in
+    let t = accepted_texts_are_accepted profile (in_characters p) m lawful (scalars-chars p.text utf8) accepted in
+    record { back = t.back; accepted = t.accepted; only = t.only }
+
+-- ---- Of a reader.
+
+-- what a fault of bytes that were read whole is to their reader
+pub reads_none : (profile : Profile) (come_old come_new : Option (List ℕ)) (reads_old reads_new : ℕ) (input : List ℕ) (fault : Fault)
+    → ReadsAll come_old come_new reads_old reads_new source_limit input → Refuses profile input fault → ReadsNone profile come_old come_new reads_old reads_new fault
+reads_none profile come_old come_new reads_old reads_new input (InSource code place) all h = (input, all, h)
+reads_none profile come_old come_new reads_old reads_new input (Plain Memory) all h = all.unfailed
+reads_none profile come_old come_new reads_old reads_new input (Plain other) all h = absurd h
+
+-- where there is no module nothing is written
+pub none_written : (profile : Profile) (output : Module → List ℕ → Type 0) (come_old come_new : Option (List ℕ)) (reads_old reads_new : ℕ) (x : Option (List ℕ)) (fault : Fault)
+    → ReadsNone profile come_old come_new reads_old reads_new fault → PerformsWhole (Writes profile output) come_old come_new reads_old reads_new x x source_limit (Some fault)
+none_written profile output come_old come_new reads_old reads_new x (InSource code place) h = (h.0, h.1, of_none h.2, Appends-refl x)
+none_written profile output come_old come_new reads_old reads_new x (Plain Memory) h = (h, Appends-refl x)
+none_written profile output come_old come_new reads_old reads_new x (Plain Read) h = (h, Appends-refl x)
+none_written profile output come_old come_new reads_old reads_new x (Plain other) h = absurd h
+
+-- and no write is blamed
+pub none_blamed : (profile : Profile) (come_old come_new : Option (List ℕ)) (reads_old reads_new : ℕ) (fault : Fault) → ReadsNone profile come_old come_new reads_old reads_new fault → fault ≢ Plain Write
+none_blamed profile come_old come_new reads_old reads_new (InSource code place) h e = cc
+none_blamed profile come_old come_new reads_old reads_new (Plain Write) h e = absurd h
+none_blamed profile come_old come_new reads_old reads_new (Plain other) h e = cc

@@ -7,10 +7,11 @@ use Rattle.pysource.proofs.ByteLemmas.{Appends-append, TakesFront-after}
 use Rattle.pylex.specs.declared.entries.ListingFault.{ListingFault}
 use Rattle.pyfault.specs.Faults.{listing_code, told_at, of_listing, IsToldAs}
 use Rattle.pywords.specs.declared.command.Command.{Command}
-use Rattle.pywords.specs.declared.command.Command.TheVariants.{Tokens, Dump}
+use Rattle.pywords.specs.declared.command.Command.TheVariants.{Tokens, Dump, Unparse}
 use Rattle.pycommand.specs.Dumps.{Dumps}
 use Rattle.pycommand.specs.Listings.{output_of, fault_in}
 use Rattle.pycommand.specs.Runs.{TakesAllBut, HoldsFor, WritesFor, Performs, PerformsWhole, Does}
+use Rattle.pycommand.specs.Unparses.{Unparses}
 use Rattle.pyfault.specs.declared.fault.RunFaultCode.{RunFaultCode}
 use Rattle.pyfault.specs.declared.fault.SourceFaultCode.{SourceFaultCode}
 use Rattle.pyfault.specs.declared.fault.RunFaultCode.TheVariants.{Read, Write, Memory, CursorOfAnotherSource}
@@ -121,6 +122,7 @@ pub Does-told : (command : Command) (come_old come_new : Option (List ℕ)) (rea
     → IsToldAs fault other → Does command come_old come_new reads_old reads_new x y limit (Some fault) → Does command come_old come_new reads_old reads_new x y limit (Some other)
 Does-told (Tokens asked) come_old come_new reads_old reads_new x y limit fault other is p = Performs-told (output_of asked) (fault_in asked) come_old come_new reads_old reads_new x y limit fault other is p
 Does-told (Dump asked) come_old come_new reads_old reads_new x y limit fault other is p = PerformsWhole-told (Dumps asked.style) come_old come_new reads_old reads_new x y limit fault other is p
+Does-told (Unparse asked) come_old come_new reads_old reads_new x y limit fault other is p = PerformsWhole-told (Unparses asked.profile) come_old come_new reads_old reads_new x y limit fault other is p
 
 -- a fault without a place is told as itself, and only as that
 pub told-plain : (fault told : Fault) (code : RunFaultCode) → code ≢ Memory → IsToldAs fault told → (told ≡ Plain code → fault ≡ Plain code) × (fault ≡ Plain code → told ≡ Plain code)

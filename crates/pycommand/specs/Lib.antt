@@ -1,5 +1,7 @@
 pub mod Listings
+pub mod Modules
 pub mod Dumps
+pub mod Unparses
 pub mod Runs
 pub mod Taken
 pub mod Inner

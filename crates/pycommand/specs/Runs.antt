@@ -8,9 +8,10 @@ use Rattle.pyfault.specs.declared.fault.Fault.{Fault}
 use Rattle.pyfault.specs.declared.fault.Fault.TheVariants.{InSource, Plain}
 use Rattle.pywords.specs.Words.{name_of}
 use Rattle.pywords.specs.declared.command.Command.{Command}
-use Rattle.pywords.specs.declared.command.Command.TheVariants.{Tokens, Dump}
+use Rattle.pywords.specs.declared.command.Command.TheVariants.{Tokens, Dump, Unparse}
 use Rattle.pycommand.specs.Dumps.{Dumps}
 use Rattle.pycommand.specs.Listings.{output_of, fault_in}
+use Rattle.pycommand.specs.Unparses.{Unparses}
 
 -- What a writer took, from old to new, where a run with this whole output and this fault of the source ended by a fault
 -- or by none: all of the output where it ended by what the source says (a cursor of another one and a failed read included), and else a front.
@@ -85,10 +86,11 @@ PerformsWhole does come_old come_new reads_old reads_new old new limit (Some (Pl
   | _ ↦ ⊥
 ]
 
--- What a command does with what its reader gives: `tokens` reads it line by line, `dump` whole.
+-- What a command does with what its reader gives: `tokens` reads it line by line, `dump` and `unparse` whole.
 abbrev pub Does : Command → Option (List ℕ) → Option (List ℕ) → ℕ → ℕ → Option (List ℕ) → Option (List ℕ) → ℕ → Option Fault → Type 0
 Does (Tokens asked) = Performs (output_of asked) (fault_in asked)
 Does (Dump asked) = PerformsWhole (Dumps asked.style)
+Does (Unparse asked) = PerformsWhole (Unparses asked.profile)
 
 -- the fault line of a run, empty where it ended well
 abbrev pub told_line : List ℕ → Option Fault → List ℕ

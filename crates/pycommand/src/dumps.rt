@@ -1,28 +1,25 @@
 //! The dump of a source, which is read whole.
-ghost use Rattle.std.specs.Prelude.{◌≡◌, ◌≢◌, ◌+◌, ◌-◌, ◌^◌, ◌<◌, ◌≤◌, length, [], Some, None, IfOk, IfErr, string_bytes};
+ghost use Rattle.std.specs.Prelude.{◌≡◌, ◌≢◌, ◌+◌, ◌-◌, ◌^◌, ◌<◌, Some, IfOk, string_bytes};
 ghost use Rattle.pysource.specs.Limits.{source_limit};
+ghost use Rattle.pynode.specs.TreeOf.{module_of};
 ghost use Rattle.pyfault.specs.declared.fault.Fault.{Fault};
 ghost use Rattle.pyfault.specs.declared.fault.RunFaultCode.{RunFaultCode};
-ghost use Rattle.pycommand.specs.Dumps.{Dumps};
-ghost use Rattle.pycommand.specs.Inner.Refusing.{RefusesBy};
+ghost use Rattle.pycommand.specs.Dumps.{Dumps, dump_output};
 ghost use Rattle.pycommand.specs.Runs.{ended_by, PerformsWhole};
 
+use crate::modules::read_module;
 use pydump::{Style, dump};
 use pyfault::Fault;
-use pyparse::parse;
-use pysource::{ByteIn, ByteOut, decode, read_all, write_all};
+use pynode::Module;
+use pysource::{ByteIn, ByteOut, write_all};
 use pywords::Dump;
-use std::alloc::Global;
+use std::alloc::{AllocError, Global};
 
-/// The dump of the source that bytes are, and a line feed.
-fn dump_text(alloc: Global, bytes: &[u8], style: Style) -> Result<String, Fault>
-    requires { length bytes.now ≤ source_limit }
-    ensures dumps { IfOk result (λ text. Dumps style bytes.now (string_bytes text) None) }
-    ensures refused { IfErr result (RefusesBy (Dumps style bytes.now)) }
+/// The dump of a module, and a line feed.
+fn dump_line(alloc: Global, module: &Module, style: Style) -> Result<String, AllocError>
+    ensures { IfOk result (λ text. string_bytes text ≡ dump_output style (module_of «module».now)) }
 {
-    let source = decode(alloc, bytes)?;
-    let module = parse(alloc, &source, style.profile)?;
-    let mut text = dump(alloc, &module, style)?;
+    let mut text = dump(alloc, module, style)?;
     text.push('\n')?;
     Ok(text)
 }
@@ -41,8 +38,8 @@ pub(crate) fn write_dump<R: ByteIn, W: ByteOut>(
     ensures failed { ended_by result ≡ Some (Fault.Plain RunFaultCode.Write) → W.failure_count writer.new ≡ W.failure_count writer.old + 1 }
     ensures unfailed { ended_by result ≢ Some (Fault.Plain RunFaultCode.Write) → W.failure_count writer.new ≡ W.failure_count writer.old }
 {
-    let bytes = read_all(alloc, reader)?;
-    let text = dump_text(alloc, bytes.as_slice(), asked.style)?;
+    let module = read_module(alloc, asked.style.profile, reader)?;
+    let text = dump_line(alloc, &module, asked.style)?;
     write_all(writer, text.as_bytes())?;
     Ok(())
 }

@@ -5,15 +5,18 @@
 //! what can end a run early. The words are those of `pywords`, the faults those of `pyfault`.
 //!
 //! The words of contracts are in `specs/`: `Listings` says what `tokens` writes of a source and
-//! tells, `Dumps` what `dump` does, `Runs` what a run is, whatever its reader and its writers do.
-//! `Taken` is about what a run took of its reader.
+//! tells, `Dumps` and `Unparses` what `dump` and `unparse` do, both with the `Modules` that sources
+//! are; `Runs` what a run is, whatever its reader and its writers do. `Taken` is about what a run
+//! took of its reader.
 #![tactic(auto)]
 
 mod dumps;
 mod listings;
+mod modules;
 mod runs;
+mod unparses;
 
 pub use pyfault::{Fault, FaultCode, RunFaultCode, SourceFaultCode, fault_text, open_source, tell};
 pub use pysource::{ByteIn, ByteOut};
-pub use pywords::{Command, Dump, Tokens, UsageFault};
+pub use pywords::{Command, Dump, Tokens, Unparse, UsageFault};
 pub use runs::run;

@@ -7,6 +7,7 @@ ghost use Rattle.pycommand.specs.Runs.{ended_by, Does, IsRun};
 
 use crate::dumps::write_dump;
 use crate::listings::write_listing;
+use crate::unparses::write_unparse;
 use pyfault::{Fault, tell};
 use pysource::{ByteIn, ByteOut};
 use pywords::Command;
@@ -29,6 +30,7 @@ fn perform<R: ByteIn, W: ByteOut>(
     match command {
         Command::Tokens(asked) => write_listing(alloc, asked, reader, writer),
         Command::Dump(asked) => write_dump(alloc, asked, reader, writer),
+        Command::Unparse(asked) => write_unparse(alloc, asked, reader, writer),
     }
 }
 
@@ -40,8 +42,8 @@ fn perform<R: ByteIn, W: ByteOut>(
 /// that were read whole: the entries of those, and then the failed read, unless a count or a fault of the source ends the
 /// run before.
 ///
-/// `dump` reads the source whole. Where a read fails, or the source is too long, that alone is told; and nothing is written
-/// of a source that is refused.
+/// `dump` and `unparse` read the source whole. Where a read fails, or the source is too long, that alone is told; and nothing
+/// is written of a source that is refused. What `unparse` writes is itself a source, and is accepted as the same module.
 ///
 /// The file that the command names is the caller's to open; its name is used in the fault's line alone.
 pub fn run<R: ByteIn, W: ByteOut, F: ByteOut>(

@@ -1,7 +1,7 @@
 //! Listings that stop after a count of entries, and that go on behind a cursor.
 
-use crate::expected::{push_lines, reader, writer};
-use pycommand::{Command, Tokens, run};
+use crate::expected::{Left, leaves, push_lines, reader};
+use pycommand::{Command, Tokens};
 use pylex::Cursor;
 use std::alloc::{AllocError, Global};
 use std::process::Abort;
@@ -52,12 +52,12 @@ fn writes(
     let mut told = String::new(alloc);
     push_told(&mut told, fault)?;
     let mut reader = reader(source.as_bytes());
-    let mut output = writer(alloc);
-    let mut faults = writer(alloc);
-    let ended = run(alloc, command, &mut reader, &mut output, &mut faults);
-    assert_eq!(rt; output.taken(), written.as_bytes(), "at {source}");
-    assert_eq!(rt; faults.taken(), told.as_bytes(), "at {source}");
-    assert_eq!(rt; ended, status, "at {source}");
+    let left = Left {
+        written: written.as_bytes(),
+        told: told.as_bytes(),
+        status,
+    };
+    leaves(rt, alloc, command, &mut reader, &left, source);
     Ok(())
 }
 
@@ -65,27 +65,33 @@ fn writes(
 /// behind them and the fault that is told (none where they are empty), and the status.
 type Row<'a> = (&'a str, Option<u64>, &'a str, &'a str, &'a str, &'a str, u8);
 
-/// Asserts that `tokens` does what each row says.
+/// Asserts that `tokens` does what a row says.
+fn writes_row(rt: &impl Abort, alloc: Global, row: &Row<'_>) -> Result<(), Fail> {
+    let (source, count, resume, entries, line, fault, status) = row;
+    let command = asked(alloc, *count, resume)?;
+    let written = written(alloc, entries, line)?;
+    writes(
+        rt,
+        alloc,
+        source,
+        &command,
+        written.as_str(),
+        fault,
+        *status,
+    )
+}
+
+/// Asserts that of each row.
 fn writes_all(rt: &impl Abort, alloc: Global, rows: &[Row<'_>]) -> Result<(), Fail> {
-    for (source, count, resume, entries, line, fault, status) in rows {
-        let command = asked(alloc, *count, resume)?;
-        let written = written(alloc, entries, line)?;
-        writes(
-            rt,
-            alloc,
-            source,
-            &command,
-            written.as_str(),
-            fault,
-            *status,
-        )?;
+    for row in rows {
+        writes_row(rt, alloc, row)?;
     }
     Ok(())
 }
 
 #[test]
 fn stops_and_goes_on(rt: HostRuntime) -> Result<(), Fail> {
-    let rows = [
+    let rows = &[
         ("", Some(0u64), "", "", "cursor pytok1 0 0 1 0 0 0 0", "", 0),
         (
             "",
@@ -400,5 +406,5 @@ fn stops_and_goes_on(rt: HostRuntime) -> Result<(), Fail> {
             0,
         ),
     ];
-    writes_all(&rt, rt.alloc(), &rows)
+    writes_all(&rt, rt.alloc(), rows)
 }

@@ -1,36 +1,54 @@
 //! What `dump` does where reading or writing fails.
 
 use crate::dumps::command;
-use crate::expected::{failing_reader, reader, writer};
+use crate::expected::{
+    Left, failing_reader, leaves, reader, same_answer, same_bytes, same_status, stops_anywhere,
+    writer,
+};
 use fakes::FakeWriter;
-use pycommand::run;
+use pycommand::{Command, run};
+use std::alloc::Global;
+use std::process::Abort;
 use std::test::Fail;
+
+/// Asserts that a failed read behind these bytes is told alone.
+fn tells_a_failed_read(rt: &impl Abort, alloc: Global, command: &Command, source: &[u8]) {
+    let left = Left {
+        written: b"",
+        told: b"pyast: read failed\n",
+        status: 3,
+    };
+    leaves(
+        rt,
+        alloc,
+        command,
+        &mut failing_reader(source),
+        &left,
+        "a failed read",
+    );
+}
+
+/// Asserts that of some bytes, a fault of their encoding or of their tokens among them.
+pub(crate) fn tells_failed_reads(rt: &impl Abort, alloc: Global, words: &str) -> Result<(), Fail> {
+    let command = command(alloc, words)?;
+    let rows: &[&[u8]] = &[
+        b"",
+        b"x\n",
+        b"x\ny",
+        b")\n",
+        b"\xFF\n",
+        b"# x\n# coding: latin-1\n",
+    ];
+    for source in rows {
+        tells_a_failed_read(rt, alloc, &command, source);
+    }
+    Ok(())
+}
 
 // A failed read is told alone, before a fault of the encoding too; nothing is written.
 #[test]
 fn tells_a_failed_read_alone(rt: HostRuntime) -> Result<(), Fail> {
-    let command = command(rt.alloc(), "dump")?;
-    for source in [
-        b"".as_slice(),
-        b"x\n".as_slice(),
-        b"x\ny".as_slice(),
-        b")\n".as_slice(),
-        b"\xFF\n".as_slice(),
-        b"# x\n# coding: latin-1\n".as_slice(),
-    ] {
-        let mut reader = failing_reader(source);
-        let mut output = writer(rt.alloc());
-        let mut faults = writer(rt.alloc());
-        let status = run(rt.alloc(), &command, &mut reader, &mut output, &mut faults);
-        assert!(rt; output.taken().is_empty(), "at {source:?}");
-        assert_eq!(rt;
-            faults.taken(),
-            b"pyast: read failed\n".as_slice(),
-            "at {source:?}"
-        );
-        assert_eq!(rt; status, 3, "at {source:?}");
-    }
-    Ok(())
+    tells_failed_reads(&rt, rt.alloc(), "dump")
 }
 
 // What the writer took is a front of the dump.
@@ -38,23 +56,20 @@ fn tells_a_failed_read_alone(rt: HostRuntime) -> Result<(), Fail> {
 fn stops_where_the_writer_fails(rt: HostRuntime) -> Result<(), Fail> {
     let command = command(rt.alloc(), "dump --bare")?;
     let whole = b"Module([Expr(Name('x', Load()))], [])\n".as_slice();
-    for room in 0..=whole.len() {
-        for takes_none in [false, true] {
-            let mut reader = reader(b"x\n");
-            let mut output = FakeWriter::new(rt.alloc(), 1, room, takes_none);
-            let mut faults = writer(rt.alloc());
-            let status = run(rt.alloc(), &command, &mut reader, &mut output, &mut faults);
-            let told: &[u8] = if room < whole.len() {
-                b"pyast: write failed\n"
-            } else {
-                b""
-            };
-            assert_eq!(rt; output.taken(), &whole[..room], "at {room}");
-            assert_eq!(rt; faults.taken(), told, "at {room}");
-            assert_eq!(rt; status, if room < whole.len() { 3 } else { 0 }, "at {room}");
-        }
-    }
+    stops_anywhere(&rt, rt.alloc(), &command, b"x\n", whole);
     Ok(())
+}
+
+/// Asserts that the line of a fault is written up to so many bytes, and the status is that of the fault.
+fn keeps_its_status(rt: &impl Abort, alloc: Global, command: &Command, line: &[u8], room: usize) {
+    assert!(rt; room <= line.len());
+    let mut reader = reader(b"x = 1.5\n");
+    let mut output = writer(alloc);
+    let mut faults = FakeWriter::new(alloc, 1, room, false);
+    let status = run(alloc, command, &mut reader, &mut output, &mut faults);
+    same_bytes(rt, output.taken(), b"", "a room");
+    same_bytes(rt, faults.taken(), &line[..room], "a room");
+    same_status(rt, status, 1, "a room");
 }
 
 // The status stays where the line of the fault can't be written.
@@ -63,36 +78,41 @@ fn keeps_its_status_where_the_fault_line_fails(rt: HostRuntime) -> Result<(), Fa
     let command = command(rt.alloc(), "dump")?;
     let line = b"<stdin>:1:4: error: float literal\n".as_slice();
     for room in [0usize, 1, 20] {
-        let mut reader = reader(b"x = 1.5\n");
-        let mut output = writer(rt.alloc());
-        let mut faults = FakeWriter::new(rt.alloc(), 1, room, false);
-        let status = run(rt.alloc(), &command, &mut reader, &mut output, &mut faults);
-        assert!(rt; output.taken().is_empty(), "at {room}");
-        assert_eq!(rt; faults.taken(), &line[..room], "at {room}");
-        assert_eq!(rt; status, 1, "at {room}");
+        keeps_its_status(&rt, rt.alloc(), &command, line, room);
     }
     Ok(())
+}
+
+/// Asserts that bytes are dumped or refused.
+fn answers(rt: &impl Abort, alloc: Global, command: &Command, bytes: &[u8], at: &str) {
+    let mut reader = reader(bytes);
+    let mut output = writer(alloc);
+    let mut faults = writer(alloc);
+    let status = run(alloc, command, &mut reader, &mut output, &mut faults);
+    same_answer(rt, status <= 1, true, at);
+    same_answer(rt, output.taken().is_empty(), status == 1, at);
+    same_answer(rt, faults.taken().is_empty(), status == 0, at);
+}
+
+/// Asserts that of each front of a source.
+fn answers_each_front(rt: &impl Abort, alloc: Global, command: &Command, source: &str) {
+    let bytes = source.as_bytes();
+    for count in 0..=bytes.len() {
+        answers(rt, alloc, command, &bytes[..count], source);
+    }
 }
 
 // A source that is cut off anywhere is dumped or refused.
 #[test]
 fn answers_each_front_of_a_source(rt: HostRuntime) -> Result<(), Fail> {
     let command = command(rt.alloc(), "dump")?;
-    for source in [
+    let rows: &[&str] = &[
         "\u{feff}\u{e9} = '\u{fc}'\n",
         "if x:\n        y\n\tz\n",
         "def f(a, /, b: int = 1, *, c=2, **d) -> g: return a\n",
-    ] {
-        let bytes = source.as_bytes();
-        for count in 0..=bytes.len() {
-            let mut reader = reader(&bytes[..count]);
-            let mut output = writer(rt.alloc());
-            let mut faults = writer(rt.alloc());
-            let status = run(rt.alloc(), &command, &mut reader, &mut output, &mut faults);
-            assert!(rt; status <= 1, "at {count}");
-            assert_eq!(rt; output.taken().is_empty(), status == 1, "at {count}");
-            assert_eq!(rt; faults.taken().is_empty(), status == 0, "at {count}");
-        }
+    ];
+    for source in rows {
+        answers_each_front(&rt, rt.alloc(), &command, source);
     }
     Ok(())
 }

@@ -5,7 +5,7 @@ use std::test::Fail;
 
 #[test]
 fn tells_why_a_source_is_refused(rt: HostRuntime) -> Result<(), Fail> {
-    let rows = [
+    let rows = &[
         ("dump", "012\n", "", 1, "<stdin>:1:0: error: invalid syntax"),
         (
             "dump",
@@ -263,5 +263,5 @@ fn tells_why_a_source_is_refused(rt: HostRuntime) -> Result<(), Fail> {
             "<stdin>:1:2: error: unexpected character",
         ),
     ];
-    does_all(&rt, rt.alloc(), &rows)
+    does_all(&rt, rt.alloc(), rows)
 }

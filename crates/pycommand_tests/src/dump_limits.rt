@@ -1,18 +1,18 @@
 //! Sources at the limits of `dump`: brackets, heights, numbers.
 
 use crate::dumps::command;
-use crate::expected::{reader, writer};
+use crate::expected::{reader, same_answer, same_bytes, same_status, writer};
 use fakes::FakeReader;
-use pycommand::run;
+use pycommand::{Command, run};
 use std::alloc::{AllocError, Global};
 use std::process::Abort;
 use std::test::Fail;
 
 /// A text that comes so many times.
-type Piece<'a> = (&'a str, usize);
+pub(crate) type Piece<'a> = (&'a str, usize);
 
 /// Pieces one behind the other.
-fn joined(alloc: Global, pieces: &[Piece<'_>]) -> Result<String, AllocError> {
+pub(crate) fn joined(alloc: Global, pieces: &[Piece<'_>]) -> Result<String, AllocError> {
     let mut text = String::new(alloc);
     for (piece, count) in pieces {
         for _ in 0..*count {
@@ -48,17 +48,9 @@ fn meets(rt: &impl Abort, alloc: Global, source: &str, fault: &str) -> Result<()
     let mut output = writer(alloc);
     let mut faults = writer(alloc);
     let status = run(alloc, &command, &mut reader, &mut output, &mut faults);
-    assert_eq!(rt; faults.taken(), told.as_bytes());
-    assert_eq!(rt;
-        status,
-        if fault.is_empty() { 0 } else { 1 },
-        "behind {fault}"
-    );
-    assert_eq!(rt;
-        output.taken().is_empty(),
-        !fault.is_empty(),
-        "behind {fault}"
-    );
+    same_bytes(rt, faults.taken(), told.as_bytes(), fault);
+    same_status(rt, status, if fault.is_empty() { 0 } else { 1 }, fault);
+    same_answer(rt, output.taken().is_empty(), !fault.is_empty(), fault);
     Ok(())
 }
 
@@ -73,7 +65,7 @@ fn meets_all(rt: &impl Abort, alloc: Global, rows: &[(&[Piece<'_>], &str)]) -> R
 
 #[test]
 fn stops_at_heights_and_brackets(rt: HostRuntime) -> Result<(), Fail> {
-    let rows: [(&[Piece<'_>], &str); 18] = [
+    let rows: &[(&[Piece<'_>], &str)] = &[
         (&[("(", 600), ("x", 1), (")", 600)], ""),
         (
             &[("(", 601), ("x", 1), (")", 601)],
@@ -105,21 +97,35 @@ fn stops_at_heights_and_brackets(rt: HostRuntime) -> Result<(), Fail> {
         (&[("0x1", 1), ("0", 32)], "1:0: error: integer too large"),
         (&[("if x:\n x\n", 2000)], ""),
     ];
-    meets_all(&rt, rt.alloc(), &rows)
+    meets_all(&rt, rt.alloc(), rows)
 }
 
 #[test]
 fn stops_at_statements(rt: HostRuntime) -> Result<(), Fail> {
-    for (count, last, fault) in [
+    for (count, last, fault) in &[
         (499, "pass\n", ""),
         (500, "pass\n", "501:500: error: too deep"),
         (499, "if x: pass\n", "500:499: error: too deep"),
         (498, "if x: pass\n", ""),
     ] {
-        let source = nested(rt.alloc(), count, last)?;
+        let source = nested(rt.alloc(), *count, last)?;
         meets(&rt, rt.alloc(), source.as_str(), fault)?;
     }
     Ok(())
+}
+
+/// Asserts that a line without a form is refused.
+fn refuses(rt: &impl Abort, alloc: Global, command: &Command, source: &str) {
+    let mut reader = FakeReader::new(source.as_bytes(), 4096, false);
+    let mut output = writer(alloc);
+    let mut faults = writer(alloc);
+    let status = run(alloc, command, &mut reader, &mut output, &mut faults);
+    same_bytes(rt, output.taken(), b"", "a long line");
+    let told = faults.taken();
+    let syntax = b"<stdin>:1:0: error: invalid syntax\n".as_slice();
+    let deep = b"<stdin>:1:0: error: too deep\n".as_slice();
+    same_answer(rt, told == syntax || told == deep, true, "a long line");
+    same_status(rt, status, 1, "a long line");
 }
 
 // Many tokens without a form are bad syntax, or too deep where the reader stopped before it saw that;
@@ -129,16 +135,7 @@ fn refuses_a_long_line_without_a_form(rt: HostRuntime) -> Result<(), Fail> {
     for count in [600, 100_000] {
         let source = joined(rt.alloc(), &[("x", 1), (" +", count), ("\n", 1)])?;
         let command = command(rt.alloc(), "dump")?;
-        let mut reader = FakeReader::new(source.as_bytes(), 4096, false);
-        let mut output = writer(rt.alloc());
-        let mut faults = writer(rt.alloc());
-        let status = run(rt.alloc(), &command, &mut reader, &mut output, &mut faults);
-        assert!(rt; output.taken().is_empty());
-        let told = faults.taken();
-        let syntax = b"<stdin>:1:0: error: invalid syntax\n".as_slice();
-        let deep = b"<stdin>:1:0: error: too deep\n".as_slice();
-        assert!(rt; told == syntax || told == deep, "at {count}");
-        assert_eq!(rt; status, 1);
+        refuses(&rt, rt.alloc(), &command, source.as_str());
     }
     Ok(())
 }

@@ -5,7 +5,7 @@ use std::test::Fail;
 
 #[test]
 fn dumps_in_styles(rt: HostRuntime) -> Result<(), Fail> {
-    let rows = [
+    let rows = &[
         (
             "dump --indent 2",
             "f(a, b=1)\n",
@@ -122,5 +122,5 @@ fn dumps_in_styles(rt: HostRuntime) -> Result<(), Fail> {
             "",
         ),
     ];
-    does_all(&rt, rt.alloc(), &rows)
+    does_all(&rt, rt.alloc(), rows)
 }

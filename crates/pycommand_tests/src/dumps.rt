@@ -1,7 +1,7 @@
 //! What `dump` writes of a source. The trees are those of Python 3.11.
 
-use crate::expected::{reader, writer};
-use pycommand::{Command, run};
+use crate::expected::{Left, leaves, reader};
+use pycommand::Command;
 use std::alloc::Global;
 use std::process::Abort;
 use std::test::Fail;
@@ -23,7 +23,7 @@ pub(crate) fn command(alloc: Global, text: &str) -> Result<Command, Fail> {
 pub(crate) type Row<'a> = (&'a str, &'a str, &'a str, u8, &'a str);
 
 /// A text and a line feed, or nothing where it is empty.
-fn line(alloc: Global, text: &str) -> Result<String, Fail> {
+pub(crate) fn line(alloc: Global, text: &str) -> Result<String, Fail> {
     let mut line = String::from_str(alloc, text)?;
     if !text.is_empty() {
         line.push('\n')?;
@@ -31,32 +31,39 @@ fn line(alloc: Global, text: &str) -> Result<String, Fail> {
     Ok(line)
 }
 
-/// Asserts that the words of each row do with its source what it says.
+/// Asserts that the words of a row do with its source what it says.
+pub(crate) fn does(rt: &impl Abort, alloc: Global, row: &Row<'_>) -> Result<(), Fail> {
+    let (words, source, text, status, fault) = row;
+    let command = command(alloc, words)?;
+    let written = line(alloc, text)?;
+    let told = line(alloc, fault)?;
+    let left = Left {
+        written: written.as_bytes(),
+        told: told.as_bytes(),
+        status: *status,
+    };
+    leaves(
+        rt,
+        alloc,
+        &command,
+        &mut reader(source.as_bytes()),
+        &left,
+        source,
+    );
+    Ok(())
+}
+
+/// Asserts that of each row.
 pub(crate) fn does_all(rt: &impl Abort, alloc: Global, rows: &[Row<'_>]) -> Result<(), Fail> {
-    for (words, source, text, wanted, fault) in rows {
-        let command = command(alloc, words)?;
-        let output = line(alloc, text)?;
-        let told = line(alloc, fault)?;
-        let mut reader = reader(source.as_bytes());
-        let mut writer_of_output = writer(alloc);
-        let mut writer_of_faults = writer(alloc);
-        let status = run(
-            alloc,
-            &command,
-            &mut reader,
-            &mut writer_of_output,
-            &mut writer_of_faults,
-        );
-        assert_eq!(rt; writer_of_output.taken(), output.as_bytes(), "at {source}");
-        assert_eq!(rt; writer_of_faults.taken(), told.as_bytes(), "at {source}");
-        assert_eq!(rt; status, *wanted, "at {source}");
+    for row in rows {
+        does(rt, alloc, row)?;
     }
     Ok(())
 }
 
 #[test]
 fn dumps_trees(rt: HostRuntime) -> Result<(), Fail> {
-    let rows = [
+    let rows = &[
         ("dump", "", "Module(body=[], type_ignores=[])", 0, ""),
         (
             "dump",
@@ -314,5 +321,5 @@ fn dumps_trees(rt: HostRuntime) -> Result<(), Fail> {
             "",
         ),
     ];
-    does_all(&rt, rt.alloc(), &rows)
+    does_all(&rt, rt.alloc(), rows)
 }

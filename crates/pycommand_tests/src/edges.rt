@@ -7,7 +7,7 @@ use std::test::Fail;
 // encoding, and the fault told behind them, if one is.
 #[test]
 fn lists_edges(rt: HostRuntime) -> Result<(), Fail> {
-    let rows = [
+    let rows = &[
         // A number is the longest of all classes at its place.
         (
             ".5\n",
@@ -248,7 +248,7 @@ fn lists_edges(rt: HostRuntime) -> Result<(), Fail> {
             "",
         ),
     ];
-    lists_all(&rt, rt.alloc(), &rows)
+    lists_all(&rt, rt.alloc(), rows)
 }
 
 // The second line may name the encoding behind a comment of any bytes.

@@ -29,6 +29,94 @@ pub(crate) fn writer(alloc: Global) -> FakeWriter
     FakeWriter::new(alloc, usize::MAX, usize::MAX, false)
 }
 
+/// Asserts that these are the expected bytes, in the row of `at`.
+pub(crate) fn same_bytes(rt: &impl Abort, told: &[u8], expected: &[u8], at: &str) {
+    assert_eq!(rt; told, expected, "at {at:?}");
+}
+
+/// Asserts that a text is the expected one, in the row of `at`.
+pub(crate) fn same_text(rt: &impl Abort, told: &str, expected: &str, at: &str) {
+    assert_eq!(rt; told, expected, "at {at:?}");
+}
+
+/// Asserts that a status is the expected one, in the row of `at`.
+pub(crate) fn same_status(rt: &impl Abort, told: u8, expected: u8, at: &str) {
+    assert_eq!(rt; told, expected, "at {at:?}");
+}
+
+/// Asserts that an answer is the expected one, in the row of `at`.
+pub(crate) fn same_answer(rt: &impl Abort, told: bool, expected: bool, at: &str) {
+    assert_eq!(rt; told, expected, "at {at:?}");
+}
+
+/// What a run is to leave: what is written, what is told, and its status.
+#[derive(Drop)]
+pub(crate) struct Left<'a> {
+    /// What is written.
+    pub(crate) written: &'a [u8],
+    /// What is told of a fault.
+    pub(crate) told: &'a [u8],
+    /// How the run ends.
+    pub(crate) status: u8,
+}
+
+/// Asserts what a command leaves, in the row of `at`.
+pub(crate) fn leaves<R: ByteIn>(
+    rt: &impl Abort,
+    alloc: Global,
+    command: &Command,
+    reader: &mut R,
+    left: &Left<'_>,
+    at: &str,
+)
+    requires { R.failure_count reader.old < 2 ^ 64 - 1 }
+{
+    let mut output = writer(alloc);
+    let mut faults = writer(alloc);
+    let status = run(alloc, command, reader, &mut output, &mut faults);
+    same_bytes(rt, output.taken(), left.written, at);
+    same_bytes(rt, faults.taken(), left.told, at);
+    same_status(rt, status, left.status, at);
+}
+
+/// Asserts that a command whose writer takes no more than so many bytes writes those of what it is to write, and tells
+/// that the write failed where there are more.
+fn stops_at(
+    rt: &impl Abort,
+    alloc: Global,
+    command: &Command,
+    source: &[u8],
+    whole: &[u8],
+    room: usize,
+    takes_none: bool,
+) {
+    assert!(rt; room <= whole.len());
+    let mut reader = reader(source);
+    let mut output = FakeWriter::new(alloc, 1, room, takes_none);
+    let mut faults = writer(alloc);
+    let status = run(alloc, command, &mut reader, &mut output, &mut faults);
+    let fails = room < whole.len();
+    let told: &[u8] = if fails { b"pyast: write failed\n" } else { b"" };
+    same_bytes(rt, output.taken(), &whole[..room], "a room");
+    same_bytes(rt, faults.taken(), told, "a room");
+    same_status(rt, status, if fails { 3 } else { 0 }, "a room");
+}
+
+/// Asserts that of each number of bytes up to all that the command is to write.
+pub(crate) fn stops_anywhere(
+    rt: &impl Abort,
+    alloc: Global,
+    command: &Command,
+    source: &[u8],
+    whole: &[u8],
+) {
+    for room in 0..=whole.len() {
+        for takes_none in [false, true] {
+            stops_at(rt, alloc, command, source, whole, room, takes_none);
+        }
+    }
+}
+
 fn push_filled(out: &mut String, field: &str, width: usize) -> Result<(), AllocError> {
     out.push_str(field)?;
     for _ in field.chars().count()..width {
@@ -106,8 +194,10 @@ pub(crate) fn lists_bytes_as(
     // A byte a read, and as many as there is room for.
     let mut slow = reader(source);
     let mut fast = Counted::new(source);
-    writes_and_tells(rt, alloc, &mut slow, wanted.as_bytes(), told.as_bytes())?;
-    writes_and_tells(rt, alloc, &mut fast, wanted.as_bytes(), told.as_bytes())
+    let (written, told) = (wanted.as_bytes(), told.as_bytes());
+    writes_and_tells(rt, alloc, &mut slow, written, told, "a byte a read");
+    writes_and_tells(rt, alloc, &mut fast, written, told, "many bytes a read");
+    Ok(())
 }
 
 // Asserts that `tokens` writes and tells this of what a reader gives.
@@ -117,24 +207,20 @@ fn writes_and_tells<R: ByteIn>(
     reader: &mut R,
     wanted: &[u8],
     told: &[u8],
-) -> Result<(), Fail>
+    at: &str,
+)
     requires { R.failure_count reader.old < 2 ^ 64 - 1 }
 {
-    let mut output = writer(alloc);
-    let mut faults = writer(alloc);
     let command = Command::Tokens(Tokens {
         exact: false,
         count: None,
         resume: None,
         file: None,
     });
-    let status = run(alloc, &command, reader, &mut output, &mut faults);
-    assert_eq!(rt; output.taken(), wanted);
-    assert_eq!(rt; faults.taken(), told, "behind {wanted:?}");
-    assert_eq!(rt;
-        status,
-        if told.is_empty() { 0 } else { 1 },
-        "behind {wanted:?}"
-    );
-    Ok(())
+    let left = Left {
+        written: wanted,
+        told,
+        status: if told.is_empty() { 0 } else { 1 },
+    };
+    leaves(rt, alloc, &command, reader, &left, at);
 }

@@ -1,6 +1,9 @@
 //! What is told where reading, writing or opening fails.
 
-use crate::expected::{failing_reader, push_lines, reader, writer};
+use crate::expected::{
+    Left, failing_reader, leaves, push_lines, reader, same_bytes, same_status, stops_anywhere,
+    writer,
+};
 use fakes::{FakeReader, FakeWriter};
 use pycommand::{Command, Fault, RunFaultCode, Tokens, open_source, run};
 use pylex::Cursor;
@@ -24,22 +27,7 @@ fn stops_where_the_writer_fails(rt: HostRuntime) -> Result<(), Fail> {
         "0,0-0,0 ENCODING 'utf-8'\n1,0-1,1 NAME 'x'\n1,1-1,2 NEWLINE '\\n'\n2,0-2,0 ENDMARKER ''",
     )?;
     let whole = wanted.as_bytes();
-    for room in 0..=whole.len() {
-        for takes_none in [false, true] {
-            let mut reader = reader(b"x\n");
-            let mut output = FakeWriter::new(rt.alloc(), 1, room, takes_none);
-            let mut faults = writer(rt.alloc());
-            let status = run(rt.alloc(), &TOKENS, &mut reader, &mut output, &mut faults);
-            let told: &[u8] = if room < whole.len() {
-                b"pyast: write failed\n"
-            } else {
-                b""
-            };
-            assert_eq!(rt; output.taken(), &whole[..room], "at {room}");
-            assert_eq!(rt; faults.taken(), told, "at {room}");
-            assert_eq!(rt; status, if room < whole.len() { 3 } else { 0 }, "at {room}");
-        }
-    }
+    stops_anywhere(&rt, rt.alloc(), &TOKENS, b"x\n", whole);
     Ok(())
 }
 
@@ -56,22 +44,25 @@ fn stops_where_the_writer_fails_in_the_line_of_a_cursor(rt: HostRuntime) -> Resu
         resume: None,
         file: None,
     });
-    for room in 0..=whole.len() {
-        for takes_none in [false, true] {
-            let mut reader = reader(b"x $\n");
-            let mut output = FakeWriter::new(rt.alloc(), 1, room, takes_none);
-            let mut faults = writer(rt.alloc());
-            let status = run(rt.alloc(), &command, &mut reader, &mut output, &mut faults);
-            let told: &[u8] = if room < whole.len() {
-                b"pyast: write failed\n"
-            } else {
-                b""
-            };
-            assert_eq!(rt; output.taken(), &whole[..room], "at {room}");
-            assert_eq!(rt; faults.taken(), told, "at {room}");
-            assert_eq!(rt; status, if room < whole.len() { 3 } else { 0 }, "at {room}");
-        }
-    }
+    stops_anywhere(&rt, rt.alloc(), &command, b"x $\n", whole);
+    Ok(())
+}
+
+/// Asserts that a writer that takes so many bytes stops a long listing there.
+fn stops_within(rt: &impl Abort, alloc: Global, source: &[u8], whole: &[u8], room: usize) {
+    let room = room.min(whole.len());
+    let mut reader = reader(source);
+    let mut output = FakeWriter::new(alloc, 5000, room, false);
+    let mut faults = writer(alloc);
+    let status = run(alloc, &TOKENS, &mut reader, &mut output, &mut faults);
+    assert!(rt; output.taken() == &whole[..room], "at {room}");
+    same_status(rt, status, if room < whole.len() { 3 } else { 0 }, "a room");
+}
+
+/// Appends the lines of a row of a name.
+fn push_row(alloc: Global, wanted: &mut String, row: i32) -> Result<(), Fail> {
+    let entries = format!(in alloc; "{row},0-{row},1 NAME 'x'\n{row},1-{row},2 NEWLINE '\\n'")?;
+    push_lines(wanted, entries.as_str())?;
     Ok(())
 }
 
@@ -83,10 +74,7 @@ fn stops_within_a_long_listing(rt: HostRuntime) -> Result<(), Fail> {
     push_lines(&mut wanted, "0,0-0,0 ENCODING 'utf-8'")?;
     for row in 1..=1000 {
         source.push_str("x\n")?;
-        let entries = format!(in rt.alloc();
-            "{row},0-{row},1 NAME 'x'\n{row},1-{row},2 NEWLINE '\\n'"
-        )?;
-        push_lines(&mut wanted, entries.as_str())?;
+        push_row(rt.alloc(), &mut wanted, row)?;
     }
     push_lines(&mut wanted, "1001,0-1001,0 ENDMARKER ''")?;
     let whole = wanted.as_bytes();
@@ -100,13 +88,7 @@ fn stops_within_a_long_listing(rt: HostRuntime) -> Result<(), Fail> {
         100_000,
         usize::MAX,
     ] {
-        let room = room.min(whole.len());
-        let mut reader = reader(source.as_bytes());
-        let mut output = FakeWriter::new(rt.alloc(), 5000, room, false);
-        let mut faults = writer(rt.alloc());
-        let status = run(rt.alloc(), &TOKENS, &mut reader, &mut output, &mut faults);
-        assert!(rt; output.taken() == &whole[..room], "at {room}");
-        assert_eq!(rt; status, if room < whole.len() { 3 } else { 0 }, "at {room}");
+        stops_within(&rt, rt.alloc(), source.as_bytes(), whole, room);
     }
     Ok(())
 }
@@ -118,8 +100,8 @@ fn tells_a_failed_write_before_a_fault_of_the_source(rt: HostRuntime) -> Result<
     let mut output = FakeWriter::new(rt.alloc(), 1, 60, false);
     let mut faults = writer(rt.alloc());
     let status = run(rt.alloc(), &TOKENS, &mut reader, &mut output, &mut faults);
-    assert_eq!(rt; faults.taken(), b"pyast: write failed\n".as_slice());
-    assert_eq!(rt; status, 3);
+    same_bytes(&rt, faults.taken(), b"pyast: write failed\n", "x $");
+    same_status(&rt, status, 3, "x $");
     Ok(())
 }
 
@@ -132,40 +114,42 @@ fn lists_read_lines(
 ) -> Result<(), Fail> {
     let mut wanted = String::new(alloc);
     push_lines(&mut wanted, entries)?;
-    let mut reader = failing_reader(source);
-    let mut output = writer(alloc);
-    let mut faults = writer(alloc);
-    let status = run(alloc, &TOKENS, &mut reader, &mut output, &mut faults);
-    assert_eq!(rt; output.taken(), wanted.as_bytes(), "at {source:?}");
-    assert_eq!(rt;
-        faults.taken(),
-        b"pyast: read failed\n".as_slice(),
-        "at {source:?}"
+    let left = Left {
+        written: wanted.as_bytes(),
+        told: b"pyast: read failed\n",
+        status: 3,
+    };
+    leaves(
+        rt,
+        alloc,
+        &TOKENS,
+        &mut failing_reader(source),
+        &left,
+        entries,
     );
-    assert_eq!(rt; status, 3, "at {source:?}");
     Ok(())
 }
 
 // Each is what was read before a read failed, and the lines that are written.
 #[test]
 fn writes_the_lines_that_were_read_whole(rt: HostRuntime) -> Result<(), Fail> {
-    for (source, entries) in [
+    let rows: &[(&[u8], &str)] = &[
         // The second line isn't whole.
         (
-            b"x\ny".as_slice(),
+            b"x\ny",
             "0,0-0,0 ENCODING 'utf-8'\n\
              1,0-1,1 NAME 'x'\n\
              1,1-1,2 NEWLINE '\\n'",
         ),
         (
-            b"x\n".as_slice(),
+            b"x\n",
             "0,0-0,0 ENCODING 'utf-8'\n\
              1,0-1,1 NAME 'x'\n\
              1,1-1,2 NEWLINE '\\n'",
         ),
         // Whether the block ends stands in the line that wasn't read.
         (
-            b"if x:\n y\n".as_slice(),
+            b"if x:\n y\n",
             "0,0-0,0 ENCODING 'utf-8'\n\
              1,0-1,2 NAME 'if'\n\
              1,3-1,4 NAME 'x'\n\
@@ -177,17 +161,18 @@ fn writes_the_lines_that_were_read_whole(rt: HostRuntime) -> Result<(), Fail> {
         ),
         // The string may go on.
         (
-            b"x = '''a\n".as_slice(),
+            b"x = '''a\n",
             "0,0-0,0 ENCODING 'utf-8'\n\
              1,0-1,1 NAME 'x'\n\
              1,2-1,3 OP '='",
         ),
         // The first line isn't whole, or the second may name the encoding.
-        (b"".as_slice(), ""),
-        (b"x".as_slice(), ""),
-        (b"# c\n".as_slice(), ""),
-        (b"\n# c".as_slice(), ""),
-    ] {
+        (b"", ""),
+        (b"x", ""),
+        (b"# c\n", ""),
+        (b"\n# c", ""),
+    ];
+    for (source, entries) in rows {
         lists_read_lines(&rt, rt.alloc(), source, entries)?;
     }
     Ok(())
@@ -202,29 +187,29 @@ fn writes_nothing_where_the_reader_fails_before_the_encoding(rt: HostRuntime) ->
     Ok(())
 }
 
+/// Asserts that this line is told of bytes behind which a read fails.
+fn tells(rt: &impl Abort, alloc: Global, source: &[u8], line: &[u8]) {
+    let mut reader = failing_reader(source);
+    let mut output = writer(alloc);
+    let mut faults = writer(alloc);
+    let status = run(alloc, &TOKENS, &mut reader, &mut output, &mut faults);
+    same_bytes(rt, faults.taken(), line, "a failed read");
+    same_status(rt, status, 1, "a failed read");
+}
+
 // A fault of the lines that were read whole stands before the failed read.
 #[test]
 fn tells_a_fault_before_a_failed_read(rt: HostRuntime) -> Result<(), Fail> {
-    for (source, line) in [
+    let rows: &[(&[u8], &[u8])] = &[
         (
-            b"# x\n# coding: latin-1\n".as_slice(),
-            b"<stdin>:2:0: error: unsupported encoding\n".as_slice(),
+            b"# x\n# coding: latin-1\n",
+            b"<stdin>:2:0: error: unsupported encoding\n",
         ),
-        (
-            b"\xFF\nx".as_slice(),
-            b"<stdin>:1:0: error: invalid UTF-8\n".as_slice(),
-        ),
-        (
-            b")\nx".as_slice(),
-            b"<stdin>:1:0: error: unmatched closing bracket\n".as_slice(),
-        ),
-    ] {
-        let mut reader = failing_reader(source);
-        let mut output = writer(rt.alloc());
-        let mut faults = writer(rt.alloc());
-        let status = run(rt.alloc(), &TOKENS, &mut reader, &mut output, &mut faults);
-        assert_eq!(rt; faults.taken(), line, "at {source:?}");
-        assert_eq!(rt; status, 1, "at {source:?}");
+        (b"\xFF\nx", b"<stdin>:1:0: error: invalid UTF-8\n"),
+        (b")\nx", b"<stdin>:1:0: error: unmatched closing bracket\n"),
+    ];
+    for (source, line) in rows {
+        tells(&rt, rt.alloc(), source, line);
     }
     Ok(())
 }
@@ -244,71 +229,110 @@ fn stops_at_a_count_before_a_failed_read(rt: HostRuntime) -> Result<(), Fail> {
         resume: None,
         file: None,
     });
-    let mut reader = failing_reader(b"x\ny");
-    let mut output = writer(rt.alloc());
-    let mut faults = writer(rt.alloc());
-    let status = run(rt.alloc(), &command, &mut reader, &mut output, &mut faults);
-    assert_eq!(rt; output.taken(), wanted.as_bytes());
-    assert!(rt; faults.taken().is_empty());
-    assert_eq!(rt; status, 0);
+    let left = Left {
+        written: wanted.as_bytes(),
+        told: b"",
+        status: 0,
+    };
+    leaves(
+        &rt,
+        rt.alloc(),
+        &command,
+        &mut failing_reader(b"x\ny"),
+        &left,
+        "a count",
+    );
+    Ok(())
+}
+
+/// Asserts what is told of a cursor, where a read fails.
+fn tells_of_a_cursor(
+    rt: &impl Abort,
+    alloc: Global,
+    resume: &str,
+    line: &[u8],
+    status: u8,
+) -> Result<(), Fail> {
+    let command = Command::Tokens(Tokens {
+        exact: false,
+        count: None,
+        resume: Some(Cursor::from_text(alloc, resume)?),
+        file: None,
+    });
+    let left = Left {
+        written: b"",
+        told: line,
+        status,
+    };
+    leaves(
+        rt,
+        alloc,
+        &command,
+        &mut failing_reader(b"x\ny"),
+        &left,
+        resume,
+    );
     Ok(())
 }
 
 // Whether a cursor behind more entries than were read is one of the source isn't known, so the failed read is told.
 #[test]
 fn tells_a_failed_read_before_a_cursor(rt: HostRuntime) -> Result<(), Fail> {
-    for (resume, line, wanted_status) in [
-        (
-            "pytok1 3 2 2 0 0 0 0",
-            b"pyast: read failed\n".as_slice(),
-            3,
-        ),
-        (
-            "pytok1 5 4 3 0 0 0 0",
-            b"pyast: read failed\n".as_slice(),
-            3,
-        ),
+    let rows: &[(&str, &[u8], u8)] = &[
+        ("pytok1 3 2 2 0 0 0 0", b"pyast: read failed\n", 3),
+        ("pytok1 5 4 3 0 0 0 0", b"pyast: read failed\n", 3),
         (
             "pytok1 3 3 2 0 0 0 0",
-            b"pyast: cursor of another source\n".as_slice(),
+            b"pyast: cursor of another source\n",
             2,
         ),
-    ] {
-        let command = Command::Tokens(Tokens {
-            exact: false,
-            count: None,
-            resume: Some(Cursor::from_text(rt.alloc(), resume)?),
-            file: None,
-        });
-        let mut reader = failing_reader(b"x\ny");
-        let mut output = writer(rt.alloc());
-        let mut faults = writer(rt.alloc());
-        let status = run(rt.alloc(), &command, &mut reader, &mut output, &mut faults);
-        assert!(rt; output.taken().is_empty(), "at {resume}");
-        assert_eq!(rt; faults.taken(), line, "at {resume}");
-        assert_eq!(rt; status, wanted_status, "at {resume}");
+    ];
+    for (resume, line, wanted_status) in rows {
+        tells_of_a_cursor(&rt, rt.alloc(), resume, line, *wanted_status)?;
     }
     Ok(())
 }
 
+/// Asserts that the line of a fault is written up to so many bytes, and the status is that of the fault.
+fn keeps_its_status(
+    rt: &impl Abort,
+    alloc: Global,
+    source: &[u8],
+    fails: bool,
+    told: &[u8],
+    wanted: u8,
+    room: usize,
+) {
+    let mut reader = FakeReader::new(source, 1, fails);
+    let mut output = writer(alloc);
+    let mut faults = FakeWriter::new(alloc, 1, room, false);
+    let status = run(alloc, &TOKENS, &mut reader, &mut output, &mut faults);
+    same_bytes(rt, faults.taken(), told, "a room");
+    same_status(rt, status, wanted, "a room");
+}
+
 #[test]
 fn keeps_its_status_where_the_fault_line_fails(rt: HostRuntime) -> Result<(), Fail> {
-    for (source, fails, line, wanted) in [
+    let rows: &[(&[u8], bool, &[u8], u8)] = &[
         (
-            b")\n".as_slice(),
+            b")\n",
             false,
-            b"<stdin>:1:0: error: unmatched closing bracket\n".as_slice(),
+            b"<stdin>:1:0: error: unmatched closing bracket\n",
             1,
         ),
-        (b"".as_slice(), true, b"pyast: read failed\n".as_slice(), 3),
-    ] {
+        (b"", true, b"pyast: read failed\n", 3),
+    ];
+    for (source, fails, line, wanted) in rows {
         for room in 0..=line.len() {
-            let mut reader = FakeReader::new(source, 1, fails);
-            let mut output = writer(rt.alloc());
-            let mut faults = FakeWriter::new(rt.alloc(), 1, room, false);
-            let status = run(rt.alloc(), &TOKENS, &mut reader, &mut output, &mut faults);
-            assert_eq!(rt; faults.taken(), &line[..room], "at {room}");
-            assert_eq!(rt; status, wanted, "at {room}");
+            keeps_its_status(
+                &rt,
+                rt.alloc(),
+                source,
+                *fails,
+                &line[..room],
+                *wanted,
+                room,
+            );
         }
     }
     Ok(())
@@ -325,11 +349,11 @@ fn opens_a_file_or_tells_that_it_cannot(rt: HostRuntime) -> Result<(), Fail> {
         return Ok(());
     };
     let mut reader = Counted::new(folder);
-    let mut output = writer(rt.alloc());
-    let mut faults = writer(rt.alloc());
-    let status = run(rt.alloc(), &TOKENS, &mut reader, &mut output, &mut faults);
-    assert!(rt; output.taken().is_empty());
-    assert_eq!(rt; faults.taken(), b"pyast: read failed\n".as_slice());
-    assert_eq!(rt; status, 3);
+    let left = Left {
+        written: b"",
+        told: b"pyast: read failed\n",
+        status: 3,
+    };
+    leaves(&rt, rt.alloc(), &TOKENS, &mut reader, &left, "a folder");
     Ok(())
 }

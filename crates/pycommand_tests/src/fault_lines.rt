@@ -1,6 +1,6 @@
 //! The line that is told of each fault, and the status that it gives.
 
-use crate::expected::writer;
+use crate::expected::{same_bytes, same_status, same_text, writer};
 use pycommand::{Fault, FaultCode, RunFaultCode, SourceFaultCode, fault_text, tell};
 use pyparse::{GrammarError, ParseFault, tokens_of};
 use pysource::{InputFault, Place, SOURCE_LIMIT, SourceFault, decode};
@@ -9,32 +9,60 @@ use std::alloc::Global;
 use std::process::Abort;
 use std::test::Fail;
 
+/// Asserts that a fault is the expected one.
+fn same_fault(rt: &impl Abort, told: &Fault, expected: &Fault, line: &str) {
+    assert_eq!(rt; told, expected, "at {line}");
+}
+
 /// Asserts that this line, and an LF behind it, is told of a fault of `a.py`, and that the status
 /// is this.
 fn tells(rt: &impl Abort, alloc: Global, fault: Fault, line: &str, status: u8) -> Result<(), Fail> {
     let wanted = format!(in alloc; "{line}\n")?;
     let mut faults = writer(alloc);
     let told = tell(alloc, "a.py", fault, &mut faults);
-    assert_eq!(rt; faults.taken(), wanted.as_bytes(), "at {line}");
-    assert_eq!(rt; told, fault, "at {line}");
-    assert_eq!(rt; told.status(), status, "at {line}");
+    same_bytes(rt, faults.taken(), wanted.as_bytes(), line);
+    same_fault(rt, &told, &fault, line);
+    same_status(rt, told.status(), status, line);
     Ok(())
 }
 
-/// Asserts the text of each fault of a source, its line at a place, and the status.
-fn tells_all(rt: &impl Abort, alloc: Global, rows: &[(SourceFaultCode, &str)]) -> Result<(), Fail> {
+/// Asserts the text of a fault of a source, its line at a place, and the status.
+fn tells_in_source(
+    rt: &impl Abort,
+    alloc: Global,
+    code: SourceFaultCode,
+    text: &str,
+) -> Result<(), Fail> {
     let place = Place { row: 3, column: 7 };
+    same_text(rt, fault_text(FaultCode::Source(code)), text, text);
+    let line = format!(in alloc; "a.py:3:7: error: {text}")?;
+    tells(rt, alloc, Fault::InSource(code, place), line.as_str(), 1)
+}
+
+/// Asserts that of each row.
+fn tells_all(rt: &impl Abort, alloc: Global, rows: &[(SourceFaultCode, &str)]) -> Result<(), Fail> {
     for (code, text) in rows {
-        assert_eq!(rt; fault_text(FaultCode::Source(*code)), *text);
-        let line = format!(in alloc; "a.py:3:7: error: {text}")?;
-        tells(rt, alloc, Fault::InSource(*code, place), line.as_str(), 1)?;
+        tells_in_source(rt, alloc, *code, text)?;
     }
     Ok(())
 }
 
+/// Asserts the text of a fault that is in no source, its line, and the status.
+fn tells_plainly(
+    rt: &impl Abort,
+    alloc: Global,
+    code: RunFaultCode,
+    text: &str,
+    status: u8,
+) -> Result<(), Fail> {
+    same_text(rt, fault_text(FaultCode::Run(code)), text, text);
+    let line = format!(in alloc; "pyast: {text}")?;
+    tells(rt, alloc, Fault::Plain(code), line.as_str(), status)
+}
+
 #[test]
 fn tells_what_is_wrong_with_a_source(rt: HostRuntime) -> Result<(), Fail> {
-    let rows = [
+    let rows = &[
         (SourceFaultCode::UnsupportedEncoding, "unsupported encoding"),
         (
             SourceFaultCode::BomConflict,
@@ -99,12 +127,12 @@ fn tells_what_is_wrong_with_a_source(rt: HostRuntime) -> Result<(), Fail> {
             "inconsistent tabs and spaces",
         ),
     ];
-    tells_all(&rt, rt.alloc(), &rows)
+    tells_all(&rt, rt.alloc(), rows)
 }
 
 #[test]
 fn tells_what_else_ends_a_run(rt: HostRuntime) -> Result<(), Fail> {
-    for (code, text, status) in [
+    for (code, text, status) in &[
         (RunFaultCode::Read, "read failed", 3),
         (
             RunFaultCode::CursorOfAnotherSource,
@@ -117,9 +145,7 @@ fn tells_what_else_ends_a_run(rt: HostRuntime) -> Result<(), Fail> {
         (RunFaultCode::Write, "write failed", 3),
         (RunFaultCode::Memory, "out of memory", 4),
     ] {
-        assert_eq!(rt; fault_text(FaultCode::Run(code)), text);
-        let line = format!(in rt.alloc(); "pyast: {text}")?;
-        tells(&rt, rt.alloc(), Fault::Plain(code), line.as_str(), status)?;
+        tells_plainly(&rt, rt.alloc(), *code, text, *status)?;
     }
     Ok(())
 }
@@ -140,7 +166,7 @@ fn refuses(rt: &impl Abort, alloc: Global, text: &str, line: &str) -> Result<(),
 // Rows count from 1, and columns from 0 in characters.
 #[test]
 fn tells_why_a_source_has_no_tokens(rt: HostRuntime) -> Result<(), Fail> {
-    for (text, line) in [
+    for (text, line) in &[
         ("x = 1.5\n", "a.py:1:4: error: float literal"),
         ("'é' + 1j\n", "a.py:1:6: error: complex literal"),
         ("x\nf''\n", "a.py:2:0: error: f-string"),
@@ -190,7 +216,7 @@ fn tells_brackets_that_are_too_deep(rt: HostRuntime) -> Result<(), Fail> {
 #[test]
 fn tells_what_the_grammar_says(rt: HostRuntime) -> Result<(), Fail> {
     let place = Place { row: 3, column: 7 };
-    for (error, line) in [
+    for (error, line) in &[
         (GrammarError::Syntax, "a.py:3:7: error: invalid syntax"),
         (
             GrammarError::MatchStatement,
@@ -210,7 +236,7 @@ fn tells_what_the_grammar_says(rt: HostRuntime) -> Result<(), Fail> {
         ),
         (GrammarError::TooDeep, "a.py:3:7: error: too deep"),
     ] {
-        let fault = Fault::from(ParseFault::Grammar(error, place));
+        let fault = Fault::from(ParseFault::Grammar(*error, place));
         tells(&rt, rt.alloc(), fault, line, 1)?;
     }
     Ok(())

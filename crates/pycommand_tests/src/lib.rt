@@ -1,6 +1,6 @@
-//! Tests of `pycommand`: which words give which command, what is listed and dumped of which source,
-//! and what is told where reading or writing fails. The rows are worked by hand from the documentation of
-//! Python, or taken from Python 3.11.
+//! Tests of `pycommand`: which words give which command, what is listed, dumped and unparsed of
+//! which source, and what is told where reading or writing fails. The rows are worked by hand from
+//! the documentation of Python, or taken from Python 3.11.
 #![tactic(auto)]
 
 #[cfg(test)]
@@ -25,5 +25,7 @@ mod failures;
 mod fault_lines;
 #[cfg(test)]
 mod listings;
+#[cfg(test)]
+mod unparses;
 #[cfg(test)]
 mod words;

@@ -1,6 +1,8 @@
 //! Worked listings: what `tokens` writes of a source, and the fault that it tells.
 
-use crate::expected::{lists_all, lists_bytes_as, reader, writer};
+use crate::expected::{
+    Left, leaves, lists_all, lists_bytes_as, reader, same_bytes, same_status, writer,
+};
 use pycommand::{Command, Tokens, run};
 use std::test::Fail;
 
@@ -8,7 +10,7 @@ use std::test::Fail;
 // encoding, and the fault told behind them, if one is.
 #[test]
 fn lists(rt: HostRuntime) -> Result<(), Fail> {
-    let rows = [
+    let rows = &[
         ("", "'utf-8'", "1,0-1,0 ENDMARKER ''", ""),
         (
             "x = 1\n",
@@ -291,7 +293,7 @@ fn lists(rt: HostRuntime) -> Result<(), Fail> {
             "1:0: error: byte order mark with another encoding",
         ),
     ];
-    lists_all(&rt, rt.alloc(), &rows)
+    lists_all(&rt, rt.alloc(), rows)
 }
 
 #[test]
@@ -309,25 +311,31 @@ fn lists_the_lines_before_a_bad_byte(rt: HostRuntime) -> Result<(), Fail> {
 
 #[test]
 fn shows_exact_names(rt: HostRuntime) -> Result<(), Fail> {
-    let mut reader = reader(b"x //= 2\n");
-    let mut output = writer(rt.alloc());
-    let mut faults = writer(rt.alloc());
     let command = Command::Tokens(Tokens {
         exact: true,
         count: None,
         resume: None,
         file: None,
     });
-    let status = run(rt.alloc(), &command, &mut reader, &mut output, &mut faults);
     let wanted = "0,0-0,0:            ENCODING       'utf-8'        \n\
                   1,0-1,1:            NAME           'x'            \n\
                   1,2-1,5:            DOUBLESLASHEQUAL'//='          \n\
                   1,6-1,7:            NUMBER         '2'            \n\
                   1,7-1,8:            NEWLINE        '\\n'           \n\
                   2,0-2,0:            ENDMARKER      ''             \n";
-    assert_eq!(rt; output.taken(), wanted.as_bytes());
-    assert!(rt; faults.taken().is_empty());
-    assert_eq!(rt; status, 0);
+    let left = Left {
+        written: wanted.as_bytes(),
+        told: b"",
+        status: 0,
+    };
+    leaves(
+        &rt,
+        rt.alloc(),
+        &command,
+        &mut reader(b"x //= 2\n"),
+        &left,
+        "//=",
+    );
     Ok(())
 }
 
@@ -344,7 +352,7 @@ fn names_the_file_in_a_fault(rt: HostRuntime) -> Result<(), Fail> {
     });
     let status = run(rt.alloc(), &command, &mut reader, &mut output, &mut faults);
     let wanted = "dir/a b.py:2:2: error: unexpected character\n";
-    assert_eq!(rt; faults.taken(), wanted.as_bytes());
-    assert_eq!(rt; status, 1);
+    same_bytes(&rt, faults.taken(), wanted.as_bytes(), "a file");
+    same_status(&rt, status, 1, "a file");
     Ok(())
 }

@@ -1,51 +1,75 @@
 //! Which words give which command.
 
-use pycommand::{Command, UsageFault};
+use crate::expected::same_text;
+use pycommand::{Command, Dump, Tokens, Unparse, UsageFault};
 use pynode::Profile;
 use std::alloc::{AllocError, Global};
 use std::process::Abort;
 use std::test::Fail;
 
+/// Appends what `tokens` is asked for.
+fn push_tokens(alloc: Global, given: &mut String, asked: &Tokens) -> Result<(), Fail> {
+    given.push_str("tokens")?;
+    if asked.exact {
+        given.push_str(" exact")?;
+    }
+    if let Some(count) = asked.count {
+        let shown = format!(in alloc; " count {count}")?;
+        given.push_str(shown.as_str())?;
+    }
+    if let Some(cursor) = &asked.resume {
+        let text = cursor.to_text()?;
+        given.push_str(" behind ")?;
+        given.push_str(text.as_str())?;
+    }
+    push_file(given, &asked.file)
+}
+
+/// Appends what `dump` is asked for.
+fn push_dump(alloc: Global, given: &mut String, asked: &Dump) -> Result<(), Fail> {
+    given.push_str("dump")?;
+    if let Some(blanks) = asked.style.indent {
+        let shown = format!(in alloc; " indent {blanks}")?;
+        given.push_str(shown.as_str())?;
+    }
+    if !asked.style.names {
+        given.push_str(" bare")?;
+    }
+    push_profile(given, asked.style.profile)?;
+    push_file(given, &asked.file)
+}
+
+/// Appends what `unparse` is asked for.
+fn push_unparse(given: &mut String, asked: &Unparse) -> Result<(), Fail> {
+    given.push_str("unparse")?;
+    push_profile(given, asked.profile)?;
+    push_file(given, &asked.file)
+}
+
+/// Appends the version of Python, unless it is 3.11.
+fn push_profile(given: &mut String, profile: Profile) -> Result<(), Fail> {
+    if profile == Profile::Py312 {
+        given.push_str(" py312")?;
+    }
+    Ok(())
+}
+
+/// Appends the file that is named, if one is.
+fn push_file(given: &mut String, file: &Option<String>) -> Result<(), Fail> {
+    if let Some(file) = file {
+        given.push_str(" of ")?;
+        given.push_str(file.as_str())?;
+    }
+    Ok(())
+}
+
 // What words give: `bad`, `malformed`, `help`, or the command and what it has.
 fn answer(rt: &impl Abort, alloc: Global, words: &[String]) -> Result<String, Fail> {
     let mut given = String::new(alloc);
     match Command::read(alloc, words) {
-        Ok(Command::Tokens(asked)) => {
-            given.push_str("tokens")?;
-            if asked.exact {
-                given.push_str(" exact")?;
-            }
-            if let Some(count) = asked.count {
-                let shown = format!(in alloc; " count {count}")?;
-                given.push_str(shown.as_str())?;
-            }
-            if let Some(cursor) = &asked.resume {
-                let text = cursor.to_text()?;
-                given.push_str(" behind ")?;
-                given.push_str(text.as_str())?;
-            }
-            if let Some(file) = &asked.file {
-                given.push_str(" of ")?;
-                given.push_str(file.as_str())?;
-            }
-        }
-        Ok(Command::Dump(asked)) => {
-            given.push_str("dump")?;
-            if let Some(blanks) = asked.style.indent {
-                let shown = format!(in alloc; " indent {blanks}")?;
-                given.push_str(shown.as_str())?;
-            }
-            if !asked.style.names {
-                given.push_str(" bare")?;
-            }
-            if asked.style.profile == Profile::Py312 {
-                given.push_str(" py312")?;
-            }
-            if let Some(file) = &asked.file {
-                given.push_str(" of ")?;
-                given.push_str(file.as_str())?;
-            }
-        }
+        Ok(Command::Tokens(asked)) => push_tokens(alloc, &mut given, &asked)?,
+        Ok(Command::Dump(asked)) => push_dump(alloc, &mut given, &asked)?,
+        Ok(Command::Unparse(asked)) => push_unparse(&mut given, &asked)?,
         Err(UsageFault::BadArguments) => given.push_str("bad")?,
         Err(UsageFault::MalformedCursor) => given.push_str("malformed")?,
         Err(UsageFault::HelpAsked(text)) => {
@@ -66,19 +90,25 @@ fn split(alloc: Global, text: &str) -> Result<Vec<String>, AllocError> {
     Ok(words)
 }
 
+/// Asserts what words give.
+fn gives(rt: &impl Abort, alloc: Global, words: &str, wanted: &str) -> Result<(), Fail> {
+    let owned = split(alloc, words)?;
+    let given = answer(rt, alloc, owned.as_slice())?;
+    same_text(rt, given.as_str(), wanted, words);
+    Ok(())
+}
+
 /// Asserts what the words of each row give.
 fn gives_all(rt: &impl Abort, alloc: Global, rows: &[(&str, &str)]) -> Result<(), Fail> {
     for (words, wanted) in rows {
-        let owned = split(alloc, words)?;
-        let given = answer(rt, alloc, owned.as_slice())?;
-        assert_eq!(rt; given.as_str(), *wanted, "at {words}");
+        gives(rt, alloc, words, wanted)?;
     }
     Ok(())
 }
 
 #[test]
 fn reads_words(rt: HostRuntime) -> Result<(), Fail> {
-    let rows = [
+    let rows = &[
         ("tokens", "tokens"),
         ("tokens -e", "tokens exact"),
         ("tokens a.py", "tokens of a.py"),
@@ -119,7 +149,6 @@ fn reads_words(rt: HostRuntime) -> Result<(), Fail> {
         ("tokens --indent 2", "bad"),
         ("tokens --bare", "bad"),
         ("tokens --py312", "bad"),
-        ("unparse", "bad"),
         ("--version", "bad"),
         ("help", "help"),
         ("help tokens", "help"),
@@ -128,12 +157,12 @@ fn reads_words(rt: HostRuntime) -> Result<(), Fail> {
         ("tokens -h", "help"),
         ("tokens --help", "help"),
     ];
-    gives_all(&rt, rt.alloc(), &rows)
+    gives_all(&rt, rt.alloc(), rows)
 }
 
 #[test]
 fn reads_words_of_dump(rt: HostRuntime) -> Result<(), Fail> {
-    let rows = [
+    let rows = &[
         ("dump", "dump"),
         ("dump a.py", "dump of a.py"),
         ("dump --bare", "dump bare"),
@@ -170,7 +199,44 @@ fn reads_words_of_dump(rt: HostRuntime) -> Result<(), Fail> {
         ("dump -h", "help"),
         ("dump --help", "help"),
     ];
-    gives_all(&rt, rt.alloc(), &rows)
+    gives_all(&rt, rt.alloc(), rows)
+}
+
+#[test]
+fn reads_words_of_unparse(rt: HostRuntime) -> Result<(), Fail> {
+    let rows = &[
+        ("unparse", "unparse"),
+        ("unparse a.py", "unparse of a.py"),
+        ("unparse --py312", "unparse py312"),
+        ("unparse a.py --py312", "unparse py312 of a.py"),
+        ("unparse -- --py312", "unparse of --py312"),
+        ("unparse dump", "unparse of dump"),
+        ("unparse --py312 --py312", "bad"),
+        ("unparse --indent 2", "bad"),
+        ("unparse --bare", "bad"),
+        ("unparse -e", "bad"),
+        ("unparse --count 1", "bad"),
+        ("unparse a.py b.py", "bad"),
+        ("help unparse", "help"),
+        ("unparse -h", "help"),
+        ("unparse --help", "help"),
+    ];
+    gives_all(&rt, rt.alloc(), rows)
+}
+
+/// The words of `tokens` with a cursor between other words.
+fn with_cursor(
+    alloc: Global,
+    before: &str,
+    cursor: &str,
+    behind: &str,
+) -> Result<Vec<String>, AllocError> {
+    let mut words = split(alloc, "tokens")?;
+    words.append(&mut split(alloc, before)?)?;
+    words.push(String::from_str(alloc, "--resume")?)?;
+    words.push(String::from_str(alloc, cursor)?)?;
+    words.append(&mut split(alloc, behind)?)?;
+    Ok(words)
 }
 
 /// Asserts what `tokens` with a cursor between other words gives, in each row. A cursor is one word, though its text has
@@ -181,20 +247,16 @@ fn gives_all_with_cursors(
     rows: &[(&str, &str, &str, &str)],
 ) -> Result<(), Fail> {
     for (before, cursor, behind, wanted) in rows {
-        let mut words = split(alloc, "tokens")?;
-        words.append(&mut split(alloc, before)?)?;
-        words.push(String::from_str(alloc, "--resume")?)?;
-        words.push(String::from_str(alloc, cursor)?)?;
-        words.append(&mut split(alloc, behind)?)?;
+        let words = with_cursor(alloc, before, cursor, behind)?;
         let given = answer(rt, alloc, words.as_slice())?;
-        assert_eq!(rt; given.as_str(), *wanted, "at {before} {cursor} {behind}");
+        same_text(rt, given.as_str(), wanted, cursor);
     }
     Ok(())
 }
 
 #[test]
 fn reads_cursors(rt: HostRuntime) -> Result<(), Fail> {
-    let rows = [
+    let rows = &[
         (
             "",
             "pytok1 7 8 2 0 1 0 0,8",
@@ -230,15 +292,16 @@ fn reads_cursors(rt: HostRuntime) -> Result<(), Fail> {
             "malformed",
         ),
     ];
-    gives_all_with_cursors(&rt, rt.alloc(), &rows)
+    gives_all_with_cursors(&rt, rt.alloc(), rows)
 }
 
 // The help of a command shows how it is called.
 #[test]
 fn helps_with_the_whole_call(rt: HostRuntime) -> Result<(), Fail> {
-    for (command, usage) in [
+    for (command, usage) in &[
         ("tokens -h", "\nUsage: pyast tokens [OPTIONS] [FILE]\n"),
         ("dump -h", "\nUsage: pyast dump [OPTIONS] [FILE]\n"),
+        ("unparse -h", "\nUsage: pyast unparse [OPTIONS] [FILE]\n"),
     ] {
         let words = split(rt.alloc(), command)?;
         let Err(UsageFault::HelpAsked(text)) = Command::read(rt.alloc(), words.as_slice()) else {

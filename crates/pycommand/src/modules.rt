@@ -1,0 +1,52 @@
+//! The module of a source, which is read whole.
+ghost use Rattle.std.specs.Prelude.{◌+◌, ◌-◌, ◌^◌, ◌<◌, ◌≤◌, length, IfOk, IfErr};
+ghost use Rattle.std.specs.Str.{encode_utf8_all};
+ghost use Rattle.pysource.specs.Limits.{source_limit};
+ghost use Rattle.pylex.specs.Laws.{IsLawful};
+ghost use Rattle.pylex.specs.Listing.{in_characters};
+ghost use Rattle.pynode.specs.TreeOf.{module_of};
+ghost use Rattle.pywritten.specs.Modules.{module_text};
+ghost use Rattle.pyunparse.specs.RoundTrips.{GivesBack};
+ghost use Rattle.pycommand.specs.Modules.{IsModule};
+ghost use Rattle.pycommand.specs.Inner.Reading.{Refuses, ReadsModule, ReadsNone};
+
+use pyfault::Fault;
+use pylex::Lister;
+use pynode::{Module, Profile};
+use pyparse::parse;
+use pysource::{ByteIn, Source, decode, read_all};
+use std::alloc::Global;
+
+/// Makes it known that the listing of a source is lawful, as the start of a lister says.
+fn know_listing(alloc: Global, source: &Source)
+    ensures { IsLawful (in_characters source.now) }
+{
+    let _ = Lister::new(alloc, source);
+}
+
+/// The module that bytes are as a source. Its own text gives it back.
+fn accept(alloc: Global, bytes: &[u8], profile: Profile) -> Result<Module, Fault>
+    requires { length bytes.now ≤ source_limit }
+    ensures is { IfOk result (λ m. IsModule profile bytes.now (module_of m)) }
+    ensures back { IfOk result (λ m. GivesBack profile (encode_utf8_all (module_text (module_of m))) (module_of m)) }
+    ensures refused { IfErr result (Refuses profile bytes.now) }
+{
+    let source = decode(alloc, bytes)?;
+    know_listing(alloc, &source);
+    Ok(parse(alloc, &source, profile)?)
+}
+
+/// The module of what a reader gives, which is read whole: a failed read comes before a fault of the source.
+pub(crate) fn read_module<R: ByteIn>(
+    alloc: Global,
+    profile: Profile,
+    reader: &mut R,
+) -> Result<Module, Fault>
+    requires { R.failure_count reader.old < 2 ^ 64 - 1 }
+    ensures reads { IfOk result (λ m. ReadsModule profile (R.to_come reader.old) (R.to_come reader.new) (R.failure_count reader.old) (R.failure_count reader.new) (module_of m)) }
+    ensures back { IfOk result (λ m. GivesBack profile (encode_utf8_all (module_text (module_of m))) (module_of m)) }
+    ensures none { IfErr result (ReadsNone profile (R.to_come reader.old) (R.to_come reader.new) (R.failure_count reader.old) (R.failure_count reader.new)) }
+{
+    let bytes = read_all(alloc, reader)?;
+    accept(alloc, bytes.as_slice(), profile)
+}
