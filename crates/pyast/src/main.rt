@@ -1,4 +1,4 @@
-//! Lists and dumps Python source.
+//! Lists, dumps and unparses Python source.
 #![tactic(auto)]
 
 use pycommand::{Command, Fault, RunFaultCode, UsageFault, open_source, run, tell};
