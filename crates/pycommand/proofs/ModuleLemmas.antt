@@ -1,8 +1,10 @@
 -- Carries: accept, read_module, write_dump, write_unparse. On: what refuses a source that was read whole, and that the text of its module gives it back.
-use Rattle.std.proofs.Common.{◌≡◌, ◌≢◌, ℕ, Bool, true, false, cond, List, [], ◌∷◌, Option, Some, None, Result, Ok, Err, subst}
+use Rattle.std.proofs.Common.{◌≡◌, ℕ, Bool, true, false, cond, List, [], ◌∷◌, Option, Some, None, Result, Ok, Err, sym, subst}
 use Rattle.std.specs.Prelude.{IsUtf8}
 use Rattle.std.specs.Str.{encode_utf8_all}
+use Rattle.std.specs.Io.KnownBytes.{Appends}
 use Rattle.std.proofs.lemmas.Str.{scalars-chars}
+use Rattle.pysource.specs.Bytes.{TakesFront}
 use Rattle.pysource.specs.Cookies.{encoding_of, without_mark}
 use Rattle.pysource.specs.Limits.{source_limit}
 use Rattle.pysource.specs.Lines.{lines_of}
@@ -43,9 +45,10 @@ use Rattle.pyfault.specs.declared.fault.RunFaultCode.TheVariants.{Read, Write, M
 use Rattle.pywritten.specs.Modules.{module_text}
 use Rattle.pywritten.proofs.Callers.Texts.{accepted_texts_are_accepted}
 use Rattle.pyunparse.specs.RoundTrips.{GivesBack}
-use Rattle.pycommand.specs.Modules.{IsRefused, no_source, refused, Writes, of_none}
+use Rattle.pycommand.specs.Modules.{IsRefused, no_source, refused, Writes, of_module, of_none}
 use Rattle.pycommand.specs.Runs.{ReadsAll, PerformsWhole}
-use Rattle.pycommand.specs.Inner.Reading.{Refuses, ReadsNone}
+use Rattle.pycommand.specs.Unparses.{IsTextOf}
+use Rattle.pycommand.specs.Inner.Reading.{Refuses, ReadsModule, ReadsNone}
 use Rattle.pycommand.proofs.UnreadLemmas.{listing_is_read}
 
 -- a refusal that is no fault of the listing
@@ -167,8 +170,16 @@ none_written profile output come_old come_new reads_old reads_new x (Plain Memor
 none_written profile output come_old come_new reads_old reads_new x (Plain Read) h = (h, Appends-refl x)
 none_written profile output come_old come_new reads_old reads_new x (Plain other) h = absurd h
 
--- and no write is blamed
-pub none_blamed : (profile : Profile) (come_old come_new : Option (List ℕ)) (reads_old reads_new : ℕ) (fault : Fault) → ReadsNone profile come_old come_new reads_old reads_new fault → fault ≢ Plain Write
-none_blamed profile come_old come_new reads_old reads_new (InSource code place) h e = cc
-none_blamed profile come_old come_new reads_old reads_new (Plain Write) h e = absurd h
-none_blamed profile come_old come_new reads_old reads_new (Plain other) h e = cc
+-- where a write fails a front of the output is, and else all of it
+module _ {profile : Profile} {output : Module → List ℕ → Type 0} {come_old come_new : Option (List ℕ)} {reads_old reads_new : ℕ} {m : Module} (x y : Option (List ℕ)) (text : List ℕ) where
+  pub front_written : ReadsModule profile come_old come_new reads_old reads_new m → output m text → TakesFront x y text
+      → PerformsWhole (Writes profile output) come_old come_new reads_old reads_new x y source_limit (Some (Plain Write))
+  front_written reads is front = (reads.input, text, reads.all, of_module reads.is is, front)
+
+  pub all_written : ReadsModule profile come_old come_new reads_old reads_new m → output m text → Appends x y text
+      → PerformsWhole (Writes profile output) come_old come_new reads_old reads_new x y source_limit None
+  all_written reads is all = (reads.input, text, reads.all, of_module reads.is is, all)
+
+-- the text of a module that its own text gives back
+pub is_text : {profile : Profile} {m : Module} {text : List ℕ} → text ≡ encode_utf8_all (module_text m) → GivesBack profile (encode_utf8_all (module_text m)) m → IsTextOf profile m text
+is_text {profile} {m} {text} is back = record { text = is; back = subst (λ (bytes : List ℕ). GivesBack profile bytes m) (sym is) back }

@@ -1,4 +1,4 @@
-use Rattle.std.proofs.Common.{arith}
+use Rattle.std.proofs.Common.{arith, refl}
 use Rattle.pycommand.proofs.dumps.dump_line.Goals as goal
 
 pub returns : goal.returns
