@@ -1,0 +1,31 @@
+-- A source that is read whole, and the module that it is.
+use Rattle.std.specs.Prelude.{◌≡◌, ℕ, List, Option}
+use Rattle.pysource.specs.Limits.{source_limit}
+use Rattle.pynode.specs.declared.profiles.Profile.{Profile}
+use Rattle.pynode.specs.Trees.{Module}
+use Rattle.pyfault.specs.declared.fault.Fault.{Fault}
+use Rattle.pyfault.specs.declared.fault.Fault.TheVariants.{InSource, Plain}
+use Rattle.pyfault.specs.declared.fault.RunFaultCode.TheVariants.{Read, Memory}
+use Rattle.pycommand.specs.Modules.{IsModule, IsRefused}
+use Rattle.pycommand.specs.Runs.{ReadsAll, ReadsNotAll}
+
+-- the bytes are at fault; or memory was wanting
+abbrev pub Refuses : Profile → List ℕ → Fault → Type 0
+Refuses profile bytes (InSource code place) = IsRefused profile bytes (InSource code place)
+Refuses profile bytes (Plain code) = elim code [ Memory ↦ Unit {0} | _ ↦ ⊥ ]
+
+-- a reader's bytes are a module
+pub record ReadsModule (profile : Profile) (come_old come_new : Option (List ℕ)) (reads_old reads_new : ℕ) (m : Module) : Type 0 where
+  pub input : List ℕ
+  pub all : ReadsAll come_old come_new reads_old reads_new source_limit input
+  pub is : IsModule profile input m
+
+-- why they give none: the source is at fault, a read failed, or memory was wanting
+abbrev pub ReadsNone : Profile → Option (List ℕ) → Option (List ℕ) → ℕ → ℕ → Fault → Type 0
+ReadsNone profile come_old come_new reads_old reads_new (InSource code place) =
+    (input : List ℕ) × ReadsAll come_old come_new reads_old reads_new source_limit input × IsRefused profile input (InSource code place)
+ReadsNone profile come_old come_new reads_old reads_new (Plain code) = elim code [
+  | Read ↦ ReadsNotAll come_old come_new reads_old reads_new source_limit
+  | Memory ↦ reads_new ≡ reads_old
+  | _ ↦ ⊥
+]
