@@ -9,7 +9,7 @@ byte; the text's own text has to be the text; and it may have no more opening br
 the tree. A source that `dump` refuses has to be refused in the same words. Random sources are made of random trees, each expression in
 brackets of its own, so that they are surely those trees.
 
-Before that the worked rows: each has its text, to the byte, and that less any one pair of round brackets is refused or is another tree.
+Before that the worked examples: each has its text, to the byte, and that less any one pair of round brackets is refused or is another tree.
 
 Where pyast and Python differ about a source, the difference has to be of a class of conformance/dumps.py. Any other is a failure, shown
 by the smallest input that has it. The exit status is 0 where every difference has a class, 1 where one has none, and 2 where nothing
@@ -122,7 +122,7 @@ def compare_case(program, case):
     return Result(name, kept, finding.found or UNEXPLAINED, finding.why, len(parts), time.perf_counter() - started, finding.brackets)
 
 
-# --- the worked rows --------------------------------------------------------------------------------------------------
+# --- the worked examples --------------------------------------------------------------------------------------------------
 
 
 def pairs_of(text):
@@ -146,7 +146,7 @@ def without(text, pair):
 
 
 def faults_of_row(program, row):
-    """What is wrong with a worked row: its source, its text and the words that it is read with."""
+    """What is wrong with a worked example: its source, its text and the words that it is read with."""
     source, text, words = row
     mine = outcome_of(program, ["unparse", *words], source.encode())
     if mine != Outcome(0, text.encode(), b""):
@@ -164,7 +164,7 @@ def faults_of_row(program, row):
 
 
 def compare_row(program, row):
-    """What is wrong with a worked row, as results."""
+    """What is wrong with a worked example, as results."""
     return [Result(f"the row {row[0][:200]!r}", None, UNEXPLAINED, why, 0, 0, None) for why in faults_of_row(program, row)]
 
 
