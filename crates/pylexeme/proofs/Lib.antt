@@ -1,6 +1,8 @@
 pub mod Cases
 pub mod Computing
 pub mod Texts
+pub mod Runs
+pub mod NameBytes
 pub mod Longest
 pub mod Best
 pub mod Joined
@@ -10,6 +12,7 @@ pub mod Parts
 pub mod NumberBest
 pub mod Units
 pub mod Triples
+pub mod PlainRuns
 pub mod StringBest
 pub mod StringLongest
 pub mod Prefixes

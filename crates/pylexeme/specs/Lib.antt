@@ -7,3 +7,4 @@ pub mod Lexemes
 pub mod Chunks
 pub mod Cuts
 pub mod OpenLiterals
+pub mod Plain

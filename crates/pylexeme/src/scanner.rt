@@ -1,10 +1,11 @@
 //! A text that is read from its front, one character after another.
 
-ghost use Rattle.std.specs.Prelude.{◌≡◌, ◌==◌, ◌&&◌, ℕ, ◌≤◌, List, length, drop, slice_get};
+ghost use Rattle.std.specs.Prelude.{◌≡◌, ◌==◌, ◌&&◌, ℕ, ◌≤◌, List, length, drop, slice_get, nat_lt};
 ghost use Rattle.std.specs.Str.{chars, encode_utf8_all, IsUtf8};
 ghost use Rattle.std.specs.List.{prefix_len};
 ghost use Rattle.unicode_ident.specs.Ident.{is_xid_continue};
 ghost use Rattle.pylexeme.specs.Chars.{has, begins};
+ghost use Rattle.pylexeme.specs.Plain.{is_plain_char};
 ghost use Rattle.pylexeme.specs.Lengths.{joined_len, begins_some};
 
 use std::marker::Model;
@@ -46,14 +47,42 @@ impl<'a> Scanner<'a> {
     }
 
     /// The next character.
+    #[inline]
     pub(crate) fn first(&self) -> Option<char>
+        ensures { result ≡ slice_get self.now 0 }
+    {
+        match self.rest.as_bytes().first() {
+            Some(byte) if *byte < 128 => Some(*byte as char),
+            _ => self.first_wide(),
+        }
+    }
+
+    /// The next character, which may be past ASCII.
+    #[inline(never)]
+    fn first_wide(&self) -> Option<char>
         ensures { result ≡ slice_get self.now 0 }
     {
         self.rest.chars().next()
     }
 
     /// Takes the next character.
+    #[inline]
     pub(crate) fn bump(&mut self) -> Option<char>
+        ensures first { result ≡ slice_get self.old 0 }
+        ensures rest { self.new ≡ drop 1 self.old }
+    {
+        match self.rest.as_bytes().first() {
+            Some(byte) if *byte < 128 => {
+                self.rest = &self.rest[1..];
+                Some(*byte as char)
+            }
+            _ => self.bump_wide(),
+        }
+    }
+
+    /// Takes the next character, which may be past ASCII.
+    #[inline(never)]
+    fn bump_wide(&mut self) -> Option<char>
         ensures first { result ≡ slice_get self.old 0 }
         ensures rest { self.new ≡ drop 1 self.old }
     {
@@ -77,6 +106,18 @@ impl<'a> Scanner<'a> {
     pub(crate) fn bump_while(&mut self, set: CharSet)
         ensures { self.new ≡ drop (prefix_len (has set) self.old) self.old }
     {
+        let count = ascii_run(self.rest.as_bytes(), set);
+        self.rest = &self.rest[count..];
+        if begins_wide(self.rest.as_bytes()) {
+            self.bump_while_wide(set);
+        }
+    }
+
+    /// Takes the characters of a set from here on, each of which may be past ASCII.
+    #[inline(never)]
+    fn bump_while_wide(&mut self, set: CharSet)
+        ensures { self.new ≡ drop (prefix_len (has set) self.old) self.old }
+    {
         let mut ahead = self.again();
         while let Some(first) = ahead.first()
             && set.has(first)
@@ -84,6 +125,15 @@ impl<'a> Scanner<'a> {
             let _ = ahead.bump();
         }
         *self = ahead;
+    }
+
+    /// Takes the characters of ASCII from here on that are neither a quote, a backslash nor of a line end.
+    #[inline(always)]
+    pub(crate) fn bump_plain(&mut self)
+        ensures { self.new ≡ drop (prefix_len is_plain_char self.old) self.old }
+    {
+        let count = plain_run(self.rest.as_bytes());
+        self.rest = &self.rest[count..];
     }
 
     /// The character after some others.
@@ -143,6 +193,48 @@ impl<'a> Scanner<'a> {
     }
 }
 
+/// Whether bytes begin with one past ASCII.
+#[inline(always)]
+fn begins_wide(bytes: &[u8]) -> bool
+    ensures { result ≡ begins (λ b. nat_lt 127 b) bytes.now }
+{
+    match bytes.first() {
+        Some(byte) => *byte > 127,
+        None => false,
+    }
+}
+
+/// How many bytes at the front are characters of ASCII that are in a set.
+#[inline(always)]
+fn ascii_run(bytes: &[u8], set: CharSet) -> usize
+    ensures { result ≡ prefix_len (λ b. nat_lt b 128 && has set b) bytes.now }
+{
+    let mut count = 0;
+    while count < bytes.len() && set.has_byte(bytes[count]) {
+        count += 1;
+    }
+    count
+}
+
+/// Whether a byte is a character of ASCII, and neither a quote, a backslash nor of a line end.
+#[inline(always)]
+fn is_plain(byte: u8) -> bool
+    ensures { result ≡ is_plain_char byte }
+{
+    byte < 128 && byte != b'"' && byte != b'\'' && byte != b'\\' && byte != b'\n' && byte != b'\r'
+}
+
+/// How many bytes at the front are such characters.
+fn plain_run(bytes: &[u8]) -> usize
+    ensures { result ≡ prefix_len is_plain_char bytes.now }
+{
+    let mut count = 0;
+    while count < bytes.len() && is_plain(bytes[count]) {
+        count += 1;
+    }
+    count
+}
+
 /// Whether a name may go on with a character. Those of ASCII are told without a table.
 #[inline(always)]
 fn is_name_part(c: char) -> bool
@@ -180,6 +272,19 @@ pub(crate) enum CharSet {
 }
 
 impl CharSet {
+    /// Whether a byte is a character of ASCII, and in the set.
+    #[inline(always)]
+    fn has_byte(self, byte: u8) -> bool
+        ensures { result ≡ (nat_lt byte 128 && has self byte) }
+    {
+        match self {
+            CharSet::NamePart => byte.is_ascii_alphanumeric() || byte == b'_',
+            CharSet::CommentPart => byte < 128 && byte != b'\n' && byte != b'\r',
+            CharSet::Blank => byte == b' ' || byte == b'\t' || byte == b'\x0c',
+            _ => byte < 128 && self.has(byte as char),
+        }
+    }
+
     /// Whether a character is in the set.
     #[inline(always)]
     pub(crate) fn has(self, c: char) -> bool

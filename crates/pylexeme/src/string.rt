@@ -72,6 +72,7 @@ fn close_single(text: &mut Scanner, quote: Quote) -> bool
     ensures { Closed (single_len (quote_char quote) text.old) result text.old text.new }
 {
     loop {
+        text.bump_plain();
         if has_quote(text, quote) {
             text.bump_count(1);
             return true;
@@ -88,6 +89,7 @@ fn close_triple(text: &mut Scanner, quote: Quote) -> bool
     ensures { Closed (triple_len (quote_char quote) text.old) result text.old text.new }
 {
     loop {
+        text.bump_plain();
         if has_three(text, quote) {
             text.bump_count(3);
             return true;

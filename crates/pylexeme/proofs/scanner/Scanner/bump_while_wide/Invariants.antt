@@ -1,7 +1,7 @@
 use Rattle.std.proofs.Common.{◌≡◌, length}
 use Rattle.pylexeme.specs.Chars.{has}
 use Rattle.pylexeme.proofs.Texts.{after_run}
-use Rattle.pylexeme.proofs.scanner.Scanner.bump_while.Given as goal
+use Rattle.pylexeme.proofs.scanner.Scanner.bump_while_wide.Given as goal
 
 abbrev pub invariant-loop-first : goal.invariant-loop-first
 invariant-loop-first l = after_run (has l.set) l.ahead ≡ after_run (has l.initial.set) l.initial.ahead
