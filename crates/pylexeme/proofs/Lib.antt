@@ -20,6 +20,7 @@ pub mod OpenStrings
 pub mod Classes
 pub mod Union
 pub mod OperatorLengths
+pub mod Seconds
 pub mod Cutting
 pub mod InLine
 pub mod LinedUnits

@@ -202,8 +202,11 @@ fn is_name_start(c: char) -> bool
 fn has_number(text: &Scanner) -> bool
     ensures { result ≡ begins_number text.now }
 {
-    text.has_next(0, CharSet::Digit)
-        || text.has_next(0, CharSet::One('.')) && text.has_next(1, CharSet::Digit)
+    match text.first() {
+        Some('.') => text.has_next(1, CharSet::Digit),
+        Some(c) => CharSet::Digit.has(c),
+        None => false,
+    }
 }
 
 /// Takes the longest lexeme that stands here, and says its class; none and nothing where no lexeme stands.

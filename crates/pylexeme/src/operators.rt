@@ -1,6 +1,6 @@
 //! The operators and delimiters (reference 2.5 and 2.6): their names, and the longest one at a place.
 
-ghost use Rattle.std.specs.Prelude.{◌≡◌, ℕ, List, [], ◌∷◌};
+ghost use Rattle.std.specs.Prelude.{◌≡◌, ◌==◌, ◌||◌, ℕ, List, [], ◌∷◌};
 ghost use Rattle.std.specs.Str.{chars};
 ghost use Rattle.pylexeme.specs.Operators.{exact_of};
 ghost use Rattle.pylexeme.specs.Lengths.{operator_at, pair_at};
@@ -113,6 +113,14 @@ fn longest_of_two(first: char, second: char) -> Option<(Exact, usize)>
     Some((exact_of_one(first)?, 1))
 }
 
+/// Whether an operator may have a character as its second.
+#[inline(always)]
+fn may_be_second(c: char) -> bool
+    ensures { result ≡ ((c == 61) || ((c == 60) || ((c == 62) || ((c == 42) || ((c == 47) || (c == 46)))))) }
+{
+    c == '=' || (c == '<' || (c == '>' || (c == '*' || (c == '/' || c == '.'))))
+}
+
 /// The longest operator that stands here, and how many characters it has.
 pub(crate) fn longest_operator(text: &Scanner) -> Option<(Exact, usize)>
     ensures { result ≡ operator_at text.now }
@@ -122,6 +130,9 @@ pub(crate) fn longest_operator(text: &Scanner) -> Option<(Exact, usize)>
     let Some(second) = ahead.bump() else {
         return Some((exact_of_one(first)?, 1));
     };
+    if !may_be_second(second) {
+        return Some((exact_of_one(first)?, 1));
+    }
     let Some(third) = ahead.bump() else {
         return longest_of_two(first, second);
     };
