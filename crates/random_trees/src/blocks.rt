@@ -7,7 +7,7 @@ use crate::parameters::{arguments, type_params};
 use crate::parts::{boxed, elements, exprs, optional, unboxed};
 use crate::simple::simple;
 use crate::targets::target;
-use pytree::{Context, Expr, Handler, Item, Module, Stmt};
+use pynode::{Context, Expr, Handler, Item, Module, Stmt};
 use std::alloc::AllocError;
 
 /// A statement: one that was kept, or a simple one.

@@ -8,7 +8,7 @@ use crate::parts::{
     attribute, boxed, element, elements, expr, exprs, name, optional, subscript, unboxed,
 };
 use crate::targets::target;
-use pytree::{Comprehension, Context, Expr, Keyword};
+use pynode::{Comprehension, Context, Expr, Keyword};
 use std::alloc::AllocError;
 
 fn bool_op(draw: &mut Draw) -> Result<Expr, AllocError> {

@@ -2,7 +2,7 @@
 
 use crate::draw::Draw;
 use crate::leaves::{dotted, optional_word, word};
-use pytree::{Alias, Identifier, Stmt};
+use pynode::{Alias, Identifier, Stmt};
 use std::alloc::AllocError;
 
 fn import(draw: &mut Draw) -> Result<Stmt, AllocError> {

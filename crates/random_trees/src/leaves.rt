@@ -1,7 +1,7 @@
 //! Names and constants by chance.
 
 use crate::draw::Draw;
-use pytree::{Constant, Identifier, Integer, Points};
+use pynode::{Constant, Identifier, Integer, Points};
 use std::alloc::AllocError;
 
 /// Names, soft keywords among them.

@@ -21,9 +21,10 @@ mod targets;
 
 use crate::blocks::module;
 use crate::draw::Draw;
+use pynode::{Module, Profile};
 use pyparse::{ParseFault, parse};
 use pysource::{SOURCE_LIMIT, SourceFault, decode};
-use pytree::{Module, Profile, same, well_formed};
+use pytree::{same, well_formed};
 use pyunparse::unparse;
 use std::alloc::{AllocError, Global};
 use std::process::ExitCode;

@@ -1,7 +1,7 @@
 //! Operators by chance.
 
 use crate::draw::Draw;
-use pytree::{BoolOperator, Comparison, Operator, UnaryOperator};
+use pynode::{BoolOperator, Comparison, Operator, UnaryOperator};
 use std::alloc::AllocError;
 
 const BINARY: [Operator; 13] = [

@@ -3,7 +3,7 @@
 use crate::draw::Draw;
 use crate::leaves::word;
 use crate::parts::{element, exprs, optional, optionals, unboxed};
-use pytree::{Arg, Arguments, Expr, Profile, TypeParam};
+use pynode::{Arg, Arguments, Expr, Profile, TypeParam};
 use std::alloc::AllocError;
 
 /// A parameter: where it may have an annotation, with one or without.

@@ -2,7 +2,7 @@
 
 use crate::draw::Draw;
 use crate::leaves::{constant, word};
-use pytree::{Context, Expr};
+use pynode::{Context, Expr};
 use std::alloc::AllocError;
 
 /// A name, or a constant.

@@ -8,7 +8,7 @@ use crate::operators::binary;
 use crate::parameters::type_params;
 use crate::parts::{boxed, expr, name, optional, unboxed};
 use crate::targets::{single, target, targets};
-use pytree::{Context, Expr, Profile, Stmt};
+use pynode::{Context, Expr, Profile, Stmt};
 use std::alloc::AllocError;
 
 fn returned(draw: &mut Draw) -> Result<Stmt, AllocError> {

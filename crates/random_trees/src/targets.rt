@@ -2,7 +2,7 @@
 
 use crate::draw::Draw;
 use crate::parts::{attribute, name, subscript};
-use pytree::{Context, Expr};
+use pynode::{Context, Expr};
 use std::alloc::AllocError;
 
 /// A name, an attribute or a subscript.
