@@ -45,37 +45,32 @@ fn decorators(draw: &mut Draw) -> Result<Vec<Expr>, AllocError> {
     exprs(draw, count)
 }
 
-/// `def`.
+/// `def`, or `async def`.
 fn function(draw: &mut Draw) -> Result<Stmt, AllocError> {
     let args = arguments(draw, true)?;
     let body = block(draw)?;
     let decorator_list = decorators(draw)?;
     let returns = optional(draw)?;
     let type_params = type_params(draw)?;
-    Ok(Stmt::FunctionDef {
-        name: word(draw)?,
-        args,
-        body,
-        decorator_list,
-        returns,
-        type_params,
-    })
-}
-
-/// `async def`.
-fn async_function(draw: &mut Draw) -> Result<Stmt, AllocError> {
-    let args = arguments(draw, true)?;
-    let body = block(draw)?;
-    let decorator_list = decorators(draw)?;
-    let returns = optional(draw)?;
-    let type_params = type_params(draw)?;
-    Ok(Stmt::AsyncFunctionDef {
-        name: word(draw)?,
-        args,
-        body,
-        decorator_list,
-        returns,
-        type_params,
+    let name = word(draw)?;
+    Ok(if draw.is_heads() {
+        Stmt::FunctionDef {
+            name,
+            args,
+            body,
+            decorator_list,
+            returns,
+            type_params,
+        }
+    } else {
+        Stmt::AsyncFunctionDef {
+            name,
+            args,
+            body,
+            decorator_list,
+            returns,
+            type_params,
+        }
     })
 }
 
@@ -125,7 +120,7 @@ fn tested(draw: &mut Draw) -> Result<Stmt, AllocError> {
     let body = block(draw)?;
     let orelse = optional_block(draw)?;
     let test = Box::into_inner(test);
-    Ok(if draw.is_heads() {
+    Ok(if draw.is_rare() {
         Stmt::While { test, body, orelse }
     } else {
         Stmt::If { test, body, orelse }
@@ -169,21 +164,26 @@ fn with(draw: &mut Draw) -> Result<Stmt, AllocError> {
     })
 }
 
-/// An `except` that catches all.
-fn bare_handler(draw: &mut Draw) -> Result<Handler, AllocError> {
-    Ok(Handler {
-        body: block(draw)?,
-        class: None,
-        name: None,
-    })
+/// What an `except` catches: now and then all, of `except*` nothing but what is named.
+fn class_caught(draw: &mut Draw, star: bool) -> Result<Option<Box<Expr>>, AllocError> {
+    if !star && draw.is_rare() {
+        return Ok(None);
+    }
+    let class = boxed(draw)?;
+    Ok(Some(class))
 }
 
-fn handler(draw: &mut Draw) -> Result<Handler, AllocError> {
+fn handler(draw: &mut Draw, star: bool) -> Result<Handler, AllocError> {
     let body = block(draw)?;
-    let class = boxed(draw)?;
+    let class = class_caught(draw, star)?;
+    let name = if class.is_some() {
+        optional_word(draw)?
+    } else {
+        None
+    };
     Ok(Handler {
-        name: optional_word(draw)?,
-        class: Some(Box::into_inner(class)),
+        class: unboxed(class),
+        name,
         body,
     })
 }
@@ -192,12 +192,7 @@ fn handler(draw: &mut Draw) -> Result<Handler, AllocError> {
 fn handlers(draw: &mut Draw, star: bool, count: u32) -> Result<Vec<Handler>, AllocError> {
     let mut all = Vec::new(draw.alloc());
     for _ in 0..count {
-        let made = if !star && draw.is_rare() {
-            bare_handler(draw)?
-        } else {
-            handler(draw)?
-        };
-        all.push(made)?;
+        all.push(handler(draw, star)?)?;
     }
     Ok(all)
 }
@@ -239,14 +234,13 @@ fn finished(draw: &mut Draw) -> Result<Stmt, AllocError> {
 
 /// A compound statement.
 fn branching(draw: &mut Draw) -> Result<Stmt, AllocError> {
-    match draw.below(9) {
-        0 => function(draw),
-        1 => async_function(draw),
+    match draw.below(12) {
+        0 | 1 => function(draw),
         2 => class(draw),
-        3 => over(draw),
-        4 => with(draw),
-        5 | 6 => caught(draw),
-        7 => finished(draw),
+        3 | 4 => over(draw),
+        5 => with(draw),
+        6 | 7 => caught(draw),
+        8 => finished(draw),
         _ => tested(draw),
     }
 }

@@ -5,7 +5,7 @@ use crate::leaves::optional_word;
 use crate::operators::{binary, boolean, comparisons, unary};
 use crate::parameters::arguments;
 use crate::parts::{
-    attribute, boxed, element, elements, expr, exprs, name, optional, subscript, unboxed,
+    attribute, boxed, element, elements, expr, exprs, name, optional, optionals, subscript,
 };
 use crate::targets::target;
 use pynode::{Comprehension, Context, Expr, Keyword};
@@ -66,24 +66,11 @@ fn compare(draw: &mut Draw) -> Result<Expr, AllocError> {
     })
 }
 
-/// The keys of so many values: none of `**`.
-fn keys(draw: &mut Draw, count: u32) -> Result<Vec<Option<Expr>>, AllocError> {
-    let mut all = Vec::new(draw.alloc());
-    for _ in 0..count {
-        let key = if draw.is_rare() {
-            None
-        } else {
-            Some(boxed(draw)?)
-        };
-        all.push(unboxed(key))?;
-    }
-    Ok(all)
-}
-
+/// A dictionary, in which what has no key is `**`.
 fn dict(draw: &mut Draw) -> Result<Expr, AllocError> {
     let count = draw.below(4);
     Ok(Expr::Dict {
-        keys: keys(draw, count)?,
+        keys: optionals(draw, count)?,
         values: exprs(draw, count)?,
     })
 }
@@ -95,19 +82,15 @@ fn set(draw: &mut Draw) -> Result<Expr, AllocError> {
     })
 }
 
+/// A list, or a tuple.
 fn list(draw: &mut Draw) -> Result<Expr, AllocError> {
     let count = draw.below(4);
-    Ok(Expr::List {
-        elts: elements(draw, count)?,
-        ctx: Context::Load,
-    })
-}
-
-fn tuple(draw: &mut Draw) -> Result<Expr, AllocError> {
-    let count = draw.below(4);
-    Ok(Expr::Tuple {
-        elts: elements(draw, count)?,
-        ctx: Context::Load,
+    let elts = elements(draw, count)?;
+    let ctx = Context::Load;
+    Ok(if draw.is_heads() {
+        Expr::List { elts, ctx }
+    } else {
+        Expr::Tuple { elts, ctx }
     })
 }
 
@@ -227,10 +210,9 @@ fn display(draw: &mut Draw) -> Result<Expr, AllocError> {
     match draw.below(8) {
         0 => dict(draw),
         1 => set(draw),
-        2 => list(draw),
-        3 => dict_comp(draw),
-        4 | 5 => gathering(draw),
-        _ => tuple(draw),
+        2 => dict_comp(draw),
+        3 | 4 => gathering(draw),
+        _ => list(draw),
     }
 }
 
@@ -248,9 +230,9 @@ fn primary(draw: &mut Draw) -> Result<Expr, AllocError> {
 /// An expression that is no leaf, with parts of those that were kept.
 pub(crate) fn compound(draw: &mut Draw) -> Result<Box<Expr>, AllocError> {
     let made = match draw.below(3) {
-        0 => operation(draw)?,
-        1 => display(draw)?,
-        _ => primary(draw)?,
+        0 => operation(draw),
+        1 => display(draw),
+        _ => primary(draw),
     };
-    draw.boxed(made)
+    draw.boxed(made?)
 }

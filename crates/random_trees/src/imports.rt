@@ -5,25 +5,21 @@ use crate::leaves::{dotted, optional_word, word};
 use pynode::{Alias, Identifier, Stmt};
 use std::alloc::AllocError;
 
-fn import(draw: &mut Draw) -> Result<Stmt, AllocError> {
-    let mut names = Vec::new(draw.alloc());
-    for _ in 0..=draw.below(3) {
-        names.push(Alias {
-            asname: optional_word(draw)?,
-            name: dotted(draw)?,
-        })?;
-    }
-    Ok(Stmt::Import { names })
+/// A name that is imported: of a module, with its dots, or of what stands in one.
+fn alias(draw: &mut Draw, whole: bool) -> Result<Alias, AllocError> {
+    let asname = optional_word(draw)?;
+    let name = if whole { dotted(draw) } else { word(draw) };
+    Ok(Alias {
+        name: name?,
+        asname,
+    })
 }
 
-/// The names of `from a import b as c`.
-fn aliases(draw: &mut Draw) -> Result<Vec<Alias>, AllocError> {
+/// Some such names.
+fn aliases(draw: &mut Draw, whole: bool) -> Result<Vec<Alias>, AllocError> {
     let mut names = Vec::new(draw.alloc());
     for _ in 0..=draw.below(3) {
-        names.push(Alias {
-            asname: optional_word(draw)?,
-            name: word(draw)?,
-        })?;
+        names.push(alias(draw, whole)?)?;
     }
     Ok(names)
 }
@@ -43,7 +39,7 @@ fn taken(draw: &mut Draw) -> Result<Vec<Alias>, AllocError> {
     if draw.is_rare() {
         return star(draw);
     }
-    aliases(draw)
+    aliases(draw, false)
 }
 
 /// A module's name; none now and then, where there are dots.
@@ -68,7 +64,9 @@ fn import_from(draw: &mut Draw) -> Result<Stmt, AllocError> {
 /// An import of either class.
 pub(crate) fn imported(draw: &mut Draw) -> Result<Stmt, AllocError> {
     if draw.is_heads() {
-        return import(draw);
+        return Ok(Stmt::Import {
+            names: aliases(draw, true)?,
+        });
     }
     import_from(draw)
 }

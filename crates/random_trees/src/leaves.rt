@@ -19,10 +19,19 @@ const WORDS: [&str; 11] = [
     "a_name_of_more_than_thirty_bytes",
 ];
 
-/// What names are put together of: eleven that a name may begin with, one that it may not, and two
-/// that have another form NFKC.
-const PIECES: [&str; 14] = [
-    "a", "i", "f", "s", "n", "o", "t", "_", "é", "ж", "中", "·", "𝒜", "e\u{301}",
+/// What names are put together of. A name may not begin with the last.
+const PIECES: [&str; 12] = ["a", "i", "f", "s", "n", "o", "t", "_", "é", "ж", "中", "·"];
+
+/// Names with dots between.
+const DOTTED: [&str; 8] = [
+    "a",
+    "a.b",
+    "_.x.__init__",
+    "match.case.type",
+    "größe",
+    "中文.größe",
+    "a.b.c.d.e.f",
+    "a_name.of_more.than_thirty.bytes_",
 ];
 
 /// Code points that are written in ways of their own.
@@ -34,19 +43,15 @@ const POINTS: [u32; 20] = [
 /// A text of pieces of names: now and then a keyword, or no name.
 fn new_word(draw: &mut Draw) -> Result<String, AllocError> {
     let mut text = String::new(draw.alloc());
-    text.push_str(PIECES[draw.below(11) as usize])?;
-    for _ in 0..draw.below(5) {
+    for _ in 0..=draw.below(6) {
         text.push_str(PIECES[draw.below(12) as usize])?;
-    }
-    if draw.below(50) == 0 {
-        text.push_str(PIECES[draw.below(14) as usize])?;
     }
     Ok(text)
 }
 
 /// A name.
 pub(crate) fn word(draw: &mut Draw) -> Result<Identifier, AllocError> {
-    if draw.is_rare() {
+    if draw.below(40) == 0 {
         let text = new_word(draw)?;
         return Identifier::new(draw.alloc(), text.as_str());
     }
@@ -65,8 +70,7 @@ pub(crate) fn optional_word(draw: &mut Draw) -> Result<Option<Identifier>, Alloc
 /// Some names.
 pub(crate) fn words(draw: &mut Draw) -> Result<Vec<Identifier>, AllocError> {
     let mut names = Vec::new(draw.alloc());
-    names.push(word(draw)?)?;
-    for _ in 0..draw.below(3) {
+    for _ in 0..=draw.below(3) {
         names.push(word(draw)?)?;
     }
     Ok(names)
@@ -74,13 +78,7 @@ pub(crate) fn words(draw: &mut Draw) -> Result<Vec<Identifier>, AllocError> {
 
 /// Names with dots between.
 pub(crate) fn dotted(draw: &mut Draw) -> Result<Identifier, AllocError> {
-    let mut text = String::new(draw.alloc());
-    text.push_str(WORDS[draw.below(11) as usize])?;
-    for _ in 0..draw.below(3) {
-        text.push('.')?;
-        text.push_str(WORDS[draw.below(11) as usize])?;
-    }
-    Identifier::new(draw.alloc(), text.as_str())
+    Identifier::new(draw.alloc(), DOTTED[draw.below(8) as usize])
 }
 
 /// A number: small ones, those round 2 to the 64, and any.

@@ -51,15 +51,6 @@ pub(crate) fn unboxed(expr: Option<Box<Expr>>) -> Option<Expr> {
     }
 }
 
-/// So many expressions.
-pub(crate) fn exprs(draw: &mut Draw, count: u32) -> Result<Vec<Expr>, AllocError> {
-    let mut all = Vec::new(draw.alloc());
-    for _ in 0..count {
-        all.push(expr(draw)?)?;
-    }
-    Ok(all)
-}
-
 /// So many expressions, each of them there or not.
 pub(crate) fn optionals(draw: &mut Draw, count: u32) -> Result<Vec<Option<Expr>>, AllocError> {
     let mut all = Vec::new(draw.alloc());
@@ -85,13 +76,24 @@ pub(crate) fn element(draw: &mut Draw) -> Result<Expr, AllocError> {
     expr(draw)
 }
 
-/// So many elements.
-pub(crate) fn elements(draw: &mut Draw, count: u32) -> Result<Vec<Expr>, AllocError> {
+/// So many expressions, or elements.
+fn several(draw: &mut Draw, count: u32, stars: bool) -> Result<Vec<Expr>, AllocError> {
     let mut all = Vec::new(draw.alloc());
     for _ in 0..count {
-        all.push(element(draw)?)?;
+        let made = if stars { element(draw) } else { expr(draw) };
+        all.push(made?)?;
     }
     Ok(all)
+}
+
+/// So many expressions.
+pub(crate) fn exprs(draw: &mut Draw, count: u32) -> Result<Vec<Expr>, AllocError> {
+    several(draw, count, false)
+}
+
+/// So many elements.
+pub(crate) fn elements(draw: &mut Draw, count: u32) -> Result<Vec<Expr>, AllocError> {
+    several(draw, count, true)
 }
 
 /// A slice.

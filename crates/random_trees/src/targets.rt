@@ -8,11 +8,11 @@ use std::alloc::AllocError;
 /// A name, an attribute or a subscript.
 pub(crate) fn single(draw: &mut Draw, ctx: Context) -> Result<Box<Expr>, AllocError> {
     let made = match draw.below(3) {
-        0 => attribute(draw, ctx)?,
-        1 => subscript(draw, ctx)?,
-        _ => name(draw, ctx)?,
+        0 => attribute(draw, ctx),
+        1 => subscript(draw, ctx),
+        _ => name(draw, ctx),
     };
-    draw.boxed(made)
+    draw.boxed(made?)
 }
 
 /// A star before a target. Where a target is deleted none may stand, nor before another star.
