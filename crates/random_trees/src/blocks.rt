@@ -265,7 +265,7 @@ fn keep_exprs(draw: &mut Draw) -> Result<(), AllocError> {
 /// A module by chance, with no parts of earlier ones, in a version that is drawn.
 ///
 /// Whatever is kept is made of what was kept before, so no more than forty expressions stand in one
-/// another, each with what stands round its parts, and no more than eight statements.
+/// another, each with what stands round its parts, and no more than nine statements.
 pub(crate) fn module(draw: &mut Draw) -> Result<Module, AllocError> {
     draw.begin();
     for _ in 0..draw.below(9) {
