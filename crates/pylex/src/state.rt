@@ -7,7 +7,7 @@ ghost use Rattle.pylexeme.specs.Lexemes.{is_thing_class, is_blanks_class, is_lin
 ghost use Rattle.pylexeme.specs.Chars.{bytes_in};
 ghost use Rattle.pylex.specs.Machine.{advance, front_after_char, front_after, past, behind, after, entry_by, step_of, mark_at, is_hash, still, count_if, pushed, first_state, last_line_end, last_place};
 ghost use Rattle.pylex.specs.Listing.{row_after};
-ghost use Rattle.pylex.specs.Plain.{IsPlain};
+ghost use Rattle.pylex.specs.Plain.{AreSpaces, IsPlain};
 ghost use Rattle.pylex.specs.Progress.{with_levels, measured, begun_anew, given, HasRoom};
 
 use crate::entries::{Entry, ListingError, ListingFault, Step};
@@ -102,11 +102,21 @@ fn is_plain(text: &str) -> bool
     text.as_bytes().iter().all(|b| *b < 128 && *b != b'\n')
 }
 
+/// Whether a text has spaces alone.
+fn is_spaces(text: &str) -> bool
+    ensures { IsTrue result ↔ AreSpaces text.now }
+{
+    text.as_bytes().iter().all(|b| *b == b' ')
+}
+
 /// What a line begins with after plain text at its start.
 fn front_of_plain(text: &str) -> Front
     requires { IsPlain text.now }
     ensures { result ≡ front_after Front.Nothing (chars text.now) }
 {
+    if is_spaces(text) {
+        return Front::Nothing;
+    }
     for c in text.chars() {
         let front = Front::Nothing.after(c);
         if !front.is_nothing() {
@@ -198,6 +208,9 @@ fn width_after(width: usize, blanks: &str) -> usize
     ensures value { result ≡ width_from width (chars blanks.now) }
     ensures bound { result ≤ width + 8 * length blanks.now }
 {
+    if is_spaces(blanks) {
+        return width + blanks.len();
+    }
     let mut width = width;
     for c in blanks.chars() {
         width = column_after(width, c);
