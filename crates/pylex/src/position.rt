@@ -147,7 +147,7 @@ fn next_entry<'a>(start: Progress, text: &'a str) -> Option<(Entry, Progress, &'
     let mut rest = text;
     loop {
         let (class, front, back) = cut(rest)?;
-        let ahead = now.after(class, front);
+        let ahead = now.after_in_line(class, front);
         match now.give(class, front, ahead.now) {
             Given::Fault(_) => return None,
             Given::Entry(entry) => return Some((entry, ahead, back)),

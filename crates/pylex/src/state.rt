@@ -110,6 +110,7 @@ fn is_spaces(text: &str) -> bool
 }
 
 /// What a line begins with after plain text at its start.
+#[inline(never)]
 fn front_of_plain(text: &str) -> Front
     requires { IsPlain text.now }
     ensures { result ≡ front_after Front.Nothing (chars text.now) }
@@ -140,6 +141,7 @@ impl Front {
 }
 
 /// The place after a text that begins at a place, and what its line begins with: by each character.
+#[inline(never)]
 fn walk_chars(place: Place, front: Front, text: &str) -> (Place, Front)
     requires row { place.row + length text.now < 2 ^ 63 }
     requires column { place.column + length text.now < 2 ^ 63 }
@@ -430,6 +432,34 @@ impl Progress {
             depth: self.depth_after(class),
             margin: self.margin_after(class),
             width: self.width_past(class, text),
+            logical: self.logical_after(class),
+            joined: class.is_join(),
+            front,
+        }
+    }
+
+    /// How far the lister has come after a lexeme behind a line's margin.
+    #[inline(always)]
+    pub(crate) fn after_in_line(self, class: Class, text: &str) -> Progress
+        requires room { HasRoom self (length text.now) }
+        requires counted { bytes_in (chars text.now) ≡ length text.now }
+        requires some { 0 < length text.now }
+        requires behind { self.margin ≡ false }
+        ensures after { (levels : List ℕ) → with_levels result levels ≡ after (with_levels self levels) (record { «class» = class; text = chars text.now }) }
+        ensures now { result.now ≡ past self.now (chars text.now) }
+        ensures room { (n : ℕ) → HasRoom self (length text.now + n) → HasRoom result n }
+    {
+        let (place, front) = walk(self.now.place, self.front, text);
+        let now = Point {
+            place,
+            offset: self.now.offset + text.len(),
+        };
+        Progress {
+            now,
+            line: self.line_after(class, now),
+            depth: self.depth_after(class),
+            margin: self.ends_line(class),
+            width: 0,
             logical: self.logical_after(class),
             joined: class.is_join(),
             front,

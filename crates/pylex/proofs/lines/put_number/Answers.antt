@@ -1,4 +1,4 @@
-use Rattle.std.proofs.Common.{◌≡◌, ◌∷◌, ◌+◌, ◌++◌, ℕ, List, length, drop, ap, sym, ◌∙◌, arith, rules}
+use Rattle.std.proofs.Common.{◌∷◌, ◌+◌, ◌++◌, ℕ, List, length, drop, ap, sym, ◌∙◌, arith, rules}
 use Rattle.std.specs.Prelude.{◌/◌}
 use Rattle.std.proofs.lemmas.Fmt.{length-decimal-le}
 use Rattle.pylex.proofs.LinesLemmas.{one_digit, two_digits}
@@ -23,7 +23,7 @@ pub returns-then-number-lt100 : goal.returns-then-number-lt100
 returns-then-number-lt100 c =
     let is = two_digits c.args.number (omega (arith, c.if-number-lt10.false)) c.if-number-lt100.true in
     record {
-      start = omega (arith, ap length is, c.put_sign-ones.ensures.start, c.put_sign-2.ensures.start);
-      short = omega (arith, c.put_sign-ones.ensures.start, c.put_sign-2.ensures.start);
-      written = c.put_sign-2.ensures.written ∙ ap (λ (t : List ℕ). (48 + c.args.number / 10) ∷ t) c.put_sign-ones.ensures.written ∙ ap (λ (t : List ℕ). t ++ drop c.args.end c.args.field.now) (sym is);
+      start = omega (arith, ap length is, c.put_sign-ones.ensures.start, c.put_sign-then-number-lt100.ensures.start);
+      short = omega (arith, c.put_sign-ones.ensures.start, c.put_sign-then-number-lt100.ensures.start);
+      written = c.put_sign-then-number-lt100.ensures.written ∙ ap (λ (t : List ℕ). (48 + c.args.number / 10) ∷ t) c.put_sign-ones.ensures.written ∙ ap (λ (t : List ℕ). t ++ drop c.args.end c.args.field.now) (sym is);
     }

@@ -1,4 +1,4 @@
-use Rattle.std.proofs.Common.{◌≡◌, [], take, length, refl, ap, sym, ◌∙◌, arith}
+use Rattle.std.proofs.Common.{◌≡◌, [], take, refl, ap, sym, ◌∙◌, arith}
 use Rattle.std.specs.Str.{chars}
 use Rattle.std.proofs.lemmas.List.{take_all}
 use Rattle.pylex.specs.Listers.{Listed}
