@@ -1,5 +1,5 @@
 -- What a lister meets next.
-use Rattle.std.proofs.Common.{◌≡◌, ℕ, zero, suc, ◌+◌, ◌<◌, Bool, true, false, ◌&&◌, ◌||◌, ◌==◌, take, drop, List, [], ◌∷◌, ◌++◌, length, refl, ap, cond, replicate, inl, inr, ◌⊎◌, ◌∙◌, sym, subst, arith, Option, Some, None, ⊎_elim}
+use Rattle.std.proofs.Common.{◌≡◌, ℕ, zero, suc, ◌+◌, ◌<◌, Bool, true, false, ◌&&◌, ◌||◌, ◌==◌, take, drop, List, [], ◌∷◌, ◌++◌, length, refl, ap, cond, replicate, inl, inr, ◌⊎◌, ◌∙◌, sym, append_assoc, subst, arith, Option, Some, None, ⊎_elim}
 use Rattle.std.specs.Str.{chars}
 use Rattle.std.specs.Prelude.{count_by, nat_lt}
 use Rattle.pylexeme.specs.declared.lexeme.Class.{Class}
@@ -14,13 +14,16 @@ use Rattle.pylex.specs.declared.state.Progress.{Progress}
 use Rattle.pylex.specs.declared.position.Layout.TheVariants as layouts
 use Rattle.pylex.specs.declared.position.Meets.{Meets}
 use Rattle.pylex.specs.declared.position.Meets.TheVariants as meets
-use Rattle.pylexeme.specs.Lexemes.{Lexeme, lexeme_at, lexeme_len, is_thing_class}
+use Rattle.pylexeme.specs.Lexemes.{Lexeme, lexeme_at, lexeme_len, is_thing_class, is_line_end_class, is_blanks_class}
+use Rattle.pylexeme.specs.declared.lexeme.Class.TheVariants.{Name, Number, String, Operator, Comment, Blanks, LineEnd, Join}
 use Rattle.pylex.specs.Lines.{is_thing}
 use Rattle.pylexeme.specs.Cuts.{Cuts, begins_thing}
 use Rattle.pylex.specs.Machine.{State, after, gives, entry_by, layout_of, remaining, behind_steps, pushed, dedents_at, mark_at}
-use Rattle.pylex.specs.Progress.{with_levels, measured, given, Stands, HasRoom, Comes, Walks, stays, silent, level, dedent, EntryAhead, GivesFault, mismatch, faulty, FaultAhead, IndentAhead, DedentAhead, Finds, Settles, IsLayout, is_level}
+use Rattle.pylex.specs.Progress.{with_levels, measured, given, Stands, HasRoom, Comes, Walks, stays, silent, level, dedent, EntryAhead, GivesFault, mismatch, faulty, FaultAhead, IndentAhead, DedentAhead, Finds, Settles, IsLayout, is_level, Behind}
 use Rattle.std.proofs.lemmas.Bool.Decides.{nat_tests}
-use Rattle.std.proofs.lemmas.Str.{length-le-encodes}
+use lib.Utf8.{encodes}
+use Rattle.std.specs.Str.{IsUtf8}
+use Rattle.std.proofs.lemmas.Str.{length-le-encodes, encodes-chars, encodes-append}
 use Rattle.pylexeme.proofs.Cases.{bool_cases}
 use Rattle.pylex.proofs.Measured.{lexeme_front, remaining_lexeme, measured_lexeme, measured_stop}
 use Rattle.pylex.proofs.Layouts.{layout_dedents, layout_mismatch, level_not_above, level-push, pushed_less, dedents-push}
@@ -225,3 +228,41 @@ stands_after p r bytes front back k c stands room = record { utf8 = c.back_utf8;
 
 pub shorter_after : (bytes front back : List ℕ) (k : Class) → Cuts bytes k front back → length back < length bytes
 shorter_after bytes front back k c = let n = some_bytes bytes front back k c in omega (arith, c.sizes)
+
+-- past a lexeme there is room for what follows the text too
+pub room_after : (p r : Progress) (bytes front back : List ℕ) (k : Class) → Cuts bytes k front back → ((n : ℕ) → HasRoom p (length front + n) → HasRoom r n) → (n : ℕ) → HasRoom p (length bytes + n) → HasRoom r (length back + n)
+room_after p r bytes front back k c room n h =
+    let s = c.sizes in
+    let e : length bytes + n ≡ length front + (length back + n) = omega arith in
+    room (length back + n) (subst (λ (m : ℕ). HasRoom p m) e h)
+
+-- what is behind a lexeme is behind what is before it
+cut_bytes : (bytes front back : List ℕ) (k : Class) → IsUtf8 bytes → Cuts bytes k front back → bytes ≡ front ++ back
+cut_bytes bytes front back k u c =
+    sym (encodes-chars bytes u) ∙ ap encodes c.whole ∙ encodes-append (chars front) (chars back) ∙ ap (λ t. t ++ encodes (chars back)) (encodes-chars front c.front_utf8) ∙ ap (λ t. front ++ t) (encodes-chars back c.back_utf8)
+
+pub behind_cut : (text bytes front back : List ℕ) (k : Class) → IsUtf8 bytes → Cuts bytes k front back → Behind text bytes → Behind text back
+behind_cut text bytes front back k u c b = (b.0 ++ front, b.1 ∙ ap (λ t. b.0 ++ t) (cut_bytes bytes front back k u c) ∙ sym (append_assoc b.0 front back))
+
+-- a lexeme that gives nothing ends no line
+not_line_end : (s : State) (k : Class) (u : List ℕ) → entry_by s (record { «class» = k; text = u }) ≡ [] → is_line_end_class k ≡ false
+unfolding entry_by
+not_line_end s Name u e = cc
+not_line_end s Number u e = cc
+not_line_end s String u e = cc
+not_line_end s (Operator o) u e = refl
+not_line_end s Comment u e = cc
+not_line_end s Blanks u e = refl
+not_line_end s LineEnd u e = cc
+not_line_end s Join u e = refl
+
+-- past it a lister stands behind the margin as it did
+pub margin_past : (p r : Progress) (k : Class) (u : List ℕ) → p.margin ≡ false → ((ls : List ℕ) → entry_by (with_levels p ls) (record { «class» = k; text = u }) ≡ given gives.Nothing) → ((ls : List ℕ) → with_levels r ls ≡ after (with_levels p ls) (record { «class» = k; text = u })) → r.margin ≡ false
+unfolding after
+margin_past p r k u m gave is =
+    let e = not_line_end (with_levels p []) k u (gave []) in
+    ap (λ (s : State). s.margin) (is []) ∙ rw (e, m) (no_margin (is_blanks_class k))
+  where
+    no_margin : (b : Bool) → (b && false) ≡ false
+    no_margin true = refl
+    no_margin false = refl

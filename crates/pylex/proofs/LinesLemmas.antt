@@ -189,25 +189,34 @@ plain_field text plain short =
     field_filled 15 (length text + 2) (repr_text (chars text)) [] (39 ∷ (text ++ 39 ∷ [])) (39 ∷ (text ++ 39 ∷ replicate (13 - length text) 32)) (sym shown) count
     (ap (λ k. 39 ∷ (text ++ 39 ∷ replicate k 32)) rest ∙ ap (λ (bs : List ℕ). 39 ∷ bs) (sym (append_assoc text (39 ∷ []) (replicate (15 - (length text + 2)) 32))))
 
+-- the line's end behind it
+ended_field : (text : List ℕ) → list_all is_plain text ≡ true → length text ≤ 13 → 39 ∷ (text ++ 39 ∷ (replicate (13 - length text) 32 ++ 10 ∷ [])) ≡ filled 15 (repr_text (chars text)) ++ codes "\n"
+ended_field text plain short =
+    ap (λ (bs : List ℕ). 39 ∷ bs) (sym (append_assoc text (39 ∷ replicate (13 - length text) 32) (10 ∷ [])))
+    ∙ ap (λ (bs : List ℕ). bs ++ 10 ∷ []) (plain_field text plain short)
+
 pub short_field : (text copied : List ℕ) → list_all is_plain text ≡ true → length text ≤ 13 → copied ≡ text
-    → slice_set (39 ∷ (copied ++ drop (length text + 1 - 1) (replicate {A = ℕ} 14 32))) (length text + 1) 39 ≡ filled 15 (repr_text (chars text))
+    → slice_set (39 ∷ (copied ++ drop (length text + 1 - 1) (replicate {A = ℕ} 14 32 ++ 10 ∷ []))) (length text + 1) 39 ≡ filled 15 (repr_text (chars text)) ++ codes "\n"
 short_field text copied plain short same =
     let n = length text in
     let len : n + 1 - 1 ≡ n = omega arith in
-    let back : drop n (replicate {A = ℕ} 14 32) ≡ 32 ∷ replicate (13 - n) 32 =
+    let within : n ≤ length (replicate {A = ℕ} 14 32) = omega arith in
+    let back : drop n (replicate {A = ℕ} 14 32 ++ 10 ∷ []) ≡ 32 ∷ (replicate (13 - n) 32 ++ 10 ∷ []) =
     let more : 14 - n ≡ suc (13 - n) = omega arith in
-    drop-replicate n 14 32 ∙ ap (λ k. replicate {A = ℕ} k 32) more in
+    drop-append-le n (replicate {A = ℕ} 14 32) (10 ∷ []) within ∙ ap (λ bs. bs ++ 10 ∷ []) (drop-replicate n 14 32 ∙ ap (λ k. replicate {A = ℕ} k 32) more) in
     let start : n + 1 - (n + 1) ≡ 0 = omega arith in
     let size : length (39 ∷ text) ≡ n + 1 = omega arith in
-    rw (same, len, back) (set-append_right (39 ∷ text) (32 ∷ replicate (13 - n) 32) (n + 1) (n + 1) 39 size (omega arith)
-    ∙ ap (λ k. (39 ∷ text) ++ slice_set (32 ∷ replicate (13 - n) 32) k 39) start ∙ plain_field text plain short)
+    rw (same, len, back) (set-append_right (39 ∷ text) (32 ∷ (replicate (13 - n) 32 ++ 10 ∷ [])) (n + 1) (n + 1) 39 size (omega arith)
+    ∙ ap (λ k. (39 ∷ text) ++ slice_set (32 ∷ (replicate (13 - n) 32 ++ 10 ∷ [])) k 39) start ∙ ended_field text plain short)
 
-pub filled_plain_ascii : (text : List ℕ) → list_all is_plain text ≡ true → length text ≤ 13 → IsAscii (filled 15 (repr_text (chars text)))
+pub filled_plain_ascii : (text : List ℕ) → list_all is_plain text ≡ true → length text ≤ 13 → IsAscii (filled 15 (repr_text (chars text)) ++ codes "\n")
 filled_plain_ascii text plain short =
-    subst IsAscii (plain_field text plain short)
+    IsAscii-append (filled 15 (repr_text (chars text))) (codes "\n")
+    (subst IsAscii (plain_field text plain short)
     (IsAscii-cons 39 (text ++ 39 ∷ replicate (13 - length text) 32) (omega arith)
     (IsAscii-append text (39 ∷ replicate (13 - length text) 32) (plain_ascii text plain)
-    (IsAscii-cons 39 (replicate (13 - length text) 32) (omega arith) (blanks_ascii (13 - length text)))))
+    (IsAscii-cons 39 (replicate (13 - length text) 32) (omega arith) (blanks_ascii (13 - length text))))))
+    (one_ascii 10 (omega arith))
 
 -- the field of a line feed
 pub line_feed_field : filled 15 (repr_text (chars (10 ∷ []))) ≡ codes "'\\n'           "

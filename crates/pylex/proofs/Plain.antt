@@ -8,7 +8,9 @@ use Rattle.pysource.specs.declared.places.Place.{Place}
 use Rattle.pylex.specs.declared.state.Front.{Front}
 use Rattle.pylex.specs.declared.state.Front.TheVariants.{Nothing, Hash, Other}
 use Rattle.pylex.specs.Machine.{advance, front_after}
-use Rattle.pylex.specs.Plain.{IsPlain}
+use Rattle.std.specs.Prelude.{slice_index}
+use Rattle.pylex.specs.Lines.{width_from}
+use Rattle.pylex.specs.Plain.{AreSpaces, IsPlain}
 
 -- no character is an LF
 abbrev pub AllInLine : List ℕ → Type 0
@@ -59,3 +61,31 @@ begun_plain f bs n p = begun f (chars bs) n (plain_in_line bs p)
 -- one character off the front
 pub in_line_past : (cs ds : List ℕ) (c : ℕ) → cs ≡ c ∷ ds → AllInLine cs → AllInLine ds
 in_line_past cs ds c e a = (subst AllInLine e a).1
+
+-- Spaces: a line that has begun with nothing goes on so, and each adds one to its width.
+space_first : (b : ℕ) (bs : List ℕ) → AreSpaces (b ∷ bs) → b ≡ 32
+space_first b bs p = p 0 (omega arith)
+
+spaces_past : (b : ℕ) (bs : List ℕ) → AreSpaces (b ∷ bs) → AreSpaces bs
+spaces_past b bs p k h = p (suc k) (omega (arith, h))
+
+spaces_plain : (bs : List ℕ) → AreSpaces bs → IsPlain bs
+spaces_plain bs p k h = let e = p k h in (omega (arith, e), λ (n : slice_index bs k ≡ 10). absurd (omega (arith, e, n)))
+
+front_spaces : (bs : List ℕ) → AreSpaces bs → front_after Nothing bs ≡ Nothing
+front_spaces [] p = refl
+front_spaces (b ∷ bs) p = let e = space_first b bs p in rw e (front_spaces bs (spaces_past b bs p))
+
+width_spaces : (n : ℕ) (bs : List ℕ) → AreSpaces bs → width_from n bs ≡ n + length bs
+unfolding width_from
+width_spaces n [] p = omega arith
+width_spaces n (b ∷ bs) p =
+    let e = space_first b bs p in
+    let sum : n + 1 + length bs ≡ n + suc (length bs) = omega arith in
+    rw e (width_spaces (n + 1) bs (spaces_past b bs p) ∙ sum)
+
+pub spaces_front : (bs : List ℕ) → AreSpaces bs → front_after Nothing (chars bs) ≡ Nothing
+spaces_front bs p = ap (front_after Nothing) (plain_chars bs (spaces_plain bs p)) ∙ front_spaces bs p
+
+pub spaces_width : (n : ℕ) (bs : List ℕ) → AreSpaces bs → width_from n (chars bs) ≡ n + length bs
+spaces_width n bs p = ap (width_from n) (plain_chars bs (spaces_plain bs p)) ∙ width_spaces n bs p

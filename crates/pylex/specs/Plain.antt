@@ -1,6 +1,10 @@
 -- Text that moves its place by one column for each byte.
-use Rattle.std.specs.Prelude.{◌≢◌, ℕ, ◌<◌, List, EachIndex, slice_index}
+use Rattle.std.specs.Prelude.{◌≡◌, ◌≢◌, ℕ, ◌<◌, List, EachIndex, slice_index}
 
 -- in ASCII, and without LF
 abbrev pub IsPlain : List ℕ → Type 0
 IsPlain bs = EachIndex bs (λ k. (slice_index bs k < 128) × (slice_index bs k ≢ 10))
+
+-- spaces alone
+abbrev pub AreSpaces : List ℕ → Type 0
+AreSpaces bs = EachIndex bs (λ k. slice_index bs k ≡ 32)

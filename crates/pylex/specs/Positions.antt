@@ -3,6 +3,7 @@ use Rattle.std.specs.Prelude.{◌≡◌, ◌⊎◌, ℕ, ◌+◌, ◌-◌, ◌�
 use Rattle.std.specs.Str.{chars}
 use Rattle.pysource.specs.Parts.{Parts}
 use Rattle.pysource.specs.declared.faults.LineFault.{LineFault}
+use Rattle.pylex.specs.declared.entries.Entry.{Entry}
 use Rattle.pylex.specs.declared.entries.Step.{Step}
 use Rattle.pylex.specs.declared.entries.Step.TheVariants as steps
 use Rattle.pylex.specs.declared.position.Meets.{Meets}
@@ -16,7 +17,7 @@ use Rattle.pylex.specs.Ranges.{IsMeasuring}
 use Rattle.pylex.specs.Listing.{of_line}
 use Rattle.pylex.specs.Listers.{Keeps, Moves, shown_by}
 use Rattle.pylex.specs.Machine.{remaining}
-use Rattle.pylex.specs.Progress.{with_levels, Stands, IsAscending, Finds}
+use Rattle.pylex.specs.Progress.{with_levels, Stands, IsAscending, Finds, Reaches}
 use Rattle.pylex.specs.Steps.{IsNoEntry, most_entries}
 
 -- the cursor of a position
@@ -65,3 +66,10 @@ pub record Went (old : Position) (met : Meets) (now : Progress) (left : List ℕ
       → Moves (record { source = source; shown = shown_from old }) step (record { source = source; shown = shown_from new }) × Holds source new (left_by step from to)
   pub measuring : (cs ds : List ℕ) → Finds (take old.nested old.levels.items) old.now cs met now ds → IsMeasuring old.now → IsMeasuring new.now
   pub ranges : (source : Parts) (from to before rest : List ℕ) → Holds source old from → Finds (take old.nested old.levels.items) old.now (chars from) met now (chars to) → chars source.text ≡ before ++ rest → (before ≡ []) ⊎ EndsLine before → bytes_in (chars to) ≤ bytes_in rest → bytes_in before ≤ old.now.now.offset → IsMeasuring old.now → Ranges (bytes_in before) new.now.now.offset step
+
+-- from a position to another by an entry that comes next in a text, where none of the end was given
+pub record StepsOn (old : Position) (text : List ℕ) (e : Entry) (new : Position) (left : List ℕ) : Type 0 where
+  pub now : Progress
+  pub reaches : Reaches old.now text e now left
+  pub tail : old.tail ≡ 0
+  pub went : (fault : Option LineFault) → Went old (meets.Entry e) now left fault (steps.Entry e) new

@@ -1,7 +1,7 @@
 -- How far a lister looks: its progress, its open levels, and what it meets next.
 use Rattle.std.specs.Prelude.{◌≡◌, ℕ, ◌+◌, ◌*◌, ◌^◌, ◌<◌, suc, Bool, true, false, not, ◌&&◌, ◌==◌, nat_lt, List, [], ◌∷◌, ◌++◌, length, drop, count_by, Some, None}
 use Rattle.std.specs.List.{list_all, list_any}
-use Rattle.std.specs.Str.{IsUtf8}
+use Rattle.std.specs.Str.{chars, IsUtf8}
 use Rattle.pylex.specs.declared.entries.Entry.{Entry}
 use Rattle.pylex.specs.declared.entries.ListingFault.{ListingFault}
 use Rattle.pylex.specs.declared.entries.ListingError.TheVariants as errors
@@ -185,3 +185,10 @@ pub record Settles (levels : List ℕ) (p : Progress) (cs : List ℕ) (q : Progr
 -- a text stands at the end of another
 abbrev pub Behind : List ℕ → List ℕ → Type 0
 Behind whole rest = (front : List ℕ) × (whole ≡ front ++ rest)
+
+-- from a place in a text an entry comes next, whatever levels are open: with how far a lister is behind it, and what is left there
+pub record Reaches (p : Progress) (text : List ℕ) (e : Entry) (q : Progress) (rest : List ℕ) : Type 0 where
+  pub entry : (levels : List ℕ) → EntryAhead levels p (chars text) e q (chars rest)
+  pub stands : Stands q rest
+  pub room : (n : ℕ) → HasRoom p (length text + n) → HasRoom q (length rest + n)
+  pub behind : Behind text rest

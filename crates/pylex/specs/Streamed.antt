@@ -204,6 +204,12 @@ abbrev pub Passes : Position → Chunk → Found → Streamed → Result Step Al
 Passes q d f new result = (come_old come_new : Option (List ℕ)) (told_old told_new : ℕ) (p : Position) (c : Chunk) (last : Option Entry) → Searches come_old come_new told_old told_new p q c d → 0 < p.given → LooksAhead f c.lines d.lines
     → Steps come_old come_new told_old told_new (streamed p c last) new result
 
+-- an entry is passed by, whatever was found
+pub record PassesOn (q : Position) (d : Chunk) (e : Entry) (r : Position) (new : Chunk) (last : Option Entry) : Type 0 where
+  pub found : Found
+  pub streaming : IsStreaming r new last
+  pub passes : Passes q d found (streamed r new last) (Ok (steps.Entry e))
+
 -- a source's listing ends by a line that could not be read whole, before this many entries
 pub record EndsUnread (p : Parts) (n : ℕ) : Type 0 where
   pub fault : (f : ListingFault) × (fault_of (listing (in_characters p)) ≡ Some f) × (f.code ≡ errors.Line Unread)

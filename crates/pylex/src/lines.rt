@@ -1,6 +1,6 @@
 //! The lines of a listing, as `python -m tokenize` prints them (library reference, `tokenize`, command-line usage).
 
-ghost use Rattle.std.specs.Prelude.{◌≡◌, ◌≤◌, ◌-◌, ◌+◌, ◌∷◌, [], ◌++◌, true, drop, length, replicate, decimal, IfOk, OnOk, OnErr};
+ghost use Rattle.std.specs.Prelude.{◌≡◌, ◌≤◌, ◌-◌, ◌+◌, ◌∷◌, [], ◌++◌, true, drop, length, replicate, decimal, codes, IfOk, OnOk, OnErr};
 ghost use Rattle.std.specs.Str.{chars, IsAscii};
 ghost use Rattle.std.specs.Io.{StartsWith};
 ghost use Rattle.std.specs.List.{list_all};
@@ -68,6 +68,14 @@ fn put_number(field: &mut [u8; 104], end: usize, number: usize) -> usize
     ensures short { end ≤ result + 20 }
     ensures written { drop result field.new ≡ decimal number ++ drop end field.old }
 {
+    // Most columns have one digit or two.
+    if number < 10 {
+        return put_sign(field, end, b'0' + number as u8);
+    }
+    if number < 100 {
+        let ones = put_sign(field, end, b'0' + (number % 10) as u8);
+        return put_sign(field, ones, b'0' + (number / 10) as u8);
+    }
     write_digits(number as u64, field, end)
 }
 
@@ -163,15 +171,15 @@ fn push_name(out: &mut String, entry: &Entry, exact: bool) -> Result<(), AllocEr
     }
 }
 
-/// Writes the field of a short text whose `repr` shows it as it is.
+/// Writes the field of a short text whose `repr` shows it as it is, and the line's end.
 #[inline(always)]
 fn push_short(out: &mut String, text: &str) -> Result<(), AllocError>
     requires plain { list_all is_plain text.now ≡ true }
     requires short { length text.now ≤ 13 }
-    ensures ok { OnOk result (string_bytes out.new ≡ string_bytes out.old ++ filled 15 (repr_text (chars text.now))) }
+    ensures ok { OnOk result (string_bytes out.new ≡ string_bytes out.old ++ (filled 15 (repr_text (chars text.now)) ++ codes "\n")) }
     ensures kept { StartsWith (string_bytes out.new) (string_bytes out.old) }
 {
-    let mut field = *b"'              ";
+    let mut field = *b"'              \n";
     let end = text.len() + 1;
     field[1..end].copy_from_slice(text.as_bytes());
     field[end] = b'\'';
@@ -185,9 +193,6 @@ fn push_plain(out: &mut String, text: &str) -> Result<(), AllocError>
     ensures ok { OnOk result (string_bytes out.new ≡ string_bytes out.old ++ filled 15 (repr_text (chars text.now))) }
     ensures kept { StartsWith (string_bytes out.new) (string_bytes out.old) }
 {
-    if text.len() <= FIELD_WIDTH - 2 {
-        return push_short(out, text);
-    }
     out.push('\'')?;
     out.push_str(text)?;
     out.push('\'')?;
@@ -220,6 +225,19 @@ fn push_text(out: &mut String, text: &str) -> Result<(), AllocError>
     push_filling(out, FIELD_WIDTH, taken)
 }
 
+/// Writes the field of a text, and the line's end.
+#[inline(always)]
+fn push_end(out: &mut String, text: &str) -> Result<(), AllocError>
+    ensures ok { OnOk result (string_bytes out.new ≡ string_bytes out.old ++ (filled 15 (repr_text (chars text.now)) ++ codes "\n")) }
+    ensures kept { StartsWith (string_bytes out.new) (string_bytes out.old) }
+{
+    if text.len() <= FIELD_WIDTH - 2 && is_plain_text(text) {
+        return push_short(out, text);
+    }
+    push_text(out, text)?;
+    out.push_str("\n")
+}
+
 #[inline(always)]
 fn push_fields(out: &mut String, entry: &Entry, text: &str, exact: bool) -> Result<(), AllocError>
     ensures ok { OnOk result (string_bytes out.new ≡ string_bytes out.old ++ listing_line exact entry.now text.now) }
@@ -227,8 +245,7 @@ fn push_fields(out: &mut String, entry: &Entry, text: &str, exact: bool) -> Resu
 {
     push_range(out, entry)?;
     push_name(out, entry, exact)?;
-    push_text(out, text)?;
-    out.push_str("\n")
+    push_end(out, text)
 }
 
 /// The line of an entry with this text, its line end included: the entry's places, its name and the `repr` of the text,

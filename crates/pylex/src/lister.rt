@@ -75,6 +75,23 @@ impl<'a> Lister<'a> {
         if self.position.is_at_start() {
             return Ok(Step::Entry(self.position.begin()));
         }
+        if let Some((entry, left)) = self.position.step_on(self.left) {
+            self.left = left;
+            return Ok(Step::Entry(entry));
+        }
+        self.next_met()
+    }
+
+    /// The next step behind the first one, of whatever is met.
+    #[inline(never)]
+    fn next_met(&mut self) -> Result<Step, AllocError>
+        requires { 0 < self.old.shown.given }
+        ensures moves { IfOk result (λ step. Moves self.old step self.new) }
+        ensures source { self.new.source ≡ self.old.source }
+        ensures same { OnErr result (self.new ≡ self.old) }
+        ensures indent { OnErr result (AwaitsIndent self.old) }
+        ensures given { self.new.shown.given ≤ most_entries }
+    {
         let (meets, now, left) = self.position.meet(self.left);
         let fault = self.source.line_fault();
         let step = self.position.go(meets, now, left, fault)?;

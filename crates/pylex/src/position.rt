@@ -6,9 +6,9 @@ ghost use Rattle.pylex.specs.Listing.{of_line, origin, stop_fault};
 ghost use Rattle.pylex.specs.Steps.{first_step, HasNoText, IsNoEntry, IsAt};
 ghost use Rattle.pylex.specs.Machine.{remaining, behind_steps, first_state, mark_at};
 ghost use Rattle.pylex.specs.Standing.{resumed};
-ghost use Rattle.pylex.specs.Progress.{is_level, IsTop, Stands, IsAscending, IsLayout, Settles, Finds, StopAhead, HasRoom, Behind, closing, with_levels, given, GivesNoText, IsGivenFault, GivesAt};
+ghost use Rattle.pylex.specs.Progress.{is_level, IsTop, Stands, IsAscending, IsLayout, Settles, Finds, StopAhead, HasRoom, Behind, Reaches, closing, with_levels, given, GivesNoText, IsGivenFault, GivesAt};
 ghost use Rattle.pylex.specs.Listers.{shown_by, shown_at};
-ghost use Rattle.pylex.specs.Positions.{FaultsFirst, HasPlace, IsSame, Went, shown_from};
+ghost use Rattle.pylex.specs.Positions.{FaultsFirst, HasPlace, IsSame, StepsOn, Went, shown_from};
 
 use crate::cursors::{Cursor, Shown};
 use crate::entries::{Entry, ListingError, ListingFault, Step};
@@ -127,6 +127,30 @@ fn find<'a>(start: Progress, levels: &[usize], text: &'a str) -> (Meets, Progres
         match now.give(class, front, ahead.now) {
             Given::Fault(fault) => return (Meets::Fault(fault), now, rest),
             Given::Entry(entry) => return (Meets::Entry(entry), ahead, back),
+            Given::Nothing => {
+                now = ahead;
+                rest = back;
+            }
+        }
+    }
+}
+
+/// The entry of the next lexeme that gives one, behind a line's margin: with how far it is looked behind it, and what is
+/// left there.
+#[inline(always)]
+fn next_entry<'a>(start: Progress, text: &'a str) -> Option<(Entry, Progress, &'a str)>
+    requires stands { Stands start text.now }
+    requires behind { start.margin ≡ false }
+    ensures { IfSome result (λ r. Reaches start text.now r.0 r.1 r.2.now) }
+{
+    let mut now = start;
+    let mut rest = text;
+    loop {
+        let (class, front, back) = cut(rest)?;
+        let ahead = now.after_in_line(class, front);
+        match now.give(class, front, ahead.now) {
+            Given::Fault(_) => return None,
+            Given::Entry(entry) => return Some((entry, ahead, back)),
             Given::Nothing => {
                 now = ahead;
                 rest = back;
@@ -362,6 +386,26 @@ impl Position {
         ensures { self.new ≡ record self.old { now = now } }
     {
         self.now = now;
+    }
+
+    /// Gives the entry of the next lexeme that gives one, where that stands behind a line's margin, and the text that is
+    /// left there. Otherwise nothing is changed.
+    #[inline(always)]
+    pub(crate) fn step_on<'a>(&mut self, text: &'a str) -> Option<(Entry, &'a str)>
+        requires some { 0 < self.old.given }
+        requires place { HasPlace self.old }
+        requires stands { Stands self.old.now text.now }
+        ensures some { IfSome result (λ r. StepsOn self.old text.now r.0 self.new r.1.now) }
+        ensures none { result ≡ None → self.new ≡ self.old }
+    {
+        if self.tail > 0 || self.now.margin || self.nested < self.levels.len() {
+            return None;
+        }
+        let (entry, now, left) = next_entry(self.now, text)?;
+        self.given += 1;
+        self.point = Shown::at(now);
+        self.now = now.begun_anew();
+        Some((entry, left))
     }
 
     /// What is met next in a text, and how far from it.

@@ -7,7 +7,7 @@ ghost use Rattle.pylexeme.specs.Lexemes.{is_thing_class, is_blanks_class, is_lin
 ghost use Rattle.pylexeme.specs.Chars.{bytes_in};
 ghost use Rattle.pylex.specs.Machine.{advance, front_after_char, front_after, past, behind, after, entry_by, step_of, mark_at, is_hash, still, count_if, pushed, first_state, last_line_end, last_place};
 ghost use Rattle.pylex.specs.Listing.{row_after};
-ghost use Rattle.pylex.specs.Plain.{IsPlain};
+ghost use Rattle.pylex.specs.Plain.{AreSpaces, IsPlain};
 ghost use Rattle.pylex.specs.Progress.{with_levels, measured, begun_anew, given, HasRoom};
 
 use crate::entries::{Entry, ListingError, ListingFault, Step};
@@ -102,11 +102,22 @@ fn is_plain(text: &str) -> bool
     text.as_bytes().iter().all(|b| *b < 128 && *b != b'\n')
 }
 
+/// Whether a text has spaces alone.
+fn is_spaces(text: &str) -> bool
+    ensures { IsTrue result ↔ AreSpaces text.now }
+{
+    text.as_bytes().iter().all(|b| *b == b' ')
+}
+
 /// What a line begins with after plain text at its start.
+#[inline(never)]
 fn front_of_plain(text: &str) -> Front
     requires { IsPlain text.now }
     ensures { result ≡ front_after Front.Nothing (chars text.now) }
 {
+    if is_spaces(text) {
+        return Front::Nothing;
+    }
     for c in text.chars() {
         let front = Front::Nothing.after(c);
         if !front.is_nothing() {
@@ -130,6 +141,7 @@ impl Front {
 }
 
 /// The place after a text that begins at a place, and what its line begins with: by each character.
+#[inline(never)]
 fn walk_chars(place: Place, front: Front, text: &str) -> (Place, Front)
     requires row { place.row + length text.now < 2 ^ 63 }
     requires column { place.column + length text.now < 2 ^ 63 }
@@ -198,6 +210,9 @@ fn width_after(width: usize, blanks: &str) -> usize
     ensures value { result ≡ width_from width (chars blanks.now) }
     ensures bound { result ≤ width + 8 * length blanks.now }
 {
+    if is_spaces(blanks) {
+        return width + blanks.len();
+    }
     let mut width = width;
     for c in blanks.chars() {
         width = column_after(width, c);
@@ -417,6 +432,34 @@ impl Progress {
             depth: self.depth_after(class),
             margin: self.margin_after(class),
             width: self.width_past(class, text),
+            logical: self.logical_after(class),
+            joined: class.is_join(),
+            front,
+        }
+    }
+
+    /// How far the lister has come after a lexeme behind a line's margin.
+    #[inline(always)]
+    pub(crate) fn after_in_line(self, class: Class, text: &str) -> Progress
+        requires room { HasRoom self (length text.now) }
+        requires counted { bytes_in (chars text.now) ≡ length text.now }
+        requires some { 0 < length text.now }
+        requires behind { self.margin ≡ false }
+        ensures after { (levels : List ℕ) → with_levels result levels ≡ after (with_levels self levels) (record { «class» = class; text = chars text.now }) }
+        ensures now { result.now ≡ past self.now (chars text.now) }
+        ensures room { (n : ℕ) → HasRoom self (length text.now + n) → HasRoom result n }
+    {
+        let (place, front) = walk(self.now.place, self.front, text);
+        let now = Point {
+            place,
+            offset: self.now.offset + text.len(),
+        };
+        Progress {
+            now,
+            line: self.line_after(class, now),
+            depth: self.depth_after(class),
+            margin: self.ends_line(class),
+            width: 0,
             logical: self.logical_after(class),
             joined: class.is_join(),
             front,

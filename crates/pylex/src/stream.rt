@@ -11,7 +11,7 @@ ghost use Rattle.pysource.specs.Streams.{Refuses};
 ghost use Rattle.pylex.specs.ListingLines.{text_of};
 ghost use Rattle.pylexeme.specs.Lexemes.{is_open_string};
 ghost use Rattle.pylex.specs.Steps.{most_entries};
-ghost use Rattle.pylex.specs.Streamed.{Begins, BeginsAnew, MissesBy, IsEndedBy, StreamsIn, IsStreaming, MeetsIn, Looks, LooksAhead, Passes, Searches, Steps, Lacks, lacks, streamed};
+ghost use Rattle.pylex.specs.Streamed.{Begins, BeginsAnew, MissesBy, IsEndedBy, StreamsIn, IsStreaming, MeetsIn, Looks, LooksAhead, Passes, PassesOn, Searches, Steps, Lacks, lacks, streamed};
 
 use crate::chunk::Chunk;
 use crate::cursors::Cursor;
@@ -138,6 +138,22 @@ fn pass(
         *last = Some(entry);
     }
     Ok(step)
+}
+
+/// Gives the entry of the next lexeme in the lines held that gives one, behind a line's margin; otherwise nothing is
+/// changed.
+#[inline(always)]
+fn pass_on(position: &mut Position, chunk: &mut Chunk, last: &mut Option<Entry>) -> Option<Entry>
+    requires streaming { IsStreaming position.old chunk.old None }
+    requires given { 0 < position.old.given }
+    requires last { last.old ≡ None }
+    ensures some { IfSome result (λ entry. PassesOn position.old chunk.old entry position.new chunk.new last.new) }
+    ensures none { result ≡ None → (position.new ≡ position.old) × (chunk.new ≡ chunk.old) × (last.new ≡ last.old) }
+{
+    let (entry, left) = position.step_on(chunk.rest())?;
+    chunk.at = chunk.text.len() - left.len();
+    *last = Some(entry);
+    Some(entry)
 }
 
 /// Why a lister can't go on behind a cursor.
@@ -271,12 +287,11 @@ impl LineLister {
             let step = self.next_behind(reader);
             return step;
         }
-        let found = look(&self.position, &self.chunk);
-        let Meets::Entry(_) = found.meets else {
+        let Some(entry) = pass_on(&mut self.position, &mut self.chunk, &mut self.last) else {
             let step = self.next_behind(reader);
             return step;
         };
-        pass(&mut self.position, &mut self.chunk, &mut self.last, found)
+        Ok(Step::Entry(entry))
     }
 
     /// The next step, where the lines that are held may not tell it, or it is none of a lexeme.

@@ -1,4 +1,4 @@
-use Rattle.std.proofs.Common.{◌≡◌, ◌++◌, ◌∙◌, ap}
+use Rattle.std.proofs.Common.{◌++◌, ◌∙◌, ap, sym}
 use Rattle.std.specs.Prelude.{codes}
 use Rattle.std.specs.Str.{chars}
 use Rattle.std.specs.String.{string_bytes}
@@ -6,7 +6,7 @@ use Rattle.std.proofs.lemmas.List.{append_assoc}
 use Rattle.std.proofs.lemmas.Result.{on_ok_weaker}
 use Rattle.pysource.specs.Reprs.{repr_text}
 use Rattle.pylex.specs.ListingLines.{filled, shown_name, shown_range}
-use Rattle.pylex.proofs.LinesLemmas.{pushed_whole, three_parts}
+use Rattle.pylex.proofs.LinesLemmas.{three_parts}
 use Rattle.pylex.proofs.lines.push_fields.Goals as goal
 
 pub returns-clause-ok : goal.returns-clause-ok
@@ -15,8 +15,7 @@ returns-clause-ok c =
     let range = filled 20 (shown_range c.args.entry.now) in
     let name = filled 15 (shown_name c.args.exact c.args.entry.now) in
     let text = filled 15 (repr_text (chars c.args.text.now)) in
-    let fields : string_bytes c.push_text.new.out ≡ old ++ (range ++ name ++ text) =
-    three_parts old range name text _ _ _ c.in_ok-push_range.ensures.ok c.in_ok-push_name.ensures.ok c.in_ok-push_text.ensures.ok in
-    on_ok_weaker c.push_str.result
-    (λ pushed. pushed ∙ ap (λ bs. bs ++ codes "\n") fields ∙ append_assoc old (range ++ name ++ text) (codes "\n"))
-    (pushed_whole c.push_str.result _ _ _ c.push_str.ensures.bytes)
+    on_ok_weaker c.push_end.result
+    (λ pushed. three_parts old range name (text ++ codes "\n") _ _ _ c.in_ok-push_range.ensures.ok c.in_ok-push_name.ensures.ok pushed
+    ∙ ap (λ bs. old ++ bs) (sym (append_assoc (range ++ name) text (codes "\n"))))
+    c.push_end.ensures.ok

@@ -1,29 +1,7 @@
-use Rattle.std.proofs.Common.{◌≡◌, ℕ, ◌+◌, List, [], ◌++◌, length, refl, ap, sym, ◌∙◌, append_assoc, subst, arith}
-use lib.Utf8.{encodes}
-use Rattle.std.specs.Str.{IsUtf8}
-use Rattle.std.proofs.lemmas.Str.{encodes-chars, encodes-append}
+use Rattle.std.proofs.Common.{◌+◌, [], length, refl}
 use Rattle.std.specs.Str.{chars}
-use Rattle.pylexeme.specs.declared.lexeme.Class.{Class}
-use Rattle.pylex.specs.declared.state.Progress.{Progress}
-use Rattle.pylexeme.specs.Cuts.{Cuts}
-use Rattle.pylex.specs.Progress.{HasRoom, Behind}
-use Rattle.pylex.proofs.Finding.{stays_there, comes_on, finds_on, fault_found, entry_found, nothing_found, no_thing_due, some_bytes, stands_after, shorter_after}
+use Rattle.pylex.proofs.Finding.{stays_there, comes_on, finds_on, fault_found, entry_found, nothing_found, no_thing_due, some_bytes, stands_after, shorter_after, room_after, behind_cut}
 use Rattle.pylex.proofs.position.find.Goals as goal
-
--- past a lexeme there is room for what follows the text too
-room_after : (p r : Progress) (bytes front back : List ℕ) (k : Class) → Cuts bytes k front back → ((n : ℕ) → HasRoom p (length front + n) → HasRoom r n) → (n : ℕ) → HasRoom p (length bytes + n) → HasRoom r (length back + n)
-room_after p r bytes front back k c room n h =
-    let s = c.sizes in
-    let e : length bytes + n ≡ length front + (length back + n) = omega arith in
-    room (length back + n) (subst (λ (m : ℕ). HasRoom p m) e h)
-
--- what is behind a lexeme is behind what is before it
-cut_bytes : (bytes front back : List ℕ) (k : Class) → IsUtf8 bytes → Cuts bytes k front back → bytes ≡ front ++ back
-cut_bytes bytes front back k u c =
-    sym (encodes-chars bytes u) ∙ ap encodes c.whole ∙ encodes-append (chars front) (chars back) ∙ ap (λ t. t ++ encodes (chars back)) (encodes-chars front c.front_utf8) ∙ ap (λ t. front ++ t) (encodes-chars back c.back_utf8)
-
-behind_cut : (text bytes front back : List ℕ) (k : Class) → IsUtf8 bytes → Cuts bytes k front back → Behind text bytes → Behind text back
-behind_cut text bytes front back k u c b = (b.0 ++ front, b.1 ∙ ap (λ t. b.0 ++ t) (cut_bytes bytes front back k u c) ∙ sym (append_assoc b.0 front back))
 
 pub returns-in-Fault-clause-finds : goal.returns-in-Fault-clause-finds
 returns-in-Fault-clause-finds c = fault_found c.args.levels.now c.args.start (chars c.args.text.now) c.loop-meets.now c.line_start.new.now c.loop-meets.rest.now c.in-Some-cut.front.now c.in-Some-cut.back.now c.in-Some-cut.class c.in-Fault.fault c.loop-meets.invariant.2 (c.in_default.ensures.settles refl) c.in-Some-cut.ensures.some c.in-Fault.ensures

@@ -4,7 +4,7 @@ use Rattle.std.specs.Str.Iter.{chars_rest}
 use Rattle.pylex.specs.declared.state.Front.{Front}
 use Rattle.pylex.specs.declared.state.Front.TheVariants.{Nothing}
 use Rattle.pylex.specs.Machine.{front_after}
-use Rattle.pylex.proofs.Plain.{plain_in_line, in_line_past, begun}
+use Rattle.pylex.proofs.Plain.{plain_in_line, in_line_past, begun, spaces_front}
 use Rattle.pylex.proofs.Walking.{Past, past, no_chars}
 use Rattle.pylex.proofs.state.front_of_plain.Goals as goal
 
@@ -33,3 +33,6 @@ loop-c-preserved c =
 
 pub returns : goal.returns
 returns c = ap (front_after Nothing) (sym (no_chars (chars_rest c.loop-c.c-iterator) c.in-None.ensures.steps.0.0)) ∙ c.loop-c.invariant.begins
+
+pub returns-then-is_spaces : goal.returns-then-is_spaces
+returns-then-is_spaces c = sym (spaces_front c.args.text.now (c.is_spaces.ensures.0 c.if-is_spaces.true))

@@ -2,6 +2,7 @@ use Rattle.std.proofs.Common.{ℕ, ap, ◌∙◌, sym, arith}
 use Rattle.std.specs.Str.{chars}
 use Rattle.std.specs.Str.Iter.{chars_rest}
 use Rattle.pylex.specs.Lines.{width_from}
+use Rattle.pylex.proofs.Plain.{spaces_width}
 use Rattle.pylex.proofs.Walking.{Past, past, no_chars, width_more, width_none}
 use Rattle.pylex.proofs.state.width_after.Goals as goal
 
@@ -17,3 +18,6 @@ loop-c-preserved c =
 
 pub returns-clause-value : goal.returns-clause-value
 returns-clause-value c = sym (width_none c.loop-c.width) ∙ ap (width_from c.loop-c.width) (sym (no_chars (chars_rest c.loop-c.c-iterator) c.in-None.ensures.steps.0.0)) ∙ c.loop-c.invariant.widens
+
+pub returns-then-is_spaces-clause-value : goal.returns-then-is_spaces-clause-value
+returns-then-is_spaces-clause-value c = sym (spaces_width c.args.width c.args.blanks.now (c.is_spaces.ensures.0 c.if-is_spaces.true))

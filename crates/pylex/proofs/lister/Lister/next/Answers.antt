@@ -1,47 +1,30 @@
-use Rattle.std.proofs.Common.{◌≡◌, ℕ, zero, suc, ◌<◌, List, refl, ap, sym, subst, arith, Option}
-use Rattle.std.specs.Prelude.{Result, Ok, Err, OnErr, option_map}
-use Rattle.std.specs.declared.alloc.AllocError.{AllocError}
-use Rattle.std.specs.Str.{chars}
-use Rattle.pysource.specs.declared.faults.LineFault.{LineFault}
-use Rattle.pylex.specs.declared.state.Progress.{Progress}
+use Rattle.std.proofs.Common.{◌≡◌, ap, ◌∙◌, refl, take, None, List, ℕ}
+use Rattle.std.proofs.lemmas.Result.{IfOk-weaker}
+use Rattle.pysource.specs.Parts.{Parts}
 use Rattle.pylex.specs.declared.entries.Entry.{Entry}
 use Rattle.pylex.specs.declared.entries.Step.{Step}
 use Rattle.pylex.specs.declared.entries.Step.TheVariants as steps
-use Rattle.pylex.specs.declared.position.Meets.{Meets}
-use Rattle.pylex.specs.declared.position.Position.{Position}
 use Rattle.pylex.specs.declared.position.Meets.TheVariants as meets
-use Rattle.pylex.specs.Listing.{of_line}
-use Rattle.pylex.specs.Listers.{Listed, Moves, AwaitsIndent}
-use Rattle.pylex.specs.Machine.{remaining}
-use Rattle.pylex.specs.Positions.{shown_from, left_by, Holds}
-use Rattle.pylex.specs.Progress.{with_levels}
-use Rattle.pylex.proofs.Moving.{moves_from, goes_first, awaits_indent}
+use Rattle.pylex.specs.declared.position.Position.{Position}
+use Rattle.pylex.specs.Listers.{Listed, Moves}
+use Rattle.pylex.specs.Positions.{shown_from, Holds, StepsOn}
+use Rattle.pylex.proofs.Moving.{moves_from, goes_first}
 use Rattle.pylex.proofs.Placing.{has_place}
 use Rattle.pylex.proofs.lister.Lister.next.Goals as goal
-
-not_stopped : (n : ℕ) (m : Meets) → (0 < n → m ≡ meets.Stop) → m ≡ meets.Indent → n ≡ 0
-not_stopped zero m h i = refl
-not_stopped (suc n) m h i = absurd (never m (h (omega arith)) i)
-  where
-    never : (m : Meets) → m ≡ meets.Stop → m ≡ meets.Indent → ⊥
-    never m h k = cc
-
-on_err : (r : Result Step AllocError) (P : Type 0) → P → OnErr r P
-on_err (Ok s) P p = tt
-on_err (Err e) P p = p
-
-left_same : (s : Step) (from to : List ℕ) → ((e : Entry) → s ≡ steps.Entry e → ⊥) → left_by s from to ≡ from
-left_same (steps.Entry e) from to h = absurd (h e refl)
-left_same steps.End from to h = refl
-left_same (steps.Fault f) from to h = refl
-
--- the fault of the source makes the same end
-alike : (f g : Option LineFault) (now : Progress) (cs : List ℕ) (m : Meets) → g ≡ f → m ≡ meets.Stop → (levels : List ℕ) → remaining (option_map of_line f) (with_levels now levels) cs ≡ remaining (option_map of_line g) (with_levels now levels) cs
-alike f g now cs m e stop levels = ap (λ h. remaining (option_map of_line h) (with_levels now levels) cs) (sym e)
 
 -- a step is one of the lister that is seen
 seen : (old same : Listed) (step : Step) (new : Listed) → old ≡ same → Moves old step new → Moves same step new
 seen old same step new e m = rw (← e) m
+
+abbrev listed : Parts → Position → Listed
+listed source p = record { source = source; shown = shown_from p }
+
+no_stop : (e : Entry) → meets.Entry e ≡ meets.Stop → ⊥
+no_stop e k = cc
+
+-- past an entry the lister stands behind it
+entry_passed : (source : Parts) (p r : Position) (from to : List ℕ) (e : Entry) → Holds source p from → StepsOn p from e r to → Moves (listed source p) (steps.Entry e) (listed source r) × Holds source r to
+entry_passed source p r from to e keeps s = (s.went None).goes source from to keeps (s.reaches.entry (take p.nested p.levels.items)) s.reaches.stands (λ i. absurd (no_stop e i))
 
 pub invariant_of-self : goal.invariant_of-self
 invariant_of-self c =
@@ -53,46 +36,20 @@ returns-then-is_at_start-clause-moves c =
     let p = c.self.inside.position in
     rw c.begin.ensures.given (moves_from _ _ _ _ c.self.view_is (goes_first (record { source = c.self.inside.source.now; shown = shown_from p }) p.now c.self.inside.left.now p.levels.items p.nested p.tail c.begin.result c.self.invariant (c.is_at_start.ensures.start c.if-is_at_start.true) c.begin.ensures.entry).leads)
 
-pub go-requires-clause-place : goal.go-requires-clause-place
-go-requires-clause-place c = has_place c.self.inside.source.now c.self.inside.position c.self.inside.left.now c.self.invariant
+pub step_on-requires-clause-place : goal.step_on-requires-clause-place
+step_on-requires-clause-place c = has_place c.self.inside.source.now c.self.inside.position c.self.inside.left.now c.self.invariant
 
-pub returns-in_err-step-clause-indent : goal.returns-in_err-step-clause-indent
-returns-in_err-step-clause-indent c =
-    let p = c.self.inside.position in
-    let some : 0 < p.given = c.is_at_start.ensures.behind c.if-is_at_start.false in
-    let indent = c.in_err-step.ensures.indent in
-    let none : p.tail ≡ 0 = not_stopped p.tail c.meet-meets.result.0 c.meet-meets.ensures.stop indent in
-    let found = rw indent at c.meet-meets.ensures.finds in
-    let awaits : AwaitsIndent c.args.self.now = rw (← c.self.view_is) (awaits_indent (record { source = c.self.inside.source.now; shown = shown_from p }) p.now c.self.inside.left.now p.levels.items p.nested p.tail c.self.invariant refl some none c.meet-meets.result.1 (chars c.meet-meets.result.2.now) found.0 found.1) in
-    on_err c.from_residual.result (AwaitsIndent c.args.self.now) awaits
+pub invariant_of-self-in-Some : goal.invariant_of-self-in-Some
+invariant_of-self-in-Some c = (entry_passed c.self.inside.source.now c.self.inside.position c.step_on.new.self c.self.inside.left.now c.in-Some.left.now c.in-Some.entry c.self.invariant c.in-Some.ensures.some).1
 
-pub invariant_of-self-in-Entry : goal.invariant_of-self-in-Entry
-invariant_of-self-in-Entry c =
-    let g = c.in_ok-step.ensures.went.goes c.self.inside.source.now c.self.inside.left.now c.meet-meets.result.2.now c.self.invariant c.meet-meets.ensures.finds c.meet-meets.ensures.stands (alike c.self.inside.source.now.fault c.line_fault-fault.result c.meet-meets.result.1 (chars c.meet-meets.result.2.now) c.meet-meets.result.0 c.line_fault-fault.ensures) in
-    rw c.in-Entry.is at g.1
+pub returns-in-Some-clause-moves : goal.returns-in-Some-clause-moves
+returns-in-Some-clause-moves c = seen _ _ _ _ c.self.view_is (entry_passed c.self.inside.source.now c.self.inside.position c.step_on.new.self c.self.inside.left.now c.in-Some.left.now c.in-Some.entry c.self.invariant c.in-Some.ensures.some).0
 
-pub invariant_of-self-in_default : goal.invariant_of-self-in_default
-invariant_of-self-in_default c =
-    let g = c.in_ok-step.ensures.went.goes c.self.inside.source.now c.self.inside.left.now c.meet-meets.result.2.now c.self.invariant c.meet-meets.ensures.finds c.meet-meets.ensures.stands (alike c.self.inside.source.now.fault c.line_fault-fault.result c.meet-meets.result.1 (chars c.meet-meets.result.2.now) c.meet-meets.result.0 c.line_fault-fault.ensures) in
-    subst (Holds c.self.inside.source.now c.go.new.self) (left_same c.in_ok-step.step c.self.inside.left.now c.meet-meets.result.2.now c.in_default.not-Entry) g.1
+pub returns-in-Some-clause-given : goal.returns-in-Some-clause-given
+returns-in-Some-clause-given c =
+    (has_place c.self.inside.source.now c.step_on.new.self c.in-Some.left.now (entry_passed c.self.inside.source.now c.self.inside.position c.step_on.new.self c.self.inside.left.now c.in-Some.left.now c.in-Some.entry c.self.invariant c.in-Some.ensures.some).1).given
 
-pub returns-in-Entry-clause-moves : goal.returns-in-Entry-clause-moves
-returns-in-Entry-clause-moves c =
-    let g = c.in_ok-step.ensures.went.goes c.self.inside.source.now c.self.inside.left.now c.meet-meets.result.2.now c.self.invariant c.meet-meets.ensures.finds c.meet-meets.ensures.stands (alike c.self.inside.source.now.fault c.line_fault-fault.result c.meet-meets.result.1 (chars c.meet-meets.result.2.now) c.meet-meets.result.0 c.line_fault-fault.ensures) in
-    seen _ _ _ _ c.self.view_is g.0
-
-pub returns-in-Entry-clause-given : goal.returns-in-Entry-clause-given
-returns-in-Entry-clause-given c =
-    let g = c.in_ok-step.ensures.went.goes c.self.inside.source.now c.self.inside.left.now c.meet-meets.result.2.now c.self.invariant c.meet-meets.ensures.finds c.meet-meets.ensures.stands (alike c.self.inside.source.now.fault c.line_fault-fault.result c.meet-meets.result.1 (chars c.meet-meets.result.2.now) c.meet-meets.result.0 c.line_fault-fault.ensures) in
-    (has_place c.self.inside.source.now c.go.new.self _ g.1).given
-
-pub returns-in_err-step-clause-given : goal.returns-in_err-step-clause-given
-returns-in_err-step-clause-given c =
-    let few = (has_place c.self.inside.source.now c.self.inside.position c.self.inside.left.now c.self.invariant).given in
-    let same = ap (λ (p : Position). p.given) c.in_err-step.ensures.same.0 in
-    omega arith
-
-pub returns-in_default : goal.returns-in_default
-returns-in_default c =
-    let g = c.in_ok-step.ensures.went.goes c.self.inside.source.now c.self.inside.left.now c.meet-meets.result.2.now c.self.invariant c.meet-meets.ensures.finds c.meet-meets.ensures.stands (alike c.self.inside.source.now.fault c.line_fault-fault.result c.meet-meets.result.1 (chars c.meet-meets.result.2.now) c.meet-meets.result.0 c.line_fault-fault.ensures) in
-    record { moves = seen _ _ _ _ c.self.view_is g.0; source = ap (λ (l : Listed). l.source) c.self.view_is; same = tt; indent = tt; given = (has_place c.self.inside.source.now c.go.new.self _ g.1).given }
+pub returns-clause-moves : goal.returns-clause-moves
+returns-clause-moves c =
+    let same = ap (listed c.self.inside.source.now) (c.in_default.ensures.none refl) ∙ c.self.view_is in
+    IfOk-weaker c.next_met.result _ _ (λ step m. seen _ _ _ _ same m) c.next_met.ensures.moves
