@@ -14,7 +14,6 @@ use pyform::Form;
 use pynode::Stmt;
 use pyoutline::Stop;
 use std::alloc::Global;
-use std::mem;
 
 /// What is kept of the logical lines so far: the statements that are whole, and of the others what
 /// their lines have said.
@@ -41,6 +40,7 @@ impl Blocks {
     ///
     /// [`Stop::Faulty`] where the line is the first faulty one, by its fault, and
     /// [`Stop::Memory`].
+    #[inline(never)]
     pub fn step(&mut self, alloc: Global, level: usize, form: Form) -> Result<(), Stop>
         ensures ok { OnOk result
             (step (state_of self.old) (line level (form_of form)) ≡ Fine (state_of self.new)) }
@@ -55,9 +55,13 @@ impl Blocks {
             → IfErr result
             (Blames (xs ++ line level (form_of form) ∷ more) (line level (form_of form) ∷ more)) }
     {
-        let stack = mem::replace(&mut self.stack, Stack::new(alloc));
-        self.stack = stack.step(alloc, level, form)?;
-        Ok(())
+        match self.stack.step(alloc, level, form) {
+            Ok(()) => Ok(()),
+            Err(stop) => {
+                self.stack = Stack::new(alloc);
+                Err(stop)
+            }
+        }
     }
 
     /// The statements of the lines, behind the last one.

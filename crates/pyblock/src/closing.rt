@@ -1,73 +1,84 @@
 //! The statements of a level that comes to its end.
 
-ghost use Rattle.std.specs.Prelude.{◌≡◌, ◌++◌, ◌∷◌, [], map, IfOk, IfErr};
+ghost use Rattle.std.specs.Prelude.{◌≡◌, ◌++◌, ◌∷◌, [], map, OnOk, IfErr};
 ghost use Rattle.pynode.specs.TreeOf.{stmt_of};
-ghost use Rattle.pygrammar.specs.Reading.{Fine};
+ghost use Rattle.pygrammar.specs.Reading.{Fine, Idle};
 ghost use Rattle.pyoutline.specs.Faults.{Tells};
 ghost use Rattle.pyblock.specs.Inner.Meeting.{closed};
 ghost use Rattle.pyblock.specs.Values.{group_of};
 
-use crate::groups::Group;
+use crate::groups::{Group, Part};
 use crate::statements::{choice_statement, loop_statement, try_statement};
 use pynode::Stmt;
 use pyoutline::{BlockFault, Stop};
 use std::alloc::{AllocError, Global};
+use std::mem;
 
 /// Statements, and one more.
-pub(crate) fn with_one(statements: Vec<Stmt>, one: Stmt) -> Result<Vec<Stmt>, AllocError>
-    ensures { IfOk result
-        (λ v. map stmt_of v.items ≡ map stmt_of statements.items ++ stmt_of one ∷ []) }
+pub(crate) fn put(statements: &mut Vec<Stmt>, one: Stmt) -> Result<(), AllocError>
+    ensures { OnOk result
+        (map stmt_of statements.new.items
+        ≡ map stmt_of statements.old.items ++ stmt_of one ∷ []) }
 {
-    let mut statements = statements;
     statements.push(one)?;
-    Ok(statements)
+    Ok(())
 }
 
 /// Statements, and more of them.
-pub(crate) fn with_all(statements: Vec<Stmt>, more: Vec<Stmt>) -> Result<Vec<Stmt>, AllocError>
-    ensures { IfOk result
-        (λ v. map stmt_of v.items ≡ map stmt_of statements.items ++ map stmt_of more.items) }
+pub(crate) fn put_all(statements: &mut Vec<Stmt>, more: Vec<Stmt>) -> Result<(), AllocError>
+    ensures { OnOk result
+        (map stmt_of statements.new.items
+        ≡ map stmt_of statements.old.items ++ map stmt_of more.items) }
 {
-    let mut statements = statements;
     let mut more = more;
     statements.append(&mut more)?;
-    Ok(statements)
+    Ok(())
 }
 
-/// The statements of a level whose group ends.
-pub(crate) fn close(alloc: Global, done: Vec<Stmt>, group: Group) -> Result<Vec<Stmt>, Stop>
-    ensures closed { IfOk result
-        (λ v. closed (map stmt_of done.items) (group_of group) ≡ Fine (map stmt_of v.items)) }
-    ensures refused { IfErr result (Tells (closed (map stmt_of done.items) (group_of group))) }
+/// Puts to the statements of a level those of a group that ends.
+#[inline(never)]
+pub(crate) fn end_group(alloc: Global, done: &mut Vec<Stmt>, group: Group) -> Result<(), Stop>
+    ensures closed { OnOk result
+        (closed (map stmt_of done.old.items) (group_of group)
+        ≡ Fine (map stmt_of done.new.items)) }
+    ensures refused { IfErr result
+        (Tells (closed (map stmt_of done.old.items) (group_of group))) }
 {
-    match group {
-        Group::Idle => Ok(done),
-        Group::Marked { decorators: _ } => Err(Stop::Faulty(BlockFault::MisplacedClause)),
-        Group::Choice { first, elifs } => {
-            let one = choice_statement(alloc, first, elifs, Vec::new(alloc))?;
-            Ok(with_one(done, one)?)
+    let one = match group {
+        Group::Idle => return Ok(()),
+        Group::Marked { decorators: _ } | Group::Trial { body: _ } => {
+            return Err(Stop::Faulty(BlockFault::MisplacedClause));
         }
-        Group::Loop { head, body } => {
-            let one = loop_statement(head, body, Vec::new(alloc));
-            Ok(with_one(done, one)?)
-        }
-        Group::Trial { body: _ } => Err(Stop::Faulty(BlockFault::MisplacedClause)),
+        Group::Choice { first, elifs } => choice_statement(alloc, first, elifs, Vec::new(alloc))?,
+        Group::Loop { head, body } => loop_statement(head, body, Vec::new(alloc)),
         Group::Caught {
             star,
             body,
             handlers,
-        } => {
-            let one = try_statement(star, body, handlers, Vec::new(alloc), Vec::new(alloc));
-            Ok(with_one(done, one)?)
-        }
+        } => try_statement(star, body, handlers, Vec::new(alloc), Vec::new(alloc)),
         Group::Settled {
             star,
             body,
             handlers,
             orelse,
-        } => {
-            let one = try_statement(star, body, handlers, orelse, Vec::new(alloc));
-            Ok(with_one(done, one)?)
-        }
+        } => try_statement(star, body, handlers, orelse, Vec::new(alloc)),
+    };
+    Ok(put(done, one)?)
+}
+
+/// Ends the group of a level.
+pub(crate) fn close(alloc: Global, part: &mut Part) -> Result<(), Stop>
+    ensures closed { OnOk result
+        (closed (map stmt_of part.old.done.items) (group_of part.old.group)
+        ≡ Fine (map stmt_of part.new.done.items)) }
+    ensures idle { OnOk result (group_of part.new.group ≡ Idle) }
+    ensures refused { IfErr result
+        (Tells (closed (map stmt_of part.old.done.items) (group_of part.old.group))) }
+{
+    // Most levels have none open.
+    if matches!(part.group, Group::Idle) {
+        return Ok(());
     }
+    let group = mem::replace(&mut part.group, Group::Idle);
+    end_group(alloc, &mut part.done, group)
 }

@@ -1,14 +1,14 @@
 //! What a header and its block make of a level.
 
-ghost use Rattle.std.specs.Prelude.{◌≡◌, ◌++◌, ◌∷◌, [], map, IfOk};
+ghost use Rattle.std.specs.Prelude.{◌≡◌, ◌++◌, ◌∷◌, [], map, IfOk, OnOk};
 ghost use Rattle.pynode.specs.TreeOf.{boxed_of, handler_of, stmt_of, tree_of};
 ghost use Rattle.pygrammar.specs.Lines.{def_header, elif_header, else_header, except_header};
 ghost use Rattle.pygrammar.specs.Lines.{finally_header};
 ghost use Rattle.pygrammar.specs.Reading.{joined};
 ghost use Rattle.pyform.specs.FormOf.{def_head_of, header_of};
-ghost use Rattle.pyblock.specs.Values.{arm_of, group_of, part_of};
+ghost use Rattle.pyblock.specs.Values.{arm_of, group_of};
 
-use crate::closing::with_one;
+use crate::closing::put;
 use crate::groups::{Arm, Group, Part};
 use crate::statements::{
     choice_statement, definition_statement, handler, loop_statement, try_statement, with_statement,
@@ -16,6 +16,7 @@ use crate::statements::{
 use pyform::{DefHead, Header};
 use pynode::{Expr, Handler, Identifier, Stmt};
 use std::alloc::{AllocError, Global};
+use std::mem;
 
 /// Arms, and one more.
 fn with_arm(arms: Vec<Arm>, arm: Arm) -> Result<Vec<Arm>, AllocError>
@@ -37,108 +38,82 @@ fn with_handler(handlers: Vec<Handler>, handler: Handler) -> Result<Vec<Handler>
 }
 
 /// An `elif` with its block.
-fn grow_elif(done: Vec<Stmt>, group: Group, arm: Arm) -> Result<Part, AllocError>
-    ensures done { IfOk result (λ p. map stmt_of p.done.items
-        ≡ (joined (map stmt_of done.items) (group_of group) (elif_header (tree_of arm.test.value))
-        (map stmt_of arm.body.items)).done) }
-    ensures group { IfOk result (λ p. group_of p.group
-        ≡ (joined (map stmt_of done.items) (group_of group) (elif_header (tree_of arm.test.value))
-        (map stmt_of arm.body.items)).group) }
+fn grow_elif(part: &mut Part, arm: Arm) -> Result<(), AllocError>
+    ensures done { OnOk result (map stmt_of part.new.done.items
+        ≡ (joined (map stmt_of part.old.done.items) (group_of part.old.group)
+        (elif_header (tree_of arm.test.value)) (map stmt_of arm.body.items)).done) }
+    ensures group { OnOk result (group_of part.new.group
+        ≡ (joined (map stmt_of part.old.done.items) (group_of part.old.group)
+        (elif_header (tree_of arm.test.value)) (map stmt_of arm.body.items)).group) }
 {
-    match group {
-        Group::Choice { first, elifs } => {
-            let elifs = with_arm(elifs, arm)?;
-            Ok(Part {
-                done,
-                group: Group::Choice { first, elifs },
-            })
-        }
-        _ => Ok(Part {
-            done,
-            group: Group::Idle,
-        }),
+    let group = mem::replace(&mut part.group, Group::Idle);
+    if let Group::Choice { first, elifs } = group {
+        let elifs = with_arm(elifs, arm)?;
+        part.group = Group::Choice { first, elifs };
     }
+    Ok(())
 }
 
 /// An `else` with its block.
-fn grow_else(
-    alloc: Global,
-    done: Vec<Stmt>,
-    group: Group,
-    body: Vec<Stmt>,
-) -> Result<Part, AllocError>
-    ensures done { IfOk result (λ p. map stmt_of p.done.items
-        ≡ (joined (map stmt_of done.items) (group_of group) else_header
-        (map stmt_of body.items)).done) }
-    ensures group { IfOk result (λ p. group_of p.group
-        ≡ (joined (map stmt_of done.items) (group_of group) else_header
-        (map stmt_of body.items)).group) }
+fn grow_else(alloc: Global, part: &mut Part, body: Vec<Stmt>) -> Result<(), AllocError>
+    ensures done { OnOk result (map stmt_of part.new.done.items
+        ≡ (joined (map stmt_of part.old.done.items) (group_of part.old.group)
+        else_header (map stmt_of body.items)).done) }
+    ensures group { OnOk result (group_of part.new.group
+        ≡ (joined (map stmt_of part.old.done.items) (group_of part.old.group)
+        else_header (map stmt_of body.items)).group) }
 {
+    let group = mem::replace(&mut part.group, Group::Idle);
     match group {
         Group::Choice { first, elifs } => {
             let one = choice_statement(alloc, first, elifs, body)?;
-            let done = with_one(done, one)?;
-            Ok(Part {
-                done,
-                group: Group::Idle,
-            })
+            put(&mut part.done, one)?;
         }
         Group::Loop { head, body: first } => {
-            let one = loop_statement(head, first, body);
-            let done = with_one(done, one)?;
-            Ok(Part {
-                done,
-                group: Group::Idle,
-            })
+            put(&mut part.done, loop_statement(head, first, body))?;
         }
         Group::Caught {
             star,
             body: first,
             handlers,
-        } => Ok(Part {
-            done,
-            group: Group::Settled {
+        } => {
+            part.group = Group::Settled {
                 star,
                 body: first,
                 handlers,
                 orelse: body,
-            },
-        }),
-        _ => Ok(Part {
-            done,
-            group: Group::Idle,
-        }),
+            };
+        }
+        _ => {}
     }
+    Ok(())
 }
 
 /// An `except` with its block.
 fn grow_except(
     alloc: Global,
-    done: Vec<Stmt>,
-    group: Group,
+    part: &mut Part,
     star: bool,
     class: Option<Box<Expr>>,
     name: Option<Identifier>,
     body: Vec<Stmt>,
-) -> Result<Part, AllocError>
-    ensures done { IfOk result (λ p. map stmt_of p.done.items
-        ≡ (joined (map stmt_of done.items) (group_of group)
+) -> Result<(), AllocError>
+    ensures done { OnOk result (map stmt_of part.new.done.items
+        ≡ (joined (map stmt_of part.old.done.items) (group_of part.old.group)
         (except_header star (boxed_of class) name) (map stmt_of body.items)).done) }
-    ensures group { IfOk result (λ p. group_of p.group
-        ≡ (joined (map stmt_of done.items) (group_of group)
+    ensures group { OnOk result (group_of part.new.group
+        ≡ (joined (map stmt_of part.old.done.items) (group_of part.old.group)
         (except_header star (boxed_of class) name) (map stmt_of body.items)).group) }
 {
+    let group = mem::replace(&mut part.group, Group::Idle);
     match group {
         Group::Trial { body: first } => {
             let handlers = with_handler(Vec::new(alloc), handler(class, name, body))?;
-            Ok(Part {
-                done,
-                group: Group::Caught {
-                    star,
-                    body: first,
-                    handlers,
-                },
-            })
+            part.group = Group::Caught {
+                star,
+                body: first,
+                handlers,
+            };
         }
         Group::Caught {
             star: first_star,
@@ -146,44 +121,31 @@ fn grow_except(
             handlers,
         } => {
             let handlers = with_handler(handlers, handler(class, name, body))?;
-            Ok(Part {
-                done,
-                group: Group::Caught {
-                    star: first_star,
-                    body: first,
-                    handlers,
-                },
-            })
+            part.group = Group::Caught {
+                star: first_star,
+                body: first,
+                handlers,
+            };
         }
-        _ => Ok(Part {
-            done,
-            group: Group::Idle,
-        }),
+        _ => {}
     }
+    Ok(())
 }
 
 /// A `finally` with its block.
-fn grow_finally(
-    alloc: Global,
-    done: Vec<Stmt>,
-    group: Group,
-    body: Vec<Stmt>,
-) -> Result<Part, AllocError>
-    ensures done { IfOk result (λ p. map stmt_of p.done.items
-        ≡ (joined (map stmt_of done.items) (group_of group) finally_header
-        (map stmt_of body.items)).done) }
-    ensures group { IfOk result (λ p. group_of p.group
-        ≡ (joined (map stmt_of done.items) (group_of group) finally_header
-        (map stmt_of body.items)).group) }
+fn grow_finally(alloc: Global, part: &mut Part, body: Vec<Stmt>) -> Result<(), AllocError>
+    ensures done { OnOk result (map stmt_of part.new.done.items
+        ≡ (joined (map stmt_of part.old.done.items) (group_of part.old.group)
+        finally_header (map stmt_of body.items)).done) }
+    ensures group { OnOk result (group_of part.new.group
+        ≡ (joined (map stmt_of part.old.done.items) (group_of part.old.group)
+        finally_header (map stmt_of body.items)).group) }
 {
+    let group = mem::replace(&mut part.group, Group::Idle);
     match group {
         Group::Trial { body: first } => {
             let one = try_statement(false, first, Vec::new(alloc), Vec::new(alloc), body);
-            let done = with_one(done, one)?;
-            Ok(Part {
-                done,
-                group: Group::Idle,
-            })
+            put(&mut part.done, one)
         }
         Group::Caught {
             star,
@@ -191,11 +153,7 @@ fn grow_finally(
             handlers,
         } => {
             let one = try_statement(star, first, handlers, Vec::new(alloc), body);
-            let done = with_one(done, one)?;
-            Ok(Part {
-                done,
-                group: Group::Idle,
-            })
+            put(&mut part.done, one)
         }
         Group::Settled {
             star,
@@ -204,91 +162,73 @@ fn grow_finally(
             orelse,
         } => {
             let one = try_statement(star, first, handlers, orelse, body);
-            let done = with_one(done, one)?;
-            Ok(Part {
-                done,
-                group: Group::Idle,
-            })
+            put(&mut part.done, one)
         }
-        _ => Ok(Part {
-            done,
-            group: Group::Idle,
-        }),
+        _ => Ok(()),
     }
 }
 
 /// A `def` or `class` with its block.
 fn grow_def(
     alloc: Global,
-    done: Vec<Stmt>,
-    group: Group,
+    part: &mut Part,
     head: DefHead,
     body: Vec<Stmt>,
-) -> Result<Part, AllocError>
-    ensures done { IfOk result (λ p. map stmt_of p.done.items
-        ≡ (joined (map stmt_of done.items) (group_of group) (def_header (def_head_of head))
-        (map stmt_of body.items)).done) }
-    ensures group { IfOk result (λ p. group_of p.group
-        ≡ (joined (map stmt_of done.items) (group_of group) (def_header (def_head_of head))
-        (map stmt_of body.items)).group) }
+) -> Result<(), AllocError>
+    ensures done { OnOk result (map stmt_of part.new.done.items
+        ≡ (joined (map stmt_of part.old.done.items) (group_of part.old.group)
+        (def_header (def_head_of head)) (map stmt_of body.items)).done) }
+    ensures group { OnOk result (group_of part.new.group
+        ≡ (joined (map stmt_of part.old.done.items) (group_of part.old.group)
+        (def_header (def_head_of head)) (map stmt_of body.items)).group) }
 {
+    let group = mem::replace(&mut part.group, Group::Idle);
     let decorators = match group {
         Group::Marked { decorators } => decorators,
         _ => Vec::new(alloc),
     };
-    let one = definition_statement(decorators, head, body);
-    let done = with_one(done, one)?;
-    Ok(Part {
-        done,
-        group: Group::Idle,
-    })
+    put(&mut part.done, definition_statement(decorators, head, body))
 }
 
 /// A header with its block.
+#[inline(never)]
 pub(crate) fn grow(
     alloc: Global,
-    part: Part,
+    part: &mut Part,
     header: Header,
     body: Vec<Stmt>,
-) -> Result<Part, AllocError>
-    ensures done { IfOk result (λ p. map stmt_of p.done.items
-        ≡ (joined (map stmt_of part.done.items) (group_of part.group) (header_of header)
-        (map stmt_of body.items)).done) }
-    ensures group { IfOk result (λ p. group_of p.group
-        ≡ (joined (map stmt_of part.done.items) (group_of part.group) (header_of header)
-        (map stmt_of body.items)).group) }
+) -> Result<(), AllocError>
+    ensures done { OnOk result (map stmt_of part.new.done.items
+        ≡ (joined (map stmt_of part.old.done.items) (group_of part.old.group)
+        (header_of header) (map stmt_of body.items)).done) }
+    ensures group { OnOk result (group_of part.new.group
+        ≡ (joined (map stmt_of part.old.done.items) (group_of part.old.group)
+        (header_of header) (map stmt_of body.items)).group) }
 {
-    let Part { done, group } = part;
     match header {
-        Header::If { test } => Ok(Part {
-            done,
-            group: Group::Choice {
+        Header::If { test } => {
+            part.group = Group::Choice {
                 first: Arm { test, body },
                 elifs: Vec::new(alloc),
-            },
-        }),
-        Header::Elif { test } => grow_elif(done, group, Arm { test, body }),
-        Header::Else => grow_else(alloc, done, group, body),
-        Header::Loop { head } => Ok(Part {
-            done,
-            group: Group::Loop { head, body },
-        }),
+            };
+            Ok(())
+        }
+        Header::Elif { test } => grow_elif(part, Arm { test, body }),
+        Header::Else => grow_else(alloc, part, body),
+        Header::Loop { head } => {
+            part.group = Group::Loop { head, body };
+            Ok(())
+        }
         Header::With { is_async, items } => {
-            let one = with_statement(is_async, items, body);
-            let done = with_one(done, one)?;
-            Ok(Part {
-                done,
-                group: Group::Idle,
-            })
+            part.group = Group::Idle;
+            put(&mut part.done, with_statement(is_async, items, body))
         }
-        Header::Try => Ok(Part {
-            done,
-            group: Group::Trial { body },
-        }),
-        Header::Except { star, class, name } => {
-            grow_except(alloc, done, group, star, class, name, body)
+        Header::Try => {
+            part.group = Group::Trial { body };
+            Ok(())
         }
-        Header::Finally => grow_finally(alloc, done, group, body),
-        Header::Def { head } => grow_def(alloc, done, group, head, body),
+        Header::Except { star, class, name } => grow_except(alloc, part, star, class, name, body),
+        Header::Finally => grow_finally(alloc, part, body),
+        Header::Def { head } => grow_def(alloc, part, head, body),
     }
 }

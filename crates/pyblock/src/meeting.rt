@@ -1,6 +1,6 @@
 //! What a line finds of the level that it stands in.
 
-ghost use Rattle.std.specs.Prelude.{◌≡◌, ◌++◌, ◌∷◌, [], map, IfOk, IfErr};
+ghost use Rattle.std.specs.Prelude.{◌≡◌, ◌++◌, ◌∷◌, [], map, IfOk, IfErr, OnOk};
 ghost use Rattle.pynode.specs.TreeOf.{stmt_of, tree_of};
 ghost use Rattle.pygrammar.specs.Reading.{Fine};
 ghost use Rattle.pyform.specs.FormOf.{header_of};
@@ -8,12 +8,13 @@ ghost use Rattle.pyoutline.specs.Faults.{Tells};
 ghost use Rattle.pyblock.specs.Inner.Meeting.{begins, continues, marked, met};
 ghost use Rattle.pyblock.specs.Values.{group_of, part_of};
 
-use crate::closing::close;
+use crate::closing::{close, end_group};
 use crate::groups::{Group, Part};
 use pyform::Header;
-use pynode::{Expr, Stmt};
+use pynode::Expr;
 use pyoutline::{BlockFault, Stop};
 use std::alloc::{AllocError, Global};
+use std::mem;
 
 /// Whether a header is a clause of a group.
 fn continues(header: &Header, group: &Group) -> bool
@@ -55,26 +56,18 @@ fn begins(header: &Header) -> bool
 
 /// What a header finds: it goes on with the group of its level, or that ends before it.
 #[tactic(auto, using(crate::proofs::MeetingLemmas::met_is))]
-pub(crate) fn meet(
-    alloc: Global,
-    done: Vec<Stmt>,
-    group: Group,
-    header: &Header,
-) -> Result<Part, Stop>
-    ensures met { IfOk result (λ p. met (map stmt_of done.items) (group_of group)
-        (header_of header.now) ≡ Fine (part_of p)) }
+pub(crate) fn meet(alloc: Global, part: &mut Part, header: &Header) -> Result<(), Stop>
+    ensures met { OnOk result (met (map stmt_of part.old.done.items) (group_of part.old.group)
+        (header_of header.now) ≡ Fine (part_of part.new)) }
     ensures refused { IfErr result
-        (Tells (met (map stmt_of done.items) (group_of group) (header_of header.now))) }
+        (Tells (met (map stmt_of part.old.done.items) (group_of part.old.group)
+        (header_of header.now))) }
 {
-    if continues(header, &group) {
-        return Ok(Part { done, group });
+    if continues(header, &part.group) {
+        return Ok(());
     }
     if begins(header) {
-        let done = close(alloc, done, group)?;
-        return Ok(Part {
-            done,
-            group: Group::Idle,
-        });
+        return close(alloc, part);
     }
     Err(Stop::Faulty(BlockFault::MisplacedClause))
 }
@@ -90,32 +83,25 @@ fn with_expr(expressions: Vec<Expr>, one: Box<Expr>) -> Result<Vec<Expr>, AllocE
 }
 
 /// What a decorator makes of its level: it goes on with decorators, or the group ends before it.
-pub(crate) fn mark(
-    alloc: Global,
-    done: Vec<Stmt>,
-    group: Group,
-    value: Box<Expr>,
-) -> Result<Part, Stop>
-    ensures marked { IfOk result (λ p. marked (map stmt_of done.items) (group_of group)
-        (tree_of value.value) ≡ Fine (part_of p)) }
+#[inline(never)]
+pub(crate) fn mark(alloc: Global, part: &mut Part, value: Box<Expr>) -> Result<(), Stop>
+    ensures marked { OnOk result (marked (map stmt_of part.old.done.items)
+        (group_of part.old.group) (tree_of value.value) ≡ Fine (part_of part.new)) }
     ensures refused { IfErr result
-        (Tells (marked (map stmt_of done.items) (group_of group) (tree_of value.value))) }
+        (Tells (marked (map stmt_of part.old.done.items) (group_of part.old.group)
+        (tree_of value.value))) }
 {
+    let group = mem::replace(&mut part.group, Group::Idle);
     match group {
         Group::Marked { decorators } => {
             let decorators = with_expr(decorators, value)?;
-            Ok(Part {
-                done,
-                group: Group::Marked { decorators },
-            })
+            part.group = Group::Marked { decorators };
         }
         group => {
-            let done = close(alloc, done, group)?;
+            end_group(alloc, &mut part.done, group)?;
             let decorators = with_expr(Vec::new(alloc), value)?;
-            Ok(Part {
-                done,
-                group: Group::Marked { decorators },
-            })
+            part.group = Group::Marked { decorators };
         }
     }
+    Ok(())
 }

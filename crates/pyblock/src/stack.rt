@@ -1,6 +1,6 @@
 //! The stack of open levels.
 
-ghost use Rattle.std.specs.Prelude.{◌≡◌, ◌<◌, map, length, IfOk, IfErr};
+ghost use Rattle.std.specs.Prelude.{◌≡◌, ◌<◌, map, length, IfOk, IfErr, OnOk};
 ghost use Rattle.pynode.specs.TreeOf.{stmt_of, tree_of};
 ghost use Rattle.pygrammar.specs.Lines.{decorator_form, header_form, line, simple_form};
 ghost use Rattle.pygrammar.specs.Reading.{Fine, finish, place, settle, start, step};
@@ -9,7 +9,7 @@ ghost use Rattle.pyoutline.specs.Faults.{Tells};
 ghost use Rattle.pyblock.specs.Inner.Levels.{ended};
 ghost use Rattle.pyblock.specs.Values.{state_of};
 
-use crate::closing::{close, with_all};
+use crate::closing::{close, put_all};
 use crate::groups::{Group, Part};
 use crate::growing::grow;
 use crate::meeting::{mark, meet};
@@ -17,6 +17,7 @@ use pyform::{Form, Header};
 use pynode::{Expr, Stmt};
 use pyoutline::{BlockFault, Stop};
 use std::alloc::Global;
+use std::mem;
 
 /// A level that waits for the block of its last line, a header.
 #[derive(Drop)]
@@ -51,140 +52,102 @@ impl Stack {
 
     /// The deepest level comes to its end, and with it the block of the header below.
     #[tactic(auto, using(crate::proofs::LevelLemmas::ending))]
-    fn end_level(self, alloc: Global) -> Result<Stack, Stop>
-        requires { 0 < length self.below.items }
-        ensures ended { IfOk result (λ s. ended (state_of self) ≡ Fine (state_of s)) }
-        ensures refused { IfErr result (Tells (ended (state_of self))) }
-        ensures fewer { IfOk result (λ s. length s.below.items < length self.below.items) }
+    #[inline(never)]
+    fn end_level(&mut self, alloc: Global) -> Result<(), Stop>
+        requires { 0 < length self.old.below.items }
+        ensures ended { OnOk result (ended (state_of self.old) ≡ Fine (state_of self.new)) }
+        ensures refused { IfErr result (Tells (ended (state_of self.old))) }
+        ensures fewer { OnOk result (length self.new.below.items < length self.old.below.items) }
     {
-        let Stack {
-            part,
-            fresh,
-            mut below,
-        } = self;
-        if fresh {
+        if self.fresh {
             return Err(Stop::Faulty(BlockFault::ExpectedIndent));
         }
-        let Part { done, group } = part;
-        let body = close(alloc, done, group)?;
-        let Waiting { part, header } = below.pop().unwrap();
-        let part = grow(alloc, part, header, body)?;
-        Ok(Stack {
-            part,
-            fresh: false,
-            below,
-        })
+        close(alloc, &mut self.part)?;
+        let Waiting { part, header } = self.below.pop().unwrap();
+        let Part { done, group: _ } = mem::replace(&mut self.part, part);
+        grow(alloc, &mut self.part, header, done)?;
+        self.fresh = false;
+        Ok(())
     }
 
     /// The levels above this one come to their end.
     #[tactic(auto, using(crate::proofs::LevelLemmas::ending))]
-    fn settle(self, alloc: Global, level: usize) -> Result<Stack, Stop>
-        ensures settled { IfOk result (λ s. settle level (state_of self) ≡ Fine (state_of s)) }
-        ensures refused { IfErr result (Tells (settle level (state_of self))) }
+    fn settle(&mut self, alloc: Global, level: usize) -> Result<(), Stop>
+        ensures settled { OnOk result (settle level (state_of self.old) ≡ Fine (state_of self.new)) }
+        ensures refused { IfErr result (Tells (settle level (state_of self.old))) }
     {
-        let mut stack = self;
-        while level < stack.below.len() {
-            stack = stack.end_level(alloc)?;
+        while level < self.below.len() {
+            self.end_level(alloc)?;
         }
-        Ok(stack)
+        Ok(())
     }
 
     /// Simple statements of the deepest level.
     #[tactic(auto, using(crate::proofs::LevelLemmas::placing))]
-    fn place_simple(self, alloc: Global, statements: Vec<Stmt>) -> Result<Stack, Stop>
-        ensures placed { IfOk result (λ s. place (state_of self)
-            (simple_form (map stmt_of statements.items)) ≡ Fine (state_of s)) }
+    fn place_simple(&mut self, alloc: Global, statements: Vec<Stmt>) -> Result<(), Stop>
+        ensures placed { OnOk result (place (state_of self.old)
+            (simple_form (map stmt_of statements.items)) ≡ Fine (state_of self.new)) }
         ensures refused { IfErr result
-            (Tells (place (state_of self) (simple_form (map stmt_of statements.items)))) }
+            (Tells (place (state_of self.old) (simple_form (map stmt_of statements.items)))) }
     {
-        let Stack {
-            part,
-            fresh: _,
-            below,
-        } = self;
-        let Part { done, group } = part;
-        let done = close(alloc, done, group)?;
-        let done = with_all(done, statements)?;
-        Ok(Stack {
-            part: Part {
-                done,
-                group: Group::Idle,
-            },
-            fresh: false,
-            below,
-        })
+        close(alloc, &mut self.part)?;
+        put_all(&mut self.part.done, statements)?;
+        self.fresh = false;
+        Ok(())
     }
 
     /// A decorator of the deepest level.
     #[tactic(auto, using(crate::proofs::LevelLemmas::placing))]
-    fn place_decorator(self, alloc: Global, value: Box<Expr>) -> Result<Stack, Stop>
-        ensures placed { IfOk result (λ s. place (state_of self)
-            (decorator_form (tree_of value.value)) ≡ Fine (state_of s)) }
+    #[inline(never)]
+    fn place_decorator(&mut self, alloc: Global, value: Box<Expr>) -> Result<(), Stop>
+        ensures placed { OnOk result (place (state_of self.old)
+            (decorator_form (tree_of value.value)) ≡ Fine (state_of self.new)) }
         ensures refused { IfErr result
-            (Tells (place (state_of self) (decorator_form (tree_of value.value)))) }
+            (Tells (place (state_of self.old) (decorator_form (tree_of value.value)))) }
     {
-        let Stack {
-            part,
-            fresh: _,
-            below,
-        } = self;
-        let Part { done, group } = part;
-        let part = mark(alloc, done, group, value)?;
-        Ok(Stack {
-            part,
-            fresh: false,
-            below,
-        })
+        mark(alloc, &mut self.part, value)?;
+        self.fresh = false;
+        Ok(())
     }
 
     /// A header of the deepest level, with its block if that stands behind its colon.
     #[tactic(auto, using(crate::proofs::LevelLemmas::placing))]
+    #[inline(never)]
     fn place_header(
-        self,
+        &mut self,
         alloc: Global,
         header: Header,
         suite: Option<Vec<Stmt>>,
-    ) -> Result<Stack, Stop>
-        ensures placed { IfOk result (λ s. place (state_of self)
-            (header_form (header_of header) (suite_of suite)) ≡ Fine (state_of s)) }
+    ) -> Result<(), Stop>
+        ensures placed { OnOk result (place (state_of self.old)
+            (header_form (header_of header) (suite_of suite)) ≡ Fine (state_of self.new)) }
         ensures refused { IfErr result
-            (Tells (place (state_of self) (header_form (header_of header) (suite_of suite)))) }
+            (Tells (place (state_of self.old) (header_form (header_of header) (suite_of suite)))) }
     {
-        let Stack {
-            part,
-            fresh: _,
-            mut below,
-        } = self;
-        let Part { done, group } = part;
-        let part = meet(alloc, done, group, &header)?;
+        meet(alloc, &mut self.part, &header)?;
         match suite {
             None => {
-                below.push(Waiting { part, header })?;
-                Ok(Stack {
-                    part: Part {
-                        done: Vec::new(alloc),
-                        group: Group::Idle,
-                    },
-                    fresh: true,
-                    below,
-                })
+                let fresh = Part {
+                    done: Vec::new(alloc),
+                    group: Group::Idle,
+                };
+                let part = mem::replace(&mut self.part, fresh);
+                self.below.push(Waiting { part, header })?;
+                self.fresh = true;
             }
             Some(body) => {
-                let part = grow(alloc, part, header, body)?;
-                Ok(Stack {
-                    part,
-                    fresh: false,
-                    below,
-                })
+                grow(alloc, &mut self.part, header, body)?;
+                self.fresh = false;
             }
         }
+        Ok(())
     }
 
     /// A line of the deepest level.
-    fn place(self, alloc: Global, form: Form) -> Result<Stack, Stop>
-        ensures placed { IfOk result
-            (λ s. place (state_of self) (form_of form) ≡ Fine (state_of s)) }
-        ensures refused { IfErr result (Tells (place (state_of self) (form_of form))) }
+    fn place(&mut self, alloc: Global, form: Form) -> Result<(), Stop>
+        ensures placed { OnOk result
+            (place (state_of self.old) (form_of form) ≡ Fine (state_of self.new)) }
+        ensures refused { IfErr result (Tells (place (state_of self.old) (form_of form))) }
     {
         match form {
             Form::Simple { statements } => self.place_simple(alloc, statements),
@@ -195,17 +158,17 @@ impl Stack {
 
     /// The next line: its level, and its form.
     #[tactic(auto, using(crate::proofs::LevelLemmas::placing))]
-    pub(crate) fn step(self, alloc: Global, level: usize, form: Form) -> Result<Stack, Stop>
-        ensures goes { IfOk result
-            (λ s. step (state_of self) (line level (form_of form)) ≡ Fine (state_of s)) }
+    pub(crate) fn step(&mut self, alloc: Global, level: usize, form: Form) -> Result<(), Stop>
+        ensures goes { OnOk result
+            (step (state_of self.old) (line level (form_of form)) ≡ Fine (state_of self.new)) }
         ensures refused { IfErr result
-            (Tells (step (state_of self) (line level (form_of form)))) }
+            (Tells (step (state_of self.old) (line level (form_of form)))) }
     {
-        let stack = self.settle(alloc, level)?;
-        if level > stack.below.len() {
+        self.settle(alloc, level)?;
+        if level > self.below.len() {
             return Err(Stop::Faulty(BlockFault::UnexpectedIndent));
         }
-        stack.place(alloc, form)
+        self.place(alloc, form)
     }
 
     /// The end of all lines.
@@ -213,13 +176,15 @@ impl Stack {
         ensures tree { IfOk result (λ v. finish (state_of self) ≡ Fine (map stmt_of v.items)) }
         ensures refused { IfErr result (Tells (finish (state_of self))) }
     {
-        let stack = self.settle(alloc, 0)?;
+        let mut stack = self;
+        stack.settle(alloc, 0)?;
+        close(alloc, &mut stack.part)?;
         let Stack {
             part,
             fresh: _,
             below: _,
         } = stack;
-        let Part { done, group } = part;
-        close(alloc, done, group)
+        let Part { done, group: _ } = part;
+        Ok(done)
     }
 }

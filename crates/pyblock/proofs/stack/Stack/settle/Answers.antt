@@ -3,7 +3,7 @@ use Rattle.pyblock.proofs.LevelLemmas.{settle_done, settle_more}
 use Rattle.pyblock.proofs.stack.Stack.settle.Goals as goal
 
 pub loop-alloc-preserved : goal.loop-alloc-preserved
-loop-alloc-preserved c = settle_more c.args.level c.loop-alloc.stack c.in_ok-stack.stack _ (omega arith) c.in_ok-stack.ensures.ended c.loop-alloc.invariant
+loop-alloc-preserved c = settle_more c.args.level c.loop-alloc.self c.end_level.new.self _ (omega arith) c.in_ok-end_level.ensures.ended c.loop-alloc.invariant
 
 pub returns-clause-settled : goal.returns-clause-settled
-returns-clause-settled c = settle_done c.args.level c.loop-alloc.stack _ (omega arith) c.loop-alloc.invariant
+returns-clause-settled c = settle_done c.args.level c.loop-alloc.self _ (omega arith) c.loop-alloc.invariant

@@ -4,7 +4,7 @@ use Rattle.pyblock.specs.Values.{state_of}
 use Rattle.pyblock.proofs.stack.Stack.settle.Given as goal
 
 abbrev pub invariant-loop-alloc : goal.invariant-loop-alloc
-invariant-loop-alloc l = settle l.level (state_of l.stack) ≡ settle l.level (state_of l.fn.self)
+invariant-loop-alloc l = settle l.level (state_of l.self) ≡ settle l.level (state_of l.initial.self)
 
 abbrev pub decreases-loop-alloc : goal.decreases-loop-alloc
-decreases-loop-alloc l = length l.stack.below.items
+decreases-loop-alloc l = length l.self.below.items
