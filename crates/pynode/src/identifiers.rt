@@ -42,23 +42,34 @@ impl Model for Identifier {
     ghost invariant = { λ name. IsKept name.text };
 }
 
+/// The name of a text that is too long to stand inline.
+#[cold]
+#[inline(never)]
+fn allocated(alloc: Global, text: &str) -> Result<Identifier, AllocError>
+    ensures { IfOk result (λ made. made ≡ chars text.now) }
+{
+    Ok(Identifier {
+        text: Text::Allocated(String::from_str(alloc, text)?),
+    })
+}
+
 impl Identifier {
     /// The name of this text.
     pub fn new(alloc: Global, text: &str) -> Result<Identifier, AllocError>
         ensures value { IfOk result (λ made. made ≡ chars text.now) }
         ensures inline { length text.now ≤ 30 → IsOk result }
     {
-        let text = if text.len() <= INLINE_LEN {
-            let mut bytes = [0; INLINE_LEN];
-            bytes[..text.len()].copy_from_slice(text.as_bytes());
-            Text::Inline {
+        if text.len() > INLINE_LEN {
+            return allocated(alloc, text);
+        }
+        let mut bytes = [0; INLINE_LEN];
+        bytes[..text.len()].copy_from_slice(text.as_bytes());
+        Ok(Identifier {
+            text: Text::Inline {
                 len: text.len() as u8,
                 bytes,
-            }
-        } else {
-            Text::Allocated(String::from_str(alloc, text)?)
-        };
-        Ok(Identifier { text })
+            },
+        })
     }
 
     /// Its text.

@@ -62,6 +62,19 @@ impl Points {
         Ok(())
     }
 
+    /// Appends the code points that bytes are, one for each. Where memory is refused the text is as
+    /// it was.
+    #[inline(always)]
+    pub fn push_bytes(&mut self, bytes: &[u8]) -> Result<(), AllocError>
+        ensures { self.new ≡ (if is_ok result then self.old ++ bytes.now else self.old) }
+    {
+        self.points.reserve(bytes.len())?;
+        for byte in bytes {
+            self.points.push_reserved(u32::from(*byte));
+        }
+        Ok(())
+    }
+
     /// Its code points, each of at most 10FFFF.
     pub fn as_slice(&self) -> &[u32]
         ensures value { result.now ≡ self.now }

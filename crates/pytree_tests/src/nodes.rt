@@ -74,6 +74,11 @@ fn keeps_points(rt: HostRuntime) -> Result<(), Fail> {
     text.push(0x10_FFFF)?;
     let expected: &[u32] = &[0x61, 0xD800, 0x10_FFFF];
     assert!(rt; text.as_slice() == expected);
+    let mut appended = text.clone()?;
+    appended.push_bytes(b"a\xff")?;
+    appended.push_bytes(b"")?;
+    let longer: &[u32] = &[0x61, 0xD800, 0x10_FFFF, 0x61, 0xFF];
+    assert!(rt; appended.as_slice() == longer);
     let copy = text.clone()?;
     assert!(rt; copy == text);
     let whole = Points::from_vec(vec![in alloc; 0x61, 0xD800, 0x10_FFFF]?);

@@ -1,9 +1,12 @@
 mod NameLemmas
 mod NumberLemmas
+mod ShortLemmas
 mod DigitLemmas
 mod EscapeLemmas
 mod Filtered
+mod OwnLemmas
 mod LiteralLemmas
+mod RunLemmas
 mod PlainLemmas
 mod CalmLemmas
 mod FaultLemmas

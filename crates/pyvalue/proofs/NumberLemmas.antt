@@ -1,17 +1,16 @@
 -- Carries: radix_of, behind_two, whole, number_value. On: a number character by character.
-use Rattle.std.proofs.Common.{◌≡◌, ℕ, zero, suc, ◌+◌, ◌-◌, ◌*◌, ◌^◌, ◌<◌, ◌≤◌, true, false, List, [], ◌∷◌, drop, refl, sym, ap, ◌∙◌, inl, inr, arith, Option, Some}
+use Rattle.std.proofs.Common.{◌≡◌, ℕ, ◌+◌, ◌*◌, ◌^◌, ◌<◌, ◌≤◌, true, false, List, [], ◌∷◌, drop, refl, sym, ap, ◌∙◌, inl, inr, arith, Option, Some}
 use Rattle.std.proofs.Common.{None, mul-le-mul_left}
 use Rattle.std.specs.Prelude.{◌==◌, nat_le, filter, Ok, Err, if◌then◌else◌}
 use Rattle.std.specs.Char.{digit_value}
 use Rattle.std.specs.Str.{chars}
 use Rattle.std.specs.Str.Parse.{digits_value_after}
 use Rattle.std.proofs.lemmas.Bool.{cases_Bool, leb-true, leb-false, le-leb, lt-leb}
-use Rattle.std.proofs.lemmas.Str.{chars-nil, chars-IsAscii}
-use Rattle.std.proofs.lemmas.Str.Ascii.{IsAscii-nil, IsAscii-cons}
+use Rattle.std.proofs.lemmas.Str.{chars-nil}
 use Rattle.pytoken.specs.declared.faults.TokenError.TheVariants as errors
 use Rattle.pytoken.specs.declared.faults.TokenError.{TokenError}
 use Rattle.pytoken.specs.NumberValues.{radix_of, is_no_underscore, is_complex, is_real, whole_value, number_fault, number_answer, unless}
-use Rattle.pyvalue.specs.Inner.Readings.{radix_by, one_more, whole_below, digits_behind, IsOneDigit}
+use Rattle.pyvalue.specs.Inner.Readings.{radix_by, one_more, whole_below, digits_behind}
 
 -- The first two characters
 
@@ -165,26 +164,3 @@ value_of_ok t v e = by (number_fault t) e
     by : (o : Option TokenError) → unless o (whole_value t) ≡ Ok v → v ≡ whole_value t
     by None h = cc
     by (Some x) h = cc
-
--- One digit
-
-digit_by : (k : ℕ) → k < 10 → number_answer ((48 + k) ∷ []) ≡ Ok k
-unfolding number_answer number_fault whole_value
-digit_by zero within = refl
-digit_by (suc zero) within = refl
-digit_by (suc (suc zero)) within = refl
-digit_by (suc (suc (suc zero))) within = refl
-digit_by (suc (suc (suc (suc zero)))) within = refl
-digit_by (suc (suc (suc (suc (suc zero))))) within = refl
-digit_by (suc (suc (suc (suc (suc (suc zero)))))) within = refl
-digit_by (suc (suc (suc (suc (suc (suc (suc zero))))))) within = refl
-digit_by (suc (suc (suc (suc (suc (suc (suc (suc zero)))))))) within = refl
-digit_by (suc (suc (suc (suc (suc (suc (suc (suc (suc zero))))))))) within = refl
-digit_by (suc (suc (suc (suc (suc (suc (suc (suc (suc (suc k)))))))))) within = absurd (omega (arith, within))
-
-pub answer_digit : (bs : List ℕ) (digit : ℕ) → IsOneDigit bs digit → number_answer (chars bs) ≡ Ok (digit - 48)
-answer_digit bs digit is =
-    let ascii = IsAscii-cons digit [] (omega (arith, is.most)) IsAscii-nil in
-    let same : 48 + (digit - 48) ≡ digit = omega (arith, is.least) in
-    ap (λ (t : List ℕ). number_answer (chars t)) is.whole ∙ ap number_answer (chars-IsAscii (digit ∷ []) ascii)
-    ∙ sym (ap (λ (d : ℕ). number_answer (d ∷ [])) same) ∙ digit_by (digit - 48) (omega (arith, is.most))

@@ -1,14 +1,14 @@
 -- Carries: comment_fault, string_fault. On: a text of characters that stand for themselves.
-use Rattle.std.proofs.Common.{◌≡◌, ℕ, ◌<◌, ◌≤◌, Bool, true, false, List, [], ◌∷◌, refl, sym, ap, subst, ◌∙◌, arith, inl, inr, Option, Some, None}
-use Rattle.std.specs.Prelude.{◌==◌, ◌&&◌, not, nat_lt, nat_le, if◌then◌else◌}
+use Rattle.std.proofs.Common.{◌≡◌, ℕ, Bool, true, false, List, [], ◌∷◌, refl, ap, ◌∙◌, arith, Some, None}
+use Rattle.std.specs.Prelude.{◌==◌, ◌&&◌, not, nat_lt, nat_le}
 use Rattle.std.specs.List.{list_all, list_any}
 use Rattle.std.specs.Str.{chars, IsAscii}
-use Rattle.std.proofs.lemmas.Bool.{cases_Bool, and_parts, leb-true, le-ltb}
+use Rattle.std.proofs.lemmas.Bool.{and_parts, leb-true, le-ltb}
 use Rattle.std.proofs.lemmas.Str.{chars-IsAscii}
 use Rattle.std.proofs.lemmas.Str.Ascii.{IsAscii-nil, IsAscii-cons}
 use Rattle.pytoken.specs.declared.faults.TokenError.TheVariants.{FString}
 use Rattle.pytoken.specs.declared.meanings.Meaning.{Meaning}
-use Rattle.pytoken.specs.Escapes.{reading, meanings, meanings_after, is_named_escape, is_bad_escape, escape_fault}
+use Rattle.pytoken.specs.Escapes.{meanings, meanings_after, is_named_escape, is_bad_escape, escape_fault}
 use Rattle.pytoken.specs.StringValues.{with_line_feeds, is_raw, is_bytes, is_formatted, body_of, nul_fault, literal_fault, string_fault}
 use Rattle.pytoken.proofs.Callers.Bodies.{body_all, filter_all}
 use Rattle.pyvalue.specs.Inner.Readings.{is_plain}

@@ -13,7 +13,7 @@ ghost use Rattle.pyvalue.specs.Inner.Readings.{body_points};
 
 use crate::characters::Characters;
 use crate::escapes::next_meaning;
-use crate::strings::{body, is_marked};
+use crate::strings::{begins_bare, body, inside, is_marked};
 use pynode::Points;
 use pytoken::Meaning;
 use std::alloc::{AllocError, Global};
@@ -38,16 +38,31 @@ fn push_point(points: &mut Points, meaning: Meaning) -> Result<(), AllocError>
     }
 }
 
-/// The text of a body.
+/// Appends the text of what is left of a body.
+fn push_text(points: &mut Points, rest: Characters, raw: bool) -> Result<(), AllocError>
+    requires { list_all is_point rest ≡ true }
+    ensures { OnOk result (points.new ≡ points.old ++ body_points raw false rest.entry) }
+{
+    let mut left = rest;
+    while let Some(meaning) = next_meaning(&mut left, raw, false) {
+        push_point(points, meaning)?;
+        points.push_bytes(left.bump_plain(raw))?;
+    }
+    Ok(())
+}
+
+/// The text of a body. Most have no escape, and are their own text.
 fn text_in(alloc: Global, body: Characters, raw: bool) -> Result<Points, AllocError>
     requires { list_all is_point body ≡ true }
     ensures { IfOk result (λ points. points ≡ body_points raw false body.entry) }
 {
     let mut left = body;
     let mut points = Points::new(alloc);
-    while let Some(meaning) = next_meaning(&mut left, raw, false) {
-        push_point(&mut points, meaning)?;
+    points.push_bytes(left.bump_plain(raw))?;
+    if left.is_done() {
+        return Ok(points);
     }
+    push_text(&mut points, left, raw)?;
     Ok(points)
 }
 
@@ -66,16 +81,28 @@ fn push_byte(bytes: &mut Vec<u8>, meaning: Meaning) -> Result<(), AllocError>
     Ok(())
 }
 
-/// The bytes of a body. A point that is none, of an escape with a fault, is left out.
+/// Appends the bytes of what is left of a body. A point that is none, of an escape with a fault, is
+/// left out.
+fn push_bytes(bytes: &mut Vec<u8>, rest: Characters, raw: bool) -> Result<(), AllocError>
+    ensures { OnOk result (list_all is_byte (body_points raw true rest.entry) ≡ true
+        → bytes.new.items ≡ bytes.old.items ++ body_points raw true rest.entry) }
+{
+    let mut left = rest;
+    while let Some(meaning) = next_meaning(&mut left, raw, true) {
+        push_byte(bytes, meaning)?;
+        bytes.extend_from_slice(left.bump_plain(raw))?;
+    }
+    Ok(())
+}
+
+/// The bytes of a body.
 fn bytes_in(alloc: Global, body: Characters, raw: bool) -> Result<Vec<u8>, AllocError>
     ensures { IfOk result (λ bytes. list_all is_byte (body_points raw true body.entry) ≡ true
         → bytes.items ≡ body_points raw true body.entry) }
 {
     let mut left = body;
-    let mut bytes = Vec::new(alloc);
-    while let Some(meaning) = next_meaning(&mut left, raw, true) {
-        push_byte(&mut bytes, meaning)?;
-    }
+    let mut bytes = Vec::from_slice(alloc, left.bump_plain(raw))?;
+    push_bytes(&mut bytes, left, raw)?;
     Ok(bytes)
 }
 
@@ -85,6 +112,13 @@ pub fn string_value(alloc: Global, text: &str) -> Result<Literal, AllocError>
         → literal_value made ≡ string_value (chars text.now)) }
 {
     let literal = Characters::new(text);
+    if begins_bare(&literal) {
+        let points = text_in(alloc, inside(&literal), false)?;
+        return Ok(Literal::Text {
+            points,
+            unicode: false,
+        });
+    }
     let raw = is_marked(&literal, 'r', 'R');
     if is_marked(&literal, 'b', 'B') {
         let bytes = bytes_in(alloc, body(&literal), raw)?;

@@ -46,6 +46,8 @@ fn is_ascii(text: &str) -> bool
 }
 
 /// The name of a tree that a text stands for, by its form.
+#[cold]
+#[inline(never)]
 fn identifier_by_form(alloc: Global, text: &str) -> Result<Identifier, AllocError>
     ensures { IfOk result (λ name. name ≡ nfkc (chars text.now)) }
 {
@@ -65,6 +67,8 @@ pub fn identifier_value(alloc: Global, text: &str) -> Result<Identifier, AllocEr
 }
 
 /// The fault of a name, by its form.
+#[cold]
+#[inline(never)]
 fn fault_by_form(alloc: Global, text: &str) -> Result<Option<TokenError>, AllocError>
     ensures { IfOk result (λ fault. fault ≡ name_fault (chars text.now)) }
 {

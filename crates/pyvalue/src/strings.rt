@@ -8,8 +8,8 @@ ghost use Rattle.std.specs.List.{list_all, list_any};
 ghost use Rattle.pylexeme.specs.Strings.{begins_three};
 ghost use Rattle.pytoken.specs.Escapes.{meanings, escape_fault, is_named_escape, is_bad_escape};
 ghost use Rattle.pytoken.specs.StringValues.{is_quote, is_marked, prefix_len_of, without_last};
-ghost use Rattle.pytoken.specs.StringValues.{body_of, literal_fault, string_fault};
-ghost use Rattle.pyvalue.specs.Inner.Readings.{is_plain, asks, is_doubtful, is_calm};
+ghost use Rattle.pytoken.specs.StringValues.{inside, body_of, literal_fault, string_fault};
+ghost use Rattle.pyvalue.specs.Inner.Readings.{is_bare, is_plain, asks, is_doubtful, is_calm};
 
 use crate::characters::Characters;
 use crate::escapes::next_meaning;
@@ -27,6 +27,17 @@ fn is_either(c: char, one: char, other: char) -> bool
     ensures { result ≡ ((c == one) || (c == other)) }
 {
     c == one || c == other
+}
+
+/// Whether a quote stands here.
+#[inline(always)]
+pub(crate) fn begins_bare(literal: &Characters) -> bool
+    ensures { result ≡ is_bare literal.now }
+{
+    match literal.first() {
+        Some(c) => is_quote(c),
+        None => false,
+    }
 }
 
 /// Whether the prefix of a literal has one of two letters.
@@ -68,10 +79,13 @@ fn has_three(literal: &Characters) -> bool
     let Some(second) = left.bump() else {
         return false;
     };
-    let Some(third) = left.bump() else {
+    if second != first {
+        return false;
+    }
+    let Some(third) = left.first() else {
         return false;
     };
-    is_quote(first) && second == first && third == first
+    is_quote(first) && third == first
 }
 
 /// Takes some characters from both ends.
@@ -86,15 +100,36 @@ fn strip(text: &mut Characters, count: usize)
     }
 }
 
+/// Takes one character from both ends.
+#[inline(always)]
+fn strip_one(text: &mut Characters)
+    ensures { text.new ≡ without_last 1 (drop 1 text.old) }
+{
+    let _ = text.bump();
+    text.bump_back();
+}
+
+/// What stands between the quotes of a literal that has no prefix.
+#[inline(always)]
+pub(crate) fn inside<'a>(literal: &Characters<'a>) -> Characters<'a>
+    ensures { result ≡ inside literal.now }
+{
+    let mut left = literal.again();
+    if has_three(literal) {
+        strip(&mut left, 3);
+    } else {
+        strip_one(&mut left);
+    }
+    left
+}
+
 /// What stands between the quotes of a literal.
 pub(crate) fn body<'a>(literal: &Characters<'a>) -> Characters<'a>
     ensures { result ≡ body_of literal.now }
 {
     let mut left = literal.again();
     skip_prefix(&mut left);
-    let width = if has_three(&left) { 3 } else { 1 };
-    strip(&mut left, width);
-    left
+    inside(&left)
 }
 
 /// Whether a meaning is `\N`.

@@ -1,11 +1,12 @@
 -- What the code reads of a token's text from a place on.
-use Rattle.std.specs.Prelude.{◌≡◌, ℕ, ◌+◌, ◌*◌, ◌^◌, ◌<◌, ◌≤◌, EachIndex, slice_index, ◌==◌, ◌&&◌, ◌||◌, not, Bool, true, List, [], ◌∷◌, drop, filter, nat_lt, nat_le, Option, Some, None, if◌then◌else◌}
+use Rattle.std.specs.Prelude.{◌≡◌, ℕ, ◌+◌, ◌*◌, ◌^◌, ◌<◌, EachIndex, slice_index, ◌==◌, ◌&&◌, ◌||◌, not, Bool, true, false, List, [], ◌∷◌, drop, filter, nat_lt, nat_le, Option, Some, None, if◌then◌else◌}
 use Rattle.std.specs.Char.{digit_value, is_digit}
-use Rattle.std.specs.List.{flat_map}
+use Rattle.std.specs.List.{flat_map, list_all}
 use Rattle.std.specs.Str.Parse.{digits_value}
 use Rattle.pylexeme.specs.Numbers.{is_x, is_o, is_b}
 use Rattle.pytoken.specs.declared.meanings.Meaning.{Meaning}
 use Rattle.pytoken.specs.NumberValues.{radix_of, is_no_underscore}
+use Rattle.pytoken.specs.StringValues.{is_quote}
 use Rattle.pytoken.specs.Escapes.{Reading, reading, meanings, points_in}
 
 -- a reading was made of the front of a text: what it means, and what is left of the text
@@ -46,15 +47,31 @@ whole_below radix ds =
     let n = digits_value radix (filter is_no_underscore ds) in
     if nat_le (2 ^ 128) n then None else Some n
 
--- bytes are one decimal digit
-pub record IsOneDigit (bs : List ℕ) (digit : ℕ) : Type 0 where
-  pub whole : bs ≡ digit ∷ []
-  pub least : 48 ≤ digit
-  pub most : digit ≤ 57
+abbrev pub is_decimal_digit : ℕ → Bool
+is_decimal_digit c = nat_le 48 c && nat_le c 57
+
+-- bytes are decimal digits, of this value, which has room in 64 bits
+pub record IsShort (bs : List ℕ) (value : ℕ) : Type 0 where
+  pub digits : list_all is_decimal_digit bs ≡ true
+  pub worth : value ≡ digits_value 10 bs
+  pub fits : value < 2 ^ 64
 
 -- bytes of ASCII alone
 abbrev pub AreLow : List ℕ → Type 0
 AreLow bs = EachIndex bs (λ k. slice_index bs k < 128)
+
+-- a character of ASCII, but no carriage return
+abbrev pub is_own : ℕ → Bool
+is_own c = nat_le c 0x7F && not (c == 13)
+
+-- such a character that stands for itself in a literal, raw or not
+abbrev pub stands : Bool → ℕ → Bool
+stands raw c = is_own c && (raw || not (c == 92))
+
+-- a quote stands at the front of a text
+abbrev pub is_bare : List ℕ → Bool
+is_bare [] = false
+is_bare (c ∷ cs) = is_quote c
 
 -- a character that stands for itself in each literal: ASCII, but no backslash and not U+0000
 abbrev pub is_plain : ℕ → Bool

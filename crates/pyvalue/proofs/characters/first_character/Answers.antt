@@ -1,37 +1,32 @@
-use Rattle.std.proofs.Common.{ℕ, List, drop, slice_get, sym, ap, ◌∙◌}
+use Rattle.std.proofs.Common.{ℕ, List, Some, drop, slice_get, sym, ap, ◌∙◌}
 use Rattle.std.specs.Str.{chars}
-use Rattle.std.specs.Str.Iter.{chars_rest}
-use Rattle.pytoken.proofs.Callers.TextLemmas.{Past, past}
 use Rattle.pytoken.specs.StringValues.{with_line_feeds}
-use Rattle.pyvalue.proofs.Filtered.{kept, skipped, nothing, nothing_left}
+use Rattle.pyvalue.proofs.OwnLemmas.{own_first, own_boundary, own_none}
 use Rattle.pyvalue.proofs.characters.first_character.Goals as goal
 
-pub returns-then-first-ne13-clause-first : goal.returns-then-first-ne13-clause-first
-returns-then-first-ne13-clause-first c =
-    let step = kept (chars_rest c.loop-first.left) (chars_rest c.next.new.self) c.in-Some.first c.loop-first.invariant.utf8 c.in-Some.ensures.steps.0
-    c.if-first-ne13.true in
-    ap (λ (t : List ℕ). slice_get t 0) (sym step ∙ c.loop-first.invariant.same)
+pub range_from-requires : goal.range_from-requires
+range_from-requires c = λ _.
+    let here = ap (λ (t : List ℕ). slice_get t 0) (sym c.as_bytes.ensures.value) ∙ sym c.in-Some.ensures.value in
+    own_boundary c.args.text.now c.in-Some.byte.now c.utf8.text here (sym c.if-is_own.ensures)
 
-pub returns-then-first-ne13-clause-rest : goal.returns-then-first-ne13-clause-rest
-returns-then-first-ne13-clause-rest c =
-    let step = kept (chars_rest c.loop-first.left) (chars_rest c.next.new.self) c.in-Some.first c.loop-first.invariant.utf8 c.in-Some.ensures.steps.0
-    c.if-first-ne13.true in
-    ap (λ (bs : List ℕ). with_line_feeds (chars bs)) c.as_str.ensures ∙ ap (drop 1) (sym step ∙ c.loop-first.invariant.same)
+pub returns-in-Some-clause-first : goal.returns-in-Some-clause-first
+returns-in-Some-clause-first c =
+    let here = ap (λ (t : List ℕ). slice_get t 0) (sym c.as_bytes.ensures.value) ∙ sym c.in-Some.ensures.value in
+    let first = own_first c.args.text.now c.in-Some.byte.now c.utf8.text here (sym c.if-is_own.ensures) in
+    ap (λ (k : ℕ). Some k) c.from.ensures ∙ ap (λ (t : List ℕ). slice_get t 0) (sym first)
 
-pub loop-first-preserved : goal.loop-first-preserved
-loop-first-preserved c =
-    let s : Past (chars_rest c.loop-first.left) (chars_rest c.next.new.self) c.in-Some.first = past (chars_rest c.loop-first.left)
-    (chars_rest c.next.new.self) c.in-Some.first c.loop-first.invariant.utf8 c.in-Some.ensures.steps.0 in
-    record {
-      same = sym (skipped (chars_rest c.loop-first.left) (chars_rest c.next.new.self) c.in-Some.first c.loop-first.invariant.utf8
-          c.in-Some.ensures.steps.0 c.if-first-ne13.false) ∙ c.loop-first.invariant.same;
-      utf8 = s.utf8;
-    }
+pub returns-in-Some-clause-rest : goal.returns-in-Some-clause-rest
+returns-in-Some-clause-rest c =
+    let here = ap (λ (t : List ℕ). slice_get t 0) (sym c.as_bytes.ensures.value) ∙ sym c.in-Some.ensures.value in
+    let first = own_first c.args.text.now c.in-Some.byte.now c.utf8.text here (sym c.if-is_own.ensures) in
+    ap (λ (bs : List ℕ). with_line_feeds (chars bs)) c.range_from.ensures.value ∙ ap (drop 1) (sym first)
 
-pub returns-clause-first : goal.returns-clause-first
-returns-clause-first c = ap (λ (t : List ℕ). slice_get t 0) (sym (nothing_left (chars_rest c.loop-first.left) c.in_default.ensures.steps.0.0)
-    ∙ c.loop-first.invariant.same)
+pub returns-in-None-clause-first : goal.returns-in-None-clause-first
+returns-in-None-clause-first c =
+    let none = own_none c.args.text.now (ap (λ (t : List ℕ). slice_get t 0) (sym c.as_bytes.ensures.value) ∙ sym c.in-None.ensures.value) in
+    ap (λ (t : List ℕ). slice_get t 0) (sym none)
 
-pub returns-clause-rest : goal.returns-clause-rest
-returns-clause-rest c =
-    nothing ∙ ap (drop 1) (sym (nothing_left (chars_rest c.loop-first.left) c.in_default.ensures.steps.0.0) ∙ c.loop-first.invariant.same)
+pub returns-in-None-clause-rest : goal.returns-in-None-clause-rest
+returns-in-None-clause-rest c =
+    let none = own_none c.args.text.now (ap (λ (t : List ℕ). slice_get t 0) (sym c.as_bytes.ensures.value) ∙ sym c.in-None.ensures.value) in
+    none ∙ ap (drop 1) (sym none)

@@ -2,11 +2,12 @@ use Rattle.std.proofs.Common.{ℕ, List, sym, ap, ap₂, ◌∙◌}
 use Rattle.std.specs.Prelude.{Ok}
 use Rattle.std.specs.Str.{chars}
 use Rattle.pyvalue.specs.Inner.Readings.{whole_below}
-use Rattle.pyvalue.proofs.NumberLemmas.{answer_digit, answer_complex, answer_real, answer_some, answer_none}
+use Rattle.pyvalue.proofs.NumberLemmas.{answer_complex, answer_real, answer_some, answer_none}
+use Rattle.pyvalue.proofs.ShortLemmas.{answer_short}
 use Rattle.pyvalue.proofs.numbers.number_value.Goals as goal
 
 pub returns-in-Some : goal.returns-in-Some
-returns-in-Some c = ap (λ (n : ℕ). Ok n) c.from.ensures ∙ sym (answer_digit c.args.text.now c.in-Some.digit c.in-Some.ensures)
+returns-in-Some c = ap (λ (n : ℕ). Ok n) c.from.ensures ∙ sym (answer_short c.args.text.now c.in-Some.value c.in-Some.ensures)
 
 pub returns-then-is_complex : goal.returns-then-is_complex
 returns-then-is_complex c = sym (answer_complex (chars c.args.text.now) (sym c.if-is_complex.ensures))

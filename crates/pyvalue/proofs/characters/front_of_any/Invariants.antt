@@ -1,7 +1,7 @@
 use Rattle.std.proofs.Common.{◌≡◌, length}
 use Rattle.std.specs.Str.{chars, IsUtf8}
 use Rattle.pytoken.specs.StringValues.{with_line_feeds}
-use Rattle.pyvalue.proofs.characters.front.Given as goal
+use Rattle.pyvalue.proofs.characters.front_of_any.Given as goal
 
 abbrev pub invariant-loop-last : goal.invariant-loop-last
 invariant-loop-last l = record {

@@ -2,7 +2,7 @@ use Rattle.std.proofs.Common.{◌≡◌, length}
 use Rattle.std.specs.Str.{chars, IsUtf8}
 use Rattle.std.specs.Str.Iter.{chars_rest}
 use Rattle.pytoken.specs.StringValues.{with_line_feeds}
-use Rattle.pyvalue.proofs.characters.first_character.Given as goal
+use Rattle.pyvalue.proofs.characters.first_of_any.Given as goal
 
 abbrev pub invariant-loop-first : goal.invariant-loop-first
 invariant-loop-first l = record {
