@@ -35,7 +35,7 @@ use pyvalue::Terminal;
 use std::alloc::Global;
 
 #[cycle(reading)]
-#[inline(never)]
+#[inline(always)]
 pub(crate) fn read_atom(
     alloc: Global,
     tokens: &[Terminal],

@@ -90,6 +90,7 @@ pub(crate) fn read_stars(
 
 /// An expression or a starred one.
 #[cycle(reading)]
+#[inline(always)]
 pub(crate) fn read_star_item(
     alloc: Global,
     tokens: &[Terminal],
