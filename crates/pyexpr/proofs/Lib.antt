@@ -6,6 +6,7 @@ pub mod Climbs
 pub mod Trails
 pub mod LevelSteps
 pub mod AtomSteps
+pub mod AloneSteps
 pub mod Wholes
 pub mod Pushes
 pub mod ListSteps

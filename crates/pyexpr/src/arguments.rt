@@ -57,6 +57,7 @@ fn moved(actual: Actual, next: usize) -> Actual
 
 /// Appends an argument without a name.
 #[tactic(auto, using(crate::proofs::Pushes::pushed, crate::proofs::ArgumentSteps::args_height))]
+#[inline(always)]
 fn add_plain(actual: Actual, e: Read, wrong: bool) -> Result<Actual, Stop>
     ensures state { MatchResult result
         (λ r. state_of r ≡ arguments.state actual.keyed actual.doubled wrong
@@ -89,6 +90,7 @@ fn add_plain(actual: Actual, e: Read, wrong: bool) -> Result<Actual, Stop>
 
 /// Appends an argument of this name, or one of `**`.
 #[tactic(auto, using(crate::proofs::ArgumentSteps::keywords_height))]
+#[inline(never)]
 fn add_keyword(
     alloc: Global,
     actual: Actual,
@@ -126,6 +128,7 @@ fn add_keyword(
 }
 
 /// Appends an argument of this kind.
+#[inline(always)]
 fn add(alloc: Global, actual: Actual, kind: Kind, e: Read, room: usize) -> Result<Actual, Stop>
     requires low { e.height < room }
     requires held { actual.height ≤ room }
@@ -185,6 +188,7 @@ fn kind_at<'a>(tokens: &[Terminal<'a>], at: usize) -> Kind<'a>
 
 /// The expression of an argument of this kind.
 #[cycle(reading)]
+#[inline(always)]
 fn read_argument(
     alloc: Global,
     tokens: &[Terminal],
@@ -228,6 +232,7 @@ fn one_more(
 
 /// Arguments with commas between them, behind some that were read.
 #[cycle(reading)]
+#[inline(never)]
 pub(crate) fn more_arguments(
     alloc: Global,
     tokens: &[Terminal],
@@ -273,6 +278,7 @@ pub(crate) fn arguments(
 }
 
 /// The call of these arguments, behind which its bracket has to stand.
+#[inline(always)]
 fn finish(
     alloc: Global,
     tokens: &[Terminal],
@@ -327,6 +333,7 @@ fn call_from(
 
 /// A call with a generator expression as its only argument, behind the element.
 #[cycle(reading)]
+#[inline(never)]
 fn generator_call(
     alloc: Global,
     tokens: &[Terminal],
@@ -361,6 +368,7 @@ fn generator_call(
 
 /// A call, from its bracket on.
 #[cycle(reading)]
+#[inline(never)]
 pub(crate) fn call_step(
     alloc: Global,
     tokens: &[Terminal],

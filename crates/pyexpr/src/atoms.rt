@@ -35,6 +35,7 @@ use pyvalue::Terminal;
 use std::alloc::Global;
 
 #[cycle(reading)]
+#[inline(always)]
 pub(crate) fn read_atom(
     alloc: Global,
     tokens: &[Terminal],
@@ -53,7 +54,29 @@ pub(crate) fn read_atom(
 
 /// The atom that begins with a terminal, from behind it.
 #[cycle(reading)]
+#[inline(always)]
 fn atom_of(
+    alloc: Global,
+    tokens: &[Terminal],
+    t: Terminal,
+    next: usize,
+    depth: Depth,
+) -> Result<Read, Stop>
+    requires within { next ≤ length tokens.now }
+    requires open { IsOpen depth }
+    ensures { Answered tokens.now depth.room next
+        (cap depth.room (capped_atom (same_reads depth) (inner_reads depth) (terminal t.entry ∷ seen tokens.now next))) result }
+{
+    match t {
+        Terminal::Ident(name) => make_name(alloc, name, Context::Load, next),
+        _ => other_atom(alloc, tokens, t, next, depth),
+    }
+}
+
+/// The same, kept apart from the many names.
+#[cycle(reading)]
+#[inline(never)]
+fn other_atom(
     alloc: Global,
     tokens: &[Terminal],
     t: Terminal,

@@ -68,6 +68,7 @@ fn climb_first(
 
 /// An expression behind an operator in front of it.
 #[cycle(reading)]
+#[inline(never)]
 fn prefixed(
     alloc: Global,
     tokens: &[Terminal],
@@ -112,6 +113,7 @@ fn signed(
 
 /// An expression with the operator behind it.
 #[cycle(reading)]
+#[inline(never)]
 fn operation(
     alloc: Global,
     tokens: &[Terminal],

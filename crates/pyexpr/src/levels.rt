@@ -11,11 +11,12 @@ ghost use Rattle.pyexpr.specs.Readings.{reads};
 ghost use Rattle.pyexpr.specs.Inner.Readings.{IsOpen, inner_reads, level_at};
 ghost use Rattle.pyexpr.specs.Views.{seen};
 
+use crate::atoms::read_atom;
 use crate::climbing::climb;
 use crate::depth::Depth;
 use crate::found::Read;
 use crate::listings::{Item, tupled};
-use crate::looks::{is_op, is_word, lead_at, name_with};
+use crate::looks::{is_op, is_word, lead_at, name_with, stands_alone};
 use crate::makers::{make_if, make_name, make_named, make_starred, make_yield, make_yield_from};
 use crate::signatures::lambda_step;
 use crate::stop::Stop;
@@ -89,6 +90,7 @@ pub(crate) fn read_stars(
 
 /// An expression or a starred one.
 #[cycle(reading)]
+#[inline(always)]
 pub(crate) fn read_star_item(
     alloc: Global,
     tokens: &[Terminal],
@@ -161,6 +163,10 @@ pub(crate) fn read_expression(
     ensures { Answered tokens.now depth.room (at + 1) (reads depth Level.Expression (seen tokens.now at)) result }
 {
     depth.enter()?;
+    // No level above an atom has anything to read there.
+    if stands_alone(tokens, at) {
+        return read_atom(alloc, tokens, at, depth);
+    }
     if is_word(tokens, at, Keyword::Lambda) {
         return lambda_step(alloc, tokens, at + 1, depth);
     }
@@ -174,6 +180,7 @@ pub(crate) fn read_expression(
 
 /// The rest of a conditional, from its `if` on.
 #[cycle(reading)]
+#[inline(never)]
 fn if_else_step(alloc: Global, tokens: &[Terminal], body: Read, depth: Depth) -> Result<Read, Stop>
     requires within { body.next < length tokens.now }
     requires open { IsOpen depth }

@@ -102,6 +102,7 @@ fn least_lead(item: Item) -> u8
 
 /// The Tuple of a first item, behind which a comma stands.
 #[cycle(reading)]
+#[inline(never)]
 pub(crate) fn tupled(
     alloc: Global,
     tokens: &[Terminal],

@@ -67,6 +67,7 @@ fn add_bytes(alloc: Global, bytes: Vec<u8>, more: LiteralText) -> Result<Vec<u8>
 }
 
 /// Neighbouring literals, behind a first one.
+#[inline(never)]
 pub(crate) fn string_run(
     alloc: Global,
     tokens: &[Terminal],
@@ -103,6 +104,7 @@ fn text_run(
 }
 
 /// Bytes behind a first one.
+#[inline(never)]
 fn bytes_run(alloc: Global, tokens: &[Terminal], first: Vec<u8>, at: usize) -> Result<Read, Stop>
     requires { at ≤ length tokens.now }
     ensures { Answered tokens.now 1 at (run (values.Bytes first.items) (seen tokens.now at)) result }

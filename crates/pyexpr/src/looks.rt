@@ -9,6 +9,7 @@ ghost use Rattle.pygrammar.specs.Targets.{mapped};
 ghost use Rattle.pygrammar.specs.Looks as signs;
 ghost use Rattle.pytoken.specs.Terminals as plain;
 ghost use Rattle.pyexpr.specs.Views.{IsNamed, IsNotNamed, Stands, first_is, first_of, lead_of, seen};
+ghost use Rattle.pyexpr.specs.Inner.Alone.{alone, atom_with, end_with, ends};
 ghost use Rattle.pyexpr.specs.Inner.Views.{literal_in};
 ghost use Rattle.pyvalue.specs.Terminals.{literal_characters, terminal};
 
@@ -191,6 +192,59 @@ pub(crate) fn starts_comp(tokens: &[Terminal], at: usize) -> bool
 {
     match terminal_at(tokens, at) {
         Some(t) => begins_comp(t),
+        None => false,
+    }
+}
+
+/// Whether a terminal is an atom by itself, other than a sign or a word.
+fn is_atom(t: Terminal) -> bool
+    ensures { result ≡ atom_with (terminal t.entry) }
+{
+    match t {
+        Terminal::Ident(_) => true,
+        Terminal::Whole(_) => true,
+        Terminal::Literal(_) => true,
+        _ => false,
+    }
+}
+
+/// Whether a terminal is a sign that ends what stands in front of it at every level.
+fn is_end(t: Terminal) -> bool
+    ensures { result ≡ end_with (terminal t.entry) }
+{
+    match t {
+        Terminal::Op(sign) => match sign {
+            Exact::Comma => true,
+            Exact::RPar => true,
+            Exact::RSqb => true,
+            Exact::RBrace => true,
+            Exact::Colon => true,
+            Exact::Equal => true,
+            _ => false,
+        },
+        _ => false,
+    }
+}
+
+/// Whether such a sign stands at the place, or nothing.
+#[inline(always)]
+fn ends_at(tokens: &[Terminal], at: usize) -> bool
+    ensures { result ≡ ends (seen tokens.now at) }
+{
+    match terminal_at(tokens, at) {
+        Some(t) => is_end(t),
+        None => true,
+    }
+}
+
+/// Whether an atom of one terminal stands at the place, and such a sign or nothing behind it.
+#[inline(always)]
+#[tactic(auto, using(crate::proofs::AloneSteps::alone_here, crate::proofs::AloneSteps::alone_past))]
+pub(crate) fn stands_alone(tokens: &[Terminal], at: usize) -> bool
+    ensures { result ≡ alone (seen tokens.now at) }
+{
+    match terminal_at(tokens, at) {
+        Some(t) => is_atom(t) && ends_at(tokens, at + 1),
         None => false,
     }
 }

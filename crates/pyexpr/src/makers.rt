@@ -34,6 +34,7 @@ pub(crate) fn above(under: usize, room: usize) -> Result<usize, Stop>
 }
 
 /// What was read, of an expression of this height.
+#[inline(always)]
 fn boxed(alloc: Global, expr: Expr, height: usize, next: usize) -> Result<Read, Stop>
     requires { height ≡ Heights.height (tree_of expr) }
     ensures { MatchResult result (λ r. Made height (tree_of expr) next r) (λ s. s ≡ Stop.Memory) }
@@ -106,6 +107,7 @@ pub(crate) fn make_whole(alloc: Global, value: u128, next: usize) -> Result<Read
 
 /// A name.
 #[tactic(auto, using(pynode::proofs::Callers::ExprShapes::expr_shapes))]
+#[inline(never)]
 pub fn make_name(alloc: Global, name: &str, ctx: Context, next: usize) -> Result<Read, Stop>
     ensures { MatchResult result (λ r. Made 1 (plain.Name (nfkc (chars name.now)) ctx) next r) (λ s. s ≡ Stop.Memory) }
 {
@@ -445,6 +447,7 @@ pub(crate) fn make_dict(
 
 /// A call, of parts of this height.
 #[tactic(auto, using(pynode::proofs::Callers::ExprShapes::expr_shapes))]
+#[inline(always)]
 pub(crate) fn make_call(
     alloc: Global,
     func: Box<Expr>,

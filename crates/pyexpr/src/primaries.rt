@@ -67,6 +67,7 @@ fn attribute_step(alloc: Global, tokens: &[Terminal], e: Read, depth: Depth) -> 
 
 /// A subscript, from its bracket on.
 #[cycle(reading)]
+#[inline(never)]
 fn index_step(alloc: Global, tokens: &[Terminal], e: Read, depth: Depth) -> Result<Read, Stop>
     requires within { e.next < length tokens.now }
     requires open { IsOpen depth }

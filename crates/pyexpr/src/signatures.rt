@@ -365,6 +365,7 @@ pub(crate) fn parameters(
 
 /// Behind a `lambda`.
 #[cycle(reading)]
+#[inline(never)]
 pub(crate) fn lambda_step(
     alloc: Global,
     tokens: &[Terminal],

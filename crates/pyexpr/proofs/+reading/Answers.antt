@@ -9,6 +9,7 @@ use Rattle.pyexpr.proofs.Reading.{failed_cap}
 use Rattle.pyexpr.proofs.Climbs.{climb_start, climb_front_error, climb_error, climb_more, climb_found, climb_failed, front_hit}
 use Rattle.pyexpr.proofs.Trails.{dot_error, dot_more, call_error, call_more, index_error, index_more, trail_end, primary_failed, primary_found}
 use Rattle.pyexpr.proofs.LevelSteps.{inner_found, elem_star, part_star, expression_lambda, expression_if, expression_alone, named_hit, named_plain, stars_tuple, slice_open, slice_from, slice_alone, slices_tuple, slices_star, slices_alone}
+use Rattle.pyexpr.proofs.AloneSteps.{expression_atom}
 use Rattle.pyexpr.proofs.AtomSteps.{atom_here, atom_past, other_op, other_word}
 use Rattle.pyvalue.specs.Terminals.{terminal}
 use Rattle.pyexpr.proofs.ListSteps.{list_start, list_end, list_stop, list_error, list_more, tuple_failed, tuple_made, group_failed, group_open, group_made}
@@ -91,6 +92,9 @@ primaries::read_primary-returns-else-is_op-3 t c = primary_found c.args.tokens.n
 pub levels::read_elem-returns-in_ok-e : goal.levels::read_elem-returns-in_ok-e
 levels::read_elem-returns-in_ok-e t c = elem_star c.args.tokens.now c.args.depth c.args.at c.in_ok-enter.ensures c.in_ok-e.e c.make_starred.result c.if-is_op.ensures (inner_found c.args.tokens.now _ c.args.depth c.inner.result _ _ c.in_ok-e.e c.inner.ensures.steps c.inner.ensures.room c.in_ok-e.ensures) c.make_starred.ensures
 
+pub levels::read_expression-returns-then-stands_alone : goal.levels::read_expression-returns-then-stands_alone
+levels::read_expression-returns-then-stands_alone t c = expression_atom c.args.tokens.now c.args.depth c.args.at c.read_atom.result c.in_ok-enter.ensures c.if-stands_alone.ensures c.read_atom.ensures
+
 pub levels::read_expression-returns-then-is_word : goal.levels::read_expression-returns-then-is_word
 levels::read_expression-returns-then-is_word t c = expression_lambda c.args.tokens.now c.args.depth c.args.at c.in_ok-enter.ensures c.lambda_step.result c.if-is_word.ensures c.lambda_step.ensures
 
@@ -136,11 +140,11 @@ atoms::read_atom-returns-in-Some t c = atom_here c.args.tokens.now c.args.depth 
 pub atoms::read_atom-returns-in-None : goal.atoms::read_atom-returns-in-None
 atoms::read_atom-returns-in-None t c = atom_past c.args.tokens.now c.args.depth c.args.at c.in_ok-enter.ensures c.in-None.ensures.is
 
-pub atoms::atom_of-returns-in_default : goal.atoms::atom_of-returns-in_default
-atoms::atom_of-returns-in_default t c = other_op (terminal c.args.t) c.in-Op.sign c.args.depth.room (same_reads c.args.depth) (inner_reads c.args.depth) (seen c.args.tokens.now c.args.next) (ap terminal c.in-Op.is) c.in_default.not-LPar c.in_default.not-LSqb c.in_default.not-LBrace c.in_default.not-Ellipsis
+pub atoms::other_atom-returns-in_default : goal.atoms::other_atom-returns-in_default
+atoms::other_atom-returns-in_default t c = other_op (terminal c.args.t) c.in-Op.sign c.args.depth.room (same_reads c.args.depth) (inner_reads c.args.depth) (seen c.args.tokens.now c.args.next) (ap terminal c.in-Op.is) c.in_default.not-LPar c.in_default.not-LSqb c.in_default.not-LBrace c.in_default.not-Ellipsis
 
-pub atoms::atom_of-returns-in_default-word : goal.atoms::atom_of-returns-in_default-word
-atoms::atom_of-returns-in_default-word t c = other_word (terminal c.args.t) c.in-Word.word c.args.depth.room (same_reads c.args.depth) (inner_reads c.args.depth) (seen c.args.tokens.now c.args.next) (ap terminal c.in-Word.is) c.in_default-word.not-None c.in_default-word.not-True c.in_default-word.not-False
+pub atoms::other_atom-returns-in_default-word : goal.atoms::other_atom-returns-in_default-word
+atoms::other_atom-returns-in_default-word t c = other_word (terminal c.args.t) c.in-Word.word c.args.depth.room (same_reads c.args.depth) (inner_reads c.args.depth) (seen c.args.tokens.now c.args.next) (ap terminal c.in-Word.is) c.in_default-word.not-None c.in_default-word.not-True c.in_default-word.not-False
 
 pub listings::listing-more-init : goal.listings::listing-more-init
 listings::listing-more-init t c = record { ahead = omega arith; is = list_start c.args.tokens.now c.args.depth c.args.item c.args.items c.requires.within c.requires.low }

@@ -136,7 +136,10 @@ abbrev pub decreases-climbing::binary : goal.decreases-climbing::binary
 decreases-climbing::binary l = 20 * (l.depth.steps - 1) + 11
 
 abbrev pub decreases-atoms::atom_of : goal.decreases-atoms::atom_of
-decreases-atoms::atom_of l = 20 * (l.depth.steps - 1) + 19
+decreases-atoms::atom_of l = 20 * l.depth.steps
+
+abbrev pub decreases-atoms::other_atom : goal.decreases-atoms::other_atom
+decreases-atoms::other_atom l = 20 * (l.depth.steps - 1) + 19
 
 abbrev pub decreases-comprehensions::target_item : goal.decreases-comprehensions::target_item
 decreases-comprehensions::target_item l = 20 * (l.depth.steps - 1) + 8
