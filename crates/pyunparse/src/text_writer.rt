@@ -26,7 +26,7 @@ fn is_number(kind: Kind) -> bool
     }
 }
 
-/// Whether a text is one character of ASCII.
+/// Whether a text is this byte alone.
 fn is_byte(text: &str, byte: u8) -> bool
     ensures { result ≡ bytes_eq text.now (byte ∷ []) }
 {
