@@ -1,6 +1,7 @@
 //! The text of a module, while it is written.
 
 ghost use Rattle.std.specs.Prelude.{◌≡◌, ◌+◌, ◌-◌, ◌*◌, ◌<◌, ◌++◌, [], ◌∷◌, None, Some, replicate, IfOk, OnOk};
+ghost use Rattle.std.specs.Str.{bytes_eq};
 ghost use Rattle.std.specs.String.{string_bytes};
 ghost use Rattle.pyspacing.specs.Spacing.{is_number_kind};
 ghost use Rattle.pyunparse.specs.Inner.Writing.{meets};
@@ -25,13 +26,22 @@ fn is_number(kind: Kind) -> bool
     }
 }
 
+/// Whether a text is this byte alone.
+fn is_byte(text: &str, byte: u8) -> bool
+    ensures { result ≡ bytes_eq text.now (byte ∷ []) }
+{
+    let bytes = text.as_bytes();
+    bytes.len() == 1 && bytes[0] == byte
+}
+
 /// Whether a token touches the one before it. Its kind doesn't matter.
 fn touches(edge: Edge, kind: Kind, text: &str, before: bool, behind: bool) -> bool
     ensures { result ≡ meets edge (record { kind = kind; text = text.now; before = before; behind = behind }) }
 {
     let _kind = kind;
     (edge.behind | before)
-        & (!(edge.number & (text == ".")) & !(edge.comma & ((text == ":") & behind)))
+        && !(edge.number && is_byte(text, b'.'))
+        && !(edge.comma && behind && is_byte(text, b':'))
 }
 
 /// A text that tokens are appended to, with the blanks between them, and the front of its lines.
@@ -90,7 +100,7 @@ impl TextWriter {
     pub(crate) fn end_line(&mut self) -> Result<(), AllocError>
         ensures { OnOk result (self.new ≡ record { text = self.old.text ++ 10 ∷ []; last = self.old.last; level = self.old.level }) }
     {
-        self.text.push_str("\n")
+        self.text.push('\n')
     }
 
     /// Goes a level deeper.
@@ -128,9 +138,20 @@ impl TextWriter {
         self.last = Some(Edge {
             behind,
             number: is_number(kind),
-            comma: text == ",",
+            comma: is_byte(text, b','),
         });
         Ok(())
+    }
+
+    /// Appends a text. A lone character is a push, which takes less than a copy.
+    fn push_text(&mut self, text: &str) -> Result<(), AllocError>
+        ensures { OnOk result (self.new ≡ record { text = self.old.text ++ text.now; last = self.old.last; level = self.old.level }) }
+    {
+        let bytes = text.as_bytes();
+        if bytes.len() == 1 && bytes[0].is_ascii() {
+            return self.text.push(bytes[0] as char);
+        }
+        self.text.push_str(text)
     }
 
     /// Appends the prefix of a text literal of the kind `u`, or nothing.
@@ -138,7 +159,7 @@ impl TextWriter {
         ensures { OnOk result (self.new ≡ record { text = self.old.text ++ prefix unicode; last = self.old.last; level = self.old.level }) }
     {
         if unicode {
-            return self.text.push_str("u");
+            return self.text.push('u');
         }
         Ok(())
     }
@@ -163,7 +184,7 @@ impl TextWriter {
                 if touches(edge, kind, text, before, behind) {
                     return Ok(());
                 }
-                self.text.push_str(" ")
+                self.text.push(' ')
             }
         }
     }
@@ -182,7 +203,7 @@ impl Writer for TextWriter {
         behind: bool,
     ) -> Result<(), AllocError> {
         self.space(kind, text, before, behind)?;
-        self.text.push_str(text)
+        self.push_text(text)
     }
 
     fn put_str(&mut self, points: &[u32], unicode: bool) -> Result<(), AllocError> {
