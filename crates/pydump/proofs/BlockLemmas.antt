@@ -18,7 +18,7 @@ use Rattle.pydump.specs.declared.styles.Style.{Style}
 use Rattle.pydump.specs.Shows.{Shown, Fields, Node, Row, a_shown, a_field, left_out, no_field, no_shown, expr_field, name_field, showns, shown, shown_item, shown_module, shown_stmt, shown_stmts, shown_handlers, shown_type_param, type_params_field}
 use Rattle.pydump.specs.Layout.{dump_text, text, fields, deeper, is_flat, is_short, is_simple, all_simple, shown_count}
 use Rattle.pydump.specs.Inner.Blocks.{bare_option, listed, shown_block, shown_handler}
-use Rattle.pydump.specs.Inner.Slots.{field}
+use Rattle.pydump.specs.Inner.Slots.{field, node_text}
 use Rattle.pydump.specs.Inner.Weights.{weight, field_weights}
 use Rattle.pydump.proofs.RowLemmas.{type_params_row}
 use Rattle.pydump.proofs.SlotLemmas.{empty_is_simple, one_slot, two_slots, three_slots}
@@ -113,13 +113,13 @@ type_params_text s f o o1 line named first ps is e =
     ∙ (λ i. o ++ fields s f line named first (a_field (codes "type_params") (Row (sym (type_params_row ps) i)) no_field))
     ∙ (λ i. o ++ fields s f line named first (type_params_field (sym is i) (map type_param_of ps)))
 
--- a node, of its class, its brackets and its fields
-pub node_shown : (s : Style) (f inner class : List ℕ) (fs : Fields) (o0 o1 o2 o3 o4 : List ℕ) (line : Bool) →
+-- a node, of what begins it, its fields and its closing bracket
+pub node_shown : (s : Style) (f inner start : List ℕ) (fs : Fields) (o0 o1 o2 o3 : List ℕ) (line : Bool) →
     inner ≡ deeper s.indent f → line ≡ (is_flat s.indent || is_short fs) →
-    o1 ≡ o0 ++ class → o2 ≡ o1 ++ codes "(" → o3 ≡ o2 ++ fields s inner line s.names true fs → o4 ≡ o3 ++ codes ")" →
-    o4 ≡ o0 ++ text s f (Node class fs)
-node_shown s f inner class fs o0 o1 o2 o3 o4 line ei el e1 e2 e3 e4 =
-    node_closed s f inner class fs o0 o1 o2 o3 o4 (record { one_line = line; named = s.names; first = true }) ei el refl refl e1 e2 e3 e4
+    o1 ≡ o0 ++ start → o2 ≡ o1 ++ fields s inner line s.names true fs → o3 ≡ o2 ++ codes ")" →
+    o3 ≡ o0 ++ node_text s f start fs
+node_shown s f inner start fs o0 o1 o2 o3 line ei el e1 e2 e3 =
+    node_closed s f inner start fs o0 o1 o2 o3 (record { one_line = line; named = s.names; first = true }) ei el refl refl e1 e2 e3
 
 -- a handler of the program, by its fields
 pub handler_shows : (p : Profile) (h : given_handler.Handler) (body : List given_stmt.Stmt) → body ≡ (given_handler.out-Handler h).body.items →

@@ -1,13 +1,14 @@
 -- The text of nodes and lists, as it is appended.
 --
--- Carries: show_one, show_two, show_three, show_four, show_arguments, and the lists.
+-- Carries: show_field, show_one, show_two, show_three, show_four, show_arguments, and the lists.
 use Rattle.std.proofs.Common.{◌≡◌, ℕ, zero, suc, ◌+◌, ◌<◌, ◌++◌, List, [], ◌∷◌, Bool, true, false, codes, refl, ap, sym, ◌∙◌, ◌||◌, length, take, drop, map, get_or, replicate, Option, Some, None, arith}
+use Rattle.std.proofs.lemmas.Bool.{both_ways}
 use Rattle.std.proofs.lemmas.List.{append-nil, append_assoc, take_all, take_at}
 use Rattle.pydump.specs.declared.styles.Style.{Style}
 use Rattle.pydump.specs.declared.lines.Told.{Told}
-use Rattle.pydump.specs.Shows.{Shown, Showns, Fields, Node, Row, a_shown, no_field, showns}
-use Rattle.pydump.specs.Layout.{text, fields, members, before, deeper, is_flat, is_short}
-use Rattle.pydump.specs.Inner.Slots.{Slot, coming, with_slot}
+use Rattle.pydump.specs.Shows.{Shown, Showns, Fields, Row, a_shown, no_field, showns}
+use Rattle.pydump.specs.Layout.{text, fields, members, before, deeper, is_flat, is_short, label}
+use Rattle.pydump.specs.Inner.Slots.{Slot, missing, field, coming, is_missing, node_text, slot_name, slot_shown, with_slot}
 
 -- the front of a line, one level deeper and then as it was
 pub left : (indent : Option ℕ) (f0 f1 f2 : List ℕ) (n : ℕ) → n ≡ length f0 → f1 ≡ deeper indent f0 → f2 ≡ take n f1 → f2 ≡ f0
@@ -18,15 +19,25 @@ left (Some k) f0 f1 f2 n long deep cut =
 pub may_close : (indent : Option ℕ) (f0 f1 : List ℕ) (n : ℕ) → n ≡ length f0 → f1 ≡ deeper indent f0 → f1 ≡ deeper indent (take n f1)
 may_close indent f0 f1 n long deep = deep ∙ ap (deeper indent) (sym (left indent f0 f1 (take n f1) n long deep refl))
 
--- a node, of its class, its brackets and its fields
-pub node_closed : (s : Style) (f inner class : List ℕ) (fs : Fields) (o0 o1 o2 o3 o4 : List ℕ) (told : Told) →
+-- a node, of what begins it, its fields and its closing bracket
+pub node_closed : (s : Style) (f inner start : List ℕ) (fs : Fields) (o0 o1 o2 o3 : List ℕ) (told : Told) →
     inner ≡ deeper s.indent f → told.one_line ≡ (is_flat s.indent || is_short fs) → told.named ≡ s.names → told.first ≡ true →
-    o1 ≡ o0 ++ class → o2 ≡ o1 ++ codes "(" → o3 ≡ o2 ++ coming s inner told fs → o4 ≡ o3 ++ codes ")" →
-    o4 ≡ o0 ++ text s f (Node class fs)
-node_closed s f inner class fs o0 o1 o2 o3 o4 told ei el en ef e1 e2 e3 e4 =
-    let whole : o4 ≡ o0 ++ class ++ codes "(" ++ fields s (deeper s.indent f) (is_flat s.indent || is_short fs) s.names true fs ++ codes ")" =
-    e4 ∙ ap (λ z. z ++ codes ")") (e3 ∙ (λ i. (e2 ∙ ap (λ z. z ++ codes "(") e1) i ++ fields s (ei i) (el i) (en i) (ef i) fs)) in
+    o1 ≡ o0 ++ start → o2 ≡ o1 ++ coming s inner told fs → o3 ≡ o2 ++ codes ")" →
+    o3 ≡ o0 ++ node_text s f start fs
+node_closed s f inner start fs o0 o1 o2 o3 told ei el en ef e1 e2 e3 =
+    let whole : o3 ≡ o0 ++ start ++ fields s (deeper s.indent f) (is_flat s.indent || is_short fs) s.names true fs ++ codes ")" =
+    e3 ∙ ap (λ z. z ++ codes ")") (e2 ∙ (λ i. e1 i ++ fields s (ei i) (el i) (en i) (ef i) fs)) in
     whole ∙ simp append_assoc refl
+
+-- a field that is not left out: what stands before it, its name and its value
+pub field_shown : (s : Style) (f f1 : List ℕ) (o o1 o2 : List ℕ) (t : Told) (a : Slot) (name : List ℕ) → is_missing a ≡ false → name ≡ slot_name a → f1 ≡ f →
+    o1 ≡ o ++ before t.one_line f1 t.first ++ label t.named name → o2 ≡ o1 ++ text s f (slot_shown a) →
+    (rest : Fields) → o2 ++ fields s f t.one_line t.named false rest ≡ o ++ coming s f t (with_slot a rest)
+field_shown s f f1 o o1 o2 t missing name there named same e1 e2 rest = absurd (both_ways true there refl)
+field_shown s f f1 o o1 o2 t (field n x) name there named same e1 e2 rest =
+    let grown : o2 ≡ o ++ before t.one_line f t.first ++ label t.named n ++ text s f x =
+    e2 ∙ (λ i. (e1 ∙ (λ j. o ++ before t.one_line (same j) t.first ++ label t.named (named j))) i ++ text s f x) in
+    ap (λ z. z ++ fields s f t.one_line t.named false rest) grown ∙ simp append_assoc refl
 
 -- the fields behind a first one, where the front of a line was kept
 step : (s : Style) (f g : List ℕ) (o o' : List ℕ) (t t' : Told) (a : Slot) → g ≡ f →

@@ -1,3 +1,4 @@
 pub mod Blocks
+pub mod Names
 pub mod Slots
 pub mod Weights

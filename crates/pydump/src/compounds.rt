@@ -3,12 +3,12 @@
 ghost use Rattle.std.specs.Prelude.{◌≡◌, ◌++◌, OnOk, codes, map};
 ghost use Rattle.std.specs.String.{string_bytes};
 ghost use Rattle.pydump.specs.Inner.Blocks.{listed, shown_block, shown_caught};
-ghost use Rattle.pydump.specs.Inner.Slots.{coming};
-ghost use Rattle.pydump.specs.Layout.{text};
-ghost use Rattle.pydump.specs.Shows.{Node, a_field, expr_field, left_out, no_field, shown, shown_arguments, shown_item, shown_keyword, shown_name, type_params_field};
+ghost use Rattle.pydump.specs.Inner.Slots.{coming, node_text};
+ghost use Rattle.pydump.specs.Shows.{a_field, expr_field, left_out, no_field, shown, shown_arguments, shown_item, shown_keyword, shown_name, type_params_field};
 ghost use Rattle.pynode.specs.TreeOf.{arguments_of, boxed_of, item_of, keyword_of, tree_of, type_param_of};
 
 use crate::blocks::{is_short_test, is_short_with};
+use crate::fields::Field;
 use crate::handlers::show_caught;
 use crate::lines::{Told, close, is_flat, open};
 use crate::nodes::show_field;
@@ -30,9 +30,9 @@ pub(crate) fn show_test(
     body: &[Stmt],
     orelse: &[Stmt],
 ) -> Result<(), AllocError>
-    ensures text { OnOk result (string_bytes out.new ≡ string_bytes out.old ++ text style (string_bytes front.old) (Node class.now
+    ensures text { OnOk result (string_bytes out.new ≡ string_bytes out.old ++ node_text style (string_bytes front.old) class.now
         (a_field (codes "test") (shown (tree_of test.now)) (a_field (codes "body") (shown_block style.profile body.now)
-        (a_field (codes "orelse") (shown_block style.profile orelse.now) no_field))))) }
+        (a_field (codes "orelse") (shown_block style.profile orelse.now) no_field)))) }
     ensures front { OnOk result (string_bytes front.new ≡ string_bytes front.old) }
 {
     let told = Told {
@@ -40,11 +40,10 @@ pub(crate) fn show_test(
         named: style.names,
         first: true,
     };
-    out.push_str(class)?;
-    let outer = open(out, front, style, "(")?;
-    let told = show_field(out, front, style, told, Part::Expr("test", test))?;
-    let told = show_block(out, front, style, told, "body", body)?;
-    show_block(out, front, style, told, "orelse", orelse)?;
+    let outer = open(out, front, style, class)?;
+    let told = show_field(out, front, style, told, Part::Expr(Field::Test, test))?;
+    let told = show_block(out, front, style, told, Field::Body, body)?;
+    show_block(out, front, style, told, Field::Orelse, orelse)?;
     close(out, front, style, outer, ")")?;
     Ok(())
 }
@@ -62,10 +61,10 @@ pub(crate) fn show_for(
     body: &[Stmt],
     orelse: &[Stmt],
 ) -> Result<(), AllocError>
-    ensures text { OnOk result (string_bytes out.new ≡ string_bytes out.old ++ text style (string_bytes front.old) (Node class.now
+    ensures text { OnOk result (string_bytes out.new ≡ string_bytes out.old ++ node_text style (string_bytes front.old) class.now
         (a_field (codes "target") (shown (tree_of target.now)) (a_field (codes "iter") (shown (tree_of iter.now))
         (a_field (codes "body") (shown_block style.profile body.now)
-        (a_field (codes "orelse") (shown_block style.profile orelse.now) (left_out no_field))))))) }
+        (a_field (codes "orelse") (shown_block style.profile orelse.now) (left_out no_field)))))) }
     ensures front { OnOk result (string_bytes front.new ≡ string_bytes front.old) }
 {
     let told = Told {
@@ -73,12 +72,11 @@ pub(crate) fn show_for(
         named: style.names,
         first: true,
     };
-    out.push_str(class)?;
-    let outer = open(out, front, style, "(")?;
-    let told = show_field(out, front, style, told, Part::Expr("target", target))?;
-    let told = show_field(out, front, style, told, Part::Expr("iter", iter))?;
-    let told = show_block(out, front, style, told, "body", body)?;
-    show_block(out, front, style, told, "orelse", orelse)?;
+    let outer = open(out, front, style, class)?;
+    let told = show_field(out, front, style, told, Part::Expr(Field::Target, target))?;
+    let told = show_field(out, front, style, told, Part::Expr(Field::Iter, iter))?;
+    let told = show_block(out, front, style, told, Field::Body, body)?;
+    show_block(out, front, style, told, Field::Orelse, orelse)?;
     close(out, front, style, outer, ")")?;
     Ok(())
 }
@@ -94,9 +92,9 @@ pub(crate) fn show_with(
     items: &[Item],
     body: &[Stmt],
 ) -> Result<(), AllocError>
-    ensures text { OnOk result (string_bytes out.new ≡ string_bytes out.old ++ text style (string_bytes front.old) (Node class.now
+    ensures text { OnOk result (string_bytes out.new ≡ string_bytes out.old ++ node_text style (string_bytes front.old) class.now
         (a_field (codes "items") (listed (λ item. shown_item (item_of item)) items.now)
-        (a_field (codes "body") (shown_block style.profile body.now) (left_out no_field))))) }
+        (a_field (codes "body") (shown_block style.profile body.now) (left_out no_field)))) }
     ensures front { OnOk result (string_bytes front.new ≡ string_bytes front.old) }
 {
     let told = Told {
@@ -104,10 +102,9 @@ pub(crate) fn show_with(
         named: style.names,
         first: true,
     };
-    out.push_str(class)?;
-    let outer = open(out, front, style, "(")?;
-    let told = show_field(out, front, style, told, Part::Items("items", items))?;
-    show_block(out, front, style, told, "body", body)?;
+    let outer = open(out, front, style, class)?;
+    let told = show_field(out, front, style, told, Part::Items(Field::Items, items))?;
+    show_block(out, front, style, told, Field::Body, body)?;
     close(out, front, style, outer, ")")?;
     Ok(())
 }
@@ -125,10 +122,10 @@ pub(crate) fn show_try(
     orelse: &[Stmt],
     finalbody: &[Stmt],
 ) -> Result<(), AllocError>
-    ensures text { OnOk result (string_bytes out.new ≡ string_bytes out.old ++ text style (string_bytes front.old) (Node class.now
+    ensures text { OnOk result (string_bytes out.new ≡ string_bytes out.old ++ node_text style (string_bytes front.old) class.now
         (a_field (codes "body") (shown_block style.profile body.now) (a_field (codes "handlers") (shown_caught style.profile handlers.now)
         (a_field (codes "orelse") (shown_block style.profile orelse.now)
-        (a_field (codes "finalbody") (shown_block style.profile finalbody.now) no_field)))))) }
+        (a_field (codes "finalbody") (shown_block style.profile finalbody.now) no_field))))) }
     ensures front { OnOk result (string_bytes front.new ≡ string_bytes front.old) }
 {
     let told = Told {
@@ -136,12 +133,11 @@ pub(crate) fn show_try(
         named: style.names,
         first: true,
     };
-    out.push_str(class)?;
-    let outer = open(out, front, style, "(")?;
-    let told = show_block(out, front, style, told, "body", body)?;
+    let outer = open(out, front, style, class)?;
+    let told = show_block(out, front, style, told, Field::Body, body)?;
     let told = show_caught(out, front, style, told, handlers)?;
-    let told = show_block(out, front, style, told, "orelse", orelse)?;
-    show_block(out, front, style, told, "finalbody", finalbody)?;
+    let told = show_block(out, front, style, told, Field::Orelse, orelse)?;
+    show_block(out, front, style, told, Field::Finalbody, finalbody)?;
     close(out, front, style, outer, ")")?;
     Ok(())
 }
@@ -161,11 +157,11 @@ pub(crate) fn show_function(
     returns: &Option<Box<Expr>>,
     type_params: &[TypeParam],
 ) -> Result<(), AllocError>
-    ensures text { OnOk result (string_bytes out.new ≡ string_bytes out.old ++ text style (string_bytes front.old) (Node class.now
+    ensures text { OnOk result (string_bytes out.new ≡ string_bytes out.old ++ node_text style (string_bytes front.old) class.now
         (a_field (codes "name") (shown_name name.now) (a_field (codes "args") (shown_arguments (arguments_of args.now))
         (a_field (codes "body") (shown_block style.profile body.now) (a_field (codes "decorator_list") (listed (λ e. shown (tree_of e)) decorator_list.now)
         (expr_field (codes "returns") (boxed_of returns.now)
-        (left_out (type_params_field style.profile (map type_param_of type_params.now)))))))))) }
+        (left_out (type_params_field style.profile (map type_param_of type_params.now))))))))) }
     ensures front { OnOk result (string_bytes front.new ≡ string_bytes front.old) }
 {
     let told = Told {
@@ -173,19 +169,18 @@ pub(crate) fn show_function(
         named: style.names,
         first: true,
     };
-    out.push_str(class)?;
-    let outer = open(out, front, style, "(")?;
-    let told = show_field(out, front, style, told, Part::Name("name", name))?;
-    let told = show_field(out, front, style, told, Part::Arguments("args", args))?;
-    let told = show_block(out, front, style, told, "body", body)?;
+    let outer = open(out, front, style, class)?;
+    let told = show_field(out, front, style, told, Part::Name(Field::Name, name))?;
+    let told = show_field(out, front, style, told, Part::Arguments(Field::Args, args))?;
+    let told = show_block(out, front, style, told, Field::Body, body)?;
     let told = show_field(
         out,
         front,
         style,
         told,
-        Part::Exprs("decorator_list", decorator_list),
+        Part::Exprs(Field::DecoratorList, decorator_list),
     )?;
-    let told = show_field(out, front, style, told, boxed_part("returns", returns))?;
+    let told = show_field(out, front, style, told, boxed_part(Field::Returns, returns))?;
     // The field `type_comment`.
     let told = show_field(out, front, style, told, Part::LeftOut)?;
     show_type_params(out, front, style, told, type_params)?;
@@ -207,11 +202,11 @@ pub(crate) fn show_class(
     decorator_list: &[Expr],
     type_params: &[TypeParam],
 ) -> Result<(), AllocError>
-    ensures text { OnOk result (string_bytes out.new ≡ string_bytes out.old ++ text style (string_bytes front.old) (Node (codes "ClassDef")
+    ensures text { OnOk result (string_bytes out.new ≡ string_bytes out.old ++ node_text style (string_bytes front.old) (codes "ClassDef(")
         (a_field (codes "name") (shown_name name.now) (a_field (codes "bases") (listed (λ e. shown (tree_of e)) bases.now)
         (a_field (codes "keywords") (listed (λ k. shown_keyword (keyword_of k)) words.now)
         (a_field (codes "body") (shown_block style.profile body.now) (a_field (codes "decorator_list") (listed (λ e. shown (tree_of e)) decorator_list.now)
-        (type_params_field style.profile (map type_param_of type_params.now))))))))) }
+        (type_params_field style.profile (map type_param_of type_params.now)))))))) }
     ensures front { OnOk result (string_bytes front.new ≡ string_bytes front.old) }
 {
     let told = Told {
@@ -219,18 +214,23 @@ pub(crate) fn show_class(
         named: style.names,
         first: true,
     };
-    out.push_str("ClassDef")?;
-    let outer = open(out, front, style, "(")?;
-    let told = show_field(out, front, style, told, Part::Name("name", name))?;
-    let told = show_field(out, front, style, told, Part::Exprs("bases", bases))?;
-    let told = show_field(out, front, style, told, Part::Keywords("keywords", words))?;
-    let told = show_block(out, front, style, told, "body", body)?;
+    let outer = open(out, front, style, "ClassDef(")?;
+    let told = show_field(out, front, style, told, Part::Name(Field::Name, name))?;
+    let told = show_field(out, front, style, told, Part::Exprs(Field::Bases, bases))?;
     let told = show_field(
         out,
         front,
         style,
         told,
-        Part::Exprs("decorator_list", decorator_list),
+        Part::Keywords(Field::Keywords, words),
+    )?;
+    let told = show_block(out, front, style, told, Field::Body, body)?;
+    let told = show_field(
+        out,
+        front,
+        style,
+        told,
+        Part::Exprs(Field::DecoratorList, decorator_list),
     )?;
     show_type_params(out, front, style, told, type_params)?;
     close(out, front, style, outer, ")")?;
@@ -260,7 +260,7 @@ fn show_type_params(
             front,
             style,
             told,
-            Part::TypeParams("type_params", type_params),
+            Part::TypeParams(Field::TypeParams, type_params),
         )?;
     }
     Ok(())

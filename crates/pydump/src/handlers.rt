@@ -9,7 +9,8 @@ ghost use Rattle.pydump.specs.Shows.{Fields, a_field};
 ghost use Rattle.pynode.specs.TreeOf.{handler_of};
 
 use crate::blocks::is_short_handler;
-use crate::lines::{Told, close, is_flat, open, push_before, push_label};
+use crate::fields::Field;
+use crate::lines::{Told, close, is_flat, open, push_before, push_lead};
 use crate::nodes::show_field;
 use crate::parts::{name_part, option_part};
 use crate::statements::show_block;
@@ -31,8 +32,7 @@ pub(crate) fn show_caught(
         ≡ string_bytes out.old ++ coming style (string_bytes front.old) told (a_field (codes "handlers") (shown_caught style.profile handlers.now) rest)) }
     ensures front { OnOk result (string_bytes front.new ≡ string_bytes front.old) }
 {
-    push_before(out, front.as_str(), told.one_line, told.first)?;
-    push_label(out, told.named, "handlers")?;
+    push_lead(out, front.as_str(), told, Field::Handlers)?;
     show_handlers(out, front, style, handlers)?;
     Ok(Told {
         one_line: told.one_line,
@@ -82,11 +82,10 @@ fn show_handler(
         named: style.names,
         first: true,
     };
-    out.push_str("ExceptHandler")?;
-    let outer = open(out, front, style, "(")?;
-    let told = show_field(out, front, style, told, option_part("type", &h.class))?;
-    let told = show_field(out, front, style, told, name_part("name", &h.name))?;
-    show_block(out, front, style, told, "body", body)?;
+    let outer = open(out, front, style, "ExceptHandler(")?;
+    let told = show_field(out, front, style, told, option_part(Field::Type, &h.class))?;
+    let told = show_field(out, front, style, told, name_part(Field::Name, &h.name))?;
+    show_block(out, front, style, told, Field::Body, body)?;
     close(out, front, style, outer, ")")?;
     Ok(())
 }

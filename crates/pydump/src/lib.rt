@@ -8,6 +8,7 @@
 mod blocks;
 mod compounds;
 mod expressions;
+mod fields;
 mod handlers;
 mod lines;
 mod lists;

@@ -2,8 +2,10 @@
 
 ghost use Rattle.std.specs.Prelude.{◌≡◌, ◌++◌, ◌||◌, length, replicate, take, IfOk, OnOk};
 ghost use Rattle.std.specs.String.{string_bytes};
+ghost use Rattle.pydump.specs.Inner.Names.{field_name};
 ghost use Rattle.pydump.specs.Layout.{before, deeper, is_flat, label};
 
+use crate::fields::{Field, joined, label};
 use crate::styles::Style;
 use std::alloc::AllocError;
 
@@ -44,19 +46,25 @@ pub(crate) fn push_before(
     }
 }
 
-/// Appends a field's name, where it is told.
-pub(crate) fn push_label(
+/// Appends what stands before a field's value: what parts it from the others, and its name.
+pub(crate) fn push_lead(
     out: &mut String,
-    named: bool,
-    name: &'static str,
+    front: &str,
+    told: Told,
+    field: Field,
 ) -> Result<(), AllocError>
-    ensures { OnOk result (string_bytes out.new ≡ string_bytes out.old ++ label named name.now) }
+    ensures { OnOk result (string_bytes out.new ≡ string_bytes out.old ++ before told.one_line front.now told.first ++ label told.named (field_name field)) }
 {
-    if !named {
-        return Ok(());
+    // At once, as most fields are told.
+    if told.one_line && told.named && !told.first {
+        return out.push_str(joined(field));
     }
-    out.push_str(name)?;
-    out.push_str("=")
+    push_before(out, front, told.one_line, told.first)?;
+    if told.named {
+        out.push_str(label(field))
+    } else {
+        Ok(())
+    }
 }
 
 /// Appends some blanks.
@@ -80,20 +88,20 @@ fn deepen(front: &mut String, style: Style) -> Result<(), AllocError>
     Ok(())
 }
 
-/// Appends the bracket that begins a node's fields or a list, makes the front of a line one level
+/// Appends what begins a list or a node, its class and the bracket, makes the front of a line one level
 /// deeper, and tells how long it was.
 pub(crate) fn open(
     out: &mut String,
     front: &mut String,
     style: Style,
-    bracket: &'static str,
+    start: &'static str,
 ) -> Result<usize, AllocError>
-    ensures text { OnOk result (string_bytes out.new ≡ string_bytes out.old ++ bracket.now) }
+    ensures text { OnOk result (string_bytes out.new ≡ string_bytes out.old ++ start.now) }
     ensures front { OnOk result (string_bytes front.new ≡ deeper style.indent (string_bytes front.old)) }
     ensures len { IfOk result (λ len. len ≡ length (string_bytes front.old)) }
 {
     let len = front.as_str().len();
-    out.push_str(bracket)?;
+    out.push_str(start)?;
     deepen(front, style)?;
     Ok(len)
 }

@@ -152,7 +152,6 @@ pub(crate) fn show_comparisons(
     for c in cs {
         push_before(out, front.as_str(), is_flat(style), first)?;
         out.push_str(comparison_word(*c))?;
-        out.push_str("()")?;
         first = false;
     }
     close(out, front, style, outer, "]")?;

@@ -6,6 +6,7 @@ ghost use Rattle.pydump.specs.Layout.{text};
 ghost use Rattle.pydump.specs.Shows.{shown_alias, shown_arg, shown_arguments, shown_comprehension, shown_item, shown_keyword, shown_type_param};
 ghost use Rattle.pynode.specs.TreeOf.{alias_of, arg_of, arguments_of, comprehension_of, item_of, keyword_of, type_param_of};
 
+use crate::fields::Field;
 use crate::nodes::{show_four, show_one, show_seven, show_three, show_two};
 use crate::parts::{Part, arg_part, boxed_part, name_part, option_part};
 use crate::styles::Style;
@@ -28,11 +29,11 @@ pub(crate) fn show_comprehension(
         out,
         front,
         style,
-        "comprehension",
-        Part::Expr("target", &c.target),
-        Part::Expr("iter", &c.iter),
-        Part::Exprs("ifs", &c.ifs),
-        Part::Flag("is_async", c.is_async),
+        "comprehension(",
+        Part::Expr(Field::Target, &c.target),
+        Part::Expr(Field::Iter, &c.iter),
+        Part::Exprs(Field::Ifs, &c.ifs),
+        Part::Flag(Field::IsAsync, c.is_async),
     )
 }
 
@@ -52,9 +53,9 @@ pub(crate) fn show_keyword(
         out,
         front,
         style,
-        "keyword",
-        name_part("arg", &k.arg),
-        Part::Expr("value", &k.value),
+        "keyword(",
+        name_part(Field::Arg, &k.arg),
+        Part::Expr(Field::Value, &k.value),
     )
 }
 
@@ -74,9 +75,9 @@ pub(crate) fn show_arg(
         out,
         front,
         style,
-        "arg",
-        Part::Name("arg", &a.arg),
-        boxed_part("annotation", &a.annotation),
+        "arg(",
+        Part::Name(Field::Arg, &a.arg),
+        boxed_part(Field::Annotation, &a.annotation),
         Part::LeftOut,
     )
 }
@@ -96,14 +97,14 @@ pub(crate) fn show_arguments(
         out,
         front,
         style,
-        "arguments",
-        Part::Args("posonlyargs", &a.posonlyargs),
-        Part::Args("args", &a.args),
-        arg_part("vararg", &a.vararg),
-        Part::Args("kwonlyargs", &a.kwonlyargs),
-        Part::Options("kw_defaults", &a.kw_defaults),
-        arg_part("kwarg", &a.kwarg),
-        Part::Exprs("defaults", &a.defaults),
+        "arguments(",
+        Part::Args(Field::Posonlyargs, &a.posonlyargs),
+        Part::Args(Field::Args, &a.args),
+        arg_part(Field::Vararg, &a.vararg),
+        Part::Args(Field::Kwonlyargs, &a.kwonlyargs),
+        Part::Options(Field::KwDefaults, &a.kw_defaults),
+        arg_part(Field::Kwarg, &a.kwarg),
+        Part::Exprs(Field::Defaults, &a.defaults),
     )
 }
 
@@ -122,9 +123,9 @@ pub(crate) fn show_alias(
         out,
         front,
         style,
-        "alias",
-        Part::Name("name", &a.name),
-        name_part("asname", &a.asname),
+        "alias(",
+        Part::Name(Field::Name, &a.name),
+        name_part(Field::Asname, &a.asname),
     )
 }
 
@@ -143,9 +144,9 @@ pub(crate) fn show_item(
         out,
         front,
         style,
-        "withitem",
-        Part::Expr("context_expr", &item.context_expr),
-        option_part("optional_vars", &item.optional_vars),
+        "withitem(",
+        Part::Expr(Field::ContextExpr, &item.context_expr),
+        option_part(Field::OptionalVars, &item.optional_vars),
     )
 }
 
@@ -165,15 +166,27 @@ pub(crate) fn show_type_param(
             out,
             front,
             style,
-            "TypeVar",
-            Part::Name("name", name),
-            option_part("bound", bound),
+            "TypeVar(",
+            Part::Name(Field::Name, name),
+            option_part(Field::Bound, bound),
         ),
         TypeParam::ParamSpec { name } => {
-            show_one(out, front, style, "ParamSpec", Part::Name("name", name))
+            show_one(
+                out,
+                front,
+                style,
+                "ParamSpec(",
+                Part::Name(Field::Name, name),
+            )
         }
         TypeParam::TypeVarTuple { name } => {
-            show_one(out, front, style, "TypeVarTuple", Part::Name("name", name))
+            show_one(
+                out,
+                front,
+                style,
+                "TypeVarTuple(",
+                Part::Name(Field::Name, name),
+            )
         }
     }
 }

@@ -7,6 +7,7 @@ ghost use Rattle.pydump.specs.Shows.{shown_module};
 ghost use Rattle.pynode.specs.TreeOf.{module_of};
 
 use crate::blocks::is_short_module;
+use crate::fields::Field;
 use crate::lines::{Told, close, open};
 use crate::nodes::show_field;
 use crate::parts::Part;
@@ -31,15 +32,14 @@ pub fn dump(alloc: Global, tree: &Module, style: Style) -> Result<String, AllocE
         named: style.names,
         first: true,
     };
-    out.push_str("Module")?;
-    let outer = open(&mut out, &mut front, style, "(")?;
-    let told = show_block(&mut out, &mut front, style, told, "body", body)?;
+    let outer = open(&mut out, &mut front, style, "Module(")?;
+    let told = show_block(&mut out, &mut front, style, told, Field::Body, body)?;
     show_field(
         &mut out,
         &mut front,
         style,
         told,
-        Part::Names("type_ignores", &[]),
+        Part::Names(Field::TypeIgnores, &[]),
     )?;
     close(&mut out, &mut front, style, outer, ")")?;
     Ok(out)

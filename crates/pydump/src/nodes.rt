@@ -2,21 +2,21 @@
 
 ghost use Rattle.std.specs.Prelude.{◌≡◌, ◌++◌, false, IfOk, OnOk};
 ghost use Rattle.std.specs.String.{string_bytes};
-ghost use Rattle.pydump.specs.Inner.Slots.{coming, slot_of, slot_shown, with_slot};
+ghost use Rattle.pydump.specs.Inner.Slots.{coming, node_text, slot_of, slot_shown, with_slot};
 ghost use Rattle.pydump.specs.Layout.{is_short, text};
-ghost use Rattle.pydump.specs.Shows.{Fields, Node, no_field};
+ghost use Rattle.pydump.specs.Shows.{Fields, no_field};
 
 use crate::expressions::show_expr;
-use crate::lines::{Told, close, is_flat, open, push_before, push_label};
+use crate::lines::{Told, close, is_flat, open, push_lead};
 use crate::lists::{
     show_aliases, show_args, show_comparisons, show_comprehensions, show_exprs, show_items,
     show_keywords, show_names, show_options, show_type_params,
 };
 use crate::members::{show_arg, show_arguments};
-use crate::parts::{Part, is_absent, name_of};
+use crate::parts::{Part, field_of, is_absent};
 use crate::shortness::{is_short_four, is_short_one, is_short_three, is_short_two};
 use crate::styles::Style;
-use crate::words::{push_number, push_value};
+use crate::words::{bool_word, context_word, operator_word, push_number, push_value, unary_word};
 use pysource::push_repr;
 use std::alloc::AllocError;
 
@@ -45,10 +45,10 @@ fn show_part(
         Part::Aliases(_, names) => show_aliases(out, front, style, names),
         Part::Items(_, items) => show_items(out, front, style, items),
         Part::TypeParams(_, all) => show_type_params(out, front, style, all),
-        Part::Word(_, word) => {
-            out.push_str(word)?;
-            out.push_str("()")
-        }
+        Part::Operator(op) => out.push_str(operator_word(op)),
+        Part::Unary(op) => out.push_str(unary_word(op)),
+        Part::Bool(op) => out.push_str(bool_word(op)),
+        Part::Context(ctx) => out.push_str(context_word(ctx)),
         Part::Name(_, id) => push_repr(out, id.as_str()),
         Part::Value(_, value) => push_value(out, value),
         Part::Number(_, number) => push_number(out, number),
@@ -79,8 +79,7 @@ pub(crate) fn show_field(
             first: told.first,
         });
     }
-    push_before(out, front.as_str(), told.one_line, told.first)?;
-    push_label(out, told.named, name_of(part))?;
+    push_lead(out, front.as_str(), told, field_of(part))?;
     show_part(out, front, style, part)?;
     Ok(Told {
         one_line: told.one_line,
@@ -99,7 +98,7 @@ pub(crate) fn show_one(
     class: &'static str,
     a: Part<'_>,
 ) -> Result<(), AllocError>
-    ensures text { OnOk result (string_bytes out.new ≡ string_bytes out.old ++ text style (string_bytes front.old) (Node class.now (with_slot (slot_of a.entry) no_field))) }
+    ensures text { OnOk result (string_bytes out.new ≡ string_bytes out.old ++ node_text style (string_bytes front.old) class.now (with_slot (slot_of a.entry) no_field)) }
     ensures front { OnOk result (string_bytes front.new ≡ string_bytes front.old) }
 {
     let told = Told {
@@ -107,8 +106,7 @@ pub(crate) fn show_one(
         named: style.names,
         first: true,
     };
-    out.push_str(class)?;
-    let outer = open(out, front, style, "(")?;
+    let outer = open(out, front, style, class)?;
     show_field(out, front, style, told, a)?;
     close(out, front, style, outer, ")")?;
     Ok(())
@@ -125,7 +123,7 @@ pub(crate) fn show_two(
     a: Part<'_>,
     b: Part<'_>,
 ) -> Result<(), AllocError>
-    ensures text { OnOk result (string_bytes out.new ≡ string_bytes out.old ++ text style (string_bytes front.old) (Node class.now (with_slot (slot_of a.entry) (with_slot (slot_of b.entry) no_field)))) }
+    ensures text { OnOk result (string_bytes out.new ≡ string_bytes out.old ++ node_text style (string_bytes front.old) class.now (with_slot (slot_of a.entry) (with_slot (slot_of b.entry) no_field))) }
     ensures front { OnOk result (string_bytes front.new ≡ string_bytes front.old) }
 {
     let told = Told {
@@ -133,8 +131,7 @@ pub(crate) fn show_two(
         named: style.names,
         first: true,
     };
-    out.push_str(class)?;
-    let outer = open(out, front, style, "(")?;
+    let outer = open(out, front, style, class)?;
     let told = show_field(out, front, style, told, a)?;
     show_field(out, front, style, told, b)?;
     close(out, front, style, outer, ")")?;
@@ -153,7 +150,7 @@ pub(crate) fn show_three(
     b: Part<'_>,
     c: Part<'_>,
 ) -> Result<(), AllocError>
-    ensures text { OnOk result (string_bytes out.new ≡ string_bytes out.old ++ text style (string_bytes front.old) (Node class.now (with_slot (slot_of a.entry) (with_slot (slot_of b.entry) (with_slot (slot_of c.entry) no_field))))) }
+    ensures text { OnOk result (string_bytes out.new ≡ string_bytes out.old ++ node_text style (string_bytes front.old) class.now (with_slot (slot_of a.entry) (with_slot (slot_of b.entry) (with_slot (slot_of c.entry) no_field)))) }
     ensures front { OnOk result (string_bytes front.new ≡ string_bytes front.old) }
 {
     let told = Told {
@@ -161,8 +158,7 @@ pub(crate) fn show_three(
         named: style.names,
         first: true,
     };
-    out.push_str(class)?;
-    let outer = open(out, front, style, "(")?;
+    let outer = open(out, front, style, class)?;
     let told = show_field(out, front, style, told, a)?;
     let told = show_field(out, front, style, told, b)?;
     show_field(out, front, style, told, c)?;
@@ -183,7 +179,7 @@ pub(crate) fn show_four(
     c: Part<'_>,
     d: Part<'_>,
 ) -> Result<(), AllocError>
-    ensures text { OnOk result (string_bytes out.new ≡ string_bytes out.old ++ text style (string_bytes front.old) (Node class.now (with_slot (slot_of a.entry) (with_slot (slot_of b.entry) (with_slot (slot_of c.entry) (with_slot (slot_of d.entry) no_field)))))) }
+    ensures text { OnOk result (string_bytes out.new ≡ string_bytes out.old ++ node_text style (string_bytes front.old) class.now (with_slot (slot_of a.entry) (with_slot (slot_of b.entry) (with_slot (slot_of c.entry) (with_slot (slot_of d.entry) no_field))))) }
     ensures front { OnOk result (string_bytes front.new ≡ string_bytes front.old) }
 {
     let told = Told {
@@ -191,8 +187,7 @@ pub(crate) fn show_four(
         named: style.names,
         first: true,
     };
-    out.push_str(class)?;
-    let outer = open(out, front, style, "(")?;
+    let outer = open(out, front, style, class)?;
     let told = show_field(out, front, style, told, a)?;
     let told = show_field(out, front, style, told, b)?;
     let told = show_field(out, front, style, told, c)?;
@@ -218,7 +213,7 @@ pub(crate) fn show_seven(
     g: Part<'_>,
 ) -> Result<(), AllocError>
     ensures text { is_short (with_slot (slot_of a.entry) (with_slot (slot_of b.entry) (with_slot (slot_of c.entry) (with_slot (slot_of d.entry) (with_slot (slot_of e.entry) (with_slot (slot_of f.entry) (with_slot (slot_of g.entry) no_field))))))) ≡ false
-        → OnOk result (string_bytes out.new ≡ string_bytes out.old ++ text style (string_bytes front.old) (Node class.now (with_slot (slot_of a.entry) (with_slot (slot_of b.entry) (with_slot (slot_of c.entry) (with_slot (slot_of d.entry) (with_slot (slot_of e.entry) (with_slot (slot_of f.entry) (with_slot (slot_of g.entry) no_field))))))))) }
+        → OnOk result (string_bytes out.new ≡ string_bytes out.old ++ node_text style (string_bytes front.old) class.now (with_slot (slot_of a.entry) (with_slot (slot_of b.entry) (with_slot (slot_of c.entry) (with_slot (slot_of d.entry) (with_slot (slot_of e.entry) (with_slot (slot_of f.entry) (with_slot (slot_of g.entry) no_field)))))))) }
     ensures front { OnOk result (string_bytes front.new ≡ string_bytes front.old) }
 {
     let told = Told {
@@ -226,8 +221,7 @@ pub(crate) fn show_seven(
         named: style.names,
         first: true,
     };
-    out.push_str(class)?;
-    let outer = open(out, front, style, "(")?;
+    let outer = open(out, front, style, class)?;
     let told = show_field(out, front, style, told, a)?;
     let told = show_field(out, front, style, told, b)?;
     let told = show_field(out, front, style, told, c)?;

@@ -1,81 +1,85 @@
 //! The fields of expressions, lent from the tree.
 
-ghost use Rattle.std.specs.Prelude.{◌≡◌};
+ghost use Rattle.std.specs.Prelude.{◌≡◌, false};
+ghost use Rattle.pydump.specs.Inner.Names.{field_name};
 ghost use Rattle.pydump.specs.Inner.Slots.{is_missing, slot_name, slot_of, with_slot};
 ghost use Rattle.pydump.specs.Shows.{Fields, arg_field, expr_field, kind_field, name_field, optional_field};
 ghost use Rattle.pynode.specs.TreeOf.{arg_option_of, boxed_of, constant_of, option_of};
 ghost use Rattle.pynode.specs.Trees.{optional, optional_arg};
 
+use crate::fields::Field;
 use pynode::{
-    Alias, Arg, Arguments, Comparison, Comprehension, Constant, Expr, Identifier, Item, Keyword,
-    TypeParam,
+    Alias, Arg, Arguments, BoolOperator, Comparison, Comprehension, Constant, Context, Expr,
+    Identifier, Item, Keyword, Operator, TypeParam, UnaryOperator,
 };
 
 /// A field of a node, with its name, or a field that is left out.
 #[derive(Clone, Copy)]
 pub(crate) enum Part<'a> {
-    Expr(&'static str, &'a Expr),
-    Exprs(&'static str, &'a [Expr]),
-    Options(&'static str, &'a [Option<Expr>]),
-    Comprehensions(&'static str, &'a [Comprehension]),
-    Keywords(&'static str, &'a [Keyword]),
-    Args(&'static str, &'a [Arg]),
-    Arg(&'static str, &'a Arg),
-    Arguments(&'static str, &'a Arguments),
-    Comparisons(&'static str, &'a [Comparison]),
-    Names(&'static str, &'a [Identifier]),
-    Aliases(&'static str, &'a [Alias]),
-    Items(&'static str, &'a [Item]),
-    TypeParams(&'static str, &'a [TypeParam]),
-    /// A class without fields.
-    Word(&'static str, &'static str),
-    Name(&'static str, &'a Identifier),
-    Value(&'static str, &'a Constant),
-    Number(&'static str, u64),
+    Expr(Field, &'a Expr),
+    Exprs(Field, &'a [Expr]),
+    Options(Field, &'a [Option<Expr>]),
+    Comprehensions(Field, &'a [Comprehension]),
+    Keywords(Field, &'a [Keyword]),
+    Args(Field, &'a [Arg]),
+    Arg(Field, &'a Arg),
+    Arguments(Field, &'a Arguments),
+    Comparisons(Field, &'a [Comparison]),
+    Names(Field, &'a [Identifier]),
+    Aliases(Field, &'a [Alias]),
+    Items(Field, &'a [Item]),
+    TypeParams(Field, &'a [TypeParam]),
+    Operator(Operator),
+    Unary(UnaryOperator),
+    Bool(BoolOperator),
+    Context(Context),
+    Name(Field, &'a Identifier),
+    Value(Field, &'a Constant),
+    Number(Field, u64),
     /// A truth value, which is shown as a number.
-    Flag(&'static str, bool),
+    Flag(Field, bool),
     /// The kind of a text.
     Kind,
     LeftOut,
 }
 
 /// The field of an expression that may be absent.
-pub(crate) fn boxed_part<'a>(name: &'static str, e: &'a Option<Box<Expr>>) -> Part<'a>
-    ensures { (rest : Fields) → with_slot (slot_of result) rest ≡ optional_field name.now (optional (boxed_of e.now)) rest }
+pub(crate) fn boxed_part<'a>(field: Field, e: &'a Option<Box<Expr>>) -> Part<'a>
+    ensures { (rest : Fields) → with_slot (slot_of result) rest ≡ optional_field (field_name field) (optional (boxed_of e.now)) rest }
 {
     match e {
         None => Part::LeftOut,
-        Some(e) => Part::Expr(name, e),
+        Some(e) => Part::Expr(field, e),
     }
 }
 
 /// The field of an expression that may be absent, where it stands in no box.
-pub(crate) fn option_part<'a>(name: &'static str, e: &'a Option<Expr>) -> Part<'a>
-    ensures { (rest : Fields) → with_slot (slot_of result) rest ≡ expr_field name.now (option_of e.now) rest }
+pub(crate) fn option_part<'a>(field: Field, e: &'a Option<Expr>) -> Part<'a>
+    ensures { (rest : Fields) → with_slot (slot_of result) rest ≡ expr_field (field_name field) (option_of e.now) rest }
 {
     match e {
         None => Part::LeftOut,
-        Some(e) => Part::Expr(name, e),
+        Some(e) => Part::Expr(field, e),
     }
 }
 
 /// The field of a parameter that may be absent.
-pub(crate) fn arg_part<'a>(name: &'static str, a: &'a Option<Arg>) -> Part<'a>
-    ensures { (rest : Fields) → with_slot (slot_of result) rest ≡ arg_field name.now (optional_arg (arg_option_of a.now)) rest }
+pub(crate) fn arg_part<'a>(field: Field, a: &'a Option<Arg>) -> Part<'a>
+    ensures { (rest : Fields) → with_slot (slot_of result) rest ≡ arg_field (field_name field) (optional_arg (arg_option_of a.now)) rest }
 {
     match a {
         None => Part::LeftOut,
-        Some(a) => Part::Arg(name, a),
+        Some(a) => Part::Arg(field, a),
     }
 }
 
 /// The field of a name that may be absent.
-pub(crate) fn name_part<'a>(name: &'static str, id: &'a Option<Identifier>) -> Part<'a>
-    ensures { (rest : Fields) → with_slot (slot_of result) rest ≡ name_field name.now id.now rest }
+pub(crate) fn name_part<'a>(field: Field, id: &'a Option<Identifier>) -> Part<'a>
+    ensures { (rest : Fields) → with_slot (slot_of result) rest ≡ name_field (field_name field) id.now rest }
 {
     match id {
         None => Part::LeftOut,
-        Some(id) => Part::Name(name, id),
+        Some(id) => Part::Name(field, id),
     }
 }
 
@@ -96,30 +100,35 @@ pub(crate) fn is_absent(part: Part<'_>) -> bool
     matches!(part, Part::LeftOut)
 }
 
-/// The name of a field.
-pub(crate) fn name_of(part: Part<'_>) -> &'static str
-    ensures { result.now ≡ slot_name (slot_of part.entry) }
+/// Which field a part is, where it isn't left out.
+pub(crate) fn field_of(part: Part<'_>) -> Field
+    requires { is_missing (slot_of part) ≡ false }
+    ensures { field_name result ≡ slot_name (slot_of part.entry) }
 {
     match part {
-        Part::Expr(name, _) => name,
-        Part::Exprs(name, _) => name,
-        Part::Options(name, _) => name,
-        Part::Comprehensions(name, _) => name,
-        Part::Keywords(name, _) => name,
-        Part::Args(name, _) => name,
-        Part::Arg(name, _) => name,
-        Part::Arguments(name, _) => name,
-        Part::Comparisons(name, _) => name,
-        Part::Names(name, _) => name,
-        Part::Aliases(name, _) => name,
-        Part::Items(name, _) => name,
-        Part::TypeParams(name, _) => name,
-        Part::Word(name, _) => name,
-        Part::Name(name, _) => name,
-        Part::Value(name, _) => name,
-        Part::Number(name, _) => name,
-        Part::Flag(name, _) => name,
-        Part::Kind => "kind",
-        Part::LeftOut => "",
+        Part::Expr(field, _) => field,
+        Part::Exprs(field, _) => field,
+        Part::Options(field, _) => field,
+        Part::Comprehensions(field, _) => field,
+        Part::Keywords(field, _) => field,
+        Part::Args(field, _) => field,
+        Part::Arg(field, _) => field,
+        Part::Arguments(field, _) => field,
+        Part::Comparisons(field, _) => field,
+        Part::Names(field, _) => field,
+        Part::Aliases(field, _) => field,
+        Part::Items(field, _) => field,
+        Part::TypeParams(field, _) => field,
+        Part::Name(field, _) => field,
+        Part::Value(field, _) => field,
+        Part::Number(field, _) => field,
+        Part::Flag(field, _) => field,
+        Part::Operator(_) => Field::Op,
+        Part::Unary(_) => Field::Op,
+        Part::Bool(_) => Field::Op,
+        Part::Context(_) => Field::Ctx,
+        Part::Kind => Field::Kind,
+        // Not asked for.
+        Part::LeftOut => Field::Kind,
     }
 }

@@ -3,17 +3,18 @@
 ghost use Rattle.std.specs.Prelude.{◌≡◌, ◌++◌, IfOk, OnOk};
 ghost use Rattle.std.specs.String.{string_bytes};
 ghost use Rattle.pydump.specs.Inner.Blocks.{shown_block};
+ghost use Rattle.pydump.specs.Inner.Names.{field_name};
 ghost use Rattle.pydump.specs.Inner.Slots.{coming};
 ghost use Rattle.pydump.specs.Layout.{text};
 ghost use Rattle.pydump.specs.Shows.{Fields, a_field, shown_stmt};
 ghost use Rattle.pynode.specs.TreeOf.{stmt_of};
 
 use crate::compounds::{show_class, show_for, show_function, show_test, show_try, show_with};
-use crate::lines::{Told, close, is_flat, open, push_before, push_label};
+use crate::fields::Field;
+use crate::lines::{Told, close, is_flat, open, push_before, push_lead};
 use crate::nodes::{show_four, show_one, show_three, show_two};
 use crate::parts::{Part, boxed_part, name_part, option_part};
 use crate::styles::Style;
-use crate::words::operator_word;
 use pynode::Stmt;
 use std::alloc::AllocError;
 
@@ -41,7 +42,7 @@ pub(crate) fn show_stmt(
             out,
             front,
             style,
-            "FunctionDef",
+            "FunctionDef(",
             name,
             args,
             body,
@@ -60,7 +61,7 @@ pub(crate) fn show_stmt(
             out,
             front,
             style,
-            "AsyncFunctionDef",
+            "AsyncFunctionDef(",
             name,
             args,
             body,
@@ -90,23 +91,23 @@ pub(crate) fn show_stmt(
             out,
             front,
             style,
-            "Return",
-            option_part("value", value),
+            "Return(",
+            option_part(Field::Value, value),
         ),
         Stmt::Delete { targets } => show_one(
             out,
             front,
             style,
-            "Delete",
-            Part::Exprs("targets", targets),
+            "Delete(",
+            Part::Exprs(Field::Targets, targets),
         ),
         Stmt::Assign { targets, value } => show_three(
             out,
             front,
             style,
-            "Assign",
-            Part::Exprs("targets", targets),
-            Part::Expr("value", value),
+            "Assign(",
+            Part::Exprs(Field::Targets, targets),
+            Part::Expr(Field::Value, value),
             Part::LeftOut,
         ),
         Stmt::TypeAlias {
@@ -117,19 +118,19 @@ pub(crate) fn show_stmt(
             out,
             front,
             style,
-            "TypeAlias",
-            Part::Expr("name", name),
-            Part::TypeParams("type_params", type_params),
-            Part::Expr("value", value),
+            "TypeAlias(",
+            Part::Expr(Field::Name, name),
+            Part::TypeParams(Field::TypeParams, type_params),
+            Part::Expr(Field::Value, value),
         ),
         Stmt::AugAssign { target, op, value } => show_three(
             out,
             front,
             style,
-            "AugAssign",
-            Part::Expr("target", target),
-            Part::Word("op", operator_word(*op)),
-            Part::Expr("value", value),
+            "AugAssign(",
+            Part::Expr(Field::Target, target),
+            Part::Operator(*op),
+            Part::Expr(Field::Value, value),
         ),
         Stmt::AnnAssign {
             target,
@@ -140,66 +141,66 @@ pub(crate) fn show_stmt(
             out,
             front,
             style,
-            "AnnAssign",
-            Part::Expr("target", target),
-            Part::Expr("annotation", annotation),
-            boxed_part("value", value),
-            Part::Flag("simple", *simple),
+            "AnnAssign(",
+            Part::Expr(Field::Target, target),
+            Part::Expr(Field::Annotation, annotation),
+            boxed_part(Field::Value, value),
+            Part::Flag(Field::Simple, *simple),
         ),
         Stmt::For {
             target,
             iter,
             body,
             orelse,
-        } => show_for(out, front, style, "For", target, iter, body, orelse),
+        } => show_for(out, front, style, "For(", target, iter, body, orelse),
         Stmt::AsyncFor {
             target,
             iter,
             body,
             orelse,
-        } => show_for(out, front, style, "AsyncFor", target, iter, body, orelse),
+        } => show_for(out, front, style, "AsyncFor(", target, iter, body, orelse),
         Stmt::While { test, body, orelse } => show_test(
-            out, front, style, "While", test, body, orelse,
+            out, front, style, "While(", test, body, orelse,
         ),
-        Stmt::If { test, body, orelse } => show_test(out, front, style, "If", test, body, orelse),
-        Stmt::With { items, body } => show_with(out, front, style, "With", items, body),
-        Stmt::AsyncWith { items, body } => show_with(out, front, style, "AsyncWith", items, body),
+        Stmt::If { test, body, orelse } => show_test(out, front, style, "If(", test, body, orelse),
+        Stmt::With { items, body } => show_with(out, front, style, "With(", items, body),
+        Stmt::AsyncWith { items, body } => show_with(out, front, style, "AsyncWith(", items, body),
         Stmt::Raise { exc, cause } => show_two(
             out,
             front,
             style,
-            "Raise",
-            option_part("exc", exc),
-            option_part("cause", cause),
+            "Raise(",
+            option_part(Field::Exc, exc),
+            option_part(Field::Cause, cause),
         ),
         Stmt::Try {
             body,
             handlers,
             orelse,
             finalbody,
-        } => show_try(out, front, style, "Try", body, handlers, orelse, finalbody),
+        } => show_try(out, front, style, "Try(", body, handlers, orelse, finalbody),
         Stmt::TryStar {
             body,
             handlers,
             orelse,
             finalbody,
         } => show_try(
-            out, front, style, "TryStar", body, handlers, orelse, finalbody,
+            out, front, style, "TryStar(", body, handlers, orelse, finalbody,
         ),
         Stmt::Assert { test, msg } => show_two(
             out,
             front,
             style,
-            "Assert",
-            Part::Expr("test", test),
-            option_part("msg", msg),
+            "Assert(",
+            Part::Expr(Field::Test, test),
+            option_part(Field::Msg, msg),
         ),
         Stmt::Import { names } => show_one(
             out,
             front,
             style,
-            "Import",
-            Part::Aliases("names", names),
+            "Import(",
+            Part::Aliases(Field::Names, names),
         ),
         Stmt::ImportFrom {
             module,
@@ -209,26 +210,32 @@ pub(crate) fn show_stmt(
             out,
             front,
             style,
-            "ImportFrom",
-            name_part("module", module),
-            Part::Aliases("names", names),
-            Part::Number("level", *level),
+            "ImportFrom(",
+            name_part(Field::Module, module),
+            Part::Aliases(Field::Names, names),
+            Part::Number(Field::Level, *level),
         ),
         Stmt::Global { names } => show_one(
             out,
             front,
             style,
-            "Global",
-            Part::Names("names", names),
+            "Global(",
+            Part::Names(Field::Names, names),
         ),
         Stmt::Nonlocal { names } => show_one(
             out,
             front,
             style,
-            "Nonlocal",
-            Part::Names("names", names),
+            "Nonlocal(",
+            Part::Names(Field::Names, names),
         ),
-        Stmt::Expr { value } => show_one(out, front, style, "Expr", Part::Expr("value", value)),
+        Stmt::Expr { value } => show_one(
+            out,
+            front,
+            style,
+            "Expr(",
+            Part::Expr(Field::Value, value),
+        ),
         Stmt::Pass => out.push_str("Pass()"),
         Stmt::Break => out.push_str("Break()"),
         Stmt::Continue => out.push_str("Continue()"),
@@ -265,16 +272,15 @@ pub(crate) fn show_block(
     front: &mut String,
     style: Style,
     told: Told,
-    name: &'static str,
+    field: Field,
     body: &[Stmt],
 ) -> Result<Told, AllocError>
     ensures text { IfOk result (λ next. (rest : Fields) →
         string_bytes out.new ++ coming style (string_bytes front.old) next rest
-        ≡ string_bytes out.old ++ coming style (string_bytes front.old) told (a_field name.now (shown_block style.profile body.now) rest)) }
+        ≡ string_bytes out.old ++ coming style (string_bytes front.old) told (a_field (field_name field) (shown_block style.profile body.now) rest)) }
     ensures front { OnOk result (string_bytes front.new ≡ string_bytes front.old) }
 {
-    push_before(out, front.as_str(), told.one_line, told.first)?;
-    push_label(out, told.named, name)?;
+    push_lead(out, front.as_str(), told, field)?;
     show_stmts(out, front, style, body)?;
     Ok(Told {
         one_line: told.one_line,

@@ -1,6 +1,6 @@
-//! The classes of operators and contexts, and the values of constants.
+//! The classes of operators and contexts with their brackets, and the values of constants.
 
-ghost use Rattle.std.specs.Prelude.{◌≡◌, ◌++◌, OnOk, decimal};
+ghost use Rattle.std.specs.Prelude.{◌≡◌, ◌++◌, OnOk, codes, decimal};
 ghost use Rattle.std.specs.String.{string_bytes};
 ghost use Rattle.pydump.specs.Shows.{bool_name, comparison_name, context_name, operator_name, unary_name, value_text};
 ghost use Rattle.pynode.specs.TreeOf.{constant_of};
@@ -11,69 +11,69 @@ use pysource::{push_repr_bytes, push_repr_points};
 use std::alloc::AllocError;
 
 pub(crate) fn operator_word(op: Operator) -> &'static str
-    ensures { result.now ≡ operator_name op }
+    ensures { result.now ≡ operator_name op ++ codes "()" }
 {
     match op {
-        Operator::Add => "Add",
-        Operator::Sub => "Sub",
-        Operator::Mult => "Mult",
-        Operator::MatMult => "MatMult",
-        Operator::Div => "Div",
-        Operator::Mod => "Mod",
-        Operator::Pow => "Pow",
-        Operator::LShift => "LShift",
-        Operator::RShift => "RShift",
-        Operator::BitOr => "BitOr",
-        Operator::BitXor => "BitXor",
-        Operator::BitAnd => "BitAnd",
-        Operator::FloorDiv => "FloorDiv",
+        Operator::Add => "Add()",
+        Operator::Sub => "Sub()",
+        Operator::Mult => "Mult()",
+        Operator::MatMult => "MatMult()",
+        Operator::Div => "Div()",
+        Operator::Mod => "Mod()",
+        Operator::Pow => "Pow()",
+        Operator::LShift => "LShift()",
+        Operator::RShift => "RShift()",
+        Operator::BitOr => "BitOr()",
+        Operator::BitXor => "BitXor()",
+        Operator::BitAnd => "BitAnd()",
+        Operator::FloorDiv => "FloorDiv()",
     }
 }
 
 pub(crate) fn context_word(ctx: Context) -> &'static str
-    ensures { result.now ≡ context_name ctx }
+    ensures { result.now ≡ context_name ctx ++ codes "()" }
 {
     match ctx {
-        Context::Load => "Load",
-        Context::Store => "Store",
-        Context::Del => "Del",
+        Context::Load => "Load()",
+        Context::Store => "Store()",
+        Context::Del => "Del()",
     }
 }
 
 pub(crate) fn bool_word(op: BoolOperator) -> &'static str
-    ensures { result.now ≡ bool_name op }
+    ensures { result.now ≡ bool_name op ++ codes "()" }
 {
     match op {
-        BoolOperator::And => "And",
-        BoolOperator::Or => "Or",
+        BoolOperator::And => "And()",
+        BoolOperator::Or => "Or()",
     }
 }
 
 pub(crate) fn unary_word(op: UnaryOperator) -> &'static str
-    ensures { result.now ≡ unary_name op }
+    ensures { result.now ≡ unary_name op ++ codes "()" }
 {
     match op {
-        UnaryOperator::Invert => "Invert",
-        UnaryOperator::Not => "Not",
-        UnaryOperator::UAdd => "UAdd",
-        UnaryOperator::USub => "USub",
+        UnaryOperator::Invert => "Invert()",
+        UnaryOperator::Not => "Not()",
+        UnaryOperator::UAdd => "UAdd()",
+        UnaryOperator::USub => "USub()",
     }
 }
 
 pub(crate) fn comparison_word(op: Comparison) -> &'static str
-    ensures { result.now ≡ comparison_name op }
+    ensures { result.now ≡ comparison_name op ++ codes "()" }
 {
     match op {
-        Comparison::Eq => "Eq",
-        Comparison::NotEq => "NotEq",
-        Comparison::Lt => "Lt",
-        Comparison::LtE => "LtE",
-        Comparison::Gt => "Gt",
-        Comparison::GtE => "GtE",
-        Comparison::Is => "Is",
-        Comparison::IsNot => "IsNot",
-        Comparison::Within => "In",
-        Comparison::NotIn => "NotIn",
+        Comparison::Eq => "Eq()",
+        Comparison::NotEq => "NotEq()",
+        Comparison::Lt => "Lt()",
+        Comparison::LtE => "LtE()",
+        Comparison::Gt => "Gt()",
+        Comparison::GtE => "GtE()",
+        Comparison::Is => "Is()",
+        Comparison::IsNot => "IsNot()",
+        Comparison::Within => "In()",
+        Comparison::NotIn => "NotIn()",
     }
 }
 

@@ -238,9 +238,20 @@ fn split_plain(text: &str) -> (&str, &str)
     text.split_at(plain_len(text.as_bytes()))
 }
 
-/// Appends the `repr` of a text to an output, without memory of its own: what [`repr_text`] gives
-/// for the text's characters. Where the output can't grow, it keeps what it had, and may have taken a front of that.
-pub fn push_repr(out: &mut String, text: &str) -> Result<(), AllocError>
+/// Appends the `repr` of a text that stands for itself: the text between single quotes.
+fn push_plain(out: &mut String, text: &str) -> Result<(), AllocError>
+    requires { list_all is_plain text.now ≡ true }
+    ensures ok { OnOk result (string_bytes out.new ≡ string_bytes out.old ++ repr_text (chars text.now)) }
+    ensures kept { StartsWith (string_bytes out.new) (string_bytes out.old) }
+{
+    out.push('\'')?;
+    out.push_str(text)?;
+    out.push('\'')?;
+    Ok(())
+}
+
+/// Appends the `repr` of a text, of which some characters may not stand for themselves.
+fn push_escaped(out: &mut String, text: &str) -> Result<(), AllocError>
     ensures ok { OnOk result (string_bytes out.new ≡ string_bytes out.old ++ repr_text (chars text.now)) }
     ensures kept { StartsWith (string_bytes out.new) (string_bytes out.old) }
 {
@@ -260,4 +271,17 @@ pub fn push_repr(out: &mut String, text: &str) -> Result<(), AllocError>
     }
     out.push(char::from(quote))?;
     Ok(())
+}
+
+/// Appends the `repr` of a text to an output, without memory of its own: what [`repr_text`] gives
+/// for the text's characters. Where the output can't grow, it keeps what it had, and may have taken a front of that.
+pub fn push_repr(out: &mut String, text: &str) -> Result<(), AllocError>
+    ensures ok { OnOk result (string_bytes out.new ≡ string_bytes out.old ++ repr_text (chars text.now)) }
+    ensures kept { StartsWith (string_bytes out.new) (string_bytes out.old) }
+{
+    if is_plain_text(text) {
+        push_plain(out, text)
+    } else {
+        push_escaped(out, text)
+    }
 }

@@ -1,45 +1,50 @@
-use Rattle.std.proofs.Common.{◌≡◌, ◌+◌, ◌++◌, OnOk, arith, refl, ap, sym, subst, map, codes, ◌∙◌, true}
+use Rattle.std.proofs.Common.{rules, ◌≡◌, ◌+◌, ◌++◌, OnOk, arith, refl, ap, sym, subst, map, codes, ◌∙◌, true, false}
 use Rattle.std.specs.String.{string_bytes}
 use Rattle.pynode.specs.Trees.{optional}
 use Rattle.pynode.specs.TreeOf.{tree_of, option_of, comprehension_of, keyword_of, arg_of, arguments_of, alias_of, item_of, type_param_of}
 use Rattle.pydump.specs.Layout.{text, before, is_flat}
 use Rattle.pydump.specs.Shows.{shown, shown_optional, shown_comprehension, shown_keyword, shown_arg, shown_arguments, shown_alias, shown_item, shown_type_param, word, comparison_name, showns, Row, no_field}
-use Rattle.pydump.specs.Inner.Slots.{slot_of, with_slot}
+use Rattle.pydump.specs.Inner.Slots.{is_missing, slot_of, with_slot}
 use Rattle.pydump.specs.Inner.Weights.{weight, field_weights}
 use Rattle.pydump.proofs.ArgumentsLemmas.{alone, five_shown, seven_weigh, arguments_shown}
 use Rattle.pydump.proofs.RowLemmas.{slot_weighs, member_weight, exprs_row, comprehensions_row, keywords_row, comparisons_row, optionals_row}
-use Rattle.pydump.proofs.TextLemmas.{left, node_closed, one_field, two_fields, three_fields, four_fields, then_fields, member_shown}
+use Rattle.pydump.proofs.TextLemmas.{field_shown, left, node_closed, one_field, two_fields, three_fields, four_fields, then_fields, member_shown}
 use Rattle.pynode.proofs.Callers.ExprShapes.{generator_exp_tree, dict_comp_tree, compare_tree, call_tree, slice_tree, comprehension_tree, attribute_tree, await_tree, bin_op_tree, bool_op_tree, constant_tree, dict_tree, if_exp_tree, lambda_tree, list_comp_tree, list_tree, name_tree, named_expr_tree, set_comp_tree, set_tree, starred_tree, subscript_tree, tuple_tree, unary_op_tree, yield_from_tree, yield_tree}
 use Rattle.pydump.proofs.+showing.Goals as goal
 
+pub nodes::show_field-returns-clause-text : goal.nodes::show_field-returns-clause-text
+nodes::show_field-returns-clause-text t c =
+    let there : is_missing (slot_of c.args.part) ≡ false = search rules in
+    field_shown c.args.style _ _ _ _ _ c.args.told (slot_of c.args.part) _ there c.field_of.ensures c.as_str.ensures.value c.in_ok-push_lead.ensures c.in_ok-show_part.ensures.text
+
 pub nodes::show_one-returns-clause-text : goal.nodes::show_one-returns-clause-text
-nodes::show_one-returns-clause-text t c = node_closed c.args.style (string_bytes c.args.front.now) _ c.args.class.now (with_slot (slot_of c.args.a) no_field) _ _ _ _ _ _
+nodes::show_one-returns-clause-text t c = node_closed c.args.style (string_bytes c.args.front.now) _ c.args.class.now (with_slot (slot_of c.args.a) no_field) _ _ _ _ _
     c.in_ok-outer.ensures.front c.is_short_one.ensures refl refl
-    c.in_ok-push_str.ensures.bytes c.in_ok-outer.ensures.text
+    c.in_ok-outer.ensures.text
     (one_field _ _ (string_bytes c.open.new.out) _ (record { one_line = c.is_short_one.result; named = c.args.style.names; first = true }) _ (slot_of c.args.a) c.in_ok-show_field.ensures.text) c.in_ok-close.ensures.text
 
 pub nodes::show_two-returns-clause-text : goal.nodes::show_two-returns-clause-text
-nodes::show_two-returns-clause-text t c = node_closed c.args.style (string_bytes c.args.front.now) _ c.args.class.now (with_slot (slot_of c.args.a) (with_slot (slot_of c.args.b) no_field)) _ _ _ _ _ _
+nodes::show_two-returns-clause-text t c = node_closed c.args.style (string_bytes c.args.front.now) _ c.args.class.now (with_slot (slot_of c.args.a) (with_slot (slot_of c.args.b) no_field)) _ _ _ _ _
     c.in_ok-outer.ensures.front c.is_short_two.ensures refl refl
-    c.in_ok-push_str.ensures.bytes c.in_ok-outer.ensures.text
+    c.in_ok-outer.ensures.text
     (two_fields _ _ _ (string_bytes c.open.new.out) _ _ (record { one_line = c.is_short_two.result; named = c.args.style.names; first = true }) _ _ (slot_of c.args.a) _ c.in_ok-told.ensures.front c.in_ok-told.ensures.text c.in_ok-show_field.ensures.text) c.in_ok-close.ensures.text
 
 pub nodes::show_three-returns-clause-text : goal.nodes::show_three-returns-clause-text
-nodes::show_three-returns-clause-text t c = node_closed c.args.style (string_bytes c.args.front.now) _ c.args.class.now (with_slot (slot_of c.args.a) (with_slot (slot_of c.args.b) (with_slot (slot_of c.args.c) no_field))) _ _ _ _ _ _
+nodes::show_three-returns-clause-text t c = node_closed c.args.style (string_bytes c.args.front.now) _ c.args.class.now (with_slot (slot_of c.args.a) (with_slot (slot_of c.args.b) (with_slot (slot_of c.args.c) no_field))) _ _ _ _ _
     c.in_ok-outer.ensures.front c.is_short_three.ensures refl refl
-    c.in_ok-push_str.ensures.bytes c.in_ok-outer.ensures.text
+    c.in_ok-outer.ensures.text
     (three_fields _ _ _ _ (string_bytes c.open.new.out) _ _ _ (record { one_line = c.is_short_three.result; named = c.args.style.names; first = true }) _ _ _ (slot_of c.args.a) _ _ c.in_ok-told.ensures.front c.in_ok-told-2.ensures.front c.in_ok-told.ensures.text c.in_ok-told-2.ensures.text c.in_ok-show_field.ensures.text) c.in_ok-close.ensures.text
 
 pub nodes::show_four-returns-clause-text : goal.nodes::show_four-returns-clause-text
-nodes::show_four-returns-clause-text t c = node_closed c.args.style (string_bytes c.args.front.now) _ c.args.class.now (with_slot (slot_of c.args.a) (with_slot (slot_of c.args.b) (with_slot (slot_of c.args.c) (with_slot (slot_of c.args.d) no_field)))) _ _ _ _ _ _
+nodes::show_four-returns-clause-text t c = node_closed c.args.style (string_bytes c.args.front.now) _ c.args.class.now (with_slot (slot_of c.args.a) (with_slot (slot_of c.args.b) (with_slot (slot_of c.args.c) (with_slot (slot_of c.args.d) no_field)))) _ _ _ _ _
     c.in_ok-outer.ensures.front c.is_short_four.ensures refl refl
-    c.in_ok-push_str.ensures.bytes c.in_ok-outer.ensures.text
+    c.in_ok-outer.ensures.text
     (four_fields _ _ _ _ _ (string_bytes c.open.new.out) _ _ _ _ (record { one_line = c.is_short_four.result; named = c.args.style.names; first = true }) _ _ _ _ (slot_of c.args.a) _ _ _ c.in_ok-told.ensures.front c.in_ok-told-2.ensures.front c.in_ok-told-3.ensures.front c.in_ok-told.ensures.text c.in_ok-told-2.ensures.text c.in_ok-told-3.ensures.text c.in_ok-show_field.ensures.text) c.in_ok-close.ensures.text
 
 pub nodes::show_seven-returns-clause-text : goal.nodes::show_seven-returns-clause-text
-nodes::show_seven-returns-clause-text t c = λ long. node_closed c.args.style (string_bytes c.args.front.now) _ c.args.class.now (with_slot (slot_of c.args.a) (with_slot (slot_of c.args.b) (with_slot (slot_of c.args.c) (with_slot (slot_of c.args.d) (with_slot (slot_of c.args.e) (with_slot (slot_of c.args.f) (with_slot (slot_of c.args.g) no_field))))))) _ _ _ _ _ _
+nodes::show_seven-returns-clause-text t c = λ long. node_closed c.args.style (string_bytes c.args.front.now) _ c.args.class.now (with_slot (slot_of c.args.a) (with_slot (slot_of c.args.b) (with_slot (slot_of c.args.c) (with_slot (slot_of c.args.d) (with_slot (slot_of c.args.e) (with_slot (slot_of c.args.f) (with_slot (slot_of c.args.g) no_field))))))) _ _ _ _ _
     c.in_ok-outer.ensures.front (c.is_flat.ensures ∙ alone _ _ long) refl refl
-    c.in_ok-push_str.ensures.bytes c.in_ok-outer.ensures.text
+    c.in_ok-outer.ensures.text
     (then_fields _ _ _ (string_bytes c.open.new.out) _ _ (record { one_line = c.is_flat.result; named = c.args.style.names; first = true }) _ (slot_of c.args.a) (with_slot (slot_of c.args.b) (with_slot (slot_of c.args.c) (with_slot (slot_of c.args.d) (with_slot (slot_of c.args.e) (with_slot (slot_of c.args.f) (with_slot (slot_of c.args.g) no_field)))))) c.in_ok-told.ensures.front c.in_ok-told.ensures.text
     (then_fields _ _ _ _ _ _ _ _ (slot_of c.args.b) (with_slot (slot_of c.args.c) (with_slot (slot_of c.args.d) (with_slot (slot_of c.args.e) (with_slot (slot_of c.args.f) (with_slot (slot_of c.args.g) no_field))))) c.in_ok-told-2.ensures.front c.in_ok-told-2.ensures.text
     (then_fields _ _ _ _ _ _ _ _ (slot_of c.args.c) (with_slot (slot_of c.args.d) (with_slot (slot_of c.args.e) (with_slot (slot_of c.args.f) (with_slot (slot_of c.args.g) no_field)))) c.in_ok-told-3.ensures.front c.in_ok-told-3.ensures.text
@@ -222,7 +227,7 @@ expressions::show_expr-show_three-requires-in-Slice t c =
     ) refl in (omega (arith, e), tt)
 
 pub expressions::show_expr-returns-in-BoolOp-clause-text : goal.expressions::show_expr-returns-in-BoolOp-clause-text
-expressions::show_expr-returns-in-BoolOp-clause-text t c = rw (c.in-BoolOp.is, bool_op_tree, exprs_row, sym c.bool_word.ensures, sym c.deref.ensures.value) c.show_two.ensures.text
+expressions::show_expr-returns-in-BoolOp-clause-text t c = rw (c.in-BoolOp.is, bool_op_tree, exprs_row, sym c.deref.ensures.value) c.show_two.ensures.text
 
 pub expressions::show_expr-show_two-requires : goal.expressions::show_expr-show_two-requires
 expressions::show_expr-show_two-requires t c =
@@ -238,7 +243,7 @@ expressions::show_expr-show_two-requires-in-NamedExpr t c =
     rw (c.in-NamedExpr.is, named_expr_tree, sym c.deref-in-NamedExpr.ensures, sym c.deref-in-NamedExpr-2.ensures) refl in (omega (arith, e), tt)
 
 pub expressions::show_expr-returns-in-BinOp-clause-text : goal.expressions::show_expr-returns-in-BinOp-clause-text
-expressions::show_expr-returns-in-BinOp-clause-text t c = rw (c.in-BinOp.is, bin_op_tree, sym c.deref-in-BinOp.ensures, sym c.operator_word.ensures, sym c.deref-in-BinOp-2.ensures) c.show_three.ensures.text
+expressions::show_expr-returns-in-BinOp-clause-text t c = rw (c.in-BinOp.is, bin_op_tree, sym c.deref-in-BinOp.ensures, sym c.deref-in-BinOp-2.ensures) c.show_three.ensures.text
 
 pub expressions::show_expr-show_three-requires : goal.expressions::show_expr-show_three-requires
 expressions::show_expr-show_three-requires t c =
@@ -246,7 +251,7 @@ expressions::show_expr-show_three-requires t c =
     rw (c.in-BinOp.is, bin_op_tree, sym c.deref-in-BinOp.ensures, sym c.deref-in-BinOp-2.ensures) refl in (omega (arith, e), tt)
 
 pub expressions::show_expr-returns-in-UnaryOp-clause-text : goal.expressions::show_expr-returns-in-UnaryOp-clause-text
-expressions::show_expr-returns-in-UnaryOp-clause-text t c = rw (c.in-UnaryOp.is, unary_op_tree, sym c.unary_word.ensures, sym c.deref-in-UnaryOp.ensures) c.show_two-in-UnaryOp.ensures.text
+expressions::show_expr-returns-in-UnaryOp-clause-text t c = rw (c.in-UnaryOp.is, unary_op_tree, sym c.deref-in-UnaryOp.ensures) c.show_two-in-UnaryOp.ensures.text
 
 pub expressions::show_expr-show_two-requires-in-UnaryOp : goal.expressions::show_expr-show_two-requires-in-UnaryOp
 expressions::show_expr-show_two-requires-in-UnaryOp t c =
@@ -339,7 +344,7 @@ expressions::show_expr-show_two-requires-in-Constant t c =
     rw (c.in-Constant.is, constant_tree, sym (c.kind_part.ensures no_field)) refl in (omega (arith, e), tt)
 
 pub expressions::show_expr-returns-in-Attribute-clause-text : goal.expressions::show_expr-returns-in-Attribute-clause-text
-expressions::show_expr-returns-in-Attribute-clause-text t c = rw (c.in-Attribute.is, attribute_tree, sym c.deref-in-Attribute.ensures, sym c.context_word.ensures) c.show_three-in-Attribute.ensures.text
+expressions::show_expr-returns-in-Attribute-clause-text t c = rw (c.in-Attribute.is, attribute_tree, sym c.deref-in-Attribute.ensures) c.show_three-in-Attribute.ensures.text
 
 pub expressions::show_expr-show_three-requires-in-Attribute : goal.expressions::show_expr-show_three-requires-in-Attribute
 expressions::show_expr-show_three-requires-in-Attribute t c =
@@ -347,7 +352,7 @@ expressions::show_expr-show_three-requires-in-Attribute t c =
     rw (c.in-Attribute.is, attribute_tree, sym c.deref-in-Attribute.ensures) refl in (omega (arith, e), tt)
 
 pub expressions::show_expr-returns-in-Subscript-clause-text : goal.expressions::show_expr-returns-in-Subscript-clause-text
-expressions::show_expr-returns-in-Subscript-clause-text t c = rw (c.in-Subscript.is, subscript_tree, sym c.deref-in-Subscript.ensures, sym c.deref-in-Subscript-2.ensures, sym c.context_word-in-Subscript.ensures) c.show_three-in-Subscript.ensures.text
+expressions::show_expr-returns-in-Subscript-clause-text t c = rw (c.in-Subscript.is, subscript_tree, sym c.deref-in-Subscript.ensures, sym c.deref-in-Subscript-2.ensures) c.show_three-in-Subscript.ensures.text
 
 pub expressions::show_expr-show_three-requires-in-Subscript : goal.expressions::show_expr-show_three-requires-in-Subscript
 expressions::show_expr-show_three-requires-in-Subscript t c =
@@ -355,7 +360,7 @@ expressions::show_expr-show_three-requires-in-Subscript t c =
     rw (c.in-Subscript.is, subscript_tree, sym c.deref-in-Subscript.ensures, sym c.deref-in-Subscript-2.ensures) refl in (omega (arith, e), tt)
 
 pub expressions::show_expr-returns-in-Starred-clause-text : goal.expressions::show_expr-returns-in-Starred-clause-text
-expressions::show_expr-returns-in-Starred-clause-text t c = rw (c.in-Starred.is, starred_tree, sym c.deref-in-Starred.ensures, sym c.context_word-in-Starred.ensures) c.show_two-in-Starred.ensures.text
+expressions::show_expr-returns-in-Starred-clause-text t c = rw (c.in-Starred.is, starred_tree, sym c.deref-in-Starred.ensures) c.show_two-in-Starred.ensures.text
 
 pub expressions::show_expr-show_two-requires-in-Starred : goal.expressions::show_expr-show_two-requires-in-Starred
 expressions::show_expr-show_two-requires-in-Starred t c =
@@ -363,7 +368,7 @@ expressions::show_expr-show_two-requires-in-Starred t c =
     rw (c.in-Starred.is, starred_tree, sym c.deref-in-Starred.ensures) refl in (omega (arith, e), tt)
 
 pub expressions::show_expr-returns-in-Name-clause-text : goal.expressions::show_expr-returns-in-Name-clause-text
-expressions::show_expr-returns-in-Name-clause-text t c = rw (c.in-Name.is, name_tree, sym c.context_word-in-Name.ensures) c.show_two-in-Name.ensures.text
+expressions::show_expr-returns-in-Name-clause-text t c = rw (c.in-Name.is, name_tree) c.show_two-in-Name.ensures.text
 
 pub expressions::show_expr-show_two-requires-in-Name : goal.expressions::show_expr-show_two-requires-in-Name
 expressions::show_expr-show_two-requires-in-Name t c =
@@ -371,7 +376,7 @@ expressions::show_expr-show_two-requires-in-Name t c =
     rw (c.in-Name.is, name_tree) refl in (omega (arith, e), tt)
 
 pub expressions::show_expr-returns-in-List-clause-text : goal.expressions::show_expr-returns-in-List-clause-text
-expressions::show_expr-returns-in-List-clause-text t c = rw (c.in-List.is, list_tree, exprs_row, sym c.deref-in-List.ensures.value, sym c.context_word-in-List.ensures) c.show_two-in-List.ensures.text
+expressions::show_expr-returns-in-List-clause-text t c = rw (c.in-List.is, list_tree, exprs_row, sym c.deref-in-List.ensures.value) c.show_two-in-List.ensures.text
 
 pub expressions::show_expr-show_two-requires-in-List : goal.expressions::show_expr-show_two-requires-in-List
 expressions::show_expr-show_two-requires-in-List t c =
@@ -379,7 +384,7 @@ expressions::show_expr-show_two-requires-in-List t c =
     rw (c.in-List.is, list_tree, exprs_row c.in-List.elts.items, sym c.deref-in-List.ensures.value) refl in (omega (arith, e), tt)
 
 pub expressions::show_expr-returns-in-Tuple-clause-text : goal.expressions::show_expr-returns-in-Tuple-clause-text
-expressions::show_expr-returns-in-Tuple-clause-text t c = rw (c.in-Tuple.is, tuple_tree, exprs_row, sym c.deref-in-Tuple.ensures.value, sym c.context_word-in-Tuple.ensures) c.show_two-in-Tuple.ensures.text
+expressions::show_expr-returns-in-Tuple-clause-text t c = rw (c.in-Tuple.is, tuple_tree, exprs_row, sym c.deref-in-Tuple.ensures.value) c.show_two-in-Tuple.ensures.text
 
 pub expressions::show_expr-show_two-requires-in-Tuple : goal.expressions::show_expr-show_two-requires-in-Tuple
 expressions::show_expr-show_two-requires-in-Tuple t c =

@@ -1,11 +1,12 @@
 -- What the fields of a node show, field by field.
-use Rattle.std.specs.Prelude.{ℕ, List, [], map, codes, decimal, Bool, true, false}
+use Rattle.std.specs.Prelude.{ℕ, List, [], ◌++◌, ◌||◌, map, codes, decimal, Bool, true, false}
 use Rattle.pydump.specs.declared.styles.Style.{Style}
 use Rattle.pydump.specs.declared.lines.Told.{Told}
 use Rattle.pydump.specs.declared.parts.Part.{Part}
 use Rattle.pydump.specs.declared.parts.Part.TheVariants as part
-use Rattle.pydump.specs.Shows.{Shown, Fields, Scalar, Row, a_field, left_out, showns, word, shown, shown_name, shown_optional, shown_arg, shown_arguments, shown_flag, comparison_name, shown_comprehension, shown_keyword, value_text, shown_alias, shown_item, shown_type_param}
-use Rattle.pydump.specs.Layout.{fields, is_simple}
+use Rattle.pydump.specs.Inner.Names.{field_name}
+use Rattle.pydump.specs.Shows.{Shown, Fields, Scalar, Row, a_field, left_out, showns, word, shown, shown_name, shown_optional, shown_arg, shown_arguments, shown_flag, bool_name, comparison_name, context_name, operator_name, unary_name, shown_comprehension, shown_keyword, value_text, shown_alias, shown_item, shown_type_param}
+use Rattle.pydump.specs.Layout.{deeper, fields, is_flat, is_short, is_simple}
 use Rattle.pynode.specs.Trees.{optional}
 use Rattle.pynode.specs.TreeOf.{tree_of, option_of, comprehension_of, keyword_of, arg_of, arguments_of, constant_of, alias_of, item_of, type_param_of}
 
@@ -40,25 +41,32 @@ is_plain (field name x) = is_simple x
 abbrev pub coming : Style → List ℕ → Told → Fields → List ℕ
 coming s front told rest = fields s front told.one_line told.named told.first rest
 
+-- a node, of what begins it, its class and the bracket, and of its fields
+abbrev pub node_text : Style → List ℕ → List ℕ → Fields → List ℕ
+node_text s front start fs = start ++ fields s (deeper s.indent front) (is_flat s.indent || is_short fs) s.names true fs ++ codes ")"
+
 -- what a part of an expression shows
 abbrev pub slot_of : Part → Slot
-slot_of (part.Expr name e) = field name.now (shown (tree_of e.now))
-slot_of (part.Exprs name es) = field name.now (Row (showns (map (λ e. shown (tree_of e)) es.now)))
-slot_of (part.Options name es) = field name.now (Row (showns (map (λ e. shown_optional (optional (option_of e))) es.now)))
-slot_of (part.Comprehensions name cs) = field name.now (Row (showns (map (λ c. shown_comprehension (comprehension_of c)) cs.now)))
-slot_of (part.Keywords name ks) = field name.now (Row (showns (map (λ k. shown_keyword (keyword_of k)) ks.now)))
-slot_of (part.Args name all) = field name.now (Row (showns (map (λ a. shown_arg (arg_of a)) all.now)))
-slot_of (part.Arg name a) = field name.now (shown_arg (arg_of a.now))
-slot_of (part.Arguments name a) = field name.now (shown_arguments (arguments_of a.now))
-slot_of (part.Comparisons name cs) = field name.now (Row (showns (map (λ c. word (comparison_name c)) cs.now)))
-slot_of (part.Names name names) = field name.now (Row (showns (map (λ name. shown_name name) names.now)))
-slot_of (part.Aliases name names) = field name.now (Row (showns (map (λ a. shown_alias (alias_of a)) names.now)))
-slot_of (part.Items name items) = field name.now (Row (showns (map (λ item. shown_item (item_of item)) items.now)))
-slot_of (part.TypeParams name all) = field name.now (Row (showns (map (λ p. shown_type_param (type_param_of p)) all.now)))
-slot_of (part.Word name w) = field name.now (word w.now)
-slot_of (part.Name name n) = field name.now (shown_name n.now)
-slot_of (part.Value name c) = field name.now (Scalar (value_text (constant_of c.now)))
-slot_of (part.Number name n) = field name.now (Scalar (decimal n))
-slot_of (part.Flag name b) = field name.now (shown_flag b)
+slot_of (part.Expr name e) = field (field_name name) (shown (tree_of e.now))
+slot_of (part.Exprs name es) = field (field_name name) (Row (showns (map (λ e. shown (tree_of e)) es.now)))
+slot_of (part.Options name es) = field (field_name name) (Row (showns (map (λ e. shown_optional (optional (option_of e))) es.now)))
+slot_of (part.Comprehensions name cs) = field (field_name name) (Row (showns (map (λ c. shown_comprehension (comprehension_of c)) cs.now)))
+slot_of (part.Keywords name ks) = field (field_name name) (Row (showns (map (λ k. shown_keyword (keyword_of k)) ks.now)))
+slot_of (part.Args name all) = field (field_name name) (Row (showns (map (λ a. shown_arg (arg_of a)) all.now)))
+slot_of (part.Arg name a) = field (field_name name) (shown_arg (arg_of a.now))
+slot_of (part.Arguments name a) = field (field_name name) (shown_arguments (arguments_of a.now))
+slot_of (part.Comparisons name cs) = field (field_name name) (Row (showns (map (λ c. word (comparison_name c)) cs.now)))
+slot_of (part.Names name names) = field (field_name name) (Row (showns (map (λ name. shown_name name) names.now)))
+slot_of (part.Aliases name names) = field (field_name name) (Row (showns (map (λ a. shown_alias (alias_of a)) names.now)))
+slot_of (part.Items name items) = field (field_name name) (Row (showns (map (λ item. shown_item (item_of item)) items.now)))
+slot_of (part.TypeParams name all) = field (field_name name) (Row (showns (map (λ p. shown_type_param (type_param_of p)) all.now)))
+slot_of (part.Operator op) = field (codes "op") (word (operator_name op))
+slot_of (part.Unary op) = field (codes "op") (word (unary_name op))
+slot_of (part.Bool op) = field (codes "op") (word (bool_name op))
+slot_of (part.Context ctx) = field (codes "ctx") (word (context_name ctx))
+slot_of (part.Name name n) = field (field_name name) (shown_name n.now)
+slot_of (part.Value name c) = field (field_name name) (Scalar (value_text (constant_of c.now)))
+slot_of (part.Number name n) = field (field_name name) (Scalar (decimal n))
+slot_of (part.Flag name b) = field (field_name name) (shown_flag b)
 slot_of part.Kind = field (codes "kind") (Scalar (codes "'u'"))
 slot_of part.LeftOut = missing
