@@ -40,7 +40,7 @@ impl Blocks {
     ///
     /// [`Stop::Faulty`] where the line is the first faulty one, by its fault, and
     /// [`Stop::Memory`].
-    #[inline(never)]
+    #[inline(always)]
     pub fn step(&mut self, alloc: Global, level: usize, form: Form) -> Result<(), Stop>
         ensures ok { OnOk result
             (step (state_of self.old) (line level (form_of form)) ≡ Fine (state_of self.new)) }

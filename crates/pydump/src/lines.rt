@@ -28,6 +28,7 @@ pub(crate) fn is_flat(style: Style) -> bool
 }
 
 /// Appends what stands before a member.
+#[inline(always)]
 pub(crate) fn push_before(
     out: &mut String,
     front: &str,
@@ -47,6 +48,7 @@ pub(crate) fn push_before(
 }
 
 /// Appends what stands before a field's value: what parts it from the others, and its name.
+#[inline(always)]
 pub(crate) fn push_lead(
     out: &mut String,
     front: &str,
@@ -90,6 +92,7 @@ fn deepen(front: &mut String, style: Style) -> Result<(), AllocError>
 
 /// Appends what begins a list or a node, its class and the bracket, makes the front of a line one level
 /// deeper, and tells how long it was.
+#[inline(always)]
 pub(crate) fn open(
     out: &mut String,
     front: &mut String,
@@ -108,6 +111,7 @@ pub(crate) fn open(
 
 /// Appends the bracket that ends a node's fields or a list, and makes the front of a line as short
 /// as it was.
+#[inline(always)]
 pub(crate) fn close(
     out: &mut String,
     front: &mut String,

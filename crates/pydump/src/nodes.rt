@@ -91,6 +91,7 @@ pub(crate) fn show_field(
 /// Appends a node of one field.
 #[cycle(showing)]
 #[tactic(auto, using(crate::proofs::TextLemmas::left, crate::proofs::TextLemmas::may_close))]
+#[inline(always)]
 pub(crate) fn show_one(
     out: &mut String,
     front: &mut String,
@@ -115,6 +116,7 @@ pub(crate) fn show_one(
 /// Appends a node of two fields.
 #[cycle(showing)]
 #[tactic(auto, using(crate::proofs::TextLemmas::left, crate::proofs::TextLemmas::may_close))]
+#[inline(always)]
 pub(crate) fn show_two(
     out: &mut String,
     front: &mut String,
@@ -141,6 +143,7 @@ pub(crate) fn show_two(
 /// Appends a node of three fields.
 #[cycle(showing)]
 #[tactic(auto, using(crate::proofs::TextLemmas::left, crate::proofs::TextLemmas::may_close))]
+#[inline(always)]
 pub(crate) fn show_three(
     out: &mut String,
     front: &mut String,

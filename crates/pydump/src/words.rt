@@ -86,6 +86,7 @@ pub(crate) fn push_number(out: &mut String, number: u64) -> Result<(), AllocErro
 }
 
 /// Appends the value of a constant.
+#[inline(always)]
 pub(crate) fn push_value(out: &mut String, value: &Constant) -> Result<(), AllocError>
     ensures { OnOk result (string_bytes out.new ≡ string_bytes out.old ++ value_text (constant_of value.now)) }
 {

@@ -107,7 +107,7 @@ pub(crate) fn make_whole(alloc: Global, value: u128, next: usize) -> Result<Read
 
 /// A name.
 #[tactic(auto, using(pynode::proofs::Callers::ExprShapes::expr_shapes))]
-#[inline(never)]
+#[inline(always)]
 pub fn make_name(alloc: Global, name: &str, ctx: Context, next: usize) -> Result<Read, Stop>
     ensures { MatchResult result (λ r. Made 1 (plain.Name (nfkc (chars name.now)) ctx) next r) (λ s. s ≡ Stop.Memory) }
 {

@@ -90,6 +90,7 @@ impl Class {
 }
 
 /// Takes the name that stands here.
+#[inline(always)]
 fn name(text: &mut Scanner)
     requires no_string { opens_string text.old ≡ false }
     requires start { begins starts_name text.old ≡ true }
@@ -107,6 +108,7 @@ fn comment(text: &mut Scanner)
 }
 
 /// Takes the blanks that stand here.
+#[inline(always)]
 fn blanks(text: &mut Scanner)
     requires { begins is_blank_char text.old ≡ true }
     ensures { Takes text.old (Some Class.Blanks) text.new }
@@ -162,6 +164,7 @@ fn operator(text: &mut Scanner) -> Option<Class>
 }
 
 /// Takes the string that stands here, behind a prefix of `prefix_len` characters; one that isn't ended is no lexeme.
+#[inline(always)]
 fn literal(text: &mut Scanner, prefix_len: usize) -> Option<Class>
     requires { Opens prefix_len text.old }
     ensures { Takes text.old result text.new }
@@ -199,6 +202,7 @@ fn is_name_start(c: char) -> bool
 }
 
 /// Whether a number begins here.
+#[inline(always)]
 fn has_number(text: &Scanner) -> bool
     ensures { result ≡ begins_number text.now }
 {
@@ -257,6 +261,7 @@ pub fn cut(text: &str) -> Option<(Class, &str, &str)>
 }
 
 /// Whether a text begins with what makes a line logical: neither a blank, a comment, a line end, nor its end.
+#[inline(always)]
 pub fn begins_thing(text: &str) -> bool
     ensures { result ≡ begins_thing (chars text.now) }
 {

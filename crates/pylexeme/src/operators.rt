@@ -10,6 +10,7 @@ use crate::scanner::Scanner;
 
 /// The name of an operator of one character.
 #[tactic(auto, unfolding(crate::specs::Operators::exact_of, crate::specs::Operators::operators))]
+#[inline(always)]
 fn exact_of_one(first: char) -> Option<Exact>
     ensures { result ≡ exact_of (first ∷ []) }
 {
@@ -86,6 +87,7 @@ fn exact_of_three(first: char, second: char, third: char) -> Option<Exact>
 }
 
 /// The name of the operator that a text is, if it is one.
+#[inline(always)]
 pub fn exact_of(text: &str) -> Option<Exact>
     ensures { result ≡ exact_of (chars text.now) }
 {
@@ -122,6 +124,7 @@ fn may_be_second(c: char) -> bool
 }
 
 /// The longest operator that stands here, and how many characters it has.
+#[inline(always)]
 pub(crate) fn longest_operator(text: &Scanner) -> Option<(Exact, usize)>
     ensures { result ≡ operator_at text.now }
 {

@@ -49,6 +49,7 @@ impl Outline {
     /// [`Stop::Faulty`] where the line is the first faulty one, by its fault, and
     /// [`Stop::Memory`].
     #[tactic(auto, using(crate::proofs::OutlineLemmas::following))]
+    #[inline(always)]
     pub fn step(&mut self, alloc: Global, level: usize, form: &Form) -> Result<bool, Stop>
         ensures ok { (xs : List Line) → Follows xs self.old
             → OnOk result (Follows (xs ++ line level (form_of form.now) ∷ []) self.new) }
@@ -69,6 +70,7 @@ impl Outline {
     }
 
     /// Takes the next line, by its shape.
+    #[inline(always)]
     fn take(&mut self, level: usize, shape: Shape) -> Result<bool, Stop>
         ensures ok { OnOk result
             (step level shape (levels_of self.old.levels) ≡ Fine (levels_of self.new.levels)) }

@@ -175,6 +175,7 @@ impl Indents {
     }
 
     /// Takes the line that begins at an offset, where it is a logical one.
+    #[inline(always)]
     pub(crate) fn take(&mut self, source: &Source, offset: usize) -> Result<(), AllocError>
         requires { IsCharBoundary source.now.text offset }
         ensures { OnOk result

@@ -137,6 +137,7 @@ fn printable(point: u32) -> Option<char>
 }
 
 /// Appends what stands for a code point between quotes.
+#[inline(always)]
 fn push_point(out: &mut String, quote: u8, point: u32) -> Result<(), AllocError>
     requires { quote < 128 }
     ensures ok { OnOk result (string_bytes out.new ≡

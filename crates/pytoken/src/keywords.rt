@@ -194,6 +194,7 @@ impl Keyword {
     }
 
     /// The keyword that a text is.
+    #[inline(always)]
     pub fn of(text: &str) -> Option<Keyword>
         ensures { result ≡ keyword_of (chars text.now) }
     {

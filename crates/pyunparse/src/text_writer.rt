@@ -121,6 +121,7 @@ impl TextWriter {
 
     /// Appends the blank before a token, if there is one, and keeps what the token says of the
     /// next. The text matters where it is an operator's.
+    #[inline(always)]
     fn space(
         &mut self,
         kind: Kind,
@@ -144,6 +145,7 @@ impl TextWriter {
     }
 
     /// Appends a text. A lone character is a push, which takes less than a copy.
+    #[inline(always)]
     fn push_text(&mut self, text: &str) -> Result<(), AllocError>
         ensures { OnOk result (self.new ≡ record { text = self.old.text ++ text.now; last = self.old.last; level = self.old.level }) }
     {
