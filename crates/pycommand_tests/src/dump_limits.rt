@@ -81,6 +81,18 @@ fn stops_at_heights_and_brackets(rt: HostRuntime) -> Result<(), Fail> {
         (&[("x", 1), ("+x", 500)], "1:0: error: too deep"),
         (&[("x", 1), (".a", 499)], ""),
         (&[("x", 1), (".a", 500)], "1:0: error: too deep"),
+        (&[("x", 1), ("()", 499)], ""),
+        (&[("x", 1), ("()", 500)], "1:0: error: too deep"),
+        (&[("x", 1), ("[0]", 499)], ""),
+        (&[("x", 1), ("[0]", 500)], "1:0: error: too deep"),
+        (&[("not ", 499), ("x", 1)], ""),
+        (&[("not ", 500), ("x", 1)], "1:0: error: too deep"),
+        (&[("x", 1), ("**x", 499)], ""),
+        (&[("x", 1), ("**x", 500)], "1:0: error: too deep"),
+        (&[("x if y else ", 499), ("z", 1)], ""),
+        (&[("x if y else ", 500), ("z", 1)], "1:0: error: too deep"),
+        (&[("lambda: ", 500), ("x", 1)], "1:0: error: too deep"),
+        (&[("x = ", 5000), ("1", 1)], ""),
         (&[("x", 1), (" or x", 1999)], ""),
         (&[("[(yield ", 249), ("x", 1), (")]", 249)], ""),
         (&[("if a: pass\n", 1), ("elif a: pass\n", 498)], ""),
@@ -98,6 +110,53 @@ fn stops_at_heights_and_brackets(rt: HostRuntime) -> Result<(), Fail> {
         (&[("if x:\n x\n", 2000)], ""),
     ];
     meets_all(&rt, rt.alloc(), rows)
+}
+
+/// A bracket is told where it would be the 601st open one, whatever kinds the others are; a tree that is
+/// too high, where its statement starts.
+#[test]
+fn stops_at_brackets_of_each_kind(rt: HostRuntime) -> Result<(), Fail> {
+    let rows: &[(&[Piece<'_>], &str)] = &[
+        (&[("[", 600), ("]", 600)], "1:0: error: too deep"),
+        (&[("[", 601), ("]", 601)], "1:600: error: too deep"),
+        (&[("{", 601), ("}", 601)], "1:600: error: too deep"),
+        (&[("f(", 600), (")", 600)], "1:0: error: too deep"),
+        (&[("f(", 601), (")", 601)], "1:1201: error: too deep"),
+        (
+            &[("x[", 601), ("0", 1), ("]", 601)],
+            "1:1201: error: too deep",
+        ),
+        (
+            &[
+                ("def f(a=", 1),
+                ("(", 599),
+                ("x", 1),
+                (")", 599),
+                ("): pass", 1),
+            ],
+            "",
+        ),
+        (
+            &[
+                ("def f(a=", 1),
+                ("(", 600),
+                ("x", 1),
+                (")", 600),
+                ("): pass", 1),
+            ],
+            "1:607: error: too deep",
+        ),
+    ];
+    meets_all(&rt, rt.alloc(), rows)
+}
+
+#[test]
+fn stops_at_long_chains(rt: HostRuntime) -> Result<(), Fail> {
+    for piece in &["+x", ".a", "()", "[0]"] {
+        let source = joined(rt.alloc(), &[("x", 1), (*piece, 100_000)])?;
+        meets(&rt, rt.alloc(), source.as_str(), "1:0: error: too deep")?;
+    }
+    Ok(())
 }
 
 #[test]
