@@ -1,0 +1,13 @@
+# Completions of pyast for fish: put this file into ~/.config/fish/completions.
+complete -c pyast -n __fish_use_subcommand -f -a tokens -d 'List the tokens of a source'
+complete -c pyast -n __fish_use_subcommand -f -a dump -d 'Dump the tree of a source'
+complete -c pyast -n __fish_use_subcommand -f -a unparse -d 'Write the tree of a source as source text'
+complete -c pyast -n __fish_use_subcommand -f -a help -d 'Print help'
+complete -c pyast -s h -l help -d 'Print help'
+complete -c pyast -n '__fish_seen_subcommand_from tokens' -s e -d 'Show operators by their exact names'
+complete -c pyast -n '__fish_seen_subcommand_from tokens' -l count -x -d 'Stop after N entries, and write a cursor to go on from'
+complete -c pyast -n '__fish_seen_subcommand_from tokens' -l resume -x -d 'Go on behind a cursor of the same source'
+complete -c pyast -n '__fish_seen_subcommand_from dump' -l indent -x -d 'Give each field and each member a line, with N blanks a level'
+complete -c pyast -n '__fish_seen_subcommand_from dump' -l bare -d 'Leave the names of fields out'
+complete -c pyast -n '__fish_seen_subcommand_from dump unparse' -l py312 -d 'Read the forms of types of Python 3.12'
+complete -c pyast -n '__fish_seen_subcommand_from help' -f -a 'tokens dump unparse help'

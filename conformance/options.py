@@ -1,0 +1,90 @@
+#!/usr/bin/env python3
+"""Checks that the manual page and the completions name exactly the commands and options that the program's help shows.
+
+    conformance/options.py [--program PATH]
+
+The exit status is 0, but 1 where a file names others, and 2 where the program isn't there.
+"""
+
+import argparse
+import os
+import re
+import subprocess
+import sys
+
+TOP = os.path.dirname(os.path.dirname(os.path.abspath(__file__)))
+COMMANDS = ("tokens", "dump", "unparse")
+OPTION = re.compile(r"(?<![\w-])(--[a-z][a-z0-9]*|-[a-z])(?![\w-])")
+
+
+def shown(program, words):
+    """The text of help for some words."""
+    return subprocess.run([program, *words, "--help"], capture_output=True, text=True, check=True).stdout
+
+
+def options_in(text):
+    """The options that a text names."""
+    return set(OPTION.findall(text))
+
+
+def of_help(program):
+    """The options of each command, as the program's help shows them."""
+    return {command: options_in(shown(program, [command]).split("Options:", 1)[1]) for command in COMMANDS}
+
+
+def of_manual(text):
+    """The same by the manual page: of each command the options of its synopsis, and those of all."""
+    text = text.replace("\\-", "-")
+    synopsis = text.split(".SH SYNOPSIS", 1)[1].split(".SH", 1)[0]
+    parts = {part.split()[0]: options_in(part) for part in synopsis.split(".B pyast ")[1:]}
+    help_options = options_in(text.split(".SH OPTIONS", 1)[1].split(".SH", 1)[0].rsplit(".TP", 1)[1])
+    return {command: parts[command] | help_options for command in COMMANDS}
+
+
+def of_bash(text):
+    """The same by the completions for bash."""
+    return {command: options_in(re.search(rf"{command}\) words='([^']*)'", text)[1]) for command in COMMANDS}
+
+
+def of_zsh(text):
+    """The same by the completions for zsh."""
+    found = {}
+    for command in COMMANDS:
+        part = re.search(rf"\n    {command}\)\n(.*?);;", text, re.DOTALL)[1]
+        found[command] = set(re.findall(r"'(--?[a-z0-9]+)\[", part)) | options_in(" ".join(re.findall(r"\{([^}]*)\}", part)).replace(",", " "))
+    return found
+
+
+def of_fish(text):
+    """The same by the completions for fish."""
+    found = {command: set() for command in COMMANDS}
+    for line in text.splitlines():
+        names = {f"-{name}" for name in re.findall(r" -s (\w)\b", line)} | {f"--{name}" for name in re.findall(r" -l (\w+)", line)}
+        seen = re.search(r"__fish_seen_subcommand_from ([a-z ]+)'", line)
+        for command in seen[1].split() if seen else COMMANDS:
+            if command in found:
+                found[command] |= names
+    return found
+
+
+def main():
+    parser = argparse.ArgumentParser(description="Compares the options of the documents with those of the program.")
+    parser.add_argument("--program", default=os.path.join(TOP, "crates", "pyast", "out", "pyast"), metavar="PATH", help="the built program")
+    options = parser.parse_args()
+    if not os.access(options.program, os.X_OK):
+        print(f"options.py: {options.program} isn't there", file=sys.stderr)
+        return 2
+    due, well = of_help(options.program), True
+    for name, read in (("docs/pyast.1", of_manual), ("completions/pyast.bash", of_bash), ("completions/_pyast", of_zsh), ("completions/pyast.fish", of_fish)):
+        with open(os.path.join(TOP, name), encoding="utf-8") as file:
+            found = read(file.read())
+        for command in COMMANDS:
+            if found[command] != due[command]:
+                well = False
+                print(f"{name}: {command}: {sorted(found[command])} in place of {sorted(due[command])}")
+    print("the manual page and the completions name the options of the help" if well else "they differ")
+    return int(not well)
+
+
+if __name__ == "__main__":
+    sys.exit(main())
