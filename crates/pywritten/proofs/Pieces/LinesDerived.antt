@@ -140,8 +140,8 @@ names_behind [] y h = refl
 names_behind (c ∷ cs) y h = let w = and_parts (is_xid_continue c) (pointless cs) h in let n = not_point c w.0 in let r = names_behind cs y w.1 in rw (n, r) refl
 
 dotted_said : {ts : List Terminal} {x : Identifier} → F.Dotted ts x → Said ts → AreProper (S.names_in x)
-dotted_said (F.one_name {x = x}) h = let p : IsProper x = first h in subst AreProper (sym (one_in x (name_pointless x p.name))) (p, tt)
-dotted_said (F.dot_name {x = x} {y = y} d) h = let p : IsProper x = first h in subst AreProper (sym (names_behind x y (name_pointless x p.name))) (p, dotted_said d (rest (rest h)))
+dotted_said (F.one_name {x = x}) h = let p : IsProper x.form = first h in subst AreProper (sym (one_in x.form (name_pointless x.form p.name))) (p, tt)
+dotted_said (F.dot_name {x = x} {y = y} d) h = let p : IsProper x.form = first h in subst AreProper (sym (names_behind x.form y (name_pointless x.form p.name))) (p, dotted_said d (rest (rest h)))
 
 abbrev SoundAlias : Alias → Type 0
 SoundAlias a = AreProper (S.names_in a.name) × MaybeProper a.asname
