@@ -7,7 +7,7 @@ use Rattle.pynode.specs.declared.operators.Context.TheVariants.{Load, Store}
 use Rattle.pynode.specs.declared.profiles.Profile.TheVariants.{Py311, Py312}
 use Rattle.pynode.specs.Trees as Trees
 use Rattle.pynode.specs.Values as Values
-use Rattle.pytoken.specs.Terminals.{Op, Word, in_form, Whole}
+use Rattle.pytoken.specs.Terminals.{Op, Word, Ident, in_form, Whole}
 use Rattle.pygrammar.specs.Reader.{Found, NoForm}
 use Rattle.pynode.specs.Trees.{TypeVar, ParamSpec, TypeVarTuple, TypeAlias, Assign, AugAssign, AnnAssign, ExprOf, Pass}
 use Rattle.pygrammar.specs.Lines.{simple_form, header_form, if_header, def_header, function_head, class_head}
@@ -257,3 +257,24 @@ row_34_312 = refl
 
 row_34_311 : read_line Py311 (Word Key.Class ∷ in_form (67 ∷ []) ∷ Op Sign.LPar ∷ in_form (66 ∷ []) ∷ Op Sign.RPar ∷ Op Sign.LSqb ∷ in_form (84 ∷ []) ∷ Op Sign.RSqb ∷ Op Sign.Colon ∷ Word Key.Pass ∷ []) ≡ NoForm
 row_34_311 = refl
+
+-- \uff54ype X = y: its form is `type`, its spelling isn't
+row_35_312 : read_line Py312 (Ident (record { spelling = 65364 ∷ 121 ∷ 112 ∷ 101 ∷ []; form = 116 ∷ 121 ∷ 112 ∷ 101 ∷ [] }) ∷ in_form (88 ∷ []) ∷ Op Sign.Equal ∷ in_form (121 ∷ []) ∷ []) ≡ NoForm
+row_35_312 = refl
+
+row_35_311 : read_line Py311 (Ident (record { spelling = 65364 ∷ 121 ∷ 112 ∷ 101 ∷ []; form = 116 ∷ 121 ∷ 112 ∷ 101 ∷ [] }) ∷ in_form (88 ∷ []) ∷ Op Sign.Equal ∷ in_form (121 ∷ []) ∷ []) ≡ NoForm
+row_35_311 = refl
+
+-- \uff54ype = y
+row_36_312 : read_line Py312 (Ident (record { spelling = 65364 ∷ 121 ∷ 112 ∷ 101 ∷ []; form = 116 ∷ 121 ∷ 112 ∷ 101 ∷ [] }) ∷ Op Sign.Equal ∷ in_form (121 ∷ []) ∷ []) ≡ Found (simple_form (Assign ((Trees.Name (116 ∷ 121 ∷ 112 ∷ 101 ∷ []) Store) ∷ []) (Trees.Name (121 ∷ []) Load) ∷ [])) []
+row_36_312 = refl
+
+row_36_311 : read_line Py311 (Ident (record { spelling = 65364 ∷ 121 ∷ 112 ∷ 101 ∷ []; form = 116 ∷ 121 ∷ 112 ∷ 101 ∷ [] }) ∷ Op Sign.Equal ∷ in_form (121 ∷ []) ∷ []) ≡ Found (simple_form (Assign ((Trees.Name (116 ∷ 121 ∷ 112 ∷ 101 ∷ []) Store) ∷ []) (Trees.Name (121 ∷ []) Load) ∷ [])) []
+row_36_311 = refl
+
+-- type \uff38 = y
+row_37_312 : read_line Py312 (in_form (116 ∷ 121 ∷ 112 ∷ 101 ∷ []) ∷ Ident (record { spelling = 65336 ∷ []; form = 88 ∷ [] }) ∷ Op Sign.Equal ∷ in_form (121 ∷ []) ∷ []) ≡ Found (simple_form (TypeAlias (Trees.Name (88 ∷ []) Store) ([]) (Trees.Name (121 ∷ []) Load) ∷ [])) []
+row_37_312 = refl
+
+row_37_311 : read_line Py311 (in_form (116 ∷ 121 ∷ 112 ∷ 101 ∷ []) ∷ Ident (record { spelling = 65336 ∷ []; form = 88 ∷ [] }) ∷ Op Sign.Equal ∷ in_form (121 ∷ []) ∷ []) ≡ NoForm
+row_37_311 = refl
