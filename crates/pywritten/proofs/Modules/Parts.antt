@@ -83,7 +83,7 @@ longer_first c (x ∷ (z ∷ zs)) y p = longer_more c x y (tokens (z ∷ zs)) p
 
 new_first : (xs : List Identifier) (y : Identifier) → F.Dotted (tokens xs) y → F.Dotted (tokens ([] ∷ xs)) (46 ∷ y)
 new_first [] y p = absurd (no_tokens p refl)
-new_first (x ∷ xs) y p = F.dot_name {x = []} p
+new_first (x ∷ xs) y p = F.dot_name {x = record { spelling = []; form = [] }} p
 
 dotted_plain : (x : Identifier) → F.Dotted (tokens (S.names_in x)) x
 dotted_plain [] = F.one_name

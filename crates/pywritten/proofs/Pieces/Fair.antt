@@ -18,7 +18,7 @@ use Rattle.pynode.specs.Values
 use Rattle.pytoken.specs.declared.keywords.Keyword.{Keyword}
 use Rattle.pytoken.specs.declared.keywords.Keyword.TheVariants as Key
 use Rattle.pytoken.specs.Keywords.{spelling_of}
-use Rattle.pytoken.specs.Terminals.{Terminal, Op, Word, in_form, Spelled, Whole, Layout, Gives, terminal_of, fault_of}
+use Rattle.pytoken.specs.Terminals.{Terminal, Op, Word, in_form, Whole, Layout, Gives, terminal_of, fault_of}
 use Rattle.pytoken.specs.Laws.{IsProper}
 use Rattle.pytoken.proofs.Callers.Said.{come_back}
 use Rattle.pyspacing.specs.Spacing.{is_whole, is_token}
