@@ -78,9 +78,9 @@ pub await_claim : {ts : List Terminal} {e : Expr} → Claim Primary ts e → Cla
 unfolding written
 await_claim p = node Await _ _ _ (λ m. refl) refl tt (G.await (here p)) deep_await.named (omega (arith, p.short))
 
-pub attribute_claim : {ts : List Terminal} {e : Expr} {x : Spelled} → Claim Primary ts e → Claim Primary (ts ++ (Op Dot ∷ (Ident x ∷ []))) (Trees.Attribute e x.form Load)
+pub attribute_claim : {ts : List Terminal} {e : Expr} (x : Spelled) → Claim Primary ts e → Claim Primary (ts ++ (Op Dot ∷ (Ident x ∷ []))) (Trees.Attribute e x.form Load)
 unfolding written
-attribute_claim {x = x} p = node Primary _ _ _ (λ m. refl) refl tt (G.attribute _ (here p)) deep_primary.named (simp length-append (omega (arith, p.short)))
+attribute_claim x p = node Primary _ _ _ (λ m. refl) refl tt (G.attribute _ (here p)) deep_primary.named (simp length-append (omega (arith, p.short)))
 
 pub subscript_claim : {ts us : List Terminal} {e s : Expr} → Claim Primary ts e → Claim Slices us s → Claim Primary (ts ++ (Op LSqb ∷ (us ++ (Op RSqb ∷ [])))) (Trees.Subscript e s Load)
 unfolding written

@@ -108,9 +108,9 @@ handler_is false e x h i = widen {c = starts_plain} (λ p e. e) more_star (word_
 
 -- ---- Loops.
 
-in_form : {xs ys : List Piece} {ts us : List Terminal} → Valued xs ts → Valued ys us → Valued (xs ++ (word piece Key.In ∷ ys)) (ts ++ (word terminal Key.In ∷ us))
+target_in_form : {xs ys : List Piece} {ts us : List Terminal} → Valued xs ts → Valued ys us → Valued (xs ++ (word piece Key.In ∷ ys)) (ts ++ (word terminal Key.In ∷ us))
 unfolding operators
-in_form x y = join x (join (keyword Key.In) y refl) refl
+target_in_form x y = join x (join (keyword Key.In) y refl) refl
 
 -- ---- Headers.
 
@@ -148,7 +148,7 @@ header_read (if_header e) h = plain_read (plain_both (keyword Key.If) (readable 
 header_read (elif_header e) h = plain_read (plain_both (keyword Key.Elif) (readable false Named e h))
 header_read else_header h = plain_read (keyword Key.Else)
 header_read (loop_header (while_head e)) h = plain_read (plain_both (keyword Key.While) (readable false Named e h))
-header_read (loop_header (for_head b t e)) h = comma_read (async_before b (word_value Key.For (some (in_form (readable true Stars t h.0) (readable true Stars e h.1)))))
+header_read (loop_header (for_head b t e)) h = comma_read (async_before b (word_value Key.For (some (target_in_form (readable true Stars t h.0) (readable true Stars e h.1)))))
 header_read (with_header b is) h = plain_read (async_before b (word_plain Key.With (items_are is h)))
 header_read try_header h = plain_read (keyword Key.Try)
 header_read (except_header b e x) h = handler_read (handler_is b e x h.0 h.1)
