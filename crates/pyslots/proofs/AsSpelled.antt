@@ -7,7 +7,7 @@ use Rattle.pynode.specs.Trees.{Identifier}
 use Rattle.pytoken.specs.Terminals.{Terminal, Op, Word, Ident, Whole, Literal, Layout}
 use Rattle.pygrammar.specs.Lines.{Line}
 use Rattle.pygrammar.specs.Forms.{FormOf}
-use Rattle.pyslots.specs.Given.{passes, all_pass, Given, AreGiven, no_line, a_line}
+use Rattle.pyslots.specs.Given.{passes, all_pass, AreGiven, no_line, a_line}
 
 abbrev pub passes_as_spelled : (Identifier → Bool) → Terminal → Bool
 passes_as_spelled n (Ident x) = n x.form && bytes_eq x.spelling x.form
