@@ -215,6 +215,20 @@ fn tells_why_a_source_is_refused(rt: HostRuntime) -> Result<(), Fail> {
         ),
         (
             "dump --py312",
+            "ｔype X = 1\n",
+            "",
+            1,
+            "<stdin>:1:0: error: invalid syntax",
+        ),
+        (
+            "dump --py312",
+            "x = 1\nif y:\n    ｔype X = 1\n",
+            "",
+            1,
+            "<stdin>:3:4: error: invalid syntax",
+        ),
+        (
+            "dump --py312",
             "type X = 1.5\n",
             "",
             1,

@@ -99,6 +99,22 @@ fn dumps_in_styles(rt: HostRuntime) -> Result<(), Fail> {
         ),
         (
             "dump --py312",
+            "ｔype = 1\n",
+            "Module(body=[Assign(targets=[Name(id='type', ctx=Store())], \
+             value=Constant(value=1))], type_ignores=[])",
+            0,
+            "",
+        ),
+        (
+            "dump --py312",
+            "type Ｘ = y\n",
+            "Module(body=[TypeAlias(name=Name(id='X', ctx=Store()), type_params=[], \
+             value=Name(id='y', ctx=Load()))], type_ignores=[])",
+            0,
+            "",
+        ),
+        (
+            "dump --py312",
             "type(x)\n",
             "Module(body=[Expr(value=Call(func=Name(id='type', ctx=Load()), args=[Name(id='x', \
              ctx=Load())], keywords=[]))], type_ignores=[])",

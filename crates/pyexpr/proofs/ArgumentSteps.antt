@@ -79,7 +79,7 @@ module _ (ts : List given.Terminal) (at : ℕ) where
   }
 
   pub keyed_kind : (x : Bor (List ℕ)) → IsNamed Equal (nfkc (chars x.now)) ts at → IsKindAt (kind.Keyed x) ts at
-  keyed_kind x s = record { within = omega (arith, s.within); is = λ self. rw s.is refl }
+  keyed_kind x s = record { within = omega (arith, s.within); is = λ self. rw (s.is, s.form) refl }
 
 -- what was read of an argument of a kind
 kind_found : (ts : List given.Terminal) (d : Depth) (k : Kind) (at room least : ℕ) (e : Read) → IsKindAt k ts at → FoundAt ts room least (inner_reads d (level_of k) (seen ts (place_of k at))) e → read_argument (inner_reads d) (seen ts at) ≡ Found (entry_of k (tree_of e.expr.value)) (seen ts e.next)

@@ -83,7 +83,7 @@ module _ (ts : List given.Terminal) (d : Depth) (at : ℕ) (o : IsOpen d) where
   pub named_hit : (x : List ℕ) (v t : Read) (n : ℕ) (z : Result Read Stop) → IsNamed ColonEqual x ts at → FoundAt ts (d.room - 1) (at + 2 + 1) (inner_reads d level.Expression (seen ts (at + 2))) v → Made 1 (Trees.Name x Store) n t → Makes d.room (Trees.NamedExpr (tree_of t.expr.value) (tree_of v.expr.value)) v.next z → Answered ts d.room (at + 1) (reads d level.Named (seen ts at)) z
   named_hit x v t n z s f g m =
       let w = subst (λ (y : Expr). Makes d.room (Trees.NamedExpr y (tree_of v.expr.value)) v.next z) g.tree m in
-      by_level ts (at + 1) d level.Named (seen ts at) z o (rw (s.is, f.is) (node ts d.room (at + 1) (Trees.NamedExpr (Trees.Name x Store) (tree_of v.expr.value)) v.next z (omega (arith, f.ahead)) f.within w))
+      by_level ts (at + 1) d level.Named (seen ts at) z o (rw (s.is, s.form, f.is) (node ts d.room (at + 1) (Trees.NamedExpr (Trees.Name x Store) (tree_of v.expr.value)) v.next z (omega (arith, f.ahead)) f.within w))
 
   pub named_plain : (z : Result Read Stop) → IsNotNamed ColonEqual ts at → Answered ts d.room (at + 1) (reads d level.Expression (seen ts at)) z → Answered ts d.room (at + 1) (reads d level.Named (seen ts at)) z
   named_plain z s h =

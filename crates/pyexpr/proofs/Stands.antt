@@ -5,7 +5,7 @@ use Rattle.std.proofs.Common.{◌≡◌, ◌⊎◌, inl, inr, refl, sym, ap, ◌
 use Rattle.std.proofs.lemmas.Bool.{false≢true}
 use Rattle.pylexeme.specs.declared.kinds.Exact.{Exact}
 use Rattle.pytoken.specs.declared.keywords.Keyword.{Keyword}
-use Rattle.pytoken.specs.Terminals.{Terminal, Op, Word, Ident}
+use Rattle.pytoken.specs.Terminals.{Terminal, Op, Word, Ident, Spelled}
 use Rattle.pyvalue.specs.declared.terminals.Terminal as given
 use Rattle.pyvalue.specs.Terminals.{terminal}
 use Rattle.pygrammar.specs.Looks.{is_op, is_word, name_in}
@@ -44,16 +44,18 @@ word_stands ts at word t b w h q = go (word_or_not word t) b q
 
 -- a name and a sign
 pub named_stands : (ts : List given.Terminal) (at : ℕ) (x : List ℕ) (sign : Exact) → Some x ≡ first_is name_in (seen ts at) → Stands (Op sign) ts (at + 1) → IsNamed sign x ts at
-named_stands ts at x sign h s = record { within = s.within; is = ident (seen ts at) h ∙ ap (λ r. Ident x ∷ r) (drop-drop 1 at (map terminal ts) ∙ s.is ∙ ap (λ n. Op sign ∷ seen ts n) (omega arith)) }
+named_stands ts at x sign h s =
+    let w = ident (seen ts at) h in
+    record { within = s.within; name = w.0; form = w.1; is = w.2 ∙ ap (λ r. Ident w.0 ∷ r) (drop-drop 1 at (map terminal ts) ∙ s.is ∙ ap (λ n. Op sign ∷ seen ts n) (omega arith)) }
   where
-    name : (t : Terminal) → Some x ≡ name_in t → t ≡ Ident x
-    name (Ident y) h = cc
+    name : (t : Terminal) → Some x ≡ name_in t → (y : Spelled) × (y.form ≡ x) × (t ≡ Ident y)
+    name (Ident y) h = (y, cc, refl)
     name (Op y) h = absurd (cc)
     name _ h = absurd (cc)
 
-    ident : (r : List Terminal) → Some x ≡ first_is name_in r → r ≡ Ident x ∷ drop 1 r
+    ident : (r : List Terminal) → Some x ≡ first_is name_in r → (y : Spelled) × (y.form ≡ x) × (r ≡ Ident y ∷ drop 1 r)
     ident [] h = absurd (cc)
-    ident (t ∷ r) h = ap (λ z. z ∷ r) (name t h)
+    ident (t ∷ r) h = let w = name t h in (w.0, w.1, ap (λ z. z ∷ r) w.2)
 
 pub unnamed_sign : (ts : List given.Terminal) (at : ℕ) (sign : Exact) → None ≡ first_is (is_op sign) (seen ts (at + 1)) → IsNotNamed sign ts at
 unnamed_sign ts at sign h = record { is = go (seen ts at) (drop-drop 1 at (map terminal ts)) }
@@ -64,7 +66,7 @@ unnamed_sign ts at sign h = record { is = go (seen ts at) (drop-drop 1 at (map t
 
     go : (r : List Terminal) → drop 1 r ≡ seen ts (at + 1) → None ≡ on_name_with sign r (λ x r2. Some x) None
     go [] q = refl
-    go (Ident x ∷ r) q = other x r (h ∙ ap (λ z. first_is (is_op sign) z) (sym q))
+    go (Ident x ∷ r) q = other x.form r (h ∙ ap (λ z. first_is (is_op sign) z) (sym q))
     go (Op y ∷ r) q = refl
     go (t ∷ r) q = refl
 

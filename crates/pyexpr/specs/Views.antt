@@ -27,7 +27,9 @@ pub record Stands (t : tokens.Terminal) (ts : List Terminal) (at : ℕ) : Type 0
 -- a name and a sign stand at a place; or they don't
 pub record IsNamed (sign : Exact) (x : List ℕ) (ts : List Terminal) (at : ℕ) : Type 0 where
   pub within : at + 1 < length ts
-  pub is : seen ts at ≡ tokens.Ident x ∷ tokens.Op sign ∷ seen ts (at + 2)
+  pub name : tokens.Spelled
+  pub form : name.form ≡ x
+  pub is : seen ts at ≡ tokens.Ident name ∷ tokens.Op sign ∷ seen ts (at + 2)
 
 pub record IsNotNamed (sign : Exact) (ts : List Terminal) (at : ℕ) : Type 0 where
   pub is : None ≡ on_name_with sign (seen ts at) (λ x r. Some x) None

@@ -8,7 +8,7 @@ use Rattle.pygrammar.specs.declared.levels.Level.TheVariants.{Named, Expression,
 use Rattle.pynode.specs.Trees
 use Rattle.pynode.specs.Trees.{Expr, no_exprs, an_expr, no_optional, Comprehension, comprehensions}
 use Rattle.pynode.specs.Values
-use Rattle.pytoken.specs.Terminals.{Terminal, Op, Word, Ident, Whole, Literal, Layout}
+use Rattle.pytoken.specs.Terminals.{Spelled, Terminal, Op, Word, Ident, Whole, Literal, Layout}
 use Rattle.pygrammar.specs.Constants.{constant_word, joined}
 use Rattle.pygrammar.specs.Entries.{Item, Of, Pair, Entry, Single, Paired, Doubled, singles, keys, values}
 use Rattle.pygrammar.specs.Grammar as G
@@ -44,7 +44,7 @@ pub tail_more : (i : Item) (us : List Terminal) (es : List Entry) → ListingGoe
 tail_more i us es k = (k.0, (λ d h w rest s a. k.1 d h w rest s (length (us ++ rest)) (omega arith) (a ∷ [])), inr (us, refl))
 
 -- names, constants, strings
-pub name_goes : (x : List ℕ) → Goes Atom (Ident x ∷ []) (Trees.Name x Load)
+pub name_goes : (x : Spelled) → Goes Atom (Ident x ∷ []) (Trees.Name x.form Load)
 name_goes x = (0, (λ d h rest s. unroll d Atom (Ident x ∷ rest)), λ d h. tt)
 
 pub number_goes : (n : ℕ) → Goes Atom (Whole n ∷ []) (Trees.Constant (Values.Int n))
@@ -111,10 +111,10 @@ module _ (self : Reads) where
   set_comp_step : (ts i rest : List Terminal) (e f : Expr) → 9 ≤ lead_of ts → self Elem (ts ++ i) ≡ Found e i → (grip_of i ≡ 0) × (starts_comp i ≡ true) → comps_closed self RBrace i (λ gs. Trees.SetComp e (comprehensions gs)) ≡ Found f rest → curly self (ts ++ i) ≡ Found f rest
   set_comp_step ts i rest e f l h g k = pass_op RBrace ts _ _ _ (omega (arith, l)) ∙ (pass_op DoubleStar ts _ _ _ (omega (arith, l)) ∙ rw h (miss_op Colon i _ _ (λ q. omega (arith, q, g.0)) ∙ rw (g.1) (pass_op Star ts _ _ _ (omega (arith, l)) ∙ k)))
 
-  dict_step : (ts i r rest : List Terminal) (k e : Expr) (es : List Entry) → 9 ≤ lead_of ts → self Elem (ts ++ (Op Colon ∷ i)) ≡ Found k (Op Colon ∷ i) → ((x : List ℕ) (us : List Terminal) → ts ++ (Op Colon ∷ i) ≡ Ident x ∷ (Op ColonEqual ∷ us) → ⊥) → self Expression i ≡ Found e r → starts_comp r ≡ false → others_of self Pair (Paired k e) r ≡ Found es (Op RBrace ∷ rest) → curly self (ts ++ (Op Colon ∷ i)) ≡ Found (Trees.Dict (keys es) (values es)) rest
+  dict_step : (ts i r rest : List Terminal) (k e : Expr) (es : List Entry) → 9 ≤ lead_of ts → self Elem (ts ++ (Op Colon ∷ i)) ≡ Found k (Op Colon ∷ i) → ((x : Spelled) (us : List Terminal) → ts ++ (Op Colon ∷ i) ≡ Ident x ∷ (Op ColonEqual ∷ us) → ⊥) → self Expression i ≡ Found e r → starts_comp r ≡ false → others_of self Pair (Paired k e) r ≡ Found es (Op RBrace ∷ rest) → curly self (ts ++ (Op Colon ∷ i)) ≡ Found (Trees.Dict (keys es) (values es)) rest
   dict_step ts i r rest k e es l h f v c w = pass_op RBrace ts _ _ _ (omega (arith, l)) ∙ (pass_op DoubleStar ts _ _ _ (omega (arith, l)) ∙ rw h (pass_op Star ts _ _ _ (omega (arith, l)) ∙ (miss_name_with ColonEqual (ts ++ (Op Colon ∷ i)) _ _ f ∙ rw v (rw c (rw w refl)))))
 
-  dict_comp_step : (ts i r rest : List Terminal) (k e g : Expr) → 9 ≤ lead_of ts → self Elem (ts ++ (Op Colon ∷ i)) ≡ Found k (Op Colon ∷ i) → ((x : List ℕ) (us : List Terminal) → ts ++ (Op Colon ∷ i) ≡ Ident x ∷ (Op ColonEqual ∷ us) → ⊥) → self Expression i ≡ Found e r → starts_comp r ≡ true → comps_closed self RBrace r (λ gs. Trees.DictComp k e (comprehensions gs)) ≡ Found g rest → curly self (ts ++ (Op Colon ∷ i)) ≡ Found g rest
+  dict_comp_step : (ts i r rest : List Terminal) (k e g : Expr) → 9 ≤ lead_of ts → self Elem (ts ++ (Op Colon ∷ i)) ≡ Found k (Op Colon ∷ i) → ((x : Spelled) (us : List Terminal) → ts ++ (Op Colon ∷ i) ≡ Ident x ∷ (Op ColonEqual ∷ us) → ⊥) → self Expression i ≡ Found e r → starts_comp r ≡ true → comps_closed self RBrace r (λ gs. Trees.DictComp k e (comprehensions gs)) ≡ Found g rest → curly self (ts ++ (Op Colon ∷ i)) ≡ Found g rest
   dict_comp_step ts i r rest k e g l h f v c w = pass_op RBrace ts _ _ _ (omega (arith, l)) ∙ (pass_op DoubleStar ts _ _ _ (omega (arith, l)) ∙ rw h (pass_op Star ts _ _ _ (omega (arith, l)) ∙ (miss_name_with ColonEqual (ts ++ (Op Colon ∷ i)) _ _ f ∙ rw v (rw c w))))
 
   doubled_step : (i r rest : List Terminal) (e : Expr) (es : List Entry) → self BitOr i ≡ Found e r → others_of self Pair (Doubled e) r ≡ Found es (Op RBrace ∷ rest) → curly self (Op DoubleStar ∷ i) ≡ Found (Trees.Dict (keys es) (values es)) rest
@@ -217,7 +217,7 @@ set_comp_goes ts us e gs l p w k = let q = elem_goes ts e l p in (
 key_goes : (ts : List Terminal) (e : Expr) → 9 ≤ lead_of ts → Goes Expression ts e → Goes Elem ts e
 key_goes ts e l p = elem_goes ts e l (next_goes Named ts e l tt p)
 
-key_free : (ts i : List Terminal) (k : Expr) (d : ℕ) → GoesAt Expression ts k d → (x : List ℕ) (us : List Terminal) → ts ++ (Op Colon ∷ i) ≡ Ident x ∷ (Op ColonEqual ∷ us) → ⊥
+key_free : (ts i : List Terminal) (k : Expr) (d : ℕ) → GoesAt Expression ts k d → (x : Spelled) (us : List Terminal) → ts ++ (Op Colon ∷ i) ≡ Ident x ∷ (Op ColonEqual ∷ us) → ⊥
 key_free ts i k d p = free d Expression ColonEqual (ts ++ (Op Colon ∷ i)) (Op Colon ∷ i) k (λ x us. refl) (p (Op Colon ∷ i) (omega arith)) (λ q. absurd (omega (arith, q)))
 
 pub dict_goes : (us ts ws vs : List Terminal) (k e : Expr) (es : List Entry) → Splits us (ts ++ (Op Colon ∷ ws)) vs → 9 ≤ lead_of ts → Goes Expression ts k → Goes Expression ws e → TailGoes Pair vs es → Goes Atom (Op LBrace ∷ (us ++ (Op RBrace ∷ []))) (Trees.Dict (keys (Paired k e ∷ es)) (values (Paired k e ∷ es)))

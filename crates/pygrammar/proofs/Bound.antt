@@ -68,7 +68,7 @@ mutual
   tall (G.binary {l = l} {ts = ts} {us = us} t h p q) = omega (arith, tall p, tall q, below_slack l, one ts us t)
   tall (G.power {ts = ts} {us = us} p q) = omega (arith, tall p, tall q, one ts us (Op DoubleStar))
   tall (G.await p) = omega (arith, tall p)
-  tall (G.attribute {ts = ts} {x = x} p) = omega (arith, tall p, one ts (Ident x ∷ []) (Op Dot))
+  tall (G.attribute {ts = ts} x p) = omega (arith, tall p, one ts (Ident x ∷ []) (Op Dot))
   tall (G.call {ts = ts} {us = us} {f = f} {e = e} {es = es} p c h) = omega (arith, tall p, tall_listing c refl, called_height f e es h, one ts (us ++ (Op RPar ∷ [])) (Op LPar), end us (Op RPar))
   tall (G.call_generator {ts = ts} {us = us} {vs = vs} p q c) = omega (arith, tall p, tall q, tall_comps c, one ts (us ++ (vs ++ (Op RPar ∷ []))) (Op LPar), length-append us (vs ++ (Op RPar ∷ [])), end vs (Op RPar))
   tall (G.subscript {ts = ts} {us = us} p q) = omega (arith, tall p, tall q, one ts (us ++ (Op RSqb ∷ [])) (Op LSqb), end us (Op RSqb))

@@ -11,7 +11,7 @@ use Rattle.pygrammar.specs.declared.levels.Level.{Level}
 use Rattle.pygrammar.specs.declared.levels.Level.TheVariants.{Value, Stars, Primary, Elem, Slices, Part, Slice}
 use Rattle.pynode.specs.Trees
 use Rattle.pynode.specs.Trees.{Expr, no_exprs, an_expr, OptionalExpr, absent, present, Comprehension, comprehensions}
-use Rattle.pytoken.specs.Terminals.{Terminal, Op, Ident}
+use Rattle.pytoken.specs.Terminals.{Spelled, Terminal, Op, Ident}
 use Rattle.pygrammar.specs.Entries.{Item, Of, Pair, Argument, Entry, Single}
 use Rattle.pygrammar.specs.Arguments.{called}
 use Rattle.pygrammar.specs.Grammar as G
@@ -26,7 +26,7 @@ use Rattle.pygrammar.proofs.Forms.{YieldsGoes, PerhapsGoes, nothing_goes, someth
 use Rattle.pygrammar.proofs.Atoms.{primary_goes, TailGoes, tail_keeps, tail_last, tail_more, Splits, name_goes, number_goes, constant_goes, strings_goes, group_goes, yield_group_goes, empty_tuple_goes, tuple_goes, generator_goes, empty_list_goes, list_goes, list_comp_goes, empty_dict_goes, set_goes, set_comp_goes, dict_goes, doubled_goes, dict_comp_goes}
 
 -- Primary and what follows it
-dot_more : (self : Reads) (m : ℕ) (e : Expr) (x : List ℕ) (rest : List Terminal) → suc (suc (length rest)) ≤ m → (m' : ℕ) × (length rest ≤ m') × (primary_loop self m e (Op Dot ∷ (Ident x ∷ rest)) ≡ primary_loop self m' (Trees.Attribute e x Load) rest)
+dot_more : (self : Reads) (m : ℕ) (e : Expr) (x : Spelled) (rest : List Terminal) → suc (suc (length rest)) ≤ m → (m' : ℕ) × (length rest ≤ m') × (primary_loop self m e (Op Dot ∷ (Ident x ∷ rest)) ≡ primary_loop self m' (Trees.Attribute e x.form Load) rest)
 dot_more self zero e x rest le = absurd (omega (arith, le))
 dot_more self (suc m) e x rest le = (m, omega (arith, le), refl)
 
@@ -38,8 +38,8 @@ index_more : (self : Reads) (m : ℕ) (e s : Expr) (i rest : List Terminal) → 
 index_more self zero e s i rest h le lm = absurd (omega (arith, lm))
 index_more self (suc m) e s i rest h le lm = (m, omega (arith, le, lm), rw h refl)
 
-attribute_goes : (ts : List Terminal) (e : Expr) (x : List ℕ) → Goes Primary ts e → Goes Primary (ts ++ (Op Dot ∷ (Ident x ∷ []))) (Trees.Attribute e x Load)
-attribute_goes ts e x p = primary_goes (ts ++ (Op Dot ∷ (Ident x ∷ []))) (Trees.Attribute e x Load) p.0 (λ d h rest g.
+attribute_goes : (ts : List Terminal) (e : Expr) (x : Spelled) → Goes Primary ts e → Goes Primary (ts ++ (Op Dot ∷ (Ident x ∷ []))) (Trees.Attribute e x.form Load)
+attribute_goes ts e x p = primary_goes (ts ++ (Op Dot ∷ (Ident x ∷ []))) (Trees.Attribute e x.form Load) p.0 (λ d h rest g.
     let c = p.1 d h (Op Dot ∷ (Ident x ∷ rest)) (omega arith) in
     let w = dot_more (read d) c.0 e x rest (omega (arith, c.1)) in
     (w.0, w.1, ap (read (suc d) Primary) (append_assoc ts (Op Dot ∷ (Ident x ∷ [])) rest) ∙ c.2 ∙ w.2))
@@ -112,7 +112,7 @@ mutual
   goes (G.binary {l = l} {ts = ts} {us = us} {a = a} {b = b} {o = o} t h p q) = binary_goes l ts us a b t o h (goes p) (goes q)
   goes (G.power {ts = ts} {us = us} {a = a} {b = b} p q) = power_goes ts us a b (goes p) (goes q)
   goes (G.await {ts = ts} {e = e} p) = await_goes ts e (goes p)
-  goes (G.attribute {ts = ts} {e = e} {x = x} p) = attribute_goes ts e x (goes p)
+  goes (G.attribute {ts = ts} {e = e} x p) = attribute_goes ts e x (goes p)
   goes (G.call {ts = ts} {f = f} {e = e} p G.no_item h) = call_none_goes ts f e h (goes p)
   goes (G.call {ts = ts} {f = f} {e = e} p (G.last_item {ts = us} {e = a} q) h) = call_some_goes ts us us [] f e a [] h (split_last us) (λ r. piece_starts q r) (goes p) (piece_all q) (tail_last Argument)
   goes (G.call {ts = ts} {f = f} {e = e} p (G.item {ts = xs} {us = vs} {e = a} {es = es} q c) h) = call_some_goes ts (xs ++ (Op Comma ∷ vs)) xs (Op Comma ∷ vs) f e a es h (split_more xs vs) (λ r. piece_starts q r) (goes p) (piece_all q) (tail_more Argument vs es (listing_all c))

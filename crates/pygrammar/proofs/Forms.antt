@@ -9,7 +9,7 @@ use Rattle.pygrammar.specs.declared.levels.Level.{Level}
 use Rattle.pygrammar.specs.declared.levels.Level.TheVariants.{Value, Stars, StarItem, Named, Expression, Or, BitOr, Primary, Elem, Slices, Part, Slice}
 use Rattle.pynode.specs.Trees
 use Rattle.pynode.specs.Trees.{Expr, no_exprs, an_expr, OptionalExpr, absent, present, Arguments}
-use Rattle.pytoken.specs.Terminals.{Terminal, Op, Word, Ident}
+use Rattle.pytoken.specs.Terminals.{Spelled, Terminal, Op, Word, Ident}
 use Rattle.pygrammar.specs.Looks.{is_word}
 use Rattle.pygrammar.specs.Targets.{all_stored, both, stored}
 use Rattle.pygrammar.specs.Entries.{Of, Parameter, Entry, singles}
@@ -121,11 +121,11 @@ parts_goes ts us e es p k = (
 )
 
 -- names, lambda, conditions
-named_form_step : (next inner : Reads) (x : List ℕ) (i rest : List Terminal) (e : Expr) → inner Expression i ≡ Found e rest → level_step next inner Named (Ident x ∷ (Op ColonEqual ∷ i)) ≡ Found (Trees.NamedExpr (Trees.Name x Store) e) rest
+named_form_step : (next inner : Reads) (x : Spelled) (i rest : List Terminal) (e : Expr) → inner Expression i ≡ Found e rest → level_step next inner Named (Ident x ∷ (Op ColonEqual ∷ i)) ≡ Found (Trees.NamedExpr (Trees.Name x.form Store) e) rest
 named_form_step next inner x i rest e h = rw h refl
 
-pub named_goes : (x : List ℕ) (ts : List Terminal) (e : Expr) → Goes Expression ts e → Goes Named (Ident x ∷ (Op ColonEqual ∷ ts)) (Trees.NamedExpr (Trees.Name x Store) e)
-named_goes x ts e p = (suc p.0, deeper (GoesAt Named (Ident x ∷ (Op ColonEqual ∷ ts)) (Trees.NamedExpr (Trees.Name x Store) e)) p.0 (λ d h rest s. unroll (suc d) Named (Ident x ∷ (Op ColonEqual ∷ (ts ++ rest))) ∙ named_form_step (read (suc (suc d))) (read (suc d)) x (ts ++ rest) rest e (p.1 d h rest (omega (arith, s)))), λ d h. tt)
+pub named_goes : (x : Spelled) (ts : List Terminal) (e : Expr) → Goes Expression ts e → Goes Named (Ident x ∷ (Op ColonEqual ∷ ts)) (Trees.NamedExpr (Trees.Name x.form Store) e)
+named_goes x ts e p = (suc p.0, deeper (GoesAt Named (Ident x ∷ (Op ColonEqual ∷ ts)) (Trees.NamedExpr (Trees.Name x.form Store) e)) p.0 (λ d h rest s. unroll (suc d) Named (Ident x ∷ (Op ColonEqual ∷ (ts ++ rest))) ∙ named_form_step (read (suc (suc d))) (read (suc d)) x (ts ++ rest) rest e (p.1 d h rest (omega (arith, s)))), λ d h. tt)
 
 lambda_form_step : (next inner : Reads) (i r rest : List Terminal) (ps : List Entry) (a : Arguments) (e : Expr) → listing_of inner (Parameter false) [] i ≡ Found ps (Op Colon ∷ r) → inner Expression r ≡ Found e rest → arranged ps ≡ Some a → level_step next inner Expression (Word Key.Lambda ∷ i) ≡ Found (Trees.Lambda a e) rest
 lambda_form_step next inner i r rest ps a e h1 h2 h3 = rw h1 (rw h2 (rw h3 refl))
@@ -173,7 +173,7 @@ slice_more self a b c i r rest h k = rw h (rw k refl)
 abbrev pub FrontGoes : List Terminal → OptionalExpr → Type 0
 FrontGoes ts a = (n : ℕ) × ((d : ℕ) → n ≤ d → (i rest : List Terminal) (e : Expr) → slice_rest (read (suc d)) a i ≡ Found e rest → read (suc (suc d)) Slice (ts ++ (Op Colon ∷ i)) ≡ Found e rest)
 
-front_step : (next inner : Reads) (ts i rest : List Terminal) (a e : Expr) → 9 ≤ lead_of ts → next Named (ts ++ (Op Colon ∷ i)) ≡ Found a (Op Colon ∷ i) → ((x : List ℕ) (us : List Terminal) → ts ++ (Op Colon ∷ i) ≡ Ident x ∷ (Op ColonEqual ∷ us) → ⊥) → slice_rest inner (present a) i ≡ Found e rest → level_step next inner Slice (ts ++ (Op Colon ∷ i)) ≡ Found e rest
+front_step : (next inner : Reads) (ts i rest : List Terminal) (a e : Expr) → 9 ≤ lead_of ts → next Named (ts ++ (Op Colon ∷ i)) ≡ Found a (Op Colon ∷ i) → ((x : Spelled) (us : List Terminal) → ts ++ (Op Colon ∷ i) ≡ Ident x ∷ (Op ColonEqual ∷ us) → ⊥) → slice_rest inner (present a) i ≡ Found e rest → level_step next inner Slice (ts ++ (Op Colon ∷ i)) ≡ Found e rest
 front_step next inner ts i rest a e l h f k = pass_op Colon ts (Op Colon ∷ i) _ _ (omega (arith, l)) ∙ rw h (miss_name_with ColonEqual (ts ++ (Op Colon ∷ i)) _ _ f ∙ k)
 
 pub front_nothing : FrontGoes [] absent

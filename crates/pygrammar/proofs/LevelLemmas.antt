@@ -13,7 +13,7 @@ use Rattle.pygrammar.specs.declared.levels.Level.TheVariants.{Value, Stars, Star
 use Rattle.pynode.specs.Trees
 use Rattle.pynode.specs.Trees.{Expr, OptionalExpr, present}
 use Rattle.pynode.specs.Values
-use Rattle.pytoken.specs.Terminals.{Terminal, Op, Word, Ident}
+use Rattle.pytoken.specs.Terminals.{Spelled, Terminal, Op, Word, Ident}
 use Rattle.pygrammar.specs.Looks.{is_op}
 use Rattle.pygrammar.specs.Operators.{below, left_operator, prefix_operator, chain_level}
 use Rattle.pygrammar.specs.Constants.{constant_word}
@@ -60,7 +60,7 @@ mutual
   led (G.compare {ts = ts} p c) = lead_front ts _ 13 (omega arith) (omega (arith, led p))
   led (G.binary {l = l} {ts = ts} t h p q) = lead_front ts _ (first l) (first_pos l) (led p)
   led (G.power {ts = ts} p q) = lead_front ts _ 21 (omega arith) (omega (arith, led p))
-  led (G.attribute {ts = ts} p) = lead_front ts _ 23 (omega arith) (led p)
+  led (G.attribute {ts = ts} x p) = lead_front ts _ 23 (omega arith) (led p)
   led (G.call {ts = ts} p c h) = lead_front ts _ 23 (omega arith) (led p)
   led (G.call_generator {ts = ts} p q c) = lead_front ts _ 23 (omega arith) (led p)
   led (G.subscript {ts = ts} p q) = lead_front ts _ 23 (omega arith) (led p)
@@ -113,8 +113,8 @@ not_star _ = tt
 found_rest : (a b : Expr) (r s : List Terminal) → ◌≡◌ {A = Answer Expr} (Found a r) (Found b s) → r ≡ s
 found_rest a b r s h = cc
 
-pub free : (d : ℕ) (l : Level) (s : Exact) (i rest : List Terminal) (e : Expr) → ((x : List ℕ) (us : List Terminal) → read (suc d) l (Ident x ∷ (Op s ∷ us)) ≡ Found (Trees.Name x Load) (Op s ∷ us)) → read (suc d) l i ≡ Found e rest → (grip_of rest ≡ grip (Op s) → ⊥) → (x : List ℕ) (us : List Terminal) → i ≡ Ident x ∷ (Op s ∷ us) → ⊥
-free d l s i rest e f h g x us q = g (ap grip_of (found_rest e (Trees.Name x Load) rest (Op s ∷ us) (sym h ∙ (ap (read (suc d) l) q ∙ f x us))))
+pub free : (d : ℕ) (l : Level) (s : Exact) (i rest : List Terminal) (e : Expr) → ((x : Spelled) (us : List Terminal) → read (suc d) l (Ident x ∷ (Op s ∷ us)) ≡ Found (Trees.Name x.form Load) (Op s ∷ us)) → read (suc d) l i ≡ Found e rest → (grip_of rest ≡ grip (Op s) → ⊥) → (x : Spelled) (us : List Terminal) → i ≡ Ident x ∷ (Op s ∷ us) → ⊥
+free d l s i rest e f h g x us q = g (ap grip_of (found_rest e (Trees.Name x.form Load) rest (Op s ∷ us) (sym h ∙ (ap (read (suc d) l) q ∙ f x us))))
 
 -- one level over any readers
 module _ (next inner : Reads) (i rest : List Terminal) (e : Expr) where

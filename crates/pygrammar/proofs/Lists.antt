@@ -9,7 +9,7 @@ use Rattle.pygrammar.specs.declared.levels.Level.{Level}
 use Rattle.pygrammar.specs.declared.levels.Level.TheVariants.{StarItem, Named, Expression, BitOr}
 use Rattle.pynode.specs.Trees
 use Rattle.pynode.specs.Trees.{Expr, OptionalExpr, absent, present, arg}
-use Rattle.pytoken.specs.Terminals.{Terminal, Op, Ident}
+use Rattle.pytoken.specs.Terminals.{Spelled, Terminal, Op, Ident}
 use Rattle.pygrammar.specs.Entries.{Item, Of, Pair, Argument, Parameter, Entry, Single, Paired, Spread, Doubled, Keyed, Plain, Slashed, Bare, Gathered, Collected}
 use Rattle.pygrammar.specs.Targets.{stored}
 use Rattle.pygrammar.specs.Grammar as G
@@ -79,7 +79,7 @@ pub pairs_of_goes : (ts : List Terminal) (e : Expr) → Goes BitOr ts e → Piec
 pairs_of_goes ts e p = (p.0, λ d h rest s. doubled_step (read (suc d)) (ts ++ rest) rest e (answers BitOr ts e d rest (p.1 d h) (omega (arith, s))), λ d h. tt)
 
 -- arguments
-argument_step : (self : Reads) (ts us rest : List Terminal) (e : Expr) → 9 ≤ lead_of ts → ((x : List ℕ) (vs : List Terminal) → ts ++ us ≡ Ident x ∷ (Op Equal ∷ vs) → ⊥) → self Named (ts ++ us) ≡ Found e rest → read_argument self (ts ++ us) ≡ Found (Single e) rest
+argument_step : (self : Reads) (ts us rest : List Terminal) (e : Expr) → 9 ≤ lead_of ts → ((x : Spelled) (vs : List Terminal) → ts ++ us ≡ Ident x ∷ (Op Equal ∷ vs) → ⊥) → self Named (ts ++ us) ≡ Found e rest → read_argument self (ts ++ us) ≡ Found (Single e) rest
 argument_step self ts us rest e l f h = pass_op Star ts us _ _ (omega (arith, l)) ∙ (pass_op DoubleStar ts us _ _ (omega (arith, l)) ∙ (miss_name_with Equal (ts ++ us) _ _ f ∙ rw h refl))
 
 pub argument_goes : (ts : List Terminal) (e : Expr) → 9 ≤ lead_of ts → Goes Named ts e → PieceGoes Argument ts (Single e)
@@ -91,10 +91,10 @@ star_argument_step self i rest e h = rw h refl
 pub star_argument_goes : (ts : List Terminal) (e : Expr) → Goes Expression ts e → PieceGoes Argument (Op Star ∷ ts) (Spread e)
 star_argument_goes ts e p = (p.0, λ d h rest s. star_argument_step (read (suc d)) (ts ++ rest) rest e (p.1 d h rest (omega (arith, s.0))), λ d h. tt)
 
-keyword_argument_step : (self : Reads) (x : List ℕ) (i rest : List Terminal) (e : Expr) → self Expression i ≡ Found e rest → read_argument self (Ident x ∷ (Op Equal ∷ i)) ≡ Found (Keyed x e) rest
+keyword_argument_step : (self : Reads) (x : Spelled) (i rest : List Terminal) (e : Expr) → self Expression i ≡ Found e rest → read_argument self (Ident x ∷ (Op Equal ∷ i)) ≡ Found (Keyed x.form e) rest
 keyword_argument_step self x i rest e h = rw h refl
 
-pub keyword_argument_goes : (x : List ℕ) (ts : List Terminal) (e : Expr) → Goes Expression ts e → PieceGoes Argument (Ident x ∷ (Op Equal ∷ ts)) (Keyed x e)
+pub keyword_argument_goes : (x : Spelled) (ts : List Terminal) (e : Expr) → Goes Expression ts e → PieceGoes Argument (Ident x ∷ (Op Equal ∷ ts)) (Keyed x.form e)
 keyword_argument_goes x ts e p = (p.0, λ d h rest s. keyword_argument_step (read (suc d)) x (ts ++ rest) rest e (p.1 d h rest (omega (arith, s.0))), λ d h. tt)
 
 double_argument_step : (self : Reads) (i rest : List Terminal) (e : Expr) → self Expression i ≡ Found e rest → read_argument self (Op DoubleStar ∷ i) ≡ Found (Doubled e) rest
@@ -104,7 +104,7 @@ pub double_argument_goes : (ts : List Terminal) (e : Expr) → Goes Expression t
 double_argument_goes ts e p = (p.0, λ d h rest s. double_argument_step (read (suc d)) (ts ++ rest) rest e (p.1 d h rest (omega (arith, s.0))), λ d h. tt)
 
 -- parameters
-parameter_step : (self : Reads) (b : Bool) (x : List ℕ) (i r rest : List Terminal) (a d : OptionalExpr) → annotated self b i ≡ Found a r → suffixed self (Some Equal) r ≡ Found d rest → read_parameter self b (Ident x ∷ i) ≡ Found (Plain (arg x a) d) rest
+parameter_step : (self : Reads) (b : Bool) (x : Spelled) (i r rest : List Terminal) (a d : OptionalExpr) → annotated self b i ≡ Found a r → suffixed self (Some Equal) r ≡ Found d rest → read_parameter self b (Ident x ∷ i) ≡ Found (Plain (arg x.form a) d) rest
 parameter_step self b x i r rest a d h1 h2 = rw h1 (rw h2 refl)
 
 -- a default begins with its sign
@@ -112,7 +112,7 @@ default_grip : {us : List Terminal} {a : OptionalExpr} → G.Suffix (Some Equal)
 default_grip G.no_suffix r = inr refl
 default_grip (G.suffix p) r = inl refl
 
-pub parameter_goes : (b : Bool) (x : List ℕ) (ts us : List Terminal) (a c : OptionalExpr) → SuffixGoes (cond b (Some Colon) None) ts a → G.Suffix (Some Equal) us c → SuffixGoes (Some Equal) us c → PieceGoes (Parameter b) (Ident x ∷ (ts ++ us)) (Plain (arg x a) c)
+pub parameter_goes : (b : Bool) (x : Spelled) (ts us : List Terminal) (a c : OptionalExpr) → SuffixGoes (cond b (Some Colon) None) ts a → G.Suffix (Some Equal) us c → SuffixGoes (Some Equal) us c → PieceGoes (Parameter b) (Ident x ∷ (ts ++ us)) (Plain (arg x.form a) c)
 parameter_goes false x ts us a c p w q = (max p.0 q.0, λ d h rest s. ap (λ z. read_parameter (read (suc d)) false (Ident x ∷ z)) (append_assoc ts us rest) ∙ parameter_step (read (suc d)) false x (ts ++ (us ++ rest)) (us ++ rest) rest a c (p.1 d (omega (arith, h)) (us ++ rest) tt) (q.1 d (omega (arith, h)) rest (s.0, s.1)), λ d h. tt)
 parameter_goes true x ts us a c p w q = (max p.0 q.0, λ d h rest s. ap (λ z. read_parameter (read (suc d)) true (Ident x ∷ z)) (append_assoc ts us rest) ∙ parameter_step (read (suc d)) true x (ts ++ (us ++ rest)) (us ++ rest) rest a c (p.1 d (omega (arith, h)) (us ++ rest) (elim (default_grip w rest) [ inl e ↦ (λ q. absurd (omega (arith, e, q)), omega (arith, e)) | inr e ↦ (λ q. s.3 (sym e ∙ q), omega (arith, e, s.1)) ])) (q.1 d (omega (arith, h)) rest (s.0, s.1)), λ d h. tt)
 
@@ -126,7 +126,7 @@ pub bare_goes : (b : Bool) → PieceGoes (Parameter b) (Op Star ∷ []) Bare
 bare_goes false = (0, λ d h rest s. bare_step (read (suc d)) false rest (omega (arith, s.2)), λ d h. tt)
 bare_goes true = (0, λ d h rest s. bare_step (read (suc d)) true rest (omega (arith, s.2)), λ d h. tt)
 
-star_parameter_step : (self : Reads) (b : Bool) (x : List ℕ) (i rest : List Terminal) (a : OptionalExpr) → star_annotated self b i ≡ Found a rest → read_parameter self b (Op Star ∷ (Ident x ∷ i)) ≡ Found (Gathered (arg x a)) rest
+star_parameter_step : (self : Reads) (b : Bool) (x : Spelled) (i rest : List Terminal) (a : OptionalExpr) → star_annotated self b i ≡ Found a rest → read_parameter self b (Op Star ∷ (Ident x ∷ i)) ≡ Found (Gathered (arg x.form a)) rest
 star_parameter_step self b x i rest a h = rw h refl
 
 -- an annotation of a star parameter that has no star
@@ -143,20 +143,20 @@ star_suffix G.no_suffix self us rest h = go us h
         colon TooDeep h = absurd (cc)
 star_suffix (G.suffix {ts = ts} p) self us rest h = pass_op Star ts us _ _ (omega (arith, led p)) ∙ h
 
-pub star_parameter_goes : (b : Bool) (x : List ℕ) (ts : List Terminal) (a : OptionalExpr) → G.Suffix (cond b (Some Colon) None) ts a → SuffixGoes (cond b (Some Colon) None) ts a → PieceGoes (Parameter b) (Op Star ∷ (Ident x ∷ ts)) (Gathered (arg x a))
+pub star_parameter_goes : (b : Bool) (x : Spelled) (ts : List Terminal) (a : OptionalExpr) → G.Suffix (cond b (Some Colon) None) ts a → SuffixGoes (cond b (Some Colon) None) ts a → PieceGoes (Parameter b) (Op Star ∷ (Ident x ∷ ts)) (Gathered (arg x.form a))
 star_parameter_goes false x ts a w p = (p.0, λ d h rest s. star_parameter_step (read (suc d)) false x (ts ++ rest) rest a (p.1 d h rest tt), λ d h. tt)
 star_parameter_goes true x ts a w p = (p.0, λ d h rest s. star_parameter_step (read (suc d)) true x (ts ++ rest) rest a (star_suffix w (read (suc d)) rest rest (p.1 d h rest (s.3, s.1))), λ d h. tt)
 
-star_annotation_step : (self : Reads) (x : List ℕ) (i rest : List Terminal) (e : Expr) → self BitOr i ≡ Found e rest → read_parameter self true (Op Star ∷ (Ident x ∷ (Op Colon ∷ (Op Star ∷ i)))) ≡ Found (Gathered (arg x (present (Trees.Starred e Load)))) rest
+star_annotation_step : (self : Reads) (x : Spelled) (i rest : List Terminal) (e : Expr) → self BitOr i ≡ Found e rest → read_parameter self true (Op Star ∷ (Ident x ∷ (Op Colon ∷ (Op Star ∷ i)))) ≡ Found (Gathered (arg x.form (present (Trees.Starred e Load)))) rest
 star_annotation_step self x i rest e h = rw h refl
 
-pub star_annotation_goes : (x : List ℕ) (ts : List Terminal) (e : Expr) → Goes BitOr ts e → PieceGoes (Parameter true) (Op Star ∷ (Ident x ∷ (Op Colon ∷ (Op Star ∷ ts)))) (Gathered (arg x (present (Trees.Starred e Load))))
+pub star_annotation_goes : (x : Spelled) (ts : List Terminal) (e : Expr) → Goes BitOr ts e → PieceGoes (Parameter true) (Op Star ∷ (Ident x ∷ (Op Colon ∷ (Op Star ∷ ts)))) (Gathered (arg x.form (present (Trees.Starred e Load))))
 star_annotation_goes x ts e p = (p.0, λ d h rest s. star_annotation_step (read (suc d)) x (ts ++ rest) rest e (answers BitOr ts e d rest (p.1 d h) (omega (arith, s.1))), λ d h. tt)
 
-double_parameter_step : (self : Reads) (b : Bool) (x : List ℕ) (i rest : List Terminal) (a : OptionalExpr) → annotated self b i ≡ Found a rest → read_parameter self b (Op DoubleStar ∷ (Ident x ∷ i)) ≡ Found (Collected (arg x a)) rest
+double_parameter_step : (self : Reads) (b : Bool) (x : Spelled) (i rest : List Terminal) (a : OptionalExpr) → annotated self b i ≡ Found a rest → read_parameter self b (Op DoubleStar ∷ (Ident x ∷ i)) ≡ Found (Collected (arg x.form a)) rest
 double_parameter_step self b x i rest a h = rw h refl
 
-pub double_parameter_goes : (b : Bool) (x : List ℕ) (ts : List Terminal) (a : OptionalExpr) → SuffixGoes (cond b (Some Colon) None) ts a → PieceGoes (Parameter b) (Op DoubleStar ∷ (Ident x ∷ ts)) (Collected (arg x a))
+pub double_parameter_goes : (b : Bool) (x : Spelled) (ts : List Terminal) (a : OptionalExpr) → SuffixGoes (cond b (Some Colon) None) ts a → PieceGoes (Parameter b) (Op DoubleStar ∷ (Ident x ∷ ts)) (Collected (arg x.form a))
 double_parameter_goes false x ts a p = (p.0, λ d h rest s. double_parameter_step (read (suc d)) false x (ts ++ rest) rest a (p.1 d h rest tt), λ d h. tt)
 double_parameter_goes true x ts a p = (p.0, λ d h rest s. double_parameter_step (read (suc d)) true x (ts ++ rest) rest a (p.1 d h rest (s.3, s.1)), λ d h. tt)
 

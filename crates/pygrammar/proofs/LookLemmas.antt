@@ -5,7 +5,7 @@ use Rattle.pylexeme.specs.declared.kinds.Exact.{Exact}
 use Rattle.pylexeme.specs.declared.kinds.Exact.TheVariants.{LPar, RPar, LSqb, RSqb, LBrace, RBrace, Colon, Comma, Semi, Plus, Minus, Star, Slash, VBar, Amper, Less, Greater, Equal, Dot, Percent, EqEqual, NotEqual, LessEqual, GreaterEqual, Tilde, Circumflex, LeftShift, RightShift, DoubleStar, PlusEqual, MinEqual, StarEqual, SlashEqual, PercentEqual, AmperEqual, VBarEqual, CircumflexEqual, LeftShiftEqual, RightShiftEqual, DoubleStarEqual, DoubleSlash, DoubleSlashEqual, At, AtEqual, RArrow, Ellipsis, ColonEqual}
 use Rattle.pytoken.specs.declared.keywords.Keyword.{Keyword}
 use Rattle.pytoken.specs.declared.keywords.Keyword.TheVariants as Key
-use Rattle.pytoken.specs.Terminals.{Terminal, Op, Word, Ident, Whole, Literal, Layout}
+use Rattle.pytoken.specs.Terminals.{Spelled, Terminal, Op, Word, Ident, Whole, Literal, Layout}
 use Rattle.pygrammar.specs.Looks.{exact_number, keyword_number, is_op, is_word, name_in}
 use Rattle.pygrammar.specs.Reader.{on_some, on_first, on_name_with}
 use Rattle.pygrammar.specs.Precedence.{lead, behind, infix_rank}
@@ -137,10 +137,10 @@ miss_name (Whole x ∷ r) hit other h = refl
 miss_name (Literal x ∷ r) hit other h = refl
 miss_name (Layout ∷ r) hit other h = refl
 
-pub miss_name_with : {A : Type 0} (s : Exact) (i : List Terminal) (hit : List ℕ → List Terminal → A) (other : A) → ((x : List ℕ) (us : List Terminal) → i ≡ Ident x ∷ (Op s ∷ us) → ⊥) → on_name_with s i hit other ≡ other
+pub miss_name_with : {A : Type 0} (s : Exact) (i : List Terminal) (hit : List ℕ → List Terminal → A) (other : A) → ((x : Spelled) (us : List Terminal) → i ≡ Ident x ∷ (Op s ∷ us) → ⊥) → on_name_with s i hit other ≡ other
 miss_name_with s [] hit other h = refl
 miss_name_with s (Ident x ∷ []) hit other h = refl
-miss_name_with s (Ident x ∷ (t ∷ r)) hit other h = elim (op_or_not s t) [ inl e ↦ absurd (h x r (ap (λ z. Ident x ∷ (z ∷ r)) e)) | inr q ↦ ap (λ o. on_some o (λ a. hit x r) other) q ]
+miss_name_with s (Ident x ∷ (t ∷ r)) hit other h = elim (op_or_not s t) [ inl e ↦ absurd (h x r (ap (λ z. Ident x ∷ (z ∷ r)) e)) | inr q ↦ ap (λ o. on_some o (λ a. hit x.form r) other) q ]
 miss_name_with s (Op y ∷ r) hit other h = refl
 miss_name_with s (Word y ∷ r) hit other h = refl
 miss_name_with s (Whole y ∷ r) hit other h = refl

@@ -9,7 +9,7 @@ use Rattle.pygrammar.specs.declared.levels.Level.{Level}
 use Rattle.pygrammar.specs.declared.levels.Level.TheVariants.{Value, Stars, StarItem, Named, Expression, Or, And, Not, Compare, BitOr, BitXor, BitAnd, Shift, Sum, Term, Factor, Power, Await, Primary, Atom, Elem, Slices, Part, Slice}
 use Rattle.pynode.specs.Trees
 use Rattle.pynode.specs.Trees.{Expr, absent, present, Identifier}
-use Rattle.pytoken.specs.Terminals.{Terminal, Op, Ident}
+use Rattle.pytoken.specs.Terminals.{Spelled, Terminal, Op, Ident}
 use Rattle.pygrammar.specs.Looks.{is_op, is_word, name_in}
 use Rattle.pygrammar.specs.Entries.{Of}
 use Rattle.pygrammar.specs.Reader.{Answer, Found, TooDeep, and_then, on_some, on_first, Reads, call_step, operation, prefixed, levels_from, descend, read}
@@ -76,19 +76,19 @@ good_op {B} n y i k x h g = good_test n (is_op y) i k x (λ t a s f q. elim (op_
     some_none : (a : ℕ) → ◌≡◌ {A = Option ℕ} (Some a) None → ⊥
     some_none a h = absurd (cc)
 
-name_is : (t : Terminal) (x : Identifier) → name_in t ≡ Some x → t ≡ Ident x
-name_is (Ident y) x h = cc
+name_is : (t : Terminal) (x : Identifier) → name_in t ≡ Some x → (y : Spelled) × (t ≡ Ident y) × (y.form ≡ x)
+name_is (Ident y) x h = (y, refl, cc)
 name_is _ x h = absurd (cc)
 
-good_name : {B : Type 0} (n : ℕ) (i : List Terminal) (k : Identifier → List Terminal → Answer B) (x : Answer B) → ((a : Identifier) (s : List Terminal) → i ≡ Ident a ∷ s → Good n (k a s)) → Good n x → Good n (on_first name_in i k x)
-good_name n i k x h g = good_test n name_in i k x (λ t a s f q. h a s (q ∙ ap (λ z. z ∷ s) (name_is t a f))) g
+good_name : {B : Type 0} (n : ℕ) (i : List Terminal) (k : Identifier → List Terminal → Answer B) (x : Answer B) → ((a : Spelled) (s : List Terminal) → i ≡ Ident a ∷ s → Good n (k a.form s)) → Good n x → Good n (on_first name_in i k x)
+good_name n i k x h g = good_test n name_in i k x (λ t a s f q. let w = name_is t a f in subst (λ z. Good n (k z s)) w.2 (h w.0 s (q ∙ ap (λ z. z ∷ s) w.1))) g
 
 -- b terminals, and room for more than b
 module _ (b d : ℕ) (le : b ≤ d) (inner : Reads) (all : GoodTo b inner) (deeper : SoundAt inner) where
   g_capped_primary : (n m : ℕ) (i : List Terminal) (e : Expr) (r : List Terminal) → PrimaryAt i e r → length i ≤ b → length r < n → length r ≤ b → Good n (capped_primary (suc d) inner m e r)
   g_capped_primary n zero i e r p li h w = h
   g_capped_primary n (suc m) i e r p li h w =
-      good_op n Dot r _ _ (λ a s q. good_name n s _ _ (λ x u v. good_checked {P = PrimaryAt i} (suc d) (length r) n (Found (Trees.Attribute e x Load) u) (λ f r3. capped_primary (suc d) inner m f r3) (omega (arith, ap length q, ap length v)) (found (p.0 ++ (Op Dot ∷ (Ident x ∷ [])), rw (p.1, q, v) (simp append_assoc refl), G.attribute p.2))
+      good_op n Dot r _ _ (λ a s q. good_name n s _ _ (λ x u v. good_checked {P = PrimaryAt i} (suc d) (length r) n (Found (Trees.Attribute e x.form Load) u) (λ f r3. capped_primary (suc d) inner m f r3) (omega (arith, ap length q, ap length v)) (found (p.0 ++ (Op Dot ∷ (Ident x ∷ [])), rw (p.1, q, v) (simp append_assoc refl), G.attribute x p.2))
       (λ f r3 y. omega (arith, primary_low i f r3 y, li, le)) (λ f r3 y z. g_capped_primary n m i f r3 y li (omega (arith, h, z)) (omega (arith, w, z)))) tt)
       (good_op n LPar r _ _ (λ a s q. good_checked {P = PrimaryAt i} (suc d) (length r) n (call_step inner e s) (λ f r3. capped_primary (suc d) inner m f r3) (g_call inner b all (length r) e s (omega (arith, ap length q)) (omega (arith, ap length q, w))) (call_sound inner deeper i p.0 e s (p.1 ∙ ap (λ z. p.0 ++ z) q) p.2)
       (λ f r3 y. omega (arith, primary_low i f r3 y, li, le)) (λ f r3 y z. g_capped_primary n m i f r3 y li (omega (arith, h, z)) (omega (arith, w, z))))

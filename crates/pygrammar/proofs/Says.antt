@@ -1,13 +1,13 @@
 -- What the reader answers is derived: the tools, and the levels Or .. Await.
-use Rattle.std.proofs.Common.{◌≡◌, inl, inr, refl, sym, ap, ◌∙◌, ℕ, ◌≤◌, ◌<◌, arith, List, [], ◌∷◌, ◌++◌, Option, Some, None, Bool, true, false, cond}
+use Rattle.std.proofs.Common.{◌≡◌, inl, inr, refl, sym, ap, subst, ◌∙◌, ℕ, ◌≤◌, ◌<◌, arith, List, [], ◌∷◌, ◌++◌, Option, Some, None, Bool, true, false, cond}
 use Rattle.pylexeme.specs.declared.kinds.Exact.{Exact}
 use Rattle.pylexeme.specs.declared.kinds.Exact.TheVariants.{LPar}
 use Rattle.pytoken.specs.declared.keywords.Keyword.{Keyword}
 use Rattle.pytoken.specs.declared.keywords.Keyword.TheVariants as Key
 use Rattle.pygrammar.specs.declared.levels.Level.{Level}
 use Rattle.pygrammar.specs.declared.levels.Level.TheVariants.{Or, And, Not, Compare, BitOr, BitXor, BitAnd, Shift, Sum, Term, Factor, Power, Await, Primary, Atom}
-use Rattle.pynode.specs.Trees.{Expr}
-use Rattle.pytoken.specs.Terminals.{Terminal, Op, Word, Ident}
+use Rattle.pynode.specs.Trees.{Expr, Identifier}
+use Rattle.pytoken.specs.Terminals.{Spelled, Terminal, Op, Word, Ident}
 use Rattle.pygrammar.specs.Looks.{is_op, is_word, name_in}
 use Rattle.pygrammar.specs.Reader.{Answer, Found, NoForm, TooDeep, and_then, on_some, on_first, made, Reads}
 use Rattle.pygrammar.specs.Precedence.{rank, infix_rank, behind}
@@ -48,12 +48,12 @@ says_word {B} {Q} y i k x h g = says_first (is_word y) i k x (λ t a s f q. elim
     some_none : (a : ℕ) → ◌≡◌ {A = Option ℕ} (Some a) None → ⊥
     some_none a h = absurd (cc)
 
-name_is : (t : Terminal) (x : List ℕ) → name_in t ≡ Some x → t ≡ Ident x
-name_is (Ident y) x h = cc
+name_is : (t : Terminal) (x : Identifier) → name_in t ≡ Some x → (y : Spelled) × (t ≡ Ident y) × (y.form ≡ x)
+name_is (Ident y) x h = (y, refl, cc)
 name_is _ x h = absurd (cc)
 
-pub says_name : {B : Type 0} {Q : B → List Terminal → Type 0} (i : List Terminal) (k : List ℕ → List Terminal → Answer B) (x : Answer B) → ((a : List ℕ) (s : List Terminal) → i ≡ Ident a ∷ s → Says Q (k a s)) → Says Q x → Says Q (on_first name_in i k x)
-says_name i k x h g = says_first name_in i k x (λ t a s f q. h a s (q ∙ ap (λ z. z ∷ s) (name_is t a f))) (λ _. g)
+pub says_name : {B : Type 0} {Q : B → List Terminal → Type 0} (i : List Terminal) (k : List ℕ → List Terminal → Answer B) (x : Answer B) → ((a : Spelled) (s : List Terminal) → i ≡ Ident a ∷ s → Says Q (k a.form s)) → Says Q x → Says Q (on_first name_in i k x)
+says_name {B} {Q} i k x h g = says_first name_in i k x (λ t a s f q. let w = name_is t a f in subst (λ z. Says Q (k z s)) w.2 (h w.0 s (q ∙ ap (λ z. z ∷ s) w.1))) (λ _. g)
 
 pub says_cond : {B : Type 0} {Q : B → List Terminal → Type 0} (b : Bool) (x y : Answer B) → Says Q x → Says Q y → Says Q (cond b x y)
 says_cond true x y h k = h

@@ -120,7 +120,7 @@ module _ (self : Reads) (all : SoundAt self) where
   primary_loop_sound : (m : ℕ) (i : List Terminal) (e : Expr) (r : List Terminal) → PrimaryAt i e r → Says (PrimaryAt i) (primary_loop self m e r)
   primary_loop_sound zero i e r p = found p
   primary_loop_sound (suc m) i e r p =
-      says_op Dot r _ _ (λ a s q. says_name s _ _ (λ x u v. primary_loop_sound m i (Trees.Attribute e x Load) u (p.0 ++ (Op Dot ∷ (Ident x ∷ [])), rw (p.1, q, v) (simp append_assoc refl), G.attribute p.2)) no_form) (λ _.
+      says_op Dot r _ _ (λ a s q. says_name s _ _ (λ x u v. primary_loop_sound m i (Trees.Attribute e x.form Load) u (p.0 ++ (Op Dot ∷ (Ident x ∷ [])), rw (p.1, q, v) (simp append_assoc refl), G.attribute x p.2)) no_form) (λ _.
       says_op LPar r _ _ (λ a s q. says_then _ _ (call_sound i p.0 e s (p.1 ∙ ap (λ z. p.0 ++ z) q) p.2) (λ f r2 y. primary_loop_sound m i f r2 y)) (λ _.
       says_op LSqb r _ _ (λ a s q. says_then _ _ (all Slices s) (λ x r2 y. says_op RSqb r2 _ _ (λ b u v. primary_loop_sound m i (Trees.Subscript e x Load) u (p.0 ++ (Op LSqb ∷ (y.0 ++ (Op RSqb ∷ []))), rw (p.1, q, y.1, v) (simp append_assoc refl), G.subscript p.2 y.2)) (λ _. no_form))) (λ _.
       found p)))

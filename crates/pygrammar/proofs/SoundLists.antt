@@ -12,7 +12,7 @@ use Rattle.pygrammar.specs.declared.levels.Level.{Level}
 use Rattle.pygrammar.specs.declared.levels.Level.TheVariants.{Stars, StarItem, Named, Expression, Or, BitOr, Primary, Elem, Part, Slice}
 use Rattle.pynode.specs.Trees
 use Rattle.pynode.specs.Trees.{Expr, an_expr, OptionalExpr, arg, exprs, Comprehension}
-use Rattle.pytoken.specs.Terminals.{Terminal, Op, Word, Ident, Whole, Literal, Layout}
+use Rattle.pytoken.specs.Terminals.{Spelled, Terminal, Op, Word, Ident, Whole, Literal, Layout}
 use Rattle.pygrammar.specs.Looks.{is_op, is_word}
 use Rattle.pygrammar.specs.Operators.{below, chain_level, left_operator, prefix_operator}
 use Rattle.pygrammar.specs.Entries.{Item, Of, Pair, Argument, Parameter, Entry, Gathered, singles}
@@ -29,18 +29,18 @@ pub says_if : {B : Type 0} {Q : B → List Terminal → Type 0} (b : Bool) (x y 
 says_if true x y h k = h refl
 says_if false x y h k = k
 
-pub says_name_with : {B : Type 0} {Q : B → List Terminal → Type 0} (s : Exact) (r : List Terminal) (hit : List ℕ → List Terminal → Answer B) (x : Answer B) → ((a : List ℕ) (u : List Terminal) → r ≡ Ident a ∷ (Op s ∷ u) → Says Q (hit a u)) → (((a : List ℕ) (u : List Terminal) → r ≡ Ident a ∷ (Op s ∷ u) → ⊥) → Says Q x) → Says Q (on_name_with s r hit x)
+pub says_name_with : {B : Type 0} {Q : B → List Terminal → Type 0} (s : Exact) (r : List Terminal) (hit : List ℕ → List Terminal → Answer B) (x : Answer B) → ((a : Spelled) (u : List Terminal) → r ≡ Ident a ∷ (Op s ∷ u) → Says Q (hit a.form u)) → (((a : Spelled) (u : List Terminal) → r ≡ Ident a ∷ (Op s ∷ u) → ⊥) → Says Q x) → Says Q (on_name_with s r hit x)
 says_name_with s [] hit x h g = g (λ a u q. absurd (cc))
 says_name_with s (Ident a ∷ []) hit x h g = g (λ b u q. absurd (short a b u q))
   where
-    rests : (a b : List ℕ) (u v : List Terminal) → Ident a ∷ u ≡ Ident b ∷ v → u ≡ v
+    rests : (a b : Spelled) (u v : List Terminal) → Ident a ∷ u ≡ Ident b ∷ v → u ≡ v
     rests a b u v q = cc
 
-    short : (a b : List ℕ) (u : List Terminal) → Ident a ∷ [] ≡ Ident b ∷ (Op s ∷ u) → ⊥
+    short : (a b : Spelled) (u : List Terminal) → Ident a ∷ [] ≡ Ident b ∷ (Op s ∷ u) → ⊥
     short a b u q = absurd (cc (rests a b [] (Op s ∷ u) q))
 says_name_with {B} {Q} s (Ident a ∷ (t ∷ u)) hit x h g = go (is_op s t) refl
   where
-    seconds : (a b : List ℕ) (t v : Terminal) (u w : List Terminal) → Ident a ∷ (t ∷ u) ≡ Ident b ∷ (v ∷ w) → t ≡ v
+    seconds : (a b : Spelled) (t v : Terminal) (u w : List Terminal) → Ident a ∷ (t ∷ u) ≡ Ident b ∷ (v ∷ w) → t ≡ v
     seconds a b t v u w q = cc
 
     op_same : (s : Exact) (n : ℕ) (t : Terminal) → is_op s t ≡ Some n → t ≡ Op s
@@ -53,7 +53,7 @@ says_name_with {B} {Q} s (Ident a ∷ (t ∷ u)) hit x h g = go (is_op s t) refl
     self_op LPar h = absurd (cc)
     self_op _ h = absurd (cc)
 
-    go : (o : Option ℕ) → is_op s t ≡ o → Says Q (on_some o (λ _. hit a u) x)
+    go : (o : Option ℕ) → is_op s t ≡ o → Says Q (on_some o (λ _. hit a.form u) x)
     go (Some n) e = h a u (ap (λ z. Ident a ∷ (z ∷ u)) (op_same s n t e))
     go None e = g (λ b w q. self_op s (ap (is_op s) (sym (seconds a b t (Op s) u w q)) ∙ e))
 says_name_with s (Op y ∷ r) hit x h g = g (λ a u q. absurd (cc))
@@ -69,7 +69,7 @@ says_closed s r a h = says_op s r _ _ (λ _ r1 q. found (h r1 q)) (λ _. no_form
 abbrev pub Inv : Level → List Terminal → Expr → Type 0
 Inv Elem ts e = (G.Derives Named ts e) ⊎ ((us : List Terminal) × (ts ≡ Op Star ∷ us))
 Inv Part ts e = (G.Derives Slice ts e) ⊎ ((us : List Terminal) × (f : Expr) × (ts ≡ Op Star ∷ us) × (e ≡ Trees.Starred f Load) × G.Derives Expression us f)
-Inv Named ts e = (G.Derives Expression ts e) ⊎ ((x : List ℕ) × (us : List Terminal) × (ts ≡ Ident x ∷ (Op ColonEqual ∷ us)))
+Inv Named ts e = (G.Derives Expression ts e) ⊎ ((x : Spelled) × (us : List Terminal) × (ts ≡ Ident x ∷ (Op ColonEqual ∷ us)))
 Inv l ts e = Unit {0}
 
 next_inv : (l : Level) (ts : List Terminal) (e : Expr) → G.Derives (below l) ts e → Inv l ts e
@@ -116,7 +116,7 @@ no_star r s f q = bad (f (Op Star) s q)
 pub elem_named : (r ts r1 : List Terminal) (e : Expr) → r ≡ ts ++ r1 → NoStar r → G.Derives Elem ts e → G.Derives Named ts e
 elem_named r ts r1 e q f p = elim (inv p) [ inl d ↦ d | inr u ↦ absurd (no_star r (u.0 ++ r1) f (q ∙ ap (λ z. z ++ r1) u.1)) ]
 
-pub named_expression : (r ts r1 : List Terminal) (e : Expr) → r ≡ ts ++ r1 → ((a : List ℕ) (u : List Terminal) → r ≡ Ident a ∷ (Op ColonEqual ∷ u) → ⊥) → G.Derives Named ts e → G.Derives Expression ts e
+pub named_expression : (r ts r1 : List Terminal) (e : Expr) → r ≡ ts ++ r1 → ((a : Spelled) (u : List Terminal) → r ≡ Ident a ∷ (Op ColonEqual ∷ u) → ⊥) → G.Derives Named ts e → G.Derives Expression ts e
 named_expression r ts r1 e q f p = elim (inv p) [ inl d ↦ d | inr u ↦ absurd (f u.0 (u.1 ++ r1) (q ∙ ap (λ z. z ++ r1) u.2)) ]
 
 -- parts
@@ -130,7 +130,7 @@ abbrev pub PieceAt : Item → List Terminal → Entry → List Terminal → Type
 PieceAt j i a r = (ts : List Terminal) × (i ≡ ts ++ r) × G.Piece j ts a
 
 abbrev pub StarAt : Bool → List Terminal → OptionalExpr → List Terminal → Type 0
-StarAt b i a r = (ts : List Terminal) × (i ≡ ts ++ r) × ((x : List ℕ) → G.Piece (Parameter b) (Op Star ∷ (Ident x ∷ ts)) (Gathered (arg x a)))
+StarAt b i a r = (ts : List Terminal) × (i ≡ ts ++ r) × ((x : Spelled) → G.Piece (Parameter b) (Op Star ∷ (Ident x ∷ ts)) (Gathered (arg x.form a)))
 
 abbrev pub ListingAt : Item → List Entry → List Terminal → List Entry → List Terminal → Type 0
 ListingAt j acc i es r = (us : List Terminal) × (xs : List Entry) × (es ≡ acc ++ xs) × (i ≡ us ++ r) × G.Listing j us xs

@@ -13,7 +13,7 @@ use Rattle.pygrammar.specs.declared.levels.Level.{Level}
 use Rattle.pygrammar.specs.declared.levels.Level.TheVariants.{Value, Stars, Named, Expression}
 use Rattle.pynode.specs.Trees.{Expr, Exprs, no_exprs, an_expr, Arguments, Keywords, no_keyword, Identifier, Stmt, Alias, Item, TypeParam, TypeVar, ParamSpec, TypeVarTuple, Return, Delete, Assign, TypeAlias, AugAssign, AnnAssign, Raise, Assert, Import, ImportFrom, Global, Nonlocal, ExprOf, Pass, Break, Continue}
 use Rattle.pynode.specs.Trees as Trees
-use Rattle.pytoken.specs.Terminals.{Terminal, Op, Word, Ident}
+use Rattle.pytoken.specs.Terminals.{Terminal, Spelled, Op, Word, Ident}
 use Rattle.pygrammar.specs.Entries.{Argument, Parameter, Entry}
 use Rattle.pygrammar.specs.Arguments.{in_order, positional, keywords}
 use Rattle.pygrammar.specs.Parameters.{arranged}
@@ -45,7 +45,7 @@ pub data Behind : Terminal → Level → List Terminal → Option Expr → Type 
 -- ["as" NAME]
 pub data As : List Terminal → Option Identifier → Type 0 where
   no_as : As [] None
-  as_name : {x : Identifier} → As (Word Key.As ∷ (Ident x ∷ [])) (Some x)
+  as_name : {x : Spelled} → As (Word Key.As ∷ (Ident x ∷ [])) (Some x.form)
 
 -- ["async"]
 pub data Async : List Terminal → Bool → Type 0 where
@@ -53,7 +53,7 @@ pub data Async : List Terminal → Bool → Type 0 where
   async : Async (Word Key.Async ∷ []) true
 
 pub data Name : List Terminal → Identifier → Type 0 where
-  name : {x : Identifier} → Name (Ident x ∷ []) x
+  name : {x : Spelled} → Name (Ident x ∷ []) x.form
 
 -- ---- Parameters of types.
 
@@ -62,15 +62,18 @@ abbrev pub has_types : Profile → Bool
 has_types Py311 = false
 has_types Py312 = true
 
--- `type` is no keyword
+-- `type` is no keyword: a NAME that is spelled so
 abbrev pub type_name : Identifier
 type_name = codes "type"
 
+abbrev pub type_word : Identifier → Terminal
+type_word form = Ident (record { spelling = type_name; form = form })
+
 -- TypeParam = NAME [":" Expression] | "*" NAME | "**" NAME
 pub data TypeParamOf : List Terminal → TypeParam → Type 0 where
-  type_var : {x : Identifier} {ts : List Terminal} {bound : Option Expr} → Behind (Op Sign.Colon) Expression ts bound → TypeParamOf (Ident x ∷ ts) (TypeVar x bound)
-  type_var_tuple : {x : Identifier} → TypeParamOf (Op Sign.Star ∷ (Ident x ∷ [])) (TypeVarTuple x)
-  param_spec : {x : Identifier} → TypeParamOf (Op Sign.DoubleStar ∷ (Ident x ∷ [])) (ParamSpec x)
+  type_var : {x : Spelled} {ts : List Terminal} {bound : Option Expr} → Behind (Op Sign.Colon) Expression ts bound → TypeParamOf (Ident x ∷ ts) (TypeVar x.form bound)
+  type_var_tuple : {x : Spelled} → TypeParamOf (Op Sign.Star ∷ (Ident x ∷ [])) (TypeVarTuple x.form)
+  param_spec : {x : Spelled} → TypeParamOf (Op Sign.DoubleStar ∷ (Ident x ∷ [])) (ParamSpec x.form)
 
 -- ["[" TypeParam,.. [,] "]"]
 pub data TypeParams (profile : Profile) : List Terminal → List TypeParam → Type 0 where
@@ -82,8 +85,8 @@ pub data TypeParams (profile : Profile) : List Terminal → List TypeParam → T
 
 -- Dotted = NAME ("." NAME)*
 pub data Dotted : List Terminal → Identifier → Type 0 where
-  one_name : {x : Identifier} → Dotted (Ident x ∷ []) x
-  dot_name : {x y : Identifier} {ts : List Terminal} → Dotted ts y → Dotted (Ident x ∷ (Op Sign.Dot ∷ ts)) (x ++ (46 ∷ y))
+  one_name : {x : Spelled} → Dotted (Ident x ∷ []) x.form
+  dot_name : {x : Spelled} {y : Identifier} {ts : List Terminal} → Dotted ts y → Dotted (Ident x ∷ (Op Sign.Dot ∷ ts)) (x.form ++ (46 ∷ y))
 
 abbrev pub alias : Identifier → Option Identifier → Alias
 alias x a = record { name = x; asname = a }
@@ -94,7 +97,7 @@ pub data DottedAlias : List Terminal → Alias → Type 0 where
 
 -- NAME ["as" NAME]
 pub data NameAlias : List Terminal → Alias → Type 0 where
-  name_as : {us : List Terminal} {x : Identifier} {a : Option Identifier} → As us a → NameAlias (Ident x ∷ us) (alias x a)
+  name_as : {us : List Terminal} {x : Spelled} {a : Option Identifier} → As us a → NameAlias (Ident x ∷ us) (alias x.form a)
 
 -- ("." | "...")*, with the level that they make
 pub data Dots : List Terminal → ℕ → Type 0 where
@@ -146,9 +149,9 @@ pub data Simple (profile : Profile) : List Terminal → Stmt → Type 0 where
   augmented_assign : {ts us : List Terminal} (x : Exact) {o : Operator} {t e : Expr} →
       SingleTarget ts t → augmented x ≡ Some o → Derives Value us e → Simple profile (ts ++ (Op x ∷ us)) (AugAssign t o e)
   -- NAME ":" Expression ["=" Value]
-  annotated_name : {x : Identifier} {ts us : List Terminal} {a : Expr} {v : Option Expr} →
+  annotated_name : {x : Spelled} {ts us : List Terminal} {a : Expr} {v : Option Expr} →
       Derives Expression ts a → Behind (Op Sign.Equal) Value us v →
-      Simple profile (Ident x ∷ (Op Sign.Colon ∷ (ts ++ us))) (AnnAssign (Trees.Name x Store) a v true)
+      Simple profile (Ident x ∷ (Op Sign.Colon ∷ (ts ++ us))) (AnnAssign (Trees.Name x.form Store) a v true)
   -- "(" SingleTarget ")" ":" Expression ["=" Value]
   annotated_group : {ts us vs : List Terminal} {t a : Expr} {v : Option Expr} →
       SingleTarget ts t → Derives Expression us a → Behind (Op Sign.Equal) Value vs v →
@@ -158,9 +161,9 @@ pub data Simple (profile : Profile) : List Terminal → Stmt → Type 0 where
       SingleTarget ts t → is_name t ≡ false → Derives Expression us a → Behind (Op Sign.Equal) Value vs v →
       Simple profile (ts ++ (Op Sign.Colon ∷ (us ++ vs))) (AnnAssign t a v false)
   -- "type" NAME [TypeParams] "=" Expression
-  type_alias : {x : Identifier} {ts us : List Terminal} {ps : List TypeParam} {e : Expr} →
+  type_alias : {form : Identifier} {x : Spelled} {ts us : List Terminal} {ps : List TypeParam} {e : Expr} →
       has_types profile ≡ true → TypeParams profile ts ps → Derives Expression us e →
-      Simple profile (Ident type_name ∷ (Ident x ∷ (ts ++ (Op Sign.Equal ∷ us)))) (TypeAlias (Trees.Name x Store) ps e)
+      Simple profile (type_word form ∷ (Ident x ∷ (ts ++ (Op Sign.Equal ∷ us)))) (TypeAlias (Trees.Name x.form Store) ps e)
   -- "return" [Stars]
   return_of : {ts : List Terminal} {e : Option Expr} → Perhaps Stars ts e → Simple profile (Word Key.Return ∷ ts) (Return e)
   -- "raise" [Expression ["from" Expression]], without them
@@ -254,12 +257,12 @@ pub data HeaderOf (profile : Profile) : List Terminal → Header → Type 0 wher
   except_star : {ts us : List Terminal} {e : Expr} {x : Option Identifier} → Derives Expression ts e → As us x →
       HeaderOf profile (Word Key.Except ∷ (Op Sign.Star ∷ (ts ++ us))) (except_header true (Some e) x)
   -- ["async"] "def" NAME [TypeParams] "(" [Params] ")" ["->" Expression]
-  def_line : {ts us vs ws : List Terminal} {b : Bool} (x : Identifier) {tps : List TypeParam} {ps : List Entry} {a : Arguments} {r : Option Expr} →
+  def_line : {ts us vs ws : List Terminal} {b : Bool} (x : Spelled) {tps : List TypeParam} {ps : List Entry} {a : Arguments} {r : Option Expr} →
       Async ts b → TypeParams profile us tps → Listing (Parameter true) vs ps → arranged ps ≡ Some a → Behind (Op Sign.RArrow) Expression ws r →
-      HeaderOf profile (ts ++ (Word Key.Def ∷ (Ident x ∷ (us ++ (Op Sign.LPar ∷ (vs ++ (Op Sign.RPar ∷ ws))))))) (def_header (function_head b x tps a r))
+      HeaderOf profile (ts ++ (Word Key.Def ∷ (Ident x ∷ (us ++ (Op Sign.LPar ∷ (vs ++ (Op Sign.RPar ∷ ws))))))) (def_header (function_head b x.form tps a r))
   -- "class" NAME [TypeParams] ["(" [Args] ")"]
-  class_line : {x : Identifier} {ts us : List Terminal} {tps : List TypeParam} {es : List Expr} {ks : Keywords} →
-      TypeParams profile ts tps → Bases us es ks → HeaderOf profile (Word Key.Class ∷ (Ident x ∷ (ts ++ us))) (def_header (class_head x tps es ks))
+  class_line : {x : Spelled} {ts us : List Terminal} {tps : List TypeParam} {es : List Expr} {ks : Keywords} →
+      TypeParams profile ts tps → Bases us es ks → HeaderOf profile (Word Key.Class ∷ (Ident x ∷ (ts ++ us))) (def_header (class_head x.form tps es ks))
 
 -- ---- Lines.
 

@@ -15,7 +15,7 @@ use Rattle.pygrammar.specs.declared.levels.Level.TheVariants.{Value, Stars, Star
 use Rattle.pynode.specs.Trees
 use Rattle.pynode.specs.Trees.{Expr, no_exprs, an_expr, OptionalExpr, absent, present, arg, Arguments, Identifier, exprs, Comprehension, comprehensions}
 use Rattle.pynode.specs.Values
-use Rattle.pytoken.specs.Terminals.{Terminal, Op, Word, Ident, Whole, Literal}
+use Rattle.pytoken.specs.Terminals.{Terminal, Spelled, Op, Word, Ident, Whole, Literal}
 use Rattle.pygrammar.specs.Operators.{below, left_operator, prefix_operator, chain_level, chain_word, comparison}
 use Rattle.pygrammar.specs.Constants.{constant_word, joined}
 use Rattle.pygrammar.specs.Entries.{Item, Of, Pair, Argument, Parameter, Entry, Single, Paired, Spread, Doubled, Keyed, Plain, Slashed, Bare, Gathered, Collected, singles, keys, values}
@@ -46,9 +46,9 @@ mutual
         → Derives BitOr ts e
         → Derives StarItem (Op Star ∷ ts) (Trees.Starred e Load)
     -- Named = NAME ":=" Expression
-    named : {x : Identifier} {ts : List Terminal} {e : Expr}
+    named : {x : Spelled} {ts : List Terminal} {e : Expr}
         → Derives Expression ts e
-        → Derives Named (Ident x ∷ (Op ColonEqual ∷ ts)) (Trees.NamedExpr (Trees.Name x Store) e)
+        → Derives Named (Ident x ∷ (Op ColonEqual ∷ ts)) (Trees.NamedExpr (Trees.Name x.form Store) e)
     -- Expression = "lambda" [Params] ":" Expression
     lambda : {ts us : List Terminal} {ps : List Entry} {a : Arguments} {e : Expr}
         → Listing (Parameter false) ts ps → arranged ps ≡ Some a → Derives Expression us e
@@ -81,9 +81,9 @@ mutual
     -- Await = "await" Primary
     await : {ts : List Terminal} {e : Expr} → Derives Primary ts e → Derives Await (Word Key.Await ∷ ts) (Trees.Await e)
     -- Primary = Primary "." NAME
-    attribute : {ts : List Terminal} {e : Expr} {x : Identifier}
+    attribute : {ts : List Terminal} {e : Expr} (x : Spelled)
         → Derives Primary ts e
-        → Derives Primary (ts ++ (Op Dot ∷ (Ident x ∷ []))) (Trees.Attribute e x Load)
+        → Derives Primary (ts ++ (Op Dot ∷ (Ident x ∷ []))) (Trees.Attribute e x.form Load)
     -- Primary = Primary "(" [Args] ")"
     call : {ts us : List Terminal} {f e : Expr} {es : List Entry}
         → Derives Primary ts f → Listing Argument us es → called f es ≡ Some e
@@ -97,7 +97,7 @@ mutual
         → Derives Primary ts e → Derives Slices us s
         → Derives Primary (ts ++ (Op LSqb ∷ (us ++ (Op RSqb ∷ [])))) (Trees.Subscript e s Load)
     -- Atom = NAME
-    name : {x : Identifier} → Derives Atom (Ident x ∷ []) (Trees.Name x Load)
+    name : {x : Spelled} → Derives Atom (Ident x ∷ []) (Trees.Name x.form Load)
     -- Atom = "None" | "True" | "False" | "..."
     constant : {t : Terminal} {v : Values.Value} → constant_word t ≡ Some v → Derives Atom (t ∷ []) (Trees.Constant v)
     -- Atom = NUMBER
@@ -230,33 +230,33 @@ mutual
     -- Args: "*" Expression
     star_argument : {ts : List Terminal} {e : Expr} → Derives Expression ts e → Piece Argument (Op Star ∷ ts) (Spread e)
     -- Args: NAME "=" Expression
-    keyword_argument : {x : Identifier} {ts : List Terminal} {e : Expr}
+    keyword_argument : {x : Spelled} {ts : List Terminal} {e : Expr}
         → Derives Expression ts e
-        → Piece Argument (Ident x ∷ (Op Equal ∷ ts)) (Keyed x e)
+        → Piece Argument (Ident x ∷ (Op Equal ∷ ts)) (Keyed x.form e)
     -- Args: "**" Expression
     double_argument : {ts : List Terminal} {e : Expr}
         → Derives Expression ts e
         → Piece Argument (Op DoubleStar ∷ ts) (Doubled e)
     -- Params: NAME [":" Expression] ["=" Expression]; in a lambda there are no annotations
-    parameter : {b : Bool} {x : Identifier} {ts us : List Terminal} {a d : OptionalExpr}
+    parameter : {b : Bool} {x : Spelled} {ts us : List Terminal} {a d : OptionalExpr}
         → Suffix (cond b (Some Colon) None) ts a → Suffix (Some Equal) us d
-        → Piece (Parameter b) (Ident x ∷ (ts ++ us)) (Plain (arg x a) d)
+        → Piece (Parameter b) (Ident x ∷ (ts ++ us)) (Plain (arg x.form a) d)
     -- Params: "/"
     slash : {b : Bool} → Piece (Parameter b) (Op Slash ∷ []) Slashed
     -- Params: "*"
     bare_star : {b : Bool} → Piece (Parameter b) (Op Star ∷ []) Bare
     -- Params: "*" NAME [":" Expression]
-    star_parameter : {b : Bool} {x : Identifier} {ts : List Terminal} {a : OptionalExpr}
+    star_parameter : {b : Bool} {x : Spelled} {ts : List Terminal} {a : OptionalExpr}
         → Suffix (cond b (Some Colon) None) ts a
-        → Piece (Parameter b) (Op Star ∷ (Ident x ∷ ts)) (Gathered (arg x a))
+        → Piece (Parameter b) (Op Star ∷ (Ident x ∷ ts)) (Gathered (arg x.form a))
     -- Params: "*" NAME ":" "*" BitOr
-    star_annotation : {x : Identifier} {ts : List Terminal} {e : Expr}
+    star_annotation : {x : Spelled} {ts : List Terminal} {e : Expr}
         → Derives BitOr ts e
-        → Piece (Parameter true) (Op Star ∷ (Ident x ∷ (Op Colon ∷ (Op Star ∷ ts)))) (Gathered (arg x (present (Trees.Starred e Load))))
+        → Piece (Parameter true) (Op Star ∷ (Ident x ∷ (Op Colon ∷ (Op Star ∷ ts)))) (Gathered (arg x.form (present (Trees.Starred e Load))))
     -- Params: "**" NAME [":" Expression]
-    double_parameter : {b : Bool} {x : Identifier} {ts : List Terminal} {a : OptionalExpr}
+    double_parameter : {b : Bool} {x : Spelled} {ts : List Terminal} {a : OptionalExpr}
         → Suffix (cond b (Some Colon) None) ts a
-        → Piece (Parameter b) (Op DoubleStar ∷ (Ident x ∷ ts)) (Collected (arg x a))
+        → Piece (Parameter b) (Op DoubleStar ∷ (Ident x ∷ ts)) (Collected (arg x.form a))
 
   -- Comp+
   pub data Comps : List Terminal → List Comprehension → Type 0 where

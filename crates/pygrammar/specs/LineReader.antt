@@ -45,7 +45,7 @@ starts_name r = false
 
 -- the word `type`, which is no keyword
 abbrev pub is_type : Terminal → Option ℕ
-is_type (Ident x) = cond (bytes_eq x type_name) (Some 0) None
+is_type (Ident x) = cond (bytes_eq x.spelling type_name) (Some 0) None
 is_type t = None
 
 -- `type` and a NAME, in a version that has types: no expression begins so

@@ -101,5 +101,5 @@ is_word x (Word y) = cond (keyword_number y == keyword_number x) (Some 0) None
 is_word x _ = None
 
 abbrev pub name_in : Terminal → Option (List ℕ)
-name_in (Ident x) = Some x
+name_in (Ident x) = Some x.form
 name_in _ = None

@@ -214,7 +214,7 @@ module _ (self : Reads) where
 
   abbrev pub atom : List Terminal → Answer Expr
   atom [] = NoForm
-  atom (Ident x ∷ r) = Found (Trees.Name x Load) r
+  atom (Ident x ∷ r) = Found (Trees.Name x.form Load) r
   atom (Whole n ∷ r) = Found (Trees.Constant (Values.Int n)) r
   atom (Literal v ∷ r) = and_then (string_run [] r) (λ vs r1. made (constant_of (joined v vs)) r1)
   atom (Op LPar ∷ r) = round r

@@ -17,8 +17,8 @@ use Rattle.pygrammar.specs.Forms.{has_types, type_name}
 use Rattle.pygrammar.specs.Blocks.{handler, Block, Statement, Body, Otherwise, Excepts, Ending, Decorators, nothing, and_then, simple_line, if_statement, loop_statement, with_statement, try_finally, try_except, definition_of, indented, an_else, no_else, else_clause, no_except, except_clause, no_finally, finally_clause, no_decorator, decorator}
 use Rattle.pyslots.specs.Slots.{is_a_name, is_single, fits_at, fits_target, each_target_fits, each_fits, perhaps_fits, each_keyword_fits, fits_arguments}
 use Rattle.pyslots.specs.Statements.{has_one, has_stmt, source_fits, imports_fit, item_fits, type_param_fits, import_fits, types_fit, caught_fits, clauses_fit, statement_fits, statements_fit, suite_fits, handlers_fit}
-use Rattle.pyslots.specs.Given.{Given, AreGiven, no_line, a_line}
-use Rattle.pyslots.proofs.Tests.{parts3, parts4, pass_on, never}
+use Rattle.pyslots.proofs.AsSpelled.{GivenAsSpelled, AreGivenAsSpelled, none_spelled, one_spelled, pass_on}
+use Rattle.pyslots.proofs.Tests.{parts3, parts4, never}
 use Rattle.pyslots.proofs.Places as P
 use Rattle.pyslots.proofs.Gives.{made}
 use Rattle.pyslots.proofs.BlockFits.{some_before}
@@ -56,40 +56,40 @@ handlers_back no_handler = refl
 handlers_back (a_handler class name body hs) = (λ i. a_handler class name (stmts_back body i) (handlers_back hs i))
 
 module _ (p : Profile) (n : Identifier → Bool) (typed : n type_name ≡ true) where
-  given_on : {xs ys : List Line} → AreGiven p n xs → AreGiven p n ys → AreGiven p n (xs ++ ys)
-  given_on no_line s = s
-  given_on (a_line g r) s = a_line g (given_on r s)
+  given_on : {xs ys : List Line} → AreGivenAsSpelled p n xs → AreGivenAsSpelled p n ys → AreGivenAsSpelled p n (xs ++ ys)
+  given_on none_spelled s = s
+  given_on (one_spelled g r) s = one_spelled g (given_on r s)
 
   -- a header without an inline suite
-  headed : (l : ℕ) (h : Header) {xs : List Line} → Given n (F.HeaderOf p) h → AreGiven p n xs → AreGiven p n (line l (header_form h None) ∷ xs)
-  headed l h w r = a_line (w.0 ++ (Op Sign.Colon ∷ []), pass_on n w.0 (Op Sign.Colon ∷ []) w.1 refl, F.header_line w.2) r
+  headed : (l : ℕ) (h : Header) {xs : List Line} → GivenAsSpelled n (F.HeaderOf p) h → AreGivenAsSpelled p n xs → AreGivenAsSpelled p n (line l (header_form h None) ∷ xs)
+  headed l h w r = one_spelled (w.0 ++ (Op Sign.Colon ∷ []), pass_on n w.0 (Op Sign.Colon ∷ []) w.1 refl, F.header_line w.2) r
 
-  else_given : Given n (F.HeaderOf p) else_header
+  else_given : GivenAsSpelled n (F.HeaderOf p) else_header
   else_given = (Word Key.Else ∷ [], refl, F.else_line)
 
-  try_given : Given n (F.HeaderOf p) try_header
+  try_given : GivenAsSpelled n (F.HeaderOf p) try_header
   try_given = (Word Key.Try ∷ [], refl, F.try_line)
 
-  finally_given : Given n (F.HeaderOf p) finally_header
+  finally_given : GivenAsSpelled n (F.HeaderOf p) finally_header
   finally_given = (Word Key.Finally ∷ [], refl, F.finally_line)
 
   -- a statement as lines of a level
   record Drawn (l : ℕ) (s : Stmt) : Type 0 where
     lines : List Line
     some : has_one lines ≡ true
-    given : AreGiven p n lines
+    given : AreGivenAsSpelled p n lines
     is : Statement l lines (s ∷ [])
 
   -- statements as such
   pub record DrawnAll (l : ℕ) (ss : Stmts) : Type 0 where
     pub lines : List Line
     pub some : has_stmt ss ≡ true → has_one lines ≡ true
-    pub given : AreGiven p n lines
+    pub given : AreGivenAsSpelled p n lines
     pub is : Block l lines (of_stmts ss)
 
   record Caught (l : ℕ) (star : Bool) (hs : Handlers) : Type 0 where
     lines : List Line
-    given : AreGiven p n lines
+    given : AreGivenAsSpelled p n lines
     is : Excepts l star lines (of_handlers hs)
 
   -- the block of a header
@@ -101,26 +101,26 @@ module _ (p : Profile) (n : Identifier → Bool) (typed : n type_name ≡ true) 
   body_of h d = indented_lines d.lines (d.some h) d.is
 
   -- a line of one simple statement
-  simply : (l : ℕ) (s : Stmt) → Given n (F.Simple p) s → Drawn l s
-  simply l s w = record { lines = line l (simple_form (s ∷ [])) ∷ []; some = refl; given = a_line (w.0, w.1, F.simple_statements (F.last_simple w.2)) no_line; is = simple_line }
+  simply : (l : ℕ) (s : Stmt) → GivenAsSpelled n (F.Simple p) s → Drawn l s
+  simply l s w = record { lines = line l (simple_form (s ∷ [])) ∷ []; some = refl; given = one_spelled (w.0, w.1, F.simple_statements (F.last_simple w.2)) none_spelled; is = simple_line }
 
   -- what may stand behind a block
   record Behind (l : ℕ) (ss : Stmts) : Type 0 where
     lines : List Line
-    given : AreGiven p n lines
+    given : AreGivenAsSpelled p n lines
     is : Otherwise l lines (of_stmts ss)
 
   otherwise : (l : ℕ) (ss : Stmts) → DrawnAll (suc l) ss → Behind l ss
-  otherwise l no_stmt d = record { lines = []; given = no_line; is = no_else }
+  otherwise l no_stmt d = record { lines = []; given = none_spelled; is = no_else }
   otherwise l (a_stmt s ss) d = record { lines = line l (header_form else_header None) ∷ d.lines; given = headed l else_header else_given d.given; is = else_clause (body_of refl d) }
 
   record Last (l : ℕ) (ss : Stmts) : Type 0 where
     lines : List Line
-    given : AreGiven p n lines
+    given : AreGivenAsSpelled p n lines
     is : Ending l lines (of_stmts ss)
 
   ending : (l : ℕ) (ss : Stmts) → DrawnAll (suc l) ss → Last l ss
-  ending l no_stmt d = record { lines = []; given = no_line; is = no_finally }
+  ending l no_stmt d = record { lines = []; given = none_spelled; is = no_finally }
   ending l (a_stmt s ss) d = record { lines = line l (header_form finally_header None) ∷ d.lines; given = headed l finally_header finally_given d.given; is = finally_clause (body_of refl d) }
 
   -- ---- The classes with blocks.
@@ -148,7 +148,7 @@ module _ (p : Profile) (n : Identifier → Bool) (typed : n type_name ≡ true) 
   looped_is (for_head false target iter) body orelse = (λ i. Trees.For target iter (stmts_back body i) (stmts_back orelse i))
   looped_is (for_head true target iter) body orelse = (λ i. Trees.AsyncFor target iter (stmts_back body i) (stmts_back orelse i))
 
-  loop_drawn : (l : ℕ) (head : LoopHead) (body orelse : Stmts) → Given n (F.HeaderOf p) (loop_header head) → has_stmt body ≡ true → DrawnAll (suc l) body → DrawnAll (suc l) orelse → Drawn l (looped head body orelse)
+  loop_drawn : (l : ℕ) (head : LoopHead) (body orelse : Stmts) → GivenAsSpelled n (F.HeaderOf p) (loop_header head) → has_stmt body ≡ true → DrawnAll (suc l) body → DrawnAll (suc l) orelse → Drawn l (looped head body orelse)
   loop_drawn l head body orelse h f b d =
       let o = otherwise l orelse d in
       let xs = line l (header_form (loop_header head) None) ∷ (b.lines ++ o.lines) in
@@ -221,16 +221,16 @@ module _ (p : Profile) (n : Identifier → Bool) (typed : n type_name ≡ true) 
 
   record Decorated (l : ℕ) (es : List Expr) : Type 0 where
     lines : List Line
-    given : AreGiven p n lines
+    given : AreGivenAsSpelled p n lines
     is : Decorators l lines es
 
   decorated : (l : ℕ) (es : List Expr) → each_fits n Expression (exprs es) ≡ true → Decorated l es
-  decorated l [] h = record { lines = []; given = no_line; is = no_decorator }
+  decorated l [] h = record { lines = []; given = none_spelled; is = no_decorator }
   decorated l (e ∷ es) h =
       let w = and_parts (fits_at n Expression e) (each_fits n Expression (exprs es)) h in
       let d = decorated l es w.1 in
       let u = P.at n Named (made n Expression e w.0) in
-      record { lines = line l (decorator_form e) ∷ d.lines; given = a_line (Op Sign.At ∷ u.0, u.1, F.decorator_line u.2) d.given; is = decorator d.is }
+      record { lines = line l (decorator_form e) ∷ d.lines; given = one_spelled (Op Sign.At ∷ u.0, u.1, F.decorator_line u.2) d.given; is = decorator d.is }
 
   abbrev defined : List Expr → DefHead → Stmts → Stmt
   defined es (function_head false name parameters args returns) body = Trees.FunctionDef name args body es returns parameters
@@ -246,7 +246,7 @@ module _ (p : Profile) (n : Identifier → Bool) (typed : n type_name ≡ true) 
   some_behind [] y ys = refl
   some_behind (x ∷ xs) y ys = refl
 
-  definition_drawn : (l : ℕ) (es : List Expr) (head : DefHead) (body : Stmts) → each_fits n Expression (exprs es) ≡ true → Given n (F.HeaderOf p) (def_header head) → has_stmt body ≡ true → DrawnAll (suc l) body → Drawn l (defined es head body)
+  definition_drawn : (l : ℕ) (es : List Expr) (head : DefHead) (body : Stmts) → each_fits n Expression (exprs es) ≡ true → GivenAsSpelled n (F.HeaderOf p) (def_header head) → has_stmt body ≡ true → DrawnAll (suc l) body → Drawn l (defined es head body)
   definition_drawn l es head body h g f b =
       let d = decorated l es h in
       let xs = d.lines ++ (line l (header_form (def_header head) None) ∷ b.lines) in
@@ -333,7 +333,7 @@ module _ (p : Profile) (n : Identifier → Bool) (typed : n type_name ≡ true) 
     drawn l Trees.Continue h = simply l Trees.Continue (Word Key.Continue ∷ [], refl, F.continue)
 
     pub drawn_all : (l : ℕ) (ss : Stmts) → statements_fit p n ss ≡ true → DrawnAll l ss
-    drawn_all l no_stmt h = record { lines = []; some = λ q. q; given = no_line; is = nothing }
+    drawn_all l no_stmt h = record { lines = []; some = λ q. q; given = none_spelled; is = nothing }
     drawn_all l (a_stmt s ss) h =
         let w = and_parts (statement_fits p n s) (statements_fit p n ss) h in
         let d = drawn l s w.0 in
@@ -341,7 +341,7 @@ module _ (p : Profile) (n : Identifier → Bool) (typed : n type_name ≡ true) 
         record { lines = d.lines ++ r.lines; some = λ q. some_before d.lines r.lines d.some; given = given_on d.given r.given; is = and_then d.is r.is }
 
     caught : (l : ℕ) (star : Bool) (hs : Handlers) → handlers_fit p n star hs ≡ true → Caught l star hs
-    caught l star no_handler h = record { lines = []; given = no_line; is = no_except }
+    caught l star no_handler h = record { lines = []; given = none_spelled; is = no_except }
     caught l star (a_handler class name body hs) h =
         let w = parts3 (caught_fits n star class name) (suite_fits p n body) (handlers_fit p n star hs) h in
         let u = suite_parts body w.1 in

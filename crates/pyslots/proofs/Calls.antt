@@ -6,7 +6,7 @@ use Rattle.pytoken.specs.declared.keywords.Keyword.TheVariants as Key
 use Rattle.pynode.specs.declared.operators.Context.TheVariants.{Load, Store}
 use Rattle.pynode.specs.Trees
 use Rattle.pynode.specs.Trees.{Identifier, Expr, Exprs, no_exprs, an_expr, OptionalExprs, no_optional, an_optional, absent, present, Keywords, no_keyword, a_keyword, Comprehensions, no_comprehension, a_comprehension, exprs, Comprehension, comprehensions}
-use Rattle.pytoken.specs.Terminals.{Terminal, Op, Word, Ident}
+use Rattle.pytoken.specs.Terminals.{Terminal, Op, Word, in_form}
 use Rattle.pygrammar.specs.declared.levels.Level.{Level}
 use Rattle.pygrammar.specs.declared.levels.Level.TheVariants.{Stars, Named, Expression, Or, BitOr, Primary, Atom, Elem, Slices}
 use Rattle.pygrammar.specs.Entries.{Pair, Argument, Entry, Single, Paired, Spread, Doubled, Keyed, keys, values}
@@ -14,8 +14,8 @@ use Rattle.pygrammar.specs.Arguments.{called, in_order, positional, keywords}
 use Rattle.pygrammar.specs.Targets.{mapped, stored, all_stored}
 use Rattle.pygrammar.specs.Grammar as G
 use Rattle.pyslots.specs.Slots.{takes_star, is_starred, count, count_optional, has_some, perhaps_name}
-use Rattle.pyslots.specs.Given.{all_pass, Given}
-use Rattle.pyslots.proofs.Tests.{pass_on, never, not_true}
+use Rattle.pyslots.proofs.AsSpelled.{all_as_spelled, GivenAsSpelled, pass_on}
+use Rattle.pyslots.proofs.Tests.{never, not_true}
 use Rattle.pyslots.proofs.Places as P
 use Rattle.pyslots.proofs.Places.{Each, no_more, one_more, lifted, anywhere_at, at, starred_at, named_pass}
 use Rattle.pyslots.proofs.Making.{Pieces, no_piece, a_piece, listing, name_given, attribute_given, subscript_given, tuple_given, list_given}
@@ -59,7 +59,7 @@ module _ (n : Identifier → Bool) where
       let w = words r in
       record {
         list = Keyed x e ∷ w.list;
-        pieces = a_piece (Ident x ∷ (Op Equal ∷ f.0), named_pass n x (Op Equal ∷ f.0) h f.1, G.keyword_argument f.2) w.pieces;
+        pieces = a_piece (in_form x ∷ (Op Equal ∷ f.0), named_pass n x (Op Equal ∷ f.0) h f.1, G.keyword_argument f.2) w.pieces;
         order = by w.list w.order;
         positional_are = w.positional_are;
         keywords_are = ap (a_keyword (Some x) e) w.keywords_are;
@@ -201,7 +201,7 @@ pub data Clauses (n : Identifier → Bool) : Comprehensions → Type 0 where
 record Conditions (n : Identifier → Bool) (es : Exprs) : Type 0 where
   list : List Expr
   is : exprs list ≡ es
-  ifs : Given n G.Ifs list
+  ifs : GivenAsSpelled n G.Ifs list
 
 abbrev clause : Expr → Expr → List Expr → Bool → Comprehension
 clause t e cs b = record { target = t; iter = e; ifs = cs; is_async = b }
@@ -209,7 +209,7 @@ clause t e cs b = record { target = t; iter = e; ifs = cs; is_async = b }
 record Claused (n : Identifier → Bool) (gs : Comprehensions) : Type 0 where
   list : List Comprehension
   is : comprehensions list ≡ gs
-  comps : Given n G.Comps list
+  comps : GivenAsSpelled n G.Comps list
 
 module _ (n : Identifier → Bool) where
   conditions : {es : Exprs} → Each n Expression es → Conditions n es
@@ -219,14 +219,14 @@ module _ (n : Identifier → Bool) where
       let w = conditions r in
       record { list = e ∷ w.list; is = ap (an_expr e) w.is; ifs = (Word Key.If ∷ (u.0 ++ w.ifs.0), pass_on n u.0 w.ifs.0 u.1 w.ifs.1, G.if_one u.2 w.ifs.2) }
 
-  for_clause : (t e : Expr) {cs : List Expr} (b : Bool) → Aim n t → P.At n Expression e → Given n G.Ifs cs → Given n G.Comp (clause t e cs b)
+  for_clause : (t e : Expr) {cs : List Expr} (b : Bool) → Aim n t → P.At n Expression e → GivenAsSpelled n G.Ifs cs → GivenAsSpelled n G.Comp (clause t e cs b)
   for_clause t e b a f c =
       let u = a.given Stars refl in
       let v = at n Or f in
       let ts = u.0 ++ (Word Key.In ∷ (v.0 ++ c.0)) in
       by b ts (pass_on n u.0 (Word Key.In ∷ (v.0 ++ c.0)) u.1 (pass_on n v.0 c.0 v.1 c.1)) (G.target_in {b = b} u.2 a.is v.2 c.2)
     where
-      by : {cs : List Expr} (b : Bool) (ts : List Terminal) → all_pass n ts ≡ true → G.ForIn b ts (clause t e cs b) → Given n G.Comp (clause t e cs b)
+      by : {cs : List Expr} (b : Bool) (ts : List Terminal) → all_as_spelled n ts ≡ true → G.ForIn b ts (clause t e cs b) → GivenAsSpelled n G.Comp (clause t e cs b)
       by true ts h p = (Word Key.Async ∷ (Word Key.For ∷ ts), h, G.async_for_in p)
       by false ts h p = (Word Key.For ∷ ts, h, G.for_in p)
 

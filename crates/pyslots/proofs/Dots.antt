@@ -5,10 +5,11 @@ use Rattle.std.specs.List.{list_all}
 use Rattle.std.proofs.lemmas.Bool.{and_parts, and_from, eqb-true, not-true}
 use Rattle.pylexeme.specs.declared.kinds.Exact.TheVariants.{Dot}
 use Rattle.pynode.specs.Trees.{Identifier}
-use Rattle.pytoken.specs.Terminals.{Terminal, Op, Ident}
+use Rattle.pytoken.specs.Terminals.{Terminal, Op, in_form}
 use Rattle.pygrammar.specs.Forms as F
 use Rattle.pyslots.specs.Statements.{has_one, lengthen, parts, dotted}
-use Rattle.pyslots.specs.Given.{all_pass, Given}
+use Rattle.pyslots.specs.Given.{all_pass}
+use Rattle.pyslots.proofs.AsSpelled.{GivenAsSpelled}
 use Rattle.pyslots.proofs.Places.{named_pass}
 
 -- a character that is no dot
@@ -66,25 +67,25 @@ parts_join (c ∷ cs) = by (c == 46) (eqb-true c 46) (parts_join cs)
     by false h e = lengthened c (parts cs) (some_part cs) ∙ ap (λ z. c ∷ z) e
 
 module _ (n : Identifier → Bool) where
-  joined_given : (x : Identifier) (xs : List Identifier) → list_all n (x ∷ xs) ≡ true → Given n F.Dotted (with_dots (x ∷ xs))
-  joined_given x [] h = let w = and_parts (n x) true h in (Ident x ∷ [], named_pass n x [] w.0 refl, F.one_name)
+  joined_given : (x : Identifier) (xs : List Identifier) → list_all n (x ∷ xs) ≡ true → GivenAsSpelled n F.Dotted (with_dots (x ∷ xs))
+  joined_given x [] h = let w = and_parts (n x) true h in (in_form x ∷ [], named_pass n x [] w.0 refl, F.one_name)
   joined_given x (y ∷ ys) h =
       let w = and_parts (n x) (list_all n (y ∷ ys)) h in
       let u = joined_given y ys w.1 in
-      (Ident x ∷ (Op Dot ∷ u.0), named_pass n x (Op Dot ∷ u.0) w.0 u.1, F.dot_name u.2)
+      (in_form x ∷ (Op Dot ∷ u.0), named_pass n x (Op Dot ∷ u.0) w.0 u.1, F.dot_name u.2)
 
-  some_joined : (xs : List Identifier) → has_one xs ≡ true → list_all n xs ≡ true → Given n F.Dotted (with_dots xs)
+  some_joined : (xs : List Identifier) → has_one xs ≡ true → list_all n xs ≡ true → GivenAsSpelled n F.Dotted (with_dots xs)
   some_joined [] h q = absurd (cc)
   some_joined (x ∷ xs) h q = joined_given x xs q
 
-  pub dotted_given : (x : Identifier) → dotted n x ≡ true → Given n F.Dotted x
-  dotted_given x h = subst (Given n F.Dotted) (parts_join x) (some_joined (parts x) (some_part x) h)
+  pub dotted_given : (x : Identifier) → dotted n x ≡ true → GivenAsSpelled n F.Dotted x
+  dotted_given x h = subst (GivenAsSpelled n F.Dotted) (parts_join x) (some_joined (parts x) (some_part x) h)
 
   -- where no name that passes holds a dot
   pub dotted_fits : ((x : Identifier) → n x ≡ true → list_all is_other x ≡ true) → {ts : List Terminal} {x : Identifier} → F.Dotted ts x → all_pass n ts ≡ true → dotted n x ≡ true
   dotted_fits f (F.one_name {x = x}) s =
-      let w = and_parts (n x) true s in
-      subst (λ z. list_all n z ≡ true) (sym (one_part x (f x w.0))) (and_from (n x) true w.0 refl)
+      let w = and_parts (n x.form) true s in
+      subst (λ z. list_all n z ≡ true) (sym (one_part x.form (f x.form w.0))) (and_from (n x.form) true w.0 refl)
   dotted_fits f (F.dot_name {x = x} {y = y} {ts = ts} d) s =
-      let w = and_parts (n x) (all_pass n ts) s in
-      subst (λ z. list_all n z ≡ true) (sym (part_before_dot x y (f x w.0))) (and_from (n x) (dotted n y) w.0 (dotted_fits f d w.1))
+      let w = and_parts (n x.form) (all_pass n ts) s in
+      subst (λ z. list_all n z ≡ true) (sym (part_before_dot x.form y (f x.form w.0))) (and_from (n x.form) (dotted n y) w.0 (dotted_fits f d w.1))

@@ -14,7 +14,8 @@ use Rattle.pygrammar.specs.Parameters.{arranged}
 use Rattle.pygrammar.specs.Targets.{mapped, deleted, all_deleted, single_stored}
 use Rattle.pygrammar.specs.Grammar as G
 use Rattle.pyslots.specs.Slots.{is_context, is_starred, is_single, fits_at, fits_target, each_target_fits, each_fits, each_keyword_fits, fits_arguments, arg_fits, each_arg_fits, perhaps_arg_fits}
-use Rattle.pyslots.specs.Given.{all_pass, Given}
+use Rattle.pyslots.specs.Given.{all_pass}
+use Rattle.pyslots.proofs.AsSpelled.{all_as_spelled, GivenAsSpelled, all_passing}
 use Rattle.pyslots.specs.Laws.{FitsExactly, TargetsFitExactly, ParametersFitExactly, AreArguments, ArgumentsFitExactly}
 use Rattle.pyslots.proofs.Tests.{parts3, not_true, never, in_context, both_some}
 use Rattle.pyslots.proofs.Levels.{anywhere}
@@ -29,24 +30,24 @@ use Rattle.pyslots.proofs.Gives as Gives
 use Rattle.pyslots.proofs.Gives.{made, aim, each, keys, labelled}
 
 pub fits_exactly : FitsExactly
-fits_exactly n l e = (λ w. slots n w.2 w.1, λ h. made n l e h)
+fits_exactly n l e = (λ w. slots n w.2 w.1, λ h. let w = made n l e h in (w.0, all_passing n w.0 w.1, w.2))
 
 module _ (n : Identifier → Bool) where
   -- ---- Targets.
 
-  pub target_given : (s : Expr) → fits_target n Store s ≡ true → Given n G.Target s
+  pub target_given : (s : Expr) → fits_target n Store s ≡ true → GivenAsSpelled n G.Target s
   target_given s h =
       let a = aim n s h in
       let u = a.given Stars refl in
       (u.0, u.1, G.target u.2 a.is)
 
-  single_from : (e s : Expr) → single_stored e ≡ Some s → fits_at n Primary e ≡ true → Given n G.SingleTarget s
+  single_from : (e s : Expr) → single_stored e ≡ Some s → fits_at n Primary e ≡ true → GivenAsSpelled n G.SingleTarget s
   single_from e s h f = let u = made n Primary e f in (u.0, u.1, G.single_target u.2 h)
 
-  pub single_given : (s : Expr) → (is_single s && fits_target n Store s) ≡ true → Given n G.SingleTarget s
-  single_given (Trees.Name x c) h = let w = and_parts (is_context Store c) (n x) h in in_context (λ k. Given n G.SingleTarget (Trees.Name x k)) Store c w.0 (single_from (Trees.Name x Load) (Trees.Name x Store) refl w.1)
-  single_given (Trees.Attribute e x c) h = let w = parts3 (is_context Store c) (n x) (fits_at n Expression e) h in in_context (λ k. Given n G.SingleTarget (Trees.Attribute e x k)) Store c w.0 (single_from (Trees.Attribute e x Load) (Trees.Attribute e x Store) refl (and_from (n x) (fits_at n Expression e) w.1 w.2))
-  single_given (Trees.Subscript e i c) h = let w = parts3 (is_context Store c) (fits_at n Expression e) (fits_at n Slices i) h in in_context (λ k. Given n G.SingleTarget (Trees.Subscript e i k)) Store c w.0 (single_from (Trees.Subscript e i Load) (Trees.Subscript e i Store) refl (and_from (fits_at n Expression e) (fits_at n Slices i) w.1 w.2))
+  pub single_given : (s : Expr) → (is_single s && fits_target n Store s) ≡ true → GivenAsSpelled n G.SingleTarget s
+  single_given (Trees.Name x c) h = let w = and_parts (is_context Store c) (n x) h in in_context (λ k. GivenAsSpelled n G.SingleTarget (Trees.Name x k)) Store c w.0 (single_from (Trees.Name x Load) (Trees.Name x Store) refl w.1)
+  single_given (Trees.Attribute e x c) h = let w = parts3 (is_context Store c) (n x) (fits_at n Expression e) h in in_context (λ k. GivenAsSpelled n G.SingleTarget (Trees.Attribute e x k)) Store c w.0 (single_from (Trees.Attribute e x Load) (Trees.Attribute e x Store) refl (and_from (n x) (fits_at n Expression e) w.1 w.2))
+  single_given (Trees.Subscript e i c) h = let w = parts3 (is_context Store c) (fits_at n Expression e) (fits_at n Slices i) h in in_context (λ k. GivenAsSpelled n G.SingleTarget (Trees.Subscript e i k)) Store c w.0 (single_from (Trees.Subscript e i Load) (Trees.Subscript e i Store) refl (and_from (fits_at n Expression e) (fits_at n Slices i) w.1 w.2))
   single_given _ h = absurd (cc)
 
   mutual
@@ -72,25 +73,25 @@ module _ (n : Identifier → Bool) where
         let v = all_undeleted es w.1 in
         (an_expr u.0 v.0, both_some (deleted u.0) (all_deleted v.0) e es u.1 v.1, and_from (fits_at n Elem u.0) (each_fits n Elem v.0) (anywhere n Expression Elem u.0 refl u.2) v.2)
 
-  pub del_target_given : (s : Expr) → fits_target n Del s ≡ true → Given n G.DelTarget s
+  pub del_target_given : (s : Expr) → fits_target n Del s ≡ true → GivenAsSpelled n G.DelTarget s
   del_target_given s h =
       let u = undeleted s h in
       let w = made n Expression u.0 u.2 in
       (w.0, w.1, G.del_target w.2 u.1)
 
-  item_from : (s : Expr) → is_starred s ≡ false → fits_target n Store s ≡ true → Given n G.ItemTarget s
+  item_from : (s : Expr) → is_starred s ≡ false → fits_target n Store s ≡ true → GivenAsSpelled n G.ItemTarget s
   item_from s b h =
       let a = aim n s h in
       let u = (a.bare b).0 Expression in
       (u.0, u.1, G.item_target u.2 a.is)
 
-  pub item_target_given : (s : Expr) → fits_target n Store s ≡ true → Given n G.ItemTarget s
+  pub item_target_given : (s : Expr) → fits_target n Store s ≡ true → GivenAsSpelled n G.ItemTarget s
   item_target_given (Trees.Starred e c) h =
       let w = parts3 (is_context Store c) (not (is_starred e)) (fits_target n Store e) h in
       let a = aim n e w.2 in
       let b = a.bare (not_true (is_starred e) w.1) in
       let u = b.0 Expression in
-      in_context (λ k. Given n G.ItemTarget (Trees.Starred e k)) Store c w.0 (Op Star ∷ u.0, u.1, G.star_target u.2 (star_up a.tree e b.1 a.is))
+      in_context (λ k. GivenAsSpelled n G.ItemTarget (Trees.Starred e k)) Store c w.0 (Op Star ∷ u.0, u.1, G.star_target u.2 (star_up a.tree e b.1 a.is))
   item_target_given (Trees.Name x c) h = item_from (Trees.Name x c) refl h
   item_target_given (Trees.Attribute e x c) h = item_from (Trees.Attribute e x c) refl h
   item_target_given (Trees.Subscript e s c) h = item_from (Trees.Subscript e s c) refl h
@@ -130,7 +131,7 @@ module _ (n : Identifier → Bool) where
   star_arg b (present_arg (arg x absent)) h = unstarred (one_made (bare (parts3 (n x) true true h).0))
   star_arg b (present_arg (arg x (present e))) h = let w = parts3 (n x) b (fits_at n StarItem e) h in star_noted b x e w.0 w.1 w.2
 
-  pub parameters_given : (b : Bool) (a : Arguments) → fits_arguments n b a ≡ true → Given n (λ ts a. (es : List Entry) × G.Listing (Parameter b) ts es × (arranged es ≡ Some a)) a
+  pub parameters_given : (b : Bool) (a : Arguments) → fits_arguments n b a ≡ true → GivenAsSpelled n (λ ts a. (es : List Entry) × G.Listing (Parameter b) ts es × (arranged es ≡ Some a)) a
   parameters_given b (arguments ps qs v ks ds k es) h =
       let p = fit_parts n b (arguments ps qs v ks ds k es) h in
       let w = arrangement n b ps qs v ks ds k es (noted_args b ps p.before) (noted_args b qs p.middle) (star_arg b v p.star) (noted_args b ks p.only)
@@ -147,7 +148,7 @@ module _ (n : Identifier → Bool) where
       (subst (λ z. (each_fits n Elem (positional a.entries) && each_keyword_fits n z) ≡ true) a.keywords_are
       (and_from (each_fits n Elem (positional a.entries)) (each_keyword_fits n (keywords a.entries)) (positional_fit n a.entries q) (keywords_fit n a.entries q)))
 
-  pub arguments_given : (zs : Exprs) (ks : Keywords) → (each_fits n Elem zs && each_keyword_fits n ks) ≡ true → (ts : List Terminal) × (all_pass n ts ≡ true) × AreArguments zs ks ts
+  pub arguments_given : (zs : Exprs) (ks : Keywords) → (each_fits n Elem zs && each_keyword_fits n ks) ≡ true → (ts : List Terminal) × (all_as_spelled n ts ≡ true) × AreArguments zs ks ts
   arguments_given zs ks h =
       let w = and_parts (each_fits n Elem zs) (each_keyword_fits n ks) h in
       let l = listed n (Gives.positional n zs w.0) (labelled n ks w.1) in
@@ -156,14 +157,14 @@ module _ (n : Identifier → Bool) where
 
 pub targets_fit_exactly : TargetsFitExactly
 targets_fit_exactly n s = record {
-  target = (λ w. target_fits n w.2 w.1, λ h. target_given n s h);
-  single = (λ w. single_target_fits n w.2 w.1, λ h. single_given n s h);
-  del = (λ w. del_target_fits n w.2 w.1, λ h. del_target_given n s h);
-  item = (λ w. item_target_fits n w.2 w.1, λ h. item_target_given n s h);
+  target = (λ w. target_fits n w.2 w.1, λ h. let w = target_given n s h in (w.0, all_passing n w.0 w.1, w.2));
+  single = (λ w. single_target_fits n w.2 w.1, λ h. let w = single_given n s h in (w.0, all_passing n w.0 w.1, w.2));
+  del = (λ w. del_target_fits n w.2 w.1, λ h. let w = del_target_given n s h in (w.0, all_passing n w.0 w.1, w.2));
+  item = (λ w. item_target_fits n w.2 w.1, λ h. let w = item_target_given n s h in (w.0, all_passing n w.0 w.1, w.2));
 }
 
 pub parameters_fit_exactly : ParametersFitExactly
-parameters_fit_exactly n b a = (λ w. arranged_fit n b w.2.0 a (Fits.listing n w.2.1 w.1) w.2.2, λ h. parameters_given n b a h)
+parameters_fit_exactly n b a = (λ w. arranged_fit n b w.2.0 a (Fits.listing n w.2.1 w.1) w.2.2, λ h. let w = parameters_given n b a h in (w.0, all_passing n w.0 w.1, w.2))
 
 pub arguments_fit_exactly : ArgumentsFitExactly
-arguments_fit_exactly n zs ks = (λ w. arguments_fit n zs ks w.2 w.1, λ h. arguments_given n zs ks h)
+arguments_fit_exactly n zs ks = (λ w. arguments_fit n zs ks w.2 w.1, λ h. let w = arguments_given n zs ks h in (w.0, all_passing n w.0 w.1, w.2))

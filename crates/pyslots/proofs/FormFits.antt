@@ -89,17 +89,17 @@ module _ (n : Identifier → Bool) where
 
   as_fits : {ts : List Terminal} {x : Option Identifier} → F.As ts x → all_pass n ts ≡ true → perhaps_name n x ≡ true
   as_fits F.no_as s = refl
-  as_fits (F.as_name {x = x}) s = (and_parts (n x) true s).0
+  as_fits (F.as_name {x = x}) s = (and_parts (n x.form) true s).0
 
   name_fits : {ts : List Terminal} {x : Identifier} → F.Name ts x → all_pass n ts ≡ true → n x ≡ true
-  name_fits (F.name {x = x}) s = (and_parts (n x) true s).0
+  name_fits (F.name {x = x}) s = (and_parts (n x.form) true s).0
 
   type_param : {ts : List Terminal} {p : TypeParam} → F.TypeParamOf ts p → all_pass n ts ≡ true → type_param_fits n p ≡ true
   type_param (F.type_var {x = x} {ts = ts} {bound = b} q) s =
-      let w = and_parts (n x) (all_pass n ts) s in
-      and_from (n x) (perhaps_fits n Expression (optional b)) w.0 (behind_fits q w.1)
-  type_param (F.type_var_tuple {x = x}) s = (and_parts (n x) true s).0
-  type_param (F.param_spec {x = x}) s = (and_parts (n x) true s).0
+      let w = and_parts (n x.form) (all_pass n ts) s in
+      and_from (n x.form) (perhaps_fits n Expression (optional b)) w.0 (behind_fits q w.1)
+  type_param (F.type_var_tuple {x = x}) s = (and_parts (n x.form) true s).0
+  type_param (F.param_spec {x = x}) s = (and_parts (n x.form) true s).0
 
   type_params : {profile : Profile} {ts : List Terminal} {ps : List TypeParam} → F.TypeParams profile ts ps → all_pass n ts ≡ true → types_fit profile n ps ≡ true
   type_params F.no_type_params s = refl
@@ -116,8 +116,8 @@ module _ (n : Identifier → Bool) where
 
     name_alias : {ts : List Terminal} {a : Alias} → F.NameAlias ts a → all_pass n ts ≡ true → alias_fits n a ≡ true
     name_alias (F.name_as {us = us} {x = x} {a = a} q) s =
-        let w = and_parts (n x) (all_pass n us) s in
-        and_from (n x) (perhaps_name n a) w.0 (as_fits q w.1)
+        let w = and_parts (n x.form) (all_pass n us) s in
+        and_from (n x.form) (perhaps_name n a) w.0 (as_fits q w.1)
 
     names_fit : {ts : List Terminal} {as_ : List Alias} → F.Names ts as_ → all_pass n ts ≡ true → imports_fit n as_ ≡ true
     names_fit F.all_names s = refl
@@ -156,8 +156,8 @@ module _ (n : Identifier → Bool) where
     simple (F.augmented_assign {ts = ts} {us = us} x {t = t} {e = e} p h q) s =
         and_from (is_single t && fits_target n Store t) (fits_at n Value e) (single_target_fits n p (left n ts (Op x ∷ us) s)) (slots n q (right n ts (Op x ∷ us) s))
     simple (F.annotated_name {x = x} {ts = ts} {us = us} {a = a} {v = v} p q) s =
-        let w = and_parts (n x) (all_pass n (ts ++ us)) s in
-        from3 (n x) (fits_at n Expression a) (perhaps_fits n Value (optional v)) w.0 (slots n p (left n ts us w.1)) (behind_fits q (right n ts us w.1))
+        let w = and_parts (n x.form) (all_pass n (ts ++ us)) s in
+        from3 (n x.form) (fits_at n Expression a) (perhaps_fits n Value (optional v)) w.0 (slots n p (left n ts us w.1)) (behind_fits q (right n ts us w.1))
     simple (F.annotated_group {ts = ts} {us = us} {vs = vs} {t = t} {a = a} {v = v} p q r) s =
         let w = right n ts (Op Sign.RPar ∷ (Op Sign.Colon ∷ (us ++ vs))) s in
         let u = and_parts (is_single t) (fits_target n Store t) (single_target_fits n p (left n ts (Op Sign.RPar ∷ (Op Sign.Colon ∷ (us ++ vs))) s)) in
@@ -166,9 +166,9 @@ module _ (n : Identifier → Bool) where
         let w = right n ts (Op Sign.Colon ∷ (us ++ vs)) s in
         let u = and_parts (is_single t) (fits_target n Store t) (single_target_fits n p (left n ts (Op Sign.Colon ∷ (us ++ vs)) s)) in
         from5 (is_single t) true (fits_target n Store t) (fits_at n Expression a) (perhaps_fits n Value (optional v)) u.0 refl u.1 (slots n q (left n us vs w)) (behind_fits r (right n us vs w))
-    simple {profile} (F.type_alias {x = x} {ts = ts} {us = us} {ps = ps} {e = e} h c p) s =
-        let w = and_parts (n x) (all_pass n (ts ++ (Op Sign.Equal ∷ us))) (and_parts (n F.type_name) (all_pass n (Ident x ∷ (ts ++ (Op Sign.Equal ∷ us)))) s).1 in
-        from5 (has_types profile) true (n x) (list_all (type_param_fits n) ps) (fits_at n Expression e) h refl w.0
+    simple {profile} (F.type_alias {form = f} {x = x} {ts = ts} {us = us} {ps = ps} {e = e} h c p) s =
+        let w = and_parts (n x.form) (all_pass n (ts ++ (Op Sign.Equal ∷ us))) (and_parts (n f) (all_pass n (Ident x ∷ (ts ++ (Op Sign.Equal ∷ us)))) s).1 in
+        from5 (has_types profile) true (n x.form) (list_all (type_param_fits n) ps) (fits_at n Expression e) h refl w.0
         (and_parts (no_types ps || has_types profile) (list_all (type_param_fits n) ps) (type_params c (left n ts (Op Sign.Equal ∷ us) w.1))).1 (slots n p (right n ts (Op Sign.Equal ∷ us) w.1))
     simple (F.return_of p) s = perhaps p s
     simple F.raise_alone s = refl
@@ -233,14 +233,14 @@ module _ (n : Identifier → Bool) where
     header (F.except_line {ts = ts} {us = us} {e = e} {x = x} p q) s = and_from (fits_at n Expression e) (perhaps_name n x) (slots n p (left n ts us s)) (as_fits q (right n ts us s))
     header (F.except_star {ts = ts} {us = us} {e = e} {x = x} p q) s = and_from (fits_at n Expression e) (perhaps_name n x) (slots n p (left n ts us s)) (as_fits q (right n ts us s))
     header {profile} (F.def_line {ts = ts} {us = us} {vs = vs} {ws = ws} x {tps = tps} {ps = ps} {a = a} {r = r} b t c h q) s =
-        let w = and_parts (n x) (all_pass n (us ++ (Op Sign.LPar ∷ (vs ++ (Op Sign.RPar ∷ ws))))) (right n ts (Word Key.Def ∷ (Ident x ∷ (us ++ (Op Sign.LPar ∷ (vs ++ (Op Sign.RPar ∷ ws)))))) s) in
+        let w = and_parts (n x.form) (all_pass n (us ++ (Op Sign.LPar ∷ (vs ++ (Op Sign.RPar ∷ ws))))) (right n ts (Word Key.Def ∷ (Ident x ∷ (us ++ (Op Sign.LPar ∷ (vs ++ (Op Sign.RPar ∷ ws)))))) s) in
         let u = right n us (Op Sign.LPar ∷ (vs ++ (Op Sign.RPar ∷ ws))) w.1 in
-        from4 (n x) (fits_arguments n true a) (perhaps_fits n Expression (optional r)) (types_fit profile n tps)
+        from4 (n x.form) (fits_arguments n true a) (perhaps_fits n Expression (optional r)) (types_fit profile n tps)
         w.0 (arranged_fit n true ps a (listing n c (left n vs (Op Sign.RPar ∷ ws) u)) h) (behind_fits q (right n vs (Op Sign.RPar ∷ ws) u)) (type_params t (left n us (Op Sign.LPar ∷ (vs ++ (Op Sign.RPar ∷ ws))) w.1))
     header {profile} (F.class_line {x = x} {ts = ts} {us = us} {tps = tps} {es = es} {ks = ks} t b) s =
-        let w = and_parts (n x) (all_pass n (ts ++ us)) s in
+        let w = and_parts (n x.form) (all_pass n (ts ++ us)) s in
         let u = bases_fit b (right n ts us w.1) in
-        from4 (n x) (each_fits n Elem (exprs es)) (each_keyword_fits n ks) (types_fit profile n tps) w.0 u.0 u.1 (type_params t (left n ts us w.1))
+        from4 (n x.form) (each_fits n Elem (exprs es)) (each_keyword_fits n ks) (types_fit profile n tps) w.0 u.0 u.1 (type_params t (left n ts us w.1))
 
     pub form : {profile : Profile} {ts : List Terminal} {f : Form} → F.FormOf profile ts f → all_pass n ts ≡ true → form_fits profile n f ≡ true
     form (F.simple_statements p) s = simples p s

@@ -5,6 +5,7 @@ mod Entries
 mod TargetShapes
 mod Arranging
 mod Fits
+mod AsSpelled
 mod Places
 mod Making
 mod Calls

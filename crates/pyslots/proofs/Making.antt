@@ -16,7 +16,7 @@ use Rattle.pynode.specs.declared.operators.Context.TheVariants.{Load, Store}
 use Rattle.pynode.specs.Trees
 use Rattle.pynode.specs.Trees.{Identifier, Expr, Exprs, no_exprs, an_expr, OptionalExpr, OptionalExprs, no_optional, an_optional, absent, present, exprs}
 use Rattle.pynode.specs.Values
-use Rattle.pytoken.specs.Terminals.{Terminal, Op, Word, Ident, Whole, Literal}
+use Rattle.pytoken.specs.Terminals.{Terminal, Op, Word, in_form, Whole, Literal}
 use Rattle.pygrammar.specs.declared.levels.Level.{Level}
 use Rattle.pygrammar.specs.declared.levels.Level.TheVariants.{Stars, Named, Expression, Or, Not, Compare, BitOr, BitXor, BitAnd, Shift, Sum, Term, Factor, Power, Await, Primary, Atom, Elem, Slices, Part, Slice}
 use Rattle.pygrammar.specs.Operators.{below, left_operator, prefix_operator, chain_level, chain_word}
@@ -24,8 +24,8 @@ use Rattle.pygrammar.specs.Entries.{Item, Of, Entry, Single, singles}
 use Rattle.pygrammar.specs.Grammar as G
 use Rattle.pyslots.specs.Literals.{is_value}
 use Rattle.pyslots.specs.Slots.{member_level, takes_slice, count}
-use Rattle.pyslots.specs.Given.{is_literal, all_pass, Given}
-use Rattle.pyslots.proofs.Tests.{pass_on}
+use Rattle.pyslots.specs.Given.{is_literal}
+use Rattle.pyslots.proofs.AsSpelled.{all_as_spelled, GivenAsSpelled, pass_on}
 use Rattle.pyslots.proofs.Levels.{inner}
 use Rattle.pyslots.proofs.Places as P
 use Rattle.pyslots.proofs.Places.{MayBe, left_out, there, Each, no_more, one_more, lifted, anywhere_at, at, named_pass}
@@ -34,7 +34,7 @@ use Rattle.pyslots.proofs.Places.{MayBe, left_out, there, Each, no_more, one_mor
 
 pub data Pieces (n : Identifier → Bool) (i : Item) : List Entry → Type 0 where
   no_piece : Pieces n i []
-  a_piece : {e : Entry} {es : List Entry} → Given n (G.Piece i) e → Pieces n i es → Pieces n i (e ∷ es)
+  a_piece : {e : Entry} {es : List Entry} → GivenAsSpelled n (G.Piece i) e → Pieces n i es → Pieces n i (e ∷ es)
 
 abbrev pub single_entries : Exprs → List Entry
 single_entries no_exprs = []
@@ -45,7 +45,7 @@ singles_are no_exprs = refl
 singles_are (an_expr e es) = ap (an_expr e) (singles_are es)
 
 module _ (n : Identifier → Bool) where
-  pub listing : {i : Item} {es : List Entry} → Pieces n i es → Given n (G.Listing i) es
+  pub listing : {i : Item} {es : List Entry} → Pieces n i es → GivenAsSpelled n (G.Listing i) es
   listing no_piece = ([], refl, G.no_item)
   listing (a_piece p r) = let w = listing r in (p.0 ++ (Op Comma ∷ w.0), pass_on n p.0 (Op Comma ∷ w.0) p.1 w.1, G.item p.2 w.2)
 
@@ -56,7 +56,7 @@ module _ (n : Identifier → Bool) where
   -- ---- Names and constants.
 
   pub name_given : (l : Level) (x : Identifier) → n x ≡ true → P.At n l (Trees.Name x Load)
-  name_given l x h = lifted n l (Ident x ∷ [], named_pass n x [] h refl, G.name)
+  name_given l x h = lifted n l (in_form x ∷ [], named_pass n x [] h refl, G.name)
 
   pub constant_given : (l : Level) (v : Values.Value) → is_value v ≡ true → P.At n l (Trees.Constant v)
   constant_given l Values.None h = lifted n l (Word Key.None ∷ [], refl, G.constant refl)
@@ -70,14 +70,14 @@ module _ (n : Identifier → Bool) where
   -- ---- Operators.
 
   -- a and b at their levels, with a terminal between
-  joined : {a b : Expr} (t : Terminal) (l m : Level) → all_pass n (t ∷ []) ≡ true → P.At n Expression a → P.At n Expression b →
-      (ts us : List Terminal) × (all_pass n (ts ++ (t ∷ us)) ≡ true) × G.Derives l ts a × G.Derives m us b
+  joined : {a b : Expr} (t : Terminal) (l m : Level) → all_as_spelled n (t ∷ []) ≡ true → P.At n Expression a → P.At n Expression b →
+      (ts us : List Terminal) × (all_as_spelled n (ts ++ (t ∷ us)) ≡ true) × G.Derives l ts a × G.Derives m us b
   joined t l m h f g =
       let u = at n l f in
       let v = at n m g in
       (u.0, v.0, pass_on n u.0 (t ∷ v.0) u.1 (pass_on n (t ∷ []) v.0 h v.1), u.2, v.2)
 
-  binary : {a b : Expr} {o : Operator} (l : Level) (t : Terminal) → inner l ≡ true → all_pass n (t ∷ []) ≡ true → left_operator l t ≡ Some o →
+  binary : {a b : Expr} {o : Operator} (l : Level) (t : Terminal) → inner l ≡ true → all_as_spelled n (t ∷ []) ≡ true → left_operator l t ≡ Some o →
       P.At n Expression a → P.At n Expression b → (m : Level) → P.At n m (Trees.BinOp a o b)
   binary l t i h q f g = let w = joined t l (below l) h f g in anywhere_at n l i (w.0 ++ (t ∷ w.1), w.2, G.binary t q w.3 w.4)
 
@@ -96,7 +96,7 @@ module _ (n : Identifier → Bool) where
   binary_given l a Bin.MatMult b f g = binary Term (Op At) refl refl refl f g l
   binary_given l a Bin.Pow b f g = let w = joined (Op DoubleStar) Await Factor refl f g in anywhere_at n Power refl (w.0 ++ (Op DoubleStar ∷ w.1), w.2, G.power w.3 w.4) l
 
-  prefixed : {e : Expr} {o : UnaryOperator} (l : Level) (t : Terminal) → inner l ≡ true → all_pass n (t ∷ []) ≡ true → prefix_operator l t ≡ Some o →
+  prefixed : {e : Expr} {o : UnaryOperator} (l : Level) (t : Terminal) → inner l ≡ true → all_as_spelled n (t ∷ []) ≡ true → prefix_operator l t ≡ Some o →
       P.At n Expression e → (m : Level) → P.At n m (Trees.UnaryOp o e)
   prefixed l t i h q f = let u = at n l f in anywhere_at n l i (t ∷ u.0, pass_on n (t ∷ []) u.0 h u.1, G.unary q u.2)
 
@@ -113,7 +113,7 @@ module _ (n : Identifier → Bool) where
   record Linked (o : BoolOperator) (es : Exprs) : Type 0 where
     list : List Expr
     is : exprs list ≡ es
-    links : Given n (G.Chain o) list
+    links : GivenAsSpelled n (G.Chain o) list
 
   linked : (o : BoolOperator) {e : Expr} {es : Exprs} → P.At n Expression e → Each n Expression es → Linked o (an_expr e es)
   linked o {e = e} f no_more = let u = at n (below (chain_level o)) f in record { list = e ∷ []; is = refl; links = (u.0, u.1, G.last_link u.2) }
@@ -136,7 +136,7 @@ module _ (n : Identifier → Bool) where
       (u.0 ++ (Word (chain_word o) ∷ w.links.0), pass_on n u.0 (Word (chain_word o) ∷ w.links.0) u.1 w.links.1, G.chain u.2 w.links.2)) l
 
   -- comparisons
-  pub compared : (o : Comparison) → Given n G.Compared o
+  pub compared : (o : Comparison) → GivenAsSpelled n G.Compared o
   compared Is.Eq = (Op EqEqual ∷ [], refl, G.one_sign refl)
   compared Is.NotEq = (Op NotEqual ∷ [], refl, G.one_sign refl)
   compared Is.Lt = (Op Less ∷ [], refl, G.one_sign refl)
@@ -151,7 +151,7 @@ module _ (n : Identifier → Bool) where
   record Rightwards (os : List Comparison) (es : Exprs) : Type 0 where
     list : List Expr
     is : exprs list ≡ es
-    right : (ts : List Terminal) × (all_pass n ts ≡ true) × G.Compares ts os list
+    right : (ts : List Terminal) × (all_as_spelled n ts ≡ true) × G.Compares ts os list
 
   rightwards : (o : Comparison) (os : List Comparison) {e : Expr} {es : Exprs} → length os ≡ count es → P.At n Expression e → Each n Expression es → Rightwards (o ∷ os) (an_expr e es)
   rightwards o [] {e = e} h f no_more =
@@ -183,11 +183,11 @@ module _ (n : Identifier → Bool) where
       (u.0 ++ (Word Key.If ∷ (v.0 ++ (Word Key.Else ∷ w.0))), pass_on n u.0 (Word Key.If ∷ (v.0 ++ (Word Key.Else ∷ w.0))) u.1 (pass_on n v.0 (Word Key.Else ∷ w.0) v.1 w.1), G.if_else u.2 v.2 w.2) l
 
   pub named_given : (l : Level) (x : Identifier) (e : Expr) → n x ≡ true → P.At n Expression e → P.At n l (Trees.NamedExpr (Trees.Name x Store) e)
-  named_given l x e h f = anywhere_at n Named refl (Ident x ∷ (Op ColonEqual ∷ f.0), named_pass n x (Op ColonEqual ∷ f.0) h f.1, G.named f.2) l
+  named_given l x e h f = anywhere_at n Named refl (in_form x ∷ (Op ColonEqual ∷ f.0), named_pass n x (Op ColonEqual ∷ f.0) h f.1, G.named f.2) l
 
   -- ---- Yields.
 
-  yields : {e : Expr} (l : Level) → Given n G.Yields e → P.At n l e
+  yields : {e : Expr} (l : Level) → GivenAsSpelled n G.Yields e → P.At n l e
   yields l w = lifted n l (Op LPar ∷ (Word Key.Yield ∷ (w.0 ++ (Op RPar ∷ []))), pass_on n w.0 (Op RPar ∷ []) w.1 refl, G.yield_group w.2)
 
   pub yield_from_given : (l : Level) (e : Expr) → P.At n Expression e → P.At n l (Trees.YieldFrom e)
@@ -235,14 +235,14 @@ module _ (n : Identifier → Bool) where
   pub attribute_given : (l : Level) (e : Expr) (x : Identifier) → n x ≡ true → P.At n Expression e → P.At n l (Trees.Attribute e x Load)
   attribute_given l e x h f =
       let u = at n Primary f in
-      anywhere_at n Primary refl (u.0 ++ (Op Dot ∷ (Ident x ∷ [])), pass_on n u.0 (Op Dot ∷ (Ident x ∷ [])) u.1 (named_pass n x [] h refl), G.attribute u.2) l
+      anywhere_at n Primary refl (u.0 ++ (Op Dot ∷ (in_form x ∷ [])), pass_on n u.0 (Op Dot ∷ (in_form x ∷ [])) u.1 (named_pass n x [] h refl), G.attribute _ u.2) l
 
   pub subscript_given : (l : Level) (e s : Expr) → P.At n Expression e → P.At n Slices s → P.At n l (Trees.Subscript e s Load)
   subscript_given l e s f g =
       let u = at n Primary f in
       anywhere_at n Primary refl (u.0 ++ (Op LSqb ∷ (g.0 ++ (Op RSqb ∷ []))), pass_on n u.0 (Op LSqb ∷ (g.0 ++ (Op RSqb ∷ []))) u.1 (pass_on n g.0 (Op RSqb ∷ []) g.1 refl), G.subscript u.2 g.2) l
 
-  may_be : {l : Level} {e : OptionalExpr} → MayBe n l e → Given n (G.Perhaps l) e
+  may_be : {l : Level} {e : OptionalExpr} → MayBe n l e → GivenAsSpelled n (G.Perhaps l) e
   may_be left_out = ([], refl, G.nothing)
   may_be (there f) = (f.0, f.1, G.something f.2)
 

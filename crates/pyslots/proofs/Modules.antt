@@ -27,6 +27,7 @@ use Rattle.pyslots.specs.Slots.{fits_at}
 use Rattle.pyslots.specs.Statements.{module_fits}
 use Rattle.pyslots.specs.Given.{AreGiven, no_line, a_line, GivenModule, Expressed, HaveForms, no_form, a_form, Stated}
 use Rattle.pyslots.specs.Laws.{ExpressionsFitExactly, ModulesFitExactly, SlotsAreLawful}
+use Rattle.pyslots.proofs.AsSpelled.{AreGivenAsSpelled, none_spelled, one_spelled, lines_given}
 use Rattle.pyslots.proofs.Fits.{slots}
 use Rattle.pyslots.proofs.Gives.{made}
 use Rattle.pyslots.proofs.Exactly.{fits_exactly, targets_fit_exactly, parameters_fit_exactly, arguments_fit_exactly}
@@ -89,10 +90,13 @@ type_is_name = proper_name type_name (record { name = type_named; free = type_fr
 pub module_exactly : (profile : Profile) (m : Module) → GivenModule profile is_name m → module_fits profile is_name m ≡ true
 module_exactly profile m w = block_fits profile is_name w.2 (given_fit profile is_name undotted w.1)
 
-pub module_given : (profile : Profile) (m : Module) → module_fits profile is_name m ≡ true → GivenModule profile is_name m
-module_given profile m h =
+module_as_spelled : (profile : Profile) (m : Module) → module_fits profile is_name m ≡ true → (xs : List Line) × AreGivenAsSpelled profile is_name xs × Block 0 xs m.body
+module_as_spelled profile m h =
     let d = drawn_all profile is_name type_is_name 0 (stmts m.body) h in
     (d.lines, d.given, subst (Block 0 d.lines) (of_stmts_back m.body) d.is)
+
+pub module_given : (profile : Profile) (m : Module) → module_fits profile is_name m ≡ true → GivenModule profile is_name m
+module_given profile m h = let w = module_as_spelled profile m h in (w.0, lines_given is_name w.1, w.2)
 
 -- ---- By tokens.
 
@@ -116,9 +120,9 @@ record Tokened (profile : Profile) (ys : List Line) : Type 0 where
   lines : List Tokens.Line
   formed : HaveForms profile lines ys
 
-tokened : {profile : Profile} {ys : List Line} → AreGiven profile is_name ys → Tokened profile ys
-tokened no_line = record { lines = []; formed = no_form }
-tokened {profile} (a_line {x = y} w r) =
+tokened : {profile : Profile} {ys : List Line} → AreGivenAsSpelled profile is_name ys → Tokened profile ys
+tokened none_spelled = record { lines = []; formed = no_form }
+tokened {profile} (one_spelled {x = y} w r) =
     let t = all_written w.0 w.1 in
     let k = tokened r in
     let x : Tokens.Line = record { level = y.level; tokens = t.tokens } in
@@ -129,7 +133,7 @@ stated_fits profile m s = module_exactly profile m (s.forms, forms_given s.forme
 
 fits_stated : (profile : Profile) (m : Module) → module_fits profile is_name m ≡ true → Stated profile m
 fits_stated profile m h =
-    let w = module_given profile m h in
+    let w = module_as_spelled profile m h in
     let k = tokened w.1 in
     record { lines = k.lines; forms = w.0; formed = k.formed; block = w.2 }
 

@@ -7,7 +7,7 @@ use Rattle.pytoken.specs.declared.keywords.Keyword.TheVariants as Key
 use Rattle.pynode.specs.declared.operators.Context.TheVariants.{Load}
 use Rattle.pynode.specs.Trees
 use Rattle.pynode.specs.Trees.{Identifier, Expr, Exprs, no_exprs, OptionalExpr, OptionalExprs, absent, present, Arg, arg, Args, no_arg, an_arg, OptionalArg, absent_arg, present_arg, Arguments, arguments}
-use Rattle.pytoken.specs.Terminals.{Op, Word, Ident}
+use Rattle.pytoken.specs.Terminals.{Op, Word, in_form}
 use Rattle.pygrammar.specs.declared.levels.Level.{Level}
 use Rattle.pygrammar.specs.declared.levels.Level.TheVariants.{StarItem, Expression, BitOr}
 use Rattle.pygrammar.specs.Targets.{mapped}
@@ -15,8 +15,8 @@ use Rattle.pygrammar.specs.Entries.{Parameter, Entry, Plain, Slashed, Bare, Gath
 use Rattle.pygrammar.specs.Parameters.{add_keyword_only, set_vararg, add_plain, add_before_slash, after_star, at_star, plain_ones, before_slash, has_slash, arranged}
 use Rattle.pygrammar.specs.Grammar as G
 use Rattle.pyslots.specs.Slots.{count, count_optional, count_args, fits_at, arg_fits, each_arg_fits, perhaps_arg_fits}
-use Rattle.pyslots.specs.Given.{Given}
-use Rattle.pyslots.proofs.Tests.{parts3, pass_on, never}
+use Rattle.pyslots.proofs.AsSpelled.{GivenAsSpelled, pass_on}
+use Rattle.pyslots.proofs.Tests.{parts3, never}
 use Rattle.pyslots.proofs.Places as P
 use Rattle.pyslots.proofs.Places.{Each, no_more, one_more, anywhere_at, at, named_pass}
 use Rattle.pyslots.proofs.Making.{Pieces, no_piece, a_piece, listing}
@@ -54,11 +54,11 @@ first_slash _ = false
 
 module _ (n : Identifier → Bool) (b : Bool) where
   abbrev Piece : Entry → Type 0
-  Piece e = Given n (G.Piece (Parameter b)) e
+  Piece e = GivenAsSpelled n (G.Piece (Parameter b)) e
 
   -- with an annotation there may be annotations
-  annotated_too : (e : Entry) → b ≡ true → Given n (G.Piece (Parameter true)) e → Piece e
-  annotated_too e h p = subst (λ c. Given n (G.Piece (Parameter c)) e) (sym h) p
+  annotated_too : (e : Entry) → b ≡ true → GivenAsSpelled n (G.Piece (Parameter true)) e → Piece e
+  annotated_too e h p = subst (λ c. GivenAsSpelled n (G.Piece (Parameter c)) e) (sym h) p
 
   slash_piece : Piece Slashed
   slash_piece = (Op Slash ∷ [], refl, G.slash)
@@ -67,30 +67,30 @@ module _ (n : Identifier → Bool) (b : Bool) where
   bare_piece = (Op Star ∷ [], refl, G.bare_star)
 
   plain_none : {a : Arg} → ArgMade n b a → Piece (Plain a absent)
-  plain_none (bare {x = x} h) = (Ident x ∷ ([] ++ []), named_pass n x [] h refl, G.parameter G.no_suffix G.no_suffix)
+  plain_none (bare {x = x} h) = (in_form x ∷ ([] ++ []), named_pass n x [] h refl, G.parameter G.no_suffix G.no_suffix)
   plain_none (noted {x = x} {e = e} h q f) = annotated_too (Plain (arg x (present e)) absent) q
-      (Ident x ∷ ((Op Colon ∷ f.0) ++ []), named_pass n x ((Op Colon ∷ f.0) ++ []) h (pass_on n f.0 [] f.1 refl), G.parameter (G.suffix f.2) G.no_suffix)
+      (in_form x ∷ ((Op Colon ∷ f.0) ++ []), named_pass n x ((Op Colon ∷ f.0) ++ []) h (pass_on n f.0 [] f.1 refl), G.parameter (G.suffix f.2) G.no_suffix)
 
   plain_some : {a : Arg} (d : Expr) → ArgMade n b a → P.At n Expression d → Piece (Plain a (present d))
-  plain_some d (bare {x = x} h) g = (Ident x ∷ ([] ++ (Op Equal ∷ g.0)), named_pass n x (Op Equal ∷ g.0) h g.1, G.parameter G.no_suffix (G.suffix g.2))
+  plain_some d (bare {x = x} h) g = (in_form x ∷ ([] ++ (Op Equal ∷ g.0)), named_pass n x (Op Equal ∷ g.0) h g.1, G.parameter G.no_suffix (G.suffix g.2))
   plain_some d (noted {x = x} {e = e} h q f) g = annotated_too (Plain (arg x (present e)) (present d)) q
-      (Ident x ∷ ((Op Colon ∷ f.0) ++ (Op Equal ∷ g.0)), named_pass n x ((Op Colon ∷ f.0) ++ (Op Equal ∷ g.0)) h (pass_on n f.0 (Op Equal ∷ g.0) f.1 g.1), G.parameter (G.suffix f.2) (G.suffix g.2))
+      (in_form x ∷ ((Op Colon ∷ f.0) ++ (Op Equal ∷ g.0)), named_pass n x ((Op Colon ∷ f.0) ++ (Op Equal ∷ g.0)) h (pass_on n f.0 (Op Equal ∷ g.0) f.1 g.1), G.parameter (G.suffix f.2) (G.suffix g.2))
 
   gathered : {a : Arg} → ArgMade n b a → Piece (Gathered a)
-  gathered (bare {x = x} h) = (Op Star ∷ (Ident x ∷ []), named_pass n x [] h refl, G.star_parameter G.no_suffix)
+  gathered (bare {x = x} h) = (Op Star ∷ (in_form x ∷ []), named_pass n x [] h refl, G.star_parameter G.no_suffix)
   gathered (noted {x = x} {e = e} h q f) = annotated_too (Gathered (arg x (present e))) q
-      (Op Star ∷ (Ident x ∷ (Op Colon ∷ f.0)), named_pass n x (Op Colon ∷ f.0) h f.1, G.star_parameter (G.suffix f.2))
+      (Op Star ∷ (in_form x ∷ (Op Colon ∷ f.0)), named_pass n x (Op Colon ∷ f.0) h f.1, G.star_parameter (G.suffix f.2))
 
   gathered_star : (x : Identifier) (e : Expr) → n x ≡ true → b ≡ true → P.At n Expression e → Piece (Gathered (arg x (present (Trees.Starred e Load))))
   gathered_star x e h q f =
       let u = at n BitOr f in
       annotated_too (Gathered (arg x (present (Trees.Starred e Load)))) q
-      (Op Star ∷ (Ident x ∷ (Op Colon ∷ (Op Star ∷ u.0))), named_pass n x (Op Colon ∷ (Op Star ∷ u.0)) h u.1, G.star_annotation u.2)
+      (Op Star ∷ (in_form x ∷ (Op Colon ∷ (Op Star ∷ u.0))), named_pass n x (Op Colon ∷ (Op Star ∷ u.0)) h u.1, G.star_annotation u.2)
 
   collected : {a : Arg} → ArgMade n b a → Piece (Collected a)
-  collected (bare {x = x} h) = (Op DoubleStar ∷ (Ident x ∷ []), named_pass n x [] h refl, G.double_parameter G.no_suffix)
+  collected (bare {x = x} h) = (Op DoubleStar ∷ (in_form x ∷ []), named_pass n x [] h refl, G.double_parameter G.no_suffix)
   collected (noted {x = x} {e = e} h q f) = annotated_too (Collected (arg x (present e))) q
-      (Op DoubleStar ∷ (Ident x ∷ (Op Colon ∷ f.0)), named_pass n x (Op Colon ∷ f.0) h f.1, G.double_parameter (G.suffix f.2))
+      (Op DoubleStar ∷ (in_form x ∷ (Op Colon ∷ f.0)), named_pass n x (Op Colon ∷ f.0) h f.1, G.double_parameter (G.suffix f.2))
 
   -- behind the star
   after_run : {ks : Args} {ds : OptionalExprs} {k : OptionalArg} → count_optional ds ≡ count_args ks → ArgsMade n b ks → Keys n ds → OptionalArgMade n b k → Run n b after_star false (arguments no_arg no_arg absent_arg ks ds k no_exprs)

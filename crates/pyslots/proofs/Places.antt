@@ -1,17 +1,18 @@
 -- Carries: the laws of the slots. On: what is given at one level is given at others, in brackets where it needs them.
-use Rattle.std.proofs.Common.{◌≡◌, refl, List, [], ◌∷◌, ◌++◌, Bool, true}
+use Rattle.std.proofs.Common.{◌≡◌, refl, List, [], ◌∷◌, ◌++◌, Bool, true, ◌&&◌}
+use Rattle.std.specs.Str.{bytes_eq}
 use Rattle.std.proofs.lemmas.Bool.{and_from}
+use Rattle.std.proofs.lemmas.Slice.Eq.{bytes_eq-Decides}
 use Rattle.pylexeme.specs.declared.kinds.Exact.TheVariants.{LPar, RPar, Star}
 use Rattle.pynode.specs.declared.operators.Context.TheVariants.{Load}
 use Rattle.pynode.specs.Trees
 use Rattle.pynode.specs.Trees.{Identifier, Expr}
-use Rattle.pytoken.specs.Terminals.{Terminal, Op, Ident}
+use Rattle.pytoken.specs.Terminals.{Terminal, Op, in_form}
 use Rattle.pygrammar.specs.declared.levels.Level.{Level}
 use Rattle.pygrammar.specs.declared.levels.Level.TheVariants.{Value, Stars, StarItem, Named, Expression, Or, And, Not, Compare, BitOr, BitXor, BitAnd, Shift, Sum, Term, Factor, Power, Await, Primary, Atom, Elem, Slices, Part, Slice}
 use Rattle.pygrammar.specs.Grammar as G
 use Rattle.pyslots.specs.Slots.{takes_star}
-use Rattle.pyslots.specs.Given.{all_pass, Given}
-use Rattle.pyslots.proofs.Tests.{pass_on}
+use Rattle.pyslots.proofs.AsSpelled.{all_as_spelled, GivenAsSpelled, pass_on}
 use Rattle.pyslots.proofs.Levels.{inner}
 
 -- ---- Chains of levels.
@@ -139,7 +140,7 @@ module _ {ts : List Terminal} {e : Expr} where
 
 -- given at a level
 abbrev pub At : (Identifier → Bool) → Level → Expr → Type 0
-At n l e = Given n (G.Derives l) e
+At n l e = GivenAsSpelled n (G.Derives l) e
 
 module _ (n : Identifier → Bool) where
   pub lifted : {e : Expr} (l : Level) → At n Atom e → At n l e
@@ -165,8 +166,8 @@ module _ (n : Identifier → Bool) where
   starred_at _ h w = absurd (cc)
 
   -- a name in front
-  pub named_pass : (x : Identifier) (ts : List Terminal) → n x ≡ true → all_pass n ts ≡ true → all_pass n (Ident x ∷ ts) ≡ true
-  named_pass x ts p q = and_from (n x) (all_pass n ts) p q
+  pub named_pass : (x : Identifier) (ts : List Terminal) → n x ≡ true → all_as_spelled n ts ≡ true → all_as_spelled n (in_form x ∷ ts) ≡ true
+  named_pass x ts p q = and_from (n x && bytes_eq x x) (all_as_spelled n ts) (and_from (n x) (bytes_eq x x) p ((bytes_eq-Decides x x).1 refl)) q
 
 -- given, perhaps
 pub data MayBe (n : Identifier → Bool) (l : Level) : Trees.OptionalExpr → Type 0 where

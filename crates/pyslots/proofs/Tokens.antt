@@ -1,8 +1,8 @@
 -- Carries: the laws by tokens. On: a token of a source stands for a terminal that passes, and each of these is that of a token.
-use Rattle.std.proofs.Common.{◌≡◌, refl, ap, ◌∙◌, inl, inr, ℕ, ◌<◌, arith, List, [], ◌∷◌, Option, Some, None, Bool, true, false, is_some}
+use Rattle.std.proofs.Common.{◌≡◌, refl, sym, subst, ap, ◌∙◌, inl, inr, ℕ, ◌<◌, arith, List, [], ◌∷◌, Option, Some, None, Bool, true, false, is_some}
 use Rattle.std.specs.Prelude.{◌^◌, ◌==◌, not, nat_le, All, map, codes, decimal, if◌then◌else◌}
 use Rattle.std.specs.List.{list_all}
-use Rattle.std.specs.Str.{all_scalars}
+use Rattle.std.specs.Str.{all_scalars, bytes_eq}
 use Rattle.std.proofs.Math.Utf8.{scalar, scalar_cases}
 use Rattle.std.proofs.lemmas.Bool.{and_parts, and_from, lt-ltb, leb-false, leb-true, ltb-true, le-leb}
 use Rattle.std.proofs.lemmas.List.Elements.{All-nil, All-cons, All-head, All-tail}
@@ -27,13 +27,14 @@ use Rattle.pytoken.specs.NumberValues.{whole_value, number_fault}
 use Rattle.pytoken.specs.NumberValues as Numbers
 use Rattle.pytoken.specs.StringValues.{with_line_feeds, is_raw, is_bytes, is_unicode, body_of, points_of, value_of, string_value, string_fault}
 use Rattle.pytoken.specs.NameValues.{name_fault}
-use Rattle.pytoken.specs.Terminals.{Terminal, Op, Word, Ident, Whole, Literal, Layout, terminal_of, fault_of, is_of, IsSound, Gives}
+use Rattle.pytoken.specs.Terminals.{Terminal, Op, Word, Ident, in_form, Whole, Literal, Layout, terminal_of, fault_of, is_of, IsSound, Gives}
 use Rattle.pytoken.specs.Tokens.{Token}
 use Rattle.pytoken.specs.Laws.{IsProper, is_point, is_byte}
 use Rattle.pytoken.proofs.Callers.Bodies.{body_all, filter_all}
 use Rattle.pytoken.proofs.Callers.Said.{come_back, names_are_proper, points_are_in_range, bytes_are_small}
 use Rattle.pyslots.specs.Names.{is_keyword, is_identifier, is_name}
 use Rattle.pyslots.specs.Given.{is_literal, passes, all_pass, IsOfSource, AreOfSource}
+use Rattle.pyslots.proofs.AsSpelled.{passes_as_spelled, all_as_spelled}
 use Rattle.pyslots.proofs.Tests.{parts3, from3, never}
 use Rattle.pyslots.proofs.Scalars.{name_scalars, decimal_scalars, text_scalars, bytes_scalars}
 
@@ -59,7 +60,7 @@ name_passes : (t : List ℕ) → Lexemes.is_name t ≡ true → name_fault t ≡
 unfolding terminal_of
 name_passes t h s = by (keyword_of t) refl
   where
-    by : (o : Option Keyword) → keyword_of t ≡ o → passes is_name (elim o [ Some w ↦ Word w | None ↦ Ident (nfkc t) ]) ≡ true
+    by : (o : Option Keyword) → keyword_of t ≡ o → passes is_name (elim o [ Some w ↦ Word w | None ↦ Ident (record { spelling = t; form = nfkc t }) ]) ≡ true
     by (Some w) e = refl
     by None e = proper_name (nfkc t) (names_are_proper t h e s)
 
@@ -243,10 +244,14 @@ layout_written : Written Layout
 unfolding terminal_of fault_of
 layout_written = record { kind = kinds.Newline; text = []; gives = record { terminal = refl; sound = record { of_kind = refl; faultless = refl } }; scalars = refl }
 
-written : (x : Terminal) → passes is_name x ≡ true → Written x
+written : (x : Terminal) → passes_as_spelled is_name x ≡ true → Written x
 written (Op e) h = sign_written e
 written (Word w) h = word_written w
-written (Ident x) h = let p = proper x h in record { kind = kinds.Name; text = x; gives = come_back.name x p; scalars = name_scalars x p.name }
+written (Ident x) h =
+    let w = and_parts (is_name x.form) (bytes_eq x.spelling x.form) h in
+    let p = proper x.form w.0 in
+    let e : in_form x.form ≡ Ident x = ap (λ z. Ident (record { spelling = z; form = x.form })) (sym ((bytes_eq-Decides x.spelling x.form).0 w.1)) in
+    record { kind = kinds.Name; text = x.form; gives = subst (Gives kinds.Name x.form) e (come_back.name x.form p); scalars = name_scalars x.form p.name }
 written (Whole n) h = let l = ltb-true n (2 ^ 128) h in record { kind = kinds.Number; text = decimal n; gives = come_back.whole n l; scalars = decimal_scalars n l }
 written (Literal v) h = literal_written v h
 written Layout h = layout_written
@@ -260,10 +265,10 @@ pub record AreWritten (ts : List Terminal) : Type 0 where
   pub of_source : AreOfSource tokens
   pub terminals : map (λ (t : Token). terminal_of t.kind t.text) tokens ≡ ts
 
-pub all_written : (ts : List Terminal) → all_pass is_name ts ≡ true → AreWritten ts
+pub all_written : (ts : List Terminal) → all_as_spelled is_name ts ≡ true → AreWritten ts
 all_written [] h = record { tokens = []; of_source = All-nil IsOfSource; terminals = refl }
 all_written (x ∷ ts) h =
-    let w = and_parts (passes is_name x) (all_pass is_name ts) h in
+    let w = and_parts (passes_as_spelled is_name x) (all_as_spelled is_name ts) h in
     let u = written x w.0 in
     let r = all_written ts w.1 in
     let t : Token = record { kind = u.kind; start = somewhere; text = u.text } in

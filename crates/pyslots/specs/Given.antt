@@ -25,7 +25,7 @@ is_literal _ = false
 
 -- a terminal that a token may be, whose name passes
 abbrev pub passes : (Identifier → Bool) → Terminal → Bool
-passes n (Ident x) = n x
+passes n (Ident x) = n x.form
 passes n (Whole k) = nat_lt k (2 ^ 128)
 passes n (Literal v) = is_literal v
 passes n _ = true

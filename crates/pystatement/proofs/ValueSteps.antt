@@ -68,7 +68,7 @@ module _ (ts : List given.Terminal) (self : Reads) (e : Expr) (n : ℕ) where
 -- a name and a colon, or anything else
 module _ (ts : List given.Terminal) (self : Reads) (at : ℕ) where
   pub name_noted : (x : Identifier) → IsNamed Colon x ts at → value_statement self (seen ts at) ≡ annotation self (Trees.Name x Store) true (seen ts (at + 2))
-  name_noted x h = rw h.is refl
+  name_noted x h = rw (h.is, h.form) refl
 
   pub not_noted : IsNotNamed Colon ts at → value_statement self (seen ts at) ≡ value_loop self (suc (length (seen ts at))) [] (seen ts at)
   not_noted h = name_miss Colon ts at (λ x r. annotation self (Trees.Name x Store) true r) (value_loop self (suc (length (seen ts at))) [] (seen ts at)) h

@@ -39,7 +39,7 @@ fn plain_statement(
     ensures { PartAnswered tokens.now (at + 1) (begun profile (reads depth) (seen tokens.now at))
         (λ r. stmt_of r.statement) (λ r. r.next) result }
 {
-    match type_name_at(alloc, tokens, at, profile)? {
+    match type_name_at(tokens, at, profile) {
         Some(name) => type_alias(alloc, tokens, name, at + 2, profile, depth),
         None => value_statement(alloc, tokens, at, depth),
     }

@@ -7,7 +7,7 @@ use Rattle.pynode.specs.Values.{Str, Bytes}
 use Rattle.pytoken.specs.declared.faults.TokenError.{TokenError}
 use Rattle.pytoken.specs.declared.faults.TokenError.TheVariants as errors
 use Rattle.pytoken.specs.declared.keywords.Keyword.TheVariants as words
-use Rattle.pytoken.specs.Terminals.{Terminal, Ident, Word, Whole, Literal, terminal_of, fault_of}
+use Rattle.pytoken.specs.Terminals.{Terminal, Ident, in_form, Word, Whole, Literal, terminal_of, fault_of}
 use Rattle.pytoken.proofs.Computing.{values}
 
 -- a text, and what it stands for
@@ -176,12 +176,12 @@ faulty_comments_are = refl
 -- names and keywords
 abbrev names : List Row
 names =
-    row (codes "x") (Ident (codes "x")) ∷
-    row (64257 ∷ []) (Ident (codes "fi")) ∷  -- \ufb01
+    row (codes "x") (in_form (codes "x")) ∷
+    row (64257 ∷ []) (Ident (record { spelling = 64257 ∷ []; form = codes "fi" })) ∷  -- \ufb01
     row (codes "while") (Word words.While) ∷
     row (codes "None") (Word words.None) ∷
-    row (codes "print") (Ident (codes "print")) ∷
-    row (101 ∷ 769 ∷ []) (Ident (233 ∷ [])) ∷  -- e\u0301
+    row (codes "print") (in_form (codes "print")) ∷
+    row (101 ∷ 769 ∷ []) (Ident (record { spelling = 101 ∷ 769 ∷ []; form = 233 ∷ [] })) ∷  -- e\u0301
     []
 
 names_stand : Stand kinds.Name names

@@ -27,7 +27,7 @@ use Rattle.pytoken.specs.declared.keywords.Keyword.TheVariants as words
 use Rattle.pytoken.specs.declared.faults.TokenError.TheVariants.{NameForm}
 use Rattle.pytoken.specs.Keywords.{keywords, keyword_of, spelling_of}
 use Rattle.pytoken.specs.NameValues.{is_unfit, form_fault, name_fault}
-use Rattle.pytoken.specs.Terminals.{Terminal, Word, Ident, terminal_of, fault_of, is_of, Gives}
+use Rattle.pytoken.specs.Terminals.{Terminal, Word, Ident, in_form, terminal_of, fault_of, is_of, Gives}
 use Rattle.pytoken.specs.Laws.{IsProper, ComeBack, NamesAreProper}
 use Rattle.pytoken.proofs.Constants.{Stands, quote_mark, whole_stands, text_stands, unicode_stands, bytes_stand}
 use Rattle.pytoken.proofs.Lexing.{whole_is_number, text_is_string, u_text_is_string, bytes_are_string}
@@ -196,9 +196,9 @@ name_sound : (t : List ℕ) → nfkc t ≡ t → fault_of kinds.Name t ≡ None
 unfolding fault_of name_fault
 name_sound t form = let same = own_form t form in rw same refl
 
-name_is : (t : List ℕ) → nfkc t ≡ t → keyword_of t ≡ None → terminal_of kinds.Name t ≡ Ident t
+name_is : (t : List ℕ) → nfkc t ≡ t → keyword_of t ≡ None → terminal_of kinds.Name t ≡ in_form t
 unfolding terminal_of
-name_is t form free = rw (free, terminal_of) (ap Ident form)
+name_is t form free = rw (free, terminal_of) (ap (λ z. Ident (record { spelling = t; form = z })) form)
 
 -- a form that may stand for another text
 fit_form : (form : List ℕ) → form_fault form ≡ None → IsProper form

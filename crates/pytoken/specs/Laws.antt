@@ -20,7 +20,7 @@ use Rattle.pytoken.specs.NumberValues.{whole_value, number_fault}
 use Rattle.pytoken.specs.Escapes.{meanings, points_in}
 use Rattle.pytoken.specs.StringValues.{string_value, string_fault}
 use Rattle.pytoken.specs.NameValues.{name_fault}
-use Rattle.pytoken.specs.Terminals.{IsSound, Gives, Word, Ident, Whole, Literal}
+use Rattle.pytoken.specs.Terminals.{IsSound, Gives, Word, in_form, Whole, Literal}
 use Rattle.pytoken.specs.Tokens.{Token, tokens}
 use Rattle.pytoken.specs.Indentation.{margins}
 use Rattle.pytoken.specs.Refusals.{refusal}
@@ -37,7 +37,7 @@ pub record ComeBack : Type 0 where
   pub text : (points : List ℕ) → All IsPoint points → Gives kinds.String (repr_chars points) (Literal (Str points false))
   pub unicode : (points : List ℕ) → All IsPoint points → Gives kinds.String (117 ∷ repr_chars points) (Literal (Str points true))
   pub bytes : (bs : List ℕ) → All (λ b. b < 0x100) bs → Gives kinds.String (repr_bytes bs) (Literal (Bytes bs))
-  pub name : (t : List ℕ) → IsProper t → Gives kinds.Name t (Ident t)
+  pub name : (t : List ℕ) → IsProper t → Gives kinds.Name t (in_form t)
   pub keyword : (k : Keyword) → Gives kinds.Name (spelling_of k) (Word k)
   -- a repr, in UTF-8, is of the repr's characters, though the points may be surrogates
   pub characters : (points : List ℕ) → All IsPoint points → chars (repr_text points) ≡ repr_chars points

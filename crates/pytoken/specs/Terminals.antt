@@ -16,10 +16,15 @@ use Rattle.pytoken.specs.NumberValues.{whole_value, number_fault}
 use Rattle.pytoken.specs.StringValues.{string_value, string_fault, nul_fault}
 use Rattle.pytoken.specs.NameValues.{name_fault}
 
+-- a name as it stands in a source: its characters, and its form NFKC, which is the name that it stands for
+pub record Spelled : Type 0 where
+  pub spelling : List ℕ
+  pub form : List ℕ
+
 pub data Terminal : Type 0 where
   Op : Exact → Terminal
   Word : Keyword → Terminal
-  Ident : List ℕ → Terminal  -- a NAME that is no keyword, in its form NFKC
+  Ident : Spelled → Terminal  -- a NAME that is no keyword
   Whole : ℕ → Terminal
   Literal : Value → Terminal  -- the value of one STRING: Str with its kind, or Bytes
   Layout : Terminal  -- NEWLINE, INDENT, DEDENT, ENDMARKER
@@ -27,12 +32,16 @@ pub data Terminal : Type 0 where
 -- what a token of this type and text is; one with a fault of its own may be anything
 unfoldable pub terminal_of : Kind → List ℕ → Terminal
 terminal_of k t = elim k [
-  | kinds.Name ↦ elim (keyword_of t) [ Some w ↦ Word w | None ↦ Ident (nfkc t) ]
+  | kinds.Name ↦ elim (keyword_of t) [ Some w ↦ Word w | None ↦ Ident (record { spelling = t; form = nfkc t }) ]
   | kinds.Number ↦ Whole (whole_value t)
   | kinds.String ↦ Literal (string_value t)
   | kinds.Op ↦ elim (exact_of t) [ Some e ↦ Op e | None ↦ Layout ]
   | _ ↦ Layout
 ]
+
+-- a name that is spelled in its form
+abbrev pub in_form : List ℕ → Terminal
+in_form x = Ident (record { spelling = x; form = x })
 
 -- the fault of an entry of this type and text
 unfoldable pub fault_of : Kind → List ℕ → Option TokenError

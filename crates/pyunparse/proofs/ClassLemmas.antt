@@ -14,7 +14,7 @@ use Rattle.pygrammar.specs.Operators.{below, chain_level, chain_word}
 use Rattle.pynode.specs.Trees
 use Rattle.pynode.specs.Trees.{Identifier, Expr, Exprs, OptionalExpr, Keywords, Comprehensions, Arguments}
 use Rattle.pyspacing.specs.Spacing.{Piece}
-use Rattle.pytoken.specs.Terminals.{Op, Ident}
+use Rattle.pytoken.specs.Terminals.{Op, in_form}
 use Rattle.pywritten.specs.Levels.{reaches, operator_level, left_level, right_level, operator_sign, unary_level}
 use Rattle.pywritten.specs.Pieces.{piece, pieces}
 use Rattle.pywritten.specs.Written.{enclosed, fit, written, free, word, leading, trailing, tight, separated, listed, unary, compared, each, perhaps, suffixed, parameters, clauses, alone, by_name, lone_generator}
@@ -124,10 +124,10 @@ module _ {S : Type 0} (after : S → Piece → S) (s : S) (l : Level) where
       s1 ≡ puts after s (opened b) →
       s2 ≡ puts after s1 (pieces Primary e) →
       s3 ≡ puts after s2 (tight piece Dot ∷ []) →
-      s4 ≡ puts after s3 (free piece (Ident x) ∷ []) →
+      s4 ≡ puts after s3 (free piece (in_form x) ∷ []) →
       puts after s4 (closed b) ≡ puts after s (pieces l (Trees.Attribute e x c))
   unfolding written
-  attribute b e x c s1 s2 s3 s4 h e1 e2 e3 e4 = within Primary b ((pieces Primary e) ++ ((tight piece Dot ∷ []) ++ ((free piece (Ident x) ∷ [])))) s1 s4 h e1 (e4 ∙ three after s1 (pieces Primary e) (tight piece Dot ∷ []) (free piece (Ident x) ∷ []) s2 s3 e2 e3)
+  attribute b e x c s1 s2 s3 s4 h e1 e2 e3 e4 = within Primary b ((pieces Primary e) ++ ((tight piece Dot ∷ []) ++ ((free piece (in_form x) ∷ [])))) s1 s4 h e1 (e4 ∙ three after s1 (pieces Primary e) (tight piece Dot ∷ []) (free piece (in_form x) ∷ []) s2 s3 e2 e3)
 
   pub subscript : (b : Bool) (e f : Expr) (c : Context) (s1 s2 s3 s4 s5 : S) →
       b ≡ reaches l Primary →

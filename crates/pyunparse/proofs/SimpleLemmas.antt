@@ -22,7 +22,7 @@ use Rattle.pynode.proofs.Callers.StmtShapes.{ann_assign_tree, assert_tree, assig
 use Rattle.pygrammar.specs.declared.levels.Level.TheVariants as Level
 use Rattle.pygrammar.specs.Forms.{type_name}
 use Rattle.pyspacing.specs.Spacing.{Piece}
-use Rattle.pytoken.specs.Terminals.{Ident, Op}
+use Rattle.pytoken.specs.Terminals.{in_form, Op}
 use Rattle.pywritten.specs.Pieces.{piece, pieces}
 use Rattle.pywritten.specs.Statements.{annotated, augmented_sign, behind, dotted_alias, one_name, perhaps_written, simple_tokens, targets, type_params}
 use Rattle.pywritten.specs.Written.{each, free, leading, listed, trailing, word}
@@ -45,10 +45,10 @@ module _ {S : Type 0} (after : S → Piece → S) (s : S) where
 
   -- a Name that isn't simple, in its brackets
   pub bracketed_name : (e : Expr) (x : Identifier) (c : Context) (s1 s2 : S) → e ≡ expression.Name x c →
-      s1 ≡ puts after s (leading piece LPar ∷ []) → s2 ≡ puts after s1 (free piece (Ident x) ∷ []) →
+      s1 ≡ puts after s (leading piece LPar ∷ []) → s2 ≡ puts after s1 (free piece (in_form x) ∷ []) →
       puts after s2 (trailing piece RPar ∷ []) ≡ puts after s (annotated piece (tree_of e) false)
   bracketed_name e x c s1 s2 is e1 e2 =
-      three after s (leading piece LPar ∷ []) (free piece (Ident x) ∷ []) (trailing piece RPar ∷ []) s1 s2 e1 e2
+      three after s (leading piece LPar ∷ []) (free piece (in_form x) ∷ []) (trailing piece RPar ∷ []) s1 s2 e1 e2
       ∙ ap (λ t. puts after s (annotated piece t false)) (sym (ap tree_of is ∙ name_tree x c))
 
   -- by the class of a statement
@@ -82,12 +82,12 @@ module _ {S : Type 0} (after : S → Piece → S) (s : S) where
         ∙ same (plain.AnnAssign (tree_of t.value) (tree_of a.value) (boxed_of v) simple) (ap stmt_of is ∙ ann_assign_tree t a v simple)
 
     pub alias_on : (t : Expr) (ps : Vec TypeParam Global) (e : Expr) (qs : List TypeParam) (s1 s2 s3 s4 : S) → r ≡ statement.TypeAlias t ps e → qs ≡ ps.items →
-        s1 ≡ puts after s (piece (Ident (chars (116 ∷ 121 ∷ 112 ∷ 101 ∷ []))) false false ∷ []) → s2 ≡ puts after s1 (pieces Level.Primary (tree_of t)) →
+        s1 ≡ puts after s (piece (in_form (chars (116 ∷ 121 ∷ 112 ∷ 101 ∷ []))) false false ∷ []) → s2 ≡ puts after s1 (pieces Level.Primary (tree_of t)) →
         s3 ≡ puts after s2 (type_params piece (map type_param_of qs)) → s4 ≡ puts after s3 (free piece (Op Equal) ∷ []) →
         puts after s4 (pieces Level.Expression (tree_of e)) ≡ puts after s (simple_tokens piece (stmt_of r))
     alias_on t ps e qs s1 s2 s3 s4 is same_parameters e1 e2 e3 e4 =
-        five after s (free piece (Ident type_name) ∷ []) (pieces Level.Primary (tree_of t)) (type_params piece (map type_param_of qs)) (free piece (Op Equal) ∷ []) (pieces Level.Expression (tree_of e)) s1 s2 s3 s4
-        (e1 ∙ ap (λ z. puts after s (free piece (Ident z) ∷ [])) type_text) e2 e3 e4
+        five after s (free piece (in_form type_name) ∷ []) (pieces Level.Primary (tree_of t)) (type_params piece (map type_param_of qs)) (free piece (Op Equal) ∷ []) (pieces Level.Expression (tree_of e)) s1 s2 s3 s4
+        (e1 ∙ ap (λ z. puts after s (free piece (in_form z) ∷ [])) type_text) e2 e3 e4
         ∙ ap (λ z. puts after s (simple_tokens piece (plain.TypeAlias (tree_of t) (map type_param_of z) (tree_of e)))) same_parameters
         ∙ same (plain.TypeAlias (tree_of t) (map type_param_of ps.items) (tree_of e)) (ap stmt_of is ∙ type_alias_tree t ps e)
 

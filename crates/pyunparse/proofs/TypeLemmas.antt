@@ -9,7 +9,7 @@ use Rattle.pynode.specs.Trees.{Identifier}
 use Rattle.pynode.specs.TreeOf.{option_of, type_param_of}
 use Rattle.pygrammar.specs.declared.levels.Level.TheVariants.{Expression}
 use Rattle.pyspacing.specs.Spacing.{Piece}
-use Rattle.pytoken.specs.Terminals.{Ident}
+use Rattle.pytoken.specs.Terminals.{in_form}
 use Rattle.pywritten.specs.Pieces.{piece}
 use Rattle.pywritten.specs.Statements.{behind, type_param, type_params}
 use Rattle.pywritten.specs.Written.{free, leading, listed, tight, trailing}
@@ -19,19 +19,19 @@ use Rattle.pyunparse.proofs.FoldLemmas.{enclosed_on, two}
 
 module _ {S : Type 0} (after : S → Piece → S) (s : S) where
   module _ (p : TypeParam) where
-    pub variable_on : (x : Identifier) (bound : Option Expr) (s1 : S) → p ≡ parameter.TypeVar x bound → s1 ≡ puts after s (free piece (Ident x) ∷ []) →
+    pub variable_on : (x : Identifier) (bound : Option Expr) (s1 : S) → p ≡ parameter.TypeVar x bound → s1 ≡ puts after s (free piece (in_form x) ∷ []) →
         puts after s1 (behind piece (trailing piece Colon) Expression (option_of bound)) ≡ puts after s (type_param piece (type_param_of p))
     variable_on x bound s1 is e1 =
-        two after s (free piece (Ident x) ∷ []) (behind piece (trailing piece Colon) Expression (option_of bound)) s1 e1
+        two after s (free piece (in_form x) ∷ []) (behind piece (trailing piece Colon) Expression (option_of bound)) s1 e1
         ∙ ap (λ z. puts after s (type_param piece (type_param_of z))) (sym is)
 
     pub tuple_on : (x : Identifier) (s1 : S) → p ≡ parameter.TypeVarTuple x → s1 ≡ puts after s (leading piece Star ∷ []) →
-        puts after s1 (free piece (Ident x) ∷ []) ≡ puts after s (type_param piece (type_param_of p))
-    tuple_on x s1 is e1 = two after s (leading piece Star ∷ []) (free piece (Ident x) ∷ []) s1 e1 ∙ ap (λ z. puts after s (type_param piece (type_param_of z))) (sym is)
+        puts after s1 (free piece (in_form x) ∷ []) ≡ puts after s (type_param piece (type_param_of p))
+    tuple_on x s1 is e1 = two after s (leading piece Star ∷ []) (free piece (in_form x) ∷ []) s1 e1 ∙ ap (λ z. puts after s (type_param piece (type_param_of z))) (sym is)
 
     pub specification_on : (x : Identifier) (s1 : S) → p ≡ parameter.ParamSpec x → s1 ≡ puts after s (leading piece DoubleStar ∷ []) →
-        puts after s1 (free piece (Ident x) ∷ []) ≡ puts after s (type_param piece (type_param_of p))
-    specification_on x s1 is e1 = two after s (leading piece DoubleStar ∷ []) (free piece (Ident x) ∷ []) s1 e1 ∙ ap (λ z. puts after s (type_param piece (type_param_of z))) (sym is)
+        puts after s1 (free piece (in_form x) ∷ []) ≡ puts after s (type_param piece (type_param_of p))
+    specification_on x s1 is e1 = two after s (leading piece DoubleStar ∷ []) (free piece (in_form x) ∷ []) s1 e1 ∙ ap (λ z. puts after s (type_param piece (type_param_of z))) (sym is)
 
   -- in their brackets, if there are any
   pub no_params : (ps : List TypeParam) → true ≡ (length ps == 0) → s ≡ puts after s (type_params piece (map type_param_of ps))

@@ -3,7 +3,7 @@
 ghost use Rattle.std.specs.Prelude.{◌≡◌, Bool, false, true, [], ◌∷◌, OnOk, map, not, if◌then◌else◌};
 ghost use Rattle.std.specs.Str.{chars};
 ghost use Rattle.pynode.specs.declared.operators.Comparison.{Comparison};
-ghost use Rattle.pytoken.specs.Terminals.{Ident, Op, Word};
+ghost use Rattle.pytoken.specs.Terminals.{in_form, Op, Word};
 ghost use Rattle.pyunparse.specs.Inner.Folds.{closed, opened, puts};
 ghost use Rattle.pyunparse.specs.Inner.Members.{mark};
 ghost use Rattle.pywritten.specs.Levels.{comparison_signs};
@@ -41,14 +41,14 @@ pub(crate) fn put_word<W: Writer>(out: &mut W, word: Keyword) -> Result<(), Allo
 
 /// Writes a name, which may keep close to what stands before it.
 pub(crate) fn put_text<W: Writer>(out: &mut W, name: &str, before: bool) -> Result<(), AllocError>
-    ensures { OnOk result (out.new ≡ puts W.after out.old (piece (Ident (chars name.now)) before false ∷ [])) }
+    ensures { OnOk result (out.new ≡ puts W.after out.old (piece (in_form (chars name.now)) before false ∷ [])) }
 {
     out.put(Kind::Name, name, before, false)
 }
 
 /// Writes a name.
 pub(crate) fn put_name<W: Writer>(out: &mut W, name: &Identifier) -> Result<(), AllocError>
-    ensures { OnOk result (out.new ≡ puts W.after out.old (written.free piece (Ident name.now) ∷ [])) }
+    ensures { OnOk result (out.new ≡ puts W.after out.old (written.free piece (in_form name.now) ∷ [])) }
 {
     out.put(Kind::Name, name.as_str(), false, false)
 }

@@ -17,18 +17,18 @@ use Rattle.pyvalue.specs.declared.terminals.TerminalFault.TheVariants.{Token, Me
 abbrev pub literal_characters : LiteralText → List ℕ
 literal_characters l = chars l.text.now
 
--- what a terminal is: a name is its form NFKC, a literal its value
+-- what a terminal is: a name is its spelling and its form NFKC, a literal its value
 abbrev pub terminal : Terminal → Terminals.Terminal
 terminal (Op exact) = Terminals.Op exact
 terminal (Word word) = Terminals.Word word
-terminal (Ident text) = Terminals.Ident (nfkc (chars text.now))
+terminal (Ident text) = Terminals.Ident (record { spelling = chars text.now; form = nfkc (chars text.now) })
 terminal (Whole value) = Terminals.Whole value
 terminal (Literal l) = Terminals.Literal (string_value (literal_characters l))
 terminal Layout = Terminals.Layout
 
 -- what the texts of a NAME, a NUMBER and a STRING are
 abbrev pub named : List ℕ → Terminals.Terminal
-named t = elim (keyword_of t) [ Some w ↦ Terminals.Word w | None ↦ Terminals.Ident (nfkc t) ]
+named t = elim (keyword_of t) [ Some w ↦ Terminals.Word w | None ↦ Terminals.Ident (record { spelling = t; form = nfkc t }) ]
 
 abbrev pub numbered : List ℕ → Terminals.Terminal
 numbered t = Terminals.Whole (whole_value t)

@@ -11,6 +11,7 @@ pub mod Readable
 pub mod OfTokens
 pub mod Derived
 pub mod Law
+pub mod TypeWord
 pub mod LineForms
 pub mod Imports
 pub mod HeaderForms

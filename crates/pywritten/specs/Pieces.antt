@@ -82,7 +82,7 @@ kind_of Layout = kinds.Newline
 abbrev pub text_of : Terminal → List ℕ
 text_of (Op x) = sign_text x
 text_of (Word k) = spelling_of k
-text_of (Ident x) = x
+text_of (Ident x) = x.spelling
 text_of (Whole n) = decimal n
 text_of (Literal v) = literal_text v
 text_of Layout = []

@@ -7,7 +7,7 @@ use Rattle.pynode.specs.declared.operators.Operator.{Operator}
 use Rattle.pynode.specs.declared.operators.Operator.TheVariants as Bin
 use Rattle.pynode.specs.Trees
 use Rattle.pynode.specs.Trees.{Identifier, Expr, Exprs, no_exprs, an_expr, exprs, Keywords, no_keyword, Alias, Item, TypeParam, TypeVar, ParamSpec, TypeVarTuple, Stmt}
-use Rattle.pytoken.specs.Terminals.{Op, Ident}
+use Rattle.pytoken.specs.Terminals.{Op, in_form}
 use Rattle.pygrammar.specs.declared.levels.Level.{Level}
 use Rattle.pygrammar.specs.declared.levels.Level.TheVariants.{Value, Stars, Named, Expression, Primary}
 use Rattle.pygrammar.specs.Lines.{Header, if_header, elif_header, else_header, loop_header, with_header, try_header, except_header, finally_header, def_header, while_head, for_head, function_head, class_head}
@@ -89,7 +89,7 @@ module _ {A : Type 0} (make : Maker A) where
   -- ["as" NAME]
   abbrev pub as_name : Option Identifier → List A
   as_name None = []
-  as_name (Some x) = word make Key.As ∷ (free make (Ident x) ∷ [])
+  as_name (Some x) = word make Key.As ∷ (free make (in_form x) ∷ [])
 
   -- ["async"]
   abbrev pub async : Bool → List A
@@ -97,13 +97,13 @@ module _ {A : Type 0} (make : Maker A) where
   async true = word make Key.Async ∷ []
 
   abbrev pub one_name : Identifier → List A
-  one_name x = free make (Ident x) ∷ []
+  one_name x = free make (in_form x) ∷ []
 
   -- [ "[" TypeParam,.. "]" ]
   abbrev pub type_param : TypeParam → List A
-  type_param (TypeVar x bound) = free make (Ident x) ∷ behind (trailing make Colon) Expression bound
-  type_param (TypeVarTuple x) = leading make Star ∷ (free make (Ident x) ∷ [])
-  type_param (ParamSpec x) = leading make DoubleStar ∷ (free make (Ident x) ∷ [])
+  type_param (TypeVar x bound) = free make (in_form x) ∷ behind (trailing make Colon) Expression bound
+  type_param (TypeVarTuple x) = leading make Star ∷ (free make (in_form x) ∷ [])
+  type_param (ParamSpec x) = leading make DoubleStar ∷ (free make (in_form x) ∷ [])
 
   abbrev pub type_params : List TypeParam → List A
   type_params [] = []
@@ -114,12 +114,12 @@ module _ {A : Type 0} (make : Maker A) where
   -- names behind a first one
   abbrev pub dotted_rest : List Identifier → List A
   dotted_rest [] = []
-  dotted_rest (x ∷ xs) = tight make Dot ∷ (free make (Ident x) ∷ dotted_rest xs)
+  dotted_rest (x ∷ xs) = tight make Dot ∷ (free make (in_form x) ∷ dotted_rest xs)
 
   -- NAME ("." NAME)*; behind points the first one keeps close to them
   abbrev pub dotted_names : Bool → List Identifier → List A
   dotted_names close [] = []
-  dotted_names close (x ∷ xs) = make (Ident x) close false ∷ dotted_rest xs
+  dotted_names close (x ∷ xs) = make (in_form x) close false ∷ dotted_rest xs
 
   abbrev pub dotted : Bool → Identifier → List A
   dotted close x = dotted_names close (names_in x)
@@ -137,7 +137,7 @@ module _ {A : Type 0} (make : Maker A) where
   dotted_alias a = dotted false a.name ++ as_name a.asname
 
   abbrev pub name_alias : Alias → List A
-  name_alias a = free make (Ident a.name) ∷ as_name a.asname
+  name_alias a = free make (in_form a.name) ∷ as_name a.asname
 
   abbrev pub imported : List Alias → List A
   imported names = if are_all names then free make (Op Star) ∷ [] else listed make (map name_alias names)
@@ -151,7 +151,7 @@ module _ {A : Type 0} (make : Maker A) where
 
   -- a Name has brackets where `simple` is false
   abbrev pub annotated : Expr → Bool → List A
-  annotated (Trees.Name x c) false = bracketed make (free make (Ident x) ∷ [])
+  annotated (Trees.Name x c) false = bracketed make (free make (in_form x) ∷ [])
   annotated e _ = written make Primary e
 
   -- nothing for a statement with a block
@@ -160,7 +160,7 @@ module _ {A : Type 0} (make : Maker A) where
   simple_tokens (Trees.Assign es e) = targets es ++ written make Value e
   simple_tokens (Trees.AugAssign t o e) = written make Primary t ++ (free make (Op (augmented_sign o)) ∷ written make Value e)
   simple_tokens (Trees.AnnAssign t a v simple) = annotated t simple ++ (trailing make Colon ∷ (written make Expression a ++ behind (free make (Op Equal)) Value v))
-  simple_tokens (Trees.TypeAlias t ps e) = free make (Ident type_name) ∷ (written make Primary t ++ (type_params ps ++ (free make (Op Equal) ∷ written make Expression e)))
+  simple_tokens (Trees.TypeAlias t ps e) = free make (in_form type_name) ∷ (written make Primary t ++ (type_params ps ++ (free make (Op Equal) ∷ written make Expression e)))
   simple_tokens (Trees.Return e) = word make Key.Return ∷ perhaps_written Stars e
   simple_tokens (Trees.Raise e c) = word make Key.Raise ∷ (perhaps_written Expression e ++ behind (word make Key.From) Expression c)
   simple_tokens (Trees.Assert e m) = word make Key.Assert ∷ (written make Expression e ++ behind (trailing make Comma) Expression m)
@@ -212,5 +212,5 @@ module _ {A : Type 0} (make : Maker A) where
   header_tokens (except_header b e x) = word make Key.Except ∷ (starred b ++ (perhaps_written Expression e ++ as_name x))
   header_tokens finally_header = word make Key.Finally ∷ []
   header_tokens (def_header (function_head b x ps a r)) =
-      async b ++ (word make Key.Def ∷ (free make (Ident x) ∷ (type_params ps ++ (enclosed make (tight make LPar) RPar (listed make (parameters make a)) ++ behind (free make (Op RArrow)) Expression r))))
-  header_tokens (def_header (class_head x ps es ks)) = word make Key.Class ∷ (free make (Ident x) ∷ (type_params ps ++ bases es ks))
+      async b ++ (word make Key.Def ∷ (free make (in_form x) ∷ (type_params ps ++ (enclosed make (tight make LPar) RPar (listed make (parameters make a)) ++ behind (free make (Op RArrow)) Expression r))))
+  header_tokens (def_header (class_head x ps es ks)) = word make Key.Class ∷ (free make (in_form x) ∷ (type_params ps ++ bases es ks))

@@ -12,7 +12,7 @@ use Rattle.pygrammar.specs.declared.levels.Level.TheVariants.{Value, Stars, Star
 use Rattle.pynode.specs.Values
 use Rattle.pynode.specs.Trees
 use Rattle.pynode.specs.Trees.{Expr, Exprs, no_exprs, an_expr, OptionalExpr, absent, present, OptionalExprs, no_optional, an_optional, Comprehensions, no_comprehension, a_comprehension, Keywords, no_keyword, a_keyword, arg, Args, no_arg, an_arg, OptionalArg, absent_arg, present_arg, Arguments, arguments}
-use Rattle.pytoken.specs.Terminals.{Terminal, Op, Word, Ident, Whole, Literal}
+use Rattle.pytoken.specs.Terminals.{Terminal, Op, Word, in_form, Whole, Literal}
 use Rattle.pygrammar.specs.Operators.{below, chain_level, chain_word}
 use Rattle.pywritten.specs.Levels.{reaches, operator_level, left_level, right_level, operator_sign, unary_level, unary_sign, comparison_signs}
 
@@ -174,10 +174,10 @@ module _ {A : Type 0} (make : Maker A) where
     written l (Trees.Compare e os es) = fit l Compare (written BitOr e ++ compared os (each BitOr es))
     written l (Trees.BinOp a o b) = fit l (operator_level o) (written (left_level o) a ++ (free (operator_sign o) ∷ written (right_level o) b))
     written l (Trees.Await e) = fit l Await (word Key.Await ∷ written Primary e)
-    written l (Trees.Attribute e x c) = fit l Primary (written Primary e ++ (tight Dot ∷ (free (Ident x) ∷ [])))
+    written l (Trees.Attribute e x c) = fit l Primary (written Primary e ++ (tight Dot ∷ (free (in_form x) ∷ [])))
     written l (Trees.Call f es ks) = fit l Primary (written Primary f ++ enclosed (tight LPar) RPar (if lone_generator es ks then alone es else listed (each Named es ++ by_name ks)))
     written l (Trees.Subscript e s c) = fit l Primary (written Primary e ++ enclosed (tight LSqb) RSqb (written Slices s))
-    written l (Trees.Name x c) = free (Ident x) ∷ []
+    written l (Trees.Name x c) = free (in_form x) ∷ []
     written l (Trees.Constant v) = free (constant_terminal v) ∷ []
     written l (Trees.Tuple es c) = tuple_of (element_level l (some_named es)) (lone_star es) (each (element_level l (some_named es)) es)
     written l (Trees.GeneratorExp e gs) = bracketed (written Named e ++ clauses gs)
@@ -211,7 +211,7 @@ module _ {A : Type 0} (make : Maker A) where
     pub by_name : Keywords → List (List A)
     by_name no_keyword = []
     by_name (a_keyword None e ks) = (leading DoubleStar ∷ written Expression e) ∷ by_name ks
-    by_name (a_keyword (Some x) e ks) = (free (Ident x) ∷ (tight Equal ∷ written Expression e)) ∷ by_name ks
+    by_name (a_keyword (Some x) e ks) = (free (in_form x) ∷ (tight Equal ∷ written Expression e)) ∷ by_name ks
 
     pub written_keys : OptionalExprs → List (Option (List A))
     written_keys no_optional = []
@@ -239,12 +239,12 @@ module _ {A : Type 0} (make : Maker A) where
 
     pub names : Args → List (List A)
     names no_arg = []
-    names (an_arg (arg x a) rest) = (free (Ident x) ∷ suffixed (trailing Colon) a) ∷ names rest
+    names (an_arg (arg x a) rest) = (free (in_form x) ∷ suffixed (trailing Colon) a) ∷ names rest
 
     -- `*` NAME or `**` NAME
     pub gathered : Exact → OptionalArg → List (List A)
     gathered s absent_arg = []
-    gathered s (present_arg (arg x a)) = (leading s ∷ (free (Ident x) ∷ suffixed (trailing Colon) a)) ∷ []
+    gathered s (present_arg (arg x a)) = (leading s ∷ (free (in_form x) ∷ suffixed (trailing Colon) a)) ∷ []
 
     pub defaults : OptionalExprs → List (List A)
     defaults no_optional = []

@@ -9,7 +9,7 @@ use Rattle.pynode.specs.declared.operators.Context.TheVariants.{Load}
 use Rattle.pygrammar.specs.declared.levels.Level.TheVariants.{Expression, Or, Primary, Elem}
 use Rattle.pynode.specs.Trees.{Expr, an_expr, comprehensions, Identifier, Item}
 use Rattle.pynode.specs.Trees as Trees
-use Rattle.pytoken.specs.Terminals.{Terminal, Op, Word, Ident}
+use Rattle.pytoken.specs.Terminals.{Spelled, Terminal, Op, Word, Ident}
 use Rattle.pyheight.specs.Heights.{height, item_heights}
 use Rattle.pygrammar.specs.Looks.{is_op, is_word, name_in}
 use Rattle.pygrammar.specs.Entries.{Of, Entry, Single, singles}
@@ -44,12 +44,12 @@ op_misses {B} y i k x miss = test_is x (is_op y) i k x (λ t a u f q. elim (op_o
 word_misses : {B : Type 0} (y : Keyword) (i : List Terminal) (k : ℕ → List Terminal → B) (x : B) → ((u : List Terminal) → i ≡ Word y ∷ u → ⊥) → on_first (is_word y) i k x ≡ x
 word_misses {B} y i k x miss = test_is x (is_word y) i k x (λ t a u f q. elim (word_or_not y t) as (λ _. k a u ≡ x) [ inl e ↦ absurd (miss u (q ∙ ap (λ z. z ∷ u) e)) | inr w ↦ absurd (some_none a (sym f ∙ w)) ]) refl
 
-name_is : (t : Terminal) (x : Identifier) → name_in t ≡ Some x → t ≡ Ident x
-name_is (Ident y) x h = cc
+name_is : (t : Terminal) (x : Identifier) → name_in t ≡ Some x → (y : Spelled) × (t ≡ Ident y) × (y.form ≡ x)
+name_is (Ident y) x h = (y, refl, cc)
 name_is _ x h = absurd (cc)
 
-named_misses : {B : Type 0} (y : Exact) (i : List Terminal) (k : Identifier → List Terminal → B) (x : B) → ((a : Identifier) (u : List Terminal) → i ≡ Ident a ∷ (Op y ∷ u) → ⊥) → on_name_with y i k x ≡ x
-named_misses y i k x miss = test_is x name_in i _ x (λ t a u f q. op_misses y u _ x (λ v p. miss a v (q ∙ (ap (λ z. z ∷ u) (name_is t a f) ∙ ap (λ z. Ident a ∷ z) p)))) refl
+named_misses : {B : Type 0} (y : Exact) (i : List Terminal) (k : Identifier → List Terminal → B) (x : B) → ((a : Spelled) (u : List Terminal) → i ≡ Ident a ∷ (Op y ∷ u) → ⊥) → on_name_with y i k x ≡ x
+named_misses y i k x miss = test_is x name_in i _ x (λ t a u f q. op_misses y u _ x (λ v p. let w = name_is t a f in miss w.0 v (q ∙ (ap (λ z. z ∷ u) w.1 ∙ ap (λ z. Ident w.0 ∷ z) p)))) refl
 
 -- ---- What the terminals are where an item goes too deep.
 deep_not_none : {A : Type 0} → ◌≡◌ {A = Answer A} NoForm TooDeep → ⊥
@@ -89,7 +89,7 @@ further one m a (t ∷ s) h = elim (op_or_not Sign.Comma t) [
 
 -- ---- An element, beside the item that begins where it does.
 -- without a star and without `:=` it is an Expression
-elem_is : (k : ℕ) (i : List Terminal) → ((u : List Terminal) → i ≡ Op Sign.Star ∷ u → ⊥) → ((a : Identifier) (u : List Terminal) → i ≡ Ident a ∷ (Op Sign.ColonEqual ∷ u) → ⊥) → read (suc k) Elem i ≡ read (suc k) Expression i
+elem_is : (k : ℕ) (i : List Terminal) → ((u : List Terminal) → i ≡ Op Sign.Star ∷ u → ⊥) → ((a : Spelled) (u : List Terminal) → i ≡ Ident a ∷ (Op Sign.ColonEqual ∷ u) → ⊥) → read (suc k) Elem i ≡ read (suc k) Expression i
 elem_is k i star named = op_misses Sign.Star i _ _ star ∙ named_misses Sign.ColonEqual i _ _ named
 
 module _ (h d : ℕ) where
@@ -119,14 +119,14 @@ module _ (h d : ℕ) where
   no_yield : (m : ℕ) (i : List Terminal) → commas one more (suc m) i ≡ TooDeep → (u : List Terminal) → i ≡ Word Key.Yield ∷ u → ⊥
   no_yield m i p u q = no_first m (Word Key.Yield ∷ u) refl (subst (λ z. commas one more (suc m) z ≡ TooDeep) q p)
 
-  no_named : (m : ℕ) (i : List Terminal) → commas one more (suc m) i ≡ TooDeep → (a : Identifier) (u : List Terminal) → i ≡ Ident a ∷ (Op Sign.ColonEqual ∷ u) → ⊥
-  no_named m i p a u q = deep_not_found (item (Trees.Name a Load) None ∷ []) (Op Sign.ColonEqual ∷ u) (sym (ap (λ z. and_then (and_then z behind_expression) (behind_item one m)) room_name) ∙ subst (λ z. commas one more (suc m) z ≡ TooDeep) q p)
+  no_named : (m : ℕ) (i : List Terminal) → commas one more (suc m) i ≡ TooDeep → (a : Spelled) (u : List Terminal) → i ≡ Ident a ∷ (Op Sign.ColonEqual ∷ u) → ⊥
+  no_named m i p a u q = deep_not_found (item (Trees.Name a.form Load) None ∷ []) (Op Sign.ColonEqual ∷ u) (sym (ap (λ z. and_then (and_then z behind_expression) (behind_item one m)) room_name) ∙ subst (λ z. commas one more (suc m) z ≡ TooDeep) q p)
     where
       low : (n : ℕ) (e : Expr) (r : List Terminal) → Over height n (Found e r) → n ≤ height e
       low n e r (over w) = w
 
-      room_name : room Expression (Ident a ∷ (Op Sign.ColonEqual ∷ u)) ≡ Found (Trees.Name a Load) (Op Sign.ColonEqual ∷ u)
-      room_name = elim (caps_read (suc h) (suc d) Expression (Ident a ∷ (Op Sign.ColonEqual ∷ u))) [ inl v ↦ v | inr v ↦ absurd (omega (arith, low (suc (suc d)) (Trees.Name a Load) (Op Sign.ColonEqual ∷ u) v.1)) ]
+      room_name : room Expression (Ident a ∷ (Op Sign.ColonEqual ∷ u)) ≡ Found (Trees.Name a.form Load) (Op Sign.ColonEqual ∷ u)
+      room_name = elim (caps_read (suc h) (suc d) Expression (Ident a ∷ (Op Sign.ColonEqual ∷ u))) [ inl v ↦ v | inr v ↦ absurd (omega (arith, low (suc (suc d)) (Trees.Name a.form Load) (Op Sign.ColonEqual ∷ u) v.1)) ]
 
   -- an element: high, or in front of `as`, or in front of a comma behind which an item goes too deep
   element : (m : ℕ) (i : List Terminal) (K : Expr → List Terminal → Answer Expr) → commas one more (suc m) i ≡ TooDeep →

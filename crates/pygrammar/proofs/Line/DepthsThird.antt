@@ -10,7 +10,7 @@ use Rattle.pynode.specs.declared.operators.Context.TheVariants.{Load, Store, Del
 use Rattle.pynode.specs.declared.profiles.Profile.TheVariants.{Py311}
 use Rattle.pynode.specs.Trees as Trees
 use Rattle.pynode.specs.Values as Values
-use Rattle.pytoken.specs.Terminals.{Op, Word, Ident, Whole}
+use Rattle.pytoken.specs.Terminals.{Op, Word, in_form, Whole}
 use Rattle.pygrammar.specs.Reader.{Found}
 use Rattle.pynode.specs.Trees.{Return, Delete, Assign, AugAssign, AnnAssign, Raise, Import, ImportFrom, ExprOf, Pass}
 use Rattle.pygrammar.specs.Lines.{simple_form, decorator_form, header_form, loop_header, with_header, def_header, for_head, function_head, class_head}
@@ -18,91 +18,91 @@ use Rattle.pygrammar.specs.Forms.{alias, item}
 use Rattle.pygrammar.specs.LineReader.{read_line_to}
 
 -- { x : y }
-depth_130 : read_line_to Py311 3 (Op Sign.LBrace ∷ Ident (120 ∷ []) ∷ Op Sign.Colon ∷ Ident (121 ∷ []) ∷ Op Sign.RBrace ∷ []) ≡ Found (simple_form (ExprOf (Trees.Dict (Trees.an_optional (Trees.present (Trees.Name (120 ∷ []) Load)) Trees.no_optional) (Trees.an_expr (Trees.Name (121 ∷ []) Load) Trees.no_exprs)) ∷ [])) []
+depth_130 : read_line_to Py311 3 (Op Sign.LBrace ∷ in_form (120 ∷ []) ∷ Op Sign.Colon ∷ in_form (121 ∷ []) ∷ Op Sign.RBrace ∷ []) ≡ Found (simple_form (ExprOf (Trees.Dict (Trees.an_optional (Trees.present (Trees.Name (120 ∷ []) Load)) Trees.no_optional) (Trees.an_expr (Trees.Name (121 ∷ []) Load) Trees.no_exprs)) ∷ [])) []
 depth_130 = refl
 
 -- { x : y } [ z ] : w
-depth_131 : read_line_to Py311 4 (Op Sign.LBrace ∷ Ident (120 ∷ []) ∷ Op Sign.Colon ∷ Ident (121 ∷ []) ∷ Op Sign.RBrace ∷ Op Sign.LSqb ∷ Ident (122 ∷ []) ∷ Op Sign.RSqb ∷ Op Sign.Colon ∷ Ident (119 ∷ []) ∷ []) ≡ Found (simple_form (AnnAssign (Trees.Subscript (Trees.Dict (Trees.an_optional (Trees.present (Trees.Name (120 ∷ []) Load)) Trees.no_optional) (Trees.an_expr (Trees.Name (121 ∷ []) Load) Trees.no_exprs)) (Trees.Name (122 ∷ []) Load) Store) (Trees.Name (119 ∷ []) Load) None false ∷ [])) []
+depth_131 : read_line_to Py311 4 (Op Sign.LBrace ∷ in_form (120 ∷ []) ∷ Op Sign.Colon ∷ in_form (121 ∷ []) ∷ Op Sign.RBrace ∷ Op Sign.LSqb ∷ in_form (122 ∷ []) ∷ Op Sign.RSqb ∷ Op Sign.Colon ∷ in_form (119 ∷ []) ∷ []) ≡ Found (simple_form (AnnAssign (Trees.Subscript (Trees.Dict (Trees.an_optional (Trees.present (Trees.Name (120 ∷ []) Load)) Trees.no_optional) (Trees.an_expr (Trees.Name (121 ∷ []) Load) Trees.no_exprs)) (Trees.Name (122 ∷ []) Load) Store) (Trees.Name (119 ∷ []) Load) None false ∷ [])) []
 depth_131 = refl
 
 -- x . y . z @= w
-depth_132 : read_line_to Py311 3 (Ident (120 ∷ []) ∷ Op Sign.Dot ∷ Ident (121 ∷ []) ∷ Op Sign.Dot ∷ Ident (122 ∷ []) ∷ Op Sign.AtEqual ∷ Ident (119 ∷ []) ∷ []) ≡ Found (simple_form (AugAssign (Trees.Attribute (Trees.Attribute (Trees.Name (120 ∷ []) Load) (121 ∷ []) Load) (122 ∷ []) Store) Bin.MatMult (Trees.Name (119 ∷ []) Load) ∷ [])) []
+depth_132 : read_line_to Py311 3 (in_form (120 ∷ []) ∷ Op Sign.Dot ∷ in_form (121 ∷ []) ∷ Op Sign.Dot ∷ in_form (122 ∷ []) ∷ Op Sign.AtEqual ∷ in_form (119 ∷ []) ∷ []) ≡ Found (simple_form (AugAssign (Trees.Attribute (Trees.Attribute (Trees.Name (120 ∷ []) Load) (121 ∷ []) Load) (122 ∷ []) Store) Bin.MatMult (Trees.Name (119 ∷ []) Load) ∷ [])) []
 depth_132 = refl
 
 -- x @ y
-depth_133 : read_line_to Py311 2 (Ident (120 ∷ []) ∷ Op Sign.At ∷ Ident (121 ∷ []) ∷ []) ≡ Found (simple_form (ExprOf (Trees.BinOp (Trees.Name (120 ∷ []) Load) Bin.MatMult (Trees.Name (121 ∷ []) Load)) ∷ [])) []
+depth_133 : read_line_to Py311 2 (in_form (120 ∷ []) ∷ Op Sign.At ∷ in_form (121 ∷ []) ∷ []) ≡ Found (simple_form (ExprOf (Trees.BinOp (Trees.Name (120 ∷ []) Load) Bin.MatMult (Trees.Name (121 ∷ []) Load)) ∷ [])) []
 depth_133 = refl
 
 -- x : int ; y : str = z
-depth_134 : read_line_to Py311 1 (Ident (120 ∷ []) ∷ Op Sign.Colon ∷ Ident (105 ∷ 110 ∷ 116 ∷ []) ∷ Op Sign.Semi ∷ Ident (121 ∷ []) ∷ Op Sign.Colon ∷ Ident (115 ∷ 116 ∷ 114 ∷ []) ∷ Op Sign.Equal ∷ Ident (122 ∷ []) ∷ []) ≡ Found (simple_form (AnnAssign (Trees.Name (120 ∷ []) Store) (Trees.Name (105 ∷ 110 ∷ 116 ∷ []) Load) None true ∷ AnnAssign (Trees.Name (121 ∷ []) Store) (Trees.Name (115 ∷ 116 ∷ 114 ∷ []) Load) (Some (Trees.Name (122 ∷ []) Load)) true ∷ [])) []
+depth_134 : read_line_to Py311 1 (in_form (120 ∷ []) ∷ Op Sign.Colon ∷ in_form (105 ∷ 110 ∷ 116 ∷ []) ∷ Op Sign.Semi ∷ in_form (121 ∷ []) ∷ Op Sign.Colon ∷ in_form (115 ∷ 116 ∷ 114 ∷ []) ∷ Op Sign.Equal ∷ in_form (122 ∷ []) ∷ []) ≡ Found (simple_form (AnnAssign (Trees.Name (120 ∷ []) Store) (Trees.Name (105 ∷ 110 ∷ 116 ∷ []) Load) None true ∷ AnnAssign (Trees.Name (121 ∷ []) Store) (Trees.Name (115 ∷ 116 ∷ 114 ∷ []) Load) (Some (Trees.Name (122 ∷ []) Load)) true ∷ [])) []
 depth_134 = refl
 
 -- import a ; from b import c ; pass
-depth_135 : read_line_to Py311 0 (Word Key.Import ∷ Ident (97 ∷ []) ∷ Op Sign.Semi ∷ Word Key.From ∷ Ident (98 ∷ []) ∷ Word Key.Import ∷ Ident (99 ∷ []) ∷ Op Sign.Semi ∷ Word Key.Pass ∷ []) ≡ Found (simple_form (Import (alias (97 ∷ []) None ∷ []) ∷ ImportFrom (Some (98 ∷ [])) (alias (99 ∷ []) None ∷ []) 0 ∷ Pass ∷ [])) []
+depth_135 : read_line_to Py311 0 (Word Key.Import ∷ in_form (97 ∷ []) ∷ Op Sign.Semi ∷ Word Key.From ∷ in_form (98 ∷ []) ∷ Word Key.Import ∷ in_form (99 ∷ []) ∷ Op Sign.Semi ∷ Word Key.Pass ∷ []) ≡ Found (simple_form (Import (alias (97 ∷ []) None ∷ []) ∷ ImportFrom (Some (98 ∷ [])) (alias (99 ∷ []) None ∷ []) 0 ∷ Pass ∷ [])) []
 depth_135 = refl
 
 -- for x in y : z ; w ;
-depth_136 : read_line_to Py311 1 (Word Key.For ∷ Ident (120 ∷ []) ∷ Word Key.In ∷ Ident (121 ∷ []) ∷ Op Sign.Colon ∷ Ident (122 ∷ []) ∷ Op Sign.Semi ∷ Ident (119 ∷ []) ∷ Op Sign.Semi ∷ []) ≡ Found (header_form (loop_header (for_head false (Trees.Name (120 ∷ []) Store) (Trees.Name (121 ∷ []) Load))) (Some (ExprOf (Trees.Name (122 ∷ []) Load) ∷ ExprOf (Trees.Name (119 ∷ []) Load) ∷ []))) []
+depth_136 : read_line_to Py311 1 (Word Key.For ∷ in_form (120 ∷ []) ∷ Word Key.In ∷ in_form (121 ∷ []) ∷ Op Sign.Colon ∷ in_form (122 ∷ []) ∷ Op Sign.Semi ∷ in_form (119 ∷ []) ∷ Op Sign.Semi ∷ []) ≡ Found (header_form (loop_header (for_head false (Trees.Name (120 ∷ []) Store) (Trees.Name (121 ∷ []) Load))) (Some (ExprOf (Trees.Name (122 ∷ []) Load) ∷ ExprOf (Trees.Name (119 ∷ []) Load) ∷ []))) []
 depth_136 = refl
 
 -- class C : x : int = 1
-depth_137 : read_line_to Py311 1 (Word Key.Class ∷ Ident (67 ∷ []) ∷ Op Sign.Colon ∷ Ident (120 ∷ []) ∷ Op Sign.Colon ∷ Ident (105 ∷ 110 ∷ 116 ∷ []) ∷ Op Sign.Equal ∷ Whole 1 ∷ []) ≡ Found (header_form (def_header (class_head (67 ∷ []) [] ([]) Trees.no_keyword)) (Some (AnnAssign (Trees.Name (120 ∷ []) Store) (Trees.Name (105 ∷ 110 ∷ 116 ∷ []) Load) (Some (Trees.Constant (Values.Int 1))) true ∷ []))) []
+depth_137 : read_line_to Py311 1 (Word Key.Class ∷ in_form (67 ∷ []) ∷ Op Sign.Colon ∷ in_form (120 ∷ []) ∷ Op Sign.Colon ∷ in_form (105 ∷ 110 ∷ 116 ∷ []) ∷ Op Sign.Equal ∷ Whole 1 ∷ []) ≡ Found (header_form (def_header (class_head (67 ∷ []) [] ([]) Trees.no_keyword)) (Some (AnnAssign (Trees.Name (120 ∷ []) Store) (Trees.Name (105 ∷ 110 ∷ 116 ∷ []) Load) (Some (Trees.Constant (Values.Int 1))) true ∷ []))) []
 depth_137 = refl
 
 -- with a as b : c : d
-depth_138 : read_line_to Py311 1 (Word Key.With ∷ Ident (97 ∷ []) ∷ Word Key.As ∷ Ident (98 ∷ []) ∷ Op Sign.Colon ∷ Ident (99 ∷ []) ∷ Op Sign.Colon ∷ Ident (100 ∷ []) ∷ []) ≡ Found (header_form (with_header false (item (Trees.Name (97 ∷ []) Load) (Some (Trees.Name (98 ∷ []) Store)) ∷ [])) (Some (AnnAssign (Trees.Name (99 ∷ []) Store) (Trees.Name (100 ∷ []) Load) None true ∷ []))) []
+depth_138 : read_line_to Py311 1 (Word Key.With ∷ in_form (97 ∷ []) ∷ Word Key.As ∷ in_form (98 ∷ []) ∷ Op Sign.Colon ∷ in_form (99 ∷ []) ∷ Op Sign.Colon ∷ in_form (100 ∷ []) ∷ []) ≡ Found (header_form (with_header false (item (Trees.Name (97 ∷ []) Load) (Some (Trees.Name (98 ∷ []) Store)) ∷ [])) (Some (AnnAssign (Trees.Name (99 ∷ []) Store) (Trees.Name (100 ∷ []) Load) None true ∷ []))) []
 depth_138 = refl
 
 -- x = * y ,
-depth_139 : read_line_to Py311 3 (Ident (120 ∷ []) ∷ Op Sign.Equal ∷ Op Sign.Star ∷ Ident (121 ∷ []) ∷ Op Sign.Comma ∷ []) ≡ Found (simple_form (Assign ((Trees.Name (120 ∷ []) Store) ∷ []) (Trees.Tuple (Trees.an_expr (Trees.Starred (Trees.Name (121 ∷ []) Load) Load) Trees.no_exprs) Load) ∷ [])) []
+depth_139 : read_line_to Py311 3 (in_form (120 ∷ []) ∷ Op Sign.Equal ∷ Op Sign.Star ∷ in_form (121 ∷ []) ∷ Op Sign.Comma ∷ []) ≡ Found (simple_form (Assign ((Trees.Name (120 ∷ []) Store) ∷ []) (Trees.Tuple (Trees.an_expr (Trees.Starred (Trees.Name (121 ∷ []) Load) Load) Trees.no_exprs) Load) ∷ [])) []
 depth_139 = refl
 
 -- x = * y
-depth_140 : read_line_to Py311 2 (Ident (120 ∷ []) ∷ Op Sign.Equal ∷ Op Sign.Star ∷ Ident (121 ∷ []) ∷ []) ≡ Found (simple_form (Assign ((Trees.Name (120 ∷ []) Store) ∷ []) (Trees.Starred (Trees.Name (121 ∷ []) Load) Load) ∷ [])) []
+depth_140 : read_line_to Py311 2 (in_form (120 ∷ []) ∷ Op Sign.Equal ∷ Op Sign.Star ∷ in_form (121 ∷ []) ∷ []) ≡ Found (simple_form (Assign ((Trees.Name (120 ∷ []) Store) ∷ []) (Trees.Starred (Trees.Name (121 ∷ []) Load) Load) ∷ [])) []
 depth_140 = refl
 
 -- x += * y , z
-depth_141 : read_line_to Py311 3 (Ident (120 ∷ []) ∷ Op Sign.PlusEqual ∷ Op Sign.Star ∷ Ident (121 ∷ []) ∷ Op Sign.Comma ∷ Ident (122 ∷ []) ∷ []) ≡ Found (simple_form (AugAssign (Trees.Name (120 ∷ []) Store) Bin.Add (Trees.Tuple (Trees.an_expr (Trees.Starred (Trees.Name (121 ∷ []) Load) Load) (Trees.an_expr (Trees.Name (122 ∷ []) Load) Trees.no_exprs)) Load) ∷ [])) []
+depth_141 : read_line_to Py311 3 (in_form (120 ∷ []) ∷ Op Sign.PlusEqual ∷ Op Sign.Star ∷ in_form (121 ∷ []) ∷ Op Sign.Comma ∷ in_form (122 ∷ []) ∷ []) ≡ Found (simple_form (AugAssign (Trees.Name (120 ∷ []) Store) Bin.Add (Trees.Tuple (Trees.an_expr (Trees.Starred (Trees.Name (121 ∷ []) Load) Load) (Trees.an_expr (Trees.Name (122 ∷ []) Load) Trees.no_exprs)) Load) ∷ [])) []
 depth_141 = refl
 
 -- return * a ,
-depth_142 : read_line_to Py311 3 (Word Key.Return ∷ Op Sign.Star ∷ Ident (97 ∷ []) ∷ Op Sign.Comma ∷ []) ≡ Found (simple_form (Return (Some (Trees.Tuple (Trees.an_expr (Trees.Starred (Trees.Name (97 ∷ []) Load) Load) Trees.no_exprs) Load)) ∷ [])) []
+depth_142 : read_line_to Py311 3 (Word Key.Return ∷ Op Sign.Star ∷ in_form (97 ∷ []) ∷ Op Sign.Comma ∷ []) ≡ Found (simple_form (Return (Some (Trees.Tuple (Trees.an_expr (Trees.Starred (Trees.Name (97 ∷ []) Load) Load) Trees.no_exprs) Load)) ∷ [])) []
 depth_142 = refl
 
 -- - - - x
-depth_143 : read_line_to Py311 4 (Op Sign.Minus ∷ Op Sign.Minus ∷ Op Sign.Minus ∷ Ident (120 ∷ []) ∷ []) ≡ Found (simple_form (ExprOf (Trees.UnaryOp Un.USub (Trees.UnaryOp Un.USub (Trees.UnaryOp Un.USub (Trees.Name (120 ∷ []) Load)))) ∷ [])) []
+depth_143 : read_line_to Py311 4 (Op Sign.Minus ∷ Op Sign.Minus ∷ Op Sign.Minus ∷ in_form (120 ∷ []) ∷ []) ≡ Found (simple_form (ExprOf (Trees.UnaryOp Un.USub (Trees.UnaryOp Un.USub (Trees.UnaryOp Un.USub (Trees.Name (120 ∷ []) Load)))) ∷ [])) []
 depth_143 = refl
 
 -- not not not x
-depth_144 : read_line_to Py311 4 (Word Key.Not ∷ Word Key.Not ∷ Word Key.Not ∷ Ident (120 ∷ []) ∷ []) ≡ Found (simple_form (ExprOf (Trees.UnaryOp Un.Not (Trees.UnaryOp Un.Not (Trees.UnaryOp Un.Not (Trees.Name (120 ∷ []) Load)))) ∷ [])) []
+depth_144 : read_line_to Py311 4 (Word Key.Not ∷ Word Key.Not ∷ Word Key.Not ∷ in_form (120 ∷ []) ∷ []) ≡ Found (simple_form (ExprOf (Trees.UnaryOp Un.Not (Trees.UnaryOp Un.Not (Trees.UnaryOp Un.Not (Trees.Name (120 ∷ []) Load)))) ∷ [])) []
 depth_144 = refl
 
 -- ( ( ( ( x ) ) ) )
-depth_145 : read_line_to Py311 5 (Op Sign.LPar ∷ Op Sign.LPar ∷ Op Sign.LPar ∷ Op Sign.LPar ∷ Ident (120 ∷ []) ∷ Op Sign.RPar ∷ Op Sign.RPar ∷ Op Sign.RPar ∷ Op Sign.RPar ∷ []) ≡ Found (simple_form (ExprOf (Trees.Name (120 ∷ []) Load) ∷ [])) []
+depth_145 : read_line_to Py311 5 (Op Sign.LPar ∷ Op Sign.LPar ∷ Op Sign.LPar ∷ Op Sign.LPar ∷ in_form (120 ∷ []) ∷ Op Sign.RPar ∷ Op Sign.RPar ∷ Op Sign.RPar ∷ Op Sign.RPar ∷ []) ≡ Found (simple_form (ExprOf (Trees.Name (120 ∷ []) Load) ∷ [])) []
 depth_145 = refl
 
 -- - ( - ( - ( x ) ) )
-depth_146 : read_line_to Py311 7 (Op Sign.Minus ∷ Op Sign.LPar ∷ Op Sign.Minus ∷ Op Sign.LPar ∷ Op Sign.Minus ∷ Op Sign.LPar ∷ Ident (120 ∷ []) ∷ Op Sign.RPar ∷ Op Sign.RPar ∷ Op Sign.RPar ∷ []) ≡ Found (simple_form (ExprOf (Trees.UnaryOp Un.USub (Trees.UnaryOp Un.USub (Trees.UnaryOp Un.USub (Trees.Name (120 ∷ []) Load)))) ∷ [])) []
+depth_146 : read_line_to Py311 7 (Op Sign.Minus ∷ Op Sign.LPar ∷ Op Sign.Minus ∷ Op Sign.LPar ∷ Op Sign.Minus ∷ Op Sign.LPar ∷ in_form (120 ∷ []) ∷ Op Sign.RPar ∷ Op Sign.RPar ∷ Op Sign.RPar ∷ []) ≡ Found (simple_form (ExprOf (Trees.UnaryOp Un.USub (Trees.UnaryOp Un.USub (Trees.UnaryOp Un.USub (Trees.Name (120 ∷ []) Load)))) ∷ [])) []
 depth_146 = refl
 
 -- lambda : lambda : lambda : x
-depth_147 : read_line_to Py311 4 (Word Key.Lambda ∷ Op Sign.Colon ∷ Word Key.Lambda ∷ Op Sign.Colon ∷ Word Key.Lambda ∷ Op Sign.Colon ∷ Ident (120 ∷ []) ∷ []) ≡ Found (simple_form (ExprOf (Trees.Lambda (Trees.arguments Trees.no_arg Trees.no_arg Trees.absent_arg Trees.no_arg Trees.no_optional Trees.absent_arg Trees.no_exprs) (Trees.Lambda (Trees.arguments Trees.no_arg Trees.no_arg Trees.absent_arg Trees.no_arg Trees.no_optional Trees.absent_arg Trees.no_exprs) (Trees.Lambda (Trees.arguments Trees.no_arg Trees.no_arg Trees.absent_arg Trees.no_arg Trees.no_optional Trees.absent_arg Trees.no_exprs) (Trees.Name (120 ∷ []) Load)))) ∷ [])) []
+depth_147 : read_line_to Py311 4 (Word Key.Lambda ∷ Op Sign.Colon ∷ Word Key.Lambda ∷ Op Sign.Colon ∷ Word Key.Lambda ∷ Op Sign.Colon ∷ in_form (120 ∷ []) ∷ []) ≡ Found (simple_form (ExprOf (Trees.Lambda (Trees.arguments Trees.no_arg Trees.no_arg Trees.absent_arg Trees.no_arg Trees.no_optional Trees.absent_arg Trees.no_exprs) (Trees.Lambda (Trees.arguments Trees.no_arg Trees.no_arg Trees.absent_arg Trees.no_arg Trees.no_optional Trees.absent_arg Trees.no_exprs) (Trees.Lambda (Trees.arguments Trees.no_arg Trees.no_arg Trees.absent_arg Trees.no_arg Trees.no_optional Trees.absent_arg Trees.no_exprs) (Trees.Name (120 ∷ []) Load)))) ∷ [])) []
 depth_147 = refl
 
 -- a if b else c if d else e
-depth_148 : read_line_to Py311 3 (Ident (97 ∷ []) ∷ Word Key.If ∷ Ident (98 ∷ []) ∷ Word Key.Else ∷ Ident (99 ∷ []) ∷ Word Key.If ∷ Ident (100 ∷ []) ∷ Word Key.Else ∷ Ident (101 ∷ []) ∷ []) ≡ Found (simple_form (ExprOf (Trees.IfExp (Trees.Name (98 ∷ []) Load) (Trees.Name (97 ∷ []) Load) (Trees.IfExp (Trees.Name (100 ∷ []) Load) (Trees.Name (99 ∷ []) Load) (Trees.Name (101 ∷ []) Load))) ∷ [])) []
+depth_148 : read_line_to Py311 3 (in_form (97 ∷ []) ∷ Word Key.If ∷ in_form (98 ∷ []) ∷ Word Key.Else ∷ in_form (99 ∷ []) ∷ Word Key.If ∷ in_form (100 ∷ []) ∷ Word Key.Else ∷ in_form (101 ∷ []) ∷ []) ≡ Found (simple_form (ExprOf (Trees.IfExp (Trees.Name (98 ∷ []) Load) (Trees.Name (97 ∷ []) Load) (Trees.IfExp (Trees.Name (100 ∷ []) Load) (Trees.Name (99 ∷ []) Load) (Trees.Name (101 ∷ []) Load))) ∷ [])) []
 depth_148 = refl
 
 -- a ** b ** c ** d
-depth_149 : read_line_to Py311 4 (Ident (97 ∷ []) ∷ Op Sign.DoubleStar ∷ Ident (98 ∷ []) ∷ Op Sign.DoubleStar ∷ Ident (99 ∷ []) ∷ Op Sign.DoubleStar ∷ Ident (100 ∷ []) ∷ []) ≡ Found (simple_form (ExprOf (Trees.BinOp (Trees.Name (97 ∷ []) Load) Bin.Pow (Trees.BinOp (Trees.Name (98 ∷ []) Load) Bin.Pow (Trees.BinOp (Trees.Name (99 ∷ []) Load) Bin.Pow (Trees.Name (100 ∷ []) Load)))) ∷ [])) []
+depth_149 : read_line_to Py311 4 (in_form (97 ∷ []) ∷ Op Sign.DoubleStar ∷ in_form (98 ∷ []) ∷ Op Sign.DoubleStar ∷ in_form (99 ∷ []) ∷ Op Sign.DoubleStar ∷ in_form (100 ∷ []) ∷ []) ≡ Found (simple_form (ExprOf (Trees.BinOp (Trees.Name (97 ∷ []) Load) Bin.Pow (Trees.BinOp (Trees.Name (98 ∷ []) Load) Bin.Pow (Trees.BinOp (Trees.Name (99 ∷ []) Load) Bin.Pow (Trees.Name (100 ∷ []) Load)))) ∷ [])) []
 depth_149 = refl
 
 -- a [ b [ c [ d ] ] ]
-depth_150 : read_line_to Py311 7 (Ident (97 ∷ []) ∷ Op Sign.LSqb ∷ Ident (98 ∷ []) ∷ Op Sign.LSqb ∷ Ident (99 ∷ []) ∷ Op Sign.LSqb ∷ Ident (100 ∷ []) ∷ Op Sign.RSqb ∷ Op Sign.RSqb ∷ Op Sign.RSqb ∷ []) ≡ Found (simple_form (ExprOf (Trees.Subscript (Trees.Name (97 ∷ []) Load) (Trees.Subscript (Trees.Name (98 ∷ []) Load) (Trees.Subscript (Trees.Name (99 ∷ []) Load) (Trees.Name (100 ∷ []) Load) Load) Load) Load) ∷ [])) []
+depth_150 : read_line_to Py311 7 (in_form (97 ∷ []) ∷ Op Sign.LSqb ∷ in_form (98 ∷ []) ∷ Op Sign.LSqb ∷ in_form (99 ∷ []) ∷ Op Sign.LSqb ∷ in_form (100 ∷ []) ∷ Op Sign.RSqb ∷ Op Sign.RSqb ∷ Op Sign.RSqb ∷ []) ≡ Found (simple_form (ExprOf (Trees.Subscript (Trees.Name (97 ∷ []) Load) (Trees.Subscript (Trees.Name (98 ∷ []) Load) (Trees.Subscript (Trees.Name (99 ∷ []) Load) (Trees.Name (100 ∷ []) Load) Load) Load) Load) ∷ [])) []
 depth_150 = refl
 
 -- f ( f ( f ( x ) ) )
-depth_151 : read_line_to Py311 7 (Ident (102 ∷ []) ∷ Op Sign.LPar ∷ Ident (102 ∷ []) ∷ Op Sign.LPar ∷ Ident (102 ∷ []) ∷ Op Sign.LPar ∷ Ident (120 ∷ []) ∷ Op Sign.RPar ∷ Op Sign.RPar ∷ Op Sign.RPar ∷ []) ≡ Found (simple_form (ExprOf (Trees.Call (Trees.Name (102 ∷ []) Load) (Trees.an_expr (Trees.Call (Trees.Name (102 ∷ []) Load) (Trees.an_expr (Trees.Call (Trees.Name (102 ∷ []) Load) (Trees.an_expr (Trees.Name (120 ∷ []) Load) Trees.no_exprs) Trees.no_keyword) Trees.no_exprs) Trees.no_keyword) Trees.no_exprs) Trees.no_keyword) ∷ [])) []
+depth_151 : read_line_to Py311 7 (in_form (102 ∷ []) ∷ Op Sign.LPar ∷ in_form (102 ∷ []) ∷ Op Sign.LPar ∷ in_form (102 ∷ []) ∷ Op Sign.LPar ∷ in_form (120 ∷ []) ∷ Op Sign.RPar ∷ Op Sign.RPar ∷ Op Sign.RPar ∷ []) ≡ Found (simple_form (ExprOf (Trees.Call (Trees.Name (102 ∷ []) Load) (Trees.an_expr (Trees.Call (Trees.Name (102 ∷ []) Load) (Trees.an_expr (Trees.Call (Trees.Name (102 ∷ []) Load) (Trees.an_expr (Trees.Name (120 ∷ []) Load) Trees.no_exprs) Trees.no_keyword) Trees.no_exprs) Trees.no_keyword) Trees.no_exprs) Trees.no_keyword) ∷ [])) []
 depth_151 = refl
 
 -- [ [ [ [ ] ] ] ]
@@ -110,11 +110,11 @@ depth_152 : read_line_to Py311 8 (Op Sign.LSqb ∷ Op Sign.LSqb ∷ Op Sign.LSqb
 depth_152 = refl
 
 -- { a : { b : { c : d } } }
-depth_153 : read_line_to Py311 7 (Op Sign.LBrace ∷ Ident (97 ∷ []) ∷ Op Sign.Colon ∷ Op Sign.LBrace ∷ Ident (98 ∷ []) ∷ Op Sign.Colon ∷ Op Sign.LBrace ∷ Ident (99 ∷ []) ∷ Op Sign.Colon ∷ Ident (100 ∷ []) ∷ Op Sign.RBrace ∷ Op Sign.RBrace ∷ Op Sign.RBrace ∷ []) ≡ Found (simple_form (ExprOf (Trees.Dict (Trees.an_optional (Trees.present (Trees.Name (97 ∷ []) Load)) Trees.no_optional) (Trees.an_expr (Trees.Dict (Trees.an_optional (Trees.present (Trees.Name (98 ∷ []) Load)) Trees.no_optional) (Trees.an_expr (Trees.Dict (Trees.an_optional (Trees.present (Trees.Name (99 ∷ []) Load)) Trees.no_optional) (Trees.an_expr (Trees.Name (100 ∷ []) Load) Trees.no_exprs)) Trees.no_exprs)) Trees.no_exprs)) ∷ [])) []
+depth_153 : read_line_to Py311 7 (Op Sign.LBrace ∷ in_form (97 ∷ []) ∷ Op Sign.Colon ∷ Op Sign.LBrace ∷ in_form (98 ∷ []) ∷ Op Sign.Colon ∷ Op Sign.LBrace ∷ in_form (99 ∷ []) ∷ Op Sign.Colon ∷ in_form (100 ∷ []) ∷ Op Sign.RBrace ∷ Op Sign.RBrace ∷ Op Sign.RBrace ∷ []) ≡ Found (simple_form (ExprOf (Trees.Dict (Trees.an_optional (Trees.present (Trees.Name (97 ∷ []) Load)) Trees.no_optional) (Trees.an_expr (Trees.Dict (Trees.an_optional (Trees.present (Trees.Name (98 ∷ []) Load)) Trees.no_optional) (Trees.an_expr (Trees.Dict (Trees.an_optional (Trees.present (Trees.Name (99 ∷ []) Load)) Trees.no_optional) (Trees.an_expr (Trees.Name (100 ∷ []) Load) Trees.no_exprs)) Trees.no_exprs)) Trees.no_exprs)) ∷ [])) []
 depth_153 = refl
 
 -- a [ b : c [ d : e ] ]
-depth_154 : read_line_to Py311 7 (Ident (97 ∷ []) ∷ Op Sign.LSqb ∷ Ident (98 ∷ []) ∷ Op Sign.Colon ∷ Ident (99 ∷ []) ∷ Op Sign.LSqb ∷ Ident (100 ∷ []) ∷ Op Sign.Colon ∷ Ident (101 ∷ []) ∷ Op Sign.RSqb ∷ Op Sign.RSqb ∷ []) ≡ Found (simple_form (ExprOf (Trees.Subscript (Trees.Name (97 ∷ []) Load) (Trees.Slice (Trees.present (Trees.Name (98 ∷ []) Load)) (Trees.present (Trees.Subscript (Trees.Name (99 ∷ []) Load) (Trees.Slice (Trees.present (Trees.Name (100 ∷ []) Load)) (Trees.present (Trees.Name (101 ∷ []) Load)) Trees.absent) Load)) Trees.absent) Load) ∷ [])) []
+depth_154 : read_line_to Py311 7 (in_form (97 ∷ []) ∷ Op Sign.LSqb ∷ in_form (98 ∷ []) ∷ Op Sign.Colon ∷ in_form (99 ∷ []) ∷ Op Sign.LSqb ∷ in_form (100 ∷ []) ∷ Op Sign.Colon ∷ in_form (101 ∷ []) ∷ Op Sign.RSqb ∷ Op Sign.RSqb ∷ []) ≡ Found (simple_form (ExprOf (Trees.Subscript (Trees.Name (97 ∷ []) Load) (Trees.Slice (Trees.present (Trees.Name (98 ∷ []) Load)) (Trees.present (Trees.Subscript (Trees.Name (99 ∷ []) Load) (Trees.Slice (Trees.present (Trees.Name (100 ∷ []) Load)) (Trees.present (Trees.Name (101 ∷ []) Load)) Trees.absent) Load)) Trees.absent) Load) ∷ [])) []
 depth_154 = refl
 
 -- ( yield ( yield ( yield ) ) )
@@ -122,157 +122,157 @@ depth_155 : read_line_to Py311 6 (Op Sign.LPar ∷ Word Key.Yield ∷ Op Sign.LP
 depth_155 = refl
 
 -- [ a for b in [ c for d in e ] ]
-depth_156 : read_line_to Py311 5 (Op Sign.LSqb ∷ Ident (97 ∷ []) ∷ Word Key.For ∷ Ident (98 ∷ []) ∷ Word Key.In ∷ Op Sign.LSqb ∷ Ident (99 ∷ []) ∷ Word Key.For ∷ Ident (100 ∷ []) ∷ Word Key.In ∷ Ident (101 ∷ []) ∷ Op Sign.RSqb ∷ Op Sign.RSqb ∷ []) ≡ Found (simple_form (ExprOf (Trees.ListComp (Trees.Name (97 ∷ []) Load) (Trees.a_comprehension (Trees.Name (98 ∷ []) Store) (Trees.ListComp (Trees.Name (99 ∷ []) Load) (Trees.a_comprehension (Trees.Name (100 ∷ []) Store) (Trees.Name (101 ∷ []) Load) Trees.no_exprs false Trees.no_comprehension)) Trees.no_exprs false Trees.no_comprehension)) ∷ [])) []
+depth_156 : read_line_to Py311 5 (Op Sign.LSqb ∷ in_form (97 ∷ []) ∷ Word Key.For ∷ in_form (98 ∷ []) ∷ Word Key.In ∷ Op Sign.LSqb ∷ in_form (99 ∷ []) ∷ Word Key.For ∷ in_form (100 ∷ []) ∷ Word Key.In ∷ in_form (101 ∷ []) ∷ Op Sign.RSqb ∷ Op Sign.RSqb ∷ []) ≡ Found (simple_form (ExprOf (Trees.ListComp (Trees.Name (97 ∷ []) Load) (Trees.a_comprehension (Trees.Name (98 ∷ []) Store) (Trees.ListComp (Trees.Name (99 ∷ []) Load) (Trees.a_comprehension (Trees.Name (100 ∷ []) Store) (Trees.Name (101 ∷ []) Load) Trees.no_exprs false Trees.no_comprehension)) Trees.no_exprs false Trees.no_comprehension)) ∷ [])) []
 depth_156 = refl
 
 -- x = y = ( ( a ) )
-depth_157 : read_line_to Py311 3 (Ident (120 ∷ []) ∷ Op Sign.Equal ∷ Ident (121 ∷ []) ∷ Op Sign.Equal ∷ Op Sign.LPar ∷ Op Sign.LPar ∷ Ident (97 ∷ []) ∷ Op Sign.RPar ∷ Op Sign.RPar ∷ []) ≡ Found (simple_form (Assign ((Trees.Name (120 ∷ []) Store) ∷ (Trees.Name (121 ∷ []) Store) ∷ []) (Trees.Name (97 ∷ []) Load) ∷ [])) []
+depth_157 : read_line_to Py311 3 (in_form (120 ∷ []) ∷ Op Sign.Equal ∷ in_form (121 ∷ []) ∷ Op Sign.Equal ∷ Op Sign.LPar ∷ Op Sign.LPar ∷ in_form (97 ∷ []) ∷ Op Sign.RPar ∷ Op Sign.RPar ∷ []) ≡ Found (simple_form (Assign ((Trees.Name (120 ∷ []) Store) ∷ (Trees.Name (121 ∷ []) Store) ∷ []) (Trees.Name (97 ∷ []) Load) ∷ [])) []
 depth_157 = refl
 
 -- a : ( ( b ) ) = ( ( c ) )
-depth_158 : read_line_to Py311 3 (Ident (97 ∷ []) ∷ Op Sign.Colon ∷ Op Sign.LPar ∷ Op Sign.LPar ∷ Ident (98 ∷ []) ∷ Op Sign.RPar ∷ Op Sign.RPar ∷ Op Sign.Equal ∷ Op Sign.LPar ∷ Op Sign.LPar ∷ Ident (99 ∷ []) ∷ Op Sign.RPar ∷ Op Sign.RPar ∷ []) ≡ Found (simple_form (AnnAssign (Trees.Name (97 ∷ []) Store) (Trees.Name (98 ∷ []) Load) (Some (Trees.Name (99 ∷ []) Load)) true ∷ [])) []
+depth_158 : read_line_to Py311 3 (in_form (97 ∷ []) ∷ Op Sign.Colon ∷ Op Sign.LPar ∷ Op Sign.LPar ∷ in_form (98 ∷ []) ∷ Op Sign.RPar ∷ Op Sign.RPar ∷ Op Sign.Equal ∷ Op Sign.LPar ∷ Op Sign.LPar ∷ in_form (99 ∷ []) ∷ Op Sign.RPar ∷ Op Sign.RPar ∷ []) ≡ Found (simple_form (AnnAssign (Trees.Name (97 ∷ []) Store) (Trees.Name (98 ∷ []) Load) (Some (Trees.Name (99 ∷ []) Load)) true ∷ [])) []
 depth_158 = refl
 
 -- with ( ( a ) ) : b
-depth_159 : read_line_to Py311 3 (Word Key.With ∷ Op Sign.LPar ∷ Op Sign.LPar ∷ Ident (97 ∷ []) ∷ Op Sign.RPar ∷ Op Sign.RPar ∷ Op Sign.Colon ∷ Ident (98 ∷ []) ∷ []) ≡ Found (header_form (with_header false (item (Trees.Name (97 ∷ []) Load) None ∷ [])) (Some (ExprOf (Trees.Name (98 ∷ []) Load) ∷ []))) []
+depth_159 : read_line_to Py311 3 (Word Key.With ∷ Op Sign.LPar ∷ Op Sign.LPar ∷ in_form (97 ∷ []) ∷ Op Sign.RPar ∷ Op Sign.RPar ∷ Op Sign.Colon ∷ in_form (98 ∷ []) ∷ []) ≡ Found (header_form (with_header false (item (Trees.Name (97 ∷ []) Load) None ∷ [])) (Some (ExprOf (Trees.Name (98 ∷ []) Load) ∷ []))) []
 depth_159 = refl
 
 -- with ( ( a ) ) as ( ( b ) ) : c
-depth_160 : read_line_to Py311 3 (Word Key.With ∷ Op Sign.LPar ∷ Op Sign.LPar ∷ Ident (97 ∷ []) ∷ Op Sign.RPar ∷ Op Sign.RPar ∷ Word Key.As ∷ Op Sign.LPar ∷ Op Sign.LPar ∷ Ident (98 ∷ []) ∷ Op Sign.RPar ∷ Op Sign.RPar ∷ Op Sign.Colon ∷ Ident (99 ∷ []) ∷ []) ≡ Found (header_form (with_header false (item (Trees.Name (97 ∷ []) Load) (Some (Trees.Name (98 ∷ []) Store)) ∷ [])) (Some (ExprOf (Trees.Name (99 ∷ []) Load) ∷ []))) []
+depth_160 : read_line_to Py311 3 (Word Key.With ∷ Op Sign.LPar ∷ Op Sign.LPar ∷ in_form (97 ∷ []) ∷ Op Sign.RPar ∷ Op Sign.RPar ∷ Word Key.As ∷ Op Sign.LPar ∷ Op Sign.LPar ∷ in_form (98 ∷ []) ∷ Op Sign.RPar ∷ Op Sign.RPar ∷ Op Sign.Colon ∷ in_form (99 ∷ []) ∷ []) ≡ Found (header_form (with_header false (item (Trees.Name (97 ∷ []) Load) (Some (Trees.Name (98 ∷ []) Store)) ∷ [])) (Some (ExprOf (Trees.Name (99 ∷ []) Load) ∷ []))) []
 depth_160 = refl
 
 -- with ( ( ( a ) ) as ( ( b ) ) ) : c
-depth_161 : read_line_to Py311 4 (Word Key.With ∷ Op Sign.LPar ∷ Op Sign.LPar ∷ Op Sign.LPar ∷ Ident (97 ∷ []) ∷ Op Sign.RPar ∷ Op Sign.RPar ∷ Word Key.As ∷ Op Sign.LPar ∷ Op Sign.LPar ∷ Ident (98 ∷ []) ∷ Op Sign.RPar ∷ Op Sign.RPar ∷ Op Sign.RPar ∷ Op Sign.Colon ∷ Ident (99 ∷ []) ∷ []) ≡ Found (header_form (with_header false (item (Trees.Name (97 ∷ []) Load) (Some (Trees.Name (98 ∷ []) Store)) ∷ [])) (Some (ExprOf (Trees.Name (99 ∷ []) Load) ∷ []))) []
+depth_161 : read_line_to Py311 4 (Word Key.With ∷ Op Sign.LPar ∷ Op Sign.LPar ∷ Op Sign.LPar ∷ in_form (97 ∷ []) ∷ Op Sign.RPar ∷ Op Sign.RPar ∷ Word Key.As ∷ Op Sign.LPar ∷ Op Sign.LPar ∷ in_form (98 ∷ []) ∷ Op Sign.RPar ∷ Op Sign.RPar ∷ Op Sign.RPar ∷ Op Sign.Colon ∷ in_form (99 ∷ []) ∷ []) ≡ Found (header_form (with_header false (item (Trees.Name (97 ∷ []) Load) (Some (Trees.Name (98 ∷ []) Store)) ∷ [])) (Some (ExprOf (Trees.Name (99 ∷ []) Load) ∷ []))) []
 depth_161 = refl
 
 -- with ( ( ( ( a ) ) ) ) . b : c
-depth_162 : read_line_to Py311 6 (Word Key.With ∷ Op Sign.LPar ∷ Op Sign.LPar ∷ Op Sign.LPar ∷ Op Sign.LPar ∷ Ident (97 ∷ []) ∷ Op Sign.RPar ∷ Op Sign.RPar ∷ Op Sign.RPar ∷ Op Sign.RPar ∷ Op Sign.Dot ∷ Ident (98 ∷ []) ∷ Op Sign.Colon ∷ Ident (99 ∷ []) ∷ []) ≡ Found (header_form (with_header false (item (Trees.Attribute (Trees.Name (97 ∷ []) Load) (98 ∷ []) Load) None ∷ [])) (Some (ExprOf (Trees.Name (99 ∷ []) Load) ∷ []))) []
+depth_162 : read_line_to Py311 6 (Word Key.With ∷ Op Sign.LPar ∷ Op Sign.LPar ∷ Op Sign.LPar ∷ Op Sign.LPar ∷ in_form (97 ∷ []) ∷ Op Sign.RPar ∷ Op Sign.RPar ∷ Op Sign.RPar ∷ Op Sign.RPar ∷ Op Sign.Dot ∷ in_form (98 ∷ []) ∷ Op Sign.Colon ∷ in_form (99 ∷ []) ∷ []) ≡ Found (header_form (with_header false (item (Trees.Attribute (Trees.Name (97 ∷ []) Load) (98 ∷ []) Load) None ∷ [])) (Some (ExprOf (Trees.Name (99 ∷ []) Load) ∷ []))) []
 depth_162 = refl
 
 -- for ( ( a ) ) , [ b ] in ( ( c ) ) : d
-depth_163 : read_line_to Py311 5 (Word Key.For ∷ Op Sign.LPar ∷ Op Sign.LPar ∷ Ident (97 ∷ []) ∷ Op Sign.RPar ∷ Op Sign.RPar ∷ Op Sign.Comma ∷ Op Sign.LSqb ∷ Ident (98 ∷ []) ∷ Op Sign.RSqb ∷ Word Key.In ∷ Op Sign.LPar ∷ Op Sign.LPar ∷ Ident (99 ∷ []) ∷ Op Sign.RPar ∷ Op Sign.RPar ∷ Op Sign.Colon ∷ Ident (100 ∷ []) ∷ []) ≡ Found (header_form (loop_header (for_head false (Trees.Tuple (Trees.an_expr (Trees.Name (97 ∷ []) Store) (Trees.an_expr (Trees.ListOf (Trees.an_expr (Trees.Name (98 ∷ []) Store) Trees.no_exprs) Store) Trees.no_exprs)) Store) (Trees.Name (99 ∷ []) Load))) (Some (ExprOf (Trees.Name (100 ∷ []) Load) ∷ []))) []
+depth_163 : read_line_to Py311 5 (Word Key.For ∷ Op Sign.LPar ∷ Op Sign.LPar ∷ in_form (97 ∷ []) ∷ Op Sign.RPar ∷ Op Sign.RPar ∷ Op Sign.Comma ∷ Op Sign.LSqb ∷ in_form (98 ∷ []) ∷ Op Sign.RSqb ∷ Word Key.In ∷ Op Sign.LPar ∷ Op Sign.LPar ∷ in_form (99 ∷ []) ∷ Op Sign.RPar ∷ Op Sign.RPar ∷ Op Sign.Colon ∷ in_form (100 ∷ []) ∷ []) ≡ Found (header_form (loop_header (for_head false (Trees.Tuple (Trees.an_expr (Trees.Name (97 ∷ []) Store) (Trees.an_expr (Trees.ListOf (Trees.an_expr (Trees.Name (98 ∷ []) Store) Trees.no_exprs) Store) Trees.no_exprs)) Store) (Trees.Name (99 ∷ []) Load))) (Some (ExprOf (Trees.Name (100 ∷ []) Load) ∷ []))) []
 depth_163 = refl
 
 -- def f ( a : ( ( b ) ) = ( ( c ) ) ) -> ( ( d ) ) : e
-depth_164 : read_line_to Py311 4 (Word Key.Def ∷ Ident (102 ∷ []) ∷ Op Sign.LPar ∷ Ident (97 ∷ []) ∷ Op Sign.Colon ∷ Op Sign.LPar ∷ Op Sign.LPar ∷ Ident (98 ∷ []) ∷ Op Sign.RPar ∷ Op Sign.RPar ∷ Op Sign.Equal ∷ Op Sign.LPar ∷ Op Sign.LPar ∷ Ident (99 ∷ []) ∷ Op Sign.RPar ∷ Op Sign.RPar ∷ Op Sign.RPar ∷ Op Sign.RArrow ∷ Op Sign.LPar ∷ Op Sign.LPar ∷ Ident (100 ∷ []) ∷ Op Sign.RPar ∷ Op Sign.RPar ∷ Op Sign.Colon ∷ Ident (101 ∷ []) ∷ []) ≡ Found (header_form (def_header (function_head false (102 ∷ []) [] (Trees.arguments Trees.no_arg (Trees.an_arg (Trees.arg (97 ∷ []) (Trees.present (Trees.Name (98 ∷ []) Load))) Trees.no_arg) Trees.absent_arg Trees.no_arg Trees.no_optional Trees.absent_arg (Trees.an_expr (Trees.Name (99 ∷ []) Load) Trees.no_exprs)) (Some (Trees.Name (100 ∷ []) Load)))) (Some (ExprOf (Trees.Name (101 ∷ []) Load) ∷ []))) []
+depth_164 : read_line_to Py311 4 (Word Key.Def ∷ in_form (102 ∷ []) ∷ Op Sign.LPar ∷ in_form (97 ∷ []) ∷ Op Sign.Colon ∷ Op Sign.LPar ∷ Op Sign.LPar ∷ in_form (98 ∷ []) ∷ Op Sign.RPar ∷ Op Sign.RPar ∷ Op Sign.Equal ∷ Op Sign.LPar ∷ Op Sign.LPar ∷ in_form (99 ∷ []) ∷ Op Sign.RPar ∷ Op Sign.RPar ∷ Op Sign.RPar ∷ Op Sign.RArrow ∷ Op Sign.LPar ∷ Op Sign.LPar ∷ in_form (100 ∷ []) ∷ Op Sign.RPar ∷ Op Sign.RPar ∷ Op Sign.Colon ∷ in_form (101 ∷ []) ∷ []) ≡ Found (header_form (def_header (function_head false (102 ∷ []) [] (Trees.arguments Trees.no_arg (Trees.an_arg (Trees.arg (97 ∷ []) (Trees.present (Trees.Name (98 ∷ []) Load))) Trees.no_arg) Trees.absent_arg Trees.no_arg Trees.no_optional Trees.absent_arg (Trees.an_expr (Trees.Name (99 ∷ []) Load) Trees.no_exprs)) (Some (Trees.Name (100 ∷ []) Load)))) (Some (ExprOf (Trees.Name (101 ∷ []) Load) ∷ []))) []
 depth_164 = refl
 
 -- class C ( ( a ) , * ( ( b ) ) , ** ( ( c ) ) ) : d
-depth_165 : read_line_to Py311 5 (Word Key.Class ∷ Ident (67 ∷ []) ∷ Op Sign.LPar ∷ Op Sign.LPar ∷ Ident (97 ∷ []) ∷ Op Sign.RPar ∷ Op Sign.Comma ∷ Op Sign.Star ∷ Op Sign.LPar ∷ Op Sign.LPar ∷ Ident (98 ∷ []) ∷ Op Sign.RPar ∷ Op Sign.RPar ∷ Op Sign.Comma ∷ Op Sign.DoubleStar ∷ Op Sign.LPar ∷ Op Sign.LPar ∷ Ident (99 ∷ []) ∷ Op Sign.RPar ∷ Op Sign.RPar ∷ Op Sign.RPar ∷ Op Sign.Colon ∷ Ident (100 ∷ []) ∷ []) ≡ Found (header_form (def_header (class_head (67 ∷ []) [] ((Trees.Name (97 ∷ []) Load) ∷ (Trees.Starred (Trees.Name (98 ∷ []) Load) Load) ∷ []) (Trees.a_keyword None (Trees.Name (99 ∷ []) Load) Trees.no_keyword))) (Some (ExprOf (Trees.Name (100 ∷ []) Load) ∷ []))) []
+depth_165 : read_line_to Py311 5 (Word Key.Class ∷ in_form (67 ∷ []) ∷ Op Sign.LPar ∷ Op Sign.LPar ∷ in_form (97 ∷ []) ∷ Op Sign.RPar ∷ Op Sign.Comma ∷ Op Sign.Star ∷ Op Sign.LPar ∷ Op Sign.LPar ∷ in_form (98 ∷ []) ∷ Op Sign.RPar ∷ Op Sign.RPar ∷ Op Sign.Comma ∷ Op Sign.DoubleStar ∷ Op Sign.LPar ∷ Op Sign.LPar ∷ in_form (99 ∷ []) ∷ Op Sign.RPar ∷ Op Sign.RPar ∷ Op Sign.RPar ∷ Op Sign.Colon ∷ in_form (100 ∷ []) ∷ []) ≡ Found (header_form (def_header (class_head (67 ∷ []) [] ((Trees.Name (97 ∷ []) Load) ∷ (Trees.Starred (Trees.Name (98 ∷ []) Load) Load) ∷ []) (Trees.a_keyword None (Trees.Name (99 ∷ []) Load) Trees.no_keyword))) (Some (ExprOf (Trees.Name (100 ∷ []) Load) ∷ []))) []
 depth_165 = refl
 
 -- @ ( ( a ) )
-depth_166 : read_line_to Py311 3 (Op Sign.At ∷ Op Sign.LPar ∷ Op Sign.LPar ∷ Ident (97 ∷ []) ∷ Op Sign.RPar ∷ Op Sign.RPar ∷ []) ≡ Found (decorator_form (Trees.Name (97 ∷ []) Load)) []
+depth_166 : read_line_to Py311 3 (Op Sign.At ∷ Op Sign.LPar ∷ Op Sign.LPar ∷ in_form (97 ∷ []) ∷ Op Sign.RPar ∷ Op Sign.RPar ∷ []) ≡ Found (decorator_form (Trees.Name (97 ∷ []) Load)) []
 depth_166 = refl
 
 -- del ( ( a ) ) , [ [ b ] ]
-depth_167 : read_line_to Py311 5 (Word Key.Del ∷ Op Sign.LPar ∷ Op Sign.LPar ∷ Ident (97 ∷ []) ∷ Op Sign.RPar ∷ Op Sign.RPar ∷ Op Sign.Comma ∷ Op Sign.LSqb ∷ Op Sign.LSqb ∷ Ident (98 ∷ []) ∷ Op Sign.RSqb ∷ Op Sign.RSqb ∷ []) ≡ Found (simple_form (Delete ((Trees.Name (97 ∷ []) Del) ∷ (Trees.ListOf (Trees.an_expr (Trees.ListOf (Trees.an_expr (Trees.Name (98 ∷ []) Del) Trees.no_exprs) Del) Trees.no_exprs) Del) ∷ []) ∷ [])) []
+depth_167 : read_line_to Py311 5 (Word Key.Del ∷ Op Sign.LPar ∷ Op Sign.LPar ∷ in_form (97 ∷ []) ∷ Op Sign.RPar ∷ Op Sign.RPar ∷ Op Sign.Comma ∷ Op Sign.LSqb ∷ Op Sign.LSqb ∷ in_form (98 ∷ []) ∷ Op Sign.RSqb ∷ Op Sign.RSqb ∷ []) ≡ Found (simple_form (Delete ((Trees.Name (97 ∷ []) Del) ∷ (Trees.ListOf (Trees.an_expr (Trees.ListOf (Trees.an_expr (Trees.Name (98 ∷ []) Del) Trees.no_exprs) Del) Trees.no_exprs) Del) ∷ []) ∷ [])) []
 depth_167 = refl
 
 -- raise ( ( a ) ) from ( ( b ) )
-depth_168 : read_line_to Py311 3 (Word Key.Raise ∷ Op Sign.LPar ∷ Op Sign.LPar ∷ Ident (97 ∷ []) ∷ Op Sign.RPar ∷ Op Sign.RPar ∷ Word Key.From ∷ Op Sign.LPar ∷ Op Sign.LPar ∷ Ident (98 ∷ []) ∷ Op Sign.RPar ∷ Op Sign.RPar ∷ []) ≡ Found (simple_form (Raise (Some (Trees.Name (97 ∷ []) Load)) (Some (Trees.Name (98 ∷ []) Load)) ∷ [])) []
+depth_168 : read_line_to Py311 3 (Word Key.Raise ∷ Op Sign.LPar ∷ Op Sign.LPar ∷ in_form (97 ∷ []) ∷ Op Sign.RPar ∷ Op Sign.RPar ∷ Word Key.From ∷ Op Sign.LPar ∷ Op Sign.LPar ∷ in_form (98 ∷ []) ∷ Op Sign.RPar ∷ Op Sign.RPar ∷ []) ≡ Found (simple_form (Raise (Some (Trees.Name (97 ∷ []) Load)) (Some (Trees.Name (98 ∷ []) Load)) ∷ [])) []
 depth_168 = refl
 
 -- await await_
-depth_169 : read_line_to Py311 2 (Word Key.Await ∷ Ident (97 ∷ 119 ∷ 97 ∷ 105 ∷ 116 ∷ 95 ∷ []) ∷ []) ≡ Found (simple_form (ExprOf (Trees.Await (Trees.Name (97 ∷ 119 ∷ 97 ∷ 105 ∷ 116 ∷ 95 ∷ []) Load)) ∷ [])) []
+depth_169 : read_line_to Py311 2 (Word Key.Await ∷ in_form (97 ∷ 119 ∷ 97 ∷ 105 ∷ 116 ∷ 95 ∷ []) ∷ []) ≡ Found (simple_form (ExprOf (Trees.Await (Trees.Name (97 ∷ 119 ∷ 97 ∷ 105 ∷ 116 ∷ 95 ∷ []) Load)) ∷ [])) []
 depth_169 = refl
 
 -- ( await x ) ** - ( y )
-depth_170 : read_line_to Py311 4 (Op Sign.LPar ∷ Word Key.Await ∷ Ident (120 ∷ []) ∷ Op Sign.RPar ∷ Op Sign.DoubleStar ∷ Op Sign.Minus ∷ Op Sign.LPar ∷ Ident (121 ∷ []) ∷ Op Sign.RPar ∷ []) ≡ Found (simple_form (ExprOf (Trees.BinOp (Trees.Await (Trees.Name (120 ∷ []) Load)) Bin.Pow (Trees.UnaryOp Un.USub (Trees.Name (121 ∷ []) Load))) ∷ [])) []
+depth_170 : read_line_to Py311 4 (Op Sign.LPar ∷ Word Key.Await ∷ in_form (120 ∷ []) ∷ Op Sign.RPar ∷ Op Sign.DoubleStar ∷ Op Sign.Minus ∷ Op Sign.LPar ∷ in_form (121 ∷ []) ∷ Op Sign.RPar ∷ []) ≡ Found (simple_form (ExprOf (Trees.BinOp (Trees.Await (Trees.Name (120 ∷ []) Load)) Bin.Pow (Trees.UnaryOp Un.USub (Trees.Name (121 ∷ []) Load))) ∷ [])) []
 depth_170 = refl
 
 -- - - x ** - - y
-depth_171 : read_line_to Py311 6 (Op Sign.Minus ∷ Op Sign.Minus ∷ Ident (120 ∷ []) ∷ Op Sign.DoubleStar ∷ Op Sign.Minus ∷ Op Sign.Minus ∷ Ident (121 ∷ []) ∷ []) ≡ Found (simple_form (ExprOf (Trees.UnaryOp Un.USub (Trees.UnaryOp Un.USub (Trees.BinOp (Trees.Name (120 ∷ []) Load) Bin.Pow (Trees.UnaryOp Un.USub (Trees.UnaryOp Un.USub (Trees.Name (121 ∷ []) Load)))))) ∷ [])) []
+depth_171 : read_line_to Py311 6 (Op Sign.Minus ∷ Op Sign.Minus ∷ in_form (120 ∷ []) ∷ Op Sign.DoubleStar ∷ Op Sign.Minus ∷ Op Sign.Minus ∷ in_form (121 ∷ []) ∷ []) ≡ Found (simple_form (ExprOf (Trees.UnaryOp Un.USub (Trees.UnaryOp Un.USub (Trees.BinOp (Trees.Name (120 ∷ []) Load) Bin.Pow (Trees.UnaryOp Un.USub (Trees.UnaryOp Un.USub (Trees.Name (121 ∷ []) Load)))))) ∷ [])) []
 depth_171 = refl
 
 -- f ( * a , ** b ) ( c ) [ d ] ( e )
-depth_172 : read_line_to Py311 7 (Ident (102 ∷ []) ∷ Op Sign.LPar ∷ Op Sign.Star ∷ Ident (97 ∷ []) ∷ Op Sign.Comma ∷ Op Sign.DoubleStar ∷ Ident (98 ∷ []) ∷ Op Sign.RPar ∷ Op Sign.LPar ∷ Ident (99 ∷ []) ∷ Op Sign.RPar ∷ Op Sign.LSqb ∷ Ident (100 ∷ []) ∷ Op Sign.RSqb ∷ Op Sign.LPar ∷ Ident (101 ∷ []) ∷ Op Sign.RPar ∷ []) ≡ Found (simple_form (ExprOf (Trees.Call (Trees.Subscript (Trees.Call (Trees.Call (Trees.Name (102 ∷ []) Load) (Trees.an_expr (Trees.Starred (Trees.Name (97 ∷ []) Load) Load) Trees.no_exprs) (Trees.a_keyword None (Trees.Name (98 ∷ []) Load) Trees.no_keyword)) (Trees.an_expr (Trees.Name (99 ∷ []) Load) Trees.no_exprs) Trees.no_keyword) (Trees.Name (100 ∷ []) Load) Load) (Trees.an_expr (Trees.Name (101 ∷ []) Load) Trees.no_exprs) Trees.no_keyword) ∷ [])) []
+depth_172 : read_line_to Py311 7 (in_form (102 ∷ []) ∷ Op Sign.LPar ∷ Op Sign.Star ∷ in_form (97 ∷ []) ∷ Op Sign.Comma ∷ Op Sign.DoubleStar ∷ in_form (98 ∷ []) ∷ Op Sign.RPar ∷ Op Sign.LPar ∷ in_form (99 ∷ []) ∷ Op Sign.RPar ∷ Op Sign.LSqb ∷ in_form (100 ∷ []) ∷ Op Sign.RSqb ∷ Op Sign.LPar ∷ in_form (101 ∷ []) ∷ Op Sign.RPar ∷ []) ≡ Found (simple_form (ExprOf (Trees.Call (Trees.Subscript (Trees.Call (Trees.Call (Trees.Name (102 ∷ []) Load) (Trees.an_expr (Trees.Starred (Trees.Name (97 ∷ []) Load) Load) Trees.no_exprs) (Trees.a_keyword None (Trees.Name (98 ∷ []) Load) Trees.no_keyword)) (Trees.an_expr (Trees.Name (99 ∷ []) Load) Trees.no_exprs) Trees.no_keyword) (Trees.Name (100 ∷ []) Load) Load) (Trees.an_expr (Trees.Name (101 ∷ []) Load) Trees.no_exprs) Trees.no_keyword) ∷ [])) []
 depth_172 = refl
 
 -- a . b . c . d . e . f
-depth_173 : read_line_to Py311 6 (Ident (97 ∷ []) ∷ Op Sign.Dot ∷ Ident (98 ∷ []) ∷ Op Sign.Dot ∷ Ident (99 ∷ []) ∷ Op Sign.Dot ∷ Ident (100 ∷ []) ∷ Op Sign.Dot ∷ Ident (101 ∷ []) ∷ Op Sign.Dot ∷ Ident (102 ∷ []) ∷ []) ≡ Found (simple_form (ExprOf (Trees.Attribute (Trees.Attribute (Trees.Attribute (Trees.Attribute (Trees.Attribute (Trees.Name (97 ∷ []) Load) (98 ∷ []) Load) (99 ∷ []) Load) (100 ∷ []) Load) (101 ∷ []) Load) (102 ∷ []) Load) ∷ [])) []
+depth_173 : read_line_to Py311 6 (in_form (97 ∷ []) ∷ Op Sign.Dot ∷ in_form (98 ∷ []) ∷ Op Sign.Dot ∷ in_form (99 ∷ []) ∷ Op Sign.Dot ∷ in_form (100 ∷ []) ∷ Op Sign.Dot ∷ in_form (101 ∷ []) ∷ Op Sign.Dot ∷ in_form (102 ∷ []) ∷ []) ≡ Found (simple_form (ExprOf (Trees.Attribute (Trees.Attribute (Trees.Attribute (Trees.Attribute (Trees.Attribute (Trees.Name (97 ∷ []) Load) (98 ∷ []) Load) (99 ∷ []) Load) (100 ∷ []) Load) (101 ∷ []) Load) (102 ∷ []) Load) ∷ [])) []
 depth_173 = refl
 
 -- x + y + z + w
-depth_174 : read_line_to Py311 4 (Ident (120 ∷ []) ∷ Op Sign.Plus ∷ Ident (121 ∷ []) ∷ Op Sign.Plus ∷ Ident (122 ∷ []) ∷ Op Sign.Plus ∷ Ident (119 ∷ []) ∷ []) ≡ Found (simple_form (ExprOf (Trees.BinOp (Trees.BinOp (Trees.BinOp (Trees.Name (120 ∷ []) Load) Bin.Add (Trees.Name (121 ∷ []) Load)) Bin.Add (Trees.Name (122 ∷ []) Load)) Bin.Add (Trees.Name (119 ∷ []) Load)) ∷ [])) []
+depth_174 : read_line_to Py311 4 (in_form (120 ∷ []) ∷ Op Sign.Plus ∷ in_form (121 ∷ []) ∷ Op Sign.Plus ∷ in_form (122 ∷ []) ∷ Op Sign.Plus ∷ in_form (119 ∷ []) ∷ []) ≡ Found (simple_form (ExprOf (Trees.BinOp (Trees.BinOp (Trees.BinOp (Trees.Name (120 ∷ []) Load) Bin.Add (Trees.Name (121 ∷ []) Load)) Bin.Add (Trees.Name (122 ∷ []) Load)) Bin.Add (Trees.Name (119 ∷ []) Load)) ∷ [])) []
 depth_174 = refl
 
 -- a < b < c
-depth_175 : read_line_to Py311 2 (Ident (97 ∷ []) ∷ Op Sign.Less ∷ Ident (98 ∷ []) ∷ Op Sign.Less ∷ Ident (99 ∷ []) ∷ []) ≡ Found (simple_form (ExprOf (Trees.Compare (Trees.Name (97 ∷ []) Load) (Is.Lt ∷ Is.Lt ∷ []) (Trees.an_expr (Trees.Name (98 ∷ []) Load) (Trees.an_expr (Trees.Name (99 ∷ []) Load) Trees.no_exprs))) ∷ [])) []
+depth_175 : read_line_to Py311 2 (in_form (97 ∷ []) ∷ Op Sign.Less ∷ in_form (98 ∷ []) ∷ Op Sign.Less ∷ in_form (99 ∷ []) ∷ []) ≡ Found (simple_form (ExprOf (Trees.Compare (Trees.Name (97 ∷ []) Load) (Is.Lt ∷ Is.Lt ∷ []) (Trees.an_expr (Trees.Name (98 ∷ []) Load) (Trees.an_expr (Trees.Name (99 ∷ []) Load) Trees.no_exprs))) ∷ [])) []
 depth_175 = refl
 
 -- x or y or z
-depth_176 : read_line_to Py311 2 (Ident (120 ∷ []) ∷ Word Key.Or ∷ Ident (121 ∷ []) ∷ Word Key.Or ∷ Ident (122 ∷ []) ∷ []) ≡ Found (simple_form (ExprOf (Trees.BoolOp Join.Or (Trees.an_expr (Trees.Name (120 ∷ []) Load) (Trees.an_expr (Trees.Name (121 ∷ []) Load) (Trees.an_expr (Trees.Name (122 ∷ []) Load) Trees.no_exprs)))) ∷ [])) []
+depth_176 : read_line_to Py311 2 (in_form (120 ∷ []) ∷ Word Key.Or ∷ in_form (121 ∷ []) ∷ Word Key.Or ∷ in_form (122 ∷ []) ∷ []) ≡ Found (simple_form (ExprOf (Trees.BoolOp Join.Or (Trees.an_expr (Trees.Name (120 ∷ []) Load) (Trees.an_expr (Trees.Name (121 ∷ []) Load) (Trees.an_expr (Trees.Name (122 ∷ []) Load) Trees.no_exprs)))) ∷ [])) []
 depth_176 = refl
 
 -- lambda a = ( b ) : c
-depth_177 : read_line_to Py311 3 (Word Key.Lambda ∷ Ident (97 ∷ []) ∷ Op Sign.Equal ∷ Op Sign.LPar ∷ Ident (98 ∷ []) ∷ Op Sign.RPar ∷ Op Sign.Colon ∷ Ident (99 ∷ []) ∷ []) ≡ Found (simple_form (ExprOf (Trees.Lambda (Trees.arguments Trees.no_arg (Trees.an_arg (Trees.arg (97 ∷ []) Trees.absent) Trees.no_arg) Trees.absent_arg Trees.no_arg Trees.no_optional Trees.absent_arg (Trees.an_expr (Trees.Name (98 ∷ []) Load) Trees.no_exprs)) (Trees.Name (99 ∷ []) Load)) ∷ [])) []
+depth_177 : read_line_to Py311 3 (Word Key.Lambda ∷ in_form (97 ∷ []) ∷ Op Sign.Equal ∷ Op Sign.LPar ∷ in_form (98 ∷ []) ∷ Op Sign.RPar ∷ Op Sign.Colon ∷ in_form (99 ∷ []) ∷ []) ≡ Found (simple_form (ExprOf (Trees.Lambda (Trees.arguments Trees.no_arg (Trees.an_arg (Trees.arg (97 ∷ []) Trees.absent) Trees.no_arg) Trees.absent_arg Trees.no_arg Trees.no_optional Trees.absent_arg (Trees.an_expr (Trees.Name (98 ∷ []) Load) Trees.no_exprs)) (Trees.Name (99 ∷ []) Load)) ∷ [])) []
 depth_177 = refl
 
 -- [ * ( ( a ) ) ]
-depth_178 : read_line_to Py311 6 (Op Sign.LSqb ∷ Op Sign.Star ∷ Op Sign.LPar ∷ Op Sign.LPar ∷ Ident (97 ∷ []) ∷ Op Sign.RPar ∷ Op Sign.RPar ∷ Op Sign.RSqb ∷ []) ≡ Found (simple_form (ExprOf (Trees.ListOf (Trees.an_expr (Trees.Starred (Trees.Name (97 ∷ []) Load) Load) Trees.no_exprs) Load) ∷ [])) []
+depth_178 : read_line_to Py311 6 (Op Sign.LSqb ∷ Op Sign.Star ∷ Op Sign.LPar ∷ Op Sign.LPar ∷ in_form (97 ∷ []) ∷ Op Sign.RPar ∷ Op Sign.RPar ∷ Op Sign.RSqb ∷ []) ≡ Found (simple_form (ExprOf (Trees.ListOf (Trees.an_expr (Trees.Starred (Trees.Name (97 ∷ []) Load) Load) Trees.no_exprs) Load) ∷ [])) []
 depth_178 = refl
 
 -- { ** ( ( a ) ) }
-depth_179 : read_line_to Py311 5 (Op Sign.LBrace ∷ Op Sign.DoubleStar ∷ Op Sign.LPar ∷ Op Sign.LPar ∷ Ident (97 ∷ []) ∷ Op Sign.RPar ∷ Op Sign.RPar ∷ Op Sign.RBrace ∷ []) ≡ Found (simple_form (ExprOf (Trees.Dict (Trees.an_optional Trees.absent Trees.no_optional) (Trees.an_expr (Trees.Name (97 ∷ []) Load) Trees.no_exprs)) ∷ [])) []
+depth_179 : read_line_to Py311 5 (Op Sign.LBrace ∷ Op Sign.DoubleStar ∷ Op Sign.LPar ∷ Op Sign.LPar ∷ in_form (97 ∷ []) ∷ Op Sign.RPar ∷ Op Sign.RPar ∷ Op Sign.RBrace ∷ []) ≡ Found (simple_form (ExprOf (Trees.Dict (Trees.an_optional Trees.absent Trees.no_optional) (Trees.an_expr (Trees.Name (97 ∷ []) Load) Trees.no_exprs)) ∷ [])) []
 depth_179 = refl
 
 -- a [ * ( ( b ) ) ]
-depth_180 : read_line_to Py311 7 (Ident (97 ∷ []) ∷ Op Sign.LSqb ∷ Op Sign.Star ∷ Op Sign.LPar ∷ Op Sign.LPar ∷ Ident (98 ∷ []) ∷ Op Sign.RPar ∷ Op Sign.RPar ∷ Op Sign.RSqb ∷ []) ≡ Found (simple_form (ExprOf (Trees.Subscript (Trees.Name (97 ∷ []) Load) (Trees.Tuple (Trees.an_expr (Trees.Starred (Trees.Name (98 ∷ []) Load) Load) Trees.no_exprs) Load) Load) ∷ [])) []
+depth_180 : read_line_to Py311 7 (in_form (97 ∷ []) ∷ Op Sign.LSqb ∷ Op Sign.Star ∷ Op Sign.LPar ∷ Op Sign.LPar ∷ in_form (98 ∷ []) ∷ Op Sign.RPar ∷ Op Sign.RPar ∷ Op Sign.RSqb ∷ []) ≡ Found (simple_form (ExprOf (Trees.Subscript (Trees.Name (97 ∷ []) Load) (Trees.Tuple (Trees.an_expr (Trees.Starred (Trees.Name (98 ∷ []) Load) Load) Trees.no_exprs) Load) Load) ∷ [])) []
 depth_180 = refl
 
 -- a [ ( ( b ) ) : ( ( c ) ) : ( ( d ) ) ]
-depth_181 : read_line_to Py311 6 (Ident (97 ∷ []) ∷ Op Sign.LSqb ∷ Op Sign.LPar ∷ Op Sign.LPar ∷ Ident (98 ∷ []) ∷ Op Sign.RPar ∷ Op Sign.RPar ∷ Op Sign.Colon ∷ Op Sign.LPar ∷ Op Sign.LPar ∷ Ident (99 ∷ []) ∷ Op Sign.RPar ∷ Op Sign.RPar ∷ Op Sign.Colon ∷ Op Sign.LPar ∷ Op Sign.LPar ∷ Ident (100 ∷ []) ∷ Op Sign.RPar ∷ Op Sign.RPar ∷ Op Sign.RSqb ∷ []) ≡ Found (simple_form (ExprOf (Trees.Subscript (Trees.Name (97 ∷ []) Load) (Trees.Slice (Trees.present (Trees.Name (98 ∷ []) Load)) (Trees.present (Trees.Name (99 ∷ []) Load)) (Trees.present (Trees.Name (100 ∷ []) Load))) Load) ∷ [])) []
+depth_181 : read_line_to Py311 6 (in_form (97 ∷ []) ∷ Op Sign.LSqb ∷ Op Sign.LPar ∷ Op Sign.LPar ∷ in_form (98 ∷ []) ∷ Op Sign.RPar ∷ Op Sign.RPar ∷ Op Sign.Colon ∷ Op Sign.LPar ∷ Op Sign.LPar ∷ in_form (99 ∷ []) ∷ Op Sign.RPar ∷ Op Sign.RPar ∷ Op Sign.Colon ∷ Op Sign.LPar ∷ Op Sign.LPar ∷ in_form (100 ∷ []) ∷ Op Sign.RPar ∷ Op Sign.RPar ∷ Op Sign.RSqb ∷ []) ≡ Found (simple_form (ExprOf (Trees.Subscript (Trees.Name (97 ∷ []) Load) (Trees.Slice (Trees.present (Trees.Name (98 ∷ []) Load)) (Trees.present (Trees.Name (99 ∷ []) Load)) (Trees.present (Trees.Name (100 ∷ []) Load))) Load) ∷ [])) []
 depth_181 = refl
 
 -- ( a := ( ( b ) ) )
-depth_182 : read_line_to Py311 5 (Op Sign.LPar ∷ Ident (97 ∷ []) ∷ Op Sign.ColonEqual ∷ Op Sign.LPar ∷ Op Sign.LPar ∷ Ident (98 ∷ []) ∷ Op Sign.RPar ∷ Op Sign.RPar ∷ Op Sign.RPar ∷ []) ≡ Found (simple_form (ExprOf (Trees.NamedExpr (Trees.Name (97 ∷ []) Store) (Trees.Name (98 ∷ []) Load)) ∷ [])) []
+depth_182 : read_line_to Py311 5 (Op Sign.LPar ∷ in_form (97 ∷ []) ∷ Op Sign.ColonEqual ∷ Op Sign.LPar ∷ Op Sign.LPar ∷ in_form (98 ∷ []) ∷ Op Sign.RPar ∷ Op Sign.RPar ∷ Op Sign.RPar ∷ []) ≡ Found (simple_form (ExprOf (Trees.NamedExpr (Trees.Name (97 ∷ []) Store) (Trees.Name (98 ∷ []) Load)) ∷ [])) []
 depth_182 = refl
 
 -- not a in not_
-depth_183 : read_line_to Py311 3 (Word Key.Not ∷ Ident (97 ∷ []) ∷ Word Key.In ∷ Ident (110 ∷ 111 ∷ 116 ∷ 95 ∷ []) ∷ []) ≡ Found (simple_form (ExprOf (Trees.UnaryOp Un.Not (Trees.Compare (Trees.Name (97 ∷ []) Load) (Is.Within ∷ []) (Trees.an_expr (Trees.Name (110 ∷ 111 ∷ 116 ∷ 95 ∷ []) Load) Trees.no_exprs))) ∷ [])) []
+depth_183 : read_line_to Py311 3 (Word Key.Not ∷ in_form (97 ∷ []) ∷ Word Key.In ∷ in_form (110 ∷ 111 ∷ 116 ∷ 95 ∷ []) ∷ []) ≡ Found (simple_form (ExprOf (Trees.UnaryOp Un.Not (Trees.Compare (Trees.Name (97 ∷ []) Load) (Is.Within ∷ []) (Trees.an_expr (Trees.Name (110 ∷ 111 ∷ 116 ∷ 95 ∷ []) Load) Trees.no_exprs))) ∷ [])) []
 depth_183 = refl
 
 -- with ( a , ( b , ( c ) ) ) : d
-depth_184 : read_line_to Py311 5 (Word Key.With ∷ Op Sign.LPar ∷ Ident (97 ∷ []) ∷ Op Sign.Comma ∷ Op Sign.LPar ∷ Ident (98 ∷ []) ∷ Op Sign.Comma ∷ Op Sign.LPar ∷ Ident (99 ∷ []) ∷ Op Sign.RPar ∷ Op Sign.RPar ∷ Op Sign.RPar ∷ Op Sign.Colon ∷ Ident (100 ∷ []) ∷ []) ≡ Found (header_form (with_header false (item (Trees.Name (97 ∷ []) Load) None ∷ item (Trees.Tuple (Trees.an_expr (Trees.Name (98 ∷ []) Load) (Trees.an_expr (Trees.Name (99 ∷ []) Load) Trees.no_exprs)) Load) None ∷ [])) (Some (ExprOf (Trees.Name (100 ∷ []) Load) ∷ []))) []
+depth_184 : read_line_to Py311 5 (Word Key.With ∷ Op Sign.LPar ∷ in_form (97 ∷ []) ∷ Op Sign.Comma ∷ Op Sign.LPar ∷ in_form (98 ∷ []) ∷ Op Sign.Comma ∷ Op Sign.LPar ∷ in_form (99 ∷ []) ∷ Op Sign.RPar ∷ Op Sign.RPar ∷ Op Sign.RPar ∷ Op Sign.Colon ∷ in_form (100 ∷ []) ∷ []) ≡ Found (header_form (with_header false (item (Trees.Name (97 ∷ []) Load) None ∷ item (Trees.Tuple (Trees.an_expr (Trees.Name (98 ∷ []) Load) (Trees.an_expr (Trees.Name (99 ∷ []) Load) Trees.no_exprs)) Load) None ∷ [])) (Some (ExprOf (Trees.Name (100 ∷ []) Load) ∷ []))) []
 depth_184 = refl
 
 -- with ( a , ( b , ( c ) ) ) [ 0 ] : d
-depth_185 : read_line_to Py311 7 (Word Key.With ∷ Op Sign.LPar ∷ Ident (97 ∷ []) ∷ Op Sign.Comma ∷ Op Sign.LPar ∷ Ident (98 ∷ []) ∷ Op Sign.Comma ∷ Op Sign.LPar ∷ Ident (99 ∷ []) ∷ Op Sign.RPar ∷ Op Sign.RPar ∷ Op Sign.RPar ∷ Op Sign.LSqb ∷ Whole 0 ∷ Op Sign.RSqb ∷ Op Sign.Colon ∷ Ident (100 ∷ []) ∷ []) ≡ Found (header_form (with_header false (item (Trees.Subscript (Trees.Tuple (Trees.an_expr (Trees.Name (97 ∷ []) Load) (Trees.an_expr (Trees.Tuple (Trees.an_expr (Trees.Name (98 ∷ []) Load) (Trees.an_expr (Trees.Name (99 ∷ []) Load) Trees.no_exprs)) Load) Trees.no_exprs)) Load) (Trees.Constant (Values.Int 0)) Load) None ∷ [])) (Some (ExprOf (Trees.Name (100 ∷ []) Load) ∷ []))) []
+depth_185 : read_line_to Py311 7 (Word Key.With ∷ Op Sign.LPar ∷ in_form (97 ∷ []) ∷ Op Sign.Comma ∷ Op Sign.LPar ∷ in_form (98 ∷ []) ∷ Op Sign.Comma ∷ Op Sign.LPar ∷ in_form (99 ∷ []) ∷ Op Sign.RPar ∷ Op Sign.RPar ∷ Op Sign.RPar ∷ Op Sign.LSqb ∷ Whole 0 ∷ Op Sign.RSqb ∷ Op Sign.Colon ∷ in_form (100 ∷ []) ∷ []) ≡ Found (header_form (with_header false (item (Trees.Subscript (Trees.Tuple (Trees.an_expr (Trees.Name (97 ∷ []) Load) (Trees.an_expr (Trees.Tuple (Trees.an_expr (Trees.Name (98 ∷ []) Load) (Trees.an_expr (Trees.Name (99 ∷ []) Load) Trees.no_exprs)) Load) Trees.no_exprs)) Load) (Trees.Constant (Values.Int 0)) Load) None ∷ [])) (Some (ExprOf (Trees.Name (100 ∷ []) Load) ∷ []))) []
 depth_185 = refl
 
 -- with ( a if b else ( c ) ) : d
-depth_186 : read_line_to Py311 4 (Word Key.With ∷ Op Sign.LPar ∷ Ident (97 ∷ []) ∷ Word Key.If ∷ Ident (98 ∷ []) ∷ Word Key.Else ∷ Op Sign.LPar ∷ Ident (99 ∷ []) ∷ Op Sign.RPar ∷ Op Sign.RPar ∷ Op Sign.Colon ∷ Ident (100 ∷ []) ∷ []) ≡ Found (header_form (with_header false (item (Trees.IfExp (Trees.Name (98 ∷ []) Load) (Trees.Name (97 ∷ []) Load) (Trees.Name (99 ∷ []) Load)) None ∷ [])) (Some (ExprOf (Trees.Name (100 ∷ []) Load) ∷ []))) []
+depth_186 : read_line_to Py311 4 (Word Key.With ∷ Op Sign.LPar ∷ in_form (97 ∷ []) ∷ Word Key.If ∷ in_form (98 ∷ []) ∷ Word Key.Else ∷ Op Sign.LPar ∷ in_form (99 ∷ []) ∷ Op Sign.RPar ∷ Op Sign.RPar ∷ Op Sign.Colon ∷ in_form (100 ∷ []) ∷ []) ≡ Found (header_form (with_header false (item (Trees.IfExp (Trees.Name (98 ∷ []) Load) (Trees.Name (97 ∷ []) Load) (Trees.Name (99 ∷ []) Load)) None ∷ [])) (Some (ExprOf (Trees.Name (100 ∷ []) Load) ∷ []))) []
 depth_186 = refl
 
 -- f ( ( a ) for b in c )
-depth_187 : read_line_to Py311 5 (Ident (102 ∷ []) ∷ Op Sign.LPar ∷ Op Sign.LPar ∷ Ident (97 ∷ []) ∷ Op Sign.RPar ∷ Word Key.For ∷ Ident (98 ∷ []) ∷ Word Key.In ∷ Ident (99 ∷ []) ∷ Op Sign.RPar ∷ []) ≡ Found (simple_form (ExprOf (Trees.Call (Trees.Name (102 ∷ []) Load) (Trees.an_expr (Trees.GeneratorExp (Trees.Name (97 ∷ []) Load) (Trees.a_comprehension (Trees.Name (98 ∷ []) Store) (Trees.Name (99 ∷ []) Load) Trees.no_exprs false Trees.no_comprehension)) Trees.no_exprs) Trees.no_keyword) ∷ [])) []
+depth_187 : read_line_to Py311 5 (in_form (102 ∷ []) ∷ Op Sign.LPar ∷ Op Sign.LPar ∷ in_form (97 ∷ []) ∷ Op Sign.RPar ∷ Word Key.For ∷ in_form (98 ∷ []) ∷ Word Key.In ∷ in_form (99 ∷ []) ∷ Op Sign.RPar ∷ []) ≡ Found (simple_form (ExprOf (Trees.Call (Trees.Name (102 ∷ []) Load) (Trees.an_expr (Trees.GeneratorExp (Trees.Name (97 ∷ []) Load) (Trees.a_comprehension (Trees.Name (98 ∷ []) Store) (Trees.Name (99 ∷ []) Load) Trees.no_exprs false Trees.no_comprehension)) Trees.no_exprs) Trees.no_keyword) ∷ [])) []
 depth_187 = refl
 
 -- { ( ( a ) ) : ( ( b ) ) for c in ( ( d ) ) if ( ( e ) ) }
-depth_188 : read_line_to Py311 5 (Op Sign.LBrace ∷ Op Sign.LPar ∷ Op Sign.LPar ∷ Ident (97 ∷ []) ∷ Op Sign.RPar ∷ Op Sign.RPar ∷ Op Sign.Colon ∷ Op Sign.LPar ∷ Op Sign.LPar ∷ Ident (98 ∷ []) ∷ Op Sign.RPar ∷ Op Sign.RPar ∷ Word Key.For ∷ Ident (99 ∷ []) ∷ Word Key.In ∷ Op Sign.LPar ∷ Op Sign.LPar ∷ Ident (100 ∷ []) ∷ Op Sign.RPar ∷ Op Sign.RPar ∷ Word Key.If ∷ Op Sign.LPar ∷ Op Sign.LPar ∷ Ident (101 ∷ []) ∷ Op Sign.RPar ∷ Op Sign.RPar ∷ Op Sign.RBrace ∷ []) ≡ Found (simple_form (ExprOf (Trees.DictComp (Trees.Name (97 ∷ []) Load) (Trees.Name (98 ∷ []) Load) (Trees.a_comprehension (Trees.Name (99 ∷ []) Store) (Trees.Name (100 ∷ []) Load) (Trees.an_expr (Trees.Name (101 ∷ []) Load) Trees.no_exprs) false Trees.no_comprehension)) ∷ [])) []
+depth_188 : read_line_to Py311 5 (Op Sign.LBrace ∷ Op Sign.LPar ∷ Op Sign.LPar ∷ in_form (97 ∷ []) ∷ Op Sign.RPar ∷ Op Sign.RPar ∷ Op Sign.Colon ∷ Op Sign.LPar ∷ Op Sign.LPar ∷ in_form (98 ∷ []) ∷ Op Sign.RPar ∷ Op Sign.RPar ∷ Word Key.For ∷ in_form (99 ∷ []) ∷ Word Key.In ∷ Op Sign.LPar ∷ Op Sign.LPar ∷ in_form (100 ∷ []) ∷ Op Sign.RPar ∷ Op Sign.RPar ∷ Word Key.If ∷ Op Sign.LPar ∷ Op Sign.LPar ∷ in_form (101 ∷ []) ∷ Op Sign.RPar ∷ Op Sign.RPar ∷ Op Sign.RBrace ∷ []) ≡ Found (simple_form (ExprOf (Trees.DictComp (Trees.Name (97 ∷ []) Load) (Trees.Name (98 ∷ []) Load) (Trees.a_comprehension (Trees.Name (99 ∷ []) Store) (Trees.Name (100 ∷ []) Load) (Trees.an_expr (Trees.Name (101 ∷ []) Load) Trees.no_exprs) false Trees.no_comprehension)) ∷ [])) []
 depth_188 = refl
 
 -- f ( a ) ( b ) ( c )
-depth_189 : read_line_to Py311 5 (Ident (102 ∷ []) ∷ Op Sign.LPar ∷ Ident (97 ∷ []) ∷ Op Sign.RPar ∷ Op Sign.LPar ∷ Ident (98 ∷ []) ∷ Op Sign.RPar ∷ Op Sign.LPar ∷ Ident (99 ∷ []) ∷ Op Sign.RPar ∷ []) ≡ Found (simple_form (ExprOf (Trees.Call (Trees.Call (Trees.Call (Trees.Name (102 ∷ []) Load) (Trees.an_expr (Trees.Name (97 ∷ []) Load) Trees.no_exprs) Trees.no_keyword) (Trees.an_expr (Trees.Name (98 ∷ []) Load) Trees.no_exprs) Trees.no_keyword) (Trees.an_expr (Trees.Name (99 ∷ []) Load) Trees.no_exprs) Trees.no_keyword) ∷ [])) []
+depth_189 : read_line_to Py311 5 (in_form (102 ∷ []) ∷ Op Sign.LPar ∷ in_form (97 ∷ []) ∷ Op Sign.RPar ∷ Op Sign.LPar ∷ in_form (98 ∷ []) ∷ Op Sign.RPar ∷ Op Sign.LPar ∷ in_form (99 ∷ []) ∷ Op Sign.RPar ∷ []) ≡ Found (simple_form (ExprOf (Trees.Call (Trees.Call (Trees.Call (Trees.Name (102 ∷ []) Load) (Trees.an_expr (Trees.Name (97 ∷ []) Load) Trees.no_exprs) Trees.no_keyword) (Trees.an_expr (Trees.Name (98 ∷ []) Load) Trees.no_exprs) Trees.no_keyword) (Trees.an_expr (Trees.Name (99 ∷ []) Load) Trees.no_exprs) Trees.no_keyword) ∷ [])) []
 depth_189 = refl
 
 -- x [ ( a ) ] ( b )
-depth_190 : read_line_to Py311 5 (Ident (120 ∷ []) ∷ Op Sign.LSqb ∷ Op Sign.LPar ∷ Ident (97 ∷ []) ∷ Op Sign.RPar ∷ Op Sign.RSqb ∷ Op Sign.LPar ∷ Ident (98 ∷ []) ∷ Op Sign.RPar ∷ []) ≡ Found (simple_form (ExprOf (Trees.Call (Trees.Subscript (Trees.Name (120 ∷ []) Load) (Trees.Name (97 ∷ []) Load) Load) (Trees.an_expr (Trees.Name (98 ∷ []) Load) Trees.no_exprs) Trees.no_keyword) ∷ [])) []
+depth_190 : read_line_to Py311 5 (in_form (120 ∷ []) ∷ Op Sign.LSqb ∷ Op Sign.LPar ∷ in_form (97 ∷ []) ∷ Op Sign.RPar ∷ Op Sign.RSqb ∷ Op Sign.LPar ∷ in_form (98 ∷ []) ∷ Op Sign.RPar ∷ []) ≡ Found (simple_form (ExprOf (Trees.Call (Trees.Subscript (Trees.Name (120 ∷ []) Load) (Trees.Name (97 ∷ []) Load) Load) (Trees.an_expr (Trees.Name (98 ∷ []) Load) Trees.no_exprs) Trees.no_keyword) ∷ [])) []
 depth_190 = refl
 
 -- print ( ( a ) , end = ( b ) )
-depth_191 : read_line_to Py311 4 (Ident (112 ∷ 114 ∷ 105 ∷ 110 ∷ 116 ∷ []) ∷ Op Sign.LPar ∷ Op Sign.LPar ∷ Ident (97 ∷ []) ∷ Op Sign.RPar ∷ Op Sign.Comma ∷ Ident (101 ∷ 110 ∷ 100 ∷ []) ∷ Op Sign.Equal ∷ Op Sign.LPar ∷ Ident (98 ∷ []) ∷ Op Sign.RPar ∷ Op Sign.RPar ∷ []) ≡ Found (simple_form (ExprOf (Trees.Call (Trees.Name (112 ∷ 114 ∷ 105 ∷ 110 ∷ 116 ∷ []) Load) (Trees.an_expr (Trees.Name (97 ∷ []) Load) Trees.no_exprs) (Trees.a_keyword (Some (101 ∷ 110 ∷ 100 ∷ [])) (Trees.Name (98 ∷ []) Load) Trees.no_keyword)) ∷ [])) []
+depth_191 : read_line_to Py311 4 (in_form (112 ∷ 114 ∷ 105 ∷ 110 ∷ 116 ∷ []) ∷ Op Sign.LPar ∷ Op Sign.LPar ∷ in_form (97 ∷ []) ∷ Op Sign.RPar ∷ Op Sign.Comma ∷ in_form (101 ∷ 110 ∷ 100 ∷ []) ∷ Op Sign.Equal ∷ Op Sign.LPar ∷ in_form (98 ∷ []) ∷ Op Sign.RPar ∷ Op Sign.RPar ∷ []) ≡ Found (simple_form (ExprOf (Trees.Call (Trees.Name (112 ∷ 114 ∷ 105 ∷ 110 ∷ 116 ∷ []) Load) (Trees.an_expr (Trees.Name (97 ∷ []) Load) Trees.no_exprs) (Trees.a_keyword (Some (101 ∷ 110 ∷ 100 ∷ [])) (Trees.Name (98 ∷ []) Load) Trees.no_keyword)) ∷ [])) []
 depth_191 = refl
 
 -- ( ( ( a ) ) ) += ( ( ( b ) ) )
-depth_192 : read_line_to Py311 4 (Op Sign.LPar ∷ Op Sign.LPar ∷ Op Sign.LPar ∷ Ident (97 ∷ []) ∷ Op Sign.RPar ∷ Op Sign.RPar ∷ Op Sign.RPar ∷ Op Sign.PlusEqual ∷ Op Sign.LPar ∷ Op Sign.LPar ∷ Op Sign.LPar ∷ Ident (98 ∷ []) ∷ Op Sign.RPar ∷ Op Sign.RPar ∷ Op Sign.RPar ∷ []) ≡ Found (simple_form (AugAssign (Trees.Name (97 ∷ []) Store) Bin.Add (Trees.Name (98 ∷ []) Load) ∷ [])) []
+depth_192 : read_line_to Py311 4 (Op Sign.LPar ∷ Op Sign.LPar ∷ Op Sign.LPar ∷ in_form (97 ∷ []) ∷ Op Sign.RPar ∷ Op Sign.RPar ∷ Op Sign.RPar ∷ Op Sign.PlusEqual ∷ Op Sign.LPar ∷ Op Sign.LPar ∷ Op Sign.LPar ∷ in_form (98 ∷ []) ∷ Op Sign.RPar ∷ Op Sign.RPar ∷ Op Sign.RPar ∷ []) ≡ Found (simple_form (AugAssign (Trees.Name (97 ∷ []) Store) Bin.Add (Trees.Name (98 ∷ []) Load) ∷ [])) []
 depth_192 = refl
 
 -- ( ( a ) ) . b : ( ( c ) )
-depth_193 : read_line_to Py311 4 (Op Sign.LPar ∷ Op Sign.LPar ∷ Ident (97 ∷ []) ∷ Op Sign.RPar ∷ Op Sign.RPar ∷ Op Sign.Dot ∷ Ident (98 ∷ []) ∷ Op Sign.Colon ∷ Op Sign.LPar ∷ Op Sign.LPar ∷ Ident (99 ∷ []) ∷ Op Sign.RPar ∷ Op Sign.RPar ∷ []) ≡ Found (simple_form (AnnAssign (Trees.Attribute (Trees.Name (97 ∷ []) Load) (98 ∷ []) Store) (Trees.Name (99 ∷ []) Load) None false ∷ [])) []
+depth_193 : read_line_to Py311 4 (Op Sign.LPar ∷ Op Sign.LPar ∷ in_form (97 ∷ []) ∷ Op Sign.RPar ∷ Op Sign.RPar ∷ Op Sign.Dot ∷ in_form (98 ∷ []) ∷ Op Sign.Colon ∷ Op Sign.LPar ∷ Op Sign.LPar ∷ in_form (99 ∷ []) ∷ Op Sign.RPar ∷ Op Sign.RPar ∷ []) ≡ Found (simple_form (AnnAssign (Trees.Attribute (Trees.Name (97 ∷ []) Load) (98 ∷ []) Store) (Trees.Name (99 ∷ []) Load) None false ∷ [])) []
 depth_193 = refl
 
 -- ( ( a ) ) : ( ( b ) )
-depth_194 : read_line_to Py311 3 (Op Sign.LPar ∷ Op Sign.LPar ∷ Ident (97 ∷ []) ∷ Op Sign.RPar ∷ Op Sign.RPar ∷ Op Sign.Colon ∷ Op Sign.LPar ∷ Op Sign.LPar ∷ Ident (98 ∷ []) ∷ Op Sign.RPar ∷ Op Sign.RPar ∷ []) ≡ Found (simple_form (AnnAssign (Trees.Name (97 ∷ []) Store) (Trees.Name (98 ∷ []) Load) None false ∷ [])) []
+depth_194 : read_line_to Py311 3 (Op Sign.LPar ∷ Op Sign.LPar ∷ in_form (97 ∷ []) ∷ Op Sign.RPar ∷ Op Sign.RPar ∷ Op Sign.Colon ∷ Op Sign.LPar ∷ Op Sign.LPar ∷ in_form (98 ∷ []) ∷ Op Sign.RPar ∷ Op Sign.RPar ∷ []) ≡ Found (simple_form (AnnAssign (Trees.Name (97 ∷ []) Store) (Trees.Name (98 ∷ []) Load) None false ∷ [])) []
 depth_194 = refl

@@ -13,7 +13,7 @@ use Rattle.pygrammar.specs.declared.levels.Level.{Level}
 use Rattle.pygrammar.specs.declared.levels.Level.TheVariants.{Stars, StarItem, Expression}
 use Rattle.pynode.specs.Trees.{Expr, Keywords, an_expr, Identifier, Arguments, TypeParam}
 use Rattle.pynode.specs.Trees as Trees
-use Rattle.pytoken.specs.Terminals.{Terminal, Op, Word, Ident}
+use Rattle.pytoken.specs.Terminals.{Spelled, Terminal, Op, Word, Ident}
 use Rattle.pygrammar.specs.Looks.{is_op, is_word}
 use Rattle.pygrammar.specs.Operators.{below, left_operator, prefix_operator, chain_level}
 use Rattle.pygrammar.specs.Entries.{Item, Of, Argument, Parameter, Entry, singles}
@@ -155,10 +155,10 @@ function_goes {us} {vs} b x tps {ps} {a} {e} c q k r =
     thus (listing_of plain (Parameter true) [] ((us ++ (Op Sign.RPar ∷ vs)) ++ z)) _ (ap (listing_of plain (Parameter true) []) (append_assoc us (Op Sign.RPar ∷ vs) z) ∙ listing_front c (λ r. ((λ q. absurd (omega (arith, q))), omega arith, omega arith, (λ q. absurd (omega (arith, q))))) y (refl, (λ q. absurd (omega (arith, q))), ((λ q. absurd (omega (arith, q))), omega arith, omega arith, (λ q. absurd (omega (arith, q))))))
     (ap (λ o. on_some o (λ a. and_then (after plain (Op Sign.RArrow) Expression (vs ++ z)) (λ e r3. Found (def_header (function_head b x tps a e)) r3)) NoForm) q ∙ thus _ _ (after_goes k refl z (omega arith) refl) refl)
 
-pub def_goes : (profile : Profile) {us vs ws : List Terminal} (b : Bool) (x : Identifier) {tps : List TypeParam} {ps : List Entry} {a : Arguments} {e : Option Expr} → F.TypeParams profile us tps → G.Listing (Parameter true) vs ps → arranged ps ≡ Some a → F.Behind (Op Sign.RArrow) Expression ws e → (r : List Terminal) → def_rest profile plain b (Ident x ∷ ((us ++ (Op Sign.LPar ∷ (vs ++ (Op Sign.RPar ∷ ws)))) ++ (Op Sign.Colon ∷ r))) ≡ Found (def_header (function_head b x tps a e)) (Op Sign.Colon ∷ r)
+pub def_goes : (profile : Profile) {us vs ws : List Terminal} (b : Bool) (x : Spelled) {tps : List TypeParam} {ps : List Entry} {a : Arguments} {e : Option Expr} → F.TypeParams profile us tps → G.Listing (Parameter true) vs ps → arranged ps ≡ Some a → F.Behind (Op Sign.RArrow) Expression ws e → (r : List Terminal) → def_rest profile plain b (Ident x ∷ ((us ++ (Op Sign.LPar ∷ (vs ++ (Op Sign.RPar ∷ ws)))) ++ (Op Sign.Colon ∷ r))) ≡ Found (def_header (function_head b x.form tps a e)) (Op Sign.Colon ∷ r)
 def_goes profile {us} {vs} {ws} b x {tps} g c q k r =
     let y = Op Sign.LPar ∷ (vs ++ (Op Sign.RPar ∷ ws)) in
-    ap (λ z. def_rest profile plain b (Ident x ∷ z)) (append_assoc us y (Op Sign.Colon ∷ r)) ∙ thus _ _ (type_params_goes profile g (y ++ (Op Sign.Colon ∷ r)) refl) (function_goes b x tps c q k r)
+    ap (λ z. def_rest profile plain b (Ident x ∷ z)) (append_assoc us y (Op Sign.Colon ∷ r)) ∙ thus _ _ (type_params_goes profile g (y ++ (Op Sign.Colon ∷ r)) refl) (function_goes b x.form tps c q k r)
 
 bases_goes : {ts : List Terminal} (x : Identifier) (tps : List TypeParam) {es : List Expr} {ks : Keywords} → F.Bases ts es ks → (r : List Terminal) → bases_rest plain x tps (ts ++ (Op Sign.Colon ∷ r)) ≡ Found (def_header (class_head x tps es ks)) (Op Sign.Colon ∷ r)
 bases_goes x tps F.no_bases r = refl
@@ -171,10 +171,10 @@ unbracketed : {ts : List Terminal} {es : List Expr} {ks : Keywords} → F.Bases 
 unbracketed F.no_bases r = refl
 unbracketed (F.bases c h) r = refl
 
-pub class_goes : (profile : Profile) {ts us : List Terminal} (x : Identifier) {tps : List TypeParam} {es : List Expr} {ks : Keywords} → F.TypeParams profile ts tps → F.Bases us es ks → (r : List Terminal) → class_rest profile plain (Ident x ∷ ((ts ++ us) ++ (Op Sign.Colon ∷ r))) ≡ Found (def_header (class_head x tps es ks)) (Op Sign.Colon ∷ r)
+pub class_goes : (profile : Profile) {ts us : List Terminal} (x : Spelled) {tps : List TypeParam} {es : List Expr} {ks : Keywords} → F.TypeParams profile ts tps → F.Bases us es ks → (r : List Terminal) → class_rest profile plain (Ident x ∷ ((ts ++ us) ++ (Op Sign.Colon ∷ r))) ≡ Found (def_header (class_head x.form tps es ks)) (Op Sign.Colon ∷ r)
 class_goes profile {ts} {us} x {tps} g c r =
     let z = us ++ (Op Sign.Colon ∷ r) in
-    ap (λ z. class_rest profile plain (Ident x ∷ z)) (append_assoc ts us (Op Sign.Colon ∷ r)) ∙ thus _ _ (type_params_goes profile g z (unbracketed c r)) (bases_goes x tps c r)
+    ap (λ z. class_rest profile plain (Ident x ∷ z)) (append_assoc ts us (Op Sign.Colon ∷ r)) ∙ thus _ _ (type_params_goes profile g z (unbracketed c r)) (bases_goes x.form tps c r)
 
 except_line_goes : {ts us : List Terminal} {e : Expr} {x : Option Identifier} → G.Derives Expression ts e → F.As us x → (r : List Terminal) → except_rest plain ((ts ++ us) ++ (Op Sign.Colon ∷ r)) ≡ Found (except_header false (Some e) x) (Op Sign.Colon ∷ r)
 except_line_goes {ts} {us} {e} p a r =

@@ -54,8 +54,8 @@ aliases_goes c r h g = commas_goes Alias F.NameAlias name_alias always Unnamed n
 
 names_goes : {ts : List Terminal} {xs : List Alias} → F.Names ts xs → (r : List Terminal) → peek (is_op Sign.Comma) r ≡ None → Unnamed r → read_names (ts ++ r) ≡ Found xs r
 names_goes F.all_names r h g = refl
-names_goes (F.names (F.alone (F.name_as a))) r h g = aliases_goes (F.alone (F.name_as a)) r h g
-names_goes (F.names (F.comma (F.name_as a) c)) r h g = aliases_goes (F.comma (F.name_as a) c) r h g
+names_goes (F.names (F.alone (F.name_as {x = x} a))) r h g = aliases_goes (F.alone (F.name_as {x = x} a)) r h g
+names_goes (F.names (F.comma (F.name_as {x = x} a) c)) r h g = aliases_goes (F.comma (F.name_as {x = x} a) c) r h g
 names_goes (F.bracketed_names {ts = ts} c) r h g = thus (commas_of name_alias starts_name ((ts ++ (Op Sign.RPar ∷ [])) ++ r)) _ (ap (commas_of name_alias starts_name) (append_assoc ts (Op Sign.RPar ∷ []) r) ∙ commas?_goes Alias F.NameAlias name_alias starts_name Unnamed name_alias_goes name_starts (λ r. (refl, refl)) c (Op Sign.RPar ∷ r) refl refl (refl, refl)) refl
 
 dots_goes : {ts : List Terminal} {n : ℕ} → F.Dots ts n → (r : List Terminal) → read_dots r ≡ Found 0 r → read_dots (ts ++ r) ≡ Found n r

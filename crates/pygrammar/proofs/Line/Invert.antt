@@ -9,7 +9,7 @@ use Rattle.pygrammar.specs.declared.levels.Level.{Level}
 use Rattle.pygrammar.specs.declared.levels.Level.TheVariants.{Value, Stars, Primary}
 use Rattle.pynode.specs.Trees.{Expr, Identifier}
 use Rattle.pynode.specs.Trees as Trees
-use Rattle.pytoken.specs.Terminals.{Terminal, Op, Ident}
+use Rattle.pytoken.specs.Terminals.{Spelled, Terminal, Op, Ident}
 use Rattle.pygrammar.specs.Operators.{below, left_operator, prefix_operator, chain_level}
 use Rattle.pygrammar.specs.Entries.{Entry}
 use Rattle.pygrammar.specs.Arguments.{in_order, called, positional, keywords}
@@ -20,7 +20,7 @@ use Rattle.pygrammar.specs.Forms.{is_name}
 -- a Name, Attribute or Subscript was derived as a Primary
 pub to_primary : {l : Level} {ts : List Terminal} {e : Expr} (s : Expr) → G.Derives l ts e → single_stored e ≡ Some s → G.Derives Primary ts e
 to_primary s (G.next p) h = to_primary s p h
-to_primary s (G.attribute p) h = G.attribute p
+to_primary s (G.attribute x p) h = G.attribute x p
 to_primary s (G.call p c k) h = G.call p c k
 to_primary s (G.subscript p q) h = G.subscript p q
 to_primary s G.name h = G.next G.name
@@ -41,7 +41,7 @@ called_name f e es h = go (in_order false false es) h
     go false q = absurd (cc)
 
 -- a Name is its NAME, or stands in brackets
-pub name_inv : {l : Level} {ts : List Terminal} {e : Expr} (s : Expr) → G.Derives l ts e → single_stored e ≡ Some s → is_name e ≡ true → ((x : Identifier) × (ts ≡ Ident x ∷ [])) ⊎ ((us : List Terminal) × (ts ≡ Op Sign.LPar ∷ (us ++ (Op Sign.RPar ∷ []))) × G.Derives Primary us e)
+pub name_inv : {l : Level} {ts : List Terminal} {e : Expr} (s : Expr) → G.Derives l ts e → single_stored e ≡ Some s → is_name e ≡ true → ((x : Spelled) × (ts ≡ Ident x ∷ [])) ⊎ ((us : List Terminal) × (ts ≡ Op Sign.LPar ∷ (us ++ (Op Sign.RPar ∷ []))) × G.Derives Primary us e)
 name_inv s (G.next p) h k = name_inv s p h k
 name_inv s (G.name {x = x}) h k = inl (x, refl)
 name_inv s (G.group {ts = ts} p) h k = inr (ts, refl, to_primary s p h)

@@ -42,7 +42,7 @@ simple_goes profile (F.augmented_assign x p q v) r w = augmented_goes profile x 
 simple_goes profile (F.annotated_name {x = x} p q) r w = name_annotated_goes profile x p q r w
 simple_goes profile (F.annotated_group p q v) r w = group_annotated_goes profile p q v r w
 simple_goes profile (F.annotated_part p n q v) r w = part_annotated_goes profile p n q v r w
-simple_goes profile (F.type_alias {x = x} h c p) r w = alias_goes profile x h c p r w
+simple_goes profile (F.type_alias {form = form} {x = x} h c p) r w = alias_goes profile form x h c p r w
 simple_goes profile (F.return_of p) r w = thus _ _ (if_any_goes p r (omega (arith, ends_grip w), omega (arith, ends_lead w)) (omega (arith, ends_lead w))) refl
 simple_goes profile F.raise_alone r w = unless _ _ _ (not_begun w) refl
 simple_goes profile (F.raise_of {ts = ts} {us = us} p q) r w = ap (λ z. statement profile plain (Word Key.Raise ∷ z)) (append_assoc ts us r) ∙ when _ _ _ (started p (us ++ r)) (thus _ _ (front p (us ++ r) (behind_grip q r (omega arith) (low w))) (thus _ _ (after_goes q refl r (low w) (ends_miss (is_word Key.From) refl w)) refl))

@@ -11,16 +11,16 @@ use Rattle.pytoken.specs.declared.keywords.Keyword.TheVariants as Key
 use Rattle.pynode.specs.declared.profiles.Profile.{Profile}
 use Rattle.pygrammar.specs.declared.levels.Level.{Level}
 use Rattle.pygrammar.specs.declared.levels.Level.TheVariants.{Expression}
-use Rattle.pytoken.specs.Terminals.{Terminal, Op, Word, Ident, Whole, Literal, Layout}
+use Rattle.pytoken.specs.Terminals.{Spelled, Terminal, Op, Word, Ident, Whole, Literal, Layout}
 use Rattle.pygrammar.specs.Entries.{Of}
 use Rattle.pygrammar.specs.Reader.{Answer, on_some}
 use Rattle.pygrammar.specs.Precedence.{starts}
 use Rattle.pygrammar.proofs.Says.{Says, found, no_form, says_then, says_first, says_op, says_word, says_name, says_cond, says_is, SoundAt}
 use Rattle.pygrammar.proofs.Sound.{sound_read}
 use Rattle.pygrammar.proofs.SoundLists.{says_if, says_closed}
-use Rattle.pynode.specs.Trees.{Alias, TypeParam}
+use Rattle.pynode.specs.Trees.{Alias, Identifier, TypeParam}
 use Rattle.pygrammar.specs.Forms as F
-use Rattle.pygrammar.specs.Forms.{has_types, type_name}
+use Rattle.pygrammar.specs.Forms.{has_types, type_name, type_word}
 use Rattle.pygrammar.specs.LineReader.{is_type, on_type, starts_name, starts_type_param, always, commas, read_name, read_as, dotted, dotted_alias, name_alias, read_dots, read_names, import_from, plain, if_any, after, read_type_param, read_type_params}
 
 pub plain_sound : SoundAt plain
@@ -88,11 +88,11 @@ type_params_sound profile i = says_if (has_types profile) _ _ (λ h. says_op Sig
     (λ _ s q. says_then _ _ (more_sound TypeParam F.TypeParamOf (read_type_param plain) type_param_sound starts_type_param (suc (length s)) s) (λ ps r p. says_closed Sign.RSqb r ps (λ r1 v. (Op Sign.LSqb ∷ (p.0 ++ (Op Sign.RSqb ∷ [])), headed (Op Sign.LSqb) q (joins p.0 (Op Sign.RSqb ∷ []) _ p.1 v), F.type_params h p.2))))
     (λ _. found ([], refl, F.no_type_params))) (found ([], refl, F.no_type_params))
 
-type_is : (t : Terminal) (n : ℕ) → is_type t ≡ Some n → t ≡ Ident type_name
-type_is (Ident x) n h = go (bytes_eq x type_name) refl h
+type_is : (t : Terminal) (n : ℕ) → is_type t ≡ Some n → (form : Identifier) × (t ≡ type_word form)
+type_is (Ident x) n h = (x.form, go (bytes_eq x.spelling type_name) refl h)
   where
-    go : (b : Bool) → bytes_eq x type_name ≡ b → ◌≡◌ {A = Option ℕ} (cond b (Some 0) None) (Some n) → Ident x ≡ Ident type_name
-    go true q h = ap Ident ((bytes_eq-Decides x type_name).0 q)
+    go : (b : Bool) → bytes_eq x.spelling type_name ≡ b → ◌≡◌ {A = Option ℕ} (cond b (Some 0) None) (Some n) → Ident x ≡ type_word x.form
+    go true q h = ap (λ z. Ident (record { spelling = z; form = x.form })) ((bytes_eq-Decides x.spelling type_name).0 q)
     go false q h = absurd (cc)
 type_is (Op _) n h = absurd (cc)
 type_is (Word _) n h = absurd (cc)
@@ -100,8 +100,8 @@ type_is (Whole _) n h = absurd (cc)
 type_is (Literal _) n h = absurd (cc)
 type_is Layout n h = absurd (cc)
 
-pub says_type : {B : Type 0} {Q : B → List Terminal → Type 0} (profile : Profile) (i : List Terminal) (hit : List ℕ → List Terminal → Answer B) (miss : Answer B) → ((x : List ℕ) (r : List Terminal) → has_types profile ≡ true → i ≡ Ident type_name ∷ (Ident x ∷ r) → Says Q (hit x r)) → Says Q miss → Says Q (on_type profile i hit miss)
-says_type profile i hit miss h g = says_if (has_types profile) _ _ (λ k. says_first is_type i _ _ (λ t n s e q. says_name s _ _ (λ x r v. h x r k (headed (Ident type_name) (q ∙ ap (λ z. z ∷ s) (type_is t n e)) v)) g) (λ _. g)) g
+pub says_type : {B : Type 0} {Q : B → List Terminal → Type 0} (profile : Profile) (i : List Terminal) (hit : List ℕ → List Terminal → Answer B) (miss : Answer B) → ((form : Identifier) (x : Spelled) (r : List Terminal) → has_types profile ≡ true → i ≡ type_word form ∷ (Ident x ∷ r) → Says Q (hit x.form r)) → Says Q miss → Says Q (on_type profile i hit miss)
+says_type profile i hit miss h g = says_if (has_types profile) _ _ (λ k. says_first is_type i _ _ (λ t n s e q. says_name s _ _ (λ x r v. let w = type_is t n e in h w.0 x r k (headed (type_word w.0) (q ∙ ap (λ z. z ∷ s) w.1) v)) g) (λ _. g)) g
 
 -- imports
 dotted_sound : (n : ℕ) (i : List Terminal) → Says (At F.Dotted i) (dotted n i)

@@ -10,7 +10,7 @@ use Rattle.pynode.specs.declared.profiles.Profile.{Profile}
 use Rattle.pygrammar.specs.declared.levels.Level.TheVariants.{Value, Stars, Expression, Primary}
 use Rattle.pynode.specs.Trees.{Expr, Identifier, Stmt, Alias, Assign, AnnAssign}
 use Rattle.pynode.specs.Trees as Trees
-use Rattle.pytoken.specs.Terminals.{Terminal, Op, Word, Ident}
+use Rattle.pytoken.specs.Terminals.{Spelled, Terminal, Op, Word, Ident}
 use Rattle.pygrammar.specs.Entries.{Of}
 use Rattle.pygrammar.specs.Targets.{stored, single_stored}
 use Rattle.pygrammar.specs.Grammar as G
@@ -19,7 +19,7 @@ use Rattle.pygrammar.specs.Precedence.{starts}
 use Rattle.pygrammar.proofs.Says.{Says, found, no_form, says_then, says_first, says_op, says_cond, says_made, says_is}
 use Rattle.pygrammar.proofs.SoundLists.{says_name_with}
 use Rattle.pygrammar.specs.Forms as F
-use Rattle.pygrammar.specs.Forms.{has_types, type_name, augmented, is_name}
+use Rattle.pygrammar.specs.Forms.{has_types, type_name, type_word, augmented, is_name}
 use Rattle.pygrammar.specs.LineReader.{on_type, plain, read_name, dotted_alias, augmented_sign, annotation, value_loop, value_statement, deleted_one, alias_rest, statement, statements, on_none}
 use Rattle.pygrammar.proofs.Line.SoundParts.{At, headed, joins, says_some, plain_sound, always_sound, more_sound, if_any_sound, after_op_sound, after_word_sound, type_params_sound, says_type, name_sound, dotted_alias_sound, import_from_sound}
 use Rattle.pygrammar.proofs.Line.Invert.{to_primary, name_inv, stored_name, target_of}
@@ -32,7 +32,7 @@ annotation_sound : (t : Expr) (b : Bool) (i : List Terminal) → Says (Annotatio
 annotation_sound t b i = says_then _ _ (plain_sound Expression i) (λ a r p. says_then _ _ (after_op_sound Sign.Equal Value r) (λ v r1 y. found (p.0, y.0, a, v, joins p.0 y.0 _ p.1 y.1, refl, p.2, y.2)))
 
 -- a target in front of `:` that is no NAME alone
-annotated : (profile : Profile) (r : List Terminal) {i ts us vs : List Terminal} {e t a : Expr} {v : Option Expr} → ((x : List ℕ) (u : List Terminal) → i ≡ Ident x ∷ (Op Sign.Colon ∷ u) → ⊥) → i ≡ (ts ++ (Op Sign.Colon ∷ (us ++ vs))) ++ r → G.Derives Primary ts e → single_stored e ≡ Some t → G.Derives Expression us a → F.Behind (Op Sign.Equal) Value vs v → F.Simple profile (ts ++ (Op Sign.Colon ∷ (us ++ vs))) (AnnAssign t a v false)
+annotated : (profile : Profile) (r : List Terminal) {i ts us vs : List Terminal} {e t a : Expr} {v : Option Expr} → ((x : Spelled) (u : List Terminal) → i ≡ Ident x ∷ (Op Sign.Colon ∷ u) → ⊥) → i ≡ (ts ++ (Op Sign.Colon ∷ (us ++ vs))) ++ r → G.Derives Primary ts e → single_stored e ≡ Some t → G.Derives Expression us a → F.Behind (Op Sign.Equal) Value vs v → F.Simple profile (ts ++ (Op Sign.Colon ∷ (us ++ vs))) (AnnAssign t a v false)
 annotated profile r {ts = ts} {us = us} {vs = vs} {e = e} {t = t} {a = a} {v = v} f q p h k b = go (is_name t) refl
   where
     go : (c : Bool) → is_name t ≡ c → F.Simple profile (ts ++ (Op Sign.Colon ∷ (us ++ vs))) (AnnAssign t a v false)
@@ -81,7 +81,7 @@ sign_of _ o h = absurd (cc)
 
 value_sound : (profile : Profile) (i : List Terminal) → Says (At (F.Simple profile) i) (value_statement plain i)
 value_sound profile i = says_name_with Sign.Colon i _ _
-    (λ x u q. says_is _ (annotation_sound (Trees.Name x Store) true u) (λ s r y. (Ident x ∷ (Op Sign.Colon ∷ (y.0 ++ y.1)), q ∙ ap (λ z. Ident x ∷ (Op Sign.Colon ∷ z)) y.4, subst (λ z. F.Simple profile (Ident x ∷ (Op Sign.Colon ∷ (y.0 ++ y.1))) z) (sym y.5) (F.annotated_name y.6 y.7))))
+    (λ x u q. says_is _ (annotation_sound (Trees.Name x.form Store) true u) (λ s r y. (Ident x ∷ (Op Sign.Colon ∷ (y.0 ++ y.1)), q ∙ ap (λ z. Ident x ∷ (Op Sign.Colon ∷ z)) y.4, subst (λ z. F.Simple profile (Ident x ∷ (Op Sign.Colon ∷ (y.0 ++ y.1))) z) (sym y.5) (F.annotated_name y.6 y.7))))
     (λ f. says_then _ _ (plain_sound Value i) (λ e r p. says_op Sign.Equal r _ _
     (λ _ s q. says_some (stored e) _ _ (λ t h. says_is _ (assign_sound (length i) t [] s) (λ st r2 y. (
       (p.0 ++ (Op Sign.Equal ∷ y.0)) ++ y.1,
@@ -98,13 +98,13 @@ value_sound profile i = says_name_with Sign.Colon i _ _
     (p.0 ++ (Op Sign.Colon ∷ (y.0 ++ y.1)), w, subst (λ z. F.Simple profile (p.0 ++ (Op Sign.Colon ∷ (y.0 ++ y.1))) z) (sym y.5) (annotated profile r2 f w (to_primary t p.2 h) h y.6 y.7)))) no_form)
     (λ _. found (p.0, p.1, F.value p.2))))))
 
-alias_sound : (profile : Profile) (x : Identifier) (i r : List Terminal) → has_types profile ≡ true → i ≡ Ident type_name ∷ (Ident x ∷ r) → Says (At (F.Simple profile) i) (alias_rest profile plain x r)
-alias_sound profile x i r h q = says_then _ _ (type_params_sound profile r) (λ ps r1 p. says_op Sign.Equal r1 _ _
-    (λ _ r2 v. says_then _ _ (plain_sound Expression r2) (λ e r3 y. found (Ident type_name ∷ (Ident x ∷ (p.0 ++ (Op Sign.Equal ∷ y.0))), headed (Ident type_name) q (headed (Ident x) refl (joins p.0 (Op Sign.Equal ∷ y.0) r3 p.1 (headed (Op Sign.Equal) v y.1))), F.type_alias h p.2 y.2)))
+alias_sound : (profile : Profile) (form : Identifier) (x : Spelled) (i r : List Terminal) → has_types profile ≡ true → i ≡ type_word form ∷ (Ident x ∷ r) → Says (At (F.Simple profile) i) (alias_rest profile plain x.form r)
+alias_sound profile form x i r h q = says_then _ _ (type_params_sound profile r) (λ ps r1 p. says_op Sign.Equal r1 _ _
+    (λ _ r2 v. says_then _ _ (plain_sound Expression r2) (λ e r3 y. found (type_word form ∷ (Ident x ∷ (p.0 ++ (Op Sign.Equal ∷ y.0))), headed (type_word form) q (headed (Ident x) refl (joins p.0 (Op Sign.Equal ∷ y.0) r3 p.1 (headed (Op Sign.Equal) v y.1))), F.type_alias h p.2 y.2)))
     (λ _. no_form))
 
 first_sound : (profile : Profile) (i : List Terminal) → Says (At (F.Simple profile) i) (on_type profile i (alias_rest profile plain) (value_statement plain i))
-first_sound profile i = says_type profile i _ _ (λ x r h q. alias_sound profile x i r h q) (value_sound profile i)
+first_sound profile i = says_type profile i _ _ (λ form x r h q. alias_sound profile form x i r h q) (value_sound profile i)
 
 deleted_sound : (i : List Terminal) → Says (At G.DelTarget i) (deleted_one plain i)
 deleted_sound i = says_then _ _ (plain_sound Expression i) (λ e r p. says_made _ r (λ t h. (p.0, p.1, G.del_target p.2 h)))

@@ -6,13 +6,13 @@ use Rattle.pynode.specs.declared.profiles.Profile.{Profile}
 use Rattle.pygrammar.specs.declared.levels.Level.TheVariants.{Expression}
 use Rattle.pynode.specs.Trees.{Expr, Identifier, TypeParam, TypeAlias}
 use Rattle.pynode.specs.Trees as Trees
-use Rattle.pytoken.specs.Terminals.{Terminal, Op, Ident}
+use Rattle.pytoken.specs.Terminals.{Spelled, Terminal, Op, Ident}
 use Rattle.pygrammar.specs.Looks.{is_op}
 use Rattle.pygrammar.specs.Grammar as G
 use Rattle.pygrammar.specs.Reader.{Found}
 use Rattle.pygrammar.proofs.Climb.{Stops}
 use Rattle.pygrammar.specs.Forms as F
-use Rattle.pygrammar.specs.Forms.{has_types, type_name}
+use Rattle.pygrammar.specs.Forms.{has_types, type_name, type_word}
 use Rattle.pygrammar.specs.LineReader.{starts_type_param, commas_of, plain, read_type_param, bracketed_type_params, read_type_params, alias_rest, statement}
 use Rattle.pygrammar.proofs.Line.Tools.{thus, when, peek, missed, Ends, ends_grip, front, after_goes, commas?_goes}
 
@@ -39,5 +39,5 @@ type_params_goes profile (F.type_params {ts = ts} h c) r m =
     let read = commas_of (read_type_param plain) starts_type_param in
     when _ _ _ h (thus (read ((ts ++ (Op Sign.RSqb ∷ [])) ++ r)) _ (ap read (append_assoc ts (Op Sign.RSqb ∷ []) r) ∙ commas?_goes TypeParam F.TypeParamOf (read_type_param plain) starts_type_param Behind type_param_goes type_param_starts (λ r. (omega arith, refl)) c (Op Sign.RSqb ∷ r) refl refl (omega arith, refl)) refl)
 
-pub alias_goes : (profile : Profile) (x : Identifier) {ts us : List Terminal} {ps : List TypeParam} {e : Expr} → has_types profile ≡ true → F.TypeParams profile ts ps → G.Derives Expression us e → (r : List Terminal) → Ends r → statement profile plain (Ident type_name ∷ (Ident x ∷ ((ts ++ (Op Sign.Equal ∷ us)) ++ r))) ≡ Found (TypeAlias (Trees.Name x Store) ps e) r
-alias_goes profile x {ts} {us} h c p r w = when _ _ _ h (ap (alias_rest profile plain x) (append_assoc ts (Op Sign.Equal ∷ us) r) ∙ thus _ _ (type_params_goes profile c (Op Sign.Equal ∷ (us ++ r)) refl) (thus _ _ (front p r (omega (arith, ends_grip w))) refl))
+pub alias_goes : (profile : Profile) (form : Identifier) (x : Spelled) {ts us : List Terminal} {ps : List TypeParam} {e : Expr} → has_types profile ≡ true → F.TypeParams profile ts ps → G.Derives Expression us e → (r : List Terminal) → Ends r → statement profile plain (type_word form ∷ (Ident x ∷ ((ts ++ (Op Sign.Equal ∷ us)) ++ r))) ≡ Found (TypeAlias (Trees.Name x.form Store) ps e) r
+alias_goes profile form x {ts} {us} h c p r w = when _ _ _ h (ap (alias_rest profile plain x.form) (append_assoc ts (Op Sign.Equal ∷ us) r) ∙ thus _ _ (type_params_goes profile c (Op Sign.Equal ∷ (us ++ r)) refl) (thus _ _ (front p r (omega (arith, ends_grip w))) refl))

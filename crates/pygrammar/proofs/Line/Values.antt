@@ -10,7 +10,7 @@ use Rattle.pynode.specs.declared.profiles.Profile.TheVariants.{Py311, Py312}
 use Rattle.pygrammar.specs.declared.levels.Level.TheVariants.{Value, Stars, Expression, Or, Primary}
 use Rattle.pynode.specs.Trees.{Expr, Identifier, Assign, AugAssign, AnnAssign, ExprOf}
 use Rattle.pynode.specs.Trees as Trees
-use Rattle.pytoken.specs.Terminals.{Terminal, Op, Word, Ident, Whole, Literal, Layout}
+use Rattle.pytoken.specs.Terminals.{Spelled, Terminal, Op, Word, Ident, Whole, Literal, Layout}
 use Rattle.pygrammar.specs.Looks.{is_op, name_in}
 use Rattle.pygrammar.specs.Targets.{stored, single_stored}
 use Rattle.pygrammar.specs.Grammar as G
@@ -40,13 +40,13 @@ valued (Word _) h = refl
 valued _ h = refl
 
 -- an expression doesn't begin with two names
-name_ends : (x : Identifier) (s r : List Terminal) (e : Expr) → plain Value (Ident x ∷ s) ≡ Found e r → peek name_in r ≡ None → peek name_in s ≡ None
-name_ends x (Ident y ∷ s) r e h m = absurd (bad (ap (peek name_in) (rests (Trees.Name x Load) e (Ident y ∷ s) r h) ∙ m))
+name_ends : (x : Spelled) (s r : List Terminal) (e : Expr) → plain Value (Ident x ∷ s) ≡ Found e r → peek name_in r ≡ None → peek name_in s ≡ None
+name_ends x (Ident y ∷ s) r e h m = absurd (bad (ap (peek name_in) (rests (Trees.Name x.form Load) e (Ident y ∷ s) r h) ∙ m))
   where
     rests : (a b : Expr) (r s : List Terminal) → ◌≡◌ {A = Answer Expr} (Found a r) (Found b s) → r ≡ s
     rests a b r s h = cc
 
-    bad : ◌≡◌ {A = Option (List ℕ)} (Some y) None → ⊥
+    bad : ◌≡◌ {A = Option (List ℕ)} (Some y.form) None → ⊥
     bad h = absurd (cc)
 name_ends x [] r e h m = refl
 name_ends x (Op _ ∷ s) r e h m = refl
@@ -157,13 +157,13 @@ augmented_goes profile {ts} {us} x {o} {t} {e} (G.single_target {e = f} p q) a v
 annotation_goes : {us vs : List Terminal} {a : Expr} {v : Option Expr} (t : Expr) (b : Bool) → G.Derives Expression us a → F.Behind (Op Sign.Equal) Value vs v → (r : List Terminal) → Ends r → annotation plain t b ((us ++ vs) ++ r) ≡ Found (AnnAssign t a v b) r
 annotation_goes {us} {vs} t b p q r w = ap (annotation plain t b) (append_assoc us vs r) ∙ thus _ _ (front p (vs ++ r) (behind_grip q r (omega arith) (omega (arith, ends_grip w)))) (thus _ _ (after_goes q refl r (value_stops w) (ends_miss (is_op Sign.Equal) refl w)) refl)
 
-pub name_annotated_goes : (profile : Profile) {us vs : List Terminal} {a : Expr} {v : Option Expr} (x : Identifier) → G.Derives Expression us a → F.Behind (Op Sign.Equal) Value vs v → (r : List Terminal) → Ends r → statement profile plain (Ident x ∷ (Op Sign.Colon ∷ ((us ++ vs) ++ r))) ≡ Found (AnnAssign (Trees.Name x Store) a v true) r
+pub name_annotated_goes : (profile : Profile) {us vs : List Terminal} {a : Expr} {v : Option Expr} (x : Spelled) → G.Derives Expression us a → F.Behind (Op Sign.Equal) Value vs v → (r : List Terminal) → Ends r → statement profile plain (Ident x ∷ (Op Sign.Colon ∷ ((us ++ vs) ++ r))) ≡ Found (AnnAssign (Trees.Name x.form Store) a v true) r
 name_annotated_goes profile {us} {vs} x p q r w =
     let i = Op Sign.Colon ∷ ((us ++ vs) ++ r) in
-    no_type profile (Ident x ∷ i) i (Trees.Name x Load) refl refl (alias_rest profile plain) (value_statement plain (Ident x ∷ i)) ∙ annotation_goes (Trees.Name x Store) true p q r w
+    no_type profile (Ident x ∷ i) i (Trees.Name x.form Load) refl refl (alias_rest profile plain) (value_statement plain (Ident x ∷ i)) ∙ annotation_goes (Trees.Name x.form Store) true p q r w
 
 -- a target that is no NAME alone
-annotated_goes : (profile : Profile) (r : List Terminal) {ts us vs : List Terminal} {f t a : Expr} {v : Option Expr} → G.Derives Primary ts f → single_stored f ≡ Some t → ((x : List ℕ) (zs : List Terminal) → ts ++ (Op Sign.Colon ∷ ((us ++ vs) ++ r)) ≡ Ident x ∷ (Op Sign.Colon ∷ zs) → ⊥) → G.Derives Expression us a → F.Behind (Op Sign.Equal) Value vs v → Ends r → statement profile plain (ts ++ (Op Sign.Colon ∷ ((us ++ vs) ++ r))) ≡ Found (AnnAssign t a v false) r
+annotated_goes : (profile : Profile) (r : List Terminal) {ts us vs : List Terminal} {f t a : Expr} {v : Option Expr} → G.Derives Primary ts f → single_stored f ≡ Some t → ((x : Spelled) (zs : List Terminal) → ts ++ (Op Sign.Colon ∷ ((us ++ vs) ++ r)) ≡ Ident x ∷ (Op Sign.Colon ∷ zs) → ⊥) → G.Derives Expression us a → F.Behind (Op Sign.Equal) Value vs v → Ends r → statement profile plain (ts ++ (Op Sign.Colon ∷ ((us ++ vs) ++ r))) ≡ Found (AnnAssign t a v false) r
 annotated_goes profile r {ts} {us} {vs} {f} {t} p q n k b w =
     let y = (us ++ vs) ++ r in
     let z = Op Sign.Colon ∷ ((us ++ vs) ++ r) in
@@ -184,8 +184,8 @@ pub part_annotated_goes : (profile : Profile) {ts us vs : List Terminal} {t a : 
 part_annotated_goes profile {ts} {us} {vs} {t} (G.single_target {e = f} p q) n k b r w = ap (statement profile plain) (append_assoc ts (Op Sign.Colon ∷ (us ++ vs)) r) ∙ annotated_goes profile r p q (λ x zs e.
     let z = Op Sign.Colon ∷ ((us ++ vs) ++ r) in
     let h = value_front (item_of p) z (omega arith) (λ k. omega (arith, k)) in
-    let g = found_tree f (Trees.Name x Load) z (Op Sign.Colon ∷ zs) (sym h ∙ ap (plain Value) e) in
-    differ (ap F.is_name (some_same (Trees.Name x Store) t (ap single_stored (sym g) ∙ q)) ∙ n)) k b w
+    let g = found_tree f (Trees.Name x.form Load) z (Op Sign.Colon ∷ zs) (sym h ∙ ap (plain Value) e) in
+    differ (ap F.is_name (some_same (Trees.Name x.form Store) t (ap single_stored (sym g) ∙ q)) ∙ n)) k b w
 
 pub group_annotated_goes : (profile : Profile) {ts us vs : List Terminal} {t a : Expr} {v : Option Expr} → G.SingleTarget ts t → G.Derives Expression us a → F.Behind (Op Sign.Equal) Value vs v → (r : List Terminal) → Ends r → statement profile plain ((Op Sign.LPar ∷ (ts ++ (Op Sign.RPar ∷ (Op Sign.Colon ∷ (us ++ vs))))) ++ r) ≡ Found (AnnAssign t a v false) r
 group_annotated_goes profile {ts} {us} {vs} {t} (G.single_target {e = f} p q) k b r w = ap (λ z. statement profile plain (Op Sign.LPar ∷ z)) (shape ts (us ++ vs) r) ∙ annotated_goes profile r (G.next (G.group (G.next (G.next (lower Or Primary ts f (omega arith) (omega arith) (omega arith) p))))) q (λ x zs e. different x _ _ e) k b w
@@ -193,5 +193,5 @@ group_annotated_goes profile {ts} {us} {vs} {t} (G.single_target {e = f} p q) k 
     shape : (ts us r : List Terminal) → (ts ++ (Op Sign.RPar ∷ (Op Sign.Colon ∷ us))) ++ r ≡ (ts ++ (Op Sign.RPar ∷ [])) ++ (Op Sign.Colon ∷ (us ++ r))
     shape ts us r = simp append_assoc refl
 
-    different : (x : List ℕ) (us vs : List Terminal) → Op Sign.LPar ∷ us ≡ Ident x ∷ vs → ⊥
+    different : (x : Spelled) (us vs : List Terminal) → Op Sign.LPar ∷ us ≡ Ident x ∷ vs → ⊥
     different x us vs e = absurd (cc)

@@ -3,7 +3,7 @@ use Rattle.std.proofs.Common.{◌≡◌, refl, ℕ, ◌+◌, List, [], ◌∷◌
 use Rattle.pylexeme.specs.declared.kinds.Exact.TheVariants.{Minus, Dot, Comma, Colon, Equal, Semi, At, LPar, RPar, LSqb, RSqb}
 use Rattle.pytoken.specs.declared.keywords.Keyword.TheVariants as Key
 use Rattle.pynode.specs.declared.profiles.Profile.TheVariants.{Py311, Py312}
-use Rattle.pytoken.specs.Terminals.{Terminal, Op, Word, Ident}
+use Rattle.pytoken.specs.Terminals.{Terminal, Op, Word, in_form}
 use Rattle.pygrammar.specs.Reader.{Answer, Found, NoForm, TooDeep}
 use Rattle.pygrammar.specs.Lines.{Form}
 use Rattle.pygrammar.specs.FormHeights.{form_height}
@@ -21,7 +21,7 @@ times zero t us = us
 times (suc n) t us = t ∷ times n t us
 
 abbrev x : Terminal
-x = Ident (120 ∷ [])
+x = in_form (120 ∷ [])
 
 -- an expression of height n + 1, and what follows it
 abbrev signs : ℕ → List Terminal → List Terminal

@@ -3,7 +3,7 @@ use Rattle.std.proofs.Common.{◌≡◌, refl, ℕ, List, [], ◌∷◌, ◌++�
 use Rattle.pylexeme.specs.declared.kinds.Exact.TheVariants.{Plus, Minus, Star, Dot, LPar, RPar, LSqb, RSqb}
 use Rattle.pygrammar.specs.declared.levels.Level.TheVariants.{Value}
 use Rattle.pynode.specs.Trees.{Expr}
-use Rattle.pytoken.specs.Terminals.{Terminal, Op, Ident}
+use Rattle.pytoken.specs.Terminals.{Terminal, Op, in_form}
 use Rattle.pyheight.specs.Heights.{height}
 use Rattle.pygrammar.specs.Reader.{Answer, Found, NoForm, TooDeep}
 use Rattle.pygrammar.specs.Capped.{limited, limit}
@@ -20,7 +20,7 @@ times zero ts us = us
 times (suc n) ts us = ts ++ times n ts us
 
 abbrev x : Terminal
-x = Ident (120 ∷ [])
+x = in_form (120 ∷ [])
 
 -- x + x + .. and x.x.x..: higher by one with each
 abbrev sums : ℕ → List Terminal
@@ -49,20 +49,20 @@ dots_short : kind (limit 20 Value (dots 20 ++ (Op LPar ∷ []))) ≡ 1
 dots_short = refl
 
 -- groups need no room
-groups : kind (limit 1 Value (times 20 (Op LPar ∷ []) (Ident (120 ∷ []) ∷ times 20 (Op RPar ∷ []) []))) ≡ 3
+groups : kind (limit 1 Value (times 20 (Op LPar ∷ []) (in_form (120 ∷ []) ∷ times 20 (Op RPar ∷ []) []))) ≡ 3
 groups = refl
 
 -- a list, a sign, a star in a subscript
-lists_fit : kind (limit 21 Value (times 20 (Op LSqb ∷ []) (Ident (120 ∷ []) ∷ times 20 (Op RSqb ∷ []) []))) ≡ 23
+lists_fit : kind (limit 21 Value (times 20 (Op LSqb ∷ []) (in_form (120 ∷ []) ∷ times 20 (Op RSqb ∷ []) []))) ≡ 23
 lists_fit = refl
 
-lists_high : kind (limit 20 Value (times 20 (Op LSqb ∷ []) (Ident (120 ∷ []) ∷ times 20 (Op RSqb ∷ []) []))) ≡ 2
+lists_high : kind (limit 20 Value (times 20 (Op LSqb ∷ []) (in_form (120 ∷ []) ∷ times 20 (Op RSqb ∷ []) []))) ≡ 2
 lists_high = refl
 
-star_fits : kind (limit 4 Value (Ident (120 ∷ []) ∷ Op LSqb ∷ Op Star ∷ Ident (121 ∷ []) ∷ Op RSqb ∷ [])) ≡ 6
+star_fits : kind (limit 4 Value (in_form (120 ∷ []) ∷ Op LSqb ∷ Op Star ∷ in_form (121 ∷ []) ∷ Op RSqb ∷ [])) ≡ 6
 star_fits = refl
 
-star_high : kind (limit 3 Value (Ident (120 ∷ []) ∷ Op LSqb ∷ Op Star ∷ Ident (121 ∷ []) ∷ Op RSqb ∷ [])) ≡ 2
+star_high : kind (limit 3 Value (in_form (120 ∷ []) ∷ Op LSqb ∷ Op Star ∷ in_form (121 ∷ []) ∷ Op RSqb ∷ [])) ≡ 2
 star_high = refl
 
 -- twenty signs and nothing: with room 20 alone this is too deep, with the last check it is no form
@@ -79,5 +79,5 @@ signs_more = refl
 bound_sums : kind (limit 500 Value (sums 40)) ≡ 43
 bound_sums = refl
 
-bound_signs : kind (limit 500 Value (times 60 (Op Minus ∷ []) (Ident (120 ∷ []) ∷ []))) ≡ 63
+bound_signs : kind (limit 500 Value (times 60 (Op Minus ∷ []) (in_form (120 ∷ []) ∷ []))) ≡ 63
 bound_signs = refl

@@ -10,7 +10,7 @@ use Rattle.pynode.specs.TreeOf.{arg_of, arg_option_of, arguments_of, boxed_of, c
 use Rattle.pynode.proofs.Callers.ExprShapes.{arg_tree, arguments_tree, attribute_tree, await_tree, bin_op_tree, bool_op_tree, call_tree, compare_tree, comprehension_tree, constant_tree, dict_comp_tree, dict_tree, generator_exp_tree, if_exp_tree, keyword_tree, lambda_tree, list_comp_tree, list_tree, name_tree, named_expr_tree, set_comp_tree, set_tree, slice_tree, starred_tree, subscript_tree, tuple_tree, unary_op_tree, yield_from_tree, yield_tree}
 use Rattle.pygrammar.specs.declared.levels.Level.TheVariants.{Atom, BitOr, Elem, Expression, Named}
 use Rattle.pyheight.specs.Heights.{arg_height, arg_heights, comprehension_heights, height, heights, keyword_heights, optional_height, optional_heights}
-use Rattle.pytoken.specs.Terminals.{Ident, Op}
+use Rattle.pytoken.specs.Terminals.{in_form, Op}
 use Rattle.pywritten.specs.Levels.{reaches}
 use Rattle.pywritten.specs.Pieces.{piece, pieces}
 use Rattle.pywritten.specs.Written.{by_name, clauses, conditions, each, element_level, free, gathered, leading, listed, names, pairs, suffixed, tight, trailing, with_star, written, written_keys}
@@ -285,7 +285,7 @@ calls::write_keyword-returns g t c = rw keyword_tree (IfOk-equal _ _ _ _ c.write
 
 pub parameters::write_named_arg-returns : goal.parameters::write_named_arg-returns
 parameters::write_named_arg-returns g t c = rw arg_tree (IfOk-equal _ _ _ _ c.write_suffix.ensures
-    (two g.W.Writer.after c.args.out.now (free piece (Ident (given_arg.out-Arg c.args.arg.now).arg) ∷ []) (suffixed piece (trailing piece Colon) (optional (boxed_of (given_arg.out-Arg c.args.arg.now).annotation))) _ c.in_ok-put_name.ensures))
+    (two g.W.Writer.after c.args.out.now (free piece (in_form (given_arg.out-Arg c.args.arg.now).arg) ∷ []) (suffixed piece (trailing piece Colon) (optional (boxed_of (given_arg.out-Arg c.args.arg.now).annotation))) _ c.in_ok-put_name.ensures))
 
 pub parameters::write_plain-loop-i-preserved : goal.parameters::write_plain-loop-i-preserved
 parameters::write_plain-loop-i-preserved g t c = plain_on g.W.Writer.after _ _ c.loop-i.first c.args.params.now c.args.bare c.loop-i.i c.args.given.now _ _ _ _

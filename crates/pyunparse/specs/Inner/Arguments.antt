@@ -4,14 +4,14 @@ use Rattle.pylexeme.specs.declared.kinds.Exact.TheVariants.{DoubleStar, Equal}
 use Rattle.pygrammar.specs.declared.levels.Level.TheVariants.{Expression}
 use Rattle.pynode.specs.Trees.{Identifier, Keyword}
 use Rattle.pyspacing.specs.Spacing.{Piece}
-use Rattle.pytoken.specs.Terminals.{Ident}
+use Rattle.pytoken.specs.Terminals.{in_form}
 use Rattle.pywritten.specs.Written.{free, leading, tight}
 use Rattle.pywritten.specs.Pieces.{piece, pieces}
 
 -- a name and `=`, or `**`
 abbrev pub argument_name : Option Identifier → List Piece
 argument_name None = leading piece DoubleStar ∷ []
-argument_name (Some x) = free piece (Ident x) ∷ (tight piece Equal ∷ [])
+argument_name (Some x) = free piece (in_form x) ∷ (tight piece Equal ∷ [])
 
 abbrev pub argument : Keyword → List Piece
 argument k = argument_name k.arg ++ pieces Expression k.value

@@ -3,14 +3,14 @@ use Rattle.std.specs.Prelude.{ℕ, zero, suc, ◌-◌, nat_lt, if◌then◌else�
 use Rattle.pylexeme.specs.declared.kinds.Exact.TheVariants.{Colon, Comma, Equal, Slash}
 use Rattle.pynode.specs.Trees.{Arg, Args, arg, Arguments, arguments, Expr, Exprs}
 use Rattle.pygrammar.specs.declared.levels.Level.TheVariants.{Expression}
-use Rattle.pytoken.specs.Terminals.{Ident, Op}
+use Rattle.pytoken.specs.Terminals.{in_form, Op}
 use Rattle.pyspacing.specs.Spacing.{Piece}
 use Rattle.pywritten.specs.Written.{behind_equal, each, free, names, suffixed, tight, trailing, with_defaults, with_slash}
 use Rattle.pywritten.specs.Pieces.{piece, pieces}
 
 -- a name with its annotation
 abbrev pub named : Arg → List Piece
-named (arg x a) = free piece (Ident x) ∷ suffixed piece (trailing piece Colon) a
+named (arg x a) = free piece (in_form x) ∷ suffixed piece (trailing piece Colon) a
 
 -- those that may be given by their places
 abbrev pub by_places : Args → Args → Exprs → List (List Piece)

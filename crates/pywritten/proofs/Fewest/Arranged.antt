@@ -5,7 +5,7 @@ use Rattle.std.specs.Prelude.{replicate}
 use Rattle.pylexeme.specs.declared.kinds.Exact.TheVariants.{Colon, Star, Slash, Equal, DoubleStar}
 use Rattle.pygrammar.specs.declared.levels.Level.TheVariants.{Expression}
 use Rattle.pynode.specs.Trees.{Expr, Exprs, no_exprs, OptionalExpr, absent, present, OptionalExprs, Arg, arg, Args, no_arg, an_arg, OptionalArg, absent_arg, Arguments, arguments}
-use Rattle.pytoken.specs.Terminals.{Terminal, Op, Ident}
+use Rattle.pytoken.specs.Terminals.{Terminal, Op, in_form}
 use Rattle.pygrammar.specs.Entries.{Parameter, Entry, Plain, Slashed, Bare, Gathered, Collected}
 use Rattle.pygrammar.specs.Parameters.{with_kwarg, add_keyword_only, set_vararg, add_plain, add_before_slash, after_star, at_star, plain_ones, before_slash, has_slash, arranged}
 use Rattle.pywritten.specs.Written.{beside, behind_equal, with_defaults, with_slash, with_star, written, each, suffixed, parameters, names, gathered, defaults}
@@ -29,7 +29,7 @@ data AfterStar : Arguments → List Entry → Type 0 where
 
 after_grown : {x : Arguments} {es : List Entry} (a : Arg) (d : OptionalExpr) → AfterStar x es → AfterStar (add_keyword_only a d x) (Plain a d ∷ es)
 unfolding names defaults
-after_grown (arg n t) d (after q) = after (ap (λ z. (Ident n ∷ (suffixed terminal (Op Colon) t ++ suffixed terminal (Op Equal) d)) ∷ z) q)
+after_grown (arg n t) d (after q) = after (ap (λ z. (in_form n ∷ (suffixed terminal (Op Colon) t ++ suffixed terminal (Op Equal) d)) ∷ z) q)
 
 after_last : (a : Arg) → AfterStar (with_kwarg a) (Collected a ∷ [])
 unfolding names defaults gathered
@@ -48,11 +48,11 @@ data AtStar : Arguments → List Entry → Type 0 where
 
 at_gathered : {x : Arguments} {es : List Entry} (a : Arg) → AfterStar x es → AtStar (set_vararg a x) (Gathered a ∷ es)
 unfolding names gathered
-at_gathered (arg n t) (after q) = at (ap (λ z. (Op Star ∷ (Ident n ∷ suffixed terminal (Op Colon) t)) ∷ z) q)
+at_gathered (arg n t) (after q) = at (ap (λ z. (Op Star ∷ (in_form n ∷ suffixed terminal (Op Colon) t)) ∷ z) q)
 
 at_bare : {x : Arguments} {es : List Entry} (a : Arg) (d : OptionalExpr) → AfterStar x es → AtStar (add_keyword_only a d x) (Bare ∷ (Plain a d ∷ es))
 unfolding names defaults gathered
-at_bare (arg n t) d (after q) = at (ap (λ z. (Op Star ∷ []) ∷ ((Ident n ∷ (suffixed terminal (Op Colon) t ++ suffixed terminal (Op Equal) d)) ∷ z)) q)
+at_bare (arg n t) d (after q) = at (ap (λ z. (Op Star ∷ []) ∷ ((in_form n ∷ (suffixed terminal (Op Colon) t ++ suffixed terminal (Op Equal) d)) ∷ z)) q)
 
 at_last : (a : Arg) → AtStar (with_kwarg a) (Collected a ∷ [])
 unfolding names defaults gathered
@@ -87,11 +87,11 @@ data Plains (b : Bool) : Arguments → List Entry → Type 0 where
 
 plains_none : {x : Arguments} {es : List Entry} (a : Arg) → Plains false x es → Plains false (add_plain a absent x) (Plain a absent ∷ es)
 unfolding names suffixed
-plains_none (arg n t) (plains {qs = qs} {v = v} {ks = ks} {kds = kds} {k = k} {ds = ds} q s) = plains (ap (λ z. z ++ behind v ks kds k) (default_none (Ident n ∷ suffixed terminal (Op Colon) t) (names terminal qs) (texts ds) s) ∙ ap (λ z. (Ident n ∷ (suffixed terminal (Op Colon) t ++ [])) ∷ z) q) (omega (arith, s))
+plains_none (arg n t) (plains {qs = qs} {v = v} {ks = ks} {kds = kds} {k = k} {ds = ds} q s) = plains (ap (λ z. z ++ behind v ks kds k) (default_none (in_form n ∷ suffixed terminal (Op Colon) t) (names terminal qs) (texts ds) s) ∙ ap (λ z. (in_form n ∷ (suffixed terminal (Op Colon) t ++ [])) ∷ z) q) (omega (arith, s))
 
 plains_some : {x : Arguments} {es : List Entry} (b : Bool) (a : Arg) (d : Expr) → Plains true x es → Plains b (add_plain a (present d) x) (Plain a (present d) ∷ es)
 unfolding names suffixed each
-plains_some b (arg n t) d (plains {qs = qs} {v = v} {ks = ks} {kds = kds} {k = k} {ds = ds} q s) = plains (ap (λ z. z ++ behind v ks kds k) (default_some (Ident n ∷ suffixed terminal (Op Colon) t) (Op Equal ∷ written terminal Expression d) (names terminal qs) (texts ds) s) ∙ ap (λ z. (Ident n ∷ (suffixed terminal (Op Colon) t ++ (Op Equal ∷ written terminal Expression d))) ∷ z) q) (full b s)
+plains_some b (arg n t) d (plains {qs = qs} {v = v} {ks = ks} {kds = kds} {k = k} {ds = ds} q s) = plains (ap (λ z. z ++ behind v ks kds k) (default_some (in_form n ∷ suffixed terminal (Op Colon) t) (Op Equal ∷ written terminal Expression d) (names terminal qs) (texts ds) s) ∙ ap (λ z. (in_form n ∷ (suffixed terminal (Op Colon) t ++ (Op Equal ∷ written terminal Expression d))) ∷ z) q) (full b s)
   where
     full : (b : Bool) → length (texts ds) ≡ length (names terminal qs) → Full b (suc (length (texts ds))) (suc (length (names terminal qs)))
     full true s = ap suc s
@@ -114,11 +114,11 @@ data Slashes (b : Bool) : Arguments → List Entry → Type 0 where
 
 slash_none : {x : Arguments} {es : List Entry} (a : Arg) → Plains false x es → Slashes false (add_before_slash a absent x) (Plain a absent ∷ (Slashed ∷ es))
 unfolding names suffixed
-slash_none (arg n t) (plains {qs = qs} {v = v} {ks = ks} {kds = kds} {k = k} {ds = ds} q s) = slashes (ap (λ z. with_slash terminal ((Ident n ∷ suffixed terminal (Op Colon) t) ∷ []) z ++ behind v ks kds k) (default_none (Ident n ∷ suffixed terminal (Op Colon) t) (names terminal qs) (texts ds) s) ∙ ap (λ z. (Ident n ∷ (suffixed terminal (Op Colon) t ++ [])) ∷ ((Op Slash ∷ []) ∷ z)) q) (omega (arith, s))
+slash_none (arg n t) (plains {qs = qs} {v = v} {ks = ks} {kds = kds} {k = k} {ds = ds} q s) = slashes (ap (λ z. with_slash terminal ((in_form n ∷ suffixed terminal (Op Colon) t) ∷ []) z ++ behind v ks kds k) (default_none (in_form n ∷ suffixed terminal (Op Colon) t) (names terminal qs) (texts ds) s) ∙ ap (λ z. (in_form n ∷ (suffixed terminal (Op Colon) t ++ [])) ∷ ((Op Slash ∷ []) ∷ z)) q) (omega (arith, s))
 
 slash_some : {x : Arguments} {es : List Entry} (b : Bool) (a : Arg) (d : Expr) → Plains true x es → Slashes b (add_before_slash a (present d) x) (Plain a (present d) ∷ (Slashed ∷ es))
 unfolding names suffixed each
-slash_some b (arg n t) d (plains {qs = qs} {v = v} {ks = ks} {kds = kds} {k = k} {ds = ds} q s) = slashes (ap (λ z. with_slash terminal ((Ident n ∷ suffixed terminal (Op Colon) t) ∷ []) z ++ behind v ks kds k) (default_some (Ident n ∷ suffixed terminal (Op Colon) t) (Op Equal ∷ written terminal Expression d) (names terminal qs) (texts ds) s) ∙ ap (λ z. (Ident n ∷ (suffixed terminal (Op Colon) t ++ (Op Equal ∷ written terminal Expression d))) ∷ ((Op Slash ∷ []) ∷ z)) q) (full b s)
+slash_some b (arg n t) d (plains {qs = qs} {v = v} {ks = ks} {kds = kds} {k = k} {ds = ds} q s) = slashes (ap (λ z. with_slash terminal ((in_form n ∷ suffixed terminal (Op Colon) t) ∷ []) z ++ behind v ks kds k) (default_some (in_form n ∷ suffixed terminal (Op Colon) t) (Op Equal ∷ written terminal Expression d) (names terminal qs) (texts ds) s) ∙ ap (λ z. (in_form n ∷ (suffixed terminal (Op Colon) t ++ (Op Equal ∷ written terminal Expression d))) ∷ ((Op Slash ∷ []) ∷ z)) q) (full b s)
   where
     full : (b : Bool) → length (texts ds) ≡ length (names terminal qs) → Full b (suc (length (texts ds))) (suc (length (names terminal qs)))
     full true s = ap suc s
@@ -126,11 +126,11 @@ slash_some b (arg n t) d (plains {qs = qs} {v = v} {ks = ks} {kds = kds} {k = k}
 
 slashes_none : {x : Arguments} {es : List Entry} (a : Arg) → Slashes false x es → Slashes false (add_before_slash a absent x) (Plain a absent ∷ es)
 unfolding names suffixed
-slashes_none (arg n t) (slashes {a = arg m u} {ps = ps} {qs = qs} {v = v} {ks = ks} {kds = kds} {k = k} {ds = ds} q s) = slashes (ap (λ z. with_slash terminal ((Ident n ∷ suffixed terminal (Op Colon) t) ∷ ((Ident m ∷ suffixed terminal (Op Colon) u) ∷ names terminal ps)) z ++ behind v ks kds k) (default_none (Ident n ∷ suffixed terminal (Op Colon) t) ((Ident m ∷ suffixed terminal (Op Colon) u) ∷ (names terminal ps ++ names terminal qs)) (texts ds) s) ∙ ap (λ z. (Ident n ∷ (suffixed terminal (Op Colon) t ++ [])) ∷ z) q) (omega (arith, s))
+slashes_none (arg n t) (slashes {a = arg m u} {ps = ps} {qs = qs} {v = v} {ks = ks} {kds = kds} {k = k} {ds = ds} q s) = slashes (ap (λ z. with_slash terminal ((in_form n ∷ suffixed terminal (Op Colon) t) ∷ ((in_form m ∷ suffixed terminal (Op Colon) u) ∷ names terminal ps)) z ++ behind v ks kds k) (default_none (in_form n ∷ suffixed terminal (Op Colon) t) ((in_form m ∷ suffixed terminal (Op Colon) u) ∷ (names terminal ps ++ names terminal qs)) (texts ds) s) ∙ ap (λ z. (in_form n ∷ (suffixed terminal (Op Colon) t ++ [])) ∷ z) q) (omega (arith, s))
 
 slashes_some : {x : Arguments} {es : List Entry} (b : Bool) (a : Arg) (d : Expr) → Slashes true x es → Slashes b (add_before_slash a (present d) x) (Plain a (present d) ∷ es)
 unfolding names suffixed each
-slashes_some b (arg n t) d (slashes {a = arg m u} {ps = ps} {qs = qs} {v = v} {ks = ks} {kds = kds} {k = k} {ds = ds} q s) = slashes (ap (λ z. with_slash terminal ((Ident n ∷ suffixed terminal (Op Colon) t) ∷ ((Ident m ∷ suffixed terminal (Op Colon) u) ∷ names terminal ps)) z ++ behind v ks kds k) (default_some (Ident n ∷ suffixed terminal (Op Colon) t) (Op Equal ∷ written terminal Expression d) ((Ident m ∷ suffixed terminal (Op Colon) u) ∷ (names terminal ps ++ names terminal qs)) (texts ds) s) ∙ ap (λ z. (Ident n ∷ (suffixed terminal (Op Colon) t ++ (Op Equal ∷ written terminal Expression d))) ∷ z) q) (full b s)
+slashes_some b (arg n t) d (slashes {a = arg m u} {ps = ps} {qs = qs} {v = v} {ks = ks} {kds = kds} {k = k} {ds = ds} q s) = slashes (ap (λ z. with_slash terminal ((in_form n ∷ suffixed terminal (Op Colon) t) ∷ ((in_form m ∷ suffixed terminal (Op Colon) u) ∷ names terminal ps)) z ++ behind v ks kds k) (default_some (in_form n ∷ suffixed terminal (Op Colon) t) (Op Equal ∷ written terminal Expression d) ((in_form m ∷ suffixed terminal (Op Colon) u) ∷ (names terminal ps ++ names terminal qs)) (texts ds) s) ∙ ap (λ z. (in_form n ∷ (suffixed terminal (Op Colon) t ++ (Op Equal ∷ written terminal Expression d))) ∷ z) q) (full b s)
   where
     full : (b : Bool) → length (texts ds) ≡ suc (length (names terminal ps ++ names terminal qs)) → Full b (suc (length (texts ds))) (suc (suc (length (names terminal ps ++ names terminal qs))))
     full true s = ap suc s

@@ -6,7 +6,7 @@ use Rattle.pynode.specs.declared.operators.Context.TheVariants.{Load}
 use Rattle.pygrammar.specs.declared.levels.Level.TheVariants.{Named, Expression, Primary}
 use Rattle.pynode.specs.Trees
 use Rattle.pynode.specs.Trees.{Expr, Exprs, no_exprs, an_expr, Comprehensions, Keywords, no_keyword, a_keyword, Identifier}
-use Rattle.pytoken.specs.Terminals.{Terminal, Op, Ident}
+use Rattle.pytoken.specs.Terminals.{Terminal, Op, in_form}
 use Rattle.pygrammar.specs.Entries.{Item, Argument, Entry, Single, Paired, Spread, Doubled, Keyed, Plain, Slashed, Bare, Gathered, Collected}
 use Rattle.pygrammar.specs.Arguments.{in_order, positional, keywords, called}
 use Rattle.pygrammar.specs.Grammar as G
@@ -109,7 +109,7 @@ firsts_written (_ ∷ es) = firsts_written es
 lasts_written : (es : List Entry) → by_name terminal (keywords es) ≡ map (entry Argument) (lasts es)
 unfolding by_name
 lasts_written [] = refl
-lasts_written (Keyed x e ∷ es) = ap (λ z. (Ident x ∷ (Op Equal ∷ written terminal Expression e)) ∷ z) (lasts_written es)
+lasts_written (Keyed x e ∷ es) = ap (λ z. (in_form x ∷ (Op Equal ∷ written terminal Expression e)) ∷ z) (lasts_written es)
 lasts_written (Doubled e ∷ es) = ap (λ z. (Op DoubleStar ∷ written terminal Expression e) ∷ z) (lasts_written es)
 lasts_written (_ ∷ es) = lasts_written es
 

@@ -14,7 +14,7 @@ use Rattle.pygrammar.specs.declared.levels.Level.TheVariants.{Value, Stars, Star
 use Rattle.pynode.specs.Values
 use Rattle.pynode.specs.Trees
 use Rattle.pynode.specs.Trees.{Expr, OptionalExpr, absent, present, Identifier, exprs, Comprehension, comprehensions}
-use Rattle.pytoken.specs.Terminals.{Terminal, Op, Word, Ident}
+use Rattle.pytoken.specs.Terminals.{Terminal, Op, Word, Ident, Spelled}
 use Rattle.pygrammar.specs.Operators.{below, left_operator, prefix_operator, chain_level, chain_word, comparison}
 use Rattle.pygrammar.specs.Grammar as G
 use Rattle.pywritten.specs.Levels.{leads, reaches, operator_level, left_level, right_level, operator_sign, unary_level, unary_sign, comparison_signs}
@@ -70,7 +70,7 @@ pub if_else_claim : {ts us vs : List Terminal} {a b c : Expr} → Claim Or ts b 
 unfolding written
 if_else_claim {ts} {us} {vs} p q r = node Expression _ _ _ (λ m. refl) refl tt (G.if_else (here p) (here q) (here r)) deep_expression.named (simp length-append (omega (arith, p.short, q.short, r.short)))
 
-pub named_claim : {x : Identifier} {ts : List Terminal} {e : Expr} → Claim Expression ts e → Claim Named (Ident x ∷ (Op ColonEqual ∷ ts)) (Trees.NamedExpr (Trees.Name x Store) e)
+pub named_claim : {x : Spelled} {ts : List Terminal} {e : Expr} → Claim Expression ts e → Claim Named (Ident x ∷ (Op ColonEqual ∷ ts)) (Trees.NamedExpr (Trees.Name x.form Store) e)
 unfolding written
 named_claim p = node Named _ _ _ (λ m. refl) refl tt (G.named (here p)) (reaches_self Named) (omega (arith, p.short))
 
@@ -78,9 +78,9 @@ pub await_claim : {ts : List Terminal} {e : Expr} → Claim Primary ts e → Cla
 unfolding written
 await_claim p = node Await _ _ _ (λ m. refl) refl tt (G.await (here p)) deep_await.named (omega (arith, p.short))
 
-pub attribute_claim : {ts : List Terminal} {e : Expr} {x : Identifier} → Claim Primary ts e → Claim Primary (ts ++ (Op Dot ∷ (Ident x ∷ []))) (Trees.Attribute e x Load)
+pub attribute_claim : {ts : List Terminal} {e : Expr} (x : Spelled) → Claim Primary ts e → Claim Primary (ts ++ (Op Dot ∷ (Ident x ∷ []))) (Trees.Attribute e x.form Load)
 unfolding written
-attribute_claim p = node Primary _ _ _ (λ m. refl) refl tt (G.attribute (here p)) deep_primary.named (simp length-append (omega (arith, p.short)))
+attribute_claim x p = node Primary _ _ _ (λ m. refl) refl tt (G.attribute _ (here p)) deep_primary.named (simp length-append (omega (arith, p.short)))
 
 pub subscript_claim : {ts us : List Terminal} {e s : Expr} → Claim Primary ts e → Claim Slices us s → Claim Primary (ts ++ (Op LSqb ∷ (us ++ (Op RSqb ∷ [])))) (Trees.Subscript e s Load)
 unfolding written
@@ -226,7 +226,7 @@ unfolding written
 compare_claim p c = node Compare _ _ _ (λ m. refl) refl tt (G.compare (here p) c.list) deep_compare.named (simp length-append (omega (arith, p.short, c.short)))
 
 -- atoms of one token
-pub name_claim : {x : Identifier} → Claim Atom (Ident x ∷ []) (Trees.Name x Load)
+pub name_claim : {x : Spelled} → Claim Atom (Ident x ∷ []) (Trees.Name x.form Load)
 unfolding written
 name_claim = atom _ _ _ (λ m. refl) refl tt G.name (omega arith)
 

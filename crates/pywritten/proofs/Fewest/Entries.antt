@@ -7,7 +7,7 @@ use Rattle.pygrammar.specs.declared.levels.Level.{Level}
 use Rattle.pygrammar.specs.declared.levels.Level.TheVariants.{Value, Stars, StarItem, Named, Expression, BitOr, Atom, Elem, Slices, Part}
 use Rattle.pynode.specs.Trees
 use Rattle.pynode.specs.Trees.{Expr, Exprs, no_exprs, an_expr, arg, Identifier}
-use Rattle.pytoken.specs.Terminals.{Terminal, Op, Ident}
+use Rattle.pytoken.specs.Terminals.{Terminal, Op, Ident, in_form, Spelled}
 use Rattle.pygrammar.specs.Entries.{Item, Of, Pair, Argument, Parameter, Entry, Single, Paired, Spread, Doubled, Keyed, Plain, Slashed, Bare, Gathered, Collected, singles, keys, values}
 use Rattle.pygrammar.specs.Grammar as G
 use Rattle.pywritten.specs.Written.{separated, some_named, lone_star, element_level, bracketed, with_comma, tuple_of, written, each, suffixed, written_keys, pairs}
@@ -23,13 +23,13 @@ entry Pair (Paired k e) = written terminal Expression k ++ (Op Colon ∷ written
 entry Pair (Doubled e) = Op DoubleStar ∷ written terminal BitOr e
 entry Argument (Single e) = written terminal Named e
 entry Argument (Spread e) = Op Star ∷ written terminal Expression e
-entry Argument (Keyed x e) = Ident x ∷ (Op Equal ∷ written terminal Expression e)
+entry Argument (Keyed x e) = in_form x ∷ (Op Equal ∷ written terminal Expression e)
 entry Argument (Doubled e) = Op DoubleStar ∷ written terminal Expression e
-entry (Parameter b) (Plain (arg x a) d) = Ident x ∷ (suffixed terminal (Op Colon) a ++ suffixed terminal (Op Equal) d)
+entry (Parameter b) (Plain (arg x a) d) = in_form x ∷ (suffixed terminal (Op Colon) a ++ suffixed terminal (Op Equal) d)
 entry (Parameter b) Slashed = Op Slash ∷ []
 entry (Parameter b) Bare = Op Star ∷ []
-entry (Parameter b) (Gathered (arg x a)) = Op Star ∷ (Ident x ∷ suffixed terminal (Op Colon) a)
-entry (Parameter b) (Collected (arg x a)) = Op DoubleStar ∷ (Ident x ∷ suffixed terminal (Op Colon) a)
+entry (Parameter b) (Gathered (arg x a)) = Op Star ∷ (in_form x ∷ suffixed terminal (Op Colon) a)
+entry (Parameter b) (Collected (arg x a)) = Op DoubleStar ∷ (in_form x ∷ suffixed terminal (Op Colon) a)
 entry _ _ = []
 
 abbrev pub Standing : Item → Entry → Type 0
@@ -111,7 +111,7 @@ argument_claim c = record { standing = (c.ready, c.place); short = c.short }
 pub star_argument_claim : {ts : List Terminal} {e : Expr} → Claim Expression ts e → PieceClaim Argument (Op Star ∷ ts) (Spread e)
 star_argument_claim p = record { standing = G.star_argument (here p); short = omega (arith, p.short) }
 
-pub keyword_argument_claim : {x : Identifier} {ts : List Terminal} {e : Expr} → Claim Expression ts e → PieceClaim Argument (Ident x ∷ (Op Equal ∷ ts)) (Keyed x e)
+pub keyword_argument_claim : {x : Spelled} {ts : List Terminal} {e : Expr} → Claim Expression ts e → PieceClaim Argument (Ident x ∷ (Op Equal ∷ ts)) (Keyed x.form e)
 keyword_argument_claim p = record { standing = G.keyword_argument (here p); short = omega (arith, p.short) }
 
 pub double_argument_claim : {ts : List Terminal} {e : Expr} → Claim Expression ts e → PieceClaim Argument (Op DoubleStar ∷ ts) (Doubled e)

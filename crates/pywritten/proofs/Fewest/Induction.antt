@@ -32,7 +32,7 @@ mutual
   claim (G.binary t h p q) = binary_claim t h (claim p) (claim q)
   claim (G.power p q) = power_claim (claim p) (claim q)
   claim (G.await p) = await_claim (claim p)
-  claim (G.attribute p) = attribute_claim (claim p)
+  claim (G.attribute x p) = attribute_claim x (claim p)
   claim (G.call p c h) = call_claim (claim p) (listing c) h
   claim (G.call_generator p q c) = call_generator_claim (claim p) (claim q) (comps c)
   claim (G.subscript p q) = subscript_claim (claim p) (claim q)

@@ -8,7 +8,7 @@ use Rattle.pynode.specs.declared.operators.Context.TheVariants.{Load}
 use Rattle.pygrammar.specs.declared.levels.Level.TheVariants.{Expression, BitOr}
 use Rattle.pynode.specs.Trees
 use Rattle.pynode.specs.Trees.{Expr, OptionalExpr, absent, present, arg, Arguments, Identifier}
-use Rattle.pytoken.specs.Terminals.{Terminal, Op, Word, Ident}
+use Rattle.pytoken.specs.Terminals.{Terminal, Op, Word, Ident, Spelled}
 use Rattle.pygrammar.specs.Entries.{Parameter, Entry, Plain, Slashed, Bare, Gathered, Collected}
 use Rattle.pygrammar.specs.Parameters.{arranged}
 use Rattle.pygrammar.specs.Grammar as G
@@ -42,7 +42,7 @@ suffix_claim {x} {ts} {e} p = record {
   short = λ y. omega (arith, p.short);
 }
 
-pub parameter_claim : {b : Bool} {x : Identifier} {ts us : List Terminal} {a d : OptionalExpr} → SuffixClaim (cond b (Some Colon) None) ts a → SuffixClaim (Some Equal) us d → PieceClaim (Parameter b) (Ident x ∷ (ts ++ us)) (Plain (arg x a) d)
+pub parameter_claim : {b : Bool} {x : Spelled} {ts us : List Terminal} {a d : OptionalExpr} → SuffixClaim (cond b (Some Colon) None) ts a → SuffixClaim (Some Equal) us d → PieceClaim (Parameter b) (Ident x ∷ (ts ++ us)) (Plain (arg x.form a) d)
 parameter_claim {b} {x} {ts} {us} {a} {d} p q = record { standing = G.parameter (p.is Colon (colon_signed b)) (q.is Equal refl); short = simp length-append (omega (arith, p.short Colon, q.short Equal)) }
 
 pub slash_claim : (b : Bool) → PieceClaim (Parameter b) (Op Slash ∷ []) Slashed
@@ -51,14 +51,14 @@ slash_claim b = record { standing = G.slash; short = omega arith }
 pub bare_star_claim : (b : Bool) → PieceClaim (Parameter b) (Op Star ∷ []) Bare
 bare_star_claim b = record { standing = G.bare_star; short = omega arith }
 
-pub star_parameter_claim : {b : Bool} {x : Identifier} {ts : List Terminal} {a : OptionalExpr} → SuffixClaim (cond b (Some Colon) None) ts a → PieceClaim (Parameter b) (Op Star ∷ (Ident x ∷ ts)) (Gathered (arg x a))
+pub star_parameter_claim : {b : Bool} {x : Spelled} {ts : List Terminal} {a : OptionalExpr} → SuffixClaim (cond b (Some Colon) None) ts a → PieceClaim (Parameter b) (Op Star ∷ (Ident x ∷ ts)) (Gathered (arg x.form a))
 star_parameter_claim {b} p = record { standing = G.star_parameter (p.is Colon (colon_signed b)); short = omega (arith, p.short Colon) }
 
-pub star_annotation_claim : {x : Identifier} {ts : List Terminal} {e : Expr} → Claim BitOr ts e → PieceClaim (Parameter true) (Op Star ∷ (Ident x ∷ (Op Colon ∷ (Op Star ∷ ts)))) (Gathered (arg x (present (Trees.Starred e Load))))
+pub star_annotation_claim : {x : Spelled} {ts : List Terminal} {e : Expr} → Claim BitOr ts e → PieceClaim (Parameter true) (Op Star ∷ (Ident x ∷ (Op Colon ∷ (Op Star ∷ ts)))) (Gathered (arg x.form (present (Trees.Starred e Load))))
 unfolding suffixed written
 star_annotation_claim p = record { standing = G.star_annotation (here p); short = omega (arith, p.short) }
 
-pub double_parameter_claim : {b : Bool} {x : Identifier} {ts : List Terminal} {a : OptionalExpr} → SuffixClaim (cond b (Some Colon) None) ts a → PieceClaim (Parameter b) (Op DoubleStar ∷ (Ident x ∷ ts)) (Collected (arg x a))
+pub double_parameter_claim : {b : Bool} {x : Spelled} {ts : List Terminal} {a : OptionalExpr} → SuffixClaim (cond b (Some Colon) None) ts a → PieceClaim (Parameter b) (Op DoubleStar ∷ (Ident x ∷ ts)) (Collected (arg x.form a))
 double_parameter_claim {b} p = record { standing = G.double_parameter (p.is Colon (colon_signed b)); short = omega (arith, p.short Colon) }
 
 pub lambda_claim : {ts us : List Terminal} {ps : List Entry} {a : Arguments} {e : Expr} → ListingClaim (Parameter false) ts ps → arranged ps ≡ Some a → Claim Expression us e → Claim Expression (Word Key.Lambda ∷ (ts ++ (Op Colon ∷ us))) (Trees.Lambda a e)

@@ -70,7 +70,7 @@ name_after : (text : List ℕ) (d : ℕ) → open_after d (terminal_of kinds.Nam
 unfolding terminal_of
 name_after text d = by (keyword_of text)
   where
-    by : (o : Option Keyword) → open_after d (elim o [ Some w ↦ Word w | None ↦ Ident (nfkc text) ]) ≡ d
+    by : (o : Option Keyword) → open_after d (elim o [ Some w ↦ Word w | None ↦ Ident (record { spelling = text; form = nfkc text }) ]) ≡ d
     by (Some w) = refl
     by None = refl
 

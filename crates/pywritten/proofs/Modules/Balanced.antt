@@ -143,7 +143,7 @@ module _ (a : Bool) where
     good (G.binary {l = l} {o = o} t h p q) = good_both (good p) (good_on (left_plain l t o h) (good q))
     good (G.power p q) = good_both (good p) (good_on refl (good q))
     good (G.await p) = good_on refl (good p)
-    good (G.attribute p) = good_both (good p) (good_on refl (good_on refl none))
+    good (G.attribute x p) = good_both (good p) (good_on refl (good_on refl none))
     good (G.call p c h) = let u = good p in let v = listing c in record { at = λ n. both (u.at n) (up refl (both (v.at (suc n)) (down refl ends))) }
     good (G.call_generator p q c) = let u = good p in let v = good q in let w = comps c in record { at = λ n. both (u.at n) (up refl (both (v.at (suc n)) (both (w.at (suc n)) (down refl ends)))) }
     good (G.subscript p q) = let u = good p in let v = good q in record { at = λ n. both (u.at n) (up refl (both (v.at (suc n)) (down refl ends))) }

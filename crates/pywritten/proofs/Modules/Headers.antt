@@ -5,7 +5,7 @@ use Rattle.pytoken.specs.declared.keywords.Keyword.TheVariants as Key
 use Rattle.pynode.specs.declared.profiles.Profile.{Profile}
 use Rattle.pygrammar.specs.declared.levels.Level.TheVariants.{Named, Expression}
 use Rattle.pynode.specs.Trees.{Expr, Exprs, no_exprs, an_expr, Keywords, no_keyword, a_keyword, exprs, Item}
-use Rattle.pytoken.specs.Terminals.{Terminal, Op, Word, Ident}
+use Rattle.pytoken.specs.Terminals.{Terminal, Op, Word, in_form}
 use Rattle.pygrammar.specs.Entries.{Argument, Entry}
 use Rattle.pygrammar.specs.Arguments.{positional, keywords}
 use Rattle.pygrammar.specs.Grammar as G
@@ -68,5 +68,5 @@ module _ (items_again : ItemsAgain) {profile : Profile} where
   header_again (F.def_line {b = b} x {tps = tps} {a = a} {r = r} y t c h q) =
       let ps : List Terminal = listed terminal (parameters terminal a) in
       let rest : List Terminal = S.behind terminal (Op RArrow) Expression r in
-      subst (λ z. F.HeaderOf profile (S.async terminal b ++ (Word Key.Def ∷ (Ident x ∷ (S.type_params terminal tps ++ (Op LPar ∷ z))))) (def_header (function_head b x tps a r))) (sym (append_assoc ps (Op RPar ∷ []) rest)) (F.def_line x (async_again y) (type_params_again t) (parameters_law c h).0 h (behind_again q))
+      subst (λ z. F.HeaderOf profile (S.async terminal b ++ (Word Key.Def ∷ (in_form x.form ∷ (S.type_params terminal tps ++ (Op LPar ∷ z))))) (def_header (function_head b x.form tps a r))) (sym (append_assoc ps (Op RPar ∷ []) rest)) (F.def_line _ (async_again y) (type_params_again t) (parameters_law c h).0 h (behind_again q))
   header_again (F.class_line t b) = F.class_line (type_params_again t) (bases_again b)

@@ -5,7 +5,7 @@ use Rattle.std.proofs.lemmas.Bool.{eqb-true}
 use Rattle.pylexeme.specs.declared.kinds.Exact.TheVariants.{Star, Dot, Ellipsis}
 use Rattle.pynode.specs.declared.profiles.Profile.{Profile}
 use Rattle.pynode.specs.Trees.{Identifier, Expr, Alias, TypeParam}
-use Rattle.pytoken.specs.Terminals.{Terminal, Op, Ident}
+use Rattle.pytoken.specs.Terminals.{Terminal, Op, in_form}
 use Rattle.pygrammar.specs.declared.levels.Level.{Level}
 use Rattle.pygrammar.specs.Grammar as G
 use Rattle.pygrammar.specs.Forms as F
@@ -70,10 +70,10 @@ no_tokens : {ts : List Terminal} {x : Identifier} → F.Dotted ts x → ts ≡ [
 no_tokens F.one_name h = absurd (cc)
 no_tokens (F.dot_name p) h = absurd (cc)
 
-longer_one : (c : ℕ) (x y : Identifier) → F.Dotted (Ident x ∷ []) y → F.Dotted (Ident (c ∷ x) ∷ []) (c ∷ y)
+longer_one : (c : ℕ) (x y : Identifier) → F.Dotted (in_form x ∷ []) y → F.Dotted (in_form (c ∷ x) ∷ []) (c ∷ y)
 longer_one c x y F.one_name = F.one_name
 
-longer_more : (c : ℕ) (x y : Identifier) (ts : List Terminal) → F.Dotted (Ident x ∷ (Op Dot ∷ ts)) y → F.Dotted (Ident (c ∷ x) ∷ (Op Dot ∷ ts)) (c ∷ y)
+longer_more : (c : ℕ) (x y : Identifier) (ts : List Terminal) → F.Dotted (in_form x ∷ (Op Dot ∷ ts)) y → F.Dotted (in_form (c ∷ x) ∷ (Op Dot ∷ ts)) (c ∷ y)
 longer_more c x y ts (F.dot_name p) = F.dot_name p
 
 longer_first : (c : ℕ) (xs : List Identifier) (y : Identifier) → F.Dotted (tokens xs) y → F.Dotted (tokens (S.longer c xs)) (c ∷ y)
@@ -83,7 +83,7 @@ longer_first c (x ∷ (z ∷ zs)) y p = longer_more c x y (tokens (z ∷ zs)) p
 
 new_first : (xs : List Identifier) (y : Identifier) → F.Dotted (tokens xs) y → F.Dotted (tokens ([] ∷ xs)) (46 ∷ y)
 new_first [] y p = absurd (no_tokens p refl)
-new_first (x ∷ xs) y p = F.dot_name {x = []} p
+new_first (x ∷ xs) y p = F.dot_name {x = record { spelling = []; form = [] }} p
 
 dotted_plain : (x : Identifier) → F.Dotted (tokens (S.names_in x)) x
 dotted_plain [] = F.one_name

@@ -291,7 +291,7 @@ mutual
   sound (G.binary {l = l} {ts = ts} {us = us} {a = a} {b = b} {o = o} t q p r) h = (plain (star_place l) a (left_is l t o q) (sound p (front ts (t ∷ us) h)), plain (star_place (below l)) b (right_is l t o q) (sound r (behind ts us t h)))
   sound (G.power {ts = ts} {us = us} p q) h = (sound p (front ts (Op DoubleStar ∷ us) h), sound q (behind ts us (Op DoubleStar) h))
   sound (G.await p) h = sound p (rest h)
-  sound (G.attribute {ts = ts} {x = x} p) h = (sound p (front ts (Op Dot ∷ (Ident x ∷ [])) h), first (behind ts (Ident x ∷ []) (Op Dot) h))
+  sound (G.attribute {ts = ts} x p) h = (sound p (front ts (Op Dot ∷ (Ident x ∷ [])) h), first (behind ts (Ident x ∷ []) (Op Dot) h))
   sound (G.call {ts = ts} {us = us} {f = f} {e = e} {es = es} p c q) h = called_sound false f e es q (sound p (front ts (Op LPar ∷ (us ++ (Op RPar ∷ []))) h)) (listing_fine c (front us (Op RPar ∷ []) (behind ts (us ++ (Op RPar ∷ [])) (Op LPar) h)))
   sound (G.call_generator {ts = ts} {us = us} {vs = vs} p q c) h =
       let more = behind ts (us ++ (vs ++ (Op RPar ∷ []))) (Op LPar) h in

@@ -18,7 +18,7 @@ use Rattle.pynode.specs.Values
 use Rattle.pytoken.specs.declared.keywords.Keyword.{Keyword}
 use Rattle.pytoken.specs.declared.keywords.Keyword.TheVariants as Key
 use Rattle.pytoken.specs.Keywords.{spelling_of}
-use Rattle.pytoken.specs.Terminals.{Terminal, Op, Word, Ident, Whole, Layout, Gives, terminal_of, fault_of}
+use Rattle.pytoken.specs.Terminals.{Terminal, Op, Word, in_form, Whole, Layout, Gives, terminal_of, fault_of}
 use Rattle.pytoken.specs.Laws.{IsProper}
 use Rattle.pytoken.proofs.Callers.Said.{come_back}
 use Rattle.pyspacing.specs.Spacing.{is_whole, is_token}
@@ -139,7 +139,7 @@ fair_word k = let g = come_back.keyword k in record { token = g.sound.of_kind; s
 
 -- ---- Names and constants.
 
-pub fair_name : (x : List ℕ) → IsProper x → Fair (Ident x)
+pub fair_name : (x : List ℕ) → IsProper x → Fair (in_form x)
 fair_name x i = record { token = i.name; scalars = name_scalars x i.name; gives = come_back.name x i }
 
 digits_scalars : (cs : List ℕ) → list_all is_decimal_digit cs ≡ true → all_scalars cs ≡ true

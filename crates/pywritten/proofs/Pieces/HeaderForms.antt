@@ -9,7 +9,7 @@ use Rattle.pygrammar.specs.declared.levels.Level.TheVariants.{Stars, Named, Expr
 use Rattle.pygrammar.specs.Lines.{Header, if_header, elif_header, else_header, loop_header, with_header, try_header, except_header, finally_header, def_header, while_head, for_head, function_head, class_head}
 use Rattle.pynode.specs.Trees
 use Rattle.pynode.specs.Trees.{Identifier, Expr, exprs, Keywords, no_keyword, a_keyword, Arguments, Item, TypeParam}
-use Rattle.pytoken.specs.Terminals.{Terminal, Op, Ident}
+use Rattle.pytoken.specs.Terminals.{Terminal, Op, in_form}
 use Rattle.pytoken.specs.Laws.{IsProper}
 use Rattle.pyspacing.specs.Spacing.{Piece, is_token}
 use Rattle.pywritten.specs.Written.{free, word, leading, trailing, tight, enclosed, bracketed, listed, written, each, by_name}
@@ -74,7 +74,7 @@ unfolding operators
 call_tail x y = tail (parameters_called x) y refl
 
 def_form : (x : Identifier) {ys zs : List Piece} {us vs : List Terminal} → IsProper x → Perhaps (tight piece LSqb ∷ []) ends_plain ys us → Closed (tight piece LPar ∷ []) ends_plain zs vs
-    → Plain (word piece Key.Def ∷ (free piece (Ident x) ∷ (ys ++ zs))) (word terminal Key.Def ∷ (free terminal (Ident x) ∷ (us ++ vs)))
+    → Plain (word piece Key.Def ∷ (free piece (in_form x) ∷ (ys ++ zs))) (word terminal Key.Def ∷ (free terminal (in_form x) ∷ (us ++ vs)))
 unfolding operators
 def_form x h y z = plain_both (keyword Key.Def) (between (plain_name x h) y z refl refl refl)
 
@@ -85,7 +85,7 @@ bases_are [] (a_keyword x e ks) h i = some (called (items_listed (by_name_are (a
 bases_are (e ∷ es) ks h i = some (called (items_listed (each_both (each_are Named (exprs (e ∷ es)) h) (by_name_are ks i))))
 
 class_form : (x : Identifier) {ys zs : List Piece} {us vs : List Terminal} → IsProper x → Perhaps (tight piece LSqb ∷ []) ends_plain ys us → Perhaps (tight piece LPar ∷ []) ends_plain zs vs
-    → Plain (word piece Key.Class ∷ (free piece (Ident x) ∷ (ys ++ zs))) (word terminal Key.Class ∷ (free terminal (Ident x) ∷ (us ++ vs)))
+    → Plain (word piece Key.Class ∷ (free piece (in_form x) ∷ (ys ++ zs))) (word terminal Key.Class ∷ (free terminal (in_form x) ∷ (us ++ vs)))
 unfolding operators
 class_form x h y z = plain_both (keyword Key.Class) (after (plain_name x h) y z refl refl)
 
@@ -108,9 +108,9 @@ handler_is false e x h i = widen {c = starts_plain} (λ p e. e) more_star (word_
 
 -- ---- Loops.
 
-in_form : {xs ys : List Piece} {ts us : List Terminal} → Valued xs ts → Valued ys us → Valued (xs ++ (word piece Key.In ∷ ys)) (ts ++ (word terminal Key.In ∷ us))
+target_in_form : {xs ys : List Piece} {ts us : List Terminal} → Valued xs ts → Valued ys us → Valued (xs ++ (word piece Key.In ∷ ys)) (ts ++ (word terminal Key.In ∷ us))
 unfolding operators
-in_form x y = join x (join (keyword Key.In) y refl) refl
+target_in_form x y = join x (join (keyword Key.In) y refl) refl
 
 -- ---- Headers.
 
@@ -148,7 +148,7 @@ header_read (if_header e) h = plain_read (plain_both (keyword Key.If) (readable 
 header_read (elif_header e) h = plain_read (plain_both (keyword Key.Elif) (readable false Named e h))
 header_read else_header h = plain_read (keyword Key.Else)
 header_read (loop_header (while_head e)) h = plain_read (plain_both (keyword Key.While) (readable false Named e h))
-header_read (loop_header (for_head b t e)) h = comma_read (async_before b (word_value Key.For (some (in_form (readable true Stars t h.0) (readable true Stars e h.1)))))
+header_read (loop_header (for_head b t e)) h = comma_read (async_before b (word_value Key.For (some (target_in_form (readable true Stars t h.0) (readable true Stars e h.1)))))
 header_read (with_header b is) h = plain_read (async_before b (word_plain Key.With (items_are is h)))
 header_read try_header h = plain_read (keyword Key.Try)
 header_read (except_header b e x) h = handler_read (handler_is b e x h.0 h.1)

@@ -12,7 +12,7 @@ use Rattle.pylex.specs.declared.kinds.Kind.TheVariants as kinds
 use Rattle.pytoken.specs.declared.keywords.Keyword.{Keyword}
 use Rattle.pytoken.specs.declared.keywords.Keyword.TheVariants as Key
 use Rattle.pynode.specs.Trees.{Identifier, Alias}
-use Rattle.pytoken.specs.Terminals.{Terminal, Op, Word, Ident}
+use Rattle.pytoken.specs.Terminals.{Terminal, Op, Word, in_form}
 use Rattle.pytoken.specs.Laws.{IsProper}
 use Rattle.pyspacing.specs.Spacing.{Piece, is_token, is_operator_kind, touches, stay_apart, are_two_points, begins_operator, all_apart, are_readable}
 use Rattle.pyspacing.specs.Tokens.{closes_all}
@@ -120,8 +120,8 @@ ends_near = near_word ∷ ends_plain
 more_near : (p : Piece) → within ends_plain p ≡ true → within ends_near p ≡ true
 more_near p e = let h = and_parts (is_token p.kind p.text) (is_like ends_plain p) e in let g = late (like near_word p) (is_like ends_plain p) h.1 in rw (h.0, g) refl
 
-near_name : (x : Identifier) → IsProper x → Closed behind_points ends_near (piece (Ident x) true false ∷ []) (terminal (Ident x) true false ∷ [])
-near_name x h = token behind_points ends_near (Ident x) true false (fair_name x h) refl refl refl refl
+near_name : (x : Identifier) → IsProper x → Closed behind_points ends_near (piece (in_form x) true false ∷ []) (terminal (in_form x) true false ∷ [])
+near_name x h = token behind_points ends_near (in_form x) true false (fair_name x h) refl refl refl refl
 
 first_word : (k : Keyword) → Closed (a_word ∷ []) ends_plain (word piece k ∷ []) (word terminal k ∷ [])
 first_word k = token (a_word ∷ []) ends_plain (Word k) false false (fair_word k) refl refl refl refl

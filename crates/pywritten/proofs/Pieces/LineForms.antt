@@ -12,7 +12,7 @@ use Rattle.pynode.specs.declared.operators.Operator.TheVariants as Bin
 use Rattle.pygrammar.specs.declared.levels.Level.TheVariants.{Value, Stars, Expression, Primary}
 use Rattle.pynode.specs.Trees
 use Rattle.pynode.specs.Trees.{Identifier, Expr, Exprs, no_exprs, an_expr, exprs, Keywords, no_keyword, a_keyword, Arguments, Alias, Item, TypeParam, TypeVar, ParamSpec, TypeVarTuple}
-use Rattle.pytoken.specs.Terminals.{Terminal, Op, Ident}
+use Rattle.pytoken.specs.Terminals.{Terminal, Op, in_form}
 use Rattle.pytoken.specs.Laws.{IsProper}
 use Rattle.pygrammar.specs.Forms.{type_name}
 use Rattle.pyspacing.specs.Spacing.{Piece}
@@ -28,6 +28,7 @@ use Rattle.pywritten.proofs.Pieces.Shapes.{Plain, keyword, name, plain_name, pla
 use Rattle.pywritten.proofs.Pieces.Shapes as Shape
 use Rattle.pywritten.proofs.Pieces.Listings.{perhaps_both, items_listed, plain_tail}
 use Rattle.pywritten.proofs.Pieces.Readable.{readable}
+use Rattle.pywritten.proofs.Pieces.TypeWord.{type_is_proper}
 
 -- what a value, or a list of targets, is
 abbrev pub Valued : List Piece → List Terminal → Type 0
@@ -176,11 +177,11 @@ abbrev pub SoundTypes : List TypeParam → Type 0
 SoundTypes [] = Unit {0}
 SoundTypes (p ∷ ps) = SoundType p × SoundTypes ps
 
-star_name : (x : Identifier) → IsProper x → Shape.Item (leading piece Star ∷ (free piece (Ident x) ∷ [])) (leading terminal Star ∷ (free terminal (Ident x) ∷ []))
+star_name : (x : Identifier) → IsProper x → Shape.Item (leading piece Star ∷ (free piece (in_form x) ∷ [])) (leading terminal Star ∷ (free terminal (in_form x) ∷ []))
 unfolding operators
 star_name x h = join (sign starts_item (leading piece Star ∷ []) Star false true refl refl refl) (plain_name x h) refl
 
-type_var_form : (x : Identifier) → IsProper x → {ys : List Piece} {us : List Terminal} → Perhaps (trailing piece Colon ∷ []) ends_plain ys us → Shape.Item (free piece (Ident x) ∷ ys) (free terminal (Ident x) ∷ us)
+type_var_form : (x : Identifier) → IsProper x → {ys : List Piece} {us : List Terminal} → Perhaps (trailing piece Colon ∷ []) ends_plain ys us → Shape.Item (free piece (in_form x) ∷ ys) (free terminal (in_form x) ∷ us)
 unfolding operators
 type_var_form x h y = widen more_item (λ p e. e) (tail (plain_name x h) y refl)
 
@@ -197,9 +198,9 @@ pub types_are : (ps : List TypeParam) → SoundTypes ps → Perhaps (tight piece
 types_are [] h = nothing
 types_are (p ∷ ps) h = some (indexed (items_listed (type_each (p ∷ ps) h)))
 
-alias_form : {xs ys zs : List Piece} {ts us vs : List Terminal} → Plain xs ts → Perhaps (tight piece LSqb ∷ []) ends_plain ys us → Plain zs vs → IsProper type_name → Plain (free piece (Ident type_name) ∷ (xs ++ (ys ++ (free piece (Op Equal) ∷ zs)))) (free terminal (Ident type_name) ∷ (ts ++ (us ++ (free terminal (Op Equal) ∷ vs))))
+alias_form : {xs ys zs : List Piece} {ts us vs : List Terminal} → Plain xs ts → Perhaps (tight piece LSqb ∷ []) ends_plain ys us → Plain zs vs → Plain (free piece (in_form type_name) ∷ (xs ++ (ys ++ (free piece (Op Equal) ∷ zs)))) (free terminal (in_form type_name) ∷ (ts ++ (us ++ (free terminal (Op Equal) ∷ vs))))
 unfolding operators
-alias_form x y z h = plain_both (plain_name type_name h) (between x y (join (loose Equal refl) z refl) refl refl refl)
+alias_form x y z = plain_both (plain_name type_name type_is_proper) (between x y (join (loose Equal refl) z refl) refl refl refl)
 
-pub type_alias_are : (t : Expr) (ps : List TypeParam) (e : Expr) → Sound false t → SoundTypes ps → Sound false e → IsProper type_name → Plain (free piece (Ident type_name) ∷ (written piece Primary t ++ (S.type_params piece ps ++ (free piece (Op Equal) ∷ written piece Expression e)))) (free terminal (Ident type_name) ∷ (written terminal Primary t ++ (S.type_params terminal ps ++ (free terminal (Op Equal) ∷ written terminal Expression e))))
-type_alias_are t ps e h i j k = alias_form (readable false Primary t h) (types_are ps i) (readable false Expression e j) k
+pub type_alias_are : (t : Expr) (ps : List TypeParam) (e : Expr) → Sound false t → SoundTypes ps → Sound false e → Plain (free piece (in_form type_name) ∷ (written piece Primary t ++ (S.type_params piece ps ++ (free piece (Op Equal) ∷ written piece Expression e)))) (free terminal (in_form type_name) ∷ (written terminal Primary t ++ (S.type_params terminal ps ++ (free terminal (Op Equal) ∷ written terminal Expression e))))
+type_alias_are t ps e h i j = alias_form (readable false Primary t h) (types_are ps i) (readable false Expression e j)

@@ -140,8 +140,8 @@ names_behind [] y h = refl
 names_behind (c ∷ cs) y h = let w = and_parts (is_xid_continue c) (pointless cs) h in let n = not_point c w.0 in let r = names_behind cs y w.1 in rw (n, r) refl
 
 dotted_said : {ts : List Terminal} {x : Identifier} → F.Dotted ts x → Said ts → AreProper (S.names_in x)
-dotted_said (F.one_name {x = x}) h = let p : IsProper x = first h in subst AreProper (sym (one_in x (name_pointless x p.name))) (p, tt)
-dotted_said (F.dot_name {x = x} {y = y} d) h = let p : IsProper x = first h in subst AreProper (sym (names_behind x y (name_pointless x p.name))) (p, dotted_said d (rest (rest h)))
+dotted_said (F.one_name {x = x}) h = let p : IsProper x.form = first h in subst AreProper (sym (one_in x.form (name_pointless x.form p.name))) (p, tt)
+dotted_said (F.dot_name {x = x} {y = y} d) h = let p : IsProper x.form = first h in subst AreProper (sym (names_behind x.form y (name_pointless x.form p.name))) (p, dotted_said d (rest (rest h)))
 
 abbrev SoundAlias : Alias → Type 0
 SoundAlias a = AreProper (S.names_in a.name) × MaybeProper a.asname
@@ -187,7 +187,7 @@ simple_read (F.assign {ts = ts} {us = us} {targets = targets} {e = e} c p) h = c
 simple_read (F.augmented_assign {ts = ts} {us = us} x {o = o} {t = t} {e = e} p q r) h = closed_read (augment_are t o e (single_said p (front ts (Op x ∷ us) h)) (sound r (behind ts us (Op x) h)))
 simple_read (F.annotated_name {x = x} {ts = ts} {us = us} {a = a} {v = v} p q) h =
     let w = rest (rest h) in
-    closed_read (annotate_are (Trees.Name x Store) a v true (first h) (sound p (front ts us w)) (behind_said q (back ts us w)))
+    closed_read (annotate_are (Trees.Name x.form Store) a v true (first h) (sound p (front ts us w)) (behind_said q (back ts us w)))
 simple_read (F.annotated_group {ts = ts} {us = us} {vs = vs} {t = t} {a = a} {v = v} p q r) h =
     let w = rest (behind ts (Op Sign.Colon ∷ (us ++ vs)) (Op Sign.RPar) (rest h)) in
     closed_read (annotate_are t a v false (single_said p (front ts (Op Sign.RPar ∷ (Op Sign.Colon ∷ (us ++ vs))) (rest h))) (sound q (front us vs w)) (behind_said r (back us vs w)))
@@ -196,7 +196,7 @@ simple_read (F.annotated_part {ts = ts} {us = us} {vs = vs} {t = t} {a = a} {v =
     closed_read (annotate_are t a v false (single_said p (front ts (Op Sign.Colon ∷ (us ++ vs)) h)) (sound q (front us vs w)) (behind_said r (back us vs w)))
 simple_read (F.type_alias {x = x} {ts = ts} {us = us} {ps = ps} {e = e} q c p) h =
     let w = rest (rest h) in
-    closed_read (type_alias_are (Trees.Name x Store) ps e (first (rest h)) (types_said c (front ts (Op Sign.Equal ∷ us) w)) (sound p (behind ts us (Op Sign.Equal) w)) (first h))
+    closed_read (type_alias_are (Trees.Name x.form Store) ps e (first (rest h)) (types_said c (front ts (Op Sign.Equal ∷ us) w)) (sound p (behind ts us (Op Sign.Equal) w)))
 simple_read (F.return_of {e = e} p) h = closed_read (word_value Key.Return (option_stars e (perhaps_said p (rest h))))
 simple_read F.raise_alone h = closed_read (raise_are None None tt tt)
 simple_read (F.raise_of {ts = ts} {us = us} {e = e} {c = c} p q) h = closed_read (raise_are (Some e) c (sound p (front ts us (rest h))) (behind_said q (back ts us (rest h))))

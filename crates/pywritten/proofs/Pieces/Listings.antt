@@ -6,7 +6,7 @@ use Rattle.pytoken.specs.declared.keywords.Keyword.TheVariants as Key
 use Rattle.pygrammar.specs.declared.levels.Level.{Level}
 use Rattle.pygrammar.specs.declared.levels.Level.TheVariants.{Value, Stars, StarItem, Elem, Slices, Part}
 use Rattle.pynode.specs.Trees.{Identifier}
-use Rattle.pytoken.specs.Terminals.{Terminal, Op, Word, Ident}
+use Rattle.pytoken.specs.Terminals.{Terminal, Op, Word, in_form}
 use Rattle.pyspacing.specs.Spacing.{Piece, is_token}
 use Rattle.pywritten.specs.Written.{beside, element_level, free, leading, trailing, tight, listed, with_comma, tuple_of, for_in, behind_equal, with_defaults, with_slash, with_star}
 use Rattle.pywritten.specs.Terminals.{terminal}
@@ -91,7 +91,7 @@ tuple_form s Stars false b x = elements_bare b x
 tuple_form s l n b x = plainly s l (elements_grouped b x)
 
 -- arguments by name
-pub named_argument : (x : Identifier) → IsProper x → {xs : List Piece} {ts : List Terminal} → Plain xs ts → Item (free piece (Ident x) ∷ (tight piece Equal ∷ xs)) (free terminal (Ident x) ∷ (tight terminal Equal ∷ ts))
+pub named_argument : (x : Identifier) → IsProper x → {xs : List Piece} {ts : List Terminal} → Plain xs ts → Item (free piece (in_form x) ∷ (tight piece Equal ∷ xs)) (free terminal (in_form x) ∷ (tight terminal Equal ∷ ts))
 unfolding operators
 named_argument x i y = join (widen {d = ends_plain} more_item (λ p e. e) (plain_name x i)) (join equal y refl) refl
 
@@ -129,7 +129,7 @@ pub slice_form : {xs ys zs : List Piece} {ts us vs : List Terminal} → Perhaps 
 slice_form x y z = head x (tail slice_colon (perhaps_both any_both y z) any_both) any_both
 
 -- parameters
-pub parameter_form : (x : Identifier) → IsProper x → {xs : List Piece} {ts : List Terminal} → Perhaps (trailing piece Colon ∷ []) ends_plain xs ts → Closed (a_word ∷ []) ends_plain (free piece (Ident x) ∷ xs) (free terminal (Ident x) ∷ ts)
+pub parameter_form : (x : Identifier) → IsProper x → {xs : List Piece} {ts : List Terminal} → Perhaps (trailing piece Colon ∷ []) ends_plain xs ts → Closed (a_word ∷ []) ends_plain (free piece (in_form x) ∷ xs) (free terminal (in_form x) ∷ ts)
 unfolding operators
 parameter_form x i y = tail (name x i) y refl
 

@@ -28,7 +28,7 @@ use Rattle.pywritten.proofs.Pieces.Fair.{IsConstant}
 
 -- a terminal whose name or constant can be written
 abbrev pub Sayable : Terminal → Type 0
-Sayable (Ident x) = IsProper x
+Sayable (Ident x) = IsProper x.form
 Sayable (Whole n) = n < 2 ^ 128
 Sayable (Literal v) = IsConstant v
 Sayable _ = Unit {0}
@@ -83,7 +83,7 @@ name_sayable : (t : List ℕ) → IsSound kinds.Name t → Sayable (terminal_of 
 unfolding terminal_of fault_of
 name_sayable t s = by (keyword_of t) refl
   where
-    by : (o : Option Keyword) → keyword_of t ≡ o → Sayable (elim o [ Some w ↦ Word w | None ↦ Ident (nfkc t) ])
+    by : (o : Option Keyword) → keyword_of t ≡ o → Sayable (elim o [ Some w ↦ Word w | None ↦ Ident (record { spelling = t; form = nfkc t }) ])
     by (Some w) q = tt
     by None q = names_are_proper t s.of_kind q s.faultless
 

@@ -15,7 +15,7 @@ use Rattle.pygrammar.specs.declared.levels.Level.{Level}
 use Rattle.pygrammar.specs.declared.levels.Level.TheVariants.{Value, Stars, Named, Slices, Part, Slice}
 use Rattle.pynode.specs.Values
 use Rattle.pynode.specs.Trees.{Identifier}
-use Rattle.pytoken.specs.Terminals.{Terminal, Op, Word, Ident, Whole, Literal}
+use Rattle.pytoken.specs.Terminals.{Terminal, Op, Word, in_form, Whole, Literal}
 use Rattle.pygrammar.specs.Operators.{below, chain_level, chain_word}
 use Rattle.pyspacing.specs.Spacing.{Piece}
 use Rattle.pywritten.specs.Levels.{left_level, right_level, operator_sign, unary_level, comparison_signs}
@@ -37,11 +37,11 @@ Item ps ts = Closed starts_item ends_plain ps ts
 pub keyword : (k : Keyword) → Plain (free piece (Word k) ∷ []) (free terminal (Word k) ∷ [])
 keyword k = token starts_plain ends_plain (Word k) false false (fair_word k) refl refl refl refl
 
-pub name : (x : Identifier) → IsProper x → Closed (a_word ∷ []) ends_plain (free piece (Ident x) ∷ []) (free terminal (Ident x) ∷ [])
-name x i = token (a_word ∷ []) ends_plain (Ident x) false false (fair_name x i) refl refl refl refl
+pub name : (x : Identifier) → IsProper x → Closed (a_word ∷ []) ends_plain (free piece (in_form x) ∷ []) (free terminal (in_form x) ∷ [])
+name x i = token (a_word ∷ []) ends_plain (in_form x) false false (fair_name x i) refl refl refl refl
 
-pub plain_name : (x : Identifier) → IsProper x → Plain (free piece (Ident x) ∷ []) (free terminal (Ident x) ∷ [])
-plain_name x i = token starts_plain ends_plain (Ident x) false false (fair_name x i) refl refl refl refl
+pub plain_name : (x : Identifier) → IsProper x → Plain (free piece (in_form x) ∷ []) (free terminal (in_form x) ∷ [])
+plain_name x i = token starts_plain ends_plain (in_form x) false false (fair_name x i) refl refl refl refl
 
 pub constant : (v : Values.Value) → IsConstant v → Plain (free piece (constant_terminal v) ∷ []) (free terminal (constant_terminal v) ∷ [])
 constant (Values.Int n) h = token starts_plain ends_plain (Whole n) false false (fair_constant (Values.Int n) h) refl refl refl refl
@@ -186,6 +186,6 @@ compared_are (o ∷ os) none = nothing
 compared_are (o ∷ os) (more x xs) = some (compared_more o x (compared_are os xs))
 
 -- primaries
-pub attribute_form : (x : Identifier) → IsProper x → {xs : List Piece} {ts : List Terminal} → Plain xs ts → Plain (xs ++ (tight piece Dot ∷ (free piece (Ident x) ∷ []))) (ts ++ (tight terminal Dot ∷ (free terminal (Ident x) ∷ [])))
+pub attribute_form : (x : Identifier) → IsProper x → {xs : List Piece} {ts : List Terminal} → Plain xs ts → Plain (xs ++ (tight piece Dot ∷ (free piece (in_form x) ∷ []))) (ts ++ (tight terminal Dot ∷ (free terminal (in_form x) ∷ [])))
 unfolding operators
 attribute_form x i y = join y (join (sign (tight piece Dot ∷ []) (tight piece Dot ∷ []) Dot true true refl refl refl) (name x i) refl) refl

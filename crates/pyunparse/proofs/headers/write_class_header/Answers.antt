@@ -2,7 +2,7 @@ use Rattle.std.proofs.Common.{◌∷◌, [], ◌∙◌, map}
 use Rattle.std.proofs.lemmas.Result.{IfOk-equal}
 use Rattle.pylexeme.specs.declared.kinds.Exact.TheVariants.{Colon}
 use Rattle.pytoken.specs.declared.keywords.Keyword.TheVariants as Key
-use Rattle.pytoken.specs.Terminals.{Ident}
+use Rattle.pytoken.specs.Terminals.{in_form}
 use Rattle.pynode.specs.Trees.{keywords}
 use Rattle.pynode.specs.TreeOf.{keyword_of, tree_of, type_param_of}
 use Rattle.pygrammar.specs.Lines.{class_head, def_header}
@@ -19,5 +19,5 @@ returns g c =
     let ks = keywords (map keyword_of c.args.words.now) in
     IfOk-equal _ _ _ _ c.put_colon.ensures
     (two g.W.Writer.after c.args.out.now (header_tokens piece (def_header (class_head c.args.name.now ps es ks))) (trailing piece Colon ∷ []) _
-    (c.in_ok-write_bases.ensures ∙ four g.W.Writer.after c.args.out.now (word piece Key.Class ∷ []) (free piece (Ident c.args.name.now) ∷ []) (type_params piece ps) (bases piece es ks) _ _ _
+    (c.in_ok-write_bases.ensures ∙ four g.W.Writer.after c.args.out.now (word piece Key.Class ∷ []) (free piece (in_form c.args.name.now) ∷ []) (type_params piece ps) (bases piece es ks) _ _ _
     c.in_ok-put_word.ensures c.in_ok-put_name.ensures c.in_ok-write_type_params.ensures))
