@@ -97,7 +97,7 @@ module _ (d : ℕ) (inner : Reads) where
 
 -- an atom of one terminal
 abbrev value_of : Terminal → Option Expr
-value_of (Ident x) = Some (Trees.Name x Load)
+value_of (Ident x) = Some (Trees.Name x.form Load)
 value_of (Whole n) = Some (Trees.Constant (Values.Int n))
 value_of (Literal v) = constant_of (joined v [])
 value_of _ = None

@@ -2,10 +2,10 @@
 --
 -- Carries: spells_type, is_type, type_name_at. On: LineReader.
 use Rattle.std.proofs.Common.{◌≡◌, refl, sym, ap, ◌∙◌, arith, inl, inr, ℕ, ◌+◌, ◌<◌, List, codes, Option, Some, None, true, false, length, is_some}
-use Rattle.std.specs.Str.{bytes_eq, encode_utf8_all}
+use Rattle.std.specs.Str.{bytes_eq, chars, encode_utf8_all, IsUtf8}
 use Rattle.std.proofs.lemmas.Bool.{both_ways, cases_Bool, false_from_ne_true}
 use Rattle.std.proofs.lemmas.Slice.Eq.{bytes_eq-Decides}
-use Rattle.std.proofs.lemmas.Str.{encodes_same}
+use Rattle.std.proofs.lemmas.Str.{encodes-chars, encodes_same}
 use Rattle.pynode.specs.declared.profiles.Profile.TheVariants.{Py311, Py312}
 use Rattle.pynode.specs.Trees.{Identifier, Stmt}
 use Rattle.pytoken.specs.Terminals.{Terminal}
@@ -24,7 +24,7 @@ unfolding lib.Utf8.encode
 name_encoded = refl
 
 -- a text is that name by its bytes where it is by its characters
-pub same_type : (x s : List ℕ) → s ≡ encode_utf8_all x → bytes_eq s (codes "type") ≡ bytes_eq x type_name
+same_type : (x s : List ℕ) → s ≡ encode_utf8_all x → bytes_eq s (codes "type") ≡ bytes_eq x type_name
 same_type x s e = elim (cases_Bool (bytes_eq x type_name)) [
   | inl same ↦ (bytes_eq-Decides s (codes "type")).1 (e ∙ ap encode_utf8_all ((bytes_eq-Decides x type_name).0 same) ∙ name_encoded) ∙ sym same
   | inr other ↦
@@ -32,6 +32,9 @@ same_type x s e = elim (cases_Bool (bytes_eq x type_name)) [
       let is : encode_utf8_all x ≡ encode_utf8_all type_name = sym e ∙ (bytes_eq-Decides s (codes "type")).0 same ∙ sym name_encoded in
       both_ways (bytes_eq x type_name) other ((bytes_eq-Decides x type_name).1 (encodes_same x type_name is))) ∙ sym other
 ]
+
+pub spelt_type : (bs : List ℕ) → IsUtf8 bs → bytes_eq bs (codes "type") ≡ bytes_eq (chars bs) type_name
+spelt_type bs u = same_type (chars bs) bs (sym (encodes-chars bs u))
 
 -- no version without types has one
 pub no_types : (ts : List given.Terminal) (at : ℕ) → HasNoTypeName Py311 ts at

@@ -16,7 +16,6 @@ use pynode::Profile;
 use pyvalue::Terminal;
 
 /// Whether a text is `type`.
-#[tactic(auto, using(crate::proofs::TypeNameSteps::same_type))]
 fn spells_type(text: &str) -> bool
     ensures { result ≡ bytes_eq (chars text.now) type_name }
 {
