@@ -22,6 +22,7 @@ mod LinesLemmas
 mod LexemeClasses
 mod Lexed
 mod Lying
+mod Exactness
 mod Ends
 mod Order
 mod Covering

@@ -1,13 +1,14 @@
 -- Laws of lexemes and listings, in words that name no step of a lister (reference 2.1 to 2.6).
-use Rattle.std.specs.Prelude.{◌≡◌, ℕ, ◌+◌, ◌≤◌, ◌<◌, Bool, true, false, List, [], ◌∷◌, ◌++◌, length, take, map, count_by, Some, None, All, AllPairs, IsTrue, ◌||◌}
+use Rattle.std.specs.Prelude.{◌≡◌, ℕ, ◌+◌, ◌≤◌, ◌<◌, Bool, true, false, List, [], ◌∷◌, ◌++◌, length, take, map, count_by, slice_range, Some, None, All, AllPairs, IsTrue, ◌||◌}
 use Rattle.std.specs.List.{flat_map}
-use Rattle.std.specs.Str.{IsCharBoundary}
+use Rattle.std.specs.Str.{chars, encode_utf8_all, IsCharBoundary}
 use Rattle.pylex.specs.declared.kinds.Kind.TheVariants as kinds
 use Rattle.pylex.specs.declared.entries.Entry.{Entry}
 use Rattle.pylex.specs.declared.entries.Step.{Step}
 use Rattle.pylex.specs.declared.entries.Step.TheVariants as steps
 use Rattle.pylexeme.specs.Lexemes.{Lexeme, are_blanks, is_join, class_in, lexeme_at, cut, left_by_cut}
 use Rattle.pylexeme.specs.Chars.{bytes_in}
+use Rattle.pylexeme.specs.Operators.{exact_of}
 use Rattle.pylex.specs.Listing.{Source, listing}
 use Rattle.pylex.specs.Steps.{entries_of, fault_of}
 use Rattle.pylex.specs.Cursors.{is_indent}
@@ -29,6 +30,14 @@ StepLies text (steps.Fault f) = Unit {0}
 abbrev pub AllLie : List ℕ → List Step → Type 0
 AllLie text [] = Unit {0}
 AllLie text (s ∷ ss) = StepLies text s × AllLie text ss
+
+-- the exact type of an operator is that of what stands between its offsets, and no other entry has one
+abbrev pub HasExact : List ℕ → Entry → Type 0
+HasExact text e = e.exact ≡ elim e.kind [ kinds.Op ↦ exact_of (chars (slice_range (encode_utf8_all text) e.«from» e.to)) | _ ↦ None ]
+
+-- so it is with all entries of a source
+abbrev pub HaveExact : Source → Type 0
+HaveExact s = All (HasExact s.text) (entries_of (listing s))
 
 -- a lexeme is a front of the text that is in its class, and no longer front is in any class
 pub record IsLongest (text : List ℕ) (x : Lexeme) : Type 0 where

@@ -3,7 +3,7 @@
 ghost use Rattle.std.specs.Prelude.{◌≡◌, ◌≢◌, ◌↔◌, IsTrue, ◌+◌, ◌-◌, ◌^◌, ◌<◌, ◌≤◌, length, IfOk, IfErr, OnOk, OnErr, Ok, Err};
 ghost use Rattle.std.specs.Str.{chars};
 ghost use Rattle.pylex.specs.Listing.{last_line, listing, in_characters};
-ghost use Rattle.pylex.specs.Laws.{IsLawful, AllLie};
+ghost use Rattle.pylex.specs.Laws.{IsLawful, AllLie, HaveExact};
 ghost use Rattle.pylex.specs.Standing.{IsCursorOf};
 ghost use Rattle.pylex.specs.Listers.{StandsIn, LeadsInto, Moves, AwaitsIndent};
 ghost use Rattle.pylex.specs.Steps.{most_entries};
@@ -53,6 +53,7 @@ impl<'a> Lister<'a> {
         ensures stands { StandsIn result (in_characters source.now) 0 }
         ensures lawful { IsLawful (in_characters source.now) }
         ensures lies { AllLie source.now.text (listing (in_characters source.now)) }
+        ensures exact { HaveExact (in_characters source.now) }
     {
         Lister {
             source,

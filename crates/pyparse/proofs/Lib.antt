@@ -8,5 +8,6 @@ mod PassLemmas
 mod GatherLemmas
 mod LineLemmas
 mod LineGatherLemmas
+mod OperatorLemmas
 mod ProgressLemmas
 mod FinishLemmas

@@ -13,7 +13,7 @@ use Rattle.pytoken.specs.Inner.Behind.{behind}
 use Rattle.pytoken.specs.Terminals
 use Rattle.pylex.specs.declared.entries.Step.{Step}
 use Rattle.pylex.specs.declared.entries.Step.TheVariants as steps
-use Rattle.pylex.specs.Laws.{LiesIn}
+use Rattle.pylex.specs.Laws.{LiesIn, HasExact}
 use Rattle.pylex.specs.Listing.{Source, in_characters, listing}
 use Rattle.pylex.specs.Listers.{Listed, StandsIn, Moves}
 use Rattle.pylex.proofs.Callers.{entry_lies}
@@ -162,6 +162,7 @@ all_lines s k all = ap (front_lines s.text) all
 
 pub record Read (p : Parts) (old new : Listed) (e : Entry) : Type 0 where
   pub lies : LiesIn p.text e
+  pub exact : HasExact (chars p.text) e
   pub count : new.shown.given ≡ old.shown.given + 1
   pub within : old.shown.given < length (entries_of (listing (in_characters p)))
   pub grown : take (old.shown.given + 1) (entries_of (listing (in_characters p))) ≡ take old.shown.given (entries_of (listing (in_characters p))) ++ e ∷ []
@@ -176,6 +177,7 @@ entry_read p old new g step e had moves is =
     let next = at_entry (listing s) k e had.whole m.0 in
     record {
       lies = entry_lies p.text (listing s) k e had.lies m.0;
+      exact = subst (HasExact s.text) next.2 (had.exact k e next.0);
       count = m.1.count;
       within = next.0;
       grown = next.1;
@@ -192,6 +194,7 @@ stands_on p old new e g h had read few gains =
       few = few;
       whole = had.whole;
       lies = had.lies;
+      exact = had.exact;
       counts =
           subst (λ (front : List Entry). Counts (chars p.text) front h) (sym (ap (λ (n : ℕ). take n es) read.count ∙ read.grown))
           (counts (chars p.text) (take old.shown.given es) e g h had.counts gains);
@@ -208,6 +211,7 @@ cleared p l g h had is =
       few = had.few;
       whole = had.whole;
       lies = had.lies;
+      exact = had.exact;
       counts =
           record {
             pass = counts.pass;

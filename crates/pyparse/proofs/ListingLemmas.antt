@@ -1,6 +1,7 @@
 -- Carries: tokens_of. On: a listing step by step, its entries and then its one end.
 use Rattle.std.proofs.Common.{◌≡◌, ℕ, zero, suc, ◌+◌, ◌<◌, ◌≤◌, List, [], ◌∷◌, ◌++◌, length, take, map, refl, sym, subst, ap, ◌∙◌, arith, Some}
 use Rattle.std.proofs.Common.{slice_get, take_all}
+use Rattle.std.specs.Prelude.{slice_index_or}
 use Rattle.std.specs.Str.{IsCharBoundary}
 use Rattle.pylex.specs.declared.entries.Entry.{Entry}
 use Rattle.pylex.specs.declared.entries.Step.{Step}
@@ -11,17 +12,18 @@ use Rattle.pylex.specs.Listers.{Listed, StandsIn, Moves}
 use Rattle.pylex.specs.Laws.{IsStop, AreWhole, AllLie}
 
 walk_entry : (es : List Entry) (last : Step) → IsStop last → (k : ℕ) (e : Entry) →
-    slice_get (map steps.Entry es ++ last ∷ []) k ≡ Some (steps.Entry e) → (k < length es) × (take (suc k) es ≡ take k es ++ e ∷ [])
+    slice_get (map steps.Entry es ++ last ∷ []) k ≡ Some (steps.Entry e) →
+    (k < length es) × (take (suc k) es ≡ take k es ++ e ∷ []) × (slice_index_or es k e ≡ e)
 walk_entry [] last stops zero e h =
     let is : last ≡ steps.Entry e = cc in
     absurd (subst IsStop is stops)
 walk_entry [] last stops (suc k) e h = absurd (cc)
 walk_entry (x ∷ es) last stops zero e h =
     let is : x ≡ e = cc in
-    (omega arith, ap (λ (y : Entry). y ∷ []) is)
+    (omega arith, ap (λ (y : Entry). y ∷ []) is, is)
 walk_entry (x ∷ es) last stops (suc k) e h =
     let rest = walk_entry es last stops k e h in
-    (omega (arith, rest.0), ap (λ (t : List Entry). x ∷ t) rest.1)
+    (omega (arith, rest.0), ap (λ (t : List Entry). x ∷ t) rest.1, rest.2)
 
 walk_stop : (es : List Entry) (last : Step) (k : ℕ) (s : Step) → k ≤ length es → IsStop s → slice_get (map steps.Entry es ++ last ∷ []) k ≡ Some s →
     (k ≡ length es) × (last ≡ s)
@@ -40,11 +42,11 @@ fault_last (x ∷ es) last = fault_last es last
 
 -- the next entry
 pub at_entry : (ss : List Step) (k : ℕ) (e : Entry) → AreWhole ss → slice_get ss k ≡ Some (steps.Entry e) →
-    (k < length (entries_of ss)) × (take (k + 1) (entries_of ss) ≡ take k (entries_of ss) ++ e ∷ [])
+    (k < length (entries_of ss)) × (take (k + 1) (entries_of ss) ≡ take k (entries_of ss) ++ e ∷ []) × (slice_index_or (entries_of ss) k e ≡ e)
 at_entry ss k e whole h =
     let next = walk_entry (entries_of ss) whole.last whole.stops k e (ap (λ (t : List Step). slice_get t k) (sym whole.whole) ∙ h) in
     let one : k + 1 ≡ suc k = omega arith in
-    (next.0, ap (λ (n : ℕ). take n (entries_of ss)) one ∙ next.1)
+    (next.0, ap (λ (n : ℕ). take n (entries_of ss)) one ∙ next.1, next.2)
 
 -- the end, or the fault
 pub at_stop : (ss : List Step) (k : ℕ) (s : Step) → AreWhole ss → k ≤ length (entries_of ss) → IsStop s → slice_get ss k ≡ Some s →

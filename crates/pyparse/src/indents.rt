@@ -10,6 +10,7 @@ ghost use Rattle.pytoken.specs.Indentation.{behind_offset, are_alike, margin_at}
 ghost use Rattle.pyparse.specs.Inner.Indenting.{is_logical_at, start_at, are_rising};
 ghost use Rattle.pyparse.specs.Inner.Indenting.{AreSpaces, begins_blank, Drops, Measures};
 
+use crate::room::put;
 use pylex::{Widths, begins_thing, widths};
 use pysource::{Place, Source, place_of};
 use pytoken::Refusal;
@@ -157,7 +158,7 @@ impl Indents {
             self.mixed = Some(Refusal::MixedTabs(start_of(source, offset)));
             return Ok(());
         }
-        self.standing.push(widths)?;
+        put(&mut self.standing, widths)?;
         Ok(())
     }
 

@@ -20,6 +20,7 @@ mod logical_lines;
 mod modules;
 mod pass;
 mod progress;
+mod room;
 mod tokens;
 
 pub use expressions::parse_expression;

@@ -3,7 +3,7 @@
 
 ghost use Rattle.std.specs.Prelude.{◌≡◌, ◌^◌, ◌<◌, ◌-◌, ◌++◌, ◌&&◌, [], ◌∷◌, map, IfOk, OnOk, None, true, false};
 ghost use Rattle.std.specs.Str.{chars, IsCharBoundary};
-ghost use Rattle.pylex.specs.Laws.{LiesIn};
+ghost use Rattle.pylex.specs.Laws.{LiesIn, HasExact};
 ghost use Rattle.pytoken.specs.Refusals.{entry_refusal};
 ghost use Rattle.pyvalue.specs.Terminals.{terminal};
 ghost use Rattle.pyparse.specs.Inner.Passing.{counted, kept_refusal, Passed};
@@ -23,6 +23,7 @@ ghost use Rattle.pyparse.specs.Inner.LineGathering.{
 
 use crate::gather::text_of;
 use crate::pass::Pass;
+use crate::room::put;
 use pylex::{Entry, Kind};
 use pysource::{Place, Source};
 use pytoken::Refusal;
@@ -126,8 +127,7 @@ impl<'a> LineGather<'a> {
             self.first = text;
         }
         self.last = text;
-        self.terminals.push(terminal)?;
-        Ok(())
+        put(&mut self.terminals, terminal)
     }
 
     /// Takes what an entry adds to the line, or tells the fault that the entry has by itself.
@@ -138,12 +138,18 @@ impl<'a> LineGather<'a> {
         source: &'a Source,
         entry: &Entry,
     ) -> Result<Option<Refusal>, AllocError>
-        requires { LiesIn source.now.text entry.now }
+        requires lies { LiesIn source.now.text entry.now }
+        requires exact { HasExact (chars source.now.text) entry.now }
         ensures fault { IfOk result (λ fault. fault ≡ entry_refusal (chars source.now.text) entry.now) }
         ensures line { OnOk result (entry_refusal (chars source.now.text) entry.now ≡ None → Adds (chars source.now.text) entry.now self.old self.new) }
         ensures rest { self.new ≡ record self.old { terminals = self.new.terminals; start = self.new.start; first = self.new.first; last = self.new.last } }
     {
         let text = text_of(source, entry);
+        // An operator is known by the entry, and has no fault.
+        if let Some(exact) = entry.exact {
+            self.keep(entry.start, text, Terminal::Op(exact))?;
+            return Ok(None);
+        }
         match terminal_of(alloc, entry.kind, text) {
             Err(TerminalFault::Memory) => Err(AllocError),
             Err(TerminalFault::Token(error)) => Ok(Some(Refusal::Token(error, entry.start))),
@@ -197,6 +203,7 @@ impl<'a> LineGather<'a> {
         entry: &Entry,
     ) -> Result<bool, AllocError>
         requires lies { LiesIn source.now.text entry.now }
+        requires exact { HasExact (chars source.now.text) entry.now }
         requires opened { self.old.pass.opened < 2 ^ 63 }
         requires closed { self.old.pass.closed < 2 ^ 63 }
         requires indents { self.old.indents < 2 ^ 63 }
@@ -221,6 +228,7 @@ impl<'a> LineGather<'a> {
         entry: &Entry,
     ) -> Result<bool, AllocError>
         requires lies { LiesIn source.now.text entry.now }
+        requires exact { HasExact (chars source.now.text) entry.now }
         requires opened { self.old.pass.opened < 2 ^ 63 }
         requires closed { self.old.pass.closed < 2 ^ 63 }
         requires indents { self.old.indents < 2 ^ 63 }

@@ -8,7 +8,7 @@ use Rattle.pylex.specs.declared.kinds.Kind.TheVariants as kinds
 use Rattle.pylex.specs.declared.entries.Entry.{Entry}
 use Rattle.pylex.specs.Listing.{in_characters, listing}
 use Rattle.pylex.specs.Listers.{Listed, StandsIn}
-use Rattle.pylex.specs.Laws.{IsWhole, AllLie}
+use Rattle.pylex.specs.Laws.{IsWhole, AllLie, HaveExact}
 use Rattle.pylex.specs.Steps.{most_entries, entries_of}
 use Rattle.pytoken.specs.Inner.Behind.{behind}
 use Rattle.pytoken.specs.Terminals
@@ -132,6 +132,7 @@ pub record StandsAt (p : Parts) (l : Listed) (g : LineGather) : Type 0 where
   pub few : l.shown.given ≤ most_entries
   pub whole : IsWhole (in_characters p)
   pub lies : AllLie p.text (listing (in_characters p))
+  pub exact : HaveExact (in_characters p)
   pub counts : Counts (chars p.text) (take l.shown.given (entries_of (listing (in_characters p)))) g
 
 -- and no line is open there that has a token

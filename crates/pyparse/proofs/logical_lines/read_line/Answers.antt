@@ -20,6 +20,11 @@ take-requires-clause-lies c =
     (entry_read c.args.source.now c.loop-entry.lister c.next.new.self c.loop-entry.gather c.in_ok-entry.field-0 c.in-Entry.entry
     c.loop-entry.invariant.at c.in_ok-entry.ensures.moves c.in-Entry.is).lies
 
+pub take-requires-clause-exact : goal.take-requires-clause-exact
+take-requires-clause-exact c =
+    (entry_read c.args.source.now c.loop-entry.lister c.next.new.self c.loop-entry.gather c.in_ok-entry.field-0 c.in-Entry.entry
+    c.loop-entry.invariant.at c.in_ok-entry.ensures.moves c.in-Entry.is).exact
+
 pub returns-then-is_none-clause-line : goal.returns-then-is_none-clause-line
 returns-then-is_none-clause-line c =
     let at = c.loop-entry.invariant.at in

@@ -4,6 +4,7 @@ use Rattle.pylex.specs.Listing.{in_characters}
 use Rattle.pylex.proofs.Blocks.{closes_blocks}
 use Rattle.pylex.proofs.Covering.{is_covered}
 use Rattle.pylex.proofs.Ends.{is_whole}
+use Rattle.pylex.proofs.Exactness.{have_exact}
 use Rattle.pylex.proofs.Lexed.{is_cut, longest_wins}
 use Rattle.pylex.proofs.Lying.{entries_lie}
 use Rattle.pylex.proofs.Moving.{keeps_first, shown_first}
@@ -34,3 +35,6 @@ returns-clause-lawful c =
 
 pub returns-clause-lies : goal.returns-clause-lies
 returns-clause-lies c = entries_lie c.args.source.now (subst IsUtf8 c.text.ensures.value c.text.utf8)
+
+pub returns-clause-exact : goal.returns-clause-exact
+returns-clause-exact c = have_exact c.args.source.now (subst IsUtf8 c.text.ensures.value c.text.utf8)

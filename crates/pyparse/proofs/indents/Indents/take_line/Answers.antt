@@ -15,5 +15,5 @@ returns-then-drop_wider c =
 pub returns : goal.returns
 returns c =
     takes_line (chars c.args.source.now.text) c.args.offset c.args.widths c.drop_wider.new.standing.items c.args.self.now
-    (record { standing = c.push.new.self; mixed = c.args.self.now.mixed })
-    c.requires.logical c.requires.widths c.requires.free c.if-drop_wider.ensures c.in_ok-push.ensures.items c.requires.free
+    (record { standing = c.put.new.items; mixed = c.args.self.now.mixed })
+    c.requires.logical c.requires.widths c.requires.free c.if-drop_wider.ensures c.in_ok-put.ensures c.requires.free
