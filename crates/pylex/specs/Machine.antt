@@ -1,6 +1,7 @@
 -- The listing as a lister makes it: by a state, which one lexeme after another changes.
 use Rattle.std.specs.Prelude.{ℕ, ◌+◌, ◌-◌, nat_lt, Bool, true, false, not, ◌&&◌, ◌||◌, ◌==◌, List, [], ◌∷◌, ◌++◌, length, filter, replicate, count_by, if◌then◌else◌, Option, Some, None}
 use Rattle.std.specs.List.{list_all, list_any}
+use Rattle.pylexeme.specs.declared.lexeme.Class.{Class}
 use Rattle.pylexeme.specs.declared.lexeme.Class.TheVariants.{Name, Number, String, Operator, Comment, Blanks, LineEnd, Join}
 use Rattle.pylexeme.specs.declared.kinds.Exact.{Exact}
 use Rattle.pysource.specs.declared.places.Place.{Place}

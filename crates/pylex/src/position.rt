@@ -120,6 +120,12 @@ fn find<'a>(start: Progress, levels: &[usize], text: &'a str) -> (Meets, Progres
         if let Some(meets) = line_start(&mut now, levels, rest) {
             return (meets, now, rest);
         }
+        if !now.margin {
+            let mut ahead = now;
+            if let Some((entry, left)) = next_entry(&mut ahead, rest) {
+                return (Meets::Entry(entry), ahead, left);
+            }
+        }
         let Some((class, front, back)) = cut(rest) else {
             return (Meets::Stop, now, rest);
         };

@@ -194,6 +194,32 @@ fn walk(place: Place, front: Front, text: &str) -> (Place, Front)
     (further, front.after_plain(text))
 }
 
+/// The place after a lexeme that begins at a place, and what its line begins with.
+#[inline(always)]
+fn walk_lexeme(place: Place, front: Front, class: Class, text: &str) -> (Place, Front)
+    requires row { place.row + length text.now < 2 ^ 63 }
+    requires column { place.column + length text.now < 2 ^ 63 }
+    requires told { Tells class text.now }
+    ensures place { result.0 ≡ advance place (chars text.now) }
+    ensures front { result.1 ≡ front_after front (chars text.now) }
+{
+    match class {
+        Class::Blanks => {
+            let column = place.column + text.len();
+            let row = place.row;
+            (Place { row, column }, front)
+        }
+        Class::LineEnd => {
+            let next = Place {
+                row: place.row + 1,
+                column: 0,
+            };
+            (next, Front::Nothing)
+        }
+        _ => walk(place, front, text),
+    }
+}
+
 /// What a line begins with.
 pub(crate) fn front_of(line: &str) -> Front
     requires { length line.now < 2 ^ 62 }
@@ -456,11 +482,12 @@ impl Progress {
         requires counted { bytes_in (chars text.now) ≡ length text.now }
         requires some { 0 < length text.now }
         requires settled { (self.margin && is_thing_class class) ≡ false }
+        requires told { Tells class text.now }
         ensures after { (levels : List ℕ) → with_levels result levels ≡ after (with_levels self levels) (record { «class» = class; text = chars text.now }) }
         ensures now { result.now ≡ past self.now (chars text.now) }
         ensures room { (n : ℕ) → HasRoom self (length text.now + n) → HasRoom result n }
     {
-        let (place, front) = walk(self.now.place, self.front, text);
+        let (place, front) = walk_lexeme(self.now.place, self.front, class, text);
         let now = Point {
             place,
             offset: self.now.offset + text.len(),
