@@ -72,11 +72,11 @@ pub place_offset : (p : Point) (t : List ℕ) (q : Place) (m : ℕ) → q ≡ ad
 place_offset p t q m e f = rw (e, ← f) refl
 
 -- one character at most for each byte
-pub more_room : (p : Progress) (x : Lexeme) (q : Progress) (m n : ℕ) → IsAfter p x q → q.now.offset ≡ p.now.offset + m → length x.text ≤ m → q.width ≤ p.width + 8 * m → 0 < m → HasRoom p (m + n) → HasRoom q n
-more_room p x q m n h offset chars width some room =
+pub room_on : (p : Progress) (x : Lexeme) (q : Progress) (m n : ℕ) → q.now ≡ past p.now x.text → q.depth ≡ p.depth + count_if (opens x) - count_if (closes x) → q.now.offset ≡ p.now.offset + m → length x.text ≤ m → q.width ≤ p.width + 8 * m → 0 < m → HasRoom p (m + n) → HasRoom q n
+room_on p x q m n now depth offset chars width some room =
     let row = advance_row p.now.place x.text in
     let column = advance_column p.now.place x.text in
-    let at : q.now.place ≡ advance p.now.place x.text = ap (λ (r : Point). r.place) h.now in
+    let at : q.now.place ≡ advance p.now.place x.text = ap (λ (r : Point). r.place) now in
     let row_is : q.now.place.row ≡ (advance p.now.place x.text).row = ap (λ (r : Place). r.row) at in
     let column_is : q.now.place.column ≡ (advance p.now.place x.text).column = ap (λ (r : Place). r.column) at in
     let one = count_one (opens x) in
@@ -84,10 +84,13 @@ more_room p x q m n h offset chars width some room =
       row = omega (arith, row, row_is, chars, room.row);
       column = omega (arith, column, column_is, chars, room.column);
       offset = omega (arith, offset, room.offset);
-      depth = omega (arith, h.depth, one, some, room.depth);
+      depth = omega (arith, depth, one, some, room.depth);
       width = omega (arith, width, room.width);
     }
   where
     count_one : (b : Bool) → count_if b ≤ 1
     count_one true = omega arith
     count_one false = omega arith
+
+pub more_room : (p : Progress) (x : Lexeme) (q : Progress) (m n : ℕ) → IsAfter p x q → q.now.offset ≡ p.now.offset + m → length x.text ≤ m → q.width ≤ p.width + 8 * m → 0 < m → HasRoom p (m + n) → HasRoom q n
+more_room p x q m n h = room_on p x q m n h.now h.depth

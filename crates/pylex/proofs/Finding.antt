@@ -244,6 +244,9 @@ cut_bytes bytes front back k u c =
 pub behind_cut : (text bytes front back : List ℕ) (k : Class) → IsUtf8 bytes → Cuts bytes k front back → Behind text bytes → Behind text back
 behind_cut text bytes front back k u c b = (b.0 ++ front, b.1 ∙ ap (λ t. b.0 ++ t) (cut_bytes bytes front back k u c) ∙ sym (append_assoc b.0 front back))
 
+pub behind_on : (text bytes back : List ℕ) → Behind text bytes → Behind bytes back → Behind text back
+behind_on text bytes back b c = (b.0 ++ c.0, b.1 ∙ ap (λ t. b.0 ++ t) c.1 ∙ sym (append_assoc b.0 c.0 back))
+
 -- a lexeme that gives nothing ends no line
 not_line_end : (s : State) (k : Class) (u : List ℕ) → entry_by s (record { «class» = k; text = u }) ≡ [] → is_line_end_class k ≡ false
 unfolding entry_by

@@ -20,27 +20,28 @@ use Rattle.pylex.proofs.Front.{last_push}
 use Rattle.pylex.proofs.Lexed.{lexeme_class}
 
 -- a class, by what the tests of those without a name of their own say
-abbrev Said : Class → Bool → Bool → Bool → Bool → Type 0
-Said Comment c b l j = c ≡ true
-Said Blanks c b l j = b ≡ true
-Said LineEnd c b l j = l ≡ true
-Said Join c b l j = j ≡ true
-Said _ c b l j = Unit {0}
+abbrev Said : Class → Bool → Bool → Bool → Bool → Bool → Type 0
+Said Comment o c b l j = c ≡ true
+Said Blanks o c b l j = b ≡ true
+Said LineEnd o c b l j = l ≡ true
+Said Join o c b l j = j ≡ true
+Said (Operator x) o c b l j = o ≡ true
+Said _ o c b l j = Unit {0}
 
-said : (n u o c b l j : Bool) (e : Option Exact) (k : Class) → cond n (Some Name) (cond u (Some Number) (cond o (option_map Operator e) (cond c (Some Comment) (cond b (Some Blanks) (cond l (Some LineEnd) (cond j (Some Join) None)))))) ≡ Some k → Said k c b l j
-said true u o c b l j e k h = let f : Name ≡ k = cc in subst (λ (m : Class). Said m c b l j) f tt
-said false true o c b l j e k h = let f : Number ≡ k = cc in subst (λ (m : Class). Said m c b l j) f tt
-said false false true c b l j (Some e) k h = let f : Operator e ≡ k = cc in subst (λ (m : Class). Said m c b l j) f tt
+said : (n u o c b l j : Bool) (e : Option Exact) (k : Class) → cond n (Some Name) (cond u (Some Number) (cond o (option_map Operator e) (cond c (Some Comment) (cond b (Some Blanks) (cond l (Some LineEnd) (cond j (Some Join) None)))))) ≡ Some k → Said k o c b l j
+said true u o c b l j e k h = let f : Name ≡ k = cc in subst (λ (m : Class). Said m o c b l j) f tt
+said false true o c b l j e k h = let f : Number ≡ k = cc in subst (λ (m : Class). Said m o c b l j) f tt
+said false false true c b l j (Some e) k h = let f : Operator e ≡ k = cc in subst (λ (m : Class). Said m true c b l j) f refl
 said false false true c b l j None k h = absurd cc
-said false false false true b l j e k h = let f : Comment ≡ k = cc in subst (λ (m : Class). Said m true b l j) f refl
-said false false false false true l j e k h = let f : Blanks ≡ k = cc in subst (λ (m : Class). Said m false true l j) f refl
-said false false false false false true j e k h = let f : LineEnd ≡ k = cc in subst (λ (m : Class). Said m false false true j) f refl
-said false false false false false false true e k h = let f : Join ≡ k = cc in subst (λ (m : Class). Said m false false false true) f refl
+said false false false true b l j e k h = let f : Comment ≡ k = cc in subst (λ (m : Class). Said m false true b l j) f refl
+said false false false false true l j e k h = let f : Blanks ≡ k = cc in subst (λ (m : Class). Said m false false true l j) f refl
+said false false false false false true j e k h = let f : LineEnd ≡ k = cc in subst (λ (m : Class). Said m false false false true j) f refl
+said false false false false false false true e k h = let f : Join ≡ k = cc in subst (λ (m : Class). Said m false false false false true) f refl
 said false false false false false false false e k h = absurd cc
 
 -- what a class says of a text
 abbrev pub Says : Class → List ℕ → Type 0
-Says k t = Said k (is_comment t) (are_blanks t) (is_line_end t) (is_join t)
+Says k t = Said k (is_operator t) (is_comment t) (are_blanks t) (is_line_end t) (is_join t)
 
 plain_says : (t : List ℕ) (k : Class) → plain_class t ≡ Some k → Says k t
 unfolding plain_class

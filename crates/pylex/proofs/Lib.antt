@@ -56,6 +56,7 @@ mod Stepping
 mod Steppings
 mod Beginning
 mod Plain
+mod Told
 mod Behind
 mod Adding
 mod LexedOn

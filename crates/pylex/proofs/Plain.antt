@@ -17,7 +17,7 @@ abbrev pub AllInLine : List ℕ → Type 0
 AllInLine [] = Unit {0}
 AllInLine (c ∷ cs) = ((c == 10) ≡ false) × AllInLine cs
 
-plain_ascii : (bs : List ℕ) → IsPlain bs → IsAscii bs
+pub plain_ascii : (bs : List ℕ) → IsPlain bs → IsAscii bs
 plain_ascii bs p i = ⊎_elim (λ (h : i < length bs). (p i h).0) (λ (h : length bs ≤ i). past_end bs i h) (cases_lt i (length bs))
   where
     past_end : (cs : List ℕ) (k : ℕ) → length cs ≤ k → get_or cs k 0 < 128
@@ -38,7 +38,7 @@ in_line (b ∷ bs) p = (no_feed b (p 0 (omega arith)).1, in_line bs (λ k h. p (
 pub plain_in_line : (bs : List ℕ) → IsPlain bs → AllInLine (chars bs)
 plain_in_line bs p = subst AllInLine (sym (plain_chars bs p)) (in_line bs p)
 
-advance_in_line : (p : Place) (cs : List ℕ) → AllInLine cs → advance p cs ≡ record { row = p.row; column = p.column + length cs }
+pub advance_in_line : (p : Place) (cs : List ℕ) → AllInLine cs → advance p cs ≡ record { row = p.row; column = p.column + length cs }
 advance_in_line p [] a = let sum : p.column ≡ p.column + 0 = omega arith in ap (λ (n : ℕ). record { row = p.row; column = n }) sum
 advance_in_line p (c ∷ cs) a =
     let e = a.0 in

@@ -16,6 +16,7 @@ pub mod Chunked
 pub mod Streamed
 pub mod Ranges
 pub mod Plain
+pub mod Told
 pub mod Margins
 pub use Rattle.pylexeme.specs.Chars
 pub use Rattle.pylexeme.specs.Strings

@@ -77,6 +77,17 @@ impl Shown {
         }
     }
 
+    /// Stands directly behind an entry.
+    #[inline(always)]
+    pub(crate) fn stand(&mut self, now: Progress)
+        ensures { (k : ℕ) (levels : List ℕ) → shown_by k self.new levels 0 ≡ shown_at k (with_levels now (0 ∷ levels)) }
+    {
+        self.offset = now.now.offset;
+        self.row = now.now.place.row;
+        self.depth = now.depth;
+        self.begun = now.logical;
+    }
+
     #[tactic(auto, unfolding(crate::specs::Standing::resumed))]
     /// How far a lister has come there; the point's line so far is this.
     pub(crate) fn progress(self, line: &str) -> Progress

@@ -14,7 +14,7 @@ use crate::cursors::{Cursor, Shown};
 use crate::entries::{Entry, ListingError, ListingFault, Step};
 use crate::kinds::Kind;
 use crate::state::{Given, Progress, entry_of, mark};
-use pylexeme::lexeme::{begins_thing, cut};
+use pylexeme::lexeme::{Class, begins_thing, cut};
 use pylexeme::string::{is_open_string, opens_string};
 use pysource::{LineFault, Place};
 use std::alloc::{AllocError, Global};
@@ -120,6 +120,12 @@ fn find<'a>(start: Progress, levels: &[usize], text: &'a str) -> (Meets, Progres
         if let Some(meets) = line_start(&mut now, levels, rest) {
             return (meets, now, rest);
         }
+        if !now.margin {
+            let mut ahead = now;
+            if let Some((entry, left)) = next_entry(&mut ahead, rest) {
+                return (Meets::Entry(entry), ahead, left);
+            }
+        }
         let Some((class, front, back)) = cut(rest) else {
             return (Meets::Stop, now, rest);
         };
@@ -135,25 +141,28 @@ fn find<'a>(start: Progress, levels: &[usize], text: &'a str) -> (Meets, Progres
     }
 }
 
-/// The entry of the next lexeme that gives one, behind a line's margin: with how far it is looked behind it, and what is
-/// left there.
+/// Goes on to the next lexeme that gives an entry, behind a line's margin: its entry, and what is left behind it.
 #[inline(always)]
-fn next_entry<'a>(start: Progress, text: &'a str) -> Option<(Entry, Progress, &'a str)>
-    requires stands { Stands start text.now }
-    requires behind { start.margin ≡ false }
-    ensures { IfSome result (λ r. Reaches start text.now r.0 r.1 r.2.now) }
+fn next_entry<'a>(now: &mut Progress, text: &'a str) -> Option<(Entry, &'a str)>
+    requires stands { Stands now.old text.now }
+    requires behind { now.old.margin ≡ false }
+    ensures { IfSome result (λ r. Reaches now.old text.now r.0 now.new r.1.now) }
 {
-    let mut now = start;
     let mut rest = text;
     loop {
         let (class, front, back) = cut(rest)?;
-        let ahead = now.after_in_line(class, front);
-        match now.give(class, front, ahead.now) {
-            Given::Fault(_) => return None,
-            Given::Entry(entry) => return Some((entry, ahead, back)),
-            Given::Nothing => {
-                now = ahead;
+        match class {
+            Class::Blanks => {
+                now.pass_blanks(front);
                 rest = back;
+            }
+            Class::Join => {
+                now.pass_join(front);
+                rest = back;
+            }
+            _ => {
+                let entry = now.pass(class, front)?;
+                return Some((entry, back));
             }
         }
     }
@@ -401,10 +410,11 @@ impl Position {
         if self.tail > 0 || self.now.margin || self.nested < self.levels.len() {
             return None;
         }
-        let (entry, now, left) = next_entry(self.now, text)?;
+        let mut now = self.now;
+        let (entry, left) = next_entry(&mut now, text)?;
         self.given += 1;
-        self.point = Shown::at(now);
-        self.now = now.begun_anew();
+        self.point.stand(now);
+        self.now.begin_anew(now);
         Some((entry, left))
     }
 

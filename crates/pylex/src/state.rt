@@ -1,14 +1,16 @@
 //! How far a lister has come in a text.
 
-ghost use Rattle.std.specs.Prelude.{◌≡◌, ◌↔◌, IsTrue, ℕ, ◌+◌, ◌*◌, ◌^◌, ◌<◌, ◌≤◌, ◌&&◌, ◌||◌, not, ◌==◌, if◌then◌else◌, List, [], ◌∷◌, length, false, Ok, ◌-◌};
+ghost use Rattle.std.specs.Prelude.{◌≡◌, ◌↔◌, IsTrue, ℕ, ◌+◌, ◌*◌, ◌^◌, ◌<◌, ◌≤◌, ◌&&◌, ◌||◌, not, ◌==◌, if◌then◌else◌, List, [], ◌∷◌, length, false, true, Ok, ◌-◌, IfSome};
 ghost use Rattle.std.specs.Str.{chars};
 ghost use Rattle.pylex.specs.Lines.{column_after, width_from};
 ghost use Rattle.pylexeme.specs.Lexemes.{is_thing_class, is_blanks_class, is_line_end_class, is_join_class, is_opener_class, is_closer_class};
 ghost use Rattle.pylexeme.specs.Chars.{bytes_in};
-ghost use Rattle.pylex.specs.Machine.{advance, front_after_char, front_after, past, behind, after, entry_by, step_of, mark_at, is_hash, still, count_if, pushed, first_state, last_line_end, last_place};
+ghost use Rattle.pylexeme.specs.Operators.{is_closer};
+ghost use Rattle.pylex.specs.Machine.{advance, front_after_char, front_after, past, behind, after, entry_by, step_of, mark_at, is_hash, still, count_if, pushed, first_state, last_line_end, last_place, line_end_kind_of};
 ghost use Rattle.pylex.specs.Listing.{row_after};
 ghost use Rattle.pylex.specs.Plain.{AreSpaces, IsPlain};
 ghost use Rattle.pylex.specs.Progress.{with_levels, measured, begun_anew, given, HasRoom};
+ghost use Rattle.pylex.specs.Told.{Tells, Passed, GivesEntry, is_text, text_kind, begun_by};
 
 use crate::entries::{Entry, ListingError, ListingFault, Step};
 use crate::kinds::{Exact, Kind};
@@ -86,6 +88,18 @@ impl Front {
         ensures { IsTrue result ↔ (self ≡ Front.Nothing) }
     {
         matches!(self, Front::Nothing)
+    }
+
+    /// What the line begins with after a character that is neither a blank nor `#`.
+    #[inline(always)]
+    fn begun(self) -> Front
+        ensures { result ≡ begun_by self }
+    {
+        match self {
+            Front::Nothing => Front::Other,
+            Front::Hash => Front::Hash,
+            Front::Other => Front::Other,
+        }
     }
 
     fn is_hash(self) -> bool
@@ -180,6 +194,32 @@ fn walk(place: Place, front: Front, text: &str) -> (Place, Front)
     (further, front.after_plain(text))
 }
 
+/// The place after a lexeme that begins at a place, and what its line begins with.
+#[inline(always)]
+fn walk_lexeme(place: Place, front: Front, class: Class, text: &str) -> (Place, Front)
+    requires row { place.row + length text.now < 2 ^ 63 }
+    requires column { place.column + length text.now < 2 ^ 63 }
+    requires told { Tells class text.now }
+    ensures place { result.0 ≡ advance place (chars text.now) }
+    ensures front { result.1 ≡ front_after front (chars text.now) }
+{
+    match class {
+        Class::Blanks => {
+            let column = place.column + text.len();
+            let row = place.row;
+            (Place { row, column }, front)
+        }
+        Class::LineEnd => {
+            let next = Place {
+                row: place.row + 1,
+                column: 0,
+            };
+            (next, Front::Nothing)
+        }
+        _ => walk(place, front, text),
+    }
+}
+
 /// What a line begins with.
 pub(crate) fn front_of(line: &str) -> Front
     requires { length line.now < 2 ^ 62 }
@@ -235,6 +275,19 @@ impl Point {
             },
             offset: self.offset + text.len(),
         }
+    }
+}
+
+/// The type of the entry of a lexeme that is given as it stands, operators aside.
+#[inline(always)]
+fn text_kind(class: Class) -> Kind
+    ensures { result ≡ text_kind class }
+{
+    match class {
+        Class::Name => Kind::Name,
+        Class::Number => Kind::Number,
+        Class::String => Kind::String,
+        _ => Kind::Comment,
     }
 }
 
@@ -329,6 +382,18 @@ impl Progress {
         self.depth
     }
 
+    /// The type of the entry of a line end.
+    #[inline(always)]
+    fn line_end_kind(self) -> Kind
+        ensures { (levels : List ℕ) → line_end_kind_of (with_levels self levels) ≡ result }
+    {
+        if self.logical && self.depth == 0 {
+            Kind::Newline
+        } else {
+            Kind::Nl
+        }
+    }
+
     #[tactic(auto, unfolding(crate::specs::Machine::entry_by))]
     /// What a lexeme gives that ends at a point: an entry, nothing, or the fault of a closing bracket where none is open.
     #[inline(always)]
@@ -417,11 +482,12 @@ impl Progress {
         requires counted { bytes_in (chars text.now) ≡ length text.now }
         requires some { 0 < length text.now }
         requires settled { (self.margin && is_thing_class class) ≡ false }
+        requires told { Tells class text.now }
         ensures after { (levels : List ℕ) → with_levels result levels ≡ after (with_levels self levels) (record { «class» = class; text = chars text.now }) }
         ensures now { result.now ≡ past self.now (chars text.now) }
         ensures room { (n : ℕ) → HasRoom self (length text.now + n) → HasRoom result n }
     {
-        let (place, front) = walk(self.now.place, self.front, text);
+        let (place, front) = walk_lexeme(self.now.place, self.front, class, text);
         let now = Point {
             place,
             offset: self.now.offset + text.len(),
@@ -438,32 +504,165 @@ impl Progress {
         }
     }
 
-    /// How far the lister has come after a lexeme behind a line's margin.
+    /// Goes past blanks behind a line's margin.
     #[inline(always)]
-    pub(crate) fn after_in_line(self, class: Class, text: &str) -> Progress
-        requires room { HasRoom self (length text.now) }
+    pub(crate) fn pass_blanks(&mut self, text: &str)
+        requires room { HasRoom self.old (length text.now) }
         requires counted { bytes_in (chars text.now) ≡ length text.now }
-        requires some { 0 < length text.now }
-        requires behind { self.margin ≡ false }
-        ensures after { (levels : List ℕ) → with_levels result levels ≡ after (with_levels self levels) (record { «class» = class; text = chars text.now }) }
-        ensures now { result.now ≡ past self.now (chars text.now) }
-        ensures room { (n : ℕ) → HasRoom self (length text.now + n) → HasRoom result n }
+        requires behind { self.old.margin ≡ false }
+        requires told { Tells Class.Blanks text.now }
+        ensures { Passed self.old Class.Blanks (chars text.now) self.new }
     {
-        let (place, front) = walk(self.now.place, self.front, text);
-        let now = Point {
-            place,
-            offset: self.now.offset + text.len(),
-        };
-        Progress {
-            now,
-            line: self.line_after(class, now),
-            depth: self.depth_after(class),
-            margin: self.ends_line(class),
-            width: 0,
-            logical: self.logical_after(class),
-            joined: class.is_join(),
-            front,
+        self.now.place.column += text.len();
+        self.now.offset += text.len();
+        self.width = 0;
+        self.joined = false;
+    }
+
+    /// Goes past a backslash and a line end behind a line's margin.
+    #[inline(always)]
+    pub(crate) fn pass_join(&mut self, text: &str)
+        requires room { HasRoom self.old (length text.now) }
+        requires counted { bytes_in (chars text.now) ≡ length text.now }
+        requires behind { self.old.margin ≡ false }
+        requires told { Tells Class.Join text.now }
+        ensures { Passed self.old Class.Join (chars text.now) self.new }
+    {
+        self.now.place.row += 1;
+        self.now.place.column = 0;
+        self.now.offset += text.len();
+        self.width = 0;
+        self.logical = true;
+        self.joined = true;
+        self.front = Front::Nothing;
+    }
+
+    /// Whether an operator closes a bracket where none is open.
+    #[inline(always)]
+    fn is_unmatched(self, operator: Exact) -> bool
+        ensures { result ≡ (is_closer operator && (self.depth == 0)) }
+    {
+        operator.is_closer() && self.depth == 0
+    }
+
+    /// Goes past an operator behind a line's margin, and gives its entry; none where it closes a bracket and none is open.
+    #[inline(always)]
+    fn pass_operator(&mut self, operator: Exact, text: &str) -> Option<Entry>
+        requires room { HasRoom self.old (length text.now) }
+        requires counted { bytes_in (chars text.now) ≡ length text.now }
+        requires behind { self.old.margin ≡ false }
+        requires told { Tells (Class.Operator operator) text.now }
+        requires some { 0 < length text.now }
+        ensures passed { IfSome result (λ e. Passed self.old (Class.Operator operator) (chars text.now) self.new) }
+        ensures entry { IfSome result (λ e. GivesEntry self.old (Class.Operator operator) (chars text.now) e) }
+    {
+        if self.is_unmatched(operator) {
+            return None;
         }
+        let start = self.now;
+        self.depth = self.depth_after(Class::Operator(operator));
+        self.now.place.column += text.len();
+        self.now.offset += text.len();
+        self.width = 0;
+        self.logical = true;
+        self.joined = false;
+        self.front = self.front.begun();
+        Some(entry_of(Kind::Op, Some(operator), start, self.now))
+    }
+
+    /// Goes past another lexeme with an entry, behind a line's margin.
+    #[inline(always)]
+    fn pass_text(&mut self, class: Class, text: &str) -> Entry
+        requires room { HasRoom self.old (length text.now) }
+        requires counted { bytes_in (chars text.now) ≡ length text.now }
+        requires behind { self.old.margin ≡ false }
+        requires class { is_text class ≡ true }
+        ensures passed { Passed self.old class (chars text.now) self.new }
+        ensures entry { GivesEntry self.old class (chars text.now) result }
+    {
+        let start = self.now;
+        let (place, front) = walk(start.place, self.front, text);
+        self.now.place = place;
+        self.now.offset += text.len();
+        self.width = 0;
+        self.logical = self.logical_after(class);
+        self.joined = false;
+        self.front = front;
+        entry_of(text_kind(class), None, start, self.now)
+    }
+
+    /// Goes past a line end behind a line's margin.
+    #[inline(always)]
+    fn pass_line_end(&mut self, text: &str) -> Entry
+        requires room { HasRoom self.old (length text.now) }
+        requires counted { bytes_in (chars text.now) ≡ length text.now }
+        requires behind { self.old.margin ≡ false }
+        requires told { Tells Class.LineEnd text.now }
+        requires some { 0 < length text.now }
+        ensures passed { Passed self.old Class.LineEnd (chars text.now) self.new }
+        ensures entry { GivesEntry self.old Class.LineEnd (chars text.now) result }
+    {
+        let start = self.now;
+        let kind = self.line_end_kind();
+        let end = Point {
+            place: Place {
+                row: start.place.row,
+                column: start.place.column + text.len(),
+            },
+            offset: start.offset + text.len(),
+        };
+        let now = Point {
+            place: Place {
+                row: start.place.row + 1,
+                column: 0,
+            },
+            offset: end.offset,
+        };
+        self.now = now;
+        self.line = self.line_after(Class::LineEnd, now);
+        self.width = 0;
+        self.margin = self.ends_line(Class::LineEnd);
+        self.logical = self.logical_after(Class::LineEnd);
+        self.joined = false;
+        self.front = Front::Nothing;
+        entry_of(kind, None, start, end)
+    }
+
+    /// Goes past a lexeme behind a line's margin, and gives its entry; none where it gives a fault or nothing.
+    #[inline(always)]
+    pub(crate) fn pass(&mut self, class: Class, text: &str) -> Option<Entry>
+        requires room { HasRoom self.old (length text.now) }
+        requires counted { bytes_in (chars text.now) ≡ length text.now }
+        requires behind { self.old.margin ≡ false }
+        requires told { Tells class text.now }
+        requires some { 0 < length text.now }
+        ensures passed { IfSome result (λ e. Passed self.old class (chars text.now) self.new) }
+        ensures entry { IfSome result (λ e. GivesEntry self.old class (chars text.now) e) }
+    {
+        match class {
+            Class::Operator(operator) => self.pass_operator(operator, text),
+            Class::LineEnd => Some(self.pass_line_end(text)),
+            Class::Blanks | Class::Join => None,
+            Class::Name | Class::Number | Class::String | Class::Comment => {
+                Some(self.pass_text(class, text))
+            }
+        }
+    }
+
+    /// Directly behind an entry with text: a line is yet to be measured only at its start.
+    #[inline(always)]
+    pub(crate) fn begin_anew(&mut self, behind: Progress)
+        ensures begun { (levels : List ℕ) → with_levels self.new levels ≡ begun_anew (with_levels behind levels) }
+        ensures room { (n : ℕ) → HasRoom behind n → HasRoom self.new n }
+    {
+        self.now = behind.now;
+        self.line = behind.now;
+        self.depth = behind.depth;
+        self.width = 0;
+        self.margin = !behind.logical && behind.now.place.column == 0;
+        self.logical = behind.logical;
+        self.joined = false;
+        self.front = behind.front;
     }
 
     /// Whether a statement is open at the text's end: within brackets, or directly after a join.

@@ -177,8 +177,21 @@ fn literal(text: &mut Scanner, prefix_len: usize) -> Option<Class>
     None
 }
 
-/// Takes the string whose prefix begins here, or otherwise the name.
+/// Takes the string whose prefix begins here, or otherwise the name, by another scanner: so this one need not stand in memory.
+#[inline(always)]
 fn prefixed(text: &mut Scanner) -> Option<Class>
+    requires { begins is_prefix_letter text.old ≡ true }
+    ensures { Takes text.old result text.new }
+{
+    let mut ahead = text.again();
+    let class = literal_or_name(&mut ahead);
+    *text = ahead;
+    class
+}
+
+/// Takes the string whose prefix begins here, or otherwise the name.
+#[inline(never)]
+fn literal_or_name(text: &mut Scanner) -> Option<Class>
     requires { begins is_prefix_letter text.old ≡ true }
     ensures { Takes text.old result text.new }
 {
@@ -228,8 +241,18 @@ pub(crate) fn lexeme(text: &mut Scanner) -> Option<Class>
             line_feed(text);
             Some(Class::LineEnd)
         }
-        '\r' => carriage_return(text),
-        '\\' => join(text),
+        '\r' => {
+            let mut ahead = text.again();
+            let class = carriage_return(&mut ahead);
+            *text = ahead;
+            class
+        }
+        '\\' => {
+            let mut ahead = text.again();
+            let class = join(&mut ahead);
+            *text = ahead;
+            class
+        }
         c if CharSet::Blank.has(c) => {
             blanks(text);
             Some(Class::Blanks)

@@ -127,8 +127,19 @@ fn plain(text: &mut Scanner)
     text.bump_joined(CharSet::One('0'));
 }
 
-/// Takes the number that stands here.
+/// Takes the number that stands here, by another scanner: so this one need not stand in memory.
+#[inline(always)]
 fn read_number(text: &mut Scanner)
+    ensures { text.new ≡ drop (number_len text.old) text.old }
+{
+    let mut ahead = text.again();
+    radix_or_plain(&mut ahead);
+    *text = ahead;
+}
+
+/// Takes the number that stands here.
+#[inline(never)]
+fn radix_or_plain(text: &mut Scanner)
     ensures { text.new ≡ drop (number_len text.old) text.old }
 {
     if radix(text) {
@@ -138,6 +149,7 @@ fn read_number(text: &mut Scanner)
 }
 
 /// Takes the longest number that stands here: a digit, or a point and a digit, must be its front.
+#[inline(always)]
 pub(crate) fn number(text: &mut Scanner)
     requires { begins_number text.old ≡ true }
     ensures some { 0 < longest is_number text.old }

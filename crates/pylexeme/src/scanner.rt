@@ -53,7 +53,7 @@ impl<'a> Scanner<'a> {
     {
         match self.rest.as_bytes().first() {
             Some(byte) if *byte < 128 => Some(*byte as char),
-            _ => self.first_wide(),
+            _ => self.again().first_wide(),
         }
     }
 
@@ -76,7 +76,12 @@ impl<'a> Scanner<'a> {
                 self.rest = &self.rest[1..];
                 Some(*byte as char)
             }
-            _ => self.bump_wide(),
+            _ => {
+                let mut ahead = self.again();
+                let first = ahead.bump_wide();
+                *self = ahead;
+                first
+            }
         }
     }
 
@@ -109,8 +114,18 @@ impl<'a> Scanner<'a> {
         let count = ascii_run(self.rest.as_bytes(), set);
         self.rest = &self.rest[count..];
         if begins_wide(self.rest.as_bytes()) {
-            self.bump_while_wide(set);
+            self.bump_on(set);
         }
+    }
+
+    /// Takes the characters of a set from here on, by another scanner: so this one need not stand in memory.
+    #[inline(always)]
+    fn bump_on(&mut self, set: CharSet)
+        ensures { self.new ≡ drop (prefix_len (has set) self.old) self.old }
+    {
+        let mut ahead = self.again();
+        ahead.bump_while_wide(set);
+        *self = ahead;
     }
 
     /// Takes the characters of a set from here on, each of which may be past ASCII.

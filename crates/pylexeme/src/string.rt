@@ -127,7 +127,24 @@ fn quote_here(text: &Scanner) -> Quote
 /// Takes the longest string that stands here, behind a prefix of `prefix_len` characters; false where it isn't ended.
 ///
 /// Where three equal quotes stand behind the prefix, only a literal in three quotes counts.
+///
+/// By another scanner: so this one need not stand in memory.
+#[inline(always)]
 pub(crate) fn string(text: &mut Scanner, prefix_len: usize) -> bool
+    requires { Opens prefix_len text.old }
+    ensures { Closed (longest (counts_as_string text.old) text.old) result text.old text.new }
+{
+    let mut ahead = text.again();
+    let closed = prefix_and_quoted(&mut ahead, prefix_len);
+    *text = ahead;
+    closed
+}
+
+/// Takes the longest string that stands here, behind a prefix of `prefix_len` characters; false where it isn't ended.
+///
+/// Where three equal quotes stand behind the prefix, only a literal in three quotes counts.
+#[inline(never)]
+fn prefix_and_quoted(text: &mut Scanner, prefix_len: usize) -> bool
     requires { Opens prefix_len text.old }
     ensures { Closed (longest (counts_as_string text.old) text.old) result text.old text.new }
 {

@@ -1,6 +1,8 @@
 use Rattle.std.proofs.Common.{◌+◌, [], length, refl}
 use Rattle.std.specs.Str.{chars}
-use Rattle.pylex.proofs.Finding.{stays_there, comes_on, finds_on, fault_found, entry_found, nothing_found, no_thing_due, some_bytes, stands_after, shorter_after, room_after, behind_cut}
+use Rattle.pylex.proofs.Finding.{stays_there, comes_on, finds_on, fault_found, entry_found, nothing_found, no_thing_due, some_bytes, stands_after, shorter_after, room_after, behind_cut, behind_on}
+use Rattle.pylex.specs.declared.position.Meets.TheVariants as meets
+use Rattle.pylex.proofs.Told.{tells}
 use Rattle.pylex.proofs.position.find.Goals as goal
 
 pub returns-in-Fault-clause-finds : goal.returns-in-Fault-clause-finds
@@ -66,3 +68,18 @@ returns-in-Entry-clause-behind c = behind_cut c.args.text.now c.loop-meets.rest.
 
 pub returns-in-Some-clause-room : goal.returns-in-Some-clause-room
 returns-in-Some-clause-room c n h = c.in-Some.ensures.room (length c.loop-meets.rest.now + n) (c.loop-meets.invariant.3 n h)
+
+pub after-ahead-requires-clause-told : goal.after-ahead-requires-clause-told
+after-ahead-requires-clause-told c = tells c.loop-meets.rest.now c.in-Some-cut.front.now c.in-Some-cut.back.now c.in-Some-cut.class c.in-Some-cut.ensures.some
+
+pub returns-in-Some-next_entry-clause-finds : goal.returns-in-Some-next_entry-clause-finds
+returns-in-Some-next_entry-clause-finds c =
+    let settled = c.in_default.ensures.settles refl in
+    let came = comes_on c.args.levels.now c.args.start (chars c.args.text.now) c.loop-meets.now (chars c.loop-meets.rest.now) c.line_start.new.now (chars c.loop-meets.rest.now) c.loop-meets.invariant.2 settled.comes in
+    finds_on c.args.levels.now c.args.start (chars c.args.text.now) c.line_start.new.now (chars c.loop-meets.rest.now) (meets.Entry c.in-Some-next_entry.entry) c.next_entry.new.now (chars c.in-Some-next_entry.left.now) came (c.in-Some-next_entry.ensures.entry c.args.levels.now)
+
+pub returns-in-Some-next_entry-clause-room : goal.returns-in-Some-next_entry-clause-room
+returns-in-Some-next_entry-clause-room c n h = c.in-Some-next_entry.ensures.room n (c.in_default.ensures.room (length c.loop-meets.rest.now + n) (c.loop-meets.invariant.3 n h))
+
+pub returns-in-Some-next_entry-clause-behind : goal.returns-in-Some-next_entry-clause-behind
+returns-in-Some-next_entry-clause-behind c = behind_on c.args.text.now c.loop-meets.rest.now c.in-Some-next_entry.left.now c.loop-meets.invariant.4 c.in-Some-next_entry.ensures.behind

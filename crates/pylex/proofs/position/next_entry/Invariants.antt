@@ -10,8 +10,8 @@ invariant-loop-class l = record {
   utf8 : shadow (Utf8 l.rest);
   stands : Stands l.now l.rest;
   behind_margin : l.now.margin ≡ false;
-  comes : (levels : List ℕ) → Comes levels l.fn.start (chars l.fn.text) l.now (chars l.rest);
-  room : (n : ℕ) → HasRoom l.fn.start (length l.fn.text + n) → HasRoom l.now (length l.rest + n);
+  comes : (levels : List ℕ) → Comes levels l.fn.now (chars l.fn.text) l.now (chars l.rest);
+  room : (n : ℕ) → HasRoom l.fn.now (length l.fn.text + n) → HasRoom l.now (length l.rest + n);
   behind : Behind l.fn.text l.rest;
 }
 

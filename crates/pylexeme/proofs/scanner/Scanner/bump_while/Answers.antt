@@ -18,7 +18,7 @@ returns-then-begins_wide c =
     let bs : List ℕ = c.self.inside.rest.now in
     let count : c.ascii_run-count.result ≡ prefix_len (in_ascii p) bs = c.ascii_run-count.ensures ∙ ap (prefix_len (in_ascii p)) c.as_bytes.ensures.value in
     let rest : c.range_from-self-inside.result.now ≡ after_run (in_ascii p) bs = c.range_from-self-inside.ensures.value ∙ ap (λ n. drop n bs) count in
-    c.bump_while_wide.ensures
+    c.bump_on.ensures
     ∙ ap (λ r. after_run p (chars r)) rest
     ∙ run_same (in_ascii p) p (tells_ascii p) bs c.self.invariant
     ∙ ap (after_run p) c.self.view_is

@@ -1,5 +1,5 @@
 use Rattle.pylexeme.proofs.Taking.{number_radix, number_plain}
-use Rattle.pylexeme.proofs.number.read_number.Goals as goal
+use Rattle.pylexeme.proofs.number.radix_or_plain.Goals as goal
 
 pub returns-then-radix : goal.returns-then-radix
 returns-then-radix c = number_radix c.args.text.now _ (c.if-radix.ensures)
