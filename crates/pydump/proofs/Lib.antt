@@ -2,6 +2,7 @@ mod ArgumentsLemmas
 pub mod BlockLemmas
 mod Examples
 pub mod LineLemmas
+pub mod PieceLemmas
 pub mod SlotLemmas
 pub mod RowLemmas
 pub mod TextLemmas

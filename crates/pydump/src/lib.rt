@@ -2,7 +2,7 @@
 //!
 //! Python library reference, `ast`: `ast.dump`. `specs/Shows` says what each class shows,
 //! `specs/Layout` how that is laid out. The text is written as the tree is walked, with no form of
-//! it in between.
+//! it in between: whole by [`dump`], statement by statement by [`Pieces`].
 #![tactic(auto)]
 
 mod blocks;
@@ -16,6 +16,7 @@ mod members;
 mod modules;
 mod nodes;
 mod parts;
+mod pieces;
 mod shortness;
 mod statements;
 mod styles;
@@ -23,4 +24,5 @@ mod words;
 
 pub use expressions::dump_expr;
 pub use modules::dump;
+pub use pieces::Pieces;
 pub use styles::Style;
