@@ -7,8 +7,9 @@ ghost use Rattle.pydump.specs.Shows.{shown};
 ghost use Rattle.pynode.specs.TreeOf.{tree_of};
 
 use crate::fields::Field;
+use crate::leaves::{show_constant, show_name};
 use crate::nodes::{show_one, show_three, show_two};
-use crate::parts::{Part, boxed_part, kind_part};
+use crate::parts::{Part, boxed_part};
 use crate::styles::Style;
 use pynode::Expr;
 use std::alloc::{AllocError, Global};
@@ -169,14 +170,7 @@ pub(crate) fn show_expr(
             Part::Exprs(Field::Args, args),
             Part::Keywords(Field::Keywords, keywords),
         ),
-        Expr::Constant { value } => show_two(
-            out,
-            front,
-            style,
-            "Constant(",
-            Part::Value(Field::Value, value),
-            kind_part(value),
-        ),
+        Expr::Constant { value } => show_constant(out, style, value),
         Expr::Attribute { value, attr, ctx } => show_three(
             out,
             front,
@@ -203,14 +197,7 @@ pub(crate) fn show_expr(
             Part::Expr(Field::Value, value),
             Part::Context(*ctx),
         ),
-        Expr::Name { id, ctx } => show_two(
-            out,
-            front,
-            style,
-            "Name(",
-            Part::Name(Field::Id, id),
-            Part::Context(*ctx),
-        ),
+        Expr::Name { id, ctx } => show_name(out, style, id, *ctx),
         Expr::List { elts, ctx } => show_two(
             out,
             front,

@@ -3,8 +3,8 @@
 ghost use Rattle.std.specs.Prelude.{◌≡◌, false};
 ghost use Rattle.pydump.specs.Inner.Names.{field_name};
 ghost use Rattle.pydump.specs.Inner.Slots.{is_missing, slot_name, slot_of, with_slot};
-ghost use Rattle.pydump.specs.Shows.{Fields, arg_field, expr_field, kind_field, name_field, optional_field};
-ghost use Rattle.pynode.specs.TreeOf.{arg_option_of, boxed_of, constant_of, option_of};
+ghost use Rattle.pydump.specs.Shows.{Fields, arg_field, expr_field, name_field, optional_field};
+ghost use Rattle.pynode.specs.TreeOf.{arg_option_of, boxed_of, option_of};
 ghost use Rattle.pynode.specs.Trees.{optional, optional_arg};
 
 use crate::fields::Field;
@@ -80,16 +80,6 @@ pub(crate) fn name_part<'a>(field: Field, id: &'a Option<Identifier>) -> Part<'a
     match id {
         None => Part::LeftOut,
         Some(id) => Part::Name(field, id),
-    }
-}
-
-/// The field `kind` of a constant.
-pub(crate) fn kind_part<'a>(value: &'a Constant) -> Part<'a>
-    ensures { (rest : Fields) → with_slot (slot_of result) rest ≡ kind_field (constant_of value.now) rest }
-{
-    match value {
-        Constant::Str { unicode: true, .. } => Part::Kind,
-        _ => Part::LeftOut,
     }
 }
 

@@ -336,12 +336,7 @@ expressions::show_expr-show_one-requires-in-YieldFrom t c =
     rw (c.in-YieldFrom.is, yield_from_tree, sym c.deref-in-YieldFrom.ensures) refl in (omega (arith, e), tt)
 
 pub expressions::show_expr-returns-in-Constant-clause-text : goal.expressions::show_expr-returns-in-Constant-clause-text
-expressions::show_expr-returns-in-Constant-clause-text t c = rw (c.in-Constant.is, constant_tree) (rw (sym (c.kind_part.ensures no_field)) c.show_two-in-Constant.ensures.text)
-
-pub expressions::show_expr-show_two-requires-in-Constant : goal.expressions::show_expr-show_two-requires-in-Constant
-expressions::show_expr-show_two-requires-in-Constant t c =
-    let e : weight (shown (tree_of c.args.e.now)) ≡ 1 + field_weights (with_slot (slot_of c.kind_part.result) no_field) + 1 =
-    rw (c.in-Constant.is, constant_tree, sym (c.kind_part.ensures no_field)) refl in (omega (arith, e), tt)
+expressions::show_expr-returns-in-Constant-clause-text t c = rw (c.in-Constant.is, constant_tree) (c.show_constant.ensures _)
 
 pub expressions::show_expr-returns-in-Attribute-clause-text : goal.expressions::show_expr-returns-in-Attribute-clause-text
 expressions::show_expr-returns-in-Attribute-clause-text t c = rw (c.in-Attribute.is, attribute_tree, sym c.deref-in-Attribute.ensures) c.show_three-in-Attribute.ensures.text
@@ -368,12 +363,7 @@ expressions::show_expr-show_two-requires-in-Starred t c =
     rw (c.in-Starred.is, starred_tree, sym c.deref-in-Starred.ensures) refl in (omega (arith, e), tt)
 
 pub expressions::show_expr-returns-in-Name-clause-text : goal.expressions::show_expr-returns-in-Name-clause-text
-expressions::show_expr-returns-in-Name-clause-text t c = rw (c.in-Name.is, name_tree) c.show_two-in-Name.ensures.text
-
-pub expressions::show_expr-show_two-requires-in-Name : goal.expressions::show_expr-show_two-requires-in-Name
-expressions::show_expr-show_two-requires-in-Name t c =
-    let e : weight (shown (tree_of c.args.e.now)) ≡ 1 + (1 + 0) + 1 =
-    rw (c.in-Name.is, name_tree) refl in (omega (arith, e), tt)
+expressions::show_expr-returns-in-Name-clause-text t c = rw (c.in-Name.is, name_tree) (c.show_name.ensures _)
 
 pub expressions::show_expr-returns-in-List-clause-text : goal.expressions::show_expr-returns-in-List-clause-text
 expressions::show_expr-returns-in-List-clause-text t c = rw (c.in-List.is, list_tree, exprs_row, sym c.deref-in-List.ensures.value) c.show_two-in-List.ensures.text

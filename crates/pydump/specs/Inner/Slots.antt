@@ -6,7 +6,9 @@ use Rattle.pydump.specs.declared.parts.Part.{Part}
 use Rattle.pydump.specs.declared.parts.Part.TheVariants as part
 use Rattle.pydump.specs.Inner.Names.{field_name}
 use Rattle.pydump.specs.Shows.{Shown, Fields, Scalar, Row, a_field, left_out, showns, word, shown, shown_name, shown_optional, shown_arg, shown_arguments, shown_flag, bool_name, comparison_name, context_name, operator_name, unary_name, shown_comprehension, shown_keyword, value_text, shown_alias, shown_item, shown_type_param}
-use Rattle.pydump.specs.Layout.{deeper, fields, is_flat, is_short, is_simple}
+use Rattle.pydump.specs.Layout.{deeper, fields, is_flat, is_short, is_simple, label}
+use Rattle.pynode.specs.Values as value
+use Rattle.pynode.specs.Values.{Value}
 use Rattle.pynode.specs.Trees.{optional}
 use Rattle.pynode.specs.TreeOf.{tree_of, option_of, comprehension_of, keyword_of, arg_of, arguments_of, constant_of, alias_of, item_of, type_param_of}
 
@@ -70,3 +72,8 @@ slot_of (part.Number name n) = field (field_name name) (Scalar (decimal n))
 slot_of (part.Flag name b) = field (field_name name) (shown_flag b)
 slot_of part.Kind = field (codes "kind") (Scalar (codes "'u'"))
 slot_of part.LeftOut = missing
+
+-- what a constant shows behind its value
+abbrev pub kind_shown : Bool → Value → List ℕ
+kind_shown named (value.Str points true) = codes ", " ++ label named (codes "kind") ++ codes "'u'"
+kind_shown named _ = []
