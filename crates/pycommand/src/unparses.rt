@@ -6,7 +6,7 @@ ghost use Rattle.pyfault.specs.declared.fault.RunFaultCode.{RunFaultCode};
 ghost use Rattle.pycommand.specs.Unparses.{Unparses};
 ghost use Rattle.pycommand.specs.Runs.{ended_by, PerformsWhole};
 
-use crate::modules::read_module;
+use crate::modules::{leave_to_exit, read_module};
 use pyfault::Fault;
 use pysource::{ByteIn, ByteOut, write_all};
 use pyunparse::unparse;
@@ -30,5 +30,6 @@ pub(crate) fn write_unparse<R: ByteIn, W: ByteOut>(
     let module = read_module(alloc, asked.profile, reader)?;
     let text = unparse(alloc, &module)?;
     write_all(writer, text.as_bytes())?;
+    leave_to_exit(module);
     Ok(())
 }
