@@ -98,6 +98,7 @@ impl<'a> Scanner<'a> {
     }
 
     /// Takes some characters.
+    #[inline(always)]
     pub(crate) fn bump_count(&mut self, count: usize)
         ensures { self.new ≡ drop count self.old }
     {
