@@ -2,8 +2,8 @@
 //!
 //! The types are those of `pynode`, and come from here too. So do [`height`], which tells how high a
 //! tree is, [`copy`], which makes an equal one, [`same`], which tells whether two are equal, and
-//! [`dump`], which gives the text that Python's `ast.dump` gives: the walks of each are a crate of
-//! their own.
+//! [`dump`], which gives the text that Python's `ast.dump` gives, and [`Pieces`], which gives it in
+//! pieces: the walks of each are a crate of their own.
 //!
 //! What the tokens of a source are to the grammar, and what they say, comes from `pytoken`:
 //! [`Refusal`], [`TokenError`], [`Meaning`]. Its `Keyword` is named there alone, since [`Keyword`]
@@ -29,7 +29,7 @@ mod names;
 pub use fits::{well_formed, well_formed_at};
 pub use modules::{copy, same};
 pub use names::{is_keyword, is_name};
-pub use pydump::{Style, dump, dump_expr};
+pub use pydump::{Pieces, Style, dump, dump_expr};
 pub use pygrammar::Level;
 pub use pyheight::{Heights, height};
 pub use pynode::{

@@ -1,7 +1,9 @@
 //! Dumps of modules made by hand, as Python gives them.
 
 use crate::words::module;
-use pytree::{Profile, Style, dump};
+use pytree::{Module, Pieces, Profile, Style, dump};
+use std::alloc::Global;
+use std::process::Abort;
 use std::test::Fail;
 
 /// On one line, with all names, of Python 3.11.
@@ -42,6 +44,25 @@ const CLASS: &str = "types exprs type:T body Pass ClassDef:C";
 const DEFINITION: &str =
     "types args args args args keys args exprs arguments body Pass FunctionDef:f";
 
+/// Asserts that the pieces of a dump put together are this text. Behind the last of them there is nothing.
+fn same_in_pieces(
+    rt: &impl Abort,
+    alloc: Global,
+    tree: &Module,
+    style: Style,
+    expected: &str,
+) -> Result<(), Fail> {
+    let mut text = String::new(alloc);
+    let mut pieces = Pieces::new(alloc, tree, style)?;
+    for _ in 0..=expected.len() {
+        pieces.push_next(&mut text)?;
+    }
+    assert_eq!(rt; text.as_str(), expected);
+    assert!(rt; !pieces.push_next(&mut text)?);
+    assert_eq!(rt; text.as_str(), expected);
+    Ok(())
+}
+
 #[test]
 fn dumps_modules(rt: HostRuntime) -> Result<(), Fail> {
     let alloc = rt.alloc();
@@ -49,6 +70,12 @@ fn dumps_modules(rt: HostRuntime) -> Result<(), Fail> {
         ("", PLAIN, "Module(body=[], type_ignores=[])"),
         ("", FLUSH, "Module(body=[], type_ignores=[])"),
         ("Pass", FLUSH, "Module(\nbody=[\nPass()],\ntype_ignores=[])"),
+        (
+            "Pass Break Pass",
+            FLUSH,
+            "Module(\nbody=[\nPass(),\nBreak(),\nPass()],\ntype_ignores=[])",
+        ),
+        ("Pass Break", BARE, "Module([Pass(), Break()], [])"),
         (
             ANNOTATED,
             BARE,
@@ -75,8 +102,10 @@ fn dumps_modules(rt: HostRuntime) -> Result<(), Fail> {
             "Module([FunctionDef('f', arguments([], [], kwonlyargs=[], kw_defaults=[], defaults=[]), [Pass()], [], type_params=[])], [])",
         ),
     ] {
-        let text = dump(alloc, &module(&rt, alloc, words)?, style)?;
+        let tree = module(&rt, alloc, words)?;
+        let text = dump(alloc, &tree, style)?;
         assert_eq!(rt; text.as_str(), expected, "{words}");
+        same_in_pieces(&rt, alloc, &tree, style, expected)?;
     }
     Ok(())
 }
