@@ -32,7 +32,7 @@ use Rattle.pylex.specs.Class.TheVariants.{Name, Number, String, Operator, Commen
 use Rattle.pylex.specs.Cursors.{CursorParts}
 use Rattle.pylex.specs.Lexemes.{Lexeme, cut, left_by_cut, is_open_string}
 use Rattle.pylex.specs.Levels.{open_levels}
-use Rattle.pylex.specs.Lines.{text_before, depth, is_thing, is_at_margin, is_logical, width_at, widths}
+use Rattle.pylex.specs.Lines.{text_before, depth, is_significant, is_at_margin, is_logical, width_at, widths}
 use Rattle.pylex.specs.Chars.{bytes_in}
 use Rattle.pylex.specs.Listing.{Source, in_characters, of_line, listing, rest, fault_at, dedents, layout, layout_by, entry_of, steps_of, stop_fault, begins_comment, last_line, line_end_of_last, end_place, ends_in_join, tail, stop, steps_from, up_to_end}
 use Rattle.pylex.specs.Operators.{is_closer}
@@ -110,7 +110,7 @@ entry_read before x = by_class x.«class» x.text
 
 steps_read : (before : List Lexeme) (x : Lexeme) → AllRead (steps_of before x)
 unfolding steps_of
-steps_read before x = AllRead-append (cond (is_thing x) (layout before) []) (entry_of before x) (either (is_thing x) (layout before) [] (layout_read before) tt) (entry_read before x)
+steps_read before x = AllRead-append (cond (is_significant x) (layout before) []) (entry_of before x) (either (is_significant x) (layout before) [] (layout_read before) tt) (entry_read before x)
 
 tail_read : (before : List Lexeme) (end : Place) → AllRead (tail before end)
 unfolding tail line_end_of_last

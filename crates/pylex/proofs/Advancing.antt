@@ -6,7 +6,7 @@ use Rattle.pysource.specs.declared.places.Place.{Place}
 use Rattle.pylex.specs.declared.state.Point.{Point}
 use Rattle.pylex.specs.declared.state.Progress.{Progress}
 use Rattle.pylexeme.specs.Lexemes.{Lexeme}
-use Rattle.pylex.specs.Lines.{opens, closes, is_thing, is_of_blanks, is_of_line_end, width_from}
+use Rattle.pylex.specs.Lines.{opens, closes, is_significant, is_of_blanks, is_of_line_end, width_from}
 use Rattle.pylexeme.specs.Chars.{bytes_in}
 use Rattle.pylex.specs.Machine.{advance, front_after, after, past, count_if, still, is_of_join}
 use Rattle.pylexeme.proofs.Cases.{bool_cases}
@@ -22,7 +22,7 @@ pub record IsAfter (p : Progress) (x : Lexeme) (q : Progress) : Type 0 where
   pub depth : q.depth ≡ p.depth + count_if (opens x) - count_if (closes x)
   pub margin : q.margin ≡ (ends p x || (is_of_blanks x && p.margin))
   pub width : q.width ≡ still (is_of_blanks x && p.margin) (width_from p.width x.text)
-  pub logical : q.logical ≡ (not (ends p x) && (is_thing x || p.logical))
+  pub logical : q.logical ≡ (not (ends p x) && (is_significant x || p.logical))
   pub joined : q.joined ≡ is_of_join x
   pub front : q.front ≡ front_after p.front x.text
 
@@ -38,7 +38,7 @@ no_width Comment t d m n = refl
 no_width Blanks t d m n = refl
 no_width Join t d m n = refl
 
-pub is_after : (p : Progress) (x : Lexeme) (q : Progress) → (p.margin && is_thing x) ≡ false → IsAfter p x q → (levels : List ℕ) → with_levels q levels ≡ after (with_levels p levels) x
+pub is_after : (p : Progress) (x : Lexeme) (q : Progress) → (p.margin && is_significant x) ≡ false → IsAfter p x q → (levels : List ℕ) → with_levels q levels ≡ after (with_levels p levels) x
 unfolding after
 is_after p x q s h levels =
     let now = h.now in

@@ -7,7 +7,7 @@ use Rattle.pylexeme.specs.declared.lexeme.Class.TheVariants.{Name, Number, Strin
 use Rattle.pylex.specs.declared.entries.ListingFault.{ListingFault}
 use Rattle.pylex.specs.declared.entries.Step.{Step}
 use Rattle.pylexeme.specs.Lexemes.{Lexeme, lexeme_at, cut, left_by_cut}
-use Rattle.pylex.specs.Lines.{text_before, depth, opens, closes, is_of_blanks, is_of_line_end, is_thing, line_so_far, is_at_margin, is_logical, width_at, widths}
+use Rattle.pylex.specs.Lines.{text_before, depth, opens, closes, is_of_blanks, is_of_line_end, is_significant, line_so_far, is_at_margin, is_logical, width_at, widths}
 use Rattle.pylexeme.specs.Chars.{bytes_in}
 use Rattle.pylex.specs.Levels.{open_levels}
 use Rattle.pylex.specs.Listing.{Source, last_line, ends_in_join, up_to_end, stop_fault}
@@ -99,7 +99,7 @@ ahead_runs s indented h xs text left p =
     let e = c.left_is in
     rw (f, b, d, e) refl
 
--- Where no thing stands in a line, no bracket is open.
+-- Where no significant token stands in a line, no bracket is open.
 and_parts : (a b : Bool) → (a && b) ≡ true → (a ≡ true) × (b ≡ true)
 and_parts true b e = (refl, e)
 and_parts false b e = cc
@@ -108,10 +108,10 @@ or_parts : (a b : Bool) → (a || b) ≡ false → (a ≡ false) × (b ≡ false
 or_parts true b e = cc
 or_parts false b e = (refl, e)
 
-neutral : (x : Lexeme) → is_thing x ≡ false → (opens x ≡ false) × (closes x ≡ false)
+neutral : (x : Lexeme) → is_significant x ≡ false → (opens x ≡ false) × (closes x ≡ false)
 neutral x e = by_class x.«class» x.text e
   where
-    by_class : (k : Class) (t : List ℕ) → is_thing (record { «class» = k; text = t }) ≡ false → (opens (record { «class» = k; text = t }) ≡ false) × (closes (record { «class» = k; text = t }) ≡ false)
+    by_class : (k : Class) (t : List ℕ) → is_significant (record { «class» = k; text = t }) ≡ false → (opens (record { «class» = k; text = t }) ≡ false) × (closes (record { «class» = k; text = t }) ≡ false)
     by_class Name t e = (refl, refl)
     by_class Number t e = (refl, refl)
     by_class String t e = (refl, refl)
@@ -121,10 +121,10 @@ neutral x e = by_class x.«class» x.text e
     by_class LineEnd t e = (refl, refl)
     by_class Join t e = (refl, refl)
 
-no_thing_in : (x : Lexeme) → is_of_line_end x ≡ true → is_thing x ≡ false
-no_thing_in x e = by_class x.«class» x.text e
+no_significant_in : (x : Lexeme) → is_of_line_end x ≡ true → is_significant x ≡ false
+no_significant_in x e = by_class x.«class» x.text e
   where
-    by_class : (k : Class) (t : List ℕ) → is_of_line_end (record { «class» = k; text = t }) ≡ true → is_thing (record { «class» = k; text = t }) ≡ false
+    by_class : (k : Class) (t : List ℕ) → is_of_line_end (record { «class» = k; text = t }) ≡ true → is_significant (record { «class» = k; text = t }) ≡ false
     by_class Name t e = cc
     by_class Number t e = cc
     by_class String t e = cc
@@ -134,7 +134,7 @@ no_thing_in x e = by_class x.«class» x.text e
     by_class LineEnd t e = refl
     by_class Join t e = cc
 
-same_depth : (x : Lexeme) (before : List Lexeme) → is_thing x ≡ false → depth (x ∷ before) ≡ depth before
+same_depth : (x : Lexeme) (before : List Lexeme) → is_significant x ≡ false → depth (x ∷ before) ≡ depth before
 unfolding depth
 same_depth x before e =
     let n = neutral x e in
@@ -151,10 +151,10 @@ closed_without [] e = omega arith
 closed_without (x ∷ before) e = ⊎_elim
     (λ (l : (is_of_line_end x && (depth before == 0)) ≡ true).
     let p = and_parts (is_of_line_end x) (depth before == 0) l in
-    same_depth x before (no_thing_in x p.0) ∙ is_zero (depth before) p.1)
+    same_depth x before (no_significant_in x p.0) ∙ is_zero (depth before) p.1)
     (λ (l : (is_of_line_end x && (depth before == 0)) ≡ false).
-    let m : is_logical (x ∷ before) ≡ (is_thing x || is_logical before) = rw l refl in
-    let p = or_parts (is_thing x) (is_logical before) (sym m ∙ e) in
+    let m : is_logical (x ∷ before) ≡ (is_significant x || is_logical before) = rw l refl in
+    let p = or_parts (is_significant x) (is_logical before) (sym m ∙ e) in
     same_depth x before p.0 ∙ closed_without before p.1)
     (bool_cases (is_of_line_end x && (depth before == 0)))
 
@@ -175,10 +175,10 @@ starts_line h x e = rw e refl
 pub line_is_on : (h : List Lexeme) (x : Lexeme) → is_of_blanks x ≡ false → (is_of_line_end x && (depth h == 0)) ≡ false → is_at_margin (x ∷ h) ≡ false
 line_is_on h x b e = margin_push h x ∙ ap (λ t. t || (is_of_blanks x && is_at_margin h)) e ∙ ap (λ t. t && is_at_margin h) b
 
-pub logical_on : (h : List Lexeme) (x : Lexeme) → (is_of_line_end x && (depth h == 0)) ≡ false → is_logical (x ∷ h) ≡ (is_thing x || is_logical h)
-logical_on h x e = logical_push h x ∙ ap (λ t. not t && (is_thing x || is_logical h)) e
+pub logical_on : (h : List Lexeme) (x : Lexeme) → (is_of_line_end x && (depth h == 0)) ≡ false → is_logical (x ∷ h) ≡ (is_significant x || is_logical h)
+logical_on h x e = logical_push h x ∙ ap (λ t. not t && (is_significant x || is_logical h)) e
 
-pub begun_or_filled : (h : List Lexeme) (x : Lexeme) → Says x.«class» x.text → is_of_blanks x ≡ false → (is_of_line_end x && (depth h == 0)) ≡ false → (not (is_thing x || is_logical h) && (length (last_line (text_before h ++ x.text)) == 0)) ≡ false
+pub begun_or_filled : (h : List Lexeme) (x : Lexeme) → Says x.«class» x.text → is_of_blanks x ≡ false → (is_of_line_end x && (depth h == 0)) ≡ false → (not (is_significant x || is_logical h) && (length (last_line (text_before h ++ x.text)) == 0)) ≡ false
 begun_or_filled h x y b e = by_class x.«class» x.text y b e
   where
     in_brackets : (l : Bool) → is_logical h ≡ l → (depth h == 0) ≡ false → l ≡ true
@@ -195,7 +195,7 @@ begun_or_filled h x y b e = by_class x.«class» x.text y b e
     logical : (l z : Bool) → l ≡ true → (not l && z) ≡ false
     logical l z e = rw e refl
 
-    by_class : (k : Class) (t : List ℕ) → Says k t → is_of_blanks (record { «class» = k; text = t }) ≡ false → (is_of_line_end (record { «class» = k; text = t }) && (depth h == 0)) ≡ false → (not (is_thing (record { «class» = k; text = t }) || is_logical h) && (length (last_line (text_before h ++ t)) == 0)) ≡ false
+    by_class : (k : Class) (t : List ℕ) → Says k t → is_of_blanks (record { «class» = k; text = t }) ≡ false → (is_of_line_end (record { «class» = k; text = t }) && (depth h == 0)) ≡ false → (not (is_significant (record { «class» = k; text = t }) || is_logical h) && (length (last_line (text_before h ++ t)) == 0)) ≡ false
     by_class Name t y b e = refl
     by_class Number t y b e = refl
     by_class String t y b e = refl
@@ -250,17 +250,17 @@ resumed_indented h =
 
 measured_gives : (h : List Lexeme) (x : Lexeme) → gives (measured h) x ≡ entry_by (measured h) x
 unfolding gives layout_of
-measured_gives h x = none (is_thing x)
+measured_gives h x = none (is_significant x)
   where
     none : (b : Bool) → cond b [] [] ++ entry_by (measured h) x ≡ entry_by (measured h) x
     none true = refl
     none false = refl
 
-measured_entry : (h : List Lexeme) (x : Lexeme) → is_thing x ≡ true → entry_by (measured h) x ≡ entry_by (state_of h) x
+measured_entry : (h : List Lexeme) (x : Lexeme) → is_significant x ≡ true → entry_by (measured h) x ≡ entry_by (state_of h) x
 unfolding entry_by
 measured_entry h x e = by_class x.«class» x.text e
   where
-    by_class : (k : Class) (t : List ℕ) → is_thing (record { «class» = k; text = t }) ≡ true → entry_by (measured h) (record { «class» = k; text = t }) ≡ entry_by (state_of h) (record { «class» = k; text = t })
+    by_class : (k : Class) (t : List ℕ) → is_significant (record { «class» = k; text = t }) ≡ true → entry_by (measured h) (record { «class» = k; text = t }) ≡ entry_by (state_of h) (record { «class» = k; text = t })
     by_class Name t e = refl
     by_class Number t e = refl
     by_class String t e = refl
@@ -270,12 +270,12 @@ measured_entry h x e = by_class x.«class» x.text e
     by_class LineEnd t e = cc
     by_class Join t e = refl
 
--- behind its first thing a line is the same, but for its begin
-measured_after : (h : List Lexeme) (x : Lexeme) → is_at_margin h ≡ true → is_thing x ≡ true → after (measured h) x ≡ begun_at (after (state_of h) x) (point_after (text_before h))
+-- behind its first significant token a line is the same, but for its begin
+measured_after : (h : List Lexeme) (x : Lexeme) → is_at_margin h ≡ true → is_significant x ≡ true → after (measured h) x ≡ begun_at (after (state_of h) x) (point_after (text_before h))
 unfolding after state_of
 measured_after h x m e = by_class x.«class» x.text e
   where
-    by_class : (k : Class) (t : List ℕ) → is_thing (record { «class» = k; text = t }) ≡ true → after (measured h) (record { «class» = k; text = t }) ≡ begun_at (after (state_of h) (record { «class» = k; text = t })) (point_after (text_before h))
+    by_class : (k : Class) (t : List ℕ) → is_significant (record { «class» = k; text = t }) ≡ true → after (measured h) (record { «class» = k; text = t }) ≡ begun_at (after (state_of h) (record { «class» = k; text = t })) (point_after (text_before h))
     by_class Name t e = rw m refl
     by_class Number t e = rw m refl
     by_class String t e = rw m refl
@@ -285,11 +285,11 @@ measured_after h x m e = by_class x.«class» x.text e
     by_class LineEnd t e = cc
     by_class Join t e = rw m refl
 
-pub thing_margin : (s : State) (x : Lexeme) → is_thing x ≡ true → (after s x).margin ≡ false
+pub significant_margin : (s : State) (x : Lexeme) → is_significant x ≡ true → (after s x).margin ≡ false
 unfolding after
-thing_margin s x e = by_class x.«class» x.text e
+significant_margin s x e = by_class x.«class» x.text e
   where
-    by_class : (k : Class) (t : List ℕ) → is_thing (record { «class» = k; text = t }) ≡ true → (after s (record { «class» = k; text = t })).margin ≡ false
+    by_class : (k : Class) (t : List ℕ) → is_significant (record { «class» = k; text = t }) ≡ true → (after s (record { «class» = k; text = t })).margin ≡ false
     by_class Name t e = refl
     by_class Number t e = refl
     by_class String t e = refl
@@ -300,13 +300,13 @@ thing_margin s x e = by_class x.«class» x.text e
     by_class Join t e = refl
 
 -- what is ahead of a place behind an INDENT
-pub ahead_indented : (s : Source) (h xs : List Lexeme) (x : Lexeme) (text left : List ℕ) → Placed s h (x ∷ xs) text left → is_at_margin h ≡ true → is_thing x ≡ true → ahead s true h ≡ up_to_end (entry_by (state_of h) x ++ run s.fault left (after (state_of h) x) xs)
+pub ahead_indented : (s : Source) (h xs : List Lexeme) (x : Lexeme) (text left : List ℕ) → Placed s h (x ∷ xs) text left → is_at_margin h ≡ true → is_significant x ≡ true → ahead s true h ≡ up_to_end (entry_by (state_of h) x ++ run s.fault left (after (state_of h) x) xs)
 ahead_indented s h xs x text left p m e =
     ahead_runs s true h (x ∷ xs) text left p
     ∙ ap (λ t. up_to_end (run s.fault left t (x ∷ xs))) (resumed_indented h)
     ∙ ap (λ g. up_to_end (g ++ run s.fault left (after (measured h) x) xs)) (measured_gives h x ∙ measured_entry h x e)
     ∙ ap (λ t. up_to_end (entry_by (state_of h) x ++ run s.fault left t xs)) (measured_after h x m e)
-    ∙ ap (λ r. up_to_end (entry_by (state_of h) x ++ r)) (sym (run_same s.fault left xs (after (state_of h) x) (point_after (text_before h)) (thing_margin (state_of h) x e)))
+    ∙ ap (λ r. up_to_end (entry_by (state_of h) x ++ r)) (sym (run_same s.fault left xs (after (state_of h) x) (point_after (text_before h)) (significant_margin (state_of h) x e)))
 
 measured_stop : (fault : Option ListingFault) (left : List ℕ) (h : List Lexeme) → not (length left == 0) ≡ true → stop_of fault (measured h) left ≡ stop_fault fault (state_of h).now.place left ∷ []
 unfolding stop_of layout_of

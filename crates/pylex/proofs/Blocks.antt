@@ -16,7 +16,7 @@ use Rattle.pylex.specs.declared.entries.Step.{Step}
 use Rattle.pylex.specs.declared.entries.Step.TheVariants as steps
 use Rattle.pylexeme.specs.Operators.{is_closer}
 use Rattle.pylexeme.specs.Lexemes.{Lexeme, cut, left_by_cut}
-use Rattle.pylex.specs.Lines.{is_thing}
+use Rattle.pylex.specs.Lines.{is_significant}
 use Rattle.pylex.specs.Listing.{Source, mark, origin, up_to_end, stop_fault}
 use Rattle.pylex.specs.Steps.{entries_of, fault_of}
 use Rattle.pylex.specs.Cursors.{is_indent}
@@ -193,10 +193,10 @@ entry_nested s x n ss h = by_class x.«class» x.text
 lexeme_nested : (s : State) (x : Lexeme) (ss : List Step) → NestedFrom (after s x).levels ss → NestedFrom s.levels (gives s x ++ ss)
 unfolding gives after
 lexeme_nested s x ss k n o =
-    subst (λ (us : List Step). Nested n us) (sym (append_assoc (cond (is_thing x) (layout_of s) []) (entry_by s x) ss))
-    (cond_nested (is_thing x) n (layout_of s) [] (entry_by s x ++ ss)
-    (λ e. layout_nested s (entry_by s x ++ ss) (λ m p. entry_nested s x m ss (k m (moved s.margin (is_thing x) m e p))) n o)
-    (λ e. entry_nested s x n ss (k n (stayed s.margin (is_thing x) n e o))))
+    subst (λ (us : List Step). Nested n us) (sym (append_assoc (cond (is_significant x) (layout_of s) []) (entry_by s x) ss))
+    (cond_nested (is_significant x) n (layout_of s) [] (entry_by s x ++ ss)
+    (λ e. layout_nested s (entry_by s x ++ ss) (λ m p. entry_nested s x m ss (k m (moved s.margin (is_significant x) m e p))) n o)
+    (λ e. entry_nested s x n ss (k n (stayed s.margin (is_significant x) n e o))))
   where
     moved : (b t : Bool) (m : ℕ) → t ≡ true → Open (cond b (pushed s.width s.levels) s.levels) m → Open (cond (b && t) (pushed s.width s.levels) s.levels) m
     moved true t m e p = rw e p

@@ -8,9 +8,9 @@ use Rattle.pylex.specs.declared.entries.ListingFault.{ListingFault}
 use Rattle.pylex.specs.declared.entries.Step.{Step}
 use Rattle.pylex.specs.declared.entries.Step.TheVariants as steps
 use Rattle.pylex.specs.declared.kinds.Kind.TheVariants as kinds
-use Rattle.pylexeme.specs.Cuts.{begins_thing}
+use Rattle.pylexeme.specs.Cuts.{begins_significant}
 use Rattle.pylexeme.specs.Lexemes.{Lexeme, lexeme_at, cut, left_by_cut}
-use Rattle.pylex.specs.Lines.{is_thing}
+use Rattle.pylex.specs.Lines.{is_significant}
 use Rattle.pylex.specs.Cursors.{CursorParts, cursor, flag, same_parts}
 use Rattle.pylex.specs.Laws.{LiesIn, AllLie, AreLexemes, IsCut, LongestWins}
 use Rattle.pylex.specs.Machine.{remaining, first_state}
@@ -145,8 +145,8 @@ pub longest_wins : (text : List ℕ) → LongestWins text
 longest_wins = lexed.longest_wins
 
 -- a lexeme makes its line logical exactly where it is seen to
-pub thing_is : (text : List ℕ) (x : Lexeme) → lexeme_at text ≡ Some x → is_thing x ≡ begins_thing text
-thing_is = finding.thing_is
+pub significant_is : (text : List ℕ) (x : Lexeme) → lexeme_at text ≡ Some x → is_significant x ≡ begins_significant text
+significant_is = finding.significant_is
 
 -- a source is listed as the machine runs over its lexemes
 pub listing_is : (s : Source) → listing s ≡ mark kinds.Encoding [] origin origin ∷ remaining s.fault first_state s.text

@@ -11,17 +11,17 @@ use Rattle.pylex.specs.declared.state.Progress.{Progress}
 use Rattle.pylex.specs.declared.position.Meets.{Meets}
 use Rattle.pylex.specs.declared.position.Meets.TheVariants as meets
 use Rattle.pylexeme.specs.Chunks.{EndsLine}
-use Rattle.pylexeme.specs.Cuts.{begins_thing}
+use Rattle.pylexeme.specs.Cuts.{begins_significant}
 use Rattle.pylexeme.specs.Lexemes.{Lexeme, lexeme_at, lexeme_len, is_open_string}
 use Rattle.pylex.specs.Listing.{stop_fault, up_to_end}
 use Rattle.pylex.specs.Machine.{State, after, layout_of, stop_of, remaining}
 use Rattle.pylex.specs.Progress.{measured, Walks, stays, silent, level, dedent, Comes, EntryAhead, GivesFault, mismatch, faulty, FaultAhead, IndentAhead, DedentAhead, Finds}
 use Rattle.pylex.proofs.Steps.{remaining_stop}
 use Rattle.pylex.proofs.Measured.{stop_within}
-use Rattle.pylex.proofs.Things.{none_at_all, len_within}
-use Rattle.pylex.proofs.Finding.{no_thing}
+use Rattle.pylex.proofs.Significant.{none_at_all, len_within}
+use Rattle.pylex.proofs.Finding.{no_significant}
 use Rattle.pylexeme.proofs.Kept.{lexeme_kept, len_kept, none_kept, open_kept}
-use Rattle.pylexeme.proofs.LineFronts.{opens_kept, thing_kept}
+use Rattle.pylexeme.proofs.LineFronts.{opens_kept, significant_kept}
 
 -- Behind a front of whole lines are whole lines, or nothing.
 line_left : (c : ℕ) (cs front : List ℕ) → c ∷ cs ≡ front ++ 10 ∷ [] → EndsLine cs ⊎ (cs ≡ [])
@@ -44,17 +44,17 @@ drop_ends cs x l e = ⊎_elim (λ m. inr m) (λ z. inl z) (lines_left (lexeme_le
 pub drop_carried : (cs es : List ℕ) (x : Lexeme) → EndsLine cs → lexeme_at cs ≡ Some x → drop (lexeme_len (cs ++ es)) (cs ++ es) ≡ drop (lexeme_len cs) cs ++ es
 drop_carried cs es x l e = ap (λ n. drop n (cs ++ es)) (len_kept cs es x l e) ∙ drop-append-le (lexeme_len cs) cs es (len_within cs)
 
--- where a lexeme or a thing stands there are lines
+-- where a lexeme or a significant token stands there are lines
 lexeme_lines : (cs : List ℕ) (x : Lexeme) → lexeme_at cs ≡ Some x → EndsLine cs ⊎ (cs ≡ []) → EndsLine cs
 lexeme_lines cs x e (inl l) = l
 lexeme_lines cs x e (inr z) = absurd (none_at_all x (ap lexeme_at (sym z) ∙ e))
 
-thing_lines : (cs : List ℕ) → begins_thing cs ≡ true → EndsLine cs ⊎ (cs ≡ []) → EndsLine cs
-thing_lines cs t (inl l) = l
-thing_lines cs t (inr z) = no_thing (ap begins_thing (sym z) ∙ t)
+significant_lines : (cs : List ℕ) → begins_significant cs ≡ true → EndsLine cs ⊎ (cs ≡ []) → EndsLine cs
+significant_lines cs t (inl l) = l
+significant_lines cs t (inr z) = no_significant (ap begins_significant (sym z) ∙ t)
 
-settled_kept : (b : Bool) (cs es : List ℕ) → EndsLine cs → (b && begins_thing cs) ≡ false → (b && begins_thing (cs ++ es)) ≡ false
-settled_kept b cs es l d = ap (λ t. b && t) (thing_kept cs es l) ∙ d
+settled_kept : (b : Bool) (cs es : List ℕ) → EndsLine cs → (b && begins_significant cs) ≡ false → (b && begins_significant (cs ++ es)) ≡ false
+settled_kept b cs es l d = ap (λ t. b && t) (significant_kept cs es l) ∙ d
 
 -- A walk in whole lines.
 pub walks_carried : (t : State) (ds es : List ℕ) (n : ℕ) (s : State) (cs : List ℕ) → EndsLine cs ⊎ (cs ≡ []) → Walks t ds n s cs → Walks t (ds ++ es) n s (cs ++ es)
@@ -63,8 +63,8 @@ walks_carried t ds es n s cs h (silent m r bs x d e g w) =
     let l = lexeme_lines cs x e h in
     silent n s (cs ++ es) x (settled_kept s.margin cs es l d) (lexeme_kept cs es x l e) g
     (subst (λ (rest : List ℕ). Walks t (ds ++ es) n (after s x) rest) (sym (drop_carried cs es x l e)) (walks_carried t ds es n (after s x) (drop (lexeme_len cs) cs) (lines_left (lexeme_len cs) cs h) w))
-walks_carried t ds es n s cs h (level m r bs a b i c w) = level n s (cs ++ es) a (thing_kept cs es (thing_lines cs b h) ∙ b) i c (walks_carried t ds es n (measured s) cs h w)
-walks_carried t ds es n s cs h (dedent m r bs ls v a b e i k w) = dedent m s (cs ++ es) ls v a (thing_kept cs es (thing_lines cs b h) ∙ b) e i k (walks_carried t ds es m (record s { levels = ls }) cs h w)
+walks_carried t ds es n s cs h (level m r bs a b i c w) = level n s (cs ++ es) a (significant_kept cs es (significant_lines cs b h) ∙ b) i c (walks_carried t ds es n (measured s) cs h w)
+walks_carried t ds es n s cs h (dedent m r bs ls v a b e i k w) = dedent m s (cs ++ es) ls v a (significant_kept cs es (significant_lines cs b h) ∙ b) e i k (walks_carried t ds es m (record s { levels = ls }) cs h w)
 
 -- it leads to whole lines, or to nothing
 pub walks_lines : (t : State) (ds : List ℕ) (n : ℕ) (s : State) (cs : List ℕ) → EndsLine cs ⊎ (cs ≡ []) → Walks t ds n s cs → EndsLine ds ⊎ (ds ≡ [])
@@ -111,7 +111,7 @@ entry_carried levels p cs e q ds es h f =
     }
 
 cause_carried : (levels : List ℕ) (q : Progress) (ds es : List ℕ) (f : ListingFault) → EndsLine ds ⊎ (ds ≡ []) → GivesFault levels q ds f → GivesFault levels q (ds ++ es) f
-cause_carried levels q ds es f h (mismatch m t a i e) = mismatch m (thing_kept ds es (thing_lines ds t h) ∙ t) a i e
+cause_carried levels q ds es f h (mismatch m t a i e) = mismatch m (significant_kept ds es (significant_lines ds t h) ∙ t) a i e
 cause_carried levels q ds es f h (faulty x d e g) = let l = lexeme_lines ds x e h in faulty x (settled_kept q.margin ds es l d) (lexeme_kept ds es x l e) g
 
 pub fault_carried : (levels : List ℕ) (p : Progress) (cs es : List ℕ) (f : ListingFault) → EndsLine cs ⊎ (cs ≡ []) → FaultAhead levels p cs f → FaultAhead levels p (cs ++ es) f
@@ -123,10 +123,10 @@ fault_carried levels p cs es f h g = record {
 }
 
 pub indent_carried : (levels : List ℕ) (q : Progress) (ds es : List ℕ) → EndsLine ds ⊎ (ds ≡ []) → IndentAhead levels q ds → IndentAhead levels q (ds ++ es)
-indent_carried levels q ds es h i = record { margin = i.margin; thing = thing_kept ds es (thing_lines ds i.thing h) ∙ i.thing; above = i.above }
+indent_carried levels q ds es h i = record { margin = i.margin; significant = significant_kept ds es (significant_lines ds i.significant h) ∙ i.significant; above = i.above }
 
 pub dedent_carried : (levels : List ℕ) (q : Progress) (ds es : List ℕ) → EndsLine ds ⊎ (ds ≡ []) → DedentAhead levels q ds → DedentAhead levels q (ds ++ es)
-dedent_carried levels q ds es h d = record { margin = d.margin; thing = thing_kept ds es (thing_lines ds d.thing h) ∙ d.thing; level = d.level; some = d.some; last = d.last }
+dedent_carried levels q ds es h d = record { margin = d.margin; significant = significant_kept ds es (significant_lines ds d.significant h) ∙ d.significant; level = d.level; some = d.some; last = d.last }
 
 -- the end of what it holds aside
 pub finds_carried : (levels : List ℕ) (p : Progress) (cs : List ℕ) (m : Meets) (q : Progress) (ds es : List ℕ) → EndsLine cs ⊎ (cs ≡ []) → m ≢ meets.Stop → Finds levels p cs m q ds → Finds levels p (cs ++ es) m q (ds ++ es)

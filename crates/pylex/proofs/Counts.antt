@@ -12,7 +12,7 @@ use Rattle.pylex.specs.declared.entries.Step.{Step}
 use Rattle.pylex.specs.declared.entries.Step.TheVariants as steps
 use Rattle.pylexeme.specs.Operators.{is_closer}
 use Rattle.pylexeme.specs.Lexemes.{Lexeme, cut, left_by_cut}
-use Rattle.pylex.specs.Lines.{is_thing}
+use Rattle.pylex.specs.Lines.{is_significant}
 use Rattle.pylexeme.specs.Chars.{bytes_in}
 use Rattle.pylex.specs.Listing.{Source, listing, stop_fault, up_to_end}
 use Rattle.pylex.specs.Steps.{entries_of}
@@ -101,16 +101,16 @@ entry_many s x = by_class x.«class» x.text
 
 gives_many : (s : State) (x : Lexeme) → many (gives s x) + length (after s x).levels ≤ length s.levels + 3
 unfolding gives after
-gives_many s x = by_thing (is_thing x)
+gives_many s x = by_significant (is_significant x)
   where
-    by_thing : (b : Bool) → many (cond b (layout_of s) [] ++ entry_by s x) + length (cond (s.margin && b) (pushed s.width s.levels) s.levels) ≤ length s.levels + 3
-    by_thing true =
+    by_significant : (b : Bool) → many (cond b (layout_of s) [] ++ entry_by s x) + length (cond (s.margin && b) (pushed s.width s.levels) s.levels) ≤ length s.levels + 3
+    by_significant true =
         let a = many-append (layout_of s) (entry_by s x) in
         let l = layout_many s in
         let e = entry_many s x in
         let m : length (cond (s.margin && true) (pushed s.width s.levels) s.levels) ≡ length (levels_behind s) = ap (λ b. length (cond b (pushed s.width s.levels) s.levels)) (and-true s.margin) in
         omega arith
-    by_thing false =
+    by_significant false =
         let e = entry_many s x in
         let m : length (cond (s.margin && false) (pushed s.width s.levels) s.levels) ≡ length s.levels = ap (λ b. length (cond b (pushed s.width s.levels) s.levels)) (and-false s.margin) in
         omega arith

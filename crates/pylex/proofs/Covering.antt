@@ -15,7 +15,7 @@ use Rattle.pylex.specs.declared.entries.Step.{Step}
 use Rattle.pylex.specs.declared.entries.Step.TheVariants as steps
 use Rattle.pylexeme.specs.Operators.{is_closer}
 use Rattle.pylexeme.specs.Lexemes.{Lexeme, are_blanks, is_join, lexeme_at, cut, left_by_cut}
-use Rattle.pylex.specs.Lines.{is_of_blanks, is_of_line_end, is_thing}
+use Rattle.pylex.specs.Lines.{is_of_blanks, is_of_line_end, is_significant}
 use Rattle.pylexeme.specs.Chars.{bytes_in}
 use Rattle.pylex.specs.Listing.{Source, mark, origin, up_to_end, stop_fault}
 use Rattle.pylex.specs.Steps.{entries_of, fault_of}
@@ -172,8 +172,8 @@ lexeme_spans s x cs text ss e k n gap l = ⊎_elim
     rw g (subst (λ (u : List ℕ). Spans n u ss) (append_assoc gap x.text text) (k n (gap ++ x.text) (blanks_left s x n gap c (blanks_gap cs x e c) l))))
     (λ (b : is_of_blanks x ≡ false).
     let own : Begun s (x.text ++ text) (entry_by s x ++ ss) = entry_spans s x text ss (not_blanks x b) (join_gap cs x e) (λ m h g w f. k m h (other_left s x m h b g w f)) in
-    subst (λ (us : List Step). Spans n (gap ++ (x.text ++ text)) us) (sym (append_assoc (cond (is_thing x) (layout_of s) []) (entry_by s x) ss))
-    (cond_spans (is_thing x) n (gap ++ (x.text ++ text)) (layout_of s) [] (entry_by s x ++ ss)
+    subst (λ (us : List Step). Spans n (gap ++ (x.text ++ text)) us) (sym (append_assoc (cond (is_significant x) (layout_of s) []) (entry_by s x) ss))
+    (cond_spans (is_significant x) n (gap ++ (x.text ++ text)) (layout_of s) [] (entry_by s x ++ ss)
     (layout_spans s (x.text ++ text) (entry_by s x ++ ss) own n gap l)
     (own n gap l.is_gap l.now)))
     (bool_cases (is_of_blanks x))

@@ -10,7 +10,7 @@ use Rattle.std.proofs.lemmas.List.Elements.{All-cons, All-nil, All-from_recursio
 use Rattle.std.proofs.Math.Nat.{div-mul-le_self}
 use Rattle.pysource.specs.Places.{place_after}
 use Rattle.pylexeme.specs.Lexemes.{Lexeme}
-use Rattle.pylex.specs.Lines.{text_before, depth, opens, is_thing, line_so_far, is_at_margin, column_after, width_from, width_at, widths}
+use Rattle.pylex.specs.Lines.{text_before, depth, opens, is_significant, line_so_far, is_at_margin, column_after, width_from, width_at, widths}
 use Rattle.pylexeme.specs.Chars.{bytes_in}
 use Rattle.pylex.specs.Levels.{below, is_open, open_levels}
 use Rattle.pylex.specs.Listing.{Source, in_characters}
@@ -122,7 +122,7 @@ widths_within (x ∷ h) =
     let b = bytes_in-append (text_before h) x.text in
     let w = line_within h in
     let rest = more_at_most (8 * bytes_in (text_before h)) (8 * bytes_in (text_before h ++ x.text)) (widths h) (omega arith) (widths_within h) in
-    either (is_at_margin h && is_thing x) (width_at h) (omega arith) rest
+    either (is_at_margin h && is_significant x) (width_at h) (omega arith) rest
   where
     either : (c : Bool) (w : ℕ) → w ≤ 8 * bytes_in (text_before h ++ x.text) → AtMost (8 * bytes_in (text_before h ++ x.text)) (widths h) → AtMost (8 * bytes_in (text_before h ++ x.text)) (cond c (w ∷ widths h) (widths h))
     either true w l r = one_at_most (8 * bytes_in (text_before h ++ x.text)) w (widths h) l r

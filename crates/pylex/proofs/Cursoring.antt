@@ -13,9 +13,9 @@ use Rattle.pylex.specs.declared.entries.ListingFault.{ListingFault}
 use Rattle.pylex.specs.declared.entries.Step.{Step}
 use Rattle.pylex.specs.declared.entries.Step.TheVariants as steps
 use Rattle.pylexeme.specs.Operators.{is_closer}
-use Rattle.pylexeme.specs.Cuts.{begins_thing}
+use Rattle.pylexeme.specs.Cuts.{begins_significant}
 use Rattle.pylexeme.specs.Lexemes.{Lexeme, lexeme_at, lexeme_len, cut}
-use Rattle.pylex.specs.Lines.{text_before, depth, closes, is_thing, line_so_far, before_line, is_at_margin, width_from, width_at, widths}
+use Rattle.pylex.specs.Lines.{text_before, depth, closes, is_significant, line_so_far, before_line, is_at_margin, width_from, width_at, widths}
 use Rattle.pylexeme.specs.Chars.{bytes_in}
 use Rattle.pylex.specs.Levels.{open_levels}
 use Rattle.pysource.specs.Parts.{Parts}
@@ -36,7 +36,7 @@ use Rattle.pylex.proofs.Measured.{remaining_lexeme}
 use Rattle.pylex.proofs.Layouts.{layout_indent, layout_mismatch}
 use Rattle.pylex.proofs.Steps.{remaining_stop}
 use Rattle.pylex.specs.declared.entries.ListingError.TheVariants as errors
-use Rattle.pylex.proofs.Finding.{measured_thing, thing_is, no_layout}
+use Rattle.pylex.proofs.Finding.{measured_significant, significant_is, no_layout}
 use Rattle.pylex.proofs.Stack.{push}
 use Rattle.pylex.proofs.Ahead.{Placed, history_is, front_is, drop_front}
 use Rattle.pylex.proofs.Resuming.{resumes, stands_in_agreeing, encoding_entry, state_offset, state_at_margin}
@@ -281,13 +281,13 @@ passes_offset t ds n s cs (lexeme m u bs x e g p) = let h = passes_offset t ds n
 passes_offset t ds n s cs (layout m u bs b c l p) = passes_offset t ds m (measured s) cs p
 
 -- An entry with text from a lexeme is the next step.
-pub lexeme_first : (l : Listed) (a : Source) (k : ℕ) (t : State) (ds : List ℕ) (x : Lexeme) (e : Entry) → StandsIn l a k → 0 < k → Passes t ds l.shown.skip (resumed l.shown (standing_by (in_characters l.source) l.shown).line) (standing_by (in_characters l.source) l.shown).left → (t.margin && begins_thing ds) ≡ false → lexeme_at ds ≡ Some x → entry_by t x ≡ steps.Entry e ∷ [] → first_step (rest a k) ≡ steps.Entry e
+pub lexeme_first : (l : Listed) (a : Source) (k : ℕ) (t : State) (ds : List ℕ) (x : Lexeme) (e : Entry) → StandsIn l a k → 0 < k → Passes t ds l.shown.skip (resumed l.shown (standing_by (in_characters l.source) l.shown).line) (standing_by (in_characters l.source) l.shown).left → (t.margin && begins_significant ds) ≡ false → lexeme_at ds ≡ Some x → entry_by t x ≡ steps.Entry e ∷ [] → first_step (rest a k) ≡ steps.Entry e
 lexeme_first l a k t ds x e h n p d f q =
-    let thing : (t.margin && is_thing x) ≡ false = ap (λ b. t.margin && b) (thing_is ds x f) ∙ d in
-    ap first_step (rest_there l a k t ds h n p ∙ remaining_lexeme (in_characters l.source).fault t ds x f ∙ ap (λ ss. behind_steps ss (remaining (in_characters l.source).fault (after t x) (drop (lexeme_len ds) ds))) (no_layout t x thing ∙ q))
+    let significant : (t.margin && is_significant x) ≡ false = ap (λ b. t.margin && b) (significant_is ds x f) ∙ d in
+    ap first_step (rest_there l a k t ds h n p ∙ remaining_lexeme (in_characters l.source).fault t ds x f ∙ ap (λ ss. behind_steps ss (remaining (in_characters l.source).fault (after t x) (drop (lexeme_len ds) ds))) (no_layout t x significant ∙ q))
 
 -- The cursor behind it.
-pub after_lexeme : (l : Listed) (a : Source) (k : ℕ) (t : State) (ds : List ℕ) (x : Lexeme) (e : Entry) → StandsIn l a k → 0 < k → Passes t ds l.shown.skip (resumed l.shown (standing_by (in_characters l.source) l.shown).line) (standing_by (in_characters l.source) l.shown).left → (t.margin && begins_thing ds) ≡ false → lexeme_at ds ≡ Some x → entry_by t x ≡ steps.Entry e ∷ [] → StandsIn (record l { shown = shown_at (k + 1) (after t x) }) a (k + 1)
+pub after_lexeme : (l : Listed) (a : Source) (k : ℕ) (t : State) (ds : List ℕ) (x : Lexeme) (e : Entry) → StandsIn l a k → 0 < k → Passes t ds l.shown.skip (resumed l.shown (standing_by (in_characters l.source) l.shown).line) (standing_by (in_characters l.source) l.shown).left → (t.margin && begins_significant ds) ≡ false → lexeme_at ds ≡ Some x → entry_by t x ≡ steps.Entry e ∷ [] → StandsIn (record l { shown = shown_at (k + 1) (after t x) }) a (k + 1)
 after_lexeme l a k t ds x e h n p d f q =
     let first = lexeme_first l a k t ds x e h n p d f q in
     let s0 : State = resumed l.shown (standing_by (in_characters l.source) l.shown).line in
@@ -344,12 +344,12 @@ indented_line h m e =
     some_text (text_before (line_so_far h)) (omega arith)
 
 -- An INDENT is the next step.
-pub indent_first : (l : Listed) (a : Source) (k : ℕ) (t : State) (ds : List ℕ) → StandsIn l a k → 0 < k → Passes t ds l.shown.skip (resumed l.shown (standing_by (in_characters l.source) l.shown).line) (standing_by (in_characters l.source) l.shown).left → t.margin ≡ true → begins_thing ds ≡ true → is_above t.width t.levels ≡ true → first_step (rest a k) ≡ step_of kinds.Indent None t.line t.now
+pub indent_first : (l : Listed) (a : Source) (k : ℕ) (t : State) (ds : List ℕ) → StandsIn l a k → 0 < k → Passes t ds l.shown.skip (resumed l.shown (standing_by (in_characters l.source) l.shown).line) (standing_by (in_characters l.source) l.shown).left → t.margin ≡ true → begins_significant ds ≡ true → is_above t.width t.levels ≡ true → first_step (rest a k) ≡ step_of kinds.Indent None t.line t.now
 indent_first l a k t ds h n p m b w =
-    ap first_step (rest_there l a k t ds h n p ∙ measured_thing (in_characters l.source).fault t ds m b ∙ ap (λ ss. behind_steps ss (remaining (in_characters l.source).fault (measured t) ds)) (layout_indent t m w))
+    ap first_step (rest_there l a k t ds h n p ∙ measured_significant (in_characters l.source).fault t ds m b ∙ ap (λ ss. behind_steps ss (remaining (in_characters l.source).fault (measured t) ds)) (layout_indent t m w))
 
 -- The cursor behind it.
-pub after_indent : (l : Listed) (a : Source) (k : ℕ) (t : State) (ds : List ℕ) → StandsIn l a k → 0 < k → Passes t ds l.shown.skip (resumed l.shown (standing_by (in_characters l.source) l.shown).line) (standing_by (in_characters l.source) l.shown).left → t.margin ≡ true → begins_thing ds ≡ true → is_above t.width t.levels ≡ true → StandsIn (record l { shown = shown_at (k + 1) (measured t) }) a (k + 1)
+pub after_indent : (l : Listed) (a : Source) (k : ℕ) (t : State) (ds : List ℕ) → StandsIn l a k → 0 < k → Passes t ds l.shown.skip (resumed l.shown (standing_by (in_characters l.source) l.shown).line) (standing_by (in_characters l.source) l.shown).left → t.margin ≡ true → begins_significant ds ≡ true → is_above t.width t.levels ≡ true → StandsIn (record l { shown = shown_at (k + 1) (measured t) }) a (k + 1)
 after_indent l a k t ds h n p m b w =
     let s0 : State = resumed l.shown (standing_by (in_characters l.source) l.shown).line in
     let left : List ℕ = (standing_by (in_characters l.source) l.shown).left in
@@ -452,21 +452,21 @@ mark_next zero (suc m) e r h = refl
 mark_next (suc j) (suc m) e r h = mark_next j m e r (omega arith)
 
 -- A DEDENT is the next step, where j of a line's are given.
-pub dedent_first : (l : Listed) (a : Source) (k : ℕ) (t : State) (ds : List ℕ) (n j : ℕ) → StandsIn l a k → 0 < k → Passes t ds n (resumed l.shown (standing_by (in_characters l.source) l.shown).line) (standing_by (in_characters l.source) l.shown).left → l.shown.skip ≡ n + j → t.margin ≡ true → begins_thing ds ≡ true → layout_of t ≡ dedents_at t.width t.levels t.now.offset t.now.place → j < count_by (nat_lt t.width) t.levels → first_step (rest a k) ≡ mark_at kinds.Dedent t.now.offset t.now.place t.now.place
+pub dedent_first : (l : Listed) (a : Source) (k : ℕ) (t : State) (ds : List ℕ) (n j : ℕ) → StandsIn l a k → 0 < k → Passes t ds n (resumed l.shown (standing_by (in_characters l.source) l.shown).line) (standing_by (in_characters l.source) l.shown).left → l.shown.skip ≡ n + j → t.margin ≡ true → begins_significant ds ≡ true → layout_of t ≡ dedents_at t.width t.levels t.now.offset t.now.place → j < count_by (nat_lt t.width) t.levels → first_step (rest a k) ≡ mark_at kinds.Dedent t.now.offset t.now.place t.now.place
 dedent_first l a k t ds n j h b p s m g y c =
     ap first_step (rest_within l a k t ds n j h b p s)
-    ∙ ap (λ ss. first_step (drop j ss)) (measured_thing (in_characters l.source).fault t ds m g ∙ ap (λ ss. behind_steps ss (remaining (in_characters l.source).fault (measured t) ds)) y)
+    ∙ ap (λ ss. first_step (drop j ss)) (measured_significant (in_characters l.source).fault t ds m g ∙ ap (λ ss. behind_steps ss (remaining (in_characters l.source).fault (measured t) ds)) y)
     ∙ mark_next j (count_by (nat_lt t.width) t.levels) _ (remaining (in_characters l.source).fault (measured t) ds) c
 
 -- A fault is the next step: of a line that is on no open level, or of a closing bracket without its opening one.
-pub mismatch_first : (l : Listed) (a : Source) (k : ℕ) (t : State) (ds : List ℕ) → StandsIn l a k → 0 < k → Passes t ds l.shown.skip (resumed l.shown (standing_by (in_characters l.source) l.shown).line) (standing_by (in_characters l.source) l.shown).left → t.margin ≡ true → begins_thing ds ≡ true → is_above t.width t.levels ≡ false → is_level t.width t.levels ≡ false → first_step (rest a k) ≡ fault_at errors.UnindentMismatch t.now.place
+pub mismatch_first : (l : Listed) (a : Source) (k : ℕ) (t : State) (ds : List ℕ) → StandsIn l a k → 0 < k → Passes t ds l.shown.skip (resumed l.shown (standing_by (in_characters l.source) l.shown).line) (standing_by (in_characters l.source) l.shown).left → t.margin ≡ true → begins_significant ds ≡ true → is_above t.width t.levels ≡ false → is_level t.width t.levels ≡ false → first_step (rest a k) ≡ fault_at errors.UnindentMismatch t.now.place
 mismatch_first l a k t ds h n p m b w v =
-    ap first_step (rest_there l a k t ds h n p ∙ measured_thing (in_characters l.source).fault t ds m b ∙ ap (λ ss. behind_steps ss (remaining (in_characters l.source).fault (measured t) ds)) (layout_mismatch t m w v))
+    ap first_step (rest_there l a k t ds h n p ∙ measured_significant (in_characters l.source).fault t ds m b ∙ ap (λ ss. behind_steps ss (remaining (in_characters l.source).fault (measured t) ds)) (layout_mismatch t m w v))
 
-pub lexeme_fault : (l : Listed) (a : Source) (k : ℕ) (t : State) (ds : List ℕ) (x : Lexeme) (f : ListingFault) → StandsIn l a k → 0 < k → Passes t ds l.shown.skip (resumed l.shown (standing_by (in_characters l.source) l.shown).line) (standing_by (in_characters l.source) l.shown).left → (t.margin && begins_thing ds) ≡ false → lexeme_at ds ≡ Some x → entry_by t x ≡ steps.Fault f ∷ [] → first_step (rest a k) ≡ steps.Fault f
+pub lexeme_fault : (l : Listed) (a : Source) (k : ℕ) (t : State) (ds : List ℕ) (x : Lexeme) (f : ListingFault) → StandsIn l a k → 0 < k → Passes t ds l.shown.skip (resumed l.shown (standing_by (in_characters l.source) l.shown).line) (standing_by (in_characters l.source) l.shown).left → (t.margin && begins_significant ds) ≡ false → lexeme_at ds ≡ Some x → entry_by t x ≡ steps.Fault f ∷ [] → first_step (rest a k) ≡ steps.Fault f
 lexeme_fault l a k t ds x f h n p d o q =
-    let thing : (t.margin && is_thing x) ≡ false = ap (λ b. t.margin && b) (thing_is ds x o) ∙ d in
-    ap first_step (rest_there l a k t ds h n p ∙ remaining_lexeme (in_characters l.source).fault t ds x o ∙ ap (λ ss. behind_steps ss (remaining (in_characters l.source).fault (after t x) (drop (lexeme_len ds) ds))) (no_layout t x thing ∙ q))
+    let significant : (t.margin && is_significant x) ≡ false = ap (λ b. t.margin && b) (significant_is ds x o) ∙ d in
+    ap first_step (rest_there l a k t ds h n p ∙ remaining_lexeme (in_characters l.source).fault t ds x o ∙ ap (λ ss. behind_steps ss (remaining (in_characters l.source).fault (after t x) (drop (lexeme_len ds) ds))) (no_layout t x significant ∙ q))
 
 -- Where no lexeme stands, the steps of the stop are left, of which j are given already.
 pub rest_at_stop : (l : Listed) (a : Source) (k : ℕ) (t : State) (ds : List ℕ) (n j : ℕ) → StandsIn l a k → 0 < k → Passes t ds n (resumed l.shown (standing_by (in_characters l.source) l.shown).line) (standing_by (in_characters l.source) l.shown).left → l.shown.skip ≡ n + j → lexeme_at ds ≡ None → rest a k ≡ drop j (up_to_end (stop_of (in_characters l.source).fault t ds))

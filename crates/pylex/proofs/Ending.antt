@@ -16,7 +16,7 @@ use Rattle.pylex.specs.declared.state.Given.{Given}
 use Rattle.pylex.specs.declared.state.Given.TheVariants as gives
 use Rattle.pylex.specs.declared.state.Progress.{Progress}
 use Rattle.pylexeme.specs.Lexemes.{lexeme_at}
-use Rattle.pylexeme.specs.Cuts.{begins_thing}
+use Rattle.pylexeme.specs.Cuts.{begins_significant}
 use Rattle.pylex.specs.Listing.{fault_at, further, stop_fault, row_after, up_to_end}
 use Rattle.pylex.specs.Steps.{first_step}
 use Rattle.pylex.specs.Machine.{State, is_hash, stop_of, tail_of, last_line_end, last_place, remaining, behind_steps, mark_at, dedents_at}
@@ -25,7 +25,7 @@ use Rattle.pylexeme.proofs.Cases.{bool_cases}
 use Rattle.pylex.proofs.Run.{up_to_end-append}
 use Rattle.pylex.proofs.Steps.{remaining_stop}
 use Rattle.pylex.proofs.Measured.{stop_within, behind_steps-append}
-use Rattle.pylex.proofs.Things.{all_cut}
+use Rattle.pylex.proofs.Significant.{all_cut}
 use Rattle.pylex.proofs.Finding.{settled_layout}
 
 -- a text with bytes has characters
@@ -33,11 +33,11 @@ pub some_chars : (bytes : List ℕ) → IsUtf8 bytes → chars bytes ≡ [] → 
 some_chars bytes u e = sym (encodes-chars bytes u) ∙ ap encode_utf8_all e
 
 -- at a stop within the text no layout is left
-thing_at_stop : (c : ℕ) (cs : List ℕ) → lexeme_at (c ∷ cs) ≡ None → begins_thing (c ∷ cs) ≡ true
-thing_at_stop c cs e = ⊎_elim
-    (λ (b : begins_thing (c ∷ cs) ≡ true). b)
-    (λ (b : begins_thing (c ∷ cs) ≡ false). let n = all_cut (c ∷ cs) b e in cc)
-    (bool_cases (begins_thing (c ∷ cs)))
+significant_at_stop : (c : ℕ) (cs : List ℕ) → lexeme_at (c ∷ cs) ≡ None → begins_significant (c ∷ cs) ≡ true
+significant_at_stop c cs e = ⊎_elim
+    (λ (b : begins_significant (c ∷ cs) ≡ true). b)
+    (λ (b : begins_significant (c ∷ cs) ≡ false). let n = all_cut (c ∷ cs) b e in cc)
+    (bool_cases (begins_significant (c ∷ cs)))
 
 and_true : (b : Bool) → (b && true) ≡ b
 and_true true = refl
@@ -47,8 +47,8 @@ pub stop_found : (fault : Option ListingFault) (p : Progress) (ls : List ℕ) (c
 stop_found fault p ls c cs stop =
     let s : State = with_levels p ls in
     let last = stop_fault fault p.now.place (c ∷ cs) in
-    let thing = thing_at_stop c cs stop.none in
-    let margin : p.margin ≡ false = sym (and_true p.margin) ∙ ap (λ b. p.margin && b) (sym thing) ∙ stop.settled in
+    let significant = significant_at_stop c cs stop.none in
+    let margin : p.margin ≡ false = sym (and_true p.margin) ∙ ap (λ b. p.margin && b) (sym significant) ∙ stop.settled in
     remaining_stop fault s (c ∷ cs) stop.none
     ∙ ap up_to_end (stop_within fault s c cs ∙ ap (λ ss. ss ++ last ∷ []) (settled_layout s margin))
     ∙ one_step fault p.now.place (c ∷ cs)

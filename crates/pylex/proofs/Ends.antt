@@ -13,7 +13,7 @@ use Rattle.pylexeme.specs.Strings.{opens_string}
 use Rattle.pylexeme.specs.declared.lexeme.Class.{Class}
 use Rattle.pylexeme.specs.declared.lexeme.Class.TheVariants.{Name, Number, String, Operator, Comment, Blanks, LineEnd, Join}
 use Rattle.pylexeme.specs.Operators.{is_closer}
-use Rattle.pylex.specs.Lines.{is_thing}
+use Rattle.pylex.specs.Lines.{is_significant}
 use Rattle.pylexeme.specs.Lexemes.{Lexeme, cut, left_by_cut, is_open_string}
 use Rattle.pylex.specs.Listing.{Source, mark, origin, fault_at, stop_fault, up_to_end}
 use Rattle.pylex.specs.Steps.{entries_of}
@@ -95,7 +95,7 @@ entry_no_end s x = by_class x.«class» x.text
 
 gives_no_end : (s : State) (x : Lexeme) → NoEnd (gives s x)
 unfolding gives
-gives_no_end s x = NoEnd-append (cond (is_thing x) (layout_of s) []) (entry_by s x) (cond_no_end (is_thing x) (layout_of s) [] (layout_no_end s) tt) (entry_no_end s x)
+gives_no_end s x = NoEnd-append (cond (is_significant x) (layout_of s) []) (entry_by s x) (cond_no_end (is_significant x) (layout_of s) [] (layout_no_end s) tt) (entry_no_end s x)
 
 tail_stops : (s : State) → Stops (tail_of s)
 unfolding tail_of last_line_end

@@ -25,7 +25,7 @@ use Rattle.pylex.specs.declared.entries.Step.{Step}
 use Rattle.pylex.specs.declared.entries.Step.TheVariants as steps
 use Rattle.pylex.specs.declared.kinds.Kind.{Kind}
 use Rattle.pylex.specs.declared.kinds.Kind.TheVariants as kinds
-use Rattle.pylex.specs.Lines.{text_before, depth, is_thing, is_at_margin, is_logical, width_at, widths}
+use Rattle.pylex.specs.Lines.{text_before, depth, is_significant, is_at_margin, is_logical, width_at, widths}
 use Rattle.pylex.specs.Levels.{open_levels}
 use Rattle.pylex.specs.Listing.{listing, in_characters, mark, origin, fault_at, dedents, layout_by, layout, entry_of, steps_of, stop_fault}
 use Rattle.pylex.specs.Listing.{last_line, begins_comment, line_end_of_last, end_place, ends_in_join, tail, stop, steps_from, up_to_end}
@@ -176,7 +176,7 @@ module _ (cs : List ℕ) (before : List Lexeme) where
       → AllHave cs (steps_of before x)
   unfolding steps_of
   steps_have x rest good h typed =
-      AllHave-append cs _ (entry_of before x) (cond_have cs (is_thing x) (layout before) [] layout_have tt) (entry_has x rest good h typed)
+      AllHave-append cs _ (entry_of before x) (cond_have cs (is_significant x) (layout before) [] layout_have tt) (entry_has x rest good h typed)
 
   last_has : (p : Place) → AllHave cs (line_end_of_last before p)
   unfolding line_end_of_last

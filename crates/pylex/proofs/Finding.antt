@@ -14,10 +14,10 @@ use Rattle.pylex.specs.declared.state.Progress.{Progress}
 use Rattle.pylex.specs.declared.position.Layout.TheVariants as layouts
 use Rattle.pylex.specs.declared.position.Meets.{Meets}
 use Rattle.pylex.specs.declared.position.Meets.TheVariants as meets
-use Rattle.pylexeme.specs.Lexemes.{Lexeme, lexeme_at, lexeme_len, is_thing_class, is_line_end_class, is_blanks_class}
+use Rattle.pylexeme.specs.Lexemes.{Lexeme, lexeme_at, lexeme_len, is_significant_class, is_line_end_class, is_blanks_class}
 use Rattle.pylexeme.specs.declared.lexeme.Class.TheVariants.{Name, Number, String, Operator, Comment, Blanks, LineEnd, Join}
-use Rattle.pylex.specs.Lines.{is_thing}
-use Rattle.pylexeme.specs.Cuts.{Cuts, begins_thing}
+use Rattle.pylex.specs.Lines.{is_significant}
+use Rattle.pylexeme.specs.Cuts.{Cuts, begins_significant}
 use Rattle.pylex.specs.Machine.{State, after, gives, entry_by, layout_of, remaining, behind_steps, pushed, dedents_at, mark_at}
 use Rattle.pylex.specs.Progress.{with_levels, measured, given, Stands, HasRoom, Comes, Walks, stays, silent, level, dedent, EntryAhead, GivesFault, mismatch, faulty, FaultAhead, IndentAhead, DedentAhead, Finds, Settles, IsLayout, is_level, Behind}
 use Rattle.std.proofs.lemmas.Bool.Decides.{nat_tests}
@@ -27,43 +27,43 @@ use Rattle.std.proofs.lemmas.Str.{length-le-encodes, encodes-chars, encodes-appe
 use Rattle.pylexeme.proofs.Cases.{bool_cases}
 use Rattle.pylex.proofs.Measured.{lexeme_front, remaining_lexeme, measured_lexeme, measured_stop}
 use Rattle.pylex.proofs.Layouts.{layout_dedents, layout_mismatch, level_not_above, level-push, pushed_less, dedents-push}
-use Rattle.pylex.proofs.Things.{thing_at, plain_at}
+use Rattle.pylex.proofs.Significant.{significant_at, plain_at}
 
 false_or_true : (b : Bool) → (b ≡ false) ⊎ (b ≡ true)
 false_or_true true = inr refl
 false_or_true false = inl refl
 
 -- a lexeme makes its line logical exactly where it is seen to
-pub thing_is : (cs : List ℕ) (x : Lexeme) → lexeme_at cs ≡ Some x → is_thing x ≡ begins_thing cs
-thing_is cs x e = ⊎_elim
-    (λ (b : begins_thing cs ≡ true). thing_at cs x b e ∙ sym b)
-    (λ (b : begins_thing cs ≡ false). plain_at cs x b e ∙ sym b)
-    (bool_cases (begins_thing cs))
+pub significant_is : (cs : List ℕ) (x : Lexeme) → lexeme_at cs ≡ Some x → is_significant x ≡ begins_significant cs
+significant_is cs x e = ⊎_elim
+    (λ (b : begins_significant cs ≡ true). significant_at cs x b e ∙ sym b)
+    (λ (b : begins_significant cs ≡ false). plain_at cs x b e ∙ sym b)
+    (bool_cases (begins_significant cs))
 
--- a thing begins no empty text
-pub no_thing : {A : Type 0} → begins_thing [] ≡ true → A
-unfolding begins_thing
-no_thing t = cc
+-- a significant token begins no empty text
+pub no_significant : {A : Type 0} → begins_significant [] ≡ true → A
+unfolding begins_significant
+no_significant t = cc
 
--- before a thing the layout stands
-measured_by : (fault : Option ListingFault) (s : State) (cs : List ℕ) (o : Option Lexeme) → lexeme_at cs ≡ o → s.margin ≡ true → begins_thing cs ≡ true → remaining fault s cs ≡ behind_steps (layout_of s) (remaining fault (measured s) cs)
-measured_by fault s cs (Some x) e m t = measured_lexeme fault s cs x m e (thing_at cs x t e)
+-- before a significant token the layout stands
+measured_by : (fault : Option ListingFault) (s : State) (cs : List ℕ) (o : Option Lexeme) → lexeme_at cs ≡ o → s.margin ≡ true → begins_significant cs ≡ true → remaining fault s cs ≡ behind_steps (layout_of s) (remaining fault (measured s) cs)
+measured_by fault s cs (Some x) e m t = measured_lexeme fault s cs x m e (significant_at cs x t e)
 measured_by fault s (c ∷ cs) None e m t = measured_stop fault s c cs e
-measured_by fault s [] None e m t = no_thing t
+measured_by fault s [] None e m t = no_significant t
 
-pub measured_thing : (fault : Option ListingFault) (s : State) (cs : List ℕ) → s.margin ≡ true → begins_thing cs ≡ true → remaining fault s cs ≡ behind_steps (layout_of s) (remaining fault (measured s) cs)
-measured_thing fault s cs m t = measured_by fault s cs (lexeme_at cs) refl m t
+pub measured_significant : (fault : Option ListingFault) (s : State) (cs : List ℕ) → s.margin ≡ true → begins_significant cs ≡ true → remaining fault s cs ≡ behind_steps (layout_of s) (remaining fault (measured s) cs)
+measured_significant fault s cs m t = measured_by fault s cs (lexeme_at cs) refl m t
 
 -- One lexeme, where no layout is due.
 pub settled_layout : (s : State) → s.margin ≡ false → layout_of s ≡ []
 unfolding layout_of
 settled_layout s m = rw m refl
 
-pub no_layout : (s : State) (x : Lexeme) → (s.margin && is_thing x) ≡ false → gives s x ≡ entry_by s x
+pub no_layout : (s : State) (x : Lexeme) → (s.margin && is_significant x) ≡ false → gives s x ≡ entry_by s x
 unfolding gives
 no_layout s x h = ⊎_elim
-    (λ (m : s.margin ≡ false). let none = settled_layout s m in rw none (no_choice (is_thing x) (entry_by s x)))
-    (λ (m : s.margin ≡ true). let t : is_thing x ≡ false = rw m at h in rw t refl)
+    (λ (m : s.margin ≡ false). let none = settled_layout s m in rw none (no_choice (is_significant x) (entry_by s x)))
+    (λ (m : s.margin ≡ true). let t : is_significant x ≡ false = rw m at h in rw t refl)
     (false_or_true s.margin)
   where
     no_choice : (b : Bool) (ss : List Step) → cond b [] [] ++ ss ≡ ss
@@ -86,7 +86,7 @@ behind_first cs b x e p =
     same_drop (lexeme_len cs) cs ∙ ap (λ t. drop (length t) cs) (sym f) ∙ ap (drop (length x.text)) p ∙ drop_front x.text b
 
 -- A DEDENT for the last level, where the width is that of one before it.
-pub dedent_step : (f : Option ListingFault) (s : State) (cs ls : List ℕ) (v : ℕ) → s.margin ≡ true → begins_thing cs ≡ true → s.levels ≡ ls ++ v ∷ [] → s.width < v → is_level s.width ls ≡ true → remaining f s cs ≡ mark_at kinds.Dedent s.now.offset s.now.place s.now.place ∷ remaining f (record s { levels = ls }) cs
+pub dedent_step : (f : Option ListingFault) (s : State) (cs ls : List ℕ) (v : ℕ) → s.margin ≡ true → begins_significant cs ≡ true → s.levels ≡ ls ++ v ∷ [] → s.width < v → is_level s.width ls ≡ true → remaining f s cs ≡ mark_at kinds.Dedent s.now.offset s.now.place s.now.place ∷ remaining f (record s { levels = ls }) cs
 dedent_step f s cs ls v m t levels less is =
     let r : State = record s { levels = ls } in
     let one : Step = mark_at kinds.Dedent s.now.offset s.now.place s.now.place in
@@ -96,7 +96,7 @@ dedent_step f s cs ls v m t levels less is =
     let later : layout_of r ≡ dedents_at s.width ls s.now.offset s.now.place = layout_dedents r m (level_not_above s.width ls is) is in
     let first : layout_of s ≡ one ∷ layout_of r = before ∙ ap (λ ns. dedents_at s.width ns s.now.offset s.now.place) levels ∙ dedents-push s.width v ls s.now.offset s.now.place less ∙ ap (λ ss. one ∷ ss) (sym later) in
     let state : measured s ≡ measured r = ap (λ ns. record (measured s) { levels = ns }) (ap (pushed s.width) levels ∙ pushed_less s.width v ls less) in
-    measured_thing f s cs m t ∙ ap (λ ss. behind_steps ss (remaining f (measured s) cs)) first ∙ ap (λ u. one ∷ behind_steps (layout_of r) (remaining f u cs)) state ∙ ap (λ ss. one ∷ ss) (sym (measured_thing f r cs m t))
+    measured_significant f s cs m t ∙ ap (λ ss. behind_steps ss (remaining f (measured s) cs)) first ∙ ap (λ u. one ∷ behind_steps (layout_of r) (remaining f u cs)) state ∙ ap (λ ss. one ∷ ss) (sym (measured_significant f r cs m t))
 
 -- a line of an open level with none above it gives no layout
 level_layout : (s : State) → s.margin ≡ true → is_level s.width s.levels ≡ true → count_by (nat_lt s.width) s.levels ≡ 0 → layout_of s ≡ []
@@ -106,11 +106,11 @@ level_layout s m l n = layout_dedents s m (level_not_above s.width s.levels l) l
 pub walks_steps : (f : Option ListingFault) (t : State) (ds : List ℕ) (n : ℕ) (s : State) (cs : List ℕ) → Walks t ds n s cs → drop n (remaining f s cs) ≡ remaining f t ds
 walks_steps f t ds n s cs stays = refl
 walks_steps f t ds n s cs (silent m r bs x d e g w) =
-    let thing : (s.margin && is_thing x) ≡ false = ap (λ b. s.margin && b) (thing_is cs x e) ∙ d in
-    ap (drop n) (remaining_lexeme f s cs x e ∙ ap (λ ss. behind_steps ss (remaining f (after s x) (drop (lexeme_len cs) cs))) (no_layout s x thing ∙ g))
+    let significant : (s.margin && is_significant x) ≡ false = ap (λ b. s.margin && b) (significant_is cs x e) ∙ d in
+    ap (drop n) (remaining_lexeme f s cs x e ∙ ap (λ ss. behind_steps ss (remaining f (after s x) (drop (lexeme_len cs) cs))) (no_layout s x significant ∙ g))
     ∙ walks_steps f t ds n (after s x) (drop (lexeme_len cs) cs) w
 walks_steps f t ds n s cs (level m r bs a b l c w) =
-    ap (drop n) (measured_thing f s cs a b ∙ ap (λ ss. behind_steps ss (remaining f (measured s) cs)) (level_layout s a l c))
+    ap (drop n) (measured_significant f s cs a b ∙ ap (λ ss. behind_steps ss (remaining f (measured s) cs)) (level_layout s a l c))
     ∙ walks_steps f t ds n (measured s) cs w
 walks_steps f t ds n s cs (dedent m r bs ls v a b e l i w) =
     ap (drop (suc m)) (dedent_step f s cs ls v a b e l i)
@@ -144,7 +144,7 @@ finds_on levels p cs q ds meets.Dedent r es c f = (comes_on levels p cs q ds r e
 finds_on levels p cs q ds meets.Stop r es c f = (comes_on levels p cs q ds r es c f.0, f.1)
 
 -- A line of the last level.
-pub settles_level : (levels : List ℕ) (p q : Progress) (cs : List ℕ) → p.margin ≡ true → begins_thing cs ≡ true → IsLayout p.width levels layouts.Level → ((ls : List ℕ) → with_levels q (pushed p.width ls) ≡ measured (with_levels p ls)) → Settles levels p cs q
+pub settles_level : (levels : List ℕ) (p q : Progress) (cs : List ℕ) → p.margin ≡ true → begins_significant cs ≡ true → IsLayout p.width levels layouts.Level → ((ls : List ℕ) → with_levels q (pushed p.width ls) ≡ measured (with_levels p ls)) → Settles levels p cs q
 settles_level levels p q cs m t h is =
     let s : State = with_levels p (0 ∷ levels) in
     let state : measured s ≡ with_levels q (0 ∷ levels) = sym (is (0 ∷ levels)) ∙ ap (with_levels q) h.3 in
@@ -155,18 +155,18 @@ settles_level levels p q cs m t h is =
     }
 
 -- No layout is due.
-pub settles_same : (levels : List ℕ) (p : Progress) (cs : List ℕ) → (p.margin && begins_thing cs) ≡ false → Settles levels p cs p
+pub settles_same : (levels : List ℕ) (p : Progress) (cs : List ℕ) → (p.margin && begins_significant cs) ≡ false → Settles levels p cs p
 settles_same levels p cs h = record { comes = stays_there levels p cs; settled = h }
 
 -- A line that closes levels to none that is open.
-pub fault_mismatch : (levels : List ℕ) (p : Progress) (cs : List ℕ) → p.margin ≡ true → begins_thing cs ≡ true → IsLayout p.width levels layouts.Mismatch → FaultAhead levels p cs (record { code = errors.UnindentMismatch; place = p.now.place })
+pub fault_mismatch : (levels : List ℕ) (p : Progress) (cs : List ℕ) → p.margin ≡ true → begins_significant cs ≡ true → IsLayout p.width levels layouts.Mismatch → FaultAhead levels p cs (record { code = errors.UnindentMismatch; place = p.now.place })
 fault_mismatch levels p cs m t h = record { there = p; before = cs; comes = stays_there levels p cs; cause = mismatch m t h.0 h.1 refl }
 
-pub indent_ahead : (levels : List ℕ) (p : Progress) (cs : List ℕ) → p.margin ≡ true → begins_thing cs ≡ true → IsLayout p.width levels layouts.Indent → Comes levels p cs p cs × IndentAhead levels p cs
-indent_ahead levels p cs m t h = (stays_there levels p cs, record { margin = m; thing = t; above = h })
+pub indent_ahead : (levels : List ℕ) (p : Progress) (cs : List ℕ) → p.margin ≡ true → begins_significant cs ≡ true → IsLayout p.width levels layouts.Indent → Comes levels p cs p cs × IndentAhead levels p cs
+indent_ahead levels p cs m t h = (stays_there levels p cs, record { margin = m; significant = t; above = h })
 
-pub dedent_ahead : (levels : List ℕ) (p : Progress) (cs : List ℕ) → p.margin ≡ true → begins_thing cs ≡ true → IsLayout p.width levels layouts.Dedent → Comes levels p cs p cs × DedentAhead levels p cs
-dedent_ahead levels p cs m t h = (stays_there levels p cs, record { margin = m; thing = t; level = h.0; some = h.1; last = h.2 })
+pub dedent_ahead : (levels : List ℕ) (p : Progress) (cs : List ℕ) → p.margin ≡ true → begins_significant cs ≡ true → IsLayout p.width levels layouts.Dedent → Comes levels p cs p cs × DedentAhead levels p cs
+dedent_ahead levels p cs m t h = (stays_there levels p cs, record { margin = m; significant = t; level = h.0; some = h.1; last = h.2 })
 
 -- what a lexeme gives, where the lister came to here from a place before
 pub fault_found : (levels : List ℕ) (p0 : Progress) (cs : List ℕ) (q p : Progress) (bytes front back : List ℕ) (k : Class) (f : ListingFault) → Comes levels p0 cs q (chars bytes) → Settles levels q (chars bytes) p → Cuts bytes k front back → ((ls : List ℕ) → entry_by (with_levels p ls) (record { «class» = k; text = chars front }) ≡ given (gives.Fault f)) → FaultAhead levels p0 cs f
@@ -181,11 +181,11 @@ fault_found levels p0 cs q p bytes front back k f came settles c gave = record {
 fault_given : (levels : List ℕ) (q : Progress) (ds : List ℕ) (f : ListingFault) → GivesFault levels q ds f → (fault : Option ListingFault) → remaining fault (with_levels q (0 ∷ levels)) ds ≡ steps.Fault f ∷ []
 fault_given levels q ds f (mismatch m t a l e) fault =
     let s : State = with_levels q (0 ∷ levels) in
-    measured_thing fault s ds m t ∙ ap (λ ss. behind_steps ss (remaining fault (measured s) ds)) (layout_mismatch s m a l) ∙ ap (λ g. steps.Fault g ∷ []) (sym e)
+    measured_significant fault s ds m t ∙ ap (λ ss. behind_steps ss (remaining fault (measured s) ds)) (layout_mismatch s m a l) ∙ ap (λ g. steps.Fault g ∷ []) (sym e)
 fault_given levels q ds f (faulty x d e g) fault =
     let s : State = with_levels q (0 ∷ levels) in
-    let thing : (q.margin && is_thing x) ≡ false = ap (λ b. q.margin && b) (thing_is ds x e) ∙ d in
-    remaining_lexeme fault s ds x e ∙ ap (λ ss. behind_steps ss (remaining fault (after s x) (drop (lexeme_len ds) ds))) (no_layout s x thing ∙ g)
+    let significant : (q.margin && is_significant x) ≡ false = ap (λ b. q.margin && b) (significant_is ds x e) ∙ d in
+    remaining_lexeme fault s ds x e ∙ ap (λ ss. behind_steps ss (remaining fault (after s x) (drop (lexeme_len ds) ds))) (no_layout s x significant ∙ g)
 
 pub fault_step : (levels : List ℕ) (p : Progress) (cs : List ℕ) (f : ListingFault) → FaultAhead levels p cs f → (fault : Option ListingFault) → remaining fault (with_levels p (0 ∷ levels)) cs ≡ steps.Fault f ∷ []
 fault_step levels p cs f h fault = same_ahead levels p cs h.there h.before h.comes fault ∙ fault_given levels h.there h.before f h.cause fault
@@ -216,8 +216,8 @@ nothing_found levels p0 cs q p r bytes front back k came settles c gave is =
     comes_on levels p0 cs p (chars bytes) r (chars back) (comes_on levels p0 cs q (chars bytes) p (chars bytes) came settles.comes) (record { walks = silent 0 s (chars bytes) x settles.settled c.lexeme (gave (0 ∷ levels)) last })
 
 -- a lexeme makes no line logical where no layout is due before it
-pub no_thing_due : (p : Progress) (bytes front back : List ℕ) (k : Class) → Cuts bytes k front back → (p.margin && begins_thing (chars bytes)) ≡ false → (p.margin && is_thing_class k) ≡ false
-no_thing_due p bytes front back k c settled = ap (λ b. p.margin && b) (thing_is (chars bytes) (record { «class» = k; text = chars front }) c.lexeme) ∙ settled
+pub no_significant_due : (p : Progress) (bytes front back : List ℕ) (k : Class) → Cuts bytes k front back → (p.margin && begins_significant (chars bytes)) ≡ false → (p.margin && is_significant_class k) ≡ false
+no_significant_due p bytes front back k c settled = ap (λ b. p.margin && b) (significant_is (chars bytes) (record { «class» = k; text = chars front }) c.lexeme) ∙ settled
 
 -- a lexeme has bytes
 pub some_bytes : (bytes front back : List ℕ) (k : Class) → Cuts bytes k front back → 0 < length front

@@ -8,7 +8,7 @@ use Rattle.std.proofs.lemmas.Grind.{common_steps}
 use Rattle.std.proofs.lemmas.Bool.Decides.{nat_tests}
 use Rattle.pysource.specs.Places.{place_after}
 use Rattle.pylexeme.specs.Lexemes.{Lexeme}
-use Rattle.pylex.specs.Lines.{text_before, depth, is_of_blanks, is_of_line_end, is_thing, opens, closes, line_so_far, before_line, is_at_margin, is_logical, column_after, width_from, width_at, widths}
+use Rattle.pylex.specs.Lines.{text_before, depth, is_of_blanks, is_of_line_end, is_significant, opens, closes, line_so_far, before_line, is_at_margin, is_logical, column_after, width_from, width_at, widths}
 use Rattle.pylexeme.specs.Chars.{bytes_in}
 use Rattle.pylex.specs.Levels.{open_levels}
 use Rattle.pylex.specs.Listing.{ends_in_join}
@@ -97,7 +97,7 @@ margin_push before x = ⊎_elim
     (λ (e : ends before x ≡ false). rw e refl)
     (bool_cases (ends before x))
 
-pub logical_push : (before : List Lexeme) (x : Lexeme) → is_logical (x ∷ before) ≡ (not (ends before x) && (is_thing x || is_logical before))
+pub logical_push : (before : List Lexeme) (x : Lexeme) → is_logical (x ∷ before) ≡ (not (ends before x) && (is_significant x || is_logical before))
 unfolding line_so_far is_logical
 logical_push before x = ⊎_elim
     (λ (e : ends before x ≡ true). rw e refl)
@@ -123,9 +123,9 @@ width_push before x =
     let w = width_at_push before x in
     rw (m, w) (still_width (ends before x) (is_of_blanks x) (is_at_margin before) (width_at before) x.text)
 
-levels_push : (before : List Lexeme) (x : Lexeme) → open_levels (widths (x ∷ before)) ≡ cond (is_at_margin before && is_thing x) (pushed (still (is_at_margin before) (width_at before)) (open_levels (widths before))) (open_levels (widths before))
+levels_push : (before : List Lexeme) (x : Lexeme) → open_levels (widths (x ∷ before)) ≡ cond (is_at_margin before && is_significant x) (pushed (still (is_at_margin before) (width_at before)) (open_levels (widths before))) (open_levels (widths before))
 unfolding widths
-levels_push before x = by_cases (is_at_margin before) (is_thing x)
+levels_push before x = by_cases (is_at_margin before) (is_significant x)
   where
     by_cases : (m t : Bool) → open_levels (cond (m && t) (width_at before ∷ widths before) (widths before)) ≡ cond (m && t) (pushed (still m (width_at before)) (open_levels (widths before))) (open_levels (widths before))
     by_cases true true = push (width_at before) (widths before)

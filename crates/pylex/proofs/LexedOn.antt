@@ -12,7 +12,7 @@ use Rattle.pylex.specs.declared.position.Meets.{Meets}
 use Rattle.pylex.specs.declared.position.Meets.TheVariants as meets
 use Rattle.pylex.specs.declared.state.Progress.{Progress}
 use Rattle.pylexeme.specs.Chunks.{EndsLine}
-use Rattle.pylexeme.specs.Cuts.{begins_thing}
+use Rattle.pylexeme.specs.Cuts.{begins_significant}
 use Rattle.pylex.specs.Laws.{AreLexemes}
 use Rattle.pylexeme.specs.Lexemes.{Lexeme, lexeme_at, lexeme_len, cut, left_by_cut, is_open_string}
 use Rattle.pylex.specs.Machine.{State}
@@ -24,7 +24,7 @@ use Rattle.pylex.proofs.Lexed.{cut_lexed, lexeme_front, lexeme_parts, lexeme_som
 use Rattle.pylexeme.proofs.Cases.{bool_cases}
 use Rattle.pylex.proofs.Lined.{lined_chars, feed_behind, ends_on}
 use Rattle.pylex.proofs.Steps.{left_step, left_stop}
-use Rattle.pylex.proofs.Things.{none_at_all}
+use Rattle.pylex.proofs.Significant.{none_at_all}
 
 -- Past lexemes and then past others.
 pub lexed_both : (ds es cs : List ℕ) → LexedTo ds cs → LexedTo es ds → LexedTo es cs
@@ -98,11 +98,11 @@ not_both true true h d e = cc
 not_both true false h d e = cc
 not_both false b h d e = cc
 
-stuck_walks : (t : State) (ds : List ℕ) (n : ℕ) (s : State) (cs : List ℕ) → lexeme_at cs ≡ None → (s.margin && begins_thing cs) ≡ false → Walks t ds n s cs → (ds ≡ cs) × (t.margin ≡ s.margin)
+stuck_walks : (t : State) (ds : List ℕ) (n : ℕ) (s : State) (cs : List ℕ) → lexeme_at cs ≡ None → (s.margin && begins_significant cs) ≡ false → Walks t ds n s cs → (ds ≡ cs) × (t.margin ≡ s.margin)
 stuck_walks t ds n s cs h d stays = (refl, refl)
 stuck_walks t ds n s cs h d (silent m r bs x z e g w) = absurd (let f : None ≡ Some x = sym h ∙ e in cc)
-stuck_walks t ds n s cs h d (level m r bs a b i c w) = absurd (not_both s.margin (begins_thing cs) d a b)
-stuck_walks t ds n s cs h d (dedent m r bs ls v a b e i k w) = absurd (not_both s.margin (begins_thing cs) d a b)
+stuck_walks t ds n s cs h d (level m r bs a b i c w) = absurd (not_both s.margin (begins_significant cs) d a b)
+stuck_walks t ds n s cs h d (dedent m r bs ls v a b e i k w) = absurd (not_both s.margin (begins_significant cs) d a b)
 
 stuck_comes : (levels : List ℕ) (p : Progress) (cs : List ℕ) (q : Progress) (ds : List ℕ) → StopAhead p cs → Comes levels p cs q ds → (ds ≡ cs) × (q.margin ≡ p.margin)
 stuck_comes levels p cs q ds s c = stuck_walks _ ds 0 _ cs s.none s.settled c.walks
@@ -114,14 +114,14 @@ stuck_finds levels p cs (meets.Entry e) q ds s f =
 stuck_finds levels p cs (meets.Fault g) q ds s f = absurd (by f.there f.before (stuck_comes levels p cs f.there f.before s f.comes) f.cause)
   where
     by : (r : Progress) (bs : List ℕ) → (bs ≡ cs) × (r.margin ≡ p.margin) → GivesFault levels r bs g → ⊥
-    by r bs c (mismatch m t a i e) = not_both p.margin (begins_thing cs) s.settled (sym c.1 ∙ m) (ap begins_thing (sym c.0) ∙ t)
+    by r bs c (mismatch m t a i e) = not_both p.margin (begins_significant cs) s.settled (sym c.1 ∙ m) (ap begins_significant (sym c.0) ∙ t)
     by r bs c (faulty x d e w) = let z : None ≡ Some x = sym s.none ∙ ap lexeme_at (sym c.0) ∙ e in cc
 stuck_finds levels p cs meets.Indent q ds s f =
     let c = stuck_comes levels p cs q ds s f.0 in
-    absurd (not_both p.margin (begins_thing cs) s.settled (sym c.1 ∙ f.1.margin) (ap begins_thing (sym c.0) ∙ f.1.thing))
+    absurd (not_both p.margin (begins_significant cs) s.settled (sym c.1 ∙ f.1.margin) (ap begins_significant (sym c.0) ∙ f.1.significant))
 stuck_finds levels p cs meets.Dedent q ds s f =
     let c = stuck_comes levels p cs q ds s f.0 in
-    absurd (not_both p.margin (begins_thing cs) s.settled (sym c.1 ∙ f.1.margin) (ap begins_thing (sym c.0) ∙ f.1.thing))
+    absurd (not_both p.margin (begins_significant cs) s.settled (sym c.1 ∙ f.1.margin) (ap begins_significant (sym c.0) ∙ f.1.significant))
 stuck_finds levels p cs meets.Stop q ds s f = (refl, (stuck_comes levels p cs q ds s f.0).0)
 
 -- A line has its line feed only at its end.

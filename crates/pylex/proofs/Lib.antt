@@ -17,7 +17,7 @@ mod Examples
 mod Walking
 mod Advancing
 mod LiteralExamples
-mod Things
+mod Significant
 mod LinesLemmas
 mod LexemeClasses
 mod Lexed

@@ -7,7 +7,7 @@ use Rattle.pysource.specs.Streams.{ends_line}
 use Rattle.pylex.specs.declared.entries.ListingFault.{ListingFault}
 use Rattle.pylex.specs.declared.state.Progress.{Progress}
 use Rattle.pylexeme.specs.Chunks.{EndsLine}
-use Rattle.pylexeme.specs.Cuts.{begins_thing}
+use Rattle.pylexeme.specs.Cuts.{begins_significant}
 use Rattle.pylexeme.specs.Lexemes.{Lexeme, lexeme_at, is_open_string}
 use Rattle.pylex.specs.Listing.{stop_fault, up_to_end}
 use Rattle.pylex.specs.Listers.{Listed, Keeps}
@@ -15,11 +15,11 @@ use Rattle.pylex.specs.Machine.{State, layout_of, remaining}
 use Rattle.pylex.specs.Progress.{Stands, Comes, StopAhead}
 use Rattle.pylex.proofs.Steps.{remaining_stop}
 use Rattle.pylex.proofs.Measured.{stop_within}
-use Rattle.pylex.proofs.Things.{none_at_all}
+use Rattle.pylex.proofs.Significant.{none_at_all}
 use Rattle.pylex.proofs.Finding.{walks_on}
 use Rattle.pylex.proofs.Looking.{walks_in}
 use Rattle.pylexeme.proofs.Kept.{lexeme_kept}
-use Rattle.pylexeme.proofs.LineFronts.{thing_kept}
+use Rattle.pylexeme.proofs.LineFronts.{significant_kept}
 use Rattle.pylex.proofs.Carried.{chars_lines}
 
 -- A lister that may go on over some bytes may go on over their front.
@@ -39,8 +39,8 @@ nothing_at : (o : Option Lexeme) → lexeme_at [] ≡ o → o ≡ None
 nothing_at None e = refl
 nothing_at (Some x) e = absurd (none_at_all x e)
 
-nothing_begins : (b : Bool) → (b && begins_thing []) ≡ false
-unfolding begins_thing
+nothing_begins : (b : Bool) → (b && begins_significant []) ≡ false
+unfolding begins_significant
 nothing_begins true = refl
 nothing_begins false = refl
 
@@ -51,7 +51,7 @@ stop_empty q = record { none = nothing_at (lexeme_at []) refl; settled = nothing
 pub stop_back : (q : Progress) (cs es : List ℕ) → EndsLine cs ⊎ (cs ≡ []) → StopAhead q (cs ++ es) → StopAhead q cs
 stop_back q cs es (inl l) s = record {
   none = none_in cs es l s.none (lexeme_at cs) refl;
-  settled = ap (λ t. q.margin && t) (sym (thing_kept cs es l)) ∙ s.settled;
+  settled = ap (λ t. q.margin && t) (sym (significant_kept cs es l)) ∙ s.settled;
 }
 stop_back q [] es (inr e) s = record { none = nothing_at (lexeme_at []) refl; settled = nothing_begins q.margin }
 stop_back q (c ∷ cs) es (inr e) s = absurd (let f : c ∷ cs ≡ [] = e in cc)

@@ -6,9 +6,9 @@ use Rattle.std.proofs.lemmas.List.{take-append-drop}
 use Rattle.pysource.specs.Places.{place_after}
 use Rattle.pysource.specs.declared.places.Place.{Place}
 use Rattle.pylex.specs.declared.state.Front.TheVariants.{Nothing}
-use Rattle.pylexeme.specs.Cuts.{begins_thing}
+use Rattle.pylexeme.specs.Cuts.{begins_significant}
 use Rattle.pylexeme.specs.Lexemes.{Lexeme, lexeme_at, lexeme_len}
-use Rattle.pylex.specs.Lines.{is_thing}
+use Rattle.pylex.specs.Lines.{is_significant}
 use Rattle.pylexeme.specs.Chars.{bytes_in}
 use Rattle.pylex.specs.Listing.{Source, last_line}
 use Rattle.pylex.specs.Cursors.{CursorParts}
@@ -20,7 +20,7 @@ use Rattle.pylex.proofs.Law.{place_after-append, bytes_in-append, front-append}
 use Rattle.pylex.proofs.Resumed.{column_is, front_line}
 use Rattle.pylex.proofs.Measured.{lexeme_front}
 use Rattle.pylex.proofs.Layouts.{level_not_above, level-push, count-push, layout_dedents, pushed_less}
-use Rattle.pylex.proofs.Finding.{thing_is, no_layout}
+use Rattle.pylex.proofs.Finding.{significant_is, no_layout}
 use Rattle.pylex.proofs.Ahead.{front_is, drop_front}
 
 -- Columns don't depend on the row.
@@ -82,10 +82,10 @@ resumed_anew k s line c f = rw (← c, ← f) refl
 
 -- No line of an open level begins here, so that its DEDENTs would all come.
 pub record Ready (t : State) (ds : List ℕ) : Type 0 where
-  pub none : t.margin ≡ true → begins_thing ds ≡ true → is_level t.width t.levels ≡ false
+  pub none : t.margin ≡ true → begins_significant ds ≡ true → is_level t.width t.levels ≡ false
 
-pub settled_ready : (t : State) (ds : List ℕ) → (t.margin && begins_thing ds) ≡ false → Ready t ds
-settled_ready t ds h = record { none = λ m b. absurd (never (sym (both t.margin (begins_thing ds) m b) ∙ h)) }
+pub settled_ready : (t : State) (ds : List ℕ) → (t.margin && begins_significant ds) ≡ false → Ready t ds
+settled_ready t ds h = record { none = λ m b. absurd (never (sym (both t.margin (begins_significant ds) m b) ∙ h)) }
   where
     both : (a b : Bool) → a ≡ true → b ≡ true → (a && b) ≡ true
     both a b e f = rw (e, f) refl
@@ -109,9 +109,9 @@ record Laid (t : State) (ds : List ℕ) (n : ℕ) (s : State) (cs : List ℕ) : 
 
 record Both (t : State) (ds : List ℕ) (n : ℕ) (s : State) (cs : List ℕ) : Type 0 where
   passes : Passes t ds n s cs
-  laid : s.margin ≡ true → begins_thing cs ≡ true → is_level s.width s.levels ≡ true → Laid t ds n s cs
+  laid : s.margin ≡ true → begins_significant cs ≡ true → is_level s.width s.levels ≡ true → Laid t ds n s cs
 
-by_layout : (t : State) (ds : List ℕ) (n : ℕ) (s : State) (cs : List ℕ) → s.margin ≡ true → begins_thing cs ≡ true → Laid t ds n s cs → Both t ds n s cs
+by_layout : (t : State) (ds : List ℕ) (n : ℕ) (s : State) (cs : List ℕ) → s.margin ≡ true → begins_significant cs ≡ true → Laid t ds n s cs → Both t ds n s cs
 by_layout t ds n s cs m b l = record { passes = subst (λ (k : ℕ). Passes t ds k s cs) l.count (layout l.more s cs m b l.gives l.passes); laid = λ _ _ _. l }
 
 one_less : (t : State) (ds : List ℕ) (n : ℕ) (s : State) (cs ls : List ℕ) (v : ℕ) → s.margin ≡ true → s.levels ≡ ls ++ v ∷ [] → s.width < v → is_level s.width ls ≡ true → Laid t ds n (record s { levels = ls }) cs → Laid t ds (suc n) s cs
@@ -134,9 +134,9 @@ walks_both t ds r n s cs stays = record { passes = here; laid = λ m b l. absurd
     never : true ≡ false → ⊥
     never e = cc
 walks_both t ds r n s cs (silent k u bs x d e g w) =
-    let thing : (s.margin && is_thing x) ≡ false = ap (λ b. s.margin && b) (thing_is cs x e) ∙ d in
+    let significant : (s.margin && is_significant x) ≡ false = ap (λ b. s.margin && b) (significant_is cs x e) ∙ d in
     record {
-      passes = lexeme n s cs x e (no_layout s x thing ∙ g) (walks_both t ds r n (after s x) (drop (lexeme_len cs) cs) w).passes;
+      passes = lexeme n s cs x e (no_layout s x significant ∙ g) (walks_both t ds r n (after s x) (drop (lexeme_len cs) cs) w).passes;
       laid = λ m b l. absurd (never (sym (rw (m, b) at d)));
     }
   where

@@ -19,7 +19,7 @@ use Rattle.pylex.specs.declared.entries.ListingError.TheVariants as errors
 use Rattle.pylexeme.specs.Strings.{opens_string}
 use Rattle.pylexeme.specs.Operators.{is_closer}
 use Rattle.pylexeme.specs.Lexemes.{Lexeme, cut, left_by_cut, is_open_string}
-use Rattle.pylex.specs.Lines.{text_before, depth, is_thing, line_so_far, before_line, is_at_margin, is_logical, width_at, widths}
+use Rattle.pylex.specs.Lines.{text_before, depth, is_significant, line_so_far, before_line, is_at_margin, is_logical, width_at, widths}
 use Rattle.pylexeme.specs.Chars.{bytes_in}
 use Rattle.pylex.specs.Levels.{open_levels}
 use Rattle.pylex.specs.Listing.{Source, listing, in_characters, mark, origin, fault_at, dedents, layout_by, layout, entry_of, steps_of, stop_fault, last_line, begins_comment, line_end_of_last, end_place, ends_in_join, tail, stop, steps_from, up_to_end}
@@ -112,7 +112,7 @@ module _ (cs : List ℕ) (good : all_scalars cs ≡ true) (before : List Lexeme)
 
   steps_lie : (x : Lexeme) (rest : List ℕ) → cs ≡ text_before before ++ (x.text ++ rest) → AllLie (encode_utf8_all cs) (steps_of before x)
   unfolding steps_of
-  steps_lie x rest h = AllLie-append (encode_utf8_all cs) _ (entry_of before x) (cond_lies (encode_utf8_all cs) (is_thing x) (layout before) [] (layout_lies (x.text ++ rest) h) tt) (entry_lies x rest h)
+  steps_lie x rest h = AllLie-append (encode_utf8_all cs) _ (entry_of before x) (cond_lies (encode_utf8_all cs) (is_significant x) (layout before) [] (layout_lies (x.text ++ rest) h) tt) (entry_lies x rest h)
 
   last_lies : (rest : List ℕ) (p : Place) → cs ≡ text_before before ++ rest → AllLie (encode_utf8_all cs) (line_end_of_last before p)
   unfolding line_end_of_last

@@ -1,4 +1,4 @@
--- The layout before the first thing of a logical line, and what follows it.
+-- The layout before the first significant token of a logical line, and what follows it.
 use Rattle.std.proofs.Common.{◌≡◌, ℕ, ◌<◌, true, false, ◌==◌, List, [], ◌∷◌, ◌++◌, length, take, drop, refl, ap, ◌∙◌, sym, subst, arith, Option, Some, None}
 use Rattle.std.specs.Prelude.{option_map}
 use Rattle.std.proofs.lemmas.Bool.Decides.{nat_tests}
@@ -9,7 +9,7 @@ use Rattle.pylex.specs.declared.entries.Step.TheVariants as steps
 use Rattle.pylexeme.specs.declared.lexeme.Class.{Class}
 use Rattle.pylexeme.specs.declared.lexeme.Class.TheVariants.{Name, Number, String, Operator, Comment, Blanks, LineEnd, Join}
 use Rattle.pylexeme.specs.Lexemes.{Lexeme, lexeme_at, lexeme_len, class_in}
-use Rattle.pylex.specs.Lines.{is_thing}
+use Rattle.pylex.specs.Lines.{is_significant}
 use Rattle.pylexeme.specs.Chars.{bytes_in}
 use Rattle.pylex.specs.Listing.{stop_fault, up_to_end}
 use Rattle.pylex.specs.Machine.{State, after, gives, entry_by, layout_of, stop_of, remaining, behind_steps}
@@ -18,8 +18,8 @@ use Rattle.pylex.proofs.Run.{up_to_end-append}
 use Rattle.pylex.proofs.Steps.{remaining_step, remaining_stop}
 use Rattle.pylex.proofs.Full.{lexeme_full}
 
--- the state after a thing is the same, measured before or with it
-pub after_measured : (s : State) (k : Class) (t : List ℕ) → s.margin ≡ true → is_thing (record { «class» = k; text = t }) ≡ true → after (measured s) (record { «class» = k; text = t }) ≡ after s (record { «class» = k; text = t })
+-- the state after a significant token is the same, measured before or with it
+pub after_measured : (s : State) (k : Class) (t : List ℕ) → s.margin ≡ true → is_significant (record { «class» = k; text = t }) ≡ true → after (measured s) (record { «class» = k; text = t }) ≡ after s (record { «class» = k; text = t })
 unfolding after
 after_measured s Name t m e = rw m refl
 after_measured s Number t m e = rw m refl
@@ -31,7 +31,7 @@ after_measured s Comment t m e = cc
 after_measured s LineEnd t m e = cc
 
 -- and what it gives comes behind the layout
-pub gives_measured : (s : State) (k : Class) (t : List ℕ) → s.margin ≡ true → is_thing (record { «class» = k; text = t }) ≡ true → gives s (record { «class» = k; text = t }) ≡ layout_of s ++ gives (measured s) (record { «class» = k; text = t })
+pub gives_measured : (s : State) (k : Class) (t : List ℕ) → s.margin ≡ true → is_significant (record { «class» = k; text = t }) ≡ true → gives s (record { «class» = k; text = t }) ≡ layout_of s ++ gives (measured s) (record { «class» = k; text = t })
 unfolding gives entry_by layout_of
 gives_measured s Name t m e = refl
 gives_measured s Number t m e = refl
@@ -76,7 +76,7 @@ remaining_lexeme fault s cs x e =
     ap (remaining fault s) (sym whole) ∙ remaining_step fault s front back x at text some
 
 -- a lexeme, its class and text apart
-measured_at : (fault : Option ListingFault) (s : State) (cs : List ℕ) (k : Class) (t : List ℕ) → s.margin ≡ true → lexeme_at cs ≡ Some (record { «class» = k; text = t }) → is_thing (record { «class» = k; text = t }) ≡ true → remaining fault s cs ≡ behind_steps (layout_of s) (remaining fault (measured s) cs)
+measured_at : (fault : Option ListingFault) (s : State) (cs : List ℕ) (k : Class) (t : List ℕ) → s.margin ≡ true → lexeme_at cs ≡ Some (record { «class» = k; text = t }) → is_significant (record { «class» = k; text = t }) ≡ true → remaining fault s cs ≡ behind_steps (layout_of s) (remaining fault (measured s) cs)
 measured_at fault s cs k t m e h =
     let x : Lexeme = record { «class» = k; text = t } in
     let back = drop (lexeme_len cs) cs in
@@ -86,8 +86,8 @@ measured_at fault s cs k t m e h =
     ∙ ap (λ r. behind_steps (layout_of s) (behind_steps (gives (measured s) x) (remaining fault r back))) (sym (after_measured s k t m h))
     ∙ ap (behind_steps (layout_of s)) (sym (remaining_lexeme fault (measured s) cs x e))
 
--- before a thing that is a lexeme
-pub measured_lexeme : (fault : Option ListingFault) (s : State) (cs : List ℕ) (x : Lexeme) → s.margin ≡ true → lexeme_at cs ≡ Some x → is_thing x ≡ true → remaining fault s cs ≡ behind_steps (layout_of s) (remaining fault (measured s) cs)
+-- before a significant token that is a lexeme
+pub measured_lexeme : (fault : Option ListingFault) (s : State) (cs : List ℕ) (x : Lexeme) → s.margin ≡ true → lexeme_at cs ≡ Some x → is_significant x ≡ true → remaining fault s cs ≡ behind_steps (layout_of s) (remaining fault (measured s) cs)
 measured_lexeme fault s cs x m e h = measured_at fault s cs x.«class» x.text m e h
 
 -- where the cut stops within the text

@@ -193,8 +193,8 @@ module _ (l : Listed) (p : Progress) (left levels : List ℕ) (nested tail : ℕ
         let p = indent_passes q ds c h in
         let state : measured t ≡ with_levels r (0 ∷ ls) = sym (measures (0 ∷ take nested levels)) ∙ ap (with_levels r) (pushed_above q.width (0 ∷ take nested levels) h.above ∙ ap (λ ns. 0 ∷ ns) (sym levels_are)) in
         let same : shown_at (l.shown.given + 1) (measured t) ≡ shown = ap (shown_at (l.shown.given + 1)) state ∙ sym is in (
-          indent_first l a l.shown.given t ds s some p h.margin h.thing h.above ∙ step,
-          subst (λ (c : CursorParts). StandsIn (record l { shown = c }) a (l.shown.given + 1)) same (after_indent l a l.shown.given t ds s some p h.margin h.thing h.above),
+          indent_first l a l.shown.given t ds s some p h.margin h.significant h.above ∙ step,
+          subst (λ (c : CursorParts). StandsIn (record l { shown = c }) a (l.shown.given + 1)) same (after_indent l a l.shown.given t ds s some p h.margin h.significant h.above),
         )
 
     pub indent_in : (q r : Progress) (ds ls : List ℕ) → Comes (take nested levels) p (chars left) q ds → IndentAhead (take nested levels) q ds → ((ns : List ℕ) → with_levels r (pushed q.width ns) ≡ measured (with_levels q ns)) → ls ≡ take nested levels ++ q.width ∷ [] → IsIn source.text (with_levels r (0 ∷ ls)) ds
@@ -207,7 +207,7 @@ module _ (l : Listed) (p : Progress) (left levels : List ℕ) (nested tail : ℕ
     pub awaits_indent : (q : Progress) (ds : List ℕ) → Comes (take nested levels) p (chars left) q ds → IndentAhead (take nested levels) q ds → AwaitsIndent l
     awaits_indent q ds c h a k s =
         let n = s.count in
-        let first = indent_first l a l.shown.given (with_levels q (0 ∷ take nested levels)) ds (record { cursor = s.cursor; count = refl; agrees = s.agrees }) some (indent_passes q ds c h) h.margin h.thing h.above in
+        let first = indent_first l a l.shown.given (with_levels q (0 ∷ take nested levels)) ds (record { cursor = s.cursor; count = refl; agrees = s.agrees }) some (indent_passes q ds c h) h.margin h.significant h.above in
         subst IsIndent (sym (ap (λ j. first_step (rest a j)) (sym n) ∙ first)) tt
 
     -- A DEDENT.
@@ -215,7 +215,7 @@ module _ (l : Listed) (p : Progress) (left levels : List ℕ) (nested tail : ℕ
     leads_dedent e q ds skip c h step more a s =
         let t : State = with_levels q (0 ∷ take nested levels) in
         let g = last_level levels nested keeps.within h.some in
-        let d = dedent_step source.fault t ds (0 ∷ take (nested - 1) levels) g.0 h.margin h.thing (ap (λ ns. 0 ∷ ns) g.1) (h.last (take (nested - 1) levels) g.0 g.1) (still_level (0 ∷ take (nested - 1) levels) q.width g.0 (h.last (take (nested - 1) levels) g.0 g.1) (ap (λ ns. is_level q.width (0 ∷ ns)) (sym g.1) ∙ h.level)) in
+        let d = dedent_step source.fault t ds (0 ∷ take (nested - 1) levels) g.0 h.margin h.significant (ap (λ ns. 0 ∷ ns) g.1) (h.last (take (nested - 1) levels) g.0 g.1) (still_level (0 ∷ take (nested - 1) levels) q.width g.0 (h.last (take (nested - 1) levels) g.0 g.1) (ap (λ ns. is_level q.width (0 ∷ ns)) (sym g.1) ∙ h.level)) in
         let first : first_step (rest a l.shown.given) ≡ steps.Entry e = ap first_step (rest_left a s ∙ ap (λ n. drop n (remaining source.fault now (chars left))) none ∙ same_ahead (take nested levels) p (chars left) q ds c source.fault ∙ d) ∙ step in (
           first,
           subst (λ (n : ℕ). StandsIn (record l { shown = record l.shown { given = l.shown.given + 1; skip = n } }) a (l.shown.given + 1)) (sym more)
@@ -231,7 +231,7 @@ module _ (l : Listed) (p : Progress) (left levels : List ℕ) (nested tail : ℕ
         let some_nested : 0 < nested = omega (arith, h.some, length-take-le nested levels keeps.within) in
         let w = keeps.within in
         let count : (length levels - nested) + 1 ≡ length levels - (nested - 1) = omega arith in
-        let one : Walks u ds 1 t ds = dedent 0 t ds (0 ∷ take (nested - 1) levels) g.0 h.margin h.thing (ap (λ ns. 0 ∷ ns) g.1) less (still_level (0 ∷ take (nested - 1) levels) q.width g.0 less (ap (λ ns. is_level q.width (0 ∷ ns)) (sym g.1) ∙ h.level)) stays in
+        let one : Walks u ds 1 t ds = dedent 0 t ds (0 ∷ take (nested - 1) levels) g.0 h.margin h.significant (ap (λ ns. 0 ∷ ns) g.1) less (still_level (0 ∷ take (nested - 1) levels) q.width g.0 less (ap (λ ns. is_level q.width (0 ∷ ns)) (sym g.1) ∙ h.level)) stays in
         subst (λ (n : ℕ). Walks u ds n there (standing_by source l.shown).left) count
         (walks_on t u ds ds (length levels - nested) 1 there (standing_by source l.shown).left (come_to q ds c) one)
 

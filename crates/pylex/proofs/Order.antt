@@ -15,7 +15,7 @@ use Rattle.pylex.specs.declared.entries.Step.TheVariants as steps
 use Rattle.pylex.specs.declared.state.Point.{Point}
 use Rattle.pylexeme.specs.Operators.{is_closer}
 use Rattle.pylexeme.specs.Lexemes.{Lexeme, cut, left_by_cut}
-use Rattle.pylex.specs.Lines.{is_of_blanks, is_thing}
+use Rattle.pylex.specs.Lines.{is_of_blanks, is_significant}
 use Rattle.pylex.specs.Listing.{Source, origin, up_to_end}
 use Rattle.pylex.specs.Steps.{entries_of}
 use Rattle.pylex.specs.Machine.{State, advance, past, after, ends_line, dedents_at, mark_at, step_of, layout_of, entry_by, gives, is_hash, last_line_end, last_place, tail_of, stop_of, run, remaining, first_state, first_point}
@@ -167,8 +167,8 @@ floor_after s x n = rw n (by_end (ends_line s x))
 others_reach : (s : State) (x : Lexeme) → is_of_blanks x ≡ false → NotBehind s.line s.now → Reaches (floor s) (gives s x) (floor (after s x))
 unfolding gives
 others_reach s x n h = subst (λ (q : Point). Reaches (floor s) (gives s x) q) (sym (floor_after s x n))
-    (joined (cond (is_thing x) (layout_of s) []) (entry_by s x) (floor s) s.now (past s.now x.text)
-    (cond_reaches (is_thing x) (layout_of s) [] (floor s) s.now (layout_reaches s h) (floor_now s.margin s.line s.now h))
+    (joined (cond (is_significant x) (layout_of s) []) (entry_by s x) (floor s) s.now (past s.now x.text)
+    (cond_reaches (is_significant x) (layout_of s) [] (floor s) s.now (layout_reaches s h) (floor_now s.margin s.line s.now h))
     (entry_reaches s x n))
 
 lexeme_reaches : (s : State) (x : Lexeme) → NotBehind s.line s.now → Reaches (floor s) (gives s x) (floor (after s x))

@@ -9,16 +9,16 @@ use Rattle.pylex.specs.declared.entries.ListingFault.{ListingFault}
 use Rattle.pylex.specs.declared.entries.Step.{Step}
 use Rattle.pylex.specs.declared.entries.Step.TheVariants as steps
 use Rattle.pylexeme.specs.Operators.{is_closer}
-use Rattle.pylexeme.specs.Cuts.{begins_thing}
+use Rattle.pylexeme.specs.Cuts.{begins_significant}
 use Rattle.pylexeme.specs.Lexemes.{Lexeme, lexeme_at, lexeme_len}
-use Rattle.pylex.specs.Lines.{closes, is_thing, depth}
+use Rattle.pylex.specs.Lines.{closes, is_significant, depth}
 use Rattle.pylex.specs.Listing.{Source}
 use Rattle.pylex.specs.Machine.{State, after, layout_of, entry_by, gives, remaining, behind_steps}
 use Rattle.pylex.specs.Progress.{measured}
 use Rattle.pylex.specs.Listers.{Passes, here, lexeme, layout}
 use Rattle.pylex.proofs.Law.{state_of, state_push, IsBalanced, balanced_push}
 use Rattle.pylex.proofs.Measured.{remaining_lexeme, after_measured}
-use Rattle.pylex.proofs.Finding.{measured_thing, thing_is, behind_first}
+use Rattle.pylex.proofs.Finding.{measured_significant, significant_is, behind_first}
 use Rattle.pylex.proofs.Ahead.{Placed, placed_next}
 use Rattle.pylex.proofs.Resuming.{state_at_margin, state_depth}
 use Rattle.pylex.proofs.Points.{GoesAs, after_alike, measured_alike, StoodAt, plain, laid}
@@ -34,7 +34,7 @@ passes_steps f t ds n s cs (lexeme m r bs x e g p) =
     ap (drop n) (remaining_lexeme f s cs x e ∙ ap (λ ss. behind_steps ss (remaining f (after s x) (drop (lexeme_len cs) cs))) g)
     ∙ passes_steps f t ds n (after s x) (drop (lexeme_len cs) cs) p
 passes_steps f t ds n s cs (layout m r bs a b l p) =
-    ap (drop (count_by (nat_lt s.width) s.levels + m)) (measured_thing f s cs a b ∙ ap (λ ss. behind_steps ss (remaining f (measured s) cs)) l)
+    ap (drop (count_by (nat_lt s.width) s.levels + m)) (measured_significant f s cs a b ∙ ap (λ ss. behind_steps ss (remaining f (measured s) cs)) l)
     ∙ drop_marks (count_by (nat_lt s.width) s.levels) m _ (remaining f (measured s) cs)
     ∙ passes_steps f t ds m (measured s) cs p
 
@@ -64,7 +64,7 @@ no_first (x ∷ a) b e = absurd cc
 
 silent_entry : (s : State) (x : Lexeme) → gives s x ≡ [] → entry_by s x ≡ []
 unfolding gives
-silent_entry s x e = no_first (cond (is_thing x) (layout_of s) []) (entry_by s x) e
+silent_entry s x e = no_first (cond (is_significant x) (layout_of s) []) (entry_by s x) e
 
 -- the state there, with what is before it and behind it
 pub record Reached (a : Source) (t : State) (ds : List ℕ) : Type 0 where
@@ -75,11 +75,11 @@ pub record Reached (a : Source) (t : State) (ds : List ℕ) : Type 0 where
   pub balanced : IsBalanced before
   pub stood : StoodAt t before ds
 
--- a thing comes next where the layout is given
+-- a significant token comes next where the layout is given
 pub next_alike : (s : State) (h : List Lexeme) (cs : List ℕ) (x : Lexeme) → lexeme_at cs ≡ Some x → IsBalanced h → (closes x && (depth h == 0)) ≡ false → StoodAt s h cs → GoesAs (after s x) (state_of (x ∷ h))
 next_alike s h cs x e b n (plain g) = subst (GoesAs (after s x)) (sym (state_push h x b n)) (after_alike s (state_of h) x g)
 next_alike s h cs x e b n (laid m t g) =
-    let same : after (measured (state_of h)) x ≡ state_of (x ∷ h) = after_measured (state_of h) x.«class» x.text (state_at_margin h ∙ m) (thing_is cs x e ∙ t) ∙ sym (state_push h x b n) in
+    let same : after (measured (state_of h)) x ≡ state_of (x ∷ h) = after_measured (state_of h) x.«class» x.text (state_at_margin h ∙ m) (significant_is cs x e ∙ t) ∙ sym (state_push h x b n) in
     subst (GoesAs (after s x)) same (after_alike s (measured (state_of h)) x g)
 
 -- the depth of a state that goes on as another
@@ -132,7 +132,7 @@ reached_next a s cs x e n r =
     }
 
 -- the layout of a line given
-reached_measured : (a : Source) (s : State) (cs : List ℕ) → s.margin ≡ true → begins_thing cs ≡ true → Reached a s cs → Reached a (measured s) cs
+reached_measured : (a : Source) (s : State) (cs : List ℕ) → s.margin ≡ true → begins_significant cs ≡ true → Reached a s cs → Reached a (measured s) cs
 reached_measured a s cs m t r =
     let g = plain_stood s r.before cs m r.stood in
     record {

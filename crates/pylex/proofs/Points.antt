@@ -14,9 +14,9 @@ use Rattle.pylex.specs.declared.entries.Step.{Step}
 use Rattle.pylex.specs.declared.entries.Step.TheVariants as steps
 use Rattle.pylex.specs.declared.state.Point.{Point}
 use Rattle.pylexeme.specs.Operators.{is_closer}
-use Rattle.pylexeme.specs.Cuts.{begins_thing}
+use Rattle.pylexeme.specs.Cuts.{begins_significant}
 use Rattle.pylexeme.specs.Lexemes.{Lexeme, lexeme_at, cut, left_by_cut}
-use Rattle.pylex.specs.Lines.{text_before, depth, closes, is_of_blanks, is_of_line_end, is_thing, line_so_far, is_at_margin, is_logical}
+use Rattle.pylex.specs.Lines.{text_before, depth, closes, is_of_blanks, is_of_line_end, is_significant, line_so_far, is_at_margin, is_logical}
 use Rattle.pylexeme.specs.Chars.{bytes_in}
 use Rattle.pylex.specs.Listing.{Source, listing, last_line, up_to_end}
 use Rattle.pylex.specs.Steps.{entries_of}
@@ -31,8 +31,8 @@ use Rattle.pylex.proofs.Ends.{stop_is_fault}
 use Rattle.pylex.proofs.Resume.{begun_at}
 use Rattle.pylex.proofs.Resumed.{resumed_start}
 use Rattle.pylex.proofs.LexemeClasses.{Says, lexeme_says}
-use Rattle.pylex.proofs.Finding.{thing_is}
-use Rattle.pylex.proofs.Things.{all_cut}
+use Rattle.pylex.proofs.Finding.{significant_is}
+use Rattle.pylex.proofs.Significant.{all_cut}
 use Rattle.pylex.proofs.Ahead.{Placed, placed_next, placed_first, resumed_in, resumed_indented, starts_line, line_is_on, logical_on, begun_or_filled, line_end_text, measured as indented_at}
 use Rattle.pylex.proofs.Resuming.{state_offset, state_at_margin, state_depth, begun_state, encoding_entry}
 
@@ -81,10 +81,10 @@ measured_alike s t g = let w = g.width in let l = g.levels in record { now = g.n
     never : false ≡ true → ⊥
     never h = cc
 
--- The state behind some lexemes; the layout of the line may be given there, and then its first thing comes next.
+-- The state behind some lexemes; the layout of the line may be given there, and then its first significant token comes next.
 pub data StoodAt (s : State) (h : List Lexeme) (cs : List ℕ) : Type 0 where
   plain : GoesAs s (state_of h) → StoodAt s h cs
-  laid : is_at_margin h ≡ true → begins_thing cs ≡ true → GoesAs s (measured (state_of h)) → StoodAt s h cs
+  laid : is_at_margin h ≡ true → begins_significant cs ≡ true → GoesAs s (measured (state_of h)) → StoodAt s h cs
 
 -- The point of a cursor: an offset of a source, directly behind an INDENT or not.
 pub record PointOf (s : Source) (indented : Bool) (offset : ℕ) : Type 0 where
@@ -214,7 +214,7 @@ tail_pointed s t =
     ((refl, λ h. absurd (full_entry t.now.offset t.now.offset refl h)), tt))
 
 -- The point behind an INDENT, and behind a lexeme.
-indent_point : (s : Source) (h xs : List Lexeme) (text left : List ℕ) → Placed s h xs text left → IsBalanced h → is_at_margin h ≡ true → begins_thing text ≡ true → PointOf s true (state_of h).now.offset
+indent_point : (s : Source) (h xs : List Lexeme) (text left : List ℕ) → Placed s h xs text left → IsBalanced h → is_at_margin h ≡ true → begins_significant text ≡ true → PointOf s true (state_of h).now.offset
 indent_point s h xs text left p b m t = record {
   before = h;
   later = xs;
@@ -238,11 +238,11 @@ own_point s h xs x text left p c y b j = record {
   stood = plain (own_alike h x y b j);
 }
 
-stop_begins : (left : List ℕ) → lexeme_at left ≡ None → not (length left == 0) ≡ true → begins_thing left ≡ true
+stop_begins : (left : List ℕ) → lexeme_at left ≡ None → not (length left == 0) ≡ true → begins_significant left ≡ true
 stop_begins left e n = ⊎_elim
-    (λ (t : begins_thing left ≡ true). t)
-    (λ (t : begins_thing left ≡ false). absurd (empty left (all_cut left t e) n))
-    (bool_cases (begins_thing left))
+    (λ (t : begins_significant left ≡ true). t)
+    (λ (t : begins_significant left ≡ false). absurd (empty left (all_cut left t e) n))
+    (bool_cases (begins_significant left))
   where
     empty : (left : List ℕ) → left ≡ [] → not (length left == 0) ≡ true → ⊥
     empty [] e n = cc
@@ -254,7 +254,7 @@ stop_pointed s h text left p b =
     cond_pointed s (not (length left == 0)) _ _
     (λ e. pointed_append s (layout_of (state_of h)) _
     (layout_pointed s (state_of h) (λ m. indent_point s h [] text left p b (sym (state_at_margin h) ∙ m)
-    (ap begins_thing (sym p.lexemes.0) ∙ stop_begins left (ap lexeme_at p.lexemes.0 ∙ p.lexemes.1) e)))
+    (ap begins_significant (sym p.lexemes.0) ∙ stop_begins left (ap lexeme_at p.lexemes.0 ∙ p.lexemes.1) e)))
     (let f = stop_is_fault s.fault (state_of h).now.place left in subst (λ (t : Step). AllPointed s (t ∷ [])) (sym f.1) tt))
     (λ _. by_fault s.fault)
   where
@@ -276,10 +276,10 @@ lexeme_pointed : (s : Source) (h xs : List Lexeme) (x : Lexeme) (text left : Lis
 unfolding gives
 lexeme_pointed s h xs x text left p b k =
     let r = run s.fault left (after (state_of h) x) xs in
-    subst (AllPointed s) (sym (append_assoc (cond (is_thing x) (layout_of (state_of h)) []) (entry_by (state_of h) x) r))
-    (pointed_append s (cond (is_thing x) (layout_of (state_of h)) []) (entry_by (state_of h) x ++ r)
-    (cond_pointed s (is_thing x) _ []
-    (λ e. layout_pointed s (state_of h) (λ m. indent_point s h (x ∷ xs) text left p b (sym (state_at_margin h) ∙ m) (sym (thing_is text x p.lexemes.1) ∙ e)))
+    subst (AllPointed s) (sym (append_assoc (cond (is_significant x) (layout_of (state_of h)) []) (entry_by (state_of h) x) r))
+    (pointed_append s (cond (is_significant x) (layout_of (state_of h)) []) (entry_by (state_of h) x ++ r)
+    (cond_pointed s (is_significant x) _ []
+    (λ e. layout_pointed s (state_of h) (λ m. indent_point s h (x ∷ xs) text left p b (sym (state_at_margin h) ∙ m) (sym (significant_is text x p.lexemes.1) ∙ e)))
     (λ _. tt))
     (own_pointed s h xs x text left p b k))
 

@@ -30,7 +30,7 @@ use Rattle.pylex.specs.Ranges.{IsMeasuring}
 use Rattle.pylexeme.proofs.Cases.{bool_cases, and_parts}
 use Rattle.pylex.proofs.Law.{place_after-append, bytes_in-append}
 use Rattle.pylex.proofs.Resumed.{column_is}
-use Rattle.pylex.proofs.Things.{blanks_text}
+use Rattle.pylex.proofs.Significant.{blanks_text}
 
 -- A walk goes on in the text.
 offset_after : (s : State) (x : Lexeme) → (after s x).now.offset ≡ s.now.offset + bytes_in x.text

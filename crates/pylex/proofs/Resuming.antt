@@ -17,7 +17,7 @@ use Rattle.pylex.specs.declared.entries.Step.{Step}
 use Rattle.pylex.specs.declared.entries.Step.TheVariants as steps
 use Rattle.pylexeme.specs.Operators.{is_closer}
 use Rattle.pylexeme.specs.Lexemes.{Lexeme, cut, left_by_cut}
-use Rattle.pylex.specs.Lines.{text_before, depth, closes, is_of_blanks, is_thing, line_so_far, is_at_margin, is_logical, width_from, width_at, widths}
+use Rattle.pylex.specs.Lines.{text_before, depth, closes, is_of_blanks, is_significant, line_so_far, is_at_margin, is_logical, width_from, width_at, widths}
 use Rattle.pylexeme.specs.Chars.{bytes_in}
 use Rattle.pylex.specs.Levels.{open_levels}
 use Rattle.pylex.specs.Listing.{Source, listing, rest, mark, origin, further, last_line, up_to_end, stop_fault}
@@ -179,8 +179,8 @@ unfolding gives
 lexeme_resumable s h xs x text left p b k =
     let r = run s.fault left (after (state_of h) x) xs in
     let own = own_resumable s h xs x text left p b k in
-    subst (Resumable s) (sym (append_assoc (cond (is_thing x) (layout_of (state_of h)) []) (entry_by (state_of h) x) r))
-    (cond_resumable s (is_thing x) (layout_of (state_of h)) [] (entry_by (state_of h) x ++ r)
+    subst (Resumable s) (sym (append_assoc (cond (is_significant x) (layout_of (state_of h)) []) (entry_by (state_of h) x) r))
+    (cond_resumable s (is_significant x) (layout_of (state_of h)) [] (entry_by (state_of h) x ++ r)
     (λ e. layout_resumable s (state_of h) (entry_by (state_of h) x ++ r)
     (λ m. ap (ahead s true) (history_at s h (x ∷ xs) text left p) ∙ ahead_indented s h xs x text left p (sym (state_at_margin h) ∙ m) e)
     own)

@@ -26,11 +26,11 @@ use Rattle.pylex.specs.Chunked.{Grows, HoldsOn, Stays, Adds, ReadsOn}
 use Rattle.pylex.specs.Progress.{Stands, StopAhead, IsAscending, Behind}
 use Rattle.pylex.specs.Streamed.{Continues, StreamsIn, IsStreaming, IsWaiting, streamed, Looks, LooksAhead, MeetsIn, Searches, Lacks, lacks}
 use Rattle.pylex.specs.Held.{Ahead, AheadBut, IsAtStop}
-use Rattle.pylexeme.specs.Cuts.{begins_thing}
+use Rattle.pylexeme.specs.Cuts.{begins_significant}
 use Rattle.pylexeme.specs.Lexemes.{is_open_string}
 use Rattle.pylex.proofs.AheadOn.{ahead_but}
 use Rattle.pylex.proofs.LexedOn.{lexed_both, lexed_comes, stuck_finds}
-use Rattle.pylexeme.proofs.LineFronts.{thing_kept}
+use Rattle.pylexeme.proofs.LineFronts.{significant_kept}
 use Rattle.pylex.proofs.Lined.{lined_or_last, stands_front, stop_back}
 use Rattle.pylex.proofs.Reading.{lined_left, no_text, only_line, reads_line, reads_none}
 
@@ -213,13 +213,13 @@ module _ (come_0 come_1 come_2 : Option (List ℕ)) (told_0 told_1 told_2 : ℕ)
       nothing : (t : List ℕ) → chars t ≡ [] → 0 < length t → IsUtf8 t → ⊥
       nothing t h some u = let z = ap length (sym (encodes-chars t u) ∙ ap encodes h) in omega (arith, z, some)
 
-      still : IsAtStop (string_bytes d.text) f.at → 0 < length (drop f.at (string_bytes d.text)) → (f.now.margin && begins_thing (chars (drop f.at (string_bytes d.text)))) ≡ false → (f.now.margin && begins_thing (chars (drop e.at (string_bytes e.text)))) ≡ false
+      still : IsAtStop (string_bytes d.text) f.at → 0 < length (drop f.at (string_bytes d.text)) → (f.now.margin && begins_significant (chars (drop f.at (string_bytes d.text)))) ≡ false → (f.now.margin && begins_significant (chars (drop e.at (string_bytes e.text)))) ≡ false
       still stop some h =
           let left = drop f.at (string_bytes d.text) in
           let whole : chars (drop e.at (string_bytes e.text)) ≡ chars left ++ chars r.line = ap chars r.holding.left ∙ chars-append left r.line looks.left in
           let text = ⊎_elim (λ n. absurd (none_left (string_bytes d.text) f.at n some)) (λ l. l) stop.ends in
           let lined = ⊎_elim (λ l. l) (λ n. absurd (nothing left n some looks.left)) (lined_or_last (string_bytes d.text) (take f.at (string_bytes d.text)) left (sym (take-append-drop f.at (string_bytes d.text))) looks.left text) in
-          ap (λ t. f.now.margin && begins_thing t) whole ∙ ap (λ t. f.now.margin && t) (thing_kept (chars left) (chars r.line) lined) ∙ h
+          ap (λ t. f.now.margin && begins_significant t) whole ∙ ap (λ t. f.now.margin && t) (significant_kept (chars left) (chars r.line) lined) ∙ h
 
   -- No line was read.
   pub searches_stay : (r : Result Line AllocError) → (o : ReadsOn come_1 come_2 told_1 told_2 d e f.at r) → o.line ≡ [] → Stays d e → Searches come_0 come_2 told_0 told_2 p q c e

@@ -14,7 +14,7 @@ use Rattle.pylex.specs.declared.entries.Step.{Step}
 use Rattle.pylex.specs.declared.entries.Step.TheVariants as steps
 use Rattle.pylexeme.specs.Operators.{is_closer}
 use Rattle.pylexeme.specs.Lexemes.{Lexeme, cut, left_by_cut}
-use Rattle.pylex.specs.Lines.{is_thing, is_of_blanks, is_of_line_end, width_from}
+use Rattle.pylex.specs.Lines.{is_significant, is_of_blanks, is_of_line_end, width_from}
 use Rattle.pylexeme.specs.Chars.{bytes_in}
 use Rattle.pylex.specs.Listing.{Source, listing, rest, stop_fault, up_to_end}
 use Rattle.pylex.specs.Steps.{entries_of, first_step}
@@ -29,7 +29,7 @@ use Rattle.pylex.proofs.Resume.{Full, margin_goes, cursor_skips, cursor_moves}
 use Rattle.pylex.proofs.Full.{cut_full}
 use Rattle.pylex.proofs.Layouts.{layout_indent, layout_dedents, layout_mismatch}
 use Rattle.pylex.proofs.Finding.{settled_layout, no_layout}
-use Rattle.pylex.proofs.Ahead.{thing_margin}
+use Rattle.pylex.proofs.Ahead.{significant_margin}
 use Rattle.pylex.proofs.Blocks.{AreApart, count_step, three_ways, some_at, pushed_length, pushed_apart}
 use Rattle.pylex.proofs.OpenLevels.{Grounded}
 use Rattle.pylex.proofs.CursorBounds.{small_parts}
@@ -150,7 +150,7 @@ not_ends : (s : State) (x : Lexeme) → is_of_line_end x ≡ false → ends_line
 not_ends s x e = ap (λ b. b && (s.depth == 0)) e
 
 begun_gives : (s : State) (x : Lexeme) → s.margin ≡ false → gives s x ≡ entry_by s x
-begun_gives s x m = no_layout s x (ap (λ b. b && is_thing x) m)
+begun_gives s x m = no_layout s x (ap (λ b. b && is_significant x) m)
 
 begun_leads : (fault : Option ListingFault) (left : List ℕ) (xs : List Lexeme) (s : State) → Full xs → AreApart s.levels → s.margin ≡ false → Leads (length s.levels + 1) (run fault left s xs)
 begun_leads fault left [] s f a m = stop_leads fault left s a (subst (λ (ss : List Step). Leads (length s.levels + 1) (ss ++ stop_fault fault s.now.place left ∷ [])) (sym (settled_layout s m)) (fault_leads fault s.now.place left (length s.levels + 1)))
@@ -192,13 +192,13 @@ layout_leads s ss i m h = ⊎_elim
     apart : (x y : ℕ) → x < y → (x == y) ≡ true → ⊥
     apart x y l e = grind (arith, nat_tests)
 
-plain_levels : (s : State) (x : Lexeme) → is_thing x ≡ false → (after s x).levels ≡ s.levels
+plain_levels : (s : State) (x : Lexeme) → is_significant x ≡ false → (after s x).levels ≡ s.levels
 unfolding after
 plain_levels s x e = let f = and-false s.margin in rw (e, f) refl
 
-thing_levels : (s : State) (x : Lexeme) → s.margin ≡ true → is_thing x ≡ true → (after s x).levels ≡ pushed s.width s.levels
+significant_levels : (s : State) (x : Lexeme) → s.margin ≡ true → is_significant x ≡ true → (after s x).levels ≡ pushed s.width s.levels
 unfolding after
-thing_levels s x m e = rw (m, e) refl
+significant_levels s x m e = rw (m, e) refl
 
 sound_order : (s : State) (x : Lexeme) → s.line.offset ≤ s.now.offset → (after s x).line.offset ≤ (after s x).now.offset
 unfolding after
@@ -216,18 +216,18 @@ sound_wide s x h f w = either (ends_line s x) w
     either true w = absurd (omega arith)
     either false w = omega arith
 
-sound_after : (s : State) (x : Lexeme) → IsSound s → 0 < bytes_in x.text → is_thing x ≡ false → IsSound (after s x)
+sound_after : (s : State) (x : Lexeme) → IsSound s → 0 < bytes_in x.text → is_significant x ≡ false → IsSound (after s x)
 sound_after s x i f e = record {
   apart = subst AreApart (sym (plain_levels s x e)) i.apart;
   order = sound_order s x i.order;
   wide = λ _ w. sound_wide s x i.order f w;
 }
 
-thing_gives : (s : State) (x : Lexeme) → is_thing x ≡ true → gives s x ≡ layout_of s ++ entry_by s x
+significant_gives : (s : State) (x : Lexeme) → is_significant x ≡ true → gives s x ≡ layout_of s ++ entry_by s x
 unfolding gives
-thing_gives s x e = rw e refl
+significant_gives s x e = rw e refl
 
-plain_gives : (s : State) (x : Lexeme) → is_thing x ≡ false → gives s x ≡ entry_by s x
+plain_gives : (s : State) (x : Lexeme) → is_significant x ≡ false → gives s x ≡ entry_by s x
 unfolding gives
 plain_gives s x e = rw e refl
 
@@ -240,16 +240,16 @@ sound_leads fault left (x ∷ xs) s f i =
     let r = run fault left (after s x) xs in
     ⊎_elim
     (λ (m : s.margin ≡ true). ⊎_elim
-    (λ (e : is_thing x ≡ true).
-    let l = thing_levels s x m e in
-    let rest : Leads (length (pushed s.width s.levels) + 1) r = subst (λ (ls : List ℕ). Leads (length ls + 1) r) l (begun_leads fault left xs (after s x) f.1 (subst AreApart (sym l) (pushed_apart s.width s.levels i.apart)) (thing_margin s x e)) in
-    subst (λ (ss : List Step). Leads (length s.levels + 1) ss) (sym (ap (λ ss. ss ++ r) (thing_gives s x e) ∙ append_assoc (layout_of s) (entry_by s x) r))
+    (λ (e : is_significant x ≡ true).
+    let l = significant_levels s x m e in
+    let rest : Leads (length (pushed s.width s.levels) + 1) r = subst (λ (ls : List ℕ). Leads (length ls + 1) r) l (begun_leads fault left xs (after s x) f.1 (subst AreApart (sym l) (pushed_apart s.width s.levels i.apart)) (significant_margin s x e)) in
+    subst (λ (ss : List Step). Leads (length s.levels + 1) ss) (sym (ap (λ ss. ss ++ r) (significant_gives s x e) ∙ append_assoc (layout_of s) (entry_by s x) r))
     (layout_leads s (entry_by s x ++ r) i m (λ _. entry_leads s x (length (pushed s.width s.levels) + 1) r f.0 (λ _. rest))))
-    (λ (e : is_thing x ≡ false).
+    (λ (e : is_significant x ≡ false).
     let l = plain_levels s x e in
     let rest : Leads (length s.levels + 1) r = subst (λ (ls : List ℕ). Leads (length ls + 1) r) l (sound_leads fault left xs (after s x) f.1 (sound_after s x i f.0 e)) in
     subst (λ (ss : List Step). Leads (length s.levels + 1) (ss ++ r)) (sym (plain_gives s x e)) (entry_leads s x (length s.levels + 1) r f.0 (λ _. rest)))
-    (bool_cases (is_thing x)))
+    (bool_cases (is_significant x)))
     (λ (m : s.margin ≡ false). begun_leads fault left (x ∷ xs) s f i.apart m)
     (bool_cases s.margin)
 

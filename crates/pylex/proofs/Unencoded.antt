@@ -16,7 +16,7 @@ use Rattle.pylexeme.specs.Strings.{opens_string}
 use Rattle.pylexeme.specs.Operators.{is_closer}
 use Rattle.pylex.specs.Levels.{open_levels}
 use Rattle.pylexeme.specs.Lexemes.{Lexeme, cut, left_by_cut, is_open_string}
-use Rattle.pylex.specs.Lines.{text_before, depth, is_thing, is_at_margin, is_logical, width_at, widths}
+use Rattle.pylex.specs.Lines.{text_before, depth, is_significant, is_at_margin, is_logical, width_at, widths}
 use Rattle.pylex.specs.Listing.{Source, listing, fault_at, layout_by, layout, line_end_kind, entry_of, steps_of, stop_fault, last_line, begins_comment, line_end_of_last, ends_in_join, tail, stop, steps_from, up_to_end}
 
 -- if a step gives an entry, that is none of the encoding
@@ -84,7 +84,7 @@ module _ (before : List Lexeme) where
 
   give_steps : (x : Lexeme) → AllGive (steps_of before x)
   unfolding steps_of
-  give_steps x = give_append _ (entry_of before x) (give_cond (is_thing x) (layout before) [] give_layout tt) (give_entry x)
+  give_steps x = give_append _ (entry_of before x) (give_cond (is_significant x) (layout before) [] give_layout tt) (give_entry x)
 
   give_last : (p : Place) → AllGive (line_end_of_last before p)
   unfolding line_end_of_last

@@ -7,7 +7,7 @@ use Rattle.pylex.specs.declared.entries.Step.{Step}
 use Rattle.pylex.specs.declared.cursors.Shown.{Shown}
 use Rattle.pylex.specs.declared.state.Front.TheVariants.{Nothing}
 use Rattle.pylex.specs.declared.state.Progress.{Progress}
-use Rattle.pylexeme.specs.Cuts.{begins_thing}
+use Rattle.pylexeme.specs.Cuts.{begins_significant}
 use Rattle.pylexeme.specs.Lexemes.{Lexeme, lexeme_at, lexeme_len}
 use Rattle.pylexeme.specs.Chars.{bytes_in}
 use Rattle.pylex.specs.Listing.{Source, in_characters, last_line, listing, rest}
@@ -40,7 +40,7 @@ shown_at k s = record { given = k; offset = s.now.offset; row = s.now.place.row;
 pub data Passes (t : State) (ds : List ℕ) : ℕ → State → List ℕ → Type 0 where
   here : Passes t ds 0 t ds
   lexeme : (n : ℕ) (s : State) (cs : List ℕ) (x : Lexeme) → lexeme_at cs ≡ Some x → gives s x ≡ [] → Passes t ds n (after s x) (drop (lexeme_len cs) cs) → Passes t ds n s cs
-  layout : (n : ℕ) (s : State) (cs : List ℕ) → s.margin ≡ true → begins_thing cs ≡ true → layout_of s ≡ dedents_at s.width s.levels s.now.offset s.now.place → Passes t ds n (measured s) cs → Passes t ds (count_by (nat_lt s.width) s.levels + n) s cs
+  layout : (n : ℕ) (s : State) (cs : List ℕ) → s.margin ≡ true → begins_significant cs ≡ true → layout_of s ≡ dedents_at s.width s.levels s.now.offset s.now.place → Passes t ds n (measured s) cs → Passes t ds (count_by (nat_lt s.width) s.levels + n) s cs
 
 -- From a lister to another by a step: in each source in which the first stands after k entries that step comes next, and the other stands behind it.
 abbrev pub Moves : Listed → Step → Listed → Type 0

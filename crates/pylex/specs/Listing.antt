@@ -19,7 +19,7 @@ use Rattle.pylexeme.specs.Chars.{is_blank_char}
 use Rattle.pylexeme.specs.Strings.{opens_string}
 use Rattle.pylexeme.specs.Operators.{is_closer}
 use Rattle.pylexeme.specs.Lexemes.{Lexeme, cut, left_by_cut, is_open_string}
-use Rattle.pylex.specs.Lines.{text_before, depth, is_thing, line_so_far, before_line, is_at_margin, is_logical, width_at, widths}
+use Rattle.pylex.specs.Lines.{text_before, depth, is_significant, line_so_far, before_line, is_at_margin, is_logical, width_at, widths}
 use Rattle.pylexeme.specs.Chars.{bytes_in}
 use Rattle.pylex.specs.Levels.{open_levels}
 
@@ -52,7 +52,7 @@ fault_at c p = steps.Fault (record { code = c; place = p })
 abbrev pub dedents : ℕ → List ℕ → List ℕ → Place → List Step
 dedents width levels earlier p = replicate (count_by (nat_lt width) levels) (mark kinds.Dedent earlier p p)
 
--- what stands before the first thing of a logical line (reference 2.1.8)
+-- what stands before the first significant token of a logical line (reference 2.1.8)
 unfoldable pub layout_by : ℕ → List ℕ → List Lexeme → List Step
 layout_by width levels before =
     if list_all (λ v. nat_lt v width) levels then piece kinds.Indent None (text_before (before_line before)) (text_before (line_so_far before)) (place_after (text_before before)) ∷ []
@@ -86,9 +86,9 @@ entry_of before x = elim x.«class» [
   | Join ↦ []
 ]
 
--- the layout before a lexeme, if it is the first thing of a logical line, and its entry
+-- the layout before a lexeme, if it is the first significant token of a logical line, and its entry
 unfoldable pub steps_of : List Lexeme → Lexeme → List Step
-steps_of before x = (if is_thing x then layout before else []) ++ entry_of before x
+steps_of before x = (if is_significant x then layout before else []) ++ entry_of before x
 
 -- the fault where the cut stops before the text's end (reference 2.4.1)
 unfoldable pub stop_fault : Option ListingFault → Place → List ℕ → Step

@@ -17,7 +17,7 @@ use Rattle.pylex.specs.declared.state.Front.TheVariants.{Nothing, Hash, Other}
 use Rattle.pylexeme.specs.Chars.{is_blank_char}
 use Rattle.pylexeme.specs.Operators.{is_closer}
 use Rattle.pylexeme.specs.Lexemes.{Lexeme, cut, left_by_cut, is_join_class}
-use Rattle.pylex.specs.Lines.{is_of_blanks, is_of_line_end, is_thing, opens, closes, width_from}
+use Rattle.pylex.specs.Lines.{is_of_blanks, is_of_line_end, is_significant, opens, closes, width_from}
 use Rattle.pylexeme.specs.Chars.{bytes_in}
 use Rattle.pylex.specs.Listing.{fault_at, further, row_after, stop_fault, up_to_end}
 
@@ -59,7 +59,7 @@ abbrev pub ends_line : State → Lexeme → Bool
 ends_line s x = is_of_line_end x && (s.depth == 0)
 
 abbrev pub begins_line : State → Lexeme → Bool
-begins_line s x = s.margin && is_thing x
+begins_line s x = s.margin && is_significant x
 
 abbrev pub count_if : Bool → ℕ
 count_if b = if b then 1 else 0
@@ -76,7 +76,7 @@ after s x = record {
   levels = if begins_line s x then pushed s.width s.levels else s.levels;
   margin = ends_line s x || (is_of_blanks x && s.margin);
   width = if ends_line s x then 0 else still (is_of_blanks x && s.margin) (width_from s.width x.text);
-  logical = not (ends_line s x) && (is_thing x || s.logical);
+  logical = not (ends_line s x) && (is_significant x || s.logical);
   joined = is_of_join x;
   front = front_after s.front x.text;
 }
@@ -90,7 +90,7 @@ mark_at k o p q = steps.Entry (record { kind = k; exact = None; start = p; «end
 abbrev pub dedents_at : ℕ → List ℕ → ℕ → Place → List Step
 dedents_at w levels o p = replicate (count_by (nat_lt w) levels) (mark_at kinds.Dedent o p p)
 
--- the layout before the first thing of a logical line
+-- the layout before the first significant token of a logical line
 unfoldable pub layout_of : State → List Step
 layout_of s =
     if s.margin then
@@ -119,7 +119,7 @@ entry_by s x = elim x.«class» [
 ]
 
 unfoldable pub gives : State → Lexeme → List Step
-gives s x = (if is_thing x then layout_of s else []) ++ entry_by s x
+gives s x = (if is_significant x then layout_of s else []) ++ entry_by s x
 
 abbrev pub is_hash : Front → Bool
 is_hash f = elim f [ Hash ↦ true | _ ↦ false ]

@@ -16,7 +16,7 @@ use Rattle.pylex.specs.declared.position.Layout.TheVariants as layouts
 use Rattle.pylex.specs.declared.position.Meets.{Meets}
 use Rattle.pylex.specs.declared.position.Meets.TheVariants as meets
 use Rattle.pylexeme.specs.Lexemes.{Lexeme, lexeme_at, lexeme_len}
-use Rattle.pylexeme.specs.Cuts.{begins_thing}
+use Rattle.pylexeme.specs.Cuts.{begins_significant}
 use Rattle.pylex.specs.Machine.{State, after, entry_by, pushed, mark_at, dedents_at, last_place}
 
 -- the state of a lister, with the levels that are open
@@ -33,7 +33,7 @@ with_levels p levels = record {
   front = p.front;
 }
 
--- the state after the layout before the first thing of a logical line
+-- the state after the layout before the first significant token of a logical line
 abbrev pub measured : State → State
 measured s = record {
   now = s.now;
@@ -107,9 +107,9 @@ is_level w levels = list_any (λ v. v == w) levels
 -- From a state before some characters, past lexemes that give nothing and past n DEDENTs, one after another, to a state before others.
 pub data Walks (t : State) (ds : List ℕ) : ℕ → State → List ℕ → Type 0 where
   stays : Walks t ds 0 t ds
-  silent : (n : ℕ) (s : State) (cs : List ℕ) (x : Lexeme) → (s.margin && begins_thing cs) ≡ false → lexeme_at cs ≡ Some x → entry_by s x ≡ [] → Walks t ds n (after s x) (drop (lexeme_len cs) cs) → Walks t ds n s cs
-  level : (n : ℕ) (s : State) (cs : List ℕ) → s.margin ≡ true → begins_thing cs ≡ true → is_level s.width s.levels ≡ true → count_by (nat_lt s.width) s.levels ≡ 0 → Walks t ds n (measured s) cs → Walks t ds n s cs
-  dedent : (n : ℕ) (s : State) (cs ls : List ℕ) (v : ℕ) → s.margin ≡ true → begins_thing cs ≡ true → s.levels ≡ ls ++ v ∷ [] → s.width < v → is_level s.width ls ≡ true → Walks t ds n (record s { levels = ls }) cs → Walks t ds (suc n) s cs
+  silent : (n : ℕ) (s : State) (cs : List ℕ) (x : Lexeme) → (s.margin && begins_significant cs) ≡ false → lexeme_at cs ≡ Some x → entry_by s x ≡ [] → Walks t ds n (after s x) (drop (lexeme_len cs) cs) → Walks t ds n s cs
+  level : (n : ℕ) (s : State) (cs : List ℕ) → s.margin ≡ true → begins_significant cs ≡ true → is_level s.width s.levels ≡ true → count_by (nat_lt s.width) s.levels ≡ 0 → Walks t ds n (measured s) cs → Walks t ds n s cs
+  dedent : (n : ℕ) (s : State) (cs ls : List ℕ) (v : ℕ) → s.margin ≡ true → begins_significant cs ≡ true → s.levels ≡ ls ++ v ∷ [] → s.width < v → is_level s.width ls ≡ true → Walks t ds n (record s { levels = ls }) cs → Walks t ds (suc n) s cs
 
 -- What is met next: a lister that stands at p, before these characters, comes to q, before those, past what gives nothing, and there is what it meets.
 pub record Comes (levels : List ℕ) (p : Progress) (cs : List ℕ) (q : Progress) (ds : List ℕ) : Type 0 where
@@ -121,7 +121,7 @@ pub record EntryAhead (levels : List ℕ) (p : Progress) (cs : List ℕ) (e : En
   pub before : List ℕ
   pub lexeme : Lexeme
   pub comes : Comes levels p cs there before
-  pub settled : (there.margin && begins_thing before) ≡ false
+  pub settled : (there.margin && begins_significant before) ≡ false
   pub stands : lexeme_at before ≡ Some lexeme
   pub own : entry_by (with_levels there (0 ∷ levels)) lexeme ≡ steps.Entry e ∷ []
   pub behind : ds ≡ drop (lexeme_len before) before
@@ -129,8 +129,8 @@ pub record EntryAhead (levels : List ℕ) (p : Progress) (cs : List ℕ) (e : En
 
 -- what gives a fault where a lister stands: a line whose width is that of no level, or a lexeme
 pub data GivesFault (levels : List ℕ) (q : Progress) (ds : List ℕ) (f : ListingFault) : Type 0 where
-  mismatch : q.margin ≡ true → begins_thing ds ≡ true → is_above q.width (0 ∷ levels) ≡ false → is_level q.width (0 ∷ levels) ≡ false → f ≡ record { code = errors.UnindentMismatch; place = q.now.place } → GivesFault levels q ds f
-  faulty : (x : Lexeme) → (q.margin && begins_thing ds) ≡ false → lexeme_at ds ≡ Some x → entry_by (with_levels q (0 ∷ levels)) x ≡ steps.Fault f ∷ [] → GivesFault levels q ds f
+  mismatch : q.margin ≡ true → begins_significant ds ≡ true → is_above q.width (0 ∷ levels) ≡ false → is_level q.width (0 ∷ levels) ≡ false → f ≡ record { code = errors.UnindentMismatch; place = q.now.place } → GivesFault levels q ds f
+  faulty : (x : Lexeme) → (q.margin && begins_significant ds) ≡ false → lexeme_at ds ≡ Some x → entry_by (with_levels q (0 ∷ levels)) x ≡ steps.Fault f ∷ [] → GivesFault levels q ds f
 
 -- a fault, where the lister comes to what gives it
 pub record FaultAhead (levels : List ℕ) (p : Progress) (cs : List ℕ) (f : ListingFault) : Type 0 where
@@ -139,16 +139,16 @@ pub record FaultAhead (levels : List ℕ) (p : Progress) (cs : List ℕ) (f : Li
   pub comes : Comes levels p cs there before
   pub cause : GivesFault levels there before f
 
--- a first thing of a line stands here, whose width is above all levels
+-- a first significant token of a line stands here, whose width is above all levels
 pub record IndentAhead (levels : List ℕ) (q : Progress) (ds : List ℕ) : Type 0 where
   pub margin : q.margin ≡ true
-  pub thing : begins_thing ds ≡ true
+  pub significant : begins_significant ds ≡ true
   pub above : is_above q.width (0 ∷ levels) ≡ true
 
 -- or is that of a level below the last
 pub record DedentAhead (levels : List ℕ) (q : Progress) (ds : List ℕ) : Type 0 where
   pub margin : q.margin ≡ true
-  pub thing : begins_thing ds ≡ true
+  pub significant : begins_significant ds ≡ true
   pub level : is_level q.width (0 ∷ levels) ≡ true
   pub some : 0 < length levels
   pub last : (front : List ℕ) (v : ℕ) → levels ≡ front ++ v ∷ [] → q.width < v
@@ -156,7 +156,7 @@ pub record DedentAhead (levels : List ℕ) (q : Progress) (ds : List ℕ) : Type
 -- no lexeme stands here, and no layout is due
 pub record StopAhead (q : Progress) (ds : List ℕ) : Type 0 where
   pub none : lexeme_at ds ≡ None
-  pub settled : (q.margin && begins_thing ds) ≡ false
+  pub settled : (q.margin && begins_significant ds) ≡ false
 
 abbrev pub Finds : List ℕ → Progress → List ℕ → Meets → Progress → List ℕ → Type 0
 Finds levels p cs (meets.Entry e) q ds = EntryAhead levels p cs e q ds
@@ -180,7 +180,7 @@ IsLayout w levels layouts.Mismatch = (is_above w (0 ∷ levels) ≡ false) × (i
 -- a lister that stands at p, before these characters, may as well stand at q, where no layout is due
 pub record Settles (levels : List ℕ) (p : Progress) (cs : List ℕ) (q : Progress) : Type 0 where
   pub comes : Comes levels p cs q cs
-  pub settled : (q.margin && begins_thing cs) ≡ false
+  pub settled : (q.margin && begins_significant cs) ≡ false
 
 -- a text stands at the end of another
 abbrev pub Behind : List ℕ → List ℕ → Type 0

@@ -27,7 +27,7 @@ pub use lines::{line_text, push_line};
 pub use lister::Lister;
 pub use margins::Widths;
 pub use measures::widths;
-pub use pylexeme::lexeme::{Class, begins_thing, cut};
+pub use pylexeme::lexeme::{Class, begins_significant, cut};
 pub use pylexeme::operators::exact_of;
 pub use pylexeme::string::{OpenLiteral, is_open_string, open_literal, opens_string};
 pub use stream::{LineLister, ResumeFault};

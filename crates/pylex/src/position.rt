@@ -14,7 +14,7 @@ use crate::cursors::{Cursor, Shown};
 use crate::entries::{Entry, ListingError, ListingFault, Step};
 use crate::kinds::Kind;
 use crate::state::{Given, Progress, entry_of, mark};
-use pylexeme::lexeme::{Class, begins_thing, cut};
+use pylexeme::lexeme::{Class, begins_significant, cut};
 use pylexeme::string::{is_open_string, opens_string};
 use pysource::{LineFault, Place};
 use std::alloc::{AllocError, Global};
@@ -24,9 +24,9 @@ use std::alloc::{AllocError, Global};
 pub enum Meets {
     Entry(Entry),
     Fault(ListingFault),
-    /// The first thing of a line that opens a level.
+    /// The first significant token of a line that opens a level.
     Indent,
-    /// The first thing of a line that closes a level.
+    /// The first significant token of a line that closes a level.
     Dedent,
     /// The end of the lexemes.
     Stop,
@@ -77,7 +77,7 @@ fn layout_for(width: usize, levels: &[usize]) -> Layout
     }
 }
 
-/// Goes past the layout before the first thing of a logical line, or tells what it is.
+/// Goes past the layout before the first significant token of a logical line, or tells what it is.
 #[inline(always)]
 fn line_start(now: &mut Progress, levels: &[usize], text: &str) -> Option<Meets>
     requires stands { Stands now.old text.now }
@@ -87,7 +87,7 @@ fn line_start(now: &mut Progress, levels: &[usize], text: &str) -> Option<Meets>
     ensures finds { IfSome result (λ m. Finds levels.now now.old (chars text.now) m now.new (chars text.now)) }
     ensures stands { Stands now.new text.now }
 {
-    if !now.margin || !begins_thing(text) {
+    if !now.margin || !begins_significant(text) {
         return None;
     }
     match layout_for(now.width, levels) {

@@ -3,7 +3,7 @@
 ghost use Rattle.std.specs.Prelude.{◌≡◌, ◌↔◌, IsTrue, ℕ, ◌+◌, ◌*◌, ◌^◌, ◌<◌, ◌≤◌, ◌&&◌, ◌||◌, not, ◌==◌, if◌then◌else◌, List, [], ◌∷◌, length, false, true, Ok, ◌-◌, IfSome};
 ghost use Rattle.std.specs.Str.{chars};
 ghost use Rattle.pylex.specs.Lines.{column_after, width_from};
-ghost use Rattle.pylexeme.specs.Lexemes.{is_thing_class, is_blanks_class, is_line_end_class, is_join_class, is_opener_class, is_closer_class};
+ghost use Rattle.pylexeme.specs.Lexemes.{is_significant_class, is_blanks_class, is_line_end_class, is_join_class, is_opener_class, is_closer_class};
 ghost use Rattle.pylexeme.specs.Chars.{bytes_in};
 ghost use Rattle.pylexeme.specs.Operators.{is_closer};
 ghost use Rattle.pylex.specs.Machine.{advance, front_after_char, front_after, past, behind, after, entry_by, step_of, mark_at, is_hash, still, count_if, pushed, first_state, last_line_end, last_place, line_end_kind_of};
@@ -340,7 +340,7 @@ impl Progress {
         }
     }
 
-    /// After the layout before the first thing of a logical line.
+    /// After the layout before the first significant token of a logical line.
     pub(crate) fn measured(self) -> Progress
         ensures measured { (levels : List ℕ) → with_levels result (pushed self.width levels) ≡ measured (with_levels self levels) }
         ensures room { (n : ℕ) → HasRoom self n → HasRoom result n }
@@ -470,9 +470,9 @@ impl Progress {
 
     /// Whether the line holds more than blanks and a comment after a lexeme.
     fn logical_after(self, class: Class) -> bool
-        ensures { result ≡ (not (is_line_end_class class && (self.depth == 0)) && (is_thing_class class || self.logical)) }
+        ensures { result ≡ (not (is_line_end_class class && (self.depth == 0)) && (is_significant_class class || self.logical)) }
     {
-        !self.ends_line(class) && (class.is_thing() || self.logical)
+        !self.ends_line(class) && (class.is_significant() || self.logical)
     }
 
     /// How far the lister has come after a lexeme.
@@ -481,7 +481,7 @@ impl Progress {
         requires room { HasRoom self (length text.now) }
         requires counted { bytes_in (chars text.now) ≡ length text.now }
         requires some { 0 < length text.now }
-        requires settled { (self.margin && is_thing_class class) ≡ false }
+        requires settled { (self.margin && is_significant_class class) ≡ false }
         requires told { Tells class text.now }
         ensures after { (levels : List ℕ) → with_levels result levels ≡ after (with_levels self levels) (record { «class» = class; text = chars text.now }) }
         ensures now { result.now ≡ past self.now (chars text.now) }

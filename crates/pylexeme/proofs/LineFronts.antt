@@ -6,7 +6,7 @@ use Rattle.pylexeme.specs.Chars.{begins}
 use Rattle.pylexeme.specs.Numbers.{is_nil}
 use Rattle.pylexeme.specs.Strings.{is_prefix, begins_quote, begins_three, after_prefix, opens_string, opens_triple}
 use Rattle.pylexeme.specs.Lengths.{Opens, begins_quotes}
-use Rattle.pylexeme.specs.Cuts.{begins_thing}
+use Rattle.pylexeme.specs.Cuts.{begins_significant}
 use Rattle.pylexeme.specs.Chunks.{EndsLine}
 use Rattle.pylexeme.proofs.Cases.{bool_cases}
 use Rattle.pylexeme.proofs.Best.{and_parts, and_false, or_parts}
@@ -93,12 +93,12 @@ pub behind_quote : (q a : ℕ) (t : List ℕ) → IsQuote q → (a == q) ≡ tru
 behind_quote q a [] k h l = let n = feed_no_quote q a k l in cc
 behind_quote q a (c ∷ t) k h l = refl
 
--- Things
-pub thing_kept : (cs es : List ℕ) → EndsLine cs → begins_thing (cs ++ es) ≡ begins_thing cs
-unfolding begins_thing
-thing_kept cs es l = by cs es (ends_some cs l) (ends_lined cs l)
+-- Significant tokens
+pub significant_kept : (cs es : List ℕ) → EndsLine cs → begins_significant (cs ++ es) ≡ begins_significant cs
+unfolding begins_significant
+significant_kept cs es l = by cs es (ends_some cs l) (ends_lined cs l)
   where
-    by : (cs es : List ℕ) → is_nil cs ≡ false → lined cs ≡ true → begins_thing (cs ++ es) ≡ begins_thing cs
+    by : (cs es : List ℕ) → is_nil cs ≡ false → lined cs ≡ true → begins_significant (cs ++ es) ≡ begins_significant cs
     by [] es s l = cc
     by (a ∷ []) [] s l = refl
     by (a ∷ []) (e ∷ es) s l = rw l refl

@@ -16,7 +16,7 @@ use Rattle.pylexeme.specs.Strings.{opens_string, opens_triple, is_triple_string,
 use Rattle.pylexeme.specs.Lexemes.{is_name, is_comment, are_blanks, is_join, longest_within, class_in, plain_class, lexeme_len, lexeme_at, Lexeme, is_line_end}
 use Rattle.pylexeme.specs.Lengths.{longest, begins_pair, begins_number, number_len, Opens, operator_at}
 use Rattle.pylexeme.specs.Operators.{is_operator, exact_of}
-use Rattle.pylexeme.specs.Cuts.{Takes, BeginsOther, starts_other, begins_thing}
+use Rattle.pylexeme.specs.Cuts.{Takes, BeginsOther, starts_other, begins_significant}
 use Rattle.pylexeme.proofs.Computing.{classes}
 use Rattle.pylexeme.proofs.Cases.{bool_cases}
 use Rattle.pylexeme.proofs.Longest.{IsBest, longest_within_is, longest_within_none, run_best}
@@ -560,38 +560,38 @@ pub no_len : (n : ℕ) → false ≡ ltb 0 n → n ≡ 0
 no_len zero e = refl
 no_len (suc n) e = let p : ltb 0 (suc n) ≡ true = grind (arith, nat_tests) in let q : false ≡ true = e ∙ p in cc
 
--- Whether a thing begins here, by the first character
+-- Whether a significant token begins here, by the first character
 same_head : (cs l : List ℕ) (c : ℕ) → l ≡ cs → Some c ≡ slice_get l 0 → slice_get cs 0 ≡ Some c
 same_head cs l c e f = ap (λ r. slice_get r 0) (sym e) ∙ sym f
 
-pub thing_none : (cs l : List ℕ) → l ≡ cs → None ≡ slice_get l 0 → false ≡ begins_thing cs
-unfolding begins_thing
-thing_none [] l e f = refl
-thing_none (c ∷ cs) l e f = let g : slice_get (c ∷ cs) 0 ≡ None = ap (λ r. slice_get r 0) (sym e) ∙ sym f in cc
+pub significant_none : (cs l : List ℕ) → l ≡ cs → None ≡ slice_get l 0 → false ≡ begins_significant cs
+unfolding begins_significant
+significant_none [] l e f = refl
+significant_none (c ∷ cs) l e f = let g : slice_get (c ∷ cs) 0 ≡ None = ap (λ r. slice_get r 0) (sym e) ∙ sym f in cc
 
-thing_head : (cs l : List ℕ) (c : ℕ) → l ≡ cs → Some c ≡ slice_get l 0 → cs ≡ c ∷ drop 1 cs
-thing_head cs l c e f = of cs (same_head cs l c e f)
+significant_head : (cs l : List ℕ) (c : ℕ) → l ≡ cs → Some c ≡ slice_get l 0 → cs ≡ c ∷ drop 1 cs
+significant_head cs l c e f = of cs (same_head cs l c e f)
   where
     of : (cs : List ℕ) → slice_get cs 0 ≡ Some c → cs ≡ c ∷ drop 1 cs
     of [] g = cc
     of (d ∷ cs) g = let h : d ≡ c = cc in ap (λ x. x ∷ cs) h
 
-hash_of : (t : List ℕ) → begins_thing (35 ∷ t) ≡ false
-unfolding begins_thing
+hash_of : (t : List ℕ) → begins_significant (35 ∷ t) ≡ false
+unfolding begins_significant
 hash_of t = refl
 
-feed_of : (t : List ℕ) → begins_thing (10 ∷ t) ≡ false
-unfolding begins_thing
+feed_of : (t : List ℕ) → begins_significant (10 ∷ t) ≡ false
+unfolding begins_significant
 feed_of [] = refl
 feed_of (d ∷ t) = refl
 
-return_of : (t : List ℕ) → begins_thing (13 ∷ t) ≡ not (begins (λ d. d == 10) t)
-unfolding begins_thing
+return_of : (t : List ℕ) → begins_significant (13 ∷ t) ≡ not (begins (λ d. d == 10) t)
+unfolding begins_significant
 return_of [] = refl
 return_of (d ∷ t) = refl
 
-other_of : (c : ℕ) (t : List ℕ) → (c == 35) ≡ false → (c == 10) ≡ false → (c == 13) ≡ false → begins_thing (c ∷ t) ≡ not (is_blank_char c)
-unfolding begins_thing
+other_of : (c : ℕ) (t : List ℕ) → (c == 35) ≡ false → (c == 10) ≡ false → (c == 13) ≡ false → begins_significant (c ∷ t) ≡ not (is_blank_char c)
+unfolding begins_significant
 other_of c [] h f r = rw (h, f) (both (is_blank_char c))
   where
     both : (b : Bool) → (not b && true && true) ≡ not b
@@ -603,17 +603,17 @@ other_of c (d ∷ t) h f r = rw (h, f, r) (both (is_blank_char c))
     both true = refl
     both false = refl
 
-pub thing_hash : (cs l : List ℕ) (c : ℕ) → l ≡ cs → Some c ≡ slice_get l 0 → c ≡ 35 → false ≡ begins_thing cs
-thing_hash cs l c e f h = sym (ap begins_thing (thing_head cs l c e f ∙ ap (λ x. x ∷ drop 1 cs) h) ∙ hash_of (drop 1 cs))
+pub significant_hash : (cs l : List ℕ) (c : ℕ) → l ≡ cs → Some c ≡ slice_get l 0 → c ≡ 35 → false ≡ begins_significant cs
+significant_hash cs l c e f h = sym (ap begins_significant (significant_head cs l c e f ∙ ap (λ x. x ∷ drop 1 cs) h) ∙ hash_of (drop 1 cs))
 
-pub thing_feed : (cs l : List ℕ) (c : ℕ) → l ≡ cs → Some c ≡ slice_get l 0 → c ≡ 10 → false ≡ begins_thing cs
-thing_feed cs l c e f h = sym (ap begins_thing (thing_head cs l c e f ∙ ap (λ x. x ∷ drop 1 cs) h) ∙ feed_of (drop 1 cs))
+pub significant_feed : (cs l : List ℕ) (c : ℕ) → l ≡ cs → Some c ≡ slice_get l 0 → c ≡ 10 → false ≡ begins_significant cs
+significant_feed cs l c e f h = sym (ap begins_significant (significant_head cs l c e f ∙ ap (λ x. x ∷ drop 1 cs) h) ∙ feed_of (drop 1 cs))
 
-pub thing_other : (cs l : List ℕ) (c : ℕ) → l ≡ cs → Some c ≡ slice_get l 0 → eqb c 35 ≡ false → eqb c 10 ≡ false → eqb c 13 ≡ false → not (is_blank_char c) ≡ begins_thing cs
-thing_other cs l c e f h i r = sym (ap begins_thing (thing_head cs l c e f) ∙ other_of c (drop 1 cs) h i r)
+pub significant_other : (cs l : List ℕ) (c : ℕ) → l ≡ cs → Some c ≡ slice_get l 0 → eqb c 35 ≡ false → eqb c 10 ≡ false → eqb c 13 ≡ false → not (is_blank_char c) ≡ begins_significant cs
+significant_other cs l c e f h i r = sym (ap begins_significant (significant_head cs l c e f) ∙ other_of c (drop 1 cs) h i r)
 
-pub thing_return : (cs l : List ℕ) (c : ℕ) → l ≡ cs → Some c ≡ slice_get l 0 → c ≡ 13 → not (begins (λ d. d == 10) (drop 1 l)) ≡ begins_thing cs
-thing_return cs l c e f r = ap (λ t. not (begins (λ d. d == 10) (drop 1 t))) e ∙ sym (ap begins_thing (thing_head cs l c e f ∙ ap (λ x. x ∷ drop 1 cs) r) ∙ return_of (drop 1 cs))
+pub significant_return : (cs l : List ℕ) (c : ℕ) → l ≡ cs → Some c ≡ slice_get l 0 → c ≡ 13 → not (begins (λ d. d == 10) (drop 1 l)) ≡ begins_significant cs
+significant_return cs l c e f r = ap (λ t. not (begins (λ d. d == 10) (drop 1 t))) e ∙ sym (ap begins_significant (significant_head cs l c e f ∙ ap (λ x. x ∷ drop 1 cs) r) ∙ return_of (drop 1 cs))
 
 pub other_by : (cs : List ℕ) (c : ℕ) → slice_get cs 0 ≡ Some c → starts_name c ≡ false → is_blank_char c ≡ false → eqb c 35 ≡ false → eqb c 10 ≡ false → eqb c 13 ≡ false → eqb c 92 ≡ false → begins starts_other cs ≡ true
 other_by cs c e s b h f r l = begins_by starts_other cs c e (rw (s, b, h, f, r, l) refl)

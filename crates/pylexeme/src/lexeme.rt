@@ -5,8 +5,8 @@ ghost use Rattle.std.specs.Str.{chars};
 ghost use Rattle.pylexeme.specs.Chars.{begins, starts_name, is_blank_char, is_prefix_letter};
 ghost use Rattle.pylexeme.specs.Strings.{opens_string};
 ghost use Rattle.pylexeme.specs.Lengths.{begins_number, Opens};
-ghost use Rattle.pylexeme.specs.Lexemes.{lexeme_at, is_thing_class, is_blanks_class, is_line_end_class, is_join_class, is_opener_class, is_closer_class};
-ghost use Rattle.pylexeme.specs.Cuts.{Takes, Cuts, BeginsOther, begins_thing};
+ghost use Rattle.pylexeme.specs.Lexemes.{lexeme_at, is_significant_class, is_blanks_class, is_line_end_class, is_join_class, is_opener_class, is_closer_class};
+ghost use Rattle.pylexeme.specs.Cuts.{Takes, Cuts, BeginsOther, begins_significant};
 
 use crate::kinds::Exact;
 use crate::number::number;
@@ -36,8 +36,8 @@ pub enum Class {
 
 impl Class {
     /// Whether such a lexeme makes a line logical.
-    pub fn is_thing(self) -> bool
-        ensures { result ≡ is_thing_class self }
+    pub fn is_significant(self) -> bool
+        ensures { result ≡ is_significant_class self }
     {
         match self {
             Class::Blanks | Class::Comment | Class::LineEnd => false,
@@ -285,8 +285,8 @@ pub fn cut(text: &str) -> Option<(Class, &str, &str)>
 
 /// Whether a text begins with what makes a line logical: neither a blank, a comment, a line end, nor its end.
 #[inline(always)]
-pub fn begins_thing(text: &str) -> bool
-    ensures { result ≡ begins_thing (chars text.now) }
+pub fn begins_significant(text: &str) -> bool
+    ensures { result ≡ begins_significant (chars text.now) }
 {
     let scanner = Scanner::new(text);
     let Some(first) = scanner.first() else {

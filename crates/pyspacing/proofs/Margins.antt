@@ -13,7 +13,7 @@ use Rattle.pylex.specs.declared.kinds.Kind.{Kind}
 use Rattle.pylex.specs.declared.kinds.Kind.TheVariants as kinds
 use Rattle.pylex.specs.declared.entries.Entry.{Entry}
 use Rattle.pylexeme.specs.Chars.{begins, bytes_in, is_blank_char}
-use Rattle.pylexeme.specs.Cuts.{begins_thing}
+use Rattle.pylexeme.specs.Cuts.{begins_significant}
 use Rattle.pylex.specs.Lines.{width_from}
 use Rattle.pylex.specs.Margins.{width_by_one, blanks_of, widths_of}
 use Rattle.pytoken.specs.Indentation.{Margin, behind_offset, margin_at, ends_line, margins_from}
@@ -84,7 +84,7 @@ pub margin_even : (text a rest : List ℕ) (o : ℕ) → text ≡ a ++ rest → 
 margin_even text a rest o w e v =
     let b : behind_offset text o ≡ rest = behind_is text a rest o w e v.scalars in
     let f : (width_from 0 (blanks_of (behind_offset text o)) == width_by_one 0 (blanks_of (behind_offset text o))) ≡ true = rw b v.widths in
-    by (begins_thing (drop (length (blanks_of (behind_offset text o))) (behind_offset text o))) (record { widths = widths_of (behind_offset text o); start = place_at (encode_utf8_all text) (o + length (blanks_of (behind_offset text o))) }) f
+    by (begins_significant (drop (length (blanks_of (behind_offset text o))) (behind_offset text o))) (record { widths = widths_of (behind_offset text o); start = place_at (encode_utf8_all text) (o + length (blanks_of (behind_offset text o))) }) f
   where
     by : (b : Bool) (m : Margin) → is_even m ≡ true → list_all is_even (cond b (m ∷ []) []) ≡ true
     by true m e = rw e refl

@@ -4,7 +4,7 @@ use Rattle.std.specs.Str.{chars}
 use Rattle.unicode_normalization.proofs.Computing.{unicode_normalization}
 use Rattle.pysource.specs.Places.{place_after}
 use Rattle.pylexeme.proofs.Computing.{lexemes}
-use Rattle.pylexeme.specs.Cuts.{begins_thing}
+use Rattle.pylexeme.specs.Cuts.{begins_significant}
 use Rattle.pylex.specs.Margins.{width_by_one}
 use Rattle.pylex.specs.Lines.{depth, line_so_far, is_at_margin, is_logical, width_from, width_at, widths}
 use Rattle.pylex.specs.Levels.{open_levels}
@@ -29,5 +29,5 @@ unfolding lexemes unicode_normalization keywords keyword_of whole_value number_f
 values = tt
 
 unfoldable pub sources : Unit {0}
-unfolding listings chars begins_thing width_by_one tokens lines
+unfolding listings chars begins_significant width_by_one tokens lines
 sources = tt

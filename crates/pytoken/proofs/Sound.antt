@@ -26,7 +26,7 @@ use Rattle.pylex.specs.declared.entries.ListingFault.{ListingFault}
 use Rattle.pylex.specs.declared.entries.ListingError.TheVariants as errors
 use Rattle.pylex.specs.declared.entries.Step.{Step}
 use Rattle.pylex.specs.declared.entries.Step.TheVariants as steps
-use Rattle.pylex.specs.Lines.{text_before, depth, is_thing, is_at_margin, is_logical, width_at, widths}
+use Rattle.pylex.specs.Lines.{text_before, depth, is_significant, is_at_margin, is_logical, width_at, widths}
 use Rattle.pylex.specs.Levels.{open_levels}
 use Rattle.pylex.specs.Listing.{Source, listing, mark, origin, fault_at, dedents, layout_by, layout, line_end_kind, entry_of, steps_of, stop_fault}
 use Rattle.pylex.specs.Listing.{last_line, begins_comment, line_end_of_last, end_place, ends_in_join, tail, stop, steps_from, up_to_end}
@@ -230,7 +230,7 @@ module _ (cs : List ℕ) (before : List Lexeme) where
       → AllAre cs (steps_of before x)
   unfolding steps_of
   steps_are x rest good h said =
-      AllAre-append cs _ (entry_of before x) (cond_are cs (is_thing x) (layout before) [] layout_are tt) (entry_are x rest good h said)
+      AllAre-append cs _ (entry_of before x) (cond_are cs (is_significant x) (layout before) [] layout_are tt) (entry_are x rest good h said)
 
   last_are : (p : Place) → AllAre cs (line_end_of_last before p)
   unfolding line_end_of_last

@@ -18,7 +18,7 @@ use Rattle.pylex.specs.declared.entries.ListingError.TheVariants as errors
 use Rattle.pylex.specs.declared.entries.Step.{Step}
 use Rattle.pylex.specs.declared.entries.Step.TheVariants as steps
 use Rattle.pylex.specs.Levels.{open_levels}
-use Rattle.pylex.specs.Lines.{depth, is_thing, is_at_margin, is_logical, width_at, widths, text_before}
+use Rattle.pylex.specs.Lines.{depth, is_significant, is_at_margin, is_logical, width_at, widths, text_before}
 use Rattle.pylex.specs.Listing.{Source, listing, up_to_end, mark, fault_at, dedents, layout, layout_by, entry_of, steps_of, stop_fault, line_end_of_last, end_place, begins_comment, last_line, ends_in_join, tail, stop, steps_from}
 use Rattle.pylex.specs.Steps.{entries_of, fault_of}
 use Rattle.pylex.specs.Laws.{EndsWithMarker}
@@ -189,7 +189,7 @@ module _ (before : List Lexeme) where
 
   steps_no_end : (x : Lexeme) → NoEnd (steps_of before x)
   unfolding steps_of
-  steps_no_end x = NoEnd-append (cond (is_thing x) (layout before) []) (entry_of before x) (cond_no_end (is_thing x) (layout before) [] layout_no_end tt) (entry_no_end x)
+  steps_no_end x = NoEnd-append (cond (is_significant x) (layout before) []) (entry_of before x) (cond_no_end (is_significant x) (layout before) [] layout_no_end tt) (entry_no_end x)
 
   last_no_end : (p : Place) → NoEnd (line_end_of_last before p)
   unfolding line_end_of_last

@@ -1,6 +1,6 @@
 use Rattle.std.proofs.Common.{◌+◌, [], length, refl}
 use Rattle.std.specs.Str.{chars}
-use Rattle.pylex.proofs.Finding.{stays_there, comes_on, finds_on, fault_found, entry_found, nothing_found, no_thing_due, some_bytes, stands_after, shorter_after, room_after, behind_cut, behind_on}
+use Rattle.pylex.proofs.Finding.{stays_there, comes_on, finds_on, fault_found, entry_found, nothing_found, no_significant_due, some_bytes, stands_after, shorter_after, room_after, behind_cut, behind_on}
 use Rattle.pylex.specs.declared.position.Meets.TheVariants as meets
 use Rattle.pylex.proofs.Told.{tells}
 use Rattle.pylex.proofs.position.find.Goals as goal
@@ -12,7 +12,7 @@ pub after-ahead-requires-clause-some : goal.after-ahead-requires-clause-some
 after-ahead-requires-clause-some c = some_bytes c.loop-meets.rest.now c.in-Some-cut.front.now c.in-Some-cut.back.now c.in-Some-cut.class c.in-Some-cut.ensures.some
 
 pub after-ahead-requires-clause-settled : goal.after-ahead-requires-clause-settled
-after-ahead-requires-clause-settled c = no_thing_due c.line_start.new.now c.loop-meets.rest.now c.in-Some-cut.front.now c.in-Some-cut.back.now c.in-Some-cut.class c.in-Some-cut.ensures.some (c.in_default.ensures.settles refl).settled
+after-ahead-requires-clause-settled c = no_significant_due c.line_start.new.now c.loop-meets.rest.now c.in-Some-cut.front.now c.in-Some-cut.back.now c.in-Some-cut.class c.in-Some-cut.ensures.some (c.in_default.ensures.settles refl).settled
 
 pub returns-in-Entry-clause-finds : goal.returns-in-Entry-clause-finds
 returns-in-Entry-clause-finds c = entry_found c.args.levels.now c.args.start (chars c.args.text.now) c.loop-meets.now c.line_start.new.now c.after-ahead.result c.loop-meets.rest.now c.in-Some-cut.front.now c.in-Some-cut.back.now c.in-Some-cut.class c.in-Entry.entry c.loop-meets.invariant.2 (c.in_default.ensures.settles refl) c.in-Some-cut.ensures.some c.in-Entry.ensures c.after-ahead.ensures.after

@@ -12,8 +12,8 @@ use Rattle.pylexeme.specs.Lexemes.{longest_within, class_in, plain_class, lexeme
 use Rattle.pylexeme.specs.Numbers.{is_number}
 use Rattle.pylexeme.specs.Operators.{is_operator, exact_of}
 use Rattle.pylexeme.specs.declared.kinds.Exact.{Exact}
-use Rattle.pylex.specs.Lines.{is_thing}
-use Rattle.pylexeme.specs.Cuts.{Takes, begins_thing, begins_line_end}
+use Rattle.pylex.specs.Lines.{is_significant}
+use Rattle.pylexeme.specs.Cuts.{Takes, begins_significant, begins_line_end}
 use Rattle.pylexeme.proofs.Cases.{bool_cases}
 use Rattle.pylexeme.proofs.Best.{and_parts, or_parts}
 use Rattle.pylexeme.proofs.Union.{nothing_takes, comment_takes, blanks_take, feed_takes, both_take, no_end_front}
@@ -122,26 +122,26 @@ pub line_end_text : (cs : List ℕ) (x : Lexeme) → lexeme_at cs ≡ Some x →
 unfolding plain_class
 line_end_text cs x e f = end_parts x.text (line_end_of (is_name x.text) (is_number x.text) (is_operator x.text) (is_comment x.text) (are_blanks x.text) (is_line_end x.text) (is_join x.text) (exact_of x.text) (is_by LineEnd cs x e f (λ h. cc)))
 
--- What a thing begins with
+-- What a significant token begins with
 not_true : (b : Bool) → not b ≡ true → b ≡ false
 not_true true e = cc
 not_true false e = refl
 
-thing_comment : (cs : List ℕ) (n : ℕ) → begins_thing cs ≡ true → is_comment (take n cs) ≡ false
-unfolding begins_thing is_comment
-thing_comment [] n h = cc
-thing_comment (c ∷ cs) zero h = refl
-thing_comment (c ∷ cs) (suc n) h =
+significant_comment : (cs : List ℕ) (n : ℕ) → begins_significant cs ≡ true → is_comment (take n cs) ≡ false
+unfolding begins_significant is_comment
+significant_comment [] n h = cc
+significant_comment (c ∷ cs) zero h = refl
+significant_comment (c ∷ cs) (suc n) h =
     let p = and_parts (not (is_blank_char c) && not (c == 35)) (not (begins_line_end (c ∷ cs))) h in
     let q = and_parts (not (is_blank_char c)) (not (c == 35)) p.0 in
     let e : (c == 35) ≡ false = not_true (c == 35) q.1 in
     rw e refl
 
-thing_blanks : (cs : List ℕ) (n : ℕ) → begins_thing cs ≡ true → are_blanks (take n cs) ≡ false
-unfolding begins_thing are_blanks
-thing_blanks [] n h = cc
-thing_blanks (c ∷ cs) zero h = refl
-thing_blanks (c ∷ cs) (suc n) h =
+significant_blanks : (cs : List ℕ) (n : ℕ) → begins_significant cs ≡ true → are_blanks (take n cs) ≡ false
+unfolding begins_significant are_blanks
+significant_blanks [] n h = cc
+significant_blanks (c ∷ cs) zero h = refl
+significant_blanks (c ∷ cs) (suc n) h =
     let p = and_parts (not (is_blank_char c) && not (c == 35)) (not (begins_line_end (c ∷ cs))) h in
     let q = and_parts (not (is_blank_char c)) (not (c == 35)) p.0 in
     let e : is_blank_char c ≡ false = not_true (is_blank_char c) q.0 in
@@ -160,10 +160,10 @@ end_front (c ∷ d ∷ t) n e h = let p = if_parts (c == 10) ((c == 13) && (d ==
     if_parts true y e = cc
     if_parts false y e = (refl, e)
 
-thing_line_end : (cs : List ℕ) (n : ℕ) → begins_thing cs ≡ true → n ≤ length cs → is_line_end (take n cs) ≡ false
-unfolding begins_thing
-thing_line_end [] n h l = cc
-thing_line_end (c ∷ cs) n h l =
+significant_line_end : (cs : List ℕ) (n : ℕ) → begins_significant cs ≡ true → n ≤ length cs → is_line_end (take n cs) ≡ false
+unfolding begins_significant
+significant_line_end [] n h l = cc
+significant_line_end (c ∷ cs) n h l =
     let p = and_parts (not (is_blank_char c) && not (c == 35)) (not (begins_line_end (c ∷ cs))) h in
     end_front (c ∷ cs) n (not_true (begins_line_end (c ∷ cs)) p.1) l
 
@@ -179,40 +179,40 @@ len_within cs = within (length cs)
         (λ (e : is_some (class_in cs (take (suc m) cs)) ≡ false). let i = within m in rw e (omega arith))
         (bool_cases (is_some (class_in cs (take (suc m) cs))))
 
-abbrev thing_of : Class → Bool
-thing_of k = elim k [ Blanks ↦ false | Comment ↦ false | LineEnd ↦ false | _ ↦ true ]
+abbrev significant_of : Class → Bool
+significant_of k = elim k [ Blanks ↦ false | Comment ↦ false | LineEnd ↦ false | _ ↦ true ]
 
 not_both : (b : Bool) → b ≡ true → b ≡ false → ⊥
 not_both true e f = cc
 not_both false e f = cc
 
-thing_by : (cs : List ℕ) (x : Lexeme) (k : Class) → begins_thing cs ≡ true → lexeme_at cs ≡ Some x → x.«class» ≡ k → is_thing x ≡ true
+significant_by : (cs : List ℕ) (x : Lexeme) (k : Class) → begins_significant cs ≡ true → lexeme_at cs ≡ Some x → x.«class» ≡ k → is_significant x ≡ true
 unfolding plain_class
-thing_by cs x Name h e f = ap thing_of f
-thing_by cs x Number h e f = ap thing_of f
-thing_by cs x String h e f = ap thing_of f
-thing_by cs x (Operator o) h e f = ap thing_of f
-thing_by cs x Join h e f = ap thing_of f
-thing_by cs x Comment h e f =
+significant_by cs x Name h e f = ap significant_of f
+significant_by cs x Number h e f = ap significant_of f
+significant_by cs x String h e f = ap significant_of f
+significant_by cs x (Operator o) h e f = ap significant_of f
+significant_by cs x Join h e f = ap significant_of f
+significant_by cs x Comment h e f =
     let t = comment_of (is_name x.text) (is_number x.text) (is_operator x.text) (is_comment x.text) (are_blanks x.text) (is_line_end x.text) (is_join x.text) (exact_of x.text) (is_by Comment cs x e f (λ h. cc)) in
-    absurd (not_both (is_comment x.text) t (ap is_comment (at cs x e).text ∙ thing_comment cs (lexeme_len cs) h))
-thing_by cs x Blanks h e f =
+    absurd (not_both (is_comment x.text) t (ap is_comment (at cs x e).text ∙ significant_comment cs (lexeme_len cs) h))
+significant_by cs x Blanks h e f =
     let t = blanks_of (is_name x.text) (is_number x.text) (is_operator x.text) (is_comment x.text) (are_blanks x.text) (is_line_end x.text) (is_join x.text) (exact_of x.text) (is_by Blanks cs x e f (λ h. cc)) in
-    absurd (not_both (are_blanks x.text) t (ap are_blanks (at cs x e).text ∙ thing_blanks cs (lexeme_len cs) h))
-thing_by cs x LineEnd h e f =
+    absurd (not_both (are_blanks x.text) t (ap are_blanks (at cs x e).text ∙ significant_blanks cs (lexeme_len cs) h))
+significant_by cs x LineEnd h e f =
     let t = line_end_of (is_name x.text) (is_number x.text) (is_operator x.text) (is_comment x.text) (are_blanks x.text) (is_line_end x.text) (is_join x.text) (exact_of x.text) (is_by LineEnd cs x e f (λ h. cc)) in
-    absurd (not_both (is_line_end x.text) t (ap is_line_end (at cs x e).text ∙ thing_line_end cs (lexeme_len cs) h (len_within cs)))
+    absurd (not_both (is_line_end x.text) t (ap is_line_end (at cs x e).text ∙ significant_line_end cs (lexeme_len cs) h (len_within cs)))
 
--- a lexeme at the front of what begins a thing is one
-pub thing_at : (cs : List ℕ) (x : Lexeme) → begins_thing cs ≡ true → lexeme_at cs ≡ Some x → is_thing x ≡ true
-thing_at cs x h e = thing_by cs x x.«class» h e refl
+-- a lexeme at the front of what begins a significant token is one
+pub significant_at : (cs : List ℕ) (x : Lexeme) → begins_significant cs ≡ true → lexeme_at cs ≡ Some x → is_significant x ≡ true
+significant_at cs x h e = significant_by cs x x.«class» h e refl
 
--- Where no thing begins, there are blanks, a comment or a line end, or nothing
+-- Where no significant token begins, there are blanks, a comment or a line end, or nothing
 record Lays (cs : List ℕ) : Type 0 where
   pub kind : Class
   pub new : List ℕ
   pub takes : Takes cs (Some kind) new
-  pub plain : thing_of kind ≡ false
+  pub plain : significant_of kind ≡ false
 
 lays_end : (c : ℕ) (cs : List ℕ) → begins_line_end (c ∷ cs) ≡ true → Lays (c ∷ cs)
 lays_end c [] e = record { kind = LineEnd; new = _; takes = feed_takes (c ∷ []) e; plain = refl }
@@ -225,8 +225,8 @@ lays_end c (d ∷ cs) e =
     record { kind = LineEnd; new = _; takes = both_take (c ∷ d ∷ cs) p.0 p.1; plain = refl })
     (bool_cases (c == 10))
 
-lays : (c : ℕ) (cs : List ℕ) → begins_thing (c ∷ cs) ≡ false → Lays (c ∷ cs)
-unfolding begins_thing
+lays : (c : ℕ) (cs : List ℕ) → begins_significant (c ∷ cs) ≡ false → Lays (c ∷ cs)
+unfolding begins_significant
 lays c cs h =
     ⊎_elim
     (λ (e : is_blank_char c ≡ true). record { kind = Blanks; new = _; takes = blanks_take (c ∷ cs) e; plain = refl })
@@ -251,11 +251,11 @@ pub none_at_all : (x : Lexeme) → lexeme_at [] ≡ Some x → ⊥
 none_at_all x e = let f : None ≡ Some x.«class» = nothing_takes.«class» ∙ ap (option_map (λ (y : Lexeme). y.«class»)) e in cc
 
 -- a lexeme elsewhere is none
-pub plain_at : (cs : List ℕ) (x : Lexeme) → begins_thing cs ≡ false → lexeme_at cs ≡ Some x → is_thing x ≡ false
+pub plain_at : (cs : List ℕ) (x : Lexeme) → begins_significant cs ≡ false → lexeme_at cs ≡ Some x → is_significant x ≡ false
 plain_at [] x h e = absurd (none_at_all x e)
-plain_at (c ∷ cs) x h e = let l : Lays (c ∷ cs) = lays c cs h in ap thing_of (class_by (c ∷ cs) l.new l.kind x l.takes e) ∙ l.plain
+plain_at (c ∷ cs) x h e = let l : Lays (c ∷ cs) = lays c cs h in ap significant_of (class_by (c ∷ cs) l.new l.kind x l.takes e) ∙ l.plain
 
 -- and only at the end is there no lexeme
-pub all_cut : (cs : List ℕ) → begins_thing cs ≡ false → lexeme_at cs ≡ None → cs ≡ []
+pub all_cut : (cs : List ℕ) → begins_significant cs ≡ false → lexeme_at cs ≡ None → cs ≡ []
 all_cut [] h e = refl
 all_cut (c ∷ cs) h e = let l : Lays (c ∷ cs) = lays c cs h in absurd (some_by (c ∷ cs) l.new l.kind l.takes e)
