@@ -8,10 +8,10 @@ use Rattle.pysource.specs.Streams.{stream_of, Refuses}
 use Rattle.pysource.specs.Taking.{Takes}
 use Rattle.pysource.specs.Limits.{source_limit}
 use Rattle.pysource.specs.declared.faults.LineError.TheVariants as line_errors
-use Rattle.pysource.specs.declared.streams.Reach.{Reach}
-use Rattle.pysource.specs.declared.streams.Reach.TheVariants as reach
-use Rattle.pysource.specs.declared.streams.StreamFault.{StreamFault}
-use Rattle.pysource.specs.declared.streams.StreamFault.TheVariants as stream_faults
+use Rattle.pysource.specs.declared.line_reader.Reach.{Reach}
+use Rattle.pysource.specs.declared.line_reader.Reach.TheVariants as reach
+use Rattle.pysource.specs.declared.line_reader.StreamFault.{StreamFault}
+use Rattle.pysource.specs.declared.line_reader.StreamFault.TheVariants as stream_faults
 use Rattle.pysource.proofs.ByteLemmas.{Appends-refl}
 use Rattle.pysource.proofs.TakingLemmas.{Takes-on}
 use Rattle.pylex.specs.declared.entries.ListingError.{ListingError}

@@ -7,8 +7,8 @@ use Rattle.std.proofs.lemmas.List.{length-take-le, take-append-drop}
 use Rattle.pysource.specs.Streams.{Buffered, FollowsAt}
 use Rattle.pysource.specs.Taking.{Takes}
 use Rattle.pysource.specs.Limits.{source_limit}
-use Rattle.pysource.specs.declared.streams.Reach.{Reach}
-use Rattle.pysource.specs.declared.streams.Reach.TheVariants as reach
+use Rattle.pysource.specs.declared.line_reader.Reach.{Reach}
+use Rattle.pysource.specs.declared.line_reader.Reach.TheVariants as reach
 use Rattle.pylex.specs.Streamed.{Continues}
 use Rattle.pycommand.specs.Runs.{WritesFor, Performs}
 use Rattle.pyfault.specs.declared.fault.Fault.{Fault}

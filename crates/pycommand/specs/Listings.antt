@@ -3,7 +3,7 @@ use Rattle.std.specs.Prelude.{ℕ, ◌+◌, ◌-◌, nat_le, nat_lt, ◌==◌, B
 use Rattle.std.specs.List.{flat_map}
 use Rattle.pysource.specs.Parts.{Parts}
 use Rattle.pysource.specs.Streams.{stream_of}
-use Rattle.pysource.specs.declared.streams.StreamFault.{StreamFault}
+use Rattle.pysource.specs.declared.line_reader.StreamFault.{StreamFault}
 use Rattle.pylex.specs.declared.entries.Entry.{Entry}
 use Rattle.pylex.specs.declared.entries.Step.{Step}
 use Rattle.pylex.specs.declared.kinds.Kind.{Kind}

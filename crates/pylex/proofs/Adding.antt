@@ -6,9 +6,9 @@ use Rattle.std.specs.Str.{IsCharBoundary}
 use lib.Seq.{drop-append-le}
 use Rattle.std.proofs.lemmas.Str.{IsUtf8-append, IsUtf8-nil, IsCharBoundary-at_seam}
 use Rattle.pysource.specs.Limits.{source_limit}
-use Rattle.pysource.specs.declared.streams.Line.{Line}
-use Rattle.pysource.specs.declared.streams.Line.TheVariants as met
-use Rattle.pysource.specs.Streams.{Buffered, Follows, Gives, ComesOnly, Moves, Reads, comes, onto, ends_line}
+use Rattle.pysource.specs.declared.line_reader.Line.{Line}
+use Rattle.pysource.specs.declared.line_reader.Line.TheVariants as met
+use Rattle.pysource.specs.Streams.{Buffered, Follows, Gives, ComesOnly, NextLine, Reads, comes, onto, ends_line}
 use Rattle.pysource.proofs.TakingLemmas.{Takes-none, Takes-on}
 use Rattle.pylex.specs.declared.chunk.Chunk.{Chunk}
 use Rattle.pylex.specs.Chunked.{AddsOn, IsLonger, ReadsOn}
@@ -46,7 +46,7 @@ module _ (x y z : Option (List ℕ)) (k m n : ℕ) (a b c : Buffered) (text_a te
   reads_both u r = Takes-on x y z k m n a.count b.count c.count a.reach b.reach c.reach p.taken u p.reads r
 
   -- One line more.
-  pub adds_line : (r : Moves y z m n b c text_b text_c (Ok met.Text)) → c.count ≤ source_limit → AddsOn x z k n a c text_a text_c
+  pub adds_line : (r : NextLine y z m n b c text_b text_c (Ok met.Text)) → c.count ≤ source_limit → AddsOn x z k n a c text_a text_c
   adds_line r within = record {
     taken = p.taken ++ r.taken;
     added = p.added ++ r.line;
@@ -61,7 +61,7 @@ module _ (x y z : Option (List ℕ)) (k m n : ℕ) (a b c : Buffered) (text_a te
   }
 
   -- No line more.
-  pub adds_no_line : (q : Result Line AllocError) (r : Moves y z m n b c text_b text_c q) → r.line ≡ [] → c.count ≤ source_limit → AddsOn x z k n a c text_a text_c
+  pub adds_no_line : (q : Result Line AllocError) (r : NextLine y z m n b c text_b text_c q) → r.line ≡ [] → c.count ≤ source_limit → AddsOn x z k n a c text_a text_c
   adds_no_line q r none within =
       let gives : Gives b r.taken [] c = subst (λ l. Gives b r.taken l c) none r.gives in
       record {

@@ -7,7 +7,7 @@ use Rattle.pysource.specs.Streams.{head_len, stream_of}
 use Rattle.pysource.specs.Taking.{Takes}
 use Rattle.pysource.proofs.TakingLemmas.{Takes-on}
 use Rattle.pysource.specs.declared.faults.LineError.TheVariants.{Unread}
-use Rattle.pysource.specs.declared.streams.Reach.TheVariants.{Reading}
+use Rattle.pysource.specs.declared.line_reader.Reach.TheVariants.{Reading}
 use Rattle.pylex.specs.declared.entries.Entry.{Entry}
 use Rattle.pylex.specs.declared.entries.ListingError.{ListingError}
 use Rattle.pylex.specs.declared.entries.ListingError.TheVariants as errors

@@ -4,10 +4,10 @@ use Rattle.std.specs.Prelude.{Result, Ok, Err}
 use Rattle.std.specs.declared.alloc.AllocError.{AllocError}
 use lib.Seq.{drop-append-le}
 use Rattle.pysource.specs.Lines.{lines_of}
-use Rattle.pysource.specs.Streams.{Buffered, Tells, Moves}
+use Rattle.pysource.specs.Streams.{Buffered, Tells, NextLine}
 use Rattle.pysource.specs.Limits.{source_limit}
-use Rattle.pysource.specs.declared.streams.Line.{Line}
-use Rattle.pysource.specs.declared.streams.Line.TheVariants as met
+use Rattle.pysource.specs.declared.line_reader.Line.{Line}
+use Rattle.pysource.specs.declared.line_reader.Line.TheVariants as met
 use Rattle.pylex.specs.declared.chunk.Chunk.{Chunk}
 use Rattle.pylex.specs.Chunked.{Adds, Holding, Stays, IsChunk, ReadsOn}
 
@@ -48,7 +48,7 @@ pub left_longer : (at : ℕ) (old new line : List ℕ) → at ≤ length old →
 left_longer at old new line h e = ap (drop at) e ∙ drop-append-le at old line h
 
 -- a call for a line, with what it did to the lines held
-pub reads_on : (come_old come_new : Option (List ℕ)) (told_old told_new : ℕ) (old new : Chunk) (chunk_old chunk_new : List ℕ) (from : ℕ) (r : Result Line AllocError) → (m : Moves come_old come_new told_old told_new old.lines new.lines chunk_old chunk_new r) → new.lines.count ≤ source_limit → IsChunk new → Holding old new from m.line r → ReadsOn come_old come_new told_old told_new old new from r
+pub reads_on : (come_old come_new : Option (List ℕ)) (told_old told_new : ℕ) (old new : Chunk) (chunk_old chunk_new : List ℕ) (from : ℕ) (r : Result Line AllocError) → (m : NextLine come_old come_new told_old told_new old.lines new.lines chunk_old chunk_new r) → new.lines.count ≤ source_limit → IsChunk new → Holding old new from m.line r → ReadsOn come_old come_new told_old told_new old new from r
 reads_on come_old come_new told_old told_new old new chunk_old chunk_new from r m within chunk holding = record {
   taken = m.taken;
   line = m.line;

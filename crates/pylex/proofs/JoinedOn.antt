@@ -7,11 +7,11 @@ use Rattle.std.proofs.lemmas.List.{take-append-drop, length-drop}
 use Rattle.std.proofs.lemmas.Str.{chars-append, IsUtf8-append}
 use Rattle.std.proofs.Math.Seq.{drop-append_seam}
 use lib.Seq.{drop-append-le}
-use Rattle.pysource.specs.Streams.{Buffered, Coming, ComesOnly, Moves, IsText, comes, ends_line}
+use Rattle.pysource.specs.Streams.{Buffered, Coming, ComesOnly, NextLine, IsText, comes, ends_line}
 use Rattle.pysource.specs.Lines.{lines_of}
 use Rattle.pysource.specs.Limits.{source_limit}
-use Rattle.pysource.specs.declared.streams.Line.{Line}
-use Rattle.pysource.specs.declared.streams.Line.TheVariants as met
+use Rattle.pysource.specs.declared.line_reader.Line.{Line}
+use Rattle.pysource.specs.declared.line_reader.Line.TheVariants as met
 use Rattle.pylexeme.specs.declared.string.OpenLiteral.{OpenLiteral}
 use Rattle.pylex.specs.declared.chunk.Chunk.{Chunk}
 use Rattle.pylexeme.specs.Chars.{begins}
@@ -63,7 +63,7 @@ pub left_open : (o : OpenLiteral) (at : ℕ) (text : List ℕ) → IsOpenAt o at
 left_open o at text i = ap is_open_string (left_lexed (chars (drop at text)) (chars text) i.lexed ∙ left_stop (chars (drop at text)) i.none) ∙ i.opened.unended
 
 -- nothing follows a last line without line feed
-pub comes_some : {x y : Option (List ℕ)} {k m : ℕ} {text_b text_c : List ℕ} (b c : Buffered) → (r : Moves x y k m b c text_b text_c (Ok met.Text)) → c.count ≤ source_limit → ComesOnly b None → ⊥
+pub comes_some : {x y : Option (List ℕ)} {k m : ℕ} {text_b text_c : List ℕ} (b c : Buffered) → (r : NextLine x y k m b c text_b text_c (Ok met.Text)) → c.count ≤ source_limit → ComesOnly b None → ⊥
 comes_some b c r within only =
     let f = some_future c within in
     let g = r.gives f.more f.broken f.follows.0 in
@@ -82,7 +82,7 @@ module _ (x y : Option (List ℕ)) (k m : ℕ) (o : OpenLiteral) (at from : ℕ)
       subst (IsOpenAt o at) (sym l.whole) (open_on o at l.front l.line l.utf8 l.line_utf8 l.feed l.opened (subst (GoesOn o) line goes))
 
   -- One line more.
-  pub behind_line : GoesOn o (drop from text_b) → (r : Moves x y k m b c text_b text_c (Ok met.Text)) → c.count ≤ source_limit → LinesBehind o at (length text_b) a c text_c
+  pub behind_line : GoesOn o (drop from text_b) → (r : NextLine x y k m b c text_b text_c (Ok met.Text)) → c.count ≤ source_limit → LinesBehind o at (length text_b) a c text_c
   behind_line goes r within =
       let open_at = open_behind goes in
       record {
@@ -100,7 +100,7 @@ module _ (x y : Option (List ℕ)) (k m : ℕ) (o : OpenLiteral) (at from : ℕ)
       }
 
   -- No line more.
-  pub joins_no_line : GoesOn o (drop from text_b) → (q : Result Line AllocError) → (r : Moves x y k m b c text_b text_c q) → r.line ≡ [] → (IsText q → ⊥) → Joins o at a c text_c
+  pub joins_no_line : GoesOn o (drop from text_b) → (q : Result Line AllocError) → (r : NextLine x y k m b c text_b text_c q) → r.line ≡ [] → (IsText q → ⊥) → Joins o at a c text_c
   joins_no_line goes q r none not =
       let same : text_c ≡ text_b = r.chunk ∙ ap (λ t. text_b ++ t) none ∙ append-nil text_b in
       record {
@@ -157,7 +157,7 @@ pub holds_none : (old new : Chunk) (at : ℕ) → at < length (string_bytes old.
 holds_none old new at less none = λ s. let n = length-drop at (string_bytes old.text) in absurd (let f : true ≡ false = sym (s.opened (omega (arith, n, less))) ∙ none in cc)
 
 -- A line took the place of those held.
-pub holds_line : (x y : Option (List ℕ)) (k m : ℕ) (b c : Buffered) (text_b text_c rest line : List ℕ) → (r : Moves x y k m b c text_b text_c (Ok met.Text)) → line ≡ r.line → Holds b c rest line (drop 0 line)
+pub holds_line : (x y : Option (List ℕ)) (k m : ℕ) (b c : Buffered) (text_b text_c rest line : List ℕ) → (r : NextLine x y k m b c text_b text_c (Ok met.Text)) → line ≡ r.line → Holds b c rest line (drop 0 line)
 holds_line x y k m b c text_b text_c rest line r is = record {
   joined = joined_more [] line (λ front back e feed some. absurd (no_front front back e feed)) (λ h. absurd (omega arith)) (subst (λ l. lines_of l ≡ l ∷ []) (sym is) r.tells.0.one);
   lexed = at_left;
@@ -181,7 +181,7 @@ adds_other old new from (met.Fault f) h = tt
 adds_other old new from met.Read h = tt
 
 -- a line that was read behind those held
-pub line_more : (x y : Option (List ℕ)) (k m : ℕ) (old new : Chunk) (from : ℕ) → (r : Moves x y k m old.lines new.lines (string_bytes old.text) (string_bytes new.text) (Ok met.Text)) → new.at ≡ from → IsLineMore old new from
+pub line_more : (x y : Option (List ℕ)) (k m : ℕ) (old new : Chunk) (from : ℕ) → (r : NextLine x y k m old.lines new.lines (string_bytes old.text) (string_bytes new.text) (Ok met.Text)) → new.at ≡ from → IsLineMore old new from
 line_more x y k m old new from r at = record {
   line = r.line;
   is = r.tells.0;

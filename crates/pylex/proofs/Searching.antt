@@ -11,10 +11,10 @@ use Rattle.std.proofs.Math.Seq.{drop-append_seam}
 use Rattle.pysource.specs.Parts.{Parts}
 use Rattle.pysource.specs.Limits.{source_limit}
 use Rattle.pysource.specs.declared.faults.LineFault.{LineFault}
-use Rattle.pysource.specs.declared.streams.Line.{Line}
-use Rattle.pysource.specs.declared.streams.Line.TheVariants as lines
-use Rattle.pysource.specs.declared.streams.Reach.{Reach}
-use Rattle.pysource.specs.declared.streams.Reach.TheVariants as reach
+use Rattle.pysource.specs.declared.line_reader.Line.{Line}
+use Rattle.pysource.specs.declared.line_reader.Line.TheVariants as lines
+use Rattle.pysource.specs.declared.line_reader.Reach.{Reach}
+use Rattle.pysource.specs.declared.line_reader.Reach.TheVariants as reach
 use Rattle.pysource.specs.Streams.{Buffered, Coming, FollowsAt, ComesOnly, comes, ends_line}
 use Rattle.pysource.proofs.TakingLemmas.{Takes-none, Takes-on}
 use Rattle.pylex.specs.declared.chunk.Chunk.{Chunk}

@@ -3,8 +3,8 @@ use Rattle.std.specs.Prelude.{◌≡◌, ◌⊎◌, ℕ, ◌+◌, ◌≤◌, ◌
 use Rattle.std.specs.declared.alloc.AllocError.{AllocError}
 use Rattle.pysource.specs.Streams.{Buffered, Reads, Gives, ComesOnly, IsLine, ends_line, unread}
 use Rattle.pysource.specs.Limits.{source_limit}
-use Rattle.pysource.specs.declared.streams.Line.{Line}
-use Rattle.pysource.specs.declared.streams.Line.TheVariants as met
+use Rattle.pysource.specs.declared.line_reader.Line.{Line}
+use Rattle.pysource.specs.declared.line_reader.Line.TheVariants as met
 use Rattle.pylex.specs.declared.chunk.Chunk.{Chunk}
 use Rattle.pylex.specs.Held.{Ahead, AheadBut, IsAtStop, Holds}
 

@@ -5,21 +5,21 @@ use Rattle.std.specs.Str.{chars, IsUtf8}
 use Rattle.pysource.specs.Parts.{Parts}
 use Rattle.pysource.specs.Streams.{Buffered, Follows, comes, ends_line, head_len, stream_of, unread, Reads, Refuses, Coming}
 use Rattle.pysource.specs.Taking.{Takes}
-use Rattle.pysource.specs.declared.streams.Reach.{Reach}
+use Rattle.pysource.specs.declared.line_reader.Reach.{Reach}
 use Rattle.pylex.specs.declared.stream.ResumeFault.{ResumeFault}
 use Rattle.pylex.specs.declared.stream.ResumeFault.TheVariants as resumes
 use Rattle.pysource.specs.Limits.{source_limit}
 use Rattle.pysource.specs.declared.faults.LineError.TheVariants.{Unread}
 use Rattle.pysource.specs.declared.faults.LineFault.{LineFault}
-use Rattle.pysource.specs.declared.streams.Line.{Line}
-use Rattle.pysource.specs.declared.streams.Line.TheVariants as lines
+use Rattle.pysource.specs.declared.line_reader.Line.{Line}
+use Rattle.pysource.specs.declared.line_reader.Line.TheVariants as lines
 use Rattle.pylex.specs.declared.position.Meets.{Meets}
 use Rattle.pylex.specs.declared.position.Meets.TheVariants as met
 use Rattle.pylex.specs.declared.stream.Found.{Found}
 use Rattle.pylexeme.specs.Lexemes.{is_open_string, left_by_cut}
 use Rattle.pylex.specs.Progress.{Finds, HasRoom, Stands, StopAhead}
-use Rattle.pysource.specs.declared.streams.Reach.TheVariants as reach
-use Rattle.pysource.specs.declared.streams.StreamFault.TheVariants as faults
+use Rattle.pysource.specs.declared.line_reader.Reach.TheVariants as reach
+use Rattle.pysource.specs.declared.line_reader.StreamFault.TheVariants as faults
 use Rattle.pylex.specs.declared.entries.Entry.{Entry}
 use Rattle.pylex.specs.declared.entries.ListingError.{ListingError}
 use Rattle.pylex.specs.declared.entries.ListingError.TheVariants as errors

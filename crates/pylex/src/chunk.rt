@@ -4,7 +4,7 @@ ghost use Rattle.std.specs.Prelude.{◌≡◌, ◌≤◌, ◌<◌, ◌-◌, ◌+
 ghost use Rattle.pysource.specs.Bytes.{IsSteady};
 ghost use Rattle.pysource.specs.Streams.{Buffered};
 ghost use Rattle.pysource.specs.Limits.{source_limit};
-ghost use Rattle.pysource.specs.declared.streams.Reach.{Reach};
+ghost use Rattle.pysource.specs.declared.line_reader.Reach.{Reach};
 ghost use Rattle.std.specs.Str.{IsCharBoundary};
 ghost use Rattle.pylex.specs.Held.{Joins, LinesBehind};
 ghost use Rattle.pylex.specs.Chunked.{AddsLine, AddsOn, HoldsOn, IsChunk, IsLonger, ReadsOn};

@@ -6,7 +6,7 @@ ghost use Rattle.std.specs.Prelude.{◌≡◌, ◌≤◌, ◌<◌, ◌-◌, ◌+
 ghost use Rattle.std.specs.Str.{chars};
 ghost use Rattle.pysource.specs.Bytes.{IsSteady};
 ghost use Rattle.pysource.specs.Parts.{Parts};
-ghost use Rattle.pysource.specs.declared.streams.Reach.{Reach};
+ghost use Rattle.pysource.specs.declared.line_reader.Reach.{Reach};
 ghost use Rattle.pysource.specs.Streams.{Refuses};
 ghost use Rattle.pylex.specs.ListingLines.{text_of};
 ghost use Rattle.pylexeme.specs.Lexemes.{is_open_string};

@@ -10,8 +10,8 @@ use Rattle.pysource.specs.Taking.{NoLfFrom, LineAt, LineThere, LineLeft, LineUnr
 use Rattle.pysource.specs.Streams.{FollowsAt, searches_second, decides, head_len, ends_line}
 use Rattle.pysource.specs.Heads.{Head, Headless}
 use Rattle.pysource.specs.declared.buffers.Intake.{Intake}
-use Rattle.pysource.specs.declared.streams.Reach.{Reach}
-use Rattle.pysource.specs.declared.streams.Reach.TheVariants.{Reading, End}
+use Rattle.pysource.specs.declared.line_reader.Reach.{Reach}
+use Rattle.pysource.specs.declared.line_reader.Reach.TheVariants.{Reading, End}
 use Rattle.pysource.proofs.CutLemmas.{NoLf, first_of_alone, first_of_more}
 use Rattle.pysource.proofs.ComingLemmas.{no_lf_all, line_front, line_clean, ends_at_lf, ends_nowhere}
 

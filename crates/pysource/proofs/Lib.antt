@@ -14,7 +14,7 @@ pub mod BufferLemmas
 pub mod TakingLemmas
 pub mod ComingLemmas
 pub mod StreamLemmas
-pub mod MovesLemmas
+pub mod NextLineLemmas
 pub mod HeadLemmas
 pub mod OpenLemmas
 pub mod GoodLemmas

@@ -15,10 +15,10 @@ use Rattle.pysource.specs.Limits.{source_limit}
 use Rattle.pysource.specs.declared.encodings.SourceFault.{SourceFault}
 use Rattle.pysource.specs.declared.encodings.SourceFault.TheVariants as cookies
 use Rattle.pysource.specs.declared.places.Place.{Place}
-use Rattle.pysource.specs.declared.streams.Reach.{Reach}
-use Rattle.pysource.specs.declared.streams.Reach.TheVariants.{Reading, Broken, Passed}
-use Rattle.pysource.specs.declared.streams.StreamFault.{StreamFault}
-use Rattle.pysource.specs.declared.streams.StreamFault.TheVariants.{UnsupportedEncoding, BomConflict, Read, Memory}
+use Rattle.pysource.specs.declared.line_reader.Reach.{Reach}
+use Rattle.pysource.specs.declared.line_reader.Reach.TheVariants.{Reading, Broken, Passed}
+use Rattle.pysource.specs.declared.line_reader.StreamFault.{StreamFault}
+use Rattle.pysource.specs.declared.line_reader.StreamFault.TheVariants.{UnsupportedEncoding, BomConflict, Read, Memory}
 use Rattle.pysource.proofs.StreamLemmas.{held, comes_is}
 use Rattle.pysource.proofs.HeadLemmas.{encoding_unsearched}
 

@@ -12,9 +12,9 @@ use Rattle.pysource.specs.Taking.{Takes, Grows, LineAt, LineLeft, LineUnread}
 use Rattle.pysource.specs.Streams.{Buffered, FollowsAt, comes, coming, onto, Gives, ComesOnly, unread, fault_at, IsLine, ends_line, stream_of, stream_under, as_stream}
 use Rattle.pysource.specs.declared.buffers.Intake.{Intake}
 use Rattle.pysource.specs.declared.encodings.SourceFault.{SourceFault}
-use Rattle.pysource.specs.declared.streams.StreamFault.{StreamFault}
-use Rattle.pysource.specs.declared.streams.Reach.{Reach}
-use Rattle.pysource.specs.declared.streams.Reach.TheVariants.{Reading, End, Broken, Passed}
+use Rattle.pysource.specs.declared.line_reader.StreamFault.{StreamFault}
+use Rattle.pysource.specs.declared.line_reader.Reach.{Reach}
+use Rattle.pysource.specs.declared.line_reader.Reach.TheVariants.{Reading, End, Broken, Passed}
 use Rattle.pysource.specs.declared.faults.LineError.{LineError}
 use Rattle.pysource.specs.declared.faults.LineFault.{LineFault}
 use Rattle.pysource.proofs.CutLemmas.{NoLf, lines_alone}

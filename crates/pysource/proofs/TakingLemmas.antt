@@ -7,8 +7,8 @@ use Rattle.std.proofs.lemmas.List.{get_or_append_left}
 use Rattle.pysource.specs.declared.buffers.Intake.{Intake}
 use Rattle.pysource.specs.Limits.{source_limit}
 use Rattle.pysource.specs.Taking.{Takes, Grows, fails, NoLfFrom}
-use Rattle.pysource.specs.declared.streams.Reach.{Reach}
-use Rattle.pysource.specs.declared.streams.Reach.TheVariants.{Reading, End, Broken, Passed}
+use Rattle.pysource.specs.declared.line_reader.Reach.{Reach}
+use Rattle.pysource.specs.declared.line_reader.Reach.TheVariants.{Reading, End, Broken, Passed}
 use Rattle.pysource.proofs.ByteLemmas.{Consumes-append, Consumes-refl}
 
 -- a list of no length

@@ -8,7 +8,7 @@ ghost use Rattle.pysource.specs.Limits.{source_limit};
 ghost use Rattle.pysource.specs.Taking.{Grows, GaveInto, FoundLine};
 
 use crate::bytes::{ByteIn, PIECE, SOURCE_LIMIT};
-use crate::streams::Reach;
+use crate::line_reader::Reach;
 use std::alloc::{AllocError, Global};
 use std::marker::Model;
 

@@ -3,7 +3,7 @@ use Rattle.std.specs.Str.{IsCharBoundary}
 use Rattle.pysource.specs.Bytes.{IsSteady}
 use Rattle.pysource.specs.Streams.{Buffered}
 use Rattle.pysource.specs.Limits.{source_limit}
-use Rattle.pysource.specs.declared.streams.Reach.TheVariants.{Reading}
+use Rattle.pysource.specs.declared.line_reader.Reach.TheVariants.{Reading}
 use Rattle.pylex.specs.Held.{LinesBehind}
 use Rattle.pylex.specs.Chunked.{AddsOn}
 use Rattle.pylex.proofs.chunk.add_lines.Given as goal

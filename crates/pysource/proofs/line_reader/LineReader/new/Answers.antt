@@ -3,8 +3,8 @@ use Rattle.std.proofs.lemmas.Result.{err_from_is_err_and}
 use Rattle.pysource.specs.Cookies.{encoding_of, has_mark}
 use Rattle.pysource.specs.declared.buffers.Intake.{Intake}
 use Rattle.pysource.proofs.OpenLemmas.{opens, unmarked, unmarked_skip, unmarked_same, refuses_source, refuses_head}
-use Rattle.pysource.proofs.streams.LineReader.new.Goals as goal
-use Rattle.pysource.proofs.streams.LineReader.new.Goals.{then-has_mark, else-has_mark}
+use Rattle.pysource.proofs.line_reader.LineReader.new.Goals as goal
+use Rattle.pysource.proofs.line_reader.LineReader.new.Goals.{then-has_mark, else-has_mark}
 
 pub returns-in_err-first-clause-opening : goal.returns-in_err-first-clause-opening
 returns-in_err-first-clause-opening g c =

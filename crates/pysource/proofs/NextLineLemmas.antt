@@ -8,10 +8,10 @@ use Rattle.pysource.specs.Lines.{first_bad}
 use Rattle.std.proofs.lemmas.Bool.{cases_lt}
 use Rattle.pysource.specs.Sources.{nth_line}
 use Rattle.pysource.specs.Taking.{Grows, LineAt, LineThere, LineLeft, LineUnread, NoLfFrom}
-use Rattle.pysource.specs.Streams.{Moves, Tells, IsText, fault_at, past_first}
+use Rattle.pysource.specs.Streams.{NextLine, Tells, IsText, fault_at, past_first}
 use Rattle.pysource.specs.declared.buffers.Intake.{Intake}
-use Rattle.pysource.specs.declared.streams.Line.{Line}
-use Rattle.pysource.specs.declared.streams.Line.TheVariants as lines
+use Rattle.pysource.specs.declared.line_reader.Line.{Line}
+use Rattle.pysource.specs.declared.line_reader.Line.TheVariants as lines
 use Rattle.pysource.specs.declared.faults.LineError.{LineError}
 use Rattle.pysource.specs.declared.faults.LineFault.{LineFault}
 use Rattle.pysource.proofs.CutLemmas.{first_of_alone}
@@ -75,7 +75,7 @@ past_found end old mid (x ∷ taken) e (inl there) =
 -- no line was given
 pub moves_nothing : {x y : Option (List ℕ)} {a b : ℕ} (e : Named) (row : ℕ) (old mid : Intake) (chunk chunk' : List ℕ) (result : Result Line AllocError) → Grows x y a b old mid → chunk' ≡ chunk → Tells result [] (held e row None mid) → (IsText result → ⊥)
     → (mid.buffer ≡ old.buffer) ⊎ (past_first mid.buffer ≤ 8_192)
-    → Moves x y a b (held e row None old) (held e row None mid) chunk chunk' result
+    → NextLine x y a b (held e row None old) (held e row None mid) chunk chunk' result
 moves_nothing e row old mid chunk chunk' result p same tells not kept = record {
   taken = p.taken;
   line = [];
@@ -92,7 +92,7 @@ moves_nothing e row old mid chunk chunk' result p same tells not kept = record {
 
 -- a fault is told again
 pub moves_told : (x : Option (List ℕ)) (a : ℕ) (e : Named) (row : ℕ) (fault : LineFault) (i : Intake) (chunk : List ℕ)
-    → Moves x x a a (held e row (Some fault) i) (held e row (Some fault) i) chunk chunk (Ok (lines.Fault fault))
+    → NextLine x x a a (held e row (Some fault) i) (held e row (Some fault) i) chunk chunk (Ok (lines.Fault fault))
 moves_told x a e row fault i chunk = record {
   taken = [];
   line = [];
@@ -110,7 +110,7 @@ moves_told x a e row fault i chunk = record {
 -- a line was given
 pub moves_text : {x y : Option (List ℕ)} {a b : ℕ} (e : Named) (row end : ℕ) (old mid : Intake) (chunk chunk' : List ℕ) → Grows x y a b old mid → LineThere 0 end old mid ⊎ LineLeft 0 end mid → end ≢ 0
     → first_bad e.charset (take end mid.buffer) ≡ None → IsUtf8 (take end mid.buffer) → chunk' ≡ chunk ++ take end mid.buffer
-    → Moves x y a b (held e row None old) (held e (row + 1) None (skipped end mid)) chunk chunk' (Ok lines.Text)
+    → NextLine x y a b (held e row None old) (held e (row + 1) None (skipped end mid)) chunk chunk' (Ok lines.Text)
 moves_text e row end old mid chunk chunk' p (inl there) some good utf8 is =
     let size = length-take-le end mid.buffer there.line.within in
     let left = length-drop end mid.buffer in
@@ -151,7 +151,7 @@ moves_text e row end old mid chunk chunk' p (inr last) some good utf8 is =
 -- a faulty line
 pub moves_bad : {x y : Option (List ℕ)} {a b : ℕ} (e : Named) (row end : ℕ) (old mid : Intake) (chunk chunk' : List ℕ) (bad : ℕ × LineError) → Grows x y a b old mid → LineThere 0 end old mid ⊎ LineLeft 0 end mid → end ≢ 0
     → first_bad e.charset (take end mid.buffer) ≡ Some bad → chunk' ≡ chunk
-    → Moves x y a b (held e row None old) (held e row (Some (fault_at row (take end mid.buffer) bad)) mid) chunk chunk' (Ok (lines.Fault (fault_at row (take end mid.buffer) bad)))
+    → NextLine x y a b (held e row None old) (held e row (Some (fault_at row (take end mid.buffer) bad)) mid) chunk chunk' (Ok (lines.Fault (fault_at row (take end mid.buffer) bad)))
 moves_bad e row end old mid chunk chunk' bad p found some is same = record {
   taken = p.taken;
   line = [];

@@ -5,12 +5,12 @@ use Rattle.pysource.specs.Taking.{FoundHead, LineThere, LineLeft}
 use Rattle.pysource.specs.Streams.{searches_second}
 use Rattle.pysource.specs.Heads.{Head, FoundHeads}
 use Rattle.pysource.specs.declared.buffers.Intake.{Intake}
-use Rattle.pysource.specs.declared.streams.Reach.TheVariants.{Reading}
-use Rattle.pysource.specs.declared.streams.StreamFault.{StreamFault}
-use Rattle.pysource.specs.declared.streams.StreamFault.TheVariants.{UnsupportedEncoding, BomConflict, Read, Memory}
+use Rattle.pysource.specs.declared.line_reader.Reach.TheVariants.{Reading}
+use Rattle.pysource.specs.declared.line_reader.StreamFault.{StreamFault}
+use Rattle.pysource.specs.declared.line_reader.StreamFault.TheVariants.{UnsupportedEncoding, BomConflict, Read, Memory}
 use Rattle.pysource.proofs.TakingLemmas.{Grows-append, Takes-whole}
 use Rattle.pysource.proofs.HeadLemmas.{head_left, head_one, head_two, unread_one, unread_two}
-use Rattle.pysource.proofs.streams.read_head.Goals as goal
+use Rattle.pysource.proofs.line_reader.read_head.Goals as goal
 
 -- a fault at the first line
 refused_one : (old i : Intake) (fault : StreamFault) → FoundHead 0 old i (Err fault) → FoundHeads i (Err fault)
