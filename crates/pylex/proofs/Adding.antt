@@ -10,7 +10,7 @@ use Rattle.pysource.specs.declared.line_reader.Line.{Line}
 use Rattle.pysource.specs.declared.line_reader.Line.TheVariants as met
 use Rattle.pysource.specs.Streams.{Buffered, Follows, Gives, ComesOnly, NextLine, Reads, comes, onto, ends_line}
 use Rattle.pysource.proofs.TakingLemmas.{Takes-none, Takes-on}
-use Rattle.pylex.specs.declared.chunk.Chunk.{Chunk}
+use Rattle.pylex.specs.declared.held_lines.HeldLines.{HeldLines}
 use Rattle.pylex.specs.Chunked.{AddsOn, IsLonger, ReadsOn}
 use Rattle.pylex.proofs.Reading.{ends_behind}
 
@@ -78,7 +78,7 @@ module _ (x y z : Option (List ℕ)) (k m n : ℕ) (a b c : Buffered) (text_a te
       }
 
 -- The lines behind one that was read are part of what was read on.
-pub reads_more : (x y z : Option (List ℕ)) (k m n : ℕ) (old mid new : Chunk) (at : ℕ) → ReadsOn x y k m old mid at (Ok met.Text) → AddsOn y z m n mid.lines new.lines (string_bytes mid.text) (string_bytes new.text)
+pub reads_more : (x y z : Option (List ℕ)) (k m n : ℕ) (old mid new : HeldLines) (at : ℕ) → ReadsOn x y k m old mid at (Ok met.Text) → AddsOn y z m n mid.lines new.lines (string_bytes mid.text) (string_bytes new.text)
     → string_bytes new.spare ≡ string_bytes mid.spare → new.base ≡ mid.base → new.at ≡ mid.at → ReadsOn x z k n old new at (Ok met.Text)
 reads_more x y z k m n old mid new at r p spare base place =
     let longer = length-append (string_bytes mid.text) p.added in

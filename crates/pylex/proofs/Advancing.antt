@@ -3,20 +3,20 @@ use Rattle.std.proofs.Common.{◌≡◌, ℕ, ◌+◌, ◌-◌, ◌*◌, ◌<◌
 use Rattle.pylexeme.specs.declared.lexeme.Class.{Class}
 use Rattle.pylexeme.specs.declared.lexeme.Class.TheVariants.{Name, Number, String, Operator, Comment, Blanks, LineEnd, Join}
 use Rattle.pysource.specs.declared.places.Place.{Place}
-use Rattle.pylex.specs.declared.state.Point.{Point}
-use Rattle.pylex.specs.declared.state.Progress.{Progress}
+use Rattle.pylex.specs.declared.line_state.Point.{Point}
+use Rattle.pylex.specs.declared.line_state.LineState.{LineState}
 use Rattle.pylexeme.specs.Lexemes.{Lexeme}
 use Rattle.pylex.specs.Lines.{opens, closes, is_significant, is_of_blanks, is_of_line_end, width_from}
 use Rattle.pylexeme.specs.Chars.{bytes_in}
-use Rattle.pylex.specs.Machine.{advance, front_after, after, past, count_if, still, is_of_join}
+use Rattle.pylex.specs.Machine.{place_past, front_after, after, past, count_if, still, is_of_join}
 use Rattle.pylexeme.proofs.Cases.{bool_cases}
-use Rattle.pylex.specs.Progress.{with_levels, HasRoom}
+use Rattle.pylex.specs.LineState.{with_levels, HasRoom}
 
-abbrev pub ends : Progress → Lexeme → Bool
+abbrev pub ends : LineState → Lexeme → Bool
 ends p x = is_of_line_end x && (p.depth == 0)
 
 -- the parts of q are those of p after a lexeme
-pub record IsAfter (p : Progress) (x : Lexeme) (q : Progress) : Type 0 where
+pub record IsAfter (p : LineState) (x : Lexeme) (q : LineState) : Type 0 where
   pub now : q.now ≡ past p.now x.text
   pub line : q.line ≡ cond (ends p x) q.now p.line
   pub depth : q.depth ≡ p.depth + count_if (opens x) - count_if (closes x)
@@ -38,7 +38,7 @@ no_width Comment t d m n = refl
 no_width Blanks t d m n = refl
 no_width Join t d m n = refl
 
-pub is_after : (p : Progress) (x : Lexeme) (q : Progress) → (p.margin && is_significant x) ≡ false → IsAfter p x q → (levels : List ℕ) → with_levels q levels ≡ after (with_levels p levels) x
+pub is_after : (p : LineState) (x : Lexeme) (q : LineState) → (p.margin && is_significant x) ≡ false → IsAfter p x q → (levels : List ℕ) → with_levels q levels ≡ after (with_levels p levels) x
 unfolding after
 is_after p x q s h levels =
     let now = h.now in
@@ -51,34 +51,34 @@ is_after p x q s h levels =
     let front = h.front in
     rw (line, now, depths, margin, width, logical, joined, front, s) refl
 
-advance_row : (r : Place) (cs : List ℕ) → (advance r cs).row ≤ r.row + length cs
+advance_row : (r : Place) (cs : List ℕ) → (place_past r cs).row ≤ r.row + length cs
 advance_row r [] = omega arith
 advance_row r (c ∷ cs) =
     ⊎_elim
-    (λ (e : (c == 10) ≡ true). let h = advance_row (record { row = r.row + 1; column = 0 }) cs in rw (e, advance) (omega arith))
-    (λ (e : (c == 10) ≡ false). let h = advance_row (record { row = r.row; column = r.column + 1 }) cs in rw (e, advance) (omega arith))
+    (λ (e : (c == 10) ≡ true). let h = advance_row (record { row = r.row + 1; column = 0 }) cs in rw (e, place_past) (omega arith))
+    (λ (e : (c == 10) ≡ false). let h = advance_row (record { row = r.row; column = r.column + 1 }) cs in rw (e, place_past) (omega arith))
     (bool_cases (c == 10))
 
-advance_column : (r : Place) (cs : List ℕ) → (advance r cs).column ≤ r.column + length cs
+advance_column : (r : Place) (cs : List ℕ) → (place_past r cs).column ≤ r.column + length cs
 advance_column r [] = omega arith
 advance_column r (c ∷ cs) =
     ⊎_elim
-    (λ (e : (c == 10) ≡ true). let h = advance_column (record { row = r.row + 1; column = 0 }) cs in rw (e, advance) (omega arith))
-    (λ (e : (c == 10) ≡ false). let h = advance_column (record { row = r.row; column = r.column + 1 }) cs in rw (e, advance) (omega arith))
+    (λ (e : (c == 10) ≡ true). let h = advance_column (record { row = r.row + 1; column = 0 }) cs in rw (e, place_past) (omega arith))
+    (λ (e : (c == 10) ≡ false). let h = advance_column (record { row = r.row; column = r.column + 1 }) cs in rw (e, place_past) (omega arith))
     (bool_cases (c == 10))
 
 -- a point by its place and its offset
-pub place_offset : (p : Point) (t : List ℕ) (q : Place) (m : ℕ) → q ≡ advance p.place t → bytes_in t ≡ m → (let r : Point = record { place = q; offset = p.offset + m } in r) ≡ past p t
+pub place_offset : (p : Point) (t : List ℕ) (q : Place) (m : ℕ) → q ≡ place_past p.place t → bytes_in t ≡ m → (let r : Point = record { place = q; offset = p.offset + m } in r) ≡ past p t
 place_offset p t q m e f = rw (e, ← f) refl
 
 -- one character at most for each byte
-pub room_on : (p : Progress) (x : Lexeme) (q : Progress) (m n : ℕ) → q.now ≡ past p.now x.text → q.depth ≡ p.depth + count_if (opens x) - count_if (closes x) → q.now.offset ≡ p.now.offset + m → length x.text ≤ m → q.width ≤ p.width + 8 * m → 0 < m → HasRoom p (m + n) → HasRoom q n
+pub room_on : (p : LineState) (x : Lexeme) (q : LineState) (m n : ℕ) → q.now ≡ past p.now x.text → q.depth ≡ p.depth + count_if (opens x) - count_if (closes x) → q.now.offset ≡ p.now.offset + m → length x.text ≤ m → q.width ≤ p.width + 8 * m → 0 < m → HasRoom p (m + n) → HasRoom q n
 room_on p x q m n now depth offset chars width some room =
     let row = advance_row p.now.place x.text in
     let column = advance_column p.now.place x.text in
-    let at : q.now.place ≡ advance p.now.place x.text = ap (λ (r : Point). r.place) now in
-    let row_is : q.now.place.row ≡ (advance p.now.place x.text).row = ap (λ (r : Place). r.row) at in
-    let column_is : q.now.place.column ≡ (advance p.now.place x.text).column = ap (λ (r : Place). r.column) at in
+    let at : q.now.place ≡ place_past p.now.place x.text = ap (λ (r : Point). r.place) now in
+    let row_is : q.now.place.row ≡ (place_past p.now.place x.text).row = ap (λ (r : Place). r.row) at in
+    let column_is : q.now.place.column ≡ (place_past p.now.place x.text).column = ap (λ (r : Place). r.column) at in
     let one = count_one (opens x) in
     record {
       row = omega (arith, row, row_is, chars, room.row);
@@ -92,5 +92,5 @@ room_on p x q m n now depth offset chars width some room =
     count_one true = omega arith
     count_one false = omega arith
 
-pub more_room : (p : Progress) (x : Lexeme) (q : Progress) (m n : ℕ) → IsAfter p x q → q.now.offset ≡ p.now.offset + m → length x.text ≤ m → q.width ≤ p.width + 8 * m → 0 < m → HasRoom p (m + n) → HasRoom q n
+pub more_room : (p : LineState) (x : Lexeme) (q : LineState) (m n : ℕ) → IsAfter p x q → q.now.offset ≡ p.now.offset + m → length x.text ≤ m → q.width ≤ p.width + 8 * m → 0 < m → HasRoom p (m + n) → HasRoom q n
 more_room p x q m n h = room_on p x q m n h.now h.depth

@@ -9,11 +9,11 @@ use Rattle.pysource.specs.Parts.{Parts}
 use Rattle.pysource.specs.Limits.{source_limit}
 use Rattle.pysource.specs.Streams.{comes, ends_line}
 use Rattle.pysource.proofs.GoodLemmas.{comes_utf8, comes_len}
-use Rattle.pylex.specs.declared.chunk.Chunk.{Chunk}
+use Rattle.pylex.specs.declared.held_lines.HeldLines.{HeldLines}
 use Rattle.pylex.specs.declared.entries.Entry.{Entry}
 use Rattle.pylex.specs.declared.kinds.Kind.{Kind}
 use Rattle.pylex.specs.declared.kinds.Kind.TheVariants as kinds
-use Rattle.pylex.specs.declared.position.Position.{Position}
+use Rattle.pylex.specs.declared.machine.Machine.{Machine}
 use Rattle.pylex.specs.Laws.{LiesIn}
 use Rattle.pylex.specs.Held.{IsJoined, at_left}
 use Rattle.pylexeme.specs.Lexemes.{left_by_cut}
@@ -22,7 +22,7 @@ use Rattle.pylex.specs.ListingLines.{text_of}
 use Rattle.pylex.proofs.Searching.{witness}
 use Rattle.pylex.specs.Listers.{shown_by, shown_at}
 use Rattle.pylex.specs.Machine.{first_state}
-use Rattle.pylex.specs.Progress.{with_levels}
+use Rattle.pylex.specs.LineState.{with_levels}
 use Rattle.pylex.specs.Streamed.{Continues, StreamsIn, IsStreaming, IsHeld, HoldsLast, streamed}
 use Rattle.pylex.proofs.Moving.{keeps_first, shown_first}
 use Rattle.pylex.proofs.Ranges.{measuring_start}
@@ -35,7 +35,7 @@ joined_none text before none front back e feed some = absurd (no_front front bac
     no_front [] back e feed = let f : false ≡ true = feed in cc
     no_front (c ∷ front) back e feed = cc
 
-module _ (p : Position) (c : Chunk) (given : p.given ≡ 0) (point : (k : ℕ) (ls : List ℕ) → shown_by k p.point ls 0 ≡ shown_at k (with_levels p.now (0 ∷ ls))) (levels : p.levels.items ≡ []) (now : with_levels p.now (0 ∷ []) ≡ first_state) (nested : p.nested ≡ 0) (tail : p.tail ≡ 0) (text : string_bytes c.text ≡ []) (base : c.base ≡ 0) (at : c.at ≡ 0) (within : c.lines.count ≤ source_limit) (pending : length c.lines.pending ≤ c.lines.count) where
+module _ (p : Machine) (c : HeldLines) (given : p.given ≡ 0) (point : (k : ℕ) (ls : List ℕ) → shown_by k p.point ls 0 ≡ shown_at k (with_levels p.now (0 ∷ ls))) (levels : p.levels.items ≡ []) (now : with_levels p.now (0 ∷ []) ≡ first_state) (nested : p.nested ≡ 0) (tail : p.tail ≡ 0) (text : string_bytes c.text ≡ []) (base : c.base ≡ 0) (at : c.at ≡ 0) (within : c.lines.count ≤ source_limit) (pending : length c.lines.pending ≤ c.lines.count) where
   -- the source that comes
   abbrev pub source_by : List ℕ → Bool → Parts
   source_by more broken = record { encoding = c.lines.encoding; text = (comes c.lines more broken).text; fault = (comes c.lines more broken).fault }
@@ -103,7 +103,7 @@ slice_in before held coming i j low order high =
     )
 
 -- The text of the entry that was given last is held.
-pub record HeldHere (c : Chunk) (e : Entry) : Type 0 where
+pub record HeldHere (c : HeldLines) (e : Entry) : Type 0 where
   pub low : c.base ≤ e.«from»
   pub order : e.«from» ≤ e.to
   pub high : e.to ≤ c.base + length (string_bytes c.text)
@@ -126,7 +126,7 @@ plain_text p e h = by e.kind refl
     by kinds.Dedent is = rw is refl
     by kinds.EndMarker is = rw is refl
 
-module _ (p : Position) (c : Chunk) (last : Option Entry) (e : Entry) (is : last ≡ Some e) (kind : e.kind ≢ kinds.Encoding) where
+module _ (p : Machine) (c : HeldLines) (last : Option Entry) (e : Entry) (is : last ≡ Some e) (kind : e.kind ≢ kinds.Encoding) where
   here_in : (s : Parts) (k : ℕ) (more : List ℕ) (broken : Bool) → StreamsIn (streamed p c last) s k more broken → IsHeld c.base (string_bytes c.text) e × LiesIn s.text e
   here_in s k more broken x = ⊎_elim (λ h. absurd (kind h.0)) (λ h. (h.1, h.2)) (subst (HoldsLast c.base (string_bytes c.text) s.text) is x.last)
 

@@ -18,14 +18,14 @@ use Rattle.pylex.specs.Cursors.{CursorParts, cursor as cursor_of}
 use Rattle.pylex.specs.Listing.{in_characters, listing}
 use Rattle.pylex.specs.Standing.{IsCursorOf}
 use Rattle.pylex.specs.Steps.{entries_of, entries_in, fault_of}
-use Rattle.pylex.specs.Streamed.{Continues, IsAhead, Streamed, StreamsIn, Begins, Steps, Misses, EndsUnread, Took, is_unread, is_unread_code}
+use Rattle.pylex.specs.Streamed.{Continues, IsAhead, Streamed, StreamsIn, Begins, Next, Misses, EndsUnread, Took, is_unread, is_unread_code}
 use Rattle.pylex.specs.Held.{Ahead}
 use Rattle.pylex.proofs.Ends.{is_whole}
 use Rattle.pylex.proofs.Moving.{entry_due}
 use Rattle.pylex.proofs.Callers.{is_behind}
 
 module _ (come_0 come_1 come_2 : Option (List ℕ)) (told_0 told_1 told_2 : ℕ) (v w : Streamed) (k : ℕ) (b : Begins come_0 come_1 told_0 told_1 v k) where
-  module _ (step : Step) (t : Steps come_1 come_2 told_1 told_2 v w (Ok step)) where
+  module _ (step : Step) (t : Next come_1 come_2 told_1 told_2 v w (Ok step)) where
     all : List ℕ
     all = b.taken ++ t.taken
 
@@ -128,7 +128,7 @@ module _ (come_0 come_1 come_2 : Option (List ℕ)) (told_0 told_1 told_2 : ℕ)
       }
 
   -- Memory was refused.
-  pub took_on : (e : AllocError) → Steps come_1 come_2 told_1 told_2 v w (Err e) → Took come_0 come_2 told_0 told_2
+  pub took_on : (e : AllocError) → Next come_1 come_2 told_1 told_2 v w (Err e) → Took come_0 come_2 told_0 told_2
   took_on e t = record {
     taken = b.taken ++ t.taken;
     at = w.lines.reach;

@@ -7,15 +7,15 @@ use Rattle.std.proofs.lemmas.Str.{chars-append, IsUtf8-take, IsCharBoundary-at_s
 use Rattle.pysource.specs.declared.places.Place.{Place}
 use Rattle.pylex.specs.declared.entries.Entry.{Entry}
 use Rattle.pylex.specs.declared.entries.ListingFault.{ListingFault}
-use Rattle.pylex.specs.declared.state.Progress.{Progress}
-use Rattle.pylex.specs.declared.position.Meets.{Meets}
-use Rattle.pylex.specs.declared.position.Meets.TheVariants as meets
+use Rattle.pylex.specs.declared.line_state.LineState.{LineState}
+use Rattle.pylex.specs.declared.machine.Peeked.{Peeked}
+use Rattle.pylex.specs.declared.machine.Peeked.TheVariants as peeked
 use Rattle.pylexeme.specs.Chunks.{EndsLine}
 use Rattle.pylexeme.specs.Cuts.{begins_significant}
 use Rattle.pylexeme.specs.Lexemes.{Lexeme, lexeme_at, lexeme_len, is_open_string}
 use Rattle.pylex.specs.Listing.{stop_fault, up_to_end}
 use Rattle.pylex.specs.Machine.{State, after, layout_of, stop_of, remaining}
-use Rattle.pylex.specs.Progress.{measured, Walks, stays, silent, level, dedent, Comes, EntryAhead, GivesFault, mismatch, faulty, FaultAhead, IndentAhead, DedentAhead, Finds}
+use Rattle.pylex.specs.LineState.{measured, Walks, stays, silent, level, dedent, Comes, EntryAhead, GivesFault, mismatch, faulty, FaultAhead, IndentAhead, DedentAhead, Peek}
 use Rattle.pylex.proofs.Steps.{remaining_stop}
 use Rattle.pylex.proofs.Measured.{stop_within}
 use Rattle.pylex.proofs.Significant.{none_at_all, len_within}
@@ -84,18 +84,18 @@ walks_back t ds n s cs l (level m r bs a b i c w) = walks_back t ds n (measured 
 walks_back t ds n s cs l (dedent m r bs ls v a b e i k w) = walks_back t ds m (record s { levels = ls }) cs l w
 
 -- A lister comes as far.
-pub comes_carried : (levels : List ℕ) (p : Progress) (cs : List ℕ) (q : Progress) (ds es : List ℕ) → EndsLine cs ⊎ (cs ≡ []) → Comes levels p cs q ds → Comes levels p (cs ++ es) q (ds ++ es)
+pub comes_carried : (levels : List ℕ) (p : LineState) (cs : List ℕ) (q : LineState) (ds es : List ℕ) → EndsLine cs ⊎ (cs ≡ []) → Comes levels p cs q ds → Comes levels p (cs ++ es) q (ds ++ es)
 comes_carried levels p cs q ds es h c = record { walks = walks_carried _ ds es 0 _ cs h c.walks }
 
-pub comes_lines : (levels : List ℕ) (p : Progress) (cs : List ℕ) (q : Progress) (ds : List ℕ) → EndsLine cs ⊎ (cs ≡ []) → Comes levels p cs q ds → EndsLine ds ⊎ (ds ≡ [])
+pub comes_lines : (levels : List ℕ) (p : LineState) (cs : List ℕ) (q : LineState) (ds : List ℕ) → EndsLine cs ⊎ (cs ≡ []) → Comes levels p cs q ds → EndsLine ds ⊎ (ds ≡ [])
 comes_lines levels p cs q ds h c = walks_lines _ ds 0 _ cs h c.walks
 
 -- where it passes all it goes on with what follows
-pub nothing_held : (levels : List ℕ) (p : Progress) (cs : List ℕ) (q : Progress) (es : List ℕ) → EndsLine cs ⊎ (cs ≡ []) → Comes levels p cs q [] → Comes levels p (cs ++ es) q es
+pub nothing_held : (levels : List ℕ) (p : LineState) (cs : List ℕ) (q : LineState) (es : List ℕ) → EndsLine cs ⊎ (cs ≡ []) → Comes levels p cs q [] → Comes levels p (cs ++ es) q es
 nothing_held levels p cs q es h c = comes_carried levels p cs q [] es h c
 
 -- It meets the same.
-pub entry_carried : (levels : List ℕ) (p : Progress) (cs : List ℕ) (e : Entry) (q : Progress) (ds es : List ℕ) → EndsLine cs ⊎ (cs ≡ []) → EntryAhead levels p cs e q ds → EntryAhead levels p (cs ++ es) e q (ds ++ es)
+pub entry_carried : (levels : List ℕ) (p : LineState) (cs : List ℕ) (e : Entry) (q : LineState) (ds es : List ℕ) → EndsLine cs ⊎ (cs ≡ []) → EntryAhead levels p cs e q ds → EntryAhead levels p (cs ++ es) e q (ds ++ es)
 entry_carried levels p cs e q ds es h f =
     let l = lexeme_lines f.before f.lexeme f.stands (comes_lines levels p cs f.there f.before h f.comes) in
     record {
@@ -110,11 +110,11 @@ entry_carried levels p cs e q ds es h f =
       goes = f.goes;
     }
 
-cause_carried : (levels : List ℕ) (q : Progress) (ds es : List ℕ) (f : ListingFault) → EndsLine ds ⊎ (ds ≡ []) → GivesFault levels q ds f → GivesFault levels q (ds ++ es) f
+cause_carried : (levels : List ℕ) (q : LineState) (ds es : List ℕ) (f : ListingFault) → EndsLine ds ⊎ (ds ≡ []) → GivesFault levels q ds f → GivesFault levels q (ds ++ es) f
 cause_carried levels q ds es f h (mismatch m t a i e) = mismatch m (significant_kept ds es (significant_lines ds t h) ∙ t) a i e
 cause_carried levels q ds es f h (faulty x d e g) = let l = lexeme_lines ds x e h in faulty x (settled_kept q.margin ds es l d) (lexeme_kept ds es x l e) g
 
-pub fault_carried : (levels : List ℕ) (p : Progress) (cs es : List ℕ) (f : ListingFault) → EndsLine cs ⊎ (cs ≡ []) → FaultAhead levels p cs f → FaultAhead levels p (cs ++ es) f
+pub fault_carried : (levels : List ℕ) (p : LineState) (cs es : List ℕ) (f : ListingFault) → EndsLine cs ⊎ (cs ≡ []) → FaultAhead levels p cs f → FaultAhead levels p (cs ++ es) f
 fault_carried levels p cs es f h g = record {
   there = g.there;
   before = g.before ++ es;
@@ -122,22 +122,22 @@ fault_carried levels p cs es f h g = record {
   cause = cause_carried levels g.there g.before es f (comes_lines levels p cs g.there g.before h g.comes) g.cause;
 }
 
-pub indent_carried : (levels : List ℕ) (q : Progress) (ds es : List ℕ) → EndsLine ds ⊎ (ds ≡ []) → IndentAhead levels q ds → IndentAhead levels q (ds ++ es)
+pub indent_carried : (levels : List ℕ) (q : LineState) (ds es : List ℕ) → EndsLine ds ⊎ (ds ≡ []) → IndentAhead levels q ds → IndentAhead levels q (ds ++ es)
 indent_carried levels q ds es h i = record { margin = i.margin; significant = significant_kept ds es (significant_lines ds i.significant h) ∙ i.significant; above = i.above }
 
-pub dedent_carried : (levels : List ℕ) (q : Progress) (ds es : List ℕ) → EndsLine ds ⊎ (ds ≡ []) → DedentAhead levels q ds → DedentAhead levels q (ds ++ es)
+pub dedent_carried : (levels : List ℕ) (q : LineState) (ds es : List ℕ) → EndsLine ds ⊎ (ds ≡ []) → DedentAhead levels q ds → DedentAhead levels q (ds ++ es)
 dedent_carried levels q ds es h d = record { margin = d.margin; significant = significant_kept ds es (significant_lines ds d.significant h) ∙ d.significant; level = d.level; some = d.some; last = d.last }
 
 -- the end of what it holds aside
-pub finds_carried : (levels : List ℕ) (p : Progress) (cs : List ℕ) (m : Meets) (q : Progress) (ds es : List ℕ) → EndsLine cs ⊎ (cs ≡ []) → m ≢ meets.Stop → Finds levels p cs m q ds → Finds levels p (cs ++ es) m q (ds ++ es)
-finds_carried levels p cs (meets.Entry e) q ds es h n f = entry_carried levels p cs e q ds es h f
-finds_carried levels p cs (meets.Fault f) q ds es h n g = fault_carried levels p cs es f h g
-finds_carried levels p cs meets.Indent q ds es h n f = (comes_carried levels p cs q ds es h f.0, indent_carried levels q ds es (comes_lines levels p cs q ds h f.0) f.1)
-finds_carried levels p cs meets.Dedent q ds es h n f = (comes_carried levels p cs q ds es h f.0, dedent_carried levels q ds es (comes_lines levels p cs q ds h f.0) f.1)
-finds_carried levels p cs meets.Stop q ds es h n f = absurd (n refl)
+pub finds_carried : (levels : List ℕ) (p : LineState) (cs : List ℕ) (m : Peeked) (q : LineState) (ds es : List ℕ) → EndsLine cs ⊎ (cs ≡ []) → m ≢ peeked.Stop → Peek levels p cs m q ds → Peek levels p (cs ++ es) m q (ds ++ es)
+finds_carried levels p cs (peeked.Entry e) q ds es h n f = entry_carried levels p cs e q ds es h f
+finds_carried levels p cs (peeked.Fault f) q ds es h n g = fault_carried levels p cs es f h g
+finds_carried levels p cs peeked.Indent q ds es h n f = (comes_carried levels p cs q ds es h f.0, indent_carried levels q ds es (comes_lines levels p cs q ds h f.0) f.1)
+finds_carried levels p cs peeked.Dedent q ds es h n f = (comes_carried levels p cs q ds es h f.0, dedent_carried levels q ds es (comes_lines levels p cs q ds h f.0) f.1)
+finds_carried levels p cs peeked.Stop q ds es h n f = absurd (n refl)
 
 -- A stop within the lines, unless a string is open there.
-pub stop_carried : (levels : List ℕ) (p : Progress) (cs : List ℕ) (q : Progress) (ds es : List ℕ) → Finds levels p cs meets.Stop q ds → EndsLine ds → is_open_string ds ≡ false → Finds levels p (cs ++ es) meets.Stop q (ds ++ es)
+pub stop_carried : (levels : List ℕ) (p : LineState) (cs : List ℕ) (q : LineState) (ds es : List ℕ) → Peek levels p cs peeked.Stop q ds → EndsLine ds → is_open_string ds ≡ false → Peek levels p (cs ++ es) peeked.Stop q (ds ++ es)
 stop_carried levels p cs q ds es f l o = (
   comes_carried levels p cs q ds es (inl (walks_back _ ds 0 _ cs l f.0.walks)) f.0,
   record { none = none_kept ds es l f.1.none o; settled = settled_kept q.margin ds es l f.1.settled },

@@ -8,8 +8,8 @@ use Rattle.pysource.specs.Streams.{Buffered, Tells, NextLine}
 use Rattle.pysource.specs.Limits.{source_limit}
 use Rattle.pysource.specs.declared.line_reader.Line.{Line}
 use Rattle.pysource.specs.declared.line_reader.Line.TheVariants as met
-use Rattle.pylex.specs.declared.chunk.Chunk.{Chunk}
-use Rattle.pylex.specs.Chunked.{Adds, Holding, Stays, IsChunk, ReadsOn}
+use Rattle.pylex.specs.declared.held_lines.HeldLines.{HeldLines}
+use Rattle.pylex.specs.Chunked.{Adds, Holding, Stays, IsHeldLines, ReadsOn}
 
 no_lines : lines_of [] ≡ []
 unfolding lines_of
@@ -33,7 +33,7 @@ no_line met.End line new h t = t.0
 no_line (met.Fault f) line new h t = t.0
 no_line met.Read line new h t = t.0
 
-pub holding_other : (old new : Chunk) (from : ℕ) (line : List ℕ) (r : Line) → (r ≡ met.Text → ⊥) → Stays old new → Holding old new from line (Ok r)
+pub holding_other : (old new : HeldLines) (from : ℕ) (line : List ℕ) (r : Line) → (r ≡ met.Text → ⊥) → Stays old new → Holding old new from line (Ok r)
 holding_other old new from line met.Text h s = absurd (h refl)
 holding_other old new from line met.End h s = s
 holding_other old new from line (met.Fault f) h s = s
@@ -48,7 +48,7 @@ pub left_longer : (at : ℕ) (old new line : List ℕ) → at ≤ length old →
 left_longer at old new line h e = ap (drop at) e ∙ drop-append-le at old line h
 
 -- a call for a line, with what it did to the lines held
-pub reads_on : (come_old come_new : Option (List ℕ)) (told_old told_new : ℕ) (old new : Chunk) (chunk_old chunk_new : List ℕ) (from : ℕ) (r : Result Line AllocError) → (m : NextLine come_old come_new told_old told_new old.lines new.lines chunk_old chunk_new r) → new.lines.count ≤ source_limit → IsChunk new → Holding old new from m.line r → ReadsOn come_old come_new told_old told_new old new from r
+pub reads_on : (come_old come_new : Option (List ℕ)) (told_old told_new : ℕ) (old new : HeldLines) (chunk_old chunk_new : List ℕ) (from : ℕ) (r : Result Line AllocError) → (m : NextLine come_old come_new told_old told_new old.lines new.lines chunk_old chunk_new r) → new.lines.count ≤ source_limit → IsHeldLines new → Holding old new from m.line r → ReadsOn come_old come_new told_old told_new old new from r
 reads_on come_old come_new told_old told_new old new chunk_old chunk_new from r m within chunk holding = record {
   taken = m.taken;
   line = m.line;
@@ -67,7 +67,7 @@ pub drop_all : (xs : List ℕ) → drop (length xs) xs ≡ []
 drop_all [] = refl
 drop_all (x ∷ xs) = drop_all xs
 
-pub stays_other : (old new : Chunk) (from : ℕ) (line : List ℕ) (r : Line) → (r ≡ met.Text → ⊥) → Holding old new from line (Ok r) → Stays old new
+pub stays_other : (old new : HeldLines) (from : ℕ) (line : List ℕ) (r : Line) → (r ≡ met.Text → ⊥) → Holding old new from line (Ok r) → Stays old new
 stays_other old new from line met.Text h s = absurd (h refl)
 stays_other old new from line met.End h s = s
 stays_other old new from line (met.Fault f) h s = s

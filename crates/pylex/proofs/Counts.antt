@@ -19,7 +19,7 @@ use Rattle.pylex.specs.Steps.{entries_of}
 use Rattle.pylex.specs.Machine.{State, pushed, after, dedents_at, mark_at, last_place, layout_of, entry_by, gives, is_hash, last_line_end, tail_of, stop_of, run, remaining, first_state}
 use Rattle.pylex.specs.Laws.{AreLexemes}
 use Rattle.pylex.specs.Listers.{Listed, StandsIn}
-use Rattle.pylex.specs.Progress.{is_above, is_level}
+use Rattle.pylex.specs.LineState.{is_above, is_level}
 use Rattle.pylexeme.proofs.Cases.{bool_cases}
 use Rattle.std.proofs.Math.Bool.{and-true, and-false}
 use Rattle.pylex.proofs.Layouts.{layout_indent, layout_dedents, layout_mismatch}

@@ -23,7 +23,7 @@ use Rattle.pylex.specs.Listing.{Source, in_characters, listing, rest, mark, orig
 use Rattle.pylex.specs.Steps.{entries_of, first_step}
 use Rattle.pylex.specs.Cursors.{CursorParts, given_last_first, has_no_text, is_encoding, is_indent, with_text, point, ends_in_indent, lexemes_to, cursor_at, cursor}
 use Rattle.pylex.specs.Machine.{State, after, dedents_at, mark_at, stop_of, layout_of, step_of, entry_by, remaining, first_state, behind_steps}
-use Rattle.pylex.specs.Progress.{measured, is_above, is_level}
+use Rattle.pylex.specs.LineState.{measured, is_above, is_level}
 use Rattle.pylex.specs.Standing.{Standing, front_to, standing_by, standing, resumed, to_give, Agrees}
 use Rattle.pylex.specs.Laws.{IsStop}
 use Rattle.pylex.specs.Listers.{Listed, StandsIn, shown_at, Passes, here, lexeme, layout}
@@ -44,7 +44,7 @@ use Rattle.pylex.proofs.Agreement.{agrees_on}
 use Rattle.pylex.proofs.Points.{GoesAs, StoodAt, PointOf, point_after_given, given_pointed}
 use Rattle.pylex.proofs.Passing.{passes_steps, passes_reach, Reached, plain_stood, stood_depth, next_alike, next_of}
 use Rattle.pylex.proofs.OpenLevels.{grounded, above_ground}
-use Rattle.pylex.specs.declared.state.Point.{Point}
+use Rattle.pylex.specs.declared.line_state.Point.{Point}
 use Rattle.std.proofs.lemmas.Str.{length-le-encodes}
 use Rattle.pylex.proofs.Callers.{is_behind, is_own}
 

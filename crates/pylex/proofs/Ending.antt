@@ -12,15 +12,15 @@ use Rattle.pylex.specs.declared.entries.Step.{Step}
 use Rattle.pylex.specs.declared.entries.Step.TheVariants as steps
 use Rattle.pylex.specs.declared.kinds.Kind.TheVariants as kinds
 use Rattle.pysource.specs.declared.places.Place.{Place}
-use Rattle.pylex.specs.declared.state.Given.{Given}
-use Rattle.pylex.specs.declared.state.Given.TheVariants as gives
-use Rattle.pylex.specs.declared.state.Progress.{Progress}
+use Rattle.pylex.specs.declared.line_state.Emitted.{Emitted}
+use Rattle.pylex.specs.declared.line_state.Emitted.TheVariants as gives
+use Rattle.pylex.specs.declared.line_state.LineState.{LineState}
 use Rattle.pylexeme.specs.Lexemes.{lexeme_at}
 use Rattle.pylexeme.specs.Cuts.{begins_significant}
 use Rattle.pylex.specs.Listing.{fault_at, further, stop_fault, row_after, up_to_end}
 use Rattle.pylex.specs.Steps.{first_step}
 use Rattle.pylex.specs.Machine.{State, is_hash, stop_of, tail_of, last_line_end, last_place, remaining, behind_steps, mark_at, dedents_at}
-use Rattle.pylex.specs.Progress.{with_levels, given, GivesNoText, closing, IsAscending, StopAhead}
+use Rattle.pylex.specs.LineState.{with_levels, given, GivesNoText, closing, IsAscending, StopAhead}
 use Rattle.pylexeme.proofs.Cases.{bool_cases}
 use Rattle.pylex.proofs.Run.{up_to_end-append}
 use Rattle.pylex.proofs.Steps.{remaining_stop}
@@ -43,7 +43,7 @@ and_true : (b : Bool) → (b && true) ≡ b
 and_true true = refl
 and_true false = refl
 
-pub stop_found : (fault : Option ListingFault) (p : Progress) (ls : List ℕ) (c : ℕ) (cs : List ℕ) → StopAhead p (c ∷ cs) → remaining fault (with_levels p ls) (c ∷ cs) ≡ stop_fault fault p.now.place (c ∷ cs) ∷ []
+pub stop_found : (fault : Option ListingFault) (p : LineState) (ls : List ℕ) (c : ℕ) (cs : List ℕ) → StopAhead p (c ∷ cs) → remaining fault (with_levels p ls) (c ∷ cs) ≡ stop_fault fault p.now.place (c ∷ cs) ∷ []
 stop_found fault p ls c cs stop =
     let s : State = with_levels p ls in
     let last = stop_fault fault p.now.place (c ∷ cs) in
@@ -102,7 +102,7 @@ tail_found s e h =
     ∙ ap (behind_steps (last_line_end s)) (entries_behind (count_by (nat_lt 0) s.levels) _ (end_of s))
 
 -- The same over bytes.
-pub stop_in : (fault : Option ListingFault) (p : Progress) (ls bytes : List ℕ) (f : ListingFault) → IsUtf8 bytes → (length bytes == 0) ≡ false → StopAhead p (chars bytes) → stop_fault fault p.now.place (chars bytes) ≡ steps.Fault f → remaining fault (with_levels p ls) (chars bytes) ≡ steps.Fault f ∷ []
+pub stop_in : (fault : Option ListingFault) (p : LineState) (ls bytes : List ℕ) (f : ListingFault) → IsUtf8 bytes → (length bytes == 0) ≡ false → StopAhead p (chars bytes) → stop_fault fault p.now.place (chars bytes) ≡ steps.Fault f → remaining fault (with_levels p ls) (chars bytes) ≡ steps.Fault f ∷ []
 stop_in fault p ls bytes f u some stop is = by_chars (chars bytes) refl stop is
   where
     by_chars : (cs : List ℕ) → chars bytes ≡ cs → StopAhead p cs → stop_fault fault p.now.place cs ≡ steps.Fault f → remaining fault (with_levels p ls) cs ≡ steps.Fault f ∷ []
@@ -132,7 +132,7 @@ above_ground n (m ∷ levels) h =
     grind (arith, common_steps)
 
 -- a DEDENT for each level above 0, ENDMARKER and the end
-closing_steps : (p : Progress) (levels : List ℕ) (n : ℕ) → IsAscending 0 levels → length levels ≡ n → closing (with_levels p (0 ∷ levels)) ≡ replicate n (mark_at kinds.Dedent p.now.offset (last_place (with_levels p [])) (last_place (with_levels p []))) ++ mark_at kinds.EndMarker p.now.offset (last_place (with_levels p [])) (last_place (with_levels p [])) ∷ steps.End ∷ []
+closing_steps : (p : LineState) (levels : List ℕ) (n : ℕ) → IsAscending 0 levels → length levels ≡ n → closing (with_levels p (0 ∷ levels)) ≡ replicate n (mark_at kinds.Dedent p.now.offset (last_place (with_levels p [])) (last_place (with_levels p []))) ++ mark_at kinds.EndMarker p.now.offset (last_place (with_levels p [])) (last_place (with_levels p [])) ∷ steps.End ∷ []
 closing_steps p levels n h e =
     let place = last_place (with_levels p []) in
     let counted : count_by (nat_lt 0) (0 ∷ levels) ≡ n = above_ground 0 levels h ∙ e in
@@ -156,15 +156,15 @@ behind_repeated zero k d ss h = let z : k - 0 ≡ k = omega arith in rw z refl
 behind_repeated (suc n) zero d ss h = absurd (omega arith)
 behind_repeated (suc n) (suc k) d ss h = let z : suc k - suc n ≡ k - n = omega arith in rw z (behind_repeated n k d ss (omega arith))
 
-pub closing_dedent : (p : Progress) (levels : List ℕ) (n k : ℕ) (e : Entry) → IsAscending 0 levels → length levels ≡ n → k < n → mark_at kinds.Dedent p.now.offset (last_place (with_levels p [])) (last_place (with_levels p [])) ≡ steps.Entry e → steps.Entry e ≡ first_step (drop k (closing (with_levels p (0 ∷ levels))))
+pub closing_dedent : (p : LineState) (levels : List ℕ) (n k : ℕ) (e : Entry) → IsAscending 0 levels → length levels ≡ n → k < n → mark_at kinds.Dedent p.now.offset (last_place (with_levels p [])) (last_place (with_levels p [])) ≡ steps.Entry e → steps.Entry e ≡ first_step (drop k (closing (with_levels p (0 ∷ levels))))
 closing_dedent p levels n k e h c less is = sym (ap (λ ss. first_step (drop k ss)) (closing_steps p levels n h c) ∙ first_repeated n k _ _ less ∙ is)
 
-pub closing_marker : (p : Progress) (levels : List ℕ) (n k : ℕ) (e : Entry) → IsAscending 0 levels → length levels ≡ n → k ≡ n → mark_at kinds.EndMarker p.now.offset (last_place (with_levels p [])) (last_place (with_levels p [])) ≡ steps.Entry e → steps.Entry e ≡ first_step (drop k (closing (with_levels p (0 ∷ levels))))
+pub closing_marker : (p : LineState) (levels : List ℕ) (n k : ℕ) (e : Entry) → IsAscending 0 levels → length levels ≡ n → k ≡ n → mark_at kinds.EndMarker p.now.offset (last_place (with_levels p [])) (last_place (with_levels p [])) ≡ steps.Entry e → steps.Entry e ≡ first_step (drop k (closing (with_levels p (0 ∷ levels))))
 closing_marker p levels n k e h c same is =
     let z : k - n ≡ 0 = omega arith in
     sym (ap (λ ss. first_step (drop k ss)) (closing_steps p levels n h c) ∙ ap first_step (behind_repeated n k _ _ (omega arith)) ∙ ap (λ j. first_step (drop j (mark_at kinds.EndMarker p.now.offset (last_place (with_levels p [])) (last_place (with_levels p [])) ∷ steps.End ∷ []))) z ∙ is)
 
-pub closing_end : (p : Progress) (levels : List ℕ) (n k : ℕ) → IsAscending 0 levels → length levels ≡ n → n < k → steps.End ≡ first_step (drop k (closing (with_levels p (0 ∷ levels))))
+pub closing_end : (p : LineState) (levels : List ℕ) (n k : ℕ) → IsAscending 0 levels → length levels ≡ n → n < k → steps.End ≡ first_step (drop k (closing (with_levels p (0 ∷ levels))))
 closing_end p levels n k h c more =
     let z : k - n ≡ suc (k - suc n) = omega arith in
     sym (ap (λ ss. first_step (drop k ss)) (closing_steps p levels n h c) ∙ ap first_step (behind_repeated n k _ _ (omega arith)) ∙ ap (λ j. first_step (drop j (mark_at kinds.EndMarker p.now.offset (last_place (with_levels p [])) (last_place (with_levels p [])) ∷ steps.End ∷ []))) z ∙ behind_end (k - suc n))
@@ -193,7 +193,7 @@ last_line_end_empty s e is = by s.logical (is_hash s.front) s.margin is
     by false h true q = absurd cc
     by false h false q = same_entry _ e refl q
 
-pub given_empty : (s : State) (g : Given) → last_line_end s ≡ given g → GivesNoText g
+pub given_empty : (s : State) (g : Emitted) → last_line_end s ≡ given g → GivesNoText g
 given_empty s gives.Nothing is = tt
 given_empty s (gives.Entry e) is = last_line_end_empty s e is
 given_empty s (gives.Fault f) is = tt

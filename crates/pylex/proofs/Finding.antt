@@ -9,17 +9,17 @@ use Rattle.pylex.specs.declared.entries.ListingError.TheVariants as errors
 use Rattle.pylex.specs.declared.kinds.Kind.TheVariants as kinds
 use Rattle.pylex.specs.declared.entries.Step.{Step}
 use Rattle.pylex.specs.declared.entries.Step.TheVariants as steps
-use Rattle.pylex.specs.declared.state.Given.TheVariants as gives
-use Rattle.pylex.specs.declared.state.Progress.{Progress}
-use Rattle.pylex.specs.declared.position.Layout.TheVariants as layouts
-use Rattle.pylex.specs.declared.position.Meets.{Meets}
-use Rattle.pylex.specs.declared.position.Meets.TheVariants as meets
+use Rattle.pylex.specs.declared.line_state.Emitted.TheVariants as gives
+use Rattle.pylex.specs.declared.line_state.LineState.{LineState}
+use Rattle.pylex.specs.declared.machine.Indentation.TheVariants as indentations
+use Rattle.pylex.specs.declared.machine.Peeked.{Peeked}
+use Rattle.pylex.specs.declared.machine.Peeked.TheVariants as peeked
 use Rattle.pylexeme.specs.Lexemes.{Lexeme, lexeme_at, lexeme_len, is_significant_class, is_line_end_class, is_blanks_class}
 use Rattle.pylexeme.specs.declared.lexeme.Class.TheVariants.{Name, Number, String, Operator, Comment, Blanks, LineEnd, Join}
 use Rattle.pylex.specs.Lines.{is_significant}
 use Rattle.pylexeme.specs.Cuts.{Cuts, begins_significant}
 use Rattle.pylex.specs.Machine.{State, after, gives, entry_by, layout_of, remaining, behind_steps, pushed, dedents_at, mark_at}
-use Rattle.pylex.specs.Progress.{with_levels, measured, given, Stands, HasRoom, Comes, Walks, stays, silent, level, dedent, EntryAhead, GivesFault, mismatch, faulty, FaultAhead, IndentAhead, DedentAhead, Finds, Settles, IsLayout, is_level, Behind}
+use Rattle.pylex.specs.LineState.{with_levels, measured, given, Stands, HasRoom, Comes, Walks, stays, silent, level, dedent, EntryAhead, GivesFault, mismatch, faulty, FaultAhead, IndentAhead, DedentAhead, Peek, Settles, IsIndentation, is_level, Behind}
 use Rattle.std.proofs.lemmas.Bool.Decides.{nat_tests}
 use lib.Utf8.{encodes}
 use Rattle.std.specs.Str.{IsUtf8}
@@ -126,25 +126,25 @@ walks_on t u ds es m n s cs (dedent k r bs ls x a b e l i w) v =
     rw z (dedent (k + n) s cs ls x a b e l i (walks_on t u ds es k n (record s { levels = ls }) cs w v))
 
 -- A lister may look on from another place.
-pub stays_there : (levels : List ℕ) (p : Progress) (cs : List ℕ) → Comes levels p cs p cs
+pub stays_there : (levels : List ℕ) (p : LineState) (cs : List ℕ) → Comes levels p cs p cs
 stays_there levels p cs = record { walks = stays }
 
-pub comes_on : (levels : List ℕ) (p : Progress) (cs : List ℕ) (q : Progress) (ds : List ℕ) (r : Progress) (es : List ℕ) → Comes levels p cs q ds → Comes levels q ds r es → Comes levels p cs r es
+pub comes_on : (levels : List ℕ) (p : LineState) (cs : List ℕ) (q : LineState) (ds : List ℕ) (r : LineState) (es : List ℕ) → Comes levels p cs q ds → Comes levels q ds r es → Comes levels p cs r es
 comes_on levels p cs q ds r es a b = record { walks = walks_on (with_levels q (0 ∷ levels)) (with_levels r (0 ∷ levels)) ds es 0 0 (with_levels p (0 ∷ levels)) cs a.walks b.walks }
 
-pub same_ahead : (levels : List ℕ) (p : Progress) (cs : List ℕ) (q : Progress) (ds : List ℕ) → Comes levels p cs q ds → (f : Option ListingFault) → remaining f (with_levels p (0 ∷ levels)) cs ≡ remaining f (with_levels q (0 ∷ levels)) ds
+pub same_ahead : (levels : List ℕ) (p : LineState) (cs : List ℕ) (q : LineState) (ds : List ℕ) → Comes levels p cs q ds → (f : Option ListingFault) → remaining f (with_levels p (0 ∷ levels)) cs ≡ remaining f (with_levels q (0 ∷ levels)) ds
 same_ahead levels p cs q ds c f = walks_steps f (with_levels q (0 ∷ levels)) ds 0 (with_levels p (0 ∷ levels)) cs c.walks
 
 -- What is met from there is met from here.
-pub finds_on : (levels : List ℕ) (p : Progress) (cs : List ℕ) (q : Progress) (ds : List ℕ) (m : Meets) (r : Progress) (es : List ℕ) → Comes levels p cs q ds → Finds levels q ds m r es → Finds levels p cs m r es
-finds_on levels p cs q ds (meets.Entry e) r es c f = record { there = f.there; before = f.before; lexeme = f.lexeme; comes = comes_on levels p cs q ds f.there f.before c f.comes; settled = f.settled; stands = f.stands; own = f.own; behind = f.behind; goes = f.goes }
-finds_on levels p cs q ds (meets.Fault f) r es c g = record { there = g.there; before = g.before; comes = comes_on levels p cs q ds g.there g.before c g.comes; cause = g.cause }
-finds_on levels p cs q ds meets.Indent r es c f = (comes_on levels p cs q ds r es c f.0, f.1)
-finds_on levels p cs q ds meets.Dedent r es c f = (comes_on levels p cs q ds r es c f.0, f.1)
-finds_on levels p cs q ds meets.Stop r es c f = (comes_on levels p cs q ds r es c f.0, f.1)
+pub finds_on : (levels : List ℕ) (p : LineState) (cs : List ℕ) (q : LineState) (ds : List ℕ) (m : Peeked) (r : LineState) (es : List ℕ) → Comes levels p cs q ds → Peek levels q ds m r es → Peek levels p cs m r es
+finds_on levels p cs q ds (peeked.Entry e) r es c f = record { there = f.there; before = f.before; lexeme = f.lexeme; comes = comes_on levels p cs q ds f.there f.before c f.comes; settled = f.settled; stands = f.stands; own = f.own; behind = f.behind; goes = f.goes }
+finds_on levels p cs q ds (peeked.Fault f) r es c g = record { there = g.there; before = g.before; comes = comes_on levels p cs q ds g.there g.before c g.comes; cause = g.cause }
+finds_on levels p cs q ds peeked.Indent r es c f = (comes_on levels p cs q ds r es c f.0, f.1)
+finds_on levels p cs q ds peeked.Dedent r es c f = (comes_on levels p cs q ds r es c f.0, f.1)
+finds_on levels p cs q ds peeked.Stop r es c f = (comes_on levels p cs q ds r es c f.0, f.1)
 
 -- A line of the last level.
-pub settles_level : (levels : List ℕ) (p q : Progress) (cs : List ℕ) → p.margin ≡ true → begins_significant cs ≡ true → IsLayout p.width levels layouts.Level → ((ls : List ℕ) → with_levels q (pushed p.width ls) ≡ measured (with_levels p ls)) → Settles levels p cs q
+pub settles_level : (levels : List ℕ) (p q : LineState) (cs : List ℕ) → p.margin ≡ true → begins_significant cs ≡ true → IsIndentation p.width levels indentations.Level → ((ls : List ℕ) → with_levels q (pushed p.width ls) ≡ measured (with_levels p ls)) → Settles levels p cs q
 settles_level levels p q cs m t h is =
     let s : State = with_levels p (0 ∷ levels) in
     let state : measured s ≡ with_levels q (0 ∷ levels) = sym (is (0 ∷ levels)) ∙ ap (with_levels q) h.3 in
@@ -155,21 +155,21 @@ settles_level levels p q cs m t h is =
     }
 
 -- No layout is due.
-pub settles_same : (levels : List ℕ) (p : Progress) (cs : List ℕ) → (p.margin && begins_significant cs) ≡ false → Settles levels p cs p
+pub settles_same : (levels : List ℕ) (p : LineState) (cs : List ℕ) → (p.margin && begins_significant cs) ≡ false → Settles levels p cs p
 settles_same levels p cs h = record { comes = stays_there levels p cs; settled = h }
 
 -- A line that closes levels to none that is open.
-pub fault_mismatch : (levels : List ℕ) (p : Progress) (cs : List ℕ) → p.margin ≡ true → begins_significant cs ≡ true → IsLayout p.width levels layouts.Mismatch → FaultAhead levels p cs (record { code = errors.UnindentMismatch; place = p.now.place })
+pub fault_mismatch : (levels : List ℕ) (p : LineState) (cs : List ℕ) → p.margin ≡ true → begins_significant cs ≡ true → IsIndentation p.width levels indentations.Mismatch → FaultAhead levels p cs (record { code = errors.UnindentMismatch; place = p.now.place })
 fault_mismatch levels p cs m t h = record { there = p; before = cs; comes = stays_there levels p cs; cause = mismatch m t h.0 h.1 refl }
 
-pub indent_ahead : (levels : List ℕ) (p : Progress) (cs : List ℕ) → p.margin ≡ true → begins_significant cs ≡ true → IsLayout p.width levels layouts.Indent → Comes levels p cs p cs × IndentAhead levels p cs
+pub indent_ahead : (levels : List ℕ) (p : LineState) (cs : List ℕ) → p.margin ≡ true → begins_significant cs ≡ true → IsIndentation p.width levels indentations.Indent → Comes levels p cs p cs × IndentAhead levels p cs
 indent_ahead levels p cs m t h = (stays_there levels p cs, record { margin = m; significant = t; above = h })
 
-pub dedent_ahead : (levels : List ℕ) (p : Progress) (cs : List ℕ) → p.margin ≡ true → begins_significant cs ≡ true → IsLayout p.width levels layouts.Dedent → Comes levels p cs p cs × DedentAhead levels p cs
+pub dedent_ahead : (levels : List ℕ) (p : LineState) (cs : List ℕ) → p.margin ≡ true → begins_significant cs ≡ true → IsIndentation p.width levels indentations.Dedent → Comes levels p cs p cs × DedentAhead levels p cs
 dedent_ahead levels p cs m t h = (stays_there levels p cs, record { margin = m; significant = t; level = h.0; some = h.1; last = h.2 })
 
 -- what a lexeme gives, where the lister came to here from a place before
-pub fault_found : (levels : List ℕ) (p0 : Progress) (cs : List ℕ) (q p : Progress) (bytes front back : List ℕ) (k : Class) (f : ListingFault) → Comes levels p0 cs q (chars bytes) → Settles levels q (chars bytes) p → Cuts bytes k front back → ((ls : List ℕ) → entry_by (with_levels p ls) (record { «class» = k; text = chars front }) ≡ given (gives.Fault f)) → FaultAhead levels p0 cs f
+pub fault_found : (levels : List ℕ) (p0 : LineState) (cs : List ℕ) (q p : LineState) (bytes front back : List ℕ) (k : Class) (f : ListingFault) → Comes levels p0 cs q (chars bytes) → Settles levels q (chars bytes) p → Cuts bytes k front back → ((ls : List ℕ) → entry_by (with_levels p ls) (record { «class» = k; text = chars front }) ≡ given (gives.Fault f)) → FaultAhead levels p0 cs f
 fault_found levels p0 cs q p bytes front back k f came settles c gave = record {
   there = p;
   before = chars bytes;
@@ -178,7 +178,7 @@ fault_found levels p0 cs q p bytes front back k f came settles c gave = record {
 }
 
 -- Where a fault is met, that is all there is left.
-fault_given : (levels : List ℕ) (q : Progress) (ds : List ℕ) (f : ListingFault) → GivesFault levels q ds f → (fault : Option ListingFault) → remaining fault (with_levels q (0 ∷ levels)) ds ≡ steps.Fault f ∷ []
+fault_given : (levels : List ℕ) (q : LineState) (ds : List ℕ) (f : ListingFault) → GivesFault levels q ds f → (fault : Option ListingFault) → remaining fault (with_levels q (0 ∷ levels)) ds ≡ steps.Fault f ∷ []
 fault_given levels q ds f (mismatch m t a l e) fault =
     let s : State = with_levels q (0 ∷ levels) in
     measured_significant fault s ds m t ∙ ap (λ ss. behind_steps ss (remaining fault (measured s) ds)) (layout_mismatch s m a l) ∙ ap (λ g. steps.Fault g ∷ []) (sym e)
@@ -187,14 +187,14 @@ fault_given levels q ds f (faulty x d e g) fault =
     let significant : (q.margin && is_significant x) ≡ false = ap (λ b. q.margin && b) (significant_is ds x e) ∙ d in
     remaining_lexeme fault s ds x e ∙ ap (λ ss. behind_steps ss (remaining fault (after s x) (drop (lexeme_len ds) ds))) (no_layout s x significant ∙ g)
 
-pub fault_step : (levels : List ℕ) (p : Progress) (cs : List ℕ) (f : ListingFault) → FaultAhead levels p cs f → (fault : Option ListingFault) → remaining fault (with_levels p (0 ∷ levels)) cs ≡ steps.Fault f ∷ []
+pub fault_step : (levels : List ℕ) (p : LineState) (cs : List ℕ) (f : ListingFault) → FaultAhead levels p cs f → (fault : Option ListingFault) → remaining fault (with_levels p (0 ∷ levels)) cs ≡ steps.Fault f ∷ []
 fault_step levels p cs f h fault = same_ahead levels p cs h.there h.before h.comes fault ∙ fault_given levels h.there h.before f h.cause fault
 
 -- the text behind a lexeme
 cut_behind : (bytes front back : List ℕ) (k : Class) → Cuts bytes k front back → chars back ≡ drop (lexeme_len (chars bytes)) (chars bytes)
 cut_behind bytes front back k c = sym (behind_first (chars bytes) (chars back) (record { «class» = k; text = chars front }) c.lexeme c.whole)
 
-pub entry_found : (levels : List ℕ) (p0 : Progress) (cs : List ℕ) (q p r : Progress) (bytes front back : List ℕ) (k : Class) (e : Entry) → Comes levels p0 cs q (chars bytes) → Settles levels q (chars bytes) p → Cuts bytes k front back → ((ls : List ℕ) → entry_by (with_levels p ls) (record { «class» = k; text = chars front }) ≡ given (gives.Entry e)) → ((ls : List ℕ) → with_levels r ls ≡ after (with_levels p ls) (record { «class» = k; text = chars front })) → EntryAhead levels p0 cs e r (chars back)
+pub entry_found : (levels : List ℕ) (p0 : LineState) (cs : List ℕ) (q p r : LineState) (bytes front back : List ℕ) (k : Class) (e : Entry) → Comes levels p0 cs q (chars bytes) → Settles levels q (chars bytes) p → Cuts bytes k front back → ((ls : List ℕ) → entry_by (with_levels p ls) (record { «class» = k; text = chars front }) ≡ given (gives.Entry e)) → ((ls : List ℕ) → with_levels r ls ≡ after (with_levels p ls) (record { «class» = k; text = chars front })) → EntryAhead levels p0 cs e r (chars back)
 entry_found levels p0 cs q p r bytes front back k e came settles c gave is = record {
   there = p;
   before = chars bytes;
@@ -207,7 +207,7 @@ entry_found levels p0 cs q p r bytes front back k e came settles c gave is = rec
   goes = is (0 ∷ levels);
 }
 
-pub nothing_found : (levels : List ℕ) (p0 : Progress) (cs : List ℕ) (q p r : Progress) (bytes front back : List ℕ) (k : Class) → Comes levels p0 cs q (chars bytes) → Settles levels q (chars bytes) p → Cuts bytes k front back → ((ls : List ℕ) → entry_by (with_levels p ls) (record { «class» = k; text = chars front }) ≡ given gives.Nothing) → ((ls : List ℕ) → with_levels r ls ≡ after (with_levels p ls) (record { «class» = k; text = chars front })) → Comes levels p0 cs r (chars back)
+pub nothing_found : (levels : List ℕ) (p0 : LineState) (cs : List ℕ) (q p r : LineState) (bytes front back : List ℕ) (k : Class) → Comes levels p0 cs q (chars bytes) → Settles levels q (chars bytes) p → Cuts bytes k front back → ((ls : List ℕ) → entry_by (with_levels p ls) (record { «class» = k; text = chars front }) ≡ given gives.Nothing) → ((ls : List ℕ) → with_levels r ls ≡ after (with_levels p ls) (record { «class» = k; text = chars front })) → Comes levels p0 cs r (chars back)
 nothing_found levels p0 cs q p r bytes front back k came settles c gave is =
     let x : Lexeme = record { «class» = k; text = chars front } in
     let t : State = with_levels r (0 ∷ levels) in
@@ -216,21 +216,21 @@ nothing_found levels p0 cs q p r bytes front back k came settles c gave is =
     comes_on levels p0 cs p (chars bytes) r (chars back) (comes_on levels p0 cs q (chars bytes) p (chars bytes) came settles.comes) (record { walks = silent 0 s (chars bytes) x settles.settled c.lexeme (gave (0 ∷ levels)) last })
 
 -- a lexeme makes no line logical where no layout is due before it
-pub no_significant_due : (p : Progress) (bytes front back : List ℕ) (k : Class) → Cuts bytes k front back → (p.margin && begins_significant (chars bytes)) ≡ false → (p.margin && is_significant_class k) ≡ false
+pub no_significant_due : (p : LineState) (bytes front back : List ℕ) (k : Class) → Cuts bytes k front back → (p.margin && begins_significant (chars bytes)) ≡ false → (p.margin && is_significant_class k) ≡ false
 no_significant_due p bytes front back k c settled = ap (λ b. p.margin && b) (significant_is (chars bytes) (record { «class» = k; text = chars front }) c.lexeme) ∙ settled
 
 -- a lexeme has bytes
 pub some_bytes : (bytes front back : List ℕ) (k : Class) → Cuts bytes k front back → 0 < length front
 some_bytes bytes front back k c = let n = length-le-encodes (chars front) in omega (arith, c.counted, c.nonempty)
 
-pub stands_after : (p r : Progress) (bytes front back : List ℕ) (k : Class) → Cuts bytes k front back → Stands p bytes → ((n : ℕ) → HasRoom p (length front + n) → HasRoom r n) → Stands r back
+pub stands_after : (p r : LineState) (bytes front back : List ℕ) (k : Class) → Cuts bytes k front back → Stands p bytes → ((n : ℕ) → HasRoom p (length front + n) → HasRoom r n) → Stands r back
 stands_after p r bytes front back k c stands room = record { utf8 = c.back_utf8; room = room (length back) (subst (λ (n : ℕ). HasRoom p n) c.sizes stands.room) }
 
 pub shorter_after : (bytes front back : List ℕ) (k : Class) → Cuts bytes k front back → length back < length bytes
 shorter_after bytes front back k c = let n = some_bytes bytes front back k c in omega (arith, c.sizes)
 
 -- past a lexeme there is room for what follows the text too
-pub room_after : (p r : Progress) (bytes front back : List ℕ) (k : Class) → Cuts bytes k front back → ((n : ℕ) → HasRoom p (length front + n) → HasRoom r n) → (n : ℕ) → HasRoom p (length bytes + n) → HasRoom r (length back + n)
+pub room_after : (p r : LineState) (bytes front back : List ℕ) (k : Class) → Cuts bytes k front back → ((n : ℕ) → HasRoom p (length front + n) → HasRoom r n) → (n : ℕ) → HasRoom p (length bytes + n) → HasRoom r (length back + n)
 room_after p r bytes front back k c room n h =
     let s = c.sizes in
     let e : length bytes + n ≡ length front + (length back + n) = omega arith in
@@ -260,7 +260,7 @@ not_line_end s LineEnd u e = cc
 not_line_end s Join u e = refl
 
 -- past it a lister stands behind the margin as it did
-pub margin_past : (p r : Progress) (k : Class) (u : List ℕ) → p.margin ≡ false → ((ls : List ℕ) → entry_by (with_levels p ls) (record { «class» = k; text = u }) ≡ given gives.Nothing) → ((ls : List ℕ) → with_levels r ls ≡ after (with_levels p ls) (record { «class» = k; text = u })) → r.margin ≡ false
+pub margin_past : (p r : LineState) (k : Class) (u : List ℕ) → p.margin ≡ false → ((ls : List ℕ) → entry_by (with_levels p ls) (record { «class» = k; text = u }) ≡ given gives.Nothing) → ((ls : List ℕ) → with_levels r ls ≡ after (with_levels p ls) (record { «class» = k; text = u })) → r.margin ≡ false
 unfolding after
 margin_past p r k u m gave is =
     let e = not_line_end (with_levels p []) k u (gave []) in

@@ -2,7 +2,7 @@
 use Rattle.std.proofs.Common.{◌≡◌, ℕ, zero, suc, ◌+◌, ◌^◌, ◌<◌, List, [], ◌∷◌, length, get_or, refl, arith, Fits, w64}
 use Rattle.std.proofs.lemmas.List.Elements.{All-from_get_or}
 use Rattle.pylex.specs.CursorTexts.{AreLevels}
-use Rattle.pylex.specs.Progress.{IsAscending}
+use Rattle.pylex.specs.LineState.{IsAscending}
 use Rattle.pylex.proofs.LevelLemmas.{are_levels}
 
 each_larger : (n : ℕ) (ms : List ℕ) (k : ℕ) → IsAscending n ms → k + 1 < length (n ∷ ms) → get_or (n ∷ ms) k 0 < get_or (n ∷ ms) (k + 1) 0

@@ -13,7 +13,7 @@ use Rattle.pysource.specs.Limits.{source_limit}
 use Rattle.pysource.specs.declared.line_reader.Line.{Line}
 use Rattle.pysource.specs.declared.line_reader.Line.TheVariants as met
 use Rattle.pylexeme.specs.declared.string.OpenLiteral.{OpenLiteral}
-use Rattle.pylex.specs.declared.chunk.Chunk.{Chunk}
+use Rattle.pylex.specs.declared.held_lines.HeldLines.{HeldLines}
 use Rattle.pylexeme.specs.Chars.{begins}
 use Rattle.pylexeme.specs.Strings.{quote_char}
 use Rattle.pylexeme.specs.Chunks.{EndsLine}
@@ -113,7 +113,7 @@ pub joins_ended : (o : OpenLiteral) (at from : ℕ) (a b : Buffered) (text : Lis
 joins_ended o at from a b text l = record { joined = l.joined; ahead = inl l.ahead }
 
 -- A line was read behind lines where a literal is open.
-module _ (old mid : Chunk) (at : ℕ) (r : IsLineMore old mid at) (s : IsAtStop (string_bytes old.text) at) (less : at < length (string_bytes old.text)) where
+module _ (old mid : HeldLines) (at : ℕ) (r : IsLineMore old mid at) (s : IsAtStop (string_bytes old.text) at) (less : at < length (string_bytes old.text)) where
   feed_held : ends_line (string_bytes old.text) ≡ true
   feed_held = ⊎_elim (λ e. absurd (omega (arith, ap length e, less))) (λ l. l) s.ends
 
@@ -153,7 +153,7 @@ module _ (old mid : Chunk) (at : ℕ) (r : IsLineMore old mid at) (s : IsAtStop 
       }
 
 -- where none is open nothing is read behind them
-pub holds_none : (old new : Chunk) (at : ℕ) → at < length (string_bytes old.text) → is_open_string (chars (drop at (string_bytes old.text))) ≡ false → HoldsOn old new at (Ok met.Text)
+pub holds_none : (old new : HeldLines) (at : ℕ) → at < length (string_bytes old.text) → is_open_string (chars (drop at (string_bytes old.text))) ≡ false → HoldsOn old new at (Ok met.Text)
 holds_none old new at less none = λ s. let n = length-drop at (string_bytes old.text) in absurd (let f : true ≡ false = sym (s.opened (omega (arith, n, less))) ∙ none in cc)
 
 -- A line took the place of those held.
@@ -168,20 +168,20 @@ holds_line x y k m b c text_b text_c rest line r is = record {
     no_front [] back e feed = let f : false ≡ true = feed in cc
     no_front (c ∷ front) back e feed = cc
 
-pub holds_other : (old new : Chunk) (from : ℕ) (r : Line) → (r ≡ met.Text → ⊥) → HoldsOn old new from (Ok r)
+pub holds_other : (old new : HeldLines) (from : ℕ) (r : Line) → (r ≡ met.Text → ⊥) → HoldsOn old new from (Ok r)
 holds_other old new from met.Text h = absurd (h refl)
 holds_other old new from met.End h = tt
 holds_other old new from (met.Fault f) h = tt
 holds_other old new from met.Read h = tt
 
-pub adds_other : (old new : Chunk) (from : ℕ) (r : Line) → (r ≡ met.Text → ⊥) → AddsLine old new from (Ok r)
+pub adds_other : (old new : HeldLines) (from : ℕ) (r : Line) → (r ≡ met.Text → ⊥) → AddsLine old new from (Ok r)
 adds_other old new from met.Text h = absurd (h refl)
 adds_other old new from met.End h = tt
 adds_other old new from (met.Fault f) h = tt
 adds_other old new from met.Read h = tt
 
 -- a line that was read behind those held
-pub line_more : (x y : Option (List ℕ)) (k m : ℕ) (old new : Chunk) (from : ℕ) → (r : NextLine x y k m old.lines new.lines (string_bytes old.text) (string_bytes new.text) (Ok met.Text)) → new.at ≡ from → IsLineMore old new from
+pub line_more : (x y : Option (List ℕ)) (k m : ℕ) (old new : HeldLines) (from : ℕ) → (r : NextLine x y k m old.lines new.lines (string_bytes old.text) (string_bytes new.text) (Ok met.Text)) → new.at ≡ from → IsLineMore old new from
 line_more x y k m old new from r at = record {
   line = r.line;
   is = r.tells.0;

@@ -12,10 +12,10 @@ use Rattle.pylex.specs.Lines.{text_before, depth, is_of_blanks, is_of_line_end, 
 use Rattle.pylexeme.specs.Chars.{bytes_in}
 use Rattle.pylex.specs.Levels.{open_levels}
 use Rattle.pylex.specs.Listing.{ends_in_join}
-use Rattle.pylex.specs.Machine.{State, advance, front_after_char, front_after, past, after, still, count_if, pushed}
-use Rattle.pylex.specs.declared.state.Point.{Point}
-use Rattle.pylex.specs.declared.state.Front.{Front}
-use Rattle.pylex.specs.declared.state.Front.TheVariants.{Nothing}
+use Rattle.pylex.specs.Machine.{State, place_past, front_after_char, front_after, past, after, still, count_if, pushed}
+use Rattle.pylex.specs.declared.line_state.Point.{Point}
+use Rattle.pylex.specs.declared.line_state.LeadingChar.{LeadingChar}
+use Rattle.pylex.specs.declared.line_state.LeadingChar.TheVariants.{Nothing}
 use Rattle.pylexeme.proofs.Cases.{bool_cases}
 use Rattle.pylex.proofs.Stack.{push}
 
@@ -26,7 +26,7 @@ point_after t = record { place = place_after t; offset = bytes_in t }
 count_push : (p : ℕ → Bool) (cs : List ℕ) (c : ℕ) → count_by p (cs ++ c ∷ []) ≡ count_by p cs + cond (p c) 1 0
 count_push p cs c = grind (arith, common_steps)
 
-place_of_one : (cs : List ℕ) (c : ℕ) → place_after (cs ++ c ∷ []) ≡ advance (place_after cs) (c ∷ [])
+place_of_one : (cs : List ℕ) (c : ℕ) → place_after (cs ++ c ∷ []) ≡ place_past (place_after cs) (c ∷ [])
 unfolding place_after
 place_of_one cs c =
     let r : reverse (cs ++ c ∷ []) ≡ c ∷ reverse cs = reverse-append cs (c ∷ []) in
@@ -37,12 +37,12 @@ place_of_one cs c =
     (λ (e : (c == 10) ≡ false). rw e (rw add-zero (ap (λ k. record { row = 1 + count_by (λ d. d == 10) cs; column = k }) (add_comm 1 (prefix_len (λ d. not (d == 10)) (reverse cs))))))
     (bool_cases (c == 10)))
 
-pub place_after-append : (a b : List ℕ) → place_after (a ++ b) ≡ advance (place_after a) b
+pub place_after-append : (a b : List ℕ) → place_after (a ++ b) ≡ place_past (place_after a) b
 place_after-append a [] = ap place_after (append-nil a)
 place_after-append a (c ∷ b) =
     ap place_after (sym (append_assoc a (c ∷ []) b))
     ∙ place_after-append (a ++ c ∷ []) b
-    ∙ ap (λ p. advance p b) (place_of_one a c)
+    ∙ ap (λ p. place_past p b) (place_of_one a c)
 
 pub bytes_in-append : (a b : List ℕ) → bytes_in (a ++ b) ≡ bytes_in a + bytes_in b
 bytes_in-append a b = ap length (encodes-append a b) ∙ length-append (encode_utf8_all a) (encode_utf8_all b)
@@ -53,7 +53,7 @@ point-append a b =
     let o = bytes_in-append a b in
     rw (p, o) refl
 
-pub front-append : (a b : List ℕ) (f : Front) → front_after f (a ++ b) ≡ front_after (front_after f a) b
+pub front-append : (a b : List ℕ) (f : LeadingChar) → front_after f (a ++ b) ≡ front_after (front_after f a) b
 front-append [] b f = refl
 front-append (c ∷ a) b f = front-append a b (front_after_char f c)
 

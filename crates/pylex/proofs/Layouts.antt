@@ -12,7 +12,7 @@ use Rattle.pylex.specs.Machine.{State, layout_of, pushed, step_of, mark_at, dede
 use Rattle.pylexeme.proofs.Cases.{bool_cases, and_parts}
 use Rattle.std.proofs.Math.Bool.{and-false}
 use Rattle.pysource.specs.declared.places.Place.{Place}
-use Rattle.pylex.specs.Progress.{IsAscending, is_above, is_level}
+use Rattle.pylex.specs.LineState.{IsAscending, is_above, is_level}
 
 -- one more at the end
 pub above-push : (w v : ℕ) (ls : List ℕ) → is_above w (ls ++ v ∷ []) ≡ (is_above w ls && nat_lt v w)

@@ -8,15 +8,15 @@ use Rattle.pysource.specs.Lines.{lines_of}
 use Rattle.pysource.specs.Places.{is_lf}
 use Rattle.pysource.specs.Streams.{ends_line}
 use Rattle.pylex.specs.declared.entries.ListingFault.{ListingFault}
-use Rattle.pylex.specs.declared.position.Meets.{Meets}
-use Rattle.pylex.specs.declared.position.Meets.TheVariants as meets
-use Rattle.pylex.specs.declared.state.Progress.{Progress}
+use Rattle.pylex.specs.declared.machine.Peeked.{Peeked}
+use Rattle.pylex.specs.declared.machine.Peeked.TheVariants as peeked
+use Rattle.pylex.specs.declared.line_state.LineState.{LineState}
 use Rattle.pylexeme.specs.Chunks.{EndsLine}
 use Rattle.pylexeme.specs.Cuts.{begins_significant}
 use Rattle.pylex.specs.Laws.{AreLexemes}
 use Rattle.pylexeme.specs.Lexemes.{Lexeme, lexeme_at, lexeme_len, cut, left_by_cut, is_open_string}
 use Rattle.pylex.specs.Machine.{State}
-use Rattle.pylex.specs.Progress.{Walks, stays, silent, level, dedent, Comes, GivesFault, mismatch, faulty, StopAhead, Finds}
+use Rattle.pylex.specs.LineState.{Walks, stays, silent, level, dedent, Comes, GivesFault, mismatch, faulty, StopAhead, Peek}
 use Rattle.pylex.specs.Held.{IsJoined, LexedTo, at_left, past_lexeme}
 use Rattle.pylex.proofs.Carried.{drop_ends, drop_carried}
 use Rattle.pylexeme.proofs.Kept.{lexeme_kept}
@@ -81,16 +81,16 @@ lexed_walks t ds n s cs (silent m r bs x d e g w) = past_lexeme cs x e (lexed_wa
 lexed_walks t ds n s cs (level m r bs a b i c w) = lexed_walks t ds n _ cs w
 lexed_walks t ds n s cs (dedent m r bs ls v a b e i k w) = lexed_walks t ds m _ cs w
 
-pub lexed_comes : (levels : List ℕ) (p : Progress) (cs : List ℕ) (q : Progress) (ds : List ℕ) → Comes levels p cs q ds → LexedTo ds cs
+pub lexed_comes : (levels : List ℕ) (p : LineState) (cs : List ℕ) (q : LineState) (ds : List ℕ) → Comes levels p cs q ds → LexedTo ds cs
 lexed_comes levels p cs q ds c = lexed_walks _ ds 0 _ cs c.walks
 
-pub lexed_finds : (levels : List ℕ) (p : Progress) (cs : List ℕ) (m : Meets) (q : Progress) (ds : List ℕ) → ((f : ListingFault) → m ≡ meets.Fault f → ⊥) → Finds levels p cs m q ds → LexedTo ds cs
-lexed_finds levels p cs (meets.Entry e) q ds h f =
+pub lexed_finds : (levels : List ℕ) (p : LineState) (cs : List ℕ) (m : Peeked) (q : LineState) (ds : List ℕ) → ((f : ListingFault) → m ≡ peeked.Fault f → ⊥) → Peek levels p cs m q ds → LexedTo ds cs
+lexed_finds levels p cs (peeked.Entry e) q ds h f =
     lexed_both f.before ds cs (lexed_comes levels p cs f.there f.before f.comes) (past_lexeme f.before f.lexeme f.stands (subst (λ t. LexedTo ds t) f.behind at_left))
-lexed_finds levels p cs (meets.Fault g) q ds h f = absurd (h g refl)
-lexed_finds levels p cs meets.Indent q ds h f = lexed_comes levels p cs q ds f.0
-lexed_finds levels p cs meets.Dedent q ds h f = lexed_comes levels p cs q ds f.0
-lexed_finds levels p cs meets.Stop q ds h f = lexed_comes levels p cs q ds f.0
+lexed_finds levels p cs (peeked.Fault g) q ds h f = absurd (h g refl)
+lexed_finds levels p cs peeked.Indent q ds h f = lexed_comes levels p cs q ds f.0
+lexed_finds levels p cs peeked.Dedent q ds h f = lexed_comes levels p cs q ds f.0
+lexed_finds levels p cs peeked.Stop q ds h f = lexed_comes levels p cs q ds f.0
 
 -- A lister at which no lexeme stands, and no layout is due, finds nothing there.
 not_both : (a b : Bool) → (a && b) ≡ false → a ≡ true → b ≡ true → ⊥
@@ -104,25 +104,25 @@ stuck_walks t ds n s cs h d (silent m r bs x z e g w) = absurd (let f : None ≡
 stuck_walks t ds n s cs h d (level m r bs a b i c w) = absurd (not_both s.margin (begins_significant cs) d a b)
 stuck_walks t ds n s cs h d (dedent m r bs ls v a b e i k w) = absurd (not_both s.margin (begins_significant cs) d a b)
 
-stuck_comes : (levels : List ℕ) (p : Progress) (cs : List ℕ) (q : Progress) (ds : List ℕ) → StopAhead p cs → Comes levels p cs q ds → (ds ≡ cs) × (q.margin ≡ p.margin)
+stuck_comes : (levels : List ℕ) (p : LineState) (cs : List ℕ) (q : LineState) (ds : List ℕ) → StopAhead p cs → Comes levels p cs q ds → (ds ≡ cs) × (q.margin ≡ p.margin)
 stuck_comes levels p cs q ds s c = stuck_walks _ ds 0 _ cs s.none s.settled c.walks
 
-pub stuck_finds : (levels : List ℕ) (p : Progress) (cs : List ℕ) (m : Meets) (q : Progress) (ds : List ℕ) → StopAhead p cs → Finds levels p cs m q ds → (m ≡ meets.Stop) × (ds ≡ cs)
-stuck_finds levels p cs (meets.Entry e) q ds s f =
+pub stuck_finds : (levels : List ℕ) (p : LineState) (cs : List ℕ) (m : Peeked) (q : LineState) (ds : List ℕ) → StopAhead p cs → Peek levels p cs m q ds → (m ≡ peeked.Stop) × (ds ≡ cs)
+stuck_finds levels p cs (peeked.Entry e) q ds s f =
     let c = stuck_comes levels p cs f.there f.before s f.comes in
     absurd (let g : None ≡ Some f.lexeme = sym s.none ∙ ap lexeme_at (sym c.0) ∙ f.stands in cc)
-stuck_finds levels p cs (meets.Fault g) q ds s f = absurd (by f.there f.before (stuck_comes levels p cs f.there f.before s f.comes) f.cause)
+stuck_finds levels p cs (peeked.Fault g) q ds s f = absurd (by f.there f.before (stuck_comes levels p cs f.there f.before s f.comes) f.cause)
   where
-    by : (r : Progress) (bs : List ℕ) → (bs ≡ cs) × (r.margin ≡ p.margin) → GivesFault levels r bs g → ⊥
+    by : (r : LineState) (bs : List ℕ) → (bs ≡ cs) × (r.margin ≡ p.margin) → GivesFault levels r bs g → ⊥
     by r bs c (mismatch m t a i e) = not_both p.margin (begins_significant cs) s.settled (sym c.1 ∙ m) (ap begins_significant (sym c.0) ∙ t)
     by r bs c (faulty x d e w) = let z : None ≡ Some x = sym s.none ∙ ap lexeme_at (sym c.0) ∙ e in cc
-stuck_finds levels p cs meets.Indent q ds s f =
+stuck_finds levels p cs peeked.Indent q ds s f =
     let c = stuck_comes levels p cs q ds s f.0 in
     absurd (not_both p.margin (begins_significant cs) s.settled (sym c.1 ∙ f.1.margin) (ap begins_significant (sym c.0) ∙ f.1.significant))
-stuck_finds levels p cs meets.Dedent q ds s f =
+stuck_finds levels p cs peeked.Dedent q ds s f =
     let c = stuck_comes levels p cs q ds s f.0 in
     absurd (not_both p.margin (begins_significant cs) s.settled (sym c.1 ∙ f.1.margin) (ap begins_significant (sym c.0) ∙ f.1.significant))
-stuck_finds levels p cs meets.Stop q ds s f = (refl, (stuck_comes levels p cs q ds s f.0).0)
+stuck_finds levels p cs peeked.Stop q ds s f = (refl, (stuck_comes levels p cs q ds s f.0).0)
 
 -- A line has its line feed only at its end.
 feed_last : (front back : List ℕ) → lines_of (front ++ back) ≡ (front ++ back) ∷ [] → ends_line front ≡ true → 0 < length back → ⊥

@@ -16,7 +16,7 @@ use Rattle.pylexeme.specs.Strings.{opens_string, counts_as_string}
 use Rattle.pylexeme.specs.Lexemes.{Lexeme, is_name, is_comment, are_blanks, is_line_end, is_join, plain_class, class_in, lexeme_at}
 use Rattle.pylex.specs.Listing.{last_line}
 use Rattle.pylexeme.proofs.Cases.{bool_cases}
-use Rattle.pylex.proofs.Front.{last_push}
+use Rattle.pylex.proofs.LeadingChar.{last_push}
 use Rattle.pylex.proofs.Lexed.{lexeme_class}
 
 -- a class, by what the tests of those without a name of their own say

@@ -2,7 +2,7 @@ pub mod Callers
 mod Computing
 mod Stack
 mod Law
-mod Front
+mod LeadingChar
 mod Run
 mod Steps
 mod Measured

@@ -5,14 +5,14 @@ use Rattle.std.proofs.lemmas.Bool.{eqb-true}
 use Rattle.std.proofs.lemmas.Str.{chars-nil}
 use Rattle.pysource.specs.Streams.{ends_line}
 use Rattle.pylex.specs.declared.entries.ListingFault.{ListingFault}
-use Rattle.pylex.specs.declared.state.Progress.{Progress}
+use Rattle.pylex.specs.declared.line_state.LineState.{LineState}
 use Rattle.pylexeme.specs.Chunks.{EndsLine}
 use Rattle.pylexeme.specs.Cuts.{begins_significant}
 use Rattle.pylexeme.specs.Lexemes.{Lexeme, lexeme_at, is_open_string}
 use Rattle.pylex.specs.Listing.{stop_fault, up_to_end}
 use Rattle.pylex.specs.Listers.{Listed, Keeps}
 use Rattle.pylex.specs.Machine.{State, layout_of, remaining}
-use Rattle.pylex.specs.Progress.{Stands, Comes, StopAhead}
+use Rattle.pylex.specs.LineState.{Stands, Comes, StopAhead}
 use Rattle.pylex.proofs.Steps.{remaining_stop}
 use Rattle.pylex.proofs.Measured.{stop_within}
 use Rattle.pylex.proofs.Significant.{none_at_all}
@@ -23,7 +23,7 @@ use Rattle.pylexeme.proofs.LineFronts.{significant_kept}
 use Rattle.pylex.proofs.Carried.{chars_lines}
 
 -- A lister that may go on over some bytes may go on over their front.
-pub stands_front : (p : Progress) (a b : List ℕ) → Stands p (a ++ b) → IsUtf8 a → Stands p a
+pub stands_front : (p : LineState) (a b : List ℕ) → Stands p (a ++ b) → IsUtf8 a → Stands p a
 stands_front p a b s u =
     let n : length (a ++ b) ≡ length a + length b = length-append a b in
     let r = s.room in
@@ -45,10 +45,10 @@ nothing_begins true = refl
 nothing_begins false = refl
 
 -- no lexeme stands where nothing is left
-pub stop_empty : (q : Progress) → StopAhead q []
+pub stop_empty : (q : LineState) → StopAhead q []
 stop_empty q = record { none = nothing_at (lexeme_at []) refl; settled = nothing_begins q.margin }
 
-pub stop_back : (q : Progress) (cs es : List ℕ) → EndsLine cs ⊎ (cs ≡ []) → StopAhead q (cs ++ es) → StopAhead q cs
+pub stop_back : (q : LineState) (cs es : List ℕ) → EndsLine cs ⊎ (cs ≡ []) → StopAhead q (cs ++ es) → StopAhead q cs
 stop_back q cs es (inl l) s = record {
   none = none_in cs es l s.none (lexeme_at cs) refl;
   settled = ap (λ t. q.margin && t) (sym (significant_kept cs es l)) ∙ s.settled;
@@ -69,7 +69,7 @@ remaining_any f g s (d ∷ ds) n some o =
     ∙ sym (remaining_stop g s (d ∷ ds) n)
 
 -- A lister that has looked on keeps what it kept.
-pub keeps_on : (l : Listed) (p q : Progress) (left ds levels : List ℕ) (nested tail : ℕ) → Keeps l p left levels nested tail → Comes (take nested levels) p (chars left) q (chars ds) → Stands q ds → (0 < tail → StopAhead q (chars ds)) → Keeps l q ds levels nested tail
+pub keeps_on : (l : Listed) (p q : LineState) (left ds levels : List ℕ) (nested tail : ℕ) → Keeps l p left levels nested tail → Comes (take nested levels) p (chars left) q (chars ds) → Stands q ds → (0 < tail → StopAhead q (chars ds)) → Keeps l q ds levels nested tail
 keeps_on l p q left ds levels nested tail k c s stop = record {
   utf8 = k.utf8;
   small = k.small;

@@ -5,15 +5,15 @@ use Rattle.std.proofs.lemmas.Bool.Decides.{nat_tests}
 use Rattle.std.proofs.lemmas.List.{take-append-drop}
 use Rattle.pysource.specs.Places.{place_after}
 use Rattle.pysource.specs.declared.places.Place.{Place}
-use Rattle.pylex.specs.declared.state.Front.TheVariants.{Nothing}
+use Rattle.pylex.specs.declared.line_state.LeadingChar.TheVariants.{Nothing}
 use Rattle.pylexeme.specs.Cuts.{begins_significant}
 use Rattle.pylexeme.specs.Lexemes.{Lexeme, lexeme_at, lexeme_len}
 use Rattle.pylex.specs.Lines.{is_significant}
 use Rattle.pylexeme.specs.Chars.{bytes_in}
 use Rattle.pylex.specs.Listing.{Source, last_line}
 use Rattle.pylex.specs.Cursors.{CursorParts}
-use Rattle.pylex.specs.Machine.{State, advance, past, after, layout_of, dedents_at, pushed, front_after}
-use Rattle.pylex.specs.Progress.{measured, begun_anew, is_above, is_level, Walks, stays, silent, level, dedent}
+use Rattle.pylex.specs.Machine.{State, place_past, past, after, layout_of, dedents_at, pushed, front_after}
+use Rattle.pylex.specs.LineState.{measured, begun_anew, is_above, is_level, Walks, stays, silent, level, dedent}
 use Rattle.pylex.specs.Standing.{front_to, standing_by, resumed}
 use Rattle.pylex.specs.Listers.{IsIn, shown_at, Passes, here, lexeme, layout}
 use Rattle.pylex.proofs.Law.{place_after-append, bytes_in-append, front-append}
@@ -24,7 +24,7 @@ use Rattle.pylex.proofs.Finding.{significant_is, no_layout}
 use Rattle.pylex.proofs.Ahead.{front_is, drop_front}
 
 -- Columns don't depend on the row.
-advance_column : (p q : Place) (t : List ℕ) → p.column ≡ q.column → (advance p t).column ≡ (advance q t).column
+advance_column : (p q : Place) (t : List ℕ) → p.column ≡ q.column → (place_past p t).column ≡ (place_past q t).column
 advance_column p q [] e = e
 advance_column p q (c ∷ t) e = advance_column (cond (c == 10) (record { row = p.row + 1; column = 0 }) (record { row = p.row; column = p.column + 1 })) (cond (c == 10) (record { row = q.row + 1; column = 0 }) (record { row = q.row; column = q.column + 1 })) t (one (c == 10))
   where

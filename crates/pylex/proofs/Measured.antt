@@ -13,7 +13,7 @@ use Rattle.pylex.specs.Lines.{is_significant}
 use Rattle.pylexeme.specs.Chars.{bytes_in}
 use Rattle.pylex.specs.Listing.{stop_fault, up_to_end}
 use Rattle.pylex.specs.Machine.{State, after, gives, entry_by, layout_of, stop_of, remaining, behind_steps}
-use Rattle.pylex.specs.Progress.{measured}
+use Rattle.pylex.specs.LineState.{measured}
 use Rattle.pylex.proofs.Run.{up_to_end-append}
 use Rattle.pylex.proofs.Steps.{remaining_step, remaining_stop}
 use Rattle.pylex.proofs.Full.{lexeme_full}

@@ -14,18 +14,18 @@ use Rattle.pylex.specs.declared.entries.Step.TheVariants as steps
 use Rattle.pylex.specs.declared.kinds.Kind.{Kind}
 use Rattle.pylex.specs.declared.kinds.Kind.TheVariants as kinds
 use Rattle.pysource.specs.declared.places.Place.{Place}
-use Rattle.pylex.specs.declared.state.Progress.{Progress}
-use Rattle.pylex.specs.declared.state.Front.TheVariants.{Nothing}
+use Rattle.pylex.specs.declared.line_state.LineState.{LineState}
+use Rattle.pylex.specs.declared.line_state.LeadingChar.TheVariants.{Nothing}
 use Rattle.pylexeme.specs.Lexemes.{cut, left_by_cut}
 use Rattle.pylex.specs.Cursors.{CursorParts, has_no_text, given_last_first, with_text, lexemes_to, cursor_at, cursor}
 use Rattle.pylex.specs.Listing.{Source, in_characters, listing, rest, mark, origin, last_line}
 use Rattle.pylex.specs.Steps.{entries_of, first_step, entries_in, IsIndent}
 use Rattle.pylex.specs.Machine.{State, first_state, remaining, mark_at, step_of, pushed, after, front_after}
-use Rattle.pylex.specs.Progress.{with_levels, measured, begun_anew, Stands, HasRoom, IsAscending, Comes, EntryAhead, FaultAhead, IndentAhead, DedentAhead, StopAhead, Walks, stays, dedent, is_level}
+use Rattle.pylex.specs.LineState.{with_levels, measured, begun_anew, Stands, HasRoom, IsAscending, Comes, EntryAhead, FaultAhead, IndentAhead, DedentAhead, StopAhead, Walks, stays, dedent, is_level}
 use Rattle.pylex.specs.Laws.{IsStop}
 use Rattle.pylex.specs.Standing.{standing_by, resumed}
 use Rattle.pylex.specs.declared.cursors.Shown.{Shown}
-use Rattle.pylex.specs.Listers.{Listed, StandsIn, Moves, AwaitsIndent, Keeps, IsIn, Passes, shown_at, shown_by}
+use Rattle.pylex.specs.Listers.{Listed, StandsIn, NextStep, AwaitsIndent, Keeps, IsIn, Passes, shown_at, shown_by}
 use Rattle.pylex.proofs.Law.{state_of}
 use Rattle.pylex.proofs.Ahead.{history_is, placed_first}
 use Rattle.pylex.proofs.Resuming.{begun_state}
@@ -57,7 +57,7 @@ listing_length a = let w = is_whole a in ap length w.whole ∙ length_whole (ent
 abbrev pub Leads : Listed → Step → Listed → Type 0
 Leads old step new = (a : Source) → StandsIn old a old.shown.given → (first_step (rest a old.shown.given) ≡ step) × StandsIn new a (old.shown.given + entries_in step)
 
-pub leads_moves : (old : Listed) (step : Step) (new : Listed) → Leads old step new → Moves old step new
+pub leads_moves : (old : Listed) (step : Step) (new : Listed) → Leads old step new → NextStep old step new
 leads_moves old step new f a k h =
     let c = h.count in
     let g = f a (record { cursor = h.cursor; count = refl; agrees = h.agrees }) in
@@ -68,8 +68,8 @@ leads_moves old step new f a k h =
       subst (λ (n : ℕ). StandsIn new a (n + entries_in step)) c g.1,
     )
 
-pub moves_from : (old same : Listed) (step : Step) (new : Listed) → old ≡ same → Leads old step new → Moves same step new
-moves_from old same step new e f = subst (λ (l : Listed). Moves l step new) e (leads_moves old step new f)
+pub moves_from : (old same : Listed) (step : Step) (new : Listed) → old ≡ same → Leads old step new → NextStep same step new
+moves_from old same step new e f = subst (λ (l : Listed). NextStep l step new) e (leads_moves old step new f)
 
 -- the source in which a lister stands
 pub leads_stood : (old : Listed) (step : Step) (new : Listed) → Leads old step new → new.shown.given ≡ old.shown.given + entries_in step → (a : Source) × StandsIn old a old.shown.given → (a : Source) × StandsIn new a new.shown.given
@@ -120,7 +120,7 @@ no_text k o p e h = equal_ends e (by_entry _ e refl h)
     by_entry : (d e : Entry) → d.«from» ≡ d.to → steps.Entry d ≡ steps.Entry e → e.«from» ≡ e.to
     by_entry d e q h = let x : d ≡ e = cc in subst (λ (y : Entry). y.«from» ≡ y.to) x q
 
-module _ (l : Listed) (p : Progress) (left levels : List ℕ) (nested tail : ℕ) (keeps : Keeps l p left levels nested tail) (skips : l.shown.skip ≡ (length levels - nested) + tail) (some : 0 < l.shown.given) where
+module _ (l : Listed) (p : LineState) (left levels : List ℕ) (nested tail : ℕ) (keeps : Keeps l p left levels nested tail) (skips : l.shown.skip ≡ (length levels - nested) + tail) (some : 0 < l.shown.given) where
   abbrev source : Source
   source = in_characters l.source
 
@@ -141,14 +141,14 @@ module _ (l : Listed) (p : Progress) (left levels : List ℕ) (nested tail : ℕ
       ∙ ap (drop tail) (walks_steps source.fault now (chars left) (length levels - nested) there left_there keeps.came)
 
   -- the walk to what is met
-  come_to : (q : Progress) (ds : List ℕ) → Comes (take nested levels) p (chars left) q ds → Walks (with_levels q (0 ∷ take nested levels)) ds (length levels - nested) there (standing_by source l.shown).left
+  come_to : (q : LineState) (ds : List ℕ) → Comes (take nested levels) p (chars left) q ds → Walks (with_levels q (0 ∷ take nested levels)) ds (length levels - nested) there (standing_by source l.shown).left
   come_to q ds c =
       let z : (length levels - nested) + 0 ≡ length levels - nested = omega arith in
       subst (λ (n : ℕ). Walks (with_levels q (0 ∷ take nested levels)) ds n there (standing_by source l.shown).left) z
       (walks_on now (with_levels q (0 ∷ take nested levels)) (chars left) ds (length levels - nested) 0 there (standing_by source l.shown).left keeps.came c.walks)
 
   -- and in its text
-  is_there : (q : Progress) (ds : List ℕ) → Comes (take nested levels) p (chars left) q ds → IsIn source.text (with_levels q (0 ∷ take nested levels)) ds
+  is_there : (q : LineState) (ds : List ℕ) → Comes (take nested levels) p (chars left) q ds → IsIn source.text (with_levels q (0 ∷ take nested levels)) ds
   is_there q ds c = walks_in source.text (with_levels q (0 ∷ take nested levels)) ds 0 now (chars left) c.walks keeps.placed
 
   module _ (none : tail ≡ 0) where
@@ -164,7 +164,7 @@ module _ (l : Listed) (p : Progress) (left levels : List ℕ) (nested tail : ℕ
         )
 
     -- The entry of a lexeme.
-    pub leads_entry : (e : Entry) (q : Progress) (ds : List ℕ) (shown : CursorParts) → EntryAhead (take nested levels) p (chars left) e q ds → shown ≡ shown_at (l.shown.given + 1) (with_levels q (0 ∷ take nested levels)) → Leads l (steps.Entry e) (record l { shown = shown })
+    pub leads_entry : (e : Entry) (q : LineState) (ds : List ℕ) (shown : CursorParts) → EntryAhead (take nested levels) p (chars left) e q ds → shown ≡ shown_at (l.shown.given + 1) (with_levels q (0 ∷ take nested levels)) → Leads l (steps.Entry e) (record l { shown = shown })
     leads_entry e q ds shown h is a s =
         let t : State = with_levels h.there (0 ∷ take nested levels) in
         let w = subst (λ (n : ℕ). Walks t h.before n there (standing_by source l.shown).left) (sym skip_now) (come_to h.there h.before h.comes) in
@@ -174,20 +174,20 @@ module _ (l : Listed) (p : Progress) (left levels : List ℕ) (nested tail : ℕ
           subst (λ (c : CursorParts). StandsIn (record l { shown = c }) a (l.shown.given + 1)) same (after_lexeme l a l.shown.given t h.before h.lexeme e s some p h.settled h.stands h.own),
         )
 
-    pub entry_in : (e : Entry) (q : Progress) (ds : List ℕ) → EntryAhead (take nested levels) p (chars left) e q ds → IsIn source.text (with_levels q (0 ∷ take nested levels)) ds
+    pub entry_in : (e : Entry) (q : LineState) (ds : List ℕ) → EntryAhead (take nested levels) p (chars left) e q ds → IsIn source.text (with_levels q (0 ∷ take nested levels)) ds
     entry_in e q ds h =
         let t : State = with_levels h.there (0 ∷ take nested levels) in
         let i = in_after source.text t h.before h.lexeme h.stands (is_there h.there h.before h.comes) in
         subst (λ (s : State). IsIn source.text s ds) (sym h.goes) (subst (λ (es : List ℕ). IsIn source.text (after t h.lexeme) es) (sym h.behind) i)
 
     -- An INDENT.
-    indent_passes : (q : Progress) (ds : List ℕ) → Comes (take nested levels) p (chars left) q ds → IndentAhead (take nested levels) q ds → Passes (with_levels q (0 ∷ take nested levels)) ds l.shown.skip there (standing_by source l.shown).left
+    indent_passes : (q : LineState) (ds : List ℕ) → Comes (take nested levels) p (chars left) q ds → IndentAhead (take nested levels) q ds → Passes (with_levels q (0 ∷ take nested levels)) ds l.shown.skip there (standing_by source l.shown).left
     indent_passes q ds c h =
         let t : State = with_levels q (0 ∷ take nested levels) in
         walks_pass t ds (above_ready t ds h.above) l.shown.skip there (standing_by source l.shown).left
         (subst (λ (n : ℕ). Walks t ds n there (standing_by source l.shown).left) (sym skip_now) (come_to q ds c))
 
-    pub leads_indent : (e : Entry) (q r : Progress) (ds ls : List ℕ) (shown : CursorParts) → Comes (take nested levels) p (chars left) q ds → IndentAhead (take nested levels) q ds → step_of kinds.Indent None q.line q.now ≡ steps.Entry e → ((ns : List ℕ) → with_levels r (pushed q.width ns) ≡ measured (with_levels q ns)) → ls ≡ take nested levels ++ q.width ∷ [] → shown ≡ shown_at (l.shown.given + 1) (with_levels r (0 ∷ ls)) → Leads l (steps.Entry e) (record l { shown = shown })
+    pub leads_indent : (e : Entry) (q r : LineState) (ds ls : List ℕ) (shown : CursorParts) → Comes (take nested levels) p (chars left) q ds → IndentAhead (take nested levels) q ds → step_of kinds.Indent None q.line q.now ≡ steps.Entry e → ((ns : List ℕ) → with_levels r (pushed q.width ns) ≡ measured (with_levels q ns)) → ls ≡ take nested levels ++ q.width ∷ [] → shown ≡ shown_at (l.shown.given + 1) (with_levels r (0 ∷ ls)) → Leads l (steps.Entry e) (record l { shown = shown })
     leads_indent e q r ds ls shown c h step measures levels_are is a s =
         let t : State = with_levels q (0 ∷ take nested levels) in
         let p = indent_passes q ds c h in
@@ -197,21 +197,21 @@ module _ (l : Listed) (p : Progress) (left levels : List ℕ) (nested tail : ℕ
           subst (λ (c : CursorParts). StandsIn (record l { shown = c }) a (l.shown.given + 1)) same (after_indent l a l.shown.given t ds s some p h.margin h.significant h.above),
         )
 
-    pub indent_in : (q r : Progress) (ds ls : List ℕ) → Comes (take nested levels) p (chars left) q ds → IndentAhead (take nested levels) q ds → ((ns : List ℕ) → with_levels r (pushed q.width ns) ≡ measured (with_levels q ns)) → ls ≡ take nested levels ++ q.width ∷ [] → IsIn source.text (with_levels r (0 ∷ ls)) ds
+    pub indent_in : (q r : LineState) (ds ls : List ℕ) → Comes (take nested levels) p (chars left) q ds → IndentAhead (take nested levels) q ds → ((ns : List ℕ) → with_levels r (pushed q.width ns) ≡ measured (with_levels q ns)) → ls ≡ take nested levels ++ q.width ∷ [] → IsIn source.text (with_levels r (0 ∷ ls)) ds
     indent_in q r ds ls c h measures levels_are =
         let t : State = with_levels q (0 ∷ take nested levels) in
         let state : measured t ≡ with_levels r (0 ∷ ls) = sym (measures (0 ∷ take nested levels)) ∙ ap (with_levels r) (pushed_above q.width (0 ∷ take nested levels) h.above ∙ ap (λ ns. 0 ∷ ns) (sym levels_are)) in
         let i = is_there q ds c in
         subst (λ (s : State). IsIn source.text s ds) state (record { before = i.before; whole = i.whole; offset = i.offset; column = i.column; front = i.front })
 
-    pub awaits_indent : (q : Progress) (ds : List ℕ) → Comes (take nested levels) p (chars left) q ds → IndentAhead (take nested levels) q ds → AwaitsIndent l
+    pub awaits_indent : (q : LineState) (ds : List ℕ) → Comes (take nested levels) p (chars left) q ds → IndentAhead (take nested levels) q ds → AwaitsIndent l
     awaits_indent q ds c h a k s =
         let n = s.count in
         let first = indent_first l a l.shown.given (with_levels q (0 ∷ take nested levels)) ds (record { cursor = s.cursor; count = refl; agrees = s.agrees }) some (indent_passes q ds c h) h.margin h.significant h.above in
         subst IsIndent (sym (ap (λ j. first_step (rest a j)) (sym n) ∙ first)) tt
 
     -- A DEDENT.
-    pub leads_dedent : (e : Entry) (q : Progress) (ds : List ℕ) (skip : ℕ) → Comes (take nested levels) p (chars left) q ds → DedentAhead (take nested levels) q ds → mark_at kinds.Dedent q.now.offset q.now.place q.now.place ≡ steps.Entry e → skip ≡ l.shown.skip + 1 → Leads l (steps.Entry e) (record l { shown = record l.shown { given = l.shown.given + 1; skip = skip } })
+    pub leads_dedent : (e : Entry) (q : LineState) (ds : List ℕ) (skip : ℕ) → Comes (take nested levels) p (chars left) q ds → DedentAhead (take nested levels) q ds → mark_at kinds.Dedent q.now.offset q.now.place q.now.place ≡ steps.Entry e → skip ≡ l.shown.skip + 1 → Leads l (steps.Entry e) (record l { shown = record l.shown { given = l.shown.given + 1; skip = skip } })
     leads_dedent e q ds skip c h step more a s =
         let t : State = with_levels q (0 ∷ take nested levels) in
         let g = last_level levels nested keeps.within h.some in
@@ -222,7 +222,7 @@ module _ (l : Listed) (p : Progress) (left levels : List ℕ) (nested tail : ℕ
               (after_empty l a l.shown.given e s some first (no_text kinds.Dedent q.now.offset q.now.place e step)),
         )
 
-    pub dedent_walk : (q : Progress) (ds : List ℕ) → Comes (take nested levels) p (chars left) q ds → DedentAhead (take nested levels) q ds → Walks (with_levels q (0 ∷ take (nested - 1) levels)) ds (length levels - (nested - 1)) there (standing_by source l.shown).left
+    pub dedent_walk : (q : LineState) (ds : List ℕ) → Comes (take nested levels) p (chars left) q ds → DedentAhead (take nested levels) q ds → Walks (with_levels q (0 ∷ take (nested - 1) levels)) ds (length levels - (nested - 1)) there (standing_by source l.shown).left
     dedent_walk q ds c h =
         let t : State = with_levels q (0 ∷ take nested levels) in
         let u : State = with_levels q (0 ∷ take (nested - 1) levels) in
@@ -236,7 +236,7 @@ module _ (l : Listed) (p : Progress) (left levels : List ℕ) (nested tail : ℕ
         (walks_on t u ds ds (length levels - nested) 1 there (standing_by source l.shown).left (come_to q ds c) one)
 
   -- The steps of the end.
-  pub end_rest : (q : Progress) (ds : List ℕ) (step : Step) → Comes (take nested levels) p (chars left) q ds → (tail < length (remaining source.fault (with_levels q (0 ∷ take nested levels)) ds) → step ≡ first_step (drop tail (remaining source.fault (with_levels q (0 ∷ take nested levels)) ds))) → (a : Source) → StandsIn l a l.shown.given → first_step (rest a l.shown.given) ≡ step
+  pub end_rest : (q : LineState) (ds : List ℕ) (step : Step) → Comes (take nested levels) p (chars left) q ds → (tail < length (remaining source.fault (with_levels q (0 ∷ take nested levels)) ds) → step ≡ first_step (drop tail (remaining source.fault (with_levels q (0 ∷ take nested levels)) ds))) → (a : Source) → StandsIn l a l.shown.given → first_step (rest a l.shown.given) ≡ step
   end_rest q ds step c is a s =
       let ss = remaining source.fault (with_levels q (0 ∷ take nested levels)) ds in
       let same : rest a l.shown.given ≡ drop tail ss = rest_left a s ∙ ap (drop tail) (same_ahead (take nested levels) p (chars left) q ds c source.fault) in
@@ -247,7 +247,7 @@ module _ (l : Listed) (p : Progress) (left levels : List ℕ) (nested tail : ℕ
       let whole = listing_length a in
       ap first_step same ∙ sym (is (omega arith))
 
-  pub leads_end : (q : Progress) (ds : List ℕ) (e : Entry) (skip : ℕ) → Comes (take nested levels) p (chars left) q ds → (tail < length (remaining source.fault (with_levels q (0 ∷ take nested levels)) ds) → steps.Entry e ≡ first_step (drop tail (remaining source.fault (with_levels q (0 ∷ take nested levels)) ds))) → e.«from» ≡ e.to → skip ≡ l.shown.skip + 1 → Leads l (steps.Entry e) (record l { shown = record l.shown { given = l.shown.given + 1; skip = skip } })
+  pub leads_end : (q : LineState) (ds : List ℕ) (e : Entry) (skip : ℕ) → Comes (take nested levels) p (chars left) q ds → (tail < length (remaining source.fault (with_levels q (0 ∷ take nested levels)) ds) → steps.Entry e ≡ first_step (drop tail (remaining source.fault (with_levels q (0 ∷ take nested levels)) ds))) → e.«from» ≡ e.to → skip ≡ l.shown.skip + 1 → Leads l (steps.Entry e) (record l { shown = record l.shown { given = l.shown.given + 1; skip = skip } })
   leads_end q ds e skip c is empty more a s =
       let first = end_rest q ds (steps.Entry e) c is a s in (
         first,
@@ -255,19 +255,19 @@ module _ (l : Listed) (p : Progress) (left levels : List ℕ) (nested tail : ℕ
             (after_empty l a l.shown.given e s some first (equal_ends e empty)),
       )
 
-  pub leads_stop : (q : Progress) (ds : List ℕ) (step : Step) → Comes (take nested levels) p (chars left) q ds → (tail < length (remaining source.fault (with_levels q (0 ∷ take nested levels)) ds) → step ≡ first_step (drop tail (remaining source.fault (with_levels q (0 ∷ take nested levels)) ds))) → entries_in step ≡ 0 → Leads l step l
+  pub leads_stop : (q : LineState) (ds : List ℕ) (step : Step) → Comes (take nested levels) p (chars left) q ds → (tail < length (remaining source.fault (with_levels q (0 ∷ take nested levels)) ds) → step ≡ first_step (drop tail (remaining source.fault (with_levels q (0 ∷ take nested levels)) ds))) → entries_in step ≡ 0 → Leads l step l
   leads_stop q ds step c is z a s =
       let zero_more : l.shown.given ≡ l.shown.given + entries_in step = omega arith in
       (end_rest q ds step c is a s, subst (λ (n : ℕ). StandsIn l a n) zero_more s)
 
-  pub stop_walk : (q : Progress) (ds : List ℕ) → Comes (take nested levels) p (chars left) q ds → Walks (with_levels q (0 ∷ take nested levels)) ds (length levels - nested) there (standing_by source l.shown).left
+  pub stop_walk : (q : LineState) (ds : List ℕ) → Comes (take nested levels) p (chars left) q ds → Walks (with_levels q (0 ∷ take nested levels)) ds (length levels - nested) there (standing_by source l.shown).left
   stop_walk q ds c = come_to q ds c
 
-  pub stop_in : (q : Progress) (ds : List ℕ) → Comes (take nested levels) p (chars left) q ds → IsIn source.text (with_levels q (0 ∷ take nested levels)) ds
+  pub stop_in : (q : LineState) (ds : List ℕ) → Comes (take nested levels) p (chars left) q ds → IsIn source.text (with_levels q (0 ∷ take nested levels)) ds
   stop_in q ds c = is_there q ds c
 
 -- Directly behind an entry with text.
-pub keeps_behind : (l : Listed) (q r : Progress) (left ls : List ℕ) (nested tail : ℕ) → IsUtf8 l.source.text → length l.source.text ≤ source_limit → (a : Source) × StandsIn l a l.shown.given → l.shown ≡ shown_at l.shown.given (with_levels q (0 ∷ ls)) → Stands r left → IsAscending 0 ls → nested ≡ length ls → tail ≡ 0 → IsIn (chars l.source.text) (with_levels q (0 ∷ ls)) (chars left) → ((ns : List ℕ) → with_levels r ns ≡ begun_anew (with_levels q ns)) → Keeps l r left ls nested tail
+pub keeps_behind : (l : Listed) (q r : LineState) (left ls : List ℕ) (nested tail : ℕ) → IsUtf8 l.source.text → length l.source.text ≤ source_limit → (a : Source) × StandsIn l a l.shown.given → l.shown ≡ shown_at l.shown.given (with_levels q (0 ∷ ls)) → Stands r left → IsAscending 0 ls → nested ≡ length ls → tail ≡ 0 → IsIn (chars l.source.text) (with_levels q (0 ∷ ls)) (chars left) → ((ns : List ℕ) → with_levels r ns ≡ begun_anew (with_levels q ns)) → Keeps l r left ls nested tail
 keeps_behind l q r left ls nested tail utf8 small stood is stands ascending n z i anew =
     let a : Source = in_characters l.source in
     let s : State = with_levels q (0 ∷ ls) in
@@ -315,18 +315,18 @@ came_same a c k n t ds m w =
     (subst (λ (es : List ℕ). Walks t ds m (resumed c (standing_by a c).line) es) (same_left a c k n) w)
 
 -- A lister goes on by a step: it stands behind it, and keeps what it has to.
-pub record Goes (old : Listed) (step : Step) (new : Listed) (r : Progress) (left ls : List ℕ) (nested tail : ℕ) : Type 0 where
+pub record Goes (old : Listed) (step : Step) (new : Listed) (r : LineState) (left ls : List ℕ) (nested tail : ℕ) : Type 0 where
   pub leads : Leads old step new
   pub keeps : Keeps new r left ls nested tail
 
 -- The state behind an entry with text has the room that is left.
-anew_stands : (q r : Progress) (ds : List ℕ) → ((n : ℕ) → HasRoom q n → HasRoom r n) → Stands q ds → Stands r ds
+anew_stands : (q r : LineState) (ds : List ℕ) → ((n : ℕ) → HasRoom q n → HasRoom r n) → Stands q ds → Stands r ds
 anew_stands q r ds room h = record { utf8 = h.utf8; room = room (length ds) h.room }
 
 pub ascending-take : (m n : ℕ) (ls : List ℕ) → IsAscending m ls → IsAscending m (take n ls)
 ascending-take m n ls h = ascending-front m (take n ls) (drop n ls) (subst (IsAscending m) (sym (take-append-drop n ls)) h)
 
-pub goes_first : (l : Listed) (p : Progress) (left levels : List ℕ) (nested tail : ℕ) (e : Entry) → Keeps l p left levels nested tail → l.shown.given ≡ 0 → mark_at kinds.Encoding 0 origin origin ≡ steps.Entry e → Goes l (steps.Entry e) (record l { shown = record l.shown { given = 1 } }) p left levels nested tail
+pub goes_first : (l : Listed) (p : LineState) (left levels : List ℕ) (nested tail : ℕ) (e : Entry) → Keeps l p left levels nested tail → l.shown.given ≡ 0 → mark_at kinds.Encoding 0 origin origin ≡ steps.Entry e → Goes l (steps.Entry e) (record l { shown = record l.shown { given = 1 } }) p left levels nested tail
 goes_first l p left levels nested tail e keeps z is =
     let new : Listed = record l { shown = record l.shown { given = 1 } } in
     let leads : Leads l (steps.Entry e) new = leads_encoding l e z is in
@@ -345,8 +345,8 @@ goes_first l p left levels nested tail e keeps z is =
       };
     }
 
-module _ (l : Listed) (p : Progress) (left levels : List ℕ) (nested tail : ℕ) (keeps : Keeps l p left levels nested tail) (skips : l.shown.skip ≡ (length levels - nested) + tail) (some : 0 < l.shown.given) where
-  pub goes_entry : (none : tail ≡ 0) (e : Entry) (q r : Progress) (ds ls : List ℕ) (point : Shown) → EntryAhead (take nested levels) p (chars left) e q (chars ds) → Stands q ds → ((ns : List ℕ) → with_levels r ns ≡ begun_anew (with_levels q ns)) → ((n : ℕ) → HasRoom q n → HasRoom r n) → ((k : ℕ) (ms : List ℕ) → shown_by k point ms 0 ≡ shown_at k (with_levels q (0 ∷ ms))) → ls ≡ take nested levels → Goes l (steps.Entry e) (record { source = l.source; shown = shown_by (l.shown.given + 1) point ls ((length ls - nested) + tail) }) r ds ls nested tail
+module _ (l : Listed) (p : LineState) (left levels : List ℕ) (nested tail : ℕ) (keeps : Keeps l p left levels nested tail) (skips : l.shown.skip ≡ (length levels - nested) + tail) (some : 0 < l.shown.given) where
+  pub goes_entry : (none : tail ≡ 0) (e : Entry) (q r : LineState) (ds ls : List ℕ) (point : Shown) → EntryAhead (take nested levels) p (chars left) e q (chars ds) → Stands q ds → ((ns : List ℕ) → with_levels r ns ≡ begun_anew (with_levels q ns)) → ((n : ℕ) → HasRoom q n → HasRoom r n) → ((k : ℕ) (ms : List ℕ) → shown_by k point ms 0 ≡ shown_at k (with_levels q (0 ∷ ms))) → ls ≡ take nested levels → Goes l (steps.Entry e) (record { source = l.source; shown = shown_by (l.shown.given + 1) point ls ((length ls - nested) + tail) }) r ds ls nested tail
   goes_entry none e q r ds ls point h stands anew room at is =
       let counted : length ls ≡ nested = ap length is ∙ length-take-le nested levels keeps.within in
       let no_skip : (length ls - nested) + tail ≡ 0 = omega arith in
@@ -360,7 +360,7 @@ module _ (l : Listed) (p : Progress) (left levels : List ℕ) (nested tail : ℕ
             (subst (λ (ns : List ℕ). IsIn (chars l.source.text) (with_levels q (0 ∷ ns)) (chars ds)) (sym is) (entry_in l p left levels nested tail keeps skips some none e q (chars ds) h)) anew;
       }
 
-  pub goes_indent : (none : tail ≡ 0) (e : Entry) (q m r : Progress) (ds ls : List ℕ) (count : ℕ) (point : Shown) → Comes (take nested levels) p (chars left) q (chars ds) → IndentAhead (take nested levels) q (chars ds) → step_of kinds.Indent None q.line q.now ≡ steps.Entry e → Stands q ds → ((ns : List ℕ) → with_levels m (pushed q.width ns) ≡ measured (with_levels q ns)) → ((n : ℕ) → HasRoom q n → HasRoom m n) → ((ns : List ℕ) → with_levels r ns ≡ begun_anew (with_levels m ns)) → ((n : ℕ) → HasRoom m n → HasRoom r n) → ((k : ℕ) (ms : List ℕ) → shown_by k point ms 0 ≡ shown_at k (with_levels m (0 ∷ ms))) → ls ≡ take nested levels ++ q.width ∷ [] → count ≡ length ls → Goes l (steps.Entry e) (record { source = l.source; shown = shown_by (l.shown.given + 1) point ls ((length ls - count) + tail) }) r ds ls count tail
+  pub goes_indent : (none : tail ≡ 0) (e : Entry) (q m r : LineState) (ds ls : List ℕ) (count : ℕ) (point : Shown) → Comes (take nested levels) p (chars left) q (chars ds) → IndentAhead (take nested levels) q (chars ds) → step_of kinds.Indent None q.line q.now ≡ steps.Entry e → Stands q ds → ((ns : List ℕ) → with_levels m (pushed q.width ns) ≡ measured (with_levels q ns)) → ((n : ℕ) → HasRoom q n → HasRoom m n) → ((ns : List ℕ) → with_levels r ns ≡ begun_anew (with_levels m ns)) → ((n : ℕ) → HasRoom m n → HasRoom r n) → ((k : ℕ) (ms : List ℕ) → shown_by k point ms 0 ≡ shown_at k (with_levels m (0 ∷ ms))) → ls ≡ take nested levels ++ q.width ∷ [] → count ≡ length ls → Goes l (steps.Entry e) (record { source = l.source; shown = shown_by (l.shown.given + 1) point ls ((length ls - count) + tail) }) r ds ls count tail
   goes_indent none e q m r ds ls count point c h step stands measures room anew room_anew at is counted =
       let no_skip : (length ls - count) + tail ≡ 0 = omega arith in
       let new : Listed = record { source = l.source; shown = shown_by (l.shown.given + 1) point ls ((length ls - count) + tail) } in
@@ -373,7 +373,7 @@ module _ (l : Listed) (p : Progress) (left levels : List ℕ) (nested tail : ℕ
             (indent_in l p left levels nested tail keeps skips some none q m (chars ds) ls c h measures is) anew;
       }
 
-  pub goes_dedent : (none : tail ≡ 0) (e : Entry) (q : Progress) (ds : List ℕ) (skip : ℕ) → Comes (take nested levels) p (chars left) q (chars ds) → DedentAhead (take nested levels) q (chars ds) → mark_at kinds.Dedent q.now.offset q.now.place q.now.place ≡ steps.Entry e → Stands q ds → skip ≡ (length levels - (nested - 1)) + tail → Goes l (steps.Entry e) (record l { shown = record l.shown { given = l.shown.given + 1; skip = skip } }) q ds levels (nested - 1) tail
+  pub goes_dedent : (none : tail ≡ 0) (e : Entry) (q : LineState) (ds : List ℕ) (skip : ℕ) → Comes (take nested levels) p (chars left) q (chars ds) → DedentAhead (take nested levels) q (chars ds) → mark_at kinds.Dedent q.now.offset q.now.place q.now.place ≡ steps.Entry e → Stands q ds → skip ≡ (length levels - (nested - 1)) + tail → Goes l (steps.Entry e) (record l { shown = record l.shown { given = l.shown.given + 1; skip = skip } }) q ds levels (nested - 1) tail
   goes_dedent none e q ds skip c h step stands is =
       let within = keeps.within in
       let some_nested : 0 < nested = omega (arith, h.some, length-take-le nested levels keeps.within) in
@@ -397,7 +397,7 @@ module _ (l : Listed) (p : Progress) (left levels : List ℕ) (nested tail : ℕ
         };
       }
 
-  pub goes_end : (e : Entry) (q : Progress) (ds : List ℕ) (skip : ℕ) → Comes (take nested levels) p (chars left) q (chars ds) → StopAhead q (chars ds) → (tail < length (remaining (in_characters l.source).fault (with_levels q (0 ∷ take nested levels)) (chars ds)) → steps.Entry e ≡ first_step (drop tail (remaining (in_characters l.source).fault (with_levels q (0 ∷ take nested levels)) (chars ds)))) → e.«from» ≡ e.to → Stands q ds → skip ≡ (length levels - nested) + (tail + 1) → Goes l (steps.Entry e) (record l { shown = record l.shown { given = l.shown.given + 1; skip = skip } }) q ds levels nested (tail + 1)
+  pub goes_end : (e : Entry) (q : LineState) (ds : List ℕ) (skip : ℕ) → Comes (take nested levels) p (chars left) q (chars ds) → StopAhead q (chars ds) → (tail < length (remaining (in_characters l.source).fault (with_levels q (0 ∷ take nested levels)) (chars ds)) → steps.Entry e ≡ first_step (drop tail (remaining (in_characters l.source).fault (with_levels q (0 ∷ take nested levels)) (chars ds)))) → e.«from» ≡ e.to → Stands q ds → skip ≡ (length levels - nested) + (tail + 1) → Goes l (steps.Entry e) (record l { shown = record l.shown { given = l.shown.given + 1; skip = skip } }) q ds levels nested (tail + 1)
   goes_end e q ds skip c h is empty stands skip_is =
       let more : skip ≡ l.shown.skip + 1 = omega arith in
       let new : Listed = record l { shown = record l.shown { given = l.shown.given + 1; skip = skip } } in
@@ -418,13 +418,13 @@ module _ (l : Listed) (p : Progress) (left levels : List ℕ) (nested tail : ℕ
       }
 
 -- The counts of a lister fit.
-pub given_fits : (l : Listed) (p : Progress) (left levels : List ℕ) (nested tail : ℕ) → Keeps l p left levels nested tail → l.shown.given ≤ 3 * source_limit + 4
+pub given_fits : (l : Listed) (p : LineState) (left levels : List ℕ) (nested tail : ℕ) → Keeps l p left levels nested tail → l.shown.given ≤ 3 * source_limit + 4
 given_fits l p left levels nested tail keeps =
     let g = given_within l keeps.stood.0 l.shown.given keeps.utf8 keeps.stood.1 in
     let s = keeps.small in
     omega arith
 
-pub skip_fits : (l : Listed) (p : Progress) (left levels : List ℕ) (nested tail : ℕ) → Keeps l p left levels nested tail → l.shown.skip ≤ length l.shown.levels + 1
+pub skip_fits : (l : Listed) (p : LineState) (left levels : List ℕ) (nested tail : ℕ) → Keeps l p left levels nested tail → l.shown.skip ≤ length l.shown.levels + 1
 skip_fits l p left levels nested tail keeps = skip_within l keeps.stood.0 l.shown.given keeps.stood.1
 
 -- A lister that begins.
@@ -443,12 +443,12 @@ no_line : last_line [] ≡ []
 unfolding last_line
 no_line = refl
 
-pub shown_first : (source : Parts) (p : Progress) (point : Shown) (ls : List ℕ) → ls ≡ [] → with_levels p (0 ∷ []) ≡ first_state → ((k : ℕ) (ms : List ℕ) → shown_by k point ms 0 ≡ shown_at k (with_levels p (0 ∷ ms))) → StandsIn (record { source = source; shown = shown_by 0 point ls ((length ls - 0) + 0) }) (in_characters source) 0
+pub shown_first : (source : Parts) (p : LineState) (point : Shown) (ls : List ℕ) → ls ≡ [] → with_levels p (0 ∷ []) ≡ first_state → ((k : ℕ) (ms : List ℕ) → shown_by k point ms 0 ≡ shown_at k (with_levels p (0 ∷ ms))) → StandsIn (record { source = source; shown = shown_by 0 point ls ((length ls - 0) + 0) }) (in_characters source) 0
 shown_first source p point ls e first at =
     let shown : shown_by 0 point ls ((length ls - 0) + 0) ≡ cursor (in_characters source) 0 = ap (λ ms. shown_by 0 point ms ((length ms - 0) + 0)) e ∙ at 0 [] ∙ ap (shown_at 0) first ∙ sym (cursor_start (in_characters source)) in
     subst (λ (c : CursorParts). StandsIn (record { source = source; shown = c }) (in_characters source) 0) (sym shown) (stands_first source)
 
-pub keeps_first : (source : Parts) (p : Progress) (point : Shown) (ls : List ℕ) → IsUtf8 source.text → length source.text ≤ source_limit → ls ≡ [] → with_levels p (0 ∷ []) ≡ first_state → ((k : ℕ) (ms : List ℕ) → shown_by k point ms 0 ≡ shown_at k (with_levels p (0 ∷ ms))) → Keeps (record { source = source; shown = shown_by 0 point ls ((length ls - 0) + 0) }) p source.text ls 0 0
+pub keeps_first : (source : Parts) (p : LineState) (point : Shown) (ls : List ℕ) → IsUtf8 source.text → length source.text ≤ source_limit → ls ≡ [] → with_levels p (0 ∷ []) ≡ first_state → ((k : ℕ) (ms : List ℕ) → shown_by k point ms 0 ≡ shown_at k (with_levels p (0 ∷ ms))) → Keeps (record { source = source; shown = shown_by 0 point ls ((length ls - 0) + 0) }) p source.text ls 0 0
 keeps_first source p point ls utf8 small e first at =
     let none : length ls ≡ 0 = ap length e in
     let no_skip : (length ls - 0) + 0 ≡ 0 = omega arith in
@@ -465,7 +465,7 @@ keeps_first source p point ls utf8 small e first at =
     (record { before = []; whole = refl; offset = offset; column = column ∙ ap length (sym no_line); front = ap (λ (s : State). s.front) first ∙ ap (front_after Nothing) (sym no_line) })
     (λ ns. ap (λ (s : State). record s { levels = ns }) first ∙ ap (λ (s : State). begun_anew (record s { levels = ns })) (sym first))
 
-pub row_from_one : (l : Listed) (p : Progress) (left levels : List ℕ) (nested tail : ℕ) → Keeps l p left levels nested tail → 1 ≤ l.shown.row
+pub row_from_one : (l : Listed) (p : LineState) (left levels : List ℕ) (nested tail : ℕ) → Keeps l p left levels nested tail → 1 ≤ l.shown.row
 row_from_one l p left levels nested tail keeps = (shown_fits l keeps.stood.0 l.shown.given keeps.utf8 keeps.stood.1).row
 
 -- Before the end an entry comes.

@@ -5,7 +5,7 @@ use Rattle.std.proofs.lemmas.Bool.Decides.{nat_tests}
 use Rattle.std.proofs.lemmas.List.{append-nil}
 use Rattle.std.proofs.lemmas.List.Elements.{filter-append}
 use Rattle.pylex.specs.Levels.{below, is_open, open_levels}
-use Rattle.pylex.specs.Progress.{IsAscending, is_above}
+use Rattle.pylex.specs.LineState.{IsAscending, is_above}
 use Rattle.pylexeme.proofs.Cases.{bool_cases, and_parts}
 use Rattle.pylex.proofs.Layouts.{above-push, ascending-push}
 use Rattle.pylex.proofs.Tops.{above_more}

@@ -12,13 +12,13 @@ use Rattle.pylex.specs.declared.entries.Entry.{Entry}
 use Rattle.pylex.specs.declared.entries.ListingFault.{ListingFault}
 use Rattle.pylex.specs.declared.entries.Step.{Step}
 use Rattle.pylex.specs.declared.entries.Step.TheVariants as steps
-use Rattle.pylex.specs.declared.state.Point.{Point}
+use Rattle.pylex.specs.declared.line_state.Point.{Point}
 use Rattle.pylexeme.specs.Operators.{is_closer}
 use Rattle.pylexeme.specs.Lexemes.{Lexeme, cut, left_by_cut}
 use Rattle.pylex.specs.Lines.{is_of_blanks, is_significant}
 use Rattle.pylex.specs.Listing.{Source, origin, up_to_end}
 use Rattle.pylex.specs.Steps.{entries_of}
-use Rattle.pylex.specs.Machine.{State, advance, past, after, ends_line, dedents_at, mark_at, step_of, layout_of, entry_by, gives, is_hash, last_line_end, last_place, tail_of, stop_of, run, remaining, first_state, first_point}
+use Rattle.pylex.specs.Machine.{State, place_past, past, after, ends_line, dedents_at, mark_at, step_of, layout_of, entry_by, gives, is_hash, last_line_end, last_place, tail_of, stop_of, run, remaining, first_state, first_point}
 use Rattle.pylex.specs.Laws.{RunsForward, EndsBefore, AreOrdered, IsOrdered}
 use Rattle.pylexeme.proofs.Cases.{bool_cases}
 use Rattle.pylex.proofs.Run.{listing_is}
@@ -66,7 +66,7 @@ later (steps.Entry e ∷ ss) p q r h n = (h.0, h.1, later ss (end_of e) q r h.2 
 later (steps.End ∷ ss) p q r h n = tt
 later (steps.Fault f ∷ ss) p q r h n = tt
 
-advance_row : (p : Place) (t : List ℕ) → p.row ≤ (advance p t).row
+advance_row : (p : Place) (t : List ℕ) → p.row ≤ (place_past p t).row
 advance_row p [] = omega arith
 advance_row p (c ∷ t) =
     let q : Place = cond (c == 10) (record { row = p.row + 1; column = 0 }) (record { row = p.row; column = p.column + 1 }) in

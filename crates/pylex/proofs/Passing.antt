@@ -14,7 +14,7 @@ use Rattle.pylexeme.specs.Lexemes.{Lexeme, lexeme_at, lexeme_len}
 use Rattle.pylex.specs.Lines.{closes, is_significant, depth}
 use Rattle.pylex.specs.Listing.{Source}
 use Rattle.pylex.specs.Machine.{State, after, layout_of, entry_by, gives, remaining, behind_steps}
-use Rattle.pylex.specs.Progress.{measured}
+use Rattle.pylex.specs.LineState.{measured}
 use Rattle.pylex.specs.Listers.{Passes, here, lexeme, layout}
 use Rattle.pylex.proofs.Law.{state_of, state_push, IsBalanced, balanced_push}
 use Rattle.pylex.proofs.Measured.{remaining_lexeme, after_measured}

@@ -1,13 +1,13 @@
--- A lister that stands in a source has a position with small counts.
+-- A lister that stands in a source has a machine with small counts.
 use Rattle.std.proofs.Common.{ℕ, List, arith}
 use Rattle.pysource.specs.Parts.{Parts}
-use Rattle.pylex.specs.declared.position.Position.{Position}
+use Rattle.pylex.specs.declared.machine.Machine.{Machine}
 use Rattle.pylex.specs.Listers.{Listed}
-use Rattle.pylex.specs.Positions.{shown_from, Holds, HasPlace}
+use Rattle.pylex.specs.MachineSteps.{shown_from, Holds, HasPlace}
 use Rattle.pylex.proofs.Moving.{given_fits, skip_fits, row_from_one}
 use Rattle.std.proofs.Common.{◌≤◌}
 
-pub has_place : (source : Parts) (p : Position) (left : List ℕ) → Holds source p left → HasPlace p
+pub has_place : (source : Parts) (p : Machine) (left : List ℕ) → Holds source p left → HasPlace p
 has_place source p left keeps =
     let l : Listed = record { source = source; shown = shown_from p } in
     let skip = skip_fits l p.now left p.levels.items p.nested p.tail keeps in
@@ -18,5 +18,5 @@ has_place source p left keeps =
       ascending = keeps.ascending;
     }
 
-pub has_row : (source : Parts) (p : Position) (left : List ℕ) → Holds source p left → 1 ≤ p.point.row
+pub has_row : (source : Parts) (p : Machine) (left : List ℕ) → Holds source p left → 1 ≤ p.point.row
 has_row source p left keeps = row_from_one (record { source = source; shown = shown_from p }) p.now left p.levels.items p.nested p.tail keeps

@@ -5,9 +5,9 @@ use Rattle.std.proofs.lemmas.Str.{chars-IsAscii}
 use Rattle.std.proofs.lemmas.Bool.Decides.{nat_tests}
 use Rattle.std.proofs.lemmas.Bool.{cases_lt}
 use Rattle.pysource.specs.declared.places.Place.{Place}
-use Rattle.pylex.specs.declared.state.Front.{Front}
-use Rattle.pylex.specs.declared.state.Front.TheVariants.{Nothing, Hash, Other}
-use Rattle.pylex.specs.Machine.{advance, front_after}
+use Rattle.pylex.specs.declared.line_state.LeadingChar.{LeadingChar}
+use Rattle.pylex.specs.declared.line_state.LeadingChar.TheVariants.{Nothing, Hash, Other}
+use Rattle.pylex.specs.Machine.{place_past, front_after}
 use Rattle.std.specs.Prelude.{slice_index}
 use Rattle.pylex.specs.Lines.{width_from}
 use Rattle.pylex.specs.Plain.{AreSpaces, IsPlain}
@@ -38,24 +38,24 @@ in_line (b ∷ bs) p = (no_feed b (p 0 (omega arith)).1, in_line bs (λ k h. p (
 pub plain_in_line : (bs : List ℕ) → IsPlain bs → AllInLine (chars bs)
 plain_in_line bs p = subst AllInLine (sym (plain_chars bs p)) (in_line bs p)
 
-pub advance_in_line : (p : Place) (cs : List ℕ) → AllInLine cs → advance p cs ≡ record { row = p.row; column = p.column + length cs }
+pub advance_in_line : (p : Place) (cs : List ℕ) → AllInLine cs → place_past p cs ≡ record { row = p.row; column = p.column + length cs }
 advance_in_line p [] a = let sum : p.column ≡ p.column + 0 = omega arith in ap (λ (n : ℕ). record { row = p.row; column = n }) sum
 advance_in_line p (c ∷ cs) a =
     let e = a.0 in
     let sum : p.column + 1 + length cs ≡ p.column + suc (length cs) = omega arith in
     rw e (advance_in_line (record { row = p.row; column = p.column + 1 }) cs a.1 ∙ ap (λ (n : ℕ). record { row = p.row; column = n }) sum)
 
-pub advance_plain : (p : Place) (bs : List ℕ) → IsPlain bs → advance p (chars bs) ≡ record { row = p.row; column = p.column + length bs }
+pub advance_plain : (p : Place) (bs : List ℕ) → IsPlain bs → place_past p (chars bs) ≡ record { row = p.row; column = p.column + length bs }
 advance_plain p bs h = advance_in_line p (chars bs) (plain_in_line bs h) ∙ ap (λ (cs : List ℕ). record { row = p.row; column = p.column + length cs }) (plain_chars bs h)
 
 -- what a line begins with stays so to its end
-pub begun : (f : Front) (cs : List ℕ) → (f ≡ Nothing → ⊥) → AllInLine cs → front_after f cs ≡ f
+pub begun : (f : LeadingChar) (cs : List ℕ) → (f ≡ Nothing → ⊥) → AllInLine cs → front_after f cs ≡ f
 begun f [] n a = refl
 begun Nothing (c ∷ cs) n a = absurd (n refl)
 begun Hash (c ∷ cs) n a = let e = a.0 in rw e (begun Hash cs n a.1)
 begun Other (c ∷ cs) n a = let e = a.0 in rw e (begun Other cs n a.1)
 
-pub begun_plain : (f : Front) (bs : List ℕ) → (f ≡ Nothing → ⊥) → IsPlain bs → front_after f (chars bs) ≡ f
+pub begun_plain : (f : LeadingChar) (bs : List ℕ) → (f ≡ Nothing → ⊥) → IsPlain bs → front_after f (chars bs) ≡ f
 begun_plain f bs n p = begun f (chars bs) n (plain_in_line bs p)
 
 -- one character off the front

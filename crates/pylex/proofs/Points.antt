@@ -12,7 +12,7 @@ use Rattle.pylex.specs.declared.entries.Entry.{Entry}
 use Rattle.pylex.specs.declared.entries.ListingFault.{ListingFault}
 use Rattle.pylex.specs.declared.entries.Step.{Step}
 use Rattle.pylex.specs.declared.entries.Step.TheVariants as steps
-use Rattle.pylex.specs.declared.state.Point.{Point}
+use Rattle.pylex.specs.declared.line_state.Point.{Point}
 use Rattle.pylexeme.specs.Operators.{is_closer}
 use Rattle.pylexeme.specs.Cuts.{begins_significant}
 use Rattle.pylexeme.specs.Lexemes.{Lexeme, lexeme_at, cut, left_by_cut}
@@ -22,7 +22,7 @@ use Rattle.pylex.specs.Listing.{Source, listing, last_line, up_to_end}
 use Rattle.pylex.specs.Steps.{entries_of}
 use Rattle.pylex.specs.Cursors.{given_last_first, has_no_text, is_encoding, is_indent, with_text, point, ends_in_indent, cursor_at}
 use Rattle.pylex.specs.Machine.{State, past, behind, after, ends_line, is_of_join, dedents_at, mark_at, line_end_kind_of, layout_of, entry_by, gives, is_hash, last_line_end, last_place, tail_of, stop_of, run, remaining, first_state}
-use Rattle.pylex.specs.Progress.{measured}
+use Rattle.pylex.specs.LineState.{measured}
 use Rattle.pylex.specs.Standing.{resumed}
 use Rattle.pylexeme.proofs.Cases.{bool_cases, and_parts}
 use Rattle.pylex.proofs.Law.{state_of, state_push, point_after, IsBalanced, balanced_push, bytes_in-append}

@@ -12,10 +12,10 @@ use Rattle.pylex.specs.declared.entries.ListingFault.{ListingFault}
 use Rattle.pylex.specs.declared.entries.Step.TheVariants as steps
 use Rattle.pylex.specs.declared.kinds.Kind.{Kind}
 use Rattle.pylex.specs.declared.kinds.Kind.TheVariants as kinds
-use Rattle.pylex.specs.declared.state.Given.{Given}
-use Rattle.pylex.specs.declared.state.Given.TheVariants as gives
-use Rattle.pylex.specs.declared.state.Point.{Point}
-use Rattle.pylex.specs.declared.state.Progress.{Progress}
+use Rattle.pylex.specs.declared.line_state.Emitted.{Emitted}
+use Rattle.pylex.specs.declared.line_state.Emitted.TheVariants as gives
+use Rattle.pylex.specs.declared.line_state.Point.{Point}
+use Rattle.pylex.specs.declared.line_state.LineState.{LineState}
 use Rattle.pylexeme.specs.Chars.{is_blank_char}
 use Rattle.pylexeme.specs.Chunks.{EndsLine}
 use Rattle.pylexeme.specs.Operators.{is_closer}
@@ -23,10 +23,9 @@ use Rattle.pylexeme.specs.Lexemes.{Lexeme, lexeme_at, lexeme_len, is_blanks_clas
 use Rattle.pylex.specs.Lines.{is_of_blanks}
 use Rattle.pylexeme.specs.Chars.{bytes_in}
 use Rattle.pylex.specs.Listing.{last_line, further}
-use Rattle.pylex.specs.Machine.{State, advance, past, after, entry_by, ends_line, first_state, is_hash, last_line_end, mark_at, step_of}
-use Rattle.pylex.specs.Progress.{with_levels, measured, begun_anew, Walks, stays, silent, level, dedent, Comes, EntryAhead, given, GivesAt}
+use Rattle.pylex.specs.Machine.{State, place_past, past, after, entry_by, ends_line, first_state, is_hash, last_line_end, mark_at, step_of}
+use Rattle.pylex.specs.LineState.{with_levels, measured, begun_anew, Walks, stays, silent, level, dedent, Comes, EntryAhead, given, GivesAt, IsMeasuring}
 use Rattle.pylex.specs.Listers.{IsIn}
-use Rattle.pylex.specs.Ranges.{IsMeasuring}
 use Rattle.pylexeme.proofs.Cases.{bool_cases, and_parts}
 use Rattle.pylex.proofs.Law.{place_after-append, bytes_in-append}
 use Rattle.pylex.proofs.Resumed.{column_is}
@@ -72,7 +71,7 @@ own_spans s x e q = by_class x.«class» x.text q
     by_class LineEnd t q = one t _ (record { begins = refl; ends = refl }) q
     by_class Join t q = absurd cc
 
-pub entry_range : (levels : List ℕ) (p : Progress) (cs : List ℕ) (e : Entry) (q : Progress) (ds : List ℕ) → EntryAhead levels p cs e q ds → (p.now.offset ≤ e.«from») × (e.to ≡ q.now.offset)
+pub entry_range : (levels : List ℕ) (p : LineState) (cs : List ℕ) (e : Entry) (q : LineState) (ds : List ℕ) → EntryAhead levels p cs e q ds → (p.now.offset ≤ e.«from») × (e.to ≡ q.now.offset)
 entry_range levels p cs e q ds h =
     let s : State = with_levels h.there (0 ∷ levels) in
     let own = own_spans s h.lexeme e h.own in
@@ -91,7 +90,7 @@ blank_small c h = (grind (arith, nat_tests), grind (arith, nat_tests))
 one_byte : (c : ℕ) → c < 128 → bytes_in (c ∷ []) ≡ 1
 one_byte c h = ap (λ u. length (u ++ [])) (encode_ascii c h)
 
-blanks_across : (p : Place) (t : List ℕ) → list_all is_blank_char t ≡ true → p.column + bytes_in t ≡ (advance p t).column
+blanks_across : (p : Place) (t : List ℕ) → list_all is_blank_char t ≡ true → p.column + bytes_in t ≡ (place_past p t).column
 blanks_across p [] h = omega arith
 blanks_across p (c ∷ t) h =
     let both = and_parts (is_blank_char c) (list_all is_blank_char t) h in
@@ -100,7 +99,7 @@ blanks_across p (c ∷ t) h =
     let one = one_byte c small.0 in
     let whole = bytes_in-append (c ∷ []) t in
     let more = blanks_across (record { row = p.row; column = p.column + 1 }) t both.1 in
-    rw (same, advance) (omega arith)
+    rw (same, place_past) (omega arith)
 
 blanks_class : (k : Class) → is_blanks_class k ≡ true → k ≡ Blanks
 blanks_class Blanks e = refl
@@ -114,7 +113,7 @@ measures_after : (s : State) (cs : List ℕ) (x : Lexeme) → lexeme_at cs ≡ S
 unfolding after
 measures_after s cs x e h = by_end (ends_line s x)
   where
-    by_end : (b : Bool) → (b || (is_of_blanks x && s.margin)) ≡ true → s.now.offset + bytes_in x.text ≤ (cond {A = Point} b (past s.now x.text) s.line).offset + (advance s.now.place x.text).column
+    by_end : (b : Bool) → (b || (is_of_blanks x && s.margin)) ≡ true → s.now.offset + bytes_in x.text ≤ (cond {A = Point} b (past s.now x.text) s.line).offset + (place_past s.now.place x.text).column
     by_end true m = omega arith
     by_end false m =
         let both = and_parts (is_of_blanks x) s.margin m in
@@ -131,25 +130,25 @@ measuring_walks t ds n s cs (level m r bs a b l c w) h = measuring_walks t ds n 
     never f = cc
 measuring_walks t ds n s cs (dedent m r bs ls v a b e l i w) h = measuring_walks t ds m (record s { levels = ls }) cs w h
 
-pub measuring_comes : (levels : List ℕ) (p : Progress) (cs : List ℕ) (q : Progress) (ds : List ℕ) → Comes levels p cs q ds → IsMeasuring p → IsMeasuring q
+pub measuring_comes : (levels : List ℕ) (p : LineState) (cs : List ℕ) (q : LineState) (ds : List ℕ) → Comes levels p cs q ds → IsMeasuring p → IsMeasuring q
 measuring_comes levels p cs q ds c h = measuring_walks (with_levels q (0 ∷ levels)) ds 0 (with_levels p (0 ∷ levels)) cs c.walks h
 
 -- behind an entry and at a text's front the line begins here
-pub measuring_anew : (q r : Progress) → ((ns : List ℕ) → with_levels r ns ≡ begun_anew (with_levels q ns)) → IsMeasuring r
+pub measuring_anew : (q r : LineState) → ((ns : List ℕ) → with_levels r ns ≡ begun_anew (with_levels q ns)) → IsMeasuring r
 measuring_anew q r f m =
     let now : r.now.offset ≡ q.now.offset = ap (λ (s : State). s.now.offset) (f []) in
     let line : r.line.offset ≡ q.now.offset = ap (λ (s : State). s.line.offset) (f []) in
     omega arith
 
-pub measuring_start : (p : Progress) → with_levels p (0 ∷ []) ≡ first_state → IsMeasuring p
+pub measuring_start : (p : LineState) → with_levels p (0 ∷ []) ≡ first_state → IsMeasuring p
 measuring_start p f m = let now : p.now.offset ≡ 0 = ap (λ (s : State). s.now.offset) f in omega arith
 
 -- The line of a state begins behind whole lines before it.
-advance_column : (p : Place) (t : List ℕ) → (advance p t).column ≤ p.column + length t
+advance_column : (p : Place) (t : List ℕ) → (place_past p t).column ≤ p.column + length t
 advance_column p [] = omega arith
 advance_column p (c ∷ t) = ⊎_elim
-    (λ (e : (c == 10) ≡ true). let h = advance_column (record { row = p.row + 1; column = 0 }) t in rw (e, advance) (omega arith))
-    (λ (e : (c == 10) ≡ false). let h = advance_column (record { row = p.row; column = p.column + 1 }) t in rw (e, advance) (omega arith))
+    (λ (e : (c == 10) ≡ true). let h = advance_column (record { row = p.row + 1; column = 0 }) t in rw (e, place_past) (omega arith))
+    (λ (e : (c == 10) ≡ false). let h = advance_column (record { row = p.row; column = p.column + 1 }) t in rw (e, place_past) (omega arith))
     (bool_cases (c == 10))
 
 line_begins : (before : List ℕ) → (before ≡ []) ⊎ EndsLine before → (place_after before).column ≡ 0
@@ -175,7 +174,7 @@ pub column_within : (text before rest : List ℕ) (s : State) (ds : List ℕ) �
 column_within text before rest s ds w l i h =
     let g = goes_on_from before i.before rest ds (sym w ∙ i.whole) h in
     let bytes : s.now.offset ≡ bytes_in before + bytes_in g.0 = i.offset ∙ ap bytes_in g.1 ∙ bytes_in-append before g.0 in
-    let column : s.now.place.column ≡ (advance (place_after before) g.0).column = i.column ∙ ap (λ t. length (last_line t)) g.1 ∙ sym (column_is (before ++ g.0)) ∙ ap (λ (p : Place). p.column) (place_after-append before g.0) in
+    let column : s.now.place.column ≡ (place_past (place_after before) g.0).column = i.column ∙ ap (λ t. length (last_line t)) g.1 ∙ sym (column_is (before ++ g.0)) ∙ ap (λ (p : Place). p.column) (place_after-append before g.0) in
     let begins = line_begins before l in
     let within = advance_column (place_after before) g.0 in
     let some = length-le-encodes g.0 in
@@ -191,7 +190,7 @@ step_range k p q e h = by (record { kind = k; exact = None; start = p.place; «e
 pub mark_range : (k : Kind) (o : ℕ) (p q : Place) (e : Entry) → mark_at k o p q ≡ steps.Entry e → (e.«from» ≡ o) × (e.to ≡ o)
 mark_range k o p q e h = step_range k (record { place = p; offset = o }) (record { place = q; offset = o }) e h
 
-pub indent_range : (text before rest : List ℕ) (q : Progress) (levels ds : List ℕ) (e : Entry) → text ≡ before ++ rest → (before ≡ []) ⊎ EndsLine before → IsIn text (with_levels q levels) ds → bytes_in ds ≤ bytes_in rest → q.margin ≡ true → IsMeasuring q → step_of kinds.Indent None q.line q.now ≡ steps.Entry e → (bytes_in before ≤ e.«from») × (e.to ≡ q.now.offset)
+pub indent_range : (text before rest : List ℕ) (q : LineState) (levels ds : List ℕ) (e : Entry) → text ≡ before ++ rest → (before ≡ []) ⊎ EndsLine before → IsIn text (with_levels q levels) ds → bytes_in ds ≤ bytes_in rest → q.margin ≡ true → IsMeasuring q → step_of kinds.Indent None q.line q.now ≡ steps.Entry e → (bytes_in before ≤ e.«from») × (e.to ≡ q.now.offset)
 indent_range text before rest q levels ds e w l i h m measuring step =
     let range = step_range kinds.Indent q.line q.now e step in
     let column = column_within text before rest (with_levels q levels) ds w l i h in
@@ -212,7 +211,7 @@ line_end_at s e is = by s.logical (is_hash s.front) s.margin is
     by false h true q = absurd cc
     by false h false q = same_entry _ e (refl, refl) q
 
-pub given_at : (s : State) (g : Given) → last_line_end s ≡ given g → GivesAt s.now.offset g
+pub given_at : (s : State) (g : Emitted) → last_line_end s ≡ given g → GivesAt s.now.offset g
 given_at s gives.Nothing is = tt
 given_at s (gives.Entry e) is = line_end_at s e is
 given_at s (gives.Fault f) is = tt

@@ -7,13 +7,13 @@ use Rattle.std.proofs.Math.Seq.{drop-append_seam, take-append_seam}
 use Rattle.pysource.specs.Parts.{Parts}
 use Rattle.pysource.specs.Streams.{Coming, comes, onto, ends_line}
 use Rattle.pysource.proofs.GoodLemmas.{comes_utf8}
-use Rattle.pylex.specs.declared.chunk.Chunk.{Chunk}
-use Rattle.pylex.specs.declared.position.Position.{Position}
-use Rattle.pylex.specs.declared.state.Progress.{Progress}
+use Rattle.pylex.specs.declared.held_lines.HeldLines.{HeldLines}
+use Rattle.pylex.specs.declared.machine.Machine.{Machine}
+use Rattle.pylex.specs.declared.line_state.LineState.{LineState}
 use Rattle.pylex.specs.Chunked.{Grows, Stays}
 use Rattle.pylex.specs.Listers.{Listed, Keeps}
-use Rattle.pylex.specs.Positions.{shown_from}
-use Rattle.pylex.specs.Progress.{Comes, HasRoom, StopAhead}
+use Rattle.pylex.specs.MachineSteps.{shown_from}
+use Rattle.pylex.specs.LineState.{Comes, HasRoom, StopAhead}
 use Rattle.pylex.specs.Streamed.{StreamsIn, streamed}
 use Rattle.pylex.specs.Held.{IsJoined, LexedTo}
 use Rattle.pylexeme.specs.Lexemes.{left_by_cut}
@@ -41,7 +41,7 @@ lined_left held at ahead u (inr (inl e)) = inl (lined_or_last held (take at held
 lined_left held at ahead u (inr (inr e)) = inr e
 
 -- The way to a place in the lines held is one in the source.
-pub comes_whole : (levels : List ℕ) (p : Progress) (left : List ℕ) (q : Progress) (ds coming : List ℕ) → IsUtf8 left → IsUtf8 ds → Lined left coming → Comes levels p (chars left) q (chars ds) → Comes levels p (chars (left ++ coming)) q (chars (ds ++ coming))
+pub comes_whole : (levels : List ℕ) (p : LineState) (left : List ℕ) (q : LineState) (ds coming : List ℕ) → IsUtf8 left → IsUtf8 ds → Lined left coming → Comes levels p (chars left) q (chars ds) → Comes levels p (chars (left ++ coming)) q (chars (ds ++ coming))
 comes_whole levels p left q ds coming u v (inl lined) c = rw (chars-append left coming u, chars-append ds coming v) (comes_carried levels p (chars left) q (chars ds) (chars coming) lined c)
 comes_whole levels p left q ds coming u v (inr none) c = rw (none, append-nil left, append-nil ds) c
 
@@ -56,7 +56,7 @@ only_line held gone new line e is = sym (drop-append_seam held new) ∙ ap (drop
 utf8_front : (front back : List ℕ) → IsUtf8 (front ++ back) → IsUtf8 back → IsUtf8 front
 utf8_front front back u v = subst IsUtf8 (take-append_seam front back) (IsUtf8-take (front ++ back) (length front) u (IsCharBoundary-at_seam (front ++ back) front back refl v))
 
-module _ (pos : Position) (q : Progress) (old new : Chunk) (from : ℕ) (taken line : List ℕ) (s : Parts) (k : ℕ) (more : List ℕ) (broken : Bool) (x : StreamsIn (streamed pos old None) s k (taken ++ more) broken) where
+module _ (pos : Machine) (q : LineState) (old new : HeldLines) (from : ℕ) (taken line : List ℕ) (s : Parts) (k : ℕ) (more : List ℕ) (broken : Bool) (x : StreamsIn (streamed pos old None) s k (taken ++ more) broken) where
   abbrev held : List ℕ
   held = string_bytes old.text
 

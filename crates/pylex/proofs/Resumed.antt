@@ -9,11 +9,11 @@ use Rattle.pylex.specs.Lines.{text_before, line_so_far, is_at_margin, is_logical
 use Rattle.pylex.specs.Listing.{last_line, ends_in_join}
 use Rattle.pylex.specs.Cursors.{cursor_at}
 use Rattle.pylex.specs.Machine.{front_after}
-use Rattle.pylex.specs.declared.state.Front.TheVariants.{Nothing}
+use Rattle.pylex.specs.declared.line_state.LeadingChar.TheVariants.{Nothing}
 use Rattle.pylex.specs.Standing.{resumed}
 use Rattle.pylexeme.proofs.Cases.{bool_cases}
 use Rattle.pylex.proofs.Law.{state_of, point_after}
-use Rattle.pylex.proofs.Front.{last_front, front_in}
+use Rattle.pylex.proofs.LeadingChar.{last_front, front_in}
 use Rattle.pylex.proofs.Resume.{begun_at}
 
 abbrev goes_on : ℕ → Bool

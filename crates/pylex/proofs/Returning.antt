@@ -8,8 +8,8 @@ use Rattle.pysource.specs.Limits.{source_limit}
 use Rattle.pysource.specs.Parts.{Parts}
 use Rattle.pylex.specs.declared.cursors.Shown.{Shown}
 use Rattle.pylex.specs.declared.entries.Entry.{Entry}
-use Rattle.pylex.specs.declared.state.Front.TheVariants.{Nothing}
-use Rattle.pylex.specs.declared.state.Progress.{Progress}
+use Rattle.pylex.specs.declared.line_state.LeadingChar.TheVariants.{Nothing}
+use Rattle.pylex.specs.declared.line_state.LineState.{LineState}
 use Rattle.std.specs.Prelude.{slice_get}
 use Rattle.pylex.specs.declared.entries.Step.{Step}
 use Rattle.pylex.specs.declared.entries.Step.TheVariants as steps
@@ -19,7 +19,7 @@ use Rattle.pylex.specs.Listing.{Source, in_characters, last_line, listing, rest}
 use Rattle.pylex.specs.Steps.{entries_of, first_step, entries_in}
 use Rattle.pylex.specs.Cursors.{CursorParts, has_no_text, lexemes_to, cursor_at, cursor}
 use Rattle.pylex.specs.Machine.{State, front_after}
-use Rattle.pylex.specs.Progress.{with_levels, IsAscending, Walks, stays}
+use Rattle.pylex.specs.LineState.{with_levels, IsAscending, Walks, stays}
 use Rattle.pylex.specs.Standing.{resumed, standing_by, Agrees, IsCursorOf}
 use Rattle.pylex.specs.Listers.{Listed, StandsIn, LeadsInto, Keeps, IsIn, shown_by}
 use Rattle.pylexeme.proofs.Cases.{bool_cases}
@@ -143,7 +143,7 @@ line_within : (t : List ℕ) → length (last_line t) ≤ length t
 line_within t = let e = ap length (last_split t) in let s = length-append (lines_before t) (last_line t) in omega arith
 
 -- A lister at the point of a cursor keeps what it has to.
-pub keeps_point : (l : Listed) (p : Progress) (front left ls line : List ℕ) (nested : ℕ) → IsUtf8 l.source.text → length l.source.text ≤ source_limit → (a : Source) × StandsIn l a l.shown.given → l.shown.levels ≡ 0 ∷ ls → nested ≡ length ls → front ≡ take l.shown.offset l.source.text → left ≡ drop l.shown.offset l.source.text → line ≡ last_line (chars front) → with_levels p (0 ∷ ls) ≡ resumed l.shown line → Keeps l p left ls nested 0
+pub keeps_point : (l : Listed) (p : LineState) (front left ls line : List ℕ) (nested : ℕ) → IsUtf8 l.source.text → length l.source.text ≤ source_limit → (a : Source) × StandsIn l a l.shown.given → l.shown.levels ≡ 0 ∷ ls → nested ≡ length ls → front ≡ take l.shown.offset l.source.text → left ≡ drop l.shown.offset l.source.text → line ≡ last_line (chars front) → with_levels p (0 ∷ ls) ≡ resumed l.shown line → Keeps l p left ls nested 0
 keeps_point l p front left ls line nested utf8 small stood levels counted front_is left_is line_is state =
     let a : Source = in_characters l.source in
     let c = l.shown in
@@ -214,7 +214,7 @@ skip_led c p h = skip_in_given (record { source = p; shown = c }) h.0 (led_stand
 pub point_led : (c : CursorParts) (p : Parts) (a : Source) → StandsIn (record { source = p; shown = c }) a c.given → StandsIn (record { source = p; shown = record c { given = c.given - c.skip; skip = 0 } }) a (c.given - c.skip)
 point_led c p a h = stands_back (record { source = p; shown = c }) a h
 
-pub keeps_led : (c : CursorParts) (p : Parts) (point : Shown) (given skip nested : ℕ) (ls : List ℕ) (now : Progress) (text front left line : List ℕ) → (h : LeadsInto c p) → Tells point c → c.levels ≡ 0 ∷ ls → given ≡ c.given → skip ≡ c.skip → nested ≡ length ls → text ≡ p.text → IsUtf8 text → length text ≤ source_limit → front ≡ take point.offset text → left ≡ drop point.offset text → line ≡ last_line (chars front) → ((k n : ℕ) (ms : List ℕ) → with_levels now (0 ∷ ms) ≡ resumed (shown_by k point ms n) line) → Keeps (record { source = p; shown = shown_by (given - skip) point ls ((length ls - nested) + 0) }) now left ls nested 0
+pub keeps_led : (c : CursorParts) (p : Parts) (point : Shown) (given skip nested : ℕ) (ls : List ℕ) (now : LineState) (text front left line : List ℕ) → (h : LeadsInto c p) → Tells point c → c.levels ≡ 0 ∷ ls → given ≡ c.given → skip ≡ c.skip → nested ≡ length ls → text ≡ p.text → IsUtf8 text → length text ≤ source_limit → front ≡ take point.offset text → left ≡ drop point.offset text → line ≡ last_line (chars front) → ((k n : ℕ) (ms : List ℕ) → with_levels now (0 ∷ ms) ≡ resumed (shown_by k point ms n) line) → Keeps (record { source = p; shown = shown_by (given - skip) point ls ((length ls - nested) + 0) }) now left ls nested 0
 keeps_led c p point given skip nested ls now text front left line h tells levels g s n t utf8 small front_is left_is line_is state =
     let shown : CursorParts = shown_by (given - skip) point ls ((length ls - nested) + 0) in
     let parts : shown ≡ record c { given = c.given - c.skip; skip = 0 } = point_parts c point given skip nested ls tells levels g s n in

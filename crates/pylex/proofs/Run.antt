@@ -17,7 +17,7 @@ use Rattle.pylex.specs.declared.kinds.Kind.TheVariants as kinds
 use Rattle.pylex.specs.Machine.{State, layout_of, entry_by, gives, last_line_end, tail_of, stop_of, run, remaining, after, behind_steps, first_state, still}
 use Rattle.pylexeme.proofs.Cases.{bool_cases}
 use Rattle.pylex.proofs.Law.{state_of, state_push, IsBalanced, balanced_push, place_after-append, bytes_in-append}
-use Rattle.pylex.proofs.Front.{hash_is}
+use Rattle.pylex.proofs.LeadingChar.{hash_is}
 
 -- The text of a line so far is behind the text of the lines before it.
 pub line_split : (before : List Lexeme) → text_before (before_line before) ++ text_before (line_so_far before) ≡ text_before before

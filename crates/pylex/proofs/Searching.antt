@@ -17,14 +17,14 @@ use Rattle.pysource.specs.declared.line_reader.Reach.{Reach}
 use Rattle.pysource.specs.declared.line_reader.Reach.TheVariants as reach
 use Rattle.pysource.specs.Streams.{Buffered, Coming, FollowsAt, ComesOnly, comes, ends_line}
 use Rattle.pysource.proofs.TakingLemmas.{Takes-none, Takes-on}
-use Rattle.pylex.specs.declared.chunk.Chunk.{Chunk}
+use Rattle.pylex.specs.declared.held_lines.HeldLines.{HeldLines}
 use Rattle.pylex.specs.declared.entries.Entry.{Entry}
-use Rattle.pylex.specs.declared.position.Meets.TheVariants as meets
-use Rattle.pylex.specs.declared.position.Position.{Position}
-use Rattle.pylex.specs.declared.stream.Found.{Found}
+use Rattle.pylex.specs.declared.machine.Peeked.TheVariants as peeked
+use Rattle.pylex.specs.declared.machine.Machine.{Machine}
+use Rattle.pylex.specs.declared.line_lister.Found.{Found}
 use Rattle.pylex.specs.Chunked.{Grows, HoldsOn, Stays, Adds, ReadsOn}
-use Rattle.pylex.specs.Progress.{Stands, StopAhead, IsAscending, Behind}
-use Rattle.pylex.specs.Streamed.{Continues, StreamsIn, IsStreaming, IsWaiting, streamed, Looks, LooksAhead, MeetsIn, Searches, Lacks, lacks}
+use Rattle.pylex.specs.LineState.{Stands, StopAhead, IsAscending, Behind}
+use Rattle.pylex.specs.Streamed.{Continues, StreamsIn, IsStreaming, IsWaiting, streamed, Looks, LooksAhead, PeekedIn, Searches, Lacks, lacks}
 use Rattle.pylex.specs.Held.{Ahead, AheadBut, IsAtStop}
 use Rattle.pylexeme.specs.Cuts.{begins_significant}
 use Rattle.pylexeme.specs.Lexemes.{is_open_string}
@@ -53,20 +53,20 @@ some_future b within = by b.reach refl
     by reach.Passed e = at reach.Passed true e (refl, refl)
 
 -- A lister that stands whatever follows stands in some source.
-pub record Witness (p : Position) (c : Chunk) (last : Option Entry) : Type 0 where
+pub record Witness (p : Machine) (c : HeldLines) (last : Option Entry) : Type 0 where
   pub more : List ℕ
   pub broken : Bool
   pub follows : Continues c.lines more broken
   pub source : Parts
   pub streams : StreamsIn (streamed p c last) source p.given more broken
 
-pub witness : (p : Position) (c : Chunk) (last : Option Entry) → IsStreaming p c last → Witness p c last
+pub witness : (p : Machine) (c : HeldLines) (last : Option Entry) → IsStreaming p c last → Witness p c last
 witness p c last h =
     let f = some_future c.lines h.within in
     let s = h.stands f.more f.broken f.follows in
     record { more = f.more; broken = f.broken; follows = f.follows; source = s.0; streams = s.1 }
 
-module _ (p : Position) (c : Chunk) (h : IsStreaming p c None) where
+module _ (p : Machine) (c : HeldLines) (h : IsStreaming p c None) where
   abbrev held : List ℕ
   held = string_bytes c.text
 
@@ -124,17 +124,17 @@ len_behind text at rest b =
     omega (arith, n, m, k)
 
 -- Before the first look.
-pub searches_none : (come : Option (List ℕ)) (told : ℕ) (p : Position) (c : Chunk) → IsStreaming p c None → Searches come come told told p p c c
+pub searches_none : (come : Option (List ℕ)) (told : ℕ) (p : Machine) (c : HeldLines) → IsStreaming p c None → Searches come come told told p p c c
 searches_none come told p c h = record {
   taken = [];
   reads = Takes-none come told c.lines.count c.lines.reach;
   follows = λ more broken f. f;
   stands = λ s k more broken f x. x;
-  position = refl;
+  machine = refl;
   streaming = h;
 }
 
-module _ (come_0 come_1 come_2 : Option (List ℕ)) (told_0 told_1 told_2 : ℕ) (p q : Position) (c d e : Chunk) (f : Found) (so : Searches come_0 come_1 told_0 told_1 p q c d) (looks : Looks q d f) (is : f.meets ≡ meets.Stop) where
+module _ (come_0 come_1 come_2 : Option (List ℕ)) (told_0 told_1 told_2 : ℕ) (p q : Machine) (c d e : HeldLines) (f : Found) (so : Searches come_0 come_1 told_0 told_1 p q c d) (looks : Looks q d f) (is : f.peeked ≡ peeked.Stop) where
   -- what may follow a reading may follow with what it took
   back : {r : Result Line AllocError} (o : ReadsOn come_1 come_2 told_1 told_2 d e f.at r) (more : List ℕ) (broken : Bool) → Continues e.lines more broken → Continues d.lines (o.taken ++ more) broken
   back o more broken g = ((o.gives more broken g.0).0, omega (arith, g.1, o.reads.count, length-append o.taken more))
@@ -185,7 +185,7 @@ module _ (come_0 come_1 come_2 : Option (List ℕ)) (told_0 told_1 told_2 : ℕ)
         reads = Takes-on come_0 come_1 come_2 told_0 told_1 told_2 c.lines.count d.lines.count e.lines.count c.lines.reach d.lines.reach e.lines.reach so.taken r.taken so.reads r.reads;
         follows = λ more broken g. subst (λ t. Continues c.lines t broken) (sym (append_assoc so.taken r.taken more)) (so.follows (r.taken ++ more) broken (back r more broken g));
         stands = λ s k more broken g x. in_line s k more broken g (so.stands s k (r.taken ++ more) broken (back r more broken g) (subst (λ t. StreamsIn (streamed p c None) s k t broken) (append_assoc so.taken r.taken more) x));
-        position = ap (λ (z : Position). record z { now = f.now }) so.position;
+        machine = ap (λ (z : Machine). record z { now = f.now }) so.machine;
         streaming = record {
           chunk = r.chunk;
           within = r.within;
@@ -193,7 +193,7 @@ module _ (come_0 come_1 come_2 : Option (List ℕ)) (told_0 told_1 told_2 : ℕ)
           left = subst IsUtf8 (sym r.holding.left) (IsUtf8-append (drop f.at (string_bytes d.text)) r.line looks.left r.adds.1);
           lexed = holds.lexed;
           joined = holds.joined;
-          fresh = λ z. let given : q.given ≡ p.given = ap (λ (y : Position). y.given) so.position in absurd (omega (arith, given, z, some));
+          fresh = λ z. let given : q.given ≡ p.given = ap (λ (y : Machine). y.given) so.machine in absurd (omega (arith, given, z, some));
           stands = λ more broken g. let s = so.streaming.stands (r.taken ++ more) broken (back r more broken g) in (s.0, in_line s.0 q.given more broken g s.1);
         };
       }
@@ -231,7 +231,7 @@ module _ (come_0 come_1 come_2 : Option (List ℕ)) (told_0 told_1 told_2 : ℕ)
         reads = Takes-on come_0 come_1 come_2 told_0 told_1 told_2 c.lines.count d.lines.count e.lines.count c.lines.reach d.lines.reach e.lines.reach so.taken o.taken so.reads o.reads;
         follows = λ more broken g. subst (λ t. Continues c.lines t broken) (sym (append_assoc so.taken o.taken more)) (so.follows (o.taken ++ more) broken (back o more broken g));
         stands = λ s k more broken g x. in_none s k more broken g (so.stands s k (o.taken ++ more) broken (back o more broken g) (subst (λ t. StreamsIn (streamed p c None) s k t broken) (append_assoc so.taken o.taken more) x));
-        position = so.position;
+        machine = so.machine;
         streaming = record {
           chunk = o.chunk;
           within = o.within;
@@ -261,7 +261,7 @@ module _ (come_0 come_1 come_2 : Option (List ℕ)) (told_0 told_1 told_2 : ℕ)
   ends_so (lines.Fault g) line o h a l = subst (ComesOnly e.lines) (sym l) a.1
   ends_so lines.Read line o h a l = subst (ComesOnly e.lines) (sym l) a.1
 
-  pub meets_end : (r : Line) (line : List ℕ) (o : Option LineFault) → (r ≡ lines.Text → ⊥) → Adds (Ok r) line e.lines → Lacks r e.lines.row o → Stays d e → MeetsIn q e (record f { fault = o })
+  pub meets_end : (r : Line) (line : List ℕ) (o : Option LineFault) → (r ≡ lines.Text → ⊥) → Adds (Ok r) line e.lines → Lacks r e.lines.row o → Stays d e → PeekedIn q e (record f { fault = o })
   meets_end r line o h a l stays =
       let only = ends_so r line o h a l in
       record {
@@ -270,13 +270,13 @@ module _ (come_0 come_1 come_2 : Option (List ℕ)) (told_0 told_1 told_2 : ℕ)
       }
 
 -- what is met where nothing is lacking
-pub meets_here : (q : Position) (d : Chunk) (f : Found) → Looks q d f → (f.meets ≡ meets.Stop → lacks (drop f.at (string_bytes d.text)) ≡ false) → MeetsIn q d f
+pub meets_here : (q : Machine) (d : HeldLines) (f : Found) → Looks q d f → (f.peeked ≡ peeked.Stop → lacks (drop f.at (string_bytes d.text)) ≡ false) → PeekedIn q d f
 meets_here q d f looks whole = record { looks = looks; stops = λ s k more broken g x i. inl (whole i) }
 
 -- A lister that waits for more of a literal meets the end of the lines it holds.
-pub waiting_meets : (q : Position) (d : Chunk) (f : Found) → Looks q d f → IsWaiting q d → (f.meets ≡ meets.Stop) × (lacks (drop f.at (string_bytes d.text)) ≡ true)
+pub waiting_meets : (q : Machine) (d : HeldLines) (f : Found) → Looks q d f → IsWaiting q d → (f.peeked ≡ peeked.Stop) × (lacks (drop f.at (string_bytes d.text)) ≡ true)
 waiting_meets q d f looks w =
-    let s = stuck_finds (take q.nested q.levels.items) q.now (chars (drop d.at (string_bytes d.text))) f.meets f.now (chars (drop f.at (string_bytes d.text))) w.stop looks.finds in
+    let s = stuck_finds (take q.nested q.levels.items) q.now (chars (drop d.at (string_bytes d.text))) f.peeked f.now (chars (drop f.at (string_bytes d.text))) w.stop looks.finds in
     (s.0, open_lacks (length (drop f.at (string_bytes d.text)) == 0) (is_open_string (chars (drop f.at (string_bytes d.text)))) (ap is_open_string s.1 ∙ w.unended))
   where
     open_lacks : (a b : Bool) → b ≡ true → (a || b) ≡ true
@@ -284,11 +284,11 @@ waiting_meets q d f looks w =
     open_lacks false b h = h
 
 -- How far was read ahead where something is met.
-pub ahead_found : (a : Buffered) (q : Position) (d : Chunk) (f : Found) → Looks q d f → (f.meets ≡ meets.Stop → lacks (drop f.at (string_bytes d.text)) ≡ false) → Ahead a d.lines ⊎ (AheadBut a d.lines × IsWaiting q d) → LooksAhead f a d.lines
+pub ahead_found : (a : Buffered) (q : Machine) (d : HeldLines) (f : Found) → Looks q d f → (f.peeked ≡ peeked.Stop → lacks (drop f.at (string_bytes d.text)) ≡ false) → Ahead a d.lines ⊎ (AheadBut a d.lines × IsWaiting q d) → LooksAhead f a d.lines
 ahead_found a q d f looks whole (inl h) = inr h
 ahead_found a q d f looks whole (inr h) = let w = waiting_meets q d f looks h.1 in absurd (let z : true ≡ false = sym w.1 ∙ whole w.0 in cc)
 
-pub ahead_end : (a b : Buffered) (f : Found) (r : Line) (line : List ℕ) (o : Option LineFault) → f.meets ≡ meets.Stop → (r ≡ lines.Text → ⊥) → Adds (Ok r) line b → Lacks r b.row o → LooksAhead (record f { fault = o }) a b
+pub ahead_end : (a b : Buffered) (f : Found) (r : Line) (line : List ℕ) (o : Option LineFault) → f.peeked ≡ peeked.Stop → (r ≡ lines.Text → ⊥) → Adds (Ok r) line b → Lacks r b.row o → LooksAhead (record f { fault = o }) a b
 ahead_end a b f lines.Text line o is h adds l = absurd (h refl)
 ahead_end a b f lines.End line o is h adds l = inr (inr (omega (arith, ap length adds.2)))
 ahead_end a b f (lines.Fault g) line o is h adds l = inl (is, g, l)

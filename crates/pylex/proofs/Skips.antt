@@ -20,7 +20,7 @@ use Rattle.pylex.specs.Listing.{Source, listing, rest, stop_fault, up_to_end}
 use Rattle.pylex.specs.Steps.{entries_of, first_step}
 use Rattle.pylex.specs.Cursors.{CursorParts, cursor_at, cursor, has_no_text}
 use Rattle.pylex.specs.Machine.{State, past, pushed, after, ends_line, still, dedents_at, mark_at, last_place, layout_of, entry_by, gives, is_hash, last_line_end, tail_of, stop_of, run, remaining}
-use Rattle.pylex.specs.Progress.{IsAscending, is_above, is_level}
+use Rattle.pylex.specs.LineState.{IsAscending, is_above, is_level}
 use Rattle.pylex.specs.Standing.{standing, resumed}
 use Rattle.pylex.specs.Listers.{Listed, StandsIn}
 use Rattle.pylexeme.proofs.Cases.{bool_cases, and_parts}

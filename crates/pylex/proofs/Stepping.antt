@@ -6,21 +6,21 @@ use Rattle.std.proofs.lemmas.Str.{chars-append, chars-nil, IsUtf8-append, IsUtf8
 use Rattle.std.proofs.Math.Seq.{take-append_seam}
 use Rattle.pysource.specs.Parts.{Parts}
 use Rattle.pysource.specs.Streams.{comes}
-use Rattle.pylex.specs.declared.chunk.Chunk.{Chunk}
+use Rattle.pylex.specs.declared.held_lines.HeldLines.{HeldLines}
 use Rattle.pylex.specs.declared.entries.Entry.{Entry}
 use Rattle.pylex.specs.declared.entries.Step.{Step}
 use Rattle.pylex.specs.declared.entries.Step.TheVariants as steps
-use Rattle.pylex.specs.declared.position.Position.{Position}
-use Rattle.pylex.specs.declared.stream.Found.{Found}
+use Rattle.pylex.specs.declared.machine.Machine.{Machine}
+use Rattle.pylex.specs.declared.line_lister.Found.{Found}
 use Rattle.pylexeme.specs.Chunks.{EndsLine}
 use Rattle.pylex.specs.Laws.{AllLie, StepLies}
 use Rattle.pylexeme.specs.Chars.{bytes_in}
 use Rattle.pylex.specs.Listing.{in_characters, listing}
-use Rattle.pylex.specs.Listers.{StandsIn, Moves}
-use Rattle.pylex.specs.Positions.{shown_from, Holds, Went, Ranges, left_by}
-use Rattle.pylex.specs.Progress.{Finds}
+use Rattle.pylex.specs.Listers.{StandsIn, NextStep}
+use Rattle.pylex.specs.MachineSteps.{shown_from, Holds, Advance, Ranges, left_by}
+use Rattle.pylex.specs.LineState.{Peek}
 use Rattle.pylex.specs.Steps.{entries_in}
-use Rattle.pylex.specs.Streamed.{Continues, StreamsIn, IsStreaming, IsHeld, streamed, MeetsIn}
+use Rattle.pylex.specs.Streamed.{Continues, StreamsIn, IsStreaming, IsHeld, streamed, PeekedIn}
 use Rattle.pylex.proofs.Lined.{lined_chars}
 use Rattle.pylex.proofs.Lying.{entries_lie}
 use Rattle.pylex.proofs.Ranges.{in_offset}
@@ -44,7 +44,7 @@ left_same (steps.Entry e) from to h = absurd (h e refl)
 left_same steps.End from to h = refl
 left_same (steps.Fault f) from to h = refl
 
-module _ (q r : Position) (d : Chunk) (f : Found) (step : Step) (h : IsStreaming q d None) (m : MeetsIn q d f) (w : Went q f.meets f.now (drop f.at (string_bytes d.text)) f.fault step r) (s : Parts) (k : ℕ) (more : List ℕ) (broken : Bool) (g : Continues d.lines more broken) (x : StreamsIn (streamed q d None) s k more broken) where
+module _ (q r : Machine) (d : HeldLines) (f : Found) (step : Step) (h : IsStreaming q d None) (m : PeekedIn q d f) (w : Advance q f.peeked f.now (drop f.at (string_bytes d.text)) f.fault step r) (s : Parts) (k : ℕ) (more : List ℕ) (broken : Bool) (g : Continues d.lines more broken) (x : StreamsIn (streamed q d None) s k more broken) where
   abbrev held : List ℕ
   held = string_bytes d.text
 
@@ -60,13 +60,13 @@ module _ (q r : Position) (d : Chunk) (f : Found) (step : Step) (h : IsStreaming
   lined : Lined left coming
   lined = lined_left held d.at coming h.left x.ends
 
-  found : Finds (take q.nested q.levels.items) q.now (chars (left ++ coming)) f.meets f.now (chars (rest ++ coming))
-  found = finds_whole (take q.nested q.levels.items) q.now left f.meets f.now rest coming s.fault f.fault h.left m.looks.left lined (m.stops s k more broken g x) m.looks.finds
+  found : Peek (take q.nested q.levels.items) q.now (chars (left ++ coming)) f.peeked f.now (chars (rest ++ coming))
+  found = finds_whole (take q.nested q.levels.items) q.now left f.peeked f.now rest coming s.fault f.fault h.left m.looks.left lined (m.stops s k more broken g x) m.looks.finds
 
-  gone : Moves (record { source = s; shown = shown_from q }) step (record { source = s; shown = shown_from r }) × Holds s r (left_by step (left ++ coming) (rest ++ coming))
+  gone : NextStep (record { source = s; shown = shown_from q }) step (record { source = s; shown = shown_from r }) × Holds s r (left_by step (left ++ coming) (rest ++ coming))
   gone = w.goes s (left ++ coming) (rest ++ coming) x.keeps found
       (stands_whole q.now f.now left rest coming x.keeps.stands h.left m.looks.left m.looks.room)
-      (λ is levels. end_whole levels (take q.nested q.levels.items) q.now left f.meets f.now rest coming s.fault f.fault h.left m.looks.left lined (m.stops s k more broken g x) m.looks.finds is)
+      (λ is levels. end_whole levels (take q.nested q.levels.items) q.now left f.peeked f.now rest coming s.fault f.fault h.left m.looks.left lined (m.stops s k more broken g x) m.looks.finds is)
 
   pub step_is : slice_get (listing (in_characters s)) k ≡ Some step
   step_is = (gone.0 (in_characters s) k x.stands).0

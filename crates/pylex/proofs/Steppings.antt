@@ -7,22 +7,22 @@ use Rattle.pysource.specs.Parts.{Parts}
 use Rattle.pysource.specs.Streams.{Buffered, comes}
 use Rattle.pysource.specs.declared.faults.LineFault.{LineFault}
 use Rattle.pylex.specs.declared.entries.ListingFault.{ListingFault}
-use Rattle.pylex.specs.declared.position.Meets.{Meets}
-use Rattle.pylex.specs.declared.position.Meets.TheVariants as meets
+use Rattle.pylex.specs.declared.machine.Peeked.{Peeked}
+use Rattle.pylex.specs.declared.machine.Peeked.TheVariants as peeked
 use Rattle.pysource.proofs.TakingLemmas.{Takes-none}
-use Rattle.pylex.specs.declared.chunk.Chunk.{Chunk}
+use Rattle.pylex.specs.declared.held_lines.HeldLines.{HeldLines}
 use Rattle.pylex.specs.declared.entries.Entry.{Entry}
 use Rattle.pylex.specs.declared.entries.Step.{Step}
 use Rattle.pylex.specs.declared.entries.Step.TheVariants as steps
 use Rattle.pylex.specs.declared.kinds.Kind.TheVariants as kinds
-use Rattle.pylex.specs.declared.position.Position.{Position}
-use Rattle.pylex.specs.declared.stream.Found.{Found}
+use Rattle.pylex.specs.declared.machine.Machine.{Machine}
+use Rattle.pylex.specs.declared.line_lister.Found.{Found}
 use Rattle.pylex.specs.Listing.{in_characters, listing, origin}
 use Rattle.pylex.specs.Listers.{Listed, shown_by}
 use Rattle.pylex.specs.Machine.{mark_at}
-use Rattle.pylex.specs.Positions.{shown_from, FaultsFirst, HasPlace, IsSame, Went}
+use Rattle.pylex.specs.MachineSteps.{shown_from, FaultsFirst, HasPlace, IsSame, Advance}
 use Rattle.pylex.specs.Steps.{entries_in}
-use Rattle.pylex.specs.Streamed.{Continues, Streamed, StreamsIn, IsStreaming, IsLast, IsAhead, LooksAhead, Steps, Searches, streamed, MeetsIn}
+use Rattle.pylex.specs.Streamed.{Continues, Streamed, StreamsIn, IsStreaming, IsLast, IsAhead, LooksAhead, Next, Searches, streamed, PeekedIn}
 use Rattle.pylex.specs.Held.{Ahead}
 use Rattle.pylex.proofs.AheadOn.{ahead_none}
 use Rattle.pylex.proofs.LexedOn.{lexed_both, lexed_finds}
@@ -32,7 +32,7 @@ use Rattle.pylex.proofs.Searching.{witness}
 use Rattle.pylex.proofs.Stepping.{step_is, stands_then, streams_entry, streams_other}
 
 -- The entry given last plays no part in what follows.
-pub none_last : (p : Position) (c : Chunk) (last : Option Entry) (s : Parts) (k : ℕ) (more : List ℕ) (broken : Bool) → StreamsIn (streamed p c last) s k more broken → StreamsIn (streamed p c None) s k more broken
+pub none_last : (p : Machine) (c : HeldLines) (last : Option Entry) (s : Parts) (k : ℕ) (more : List ℕ) (broken : Bool) → StreamsIn (streamed p c last) s k more broken → StreamsIn (streamed p c None) s k more broken
 none_last p c last s k more broken x = record {
   before = x.before;
   whole = x.whole;
@@ -49,7 +49,7 @@ none_last p c last s k more broken x = record {
   last = tt;
 }
 
-pub drop_last : (p : Position) (c : Chunk) (last : Option Entry) → IsStreaming p c last → IsStreaming p c None
+pub drop_last : (p : Machine) (c : HeldLines) (last : Option Entry) → IsStreaming p c last → IsStreaming p c None
 drop_last p c last h = record {
   chunk = h.chunk;
   text = h.text;
@@ -62,7 +62,7 @@ drop_last p c last h = record {
 }
 
 -- nor in a step
-pub steps_last : (come_old come_new : Option (List ℕ)) (told_old told_new : ℕ) (p : Position) (c : Chunk) (last : Option Entry) (v : Streamed) (r : Result Step AllocError) → Steps come_old come_new told_old told_new (streamed p c None) v r → Steps come_old come_new told_old told_new (streamed p c last) v r
+pub steps_last : (come_old come_new : Option (List ℕ)) (told_old told_new : ℕ) (p : Machine) (c : HeldLines) (last : Option Entry) (v : Streamed) (r : Result Step AllocError) → Next come_old come_new told_old told_new (streamed p c None) v r → Next come_old come_new told_old told_new (streamed p c last) v r
 steps_last come_old come_new told_old told_new p c last v (Ok step) h = record {
   taken = h.taken;
   reads = h.reads;
@@ -82,15 +82,15 @@ steps_last come_old come_new told_old told_new p c last v (Err e) h = record {
   same = λ s k more broken g x. h.same s k more broken g (none_last p c last s k (h.taken ++ more) broken x);
 }
 
-pub place_held : (p : Position) (c : Chunk) (last : Option Entry) → IsStreaming p c last → HasPlace p
+pub place_held : (p : Machine) (c : HeldLines) (last : Option Entry) → IsStreaming p c last → HasPlace p
 place_held p c last h = let w = witness p c last h in has_place w.source p _ w.streams.keeps
 
 -- The first step.
-module _ (p : Position) (c : Chunk) (last : Option Entry) (e : Entry) (z : p.given ≡ 0) (is : mark_at kinds.Encoding 0 origin origin ≡ steps.Entry e) where
+module _ (p : Machine) (c : HeldLines) (last : Option Entry) (e : Entry) (z : p.given ≡ 0) (is : mark_at kinds.Encoding 0 origin origin ≡ steps.Entry e) where
   kind_is : (d : Entry) → d.kind ≡ kinds.Encoding → steps.Entry d ≡ steps.Entry e → e.kind ≡ kinds.Encoding
   kind_is d k h = let same : d ≡ e = cc in subst (λ (y : Entry). y.kind ≡ kinds.Encoding) same k
 
-  abbrev begun : Position
+  abbrev begun : Machine
   begun = record p { given = 1 }
 
   first_in : (s : Parts) (k : ℕ) (more : List ℕ) (broken : Bool) → string_bytes c.text ≡ [] → StreamsIn (streamed p c last) s k more broken → (slice_get (listing (in_characters s)) k ≡ Some (steps.Entry e)) × StreamsIn (streamed begun c (Some e)) s (k + 1) more broken
@@ -132,7 +132,7 @@ module _ (p : Position) (c : Chunk) (last : Option Entry) (e : Entry) (z : p.giv
         (s.0, subst (λ n. StreamsIn (streamed begun c (Some e)) s.0 n more broken) one (first_in s.0 p.given more broken (h.fresh z) s.1).1);
   }
 
-  pub steps_first : IsStreaming p c last → (come : Option (List ℕ)) (told : ℕ) → Steps come come told told (streamed p c last) (streamed begun c (Some e)) (Ok (steps.Entry e))
+  pub steps_first : IsStreaming p c last → (come : Option (List ℕ)) (told : ℕ) → Next come come told told (streamed p c last) (streamed begun c (Some e)) (Ok (steps.Entry e))
   steps_first h come told = record {
     taken = [];
     reads = Takes-none come told c.lines.count c.lines.reach;
@@ -144,40 +144,40 @@ module _ (p : Position) (c : Chunk) (last : Option Entry) (e : Entry) (z : p.giv
   }
 
 -- an entry comes of no fault
-no_fault : (m : Meets) (o : Option LineFault) (e : Entry) → FaultsFirst m o (steps.Entry e) → (g : ListingFault) → m ≡ meets.Fault g → ⊥
-no_fault (meets.Entry d) o e h g k = cc
-no_fault (meets.Fault f) o e h g k = h
-no_fault meets.Indent o e h g k = cc
-no_fault meets.Dedent o e h g k = cc
-no_fault meets.Stop o e h g k = cc
+no_fault : (m : Peeked) (o : Option LineFault) (e : Entry) → FaultsFirst m o (steps.Entry e) → (g : ListingFault) → m ≡ peeked.Fault g → ⊥
+no_fault (peeked.Entry d) o e h g k = cc
+no_fault (peeked.Fault f) o e h g k = h
+no_fault peeked.Indent o e h g k = cc
+no_fault peeked.Dedent o e h g k = cc
+no_fault peeked.Stop o e h g k = cc
 
 -- where it was looked for, no more was read ahead than one read gives
-pub entry_ahead : (f : Found) (step : Step) (e : Entry) (a b : Buffered) → step ≡ steps.Entry e → FaultsFirst f.meets f.fault step → LooksAhead f a b → Ahead a b
+pub entry_ahead : (f : Found) (step : Step) (e : Entry) (a b : Buffered) → step ≡ steps.Entry e → FaultsFirst f.peeked f.fault step → LooksAhead f a b → Ahead a b
 entry_ahead f step e a b is first (inr l) = l
 entry_ahead f step e a b is first (inl (stop, fault, some)) = absurd (rw (is, stop, some) at first)
 
 -- A step behind a search.
-module _ (come_old come_new : Option (List ℕ)) (told_old told_new : ℕ) (p q : Position) (c d : Chunk) (last : Option Entry) (so : Searches come_old come_new told_old told_new p q c d) where
+module _ (come_old come_new : Option (List ℕ)) (told_old told_new : ℕ) (p q : Machine) (c d : HeldLines) (last : Option Entry) (so : Searches come_old come_new told_old told_new p q c d) where
   stood : (s : Parts) (k : ℕ) (more : List ℕ) (broken : Bool) → Continues d.lines more broken → StreamsIn (streamed p c last) s k (so.taken ++ more) broken → StreamsIn (streamed q d None) s k more broken
   stood s k more broken g x = so.stands s k more broken g (none_last p c last s k (so.taken ++ more) broken x)
 
   -- memory was refused where a line was read
-  pub steps_unread : (e : AllocError) → Steps come_old come_new told_old told_new (streamed p c last) (streamed q d None) (Err e)
+  pub steps_unread : (e : AllocError) → Next come_old come_new told_old told_new (streamed p c last) (streamed q d None) (Err e)
   steps_unread e = record { taken = so.taken; reads = so.reads; follows = so.follows; moves = tt; last = tt; ahead = tt; same = stood }
 
-  module _ (r : Position) (same : IsSame q r) where
+  module _ (r : Machine) (same : IsSame q r) where
     same_view : streamed r d None ≡ streamed q d None
     same_view =
-        ap (λ (y : Position). streamed y d None) same.0
+        ap (λ (y : Machine). streamed y d None) same.0
         ∙ ap (λ ls. record { lines = d.lines; shown = shown_by q.given q.point ls ((length ls - q.nested) + q.tail); base = d.base; held = string_bytes d.text; left = drop d.at (string_bytes d.text); now = q.now; levels = ls; nested = q.nested; tail = q.tail; last = None }) same.1
 
     -- or where an INDENT came
-    pub steps_unopened : (e : AllocError) → Steps come_old come_new told_old told_new (streamed p c last) (streamed r d None) (Err e)
+    pub steps_unopened : (e : AllocError) → Next come_old come_new told_old told_new (streamed p c last) (streamed r d None) (Err e)
     steps_unopened e = record { taken = so.taken; reads = so.reads; follows = so.follows; moves = tt; last = tt; ahead = tt; same = λ s k more broken g x. subst (λ v. StreamsIn v s k more broken) (sym same_view) (stood s k more broken g x) }
 
     pub streaming_unopened : IsStreaming r d None
     streaming_unopened =
-        let given : r.given ≡ q.given = ap (λ (y : Position). y.given) same.0 in
+        let given : r.given ≡ q.given = ap (λ (y : Machine). y.given) same.0 in
         record {
           chunk = so.streaming.chunk;
           text = so.streaming.text;
@@ -191,7 +191,7 @@ module _ (come_old come_new : Option (List ℕ)) (told_old told_new : ℕ) (p q 
               (s.0, subst (λ n. StreamsIn (streamed r d None) s.0 n more broken) (sym given) (subst (λ v. StreamsIn v s.0 q.given more broken) (sym same_view) s.1));
         }
 
-  module _ (r : Position) (f : Found) (step : Step) (m : MeetsIn q d f) (w : Went q f.meets f.now (drop f.at (string_bytes d.text)) f.fault step r) where
+  module _ (r : Machine) (f : Found) (step : Step) (m : PeekedIn q d f) (w : Advance q f.peeked f.now (drop f.at (string_bytes d.text)) f.fault step r) where
     count_then : (s : Parts) (more : List ℕ) (broken : Bool) (g : Continues d.lines more broken) (x : StreamsIn (streamed q d None) s q.given more broken) → q.given + entries_in step ≡ r.given
     count_then s more broken g x = sym (stands_then q r d f step so.streaming m w s q.given more broken g x).count
 
@@ -204,9 +204,9 @@ module _ (come_old come_new : Option (List ℕ)) (told_old told_new : ℕ) (p q 
           omega (arith, n, one, z)
 
       some_given : 0 < p.given → 0 < q.given
-      some_given h = let same : q.given ≡ p.given = ap (λ (y : Position). y.given) so.position in omega (arith, same, h)
+      some_given h = let same : q.given ≡ p.given = ap (λ (y : Machine). y.given) so.machine in omega (arith, same, h)
 
-      pub steps_entry : 0 < p.given → Ahead c.lines d.lines → Steps come_old come_new told_old told_new (streamed p c last) (streamed r (record d { at = f.at }) (Some e)) (Ok step)
+      pub steps_entry : 0 < p.given → Ahead c.lines d.lines → Next come_old come_new told_old told_new (streamed p c last) (streamed r (record d { at = f.at }) (Some e)) (Ok step)
       steps_entry some a = record {
         taken = so.taken;
         reads = so.reads;
@@ -217,14 +217,14 @@ module _ (come_old come_new : Option (List ℕ)) (told_old told_new : ℕ) (p q 
         same = tt;
       }
 
-      pub streaming_entry : 0 < p.given → FaultsFirst f.meets f.fault step → IsStreaming r (record d { at = f.at }) (Some e)
+      pub streaming_entry : 0 < p.given → FaultsFirst f.peeked f.fault step → IsStreaming r (record d { at = f.at }) (Some e)
       streaming_entry some first = record {
         chunk = record { spare = so.streaming.chunk.spare; at = m.looks.at };
         text = so.streaming.text;
         within = so.streaming.within;
         left = m.looks.left;
         lexed = lexed_both (chars (drop d.at (string_bytes d.text))) (chars (drop f.at (string_bytes d.text))) (chars (string_bytes d.text)) so.streaming.lexed
-            (lexed_finds (take q.nested q.levels.items) q.now (chars (drop d.at (string_bytes d.text))) f.meets f.now (chars (drop f.at (string_bytes d.text))) (no_fault f.meets f.fault e (subst (FaultsFirst f.meets f.fault) is first)) m.looks.finds);
+            (lexed_finds (take q.nested q.levels.items) q.now (chars (drop d.at (string_bytes d.text))) f.peeked f.now (chars (drop f.at (string_bytes d.text))) (no_fault f.peeked f.fault e (subst (FaultsFirst f.peeked f.fault) is first)) m.looks.finds);
         joined = so.streaming.joined;
         fresh = λ z. absurd (given_more z);
         stands = λ more broken g.
@@ -249,7 +249,7 @@ module _ (come_old come_new : Option (List ℕ)) (told_old told_new : ℕ) (p q 
           let n = count_then x.source x.more x.broken x.follows x.streams in
           omega (arith, n, z)
 
-      pub steps_other : Steps come_old come_new told_old told_new (streamed p c last) (streamed r d None) (Ok step)
+      pub steps_other : Next come_old come_new told_old told_new (streamed p c last) (streamed r d None) (Ok step)
       steps_other = record {
         taken = so.taken;
         reads = so.reads;

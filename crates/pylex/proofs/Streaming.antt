@@ -7,14 +7,14 @@ use Rattle.pylex.specs.Streamed.{Stops, lacks}
 use Rattle.std.proofs.lemmas.Str.{encodes-chars, chars-append, IsUtf8-append, IsUtf8-drop, IsCharBoundary-from_take}
 use Rattle.std.proofs.Math.Seq.{take-append_seam, drop-append_seam}
 use Rattle.pysource.specs.declared.faults.LineFault.{LineFault}
-use Rattle.pylex.specs.declared.position.Meets.{Meets}
-use Rattle.pylex.specs.declared.position.Meets.TheVariants as meets
-use Rattle.pylex.specs.declared.state.Progress.{Progress}
+use Rattle.pylex.specs.declared.machine.Peeked.{Peeked}
+use Rattle.pylex.specs.declared.machine.Peeked.TheVariants as peeked
+use Rattle.pylex.specs.declared.line_state.LineState.{LineState}
 use Rattle.pylexeme.specs.Chunks.{EndsLine}
 use Rattle.pylexeme.specs.Lexemes.{is_open_string}
 use Rattle.pylex.specs.Listing.{of_line}
 use Rattle.pylex.specs.Machine.{remaining}
-use Rattle.pylex.specs.Progress.{Finds, HasRoom, Stands, with_levels}
+use Rattle.pylex.specs.LineState.{Peek, HasRoom, Stands, with_levels}
 use Rattle.pylex.proofs.Carried.{finds_carried, stop_carried, comes_lines, remaining_carried}
 use Rattle.pylex.proofs.Lined.{remaining_any}
 
@@ -41,10 +41,10 @@ not_lacking left u h = (λ e. some left u e h, closed (length left == 0) (is_ope
     some : (left : List ℕ) → IsUtf8 left → chars left ≡ [] → lacks left ≡ false → ⊥
     some left u e h = let n : left ≡ [] = sym (encodes-chars left u) ∙ ap encodes e in let f : true ≡ false = ap lacks (sym n) ∙ h in cc
 
-abbrev Settled : Meets → List ℕ → List ℕ → Option LineFault → Option LineFault → Type 0
-Settled m left coming fault own = m ≡ meets.Stop → ((chars left ≢ []) × (is_open_string (chars left) ≡ false)) ⊎ ((coming ≡ []) × (own ≡ fault))
+abbrev Settled : Peeked → List ℕ → List ℕ → Option LineFault → Option LineFault → Type 0
+Settled m left coming fault own = m ≡ peeked.Stop → ((chars left ≢ []) × (is_open_string (chars left) ≡ false)) ⊎ ((coming ≡ []) × (own ≡ fault))
 
-settled_of : (m : Meets) (left coming : List ℕ) (fault own : Option LineFault) → IsUtf8 left → Stops m left coming fault own → Settled m left coming fault own
+settled_of : (m : Peeked) (left coming : List ℕ) (fault own : Option LineFault) → IsUtf8 left → Stops m left coming fault own → Settled m left coming fault own
 settled_of m left coming fault own u h is = ⊎_elim (λ l. inl (not_lacking left u l)) (λ e. inr e) (h is)
 
 lines_of_stop : (cs : List ℕ) → EndsLine cs ⊎ (cs ≡ []) → cs ≢ [] → EndsLine cs
@@ -52,44 +52,44 @@ lines_of_stop cs (inl l) h = l
 lines_of_stop cs (inr e) h = absurd (h e)
 
 -- a stop, or not
-is_stop : (m : Meets) → (m ≡ meets.Stop) ⊎ (m ≢ meets.Stop)
-is_stop meets.Stop = inl refl
-is_stop (meets.Entry e) = inr (λ h. cc)
-is_stop (meets.Fault f) = inr (λ h. cc)
-is_stop meets.Indent = inr (λ h. cc)
-is_stop meets.Dedent = inr (λ h. cc)
+is_stop : (m : Peeked) → (m ≡ peeked.Stop) ⊎ (m ≢ peeked.Stop)
+is_stop peeked.Stop = inl refl
+is_stop (peeked.Entry e) = inr (λ h. cc)
+is_stop (peeked.Fault f) = inr (λ h. cc)
+is_stop peeked.Indent = inr (λ h. cc)
+is_stop peeked.Dedent = inr (λ h. cc)
 
 no_more : (left coming : List ℕ) → coming ≡ [] → left ++ coming ≡ left
 no_more left coming e = ap (λ c. left ++ c) e ∙ append-nil left
 
-found_lined : (levels : List ℕ) (p : Progress) (m : Meets) (q : Progress) (cs ds es : List ℕ) (own fault : Option LineFault) (k : Bool) → EndsLine cs ⊎ (cs ≡ []) → (m ≡ meets.Stop) ⊎ (m ≢ meets.Stop) → (m ≡ meets.Stop → (ds ≢ []) × (is_open_string ds ≡ false)) → Finds levels p cs m q ds → Finds levels p (cs ++ es) m q (ds ++ es)
+found_lined : (levels : List ℕ) (p : LineState) (m : Peeked) (q : LineState) (cs ds es : List ℕ) (own fault : Option LineFault) (k : Bool) → EndsLine cs ⊎ (cs ≡ []) → (m ≡ peeked.Stop) ⊎ (m ≢ peeked.Stop) → (m ≡ peeked.Stop → (ds ≢ []) × (is_open_string ds ≡ false)) → Peek levels p cs m q ds → Peek levels p (cs ++ es) m q (ds ++ es)
 found_lined levels p m q cs ds es own fault k lined (inr other) settled f = finds_carried levels p cs m q ds es lined other f
 found_lined levels p m q cs ds es own fault k lined (inl is) settled f =
     let g = rw is at f in
     let s = settled is in
     rw is (stop_carried levels p cs q ds es g (lines_of_stop ds (comes_lines levels p cs q ds lined g.0) s.0) s.1)
 
-finds_settled : (levels : List ℕ) (p : Progress) (left : List ℕ) (m : Meets) (q : Progress) (ds coming : List ℕ) (own fault : Option LineFault) → IsUtf8 left → IsUtf8 ds → Lined left coming → Settled m ds coming fault own → Finds levels p (chars left) m q (chars ds) → Finds levels p (chars (left ++ coming)) m q (chars (ds ++ coming))
+finds_settled : (levels : List ℕ) (p : LineState) (left : List ℕ) (m : Peeked) (q : LineState) (ds coming : List ℕ) (own fault : Option LineFault) → IsUtf8 left → IsUtf8 ds → Lined left coming → Settled m ds coming fault own → Peek levels p (chars left) m q (chars ds) → Peek levels p (chars (left ++ coming)) m q (chars (ds ++ coming))
 finds_settled levels p left m q ds coming own fault u v (inr none) stops f =
     rw (no_more left coming none, no_more ds coming none) f
 finds_settled levels p left m q ds coming own fault u v (inl lined) stops f = by_end (is_stop m)
   where
-    joined : Finds levels p (chars left ++ chars coming) m q (chars ds ++ chars coming) → Finds levels p (chars (left ++ coming)) m q (chars (ds ++ coming))
+    joined : Peek levels p (chars left ++ chars coming) m q (chars ds ++ chars coming) → Peek levels p (chars (left ++ coming)) m q (chars (ds ++ coming))
     joined g = rw (chars-append left coming u, chars-append ds coming v) g
 
-    last : coming ≡ [] → Finds levels p (chars (left ++ coming)) m q (chars (ds ++ coming))
+    last : coming ≡ [] → Peek levels p (chars (left ++ coming)) m q (chars (ds ++ coming))
     last none = rw (no_more left coming none, no_more ds coming none) f
 
-    by_end : (m ≡ meets.Stop) ⊎ (m ≢ meets.Stop) → Finds levels p (chars (left ++ coming)) m q (chars (ds ++ coming))
+    by_end : (m ≡ peeked.Stop) ⊎ (m ≢ peeked.Stop) → Peek levels p (chars (left ++ coming)) m q (chars (ds ++ coming))
     by_end (inr other) = joined (finds_carried levels p (chars left) m q (chars ds) (chars coming) lined other f)
     by_end (inl is) = ⊎_elim (λ s. joined (found_lined levels p m q (chars left) (chars ds) (chars coming) own fault true lined (inl is) (λ _. s) f)) (λ s. last s.0) (stops is)
 
 -- What is found in the lines held is found in the source.
-pub finds_whole : (levels : List ℕ) (p : Progress) (left : List ℕ) (m : Meets) (q : Progress) (ds coming : List ℕ) (own fault : Option LineFault) → IsUtf8 left → IsUtf8 ds → Lined left coming → Stops m ds coming fault own → Finds levels p (chars left) m q (chars ds) → Finds levels p (chars (left ++ coming)) m q (chars (ds ++ coming))
+pub finds_whole : (levels : List ℕ) (p : LineState) (left : List ℕ) (m : Peeked) (q : LineState) (ds coming : List ℕ) (own fault : Option LineFault) → IsUtf8 left → IsUtf8 ds → Lined left coming → Stops m ds coming fault own → Peek levels p (chars left) m q (chars ds) → Peek levels p (chars (left ++ coming)) m q (chars (ds ++ coming))
 finds_whole levels p left m q ds coming own fault u v lined stops f = finds_settled levels p left m q ds coming own fault u v lined (settled_of m ds coming fault own v stops) f
 
 -- and its end is the source's
-pub end_whole : (levels nested : List ℕ) (p : Progress) (left : List ℕ) (m : Meets) (q : Progress) (ds coming : List ℕ) (own fault : Option LineFault) → IsUtf8 left → IsUtf8 ds → Lined left coming → Stops m ds coming fault own → Finds nested p (chars left) m q (chars ds) → m ≡ meets.Stop
+pub end_whole : (levels nested : List ℕ) (p : LineState) (left : List ℕ) (m : Peeked) (q : LineState) (ds coming : List ℕ) (own fault : Option LineFault) → IsUtf8 left → IsUtf8 ds → Lined left coming → Stops m ds coming fault own → Peek nested p (chars left) m q (chars ds) → m ≡ peeked.Stop
     → remaining (option_map of_line own) (with_levels q levels) (chars (ds ++ coming)) ≡ remaining (option_map of_line fault) (with_levels q levels) (chars ds)
 end_whole levels nested p left m q ds coming own fault u v lined stops f is = ⊎_elim by_text by_end (settled_of m ds coming fault own v stops is)
   where
@@ -110,7 +110,7 @@ end_whole levels nested p left m q ds coming own fault u v lined stops f is = �
         lined
 
 -- and a lister may go on there
-pub stands_whole : (p q : Progress) (left ds coming : List ℕ) → Stands p (left ++ coming) → IsUtf8 left → IsUtf8 ds → ((n : ℕ) → HasRoom p (length left + n) → HasRoom q (length ds + n)) → Stands q (ds ++ coming)
+pub stands_whole : (p q : LineState) (left ds coming : List ℕ) → Stands p (left ++ coming) → IsUtf8 left → IsUtf8 ds → ((n : ℕ) → HasRoom p (length left + n) → HasRoom q (length ds + n)) → Stands q (ds ++ coming)
 stands_whole p q left ds coming s u v room = record {
   utf8 = IsUtf8-append ds coming v (utf8_after left coming s.utf8 u);
   room = subst (HasRoom q) (sym (length-append ds coming)) (room (length coming) (subst (HasRoom p) (length-append left coming) s.room));

@@ -15,21 +15,21 @@ use Rattle.pylexeme.specs.declared.kinds.Exact.{Exact}
 use Rattle.pylexeme.specs.Lexemes.{Lexeme, are_blanks, is_line_end, is_join, is_line_end_class, is_blanks_class, is_join_class, is_opener_class, is_closer_class}
 use Rattle.pylexeme.proofs.Cases.{bool_cases}
 use Rattle.pylexeme.proofs.Classes.{by_words, words}
-use Rattle.pylex.specs.declared.state.Front.{Front}
-use Rattle.pylex.specs.declared.state.Front.TheVariants.{Nothing, Hash, Other}
+use Rattle.pylex.specs.declared.line_state.LeadingChar.{LeadingChar}
+use Rattle.pylex.specs.declared.line_state.LeadingChar.TheVariants.{Nothing, Hash, Other}
 use Rattle.pylex.specs.declared.entries.Entry.{Entry}
 use Rattle.pylex.specs.declared.entries.Step.{Step}
 use Rattle.pylex.specs.declared.entries.Step.TheVariants as steps
 use Rattle.pylex.specs.declared.kinds.Kind.{Kind}
 use Rattle.pylex.specs.declared.kinds.Kind.TheVariants as kinds
-use Rattle.pylex.specs.declared.state.Point.{Point}
-use Rattle.pylex.specs.declared.state.Progress.{Progress}
+use Rattle.pylex.specs.declared.line_state.Point.{Point}
+use Rattle.pylex.specs.declared.line_state.LineState.{LineState}
 use Rattle.pylex.specs.Lines.{opens, closes}
-use Rattle.pylex.specs.Machine.{State, advance, front_after, after, behind, entry_by, line_end_kind_of, step_of, past, count_if, still}
-use Rattle.pylex.specs.Progress.{with_levels, HasRoom}
+use Rattle.pylex.specs.Machine.{State, place_past, front_after, after, behind, entry_by, line_end_kind_of, step_of, past, count_if, still}
+use Rattle.pylex.specs.LineState.{with_levels, HasRoom}
 use Rattle.pylex.proofs.Advancing.{room_on}
 use Rattle.pylex.specs.Plain.{IsPlain}
-use Rattle.pylex.specs.Told.{GoesOn, begun_by, Tells, Passed, is_text, text_kind}
+use Rattle.pylex.specs.Inner.Told.{GoesOn, begun_by, Tells, Passed, is_text, text_kind}
 use Rattle.pylex.proofs.LexemeClasses.{Says, lexeme_says}
 use Rattle.pylex.proofs.Plain.{plain_ascii, AllInLine, advance_in_line, begun}
 
@@ -80,7 +80,7 @@ abbrev is_sign : List ℕ → Bool
 is_sign [] = false
 is_sign (c ∷ cs) = list_all is_even (c ∷ cs) && (not (is_blank_char c) && not (c == 35))
 
-sign_front : (t : List ℕ) → is_sign t ≡ true → (f : Front) → front_after f t ≡ begun_by f
+sign_front : (t : List ℕ) → is_sign t ≡ true → (f : LeadingChar) → front_after f t ≡ begun_by f
 sign_front [] e f = cc
 sign_front (c ∷ cs) e f =
     let p = both (list_all is_even (c ∷ cs)) (not (is_blank_char c) && not (c == 35)) e in
@@ -92,7 +92,7 @@ sign_front (c ∷ cs) e f =
     no true e = cc
     no false e = refl
 
-    by : (f : Front) → AllInLine (c ∷ cs) → is_blank_char c ≡ false → (c == 35) ≡ false → front_after f (c ∷ cs) ≡ begun_by f
+    by : (f : LeadingChar) → AllInLine (c ∷ cs) → is_blank_char c ≡ false → (c == 35) ≡ false → front_after f (c ∷ cs) ≡ begun_by f
     by Nothing a b h = let e = a.0 in rw (e, b, h) (begun Other cs (λ n. cc) a.1)
     by Hash a b h = begun Hash (c ∷ cs) (λ n. cc) a
     by Other a b h = begun Other (c ∷ cs) (λ n. cc) a
@@ -115,7 +115,7 @@ blanks_even (c ∷ cs) e =
     even : (c : ℕ) → is_blank_char c ≡ true → is_even c ≡ true
     even c e = grind (arith, nat_tests)
 
-blanks_front : (cs : List ℕ) → list_all is_blank_char cs ≡ true → (f : Front) → front_after f cs ≡ f
+blanks_front : (cs : List ℕ) → list_all is_blank_char cs ≡ true → (f : LeadingChar) → front_after f cs ≡ f
 blanks_front cs e Hash = begun Hash cs (λ n. cc) (even_in_line cs (blanks_even cs e))
 blanks_front cs e Other = begun Other cs (λ n. cc) (even_in_line cs (blanks_even cs e))
 blanks_front [] e Nothing = refl
@@ -147,11 +147,11 @@ line_end_is t e = ⊎_elim
     crlf ((bytes_eq-Decides t (13 ∷ 10 ∷ [])).0 b))
     (bool_cases (bytes_eq t (10 ∷ [])))
 
-end_row : (t : List ℕ) → LineEnd_is t → (p : Place) → advance p t ≡ record { row = p.row + 1; column = 0 }
+end_row : (t : List ℕ) → LineEnd_is t → (p : Place) → place_past p t ≡ record { row = p.row + 1; column = 0 }
 end_row t (lf e) p = rw e refl
 end_row t (crlf e) p = rw e refl
 
-end_front : (t : List ℕ) → LineEnd_is t → (f : Front) → front_after f t ≡ Nothing
+end_front : (t : List ℕ) → LineEnd_is t → (f : LeadingChar) → front_after f t ≡ Nothing
 end_front t (lf e) f = rw e refl
 end_front t (crlf e) f = rw e refl
 
@@ -160,7 +160,7 @@ unfolding lib.Utf8.encode
 end_bytes t (lf e) = rw e refl
 end_bytes t (crlf e) = rw e refl
 
-join_row : (t : List ℕ) → is_join t ≡ true → (p : Place) → advance p t ≡ record { row = p.row + 1; column = 0 }
+join_row : (t : List ℕ) → is_join t ≡ true → (p : Place) → place_past p t ≡ record { row = p.row + 1; column = 0 }
 unfolding is_join
 join_row [] e p = cc
 join_row (c ∷ cs) e p =
@@ -171,7 +171,7 @@ join_row (c ∷ cs) e p =
     slash : (c : ℕ) → (c == 92) ≡ true → (c == 10) ≡ false
     slash c e = grind (arith, nat_tests)
 
-join_front : (t : List ℕ) → is_join t ≡ true → (f : Front) → front_after f t ≡ Nothing
+join_front : (t : List ℕ) → is_join t ≡ true → (f : LeadingChar) → front_after f t ≡ Nothing
 unfolding is_join
 join_front [] e f = cc
 join_front (c ∷ cs) e f =
@@ -229,20 +229,20 @@ unfolding entry_by
 line_end_entry s t = refl
 
 -- the entries of lexemes, by their points
-pub text_given : (p : Progress) (k : Class) (t : List ℕ) (levels : List ℕ) (kind : Kind) (to : Point) (e : Entry) → is_text k ≡ true → kind ≡ text_kind k → to ≡ past p.now t → step_of kind None p.now to ≡ steps.Entry e → entry_by (with_levels p levels) (record { «class» = k; text = t }) ≡ steps.Entry e ∷ []
+pub text_given : (p : LineState) (k : Class) (t : List ℕ) (levels : List ℕ) (kind : Kind) (to : Point) (e : Entry) → is_text k ≡ true → kind ≡ text_kind k → to ≡ past p.now t → step_of kind None p.now to ≡ steps.Entry e → entry_by (with_levels p levels) (record { «class» = k; text = t }) ≡ steps.Entry e ∷ []
 text_given p k t levels kind to e i is at gives =
     text_entry (with_levels p levels) k t i
     ∙ ap (λ (n : Kind). step_of n None p.now (past p.now t) ∷ []) (sym is)
     ∙ ap (λ (r : Point). step_of kind None p.now r ∷ []) (sym at)
     ∙ ap (λ (s : Step). s ∷ []) gives
 
-pub operator_given : (p : Progress) (o : Exact) (t : List ℕ) (levels : List ℕ) (to : Point) (e : Entry) → (is_closer o && (p.depth == 0)) ≡ false → to ≡ past p.now t → step_of kinds.Op (Some o) p.now to ≡ steps.Entry e → entry_by (with_levels p levels) (record { «class» = Operator o; text = t }) ≡ steps.Entry e ∷ []
+pub operator_given : (p : LineState) (o : Exact) (t : List ℕ) (levels : List ℕ) (to : Point) (e : Entry) → (is_closer o && (p.depth == 0)) ≡ false → to ≡ past p.now t → step_of kinds.Op (Some o) p.now to ≡ steps.Entry e → entry_by (with_levels p levels) (record { «class» = Operator o; text = t }) ≡ steps.Entry e ∷ []
 operator_given p o t levels to e none at gives =
     operator_entry (with_levels p levels) o t none
     ∙ ap (λ (r : Point). step_of kinds.Op (Some o) p.now r ∷ []) (sym at)
     ∙ ap (λ (s : Step). s ∷ []) gives
 
-pub line_end_given : (p : Progress) (bs : List ℕ) (levels : List ℕ) (kind : Kind) (e : Entry) → line_end_kind_of (with_levels p levels) ≡ kind → length (chars bs) ≡ length bs → bytes_in (chars bs) ≡ length bs → step_of kind None p.now (record { place = record { row = p.now.place.row; column = p.now.place.column + length bs }; offset = p.now.offset + length bs }) ≡ steps.Entry e → entry_by (with_levels p levels) (record { «class» = LineEnd; text = chars bs }) ≡ steps.Entry e ∷ []
+pub line_end_given : (p : LineState) (bs : List ℕ) (levels : List ℕ) (kind : Kind) (e : Entry) → line_end_kind_of (with_levels p levels) ≡ kind → length (chars bs) ≡ length bs → bytes_in (chars bs) ≡ length bs → step_of kind None p.now (record { place = record { row = p.now.place.row; column = p.now.place.column + length bs }; offset = p.now.offset + length bs }) ≡ steps.Entry e → entry_by (with_levels p levels) (record { «class» = LineEnd; text = chars bs }) ≡ steps.Entry e ∷ []
 line_end_given p bs levels kind e is many counted gives =
     line_end_entry (with_levels p levels) (chars bs)
     ∙ ap (λ (n : Kind). step_of n None p.now (behind p.now (chars bs)) ∷ []) is
@@ -255,7 +255,7 @@ or_none true = refl
 or_none false = refl
 
 -- past it there is room for what follows
-pub passed_room : (p : Progress) (k : Class) (text : List ℕ) (q : Progress) → p.margin ≡ false → Passed p k (chars text) q → bytes_in (chars text) ≡ length text → 0 < length text → (n : ℕ) → HasRoom p (length text + n) → HasRoom q n
+pub passed_room : (p : LineState) (k : Class) (text : List ℕ) (q : LineState) → p.margin ≡ false → Passed p k (chars text) q → bytes_in (chars text) ≡ length text → 0 < length text → (n : ℕ) → HasRoom p (length text + n) → HasRoom q n
 unfolding after
 passed_room p k text q m is counted some n room =
     let x : Lexeme = record { «class» = k; text = chars text } in
@@ -282,7 +282,7 @@ join_gives s t = refl
 pub cuts_as : (bytes front back : List ℕ) (k m : Class) → k ≡ m → Cuts bytes k front back → Cuts bytes m front back
 cuts_as bytes front back k m e c = subst (λ (n : Class). Cuts bytes n front back) e c
 
-pub fewer : (p : Progress) (m n : ℕ) → HasRoom p (m + n) → HasRoom p m
+pub fewer : (p : LineState) (m n : ℕ) → HasRoom p (m + n) → HasRoom p m
 fewer p m n h = record {
   row = omega (arith, h.row);
   column = omega (arith, h.column);

@@ -2,8 +2,8 @@
 use Rattle.std.proofs.Common.{◌≡◌, ℕ, ◌<◌, ◌≤◌, Bool, true, false, ◌&&◌, ◌||◌, ◌==◌, List, [], ◌∷◌, ◌++◌, length, refl, ap, ◌∙◌, sym, subst, arith, length-append}
 use Rattle.std.specs.Prelude.{nat_lt}
 use Rattle.std.proofs.lemmas.Bool.Decides.{nat_tests}
-use Rattle.pylex.specs.declared.position.Layout.TheVariants as layouts
-use Rattle.pylex.specs.Progress.{IsAscending, IsTop, IsLayout, is_above, is_level}
+use Rattle.pylex.specs.declared.machine.Indentation.TheVariants as indentations
+use Rattle.pylex.specs.LineState.{IsAscending, IsTop, IsIndentation, is_above, is_level}
 use Rattle.pylexeme.proofs.Cases.{and_parts}
 use Rattle.pylex.proofs.Layouts.{above-push, level-push, count-push, ascending_above, pushed_last, count_none}
 
@@ -52,14 +52,14 @@ indent_by w t ls (last front v e) a top h =
     let less : nat_lt v w ≡ true = grind (arith, nat_tests) in
     ap (λ xs. is_above w (0 ∷ xs)) e ∙ above-push w v (0 ∷ front) ∙ rw (more, less) refl
 
-pub top_indent : (w t : ℕ) (ls : List ℕ) → IsAscending 0 ls → IsTop ls t → t < w → IsLayout w ls layouts.Indent
+pub top_indent : (w t : ℕ) (ls : List ℕ) → IsAscending 0 ls → IsTop ls t → t < w → IsIndentation w ls indentations.Indent
 top_indent w t ls a top h = indent_by w t ls (snoc ls) a top h
 
 or_true : (b : Bool) → (b || true) ≡ true
 or_true true = refl
 or_true false = refl
 
-level_last : (v : ℕ) (front : List ℕ) → is_above v (0 ∷ front) ≡ true → IsLayout v (front ++ v ∷ []) layouts.Level
+level_last : (v : ℕ) (front : List ℕ) → is_above v (0 ∷ front) ≡ true → IsIndentation v (front ++ v ∷ []) indentations.Level
 level_last v front below =
     let counted = count_none v (0 ∷ front) below in
     let not_less : nat_lt v v ≡ false = grind (arith, nat_tests) in
@@ -70,28 +70,28 @@ level_last v front below =
       pushed_last v (0 ∷ front) below,
     )
 
-level_by : (w t : ℕ) (ls : List ℕ) → Snoc ls → IsAscending 0 ls → IsTop ls t → w ≡ t → IsLayout w ls layouts.Level
+level_by : (w t : ℕ) (ls : List ℕ) → Snoc ls → IsAscending 0 ls → IsTop ls t → w ≡ t → IsIndentation w ls indentations.Level
 level_by w t ls (empty e) a top h =
     let z : w ≡ 0 = h ∙ top.none (ap length e) in
     rw (z, e) (refl, refl, refl, refl)
 level_by w t ls (last front v e) a top h =
     let same : w ≡ v = h ∙ sym (top.last front v e) in
     let below : is_above v (0 ∷ front) ≡ true = ascending_above 0 v front (subst (IsAscending 0) e a) in
-    subst (λ (xs : List ℕ). IsLayout w xs layouts.Level) (sym e) (subst (λ (u : ℕ). IsLayout u (front ++ v ∷ []) layouts.Level) (sym same) (level_last v front below))
+    subst (λ (xs : List ℕ). IsIndentation w xs indentations.Level) (sym e) (subst (λ (u : ℕ). IsIndentation u (front ++ v ∷ []) indentations.Level) (sym same) (level_last v front below))
 
-pub top_level : (w t : ℕ) (ls : List ℕ) → IsAscending 0 ls → IsTop ls t → w ≡ t → IsLayout w ls layouts.Level
+pub top_level : (w t : ℕ) (ls : List ℕ) → IsAscending 0 ls → IsTop ls t → w ≡ t → IsIndentation w ls indentations.Level
 top_level w t ls a top h = level_by w t ls (snoc ls) a top h
 
 some_by : (w t : ℕ) (ls : List ℕ) → Snoc ls → IsTop ls t → w < t → 0 < length ls
 some_by w t ls (empty e) top h = let z : t ≡ 0 = top.none (ap length e) in absurd (omega arith)
 some_by w t ls (last front v e) top h = let l = ap length e ∙ length-append front (v ∷ []) in omega arith
 
-pub top_dedent : (w t : ℕ) (ls : List ℕ) → IsTop ls t → w < t → is_level w (0 ∷ ls) ≡ true → IsLayout w ls layouts.Dedent
+pub top_dedent : (w t : ℕ) (ls : List ℕ) → IsTop ls t → w < t → is_level w (0 ∷ ls) ≡ true → IsIndentation w ls indentations.Dedent
 top_dedent w t ls top h level = (level, some_by w t ls (snoc ls) top h, λ front v e. let same : v ≡ t = top.last front v e in omega arith)
 
 mismatch_by : (w t : ℕ) (ls : List ℕ) → Snoc ls → IsTop ls t → w < t → is_above w (0 ∷ ls) ≡ false
 mismatch_by w t ls (empty e) top h = let z : t ≡ 0 = top.none (ap length e) in absurd (omega arith)
 mismatch_by w t ls (last front v e) top h = let same : v ≡ t = top.last front v e in ap (λ xs. is_above w (0 ∷ xs)) e ∙ last_above w v (0 ∷ front) (omega arith)
 
-pub top_mismatch : (w t : ℕ) (ls : List ℕ) → IsTop ls t → w < t → is_level w (0 ∷ ls) ≡ false → IsLayout w ls layouts.Mismatch
+pub top_mismatch : (w t : ℕ) (ls : List ℕ) → IsTop ls t → w < t → is_level w (0 ∷ ls) ≡ false → IsIndentation w ls indentations.Mismatch
 top_mismatch w t ls top h level = (mismatch_by w t ls (snoc ls) top h, level)

@@ -11,9 +11,9 @@ use Rattle.pylex.specs.declared.entries.ListingFault.{ListingFault}
 use Rattle.pylex.specs.declared.entries.ListingError.TheVariants as errors
 use Rattle.pylex.specs.declared.entries.Step.{Step}
 use Rattle.pylex.specs.declared.entries.Step.TheVariants as steps
-use Rattle.pylex.specs.declared.state.Point.{Point}
-use Rattle.pylex.specs.declared.state.Front.{Front}
-use Rattle.pylex.specs.declared.state.Front.TheVariants.{Nothing, Hash, Other}
+use Rattle.pylex.specs.declared.line_state.Point.{Point}
+use Rattle.pylex.specs.declared.line_state.LeadingChar.{LeadingChar}
+use Rattle.pylex.specs.declared.line_state.LeadingChar.TheVariants.{Nothing, Hash, Other}
 use Rattle.pylexeme.specs.Chars.{is_blank_char}
 use Rattle.pylexeme.specs.Operators.{is_closer}
 use Rattle.pylexeme.specs.Lexemes.{Lexeme, cut, left_by_cut, is_join_class}
@@ -30,22 +30,22 @@ pub record State : Type 0 where
   pub width : ℕ
   pub logical : Bool
   pub joined : Bool
-  pub front : Front
+  pub front : LeadingChar
 
 -- the place after a text that begins at a place
-abbrev pub advance : Place → List ℕ → Place
-advance p [] = p
-advance p (c ∷ cs) = advance (if c == 10 then record { row = p.row + 1; column = 0 } else record { row = p.row; column = p.column + 1 }) cs
+abbrev pub place_past : Place → List ℕ → Place
+place_past p [] = p
+place_past p (c ∷ cs) = place_past (if c == 10 then record { row = p.row + 1; column = 0 } else record { row = p.row; column = p.column + 1 }) cs
 
-abbrev pub front_after_char : Front → ℕ → Front
+abbrev pub front_after_char : LeadingChar → ℕ → LeadingChar
 front_after_char f c = if c == 10 then Nothing else elim f [ Nothing ↦ if is_blank_char c then Nothing else (if c == 35 then Hash else Other) | Hash ↦ Hash | Other ↦ Other ]
 
-abbrev pub front_after : Front → List ℕ → Front
+abbrev pub front_after : LeadingChar → List ℕ → LeadingChar
 front_after f [] = f
 front_after f (c ∷ cs) = front_after (front_after_char f c) cs
 
 abbrev pub past : Point → List ℕ → Point
-past p t = record { place = advance p.place t; offset = p.offset + bytes_in t }
+past p t = record { place = place_past p.place t; offset = p.offset + bytes_in t }
 
 -- the open levels after a line of a width: those below it, and it
 abbrev pub pushed : ℕ → List ℕ → List ℕ
@@ -121,7 +121,7 @@ entry_by s x = elim x.«class» [
 unfoldable pub gives : State → Lexeme → List Step
 gives s x = (if is_significant x then layout_of s else []) ++ entry_by s x
 
-abbrev pub is_hash : Front → Bool
+abbrev pub is_hash : LeadingChar → Bool
 is_hash f = elim f [ Hash ↦ true | _ ↦ false ]
 
 unfoldable pub last_line_end : State → List Step

@@ -6,12 +6,12 @@ ghost use Rattle.std.specs.Option.{IsSomeAnd};
 ghost use Rattle.std.specs.String.{string_bytes};
 ghost use Rattle.pylex.specs.Cursors.{CursorParts, cursor_text, part, with_commas};
 ghost use Rattle.pylex.specs.CursorTexts.{AreLevels, IsWellFormed};
-ghost use Rattle.pylex.specs.Progress.{IsAscending, with_levels};
+ghost use Rattle.pylex.specs.LineState.{IsAscending, with_levels};
 ghost use Rattle.pylex.specs.Standing.{resumed};
 ghost use Rattle.pylex.specs.Listers.{shown_at, shown_by};
 ghost use Rattle.std.specs.Str.{chars};
 
-use crate::state::{Point, Progress, front_of};
+use crate::line_state::{LineState, Point, front_of};
 use itoa::Buffer;
 use pylexeme::scanner::char_count;
 use pysource::Place;
@@ -66,7 +66,7 @@ pub(crate) struct Shown {
 
 impl Shown {
     /// Directly behind an entry.
-    pub(crate) fn at(now: Progress) -> Shown
+    pub(crate) fn at(now: LineState) -> Shown
         ensures { (k : ℕ) (levels : List ℕ) → shown_by k result levels 0 ≡ shown_at k (with_levels now (0 ∷ levels)) }
     {
         Shown {
@@ -79,7 +79,7 @@ impl Shown {
 
     /// Stands directly behind an entry.
     #[inline(always)]
-    pub(crate) fn stand(&mut self, now: Progress)
+    pub(crate) fn stand(&mut self, now: LineState)
         ensures { (k : ℕ) (levels : List ℕ) → shown_by k self.new levels 0 ≡ shown_at k (with_levels now (0 ∷ levels)) }
     {
         self.offset = now.now.offset;
@@ -90,7 +90,7 @@ impl Shown {
 
     #[tactic(auto, unfolding(crate::specs::Standing::resumed))]
     /// How far a lister has come there; the point's line so far is this.
-    pub(crate) fn progress(self, line: &str) -> Progress
+    pub(crate) fn line_state(self, line: &str) -> LineState
         requires { length line.now < 2 ^ 62 }
         ensures { (k n : ℕ) (levels : List ℕ) → with_levels result (0 ∷ levels) ≡ resumed (shown_by k self levels n) (chars line.now) }
     {
@@ -101,7 +101,7 @@ impl Shown {
             },
             offset: self.offset,
         };
-        Progress {
+        LineState {
             now,
             line: now,
             depth: self.depth,

@@ -7,22 +7,23 @@
 //! of one goes on with another.
 #![tactic(auto)]
 
-mod chunk;
 mod cursors;
 mod entries;
+mod held_lines;
 mod kinds;
+mod line_lister;
+mod line_state;
 mod lines;
 mod lister;
+mod machine;
 mod margins;
 mod measures;
-mod position;
-mod state;
-mod stream;
 mod stream_lister;
 
 pub use cursors::{Cursor, CursorFault};
 pub use entries::{Entry, ListingError, ListingFault, Step, text};
 pub use kinds::{Exact, Kind};
+pub use line_lister::{LineLister, ResumeFault};
 pub use lines::{line_text, push_line};
 pub use lister::Lister;
 pub use margins::Widths;
@@ -30,5 +31,4 @@ pub use measures::widths;
 pub use pylexeme::lexeme::{Class, begins_significant, cut};
 pub use pylexeme::operators::exact_of;
 pub use pylexeme::string::{OpenLiteral, is_open_string, open_literal, opens_string};
-pub use stream::{LineLister, ResumeFault};
 pub use stream_lister::StreamLister;

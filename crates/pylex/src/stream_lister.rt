@@ -9,11 +9,11 @@ ghost use Rattle.pysource.specs.Streams.{Refuses};
 ghost use Rattle.pysource.specs.Taking.{fails};
 ghost use Rattle.pylex.specs.ListingLines.{text_of};
 ghost use Rattle.pylex.specs.Steps.{most_entries};
-ghost use Rattle.pylex.specs.Streamed.{Begins, BeginsAnew, MissesBy, Steps, StreamsIn};
+ghost use Rattle.pylex.specs.Streamed.{Begins, BeginsAnew, ResumeRefusal, Next, StreamsIn};
 
 use crate::cursors::Cursor;
 use crate::entries::{Entry, Step};
-use crate::stream::{LineLister, ResumeFault};
+use crate::line_lister::{LineLister, ResumeFault};
 use pysource::{ByteIn, StreamFault};
 use std::alloc::{AllocError, Global};
 
@@ -72,7 +72,7 @@ impl<R: ByteIn> StreamLister<R> {
         ensures shown { IfOk result (λ s. s.lister.shown ≡ cursor.now) }
         ensures told { IfOk result (λ s. s.told ≡ R.failure_count reader) }
         ensures steady { IfOk result (λ s. IsSteady (R.may_fail reader) (R.may_fail s.reader) (R.failure_count reader) (R.failure_count s.reader)) }
-        ensures misses { IfErr result (λ e. (come : Option (List ℕ)) × (told : ℕ) × (R.may_fail reader ≡ false → told ≡ R.failure_count reader) × MissesBy (R.to_come reader) come (R.failure_count reader) told cursor.now e) }
+        ensures misses { IfErr result (λ e. (come : Option (List ℕ)) × (told : ℕ) × (R.may_fail reader ≡ false → told ≡ R.failure_count reader) × ResumeRefusal (R.to_come reader) come (R.failure_count reader) told cursor.now e) }
     {
         let told = reader.failures();
         let lister = LineLister::resume_checked(alloc, &mut reader, cursor)?;
@@ -92,7 +92,7 @@ impl<R: ByteIn> StreamLister<R> {
 
     /// The next entry, the end, or the fault that ends the listing, as [`LineLister::next`].
     pub fn next(&mut self) -> Result<Step, AllocError>
-        ensures steps { Steps (R.to_come self.old.reader) (R.to_come self.new.reader) (R.failure_count self.old.reader) (R.failure_count self.new.reader) self.old.lister self.new.lister result }
+        ensures steps { Next (R.to_come self.old.reader) (R.to_come self.new.reader) (R.failure_count self.old.reader) (R.failure_count self.new.reader) self.old.lister self.new.lister result }
         ensures given { self.new.lister.shown.given ≤ most_entries }
         ensures told { self.new.told ≡ self.old.told }
         ensures steady { IsSteady (R.may_fail self.old.reader) (R.may_fail self.new.reader) (R.failure_count self.old.reader) (R.failure_count self.new.reader) }

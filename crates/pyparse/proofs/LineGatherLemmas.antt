@@ -15,7 +15,7 @@ use Rattle.pylex.specs.declared.entries.Step.{Step}
 use Rattle.pylex.specs.declared.entries.Step.TheVariants as steps
 use Rattle.pylex.specs.Laws.{LiesIn, HasExact}
 use Rattle.pylex.specs.Listing.{Source, in_characters, listing}
-use Rattle.pylex.specs.Listers.{Listed, StandsIn, Moves}
+use Rattle.pylex.specs.Listers.{Listed, StandsIn, NextStep}
 use Rattle.pylex.proofs.Callers.{entry_lies}
 use Rattle.pylex.specs.Steps.{entries_of, most_entries}
 use Rattle.pytoken.specs.Tokens.{Token, Line, text_of, token_of, is_open, level_behind, tokens_from, lines_from, tokens, lines}
@@ -168,7 +168,7 @@ pub record Read (p : Parts) (old new : Listed) (e : Entry) : Type 0 where
   pub grown : take (old.shown.given + 1) (entries_of (listing (in_characters p))) ≡ take old.shown.given (entries_of (listing (in_characters p))) ++ e ∷ []
   pub stands : StandsIn new (in_characters p) new.shown.given
 
-pub entry_read : (p : Parts) (old new : Listed) (g : LineGather) (step : Step) (e : Entry) → StandsAt p old g → Moves old step new → step ≡ steps.Entry e →
+pub entry_read : (p : Parts) (old new : Listed) (g : LineGather) (step : Step) (e : Entry) → StandsAt p old g → NextStep old step new → step ≡ steps.Entry e →
     Read p old new e
 entry_read p old new g step e had moves is =
     let s = in_characters p in
