@@ -31,12 +31,12 @@ use Rattle.pylex.specs.Class.{Class}
 use Rattle.pylex.specs.Class.TheVariants.{Name, Number, String, Operator, Comment, Blanks, LineEnd, Join}
 use Rattle.pylex.specs.Cursors.{CursorParts}
 use Rattle.pylex.specs.Lexemes.{Lexeme, cut, left_by_cut, is_open_string}
-use Rattle.pylex.specs.Levels.{open_levels}
-use Rattle.pylex.specs.Lines.{text_before, depth, is_significant, is_at_margin, is_logical, width_at, widths}
+use Rattle.pylex.specs.Indentation.{open_levels, width_at, widths, dedents, layout, layout_by}
+use Rattle.pylex.specs.Lines.{text_before, depth, is_significant, is_at_margin, is_logical}
 use Rattle.pylex.specs.Chars.{bytes_in}
-use Rattle.pylex.specs.Listing.{Source, in_characters, of_line, listing, rest, fault_at, dedents, layout, layout_by, entry_of, steps_of, stop_fault, begins_comment, last_line, line_end_of_last, end_place, ends_in_join, tail, stop, steps_from, up_to_end}
+use Rattle.pylex.specs.Listing.{Source, in_characters, of_line, listing, rest, entry_of, steps_of, stop_fault, begins_comment, last_line, line_end_of_last, end_place, ends_in_join, tail, stop, steps_from, up_to_end}
 use Rattle.pylex.specs.Operators.{is_closer}
-use Rattle.pylex.specs.Steps.{entries_of, fault_of}
+use Rattle.pylex.specs.Steps.{entries_of, fault_of, fault_at}
 use Rattle.pylex.specs.Strings.{opens_string}
 use Rattle.pylex.specs.Streamed.{is_unread_code}
 use Rattle.pyfault.specs.Faults.{listing_code, told_at, of_listing}

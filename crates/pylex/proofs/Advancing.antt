@@ -6,7 +6,8 @@ use Rattle.pysource.specs.declared.places.Place.{Place}
 use Rattle.pylex.specs.declared.line_state.Point.{Point}
 use Rattle.pylex.specs.declared.line_state.LineState.{LineState}
 use Rattle.pylexeme.specs.Lexemes.{Lexeme}
-use Rattle.pylex.specs.Lines.{opens, closes, is_significant, is_of_blanks, is_of_line_end, width_from}
+use Rattle.pylex.specs.Lines.{opens, closes, is_significant, is_of_blanks, is_of_line_end}
+use Rattle.pylex.specs.Indentation.{width_from}
 use Rattle.pylexeme.specs.Chars.{bytes_in}
 use Rattle.pylex.specs.Machine.{place_past, front_after, after, past, count_if, still, is_of_join}
 use Rattle.pylexeme.proofs.Cases.{bool_cases}

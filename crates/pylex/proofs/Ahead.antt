@@ -7,9 +7,9 @@ use Rattle.pylexeme.specs.declared.lexeme.Class.TheVariants.{Name, Number, Strin
 use Rattle.pylex.specs.declared.entries.ListingFault.{ListingFault}
 use Rattle.pylex.specs.declared.entries.Step.{Step}
 use Rattle.pylexeme.specs.Lexemes.{Lexeme, lexeme_at, cut, left_by_cut}
-use Rattle.pylex.specs.Lines.{text_before, depth, opens, closes, is_of_blanks, is_of_line_end, is_significant, line_so_far, is_at_margin, is_logical, width_at, widths}
+use Rattle.pylex.specs.Lines.{text_before, depth, opens, closes, is_of_blanks, is_of_line_end, is_significant, line_so_far, is_at_margin, is_logical}
 use Rattle.pylexeme.specs.Chars.{bytes_in}
-use Rattle.pylex.specs.Levels.{open_levels}
+use Rattle.pylex.specs.Indentation.{width_at, widths, open_levels}
 use Rattle.pylex.specs.Listing.{Source, last_line, ends_in_join, up_to_end, stop_fault}
 use Rattle.pylex.specs.Cursors.{cursor_at, lexemes_to}
 use Rattle.pylex.specs.Machine.{State, pushed, after, is_of_join, layout_of, entry_by, gives, stop_of, run, remaining}

@@ -17,8 +17,8 @@ use Rattle.pylex.specs.declared.entries.Step.TheVariants as steps
 use Rattle.pylexeme.specs.Operators.{is_closer}
 use Rattle.pylexeme.specs.Lexemes.{Lexeme, cut, left_by_cut}
 use Rattle.pylex.specs.Lines.{is_significant}
-use Rattle.pylex.specs.Listing.{Source, mark, origin, up_to_end, stop_fault}
-use Rattle.pylex.specs.Steps.{entries_of, fault_of}
+use Rattle.pylex.specs.Listing.{Source, origin, up_to_end, stop_fault}
+use Rattle.pylex.specs.Steps.{entries_of, fault_of, mark}
 use Rattle.pylex.specs.Cursors.{is_indent}
 use Rattle.pylex.specs.Machine.{State, behind, pushed, after, dedents_at, mark_at, line_end_kind_of, layout_of, entry_by, gives, is_hash, last_line_end, last_place, tail_of, stop_of, run, remaining, first_state}
 use Rattle.pylex.specs.Laws.{is_dedent, ClosesBlocks}

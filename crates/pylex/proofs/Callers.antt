@@ -14,9 +14,9 @@ use Rattle.pylex.specs.Lines.{is_significant}
 use Rattle.pylex.specs.Cursors.{CursorParts, cursor, flag, same_parts}
 use Rattle.pylex.specs.Laws.{LiesIn, AllLie, AreLexemes, IsCut, LongestWins}
 use Rattle.pylex.specs.Machine.{remaining, first_state}
-use Rattle.pylex.specs.Listing.{Source, listing, rest, up_to_end, mark, origin, steps_from}
+use Rattle.pylex.specs.Listing.{Source, listing, rest, up_to_end, origin, steps_from}
 use Rattle.pylex.specs.Standing.{is_cursor_of, IsCursorOf}
-use Rattle.pylex.specs.Steps.{entries_of, fault_of}
+use Rattle.pylex.specs.Steps.{entries_of, fault_of, mark}
 use Rattle.pylex.proofs.Finding as finding
 use Rattle.pylex.proofs.Lexed as lexed
 use Rattle.pylex.proofs.Run as run

@@ -17,8 +17,8 @@ use Rattle.pylexeme.specs.Operators.{is_closer}
 use Rattle.pylexeme.specs.Lexemes.{Lexeme, are_blanks, is_join, lexeme_at, cut, left_by_cut}
 use Rattle.pylex.specs.Lines.{is_of_blanks, is_of_line_end, is_significant}
 use Rattle.pylexeme.specs.Chars.{bytes_in}
-use Rattle.pylex.specs.Listing.{Source, mark, origin, up_to_end, stop_fault}
-use Rattle.pylex.specs.Steps.{entries_of, fault_of}
+use Rattle.pylex.specs.Listing.{Source, origin, up_to_end, stop_fault}
+use Rattle.pylex.specs.Steps.{entries_of, fault_of, mark}
 use Rattle.pylex.specs.Machine.{State, past, behind, after, dedents_at, mark_at, step_of, layout_of, entry_by, gives, is_hash, last_line_end, last_place, tail_of, stop_of, run, remaining, first_state}
 use Rattle.pylex.specs.Laws.{AreLexemes, IsGap, StandsNext, Covers, IsCovered}
 use Rattle.pylexeme.proofs.Cases.{bool_cases}

@@ -10,9 +10,9 @@ use Rattle.std.proofs.lemmas.List.Elements.{All-cons, All-nil, All-from_recursio
 use Rattle.std.proofs.Math.Nat.{div-mul-le_self}
 use Rattle.pysource.specs.Places.{place_after}
 use Rattle.pylexeme.specs.Lexemes.{Lexeme}
-use Rattle.pylex.specs.Lines.{text_before, depth, opens, is_significant, line_so_far, is_at_margin, column_after, width_from, width_at, widths}
+use Rattle.pylex.specs.Lines.{text_before, depth, opens, is_significant, line_so_far, is_at_margin}
 use Rattle.pylexeme.specs.Chars.{bytes_in}
-use Rattle.pylex.specs.Levels.{below, is_open, open_levels}
+use Rattle.pylex.specs.Indentation.{column_after, width_from, width_at, widths, below, is_open, open_levels}
 use Rattle.pylex.specs.Listing.{Source, in_characters}
 use Rattle.pylex.specs.Cursors.{CursorParts, cursor_at, cursor}
 use Rattle.pylex.specs.Standing.{front_to, back_from}

@@ -15,12 +15,12 @@ use Rattle.pylex.specs.declared.entries.Step.TheVariants as steps
 use Rattle.pylexeme.specs.Operators.{is_closer}
 use Rattle.pylexeme.specs.Cuts.{begins_significant}
 use Rattle.pylexeme.specs.Lexemes.{Lexeme, lexeme_at, lexeme_len, cut}
-use Rattle.pylex.specs.Lines.{text_before, depth, closes, is_significant, line_so_far, before_line, is_at_margin, width_from, width_at, widths}
+use Rattle.pylex.specs.Lines.{text_before, depth, closes, is_significant, line_so_far, before_line, is_at_margin}
 use Rattle.pylexeme.specs.Chars.{bytes_in}
-use Rattle.pylex.specs.Levels.{open_levels}
+use Rattle.pylex.specs.Indentation.{width_from, width_at, widths, open_levels}
 use Rattle.pysource.specs.Parts.{Parts}
-use Rattle.pylex.specs.Listing.{Source, in_characters, listing, rest, mark, origin, last_line, up_to_end, fault_at}
-use Rattle.pylex.specs.Steps.{entries_of, first_step}
+use Rattle.pylex.specs.Listing.{Source, in_characters, listing, rest, origin, last_line, up_to_end}
+use Rattle.pylex.specs.Steps.{entries_of, first_step, mark, fault_at}
 use Rattle.pylex.specs.Cursors.{CursorParts, given_last_first, has_no_text, is_encoding, is_indent, with_text, point, ends_in_indent, lexemes_to, cursor_at, cursor}
 use Rattle.pylex.specs.Machine.{State, after, dedents_at, mark_at, stop_of, layout_of, step_of, entry_by, remaining, first_state, behind_steps}
 use Rattle.pylex.specs.LineState.{measured, is_above, is_level}

@@ -17,8 +17,8 @@ use Rattle.pylex.specs.declared.line_state.Emitted.TheVariants as gives
 use Rattle.pylex.specs.declared.line_state.LineState.{LineState}
 use Rattle.pylexeme.specs.Lexemes.{lexeme_at}
 use Rattle.pylexeme.specs.Cuts.{begins_significant}
-use Rattle.pylex.specs.Listing.{fault_at, further, stop_fault, row_after, up_to_end}
-use Rattle.pylex.specs.Steps.{first_step}
+use Rattle.pylex.specs.Listing.{further, stop_fault, row_after, up_to_end}
+use Rattle.pylex.specs.Steps.{first_step, fault_at}
 use Rattle.pylex.specs.Machine.{State, is_hash, stop_of, tail_of, last_line_end, last_place, remaining, behind_steps, mark_at, dedents_at}
 use Rattle.pylex.specs.LineState.{with_levels, given, GivesNoText, closing, IsAscending, StopAhead}
 use Rattle.pylexeme.proofs.Cases.{bool_cases}

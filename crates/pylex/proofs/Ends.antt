@@ -15,8 +15,8 @@ use Rattle.pylexeme.specs.declared.lexeme.Class.TheVariants.{Name, Number, Strin
 use Rattle.pylexeme.specs.Operators.{is_closer}
 use Rattle.pylex.specs.Lines.{is_significant}
 use Rattle.pylexeme.specs.Lexemes.{Lexeme, cut, left_by_cut, is_open_string}
-use Rattle.pylex.specs.Listing.{Source, mark, origin, fault_at, stop_fault, up_to_end}
-use Rattle.pylex.specs.Steps.{entries_of}
+use Rattle.pylex.specs.Listing.{Source, origin, stop_fault, up_to_end}
+use Rattle.pylex.specs.Steps.{entries_of, mark, fault_at}
 use Rattle.pylex.specs.Machine.{State, layout_of, entry_by, gives, is_hash, dedents_at, last_place, last_line_end, tail_of, stop_of, after, run, remaining, first_state}
 use Rattle.pylex.specs.Laws.{IsStop, EndsWithMarker, AreWhole, IsWhole}
 use Rattle.pylex.proofs.Run.{listing_is}

@@ -25,11 +25,11 @@ use Rattle.pylex.specs.declared.entries.Step.{Step}
 use Rattle.pylex.specs.declared.entries.Step.TheVariants as steps
 use Rattle.pylex.specs.declared.kinds.Kind.{Kind}
 use Rattle.pylex.specs.declared.kinds.Kind.TheVariants as kinds
-use Rattle.pylex.specs.Lines.{text_before, depth, is_significant, is_at_margin, is_logical, width_at, widths}
-use Rattle.pylex.specs.Levels.{open_levels}
-use Rattle.pylex.specs.Listing.{listing, in_characters, mark, origin, fault_at, dedents, layout_by, layout, entry_of, steps_of, stop_fault}
+use Rattle.pylex.specs.Lines.{text_before, depth, is_significant, is_at_margin, is_logical}
+use Rattle.pylex.specs.Indentation.{width_at, widths, open_levels, dedents, layout_by, layout}
+use Rattle.pylex.specs.Listing.{listing, in_characters, origin, entry_of, steps_of, stop_fault}
 use Rattle.pylex.specs.Listing.{last_line, begins_comment, line_end_of_last, end_place, ends_in_join, tail, stop, steps_from, up_to_end}
-use Rattle.pylex.specs.Steps.{entries_of}
+use Rattle.pylex.specs.Steps.{entries_of, mark, fault_at}
 use Rattle.pylex.specs.Laws.{AreLexemes, HasExact, HaveExact}
 use Rattle.pylex.proofs.Lexed.{cut_lexed, lexeme_class}
 use Rattle.pylex.proofs.Lying.{scalars_behind}

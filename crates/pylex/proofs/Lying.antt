@@ -19,11 +19,11 @@ use Rattle.pylex.specs.declared.entries.ListingError.TheVariants as errors
 use Rattle.pylexeme.specs.Strings.{opens_string}
 use Rattle.pylexeme.specs.Operators.{is_closer}
 use Rattle.pylexeme.specs.Lexemes.{Lexeme, cut, left_by_cut, is_open_string}
-use Rattle.pylex.specs.Lines.{text_before, depth, is_significant, line_so_far, before_line, is_at_margin, is_logical, width_at, widths}
+use Rattle.pylex.specs.Lines.{text_before, depth, is_significant, line_so_far, before_line, is_at_margin, is_logical}
 use Rattle.pylexeme.specs.Chars.{bytes_in}
-use Rattle.pylex.specs.Levels.{open_levels}
-use Rattle.pylex.specs.Listing.{Source, listing, in_characters, mark, origin, fault_at, dedents, layout_by, layout, entry_of, steps_of, stop_fault, last_line, begins_comment, line_end_of_last, end_place, ends_in_join, tail, stop, steps_from, up_to_end}
-use Rattle.pylex.specs.Steps.{first_step, rest_of}
+use Rattle.pylex.specs.Indentation.{width_at, widths, open_levels, dedents, layout_by, layout}
+use Rattle.pylex.specs.Listing.{Source, listing, in_characters, origin, entry_of, steps_of, stop_fault, last_line, begins_comment, line_end_of_last, end_place, ends_in_join, tail, stop, steps_from, up_to_end}
+use Rattle.pylex.specs.Steps.{first_step, rest_of, mark, fault_at}
 use Rattle.pylex.specs.Laws.{LiesIn, StepLies, AllLie, AreLexemes}
 use Rattle.pylex.proofs.Law.{bytes_in-append}
 use Rattle.pylex.proofs.Run.{line_split}

@@ -3,7 +3,7 @@ use Rattle.std.proofs.Common.{◌≡◌, ℕ, true, false, List, [], ◌∷◌, 
 use Rattle.std.specs.Str.{chars}
 use Rattle.std.proofs.lemmas.List.Sums.{take_while-cons}
 use Rattle.pylexeme.specs.Chars.{is_blank_char}
-use Rattle.pylex.specs.Lines.{column_after, width_from}
+use Rattle.pylex.specs.Indentation.{column_after, width_from}
 use Rattle.pylex.specs.declared.margins.Widths.{Widths}
 use Rattle.pylex.specs.Margins.{column_by_one, width_by_one, blanks_of, widths_of}
 use Rattle.pylex.proofs.Walking.{width_more, width_none}

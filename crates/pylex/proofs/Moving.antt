@@ -18,8 +18,8 @@ use Rattle.pylex.specs.declared.line_state.LineState.{LineState}
 use Rattle.pylex.specs.declared.line_state.LeadingChar.TheVariants.{Nothing}
 use Rattle.pylexeme.specs.Lexemes.{cut, left_by_cut}
 use Rattle.pylex.specs.Cursors.{CursorParts, has_no_text, given_last_first, with_text, lexemes_to, cursor_at, cursor}
-use Rattle.pylex.specs.Listing.{Source, in_characters, listing, rest, mark, origin, last_line}
-use Rattle.pylex.specs.Steps.{entries_of, first_step, entries_in, IsIndent}
+use Rattle.pylex.specs.Listing.{Source, in_characters, listing, rest, origin, last_line}
+use Rattle.pylex.specs.Steps.{entries_of, first_step, entries_in, IsIndent, mark}
 use Rattle.pylex.specs.Machine.{State, first_state, remaining, mark_at, step_of, pushed, after, front_after}
 use Rattle.pylex.specs.LineState.{with_levels, measured, begun_anew, Stands, HasRoom, IsAscending, Comes, EntryAhead, FaultAhead, IndentAhead, DedentAhead, StopAhead, Walks, stays, dedent, is_level}
 use Rattle.pylex.specs.Laws.{IsStop}

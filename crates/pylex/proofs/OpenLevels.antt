@@ -4,7 +4,7 @@ use Rattle.std.specs.Prelude.{nat_lt}
 use Rattle.std.proofs.lemmas.Bool.Decides.{nat_tests}
 use Rattle.std.proofs.lemmas.List.{append-nil}
 use Rattle.std.proofs.lemmas.List.Elements.{filter-append}
-use Rattle.pylex.specs.Levels.{below, is_open, open_levels}
+use Rattle.pylex.specs.Indentation.{below, is_open, open_levels}
 use Rattle.pylex.specs.LineState.{IsAscending, is_above}
 use Rattle.pylexeme.proofs.Cases.{bool_cases, and_parts}
 use Rattle.pylex.proofs.Layouts.{above-push, ascending-push}

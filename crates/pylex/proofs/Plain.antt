@@ -9,7 +9,7 @@ use Rattle.pylex.specs.declared.line_state.LeadingChar.{LeadingChar}
 use Rattle.pylex.specs.declared.line_state.LeadingChar.TheVariants.{Nothing, Hash, Other}
 use Rattle.pylex.specs.Machine.{place_past, front_after}
 use Rattle.std.specs.Prelude.{slice_index}
-use Rattle.pylex.specs.Lines.{width_from}
+use Rattle.pylex.specs.Indentation.{width_from}
 use Rattle.pylex.specs.Plain.{AreSpaces, IsPlain}
 
 -- no character is an LF

@@ -5,7 +5,8 @@ use Rattle.std.proofs.lemmas.List.{reverse-reverse, length-reverse}
 use Rattle.std.proofs.lemmas.List.Sums.{take_while-cons}
 use Rattle.pysource.specs.Places.{place_after}
 use Rattle.pylexeme.specs.Lexemes.{Lexeme}
-use Rattle.pylex.specs.Lines.{text_before, line_so_far, is_at_margin, is_logical, width_from, width_at}
+use Rattle.pylex.specs.Lines.{text_before, line_so_far, is_at_margin, is_logical}
+use Rattle.pylex.specs.Indentation.{width_from, width_at}
 use Rattle.pylex.specs.Listing.{last_line, ends_in_join}
 use Rattle.pylex.specs.Cursors.{cursor_at}
 use Rattle.pylex.specs.Machine.{front_after}

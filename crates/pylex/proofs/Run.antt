@@ -9,10 +9,11 @@ use Rattle.pylex.specs.declared.entries.ListingError.TheVariants as errors
 use Rattle.pylex.specs.declared.entries.Step.{Step}
 use Rattle.pylex.specs.declared.entries.Step.TheVariants as steps
 use Rattle.pylexeme.specs.Lexemes.{Lexeme, cut, left_by_cut}
-use Rattle.pylex.specs.Lines.{text_before, depth, closes, line_so_far, before_line, is_of_line_end, is_at_margin, is_logical, width_from, width_at, widths}
+use Rattle.pylex.specs.Lines.{text_before, depth, closes, line_so_far, before_line, is_of_line_end, is_at_margin, is_logical}
+use Rattle.pylex.specs.Steps.{mark}
 use Rattle.pylexeme.specs.Chars.{bytes_in}
-use Rattle.pylex.specs.Levels.{open_levels}
-use Rattle.pylex.specs.Listing.{Source, layout_by, layout, entry_of, steps_of, line_end_of_last, end_place, tail, stop, steps_from, up_to_end, listing, mark, origin}
+use Rattle.pylex.specs.Indentation.{width_from, width_at, widths, open_levels, layout_by, layout}
+use Rattle.pylex.specs.Listing.{Source, entry_of, steps_of, line_end_of_last, end_place, tail, stop, steps_from, up_to_end, listing, origin}
 use Rattle.pylex.specs.declared.kinds.Kind.TheVariants as kinds
 use Rattle.pylex.specs.Machine.{State, layout_of, entry_by, gives, last_line_end, tail_of, stop_of, run, remaining, after, behind_steps, first_state, still}
 use Rattle.pylexeme.proofs.Cases.{bool_cases}

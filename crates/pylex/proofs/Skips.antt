@@ -14,7 +14,8 @@ use Rattle.pylex.specs.declared.entries.Step.{Step}
 use Rattle.pylex.specs.declared.entries.Step.TheVariants as steps
 use Rattle.pylexeme.specs.Operators.{is_closer}
 use Rattle.pylexeme.specs.Lexemes.{Lexeme, cut, left_by_cut}
-use Rattle.pylex.specs.Lines.{is_significant, is_of_blanks, is_of_line_end, width_from}
+use Rattle.pylex.specs.Lines.{is_significant, is_of_blanks, is_of_line_end}
+use Rattle.pylex.specs.Indentation.{width_from}
 use Rattle.pylexeme.specs.Chars.{bytes_in}
 use Rattle.pylex.specs.Listing.{Source, listing, rest, stop_fault, up_to_end}
 use Rattle.pylex.specs.Steps.{entries_of, first_step}

@@ -14,10 +14,11 @@ use Rattle.pylex.specs.declared.entries.Step.TheVariants as steps
 use Rattle.pylex.specs.declared.kinds.Kind.TheVariants as kinds
 use Rattle.pylexeme.specs.Strings.{opens_string}
 use Rattle.pylexeme.specs.Operators.{is_closer}
-use Rattle.pylex.specs.Levels.{open_levels}
+use Rattle.pylex.specs.Indentation.{open_levels, width_at, widths, layout_by, layout}
+use Rattle.pylex.specs.Steps.{fault_at}
 use Rattle.pylexeme.specs.Lexemes.{Lexeme, cut, left_by_cut, is_open_string}
-use Rattle.pylex.specs.Lines.{text_before, depth, is_significant, is_at_margin, is_logical, width_at, widths}
-use Rattle.pylex.specs.Listing.{Source, listing, fault_at, layout_by, layout, line_end_kind, entry_of, steps_of, stop_fault, last_line, begins_comment, line_end_of_last, ends_in_join, tail, stop, steps_from, up_to_end}
+use Rattle.pylex.specs.Lines.{text_before, depth, is_significant, is_at_margin, is_logical}
+use Rattle.pylex.specs.Listing.{Source, listing, line_end_kind, entry_of, steps_of, stop_fault, last_line, begins_comment, line_end_of_last, ends_in_join, tail, stop, steps_from, up_to_end}
 
 -- if a step gives an entry, that is none of the encoding
 abbrev pub GivesText : Step → Type 0

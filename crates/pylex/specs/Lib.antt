@@ -1,5 +1,5 @@
 pub mod Lines
-pub mod Levels
+pub mod Indentation
 pub mod Listing
 pub mod Steps
 pub mod ListingLines

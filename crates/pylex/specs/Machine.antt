@@ -17,9 +17,11 @@ use Rattle.pylex.specs.declared.line_state.LeadingChar.TheVariants.{Nothing, Has
 use Rattle.pylexeme.specs.Chars.{is_blank_char}
 use Rattle.pylexeme.specs.Operators.{is_closer}
 use Rattle.pylexeme.specs.Lexemes.{Lexeme, cut, left_by_cut, is_join_class}
-use Rattle.pylex.specs.Lines.{is_of_blanks, is_of_line_end, is_significant, opens, closes, width_from}
+use Rattle.pylex.specs.Lines.{is_of_blanks, is_of_line_end, is_significant, opens, closes}
+use Rattle.pylex.specs.Steps.{fault_at}
+use Rattle.pylex.specs.Indentation.{width_from}
 use Rattle.pylexeme.specs.Chars.{bytes_in}
-use Rattle.pylex.specs.Listing.{fault_at, further, row_after, stop_fault, up_to_end}
+use Rattle.pylex.specs.Listing.{further, row_after, stop_fault, up_to_end}
 
 pub record State : Type 0 where
   pub now : Point

@@ -4,9 +4,9 @@ use Rattle.pylex.specs.declared.entries.ListingFault.{ListingFault}
 use Rattle.pylex.specs.declared.entries.Step.{Step}
 use Rattle.pylex.specs.declared.kinds.Kind.TheVariants as kinds
 use Rattle.pylexeme.specs.Chars.{bytes_in}
-use Rattle.pylex.specs.Listing.{Source, listing, rest, last_line, mark, origin}
+use Rattle.pylex.specs.Listing.{Source, listing, rest, last_line, origin}
 use Rattle.pylex.specs.Cursors.{CursorParts, cursor, same_parts}
-use Rattle.pylex.specs.Steps.{entries_of}
+use Rattle.pylex.specs.Steps.{entries_of, mark}
 use Rattle.pylex.specs.Machine.{State, front_after, remaining}
 use Rattle.pylex.specs.declared.line_state.Point.{Point}
 use Rattle.pylex.specs.declared.line_state.LeadingChar.TheVariants.{Nothing}

@@ -2,7 +2,7 @@
 
 ghost use Rattle.std.specs.Prelude.{◌≡◌, ◌↔◌, IsTrue, ℕ, ◌+◌, ◌*◌, ◌^◌, ◌<◌, ◌≤◌, ◌&&◌, ◌||◌, not, ◌==◌, if◌then◌else◌, List, [], ◌∷◌, length, false, true, Ok, ◌-◌, IfSome};
 ghost use Rattle.std.specs.Str.{chars};
-ghost use Rattle.pylex.specs.Lines.{column_after, width_from};
+ghost use Rattle.pylex.specs.Indentation.{column_after, width_from};
 ghost use Rattle.pylexeme.specs.Lexemes.{is_significant_class, is_blanks_class, is_line_end_class, is_join_class, is_opener_class, is_closer_class};
 ghost use Rattle.pylexeme.specs.Chars.{bytes_in};
 ghost use Rattle.pylexeme.specs.Operators.{is_closer};

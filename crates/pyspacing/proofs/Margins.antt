@@ -14,7 +14,7 @@ use Rattle.pylex.specs.declared.kinds.Kind.TheVariants as kinds
 use Rattle.pylex.specs.declared.entries.Entry.{Entry}
 use Rattle.pylexeme.specs.Chars.{begins, bytes_in, is_blank_char}
 use Rattle.pylexeme.specs.Cuts.{begins_significant}
-use Rattle.pylex.specs.Lines.{width_from}
+use Rattle.pylex.specs.Indentation.{width_from}
 use Rattle.pylex.specs.Margins.{width_by_one, blanks_of, widths_of}
 use Rattle.pytoken.specs.Indentation.{Margin, behind_offset, margin_at, ends_line, margins_from}
 use Rattle.pyspacing.specs.Spacing.{Piece, Line, is_token, text_behind, spaced, are_readable, lines_text}

@@ -8,8 +8,8 @@ use Rattle.pylex.specs.declared.entries.Entry.{Entry}
 use Rattle.pylex.specs.declared.entries.Step.{Step}
 use Rattle.pylex.specs.declared.entries.Step.TheVariants as steps
 use Rattle.pylexeme.specs.Lexemes.{Lexeme, cut, left_by_cut}
-use Rattle.pylex.specs.Listing.{Source, mark, origin, up_to_end, listing}
-use Rattle.pylex.specs.Steps.{entries_of}
+use Rattle.pylex.specs.Listing.{Source, origin, up_to_end, listing}
+use Rattle.pylex.specs.Steps.{entries_of, mark}
 use Rattle.pylexeme.specs.Chars.{bytes_in}
 use Rattle.pytoken.specs.Indentation.{margin_at, margins_from, margins}
 use Rattle.pylex.specs.Machine.{State, first_state, remaining, run, stop_of, tail_of, last_line_end, last_place, dedents_at, mark_at}

@@ -16,7 +16,7 @@ use Rattle.pylex.specs.declared.entries.Step.{Step}
 use Rattle.pylexeme.specs.Operators.{is_opener, is_closer, is_operator, exact_of}
 use Rattle.pylexeme.specs.Lexemes.{Lexeme}
 use Rattle.pylexeme.specs.Chars.{bytes_in}
-use Rattle.pylex.specs.Lines.{width_from}
+use Rattle.pylex.specs.Indentation.{width_from}
 use Rattle.pylex.specs.Machine.{State, after, gives, run, stop_of, layout_of, entry_by, step_of, past, behind, count_if, pushed}
 use Rattle.pylexeme.proofs.Best.{and_parts}
 use Rattle.pyspacing.specs.Spacing.{Piece, Line, is_token, is_operator_kind, touches, text_behind, spaced, are_readable, line_text, lines_text}

@@ -9,8 +9,8 @@ use Rattle.pylex.specs.declared.entries.Entry.{Entry}
 use Rattle.pylex.specs.declared.entries.Step.TheVariants as steps
 use Rattle.pylexeme.specs.declared.kinds.Exact.{Exact}
 use Rattle.pylexeme.specs.Operators.{exact_of, is_opener, is_closer}
-use Rattle.pylex.specs.Listing.{Source, mark, origin, listing}
-use Rattle.pylex.specs.Steps.{entries_of}
+use Rattle.pylex.specs.Listing.{Source, origin, listing}
+use Rattle.pylex.specs.Steps.{entries_of, mark}
 use Rattle.pytoken.specs.Tokens as source
 use Rattle.pytoken.specs.Indentation.{Margin, margins}
 use Rattle.pyspacing.specs.Spacing.{Piece, Line, is_operator_kind, are_readable}

@@ -6,9 +6,9 @@ use Rattle.pysource.specs.Places.{place_after}
 use Rattle.pylexeme.proofs.Computing.{lexemes}
 use Rattle.pylexeme.specs.Cuts.{begins_significant}
 use Rattle.pylex.specs.Margins.{width_by_one}
-use Rattle.pylex.specs.Lines.{depth, line_so_far, is_at_margin, is_logical, width_from, width_at, widths}
-use Rattle.pylex.specs.Levels.{open_levels}
-use Rattle.pylex.specs.Listing.{layout_by, layout, entry_of, steps_of, stop_fault, last_line, line_end_of_last, end_place, tail, stop, listing}
+use Rattle.pylex.specs.Lines.{depth, line_so_far, is_at_margin, is_logical}
+use Rattle.pylex.specs.Indentation.{width_from, width_at, widths, open_levels, layout_by, layout}
+use Rattle.pylex.specs.Listing.{entry_of, steps_of, stop_fault, last_line, line_end_of_last, end_place, tail, stop, listing}
 use Rattle.pytoken.specs.Keywords.{keywords, keyword_of}
 use Rattle.pytoken.specs.NumberValues.{whole_value, number_fault}
 use Rattle.pytoken.specs.Escapes.{escaped_by, meanings, escape_fault}

@@ -18,7 +18,7 @@ use Rattle.pylexeme.specs.Strings.{opens_string, counts_as_string}
 use Rattle.pylexeme.specs.Operators.{is_operator, exact_of}
 use Rattle.pylexeme.specs.Numbers.{is_number}
 use Rattle.pylexeme.specs.Lexemes.{is_name, is_comment, are_blanks, is_line_end, is_join, plain_class, class_in}
-use Rattle.pylex.specs.Lines.{column_after, width_from}
+use Rattle.pylex.specs.Indentation.{column_after, width_from}
 use Rattle.pylex.specs.Margins.{blanks_of, widths_of}
 use Rattle.pytoken.specs.Indentation.{Margin, behind_offset, margin_at}
 

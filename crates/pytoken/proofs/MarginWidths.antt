@@ -23,12 +23,12 @@ use Rattle.pylex.specs.declared.entries.ListingFault.{ListingFault}
 use Rattle.pylex.specs.declared.entries.ListingError.TheVariants as errors
 use Rattle.pylex.specs.declared.entries.Step.{Step}
 use Rattle.pylex.specs.declared.entries.Step.TheVariants as steps
-use Rattle.pylex.specs.Lines.{text_before, opens, closes, depth, is_of_blanks, is_of_line_end, is_significant, line_so_far, is_at_margin, is_logical, width_from, width_at, widths}
-use Rattle.pylex.specs.Levels.{open_levels}
+use Rattle.pylex.specs.Lines.{text_before, opens, closes, depth, is_of_blanks, is_of_line_end, is_significant, line_so_far, is_at_margin, is_logical}
+use Rattle.pylex.specs.Indentation.{width_from, width_at, widths, open_levels, dedents, layout_by, layout}
 use Rattle.pylex.specs.Margins.{blanks_of}
-use Rattle.pylex.specs.Listing.{listing, origin, fault_at, dedents, layout_by, layout, line_end_kind, entry_of, steps_of, stop_fault}
+use Rattle.pylex.specs.Listing.{listing, origin, line_end_kind, entry_of, steps_of, stop_fault}
 use Rattle.pylex.specs.Listing.{last_line, begins_comment, line_end_of_last, end_place, ends_in_join, tail, stop, steps_from, up_to_end, further}
-use Rattle.pylex.specs.Steps.{entries_of, fault_of}
+use Rattle.pylex.specs.Steps.{entries_of, fault_of, fault_at}
 use Rattle.pylex.specs.Laws.{AreLexemes}
 use Rattle.pylex.proofs.Callers.{is_cut, longest_wins, significant_is}
 use Rattle.pytoken.specs.Brackets

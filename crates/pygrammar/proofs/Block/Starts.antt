@@ -17,10 +17,10 @@ use Rattle.pylex.specs.declared.entries.ListingFault.{ListingFault}
 use Rattle.pylex.specs.declared.entries.ListingError.TheVariants as errors
 use Rattle.pylex.specs.declared.entries.Step.{Step}
 use Rattle.pylex.specs.declared.entries.Step.TheVariants as steps
-use Rattle.pylex.specs.Levels.{open_levels}
-use Rattle.pylex.specs.Lines.{depth, is_significant, is_at_margin, is_logical, width_at, widths, text_before}
-use Rattle.pylex.specs.Listing.{Source, listing, up_to_end, mark, fault_at, dedents, layout, layout_by, entry_of, steps_of, stop_fault, line_end_of_last, end_place, begins_comment, last_line, ends_in_join, tail, stop, steps_from}
-use Rattle.pylex.specs.Steps.{entries_of, fault_of}
+use Rattle.pylex.specs.Indentation.{open_levels, width_at, widths, dedents, layout, layout_by}
+use Rattle.pylex.specs.Lines.{depth, is_significant, is_at_margin, is_logical, text_before}
+use Rattle.pylex.specs.Listing.{Source, listing, up_to_end, entry_of, steps_of, stop_fault, line_end_of_last, end_place, begins_comment, last_line, ends_in_join, tail, stop, steps_from}
+use Rattle.pylex.specs.Steps.{entries_of, fault_of, mark, fault_at}
 use Rattle.pylex.specs.Laws.{EndsWithMarker}
 use Rattle.pysource.specs.Places.{place_after}
 use Rattle.pytoken.specs.declared.refusals.Refusal.{Refusal}
