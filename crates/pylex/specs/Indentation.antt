@@ -41,7 +41,7 @@ below (suc n) = below n ++ n ∷ []
 abbrev pub is_open : List ℕ → ℕ → Bool
 is_open widths v = (v == 0) || list_any (λ w. v == w) (take_while (nat_le v) widths)
 
--- the open levels, ascending
+-- the open levels, ascending: behind lines of the widths 0, 4 and 8 these are 0, 4 and 8, and behind a further one of 4 they are 0 and 4
 unfoldable pub open_levels : List ℕ → List ℕ
 open_levels widths = filter (is_open widths) (below (1 + sum widths))
 
