@@ -21,7 +21,7 @@ use Rattle.pylex.specs.Chunked.{AddsLine, IsLineMore, HoldsOn}
 use Rattle.pylexeme.specs.Lexemes.{lexeme_at, left_by_cut, is_open_string}
 use Rattle.pylexeme.specs.OpenLiterals.{IsOpenBy}
 use Rattle.pylex.specs.Held.{AheadBut, IsJoined, LexedTo, at_left, IsAtStop, Holds, IsOpenAt, LinesBehind, Joins}
-use Rattle.pylex.proofs.ChunkLemmas.{line_some}
+use Rattle.pylex.proofs.HeldLinesLemmas.{line_some}
 use Rattle.pylex.proofs.Lined.{lined_chars, lined_or_last}
 use Rattle.pylex.proofs.Reading.{ends_behind}
 use Rattle.pylex.proofs.Searching.{some_future}

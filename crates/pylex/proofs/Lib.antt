@@ -46,7 +46,7 @@ mod LastLines
 mod Returning
 mod Carried
 mod Placing
-mod ChunkLemmas
+mod HeldLinesLemmas
 mod Ranges
 mod Lined
 mod Streaming

@@ -7,7 +7,7 @@ use Rattle.pysource.specs.Taking.{fails}
 use Rattle.pysource.proofs.ByteLemmas.{Steady-append}
 use Rattle.pysource.proofs.TakingLemmas.{was_reading}
 use Rattle.pylex.proofs.Adding.{adds_none, adds_line, adds_no_line}
-use Rattle.pylex.proofs.ChunkLemmas.{adds_of, no_line, line_some}
+use Rattle.pylex.proofs.HeldLinesLemmas.{adds_of, no_line, line_some}
 use Rattle.pylex.specs.Held.{LinesBehind}
 use Rattle.pylex.proofs.JoinedOn.{behind_line, joins_no_line, joins_ended}
 use Rattle.pylex.proofs.held_lines.add_lines.Goals as goal
