@@ -11,8 +11,8 @@ use Rattle.pysource.specs.Streams.{comes, ends_line}
 use Rattle.pysource.proofs.GoodLemmas.{comes_utf8, comes_len}
 use Rattle.pylex.specs.declared.held_lines.HeldLines.{HeldLines}
 use Rattle.pylex.specs.declared.entries.Entry.{Entry}
-use Rattle.pylex.specs.declared.kinds.Kind.{Kind}
-use Rattle.pylex.specs.declared.kinds.Kind.TheVariants as kinds
+use Rattle.pylex.specs.declared.kind.Kind.{Kind}
+use Rattle.pylex.specs.declared.kind.Kind.TheVariants as kinds
 use Rattle.pylex.specs.declared.machine.Machine.{Machine}
 use Rattle.pylex.specs.Laws.{LiesIn}
 use Rattle.pylex.specs.Held.{IsJoined, at_left}

@@ -23,8 +23,8 @@ use Rattle.pylex.specs.declared.entries.ListingFault.{ListingFault}
 use Rattle.pylex.specs.declared.entries.ListingError.TheVariants as errors
 use Rattle.pylex.specs.declared.entries.Step.{Step}
 use Rattle.pylex.specs.declared.entries.Step.TheVariants as steps
-use Rattle.pylex.specs.declared.kinds.Kind.{Kind}
-use Rattle.pylex.specs.declared.kinds.Kind.TheVariants as kinds
+use Rattle.pylex.specs.declared.kind.Kind.{Kind}
+use Rattle.pylex.specs.declared.kind.Kind.TheVariants as kinds
 use Rattle.pylex.specs.Lines.{text_before, depth, is_significant, is_at_margin, is_logical}
 use Rattle.pylex.specs.Indentation.{width_at, widths, open_levels, dedents, layout_by, layout}
 use Rattle.pylex.specs.Listing.{listing, in_characters, origin, entry_of, steps_of, stop_fault}

@@ -6,7 +6,7 @@ use Rattle.std.proofs.lemmas.Grind.{common_steps}
 use Rattle.std.proofs.lemmas.List.{append-nil}
 use Rattle.std.proofs.lemmas.List.Elements.{filter-append}
 use Rattle.pylex.specs.declared.entries.ListingError.TheVariants as errors
-use Rattle.pylex.specs.declared.kinds.Kind.TheVariants as kinds
+use Rattle.pylex.specs.declared.kind.Kind.TheVariants as kinds
 use Rattle.pylex.specs.Steps.{fault_at}
 use Rattle.pylex.specs.Machine.{State, layout_of, pushed, step_of, mark_at, dedents_at}
 use Rattle.pylexeme.proofs.Cases.{bool_cases, and_parts}

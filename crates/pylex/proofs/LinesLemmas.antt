@@ -16,8 +16,8 @@ use Rattle.pysource.proofs.PushReprLemmas.{plain_repr, plain_repr_characters}
 use Rattle.pylex.specs.declared.entries.Entry.{Entry}
 use Rattle.pylexeme.specs.declared.kinds.Exact.{Exact}
 use Rattle.pylexeme.specs.declared.kinds.Exact.TheVariants.{LPar}
-use Rattle.pylex.specs.declared.kinds.Kind.{Kind}
-use Rattle.pylex.specs.declared.kinds.Kind.TheVariants.{Op}
+use Rattle.pylex.specs.declared.kind.Kind.{Kind}
+use Rattle.pylex.specs.declared.kind.Kind.TheVariants.{Op}
 use Rattle.pylexeme.specs.Operators.{exact_name}
 use Rattle.pylex.specs.ListingLines.{filled, kind_name, shown_place, shown_range}
 

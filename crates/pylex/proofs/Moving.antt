@@ -11,8 +11,8 @@ use Rattle.pylex.specs.declared.entries.Entry.{Entry}
 use Rattle.pylex.specs.declared.entries.ListingFault.{ListingFault}
 use Rattle.pylex.specs.declared.entries.Step.{Step}
 use Rattle.pylex.specs.declared.entries.Step.TheVariants as steps
-use Rattle.pylex.specs.declared.kinds.Kind.{Kind}
-use Rattle.pylex.specs.declared.kinds.Kind.TheVariants as kinds
+use Rattle.pylex.specs.declared.kind.Kind.{Kind}
+use Rattle.pylex.specs.declared.kind.Kind.TheVariants as kinds
 use Rattle.pysource.specs.declared.places.Place.{Place}
 use Rattle.pylex.specs.declared.line_state.LineState.{LineState}
 use Rattle.pylex.specs.declared.line_state.LeadingChar.TheVariants.{Nothing}
@@ -24,7 +24,7 @@ use Rattle.pylex.specs.Machine.{State, first_state, remaining, mark_at, step_of,
 use Rattle.pylex.specs.LineState.{with_levels, measured, begun_anew, Stands, HasRoom, IsAscending, Comes, EntryAhead, FaultAhead, IndentAhead, DedentAhead, StopAhead, Walks, stays, dedent, is_level}
 use Rattle.pylex.specs.Laws.{IsStop}
 use Rattle.pylex.specs.Standing.{standing_by, resumed}
-use Rattle.pylex.specs.declared.cursors.Shown.{Shown}
+use Rattle.pylex.specs.declared.cursor.Shown.{Shown}
 use Rattle.pylex.specs.Listers.{Listed, StandsIn, NextStep, AwaitsIndent, Keeps, IsIn, Passes, shown_at, shown_by}
 use Rattle.pylex.proofs.Law.{state_of}
 use Rattle.pylex.proofs.Ahead.{history_is, placed_first}

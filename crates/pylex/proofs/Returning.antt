@@ -6,7 +6,7 @@ use Rattle.std.proofs.lemmas.List.{length-take-le, take-append-drop, length-drop
 use Rattle.std.proofs.lemmas.Str.{chars-append, length-le-encodes, IsUtf8-take, IsUtf8-drop}
 use Rattle.pysource.specs.Limits.{source_limit}
 use Rattle.pysource.specs.Parts.{Parts}
-use Rattle.pylex.specs.declared.cursors.Shown.{Shown}
+use Rattle.pylex.specs.declared.cursor.Shown.{Shown}
 use Rattle.pylex.specs.declared.entries.Entry.{Entry}
 use Rattle.pylex.specs.declared.line_state.LeadingChar.TheVariants.{Nothing}
 use Rattle.pylex.specs.declared.line_state.LineState.{LineState}

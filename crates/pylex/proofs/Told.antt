@@ -20,8 +20,8 @@ use Rattle.pylex.specs.declared.line_state.LeadingChar.TheVariants.{Nothing, Has
 use Rattle.pylex.specs.declared.entries.Entry.{Entry}
 use Rattle.pylex.specs.declared.entries.Step.{Step}
 use Rattle.pylex.specs.declared.entries.Step.TheVariants as steps
-use Rattle.pylex.specs.declared.kinds.Kind.{Kind}
-use Rattle.pylex.specs.declared.kinds.Kind.TheVariants as kinds
+use Rattle.pylex.specs.declared.kind.Kind.{Kind}
+use Rattle.pylex.specs.declared.kind.Kind.TheVariants as kinds
 use Rattle.pylex.specs.declared.line_state.Point.{Point}
 use Rattle.pylex.specs.declared.line_state.LineState.{LineState}
 use Rattle.pylex.specs.Lines.{opens, closes}

@@ -11,7 +11,7 @@ use Rattle.pylex.specs.declared.entries.ListingFault.{ListingFault}
 use Rattle.pylex.specs.declared.entries.ListingError.TheVariants as errors
 use Rattle.pylex.specs.declared.entries.Step.{Step}
 use Rattle.pylex.specs.declared.entries.Step.TheVariants as steps
-use Rattle.pylex.specs.declared.kinds.Kind.TheVariants as kinds
+use Rattle.pylex.specs.declared.kind.Kind.TheVariants as kinds
 use Rattle.pylexeme.specs.Strings.{opens_string}
 use Rattle.pylexeme.specs.Operators.{is_closer}
 use Rattle.pylex.specs.Indentation.{open_levels, width_at, widths, layout_by, layout}

@@ -4,7 +4,7 @@ use lib.Pointwise.{pointwise}
 use Rattle.std.specs.List.{prefix_len}
 use Rattle.pysource.specs.Places.{place_after}
 use Rattle.pylex.specs.declared.entries.Entry.{Entry}
-use Rattle.pylex.specs.declared.kinds.Kind.TheVariants as kinds
+use Rattle.pylex.specs.declared.kind.Kind.TheVariants as kinds
 use Rattle.pylexeme.specs.Lexemes.{Lexeme, cut}
 use Rattle.pylex.specs.Lines.{text_before, depth, is_logical}
 use Rattle.pylexeme.specs.Chars.{bytes_in}

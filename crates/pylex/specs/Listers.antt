@@ -4,7 +4,7 @@ use Rattle.std.specs.Str.{chars, IsUtf8}
 use Rattle.pysource.specs.Limits.{source_limit}
 use Rattle.pysource.specs.Parts.{Parts}
 use Rattle.pylex.specs.declared.entries.Step.{Step}
-use Rattle.pylex.specs.declared.cursors.Shown.{Shown}
+use Rattle.pylex.specs.declared.cursor.Shown.{Shown}
 use Rattle.pylex.specs.declared.line_state.LeadingChar.TheVariants.{Nothing}
 use Rattle.pylex.specs.declared.line_state.LineState.{LineState}
 use Rattle.pylexeme.specs.Cuts.{begins_significant}

@@ -2,7 +2,7 @@
 use Rattle.std.specs.Prelude.{◌≡◌, ℕ, ◌-◌, ◌≤◌, nat_le, Bool, true, false, not, ◌&&◌, ◌==◌, List, [], ◌∷◌, length, drop, if◌then◌else◌, Option}
 use Rattle.pylex.specs.declared.entries.ListingFault.{ListingFault}
 use Rattle.pylex.specs.declared.entries.Step.{Step}
-use Rattle.pylex.specs.declared.kinds.Kind.TheVariants as kinds
+use Rattle.pylex.specs.declared.kind.Kind.TheVariants as kinds
 use Rattle.pylexeme.specs.Chars.{bytes_in}
 use Rattle.pylex.specs.Listing.{Source, listing, rest, last_line, origin}
 use Rattle.pylex.specs.Cursors.{CursorParts, cursor, same_parts}

@@ -4,7 +4,7 @@ ghost use Rattle.std.specs.Prelude.{◌≡◌, ◌≢◌};
 ghost use Rattle.pylex.specs.ListingLines.{text_of};
 ghost use Rattle.pylex.specs.Laws.{LiesIn};
 
-use crate::kinds::{Exact, Kind};
+use crate::kind::{Exact, Kind};
 use pysource::{LineError, Place, Source};
 
 /// One entry of a listing.

@@ -7,10 +7,10 @@
 //! of one goes on with another.
 #![tactic(auto)]
 
-mod cursors;
+mod cursor;
 mod entries;
 mod held_lines;
-mod kinds;
+mod kind;
 mod line_lister;
 mod line_state;
 mod lines;
@@ -20,9 +20,9 @@ mod margins;
 mod measures;
 mod stream_lister;
 
-pub use cursors::{Cursor, CursorFault};
+pub use cursor::{Cursor, CursorFault};
 pub use entries::{Entry, ListingError, ListingFault, Step, text};
-pub use kinds::{Exact, Kind};
+pub use kind::{Exact, Kind};
 pub use line_lister::{LineLister, ResumeFault};
 pub use lines::{line_text, push_line};
 pub use lister::Lister;

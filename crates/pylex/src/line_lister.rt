@@ -13,10 +13,10 @@ ghost use Rattle.pylexeme.specs.Lexemes.{is_open_string};
 ghost use Rattle.pylex.specs.Steps.{most_entries};
 ghost use Rattle.pylex.specs.Streamed.{Begins, BeginsAnew, ResumeRefusal, IsEndedBy, StreamsIn, IsStreaming, PeekedIn, Looks, LooksAhead, Passes, PassesOn, Searches, Next, Lacks, lacks, streamed};
 
-use crate::cursors::Cursor;
+use crate::cursor::Cursor;
 use crate::entries::{Entry, ListingError, Step};
 use crate::held_lines::HeldLines;
-use crate::kinds::Kind;
+use crate::kind::Kind;
 use crate::line_state::LineState;
 use crate::machine::{Machine, Peeked};
 use pylexeme::string::is_open_string;

@@ -13,7 +13,7 @@ ghost use Rattle.pylex.specs.LineState.{with_levels, measured, begun_anew, given
 ghost use Rattle.pylex.specs.Inner.Told.{Tells, Passed, GivesEntry, is_text, text_kind, begun_by};
 
 use crate::entries::{Entry, ListingError, ListingFault, Step};
-use crate::kinds::{Exact, Kind};
+use crate::kind::{Exact, Kind};
 use pylexeme::lexeme::Class;
 use pylexeme::scanner::char_count;
 use pysource::Place;

@@ -10,7 +10,7 @@ ghost use Rattle.pylex.specs.ListingLines.{filled, kind_name, listing_line, show
 ghost use Rattle.pylexeme.specs.Operators.{exact_name};
 
 use crate::entries::Entry;
-use crate::kinds::{Exact, Kind};
+use crate::kind::{Exact, Kind};
 use itoa::write_digits;
 use pylexeme::scanner::char_count;
 use pysource::{Place, is_plain_text, push_repr};

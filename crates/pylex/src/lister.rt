@@ -8,7 +8,7 @@ ghost use Rattle.pylex.specs.Standing.{IsCursorOf};
 ghost use Rattle.pylex.specs.Listers.{StandsIn, LeadsInto, NextStep, AwaitsIndent};
 ghost use Rattle.pylex.specs.Steps.{most_entries};
 
-use crate::cursors::{Cursor, CursorFault};
+use crate::cursor::{Cursor, CursorFault};
 use crate::entries::Step;
 use crate::machine::Machine;
 use pysource::Source;

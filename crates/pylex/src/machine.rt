@@ -10,9 +10,9 @@ ghost use Rattle.pylex.specs.LineState.{is_level, IsTop, Stands, IsAscending, Is
 ghost use Rattle.pylex.specs.Listers.{shown_by, shown_at};
 ghost use Rattle.pylex.specs.MachineSteps.{FaultsFirst, HasPlace, IsSame, StepsOn, Advance, shown_from};
 
-use crate::cursors::{Cursor, Shown};
+use crate::cursor::{Cursor, Shown};
 use crate::entries::{Entry, ListingError, ListingFault, Step};
-use crate::kinds::Kind;
+use crate::kind::Kind;
 use crate::line_state::{Emitted, LineState, entry_of, mark};
 use pylexeme::lexeme::{Class, begins_significant, cut};
 use pylexeme::string::{is_open_string, opens_string};

@@ -11,7 +11,7 @@ ghost use Rattle.pylex.specs.ListingLines.{text_of};
 ghost use Rattle.pylex.specs.Steps.{most_entries};
 ghost use Rattle.pylex.specs.Streamed.{Begins, BeginsAnew, ResumeRefusal, Next, StreamsIn};
 
-use crate::cursors::Cursor;
+use crate::cursor::Cursor;
 use crate::entries::{Entry, Step};
 use crate::line_lister::{LineLister, ResumeFault};
 use pysource::{ByteIn, StreamFault};

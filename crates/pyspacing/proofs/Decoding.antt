@@ -24,8 +24,8 @@ use Rattle.pysource.proofs.BadLemmas.{utf8_before}
 use Rattle.pysource.proofs.CutLemmas.{NoLf, lines_at}
 use Rattle.pysource.proofs.LinesLemmas.{valid_all, first_given_none}
 use Rattle.pysource.proofs.ReturnsLemmas.{lone_none_byte}
-use Rattle.pylex.specs.declared.kinds.Kind.{Kind}
-use Rattle.pylex.specs.declared.kinds.Kind.TheVariants as kinds
+use Rattle.pylex.specs.declared.kind.Kind.{Kind}
+use Rattle.pylex.specs.declared.kind.Kind.TheVariants as kinds
 use Rattle.pylexeme.specs.Chars.{begins, starts_name, is_comment_part, is_blank_char}
 use Rattle.pylexeme.specs.Numbers.{is_nil, is_decimal_digit, is_zero, is_one_to_nine}
 use Rattle.pylexeme.specs.Strings.{is_single_string}

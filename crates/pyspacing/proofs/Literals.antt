@@ -7,7 +7,7 @@ use Rattle.std.proofs.lemmas.Bool.{eqb-true}
 use Rattle.std.proofs.lemmas.Bool.Decides.{nat_tests}
 use Rattle.std.proofs.lemmas.List.Folds.{list_all-append}
 use Rattle.pysource.specs.Reprs.{hex, hex_escape, escaped, quote_for, quoted, is_unprintable, is_unprintable_byte, repr_chars, repr_bytes}
-use Rattle.pylex.specs.declared.kinds.Kind.TheVariants as kinds
+use Rattle.pylex.specs.declared.kind.Kind.TheVariants as kinds
 use Rattle.pylexeme.specs.Chars.{is_comment_part}
 use Rattle.pylexeme.specs.Strings.{units, ends_by_one, is_single, is_single_string, is_prefix}
 use Rattle.pylexeme.proofs.Best.{or_parts}

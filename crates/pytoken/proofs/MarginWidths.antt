@@ -17,7 +17,7 @@ use Rattle.pylexeme.specs.Strings.{opens_string}
 use Rattle.pylexeme.specs.Operators.{is_closer}
 use Rattle.pylexeme.specs.Lexemes.{Lexeme, is_comment, are_blanks, is_line_end, lexeme_at, cut, left_by_cut}
 use Rattle.pylexeme.specs.Lexemes.{is_open_string, is_significant_class, is_line_end_class, is_blanks_class}
-use Rattle.pylex.specs.declared.kinds.Kind.TheVariants as kinds
+use Rattle.pylex.specs.declared.kind.Kind.TheVariants as kinds
 use Rattle.pylex.specs.declared.entries.Entry.{Entry}
 use Rattle.pylex.specs.declared.entries.ListingFault.{ListingFault}
 use Rattle.pylex.specs.declared.entries.ListingError.TheVariants as errors

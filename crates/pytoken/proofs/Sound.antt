@@ -19,8 +19,8 @@ use Rattle.pylexeme.specs.Strings.{opens_string, opens_triple, counts_as_string,
 use Rattle.pylexeme.specs.Operators.{is_closer, is_operator, exact_of}
 use Rattle.pylexeme.specs.Lexemes.{Lexeme, is_name, is_comment, are_blanks, is_line_end, is_join, plain_class, class_in, cut, left_by_cut}
 use Rattle.pylexeme.specs.Lexemes.{is_open_string}
-use Rattle.pylex.specs.declared.kinds.Kind.{Kind}
-use Rattle.pylex.specs.declared.kinds.Kind.TheVariants as kinds
+use Rattle.pylex.specs.declared.kind.Kind.{Kind}
+use Rattle.pylex.specs.declared.kind.Kind.TheVariants as kinds
 use Rattle.pylex.specs.declared.entries.Entry.{Entry}
 use Rattle.pylex.specs.declared.entries.ListingFault.{ListingFault}
 use Rattle.pylex.specs.declared.entries.ListingError.TheVariants as errors

@@ -19,8 +19,8 @@ use Rattle.unicode_normalization.proofs.FormsLemmas.{normalize-ascii}
 use Rattle.pysource.specs.Reprs.{escaped, quote_for, repr_chars, repr_text, is_unprintable}
 use Rattle.pysource.proofs.Categories.{unprintable_no_character}
 use Rattle.pylexeme.specs.Lexemes.{is_name}
-use Rattle.pylex.specs.declared.kinds.Kind.{Kind}
-use Rattle.pylex.specs.declared.kinds.Kind.TheVariants as kinds
+use Rattle.pylex.specs.declared.kind.Kind.{Kind}
+use Rattle.pylex.specs.declared.kind.Kind.TheVariants as kinds
 use Rattle.pynode.specs.Points.{IsPoint}
 use Rattle.pytoken.specs.declared.keywords.Keyword.{Keyword}
 use Rattle.pytoken.specs.declared.keywords.Keyword.TheVariants as words

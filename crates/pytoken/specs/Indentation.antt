@@ -7,7 +7,7 @@ use Rattle.pysource.specs.declared.places.Place.{Place}
 use Rattle.pysource.specs.Places.{place_at}
 use Rattle.pylexeme.specs.Cuts.{begins_significant}
 use Rattle.pylex.specs.declared.margins.Widths.{Widths}
-use Rattle.pylex.specs.declared.kinds.Kind.TheVariants as kinds
+use Rattle.pylex.specs.declared.kind.Kind.TheVariants as kinds
 use Rattle.pylex.specs.declared.entries.Entry.{Entry}
 use Rattle.pylex.specs.Margins.{blanks_of, widths_of}
 use Rattle.pytoken.specs.Brackets.{open_brackets}

@@ -65,7 +65,7 @@ impl Model for TextWriter {
 }
 
 impl TextWriter {
-    ghost use Rattle.pylex.specs.declared.kinds.Kind.{Kind};
+    ghost use Rattle.pylex.specs.declared.kind.Kind.{Kind};
     ghost use Rattle.pyspacing.specs.Spacing.{Piece};
     ghost use Rattle.pyunparse.specs.Inner.Writing.{blank, edge_of, prefix};
 

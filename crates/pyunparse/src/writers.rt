@@ -1,7 +1,7 @@
 //! What tokens are written into.
 
 ghost use Rattle.std.specs.Prelude.{◌≡◌, Bool, false, OnOk};
-ghost use Rattle.pylex.specs.declared.kinds.Kind.{Kind};
+ghost use Rattle.pylex.specs.declared.kind.Kind.{Kind};
 ghost use Rattle.pynode.specs.Values.{Bytes, Str};
 ghost use Rattle.pyspacing.specs.Spacing.{Piece};
 ghost use Rattle.pytoken.specs.Terminals.{Literal};

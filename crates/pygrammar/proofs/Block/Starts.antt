@@ -10,8 +10,8 @@ use Rattle.pylexeme.specs.declared.lexeme.Class.TheVariants.{Name, Number, Strin
 use Rattle.pylexeme.specs.Strings.{opens_string}
 use Rattle.pylexeme.specs.Operators.{is_closer}
 use Rattle.pylexeme.specs.Lexemes.{Lexeme, cut, left_by_cut, is_open_string}
-use Rattle.pylex.specs.declared.kinds.Kind.{Kind}
-use Rattle.pylex.specs.declared.kinds.Kind.TheVariants as kinds
+use Rattle.pylex.specs.declared.kind.Kind.{Kind}
+use Rattle.pylex.specs.declared.kind.Kind.TheVariants as kinds
 use Rattle.pylex.specs.declared.entries.Entry.{Entry}
 use Rattle.pylex.specs.declared.entries.ListingFault.{ListingFault}
 use Rattle.pylex.specs.declared.entries.ListingError.TheVariants as errors

@@ -7,8 +7,8 @@ use Rattle.pylexeme.specs.declared.lexeme.Class.TheVariants.{Name, Number, Strin
 use Rattle.pylex.specs.declared.line_state.LeadingChar.{LeadingChar}
 use Rattle.pylex.specs.declared.line_state.LeadingChar.TheVariants.{Nothing, Hash, Other}
 use Rattle.pylex.specs.declared.entries.Entry.{Entry}
-use Rattle.pylex.specs.declared.kinds.Kind.{Kind}
-use Rattle.pylex.specs.declared.kinds.Kind.TheVariants as kinds
+use Rattle.pylex.specs.declared.kind.Kind.{Kind}
+use Rattle.pylex.specs.declared.kind.Kind.TheVariants as kinds
 use Rattle.pylex.specs.declared.line_state.Emitted.TheVariants as gives
 use Rattle.pylex.specs.declared.line_state.LineState.{LineState}
 use Rattle.pylex.specs.Machine.{place_past, front_after, after, entry_by}

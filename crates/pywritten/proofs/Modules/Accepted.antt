@@ -6,8 +6,8 @@ use Rattle.std.proofs.lemmas.Bool.Decides.{nat_tests}
 use Rattle.std.proofs.lemmas.List.Elements.{All-nil, All-cons, All-head, All-tail}
 use Rattle.pylexeme.specs.declared.kinds.Exact.{Exact}
 use Rattle.pylexeme.specs.Operators.{exact_of, is_opener, is_closer}
-use Rattle.pylex.specs.declared.kinds.Kind.{Kind}
-use Rattle.pylex.specs.declared.kinds.Kind.TheVariants as kinds
+use Rattle.pylex.specs.declared.kind.Kind.{Kind}
+use Rattle.pylex.specs.declared.kind.Kind.TheVariants as kinds
 use Rattle.pylex.specs.Listing.{in_characters}
 use Rattle.pynode.specs.declared.profiles.Profile.{Profile}
 use Rattle.pytoken.specs.declared.keywords.Keyword.{Keyword}

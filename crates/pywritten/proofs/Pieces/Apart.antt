@@ -7,7 +7,7 @@ use Rattle.std.proofs.lemmas.List.{take-append-drop}
 use Rattle.std.proofs.lemmas.Slice.Eq.{bytes_eq-Decides}
 use Rattle.pylexeme.specs.Strings.{lower, prefixes}
 use Rattle.pylexeme.proofs.Classes.{words, heads}
-use Rattle.pylex.specs.declared.kinds.Kind.{Kind}
+use Rattle.pylex.specs.declared.kind.Kind.{Kind}
 use Rattle.pyspacing.specs.Spacing.{is_token, is_operator_kind, begins_operator}
 use Rattle.pyspacing.proofs.PieceFronts.{Off, no_token, none_empty}
 use Rattle.pyspacing.proofs.OperatorFronts.{begins_word, of_any, is_sign_char, sign_of}

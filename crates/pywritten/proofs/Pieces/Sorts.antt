@@ -11,7 +11,7 @@ use Rattle.pytoken.specs.Terminals.{Op}
 use Rattle.pyspacing.specs.Spacing.{Piece, is_number_kind, is_operator_kind, is_token, touches, begins_operator, stay_apart}
 use Rattle.pywritten.specs.Written.{free, leading, trailing, tight}
 use Rattle.pywritten.specs.Pieces.{piece}
-use Rattle.pylex.specs.declared.kinds.Kind.TheVariants as kinds
+use Rattle.pylex.specs.declared.kind.Kind.TheVariants as kinds
 use Rattle.std.proofs.lemmas.Bool.{and_parts, or_cases, cases_Bool}
 use Rattle.pyspacing.specs.Inner.Edges.{fit}
 use Rattle.pywritten.proofs.Pieces.Apart.{plain_head}

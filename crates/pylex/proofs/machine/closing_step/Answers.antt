@@ -1,6 +1,6 @@
 use Rattle.std.proofs.Common.{[], arith}
 use Rattle.pylex.proofs.Ending.{closing_dedent, closing_marker, closing_end}
-use Rattle.pylex.specs.declared.kinds.Kind.TheVariants as kinds
+use Rattle.pylex.specs.declared.kind.Kind.TheVariants as kinds
 use Rattle.pylex.proofs.Ranges.{mark_range}
 use Rattle.pylex.proofs.machine.closing_step.Goals as goal
 
