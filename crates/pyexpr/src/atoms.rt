@@ -20,12 +20,11 @@ use crate::comprehensions::comps;
 use crate::depth::Depth;
 use crate::found::Read;
 use crate::levels::{read_elem, yield_step};
+use crate::list_makers::{make_generator, make_list, make_list_comp, make_tuple};
 use crate::listings::{Item, others};
 use crate::literals::string_run;
 use crate::looks::{is_op, is_word, lead_at, starts_comp, terminal_at};
-use crate::makers::{
-    make_constant, make_generator, make_list, make_list_comp, make_name, make_tuple, make_whole,
-};
+use crate::makers::{make_constant, make_name, make_whole};
 use crate::stop::Stop;
 use pygrammar::Level;
 use pylex::Exact;

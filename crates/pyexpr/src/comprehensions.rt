@@ -16,10 +16,12 @@ ghost use Rattle.pyexpr.specs.Views.{Stands, seen};
 use crate::climbing::climb;
 use crate::depth::Depth;
 use crate::found::{Clause, Clauses, Items, Read};
+use crate::list_makers::make_tuple;
 use crate::listings::{Item, no_items, others, push};
 use crate::looks::{is_op, is_word};
-use crate::makers::{make_starred, make_tuple};
+use crate::makers::make_starred;
 use crate::primaries::read_primary;
+use crate::room::append;
 use crate::stop::Stop;
 use crate::targets::store;
 use pygrammar::Level;
@@ -185,7 +187,7 @@ fn push_clause(clauses: Clauses, clause: Clause) -> Result<Clauses, Stop>
         next: _,
     } = clauses;
     let mut generators = generators;
-    generators.push(clause.generator)?;
+    append(&mut generators, clause.generator)?;
     Ok(Clauses {
         generators,
         height: height.max(clause.height),

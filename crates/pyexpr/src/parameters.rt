@@ -8,7 +8,7 @@ ghost use Rattle.pygrammar.specs.Parameters.{no_arguments};
 ghost use Rattle.pyexpr.specs.Inner.Formals as formals;
 ghost use Rattle.pyexpr.specs.Inner.FormalStates.{IsDisarranged, entry_of, state_of};
 
-use crate::makers::{put, put_option};
+use crate::room::{append, put, put_option};
 use crate::stop::Stop;
 use pynode::{Arg, Arguments, Expr};
 use std::alloc::Global;
@@ -51,8 +51,7 @@ fn put_arg(args: &mut Vec<Arg>, arg: Arg) -> Result<(), Stop>
     ensures { MatchResult result (λ _. map arg_of args.new.items ≡ map arg_of args.old.items ++ (arg_of arg ∷ []))
         (λ s. s ≡ Stop.Memory) }
 {
-    args.push(arg)?;
-    Ok(())
+    append(args, arg)
 }
 
 /// The same at another stage.

@@ -19,7 +19,7 @@ use crate::simple::{
 use crate::type_names::type_name_at;
 use crate::types::type_alias;
 use crate::values::value_statement;
-use pyexpr::{Depth, Stop, is_op, terminal_at};
+use pyexpr::{Depth, Stop, append, is_op, terminal_at};
 use pylex::Exact;
 use pynode::Profile;
 use pytoken::Keyword;
@@ -124,7 +124,7 @@ fn with_statement(before: ReadStatements, one: ReadStatement) -> Result<ReadStat
         next: _,
     } = before;
     let mut statements = statements;
-    statements.push(one.statement)?;
+    append(&mut statements, one.statement)?;
     Ok(ReadStatements {
         statements,
         height: height.max(one.height),
