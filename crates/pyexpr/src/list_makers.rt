@@ -88,8 +88,11 @@ pub(crate) fn make_dict(
     next: usize,
     room: usize,
 ) -> Result<Read, Stop>
-    requires { under ≡ max (Heights.optional_heights (optionals (map option_of keys.items))) (Heights.list_height (map tree_of values.items)) }
-    ensures { Makes room (plain.Dict (optionals (map option_of keys.items)) (exprs (map tree_of values.items))) next result }
+    requires { under ≡ max (Heights.optional_heights (optionals (map option_of keys.items)))
+        (Heights.list_height (map tree_of values.items)) }
+    ensures { Makes room
+        (plain.Dict (optionals (map option_of keys.items))
+        (exprs (map tree_of values.items))) next result }
 {
     let height = above(under, room)?;
     boxed(alloc, Expr::Dict { keys, values }, height, next)
@@ -107,8 +110,12 @@ pub(crate) fn make_call(
     next: usize,
     room: usize,
 ) -> Result<Read, Stop>
-    requires { under ≡ max (Heights.height (tree_of func.value)) (max (Heights.list_height (map tree_of args.items)) (Heights.keyword_heights (plain.keywords (map keyword_of keywords.items)))) }
-    ensures { Makes room (plain.Call (tree_of func.value) (exprs (map tree_of args.items)) (plain.keywords (map keyword_of keywords.items))) next result }
+    requires { under ≡ max (Heights.height (tree_of func.value))
+        (max (Heights.list_height (map tree_of args.items))
+        (Heights.keyword_heights (plain.keywords (map keyword_of keywords.items)))) }
+    ensures { Makes room
+        (plain.Call (tree_of func.value) (exprs (map tree_of args.items))
+        (plain.keywords (map keyword_of keywords.items))) next result }
 {
     let height = above(under, room)?;
     boxed(
@@ -133,8 +140,11 @@ pub(crate) fn make_generator(
     next: usize,
     room: usize,
 ) -> Result<Read, Stop>
-    requires { under ≡ max (Heights.height (tree_of elt.value)) (Heights.comprehension_heights (comprehensions (map comprehension_of generators.items))) }
-    ensures { Makes room (plain.GeneratorExp (tree_of elt.value) (comprehensions (map comprehension_of generators.items))) next result }
+    requires { under ≡ max (Heights.height (tree_of elt.value))
+        (Heights.comprehension_heights (comprehensions (map comprehension_of generators.items))) }
+    ensures { Makes room
+        (plain.GeneratorExp (tree_of elt.value)
+        (comprehensions (map comprehension_of generators.items))) next result }
 {
     let height = above(under, room)?;
     boxed(alloc, Expr::GeneratorExp { elt, generators }, height, next)
@@ -150,8 +160,11 @@ pub(crate) fn make_list_comp(
     next: usize,
     room: usize,
 ) -> Result<Read, Stop>
-    requires { under ≡ max (Heights.height (tree_of elt.value)) (Heights.comprehension_heights (comprehensions (map comprehension_of generators.items))) }
-    ensures { Makes room (plain.ListComp (tree_of elt.value) (comprehensions (map comprehension_of generators.items))) next result }
+    requires { under ≡ max (Heights.height (tree_of elt.value))
+        (Heights.comprehension_heights (comprehensions (map comprehension_of generators.items))) }
+    ensures { Makes room
+        (plain.ListComp (tree_of elt.value)
+        (comprehensions (map comprehension_of generators.items))) next result }
 {
     let height = above(under, room)?;
     boxed(alloc, Expr::ListComp { elt, generators }, height, next)
@@ -167,8 +180,11 @@ pub(crate) fn make_set_comp(
     next: usize,
     room: usize,
 ) -> Result<Read, Stop>
-    requires { under ≡ max (Heights.height (tree_of elt.value)) (Heights.comprehension_heights (comprehensions (map comprehension_of generators.items))) }
-    ensures { Makes room (plain.SetComp (tree_of elt.value) (comprehensions (map comprehension_of generators.items))) next result }
+    requires { under ≡ max (Heights.height (tree_of elt.value))
+        (Heights.comprehension_heights (comprehensions (map comprehension_of generators.items))) }
+    ensures { Makes room
+        (plain.SetComp (tree_of elt.value)
+        (comprehensions (map comprehension_of generators.items))) next result }
 {
     let height = above(under, room)?;
     boxed(alloc, Expr::SetComp { elt, generators }, height, next)
@@ -185,8 +201,12 @@ pub(crate) fn make_dict_comp(
     next: usize,
     room: usize,
 ) -> Result<Read, Stop>
-    requires { under ≡ max (Heights.height (tree_of key.value)) (max (Heights.height (tree_of value.value)) (Heights.comprehension_heights (comprehensions (map comprehension_of generators.items)))) }
-    ensures { Makes room (plain.DictComp (tree_of key.value) (tree_of value.value) (comprehensions (map comprehension_of generators.items))) next result }
+    requires { under ≡ max (Heights.height (tree_of key.value))
+        (max (Heights.height (tree_of value.value))
+        (Heights.comprehension_heights (comprehensions (map comprehension_of generators.items)))) }
+    ensures { Makes room
+        (plain.DictComp (tree_of key.value) (tree_of value.value)
+        (comprehensions (map comprehension_of generators.items))) next result }
 {
     let height = above(under, room)?;
     boxed(
@@ -211,7 +231,8 @@ pub(crate) fn make_lambda(
     room: usize,
 ) -> Result<Read, Stop>
     requires { under ≡ Heights.arguments_height (arguments_of args) }
-    ensures { Makes room (plain.Lambda (arguments_of args) (tree_of body.expr.value)) body.next result }
+    ensures { Makes room
+        (plain.Lambda (arguments_of args) (tree_of body.expr.value)) body.next result }
 {
     let height = above(under.max(body.height), room)?;
     let args = Box::new(alloc, args)?;
@@ -253,8 +274,12 @@ pub(crate) fn make_slice(
     next: usize,
     room: usize,
 ) -> Result<Read, Stop>
-    requires { under ≡ max (Heights.optional_height (optional (boxed_of lower))) (max (Heights.optional_height (optional (boxed_of upper))) (Heights.optional_height (optional (boxed_of step)))) }
-    ensures { Makes room (plain.Slice (optional (boxed_of lower)) (optional (boxed_of upper)) (optional (boxed_of step))) next result }
+    requires { under ≡ max (Heights.optional_height (optional (boxed_of lower)))
+        (max (Heights.optional_height (optional (boxed_of upper)))
+        (Heights.optional_height (optional (boxed_of step)))) }
+    ensures { Makes room
+        (plain.Slice (optional (boxed_of lower)) (optional (boxed_of upper))
+        (optional (boxed_of step))) next result }
 {
     let height = above(under, room)?;
     boxed(alloc, Expr::Slice { lower, upper, step }, height, next)

@@ -1,6 +1,7 @@
 //! A node of parts that were read, where it is not too high.
 
-ghost use Rattle.std.specs.Prelude.{◌≡◌, ◌+◌, ◌++◌, ◌<◌, ◌≤◌, ◌∷◌, MatchResult, [], max, map, option_map};
+ghost use Rattle.std.specs.Prelude.{◌≡◌, ◌+◌, ◌++◌, ◌<◌, ◌≤◌, ◌∷◌, MatchResult, [], max, map};
+ghost use Rattle.std.specs.Prelude.{option_map};
 ghost use Rattle.std.specs.Str.{chars};
 ghost use Rattle.unicode_normalization.specs.Forms.{nfkc};
 ghost use Rattle.pynode.specs.TreeOf.{arguments_of, boxed_of, comprehension_of, constant_of};
@@ -52,7 +53,8 @@ pub fn identifier_of(alloc: Global, text: &str) -> Result<Identifier, Stop>
 
 /// A whole number.
 pub(crate) fn make_whole(alloc: Global, value: u128, next: usize) -> Result<Read, Stop>
-    ensures { MatchResult result (λ r. Made 1 (plain.Constant (values.Int value)) next r) (λ s. s ≡ Stop.Memory) }
+    ensures { MatchResult result (λ r. Made 1 (plain.Constant (values.Int value)) next r)
+        (λ s. s ≡ Stop.Memory) }
 {
     let value = Integer::new(alloc, value)?;
     make_constant(alloc, Constant::Int(value), next)
@@ -62,7 +64,8 @@ pub(crate) fn make_whole(alloc: Global, value: u128, next: usize) -> Result<Read
 #[tactic(auto, using(pynode::proofs::Callers::ExprShapes::expr_shapes))]
 #[inline(always)]
 pub fn make_name(alloc: Global, name: &str, ctx: Context, next: usize) -> Result<Read, Stop>
-    ensures { MatchResult result (λ r. Made 1 (plain.Name (nfkc (chars name.now)) ctx) next r) (λ s. s ≡ Stop.Memory) }
+    ensures { MatchResult result (λ r. Made 1 (plain.Name (nfkc (chars name.now)) ctx) next r)
+        (λ s. s ≡ Stop.Memory) }
 {
     let id = identifier_of(alloc, name)?;
     boxed(alloc, Expr::Name { id, ctx }, 1, next)
@@ -71,7 +74,8 @@ pub fn make_name(alloc: Global, name: &str, ctx: Context, next: usize) -> Result
 /// A constant.
 #[tactic(auto, using(pynode::proofs::Callers::ExprShapes::expr_shapes))]
 pub(crate) fn make_constant(alloc: Global, value: Constant, next: usize) -> Result<Read, Stop>
-    ensures { MatchResult result (λ r. Made 1 (plain.Constant (constant_of value)) next r) (λ s. s ≡ Stop.Memory) }
+    ensures { MatchResult result (λ r. Made 1 (plain.Constant (constant_of value)) next r)
+        (λ s. s ≡ Stop.Memory) }
 {
     boxed(alloc, Expr::Constant { value }, 1, next)
 }
@@ -85,7 +89,8 @@ pub(crate) fn make_binary(
     right: Read,
     room: usize,
 ) -> Result<Read, Stop>
-    ensures { Makes room (plain.BinOp (tree_of left.expr.value) op (tree_of right.expr.value)) right.next result }
+    ensures { Makes room
+        (plain.BinOp (tree_of left.expr.value) op (tree_of right.expr.value)) right.next result }
 {
     let height = above(left.height.max(right.height), room)?;
     boxed(
@@ -152,7 +157,8 @@ pub(crate) fn make_starred(alloc: Global, e: Read, room: usize) -> Result<Read, 
 #[tactic(auto, using(pynode::proofs::Callers::ExprShapes::expr_shapes))]
 pub fn starred(alloc: Global, e: Read) -> Result<Read, Stop>
     ensures tree { MatchResult result
-        (λ r. tree_of r.expr.value ≡ plain.Starred (tree_of e.expr.value) Context.Load) (λ s. s ≡ Stop.Memory) }
+        (λ r. tree_of r.expr.value ≡ plain.Starred (tree_of e.expr.value) Context.Load)
+        (λ s. s ≡ Stop.Memory) }
     ensures next { MatchResult result (λ r. r.next ≡ e.next) (λ s. s ≡ Stop.Memory) }
 {
     let next = e.next;
@@ -187,7 +193,9 @@ pub(crate) fn make_if(
     orelse: Read,
     room: usize,
 ) -> Result<Read, Stop>
-    ensures { Makes room (plain.IfExp (tree_of test.expr.value) (tree_of body.expr.value) (tree_of orelse.expr.value)) orelse.next result }
+    ensures { Makes room
+        (plain.IfExp (tree_of test.expr.value) (tree_of body.expr.value)
+        (tree_of orelse.expr.value)) orelse.next result }
 {
     let height = above(test.height.max(body.height.max(orelse.height)), room)?;
     boxed(
@@ -210,7 +218,8 @@ pub(crate) fn make_named(
     value: Read,
     room: usize,
 ) -> Result<Read, Stop>
-    ensures { Makes room (plain.NamedExpr (tree_of target.expr.value) (tree_of value.expr.value)) value.next result }
+    ensures { Makes room
+        (plain.NamedExpr (tree_of target.expr.value) (tree_of value.expr.value)) value.next result }
 {
     let height = above(target.height.max(value.height), room)?;
     boxed(
@@ -252,8 +261,11 @@ pub(crate) fn make_compare(
     next: usize,
     room: usize,
 ) -> Result<Read, Stop>
-    requires { under ≡ max (Heights.height (tree_of left.value)) (Heights.list_height (map tree_of comparators.items)) }
-    ensures { Makes room (plain.Compare (tree_of left.value) ops.items (exprs (map tree_of comparators.items))) next result }
+    requires { under ≡ max (Heights.height (tree_of left.value))
+        (Heights.list_height (map tree_of comparators.items)) }
+    ensures { Makes room
+        (plain.Compare (tree_of left.value) ops.items
+        (exprs (map tree_of comparators.items))) next result }
 {
     let height = above(under, room)?;
     boxed(
@@ -277,7 +289,8 @@ pub(crate) fn make_attribute(
     next: usize,
     room: usize,
 ) -> Result<Read, Stop>
-    ensures { Makes room (plain.Attribute (tree_of e.expr.value) (nfkc (chars name.now)) Context.Load) next result }
+    ensures { Makes room
+        (plain.Attribute (tree_of e.expr.value) (nfkc (chars name.now)) Context.Load) next result }
 {
     let height = above(e.height, room)?;
     let attr = identifier_of(alloc, name)?;
@@ -302,7 +315,9 @@ pub(crate) fn make_subscript(
     next: usize,
     room: usize,
 ) -> Result<Read, Stop>
-    ensures { Makes room (plain.Subscript (tree_of e.expr.value) (tree_of slice.expr.value) Context.Load) next result }
+    ensures { Makes room
+        (plain.Subscript (tree_of e.expr.value)
+        (tree_of slice.expr.value) Context.Load) next result }
 {
     let height = above(e.height.max(slice.height), room)?;
     boxed(

@@ -10,12 +10,14 @@ use crate::stop::Stop;
 use pynode::{Expr, Keyword};
 use std::alloc::Global;
 
-/// Appends an item. The first one gets room for itself alone: most lists of a tree hold one item, and `Vec::push` makes room for four.
+/// Appends an item. The first one gets room for itself alone: most lists of a tree hold one item,
+/// and `Vec::push` makes room for four.
 ///
 /// Answers `Stop::Memory` where there was no memory.
 #[inline(always)]
 pub fn append<T: Drop>(items: &mut Vec<T>, item: T) -> Result<(), Stop>
-    ensures { MatchResult result (λ _. items.new.items ≡ items.old.items ++ (item ∷ [])) (λ s. s ≡ Stop.Memory) }
+    ensures { MatchResult result (λ _. items.new.items ≡ items.old.items ++ (item ∷ []))
+        (λ s. s ≡ Stop.Memory) }
 {
     if items.is_empty() {
         items.reserve_exact(1)?;
@@ -55,7 +57,10 @@ pub(crate) fn put_keyword(
 ) -> Result<(), Stop>
     ensures { MatchResult result
         (λ _. map keyword_of keywords.new.items ≡ map keyword_of keywords.old.items
-        ++ (record { arg = option_map (λ x. nfkc (chars x.now)) name.entry; value = tree_of value.value } ∷ []))
+        ++ (record {
+          arg = option_map (λ x. nfkc (chars x.now)) name.entry;
+          value = tree_of value.value;
+        } ∷ []))
         (λ s. s ≡ Stop.Memory) }
 {
     let arg = match name {

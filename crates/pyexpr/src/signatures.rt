@@ -15,7 +15,8 @@ ghost use Rattle.pyexpr.specs.Inner.FormalStates.{entry_of, state_of};
 ghost use Rattle.pyexpr.specs.Inner.Formals as formals;
 ghost use Rattle.pyexpr.specs.Inner.Found.{OptionalAt};
 ghost use Rattle.pyexpr.specs.Inner.Readings.{IsOpen, inner_reads};
-ghost use Rattle.pyexpr.specs.Inner.Signatures.{ParameterAnswered, SignatureAt, collected_reads, gathered_reads, plain_reads};
+ghost use Rattle.pyexpr.specs.Inner.Signatures.{ParameterAnswered, SignatureAt, collected_reads};
+ghost use Rattle.pyexpr.specs.Inner.Signatures.{gathered_reads, plain_reads};
 ghost use Rattle.pyexpr.specs.Views.{seen};
 
 use crate::climbing::climb;
@@ -105,7 +106,8 @@ fn with_parameter(before: Signature, one: ReadParameter) -> Result<Signature, St
     ensures formal { MatchResult result
         (λ r. state_of r.formal ≡ formals.step (state_of before.formal) (entry_of one.parameter))
         (λ s. s ≡ Stop.Memory) }
-    ensures height { MatchResult result (λ r. r.height ≡ max before.height one.height) (λ s. s ≡ Stop.Memory) }
+    ensures height { MatchResult result (λ r. r.height ≡ max before.height one.height)
+        (λ s. s ≡ Stop.Memory) }
     ensures next { MatchResult result (λ r. r.next ≡ one.next) (λ s. s ≡ Stop.Memory) }
 {
     let height = before.height.max(one.height);
@@ -149,7 +151,8 @@ pub(crate) fn suffixed(
     requires within { at ≤ length tokens.now }
     requires open { IsOpen depth }
     ensures { MatchResult result
-        (λ r. OptionalAt tokens.now depth.room at (reader.suffixed (inner_reads depth) sign (seen tokens.now at)) r)
+        (λ r. OptionalAt tokens.now depth.room at
+        (reader.suffixed (inner_reads depth) sign (seen tokens.now at)) r)
         (λ s. Failed s (reader.suffixed (inner_reads depth) sign (seen tokens.now at))) }
 {
     match sign {
@@ -201,7 +204,8 @@ fn star_annotation(
     requires within { at ≤ length tokens.now }
     requires open { IsOpen depth }
     ensures { MatchResult result
-        (λ r. OptionalAt tokens.now depth.room at (reader.star_annotated (inner_reads depth) annotated (seen tokens.now at)) r)
+        (λ r. OptionalAt tokens.now depth.room at
+        (reader.star_annotated (inner_reads depth) annotated (seen tokens.now at)) r)
         (λ s. Failed s (reader.star_annotated (inner_reads depth) annotated (seen tokens.now at))) }
 {
     if !annotated {
@@ -348,8 +352,11 @@ pub(crate) fn parameters(
     requires open { IsOpen depth }
     ensures { MatchResult result
         (λ r. SignatureAt tokens.now depth.room at
-        (reader.listing_of (inner_reads depth) (entries.Parameter annotated) [] (seen tokens.now at)) r)
-        (λ s. Failed s (reader.listing_of (inner_reads depth) (entries.Parameter annotated) [] (seen tokens.now at))) }
+        (reader.listing_of (inner_reads depth) (entries.Parameter annotated) []
+        (seen tokens.now at)) r)
+        (λ s. Failed s
+        (reader.listing_of (inner_reads depth) (entries.Parameter annotated) []
+        (seen tokens.now at))) }
 {
     let mut before = no_parameters(alloc, at);
     'more: while starts_parameter(tokens, before.next) {

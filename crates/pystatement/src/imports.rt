@@ -2,7 +2,8 @@
 //!
 //! Python language reference, 7.11 "The `import` statement".
 
-ghost use Rattle.std.specs.Prelude.{◌≡◌, ◌+◌, ◌<◌, ◌≤◌, ◌∷◌, [], MatchResult, None, Some, length, map};
+ghost use Rattle.std.specs.Prelude.{◌≡◌, ◌+◌, ◌<◌, ◌≤◌, ◌∷◌, [], MatchResult, None, Some, length};
+ghost use Rattle.std.specs.Prelude.{map};
 ghost use Rattle.pynode.specs.TreeOf.{alias_of, stmt_of};
 ghost use Rattle.pynode.specs.Trees as plain;
 ghost use Rattle.pyvalue.specs.Terminals.{terminal};

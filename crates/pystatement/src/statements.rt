@@ -2,7 +2,8 @@
 //!
 //! Python language reference, 7 "Simple statements".
 
-ghost use Rattle.std.specs.Prelude.{◌≡◌, ◌+◌, ◌++◌, ◌<◌, ◌≤◌, ◌∷◌, [], MatchResult, length, map, suc};
+ghost use Rattle.std.specs.Prelude.{◌≡◌, ◌+◌, ◌++◌, ◌<◌, ◌≤◌, ◌∷◌, [], MatchResult, length, map};
+ghost use Rattle.std.specs.Prelude.{suc};
 ghost use Rattle.pynode.specs.TreeOf.{stmt_of};
 ghost use Rattle.pytoken.specs.Terminals as terminals;
 ghost use Rattle.pygrammar.specs.LineReader as line;

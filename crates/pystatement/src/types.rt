@@ -2,7 +2,8 @@
 //!
 //! Python language reference, 7.14 "The `type` statement" and 8.10 "Type parameter lists".
 
-ghost use Rattle.std.specs.Prelude.{◌≡◌, ◌+◌, ◌++◌, ◌<◌, ◌≤◌, ◌∷◌, [], MatchResult, length, map, max, true};
+ghost use Rattle.std.specs.Prelude.{◌≡◌, ◌+◌, ◌++◌, ◌<◌, ◌≤◌, ◌∷◌, [], MatchResult, length, map};
+ghost use Rattle.std.specs.Prelude.{max, true};
 ghost use Rattle.std.specs.Str.{chars};
 ghost use Rattle.unicode_normalization.specs.Forms.{nfkc};
 ghost use Rattle.pynode.specs.TreeOf.{boxed_of, stmt_of, tree_of, type_param_of};
