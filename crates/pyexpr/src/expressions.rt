@@ -35,7 +35,8 @@ pub fn read_at(
     depth: Depth,
 ) -> Result<Read, Stop>
     requires { at ≤ length tokens.now }
-    ensures { Answered tokens.now depth.room (at + 1) (reads depth level (seen tokens.now at)) result }
+    ensures { Answered tokens.now depth.room (at + 1)
+        (reads depth level (seen tokens.now at)) result }
 {
     match level {
         Level::Value => read_value(alloc, tokens, at, depth),

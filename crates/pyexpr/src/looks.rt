@@ -1,6 +1,7 @@
 //! Tests on the terminal at a place.
 
-ghost use Rattle.std.specs.Prelude.{◌≡◌, ◌+◌, ◌<◌, ◌≤◌, IfSome, MatchBool, MatchOption, None, is_some, length, option_map, true};
+ghost use Rattle.std.specs.Prelude.{◌≡◌, ◌+◌, ◌<◌, ◌≤◌, IfSome, MatchBool, MatchOption, None};
+ghost use Rattle.std.specs.Prelude.{is_some, length, option_map, true};
 ghost use Rattle.std.specs.Str.{chars};
 ghost use Rattle.unicode_normalization.specs.Forms.{nfkc};
 ghost use Rattle.pytoken.specs.StringValues.{string_value};
@@ -8,7 +9,8 @@ ghost use Rattle.pygrammar.specs.Precedence as precedence;
 ghost use Rattle.pygrammar.specs.Targets.{mapped};
 ghost use Rattle.pygrammar.specs.Looks as signs;
 ghost use Rattle.pytoken.specs.Terminals as plain;
-ghost use Rattle.pyexpr.specs.Views.{IsNamed, IsNotNamed, Stands, first_is, first_of, lead_of, seen};
+ghost use Rattle.pyexpr.specs.Views.{IsNamed, IsNotNamed, Stands, first_is, first_of, lead_of};
+ghost use Rattle.pyexpr.specs.Views.{seen};
 ghost use Rattle.pyexpr.specs.Inner.Alone.{alone, atom_with, end_with, ends};
 ghost use Rattle.pyexpr.specs.Inner.Views.{literal_in};
 ghost use Rattle.pyvalue.specs.Terminals.{literal_characters, terminal};

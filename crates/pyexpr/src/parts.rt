@@ -50,7 +50,8 @@ pub struct ReadArguments {
 #[tactic(auto, using(crate::proofs::PartSteps::outer_open, crate::proofs::PartSteps::target_outer))]
 pub fn target_at(alloc: Global, tokens: &[Terminal], at: usize, depth: Depth) -> Result<Read, Stop>
     requires { at ≤ length tokens.now }
-    ensures { Answered tokens.now (depth.room + 2) (at + 1) (reader.read_target (reads depth) (seen tokens.now at)) result }
+    ensures { Answered tokens.now (depth.room + 2) (at + 1)
+        (reader.read_target (reads depth) (seen tokens.now at)) result }
 {
     let outer = depth.outer()?;
     read_target(alloc, tokens, at, outer)
@@ -65,7 +66,8 @@ pub fn parameters_at(
     depth: Depth,
 ) -> Result<ReadParameters, Stop>
     requires { at ≤ length tokens.now }
-    ensures { PartAnswered tokens.now at (read_parameters depth (seen tokens.now at)) (λ r. arguments_of r.arguments) (λ r. r.next) result }
+    ensures { PartAnswered tokens.now at (read_parameters depth (seen tokens.now at))
+        (λ r. arguments_of r.arguments) (λ r. r.next) result }
 {
     let outer = depth.outer()?;
     let signature = parameters(alloc, tokens, true, at, outer)?;
@@ -88,7 +90,9 @@ pub fn arguments_at(
     depth: Depth,
 ) -> Result<ReadArguments, Stop>
     requires { at ≤ length tokens.now }
-    ensures { PartAnswered tokens.now at (read_arguments depth (seen tokens.now at)) (λ r. (exprs (map tree_of r.args.items), plain.keywords (map keyword_of r.keywords.items))) (λ r. r.next) result }
+    ensures { PartAnswered tokens.now at (read_arguments depth (seen tokens.now at))
+        (λ r. (exprs (map tree_of r.args.items), plain.keywords (map keyword_of r.keywords.items)))
+        (λ r. r.next) result }
 {
     let outer = depth.outer()?;
     let actual = arguments(alloc, tokens, at, outer)?;
