@@ -1,12 +1,14 @@
 -- How far the listing of a lister has come that reads line by line.
+--
+-- Carries: list. On: OutputLemmas, RunLemmas, TakenLemmas.
 use Rattle.std.proofs.Common.{◌≡◌, ◌≢◌, ℕ, ◌+◌, ◌-◌, ◌<◌, ◌≤◌, Bool, List, [], ◌++◌, slice_get, refl, sym, ap, subst, ◌∙◌, Option, Some, None, Result, Ok, append_assoc, option_map, arith}
 use Rattle.std.specs.declared.alloc.AllocError.{AllocError}
 use Rattle.std.specs.Io.KnownBytes.{Appends}
 use Rattle.pysource.specs.Parts.{Parts}
 use Rattle.pysource.specs.Streams.{Reads}
 use Rattle.pysource.specs.Limits.{source_limit}
-use Rattle.pysource.proofs.ByteLemmas.{Appends-refl}
-use Rattle.pysource.proofs.TakingLemmas.{Takes-none, Takes-on}
+use Rattle.pysource.proofs.TakenBytes.ByteLemmas.{Appends-refl}
+use Rattle.pysource.proofs.TakenBytes.TakingLemmas.{Takes-none, Takes-on}
 use Rattle.pylex.specs.declared.entries.Entry.{Entry}
 use Rattle.pylex.specs.declared.entries.ListingFault.{ListingFault}
 use Rattle.pylex.specs.declared.entries.Step.{Step}
@@ -27,7 +29,8 @@ use Rattle.pycommand.proofs.RunLemmas.{HoldsFor-fault, TakesAllBut-written}
 use Rattle.pycommand.proofs.OutputLemmas.{held_next, told_next, output_ended, fault_ended, cursor_held, told_none}
 use Rattle.pycommand.proofs.TakenLemmas.{is_broken, continues_none}
 
--- In a source in which a lister stands: what was written and is held, and what is left, are what is to be written behind its first k entries, and so for the fault.
+-- In a source in which a lister stands: what was written and is held, and what is left, are what is
+-- to be written behind its first k entries, and so for the fault.
 pub record Stood (v : Streamed) (p : Parts) (k : ℕ) (more : List ℕ) (broken exact : Bool) (count left : Option ℕ) (x y : Option (List ℕ)) (held : List ℕ) : Type 0 where
   pub stands : StreamsIn v p v.shown.given more broken
   pub holds : TakesAllBut x y (output_from exact p count k) held (output_from exact p left v.shown.given)

@@ -1,4 +1,6 @@
 -- How a run begins, or is refused.
+--
+-- Carries: begin, write_listing. On: CursorLemmas, TakenLemmas, UnreadLemmas.
 use Rattle.std.proofs.Common.{◌≡◌, ℕ, Bool, true, false, ◌&&◌, List, [], ◌++◌, length, refl, sym, ap, subst, inl, inr, ◌∙◌, Option, Some, None, Ok, append_assoc, arith}
 use Rattle.std.specs.Prelude.{nat_lt}
 use Rattle.std.proofs.lemmas.Bool.Decides.{nat_tests}
@@ -12,8 +14,8 @@ use Rattle.pysource.specs.declared.line_reader.Reach.{Reach}
 use Rattle.pysource.specs.declared.line_reader.Reach.TheVariants as reach
 use Rattle.pysource.specs.declared.line_reader.StreamFault.{StreamFault}
 use Rattle.pysource.specs.declared.line_reader.StreamFault.TheVariants as stream_faults
-use Rattle.pysource.proofs.ByteLemmas.{Appends-refl}
-use Rattle.pysource.proofs.TakingLemmas.{Takes-on}
+use Rattle.pysource.proofs.TakenBytes.ByteLemmas.{Appends-refl}
+use Rattle.pysource.proofs.TakenBytes.TakingLemmas.{Takes-on}
 use Rattle.pylex.specs.declared.entries.ListingError.{ListingError}
 use Rattle.pylex.specs.declared.entries.ListingError.TheVariants as errors
 use Rattle.pylex.specs.declared.entries.ListingFault.{ListingFault}

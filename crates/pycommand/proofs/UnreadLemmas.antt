@@ -1,4 +1,6 @@
 -- Where no read failed, none is told.
+--
+-- Carries: listing_is_read, quiet, for ModuleLemmas, StartLemmas.
 use Rattle.std.proofs.Common.{◌≡◌, ◌≢◌, ℕ, zero, suc, ◌+◌, Bool, true, false, not, ◌&&◌, ◌||◌, ◌==◌, cond, List, [], ◌∷◌, ◌++◌, drop, take, length, replicate, refl, Option, Some, None, Result, Ok, Err, subst}
 use Rattle.std.specs.List.{count_by, list_all, list_any}
 use Rattle.std.specs.Option.{option_map, option_or, option_map_or}

@@ -60,7 +60,7 @@ fn moved(actual: Actual, next: usize) -> Actual
 }
 
 /// Appends an argument without a name.
-#[tactic(auto, using(crate::proofs::Pushes::pushed, crate::proofs::ArgumentSteps::args_height))]
+#[tactic(auto, using(crate::proofs::Lists::Pushes::pushed, crate::proofs::Calls::ArgumentSteps::args_height))]
 #[inline(always)]
 fn add_plain(actual: Actual, e: Read, wrong: bool) -> Result<Actual, Stop>
     ensures state { MatchResult result
@@ -95,7 +95,7 @@ fn add_plain(actual: Actual, e: Read, wrong: bool) -> Result<Actual, Stop>
 }
 
 /// Appends an argument of this name, or one of `**`.
-#[tactic(auto, using(crate::proofs::ArgumentSteps::keywords_height))]
+#[tactic(auto, using(crate::proofs::Calls::ArgumentSteps::keywords_height))]
 #[inline(never)]
 fn add_keyword(
     alloc: Global,
@@ -169,7 +169,7 @@ fn add(alloc: Global, actual: Actual, kind: Kind, e: Read, room: usize) -> Resul
 }
 
 /// Whether an argument begins at the place.
-#[tactic(auto, using(crate::proofs::ArgumentSteps::begins_high, crate::proofs::ArgumentSteps::begins_double, crate::proofs::ArgumentSteps::begins_not))]
+#[tactic(auto, using(crate::proofs::Calls::ArgumentSteps::begins_high, crate::proofs::Calls::ArgumentSteps::begins_double, crate::proofs::Calls::ArgumentSteps::begins_not))]
 fn begins_argument(tokens: &[Terminal], at: usize) -> bool
     ensures is { result ≡ precedence.starts entries.Argument (seen tokens.now at) }
     ensures within { result ≡ true → at < length tokens.now }
@@ -181,7 +181,7 @@ fn begins_argument(tokens: &[Terminal], at: usize) -> bool
 }
 
 /// How an argument at the place begins, if one does.
-#[tactic(auto, using(crate::proofs::ArgumentSteps::spread_kind, crate::proofs::ArgumentSteps::doubled_kind, crate::proofs::ArgumentSteps::keyed_kind, crate::proofs::ArgumentSteps::single_kind))]
+#[tactic(auto, using(crate::proofs::Calls::ArgumentSteps::spread_kind, crate::proofs::Calls::ArgumentSteps::doubled_kind, crate::proofs::Calls::ArgumentSteps::keyed_kind, crate::proofs::Calls::ArgumentSteps::single_kind))]
 fn kind_at<'a>(tokens: &[Terminal<'a>], at: usize) -> Kind<'a>
     requires { at ≤ length tokens.now }
     ensures { IsKindAt result tokens.now at }

@@ -283,7 +283,7 @@ fn paired(key: Read, value: Read) -> Pair
 }
 
 /// Whether a pair begins at the place.
-#[tactic(auto, using(crate::proofs::PairSteps::stars_start, crate::proofs::PairSteps::lead_starts))]
+#[tactic(auto, using(crate::proofs::Lists::PairSteps::stars_start, crate::proofs::Lists::PairSteps::lead_starts))]
 fn starts_pair(tokens: &[Terminal], at: usize) -> bool
     ensures is { result ≡ precedence.starts entries.Pair (seen tokens.now at) }
     ensures within { result ≡ true → at < length tokens.now }

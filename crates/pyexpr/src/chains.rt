@@ -107,7 +107,7 @@ fn links(
 }
 
 /// The comparison at a place, if one stands there.
-#[tactic(auto, using(crate::proofs::Signs::one_sign, crate::proofs::Signs::not_in, crate::proofs::Signs::not_alone, crate::proofs::Signs::is_not, crate::proofs::Signs::is_alone, crate::proofs::Signs::no_sign))]
+#[tactic(auto, using(crate::proofs::Places::Signs::one_sign, crate::proofs::Places::Signs::not_in, crate::proofs::Places::Signs::not_alone, crate::proofs::Places::Signs::is_not, crate::proofs::Places::Signs::is_alone, crate::proofs::Places::Signs::no_sign))]
 fn compared_at(tokens: &[Terminal], at: usize) -> Result<Option<Compared>, Stop>
     ensures { MatchResult result
         (λ o. MatchOption o (NotComparedAt tokens.now at) (λ c. ComparedAt tokens.now at c))

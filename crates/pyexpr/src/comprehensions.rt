@@ -183,7 +183,7 @@ fn no_clauses(alloc: Global, at: usize) -> Clauses
 }
 
 /// Clauses with one more.
-#[tactic(auto, using(crate::proofs::ClausePushes::clause_pushed, crate::proofs::ClausePushes::clause_pushed_height))]
+#[tactic(auto, using(crate::proofs::ForClauses::ClausePushes::clause_pushed, crate::proofs::ForClauses::ClausePushes::clause_pushed_height))]
 fn push_clause(clauses: Clauses, clause: Clause) -> Result<Clauses, Stop>
     ensures generators { MatchResult result
         (λ r. map comprehension_of r.generators.items

@@ -68,7 +68,7 @@ pub(crate) fn first_items(alloc: Global, e: Read) -> Result<Items, Stop>
 }
 
 /// A list with one more item.
-#[tactic(auto, using(crate::proofs::Pushes::pushed, crate::proofs::Pushes::pushed_height))]
+#[tactic(auto, using(crate::proofs::Lists::Pushes::pushed, crate::proofs::Lists::Pushes::pushed_height))]
 pub fn push(items: Items, e: Read) -> Result<Items, Stop>
     ensures items { MatchResult result
         (λ r. map tree_of r.exprs.items ≡ map tree_of items.exprs.items ++

@@ -27,7 +27,7 @@ fn add_points(to: &mut Points, points: &Points) -> Result<(), AllocError>
 }
 
 /// A text with one more behind it.
-#[tactic(auto, using(crate::proofs::Runs::text_turn, crate::proofs::Runs::text_mixed))]
+#[tactic(auto, using(crate::proofs::Places::Runs::text_turn, crate::proofs::Places::Runs::text_mixed))]
 fn add_text(alloc: Global, points: Points, unicode: bool, more: LiteralText) -> Result<Points, Stop>
     ensures { MatchResult result
         (λ p. Joins (values.Str points unicode) (string_value (literal_characters more.entry))
@@ -48,7 +48,7 @@ fn add_text(alloc: Global, points: Points, unicode: bool, more: LiteralText) -> 
 }
 
 /// Bytes with more behind them.
-#[tactic(auto, using(crate::proofs::Runs::bytes_turn, crate::proofs::Runs::bytes_mixed))]
+#[tactic(auto, using(crate::proofs::Places::Runs::bytes_turn, crate::proofs::Places::Runs::bytes_mixed))]
 fn add_bytes(alloc: Global, bytes: Vec<u8>, more: LiteralText) -> Result<Vec<u8>, Stop>
     ensures { MatchResult result
         (λ b. Joins (values.Bytes bytes.items) (string_value (literal_characters more.entry))

@@ -20,7 +20,7 @@ use pytoken::Keyword;
 use pyvalue::{LiteralText, Terminal};
 
 /// The terminal at a place.
-#[tactic(auto, using(crate::proofs::Here::here, crate::proofs::Here::past))]
+#[tactic(auto, using(crate::proofs::Places::Here::here, crate::proofs::Places::Here::past))]
 pub fn terminal_at<'a>(tokens: &[Terminal<'a>], at: usize) -> Option<Terminal<'a>>
     ensures within { IfSome result (λ _. at < length tokens.now) }
     ensures is { first_of (seen tokens.now at) ≡ mapped terminal result }
@@ -97,7 +97,7 @@ pub fn name_at<'a>(tokens: &[Terminal<'a>], at: usize) -> Option<&'a str>
 }
 
 /// A name, if this sign stands behind it.
-#[tactic(auto, using(crate::proofs::Stands::named_stands, crate::proofs::Stands::unnamed_sign, crate::proofs::Stands::unnamed_first))]
+#[tactic(auto, using(crate::proofs::Places::Stands::named_stands, crate::proofs::Places::Stands::unnamed_sign, crate::proofs::Places::Stands::unnamed_first))]
 pub fn name_with<'a>(tokens: &[Terminal<'a>], at: usize, sign: Exact) -> Option<&'a str>
     ensures { MatchOption result (IsNotNamed sign tokens.now at)
         (λ name. IsNamed sign (nfkc (chars name.now)) tokens.now at) }
@@ -241,7 +241,7 @@ fn ends_at(tokens: &[Terminal], at: usize) -> bool
 
 /// Whether an atom of one terminal stands at the place, and such a sign or nothing behind it.
 #[inline(always)]
-#[tactic(auto, using(crate::proofs::AloneSteps::alone_here, crate::proofs::AloneSteps::alone_past))]
+#[tactic(auto, using(crate::proofs::Reader::AloneSteps::alone_here, crate::proofs::Reader::AloneSteps::alone_past))]
 pub(crate) fn stands_alone(tokens: &[Terminal], at: usize) -> bool
     ensures { result ≡ alone (seen tokens.now at) }
 {

@@ -46,7 +46,7 @@ pub(crate) struct Formal {
 }
 
 /// Appends a parameter.
-#[tactic(auto, using(crate::proofs::FormalSteps::pushed_arg))]
+#[tactic(auto, using(crate::proofs::FormalParameters::FormalSteps::pushed_arg))]
 fn put_arg(args: &mut Vec<Arg>, arg: Arg) -> Result<(), Stop>
     ensures { MatchResult result
         (λ _. map arg_of args.new.items ≡ map arg_of args.old.items ++ (arg_of arg ∷ []))
@@ -158,7 +158,7 @@ fn add_collected(formal: Formal, arg: Arg) -> Formal
 }
 
 /// A keyword-only parameter, with its default.
-#[tactic(auto, using(crate::proofs::FormalSteps::pushed_optional))]
+#[tactic(auto, using(crate::proofs::FormalParameters::FormalSteps::pushed_optional))]
 fn put_keyword_only(formal: Formal, arg: Arg, default: Option<Box<Expr>>) -> Result<Formal, Stop>
     ensures { MatchResult result
         (λ r. state_of r ≡ formals.keyworded (state_of formal) (arg_of arg)
@@ -172,7 +172,7 @@ fn put_keyword_only(formal: Formal, arg: Arg, default: Option<Box<Expr>>) -> Res
 }
 
 /// A parameter in front of the star, with its default.
-#[tactic(auto, using(crate::proofs::Pushes::pushed))]
+#[tactic(auto, using(crate::proofs::Lists::Pushes::pushed))]
 fn put_plain(formal: Formal, arg: Arg, default: Option<Box<Expr>>) -> Result<Formal, Stop>
     ensures { MatchResult result
         (λ r. state_of r ≡ formals.plainly (state_of formal) (arg_of arg)

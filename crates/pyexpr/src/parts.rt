@@ -47,7 +47,7 @@ pub struct ReadArguments {
 }
 
 /// A target in front of `in`.
-#[tactic(auto, using(crate::proofs::PartSteps::outer_open, crate::proofs::PartSteps::target_outer))]
+#[tactic(auto, using(crate::proofs::Reader::PartSteps::outer_open, crate::proofs::Reader::PartSteps::target_outer))]
 pub fn target_at(alloc: Global, tokens: &[Terminal], at: usize, depth: Depth) -> Result<Read, Stop>
     requires { at ≤ length tokens.now }
     ensures { Answered tokens.now (depth.room + 2) (at + 1)
@@ -58,7 +58,7 @@ pub fn target_at(alloc: Global, tokens: &[Terminal], at: usize, depth: Depth) ->
 }
 
 /// Parameters with commas between them, with annotations, in their order.
-#[tactic(auto, using(crate::proofs::PartSteps::outer_open))]
+#[tactic(auto, using(crate::proofs::Reader::PartSteps::outer_open))]
 pub fn parameters_at(
     alloc: Global,
     tokens: &[Terminal],
@@ -82,7 +82,7 @@ pub fn parameters_at(
 }
 
 /// Arguments with commas between them, in their order.
-#[tactic(auto, using(crate::proofs::PartSteps::outer_open))]
+#[tactic(auto, using(crate::proofs::Reader::PartSteps::outer_open))]
 pub fn arguments_at(
     alloc: Global,
     tokens: &[Terminal],

@@ -48,7 +48,7 @@ pub(crate) fn put_option(items: &mut Vec<Option<Expr>>, item: Option<Box<Expr>>)
 }
 
 /// Appends an argument by name, or one of `**`.
-#[tactic(auto, using(crate::proofs::ArgumentSteps::pushed_keyword, pynode::proofs::Callers::ExprShapes::keyword_tree))]
+#[tactic(auto, using(crate::proofs::Calls::ArgumentSteps::pushed_keyword, pynode::proofs::Callers::ExprShapes::keyword_tree))]
 pub(crate) fn put_keyword(
     alloc: Global,
     keywords: &mut Vec<Keyword>,

@@ -1,5 +1,7 @@
--- What callers compute with: when a cursor is one of a source, the steps of a listing behind its first ones, the lexemes of a text, and the machine's
--- run over these.
+-- What callers compute with: when a cursor is one of a source, the steps of a listing behind its
+-- first ones, the lexemes of a text, and the machine's run over these.
+--
+-- Carries: what pycommand, pyparse, pyspacing, pytoken cite. On: Lexed, Finding, Run.
 use Rattle.std.proofs.Common.{◌≡◌, ℕ, zero, suc, ◌+◌, ◌≤◌, Bool, true, false, ◌&&◌, ◌==◌, List, [], ◌∷◌, drop, length, refl, sym, ap, ◌∙◌, subst, Some, None, slice_get, nat_le, arith}
 use Rattle.std.proofs.lemmas.Bool.Decides.{nat_tests}
 use lib.Pointwise.{bytes_decides}
@@ -17,9 +19,9 @@ use Rattle.pylex.specs.Machine.{remaining, first_state}
 use Rattle.pylex.specs.Listing.{Source, listing, rest, up_to_end, origin, steps_from}
 use Rattle.pylex.specs.Standing.{is_cursor_of, IsCursorOf}
 use Rattle.pylex.specs.Steps.{entries_of, fault_of, mark}
-use Rattle.pylex.proofs.Finding as finding
-use Rattle.pylex.proofs.Lexed as lexed
-use Rattle.pylex.proofs.Run as run
+use Rattle.pylex.proofs.Listers.Finding as finding
+use Rattle.pylex.proofs.MachineLaws.Lexed as lexed
+use Rattle.pylex.proofs.MachineLaws.Run as run
 
 equals_itself : (n : ℕ) → (n == n) ≡ true
 equals_itself n = grind (arith, nat_tests)

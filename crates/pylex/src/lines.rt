@@ -130,7 +130,7 @@ fn push_range(out: &mut String, entry: &Entry) -> Result<(), AllocError>
 }
 
 /// The name of a type of tokens, filled to the width of its field.
-#[tactic(auto, using(crate::proofs::LinesLemmas::kind_filled))]
+#[tactic(auto, using(crate::proofs::Texts::LinesLemmas::kind_filled))]
 fn kind_field(kind: Kind) -> &'static str
     ensures { result.now ≡ filled 15 (kind_name kind) }
 {
@@ -200,7 +200,7 @@ fn push_plain(out: &mut String, text: &str) -> Result<(), AllocError>
 }
 
 /// Writes the field of a line feed, with which most lines of a source end.
-#[tactic(auto, using(crate::proofs::LinesLemmas::line_feed_field))]
+#[tactic(auto, using(crate::proofs::Texts::LinesLemmas::line_feed_field))]
 fn push_line_feed(out: &mut String) -> Result<(), AllocError>
     ensures ok { OnOk result (string_bytes out.new ≡ string_bytes out.old ++ filled 15 (repr_text (chars (10 ∷ [])))) }
     ensures kept { StartsWith (string_bytes out.new) (string_bytes out.old) }

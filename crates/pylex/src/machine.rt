@@ -60,7 +60,7 @@ fn is_level(width: usize, levels: &[usize]) -> bool
 }
 
 /// The layout of a line by its width and the open levels above 0.
-#[tactic(auto, using(crate::proofs::Tops::top_indent, crate::proofs::Tops::top_level, crate::proofs::Tops::top_dedent, crate::proofs::Tops::top_mismatch))]
+#[tactic(auto, using(crate::proofs::Levels::Tops::top_indent, crate::proofs::Levels::Tops::top_level, crate::proofs::Levels::Tops::top_dedent, crate::proofs::Levels::Tops::top_mismatch))]
 fn indentation_for(width: usize, levels: &[usize]) -> Indentation
     requires { IsAscending 0 levels.now }
     ensures { IsIndentation width levels.now result }

@@ -227,7 +227,7 @@ fn has_number(text: &Scanner) -> bool
 }
 
 /// Takes the longest lexeme that stands here, and says its class; none and nothing where no lexeme stands.
-#[tactic(auto, using(crate::proofs::Union::begins_by))]
+#[tactic(auto, using(crate::proofs::Lexemes::Union::begins_by))]
 #[inline(always)]
 pub(crate) fn lexeme(text: &mut Scanner) -> Option<Class>
     ensures { Takes text.old result text.new }

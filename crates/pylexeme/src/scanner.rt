@@ -193,7 +193,7 @@ impl<'a> Scanner<'a> {
     }
 
     /// Takes digits of a kind from here on, each with perhaps an underscore before it.
-    #[tactic(auto, using(crate::proofs::Joined::step_digit, crate::proofs::Joined::step_both, crate::proofs::Joined::stop_first, crate::proofs::Joined::stop_second, crate::proofs::Joined::shorter, crate::proofs::Joined::shorter_two))]
+    #[tactic(auto, using(crate::proofs::Fronts::Joined::step_digit, crate::proofs::Fronts::Joined::step_both, crate::proofs::Fronts::Joined::stop_first, crate::proofs::Fronts::Joined::stop_second, crate::proofs::Fronts::Joined::shorter, crate::proofs::Fronts::Joined::shorter_two))]
     pub(crate) fn bump_joined(&mut self, digits: CharSet)
         ensures { self.new ≡ drop (joined_len (has digits) self.old) self.old }
     {

@@ -1,4 +1,5 @@
--- Carries: spell_match, read_line. On: the texts of a line's first and last token, and the last token of a source.
+-- Carries: spell_match, read_line. On: the texts of a line's first and last token, and
+-- the last token of a source.
 use Rattle.std.proofs.Common.{◌≡◌, ℕ, Bool, true, false, List, [], ◌∷◌, ◌++◌, length, refl, sym, ap, ◌∙◌, inl, inr, append_assoc, ◌<◌, arith, Some, None}
 use Rattle.std.specs.Prelude.{◌&&◌}
 use Rattle.std.specs.Str.{chars, bytes_eq, IsUtf8, IsAscii, encode_utf8_all}

@@ -1,4 +1,5 @@
--- Carries: read_line. On: what one pass gathers of its lines, with one entry more and at the listing's end.
+-- Carries: read_line. On: what one pass gathers of its lines, with one entry more
+-- and at the listing's end.
 use Rattle.std.proofs.Common.{◌≡◌, ℕ, ◌+◌, ◌-◌, ◌≤◌, ◌<◌, Bool, true, false, List, [], ◌∷◌, ◌++◌, length, take, drop, map, refl, sym, ap, ap₂, subst, ◌∙◌, append-nil, arith, length-append, Some, None}
 use Rattle.std.specs.Prelude.{if◌then◌else◌, slice_get}
 use Rattle.std.proofs.lemmas.List.{map-append, take-append-drop}

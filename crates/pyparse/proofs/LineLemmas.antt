@@ -1,4 +1,5 @@
--- Carries: read_line. On: the tokens and the logical lines of a front of a listing, with one entry more, and what stands behind it.
+-- Carries: read_line. On: the tokens and the logical lines of a front of a listing, with one entry
+-- more, and what stands behind it.
 use Rattle.std.proofs.Common.{◌≡◌, ℕ, ◌<◌, Bool, true, false, List, [], ◌∷◌, ◌++◌, length, refl, sym, ap, ◌∙◌, append_assoc, arith, length-append}
 use Rattle.std.specs.Prelude.{count_by, if◌then◌else◌}
 use Rattle.pylex.specs.declared.kind.Kind.{Kind}

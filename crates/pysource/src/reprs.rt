@@ -33,7 +33,7 @@ fn push_hex(out: &mut String, width: u32, number: u32) -> Result<(), AllocError>
 }
 
 /// Appends `\xhh`, `\uhhhh` or `\Uhhhhhhhh`, the shortest that holds the number.
-#[tactic(auto, using(crate::proofs::ReprsLemmas::encodes_hex_escape))]
+#[tactic(auto, using(crate::proofs::Printing::ReprsLemmas::encodes_hex_escape))]
 fn push_escape(out: &mut String, number: u32) -> Result<(), AllocError>
     ensures encoded { OnOk result
         (string_bytes out.new ≡ string_bytes out.old ++ encode_utf8_all (hex_escape number)) }
@@ -100,7 +100,7 @@ pub fn repr_bytes(alloc: Global, bytes: &[u8]) -> Result<String, AllocError>
 
 /// Appends the `repr` of bytes to an output, without memory of its own: what [`repr_bytes`] gives.
 /// Where the output can't grow, it keeps what it had, and may have taken a front of that.
-#[tactic(auto, using(crate::proofs::ReprsLemmas::kept_front))]
+#[tactic(auto, using(crate::proofs::Printing::ReprsLemmas::kept_front))]
 pub fn push_repr_bytes(out: &mut String, bytes: &[u8]) -> Result<(), AllocError>
     ensures ok { OnOk result (string_bytes out.new ≡ string_bytes out.old ++ repr_bytes bytes.now) }
     ensures kept { StartsWith (string_bytes out.new) (string_bytes out.old) }
@@ -116,7 +116,7 @@ pub fn push_repr_bytes(out: &mut String, bytes: &[u8]) -> Result<(), AllocError>
 }
 
 /// The character of a number, where it is one that is printed as it is.
-#[tactic(auto, using(crate::proofs::Categories::unprintable_no_character, crate::proofs::Categories::printable_ascii))]
+#[tactic(auto, using(crate::proofs::Printing::Categories::unprintable_no_character, crate::proofs::Printing::Categories::printable_ascii))]
 fn printable(point: u32) -> Option<char>
     ensures { result ≡ (if is_unprintable point then None else Some point) }
 {
@@ -193,7 +193,7 @@ pub fn repr_text(alloc: Global, points: &[u32]) -> Result<String, AllocError>
 /// own: what [`repr_text`] gives. A number past 10FFFF is no code point, and is escaped as one
 /// that is unprintable. Where the output can't grow, it keeps what it had, and may have taken a
 /// front of that.
-#[tactic(auto, using(crate::proofs::ReprsLemmas::more_encoded, crate::proofs::ReprsLemmas::kept_front))]
+#[tactic(auto, using(crate::proofs::Printing::ReprsLemmas::more_encoded, crate::proofs::Printing::ReprsLemmas::kept_front))]
 pub fn push_repr_points(out: &mut String, points: &[u32]) -> Result<(), AllocError>
     ensures ok { OnOk result (string_bytes out.new ≡ string_bytes out.old ++ repr_text points.now) }
     ensures kept { StartsWith (string_bytes out.new) (string_bytes out.old) }

@@ -69,7 +69,7 @@ impl Source {
 }
 
 /// The length of the longest front that is UTF-8.
-#[tactic(auto, using(crate::proofs::LinesLemmas::valid_all))]
+#[tactic(auto, using(crate::proofs::FaultyLines::LinesLemmas::valid_all))]
 fn utf8_len(bytes: &[u8]) -> usize
     ensures { result ≡ utf8_valid_len bytes.now }
 {
@@ -106,7 +106,7 @@ fn find_return(bytes: &[u8], from: usize) -> usize
 }
 
 /// The place of the first CR that no LF follows, or the length.
-#[tactic(auto, using(crate::proofs::ReturnsLemmas::lone_none_byte, crate::proofs::ReturnsLemmas::lone_none_lf, crate::proofs::ReturnsLemmas::lone_some))]
+#[tactic(auto, using(crate::proofs::FaultyLines::ReturnsLemmas::lone_none_byte, crate::proofs::FaultyLines::ReturnsLemmas::lone_none_lf, crate::proofs::FaultyLines::ReturnsLemmas::lone_some))]
 fn lone_return(bytes: &[u8]) -> usize
     ensures within { result ≤ length bytes.now }
     ensures before { (k : ℕ) → k < result → lone_return_at bytes.now k ≡ None }
@@ -129,7 +129,7 @@ fn lone_return(bytes: &[u8]) -> usize
 }
 
 /// The length of the longest front that the character set allows.
-#[tactic(auto, using(crate::proofs::BadLemmas::utf8_before, crate::proofs::BadLemmas::utf8_at, crate::proofs::BadLemmas::ascii_before, crate::proofs::BadLemmas::ascii_at))]
+#[tactic(auto, using(crate::proofs::FaultyLines::BadLemmas::utf8_before, crate::proofs::FaultyLines::BadLemmas::utf8_at, crate::proofs::FaultyLines::BadLemmas::ascii_before, crate::proofs::FaultyLines::BadLemmas::ascii_at))]
 fn valid_len(charset: Charset, bytes: &[u8]) -> usize
     ensures within { result ≤ length bytes.now }
     ensures before { (k : ℕ) → k < result →
@@ -207,7 +207,7 @@ fn cut_line(bytes: &[u8]) -> (&[u8], &[u8])
 ///
 /// Where no read fails the source of a stream, as [`LineReader`](crate::LineReader) gives it, is
 /// that of its bytes.
-#[tactic(auto, using(crate::proofs::StreamLemmas::stream_is_source))]
+#[tactic(auto, using(crate::proofs::LineReading::StreamLemmas::stream_is_source))]
 pub fn decode(alloc: Global, bytes: &[u8]) -> Result<Source, SourceFault>
     requires { length bytes.now ≤ source_limit }
     ensures value { UnlessMemory result (source_of bytes.now) }

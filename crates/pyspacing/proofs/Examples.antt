@@ -1,4 +1,6 @@
 -- Worked lines, by computation: their text, and that they can be read back.
+--
+-- Carries: no contract; its rows are computed as it is checked.
 use Rattle.std.proofs.Common.{◌≡◌, ℕ, ◌&&◌, Bool, true, false, List, [], ◌∷◌, refl}
 use Rattle.std.specs.Prelude.{codes}
 use Rattle.pylex.specs.declared.kind.Kind.TheVariants as kinds

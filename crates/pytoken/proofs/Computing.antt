@@ -1,4 +1,7 @@
--- `unfolding values` lets `refl` compute what the text of a token stands for, `unfolding sources` the tokens and lines of a source.
+-- `unfolding values` lets `refl` compute what the text of a token stands for, `unfolding sources`
+-- the tokens and lines of a source.
+--
+-- Carries: sources, values, for RefusalRows, TokenRows, ValueRows.
 use lib.Utf8.{encode}
 use Rattle.std.specs.Str.{chars}
 use Rattle.unicode_normalization.proofs.Computing.{unicode_normalization}

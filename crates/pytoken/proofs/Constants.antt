@@ -1,4 +1,5 @@
--- Carries: come_back. On: whole numbers in decimal, the reprs of texts and of bytes, which are read as what was written.
+-- Carries: come_back. On: whole numbers in decimal, the reprs of texts and of bytes, which are
+-- read as what was written.
 use Rattle.std.proofs.Common.{◌≡◌, ℕ, ◌-◌, ◌^◌, ◌<◌, ◌≤◌, Bool, true, false, ◌⊎◌, List, [], ◌∷◌, ◌++◌, length, get_or, drop, map, refl, sym, subst}
 use Rattle.std.proofs.Common.{ap, ◌∙◌, inl, inr, true≢false, arith, length-append, append_assoc, None}
 use Rattle.std.specs.Prelude.{◌==◌, ◌||◌, ◌&&◌, not, nat_lt, nat_le, All, if◌then◌else◌, decimal, filter}

@@ -1,4 +1,7 @@
--- On: the margin that a line still has to give behind some of its blanks, and what a lexeme's class says of its first character.
+-- On: the margin that a line still has to give behind some of its blanks, and what a lexeme's class
+-- says of its first character.
+--
+-- Carries: pending, eights, Fronts, text_behind and 11 more, for MarginWidths.
 use Rattle.std.proofs.Common.{◌≡◌, ℕ, ◌+◌, Bool, true, false, not, ◌&&◌, ◌==◌, cond, List, [], ◌∷◌, ◌++◌, length, drop, map}
 use Rattle.std.proofs.Common.{refl, sym, ap, ap₂, subst, ◌∙◌, arith, length-append, Option, Some, None}
 use Rattle.std.specs.Prelude.{option_map}

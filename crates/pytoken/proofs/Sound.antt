@@ -1,4 +1,6 @@
 -- On: the tokens of a source that isn't refused are what their types say, and have no fault.
+--
+-- Carries: tokens_are_sound, for Said.
 use Rattle.std.proofs.Common.{◌≡◌, ℕ, zero, suc, ◌+◌, ◌-◌, Bool, true, false, not, ◌&&◌, ◌||◌, ◌==◌, cond, List, [], ◌∷◌, ◌++◌, length, take, drop}
 use Rattle.std.proofs.Common.{replicate, refl, sym, ap, subst, ◌∙◌, arith, append_assoc, Option, Some, None}
 use Rattle.std.specs.Prelude.{option_map, slice_range, nat_lt, All}

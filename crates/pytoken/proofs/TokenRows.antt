@@ -1,4 +1,6 @@
 -- Worked tokens and lines of sources, by computation.
+--
+-- Carries: no contract; its rows are computed as it is checked. On: Computing.
 use Rattle.std.proofs.Common.{◌≡◌, ℕ, List, [], ◌∷◌, ◌++◌, refl, None}
 use Rattle.std.specs.Prelude.{codes}
 use Rattle.pylex.specs.declared.kind.Kind.{Kind}

@@ -1,4 +1,7 @@
--- Worked values of tokens and worked faults, by computation. The values are those that Python 3.11 gives.
+-- Worked values of tokens and worked faults, by computation. The values are
+-- those that Python 3.11 gives.
+--
+-- Carries: no contract; its rows are computed as it is checked. On: Computing.
 use Rattle.std.proofs.Common.{◌≡◌, ℕ, List, [], ◌∷◌, refl, Option, Some, None, true, false, map}
 use Rattle.std.specs.Prelude.{codes}
 use Rattle.pylex.specs.declared.kind.Kind.{Kind}

@@ -1,6 +1,6 @@
 //! Headers, up to their colons and with them.
 
-#![tactic(auto, using(crate::proofs::FoldLemmas::puts_append))]
+#![tactic(auto, using(crate::proofs::Sequences::FoldLemmas::puts_append))]
 
 ghost use Rattle.std.specs.Prelude.{◌≡◌, ◌++◌, ◌∷◌, [], None, OnOk, map};
 ghost use Rattle.pylexeme.specs.declared.kinds.Exact.TheVariants.{Colon};

@@ -1,6 +1,6 @@
 //! Imports.
 
-#![tactic(auto, using(crate::proofs::FoldLemmas::puts_append))]
+#![tactic(auto, using(crate::proofs::Sequences::FoldLemmas::puts_append))]
 
 ghost use Rattle.std.specs.Prelude.{◌≡◌, None, OnOk, map, false};
 ghost use Rattle.std.specs.Str.{chars};

@@ -1,6 +1,6 @@
 //! Simple statements.
 
-#![tactic(auto, using(crate::proofs::FoldLemmas::puts_append))]
+#![tactic(auto, using(crate::proofs::Sequences::FoldLemmas::puts_append))]
 
 ghost use Rattle.std.specs.Prelude.{◌≡◌, ◌∷◌, [], OnOk, map, false};
 ghost use Rattle.pynode.specs.TreeOf.{alias_of, boxed_of, option_of, stmt_of, tree_of};

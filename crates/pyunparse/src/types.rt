@@ -1,6 +1,6 @@
 //! The parameters of types, of Python 3.12.
 
-#![tactic(auto, using(crate::proofs::FoldLemmas::puts_append))]
+#![tactic(auto, using(crate::proofs::Sequences::FoldLemmas::puts_append))]
 
 ghost use Rattle.std.specs.Prelude.{◌≡◌, OnOk, map};
 ghost use Rattle.pylexeme.specs.declared.kinds.Exact.TheVariants.{Colon};

@@ -1,4 +1,6 @@
 -- Each line of a source has a place, and so has its end.
+--
+-- Carries: starts_line, starts_end, starts, for Blocks.
 use Rattle.std.proofs.Common.{◌≡◌, ℕ, zero, suc, ◌<◌, ◌≤◌, Bool, true, false, not, ◌&&◌, ◌||◌, ◌==◌, cond, List, [], ◌∷◌, ◌++◌, length, replicate, refl, sym, ap, ◌∙◌, subst, Option, Some, None, if◌then◌else◌, append_assoc, arith}
 use Rattle.std.specs.List.{list_all, list_any, count_by}
 use Rattle.std.specs.Prelude.{nat_lt}

@@ -1,4 +1,5 @@
--- Carries: the law of source text. On: a module's text is a source that is accepted as the module, and as no other.
+-- Carries: the law of source text. On: a module's text is a source that is accepted as the
+-- module, and as no other.
 use Rattle.std.proofs.Common.{◌≡◌, refl, sym, ap, subst, ◌∙◌, ℕ, suc, ◌+◌, ◌-◌, ◌≤◌, arith, Bool, true, false, ◌&&◌, List, [], ◌∷◌, map, Option, Some, None, if◌then◌else◌}
 use Rattle.std.specs.Prelude.{All, nat_lt}
 use Rattle.std.specs.Str.{encode_utf8_all}

@@ -1,5 +1,5 @@
--- Carries: the law of source text. On: the tokens of an accepted source are of Unicode characters and have no fault, so that its module is the one that
--- its own text is.
+-- Carries: the law of source text. On: the tokens of an accepted source are of Unicode characters
+-- and have no fault, so that its module is the one that its own text is.
 use Rattle.std.proofs.Common.{◌≡◌, refl, sym, ap, subst, ◌∙◌, ℕ, ◌+◌, Bool, true, false, List, [], ◌∷◌, ◌++◌, append_assoc}
 use Rattle.std.specs.Prelude.{All, map}
 use Rattle.std.specs.Str.{all_scalars}
@@ -21,7 +21,7 @@ use Rattle.pytoken.specs.Terminals.{terminal_of, IsSound}
 use Rattle.pytoken.proofs.Callers.Said.{tokens_are_sound}
 use Rattle.pygrammar.specs.Lines.{Line}
 use Rattle.pygrammar.specs.Refusals.{terminals, Formed, formed_end, formed_line}
-use Rattle.pyspacing.proofs.Tells.{bytes_both, sliced}
+use Rattle.pyspacing.proofs.Listings.Tells.{bytes_both, sliced}
 use Rattle.pywritten.specs.Modules.{written_line}
 use Rattle.pywritten.specs.Laws.{IsOfToken, AreOfTokens, AreWithin, source_lines, IsGood, TokensAreOfTokens, AcceptedTextsAreAccepted}
 use Rattle.pywritten.proofs.Modules.High.{modules_low}

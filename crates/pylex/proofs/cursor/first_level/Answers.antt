@@ -1,5 +1,5 @@
 use Rattle.std.proofs.lemmas.Fmt.{parse-decimal}
-use Rattle.pylex.proofs.CursorLemmas.{first_level_split, first_level_whole}
+use Rattle.pylex.proofs.Texts.CursorLemmas.{first_level_split, first_level_whole}
 use Rattle.pylex.proofs.cursor.first_level.Goals as goal
 
 pub returns-in_err-ok-in-Some-clause-reads : goal.returns-in_err-ok-in-Some-clause-reads

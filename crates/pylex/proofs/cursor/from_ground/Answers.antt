@@ -1,7 +1,7 @@
 use Rattle.std.proofs.Common.{◌≡◌, ◌∷◌, length, take, sym, subst, arith, ap, ◌∙◌}
 use Rattle.std.proofs.Math.Seq.{take-length}
 use Rattle.pylex.specs.CursorTexts.{AreLevels}
-use Rattle.pylex.proofs.GroundLevels.{ground_levels}
+use Rattle.pylex.proofs.Levels.GroundLevels.{ground_levels}
 use Rattle.pylex.proofs.cursor.from_ground.Goals as goal
 
 pub returns-clause-levels : goal.returns-clause-levels

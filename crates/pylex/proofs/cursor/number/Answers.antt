@@ -1,7 +1,7 @@
 use Rattle.std.proofs.Common.{Some, None, arith, decimal}
 use Rattle.std.proofs.lemmas.Fmt.{parse-decimal}
 use Rattle.std.proofs.lemmas.Str.Pattern.{split_after}
-use Rattle.pylex.proofs.CursorLemmas.{decimal_lacks}
+use Rattle.pylex.proofs.Texts.CursorLemmas.{decimal_lacks}
 use Rattle.pylex.proofs.cursor.number.Goals as goal
 
 pub returns-in_err-front : goal.returns-in_err-front

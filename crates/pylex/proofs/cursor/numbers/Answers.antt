@@ -1,7 +1,7 @@
 use Rattle.std.proofs.Common.{◌++◌, ◌+◌, ◌<◌, ◌∙◌, ap, length, get_or, drop, arith, rules}
 use Rattle.std.proofs.Common.{◌≤◌}
 use Rattle.std.proofs.lemmas.List.{take_all, drop_all}
-use Rattle.pylex.proofs.CursorLemmas.{next_number, number_kept, get_fits, with_blanks}
+use Rattle.pylex.proofs.Texts.CursorLemmas.{next_number, number_kept, get_fits, with_blanks}
 use Rattle.pylex.proofs.cursor.numbers.Goals as goal
 
 pub returns-in_err-value : goal.returns-in_err-value

@@ -1,6 +1,6 @@
 use Rattle.std.proofs.Common.{◌≡◌, ℕ, List, ◌++◌, length, take, drop}
 use Rattle.std.specs.Prelude.{IsUtf8}
-use Rattle.pylex.proofs.CursorLemmas.{with_blanks, Words}
+use Rattle.pylex.proofs.Texts.CursorLemmas.{with_blanks, Words}
 use Rattle.pylex.proofs.cursor.numbers.Given as goal
 
 abbrev pub invariant-loop-read : goal.invariant-loop-read

@@ -1,6 +1,6 @@
 use Rattle.std.proofs.Common.{◌≡◌, ◌++◌, ◌∙◌, ap, get_or, rules, decimal}
 use Rattle.std.specs.String.{string_bytes}
-use Rattle.pylex.proofs.CursorLemmas.{written_more, written_first}
+use Rattle.pylex.proofs.Texts.CursorLemmas.{written_more, written_first}
 use Rattle.pylex.proofs.cursor.push_levels.Goals as goal
 use Rattle.pylex.proofs.cursor.push_levels.Goals.{then-index-gt0+in_ok-push, else-index-gt0}
 

@@ -2,7 +2,7 @@ use Rattle.std.proofs.Common.{◌≡◌, ◌∷◌, [], ◌++◌, ◌<◌, ◌�
 use denote.Ref.{Bor}
 use Rattle.std.proofs.Common.{◌^◌}
 use Rattle.std.proofs.lemmas.List.Elements.{All-push}
-use Rattle.pylex.proofs.LevelLemmas.{HasRead, cannot_follow, can_follow_is, text_left, next_level, joined_behind, one_more, has_read, first_kept, ascending_kept, are_levels, at_end}
+use Rattle.pylex.proofs.Levels.LevelLemmas.{HasRead, cannot_follow, can_follow_is, text_left, next_level, joined_behind, one_more, has_read, first_kept, ascending_kept, are_levels, at_end}
 use Rattle.pylex.proofs.cursor.read_levels.Goals as goal
 
 pub returns-in_err-level-clause-reads : goal.returns-in_err-level-clause-reads

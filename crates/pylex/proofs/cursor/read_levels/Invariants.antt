@@ -1,7 +1,7 @@
 use Rattle.std.proofs.Common.{◌≡◌, ◌<◌, ◌+◌, ℕ, List, ◌++◌, length, get_or, All, ◌^◌}
 use Rattle.pylex.specs.Cursors.{with_commas}
 use Rattle.pylex.specs.CursorTexts.{AreLevels}
-use Rattle.pylex.proofs.LevelLemmas.{left_to_read, IsJoined, IsTextLeft, HasRead}
+use Rattle.pylex.proofs.Levels.LevelLemmas.{left_to_read, IsJoined, IsTextLeft, HasRead}
 use Rattle.pylex.proofs.cursor.read_levels.Given as goal
 
 abbrev pub decreases-loop-rest : goal.decreases-loop-rest

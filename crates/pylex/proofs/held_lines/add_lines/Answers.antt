@@ -4,12 +4,12 @@ use Rattle.std.specs.Str.{IsCharBoundary}
 use Rattle.std.proofs.lemmas.Str.{IsCharBoundary-at_seam}
 use Rattle.pysource.specs.declared.line_reader.Line.TheVariants as met
 use Rattle.pysource.specs.Taking.{fails}
-use Rattle.pysource.proofs.ByteLemmas.{Steady-append}
-use Rattle.pysource.proofs.TakingLemmas.{was_reading}
-use Rattle.pylex.proofs.Adding.{adds_none, adds_line, adds_no_line}
-use Rattle.pylex.proofs.HeldLinesLemmas.{adds_of, no_line, line_some}
+use Rattle.pysource.proofs.TakenBytes.ByteLemmas.{Steady-append}
+use Rattle.pysource.proofs.TakenBytes.TakingLemmas.{was_reading}
+use Rattle.pylex.proofs.LineByLine.Adding.{adds_none, adds_line, adds_no_line}
+use Rattle.pylex.proofs.LineByLine.HeldLinesLemmas.{adds_of, no_line, line_some}
 use Rattle.pylex.specs.Held.{LinesBehind}
-use Rattle.pylex.proofs.JoinedOn.{behind_line, joins_no_line, joins_ended}
+use Rattle.pylex.proofs.LineByLine.JoinedOn.{behind_line, joins_no_line, joins_ended}
 use Rattle.pylex.proofs.held_lines.add_lines.Goals as goal
 
 pub loop-literal-init : goal.loop-literal-init

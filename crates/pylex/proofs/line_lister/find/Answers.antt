@@ -1,10 +1,10 @@
 use Rattle.std.proofs.Common.{◌≡◌, true, length, drop, ap, sym, arith, string_bytes, length-append}
 use Rattle.std.specs.Prelude.{Ok, Err}
 use Rattle.std.proofs.lemmas.Str.{IsCharBoundary-from_drop}
-use Rattle.pysource.proofs.ByteLemmas.{Steady-append}
+use Rattle.pysource.proofs.TakenBytes.ByteLemmas.{Steady-append}
 use Rattle.pylex.specs.Streamed.{lacks}
-use Rattle.pylex.proofs.HeldLinesLemmas.{no_line, stays_other}
-use Rattle.pylex.proofs.Searching.{ahead_found, ahead_end, ahead_then, searches_line, searches_stay, meets_end, small_held}
+use Rattle.pylex.proofs.LineByLine.HeldLinesLemmas.{no_line, stays_other}
+use Rattle.pylex.proofs.LineByLine.Searching.{ahead_found, ahead_end, ahead_then, searches_line, searches_stay, meets_end, small_held}
 use Rattle.pylex.proofs.line_lister.find.Goals as goal
 
 pub range_from-requires : goal.range_from-requires

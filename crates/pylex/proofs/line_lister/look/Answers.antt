@@ -3,9 +3,9 @@ use Rattle.std.specs.Str.{chars}
 use Rattle.std.proofs.lemmas.List.{drop_all}
 use Rattle.std.proofs.lemmas.Str.{chars-nil}
 use Rattle.pylex.specs.LineState.{StopAhead}
-use Rattle.pylex.proofs.Finding.{stays_there}
-use Rattle.pylex.proofs.Lined.{stop_empty}
-use Rattle.pylex.proofs.Searching.{boundary_held, stands_held, ascending_held, within_held, stop_held, drop_behind}
+use Rattle.pylex.proofs.Listers.Finding.{stays_there}
+use Rattle.pylex.proofs.LineByLine.Lined.{stop_empty}
+use Rattle.pylex.proofs.LineByLine.Searching.{boundary_held, stands_held, ascending_held, within_held, stop_held, drop_behind}
 use Rattle.pylex.proofs.line_lister.look.Goals as goal
 
 pub returns-then-chunk-len-clause-looks : goal.returns-then-chunk-len-clause-looks

@@ -1,8 +1,8 @@
 use Rattle.std.proofs.Common.{None}
 use Rattle.std.proofs.lemmas.Str.{IsCharBoundary-from_drop}
 use Rattle.std.proofs.lemmas.Result.{err_from_is_err_and}
-use Rattle.pylex.proofs.Searching.{searches_none}
-use Rattle.pylex.proofs.Steppings.{entry_ahead, place_held, steps_unopened, streaming_unopened, steps_entry, streaming_entry, steps_other, streaming_other}
+use Rattle.pylex.proofs.LineByLine.Searching.{searches_none}
+use Rattle.pylex.proofs.LineByLine.Steppings.{entry_ahead, place_held, steps_unopened, streaming_unopened, steps_entry, streaming_entry, steps_other, streaming_other}
 use Rattle.pylex.proofs.line_lister.pass.Goals as goal
 
 pub range_from-left-requires : goal.range_from-left-requires

@@ -3,7 +3,7 @@ use Rattle.std.specs.Str.{chars, IsUtf8}
 use Rattle.std.specs.Str.Iter.{chars_rest}
 use Rattle.pylex.specs.declared.line_state.LeadingChar.TheVariants.{Nothing}
 use Rattle.pylex.specs.Machine.{front_after}
-use Rattle.pylex.proofs.Plain.{AllInLine}
+use Rattle.pylex.proofs.Texts.Plain.{AllInLine}
 use Rattle.pylex.proofs.line_state.front_of_plain.Given as goal
 
 abbrev pub invariant-loop-c : goal.invariant-loop-c

@@ -1,5 +1,5 @@
 use Rattle.std.proofs.Common.{sym, rules}
-use Rattle.pylex.proofs.Plain.{advance_plain}
+use Rattle.pylex.proofs.Texts.Plain.{advance_plain}
 use Rattle.pylex.proofs.line_state.walk.Goals as goal
 
 pub returns-clause-place : goal.returns-clause-place

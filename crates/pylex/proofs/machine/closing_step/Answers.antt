@@ -1,7 +1,7 @@
 use Rattle.std.proofs.Common.{[], arith}
-use Rattle.pylex.proofs.Ending.{closing_dedent, closing_marker, closing_end}
+use Rattle.pylex.proofs.Listers.Ending.{closing_dedent, closing_marker, closing_end}
 use Rattle.pylex.specs.declared.kind.Kind.TheVariants as kinds
-use Rattle.pylex.proofs.Ranges.{mark_range}
+use Rattle.pylex.proofs.Listers.Ranges.{mark_range}
 use Rattle.pylex.proofs.machine.closing_step.Goals as goal
 
 pub returns-then-closed-nested-clause-step : goal.returns-then-closed-nested-clause-step

@@ -1,8 +1,8 @@
 use Rattle.std.proofs.Common.{◌+◌, [], length, refl}
 use Rattle.std.specs.Str.{chars}
-use Rattle.pylex.proofs.Finding.{stays_there, comes_on, finds_on, fault_found, entry_found, nothing_found, no_significant_due, some_bytes, stands_after, shorter_after, room_after, behind_cut, behind_on}
+use Rattle.pylex.proofs.Listers.Finding.{stays_there, comes_on, finds_on, fault_found, entry_found, nothing_found, no_significant_due, some_bytes, stands_after, shorter_after, room_after, behind_cut, behind_on}
 use Rattle.pylex.specs.declared.machine.Peeked.TheVariants as peeked
-use Rattle.pylex.proofs.Told.{tells}
+use Rattle.pylex.proofs.MachineLaws.Told.{tells}
 use Rattle.pylex.proofs.machine.find.Goals as goal
 
 pub returns-in-Fault-clause-finds : goal.returns-in-Fault-clause-finds

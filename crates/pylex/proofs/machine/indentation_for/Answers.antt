@@ -1,4 +1,4 @@
-use Rattle.pylex.proofs.Tops.{top_level}
+use Rattle.pylex.proofs.Levels.Tops.{top_level}
 use Rattle.pylex.proofs.machine.indentation_for.Goals as goal
 
 pub returns-then-width-top-2 : goal.returns-then-width-top-2

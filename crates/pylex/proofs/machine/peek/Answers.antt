@@ -1,6 +1,6 @@
 use Rattle.std.proofs.Common.{[], refl}
 use Rattle.std.specs.Str.{chars}
-use Rattle.pylex.proofs.Finding.{stays_there}
+use Rattle.pylex.proofs.Listers.Finding.{stays_there}
 use Rattle.pylex.proofs.machine.peek.Goals as goal
 
 pub returns-then-tail-gt0-clause-finds : goal.returns-then-tail-gt0-clause-finds

@@ -2,8 +2,8 @@ use Rattle.std.proofs.Common.{[], sym}
 use Rattle.std.specs.Prelude.{option_map}
 use Rattle.pylex.specs.Listing.{of_line}
 use Rattle.pylex.specs.LineState.{with_levels}
-use Rattle.pylex.proofs.Ending.{stop_in, line_in, open_in, tail_in, given_empty}
-use Rattle.pylex.proofs.Ranges.{given_at}
+use Rattle.pylex.proofs.Listers.Ending.{stop_in, line_in, open_in, tail_in, given_empty}
+use Rattle.pylex.proofs.Listers.Ranges.{given_at}
 use Rattle.pylex.proofs.machine.stop.Goals as goal
 
 pub returns-then-not-is_empty-clause-steps : goal.returns-then-not-is_empty-clause-steps

@@ -1,6 +1,6 @@
 use Rattle.std.proofs.Common.{◌∙◌, ap, not, rules, ⊎_elim}
 use Rattle.std.specs.Str.{chars}
-use Rattle.pylexeme.proofs.Union.{significant_none, significant_hash, significant_feed, significant_other, significant_return}
+use Rattle.pylexeme.proofs.Lexemes.Union.{significant_none, significant_hash, significant_feed, significant_other, significant_return}
 use Rattle.pylexeme.proofs.lexeme.begins_significant.Goals as goal
 
 pub returns-in_default : goal.returns-in_default

@@ -8,8 +8,8 @@ use Rattle.pysource.specs.declared.buffers.Intake.{Intake}
 use Rattle.pysource.specs.declared.line_reader.Reach.TheVariants.{Reading}
 use Rattle.pysource.specs.declared.line_reader.StreamFault.{StreamFault}
 use Rattle.pysource.specs.declared.line_reader.StreamFault.TheVariants.{UnsupportedEncoding, BomConflict, Read, Memory}
-use Rattle.pysource.proofs.TakingLemmas.{Grows-append, Takes-whole}
-use Rattle.pysource.proofs.HeadLemmas.{head_left, head_one, head_two, unread_one, unread_two}
+use Rattle.pysource.proofs.TakenBytes.TakingLemmas.{Grows-append, Takes-whole}
+use Rattle.pysource.proofs.LineReading.HeadLemmas.{head_left, head_one, head_two, unread_one, unread_two}
 use Rattle.pysource.proofs.line_reader.read_head.Goals as goal
 
 -- a fault at the first line

@@ -1,6 +1,6 @@
 use Rattle.std.proofs.Common.{◌≡◌, ◌++◌, sym, refl, Some, None, codes, rules}
 use Rattle.pylex.specs.Cursors.{with_commas}
-use Rattle.pylex.proofs.CursorLemmas.{numbers_fit, numbers_of, read_is, row_read, stripped, text_body, with_blanks}
+use Rattle.pylex.proofs.Texts.CursorLemmas.{numbers_fit, numbers_of, read_is, row_read, stripped, text_body, with_blanks}
 use Rattle.pylex.proofs.cursor.Cursor.read.Goals as goal
 
 pub returns-in_err-rest-clause-reads : goal.returns-in_err-rest-clause-reads

@@ -1,7 +1,7 @@
 use Rattle.std.proofs.Common.{◌≡◌, ◌++◌, ◌∷◌, [], ◌∙◌, subst, ap, rules}
 use Rattle.std.specs.String.{string_bytes}
 use Rattle.pylex.specs.Cursors.{CursorParts, cursor_text, part, flag, with_commas}
-use Rattle.pylex.proofs.CursorLemmas.{cursor_written}
+use Rattle.pylex.proofs.Texts.CursorLemmas.{cursor_written}
 use Rattle.pylex.proofs.cursor.Cursor.to_text.Goals as goal
 
 pub returns : goal.returns

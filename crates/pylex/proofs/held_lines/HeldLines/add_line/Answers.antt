@@ -3,8 +3,8 @@ use Rattle.std.specs.Prelude.{Ok, Err}
 use Rattle.pysource.specs.declared.line_reader.Line.TheVariants as met
 use Rattle.std.proofs.lemmas.Str.{IsUtf8-nil}
 use Rattle.std.proofs.lemmas.Result.{err_from_is_err_and}
-use Rattle.pylex.proofs.HeldLinesLemmas.{adds_of, no_line, holding_other, same_text, left_longer, reads_on}
-use Rattle.pylex.proofs.JoinedOn.{line_more, adds_other}
+use Rattle.pylex.proofs.LineByLine.HeldLinesLemmas.{adds_of, no_line, holding_other, same_text, left_longer, reads_on}
+use Rattle.pylex.proofs.LineByLine.JoinedOn.{line_more, adds_other}
 use Rattle.pylex.proofs.held_lines.HeldLines.add_line.Goals as goal
 
 pub returns-in_err-line-clause-on : goal.returns-in_err-line-clause-on

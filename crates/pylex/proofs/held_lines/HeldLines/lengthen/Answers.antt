@@ -1,9 +1,9 @@
 use Rattle.std.proofs.Common.{◌≡◌, length, refl, subst, string_bytes, arith}
 use Rattle.std.specs.Str.{IsCharBoundary}
-use Rattle.pysource.proofs.ByteLemmas.{Steady-append}
-use Rattle.pylex.proofs.Adding.{boundary_longer, reads_more}
+use Rattle.pysource.proofs.TakenBytes.ByteLemmas.{Steady-append}
+use Rattle.pylex.proofs.LineByLine.Adding.{boundary_longer, reads_more}
 use Rattle.pylex.specs.Held.{LinesBehind}
-use Rattle.pylex.proofs.JoinedOn.{behind_first, holds_joined, holds_none}
+use Rattle.pylex.proofs.LineByLine.JoinedOn.{behind_first, holds_joined, holds_none}
 use Rattle.pylex.proofs.held_lines.HeldLines.lengthen.Goals as goal
 
 pub add_lines-requires-clause-from : goal.add_lines-requires-clause-from

@@ -1,6 +1,6 @@
-use Rattle.pylex.proofs.Placing.{has_row}
-use Rattle.pylex.proofs.Searching.{witness}
-use Rattle.pylex.proofs.Steppings.{place_held}
+use Rattle.pylex.proofs.Listers.Placing.{has_row}
+use Rattle.pylex.proofs.LineByLine.Searching.{witness}
+use Rattle.pylex.proofs.LineByLine.Steppings.{place_held}
 use Rattle.pylex.proofs.line_lister.LineLister.cursor.Goals as goal
 
 pub cursor-requires-clause-place : goal.cursor-requires-clause-place

@@ -1,5 +1,5 @@
 use Rattle.std.proofs.Common.{inr}
-use Rattle.pylex.proofs.Beginning.{streams_begin, streaming_begin, source_by}
+use Rattle.pylex.proofs.LineByLine.Beginning.{streams_begin, streaming_begin, source_by}
 use Rattle.pylex.proofs.line_lister.LineLister.new.Goals as goal
 
 pub invariant_of-result : goal.invariant_of-result

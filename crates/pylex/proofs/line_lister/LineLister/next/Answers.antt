@@ -1,7 +1,7 @@
 use Rattle.std.proofs.Common.{inr, refl}
-use Rattle.pylex.proofs.AheadOn.{ahead_none}
-use Rattle.pylex.proofs.Searching.{searches_none}
-use Rattle.pylex.proofs.Steppings.{drop_last, place_held, streaming_first, steps_first, steps_last}
+use Rattle.pylex.proofs.LineByLine.AheadOn.{ahead_none}
+use Rattle.pylex.proofs.LineByLine.Searching.{searches_none}
+use Rattle.pylex.proofs.LineByLine.Steppings.{drop_last, place_held, streaming_first, steps_first, steps_last}
 use Rattle.pylex.proofs.line_lister.LineLister.next.Goals as goal
 
 pub invariant_of-self : goal.invariant_of-self

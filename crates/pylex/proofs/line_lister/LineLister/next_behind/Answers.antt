@@ -1,6 +1,6 @@
 use Rattle.std.proofs.Common.{ap, ◌∙◌, None}
 use Rattle.std.proofs.lemmas.Result.{err_from_is_err_and}
-use Rattle.pylex.proofs.Steppings.{drop_last, place_held, steps_unread}
+use Rattle.pylex.proofs.LineByLine.Steppings.{drop_last, place_held, steps_unread}
 use Rattle.pylex.specs.Streamed.{Streamed}
 use Rattle.pylex.proofs.line_lister.LineLister.next_behind.Goals as goal
 

@@ -1,4 +1,4 @@
-use Rattle.pylex.proofs.Steppings.{place_held}
+use Rattle.pylex.proofs.LineByLine.Steppings.{place_held}
 use Rattle.pylex.proofs.line_lister.LineLister.shows.Goals as goal
 
 pub is_at-requires : goal.is_at-requires

@@ -1,6 +1,6 @@
 use Rattle.std.proofs.Common.{◌∙◌, ap}
 use Rattle.pylex.specs.Streamed.{Streamed}
-use Rattle.pylex.proofs.Beginning.{held_here, text_here}
+use Rattle.pylex.proofs.LineByLine.Beginning.{held_here, text_here}
 use Rattle.pylex.proofs.line_lister.LineLister.text.Goals as goal
 
 pub between-requires : goal.between-requires

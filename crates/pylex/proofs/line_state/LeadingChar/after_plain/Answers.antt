@@ -1,5 +1,5 @@
 use Rattle.std.proofs.Common.{sym, arith}
-use Rattle.pylex.proofs.Plain.{begun_plain}
+use Rattle.pylex.proofs.Texts.Plain.{begun_plain}
 use Rattle.pylex.proofs.line_state.LeadingChar.after_plain.Goals as goal
 
 pub returns : goal.returns

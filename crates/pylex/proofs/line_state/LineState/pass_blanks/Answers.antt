@@ -1,5 +1,5 @@
 use Rattle.std.proofs.Common.{refl, sym, arith}
-use Rattle.pylex.proofs.Advancing.{is_after, place_offset}
+use Rattle.pylex.proofs.MachineLaws.Advancing.{is_after, place_offset}
 use Rattle.pylex.proofs.line_state.LineState.pass_blanks.Goals as goal
 
 pub returns : goal.returns

@@ -1,6 +1,6 @@
 use Rattle.std.proofs.Common.{◌==◌, refl, sym, arith, ◌∙◌}
-use Rattle.pylex.proofs.Advancing.{is_after, place_offset}
-use Rattle.pylex.proofs.Told.{or_none, line_end_given}
+use Rattle.pylex.proofs.MachineLaws.Advancing.{is_after, place_offset}
+use Rattle.pylex.proofs.MachineLaws.Told.{or_none, line_end_given}
 use Rattle.pylex.proofs.line_state.LineState.pass_line_end.Goals as goal
 
 pub returns-clause-passed : goal.returns-clause-passed

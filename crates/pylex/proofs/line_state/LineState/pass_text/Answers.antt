@@ -1,7 +1,7 @@
 use Rattle.std.proofs.Common.{refl, sym, arith}
 use Rattle.std.specs.Str.{chars}
-use Rattle.pylex.proofs.Advancing.{is_after, place_offset}
-use Rattle.pylex.proofs.Told.{text_after, text_given}
+use Rattle.pylex.proofs.MachineLaws.Advancing.{is_after, place_offset}
+use Rattle.pylex.proofs.MachineLaws.Told.{text_after, text_given}
 use Rattle.pylex.proofs.line_state.LineState.pass_text.Goals as goal
 
 pub returns-clause-passed : goal.returns-clause-passed

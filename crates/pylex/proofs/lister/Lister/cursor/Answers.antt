@@ -1,4 +1,4 @@
-use Rattle.pylex.proofs.Placing.{has_place, has_row}
+use Rattle.pylex.proofs.Listers.Placing.{has_place, has_row}
 use Rattle.pylex.proofs.lister.Lister.cursor.Goals as goal
 
 pub cursor-requires-clause-place : goal.cursor-requires-clause-place

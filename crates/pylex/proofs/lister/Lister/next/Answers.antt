@@ -8,8 +8,8 @@ use Rattle.pylex.specs.declared.machine.Peeked.TheVariants as peeked
 use Rattle.pylex.specs.declared.machine.Machine.{Machine}
 use Rattle.pylex.specs.Listers.{Listed, NextStep}
 use Rattle.pylex.specs.MachineSteps.{shown_from, Holds, StepsOn}
-use Rattle.pylex.proofs.Moving.{moves_from, goes_first}
-use Rattle.pylex.proofs.Placing.{has_place}
+use Rattle.pylex.proofs.Listers.Moving.{moves_from, goes_first}
+use Rattle.pylex.proofs.Listers.Placing.{has_place}
 use Rattle.pylex.proofs.lister.Lister.next.Goals as goal
 
 -- a step is one of the lister that is seen

@@ -15,8 +15,8 @@ use Rattle.pylex.specs.Listers.{Listed, NextStep, AwaitsIndent}
 use Rattle.pylex.specs.Machine.{remaining}
 use Rattle.pylex.specs.MachineSteps.{shown_from, left_by, Holds}
 use Rattle.pylex.specs.LineState.{with_levels}
-use Rattle.pylex.proofs.Moving.{awaits_indent}
-use Rattle.pylex.proofs.Placing.{has_place}
+use Rattle.pylex.proofs.Listers.Moving.{awaits_indent}
+use Rattle.pylex.proofs.Listers.Placing.{has_place}
 use Rattle.pylex.proofs.lister.Lister.next_met.Goals as goal
 
 not_stopped : (n : ℕ) (m : Peeked) → (0 < n → m ≡ peeked.Stop) → m ≡ peeked.Indent → n ≡ 0

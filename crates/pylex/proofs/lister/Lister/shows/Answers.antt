@@ -1,4 +1,4 @@
-use Rattle.pylex.proofs.Placing.{has_place}
+use Rattle.pylex.proofs.Listers.Placing.{has_place}
 use Rattle.pylex.proofs.lister.Lister.shows.Goals as goal
 
 pub is_at-requires : goal.is_at-requires

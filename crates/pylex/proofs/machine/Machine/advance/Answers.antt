@@ -12,11 +12,11 @@ use Rattle.pylex.specs.declared.machine.Peeked.TheVariants as peeked
 use Rattle.pylex.specs.Listers.{Listed}
 use Rattle.pylex.specs.MachineSteps.{shown_from, left_by, Holds, Ranges}
 use Rattle.pylex.specs.Steps.{entries_in, first_step}
-use Rattle.pylex.proofs.Moving.{ascending-take, leads_moves, leads_fault, leads_stop, goes_entry, goes_indent, goes_dedent, goes_end, stop_in}
+use Rattle.pylex.proofs.Listers.Moving.{ascending-take, leads_moves, leads_fault, leads_stop, goes_entry, goes_indent, goes_dedent, goes_end, stop_in}
 use Rattle.pylexeme.specs.Chars.{bytes_in}
 use Rattle.pylex.specs.Machine.{State}
 use Rattle.pylex.specs.declared.kind.Kind.TheVariants as kinds
-use Rattle.pylex.proofs.Ranges.{entry_range, measuring_comes, measuring_anew, indent_range, mark_range, column_within}
+use Rattle.pylex.proofs.Listers.Ranges.{entry_range, measuring_comes, measuring_anew, indent_range, mark_range, column_within}
 use Rattle.pylex.proofs.machine.Machine.advance.Goals as goal
 
 -- what is met behind a stop

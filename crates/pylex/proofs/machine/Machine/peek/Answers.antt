@@ -1,4 +1,4 @@
-use Rattle.pylex.proofs.Moving.{ascending-take}
+use Rattle.pylex.proofs.Listers.Moving.{ascending-take}
 use Rattle.pylex.proofs.machine.Machine.peek.Goals as goal
 
 pub peek-requires-clause-ascending : goal.peek-requires-clause-ascending

@@ -2,7 +2,7 @@ use Rattle.std.proofs.Common.{◌≡◌, ◌-◌, ℕ, List, true, false, take, 
 use Rattle.std.proofs.lemmas.Result.{err_from_is_err_and}
 use Rattle.pysource.specs.Cookies.{encoding_of, has_mark}
 use Rattle.pysource.specs.declared.buffers.Intake.{Intake}
-use Rattle.pysource.proofs.OpenLemmas.{opens, unmarked, unmarked_skip, unmarked_same, refuses_source, refuses_head}
+use Rattle.pysource.proofs.LineReading.OpenLemmas.{opens, unmarked, unmarked_skip, unmarked_same, refuses_source, refuses_head}
 use Rattle.pysource.proofs.line_reader.LineReader.new.Goals as goal
 use Rattle.pysource.proofs.line_reader.LineReader.new.Goals.{then-has_mark, else-has_mark}
 

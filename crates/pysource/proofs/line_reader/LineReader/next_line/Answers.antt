@@ -5,7 +5,7 @@ use Rattle.std.specs.String.{string_bytes}
 use Rattle.pysource.specs.Lines.{first_bad}
 use Rattle.pysource.specs.Streams.{fault_at}
 use Rattle.pysource.specs.declared.encodings.Charset.{Charset}
-use Rattle.pysource.proofs.NextLineLemmas.{none_past, past_found, moves_nothing, moves_told, moves_text, moves_bad, tells_end, tells_unread}
+use Rattle.pysource.proofs.LineReading.NextLineLemmas.{none_past, past_found, moves_nothing, moves_told, moves_text, moves_bad, tells_end, tells_unread}
 use Rattle.pysource.proofs.line_reader.LineReader.next_line.Goals as goal
 
 pub returns-in-Some-clause-moves : goal.returns-in-Some-clause-moves
