@@ -24,7 +24,8 @@ fn dump_line(alloc: Global, module: &Module, style: Style) -> Result<String, All
     Ok(text)
 }
 
-/// Writes the dump of what a reader gives, which is read whole and accepted before anything is written.
+/// Writes the dump of what a reader gives, which is read whole and accepted before anything is
+/// written.
 pub(crate) fn write_dump<R: ByteIn, W: ByteOut>(
     alloc: Global,
     asked: &Dump,
@@ -33,10 +34,13 @@ pub(crate) fn write_dump<R: ByteIn, W: ByteOut>(
 ) -> Result<(), Fault>
     requires reader { R.failure_count reader.old < 2 ^ 64 - 1 }
     requires writer { W.failure_count writer.old < 2 ^ 64 - 1 }
-    ensures performs { PerformsWhole (Dumps asked.now.style) (R.to_come reader.old) (R.to_come reader.new) (R.failure_count reader.old) (R.failure_count reader.new)
+    ensures performs { PerformsWhole (Dumps asked.now.style) (R.to_come reader.old)
+        (R.to_come reader.new) (R.failure_count reader.old) (R.failure_count reader.new)
         (W.taken writer.old) (W.taken writer.new) source_limit (ended_by result) }
-    ensures failed { ended_by result ≡ Some (Fault.Plain RunFaultCode.Write) → W.failure_count writer.new ≡ W.failure_count writer.old + 1 }
-    ensures unfailed { ended_by result ≢ Some (Fault.Plain RunFaultCode.Write) → W.failure_count writer.new ≡ W.failure_count writer.old }
+    ensures failed { ended_by result ≡ Some (Fault.Plain RunFaultCode.Write)
+        → W.failure_count writer.new ≡ W.failure_count writer.old + 1 }
+    ensures unfailed { ended_by result ≢ Some (Fault.Plain RunFaultCode.Write)
+        → W.failure_count writer.new ≡ W.failure_count writer.old }
 {
     let module = read_module(alloc, asked.style.profile, reader)?;
     let text = dump_line(alloc, &module, asked.style)?;

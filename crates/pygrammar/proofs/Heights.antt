@@ -5,4 +5,3 @@ pub mod Caps
 pub mod Limits
 pub mod Room
 pub mod Contract
-pub mod Fronts

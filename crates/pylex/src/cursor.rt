@@ -1,6 +1,8 @@
 //! Cursors: what is kept of a listing after its first entries, and a cursor's text.
 
-ghost use Rattle.std.specs.Prelude.{◌≡◌, ◌≢◌, ℕ, ◌+◌, ◌^◌, ◌<◌, ◌≤◌, List, [], ◌∷◌, ◌++◌, length, decimal, codes, All, IfOk, IfErr, IfSome, IsUtf8, OnOk, IsTrue, ◌↔◌, ◌-◌, slice_index, MatchOption, MatchResult};
+ghost use Rattle.std.specs.Prelude.{◌≡◌, ◌≢◌, ℕ, ◌+◌, ◌^◌, ◌<◌, ◌≤◌, List, [], ◌∷◌, ◌++◌, length};
+ghost use Rattle.std.specs.Prelude.{decimal, codes, All, IfOk, IfErr, IfSome, IsUtf8, OnOk, IsTrue};
+ghost use Rattle.std.specs.Prelude.{◌↔◌, ◌-◌, slice_index, MatchOption, MatchResult};
 ghost use Rattle.std.specs.List.{flat_map};
 ghost use Rattle.std.specs.Option.{IsSomeAnd};
 ghost use Rattle.std.specs.String.{string_bytes};
@@ -35,8 +37,8 @@ pub enum CursorFault {
 
 /// What is kept of a listing after its first entries, so that it can go on behind them.
 ///
-/// All but the counts of entries speak of the point behind the last given entry that has text in the source, or of the
-/// source's start.
+/// All but the counts of entries speak of the point behind the last given entry that has text in
+/// the source, or of the source's start.
 #[derive(Debug, Drop)]
 pub struct Cursor {
     /// The entries that were given.
@@ -55,7 +57,8 @@ pub struct Cursor {
     levels: Vec<usize>,
 }
 
-/// What a cursor tells of its point: directly behind the last entry with text in the source, or at its start.
+/// What a cursor tells of its point: directly behind the last entry with text in the source, or at
+/// its start.
 #[derive(Clone, Copy, Debug, PartialEq, Eq)]
 pub(crate) struct Shown {
     pub offset: usize,
@@ -67,7 +70,8 @@ pub(crate) struct Shown {
 impl Shown {
     /// Directly behind an entry.
     pub(crate) fn at(now: LineState) -> Shown
-        ensures { (k : ℕ) (levels : List ℕ) → shown_by k result levels 0 ≡ shown_at k (with_levels now (0 ∷ levels)) }
+        ensures { (k : ℕ) (levels : List ℕ)
+            → shown_by k result levels 0 ≡ shown_at k (with_levels now (0 ∷ levels)) }
     {
         Shown {
             offset: now.now.offset,
@@ -80,7 +84,8 @@ impl Shown {
     /// Stands directly behind an entry.
     #[inline(always)]
     pub(crate) fn stand(&mut self, now: LineState)
-        ensures { (k : ℕ) (levels : List ℕ) → shown_by k self.new levels 0 ≡ shown_at k (with_levels now (0 ∷ levels)) }
+        ensures { (k : ℕ) (levels : List ℕ)
+            → shown_by k self.new levels 0 ≡ shown_at k (with_levels now (0 ∷ levels)) }
     {
         self.offset = now.now.offset;
         self.row = now.now.place.row;
@@ -92,7 +97,9 @@ impl Shown {
     /// How far a lister has come there; the point's line so far is this.
     pub(crate) fn line_state(self, line: &str) -> LineState
         requires { length line.now < 2 ^ 62 }
-        ensures { (k n : ℕ) (levels : List ℕ) → with_levels result (0 ∷ levels) ≡ resumed (shown_by k self levels n) (chars line.now) }
+        ensures { (k n : ℕ) (levels : List ℕ)
+            → with_levels result (0 ∷ levels)
+            ≡ resumed (shown_by k self levels n) (chars line.now) }
     {
         let now = Point {
             place: Place {
@@ -120,9 +127,26 @@ impl Model for Cursor {
 
     ghost Value = { CursorParts };
 
-    ghost view = { λ c. record { given = c.given; offset = c.offset; row = c.row; depth = c.depth; begun = c.begun; skip = c.skip; levels = c.levels.items } };
+    ghost view = { λ c. record {
+      given = c.given;
+      offset = c.offset;
+      row = c.row;
+      depth = c.depth;
+      begun = c.begun;
+      skip = c.skip;
+      levels = c.levels.items;
+    } };
 
-    ghost invariant = { λ c. IsWellFormed (record { given = c.given; offset = c.offset; row = c.row; depth = c.depth; begun = c.begun; skip = c.skip; levels = c.levels.items }) };
+    ghost invariant = { λ c. IsWellFormed
+        (record {
+          given = c.given;
+          offset = c.offset;
+          row = c.row;
+          depth = c.depth;
+          begun = c.begun;
+          skip = c.skip;
+          levels = c.levels.items;
+        }) };
 }
 
 /// Writes a blank and a number.
@@ -135,7 +159,8 @@ fn push_part(text: &mut String, number: usize) -> Result<(), AllocError>
 
 /// Writes numbers with commas between them.
 fn push_levels(text: &mut String, levels: &[usize]) -> Result<(), AllocError>
-    ensures { OnOk result (string_bytes text.new ≡ string_bytes text.old ++ with_commas levels.now) }
+    ensures { OnOk result
+        (string_bytes text.new ≡ string_bytes text.old ++ with_commas levels.now) }
 {
     for (index, level) in levels.iter().enumerate() {
         if index > 0 {
@@ -146,9 +171,11 @@ fn push_levels(text: &mut String, levels: &[usize]) -> Result<(), AllocError>
     Ok(())
 }
 
-/// Reads the number in front, up to a blank, and gives what stands behind that. Other spellings of a number are read too.
+/// Reads the number in front, up to a blank, and gives what stands behind that. Other spellings of
+/// a number are read too.
 fn number(text: &str) -> Option<(usize, &str)>
-    ensures { (n : ℕ) (rest : List ℕ) → n < 2 ^ 64 → text.now ≡ decimal n ++ 32 ∷ rest → IsSomeAnd result (λ r. (r.0 ≡ n) × (r.1.now ≡ rest)) }
+    ensures { (n : ℕ) (rest : List ℕ) → n < 2 ^ 64 → text.now ≡ decimal n ++ 32 ∷ rest
+        → IsSomeAnd result (λ r. (r.0 ≡ n) × (r.1.now ≡ rest)) }
 {
     let (front, rest) = text.split_once(' ')?;
     Some((front.parse().ok()?, rest))
@@ -156,7 +183,8 @@ fn number(text: &str) -> Option<(usize, &str)>
 
 /// Reads the six numbers before the levels, each with a blank behind it, and gives the levels.
 fn numbers(text: &str) -> Option<([usize; 6], &str)>
-    ensures { (ns rest : List ℕ) → length ns ≡ 6 → All (λ n. n < 2 ^ 64) ns → text.now ≡ flat_map (λ n. decimal n ++ 32 ∷ []) ns ++ rest
+    ensures { (ns rest : List ℕ) → length ns ≡ 6 → All (λ n. n < 2 ^ 64) ns
+        → text.now ≡ flat_map (λ n. decimal n ++ 32 ∷ []) ns ++ rest
         → IsSomeAnd result (λ r. (r.0 ≡ ns) × (r.1.now ≡ rest)) }
 {
     let mut numbers = [0; 6];
@@ -169,10 +197,13 @@ fn numbers(text: &str) -> Option<([usize; 6], &str)>
     Some((numbers, rest))
 }
 
-/// Reads the first level, and gives what stands behind its comma. Other spellings of a number are read too.
+/// Reads the first level, and gives what stands behind its comma. Other spellings of a number are
+/// read too.
 fn first_level(text: &str) -> Option<(usize, Option<&str>)>
     ensures reads { (n : ℕ) (ns : List ℕ) → n < 2 ^ 64 → text.now ≡ with_commas (n ∷ ns)
-        → IsSomeAnd result (λ r. (r.0 ≡ n) × MatchOption r.1 (ns ≡ []) (λ back. (0 < length ns) × (back.now ≡ with_commas ns))) }
+        → IsSomeAnd result
+        (λ r. (r.0 ≡ n)
+        × MatchOption r.1 (ns ≡ []) (λ back. (0 < length ns) × (back.now ≡ with_commas ns))) }
     ensures text { IfSome result (λ r. IfSome r.1 (λ back. IsUtf8 back.now)) }
     ensures shorter { IfSome result (λ r. IfSome r.1 (λ back. length back.now < length text.now)) }
 {
@@ -185,7 +216,8 @@ fn first_level(text: &str) -> Option<(usize, Option<&str>)>
 /// Whether a level can stand behind these: 0 in front, and else a larger one.
 fn can_follow(levels: &[usize], level: usize) -> bool
     ensures first { length levels.now ≡ 0 → (IsTrue result ↔ (level ≡ 0)) }
-    ensures above { 0 < length levels.now → (IsTrue result ↔ (slice_index levels.now (length levels.now - 1) < level)) }
+    ensures above { 0 < length levels.now
+        → (IsTrue result ↔ (slice_index levels.now (length levels.now - 1) < level)) }
 {
     match levels.last() {
         None => level == 0,
@@ -196,7 +228,8 @@ fn can_follow(levels: &[usize], level: usize) -> bool
 /// Reads the levels, which take the whole text.
 fn read_levels(alloc: Global, text: &str) -> Result<Vec<usize>, CursorFault>
     ensures levels { IfOk result (λ levels. AreLevels levels.items) }
-    ensures reads { (ns : List ℕ) → AreLevels ns → with_commas ns ≡ text.now → MatchResult result (λ levels. levels.items ≡ ns) (λ fault. fault ≡ CursorFault.Memory) }
+    ensures reads { (ns : List ℕ) → AreLevels ns → with_commas ns ≡ text.now
+        → MatchResult result (λ levels. levels.items ≡ ns) (λ fault. fault ≡ CursorFault.Memory) }
     ensures fault { IfErr result (λ fault. fault ≢ CursorFault.AnotherSource) }
 {
     let mut levels = Vec::new(alloc);
@@ -245,7 +278,8 @@ fn are_from_ground(all: &[usize], levels: &[usize]) -> bool
 }
 
 impl Cursor {
-    /// The cursor at a point, by the entries given, the open levels above 0, and the entries without text given behind it.
+    /// The cursor at a point, by the entries given, the open levels above 0, and the entries
+    /// without text given behind it.
     pub(crate) fn at(
         alloc: Global,
         given: usize,
@@ -285,7 +319,9 @@ impl Cursor {
 
     /// The cursor's point.
     pub(crate) fn point(&self) -> Shown
-        ensures { (k n : ℕ) (levels : List ℕ) → shown_by k result levels n ≡ record self.now { given = k; levels = 0 ∷ levels; skip = n } }
+        ensures { (k n : ℕ) (levels : List ℕ)
+            → shown_by k result levels n
+            ≡ record self.now { given = k; levels = 0 ∷ levels; skip = n } }
     {
         Shown {
             offset: self.offset,
@@ -321,11 +357,12 @@ impl Cursor {
 }
 
 impl Cursor {
-    /// Reads the one cursor that can have this text. The text may also be another spelling of that cursor's, with a zero
-    /// in front of a number or more behind the last one.
+    /// Reads the one cursor that can have this text. The text may also be another spelling of that
+    /// cursor's, with a zero in front of a number or more behind the last one.
     fn read(alloc: Global, text: &str) -> Result<Cursor, CursorFault>
         ensures well_formed { IfOk result (λ cursor. IsWellFormed cursor) }
-        ensures reads { (c : CursorParts) → IsWellFormed c → cursor_text c ≡ text.now → MatchResult result (λ cursor. cursor ≡ c) (λ fault. fault ≡ CursorFault.Memory) }
+        ensures reads { (c : CursorParts) → IsWellFormed c → cursor_text c ≡ text.now
+            → MatchResult result (λ cursor. cursor ≡ c) (λ fault. fault ≡ CursorFault.Memory) }
         ensures fault { IfErr result (λ fault. fault ≢ CursorFault.AnotherSource) }
     {
         let rest = text.strip_prefix("pytok1 ").ok_or(CursorFault::Text)?;
@@ -354,8 +391,11 @@ impl Cursor {
     pub fn from_text(alloc: Global, text: &str) -> Result<Cursor, CursorFault>
         ensures read { IfOk result (λ cursor. cursor_text cursor ≡ text.now) }
         ensures well_formed { IfOk result (λ cursor. IsWellFormed cursor) }
-        ensures only { IfOk result (λ cursor. (c : CursorParts) → IsWellFormed c → cursor_text c ≡ text.now → c ≡ cursor) }
-        ensures malformed { IfErr result (λ fault. fault ≡ CursorFault.Text → (c : CursorParts) → IsWellFormed c → cursor_text c ≡ text.now → ⊥) }
+        ensures only { IfOk result
+            (λ cursor. (c : CursorParts) → IsWellFormed c → cursor_text c ≡ text.now → c ≡ cursor) }
+        ensures malformed { IfErr result
+            (λ fault. fault ≡ CursorFault.Text → (c : CursorParts) → IsWellFormed c
+            → cursor_text c ≡ text.now → ⊥) }
         ensures fault { IfErr result (λ fault. fault ≢ CursorFault.AnotherSource) }
     {
         let cursor = Cursor::read(alloc, text)?;
@@ -367,8 +407,9 @@ impl Cursor {
         }
     }
 
-    /// The cursor's text: `pytok1 GIVEN OFFSET ROW DEPTH OPEN SKIP LEVELS`, one blank between parts, decimal numbers
-    /// without leading zeros, OPEN 1 where a logical line has begun and else 0, LEVELS joined by commas.
+    /// The cursor's text: `pytok1 GIVEN OFFSET ROW DEPTH OPEN SKIP LEVELS`, one blank between
+    /// parts, decimal numbers without leading zeros, OPEN 1 where a logical line has begun and else
+    /// 0, LEVELS joined by commas.
     pub fn to_text(&self) -> Result<String, AllocError>
         ensures { IfOk result (λ text. string_bytes text ≡ cursor_text self.now) }
     {

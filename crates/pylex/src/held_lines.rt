@@ -1,6 +1,7 @@
 //! The lines of a source that a lister holds, and how it reads on.
 
-ghost use Rattle.std.specs.Prelude.{◌≡◌, ◌≤◌, ◌<◌, ◌-◌, ◌+◌, ◌^◌, ℕ, [], length, drop, string_bytes, slice_range, IfOk, Ok, Err};
+ghost use Rattle.std.specs.Prelude.{◌≡◌, ◌≤◌, ◌<◌, ◌-◌, ◌+◌, ◌^◌, ℕ, [], length, drop};
+ghost use Rattle.std.specs.Prelude.{string_bytes, slice_range, IfOk, Ok, Err};
 ghost use Rattle.pysource.specs.Bytes.{IsSteady};
 ghost use Rattle.pysource.specs.Streams.{Buffered};
 ghost use Rattle.pysource.specs.Limits.{source_limit};
@@ -28,8 +29,9 @@ pub struct HeldLines {
     pub at: usize,
 }
 
-/// Reads further lines behind a text as long as a literal goes on in the last of them, which begins at `from`. Where none
-/// comes, or memory is refused, it ends, with the literal still open: the next call meets that again.
+/// Reads further lines behind a text as long as a literal goes on in the last of them, which begins
+/// at `from`. Where none comes, or memory is refused, it ends, with the literal still open: the
+/// next call meets that again.
 fn add_lines<R: ByteIn>(
     lines: &mut LineReader,
     reader: &mut R,
@@ -40,9 +42,14 @@ fn add_lines<R: ByteIn>(
     requires reading { lines.old.reach ≡ Reach.Reading → R.failure_count reader.old < 2 ^ 64 - 1 }
     requires within { lines.old.count ≤ source_limit }
     requires from { IsCharBoundary (string_bytes text.old) from }
-    ensures joins { (at : ℕ) (start : Buffered) → LinesBehind literal at from start lines.old (string_bytes text.old) → Joins literal at start lines.new (string_bytes text.new) }
-    ensures adds { AddsOn (R.to_come reader.old) (R.to_come reader.new) (R.failure_count reader.old) (R.failure_count reader.new) lines.old lines.new (string_bytes text.old) (string_bytes text.new) }
-    ensures steady { IsSteady (R.may_fail reader.old) (R.may_fail reader.new) (R.failure_count reader.old) (R.failure_count reader.new) }
+    ensures joins { (at : ℕ) (start : Buffered)
+        → LinesBehind literal at from start lines.old (string_bytes text.old)
+        → Joins literal at start lines.new (string_bytes text.new) }
+    ensures adds { AddsOn (R.to_come reader.old) (R.to_come reader.new) (R.failure_count reader.old)
+        (R.failure_count reader.new) lines.old lines.new (string_bytes text.old)
+        (string_bytes text.new) }
+    ensures steady { IsSteady (R.may_fail reader.old) (R.may_fail reader.new)
+        (R.failure_count reader.old) (R.failure_count reader.new) }
 {
     let mut from = from;
     while literal.goes_on(&text[from..]) {
@@ -90,27 +97,32 @@ impl HeldLines {
         requires high { to ≤ self.now.base + length (string_bytes self.now.text) }
         requires first { IsCharBoundary (string_bytes self.now.text) (from - self.now.base) }
         requires last { IsCharBoundary (string_bytes self.now.text) (to - self.now.base) }
-        ensures { result.now ≡ slice_range (string_bytes self.entry.now.text) (from - self.entry.now.base) (to - self.entry.now.base) }
+        ensures { result.now
+            ≡ slice_range (string_bytes self.entry.now.text) (from - self.entry.now.base)
+            (to - self.entry.now.base) }
     {
         &self.text[from - self.base..to - self.base]
     }
 
-    /// Reads the next line, behind what is left from `at` on: where that is nothing the line takes the place of those
-    /// held, and else it lengthens them. Where no line comes nothing is changed.
+    /// Reads the next line, behind what is left from `at` on: where that is nothing the line takes
+    /// the place of those held, and else it lengthens them. Where no line comes nothing is changed.
     pub(crate) fn read_on<R: ByteIn>(
         &mut self,
         reader: &mut R,
         at: usize,
     ) -> Result<Line, AllocError>
-        requires reading { self.old.lines.reach ≡ Reach.Reading → R.failure_count reader.old < 2 ^ 64 - 1 }
+        requires reading { self.old.lines.reach ≡ Reach.Reading
+            → R.failure_count reader.old < 2 ^ 64 - 1 }
         requires within { self.old.lines.count ≤ source_limit }
         requires chunk { IsHeldLines self.old }
         requires at { at ≤ length (string_bytes self.old.text) }
         requires boundary { IsCharBoundary (string_bytes self.old.text) at }
         requires room { self.old.base + length (string_bytes self.old.text) < 2 ^ 62 }
-        ensures on { ReadsOn (R.to_come reader.old) (R.to_come reader.new) (R.failure_count reader.old) (R.failure_count reader.new) self.old self.new at result }
+        ensures on { ReadsOn (R.to_come reader.old) (R.to_come reader.new)
+            (R.failure_count reader.old) (R.failure_count reader.new) self.old self.new at result }
         ensures holds { HoldsOn self.old self.new at result }
-        ensures steady { IsSteady (R.may_fail reader.old) (R.may_fail reader.new) (R.failure_count reader.old) (R.failure_count reader.new) }
+        ensures steady { IsSteady (R.may_fail reader.old) (R.may_fail reader.new)
+            (R.failure_count reader.old) (R.failure_count reader.new) }
     {
         if at < self.text.len() {
             self.lengthen(reader, at)
@@ -119,17 +131,20 @@ impl HeldLines {
         }
     }
 
-    /// Reads the next line behind those held, and those that a literal joins to it: a long literal is looked at line by
-    /// line, and not from its start again for each.
+    /// Reads the next line behind those held, and those that a literal joins to it: a long literal
+    /// is looked at line by line, and not from its start again for each.
     fn lengthen<R: ByteIn>(&mut self, reader: &mut R, at: usize) -> Result<Line, AllocError>
-        requires reading { self.old.lines.reach ≡ Reach.Reading → R.failure_count reader.old < 2 ^ 64 - 1 }
+        requires reading { self.old.lines.reach ≡ Reach.Reading
+            → R.failure_count reader.old < 2 ^ 64 - 1 }
         requires within { self.old.lines.count ≤ source_limit }
         requires chunk { IsHeldLines self.old }
         requires at { at < length (string_bytes self.old.text) }
         requires boundary { IsCharBoundary (string_bytes self.old.text) at }
-        ensures on { ReadsOn (R.to_come reader.old) (R.to_come reader.new) (R.failure_count reader.old) (R.failure_count reader.new) self.old self.new at result }
+        ensures on { ReadsOn (R.to_come reader.old) (R.to_come reader.new)
+            (R.failure_count reader.old) (R.failure_count reader.new) self.old self.new at result }
         ensures holds { HoldsOn self.old self.new at result }
-        ensures steady { IsSteady (R.may_fail reader.old) (R.may_fail reader.new) (R.failure_count reader.old) (R.failure_count reader.new) }
+        ensures steady { IsSteady (R.may_fail reader.old) (R.may_fail reader.new)
+            (R.failure_count reader.old) (R.failure_count reader.new) }
     {
         let literal = open_literal(&self.text[at..]);
         let from = self.text.len();
@@ -145,13 +160,17 @@ impl HeldLines {
 
     /// Reads the next line behind those held.
     fn add_line<R: ByteIn>(&mut self, reader: &mut R, at: usize) -> Result<Line, AllocError>
-        requires reading { self.old.lines.reach ≡ Reach.Reading → R.failure_count reader.old < 2 ^ 64 - 1 }
+        requires reading { self.old.lines.reach ≡ Reach.Reading
+            → R.failure_count reader.old < 2 ^ 64 - 1 }
         requires chunk { IsHeldLines self.old }
         requires at { at ≤ length (string_bytes self.old.text) }
         ensures line { AddsLine self.old self.new at result }
-        ensures longer { IfOk result (λ _. IsLonger (string_bytes self.old.text) (string_bytes self.new.text)) }
-        ensures on { ReadsOn (R.to_come reader.old) (R.to_come reader.new) (R.failure_count reader.old) (R.failure_count reader.new) self.old self.new at result }
-        ensures steady { IsSteady (R.may_fail reader.old) (R.may_fail reader.new) (R.failure_count reader.old) (R.failure_count reader.new) }
+        ensures longer { IfOk result
+            (λ _. IsLonger (string_bytes self.old.text) (string_bytes self.new.text)) }
+        ensures on { ReadsOn (R.to_come reader.old) (R.to_come reader.new)
+            (R.failure_count reader.old) (R.failure_count reader.new) self.old self.new at result }
+        ensures steady { IsSteady (R.may_fail reader.old) (R.may_fail reader.new)
+            (R.failure_count reader.old) (R.failure_count reader.new) }
     {
         let line = self.lines.next_line(reader, &mut self.text)?;
         if let Line::Text = line {
@@ -162,12 +181,16 @@ impl HeldLines {
 
     /// Reads the next line in place of those held.
     fn replace<R: ByteIn>(&mut self, reader: &mut R) -> Result<Line, AllocError>
-        requires reading { self.old.lines.reach ≡ Reach.Reading → R.failure_count reader.old < 2 ^ 64 - 1 }
+        requires reading { self.old.lines.reach ≡ Reach.Reading
+            → R.failure_count reader.old < 2 ^ 64 - 1 }
         requires chunk { IsHeldLines self.old }
         requires room { self.old.base + length (string_bytes self.old.text) < 2 ^ 62 }
-        ensures on { ReadsOn (R.to_come reader.old) (R.to_come reader.new) (R.failure_count reader.old) (R.failure_count reader.new) self.old self.new (length (string_bytes self.old.text)) result }
+        ensures on { ReadsOn (R.to_come reader.old) (R.to_come reader.new)
+            (R.failure_count reader.old) (R.failure_count reader.new) self.old self.new
+            (length (string_bytes self.old.text)) result }
         ensures holds { HoldsOn self.old self.new (length (string_bytes self.old.text)) result }
-        ensures steady { IsSteady (R.may_fail reader.old) (R.may_fail reader.new) (R.failure_count reader.old) (R.failure_count reader.new) }
+        ensures steady { IsSteady (R.may_fail reader.old) (R.may_fail reader.new)
+            (R.failure_count reader.old) (R.failure_count reader.new) }
     {
         let line = self.lines.next_line(reader, &mut self.spare)?;
         if let Line::Text = line {

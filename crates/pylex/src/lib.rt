@@ -2,9 +2,9 @@
 //!
 //! Python library reference, `tokenize`; language reference, 2 "Lexical analysis".
 //!
-//! A [`Lister`] lists a source that is held whole. A [`LineLister`] reads it line by line, from a reader that is lent to
-//! each call, and a [`StreamLister`] from a reader of its own. All three give the same steps of a source, and a [`Cursor`]
-//! of one goes on with another.
+//! A [`Lister`] lists a source that is held whole. A [`LineLister`] reads it line by line, from a
+//! reader that is lent to each call, and a [`StreamLister`] from a reader of its own. All three
+//! give the same steps of a source, and a [`Cursor`] of one goes on with another.
 #![tactic(auto)]
 
 mod cursor;

@@ -2,7 +2,9 @@
 //!
 //! Python library reference, `tokenize`.
 
-ghost use Rattle.std.specs.Prelude.{◌≡◌, ◌≤◌, ◌<◌, ◌-◌, ◌+◌, ◌^◌, ◌||◌, ℕ, List, Bool, length, drop, string_bytes, Ok, Err, Option, Some, None, IfOk, IfErr, IfSome, IsTrue, ◌↔◌, Result};
+ghost use Rattle.std.specs.Prelude.{◌≡◌, ◌≤◌, ◌<◌, ◌-◌, ◌+◌, ◌^◌, ◌||◌, ℕ, List, Bool, length};
+ghost use Rattle.std.specs.Prelude.{drop, string_bytes, Ok, Err, Option, Some, None, IfOk, IfErr};
+ghost use Rattle.std.specs.Prelude.{IfSome, IsTrue, ◌↔◌, Result};
 ghost use Rattle.std.specs.Str.{chars};
 ghost use Rattle.pysource.specs.Bytes.{IsSteady};
 ghost use Rattle.pysource.specs.Parts.{Parts};
@@ -11,7 +13,9 @@ ghost use Rattle.pysource.specs.Streams.{Refuses};
 ghost use Rattle.pylex.specs.ListingLines.{text_of};
 ghost use Rattle.pylexeme.specs.Lexemes.{is_open_string};
 ghost use Rattle.pylex.specs.Steps.{most_entries};
-ghost use Rattle.pylex.specs.Streamed.{Begins, BeginsAnew, ResumeRefusal, IsEndedBy, StreamsIn, IsStreaming, PeekedIn, Looks, LooksAhead, Passes, PassesOn, Searches, Next, Lacks, lacks, streamed};
+ghost use Rattle.pylex.specs.Streamed.{Begins, BeginsAnew, ResumeRefusal, IsEndedBy, StreamsIn};
+ghost use Rattle.pylex.specs.Streamed.{IsStreaming, PeekedIn, Looks, LooksAhead, Passes, PassesOn};
+ghost use Rattle.pylex.specs.Streamed.{Searches, Next, Lacks, lacks, streamed};
 
 use crate::cursor::Cursor;
 use crate::entries::{Entry, ListingError, Step};
@@ -25,8 +29,8 @@ use std::alloc::{AllocError, Global};
 use std::marker::Model;
 use thiserror::Error;
 
-/// What a lister meets in the lines that it holds: with the place behind it, by how far it is looked there and the bytes
-/// up to it, and where the lines end here the fault of the next.
+/// What a lister meets in the lines that it holds: with the place behind it, by how far it is
+/// looked there and the bytes up to it, and where the lines end here the fault of the next.
 #[derive(Clone, Copy, Debug, PartialEq, Eq)]
 pub struct Found {
     pub peeked: Peeked,
@@ -60,7 +64,8 @@ fn look(machine: &Machine, chunk: &HeldLines) -> Found
     }
 }
 
-/// Whether more lines could change what is met where this is left: it is nothing, or a literal that is open.
+/// Whether more lines could change what is met where this is left: it is nothing, or a literal that
+/// is open.
 #[inline(always)]
 fn lacks(left: &str) -> bool
     ensures { result ≡ lacks left.now }
@@ -89,13 +94,17 @@ fn find<R: ByteIn>(
     chunk: &mut HeldLines,
     reader: &mut R,
 ) -> Result<Found, AllocError>
-    requires reading { chunk.old.lines.reach ≡ Reach.Reading → R.failure_count reader.old < 2 ^ 64 - 1 }
+    requires reading { chunk.old.lines.reach ≡ Reach.Reading
+        → R.failure_count reader.old < 2 ^ 64 - 1 }
     requires streaming { IsStreaming machine.old chunk.old None }
     requires given { 0 < machine.old.given }
     ensures ahead { IfOk result (λ f. LooksAhead f chunk.old.lines chunk.new.lines) }
-    ensures searches { Searches (R.to_come reader.old) (R.to_come reader.new) (R.failure_count reader.old) (R.failure_count reader.new) machine.old machine.new chunk.old chunk.new }
+    ensures searches { Searches (R.to_come reader.old) (R.to_come reader.new)
+        (R.failure_count reader.old)
+        (R.failure_count reader.new) machine.old machine.new chunk.old chunk.new }
     ensures peeked { IfOk result (PeekedIn machine.new chunk.new) }
-    ensures steady { IsSteady (R.may_fail reader.old) (R.may_fail reader.new) (R.failure_count reader.old) (R.failure_count reader.new) }
+    ensures steady { IsSteady (R.may_fail reader.old) (R.may_fail reader.new)
+        (R.failure_count reader.old) (R.failure_count reader.new) }
 {
     loop {
         let found = look(machine, chunk);
@@ -129,7 +138,8 @@ fn pass(
     requires last { last.old ≡ None }
     requires peeked { PeekedIn machine.old chunk.old found }
     ensures streaming { IsStreaming machine.new chunk.new last.new }
-    ensures passes { Passes machine.old chunk.old found (streamed machine.new chunk.new last.new) result }
+    ensures passes { Passes machine.old chunk.old found
+        (streamed machine.new chunk.new last.new) result }
 {
     let left = &chunk.text[found.at..];
     let step = machine.advance(found.peeked, found.now, left, found.fault)?;
@@ -140,15 +150,17 @@ fn pass(
     Ok(step)
 }
 
-/// Gives the entry of the next lexeme in the lines held that gives one, behind a line's margin; otherwise nothing is
-/// changed.
+/// Gives the entry of the next lexeme in the lines held that gives one, behind a line's margin;
+/// otherwise nothing is changed.
 #[inline(always)]
 fn pass_on(machine: &mut Machine, chunk: &mut HeldLines, last: &mut Option<Entry>) -> Option<Entry>
     requires streaming { IsStreaming machine.old chunk.old None }
     requires given { 0 < machine.old.given }
     requires last { last.old ≡ None }
-    ensures some { IfSome result (λ entry. PassesOn machine.old chunk.old entry machine.new chunk.new last.new) }
-    ensures none { result ≡ None → (machine.new ≡ machine.old) × (chunk.new ≡ chunk.old) × (last.new ≡ last.old) }
+    ensures some { IfSome result
+        (λ entry. PassesOn machine.old chunk.old entry machine.new chunk.new last.new) }
+    ensures none { result ≡ None
+        → (machine.new ≡ machine.old) × (chunk.new ≡ chunk.old) × (last.new ≡ last.old) }
 {
     let (entry, left) = machine.step_on(chunk.rest())?;
     chunk.at = chunk.text.len() - left.len();
@@ -159,7 +171,8 @@ fn pass_on(machine: &mut Machine, chunk: &mut HeldLines, last: &mut Option<Entry
 /// Why a lister can't go on behind a cursor.
 #[derive(Debug, Drop, Error)]
 pub enum ResumeFault {
-    /// The encoding was refused, a read failed before the cursor's count of entries, or there was no memory.
+    /// The encoding was refused, a read failed before the cursor's count of entries, or there was
+    /// no memory.
     #[error("{0}")]
     Stream(StreamFault),
     /// The source has no such cursor.
@@ -179,10 +192,11 @@ fn ended_before(step: Step) -> ResumeFault
     ResumeFault::AnotherSource
 }
 
-/// Lists the entries of a source that is read line by line, from a reader that the caller lends for each call.
+/// Lists the entries of a source that is read line by line, from a reader that the caller lends for
+/// each call.
 ///
-/// Only whole lines are held, those that a literal joins to the line that is looked at, and at most 8,192 bytes that
-/// were read behind them, or behind the lines that decide the encoding.
+/// Only whole lines are held, those that a literal joins to the line that is looked at, and at most
+/// 8,192 bytes that were read behind them, or behind the lines that decide the encoding.
 #[derive(Drop)]
 pub struct LineLister {
     machine: Machine,
@@ -202,18 +216,23 @@ impl Model for LineLister {
 }
 
 impl LineLister {
-    /// Begins at the start of the source that the reader gives. It reads the lines that decide the encoding, and at most
-    /// 8,192 bytes past them; none is held yet.
+    /// Begins at the start of the source that the reader gives. It reads the lines that decide the
+    /// encoding, and at most 8,192 bytes past them; none is held yet.
     ///
     /// # Errors
     ///
     /// As [`LineReader::new`].
     pub fn new<R: ByteIn>(alloc: Global, reader: &mut R) -> Result<LineLister, StreamFault>
         requires { R.failure_count reader.old < 2 ^ 64 - 1 }
-        ensures begins { IfOk result (BeginsAnew (R.to_come reader.old) (R.to_come reader.new) (R.failure_count reader.old) (R.failure_count reader.new)) }
+        ensures begins { IfOk result
+            (BeginsAnew (R.to_come reader.old) (R.to_come reader.new) (R.failure_count reader.old)
+            (R.failure_count reader.new)) }
         ensures given { IfOk result (λ v. v.shown.given ≡ 0) }
-        ensures refuses { IfErr result (λ fault. Refuses (R.to_come reader.old) (R.to_come reader.new) (R.failure_count reader.old) (R.failure_count reader.new) fault) }
-        ensures steady { IsSteady (R.may_fail reader.old) (R.may_fail reader.new) (R.failure_count reader.old) (R.failure_count reader.new) }
+        ensures refuses { IfErr result
+            (λ fault. Refuses (R.to_come reader.old) (R.to_come reader.new)
+            (R.failure_count reader.old) (R.failure_count reader.new) fault) }
+        ensures steady { IsSteady (R.may_fail reader.old) (R.may_fail reader.new)
+            (R.failure_count reader.old) (R.failure_count reader.new) }
     {
         let lines = LineReader::new(alloc, reader)?;
         Ok(LineLister {
@@ -227,18 +246,23 @@ impl LineLister {
     ///
     /// # Errors
     ///
-    /// As [`LineLister::new`]; [`ResumeFault::AnotherSource`] where the source has no such cursor, and
-    /// [`StreamFault::Read`] where a read failed before as many entries.
+    /// As [`LineLister::new`]; [`ResumeFault::AnotherSource`] where the source has no such cursor,
+    /// and [`StreamFault::Read`] where a read failed before as many entries.
     pub fn resume_checked<R: ByteIn>(
         alloc: Global,
         reader: &mut R,
         cursor: &Cursor,
     ) -> Result<LineLister, ResumeFault>
         requires { R.failure_count reader.old < 2 ^ 64 - 1 }
-        ensures begins { IfOk result (λ v. Begins (R.to_come reader.old) (R.to_come reader.new) (R.failure_count reader.old) (R.failure_count reader.new) v cursor.now.given) }
+        ensures begins { IfOk result
+            (λ v. Begins (R.to_come reader.old) (R.to_come reader.new) (R.failure_count reader.old)
+            (R.failure_count reader.new) v cursor.now.given) }
         ensures shown { IfOk result (λ v. v.shown ≡ cursor.now) }
-        ensures misses { IfErr result (ResumeRefusal (R.to_come reader.old) (R.to_come reader.new) (R.failure_count reader.old) (R.failure_count reader.new) cursor.now) }
-        ensures steady { IsSteady (R.may_fail reader.old) (R.may_fail reader.new) (R.failure_count reader.old) (R.failure_count reader.new) }
+        ensures misses { IfErr result
+            (ResumeRefusal (R.to_come reader.old) (R.to_come reader.new)
+            (R.failure_count reader.old) (R.failure_count reader.new) cursor.now) }
+        ensures steady { IsSteady (R.may_fail reader.old) (R.may_fail reader.new)
+            (R.failure_count reader.old) (R.failure_count reader.new) }
     {
         let mut lister = LineLister::new(alloc, reader).map_err(ResumeFault::Stream)?;
         for _given in 0..cursor.given() {
@@ -262,19 +286,23 @@ impl LineLister {
         self.machine.is_at(cursor)
     }
 
-    /// The next entry, the end, or the fault that ends the listing; after the end or a fault the same again.
+    /// The next entry, the end, or the fault that ends the listing; after the end or a fault the
+    /// same again.
     ///
     /// A line that could not be read whole is such a fault, at its row and column 0.
     ///
     /// # Errors
     ///
-    /// Memory is taken where a line is read and where an INDENT comes. Where it is refused the same step is still due.
+    /// Memory is taken where a line is read and where an INDENT comes. Where it is refused the same
+    /// step is still due.
     #[inline(always)]
     pub fn next<R: ByteIn>(&mut self, reader: &mut R) -> Result<Step, AllocError>
         requires { self.old.lines.reach ≡ Reach.Reading → R.failure_count reader.old < 2 ^ 64 - 1 }
-        ensures steps { Next (R.to_come reader.old) (R.to_come reader.new) (R.failure_count reader.old) (R.failure_count reader.new) self.old self.new result }
+        ensures steps { Next (R.to_come reader.old) (R.to_come reader.new)
+            (R.failure_count reader.old) (R.failure_count reader.new) self.old self.new result }
         ensures given { self.new.shown.given ≤ most_entries }
-        ensures steady { IsSteady (R.may_fail reader.old) (R.may_fail reader.new) (R.failure_count reader.old) (R.failure_count reader.new) }
+        ensures steady { IsSteady (R.may_fail reader.old) (R.may_fail reader.new)
+            (R.failure_count reader.old) (R.failure_count reader.new) }
     {
         if self.machine.is_at_start() {
             let entry = self.machine.begin();
@@ -282,7 +310,8 @@ impl LineLister {
             return Ok(Step::Entry(entry));
         }
         self.last = None;
-        // The answer of `next_behind` is a value of its own: it stands in memory, and so would that of the way below.
+        // The answer of `next_behind` is a value of its own: it stands in memory, and so would that
+        // of the way below.
         if self.chunk.at == self.chunk.text.len() {
             let step = self.next_behind(reader);
             return step;
@@ -297,12 +326,15 @@ impl LineLister {
     /// The next step, where the lines that are held may not tell it, or it is none of a lexeme.
     #[inline(never)]
     fn next_behind<R: ByteIn>(&mut self, reader: &mut R) -> Result<Step, AllocError>
-        requires reading { self.old.lines.reach ≡ Reach.Reading → R.failure_count reader.old < 2 ^ 64 - 1 }
+        requires reading { self.old.lines.reach ≡ Reach.Reading
+            → R.failure_count reader.old < 2 ^ 64 - 1 }
         requires given { 0 < self.old.shown.given }
         requires last { self.old.last ≡ None }
-        ensures steps { Next (R.to_come reader.old) (R.to_come reader.new) (R.failure_count reader.old) (R.failure_count reader.new) self.old self.new result }
+        ensures steps { Next (R.to_come reader.old) (R.to_come reader.new)
+            (R.failure_count reader.old) (R.failure_count reader.new) self.old self.new result }
         ensures given { self.new.shown.given ≤ most_entries }
-        ensures steady { IsSteady (R.may_fail reader.old) (R.may_fail reader.new) (R.failure_count reader.old) (R.failure_count reader.new) }
+        ensures steady { IsSteady (R.may_fail reader.old) (R.may_fail reader.new)
+            (R.failure_count reader.old) (R.failure_count reader.new) }
     {
         let found = find(&mut self.machine, &mut self.chunk, reader)?;
         pass(&mut self.machine, &mut self.chunk, &mut self.last, found)
@@ -315,11 +347,12 @@ impl LineLister {
         self.machine.cursor()
     }
 
-    /// The text of the entry that was given last, no other call of `next` having followed: the encoding's name for that of
-    /// the encoding.
+    /// The text of the entry that was given last, no other call of `next` having followed: the
+    /// encoding's name for that of the encoding.
     pub fn text(&self, entry: &Entry) -> &str
         requires { self.now.last ≡ Some entry.now }
-        ensures { (p : Parts) (k : ℕ) (more : List ℕ) (broken : Bool) → StreamsIn self.entry.now p k more broken → result.now ≡ text_of p entry.now }
+        ensures { (p : Parts) (k : ℕ) (more : List ℕ) (broken : Bool)
+            → StreamsIn self.entry.now p k more broken → result.now ≡ text_of p entry.now }
     {
         match entry.kind {
             Kind::Encoding => self.chunk.lines.encoding().text(),
@@ -327,9 +360,9 @@ impl LineLister {
         }
     }
 
-    /// The lines that are held, whole and with their line ends: directly behind an entry those in which it stands, behind
-    /// that of the encoding none. They are one line, or lines that literals join: at each line end within them, but the
-    /// last, a literal is open in the source.
+    /// The lines that are held, whole and with their line ends: directly behind an entry those in
+    /// which it stands, behind that of the encoding none. They are one line, or lines that literals
+    /// join: at each line end within them, but the last, a literal is open in the source.
     pub fn held(&self) -> &str
         ensures { result.now ≡ self.entry.now.held }
     {

@@ -1,12 +1,18 @@
 //! How far a lister has come in a text.
 
-ghost use Rattle.std.specs.Prelude.{◌≡◌, ◌↔◌, IsTrue, ℕ, ◌+◌, ◌*◌, ◌^◌, ◌<◌, ◌≤◌, ◌&&◌, ◌||◌, not, ◌==◌, if◌then◌else◌, List, [], ◌∷◌, length, false, true, Ok, ◌-◌, IfSome};
+ghost use Rattle.std.specs.Prelude.{◌≡◌, ◌↔◌, IsTrue, ℕ, ◌+◌, ◌*◌, ◌^◌, ◌<◌, ◌≤◌, ◌&&◌, ◌||◌, not};
+ghost use Rattle.std.specs.Prelude.{◌==◌, if◌then◌else◌, List, [], ◌∷◌, length, false, true, Ok};
+ghost use Rattle.std.specs.Prelude.{◌-◌, IfSome};
 ghost use Rattle.std.specs.Str.{chars};
 ghost use Rattle.pylex.specs.Indentation.{column_after, width_from};
-ghost use Rattle.pylexeme.specs.Lexemes.{is_significant_class, is_blanks_class, is_line_end_class, is_join_class, is_opener_class, is_closer_class};
+ghost use Rattle.pylexeme.specs.Lexemes.{is_significant_class, is_blanks_class, is_line_end_class};
+ghost use Rattle.pylexeme.specs.Lexemes.{is_join_class, is_opener_class, is_closer_class};
 ghost use Rattle.pylexeme.specs.Chars.{bytes_in};
 ghost use Rattle.pylexeme.specs.Operators.{is_closer};
-ghost use Rattle.pylex.specs.Machine.{place_past, front_after_char, front_after, past, behind, after, entry_by, step_of, mark_at, is_hash, still, count_if, pushed, first_state, last_line_end, last_place, line_end_kind_of};
+ghost use Rattle.pylex.specs.Machine.{place_past, front_after_char, front_after, past, behind};
+ghost use Rattle.pylex.specs.Machine.{after, entry_by, step_of, mark_at, is_hash, still, count_if};
+ghost use Rattle.pylex.specs.Machine.{pushed, first_state, last_line_end, last_place};
+ghost use Rattle.pylex.specs.Machine.{line_end_kind_of};
 ghost use Rattle.pylex.specs.Listing.{row_after};
 ghost use Rattle.pylex.specs.Plain.{AreSpaces, IsPlain};
 ghost use Rattle.pylex.specs.LineState.{with_levels, measured, begun_anew, given, HasRoom};
@@ -342,7 +348,8 @@ impl LineState {
 
     /// After the layout before the first significant token of a logical line.
     pub(crate) fn measured(self) -> LineState
-        ensures measured { (levels : List ℕ) → with_levels result (pushed self.width levels) ≡ measured (with_levels self levels) }
+        ensures measured { (levels : List ℕ)
+            → with_levels result (pushed self.width levels) ≡ measured (with_levels self levels) }
         ensures room { (n : ℕ) → HasRoom self n → HasRoom result n }
     {
         LineState {
@@ -355,7 +362,8 @@ impl LineState {
 
     /// Directly behind an entry with text: a line is yet to be measured only at its start.
     pub(crate) fn begun_anew(self) -> LineState
-        ensures begun { (levels : List ℕ) → with_levels result levels ≡ begun_anew (with_levels self levels) }
+        ensures begun { (levels : List ℕ)
+            → with_levels result levels ≡ begun_anew (with_levels self levels) }
         ensures room { (n : ℕ) → HasRoom self n → HasRoom result n }
     {
         LineState {
@@ -371,7 +379,8 @@ impl LineState {
     #[inline(always)]
     fn depth_after(self, class: Class) -> usize
         requires { self.depth < 2 ^ 62 }
-        ensures { result ≡ self.depth + count_if (is_opener_class class) - count_if (is_closer_class class) }
+        ensures { result
+            ≡ self.depth + count_if (is_opener_class class) - count_if (is_closer_class class) }
     {
         if class.is_opener() {
             return self.depth + 1;
@@ -395,13 +404,16 @@ impl LineState {
     }
 
     #[tactic(auto, unfolding(crate::specs::Machine::entry_by))]
-    /// What a lexeme gives that ends at a point: an entry, nothing, or the fault of a closing bracket where none is open.
+    /// What a lexeme gives that ends at a point: an entry, nothing, or the fault of a closing
+    /// bracket where none is open.
     #[inline(always)]
     pub(crate) fn give(self, class: Class, text: &str, end: Point) -> Emitted
         requires room { HasRoom self (length text.now) }
         requires end { end ≡ past self.now (chars text.now) }
         requires counted { bytes_in (chars text.now) ≡ length text.now }
-        ensures { (levels : List ℕ) → entry_by (with_levels self levels) (record { «class» = class; text = chars text.now }) ≡ given result }
+        ensures { (levels : List ℕ)
+            → entry_by (with_levels self levels) (record { «class» = class; text = chars text.now })
+            ≡ given result }
     {
         let (kind, exact) = match class {
             Class::Blanks | Class::Join => return Emitted::Nothing,
@@ -439,7 +451,8 @@ impl LineState {
 
     /// Where the measured line begins after a lexeme that ends here.
     fn line_after(self, class: Class, now: Point) -> Point
-        ensures { result ≡ (if is_line_end_class class && (self.depth == 0) then now else self.line) }
+        ensures { result
+            ≡ (if is_line_end_class class && (self.depth == 0) then now else self.line) }
     {
         if self.ends_line(class) {
             now
@@ -450,7 +463,9 @@ impl LineState {
 
     /// Whether only blanks stand in the measured line after a lexeme.
     fn margin_after(self, class: Class) -> bool
-        ensures { result ≡ ((is_line_end_class class && (self.depth == 0)) || (is_blanks_class class && self.margin)) }
+        ensures { result
+            ≡ ((is_line_end_class class && (self.depth == 0)) ||
+            (is_blanks_class class && self.margin)) }
     {
         self.ends_line(class) || class.is_blanks() && self.margin
     }
@@ -458,7 +473,9 @@ impl LineState {
     /// The width of these blanks.
     fn width_past(self, class: Class, text: &str) -> usize
         requires { self.width + 8 * length text.now < 2 ^ 63 }
-        ensures value { result ≡ still (is_blanks_class class && self.margin) (width_from self.width (chars text.now)) }
+        ensures value { result
+            ≡ still (is_blanks_class class && self.margin)
+            (width_from self.width (chars text.now)) }
         ensures bound { result ≤ self.width + 8 * length text.now }
     {
         if class.is_blanks() && self.margin {
@@ -470,7 +487,9 @@ impl LineState {
 
     /// Whether the line holds more than blanks and a comment after a lexeme.
     fn logical_after(self, class: Class) -> bool
-        ensures { result ≡ (not (is_line_end_class class && (self.depth == 0)) && (is_significant_class class || self.logical)) }
+        ensures { result
+            ≡ (not (is_line_end_class class && (self.depth == 0)) &&
+            (is_significant_class class || self.logical)) }
     {
         !self.ends_line(class) && (class.is_significant() || self.logical)
     }
@@ -483,7 +502,9 @@ impl LineState {
         requires some { 0 < length text.now }
         requires settled { (self.margin && is_significant_class class) ≡ false }
         requires told { Tells class text.now }
-        ensures after { (levels : List ℕ) → with_levels result levels ≡ after (with_levels self levels) (record { «class» = class; text = chars text.now }) }
+        ensures after { (levels : List ℕ)
+            → with_levels result levels
+            ≡ after (with_levels self levels) (record { «class» = class; text = chars text.now }) }
         ensures now { result.now ≡ past self.now (chars text.now) }
         ensures room { (n : ℕ) → HasRoom self (length text.now + n) → HasRoom result n }
     {
@@ -545,7 +566,8 @@ impl LineState {
         operator.is_closer() && self.depth == 0
     }
 
-    /// Goes past an operator behind a line's margin, and gives its entry; none where it closes a bracket and none is open.
+    /// Goes past an operator behind a line's margin, and gives its entry; none where it closes a
+    /// bracket and none is open.
     #[inline(always)]
     fn pass_operator(&mut self, operator: Exact, text: &str) -> Option<Entry>
         requires room { HasRoom self.old (length text.now) }
@@ -553,8 +575,10 @@ impl LineState {
         requires behind { self.old.margin ≡ false }
         requires told { Tells (Class.Operator operator) text.now }
         requires some { 0 < length text.now }
-        ensures passed { IfSome result (λ e. Passed self.old (Class.Operator operator) (chars text.now) self.new) }
-        ensures entry { IfSome result (λ e. GivesEntry self.old (Class.Operator operator) (chars text.now) e) }
+        ensures passed { IfSome result
+            (λ e. Passed self.old (Class.Operator operator) (chars text.now) self.new) }
+        ensures entry { IfSome result
+            (λ e. GivesEntry self.old (Class.Operator operator) (chars text.now) e) }
     {
         if self.is_unmatched(operator) {
             return None;
@@ -628,7 +652,8 @@ impl LineState {
         entry_of(kind, None, start, end)
     }
 
-    /// Goes past a lexeme behind a line's margin, and gives its entry; none where it gives a fault or nothing.
+    /// Goes past a lexeme behind a line's margin, and gives its entry; none where it gives a fault
+    /// or nothing.
     #[inline(always)]
     pub(crate) fn pass(&mut self, class: Class, text: &str) -> Option<Entry>
         requires room { HasRoom self.old (length text.now) }
@@ -652,7 +677,8 @@ impl LineState {
     /// Directly behind an entry with text: a line is yet to be measured only at its start.
     #[inline(always)]
     pub(crate) fn begin_anew(&mut self, behind: LineState)
-        ensures begun { (levels : List ℕ) → with_levels self.new levels ≡ begun_anew (with_levels behind levels) }
+        ensures begun { (levels : List ℕ)
+            → with_levels self.new levels ≡ begun_anew (with_levels behind levels) }
         ensures room { (n : ℕ) → HasRoom behind n → HasRoom self.new n }
     {
         self.now = behind.now;

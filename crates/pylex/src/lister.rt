@@ -1,6 +1,7 @@
 //! The listing of a source, one entry after another.
 
-ghost use Rattle.std.specs.Prelude.{◌≡◌, ◌≢◌, ◌↔◌, IsTrue, ◌+◌, ◌-◌, ◌^◌, ◌<◌, ◌≤◌, length, IfOk, IfErr, OnOk, OnErr, Ok, Err};
+ghost use Rattle.std.specs.Prelude.{◌≡◌, ◌≢◌, ◌↔◌, IsTrue, ◌+◌, ◌-◌, ◌^◌, ◌<◌, ◌≤◌, length, IfOk};
+ghost use Rattle.std.specs.Prelude.{IfErr, OnOk, OnErr, Ok, Err};
 ghost use Rattle.std.specs.Str.{chars};
 ghost use Rattle.pylex.specs.Listing.{last_line, listing, in_characters};
 ghost use Rattle.pylex.specs.Laws.{IsLawful, AllLie, HaveExact};
@@ -62,10 +63,11 @@ impl<'a> Lister<'a> {
         }
     }
 
-    /// The next entry, the end, or the fault that ends the listing; after the end or a fault the same again.
+    /// The next entry, the end, or the fault that ends the listing; after the end or a fault the
+    /// same again.
     ///
-    /// Memory is taken only where an INDENT comes. Where it is refused the lister is unchanged, and the call can be made
-    /// again.
+    /// Memory is taken only where an INDENT comes. Where it is refused the lister is unchanged, and
+    /// the call can be made again.
     pub fn next(&mut self) -> Result<Step, AllocError>
         ensures moves { IfOk result (λ step. NextStep self.old step self.new) }
         ensures source { self.new.source ≡ self.old.source }
@@ -109,8 +111,8 @@ impl<'a> Lister<'a> {
         self.machine.is_at(cursor)
     }
 
-    /// The lister's cursor: what is kept of the listing behind the entries that were given. With it [`Lister::resume`] goes
-    /// on in this source.
+    /// The lister's cursor: what is kept of the listing behind the entries that were given. With it
+    /// [`Lister::resume`] goes on in this source.
     pub fn cursor(&self) -> Result<Cursor, AllocError>
         ensures shown { IfOk result (λ cursor. cursor ≡ self.entry.now.shown) }
         ensures leads { IfOk result (λ cursor. LeadsInto cursor self.entry.now.source) }
@@ -125,7 +127,12 @@ impl<'a> Lister<'a> {
         cursor: &Cursor,
     ) -> Result<Lister<'a>, AllocError>
         requires { LeadsInto cursor.now source.now }
-        ensures { IfOk result (λ lister. lister ≡ record { source = source.now; shown = record cursor.now { given = cursor.now.given - cursor.now.skip; skip = 0 } }) }
+        ensures { IfOk result
+            (λ lister. lister
+            ≡ record {
+              source = source.now;
+              shown = record cursor.now { given = cursor.now.given - cursor.now.skip; skip = 0 };
+            }) }
     {
         let point = cursor.point();
         let levels = cursor.levels(alloc)?;
@@ -138,16 +145,18 @@ impl<'a> Lister<'a> {
         })
     }
 
-    /// Goes on behind a cursor of this source, or of another that agrees with it: of the same encoding and line fault, and
-    /// with a text of the same length, in which the line of the cursor's offset begins at the same place and all from there
-    /// on is the same. The lines before that one are not read.
+    /// Goes on behind a cursor of this source, or of another that agrees with it: of the same
+    /// encoding and line fault, and with a text of the same length, in which the line of the
+    /// cursor's offset begins at the same place and all from there on is the same. The lines before
+    /// that one are not read.
     pub fn resume(
         alloc: Global,
         source: &'a Source,
         cursor: &Cursor,
     ) -> Result<Lister<'a>, AllocError>
         requires { LeadsInto cursor.now source.now }
-        ensures { IfOk result (λ lister. lister ≡ record { source = source.now; shown = cursor.now }) }
+        ensures { IfOk result
+            (λ lister. lister ≡ record { source = source.now; shown = cursor.now }) }
     {
         let mut lister = Lister::at_point(alloc, source, cursor)?;
         for _given in 0..cursor.skip() {
@@ -166,10 +175,13 @@ impl<'a> Lister<'a> {
         source: &'a Source,
         cursor: &Cursor,
     ) -> Result<Lister<'a>, CursorFault>
-        ensures lister { IfOk result (λ lister. lister ≡ record { source = source.now; shown = cursor.now }) }
+        ensures lister { IfOk result
+            (λ lister. lister ≡ record { source = source.now; shown = cursor.now }) }
         ensures own { OnOk result (IsCursorOf cursor.now (in_characters source.now)) }
         ensures leads { OnOk result (LeadsInto cursor.now source.now) }
-        ensures another { IfErr result (λ fault. fault ≡ CursorFault.AnotherSource → IsCursorOf cursor.now (in_characters source.now) → ⊥) }
+        ensures another { IfErr result
+            (λ fault. fault ≡ CursorFault.AnotherSource
+            → IsCursorOf cursor.now (in_characters source.now) → ⊥) }
         ensures fault { IfErr result (λ fault. fault ≢ CursorFault.Text) }
     {
         let mut lister = Lister::new(alloc, source);

@@ -1,14 +1,21 @@
-//! Where a lister stands in a listing, and its steps from there: what all listers share, whatever text they hold.
+//! Where a lister stands in a listing, and its steps from there: what all listers share, whatever
+//! text they hold.
 
-ghost use Rattle.std.specs.Prelude.{◌≡◌, ℕ, ◌+◌, ◌-◌, ◌^◌, ◌<◌, ◌≤◌, true, false, List, [], ◌∷◌, ◌++◌, length, take, drop, OnOk, OnErr, IfOk, IfErr, Ok, Err, Option, None, option_map, OnSome, IfSome, IsTrue, ◌↔◌};
+ghost use Rattle.std.specs.Prelude.{◌≡◌, ℕ, ◌+◌, ◌-◌, ◌^◌, ◌<◌, ◌≤◌, true, false, List, [], ◌∷◌};
+ghost use Rattle.std.specs.Prelude.{◌++◌, length, take, drop, OnOk, OnErr, IfOk, IfErr, Ok, Err};
+ghost use Rattle.std.specs.Prelude.{Option, None, option_map, OnSome, IfSome, IsTrue, ◌↔◌};
 ghost use Rattle.std.specs.Str.{chars};
 ghost use Rattle.pylex.specs.Listing.{of_line, origin, stop_fault};
 ghost use Rattle.pylex.specs.Steps.{first_step, HasNoText, IsNoEntry, IsAt};
 ghost use Rattle.pylex.specs.Machine.{remaining, behind_steps, first_state, mark_at};
 ghost use Rattle.pylex.specs.Standing.{resumed};
-ghost use Rattle.pylex.specs.LineState.{is_level, IsTop, Stands, IsAscending, IsIndentation, Settles, Peek, StopAhead, HasRoom, Behind, NextEntry, closing, with_levels, given, GivesNoText, IsGivenFault, GivesAt};
+ghost use Rattle.pylex.specs.LineState.{is_level, IsTop, Stands, IsAscending, IsIndentation};
+ghost use Rattle.pylex.specs.LineState.{Settles, Peek, StopAhead, HasRoom, Behind, NextEntry};
+ghost use Rattle.pylex.specs.LineState.{closing, with_levels, given, GivesNoText, IsGivenFault};
+ghost use Rattle.pylex.specs.LineState.{GivesAt};
 ghost use Rattle.pylex.specs.Listers.{shown_by, shown_at};
-ghost use Rattle.pylex.specs.MachineSteps.{FaultsFirst, HasPlace, IsSame, StepsOn, Advance, shown_from};
+ghost use Rattle.pylex.specs.MachineSteps.{FaultsFirst, HasPlace, IsSame, StepsOn, Advance};
+ghost use Rattle.pylex.specs.MachineSteps.{shown_from};
 
 use crate::cursor::{Cursor, Shown};
 use crate::entries::{Entry, ListingError, ListingFault, Step};
@@ -84,7 +91,8 @@ fn line_start(now: &mut LineState, levels: &[usize], text: &str) -> Option<Peeke
     requires ascending { IsAscending 0 levels.now }
     ensures settles { result ≡ None → Settles levels.now now.old (chars text.now) now.new }
     ensures room { (n : ℕ) → HasRoom now.old n → HasRoom now.new n }
-    ensures finds { IfSome result (λ m. Peek levels.now now.old (chars text.now) m now.new (chars text.now)) }
+    ensures finds { IfSome result
+        (λ m. Peek levels.now now.old (chars text.now) m now.new (chars text.now)) }
     ensures stands { Stands now.new text.now }
 {
     if !now.margin || !begins_significant(text) {
@@ -111,7 +119,8 @@ fn find<'a>(start: LineState, levels: &[usize], text: &'a str) -> (Peeked, LineS
     requires ascending { IsAscending 0 levels.now }
     ensures finds { Peek levels.now start (chars text.now) result.0 result.1 (chars result.2.now) }
     ensures stands { Stands result.1 result.2.now }
-    ensures room { (n : ℕ) → HasRoom start (length text.now + n) → HasRoom result.1 (length result.2.now + n) }
+    ensures room { (n : ℕ) → HasRoom start (length text.now + n)
+        → HasRoom result.1 (length result.2.now + n) }
     ensures behind { Behind text.now result.2.now }
 {
     let mut now = start;
@@ -141,7 +150,8 @@ fn find<'a>(start: LineState, levels: &[usize], text: &'a str) -> (Peeked, LineS
     }
 }
 
-/// Goes on to the next lexeme that gives an entry, behind a line's margin: its entry, and what is left behind it.
+/// Goes on to the next lexeme that gives an entry, behind a line's margin: its entry, and what is
+/// left behind it.
 #[inline(always)]
 fn next_entry<'a>(now: &mut LineState, text: &'a str) -> Option<(Entry, &'a str)>
     requires stands { Stands now.old text.now }
@@ -181,7 +191,8 @@ fn peek<'a>(
     requires stop { 0 < tail → StopAhead start (chars text.now) }
     ensures finds { Peek levels.now start (chars text.now) result.0 result.1 (chars result.2.now) }
     ensures stands { Stands result.1 result.2.now }
-    ensures room { (n : ℕ) → HasRoom start (length text.now + n) → HasRoom result.1 (length result.2.now + n) }
+    ensures room { (n : ℕ) → HasRoom start (length text.now + n)
+        → HasRoom result.1 (length result.2.now + n) }
     ensures behind { Behind text.now result.2.now }
     ensures stop { 0 < tail → result.0 ≡ Peeked.Stop }
     ensures stay { 0 < tail → (result.1 ≡ start) × (result.2.now ≡ text.now) }
@@ -232,7 +243,9 @@ fn stop_fault_at(place: Place, left: &str, fault: Option<LineFault>) -> ListingF
 fn stop(now: LineState, left: &str, fault: Option<LineFault>) -> Emitted
     requires stands { Stands now left.now }
     requires stop { StopAhead now (chars left.now) }
-    ensures steps { (levels : List ℕ) → remaining (option_map of_line fault) (with_levels now levels) (chars left.now) ≡ behind_steps (given result) (closing (with_levels now levels)) }
+    ensures steps { (levels : List ℕ)
+        → remaining (option_map of_line fault) (with_levels now levels) (chars left.now)
+        ≡ behind_steps (given result) (closing (with_levels now levels)) }
     ensures empty { GivesNoText result }
     ensures at { GivesAt now.now.offset result }
     ensures fault { OnSome fault (IsGivenFault result) }
@@ -252,11 +265,12 @@ fn stop(now: LineState, left: &str, fault: Option<LineFault>) -> Emitted
     now.last_line_end()
 }
 
-/// The step of the end behind the line end, by how many of these steps were given: a DEDENT for each open level, and then
-/// the end marker.
+/// The step of the end behind the line end, by how many of these steps were given: a DEDENT for
+/// each open level, and then the end marker.
 fn closing_step(now: LineState, nested: usize, closed: usize) -> Step
     requires { now.now.place.row < 2 ^ 62 }
-    ensures step { (levels : List ℕ) → IsAscending 0 levels → length levels ≡ nested → result ≡ first_step (drop closed (closing (with_levels now (0 ∷ levels)))) }
+    ensures step { (levels : List ℕ) → IsAscending 0 levels → length levels ≡ nested
+        → result ≡ first_step (drop closed (closing (with_levels now (0 ∷ levels)))) }
     ensures empty { HasNoText result }
     ensures at { IsAt now.now.offset result }
 {
@@ -281,7 +295,12 @@ fn end_step(
 ) -> Step
     requires stands { Stands now left.now }
     requires stop { StopAhead now (chars left.now) }
-    ensures step { (levels : List ℕ) → IsAscending 0 levels → length levels ≡ nested → tail < length (remaining (option_map of_line fault) (with_levels now (0 ∷ levels)) (chars left.now)) → result ≡ first_step (drop tail (remaining (option_map of_line fault) (with_levels now (0 ∷ levels)) (chars left.now))) }
+    ensures step { (levels : List ℕ) → IsAscending 0 levels → length levels ≡ nested
+        → tail < length
+        (remaining (option_map of_line fault) (with_levels now (0 ∷ levels)) (chars left.now))
+        → result ≡ first_step
+        (drop tail (remaining (option_map of_line fault) (with_levels now (0 ∷ levels))
+        (chars left.now))) }
     ensures empty { HasNoText result }
     ensures at { IsAt now.now.offset result }
     ensures fault { OnSome fault (IsNoEntry result) }
@@ -317,7 +336,8 @@ pub struct Machine {
     point: Shown,
     /// The levels above 0 that are open at the point.
     levels: Vec<usize>,
-    /// How far the lister has looked from there: past lexemes that give nothing, and DEDENTs that were given.
+    /// How far the lister has looked from there: past lexemes that give nothing, and DEDENTs that
+    /// were given.
     now: LineState,
     /// How many of the levels are open there.
     nested: usize,
@@ -329,7 +349,8 @@ impl Machine {
     /// At the start of a source. No memory is taken.
     pub(crate) fn start(alloc: Global) -> Machine
         ensures given { result.given ≡ 0 }
-        ensures point { (k : ℕ) (levels : List ℕ) → shown_by k result.point levels 0 ≡ shown_at k (with_levels result.now (0 ∷ levels)) }
+        ensures point { (k : ℕ) (levels : List ℕ)
+            → shown_by k result.point levels 0 ≡ shown_at k (with_levels result.now (0 ∷ levels)) }
         ensures levels { result.levels.items ≡ [] }
         ensures now { with_levels result.now (0 ∷ []) ≡ first_state }
         ensures nested { result.nested ≡ 0 }
@@ -352,7 +373,9 @@ impl Machine {
         ensures given { result.given ≡ given }
         ensures point { result.point ≡ point }
         ensures levels { result.levels ≡ levels }
-        ensures now { (k n : ℕ) (levels : List ℕ) → with_levels result.now (0 ∷ levels) ≡ resumed (shown_by k point levels n) (chars line.now) }
+        ensures now { (k n : ℕ) (levels : List ℕ)
+            → with_levels result.now (0 ∷ levels)
+            ≡ resumed (shown_by k point levels n) (chars line.now) }
         ensures nested { result.nested ≡ length levels.items }
         ensures tail { result.tail ≡ 0 }
     {
@@ -403,8 +426,8 @@ impl Machine {
         self.now = now;
     }
 
-    /// Gives the entry of the next lexeme that gives one, where that stands behind a line's margin, and the text that is
-    /// left there. Otherwise nothing is changed.
+    /// Gives the entry of the next lexeme that gives one, where that stands behind a line's margin,
+    /// and the text that is left there. Otherwise nothing is changed.
     #[inline(always)]
     pub(crate) fn step_on<'a>(&mut self, text: &'a str) -> Option<(Entry, &'a str)>
         requires some { 0 < self.old.given }
@@ -431,19 +454,23 @@ impl Machine {
         requires ascending { IsAscending 0 self.now.levels.items }
         requires within { self.now.nested ≤ length self.now.levels.items }
         requires stop { 0 < self.now.tail → StopAhead self.now.now (chars text.now) }
-        ensures finds { Peek (take self.entry.now.nested self.entry.now.levels.items) self.entry.now.now (chars text.now) result.0 result.1 (chars result.2.now) }
+        ensures finds { Peek
+            (take self.entry.now.nested self.entry.now.levels.items) self.entry.now.now
+            (chars text.now) result.0 result.1 (chars result.2.now) }
         ensures stands { Stands result.1 result.2.now }
-        ensures room { (n : ℕ) → HasRoom self.entry.now.now (length text.now + n) → HasRoom result.1 (length result.2.now + n) }
+        ensures room { (n : ℕ) → HasRoom self.entry.now.now (length text.now + n)
+            → HasRoom result.1 (length result.2.now + n) }
         ensures behind { Behind text.now result.2.now }
         ensures stop { 0 < self.entry.now.tail → result.0 ≡ Peeked.Stop }
-        ensures stay { 0 < self.entry.now.tail → (result.1 ≡ self.entry.now.now) × (result.2.now ≡ text.now) }
+        ensures stay { 0 < self.entry.now.tail
+            → (result.1 ≡ self.entry.now.now) × (result.2.now ≡ text.now) }
     {
         let levels = &self.levels.as_slice()[..self.nested];
         peek(self.tail, self.now, levels, text)
     }
 
-    /// Goes on past what was met, where that gives an entry. `left` is the text that is left there, and `fault` that of
-    /// the line behind it.
+    /// Goes on past what was met, where that gives an entry. `left` is the text that is left there,
+    /// and `fault` that of the line behind it.
     ///
     /// Memory is taken only for an INDENT; where it is refused nothing is changed.
     #[inline(always)]
@@ -460,7 +487,8 @@ impl Machine {
         requires stop { peeked ≡ Peeked.Stop → StopAhead now (chars left.now) }
         requires tail { 0 < self.old.tail → peeked ≡ Peeked.Stop }
         requires dedent { peeked ≡ Peeked.Dedent → 0 < self.old.nested }
-        ensures went { IfOk result (λ step. Advance self.old peeked now left.now fault step self.new) }
+        ensures went { IfOk result
+            (λ step. Advance self.old peeked now left.now fault step self.new) }
         ensures fault { IfOk result (FaultsFirst peeked fault) }
         ensures same { OnErr result (IsSame self.old self.new) }
         ensures indent { OnErr result (peeked ≡ Peeked.Indent) }
@@ -505,7 +533,8 @@ impl Machine {
     /// How many entries without text were given behind the point.
     pub(crate) fn skip(&self) -> usize
         requires { HasPlace self.now }
-        ensures { result ≡ (length self.entry.now.levels.items - self.entry.now.nested) + self.entry.now.tail }
+        ensures { result
+            ≡ (length self.entry.now.levels.items - self.entry.now.nested) + self.entry.now.tail }
     {
         self.levels.len() - self.nested + self.tail
     }

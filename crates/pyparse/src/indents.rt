@@ -90,8 +90,8 @@ fn are_alike(one: Widths, other: Widths) -> bool
         && (other.eight < one.eight) == (other.one < one.one)
 }
 
-/// Drops those that aren't narrower than a line, from the last on, up to one that the line stands in
-/// another order to; whether there is one among them all.
+/// Drops those that aren't narrower than a line, from the last on, up to one that the line stands
+/// in another order to; whether there is one among them all.
 ///
 /// Those that stay rise by both widths, so the last of them decides for all.
 fn drop_wider(standing: &mut Vec<Widths>, widths: Widths) -> bool

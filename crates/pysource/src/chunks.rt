@@ -2,7 +2,8 @@
 //!
 //! Python language reference, 2.1.2 "Physical lines" and 2.1.4 "Encoding declarations".
 
-ghost use Rattle.std.specs.Prelude.{◌≡◌, ℕ, ◌+◌, ◌-◌, ◌^◌, ◌<◌, ◌≤◌, false, List, Option, length, IfOk, IfErr};
+ghost use Rattle.std.specs.Prelude.{◌≡◌, ℕ, ◌+◌, ◌-◌, ◌^◌, ◌<◌, ◌≤◌, false, List, Option, length};
+ghost use Rattle.std.specs.Prelude.{IfOk, IfErr};
 ghost use Rattle.std.specs.String.{string_bytes};
 ghost use Rattle.pysource.specs.Bytes.{IsSteady};
 ghost use Rattle.pysource.specs.Limits.{source_limit};
@@ -33,10 +34,17 @@ impl<R: ByteIn> Chunks<R> {
     where
         R: Drop,
         requires { R.failure_count reader < 2 ^ 64 - 1 }
-        ensures opens { IfOk result (λ c. Opens (R.to_come reader) (R.to_come c.reader) (R.failure_count reader) (R.failure_count c.reader) c.lines) }
+        ensures opens { IfOk result
+            (λ c. Opens (R.to_come reader) (R.to_come c.reader) (R.failure_count reader)
+            (R.failure_count c.reader) c.lines) }
         ensures told { IfOk result (λ c. c.told ≡ R.failure_count reader) }
-        ensures steady { IfOk result (λ c. IsSteady (R.may_fail reader) (R.may_fail c.reader) (R.failure_count reader) (R.failure_count c.reader)) }
-        ensures refuses { IfErr result (λ e. (come : Option (List ℕ)) × (told : ℕ) × (R.may_fail reader ≡ false → told ≡ R.failure_count reader) × Refuses (R.to_come reader) come (R.failure_count reader) told e) }
+        ensures steady { IfOk result
+            (λ c. IsSteady (R.may_fail reader) (R.may_fail c.reader) (R.failure_count reader)
+            (R.failure_count c.reader)) }
+        ensures refuses { IfErr result
+            (λ e. (come : Option (List ℕ)) × (told : ℕ)
+            × (R.may_fail reader ≡ false → told ≡ R.failure_count reader)
+            × Refuses (R.to_come reader) come (R.failure_count reader) told e) }
     {
         let told = reader.failures();
         let lines = LineReader::new(alloc, &mut reader)?;
@@ -63,11 +71,15 @@ impl<R: ByteIn> Chunks<R> {
 
     /// Appends the next line, as [`LineReader::next_line`] does.
     pub fn next_line(&mut self, chunk: &mut String) -> Result<Line, AllocError>
-        ensures moves { NextLine (R.to_come self.old.reader) (R.to_come self.new.reader) (R.failure_count self.old.reader) (R.failure_count self.new.reader) self.old.lines self.new.lines (string_bytes chunk.old) (string_bytes chunk.new) result }
+        ensures moves { NextLine (R.to_come self.old.reader) (R.to_come self.new.reader)
+            (R.failure_count self.old.reader)
+            (R.failure_count self.new.reader) self.old.lines self.new.lines (string_bytes chunk.old)
+            (string_bytes chunk.new) result }
         ensures within { self.new.lines.count ≤ source_limit }
         ensures pending { length self.new.lines.pending ≤ self.new.lines.count }
         ensures told { self.new.told ≡ self.old.told }
-        ensures steady { IsSteady (R.may_fail self.old.reader) (R.may_fail self.new.reader) (R.failure_count self.old.reader) (R.failure_count self.new.reader) }
+        ensures steady { IsSteady (R.may_fail self.old.reader) (R.may_fail self.new.reader)
+            (R.failure_count self.old.reader) (R.failure_count self.new.reader) }
     {
         self.lines.next_line(&mut self.reader, chunk)
     }

@@ -4,7 +4,8 @@
 //!
 //! Only the bytes of the line that is due are held, and at most 8,192 behind it.
 
-ghost use Rattle.std.specs.Prelude.{◌≡◌, ℕ, ◌+◌, ◌-◌, ◌^◌, ◌<◌, ◌≤◌, List, [], Option, length, IfOk};
+ghost use Rattle.std.specs.Prelude.{◌≡◌, ℕ, ◌+◌, ◌-◌, ◌^◌, ◌<◌, ◌≤◌, List, [], Option, length};
+ghost use Rattle.std.specs.Prelude.{IfOk};
 ghost use Rattle.std.specs.String.{string_bytes};
 ghost use Rattle.pysource.specs.Bytes.{IsSteady};
 ghost use Rattle.pysource.specs.Limits.{source_limit};
@@ -97,9 +98,17 @@ impl Model for LineReader {
 
     ghost Value = { Buffered };
 
-    ghost view = { λ s. record { encoding = s.encoding; row = s.row; pending = s.intake.buffer; reach = s.intake.reach; count = s.intake.count; fault = s.fault } };
+    ghost view = { λ s. record {
+      encoding = s.encoding;
+      row = s.row;
+      pending = s.intake.buffer;
+      reach = s.intake.reach;
+      count = s.intake.count;
+      fault = s.fault;
+    } };
 
-    ghost invariant = { λ s. (1 ≤ s.row) × (s.row + length s.intake.buffer ≤ s.intake.count + 1) × (s.intake.count ≤ source_limit) };
+    ghost invariant = { λ s. (1 ≤ s.row) × (s.row + length s.intake.buffer ≤ s.intake.count + 1)
+        × (s.intake.count ≤ source_limit) };
 }
 
 /// Whether the second line is searched for a cookie behind this first one.
@@ -117,7 +126,8 @@ fn push_line(
     line: &[u8],
     chunk: &mut String,
 ) -> Result<Option<LineFault>, AllocError>
-    ensures { PushesLine charset row line.now (string_bytes chunk.old) (string_bytes chunk.new) result }
+    ensures { PushesLine charset row line.now (string_bytes chunk.old)
+        (string_bytes chunk.new) result }
 {
     match first_bad(charset, line) {
         None => {
@@ -145,10 +155,12 @@ fn head_line<R: ByteIn>(
     requires possible { intake.old.reach ≡ Reach.Reading → R.failure_count reader.old < 2 ^ 64 - 1 }
     requires within { intake.old.count ≤ source_limit }
     requires start { start ≤ length intake.old.buffer }
-    ensures grows { Grows (R.to_come reader.old) (R.to_come reader.new) (R.failure_count reader.old) (R.failure_count reader.new) intake.old intake.new }
+    ensures grows { Grows (R.to_come reader.old) (R.to_come reader.new) (R.failure_count reader.old)
+        (R.failure_count reader.new) intake.old intake.new }
     ensures within { intake.new.count ≤ source_limit }
     ensures found { FoundHead start intake.old intake.new result }
-    ensures steady { IsSteady (R.may_fail reader.old) (R.may_fail reader.new) (R.failure_count reader.old) (R.failure_count reader.new) }
+    ensures steady { IsSteady (R.may_fail reader.old) (R.may_fail reader.new)
+        (R.failure_count reader.old) (R.failure_count reader.new) }
 {
     match intake.line_end(reader, start) {
         Err(_) => Err(StreamFault::Memory),
@@ -167,10 +179,13 @@ fn read_head<R: ByteIn>(intake: &mut Intake, reader: &mut R) -> Result<(usize, u
     requires buffer { intake.old.buffer ≡ [] }
     requires reach { intake.old.reach ≡ Reach.Reading }
     requires count { intake.old.count ≡ 0 }
-    ensures takes { Takes (R.to_come reader.old) (R.to_come reader.new) (R.failure_count reader.old) (R.failure_count reader.new) Reach.Reading intake.new.reach 0 intake.new.count intake.new.buffer }
+    ensures takes { Takes (R.to_come reader.old) (R.to_come reader.new) (R.failure_count reader.old)
+        (R.failure_count reader.new) Reach.Reading intake.new.reach 0 intake.new.count
+        intake.new.buffer }
     ensures within { intake.new.count ≤ source_limit }
     ensures found { FoundHeads intake.new result }
-    ensures steady { IsSteady (R.may_fail reader.old) (R.may_fail reader.new) (R.failure_count reader.old) (R.failure_count reader.new) }
+    ensures steady { IsSteady (R.may_fail reader.old) (R.may_fail reader.new)
+        (R.failure_count reader.old) (R.failure_count reader.new) }
 {
     let first = head_line(intake, reader, 0)?;
     match intake.reach {
@@ -189,10 +204,12 @@ fn read_head<R: ByteIn>(intake: &mut Intake, reader: &mut R) -> Result<(usize, u
 fn due_line<R: ByteIn>(intake: &mut Intake, reader: &mut R) -> Result<Option<usize>, AllocError>
     requires possible { intake.old.reach ≡ Reach.Reading → R.failure_count reader.old < 2 ^ 64 - 1 }
     requires within { intake.old.count ≤ source_limit }
-    ensures grows { Grows (R.to_come reader.old) (R.to_come reader.new) (R.failure_count reader.old) (R.failure_count reader.new) intake.old intake.new }
+    ensures grows { Grows (R.to_come reader.old) (R.to_come reader.new) (R.failure_count reader.old)
+        (R.failure_count reader.new) intake.old intake.new }
     ensures within { intake.new.count ≤ source_limit }
     ensures found { FoundDue intake.old intake.new result }
-    ensures steady { IsSteady (R.may_fail reader.old) (R.may_fail reader.new) (R.failure_count reader.old) (R.failure_count reader.new) }
+    ensures steady { IsSteady (R.may_fail reader.old) (R.may_fail reader.new)
+        (R.failure_count reader.old) (R.failure_count reader.new) }
 {
     match intake.line_end(reader, 0)? {
         Some(end) => Ok(Some(end)),
@@ -215,8 +232,10 @@ impl LineReader {
     /// of them could not be read whole, and `Memory`. What was taken of the reader is lost then.
     pub fn new<R: ByteIn>(alloc: Global, reader: &mut R) -> Result<LineReader, StreamFault>
         requires { R.failure_count reader.old < 2 ^ 64 - 1 }
-        ensures opening { Open (R.to_come reader.old) (R.to_come reader.new) (R.failure_count reader.old) (R.failure_count reader.new) result }
-        ensures steady { IsSteady (R.may_fail reader.old) (R.may_fail reader.new) (R.failure_count reader.old) (R.failure_count reader.new) }
+        ensures opening { Open (R.to_come reader.old) (R.to_come reader.new)
+            (R.failure_count reader.old) (R.failure_count reader.new) result }
+        ensures steady { IsSteady (R.may_fail reader.old) (R.may_fail reader.new)
+            (R.failure_count reader.old) (R.failure_count reader.new) }
     {
         let mut intake = Intake::new(alloc);
         let (first, second) = read_head(&mut intake, reader)?;
@@ -262,10 +281,13 @@ impl LineReader {
         chunk: &mut String,
     ) -> Result<Line, AllocError>
         requires { self.old.reach ≡ Reach.Reading → R.failure_count reader.old < 2 ^ 64 - 1 }
-        ensures moves { NextLine (R.to_come reader.old) (R.to_come reader.new) (R.failure_count reader.old) (R.failure_count reader.new) self.old self.new (string_bytes chunk.old) (string_bytes chunk.new) result }
+        ensures moves { NextLine (R.to_come reader.old) (R.to_come reader.new)
+            (R.failure_count reader.old) (R.failure_count reader.new) self.old self.new
+            (string_bytes chunk.old) (string_bytes chunk.new) result }
         ensures within { self.new.count ≤ source_limit }
         ensures pending { length self.new.pending ≤ self.new.count }
-        ensures steady { IsSteady (R.may_fail reader.old) (R.may_fail reader.new) (R.failure_count reader.old) (R.failure_count reader.new) }
+        ensures steady { IsSteady (R.may_fail reader.old) (R.may_fail reader.new)
+            (R.failure_count reader.old) (R.failure_count reader.new) }
     {
         if let Some(fault) = self.fault {
             return Ok(Line::Fault(fault));

@@ -7,10 +7,12 @@
 //! return. No multi-byte sequence of UTF-8 goes past a line feed, so the first bad byte of the
 //! whole is the first bad byte of the first faulty line: one pass over all the bytes finds it.
 
-ghost use Rattle.std.specs.Prelude.{◌≡◌, ◌≢◌, ℕ, ◌≤◌, ◌<◌, ◌+◌, ◌-◌, false, length, take, drop, slice_index, IsUtf8, MatchOption};
+ghost use Rattle.std.specs.Prelude.{◌≡◌, ◌≢◌, ℕ, ◌≤◌, ◌<◌, ◌+◌, ◌-◌, false, length, take, drop};
+ghost use Rattle.std.specs.Prelude.{slice_index, IsUtf8, MatchOption};
 ghost use Rattle.std.specs.Str.Lossy.{utf8_valid_len};
 ghost use Rattle.pysource.specs.Limits.{source_limit};
-ghost use Rattle.pysource.specs.Lines.{first_bad, good_text, line_fault, lines_of, lone_return_at, bad_at, invalid};
+ghost use Rattle.pysource.specs.Lines.{first_bad, good_text, line_fault, lines_of, lone_return_at};
+ghost use Rattle.pysource.specs.Lines.{bad_at, invalid};
 ghost use Rattle.pysource.specs.Sources.{source_of, UnlessMemory, nth_line};
 ghost use Rattle.pysource.specs.Streams.{stream_of, as_stream};
 
@@ -37,7 +39,8 @@ impl Model for Source {
 
     ghost Value = { Parts };
 
-    ghost view = { λ s. record { encoding = s.encoding; text = string_bytes s.text; fault = s.fault } };
+    ghost view = { λ s. record
+        { encoding = s.encoding; text = string_bytes s.text; fault = s.fault } };
 
     ghost invariant = { λ s. length (string_bytes s.text) ≤ source_limit };
 }
@@ -134,7 +137,8 @@ fn valid_len(charset: Charset, bytes: &[u8]) -> usize
     ensures within { result ≤ length bytes.now }
     ensures before { (k : ℕ) → k < result →
         bad_at charset bytes.now k ≡ lone_return_at bytes.now k }
-    ensures at { result < length bytes.now → bad_at charset bytes.now result ≡ Some (invalid charset) }
+    ensures at { result < length bytes.now
+        → bad_at charset bytes.now result ≡ Some (invalid charset) }
     ensures front { IsUtf8 (take result bytes.now) }
 {
     match charset {

@@ -1,7 +1,7 @@
 -- As many expressions inside one another as there are terminals are enough.
 --
 -- Carries: Good, good_read, g_target, g_listing_of and 22 more, for Room, Answered,
--- Fronts, Whole and 1 more.
+-- Whole and 1 more.
 use Rattle.std.proofs.Common.{ℕ, zero, suc, ◌≤◌, ◌<◌, arith, List, [], ◌∷◌, ◌++◌, length, Option, Some, None, Bool, true, false, cond}
 use Rattle.pylexeme.specs.declared.kinds.Exact.{Exact}
 use Rattle.pylexeme.specs.declared.kinds.Exact.TheVariants.{LPar, RPar, LSqb, RSqb, LBrace, RBrace, Colon, Comma, Star, Slash, Equal, Dot, DoubleStar, ColonEqual}

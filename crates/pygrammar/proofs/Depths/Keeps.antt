@@ -1,7 +1,7 @@
 -- How deep the reader goes: more depth keeps an answer, and as many levels as terminals are enough.
 --
 -- Carries: k_target, keeps_read, Keeps, AllKeep and 6 more, for Depth, Headers,
--- Whole, Fronts and 1 more.
+-- Whole and 1 more.
 use Rattle.std.proofs.Common.{◌≡◌, ◌⊎◌, inl, inr, refl, sym, ap, ◌∙◌, ℕ, zero, suc, ◌+◌, arith, List, [], ◌∷◌, ◌++◌, length, Option, Some, None, Bool, true, false, cond}
 use Rattle.pylexeme.specs.declared.kinds.Exact.{Exact}
 use Rattle.pylexeme.specs.declared.kinds.Exact.TheVariants.{LPar, RPar, LSqb, RSqb, LBrace, RBrace, Colon, Comma, Star, Equal, Dot, DoubleStar, ColonEqual}

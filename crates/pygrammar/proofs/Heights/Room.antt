@@ -1,7 +1,7 @@
 -- Room above the number of terminals is enough: then the capped reader never
 -- says that it went too deep.
 --
--- Carries: good_capped, slack_most, limited_enough, for Contract, Fronts, Limit. On: Enough, Says,
+-- Carries: good_capped, slack_most, limited_enough, for Contract, Limit. On: Enough, Says,
 -- Soundness/Sound, Caps and 3 more.
 use Rattle.std.proofs.Common.{◌≡◌, inl, inr, refl, sym, ap, subst, ◌∙◌, ℕ, zero, suc, ◌≤◌, ◌<◌, arith, List, [], ◌∷◌, ◌++◌, length, Option, Some, None, cond, append_assoc, length-append}
 use Rattle.std.proofs.lemmas.Bool.{le-leb}
