@@ -10,7 +10,7 @@ use Rattle.pywords.specs.declared.command.Command.{Command}
 use Rattle.pywords.specs.declared.command.Command.TheVariants.{Tokens, Dump, Unparse}
 use Rattle.pycommand.specs.Dumps.{Dumps}
 use Rattle.pycommand.specs.Listings.{output_of, fault_in}
-use Rattle.pycommand.specs.Runs.{TakesAllBut, HoldsFor, WritesFor, Performs, PerformsWhole, Does}
+use Rattle.pycommand.specs.Runs.{TakesAllBut, HoldsFor, WritesFor, Performs, Making, whole, in_pieces, PerformsWhole, Does}
 use Rattle.pycommand.specs.Unparses.{Unparses}
 use Rattle.pyfault.specs.declared.fault.RunFaultCode.{RunFaultCode}
 use Rattle.pyfault.specs.declared.fault.SourceFaultCode.{SourceFaultCode}
@@ -110,19 +110,23 @@ Performs-told output told come_old come_new reads_old reads_new x y limit (InSou
   })
 ]
 
-PerformsWhole-told : (does : List ℕ → List ℕ → Option Fault → Type 0) (come_old come_new : Option (List ℕ)) (reads_old reads_new : ℕ) (x y : Option (List ℕ)) (limit : ℕ) (fault other : Fault)
-    → IsToldAs fault other → PerformsWhole does come_old come_new reads_old reads_new x y limit (Some fault) → PerformsWhole does come_old come_new reads_old reads_new x y limit (Some other)
-PerformsWhole-told does come_old come_new reads_old reads_new x y limit (Plain code) other is p = rw is p
-PerformsWhole-told does come_old come_new reads_old reads_new x y limit (InSource code place) other is p = elim is [
+PerformsWhole-told : (making : Making) (does : List ℕ → List ℕ → Option Fault → Type 0) (come_old come_new : Option (List ℕ)) (reads_old reads_new : ℕ) (x y : Option (List ℕ)) (limit : ℕ) (fault other : Fault)
+    → IsToldAs fault other → PerformsWhole making does come_old come_new reads_old reads_new x y limit (Some fault) → PerformsWhole making does come_old come_new reads_old reads_new x y limit (Some other)
+PerformsWhole-told making does come_old come_new reads_old reads_new x y limit (Plain code) other is p = rw is p
+PerformsWhole-told whole does come_old come_new reads_old reads_new x y limit (InSource code place) other is p = elim is [
   | inl e ↦ rw e p
   | inr e ↦ rw e (p.1.unfailed, p.3)
+]
+PerformsWhole-told in_pieces does come_old come_new reads_old reads_new x y limit (InSource code place) other is p = elim is [
+  | inl e ↦ rw e p
+  | inr e ↦ rw e (p.1.unfailed, inl p.3)
 ]
 
 pub Does-told : (command : Command) (come_old come_new : Option (List ℕ)) (reads_old reads_new : ℕ) (x y : Option (List ℕ)) (limit : ℕ) (fault other : Fault)
     → IsToldAs fault other → Does command come_old come_new reads_old reads_new x y limit (Some fault) → Does command come_old come_new reads_old reads_new x y limit (Some other)
 Does-told (Tokens asked) come_old come_new reads_old reads_new x y limit fault other is p = Performs-told (output_of asked) (fault_in asked) come_old come_new reads_old reads_new x y limit fault other is p
-Does-told (Dump asked) come_old come_new reads_old reads_new x y limit fault other is p = PerformsWhole-told (Dumps asked.style) come_old come_new reads_old reads_new x y limit fault other is p
-Does-told (Unparse asked) come_old come_new reads_old reads_new x y limit fault other is p = PerformsWhole-told (Unparses asked.profile) come_old come_new reads_old reads_new x y limit fault other is p
+Does-told (Dump asked) come_old come_new reads_old reads_new x y limit fault other is p = PerformsWhole-told in_pieces (Dumps asked.style) come_old come_new reads_old reads_new x y limit fault other is p
+Does-told (Unparse asked) come_old come_new reads_old reads_new x y limit fault other is p = PerformsWhole-told whole (Unparses asked.profile) come_old come_new reads_old reads_new x y limit fault other is p
 
 -- a fault without a place is told as itself, and only as that
 pub told-plain : (fault told : Fault) (code : RunFaultCode) → code ≢ Memory → IsToldAs fault told → (told ≡ Plain code → fault ≡ Plain code) × (fault ≡ Plain code → told ≡ Plain code)

@@ -81,7 +81,7 @@ pub(crate) fn leaves<R: ByteIn>(
 
 /// Asserts that a command whose writer takes no more than so many bytes writes those of what it is to write, and tells
 /// that the write failed where there are more.
-fn stops_at(
+pub(crate) fn stops_at(
     rt: &impl Abort,
     alloc: Global,
     command: &Command,
