@@ -172,7 +172,7 @@ none_written making profile output come_old come_new reads_old reads_new x (Plai
 none_written making profile output come_old come_new reads_old reads_new x (Plain other) h = absurd h
 
 -- where a write fails a front of the output is, and else all of it
-module _ {making : Making} {profile : Profile} {output : Module → List ℕ → Type 0} {come_old come_new : Option (List ℕ)} {reads_old reads_new : ℕ} {m : Module} (x y : Option (List ℕ)) (text : List ℕ) where
+module _ (making : Making) {profile : Profile} {output : Module → List ℕ → Type 0} {come_old come_new : Option (List ℕ)} {reads_old reads_new : ℕ} {m : Module} (x y : Option (List ℕ)) (text : List ℕ) where
   pub front_written : ReadsModule profile come_old come_new reads_old reads_new m → output m text → TakesFront x y text
       → PerformsWhole making (Writes profile output) come_old come_new reads_old reads_new x y source_limit (Some (Plain Write))
   front_written reads is front = (reads.input, text, reads.all, of_module reads.is is, front)

@@ -21,5 +21,5 @@ returns-in_err-write_pieces-clause-performs g c =
 
 pub returns-clause-performs : goal.returns-clause-performs
 returns-clause-performs g c =
-    all_written (g.W.ByteOut.taken c.args.writer.now) (g.W.ByteOut.taken c.write_pieces.new.writer) (dump_output c.args.asked.now.style (module_of c.in_ok-module.module)) c.in_ok-module.ensures.reads refl
+    all_written in_pieces (g.W.ByteOut.taken c.args.writer.now) (g.W.ByteOut.taken c.write_pieces.new.writer) (dump_output c.args.asked.now.style (module_of c.in_ok-module.module)) c.in_ok-module.ensures.reads refl
     c.in_ok-write_pieces.ensures.writes.1

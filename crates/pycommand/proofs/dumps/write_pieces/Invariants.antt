@@ -7,7 +7,7 @@ use Rattle.pycommand.proofs.dumps.write_pieces.Given as goal
 
 abbrev pub invariant-pieces : goal.invariant-pieces
 invariant-pieces g l = record {
-  came : TakesAllBut (g.W.ByteOut.taken l.fn.writer) (g.W.ByteOut.taken l.writer) (dump_output l.style (module_of l.module)) (string_bytes l.held) (concat l.pieces ++ codes "\n");
+  came : TakesAllBut (g.W.ByteOut.taken l.fn.writer) (g.W.ByteOut.taken l.writer) (dump_output l.fn.style (module_of l.fn.module)) (string_bytes l.held) (concat l.pieces ++ codes "\n");
   counted : g.W.ByteOut.failure_count l.writer ≡ g.W.ByteOut.failure_count l.fn.writer;
 }
 

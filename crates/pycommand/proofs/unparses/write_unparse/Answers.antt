@@ -15,8 +15,8 @@ pub returns-in_err-write_all-clause-performs :
     goal.returns-in_err-write_all-clause-performs
 returns-in_err-write_all-clause-performs g c =
     let e = err_from_is_err_and c.from_residual-in_err-write_all.result c.from_residual-in_err-write_all.ensures.1 in
-    rw (e.1, e.2) (front_written (g.W.ByteOut.taken c.args.writer.now) (g.W.ByteOut.taken c.write_all.new.writer) (string_bytes c.in_ok-text.text) c.in_ok-module.ensures.reads (is_text c.in_ok-text.ensures.text c.in_ok-module.ensures.back) (rw c.as_bytes.ensures.value at c.in_err-write_all.ensures.front))
+    rw (e.1, e.2) (front_written whole (g.W.ByteOut.taken c.args.writer.now) (g.W.ByteOut.taken c.write_all.new.writer) (string_bytes c.in_ok-text.text) c.in_ok-module.ensures.reads (is_text c.in_ok-text.ensures.text c.in_ok-module.ensures.back) (rw c.as_bytes.ensures.value at c.in_err-write_all.ensures.front))
 
 pub returns-clause-performs : goal.returns-clause-performs
 returns-clause-performs g c =
-    all_written (g.W.ByteOut.taken c.args.writer.now) (g.W.ByteOut.taken c.write_all.new.writer) (string_bytes c.in_ok-text.text) c.in_ok-module.ensures.reads (is_text c.in_ok-text.ensures.text c.in_ok-module.ensures.back) (rw c.as_bytes.ensures.value at c.in_ok-write_all.ensures.ok)
+    all_written whole (g.W.ByteOut.taken c.args.writer.now) (g.W.ByteOut.taken c.write_all.new.writer) (string_bytes c.in_ok-text.text) c.in_ok-module.ensures.reads (is_text c.in_ok-text.ensures.text c.in_ok-module.ensures.back) (rw c.as_bytes.ensures.value at c.in_ok-write_all.ensures.ok)
