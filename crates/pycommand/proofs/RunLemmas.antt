@@ -61,7 +61,7 @@ pub HoldsFor-failed : (output : List ℕ) (told : Option Fault) (x y : Option (L
 HoldsFor-failed output told x y held ended is p = rw is (rw is at p)
 
 -- all of the output is written
-all_written : (output : List ℕ) (x y z : Option (List ℕ)) (held : List ℕ) → TakesAllBut x y output held [] → Appends y z held → Appends x z output
+pub all_written : (output : List ℕ) (x y z : Option (List ℕ)) (held : List ℕ) → TakesAllBut x y output held [] → Appends y z held → Appends x z output
 all_written output x y z held (written, is, p) q = rw (is, append-nil (written ++ held)) (Appends-append x y z written held p q)
 
 -- all that was held at a listing's end is written

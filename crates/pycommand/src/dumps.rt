@@ -1,16 +1,15 @@
 //! The dump of a source, which is read whole.
-ghost use Rattle.std.specs.Prelude.{◌≡◌, ◌≢◌, ◌+◌, ◌-◌, ◌^◌, ◌<◌, Some, None};
+ghost use Rattle.std.specs.Prelude.{◌≡◌, ◌≢◌, ◌+◌, ◌-◌, ◌^◌, ◌<◌, ◌++◌, Some, None, codes};
+ghost use Rattle.std.specs.List.{concat};
 ghost use Rattle.pysource.specs.Limits.{source_limit};
-ghost use Rattle.pynode.specs.TreeOf.{module_of};
 ghost use Rattle.pyfault.specs.declared.fault.Fault.{Fault};
 ghost use Rattle.pyfault.specs.declared.fault.RunFaultCode.{RunFaultCode};
-ghost use Rattle.pycommand.specs.Dumps.{Dumps, dump_output};
+ghost use Rattle.pycommand.specs.Dumps.{Dumps};
 ghost use Rattle.pycommand.specs.Runs.{ended_by, in_pieces, PerformsWhole, WritesFor};
 
 use crate::modules::{leave_to_exit, read_module};
-use pydump::{Pieces, Style};
+use pydump::Pieces;
 use pyfault::Fault;
-use pynode::Module;
 use pysource::{ByteIn, ByteOut, write_all};
 use pywords::Dump;
 use std::alloc::Global;
@@ -21,20 +20,18 @@ const ENOUGH: usize = 65_536;
 /// Room for what is held, so that statements of usual length take no further memory.
 const ROOM: usize = 131_072;
 
-/// Writes the dump of a module, and a line feed, in pieces: the text is never held whole.
+/// Writes the pieces of a dump, and a line feed: the text is never held whole.
 fn write_pieces<W: ByteOut>(
     alloc: Global,
-    module: &Module,
-    style: Style,
+    mut pieces: Pieces<'_>,
     writer: &mut W,
 ) -> Result<(), Fault>
     requires writer { W.failure_count writer.old < 2 ^ 64 - 1 }
-    ensures writes { WritesFor (dump_output style (module_of module.now)) None (W.taken writer.old) (W.taken writer.new) (ended_by result) }
+    ensures writes { WritesFor (concat pieces.entry ++ codes "\n") None (W.taken writer.old) (W.taken writer.new) (ended_by result) }
     ensures failed { ended_by result ≡ Some (Fault.Plain RunFaultCode.Write) → W.failure_count writer.new ≡ W.failure_count writer.old + 1 }
     ensures unfailed { ended_by result ≢ Some (Fault.Plain RunFaultCode.Write) → W.failure_count writer.new ≡ W.failure_count writer.old }
 {
     let mut held = String::with_capacity(alloc, ROOM)?;
-    let mut pieces = Pieces::new(alloc, module, style)?;
     'pieces: while pieces.push_next(&mut held)? {
         if held.len() >= ENOUGH {
             write_all(writer, held.as_bytes())?;
@@ -60,7 +57,8 @@ pub(crate) fn write_dump<R: ByteIn, W: ByteOut>(
     ensures unfailed { ended_by result ≢ Some (Fault.Plain RunFaultCode.Write) → W.failure_count writer.new ≡ W.failure_count writer.old }
 {
     let module = read_module(alloc, asked.style.profile, reader)?;
-    write_pieces(alloc, &module, asked.style, writer)?;
+    let pieces = Pieces::new(alloc, &module, asked.style)?;
+    write_pieces(alloc, pieces, writer)?;
     leave_to_exit(module);
     Ok(())
 }

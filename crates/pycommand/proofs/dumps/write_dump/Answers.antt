@@ -1,5 +1,7 @@
-use Rattle.std.proofs.Common.{◌≡◌, refl}
+use Rattle.std.proofs.Common.{◌≡◌, ◌++◌, ap, codes, inl}
+use Rattle.std.specs.List.{concat}
 use Rattle.std.proofs.lemmas.Result.{err_from_is_err_and}
+use Rattle.pysource.proofs.ByteLemmas.{Appends-refl}
 use Rattle.pynode.specs.TreeOf.{module_of}
 use Rattle.pycommand.specs.Dumps.{dump_output}
 use Rattle.pycommand.specs.Runs.{in_pieces}
@@ -12,14 +14,21 @@ returns-in_err-module-clause-performs g c =
     let e = err_from_is_err_and c.from_residual.result c.from_residual.ensures.1 in
     rw (e.1, e.2) (none_written in_pieces c.args.asked.now.style.profile (λ m output. output ≡ dump_output c.args.asked.now.style m) _ _ _ _ (g.W.ByteOut.taken c.args.writer.now) c.in_err-module.field-0.0 c.in_err-module.ensures.none)
 
+pub returns-in_err-pieces-clause-performs :
+    goal.returns-in_err-pieces-clause-performs
+returns-in_err-pieces-clause-performs g c =
+    let e = err_from_is_err_and c.from_residual-in_err-pieces.result c.from_residual-in_err-pieces.ensures.1 in
+    rw (e.1, e.2) (c.in_ok-module.ensures.reads.all.unfailed, inl (Appends-refl (g.W.ByteOut.taken c.args.writer.now)))
+
 pub returns-in_err-write_pieces-clause-performs :
     goal.returns-in_err-write_pieces-clause-performs
 returns-in_err-write_pieces-clause-performs g c =
     let e = err_from_is_err_and c.from_residual-in_err-write_pieces.result c.from_residual-in_err-write_pieces.ensures.1 in
     rw (e.1, e.2) (pieces_cut c.args.asked.now.style.profile (λ m output. output ≡ dump_output c.args.asked.now.style m) _ _ _ _ (module_of c.in_ok-module.module)
-    (g.W.ByteOut.taken c.args.writer.now) (g.W.ByteOut.taken c.write_pieces.new.writer) _ c.in_err-write_pieces.field-0.0 c.in_ok-module.ensures.reads refl c.in_err-write_pieces.ensures.writes)
+    (g.W.ByteOut.taken c.args.writer.now) (g.W.ByteOut.taken c.write_pieces.new.writer) (concat c.in_ok-pieces.pieces ++ codes "\n") c.in_err-write_pieces.field-0.0 c.in_ok-module.ensures.reads
+    (ap (λ text. text ++ codes "\n") c.in_ok-pieces.ensures) c.in_err-write_pieces.ensures.writes)
 
 pub returns-clause-performs : goal.returns-clause-performs
 returns-clause-performs g c =
-    all_written in_pieces (g.W.ByteOut.taken c.args.writer.now) (g.W.ByteOut.taken c.write_pieces.new.writer) (dump_output c.args.asked.now.style (module_of c.in_ok-module.module)) c.in_ok-module.ensures.reads refl
-    c.in_ok-write_pieces.ensures.writes.1
+    all_written in_pieces (g.W.ByteOut.taken c.args.writer.now) (g.W.ByteOut.taken c.write_pieces.new.writer) (concat c.in_ok-pieces.pieces ++ codes "\n") c.in_ok-module.ensures.reads
+    (ap (λ text. text ++ codes "\n") c.in_ok-pieces.ensures) c.in_ok-write_pieces.ensures.writes.1
