@@ -1,7 +1,6 @@
 -- Carries: write_pieces. On: what of an output that is made in pieces is written, is held and is still to come.
 use Rattle.std.proofs.Common.{◌≡◌, ℕ, List, [], ◌++◌, Option, refl, ap, sym, ◌∙◌, append_assoc, append-nil}
 use Rattle.std.specs.List.{concat}
-use Rattle.std.specs.Io.KnownBytes.{Appends}
 use Rattle.pysource.specs.Bytes.{TakesFront}
 use Rattle.pysource.proofs.ByteLemmas.{Appends-refl}
 use Rattle.pycommand.specs.Runs.{TakesAllBut}
