@@ -44,6 +44,7 @@ fn perform<R: ByteIn, W: ByteOut>(
 ///
 /// `dump` and `unparse` read the source whole. Where a read fails, or the source is too long, that alone is told; and nothing
 /// is written of a source that is refused. What `unparse` writes is itself a source, and is accepted as the same module.
+/// `dump` writes its text in pieces: where memory ends in the midst of it, a front of it was written.
 ///
 /// Behind `dump` and `unparse` the tree of the source is not freed: it is left to the end of the process, whose last act a run is.
 ///
