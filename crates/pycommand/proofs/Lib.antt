@@ -6,3 +6,4 @@ mod ListLemmas
 mod StartLemmas
 mod UnreadLemmas
 mod ModuleLemmas
+mod PieceLemmas

@@ -1,6 +1,5 @@
--- Carries: accept, read_module, write_dump, write_unparse. On: what refuses a source that was read
--- whole, and that the text of its module gives it back.
-use Rattle.std.proofs.Common.{◌≡◌, ℕ, Bool, true, false, cond, List, [], ◌∷◌, Option, Some, None, Result, Ok, Err, sym, subst}
+-- Carries: accept, read_module, write_dump, write_unparse. On: what refuses a source that was read whole, and that the text of its module gives it back.
+use Rattle.std.proofs.Common.{◌≡◌, ℕ, Bool, true, false, cond, List, [], ◌∷◌, Option, Some, None, Result, Ok, Err, sym, subst, inl, inr}
 use Rattle.std.specs.Prelude.{IsUtf8}
 use Rattle.std.specs.Str.{encode_utf8_all}
 use Rattle.std.specs.Io.KnownBytes.{Appends}
@@ -14,8 +13,8 @@ use Rattle.pysource.specs.Parts.{Parts}
 use Rattle.pysource.specs.Sources.{nth_line, parts_under, source_of, source_under, UnlessMemory}
 use Rattle.pysource.specs.declared.encodings.SourceFault.{SourceFault}
 use Rattle.pysource.specs.declared.encodings.SourceFault.TheVariants as source_faults
-use Rattle.pysource.proofs.TakenBytes.ByteLemmas.{Appends-refl}
-use Rattle.pysource.proofs.FaultyLines.GoodLemmas.{good_utf8}
+use Rattle.pysource.proofs.ByteLemmas.{Appends-refl}
+use Rattle.pysource.proofs.GoodLemmas.{good_utf8}
 use Rattle.pylex.specs.Laws.{IsLawful}
 use Rattle.pylex.specs.declared.entries.Entry.{Entry}
 use Rattle.pylex.specs.declared.entries.ListingError.{ListingError}
@@ -42,12 +41,12 @@ use Rattle.pyparse.specs.declared.faults.ParseFault.TheVariants as parse_faults
 use Rattle.pyfault.specs.Faults.{listing_code, told_at, of_parse, of_refusal, of_source}
 use Rattle.pyfault.specs.declared.fault.Fault.{Fault}
 use Rattle.pyfault.specs.declared.fault.Fault.TheVariants.{InSource, Plain}
-use Rattle.pyfault.specs.declared.fault.RunFaultCode.TheVariants.{Read, Write, Memory}
+use Rattle.pyfault.specs.declared.fault.RunFaultCode.TheVariants.{Read, Write, Memory, CursorOfAnotherSource}
 use Rattle.pywritten.specs.Modules.{module_text}
 use Rattle.pywritten.proofs.Callers.Texts.{accepted_texts_are_accepted}
 use Rattle.pyunparse.specs.RoundTrips.{GivesBack}
 use Rattle.pycommand.specs.Modules.{IsRefused, no_source, refused, Writes, of_module, of_none}
-use Rattle.pycommand.specs.Runs.{ReadsAll, PerformsWhole}
+use Rattle.pycommand.specs.Runs.{Making, whole, in_pieces, ReadsAll, WritesFor, PerformsWhole}
 use Rattle.pycommand.specs.Unparses.{IsTextOf}
 use Rattle.pycommand.specs.Inner.Reading.{Refuses, ReadsModule, ReadsNone}
 use Rattle.pycommand.proofs.UnreadLemmas.{listing_is_read}
@@ -164,22 +163,34 @@ reads_none profile come_old come_new reads_old reads_new input (Plain Memory) al
 reads_none profile come_old come_new reads_old reads_new input (Plain other) all h = absurd h
 
 -- where there is no module nothing is written
-pub none_written : (profile : Profile) (output : Module → List ℕ → Type 0) (come_old come_new : Option (List ℕ)) (reads_old reads_new : ℕ) (x : Option (List ℕ)) (fault : Fault)
-    → ReadsNone profile come_old come_new reads_old reads_new fault → PerformsWhole (Writes profile output) come_old come_new reads_old reads_new x x source_limit (Some fault)
-none_written profile output come_old come_new reads_old reads_new x (InSource code place) h = (h.0, h.1, of_none h.2, Appends-refl x)
-none_written profile output come_old come_new reads_old reads_new x (Plain Memory) h = (h, Appends-refl x)
-none_written profile output come_old come_new reads_old reads_new x (Plain Read) h = (h, Appends-refl x)
-none_written profile output come_old come_new reads_old reads_new x (Plain other) h = absurd h
+pub none_written : (making : Making) (profile : Profile) (output : Module → List ℕ → Type 0) (come_old come_new : Option (List ℕ)) (reads_old reads_new : ℕ) (x : Option (List ℕ)) (fault : Fault)
+    → ReadsNone profile come_old come_new reads_old reads_new fault → PerformsWhole making (Writes profile output) come_old come_new reads_old reads_new x x source_limit (Some fault)
+none_written making profile output come_old come_new reads_old reads_new x (InSource code place) h = (h.0, h.1, of_none h.2, Appends-refl x)
+none_written whole profile output come_old come_new reads_old reads_new x (Plain Memory) h = (h, Appends-refl x)
+none_written in_pieces profile output come_old come_new reads_old reads_new x (Plain Memory) h = (h, inl (Appends-refl x))
+none_written making profile output come_old come_new reads_old reads_new x (Plain Read) h = (h, Appends-refl x)
+none_written making profile output come_old come_new reads_old reads_new x (Plain other) h = absurd h
 
 -- where a write fails a front of the output is, and else all of it
-module _ {profile : Profile} {output : Module → List ℕ → Type 0} {come_old come_new : Option (List ℕ)} {reads_old reads_new : ℕ} {m : Module} (x y : Option (List ℕ)) (text : List ℕ) where
+module _ (making : Making) {profile : Profile} {output : Module → List ℕ → Type 0} {come_old come_new : Option (List ℕ)} {reads_old reads_new : ℕ} {m : Module} (x y : Option (List ℕ)) (text : List ℕ) where
   pub front_written : ReadsModule profile come_old come_new reads_old reads_new m → output m text → TakesFront x y text
-      → PerformsWhole (Writes profile output) come_old come_new reads_old reads_new x y source_limit (Some (Plain Write))
+      → PerformsWhole making (Writes profile output) come_old come_new reads_old reads_new x y source_limit (Some (Plain Write))
   front_written reads is front = (reads.input, text, reads.all, of_module reads.is is, front)
 
   pub all_written : ReadsModule profile come_old come_new reads_old reads_new m → output m text → Appends x y text
-      → PerformsWhole (Writes profile output) come_old come_new reads_old reads_new x y source_limit None
+      → PerformsWhole making (Writes profile output) come_old come_new reads_old reads_new x y source_limit None
   all_written reads is all = (reads.input, text, reads.all, of_module reads.is is, all)
+
+-- where memory ends while the output is made in pieces, a front of it is written
+pub pieces_cut : (profile : Profile) (output : Module → List ℕ → Type 0) (come_old come_new : Option (List ℕ)) (reads_old reads_new : ℕ) (m : Module) (x y : Option (List ℕ)) (text : List ℕ) (fault : Fault)
+    → ReadsModule profile come_old come_new reads_old reads_new m → output m text → WritesFor text None x y (Some fault)
+    → PerformsWhole in_pieces (Writes profile output) come_old come_new reads_old reads_new x y source_limit (Some fault)
+pieces_cut profile output come_old come_new reads_old reads_new m x y text (InSource code place) reads is h = cc
+pieces_cut profile output come_old come_new reads_old reads_new m x y text (Plain Read) reads is h = cc
+pieces_cut profile output come_old come_new reads_old reads_new m x y text (Plain Write) reads is h = (reads.input, text, reads.all, of_module reads.is is, h)
+pieces_cut profile output come_old come_new reads_old reads_new m x y text (Plain Memory) reads is h = (reads.all.unfailed, inr (reads.input, text, reads.all, of_module reads.is is, h))
+pieces_cut profile output come_old come_new reads_old reads_new m x y text (Plain CursorOfAnotherSource) reads is h = cc
+pieces_cut profile output come_old come_new reads_old reads_new m x y text (Plain other) reads is h = absurd h
 
 -- the text of a module that its own text gives back
 pub is_text : {profile : Profile} {m : Module} {text : List ℕ} → text ≡ encode_utf8_all (module_text m) → GivesBack profile (encode_utf8_all (module_text m)) m → IsTextOf profile m text

@@ -12,7 +12,7 @@ use Rattle.pywords.specs.declared.command.Command.{Command}
 use Rattle.pywords.specs.declared.command.Command.TheVariants.{Tokens, Dump, Unparse}
 use Rattle.pycommand.specs.Dumps.{Dumps}
 use Rattle.pycommand.specs.Listings.{output_of, fault_in}
-use Rattle.pycommand.specs.Runs.{TakesAllBut, HoldsFor, WritesFor, Performs, PerformsWhole, Does}
+use Rattle.pycommand.specs.Runs.{TakesAllBut, HoldsFor, WritesFor, Performs, Making, whole, in_pieces, PerformsWhole, Does}
 use Rattle.pycommand.specs.Unparses.{Unparses}
 use Rattle.pyfault.specs.declared.fault.RunFaultCode.{RunFaultCode}
 use Rattle.pyfault.specs.declared.fault.SourceFaultCode.{SourceFaultCode}
@@ -63,7 +63,7 @@ pub HoldsFor-failed : (output : List ℕ) (told : Option Fault) (x y : Option (L
 HoldsFor-failed output told x y held ended is p = rw is (rw is at p)
 
 -- all of the output is written
-all_written : (output : List ℕ) (x y z : Option (List ℕ)) (held : List ℕ) → TakesAllBut x y output held [] → Appends y z held → Appends x z output
+pub all_written : (output : List ℕ) (x y z : Option (List ℕ)) (held : List ℕ) → TakesAllBut x y output held [] → Appends y z held → Appends x z output
 all_written output x y z held (written, is, p) q = rw (is, append-nil (written ++ held)) (Appends-append x y z written held p q)
 
 -- all that was held at a listing's end is written
@@ -112,19 +112,23 @@ Performs-told output told come_old come_new reads_old reads_new x y limit (InSou
   })
 ]
 
-PerformsWhole-told : (does : List ℕ → List ℕ → Option Fault → Type 0) (come_old come_new : Option (List ℕ)) (reads_old reads_new : ℕ) (x y : Option (List ℕ)) (limit : ℕ) (fault other : Fault)
-    → IsToldAs fault other → PerformsWhole does come_old come_new reads_old reads_new x y limit (Some fault) → PerformsWhole does come_old come_new reads_old reads_new x y limit (Some other)
-PerformsWhole-told does come_old come_new reads_old reads_new x y limit (Plain code) other is p = rw is p
-PerformsWhole-told does come_old come_new reads_old reads_new x y limit (InSource code place) other is p = elim is [
+PerformsWhole-told : (making : Making) (does : List ℕ → List ℕ → Option Fault → Type 0) (come_old come_new : Option (List ℕ)) (reads_old reads_new : ℕ) (x y : Option (List ℕ)) (limit : ℕ) (fault other : Fault)
+    → IsToldAs fault other → PerformsWhole making does come_old come_new reads_old reads_new x y limit (Some fault) → PerformsWhole making does come_old come_new reads_old reads_new x y limit (Some other)
+PerformsWhole-told making does come_old come_new reads_old reads_new x y limit (Plain code) other is p = rw is p
+PerformsWhole-told whole does come_old come_new reads_old reads_new x y limit (InSource code place) other is p = elim is [
   | inl e ↦ rw e p
   | inr e ↦ rw e (p.1.unfailed, p.3)
+]
+PerformsWhole-told in_pieces does come_old come_new reads_old reads_new x y limit (InSource code place) other is p = elim is [
+  | inl e ↦ rw e p
+  | inr e ↦ rw e (p.1.unfailed, inl p.3)
 ]
 
 pub Does-told : (command : Command) (come_old come_new : Option (List ℕ)) (reads_old reads_new : ℕ) (x y : Option (List ℕ)) (limit : ℕ) (fault other : Fault)
     → IsToldAs fault other → Does command come_old come_new reads_old reads_new x y limit (Some fault) → Does command come_old come_new reads_old reads_new x y limit (Some other)
 Does-told (Tokens asked) come_old come_new reads_old reads_new x y limit fault other is p = Performs-told (output_of asked) (fault_in asked) come_old come_new reads_old reads_new x y limit fault other is p
-Does-told (Dump asked) come_old come_new reads_old reads_new x y limit fault other is p = PerformsWhole-told (Dumps asked.style) come_old come_new reads_old reads_new x y limit fault other is p
-Does-told (Unparse asked) come_old come_new reads_old reads_new x y limit fault other is p = PerformsWhole-told (Unparses asked.profile) come_old come_new reads_old reads_new x y limit fault other is p
+Does-told (Dump asked) come_old come_new reads_old reads_new x y limit fault other is p = PerformsWhole-told in_pieces (Dumps asked.style) come_old come_new reads_old reads_new x y limit fault other is p
+Does-told (Unparse asked) come_old come_new reads_old reads_new x y limit fault other is p = PerformsWhole-told whole (Unparses asked.profile) come_old come_new reads_old reads_new x y limit fault other is p
 
 -- a fault without a place is told as itself, and only as that
 pub told-plain : (fault told : Fault) (code : RunFaultCode) → code ≢ Memory → IsToldAs fault told → (told ≡ Plain code → fault ≡ Plain code) × (fault ≡ Plain code → told ≡ Plain code)

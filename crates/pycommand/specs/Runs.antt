@@ -72,25 +72,36 @@ pub record ReadsAll (come_old come_new : Option (List ℕ)) (reads_old reads_new
 abbrev pub ReadsNotAll : Option (List ℕ) → Option (List ℕ) → ℕ → ℕ → ℕ → Type 0
 ReadsNotAll come_old come_new reads_old reads_new limit = (reads_new ≢ reads_old) ⊎ GivesTooMany come_old come_new limit
 
+-- a front was written of the output of a source that was read whole and is accepted
+abbrev pub WritesFront : (List ℕ → List ℕ → Option Fault → Type 0) → Option (List ℕ) → Option (List ℕ) → ℕ → ℕ → Option (List ℕ) → Option (List ℕ) → ℕ → Type 0
+WritesFront does come_old come_new reads_old reads_new old new limit =
+    (input output : List ℕ) × ReadsAll come_old come_new reads_old reads_new limit input × does input output None × TakesFront old new output
+
+-- how an output is made: whole before any of it is written, or piece by piece as it is written
+pub data Making : Type 0 where
+  whole : Making
+  in_pieces : Making
+
 -- A run that reads its source whole first ended by a fault or by none; its output and the fault that it tells are known by the bytes.
--- Nothing was written where a read failed, the source is at fault or memory was wanting, and a front of the output where a write failed.
-abbrev pub PerformsWhole : (List ℕ → List ℕ → Option Fault → Type 0) → Option (List ℕ) → Option (List ℕ) → ℕ → ℕ → Option (List ℕ) → Option (List ℕ) → ℕ → Option Fault → Type 0
-PerformsWhole does come_old come_new reads_old reads_new old new limit None =
+-- Nothing was written where a read failed or the source is at fault, and a front of the output where a write failed. Where memory was
+-- wanting nothing was written, or of an output that is made in pieces a front.
+abbrev pub PerformsWhole : Making → (List ℕ → List ℕ → Option Fault → Type 0) → Option (List ℕ) → Option (List ℕ) → ℕ → ℕ → Option (List ℕ) → Option (List ℕ) → ℕ → Option Fault → Type 0
+PerformsWhole making does come_old come_new reads_old reads_new old new limit None =
     (input output : List ℕ) × ReadsAll come_old come_new reads_old reads_new limit input × does input output None × Appends old new output
-PerformsWhole does come_old come_new reads_old reads_new old new limit (Some (InSource code place)) =
+PerformsWhole making does come_old come_new reads_old reads_new old new limit (Some (InSource code place)) =
     (input : List ℕ) × ReadsAll come_old come_new reads_old reads_new limit input × does input [] (Some (InSource code place)) × Appends old new []
-PerformsWhole does come_old come_new reads_old reads_new old new limit (Some (Plain code)) = elim code [
+PerformsWhole making does come_old come_new reads_old reads_new old new limit (Some (Plain code)) = elim code [
   | Read ↦ ReadsNotAll come_old come_new reads_old reads_new limit × Appends old new []
-  | Write ↦ (input output : List ℕ) × ReadsAll come_old come_new reads_old reads_new limit input × does input output None × TakesFront old new output
-  | Memory ↦ (reads_new ≡ reads_old) × Appends old new []
+  | Write ↦ WritesFront does come_old come_new reads_old reads_new old new limit
+  | Memory ↦ (reads_new ≡ reads_old) × elim making [ whole ↦ Appends old new [] | in_pieces ↦ Appends old new [] ⊎ WritesFront does come_old come_new reads_old reads_new old new limit ]
   | _ ↦ ⊥
 ]
 
--- What a command does with what its reader gives: `tokens` reads it line by line, `dump` and `unparse` whole.
+-- What a command does with what its reader gives: `tokens` reads it line by line, `dump` and `unparse` whole. The text of a dump is made in pieces.
 abbrev pub Does : Command → Option (List ℕ) → Option (List ℕ) → ℕ → ℕ → Option (List ℕ) → Option (List ℕ) → ℕ → Option Fault → Type 0
 Does (Tokens asked) = Performs (output_of asked) (fault_in asked)
-Does (Dump asked) = PerformsWhole (Dumps asked.style)
-Does (Unparse asked) = PerformsWhole (Unparses asked.profile)
+Does (Dump asked) = PerformsWhole in_pieces (Dumps asked.style)
+Does (Unparse asked) = PerformsWhole whole (Unparses asked.profile)
 
 -- the fault line of a run, empty where it ended well
 abbrev pub told_line : List ℕ → Option Fault → List ℕ

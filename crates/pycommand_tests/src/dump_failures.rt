@@ -3,7 +3,7 @@
 use crate::dumps::command;
 use crate::expected::{
     Left, failing_reader, leaves, reader, same_answer, same_bytes, same_status, stops_anywhere,
-    writer,
+    stops_at, writer,
 };
 use fakes::FakeWriter;
 use pycommand::{Command, run};
@@ -60,8 +60,33 @@ fn stops_where_the_writer_fails(rt: HostRuntime) -> Result<(), Fail> {
     Ok(())
 }
 
-/// Asserts that the line of a fault is written up to so many bytes, and the status is that of the
-/// fault.
+// A long dump is written in pieces, here of 65,556 and 9,457 bytes. What the writer took is a front of it, whichever fails.
+#[test]
+fn stops_where_a_piece_fails(rt: HostRuntime) -> Result<(), Fail> {
+    let command = command(rt.alloc(), "dump --bare")?;
+    let mut source = String::new(rt.alloc());
+    let mut whole = String::from_str(rt.alloc(), "Module([Expr(Name('x', Load()))")?;
+    source.push_str("x\n")?;
+    for _ in 1..3_000 {
+        source.push_str("x\n")?;
+        whole.push_str(", Expr(Name('x', Load()))")?;
+    }
+    whole.push_str("], [])\n")?;
+    for room in [0usize, 65_555, 65_556, 65_557, 75_012, 75_013] {
+        stops_at(
+            &rt,
+            rt.alloc(),
+            &command,
+            source.as_bytes(),
+            whole.as_bytes(),
+            room,
+            false,
+        );
+    }
+    Ok(())
+}
+
+/// Asserts that the line of a fault is written up to so many bytes, and the status is that of the fault.
 fn keeps_its_status(rt: &impl Abort, alloc: Global, command: &Command, line: &[u8], room: usize) {
     assert!(rt; room <= line.len());
     let mut reader = reader(b"x = 1.5\n");

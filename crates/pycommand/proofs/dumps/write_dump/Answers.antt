@@ -1,21 +1,34 @@
-use Rattle.std.proofs.Common.{◌≡◌, string_bytes}
+use Rattle.std.proofs.Common.{◌≡◌, ◌++◌, ap, codes, inl}
+use Rattle.std.specs.List.{concat}
 use Rattle.std.proofs.lemmas.Result.{err_from_is_err_and}
+use Rattle.pysource.proofs.ByteLemmas.{Appends-refl}
+use Rattle.pynode.specs.TreeOf.{module_of}
 use Rattle.pycommand.specs.Dumps.{dump_output}
-use Rattle.pycommand.proofs.ModuleLemmas.{all_written, front_written, none_written}
+use Rattle.pycommand.specs.Runs.{in_pieces}
+use Rattle.pycommand.proofs.ModuleLemmas.{all_written, none_written, pieces_cut}
 use Rattle.pycommand.proofs.dumps.write_dump.Goals as goal
 
 pub returns-in_err-module-clause-performs :
     goal.returns-in_err-module-clause-performs
 returns-in_err-module-clause-performs g c =
     let e = err_from_is_err_and c.from_residual.result c.from_residual.ensures.1 in
-    rw (e.1, e.2) (none_written c.args.asked.now.style.profile (λ m output. output ≡ dump_output c.args.asked.now.style m) _ _ _ _ (g.W.ByteOut.taken c.args.writer.now) c.in_err-module.field-0.0 c.in_err-module.ensures.none)
+    rw (e.1, e.2) (none_written in_pieces c.args.asked.now.style.profile (λ m output. output ≡ dump_output c.args.asked.now.style m) _ _ _ _ (g.W.ByteOut.taken c.args.writer.now) c.in_err-module.field-0.0 c.in_err-module.ensures.none)
 
-pub returns-in_err-write_all-clause-performs :
-    goal.returns-in_err-write_all-clause-performs
-returns-in_err-write_all-clause-performs g c =
-    let e = err_from_is_err_and c.from_residual-in_err-write_all.result c.from_residual-in_err-write_all.ensures.1 in
-    rw (e.1, e.2) (front_written (g.W.ByteOut.taken c.args.writer.now) (g.W.ByteOut.taken c.write_all.new.writer) (string_bytes c.in_ok-text.text) c.in_ok-module.ensures.reads c.in_ok-text.ensures (rw c.as_bytes.ensures.value at c.in_err-write_all.ensures.front))
+pub returns-in_err-pieces-clause-performs :
+    goal.returns-in_err-pieces-clause-performs
+returns-in_err-pieces-clause-performs g c =
+    let e = err_from_is_err_and c.from_residual-in_err-pieces.result c.from_residual-in_err-pieces.ensures.1 in
+    rw (e.1, e.2) (c.in_ok-module.ensures.reads.all.unfailed, inl (Appends-refl (g.W.ByteOut.taken c.args.writer.now)))
+
+pub returns-in_err-write_pieces-clause-performs :
+    goal.returns-in_err-write_pieces-clause-performs
+returns-in_err-write_pieces-clause-performs g c =
+    let e = err_from_is_err_and c.from_residual-in_err-write_pieces.result c.from_residual-in_err-write_pieces.ensures.1 in
+    rw (e.1, e.2) (pieces_cut c.args.asked.now.style.profile (λ m output. output ≡ dump_output c.args.asked.now.style m) _ _ _ _ (module_of c.in_ok-module.module)
+    (g.W.ByteOut.taken c.args.writer.now) (g.W.ByteOut.taken c.write_pieces.new.writer) (concat c.in_ok-pieces.pieces ++ codes "\n") c.in_err-write_pieces.field-0.0 c.in_ok-module.ensures.reads
+    (ap (λ text. text ++ codes "\n") c.in_ok-pieces.ensures) c.in_err-write_pieces.ensures.writes)
 
 pub returns-clause-performs : goal.returns-clause-performs
 returns-clause-performs g c =
-    all_written (g.W.ByteOut.taken c.args.writer.now) (g.W.ByteOut.taken c.write_all.new.writer) (string_bytes c.in_ok-text.text) c.in_ok-module.ensures.reads c.in_ok-text.ensures (rw c.as_bytes.ensures.value at c.in_ok-write_all.ensures.ok)
+    all_written in_pieces (g.W.ByteOut.taken c.args.writer.now) (g.W.ByteOut.taken c.write_pieces.new.writer) (concat c.in_ok-pieces.pieces ++ codes "\n") c.in_ok-module.ensures.reads
+    (ap (λ text. text ++ codes "\n") c.in_ok-pieces.ensures) c.in_ok-write_pieces.ensures.writes.1

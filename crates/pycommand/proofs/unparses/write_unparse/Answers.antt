@@ -1,5 +1,6 @@
 use Rattle.std.proofs.Common.{string_bytes}
 use Rattle.std.proofs.lemmas.Result.{err_from_is_err_and}
+use Rattle.pycommand.specs.Runs.{whole}
 use Rattle.pycommand.specs.Unparses.{IsTextOf}
 use Rattle.pycommand.proofs.ModuleLemmas.{all_written, front_written, is_text, none_written}
 use Rattle.pycommand.proofs.unparses.write_unparse.Goals as goal
@@ -8,14 +9,14 @@ pub returns-in_err-module-clause-performs :
     goal.returns-in_err-module-clause-performs
 returns-in_err-module-clause-performs g c =
     let e = err_from_is_err_and c.from_residual.result c.from_residual.ensures.1 in
-    rw (e.1, e.2) (none_written c.args.asked.now.profile (IsTextOf c.args.asked.now.profile) _ _ _ _ (g.W.ByteOut.taken c.args.writer.now) c.in_err-module.field-0.0 c.in_err-module.ensures.none)
+    rw (e.1, e.2) (none_written whole c.args.asked.now.profile (IsTextOf c.args.asked.now.profile) _ _ _ _ (g.W.ByteOut.taken c.args.writer.now) c.in_err-module.field-0.0 c.in_err-module.ensures.none)
 
 pub returns-in_err-write_all-clause-performs :
     goal.returns-in_err-write_all-clause-performs
 returns-in_err-write_all-clause-performs g c =
     let e = err_from_is_err_and c.from_residual-in_err-write_all.result c.from_residual-in_err-write_all.ensures.1 in
-    rw (e.1, e.2) (front_written (g.W.ByteOut.taken c.args.writer.now) (g.W.ByteOut.taken c.write_all.new.writer) (string_bytes c.in_ok-text.text) c.in_ok-module.ensures.reads (is_text c.in_ok-text.ensures.text c.in_ok-module.ensures.back) (rw c.as_bytes.ensures.value at c.in_err-write_all.ensures.front))
+    rw (e.1, e.2) (front_written whole (g.W.ByteOut.taken c.args.writer.now) (g.W.ByteOut.taken c.write_all.new.writer) (string_bytes c.in_ok-text.text) c.in_ok-module.ensures.reads (is_text c.in_ok-text.ensures.text c.in_ok-module.ensures.back) (rw c.as_bytes.ensures.value at c.in_err-write_all.ensures.front))
 
 pub returns-clause-performs : goal.returns-clause-performs
 returns-clause-performs g c =
-    all_written (g.W.ByteOut.taken c.args.writer.now) (g.W.ByteOut.taken c.write_all.new.writer) (string_bytes c.in_ok-text.text) c.in_ok-module.ensures.reads (is_text c.in_ok-text.ensures.text c.in_ok-module.ensures.back) (rw c.as_bytes.ensures.value at c.in_ok-write_all.ensures.ok)
+    all_written whole (g.W.ByteOut.taken c.args.writer.now) (g.W.ByteOut.taken c.write_all.new.writer) (string_bytes c.in_ok-text.text) c.in_ok-module.ensures.reads (is_text c.in_ok-text.ensures.text c.in_ok-module.ensures.back) (rw c.as_bytes.ensures.value at c.in_ok-write_all.ensures.ok)

@@ -1,0 +1,13 @@
+use Rattle.std.proofs.Common.{◌≡◌, ◌++◌, codes, length, string_bytes}
+use Rattle.std.specs.List.{concat}
+use Rattle.pycommand.specs.Runs.{TakesAllBut}
+use Rattle.pycommand.proofs.dumps.write_pieces.Given as goal
+
+abbrev pub invariant-pieces : goal.invariant-pieces
+invariant-pieces g l = record {
+  came : TakesAllBut (g.W.ByteOut.taken l.fn.writer) (g.W.ByteOut.taken l.writer) (concat l.fn.pieces ++ codes "\n") (string_bytes l.held) (concat l.pieces ++ codes "\n");
+  counted : g.W.ByteOut.failure_count l.writer ≡ g.W.ByteOut.failure_count l.fn.writer;
+}
+
+abbrev pub decreases-pieces : goal.decreases-pieces
+decreases-pieces g l = length l.pieces
