@@ -1,5 +1,5 @@
-//! Tells of each line of a source which expression it is, or times how they are read: a crate of its
-//! own, over pyparse.
+//! Tells of each line of a source which expression it is, or times how they are read: a crate of
+//! its own, over pyparse.
 //!
 //! `expression_dumps [WHAT]` reads the standard input as a source. By `dump`, and with no word, it
 //! writes the dump of each line that is an expression, and of each other one why it is none. By

@@ -59,7 +59,8 @@ impl ByteIn for FakeReader<'_> {
     fn read(&mut self, buf: &mut [u8]) -> Result<usize, ReadFailed>
         requires { self.old.failures < 2 ^ 64 - 1 }
         ensures bound { ReadsAtMost result buf.new }
-        ensures bytes { ReadConsumes (Some self.old.bytes.now) (Some self.new.bytes.now) result buf.new }
+        ensures bytes { ReadConsumes (Some self.old.bytes.now)
+            (Some self.new.bytes.now) result buf.new }
         ensures failed { self.new.failures ≡ self.old.failures + read_failures result }
         ensures same { self.new.fails ≡ self.old.fails }
         ensures able { OnErr result (self.old.fails ≡ true) }

@@ -58,7 +58,8 @@ impl ByteOut for FakeWriter {
     fn write(&mut self, buf: &[u8]) -> Result<usize, WriteFailed>
         requires { self.old.failures < 2 ^ 64 - 1 }
         ensures bound { WritesAtMost result buf.now }
-        ensures bytes { WriteAppends (Some self.old.taken.items) (Some self.new.taken.items) result buf.now }
+        ensures bytes { WriteAppends (Some self.old.taken.items)
+            (Some self.new.taken.items) result buf.now }
         ensures failed { self.new.failures ≡ self.old.failures + write_failures result buf.now }
         ensures most { IfOk result (λ count. count ≤ self.old.most) }
         ensures room { IfOk result (λ count. count + self.new.room ≡ self.old.room) }

@@ -6,7 +6,8 @@ use pysource::{Counted, write_all};
 use std::io::ErrorKind;
 use std::process::ExitCode;
 
-/// The words after the program's name. They come as one list or not at all: where one is no text, they give no command.
+/// The words after the program's name. They come as one list or not at all: where one is no text,
+/// they give no command.
 fn words(rt: &HostRuntime) -> Result<Vec<String>, UsageFault> {
     match std::env::args(rt) {
         Ok(all) => Ok(all.skip(1).collect(rt.alloc())?),

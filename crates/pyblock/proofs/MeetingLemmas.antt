@@ -1,3 +1,5 @@
+-- What a header finds, and where decorators stand.
+--
 -- Carries: meet, mark.
 use Rattle.std.proofs.Common.{◌≡◌, List, [], ◌∷◌, ◌++◌, Some, None, Bool, true, false, cond, refl, ap, append-nil}
 use Rattle.std.specs.declared.alloc.Global.{Global}

@@ -8,6 +8,7 @@ ghost use Rattle.pyblock.specs.Inner.Meeting.{closed};
 ghost use Rattle.pyblock.specs.Values.{group_of};
 
 use crate::groups::{Group, Part};
+use crate::room::append;
 use crate::statements::{choice_statement, loop_statement, try_statement};
 use pynode::Stmt;
 use pyoutline::{BlockFault, Stop};
@@ -20,8 +21,7 @@ pub(crate) fn put(statements: &mut Vec<Stmt>, one: Stmt) -> Result<(), AllocErro
         (map stmt_of statements.new.items
         ≡ map stmt_of statements.old.items ++ stmt_of one ∷ []) }
 {
-    statements.push(one)?;
-    Ok(())
+    append(statements, one)
 }
 
 /// Statements, and more of them.
@@ -31,7 +31,11 @@ pub(crate) fn put_all(statements: &mut Vec<Stmt>, more: Vec<Stmt>) -> Result<(),
         ≡ map stmt_of statements.old.items ++ map stmt_of more.items) }
 {
     let mut more = more;
-    statements.append(&mut more)?;
+    if statements.is_empty() {
+        mem::swap(statements, &mut more);
+    } else {
+        statements.append(&mut more)?;
+    }
     Ok(())
 }
 

@@ -10,6 +10,7 @@ ghost use Rattle.pyblock.specs.Values.{arm_of, group_of};
 
 use crate::closing::put;
 use crate::groups::{Arm, Group, Part};
+use crate::room::append;
 use crate::statements::{
     choice_statement, definition_statement, handler, loop_statement, try_statement, with_statement,
 };
@@ -23,7 +24,7 @@ fn with_arm(arms: Vec<Arm>, arm: Arm) -> Result<Vec<Arm>, AllocError>
     ensures { IfOk result (λ v. map arm_of v.items ≡ map arm_of arms.items ++ arm_of arm ∷ []) }
 {
     let mut arms = arms;
-    arms.push(arm)?;
+    append(&mut arms, arm)?;
     Ok(arms)
 }
 
@@ -33,7 +34,7 @@ fn with_handler(handlers: Vec<Handler>, handler: Handler) -> Result<Vec<Handler>
         ≡ map handler_of handlers.items ++ handler_of handler ∷ []) }
 {
     let mut handlers = handlers;
-    handlers.push(handler)?;
+    append(&mut handlers, handler)?;
     Ok(handlers)
 }
 

@@ -17,6 +17,7 @@ mod closing;
 mod groups;
 mod growing;
 mod meeting;
+mod room;
 mod stack;
 mod statements;
 

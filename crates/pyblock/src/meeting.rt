@@ -10,6 +10,7 @@ ghost use Rattle.pyblock.specs.Values.{group_of, part_of};
 
 use crate::closing::{close, end_group};
 use crate::groups::{Group, Part};
+use crate::room::append;
 use pyform::Header;
 use pynode::Expr;
 use pyoutline::{BlockFault, Stop};
@@ -78,7 +79,7 @@ fn with_expr(expressions: Vec<Expr>, one: Box<Expr>) -> Result<Vec<Expr>, AllocE
         (λ v. map tree_of v.items ≡ map tree_of expressions.items ++ tree_of one.value ∷ []) }
 {
     let mut expressions = expressions;
-    expressions.push(Box::into_inner(one))?;
+    append(&mut expressions, Box::into_inner(one))?;
     Ok(expressions)
 }
 

@@ -73,7 +73,8 @@ impl Stack {
     /// The levels above this one come to their end.
     #[tactic(auto, using(crate::proofs::LevelLemmas::ending))]
     fn settle(&mut self, alloc: Global, level: usize) -> Result<(), Stop>
-        ensures settled { OnOk result (settle level (state_of self.old) ≡ Fine (state_of self.new)) }
+        ensures settled { OnOk result
+            (settle level (state_of self.old) ≡ Fine (state_of self.new)) }
         ensures refused { IfErr result (Tells (settle level (state_of self.old))) }
     {
         while level < self.below.len() {

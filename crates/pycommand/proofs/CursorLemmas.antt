@@ -1,4 +1,6 @@
 -- Where a listing begins that goes on from a cursor.
+--
+-- Carries: starts_behind, starts_nowhere, for StartLemmas.
 use Rattle.std.proofs.Common.{◌≡◌, Bool, true, false, refl, Some, None}
 use Rattle.pylex.specs.Cursors.{CursorParts}
 use Rattle.pylex.specs.Listing.{Source}

@@ -1,12 +1,14 @@
 -- How far the listing of a lister has come that reads line by line.
+--
+-- Carries: list. On: OutputLemmas, RunLemmas, TakenLemmas.
 use Rattle.std.proofs.Common.{◌≡◌, ◌≢◌, ℕ, ◌+◌, ◌-◌, ◌<◌, ◌≤◌, Bool, List, [], ◌++◌, slice_get, refl, sym, ap, subst, ◌∙◌, Option, Some, None, Result, Ok, append_assoc, option_map, arith}
 use Rattle.std.specs.declared.alloc.AllocError.{AllocError}
 use Rattle.std.specs.Io.KnownBytes.{Appends}
 use Rattle.pysource.specs.Parts.{Parts}
 use Rattle.pysource.specs.Streams.{Reads}
 use Rattle.pysource.specs.Limits.{source_limit}
-use Rattle.pysource.proofs.ByteLemmas.{Appends-refl}
-use Rattle.pysource.proofs.TakingLemmas.{Takes-none, Takes-on}
+use Rattle.pysource.proofs.TakenBytes.ByteLemmas.{Appends-refl}
+use Rattle.pysource.proofs.TakenBytes.TakingLemmas.{Takes-none, Takes-on}
 use Rattle.pylex.specs.declared.entries.Entry.{Entry}
 use Rattle.pylex.specs.declared.entries.ListingFault.{ListingFault}
 use Rattle.pylex.specs.declared.entries.Step.{Step}
@@ -14,7 +16,7 @@ use Rattle.pylex.specs.declared.entries.Step.TheVariants as steps
 use Rattle.pylex.specs.Listing.{in_characters, listing}
 use Rattle.pylex.specs.ListingLines.{listing_line, text_of}
 use Rattle.pylex.specs.Steps.{most_entries}
-use Rattle.pylex.specs.Streamed.{Streamed, StreamsIn, Steps, Continues}
+use Rattle.pylex.specs.Streamed.{Streamed, StreamsIn, Next, Continues}
 use Rattle.pylex.proofs.Callers.{end_last, fault_last}
 use Rattle.pyfault.specs.Faults.{of_listing}
 use Rattle.pycommand.specs.Listings.{cursor_line, left_behind, output_from, fault_from}
@@ -27,7 +29,8 @@ use Rattle.pycommand.proofs.RunLemmas.{HoldsFor-fault, TakesAllBut-written}
 use Rattle.pycommand.proofs.OutputLemmas.{held_next, told_next, output_ended, fault_ended, cursor_held, told_none}
 use Rattle.pycommand.proofs.TakenLemmas.{is_broken, continues_none}
 
--- In a source in which a lister stands: what was written and is held, and what is left, are what is to be written behind its first k entries, and so for the fault.
+-- In a source in which a lister stands: what was written and is held, and what is left, are what is
+-- to be written behind its first k entries, and so for the fault.
 pub record Stood (v : Streamed) (p : Parts) (k : ℕ) (more : List ℕ) (broken exact : Bool) (count left : Option ℕ) (x y : Option (List ℕ)) (held : List ℕ) : Type 0 where
   pub stands : StreamsIn v p v.shown.given more broken
   pub holds : TakesAllBut x y (output_from exact p count k) held (output_from exact p left v.shown.given)
@@ -75,7 +78,7 @@ goes_here come_old come_new told_old told_new old new exact count left x y held 
 
 -- and so with what a step on takes
 pub goes_on : (come_old come_mid come_new : Option (List ℕ)) (told_old told_mid told_new : ℕ) (old mid new : Streamed) (result : Result Step AllocError) (exact : Bool) (count left : Option ℕ) (x y : Option (List ℕ)) (held : List ℕ)
-    (done : List ℕ → Option Fault → Type 0) → Came come_old come_mid told_old told_mid old mid exact count left x y held → (s : Steps come_mid come_new told_mid told_new mid new result)
+    (done : List ℕ → Option Fault → Type 0) → Came come_old come_mid told_old told_mid old mid exact count left x y held → (s : Next come_mid come_new told_mid told_new mid new result)
     → ((p : Parts) (more : List ℕ) (broken : Bool) → Continues new.lines more broken → Stood mid p old.shown.given (s.taken ++ more) broken exact count left x y held → done (output_from exact p count old.shown.given) (fault_from p count old.shown.given))
     → Goes come_old come_new told_old told_new old exact count done
 goes_on come_old come_mid come_new told_old told_mid told_new old mid new result exact count left x y held done c s does = record {
@@ -88,7 +91,7 @@ goes_on come_old come_mid come_new told_old told_mid told_new old mid new result
 
 -- an entry's line is held, and the lister stands behind it
 pub came_next : (come_old come_mid come_new : Option (List ℕ)) (told_old told_mid told_new : ℕ) (old mid new : Streamed) (step : Step) (e : Entry) (exact : Bool) (count left : Option ℕ) (x y : Option (List ℕ)) (before text held : List ℕ)
-    → Came come_old come_mid told_old told_mid old mid exact count left x y before → Steps come_mid come_new told_mid told_new mid new (Ok step) → step ≡ steps.Entry e → left ≢ Some 0
+    → Came come_old come_mid told_old told_mid old mid exact count left x y before → Next come_mid come_new told_mid told_new mid new (Ok step) → step ≡ steps.Entry e → left ≢ Some 0
     → ((p : Parts) (k : ℕ) (more : List ℕ) (broken : Bool) → StreamsIn new p k more broken → text ≡ text_of p e) → held ≡ before ++ listing_line exact e text
     → Came come_old come_new told_old told_new old new exact count (left_behind left e.kind) x y held
 came_next come_old come_mid come_new told_old told_mid told_new old mid new step e exact count left x y before text held c s is n shown held_is = record {
@@ -114,7 +117,7 @@ came_next come_old come_mid come_new told_old told_mid told_new old mid new step
 -- a further entry is one more of those that a listing can have
 pub counts_up : (come_old come_mid come_new : Option (List ℕ)) (told_old told_mid told_new : ℕ) (old mid new : Streamed) (step : Step) (e : Entry) (exact : Bool) (count left : Option ℕ) (x y : Option (List ℕ)) (held : List ℕ)
     → old.lines.count ≤ source_limit → ((more : List ℕ) (broken : Bool) → Continues old.lines more broken → (p : Parts) × StreamsIn old p old.shown.given more broken)
-    → Came come_old come_mid told_old told_mid old mid exact count left x y held → Steps come_mid come_new told_mid told_new mid new (Ok step) → step ≡ steps.Entry e → new.shown.given ≤ most_entries
+    → Came come_old come_mid told_old told_mid old mid exact count left x y held → Next come_mid come_new told_mid told_new mid new (Ok step) → step ≡ steps.Entry e → new.shown.given ≤ most_entries
     → most_entries - new.shown.given < most_entries - mid.shown.given
 counts_up come_old come_mid come_new told_old told_mid told_new old mid new step e exact count left x y held limited somewhere c s is bound =
     let broken = is_broken new.lines.reach in
@@ -128,7 +131,7 @@ counts_up come_old come_mid come_new told_old told_mid told_new old mid new step
 
 -- which step comes next
 pub next_in : (come_mid come_new : Option (List ℕ)) (told_mid told_new : ℕ) (mid new : Streamed) (step met : Step) (p : Parts) (k : ℕ) (more : List ℕ) (broken exact : Bool) (count left : Option ℕ) (x y : Option (List ℕ)) (held : List ℕ)
-    (s : Steps come_mid come_new told_mid told_new mid new (Ok step)) → step ≡ met → Continues new.lines more broken → Stood mid p k (s.taken ++ more) broken exact count left x y held
+    (s : Next come_mid come_new told_mid told_new mid new (Ok step)) → step ≡ met → Continues new.lines more broken → Stood mid p k (s.taken ++ more) broken exact count left x y held
     → slice_get (listing (in_characters p)) mid.shown.given ≡ Some met
 next_in come_mid come_new told_mid told_new mid new step met p k more broken exact count left x y held s is f m = (rw is at s.moves p mid.shown.given more broken f m.stands).0
 

@@ -1,4 +1,5 @@
--- Carries: accept, read_module, write_dump, write_unparse. On: what refuses a source that was read whole, and that the text of its module gives it back.
+-- Carries: accept, read_module, write_dump, write_unparse. On: what refuses a source that was read
+-- whole, and that the text of its module gives it back.
 use Rattle.std.proofs.Common.{◌≡◌, ℕ, Bool, true, false, cond, List, [], ◌∷◌, Option, Some, None, Result, Ok, Err, sym, subst, inl, inr}
 use Rattle.std.specs.Prelude.{IsUtf8}
 use Rattle.std.specs.Str.{encode_utf8_all}
@@ -13,8 +14,8 @@ use Rattle.pysource.specs.Parts.{Parts}
 use Rattle.pysource.specs.Sources.{nth_line, parts_under, source_of, source_under, UnlessMemory}
 use Rattle.pysource.specs.declared.encodings.SourceFault.{SourceFault}
 use Rattle.pysource.specs.declared.encodings.SourceFault.TheVariants as source_faults
-use Rattle.pysource.proofs.ByteLemmas.{Appends-refl}
-use Rattle.pysource.proofs.GoodLemmas.{good_utf8}
+use Rattle.pysource.proofs.TakenBytes.ByteLemmas.{Appends-refl}
+use Rattle.pysource.proofs.FaultyLines.GoodLemmas.{good_utf8}
 use Rattle.pylex.specs.Laws.{IsLawful}
 use Rattle.pylex.specs.declared.entries.Entry.{Entry}
 use Rattle.pylex.specs.declared.entries.ListingError.{ListingError}

@@ -1,10 +1,13 @@
 -- What is written of a source behind some of its entries, a step on.
+--
+-- Carries: held_next, told_next, output_ended, fault_ended and 2 more, for
+-- ListLemmas. On: RunLemmas.
 use Rattle.std.proofs.Common.{◌≡◌, ◌≢◌, ℕ, zero, suc, ◌+◌, ◌-◌, Bool, true, false, not, ◌==◌, if◌then◌else◌, List, [], ◌∷◌, ◌++◌, take, length, slice_get, refl, sym, ap, ◌∙◌, Option, Some, None, append_assoc, append-nil, nat_le, arith}
 use Rattle.std.proofs.lemmas.Bool.Decides.{nat_tests}
 use Rattle.pysource.specs.Parts.{Parts}
 use Rattle.pylex.specs.declared.entries.Entry.{Entry}
 use Rattle.pylex.specs.declared.entries.Step.TheVariants as steps
-use Rattle.pylex.specs.declared.kinds.Kind.{Kind}
+use Rattle.pylex.specs.declared.kind.Kind.{Kind}
 use Rattle.pylex.specs.Cursors.{CursorParts, cursor}
 use Rattle.pylex.specs.Standing.{IsCursorOf}
 use Rattle.pylex.specs.Listing.{in_characters, listing, rest}

@@ -1,9 +1,11 @@
 -- Laws of a run.
+--
+-- Carries: list, write_listing, run.
 use Rattle.std.proofs.Common.{true, Bool, ◌≡◌, ◌≢◌, ◌++◌, ℕ, List, [], false, Option, None, Some, Ok, Err, Result, refl, sym, ap, inl, inr, ◌∙◌, append_assoc, append-nil}
 use Rattle.std.specs.Prelude.{OnOk, OnErr, is_err}
 use Rattle.std.specs.Io.KnownBytes.{Appends}
 use Rattle.pysource.specs.Bytes.{TakesFront}
-use Rattle.pysource.proofs.ByteLemmas.{Appends-append, TakesFront-after}
+use Rattle.pysource.proofs.TakenBytes.ByteLemmas.{Appends-append, TakesFront-after}
 use Rattle.pylex.specs.declared.entries.ListingFault.{ListingFault}
 use Rattle.pyfault.specs.Faults.{listing_code, told_at, of_listing, IsToldAs}
 use Rattle.pywords.specs.declared.command.Command.{Command}

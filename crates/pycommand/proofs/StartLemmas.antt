@@ -1,4 +1,6 @@
 -- How a run begins, or is refused.
+--
+-- Carries: begin, write_listing. On: CursorLemmas, TakenLemmas, UnreadLemmas.
 use Rattle.std.proofs.Common.{◌≡◌, ℕ, Bool, true, false, ◌&&◌, List, [], ◌++◌, length, refl, sym, ap, subst, inl, inr, ◌∙◌, Option, Some, None, Ok, append_assoc, arith}
 use Rattle.std.specs.Prelude.{nat_lt}
 use Rattle.std.proofs.lemmas.Bool.Decides.{nat_tests}
@@ -8,22 +10,22 @@ use Rattle.pysource.specs.Streams.{stream_of, Refuses}
 use Rattle.pysource.specs.Taking.{Takes}
 use Rattle.pysource.specs.Limits.{source_limit}
 use Rattle.pysource.specs.declared.faults.LineError.TheVariants as line_errors
-use Rattle.pysource.specs.declared.streams.Reach.{Reach}
-use Rattle.pysource.specs.declared.streams.Reach.TheVariants as reach
-use Rattle.pysource.specs.declared.streams.StreamFault.{StreamFault}
-use Rattle.pysource.specs.declared.streams.StreamFault.TheVariants as stream_faults
-use Rattle.pysource.proofs.ByteLemmas.{Appends-refl}
-use Rattle.pysource.proofs.TakingLemmas.{Takes-on}
+use Rattle.pysource.specs.declared.line_reader.Reach.{Reach}
+use Rattle.pysource.specs.declared.line_reader.Reach.TheVariants as reach
+use Rattle.pysource.specs.declared.line_reader.StreamFault.{StreamFault}
+use Rattle.pysource.specs.declared.line_reader.StreamFault.TheVariants as stream_faults
+use Rattle.pysource.proofs.TakenBytes.ByteLemmas.{Appends-refl}
+use Rattle.pysource.proofs.TakenBytes.TakingLemmas.{Takes-on}
 use Rattle.pylex.specs.declared.entries.ListingError.{ListingError}
 use Rattle.pylex.specs.declared.entries.ListingError.TheVariants as errors
 use Rattle.pylex.specs.declared.entries.ListingFault.{ListingFault}
-use Rattle.pylex.specs.declared.stream.ResumeFault.{ResumeFault}
-use Rattle.pylex.specs.declared.stream.ResumeFault.TheVariants as resumes
+use Rattle.pylex.specs.declared.line_lister.ResumeFault.{ResumeFault}
+use Rattle.pylex.specs.declared.line_lister.ResumeFault.TheVariants as resumes
 use Rattle.pylex.specs.Cursors.{CursorParts}
 use Rattle.pylex.specs.Listing.{in_characters, listing}
 use Rattle.pylex.specs.Standing.{IsCursorOf}
 use Rattle.pylex.specs.Steps.{entries_of, fault_of}
-use Rattle.pylex.specs.Streamed.{Streamed, StreamsIn, Begins, Misses, MissesBy, EndsUnread, is_unread_code}
+use Rattle.pylex.specs.Streamed.{Streamed, StreamsIn, Begins, Misses, ResumeRefusal, EndsUnread, is_unread_code}
 use Rattle.pyfault.specs.Faults.{of_resume, of_stream}
 use Rattle.pycommand.specs.Listings.{start_in, ends_unread, missed, tokens_output, tokens_fault}
 use Rattle.pycommand.specs.Runs.{WritesFor, Performs}
@@ -124,7 +126,7 @@ misses_by exact count come new told_old told_new c x m =
     (λ more broken f w. let s = m.misses more broken (f, w) in rw (s.1, starts_nowhere c (in_characters s.0) s.2, tokens_output, tokens_fault) (ap (λ code. Some (Plain code)) (missed_unread c s.0 (s.3 refl)), Appends-refl x))
 
 misses_stream : (exact : Bool) (count : Option ℕ) (come new : Option (List ℕ)) (told_old told_new : ℕ) (c : CursorParts) (fault : StreamFault) (x : Option (List ℕ))
-    → MissesBy come new told_old told_new c (resumes.Stream fault) → Performs (output_by exact count (Some c)) (fault_by count (Some c)) come new told_old told_new x x source_limit (Some (of_stream fault))
+    → ResumeRefusal come new told_old told_new c (resumes.Stream fault) → Performs (output_by exact count (Some c)) (fault_by count (Some c)) come new told_old told_new x x source_limit (Some (of_stream fault))
 misses_stream exact count come new told_old told_new c fault x m = elim m [
   | inl r ↦ refused exact count (Some c) come new told_old told_new fault x r
   | inr (inl r) ↦ rw r.0 (misses_by exact count come new told_old told_new c x r.1)
@@ -139,7 +141,7 @@ misses exact count come new told_old told_new c x m =
 
 -- what gives no source with such a cursor
 pub unresumed : (exact : Bool) (count : Option ℕ) (come new : Option (List ℕ)) (told_old told_new : ℕ) (c : CursorParts) (fault : ResumeFault) (x : Option (List ℕ))
-    → MissesBy come new told_old told_new c fault → Performs (output_by exact count (Some c)) (fault_by count (Some c)) come new told_old told_new x x source_limit (Some (of_resume fault))
+    → ResumeRefusal come new told_old told_new c fault → Performs (output_by exact count (Some c)) (fault_by count (Some c)) come new told_old told_new x x source_limit (Some (of_resume fault))
 unresumed exact count come new told_old told_new c (resumes.Stream fault) x m = misses_stream exact count come new told_old told_new c fault x m
 unresumed exact count come new told_old told_new c resumes.AnotherSource x m = misses exact count come new told_old told_new c x m
 

@@ -1,4 +1,6 @@
 -- Laws of what was taken of a reader.
+--
+-- Carries: is_broken, continues_none, performs, for ListLemmas, StartLemmas.
 use Rattle.std.proofs.Common.{◌≡◌, ◌≢◌, ◌+◌, ◌-◌, ◌++◌, ◌<◌, ◌≤◌, ℕ, Bool, true, false, List, [], ◌∷◌, length, take, drop, Option, None, Some, refl, sym, ap, subst, inl, inr, ◌∙◌, append_assoc, append-nil, length-append, length-drop, arith}
 use Rattle.std.specs.Prelude.{IfSome}
 use Rattle.std.specs.Io.KnownBytes.{Consumes, IsAtEnd}
@@ -7,8 +9,8 @@ use Rattle.std.proofs.lemmas.List.{length-take-le, take-append-drop}
 use Rattle.pysource.specs.Streams.{Buffered, FollowsAt}
 use Rattle.pysource.specs.Taking.{Takes}
 use Rattle.pysource.specs.Limits.{source_limit}
-use Rattle.pysource.specs.declared.streams.Reach.{Reach}
-use Rattle.pysource.specs.declared.streams.Reach.TheVariants as reach
+use Rattle.pysource.specs.declared.line_reader.Reach.{Reach}
+use Rattle.pysource.specs.declared.line_reader.Reach.TheVariants as reach
 use Rattle.pylex.specs.Streamed.{Continues}
 use Rattle.pycommand.specs.Runs.{WritesFor, Performs}
 use Rattle.pyfault.specs.declared.fault.Fault.{Fault}
@@ -41,7 +43,8 @@ all_known None new all c e = tt
 all_known (Some known) None all c e = absurd c
 all_known (Some known) (Some rest) all c e = c ∙ ap (λ r. all ++ r) e ∙ append-nil all
 
--- What was done with each source that what was taken can be the front of, was done with that which the reader gives.
+-- What was done with each source that what was taken can be the front of, was done with
+-- that which the reader gives.
 module _ (output : Bool → List ℕ → List ℕ) (told : Bool → List ℕ → Option Fault) (told_old told_new : ℕ) (x y : Option (List ℕ)) (n : ℕ) (all : List ℕ) (ended : Option Fault) (quiet : (bytes : List ℕ) → told false bytes ≢ Some (Plain Read)) where
   -- whatever may follow
   abbrev Does : Reach → Type 0

@@ -1,4 +1,6 @@
 -- Where no read failed, none is told.
+--
+-- Carries: listing_is_read, quiet, for ModuleLemmas, StartLemmas.
 use Rattle.std.proofs.Common.{◌≡◌, ◌≢◌, ℕ, zero, suc, ◌+◌, Bool, true, false, not, ◌&&◌, ◌||◌, ◌==◌, cond, List, [], ◌∷◌, ◌++◌, drop, take, length, replicate, refl, Option, Some, None, Result, Ok, Err, subst}
 use Rattle.std.specs.List.{count_by, list_all, list_any}
 use Rattle.std.specs.Option.{option_map, option_or, option_map_or}
@@ -26,17 +28,17 @@ use Rattle.pylex.specs.declared.entries.ListingError.TheVariants as errors
 use Rattle.pylex.specs.declared.entries.ListingFault.{ListingFault}
 use Rattle.pylex.specs.declared.entries.Step.{Step}
 use Rattle.pylex.specs.declared.entries.Step.TheVariants as steps
-use Rattle.pylex.specs.declared.kinds.Kind.TheVariants as kinds
+use Rattle.pylex.specs.declared.kind.Kind.TheVariants as kinds
 use Rattle.pylex.specs.Class.{Class}
 use Rattle.pylex.specs.Class.TheVariants.{Name, Number, String, Operator, Comment, Blanks, LineEnd, Join}
 use Rattle.pylex.specs.Cursors.{CursorParts}
 use Rattle.pylex.specs.Lexemes.{Lexeme, cut, left_by_cut, is_open_string}
-use Rattle.pylex.specs.Levels.{open_levels}
-use Rattle.pylex.specs.Lines.{text_before, depth, is_thing, is_at_margin, is_logical, width_at, widths}
+use Rattle.pylex.specs.Indentation.{open_levels, width_at, widths, dedents, layout, layout_by}
+use Rattle.pylex.specs.Lines.{text_before, depth, is_significant, is_at_margin, is_logical}
 use Rattle.pylex.specs.Chars.{bytes_in}
-use Rattle.pylex.specs.Listing.{Source, in_characters, of_line, listing, rest, fault_at, dedents, layout, layout_by, entry_of, steps_of, stop_fault, begins_comment, last_line, line_end_of_last, end_place, ends_in_join, tail, stop, steps_from, up_to_end}
+use Rattle.pylex.specs.Listing.{Source, in_characters, of_line, listing, rest, entry_of, steps_of, stop_fault, begins_comment, last_line, line_end_of_last, end_place, ends_in_join, tail, stop, steps_from, up_to_end}
 use Rattle.pylex.specs.Operators.{is_closer}
-use Rattle.pylex.specs.Steps.{entries_of, fault_of}
+use Rattle.pylex.specs.Steps.{entries_of, fault_of, fault_at}
 use Rattle.pylex.specs.Strings.{opens_string}
 use Rattle.pylex.specs.Streamed.{is_unread_code}
 use Rattle.pyfault.specs.Faults.{listing_code, told_at, of_listing}
@@ -110,7 +112,7 @@ entry_read before x = by_class x.«class» x.text
 
 steps_read : (before : List Lexeme) (x : Lexeme) → AllRead (steps_of before x)
 unfolding steps_of
-steps_read before x = AllRead-append (cond (is_thing x) (layout before) []) (entry_of before x) (either (is_thing x) (layout before) [] (layout_read before) tt) (entry_read before x)
+steps_read before x = AllRead-append (cond (is_significant x) (layout before) []) (entry_of before x) (either (is_significant x) (layout before) [] (layout_read before) tt) (entry_read before x)
 
 tail_read : (before : List Lexeme) (end : Place) → AllRead (tail before end)
 unfolding tail line_end_of_last

@@ -3,11 +3,11 @@ use Rattle.std.specs.Prelude.{ℕ, ◌+◌, ◌-◌, nat_le, nat_lt, ◌==◌, B
 use Rattle.std.specs.List.{flat_map}
 use Rattle.pysource.specs.Parts.{Parts}
 use Rattle.pysource.specs.Streams.{stream_of}
-use Rattle.pysource.specs.declared.streams.StreamFault.{StreamFault}
+use Rattle.pysource.specs.declared.line_reader.StreamFault.{StreamFault}
 use Rattle.pylex.specs.declared.entries.Entry.{Entry}
 use Rattle.pylex.specs.declared.entries.Step.{Step}
-use Rattle.pylex.specs.declared.kinds.Kind.{Kind}
-use Rattle.pylex.specs.declared.kinds.Kind.TheVariants.{EndMarker}
+use Rattle.pylex.specs.declared.kind.Kind.{Kind}
+use Rattle.pylex.specs.declared.kind.Kind.TheVariants.{EndMarker}
 use Rattle.pylex.specs.Cursors.{CursorParts, cursor, cursor_text}
 use Rattle.pylex.specs.Listing.{Source, listing, rest, in_characters}
 use Rattle.pylex.specs.Standing.{is_cursor_of}

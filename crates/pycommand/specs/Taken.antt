@@ -3,7 +3,7 @@ use Rattle.std.specs.Prelude.{◌≡◌, ℕ, Bool, List, ◌++◌, Option, Some
 use Rattle.pysource.specs.Parts.{Parts}
 use Rattle.pysource.specs.Streams.{Buffered, Reads, stream_of}
 use Rattle.pysource.specs.Taking.{Takes}
-use Rattle.pysource.specs.declared.streams.Reach.TheVariants as reach
+use Rattle.pysource.specs.declared.line_reader.Reach.TheVariants as reach
 use Rattle.pylex.specs.Cursors.{CursorParts}
 use Rattle.pylex.specs.Listing.{in_characters}
 use Rattle.pylex.specs.Streamed.{Streamed, StreamsIn, Continues}

@@ -27,9 +27,12 @@ fn write_pieces<W: ByteOut>(
     writer: &mut W,
 ) -> Result<(), Fault>
     requires writer { W.failure_count writer.old < 2 ^ 64 - 1 }
-    ensures writes { WritesFor (concat pieces.entry ++ codes "\n") None (W.taken writer.old) (W.taken writer.new) (ended_by result) }
-    ensures failed { ended_by result ≡ Some (Fault.Plain RunFaultCode.Write) → W.failure_count writer.new ≡ W.failure_count writer.old + 1 }
-    ensures unfailed { ended_by result ≢ Some (Fault.Plain RunFaultCode.Write) → W.failure_count writer.new ≡ W.failure_count writer.old }
+    ensures writes { WritesFor (concat pieces.entry ++ codes "\n") None (W.taken writer.old)
+        (W.taken writer.new) (ended_by result) }
+    ensures failed { ended_by result ≡ Some (Fault.Plain RunFaultCode.Write)
+        → W.failure_count writer.new ≡ W.failure_count writer.old + 1 }
+    ensures unfailed { ended_by result ≢ Some (Fault.Plain RunFaultCode.Write)
+        → W.failure_count writer.new ≡ W.failure_count writer.old }
 {
     let mut held = String::with_capacity(alloc, ROOM)?;
     'pieces: while pieces.push_next(&mut held)? {
@@ -42,7 +45,8 @@ fn write_pieces<W: ByteOut>(
     Ok(write_all(writer, held.as_bytes())?)
 }
 
-/// Writes the dump of what a reader gives, which is read whole and accepted before anything is written.
+/// Writes the dump of what a reader gives, which is read whole and accepted before anything is
+/// written.
 pub(crate) fn write_dump<R: ByteIn, W: ByteOut>(
     alloc: Global,
     asked: &Dump,
@@ -51,10 +55,13 @@ pub(crate) fn write_dump<R: ByteIn, W: ByteOut>(
 ) -> Result<(), Fault>
     requires reader { R.failure_count reader.old < 2 ^ 64 - 1 }
     requires writer { W.failure_count writer.old < 2 ^ 64 - 1 }
-    ensures performs { PerformsWhole in_pieces (Dumps asked.now.style) (R.to_come reader.old) (R.to_come reader.new) (R.failure_count reader.old) (R.failure_count reader.new)
+    ensures performs { PerformsWhole in_pieces (Dumps asked.now.style) (R.to_come reader.old)
+        (R.to_come reader.new) (R.failure_count reader.old) (R.failure_count reader.new)
         (W.taken writer.old) (W.taken writer.new) source_limit (ended_by result) }
-    ensures failed { ended_by result ≡ Some (Fault.Plain RunFaultCode.Write) → W.failure_count writer.new ≡ W.failure_count writer.old + 1 }
-    ensures unfailed { ended_by result ≢ Some (Fault.Plain RunFaultCode.Write) → W.failure_count writer.new ≡ W.failure_count writer.old }
+    ensures failed { ended_by result ≡ Some (Fault.Plain RunFaultCode.Write)
+        → W.failure_count writer.new ≡ W.failure_count writer.old + 1 }
+    ensures unfailed { ended_by result ≢ Some (Fault.Plain RunFaultCode.Write)
+        → W.failure_count writer.new ≡ W.failure_count writer.old }
 {
     let module = read_module(alloc, asked.style.profile, reader)?;
     let pieces = Pieces::new(alloc, &module, asked.style)?;

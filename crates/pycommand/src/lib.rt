@@ -1,8 +1,9 @@
 //! What the program does: a command on what a reader gives.
 //!
-//! [`Command::read`] reads the words of the command line. [`run`] does what a command says with what
-//! a reader gives, over two writers, and answers the status that the program ends with. [`Fault`] is
-//! what can end a run early. The words are those of `pywords`, the faults those of `pyfault`.
+//! [`Command::read`] reads the words of the command line. [`run`] does what a command says with
+//! what a reader gives, over two writers, and answers the status that the program ends with.
+//! [`Fault`] is what can end a run early. The words are those of `pywords`, the faults those of
+//! `pyfault`.
 //!
 //! The words of contracts are in `specs/`: `Listings` says what `tokens` writes of a source and
 //! tells, `Dumps` and `Unparses` what `dump` and `unparse` do, both with the `Modules` that sources

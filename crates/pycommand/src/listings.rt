@@ -1,5 +1,7 @@
 //! The listing of a source, written as it is read.
-ghost use Rattle.std.specs.Prelude.{◌≡◌, ◌≢◌, ℕ, ◌+◌, ◌-◌, ◌^◌, ◌<◌, ◌≤◌, Bool, true, false, List, [], ◌++◌, Option, Some, None, option_map, OnOk, OnErr, IfOk, IfErr, string_bytes};
+ghost use Rattle.std.specs.Prelude.{◌≡◌, ◌≢◌, ℕ, ◌+◌, ◌-◌, ◌^◌, ◌<◌, ◌≤◌, Bool, true, false, List};
+ghost use Rattle.std.specs.Prelude.{[], ◌++◌, Option, Some, None, option_map, OnOk, OnErr, IfOk};
+ghost use Rattle.std.specs.Prelude.{IfErr, string_bytes};
 ghost use Rattle.pysource.specs.Limits.{source_limit};
 ghost use Rattle.pysource.specs.Parts.{Parts};
 ghost use Rattle.pysource.specs.Streams.{stream_of};
@@ -7,7 +9,8 @@ ghost use Rattle.pysource.specs.Taking.{fails};
 ghost use Rattle.pylex.specs.Streamed.{Continues, StreamsIn};
 ghost use Rattle.pyfault.specs.declared.fault.Fault.{Fault};
 ghost use Rattle.pyfault.specs.declared.fault.RunFaultCode.{RunFaultCode};
-ghost use Rattle.pycommand.specs.Listings.{cursor_line, left_behind, tokens_output, tokens_fault, output_of, fault_in};
+ghost use Rattle.pycommand.specs.Listings.{cursor_line, left_behind, tokens_output, tokens_fault};
+ghost use Rattle.pycommand.specs.Listings.{output_of, fault_in};
 ghost use Rattle.pycommand.specs.Runs.{HoldsFor, ended_by, Performs};
 ghost use Rattle.pycommand.specs.Taken.{Starts, Goes};
 
@@ -25,7 +28,8 @@ const ROOM: usize = 65_536;
 
 /// Appends the line of the cursor at which a lister stands.
 fn push_cursor(held: &mut String, lister: &LineLister) -> Result<(), AllocError>
-    ensures ok { OnOk result (string_bytes held.new ≡ string_bytes held.old ++ cursor_line lister.entry.now.shown) }
+    ensures ok { OnOk result
+        (string_bytes held.new ≡ string_bytes held.old ++ cursor_line lister.entry.now.shown) }
     ensures err { OnErr result (string_bytes held.new ≡ string_bytes held.old) }
 {
     let text = lister.cursor()?.to_text()?;
@@ -33,8 +37,8 @@ fn push_cursor(held: &mut String, lister: &LineLister) -> Result<(), AllocError>
     held.push_str(line.as_str())
 }
 
-/// How many entries may still be listed behind one of this kind, of those that a count allows. Where the last of them is
-/// the end marker the count stops nothing: the listing comes to its end.
+/// How many entries may still be listed behind one of this kind, of those that a count allows.
+/// Where the last of them is the end marker the count stops nothing: the listing comes to its end.
 fn left_behind(left: Option<u64>, kind: Kind) -> Option<u64>
     requires { left ≢ Some 0 }
     ensures { result ≡ left_behind left kind }
@@ -54,8 +58,9 @@ fn is_reached(left: Option<u64>) -> bool
     matches!(left, Some(0))
 }
 
-/// Writes the line of each entry that a lister still gives, up to a count and then that of the cursor. The last of them
-/// are left in `held`, also where a fault ends the listing, unless it is a failed write.
+/// Writes the line of each entry that a lister still gives, up to a count and then that of the
+/// cursor. The last of them are left in `held`, also where a fault ends the listing, unless it is a
+/// failed write.
 fn list<R: ByteIn, W: ByteOut>(
     mut lister: LineLister,
     exact: bool,
@@ -68,11 +73,16 @@ fn list<R: ByteIn, W: ByteOut>(
     requires writes { W.failure_count writer.old < 2 ^ 64 - 1 }
     requires empty { string_bytes held.old ≡ [] }
     requires within { lister.lines.count ≤ source_limit }
-    requires stands { (more : List ℕ) (broken : Bool) → Continues lister.lines more broken → (p : Parts) × StreamsIn lister p lister.shown.given more broken }
-    ensures holds { Goes (R.to_come reader.old) (R.to_come reader.new) (R.failure_count reader.old) (R.failure_count reader.new) lister exact count
-        (λ output told. HoldsFor output told (W.taken writer.old) (W.taken writer.new) (string_bytes held.new) (ended_by result)) }
-    ensures failed { ended_by result ≡ Some (Fault.Plain RunFaultCode.Write) → W.failure_count writer.new ≡ W.failure_count writer.old + 1 }
-    ensures unfailed { ended_by result ≢ Some (Fault.Plain RunFaultCode.Write) → W.failure_count writer.new ≡ W.failure_count writer.old }
+    requires stands { (more : List ℕ) (broken : Bool) → Continues lister.lines more broken
+        → (p : Parts) × StreamsIn lister p lister.shown.given more broken }
+    ensures holds { Goes (R.to_come reader.old) (R.to_come reader.new) (R.failure_count reader.old)
+        (R.failure_count reader.new) lister exact count
+        (λ output told. HoldsFor output told (W.taken writer.old) (W.taken writer.new)
+        (string_bytes held.new) (ended_by result)) }
+    ensures failed { ended_by result ≡ Some (Fault.Plain RunFaultCode.Write)
+        → W.failure_count writer.new ≡ W.failure_count writer.old + 1 }
+    ensures unfailed { ended_by result ≢ Some (Fault.Plain RunFaultCode.Write)
+        → W.failure_count writer.new ≡ W.failure_count writer.old }
 {
     let mut left = count;
     while !is_reached(left) {
@@ -93,19 +103,26 @@ fn list<R: ByteIn, W: ByteOut>(
     Ok(())
 }
 
-/// Begins at the start of what a reader gives, or behind a cursor, which must be one of that source.
+/// Begins at the start of what a reader gives, or behind a cursor, which must be one of that
+/// source.
 fn begin<R: ByteIn>(
     alloc: Global,
     resume: Option<&Cursor>,
     reader: &mut R,
 ) -> Result<LineLister, Fault>
     requires { R.failure_count reader.old < 2 ^ 64 - 1 }
-    ensures starts { IfOk result (λ lister. Starts (R.to_come reader.old) (R.to_come reader.new) (R.failure_count reader.old) (R.failure_count reader.new)
+    ensures starts { IfOk result
+        (λ lister. Starts (R.to_come reader.old) (R.to_come reader.new) (R.failure_count reader.old)
+        (R.failure_count reader.new)
         (option_map (λ c. c.now) resume.entry) lister) }
-    ensures refused { IfErr result (λ fault. (exact : Bool) (count : Option ℕ) (taken : Option (List ℕ)) →
-        Performs (λ broken input. tokens_output exact count (option_map (λ c. c.now) resume.entry) (stream_of broken input))
-        (λ broken input. tokens_fault count (option_map (λ c. c.now) resume.entry) (stream_of broken input))
-        (R.to_come reader.old) (R.to_come reader.new) (R.failure_count reader.old) (R.failure_count reader.new) taken taken source_limit (Some fault)) }
+    ensures refused { IfErr result
+        (λ fault. (exact : Bool) (count : Option ℕ) (taken : Option (List ℕ)) →
+        Performs (λ broken input. tokens_output exact count (option_map (λ c. c.now) resume.entry)
+        (stream_of broken input))
+        (λ broken input. tokens_fault count (option_map (λ c. c.now) resume.entry)
+        (stream_of broken input))
+        (R.to_come reader.old) (R.to_come reader.new) (R.failure_count reader.old)
+        (R.failure_count reader.new) taken taken source_limit (Some fault)) }
     ensures untouched { IfErr result (λ fault. fault ≢ Fault.Plain RunFaultCode.Write) }
 {
     match resume {
@@ -117,13 +134,14 @@ fn begin<R: ByteIn>(
 /// Whether a listing ended by a failed write.
 fn is_write_failed(listed: &Result<(), Fault>) -> bool
     ensures failed { result ≡ true → ended_by listed.now ≡ Some (Fault.Plain RunFaultCode.Write) }
-    ensures unfailed { result ≡ false → ended_by listed.now ≢ Some (Fault.Plain RunFaultCode.Write) }
+    ensures unfailed { result ≡ false
+        → ended_by listed.now ≢ Some (Fault.Plain RunFaultCode.Write) }
 {
     matches!(listed, Err(Fault::Plain(RunFaultCode::Write)))
 }
 
-/// Writes the listing of what a reader gives, read line by line. What is held at its end is written before a fault is
-/// told, and a failure of that write is what ends the run then: it is met first.
+/// Writes the listing of what a reader gives, read line by line. What is held at its end is written
+/// before a fault is told, and a failure of that write is what ends the run then: it is met first.
 pub(crate) fn write_listing<R: ByteIn, W: ByteOut>(
     alloc: Global,
     asked: &Tokens,
@@ -132,10 +150,13 @@ pub(crate) fn write_listing<R: ByteIn, W: ByteOut>(
 ) -> Result<(), Fault>
     requires reader { R.failure_count reader.old < 2 ^ 64 - 1 }
     requires writer { W.failure_count writer.old < 2 ^ 64 - 1 }
-    ensures performs { Performs (output_of asked.now) (fault_in asked.now) (R.to_come reader.old) (R.to_come reader.new) (R.failure_count reader.old) (R.failure_count reader.new)
+    ensures performs { Performs (output_of asked.now) (fault_in asked.now) (R.to_come reader.old)
+        (R.to_come reader.new) (R.failure_count reader.old) (R.failure_count reader.new)
         (W.taken writer.old) (W.taken writer.new) source_limit (ended_by result) }
-    ensures failed { ended_by result ≡ Some (Fault.Plain RunFaultCode.Write) → W.failure_count writer.new ≡ W.failure_count writer.old + 1 }
-    ensures unfailed { ended_by result ≢ Some (Fault.Plain RunFaultCode.Write) → W.failure_count writer.new ≡ W.failure_count writer.old }
+    ensures failed { ended_by result ≡ Some (Fault.Plain RunFaultCode.Write)
+        → W.failure_count writer.new ≡ W.failure_count writer.old + 1 }
+    ensures unfailed { ended_by result ≢ Some (Fault.Plain RunFaultCode.Write)
+        → W.failure_count writer.new ≡ W.failure_count writer.old }
 {
     let lister = begin(alloc, asked.resume.as_ref(), reader)?;
     let mut held = String::with_capacity(alloc, ROOM)?;

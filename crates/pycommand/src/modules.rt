@@ -28,7 +28,8 @@ fn know_listing(alloc: Global, source: &Source)
 fn accept(alloc: Global, bytes: &[u8], profile: Profile) -> Result<Module, Fault>
     requires { length bytes.now ≤ source_limit }
     ensures is { IfOk result (λ m. IsModule profile bytes.now (module_of m)) }
-    ensures back { IfOk result (λ m. GivesBack profile (encode_utf8_all (module_text (module_of m))) (module_of m)) }
+    ensures back { IfOk result
+        (λ m. GivesBack profile (encode_utf8_all (module_text (module_of m))) (module_of m)) }
     ensures refused { IfErr result (Refuses profile bytes.now) }
 {
     let source = decode(alloc, bytes)?;
@@ -36,23 +37,29 @@ fn accept(alloc: Global, bytes: &[u8], profile: Profile) -> Result<Module, Fault
     Ok(parse(alloc, &source, profile)?)
 }
 
-/// The module of what a reader gives, which is read whole: a failed read comes before a fault of the source.
+/// The module of what a reader gives, which is read whole: a failed read comes before a fault of
+/// the source.
 pub(crate) fn read_module<R: ByteIn>(
     alloc: Global,
     profile: Profile,
     reader: &mut R,
 ) -> Result<Module, Fault>
     requires { R.failure_count reader.old < 2 ^ 64 - 1 }
-    ensures reads { IfOk result (λ m. ReadsModule profile (R.to_come reader.old) (R.to_come reader.new) (R.failure_count reader.old) (R.failure_count reader.new) (module_of m)) }
-    ensures back { IfOk result (λ m. GivesBack profile (encode_utf8_all (module_text (module_of m))) (module_of m)) }
-    ensures none { IfErr result (ReadsNone profile (R.to_come reader.old) (R.to_come reader.new) (R.failure_count reader.old) (R.failure_count reader.new)) }
+    ensures reads { IfOk result
+        (λ m. ReadsModule profile (R.to_come reader.old) (R.to_come reader.new)
+        (R.failure_count reader.old) (R.failure_count reader.new) (module_of m)) }
+    ensures back { IfOk result
+        (λ m. GivesBack profile (encode_utf8_all (module_text (module_of m))) (module_of m)) }
+    ensures none { IfErr result
+        (ReadsNone profile (R.to_come reader.old) (R.to_come reader.new)
+        (R.failure_count reader.old) (R.failure_count reader.new)) }
 {
     let bytes = read_all(alloc, reader)?;
     accept(alloc, bytes.as_slice(), profile)
 }
 
-/// Leaves a module to the end of the process. A run is the last act of its program, and to free the tree node by node takes
-/// a tenth of the time of `dump` and a seventh of that of `unparse`.
+/// Leaves a module to the end of the process. A run is the last act of its program, and to free the
+/// tree node by node takes a tenth of the time of `dump` and a seventh of that of `unparse`.
 pub(crate) fn leave_to_exit(module: Module) {
     std::mem::forget(module);
 }

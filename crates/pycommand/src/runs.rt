@@ -22,10 +22,13 @@ fn perform<R: ByteIn, W: ByteOut>(
 ) -> Result<(), Fault>
     requires reader { R.failure_count reader.old < 2 ^ 64 - 1 }
     requires writer { W.failure_count writer.old < 2 ^ 64 - 1 }
-    ensures does { Does command.now (R.to_come reader.old) (R.to_come reader.new) (R.failure_count reader.old) (R.failure_count reader.new)
+    ensures does { Does command.now (R.to_come reader.old) (R.to_come reader.new)
+        (R.failure_count reader.old) (R.failure_count reader.new)
         (W.taken writer.old) (W.taken writer.new) source_limit (ended_by result) }
-    ensures write_failed { ended_by result ≡ Some (Fault.Plain RunFaultCode.Write) → W.failure_count writer.new ≡ W.failure_count writer.old + 1 }
-    ensures write_told { ended_by result ≢ Some (Fault.Plain RunFaultCode.Write) → W.failure_count writer.new ≡ W.failure_count writer.old }
+    ensures write_failed { ended_by result ≡ Some (Fault.Plain RunFaultCode.Write)
+        → W.failure_count writer.new ≡ W.failure_count writer.old + 1 }
+    ensures write_told { ended_by result ≢ Some (Fault.Plain RunFaultCode.Write)
+        → W.failure_count writer.new ≡ W.failure_count writer.old }
 {
     match command {
         Command::Tokens(asked) => write_listing(alloc, asked, reader, writer),
@@ -34,21 +37,24 @@ fn perform<R: ByteIn, W: ByteOut>(
     }
 }
 
-/// A run of the program: reads the source of `reader`, writes to `writer` what the command gives, and tells what ended the
-/// run early, if anything did, in a line to `faults`. The answer is the status that the program ends with: 0 where all was
-/// done, or that of the fault told.
+/// A run of the program: reads the source of `reader`, writes to `writer` what the command gives,
+/// and tells what ended the run early, if anything did, in a line to `faults`. The answer is the
+/// status that the program ends with: 0 where all was done, or that of the fault told.
 ///
-/// `tokens` reads line by line. Where a read fails, or the source is too long, what is written and told is that of the lines
-/// that were read whole: the entries of those, and then the failed read, unless a count or a fault of the source ends the
-/// run before.
+/// `tokens` reads line by line. Where a read fails, or the source is too long, what is written and
+/// told is that of the lines that were read whole: the entries of those, and then the failed read,
+/// unless a count or a fault of the source ends the run before.
 ///
-/// `dump` and `unparse` read the source whole. Where a read fails, or the source is too long, that alone is told; and nothing
-/// is written of a source that is refused. What `unparse` writes is itself a source, and is accepted as the same module.
-/// `dump` writes its text in pieces: where memory ends in the midst of it, a front of it was written.
+/// `dump` and `unparse` read the source whole. Where a read fails, or the source is too long, that
+/// alone is told; and nothing is written of a source that is refused. `dump` writes its text in
+/// pieces: where memory ends in the midst of it, a front of it was written. What `unparse` writes is
+/// itself a source, and is accepted as the same module.
 ///
-/// Behind `dump` and `unparse` the tree of the source is not freed: it is left to the end of the process, whose last act a run is.
+/// Behind `dump` and `unparse` the tree of the source is not freed: it is left to the end of the
+/// process, whose last act a run is.
 ///
-/// The file that the command names is the caller's to open; its name is used in the fault's line alone.
+/// The file that the command names is the caller's to open; its name is used in the fault's line
+/// alone.
 pub fn run<R: ByteIn, W: ByteOut, F: ByteOut>(
     alloc: Global,
     command: &Command,
@@ -59,9 +65,13 @@ pub fn run<R: ByteIn, W: ByteOut, F: ByteOut>(
     requires reader { R.failure_count reader.old < 2 ^ 64 - 1 }
     requires writer { W.failure_count writer.old < 2 ^ 64 - 1 }
     requires faults { F.failure_count faults.old < 2 ^ 64 - 1 }
-    ensures { (ended : Option Fault) × IsRun command.now (R.to_come reader.old) (R.to_come reader.new) (R.failure_count reader.old) (R.failure_count reader.new)
-        (W.taken writer.old) (W.taken writer.new) (W.failure_count writer.old) (W.failure_count writer.new)
-        (F.taken faults.old) (F.taken faults.new) (F.failure_count faults.old) (F.failure_count faults.new) source_limit result ended }
+    ensures { (ended : Option Fault)
+        × IsRun command.now (R.to_come reader.old) (R.to_come reader.new)
+        (R.failure_count reader.old) (R.failure_count reader.new)
+        (W.taken writer.old) (W.taken writer.new) (W.failure_count writer.old)
+        (W.failure_count writer.new)
+        (F.taken faults.old) (F.taken faults.new) (F.failure_count faults.old)
+        (F.failure_count faults.new) source_limit result ended }
 {
     match perform(alloc, command, reader, writer) {
         Ok(()) => 0,

@@ -13,7 +13,8 @@ use pyunparse::unparse;
 use pywords::Unparse;
 use std::alloc::Global;
 
-/// Writes source text for what a reader gives, which is read whole and accepted before anything is written.
+/// Writes source text for what a reader gives, which is read whole and accepted before anything is
+/// written.
 pub(crate) fn write_unparse<R: ByteIn, W: ByteOut>(
     alloc: Global,
     asked: &Unparse,
@@ -22,10 +23,13 @@ pub(crate) fn write_unparse<R: ByteIn, W: ByteOut>(
 ) -> Result<(), Fault>
     requires reader { R.failure_count reader.old < 2 ^ 64 - 1 }
     requires writer { W.failure_count writer.old < 2 ^ 64 - 1 }
-    ensures performs { PerformsWhole whole (Unparses asked.now.profile) (R.to_come reader.old) (R.to_come reader.new) (R.failure_count reader.old) (R.failure_count reader.new)
+    ensures performs { PerformsWhole whole (Unparses asked.now.profile) (R.to_come reader.old)
+        (R.to_come reader.new) (R.failure_count reader.old) (R.failure_count reader.new)
         (W.taken writer.old) (W.taken writer.new) source_limit (ended_by result) }
-    ensures failed { ended_by result ≡ Some (Fault.Plain RunFaultCode.Write) → W.failure_count writer.new ≡ W.failure_count writer.old + 1 }
-    ensures unfailed { ended_by result ≢ Some (Fault.Plain RunFaultCode.Write) → W.failure_count writer.new ≡ W.failure_count writer.old }
+    ensures failed { ended_by result ≡ Some (Fault.Plain RunFaultCode.Write)
+        → W.failure_count writer.new ≡ W.failure_count writer.old + 1 }
+    ensures unfailed { ended_by result ≢ Some (Fault.Plain RunFaultCode.Write)
+        → W.failure_count writer.new ≡ W.failure_count writer.old }
 {
     let module = read_module(alloc, asked.profile, reader)?;
     let text = unparse(alloc, &module)?;

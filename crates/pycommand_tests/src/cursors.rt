@@ -61,8 +61,9 @@ fn writes(
     Ok(())
 }
 
-/// A source, a count, a cursor to go on from (none where it is empty), the entries that are listed, the line of the cursor
-/// behind them and the fault that is told (none where they are empty), and the status.
+/// A source, a count, a cursor to go on from (none where it is empty), the entries that are listed,
+/// the line of the cursor behind them and the fault that is told (none where they are empty), and
+/// the status.
 type Row<'a> = (&'a str, Option<u64>, &'a str, &'a str, &'a str, &'a str, u8);
 
 /// Asserts that `tokens` does what a row says.

@@ -60,7 +60,8 @@ fn stops_where_the_writer_fails(rt: HostRuntime) -> Result<(), Fail> {
     Ok(())
 }
 
-// A long dump is written in pieces, here of 65,556 and 9,457 bytes. What the writer took is a front of it, whichever fails.
+// A long dump is written in pieces, here of 65,556 and 9,457 bytes. What the writer took is a front
+// of it, whichever fails.
 #[test]
 fn stops_where_a_piece_fails(rt: HostRuntime) -> Result<(), Fail> {
     let command = command(rt.alloc(), "dump --bare")?;
@@ -86,7 +87,8 @@ fn stops_where_a_piece_fails(rt: HostRuntime) -> Result<(), Fail> {
     Ok(())
 }
 
-/// Asserts that the line of a fault is written up to so many bytes, and the status is that of the fault.
+/// Asserts that the line of a fault is written up to so many bytes, and the status is that of the
+/// fault.
 fn keeps_its_status(rt: &impl Abort, alloc: Global, command: &Command, line: &[u8], room: usize) {
     assert!(rt; room <= line.len());
     let mut reader = reader(b"x = 1.5\n");

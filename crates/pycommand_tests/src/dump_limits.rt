@@ -34,8 +34,8 @@ fn nested(alloc: Global, count: usize, last: &str) -> Result<String, AllocError>
     Ok(text)
 }
 
-/// Asserts that `dump` accepts a source, or, where a fault is given, that it writes nothing and tells
-/// that.
+/// Asserts that `dump` accepts a source, or, where a fault is given, that it writes nothing and
+/// tells that.
 fn meets(rt: &impl Abort, alloc: Global, source: &str, fault: &str) -> Result<(), Fail> {
     let command = command(alloc, "dump")?;
     let mut told = String::new(alloc);
@@ -112,8 +112,8 @@ fn stops_at_heights_and_brackets(rt: HostRuntime) -> Result<(), Fail> {
     meets_all(&rt, rt.alloc(), rows)
 }
 
-/// A bracket is told where it would be the 601st open one, whatever kinds the others are; a tree that is
-/// too high, where its statement starts.
+/// A bracket is told where it would be the 601st open one, whatever kinds the others are; a tree
+/// that is too high, where its statement starts.
 #[test]
 fn stops_at_brackets_of_each_kind(rt: HostRuntime) -> Result<(), Fail> {
     let rows: &[(&[Piece<'_>], &str)] = &[
@@ -187,8 +187,8 @@ fn refuses(rt: &impl Abort, alloc: Global, command: &Command, source: &str) {
     same_status(rt, status, 1, "a long line");
 }
 
-// Many tokens without a form are bad syntax, or too deep where the reader stopped before it saw that;
-// and the tree of a long chain is never made, so that it isn't dropped either.
+// Many tokens without a form are bad syntax, or too deep where the reader stopped before it saw
+// that; and the tree of a long chain is never made, so that it isn't dropped either.
 #[test]
 fn refuses_a_long_line_without_a_form(rt: HostRuntime) -> Result<(), Fail> {
     for count in [600, 100_000] {

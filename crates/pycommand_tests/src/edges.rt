@@ -1,10 +1,11 @@
-//! Listings at the edges of the rules, where Python's documentation leaves a choice or its tools differ.
+//! Listings at the edges of the rules, where Python's documentation leaves a choice or its tools
+//! differ.
 
 use crate::expected::{lists_all, lists_bytes_as};
 use std::test::Fail;
 
-// Each is a source, its encoding as it is shown (empty where nothing is written), its entries but for that of the
-// encoding, and the fault told behind them, if one is.
+// Each is a source, its encoding as it is shown (empty where nothing is written), its entries but
+// for that of the encoding, and the fault told behind them, if one is.
 #[test]
 fn lists_edges(rt: HostRuntime) -> Result<(), Fail> {
     let rows = &[
@@ -184,7 +185,8 @@ fn lists_edges(rt: HostRuntime) -> Result<(), Fail> {
              3,0-3,0 ENDMARKER ''",
             "",
         ),
-        // No line end is supplied where the last physical line begins with a hash, within a literal too.
+        // No line end is supplied where the last physical line begins with a hash, within a literal
+        // too.
         (
             "'''\n# '''",
             "'utf-8'",

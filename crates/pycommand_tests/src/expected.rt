@@ -79,8 +79,8 @@ pub(crate) fn leaves<R: ByteIn>(
     same_status(rt, status, left.status, at);
 }
 
-/// Asserts that a command whose writer takes no more than so many bytes writes those of what it is to write, and tells
-/// that the write failed where there are more.
+/// Asserts that a command whose writer takes no more than so many bytes writes those of what it is
+/// to write, and tells that the write failed where there are more.
 pub(crate) fn stops_at(
     rt: &impl Abort,
     alloc: Global,
@@ -125,8 +125,8 @@ fn push_filled(out: &mut String, field: &str, width: usize) -> Result<(), AllocE
     Ok(())
 }
 
-/// Appends the lines of entries. Each is given on a line of its own, as its places, its type and its text, with a blank
-/// between them.
+/// Appends the lines of entries. Each is given on a line of its own, as its places, its type and
+/// its text, with a blank between them.
 pub(crate) fn push_lines(out: &mut String, entries: &str) -> Result<(), AllocError> {
     for entry in entries.lines() {
         let (places, rest) = entry.split_once(' ').unwrap_or((entry, ""));
@@ -145,8 +145,9 @@ pub(crate) fn push_lines(out: &mut String, entries: &str) -> Result<(), AllocErr
     Ok(())
 }
 
-/// Asserts that `tokens` writes the entry of the encoding as it is shown (nothing where that is empty) and these entries
-/// of a text, and tells this fault of the standard input behind them, if one is given.
+/// Asserts that `tokens` writes the entry of the encoding as it is shown (nothing where that is
+/// empty) and these entries of a text, and tells this fault of the standard input behind them, if
+/// one is given.
 pub(crate) fn lists_as(
     rt: &impl Abort,
     alloc: Global,

@@ -66,7 +66,8 @@ fn push_row(alloc: Global, wanted: &mut String, row: i32) -> Result<(), Fail> {
     Ok(())
 }
 
-// What is held is written more than once here, so the writer also fails in the middle of the listing.
+// What is held is written more than once here, so the writer also fails in the middle of the
+// listing.
 #[test]
 fn stops_within_a_long_listing(rt: HostRuntime) -> Result<(), Fail> {
     let mut source = String::new(rt.alloc());
@@ -93,7 +94,8 @@ fn stops_within_a_long_listing(rt: HostRuntime) -> Result<(), Fail> {
     Ok(())
 }
 
-// The lines before a fault of the source are written before it is told, so a failed write of them is met first.
+// The lines before a fault of the source are written before it is told, so a failed write of them
+// is met first.
 #[test]
 fn tells_a_failed_write_before_a_fault_of_the_source(rt: HostRuntime) -> Result<(), Fail> {
     let mut reader = reader(b"x $\n");
@@ -105,7 +107,8 @@ fn tells_a_failed_write_before_a_fault_of_the_source(rt: HostRuntime) -> Result<
     Ok(())
 }
 
-// Asserts that `tokens` writes these lines where the reader fails behind these bytes, and then tells the failed read.
+// Asserts that `tokens` writes these lines where the reader fails behind these bytes, and then
+// tells the failed read.
 fn lists_read_lines(
     rt: &impl Abort,
     alloc: Global,
@@ -275,7 +278,8 @@ fn tells_of_a_cursor(
     Ok(())
 }
 
-// Whether a cursor behind more entries than were read is one of the source isn't known, so the failed read is told.
+// Whether a cursor behind more entries than were read is one of the source isn't known, so the
+// failed read is told.
 #[test]
 fn tells_a_failed_read_before_a_cursor(rt: HostRuntime) -> Result<(), Fail> {
     let rows: &[(&str, &[u8], u8)] = &[
@@ -293,7 +297,8 @@ fn tells_a_failed_read_before_a_cursor(rt: HostRuntime) -> Result<(), Fail> {
     Ok(())
 }
 
-/// Asserts that the line of a fault is written up to so many bytes, and the status is that of the fault.
+/// Asserts that the line of a fault is written up to so many bytes, and the status is that of the
+/// fault.
 fn keeps_its_status(
     rt: &impl Abort,
     alloc: Global,

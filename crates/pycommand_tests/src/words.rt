@@ -239,8 +239,8 @@ fn with_cursor(
     Ok(words)
 }
 
-/// Asserts what `tokens` with a cursor between other words gives, in each row. A cursor is one word, though its text has
-/// blanks.
+/// Asserts what `tokens` with a cursor between other words gives, in each row. A cursor is one
+/// word, though its text has blanks.
 fn gives_all_with_cursors(
     rt: &impl Abort,
     alloc: Global,

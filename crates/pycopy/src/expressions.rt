@@ -1,7 +1,8 @@
 //! Copies of expressions.
 
 ghost use Rattle.std.specs.Prelude.{◌≡◌, IfOk, map};
-ghost use Rattle.pynode.specs.TreeOf.{arg_of, arg_option_of, arguments_of, boxed_of, comprehension_of, keyword_of, option_of, tree_of};
+ghost use Rattle.pynode.specs.TreeOf.{arg_of, arg_option_of, arguments_of, boxed_of};
+ghost use Rattle.pynode.specs.TreeOf.{comprehension_of, keyword_of, option_of, tree_of};
 
 use crate::leaves::{both, copy_comparisons, copy_constant, copy_optional_name};
 use pynode::{Arg, Arguments, Comprehension, Expr, Keyword};

@@ -90,7 +90,8 @@ pub(crate) fn copy_type_params(
     alloc: Global,
     parameters: &[TypeParam],
 ) -> Result<Vec<TypeParam>, AllocError>
-    ensures { IfOk result (λ made. map type_param_of made.items ≡ map type_param_of parameters.now) }
+    ensures { IfOk result
+        (λ made. map type_param_of made.items ≡ map type_param_of parameters.now) }
 {
     let mut made = Vec::new(alloc);
     for parameter in parameters {

@@ -1,3 +1,5 @@
+-- One blank more.
+--
 -- Carries: push_blanks, leave.
 use Rattle.std.proofs.Common.{◌≡◌, ℕ, ◌+◌, replicate, ◌++◌, codes}
 use Rattle.std.proofs.lemmas.List.{replicate-append-replicate}

@@ -1,4 +1,7 @@
 -- What a list of a tree shows, member by member, and what it weighs.
+--
+-- Carries: show_expr, show_comprehension, show_stmt, show_stmts, show_handlers, show_function,
+-- show_two, show_three and 8 more.
 use Rattle.std.proofs.Common.{◌≡◌, ℕ, zero, suc, ◌+◌, ◌<◌, length, get_or, arith, List, [], ◌∷◌, map, ap, refl, Option, None, Some}
 use Rattle.pynode.specs.declared.expressions.Expr.{Expr}
 use Rattle.pynode.specs.declared.expressions.Comprehension.{Comprehension}

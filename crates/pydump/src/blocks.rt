@@ -3,7 +3,8 @@
 ghost use Rattle.std.specs.Prelude.{◌≡◌, ◌||◌, List, Option, codes, ℕ};
 ghost use Rattle.pydump.specs.Inner.Blocks.{bare_option, listed, shown_block};
 ghost use Rattle.pydump.specs.Layout.{is_flat, is_short};
-ghost use Rattle.pydump.specs.Shows.{Row, a_field, expr_field, left_out, name_field, no_field, no_shown, shown, shown_item};
+ghost use Rattle.pydump.specs.Shows.{Row, a_field, expr_field, left_out, name_field, no_field};
+ghost use Rattle.pydump.specs.Shows.{no_shown, shown, shown_item};
 ghost use Rattle.pynode.specs.TreeOf.{item_of, option_of, tree_of};
 
 use crate::lines::is_flat;
@@ -14,7 +15,9 @@ use pynode::{Expr, Item, Stmt};
 /// Whether a module stands on one line.
 #[tactic(auto, using(crate::proofs::BlockLemmas::short_module))]
 pub(crate) fn is_short_module(style: Style, body: &[Stmt]) -> bool
-    ensures { result ≡ (is_flat style.indent || is_short (a_field (codes "body") (shown_block style.profile body.now)
+    ensures { result
+        ≡ (is_flat style.indent || is_short
+        (a_field (codes "body") (shown_block style.profile body.now)
         (a_field (codes "type_ignores") (Row no_shown) no_field))) }
 {
     is_flat(style) || body.is_empty()
@@ -23,8 +26,10 @@ pub(crate) fn is_short_module(style: Style, body: &[Stmt]) -> bool
 /// Whether a `while` or an `if` stands on one line.
 #[tactic(auto, using(crate::proofs::BlockLemmas::short_test))]
 pub(crate) fn is_short_test(style: Style, test: &Expr, body: &[Stmt], orelse: &[Stmt]) -> bool
-    ensures { result ≡ (is_flat style.indent || is_short (a_field (codes "test") (shown (tree_of test.now))
-        (a_field (codes "body") (shown_block style.profile body.now) (a_field (codes "orelse") (shown_block style.profile orelse.now) no_field)))) }
+    ensures { result
+        ≡ (is_flat style.indent || is_short (a_field (codes "test") (shown (tree_of test.now))
+        (a_field (codes "body") (shown_block style.profile body.now)
+        (a_field (codes "orelse") (shown_block style.profile orelse.now) no_field)))) }
 {
     is_flat(style) || is_bare(test) && body.is_empty() && orelse.is_empty()
 }
@@ -32,7 +37,9 @@ pub(crate) fn is_short_test(style: Style, test: &Expr, body: &[Stmt], orelse: &[
 /// Whether a `with` stands on one line.
 #[tactic(auto, using(crate::proofs::BlockLemmas::short_with))]
 pub(crate) fn is_short_with(style: Style, items: &[Item], body: &[Stmt]) -> bool
-    ensures { result ≡ (is_flat style.indent || is_short (a_field (codes "items") (listed (λ item. shown_item (item_of item)) items.now)
+    ensures { result
+        ≡ (is_flat style.indent || is_short
+        (a_field (codes "items") (listed (λ item. shown_item (item_of item)) items.now)
         (a_field (codes "body") (shown_block style.profile body.now) (left_out no_field)))) }
 {
     is_flat(style) || items.is_empty() && body.is_empty()
@@ -51,8 +58,11 @@ fn is_bare_option(e: &Option<Expr>) -> bool
 /// Whether a handler stands on one line. A name is simple.
 #[tactic(auto, using(crate::proofs::BlockLemmas::short_handler))]
 pub(crate) fn is_short_handler(style: Style, class: &Option<Expr>, body: &[Stmt]) -> bool
-    ensures { (name : Option (List ℕ)) → result ≡ (is_flat style.indent || is_short (expr_field (codes "type") (option_of class.now)
-        (name_field (codes "name") name (a_field (codes "body") (shown_block style.profile body.now) no_field)))) }
+    ensures { (name : Option (List ℕ))
+        → result ≡ (is_flat style.indent || is_short
+        (expr_field (codes "type") (option_of class.now)
+        (name_field (codes "name") name
+        (a_field (codes "body") (shown_block style.profile body.now) no_field)))) }
 {
     is_flat(style) || is_bare_option(class) && body.is_empty()
 }

@@ -4,8 +4,11 @@ ghost use Rattle.std.specs.Prelude.{◌≡◌, ◌++◌, OnOk, codes, map};
 ghost use Rattle.std.specs.String.{string_bytes};
 ghost use Rattle.pydump.specs.Inner.Blocks.{listed, shown_block, shown_caught};
 ghost use Rattle.pydump.specs.Inner.Slots.{coming, node_text};
-ghost use Rattle.pydump.specs.Shows.{a_field, expr_field, left_out, no_field, shown, shown_arguments, shown_item, shown_keyword, shown_name, type_params_field};
-ghost use Rattle.pynode.specs.TreeOf.{arguments_of, boxed_of, item_of, keyword_of, tree_of, type_param_of};
+ghost use Rattle.pydump.specs.Shows.{a_field, expr_field, left_out, no_field, shown};
+ghost use Rattle.pydump.specs.Shows.{shown_arguments, shown_item, shown_keyword, shown_name};
+ghost use Rattle.pydump.specs.Shows.{type_params_field};
+ghost use Rattle.pynode.specs.TreeOf.{arguments_of, boxed_of, item_of, keyword_of, tree_of};
+ghost use Rattle.pynode.specs.TreeOf.{type_param_of};
 
 use crate::blocks::{is_short_test, is_short_with};
 use crate::fields::Field;
@@ -30,8 +33,11 @@ pub(crate) fn show_test(
     body: &[Stmt],
     orelse: &[Stmt],
 ) -> Result<(), AllocError>
-    ensures text { OnOk result (string_bytes out.new ≡ string_bytes out.old ++ node_text style (string_bytes front.old) class.now
-        (a_field (codes "test") (shown (tree_of test.now)) (a_field (codes "body") (shown_block style.profile body.now)
+    ensures text { OnOk result
+        (string_bytes out.new ≡ string_bytes out.old
+        ++ node_text style (string_bytes front.old) class.now
+        (a_field (codes "test") (shown (tree_of test.now))
+        (a_field (codes "body") (shown_block style.profile body.now)
         (a_field (codes "orelse") (shown_block style.profile orelse.now) no_field)))) }
     ensures front { OnOk result (string_bytes front.new ≡ string_bytes front.old) }
 {
@@ -61,8 +67,11 @@ pub(crate) fn show_for(
     body: &[Stmt],
     orelse: &[Stmt],
 ) -> Result<(), AllocError>
-    ensures text { OnOk result (string_bytes out.new ≡ string_bytes out.old ++ node_text style (string_bytes front.old) class.now
-        (a_field (codes "target") (shown (tree_of target.now)) (a_field (codes "iter") (shown (tree_of iter.now))
+    ensures text { OnOk result
+        (string_bytes out.new ≡ string_bytes out.old
+        ++ node_text style (string_bytes front.old) class.now
+        (a_field (codes "target") (shown (tree_of target.now))
+        (a_field (codes "iter") (shown (tree_of iter.now))
         (a_field (codes "body") (shown_block style.profile body.now)
         (a_field (codes "orelse") (shown_block style.profile orelse.now) (left_out no_field)))))) }
     ensures front { OnOk result (string_bytes front.new ≡ string_bytes front.old) }
@@ -92,7 +101,9 @@ pub(crate) fn show_with(
     items: &[Item],
     body: &[Stmt],
 ) -> Result<(), AllocError>
-    ensures text { OnOk result (string_bytes out.new ≡ string_bytes out.old ++ node_text style (string_bytes front.old) class.now
+    ensures text { OnOk result
+        (string_bytes out.new ≡ string_bytes out.old
+        ++ node_text style (string_bytes front.old) class.now
         (a_field (codes "items") (listed (λ item. shown_item (item_of item)) items.now)
         (a_field (codes "body") (shown_block style.profile body.now) (left_out no_field)))) }
     ensures front { OnOk result (string_bytes front.new ≡ string_bytes front.old) }
@@ -122,8 +133,11 @@ pub(crate) fn show_try(
     orelse: &[Stmt],
     finalbody: &[Stmt],
 ) -> Result<(), AllocError>
-    ensures text { OnOk result (string_bytes out.new ≡ string_bytes out.old ++ node_text style (string_bytes front.old) class.now
-        (a_field (codes "body") (shown_block style.profile body.now) (a_field (codes "handlers") (shown_caught style.profile handlers.now)
+    ensures text { OnOk result
+        (string_bytes out.new ≡ string_bytes out.old
+        ++ node_text style (string_bytes front.old) class.now
+        (a_field (codes "body") (shown_block style.profile body.now)
+        (a_field (codes "handlers") (shown_caught style.profile handlers.now)
         (a_field (codes "orelse") (shown_block style.profile orelse.now)
         (a_field (codes "finalbody") (shown_block style.profile finalbody.now) no_field))))) }
     ensures front { OnOk result (string_bytes front.new ≡ string_bytes front.old) }
@@ -157,9 +171,13 @@ pub(crate) fn show_function(
     returns: &Option<Box<Expr>>,
     type_params: &[TypeParam],
 ) -> Result<(), AllocError>
-    ensures text { OnOk result (string_bytes out.new ≡ string_bytes out.old ++ node_text style (string_bytes front.old) class.now
-        (a_field (codes "name") (shown_name name.now) (a_field (codes "args") (shown_arguments (arguments_of args.now))
-        (a_field (codes "body") (shown_block style.profile body.now) (a_field (codes "decorator_list") (listed (λ e. shown (tree_of e)) decorator_list.now)
+    ensures text { OnOk result
+        (string_bytes out.new ≡ string_bytes out.old
+        ++ node_text style (string_bytes front.old) class.now
+        (a_field (codes "name") (shown_name name.now)
+        (a_field (codes "args") (shown_arguments (arguments_of args.now))
+        (a_field (codes "body") (shown_block style.profile body.now)
+        (a_field (codes "decorator_list") (listed (λ e. shown (tree_of e)) decorator_list.now)
         (expr_field (codes "returns") (boxed_of returns.now)
         (left_out (type_params_field style.profile (map type_param_of type_params.now))))))))) }
     ensures front { OnOk result (string_bytes front.new ≡ string_bytes front.old) }
@@ -202,10 +220,14 @@ pub(crate) fn show_class(
     decorator_list: &[Expr],
     type_params: &[TypeParam],
 ) -> Result<(), AllocError>
-    ensures text { OnOk result (string_bytes out.new ≡ string_bytes out.old ++ node_text style (string_bytes front.old) (codes "ClassDef(")
-        (a_field (codes "name") (shown_name name.now) (a_field (codes "bases") (listed (λ e. shown (tree_of e)) bases.now)
+    ensures text { OnOk result
+        (string_bytes out.new ≡ string_bytes out.old
+        ++ node_text style (string_bytes front.old) (codes "ClassDef(")
+        (a_field (codes "name") (shown_name name.now)
+        (a_field (codes "bases") (listed (λ e. shown (tree_of e)) bases.now)
         (a_field (codes "keywords") (listed (λ k. shown_keyword (keyword_of k)) words.now)
-        (a_field (codes "body") (shown_block style.profile body.now) (a_field (codes "decorator_list") (listed (λ e. shown (tree_of e)) decorator_list.now)
+        (a_field (codes "body") (shown_block style.profile body.now)
+        (a_field (codes "decorator_list") (listed (λ e. shown (tree_of e)) decorator_list.now)
         (type_params_field style.profile (map type_param_of type_params.now)))))))) }
     ensures front { OnOk result (string_bytes front.new ≡ string_bytes front.old) }
 {
@@ -247,7 +269,8 @@ fn show_type_params(
     type_params: &[TypeParam],
 ) -> Result<(), AllocError>
     ensures text { OnOk result (string_bytes out.new ≡ string_bytes out.old
-        ++ coming style (string_bytes front.old) told (type_params_field style.profile (map type_param_of type_params.now))) }
+        ++ coming style (string_bytes front.old) told
+        (type_params_field style.profile (map type_param_of type_params.now))) }
     ensures front { OnOk result (string_bytes front.new ≡ string_bytes front.old) }
 {
     let is_shown = match style.profile {

@@ -23,7 +23,9 @@ pub(crate) fn show_expr(
     style: Style,
     e: &Expr,
 ) -> Result<(), AllocError>
-    ensures text { OnOk result (string_bytes out.new ≡ string_bytes out.old ++ text style (string_bytes front.old) (shown (tree_of e.now))) }
+    ensures text { OnOk result
+        (string_bytes out.new ≡ string_bytes out.old
+        ++ text style (string_bytes front.old) (shown (tree_of e.now))) }
     ensures front { OnOk result (string_bytes front.new ≡ string_bytes front.old) }
 {
     match e {

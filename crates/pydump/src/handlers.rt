@@ -29,7 +29,9 @@ pub(crate) fn show_caught(
 ) -> Result<Told, AllocError>
     ensures text { IfOk result (λ next. (rest : Fields) →
         string_bytes out.new ++ coming style (string_bytes front.old) next rest
-        ≡ string_bytes out.old ++ coming style (string_bytes front.old) told (a_field (codes "handlers") (shown_caught style.profile handlers.now) rest)) }
+        ≡ string_bytes out.old
+        ++ coming style (string_bytes front.old) told
+        (a_field (codes "handlers") (shown_caught style.profile handlers.now) rest)) }
     ensures front { OnOk result (string_bytes front.new ≡ string_bytes front.old) }
 {
     push_lead(out, front.as_str(), told, Field::Handlers)?;
@@ -50,7 +52,9 @@ fn show_handlers(
     style: Style,
     handlers: &[Handler],
 ) -> Result<(), AllocError>
-    ensures text { OnOk result (string_bytes out.new ≡ string_bytes out.old ++ text style (string_bytes front.old) (shown_caught style.profile handlers.now)) }
+    ensures text { OnOk result
+        (string_bytes out.new ≡ string_bytes out.old
+        ++ text style (string_bytes front.old) (shown_caught style.profile handlers.now)) }
     ensures front { OnOk result (string_bytes front.new ≡ string_bytes front.old) }
 {
     let outer = open(out, front, style, "[")?;
@@ -73,7 +77,9 @@ fn show_handler(
     style: Style,
     h: &Handler,
 ) -> Result<(), AllocError>
-    ensures text { OnOk result (string_bytes out.new ≡ string_bytes out.old ++ text style (string_bytes front.old) (shown_handler style.profile (handler_of h.now))) }
+    ensures text { OnOk result
+        (string_bytes out.new ≡ string_bytes out.old
+        ++ text style (string_bytes front.old) (shown_handler style.profile (handler_of h.now))) }
     ensures front { OnOk result (string_bytes front.new ≡ string_bytes front.old) }
 {
     let body: &[Stmt] = &h.body;

@@ -16,7 +16,8 @@ use std::alloc::AllocError;
 
 /// The end of a node whose last field is its context, which is not its first.
 pub(crate) fn context_end(named: bool, ctx: Context) -> &'static str
-    ensures { result.now ≡ codes ", " ++ label named (codes "ctx") ++ context_name ctx ++ codes "())" }
+    ensures { result.now ≡ codes ", " ++ label named (codes "ctx") ++ context_name ctx
+        ++ codes "())" }
 {
     if named {
         match ctx {
@@ -48,7 +49,10 @@ pub(crate) fn show_name(
     id: &Identifier,
     ctx: Context,
 ) -> Result<(), AllocError>
-    ensures { (front : List ℕ) → OnOk result (string_bytes out.new ≡ string_bytes out.old ++ text style front (shown (Name id.now ctx))) }
+    ensures { (front : List ℕ)
+        → OnOk result
+        (string_bytes out.new ≡ string_bytes out.old
+        ++ text style front (shown (Name id.now ctx))) }
 {
     out.push_str(name_start(style.names))?;
     push_repr(out, id.as_str())?;
@@ -83,7 +87,10 @@ pub(crate) fn show_constant(
     style: Style,
     value: &Constant,
 ) -> Result<(), AllocError>
-    ensures { (front : List ℕ) → OnOk result (string_bytes out.new ≡ string_bytes out.old ++ text style front (shown (ConstantTree (constant_of value.now)))) }
+    ensures { (front : List ℕ)
+        → OnOk result
+        (string_bytes out.new ≡ string_bytes out.old
+        ++ text style front (shown (ConstantTree (constant_of value.now)))) }
 {
     out.push_str(constant_start(style.names))?;
     push_value(out, value)?;

@@ -35,7 +35,8 @@ pub(crate) fn push_before(
     one_line: bool,
     first: bool,
 ) -> Result<(), AllocError>
-    ensures { OnOk result (string_bytes out.new ≡ string_bytes out.old ++ before one_line front.now first) }
+    ensures { OnOk result
+        (string_bytes out.new ≡ string_bytes out.old ++ before one_line front.now first) }
 {
     if one_line {
         if first { Ok(()) } else { out.push_str(", ") }
@@ -55,7 +56,9 @@ pub(crate) fn push_lead(
     told: Told,
     field: Field,
 ) -> Result<(), AllocError>
-    ensures { OnOk result (string_bytes out.new ≡ string_bytes out.old ++ before told.one_line front.now told.first ++ label told.named (field_name field)) }
+    ensures { OnOk result
+        (string_bytes out.new ≡ string_bytes out.old ++ before told.one_line front.now told.first
+        ++ label told.named (field_name field)) }
 {
     // At once, as most fields are told.
     if told.one_line && told.named && !told.first {
@@ -90,8 +93,8 @@ fn deepen(front: &mut String, style: Style) -> Result<(), AllocError>
     Ok(())
 }
 
-/// Appends what begins a list or a node, its class and the bracket, makes the front of a line one level
-/// deeper, and tells how long it was.
+/// Appends what begins a list or a node, its class and the bracket, makes the front of a line one
+/// level deeper, and tells how long it was.
 #[inline(always)]
 pub(crate) fn open(
     out: &mut String,
@@ -100,7 +103,8 @@ pub(crate) fn open(
     start: &'static str,
 ) -> Result<usize, AllocError>
     ensures text { OnOk result (string_bytes out.new ≡ string_bytes out.old ++ start.now) }
-    ensures front { OnOk result (string_bytes front.new ≡ deeper style.indent (string_bytes front.old)) }
+    ensures front { OnOk result
+        (string_bytes front.new ≡ deeper style.indent (string_bytes front.old)) }
     ensures len { IfOk result (λ len. len ≡ length (string_bytes front.old)) }
 {
     let len = front.as_str().len();

@@ -3,8 +3,11 @@
 ghost use Rattle.std.specs.Prelude.{◌≡◌, ◌++◌, OnOk, map};
 ghost use Rattle.std.specs.String.{string_bytes};
 ghost use Rattle.pydump.specs.Layout.{text};
-ghost use Rattle.pydump.specs.Shows.{Row, comparison_name, shown, shown_alias, shown_arg, shown_comprehension, shown_item, shown_keyword, shown_name, shown_optional, shown_type_param, showns, word};
-ghost use Rattle.pynode.specs.TreeOf.{alias_of, arg_of, comprehension_of, item_of, keyword_of, option_of, tree_of, type_param_of};
+ghost use Rattle.pydump.specs.Shows.{Row, comparison_name, shown, shown_alias, shown_arg};
+ghost use Rattle.pydump.specs.Shows.{shown_comprehension, shown_item, shown_keyword, shown_name};
+ghost use Rattle.pydump.specs.Shows.{shown_optional, shown_type_param, showns, word};
+ghost use Rattle.pynode.specs.TreeOf.{alias_of, arg_of, comprehension_of, item_of, keyword_of};
+ghost use Rattle.pynode.specs.TreeOf.{option_of, tree_of, type_param_of};
 ghost use Rattle.pynode.specs.Trees.{optional};
 
 use crate::expressions::show_expr;
@@ -27,7 +30,10 @@ pub(crate) fn show_exprs(
     style: Style,
     es: &[Expr],
 ) -> Result<(), AllocError>
-    ensures text { OnOk result (string_bytes out.new ≡ string_bytes out.old ++ text style (string_bytes front.old) (Row (showns (map (λ e. shown (tree_of e)) es.now)))) }
+    ensures text { OnOk result
+        (string_bytes out.new ≡ string_bytes out.old
+        ++ text style (string_bytes front.old)
+        (Row (showns (map (λ e. shown (tree_of e)) es.now)))) }
     ensures front { OnOk result (string_bytes front.new ≡ string_bytes front.old) }
 {
     let outer = open(out, front, style, "[")?;
@@ -50,7 +56,10 @@ pub(crate) fn show_options(
     style: Style,
     es: &[Option<Expr>],
 ) -> Result<(), AllocError>
-    ensures text { OnOk result (string_bytes out.new ≡ string_bytes out.old ++ text style (string_bytes front.old) (Row (showns (map (λ e. shown_optional (optional (option_of e))) es.now)))) }
+    ensures text { OnOk result
+        (string_bytes out.new ≡ string_bytes out.old
+        ++ text style (string_bytes front.old)
+        (Row (showns (map (λ e. shown_optional (optional (option_of e))) es.now)))) }
     ensures front { OnOk result (string_bytes front.new ≡ string_bytes front.old) }
 {
     let outer = open(out, front, style, "[")?;
@@ -76,7 +85,10 @@ pub(crate) fn show_comprehensions(
     style: Style,
     cs: &[Comprehension],
 ) -> Result<(), AllocError>
-    ensures text { OnOk result (string_bytes out.new ≡ string_bytes out.old ++ text style (string_bytes front.old) (Row (showns (map (λ c. shown_comprehension (comprehension_of c)) cs.now)))) }
+    ensures text { OnOk result
+        (string_bytes out.new ≡ string_bytes out.old
+        ++ text style (string_bytes front.old)
+        (Row (showns (map (λ c. shown_comprehension (comprehension_of c)) cs.now)))) }
     ensures front { OnOk result (string_bytes front.new ≡ string_bytes front.old) }
 {
     let outer = open(out, front, style, "[")?;
@@ -99,7 +111,10 @@ pub(crate) fn show_keywords(
     style: Style,
     ks: &[Keyword],
 ) -> Result<(), AllocError>
-    ensures text { OnOk result (string_bytes out.new ≡ string_bytes out.old ++ text style (string_bytes front.old) (Row (showns (map (λ k. shown_keyword (keyword_of k)) ks.now)))) }
+    ensures text { OnOk result
+        (string_bytes out.new ≡ string_bytes out.old
+        ++ text style (string_bytes front.old)
+        (Row (showns (map (λ k. shown_keyword (keyword_of k)) ks.now)))) }
     ensures front { OnOk result (string_bytes front.new ≡ string_bytes front.old) }
 {
     let outer = open(out, front, style, "[")?;
@@ -122,7 +137,10 @@ pub(crate) fn show_args(
     style: Style,
     all: &[Arg],
 ) -> Result<(), AllocError>
-    ensures text { OnOk result (string_bytes out.new ≡ string_bytes out.old ++ text style (string_bytes front.old) (Row (showns (map (λ a. shown_arg (arg_of a)) all.now)))) }
+    ensures text { OnOk result
+        (string_bytes out.new ≡ string_bytes out.old
+        ++ text style (string_bytes front.old)
+        (Row (showns (map (λ a. shown_arg (arg_of a)) all.now)))) }
     ensures front { OnOk result (string_bytes front.new ≡ string_bytes front.old) }
 {
     let outer = open(out, front, style, "[")?;
@@ -144,7 +162,10 @@ pub(crate) fn show_comparisons(
     style: Style,
     cs: &[Comparison],
 ) -> Result<(), AllocError>
-    ensures text { OnOk result (string_bytes out.new ≡ string_bytes out.old ++ text style (string_bytes front.old) (Row (showns (map (λ c. word (comparison_name c)) cs.now)))) }
+    ensures text { OnOk result
+        (string_bytes out.new ≡ string_bytes out.old
+        ++ text style (string_bytes front.old)
+        (Row (showns (map (λ c. word (comparison_name c)) cs.now)))) }
     ensures front { OnOk result (string_bytes front.new ≡ string_bytes front.old) }
 {
     let outer = open(out, front, style, "[")?;
@@ -166,7 +187,10 @@ pub(crate) fn show_names(
     style: Style,
     names: &[Identifier],
 ) -> Result<(), AllocError>
-    ensures text { OnOk result (string_bytes out.new ≡ string_bytes out.old ++ text style (string_bytes front.old) (Row (showns (map (λ name. shown_name name) names.now)))) }
+    ensures text { OnOk result
+        (string_bytes out.new ≡ string_bytes out.old
+        ++ text style (string_bytes front.old)
+        (Row (showns (map (λ name. shown_name name) names.now)))) }
     ensures front { OnOk result (string_bytes front.new ≡ string_bytes front.old) }
 {
     let outer = open(out, front, style, "[")?;
@@ -189,7 +213,10 @@ pub(crate) fn show_aliases(
     style: Style,
     names: &[Alias],
 ) -> Result<(), AllocError>
-    ensures text { OnOk result (string_bytes out.new ≡ string_bytes out.old ++ text style (string_bytes front.old) (Row (showns (map (λ a. shown_alias (alias_of a)) names.now)))) }
+    ensures text { OnOk result
+        (string_bytes out.new ≡ string_bytes out.old
+        ++ text style (string_bytes front.old)
+        (Row (showns (map (λ a. shown_alias (alias_of a)) names.now)))) }
     ensures front { OnOk result (string_bytes front.new ≡ string_bytes front.old) }
 {
     let outer = open(out, front, style, "[")?;
@@ -212,7 +239,10 @@ pub(crate) fn show_items(
     style: Style,
     items: &[Item],
 ) -> Result<(), AllocError>
-    ensures text { OnOk result (string_bytes out.new ≡ string_bytes out.old ++ text style (string_bytes front.old) (Row (showns (map (λ item. shown_item (item_of item)) items.now)))) }
+    ensures text { OnOk result
+        (string_bytes out.new ≡ string_bytes out.old
+        ++ text style (string_bytes front.old)
+        (Row (showns (map (λ item. shown_item (item_of item)) items.now)))) }
     ensures front { OnOk result (string_bytes front.new ≡ string_bytes front.old) }
 {
     let outer = open(out, front, style, "[")?;
@@ -235,7 +265,10 @@ pub(crate) fn show_type_params(
     style: Style,
     all: &[TypeParam],
 ) -> Result<(), AllocError>
-    ensures text { OnOk result (string_bytes out.new ≡ string_bytes out.old ++ text style (string_bytes front.old) (Row (showns (map (λ p. shown_type_param (type_param_of p)) all.now)))) }
+    ensures text { OnOk result
+        (string_bytes out.new ≡ string_bytes out.old
+        ++ text style (string_bytes front.old)
+        (Row (showns (map (λ p. shown_type_param (type_param_of p)) all.now)))) }
     ensures front { OnOk result (string_bytes front.new ≡ string_bytes front.old) }
 {
     let outer = open(out, front, style, "[")?;

@@ -3,8 +3,10 @@
 ghost use Rattle.std.specs.Prelude.{◌≡◌, ◌++◌, OnOk};
 ghost use Rattle.std.specs.String.{string_bytes};
 ghost use Rattle.pydump.specs.Layout.{text};
-ghost use Rattle.pydump.specs.Shows.{shown_alias, shown_arg, shown_arguments, shown_comprehension, shown_item, shown_keyword, shown_type_param};
-ghost use Rattle.pynode.specs.TreeOf.{alias_of, arg_of, arguments_of, comprehension_of, item_of, keyword_of, type_param_of};
+ghost use Rattle.pydump.specs.Shows.{shown_alias, shown_arg, shown_arguments, shown_comprehension};
+ghost use Rattle.pydump.specs.Shows.{shown_item, shown_keyword, shown_type_param};
+ghost use Rattle.pynode.specs.TreeOf.{alias_of, arg_of, arguments_of, comprehension_of, item_of};
+ghost use Rattle.pynode.specs.TreeOf.{keyword_of, type_param_of};
 
 use crate::fields::Field;
 use crate::nodes::{show_four, show_one, show_seven, show_three, show_two};
@@ -22,7 +24,9 @@ pub(crate) fn show_comprehension(
     style: Style,
     c: &Comprehension,
 ) -> Result<(), AllocError>
-    ensures text { OnOk result (string_bytes out.new ≡ string_bytes out.old ++ text style (string_bytes front.old) (shown_comprehension (comprehension_of c.now))) }
+    ensures text { OnOk result
+        (string_bytes out.new ≡ string_bytes out.old
+        ++ text style (string_bytes front.old) (shown_comprehension (comprehension_of c.now))) }
     ensures front { OnOk result (string_bytes front.new ≡ string_bytes front.old) }
 {
     show_four(
@@ -46,7 +50,9 @@ pub(crate) fn show_keyword(
     style: Style,
     k: &Keyword,
 ) -> Result<(), AllocError>
-    ensures text { OnOk result (string_bytes out.new ≡ string_bytes out.old ++ text style (string_bytes front.old) (shown_keyword (keyword_of k.now))) }
+    ensures text { OnOk result
+        (string_bytes out.new ≡ string_bytes out.old
+        ++ text style (string_bytes front.old) (shown_keyword (keyword_of k.now))) }
     ensures front { OnOk result (string_bytes front.new ≡ string_bytes front.old) }
 {
     show_two(
@@ -68,7 +74,9 @@ pub(crate) fn show_arg(
     style: Style,
     a: &Arg,
 ) -> Result<(), AllocError>
-    ensures text { OnOk result (string_bytes out.new ≡ string_bytes out.old ++ text style (string_bytes front.old) (shown_arg (arg_of a.now))) }
+    ensures text { OnOk result
+        (string_bytes out.new ≡ string_bytes out.old
+        ++ text style (string_bytes front.old) (shown_arg (arg_of a.now))) }
     ensures front { OnOk result (string_bytes front.new ≡ string_bytes front.old) }
 {
     show_three(
@@ -90,7 +98,9 @@ pub(crate) fn show_arguments(
     style: Style,
     a: &Arguments,
 ) -> Result<(), AllocError>
-    ensures text { OnOk result (string_bytes out.new ≡ string_bytes out.old ++ text style (string_bytes front.old) (shown_arguments (arguments_of a.now))) }
+    ensures text { OnOk result
+        (string_bytes out.new ≡ string_bytes out.old
+        ++ text style (string_bytes front.old) (shown_arguments (arguments_of a.now))) }
     ensures front { OnOk result (string_bytes front.new ≡ string_bytes front.old) }
 {
     show_seven(
@@ -116,7 +126,9 @@ pub(crate) fn show_alias(
     style: Style,
     a: &Alias,
 ) -> Result<(), AllocError>
-    ensures text { OnOk result (string_bytes out.new ≡ string_bytes out.old ++ text style (string_bytes front.old) (shown_alias (alias_of a.now))) }
+    ensures text { OnOk result
+        (string_bytes out.new ≡ string_bytes out.old
+        ++ text style (string_bytes front.old) (shown_alias (alias_of a.now))) }
     ensures front { OnOk result (string_bytes front.new ≡ string_bytes front.old) }
 {
     show_two(
@@ -137,7 +149,9 @@ pub(crate) fn show_item(
     style: Style,
     item: &Item,
 ) -> Result<(), AllocError>
-    ensures text { OnOk result (string_bytes out.new ≡ string_bytes out.old ++ text style (string_bytes front.old) (shown_item (item_of item.now))) }
+    ensures text { OnOk result
+        (string_bytes out.new ≡ string_bytes out.old
+        ++ text style (string_bytes front.old) (shown_item (item_of item.now))) }
     ensures front { OnOk result (string_bytes front.new ≡ string_bytes front.old) }
 {
     show_two(
@@ -158,7 +172,9 @@ pub(crate) fn show_type_param(
     style: Style,
     p: &TypeParam,
 ) -> Result<(), AllocError>
-    ensures text { OnOk result (string_bytes out.new ≡ string_bytes out.old ++ text style (string_bytes front.old) (shown_type_param (type_param_of p.now))) }
+    ensures text { OnOk result
+        (string_bytes out.new ≡ string_bytes out.old
+        ++ text style (string_bytes front.old) (shown_type_param (type_param_of p.now))) }
     ensures front { OnOk result (string_bytes front.new ≡ string_bytes front.old) }
 {
     match p {

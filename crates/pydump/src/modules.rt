@@ -22,7 +22,8 @@ use std::alloc::{AllocError, Global};
 /// each member of a list; a node of at most three simple fields stays on one line. A field that is
 /// None is left out, and the fields behind it have their names. The only error is of memory.
 pub fn dump(alloc: Global, tree: &Module, style: Style) -> Result<String, AllocError>
-    ensures { IfOk result (λ t. string_bytes t ≡ dump_text style (shown_module style.profile (module_of tree.now))) }
+    ensures { IfOk result
+        (λ t. string_bytes t ≡ dump_text style (shown_module style.profile (module_of tree.now))) }
 {
     let body: &[Stmt] = &tree.body;
     let mut out = String::new(alloc);

@@ -28,7 +28,9 @@ fn show_part(
     style: Style,
     part: Part<'_>,
 ) -> Result<(), AllocError>
-    ensures text { OnOk result (string_bytes out.new ≡ string_bytes out.old ++ text style (string_bytes front.old) (slot_shown (slot_of part.entry))) }
+    ensures text { OnOk result
+        (string_bytes out.new ≡ string_bytes out.old
+        ++ text style (string_bytes front.old) (slot_shown (slot_of part.entry))) }
     ensures front { OnOk result (string_bytes front.new ≡ string_bytes front.old) }
 {
     match part {
@@ -69,7 +71,8 @@ pub(crate) fn show_field(
 ) -> Result<Told, AllocError>
     ensures text { IfOk result (λ next. (rest : Fields) →
         string_bytes out.new ++ coming style (string_bytes front.old) next rest
-        ≡ string_bytes out.old ++ coming style (string_bytes front.old) told (with_slot (slot_of part.entry) rest)) }
+        ≡ string_bytes out.old
+        ++ coming style (string_bytes front.old) told (with_slot (slot_of part.entry) rest)) }
     ensures front { OnOk result (string_bytes front.new ≡ string_bytes front.old) }
 {
     if is_absent(part) {
@@ -99,7 +102,10 @@ pub(crate) fn show_one(
     class: &'static str,
     a: Part<'_>,
 ) -> Result<(), AllocError>
-    ensures text { OnOk result (string_bytes out.new ≡ string_bytes out.old ++ node_text style (string_bytes front.old) class.now (with_slot (slot_of a.entry) no_field)) }
+    ensures text { OnOk result
+        (string_bytes out.new ≡ string_bytes out.old
+        ++ node_text style (string_bytes front.old) class.now
+        (with_slot (slot_of a.entry) no_field)) }
     ensures front { OnOk result (string_bytes front.new ≡ string_bytes front.old) }
 {
     let told = Told {
@@ -125,7 +131,10 @@ pub(crate) fn show_two(
     a: Part<'_>,
     b: Part<'_>,
 ) -> Result<(), AllocError>
-    ensures text { OnOk result (string_bytes out.new ≡ string_bytes out.old ++ node_text style (string_bytes front.old) class.now (with_slot (slot_of a.entry) (with_slot (slot_of b.entry) no_field))) }
+    ensures text { OnOk result
+        (string_bytes out.new ≡ string_bytes out.old
+        ++ node_text style (string_bytes front.old) class.now
+        (with_slot (slot_of a.entry) (with_slot (slot_of b.entry) no_field))) }
     ensures front { OnOk result (string_bytes front.new ≡ string_bytes front.old) }
 {
     let told = Told {
@@ -153,7 +162,11 @@ pub(crate) fn show_three(
     b: Part<'_>,
     c: Part<'_>,
 ) -> Result<(), AllocError>
-    ensures text { OnOk result (string_bytes out.new ≡ string_bytes out.old ++ node_text style (string_bytes front.old) class.now (with_slot (slot_of a.entry) (with_slot (slot_of b.entry) (with_slot (slot_of c.entry) no_field)))) }
+    ensures text { OnOk result
+        (string_bytes out.new ≡ string_bytes out.old
+        ++ node_text style (string_bytes front.old) class.now
+        (with_slot (slot_of a.entry)
+        (with_slot (slot_of b.entry) (with_slot (slot_of c.entry) no_field)))) }
     ensures front { OnOk result (string_bytes front.new ≡ string_bytes front.old) }
 {
     let told = Told {
@@ -182,7 +195,12 @@ pub(crate) fn show_four(
     c: Part<'_>,
     d: Part<'_>,
 ) -> Result<(), AllocError>
-    ensures text { OnOk result (string_bytes out.new ≡ string_bytes out.old ++ node_text style (string_bytes front.old) class.now (with_slot (slot_of a.entry) (with_slot (slot_of b.entry) (with_slot (slot_of c.entry) (with_slot (slot_of d.entry) no_field))))) }
+    ensures text { OnOk result
+        (string_bytes out.new ≡ string_bytes out.old
+        ++ node_text style (string_bytes front.old) class.now
+        (with_slot (slot_of a.entry)
+        (with_slot (slot_of b.entry)
+        (with_slot (slot_of c.entry) (with_slot (slot_of d.entry) no_field))))) }
     ensures front { OnOk result (string_bytes front.new ≡ string_bytes front.old) }
 {
     let told = Told {
@@ -215,8 +233,22 @@ pub(crate) fn show_seven(
     f: Part<'_>,
     g: Part<'_>,
 ) -> Result<(), AllocError>
-    ensures text { is_short (with_slot (slot_of a.entry) (with_slot (slot_of b.entry) (with_slot (slot_of c.entry) (with_slot (slot_of d.entry) (with_slot (slot_of e.entry) (with_slot (slot_of f.entry) (with_slot (slot_of g.entry) no_field))))))) ≡ false
-        → OnOk result (string_bytes out.new ≡ string_bytes out.old ++ node_text style (string_bytes front.old) class.now (with_slot (slot_of a.entry) (with_slot (slot_of b.entry) (with_slot (slot_of c.entry) (with_slot (slot_of d.entry) (with_slot (slot_of e.entry) (with_slot (slot_of f.entry) (with_slot (slot_of g.entry) no_field)))))))) }
+    ensures text { is_short
+        (with_slot (slot_of a.entry)
+        (with_slot (slot_of b.entry)
+        (with_slot (slot_of c.entry)
+        (with_slot (slot_of d.entry)
+        (with_slot (slot_of e.entry)
+        (with_slot (slot_of f.entry) (with_slot (slot_of g.entry) no_field))))))) ≡ false
+        → OnOk result
+        (string_bytes out.new ≡ string_bytes out.old
+        ++ node_text style (string_bytes front.old) class.now
+        (with_slot (slot_of a.entry)
+        (with_slot (slot_of b.entry)
+        (with_slot (slot_of c.entry)
+        (with_slot (slot_of d.entry)
+        (with_slot (slot_of e.entry)
+        (with_slot (slot_of f.entry) (with_slot (slot_of g.entry) no_field)))))))) }
     ensures front { OnOk result (string_bytes front.new ≡ string_bytes front.old) }
 {
     let told = Told {

@@ -45,7 +45,9 @@ pub(crate) enum Part<'a> {
 
 /// The field of an expression that may be absent.
 pub(crate) fn boxed_part<'a>(field: Field, e: &'a Option<Box<Expr>>) -> Part<'a>
-    ensures { (rest : Fields) → with_slot (slot_of result) rest ≡ optional_field (field_name field) (optional (boxed_of e.now)) rest }
+    ensures { (rest : Fields)
+        → with_slot (slot_of result) rest
+        ≡ optional_field (field_name field) (optional (boxed_of e.now)) rest }
 {
     match e {
         None => Part::LeftOut,
@@ -55,7 +57,8 @@ pub(crate) fn boxed_part<'a>(field: Field, e: &'a Option<Box<Expr>>) -> Part<'a>
 
 /// The field of an expression that may be absent, where it stands in no box.
 pub(crate) fn option_part<'a>(field: Field, e: &'a Option<Expr>) -> Part<'a>
-    ensures { (rest : Fields) → with_slot (slot_of result) rest ≡ expr_field (field_name field) (option_of e.now) rest }
+    ensures { (rest : Fields)
+        → with_slot (slot_of result) rest ≡ expr_field (field_name field) (option_of e.now) rest }
 {
     match e {
         None => Part::LeftOut,
@@ -65,7 +68,9 @@ pub(crate) fn option_part<'a>(field: Field, e: &'a Option<Expr>) -> Part<'a>
 
 /// The field of a parameter that may be absent.
 pub(crate) fn arg_part<'a>(field: Field, a: &'a Option<Arg>) -> Part<'a>
-    ensures { (rest : Fields) → with_slot (slot_of result) rest ≡ arg_field (field_name field) (optional_arg (arg_option_of a.now)) rest }
+    ensures { (rest : Fields)
+        → with_slot (slot_of result) rest
+        ≡ arg_field (field_name field) (optional_arg (arg_option_of a.now)) rest }
 {
     match a {
         None => Part::LeftOut,
@@ -75,7 +80,8 @@ pub(crate) fn arg_part<'a>(field: Field, a: &'a Option<Arg>) -> Part<'a>
 
 /// The field of a name that may be absent.
 pub(crate) fn name_part<'a>(field: Field, id: &'a Option<Identifier>) -> Part<'a>
-    ensures { (rest : Fields) → with_slot (slot_of result) rest ≡ name_field (field_name field) id.now rest }
+    ensures { (rest : Fields)
+        → with_slot (slot_of result) rest ≡ name_field (field_name field) id.now rest }
 {
     match id {
         None => Part::LeftOut,

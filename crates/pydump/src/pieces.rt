@@ -29,7 +29,8 @@ enum Stage {
     Done,
 }
 
-/// The dump text of a module, in pieces that are still to come: what begins it, each statement, what ends it.
+/// The dump text of a module, in pieces that are still to come: what begins it, each statement,
+/// what ends it.
 ///
 /// So the text need not be held whole. A piece is made when it is asked for.
 #[derive(Drop)]
@@ -59,7 +60,9 @@ impl<'a> Model for Pieces<'a> {
 impl<'a> Pieces<'a> {
     /// All pieces of a module's dump text.
     pub fn new(alloc: Global, tree: &'a Module, style: Style) -> Result<Pieces<'a>, AllocError>
-        ensures { IfOk result (λ pieces. concat pieces ≡ dump_text style (shown_module style.profile (module_of tree.now))) }
+        ensures { IfOk result
+            (λ pieces. concat pieces
+            ≡ dump_text style (shown_module style.profile (module_of tree.now))) }
     {
         let body: &[Stmt] = &tree.body;
         let one_line = is_short_module(style, body);
@@ -99,9 +102,11 @@ impl<'a> Pieces<'a> {
         })
     }
 
-    /// Appends the next piece, and tells whether there was one. Behind an error nothing is said of the text.
+    /// Appends the next piece, and tells whether there was one. Behind an error nothing is said of
+    /// the text.
     pub fn push_next(&mut self, out: &mut String) -> Result<bool, AllocError>
-        ensures text { OnOk result (string_bytes out.new ++ concat self.new ≡ string_bytes out.old ++ concat self.old) }
+        ensures text { OnOk result
+            (string_bytes out.new ++ concat self.new ≡ string_bytes out.old ++ concat self.old) }
         ensures fewer { IfOk result (λ more. more ≡ true → length self.new < length self.old) }
         ensures end { IfOk result (λ more. more ≡ false → self.new ≡ []) }
     {

@@ -105,7 +105,8 @@ pub(crate) fn is_short_two(style: Style, a: Part<'_>, b: Part<'_>) -> bool
 #[tactic(auto, using(crate::proofs::SlotLemmas::three_slots))]
 pub(crate) fn is_short_three(style: Style, a: Part<'_>, b: Part<'_>, c: Part<'_>) -> bool
     ensures { result ≡ (is_flat style.indent
-        || is_short (with_slot (slot_of a.entry) (with_slot (slot_of b.entry) (with_slot (slot_of c.entry) no_field)))) }
+        || is_short (with_slot (slot_of a.entry)
+        (with_slot (slot_of b.entry) (with_slot (slot_of c.entry) no_field)))) }
 {
     is_flat(style) || is_plain(a) && is_plain(b) && is_plain(c)
 }
@@ -128,7 +129,9 @@ pub(crate) fn is_short_four(
     d: Part<'_>,
 ) -> bool
     ensures { result ≡ (is_flat style.indent
-        || is_short (with_slot (slot_of a.entry) (with_slot (slot_of b.entry) (with_slot (slot_of c.entry) (with_slot (slot_of d.entry) no_field))))) }
+        || is_short (with_slot (slot_of a.entry)
+        (with_slot (slot_of b.entry)
+        (with_slot (slot_of c.entry) (with_slot (slot_of d.entry) no_field))))) }
 {
     is_flat(style)
         || is_one_absent(a, b, c, d) && is_plain(a) && is_plain(b) && is_plain(c) && is_plain(d)

@@ -27,7 +27,9 @@ pub(crate) fn show_stmt(
     style: Style,
     s: &Stmt,
 ) -> Result<(), AllocError>
-    ensures text { OnOk result (string_bytes out.new ≡ string_bytes out.old ++ text style (string_bytes front.old) (shown_stmt style.profile (stmt_of s.now))) }
+    ensures text { OnOk result
+        (string_bytes out.new ≡ string_bytes out.old
+        ++ text style (string_bytes front.old) (shown_stmt style.profile (stmt_of s.now))) }
     ensures front { OnOk result (string_bytes front.new ≡ string_bytes front.old) }
 {
     match s {
@@ -251,7 +253,9 @@ fn show_stmts(
     style: Style,
     body: &[Stmt],
 ) -> Result<(), AllocError>
-    ensures text { OnOk result (string_bytes out.new ≡ string_bytes out.old ++ text style (string_bytes front.old) (shown_block style.profile body.now)) }
+    ensures text { OnOk result
+        (string_bytes out.new ≡ string_bytes out.old
+        ++ text style (string_bytes front.old) (shown_block style.profile body.now)) }
     ensures front { OnOk result (string_bytes front.new ≡ string_bytes front.old) }
 {
     let outer = open(out, front, style, "[")?;
@@ -277,7 +281,9 @@ pub(crate) fn show_block(
 ) -> Result<Told, AllocError>
     ensures text { IfOk result (λ next. (rest : Fields) →
         string_bytes out.new ++ coming style (string_bytes front.old) next rest
-        ≡ string_bytes out.old ++ coming style (string_bytes front.old) told (a_field (field_name field) (shown_block style.profile body.now) rest)) }
+        ≡ string_bytes out.old
+        ++ coming style (string_bytes front.old) told
+        (a_field (field_name field) (shown_block style.profile body.now) rest)) }
     ensures front { OnOk result (string_bytes front.new ≡ string_bytes front.old) }
 {
     push_lead(out, front.as_str(), told, field)?;

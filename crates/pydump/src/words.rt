@@ -2,7 +2,8 @@
 
 ghost use Rattle.std.specs.Prelude.{◌≡◌, ◌++◌, OnOk, codes, decimal};
 ghost use Rattle.std.specs.String.{string_bytes};
-ghost use Rattle.pydump.specs.Shows.{bool_name, comparison_name, context_name, operator_name, unary_name, value_text};
+ghost use Rattle.pydump.specs.Shows.{bool_name, comparison_name, context_name, operator_name};
+ghost use Rattle.pydump.specs.Shows.{unary_name, value_text};
 ghost use Rattle.pynode.specs.TreeOf.{constant_of};
 
 use itoa::Buffer;
@@ -88,7 +89,8 @@ pub(crate) fn push_number(out: &mut String, number: u64) -> Result<(), AllocErro
 /// Appends the value of a constant.
 #[inline(always)]
 pub(crate) fn push_value(out: &mut String, value: &Constant) -> Result<(), AllocError>
-    ensures { OnOk result (string_bytes out.new ≡ string_bytes out.old ++ value_text (constant_of value.now)) }
+    ensures { OnOk result
+        (string_bytes out.new ≡ string_bytes out.old ++ value_text (constant_of value.now)) }
 {
     match value {
         Constant::None => out.push_str("None"),

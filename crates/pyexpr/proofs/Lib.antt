@@ -1,35 +1,8 @@
 pub mod Callers
-mod Here
-pub mod Stands
-pub mod Reading
-pub mod Climbs
-pub mod Trails
-pub mod LevelSteps
-pub mod AtomSteps
-pub mod AloneSteps
-pub mod Wholes
-pub mod Pushes
-pub mod ListSteps
-pub mod SquareSteps
-pub mod Runs
-pub mod Signs
-pub mod ChainSteps
-pub mod ArgumentOrder
-pub mod ArgumentSteps
-pub mod Formals
-pub mod FormalSteps
-pub mod FormalNodes
-pub mod SignatureHeights
-pub mod ParameterParts
-pub mod ParameterSteps
-pub mod PairSteps
-pub mod BraceSteps
-pub mod CompSteps
-pub mod ClauseSteps
-pub mod TargetShapes
-pub mod Changes
-pub mod TurnedHeights
-pub mod PartSteps
-pub mod TargetSteps
-pub mod ClausePushes
-pub mod ClauseParts
+mod Places
+mod Reader
+mod Lists
+mod Calls
+mod FormalParameters
+mod ForClauses
+mod Stores

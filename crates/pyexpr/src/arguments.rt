@@ -1,6 +1,7 @@
 //! The arguments of a call.
 
-ghost use Rattle.std.specs.Prelude.{◌≡◌, ◌+◌, ◌-◌, ◌++◌, ◌<◌, ◌≤◌, ◌∷◌, MatchResult, [], length, map, max, option_map, true};
+ghost use Rattle.std.specs.Prelude.{◌≡◌, ◌+◌, ◌-◌, ◌++◌, ◌<◌, ◌≤◌, ◌∷◌, MatchResult, [], length};
+ghost use Rattle.std.specs.Prelude.{map, max, option_map, true};
 ghost use Rattle.std.specs.Str.{chars};
 ghost use Rattle.unicode_normalization.specs.Forms.{nfkc};
 ghost use Rattle.pynode.specs.TreeOf.{keyword_of, tree_of};
@@ -10,7 +11,8 @@ ghost use Rattle.pygrammar.specs.Precedence as precedence;
 ghost use Rattle.pygrammar.specs.Reader as reader;
 ghost use Rattle.pyexpr.specs.Answers.{Answered, Failed};
 ghost use Rattle.pyexpr.specs.Inner.Arguments as arguments;
-ghost use Rattle.pyexpr.specs.Inner.Arguments.{ActualAt, AddedAt, IsKindAt, arguments_of, entry_of, level_of, place_of, state_of};
+ghost use Rattle.pyexpr.specs.Inner.Arguments.{ActualAt, AddedAt, IsKindAt, arguments_of, entry_of};
+ghost use Rattle.pyexpr.specs.Inner.Arguments.{level_of, place_of, state_of};
 ghost use Rattle.pyexpr.specs.Inner.Readings.{IsOpen, inner_reads};
 ghost use Rattle.pyexpr.specs.Views.{seen};
 
@@ -19,9 +21,11 @@ use crate::comprehensions::comps;
 use crate::depth::Depth;
 use crate::found::Read;
 use crate::levels::{read_expression, read_named};
+use crate::list_makers::{make_call, make_generator};
 use crate::listings::first_items;
 use crate::looks::{is_op, lead_at, name_with, starts_comp};
-use crate::makers::{make_call, make_generator, make_starred, put, put_keyword};
+use crate::makers::make_starred;
+use crate::room::{put, put_keyword};
 use crate::stop::Stop;
 use pylex::Exact;
 use pyvalue::Terminal;
@@ -56,15 +60,17 @@ fn moved(actual: Actual, next: usize) -> Actual
 }
 
 /// Appends an argument without a name.
-#[tactic(auto, using(crate::proofs::Pushes::pushed, crate::proofs::ArgumentSteps::args_height))]
+#[tactic(auto, using(crate::proofs::Lists::Pushes::pushed, crate::proofs::Calls::ArgumentSteps::args_height))]
 #[inline(always)]
 fn add_plain(actual: Actual, e: Read, wrong: bool) -> Result<Actual, Stop>
     ensures state { MatchResult result
         (λ r. state_of r ≡ arguments.state actual.keyed actual.doubled wrong
-        (map tree_of actual.args.items ++ (tree_of e.expr.value ∷ [])) (map keyword_of actual.keywords.items))
+        (map tree_of actual.args.items ++ (tree_of e.expr.value ∷ []))
+        (map keyword_of actual.keywords.items))
         (λ s. s ≡ Stop.Memory) }
     ensures next { MatchResult result (λ r. r.next ≡ e.next) (λ s. s ≡ Stop.Memory) }
-    ensures height { MatchResult result (λ r. r.height ≡ max actual.height e.height) (λ s. s ≡ Stop.Memory) }
+    ensures height { MatchResult result (λ r. r.height ≡ max actual.height e.height)
+        (λ s. s ≡ Stop.Memory) }
 {
     let Actual {
         args,
@@ -89,7 +95,7 @@ fn add_plain(actual: Actual, e: Read, wrong: bool) -> Result<Actual, Stop>
 }
 
 /// Appends an argument of this name, or one of `**`.
-#[tactic(auto, using(crate::proofs::ArgumentSteps::keywords_height))]
+#[tactic(auto, using(crate::proofs::Calls::ArgumentSteps::keywords_height))]
 #[inline(never)]
 fn add_keyword(
     alloc: Global,
@@ -100,10 +106,15 @@ fn add_keyword(
 ) -> Result<Actual, Stop>
     ensures state { MatchResult result
         (λ r. state_of r ≡ arguments.state true doubled actual.wrong (map tree_of actual.args.items)
-        (map keyword_of actual.keywords.items ++ (record { arg = option_map (λ x. nfkc (chars x.now)) name.entry; value = tree_of e.expr.value } ∷ [])))
+        (map keyword_of actual.keywords.items ++
+        (record {
+          arg = option_map (λ x. nfkc (chars x.now)) name.entry;
+          value = tree_of e.expr.value;
+        } ∷ [])))
         (λ s. s ≡ Stop.Memory) }
     ensures next { MatchResult result (λ r. r.next ≡ e.next) (λ s. s ≡ Stop.Memory) }
-    ensures height { MatchResult result (λ r. r.height ≡ max actual.height e.height) (λ s. s ≡ Stop.Memory) }
+    ensures height { MatchResult result (λ r. r.height ≡ max actual.height e.height)
+        (λ s. s ≡ Stop.Memory) }
 {
     let Actual {
         args,
@@ -133,7 +144,8 @@ fn add(alloc: Global, actual: Actual, kind: Kind, e: Read, room: usize) -> Resul
     requires low { e.height < room }
     requires held { actual.height ≤ room }
     ensures state { MatchResult result
-        (λ r. state_of r ≡ arguments.step (state_of actual) (entry_of kind.entry (tree_of e.expr.value)))
+        (λ r. state_of r ≡ arguments.step (state_of actual)
+        (entry_of kind.entry (tree_of e.expr.value)))
         (λ s. s ≡ Stop.Memory) }
     ensures next { MatchResult result (λ r. r.next ≡ e.next) (λ s. s ≡ Stop.Memory) }
     ensures low { MatchResult result (λ r. r.height ≤ room) (λ s. s ≡ Stop.Memory) }
@@ -157,7 +169,7 @@ fn add(alloc: Global, actual: Actual, kind: Kind, e: Read, room: usize) -> Resul
 }
 
 /// Whether an argument begins at the place.
-#[tactic(auto, using(crate::proofs::ArgumentSteps::begins_high, crate::proofs::ArgumentSteps::begins_double, crate::proofs::ArgumentSteps::begins_not))]
+#[tactic(auto, using(crate::proofs::Calls::ArgumentSteps::begins_high, crate::proofs::Calls::ArgumentSteps::begins_double, crate::proofs::Calls::ArgumentSteps::begins_not))]
 fn begins_argument(tokens: &[Terminal], at: usize) -> bool
     ensures is { result ≡ precedence.starts entries.Argument (seen tokens.now at) }
     ensures within { result ≡ true → at < length tokens.now }
@@ -169,7 +181,7 @@ fn begins_argument(tokens: &[Terminal], at: usize) -> bool
 }
 
 /// How an argument at the place begins, if one does.
-#[tactic(auto, using(crate::proofs::ArgumentSteps::spread_kind, crate::proofs::ArgumentSteps::doubled_kind, crate::proofs::ArgumentSteps::keyed_kind, crate::proofs::ArgumentSteps::single_kind))]
+#[tactic(auto, using(crate::proofs::Calls::ArgumentSteps::spread_kind, crate::proofs::Calls::ArgumentSteps::doubled_kind, crate::proofs::Calls::ArgumentSteps::keyed_kind, crate::proofs::Calls::ArgumentSteps::single_kind))]
 fn kind_at<'a>(tokens: &[Terminal<'a>], at: usize) -> Kind<'a>
     requires { at ≤ length tokens.now }
     ensures { IsKindAt result tokens.now at }
@@ -199,7 +211,8 @@ fn read_argument(
     requires within { place_of kind at ≤ length tokens.now }
     requires open { IsOpen depth }
     ensures { Answered tokens.now (depth.room - 1) (at + 1)
-        (inner_reads depth (level_of kind.entry) (seen tokens.now (place_of kind.entry at))) result }
+        (inner_reads depth (level_of kind.entry)
+        (seen tokens.now (place_of kind.entry at))) result }
 {
     match kind {
         Kind::Single => read_named(alloc, tokens, at, depth.inner()),
@@ -271,7 +284,8 @@ pub(crate) fn arguments(
     requires within { at ≤ length tokens.now }
     requires open { IsOpen depth }
     ensures { MatchResult result
-        (λ r. ActualAt tokens.now depth.room at arguments.start (arguments_of depth [] (seen tokens.now at)) r)
+        (λ r. ActualAt tokens.now depth.room at arguments.start
+        (arguments_of depth [] (seen tokens.now at)) r)
         (λ s. Failed s (arguments_of depth [] (seen tokens.now at))) }
 {
     more_arguments(alloc, tokens, none_at(alloc, at), depth)
@@ -288,7 +302,8 @@ fn finish(
 ) -> Result<Read, Stop>
     requires { actual.next ≤ length tokens.now }
     ensures { Answered tokens.now room actual.next
-        (cap room (arguments.finished (tree_of func.expr.value) (state_of actual) (seen tokens.now actual.next))) result }
+        (cap room (arguments.finished (tree_of func.expr.value) (state_of actual)
+        (seen tokens.now actual.next))) result }
 {
     if !is_op(tokens, actual.next, Exact::RPar) {
         return Err(Stop::NoForm);
@@ -321,7 +336,9 @@ fn call_from(
     requires open { IsOpen depth }
     requires low { first.height ≤ depth.room }
     ensures { Answered tokens.now depth.room first.next
-        (cap depth.room (arguments.called_from depth (tree_of func.expr.value) (state_of first) (seen tokens.now first.next))) result }
+        (cap depth.room
+        (arguments.called_from depth (tree_of func.expr.value) (state_of first)
+        (seen tokens.now first.next))) result }
 {
     if !is_op(tokens, first.next, Exact::Comma) {
         return finish(alloc, tokens, func, first, depth.room);
@@ -378,7 +395,9 @@ pub(crate) fn call_step(
     requires within { func.next < length tokens.now }
     requires open { IsOpen depth }
     ensures { Answered tokens.now depth.room (func.next + 1)
-        (cap depth.room (reader.call_step (inner_reads depth) (tree_of func.expr.value) (seen tokens.now (func.next + 1)))) result }
+        (cap depth.room
+        (reader.call_step (inner_reads depth) (tree_of func.expr.value)
+        (seen tokens.now (func.next + 1)))) result }
 {
     let at = func.next + 1;
     let none = none_at(alloc, at);

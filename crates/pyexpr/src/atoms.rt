@@ -20,12 +20,11 @@ use crate::comprehensions::comps;
 use crate::depth::Depth;
 use crate::found::Read;
 use crate::levels::{read_elem, yield_step};
+use crate::list_makers::{make_generator, make_list, make_list_comp, make_tuple};
 use crate::listings::{Item, others};
 use crate::literals::string_run;
 use crate::looks::{is_op, is_word, lead_at, starts_comp, terminal_at};
-use crate::makers::{
-    make_constant, make_generator, make_list, make_list_comp, make_name, make_tuple, make_whole,
-};
+use crate::makers::{make_constant, make_name, make_whole};
 use crate::stop::Stop;
 use pygrammar::Level;
 use pylex::Exact;
@@ -43,7 +42,8 @@ pub(crate) fn read_atom(
     depth: Depth,
 ) -> Result<Read, Stop>
     requires { at ≤ length tokens.now }
-    ensures { Answered tokens.now depth.room (at + 1) (reads depth Level.Atom (seen tokens.now at)) result }
+    ensures { Answered tokens.now depth.room (at + 1)
+        (reads depth Level.Atom (seen tokens.now at)) result }
 {
     depth.enter()?;
     match terminal_at(tokens, at) {
@@ -65,7 +65,9 @@ fn atom_of(
     requires within { next ≤ length tokens.now }
     requires open { IsOpen depth }
     ensures { Answered tokens.now depth.room next
-        (cap depth.room (capped_atom (same_reads depth) (inner_reads depth) (terminal t.entry ∷ seen tokens.now next))) result }
+        (cap depth.room
+        (capped_atom (same_reads depth) (inner_reads depth)
+        (terminal t.entry ∷ seen tokens.now next))) result }
 {
     match t {
         Terminal::Ident(name) => make_name(alloc, name, Context::Load, next),
@@ -86,7 +88,9 @@ fn other_atom(
     requires within { next ≤ length tokens.now }
     requires open { IsOpen depth }
     ensures { Answered tokens.now depth.room next
-        (cap depth.room (capped_atom (same_reads depth) (inner_reads depth) (terminal t.entry ∷ seen tokens.now next))) result }
+        (cap depth.room
+        (capped_atom (same_reads depth) (inner_reads depth)
+        (terminal t.entry ∷ seen tokens.now next))) result }
 {
     match t {
         Terminal::Ident(name) => make_name(alloc, name, Context::Load, next),
@@ -138,7 +142,8 @@ pub(crate) fn round(
     requires within { at ≤ length tokens.now }
     requires open { IsOpen depth }
     ensures { Answered tokens.now depth.room (at + 1)
-        (cap depth.room (capped_round (same_reads depth) (inner_reads depth) (seen tokens.now at))) result }
+        (cap depth.room
+        (capped_round (same_reads depth) (inner_reads depth) (seen tokens.now at))) result }
 {
     if is_op(tokens, at, Exact::RPar) {
         return make_tuple(alloc, Vec::new(alloc), 0, at + 1, depth.room);
@@ -167,8 +172,13 @@ fn group_tuple(alloc: Global, tokens: &[Terminal], first: Read, depth: Depth) ->
     requires low { first.height ≤ depth.room }
     requires comma { Stands (terminals.Op Exact.Comma) tokens.now first.next }
     ensures { Answered tokens.now depth.room (first.next)
-        (cap depth.room (reader.and_then (reader.listing_of (inner_reads depth) (entries.Of Level.Elem) [] (seen tokens.now (first.next + 1)))
-        (λ es r. reader.closed Exact.RPar r (plain.Tuple (plain.an_expr (tree_of first.expr.value) (entries.singles es)) Context.Load)))) result }
+        (cap depth.room
+        (reader.and_then
+        (reader.listing_of (inner_reads depth) (entries.Of Level.Elem) []
+        (seen tokens.now (first.next + 1)))
+        (λ es r. reader.closed Exact.RPar r
+        (plain.Tuple (plain.an_expr (tree_of first.expr.value)
+        (entries.singles es)) Context.Load)))) result }
 {
     let items = others(alloc, tokens, Item::Elem, first, depth)?;
     if !is_op(tokens, items.next, Exact::RPar) {
@@ -188,7 +198,8 @@ fn generator_group(
     requires within { first.next ≤ length tokens.now }
     requires open { IsOpen depth }
     ensures { Answered tokens.now depth.room (first.next)
-        (cap depth.room (reader.comps_closed (inner_reads depth) Exact.RPar (seen tokens.now first.next)
+        (cap depth.room
+        (reader.comps_closed (inner_reads depth) Exact.RPar (seen tokens.now first.next)
         (λ gs. plain.GeneratorExp (tree_of first.expr.value) (plain.comprehensions gs)))) result }
 {
     let comps = comps(alloc, tokens, first.next, depth)?;
@@ -242,7 +253,8 @@ fn list_comp(alloc: Global, tokens: &[Terminal], first: Read, depth: Depth) -> R
     requires within { first.next ≤ length tokens.now }
     requires open { IsOpen depth }
     ensures { Answered tokens.now depth.room (first.next)
-        (cap depth.room (reader.comps_closed (inner_reads depth) Exact.RSqb (seen tokens.now first.next)
+        (cap depth.room
+        (reader.comps_closed (inner_reads depth) Exact.RSqb (seen tokens.now first.next)
         (λ gs. plain.ListComp (tree_of first.expr.value) (plain.comprehensions gs)))) result }
 {
     let comps = comps(alloc, tokens, first.next, depth)?;

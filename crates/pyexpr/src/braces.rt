@@ -1,6 +1,7 @@
 //! Sets and dictionaries.
 
-ghost use Rattle.std.specs.Prelude.{◌≡◌, ◌+◌, ◌++◌, ◌<◌, ◌≤◌, ◌∷◌, [], MatchResult, cond, length, max, true};
+ghost use Rattle.std.specs.Prelude.{◌≡◌, ◌+◌, ◌++◌, ◌<◌, ◌≤◌, ◌∷◌, [], MatchResult, cond, length};
+ghost use Rattle.std.specs.Prelude.{max, true};
 ghost use Rattle.pynode.specs.TreeOf.{tree_of};
 ghost use Rattle.pynode.specs.Trees as plain;
 ghost use Rattle.pygrammar.specs.Capped.{cap};
@@ -17,9 +18,10 @@ use crate::comprehensions::comps;
 use crate::depth::Depth;
 use crate::found::{Pair, Pairs, Read};
 use crate::levels::{read_elem, read_expression};
+use crate::list_makers::{make_dict, make_dict_comp, make_set, make_set_comp};
 use crate::listings::{Item, others};
 use crate::looks::{is_op, lead_at, name_with, starts_comp};
-use crate::makers::{make_dict, make_dict_comp, make_set, make_set_comp, put, put_option};
+use crate::room::{put, put_option};
 use crate::stop::Stop;
 use pygrammar::Level;
 use pylex::Exact;
@@ -80,7 +82,8 @@ fn set_from(alloc: Global, tokens: &[Terminal], first: Read, depth: Depth) -> Re
     requires open { IsOpen depth }
     requires low { first.height ≤ depth.room }
     ensures { Answered tokens.now depth.room first.next
-        (cap depth.room (reader.and_then (reader.others_of (inner_reads depth) (entries.Of Level.Elem)
+        (cap depth.room
+        (reader.and_then (reader.others_of (inner_reads depth) (entries.Of Level.Elem)
         (entries.Single (tree_of first.expr.value)) (seen tokens.now first.next))
         (λ es r. reader.closed Exact.RBrace r (plain.Set (entries.singles es))))) result }
 {
@@ -97,7 +100,8 @@ fn set_comp(alloc: Global, tokens: &[Terminal], first: Read, depth: Depth) -> Re
     requires within { first.next ≤ length tokens.now }
     requires open { IsOpen depth }
     ensures { Answered tokens.now depth.room first.next
-        (cap depth.room (reader.comps_closed (inner_reads depth) Exact.RBrace (seen tokens.now first.next)
+        (cap depth.room
+        (reader.comps_closed (inner_reads depth) Exact.RBrace (seen tokens.now first.next)
         (λ gs. plain.SetComp (tree_of first.expr.value) (plain.comprehensions gs)))) result }
 {
     let comps = comps(alloc, tokens, first.next, depth)?;
@@ -122,11 +126,13 @@ fn keyed(alloc: Global, tokens: &[Terminal], key: Read, depth: Depth) -> Result<
     requires open { IsOpen depth }
     requires low { key.height ≤ depth.room }
     ensures { Answered tokens.now depth.room key.next
-        (cap depth.room (reader.and_then (inner_reads depth Level.Expression (seen tokens.now (key.next + 1)))
+        (cap depth.room
+        (reader.and_then (inner_reads depth Level.Expression (seen tokens.now (key.next + 1)))
         (λ v r. cond (precedence.starts_comp r)
         (reader.comps_closed (inner_reads depth) Exact.RBrace r
         (λ gs. plain.DictComp (tree_of key.expr.value) v (plain.comprehensions gs)))
-        (reader.dict_from (inner_reads depth) (entries.Paired (tree_of key.expr.value) v) r)))) result }
+        (reader.dict_from (inner_reads depth)
+        (entries.Paired (tree_of key.expr.value) v) r)))) result }
 {
     let value = read_expression(alloc, tokens, key.next + 1, depth.inner())?;
     if starts_comp(tokens, value.next) {
@@ -148,8 +154,10 @@ fn dict_comp(
     requires within { value.next ≤ length tokens.now }
     requires open { IsOpen depth }
     ensures { Answered tokens.now depth.room value.next
-        (cap depth.room (reader.comps_closed (inner_reads depth) Exact.RBrace (seen tokens.now value.next)
-        (λ gs. plain.DictComp (tree_of key.expr.value) (tree_of value.expr.value) (plain.comprehensions gs)))) result }
+        (cap depth.room
+        (reader.comps_closed (inner_reads depth) Exact.RBrace (seen tokens.now value.next)
+        (λ gs. plain.DictComp (tree_of key.expr.value) (tree_of value.expr.value)
+        (plain.comprehensions gs)))) result }
 {
     let comps = comps(alloc, tokens, value.next, depth)?;
     if !is_op(tokens, comps.next, Exact::RBrace) {
@@ -174,7 +182,9 @@ fn dict_from(alloc: Global, tokens: &[Terminal], first: Pair, depth: Depth) -> R
     requires open { IsOpen depth }
     requires low { first.height ≤ depth.room }
     ensures { Answered tokens.now depth.room first.next
-        (cap depth.room (reader.dict_from (inner_reads depth) (pair_of first) (seen tokens.now first.next))) result }
+        (cap depth.room
+        (reader.dict_from (inner_reads depth) (pair_of first)
+        (seen tokens.now first.next))) result }
 {
     let one = first_pairs(alloc, first)?;
     let pairs = more_pairs(alloc, tokens, one, depth)?;
@@ -198,7 +208,8 @@ fn more_pairs(alloc: Global, tokens: &[Terminal], pairs: Pairs, depth: Depth) ->
     requires open { IsOpen depth }
     requires low { pairs.height ≤ depth.room }
     ensures { MatchResult result
-        (λ r. PairsAt tokens.now depth.room pairs.next (more_pairs_at depth (pairs_of pairs) (seen tokens.now pairs.next)) r)
+        (λ r. PairsAt tokens.now depth.room pairs.next
+        (more_pairs_at depth (pairs_of pairs) (seen tokens.now pairs.next)) r)
         (λ s. Failed s (more_pairs_at depth (pairs_of pairs) (seen tokens.now pairs.next))) }
 {
     let mut pairs = pairs;
@@ -226,7 +237,8 @@ fn read_pair(alloc: Global, tokens: &[Terminal], at: usize, depth: Depth) -> Res
     requires within { at ≤ length tokens.now }
     requires open { IsOpen depth }
     ensures { MatchResult result
-        (λ r. PairAt tokens.now depth.room (at + 1) (reader.read_pair (inner_reads depth) (seen tokens.now at)) r)
+        (λ r. PairAt tokens.now depth.room (at + 1)
+        (reader.read_pair (inner_reads depth) (seen tokens.now at)) r)
         (λ s. Failed s (reader.read_pair (inner_reads depth) (seen tokens.now at))) }
 {
     if is_op(tokens, at, Exact::DoubleStar) {
@@ -257,7 +269,8 @@ fn doubled(value: Read) -> Pair
 
 /// A key and its value.
 fn paired(key: Read, value: Read) -> Pair
-    ensures entry { pair_of result ≡ entries.Paired (tree_of key.expr.value) (tree_of value.expr.value) }
+    ensures entry { pair_of result ≡ entries.Paired (tree_of key.expr.value)
+        (tree_of value.expr.value) }
     ensures next { result.next ≡ value.next }
     ensures height { result.height ≡ max key.height value.height }
 {
@@ -270,7 +283,7 @@ fn paired(key: Read, value: Read) -> Pair
 }
 
 /// Whether a pair begins at the place.
-#[tactic(auto, using(crate::proofs::PairSteps::stars_start, crate::proofs::PairSteps::lead_starts))]
+#[tactic(auto, using(crate::proofs::Lists::PairSteps::stars_start, crate::proofs::Lists::PairSteps::lead_starts))]
 fn starts_pair(tokens: &[Terminal], at: usize) -> bool
     ensures is { result ≡ precedence.starts entries.Pair (seen tokens.now at) }
     ensures within { result ≡ true → at < length tokens.now }
@@ -310,7 +323,8 @@ fn put_pair(pairs: Pairs, pair: Pair) -> Result<Pairs, Stop>
 
 /// A list of one pair.
 fn first_pairs(alloc: Global, pair: Pair) -> Result<Pairs, Stop>
-    ensures entries { MatchResult result (λ r. pairs_of r ≡ pair_of pair ∷ []) (λ s. s ≡ Stop.Memory) }
+    ensures entries { MatchResult result (λ r. pairs_of r ≡ pair_of pair ∷ [])
+        (λ s. s ≡ Stop.Memory) }
     ensures next { MatchResult result (λ r. r.next ≡ pair.next) (λ s. s ≡ Stop.Memory) }
     ensures height { MatchResult result (λ r. r.height ≡ pair.height) (λ s. s ≡ Stop.Memory) }
 {

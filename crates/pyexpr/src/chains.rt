@@ -1,6 +1,7 @@
 //! Chains of `and` and `or`, and of comparisons.
 
-ghost use Rattle.std.specs.Prelude.{◌≡◌, ◌+◌, ◌<◌, ◌≤◌, ◌∷◌, MatchOption, MatchResult, Some, [], length, map, true};
+ghost use Rattle.std.specs.Prelude.{◌≡◌, ◌+◌, ◌<◌, ◌≤◌, ◌∷◌, MatchOption, MatchResult, Some, []};
+ghost use Rattle.std.specs.Prelude.{length, map, true};
 ghost use Rattle.pynode.specs.TreeOf.{tree_of};
 ghost use Rattle.pytoken.specs.Terminals as terminals;
 ghost use Rattle.pygrammar.specs.Capped.{cap};
@@ -8,7 +9,8 @@ ghost use Rattle.pygrammar.specs.Operators as operators;
 ghost use Rattle.pygrammar.specs.Precedence as precedence;
 ghost use Rattle.pygrammar.specs.Reader as reader;
 ghost use Rattle.pyexpr.specs.Answers.{Answered, Failed};
-ghost use Rattle.pyexpr.specs.Inner.Chains.{ComparedAt, LinkedAt, MisComparedAt, NotComparedAt, links_of};
+ghost use Rattle.pyexpr.specs.Inner.Chains.{ComparedAt, LinkedAt, MisComparedAt, NotComparedAt};
+ghost use Rattle.pyexpr.specs.Inner.Chains.{links_of};
 ghost use Rattle.pyexpr.specs.Inner.Readings.{IsOpen, climbing, inner_reads};
 ghost use Rattle.pyexpr.specs.Views.{Stands, first_is, seen};
 ghost use Rattle.pyexpr.specs.Inner.Views.{infix_value};
@@ -65,10 +67,13 @@ pub(crate) fn chain(
     depth: Depth,
 ) -> Result<Read, Stop>
     requires within { left.next < length tokens.now }
-    requires sign { Some (precedence.Joins o) ≡ first_is precedence.behind (seen tokens.now left.next) }
+    requires sign { Some (precedence.Joins o) ≡ first_is precedence.behind
+        (seen tokens.now left.next) }
     requires open { IsOpen depth }
     ensures { Answered tokens.now depth.room (left.next + 1)
-        (cap depth.room (reader.operation (inner_reads depth) (tree_of left.expr.value) (infix_value (Infix.Joins o))
+        (cap depth.room
+        (reader.operation (inner_reads depth) (tree_of left.expr.value)
+        (infix_value (Infix.Joins o))
         (seen tokens.now left.next) (seen tokens.now (left.next + 1)))) result }
 {
     let first = first_items(alloc, left)?;
@@ -88,8 +93,10 @@ fn links(
     requires word { Stands (terminals.Word (operators.chain_word o)) tokens.now first.next }
     requires open { IsOpen depth }
     ensures { MatchResult result
-        (λ r. LinkedAt tokens.now (first.next + 1) (links_of depth o (map tree_of first.exprs.items) (seen tokens.now first.next)) r)
-        (λ s. Failed s (links_of depth o (map tree_of first.exprs.items) (seen tokens.now first.next))) }
+        (λ r. LinkedAt tokens.now (first.next + 1)
+        (links_of depth o (map tree_of first.exprs.items) (seen tokens.now first.next)) r)
+        (λ s. Failed s
+        (links_of depth o (map tree_of first.exprs.items) (seen tokens.now first.next))) }
 {
     let mut items = first;
     'sides: while is_word(tokens, items.next, chain_word(o)) {
@@ -100,7 +107,7 @@ fn links(
 }
 
 /// The comparison at a place, if one stands there.
-#[tactic(auto, using(crate::proofs::Signs::one_sign, crate::proofs::Signs::not_in, crate::proofs::Signs::not_alone, crate::proofs::Signs::is_not, crate::proofs::Signs::is_alone, crate::proofs::Signs::no_sign))]
+#[tactic(auto, using(crate::proofs::Places::Signs::one_sign, crate::proofs::Places::Signs::not_in, crate::proofs::Places::Signs::not_alone, crate::proofs::Places::Signs::is_not, crate::proofs::Places::Signs::is_alone, crate::proofs::Places::Signs::no_sign))]
 fn compared_at(tokens: &[Terminal], at: usize) -> Result<Option<Compared>, Stop>
     ensures { MatchResult result
         (λ o. MatchOption o (NotComparedAt tokens.now at) (λ c. ComparedAt tokens.now at c))
@@ -155,10 +162,12 @@ pub(crate) fn compare(
     depth: Depth,
 ) -> Result<Read, Stop>
     requires within { left.next < length tokens.now }
-    requires sign { Some precedence.Compares ≡ first_is precedence.behind (seen tokens.now left.next) }
+    requires sign { Some precedence.Compares ≡ first_is precedence.behind
+        (seen tokens.now left.next) }
     requires open { IsOpen depth }
     ensures { Answered tokens.now depth.room (left.next + 1)
-        (cap depth.room (reader.operation (inner_reads depth) (tree_of left.expr.value) (infix_value Infix.Compares)
+        (cap depth.room
+        (reader.operation (inner_reads depth) (tree_of left.expr.value) (infix_value Infix.Compares)
         (seen tokens.now left.next) (seen tokens.now (left.next + 1)))) result }
 {
     let Read { expr, height, next } = left;

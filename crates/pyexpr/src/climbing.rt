@@ -8,7 +8,8 @@ ghost use Rattle.pygrammar.specs.Precedence as precedence;
 ghost use Rattle.pygrammar.specs.Reader as reader;
 ghost use Rattle.pyexpr.specs.Answers.{Answered};
 ghost use Rattle.pyexpr.specs.Readings.{reads};
-ghost use Rattle.pyexpr.specs.Inner.Readings.{IsInfix, IsOpen, IsPrefix, climbing, fronts, inner_reads};
+ghost use Rattle.pyexpr.specs.Inner.Readings.{IsInfix, IsOpen, IsPrefix, climbing, fronts};
+ghost use Rattle.pyexpr.specs.Inner.Readings.{inner_reads};
 ghost use Rattle.pyexpr.specs.Views.{first_is, seen};
 ghost use Rattle.pyexpr.specs.Inner.Views.{infix_value, prefix_value};
 
@@ -35,7 +36,8 @@ pub(crate) fn climb(
 ) -> Result<Read, Stop>
     requires within { at ≤ length tokens.now }
     requires level { climbing level ≡ true }
-    ensures { Answered tokens.now depth.room (at + 1) (reads depth level (seen tokens.now at)) result }
+    ensures { Answered tokens.now depth.room (at + 1)
+        (reads depth level (seen tokens.now at)) result }
 {
     depth.enter()?;
     let least = rank(level);
@@ -58,7 +60,8 @@ fn climb_first(
 ) -> Result<Read, Stop>
     requires within { at ≤ length tokens.now }
     requires open { IsOpen depth }
-    ensures { Answered tokens.now depth.room (at + 1) (fronts depth least (seen tokens.now at)) result }
+    ensures { Answered tokens.now depth.room (at + 1)
+        (fronts depth least (seen tokens.now at)) result }
 {
     match prefix_at(tokens, at, least) {
         None => read_primary(alloc, tokens, at, depth),
@@ -105,7 +108,8 @@ fn signed(
     requires open { IsOpen depth }
     requires level { climbing level ≡ true }
     ensures { Answered tokens.now depth.room (at + 1)
-        (reader.prefixed (inner_reads depth) (prefix_value (Prefix.Signed level o)) (seen tokens.now at)) result }
+        (reader.prefixed (inner_reads depth) (prefix_value (Prefix.Signed level o))
+        (seen tokens.now at)) result }
 {
     let e = climb(alloc, tokens, level, at, depth.inner())?;
     make_unary(alloc, o, e, depth.room)
@@ -124,9 +128,11 @@ fn operation(
     requires within { left.next < length tokens.now }
     requires open { IsOpen depth }
     requires infix { IsInfix (infix_value o) }
-    requires stands { Some (infix_value o) ≡ first_is precedence.behind (seen tokens.now left.next) }
+    requires stands { Some (infix_value o) ≡ first_is precedence.behind
+        (seen tokens.now left.next) }
     ensures { Answered tokens.now depth.room (left.next + 1)
-        (cap depth.room (reader.operation (inner_reads depth) (tree_of left.expr.value) (infix_value o)
+        (cap depth.room
+        (reader.operation (inner_reads depth) (tree_of left.expr.value) (infix_value o)
         (seen tokens.now left.next) (seen tokens.now (left.next + 1)))) result }
 {
     match o {

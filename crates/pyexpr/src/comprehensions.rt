@@ -1,6 +1,7 @@
 //! The clauses of comprehensions.
 
-ghost use Rattle.std.specs.Prelude.{◌≡◌, ◌+◌, ◌++◌, ◌≤◌, ◌∷◌, [], IfSome, MatchResult, length, map, option_map};
+ghost use Rattle.std.specs.Prelude.{◌≡◌, ◌+◌, ◌++◌, ◌≤◌, ◌∷◌, [], IfSome, MatchResult, length, map};
+ghost use Rattle.std.specs.Prelude.{option_map};
 ghost use Rattle.pynode.specs.TreeOf.{comprehension_of, tree_of};
 ghost use Rattle.pynode.specs.Trees as plain;
 ghost use Rattle.pytoken.specs.Terminals as terminals;
@@ -16,10 +17,12 @@ ghost use Rattle.pyexpr.specs.Views.{Stands, seen};
 use crate::climbing::climb;
 use crate::depth::Depth;
 use crate::found::{Clause, Clauses, Items, Read};
+use crate::list_makers::make_tuple;
 use crate::listings::{Item, no_items, others, push};
 use crate::looks::{is_op, is_word};
-use crate::makers::{make_starred, make_tuple};
+use crate::makers::make_starred;
 use crate::primaries::read_primary;
+use crate::room::append;
 use crate::stop::Stop;
 use crate::targets::store;
 use pygrammar::Level;
@@ -80,7 +83,9 @@ fn target_tuple(alloc: Global, tokens: &[Terminal], first: Read, depth: Depth) -
     requires low { first.height ≤ depth.room }
     ensures { Answered tokens.now (depth.room + 1) first.next
         (reader.and_then (items_of depth Item.Target [] (seen tokens.now (first.next + 1)))
-        (λ es r. reader.Found (plain.Tuple (plain.an_expr (tree_of first.expr.value) (entries.singles es)) Context.Load) r)) result }
+        (λ es r. reader.Found
+        (plain.Tuple (plain.an_expr (tree_of first.expr.value)
+        (entries.singles es)) Context.Load) r)) result }
 {
     let items = others(alloc, tokens, Item::Target, first, depth)?;
     match depth.room.checked_add(1) {
@@ -96,8 +101,12 @@ fn ifs(alloc: Global, tokens: &[Terminal], at: usize, depth: Depth) -> Result<It
     requires within { at ≤ length tokens.now }
     requires open { IsOpen depth }
     ensures { MatchResult result
-        (λ r. TestsAt tokens.now at (reader.ifs_loop (inner_reads depth) (length (seen tokens.now at)) [] (seen tokens.now at)) r)
-        (λ s. Failed s (reader.ifs_loop (inner_reads depth) (length (seen tokens.now at)) [] (seen tokens.now at))) }
+        (λ r. TestsAt tokens.now at
+        (reader.ifs_loop (inner_reads depth) (length (seen tokens.now at)) []
+        (seen tokens.now at)) r)
+        (λ s. Failed s
+        (reader.ifs_loop (inner_reads depth) (length (seen tokens.now at)) []
+        (seen tokens.now at))) }
 {
     let mut items = no_items(alloc, at);
     'tests: loop {
@@ -121,7 +130,8 @@ fn for_in(
     requires within { at ≤ length tokens.now }
     requires open { IsOpen depth }
     ensures { MatchResult result
-        (λ r. ClauseAt tokens.now (at + 1) (reader.for_in_step (inner_reads depth) is_async (seen tokens.now at)) r)
+        (λ r. ClauseAt tokens.now (at + 1)
+        (reader.for_in_step (inner_reads depth) is_async (seen tokens.now at)) r)
         (λ s. Failed s (reader.for_in_step (inner_reads depth) is_async (seen tokens.now at))) }
 {
     let target = read_target(alloc, tokens, at, depth)?;
@@ -140,7 +150,8 @@ fn for_in(
 fn clause_of(target: Read, iter: Read, ifs: Items, is_async: bool) -> Option<Clause>
     ensures next { IfSome result (λ c. c.next ≡ ifs.next) }
     ensures is { option_map (λ c. comprehension_of c.generator) result
-        ≡ reader.generator_of (stored (tree_of target.expr.value)) (tree_of iter.expr.value) (map tree_of ifs.exprs.items) is_async }
+        ≡ reader.generator_of (stored (tree_of target.expr.value)) (tree_of iter.expr.value)
+        (map tree_of ifs.exprs.items) is_async }
 {
     let height = target.height.max(iter.height.max(ifs.height));
     let mut target = Box::into_inner(target.expr);
@@ -172,10 +183,11 @@ fn no_clauses(alloc: Global, at: usize) -> Clauses
 }
 
 /// Clauses with one more.
-#[tactic(auto, using(crate::proofs::ClausePushes::clause_pushed, crate::proofs::ClausePushes::clause_pushed_height))]
+#[tactic(auto, using(crate::proofs::ForClauses::ClausePushes::clause_pushed, crate::proofs::ForClauses::ClausePushes::clause_pushed_height))]
 fn push_clause(clauses: Clauses, clause: Clause) -> Result<Clauses, Stop>
     ensures generators { MatchResult result
-        (λ r. map comprehension_of r.generators.items ≡ map comprehension_of clauses.generators.items ++ (comprehension_of clause.generator ∷ []))
+        (λ r. map comprehension_of r.generators.items
+        ≡ map comprehension_of clauses.generators.items ++ (comprehension_of clause.generator ∷ []))
         (λ s. s ≡ Stop.Memory) }
     ensures next { MatchResult result (λ r. r.next ≡ clause.next) (λ s. s ≡ Stop.Memory) }
 {
@@ -185,7 +197,7 @@ fn push_clause(clauses: Clauses, clause: Clause) -> Result<Clauses, Stop>
         next: _,
     } = clauses;
     let mut generators = generators;
-    generators.push(clause.generator)?;
+    append(&mut generators, clause.generator)?;
     Ok(Clauses {
         generators,
         height: height.max(clause.height),
@@ -204,8 +216,12 @@ pub(crate) fn comps(
     requires within { at ≤ length tokens.now }
     requires open { IsOpen depth }
     ensures { MatchResult result
-        (λ r. ClausesAt tokens.now at (reader.comps_loop (inner_reads depth) (length (seen tokens.now at)) [] (seen tokens.now at)) r)
-        (λ s. Failed s (reader.comps_loop (inner_reads depth) (length (seen tokens.now at)) [] (seen tokens.now at))) }
+        (λ r. ClausesAt tokens.now at
+        (reader.comps_loop (inner_reads depth) (length (seen tokens.now at)) []
+        (seen tokens.now at)) r)
+        (λ s. Failed s
+        (reader.comps_loop (inner_reads depth) (length (seen tokens.now at)) []
+        (seen tokens.now at))) }
 {
     let mut clauses = no_clauses(alloc, at);
     'more: loop {

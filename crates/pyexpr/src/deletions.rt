@@ -42,7 +42,8 @@ pub(crate) fn delete(e: &mut Expr) -> bool
 /// Gives each of some expressions the context Del, if all can be deleted.
 #[cycle(deletions)]
 fn delete_all(es: &mut [Expr]) -> bool
-    ensures { IsChanged result (all_deleted (exprs (map tree_of es.old))) (exprs (map tree_of es.new)) }
+    ensures { IsChanged result (all_deleted (exprs (map tree_of es.old)))
+        (exprs (map tree_of es.new)) }
 {
     for e in es {
         if !delete(e) {

@@ -35,7 +35,8 @@ pub fn read_at(
     depth: Depth,
 ) -> Result<Read, Stop>
     requires { at ≤ length tokens.now }
-    ensures { Answered tokens.now depth.room (at + 1) (reads depth level (seen tokens.now at)) result }
+    ensures { Answered tokens.now depth.room (at + 1)
+        (reads depth level (seen tokens.now at)) result }
 {
     match level {
         Level::Value => read_value(alloc, tokens, at, depth),
@@ -72,7 +73,7 @@ pub fn read_at(
 ///
 /// [`Stop::NoForm`]: they are none. [`Stop::TooDeep`]: they are none of this height; where they are
 /// none at all, there are more of them than [`MOST_HEIGHT`]. [`Stop::Memory`].
-#[tactic(auto, using(crate::proofs::Wholes::whole_failed, crate::proofs::Wholes::whole_high, crate::proofs::Wholes::whole_more, crate::proofs::Wholes::whole_found))]
+#[tactic(auto, using(crate::proofs::Reader::Wholes::whole_failed, crate::proofs::Reader::Wholes::whole_high, crate::proofs::Reader::Wholes::whole_more, crate::proofs::Reader::Wholes::whole_found))]
 pub fn read_whole(alloc: Global, tokens: &[Terminal], level: Level) -> Result<Box<Expr>, Stop>
     ensures { MatchResult result
         (λ e. IsExpression level (map terminal tokens.now) (tree_of e.value))

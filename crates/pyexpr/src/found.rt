@@ -35,7 +35,8 @@ pub(crate) struct Pair {
     pub height: usize,
     pub next: usize,
     pub ghost is_height: { height
-        ≡ max (Heights.optional_height (optional (boxed_of key))) (Heights.height (tree_of value.value)) },
+        ≡ max (Heights.optional_height (optional (boxed_of key)))
+        (Heights.height (tree_of value.value)) },
 }
 
 /// The keys and values of a dictionary.

@@ -15,9 +15,10 @@ use crate::atoms::read_atom;
 use crate::climbing::climb;
 use crate::depth::Depth;
 use crate::found::Read;
+use crate::list_makers::make_yield;
 use crate::listings::{Item, tupled};
 use crate::looks::{is_op, is_word, lead_at, name_with, stands_alone};
-use crate::makers::{make_if, make_name, make_named, make_starred, make_yield, make_yield_from};
+use crate::makers::{make_if, make_name, make_named, make_starred, make_yield_from};
 use crate::signatures::lambda_step;
 use crate::stop::Stop;
 use pygrammar::Level;
@@ -35,7 +36,8 @@ pub(crate) fn read_value(
     depth: Depth,
 ) -> Result<Read, Stop>
     requires { at ≤ length tokens.now }
-    ensures { Answered tokens.now depth.room (at + 1) (reads depth Level.Value (seen tokens.now at)) result }
+    ensures { Answered tokens.now depth.room (at + 1)
+        (reads depth Level.Value (seen tokens.now at)) result }
 {
     depth.enter()?;
     if is_word(tokens, at, Keyword::Yield) {
@@ -55,7 +57,8 @@ pub(crate) fn yield_step(
 ) -> Result<Read, Stop>
     requires within { at ≤ length tokens.now }
     requires open { IsOpen depth }
-    ensures { Answered tokens.now depth.room at (reader.yield_step (inner_reads depth) (seen tokens.now at)) result }
+    ensures { Answered tokens.now depth.room at
+        (reader.yield_step (inner_reads depth) (seen tokens.now at)) result }
 {
     if is_word(tokens, at, Keyword::From) {
         let e = read_expression(alloc, tokens, at + 1, depth.inner())?;
@@ -77,7 +80,8 @@ pub(crate) fn read_stars(
     depth: Depth,
 ) -> Result<Read, Stop>
     requires { at ≤ length tokens.now }
-    ensures { Answered tokens.now depth.room (at + 1) (reads depth Level.Stars (seen tokens.now at)) result }
+    ensures { Answered tokens.now depth.room (at + 1)
+        (reads depth Level.Stars (seen tokens.now at)) result }
 {
     depth.enter()?;
     let first = read_star_item(alloc, tokens, at, depth)?;
@@ -98,7 +102,8 @@ pub(crate) fn read_star_item(
     depth: Depth,
 ) -> Result<Read, Stop>
     requires { at ≤ length tokens.now }
-    ensures { Answered tokens.now depth.room (at + 1) (reads depth Level.StarItem (seen tokens.now at)) result }
+    ensures { Answered tokens.now depth.room (at + 1)
+        (reads depth Level.StarItem (seen tokens.now at)) result }
 {
     depth.enter()?;
     if is_op(tokens, at, Exact::Star) {
@@ -118,7 +123,8 @@ pub(crate) fn read_elem(
     depth: Depth,
 ) -> Result<Read, Stop>
     requires { at ≤ length tokens.now }
-    ensures { Answered tokens.now depth.room (at + 1) (reads depth Level.Elem (seen tokens.now at)) result }
+    ensures { Answered tokens.now depth.room (at + 1)
+        (reads depth Level.Elem (seen tokens.now at)) result }
 {
     depth.enter()?;
     if is_op(tokens, at, Exact::Star) {
@@ -138,7 +144,8 @@ pub(crate) fn read_named(
     depth: Depth,
 ) -> Result<Read, Stop>
     requires { at ≤ length tokens.now }
-    ensures { Answered tokens.now depth.room (at + 1) (reads depth Level.Named (seen tokens.now at)) result }
+    ensures { Answered tokens.now depth.room (at + 1)
+        (reads depth Level.Named (seen tokens.now at)) result }
 {
     depth.enter()?;
     match name_with(tokens, at, Exact::ColonEqual) {
@@ -160,7 +167,8 @@ pub(crate) fn read_expression(
     depth: Depth,
 ) -> Result<Read, Stop>
     requires { at ≤ length tokens.now }
-    ensures { Answered tokens.now depth.room (at + 1) (reads depth Level.Expression (seen tokens.now at)) result }
+    ensures { Answered tokens.now depth.room (at + 1)
+        (reads depth Level.Expression (seen tokens.now at)) result }
 {
     depth.enter()?;
     // No level above an atom has anything to read there.
@@ -185,10 +193,12 @@ fn if_else_step(alloc: Global, tokens: &[Terminal], body: Read, depth: Depth) ->
     requires within { body.next < length tokens.now }
     requires open { IsOpen depth }
     ensures { Answered tokens.now depth.room (body.next + 1)
-        (cap depth.room (reader.and_then (inner_reads depth Level.Or (seen tokens.now (body.next + 1)))
+        (cap depth.room
+        (reader.and_then (inner_reads depth Level.Or (seen tokens.now (body.next + 1)))
         (λ a r2. reader.on_first (signs.is_word Keyword.Else) r2
         (λ _ r3. reader.and_then (inner_reads depth Level.Expression r3)
-        (λ c r4. reader.Found (plain.IfExp a (tree_of body.expr.value) c) r4)) reader.NoForm))) result }
+        (λ c r4. reader.Found
+        (plain.IfExp a (tree_of body.expr.value) c) r4)) reader.NoForm))) result }
 {
     let test = climb(alloc, tokens, Level::Or, body.next + 1, depth.inner())?;
     if !is_word(tokens, test.next, Keyword::Else) {

@@ -1,6 +1,7 @@
 //! Lists of expressions with commas between them.
 
-ghost use Rattle.std.specs.Prelude.{◌≡◌, ◌+◌, ◌++◌, ◌<◌, ◌≤◌, ◌∷◌, [], MatchResult, length, map, max};
+ghost use Rattle.std.specs.Prelude.{◌≡◌, ◌+◌, ◌++◌, ◌<◌, ◌≤◌, ◌∷◌, [], MatchResult, length, map};
+ghost use Rattle.std.specs.Prelude.{max};
 ghost use Rattle.pynode.specs.TreeOf.{tree_of};
 ghost use Rattle.pynode.specs.Trees as plain;
 ghost use Rattle.pytoken.specs.Terminals as terminals;
@@ -18,8 +19,9 @@ use crate::comprehensions::target_item;
 use crate::depth::Depth;
 use crate::found::{Items, Read};
 use crate::levels::{read_elem, read_star_item};
+use crate::list_makers::make_tuple;
 use crate::looks::{is_op, lead_at};
-use crate::makers::{make_tuple, put};
+use crate::room::put;
 use crate::slices::read_part;
 use crate::stop::Stop;
 use pylex::Exact;
@@ -66,13 +68,15 @@ pub(crate) fn first_items(alloc: Global, e: Read) -> Result<Items, Stop>
 }
 
 /// A list with one more item.
-#[tactic(auto, using(crate::proofs::Pushes::pushed, crate::proofs::Pushes::pushed_height))]
+#[tactic(auto, using(crate::proofs::Lists::Pushes::pushed, crate::proofs::Lists::Pushes::pushed_height))]
 pub fn push(items: Items, e: Read) -> Result<Items, Stop>
     ensures items { MatchResult result
-        (λ r. map tree_of r.exprs.items ≡ map tree_of items.exprs.items ++ (tree_of e.expr.value ∷ []))
+        (λ r. map tree_of r.exprs.items ≡ map tree_of items.exprs.items ++
+        (tree_of e.expr.value ∷ []))
         (λ s. s ≡ Stop.Memory) }
     ensures next { MatchResult result (λ r. r.next ≡ e.next) (λ s. s ≡ Stop.Memory) }
-    ensures height { MatchResult result (λ r. r.height ≡ max items.height e.height) (λ s. s ≡ Stop.Memory) }
+    ensures height { MatchResult result (λ r. r.height ≡ max items.height e.height)
+        (λ s. s ≡ Stop.Memory) }
 {
     let Items {
         exprs,
@@ -115,7 +119,9 @@ pub(crate) fn tupled(
     requires low { first.height ≤ depth.room }
     ensures { Answered tokens.now depth.room first.next
         (cap depth.room (reader.and_then (items_of depth item [] (seen tokens.now (first.next + 1)))
-        (λ es r. reader.Found (plain.Tuple (plain.an_expr (tree_of first.expr.value) (entries.singles es)) Context.Load) r))) result }
+        (λ es r. reader.Found
+        (plain.Tuple (plain.an_expr (tree_of first.expr.value)
+        (entries.singles es)) Context.Load) r))) result }
 {
     let items = others(alloc, tokens, item, first, depth)?;
     make_tuple(alloc, items.exprs, items.height, items.next, depth.room)
@@ -135,8 +141,11 @@ pub(crate) fn others(
     requires low { first.height ≤ depth.room }
     ensures { MatchResult result
         (λ r. ListedAt tokens.now depth.room first.next
-        (more_at depth item (entries.Single (tree_of first.expr.value) ∷ []) (seen tokens.now first.next)) r)
-        (λ s. Failed s (more_at depth item (entries.Single (tree_of first.expr.value) ∷ []) (seen tokens.now first.next))) }
+        (more_at depth item (entries.Single (tree_of first.expr.value) ∷ [])
+        (seen tokens.now first.next)) r)
+        (λ s. Failed s
+        (more_at depth item (entries.Single (tree_of first.expr.value) ∷ [])
+        (seen tokens.now first.next))) }
 {
     let items = first_items(alloc, first)?;
     listing(alloc, tokens, item, items, depth)
@@ -155,7 +164,8 @@ pub(crate) fn listing(
     requires open { IsOpen depth }
     requires low { items.height ≤ depth.room }
     ensures { MatchResult result
-        (λ r. ListedAt tokens.now depth.room items.next (more_at depth item (entries_of items) (seen tokens.now items.next)) r)
+        (λ r. ListedAt tokens.now depth.room items.next
+        (more_at depth item (entries_of items) (seen tokens.now items.next)) r)
         (λ s. Failed s (more_at depth item (entries_of items) (seen tokens.now items.next))) }
 {
     let mut items = items;
@@ -187,7 +197,8 @@ fn read_item(
 ) -> Result<Read, Stop>
     requires within { at ≤ length tokens.now }
     requires open { IsOpen depth }
-    ensures { Answered tokens.now depth.room (at + 1) (item_reads depth item (seen tokens.now at)) result }
+    ensures { Answered tokens.now depth.room (at + 1)
+        (item_reads depth item (seen tokens.now at)) result }
 {
     match item {
         Item::StarItem => read_star_item(alloc, tokens, at, depth.inner()),

@@ -27,10 +27,11 @@ fn add_points(to: &mut Points, points: &Points) -> Result<(), AllocError>
 }
 
 /// A text with one more behind it.
-#[tactic(auto, using(crate::proofs::Runs::text_turn, crate::proofs::Runs::text_mixed))]
+#[tactic(auto, using(crate::proofs::Places::Runs::text_turn, crate::proofs::Places::Runs::text_mixed))]
 fn add_text(alloc: Global, points: Points, unicode: bool, more: LiteralText) -> Result<Points, Stop>
     ensures { MatchResult result
-        (λ p. Joins (values.Str points unicode) (string_value (literal_characters more.entry)) (values.Str p unicode))
+        (λ p. Joins (values.Str points unicode) (string_value (literal_characters more.entry))
+        (values.Str p unicode))
         (λ s. Parts s (values.Str points unicode) (string_value (literal_characters more.entry))) }
 {
     match more.value(alloc)? {
@@ -47,10 +48,11 @@ fn add_text(alloc: Global, points: Points, unicode: bool, more: LiteralText) -> 
 }
 
 /// Bytes with more behind them.
-#[tactic(auto, using(crate::proofs::Runs::bytes_turn, crate::proofs::Runs::bytes_mixed))]
+#[tactic(auto, using(crate::proofs::Places::Runs::bytes_turn, crate::proofs::Places::Runs::bytes_mixed))]
 fn add_bytes(alloc: Global, bytes: Vec<u8>, more: LiteralText) -> Result<Vec<u8>, Stop>
     ensures { MatchResult result
-        (λ b. Joins (values.Bytes bytes.items) (string_value (literal_characters more.entry)) (values.Bytes b.items))
+        (λ b. Joins (values.Bytes bytes.items) (string_value (literal_characters more.entry))
+        (values.Bytes b.items))
         (λ s. Parts s (values.Bytes bytes.items) (string_value (literal_characters more.entry))) }
 {
     match more.value(alloc)? {
@@ -75,7 +77,8 @@ pub(crate) fn string_run(
     at: usize,
 ) -> Result<Read, Stop>
     requires { at ≤ length tokens.now }
-    ensures { Answered tokens.now 1 at (run (string_value (literal_characters first.entry)) (seen tokens.now at)) result }
+    ensures { Answered tokens.now 1 at
+        (run (string_value (literal_characters first.entry)) (seen tokens.now at)) result }
 {
     match first.value(alloc)? {
         Literal::Text { points, unicode } => text_run(alloc, tokens, unicode, points, at),
@@ -92,7 +95,8 @@ fn text_run(
     at: usize,
 ) -> Result<Read, Stop>
     requires { at ≤ length tokens.now }
-    ensures { Answered tokens.now 1 at (run (values.Str first unicode) (seen tokens.now at)) result }
+    ensures { Answered tokens.now 1 at
+        (run (values.Str first unicode) (seen tokens.now at)) result }
 {
     let mut points = first;
     let mut next = at;
@@ -107,7 +111,8 @@ fn text_run(
 #[inline(never)]
 fn bytes_run(alloc: Global, tokens: &[Terminal], first: Vec<u8>, at: usize) -> Result<Read, Stop>
     requires { at ≤ length tokens.now }
-    ensures { Answered tokens.now 1 at (run (values.Bytes first.items) (seen tokens.now at)) result }
+    ensures { Answered tokens.now 1 at
+        (run (values.Bytes first.items) (seen tokens.now at)) result }
 {
     let mut bytes = first;
     let mut next = at;

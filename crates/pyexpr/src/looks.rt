@@ -1,6 +1,7 @@
 //! Tests on the terminal at a place.
 
-ghost use Rattle.std.specs.Prelude.{◌≡◌, ◌+◌, ◌<◌, ◌≤◌, IfSome, MatchBool, MatchOption, None, is_some, length, option_map, true};
+ghost use Rattle.std.specs.Prelude.{◌≡◌, ◌+◌, ◌<◌, ◌≤◌, IfSome, MatchBool, MatchOption, None};
+ghost use Rattle.std.specs.Prelude.{is_some, length, option_map, true};
 ghost use Rattle.std.specs.Str.{chars};
 ghost use Rattle.unicode_normalization.specs.Forms.{nfkc};
 ghost use Rattle.pytoken.specs.StringValues.{string_value};
@@ -8,7 +9,8 @@ ghost use Rattle.pygrammar.specs.Precedence as precedence;
 ghost use Rattle.pygrammar.specs.Targets.{mapped};
 ghost use Rattle.pygrammar.specs.Looks as signs;
 ghost use Rattle.pytoken.specs.Terminals as plain;
-ghost use Rattle.pyexpr.specs.Views.{IsNamed, IsNotNamed, Stands, first_is, first_of, lead_of, seen};
+ghost use Rattle.pyexpr.specs.Views.{IsNamed, IsNotNamed, Stands, first_is, first_of, lead_of};
+ghost use Rattle.pyexpr.specs.Views.{seen};
 ghost use Rattle.pyexpr.specs.Inner.Alone.{alone, atom_with, end_with, ends};
 ghost use Rattle.pyexpr.specs.Inner.Views.{literal_in};
 ghost use Rattle.pyvalue.specs.Terminals.{literal_characters, terminal};
@@ -18,7 +20,7 @@ use pytoken::Keyword;
 use pyvalue::{LiteralText, Terminal};
 
 /// The terminal at a place.
-#[tactic(auto, using(crate::proofs::Here::here, crate::proofs::Here::past))]
+#[tactic(auto, using(crate::proofs::Places::Here::here, crate::proofs::Places::Here::past))]
 pub fn terminal_at<'a>(tokens: &[Terminal<'a>], at: usize) -> Option<Terminal<'a>>
     ensures within { IfSome result (λ _. at < length tokens.now) }
     ensures is { first_of (seen tokens.now at) ≡ mapped terminal result }
@@ -95,7 +97,7 @@ pub fn name_at<'a>(tokens: &[Terminal<'a>], at: usize) -> Option<&'a str>
 }
 
 /// A name, if this sign stands behind it.
-#[tactic(auto, using(crate::proofs::Stands::named_stands, crate::proofs::Stands::unnamed_sign, crate::proofs::Stands::unnamed_first))]
+#[tactic(auto, using(crate::proofs::Places::Stands::named_stands, crate::proofs::Places::Stands::unnamed_sign, crate::proofs::Places::Stands::unnamed_first))]
 pub fn name_with<'a>(tokens: &[Terminal<'a>], at: usize, sign: Exact) -> Option<&'a str>
     ensures { MatchOption result (IsNotNamed sign tokens.now at)
         (λ name. IsNamed sign (nfkc (chars name.now)) tokens.now at) }
@@ -239,7 +241,7 @@ fn ends_at(tokens: &[Terminal], at: usize) -> bool
 
 /// Whether an atom of one terminal stands at the place, and such a sign or nothing behind it.
 #[inline(always)]
-#[tactic(auto, using(crate::proofs::AloneSteps::alone_here, crate::proofs::AloneSteps::alone_past))]
+#[tactic(auto, using(crate::proofs::Reader::AloneSteps::alone_here, crate::proofs::Reader::AloneSteps::alone_past))]
 pub(crate) fn stands_alone(tokens: &[Terminal], at: usize) -> bool
     ensures { result ≡ alone (seen tokens.now at) }
 {

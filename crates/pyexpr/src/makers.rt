@@ -1,6 +1,7 @@
 //! A node of parts that were read, where it is not too high.
 
-ghost use Rattle.std.specs.Prelude.{◌≡◌, ◌+◌, ◌++◌, ◌<◌, ◌≤◌, ◌∷◌, MatchResult, [], max, map, option_map};
+ghost use Rattle.std.specs.Prelude.{◌≡◌, ◌+◌, ◌++◌, ◌<◌, ◌≤◌, ◌∷◌, MatchResult, [], max, map};
+ghost use Rattle.std.specs.Prelude.{option_map};
 ghost use Rattle.std.specs.Str.{chars};
 ghost use Rattle.unicode_normalization.specs.Forms.{nfkc};
 ghost use Rattle.pynode.specs.TreeOf.{arguments_of, boxed_of, comprehension_of, constant_of};
@@ -35,7 +36,7 @@ pub(crate) fn above(under: usize, room: usize) -> Result<usize, Stop>
 
 /// What was read, of an expression of this height.
 #[inline(always)]
-fn boxed(alloc: Global, expr: Expr, height: usize, next: usize) -> Result<Read, Stop>
+pub(crate) fn boxed(alloc: Global, expr: Expr, height: usize, next: usize) -> Result<Read, Stop>
     requires { height ≡ Heights.height (tree_of expr) }
     ensures { MatchResult result (λ r. Made height (tree_of expr) next r) (λ s. s ≡ Stop.Memory) }
 {
@@ -50,56 +51,10 @@ pub fn identifier_of(alloc: Global, text: &str) -> Result<Identifier, Stop>
     Ok(identifier_value(alloc, text)?)
 }
 
-/// Appends an expression.
-pub(crate) fn put(items: &mut Vec<Expr>, item: Box<Expr>) -> Result<(), Stop>
-    ensures { MatchResult result (λ _. items.new.items ≡ items.old.items ++ (item.value ∷ []))
-        (λ s. s ≡ Stop.Memory) }
-{
-    items.push(Box::into_inner(item))?;
-    Ok(())
-}
-
-/// Appends an expression, or that there is none.
-pub(crate) fn put_option(items: &mut Vec<Option<Expr>>, item: Option<Box<Expr>>) -> Result<(), Stop>
-    ensures { MatchResult result
-        (λ _. map option_of items.new.items ≡ map option_of items.old.items ++ (boxed_of item ∷ []))
-        (λ s. s ≡ Stop.Memory) }
-{
-    let item = match item {
-        Some(item) => Some(Box::into_inner(item)),
-        None => None,
-    };
-    items.push(item)?;
-    Ok(())
-}
-
-/// Appends an argument by name, or one of `**`.
-#[tactic(auto, using(crate::proofs::ArgumentSteps::pushed_keyword, pynode::proofs::Callers::ExprShapes::keyword_tree))]
-pub(crate) fn put_keyword(
-    alloc: Global,
-    keywords: &mut Vec<Keyword>,
-    name: Option<&str>,
-    value: Box<Expr>,
-) -> Result<(), Stop>
-    ensures { MatchResult result
-        (λ _. map keyword_of keywords.new.items ≡ map keyword_of keywords.old.items
-        ++ (record { arg = option_map (λ x. nfkc (chars x.now)) name.entry; value = tree_of value.value } ∷ []))
-        (λ s. s ≡ Stop.Memory) }
-{
-    let arg = match name {
-        Some(name) => Some(identifier_of(alloc, name)?),
-        None => None,
-    };
-    keywords.push(Keyword {
-        arg,
-        value: Box::into_inner(value),
-    })?;
-    Ok(())
-}
-
 /// A whole number.
 pub(crate) fn make_whole(alloc: Global, value: u128, next: usize) -> Result<Read, Stop>
-    ensures { MatchResult result (λ r. Made 1 (plain.Constant (values.Int value)) next r) (λ s. s ≡ Stop.Memory) }
+    ensures { MatchResult result (λ r. Made 1 (plain.Constant (values.Int value)) next r)
+        (λ s. s ≡ Stop.Memory) }
 {
     let value = Integer::new(alloc, value)?;
     make_constant(alloc, Constant::Int(value), next)
@@ -109,7 +64,8 @@ pub(crate) fn make_whole(alloc: Global, value: u128, next: usize) -> Result<Read
 #[tactic(auto, using(pynode::proofs::Callers::ExprShapes::expr_shapes))]
 #[inline(always)]
 pub fn make_name(alloc: Global, name: &str, ctx: Context, next: usize) -> Result<Read, Stop>
-    ensures { MatchResult result (λ r. Made 1 (plain.Name (nfkc (chars name.now)) ctx) next r) (λ s. s ≡ Stop.Memory) }
+    ensures { MatchResult result (λ r. Made 1 (plain.Name (nfkc (chars name.now)) ctx) next r)
+        (λ s. s ≡ Stop.Memory) }
 {
     let id = identifier_of(alloc, name)?;
     boxed(alloc, Expr::Name { id, ctx }, 1, next)
@@ -118,7 +74,8 @@ pub fn make_name(alloc: Global, name: &str, ctx: Context, next: usize) -> Result
 /// A constant.
 #[tactic(auto, using(pynode::proofs::Callers::ExprShapes::expr_shapes))]
 pub(crate) fn make_constant(alloc: Global, value: Constant, next: usize) -> Result<Read, Stop>
-    ensures { MatchResult result (λ r. Made 1 (plain.Constant (constant_of value)) next r) (λ s. s ≡ Stop.Memory) }
+    ensures { MatchResult result (λ r. Made 1 (plain.Constant (constant_of value)) next r)
+        (λ s. s ≡ Stop.Memory) }
 {
     boxed(alloc, Expr::Constant { value }, 1, next)
 }
@@ -132,7 +89,8 @@ pub(crate) fn make_binary(
     right: Read,
     room: usize,
 ) -> Result<Read, Stop>
-    ensures { Makes room (plain.BinOp (tree_of left.expr.value) op (tree_of right.expr.value)) right.next result }
+    ensures { Makes room
+        (plain.BinOp (tree_of left.expr.value) op (tree_of right.expr.value)) right.next result }
 {
     let height = above(left.height.max(right.height), room)?;
     boxed(
@@ -199,7 +157,8 @@ pub(crate) fn make_starred(alloc: Global, e: Read, room: usize) -> Result<Read, 
 #[tactic(auto, using(pynode::proofs::Callers::ExprShapes::expr_shapes))]
 pub fn starred(alloc: Global, e: Read) -> Result<Read, Stop>
     ensures tree { MatchResult result
-        (λ r. tree_of r.expr.value ≡ plain.Starred (tree_of e.expr.value) Context.Load) (λ s. s ≡ Stop.Memory) }
+        (λ r. tree_of r.expr.value ≡ plain.Starred (tree_of e.expr.value) Context.Load)
+        (λ s. s ≡ Stop.Memory) }
     ensures next { MatchResult result (λ r. r.next ≡ e.next) (λ s. s ≡ Stop.Memory) }
 {
     let next = e.next;
@@ -234,7 +193,9 @@ pub(crate) fn make_if(
     orelse: Read,
     room: usize,
 ) -> Result<Read, Stop>
-    ensures { Makes room (plain.IfExp (tree_of test.expr.value) (tree_of body.expr.value) (tree_of orelse.expr.value)) orelse.next result }
+    ensures { Makes room
+        (plain.IfExp (tree_of test.expr.value) (tree_of body.expr.value)
+        (tree_of orelse.expr.value)) orelse.next result }
 {
     let height = above(test.height.max(body.height.max(orelse.height)), room)?;
     boxed(
@@ -257,7 +218,8 @@ pub(crate) fn make_named(
     value: Read,
     room: usize,
 ) -> Result<Read, Stop>
-    ensures { Makes room (plain.NamedExpr (tree_of target.expr.value) (tree_of value.expr.value)) value.next result }
+    ensures { Makes room
+        (plain.NamedExpr (tree_of target.expr.value) (tree_of value.expr.value)) value.next result }
 {
     let height = above(target.height.max(value.height), room)?;
     boxed(
@@ -299,8 +261,11 @@ pub(crate) fn make_compare(
     next: usize,
     room: usize,
 ) -> Result<Read, Stop>
-    requires { under ≡ max (Heights.height (tree_of left.value)) (Heights.list_height (map tree_of comparators.items)) }
-    ensures { Makes room (plain.Compare (tree_of left.value) ops.items (exprs (map tree_of comparators.items))) next result }
+    requires { under ≡ max (Heights.height (tree_of left.value))
+        (Heights.list_height (map tree_of comparators.items)) }
+    ensures { Makes room
+        (plain.Compare (tree_of left.value) ops.items
+        (exprs (map tree_of comparators.items))) next result }
 {
     let height = above(under, room)?;
     boxed(
@@ -324,7 +289,8 @@ pub(crate) fn make_attribute(
     next: usize,
     room: usize,
 ) -> Result<Read, Stop>
-    ensures { Makes room (plain.Attribute (tree_of e.expr.value) (nfkc (chars name.now)) Context.Load) next result }
+    ensures { Makes room
+        (plain.Attribute (tree_of e.expr.value) (nfkc (chars name.now)) Context.Load) next result }
 {
     let height = above(e.height, room)?;
     let attr = identifier_of(alloc, name)?;
@@ -349,7 +315,9 @@ pub(crate) fn make_subscript(
     next: usize,
     room: usize,
 ) -> Result<Read, Stop>
-    ensures { Makes room (plain.Subscript (tree_of e.expr.value) (tree_of slice.expr.value) Context.Load) next result }
+    ensures { Makes room
+        (plain.Subscript (tree_of e.expr.value)
+        (tree_of slice.expr.value) Context.Load) next result }
 {
     let height = above(e.height.max(slice.height), room)?;
     boxed(
@@ -362,250 +330,4 @@ pub(crate) fn make_subscript(
         height,
         next,
     )
-}
-
-/// A tuple, of elements of this height.
-#[tactic(auto, using(pynode::proofs::Callers::ExprShapes::expr_shapes))]
-pub(crate) fn make_tuple(
-    alloc: Global,
-    elts: Vec<Expr>,
-    under: usize,
-    next: usize,
-    room: usize,
-) -> Result<Read, Stop>
-    requires { under ≡ Heights.list_height (map tree_of elts.items) }
-    ensures { Makes room (plain.Tuple (exprs (map tree_of elts.items)) Context.Load) next result }
-{
-    let height = above(under, room)?;
-    boxed(
-        alloc,
-        Expr::Tuple {
-            elts,
-            ctx: Context::Load,
-        },
-        height,
-        next,
-    )
-}
-
-/// A list, of elements of this height.
-#[tactic(auto, using(pynode::proofs::Callers::ExprShapes::expr_shapes))]
-pub(crate) fn make_list(
-    alloc: Global,
-    elts: Vec<Expr>,
-    under: usize,
-    next: usize,
-    room: usize,
-) -> Result<Read, Stop>
-    requires { under ≡ Heights.list_height (map tree_of elts.items) }
-    ensures { Makes room (plain.ListOf (exprs (map tree_of elts.items)) Context.Load) next result }
-{
-    let height = above(under, room)?;
-    boxed(
-        alloc,
-        Expr::List {
-            elts,
-            ctx: Context::Load,
-        },
-        height,
-        next,
-    )
-}
-
-/// A set, of elements of this height.
-#[tactic(auto, using(pynode::proofs::Callers::ExprShapes::expr_shapes))]
-pub(crate) fn make_set(
-    alloc: Global,
-    elts: Vec<Expr>,
-    under: usize,
-    next: usize,
-    room: usize,
-) -> Result<Read, Stop>
-    requires { under ≡ Heights.list_height (map tree_of elts.items) }
-    ensures { Makes room (plain.Set (exprs (map tree_of elts.items))) next result }
-{
-    let height = above(under, room)?;
-    boxed(alloc, Expr::Set { elts }, height, next)
-}
-
-/// A dict, of keys and values of this height.
-#[tactic(auto, using(pynode::proofs::Callers::ExprShapes::expr_shapes))]
-pub(crate) fn make_dict(
-    alloc: Global,
-    keys: Vec<Option<Expr>>,
-    values: Vec<Expr>,
-    under: usize,
-    next: usize,
-    room: usize,
-) -> Result<Read, Stop>
-    requires { under ≡ max (Heights.optional_heights (optionals (map option_of keys.items))) (Heights.list_height (map tree_of values.items)) }
-    ensures { Makes room (plain.Dict (optionals (map option_of keys.items)) (exprs (map tree_of values.items))) next result }
-{
-    let height = above(under, room)?;
-    boxed(alloc, Expr::Dict { keys, values }, height, next)
-}
-
-/// A call, of parts of this height.
-#[tactic(auto, using(pynode::proofs::Callers::ExprShapes::expr_shapes))]
-#[inline(always)]
-pub(crate) fn make_call(
-    alloc: Global,
-    func: Box<Expr>,
-    args: Vec<Expr>,
-    keywords: Vec<Keyword>,
-    under: usize,
-    next: usize,
-    room: usize,
-) -> Result<Read, Stop>
-    requires { under ≡ max (Heights.height (tree_of func.value)) (max (Heights.list_height (map tree_of args.items)) (Heights.keyword_heights (plain.keywords (map keyword_of keywords.items)))) }
-    ensures { Makes room (plain.Call (tree_of func.value) (exprs (map tree_of args.items)) (plain.keywords (map keyword_of keywords.items))) next result }
-{
-    let height = above(under, room)?;
-    boxed(
-        alloc,
-        Expr::Call {
-            func,
-            args,
-            keywords,
-        },
-        height,
-        next,
-    )
-}
-
-/// A generator expression, of parts of this height.
-#[tactic(auto, using(pynode::proofs::Callers::ExprShapes::expr_shapes))]
-pub(crate) fn make_generator(
-    alloc: Global,
-    elt: Box<Expr>,
-    generators: Vec<Comprehension>,
-    under: usize,
-    next: usize,
-    room: usize,
-) -> Result<Read, Stop>
-    requires { under ≡ max (Heights.height (tree_of elt.value)) (Heights.comprehension_heights (comprehensions (map comprehension_of generators.items))) }
-    ensures { Makes room (plain.GeneratorExp (tree_of elt.value) (comprehensions (map comprehension_of generators.items))) next result }
-{
-    let height = above(under, room)?;
-    boxed(alloc, Expr::GeneratorExp { elt, generators }, height, next)
-}
-
-/// A list comprehension, of parts of this height.
-#[tactic(auto, using(pynode::proofs::Callers::ExprShapes::expr_shapes))]
-pub(crate) fn make_list_comp(
-    alloc: Global,
-    elt: Box<Expr>,
-    generators: Vec<Comprehension>,
-    under: usize,
-    next: usize,
-    room: usize,
-) -> Result<Read, Stop>
-    requires { under ≡ max (Heights.height (tree_of elt.value)) (Heights.comprehension_heights (comprehensions (map comprehension_of generators.items))) }
-    ensures { Makes room (plain.ListComp (tree_of elt.value) (comprehensions (map comprehension_of generators.items))) next result }
-{
-    let height = above(under, room)?;
-    boxed(alloc, Expr::ListComp { elt, generators }, height, next)
-}
-
-/// A set comprehension, of parts of this height.
-#[tactic(auto, using(pynode::proofs::Callers::ExprShapes::expr_shapes))]
-pub(crate) fn make_set_comp(
-    alloc: Global,
-    elt: Box<Expr>,
-    generators: Vec<Comprehension>,
-    under: usize,
-    next: usize,
-    room: usize,
-) -> Result<Read, Stop>
-    requires { under ≡ max (Heights.height (tree_of elt.value)) (Heights.comprehension_heights (comprehensions (map comprehension_of generators.items))) }
-    ensures { Makes room (plain.SetComp (tree_of elt.value) (comprehensions (map comprehension_of generators.items))) next result }
-{
-    let height = above(under, room)?;
-    boxed(alloc, Expr::SetComp { elt, generators }, height, next)
-}
-
-/// A dict comprehension, of parts of this height.
-#[tactic(auto, using(pynode::proofs::Callers::ExprShapes::expr_shapes))]
-pub(crate) fn make_dict_comp(
-    alloc: Global,
-    key: Box<Expr>,
-    value: Box<Expr>,
-    generators: Vec<Comprehension>,
-    under: usize,
-    next: usize,
-    room: usize,
-) -> Result<Read, Stop>
-    requires { under ≡ max (Heights.height (tree_of key.value)) (max (Heights.height (tree_of value.value)) (Heights.comprehension_heights (comprehensions (map comprehension_of generators.items)))) }
-    ensures { Makes room (plain.DictComp (tree_of key.value) (tree_of value.value) (comprehensions (map comprehension_of generators.items))) next result }
-{
-    let height = above(under, room)?;
-    boxed(
-        alloc,
-        Expr::DictComp {
-            key,
-            value,
-            generators,
-        },
-        height,
-        next,
-    )
-}
-
-/// A lambda, of parameters of this height.
-#[tactic(auto, using(pynode::proofs::Callers::ExprShapes::expr_shapes))]
-pub(crate) fn make_lambda(
-    alloc: Global,
-    args: Arguments,
-    under: usize,
-    body: Read,
-    room: usize,
-) -> Result<Read, Stop>
-    requires { under ≡ Heights.arguments_height (arguments_of args) }
-    ensures { Makes room (plain.Lambda (arguments_of args) (tree_of body.expr.value)) body.next result }
-{
-    let height = above(under.max(body.height), room)?;
-    let args = Box::new(alloc, args)?;
-    boxed(
-        alloc,
-        Expr::Lambda {
-            args,
-            body: body.expr,
-        },
-        height,
-        body.next,
-    )
-}
-
-/// A `yield`, of a value of this height.
-#[tactic(auto, using(pynode::proofs::Callers::ExprShapes::expr_shapes))]
-pub(crate) fn make_yield(
-    alloc: Global,
-    value: Option<Box<Expr>>,
-    under: usize,
-    next: usize,
-    room: usize,
-) -> Result<Read, Stop>
-    requires { under ≡ Heights.optional_height (optional (boxed_of value)) }
-    ensures { Makes room (plain.Yield (optional (boxed_of value))) next result }
-{
-    let height = above(under, room)?;
-    boxed(alloc, Expr::Yield { value }, height, next)
-}
-
-/// A slice, of parts of this height.
-#[tactic(auto, using(pynode::proofs::Callers::ExprShapes::expr_shapes))]
-pub(crate) fn make_slice(
-    alloc: Global,
-    lower: Option<Box<Expr>>,
-    upper: Option<Box<Expr>>,
-    step: Option<Box<Expr>>,
-    under: usize,
-    next: usize,
-    room: usize,
-) -> Result<Read, Stop>
-    requires { under ≡ max (Heights.optional_height (optional (boxed_of lower))) (max (Heights.optional_height (optional (boxed_of upper))) (Heights.optional_height (optional (boxed_of step)))) }
-    ensures { Makes room (plain.Slice (optional (boxed_of lower)) (optional (boxed_of upper)) (optional (boxed_of step))) next result }
-{
-    let height = above(under, room)?;
-    boxed(alloc, Expr::Slice { lower, upper, step }, height, next)
 }

@@ -155,7 +155,8 @@ pub(crate) fn infix_rank(o: Infix) -> u8
 /// The operator that a terminal is, if it is of this rank or a higher one.
 fn infix_of(t: Terminal, least: u8) -> Option<Infix>
     ensures is { option_map infix_value result ≡ precedence.infix_from least (terminal t.entry) }
-    ensures stands { IfSome result (λ o. Some (infix_value o) ≡ precedence.behind (terminal t.entry)) }
+    ensures stands { IfSome result
+        (λ o. Some (infix_value o) ≡ precedence.behind (terminal t.entry)) }
     ensures level { IfSome result (λ o. IsInfix (infix_value o)) }
 {
     match behind(t) {
@@ -213,7 +214,8 @@ pub(crate) fn prefix_rank(o: Prefix) -> u8
     }
 }
 
-/// The operator in front of an expression that a terminal is, if it is of this rank or a higher one.
+/// The operator in front of an expression that a terminal is, if it is of this rank or a higher
+/// one.
 fn prefix_of(t: Terminal, least: u8) -> Option<Prefix>
     ensures is { option_map prefix_value result ≡ precedence.prefix_from least (terminal t.entry) }
     ensures level { IfSome result (λ o. IsPrefix (prefix_value o)) }

@@ -8,7 +8,7 @@ ghost use Rattle.pygrammar.specs.Parameters.{no_arguments};
 ghost use Rattle.pyexpr.specs.Inner.Formals as formals;
 ghost use Rattle.pyexpr.specs.Inner.FormalStates.{IsDisarranged, entry_of, state_of};
 
-use crate::makers::{put, put_option};
+use crate::room::{append, put, put_option};
 use crate::stop::Stop;
 use pynode::{Arg, Arguments, Expr};
 use std::alloc::Global;
@@ -46,13 +46,13 @@ pub(crate) struct Formal {
 }
 
 /// Appends a parameter.
-#[tactic(auto, using(crate::proofs::FormalSteps::pushed_arg))]
+#[tactic(auto, using(crate::proofs::FormalParameters::FormalSteps::pushed_arg))]
 fn put_arg(args: &mut Vec<Arg>, arg: Arg) -> Result<(), Stop>
-    ensures { MatchResult result (λ _. map arg_of args.new.items ≡ map arg_of args.old.items ++ (arg_of arg ∷ []))
+    ensures { MatchResult result
+        (λ _. map arg_of args.new.items ≡ map arg_of args.old.items ++ (arg_of arg ∷ []))
         (λ s. s ≡ Stop.Memory) }
 {
-    args.push(arg)?;
-    Ok(())
+    append(args, arg)
 }
 
 /// The same at another stage.
@@ -158,10 +158,11 @@ fn add_collected(formal: Formal, arg: Arg) -> Formal
 }
 
 /// A keyword-only parameter, with its default.
-#[tactic(auto, using(crate::proofs::FormalSteps::pushed_optional))]
+#[tactic(auto, using(crate::proofs::FormalParameters::FormalSteps::pushed_optional))]
 fn put_keyword_only(formal: Formal, arg: Arg, default: Option<Box<Expr>>) -> Result<Formal, Stop>
     ensures { MatchResult result
-        (λ r. state_of r ≡ formals.keyworded (state_of formal) (arg_of arg) (optional (boxed_of default)))
+        (λ r. state_of r ≡ formals.keyworded (state_of formal) (arg_of arg)
+        (optional (boxed_of default)))
         (λ s. s ≡ Stop.Memory) }
 {
     let mut formal = formal;
@@ -171,10 +172,11 @@ fn put_keyword_only(formal: Formal, arg: Arg, default: Option<Box<Expr>>) -> Res
 }
 
 /// A parameter in front of the star, with its default.
-#[tactic(auto, using(crate::proofs::Pushes::pushed))]
+#[tactic(auto, using(crate::proofs::Lists::Pushes::pushed))]
 fn put_plain(formal: Formal, arg: Arg, default: Option<Box<Expr>>) -> Result<Formal, Stop>
     ensures { MatchResult result
-        (λ r. state_of r ≡ formals.plainly (state_of formal) (arg_of arg) (optional (boxed_of default)))
+        (λ r. state_of r ≡ formals.plainly (state_of formal) (arg_of arg)
+        (optional (boxed_of default)))
         (λ s. s ≡ Stop.Memory) }
 {
     let mut formal = formal;
@@ -198,7 +200,8 @@ fn put_plain(formal: Formal, arg: Arg, default: Option<Box<Expr>>) -> Result<For
 /// A parameter with no star, with its default.
 fn add_plain(formal: Formal, arg: Arg, default: Option<Box<Expr>>) -> Result<Formal, Stop>
     ensures { MatchResult result
-        (λ r. state_of r ≡ formals.step (state_of formal) (entries.Plain (arg_of arg) (optional (boxed_of default))))
+        (λ r. state_of r ≡ formals.step (state_of formal)
+        (entries.Plain (arg_of arg) (optional (boxed_of default))))
         (λ s. s ≡ Stop.Memory) }
 {
     match formal.stage {

@@ -47,17 +47,18 @@ pub struct ReadArguments {
 }
 
 /// A target in front of `in`.
-#[tactic(auto, using(crate::proofs::PartSteps::outer_open, crate::proofs::PartSteps::target_outer))]
+#[tactic(auto, using(crate::proofs::Reader::PartSteps::outer_open, crate::proofs::Reader::PartSteps::target_outer))]
 pub fn target_at(alloc: Global, tokens: &[Terminal], at: usize, depth: Depth) -> Result<Read, Stop>
     requires { at ≤ length tokens.now }
-    ensures { Answered tokens.now (depth.room + 2) (at + 1) (reader.read_target (reads depth) (seen tokens.now at)) result }
+    ensures { Answered tokens.now (depth.room + 2) (at + 1)
+        (reader.read_target (reads depth) (seen tokens.now at)) result }
 {
     let outer = depth.outer()?;
     read_target(alloc, tokens, at, outer)
 }
 
 /// Parameters with commas between them, with annotations, in their order.
-#[tactic(auto, using(crate::proofs::PartSteps::outer_open))]
+#[tactic(auto, using(crate::proofs::Reader::PartSteps::outer_open))]
 pub fn parameters_at(
     alloc: Global,
     tokens: &[Terminal],
@@ -65,7 +66,8 @@ pub fn parameters_at(
     depth: Depth,
 ) -> Result<ReadParameters, Stop>
     requires { at ≤ length tokens.now }
-    ensures { PartAnswered tokens.now at (read_parameters depth (seen tokens.now at)) (λ r. arguments_of r.arguments) (λ r. r.next) result }
+    ensures { PartAnswered tokens.now at (read_parameters depth (seen tokens.now at))
+        (λ r. arguments_of r.arguments) (λ r. r.next) result }
 {
     let outer = depth.outer()?;
     let signature = parameters(alloc, tokens, true, at, outer)?;
@@ -80,7 +82,7 @@ pub fn parameters_at(
 }
 
 /// Arguments with commas between them, in their order.
-#[tactic(auto, using(crate::proofs::PartSteps::outer_open))]
+#[tactic(auto, using(crate::proofs::Reader::PartSteps::outer_open))]
 pub fn arguments_at(
     alloc: Global,
     tokens: &[Terminal],
@@ -88,7 +90,9 @@ pub fn arguments_at(
     depth: Depth,
 ) -> Result<ReadArguments, Stop>
     requires { at ≤ length tokens.now }
-    ensures { PartAnswered tokens.now at (read_arguments depth (seen tokens.now at)) (λ r. (exprs (map tree_of r.args.items), plain.keywords (map keyword_of r.keywords.items))) (λ r. r.next) result }
+    ensures { PartAnswered tokens.now at (read_arguments depth (seen tokens.now at))
+        (λ r. (exprs (map tree_of r.args.items), plain.keywords (map keyword_of r.keywords.items)))
+        (λ r. r.next) result }
 {
     let outer = depth.outer()?;
     let actual = arguments(alloc, tokens, at, outer)?;

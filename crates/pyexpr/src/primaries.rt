@@ -34,7 +34,8 @@ pub(crate) fn read_primary(
     depth: Depth,
 ) -> Result<Read, Stop>
     requires { at ≤ length tokens.now }
-    ensures { Answered tokens.now depth.room (at + 1) (reads depth Level.Primary (seen tokens.now at)) result }
+    ensures { Answered tokens.now depth.room (at + 1)
+        (reads depth Level.Primary (seen tokens.now at)) result }
 {
     depth.enter()?;
     let mut e = read_atom(alloc, tokens, at, depth)?;
@@ -56,7 +57,8 @@ fn attribute_step(alloc: Global, tokens: &[Terminal], e: Read, depth: Depth) -> 
     requires within { e.next < length tokens.now }
     ensures { Answered tokens.now depth.room (e.next + 1)
         (cap depth.room (reader.on_first signs.name_in (seen tokens.now (e.next + 1))
-        (λ x r. reader.Found (plain.Attribute (tree_of e.expr.value) x Context.Load) r) reader.NoForm)) result }
+        (λ x r. reader.Found
+        (plain.Attribute (tree_of e.expr.value) x Context.Load) r) reader.NoForm)) result }
 {
     let next = e.next + 1;
     match name_at(tokens, next) {
@@ -72,9 +74,11 @@ fn index_step(alloc: Global, tokens: &[Terminal], e: Read, depth: Depth) -> Resu
     requires within { e.next < length tokens.now }
     requires open { IsOpen depth }
     ensures { Answered tokens.now depth.room (e.next + 1)
-        (cap depth.room (reader.and_then (inner_reads depth Level.Slices (seen tokens.now (e.next + 1)))
+        (cap depth.room
+        (reader.and_then (inner_reads depth Level.Slices (seen tokens.now (e.next + 1)))
         (λ s r. reader.on_first (signs.is_op Exact.RSqb) r
-        (λ _ r2. reader.Found (plain.Subscript (tree_of e.expr.value) s Context.Load) r2) reader.NoForm))) result }
+        (λ _ r2. reader.Found
+        (plain.Subscript (tree_of e.expr.value) s Context.Load) r2) reader.NoForm))) result }
 {
     let slice = read_slices(alloc, tokens, e.next + 1, depth.inner())?;
     if is_op(tokens, slice.next, Exact::RSqb) {

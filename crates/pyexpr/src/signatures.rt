@@ -15,15 +15,17 @@ ghost use Rattle.pyexpr.specs.Inner.FormalStates.{entry_of, state_of};
 ghost use Rattle.pyexpr.specs.Inner.Formals as formals;
 ghost use Rattle.pyexpr.specs.Inner.Found.{OptionalAt};
 ghost use Rattle.pyexpr.specs.Inner.Readings.{IsOpen, inner_reads};
-ghost use Rattle.pyexpr.specs.Inner.Signatures.{ParameterAnswered, SignatureAt, collected_reads, gathered_reads, plain_reads};
+ghost use Rattle.pyexpr.specs.Inner.Signatures.{ParameterAnswered, SignatureAt, collected_reads};
+ghost use Rattle.pyexpr.specs.Inner.Signatures.{gathered_reads, plain_reads};
 ghost use Rattle.pyexpr.specs.Views.{seen};
 
 use crate::climbing::climb;
 use crate::depth::Depth;
 use crate::found::{Optional, Read};
 use crate::levels::read_expression;
+use crate::list_makers::make_lambda;
 use crate::looks::{is_op, name_at, terminal_at};
-use crate::makers::{identifier_of, make_lambda, make_starred};
+use crate::makers::{identifier_of, make_starred};
 use crate::parameters::{Formal, Parameter, add_parameter, arranged, no_formal};
 use crate::stop::Stop;
 use pygrammar::Level;
@@ -104,7 +106,8 @@ fn with_parameter(before: Signature, one: ReadParameter) -> Result<Signature, St
     ensures formal { MatchResult result
         (λ r. state_of r.formal ≡ formals.step (state_of before.formal) (entry_of one.parameter))
         (λ s. s ≡ Stop.Memory) }
-    ensures height { MatchResult result (λ r. r.height ≡ max before.height one.height) (λ s. s ≡ Stop.Memory) }
+    ensures height { MatchResult result (λ r. r.height ≡ max before.height one.height)
+        (λ s. s ≡ Stop.Memory) }
     ensures next { MatchResult result (λ r. r.next ≡ one.next) (λ s. s ≡ Stop.Memory) }
 {
     let height = before.height.max(one.height);
@@ -148,7 +151,8 @@ pub(crate) fn suffixed(
     requires within { at ≤ length tokens.now }
     requires open { IsOpen depth }
     ensures { MatchResult result
-        (λ r. OptionalAt tokens.now depth.room at (reader.suffixed (inner_reads depth) sign (seen tokens.now at)) r)
+        (λ r. OptionalAt tokens.now depth.room at
+        (reader.suffixed (inner_reads depth) sign (seen tokens.now at)) r)
         (λ s. Failed s (reader.suffixed (inner_reads depth) sign (seen tokens.now at))) }
 {
     match sign {
@@ -200,7 +204,8 @@ fn star_annotation(
     requires within { at ≤ length tokens.now }
     requires open { IsOpen depth }
     ensures { MatchResult result
-        (λ r. OptionalAt tokens.now depth.room at (reader.star_annotated (inner_reads depth) annotated (seen tokens.now at)) r)
+        (λ r. OptionalAt tokens.now depth.room at
+        (reader.star_annotated (inner_reads depth) annotated (seen tokens.now at)) r)
         (λ s. Failed s (reader.star_annotated (inner_reads depth) annotated (seen tokens.now at))) }
 {
     if !annotated {
@@ -347,8 +352,11 @@ pub(crate) fn parameters(
     requires open { IsOpen depth }
     ensures { MatchResult result
         (λ r. SignatureAt tokens.now depth.room at
-        (reader.listing_of (inner_reads depth) (entries.Parameter annotated) [] (seen tokens.now at)) r)
-        (λ s. Failed s (reader.listing_of (inner_reads depth) (entries.Parameter annotated) [] (seen tokens.now at))) }
+        (reader.listing_of (inner_reads depth) (entries.Parameter annotated) []
+        (seen tokens.now at)) r)
+        (λ s. Failed s
+        (reader.listing_of (inner_reads depth) (entries.Parameter annotated) []
+        (seen tokens.now at))) }
 {
     let mut before = no_parameters(alloc, at);
     'more: while starts_parameter(tokens, before.next) {

@@ -20,9 +20,10 @@ ghost use Rattle.pyheight.specs.Heights as Heights;
 use crate::depth::Depth;
 use crate::found::{Optional, Read};
 use crate::levels::{read_expression, read_named};
+use crate::list_makers::{make_slice, make_tuple};
 use crate::listings::{Item, first_items, tupled};
 use crate::looks::{is_op, lead_at, name_with};
-use crate::makers::{make_slice, make_starred, make_tuple};
+use crate::makers::make_starred;
 use crate::stop::Stop;
 use pygrammar::Level;
 use pylex::Exact;
@@ -38,7 +39,8 @@ pub(crate) fn read_slices(
     depth: Depth,
 ) -> Result<Read, Stop>
     requires { at ≤ length tokens.now }
-    ensures { Answered tokens.now depth.room (at + 1) (reads depth Level.Slices (seen tokens.now at)) result }
+    ensures { Answered tokens.now depth.room (at + 1)
+        (reads depth Level.Slices (seen tokens.now at)) result }
 {
     depth.enter()?;
     let first = read_part(alloc, tokens, at, depth)?;
@@ -60,7 +62,8 @@ pub(crate) fn read_part(
     depth: Depth,
 ) -> Result<Read, Stop>
     requires { at ≤ length tokens.now }
-    ensures { Answered tokens.now depth.room (at + 1) (reads depth Level.Part (seen tokens.now at)) result }
+    ensures { Answered tokens.now depth.room (at + 1)
+        (reads depth Level.Part (seen tokens.now at)) result }
 {
     depth.enter()?;
     if is_op(tokens, at, Exact::Star) {
@@ -79,7 +82,8 @@ pub(crate) fn read_slice(
     depth: Depth,
 ) -> Result<Read, Stop>
     requires { at ≤ length tokens.now }
-    ensures { Answered tokens.now depth.room (at + 1) (reads depth Level.Slice (seen tokens.now at)) result }
+    ensures { Answered tokens.now depth.room (at + 1)
+        (reads depth Level.Slice (seen tokens.now at)) result }
 {
     depth.enter()?;
     if is_op(tokens, at, Exact::Colon) {
@@ -118,7 +122,9 @@ pub(crate) fn slice_rest(
     requires is_height { height ≡ Heights.optional_height (plain.optional (boxed_of lower)) }
     requires low { height ≤ depth.room }
     ensures { Answered tokens.now depth.room (at)
-        (cap depth.room (reader.slice_rest (inner_reads depth) (plain.optional (boxed_of lower)) (seen tokens.now at))) result }
+        (cap depth.room
+        (reader.slice_rest (inner_reads depth) (plain.optional (boxed_of lower))
+        (seen tokens.now at))) result }
 {
     let upper = perhaps(alloc, tokens, at, depth)?;
     let height = height.max(upper.height);
@@ -151,7 +157,8 @@ pub(crate) fn perhaps(
     requires within { at ≤ length tokens.now }
     requires open { IsOpen depth }
     ensures { MatchResult result
-        (λ r. OptionalAt tokens.now (depth.room - 1) at (reader.perhaps (inner_reads depth) Level.Expression (seen tokens.now at)) r)
+        (λ r. OptionalAt tokens.now (depth.room - 1) at
+        (reader.perhaps (inner_reads depth) Level.Expression (seen tokens.now at)) r)
         (λ s. Failed s (reader.perhaps (inner_reads depth) Level.Expression (seen tokens.now at))) }
 {
     if lead_at(tokens, at) >= 9 {

@@ -54,7 +54,8 @@ pub(crate) fn store(e: &mut Expr) -> bool
 /// Gives each of some expressions the context Store, if all have target shape.
 #[cycle(targets)]
 fn store_all(es: &mut [Expr]) -> bool
-    ensures { IsChanged result (all_stored (exprs (map tree_of es.old))) (exprs (map tree_of es.new)) }
+    ensures { IsChanged result (all_stored (exprs (map tree_of es.old)))
+        (exprs (map tree_of es.new)) }
 {
     for e in es {
         if !store(e) {

@@ -13,7 +13,7 @@ use crate::stop::Stop;
 use crate::targets::store;
 
 /// An expression with the contexts of a target, if it has target shape.
-#[tactic(auto, using(crate::proofs::TurnedHeights::stored_high))]
+#[tactic(auto, using(crate::proofs::Stores::TurnedHeights::stored_high))]
 pub fn stored(read: Read) -> Result<Read, Stop>
     ensures { Turns targets.stored read result }
 {
@@ -26,7 +26,7 @@ pub fn stored(read: Read) -> Result<Read, Stop>
 }
 
 /// A name, an attribute or a subscript with the context of a target, if it is one.
-#[tactic(auto, using(crate::proofs::TurnedHeights::single_high))]
+#[tactic(auto, using(crate::proofs::Stores::TurnedHeights::single_high))]
 pub fn single_stored(read: Read) -> Result<Read, Stop>
     ensures { Turns targets.single_stored read result }
 {
@@ -39,7 +39,7 @@ pub fn single_stored(read: Read) -> Result<Read, Stop>
 }
 
 /// An expression with the contexts of what is deleted, if it can be.
-#[tactic(auto, using(crate::proofs::TurnedHeights::deleted_high))]
+#[tactic(auto, using(crate::proofs::Stores::TurnedHeights::deleted_high))]
 pub fn deleted(read: Read) -> Result<Read, Stop>
     ensures { Turns targets.deleted read result }
 {

@@ -3,7 +3,7 @@ use Rattle.std.proofs.Common.{◌≡◌, ◌+◌, ◌++◌, arith, ℕ, List, []
 use Rattle.std.specs.Prelude.{OnOk, OnErr}
 use Rattle.std.specs.Io.KnownBytes.{Appends}
 use Rattle.pysource.specs.Bytes.{TakesFront}
-use Rattle.pysource.proofs.ByteLemmas.{Appends-append, TakesFront-after, TakesFront-done}
+use Rattle.pysource.proofs.TakenBytes.ByteLemmas.{Appends-append, TakesFront-after, TakesFront-done}
 use Rattle.pyfault.specs.Faults.{Tells}
 
 -- a write that failed within a line

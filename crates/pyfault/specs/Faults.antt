@@ -8,13 +8,13 @@ use Rattle.pysource.specs.declared.encodings.SourceFault.{SourceFault}
 use Rattle.pysource.specs.declared.encodings.SourceFault.TheVariants as source_faults
 use Rattle.pysource.specs.declared.faults.LineError.TheVariants as line_errors
 use Rattle.pysource.specs.declared.places.Place.{Place}
-use Rattle.pysource.specs.declared.streams.StreamFault.{StreamFault}
-use Rattle.pysource.specs.declared.streams.StreamFault.TheVariants as stream_faults
+use Rattle.pysource.specs.declared.line_reader.StreamFault.{StreamFault}
+use Rattle.pysource.specs.declared.line_reader.StreamFault.TheVariants as stream_faults
 use Rattle.pylex.specs.declared.entries.ListingError.{ListingError}
 use Rattle.pylex.specs.declared.entries.ListingError.TheVariants as errors
 use Rattle.pylex.specs.declared.entries.ListingFault.{ListingFault}
-use Rattle.pylex.specs.declared.stream.ResumeFault.{ResumeFault}
-use Rattle.pylex.specs.declared.stream.ResumeFault.TheVariants as resume_faults
+use Rattle.pylex.specs.declared.line_lister.ResumeFault.{ResumeFault}
+use Rattle.pylex.specs.declared.line_lister.ResumeFault.TheVariants as resume_faults
 use Rattle.pytoken.specs.declared.faults.TokenError.{TokenError}
 use Rattle.pytoken.specs.declared.faults.TokenError.TheVariants.{Float, Complex, FString, IntegerTooLarge, NamedEscape, BadEscape, NonAsciiBytes, Nul, NameForm}
 use Rattle.pytoken.specs.declared.refusals.Refusal.{Refusal}

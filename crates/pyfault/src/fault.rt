@@ -4,7 +4,10 @@ ghost use Rattle.pyparse.specs.Modules.{code_of};
 ghost use Rattle.pyfault.specs.declared.fault.Fault.{Fault};
 ghost use Rattle.pyfault.specs.declared.fault.FaultCode.{FaultCode};
 ghost use Rattle.pyfault.specs.declared.fault.RunFaultCode.{RunFaultCode};
-ghost use Rattle.pyfault.specs.Faults.{text_of, token_text, code_status, status_of, fault_code, fault_line, source_line, plain_line, of_listing, of_resume, of_stream, of_source, of_input, of_refusal, of_grammar, of_parse, listing_code, Tells, IsToldAs};
+ghost use Rattle.pyfault.specs.Faults.{text_of, token_text, code_status, status_of, fault_code};
+ghost use Rattle.pyfault.specs.Faults.{fault_line, source_line, plain_line, of_listing, of_resume};
+ghost use Rattle.pyfault.specs.Faults.{of_stream, of_source, of_input, of_refusal, of_grammar};
+ghost use Rattle.pyfault.specs.Faults.{of_parse, listing_code, Tells, IsToldAs};
 
 use pylex::{ListingError, ListingFault, ResumeFault};
 use pyparse::{GrammarError, ParseFault};
@@ -51,7 +54,8 @@ pub enum SourceFaultCode {
     UnexpectedIndent,
     /// A clause or a decorator without the statement that takes it.
     MisplacedClause,
-    /// More brackets within one another than may be open at once, a form that is too high, or a statement within too many.
+    /// More brackets within one another than may be open at once, a form that is too high, or a
+    /// statement within too many.
     TooDeep,
     /// A line whose indentation depends on how wide a tab is.
     InconsistentTabs,
@@ -263,7 +267,8 @@ fn grammar_code(error: GrammarError) -> SourceFaultCode
     }
 }
 
-/// What is wrong with the source where a listing ends so: nothing where a line could not be read whole.
+/// What is wrong with the source where a listing ends so: nothing where a line could not be read
+/// whole.
 fn source_code(error: ListingError) -> Option<SourceFaultCode>
     ensures { result ≡ listing_code error }
 {
@@ -282,8 +287,8 @@ fn source_code(error: ListingError) -> Option<SourceFaultCode>
 }
 
 impl FaultCode {
-    /// The status that the program ends with: 1 where the source is at fault, 2 where the words or the cursor are, 3 where reading,
-    /// opening or writing failed, 4 where there was no memory.
+    /// The status that the program ends with: 1 where the source is at fault, 2 where the words or
+    /// the cursor are, 3 where reading, opening or writing failed, 4 where there was no memory.
     pub fn status(self) -> u8
         ensures { result ≡ code_status self }
     {
@@ -335,20 +340,23 @@ fn source_line(
 /// Writes the line of a fault without a place. It takes no memory.
 fn tell_plain<F: ByteOut>(code: RunFaultCode, faults: &mut F) -> Result<(), WriteFailed>
     requires { F.failure_count faults.old < 2 ^ 64 - 1 }
-    ensures { Tells (F.taken faults.old) (F.taken faults.new) (F.failure_count faults.old) (F.failure_count faults.new) (plain_line (text_of (FaultCode.Run code))) }
+    ensures { Tells (F.taken faults.old) (F.taken faults.new) (F.failure_count faults.old)
+        (F.failure_count faults.new) (plain_line (text_of (FaultCode.Run code))) }
 {
     write_all(faults, b"pyast: ")?;
     write_all(faults, fault_text(FaultCode::Run(code)).as_bytes())?;
     write_all(faults, b"\n")
 }
 
-/// Tells a fault, in the line that it has: that of a fault of the source begins with the name of the source and the
-/// place. A failed write of this line is told nowhere.
+/// Tells a fault, in the line that it has: that of a fault of the source begins with the name of
+/// the source and the place. A failed write of this line is told nowhere.
 ///
-/// The line of a place takes memory. Where there is none for it, that is told instead, and is the answer.
+/// The line of a place takes memory. Where there is none for it, that is told instead, and is the
+/// answer.
 pub fn tell<F: ByteOut>(alloc: Global, name: &str, fault: Fault, faults: &mut F) -> Fault
     requires { F.failure_count faults.old < 2 ^ 64 - 1 }
-    ensures told { Tells (F.taken faults.old) (F.taken faults.new) (F.failure_count faults.old) (F.failure_count faults.new) (fault_line name.now result) }
+    ensures told { Tells (F.taken faults.old) (F.taken faults.new) (F.failure_count faults.old)
+        (F.failure_count faults.new) (fault_line name.now result) }
     ensures same { IsToldAs fault result }
 {
     let told = match fault {

@@ -1,5 +1,7 @@
--- What other crates cite: the laws of the grammar; the reader within a height, level by level; lines within a height; what one terminal is;
--- heights of entries; lines one by one, the depths that they reach, and the first line that is too deep.
+-- What other crates cite: the laws of the grammar; the reader within a height, level by level;
+-- lines within a height; what one terminal is;
+-- heights of entries; lines one by one, the depths that they reach, and the
+-- first line that is too deep.
 pub mod Law
 pub mod Steps
 pub mod Lines

@@ -1,4 +1,6 @@
 -- On: the laws of lines, of blocks and of the answer for a source.
+--
+-- Carries: what pyparse, pywritten cite.
 use Rattle.pygrammar.specs.SourceLaws.{LinesAreLawful, BlocksAreLawful, AnswersAreLawful}
 use Rattle.pygrammar.proofs.Line.Answered.{enough, read_or_not}
 use Rattle.pygrammar.proofs.Line.Depth.{at_depth}

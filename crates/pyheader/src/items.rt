@@ -14,7 +14,7 @@ ghost use Rattle.pyheader.specs.Inner.Items.{ItemsAnswered, more_items};
 
 use crate::found::{ReadItem, ReadItems};
 use crate::item_targets::item_target;
-use pyexpr::{Depth, Read, Stop, is_op, is_word, read_at};
+use pyexpr::{Depth, Read, Stop, append, is_op, is_word, read_at};
 use pygrammar::Level;
 use pylex::Exact;
 use pynode::Item;
@@ -95,7 +95,7 @@ fn push(items: ReadItems, item: ReadItem) -> Result<ReadItems, Stop>
         next: _,
     } = items;
     let mut items = items;
-    items.push(item.item)?;
+    append(&mut items, item.item)?;
     Ok(ReadItems {
         items,
         height: height.max(item.height),

@@ -1,9 +1,13 @@
 //! The heights of expressions.
 
 ghost use Rattle.std.specs.Prelude.{◌≡◌, map};
-ghost use Rattle.pyheight.specs.Heights.{capped, arg_height, arg_heights, arguments_height, comprehension_heights, height, heights, keyword_heights, optional_arg_height, optional_height, optional_heights};
-ghost use Rattle.pynode.specs.TreeOf.{arg_of, arg_option_of, arguments_of, boxed_of, comprehension_of, keyword_of, option_of, tree_of};
-ghost use Rattle.pynode.specs.Trees.{args, comprehensions, exprs, keywords, optional, optional_arg, optionals};
+ghost use Rattle.pyheight.specs.Heights.{capped, arg_height, arg_heights, arguments_height};
+ghost use Rattle.pyheight.specs.Heights.{comprehension_heights, height, heights, keyword_heights};
+ghost use Rattle.pyheight.specs.Heights.{optional_arg_height, optional_height, optional_heights};
+ghost use Rattle.pynode.specs.TreeOf.{arg_of, arg_option_of, arguments_of, boxed_of};
+ghost use Rattle.pynode.specs.TreeOf.{comprehension_of, keyword_of, option_of, tree_of};
+ghost use Rattle.pynode.specs.Trees.{args, comprehensions, exprs, keywords, optional, optional_arg};
+ghost use Rattle.pynode.specs.Trees.{optionals};
 
 use crate::modules::one_more;
 use pynode::{Arg, Arguments, Comprehension, Expr, Keyword};
@@ -111,7 +115,8 @@ fn options_height(es: &[Option<Expr>]) -> u64
 #[cycle(expression_height)]
 #[tactic(auto, using(pynode::proofs::Callers::ExprShapes::expr_shapes, crate::proofs::CapLemmas::caps))]
 fn generators_height(cs: &[Comprehension]) -> u64
-    ensures { result ≡ capped (comprehension_heights (comprehensions (map comprehension_of cs.now))) }
+    ensures { result
+        ≡ capped (comprehension_heights (comprehensions (map comprehension_of cs.now))) }
 {
     let mut most: u64 = 0;
     for c in cs {

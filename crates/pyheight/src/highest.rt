@@ -3,7 +3,9 @@
 ghost use Rattle.std.specs.Prelude.{◌≡◌, map};
 ghost use Rattle.pynode.specs.TreeOf.{handler_of, item_of, option_of, stmt_of, type_param_of};
 ghost use Rattle.pynode.specs.Trees.{handlers, stmts};
-ghost use Rattle.pyheight.specs.Heights.{capped, highest_in, highest_in_all, highest_in_handlers, item_heights, option_height, type_param_height, type_param_heights};
+ghost use Rattle.pyheight.specs.Heights.{capped, highest_in, highest_in_all, highest_in_handlers};
+ghost use Rattle.pyheight.specs.Heights.{item_heights, option_height, type_param_height};
+ghost use Rattle.pyheight.specs.Heights.{type_param_heights};
 
 use crate::expressions::{
     boxed_height, expr_height, exprs_height, keywords_height, parameters_height,

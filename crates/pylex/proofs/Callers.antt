@@ -1,5 +1,7 @@
--- What callers compute with: when a cursor is one of a source, the steps of a listing behind its first ones, the lexemes of a text, and the machine's
--- run over these.
+-- What callers compute with: when a cursor is one of a source, the steps of a listing behind its
+-- first ones, the lexemes of a text, and the machine's run over these.
+--
+-- Carries: what pycommand, pyparse, pyspacing, pytoken cite. On: Lexed, Finding, Run.
 use Rattle.std.proofs.Common.{◌≡◌, ℕ, zero, suc, ◌+◌, ◌≤◌, Bool, true, false, ◌&&◌, ◌==◌, List, [], ◌∷◌, drop, length, refl, sym, ap, ◌∙◌, subst, Some, None, slice_get, nat_le, arith}
 use Rattle.std.proofs.lemmas.Bool.Decides.{nat_tests}
 use lib.Pointwise.{bytes_decides}
@@ -7,19 +9,19 @@ use Rattle.pylex.specs.declared.entries.Entry.{Entry}
 use Rattle.pylex.specs.declared.entries.ListingFault.{ListingFault}
 use Rattle.pylex.specs.declared.entries.Step.{Step}
 use Rattle.pylex.specs.declared.entries.Step.TheVariants as steps
-use Rattle.pylex.specs.declared.kinds.Kind.TheVariants as kinds
-use Rattle.pylexeme.specs.Cuts.{begins_thing}
+use Rattle.pylex.specs.declared.kind.Kind.TheVariants as kinds
+use Rattle.pylexeme.specs.Cuts.{begins_significant}
 use Rattle.pylexeme.specs.Lexemes.{Lexeme, lexeme_at, cut, left_by_cut}
-use Rattle.pylex.specs.Lines.{is_thing}
+use Rattle.pylex.specs.Lines.{is_significant}
 use Rattle.pylex.specs.Cursors.{CursorParts, cursor, flag, same_parts}
 use Rattle.pylex.specs.Laws.{LiesIn, AllLie, AreLexemes, IsCut, LongestWins}
 use Rattle.pylex.specs.Machine.{remaining, first_state}
-use Rattle.pylex.specs.Listing.{Source, listing, rest, up_to_end, mark, origin, steps_from}
+use Rattle.pylex.specs.Listing.{Source, listing, rest, up_to_end, origin, steps_from}
 use Rattle.pylex.specs.Standing.{is_cursor_of, IsCursorOf}
-use Rattle.pylex.specs.Steps.{entries_of, fault_of}
-use Rattle.pylex.proofs.Finding as finding
-use Rattle.pylex.proofs.Lexed as lexed
-use Rattle.pylex.proofs.Run as run
+use Rattle.pylex.specs.Steps.{entries_of, fault_of, mark}
+use Rattle.pylex.proofs.Listers.Finding as finding
+use Rattle.pylex.proofs.MachineLaws.Lexed as lexed
+use Rattle.pylex.proofs.MachineLaws.Run as run
 
 equals_itself : (n : ℕ) → (n == n) ≡ true
 equals_itself n = grind (arith, nat_tests)
@@ -145,8 +147,8 @@ pub longest_wins : (text : List ℕ) → LongestWins text
 longest_wins = lexed.longest_wins
 
 -- a lexeme makes its line logical exactly where it is seen to
-pub thing_is : (text : List ℕ) (x : Lexeme) → lexeme_at text ≡ Some x → is_thing x ≡ begins_thing text
-thing_is = finding.thing_is
+pub significant_is : (text : List ℕ) (x : Lexeme) → lexeme_at text ≡ Some x → is_significant x ≡ begins_significant text
+significant_is = finding.significant_is
 
 -- a source is listed as the machine runs over its lexemes
 pub listing_is : (s : Source) → listing s ≡ mark kinds.Encoding [] origin origin ∷ remaining s.fault first_state s.text

@@ -3,17 +3,17 @@ use Rattle.std.specs.Prelude.{◌≡◌, ◌⊎◌, ℕ, ◌+◌, ◌≤◌, ◌
 use Rattle.std.specs.declared.alloc.AllocError.{AllocError}
 use Rattle.pysource.specs.Streams.{Buffered, Reads, Gives, ComesOnly, IsLine, ends_line, unread}
 use Rattle.pysource.specs.Limits.{source_limit}
-use Rattle.pysource.specs.declared.streams.Line.{Line}
-use Rattle.pysource.specs.declared.streams.Line.TheVariants as met
-use Rattle.pylex.specs.declared.chunk.Chunk.{Chunk}
+use Rattle.pysource.specs.declared.line_reader.Line.{Line}
+use Rattle.pysource.specs.declared.line_reader.Line.TheVariants as met
+use Rattle.pylex.specs.declared.held_lines.HeldLines.{HeldLines}
 use Rattle.pylex.specs.Held.{Ahead, AheadBut, IsAtStop, Holds}
 
-pub record IsChunk (c : Chunk) : Type 0 where
+pub record IsHeldLines (c : HeldLines) : Type 0 where
   pub spare : string_bytes c.spare ≡ []
   pub at : c.at ≤ length (string_bytes c.text)
 
 -- What is held and what is left grow by a line, and lines that were looked at may be gone from their front.
-pub record Grows (old new : Chunk) (from : ℕ) (line : List ℕ) : Type 0 where
+pub record Grows (old new : HeldLines) (from : ℕ) (line : List ℕ) : Type 0 where
   pub gone : List ℕ
   pub whole : string_bytes old.text ++ line ≡ gone ++ string_bytes new.text
   pub base : new.base ≡ old.base + length gone
@@ -22,13 +22,13 @@ pub record Grows (old new : Chunk) (from : ℕ) (line : List ℕ) : Type 0 where
   pub left : drop new.at (string_bytes new.text) ≡ drop from (string_bytes old.text) ++ line
 
 -- nothing that is held was changed
-pub record Stays (old new : Chunk) : Type 0 where
+pub record Stays (old new : HeldLines) : Type 0 where
   pub text : string_bytes new.text ≡ string_bytes old.text
   pub base : new.base ≡ old.base
   pub at : new.at ≡ old.at
 
 -- what an answer says of the lines held
-abbrev pub Holding : Chunk → Chunk → ℕ → List ℕ → Result Line AllocError → Type 0
+abbrev pub Holding : HeldLines → HeldLines → ℕ → List ℕ → Result Line AllocError → Type 0
 Holding old new from line (Ok met.Text) = Grows old new from line
 Holding old new from line (Ok met.End) = Stays old new
 Holding old new from line (Ok (met.Fault f)) = Stays old new
@@ -44,7 +44,7 @@ Adds (Ok met.Read) line new = (line ≡ []) × ComesOnly new (Some (unread new.r
 Adds (Err e) line new = line ≡ []
 
 -- a chunk that reads on from a place in it
-pub record ReadsOn (come_old come_new : Option (List ℕ)) (told_old told_new : ℕ) (old new : Chunk) (from : ℕ) (result : Result Line AllocError) : Type 0 where
+pub record ReadsOn (come_old come_new : Option (List ℕ)) (told_old told_new : ℕ) (old new : HeldLines) (from : ℕ) (result : Result Line AllocError) : Type 0 where
   pub taken : List ℕ
   pub line : List ℕ
   pub reads : Reads come_old come_new told_old told_new old.lines new.lines taken
@@ -53,7 +53,7 @@ pub record ReadsOn (come_old come_new : Option (List ℕ)) (told_old told_new : 
   pub same : new.lines.encoding ≡ old.lines.encoding
   pub sizes : length line + length new.lines.pending ≡ length old.lines.pending + length taken
   pub within : new.lines.count ≤ source_limit
-  pub chunk : IsChunk new
+  pub chunk : IsHeldLines new
   pub holding : Holding old new from line result
 
 -- Further lines were read behind a text.
@@ -74,7 +74,7 @@ abbrev pub IsLonger : List ℕ → List ℕ → Type 0
 IsLonger old new = (added : List ℕ) × IsUtf8 added × (new ≡ old ++ added)
 
 -- a line was read behind those held
-pub record IsLineMore (old new : Chunk) (from : ℕ) : Type 0 where
+pub record IsLineMore (old new : HeldLines) (from : ℕ) : Type 0 where
   pub line : List ℕ
   pub is : IsLine line
   pub text : string_bytes new.text ≡ string_bytes old.text ++ line
@@ -82,7 +82,7 @@ pub record IsLineMore (old new : Chunk) (from : ℕ) : Type 0 where
   pub ahead : (start : Buffered) → AheadBut start old.lines → Ahead start new.lines
   pub at : new.at ≡ from
 
-abbrev pub AddsLine : Chunk → Chunk → ℕ → Result Line AllocError → Type 0
+abbrev pub AddsLine : HeldLines → HeldLines → ℕ → Result Line AllocError → Type 0
 AddsLine old new from (Ok met.Text) = IsLineMore old new from
 AddsLine old new from (Ok met.End) = Unit {0}
 AddsLine old new from (Ok (met.Fault f)) = Unit {0}
@@ -90,7 +90,7 @@ AddsLine old new from (Ok met.Read) = Unit {0}
 AddsLine old new from (Err e) = Unit {0}
 
 -- what is held where lines were read from a place at which a lister can't go on
-abbrev pub HoldsOn : Chunk → Chunk → ℕ → Result Line AllocError → Type 0
+abbrev pub HoldsOn : HeldLines → HeldLines → ℕ → Result Line AllocError → Type 0
 HoldsOn old new from (Ok met.Text) = IsAtStop (string_bytes old.text) from → Holds old.lines new.lines (drop from (string_bytes old.text)) (string_bytes new.text) (drop new.at (string_bytes new.text))
 HoldsOn old new from (Ok met.End) = Unit {0}
 HoldsOn old new from (Ok (met.Fault f)) = Unit {0}

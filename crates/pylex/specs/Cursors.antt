@@ -4,11 +4,11 @@ use lib.Pointwise.{pointwise}
 use Rattle.std.specs.List.{prefix_len}
 use Rattle.pysource.specs.Places.{place_after}
 use Rattle.pylex.specs.declared.entries.Entry.{Entry}
-use Rattle.pylex.specs.declared.kinds.Kind.TheVariants as kinds
+use Rattle.pylex.specs.declared.kind.Kind.TheVariants as kinds
 use Rattle.pylexeme.specs.Lexemes.{Lexeme, cut}
-use Rattle.pylex.specs.Lines.{text_before, depth, is_logical, width_at, widths}
+use Rattle.pylex.specs.Lines.{text_before, depth, is_logical}
 use Rattle.pylexeme.specs.Chars.{bytes_in}
-use Rattle.pylex.specs.Levels.{open_levels}
+use Rattle.pylex.specs.Indentation.{width_at, widths, open_levels}
 use Rattle.pylex.specs.Listing.{Source, listing}
 use Rattle.pylex.specs.Steps.{entries_of}
 

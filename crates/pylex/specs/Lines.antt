@@ -1,7 +1,7 @@
 -- Places, depth and lines. The lexemes before a place stand last first.
-use Rattle.std.specs.Prelude.{ℕ, ◌-◌, ◌+◌, ◌*◌, ◌/◌, Bool, ◌&&◌, ◌==◌, List, [], ◌∷◌, ◌++◌, length, drop, count_by, if◌then◌else◌}
+use Rattle.std.specs.Prelude.{ℕ, ◌-◌, ◌+◌, Bool, ◌&&◌, ◌==◌, List, [], ◌∷◌, ◌++◌, length, drop, count_by, if◌then◌else◌}
 use Rattle.std.specs.List.{list_all, list_any}
-use Rattle.pylexeme.specs.Lexemes.{Lexeme, is_blanks_class, is_line_end_class, is_thing_class, is_opener_class, is_closer_class}
+use Rattle.pylexeme.specs.Lexemes.{Lexeme, is_blanks_class, is_line_end_class, is_significant_class, is_opener_class, is_closer_class}
 
 -- the text of the lexemes before a place
 abbrev pub text_before : List Lexeme → List ℕ
@@ -24,8 +24,8 @@ is_of_blanks x = is_blanks_class x.«class»
 abbrev pub is_of_line_end : Lexeme → Bool
 is_of_line_end x = is_line_end_class x.«class»
 
-abbrev pub is_thing : Lexeme → Bool
-is_thing x = is_thing_class x.«class»
+abbrev pub is_significant : Lexeme → Bool
+is_significant x = is_significant_class x.«class»
 
 -- the lexemes before a place that are of its measured line: those after the last line end at depth 0
 unfoldable pub line_so_far : List Lexeme → List Lexeme
@@ -42,22 +42,4 @@ is_at_margin before = list_all is_of_blanks (line_so_far before)
 
 -- the line has begun to be a logical one
 unfoldable pub is_logical : List Lexeme → Bool
-is_logical before = list_any is_thing (line_so_far before)
-
--- the column that a blank goes on to (reference 2.1.8)
-abbrev pub column_after : ℕ → ℕ → ℕ
-column_after n c = if c == 9 then (n / 8 + 1) * 8 else (if c == 12 then 0 else n + 1)
-
--- the width of blanks that begin at a column: tabs go to multiples of 8, a form feed sets 0
-unfoldable pub width_from : ℕ → List ℕ → ℕ
-width_from n [] = n
-width_from n (c ∷ cs) = width_from (column_after n c) cs
-
--- the width of a place's line, where only blanks stand before the place
-unfoldable pub width_at : List Lexeme → ℕ
-width_at before = width_from 0 (text_before (line_so_far before))
-
--- the widths of the logical lines that have begun, the last one first: a line has begun with its first thing
-unfoldable pub widths : List Lexeme → List ℕ
-widths [] = []
-widths (x ∷ before) = if is_at_margin before && is_thing x then width_at before ∷ widths before else widths before
+is_logical before = list_any is_significant (line_so_far before)

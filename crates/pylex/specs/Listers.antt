@@ -4,17 +4,17 @@ use Rattle.std.specs.Str.{chars, IsUtf8}
 use Rattle.pysource.specs.Limits.{source_limit}
 use Rattle.pysource.specs.Parts.{Parts}
 use Rattle.pylex.specs.declared.entries.Step.{Step}
-use Rattle.pylex.specs.declared.cursors.Shown.{Shown}
-use Rattle.pylex.specs.declared.state.Front.TheVariants.{Nothing}
-use Rattle.pylex.specs.declared.state.Progress.{Progress}
-use Rattle.pylexeme.specs.Cuts.{begins_thing}
+use Rattle.pylex.specs.declared.cursor.Shown.{Shown}
+use Rattle.pylex.specs.declared.line_state.LeadingChar.TheVariants.{Nothing}
+use Rattle.pylex.specs.declared.line_state.LineState.{LineState}
+use Rattle.pylexeme.specs.Cuts.{begins_significant}
 use Rattle.pylexeme.specs.Lexemes.{Lexeme, lexeme_at, lexeme_len}
 use Rattle.pylexeme.specs.Chars.{bytes_in}
 use Rattle.pylex.specs.Listing.{Source, in_characters, last_line, listing, rest}
 use Rattle.pylex.specs.Steps.{first_step, entries_in, IsIndent}
 use Rattle.pylex.specs.Cursors.{CursorParts}
 use Rattle.pylex.specs.Machine.{State, gives, after, front_after, layout_of, dedents_at}
-use Rattle.pylex.specs.Progress.{with_levels, measured, Stands, IsAscending, StopAhead, Walks}
+use Rattle.pylex.specs.LineState.{with_levels, measured, Stands, IsAscending, StopAhead, Walks}
 use Rattle.pylex.specs.Standing.{resumed, standing_by, Agrees, IsCursorOf}
 
 -- a source in hand, and a cursor
@@ -40,11 +40,11 @@ shown_at k s = record { given = k; offset = s.now.offset; row = s.now.place.row;
 pub data Passes (t : State) (ds : List ℕ) : ℕ → State → List ℕ → Type 0 where
   here : Passes t ds 0 t ds
   lexeme : (n : ℕ) (s : State) (cs : List ℕ) (x : Lexeme) → lexeme_at cs ≡ Some x → gives s x ≡ [] → Passes t ds n (after s x) (drop (lexeme_len cs) cs) → Passes t ds n s cs
-  layout : (n : ℕ) (s : State) (cs : List ℕ) → s.margin ≡ true → begins_thing cs ≡ true → layout_of s ≡ dedents_at s.width s.levels s.now.offset s.now.place → Passes t ds n (measured s) cs → Passes t ds (count_by (nat_lt s.width) s.levels + n) s cs
+  layout : (n : ℕ) (s : State) (cs : List ℕ) → s.margin ≡ true → begins_significant cs ≡ true → layout_of s ≡ dedents_at s.width s.levels s.now.offset s.now.place → Passes t ds n (measured s) cs → Passes t ds (count_by (nat_lt s.width) s.levels + n) s cs
 
 -- From a lister to another by a step: in each source in which the first stands after k entries that step comes next, and the other stands behind it.
-abbrev pub Moves : Listed → Step → Listed → Type 0
-Moves old step new = (a : Source) (k : ℕ) → StandsIn old a k → (slice_get (listing a) k ≡ Some step) × StandsIn new a (k + entries_in step)
+abbrev pub NextStep : Listed → Step → Listed → Type 0
+NextStep old step new = (a : Source) (k : ℕ) → StandsIn old a k → (slice_get (listing a) k ≡ Some step) × StandsIn new a (k + entries_in step)
 
 -- in each source in which the lister stands an INDENT comes next
 abbrev pub AwaitsIndent : Listed → Type 0
@@ -63,7 +63,7 @@ pub record IsIn (text : List ℕ) (s : State) (ds : List ℕ) : Type 0 where
   pub front : s.front ≡ front_after Nothing (last_line before)
 
 -- What a lister keeps beside its cursor: how far it has looked from the cursor's point on, and how many of the levels above 0 that are open there it has not closed.
-pub record Keeps (l : Listed) (p : Progress) (left levels : List ℕ) (nested tail : ℕ) : Type 0 where
+pub record Keeps (l : Listed) (p : LineState) (left levels : List ℕ) (nested tail : ℕ) : Type 0 where
   pub utf8 : IsUtf8 l.source.text
   pub small : length l.source.text ≤ source_limit
   pub stood : (a : Source) × StandsIn l a l.shown.given

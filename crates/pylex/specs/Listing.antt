@@ -1,6 +1,6 @@
 -- What a source is listed as. Each part speaks of all that stands before it.
-use Rattle.std.specs.Prelude.{ℕ, ◌+◌, nat_lt, Bool, true, false, not, ◌&&◌, ◌||◌, ◌==◌, List, [], ◌∷◌, ◌++◌, length, drop, reverse, count_by, replicate, if◌then◌else◌, Option, Some, None, option_map}
-use Rattle.std.specs.List.{list_all, list_any, take_while}
+use Rattle.std.specs.Prelude.{ℕ, ◌+◌, Bool, true, false, not, ◌&&◌, ◌||◌, ◌==◌, List, [], ◌∷◌, ◌++◌, length, drop, reverse, if◌then◌else◌, Option, Some, None, option_map}
+use Rattle.std.specs.List.{take_while}
 use Rattle.std.specs.Str.{chars}
 use Rattle.pysource.specs.Places.{place_after}
 use Rattle.pysource.specs.Parts.{Parts}
@@ -8,10 +8,9 @@ use Rattle.pysource.specs.declared.faults.LineFault.{LineFault}
 use Rattle.pylexeme.specs.declared.kinds.Exact.{Exact}
 use Rattle.pylexeme.specs.declared.lexeme.Class.TheVariants.{Name, Number, String, Operator, Comment, Blanks, LineEnd, Join}
 use Rattle.pysource.specs.declared.places.Place.{Place}
-use Rattle.pylex.specs.declared.kinds.Kind.{Kind}
-use Rattle.pylex.specs.declared.kinds.Kind.TheVariants as kinds
+use Rattle.pylex.specs.declared.kind.Kind.{Kind}
+use Rattle.pylex.specs.declared.kind.Kind.TheVariants as kinds
 use Rattle.pylex.specs.declared.entries.ListingFault.{ListingFault}
-use Rattle.pylex.specs.declared.entries.ListingError.{ListingError}
 use Rattle.pylex.specs.declared.entries.ListingError.TheVariants as errors
 use Rattle.pylex.specs.declared.entries.Step.{Step}
 use Rattle.pylex.specs.declared.entries.Step.TheVariants as steps
@@ -19,9 +18,9 @@ use Rattle.pylexeme.specs.Chars.{is_blank_char}
 use Rattle.pylexeme.specs.Strings.{opens_string}
 use Rattle.pylexeme.specs.Operators.{is_closer}
 use Rattle.pylexeme.specs.Lexemes.{Lexeme, cut, left_by_cut, is_open_string}
-use Rattle.pylex.specs.Lines.{text_before, depth, is_thing, line_so_far, before_line, is_at_margin, is_logical, width_at, widths}
-use Rattle.pylexeme.specs.Chars.{bytes_in}
-use Rattle.pylex.specs.Levels.{open_levels}
+use Rattle.pylex.specs.Lines.{text_before, depth, is_significant, is_at_margin, is_logical}
+use Rattle.pylex.specs.Indentation.{widths, open_levels, layout, dedents}
+use Rattle.pylex.specs.Steps.{piece, mark, fault_at}
 
 -- what decoding gives: the encoding's text, the good lines, and the fault of the line after them
 pub record Source : Type 0 where
@@ -36,31 +35,6 @@ of_line f = record { code = errors.Line f.code; place = f.place }
 -- a decoded source, its text as characters
 abbrev pub in_characters : Parts → Source
 in_characters p = record { encoding = p.encoding.name; text = chars p.text; fault = option_map of_line p.fault }
-
--- the entry of a piece of the text, by the text before it and its end
-abbrev pub piece : Kind → Option Exact → List ℕ → List ℕ → Place → Step
-piece k e earlier t end = steps.Entry (record { kind = k; exact = e; start = place_after earlier; «end» = end; «from» = bytes_in earlier; to = bytes_in earlier + bytes_in t })
-
--- an entry of empty text that stands behind a text, with its places
-abbrev pub mark : Kind → List ℕ → Place → Place → Step
-mark k earlier start end = steps.Entry (record { kind = k; exact = None; start = start; «end» = end; «from» = bytes_in earlier; to = bytes_in earlier })
-
-abbrev pub fault_at : ListingError → Place → Step
-fault_at c p = steps.Fault (record { code = c; place = p })
-
--- a DEDENT for each open level above a width
-abbrev pub dedents : ℕ → List ℕ → List ℕ → Place → List Step
-dedents width levels earlier p = replicate (count_by (nat_lt width) levels) (mark kinds.Dedent earlier p p)
-
--- what stands before the first thing of a logical line (reference 2.1.8)
-unfoldable pub layout_by : ℕ → List ℕ → List Lexeme → List Step
-layout_by width levels before =
-    if list_all (λ v. nat_lt v width) levels then piece kinds.Indent None (text_before (before_line before)) (text_before (line_so_far before)) (place_after (text_before before)) ∷ []
-    else (if list_any (λ v. v == width) levels then dedents width levels (text_before before) (place_after (text_before before))
-    else fault_at errors.UnindentMismatch (place_after (text_before before)) ∷ [])
-
-unfoldable pub layout : List Lexeme → List Step
-layout before = if is_at_margin before then layout_by (width_at before) (open_levels (widths before)) before else []
 
 -- a line end is NL within brackets and on a blank or comment line (reference 2.1.5 to 2.1.7)
 abbrev pub line_end_kind : List Lexeme → Kind
@@ -86,9 +60,9 @@ entry_of before x = elim x.«class» [
   | Join ↦ []
 ]
 
--- the layout before a lexeme, if it is the first thing of a logical line, and its entry
+-- the layout before a lexeme, if it is the first significant token of a logical line, and its entry
 unfoldable pub steps_of : List Lexeme → Lexeme → List Step
-steps_of before x = (if is_thing x then layout before else []) ++ entry_of before x
+steps_of before x = (if is_significant x then layout before else []) ++ entry_of before x
 
 -- the fault where the cut stops before the text's end (reference 2.4.1)
 unfoldable pub stop_fault : Option ListingFault → Place → List ℕ → Step

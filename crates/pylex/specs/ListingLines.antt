@@ -6,8 +6,8 @@ use Rattle.pysource.specs.Parts.{Parts}
 use Rattle.pysource.specs.Reprs.{repr_text}
 use Rattle.pysource.specs.declared.places.Place.{Place}
 use Rattle.pylex.specs.declared.entries.Entry.{Entry}
-use Rattle.pylex.specs.declared.kinds.Kind.{Kind}
-use Rattle.pylex.specs.declared.kinds.Kind.TheVariants.{Encoding, Name, Number, String, Op, Comment, Nl, Newline, Indent, Dedent, EndMarker}
+use Rattle.pylex.specs.declared.kind.Kind.{Kind}
+use Rattle.pylex.specs.declared.kind.Kind.TheVariants.{Encoding, Name, Number, String, Op, Comment, Nl, Newline, Indent, Dedent, EndMarker}
 use Rattle.pylexeme.specs.Operators.{exact_name}
 
 -- the name of a type of tokens

@@ -5,21 +5,23 @@ use Rattle.pylexeme.specs.declared.lexeme.Class.{Class}
 use Rattle.pylexeme.specs.declared.lexeme.Class.TheVariants.{Name, Number, String, Operator, Comment, Blanks, LineEnd, Join}
 use Rattle.pylexeme.specs.declared.kinds.Exact.{Exact}
 use Rattle.pysource.specs.declared.places.Place.{Place}
-use Rattle.pylex.specs.declared.kinds.Kind.{Kind}
-use Rattle.pylex.specs.declared.kinds.Kind.TheVariants as kinds
+use Rattle.pylex.specs.declared.kind.Kind.{Kind}
+use Rattle.pylex.specs.declared.kind.Kind.TheVariants as kinds
 use Rattle.pylex.specs.declared.entries.ListingFault.{ListingFault}
 use Rattle.pylex.specs.declared.entries.ListingError.TheVariants as errors
 use Rattle.pylex.specs.declared.entries.Step.{Step}
 use Rattle.pylex.specs.declared.entries.Step.TheVariants as steps
-use Rattle.pylex.specs.declared.state.Point.{Point}
-use Rattle.pylex.specs.declared.state.Front.{Front}
-use Rattle.pylex.specs.declared.state.Front.TheVariants.{Nothing, Hash, Other}
+use Rattle.pylex.specs.declared.line_state.Point.{Point}
+use Rattle.pylex.specs.declared.line_state.LeadingChar.{LeadingChar}
+use Rattle.pylex.specs.declared.line_state.LeadingChar.TheVariants.{Nothing, Hash, Other}
 use Rattle.pylexeme.specs.Chars.{is_blank_char}
 use Rattle.pylexeme.specs.Operators.{is_closer}
 use Rattle.pylexeme.specs.Lexemes.{Lexeme, cut, left_by_cut, is_join_class}
-use Rattle.pylex.specs.Lines.{is_of_blanks, is_of_line_end, is_thing, opens, closes, width_from}
+use Rattle.pylex.specs.Lines.{is_of_blanks, is_of_line_end, is_significant, opens, closes}
+use Rattle.pylex.specs.Steps.{fault_at}
+use Rattle.pylex.specs.Indentation.{width_from}
 use Rattle.pylexeme.specs.Chars.{bytes_in}
-use Rattle.pylex.specs.Listing.{fault_at, further, row_after, stop_fault, up_to_end}
+use Rattle.pylex.specs.Listing.{further, row_after, stop_fault, up_to_end}
 
 pub record State : Type 0 where
   pub now : Point
@@ -30,22 +32,22 @@ pub record State : Type 0 where
   pub width : ℕ
   pub logical : Bool
   pub joined : Bool
-  pub front : Front
+  pub front : LeadingChar
 
 -- the place after a text that begins at a place
-abbrev pub advance : Place → List ℕ → Place
-advance p [] = p
-advance p (c ∷ cs) = advance (if c == 10 then record { row = p.row + 1; column = 0 } else record { row = p.row; column = p.column + 1 }) cs
+abbrev pub place_past : Place → List ℕ → Place
+place_past p [] = p
+place_past p (c ∷ cs) = place_past (if c == 10 then record { row = p.row + 1; column = 0 } else record { row = p.row; column = p.column + 1 }) cs
 
-abbrev pub front_after_char : Front → ℕ → Front
+abbrev pub front_after_char : LeadingChar → ℕ → LeadingChar
 front_after_char f c = if c == 10 then Nothing else elim f [ Nothing ↦ if is_blank_char c then Nothing else (if c == 35 then Hash else Other) | Hash ↦ Hash | Other ↦ Other ]
 
-abbrev pub front_after : Front → List ℕ → Front
+abbrev pub front_after : LeadingChar → List ℕ → LeadingChar
 front_after f [] = f
 front_after f (c ∷ cs) = front_after (front_after_char f c) cs
 
 abbrev pub past : Point → List ℕ → Point
-past p t = record { place = advance p.place t; offset = p.offset + bytes_in t }
+past p t = record { place = place_past p.place t; offset = p.offset + bytes_in t }
 
 -- the open levels after a line of a width: those below it, and it
 abbrev pub pushed : ℕ → List ℕ → List ℕ
@@ -59,7 +61,7 @@ abbrev pub ends_line : State → Lexeme → Bool
 ends_line s x = is_of_line_end x && (s.depth == 0)
 
 abbrev pub begins_line : State → Lexeme → Bool
-begins_line s x = s.margin && is_thing x
+begins_line s x = s.margin && is_significant x
 
 abbrev pub count_if : Bool → ℕ
 count_if b = if b then 1 else 0
@@ -76,7 +78,7 @@ after s x = record {
   levels = if begins_line s x then pushed s.width s.levels else s.levels;
   margin = ends_line s x || (is_of_blanks x && s.margin);
   width = if ends_line s x then 0 else still (is_of_blanks x && s.margin) (width_from s.width x.text);
-  logical = not (ends_line s x) && (is_thing x || s.logical);
+  logical = not (ends_line s x) && (is_significant x || s.logical);
   joined = is_of_join x;
   front = front_after s.front x.text;
 }
@@ -90,7 +92,7 @@ mark_at k o p q = steps.Entry (record { kind = k; exact = None; start = p; «end
 abbrev pub dedents_at : ℕ → List ℕ → ℕ → Place → List Step
 dedents_at w levels o p = replicate (count_by (nat_lt w) levels) (mark_at kinds.Dedent o p p)
 
--- the layout before the first thing of a logical line
+-- the layout before the first significant token of a logical line
 unfoldable pub layout_of : State → List Step
 layout_of s =
     if s.margin then
@@ -119,9 +121,9 @@ entry_by s x = elim x.«class» [
 ]
 
 unfoldable pub gives : State → Lexeme → List Step
-gives s x = (if is_thing x then layout_of s else []) ++ entry_by s x
+gives s x = (if is_significant x then layout_of s else []) ++ entry_by s x
 
-abbrev pub is_hash : Front → Bool
+abbrev pub is_hash : LeadingChar → Bool
 is_hash f = elim f [ Hash ↦ true | _ ↦ false ]
 
 unfoldable pub last_line_end : State → List Step

@@ -4,7 +4,7 @@ use Rattle.std.specs.Prelude.{ℕ, ◌+◌, ◌==◌, List, [], ◌∷◌, if◌
 use Rattle.std.specs.List.{take_while}
 use Rattle.pylexeme.specs.Chars.{is_blank_char}
 use Rattle.pylex.specs.declared.margins.Widths.{Widths}
-use Rattle.pylex.specs.Lines.{width_from}
+use Rattle.pylex.specs.Indentation.{width_from}
 
 -- the column that a blank goes on to, where a tab counts as one space; a form feed sets 0
 abbrev pub column_by_one : ℕ → ℕ → ℕ

@@ -2,14 +2,14 @@
 use Rattle.std.specs.Prelude.{◌≡◌, ℕ, ◌-◌, ◌≤◌, nat_le, Bool, true, false, not, ◌&&◌, ◌==◌, List, [], ◌∷◌, length, drop, if◌then◌else◌, Option}
 use Rattle.pylex.specs.declared.entries.ListingFault.{ListingFault}
 use Rattle.pylex.specs.declared.entries.Step.{Step}
-use Rattle.pylex.specs.declared.kinds.Kind.TheVariants as kinds
+use Rattle.pylex.specs.declared.kind.Kind.TheVariants as kinds
 use Rattle.pylexeme.specs.Chars.{bytes_in}
-use Rattle.pylex.specs.Listing.{Source, listing, rest, last_line, mark, origin}
+use Rattle.pylex.specs.Listing.{Source, listing, rest, last_line, origin}
 use Rattle.pylex.specs.Cursors.{CursorParts, cursor, same_parts}
-use Rattle.pylex.specs.Steps.{entries_of}
+use Rattle.pylex.specs.Steps.{entries_of, mark}
 use Rattle.pylex.specs.Machine.{State, front_after, remaining}
-use Rattle.pylex.specs.declared.state.Point.{Point}
-use Rattle.pylex.specs.declared.state.Front.TheVariants.{Nothing}
+use Rattle.pylex.specs.declared.line_state.Point.{Point}
+use Rattle.pylex.specs.declared.line_state.LeadingChar.TheVariants.{Nothing}
 
 -- the longest front of a text of at most n bytes, and what is behind it
 unfoldable pub front_to : ℕ → List ℕ → List ℕ

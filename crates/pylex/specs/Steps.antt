@@ -1,11 +1,28 @@
--- The steps of a listing: entries, and then its end or the fault that ends it.
+-- The steps of a listing: entries, and then its end or the fault that ends it. How a piece of text, an empty mark and a fault are steps.
 use Rattle.std.specs.Prelude.{◌≡◌, ℕ, ◌+◌, ◌*◌, List, [], ◌∷◌, Option, Some, None}
 use Rattle.pysource.specs.Limits.{source_limit}
+use Rattle.pysource.specs.Places.{place_after}
+use Rattle.pysource.specs.declared.places.Place.{Place}
+use Rattle.pylexeme.specs.Chars.{bytes_in}
+use Rattle.pylexeme.specs.declared.kinds.Exact.{Exact}
 use Rattle.pylex.specs.declared.entries.Entry.{Entry}
 use Rattle.pylex.specs.declared.entries.ListingFault.{ListingFault}
-use Rattle.pylex.specs.declared.kinds.Kind.TheVariants as kinds
+use Rattle.pylex.specs.declared.entries.ListingError.{ListingError}
+use Rattle.pylex.specs.declared.kind.Kind.{Kind}
+use Rattle.pylex.specs.declared.kind.Kind.TheVariants as kinds
 use Rattle.pylex.specs.declared.entries.Step.{Step}
 use Rattle.pylex.specs.declared.entries.Step.TheVariants as steps
+
+-- the entry of a piece of the text, by the text before it and its end
+abbrev pub piece : Kind → Option Exact → List ℕ → List ℕ → Place → Step
+piece k e earlier t end = steps.Entry (record { kind = k; exact = e; start = place_after earlier; «end» = end; «from» = bytes_in earlier; to = bytes_in earlier + bytes_in t })
+
+-- an entry of empty text that stands behind a text, with its places
+abbrev pub mark : Kind → List ℕ → Place → Place → Step
+mark k earlier start end = steps.Entry (record { kind = k; exact = None; start = start; «end» = end; «from» = bytes_in earlier; to = bytes_in earlier })
+
+abbrev pub fault_at : ListingError → Place → Step
+fault_at c p = steps.Fault (record { code = c; place = p })
 
 -- the entries among them
 abbrev pub entries_of : List Step → List Entry

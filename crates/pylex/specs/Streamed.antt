@@ -5,34 +5,33 @@ use Rattle.std.specs.Str.{chars, IsUtf8}
 use Rattle.pysource.specs.Parts.{Parts}
 use Rattle.pysource.specs.Streams.{Buffered, Follows, comes, ends_line, head_len, stream_of, unread, Reads, Refuses, Coming}
 use Rattle.pysource.specs.Taking.{Takes}
-use Rattle.pysource.specs.declared.streams.Reach.{Reach}
-use Rattle.pylex.specs.declared.stream.ResumeFault.{ResumeFault}
-use Rattle.pylex.specs.declared.stream.ResumeFault.TheVariants as resumes
+use Rattle.pysource.specs.declared.line_reader.Reach.{Reach}
+use Rattle.pylex.specs.declared.line_lister.ResumeFault.{ResumeFault}
+use Rattle.pylex.specs.declared.line_lister.ResumeFault.TheVariants as resumes
 use Rattle.pysource.specs.Limits.{source_limit}
 use Rattle.pysource.specs.declared.faults.LineError.TheVariants.{Unread}
 use Rattle.pysource.specs.declared.faults.LineFault.{LineFault}
-use Rattle.pysource.specs.declared.streams.Line.{Line}
-use Rattle.pysource.specs.declared.streams.Line.TheVariants as lines
-use Rattle.pylex.specs.declared.position.Meets.{Meets}
-use Rattle.pylex.specs.declared.position.Meets.TheVariants as met
-use Rattle.pylex.specs.declared.stream.Found.{Found}
+use Rattle.pysource.specs.declared.line_reader.Line.{Line}
+use Rattle.pysource.specs.declared.line_reader.Line.TheVariants as lines
+use Rattle.pylex.specs.declared.machine.Peeked.{Peeked}
+use Rattle.pylex.specs.declared.machine.Peeked.TheVariants as met
+use Rattle.pylex.specs.declared.line_lister.Found.{Found}
 use Rattle.pylexeme.specs.Lexemes.{is_open_string, left_by_cut}
-use Rattle.pylex.specs.Progress.{Finds, HasRoom, Stands, StopAhead}
-use Rattle.pysource.specs.declared.streams.Reach.TheVariants as reach
-use Rattle.pysource.specs.declared.streams.StreamFault.TheVariants as faults
+use Rattle.pylex.specs.LineState.{Peek, HasRoom, Stands, StopAhead, IsMeasuring}
+use Rattle.pysource.specs.declared.line_reader.Reach.TheVariants as reach
+use Rattle.pysource.specs.declared.line_reader.StreamFault.TheVariants as faults
 use Rattle.pylex.specs.declared.entries.Entry.{Entry}
 use Rattle.pylex.specs.declared.entries.ListingError.{ListingError}
 use Rattle.pylex.specs.declared.entries.ListingError.TheVariants as errors
 use Rattle.pylex.specs.declared.entries.ListingFault.{ListingFault}
 use Rattle.pylex.specs.declared.entries.Step.{Step}
 use Rattle.pylex.specs.declared.entries.Step.TheVariants as steps
-use Rattle.pylex.specs.declared.kinds.Kind.TheVariants as kinds
-use Rattle.pylex.specs.declared.state.Progress.{Progress}
-use Rattle.pylex.specs.Ranges.{IsMeasuring}
-use Rattle.pylex.specs.declared.chunk.Chunk.{Chunk}
-use Rattle.pylex.specs.declared.position.Position.{Position}
-use Rattle.pylex.specs.Positions.{shown_from}
-use Rattle.pylex.specs.Chunked.{IsChunk}
+use Rattle.pylex.specs.declared.kind.Kind.TheVariants as kinds
+use Rattle.pylex.specs.declared.line_state.LineState.{LineState}
+use Rattle.pylex.specs.declared.held_lines.HeldLines.{HeldLines}
+use Rattle.pylex.specs.declared.machine.Machine.{Machine}
+use Rattle.pylex.specs.MachineSteps.{shown_from}
+use Rattle.pylex.specs.Chunked.{IsHeldLines}
 use Rattle.pylex.specs.Held.{Ahead, IsJoined, LexedTo}
 use Rattle.pylex.specs.Cursors.{CursorParts}
 use Rattle.pylex.specs.Listing.{listing, in_characters}
@@ -48,7 +47,7 @@ pub record Streamed : Type 0 where
   pub base : ℕ
   pub held : List ℕ
   pub left : List ℕ
-  pub now : Progress
+  pub now : LineState
   pub levels : List ℕ
   pub nested : ℕ
   pub tail : ℕ
@@ -89,8 +88,8 @@ pub record StreamsIn (v : Streamed) (p : Parts) (k : ℕ) (more : List ℕ) (bro
   pub measuring : IsMeasuring v.now
   pub last : HoldsLast v.base v.held p.text v.last
 
--- a lister by its position, the lines that it holds, and the entry that it gave last
-abbrev pub streamed : Position → Chunk → Option Entry → Streamed
+-- a lister by its machine, the lines that it holds, and the entry that it gave last
+abbrev pub streamed : Machine → HeldLines → Option Entry → Streamed
 streamed p c last = record {
   lines = c.lines;
   shown = shown_from p;
@@ -105,8 +104,8 @@ streamed p c last = record {
 }
 
 -- a lister that stands in a source whatever follows
-pub record IsStreaming (p : Position) (c : Chunk) (last : Option Entry) : Type 0 where
-  pub chunk : IsChunk c
+pub record IsStreaming (p : Machine) (c : HeldLines) (last : Option Entry) : Type 0 where
+  pub chunk : IsHeldLines c
   pub text : IsUtf8 (string_bytes c.text)
   pub within : c.lines.count ≤ source_limit
   pub left : IsUtf8 (drop c.at (string_bytes c.text))
@@ -120,38 +119,38 @@ abbrev pub lacks : List ℕ → Bool
 lacks left = (length left == 0) || is_open_string (chars left)
 
 -- a stop is one of the source: no literal is open there, or nothing follows and the fault is the source's
-abbrev pub Stops : Meets → List ℕ → List ℕ → Option LineFault → Option LineFault → Type 0
+abbrev pub Stops : Peeked → List ℕ → List ℕ → Option LineFault → Option LineFault → Type 0
 Stops m left coming fault own = m ≡ met.Stop → (lacks left ≡ false) ⊎ ((coming ≡ []) × (own ≡ fault))
 
 -- what is met in the lines held, and where
-pub record Looks (p : Position) (c : Chunk) (f : Found) : Type 0 where
+pub record Looks (p : Machine) (c : HeldLines) (f : Found) : Type 0 where
   pub at : f.at ≤ length (string_bytes c.text)
   pub left : IsUtf8 (drop f.at (string_bytes c.text))
-  pub finds : Finds (take p.nested p.levels.items) p.now (chars (drop c.at (string_bytes c.text))) f.meets f.now (chars (drop f.at (string_bytes c.text)))
+  pub finds : Peek (take p.nested p.levels.items) p.now (chars (drop c.at (string_bytes c.text))) f.peeked f.now (chars (drop f.at (string_bytes c.text)))
   pub stands : Stands f.now (drop f.at (string_bytes c.text))
   pub room : (n : ℕ) → HasRoom p.now (length (drop c.at (string_bytes c.text)) + n) → HasRoom f.now (length (drop f.at (string_bytes c.text)) + n)
-  pub tail : 0 < p.tail → (f.meets ≡ met.Stop) × (f.now ≡ p.now) × (drop f.at (string_bytes c.text) ≡ drop c.at (string_bytes c.text))
+  pub tail : 0 < p.tail → (f.peeked ≡ met.Stop) × (f.now ≡ p.now) × (drop f.at (string_bytes c.text) ≡ drop c.at (string_bytes c.text))
 
 -- that is met in the source
-pub record MeetsIn (p : Position) (c : Chunk) (f : Found) : Type 0 where
+pub record PeekedIn (p : Machine) (c : HeldLines) (f : Found) : Type 0 where
   pub looks : Looks p c f
-  pub stops : (s : Parts) (k : ℕ) (more : List ℕ) (broken : Bool) → Continues c.lines more broken → StreamsIn (streamed p c None) s k more broken → Stops f.meets (drop f.at (string_bytes c.text)) (comes c.lines more broken).text f.fault s.fault
+  pub stops : (s : Parts) (k : ℕ) (more : List ℕ) (broken : Bool) → Continues c.lines more broken → StreamsIn (streamed p c None) s k more broken → Stops f.peeked (drop f.at (string_bytes c.text)) (comes c.lines more broken).text f.fault s.fault
 
 -- A search for what is met next: the lister stands where it stood, and holds other lines.
-pub record Searches (come_old come_new : Option (List ℕ)) (told_old told_new : ℕ) (old new : Position) (c d : Chunk) : Type 0 where
+pub record Searches (come_old come_new : Option (List ℕ)) (told_old told_new : ℕ) (old new : Machine) (c d : HeldLines) : Type 0 where
   pub taken : List ℕ
   pub reads : Reads come_old come_new told_old told_new c.lines d.lines taken
   pub follows : (more : List ℕ) (broken : Bool) → Continues d.lines more broken → Continues c.lines (taken ++ more) broken
   pub stands : (s : Parts) (k : ℕ) (more : List ℕ) (broken : Bool) → Continues d.lines more broken → StreamsIn (streamed old c None) s k (taken ++ more) broken → StreamsIn (streamed new d None) s k more broken
-  pub position : new ≡ record old { now = new.now }
+  pub machine : new ≡ record old { now = new.now }
   pub streaming : IsStreaming new d None
 
 -- no more was read ahead than one read gives, or a fault was met in place of the next line
 abbrev pub LooksAhead : Found → Buffered → Buffered → Type 0
-LooksAhead f old new = ((f.meets ≡ met.Stop) × (fault : LineFault) × (f.fault ≡ Some fault)) ⊎ Ahead old new
+LooksAhead f old new = ((f.peeked ≡ met.Stop) × (fault : LineFault) × (f.fault ≡ Some fault)) ⊎ Ahead old new
 
 -- a literal is open at the end of the lines held, and no lexeme and no layout come before it
-pub record IsWaiting (p : Position) (c : Chunk) : Type 0 where
+pub record IsWaiting (p : Machine) (c : HeldLines) : Type 0 where
   pub stop : StopAhead p.now (chars (drop c.at (string_bytes c.text)))
   pub unended : is_open_string (chars (drop c.at (string_bytes c.text))) ≡ true
 
@@ -189,7 +188,7 @@ IsAhead old new steps.End = Unit {0}
 IsAhead old new (steps.Fault f) = Unit {0}
 
 -- A step: in each source in which the lister stood it comes next, and the lister stands behind it. Where memory is refused it stands where it stood.
-pub record Steps (come_old come_new : Option (List ℕ)) (told_old told_new : ℕ) (old new : Streamed) (result : Result Step AllocError) : Type 0 where
+pub record Next (come_old come_new : Option (List ℕ)) (told_old told_new : ℕ) (old new : Streamed) (result : Result Step AllocError) : Type 0 where
   pub taken : List ℕ
   pub reads : Reads come_old come_new told_old told_new old.lines new.lines taken
   pub follows : (more : List ℕ) (broken : Bool) → Continues new.lines more broken → Continues old.lines (taken ++ more) broken
@@ -200,12 +199,12 @@ pub record Steps (come_old come_new : Option (List ℕ)) (told_old told_new : �
   pub same : OnErr result ((p : Parts) (k : ℕ) (more : List ℕ) (broken : Bool) → Continues new.lines more broken → StreamsIn old p k (taken ++ more) broken → StreamsIn new p k more broken)
 
 -- Past what a search found: that is a step, behind whatever was searched.
-abbrev pub Passes : Position → Chunk → Found → Streamed → Result Step AllocError → Type 0
-Passes q d f new result = (come_old come_new : Option (List ℕ)) (told_old told_new : ℕ) (p : Position) (c : Chunk) (last : Option Entry) → Searches come_old come_new told_old told_new p q c d → 0 < p.given → LooksAhead f c.lines d.lines
-    → Steps come_old come_new told_old told_new (streamed p c last) new result
+abbrev pub Passes : Machine → HeldLines → Found → Streamed → Result Step AllocError → Type 0
+Passes q d f new result = (come_old come_new : Option (List ℕ)) (told_old told_new : ℕ) (p : Machine) (c : HeldLines) (last : Option Entry) → Searches come_old come_new told_old told_new p q c d → 0 < p.given → LooksAhead f c.lines d.lines
+    → Next come_old come_new told_old told_new (streamed p c last) new result
 
 -- an entry is passed by, whatever was found
-pub record PassesOn (q : Position) (d : Chunk) (e : Entry) (r : Position) (new : Chunk) (last : Option Entry) : Type 0 where
+pub record PassesOn (q : Machine) (d : HeldLines) (e : Entry) (r : Machine) (new : HeldLines) (last : Option Entry) : Type 0 where
   pub found : Found
   pub streaming : IsStreaming r new last
   pub passes : Passes q d found (streamed r new last) (Ok (steps.Entry e))
@@ -229,9 +228,9 @@ pub record Took (come_old come_new : Option (List ℕ)) (told_old told_new : ℕ
   pub reads : Takes come_old come_new told_old told_new reach.Reading at 0 (length taken) taken
 
 -- why a lister could not go on behind a cursor
-abbrev pub MissesBy : Option (List ℕ) → Option (List ℕ) → ℕ → ℕ → CursorParts → ResumeFault → Type 0
-MissesBy come_old come_new told_old told_new cursor (resumes.Stream fault) = Refuses come_old come_new told_old told_new fault ⊎ (((fault ≡ faults.Read) × Misses come_old come_new told_old told_new cursor true) ⊎ ((fault ≡ faults.Memory) × Took come_old come_new told_old told_new))
-MissesBy come_old come_new told_old told_new cursor resumes.AnotherSource = Misses come_old come_new told_old told_new cursor false
+abbrev pub ResumeRefusal : Option (List ℕ) → Option (List ℕ) → ℕ → ℕ → CursorParts → ResumeFault → Type 0
+ResumeRefusal come_old come_new told_old told_new cursor (resumes.Stream fault) = Refuses come_old come_new told_old told_new fault ⊎ (((fault ≡ faults.Read) × Misses come_old come_new told_old told_new cursor true) ⊎ ((fault ≡ faults.Memory) × Took come_old come_new told_old told_new))
+ResumeRefusal come_old come_new told_old told_new cursor resumes.AnotherSource = Misses come_old come_new told_old told_new cursor false
 
 -- a step tells of a line that could not be read whole
 abbrev pub is_unread_code : ListingError → Bool

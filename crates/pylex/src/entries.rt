@@ -4,13 +4,14 @@ ghost use Rattle.std.specs.Prelude.{◌≡◌, ◌≢◌};
 ghost use Rattle.pylex.specs.ListingLines.{text_of};
 ghost use Rattle.pylex.specs.Laws.{LiesIn};
 
-use crate::kinds::{Exact, Kind};
+use crate::kind::{Exact, Kind};
 use pysource::{LineError, Place, Source};
 
 /// One entry of a listing.
 ///
-/// Rows count from 1 and columns from 0, in characters; the entry of the encoding stands at 0,0. `from` and `to` are
-/// offsets in the text, in bytes; an entry of empty text has both where it stands.
+/// Rows count from 1 and columns from 0, in characters; the entry of the encoding stands at 0,0.
+/// `from` and `to` are offsets in the text, in bytes; an entry of empty text has both where it
+/// stands.
 #[derive(Clone, Copy, Debug, PartialEq, Eq)]
 pub struct Entry {
     pub kind: Kind,
@@ -56,8 +57,8 @@ pub enum Step {
     Fault(ListingFault),
 }
 
-/// The text of an entry of a source: the encoding's name for the entry of the encoding, and otherwise what stands
-/// between its offsets.
+/// The text of an entry of a source: the encoding's name for the entry of the encoding, and
+/// otherwise what stands between its offsets.
 pub fn text<'a>(source: &'a Source, entry: &Entry) -> &'a str
     requires { entry.now.kind ≢ Kind.Encoding → LiesIn source.now.text entry.now }
     ensures { result.now ≡ text_of source.now entry.now }

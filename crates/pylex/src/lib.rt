@@ -2,33 +2,33 @@
 //!
 //! Python library reference, `tokenize`; language reference, 2 "Lexical analysis".
 //!
-//! A [`Lister`] lists a source that is held whole. A [`LineLister`] reads it line by line, from a reader that is lent to
-//! each call, and a [`StreamLister`] from a reader of its own. All three give the same steps of a source, and a [`Cursor`]
-//! of one goes on with another.
+//! A [`Lister`] lists a source that is held whole. A [`LineLister`] reads it line by line, from a
+//! reader that is lent to each call, and a [`StreamLister`] from a reader of its own. All three
+//! give the same steps of a source, and a [`Cursor`] of one goes on with another.
 #![tactic(auto)]
 
-mod chunk;
-mod cursors;
+mod cursor;
 mod entries;
-mod kinds;
+mod held_lines;
+mod kind;
+mod line_lister;
+mod line_state;
 mod lines;
 mod lister;
+mod machine;
 mod margins;
 mod measures;
-mod position;
-mod state;
-mod stream;
 mod stream_lister;
 
-pub use cursors::{Cursor, CursorFault};
+pub use cursor::{Cursor, CursorFault};
 pub use entries::{Entry, ListingError, ListingFault, Step, text};
-pub use kinds::{Exact, Kind};
+pub use kind::{Exact, Kind};
+pub use line_lister::{LineLister, ResumeFault};
 pub use lines::{line_text, push_line};
 pub use lister::Lister;
 pub use margins::Widths;
 pub use measures::widths;
-pub use pylexeme::lexeme::{Class, begins_thing, cut};
+pub use pylexeme::lexeme::{Class, begins_significant, cut};
 pub use pylexeme::operators::exact_of;
 pub use pylexeme::string::{OpenLiteral, is_open_string, open_literal, opens_string};
-pub use stream::{LineLister, ResumeFault};
 pub use stream_lister::StreamLister;

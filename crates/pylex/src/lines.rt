@@ -1,16 +1,19 @@
-//! The lines of a listing, as `python -m tokenize` prints them (library reference, `tokenize`, command-line usage).
+//! The lines of a listing, as `python -m tokenize` prints them (library reference, `tokenize`,
+//! command-line usage).
 
-ghost use Rattle.std.specs.Prelude.{◌≡◌, ◌≤◌, ◌-◌, ◌+◌, ◌∷◌, [], ◌++◌, true, drop, length, replicate, decimal, codes, IfOk, OnOk, OnErr};
+ghost use Rattle.std.specs.Prelude.{◌≡◌, ◌≤◌, ◌-◌, ◌+◌, ◌∷◌, [], ◌++◌, true, drop, length};
+ghost use Rattle.std.specs.Prelude.{replicate, decimal, codes, IfOk, OnOk, OnErr};
 ghost use Rattle.std.specs.Str.{chars, IsAscii};
 ghost use Rattle.std.specs.Io.{StartsWith};
 ghost use Rattle.std.specs.List.{list_all};
 ghost use Rattle.std.specs.String.{string_bytes};
 ghost use Rattle.pysource.specs.Reprs.{is_plain, repr_text};
-ghost use Rattle.pylex.specs.ListingLines.{filled, kind_name, listing_line, shown_name, shown_place, shown_range};
+ghost use Rattle.pylex.specs.ListingLines.{filled, kind_name, listing_line, shown_name};
+ghost use Rattle.pylex.specs.ListingLines.{shown_place, shown_range};
 ghost use Rattle.pylexeme.specs.Operators.{exact_name};
 
 use crate::entries::Entry;
-use crate::kinds::{Exact, Kind};
+use crate::kind::{Exact, Kind};
 use itoa::write_digits;
 use pylexeme::scanner::char_count;
 use pysource::{Place, is_plain_text, push_repr};
@@ -26,8 +29,8 @@ const FIELD_WIDTH: usize = 15;
 /// The room that most lines take besides their text, in bytes.
 const LINE_ROOM: usize = 64;
 
-/// Where the places of an entry end in the field that they are written to, from the last to the first: the widest have
-/// room before it, and behind it stand the blanks of the shortest.
+/// Where the places of an entry end in the field that they are written to, from the last to the
+/// first: the widest have room before it, and behind it stand the blanks of the shortest.
 const RANGE_END: usize = 84;
 
 /// As many blanks as the widest field has.
@@ -36,7 +39,8 @@ const BLANKS: &str = "                    ";
 /// Fills a field that has `taken` characters.
 fn push_filling(out: &mut String, width: usize, taken: usize) -> Result<(), AllocError>
     requires { width ≤ 20 }
-    ensures ok { OnOk result (string_bytes out.new ≡ string_bytes out.old ++ replicate (width - taken) 32) }
+    ensures ok { OnOk result
+        (string_bytes out.new ≡ string_bytes out.old ++ replicate (width - taken) 32) }
     ensures kept { StartsWith (string_bytes out.new) (string_bytes out.old) }
 {
     if taken >= width {
@@ -92,7 +96,8 @@ fn put_place(field: &mut [u8; 104], end: usize, place: Place) -> usize
     put_number(field, comma, place.row)
 }
 
-/// Writes the places of an entry before the blanks that end the field, and answers where they begin.
+/// Writes the places of an entry before the blanks that end the field, and answers where they
+/// begin.
 #[inline(always)]
 fn put_range(field: &mut [u8; 104], entry: &Entry) -> usize
     ensures start { result + length (shown_range entry.now) ≡ 84 }
@@ -117,7 +122,8 @@ fn push_ascii(out: &mut String, bytes: &[u8]) -> Result<(), AllocError>
 /// Writes the field of an entry's places.
 #[inline(always)]
 fn push_range(out: &mut String, entry: &Entry) -> Result<(), AllocError>
-    ensures ok { OnOk result (string_bytes out.new ≡ string_bytes out.old ++ filled 20 (shown_range entry.now)) }
+    ensures ok { OnOk result
+        (string_bytes out.new ≡ string_bytes out.old ++ filled 20 (shown_range entry.now)) }
     ensures kept { StartsWith (string_bytes out.new) (string_bytes out.old) }
 {
     let mut field = [b' '; 104];
@@ -130,7 +136,7 @@ fn push_range(out: &mut String, entry: &Entry) -> Result<(), AllocError>
 }
 
 /// The name of a type of tokens, filled to the width of its field.
-#[tactic(auto, using(crate::proofs::LinesLemmas::kind_filled))]
+#[tactic(auto, using(crate::proofs::Texts::LinesLemmas::kind_filled))]
 fn kind_field(kind: Kind) -> &'static str
     ensures { result.now ≡ filled 15 (kind_name kind) }
 {
@@ -151,7 +157,8 @@ fn kind_field(kind: Kind) -> &'static str
 
 /// Writes the field of an operator's own name.
 fn push_operator(out: &mut String, operator: Exact) -> Result<(), AllocError>
-    ensures ok { OnOk result (string_bytes out.new ≡ string_bytes out.old ++ filled 15 (exact_name operator)) }
+    ensures ok { OnOk result
+        (string_bytes out.new ≡ string_bytes out.old ++ filled 15 (exact_name operator)) }
     ensures kept { StartsWith (string_bytes out.new) (string_bytes out.old) }
 {
     let name = operator.name();
@@ -162,7 +169,8 @@ fn push_operator(out: &mut String, operator: Exact) -> Result<(), AllocError>
 /// Writes the field of the name that is shown for an entry.
 #[inline(always)]
 fn push_name(out: &mut String, entry: &Entry, exact: bool) -> Result<(), AllocError>
-    ensures ok { OnOk result (string_bytes out.new ≡ string_bytes out.old ++ filled 15 (shown_name exact entry.now)) }
+    ensures ok { OnOk result
+        (string_bytes out.new ≡ string_bytes out.old ++ filled 15 (shown_name exact entry.now)) }
     ensures kept { StartsWith (string_bytes out.new) (string_bytes out.old) }
 {
     match entry.exact {
@@ -176,7 +184,9 @@ fn push_name(out: &mut String, entry: &Entry, exact: bool) -> Result<(), AllocEr
 fn push_short(out: &mut String, text: &str) -> Result<(), AllocError>
     requires plain { list_all is_plain text.now ≡ true }
     requires short { length text.now ≤ 13 }
-    ensures ok { OnOk result (string_bytes out.new ≡ string_bytes out.old ++ (filled 15 (repr_text (chars text.now)) ++ codes "\n")) }
+    ensures ok { OnOk result
+        (string_bytes out.new ≡ string_bytes out.old
+        ++ (filled 15 (repr_text (chars text.now)) ++ codes "\n")) }
     ensures kept { StartsWith (string_bytes out.new) (string_bytes out.old) }
 {
     let mut field = *b"'              \n";
@@ -190,7 +200,8 @@ fn push_short(out: &mut String, text: &str) -> Result<(), AllocError>
 #[inline(always)]
 fn push_plain(out: &mut String, text: &str) -> Result<(), AllocError>
     requires { list_all is_plain text.now ≡ true }
-    ensures ok { OnOk result (string_bytes out.new ≡ string_bytes out.old ++ filled 15 (repr_text (chars text.now))) }
+    ensures ok { OnOk result
+        (string_bytes out.new ≡ string_bytes out.old ++ filled 15 (repr_text (chars text.now))) }
     ensures kept { StartsWith (string_bytes out.new) (string_bytes out.old) }
 {
     out.push('\'')?;
@@ -200,9 +211,10 @@ fn push_plain(out: &mut String, text: &str) -> Result<(), AllocError>
 }
 
 /// Writes the field of a line feed, with which most lines of a source end.
-#[tactic(auto, using(crate::proofs::LinesLemmas::line_feed_field))]
+#[tactic(auto, using(crate::proofs::Texts::LinesLemmas::line_feed_field))]
 fn push_line_feed(out: &mut String) -> Result<(), AllocError>
-    ensures ok { OnOk result (string_bytes out.new ≡ string_bytes out.old ++ filled 15 (repr_text (chars (10 ∷ [])))) }
+    ensures ok { OnOk result
+        (string_bytes out.new ≡ string_bytes out.old ++ filled 15 (repr_text (chars (10 ∷ [])))) }
     ensures kept { StartsWith (string_bytes out.new) (string_bytes out.old) }
 {
     out.push_str("'\\n'           ")
@@ -210,7 +222,8 @@ fn push_line_feed(out: &mut String) -> Result<(), AllocError>
 
 /// Writes the field of a text.
 fn push_text(out: &mut String, text: &str) -> Result<(), AllocError>
-    ensures ok { OnOk result (string_bytes out.new ≡ string_bytes out.old ++ filled 15 (repr_text (chars text.now))) }
+    ensures ok { OnOk result
+        (string_bytes out.new ≡ string_bytes out.old ++ filled 15 (repr_text (chars text.now))) }
     ensures kept { StartsWith (string_bytes out.new) (string_bytes out.old) }
 {
     if is_plain_text(text) {
@@ -228,7 +241,9 @@ fn push_text(out: &mut String, text: &str) -> Result<(), AllocError>
 /// Writes the field of a text, and the line's end.
 #[inline(always)]
 fn push_end(out: &mut String, text: &str) -> Result<(), AllocError>
-    ensures ok { OnOk result (string_bytes out.new ≡ string_bytes out.old ++ (filled 15 (repr_text (chars text.now)) ++ codes "\n")) }
+    ensures ok { OnOk result
+        (string_bytes out.new ≡ string_bytes out.old
+        ++ (filled 15 (repr_text (chars text.now)) ++ codes "\n")) }
     ensures kept { StartsWith (string_bytes out.new) (string_bytes out.old) }
 {
     if text.len() <= FIELD_WIDTH - 2 && is_plain_text(text) {
@@ -240,7 +255,8 @@ fn push_end(out: &mut String, text: &str) -> Result<(), AllocError>
 
 #[inline(always)]
 fn push_fields(out: &mut String, entry: &Entry, text: &str, exact: bool) -> Result<(), AllocError>
-    ensures ok { OnOk result (string_bytes out.new ≡ string_bytes out.old ++ listing_line exact entry.now text.now) }
+    ensures ok { OnOk result
+        (string_bytes out.new ≡ string_bytes out.old ++ listing_line exact entry.now text.now) }
     ensures kept { StartsWith (string_bytes out.new) (string_bytes out.old) }
 {
     push_range(out, entry)?;
@@ -248,8 +264,9 @@ fn push_fields(out: &mut String, entry: &Entry, text: &str, exact: bool) -> Resu
     push_end(out, text)
 }
 
-/// The line of an entry with this text, its line end included: the entry's places, its name and the `repr` of the text,
-/// each filled to the width of its field, and none cut off. With `exact` an operator is shown by its own name.
+/// The line of an entry with this text, its line end included: the entry's places, its name and the
+/// `repr` of the text, each filled to the width of its field, and none cut off. With `exact` an
+/// operator is shown by its own name.
 pub fn line_text(
     alloc: Global,
     entry: &Entry,
@@ -266,7 +283,8 @@ pub fn line_text(
 /// Appends the line of an entry with this text, whole or not at all.
 #[inline(always)]
 pub fn push_line(out: &mut String, entry: &Entry, text: &str, exact: bool) -> Result<(), AllocError>
-    ensures ok { OnOk result (string_bytes out.new ≡ string_bytes out.old ++ listing_line exact entry.now text.now) }
+    ensures ok { OnOk result
+        (string_bytes out.new ≡ string_bytes out.old ++ listing_line exact entry.now text.now) }
     ensures err { OnErr result (string_bytes out.new ≡ string_bytes out.old) }
 {
     let start = out.len();

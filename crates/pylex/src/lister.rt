@@ -1,16 +1,17 @@
 //! The listing of a source, one entry after another.
 
-ghost use Rattle.std.specs.Prelude.{◌≡◌, ◌≢◌, ◌↔◌, IsTrue, ◌+◌, ◌-◌, ◌^◌, ◌<◌, ◌≤◌, length, IfOk, IfErr, OnOk, OnErr, Ok, Err};
+ghost use Rattle.std.specs.Prelude.{◌≡◌, ◌≢◌, ◌↔◌, IsTrue, ◌+◌, ◌-◌, ◌^◌, ◌<◌, ◌≤◌, length, IfOk};
+ghost use Rattle.std.specs.Prelude.{IfErr, OnOk, OnErr, Ok, Err};
 ghost use Rattle.std.specs.Str.{chars};
 ghost use Rattle.pylex.specs.Listing.{last_line, listing, in_characters};
 ghost use Rattle.pylex.specs.Laws.{IsLawful, AllLie, HaveExact};
 ghost use Rattle.pylex.specs.Standing.{IsCursorOf};
-ghost use Rattle.pylex.specs.Listers.{StandsIn, LeadsInto, Moves, AwaitsIndent};
+ghost use Rattle.pylex.specs.Listers.{StandsIn, LeadsInto, NextStep, AwaitsIndent};
 ghost use Rattle.pylex.specs.Steps.{most_entries};
 
-use crate::cursors::{Cursor, CursorFault};
+use crate::cursor::{Cursor, CursorFault};
 use crate::entries::Step;
-use crate::position::Position;
+use crate::machine::Machine;
 use pysource::Source;
 use std::alloc::{AllocError, Global};
 use std::marker::Model;
@@ -30,20 +31,20 @@ fn last_line(text: &str) -> &str
 #[derive(Drop)]
 pub struct Lister<'a> {
     source: &'a Source,
-    position: Position,
+    machine: Machine,
     /// The text behind what the lister has looked at.
     left: &'a str,
 }
 
 impl<'a> Model for Lister<'a> {
     ghost use Rattle.pylex.specs.Listers.{Listed};
-    ghost use Rattle.pylex.specs.Positions.{shown_from, Holds};
+    ghost use Rattle.pylex.specs.MachineSteps.{shown_from, Holds};
 
     ghost Value = { Listed };
 
-    ghost view = { λ l. record { source = l.source.now; shown = shown_from l.position } };
+    ghost view = { λ l. record { source = l.source.now; shown = shown_from l.machine } };
 
-    ghost invariant = { λ l. Holds l.source.now l.position l.left.now };
+    ghost invariant = { λ l. Holds l.source.now l.machine l.left.now };
 }
 
 impl<'a> Lister<'a> {
@@ -57,26 +58,27 @@ impl<'a> Lister<'a> {
     {
         Lister {
             source,
-            position: Position::start(alloc),
+            machine: Machine::start(alloc),
             left: source.text(),
         }
     }
 
-    /// The next entry, the end, or the fault that ends the listing; after the end or a fault the same again.
+    /// The next entry, the end, or the fault that ends the listing; after the end or a fault the
+    /// same again.
     ///
-    /// Memory is taken only where an INDENT comes. Where it is refused the lister is unchanged, and the call can be made
-    /// again.
+    /// Memory is taken only where an INDENT comes. Where it is refused the lister is unchanged, and
+    /// the call can be made again.
     pub fn next(&mut self) -> Result<Step, AllocError>
-        ensures moves { IfOk result (λ step. Moves self.old step self.new) }
+        ensures moves { IfOk result (λ step. NextStep self.old step self.new) }
         ensures source { self.new.source ≡ self.old.source }
         ensures same { OnErr result (self.new ≡ self.old) }
         ensures indent { OnErr result (AwaitsIndent self.old) }
         ensures given { self.new.shown.given ≤ most_entries }
     {
-        if self.position.is_at_start() {
-            return Ok(Step::Entry(self.position.begin()));
+        if self.machine.is_at_start() {
+            return Ok(Step::Entry(self.machine.begin()));
         }
-        if let Some((entry, left)) = self.position.step_on(self.left) {
+        if let Some((entry, left)) = self.machine.step_on(self.left) {
             self.left = left;
             return Ok(Step::Entry(entry));
         }
@@ -87,15 +89,15 @@ impl<'a> Lister<'a> {
     #[inline(never)]
     fn next_met(&mut self) -> Result<Step, AllocError>
         requires { 0 < self.old.shown.given }
-        ensures moves { IfOk result (λ step. Moves self.old step self.new) }
+        ensures moves { IfOk result (λ step. NextStep self.old step self.new) }
         ensures source { self.new.source ≡ self.old.source }
         ensures same { OnErr result (self.new ≡ self.old) }
         ensures indent { OnErr result (AwaitsIndent self.old) }
         ensures given { self.new.shown.given ≤ most_entries }
     {
-        let (meets, now, left) = self.position.meet(self.left);
+        let (peeked, now, left) = self.machine.peek(self.left);
         let fault = self.source.line_fault();
-        let step = self.position.go(meets, now, left, fault)?;
+        let step = self.machine.advance(peeked, now, left, fault)?;
         if let Step::Entry(_) = step {
             self.left = left;
         }
@@ -106,16 +108,16 @@ impl<'a> Lister<'a> {
     fn shows(&self, cursor: &Cursor) -> bool
         ensures { IsTrue result ↔ (cursor.now ≡ self.entry.now.shown) }
     {
-        self.position.is_at(cursor)
+        self.machine.is_at(cursor)
     }
 
-    /// The lister's cursor: what is kept of the listing behind the entries that were given. With it [`Lister::resume`] goes
-    /// on in this source.
+    /// The lister's cursor: what is kept of the listing behind the entries that were given. With it
+    /// [`Lister::resume`] goes on in this source.
     pub fn cursor(&self) -> Result<Cursor, AllocError>
         ensures shown { IfOk result (λ cursor. cursor ≡ self.entry.now.shown) }
         ensures leads { IfOk result (λ cursor. LeadsInto cursor self.entry.now.source) }
     {
-        self.position.cursor()
+        self.machine.cursor()
     }
 
     /// Begins at a cursor's point, with none of the entries given that stand behind it.
@@ -125,7 +127,12 @@ impl<'a> Lister<'a> {
         cursor: &Cursor,
     ) -> Result<Lister<'a>, AllocError>
         requires { LeadsInto cursor.now source.now }
-        ensures { IfOk result (λ lister. lister ≡ record { source = source.now; shown = record cursor.now { given = cursor.now.given - cursor.now.skip; skip = 0 } }) }
+        ensures { IfOk result
+            (λ lister. lister
+            ≡ record {
+              source = source.now;
+              shown = record cursor.now { given = cursor.now.given - cursor.now.skip; skip = 0 };
+            }) }
     {
         let point = cursor.point();
         let levels = cursor.levels(alloc)?;
@@ -133,21 +140,23 @@ impl<'a> Lister<'a> {
         let given = cursor.given() - cursor.skip();
         Ok(Lister {
             source,
-            position: Position::at(given, point, levels, last_line(before)),
+            machine: Machine::at(given, point, levels, last_line(before)),
             left,
         })
     }
 
-    /// Goes on behind a cursor of this source, or of another that agrees with it: of the same encoding and line fault, and
-    /// with a text of the same length, in which the line of the cursor's offset begins at the same place and all from there
-    /// on is the same. The lines before that one are not read.
+    /// Goes on behind a cursor of this source, or of another that agrees with it: of the same
+    /// encoding and line fault, and with a text of the same length, in which the line of the
+    /// cursor's offset begins at the same place and all from there on is the same. The lines before
+    /// that one are not read.
     pub fn resume(
         alloc: Global,
         source: &'a Source,
         cursor: &Cursor,
     ) -> Result<Lister<'a>, AllocError>
         requires { LeadsInto cursor.now source.now }
-        ensures { IfOk result (λ lister. lister ≡ record { source = source.now; shown = cursor.now }) }
+        ensures { IfOk result
+            (λ lister. lister ≡ record { source = source.now; shown = cursor.now }) }
     {
         let mut lister = Lister::at_point(alloc, source, cursor)?;
         for _given in 0..cursor.skip() {
@@ -166,10 +175,13 @@ impl<'a> Lister<'a> {
         source: &'a Source,
         cursor: &Cursor,
     ) -> Result<Lister<'a>, CursorFault>
-        ensures lister { IfOk result (λ lister. lister ≡ record { source = source.now; shown = cursor.now }) }
+        ensures lister { IfOk result
+            (λ lister. lister ≡ record { source = source.now; shown = cursor.now }) }
         ensures own { OnOk result (IsCursorOf cursor.now (in_characters source.now)) }
         ensures leads { OnOk result (LeadsInto cursor.now source.now) }
-        ensures another { IfErr result (λ fault. fault ≡ CursorFault.AnotherSource → IsCursorOf cursor.now (in_characters source.now) → ⊥) }
+        ensures another { IfErr result
+            (λ fault. fault ≡ CursorFault.AnotherSource
+            → IsCursorOf cursor.now (in_characters source.now) → ⊥) }
         ensures fault { IfErr result (λ fault. fault ≢ CursorFault.Text) }
     {
         let mut lister = Lister::new(alloc, source);

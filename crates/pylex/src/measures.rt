@@ -7,8 +7,8 @@ ghost use Rattle.std.specs.Str.{chars, IsCharBoundary};
 ghost use Rattle.pylexeme.specs.Chars.{is_blank_char};
 ghost use Rattle.pylex.specs.Margins.{column_by_one, widths_of};
 
+use crate::line_state::column_after;
 use crate::margins::Widths;
-use crate::state::column_after;
 use pysource::Source;
 
 /// Whether a character is a blank.

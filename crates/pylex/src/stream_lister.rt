@@ -2,23 +2,24 @@
 //!
 //! Python library reference, `tokenize`.
 
-ghost use Rattle.std.specs.Prelude.{◌≡◌, ◌<◌, ◌≤◌, ◌-◌, ◌+◌, ◌^◌, ℕ, List, Bool, false, Option, Some, IfOk, IfErr};
+ghost use Rattle.std.specs.Prelude.{◌≡◌, ◌<◌, ◌≤◌, ◌-◌, ◌+◌, ◌^◌, ℕ, List, Bool, false, Option};
+ghost use Rattle.std.specs.Prelude.{Some, IfOk, IfErr};
 ghost use Rattle.pysource.specs.Bytes.{IsSteady};
 ghost use Rattle.pysource.specs.Parts.{Parts};
 ghost use Rattle.pysource.specs.Streams.{Refuses};
 ghost use Rattle.pysource.specs.Taking.{fails};
 ghost use Rattle.pylex.specs.ListingLines.{text_of};
 ghost use Rattle.pylex.specs.Steps.{most_entries};
-ghost use Rattle.pylex.specs.Streamed.{Begins, BeginsAnew, MissesBy, Steps, StreamsIn};
+ghost use Rattle.pylex.specs.Streamed.{Begins, BeginsAnew, ResumeRefusal, Next, StreamsIn};
 
-use crate::cursors::Cursor;
+use crate::cursor::Cursor;
 use crate::entries::{Entry, Step};
-use crate::stream::{LineLister, ResumeFault};
+use crate::line_lister::{LineLister, ResumeFault};
 use pysource::{ByteIn, StreamFault};
 use std::alloc::{AllocError, Global};
 
-/// Lists the entries of a source that is read line by line from a reader of its own, as [`LineLister`] does from one that
-/// is lent.
+/// Lists the entries of a source that is read line by line from a reader of its own, as
+/// [`LineLister`] does from one that is lent.
 #[derive(Drop)]
 pub struct StreamLister<R: ByteIn> {
     reader: R,
@@ -31,19 +32,28 @@ pub struct StreamLister<R: ByteIn> {
 }
 
 impl<R: ByteIn> StreamLister<R> {
-    /// Begins at the start of the source that the reader gives, as [`LineLister::new`] does. A refusal drops the reader.
+    /// Begins at the start of the source that the reader gives, as [`LineLister::new`] does. A
+    /// refusal drops the reader.
     ///
     /// # Errors
     ///
-    /// As [`LineLister::new`]. Where no read can fail, `Read` tells that the source has too many bytes.
+    /// As [`LineLister::new`]. Where no read can fail, `Read` tells that the source has too many
+    /// bytes.
     pub fn new(alloc: Global, mut reader: R) -> Result<StreamLister<R>, StreamFault>
     where
         R: Drop,
         requires { R.failure_count reader < 2 ^ 64 - 1 }
-        ensures begins { IfOk result (λ s. BeginsAnew (R.to_come reader) (R.to_come s.reader) (R.failure_count reader) (R.failure_count s.reader) s.lister) }
+        ensures begins { IfOk result
+            (λ s. BeginsAnew (R.to_come reader) (R.to_come s.reader) (R.failure_count reader)
+            (R.failure_count s.reader) s.lister) }
         ensures told { IfOk result (λ s. s.told ≡ R.failure_count reader) }
-        ensures steady { IfOk result (λ s. IsSteady (R.may_fail reader) (R.may_fail s.reader) (R.failure_count reader) (R.failure_count s.reader)) }
-        ensures refuses { IfErr result (λ e. (come : Option (List ℕ)) × (told : ℕ) × (R.may_fail reader ≡ false → told ≡ R.failure_count reader) × Refuses (R.to_come reader) come (R.failure_count reader) told e) }
+        ensures steady { IfOk result
+            (λ s. IsSteady (R.may_fail reader) (R.may_fail s.reader) (R.failure_count reader)
+            (R.failure_count s.reader)) }
+        ensures refuses { IfErr result
+            (λ e. (come : Option (List ℕ)) × (told : ℕ)
+            × (R.may_fail reader ≡ false → told ≡ R.failure_count reader)
+            × Refuses (R.to_come reader) come (R.failure_count reader) told e) }
     {
         let told = reader.failures();
         let lister = LineLister::new(alloc, &mut reader)?;
@@ -54,8 +64,8 @@ impl<R: ByteIn> StreamLister<R> {
         })
     }
 
-    /// Goes on behind a cursor of the source that the reader gives, as [`LineLister::resume_checked`] does. A refusal drops
-    /// the reader.
+    /// Goes on behind a cursor of the source that the reader gives, as
+    /// [`LineLister::resume_checked`] does. A refusal drops the reader.
     ///
     /// # Errors
     ///
@@ -68,11 +78,18 @@ impl<R: ByteIn> StreamLister<R> {
     where
         R: Drop,
         requires { R.failure_count reader < 2 ^ 64 - 1 }
-        ensures begins { IfOk result (λ s. Begins (R.to_come reader) (R.to_come s.reader) (R.failure_count reader) (R.failure_count s.reader) s.lister cursor.now.given) }
+        ensures begins { IfOk result
+            (λ s. Begins (R.to_come reader) (R.to_come s.reader) (R.failure_count reader)
+            (R.failure_count s.reader) s.lister cursor.now.given) }
         ensures shown { IfOk result (λ s. s.lister.shown ≡ cursor.now) }
         ensures told { IfOk result (λ s. s.told ≡ R.failure_count reader) }
-        ensures steady { IfOk result (λ s. IsSteady (R.may_fail reader) (R.may_fail s.reader) (R.failure_count reader) (R.failure_count s.reader)) }
-        ensures misses { IfErr result (λ e. (come : Option (List ℕ)) × (told : ℕ) × (R.may_fail reader ≡ false → told ≡ R.failure_count reader) × MissesBy (R.to_come reader) come (R.failure_count reader) told cursor.now e) }
+        ensures steady { IfOk result
+            (λ s. IsSteady (R.may_fail reader) (R.may_fail s.reader) (R.failure_count reader)
+            (R.failure_count s.reader)) }
+        ensures misses { IfErr result
+            (λ e. (come : Option (List ℕ)) × (told : ℕ)
+            × (R.may_fail reader ≡ false → told ≡ R.failure_count reader)
+            × ResumeRefusal (R.to_come reader) come (R.failure_count reader) told cursor.now e) }
     {
         let told = reader.failures();
         let lister = LineLister::resume_checked(alloc, &mut reader, cursor)?;
@@ -92,10 +109,13 @@ impl<R: ByteIn> StreamLister<R> {
 
     /// The next entry, the end, or the fault that ends the listing, as [`LineLister::next`].
     pub fn next(&mut self) -> Result<Step, AllocError>
-        ensures steps { Steps (R.to_come self.old.reader) (R.to_come self.new.reader) (R.failure_count self.old.reader) (R.failure_count self.new.reader) self.old.lister self.new.lister result }
+        ensures steps { Next (R.to_come self.old.reader) (R.to_come self.new.reader)
+            (R.failure_count self.old.reader)
+            (R.failure_count self.new.reader) self.old.lister self.new.lister result }
         ensures given { self.new.lister.shown.given ≤ most_entries }
         ensures told { self.new.told ≡ self.old.told }
-        ensures steady { IsSteady (R.may_fail self.old.reader) (R.may_fail self.new.reader) (R.failure_count self.old.reader) (R.failure_count self.new.reader) }
+        ensures steady { IsSteady (R.may_fail self.old.reader) (R.may_fail self.new.reader)
+            (R.failure_count self.old.reader) (R.failure_count self.new.reader) }
     {
         self.lister.next(&mut self.reader)
     }
@@ -110,7 +130,8 @@ impl<R: ByteIn> StreamLister<R> {
     /// The text of the entry that was given last, as [`LineLister::text`].
     pub fn text(&self, entry: &Entry) -> &str
         requires { self.now.lister.last ≡ Some entry.now }
-        ensures { (p : Parts) (k : ℕ) (more : List ℕ) (broken : Bool) → StreamsIn self.entry.now.lister p k more broken → result.now ≡ text_of p entry.now }
+        ensures { (p : Parts) (k : ℕ) (more : List ℕ) (broken : Bool)
+            → StreamsIn self.entry.now.lister p k more broken → result.now ≡ text_of p entry.now }
     {
         self.lister.text(entry)
     }

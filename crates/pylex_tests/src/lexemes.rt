@@ -1,7 +1,7 @@
 //! The lexeme at the front of a text.
 
 use crate::expected::{same_answer, same_text};
-use pylex::{Class, begins_thing, cut};
+use pylex::{Class, begins_significant, cut};
 use std::process::Abort;
 use std::test::Fail;
 
@@ -58,19 +58,19 @@ fn cuts_no_other_text(rt: HostRuntime) {
 }
 
 /// Asserts whether the lexeme at the front of a text makes its line logical.
-fn is_thing(rt: &impl Abort, text: &str, thing: bool) -> Result<(), Fail> {
+fn is_significant(rt: &impl Abort, text: &str, significant: bool) -> Result<(), Fail> {
     let Some((class, _, _)) = cut(text) else {
         return Err(Fail::from("no lexeme"));
     };
-    same_answer(rt, class.is_thing(), thing, text);
-    same_answer(rt, begins_thing(text), thing, text);
+    same_answer(rt, class.is_significant(), significant, text);
+    same_answer(rt, begins_significant(text), significant, text);
     Ok(())
 }
 
 // Blanks, comments and line ends alone make no line logical.
 #[test]
-fn tells_things(rt: HostRuntime) -> Result<(), Fail> {
-    for (text, thing) in &[
+fn tells_what_is_significant(rt: HostRuntime) -> Result<(), Fail> {
+    for (text, significant) in &[
         ("x # y", true),
         ("+", true),
         ("\\\n", true),
@@ -78,8 +78,8 @@ fn tells_things(rt: HostRuntime) -> Result<(), Fail> {
         ("\n", false),
         (" x", false),
     ] {
-        is_thing(&rt, text, *thing)?;
+        is_significant(&rt, text, *significant)?;
     }
-    same_answer(&rt, begins_thing(""), false, "");
+    same_answer(&rt, begins_significant(""), false, "");
     Ok(())
 }

@@ -13,7 +13,8 @@ fn stands_at(rt: &impl Abort, place: Place, expected: (usize, usize)) {
     same_number(rt, place.column, expected.1, "a column");
 }
 
-/// The next step of a listing is an entry of this kind, which begins and ends at these rows and columns.
+/// The next step of a listing is an entry of this kind, which begins and ends at these rows and
+/// columns.
 fn gives_entry(
     rt: &impl Abort,
     lister: &mut Lister,

@@ -42,7 +42,8 @@ fn text_at<'a>(source: &'a Source, entry: &Entry) -> Option<&'a str> {
     }
 }
 
-/// The next step of both listers is the same, and tells whether it is an entry. A last step is given again.
+/// The next step of both listers is the same, and tells whether it is an entry. A last step is
+/// given again.
 fn goes_one_on_as<R: ByteIn + Drop>(
     rt: &impl Abort,
     source: &Source,

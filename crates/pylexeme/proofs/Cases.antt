@@ -1,4 +1,6 @@
 -- A test gives true or false.
+--
+-- Carries: bool_cases, and_parts, right_false, for Runs, PlainRuns, Joined, Longest and 16 more.
 use Rattle.std.proofs.Common.{◌≡◌, Bool, true, false, ◌&&◌, refl, inl, inr, ◌⊎◌}
 
 pub bool_cases : (b : Bool) → (b ≡ true) ⊎ (b ≡ false)

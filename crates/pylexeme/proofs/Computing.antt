@@ -1,4 +1,6 @@
 -- `unfolding lexemes` lets `refl` compute a cut.
+--
+-- Carries: classes, for Union.
 use Rattle.unicode_ident.proofs.Computing.{unicode_ident}
 use Rattle.pylexeme.specs.Numbers.{is_number, is_decimal, is_radix, is_float, is_imaginary, is_exponent, is_point_after, is_point_before, is_raised}
 use Rattle.pylexeme.specs.Strings.{is_string, is_prefix, is_single, is_triple, is_single_string, is_triple_string, opens_string, opens_triple, counts_as_string}

@@ -40,6 +40,6 @@ begins_line_end (c ∷ []) = c == 10
 begins_line_end (c ∷ d ∷ cs) = if c == 10 then true else (c == 13) && (d == 10)
 
 -- a text begins with what makes a line logical: a lexeme other than blanks, a comment and a line end, or what begins none
-unfoldable pub begins_thing : List ℕ → Bool
-begins_thing [] = false
-begins_thing (c ∷ cs) = not (is_blank_char c) && not (c == 35) && not (begins_line_end (c ∷ cs))
+unfoldable pub begins_significant : List ℕ → Bool
+begins_significant [] = false
+begins_significant (c ∷ cs) = not (is_blank_char c) && not (c == 35) && not (begins_line_end (c ∷ cs))

@@ -107,8 +107,8 @@ abbrev pub is_line_end_class : Class → Bool
 is_line_end_class k = elim k [ LineEnd ↦ true | _ ↦ false ]
 
 -- what makes a line logical: anything but blanks, a comment and a line end (reference 2.1.7)
-abbrev pub is_thing_class : Class → Bool
-is_thing_class k = elim k [ Blanks ↦ false | Comment ↦ false | LineEnd ↦ false | _ ↦ true ]
+abbrev pub is_significant_class : Class → Bool
+is_significant_class k = elim k [ Blanks ↦ false | Comment ↦ false | LineEnd ↦ false | _ ↦ true ]
 
 abbrev pub is_join_class : Class → Bool
 is_join_class k = elim k [ Join ↦ true | _ ↦ false ]

@@ -5,8 +5,10 @@ ghost use Rattle.std.specs.Str.{chars};
 ghost use Rattle.pylexeme.specs.Chars.{begins, starts_name, is_blank_char, is_prefix_letter};
 ghost use Rattle.pylexeme.specs.Strings.{opens_string};
 ghost use Rattle.pylexeme.specs.Lengths.{begins_number, Opens};
-ghost use Rattle.pylexeme.specs.Lexemes.{lexeme_at, is_thing_class, is_blanks_class, is_line_end_class, is_join_class, is_opener_class, is_closer_class};
-ghost use Rattle.pylexeme.specs.Cuts.{Takes, Cuts, BeginsOther, begins_thing};
+ghost use Rattle.pylexeme.specs.Lexemes.{lexeme_at, is_significant_class, is_blanks_class};
+ghost use Rattle.pylexeme.specs.Lexemes.{is_line_end_class, is_join_class, is_opener_class};
+ghost use Rattle.pylexeme.specs.Lexemes.{is_closer_class};
+ghost use Rattle.pylexeme.specs.Cuts.{Takes, Cuts, BeginsOther, begins_significant};
 
 use crate::kinds::Exact;
 use crate::number::number;
@@ -36,8 +38,8 @@ pub enum Class {
 
 impl Class {
     /// Whether such a lexeme makes a line logical.
-    pub fn is_thing(self) -> bool
-        ensures { result ≡ is_thing_class self }
+    pub fn is_significant(self) -> bool
+        ensures { result ≡ is_significant_class self }
     {
         match self {
             Class::Blanks | Class::Comment | Class::LineEnd => false,
@@ -163,7 +165,8 @@ fn operator(text: &mut Scanner) -> Option<Class>
     Some(Class::Operator(exact))
 }
 
-/// Takes the string that stands here, behind a prefix of `prefix_len` characters; one that isn't ended is no lexeme.
+/// Takes the string that stands here, behind a prefix of `prefix_len` characters; one that isn't
+/// ended is no lexeme.
 #[inline(always)]
 fn literal(text: &mut Scanner, prefix_len: usize) -> Option<Class>
     requires { Opens prefix_len text.old }
@@ -177,7 +180,8 @@ fn literal(text: &mut Scanner, prefix_len: usize) -> Option<Class>
     None
 }
 
-/// Takes the string whose prefix begins here, or otherwise the name, by another scanner: so this one need not stand in memory.
+/// Takes the string whose prefix begins here, or otherwise the name, by another scanner: so this
+/// one need not stand in memory.
 #[inline(always)]
 fn prefixed(text: &mut Scanner) -> Option<Class>
     requires { begins is_prefix_letter text.old ≡ true }
@@ -226,8 +230,9 @@ fn has_number(text: &Scanner) -> bool
     }
 }
 
-/// Takes the longest lexeme that stands here, and says its class; none and nothing where no lexeme stands.
-#[tactic(auto, using(crate::proofs::Union::begins_by))]
+/// Takes the longest lexeme that stands here, and says its class; none and nothing where no lexeme
+/// stands.
+#[tactic(auto, using(crate::proofs::Lexemes::Union::begins_by))]
 #[inline(always)]
 pub(crate) fn lexeme(text: &mut Scanner) -> Option<Class>
     ensures { Takes text.old result text.new }
@@ -271,7 +276,8 @@ pub(crate) fn lexeme(text: &mut Scanner) -> Option<Class>
     }
 }
 
-/// The longest lexeme at the front of a text: its class, its text, and what is behind it; none where no lexeme stands.
+/// The longest lexeme at the front of a text: its class, its text, and what is behind it; none
+/// where no lexeme stands.
 #[inline(always)]
 pub fn cut(text: &str) -> Option<(Class, &str, &str)>
     ensures some { IfSome result (λ x. Cuts text.now x.0 x.1.now x.2.now) }
@@ -283,10 +289,11 @@ pub fn cut(text: &str) -> Option<(Class, &str, &str)>
     Some((class, front, back))
 }
 
-/// Whether a text begins with what makes a line logical: neither a blank, a comment, a line end, nor its end.
+/// Whether a text begins with what makes a line logical: neither a blank, a comment, a line end,
+/// nor its end.
 #[inline(always)]
-pub fn begins_thing(text: &str) -> bool
-    ensures { result ≡ begins_thing (chars text.now) }
+pub fn begins_significant(text: &str) -> bool
+    ensures { result ≡ begins_significant (chars text.now) }
 {
     let scanner = Scanner::new(text);
     let Some(first) = scanner.first() else {

@@ -1,8 +1,9 @@
 //! The lexemes of a Python 3.11 source (language reference, 2 "Lexical analysis").
 //!
-//! A lexeme is the longest name, number, string, operator, comment, run of blanks, line end or join of lines that
-//! stands at its place. `lexeme::cut` takes one off the front of a text: it gives its class, its text, and what is
-//! behind it, and nothing where no lexeme stands. So the lexemes of a text are
+//! A lexeme is the longest name, number, string, operator, comment, run of blanks, line end or join
+//! of lines that stands at its place. `lexeme::cut` takes one off the front of a text: it gives its
+//! class, its text, and what is behind it, and nothing where no lexeme stands. So the lexemes of a
+//! text are
 //!
 //! ```
 //! let mut left = "x **= 1";
@@ -12,8 +13,9 @@
 //! }
 //! ```
 //!
-//! Where `cut` stops before a text's end, `string` tells whether a string opens there that more text could end.
-//! Layout (logical lines, indentation, brackets) isn't known here: `Class` only tells what a lexeme is to it.
+//! Where `cut` stops before a text's end, `string` tells whether a string opens there that more
+//! text could end. Layout (logical lines, indentation, brackets) isn't known here: `Class` only
+//! tells what a lexeme is to it.
 #![tactic(auto)]
 
 pub mod kinds;

@@ -2,12 +2,15 @@
 
 ghost use Rattle.std.specs.Prelude.{◌≡◌, ◌<◌, drop, true};
 ghost use Rattle.pylexeme.specs.Chars.{has};
-ghost use Rattle.pylexeme.specs.Lengths.{Took, based_len, radix_len, exponent_len, point_len, j_len, fraction_len, tail_len, begins_number, number_len, plain_len, longest};
+ghost use Rattle.pylexeme.specs.Lengths.{Took, based_len, radix_len, exponent_len, point_len};
+ghost use Rattle.pylexeme.specs.Lengths.{j_len, fraction_len, tail_len, begins_number, number_len};
+ghost use Rattle.pylexeme.specs.Lengths.{plain_len, longest};
 ghost use Rattle.pylexeme.specs.Numbers.{is_number};
 
 use crate::scanner::{CharSet, Scanner};
 
-/// Takes the zero and the letter that stand here, and the digits of their radix after them; false where there are none.
+/// Takes the zero and the letter that stand here, and the digits of their radix after them; false
+/// where there are none.
 fn based(text: &mut Scanner, digits: CharSet) -> bool
     ensures { Took (based_len (has digits) (drop 2 text.old)) result text.old text.new }
 {
@@ -61,7 +64,8 @@ fn exponent(text: &mut Scanner) -> bool
     true
 }
 
-/// Takes the point that stands here, and the digits after it, if any; false where there is no point.
+/// Takes the point that stands here, and the digits after it, if any; false where there is no
+/// point.
 fn point(text: &mut Scanner) -> bool
     ensures { Took (point_len text.old) result text.old text.new }
 {
@@ -98,7 +102,8 @@ fn fraction(text: &mut Scanner) -> bool
     exponent(text)
 }
 
-/// Takes what makes more than a whole number of the digits before it; false where there is nothing of it.
+/// Takes what makes more than a whole number of the digits before it; false where there is nothing
+/// of it.
 fn tail(text: &mut Scanner) -> bool
     ensures { Took (tail_len text.old) result text.old text.new }
 {
@@ -111,7 +116,8 @@ fn tail(text: &mut Scanner) -> bool
 
 /// Takes the number in decimal digits that stands here.
 ///
-/// Digits after a zero belong to it only where a point, an exponent or `j` follows them, unless they are all zeros.
+/// Digits after a zero belong to it only where a point, an exponent or `j` follows them, unless
+/// they are all zeros.
 fn plain(text: &mut Scanner)
     ensures { text.new ≡ drop (plain_len text.old) text.old }
 {

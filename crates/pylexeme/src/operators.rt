@@ -1,4 +1,5 @@
-//! The operators and delimiters (reference 2.5 and 2.6): their names, and the longest one at a place.
+//! The operators and delimiters (reference 2.5 and 2.6): their names, and the longest one at a
+//! place.
 
 ghost use Rattle.std.specs.Prelude.{◌≡◌, ◌==◌, ◌||◌, ℕ, List, [], ◌∷◌};
 ghost use Rattle.std.specs.Str.{chars};
@@ -118,7 +119,8 @@ fn longest_of_two(first: char, second: char) -> Option<(Exact, usize)>
 /// Whether an operator may have a character as its second.
 #[inline(always)]
 fn may_be_second(c: char) -> bool
-    ensures { result ≡ ((c == 61) || ((c == 60) || ((c == 62) || ((c == 42) || ((c == 47) || (c == 46)))))) }
+    ensures { result
+        ≡ ((c == 61) || ((c == 60) || ((c == 62) || ((c == 42) || ((c == 47) || (c == 46)))))) }
 {
     c == '=' || (c == '<' || (c == '>' || (c == '*' || (c == '/' || c == '.'))))
 }

@@ -119,7 +119,8 @@ impl<'a> Scanner<'a> {
         }
     }
 
-    /// Takes the characters of a set from here on, by another scanner: so this one need not stand in memory.
+    /// Takes the characters of a set from here on, by another scanner: so this one need not stand
+    /// in memory.
     #[inline(always)]
     fn bump_on(&mut self, set: CharSet)
         ensures { self.new ≡ drop (prefix_len (has set) self.old) self.old }
@@ -143,7 +144,8 @@ impl<'a> Scanner<'a> {
         *self = ahead;
     }
 
-    /// Takes the characters of ASCII from here on that are neither a quote, a backslash nor of a line end.
+    /// Takes the characters of ASCII from here on that are neither a quote, a backslash nor of a
+    /// line end.
     #[inline(always)]
     pub(crate) fn bump_plain(&mut self)
         ensures { self.new ≡ drop (prefix_len is_plain_char self.old) self.old }
@@ -185,7 +187,9 @@ impl<'a> Scanner<'a> {
 
     /// Whether a CR and an LF stand after some characters.
     pub(crate) fn has_line_end(&self, skipped: usize) -> bool
-        ensures { result ≡ (begins (λ c. c == 13) (drop skipped self.now) && begins (λ c. c == 10) (drop 1 (drop skipped self.now))) }
+        ensures { result
+            ≡ (begins (λ c. c == 13) (drop skipped self.now) && begins (λ c. c == 10)
+            (drop 1 (drop skipped self.now))) }
     {
         let mut ahead = self.again();
         ahead.bump_count(skipped);
@@ -193,7 +197,7 @@ impl<'a> Scanner<'a> {
     }
 
     /// Takes digits of a kind from here on, each with perhaps an underscore before it.
-    #[tactic(auto, using(crate::proofs::Joined::step_digit, crate::proofs::Joined::step_both, crate::proofs::Joined::stop_first, crate::proofs::Joined::stop_second, crate::proofs::Joined::shorter, crate::proofs::Joined::shorter_two))]
+    #[tactic(auto, using(crate::proofs::Fronts::Joined::step_digit, crate::proofs::Fronts::Joined::step_both, crate::proofs::Fronts::Joined::stop_first, crate::proofs::Fronts::Joined::stop_second, crate::proofs::Fronts::Joined::shorter, crate::proofs::Fronts::Joined::shorter_two))]
     pub(crate) fn bump_joined(&mut self, digits: CharSet)
         ensures { self.new ≡ drop (joined_len (has digits) self.old) self.old }
     {

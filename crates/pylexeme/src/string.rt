@@ -1,13 +1,16 @@
 //! Strings: where one opens, and where the longest one ends (reference 2.4.1).
 
-ghost use Rattle.std.specs.Prelude.{◌≡◌, ◌||◌, ◌==◌, true, false, ℕ, List, ◌++◌, drop, None, IfSome, IfNone, IsTrue};
+ghost use Rattle.std.specs.Prelude.{◌≡◌, ◌||◌, ◌==◌, true, false, ℕ, List, ◌++◌, drop, None};
+ghost use Rattle.std.specs.Prelude.{IfSome, IfNone, IsTrue};
 ghost use Rattle.std.specs.Str.{chars};
 ghost use Rattle.pylexeme.specs.Chars.{begins};
-ghost use Rattle.pylexeme.specs.Strings.{begins_quote, quote_char, counts_as_string, opens_string, units};
+ghost use Rattle.pylexeme.specs.Strings.{begins_quote, quote_char, counts_as_string, opens_string};
+ghost use Rattle.pylexeme.specs.Strings.{units};
 ghost use Rattle.pylexeme.specs.Lexemes.{lexeme_at, ends_by_join, is_open_string};
 ghost use Rattle.pylexeme.specs.Chunks.{EndsLine};
 ghost use Rattle.pylexeme.specs.OpenLiterals.{IsOpenBy};
-ghost use Rattle.pylexeme.specs.Lengths.{Closed, unit_len, single_len, triple_len, quoted_len, Opens, longest, begins_pair, begins_join, begins_quotes};
+ghost use Rattle.pylexeme.specs.Lengths.{Closed, unit_len, single_len, triple_len, quoted_len};
+ghost use Rattle.pylexeme.specs.Lengths.{Opens, longest, begins_pair, begins_join, begins_quotes};
 
 use crate::scanner::{CharSet, Scanner};
 
@@ -51,7 +54,8 @@ fn has_three(text: &Scanner, quote: Quote) -> bool
         && text.has_next(2, CharSet::One(quote.as_char()))
 }
 
-/// Takes the unit that stands here: a backslash and the character or the CR LF after it, or one other character.
+/// Takes the unit that stands here: a backslash and the character or the CR LF after it, or one
+/// other character.
 #[inline(always)]
 fn unit(text: &mut Scanner)
     ensures { text.new ≡ drop (unit_len text.old) text.old }
@@ -67,7 +71,8 @@ fn unit(text: &mut Scanner)
     text.bump_count(2);
 }
 
-/// Takes the units up to the quote that closes a literal; false where a line end or the text's end comes before it.
+/// Takes the units up to the quote that closes a literal; false where a line end or the text's end
+/// comes before it.
 fn close_single(text: &mut Scanner, quote: Quote) -> bool
     ensures { Closed (single_len (quote_char quote) text.old) result text.old text.new }
 {
@@ -84,7 +89,8 @@ fn close_single(text: &mut Scanner, quote: Quote) -> bool
     }
 }
 
-/// Takes the units up to the three quotes that close a literal; false where the text's end comes before them.
+/// Takes the units up to the three quotes that close a literal; false where the text's end comes
+/// before them.
 fn close_triple(text: &mut Scanner, quote: Quote) -> bool
     ensures { Closed (triple_len (quote_char quote) text.old) result text.old text.new }
 {
@@ -124,7 +130,8 @@ fn quote_here(text: &Scanner) -> Quote
     Quote::Single
 }
 
-/// Takes the longest string that stands here, behind a prefix of `prefix_len` characters; false where it isn't ended.
+/// Takes the longest string that stands here, behind a prefix of `prefix_len` characters; false
+/// where it isn't ended.
 ///
 /// Where three equal quotes stand behind the prefix, only a literal in three quotes counts.
 ///
@@ -140,7 +147,8 @@ pub(crate) fn string(text: &mut Scanner, prefix_len: usize) -> bool
     closed
 }
 
-/// Takes the longest string that stands here, behind a prefix of `prefix_len` characters; false where it isn't ended.
+/// Takes the longest string that stands here, behind a prefix of `prefix_len` characters; false
+/// where it isn't ended.
 ///
 /// Where three equal quotes stand behind the prefix, only a literal in three quotes counts.
 #[inline(never)]
@@ -161,7 +169,8 @@ fn has_pair(text: &Scanner) -> bool
         || text.has_next(0, CharSet::LetterBorF) && text.has_next(1, CharSet::LetterR)
 }
 
-/// How many characters the prefix has behind which a quote stands, perhaps none, if a string opens here.
+/// How many characters the prefix has behind which a quote stands, perhaps none, if a string opens
+/// here.
 pub(crate) fn opening(text: &Scanner) -> Option<usize>
     ensures some { IfSome result (λ n. Opens n text.now) }
     ensures none { IfNone result (opens_string text.now ≡ false) }
@@ -192,7 +201,8 @@ fn has_join(text: &Scanner) -> bool
         && (text.has_next(1, CharSet::One('\n')) || text.has_line_end(1))
 }
 
-/// Whether a backslash and a line end are the last unit of what is left, with no quote and no other line end before it.
+/// Whether a backslash and a line end are the last unit of what is left, with no quote and no other
+/// line end before it.
 fn ends_by_join(text: &mut Scanner, quote: Quote) -> bool
     ensures { result ≡ ends_by_join (quote_char quote) (units text.old) }
 {
@@ -208,9 +218,12 @@ fn ends_by_join(text: &mut Scanner, quote: Quote) -> bool
     }
 }
 
-/// Whether the literal whose quotes stand here, and which isn't ended, is open up to the text's end.
+/// Whether the literal whose quotes stand here, and which isn't ended, is open up to the text's
+/// end.
 fn is_open(text: &mut Scanner, quote: Quote) -> bool
-    ensures { result ≡ (begins_quotes (quote_char quote) text.old || ends_by_join (quote_char quote) (units (drop 1 text.old))) }
+    ensures { result
+        ≡ (begins_quotes (quote_char quote) text.old || ends_by_join (quote_char quote)
+        (units (drop 1 text.old))) }
 {
     if !has_three(text, quote) {
         text.bump_count(1);
@@ -226,14 +239,16 @@ pub fn opens_string(text: &str) -> bool
     opening(&Scanner::new(text)).is_some()
 }
 
-/// A literal that is open at the end of some lines: its quote, and whether it opens in three of them.
+/// A literal that is open at the end of some lines: its quote, and whether it opens in three of
+/// them.
 #[derive(Clone, Copy, Debug, PartialEq, Eq)]
 pub struct OpenLiteral {
     quote: Quote,
     triple: bool,
 }
 
-/// The literal that opens at the front of a text and is open up to its end (see is_open_string), if one does.
+/// The literal that opens at the front of a text and is open up to its end (see is_open_string), if
+/// one does.
 ///
 /// Only asked where no lexeme stands at the text's front.
 pub fn open_literal(text: &str) -> Option<OpenLiteral>
@@ -256,7 +271,9 @@ pub fn open_literal(text: &str) -> Option<OpenLiteral>
 impl OpenLiteral {
     /// Whether it is still open behind one more line.
     pub fn goes_on(self, line: &str) -> bool
-        ensures { IsTrue result → (cs : List ℕ) → EndsLine cs → IsOpenBy self cs → lexeme_at cs ≡ None → IsOpenBy self (cs ++ chars line.now) × (lexeme_at (cs ++ chars line.now) ≡ None) }
+        ensures { IsTrue result → (cs : List ℕ) → EndsLine cs → IsOpenBy self cs
+            → lexeme_at cs ≡ None
+            → IsOpenBy self (cs ++ chars line.now) × (lexeme_at (cs ++ chars line.now) ≡ None) }
     {
         let mut left = Scanner::new(line);
         if self.triple {
@@ -266,9 +283,9 @@ impl OpenLiteral {
     }
 }
 
-/// Whether a literal that opens at the front of a text, and doesn't end in it, is open up to the text's end, so that
-/// more text could still end it: one in three quotes always, one in single quotes directly after a backslash and a
-/// line end.
+/// Whether a literal that opens at the front of a text, and doesn't end in it, is open up to the
+/// text's end, so that more text could still end it: one in three quotes always, one in single
+/// quotes directly after a backslash and a line end.
 pub fn is_open_string(text: &str) -> bool
     ensures { result ≡ is_open_string (chars text.now) }
 {

@@ -1,4 +1,5 @@
--- Carries: drop_deeper, drop_from, Depths::step. On: the count of depths by shapes, no further than it counts.
+-- Carries: drop_deeper, drop_from, Depths::step. On: the count of depths by shapes,
+-- no further than it counts.
 use Rattle.std.proofs.Common.{◌≡◌, ℕ, suc, ◌+◌, ◌<◌, ◌≤◌, min, List, [], ◌∷◌, ◌++◌, map, reverse, Option, Some, None, Bool, true, false, cond, refl, sym, ap, ◌∙◌, arith}
 use Rattle.std.specs.Prelude.{nat_lt, nat_le, ◌==◌}
 use borrow.Author.Tests.{ltb-true, ltb-false, lt-ltb, leb-true, le-leb}

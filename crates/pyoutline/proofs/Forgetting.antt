@@ -1,4 +1,5 @@
--- Carries: Outline. On: the reading of blocks, whose steps are those of its outline: `step_outlined`, `finish_outlined`.
+-- Carries: Outline. On: the reading of blocks, whose steps are those of its outline:
+-- `step_outlined`, `finish_outlined`.
 use Rattle.std.proofs.Common.{◌≡◌, ℕ, suc, List, [], ◌∷◌, ◌++◌, length, map, Option, Some, None, Bool, true, false, cond, refl, sym, ap, ◌∙◌}
 use Rattle.std.specs.Prelude.{nat_lt}
 use Rattle.std.proofs.lemmas.List.{length-map}

@@ -1,4 +1,5 @@
--- Carries: line_error, finish_sound, finish_deep, Progress::finish, parse. On: why a line has no form, and what is known of a source at its end.
+-- Carries: line_error, finish_sound, finish_deep, Progress::finish, parse. On: why a line has no
+-- form, and what is known of a source at its end.
 use Rattle.std.proofs.Common.{◌≡◌, inl, inr, ℕ, ◌≤◌, Bool, true, false, List, [], ◌++◌, length, take_all, refl, sym, subst, append-nil, arith, None}
 use Rattle.std.specs.Prelude.{nat_lt, Result, Err, IfErr}
 use Rattle.std.proofs.lemmas.Bool.{ltb-true, ltb-false}

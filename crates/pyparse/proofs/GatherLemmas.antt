@@ -5,7 +5,7 @@ use Rattle.std.specs.Str.{chars, IsUtf8}
 use Rattle.std.proofs.lemmas.Str.{chars-nil, encodes-chars}
 use Rattle.pysource.specs.declared.places.Place.{Place}
 use Rattle.pysource.specs.Places.{place_after, place_at}
-use Rattle.pylex.specs.declared.kinds.Kind.TheVariants as kinds
+use Rattle.pylex.specs.declared.kind.Kind.TheVariants as kinds
 use Rattle.pylex.specs.declared.entries.Entry.{Entry}
 use Rattle.pylex.specs.Listing.{Source, listing}
 use Rattle.pylex.specs.Steps.{entries_of}

@@ -1,4 +1,5 @@
--- Carries: read_line. On: what one pass gathers of its lines, with one entry more and at the listing's end.
+-- Carries: read_line. On: what one pass gathers of its lines, with one entry more
+-- and at the listing's end.
 use Rattle.std.proofs.Common.{◌≡◌, ℕ, ◌+◌, ◌-◌, ◌≤◌, ◌<◌, Bool, true, false, List, [], ◌∷◌, ◌++◌, length, take, drop, map, refl, sym, ap, ap₂, subst, ◌∙◌, append-nil, arith, length-append, Some, None}
 use Rattle.std.specs.Prelude.{if◌then◌else◌, slice_get}
 use Rattle.std.proofs.lemmas.List.{map-append, take-append-drop}
@@ -6,8 +7,8 @@ use Rattle.std.specs.Str.{chars}
 use Rattle.std.proofs.lemmas.Bool.{and_parts}
 use Rattle.pysource.specs.declared.places.Place.{Place}
 use Rattle.pysource.specs.Parts.{Parts}
-use Rattle.pylex.specs.declared.kinds.Kind.{Kind}
-use Rattle.pylex.specs.declared.kinds.Kind.TheVariants as kinds
+use Rattle.pylex.specs.declared.kind.Kind.{Kind}
+use Rattle.pylex.specs.declared.kind.Kind.TheVariants as kinds
 use Rattle.pylex.specs.declared.entries.Entry.{Entry}
 use Rattle.pytoken.specs.Inner.Behind.{behind}
 use Rattle.pytoken.specs.Terminals
@@ -15,7 +16,7 @@ use Rattle.pylex.specs.declared.entries.Step.{Step}
 use Rattle.pylex.specs.declared.entries.Step.TheVariants as steps
 use Rattle.pylex.specs.Laws.{LiesIn, HasExact}
 use Rattle.pylex.specs.Listing.{Source, in_characters, listing}
-use Rattle.pylex.specs.Listers.{Listed, StandsIn, Moves}
+use Rattle.pylex.specs.Listers.{Listed, StandsIn, NextStep}
 use Rattle.pylex.proofs.Callers.{entry_lies}
 use Rattle.pylex.specs.Steps.{entries_of, most_entries}
 use Rattle.pytoken.specs.Tokens.{Token, Line, text_of, token_of, is_open, level_behind, tokens_from, lines_from, tokens, lines}
@@ -168,7 +169,7 @@ pub record Read (p : Parts) (old new : Listed) (e : Entry) : Type 0 where
   pub grown : take (old.shown.given + 1) (entries_of (listing (in_characters p))) ≡ take old.shown.given (entries_of (listing (in_characters p))) ++ e ∷ []
   pub stands : StandsIn new (in_characters p) new.shown.given
 
-pub entry_read : (p : Parts) (old new : Listed) (g : LineGather) (step : Step) (e : Entry) → StandsAt p old g → Moves old step new → step ≡ steps.Entry e →
+pub entry_read : (p : Parts) (old new : Listed) (g : LineGather) (step : Step) (e : Entry) → StandsAt p old g → NextStep old step new → step ≡ steps.Entry e →
     Read p old new e
 entry_read p old new g step e had moves is =
     let s = in_characters p in

@@ -1,8 +1,9 @@
--- Carries: read_line. On: the tokens and the logical lines of a front of a listing, with one entry more, and what stands behind it.
+-- Carries: read_line. On: the tokens and the logical lines of a front of a listing, with one entry
+-- more, and what stands behind it.
 use Rattle.std.proofs.Common.{◌≡◌, ℕ, ◌<◌, Bool, true, false, List, [], ◌∷◌, ◌++◌, length, refl, sym, ap, ◌∙◌, append_assoc, arith, length-append}
 use Rattle.std.specs.Prelude.{count_by, if◌then◌else◌}
-use Rattle.pylex.specs.declared.kinds.Kind.{Kind}
-use Rattle.pylex.specs.declared.kinds.Kind.TheVariants as kinds
+use Rattle.pylex.specs.declared.kind.Kind.{Kind}
+use Rattle.pylex.specs.declared.kind.Kind.TheVariants as kinds
 use Rattle.pylex.specs.declared.entries.Entry.{Entry}
 use Rattle.pytoken.specs.Inner.Behind.{behind}
 use Rattle.pytoken.specs.Tokens.{Token, Line, text_of, token_of, supplied, is_open, tokens_of_entry, tokens_from, level_behind, lines_from}

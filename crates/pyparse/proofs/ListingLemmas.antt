@@ -8,7 +8,7 @@ use Rattle.pylex.specs.declared.entries.Step.{Step}
 use Rattle.pylex.specs.declared.entries.Step.TheVariants as steps
 use Rattle.pylex.specs.Steps.{entries_of, fault_of, entries_in}
 use Rattle.pylex.specs.Listing.{Source, listing}
-use Rattle.pylex.specs.Listers.{Listed, StandsIn, Moves}
+use Rattle.pylex.specs.Listers.{Listed, StandsIn, NextStep}
 use Rattle.pylex.specs.Laws.{IsStop, AreWhole, AllLie}
 
 walk_entry : (es : List Entry) (last : Step) → IsStop last → (k : ℕ) (e : Entry) →
@@ -59,7 +59,7 @@ at_stop ss k s whole within stops h =
     )
 
 -- a move of a lister, by the step that came
-pub moved : (old new : Listed) (step came : Step) (s : Source) (k : ℕ) → Moves old step new → step ≡ came → StandsIn old s k →
+pub moved : (old new : Listed) (step came : Step) (s : Source) (k : ℕ) → NextStep old step new → step ≡ came → StandsIn old s k →
     (slice_get (listing s) k ≡ Some came) × StandsIn new s (k + entries_in came)
 moved old new step came s k moves is stands =
     let m = moves s k stands in

@@ -1,4 +1,5 @@
--- Carries: drop_wider, Indents::take. On: lines that rise by both widths, of which the last decides for all.
+-- Carries: drop_wider, Indents::take. On: lines that rise by both widths, of which
+-- the last decides for all.
 use Rattle.std.proofs.Common.{◌≡◌, ℕ, ◌<◌, Bool, true, false, not, ◌&&◌, ◌||◌, List, [], ◌∷◌, ◌++◌, ◌+◌, ◌-◌, length, take, drop, refl, sym, ap, ap₂, ◌∙◌}
 use Rattle.std.proofs.Common.{inl, inr, arith, take-append-drop, Some, append-nil}
 use Rattle.std.specs.Prelude.{nat_lt, nat_le, filter, slice_get}
@@ -258,7 +259,8 @@ all_less (u ∷ ws) v w below last =
     let more = all_less ws v w parts.1 last in
     (rw alike more.0, rw eight (ap (λ (vs : List Widths). u ∷ vs) more.1))
 
--- the last that stands is narrower, and so are all before it: what is alike with it is alike with them
+-- the last that stands is narrower, and so are all before it: what is alike
+-- with it is alike with them
 pub stops_narrower : (start ws : List Widths) (v w : Widths) → Dropped start (ws ++ v ∷ []) w → are_alike v w ≡ true
     → nat_lt v.eight w.eight ≡ true → are_rising start ≡ true → Drops start (ws ++ v ∷ []) w false
 stops_narrower start ws v w had alike below rising =

@@ -8,7 +8,8 @@ ghost use Rattle.pygrammar.specs.Laws.{GrammarIsLawful};
 ghost use Rattle.pynode.specs.TreeOf.{tree_of};
 ghost use Rattle.pyvalue.specs.Terminals.{terminal};
 ghost use Rattle.pyparse.specs.Answers.{Tells};
-ghost use Rattle.pyparse.specs.Expressions.{first_place, first_refusal, terminals, token_refusal, Refuses};
+ghost use Rattle.pyparse.specs.Expressions.{first_place, first_refusal, terminals, token_refusal};
+ghost use Rattle.pyparse.specs.Expressions.{Refuses};
 
 use crate::faults::{GrammarError, ParseFault};
 use crate::tokens::Token;
@@ -22,7 +23,8 @@ use std::alloc::{AllocError, Global};
 
 /// What a token is to the grammar.
 fn terminal_at<'a>(alloc: Global, token: Token<'a>) -> Result<Terminal<'a>, ParseFault>
-    ensures terminal { IfOk result (λ made. map terminal (made ∷ []) ≡ terminals (token.entry ∷ [])) }
+    ensures terminal { IfOk result
+        (λ made. map terminal (made ∷ []) ≡ terminals (token.entry ∷ [])) }
     ensures sound { OnOk result (token_refusal token.entry ≡ None) }
     ensures refused { IfErr result (Tells (token_refusal token.entry)) }
 {
@@ -82,7 +84,9 @@ pub fn parse_expression(
     tokens: &[Token<'_>],
     level: Level,
 ) -> Result<Expr, ParseFault>
-    ensures expression { IfOk result (λ e. (first_refusal tokens.now ≡ None) × IsExpression level (terminals tokens.now) (tree_of e)) }
+    ensures expression { IfOk result
+        (λ e. (first_refusal tokens.now ≡ None)
+        × IsExpression level (terminals tokens.now) (tree_of e)) }
     ensures refused { IfErr result (Refuses level tokens.now) }
     ensures lawful { GrammarIsLawful }
 {

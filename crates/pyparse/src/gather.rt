@@ -46,7 +46,9 @@ fn push<'a>(
     start: Place,
     text: &'a str,
 ) -> Result<(), AllocError>
-    ensures { OnOk result (Grows tokens.old.items tokens.new.items (record { kind = kind; start = start; text = chars text.now } ∷ [])) }
+    ensures { OnOk result
+        (Grows tokens.old.items tokens.new.items
+        (record { kind = kind; start = start; text = chars text.now } ∷ [])) }
 {
     tokens.push(Token { kind, start, text })?;
     Ok(())
@@ -59,14 +61,17 @@ fn push_entry<'a>(
     entry: &Entry,
 ) -> Result<(), AllocError>
     requires { LiesIn source.now.text entry.now }
-    ensures { OnOk result (Grows tokens.old.items tokens.new.items (text_token (chars source.now.text) entry.now ∷ [])) }
+    ensures { OnOk result
+        (Grows tokens.old.items tokens.new.items
+        (text_token (chars source.now.text) entry.now ∷ [])) }
 {
     push(tokens, entry.kind, entry.start, text_of(source, entry))
 }
 
 /// Appends the NEWLINE that stands for a missing one.
 fn push_newline<'a>(tokens: &mut Vec<Token<'a>>, source: &'a Source) -> Result<(), AllocError>
-    ensures { OnOk result (Grows tokens.old.items tokens.new.items (supplied (chars source.now.text) ∷ [])) }
+    ensures { OnOk result
+        (Grows tokens.old.items tokens.new.items (supplied (chars source.now.text) ∷ [])) }
 {
     let text = source.text();
     push(tokens, Kind::Newline, place_of(text, text.len()), "")
@@ -80,7 +85,9 @@ fn push_given<'a>(
     begun: bool,
 ) -> Result<(), AllocError>
     requires { LiesIn source.now.text entry.now }
-    ensures { OnOk result (Grows tokens.old.items tokens.new.items (tokens_of_entry (chars source.now.text) begun entry.now)) }
+    ensures { OnOk result
+        (Grows tokens.old.items tokens.new.items
+        (tokens_of_entry (chars source.now.text) begun entry.now)) }
 {
     match entry.kind {
         Kind::Encoding | Kind::Comment | Kind::Nl => Ok(()),

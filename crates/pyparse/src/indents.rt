@@ -11,7 +11,7 @@ ghost use Rattle.pyparse.specs.Inner.Indenting.{is_logical_at, start_at, are_ris
 ghost use Rattle.pyparse.specs.Inner.Indenting.{AreSpaces, begins_blank, Drops, Measures};
 
 use crate::room::put;
-use pylex::{Widths, begins_thing, widths};
+use pylex::{Widths, begins_significant, widths};
 use pysource::{Place, Source, place_of};
 use pytoken::Refusal;
 use std::alloc::{AllocError, Global};
@@ -70,7 +70,7 @@ fn is_logical_at(source: &Source, offset: usize) -> bool
     ensures line { chars (drop offset source.now.text)
         ≡ behind_offset (chars source.now.text) offset }
 {
-    begins_thing(behind_blanks(&source.text()[offset..]))
+    begins_significant(behind_blanks(&source.text()[offset..]))
 }
 
 /// The place of the first character that isn't a blank, in the line that begins at an offset.
@@ -90,8 +90,8 @@ fn are_alike(one: Widths, other: Widths) -> bool
         && (other.eight < one.eight) == (other.one < one.one)
 }
 
-/// Drops those that aren't narrower than a line, from the last on, up to one that the line stands in
-/// another order to; whether there is one among them all.
+/// Drops those that aren't narrower than a line, from the last on, up to one that the line stands
+/// in another order to; whether there is one among them all.
 ///
 /// Those that stay rise by both widths, so the last of them decides for all.
 fn drop_wider(standing: &mut Vec<Widths>, widths: Widths) -> bool
@@ -192,7 +192,7 @@ impl Indents {
         if begins_blank(behind) {
             return self.take_any(source, offset);
         }
-        if !begins_thing(behind) {
+        if !begins_significant(behind) {
             return Ok(());
         }
         let widths = Widths {

@@ -1,7 +1,8 @@
 //! What one pass over a listing gathers of its lines: the tokens of the one that is open, and the
 //! first faults.
 
-ghost use Rattle.std.specs.Prelude.{◌≡◌, ◌^◌, ◌<◌, ◌-◌, ◌++◌, ◌&&◌, [], ◌∷◌, map, IfOk, OnOk, None, true, false};
+ghost use Rattle.std.specs.Prelude.{◌≡◌, ◌^◌, ◌<◌, ◌-◌, ◌++◌, ◌&&◌, [], ◌∷◌, map, IfOk, OnOk, None};
+ghost use Rattle.std.specs.Prelude.{true, false};
 ghost use Rattle.std.specs.Str.{chars, IsCharBoundary};
 ghost use Rattle.pylex.specs.Laws.{LiesIn, HasExact};
 ghost use Rattle.pytoken.specs.Refusals.{entry_refusal};
@@ -116,11 +117,19 @@ impl<'a> LineGather<'a> {
         text: &'a str,
         terminal: Terminal<'a>,
     ) -> Result<(), AllocError>
-        ensures terminals { OnOk result (self.new.terminals.items ≡ self.old.terminals.items ++ terminal.entry ∷ []) }
+        ensures terminals { OnOk result
+            (self.new.terminals.items ≡ self.old.terminals.items ++ terminal.entry ∷ []) }
         ensures start { self.new.start ≡ of_first self.old.terminals.items self.old.start start }
-        ensures first { chars self.new.first.now ≡ of_first self.old.terminals.items (chars self.old.first.now) (chars text.now) }
+        ensures first { chars self.new.first.now
+            ≡ of_first self.old.terminals.items (chars self.old.first.now) (chars text.now) }
         ensures last { chars self.new.last.now ≡ chars text.now }
-        ensures rest { self.new ≡ record self.old { terminals = self.new.terminals; start = self.new.start; first = self.new.first; last = self.new.last } }
+        ensures rest { self.new
+            ≡ record self.old {
+              terminals = self.new.terminals;
+              start = self.new.start;
+              first = self.new.first;
+              last = self.new.last;
+            } }
     {
         if self.terminals.is_empty() {
             self.start = start;
@@ -140,9 +149,18 @@ impl<'a> LineGather<'a> {
     ) -> Result<Option<Refusal>, AllocError>
         requires lies { LiesIn source.now.text entry.now }
         requires exact { HasExact (chars source.now.text) entry.now }
-        ensures fault { IfOk result (λ fault. fault ≡ entry_refusal (chars source.now.text) entry.now) }
-        ensures line { OnOk result (entry_refusal (chars source.now.text) entry.now ≡ None → Adds (chars source.now.text) entry.now self.old self.new) }
-        ensures rest { self.new ≡ record self.old { terminals = self.new.terminals; start = self.new.start; first = self.new.first; last = self.new.last } }
+        ensures fault { IfOk result
+            (λ fault. fault ≡ entry_refusal (chars source.now.text) entry.now) }
+        ensures line { OnOk result
+            (entry_refusal (chars source.now.text) entry.now ≡ None
+            → Adds (chars source.now.text) entry.now self.old self.new) }
+        ensures rest { self.new
+            ≡ record self.old {
+              terminals = self.new.terminals;
+              start = self.new.start;
+              first = self.new.first;
+              last = self.new.last;
+            } }
     {
         let text = text_of(source, entry);
         // An operator is known by the entry, and has no fault.
@@ -170,7 +188,12 @@ impl<'a> LineGather<'a> {
         ensures level { ends ≡ true → self.new.level ≡ self.old.indents - self.old.dedents }
         ensures indents { self.new.indents ≡ counted self.old.indents (is_indent kind) }
         ensures dedents { self.new.dedents ≡ counted self.old.dedents (is_dedent kind) }
-        ensures rest { self.new ≡ record self.old { level = self.new.level; indents = self.new.indents; dedents = self.new.dedents } }
+        ensures rest { self.new
+            ≡ record self.old {
+              level = self.new.level;
+              indents = self.new.indents;
+              dedents = self.new.dedents;
+            } }
     {
         if ends {
             self.level = self.indents.saturating_sub(self.dedents);

@@ -2,7 +2,8 @@
 //!
 //! Python language reference, 2.1.1 "Logical lines".
 
-ghost use Rattle.std.specs.Prelude.{◌≡◌, ◌+◌, ℕ, true, false, length, map, Bool, Some, None, Result, IfOk, IfErr, if◌then◌else◌};
+ghost use Rattle.std.specs.Prelude.{◌≡◌, ◌+◌, ℕ, true, false, length, map, Bool, Some, None};
+ghost use Rattle.std.specs.Prelude.{Result, IfOk, IfErr, if◌then◌else◌};
 ghost use Rattle.pylex.specs.Listing.{in_characters};
 ghost use Rattle.pyvalue.specs.Terminals.{terminal};
 ghost use Rattle.pytoken.specs.Tokens.{lines};
@@ -42,11 +43,17 @@ fn read_line<'a>(
     gather: &mut LineGather<'a>,
 ) -> Result<bool, ParseFault>
     requires { StandsBetween source.now lister.old gather.old }
-    ensures line { IfOk result (λ more. more ≡ true → ReadsLine source.now lister.old lister.new gather.new) }
-    ensures same { IfOk result (λ more. more ≡ false → lines_given source.now lister.new ≡ lines_given source.now lister.old) }
-    ensures all { IfOk result (λ more. more ≡ false → lines_given source.now lister.new ≡ length (lines (in_characters source.now))) }
+    ensures line { IfOk result
+        (λ more. more ≡ true → ReadsLine source.now lister.old lister.new gather.new) }
+    ensures same { IfOk result
+        (λ more. more ≡ false
+        → lines_given source.now lister.new ≡ lines_given source.now lister.old) }
+    ensures all { IfOk result
+        (λ more. more ≡ false
+        → lines_given source.now lister.new ≡ length (lines (in_characters source.now))) }
     ensures sound { IfOk result (λ more. more ≡ false → refusal (in_characters source.now) ≡ None) }
-    ensures marker { IfOk result (λ more. more ≡ false → EndsAt (in_characters source.now) gather.new.marker) }
+    ensures marker { IfOk result
+        (λ more. more ≡ false → EndsAt (in_characters source.now) gather.new.marker) }
     ensures refused { IfErr result (Tells (refusal (in_characters source.now))) }
 {
     gather.clear();
@@ -145,9 +152,9 @@ impl<'a> LogicalLines<'a> {
     /// Goes to the next line: whether there is one. Once there is none, or an error was told, each
     /// later call answers the same, and changes nothing.
     ///
-    /// The room of the terminals is used again for each line. Besides, memory is taken only where an
-    /// INDENT comes, for the widths of the lines' indentations, and, to find its fault, for a name
-    /// with characters past ASCII.
+    /// The room of the terminals is used again for each line. Besides, memory is taken only where
+    /// an INDENT comes, for the widths of the lines' indentations, and, to find its fault, for a
+    /// name with characters past ASCII.
     ///
     /// # Errors
     ///
@@ -155,14 +162,22 @@ impl<'a> LogicalLines<'a> {
     /// [`tokens_of`](crate::tokens_of) tells it. It may come behind lines that were given.
     pub fn next(&mut self) -> Result<bool, ParseFault>
         ensures source { self.new.source ≡ self.old.source }
-        ensures line { IfOk result (λ more. more ≡ true → HoldsLine (in_characters self.old.source) self.old.given self.new) }
-        ensures given { IfOk result (λ more. self.new.given ≡ (if more then self.old.given + 1 else self.old.given)) }
-        ensures all { IfOk result (λ more. more ≡ false → self.old.given ≡ length (lines (in_characters self.old.source))) }
-        ensures sound { IfOk result (λ more. more ≡ false → refusal (in_characters self.old.source) ≡ None) }
-        ensures end { IfOk result (λ more. more ≡ false → EndsAt (in_characters self.old.source) self.new.marker) }
+        ensures line { IfOk result
+            (λ more. more ≡ true
+            → HoldsLine (in_characters self.old.source) self.old.given self.new) }
+        ensures given { IfOk result
+            (λ more. self.new.given ≡ (if more then self.old.given + 1 else self.old.given)) }
+        ensures all { IfOk result
+            (λ more. more ≡ false
+            → self.old.given ≡ length (lines (in_characters self.old.source))) }
+        ensures sound { IfOk result
+            (λ more. more ≡ false → refusal (in_characters self.old.source) ≡ None) }
+        ensures end { IfOk result
+            (λ more. more ≡ false → EndsAt (in_characters self.old.source) self.new.marker) }
         ensures refused { IfErr result (Tells (refusal (in_characters self.old.source))) }
         ensures outcome { self.new.outcome ≡ outcome_of result }
-        ensures again { (answer : Result Bool ParseFault) → self.old.outcome ≡ Some answer → (result ≡ answer) × (self.new ≡ self.old) }
+        ensures again { (answer : Result Bool ParseFault) → self.old.outcome ≡ Some answer
+            → (result ≡ answer) × (self.new ≡ self.old) }
     {
         if let Some(outcome) = self.outcome {
             return outcome;

@@ -19,8 +19,8 @@ use std::alloc::Global;
 /// The tree of a source, in a version of Python. At most 500 expressions stand in one another, and
 /// at most 500 statements.
 ///
-/// It is one pass: what is held of the source are the tokens of one line, the statements so far, and
-/// the levels that are open.
+/// It is one pass: what is held of the source are the tokens of one line, the statements so far,
+/// and the levels that are open.
 ///
 /// # Errors
 ///
@@ -32,7 +32,8 @@ use std::alloc::Global;
 /// `TooDeep`. Its place is where the line starts, that of the end where ENDMARKER does.
 #[tactic(auto, using(pygrammar::proofs::SourceLaw::lines_are_lawful, pygrammar::proofs::SourceLaw::blocks_are_lawful, pygrammar::proofs::SourceLaw::answers_are_lawful))]
 pub fn parse(alloc: Global, source: &Source, profile: Profile) -> Result<Module, ParseFault>
-    ensures accepted { IfOk result (λ m. Accepted profile (in_characters source.now) (module_of m)) }
+    ensures accepted { IfOk result
+        (λ m. Accepted profile (in_characters source.now) (module_of m)) }
     ensures refused { IfErr result (Refuses profile (in_characters source.now)) }
     ensures forms { LinesAreLawful }
     ensures trees { BlocksAreLawful }

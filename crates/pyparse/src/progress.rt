@@ -12,7 +12,8 @@ ghost use Rattle.pyoutline.specs.declared.outlines.Outline.{Outline};
 ghost use Rattle.pyline.specs.Lines.{Refused};
 ghost use Rattle.pyparse.specs.LineReadings.{HoldsLine};
 ghost use Rattle.pyparse.specs.Modules.{code_of, Refuses};
-ghost use Rattle.pyparse.specs.Inner.Progressing.{is_unread, IsSound, IsDeepAt, IsKnown, Comes, Closes, TellsFault};
+ghost use Rattle.pyparse.specs.Inner.Progressing.{is_unread, IsSound, IsDeepAt, IsKnown, Comes};
+ghost use Rattle.pyparse.specs.Inner.Progressing.{Closes, TellsFault};
 
 use crate::faults::{GrammarError, ParseFault};
 use crate::logical_lines::LogicalLines;
@@ -40,7 +41,8 @@ fn block_error(stop: Stop) -> Result<GrammarError, AllocError>
 
 /// The error of a line that has no form, by whether it looks like a `match` statement.
 fn line_error(stop: pyexpr::Stop, like_match: bool) -> Result<GrammarError, AllocError>
-    ensures { (profile : Profile) (x : Line) → Refused stop profile (terminals x) → like_match ≡ is_match x.tokens → IfOk result (λ e. Unread profile x (code_of e)) }
+    ensures { (profile : Profile) (x : Line) → Refused stop profile (terminals x)
+        → like_match ≡ is_match x.tokens → IfOk result (λ e. Unread profile x (code_of e)) }
 {
     match stop {
         pyexpr::Stop::NoForm => Ok(if like_match {
@@ -77,7 +79,9 @@ fn grow(
     form: Form,
     start: Place,
 ) -> Result<Progress, AllocError>
-    ensures { (profile : Profile) (s : Source) (k : ℕ) → IsSound profile s k outline blocks → Comes profile s k (line level (form_of form)) start → IfOk result (IsKnown profile s (k + 1)) }
+    ensures { (profile : Profile) (s : Source) (k : ℕ) → IsSound profile s k outline blocks
+        → Comes profile s k (line level (form_of form)) start
+        → IfOk result (IsKnown profile s (k + 1)) }
 {
     match outline.step(alloc, level, &form) {
         Ok(false) => {}
@@ -113,7 +117,9 @@ fn sink(
     form: Form,
     start: Place,
 ) -> Result<Progress, AllocError>
-    ensures { (profile : Profile) (s : Source) (k : ℕ) → IsDeepAt profile s k outline deep → Comes profile s k (line level (form_of form)) start → IfOk result (IsKnown profile s (k + 1)) }
+    ensures { (profile : Profile) (s : Source) (k : ℕ) → IsDeepAt profile s k outline deep
+        → Comes profile s k (line level (form_of form)) start
+        → IfOk result (IsKnown profile s (k + 1)) }
 {
     match outline.step(alloc, level, &form) {
         Ok(_) => {
@@ -134,8 +140,11 @@ fn sink(
 
 /// The module of sound lines, behind the last one.
 fn finish_sound(alloc: Global, blocks: Blocks, end: Place) -> Result<Module, ParseFault>
-    ensures accepted { (profile : Profile) (s : Source) (k : ℕ) (outline : Outline) → IsSound profile s k outline blocks → Closes s k end → IfOk result (λ m. Accepted profile s (module_of m)) }
-    ensures refused { (profile : Profile) (s : Source) (k : ℕ) (outline : Outline) → IsSound profile s k outline blocks → Closes s k end → IfErr result (Refuses profile s) }
+    ensures accepted { (profile : Profile) (s : Source) (k : ℕ) (outline : Outline)
+        → IsSound profile s k outline blocks → Closes s k end
+        → IfOk result (λ m. Accepted profile s (module_of m)) }
+    ensures refused { (profile : Profile) (s : Source) (k : ℕ) (outline : Outline)
+        → IsSound profile s k outline blocks → Closes s k end → IfErr result (Refuses profile s) }
 {
     match blocks.finish(alloc) {
         Ok(body) => Ok(Module { body }),
@@ -145,7 +154,8 @@ fn finish_sound(alloc: Global, blocks: Blocks, end: Place) -> Result<Module, Par
 
 /// The refusal of lines with a statement that stands too deep, behind the last one.
 fn finish_deep(outline: &Outline, deep: Place, end: Place) -> ParseFault
-    ensures { (profile : Profile) (s : Source) (k : ℕ) → IsDeepAt profile s k outline.now deep → Closes s k end → Refuses profile s result }
+    ensures { (profile : Profile) (s : Source) (k : ℕ) → IsDeepAt profile s k outline.now deep
+        → Closes s k end → Refuses profile s result }
 {
     match outline.finish() {
         Ok(()) => ParseFault::Grammar(GrammarError::TooDeep, deep),
@@ -193,7 +203,9 @@ impl Progress {
         form: Form,
         start: Place,
     ) -> Result<Progress, AllocError>
-        ensures { (profile : Profile) (s : Source) (k : ℕ) → IsKnown profile s k self → Comes profile s k (line level (form_of form)) start → IfOk result (IsKnown profile s (k + 1)) }
+        ensures { (profile : Profile) (s : Source) (k : ℕ) → IsKnown profile s k self
+            → Comes profile s k (line level (form_of form)) start
+            → IfOk result (IsKnown profile s (k + 1)) }
     {
         match self {
             Progress::Sound { outline, blocks } => {
@@ -234,7 +246,9 @@ impl Progress {
         profile: Profile,
     ) -> Result<Progress, AllocError>
         requires { is_unread self ≡ false }
-        ensures { (k : ℕ) → HoldsLine (in_characters lines.now.source) k lines.now → IsKnown profile (in_characters lines.now.source) k self → IfOk result (IsKnown profile (in_characters lines.now.source) (k + 1)) }
+        ensures { (k : ℕ) → HoldsLine (in_characters lines.now.source) k lines.now
+            → IsKnown profile (in_characters lines.now.source) k self
+            → IfOk result (IsKnown profile (in_characters lines.now.source) (k + 1)) }
     {
         match read_line(alloc, lines.terminals(), profile) {
             Ok(form) => self.place(alloc, lines.level(), form, lines.start()),
@@ -256,7 +270,9 @@ impl Progress {
         lines: &LogicalLines<'_>,
         profile: Profile,
     ) -> Result<Progress, AllocError>
-        ensures { (k : ℕ) → HoldsLine (in_characters lines.now.source) k lines.now → IsKnown profile (in_characters lines.now.source) k self → IfOk result (IsKnown profile (in_characters lines.now.source) (k + 1)) }
+        ensures { (k : ℕ) → HoldsLine (in_characters lines.now.source) k lines.now
+            → IsKnown profile (in_characters lines.now.source) k self
+            → IfOk result (IsKnown profile (in_characters lines.now.source) (k + 1)) }
     {
         if self.is_unread() {
             return Ok(self);
@@ -266,8 +282,10 @@ impl Progress {
 
     /// The module, or the first refusal, behind the last line: where the source ends.
     pub(crate) fn finish(self, alloc: Global, end: Place) -> Result<Module, ParseFault>
-        ensures accepted { (profile : Profile) (s : Source) (k : ℕ) → IsKnown profile s k self → Closes s k end → IfOk result (λ m. Accepted profile s (module_of m)) }
-        ensures refused { (profile : Profile) (s : Source) (k : ℕ) → IsKnown profile s k self → Closes s k end → IfErr result (Refuses profile s) }
+        ensures accepted { (profile : Profile) (s : Source) (k : ℕ) → IsKnown profile s k self
+            → Closes s k end → IfOk result (λ m. Accepted profile s (module_of m)) }
+        ensures refused { (profile : Profile) (s : Source) (k : ℕ) → IsKnown profile s k self
+            → Closes s k end → IfErr result (Refuses profile s) }
     {
         match self {
             Progress::Sound { outline: _, blocks } => finish_sound(alloc, blocks, end),

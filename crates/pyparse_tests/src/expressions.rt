@@ -1,4 +1,5 @@
-//! Expressions: their trees as Python 3.11 dumps them without the names of fields, and what is none.
+//! Expressions: their trees as Python 3.11 dumps them without the names of fields, and what is
+//! none.
 
 use crate::sources::source_of;
 use pydump::{Style, dump_expr};

@@ -1,5 +1,5 @@
-//! Tests of `pyparse`: rows whose outcome was taken from Python 3.11 (`ast.literal_eval`, `ast.parse`), and each call once where all
-//! goes well.
+//! Tests of `pyparse`: rows whose outcome was taken from Python 3.11 (`ast.literal_eval`,
+//! `ast.parse`), and each call once where all goes well.
 #![tactic(auto)]
 
 #[cfg(test)]

@@ -1,7 +1,8 @@
 //! Whether expressions are equal.
 
 ghost use Rattle.std.specs.Prelude.{◌≡◌, ◌↔◌, IsTrue, map};
-ghost use Rattle.pynode.specs.TreeOf.{arg_of, arg_option_of, arguments_of, boxed_of, comprehension_of, keyword_of, option_of, tree_of};
+ghost use Rattle.pynode.specs.TreeOf.{arg_of, arg_option_of, arguments_of, boxed_of};
+ghost use Rattle.pynode.specs.TreeOf.{comprehension_of, keyword_of, option_of, tree_of};
 
 use crate::leaves::{same_comparisons, same_constant, same_name, same_optional_name};
 use pynode::{Arg, Arguments, Comprehension, Expr, Keyword};

@@ -1,22 +1,5 @@
 pub mod Callers
-mod Tests
-mod Levels
-mod Entries
-mod TargetShapes
-mod Arranging
-mod Fits
-mod AsSpelled
-mod Places
-mod Making
-mod Calls
-mod Parameters
-mod Gives
-mod Exactly
-mod Dots
-mod FormFits
-mod BlockFits
-mod FormGives
-mod BlockGives
-mod Scalars
-mod Tokens
-mod Modules
+mod Fields
+mod Fitting
+mod Giving
+mod Exactness

@@ -1,20 +1,6 @@
-pub mod PlacesLemmas
-pub mod Categories
-pub mod ReprsLemmas
-pub mod CookiesLemmas
-pub mod ReturnsLemmas
-pub mod LinesLemmas
-pub mod BadLemmas
-pub mod CutLemmas
-pub mod Examples
-pub mod ByteLemmas
-pub mod PushReprLemmas
-pub mod CharPlaces
-pub mod BufferLemmas
-pub mod TakingLemmas
-pub mod ComingLemmas
-pub mod StreamLemmas
-pub mod MovesLemmas
-pub mod HeadLemmas
-pub mod OpenLemmas
-pub mod GoodLemmas
+mod Offsets
+pub mod Printing
+mod LineReading
+pub mod FaultyLines
+mod Examples
+pub mod TakenBytes

@@ -4,9 +4,9 @@ use Rattle.pysource.specs.Cookies.{without_mark}
 use Rattle.pysource.specs.Sources.{nth_line}
 use Rattle.pysource.specs.Streams.{FollowsAt, searches_second, decides, head_len}
 use Rattle.pysource.specs.declared.buffers.Intake.{Intake}
-use Rattle.pysource.specs.declared.streams.Reach.TheVariants.{Reading, End, Broken, Passed}
-use Rattle.pysource.specs.declared.streams.StreamFault.{StreamFault}
-use Rattle.pysource.specs.declared.streams.StreamFault.TheVariants.{UnsupportedEncoding, BomConflict, Read, Memory}
+use Rattle.pysource.specs.declared.line_reader.Reach.TheVariants.{Reading, End, Broken, Passed}
+use Rattle.pysource.specs.declared.line_reader.StreamFault.{StreamFault}
+use Rattle.pysource.specs.declared.line_reader.StreamFault.TheVariants.{UnsupportedEncoding, BomConflict, Read, Memory}
 
 -- Where the first line ends, and the second: whatever follows. Where the second isn't searched, its end is of no account.
 pub record Head (i : Intake) (first second : ℕ) : Type 0 where

@@ -18,12 +18,12 @@ use Rattle.pysource.specs.declared.encodings.SourceFault.TheVariants as cookies
 use Rattle.pysource.specs.declared.faults.LineFault.{LineFault}
 use Rattle.pysource.specs.declared.faults.LineError.{LineError}
 use Rattle.pysource.specs.declared.faults.LineError.TheVariants.{Unread}
-use Rattle.pysource.specs.declared.streams.Reach.{Reach}
-use Rattle.pysource.specs.declared.streams.Reach.TheVariants.{Reading, End, Broken, Passed}
-use Rattle.pysource.specs.declared.streams.Line.{Line}
-use Rattle.pysource.specs.declared.streams.Line.TheVariants as lines
-use Rattle.pysource.specs.declared.streams.StreamFault.{StreamFault}
-use Rattle.pysource.specs.declared.streams.StreamFault.TheVariants.{UnsupportedEncoding, BomConflict, Read, Memory}
+use Rattle.pysource.specs.declared.line_reader.Reach.{Reach}
+use Rattle.pysource.specs.declared.line_reader.Reach.TheVariants.{Reading, End, Broken, Passed}
+use Rattle.pysource.specs.declared.line_reader.Line.{Line}
+use Rattle.pysource.specs.declared.line_reader.Line.TheVariants as lines
+use Rattle.pysource.specs.declared.line_reader.StreamFault.{StreamFault}
+use Rattle.pysource.specs.declared.line_reader.StreamFault.TheVariants.{UnsupportedEncoding, BomConflict, Read, Memory}
 
 -- the last byte is a line feed
 abbrev pub ends_line : List ℕ → Bool
@@ -152,7 +152,7 @@ abbrev pub IsText : Result Line AllocError → Type 0
 IsText result = result ≡ Ok lines.Text
 
 -- a call of `next_line`
-pub record Moves (come_old come_new : Option (List ℕ)) (told_old told_new : ℕ) (old new : Buffered) (chunk_old chunk_new : List ℕ) (result : Result Line AllocError) : Type 0 where
+pub record NextLine (come_old come_new : Option (List ℕ)) (told_old told_new : ℕ) (old new : Buffered) (chunk_old chunk_new : List ℕ) (result : Result Line AllocError) : Type 0 where
   pub taken : List ℕ
   pub line : List ℕ
   pub reads : Reads come_old come_new told_old told_new old new taken
@@ -200,6 +200,6 @@ pub record Refuses (come_old come_new : Option (List ℕ)) (told_old told_new : 
   pub explains : Explains fault reach (λ more broken. stream_of broken (taken ++ more))
 
 -- how an opening ended
-abbrev pub Opening : Option (List ℕ) → Option (List ℕ) → ℕ → ℕ → Result Buffered StreamFault → Type 0
-Opening come_old come_new told_old told_new (Ok b) = Opens come_old come_new told_old told_new b
-Opening come_old come_new told_old told_new (Err e) = Refuses come_old come_new told_old told_new e
+abbrev pub Open : Option (List ℕ) → Option (List ℕ) → ℕ → ℕ → Result Buffered StreamFault → Type 0
+Open come_old come_new told_old told_new (Ok b) = Opens come_old come_new told_old told_new b
+Open come_old come_new told_old told_new (Err e) = Refuses come_old come_new told_old told_new e

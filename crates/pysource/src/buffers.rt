@@ -2,13 +2,15 @@
 //!
 //! Bytes are read only into room that is already there, so that want of memory loses none.
 
-ghost use Rattle.std.specs.Prelude.{◌≡◌, ◌≢◌, ℕ, ◌+◌, ◌-◌, ◌^◌, ◌<◌, ◌≤◌, ◌++◌, [], length, take, drop, max, vec_len, OnOk, OnErr, IfOk, Ok, Err, Some, None, slice_index};
+ghost use Rattle.std.specs.Prelude.{◌≡◌, ◌≢◌, ℕ, ◌+◌, ◌-◌, ◌^◌, ◌<◌, ◌≤◌, ◌++◌, [], length, take};
+ghost use Rattle.std.specs.Prelude.{drop, max, vec_len, OnOk, OnErr, IfOk, Ok, Err, Some, None};
+ghost use Rattle.std.specs.Prelude.{slice_index};
 ghost use Rattle.pysource.specs.Bytes.{IsSteady};
 ghost use Rattle.pysource.specs.Limits.{source_limit};
 ghost use Rattle.pysource.specs.Taking.{Grows, GaveInto, FoundLine};
 
 use crate::bytes::{ByteIn, PIECE, SOURCE_LIMIT};
-use crate::streams::Reach;
+use crate::line_reader::Reach;
 use std::alloc::{AllocError, Global};
 use std::marker::Model;
 
@@ -37,7 +39,9 @@ fn make_room(room: &mut Vec<u8>, from: usize, to: usize) -> Result<(usize, usize
     requires within { to ≤ length room.old.items }
     ensures order { IfOk result (λ p. p.0 ≤ p.1) }
     ensures behind { IfOk result (λ p. p.1 < length room.new.items) }
-    ensures same { IfOk result (λ p. take (p.1 - p.0) (drop p.0 room.new.items) ≡ take (to - from) (drop from room.old.items)) }
+    ensures same { IfOk result
+        (λ p. take (p.1 - p.0) (drop p.0 room.new.items)
+        ≡ take (to - from) (drop from room.old.items)) }
     ensures err { OnErr result (room.new.items ≡ room.old.items) }
 {
     if to < room.len() {
@@ -88,8 +92,11 @@ impl Buffer {
     ) -> Result<Option<usize>, AllocError>
         requires possible { R.failure_count reader.old < 2 ^ 64 - 1 }
         requires some { 0 < most }
-        ensures gave { GaveInto (R.to_come reader.old) (R.to_come reader.new) (R.failure_count reader.old) (R.failure_count reader.new) most self.old self.new result }
-        ensures steady { IsSteady (R.may_fail reader.old) (R.may_fail reader.new) (R.failure_count reader.old) (R.failure_count reader.new) }
+        ensures gave { GaveInto (R.to_come reader.old) (R.to_come reader.new)
+            (R.failure_count reader.old)
+            (R.failure_count reader.new) most self.old self.new result }
+        ensures steady { IsSteady (R.may_fail reader.old) (R.may_fail reader.new)
+            (R.failure_count reader.old) (R.failure_count reader.new) }
     {
         let (from, to) = make_room(&mut self.room, self.from, self.to)?;
         self.from = from;
@@ -133,13 +140,17 @@ impl Intake {
         requires reading { self.old.reach ≡ Reach.Reading }
         requires possible { R.failure_count reader.old < 2 ^ 64 - 1 }
         requires within { self.old.count ≤ source_limit }
-        ensures grows { Grows (R.to_come reader.old) (R.to_come reader.new) (R.failure_count reader.old) (R.failure_count reader.new) self.old self.new }
+        ensures grows { Grows (R.to_come reader.old) (R.to_come reader.new)
+            (R.failure_count reader.old) (R.failure_count reader.new) self.old self.new }
         ensures within { self.new.count ≤ source_limit }
         ensures short { length self.new.buffer ≤ length self.old.buffer + 8_192 }
-        ensures more { OnOk result (self.new.reach ≡ Reach.Reading → self.old.count < self.new.count) }
+        ensures more { OnOk result
+            (self.new.reach ≡ Reach.Reading → self.old.count < self.new.count) }
         ensures same { self.new.reach ≢ Reach.Reading → self.new.buffer ≡ self.old.buffer }
-        ensures err { OnErr result ((self.new.reach ≡ Reach.Reading) × (self.new.buffer ≡ self.old.buffer)) }
-        ensures steady { IsSteady (R.may_fail reader.old) (R.may_fail reader.new) (R.failure_count reader.old) (R.failure_count reader.new) }
+        ensures err { OnErr result
+            ((self.new.reach ≡ Reach.Reading) × (self.new.buffer ≡ self.old.buffer)) }
+        ensures steady { IsSteady (R.may_fail reader.old) (R.may_fail reader.new)
+            (R.failure_count reader.old) (R.failure_count reader.new) }
     {
         let left = SOURCE_LIMIT - self.count;
         if left == 0 {
@@ -167,13 +178,16 @@ impl Intake {
         reader: &mut R,
         start: usize,
     ) -> Result<Option<usize>, AllocError>
-        requires possible { self.old.reach ≡ Reach.Reading → R.failure_count reader.old < 2 ^ 64 - 1 }
+        requires possible { self.old.reach ≡ Reach.Reading
+            → R.failure_count reader.old < 2 ^ 64 - 1 }
         requires within { self.old.count ≤ source_limit }
         requires start { start ≤ length self.old.buffer }
-        ensures grows { Grows (R.to_come reader.old) (R.to_come reader.new) (R.failure_count reader.old) (R.failure_count reader.new) self.old self.new }
+        ensures grows { Grows (R.to_come reader.old) (R.to_come reader.new)
+            (R.failure_count reader.old) (R.failure_count reader.new) self.old self.new }
         ensures within { self.new.count ≤ source_limit }
         ensures found { FoundLine start self.old self.new result }
-        ensures steady { IsSteady (R.may_fail reader.old) (R.may_fail reader.new) (R.failure_count reader.old) (R.failure_count reader.new) }
+        ensures steady { IsSteady (R.may_fail reader.old) (R.may_fail reader.new)
+            (R.failure_count reader.old) (R.failure_count reader.new) }
     {
         let mut searched = start;
         loop {

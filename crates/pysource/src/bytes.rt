@@ -5,10 +5,12 @@
 //! fail; a writer likewise tells those that it took. Each counts its failures, so that a caller
 //! can say of a whole run whether any read or write in it failed.
 
-ghost use Rattle.std.specs.Prelude.{◌≡◌, ◌≤◌, ℕ, ◌+◌, ◌-◌, ◌^◌, ◌<◌, Bool, true, List, Option, None, OnOk, OnErr, IfOk, IsErrOf, length, vec_len};
+ghost use Rattle.std.specs.Prelude.{◌≡◌, ◌≤◌, ℕ, ◌+◌, ◌-◌, ◌^◌, ◌<◌, Bool, true, List, Option};
+ghost use Rattle.std.specs.Prelude.{None, OnOk, OnErr, IfOk, IsErrOf, length, vec_len};
 ghost use Rattle.std.specs.Io.{ReadsAtMost, WritesAtMost};
 ghost use Rattle.std.specs.Io.KnownBytes.{ReadConsumes, WriteAppends, Appends, Consumes, IsAtEnd};
-ghost use Rattle.pysource.specs.Bytes.{read_failures, IsSteady, write_failures, TakesFront, GivesTooMany};
+ghost use Rattle.pysource.specs.Bytes.{read_failures, IsSteady, write_failures, TakesFront};
+ghost use Rattle.pysource.specs.Bytes.{GivesTooMany};
 ghost use Rattle.pysource.specs.Limits.{source_limit};
 
 use std::alloc::Global;
@@ -69,7 +71,8 @@ pub trait ByteOut {
         requires { failure_count self.old < 2 ^ 64 - 1 }
         ensures bound { WritesAtMost result buf.now }
         ensures bytes { WriteAppends (taken self.old) (taken self.new) result buf.now }
-        ensures failed { failure_count self.new ≡ failure_count self.old + write_failures result buf.now };
+        ensures failed { failure_count self.new
+            ≡ failure_count self.old + write_failures result buf.now };
 }
 
 impl<R: ByteIn> ByteIn for &mut R {
@@ -217,7 +220,8 @@ pub fn read_all<R: ByteIn>(alloc: Global, reader: &mut R) -> Result<Vec<u8>, Inp
     ensures memory { IsErrOf result InputFault.Memory →
         R.failure_count reader.new ≡ R.failure_count reader.old }
     ensures once { R.failure_count reader.new ≤ R.failure_count reader.old + 1 }
-    ensures steady { IsSteady (R.may_fail reader.old) (R.may_fail reader.new) (R.failure_count reader.old) (R.failure_count reader.new) }
+    ensures steady { IsSteady (R.may_fail reader.old) (R.may_fail reader.new)
+        (R.failure_count reader.old) (R.failure_count reader.new) }
 {
     let mut all = Vec::new(alloc);
     let mut piece = [0u8; PIECE];

@@ -6,7 +6,10 @@
 ghost use Rattle.std.specs.Prelude.{◌≡◌, ◌≤◌, ◌<◌, length, take, ◌==◌, IfOk, IsTrue};
 ghost use Rattle.std.specs.List.{prefix_len};
 ghost use Rattle.std.specs.Str.{IsAscii};
-ghost use Rattle.pysource.specs.Cookies.{is_blank, is_space_or_tab, is_cookie_byte, folded, is_spelled, declared_here, declared_first, cookie_of, leads_on, named_by, encoding_of, has_mark, without_mark, plain};
+ghost use Rattle.pysource.specs.Cookies.{is_blank, is_space_or_tab, is_cookie_byte, folded};
+ghost use Rattle.pysource.specs.Cookies.{is_spelled, declared_here, declared_first, cookie_of};
+ghost use Rattle.pysource.specs.Cookies.{leads_on, named_by, encoding_of, has_mark, without_mark};
+ghost use Rattle.pysource.specs.Cookies.{plain};
 
 use crate::places::Place;
 use std::marker::Model;

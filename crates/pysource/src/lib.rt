@@ -15,22 +15,24 @@
 
 mod buffers;
 mod bytes;
+mod chunks;
 mod encodings;
 mod faults;
+mod line_reader;
 mod places;
 mod reprs;
 mod sources;
-mod streams;
 
 pub use bytes::{
     ByteIn, ByteOut, Counted, InputFault, ReadFailed, SOURCE_LIMIT, WriteFailed, read_all,
     write_all,
 };
+pub use chunks::Chunks;
 pub use encodings::{Charset, Encoding, SourceFault, encoding_of};
 pub use faults::{LineError, LineFault};
+pub use line_reader::{Line, LineReader, Reach, StreamFault};
 pub use places::{Place, place_of};
 pub use reprs::{
     is_plain_text, push_repr, push_repr_bytes, push_repr_points, repr_bytes, repr_text,
 };
 pub use sources::{Source, decode};
-pub use streams::{Chunks, Line, LineReader, Reach, StreamFault};

@@ -3,12 +3,14 @@
 //! Python library reference, `repr` of the built-in functions, `str.isprintable` for the characters
 //! that are escaped, and "Bytes Objects" of the built-in types. Categories are those of Unicode 18.
 
-ghost use Rattle.std.specs.Prelude.{◌≡◌, ◌≤◌, ◌<◌, ◌+◌, ◌++◌, [], ◌∷◌, IfOk, IsUtf8, OnOk, true, length, All, if◌then◌else◌};
+ghost use Rattle.std.specs.Prelude.{◌≡◌, ◌≤◌, ◌<◌, ◌+◌, ◌++◌, [], ◌∷◌, IfOk, IsUtf8, OnOk, true};
+ghost use Rattle.std.specs.Prelude.{length, All, if◌then◌else◌};
 ghost use Rattle.std.specs.List.{list_all, prefix_len};
 ghost use Rattle.std.specs.Str.{chars, encode_utf8_all};
 ghost use Rattle.std.specs.Io.{StartsWith};
 ghost use Rattle.std.specs.String.{string_bytes};
-ghost use Rattle.pysource.specs.Reprs.{hex, escaped, hex_escape, quote_for, repr_bytes, repr_text, is_plain, is_unprintable, is_unprintable_byte};
+ghost use Rattle.pysource.specs.Reprs.{hex, escaped, hex_escape, quote_for, repr_bytes, repr_text};
+ghost use Rattle.pysource.specs.Reprs.{is_plain, is_unprintable, is_unprintable_byte};
 
 use std::alloc::{AllocError, Global};
 use unicode::properties::{GeneralCategory, GeneralCategoryGroup};
@@ -33,7 +35,7 @@ fn push_hex(out: &mut String, width: u32, number: u32) -> Result<(), AllocError>
 }
 
 /// Appends `\xhh`, `\uhhhh` or `\Uhhhhhhhh`, the shortest that holds the number.
-#[tactic(auto, using(crate::proofs::ReprsLemmas::encodes_hex_escape))]
+#[tactic(auto, using(crate::proofs::Printing::ReprsLemmas::encodes_hex_escape))]
 fn push_escape(out: &mut String, number: u32) -> Result<(), AllocError>
     ensures encoded { OnOk result
         (string_bytes out.new ≡ string_bytes out.old ++ encode_utf8_all (hex_escape number)) }
@@ -100,7 +102,7 @@ pub fn repr_bytes(alloc: Global, bytes: &[u8]) -> Result<String, AllocError>
 
 /// Appends the `repr` of bytes to an output, without memory of its own: what [`repr_bytes`] gives.
 /// Where the output can't grow, it keeps what it had, and may have taken a front of that.
-#[tactic(auto, using(crate::proofs::ReprsLemmas::kept_front))]
+#[tactic(auto, using(crate::proofs::Printing::ReprsLemmas::kept_front))]
 pub fn push_repr_bytes(out: &mut String, bytes: &[u8]) -> Result<(), AllocError>
     ensures ok { OnOk result (string_bytes out.new ≡ string_bytes out.old ++ repr_bytes bytes.now) }
     ensures kept { StartsWith (string_bytes out.new) (string_bytes out.old) }
@@ -116,7 +118,7 @@ pub fn push_repr_bytes(out: &mut String, bytes: &[u8]) -> Result<(), AllocError>
 }
 
 /// The character of a number, where it is one that is printed as it is.
-#[tactic(auto, using(crate::proofs::Categories::unprintable_no_character, crate::proofs::Categories::printable_ascii))]
+#[tactic(auto, using(crate::proofs::Printing::Categories::unprintable_no_character, crate::proofs::Printing::Categories::printable_ascii))]
 fn printable(point: u32) -> Option<char>
     ensures { result ≡ (if is_unprintable point then None else Some point) }
 {
@@ -193,7 +195,7 @@ pub fn repr_text(alloc: Global, points: &[u32]) -> Result<String, AllocError>
 /// own: what [`repr_text`] gives. A number past 10FFFF is no code point, and is escaped as one
 /// that is unprintable. Where the output can't grow, it keeps what it had, and may have taken a
 /// front of that.
-#[tactic(auto, using(crate::proofs::ReprsLemmas::more_encoded, crate::proofs::ReprsLemmas::kept_front))]
+#[tactic(auto, using(crate::proofs::Printing::ReprsLemmas::more_encoded, crate::proofs::Printing::ReprsLemmas::kept_front))]
 pub fn push_repr_points(out: &mut String, points: &[u32]) -> Result<(), AllocError>
     ensures ok { OnOk result (string_bytes out.new ≡ string_bytes out.old ++ repr_text points.now) }
     ensures kept { StartsWith (string_bytes out.new) (string_bytes out.old) }
@@ -242,7 +244,8 @@ fn split_plain(text: &str) -> (&str, &str)
 /// Appends the `repr` of a text that stands for itself: the text between single quotes.
 fn push_plain(out: &mut String, text: &str) -> Result<(), AllocError>
     requires { list_all is_plain text.now ≡ true }
-    ensures ok { OnOk result (string_bytes out.new ≡ string_bytes out.old ++ repr_text (chars text.now)) }
+    ensures ok { OnOk result
+        (string_bytes out.new ≡ string_bytes out.old ++ repr_text (chars text.now)) }
     ensures kept { StartsWith (string_bytes out.new) (string_bytes out.old) }
 {
     out.push('\'')?;
@@ -253,7 +256,8 @@ fn push_plain(out: &mut String, text: &str) -> Result<(), AllocError>
 
 /// Appends the `repr` of a text, of which some characters may not stand for themselves.
 fn push_escaped(out: &mut String, text: &str) -> Result<(), AllocError>
-    ensures ok { OnOk result (string_bytes out.new ≡ string_bytes out.old ++ repr_text (chars text.now)) }
+    ensures ok { OnOk result
+        (string_bytes out.new ≡ string_bytes out.old ++ repr_text (chars text.now)) }
     ensures kept { StartsWith (string_bytes out.new) (string_bytes out.old) }
 {
     let quote = quote_of(text.as_bytes());
@@ -275,9 +279,11 @@ fn push_escaped(out: &mut String, text: &str) -> Result<(), AllocError>
 }
 
 /// Appends the `repr` of a text to an output, without memory of its own: what [`repr_text`] gives
-/// for the text's characters. Where the output can't grow, it keeps what it had, and may have taken a front of that.
+/// for the text's characters. Where the output can't grow, it keeps what it had, and may have taken
+/// a front of that.
 pub fn push_repr(out: &mut String, text: &str) -> Result<(), AllocError>
-    ensures ok { OnOk result (string_bytes out.new ≡ string_bytes out.old ++ repr_text (chars text.now)) }
+    ensures ok { OnOk result
+        (string_bytes out.new ≡ string_bytes out.old ++ repr_text (chars text.now)) }
     ensures kept { StartsWith (string_bytes out.new) (string_bytes out.old) }
 {
     if is_plain_text(text) {

@@ -7,10 +7,12 @@
 //! return. No multi-byte sequence of UTF-8 goes past a line feed, so the first bad byte of the
 //! whole is the first bad byte of the first faulty line: one pass over all the bytes finds it.
 
-ghost use Rattle.std.specs.Prelude.{◌≡◌, ◌≢◌, ℕ, ◌≤◌, ◌<◌, ◌+◌, ◌-◌, false, length, take, drop, slice_index, IsUtf8, MatchOption};
+ghost use Rattle.std.specs.Prelude.{◌≡◌, ◌≢◌, ℕ, ◌≤◌, ◌<◌, ◌+◌, ◌-◌, false, length, take, drop};
+ghost use Rattle.std.specs.Prelude.{slice_index, IsUtf8, MatchOption};
 ghost use Rattle.std.specs.Str.Lossy.{utf8_valid_len};
 ghost use Rattle.pysource.specs.Limits.{source_limit};
-ghost use Rattle.pysource.specs.Lines.{first_bad, good_text, line_fault, lines_of, lone_return_at, bad_at, invalid};
+ghost use Rattle.pysource.specs.Lines.{first_bad, good_text, line_fault, lines_of, lone_return_at};
+ghost use Rattle.pysource.specs.Lines.{bad_at, invalid};
 ghost use Rattle.pysource.specs.Sources.{source_of, UnlessMemory, nth_line};
 ghost use Rattle.pysource.specs.Streams.{stream_of, as_stream};
 
@@ -37,7 +39,8 @@ impl Model for Source {
 
     ghost Value = { Parts };
 
-    ghost view = { λ s. record { encoding = s.encoding; text = string_bytes s.text; fault = s.fault } };
+    ghost view = { λ s. record
+        { encoding = s.encoding; text = string_bytes s.text; fault = s.fault } };
 
     ghost invariant = { λ s. length (string_bytes s.text) ≤ source_limit };
 }
@@ -69,7 +72,7 @@ impl Source {
 }
 
 /// The length of the longest front that is UTF-8.
-#[tactic(auto, using(crate::proofs::LinesLemmas::valid_all))]
+#[tactic(auto, using(crate::proofs::FaultyLines::LinesLemmas::valid_all))]
 fn utf8_len(bytes: &[u8]) -> usize
     ensures { result ≡ utf8_valid_len bytes.now }
 {
@@ -106,7 +109,7 @@ fn find_return(bytes: &[u8], from: usize) -> usize
 }
 
 /// The place of the first CR that no LF follows, or the length.
-#[tactic(auto, using(crate::proofs::ReturnsLemmas::lone_none_byte, crate::proofs::ReturnsLemmas::lone_none_lf, crate::proofs::ReturnsLemmas::lone_some))]
+#[tactic(auto, using(crate::proofs::FaultyLines::ReturnsLemmas::lone_none_byte, crate::proofs::FaultyLines::ReturnsLemmas::lone_none_lf, crate::proofs::FaultyLines::ReturnsLemmas::lone_some))]
 fn lone_return(bytes: &[u8]) -> usize
     ensures within { result ≤ length bytes.now }
     ensures before { (k : ℕ) → k < result → lone_return_at bytes.now k ≡ None }
@@ -129,12 +132,13 @@ fn lone_return(bytes: &[u8]) -> usize
 }
 
 /// The length of the longest front that the character set allows.
-#[tactic(auto, using(crate::proofs::BadLemmas::utf8_before, crate::proofs::BadLemmas::utf8_at, crate::proofs::BadLemmas::ascii_before, crate::proofs::BadLemmas::ascii_at))]
+#[tactic(auto, using(crate::proofs::FaultyLines::BadLemmas::utf8_before, crate::proofs::FaultyLines::BadLemmas::utf8_at, crate::proofs::FaultyLines::BadLemmas::ascii_before, crate::proofs::FaultyLines::BadLemmas::ascii_at))]
 fn valid_len(charset: Charset, bytes: &[u8]) -> usize
     ensures within { result ≤ length bytes.now }
     ensures before { (k : ℕ) → k < result →
         bad_at charset bytes.now k ≡ lone_return_at bytes.now k }
-    ensures at { result < length bytes.now → bad_at charset bytes.now result ≡ Some (invalid charset) }
+    ensures at { result < length bytes.now
+        → bad_at charset bytes.now result ≡ Some (invalid charset) }
     ensures front { IsUtf8 (take result bytes.now) }
 {
     match charset {
@@ -207,7 +211,7 @@ fn cut_line(bytes: &[u8]) -> (&[u8], &[u8])
 ///
 /// Where no read fails the source of a stream, as [`LineReader`](crate::LineReader) gives it, is
 /// that of its bytes.
-#[tactic(auto, using(crate::proofs::StreamLemmas::stream_is_source))]
+#[tactic(auto, using(crate::proofs::LineReading::StreamLemmas::stream_is_source))]
 pub fn decode(alloc: Global, bytes: &[u8]) -> Result<Source, SourceFault>
     requires { length bytes.now ≤ source_limit }
     ensures value { UnlessMemory result (source_of bytes.now) }

@@ -1,4 +1,5 @@
-//! What the tests compare. Each comparison is a function, so that its words on failure stand, and are proved, once.
+//! What the tests compare. Each comparison is a function, so that its words on failure stand, and
+//! are proved, once.
 
 use pysource::Line;
 use std::process::Abort;

@@ -1,7 +1,9 @@
 -- Worked lines, by computation: their text, and that they can be read back.
+--
+-- Carries: no contract; its rows are computed as it is checked.
 use Rattle.std.proofs.Common.{◌≡◌, ℕ, ◌&&◌, Bool, true, false, List, [], ◌∷◌, refl}
 use Rattle.std.specs.Prelude.{codes}
-use Rattle.pylex.specs.declared.kinds.Kind.TheVariants as kinds
+use Rattle.pylex.specs.declared.kind.Kind.TheVariants as kinds
 use Rattle.pylexeme.specs.Operators.{operators, exact_of, is_operator}
 use Rattle.pyspacing.specs.Spacing.{Piece, Line, lines_text, all_apart}
 use Rattle.pyspacing.specs.Tokens.{closes_all}

@@ -1,21 +1,23 @@
 -- The law of written lines.
 --
--- What other crates cite: `written_is_read`, with the lemmas of the files named Fronts, Literals, Decimals, Scalars on single tokens, and of Joins, Forms and
--- Writing on lists of them.
+-- What other crates cite: `written_is_read`, with the lemmas of the files named Fronts, Literals,
+-- Decimals, Scalars on single tokens, and of Joins, Forms and Writing on lists of them.
+--
+-- Carries: what pywritten cites. On: Decoding, SourceLines, Clear, Relisting.
 use Rattle.std.proofs.Common.{refl, None}
 use Rattle.std.specs.List.{list_all}
 use Rattle.std.specs.Str.{encode_utf8_all}
 use Rattle.pysource.specs.Cookies.{plain}
 use Rattle.pysource.specs.Parts.{Parts}
 use Rattle.pylex.specs.Listing.{in_characters}
-use Rattle.pylexeme.proofs.Best.{and_parts}
+use Rattle.pylexeme.proofs.Fronts.Best.{and_parts}
 use Rattle.pyspacing.specs.Spacing.{lines_text}
 use Rattle.pyspacing.specs.Tokens.{tokens_behind, is_written, rise_by_one, IsListedAs}
 use Rattle.pyspacing.specs.Laws.{WrittenIsRead, WrittenIsClear}
-use Rattle.pyspacing.proofs.Clear.{clear}
-use Rattle.pyspacing.proofs.Decoding.{lines_source, lines_chars}
-use Rattle.pyspacing.proofs.Relisting.{lines_listed}
-use Rattle.pyspacing.proofs.SourceLines.{tokens_are, lines_are}
+use Rattle.pyspacing.proofs.Sources.Clear.{clear}
+use Rattle.pyspacing.proofs.Sources.Decoding.{lines_source, lines_chars}
+use Rattle.pyspacing.proofs.Listings.Relisting.{lines_listed}
+use Rattle.pyspacing.proofs.Sources.SourceLines.{tokens_are, lines_are}
 
 pub written_is_read : WrittenIsRead
 written_is_read ls w =

@@ -3,14 +3,14 @@
 use Rattle.std.specs.Prelude.{◌≡◌, ℕ, ◌+◌, ◌-◌, ◌*◌, nat_le, nat_lt, Bool, true, not, ◌&&◌, ◌==◌, List, [], ◌∷◌, ◌++◌, map, replicate, if◌then◌else◌, slice_range, false, Option, Some, None}
 use Rattle.std.specs.List.{list_all}
 use Rattle.std.specs.Str.{chars, encode_utf8_all, all_scalars}
-use Rattle.pylex.specs.declared.kinds.Kind.{Kind}
-use Rattle.pylex.specs.declared.kinds.Kind.TheVariants as kinds
+use Rattle.pylex.specs.declared.kind.Kind.{Kind}
+use Rattle.pylex.specs.declared.kind.Kind.TheVariants as kinds
 use Rattle.pylex.specs.declared.entries.Entry.{Entry}
 use Rattle.pylex.specs.declared.entries.Step.TheVariants as steps
 use Rattle.pylexeme.specs.declared.kinds.Exact.{Exact}
 use Rattle.pylexeme.specs.Operators.{exact_of, is_opener, is_closer}
-use Rattle.pylex.specs.Listing.{Source, mark, origin, listing}
-use Rattle.pylex.specs.Steps.{entries_of}
+use Rattle.pylex.specs.Listing.{Source, origin, listing}
+use Rattle.pylex.specs.Steps.{entries_of, mark}
 use Rattle.pytoken.specs.Tokens as source
 use Rattle.pytoken.specs.Indentation.{Margin, margins}
 use Rattle.pyspacing.specs.Spacing.{Piece, Line, is_operator_kind, are_readable}

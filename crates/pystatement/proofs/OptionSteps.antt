@@ -1,6 +1,7 @@
 -- Where expressions begin, and one behind a mark.
 --
--- Carries: starts_expression, starts_stars, stars_or_none, after_sign, after_word. On: LineReader, Precedence.
+-- Carries: starts_expression, starts_stars, stars_or_none, after_sign, after_word.
+-- On: LineReader, Precedence.
 use Rattle.std.proofs.Common.{◌≡◌, refl, sym, ap, ◌∙◌, arith, ℕ, ◌+◌, ◌≤◌, ◌<◌, List, [], ◌∷◌, Option, Some, None, true, false, cond, length, leb}
 use Rattle.std.proofs.lemmas.Bool.{le-leb, lt-leb}
 use Rattle.pylexeme.specs.declared.kinds.Exact.{Exact}

@@ -1,6 +1,7 @@
 -- A statement by its first terminal, and statements with semicolons between them.
 --
--- Carries: plain_statement, word_statement, read_statement, with_statement, read_statements. On: LineReader, Heights.
+-- Carries: plain_statement, word_statement, read_statement, with_statement, read_statements.
+-- On: LineReader, Heights.
 use Rattle.std.proofs.Common.{◌≡◌, refl, sym, ap, ◌∙◌, arith, ℕ, zero, suc, ◌+◌, ◌≤◌, ◌<◌, max, List, [], ◌∷◌, ◌++◌, length, map, append_assoc, Some, None}
 use Rattle.std.proofs.lemmas.List.{map-append}
 use Rattle.pylexeme.specs.declared.kinds.Exact.TheVariants.{Semi}

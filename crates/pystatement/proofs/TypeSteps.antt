@@ -1,6 +1,7 @@
 -- Parameters of types, and the statement `type`.
 --
--- Carries: read_type_param, starts_type_param, with_param, bracketed_type_params, type_alias. On: LineReader, Heights.
+-- Carries: read_type_param, starts_type_param, with_param, bracketed_type_params, type_alias.
+-- On: LineReader, Heights.
 use Rattle.std.proofs.Common.{◌≡◌, refl, ap, ◌∙◌, arith, ℕ, ◌+◌, max, List, [], ◌∷◌, ◌++◌, map, Some, None, false}
 use Rattle.std.proofs.lemmas.List.{map-append}
 use Rattle.pylexeme.specs.declared.kinds.Exact.TheVariants.{DoubleStar, LSqb, RSqb, Star}

@@ -2,7 +2,8 @@
 //!
 //! Python language reference, 7.11 "The `import` statement".
 
-ghost use Rattle.std.specs.Prelude.{◌≡◌, ◌+◌, ◌<◌, ◌≤◌, ◌∷◌, [], MatchResult, None, Some, length, map};
+ghost use Rattle.std.specs.Prelude.{◌≡◌, ◌+◌, ◌<◌, ◌≤◌, ◌∷◌, [], MatchResult, None, Some, length};
+ghost use Rattle.std.specs.Prelude.{map};
 ghost use Rattle.pynode.specs.TreeOf.{alias_of, stmt_of};
 ghost use Rattle.pynode.specs.Trees as plain;
 ghost use Rattle.pyvalue.specs.Terminals.{terminal};
@@ -15,7 +16,7 @@ ghost use Rattle.pystatement.specs.Inner.Imports.{dots_at, dots_in};
 
 use crate::aliases::{dotted_aliases, name_aliases, read_dotted};
 use crate::found::{ReadAliases, ReadDots, ReadStatement};
-use pyexpr::{Stop, is_op, is_word, terminal_at};
+use pyexpr::{Stop, append, is_op, is_word, terminal_at};
 use pylex::Exact;
 use pynode::{Alias, Identifier, Stmt};
 use pytoken::Keyword;
@@ -85,7 +86,7 @@ fn star_alias(alloc: Global, next: usize) -> Result<ReadAliases, Stop>
 {
     let alias = star(alloc)?;
     let mut aliases = Vec::new(alloc);
-    aliases.push(alias)?;
+    append(&mut aliases, alias)?;
     Ok(ReadAliases { aliases, next })
 }
 

@@ -14,7 +14,8 @@ ghost use Rattle.pyexpr.specs.Answers.{PartAnswered};
 ghost use Rattle.pyexpr.specs.Readings.{reads};
 ghost use Rattle.pyexpr.specs.Views.{seen};
 ghost use Rattle.pynode.specs.TreeOf.{tree_of};
-ghost use Rattle.pystatement.specs.Inner.Simple.{asserts, deletes, globals, nonlocals, raises, returns};
+ghost use Rattle.pystatement.specs.Inner.Simple.{asserts, deletes, globals, nonlocals, raises};
+ghost use Rattle.pystatement.specs.Inner.Simple.{returns};
 
 use crate::found::ReadStatement;
 use crate::names::read_names;

@@ -2,7 +2,8 @@
 //!
 //! Python language reference, 7 "Simple statements".
 
-ghost use Rattle.std.specs.Prelude.{◌≡◌, ◌+◌, ◌++◌, ◌<◌, ◌≤◌, ◌∷◌, [], MatchResult, length, map, suc};
+ghost use Rattle.std.specs.Prelude.{◌≡◌, ◌+◌, ◌++◌, ◌<◌, ◌≤◌, ◌∷◌, [], MatchResult, length, map};
+ghost use Rattle.std.specs.Prelude.{suc};
 ghost use Rattle.pynode.specs.TreeOf.{stmt_of};
 ghost use Rattle.pytoken.specs.Terminals as terminals;
 ghost use Rattle.pygrammar.specs.LineReader as line;
@@ -19,7 +20,7 @@ use crate::simple::{
 use crate::type_names::type_name_at;
 use crate::types::type_alias;
 use crate::values::value_statement;
-use pyexpr::{Depth, Stop, is_op, terminal_at};
+use pyexpr::{Depth, Stop, append, is_op, terminal_at};
 use pylex::Exact;
 use pynode::Profile;
 use pytoken::Keyword;
@@ -124,7 +125,7 @@ fn with_statement(before: ReadStatements, one: ReadStatement) -> Result<ReadStat
         next: _,
     } = before;
     let mut statements = statements;
-    statements.push(one.statement)?;
+    append(&mut statements, one.statement)?;
     Ok(ReadStatements {
         statements,
         height: height.max(one.height),

@@ -2,7 +2,8 @@
 //!
 //! Python language reference, 7.14 "The `type` statement" and 8.10 "Type parameter lists".
 
-ghost use Rattle.std.specs.Prelude.{◌≡◌, ◌+◌, ◌++◌, ◌<◌, ◌≤◌, ◌∷◌, [], MatchResult, length, map, max, true};
+ghost use Rattle.std.specs.Prelude.{◌≡◌, ◌+◌, ◌++◌, ◌<◌, ◌≤◌, ◌∷◌, [], MatchResult, length, map};
+ghost use Rattle.std.specs.Prelude.{max, true};
 ghost use Rattle.std.specs.Str.{chars};
 ghost use Rattle.unicode_normalization.specs.Forms.{nfkc};
 ghost use Rattle.pynode.specs.TreeOf.{boxed_of, stmt_of, tree_of, type_param_of};
@@ -17,7 +18,8 @@ ghost use Rattle.pystatement.specs.Inner.Types.{begins_type_param, type_var};
 use crate::found::{ReadStatement, ReadTypeParam, ReadTypeParams};
 use crate::options::{after_sign, unboxed};
 use pyexpr::{
-    Depth, Optional, Read, Stop, identifier_of, is_op, make_name, name_at, read_at, terminal_at,
+    Depth, Optional, Read, Stop, append, identifier_of, is_op, make_name, name_at, read_at,
+    terminal_at,
 };
 use pygrammar::Level;
 use pylex::Exact;
@@ -173,7 +175,7 @@ fn with_param(before: ReadTypeParams, one: ReadTypeParam) -> Result<ReadTypePara
         next: _,
     } = before;
     let mut params = params;
-    params.push(one.param)?;
+    append(&mut params, one.param)?;
     Ok(ReadTypeParams {
         params,
         height: height.max(one.height),

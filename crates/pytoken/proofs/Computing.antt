@@ -1,14 +1,17 @@
--- `unfolding values` lets `refl` compute what the text of a token stands for, `unfolding sources` the tokens and lines of a source.
+-- `unfolding values` lets `refl` compute what the text of a token stands for, `unfolding sources`
+-- the tokens and lines of a source.
+--
+-- Carries: sources, values, for RefusalRows, TokenRows, ValueRows.
 use lib.Utf8.{encode}
 use Rattle.std.specs.Str.{chars}
 use Rattle.unicode_normalization.proofs.Computing.{unicode_normalization}
 use Rattle.pysource.specs.Places.{place_after}
 use Rattle.pylexeme.proofs.Computing.{lexemes}
-use Rattle.pylexeme.specs.Cuts.{begins_thing}
+use Rattle.pylexeme.specs.Cuts.{begins_significant}
 use Rattle.pylex.specs.Margins.{width_by_one}
-use Rattle.pylex.specs.Lines.{depth, line_so_far, is_at_margin, is_logical, width_from, width_at, widths}
-use Rattle.pylex.specs.Levels.{open_levels}
-use Rattle.pylex.specs.Listing.{layout_by, layout, entry_of, steps_of, stop_fault, last_line, line_end_of_last, end_place, tail, stop, listing}
+use Rattle.pylex.specs.Lines.{depth, line_so_far, is_at_margin, is_logical}
+use Rattle.pylex.specs.Indentation.{width_from, width_at, widths, open_levels, layout_by, layout}
+use Rattle.pylex.specs.Listing.{entry_of, steps_of, stop_fault, last_line, line_end_of_last, end_place, tail, stop, listing}
 use Rattle.pytoken.specs.Keywords.{keywords, keyword_of}
 use Rattle.pytoken.specs.NumberValues.{whole_value, number_fault}
 use Rattle.pytoken.specs.Escapes.{escaped_by, meanings, escape_fault}
@@ -29,5 +32,5 @@ unfolding lexemes unicode_normalization keywords keyword_of whole_value number_f
 values = tt
 
 unfoldable pub sources : Unit {0}
-unfolding listings chars begins_thing width_by_one tokens lines
+unfolding listings chars begins_significant width_by_one tokens lines
 sources = tt

@@ -1,4 +1,5 @@
--- Carries: come_back. On: whole numbers in decimal, the reprs of texts and of bytes, which are read as what was written.
+-- Carries: come_back. On: whole numbers in decimal, the reprs of texts and of bytes, which are
+-- read as what was written.
 use Rattle.std.proofs.Common.{◌≡◌, ℕ, ◌-◌, ◌^◌, ◌<◌, ◌≤◌, Bool, true, false, ◌⊎◌, List, [], ◌∷◌, ◌++◌, length, get_or, drop, map, refl, sym, subst}
 use Rattle.std.proofs.Common.{ap, ◌∙◌, inl, inr, true≢false, arith, length-append, append_assoc, None}
 use Rattle.std.specs.Prelude.{◌==◌, ◌||◌, ◌&&◌, not, nat_lt, nat_le, All, if◌then◌else◌, decimal, filter}
@@ -13,8 +14,8 @@ use Rattle.ucd_category.proofs.Computing.{ucd_category}
 use Rattle.pysource.specs.Reprs.{escaped, quote_for, repr_chars, repr_bytes, is_unprintable, is_unprintable_byte}
 use Rattle.pylexeme.specs.Numbers.{is_j, is_point, is_e}
 use Rattle.pylexeme.specs.Strings.{begins_three}
-use Rattle.pylex.specs.declared.kinds.Kind.{Kind}
-use Rattle.pylex.specs.declared.kinds.Kind.TheVariants as kinds
+use Rattle.pylex.specs.declared.kind.Kind.{Kind}
+use Rattle.pylex.specs.declared.kind.Kind.TheVariants as kinds
 use Rattle.pynode.specs.Values.{Str, Bytes}
 use Rattle.pytoken.specs.declared.meanings.Meaning.{Meaning}
 use Rattle.pytoken.specs.declared.meanings.Meaning.TheVariants.{Point}

@@ -1,4 +1,5 @@
--- Carries: come_back. On: the repr of a text or of bytes is a string as a lexeme, and a whole number in decimal is a number.
+-- Carries: come_back. On: the repr of a text or of bytes is a string as a lexeme, and a whole
+-- number in decimal is a number.
 use Rattle.std.proofs.Common.{◌≡◌, ℕ, zero, suc, ◌+◌, ◌/◌, ◌%◌, ◌^◌, ◌<◌, ◌≤◌, Bool, true, false, List, [], ◌∷◌, ◌++◌, refl, sym, subst, ap, ◌∙◌, inl}
 use Rattle.std.proofs.Common.{inr, arith, append_assoc}
 use Rattle.std.specs.Prelude.{◌==◌, ◌||◌, ◌&&◌, nat_le, decimal}

@@ -1,4 +1,7 @@
--- On: the margin that a line still has to give behind some of its blanks, and what a lexeme's class says of its first character.
+-- On: the margin that a line still has to give behind some of its blanks, and what a lexeme's class
+-- says of its first character.
+--
+-- Carries: pending, eights, Fronts, text_behind and 11 more, for MarginWidths.
 use Rattle.std.proofs.Common.{◌≡◌, ℕ, ◌+◌, Bool, true, false, not, ◌&&◌, ◌==◌, cond, List, [], ◌∷◌, ◌++◌, length, drop, map}
 use Rattle.std.proofs.Common.{refl, sym, ap, ap₂, subst, ◌∙◌, arith, length-append, Option, Some, None}
 use Rattle.std.specs.Prelude.{option_map}
@@ -13,12 +16,12 @@ use Rattle.pylexeme.specs.declared.kinds.Exact.{Exact}
 use Rattle.pylexeme.specs.declared.lexeme.Class.{Class}
 use Rattle.pylexeme.specs.declared.lexeme.Class.TheVariants.{Name, Number, String, Operator, Comment, Blanks, LineEnd, Join}
 use Rattle.pylexeme.specs.Chars.{bytes_in, is_blank_char, is_comment_part}
-use Rattle.pylexeme.specs.Cuts.{begins_line_end, begins_thing}
+use Rattle.pylexeme.specs.Cuts.{begins_line_end, begins_significant}
 use Rattle.pylexeme.specs.Strings.{opens_string, counts_as_string}
 use Rattle.pylexeme.specs.Operators.{is_operator, exact_of}
 use Rattle.pylexeme.specs.Numbers.{is_number}
 use Rattle.pylexeme.specs.Lexemes.{is_name, is_comment, are_blanks, is_line_end, is_join, plain_class, class_in}
-use Rattle.pylex.specs.Lines.{column_after, width_from}
+use Rattle.pylex.specs.Indentation.{column_after, width_from}
 use Rattle.pylex.specs.Margins.{blanks_of, widths_of}
 use Rattle.pytoken.specs.Indentation.{Margin, behind_offset, margin_at}
 
@@ -47,13 +50,13 @@ bytes_on a b = ap length (encodes-append a b) ∙ length-append (encode_utf8_all
 
 -- by whether only blanks stand before, their width, and the text behind them
 abbrev pub pending : Bool → ℕ → List ℕ → List ℕ
-pending m w t = cond m (cond (begins_thing (drop (length (blanks_of t)) t)) (width_from w (blanks_of t) ∷ []) []) []
+pending m w t = cond m (cond (begins_significant (drop (length (blanks_of t)) t)) (width_from w (blanks_of t) ∷ []) []) []
 
 abbrev pub eights : List Margin → List ℕ
 eights ms = map (λ m. m.widths.eight) ms
 
 pub margin_pends : (text : List ℕ) (o : ℕ) → eights (margin_at text o) ≡ pending true 0 (behind_offset text o)
-margin_pends text o = by (begins_thing (drop (length (blanks_of line)) line)) (record { widths = widths_of line; start = _ })
+margin_pends text o = by (begins_significant (drop (length (blanks_of line)) line)) (record { widths = widths_of line; start = _ })
   where
     line : List ℕ
     line = behind_offset text o
@@ -63,14 +66,14 @@ margin_pends text o = by (begins_thing (drop (length (blanks_of line)) line)) (r
     by false m = refl
 
 pub nothing_pends : (m : Bool) (w : ℕ) → pending m w [] ≡ []
-unfolding begins_thing
+unfolding begins_significant
 nothing_pends true w = refl
 nothing_pends false w = refl
 
 -- a text that begins with no blank
-pub pending_by : (m thing : Bool) (w : ℕ) (t : List ℕ) → blanks_of t ≡ [] → begins_thing t ≡ thing → pending m w t ≡ cond (m && thing) (w ∷ []) []
+pub pending_by : (m significant : Bool) (w : ℕ) (t : List ℕ) → blanks_of t ≡ [] → begins_significant t ≡ significant → pending m w t ≡ cond (m && significant) (w ∷ []) []
 unfolding width_from
-pending_by m thing w t none is = rw (none, is) (by m thing)
+pending_by m significant w t none is = rw (none, is) (by m significant)
   where
     by : (m b : Bool) → cond m (cond b (w ∷ []) []) [] ≡ cond (m && b) (w ∷ []) []
     by true b = refl
@@ -95,8 +98,8 @@ drop_on (c ∷ a) b t = drop_on a b t
 pub pending_on : (m : Bool) (w : ℕ) (a t : List ℕ) → list_all is_blank_char a ≡ true → pending m w (a ++ t) ≡ pending m (width_from w a) t
 pending_on m w a t all =
     let front = blanks_on a t all in
-    ap (λ (b : List ℕ). cond m (cond (begins_thing (drop (length b) (a ++ t))) (width_from w b ∷ []) []) []) front
-    ∙ ap₂ (λ (d : List ℕ) (n : ℕ). cond m (cond (begins_thing d) (n ∷ []) []) []) (drop_on a (blanks_of t) t) (width_on w a (blanks_of t))
+    ap (λ (b : List ℕ). cond m (cond (begins_significant (drop (length b) (a ++ t))) (width_from w b ∷ []) []) []) front
+    ∙ ap₂ (λ (d : List ℕ) (n : ℕ). cond m (cond (begins_significant d) (n ∷ []) []) []) (drop_on a (blanks_of t) t) (width_on w a (blanks_of t))
 
 -- What a class says of the first character
 
@@ -157,10 +160,10 @@ not_blank : (a b : Bool) → (not a && b) ≡ true → a ≡ false
 not_blank true b h = absurd cc
 not_blank false b h = refl
 
-pub thing_front : (t : List ℕ) → begins_thing t ≡ true → blanks_of t ≡ []
-unfolding begins_thing
-thing_front [] h = refl
-thing_front (c ∷ t) h =
+pub significant_front : (t : List ℕ) → begins_significant t ≡ true → blanks_of t ≡ []
+unfolding begins_significant
+significant_front [] h = refl
+significant_front (c ∷ t) h =
     let first = (and_parts (not (is_blank_char c) && not (c == 35)) (not (begins_line_end (c ∷ t))) h).0 in
     let none : is_blank_char c ≡ false = not_blank (is_blank_char c) (not (c == 35)) first in
     take_while-cons is_blank_char c t ∙ (rw none refl)

@@ -1,4 +1,6 @@
 -- On: the margins of a listing's lines are as wide as the lines that open and close its levels.
+--
+-- Carries: margins_are_widths, for Said.
 use Rattle.std.proofs.Common.{◌≡◌, ℕ, zero, suc, ◌+◌, ◌-◌, Bool, true, false, not, ◌&&◌, ◌||◌, ◌==◌, cond, List, [], ◌∷◌, ◌++◌, length, drop}
 use Rattle.std.proofs.Common.{replicate, reverse, refl, sym, ap, ap₂, subst, ◌∙◌, arith, append_assoc, append-nil, Option, Some, None}
 use Rattle.std.specs.Prelude.{nat_lt, count_by}
@@ -12,30 +14,30 @@ use Rattle.pysource.specs.Places.{place_after}
 use Rattle.pylexeme.specs.declared.lexeme.Class.{Class}
 use Rattle.pylexeme.specs.declared.lexeme.Class.TheVariants.{Name, Number, String, Operator, Comment, Blanks, LineEnd, Join}
 use Rattle.pylexeme.specs.Chars.{bytes_in}
-use Rattle.pylexeme.specs.Cuts.{begins_thing}
+use Rattle.pylexeme.specs.Cuts.{begins_significant}
 use Rattle.pylexeme.specs.Strings.{opens_string}
 use Rattle.pylexeme.specs.Operators.{is_closer}
 use Rattle.pylexeme.specs.Lexemes.{Lexeme, is_comment, are_blanks, is_line_end, lexeme_at, cut, left_by_cut}
-use Rattle.pylexeme.specs.Lexemes.{is_open_string, is_thing_class, is_line_end_class, is_blanks_class}
-use Rattle.pylex.specs.declared.kinds.Kind.TheVariants as kinds
+use Rattle.pylexeme.specs.Lexemes.{is_open_string, is_significant_class, is_line_end_class, is_blanks_class}
+use Rattle.pylex.specs.declared.kind.Kind.TheVariants as kinds
 use Rattle.pylex.specs.declared.entries.Entry.{Entry}
 use Rattle.pylex.specs.declared.entries.ListingFault.{ListingFault}
 use Rattle.pylex.specs.declared.entries.ListingError.TheVariants as errors
 use Rattle.pylex.specs.declared.entries.Step.{Step}
 use Rattle.pylex.specs.declared.entries.Step.TheVariants as steps
-use Rattle.pylex.specs.Lines.{text_before, opens, closes, depth, is_of_blanks, is_of_line_end, is_thing, line_so_far, is_at_margin, is_logical, width_from, width_at, widths}
-use Rattle.pylex.specs.Levels.{open_levels}
+use Rattle.pylex.specs.Lines.{text_before, opens, closes, depth, is_of_blanks, is_of_line_end, is_significant, line_so_far, is_at_margin, is_logical}
+use Rattle.pylex.specs.Indentation.{width_from, width_at, widths, open_levels, dedents, layout_by, layout}
 use Rattle.pylex.specs.Margins.{blanks_of}
-use Rattle.pylex.specs.Listing.{listing, origin, fault_at, dedents, layout_by, layout, line_end_kind, entry_of, steps_of, stop_fault}
+use Rattle.pylex.specs.Listing.{listing, origin, line_end_kind, entry_of, steps_of, stop_fault}
 use Rattle.pylex.specs.Listing.{last_line, begins_comment, line_end_of_last, end_place, ends_in_join, tail, stop, steps_from, up_to_end, further}
-use Rattle.pylex.specs.Steps.{entries_of, fault_of}
+use Rattle.pylex.specs.Steps.{entries_of, fault_of, fault_at}
 use Rattle.pylex.specs.Laws.{AreLexemes}
-use Rattle.pylex.proofs.Callers.{is_cut, longest_wins, thing_is}
+use Rattle.pylex.proofs.Callers.{is_cut, longest_wins, significant_is}
 use Rattle.pytoken.specs.Brackets
 use Rattle.pytoken.specs.Brackets.{open_brackets}
 use Rattle.pytoken.specs.Indentation.{Margin, behind_offset, margin_at, ends_line, margins_from}
 use Rattle.pytoken.specs.Laws.{MarginsAreWidths}
-use Rattle.pytoken.proofs.MarginParts.{pending, eights, Fronts, text_behind, bytes_on, margin_pends, nothing_pends, pending_by, width_on, pending_on, class_fronts, comment_front, line_end_front, blanks_all, thing_front}
+use Rattle.pytoken.proofs.MarginParts.{pending, eights, Fronts, text_behind, bytes_on, margin_pends, nothing_pends, pending_by, width_on, pending_on, class_fronts, comment_front, line_end_front, blanks_all, significant_front}
 
 -- The brackets that are open, by entries and by lexemes
 
@@ -221,7 +223,7 @@ module _ (text : List ℕ) (before : List Lexeme) (es : List Entry) (left : List
 -- the widths of the lines that begin among some lexemes, behind others
 abbrev begun : List Lexeme → List Lexeme → List ℕ
 begun before [] = []
-begun before (x ∷ xs) = cond (is_at_margin before && is_thing x) (width_at before ∷ begun (x ∷ before) xs) (begun (x ∷ before) xs)
+begun before (x ∷ xs) = cond (is_at_margin before && is_significant x) (width_at before ∷ begun (x ∷ before) xs) (begun (x ∷ before) xs)
 
 zero_width : width_from 0 [] ≡ 0
 unfolding width_from
@@ -247,48 +249,48 @@ module _ (before : List Lexeme) (x : Lexeme) where
 -- the margin that was pending, and the line that begins with the lexeme
 module _ (m : Bool) (w : ℕ) (t ws ns : List ℕ) where
   -- a lexeme within a line
-  inside : (thing : Bool) → pending m w t ≡ cond (m && thing) (w ∷ []) [] → ws ≡ ns → pending m w t ++ ws ≡ cond (m && thing) (w ∷ ns) ns
-  inside thing pends rest = ap (λ (us : List ℕ). us ++ ws) pends ∙ by (m && thing) rest
+  inside : (significant : Bool) → pending m w t ≡ cond (m && significant) (w ∷ []) [] → ws ≡ ns → pending m w t ++ ws ≡ cond (m && significant) (w ∷ ns) ns
+  inside significant pends rest = ap (λ (us : List ℕ). us ++ ws) pends ∙ by (m && significant) rest
     where
       by : (b : Bool) → ws ≡ ns → cond b (w ∷ []) [] ++ ws ≡ cond b (w ∷ ns) ns
       by true h = ap (λ (us : List ℕ). w ∷ us) h
       by false h = h
 
-no_thing : (m : Bool) (w : ℕ) (ns : List ℕ) → cond (m && false) (w ∷ ns) ns ≡ ns
-no_thing true w ns = refl
-no_thing false w ns = refl
+no_significant : (m : Bool) (w : ℕ) (ns : List ℕ) → cond (m && false) (w ∷ ns) ns ≡ ns
+no_significant true w ns = refl
+no_significant false w ns = refl
 
 module _ (t left ws ns : List ℕ) (m d : Bool) (w : ℕ) where
-  met_by : (k : Class) (u : List ℕ) → begins_thing t ≡ is_thing_class k → Fronts k (is_comment u) (are_blanks u) (is_line_end u) → t ≡ u ++ left
+  met_by : (k : Class) (u : List ℕ) → begins_significant t ≡ is_significant_class k → Fronts k (is_comment u) (are_blanks u) (is_line_end u) → t ≡ u ++ left
       → pending (cond (is_line_end_class k && d) true (is_blanks_class k && m)) (cond (is_line_end_class k && d) 0 (width_from w u)) left ++ ws ≡ ns
-      → pending m w t ++ (cond (is_line_end_class k && d) (pending true 0 left) [] ++ ws) ≡ cond (m && is_thing_class k) (w ∷ ns) ns
-  met_by Name u thing front cut more = inside m w t ws ns true (pending_by m true w t (thing_front t thing) thing) more
-  met_by Number u thing front cut more = inside m w t ws ns true (pending_by m true w t (thing_front t thing) thing) more
-  met_by String u thing front cut more = inside m w t ws ns true (pending_by m true w t (thing_front t thing) thing) more
-  met_by (Operator o) u thing front cut more = inside m w t ws ns true (pending_by m true w t (thing_front t thing) thing) more
-  met_by Join u thing front cut more = inside m w t ws ns true (pending_by m true w t (thing_front t thing) thing) more
-  met_by Comment u thing front cut more =
-      inside m w t ws ns false (pending_by m false w t (ap blanks_of cut ∙ comment_front u left front) thing) more
-  met_by LineEnd u thing front cut more = by_depth d more
+      → pending m w t ++ (cond (is_line_end_class k && d) (pending true 0 left) [] ++ ws) ≡ cond (m && is_significant_class k) (w ∷ ns) ns
+  met_by Name u significant front cut more = inside m w t ws ns true (pending_by m true w t (significant_front t significant) significant) more
+  met_by Number u significant front cut more = inside m w t ws ns true (pending_by m true w t (significant_front t significant) significant) more
+  met_by String u significant front cut more = inside m w t ws ns true (pending_by m true w t (significant_front t significant) significant) more
+  met_by (Operator o) u significant front cut more = inside m w t ws ns true (pending_by m true w t (significant_front t significant) significant) more
+  met_by Join u significant front cut more = inside m w t ws ns true (pending_by m true w t (significant_front t significant) significant) more
+  met_by Comment u significant front cut more =
+      inside m w t ws ns false (pending_by m false w t (ap blanks_of cut ∙ comment_front u left front) significant) more
+  met_by LineEnd u significant front cut more = by_depth d more
     where
       pends : pending m w t ≡ cond (m && false) (w ∷ []) []
-      pends = pending_by m false w t (ap blanks_of cut ∙ line_end_front u left front) thing
+      pends = pending_by m false w t (ap blanks_of cut ∙ line_end_front u left front) significant
 
       by_depth : (d : Bool) → pending (cond d true false) (cond d 0 (width_from w u)) left ++ ws ≡ ns
           → pending m w t ++ (cond d (pending true 0 left) [] ++ ws) ≡ cond (m && false) (w ∷ ns) ns
       by_depth true more =
-          ap (λ (us : List ℕ). us ++ (pending true 0 left ++ ws)) (pends ∙ no_thing m w []) ∙ more ∙ sym (no_thing m w ns)
+          ap (λ (us : List ℕ). us ++ (pending true 0 left ++ ws)) (pends ∙ no_significant m w []) ∙ more ∙ sym (no_significant m w ns)
       by_depth false more = inside m w t ws ns false pends more
-  met_by Blanks u thing front cut more =
-      ap (λ (us : List ℕ). us ++ ws) (ap (pending m w) cut ∙ pending_on m w u left (blanks_all u front)) ∙ more ∙ sym (no_thing m w ns)
+  met_by Blanks u significant front cut more =
+      ap (λ (us : List ℕ). us ++ ws) (ap (pending m w) cut ∙ pending_on m w u left (blanks_all u front)) ∙ more ∙ sym (no_significant m w ns)
 
 met : (before : List Lexeme) (x : Lexeme) (t left ws ns : List ℕ) → lexeme_at t ≡ Some x → t ≡ x.text ++ left
     → pending (is_at_margin (x ∷ before)) (width_at (x ∷ before)) left ++ ws ≡ ns
     → pending (is_at_margin before) (width_at before) t ++ (cond (ends_at before x) (pending true 0 left) [] ++ ws)
-    ≡ cond (is_at_margin before && is_thing x) (width_at before ∷ ns) ns
+    ≡ cond (is_at_margin before && is_significant x) (width_at before ∷ ns) ns
 met before x t left ws ns is cut more =
     met_by t left ws ns (is_at_margin before) (depth before == 0) (width_at before) x.«class» x.text
-    (sym (thing_is t x is)) (class_fronts t x.text x.«class» ((longest_wins t).longest x is).in_class) cut
+    (sym (significant_is t x is)) (class_fronts t x.text x.«class» ((longest_wins t).longest x is).in_class) cut
     (sym (ap₂ (λ (b : Bool) (n : ℕ). pending b n left ++ ws) (at_margin_on before x) (width_at_on before x)) ∙ more)
 
 -- The text's end
@@ -345,10 +347,10 @@ still_marks text zero e h = tt
 still_marks text (suc n) e h = (h, still_marks text n e h)
 
 no_margin : (text : List ℕ) (o : ℕ) → behind_offset text o ≡ [] → margin_at text o ≡ []
-unfolding begins_thing
+unfolding begins_significant
 no_margin text o none =
-    let nothing : begins_thing (drop (length (blanks_of (behind_offset text o))) (behind_offset text o)) ≡ false =
-    ap (λ (t : List ℕ). begins_thing (drop (length (blanks_of t)) t)) none in
+    let nothing : begins_significant (drop (length (blanks_of (behind_offset text o))) (behind_offset text o)) ≡ false =
+    ap (λ (t : List ℕ). begins_significant (drop (length (blanks_of t)) t)) none in
     rw nothing refl
 
 module _ (text : List ℕ) (before : List Lexeme) (at_end : margin_at text (bytes_in (text_before before)) ≡ []) where
@@ -408,11 +410,11 @@ module _ (text : List ℕ) (good : all_scalars text ≡ true) (fault : Option Li
   along (x ∷ xs) before t es whole lexed same comes =
       let behind = lexed.0 in
       let rest = steps_from fault left (x ∷ before) xs in
-      let first = cond (is_thing x) (layout before) [] in
+      let first = cond (is_significant x) (layout before) [] in
       let on : text ≡ text_before before ++ (x.text ++ behind) = whole ∙ ap (λ (u : List ℕ). text_before before ++ u) lexed.2 in
       let whole' : text ≡ (text_before before ++ x.text) ++ behind = on ∙ sym (append_assoc (text_before before) x.text behind) in
       let split : (first ++ entry_of before x) ++ rest ≡ first ++ (entry_of before x ++ rest) = append_assoc first (entry_of before x) rest in
-      let led = led_cond text before (entry_of before x ++ rest) (is_thing x) es (layout before) []
+      let led = led_cond text before (entry_of before x ++ rest) (is_significant x) es (layout before) []
       (layout_led text before (entry_of before x ++ rest) es same) (led_none text before (entry_of before x ++ rest) es same)
       (subst Comes split comes) in
       let offset = text_behind text (text_before before ++ x.text) behind (bytes_in (text_before before) + bytes_in x.text) good whole'
@@ -430,7 +432,7 @@ in_order (x ∷ xs) before =
     ap (λ (ys : List Lexeme). reverse (widths (ys ++ before))) (reverse-append (x ∷ []) xs)
     ∙ ap (λ (ys : List Lexeme). reverse (widths ys)) (append_assoc (reverse xs) (x ∷ []) before)
     ∙ in_order xs (x ∷ before)
-    ∙ by (is_at_margin before && is_thing x) (width_at before) (widths before) (begun (x ∷ before) xs)
+    ∙ by (is_at_margin before && is_significant x) (width_at before) (widths before) (begun (x ∷ before) xs)
   where
     by : (b : Bool) (w : ℕ) (ws ns : List ℕ) → reverse (cond b (w ∷ ws) ws) ++ ns ≡ reverse ws ++ cond b (w ∷ ns) ns
     by true w ws ns = ap (λ (us : List ℕ). us ++ ns) (reverse-append (w ∷ []) ws) ∙ append_assoc (reverse ws) (w ∷ []) ns

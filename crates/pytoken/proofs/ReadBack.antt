@@ -22,7 +22,8 @@ use Rattle.pytoken.specs.Escapes.{Reading, reads, hexadecimal, digits_at_front, 
 
 -- The forms of what stands between quotes
 
--- what a repr with the quotes q writes for a point c, where a test says which points are unprintable
+-- what a repr with the quotes q writes for a point c, where a test says
+-- which points are unprintable
 pub data Written (test : ℕ → Bool) (q c : ℕ) : List ℕ → Type 0 where
   marked : (c ≡ 92) ⊎ (c ≡ q) → Written test q c (92 ∷ c ∷ [])
   tab : c ≡ 9 → Written test q c (92 ∷ 116 ∷ [])
@@ -215,7 +216,8 @@ all_read_back test b q (c ∷ cs) mark fit =
     reads_back test b q c (flat_map (escaped test q) cs) (escaped test q c) mark (All-head (Fits b) c cs fit) (written test q c)
     ∙ ap (λ (ms : List Meaning). Point c ∷ ms) (all_read_back test b q cs mark (All-tail (Fits b) c cs fit))
 
--- What is written is of characters that pass a test, if those of ASCII that show do, and each point that is shown as it is
+-- What is written is of characters that pass a test, if those of ASCII that show do, and each
+-- point that is shown as it is
 
 hex_pass : (p : ℕ → Bool) → ((a : ℕ) → 33 ≤ a → a ≤ 126 → p a ≡ true) → (n c : ℕ) → list_all p (hex n c) ≡ true
 hex_pass p ascii zero c = refl

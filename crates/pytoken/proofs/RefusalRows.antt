@@ -1,4 +1,6 @@
 -- Worked refusals, by computation; the limit of brackets is 2 here.
+--
+-- Carries: no contract; its rows are computed as it is checked. On: Computing.
 use Rattle.std.proofs.Common.{◌≡◌, ℕ, List, [], ◌∷◌, ◌++◌, refl, Some, None}
 use Rattle.std.specs.Prelude.{codes}
 use Rattle.pysource.specs.declared.places.Place.{Place}

@@ -1,4 +1,6 @@
 -- On: the tokens of a source that isn't refused are what their types say, and have no fault.
+--
+-- Carries: tokens_are_sound, for Said.
 use Rattle.std.proofs.Common.{◌≡◌, ℕ, zero, suc, ◌+◌, ◌-◌, Bool, true, false, not, ◌&&◌, ◌||◌, ◌==◌, cond, List, [], ◌∷◌, ◌++◌, length, take, drop}
 use Rattle.std.proofs.Common.{replicate, refl, sym, ap, subst, ◌∙◌, arith, append_assoc, Option, Some, None}
 use Rattle.std.specs.Prelude.{option_map, slice_range, nat_lt, All}
@@ -19,18 +21,18 @@ use Rattle.pylexeme.specs.Strings.{opens_string, opens_triple, counts_as_string,
 use Rattle.pylexeme.specs.Operators.{is_closer, is_operator, exact_of}
 use Rattle.pylexeme.specs.Lexemes.{Lexeme, is_name, is_comment, are_blanks, is_line_end, is_join, plain_class, class_in, cut, left_by_cut}
 use Rattle.pylexeme.specs.Lexemes.{is_open_string}
-use Rattle.pylex.specs.declared.kinds.Kind.{Kind}
-use Rattle.pylex.specs.declared.kinds.Kind.TheVariants as kinds
+use Rattle.pylex.specs.declared.kind.Kind.{Kind}
+use Rattle.pylex.specs.declared.kind.Kind.TheVariants as kinds
 use Rattle.pylex.specs.declared.entries.Entry.{Entry}
 use Rattle.pylex.specs.declared.entries.ListingFault.{ListingFault}
 use Rattle.pylex.specs.declared.entries.ListingError.TheVariants as errors
 use Rattle.pylex.specs.declared.entries.Step.{Step}
 use Rattle.pylex.specs.declared.entries.Step.TheVariants as steps
-use Rattle.pylex.specs.Lines.{text_before, depth, is_thing, is_at_margin, is_logical, width_at, widths}
-use Rattle.pylex.specs.Levels.{open_levels}
-use Rattle.pylex.specs.Listing.{Source, listing, mark, origin, fault_at, dedents, layout_by, layout, line_end_kind, entry_of, steps_of, stop_fault}
+use Rattle.pylex.specs.Lines.{text_before, depth, is_significant, is_at_margin, is_logical}
+use Rattle.pylex.specs.Indentation.{width_at, widths, open_levels, dedents, layout_by, layout}
+use Rattle.pylex.specs.Listing.{Source, listing, origin, line_end_kind, entry_of, steps_of, stop_fault}
 use Rattle.pylex.specs.Listing.{last_line, begins_comment, line_end_of_last, end_place, ends_in_join, tail, stop, steps_from, up_to_end}
-use Rattle.pylex.specs.Steps.{entries_of}
+use Rattle.pylex.specs.Steps.{entries_of, mark, fault_at}
 use Rattle.pylex.specs.Steps.{fault_of as listing_fault}
 use Rattle.pylex.specs.Laws.{LongestWins, AreLexemes, IsLawful}
 use Rattle.pytoken.specs.declared.faults.TokenError.{TokenError}
@@ -230,7 +232,7 @@ module _ (cs : List ℕ) (before : List Lexeme) where
       → AllAre cs (steps_of before x)
   unfolding steps_of
   steps_are x rest good h said =
-      AllAre-append cs _ (entry_of before x) (cond_are cs (is_thing x) (layout before) [] layout_are tt) (entry_are x rest good h said)
+      AllAre-append cs _ (entry_of before x) (cond_are cs (is_significant x) (layout before) [] layout_are tt) (entry_are x rest good h said)
 
   last_are : (p : Place) → AllAre cs (line_end_of_last before p)
   unfolding line_end_of_last

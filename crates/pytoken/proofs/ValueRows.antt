@@ -1,8 +1,11 @@
--- Worked values of tokens and worked faults, by computation. The values are those that Python 3.11 gives.
+-- Worked values of tokens and worked faults, by computation. The values are
+-- those that Python 3.11 gives.
+--
+-- Carries: no contract; its rows are computed as it is checked. On: Computing.
 use Rattle.std.proofs.Common.{◌≡◌, ℕ, List, [], ◌∷◌, refl, Option, Some, None, true, false, map}
 use Rattle.std.specs.Prelude.{codes}
-use Rattle.pylex.specs.declared.kinds.Kind.{Kind}
-use Rattle.pylex.specs.declared.kinds.Kind.TheVariants as kinds
+use Rattle.pylex.specs.declared.kind.Kind.{Kind}
+use Rattle.pylex.specs.declared.kind.Kind.TheVariants as kinds
 use Rattle.pynode.specs.Values.{Str, Bytes}
 use Rattle.pytoken.specs.declared.faults.TokenError.{TokenError}
 use Rattle.pytoken.specs.declared.faults.TokenError.TheVariants as errors

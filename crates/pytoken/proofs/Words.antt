@@ -1,5 +1,5 @@
--- Carries: come_back, Keyword::of. On: keywords by their characters and by their bytes, the names that a tree may hold, and the characters of a
--- repr.
+-- Carries: come_back, Keyword::of. On: keywords by their characters and by their bytes, the names
+-- that a tree may hold, and the characters of a repr.
 use Rattle.std.proofs.Common.{◌≡◌, ℕ, ◌≤◌, Bool, true, false, List, [], ◌∷◌, ◌++◌, get_or, refl, ap, ap₂, sym, subst, ◌∙◌, inl, inr, arith, Option}
 use Rattle.std.proofs.Common.{Some, None, is_some}
 use Rattle.std.specs.Prelude.{◌&&◌, ◌||◌, not, cond, nat_lt, nat_le, All}
@@ -17,10 +17,10 @@ use Rattle.unicode_ident.proofs.Computing.{unicode_ident}
 use Rattle.unicode_normalization.specs.Forms.{Nfkc, nfkc, is_in_form}
 use Rattle.unicode_normalization.proofs.FormsLemmas.{normalize-ascii}
 use Rattle.pysource.specs.Reprs.{escaped, quote_for, repr_chars, repr_text, is_unprintable}
-use Rattle.pysource.proofs.Categories.{unprintable_no_character}
+use Rattle.pysource.proofs.Printing.Categories.{unprintable_no_character}
 use Rattle.pylexeme.specs.Lexemes.{is_name}
-use Rattle.pylex.specs.declared.kinds.Kind.{Kind}
-use Rattle.pylex.specs.declared.kinds.Kind.TheVariants as kinds
+use Rattle.pylex.specs.declared.kind.Kind.{Kind}
+use Rattle.pylex.specs.declared.kind.Kind.TheVariants as kinds
 use Rattle.pynode.specs.Points.{IsPoint}
 use Rattle.pytoken.specs.declared.keywords.Keyword.{Keyword}
 use Rattle.pytoken.specs.declared.keywords.Keyword.TheVariants as words

@@ -5,9 +5,9 @@ use Rattle.std.specs.List.{list_all}
 use Rattle.std.specs.Str.{chars, encode_utf8_all}
 use Rattle.pysource.specs.declared.places.Place.{Place}
 use Rattle.pysource.specs.Places.{place_at}
-use Rattle.pylexeme.specs.Cuts.{begins_thing}
+use Rattle.pylexeme.specs.Cuts.{begins_significant}
 use Rattle.pylex.specs.declared.margins.Widths.{Widths}
-use Rattle.pylex.specs.declared.kinds.Kind.TheVariants as kinds
+use Rattle.pylex.specs.declared.kind.Kind.TheVariants as kinds
 use Rattle.pylex.specs.declared.entries.Entry.{Entry}
 use Rattle.pylex.specs.Margins.{blanks_of, widths_of}
 use Rattle.pytoken.specs.Brackets.{open_brackets}
@@ -26,7 +26,7 @@ abbrev pub margin_at : List ℕ → ℕ → List Margin
 margin_at text o =
     let line = behind_offset text o in
     let indent = length (blanks_of line) in
-    if begins_thing (drop indent line) then record { widths = widths_of line; start = place_at (encode_utf8_all text) (o + indent) } ∷ [] else []
+    if begins_significant (drop indent line) then record { widths = widths_of line; start = place_at (encode_utf8_all text) (o + indent) } ∷ [] else []
 
 -- an entry ends a line: a NEWLINE or an NL that stands within no brackets
 abbrev pub ends_line : List Entry → Entry → Bool

@@ -6,8 +6,8 @@ use Rattle.unicode_normalization.specs.Forms.{nfkc}
 use Rattle.pysource.specs.Reprs.{repr_chars, repr_text, repr_bytes}
 use Rattle.pylexeme.specs.Numbers.{is_decimal, is_radix, is_float, is_imaginary}
 use Rattle.pylexeme.specs.Lexemes.{is_name, cut}
-use Rattle.pylex.specs.declared.kinds.Kind.TheVariants as kinds
-use Rattle.pylex.specs.Lines.{widths}
+use Rattle.pylex.specs.declared.kind.Kind.TheVariants as kinds
+use Rattle.pylex.specs.Indentation.{widths}
 use Rattle.pylex.specs.Listing.{Source, listing}
 use Rattle.pylex.specs.Steps.{entries_of}
 use Rattle.pylex.specs.Steps.{fault_of as listing_fault}

@@ -6,8 +6,8 @@ use Rattle.pylexeme.specs.Numbers.{is_number}
 use Rattle.pylexeme.specs.Strings.{is_string}
 use Rattle.pylexeme.specs.Operators.{exact_of, is_operator}
 use Rattle.pylexeme.specs.Lexemes.{is_name}
-use Rattle.pylex.specs.declared.kinds.Kind.{Kind}
-use Rattle.pylex.specs.declared.kinds.Kind.TheVariants as kinds
+use Rattle.pylex.specs.declared.kind.Kind.{Kind}
+use Rattle.pylex.specs.declared.kind.Kind.TheVariants as kinds
 use Rattle.pynode.specs.Values.{Value}
 use Rattle.pytoken.specs.declared.keywords.Keyword.{Keyword}
 use Rattle.pytoken.specs.declared.faults.TokenError.{TokenError}

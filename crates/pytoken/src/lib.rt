@@ -1,10 +1,9 @@
 //! What the tokens of a Python source are to its grammar, and what they say.
 //!
-//! Here stand the definitions alone, with the laws that tie them to the language, and the few
-//! types that they name: [`Keyword`], what an escape stands for ([`Meaning`]), and what may be
-//! wrong with a token ([`TokenError`]) or a source ([`Refusal`]). [`is_identifier`] tells which texts are
-//! names. The code that reads tokens and
-//! their values is `pyparse`'s.
+//! Here stand the definitions alone, with the laws that tie them to the language, and the few types
+//! that they name: [`Keyword`], what an escape stands for ([`Meaning`]), and what may be wrong with
+//! a token ([`TokenError`]) or a source ([`Refusal`]). [`is_identifier`] tells which texts are
+//! names. The code that reads tokens and their values is `pyparse`'s.
 //!
 //! Python language reference, 2.3 "Identifiers and keywords" and 2.4 "Literals".
 //!

@@ -1,7 +1,7 @@
 //! The tree of a Python module, and what can be asked of a tree alone.
 //!
-//! The types are those of `pynode`, and come from here too. So do [`height`], which tells how high a
-//! tree is, [`copy`], which makes an equal one, [`same`], which tells whether two are equal, and
+//! The types are those of `pynode`, and come from here too. So do [`height`], which tells how high
+//! a tree is, [`copy`], which makes an equal one, [`same`], which tells whether two are equal, and
 //! [`dump`], which gives the text that Python's `ast.dump` gives, and [`Pieces`], which gives it in
 //! pieces: the walks of each are a crate of their own.
 //!

@@ -44,7 +44,8 @@ const CLASS: &str = "types exprs type:T body Pass ClassDef:C";
 const DEFINITION: &str =
     "types args args args args keys args exprs arguments body Pass FunctionDef:f";
 
-/// Asserts that the pieces of a dump put together are this text. Behind the last of them there is nothing.
+/// Asserts that the pieces of a dump put together are this text. Behind the last of them there is
+/// nothing.
 fn same_in_pieces(
     rt: &impl Abort,
     alloc: Global,

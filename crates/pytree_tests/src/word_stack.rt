@@ -1,5 +1,5 @@
-//! The stack of what words made, and what is taken off it. A word that finds another kind of thing on
-//! top than it takes up ends the test.
+//! The stack of what words made, and what is taken off it. A word that finds another kind of thing
+//! on top than it takes up ends the test.
 
 use pytree::{Arg, Arguments, Expr, Keyword, Stmt, TypeParam};
 use std::process::Abort;

@@ -1,11 +1,11 @@
 //! Trees, read from words: each word makes a node, of those that the words before it made.
 //!
-//! The word of a class is its name in `ast`, and `Load`, `Store`, `Int`, `Str` and the like those of
-//! names and constants. Behind a colon stands what the node has beside its children. A word in small
-//! letters begins a list (`exprs`, `keys`, `keywords`, `args`, `types`, `body`), or puts what is above
-//! a list behind its last member (`also`, `some`, `none`, `keyword`, `arg`, `type`). A statement goes
-//! behind the last of the body below its parts. So `f(a, b=1)` is
-//! `Load:f exprs Load:a also keywords Int:1 keyword:b Call`.
+//! The word of a class is its name in `ast`, and `Load`, `Store`, `Int`, `Str` and the like those
+//! of names and constants. Behind a colon stands what the node has beside its children. A word in
+//! small letters begins a list (`exprs`, `keys`, `keywords`, `args`, `types`, `body`), or puts what
+//! is above a list behind its last member (`also`, `some`, `none`, `keyword`, `arg`, `type`). A
+//! statement goes behind the last of the body below its parts. So `f(a, b=1)` is `Load:f exprs
+//! Load:a also keywords Int:1 keyword:b Call`.
 
 use crate::word_expressions::{compound, leaf};
 use crate::word_lists::list;

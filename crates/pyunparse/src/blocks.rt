@@ -2,10 +2,12 @@
 
 ghost use Rattle.std.specs.Prelude.{◌≡◌, ◌∷◌, [], suc, OnOk, map};
 ghost use Rattle.pygrammar.specs.Lines.{Header, class_head, function_head};
-ghost use Rattle.pynode.specs.TreeOf.{arguments_of, boxed_of, handler_of, item_of, keyword_of, stmt_of, tree_of, type_param_of};
+ghost use Rattle.pynode.specs.TreeOf.{arguments_of, boxed_of, handler_of, item_of, keyword_of};
+ghost use Rattle.pynode.specs.TreeOf.{stmt_of, tree_of, type_param_of};
 ghost use Rattle.pynode.specs.Trees as plain;
 ghost use Rattle.pynode.specs.Trees.{handlers, keywords, stmts};
-ghost use Rattle.pyunparse.specs.Inner.Lines.{Blocked, Wrote, def_lines, elif_lines, for_lines, is_if, one_handler, try_lines, with_lines};
+ghost use Rattle.pyunparse.specs.Inner.Lines.{Blocked, Wrote, def_lines, elif_lines, for_lines};
+ghost use Rattle.pyunparse.specs.Inner.Lines.{is_if, one_handler, try_lines, with_lines};
 ghost use Rattle.pywritten.specs.Modules as modules;
 ghost use Rattle.pywritten.specs.Pieces.{piece};
 ghost use Rattle.pywritten.specs.Statements.{header_tokens};
@@ -24,7 +26,9 @@ use std::alloc::AllocError;
 /// Writes statements, each on lines of its own.
 #[cycle(blocks)]
 pub(crate) fn write_stmts(out: &mut TextWriter, body: &[Stmt]) -> Result<(), AllocError>
-    ensures { OnOk result (Wrote out.old out.new (modules.lines_of piece out.old.level (stmts (map stmt_of body.now)))) }
+    ensures { OnOk result
+        (Wrote out.old out.new
+        (modules.lines_of piece out.old.level (stmts (map stmt_of body.now)))) }
 {
     for s in body {
         write_stmt(out, s)?;
@@ -35,7 +39,9 @@ pub(crate) fn write_stmts(out: &mut TextWriter, body: &[Stmt]) -> Result<(), All
 /// Ends a header's line, and writes its block a level deeper.
 #[cycle(blocks)]
 fn write_block(out: &mut TextWriter, body: &[Stmt]) -> Result<(), AllocError>
-    ensures { OnOk result (Blocked out.old out.new (modules.lines_of piece (suc out.old.level) (stmts (map stmt_of body.now)))) }
+    ensures { OnOk result
+        (Blocked out.old out.new
+        (modules.lines_of piece (suc out.old.level) (stmts (map stmt_of body.now)))) }
 {
     out.end_line()?;
     out.indent()?;
@@ -48,7 +54,8 @@ fn write_block(out: &mut TextWriter, body: &[Stmt]) -> Result<(), AllocError>
 #[cycle(blocks)]
 #[tactic(auto, using(pynode::proofs::Callers::StmtShapes::stmt_shapes))]
 fn write_stmt(out: &mut TextWriter, s: &Stmt) -> Result<(), AllocError>
-    ensures { OnOk result (Wrote out.old out.new (modules.statement_lines piece out.old.level (stmt_of s.now))) }
+    ensures { OnOk result
+        (Wrote out.old out.new (modules.statement_lines piece out.old.level (stmt_of s.now))) }
 {
     match s {
         Stmt::If { test, body, orelse } => write_if(out, test, body, orelse),
@@ -125,7 +132,8 @@ fn write_if(
     orelse: &[Stmt],
 ) -> Result<(), AllocError>
     ensures { OnOk result (Wrote out.old out.new (modules.statement_lines piece out.old.level
-        (plain.If (tree_of test.now) (stmts (map stmt_of body.now)) (stmts (map stmt_of orelse.now))))) }
+        (plain.If (tree_of test.now) (stmts (map stmt_of body.now))
+        (stmts (map stmt_of orelse.now))))) }
 {
     out.begin_line()?;
     write_test_header(out, Keyword::If, test)?;
@@ -142,7 +150,8 @@ fn write_while(
     orelse: &[Stmt],
 ) -> Result<(), AllocError>
     ensures { OnOk result (Wrote out.old out.new (modules.statement_lines piece out.old.level
-        (plain.While (tree_of test.now) (stmts (map stmt_of body.now)) (stmts (map stmt_of orelse.now))))) }
+        (plain.While (tree_of test.now) (stmts (map stmt_of body.now))
+        (stmts (map stmt_of orelse.now))))) }
 {
     out.begin_line()?;
     write_test_header(out, Keyword::While, test)?;
@@ -160,7 +169,9 @@ fn write_for(
     body: &[Stmt],
     orelse: &[Stmt],
 ) -> Result<(), AllocError>
-    ensures { OnOk result (Wrote out.old out.new (for_lines out.old.level is_async (tree_of target.now) (tree_of iter.now)
+    ensures { OnOk result
+        (Wrote out.old out.new
+        (for_lines out.old.level is_async (tree_of target.now) (tree_of iter.now)
         (stmts (map stmt_of body.now)) (stmts (map stmt_of orelse.now)))) }
 {
     out.begin_line()?;
@@ -177,7 +188,10 @@ fn write_with(
     items: &[Item],
     body: &[Stmt],
 ) -> Result<(), AllocError>
-    ensures { OnOk result (Wrote out.old out.new (with_lines out.old.level is_async (map item_of items.now) (stmts (map stmt_of body.now)))) }
+    ensures { OnOk result
+        (Wrote out.old out.new
+        (with_lines out.old.level is_async (map item_of items.now)
+        (stmts (map stmt_of body.now)))) }
 {
     out.begin_line()?;
     write_with_header(out, is_async, items)?;
@@ -196,7 +210,8 @@ fn write_function(
     body: &[Stmt],
 ) -> Result<(), AllocError>
     ensures { OnOk result (Wrote out.old out.new (def_lines out.old.level
-        (function_head is_async name.now (map type_param_of type_params.now) (arguments_of args.now) (boxed_of returns.now)) (stmts (map stmt_of body.now)))) }
+        (function_head is_async name.now (map type_param_of type_params.now) (arguments_of args.now)
+        (boxed_of returns.now)) (stmts (map stmt_of body.now)))) }
 {
     out.begin_line()?;
     write_function_header(out, is_async, name, type_params, args, returns)?;
@@ -214,7 +229,8 @@ fn write_class(
     body: &[Stmt],
 ) -> Result<(), AllocError>
     ensures { OnOk result (Wrote out.old out.new (def_lines out.old.level
-        (class_head name.now (map type_param_of type_params.now) (map tree_of bases.now) (keywords (map keyword_of words.now))) (stmts (map stmt_of body.now)))) }
+        (class_head name.now (map type_param_of type_params.now) (map tree_of bases.now)
+        (keywords (map keyword_of words.now))) (stmts (map stmt_of body.now)))) }
 {
     out.begin_line()?;
     write_class_header(out, name, type_params, bases, words)?;
@@ -231,7 +247,10 @@ fn write_try(
     orelse: &[Stmt],
     finalbody: &[Stmt],
 ) -> Result<(), AllocError>
-    ensures { OnOk result (Wrote out.old out.new (try_lines out.old.level is_star (stmts (map stmt_of body.now)) (handlers (map handler_of caught.now))
+    ensures { OnOk result
+        (Wrote out.old out.new
+        (try_lines out.old.level is_star (stmts (map stmt_of body.now))
+        (handlers (map handler_of caught.now))
         (stmts (map stmt_of orelse.now)) (stmts (map stmt_of finalbody.now)))) }
 {
     out.begin_line()?;
@@ -245,7 +264,10 @@ fn write_try(
 /// Writes the handlers of a `try`.
 #[cycle(blocks)]
 fn write_handlers(out: &mut TextWriter, is_star: bool, caught: &[Handler]) -> Result<(), AllocError>
-    ensures { OnOk result (Wrote out.old out.new (modules.handler_lines piece out.old.level is_star (handlers (map handler_of caught.now)))) }
+    ensures { OnOk result
+        (Wrote out.old out.new
+        (modules.handler_lines piece out.old.level is_star
+        (handlers (map handler_of caught.now)))) }
 {
     for handler in caught {
         write_handler(out, is_star, handler)?;
@@ -256,7 +278,8 @@ fn write_handlers(out: &mut TextWriter, is_star: bool, caught: &[Handler]) -> Re
 /// Writes a handler of a `try`.
 #[cycle(blocks)]
 fn write_handler(out: &mut TextWriter, is_star: bool, handler: &Handler) -> Result<(), AllocError>
-    ensures { OnOk result (Wrote out.old out.new (one_handler out.old.level is_star (handler_of handler.now))) }
+    ensures { OnOk result
+        (Wrote out.old out.new (one_handler out.old.level is_star (handler_of handler.now))) }
 {
     out.begin_line()?;
     write_except_header(out, is_star, &handler.class, &handler.name)?;
@@ -266,7 +289,10 @@ fn write_handler(out: &mut TextWriter, is_star: bool, handler: &Handler) -> Resu
 /// Writes a clause that is a keyword and a block, if the block isn't empty.
 #[cycle(blocks)]
 fn write_clause(out: &mut TextWriter, word: Keyword, body: &[Stmt]) -> Result<(), AllocError>
-    ensures { (h : Header) → header_tokens piece h ≡ written.word piece word ∷ [] → OnOk result (Wrote out.old out.new (modules.clause piece out.old.level h (stmts (map stmt_of body.now)))) }
+    ensures { (h : Header) → header_tokens piece h ≡ written.word piece word ∷ []
+        → OnOk result
+        (Wrote out.old out.new
+        (modules.clause piece out.old.level h (stmts (map stmt_of body.now)))) }
 {
     if body.is_empty() {
         return Ok(());
@@ -286,7 +312,9 @@ fn is_if(s: &Stmt) -> bool
 /// Writes what an `if` has else: an `elif` where that is exactly one `if`.
 #[cycle(blocks)]
 fn write_alternative(out: &mut TextWriter, body: &[Stmt]) -> Result<(), AllocError>
-    ensures { OnOk result (Wrote out.old out.new (modules.alternative piece out.old.level (stmts (map stmt_of body.now)))) }
+    ensures { OnOk result
+        (Wrote out.old out.new
+        (modules.alternative piece out.old.level (stmts (map stmt_of body.now)))) }
 {
     let count = body.len();
     if count != 1 {

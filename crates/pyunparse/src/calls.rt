@@ -34,7 +34,10 @@ pub(crate) fn write_attribute<W: Writer>(
     value: &Expr,
     attr: &Identifier,
 ) -> Result<(), AllocError>
-    ensures { (c : Context) → OnOk result (out.new ≡ puts W.after out.old (pieces level (plain.Attribute (tree_of value.now) attr.now c))) }
+    ensures { (c : Context)
+        → OnOk result
+        (out.new ≡ puts W.after out.old
+        (pieces level (plain.Attribute (tree_of value.now) attr.now c))) }
 {
     let bare = reaches(level, Level::Primary);
     open(out, bare)?;
@@ -52,7 +55,10 @@ pub(crate) fn write_subscript<W: Writer>(
     value: &Expr,
     slice: &Expr,
 ) -> Result<(), AllocError>
-    ensures { (c : Context) → OnOk result (out.new ≡ puts W.after out.old (pieces level (plain.Subscript (tree_of value.now) (tree_of slice.now) c))) }
+    ensures { (c : Context)
+        → OnOk result
+        (out.new ≡ puts W.after out.old
+        (pieces level (plain.Subscript (tree_of value.now) (tree_of slice.now) c))) }
 {
     let bare = reaches(level, Level::Primary);
     open(out, bare)?;
@@ -72,7 +78,11 @@ pub(crate) fn write_call<W: Writer>(
     args: &[Expr],
     words: &[Keyword],
 ) -> Result<(), AllocError>
-    ensures { OnOk result (out.new ≡ puts W.after out.old (pieces level (plain.Call (tree_of func.now) (exprs (map tree_of args.now)) (keywords (map keyword_of words.now))))) }
+    ensures { OnOk result
+        (out.new ≡ puts W.after out.old
+        (pieces level
+        (plain.Call (tree_of func.now) (exprs (map tree_of args.now))
+        (keywords (map keyword_of words.now))))) }
 {
     let bare = reaches(level, Level::Primary);
     open(out, bare)?;
@@ -92,7 +102,8 @@ fn is_generator(e: &Expr) -> bool
 
 /// Whether the arguments of a call are a generator that stands alone.
 fn is_lone(args: &[Expr], words: &[Keyword]) -> bool
-    ensures { result ≡ lone_generator (exprs (map tree_of args.now)) (keywords (map keyword_of words.now)) }
+    ensures { result
+        ≡ lone_generator (exprs (map tree_of args.now)) (keywords (map keyword_of words.now)) }
 {
     if !words.is_empty() {
         return false;
@@ -107,7 +118,8 @@ fn is_lone(args: &[Expr], words: &[Keyword]) -> bool
 /// Writes a generator without brackets, and any other expression not at all.
 #[cycle(writing)]
 fn write_alone<W: Writer>(out: &mut W, e: &Expr) -> Result<(), AllocError>
-    ensures { OnOk result (out.new ≡ puts W.after out.old (alone piece (an_expr (tree_of e.now) no_exprs))) }
+    ensures { OnOk result
+        (out.new ≡ puts W.after out.old (alone piece (an_expr (tree_of e.now) no_exprs))) }
 {
     match e {
         Expr::GeneratorExp { elt, generators } => write_generator(out, elt, generators),
@@ -122,9 +134,13 @@ fn write_arguments<W: Writer>(
     args: &[Expr],
     words: &[Keyword],
 ) -> Result<(), AllocError>
-    ensures { OnOk result (out.new ≡ puts W.after out.old (if lone_generator (exprs (map tree_of args.now)) (keywords (map keyword_of words.now))
+    ensures { OnOk result
+        (out.new ≡ puts W.after out.old
+        (if lone_generator (exprs (map tree_of args.now)) (keywords (map keyword_of words.now))
         then alone piece (exprs (map tree_of args.now))
-        else listed piece (each piece Level.Named (exprs (map tree_of args.now)) ++ by_name piece (keywords (map keyword_of words.now))))) }
+        else listed piece
+        (each piece Level.Named (exprs (map tree_of args.now))
+        ++ by_name piece (keywords (map keyword_of words.now))))) }
 {
     if is_lone(args, words) {
         return write_alone(out, &args[0]);
@@ -140,7 +156,10 @@ pub(crate) fn write_keywords<W: Writer>(
     is_first: bool,
     words: &[Keyword],
 ) -> Result<(), AllocError>
-    ensures { OnOk result (out.new ≡ puts W.after out.old (members is_first (trailing piece Comma) (by_name piece (keywords (map keyword_of words.now))))) }
+    ensures { OnOk result
+        (out.new ≡ puts W.after out.old
+        (members is_first (trailing piece Comma)
+        (by_name piece (keywords (map keyword_of words.now))))) }
 {
     let mut first = is_first;
     for word in words {

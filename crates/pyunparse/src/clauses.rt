@@ -28,7 +28,11 @@ pub(crate) fn write_comprehension<W: Writer>(
     elt: &Expr,
     generators: &[Comprehension],
 ) -> Result<(), AllocError>
-    ensures { OnOk result (out.new ≡ puts W.after out.old (enclosed piece (leading piece opener) closer (pieces Level.Named (tree_of elt.now) ++ clauses piece (comprehensions (map comprehension_of generators.now))))) }
+    ensures { OnOk result
+        (out.new ≡ puts W.after out.old
+        (enclosed piece (leading piece opener) closer
+        (pieces Level.Named (tree_of elt.now)
+        ++ clauses piece (comprehensions (map comprehension_of generators.now))))) }
 {
     put_sign(out, opener, false, true)?;
     write_generator(out, elt, generators)?;
@@ -42,7 +46,10 @@ pub(crate) fn write_generator<W: Writer>(
     elt: &Expr,
     generators: &[Comprehension],
 ) -> Result<(), AllocError>
-    ensures { OnOk result (out.new ≡ puts W.after out.old (pieces Level.Named (tree_of elt.now) ++ clauses piece (comprehensions (map comprehension_of generators.now)))) }
+    ensures { OnOk result
+        (out.new ≡ puts W.after out.old
+        (pieces Level.Named (tree_of elt.now)
+        ++ clauses piece (comprehensions (map comprehension_of generators.now)))) }
 {
     write_expr(out, Level::Named, elt)?;
     write_clauses(out, generators)
@@ -56,8 +63,12 @@ pub(crate) fn write_dict_comprehension<W: Writer>(
     value: &Expr,
     generators: &[Comprehension],
 ) -> Result<(), AllocError>
-    ensures { OnOk result (out.new ≡ puts W.after out.old (enclosed piece (leading piece LBrace) RBrace (pieces Level.Expression (tree_of key.now)
-        ++ (trailing piece Colon ∷ (pieces Level.Expression (tree_of value.now) ++ clauses piece (comprehensions (map comprehension_of generators.now))))))) }
+    ensures { OnOk result
+        (out.new ≡ puts W.after out.old
+        (enclosed piece (leading piece LBrace) RBrace (pieces Level.Expression (tree_of key.now)
+        ++ (trailing piece Colon
+        ∷ (pieces Level.Expression (tree_of value.now)
+        ++ clauses piece (comprehensions (map comprehension_of generators.now))))))) }
 {
     put_sign(out, Exact::LBrace, false, true)?;
     write_expr(out, Level::Expression, key)?;
@@ -70,7 +81,9 @@ pub(crate) fn write_dict_comprehension<W: Writer>(
 /// Writes the clauses of a comprehension.
 #[cycle(writing)]
 fn write_clauses<W: Writer>(out: &mut W, generators: &[Comprehension]) -> Result<(), AllocError>
-    ensures { OnOk result (out.new ≡ puts W.after out.old (clauses piece (comprehensions (map comprehension_of generators.now)))) }
+    ensures { OnOk result
+        (out.new ≡ puts W.after out.old
+        (clauses piece (comprehensions (map comprehension_of generators.now)))) }
 {
     for generator in generators {
         write_clause(out, generator)?;
@@ -91,7 +104,8 @@ fn put_for<W: Writer>(out: &mut W, is_async: bool) -> Result<(), AllocError>
 /// Writes a clause of a comprehension.
 #[cycle(writing)]
 fn write_clause<W: Writer>(out: &mut W, generator: &Comprehension) -> Result<(), AllocError>
-    ensures { OnOk result (out.new ≡ puts W.after out.old (clause (comprehension_of generator.now))) }
+    ensures { OnOk result
+        (out.new ≡ puts W.after out.old (clause (comprehension_of generator.now))) }
 {
     put_for(out, generator.is_async)?;
     write_expr(out, Level::Stars, &generator.target)?;
@@ -103,7 +117,8 @@ fn write_clause<W: Writer>(out: &mut W, generator: &Comprehension) -> Result<(),
 /// Writes the conditions of a clause.
 #[cycle(writing)]
 fn write_conditions<W: Writer>(out: &mut W, ifs: &[Expr]) -> Result<(), AllocError>
-    ensures { OnOk result (out.new ≡ puts W.after out.old (conditions piece (exprs (map tree_of ifs.now)))) }
+    ensures { OnOk result
+        (out.new ≡ puts W.after out.old (conditions piece (exprs (map tree_of ifs.now)))) }
 {
     for test in ifs {
         write_condition(out, test)?;

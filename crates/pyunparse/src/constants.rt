@@ -16,7 +16,9 @@ use std::alloc::AllocError;
 
 /// Writes a constant.
 pub(crate) fn put_constant<W: Writer>(out: &mut W, value: &Constant) -> Result<(), AllocError>
-    ensures { OnOk result (out.new ≡ puts W.after out.old (free piece (constant_terminal (constant_of value.now)) ∷ [])) }
+    ensures { OnOk result
+        (out.new ≡ puts W.after out.old
+        (free piece (constant_terminal (constant_of value.now)) ∷ [])) }
 {
     match value {
         Constant::None => put_word(out, Keyword::None),

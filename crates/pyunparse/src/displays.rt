@@ -30,7 +30,9 @@ pub(crate) fn write_members<W: Writer>(
     level: Level,
     es: &[Expr],
 ) -> Result<(), AllocError>
-    ensures { OnOk result (out.new ≡ puts W.after out.old (members is_first (mark between) (each piece level (exprs (map tree_of es.now))))) }
+    ensures { OnOk result
+        (out.new ≡ puts W.after out.old
+        (members is_first (mark between) (each piece level (exprs (map tree_of es.now))))) }
 {
     let mut first = is_first;
     for e in es {
@@ -49,7 +51,10 @@ pub(crate) fn write_display<W: Writer>(
     closer: Exact,
     elts: &[Expr],
 ) -> Result<(), AllocError>
-    ensures { OnOk result (out.new ≡ puts W.after out.old (enclosed piece (leading piece opener) closer (listed piece (each piece Level.Elem (exprs (map tree_of elts.now)))))) }
+    ensures { OnOk result
+        (out.new ≡ puts W.after out.old
+        (enclosed piece (leading piece opener) closer
+        (listed piece (each piece Level.Elem (exprs (map tree_of elts.now)))))) }
 {
     put_sign(out, opener, false, true)?;
     write_members(out, true, Between::Comma, Level::Elem, elts)?;
@@ -63,7 +68,12 @@ pub(crate) fn write_dict<W: Writer>(
     keys: &[Option<Expr>],
     values: &[Expr],
 ) -> Result<(), AllocError>
-    ensures { OnOk result (out.new ≡ puts W.after out.old (enclosed piece (leading piece LBrace) RBrace (listed piece (pairs piece (written_keys piece (optionals (map option_of keys.now))) (exprs (map tree_of values.now)))))) }
+    ensures { OnOk result
+        (out.new ≡ puts W.after out.old
+        (enclosed piece (leading piece LBrace) RBrace
+        (listed piece
+        (pairs piece (written_keys piece (optionals (map option_of keys.now)))
+        (exprs (map tree_of values.now)))))) }
 {
     put_sign(out, Exact::LBrace, false, true)?;
     write_pairs(out, keys, values)?;
@@ -77,7 +87,11 @@ fn write_pairs<W: Writer>(
     keys: &[Option<Expr>],
     values: &[Expr],
 ) -> Result<(), AllocError>
-    ensures { OnOk result (out.new ≡ puts W.after out.old (listed piece (pairs piece (written_keys piece (optionals (map option_of keys.now))) (exprs (map tree_of values.now))))) }
+    ensures { OnOk result
+        (out.new ≡ puts W.after out.old
+        (listed piece
+        (pairs piece (written_keys piece (optionals (map option_of keys.now)))
+        (exprs (map tree_of values.now))))) }
 {
     let mut first = true;
     for i in 0..keys.len().min(values.len()) {
@@ -91,7 +105,8 @@ fn write_pairs<W: Writer>(
 /// Writes a key and its value, or `**` and a value.
 #[cycle(writing)]
 fn write_pair<W: Writer>(out: &mut W, key: &Option<Expr>, value: &Expr) -> Result<(), AllocError>
-    ensures { OnOk result (out.new ≡ puts W.after out.old (pair (option_of key.now) (tree_of value.now))) }
+    ensures { OnOk result
+        (out.new ≡ puts W.after out.old (pair (option_of key.now) (tree_of value.now))) }
 {
     match key {
         None => {

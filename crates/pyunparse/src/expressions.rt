@@ -89,9 +89,12 @@ pub(crate) fn write_expr<W: Writer>(out: &mut W, level: Level, e: &Expr) -> Resu
 ///
 /// Each has its type and its text. The only error is of memory.
 pub fn expression_tokens(alloc: Global, expr: &Expr, level: Level) -> Result<Vec<Piece>, AllocError>
-    ensures tokens { IfOk result (λ tokens. map told tokens.items ≡ map in_bytes (pieces level (tree_of expr.now))) }
-    ensures fewest { (ts : List Terminal) → Derives level ts (tree_of expr.now) → Shortest (Derives level) (terminals level (tree_of expr.now)) (tree_of expr.now) }
-    ensures read { (ts : List Terminal) → All IsOfToken ts → Derives level ts (tree_of expr.now) → AreRead (pieces level (tree_of expr.now)) (terminals level (tree_of expr.now)) }
+    ensures tokens { IfOk result
+        (λ tokens. map told tokens.items ≡ map in_bytes (pieces level (tree_of expr.now))) }
+    ensures fewest { (ts : List Terminal) → Derives level ts (tree_of expr.now)
+        → Shortest (Derives level) (terminals level (tree_of expr.now)) (tree_of expr.now) }
+    ensures read { (ts : List Terminal) → All IsOfToken ts → Derives level ts (tree_of expr.now)
+        → AreRead (pieces level (tree_of expr.now)) (terminals level (tree_of expr.now)) }
 {
     let mut out = PieceWriter::new(alloc);
     write_expr(&mut out, level, expr)?;

@@ -1,11 +1,12 @@
 //! Headers, up to their colons and with them.
 
-#![tactic(auto, using(crate::proofs::FoldLemmas::puts_append))]
+#![tactic(auto, using(crate::proofs::Sequences::FoldLemmas::puts_append))]
 
 ghost use Rattle.std.specs.Prelude.{◌≡◌, ◌++◌, ◌∷◌, [], None, OnOk, map};
 ghost use Rattle.pylexeme.specs.declared.kinds.Exact.TheVariants.{Colon};
 ghost use Rattle.pygrammar.specs.Lines as lines;
-ghost use Rattle.pynode.specs.TreeOf.{arguments_of, boxed_of, item_of, keyword_of, option_of, tree_of, type_param_of};
+ghost use Rattle.pynode.specs.TreeOf.{arguments_of, boxed_of, item_of, keyword_of, option_of};
+ghost use Rattle.pynode.specs.TreeOf.{tree_of, type_param_of};
 ghost use Rattle.pynode.specs.Trees.{exprs, keywords};
 ghost use Rattle.pyunparse.specs.Inner.Folds.{puts};
 ghost use Rattle.pyunparse.specs.Inner.Lines.{with_colon};
@@ -40,7 +41,8 @@ fn put_colon<W: Writer>(out: &mut W) -> Result<(), AllocError>
 
 /// Writes a header that is a keyword alone.
 pub(crate) fn write_word_header<W: Writer>(out: &mut W, word: Keyword) -> Result<(), AllocError>
-    ensures { OnOk result (out.new ≡ puts W.after out.old (written_word piece word ∷ (trailing piece Colon ∷ []))) }
+    ensures { OnOk result
+        (out.new ≡ puts W.after out.old (written_word piece word ∷ (trailing piece Colon ∷ []))) }
 {
     put_word(out, word)?;
     put_colon(out)
@@ -52,7 +54,10 @@ pub(crate) fn write_test_header<W: Writer>(
     word: Keyword,
     test: &Expr,
 ) -> Result<(), AllocError>
-    ensures { OnOk result (out.new ≡ puts W.after out.old (written_word piece word ∷ (pieces Level.Named (tree_of test.now) ++ trailing piece Colon ∷ []))) }
+    ensures { OnOk result
+        (out.new ≡ puts W.after out.old
+        (written_word piece word
+        ∷ (pieces Level.Named (tree_of test.now) ++ trailing piece Colon ∷ []))) }
 {
     put_word(out, word)?;
     write_expr(out, Level::Named, test)?;
@@ -76,7 +81,10 @@ pub(crate) fn write_for_header<W: Writer>(
     target: &Expr,
     iter: &Expr,
 ) -> Result<(), AllocError>
-    ensures { OnOk result (out.new ≡ puts W.after out.old (with_colon (lines.loop_header (lines.for_head is_async (tree_of target.now) (tree_of iter.now))))) }
+    ensures { OnOk result
+        (out.new ≡ puts W.after out.old
+        (with_colon (lines.loop_header
+        (lines.for_head is_async (tree_of target.now) (tree_of iter.now))))) }
 {
     put_async(out, is_async)?;
     put_word(out, Keyword::For)?;
@@ -122,7 +130,8 @@ fn need_brackets(items: &[Item]) -> bool
 
 /// Writes the target of an item, which may be starred.
 fn write_item_target<W: Writer>(out: &mut W, target: &Expr) -> Result<(), AllocError>
-    ensures { OnOk result (out.new ≡ puts W.after out.old (written.item_target piece (tree_of target.now))) }
+    ensures { OnOk result
+        (out.new ≡ puts W.after out.old (written.item_target piece (tree_of target.now))) }
 {
     match target {
         Expr::Starred { value, .. } => {
@@ -135,7 +144,9 @@ fn write_item_target<W: Writer>(out: &mut W, target: &Expr) -> Result<(), AllocE
 
 /// Writes the items of a `with`.
 fn write_items<W: Writer>(out: &mut W, items: &[Item]) -> Result<(), AllocError>
-    ensures { OnOk result (out.new ≡ puts W.after out.old (listed piece (map (written.item piece) (map item_of items.now)))) }
+    ensures { OnOk result
+        (out.new ≡ puts W.after out.old
+        (listed piece (map (written.item piece) (map item_of items.now)))) }
 {
     let mut first = true;
     for item in items {
@@ -156,7 +167,8 @@ fn write_item<W: Writer>(out: &mut W, item: &Item) -> Result<(), AllocError>
 
 /// Writes what an item of a `with` is given to, if it is given to something.
 fn write_target<W: Writer>(out: &mut W, target: &Option<Expr>) -> Result<(), AllocError>
-    ensures { OnOk result (out.new ≡ puts W.after out.old (written.as_target piece (option_of target.now))) }
+    ensures { OnOk result
+        (out.new ≡ puts W.after out.old (written.as_target piece (option_of target.now))) }
 {
     match target {
         None => Ok(()),
@@ -173,7 +185,9 @@ pub(crate) fn write_with_header<W: Writer>(
     is_async: bool,
     items: &[Item],
 ) -> Result<(), AllocError>
-    ensures { OnOk result (out.new ≡ puts W.after out.old (with_colon (lines.with_header is_async (map item_of items.now)))) }
+    ensures { OnOk result
+        (out.new ≡ puts W.after out.old
+        (with_colon (lines.with_header is_async (map item_of items.now)))) }
 {
     put_async(out, is_async)?;
     put_word(out, Keyword::With)?;
@@ -201,7 +215,9 @@ pub(crate) fn write_except_header<W: Writer>(
     class: &Option<Expr>,
     name: &Option<Identifier>,
 ) -> Result<(), AllocError>
-    ensures { OnOk result (out.new ≡ puts W.after out.old (with_colon (lines.except_header is_star (option_of class.now) name.now))) }
+    ensures { OnOk result
+        (out.new ≡ puts W.after out.old
+        (with_colon (lines.except_header is_star (option_of class.now) name.now))) }
 {
     put_word(out, Keyword::Except)?;
     put_star(out, is_star)?;
@@ -219,7 +235,11 @@ pub(crate) fn write_function_header<W: Writer>(
     args: &Arguments,
     returns: &Option<Box<Expr>>,
 ) -> Result<(), AllocError>
-    ensures { OnOk result (out.new ≡ puts W.after out.old (with_colon (lines.def_header (lines.function_head is_async name.now (map type_param_of type_params.now) (arguments_of args.now) (boxed_of returns.now))))) }
+    ensures { OnOk result
+        (out.new ≡ puts W.after out.old
+        (with_colon (lines.def_header
+        (lines.function_head is_async name.now (map type_param_of type_params.now)
+        (arguments_of args.now) (boxed_of returns.now))))) }
 {
     put_async(out, is_async)?;
     put_word(out, Keyword::Def)?;
@@ -234,7 +254,9 @@ pub(crate) fn write_function_header<W: Writer>(
 
 /// Writes the bases and keywords of a class in their brackets, if there are any.
 fn write_bases<W: Writer>(out: &mut W, bases: &[Expr], words: &[Word]) -> Result<(), AllocError>
-    ensures { OnOk result (out.new ≡ puts W.after out.old (written.bases piece (map tree_of bases.now) (keywords (map keyword_of words.now)))) }
+    ensures { OnOk result
+        (out.new ≡ puts W.after out.old
+        (written.bases piece (map tree_of bases.now) (keywords (map keyword_of words.now)))) }
 {
     let first = bases.is_empty();
     let none = first & words.is_empty();
@@ -255,7 +277,11 @@ pub(crate) fn write_class_header<W: Writer>(
     bases: &[Expr],
     words: &[Word],
 ) -> Result<(), AllocError>
-    ensures { OnOk result (out.new ≡ puts W.after out.old (with_colon (lines.def_header (lines.class_head name.now (map type_param_of type_params.now) (map tree_of bases.now) (keywords (map keyword_of words.now)))))) }
+    ensures { OnOk result
+        (out.new ≡ puts W.after out.old
+        (with_colon (lines.def_header
+        (lines.class_head name.now (map type_param_of type_params.now) (map tree_of bases.now)
+        (keywords (map keyword_of words.now)))))) }
 {
     put_word(out, Keyword::Class)?;
     put_name(out, name)?;

@@ -1,6 +1,6 @@
 //! Imports.
 
-#![tactic(auto, using(crate::proofs::FoldLemmas::puts_append))]
+#![tactic(auto, using(crate::proofs::Sequences::FoldLemmas::puts_append))]
 
 ghost use Rattle.std.specs.Prelude.{◌≡◌, None, OnOk, map, false};
 ghost use Rattle.std.specs.Str.{chars};
@@ -24,7 +24,8 @@ pub(crate) fn write_dotted<W: Writer>(
     close: bool,
     name: &str,
 ) -> Result<(), AllocError>
-    ensures { OnOk result (out.new ≡ puts W.after out.old (written.dotted piece close (chars name.now))) }
+    ensures { OnOk result
+        (out.new ≡ puts W.after out.old (written.dotted piece close (chars name.now))) }
 {
     let mut before = close;
     let mut rest = name;
@@ -39,7 +40,8 @@ pub(crate) fn write_dotted<W: Writer>(
 
 /// Writes the points of a relative import: three of them are one token.
 pub(crate) fn write_points<W: Writer>(out: &mut W, count: u64) -> Result<(), AllocError>
-    ensures { OnOk result (out.new ≡ puts W.after out.old (written.point_signs piece false (written.points count))) }
+    ensures { OnOk result
+        (out.new ≡ puts W.after out.old (written.point_signs piece false (written.points count))) }
 {
     let mut close = false;
     let mut left = count;
@@ -71,7 +73,9 @@ pub(crate) fn write_as<W: Writer>(out: &mut W, name: &Option<Identifier>) -> Res
 
 /// Writes the names of an `import`.
 pub(crate) fn write_modules<W: Writer>(out: &mut W, names: &[Alias]) -> Result<(), AllocError>
-    ensures { OnOk result (out.new ≡ puts W.after out.old (listed piece (map (written.dotted_alias piece) (map alias_of names.now)))) }
+    ensures { OnOk result
+        (out.new ≡ puts W.after out.old
+        (listed piece (map (written.dotted_alias piece) (map alias_of names.now)))) }
 {
     let mut first = true;
     for alias in names {
@@ -84,7 +88,8 @@ pub(crate) fn write_modules<W: Writer>(out: &mut W, names: &[Alias]) -> Result<(
 
 /// Writes a module's name, and the name that it is given.
 fn write_module<W: Writer>(out: &mut W, alias: &Alias) -> Result<(), AllocError>
-    ensures { OnOk result (out.new ≡ puts W.after out.old (written.dotted_alias piece (alias_of alias.now))) }
+    ensures { OnOk result
+        (out.new ≡ puts W.after out.old (written.dotted_alias piece (alias_of alias.now))) }
 {
     write_dotted(out, false, alias.name.as_str())?;
     write_as(out, &alias.asname)
@@ -110,7 +115,8 @@ fn are_all(names: &[Alias]) -> bool
 
 /// Writes the names of an import from a module.
 pub(crate) fn write_imported<W: Writer>(out: &mut W, names: &[Alias]) -> Result<(), AllocError>
-    ensures { OnOk result (out.new ≡ puts W.after out.old (written.imported piece (map alias_of names.now))) }
+    ensures { OnOk result
+        (out.new ≡ puts W.after out.old (written.imported piece (map alias_of names.now))) }
 {
     if are_all(names) {
         return put_sign(out, Exact::Star, false, false);
@@ -120,7 +126,9 @@ pub(crate) fn write_imported<W: Writer>(out: &mut W, names: &[Alias]) -> Result<
 
 /// Writes names with the names that they are given.
 fn write_aliases<W: Writer>(out: &mut W, names: &[Alias]) -> Result<(), AllocError>
-    ensures { OnOk result (out.new ≡ puts W.after out.old (listed piece (map (written.name_alias piece) (map alias_of names.now)))) }
+    ensures { OnOk result
+        (out.new ≡ puts W.after out.old
+        (listed piece (map (written.name_alias piece) (map alias_of names.now)))) }
 {
     let mut first = true;
     for alias in names {
@@ -133,7 +141,8 @@ fn write_aliases<W: Writer>(out: &mut W, names: &[Alias]) -> Result<(), AllocErr
 
 /// Writes a name, and the name that it is given.
 fn write_alias<W: Writer>(out: &mut W, alias: &Alias) -> Result<(), AllocError>
-    ensures { OnOk result (out.new ≡ puts W.after out.old (written.name_alias piece (alias_of alias.now))) }
+    ensures { OnOk result
+        (out.new ≡ puts W.after out.old (written.name_alias piece (alias_of alias.now))) }
 {
     put_name(out, &alias.name)?;
     write_as(out, &alias.asname)

@@ -22,7 +22,9 @@ use std::alloc::AllocError;
 
 /// Writes a simple statement on a line of its own.
 pub(crate) fn write_line(out: &mut TextWriter, s: &Stmt) -> Result<(), AllocError>
-    ensures { OnOk result (Wrote out.old out.new (written_line out.old.level (simple_tokens piece (stmt_of s.now)) ∷ [])) }
+    ensures { OnOk result
+        (Wrote out.old out.new
+        (written_line out.old.level (simple_tokens piece (stmt_of s.now)) ∷ [])) }
 {
     out.begin_line()?;
     write_simple(out, s)?;
@@ -31,7 +33,9 @@ pub(crate) fn write_line(out: &mut TextWriter, s: &Stmt) -> Result<(), AllocErro
 
 /// Writes a decorator on a line of its own.
 fn write_decorator(out: &mut TextWriter, e: &Expr) -> Result<(), AllocError>
-    ensures { OnOk result (Wrote out.old out.new (written_line out.old.level (leading piece At ∷ pieces Level.Named (tree_of e.now)) ∷ [])) }
+    ensures { OnOk result
+        (Wrote out.old out.new
+        (written_line out.old.level (leading piece At ∷ pieces Level.Named (tree_of e.now)) ∷ [])) }
 {
     out.begin_line()?;
     put_sign(out, Exact::At, false, true)?;
@@ -41,7 +45,9 @@ fn write_decorator(out: &mut TextWriter, e: &Expr) -> Result<(), AllocError>
 
 /// Writes decorators, each on a line of its own.
 pub(crate) fn write_decorators(out: &mut TextWriter, decorators: &[Expr]) -> Result<(), AllocError>
-    ensures { OnOk result (Wrote out.old out.new (modules.decorators piece out.old.level (map tree_of decorators.now))) }
+    ensures { OnOk result
+        (Wrote out.old out.new
+        (modules.decorators piece out.old.level (map tree_of decorators.now))) }
 {
     for e in decorators {
         write_decorator(out, e)?;

@@ -17,8 +17,10 @@ use std::alloc::{AllocError, Global};
 ///
 /// Each line ends in a line feed; an empty module has the empty text. The only error is of memory.
 pub fn unparse(alloc: Global, module: &Module) -> Result<String, AllocError>
-    ensures text { IfOk result (λ text. string_bytes text ≡ encode_utf8_all (module_text (module_of «module».now))) }
-    ensures round_trip { IfOk result (λ text. RoundTrips (string_bytes text) (module_of «module».now)) }
+    ensures text { IfOk result
+        (λ text. string_bytes text ≡ encode_utf8_all (module_text (module_of «module».now))) }
+    ensures round_trip { IfOk result
+        (λ text. RoundTrips (string_bytes text) (module_of «module».now)) }
 {
     let mut out = TextWriter::new(alloc);
     write_stmts(&mut out, &module.body)?;

@@ -46,7 +46,9 @@ pub(crate) fn write_chain<W: Writer>(
     op: BoolOperator,
     values: &[Expr],
 ) -> Result<(), AllocError>
-    ensures { OnOk result (out.new ≡ puts W.after out.old (pieces level (plain.BoolOp op (exprs (map tree_of values.now))))) }
+    ensures { OnOk result
+        (out.new ≡ puts W.after out.old
+        (pieces level (plain.BoolOp op (exprs (map tree_of values.now))))) }
 {
     let bare = reaches(level, chain_level(op));
     open(out, bare)?;
@@ -62,7 +64,9 @@ pub(crate) fn write_named<W: Writer>(
     target: &Expr,
     value: &Expr,
 ) -> Result<(), AllocError>
-    ensures { OnOk result (out.new ≡ puts W.after out.old (pieces level (plain.NamedExpr (tree_of target.now) (tree_of value.now)))) }
+    ensures { OnOk result
+        (out.new ≡ puts W.after out.old
+        (pieces level (plain.NamedExpr (tree_of target.now) (tree_of value.now)))) }
 {
     let bare = reaches(level, Level::Named);
     open(out, bare)?;
@@ -81,7 +85,9 @@ pub(crate) fn write_binary<W: Writer>(
     op: Operator,
     right: &Expr,
 ) -> Result<(), AllocError>
-    ensures { OnOk result (out.new ≡ puts W.after out.old (pieces level (plain.BinOp (tree_of left.now) op (tree_of right.now)))) }
+    ensures { OnOk result
+        (out.new ≡ puts W.after out.old
+        (pieces level (plain.BinOp (tree_of left.now) op (tree_of right.now)))) }
 {
     let bare = reaches(level, operator_level(op));
     open(out, bare)?;
@@ -99,7 +105,8 @@ pub(crate) fn write_unary<W: Writer>(
     op: UnaryOperator,
     operand: &Expr,
 ) -> Result<(), AllocError>
-    ensures { OnOk result (out.new ≡ puts W.after out.old (pieces level (plain.UnaryOp op (tree_of operand.now)))) }
+    ensures { OnOk result
+        (out.new ≡ puts W.after out.old (pieces level (plain.UnaryOp op (tree_of operand.now)))) }
 {
     let bare = reaches(level, unary_level(op));
     open(out, bare)?;
@@ -116,7 +123,9 @@ pub(crate) fn write_lambda<W: Writer>(
     args: &Arguments,
     body: &Expr,
 ) -> Result<(), AllocError>
-    ensures { OnOk result (out.new ≡ puts W.after out.old (pieces level (plain.Lambda (arguments_of args.now) (tree_of body.now)))) }
+    ensures { OnOk result
+        (out.new ≡ puts W.after out.old
+        (pieces level (plain.Lambda (arguments_of args.now) (tree_of body.now)))) }
 {
     let bare = reaches(level, Level::Expression);
     open(out, bare)?;
@@ -136,7 +145,9 @@ pub(crate) fn write_conditional<W: Writer>(
     body: &Expr,
     orelse: &Expr,
 ) -> Result<(), AllocError>
-    ensures { OnOk result (out.new ≡ puts W.after out.old (pieces level (plain.IfExp (tree_of test.now) (tree_of body.now) (tree_of orelse.now)))) }
+    ensures { OnOk result
+        (out.new ≡ puts W.after out.old
+        (pieces level (plain.IfExp (tree_of test.now) (tree_of body.now) (tree_of orelse.now)))) }
 {
     let bare = reaches(level, Level::Expression);
     open(out, bare)?;
@@ -155,7 +166,8 @@ pub(crate) fn write_await<W: Writer>(
     level: Level,
     value: &Expr,
 ) -> Result<(), AllocError>
-    ensures { OnOk result (out.new ≡ puts W.after out.old (pieces level (plain.Await (tree_of value.now)))) }
+    ensures { OnOk result
+        (out.new ≡ puts W.after out.old (pieces level (plain.Await (tree_of value.now)))) }
 {
     let bare = reaches(level, Level::Await);
     open(out, bare)?;
@@ -171,7 +183,9 @@ pub(crate) fn write_yield<W: Writer>(
     level: Level,
     value: &Option<Box<Expr>>,
 ) -> Result<(), AllocError>
-    ensures { OnOk result (out.new ≡ puts W.after out.old (pieces level (plain.Yield (optional (boxed_of value.now))))) }
+    ensures { OnOk result
+        (out.new ≡ puts W.after out.old
+        (pieces level (plain.Yield (optional (boxed_of value.now))))) }
 {
     let bare = reaches(level, Level::Value);
     open(out, bare)?;
@@ -187,7 +201,8 @@ pub(crate) fn write_yield_from<W: Writer>(
     level: Level,
     value: &Expr,
 ) -> Result<(), AllocError>
-    ensures { OnOk result (out.new ≡ puts W.after out.old (pieces level (plain.YieldFrom (tree_of value.now)))) }
+    ensures { OnOk result
+        (out.new ≡ puts W.after out.old (pieces level (plain.YieldFrom (tree_of value.now)))) }
 {
     let bare = reaches(level, Level::Value);
     open(out, bare)?;
@@ -206,7 +221,10 @@ pub(crate) fn write_compare<W: Writer>(
     ops: &[Comparison],
     comparators: &[Expr],
 ) -> Result<(), AllocError>
-    ensures { OnOk result (out.new ≡ puts W.after out.old (pieces level (plain.Compare (tree_of left.now) ops.now (exprs (map tree_of comparators.now))))) }
+    ensures { OnOk result
+        (out.new ≡ puts W.after out.old
+        (pieces level
+        (plain.Compare (tree_of left.now) ops.now (exprs (map tree_of comparators.now))))) }
 {
     let bare = reaches(level, Level::Compare);
     open(out, bare)?;
@@ -222,7 +240,9 @@ fn write_compared<W: Writer>(
     ops: &[Comparison],
     comparators: &[Expr],
 ) -> Result<(), AllocError>
-    ensures { OnOk result (out.new ≡ puts W.after out.old (compared piece ops.now (each piece Level.BitOr (exprs (map tree_of comparators.now))))) }
+    ensures { OnOk result
+        (out.new ≡ puts W.after out.old
+        (compared piece ops.now (each piece Level.BitOr (exprs (map tree_of comparators.now))))) }
 {
     for i in 0..ops.len().min(comparators.len()) {
         put_comparison(out, ops[i])?;

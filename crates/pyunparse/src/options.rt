@@ -23,7 +23,8 @@ pub(crate) fn write_perhaps<W: Writer>(
     level: Level,
     e: &Option<Box<Expr>>,
 ) -> Result<(), AllocError>
-    ensures { OnOk result (out.new ≡ puts W.after out.old (perhaps piece level (optional (boxed_of e.now)))) }
+    ensures { OnOk result
+        (out.new ≡ puts W.after out.old (perhaps piece level (optional (boxed_of e.now)))) }
 {
     match e {
         None => Ok(()),
@@ -39,7 +40,9 @@ pub(crate) fn write_suffix<W: Writer>(
     behind: bool,
     e: &Option<Box<Expr>>,
 ) -> Result<(), AllocError>
-    ensures { OnOk result (out.new ≡ puts W.after out.old (suffixed piece (piece (Op sign) true behind) (optional (boxed_of e.now)))) }
+    ensures { OnOk result
+        (out.new ≡ puts W.after out.old
+        (suffixed piece (piece (Op sign) true behind) (optional (boxed_of e.now)))) }
 {
     match e {
         None => Ok(()),

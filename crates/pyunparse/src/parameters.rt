@@ -7,9 +7,11 @@ ghost use Rattle.pynode.specs.Trees.{args, exprs, optional, optionals, optional_
 ghost use Rattle.pygrammar.specs.declared.levels.Level.TheVariants as Level;
 ghost use Rattle.pyunparse.specs.Inner.Folds.{puts};
 ghost use Rattle.pyunparse.specs.Inner.Members.{members, padded};
-ghost use Rattle.pyunparse.specs.Inner.Parameters.{by_places, default_at, named, positional, slash_behind};
+ghost use Rattle.pyunparse.specs.Inner.Parameters.{by_places, default_at, named, positional};
+ghost use Rattle.pyunparse.specs.Inner.Parameters.{slash_behind};
 ghost use Rattle.pywritten.specs.Pieces.{piece};
-ghost use Rattle.pywritten.specs.Written.{behind_equal, beside, defaults, each, gathered, listed, names, parameters, suffixed, tight, trailing, with_star};
+ghost use Rattle.pywritten.specs.Written.{behind_equal, beside, defaults, each, gathered, listed};
+ghost use Rattle.pywritten.specs.Written.{names, parameters, suffixed, tight, trailing, with_star};
 
 use crate::expressions::write_expr;
 use crate::marks::Between;
@@ -24,7 +26,8 @@ use std::alloc::AllocError;
 /// Writes parameters, without brackets.
 #[cycle(writing)]
 pub(crate) fn write_parameters<W: Writer>(out: &mut W, a: &Arguments) -> Result<(), AllocError>
-    ensures { OnOk result (out.new ≡ puts W.after out.old (listed piece (parameters piece (arguments_of a.now)))) }
+    ensures { OnOk result
+        (out.new ≡ puts W.after out.old (listed piece (parameters piece (arguments_of a.now)))) }
 {
     let first = a.posonlyargs.is_empty() & a.args.is_empty();
     let none = first & a.vararg.is_none() & a.kwonlyargs.is_empty();
@@ -38,7 +41,8 @@ pub(crate) fn write_parameters<W: Writer>(out: &mut W, a: &Arguments) -> Result<
 /// defaults, with `/` behind those that may only be given so.
 #[cycle(writing)]
 fn write_positional<W: Writer>(out: &mut W, a: &Arguments) -> Result<(), AllocError>
-    ensures { OnOk result (out.new ≡ puts W.after out.old (listed piece (positional (arguments_of a.now)))) }
+    ensures { OnOk result
+        (out.new ≡ puts W.after out.old (listed piece (positional (arguments_of a.now)))) }
 {
     write_both(out, &a.posonlyargs, &a.args, &a.defaults)
 }
@@ -52,7 +56,11 @@ fn write_both<W: Writer>(
     others: &[Arg],
     given: &[Expr],
 ) -> Result<(), AllocError>
-    ensures { OnOk result (out.new ≡ puts W.after out.old (listed piece (by_places (args (map arg_of only.now)) (args (map arg_of others.now)) (exprs (map tree_of given.now))))) }
+    ensures { OnOk result
+        (out.new ≡ puts W.after out.old
+        (listed piece
+        (by_places (args (map arg_of only.now)) (args (map arg_of others.now))
+        (exprs (map tree_of given.now))))) }
 {
     let count = only.len();
     let bare = (count + others.len()).saturating_sub(given.len());
@@ -83,7 +91,9 @@ fn write_plain<W: Writer>(
     given: &[Expr],
 ) -> Result<(), AllocError>
     ensures { OnOk result (out.new ≡ puts W.after out.old (members is_first (trailing piece Comma)
-        (padded (names piece (args (map arg_of params.now))) bare (map (behind_equal piece) (each piece Level.Expression (exprs (map tree_of given.now))))))) }
+        (padded (names piece (args (map arg_of params.now))) bare
+        (map (behind_equal piece)
+        (each piece Level.Expression (exprs (map tree_of given.now))))))) }
 {
     let mut first = is_first;
     for i in 0..params.len() {
@@ -103,7 +113,8 @@ fn write_default<W: Writer>(
     i: usize,
     given: &[Expr],
 ) -> Result<(), AllocError>
-    ensures { OnOk result (out.new ≡ puts W.after out.old (default_at bare i (map tree_of given.now))) }
+    ensures { OnOk result
+        (out.new ≡ puts W.after out.old (default_at bare i (map tree_of given.now))) }
 {
     if i < bare {
         return Ok(());
@@ -126,7 +137,8 @@ fn write_star<W: Writer>(
     kwonlyargs: &[Arg],
 ) -> Result<(), AllocError>
     ensures { OnOk result (out.new ≡ puts W.after out.old (members is_first (trailing piece Comma)
-        (with_star piece (gathered piece Star (optional_arg (arg_option_of vararg.now))) (names piece (args (map arg_of kwonlyargs.now)))))) }
+        (with_star piece (gathered piece Star (optional_arg (arg_option_of vararg.now)))
+        (names piece (args (map arg_of kwonlyargs.now)))))) }
 {
     if vararg.is_some() | kwonlyargs.is_empty() {
         return write_gathered(out, is_first, Exact::Star, vararg);
@@ -143,7 +155,10 @@ fn write_gathered<W: Writer>(
     sign: Exact,
     arg: &Option<Arg>,
 ) -> Result<(), AllocError>
-    ensures { OnOk result (out.new ≡ puts W.after out.old (members is_first (trailing piece Comma) (gathered piece sign (optional_arg (arg_option_of arg.now))))) }
+    ensures { OnOk result
+        (out.new ≡ puts W.after out.old
+        (members is_first (trailing piece Comma)
+        (gathered piece sign (optional_arg (arg_option_of arg.now))))) }
 {
     match arg {
         None => Ok(()),
@@ -163,7 +178,8 @@ fn write_keyword_only<W: Writer>(
     given: &[Option<Expr>],
 ) -> Result<(), AllocError>
     ensures { OnOk result (out.new ≡ puts W.after out.old (members false (trailing piece Comma)
-        (beside (names piece (args (map arg_of params.now))) (defaults piece (optionals (map option_of given.now)))))) }
+        (beside (names piece (args (map arg_of params.now)))
+        (defaults piece (optionals (map option_of given.now)))))) }
 {
     for i in 0..params.len().min(given.len()) {
         put_between(out, false, Between::Comma)?;
@@ -176,7 +192,9 @@ fn write_keyword_only<W: Writer>(
 /// Writes the default of a keyword-only parameter, if it has one.
 #[cycle(writing)]
 fn write_own_default<W: Writer>(out: &mut W, given: &Option<Expr>) -> Result<(), AllocError>
-    ensures { OnOk result (out.new ≡ puts W.after out.old (suffixed piece (tight piece Equal) (optional (option_of given.now)))) }
+    ensures { OnOk result
+        (out.new ≡ puts W.after out.old
+        (suffixed piece (tight piece Equal) (optional (option_of given.now)))) }
 {
     match given {
         None => Ok(()),

@@ -73,7 +73,7 @@ impl Writer for PieceWriter {
         Ok(())
     }
 
-    #[tactic(auto, using(crate::proofs::ReprLemmas::bytes_plain))]
+    #[tactic(auto, using(crate::proofs::Texts::ReprLemmas::bytes_plain))]
     fn put_bytes(&mut self, bytes: &[u8]) -> Result<(), AllocError> {
         let mut text = String::new(self.alloc);
         push_repr_bytes(&mut text, bytes)?;

@@ -1,6 +1,6 @@
 //! Simple statements.
 
-#![tactic(auto, using(crate::proofs::FoldLemmas::puts_append))]
+#![tactic(auto, using(crate::proofs::Sequences::FoldLemmas::puts_append))]
 
 ghost use Rattle.std.specs.Prelude.{◌≡◌, ◌∷◌, [], OnOk, map, false};
 ghost use Rattle.pynode.specs.TreeOf.{alias_of, boxed_of, option_of, stmt_of, tree_of};
@@ -35,7 +35,8 @@ pub(crate) fn write_option<W: Writer>(
     level: Level,
     e: &Option<Expr>,
 ) -> Result<(), AllocError>
-    ensures { OnOk result (out.new ≡ puts W.after out.old (written.perhaps_written piece level (option_of e.now))) }
+    ensures { OnOk result
+        (out.new ≡ puts W.after out.old (written.perhaps_written piece level (option_of e.now))) }
 {
     match e {
         None => Ok(()),
@@ -50,7 +51,9 @@ pub(crate) fn write_behind<W: Writer>(
     level: Level,
     e: &Option<Box<Expr>>,
 ) -> Result<(), AllocError>
-    ensures { OnOk result (out.new ≡ puts W.after out.old (written.behind piece (piece (Op sign) false false) level (boxed_of e.now))) }
+    ensures { OnOk result
+        (out.new ≡ puts W.after out.old
+        (written.behind piece (piece (Op sign) false false) level (boxed_of e.now))) }
 {
     match e {
         None => Ok(()),
@@ -63,7 +66,8 @@ pub(crate) fn write_behind<W: Writer>(
 
 /// Writes some names.
 fn write_names<W: Writer>(out: &mut W, names: &[Identifier]) -> Result<(), AllocError>
-    ensures { OnOk result (out.new ≡ puts W.after out.old (listed piece (map (written.one_name piece) names.now))) }
+    ensures { OnOk result
+        (out.new ≡ puts W.after out.old (listed piece (map (written.one_name piece) names.now))) }
 {
     let mut first = true;
     for name in names {
@@ -76,7 +80,8 @@ fn write_names<W: Writer>(out: &mut W, names: &[Identifier]) -> Result<(), Alloc
 
 /// Writes the targets of an assignment, each with its `=`.
 fn write_targets<W: Writer>(out: &mut W, targets: &[Expr]) -> Result<(), AllocError>
-    ensures { OnOk result (out.new ≡ puts W.after out.old (written.targets piece (map tree_of targets.now))) }
+    ensures { OnOk result
+        (out.new ≡ puts W.after out.old (written.targets piece (map tree_of targets.now))) }
 {
     for target in targets {
         write_assigned(out, target)?;
@@ -94,7 +99,8 @@ fn write_assigned<W: Writer>(out: &mut W, target: &Expr) -> Result<(), AllocErro
 
 /// Writes the target of an annotation: in brackets where it is a name that isn't simple.
 fn write_annotated<W: Writer>(out: &mut W, target: &Expr, simple: bool) -> Result<(), AllocError>
-    ensures { OnOk result (out.new ≡ puts W.after out.old (written.annotated piece (tree_of target.now) simple)) }
+    ensures { OnOk result
+        (out.new ≡ puts W.after out.old (written.annotated piece (tree_of target.now) simple)) }
 {
     if simple {
         return write_expr(out, Level::Primary, target);
@@ -115,7 +121,9 @@ fn write_raise<W: Writer>(
     exc: &Option<Expr>,
     cause: &Option<Expr>,
 ) -> Result<(), AllocError>
-    ensures { OnOk result (out.new ≡ puts W.after out.old (written.simple_tokens piece (plain.Raise (option_of exc.now) (option_of cause.now)))) }
+    ensures { OnOk result
+        (out.new ≡ puts W.after out.old
+        (written.simple_tokens piece (plain.Raise (option_of exc.now) (option_of cause.now)))) }
 {
     put_word(out, Keyword::Raise)?;
     write_option(out, Level::Expression, exc)?;
@@ -124,7 +132,9 @@ fn write_raise<W: Writer>(
 
 /// Writes the cause of a `raise`, if there is one.
 fn write_cause<W: Writer>(out: &mut W, cause: &Option<Expr>) -> Result<(), AllocError>
-    ensures { OnOk result (out.new ≡ puts W.after out.old (written.behind piece (word piece Key.From) Level.Expression (option_of cause.now))) }
+    ensures { OnOk result
+        (out.new ≡ puts W.after out.old
+        (written.behind piece (word piece Key.From) Level.Expression (option_of cause.now))) }
 {
     match cause {
         None => Ok(()),
@@ -137,7 +147,9 @@ fn write_cause<W: Writer>(out: &mut W, cause: &Option<Expr>) -> Result<(), Alloc
 
 /// Writes an `assert`.
 fn write_assert<W: Writer>(out: &mut W, test: &Expr, msg: &Option<Expr>) -> Result<(), AllocError>
-    ensures { OnOk result (out.new ≡ puts W.after out.old (written.simple_tokens piece (plain.Assert (tree_of test.now) (option_of msg.now)))) }
+    ensures { OnOk result
+        (out.new ≡ puts W.after out.old
+        (written.simple_tokens piece (plain.Assert (tree_of test.now) (option_of msg.now)))) }
 {
     put_word(out, Keyword::Assert)?;
     write_expr(out, Level::Expression, test)?;
@@ -146,7 +158,9 @@ fn write_assert<W: Writer>(out: &mut W, test: &Expr, msg: &Option<Expr>) -> Resu
 
 /// Writes the message of an `assert`, if there is one.
 fn write_message<W: Writer>(out: &mut W, msg: &Option<Expr>) -> Result<(), AllocError>
-    ensures { OnOk result (out.new ≡ puts W.after out.old (written.behind piece (trailing piece Comma) Level.Expression (option_of msg.now))) }
+    ensures { OnOk result
+        (out.new ≡ puts W.after out.old
+        (written.behind piece (trailing piece Comma) Level.Expression (option_of msg.now))) }
 {
     match msg {
         None => Ok(()),
@@ -164,7 +178,10 @@ fn write_import_from<W: Writer>(
     names: &[Alias],
     level: u64,
 ) -> Result<(), AllocError>
-    ensures { OnOk result (out.new ≡ puts W.after out.old (written.simple_tokens piece (plain.ImportFrom «module».now (map alias_of names.now) level))) }
+    ensures { OnOk result
+        (out.new ≡ puts W.after out.old
+        (written.simple_tokens piece
+        (plain.ImportFrom «module».now (map alias_of names.now) level))) }
 {
     put_word(out, Keyword::From)?;
     write_points(out, level)?;
@@ -179,7 +196,8 @@ fn write_source<W: Writer>(
     close: bool,
     module: &Option<Identifier>,
 ) -> Result<(), AllocError>
-    ensures { OnOk result (out.new ≡ puts W.after out.old (written.module_name piece close «module».now)) }
+    ensures { OnOk result
+        (out.new ≡ puts W.after out.old (written.module_name piece close «module».now)) }
 {
     match module {
         None => Ok(()),
@@ -189,7 +207,8 @@ fn write_source<W: Writer>(
 
 /// Writes a simple statement, and of one with a block nothing.
 pub(crate) fn write_simple<W: Writer>(out: &mut W, s: &Stmt) -> Result<(), AllocError>
-    ensures { OnOk result (out.new ≡ puts W.after out.old (written.simple_tokens piece (stmt_of s.now))) }
+    ensures { OnOk result
+        (out.new ≡ puts W.after out.old (written.simple_tokens piece (stmt_of s.now))) }
 {
     match s {
         Stmt::Expr { value } => write_expr(out, Level::Value, value),

@@ -1,6 +1,7 @@
 //! The text of a module, while it is written.
 
-ghost use Rattle.std.specs.Prelude.{◌≡◌, ◌+◌, ◌-◌, ◌*◌, ◌<◌, ◌++◌, [], ◌∷◌, None, Some, replicate, IfOk, OnOk};
+ghost use Rattle.std.specs.Prelude.{◌≡◌, ◌+◌, ◌-◌, ◌*◌, ◌<◌, ◌++◌, [], ◌∷◌, None, Some, replicate};
+ghost use Rattle.std.specs.Prelude.{IfOk, OnOk};
 ghost use Rattle.std.specs.Str.{bytes_eq};
 ghost use Rattle.std.specs.String.{string_bytes};
 ghost use Rattle.pyspacing.specs.Spacing.{is_number_kind};
@@ -36,7 +37,8 @@ fn is_byte(text: &str, byte: u8) -> bool
 
 /// Whether a token touches the one before it. Its kind doesn't matter.
 fn touches(edge: Edge, kind: Kind, text: &str, before: bool, behind: bool) -> bool
-    ensures { result ≡ meets edge (record { kind = kind; text = text.now; before = before; behind = behind }) }
+    ensures { result
+        ≡ meets edge (record { kind = kind; text = text.now; before = before; behind = behind }) }
 {
     let _kind = kind;
     (edge.behind | before)
@@ -59,13 +61,15 @@ impl Model for TextWriter {
 
     ghost Value = { Writing };
 
-    ghost view = { λ w. record { text = string_bytes w.text; last = w.last; level = length (string_bytes w.front) / 4 } };
+    ghost view = { λ w. record
+        { text = string_bytes w.text; last = w.last; level = length (string_bytes w.front) / 4 } };
 
-    ghost invariant = { λ w. string_bytes w.front ≡ replicate (4 * (length (string_bytes w.front) / 4)) 32 };
+    ghost invariant = { λ w. string_bytes w.front
+        ≡ replicate (4 * (length (string_bytes w.front) / 4)) 32 };
 }
 
 impl TextWriter {
-    ghost use Rattle.pylex.specs.declared.kinds.Kind.{Kind};
+    ghost use Rattle.pylex.specs.declared.kind.Kind.{Kind};
     ghost use Rattle.pyspacing.specs.Spacing.{Piece};
     ghost use Rattle.pyunparse.specs.Inner.Writing.{blank, edge_of, prefix};
 
@@ -90,7 +94,12 @@ impl TextWriter {
 
     /// Appends the blanks of a line's front.
     pub(crate) fn begin_line(&mut self) -> Result<(), AllocError>
-        ensures { OnOk result (self.new ≡ record { text = self.old.text ++ replicate (4 * self.old.level) 32; last = None; level = self.old.level }) }
+        ensures { OnOk result
+            (self.new ≡ record {
+              text = self.old.text ++ replicate (4 * self.old.level) 32;
+              last = None;
+              level = self.old.level;
+            }) }
     {
         self.last = None;
         self.text.push_str(self.front.as_str())
@@ -98,14 +107,18 @@ impl TextWriter {
 
     /// Appends a line's end.
     pub(crate) fn end_line(&mut self) -> Result<(), AllocError>
-        ensures { OnOk result (self.new ≡ record { text = self.old.text ++ 10 ∷ []; last = self.old.last; level = self.old.level }) }
+        ensures { OnOk result
+            (self.new ≡ record
+            { text = self.old.text ++ 10 ∷ []; last = self.old.last; level = self.old.level }) }
     {
         self.text.push('\n')
     }
 
     /// Goes a level deeper.
     pub(crate) fn indent(&mut self) -> Result<(), AllocError>
-        ensures { OnOk result (self.new ≡ record { text = self.old.text; last = self.old.last; level = self.old.level + 1 }) }
+        ensures { OnOk result
+            (self.new ≡ record
+            { text = self.old.text; last = self.old.last; level = self.old.level + 1 }) }
     {
         self.front.push_str(INDENT)
     }
@@ -113,7 +126,8 @@ impl TextWriter {
     /// Comes back from a level.
     pub(crate) fn dedent(&mut self)
         requires { 0 < self.old.level }
-        ensures { self.new ≡ record { text = self.old.text; last = self.old.last; level = self.old.level - 1 } }
+        ensures { self.new
+            ≡ record { text = self.old.text; last = self.old.last; level = self.old.level - 1 } }
     {
         let len = self.front.as_str().len();
         self.front.truncate(len - INDENT.len());
@@ -130,7 +144,8 @@ impl TextWriter {
         behind: bool,
     ) -> Result<(), AllocError>
         ensures { OnOk result (self.new ≡ record {
-          text = self.old.text ++ blank self.old.last (record { kind = kind; text = text.now; before = before; behind = behind });
+          text = self.old.text ++ blank self.old.last
+              (record { kind = kind; text = text.now; before = before; behind = behind });
           last = Some (edge_of (record { kind = kind; text = text.now; before = before; behind = behind }));
           level = self.old.level;
         }) }
@@ -147,7 +162,9 @@ impl TextWriter {
     /// Appends a text. A lone character is a push, which takes less than a copy.
     #[inline(always)]
     fn push_text(&mut self, text: &str) -> Result<(), AllocError>
-        ensures { OnOk result (self.new ≡ record { text = self.old.text ++ text.now; last = self.old.last; level = self.old.level }) }
+        ensures { OnOk result
+            (self.new ≡ record
+            { text = self.old.text ++ text.now; last = self.old.last; level = self.old.level }) }
     {
         let bytes = text.as_bytes();
         if bytes.len() == 1 && bytes[0].is_ascii() {
@@ -158,7 +175,12 @@ impl TextWriter {
 
     /// Appends the prefix of a text literal of the kind `u`, or nothing.
     fn put_prefix(&mut self, unicode: bool) -> Result<(), AllocError>
-        ensures { OnOk result (self.new ≡ record { text = self.old.text ++ prefix unicode; last = self.old.last; level = self.old.level }) }
+        ensures { OnOk result
+            (self.new ≡ record {
+              text = self.old.text ++ prefix unicode;
+              last = self.old.last;
+              level = self.old.level;
+            }) }
     {
         if unicode {
             return self.text.push('u');
@@ -175,7 +197,8 @@ impl TextWriter {
         behind: bool,
     ) -> Result<(), AllocError>
         ensures { OnOk result (self.new ≡ record {
-          text = self.old.text ++ blank self.old.last (record { kind = kind; text = text.now; before = before; behind = behind });
+          text = self.old.text ++ blank self.old.last
+              (record { kind = kind; text = text.now; before = before; behind = behind });
           last = self.old.last;
           level = self.old.level;
         }) }

@@ -41,14 +41,16 @@ pub(crate) fn put_word<W: Writer>(out: &mut W, word: Keyword) -> Result<(), Allo
 
 /// Writes a name, which may keep close to what stands before it.
 pub(crate) fn put_text<W: Writer>(out: &mut W, name: &str, before: bool) -> Result<(), AllocError>
-    ensures { OnOk result (out.new ≡ puts W.after out.old (piece (in_form (chars name.now)) before false ∷ [])) }
+    ensures { OnOk result
+        (out.new ≡ puts W.after out.old (piece (in_form (chars name.now)) before false ∷ [])) }
 {
     out.put(Kind::Name, name, before, false)
 }
 
 /// Writes a name.
 pub(crate) fn put_name<W: Writer>(out: &mut W, name: &Identifier) -> Result<(), AllocError>
-    ensures { OnOk result (out.new ≡ puts W.after out.old (written.free piece (in_form name.now) ∷ [])) }
+    ensures { OnOk result
+        (out.new ≡ puts W.after out.old (written.free piece (in_form name.now) ∷ [])) }
 {
     out.put(Kind::Name, name.as_str(), false, false)
 }
@@ -79,7 +81,8 @@ pub(crate) fn put_between<W: Writer>(
     first: bool,
     between: Between,
 ) -> Result<(), AllocError>
-    ensures { OnOk result (out.new ≡ puts W.after out.old (if first then [] else mark between ∷ [])) }
+    ensures { OnOk result
+        (out.new ≡ puts W.after out.old (if first then [] else mark between ∷ [])) }
 {
     if first {
         return Ok(());
@@ -105,7 +108,8 @@ pub(crate) fn put_unary<W: Writer>(out: &mut W, op: UnaryOperator) -> Result<(),
 
 /// Writes a comparison, of one or two tokens.
 pub(crate) fn put_comparison<W: Writer>(out: &mut W, op: Comparison) -> Result<(), AllocError>
-    ensures { OnOk result (out.new ≡ puts W.after out.old (map (written.free piece) (comparison_signs op))) }
+    ensures { OnOk result
+        (out.new ≡ puts W.after out.old (map (written.free piece) (comparison_signs op))) }
 {
     match op {
         Comparison::Eq => put_sign(out, Exact::EqEqual, false, false),

@@ -91,7 +91,10 @@ pub(crate) fn write_tuple<W: Writer>(
     level: Level,
     elts: &[Expr],
 ) -> Result<(), AllocError>
-    ensures { (c : Context) → OnOk result (out.new ≡ puts W.after out.old (pieces level (plain.Tuple (exprs (map tree_of elts.now)) c))) }
+    ensures { (c : Context)
+        → OnOk result
+        (out.new ≡ puts W.after out.old
+        (pieces level (plain.Tuple (exprs (map tree_of elts.now)) c))) }
 {
     let place = element_level(level, some_named(elts));
     let bare = are_bare(elts, place);
@@ -120,7 +123,11 @@ pub(crate) fn write_slice<W: Writer>(
     upper: &Option<Box<Expr>>,
     step: &Option<Box<Expr>>,
 ) -> Result<(), AllocError>
-    ensures { OnOk result (out.new ≡ puts W.after out.old (pieces level (plain.Slice (optional (boxed_of lower.now)) (optional (boxed_of upper.now)) (optional (boxed_of step.now))))) }
+    ensures { OnOk result
+        (out.new ≡ puts W.after out.old
+        (pieces level
+        (plain.Slice (optional (boxed_of lower.now)) (optional (boxed_of upper.now))
+        (optional (boxed_of step.now))))) }
 {
     let bare = reaches(level, Level::Slice);
     open(out, bare)?;

@@ -1,6 +1,6 @@
 //! The parameters of types, of Python 3.12.
 
-#![tactic(auto, using(crate::proofs::FoldLemmas::puts_append))]
+#![tactic(auto, using(crate::proofs::Sequences::FoldLemmas::puts_append))]
 
 ghost use Rattle.std.specs.Prelude.{◌≡◌, OnOk, map};
 ghost use Rattle.pylexeme.specs.declared.kinds.Exact.TheVariants.{Colon};
@@ -22,7 +22,8 @@ use std::alloc::AllocError;
 
 /// Writes a parameter of a type.
 fn write_type_param<W: Writer>(out: &mut W, param: &TypeParam) -> Result<(), AllocError>
-    ensures { OnOk result (out.new ≡ puts W.after out.old (written.type_param piece (type_param_of param.now))) }
+    ensures { OnOk result
+        (out.new ≡ puts W.after out.old (written.type_param piece (type_param_of param.now))) }
 {
     match param {
         TypeParam::TypeVar { name, bound } => {
@@ -42,7 +43,9 @@ fn write_type_param<W: Writer>(out: &mut W, param: &TypeParam) -> Result<(), All
 
 /// Writes the bound of a parameter of a type, if it has one.
 fn write_bound<W: Writer>(out: &mut W, bound: &Option<Expr>) -> Result<(), AllocError>
-    ensures { OnOk result (out.new ≡ puts W.after out.old (written.behind piece (trailing piece Colon) Level.Expression (option_of bound.now))) }
+    ensures { OnOk result
+        (out.new ≡ puts W.after out.old
+        (written.behind piece (trailing piece Colon) Level.Expression (option_of bound.now))) }
 {
     match bound {
         None => Ok(()),
@@ -55,7 +58,9 @@ fn write_bound<W: Writer>(out: &mut W, bound: &Option<Expr>) -> Result<(), Alloc
 
 /// Writes parameters of a type, without their brackets.
 fn write_listed_params<W: Writer>(out: &mut W, params: &[TypeParam]) -> Result<(), AllocError>
-    ensures { OnOk result (out.new ≡ puts W.after out.old (listed piece (map (written.type_param piece) (map type_param_of params.now)))) }
+    ensures { OnOk result
+        (out.new ≡ puts W.after out.old
+        (listed piece (map (written.type_param piece) (map type_param_of params.now)))) }
 {
     let mut first = true;
     for param in params {
@@ -71,7 +76,9 @@ pub(crate) fn write_type_params<W: Writer>(
     out: &mut W,
     params: &[TypeParam],
 ) -> Result<(), AllocError>
-    ensures { OnOk result (out.new ≡ puts W.after out.old (written.type_params piece (map type_param_of params.now))) }
+    ensures { OnOk result
+        (out.new ≡ puts W.after out.old
+        (written.type_params piece (map type_param_of params.now))) }
 {
     if params.is_empty() {
         return Ok(());

@@ -1,7 +1,7 @@
 //! What tokens are written into.
 
 ghost use Rattle.std.specs.Prelude.{◌≡◌, Bool, false, OnOk};
-ghost use Rattle.pylex.specs.declared.kinds.Kind.{Kind};
+ghost use Rattle.pylex.specs.declared.kind.Kind.{Kind};
 ghost use Rattle.pynode.specs.Values.{Bytes, Str};
 ghost use Rattle.pyspacing.specs.Spacing.{Piece};
 ghost use Rattle.pytoken.specs.Terminals.{Literal};
@@ -18,13 +18,18 @@ pub(crate) trait Writer {
 
     /// Writes a token that keeps close to its neighbours, or doesn't.
     fn put(&mut self, kind: Kind, text: &str, before: bool, behind: bool) -> Result<(), AllocError>
-        ensures { OnOk result (self.new ≡ after self.old (record { kind = kind; text = text.now; before = before; behind = behind })) };
+        ensures { OnOk result
+            (self.new ≡ after self.old
+            (record { kind = kind; text = text.now; before = before; behind = behind })) };
 
     /// Writes a text constant.
     fn put_str(&mut self, points: &[u32], unicode: bool) -> Result<(), AllocError>
-        ensures { OnOk result (self.new ≡ after self.old (in_utf8 (piece (Literal (Str points.now unicode)) false false))) };
+        ensures { OnOk result
+            (self.new ≡ after self.old
+            (in_utf8 (piece (Literal (Str points.now unicode)) false false))) };
 
     /// Writes a constant of bytes.
     fn put_bytes(&mut self, bytes: &[u8]) -> Result<(), AllocError>
-        ensures { OnOk result (self.new ≡ after self.old (in_utf8 (piece (Literal (Bytes bytes.now)) false false))) };
+        ensures { OnOk result
+            (self.new ≡ after self.old (in_utf8 (piece (Literal (Bytes bytes.now)) false false))) };
 }

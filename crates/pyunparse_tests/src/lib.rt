@@ -1,5 +1,5 @@
-//! Tests of `pyunparse`: the tokens that expressions are written in, and modules that come back from
-//! their text.
+//! Tests of `pyunparse`: the tokens that expressions are written in, and modules that come back
+//! from their text.
 #![tactic(auto)]
 
 #[cfg(test)]

@@ -1,4 +1,6 @@
 -- Digits at the front of a text, one after another.
+--
+-- Carries: escapes::digits.
 use Rattle.std.proofs.Common.{◌≡◌, ℕ, zero, suc, ◌+◌, ◌*◌, ◌^◌, ◌<◌, ◌≤◌, List, [], ◌∷◌, length, take, drop, refl, sym, ap, ap₂, ◌∙◌, arith}
 use Rattle.std.proofs.Common.{mul-le-mul_left, inl, inr, Some, None}
 use Rattle.std.specs.Prelude.{nat_lt}
@@ -43,7 +45,8 @@ no_digits radix (suc k) (c ∷ cs) e = elim (cases_Bool (nat_lt (digit_value c) 
   | inr other ↦ take_while-cons (λ x. is_digit x radix) c (take k cs) ∙ (rw other refl)
 ]
 
--- so many digits of those at the front of a text have been read, and their value; `left` more may follow
+-- so many digits of those at the front of a text have been read, and their
+-- value; `left` more may follow
 pub record Far (radix most count value : ℕ) (t start : List ℕ) : Type 0 where
   pub left : ℕ
   pub whole : count + left ≡ most

@@ -1,4 +1,6 @@
 -- Escapes, by the letter behind the backslash.
+--
+-- Carries: escape.
 use Rattle.std.proofs.Common.{◌≡◌, ℕ, ◌<◌, ◌≤◌, Bool, true, false, List, [], ◌∷◌, drop, refl, sym, subst, ap, ◌∙◌, inl, inr, arith, Some, None}
 use Rattle.std.proofs.Common.{slice_get, is_some}
 use Rattle.std.specs.Prelude.{◌==◌, nat_lt}

@@ -1,4 +1,6 @@
 -- The characters of a text without its carriage returns, one after another.
+--
+-- Carries: is_done, first_of_any, front_of_any.
 use Rattle.std.proofs.Common.{◌≡◌, ℕ, ◌-◌, ◌≤◌, List, [], ◌∷◌, ◌++◌, length, take, drop, refl, sym, ap, subst, ◌∙◌, arith, append-nil, length-append}
 use Rattle.std.specs.Prelude.{◌==◌, not}
 use Rattle.std.specs.Str.{chars, IsUtf8}

@@ -1,5 +1,5 @@
--- Carries: skip_prefix, strip, is_marked, escape_fault, literal_fault, text_in, bytes_in, string_value. On: what stands in a literal's body, and its
--- parts.
+-- Carries: skip_prefix, strip, is_marked, escape_fault, literal_fault, text_in, bytes_in,
+-- string_value. On: what stands in a literal's body, and its parts.
 use Rattle.std.proofs.Common.{◌≡◌, ℕ, zero, suc, ◌+◌, ◌-◌, ◌<◌, Bool, true, false, List, [], ◌∷◌, ◌++◌, length, take, drop, refl, sym, ap, ap₂, subst}
 use Rattle.std.proofs.Common.{◌∙◌, arith, Some, None, slice_get, append_assoc, append-nil, length-drop, length-take, take-take, take_all}
 use Rattle.std.specs.Prelude.{◌==◌, ◌||◌, ◌&&◌, not, nat_lt}

@@ -1,5 +1,5 @@
--- Carries: begins_bare, push_text, text_in, push_bytes, bytes_in, string_value. On: runs of characters that stand for themselves, and literals
--- without a prefix.
+-- Carries: begins_bare, push_text, text_in, push_bytes, bytes_in, string_value. On: runs of
+-- characters that stand for themselves, and literals without a prefix.
 use Rattle.std.proofs.Common.{◌≡◌, ℕ, ◌<◌, Bool, true, false, List, [], ◌∷◌, ◌++◌, length, refl, sym, ap, ◌∙◌, arith, Some, None, slice_get}
 use Rattle.std.proofs.Common.{append_assoc, append-nil, length-append}
 use Rattle.std.specs.Prelude.{◌==◌, ◌&&◌, not}

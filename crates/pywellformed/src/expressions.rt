@@ -6,7 +6,9 @@ ghost use Rattle.pygrammar.specs.declared.levels.Level.TheVariants as levels;
 ghost use Rattle.pynode.specs.TreeOf.{boxed_of, comprehension_of, keyword_of, option_of, tree_of};
 ghost use Rattle.pynode.specs.Trees.{comprehensions, exprs, keywords, optional, optionals};
 ghost use Rattle.pyslots.specs.Names.{is_name};
-ghost use Rattle.pyslots.specs.Slots.{each_clause_fits, each_fits, each_keyword_fits, each_perhaps_fits, fits_at, fits_target, perhaps_fits, perhaps_name};
+ghost use Rattle.pyslots.specs.Slots.{each_clause_fits, each_fits, each_keyword_fits};
+ghost use Rattle.pyslots.specs.Slots.{each_perhaps_fits, fits_at, fits_target, perhaps_fits};
+ghost use Rattle.pyslots.specs.Slots.{perhaps_name};
 
 use crate::leaves::{
     are_at_least, are_comparisons, are_pairs, constant_fits, has_clause, optional_name_fits,
@@ -162,7 +164,8 @@ pub(crate) fn boxed_fits(
     expr: &Option<Box<Expr>>,
     level: Level,
 ) -> Result<bool, AllocError>
-    ensures { IfOk result (λ told. told ≡ perhaps_fits is_name level (optional (boxed_of expr.now))) }
+    ensures { IfOk result
+        (λ told. told ≡ perhaps_fits is_name level (optional (boxed_of expr.now))) }
 {
     match expr {
         None => Ok(true),
@@ -188,7 +191,8 @@ pub(crate) fn exprs_fit(alloc: Global, es: &[Expr], level: Level) -> Result<bool
 #[cycle(fits)]
 #[tactic(auto, using(pynode::proofs::Callers::ExprShapes::expr_shapes))]
 pub(crate) fn options_fit(alloc: Global, es: &[Option<Expr>]) -> Result<bool, AllocError>
-    ensures { IfOk result (λ told. told ≡ each_perhaps_fits is_name (optionals (map option_of es.now))) }
+    ensures { IfOk result
+        (λ told. told ≡ each_perhaps_fits is_name (optionals (map option_of es.now))) }
 {
     for e in es {
         let fits = match e {
@@ -206,7 +210,10 @@ pub(crate) fn options_fit(alloc: Global, es: &[Option<Expr>]) -> Result<bool, Al
 #[cycle(fits)]
 #[tactic(auto, using(pynode::proofs::Callers::ExprShapes::expr_shapes))]
 fn keyword_fits(alloc: Global, k: &Keyword) -> Result<bool, AllocError>
-    ensures { IfOk result (λ told. told ≡ (perhaps_name is_name (keyword_of k.now).arg && fits_at is_name levels.Expression (keyword_of k.now).value)) }
+    ensures { IfOk result
+        (λ told. told
+        ≡ (perhaps_name is_name (keyword_of k.now).arg && fits_at is_name levels.Expression
+        (keyword_of k.now).value)) }
 {
     Ok(optional_name_fits(alloc, &k.arg)? && expr_fits(alloc, &k.value, Level::Expression)?)
 }
@@ -215,7 +222,8 @@ fn keyword_fits(alloc: Global, k: &Keyword) -> Result<bool, AllocError>
 #[cycle(fits)]
 #[tactic(auto, using(pynode::proofs::Callers::ExprShapes::expr_shapes))]
 pub(crate) fn keywords_fit(alloc: Global, ks: &[Keyword]) -> Result<bool, AllocError>
-    ensures { IfOk result (λ told. told ≡ each_keyword_fits is_name (keywords (map keyword_of ks.now))) }
+    ensures { IfOk result
+        (λ told. told ≡ each_keyword_fits is_name (keywords (map keyword_of ks.now))) }
 {
     for k in ks {
         if !keyword_fits(alloc, k)? {
@@ -229,7 +237,12 @@ pub(crate) fn keywords_fit(alloc: Global, ks: &[Keyword]) -> Result<bool, AllocE
 #[cycle(fits)]
 #[tactic(auto, using(pynode::proofs::Callers::ExprShapes::expr_shapes))]
 fn clause_fits(alloc: Global, c: &Comprehension) -> Result<bool, AllocError>
-    ensures { IfOk result (λ told. told ≡ (fits_target is_name contexts.Store (comprehension_of c.now).target && fits_at is_name levels.Expression (comprehension_of c.now).iter && each_fits is_name levels.Expression (exprs (comprehension_of c.now).ifs))) }
+    ensures { IfOk result
+        (λ told. told
+        ≡ (fits_target is_name contexts.Store
+        (comprehension_of c.now).target && fits_at is_name levels.Expression
+        (comprehension_of c.now).iter && each_fits is_name levels.Expression
+        (exprs (comprehension_of c.now).ifs))) }
 {
     Ok(
         target_fits(alloc, &c.target, Context::Store)?
@@ -242,7 +255,8 @@ fn clause_fits(alloc: Global, c: &Comprehension) -> Result<bool, AllocError>
 #[cycle(fits)]
 #[tactic(auto, using(pynode::proofs::Callers::ExprShapes::expr_shapes))]
 fn clauses_fit(alloc: Global, cs: &[Comprehension]) -> Result<bool, AllocError>
-    ensures { IfOk result (λ told. told ≡ each_clause_fits is_name (comprehensions (map comprehension_of cs.now))) }
+    ensures { IfOk result
+        (λ told. told ≡ each_clause_fits is_name (comprehensions (map comprehension_of cs.now))) }
 {
     for c in cs {
         if !clause_fits(alloc, c)? {

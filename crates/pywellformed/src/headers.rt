@@ -4,11 +4,14 @@ ghost use Rattle.std.specs.Prelude.{◌≡◌, ◌&&◌, IfOk, map, true};
 ghost use Rattle.std.specs.List.{list_all};
 ghost use Rattle.pygrammar.specs.declared.levels.Level.TheVariants as levels;
 ghost use Rattle.pynode.specs.declared.operators.Context.TheVariants as contexts;
-ghost use Rattle.pynode.specs.TreeOf.{arguments_of, boxed_of, handler_of, item_of, keyword_of, option_of, stmt_of, tree_of, type_param_of};
+ghost use Rattle.pynode.specs.TreeOf.{arguments_of, boxed_of, handler_of, item_of, keyword_of};
+ghost use Rattle.pynode.specs.TreeOf.{option_of, stmt_of, tree_of, type_param_of};
 ghost use Rattle.pynode.specs.Trees.{exprs, handlers, keywords, optional, stmts};
 ghost use Rattle.pyslots.specs.Names.{is_name};
-ghost use Rattle.pyslots.specs.Slots.{each_fits, each_keyword_fits, fits_arguments, fits_at, fits_target, perhaps_fits};
-ghost use Rattle.pyslots.specs.Statements.{caught_fits, clauses_fit, has_one, item_fits, perhaps_target_fits, types_fit};
+ghost use Rattle.pyslots.specs.Slots.{each_fits, each_keyword_fits, fits_arguments, fits_at};
+ghost use Rattle.pyslots.specs.Slots.{fits_target, perhaps_fits};
+ghost use Rattle.pyslots.specs.Statements.{caught_fits, clauses_fit, has_one, item_fits};
+ghost use Rattle.pyslots.specs.Statements.{perhaps_target_fits, types_fit};
 
 use crate::expressions::{boxed_fits, expr_fits, exprs_fit, keywords_fit};
 use crate::leaves::optional_name_fits;
@@ -32,7 +35,13 @@ pub(crate) fn function_head_fits(
     returns: &Option<Box<Expr>>,
     parameters: &[TypeParam],
 ) -> Result<bool, AllocError>
-    ensures { IfOk result (λ told. told ≡ (is_name name.now && fits_arguments is_name true (arguments_of args.now) && each_fits is_name levels.Expression (exprs (map tree_of decorators.now)) && perhaps_fits is_name levels.Expression (optional (boxed_of returns.now)) && types_fit profile is_name (map type_param_of parameters.now))) }
+    ensures { IfOk result
+        (λ told. told
+        ≡ (is_name name.now && fits_arguments is_name true
+        (arguments_of args.now) && each_fits is_name levels.Expression
+        (exprs (map tree_of decorators.now)) && perhaps_fits is_name levels.Expression
+        (optional (boxed_of returns.now)) && types_fit profile is_name
+        (map type_param_of parameters.now))) }
 {
     if !is_name(alloc, name.as_str())? {
         return Ok(false);
@@ -59,7 +68,13 @@ pub(crate) fn class_head_fits(
     decorators: &[Expr],
     parameters: &[TypeParam],
 ) -> Result<bool, AllocError>
-    ensures { IfOk result (λ told. told ≡ (is_name name.now && each_fits is_name levels.Elem (exprs (map tree_of bases.now)) && each_keyword_fits is_name (keywords (map keyword_of words.now)) && each_fits is_name levels.Expression (exprs (map tree_of decorators.now)) && types_fit profile is_name (map type_param_of parameters.now))) }
+    ensures { IfOk result
+        (λ told. told
+        ≡ (is_name name.now && each_fits is_name levels.Elem
+        (exprs (map tree_of bases.now)) && each_keyword_fits is_name
+        (keywords (map keyword_of words.now)) && each_fits is_name levels.Expression
+        (exprs (map tree_of decorators.now)) && types_fit profile is_name
+        (map type_param_of parameters.now))) }
 {
     if !is_name(alloc, name.as_str())? {
         return Ok(false);
@@ -78,7 +93,10 @@ pub(crate) fn class_head_fits(
 
 /// Whether the header of a `for` fits.
 pub(crate) fn for_head_fits(alloc: Global, target: &Expr, iter: &Expr) -> Result<bool, AllocError>
-    ensures { IfOk result (λ told. told ≡ (fits_target is_name contexts.Store (tree_of target.now) && fits_at is_name levels.Stars (tree_of iter.now))) }
+    ensures { IfOk result
+        (λ told. told
+        ≡ (fits_target is_name contexts.Store (tree_of target.now) && fits_at is_name levels.Stars
+        (tree_of iter.now))) }
 {
     if !target_fits(alloc, target, Context::Store)? {
         return Ok(false);
@@ -106,7 +124,10 @@ fn item_fits(alloc: Global, item: &Item) -> Result<bool, AllocError>
 
 /// Whether there are items of a `with`, each of which fits.
 pub(crate) fn items_fit(alloc: Global, items: &[Item]) -> Result<bool, AllocError>
-    ensures { IfOk result (λ told. told ≡ (has_one (map item_of items.now) && list_all (item_fits is_name) (map item_of items.now))) }
+    ensures { IfOk result
+        (λ told. told
+        ≡ (has_one (map item_of items.now) && list_all (item_fits is_name)
+        (map item_of items.now))) }
 {
     if items.is_empty() {
         return Ok(false);
@@ -143,7 +164,9 @@ pub(crate) fn clauses_fit(
     orelse: &[Stmt],
     finalbody: &[Stmt],
 ) -> bool
-    ensures { result ≡ clauses_fit star (handlers (map handler_of caught.now)) (stmts (map stmt_of orelse.now)) (stmts (map stmt_of finalbody.now)) }
+    ensures { result
+        ≡ clauses_fit star (handlers (map handler_of caught.now)) (stmts (map stmt_of orelse.now))
+        (stmts (map stmt_of finalbody.now)) }
 {
     if !caught.is_empty() {
         return true;

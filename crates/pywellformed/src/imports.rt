@@ -5,7 +5,8 @@ ghost use Rattle.std.specs.List.{list_all};
 ghost use Rattle.std.specs.Str.{chars};
 ghost use Rattle.pynode.specs.TreeOf.{alias_of};
 ghost use Rattle.pyslots.specs.Names.{is_name};
-ghost use Rattle.pyslots.specs.Statements.{alias_fits, dotted, has_one, import_fits, imports_fit, is_all, is_star, source_fits};
+ghost use Rattle.pyslots.specs.Statements.{alias_fits, dotted, has_one, import_fits, imports_fit};
+ghost use Rattle.pyslots.specs.Statements.{is_all, is_star, source_fits};
 
 use crate::leaves::optional_name_fits;
 use crate::names::is_name;
@@ -35,7 +36,10 @@ fn module_fits(alloc: Global, alias: &Alias) -> Result<bool, AllocError>
 
 /// Whether there is something that `import` imports, and each of it fits.
 pub(crate) fn modules_fit(alloc: Global, names: &[Alias]) -> Result<bool, AllocError>
-    ensures { IfOk result (λ told. told ≡ (has_one (map alias_of names.now) && list_all (import_fits is_name) (map alias_of names.now))) }
+    ensures { IfOk result
+        (λ told. told
+        ≡ (has_one (map alias_of names.now) && list_all (import_fits is_name)
+        (map alias_of names.now))) }
 {
     if names.is_empty() {
         return Ok(false);

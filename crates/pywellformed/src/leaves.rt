@@ -82,7 +82,9 @@ pub(crate) fn has_clause(generators: &[Comprehension]) -> bool
 /// Whether there are as many keys as values.
 #[tactic(auto, using(crate::proofs::Counts::counts))]
 pub(crate) fn are_pairs(keys: &[Option<Expr>], values: &[Expr]) -> bool
-    ensures { result ≡ eqb (count_optional (optionals (map option_of keys.now))) (count (exprs (map tree_of values.now))) }
+    ensures { result
+        ≡ eqb (count_optional (optionals (map option_of keys.now)))
+        (count (exprs (map tree_of values.now))) }
 {
     keys.len() == values.len()
 }
@@ -90,7 +92,9 @@ pub(crate) fn are_pairs(keys: &[Option<Expr>], values: &[Expr]) -> bool
 /// Whether there is an operator, and as many operators as comparators.
 #[tactic(auto, using(crate::proofs::Counts::counts))]
 pub(crate) fn are_comparisons(ops: &[Comparison], comparators: &[Expr]) -> bool
-    ensures { result ≡ (leb 1 (length ops.now) && eqb (length ops.now) (count (exprs (map tree_of comparators.now)))) }
+    ensures { result
+        ≡ (leb 1 (length ops.now) && eqb (length ops.now)
+        (count (exprs (map tree_of comparators.now)))) }
 {
     ops.len() >= 1 && ops.len() == comparators.len()
 }
@@ -98,14 +102,19 @@ pub(crate) fn are_comparisons(ops: &[Comparison], comparators: &[Expr]) -> bool
 /// Whether there are as many defaults, or missing ones, as keyword-only parameters.
 #[tactic(auto, using(crate::proofs::Counts::counts))]
 pub(crate) fn are_keyword_defaults(defaults: &[Option<Expr>], kwonlyargs: &[Arg]) -> bool
-    ensures { result ≡ eqb (count_optional (optionals (map option_of defaults.now))) (count_args (args (map arg_of kwonlyargs.now))) }
+    ensures { result
+        ≡ eqb (count_optional (optionals (map option_of defaults.now)))
+        (count_args (args (map arg_of kwonlyargs.now))) }
 {
     defaults.len() == kwonlyargs.len()
 }
 
 /// Whether there are no more defaults than plain parameters.
 pub(crate) fn are_defaults(defaults: &[Expr], posonlyargs: &[Arg], plain: &[Arg]) -> bool
-    ensures { result ≡ leb (count (exprs (map tree_of defaults.now))) (count_args (args (map arg_of posonlyargs.now)) + count_args (args (map arg_of plain.now))) }
+    ensures { result
+        ≡ leb (count (exprs (map tree_of defaults.now)))
+        (count_args (args (map arg_of posonlyargs.now)) + count_args
+        (args (map arg_of plain.now))) }
 {
     defaults.len() <= posonlyargs.len() || defaults.len() - posonlyargs.len() <= plain.len()
 }

@@ -1,4 +1,5 @@
-//! Whether a tree has in each field what may stand there, by the grammar, with no regard to heights.
+//! Whether a tree has in each field what may stand there, by the grammar, with no regard to
+//! heights.
 //!
 //! `pyslots` defines that, slot by slot, and has the laws that tie the slots to the grammar. The
 //! walks here ask the same in the same order, and build nothing: [`expr_fits`] of an expression at

@@ -67,7 +67,8 @@ fn parameter_fits(alloc: Global, a: &Arg, annotated: bool, level: Level) -> Resu
 #[cycle(fits)]
 #[tactic(auto, using(pynode::proofs::Callers::ExprShapes::expr_shapes))]
 fn each_parameter_fits(alloc: Global, all: &[Arg], annotated: bool) -> Result<bool, AllocError>
-    ensures { IfOk result (λ told. told ≡ each_arg_fits is_name annotated (args (map arg_of all.now))) }
+    ensures { IfOk result
+        (λ told. told ≡ each_arg_fits is_name annotated (args (map arg_of all.now))) }
 {
     for a in all {
         if !parameter_fits(alloc, a, annotated, Level::Expression)? {
@@ -85,7 +86,9 @@ fn optional_parameter_fits(
     annotated: bool,
     level: Level,
 ) -> Result<bool, AllocError>
-    ensures { IfOk result (λ told. told ≡ perhaps_arg_fits is_name annotated level (optional_arg (arg_option_of a.now))) }
+    ensures { IfOk result
+        (λ told. told
+        ≡ perhaps_arg_fits is_name annotated level (optional_arg (arg_option_of a.now))) }
 {
     match a {
         None => Ok(true),

@@ -2,7 +2,8 @@
 
 ghost use Rattle.std.specs.Prelude.{◌≡◌};
 ghost use Rattle.pynode.specs.TreeOf.{tree_of};
-ghost use Rattle.pyslots.specs.Slots.{is_a_name, is_context, is_single, is_starred, member_level, takes_slice, takes_star};
+ghost use Rattle.pyslots.specs.Slots.{is_a_name, is_context, is_single, is_starred, member_level};
+ghost use Rattle.pyslots.specs.Slots.{takes_slice, takes_star};
 
 use pygrammar::Level;
 use pynode::{Context, Expr};

@@ -8,8 +8,10 @@ ghost use Rattle.pynode.specs.declared.operators.Context.TheVariants as contexts
 ghost use Rattle.pynode.specs.TreeOf.{boxed_of, option_of, tree_of, type_param_of};
 ghost use Rattle.pynode.specs.Trees.{exprs, optional};
 ghost use Rattle.pyslots.specs.Names.{is_name};
-ghost use Rattle.pyslots.specs.Slots.{each_target_fits, fits_at, fits_target, is_a_name, is_single, perhaps_fits};
-ghost use Rattle.pyslots.specs.Statements.{has_one, perhaps_target_fits, raised_fits, type_param_fits, types_fit};
+ghost use Rattle.pyslots.specs.Slots.{each_target_fits, fits_at, fits_target, is_a_name, is_single};
+ghost use Rattle.pyslots.specs.Slots.{perhaps_fits};
+ghost use Rattle.pyslots.specs.Statements.{has_one, perhaps_target_fits, raised_fits};
+ghost use Rattle.pyslots.specs.Statements.{type_param_fits, types_fit};
 
 use crate::expressions::{boxed_fits, expr_fits};
 use crate::names::is_name;
@@ -25,7 +27,8 @@ pub(crate) fn option_fits(
     expr: &Option<Expr>,
     level: Level,
 ) -> Result<bool, AllocError>
-    ensures { IfOk result (λ told. told ≡ perhaps_fits is_name level (optional (option_of expr.now))) }
+    ensures { IfOk result
+        (λ told. told ≡ perhaps_fits is_name level (optional (option_of expr.now))) }
 {
     match expr {
         None => Ok(true),
@@ -54,7 +57,10 @@ pub(crate) fn some_targets_fit(
     targets: &[Expr],
     place: Context,
 ) -> Result<bool, AllocError>
-    ensures { IfOk result (λ told. told ≡ (has_one (map tree_of targets.now) && each_target_fits is_name place (exprs (map tree_of targets.now)))) }
+    ensures { IfOk result
+        (λ told. told
+        ≡ (has_one (map tree_of targets.now) && each_target_fits is_name place
+        (exprs (map tree_of targets.now)))) }
 {
     if targets.is_empty() {
         return Ok(false);
@@ -68,7 +74,10 @@ pub(crate) fn aug_assign_fits(
     target: &Expr,
     value: &Expr,
 ) -> Result<bool, AllocError>
-    ensures { IfOk result (λ told. told ≡ (is_single (tree_of target.now) && fits_target is_name contexts.Store (tree_of target.now) && fits_at is_name levels.Value (tree_of value.now))) }
+    ensures { IfOk result
+        (λ told. told
+        ≡ (is_single (tree_of target.now) && fits_target is_name contexts.Store
+        (tree_of target.now) && fits_at is_name levels.Value (tree_of value.now))) }
 {
     if !is_single(target) {
         return Ok(false);
@@ -87,7 +96,13 @@ pub(crate) fn ann_assign_fits(
     value: &Option<Box<Expr>>,
     simple: bool,
 ) -> Result<bool, AllocError>
-    ensures { IfOk result (λ told. told ≡ (is_single (tree_of target.now) && (not simple || is_a_name (tree_of target.now)) && fits_target is_name contexts.Store (tree_of target.now) && fits_at is_name levels.Expression (tree_of annotation.now) && perhaps_fits is_name levels.Value (optional (boxed_of value.now)))) }
+    ensures { IfOk result
+        (λ told. told
+        ≡ (is_single (tree_of target.now) &&
+        (not simple || is_a_name (tree_of target.now)) && fits_target is_name contexts.Store
+        (tree_of target.now) && fits_at is_name levels.Expression
+        (tree_of annotation.now) && perhaps_fits is_name levels.Value
+        (optional (boxed_of value.now)))) }
 {
     if !is_single(target) {
         return Ok(false);
@@ -110,7 +125,8 @@ pub(crate) fn raise_fits(
     exc: &Option<Expr>,
     cause: &Option<Expr>,
 ) -> Result<bool, AllocError>
-    ensures { IfOk result (λ told. told ≡ raised_fits is_name (option_of exc.now) (option_of cause.now)) }
+    ensures { IfOk result
+        (λ told. told ≡ raised_fits is_name (option_of exc.now) (option_of cause.now)) }
 {
     match (exc, cause) {
         (None, None) => Ok(true),
@@ -146,7 +162,8 @@ fn type_param_fits(alloc: Global, parameter: &TypeParam) -> Result<bool, AllocEr
 }
 
 fn each_type_param_fits(alloc: Global, parameters: &[TypeParam]) -> Result<bool, AllocError>
-    ensures { IfOk result (λ told. told ≡ list_all (type_param_fits is_name) (map type_param_of parameters.now)) }
+    ensures { IfOk result
+        (λ told. told ≡ list_all (type_param_fits is_name) (map type_param_of parameters.now)) }
 {
     for parameter in parameters {
         if !type_param_fits(alloc, parameter)? {
@@ -162,7 +179,8 @@ pub(crate) fn type_params_fit(
     profile: Profile,
     parameters: &[TypeParam],
 ) -> Result<bool, AllocError>
-    ensures { IfOk result (λ told. told ≡ types_fit profile is_name (map type_param_of parameters.now)) }
+    ensures { IfOk result
+        (λ told. told ≡ types_fit profile is_name (map type_param_of parameters.now)) }
 {
     if parameters.is_empty() {
         return Ok(true);
@@ -178,7 +196,12 @@ pub(crate) fn type_alias_fits(
     parameters: &[TypeParam],
     value: &Expr,
 ) -> Result<bool, AllocError>
-    ensures { IfOk result (λ told. told ≡ (has_types profile && is_a_name (tree_of name.now) && fits_target is_name contexts.Store (tree_of name.now) && list_all (type_param_fits is_name) (map type_param_of parameters.now) && fits_at is_name levels.Expression (tree_of value.now))) }
+    ensures { IfOk result
+        (λ told. told
+        ≡ (has_types profile && is_a_name (tree_of name.now) && fits_target is_name contexts.Store
+        (tree_of name.now) && list_all (type_param_fits is_name)
+        (map type_param_of parameters.now) && fits_at is_name levels.Expression
+        (tree_of value.now))) }
 {
     if !has_types(profile) {
         return Ok(false);

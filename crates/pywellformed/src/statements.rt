@@ -4,7 +4,8 @@ ghost use Rattle.std.specs.Prelude.{◌≡◌, ◌&&◌, IfOk, map};
 ghost use Rattle.pynode.specs.TreeOf.{handler_of, stmt_of};
 ghost use Rattle.pynode.specs.Trees.{handlers, stmts};
 ghost use Rattle.pyslots.specs.Names.{is_name};
-ghost use Rattle.pyslots.specs.Statements.{caught_fits, handlers_fit, statement_fits, statements_fit, suite_fits};
+ghost use Rattle.pyslots.specs.Statements.{caught_fits, handlers_fit, statement_fits};
+ghost use Rattle.pyslots.specs.Statements.{statements_fit, suite_fits};
 
 use crate::expressions::expr_fits;
 use crate::headers::{
@@ -217,7 +218,8 @@ fn statement_fits(alloc: Global, profile: Profile, s: &Stmt) -> Result<bool, All
 #[cycle(statements)]
 #[tactic(auto, using(crate::proofs::Suites::suites))]
 fn suite_fits(alloc: Global, profile: Profile, body: &[Stmt]) -> Result<bool, AllocError>
-    ensures { IfOk result (λ told. told ≡ suite_fits profile is_name (stmts (map stmt_of body.now))) }
+    ensures { IfOk result
+        (λ told. told ≡ suite_fits profile is_name (stmts (map stmt_of body.now))) }
 {
     if body.is_empty() {
         return Ok(false);
@@ -230,7 +232,8 @@ fn suite_fits(alloc: Global, profile: Profile, body: &[Stmt]) -> Result<bool, Al
 #[cycle(statements)]
 #[tactic(auto, using(pynode::proofs::Callers::StmtShapes::stmt_shapes))]
 pub fn statements_fit(alloc: Global, profile: Profile, body: &[Stmt]) -> Result<bool, AllocError>
-    ensures { IfOk result (λ told. told ≡ statements_fit profile is_name (stmts (map stmt_of body.now))) }
+    ensures { IfOk result
+        (λ told. told ≡ statements_fit profile is_name (stmts (map stmt_of body.now))) }
 {
     for s in body {
         if !statement_fits(alloc, profile, s)? {
@@ -249,7 +252,10 @@ fn handler_fits(
     star: bool,
     h: &Handler,
 ) -> Result<bool, AllocError>
-    ensures { IfOk result (λ told. told ≡ (caught_fits is_name star (handler_of h.now).class (handler_of h.now).name && suite_fits profile is_name (stmts (handler_of h.now).body))) }
+    ensures { IfOk result
+        (λ told. told
+        ≡ (caught_fits is_name star (handler_of h.now).class
+        (handler_of h.now).name && suite_fits profile is_name (stmts (handler_of h.now).body))) }
 {
     Ok(except_fits(alloc, star, &h.class, &h.name)? && suite_fits(alloc, profile, &h.body)?)
 }
@@ -263,7 +269,8 @@ fn handlers_fit(
     star: bool,
     all: &[Handler],
 ) -> Result<bool, AllocError>
-    ensures { IfOk result (λ told. told ≡ handlers_fit profile is_name star (handlers (map handler_of all.now))) }
+    ensures { IfOk result
+        (λ told. told ≡ handlers_fit profile is_name star (handlers (map handler_of all.now))) }
 {
     for h in all {
         if !handler_fits(alloc, profile, star, h)? {

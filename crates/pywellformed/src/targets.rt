@@ -49,7 +49,8 @@ pub(crate) fn target_fits(alloc: Global, expr: &Expr, place: Context) -> Result<
 #[cycle(fits)]
 #[tactic(auto, using(pynode::proofs::Callers::ExprShapes::expr_shapes))]
 pub(crate) fn targets_fit(alloc: Global, es: &[Expr], place: Context) -> Result<bool, AllocError>
-    ensures { IfOk result (λ told. told ≡ each_target_fits is_name place (exprs (map tree_of es.now))) }
+    ensures { IfOk result
+        (λ told. told ≡ each_target_fits is_name place (exprs (map tree_of es.now))) }
 {
     for e in es {
         if !target_fits(alloc, e, place)? {

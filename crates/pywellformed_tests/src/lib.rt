@@ -1,4 +1,5 @@
-//! Tests of `well_formed` and `well_formed_at`: trees made in code, and which of them Python's grammar gives.
+//! Tests of `well_formed` and `well_formed_at`: trees made in code, and which of them Python's
+//! grammar gives.
 #![tactic(auto)]
 
 #[cfg(test)]

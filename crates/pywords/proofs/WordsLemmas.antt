@@ -15,8 +15,8 @@ use Rattle.clap.specs.declared.error.kind.ErrorKind.TheVariants.{DisplayHelp, Ou
 use Rattle.clap.specs.declared.parser.matches.ArgMatches.{ArgMatches}
 use Rattle.pylex.specs.CursorTexts.{IsWellFormed}
 use Rattle.pylex.specs.Cursors.{CursorParts, cursor_text}
-use Rattle.pylex.specs.declared.cursors.CursorFault.{CursorFault}
-use Rattle.pylex.specs.declared.cursors.CursorFault.TheVariants as cursor_faults
+use Rattle.pylex.specs.declared.cursor.CursorFault.{CursorFault}
+use Rattle.pylex.specs.declared.cursor.CursorFault.TheVariants as cursor_faults
 use Rattle.pywords.specs.Words.{grammar, of_cursor, IsCommand, IsFlag, IsNumber, Refuses}
 use Rattle.pywords.specs.Inner.Matching.{Explains, MissesCommand, MissesCursor}
 use Rattle.pywords.specs.declared.command.UsageFault.{UsageFault}

@@ -11,8 +11,8 @@ use Rattle.clap.specs.declared.builder.value_parser.ValueParser.TheVariants.{Uns
 use Rattle.clap.specs.declared.error.kind.ErrorKind.TheVariants.{DisplayHelp}
 use Rattle.pylex.specs.CursorTexts.{IsWellFormed}
 use Rattle.pylex.specs.Cursors.{CursorParts, cursor_text}
-use Rattle.pylex.specs.declared.cursors.CursorFault.{CursorFault}
-use Rattle.pylex.specs.declared.cursors.CursorFault.TheVariants as cursor_faults
+use Rattle.pylex.specs.declared.cursor.CursorFault.{CursorFault}
+use Rattle.pylex.specs.declared.cursor.CursorFault.TheVariants as cursor_faults
 use Rattle.pynode.specs.declared.profiles.Profile.{Profile}
 use Rattle.pynode.specs.declared.profiles.Profile.TheVariants.{Py311, Py312}
 use Rattle.pywords.specs.declared.command.Command.{Command}

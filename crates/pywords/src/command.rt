@@ -1,5 +1,6 @@
 //! The command line.
-ghost use Rattle.std.specs.Prelude.{◌≡◌, ◌≤◌, true, codes, map, option_map, string_bytes, IfOk, IfErr, IfSome};
+ghost use Rattle.std.specs.Prelude.{◌≡◌, ◌≤◌, true, codes, map, option_map, string_bytes, IfOk};
+ghost use Rattle.std.specs.Prelude.{IfErr, IfSome};
 ghost use Rattle.clap.specs.Matches.{found_of};
 ghost use Rattle.clap.specs.Simple.{app_of, subcommand_rows_of};
 ghost use Rattle.clap.specs.Values.{kind_of};
@@ -7,8 +8,13 @@ ghost use Rattle.clap.specs.Walk.{first_of, one_of, rows_of};
 ghost use Rattle.pylex.specs.CursorTexts.{IsWellFormed};
 ghost use Rattle.pylex.specs.Cursors.{cursor_text};
 ghost use Rattle.pywords.specs.declared.command.UsageFault.{UsageFault};
-ghost use Rattle.pywords.specs.Inner.Matching.{IsRule, IsForm, MissesNumber, MissesCursor, MissesTokens, MissesDump, MissesCommand, Explains};
-ghost use Rattle.pywords.specs.Words.{grammar, number_rule, flag_rule, exact_rule, resume_rule, file_rule, tokens_shape, dump_shape, unparse_shape, largest_indent, file_of, name_of, of_cursor, is_newer, IsNumber, IsFlag, IsTokens, IsDump, IsUnparse, IsCommand, Gives, Refuses, IsWithinLimits};
+ghost use Rattle.pywords.specs.Inner.Matching.{IsRule, IsForm, MissesNumber, MissesCursor};
+ghost use Rattle.pywords.specs.Inner.Matching.{MissesTokens, MissesDump, MissesCommand, Explains};
+ghost use Rattle.pywords.specs.Words.{grammar, number_rule, flag_rule, exact_rule, resume_rule};
+ghost use Rattle.pywords.specs.Words.{file_rule, tokens_shape, dump_shape, unparse_shape};
+ghost use Rattle.pywords.specs.Words.{largest_indent, file_of, name_of, of_cursor, is_newer};
+ghost use Rattle.pywords.specs.Words.{IsNumber, IsFlag, IsTokens, IsDump, IsUnparse, IsCommand};
+ghost use Rattle.pywords.specs.Words.{Gives, Refuses, IsWithinLimits};
 
 use clap::error::ErrorKind;
 use clap::{Arg, ArgAction, ArgMatches, value_parser};
@@ -84,7 +90,8 @@ pub struct Tokens {
 /// How a source's tree is to be dumped.
 #[derive(Debug, Drop)]
 pub struct Dump {
-    /// The version of Python by which the source is read, and how its tree is laid out, with at most 16 blanks a level.
+    /// The version of Python by which the source is read, and how its tree is laid out, with at
+    /// most 16 blanks a level.
     pub style: Style,
     /// The file of the source; the standard input if there is none.
     pub file: Option<String>,
@@ -237,9 +244,11 @@ fn number_of(
     option: &str,
     largest: u32,
 ) -> Result<Option<u64>, UsageFault>
-    ensures given { IfOk result (IsNumber largest (one_of option.now (rows_of (found_of matches.now)))) }
+    ensures given { IfOk result
+        (IsNumber largest (one_of option.now (rows_of (found_of matches.now)))) }
     ensures within { IfOk result (λ number. IfSome number (λ n. n ≤ largest)) }
-    ensures refused { IfErr result (MissesNumber largest (one_of option.now (rows_of (found_of matches.now)))) }
+    ensures refused { IfErr result
+        (MissesNumber largest (one_of option.now (rows_of (found_of matches.now)))) }
 {
     let Ok(number) = matches.try_get_one::<u64>(option) else {
         return Err(UsageFault::BadArguments);
@@ -252,7 +261,9 @@ fn number_of(
 
 /// The file that is given, if one is.
 fn file_of(alloc: Global, matches: &ArgMatches<'_>) -> Result<Option<String>, AllocError>
-    ensures { IfOk result (λ file. option_map string_bytes file ≡ first_of (codes "FILE") (rows_of (found_of matches.now))) }
+    ensures { IfOk result
+        (λ file. option_map string_bytes file
+        ≡ first_of (codes "FILE") (rows_of (found_of matches.now))) }
 {
     match matches.get_str("FILE") {
         Some(file) => Ok(Some(String::from_str(alloc, file)?)),
@@ -262,7 +273,9 @@ fn file_of(alloc: Global, matches: &ArgMatches<'_>) -> Result<Option<String>, Al
 
 /// The cursor that is given, if one is.
 fn cursor_of(alloc: Global, matches: &ArgMatches<'_>) -> Result<Option<Cursor>, UsageFault>
-    ensures given { IfOk result (λ cursor. option_map cursor_text cursor ≡ first_of (codes "resume") (rows_of (found_of matches.now))) }
+    ensures given { IfOk result
+        (λ cursor. option_map cursor_text cursor
+        ≡ first_of (codes "resume") (rows_of (found_of matches.now))) }
     ensures well_formed { IfOk result (λ cursor. IfSome cursor IsWellFormed) }
     ensures refused { IfErr result (MissesCursor (rows_of (found_of matches.now))) }
 {
@@ -272,8 +285,8 @@ fn cursor_of(alloc: Global, matches: &ArgMatches<'_>) -> Result<Option<Cursor>, 
     }
 }
 
-/// What the words after `tokens` ask for. The cursor is read last, so that it is refused only where they are good
-/// otherwise.
+/// What the words after `tokens` ask for. The cursor is read last, so that it is refused only where
+/// they are good otherwise.
 fn tokens_of(alloc: Global, matches: &ArgMatches<'_>) -> Result<Tokens, UsageFault>
     ensures given { IfOk result (IsTokens (rows_of (found_of matches.now))) }
     ensures refused { IfErr result (MissesTokens (rows_of (found_of matches.now))) }
@@ -292,9 +305,11 @@ fn tokens_of(alloc: Global, matches: &ArgMatches<'_>) -> Result<Tokens, UsageFau
 
 /// The blanks of a level that are given, if any are.
 fn indent_of(matches: &ArgMatches<'_>) -> Result<Option<u8>, UsageFault>
-    ensures given { IfOk result (IsNumber largest_indent (one_of (codes "indent") (rows_of (found_of matches.now)))) }
+    ensures given { IfOk result
+        (IsNumber largest_indent (one_of (codes "indent") (rows_of (found_of matches.now)))) }
     ensures within { IfOk result (λ indent. IfSome indent (λ n. n ≤ largest_indent)) }
-    ensures refused { IfErr result (MissesNumber largest_indent (one_of (codes "indent") (rows_of (found_of matches.now)))) }
+    ensures refused { IfErr result
+        (MissesNumber largest_indent (one_of (codes "indent") (rows_of (found_of matches.now)))) }
 {
     match number_of(matches, "indent", LARGEST_INDENT)? {
         Some(blanks) => Ok(Some(blanks as u8)),
@@ -357,9 +372,9 @@ fn command_of(alloc: Global, matches: &ArgMatches<'_>) -> Result<Command, UsageF
 impl Command {
     /// The command that the words give, without the program's name.
     ///
-    /// They are `tokens [-e] [--count N] [--resume CURSOR] [FILE]`, `dump [--indent N] [--bare] [--py312] [FILE]` or
-    /// `unparse [--py312] [FILE]`, with the options in any order. All others are bad arguments, but for those that ask for
-    /// help: `help`, `-h` and `--help`.
+    /// They are `tokens [-e] [--count N] [--resume CURSOR] [FILE]`, `dump [--indent N] [--bare]
+    /// [--py312] [FILE]` or `unparse [--py312] [FILE]`, with the options in any order. All others
+    /// are bad arguments, but for those that ask for help: `help`, `-h` and `--help`.
     ///
     /// # Errors
     ///

@@ -1,4 +1,7 @@
--- Worked expressions: each is written so at its level. The trees are those of Python's module `ast`.
+-- Worked expressions: each is written so at its level. The trees are those
+-- of Python's module `ast`.
+--
+-- Carries: no contract; its rows are computed as it is checked.
 use Rattle.std.proofs.Common.{◌≡◌, refl, List, [], ◌∷◌, map, Some, None, true, false, ℕ}
 use Rattle.std.specs.Prelude.{codes}
 use Rattle.std.specs.Fmt.{digits}

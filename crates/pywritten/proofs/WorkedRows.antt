@@ -1,4 +1,6 @@
 -- Rows of worked modules: statements, and the lines that they are written in.
+--
+-- Carries: row, AreWritten, a, b and 11 more, for WorkedBlocks, WorkedSimple, WorkedTypes.
 use Rattle.std.proofs.Common.{◌≡◌, ℕ, List, [], ◌∷◌, ◌++◌, map}
 use Rattle.std.specs.Prelude.{codes}
 use Rattle.pynode.specs.declared.operators.Context.TheVariants.{Load}

@@ -1,4 +1,6 @@
 -- Worked simple statements: the text of each. The trees are those of Python's module `ast`.
+--
+-- Carries: no contract; its rows are computed as it is checked. On: WorkedRows.
 use Rattle.std.proofs.Common.{refl, [], ◌∷◌, Some, None, true, false}
 use Rattle.std.specs.Prelude.{codes}
 use Rattle.std.specs.Fmt.{digits}

@@ -1,4 +1,7 @@
--- Worked statements with types, of Python 3.12: the text of each. The trees are those of Python's module `ast`.
+-- Worked statements with types, of Python 3.12: the text of each. The trees are those
+-- of Python's module `ast`.
+--
+-- Carries: no contract; its rows are computed as it is checked. On: WorkedRows.
 use Rattle.std.proofs.Common.{refl, [], ◌∷◌, Some, None}
 use Rattle.std.specs.Prelude.{codes}
 use Rattle.std.specs.Fmt.{digits}

@@ -21,7 +21,7 @@ use Rattle.pygrammar.specs.Blocks.{Block}
 use Rattle.pygrammar.specs.Refusals as Refusals
 use Rattle.pygrammar.specs.Refusals.{Accepted}
 use Rattle.pygrammar.specs.Reader.{Found, reads}
-use Rattle.pylex.specs.declared.kinds.Kind.{Kind}
+use Rattle.pylex.specs.declared.kind.Kind.{Kind}
 use Rattle.pyspacing.specs.Spacing.{Piece}
 use Rattle.pyspacing.specs.Tokens.{is_written, are_written}
 use Rattle.pyspacing.specs.Laws.{ReadsBack}

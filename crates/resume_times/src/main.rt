@@ -1,4 +1,5 @@
-//! Times listing a large source up to a cursor, and going on from there: a crate of its own, over pysource and pylex.
+//! Times listing a large source up to a cursor, and going on from there: a crate of its own, over
+//! pysource and pylex.
 #![tactic(auto)]
 
 use pylex::{Cursor, Lister, Step};

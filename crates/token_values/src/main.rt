@@ -3,10 +3,10 @@
 //!
 //! `token_values [WHAT]` reads the standard input as a source. By `values`, and with no word, it
 //! writes for each number and string the row and the column, a word, and the value: `int` with the
-//! number in decimal, `text`, `u` or `bytes` with a repr. By `list` it lists the source with nothing
-//! written, and by `terminals` reads its logical lines: it writes how
-//! many entries or terminals there are, and how many nanoseconds that took. Where the source has no
-//! tokens it writes `refused` and why.
+//! number in decimal, `text`, `u` or `bytes` with a repr. By `list` it lists the source with
+//! nothing written, and by `terminals` reads its logical lines: it writes how many entries or
+//! terminals there are, and how many nanoseconds that took. Where the source has no tokens it
+//! writes `refused` and why.
 #![tactic(auto)]
 
 use pylex::{Kind, Lister, Step};

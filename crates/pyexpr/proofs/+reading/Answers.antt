@@ -3,26 +3,26 @@ use Rattle.pynode.specs.TreeOf.{tree_of}
 use Rattle.pyexpr.specs.Inner.Readings.{same_reads, inner_reads}
 use Rattle.pyexpr.specs.Views.{seen}
 use Rattle.pyexpr.specs.Inner.Chains.{ComparedAt}
-use Rattle.pyexpr.proofs.Signs.{joins_stands, hit_sign, miss_sign}
-use Rattle.pyexpr.proofs.ChainSteps.{chain_failed, chain_made, links_start, links_error, links_more, links_end, sides_wrong, sides_error, sides_more, compare_made}
-use Rattle.pyexpr.proofs.Reading.{failed_cap}
-use Rattle.pyexpr.proofs.Climbs.{climb_start, climb_front_error, climb_error, climb_more, climb_found, climb_failed, front_hit}
-use Rattle.pyexpr.proofs.Trails.{dot_error, dot_more, call_error, call_more, index_error, index_more, trail_end, primary_failed, primary_found}
-use Rattle.pyexpr.proofs.LevelSteps.{inner_found, elem_star, part_star, expression_lambda, expression_if, expression_alone, named_hit, named_plain, stars_tuple, slice_open, slice_from, slice_alone, slices_tuple, slices_star, slices_alone}
-use Rattle.pyexpr.proofs.AloneSteps.{expression_atom}
-use Rattle.pyexpr.proofs.AtomSteps.{atom_here, atom_past, other_op, other_word}
+use Rattle.pyexpr.proofs.Places.Signs.{joins_stands, hit_sign, miss_sign}
+use Rattle.pyexpr.proofs.Reader.ChainSteps.{chain_failed, chain_made, links_start, links_error, links_more, links_end, sides_wrong, sides_error, sides_more, compare_made}
+use Rattle.pyexpr.proofs.Reader.Reading.{failed_cap}
+use Rattle.pyexpr.proofs.Reader.Climbs.{climb_start, climb_front_error, climb_error, climb_more, climb_found, climb_failed, front_hit}
+use Rattle.pyexpr.proofs.Reader.Trails.{dot_error, dot_more, call_error, call_more, index_error, index_more, trail_end, primary_failed, primary_found}
+use Rattle.pyexpr.proofs.Reader.LevelSteps.{inner_found, elem_star, part_star, expression_lambda, expression_if, expression_alone, named_hit, named_plain, stars_tuple, slice_open, slice_from, slice_alone, slices_tuple, slices_star, slices_alone}
+use Rattle.pyexpr.proofs.Reader.AloneSteps.{expression_atom}
+use Rattle.pyexpr.proofs.Reader.AtomSteps.{atom_here, atom_past, other_op, other_word}
 use Rattle.pyvalue.specs.Terminals.{terminal}
-use Rattle.pyexpr.proofs.ListSteps.{list_start, list_end, list_stop, list_error, list_more, tuple_failed, tuple_made, group_failed, group_open, group_made}
-use Rattle.pyexpr.proofs.SquareSteps.{square_empty, square_none, square_error, square_star, square_comp, square_failed, square_open, square_made}
+use Rattle.pyexpr.proofs.Lists.ListSteps.{list_start, list_end, list_stop, list_error, list_more, tuple_failed, tuple_made, group_failed, group_open, group_made}
+use Rattle.pyexpr.proofs.Lists.SquareSteps.{square_empty, square_none, square_error, square_star, square_comp, square_failed, square_open, square_made}
 use Rattle.pyexpr.specs.Inner.Arguments.{state_of}
-use Rattle.pyexpr.proofs.ArgumentSteps.{more_end, more_error, more_last, more_turn, call_behind}
-use Rattle.pyexpr.proofs.ParameterParts.{suffix_failed, suffix_found, by_name, by_star, by_stars, parameter_earlier}
-use Rattle.pyexpr.proofs.ParameterSteps.{parameters_start, parameters_end, parameters_error, parameters_last, parameters_more, lambda_failed, lambda_unclosed, lambda_body_failed, lambda_wrong, lambda_made, signature_height}
+use Rattle.pyexpr.proofs.Calls.ArgumentSteps.{more_end, more_error, more_last, more_turn, call_behind}
+use Rattle.pyexpr.proofs.FormalParameters.ParameterParts.{suffix_failed, suffix_found, by_name, by_star, by_stars, parameter_earlier}
+use Rattle.pyexpr.proofs.FormalParameters.ParameterSteps.{parameters_start, parameters_end, parameters_error, parameters_last, parameters_more, lambda_failed, lambda_unclosed, lambda_body_failed, lambda_wrong, lambda_made, signature_height}
 use Rattle.pyexpr.specs.declared.listings.Item.TheVariants as item
-use Rattle.pyexpr.proofs.PairSteps.{pairs_start, pairs_end, pairs_stop, pairs_error, pairs_more}
-use Rattle.pyexpr.proofs.BraceSteps.{dict_failed, dict_open, dict_made, set_made}
-use Rattle.pyexpr.proofs.CompSteps.{target_more, target_one, targets_failed, targets_made, tests_start, tests_end, tests_error, tests_more}
-use Rattle.pyexpr.proofs.ClauseSteps.{clause_target, clauses_cut, clauses_end, clauses_error, clauses_more, for_begins, async_begins}
+use Rattle.pyexpr.proofs.Lists.PairSteps.{pairs_start, pairs_end, pairs_stop, pairs_error, pairs_more}
+use Rattle.pyexpr.proofs.Lists.BraceSteps.{dict_failed, dict_open, dict_made, set_made}
+use Rattle.pyexpr.proofs.ForClauses.CompSteps.{target_more, target_one, targets_failed, targets_made, tests_start, tests_end, tests_error, tests_more}
+use Rattle.pyexpr.proofs.ForClauses.ClauseSteps.{clause_target, clauses_cut, clauses_end, clauses_error, clauses_more, for_begins, async_begins}
 use Rattle.pyexpr.proofs.+reading.Goals as goal
 
 pub climbing::climb-returns-in_err-first : goal.climbing::climb-returns-in_err-first

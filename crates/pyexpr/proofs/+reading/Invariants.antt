@@ -3,8 +3,8 @@ use Rattle.pygrammar.specs.Reader.{operation}
 use Rattle.std.proofs.Common.{◌+◌, ◌-◌, ◌*◌, ◌≤◌, length, [], map}
 use Rattle.pygrammar.specs.Reader.{comps_loop, ifs_loop, operation}
 use Rattle.pygrammar.specs.Precedence as precedence
-use Rattle.pyexpr.proofs.ChainSteps.{Links, Sides}
-use Rattle.pyexpr.proofs.ArgumentSteps.{Reaches}
+use Rattle.pyexpr.proofs.Reader.ChainSteps.{Links, Sides}
+use Rattle.pyexpr.proofs.Calls.ArgumentSteps.{Reaches}
 use Rattle.pyexpr.specs.Inner.Arguments.{arguments_of, state_of}
 use Rattle.pyexpr.specs.Inner.Chains.{links_of}
 use Rattle.pynode.specs.TreeOf.{tree_of}
@@ -12,16 +12,16 @@ use Rattle.pygrammar.specs.Capped.{capped_climb}
 use Rattle.pyexpr.specs.Readings.{reads}
 use Rattle.pyexpr.specs.Inner.Readings.{same_reads, inner_reads}
 use Rattle.pyexpr.specs.Views.{seen}
-use Rattle.pyexpr.proofs.Climbs.{Climbs}
-use Rattle.pyexpr.proofs.ListSteps.{Lists}
-use Rattle.pyexpr.proofs.ParameterSteps.{Parameters, listed}
+use Rattle.pyexpr.proofs.Reader.Climbs.{Climbs}
+use Rattle.pyexpr.proofs.Lists.ListSteps.{Lists}
+use Rattle.pyexpr.proofs.FormalParameters.ParameterSteps.{Parameters, listed}
 use Rattle.pyexpr.specs.Inner.Found.{entries_of}
 use Rattle.pyexpr.specs.Inner.Lists.{more_at}
-use Rattle.pyexpr.proofs.Trails.{Trails, primary_step}
+use Rattle.pyexpr.proofs.Reader.Trails.{Trails, primary_step}
 use Rattle.pyexpr.specs.Inner.Pairs.{more_pairs_at, pairs_of}
-use Rattle.pyexpr.proofs.PairSteps.{HasPairs}
-use Rattle.pyexpr.proofs.ClauseSteps.{Reached}
-use Rattle.pyexpr.proofs.CompSteps.{Tests}
+use Rattle.pyexpr.proofs.Lists.PairSteps.{HasPairs}
+use Rattle.pyexpr.proofs.ForClauses.ClauseSteps.{Reached}
+use Rattle.pyexpr.proofs.ForClauses.CompSteps.{Tests}
 use Rattle.pyexpr.proofs.+reading.Given as goal
 
 abbrev pub decreases-atoms::group_tuple : goal.decreases-atoms::group_tuple

@@ -1,4 +1,5 @@
--- Carries: the readers of headers. On: what is made of parameters and arguments behind their bracket.
+-- Carries: the readers of headers. On: what is made of parameters and
+-- arguments behind their bracket.
 use Rattle.std.proofs.Common.{◌≡◌, refl, ℕ, List, [], ◌∷◌, Option, Some, None, Bool, true, false, cond}
 use Rattle.pylexeme.specs.declared.kinds.Exact.TheVariants.{RPar}
 use Rattle.pynode.specs.Trees.{Arguments, Exprs, Keywords}

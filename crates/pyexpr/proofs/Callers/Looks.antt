@@ -7,9 +7,9 @@ use Rattle.pygrammar.specs.Reader.{Answer, and_then, on_first, on_name_with}
 use Rattle.pyexpr.specs.declared.stop.Stop.{Stop}
 use Rattle.pyexpr.specs.Answers.{Failed}
 use Rattle.pyexpr.specs.Views.{IsNotNamed, seen, first_is, first_of}
-use Rattle.pyexpr.proofs.LevelSteps
-use Rattle.pyexpr.proofs.Reading
-use Rattle.pyexpr.proofs.Stands
+use Rattle.pyexpr.proofs.Reader.LevelSteps
+use Rattle.pyexpr.proofs.Reader.Reading
+use Rattle.pyexpr.proofs.Places.Stands
 
 pub seen_next : (ts : List given.Terminal) (n : ℕ) → drop 1 (seen ts n) ≡ seen ts (n + 1)
 seen_next = Reading.seen_next

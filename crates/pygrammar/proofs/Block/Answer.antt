@@ -1,4 +1,8 @@
--- No source has two trees, none is both accepted and refused, and what is accepted stays so in Python 3.12.
+-- No source has two trees, none is both accepted and refused, and what is accepted
+-- stays so in Python 3.12.
+--
+-- Carries: answer_stays, one_formed, unread_formed, unread_none and 2 more, for Reasons, SourceLaw,
+-- Types. On: Law, Line/Law, Stays, Goes.
 use Rattle.std.proofs.Common.{◌≡◌, ℕ, List, ◌∷◌, refl, ap, ◌∙◌, subst, arith}
 use Rattle.pylex.specs.Listing.{Source}
 use Rattle.pynode.specs.declared.profiles.Profile.{Profile}

@@ -1,4 +1,7 @@
 -- What stands round a line of a level: the lines of deeper blocks before it change nothing of it.
+--
+-- Carries: statement_from, around_behind, around_past, around_inside and 6
+-- more, for Heights. On: Steps.
 use Rattle.std.proofs.Common.{◌≡◌, ℕ, suc, ◌+◌, ◌<◌, ◌≤◌, List, [], ◌∷◌, ◌++◌, Option, Bool, true, false, cond, refl, ap, ◌∙◌, le_refl, eq-eqb, arith}
 use Rattle.std.specs.Prelude.{nat_lt, ◌==◌}
 use Rattle.pynode.specs.Trees.{Expr, Stmt, Handler}

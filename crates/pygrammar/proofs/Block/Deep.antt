@@ -1,4 +1,6 @@
 -- Some line is the first that begins a statement too deep exactly where the module is too high.
+--
+-- Carries: formed_flat, deep_is_high, deep_within, for Blocks. On: Heights.
 use Rattle.std.proofs.Common.{◌≡◌, ◌↔◌, ◌⊎◌, inl, inr, ℕ, suc, ◌<◌, ◌≤◌, max, List, [], ◌∷◌, length, ◌+◌, Option, Some, None, true, false, refl, arith}
 use Rattle.std.specs.Prelude.{nat_lt}
 use borrow.Author.Tests.{ltb-true, ltb-false}

@@ -1,4 +1,7 @@
 -- The first line that is too deep, line by line: it is that of the lines before, or the next line.
+--
+-- Carries: deep_by, first_deep_on, first_deep_kept, first_deep_here and 8 more, for
+-- Callers/DeepLines. On: FirstDeep, Deep, Depths, Heights.
 use Rattle.std.proofs.Common.{◌≡◌, inl, inr, ℕ, suc, ◌<◌, ◌≤◌, List, [], ◌∷◌, ◌++◌, length, Option, Some, None, Bool, true, false, cond, refl, sym, ap, ◌∙◌, subst}
 use Rattle.std.specs.Prelude.{nat_lt, option_map}
 use borrow.Author.Tests.{ltb-true, ltb-false}

@@ -1,4 +1,6 @@
 -- What is kept line by line is what the earlier lines say.
+--
+-- Carries: count_on, innermost_on, depths, count_is and 6 more, for Blocks. On: Steps.
 use Rattle.std.proofs.Common.{◌≡◌, ℕ, ◌+◌, ◌<◌, ◌≤◌, List, [], ◌∷◌, ◌++◌, Some, None, true, false, cond, refl, sym, ap, ◌∙◌, eqb-true, length, Bool, suc, arith}
 use Rattle.std.specs.Prelude.{nat_lt, ◌==◌}
 use borrow.Author.Tests.{ltb-true, ltb-false}

@@ -1,4 +1,7 @@
--- The first line that is too deep: there is one alone, it is found line by line, and more lines do not change it.
+-- The first line that is too deep: there is one alone, it is found line by line, and
+-- more lines do not change it.
+--
+-- Carries: deep_is, not_deep, first_deep_found, no_deep_found and 4 more, for Blocks. On: Depths.
 use Rattle.std.proofs.Common.{◌≡◌, ◌⊎◌, inl, inr, ℕ, zero, suc, List, [], ◌∷◌, ◌++◌, length, Option, Some, None, Bool, true, false, cond, refl, sym, ap, subst, leb-true, leb-false, arith}
 use Rattle.std.specs.Prelude.{option_map}
 use Rattle.pytoken.specs.Inner.Behind.{behind}

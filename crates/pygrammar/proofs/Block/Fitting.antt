@@ -1,4 +1,7 @@
 -- The reading of blocks refuses a line exactly where it is faulty.
+--
+-- Carries: is_marked, is_decorator, not_marked, no_decorator_header and 13 more, for Settling,
+-- Law. On: Standing, Growing.
 use Rattle.std.proofs.Common.{◌≡◌, List, [], ◌∷◌, Option, Some, None, Bool, true, false, cond, refl, sym, ap, ◌∙◌}
 use Rattle.pynode.specs.Trees.{Expr, Identifier, Stmt, Handler}
 use Rattle.pygrammar.specs.Lines.{Line, Header, if_header, elif_header, else_header, loop_header, with_header, try_header, except_header, finally_header, def_header, DefHead}

@@ -1,4 +1,7 @@
--- The reading of blocks goes through the lines of each statement of the relation, and gives its tree.
+-- The reading of blocks goes through the lines of each statement of the
+-- relation, and gives its tree.
+--
+-- Carries: choice-append, for Blocks. On: Steps.
 use Rattle.std.proofs.Common.{◌≡◌, ℕ, suc, List, [], ◌∷◌, ◌++◌, length, Option, Some, None, Bool, true, false, cond, refl, sym, ap, ◌∙◌, subst, arith, append_assoc, append-nil}
 use Rattle.pynode.specs.Trees.{Expr, Stmt, Handler, If, stmts}
 use Rattle.pygrammar.specs.Lines.{Line, line, Form, simple_form, decorator_form, header_form, Header, if_header, elif_header, else_header, loop_header, with_header, try_header, except_header, finally_header, def_header, DefHead, loop, definition, try_of}

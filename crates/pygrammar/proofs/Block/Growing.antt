@@ -1,4 +1,6 @@
 -- What a header and its block make of a group is what the relation makes of them.
+--
+-- Carries: ended_of, Prefix, block_to, closed_prefix and 5 more, for Sound, Fitting. On: Goes.
 use Rattle.std.proofs.Common.{◌≡◌, ℕ, List, [], ◌∷◌, ◌++◌, Option, Some, None, Bool, true, false, cond, refl, sym, ap, ◌∙◌, subst, append_assoc, append-nil}
 use Rattle.pynode.specs.Trees.{Expr, Identifier, Stmt, Handler, If, stmts}
 use Rattle.pygrammar.specs.Lines.{Line, line, header_form, Header, if_header, elif_header, else_header, loop_header, with_header, try_header, except_header, finally_header, def_header, loop, with_of, definition, try_of}

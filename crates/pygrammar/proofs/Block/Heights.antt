@@ -1,4 +1,7 @@
 -- The lines of a statement reach as deep as the statement is high.
+--
+-- Carries: high, AreFlat, deepest, IsFlat and 2 more, for Deep,
+-- WorkedDepths, DeepLines. On: Around.
 use Rattle.std.proofs.Common.{◌≡◌, ℕ, suc, ◌+◌, ◌≤◌, max, List, [], ◌∷◌, ◌++◌, Option, Some, None, Bool, true, false, cond, refl, sym, ap, ◌∙◌, subst, arith}
 use Rattle.pynode.specs.Trees.{Expr, Stmt, Handler, stmts, handlers}
 use Rattle.pyheight.specs.Heights.{stmt_height, stmt_heights, handler_heights}
@@ -56,7 +59,8 @@ high-append : (a b : List Stmt) → high (a ++ b) ≡ max (high a) (high b)
 high-append [] b = max_none (high b)
 high-append (s ∷ a) b = max_more (stmt_height s) _ _ _ (high-append a b)
 
--- where this many statements stand round them, the lines reach as deep as statements of this height inside
+-- where this many statements stand round them, the lines reach as deep as
+-- statements of this height inside
 pub record Reaches (m n : ℕ) (earlier xs : List Line) : Type 0 where
   pub is : max m (deepest earlier xs) ≡ m + n
 

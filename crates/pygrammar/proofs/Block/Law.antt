@@ -1,4 +1,8 @@
--- Lines have a tree, which is one alone, or a first faulty line, which is one alone, and never both.
+-- Lines have a tree, which is one alone, or a first faulty line, which is
+-- one alone, and never both.
+--
+-- Carries: tree_faultless, no_first, Finds, read_finds and 2 more, for SourceLaw, Reasons, Answer,
+-- LineMore and 2 more. On: Fitting, Settling, Standing, Goes and 1 more.
 use Rattle.std.proofs.Common.{◌≡◌, ℕ, suc, ◌≤◌, List, [], ◌∷◌, ◌++◌, length, Option, Some, None, true, false, cond, refl, sym, ap, ◌∙◌, subst, arith, ◌⊎◌, inl, inr}
 use Rattle.std.specs.Prelude.{nat_lt}
 use borrow.Author.Tests.{ltb-true, ltb-false}

@@ -1,4 +1,7 @@
 -- The answer line by line: what the lines so far say of the answer for lines that begin with them.
+--
+-- Carries: formed_on, unread_on, unread_more, step_on and 3 more, for
+-- Blocks. On: Law, Steps, Sound.
 use Rattle.std.proofs.Common.{◌≡◌, ℕ, List, [], ◌∷◌, ◌++◌, length, sym, ap, ◌∙◌, subst, append-nil}
 use Rattle.pynode.specs.declared.profiles.Profile.{Profile}
 use Rattle.pynode.specs.Trees.{Stmt}

@@ -1,4 +1,6 @@
 -- A source that is refused has one reason, but for a long line without any form.
+--
+-- Carries: one_reason, for SourceLaw. On: Law, Answer, FirstDeep.
 use Rattle.std.proofs.Common.{◌≡◌, ◌⊎◌, inl, inr, ℕ, suc, ◌<◌, List, [], ◌∷◌, ◌++◌, length, Some, None, Contains, refl, sym, ap, ◌∙◌, subst, length-append, arith}
 use Rattle.std.proofs.lemmas.List.Elements.{Contains-append_right}
 use Rattle.pysource.specs.declared.places.Place.{Place}

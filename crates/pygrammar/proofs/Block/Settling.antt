@@ -1,4 +1,7 @@
--- What is known when the levels above a line have come to their end, and the faults of the line there.
+-- What is known when the levels above a line have come to their end, and the
+-- faults of the line there.
+--
+-- Carries: Levels, Marks, Settled, marked_stands and 7 more, for Law. On: Fitting, Standing, Steps.
 use Rattle.std.proofs.Common.{◌≡◌, ℕ, suc, ◌<◌, ◌≤◌, List, [], ◌∷◌, ◌++◌, length, Some, None, Bool, true, false, cond, refl, sym, ap, ◌∙◌, arith, ◌⊎◌, inl, inr}
 use Rattle.std.specs.Prelude.{nat_lt, ◌==◌}
 use borrow.Author.Tests.{ltb-true, ltb-false, eqb-true, eqb-false}

@@ -1,4 +1,6 @@
 -- What the reading of blocks gives is a tree of the relation.
+--
+-- Carries: read_gives, for Law, LineMore, Worked. On: Growing, Steps.
 use Rattle.std.proofs.Common.{◌≡◌, ℕ, suc, ◌≤◌, List, [], ◌∷◌, ◌++◌, length, Option, Some, None, Bool, true, false, cond, refl, sym, ap, ◌∙◌, subst, arith, append_assoc, append-nil}
 use Rattle.std.specs.Prelude.{nat_lt}
 use borrow.Author.Tests.{ltb-false}

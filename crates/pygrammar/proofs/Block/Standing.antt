@@ -1,4 +1,7 @@
 -- What a line finds at its level: the rules speak of earlier lines, the reading of groups.
+--
+-- Carries: stand, Free, AfterTry, AfterDecorator and 14 more, for Fitting,
+-- Settling, Law. On: Steps.
 use Rattle.std.proofs.Common.{◌≡◌, ℕ, ◌<◌, List, [], ◌∷◌, Bool, true, false, cond, refl, sym, ap, ◌∙◌, arith}
 use Rattle.std.specs.Prelude.{nat_lt, ◌==◌}
 use borrow.Author.Tests.{eqb-true, eq-eqb}

@@ -1,4 +1,6 @@
 -- Each line of a source has a place, and so has its end.
+--
+-- Carries: starts_line, starts_end, starts, for Blocks.
 use Rattle.std.proofs.Common.{◌≡◌, ℕ, zero, suc, ◌<◌, ◌≤◌, Bool, true, false, not, ◌&&◌, ◌||◌, ◌==◌, cond, List, [], ◌∷◌, ◌++◌, length, replicate, refl, sym, ap, ◌∙◌, subst, Option, Some, None, if◌then◌else◌, append_assoc, arith}
 use Rattle.std.specs.List.{list_all, list_any, count_by}
 use Rattle.std.specs.Prelude.{nat_lt}
@@ -10,17 +12,17 @@ use Rattle.pylexeme.specs.declared.lexeme.Class.TheVariants.{Name, Number, Strin
 use Rattle.pylexeme.specs.Strings.{opens_string}
 use Rattle.pylexeme.specs.Operators.{is_closer}
 use Rattle.pylexeme.specs.Lexemes.{Lexeme, cut, left_by_cut, is_open_string}
-use Rattle.pylex.specs.declared.kinds.Kind.{Kind}
-use Rattle.pylex.specs.declared.kinds.Kind.TheVariants as kinds
+use Rattle.pylex.specs.declared.kind.Kind.{Kind}
+use Rattle.pylex.specs.declared.kind.Kind.TheVariants as kinds
 use Rattle.pylex.specs.declared.entries.Entry.{Entry}
 use Rattle.pylex.specs.declared.entries.ListingFault.{ListingFault}
 use Rattle.pylex.specs.declared.entries.ListingError.TheVariants as errors
 use Rattle.pylex.specs.declared.entries.Step.{Step}
 use Rattle.pylex.specs.declared.entries.Step.TheVariants as steps
-use Rattle.pylex.specs.Levels.{open_levels}
-use Rattle.pylex.specs.Lines.{depth, is_thing, is_at_margin, is_logical, width_at, widths, text_before}
-use Rattle.pylex.specs.Listing.{Source, listing, up_to_end, mark, fault_at, dedents, layout, layout_by, entry_of, steps_of, stop_fault, line_end_of_last, end_place, begins_comment, last_line, ends_in_join, tail, stop, steps_from}
-use Rattle.pylex.specs.Steps.{entries_of, fault_of}
+use Rattle.pylex.specs.Indentation.{open_levels, width_at, widths, dedents, layout, layout_by}
+use Rattle.pylex.specs.Lines.{depth, is_significant, is_at_margin, is_logical, text_before}
+use Rattle.pylex.specs.Listing.{Source, listing, up_to_end, entry_of, steps_of, stop_fault, line_end_of_last, end_place, begins_comment, last_line, ends_in_join, tail, stop, steps_from}
+use Rattle.pylex.specs.Steps.{entries_of, fault_of, mark, fault_at}
 use Rattle.pylex.specs.Laws.{EndsWithMarker}
 use Rattle.pysource.specs.Places.{place_after}
 use Rattle.pytoken.specs.declared.refusals.Refusal.{Refusal}
@@ -189,7 +191,7 @@ module _ (before : List Lexeme) where
 
   steps_no_end : (x : Lexeme) → NoEnd (steps_of before x)
   unfolding steps_of
-  steps_no_end x = NoEnd-append (cond (is_thing x) (layout before) []) (entry_of before x) (cond_no_end (is_thing x) (layout before) [] layout_no_end tt) (entry_no_end x)
+  steps_no_end x = NoEnd-append (cond (is_significant x) (layout before) []) (entry_of before x) (cond_no_end (is_significant x) (layout before) [] layout_no_end tt) (entry_no_end x)
 
   last_no_end : (p : Place) → NoEnd (line_end_of_last before p)
   unfolding line_end_of_last

@@ -1,4 +1,7 @@
--- What the reading of blocks does with lines that stand behind one another, and with levels that come to their end.
+-- What the reading of blocks does with lines that stand behind one another, and with
+-- levels that come to their end.
+--
+-- Carries: is_less, not_less, settle_here, for Blocks.
 use Rattle.std.proofs.Common.{◌≡◌, ℕ, suc, ◌<◌, ◌≤◌, List, [], ◌∷◌, ◌++◌, length, Some, None, Bool, true, false, cond, refl, sym, ap, ◌∙◌, arith}
 use Rattle.std.specs.Prelude.{nat_lt}
 use borrow.Author.Tests.{ltb-true, lt-ltb}

@@ -1,4 +1,6 @@
 -- Each source is accepted or refused.
+--
+-- Carries: answered, for SourceLaw. On: Deep, Answered, Law, Starts.
 use Rattle.std.proofs.Common.{◌≡◌, ◌⊎◌, inl, inr, ℕ, suc, ◌-◌, ◌<◌, ◌≤◌, List, [], ◌∷◌, length, Option, Some, None, Bool, true, false, refl, arith}
 use Rattle.std.specs.Prelude.{nat_lt}
 use borrow.Author.Tests.{ltb-true, ltb-false}

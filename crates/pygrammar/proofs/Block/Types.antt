@@ -1,4 +1,7 @@
--- The forms of lines have no types exactly where their tree has none, so Python 3.11 accepts what 3.12 does without types.
+-- The forms of lines have no types exactly where their tree has none, so Python 3.11 accepts what
+-- 3.12 does without types.
+--
+-- Carries: old_has_no_types, for SourceLaw. On: Stays, Answer.
 use Rattle.std.proofs.Common.{◌≡◌, ◌↔◌, ℕ, List, [], ◌∷◌, ◌++◌, Option, Some, None, Bool, true, false, not, ◌&&◌, refl, sym, ap, ◌∙◌}
 use Rattle.pylex.specs.Listing.{Source}
 use Rattle.pynode.specs.declared.profiles.Profile.{Profile}

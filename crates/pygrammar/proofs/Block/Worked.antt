@@ -1,4 +1,6 @@
 -- Worked rows: faults of blocks and trees, computed by the reading.
+--
+-- Carries: v, says, head, short, for WorkedDepths. On: Law, Sound.
 use Rattle.std.proofs.Common.{◌≡◌, ℕ, List, [], ◌∷◌, Some, None, true, false, refl, subst}
 use Rattle.pynode.specs.Trees.{Expr, no_keyword, Arguments, Stmt, If, ClassDef, Try, ExprOf, stmts, handlers}
 use Rattle.pynode.specs.Trees as Trees

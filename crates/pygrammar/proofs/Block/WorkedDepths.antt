@@ -1,4 +1,6 @@
 -- Worked rows: how deep lines reach and how high their tree is, both computed.
+--
+-- Carries: no contract; its rows are computed as it is checked. On: Worked, Heights.
 use Rattle.std.proofs.Common.{◌≡◌, ℕ, zero, suc, ◌+◌, List, [], ◌∷◌, Some, None, false, replicate, refl}
 use Rattle.pynode.specs.Trees.{no_keyword}
 use Rattle.pygrammar.specs.Lines.{Line, line, decorator_form, if_header, elif_header, else_header, loop_header, with_header, try_header, except_header, finally_header, def_header, while_head, for_head, class_head}
@@ -45,7 +47,8 @@ decorated = (refl, refl)
 empty : Agrees [] 0
 empty = (refl, refl)
 
--- The limit: 499 `if`s round a statement are the most, also where the last has it in its line, and so are 498 `elif`s.
+-- The limit: 499 `if`s round a statement are the most, also where the last has it in its
+-- line, and so are 498 `elif`s.
 
 ifs : ℕ → ℕ → List Line → List Line
 ifs zero l rest = rest

@@ -1,4 +1,6 @@
 -- On: targets, arguments and parameters are as high as what they are made of.
+--
+-- Carries: what pyexpr cites.
 use Rattle.std.proofs.Common.{◌≡◌, ◌+◌, List, Some}
 use Rattle.std.specs.Prelude.{max}
 use Rattle.pynode.specs.Trees.{Expr, Arguments}
@@ -8,7 +10,7 @@ use Rattle.pygrammar.specs.Inner.EntryHeights.{entries_height}
 use Rattle.pygrammar.specs.Arguments.{called}
 use Rattle.pygrammar.specs.Parameters.{arranged}
 use Rattle.pygrammar.specs.Targets.{stored, deleted, single_stored}
-use Rattle.pygrammar.proofs.HeightLemmas
+use Rattle.pygrammar.proofs.Heights.HeightLemmas
 
 pub stored_height : (e s : Expr) → stored e ≡ Some s → height s ≡ height e
 stored_height = HeightLemmas.stored_height

@@ -1,4 +1,6 @@
 -- On: the laws of the grammar of expressions.
+--
+-- Carries: what pyexpr, pyparse, pywritten cite.
 use Rattle.std.proofs.Common.{◌≡◌, ◌⊎◌, inl, inr, refl, sym, ◌∙◌, ℕ, suc, List, [], ◌∷◌, length}
 use Rattle.pygrammar.specs.declared.levels.Level.{Level}
 use Rattle.pynode.specs.Trees.{Expr}
@@ -7,10 +9,10 @@ use Rattle.pygrammar.specs.Grammar.{Derives}
 use Rattle.pygrammar.specs.Reader.{Answer, Found, NoForm, TooDeep, reads}
 use Rattle.pygrammar.specs.Meets.{Shapeless}
 use Rattle.pygrammar.specs.Laws.{ExpressionsAreUnique, ExpressionsAreDecided, HeightsAreBounded, ReaderIsExact, LimitIsExact, LimitMeets, GrammarIsLawful}
-use Rattle.pygrammar.proofs.Complete
-use Rattle.pygrammar.proofs.Whole
-use Rattle.pygrammar.proofs.Bound
-use Rattle.pygrammar.proofs.Contract
+use Rattle.pygrammar.proofs.Completeness.Complete
+use Rattle.pygrammar.proofs.Depths.Whole
+use Rattle.pygrammar.proofs.Heights.Bound
+use Rattle.pygrammar.proofs.Heights.Contract
 
 pub expressions_are_unique : ExpressionsAreUnique
 expressions_are_unique l ts a b p q = Complete.one_tree p q

@@ -1,4 +1,6 @@
 -- On: the laws of the reader of a logical line within a height.
+--
+-- Carries: what pyline cites.
 use Rattle.pygrammar.specs.SourceLaws.{LineLimitIsExact, LineLimitMeets}
 use Rattle.pygrammar.proofs.Line.Limit
 

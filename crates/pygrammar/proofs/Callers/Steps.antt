@@ -1,4 +1,7 @@
--- On: the readers: one level of each; of the one within a height, how high its answers are, and what they are to the plain reader.
+-- On: the readers: one level of each; of the one within a height, how high its answers are, and
+-- what they are to the plain reader.
+--
+-- Carries: what pyexpr cites.
 use Rattle.std.proofs.Common.{◌≡◌, refl, ℕ, suc, ◌≤◌, ◌<◌, List, length}
 use Rattle.pygrammar.specs.declared.levels.Level.{Level}
 use Rattle.pygrammar.specs.declared.levels.Level.TheVariants.{Value}
@@ -7,8 +10,8 @@ use Rattle.pyheight.specs.Heights.{height}
 use Rattle.pytoken.specs.Terminals.{Terminal}
 use Rattle.pygrammar.specs.Reader.{Found, NoForm, TooDeep, level_step, read, reads}
 use Rattle.pygrammar.specs.Capped.{cap, capped_step, capped}
-use Rattle.pygrammar.proofs.Contract
-use Rattle.pygrammar.proofs.Limits
+use Rattle.pygrammar.proofs.Heights.Contract
+use Rattle.pygrammar.proofs.Heights.Limits
 
 -- one level of the plain reader, and of the one within a height
 pub unroll : (d : ℕ) (l : Level) (i : List Terminal) → read (suc d) l i ≡ level_step (read (suc d)) (read d) l i

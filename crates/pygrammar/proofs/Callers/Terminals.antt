@@ -1,10 +1,12 @@
 -- On: one terminal is a certain sign or keyword, or isn't.
+--
+-- Carries: what pyexpr, pystatement cite.
 use Rattle.std.proofs.Common.{◌≡◌, ◌⊎◌, Some, None}
 use Rattle.pylexeme.specs.declared.kinds.Exact.{Exact}
 use Rattle.pytoken.specs.declared.keywords.Keyword.{Keyword}
 use Rattle.pytoken.specs.Terminals.{Terminal, Op, Word}
 use Rattle.pygrammar.specs.Looks.{is_op, is_word}
-use Rattle.pygrammar.proofs.LookLemmas
+use Rattle.pygrammar.proofs.Completeness.LookLemmas
 
 pub op_is : (x : Exact) → is_op x (Op x) ≡ Some 0
 op_is = LookLemmas.op_is

@@ -1,4 +1,7 @@
--- The reader never goes too deep where as many expressions may stand inside one another as there are terminals.
+-- The reader never goes too deep where as many expressions may stand inside one
+-- another as there are terminals.
+--
+-- Carries: read_or_not, enough, g_line, for Limit, SourceLaw, Total. On: Enough, Law, SoundLines.
 use Rattle.std.proofs.Common.{◌≡◌, ◌⊎◌, inl, inr, refl, sym, ap, subst, ◌∙◌, ℕ, zero, suc, ◌≤◌, ◌<◌, arith, List, [], ◌∷◌, ◌++◌, length, Option, Some, None, Bool, true, false}
 use Rattle.std.specs.Prelude.{leb}
 use Rattle.pylexeme.specs.declared.kinds.Exact.TheVariants as Sign
@@ -16,7 +19,7 @@ use Rattle.pygrammar.specs.Parameters.{arranged}
 use Rattle.pygrammar.specs.Targets.{stored, deleted, single_stored}
 use Rattle.pygrammar.specs.Reader.{Answer, Found, NoForm, TooDeep, and_then, on_some, Reads, read}
 use Rattle.pygrammar.specs.Precedence.{starts}
-use Rattle.pygrammar.proofs.Enough.{Good, GoodTo, good_then, good_first, good_cond, good_made, good_closed, good_read, g_name_with, g_listing_of, g_target}
+use Rattle.pygrammar.proofs.Depths.Enough.{Good, GoodTo, good_then, good_first, good_cond, good_made, good_closed, good_read, g_name_with, g_listing_of, g_target}
 use Rattle.pygrammar.specs.Lines.{Form, Header}
 use Rattle.pygrammar.specs.Forms.{FormOf, has_types}
 use Rattle.pygrammar.specs.LineReader.{or_else, on_none, same_as, is_type, on_type, starts_name, starts_type_param, always, commas, read_name, read_as, dotted, dotted_alias, name_alias, read_dots, read_names, import_from, augmented_sign, Start, Values, Returns, Raises, Asserts, Deletes, Globals, Nonlocals, Passes, Breaks, Continues, Imports, Froms, start, if_any, after, annotation, end_value, value_loop, value_statement, deleted_one, read_type_param, bracketed_type_params, read_type_params, alias_rest, statement_of, statement, statements, item_target, read_item, bracketed, for_rest, with_rest, function_rest, bases_rest, def_rest, class_rest, except_of, except_rest, read_header, Kind, Decorates, Heads, States, kind, suite, line_of, line_front, line, plain, read_line, read_line_to}

@@ -1,4 +1,7 @@
--- On: `limit_line`. The two readings of `with`: where an item in brackets is too high, the expression in brackets is as high, or there is none.
+-- On: `limit_line`. The two readings of `with`: where an item in brackets is too high, the
+-- expression in brackets is as high, or there is none.
+--
+-- Carries: brackets, for Limit.
 use Rattle.std.proofs.Common.{◌≡◌, ◌⊎◌, inl, inr, refl, sym, ap, subst, ◌∙◌, ℕ, zero, suc, ◌≤◌, arith, List, [], ◌∷◌, ◌++◌, length, Option, Some, None, Bool, true, false, cond, length-append}
 use Rattle.std.proofs.lemmas.Bool.{leb-true, le-leb}
 use Rattle.pylexeme.specs.declared.kinds.Exact.{Exact}
@@ -18,11 +21,11 @@ use Rattle.pygrammar.specs.Precedence.{rank, lead, starts, starts_comp}
 use Rattle.pygrammar.specs.Capped.{capped}
 use Rattle.pygrammar.specs.Forms.{item}
 use Rattle.pygrammar.specs.LineReader.{always, commas, commas_of, item_target, read_item, bracketed}
-use Rattle.pygrammar.proofs.LookLemmas.{op_or_not, word_or_not}
-use Rattle.pygrammar.proofs.Keeps.{keeps_read}
-use Rattle.pygrammar.proofs.Whole.{sound_front}
-use Rattle.pygrammar.proofs.Limits.{capped_found}
-use Rattle.pygrammar.proofs.Caps.{Over, over, none, sunk, over_then, over_on, over_first, over_cond, over_closed, over_comps_closed, over_unstarred, over_listing, over_primary, over_loop, over_if_else, list_size, list_last, singles_size, caps_read}
+use Rattle.pygrammar.proofs.Completeness.LookLemmas.{op_or_not, word_or_not}
+use Rattle.pygrammar.proofs.Depths.Keeps.{keeps_read}
+use Rattle.pygrammar.proofs.Depths.Whole.{sound_front}
+use Rattle.pygrammar.proofs.Heights.Limits.{capped_found}
+use Rattle.pygrammar.proofs.Heights.Caps.{Over, over, none, sunk, over_then, over_on, over_first, over_cond, over_closed, over_comps_closed, over_unstarred, over_listing, over_primary, over_loop, over_if_else, list_size, list_last, singles_size, caps_read}
 use Rattle.pygrammar.proofs.Line.CapsTools.{over_commas}
 use Rattle.pygrammar.proofs.Line.CapsHeaders.{item_height, Brackets, over_item}
 
@@ -128,7 +131,8 @@ module _ (h d : ℕ) where
       room_name : room Expression (Ident a ∷ (Op Sign.ColonEqual ∷ u)) ≡ Found (Trees.Name a.form Load) (Op Sign.ColonEqual ∷ u)
       room_name = elim (caps_read (suc h) (suc d) Expression (Ident a ∷ (Op Sign.ColonEqual ∷ u))) [ inl v ↦ v | inr v ↦ absurd (omega (arith, low (suc (suc d)) (Trees.Name a.form Load) (Op Sign.ColonEqual ∷ u) v.1)) ]
 
-  -- an element: high, or in front of `as`, or in front of a comma behind which an item goes too deep
+  -- an element: high, or in front of `as`, or in front of a comma behind
+  -- which an item goes too deep
   element : (m : ℕ) (i : List Terminal) (K : Expr → List Terminal → Answer Expr) → commas one more (suc m) i ≡ TooDeep →
       ((e : Expr) (r : List Terminal) → suc (suc d) ≤ height e → Higher (K e r)) →
       ((e : Expr) (s : List Terminal) → Higher (K e (Word Key.As ∷ s))) →

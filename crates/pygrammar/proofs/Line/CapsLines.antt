@@ -1,4 +1,6 @@
 -- On: `limit_line`. Suites and lines: what is refused is higher than the room.
+--
+-- Carries: c_line, for Limit.
 use Rattle.std.proofs.Common.{inl, refl, ℕ, suc, ◌≤◌, arith, List, [], ◌∷◌, length, Some}
 use Rattle.pylexeme.specs.declared.kinds.Exact.TheVariants as Sign
 use Rattle.pynode.specs.declared.profiles.Profile.{Profile}
@@ -10,7 +12,7 @@ use Rattle.pygrammar.specs.Reader.{Found, NoForm, Reads}
 use Rattle.pygrammar.specs.Lines.{Header, simple_form, decorator_form, header_form}
 use Rattle.pygrammar.specs.FormHeights.{header_height, form_height}
 use Rattle.pygrammar.specs.LineReader.{statements, Kind, Decorates, Heads, States, kind, suite, line_of, line_front, line}
-use Rattle.pygrammar.proofs.Caps.{Over, over, none, over_first, Caps, CapsAt, caps_then, caps_first}
+use Rattle.pygrammar.proofs.Heights.Caps.{Over, over, none, over_first, Caps, CapsAt, caps_then, caps_first}
 use Rattle.pygrammar.proofs.Line.CapsTools.{caps_found, over_found, over_none}
 use Rattle.pygrammar.proofs.Line.CapsSimple.{suite_height, c_statements}
 use Rattle.pygrammar.proofs.Line.CapsHeaders.{Brackets, c_header}

@@ -1,4 +1,6 @@
 -- On: `limit_line`. Simple statements: what is refused is higher than the room.
+--
+-- Carries: c_after, c_type_params, suite_height, c_statements, for CapsHeaders, CapsLines.
 use Rattle.std.proofs.Common.{inl, refl, ℕ, zero, suc, ◌≤◌, arith, List, [], ◌∷◌, ◌++◌, length, Some, Bool, true, false}
 use Rattle.std.specs.Prelude.{max}
 use Rattle.pylexeme.specs.declared.kinds.Exact.TheVariants as Sign
@@ -18,8 +20,8 @@ use Rattle.pygrammar.specs.Reader.{Reads, closed}
 use Rattle.pygrammar.specs.Precedence.{starts}
 use Rattle.pygrammar.specs.Forms.{has_types}
 use Rattle.pygrammar.specs.LineReader.{same_as, is_type, on_type, starts_type_param, augmented_sign, Start, Values, Returns, Raises, Asserts, Deletes, start, if_any, after, annotation, end_value, value_loop, value_statement, deleted_one, read_type_param, bracketed_type_params, read_type_params, alias_rest, statement_of, statement, statements}
-use Rattle.pygrammar.proofs.HeightLemmas.{stored_height, single_height, deleted_height}
-use Rattle.pygrammar.proofs.Caps.{Over, over, none, over_then, over_first, over_made, over_closed, Caps, CapsAt, caps_then, caps_first, caps_cond, c_one, c_name_with, exprs_last}
+use Rattle.pygrammar.proofs.Heights.HeightLemmas.{stored_height, single_height, deleted_height}
+use Rattle.pygrammar.proofs.Heights.Caps.{Over, over, none, over_then, over_first, over_made, over_closed, Caps, CapsAt, caps_then, caps_first, caps_cond, c_one, c_name_with, exprs_last}
 use Rattle.pygrammar.proofs.Line.CapsTools.{caps_found, over_found, caps_some, over_some, caps_none, over_none, caps_commas}
 
 abbrev pub suite_height : List Stmt → ℕ

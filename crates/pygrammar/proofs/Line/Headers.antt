@@ -1,4 +1,7 @@
 -- Completeness for headers, but for the two readings of `with`.
+--
+-- Carries: header_by, items_goes, bracketed_goes, for With, Law. On: Tools, Keeps,
+-- LookLemmas, Comps and 5 more.
 use Rattle.std.proofs.Common.{◌≡◌, ◌⊎◌, inl, inr, refl, sym, ap, ◌∙◌, ℕ, suc, ◌≤◌, arith, List, [], ◌∷◌, ◌++◌, length, Option, Some, None, Bool, true, false, append_assoc}
 use Rattle.std.specs.Prelude.{max}
 use Rattle.pylexeme.specs.declared.kinds.Exact.TheVariants as Sign
@@ -22,13 +25,13 @@ use Rattle.pygrammar.specs.Parameters.{arranged}
 use Rattle.pygrammar.specs.Grammar as G
 use Rattle.pygrammar.specs.Reader.{Answer, Found, NoForm, TooDeep, and_then, on_some, made, listing_of, read_target, read}
 use Rattle.pygrammar.specs.Precedence.{starts}
-use Rattle.pygrammar.proofs.LookLemmas.{grip_of, lead_of, pass_op}
-use Rattle.pygrammar.proofs.Climb.{unroll, answers}
-use Rattle.pygrammar.proofs.LevelLemmas.{led, stars_step}
-use Rattle.pygrammar.proofs.Comps.{ListEnds, Separable, starts_low}
-use Rattle.pygrammar.proofs.Complete.{goes, listing_all}
-use Rattle.pygrammar.proofs.Keeps.{Keeps, AllKeep, k_listing_of, k_target}
-use Rattle.pygrammar.proofs.Whole.{final, target_front}
+use Rattle.pygrammar.proofs.Completeness.LookLemmas.{grip_of, lead_of, pass_op}
+use Rattle.pygrammar.proofs.Completeness.Climb.{unroll, answers}
+use Rattle.pygrammar.proofs.Completeness.LevelLemmas.{led, stars_step}
+use Rattle.pygrammar.proofs.Completeness.Comps.{ListEnds, Separable, starts_low}
+use Rattle.pygrammar.proofs.Completeness.Complete.{goes, listing_all}
+use Rattle.pygrammar.proofs.Depths.Keeps.{Keeps, AllKeep, k_listing_of, k_target}
+use Rattle.pygrammar.proofs.Depths.Whole.{final, target_front}
 use Rattle.pygrammar.specs.Lines.{Header, loop_header, with_header, except_header, def_header, for_head, function_head, class_head}
 use Rattle.pygrammar.specs.Forms as F
 use Rattle.pygrammar.specs.LineReader.{always, commas_of, plain, item_target, read_item, bracketed, for_rest, function_rest, bases_rest, def_rest, class_rest, except_of, except_rest, with_rest, after, read_header}

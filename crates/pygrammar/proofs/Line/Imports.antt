@@ -1,4 +1,6 @@
 -- Completeness for imports and lists of names.
+--
+-- Carries: identifiers_goes, modules_goes, from_module_goes, from_dots_goes, for Simple. On: Tools.
 use Rattle.std.proofs.Common.{◌≡◌, refl, ap, ◌∙◌, ℕ, zero, suc, ◌<◌, arith, List, [], ◌∷◌, ◌++◌, length, Option, Some, None, true, append_assoc}
 use Rattle.std.proofs.lemmas.Bool.{le-leb}
 use Rattle.std.specs.Prelude.{leb}

@@ -1,4 +1,6 @@
 -- What a target says of the way that its expression was derived.
+--
+-- Carries: to_primary, name_inv, stored_name, target_of, for SoundSimple.
 use Rattle.std.proofs.Common.{◌≡◌, ◌⊎◌, inl, inr, refl, sym, ap, List, [], ◌∷◌, ◌++◌, Option, Some, None, Bool, true, false, cond}
 use Rattle.pylexeme.specs.declared.kinds.Exact.TheVariants as Sign
 use Rattle.pynode.specs.declared.operators.Operator.{Operator}

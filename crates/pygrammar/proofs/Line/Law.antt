@@ -1,4 +1,7 @@
 -- Completeness for lines: each form is read, so a line has one form alone.
+--
+-- Carries: read_goes, one_form, for Answer, Answered, Limit, SoundLines and 1 more. On: Simple,
+-- LookLemmas, Tools, LevelLemmas and 2 more.
 use Rattle.std.proofs.Common.{◌≡◌, refl, sym, ap, ◌∙◌, ℕ, suc, ◌≤◌, ◌<◌, arith, List, [], ◌∷◌, ◌++◌, length, Some, None, append_assoc}
 use Rattle.std.proofs.lemmas.List.{append-nil}
 use Rattle.pylexeme.specs.declared.kinds.Exact.TheVariants as Sign
@@ -10,8 +13,8 @@ use Rattle.pytoken.specs.Terminals.{Terminal, Op, Word}
 use Rattle.pygrammar.specs.Grammar as G
 use Rattle.pygrammar.specs.Reader.{Answer, Found}
 use Rattle.pygrammar.specs.Precedence.{lead}
-use Rattle.pygrammar.proofs.LookLemmas.{lead_of, lead_front}
-use Rattle.pygrammar.proofs.LevelLemmas.{led}
+use Rattle.pygrammar.proofs.Completeness.LookLemmas.{lead_of, lead_front}
+use Rattle.pygrammar.proofs.Completeness.LevelLemmas.{led}
 use Rattle.pygrammar.specs.Lines.{Form, simple_form, decorator_form, Header, header_form}
 use Rattle.pygrammar.specs.Forms as F
 use Rattle.pygrammar.specs.LineReader.{plain, Kind, Heads, States, kind, statements, suite, line_of, line_front, read_line, read_header}

@@ -11,9 +11,9 @@ use Rattle.pygrammar.specs.FormHeights.{form_height}
 use Rattle.pygrammar.specs.LineReader.{line, read_line, read_line_to}
 use Rattle.pygrammar.specs.LimitedLines.{cap_form, limit_line}
 use Rattle.pygrammar.specs.Meets.{Formless, HighLine, LineMeets}
-use Rattle.pygrammar.proofs.Enough.{Good}
-use Rattle.pygrammar.proofs.Caps.{Over, over, Caps, caps_read}
-use Rattle.pygrammar.proofs.Room.{good_capped}
+use Rattle.pygrammar.proofs.Depths.Enough.{Good}
+use Rattle.pygrammar.proofs.Heights.Caps.{Over, over, Caps, caps_read}
+use Rattle.pygrammar.proofs.Heights.Room.{good_capped}
 use Rattle.pygrammar.proofs.Line.Answered.{enough, g_line, read_or_not}
 use Rattle.pygrammar.proofs.Line.Depth.{at_depth}
 use Rattle.pygrammar.proofs.Line.Law.{read_goes}

@@ -1,4 +1,7 @@
 -- Completeness for simple statements.
+--
+-- Carries: Full, simples_full, statements_goes, for Law. On: Tools, Values,
+-- Imports, LookLemmas and 3 more.
 use Rattle.std.proofs.Common.{◌≡◌, refl, sym, ap, ◌∙◌, ℕ, zero, suc, ◌≤◌, ◌<◌, arith, List, [], ◌∷◌, ◌++◌, length, true, false, append_assoc, length-append}
 use Rattle.std.proofs.lemmas.List.{append-nil}
 use Rattle.pylexeme.specs.declared.kinds.Exact.TheVariants as Sign
@@ -12,9 +15,9 @@ use Rattle.pygrammar.specs.Entries.{Of}
 use Rattle.pygrammar.specs.Grammar as G
 use Rattle.pygrammar.specs.Reader.{Answer, Found, NoForm, made}
 use Rattle.pygrammar.specs.Precedence.{starts}
-use Rattle.pygrammar.proofs.LookLemmas.{grip_of}
-use Rattle.pygrammar.proofs.Climb.{Stops}
-use Rattle.pygrammar.proofs.Comps.{starts_low}
+use Rattle.pygrammar.proofs.Completeness.LookLemmas.{grip_of}
+use Rattle.pygrammar.proofs.Completeness.Climb.{Stops}
+use Rattle.pygrammar.proofs.Completeness.Comps.{starts_low}
 use Rattle.pygrammar.specs.Forms as F
 use Rattle.pygrammar.specs.LineReader.{plain, deleted_one, statement, statements, on_none}
 use Rattle.pygrammar.proofs.Line.Tools.{thus, when, unless, Ends, at_end, at_semi, ends_grip, ends_lead, ends_miss, front, started, if_any_goes, after_goes, behind_grip, commas?_goes}

@@ -1,4 +1,7 @@
 -- What is read as a header or as a line is one, and the law.
+--
+-- Carries: read_gives, exactly, for Answered, Limit, SourceLaw. On: Says, SoundParts,
+-- SoundLists, Whole and 3 more.
 use Rattle.std.proofs.Common.{◌≡◌, ◌↔◌, refl, sym, ap, subst, ◌∙◌, suc, List, [], ◌∷◌, ◌++◌, length, Bool, true, false, append_assoc}
 use Rattle.std.proofs.lemmas.List.{append-nil}
 use Rattle.pylexeme.specs.declared.kinds.Exact.TheVariants as Sign
@@ -13,9 +16,9 @@ use Rattle.pygrammar.specs.Targets.{stored}
 use Rattle.pygrammar.specs.Grammar as G
 use Rattle.pygrammar.specs.Reader.{Answer, Found, NoForm}
 use Rattle.pygrammar.specs.Precedence.{starts}
-use Rattle.pygrammar.proofs.Says.{Says, found, no_form, says_then, says_op, says_word, says_name, says_cond, says_is}
-use Rattle.pygrammar.proofs.SoundLists.{says_if, target_sound, listing_of_sound}
-use Rattle.pygrammar.proofs.Whole.{says_found}
+use Rattle.pygrammar.proofs.Soundness.Says.{Says, found, no_form, says_then, says_op, says_word, says_name, says_cond, says_is}
+use Rattle.pygrammar.proofs.Soundness.SoundLists.{says_if, target_sound, listing_of_sound}
+use Rattle.pygrammar.proofs.Depths.Whole.{says_found}
 use Rattle.pygrammar.specs.Lines.{Form, Header}
 use Rattle.pygrammar.specs.Forms as F
 use Rattle.pygrammar.specs.LineReader.{plain, on_none, for_rest, with_rest, def_rest, class_rest, except_of, except_rest, read_header, suite, line_of, line_front, read_line, Decorates, Heads, States}

@@ -1,4 +1,7 @@
 -- What the reader answers has a form: tools, lists with commas, imports.
+--
+-- Carries: headed, joins, plain_sound, says_some and 12 more, for SoundSimple, SoundLines, With.
+-- On: Says, SoundLists, Soundness/Sound.
 use Rattle.std.proofs.Common.{◌≡◌, refl, sym, ap, subst, ◌∙◌, ℕ, zero, suc, arith, List, [], ◌∷◌, ◌++◌, length, Option, Some, None, Bool, true, false, cond, append_assoc}
 use Rattle.std.proofs.lemmas.Bool.{leb-true}
 use Rattle.std.specs.Prelude.{leb}
@@ -15,9 +18,9 @@ use Rattle.pytoken.specs.Terminals.{Spelled, Terminal, Op, Word, Ident, Whole, L
 use Rattle.pygrammar.specs.Entries.{Of}
 use Rattle.pygrammar.specs.Reader.{Answer, on_some}
 use Rattle.pygrammar.specs.Precedence.{starts}
-use Rattle.pygrammar.proofs.Says.{Says, found, no_form, says_then, says_first, says_op, says_word, says_name, says_cond, says_is, SoundAt}
-use Rattle.pygrammar.proofs.Sound.{sound_read}
-use Rattle.pygrammar.proofs.SoundLists.{says_if, says_closed}
+use Rattle.pygrammar.proofs.Soundness.Says.{Says, found, no_form, says_then, says_first, says_op, says_word, says_name, says_cond, says_is, SoundAt}
+use Rattle.pygrammar.proofs.Soundness.Sound.{sound_read}
+use Rattle.pygrammar.proofs.Soundness.SoundLists.{says_if, says_closed}
 use Rattle.pynode.specs.Trees.{Alias, Identifier, TypeParam}
 use Rattle.pygrammar.specs.Forms as F
 use Rattle.pygrammar.specs.Forms.{has_types, type_name, type_word}

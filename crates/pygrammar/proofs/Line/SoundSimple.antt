@@ -1,4 +1,6 @@
 -- What is read as a simple statement is one.
+--
+-- Carries: statements_sound, for SoundLines. On: SoundParts, Says, Invert, SoundLists.
 use Rattle.std.proofs.Common.{◌≡◌, inl, inr, refl, sym, ap, subst, ◌∙◌, ℕ, zero, suc, List, [], ◌∷◌, ◌++◌, length, Option, Some, Bool, true, false, append_assoc}
 use Rattle.std.proofs.lemmas.List.{append-nil}
 use Rattle.pylexeme.specs.declared.kinds.Exact.{Exact}
@@ -16,8 +18,8 @@ use Rattle.pygrammar.specs.Targets.{stored, single_stored}
 use Rattle.pygrammar.specs.Grammar as G
 use Rattle.pygrammar.specs.Reader.{Found, and_then}
 use Rattle.pygrammar.specs.Precedence.{starts}
-use Rattle.pygrammar.proofs.Says.{Says, found, no_form, says_then, says_first, says_op, says_cond, says_made, says_is}
-use Rattle.pygrammar.proofs.SoundLists.{says_name_with}
+use Rattle.pygrammar.proofs.Soundness.Says.{Says, found, no_form, says_then, says_first, says_op, says_cond, says_made, says_is}
+use Rattle.pygrammar.proofs.Soundness.SoundLists.{says_name_with}
 use Rattle.pygrammar.specs.Forms as F
 use Rattle.pygrammar.specs.Forms.{has_types, type_name, type_word, augmented, is_name}
 use Rattle.pygrammar.specs.LineReader.{on_type, plain, read_name, dotted_alias, augmented_sign, annotation, value_loop, value_statement, deleted_one, alias_rest, statement, statements, on_none}

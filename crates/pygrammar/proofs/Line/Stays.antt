@@ -1,4 +1,6 @@
 -- The forms of every version are forms of Python 3.12; those without types are forms of 3.11.
+--
+-- Carries: old_is_untyped, form_stays, for Answer, Block/Types, SourceLaw.
 use Rattle.std.proofs.Common.{◌≡◌, ◌↔◌, refl, ap, ◌∙◌, List, Bool, true, false}
 use Rattle.std.specs.Prelude.{not, ◌&&◌}
 use Rattle.pynode.specs.declared.profiles.Profile.{Profile}

@@ -1,4 +1,7 @@
 -- Steps of a reader, and what may follow.
+--
+-- Carries: thus, front, when, peek and 17 more, for Simple, Values, Headers, Types and 3 more. On:
+-- LookLemmas, Climb, LevelLemmas, Lists and 3 more.
 use Rattle.std.proofs.Common.{◌≡◌, refl, ap, ◌∙◌, ℕ, zero, suc, ◌≤◌, ◌<◌, arith, List, [], ◌∷◌, ◌++◌, length, Option, Some, None, Bool, true, false, cond, append_assoc, length-append}
 use Rattle.pylexeme.specs.declared.kinds.Exact.TheVariants as Sign
 use Rattle.pytoken.specs.declared.keywords.Keyword.TheVariants as Key
@@ -11,13 +14,13 @@ use Rattle.pygrammar.specs.Entries.{Of}
 use Rattle.pygrammar.specs.Grammar as G
 use Rattle.pygrammar.specs.Reader.{Answer, Found, and_then, on_some, on_first, read}
 use Rattle.pygrammar.specs.Precedence.{first, starts}
-use Rattle.pygrammar.proofs.LookLemmas.{grip, grip_of, lead_of, pass_word}
-use Rattle.pygrammar.proofs.Climb.{Stops, unroll}
-use Rattle.pygrammar.proofs.LevelLemmas.{led, stars_step}
-use Rattle.pygrammar.proofs.Lists.{piece_starts}
-use Rattle.pygrammar.proofs.Comps.{starts_low}
-use Rattle.pygrammar.proofs.Says.{lower}
-use Rattle.pygrammar.proofs.Whole.{reads_front}
+use Rattle.pygrammar.proofs.Completeness.LookLemmas.{grip, grip_of, lead_of, pass_word}
+use Rattle.pygrammar.proofs.Completeness.Climb.{Stops, unroll}
+use Rattle.pygrammar.proofs.Completeness.LevelLemmas.{led, stars_step}
+use Rattle.pygrammar.proofs.Completeness.Lists.{piece_starts}
+use Rattle.pygrammar.proofs.Completeness.Comps.{starts_low}
+use Rattle.pygrammar.proofs.Soundness.Says.{lower}
+use Rattle.pygrammar.proofs.Depths.Whole.{reads_front}
 use Rattle.pygrammar.specs.Forms as F
 use Rattle.pygrammar.specs.LineReader.{same_as, commas, commas_of, read_as, plain, if_any, after}
 

@@ -1,4 +1,6 @@
 -- Completeness for parameters of types, and for `type`.
+--
+-- Carries: type_params_goes, alias_goes, for Headers, Simple. On: Tools, Climb.
 use Rattle.std.proofs.Common.{◌≡◌, refl, ap, ◌∙◌, arith, List, [], ◌∷◌, ◌++◌, None, Bool, true, false, cond, append_assoc}
 use Rattle.pylexeme.specs.declared.kinds.Exact.TheVariants as Sign
 use Rattle.pynode.specs.declared.operators.Context.TheVariants.{Store}
@@ -10,7 +12,7 @@ use Rattle.pytoken.specs.Terminals.{Spelled, Terminal, Op, Ident}
 use Rattle.pygrammar.specs.Looks.{is_op}
 use Rattle.pygrammar.specs.Grammar as G
 use Rattle.pygrammar.specs.Reader.{Found}
-use Rattle.pygrammar.proofs.Climb.{Stops}
+use Rattle.pygrammar.proofs.Completeness.Climb.{Stops}
 use Rattle.pygrammar.specs.Forms as F
 use Rattle.pygrammar.specs.Forms.{has_types, type_name, type_word}
 use Rattle.pygrammar.specs.LineReader.{starts_type_param, commas_of, plain, read_type_param, bracketed_type_params, read_type_params, alias_rest, statement}

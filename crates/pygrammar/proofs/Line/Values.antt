@@ -1,4 +1,7 @@
 -- Completeness for statements that begin with a Value.
+--
+-- Carries: expression_goes, assign_goes, augmented_goes, name_annotated_goes and 2 more, for
+-- Simple. On: Tools, LookLemmas, LevelLemmas, Says.
 use Rattle.std.proofs.Common.{◌≡◌, refl, sym, ap, ◌∙◌, ℕ, zero, suc, ◌≤◌, ◌<◌, arith, List, [], ◌∷◌, ◌++◌, length, Option, Some, None, Bool, true, false, append_assoc, length-append}
 use Rattle.pylexeme.specs.declared.kinds.Exact.{Exact}
 use Rattle.pylexeme.specs.declared.kinds.Exact.TheVariants as Sign
@@ -16,9 +19,9 @@ use Rattle.pygrammar.specs.Targets.{stored, single_stored}
 use Rattle.pygrammar.specs.Grammar as G
 use Rattle.pygrammar.specs.Reader.{Answer, Found, NoForm, and_then, on_some, on_first}
 use Rattle.pygrammar.specs.Precedence.{lead}
-use Rattle.pygrammar.proofs.LookLemmas.{grip, grip_of, lead_of, lead_front, miss_name_with}
-use Rattle.pygrammar.proofs.LevelLemmas.{led, free}
-use Rattle.pygrammar.proofs.Says.{lower}
+use Rattle.pygrammar.proofs.Completeness.LookLemmas.{grip, grip_of, lead_of, lead_front, miss_name_with}
+use Rattle.pygrammar.proofs.Completeness.LevelLemmas.{led, free}
+use Rattle.pygrammar.proofs.Soundness.Says.{lower}
 use Rattle.pygrammar.specs.Forms as F
 use Rattle.pygrammar.specs.Forms.{augmented}
 use Rattle.pygrammar.specs.LineReader.{is_type, on_type, augmented_sign, Values, start, plain, annotation, end_value, value_loop, value_statement, alias_rest, statement_of, statement}

@@ -1,4 +1,8 @@
--- The two readings of `with`: brackets directly before the colon count, and where they don't fit nothing is read in them.
+-- The two readings of `with`: brackets directly before the colon count, and where they don't fit
+-- nothing is read in them.
+--
+-- Carries: with_goes, read_items_sound, for Law, SoundLines. On: Says, SoundParts,
+-- LookLemmas, Whole and 5 more.
 use Rattle.std.proofs.Common.{◌≡◌, ◌⊎◌, inl, inr, refl, sym, ap, subst, ◌∙◌, ℕ, zero, suc, ◌≤◌, arith, List, [], ◌∷◌, ◌++◌, length, Option, Some, None, Bool, true, false, cond, append_assoc}
 use Rattle.std.proofs.lemmas.List.{append_cancel_right}
 use Rattle.std.specs.Prelude.{max}
@@ -12,12 +16,12 @@ use Rattle.pygrammar.specs.Entries.{Of, Entry, Single}
 use Rattle.pygrammar.specs.Grammar as G
 use Rattle.pygrammar.specs.Reader.{Answer, Found, NoForm, TooDeep, and_then, on_some, on_first, made, listing_of, round, read}
 use Rattle.pygrammar.specs.Precedence.{starts}
-use Rattle.pygrammar.proofs.LookLemmas.{grip_of, pass_op, pass_word}
-use Rattle.pygrammar.proofs.Climb.{answers}
-use Rattle.pygrammar.proofs.LevelLemmas.{led}
-use Rattle.pygrammar.proofs.Complete.{goes, listing_all}
-use Rattle.pygrammar.proofs.Says.{Says, found, no_form, deep, says_then, says_op, says_word, says_made, says_is, lower}
-use Rattle.pygrammar.proofs.Whole.{final, answered, says_found}
+use Rattle.pygrammar.proofs.Completeness.LookLemmas.{grip_of, pass_op, pass_word}
+use Rattle.pygrammar.proofs.Completeness.Climb.{answers}
+use Rattle.pygrammar.proofs.Completeness.LevelLemmas.{led}
+use Rattle.pygrammar.proofs.Completeness.Complete.{goes, listing_all}
+use Rattle.pygrammar.proofs.Soundness.Says.{Says, found, no_form, deep, says_then, says_op, says_word, says_made, says_is, lower}
+use Rattle.pygrammar.proofs.Depths.Whole.{final, answered, says_found}
 use Rattle.pynode.specs.Trees as Trees
 use Rattle.pygrammar.specs.Lines.{with_header}
 use Rattle.pygrammar.specs.Forms as F

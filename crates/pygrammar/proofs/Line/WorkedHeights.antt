@@ -1,4 +1,6 @@
 -- Worked answers for lines within a height: what fits, what is too high, and what has no form.
+--
+-- Carries: no contract; its rows are computed as it is checked.
 use Rattle.std.proofs.Common.{◌≡◌, refl, ℕ, ◌+◌, List, [], ◌∷◌, zero, suc}
 use Rattle.pylexeme.specs.declared.kinds.Exact.TheVariants.{Minus, Dot, Comma, Colon, Equal, Semi, At, LPar, RPar, LSqb, RSqb}
 use Rattle.pytoken.specs.declared.keywords.Keyword.TheVariants as Key

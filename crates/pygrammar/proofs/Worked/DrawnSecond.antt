@@ -1,4 +1,7 @@
--- Lists of terminals drawn at random, each at a level drawn at random: the tree of each, or that it has none.
+-- Lists of terminals drawn at random, each at a level drawn at random: the tree of
+-- each, or that it has none.
+--
+-- Carries: no contract; its rows are computed as it is checked.
 use Rattle.std.proofs.Common.{◌≡◌, refl, [], ◌∷◌, None, true, false, Bool}
 use Rattle.pylexeme.specs.declared.kinds.Exact.TheVariants.{Amper, Circumflex, Colon, ColonEqual, Comma, Dot, DoubleStar, Ellipsis, EqEqual, Equal, LBrace, LeftShift, Less, LPar, LSqb, Minus, Plus, RBrace, RightShift, RPar, RSqb, Slash, Star, Tilde, VBar}
 use Rattle.pytoken.specs.declared.keywords.Keyword.TheVariants as Key

@@ -1,4 +1,6 @@
 -- Worked expressions: the tree of each is that of Python's ast.
+--
+-- Carries: no contract; its rows are computed as it is checked.
 use Rattle.std.proofs.Common.{◌≡◌, refl, [], ◌∷◌, Some, None, true, false, Bool}
 use Rattle.pylexeme.specs.declared.kinds.Exact.TheVariants.{Amper, Circumflex, Colon, ColonEqual, Comma, Dot, DoubleStar, Ellipsis, EqEqual, Equal, LBrace, LeftShift, Less, LPar, LSqb, Minus, Plus, RBrace, RightShift, RPar, RSqb, Slash, Star, Tilde, VBar}
 use Rattle.pytoken.specs.declared.keywords.Keyword.TheVariants as Key

@@ -1,4 +1,6 @@
 -- Worked answers with room: what counts, and what does not.
+--
+-- Carries: no contract; its rows are computed as it is checked.
 use Rattle.std.proofs.Common.{◌≡◌, refl, ℕ, List, [], ◌∷◌, ◌++◌, zero, suc}
 use Rattle.pylexeme.specs.declared.kinds.Exact.TheVariants.{Plus, Minus, Star, Dot, LPar, RPar, LSqb, RSqb}
 use Rattle.pygrammar.specs.declared.levels.Level.TheVariants.{Value}

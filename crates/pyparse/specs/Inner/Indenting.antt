@@ -5,7 +5,7 @@ use Rattle.std.specs.Str.{encode_utf8_all}
 use Rattle.pysource.specs.declared.places.Place.{Place}
 use Rattle.pysource.specs.Places.{place_at}
 use Rattle.pylexeme.specs.Chars.{is_blank_char}
-use Rattle.pylexeme.specs.Cuts.{begins_thing}
+use Rattle.pylexeme.specs.Cuts.{begins_significant}
 use Rattle.pylex.specs.declared.margins.Widths.{Widths}
 use Rattle.pylex.specs.Margins.{blanks_of}
 use Rattle.pytoken.specs.Inner.Behind.{behind}
@@ -15,7 +15,7 @@ use Rattle.pyparse.specs.declared.indents.Indents.{Indents}
 
 -- the line that begins at an offset is a logical one
 abbrev pub is_logical_at : List ℕ → ℕ → Bool
-is_logical_at text o = begins_thing (drop (length (blanks_of (behind_offset text o))) (behind_offset text o))
+is_logical_at text o = begins_significant (drop (length (blanks_of (behind_offset text o))) (behind_offset text o))
 
 -- the place of the first character that isn't a blank, in the line that begins at an offset
 abbrev pub start_at : List ℕ → ℕ → Place

@@ -13,7 +13,8 @@ use Rattle.pyexpr.specs.Answers.{Failed, PartAt}
 use Rattle.pyexpr.specs.Views.{Stands, first_is, seen}
 use Rattle.pyexpr.proofs.Callers.Looks.{failed_then, first_miss, seen_length}
 
--- how far a list was read: what the reader makes of all of it is what it makes of the rest, behind those that were read
+-- how far a list was read: what the reader makes of all of it is what it makes of the rest,
+-- behind those that were read
 pub record Listed {A : Type 0} (ts : List given.Terminal) (one : List Terminal → Answer A) (more : List Terminal → Bool) (x : Answer (List A)) (acc : List A) (n : ℕ) : Type 0 where
   pub within : n ≤ length ts
   pub most : ℕ

@@ -1,4 +1,6 @@
 -- On: what all characters of a literal are, those of its body are.
+--
+-- Carries: what pyslots, pyvalue, pywritten cite.
 use Rattle.std.proofs.Common.{◌≡◌, ℕ, zero, suc, ◌-◌, Bool, true, List, [], ◌∷◌, length, take, drop, refl, inl, inr}
 use Rattle.std.specs.Prelude.{filter, if◌then◌else◌}
 use Rattle.std.specs.List.{list_all}

@@ -1,5 +1,8 @@
--- On: what the text of a tree writes for names and constants comes back; faults of numbers by their class; the points of literals;
+-- On: what the text of a tree writes for names and constants comes back; faults of numbers by their
+-- class; the points of literals;
 -- the tokens of a source that isn't refused; the widths of margins.
+--
+-- Carries: what pyparse, pyslots, pyvalue, pywritten cite.
 use Rattle.std.proofs.Common.{◌≡◌, ℕ, true, List, None}
 use Rattle.std.specs.List.{list_all}
 use Rattle.pylex.specs.Listing.{Source}

@@ -20,16 +20,16 @@ use Rattle.pyunparse.specs.Inner.Folds.{puts}
 use Rattle.pyunparse.specs.Inner.Members.{mark, members, padded}
 use Rattle.pyunparse.specs.Inner.Pairs.{pair}
 use Rattle.pyunparse.specs.Inner.Parameters.{named as named_arg, positional}
-use Rattle.pyunparse.proofs.ArgumentLemmas.{alone_is, args_listed, lone_some}
-use Rattle.pyunparse.proofs.ClassLemmas.{attribute, awaited, binary, call, chain, comparison, conditional, dict_comprehension, lambda, named, prefixed, slice, subscript, yielded, yielded_from}
-use Rattle.pyunparse.proofs.FoldLemmas.{enclosed_on, three, two}
-use Rattle.pyunparse.proofs.MeasureLemmas.{call_height, compare_height, dict_comp_height, gathered_lower, generator_height, keyword_height, keyword_only_lower, named_arg_height, parts_height, places_lower, star_lower}
-use Rattle.pyunparse.proofs.MemberLemmas.{all_items, all_parts, both_done, both_on, compared_done, compared_on, item_on, members_none, no_higher, part_on, read_again, rest_no_higher, take_rest}
-use Rattle.pyunparse.proofs.ParameterLemmas.{D, N, places_on, default_bare, default_none, default_some, parameters_told, plain_done, plain_on, plain_start}
-use Rattle.pyunparse.proofs.PartLemmas.{by_name_more, clause_on, kwonly, kwonly_more, no_defaults, no_params, no_keys, no_values, pair_more, pairs_of}
-use Rattle.pyunparse.proofs.ShapeLemmas.{not_alone}
-use Rattle.pyunparse.proofs.StarLemmas.{gathered_on, star_given, star_on}
-use Rattle.pyunparse.proofs.TupleLemmas.{tuple}
+use Rattle.pyunparse.proofs.ExpressionParts.ArgumentLemmas.{alone_is, args_listed, lone_some}
+use Rattle.pyunparse.proofs.ExpressionParts.ClassLemmas.{attribute, awaited, binary, call, chain, comparison, conditional, dict_comprehension, lambda, named, prefixed, slice, subscript, yielded, yielded_from}
+use Rattle.pyunparse.proofs.Sequences.FoldLemmas.{enclosed_on, three, two}
+use Rattle.pyunparse.proofs.Shapes.MeasureLemmas.{call_height, compare_height, dict_comp_height, gathered_lower, generator_height, keyword_height, keyword_only_lower, named_arg_height, parts_height, places_lower, star_lower}
+use Rattle.pyunparse.proofs.Sequences.MemberLemmas.{all_items, all_parts, both_done, both_on, compared_done, compared_on, item_on, members_none, no_higher, part_on, read_again, rest_no_higher, take_rest}
+use Rattle.pyunparse.proofs.ExpressionParts.ParameterLemmas.{D, N, places_on, default_bare, default_none, default_some, parameters_told, plain_done, plain_on, plain_start}
+use Rattle.pyunparse.proofs.ExpressionParts.PartLemmas.{by_name_more, clause_on, kwonly, kwonly_more, no_defaults, no_params, no_keys, no_values, pair_more, pairs_of}
+use Rattle.pyunparse.proofs.Shapes.ShapeLemmas.{not_alone}
+use Rattle.pyunparse.proofs.ExpressionParts.StarLemmas.{gathered_on, star_given, star_on}
+use Rattle.pyunparse.proofs.ExpressionParts.TupleLemmas.{tuple}
 use Rattle.pyunparse.proofs.+writing.Goals as goal
 
 pub operators::write_chain-returns : goal.operators::write_chain-returns

@@ -1,4 +1,6 @@
 -- On: all the laws of what a tree is written in.
+--
+-- Carries: what crates above may cite.
 use Rattle.pywritten.specs.Laws.{WritingIsLawful}
 use Rattle.pywritten.proofs.Callers.Shortest.{expressions_are_shortest, expressions_come_back, targets_are_shortest, parameters_are_shortest, arguments_are_shortest, brackets_are_within_height}
 use Rattle.pywritten.proofs.Callers.Read.{expressions_are_read}

@@ -1,4 +1,7 @@
--- On: a module that some lines are is that of its own lines, and lines are one module at most; the heights of forms, and the brackets of lines.
+-- On: a module that some lines are is that of its own lines, and lines are one module at most; the
+-- heights of forms, and the brackets of lines.
+--
+-- Carries: what crates above may cite.
 use Rattle.pywritten.specs.Laws.{ModulesComeBack, LinesAreOneModule, AcceptedComeBack, FormsAreLow, ModulesAreLow, LineBracketsAreWithinHeight}
 use Rattle.pywritten.proofs.Modules.Law
 use Rattle.pywritten.proofs.Modules.Low

@@ -1,4 +1,6 @@
 -- On: what is written is read back.
+--
+-- Carries: what pyunparse cites.
 use Rattle.pywritten.specs.Laws.{ExpressionsAreRead}
 use Rattle.pywritten.proofs.Pieces.Law
 

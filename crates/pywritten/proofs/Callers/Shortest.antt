@@ -1,5 +1,7 @@
--- On: expressions, targets, parameters and arguments are written in the fewest terminals that give them, with no more brackets open at once
--- than they are high.
+-- On: expressions, targets, parameters and arguments are written in the fewest terminals that give
+-- them, with no more brackets open at once than they are high.
+--
+-- Carries: what pyunparse cites.
 use Rattle.std.proofs.Common.{◌≤◌, List, ◌++◌, length, subst}
 use Rattle.pynode.specs.Trees.{Exprs, Keywords}
 use Rattle.pytoken.specs.Terminals.{Terminal}

@@ -1,4 +1,6 @@
 -- On: a module's text is a source that is accepted as the module, and as no other.
+--
+-- Carries: what pycommand, pyunparse cite.
 use Rattle.pywritten.specs.Laws.{ModulesAreRead, ModuleTextsAreAccepted, TokensAreOfTokens, AcceptedTextsAreAccepted}
 use Rattle.pywritten.proofs.Modules.LinesRead
 use Rattle.pywritten.proofs.Modules.Accepted

@@ -1,4 +1,6 @@
 -- The parameters of a tree are the entries that they were arranged from.
+--
+-- Carries: parameters_are, for Params, Places. On: Claims, Clauses, Entries.
 use Rattle.std.proofs.Common.{◌≡◌, refl, ap, subst, ◌∙◌, ℕ, suc, ◌≤◌, arith, List, [], ◌∷◌, ◌++◌, length, Some, Bool, true, false, cond}
 use Rattle.std.specs.Prelude.{◌-◌, map}
 use Rattle.std.specs.Prelude.{replicate}

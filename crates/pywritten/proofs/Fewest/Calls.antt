@@ -1,4 +1,7 @@
 -- Calls: the order of arguments, and a generator alone.
+--
+-- Carries: call_claim, sorted, sorted_in_order, sorted_positional and 7 more, for Places,
+-- Induction, Derived. On: Entries, Claims, Reach, Less and 1 more.
 use Rattle.std.proofs.Common.{◌≡◌, refl, sym, ap, subst, ◌∙◌, ◌+◌, ◌≤◌, arith, List, [], ◌∷◌, ◌++◌, length, Some, None, Bool, true, false, cond, length-append}
 use Rattle.std.specs.Prelude.{map}
 use Rattle.pylexeme.specs.declared.kinds.Exact.TheVariants.{LPar, RPar, Comma, Star, Equal, DoubleStar}

@@ -1,4 +1,7 @@
 -- What the induction says of an expression, and its step for each form.
+--
+-- Carries: here, given, Claim, node and 39 more, for Induction, Clauses, Calls, Entries and
+-- 6 more. On: Reach, Less.
 use Rattle.std.proofs.Common.{◌≡◌, refl, sym, ap, subst, ◌∙◌, ◌≤◌, arith, List, [], ◌∷◌, ◌++◌, length, Option, Some, true, false, length-append, append-nil, map}
 use Rattle.pylexeme.specs.declared.kinds.Exact.TheVariants.{LPar, RPar, LSqb, RSqb, Colon, Plus, Minus, Star, Slash, VBar, Amper, Less, Greater, Dot, Percent, EqEqual, NotEqual, LessEqual, GreaterEqual, Tilde, Circumflex, LeftShift, RightShift, DoubleStar, DoubleSlash, At, ColonEqual}
 use Rattle.pytoken.specs.declared.keywords.Keyword.TheVariants as Key

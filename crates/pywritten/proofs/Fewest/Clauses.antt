@@ -1,4 +1,7 @@
 -- Comprehensions: targets are written as their expressions.
+--
+-- Carries: mapped_is, both_is, star_stored, lone_text and 22 more, for Induction, Places, Derived,
+-- Calls and 2 more. On: Claims, Reach, Less.
 use Rattle.std.proofs.Common.{◌≡◌, refl, sym, ap, subst, ◌∙◌, ◌≤◌, arith, List, [], ◌∷◌, ◌++◌, length, Option, Some, None, Bool, true, false, cond, length-append, append_assoc, append-nil}
 use Rattle.pylexeme.specs.declared.kinds.Exact.TheVariants.{LPar, RPar, LSqb, RSqb, LBrace, RBrace, Colon, Comma, Star}
 use Rattle.pytoken.specs.declared.keywords.Keyword.TheVariants as Key

@@ -1,4 +1,7 @@
 -- Lists: their entries, tuples, displays, calls, comprehensions.
+--
+-- Carries: entry, ListingClaim, listing_of, PieceClaim and 22 more, for Induction, Calls, Params,
+-- Places and 1 more. On: Less, Claims, Reach.
 use Rattle.std.proofs.Common.{◌≡◌, refl, sym, ap, subst, ◌≤◌, arith, List, [], ◌∷◌, ◌++◌, length, Bool, true, false, append_assoc, length-append}
 use Rattle.std.specs.Prelude.{not, map}
 use Rattle.pylexeme.specs.declared.kinds.Exact.TheVariants.{LPar, RPar, LSqb, RSqb, LBrace, RBrace, Colon, Comma, Star, Slash, Equal, DoubleStar}

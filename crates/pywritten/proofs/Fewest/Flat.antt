@@ -1,4 +1,6 @@
 -- At every level but Atom no more brackets are open at once than the expression is high.
+--
+-- Carries: brackets_height, for Shortest. On: Reach.
 use Rattle.std.proofs.Common.{◌≡◌, refl, sym, ap, subst, ℕ, zero, suc, ◌+◌, ◌≤◌, arith, List, [], ◌∷◌, ◌++◌, Option, Some, None, Bool, true, false, cond, append_assoc, append-nil}
 use Rattle.std.specs.Prelude.{max, replicate, map}
 use Rattle.pylexeme.specs.declared.kinds.Exact.{Exact}

@@ -1,4 +1,7 @@
--- Every derived expression is derived from its own text, which is no longer than the list it was derived from.
+-- Every derived expression is derived from its own text, which is no longer than the
+-- list it was derived from.
+--
+-- Carries: fewest, for Shortest. On: Claims, Entries, Clauses, Params and 1 more.
 use Rattle.std.proofs.Common.{◌≤◌, List, length, Option}
 use Rattle.pylexeme.specs.declared.kinds.Exact.{Exact}
 use Rattle.pynode.specs.declared.operators.BoolOperator.{BoolOperator}

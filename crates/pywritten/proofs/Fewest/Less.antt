@@ -1,4 +1,7 @@
 -- How many terminals an expression takes at one level and at another.
+--
+-- Carries: star_place, allowed, total, length_separated and 12 more, for Claims, Entries, With,
+-- Calls and 5 more. On: Reach.
 use Rattle.std.proofs.Common.{◌≡◌, refl, ℕ, ◌+◌, ◌≤◌, arith, List, [], ◌∷◌, length, Bool, true, false, length-append}
 use Rattle.std.specs.Prelude.{◌-◌, not}
 use Rattle.pylexeme.specs.declared.kinds.Exact.TheVariants.{Comma}

@@ -1,4 +1,7 @@
 -- Parameters.
+--
+-- Carries: SuffixClaim, no_suffix_claim, suffix_claim, parameter_claim and 6 more, for Induction.
+-- On: Entries, Claims, Reach, Arranged.
 use Rattle.std.proofs.Common.{◌≡◌, refl, ap, subst, ◌≤◌, arith, List, [], ◌∷◌, ◌++◌, length, Option, Some, None, Bool, true, false, cond, length-append}
 use Rattle.std.specs.Prelude.{map}
 use Rattle.pylexeme.specs.declared.kinds.Exact.{Exact}

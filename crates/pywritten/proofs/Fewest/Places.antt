@@ -1,4 +1,7 @@
 -- Places in statements: targets, parameters, the bases of a class.
+--
+-- Carries: target_law, single_target_law, del_target_law, item_target_law and 2 more, for Shortest.
+-- On: Calls, Clauses, Reach, Claims and 4 more.
 use Rattle.std.proofs.Common.{◌≡◌, refl, sym, ap, subst, ◌∙◌, ◌≤◌, arith, List, [], ◌∷◌, ◌++◌, length, Some, Bool, true, false}
 use Rattle.std.specs.Prelude.{map}
 use Rattle.pylexeme.specs.declared.kinds.Exact.TheVariants.{LSqb, RSqb, Comma, Star}
@@ -73,7 +76,8 @@ del_target_law {ts} (G.del_target {e = e} {s = s} p h) =
     let q = deleted_same e s h Expression in
     (subst (λ z. G.DelTarget z s) q (G.del_target (here c) h), subst (λ z. length z ≤ length ts) q c.short)
 
--- a `with` item's target: at Named a star's value is an Expression, and all else is as at Expression
+-- a `with` item's target: at Named a star's value is an Expression, and all
+-- else is as at Expression
 named_expression : (e s : Expr) → stored e ≡ Some s → allowed Expression e ≡ true → written terminal Expression e ≡ written terminal Named e
 unfolding written
 named_expression (Trees.Name x c) s h a = refl
@@ -119,7 +123,8 @@ parameters_law {b} {ts} {ps} {a} p h =
     let q = ap (separated (Op Comma)) (same_entries b ps ∙ sym (parameters_are ps a h)) in
     (subst (λ z. G.Listing (Parameter b) z ps) q (listing_of c.standing), subst (λ z. length z ≤ length ts) q c.short)
 
--- the arguments of a class: those of a call, in the order in which they are written terminal, and no exception for a generator
+-- the arguments of a class: those of a call, in the order in which they are written terminal, and
+-- no exception for a generator
 pub bases_law : {us : List Terminal} {es : List Entry} → G.Listing Argument us es →
     (fs : List Entry) × G.Listing Argument (separated (Op Comma) (each terminal Named (positional es) ++ by_name terminal (keywords es))) fs × (in_order false false fs ≡ true) × (positional fs ≡ positional es) × (keywords fs ≡ keywords es) × (length (separated (Op Comma) (each terminal Named (positional es) ++ by_name terminal (keywords es))) ≤ length us)
 bases_law {us} {es} p =

@@ -1,4 +1,5 @@
--- Carries: the laws of fewest brackets. On: which levels lead to which, and what stands at one of them in brackets or without.
+-- Carries: the laws of fewest brackets. On: which levels lead to which, and what stands at one of
+-- them in brackets or without.
 use Rattle.std.proofs.Common.{◌≡◌, refl, sym, ap, subst, ◌∙◌, ℕ, zero, suc, ◌+◌, ◌-◌, ◌≤◌, ◌<◌, arith, List, [], ◌∷◌, length, Bool, true, false, cond, length-append}
 use Rattle.std.specs.Prelude.{eqb, get_or, ◌||◌}
 use Rattle.std.specs.List.{list_all}

@@ -1,4 +1,5 @@
--- Carries: the law of source text. On: a module's text is a source that is accepted as the module, and as no other.
+-- Carries: the law of source text. On: a module's text is a source that is accepted as the
+-- module, and as no other.
 use Rattle.std.proofs.Common.{◌≡◌, refl, sym, ap, subst, ◌∙◌, ℕ, suc, ◌+◌, ◌-◌, ◌≤◌, arith, Bool, true, false, ◌&&◌, List, [], ◌∷◌, map, Option, Some, None, if◌then◌else◌}
 use Rattle.std.specs.Prelude.{All, nat_lt}
 use Rattle.std.specs.Str.{encode_utf8_all}
@@ -6,8 +7,8 @@ use Rattle.std.proofs.lemmas.Bool.Decides.{nat_tests}
 use Rattle.std.proofs.lemmas.List.Elements.{All-nil, All-cons, All-head, All-tail}
 use Rattle.pylexeme.specs.declared.kinds.Exact.{Exact}
 use Rattle.pylexeme.specs.Operators.{exact_of, is_opener, is_closer}
-use Rattle.pylex.specs.declared.kinds.Kind.{Kind}
-use Rattle.pylex.specs.declared.kinds.Kind.TheVariants as kinds
+use Rattle.pylex.specs.declared.kind.Kind.{Kind}
+use Rattle.pylex.specs.declared.kind.Kind.TheVariants as kinds
 use Rattle.pylex.specs.Listing.{in_characters}
 use Rattle.pynode.specs.declared.profiles.Profile.{Profile}
 use Rattle.pytoken.specs.declared.keywords.Keyword.{Keyword}

@@ -1,4 +1,5 @@
--- Carries: the law of modules. On: brackets are balanced in every derived list, and no `as` stands in an expression.
+-- Carries: the law of modules. On: brackets are balanced in every derived list, and no `as`
+-- stands in an expression.
 use Rattle.std.proofs.Common.{◌≡◌, refl, ℕ, suc, List, [], ◌∷◌, ◌++◌, Option, Some, None, Bool, true, false, cond}
 use Rattle.std.specs.Prelude.{map}
 use Rattle.pylexeme.specs.declared.kinds.Exact.{Exact}

@@ -1,4 +1,5 @@
--- Carries: the law of accepted modules. On: in no line of a module more brackets are open at once than its highest expression is high, and one more.
+-- Carries: the law of accepted modules. On: in no line of a module more brackets are open at once
+-- than its highest expression is high, and one more.
 use Rattle.std.proofs.Common.{refl, ap, ℕ, zero, suc, ◌+◌, ◌≤◌, arith, List, [], ◌∷◌, ◌++◌, Option, Some, None, Bool, true, false, cond, append-nil}
 use Rattle.std.specs.Prelude.{max, map, All}
 use Rattle.std.proofs.lemmas.List.Elements.{All-nil, All-cons}

@@ -1,5 +1,5 @@
--- Carries: the law of read modules. On: the lines that statements are written in are read back, and no line stands more than a level deeper than the
--- one before.
+-- Carries: the law of read modules. On: the lines that statements are written in are read back, and
+-- no line stands more than a level deeper than the one before.
 use Rattle.std.proofs.Common.{◌≡◌, ℕ, suc, ◌+◌, Bool, true, false, ◌&&◌, ◌==◌, List, [], ◌∷◌, ◌++◌, map, refl, sym, ◌∙◌, subst, arith}
 use Rattle.std.specs.Prelude.{nat_le, All}
 use Rattle.std.specs.List.{list_all}
@@ -17,7 +17,7 @@ use Rattle.pygrammar.specs.Lines.{Line as FormLine, Header, if_header, elif_head
 use Rattle.pygrammar.specs.Forms as F
 use Rattle.pyspacing.specs.Spacing.{Piece, Line}
 use Rattle.pyspacing.specs.Tokens.{is_written, rise_by_one}
-use Rattle.pyspacing.proofs.Writing.{begin_at, rise_both}
+use Rattle.pyspacing.proofs.TokenLists.Writing.{begin_at, rise_both}
 use Rattle.pywritten.specs.Written.{leading, written}
 use Rattle.pywritten.specs.Terminals.{terminal}
 use Rattle.pywritten.specs.Pieces.{piece}

@@ -1,4 +1,5 @@
--- Carries: the law of accepted modules. On: forms have no higher expressions than the statements that they give.
+-- Carries: the law of accepted modules. On: forms have no higher expressions than the
+-- statements that they give.
 use Rattle.std.proofs.Common.{ℕ, ◌≤◌, arith, List, [], ◌∷◌, ◌++◌, Option, Bool, true, false}
 use Rattle.pynode.specs.Trees.{Expr, Stmt, Handler, Item, stmts, handlers}
 use Rattle.pyheight.specs.Heights.{list_height, item_heights, highest_in_all, highest_in_handlers}

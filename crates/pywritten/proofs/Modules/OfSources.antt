@@ -1,5 +1,5 @@
--- Carries: the law of source text. On: the tokens of an accepted source are of Unicode characters and have no fault, so that its module is the one that
--- its own text is.
+-- Carries: the law of source text. On: the tokens of an accepted source are of Unicode characters
+-- and have no fault, so that its module is the one that its own text is.
 use Rattle.std.proofs.Common.{◌≡◌, refl, sym, ap, subst, ◌∙◌, ℕ, ◌+◌, Bool, true, false, List, [], ◌∷◌, ◌++◌, append_assoc}
 use Rattle.std.specs.Prelude.{All, map}
 use Rattle.std.specs.Str.{all_scalars}
@@ -8,8 +8,8 @@ use Rattle.std.proofs.lemmas.Bool.{and_parts, and_from}
 use Rattle.std.proofs.lemmas.List.Elements.{All-nil, All-cons, All-head, All-tail, All-append}
 use Rattle.pysource.specs.declared.places.Place.{Place}
 use Rattle.pylexeme.specs.Chars.{bytes_in}
-use Rattle.pylex.specs.declared.kinds.Kind.{Kind}
-use Rattle.pylex.specs.declared.kinds.Kind.TheVariants as kinds
+use Rattle.pylex.specs.declared.kind.Kind.{Kind}
+use Rattle.pylex.specs.declared.kind.Kind.TheVariants as kinds
 use Rattle.pylex.specs.declared.entries.Entry.{Entry}
 use Rattle.pylex.specs.Listing.{Source, listing}
 use Rattle.pylex.specs.Steps.{entries_of}
@@ -21,7 +21,7 @@ use Rattle.pytoken.specs.Terminals.{terminal_of, IsSound}
 use Rattle.pytoken.proofs.Callers.Said.{tokens_are_sound}
 use Rattle.pygrammar.specs.Lines.{Line}
 use Rattle.pygrammar.specs.Refusals.{terminals, Formed, formed_end, formed_line}
-use Rattle.pyspacing.proofs.Tells.{bytes_both, sliced}
+use Rattle.pyspacing.proofs.Listings.Tells.{bytes_both, sliced}
 use Rattle.pywritten.specs.Modules.{written_line}
 use Rattle.pywritten.specs.Laws.{IsOfToken, AreOfTokens, AreWithin, source_lines, IsGood, TokensAreOfTokens, AcceptedTextsAreAccepted}
 use Rattle.pywritten.proofs.Modules.High.{modules_low}

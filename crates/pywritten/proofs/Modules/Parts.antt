@@ -1,4 +1,5 @@
--- Carries: the law of modules. On: lists with commas, names, imports, parameters of types: each comes back from its own terminals.
+-- Carries: the law of modules. On: lists with commas, names, imports, parameters of types: each
+-- comes back from its own terminals.
 use Rattle.std.proofs.Common.{◌≡◌, refl, sym, subst, ℕ, zero, suc, ◌+◌, arith, List, [], ◌∷◌, Option, None, Bool, true, false, cond}
 use Rattle.std.specs.Prelude.{eqb, map}
 use Rattle.std.proofs.lemmas.Bool.{eqb-true}

@@ -1,5 +1,5 @@
--- Carries: the laws of modules. On: statements that some lines are: of each of their own lines something holds that the forms of those gave,
--- and no block is empty.
+-- Carries: the laws of modules. On: statements that some lines are: of each of their own lines
+-- something holds that the forms of those gave, and no block is empty.
 use Rattle.std.proofs.Common.{◌≡◌, refl, ℕ, List, [], ◌∷◌, ◌++◌, Option, Some, None, Bool, true, false}
 use Rattle.pynode.specs.declared.profiles.Profile.{Profile}
 use Rattle.pynode.specs.Trees

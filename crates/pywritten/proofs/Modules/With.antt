@@ -1,4 +1,5 @@
--- Carries: the law of modules. On: the items of a `with`: where they are written without brackets nothing else reads them.
+-- Carries: the law of modules. On: the items of a `with`: where they are written without brackets
+-- nothing else reads them.
 use Rattle.std.proofs.Common.{◌≡◌, refl, sym, ap, subst, ◌∙◌, ℕ, suc, ◌+◌, ◌≤◌, arith, List, [], ◌∷◌, ◌++◌, length, Option, Some, None, Bool, true, false, cond, append_assoc, append-nil, length-append}
 use Rattle.std.specs.Prelude.{map}
 use Rattle.pylexeme.specs.declared.kinds.Exact.TheVariants.{LPar, RPar, Comma}

@@ -1,4 +1,5 @@
--- Carries: the laws of pieces. On: behind an operator no name, number or string makes it a longer one.
+-- Carries: the laws of pieces. On: behind an operator no name, number or
+-- string makes it a longer one.
 use Rattle.std.proofs.Common.{◌≡◌, ℕ, Bool, true, false, not, List, [], ◌∷◌, ◌++◌, take, drop, length, refl, sym, ◌∙◌, ap, subst, ⊎_elim, eqb}
 use Rattle.std.specs.Prelude.{codes, nat_eq}
 use Rattle.std.specs.List.{list_all, list_any, starts_with}
@@ -6,11 +7,11 @@ use Rattle.std.proofs.lemmas.Bool.{and_parts, or_cases, cases_Bool}
 use Rattle.std.proofs.lemmas.List.{take-append-drop}
 use Rattle.std.proofs.lemmas.Slice.Eq.{bytes_eq-Decides}
 use Rattle.pylexeme.specs.Strings.{lower, prefixes}
-use Rattle.pylexeme.proofs.Classes.{words, heads}
-use Rattle.pylex.specs.declared.kinds.Kind.{Kind}
+use Rattle.pylexeme.proofs.Lexemes.Classes.{words, heads}
+use Rattle.pylex.specs.declared.kind.Kind.{Kind}
 use Rattle.pyspacing.specs.Spacing.{is_token, is_operator_kind, begins_operator}
-use Rattle.pyspacing.proofs.PieceFronts.{Off, no_token, none_empty}
-use Rattle.pyspacing.proofs.OperatorFronts.{begins_word, of_any, is_sign_char, sign_of}
+use Rattle.pyspacing.proofs.LexemeFronts.PieceFronts.{Off, no_token, none_empty}
+use Rattle.pyspacing.proofs.LexemeFronts.OperatorFronts.{begins_word, of_any, is_sign_char, sign_of}
 
 abbrev sign_chars : List ℕ
 sign_chars = codes "()[]{}:,;+-*/|&<>=.%!~^@"

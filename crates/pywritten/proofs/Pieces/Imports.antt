@@ -1,4 +1,5 @@
--- Carries: the laws of pieces. On: imports: names with points between, and the points of a level, of which two may stand together, since no third does.
+-- Carries: the laws of pieces. On: imports: names with points between, and the points of a level,
+-- of which two may stand together, since no third does.
 use Rattle.std.proofs.Common.{◌≡◌, ℕ, zero, suc, ◌==◌, Bool, true, false, not, ◌&&◌, ◌||◌, List, [], ◌∷◌, ◌++◌, take, map, Option, Some, None, refl, sym, subst, ◌∙◌}
 use Rattle.std.specs.Prelude.{cond, codes}
 use Rattle.std.specs.List.{list_all}
@@ -8,7 +9,7 @@ use Rattle.std.proofs.lemmas.List.Folds.{list_all-append}
 use Rattle.std.proofs.lemmas.Slice.Eq.{bytes_eq-Decides}
 use Rattle.pylexeme.specs.declared.kinds.Exact.TheVariants.{Star, Dot, Ellipsis}
 use Rattle.pylexeme.specs.Operators.{operators}
-use Rattle.pylex.specs.declared.kinds.Kind.TheVariants as kinds
+use Rattle.pylex.specs.declared.kind.Kind.TheVariants as kinds
 use Rattle.pytoken.specs.declared.keywords.Keyword.{Keyword}
 use Rattle.pytoken.specs.declared.keywords.Keyword.TheVariants as Key
 use Rattle.pynode.specs.Trees.{Identifier, Alias}
@@ -17,9 +18,9 @@ use Rattle.pytoken.specs.Laws.{IsProper}
 use Rattle.pyspacing.specs.Spacing.{Piece, is_token, is_operator_kind, touches, stay_apart, are_two_points, begins_operator, all_apart, are_readable}
 use Rattle.pyspacing.specs.Tokens.{closes_all}
 use Rattle.pyspacing.specs.Inner.Edges.{fit, all_fit, are_neat, begins_by, ends_by}
-use Rattle.pyspacing.proofs.PieceFronts.{ArePieces}
-use Rattle.pyspacing.proofs.Runs.{AreScalar}
-use Rattle.pyspacing.proofs.Joins.{begins_both, neat_apart, Balanced, balanced_both, balanced_closes}
+use Rattle.pyspacing.proofs.LexemeFronts.PieceFronts.{ArePieces}
+use Rattle.pyspacing.proofs.Listings.Runs.{AreScalar}
+use Rattle.pyspacing.proofs.TokenLists.Joins.{begins_both, neat_apart, Balanced, balanced_both, balanced_closes}
 use Rattle.pywritten.specs.Written.{free, word, tight, listed}
 use Rattle.pywritten.specs.Terminals.{terminal}
 use Rattle.pywritten.specs.Pieces.{piece}

@@ -1,4 +1,5 @@
--- Carries: the laws of pieces. On: what the forms of lines of tokens give can be written, and what is written is read back.
+-- Carries: the laws of pieces. On: what the forms of lines of tokens give can be written, and what
+-- is written is read back.
 use Rattle.std.proofs.Common.{◌≡◌, ℕ, zero, suc, ◌<◌, ◌==◌, Bool, true, false, List, [], ◌∷◌, ◌++◌, Option, Some, None, refl, sym, ap, subst, arith}
 use Rattle.std.specs.List.{list_all}
 use Rattle.std.proofs.lemmas.Bool.{and_parts, eqb-true}
@@ -7,7 +8,7 @@ use Rattle.unicode_ident.proofs.IdentLemmas.{is_xid_continue-ascii}
 use Rattle.pylexeme.specs.declared.kinds.Exact.TheVariants as Sign
 use Rattle.pylexeme.specs.Chars.{starts_name}
 use Rattle.pylexeme.specs.Lexemes.{is_name}
-use Rattle.pylexeme.proofs.Classes.{start_continues}
+use Rattle.pylexeme.proofs.Lexemes.Classes.{start_continues}
 use Rattle.pynode.specs.declared.profiles.Profile.{Profile}
 use Rattle.pynode.specs.declared.operators.Context.TheVariants.{Load, Store, Del}
 use Rattle.pytoken.specs.declared.keywords.Keyword.TheVariants as Key

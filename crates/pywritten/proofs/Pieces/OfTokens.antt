@@ -10,8 +10,8 @@ use Rattle.std.proofs.lemmas.List.Elements.{All-nil, All-cons}
 use Rattle.unicode_normalization.specs.Forms.{nfkc}
 use Rattle.pylexeme.specs.declared.kinds.Exact.{Exact}
 use Rattle.pylexeme.specs.Operators.{exact_of}
-use Rattle.pylex.specs.declared.kinds.Kind.{Kind}
-use Rattle.pylex.specs.declared.kinds.Kind.TheVariants as kinds
+use Rattle.pylex.specs.declared.kind.Kind.{Kind}
+use Rattle.pylex.specs.declared.kind.Kind.TheVariants as kinds
 use Rattle.pynode.specs.Points.{IsPoint}
 use Rattle.pynode.specs.Values
 use Rattle.pytoken.specs.declared.keywords.Keyword.{Keyword}

@@ -1,4 +1,5 @@
--- Carries: the laws of pieces. On: the pieces of an expression are told apart, close their brackets, and are read as its terminals.
+-- Carries: the laws of pieces. On: the pieces of an expression are told apart, close their
+-- brackets, and are read as its terminals.
 use Rattle.std.proofs.Common.{◌≡◌, Bool, true, false, List, [], ◌∷◌, Option, Some, None}
 use Rattle.pylexeme.specs.declared.kinds.Exact.TheVariants.{Colon, Star, Equal, DoubleStar}
 use Rattle.pytoken.specs.declared.keywords.Keyword.TheVariants as Key

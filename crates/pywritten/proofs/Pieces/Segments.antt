@@ -1,4 +1,5 @@
--- Carries: the laws of pieces. On: pieces with the terminals that they are read as: told apart, with brackets closed, and how lists of them are joined.
+-- Carries: the laws of pieces. On: pieces with the terminals that they are read as: told apart,
+-- with brackets closed, and how lists of them are joined.
 use Rattle.std.proofs.Common.{◌≡◌, Bool, true, false, List, [], ◌∷◌, ◌++◌, refl, append-nil}
 use Rattle.std.specs.Prelude.{cond}
 use Rattle.pylexeme.specs.declared.kinds.Exact.{Exact}
@@ -14,9 +15,9 @@ use Rattle.pywritten.specs.Terminals.{terminal}
 use Rattle.pywritten.specs.Pieces.{piece}
 use Rattle.pywritten.specs.Laws.{Give, give_none, give}
 use Rattle.pylexeme.specs.Operators.{exact_of, operators}
-use Rattle.pyspacing.proofs.Joins.{Balanced, balanced_none, balanced_one, balanced_both, balanced_within}
-use Rattle.pyspacing.proofs.Forms.{Written}
-use Rattle.pyspacing.proofs.Forms as Form
+use Rattle.pyspacing.proofs.TokenLists.Joins.{Balanced, balanced_none, balanced_one, balanced_both, balanced_within}
+use Rattle.pyspacing.proofs.TokenLists.Forms.{Written}
+use Rattle.pyspacing.proofs.TokenLists.Forms as Form
 use Rattle.pywritten.proofs.Pieces.Sorts.{is_like, within, suit, sorts_fit, starts_plain, starts_part, ends_plain, ends_comma, ends_part, starts, ends, starts_more, ends_more, more_item, more_part, more_comma, more_colon}
 use Rattle.pywritten.proofs.Pieces.Fair.{Fair, fair_sign, is_bracket, opens_none, closes_none}
 
@@ -90,7 +91,8 @@ pub within_brackets : {a b c d e f : List Piece} {xs : List Piece} {ts : List Te
 within_brackets o s h i j k x nothing z p q r = record { segment = chain x z r; balanced = balanced_within (piece (Op o) h true) (piece (Op s) true false) [] i j k balanced_none }
 within_brackets {xs = xs} o s h i j k x (some y) z p q r = record { segment = chain x (chain y.segment z q) p; balanced = balanced_within (piece (Op o) h true) (piece (Op s) true false) xs i j k y.balanced }
 
--- the three kinds; groups and displays begin an expression, a call's and a subscript's touch what stands before them
+-- the three kinds; groups and displays begin an expression, a call's and a subscript's
+-- touch what stands before them
 pub group : {xs : List Piece} {ts : List Terminal} → Perhaps starts_part ends_part xs ts → Closed starts_plain ends_plain (enclosed piece (leading piece LPar) RPar xs) (enclosed terminal (leading terminal LPar) RPar ts)
 unfolding exact_of operators
 group x = within_brackets LPar RPar false refl refl refl (one starts_plain (leading piece LPar ∷ []) (Op LPar) false true (fair_sign LPar) refl refl) x (one (trailing piece RPar ∷ []) ends_plain (Op RPar) true false (fair_sign RPar) refl refl) refl refl refl

@@ -1,4 +1,5 @@
--- Carries: the laws of pieces. On: sets of pieces that stand for all that an expression begins or ends with, and which of them may be neighbours.
+-- Carries: the laws of pieces. On: sets of pieces that stand for all that an expression begins or
+-- ends with, and which of them may be neighbours.
 use Rattle.std.proofs.Common.{◌≡◌, Bool, true, false, not, ◌&&◌, ◌||◌, List, [], ◌∷◌, ◌++◌, take, refl, ⊎_elim, if◌then◌else◌}
 use Rattle.std.specs.Prelude.{codes}
 use Rattle.std.specs.List.{list_all, list_any}
@@ -11,7 +12,7 @@ use Rattle.pytoken.specs.Terminals.{Op}
 use Rattle.pyspacing.specs.Spacing.{Piece, is_number_kind, is_operator_kind, is_token, touches, begins_operator, stay_apart}
 use Rattle.pywritten.specs.Written.{free, leading, trailing, tight}
 use Rattle.pywritten.specs.Pieces.{piece}
-use Rattle.pylex.specs.declared.kinds.Kind.TheVariants as kinds
+use Rattle.pylex.specs.declared.kind.Kind.TheVariants as kinds
 use Rattle.std.proofs.lemmas.Bool.{and_parts, or_cases, cases_Bool}
 use Rattle.pyspacing.specs.Inner.Edges.{fit}
 use Rattle.pywritten.proofs.Pieces.Apart.{plain_head}
@@ -24,7 +25,8 @@ abbrev pub same : Bool → Bool → Bool
 same true b = b
 same false b = not b
 
--- A piece is of the sort of another: the same sign, or a number, or neither of the two; and it is as close to its neighbours.
+-- A piece is of the sort of another: the same sign, or a number, or neither of the two; and it is
+-- as close to its neighbours.
 abbrev pub like : Piece → Piece → Bool
 like x p = same (is_operator_kind x.kind) (is_operator_kind p.kind) && (same (is_number_kind x.kind) (is_number_kind p.kind) && (same x.before p.before && (same x.behind p.behind && (not (is_operator_kind x.kind) || bytes_eq p.text x.text))))
 

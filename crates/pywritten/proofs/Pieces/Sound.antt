@@ -1,4 +1,5 @@
--- Carries: the laws of pieces. On: trees whose names and constants can be written, and whose stars stand only where they may.
+-- Carries: the laws of pieces. On: trees whose names and constants can be written, and whose stars
+-- stand only where they may.
 use Rattle.std.proofs.Common.{◌≡◌, Bool, true, false, None, Some}
 use Rattle.pynode.specs.Trees
 use Rattle.pynode.specs.Trees.{Expr, Exprs, no_exprs, an_expr, OptionalExpr, absent, present, OptionalExprs, no_optional, an_optional, Comprehensions, no_comprehension, a_comprehension, Keywords, no_keyword, a_keyword, arg, Args, no_arg, an_arg, OptionalArg, absent_arg, present_arg, Arguments, arguments}

@@ -1,7 +1,7 @@
 use Rattle.std.proofs.Common.{◌≡◌, ◌++◌, ap, codes, inl}
 use Rattle.std.specs.List.{concat}
 use Rattle.std.proofs.lemmas.Result.{err_from_is_err_and}
-use Rattle.pysource.proofs.ByteLemmas.{Appends-refl}
+use Rattle.pysource.proofs.TakenBytes.ByteLemmas.{Appends-refl}
 use Rattle.pynode.specs.TreeOf.{module_of}
 use Rattle.pycommand.specs.Dumps.{dump_output}
 use Rattle.pycommand.specs.Runs.{in_pieces}

@@ -1,6 +1,6 @@
 use Rattle.std.proofs.Common.{arith}
 use Rattle.pynode.specs.TreeOf.{boxed_of}
-use Rattle.pyexpr.proofs.PairSteps.{put_entries, put_height, put_same}
+use Rattle.pyexpr.proofs.Lists.PairSteps.{put_entries, put_height, put_same}
 use Rattle.pyexpr.proofs.braces.put_pair.Goals as goal
 
 pub invariant_of-result : goal.invariant_of-result

@@ -1,5 +1,5 @@
 use Rattle.std.proofs.Common.{refl}
-use Rattle.pyexpr.proofs.Signs.{one_sign}
+use Rattle.pyexpr.proofs.Places.Signs.{one_sign}
 use Rattle.pyexpr.proofs.chains.compared_at.Goals as goal
 
 pub returns-in-Some : goal.returns-in-Some

@@ -1,5 +1,5 @@
 use Rattle.std.proofs.Common.{arith}
-use Rattle.pyexpr.proofs.ClauseParts.{clause_is, clause_height}
+use Rattle.pyexpr.proofs.ForClauses.ClauseParts.{clause_is, clause_height}
 use Rattle.pyexpr.proofs.comprehensions.clause_of.Goals as goal
 
 pub invariant_of-result : goal.invariant_of-result

@@ -6,8 +6,8 @@ use Rattle.pynode.specs.declared.operators.Context.TheVariants.{Del}
 use Rattle.pynode.specs.TreeOf.{tree_of}
 use Rattle.pygrammar.specs.Targets.{all_deleted, deleted}
 use Rattle.pynode.proofs.Callers.ExprShapes.{attribute_tree, subscript_tree, name_tree}
-use Rattle.pyexpr.proofs.TargetShapes.{not_deleted}
-use Rattle.pyexpr.proofs.Changes.{list_changed, tuple_changed, refilled, one_fails, all_changed}
+use Rattle.pyexpr.proofs.Stores.TargetShapes.{not_deleted}
+use Rattle.pyexpr.proofs.Stores.Changes.{list_changed, tuple_changed, refilled, one_fails, all_changed}
 use Rattle.pyexpr.proofs.deletions.+deletions.Goals as goal
 
 pub delete-returns-in-Name : goal.delete-returns-in-Name

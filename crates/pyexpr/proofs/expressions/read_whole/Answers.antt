@@ -1,6 +1,6 @@
 use Rattle.std.proofs.Common.{arith}
 use Rattle.pynode.specs.TreeOf.{tree_of}
-use Rattle.pyexpr.proofs.Wholes.{whole_high}
+use Rattle.pyexpr.proofs.Reader.Wholes.{whole_high}
 use Rattle.pyexpr.proofs.expressions.read_whole.Goals as goal
 
 pub returns-then-read-gt-MOST_HEIGHT : goal.returns-then-read-gt-MOST_HEIGHT

@@ -1,4 +1,4 @@
-use Rattle.pyexpr.proofs.LevelSteps.{value_yield}
+use Rattle.pyexpr.proofs.Reader.LevelSteps.{value_yield}
 use Rattle.pyexpr.proofs.levels.read_value.Goals as goal
 
 pub returns-then-is_word : goal.returns-then-is_word

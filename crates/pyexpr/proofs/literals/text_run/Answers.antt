@@ -2,7 +2,7 @@ use Rattle.std.proofs.Common.{◌+◌, ◌∙◌, ap, arith}
 use Rattle.pynode.specs.Values as values
 use Rattle.pyexpr.specs.Inner.Runs.{run}
 use Rattle.pyexpr.specs.Views.{seen}
-use Rattle.pyexpr.proofs.Runs.{literal_front}
+use Rattle.pyexpr.proofs.Places.Runs.{literal_front}
 use Rattle.pyexpr.proofs.literals.text_run.Goals as goal
 
 pub loop-more-preserved : goal.loop-more-preserved

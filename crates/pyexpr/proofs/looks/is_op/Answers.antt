@@ -1,4 +1,4 @@
-use Rattle.pyexpr.proofs.Stands.{op_stands}
+use Rattle.pyexpr.proofs.Places.Stands.{op_stands}
 use Rattle.pyexpr.proofs.looks.is_op.Goals as goal
 
 pub returns-in-Some : goal.returns-in-Some

@@ -1,4 +1,4 @@
-use Rattle.pyexpr.proofs.Stands.{word_stands}
+use Rattle.pyexpr.proofs.Places.Stands.{word_stands}
 use Rattle.pyexpr.proofs.looks.is_word.Goals as goal
 
 pub returns-in-Some : goal.returns-in-Some

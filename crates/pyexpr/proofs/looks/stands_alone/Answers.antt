@@ -1,4 +1,4 @@
-use Rattle.pyexpr.proofs.AloneSteps.{alone_with}
+use Rattle.pyexpr.proofs.Reader.AloneSteps.{alone_with}
 use Rattle.pyexpr.proofs.looks.stands_alone.Goals as goal
 
 pub returns-then-is_atom : goal.returns-then-is_atom

@@ -1,4 +1,4 @@
-use Rattle.pyexpr.proofs.FormalNodes.{node_is}
+use Rattle.pyexpr.proofs.FormalParameters.FormalNodes.{node_is}
 use Rattle.pyexpr.proofs.parameters.node_of.Goals as goal
 
 pub returns : goal.returns

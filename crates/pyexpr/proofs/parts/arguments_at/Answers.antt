@@ -1,5 +1,5 @@
 use Rattle.std.proofs.Common.{rules}
-use Rattle.pyexpr.proofs.PartSteps.{arguments_failed, arguments_found, arguments_wrong}
+use Rattle.pyexpr.proofs.Reader.PartSteps.{arguments_failed, arguments_found, arguments_wrong}
 use Rattle.pyexpr.proofs.parts.arguments_at.Goals as goal
 
 pub returns-in_err-actual : goal.returns-in_err-actual

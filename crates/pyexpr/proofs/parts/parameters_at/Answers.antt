@@ -1,6 +1,6 @@
 use Rattle.std.proofs.Common.{rules}
-use Rattle.pyexpr.proofs.ParameterSteps.{signature_height}
-use Rattle.pyexpr.proofs.PartSteps.{parameters_failed, parameters_found, parameters_wrong}
+use Rattle.pyexpr.proofs.FormalParameters.ParameterSteps.{signature_height}
+use Rattle.pyexpr.proofs.Reader.PartSteps.{parameters_failed, parameters_found, parameters_wrong}
 use Rattle.pyexpr.proofs.parts.parameters_at.Goals as goal
 
 pub invariant_of-result : goal.invariant_of-result

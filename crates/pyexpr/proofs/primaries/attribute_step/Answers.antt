@@ -1,6 +1,6 @@
 use Rattle.std.proofs.Common.{◌+◌}
 use Rattle.pynode.specs.TreeOf.{tree_of}
-use Rattle.pyexpr.proofs.Trails.{attribute_made}
+use Rattle.pyexpr.proofs.Reader.Trails.{attribute_made}
 use Rattle.pyexpr.proofs.primaries.attribute_step.Goals as goal
 
 pub returns-in-Some : goal.returns-in-Some

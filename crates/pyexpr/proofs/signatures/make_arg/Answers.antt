@@ -1,4 +1,4 @@
-use Rattle.pyexpr.proofs.FormalNodes.{arg_is}
+use Rattle.pyexpr.proofs.FormalParameters.FormalNodes.{arg_is}
 use Rattle.pyexpr.proofs.signatures.make_arg.Goals as goal
 
 pub returns : goal.returns

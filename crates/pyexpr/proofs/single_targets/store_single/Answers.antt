@@ -4,7 +4,7 @@ use Rattle.pynode.specs.declared.operators.Context.TheVariants.{Store}
 use Rattle.pynode.specs.TreeOf.{tree_of}
 use Rattle.pygrammar.specs.Targets.{single_stored}
 use Rattle.pynode.proofs.Callers.ExprShapes.{attribute_tree, subscript_tree, name_tree}
-use Rattle.pyexpr.proofs.TargetShapes.{not_single}
+use Rattle.pyexpr.proofs.Stores.TargetShapes.{not_single}
 use Rattle.pyexpr.proofs.single_targets.store_single.Goals as goal
 
 pub returns-in-Name : goal.returns-in-Name

@@ -8,9 +8,9 @@ use Rattle.pynode.specs.TreeOf.{tree_of}
 use Rattle.pygrammar.specs.Targets.{all_stored, stored}
 use Rattle.pynode.proofs.Callers.ExprShapes.{attribute_tree, subscript_tree, name_tree}
 use Rattle.pyexpr.specs.Inner.Answers.{is_starred}
-use Rattle.pyexpr.proofs.TargetShapes.{not_stored}
-use Rattle.pyexpr.proofs.Changes.{list_changed, tuple_changed, refilled, one_fails, all_changed}
-use Rattle.pyexpr.proofs.TargetSteps.{star_changed, star_refused}
+use Rattle.pyexpr.proofs.Stores.TargetShapes.{not_stored}
+use Rattle.pyexpr.proofs.Stores.Changes.{list_changed, tuple_changed, refilled, one_fails, all_changed}
+use Rattle.pyexpr.proofs.Stores.TargetSteps.{star_changed, star_refused}
 use Rattle.pyexpr.proofs.targets.+targets.Goals as goal
 
 pub store-returns-in-Name : goal.store-returns-in-Name

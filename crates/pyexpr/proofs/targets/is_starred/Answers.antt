@@ -1,6 +1,6 @@
 use Rattle.std.proofs.Common.{refl, sym}
 use Rattle.pynode.proofs.Callers.ExprShapes.{starred_tree}
-use Rattle.pyexpr.proofs.TargetShapes.{not_starred}
+use Rattle.pyexpr.proofs.Stores.TargetShapes.{not_starred}
 use Rattle.pyexpr.proofs.targets.is_starred.Goals as goal
 
 pub returns-in-Starred : goal.returns-in-Starred

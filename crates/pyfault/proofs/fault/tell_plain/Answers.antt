@@ -1,7 +1,7 @@
 use Rattle.std.proofs.Common.{◌≡◌, ◌++◌, ◌+◌, [], ◌∙◌, codes, refl, arith}
 use Rattle.std.specs.Io.KnownBytes.{Appends}
 use Rattle.pysource.specs.Bytes.{TakesFront}
-use Rattle.pysource.proofs.ByteLemmas.{Appends-append, Appends-refl}
+use Rattle.pysource.proofs.TakenBytes.ByteLemmas.{Appends-append, Appends-refl}
 use Rattle.pyfault.specs.Faults.{text_of}
 use Rattle.pyfault.specs.declared.fault.FaultCode.TheVariants.{Run}
 use Rattle.pyfault.proofs.TellLemmas.{tells_cut, tells_last}

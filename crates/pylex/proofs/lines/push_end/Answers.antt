@@ -6,7 +6,7 @@ use Rattle.std.proofs.lemmas.List.{append_assoc}
 use Rattle.std.proofs.lemmas.Result.{on_ok_weaker}
 use Rattle.pysource.specs.Reprs.{repr_text}
 use Rattle.pylex.specs.ListingLines.{filled}
-use Rattle.pylex.proofs.LinesLemmas.{pushed_whole}
+use Rattle.pylex.proofs.Texts.LinesLemmas.{pushed_whole}
 use Rattle.pylex.proofs.lines.push_end.Goals as goal
 
 pub returns-clause-ok : goal.returns-clause-ok

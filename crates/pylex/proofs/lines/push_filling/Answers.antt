@@ -1,6 +1,6 @@
 use Rattle.std.proofs.Common.{rules, ◌≡◌, ◌+◌, ◌-◌, ◌++◌, length, replicate, ap, ◌∙◌, arith, length-append}
 use Rattle.std.specs.String.{string_bytes}
-use Rattle.pylex.proofs.LinesLemmas.{blank_at, cut_filling}
+use Rattle.pylex.proofs.Texts.LinesLemmas.{blank_at, cut_filling}
 use Rattle.pylex.proofs.lines.push_filling.Goals as goal
 
 pub truncate-requires : goal.truncate-requires

@@ -2,7 +2,7 @@ use Rattle.std.proofs.Common.{◌++◌, sym, subst, ap, ◌∙◌}
 use Rattle.std.specs.Str.{IsAscii}
 use Rattle.std.specs.String.{string_bytes}
 use Rattle.std.proofs.lemmas.Result.{on_ok_weaker}
-use Rattle.pylex.proofs.LinesLemmas.{short_field, filled_plain_ascii}
+use Rattle.pylex.proofs.Texts.LinesLemmas.{short_field, filled_plain_ascii}
 use Rattle.pylex.proofs.lines.push_short.Goals as goal
 
 pub push_ascii-requires : goal.push_ascii-requires

@@ -3,7 +3,7 @@ use Rattle.std.specs.Str.{chars}
 use Rattle.std.specs.String.{string_bytes}
 use Rattle.std.proofs.lemmas.Result.{IfOk-weaker}
 use Rattle.pysource.specs.Reprs.{repr_text}
-use Rattle.pylex.proofs.LinesLemmas.{field_filled, behind}
+use Rattle.pylex.proofs.Texts.LinesLemmas.{field_filled, behind}
 use Rattle.pylex.proofs.lines.push_text.Goals as goal
 
 pub returns-clause-ok : goal.returns-clause-ok

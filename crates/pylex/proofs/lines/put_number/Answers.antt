@@ -1,7 +1,7 @@
 use Rattle.std.proofs.Common.{◌∷◌, ◌+◌, ◌++◌, ℕ, List, length, drop, ap, sym, ◌∙◌, arith, rules}
 use Rattle.std.specs.Prelude.{◌/◌}
 use Rattle.std.proofs.lemmas.Fmt.{length-decimal-le}
-use Rattle.pylex.proofs.LinesLemmas.{one_digit, two_digits}
+use Rattle.pylex.proofs.Texts.LinesLemmas.{one_digit, two_digits}
 use Rattle.pylex.proofs.lines.put_number.Goals as goal
 
 pub write_digits-requires : goal.write_digits-requires

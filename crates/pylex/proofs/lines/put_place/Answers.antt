@@ -1,6 +1,6 @@
 use Rattle.std.proofs.Common.{◌++◌, ◌∷◌, drop, ap, ◌∙◌, arith}
 use Rattle.std.specs.Prelude.{decimal}
-use Rattle.pylex.proofs.LinesLemmas.{place_front, place_length}
+use Rattle.pylex.proofs.Texts.LinesLemmas.{place_front, place_length}
 use Rattle.pylex.proofs.lines.put_place.Goals as goal
 
 pub returns-clause-start : goal.returns-clause-start

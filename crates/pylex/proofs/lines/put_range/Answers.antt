@@ -1,6 +1,6 @@
 use Rattle.std.proofs.Common.{◌++◌, ◌∷◌, drop, ap, ◌∙◌}
 use Rattle.pylex.specs.ListingLines.{shown_place}
-use Rattle.pylex.proofs.LinesLemmas.{range_front}
+use Rattle.pylex.proofs.Texts.LinesLemmas.{range_front}
 use Rattle.pylex.proofs.lines.put_range.Goals as goal
 
 pub returns-clause-written : goal.returns-clause-written

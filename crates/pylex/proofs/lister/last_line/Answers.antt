@@ -1,4 +1,4 @@
-use Rattle.pylex.proofs.LastLines.{line_behind, line_alone}
+use Rattle.pylex.proofs.Texts.LastLines.{line_behind, line_alone}
 use Rattle.pylex.proofs.lister.last_line.Goals as goal
 
 pub returns-in-Some-clause-line : goal.returns-in-Some-clause-line

@@ -1,8 +1,8 @@
 use Rattle.std.proofs.Common.{sym, ◌∙◌, arith}
 use Rattle.std.specs.Str.{chars}
 use Rattle.std.specs.Str.Iter.{chars_rest}
-use Rattle.pylex.proofs.Walking.{Past, past, no_chars}
-use Rattle.pylex.proofs.MarginLemmas.{wider, wider_by_one, wide, wide_by_one, wide_at_end, wide_by_one_at_end, both}
+use Rattle.pylex.proofs.MachineLaws.Walking.{Past, past, no_chars}
+use Rattle.pylex.proofs.Levels.MarginLemmas.{wider, wider_by_one, wide, wide_by_one, wide_at_end, wide_by_one_at_end, both}
 use Rattle.pylex.proofs.measures.widths_in.Goals as goal
 
 pub returns-then-not-is_blank : goal.returns-then-not-is_blank

@@ -1,4 +1,4 @@
-use Rattle.pylexeme.proofs.Union.{blanks_take}
+use Rattle.pylexeme.proofs.Lexemes.Union.{blanks_take}
 use Rattle.pylexeme.proofs.lexeme.blanks.Goals as goal
 
 pub returns : goal.returns

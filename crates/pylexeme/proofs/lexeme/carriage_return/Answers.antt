@@ -1,5 +1,5 @@
 use Rattle.std.proofs.Common.{sym}
-use Rattle.pylexeme.proofs.Union.{return_takes, both_take}
+use Rattle.pylexeme.proofs.Lexemes.Union.{return_takes, both_take}
 use Rattle.pylexeme.proofs.lexeme.carriage_return.Goals as goal
 
 pub returns-then-not-has_next : goal.returns-then-not-has_next

@@ -1,4 +1,4 @@
-use Rattle.pylexeme.proofs.Union.{comment_takes}
+use Rattle.pylexeme.proofs.Lexemes.Union.{comment_takes}
 use Rattle.pylexeme.proofs.lexeme.comment.Goals as goal
 
 pub returns : goal.returns

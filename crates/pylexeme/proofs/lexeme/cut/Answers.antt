@@ -2,7 +2,7 @@ use Rattle.std.proofs.Common.{ap, ◌∙◌, Some, None, subst, ℕ, List, take,
 use Rattle.std.specs.Str.{chars}
 use Rattle.pylexeme.specs.Lexemes.{lexeme_len}
 use Rattle.pylexeme.specs.Cuts.{Takes}
-use Rattle.pylexeme.proofs.Cutting.{boundary, cuts_is, none_is}
+use Rattle.pylexeme.proofs.Lexemes.Cutting.{boundary, cuts_is, none_is}
 use Rattle.pylexeme.proofs.lexeme.cut.Goals as goal
 
 pub returns-in_err-class-clause-none : goal.returns-in_err-class-clause-none

@@ -1,5 +1,5 @@
 use Rattle.std.proofs.Common.{sym}
-use Rattle.pylexeme.proofs.Union.{feed_joins, both_join, slash_takes}
+use Rattle.pylexeme.proofs.Lexemes.Union.{feed_joins, both_join, slash_takes}
 use Rattle.pylexeme.proofs.lexeme.join.Goals as goal
 
 pub returns-then-has_next : goal.returns-then-has_next

@@ -1,6 +1,6 @@
 use Rattle.std.proofs.Common.{rules, sym, ◌∙◌, ◌||◌, ◌==◌}
-use Rattle.pylexeme.proofs.Prefixes.{opens_zero}
-use Rattle.pylexeme.proofs.Union.{nothing_at, begins_by, other_by, opens_none, number_takes}
+use Rattle.pylexeme.proofs.Strings.Prefixes.{opens_zero}
+use Rattle.pylexeme.proofs.Lexemes.Union.{nothing_at, begins_by, other_by, opens_none, number_takes}
 use Rattle.pylexeme.proofs.lexeme.lexeme.Goals as goal
 
 pub returns-in_err-c : goal.returns-in_err-c

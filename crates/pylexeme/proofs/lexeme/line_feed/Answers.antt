@@ -1,4 +1,4 @@
-use Rattle.pylexeme.proofs.Union.{feed_takes}
+use Rattle.pylexeme.proofs.Lexemes.Union.{feed_takes}
 use Rattle.pylexeme.proofs.lexeme.line_feed.Goals as goal
 
 pub returns : goal.returns

@@ -1,5 +1,5 @@
 use Rattle.std.proofs.Common.{refl}
-use Rattle.pylexeme.proofs.Union.{opens_by, string_takes, string_none, some_len, no_len}
+use Rattle.pylexeme.proofs.Lexemes.Union.{opens_by, string_takes, string_none, some_len, no_len}
 use Rattle.pylexeme.proofs.lexeme.literal.Goals as goal
 
 pub returns-then-string : goal.returns-then-string

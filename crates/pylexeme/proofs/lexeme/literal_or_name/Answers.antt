@@ -1,4 +1,4 @@
-use Rattle.pylexeme.proofs.Union.{prefix_starts}
+use Rattle.pylexeme.proofs.Lexemes.Union.{prefix_starts}
 use Rattle.pylexeme.proofs.lexeme.literal_or_name.Goals as goal
 
 pub name-requires-clause-start : goal.name-requires-clause-start

@@ -1,4 +1,4 @@
-use Rattle.pylexeme.proofs.Union.{name_takes}
+use Rattle.pylexeme.proofs.Lexemes.Union.{name_takes}
 use Rattle.pylexeme.proofs.lexeme.name.Goals as goal
 
 pub returns : goal.returns

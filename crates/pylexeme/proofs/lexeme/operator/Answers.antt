@@ -1,4 +1,4 @@
-use Rattle.pylexeme.proofs.Union.{operator_takes, operator_none}
+use Rattle.pylexeme.proofs.Lexemes.Union.{operator_takes, operator_none}
 use Rattle.pylexeme.proofs.lexeme.operator.Goals as goal
 
 pub returns-in_err-exact : goal.returns-in_err-exact

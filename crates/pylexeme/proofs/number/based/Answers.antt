@@ -1,5 +1,5 @@
 use Rattle.std.proofs.Common.{sym, refl, arith, drop}
-use Rattle.pylexeme.proofs.Taking.{took_none, took_some, based_none, based_some}
+use Rattle.pylexeme.proofs.Fronts.Taking.{took_none, took_some, based_none, based_some}
 use Rattle.pylexeme.proofs.number.based.Goals as goal
 
 pub returns-then-not-has_digits : goal.returns-then-not-has_digits

@@ -1,5 +1,5 @@
 use Rattle.std.proofs.Common.{sym, refl, arith}
-use Rattle.pylexeme.proofs.Taking.{took_none, took_some, exponent_none, exponent_digits, exponent_unsigned, exponent_empty, exponent_signed}
+use Rattle.pylexeme.proofs.Fronts.Taking.{took_none, took_some, exponent_none, exponent_digits, exponent_unsigned, exponent_empty, exponent_signed}
 use Rattle.pylexeme.proofs.number.exponent.Goals as goal
 
 pub returns-then-not-has_next : goal.returns-then-not-has_next

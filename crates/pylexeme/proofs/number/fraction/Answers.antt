@@ -1,6 +1,6 @@
 use Rattle.std.proofs.Common.{sym, ◌∙◌, ap, ◌+◌}
 use Rattle.pylexeme.specs.Lengths.{point_len, exponent_len}
-use Rattle.pylexeme.proofs.Taking.{took_then, took_only, fraction_is}
+use Rattle.pylexeme.proofs.Fronts.Taking.{took_then, took_only, fraction_is}
 use Rattle.pylexeme.proofs.number.fraction.Goals as goal
 
 pub returns-then-point : goal.returns-then-point

@@ -1,5 +1,5 @@
 use Rattle.std.proofs.Common.{sym, arith}
-use Rattle.pylexeme.proofs.Taking.{took_none, took_some, j_none, j_some}
+use Rattle.pylexeme.proofs.Fronts.Taking.{took_none, took_some, j_none, j_some}
 use Rattle.pylexeme.proofs.number.letter_j.Goals as goal
 
 pub returns-then-not-has_next : goal.returns-then-not-has_next

@@ -1,5 +1,5 @@
 use Rattle.std.proofs.Common.{sym, ◌∙◌, ap, drop, ℕ}
-use Rattle.pylexeme.proofs.NumberBest.{longest_number, longest_more}
+use Rattle.pylexeme.proofs.Numbers.NumberBest.{longest_number, longest_more}
 use Rattle.pylexeme.proofs.number.number.Goals as goal
 
 pub returns-clause-some : goal.returns-clause-some

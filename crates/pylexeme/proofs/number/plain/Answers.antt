@@ -1,5 +1,5 @@
 use Rattle.std.proofs.Common.{sym}
-use Rattle.pylexeme.proofs.Taking.{plain_tail, plain_other, plain_zeros}
+use Rattle.pylexeme.proofs.Fronts.Taking.{plain_tail, plain_other, plain_zeros}
 use Rattle.pylexeme.proofs.number.plain.Goals as goal
 
 pub returns-then-tail : goal.returns-then-tail

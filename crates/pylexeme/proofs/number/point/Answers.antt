@@ -1,5 +1,5 @@
 use Rattle.std.proofs.Common.{sym, refl, arith}
-use Rattle.pylexeme.proofs.Taking.{took_none, took_some, point_none, point_alone, point_digits}
+use Rattle.pylexeme.proofs.Fronts.Taking.{took_none, took_some, point_none, point_alone, point_digits}
 use Rattle.pylexeme.proofs.number.point.Goals as goal
 
 pub returns-then-not-has_next : goal.returns-then-not-has_next

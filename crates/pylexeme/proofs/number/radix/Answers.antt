@@ -1,5 +1,5 @@
 use Rattle.std.proofs.Common.{sym}
-use Rattle.pylexeme.proofs.Taking.{took_none, took_is, radix_none, radix_x, radix_o, radix_b, radix_other}
+use Rattle.pylexeme.proofs.Fronts.Taking.{took_none, took_is, radix_none, radix_x, radix_o, radix_b, radix_other}
 use Rattle.pylexeme.proofs.number.radix.Goals as goal
 
 pub returns-then-not-has_next : goal.returns-then-not-has_next

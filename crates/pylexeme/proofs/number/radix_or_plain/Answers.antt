@@ -1,4 +1,4 @@
-use Rattle.pylexeme.proofs.Taking.{number_radix, number_plain}
+use Rattle.pylexeme.proofs.Fronts.Taking.{number_radix, number_plain}
 use Rattle.pylexeme.proofs.number.radix_or_plain.Goals as goal
 
 pub returns-then-radix : goal.returns-then-radix

@@ -1,6 +1,6 @@
 use Rattle.std.proofs.Common.{sym, ◌∙◌, ap, ◌+◌}
 use Rattle.pylexeme.specs.Lengths.{fraction_len, j_len}
-use Rattle.pylexeme.proofs.Taking.{took_then, took_only, tail_is}
+use Rattle.pylexeme.proofs.Fronts.Taking.{took_then, took_only, tail_is}
 use Rattle.pylexeme.proofs.number.tail.Goals as goal
 
 pub returns-then-fraction : goal.returns-then-fraction

@@ -1,7 +1,7 @@
 use Rattle.std.proofs.Common.{◌∙◌, sym, ap}
 use Rattle.std.specs.Str.{chars}
 use Rattle.pylexeme.specs.Operators.{exact_of}
-use Rattle.pylexeme.proofs.OperatorLengths.{none_of, long_of, exact_three, exact_none}
+use Rattle.pylexeme.proofs.Lexemes.OperatorLengths.{none_of, long_of, exact_three, exact_none}
 use Rattle.pylexeme.proofs.operators.exact_of.Goals as goal
 
 pub returns-in_err-first : goal.returns-in_err-first

@@ -1,7 +1,7 @@
 use Rattle.std.proofs.Common.{◌≡◌, ◌∙◌, ◌∷◌, [], sym, ap, drop}
 use Rattle.std.specs.Prelude.{option_map}
-use Rattle.pylexeme.proofs.OperatorLengths.{none_of, one_of, two_of, three_of, none_at, one_at, two_at, three_at, pair_at_three}
-use Rattle.pylexeme.proofs.Seconds.{begun_by, alone_at}
+use Rattle.pylexeme.proofs.Lexemes.OperatorLengths.{none_of, one_of, two_of, three_of, none_at, one_at, two_at, three_at, pair_at_three}
+use Rattle.pylexeme.proofs.Lexemes.Seconds.{begun_by, alone_at}
 use Rattle.pylexeme.proofs.operators.longest_operator.Goals as goal
 
 pub returns-in_err-first : goal.returns-in_err-first

@@ -2,9 +2,9 @@ use Rattle.std.proofs.Common.{◌<◌, sym, ◌∙◌, ap, subst, length, ℕ, L
 use Rattle.pylexeme.specs.Strings.{quote_char}
 use Rattle.pylexeme.specs.Chars.{is_comment_part}
 use Rattle.pylexeme.specs.Lengths.{single_len}
-use Rattle.pylexeme.proofs.Units.{left_of, closed_found, closed_none, mark_is}
-use Rattle.pylexeme.proofs.Triples.{single_here, single_stop, single_step, unit_shorter}
-use Rattle.pylexeme.proofs.PlainRuns.{run_shorter, single_past}
+use Rattle.pylexeme.proofs.Strings.Units.{left_of, closed_found, closed_none, mark_is}
+use Rattle.pylexeme.proofs.Strings.Triples.{single_here, single_stop, single_step, unit_shorter}
+use Rattle.pylexeme.proofs.Strings.PlainRuns.{run_shorter, single_past}
 use Rattle.pylexeme.proofs.string.close_single.Goals as goal
 
 pub returns-then-has_quote : goal.returns-then-has_quote

@@ -1,7 +1,7 @@
 use Rattle.std.proofs.Common.{◌≡◌, length}
 use Rattle.pylexeme.specs.Strings.{quote_char}
 use Rattle.pylexeme.specs.Lengths.{single_len}
-use Rattle.pylexeme.proofs.Units.{left_of}
+use Rattle.pylexeme.proofs.Strings.Units.{left_of}
 use Rattle.pylexeme.proofs.string.close_single.Given as goal
 
 abbrev pub invariant-loop-quote : goal.invariant-loop-quote

@@ -1,9 +1,9 @@
 use Rattle.std.proofs.Common.{◌<◌, sym, ◌∙◌, ap, subst, length, ℕ, List, Some, true, arith}
 use Rattle.pylexeme.specs.Strings.{quote_char}
 use Rattle.pylexeme.specs.Lengths.{triple_len}
-use Rattle.pylexeme.proofs.Units.{left_of, closed_found, closed_none, mark_is}
-use Rattle.pylexeme.proofs.Triples.{triple_here, triple_stop, triple_step, unit_shorter}
-use Rattle.pylexeme.proofs.PlainRuns.{run_shorter, triple_past}
+use Rattle.pylexeme.proofs.Strings.Units.{left_of, closed_found, closed_none, mark_is}
+use Rattle.pylexeme.proofs.Strings.Triples.{triple_here, triple_stop, triple_step, unit_shorter}
+use Rattle.pylexeme.proofs.Strings.PlainRuns.{run_shorter, triple_past}
 use Rattle.pylexeme.proofs.string.close_triple.Goals as goal
 
 pub returns-then-has_three : goal.returns-then-has_three

@@ -2,9 +2,9 @@ use Rattle.std.proofs.Common.{◌<◌, sym, ◌∙◌, ap, subst, length, ℕ, L
 use Rattle.pylexeme.specs.Chars.{begins, is_comment_part}
 use Rattle.pylexeme.specs.Strings.{units, quote_char}
 use Rattle.pylexeme.specs.Lexemes.{ends_by_join}
-use Rattle.pylexeme.proofs.Units.{mark_is}
-use Rattle.pylexeme.proofs.Triples.{unit_shorter}
-use Rattle.pylexeme.proofs.OpenStrings.{join_last, join_step}
+use Rattle.pylexeme.proofs.Strings.Units.{mark_is}
+use Rattle.pylexeme.proofs.Strings.Triples.{unit_shorter}
+use Rattle.pylexeme.proofs.Strings.OpenStrings.{join_last, join_step}
 use Rattle.pylexeme.proofs.string.ends_by_join.Goals as goal
 
 pub returns-then-not-has_next-2 : goal.returns-then-not-has_next-2

@@ -1,6 +1,6 @@
 use Rattle.std.proofs.Common.{◌∙◌}
 use Rattle.std.specs.Str.{chars}
-use Rattle.pylexeme.proofs.OpenLiterals.{open_is}
+use Rattle.pylexeme.proofs.WholeLines.OpenLiterals.{open_is}
 use Rattle.pylexeme.proofs.string.is_open_string.Goals as goal
 
 pub returns : goal.returns

@@ -2,9 +2,9 @@ use Rattle.std.proofs.Common.{sym, ◌∙◌, ap, subst, ℕ, List}
 use Rattle.pylexeme.specs.Strings.{quote_char}
 use Rattle.pylexeme.specs.Lexemes.{is_open_string}
 use Rattle.pylexeme.specs.OpenLiterals.{IsOpenBy}
-use Rattle.pylexeme.proofs.StringBest.{which_mark}
-use Rattle.pylexeme.proofs.OpenStrings.{open_none}
-use Rattle.pylexeme.proofs.OpenLiterals.{opened, unopened}
+use Rattle.pylexeme.proofs.Strings.StringBest.{which_mark}
+use Rattle.pylexeme.proofs.Strings.OpenStrings.{open_none}
+use Rattle.pylexeme.proofs.WholeLines.OpenLiterals.{opened, unopened}
 use Rattle.pylexeme.proofs.string.open_literal.Goals as goal
 
 pub returns-in_default-clause-none : goal.returns-in_default-clause-none

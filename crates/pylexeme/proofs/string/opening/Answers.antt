@@ -1,5 +1,5 @@
 use Rattle.std.proofs.Common.{sym}
-use Rattle.pylexeme.proofs.Prefixes.{opens_zero, opens_one, opens_two, none_one, none_two, none_pair}
+use Rattle.pylexeme.proofs.Strings.Prefixes.{opens_zero, opens_one, opens_two, none_one, none_two, none_pair}
 use Rattle.pylexeme.proofs.string.opening.Goals as goal
 
 pub returns-then-has_next-clause-some : goal.returns-then-has_next-clause-some

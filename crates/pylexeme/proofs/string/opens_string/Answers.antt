@@ -1,6 +1,6 @@
 use Rattle.std.proofs.Common.{◌∙◌, ap}
 use Rattle.pylexeme.specs.Strings.{opens_string}
-use Rattle.pylexeme.proofs.OpenStrings.{opens_by}
+use Rattle.pylexeme.proofs.Strings.OpenStrings.{opens_by}
 use Rattle.pylexeme.proofs.string.opens_string.Goals as goal
 
 pub returns : goal.returns

@@ -1,6 +1,6 @@
-use Rattle.pylexeme.proofs.StringBest.{which_mark}
+use Rattle.pylexeme.proofs.Strings.StringBest.{which_mark}
 use Rattle.pylexeme.specs.Strings.{quote_char}
-use Rattle.pylexeme.proofs.StringLongest.{string_closed}
+use Rattle.pylexeme.proofs.Strings.StringLongest.{string_closed}
 use Rattle.pylexeme.proofs.string.prefix_and_quoted.Goals as goal
 
 pub returns : goal.returns

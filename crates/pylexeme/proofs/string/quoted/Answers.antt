@@ -1,6 +1,6 @@
 use Rattle.std.proofs.Common.{sym}
 use Rattle.pylexeme.specs.Strings.{quote_char}
-use Rattle.pylexeme.proofs.StringLongest.{quoted_triple, quoted_single}
+use Rattle.pylexeme.proofs.Strings.StringLongest.{quoted_triple, quoted_single}
 use Rattle.pylexeme.proofs.string.quoted.Goals as goal
 
 pub returns-then-has_three : goal.returns-then-has_three

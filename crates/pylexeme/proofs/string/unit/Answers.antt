@@ -1,5 +1,5 @@
 use Rattle.std.proofs.Common.{sym, ◌∙◌, ap, drop, ℕ}
-use Rattle.pylexeme.proofs.Triples.{unit_plain, unit_end, unit_two}
+use Rattle.pylexeme.proofs.Strings.Triples.{unit_plain, unit_end, unit_two}
 use Rattle.pylexeme.proofs.string.unit.Goals as goal
 
 pub returns-then-not-has_next : goal.returns-then-not-has_next

@@ -1,5 +1,5 @@
 use Rattle.std.proofs.Common.{◌<◌, ◌++◌, length, take, arith, length-append}
-use Rattle.pysource.proofs.ByteLemmas.{Consumes-append}
+use Rattle.pysource.proofs.TakenBytes.ByteLemmas.{Consumes-append}
 use Rattle.pysource.specs.Limits.{source_limit}
 use Rattle.pysource.proofs.bytes.read_all.Goals as goal
 

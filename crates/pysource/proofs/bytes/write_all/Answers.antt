@@ -1,6 +1,6 @@
 use Rattle.std.proofs.Common.{◌≡◌, drop, arith, length-drop}
 use Rattle.std.proofs.lemmas.Result.{err_from_is_err_and}
-use Rattle.pysource.proofs.ByteLemmas.{TakesFront-at, Keeps-Appends, Appends-more, write_failures-some, slice_from}
+use Rattle.pysource.proofs.TakenBytes.ByteLemmas.{TakesFront-at, Keeps-Appends, Appends-more, write_failures-some, slice_from}
 use Rattle.pysource.specs.declared.bytes.WriteFailed.{WriteFailed}
 use Rattle.pysource.proofs.bytes.write_all.Goals as goal
 

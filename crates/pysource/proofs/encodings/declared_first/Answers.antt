@@ -1,6 +1,6 @@
 use Rattle.std.proofs.Common.{◌≡◌, sym, ◌∙◌, ◌<◌, length, arith, ap, drop}
 use Rattle.pysource.specs.Cookies.{declared_here}
-use Rattle.pysource.proofs.CookiesLemmas.{declared_first_more, declared_first_at, declared_first_none, not_empty, empty}
+use Rattle.pysource.proofs.LineReading.CookiesLemmas.{declared_first_more, declared_first_at, declared_first_none, not_empty, empty}
 use Rattle.std.proofs.lemmas.List.{take_rest}
 use Rattle.pysource.proofs.encodings.declared_first.Goals as goal
 

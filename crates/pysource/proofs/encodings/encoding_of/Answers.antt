@@ -1,6 +1,6 @@
 use Rattle.std.proofs.Common.{sym, ◌∙◌, ◌≡◌, ◌<◌, ap, length, inl, inr, ◌⊎◌, true, false, Ok}
 use Rattle.pysource.specs.Cookies.{cookie_of, leads_on, has_mark, without_mark, named_by}
-use Rattle.pysource.proofs.CookiesLemmas.{second_counts, neither_counts, not_empty, empty}
+use Rattle.pysource.proofs.LineReading.CookiesLemmas.{second_counts, neither_counts, not_empty, empty}
 use Rattle.pysource.proofs.encodings.encoding_of.Goals as goal
 use Rattle.pysource.proofs.encodings.encoding_of.Goals.{then-leads_on+else-not-is_empty-2, else-leads_on}
 

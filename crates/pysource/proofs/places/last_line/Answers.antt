@@ -1,6 +1,6 @@
 use Rattle.std.proofs.Common.{arith, sym, ◌<◌, ◌∙◌, get_or}
 use Rattle.std.proofs.lemmas.Str.{IsCharBoundary-after_ascii}
-use Rattle.pysource.proofs.PlacesLemmas.{after_last_found, after_last_nowhere}
+use Rattle.pysource.proofs.Offsets.PlacesLemmas.{after_last_found, after_last_nowhere}
 use Rattle.pysource.proofs.places.last_line.Goals as goal
 
 pub range_from-requires : goal.range_from-requires

@@ -3,7 +3,7 @@ use Rattle.std.specs.List.{after_last}
 use Rattle.std.specs.Str.{chars}
 use Rattle.std.proofs.lemmas.Str.{chars_from_encodes, IsUtf8-take}
 use Rattle.pysource.specs.Places.{is_lf}
-use Rattle.pysource.proofs.CharPlaces.{place_by_bytes}
+use Rattle.pysource.proofs.Offsets.CharPlaces.{place_by_bytes}
 use Rattle.pysource.proofs.places.place_of.Goals as goal
 
 pub returns : goal.returns

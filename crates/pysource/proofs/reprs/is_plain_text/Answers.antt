@@ -2,7 +2,7 @@ use Rattle.std.proofs.Common.{◌≡◌, ◌∙◌, ap, length}
 use Rattle.std.specs.Prelude.{◌==◌}
 use Rattle.std.specs.List.{prefix_len}
 use Rattle.pysource.specs.Reprs.{is_plain}
-use Rattle.pysource.proofs.PushReprLemmas.{all_by_prefix}
+use Rattle.pysource.proofs.Printing.PushReprLemmas.{all_by_prefix}
 use Rattle.pysource.proofs.reprs.is_plain_text.Goals as goal
 
 pub returns : goal.returns

@@ -6,7 +6,7 @@ use Rattle.std.specs.String.{string_bytes}
 use Rattle.std.proofs.Transfers.{starts_with_of_append, starts_with_trans}
 use Rattle.std.proofs.lemmas.Str.{IsUtf8-past_char}
 use Rattle.pysource.specs.Reprs.{escaped, is_unprintable, quote_for}
-use Rattle.pysource.proofs.PushReprLemmas.{quote_for_chars, plain_pushed, character_pushed, closed}
+use Rattle.pysource.proofs.Printing.PushReprLemmas.{quote_for_chars, plain_pushed, character_pushed, closed}
 use Rattle.pysource.proofs.reprs.push_escaped.Goals as goal
 
 pub loop-characters-preserved : goal.loop-characters-preserved

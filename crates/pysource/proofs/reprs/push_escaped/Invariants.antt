@@ -5,7 +5,7 @@ use Rattle.std.specs.List.{flat_map}
 use Rattle.std.specs.Str.{chars, encode_utf8_all}
 use Rattle.std.specs.String.{string_bytes}
 use Rattle.pysource.specs.Reprs.{escaped, is_unprintable}
-use Rattle.pysource.proofs.PushReprLemmas.{inner}
+use Rattle.pysource.proofs.Printing.PushReprLemmas.{inner}
 use Rattle.pysource.proofs.reprs.push_escaped.Given as goal
 
 abbrev pub invariant-loop-characters : goal.invariant-loop-characters

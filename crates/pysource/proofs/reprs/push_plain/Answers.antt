@@ -1,7 +1,7 @@
 use Rattle.std.proofs.Common.{◌≡◌, ◌++◌, [], ◌∷◌, ap, sym, ◌∙◌, arith, ℕ, List}
 use Rattle.std.specs.String.{string_bytes}
 use Rattle.std.proofs.lemmas.List.{append_assoc}
-use Rattle.pysource.proofs.PushReprLemmas.{plain_repr}
+use Rattle.pysource.proofs.Printing.PushReprLemmas.{plain_repr}
 use Rattle.pysource.proofs.reprs.push_plain.Goals as goal
 
 pub returns-clause-ok : goal.returns-clause-ok

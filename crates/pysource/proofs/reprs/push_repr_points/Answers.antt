@@ -4,7 +4,7 @@ use Rattle.std.specs.Str.{encode_utf8_all}
 use Rattle.std.specs.String.{string_bytes}
 use Rattle.std.proofs.lemmas.List.{take_all}
 use Rattle.pysource.specs.Reprs.{escaped, is_unprintable}
-use Rattle.pysource.proofs.ReprsLemmas.{end_encoded}
+use Rattle.pysource.proofs.Printing.ReprsLemmas.{end_encoded}
 use Rattle.pysource.proofs.reprs.push_repr_points.Goals as goal
 
 pub returns-clause-ok : goal.returns-clause-ok

@@ -1,7 +1,7 @@
 use Rattle.std.proofs.Common.{◌≡◌, ◌∙◌, ap, take}
 use Rattle.std.specs.List.{prefix_len}
 use Rattle.pysource.specs.Reprs.{is_plain}
-use Rattle.pysource.proofs.PushReprLemmas.{plain_prefix, plain_boundary}
+use Rattle.pysource.proofs.Printing.PushReprLemmas.{plain_prefix, plain_boundary}
 use Rattle.pysource.proofs.reprs.split_plain.Goals as goal
 
 pub split_at-requires : goal.split_at-requires

@@ -1,6 +1,6 @@
 use Rattle.std.proofs.Common.{sym, ◌∙◌, ap, ℕ, List}
 use Rattle.pysource.specs.Sources.{nth_line}
-use Rattle.pysource.proofs.CutLemmas.{first_unless_found, first_if_found, nothing_left}
+use Rattle.pysource.proofs.FaultyLines.CutLemmas.{first_unless_found, first_if_found, nothing_left}
 use Rattle.pysource.proofs.sources.cut_line.Goals as goal
 
 pub returns-in-None-clause-first : goal.returns-in-None-clause-first

@@ -2,7 +2,7 @@ use Rattle.std.proofs.Common.{arith, sym, ◌≡◌, ◌∙◌, subst, take, tak
 use Rattle.std.proofs.lemmas.Str.{IsUtf8-take, IsCharBoundary-before_ascii}
 use Rattle.std.proofs.lemmas.List.{get_or-take, length-take}
 use Rattle.pysource.specs.Lines.{bad_at}
-use Rattle.pysource.proofs.LinesLemmas.{first_given_at, first_given_none}
+use Rattle.pysource.proofs.FaultyLines.LinesLemmas.{first_given_at, first_given_none}
 use Rattle.pysource.proofs.sources.first_bad.Goals as goal
 
 pub returns-then-lone-valid-clause-value : goal.returns-then-lone-valid-clause-value

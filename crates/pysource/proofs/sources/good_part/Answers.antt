@@ -5,8 +5,8 @@ use Rattle.std.proofs.lemmas.List.{length-take-le}
 use Rattle.pysource.specs.Places.{is_lf, place_after}
 use Rattle.pysource.specs.declared.places.Place.{Place}
 use Rattle.pysource.specs.declared.faults.LineFault.{LineFault}
-use Rattle.pysource.proofs.CharPlaces.{place_by_bytes}
-use Rattle.pysource.proofs.CutLemmas.{told_all, last_boundary}
+use Rattle.pysource.proofs.Offsets.CharPlaces.{place_by_bytes}
+use Rattle.pysource.proofs.FaultyLines.CutLemmas.{told_all, last_boundary}
 use Rattle.pysource.proofs.sources.good_part.Goals as goal
 
 pub range-requires-clause-end_boundary : goal.range-requires-clause-end_boundary

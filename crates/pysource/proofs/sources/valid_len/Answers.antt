@@ -1,7 +1,7 @@
 use Rattle.std.proofs.Common.{arith, sym, ℕ, subst, take, IsUtf8}
 use Rattle.std.proofs.lemmas.Str.{utf8_valid_len_le}
-use Rattle.pysource.proofs.LinesLemmas.{valid_front}
-use Rattle.pysource.proofs.BadLemmas.{ascii_front}
+use Rattle.pysource.proofs.FaultyLines.LinesLemmas.{valid_front}
+use Rattle.pysource.proofs.FaultyLines.BadLemmas.{ascii_front}
 use Rattle.pysource.proofs.sources.valid_len.Goals as goal
 
 pub returns-in-Utf8-clause-within : goal.returns-in-Utf8-clause-within

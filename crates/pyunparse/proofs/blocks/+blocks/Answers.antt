@@ -13,10 +13,10 @@ use Rattle.pyunparse.specs.Inner.Folds.{puts}
 use Rattle.pyunparse.specs.Inner.Writing.{behind}
 use Rattle.pynode.proofs.Callers.StmtShapes.{async_for_tree, async_function_def_tree, async_with_tree, class_def_tree, for_tree, function_def_tree, handler_tree, if_tree, try_star_tree, try_tree, while_tree, with_tree}
 use Rattle.pyunparse.specs.Inner.Lines.{Wrote, def_lines, one_handler}
-use Rattle.pyunparse.proofs.StatementLemmas.{not_compound, not_elif, not_one, one_if, one_other}
-use Rattle.pyunparse.proofs.LineLemmas.{all_lines, async_function_lines, block_wrote, class_lines, deeper, function_lines, header_block, if_lines, line_on, no_clause, some_clause, while_lines, wrote_none, wrote_then}
-use Rattle.pyunparse.proofs.HeightLemmas.{handler_height}
-use Rattle.pyunparse.proofs.MemberLemmas.{no_higher}
+use Rattle.pyunparse.proofs.Shapes.StatementLemmas.{not_compound, not_elif, not_one, one_if, one_other}
+use Rattle.pyunparse.proofs.Texts.LineLemmas.{all_lines, async_function_lines, block_wrote, class_lines, deeper, function_lines, header_block, if_lines, line_on, no_clause, some_clause, while_lines, wrote_none, wrote_then}
+use Rattle.pyunparse.proofs.Shapes.HeightLemmas.{handler_height}
+use Rattle.pyunparse.proofs.Sequences.MemberLemmas.{no_higher}
 use Rattle.pyunparse.proofs.blocks.+blocks.Goals as goal
 
 pub write_stmts-loop-s-preserved : goal.write_stmts-loop-s-preserved

@@ -1,6 +1,6 @@
 use Rattle.std.proofs.Common.{refl, sym}
 use Rattle.pynode.proofs.Callers.StmtShapes.{if_tree}
-use Rattle.pyunparse.proofs.StatementLemmas.{not_if}
+use Rattle.pyunparse.proofs.Shapes.StatementLemmas.{not_if}
 use Rattle.pyunparse.proofs.blocks.is_if.Goals as goal
 
 pub returns-in-If : goal.returns-in-If

@@ -1,7 +1,7 @@
 use Rattle.std.proofs.Common.{◌∙◌, map, sym}
 use Rattle.pynode.specs.Trees.{exprs, keywords}
 use Rattle.pynode.specs.TreeOf.{keyword_of, tree_of}
-use Rattle.pyunparse.proofs.AloneLemmas.{lone_keywords, lone_no_keywords, not_lone_generator}
+use Rattle.pyunparse.proofs.Sequences.AloneLemmas.{lone_keywords, lone_no_keywords, not_lone_generator}
 use Rattle.pyunparse.proofs.calls.is_lone.Goals as goal
 
 pub returns-then-not-is_empty : goal.returns-then-not-is_empty

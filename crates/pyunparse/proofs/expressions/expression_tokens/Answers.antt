@@ -5,7 +5,7 @@ use Rattle.pywritten.specs.Pieces.{pieces}
 use Rattle.pywritten.proofs.Callers.Shortest.{expressions_are_shortest}
 use Rattle.pywritten.proofs.Callers.Read.{expressions_are_read}
 use Rattle.pyunparse.specs.Inner.Folds.{puts}
-use Rattle.pyunparse.proofs.TokenLemmas.{tokens_put}
+use Rattle.pyunparse.proofs.Texts.TokenLemmas.{tokens_put}
 use Rattle.pyunparse.proofs.expressions.expression_tokens.Goals as goal
 
 pub returns-clause-tokens : goal.returns-clause-tokens

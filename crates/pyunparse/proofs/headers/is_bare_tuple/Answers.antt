@@ -3,8 +3,8 @@ use Rattle.pynode.specs.Trees.{exprs}
 use Rattle.pynode.specs.TreeOf.{tree_of}
 use Rattle.pynode.proofs.Callers.ExprShapes.{tuple_tree}
 use Rattle.pywritten.specs.Statements.{are_plain}
-use Rattle.pyunparse.proofs.ShapeLemmas.{not_tuple}
-use Rattle.pyunparse.proofs.WithLemmas.{tuple_reads}
+use Rattle.pyunparse.proofs.Shapes.ShapeLemmas.{not_tuple}
+use Rattle.pyunparse.proofs.StatementParts.WithLemmas.{tuple_reads}
 use Rattle.pyunparse.proofs.headers.is_bare_tuple.Goals as goal
 
 pub returns-in-Tuple : goal.returns-in-Tuple

@@ -1,4 +1,4 @@
-use Rattle.pyunparse.proofs.WithLemmas.{not_brackets, one_brackets}
+use Rattle.pyunparse.proofs.StatementParts.WithLemmas.{not_brackets, one_brackets}
 use Rattle.pyunparse.proofs.headers.need_brackets.Goals as goal
 
 pub returns-then-count-ne1 : goal.returns-then-count-ne1

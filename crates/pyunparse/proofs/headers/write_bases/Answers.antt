@@ -7,8 +7,8 @@ use Rattle.pygrammar.specs.declared.levels.Level.TheVariants.{Named}
 use Rattle.pywritten.specs.Pieces.{piece}
 use Rattle.pywritten.specs.Written.{by_name, each, listed, tight}
 use Rattle.pyunparse.specs.Inner.Folds.{puts}
-use Rattle.pyunparse.proofs.FoldLemmas.{enclosed_on}
-use Rattle.pyunparse.proofs.HeaderLemmas.{bases_listed, no_bases, some_bases}
+use Rattle.pyunparse.proofs.Sequences.FoldLemmas.{enclosed_on}
+use Rattle.pyunparse.proofs.StatementParts.HeaderLemmas.{bases_listed, no_bases, some_bases}
 use Rattle.pyunparse.proofs.headers.write_bases.Goals as goal
 
 pub returns-then-none : goal.returns-then-none

@@ -9,7 +9,7 @@ use Rattle.pygrammar.specs.Lines.{class_head, def_header}
 use Rattle.pywritten.specs.Pieces.{piece}
 use Rattle.pywritten.specs.Statements.{bases, header_tokens, type_params}
 use Rattle.pywritten.specs.Written.{free, trailing, word}
-use Rattle.pyunparse.proofs.FoldLemmas.{four, two}
+use Rattle.pyunparse.proofs.Sequences.FoldLemmas.{four, two}
 use Rattle.pyunparse.proofs.headers.write_class_header.Goals as goal
 
 pub returns : goal.returns

@@ -8,7 +8,7 @@ use Rattle.pygrammar.specs.declared.levels.Level.TheVariants.{Expression}
 use Rattle.pywritten.specs.Pieces.{piece}
 use Rattle.pywritten.specs.Statements.{as_name, header_tokens, perhaps_written, starred}
 use Rattle.pywritten.specs.Written.{trailing, word}
-use Rattle.pyunparse.proofs.FoldLemmas.{four, two}
+use Rattle.pyunparse.proofs.Sequences.FoldLemmas.{four, two}
 use Rattle.pyunparse.proofs.headers.write_except_header.Goals as goal
 
 pub returns : goal.returns

@@ -8,7 +8,7 @@ use Rattle.pygrammar.specs.declared.levels.Level.TheVariants.{Stars}
 use Rattle.pywritten.specs.Pieces.{piece, pieces}
 use Rattle.pywritten.specs.Statements.{async, header_tokens}
 use Rattle.pywritten.specs.Written.{trailing, word}
-use Rattle.pyunparse.proofs.FoldLemmas.{five, two}
+use Rattle.pyunparse.proofs.Sequences.FoldLemmas.{five, two}
 use Rattle.pyunparse.proofs.headers.write_for_header.Goals as goal
 
 pub returns : goal.returns

@@ -9,7 +9,7 @@ use Rattle.pygrammar.specs.declared.levels.Level.TheVariants.{Expression}
 use Rattle.pywritten.specs.Pieces.{piece}
 use Rattle.pywritten.specs.Statements.{async, behind, header_tokens, type_params}
 use Rattle.pywritten.specs.Written.{enclosed, free, listed, parameters, tight, trailing, word}
-use Rattle.pyunparse.proofs.FoldLemmas.{enclosed_on, six, two}
+use Rattle.pyunparse.proofs.Sequences.FoldLemmas.{enclosed_on, six, two}
 use Rattle.pyunparse.proofs.headers.write_function_header.Goals as goal
 
 pub returns : goal.returns

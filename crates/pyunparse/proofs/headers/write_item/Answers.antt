@@ -3,7 +3,7 @@ use Rattle.pynode.specs.TreeOf.{option_of, tree_of}
 use Rattle.pygrammar.specs.declared.levels.Level.TheVariants.{Expression}
 use Rattle.pywritten.specs.Pieces.{piece, pieces}
 use Rattle.pywritten.specs.Statements.{as_target}
-use Rattle.pyunparse.proofs.FoldLemmas.{two}
+use Rattle.pyunparse.proofs.Sequences.FoldLemmas.{two}
 use Rattle.pyunparse.proofs.headers.write_item.Goals as goal
 
 pub returns : goal.returns

@@ -7,8 +7,8 @@ use Rattle.pygrammar.specs.declared.levels.Level.TheVariants.{Expression}
 use Rattle.pywritten.specs.Pieces.{piece, pieces}
 use Rattle.pywritten.specs.Written.{leading}
 use Rattle.pyunparse.specs.Inner.Folds.{puts}
-use Rattle.pyunparse.proofs.FoldLemmas.{two}
-use Rattle.pyunparse.proofs.ShapeLemmas.{not_starred}
+use Rattle.pyunparse.proofs.Sequences.FoldLemmas.{two}
+use Rattle.pyunparse.proofs.Shapes.ShapeLemmas.{not_starred}
 use Rattle.pyunparse.proofs.headers.write_item_target.Goals as goal
 
 pub returns-in_ok-put_sign-in-Starred : goal.returns-in_ok-put_sign-in-Starred

@@ -4,7 +4,7 @@ use Rattle.pynode.specs.TreeOf.{item_of}
 use Rattle.pywritten.specs.Statements.{item}
 use Rattle.pywritten.specs.Pieces.{piece}
 use Rattle.pywritten.specs.Written.{trailing}
-use Rattle.pyunparse.proofs.MemberLemmas.{all_items, item_on}
+use Rattle.pyunparse.proofs.Sequences.MemberLemmas.{all_items, item_on}
 use Rattle.pyunparse.proofs.headers.write_items.Goals as goal
 
 pub loop-item-preserved : goal.loop-item-preserved

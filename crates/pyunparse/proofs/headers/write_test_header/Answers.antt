@@ -5,7 +5,7 @@ use Rattle.pynode.specs.TreeOf.{tree_of}
 use Rattle.pygrammar.specs.declared.levels.Level.TheVariants.{Named}
 use Rattle.pywritten.specs.Pieces.{piece, pieces}
 use Rattle.pywritten.specs.Written.{trailing, word}
-use Rattle.pyunparse.proofs.FoldLemmas.{three}
+use Rattle.pyunparse.proofs.Sequences.FoldLemmas.{three}
 use Rattle.pyunparse.proofs.headers.write_test_header.Goals as goal
 
 pub returns : goal.returns

@@ -1,5 +1,5 @@
 use Rattle.std.proofs.Common.{◌∙◌, ◌&&◌, ap}
-use Rattle.pyunparse.proofs.AloneLemmas.{not_all, one_all, star_parts}
+use Rattle.pyunparse.proofs.Sequences.AloneLemmas.{not_all, one_all, star_parts}
 use Rattle.pyunparse.proofs.imports.are_all.Goals as goal
 
 pub returns-then-names-ne1 : goal.returns-then-names-ne1

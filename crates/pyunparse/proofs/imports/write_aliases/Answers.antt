@@ -4,7 +4,7 @@ use Rattle.pynode.specs.TreeOf.{alias_of}
 use Rattle.pywritten.specs.Statements.{name_alias}
 use Rattle.pywritten.specs.Pieces.{piece}
 use Rattle.pywritten.specs.Written.{trailing}
-use Rattle.pyunparse.proofs.MemberLemmas.{all_items, item_on}
+use Rattle.pyunparse.proofs.Sequences.MemberLemmas.{all_items, item_on}
 use Rattle.pyunparse.proofs.imports.write_aliases.Goals as goal
 
 pub loop-alias-preserved : goal.loop-alias-preserved

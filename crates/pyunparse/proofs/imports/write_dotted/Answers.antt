@@ -1,6 +1,6 @@
 use Rattle.std.proofs.Common.{Some, None, refl}
 use Rattle.std.proofs.lemmas.Result.{IfOk-equal}
-use Rattle.pyunparse.proofs.DottedLemmas.{at_point, name_ends, name_on}
+use Rattle.pyunparse.proofs.StatementParts.DottedLemmas.{at_point, name_ends, name_on}
 use Rattle.pyunparse.proofs.imports.write_dotted.Goals as goal
 
 pub split_once-requires-text-self : goal.split_once-requires-text-self

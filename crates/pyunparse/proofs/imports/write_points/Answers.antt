@@ -1,5 +1,5 @@
 use Rattle.std.proofs.Common.{arith}
-use Rattle.pyunparse.proofs.ImportLemmas.{one_on, points_done, three_on}
+use Rattle.pyunparse.proofs.StatementParts.ImportLemmas.{one_on, points_done, three_on}
 use Rattle.pyunparse.proofs.imports.write_points.Goals as goal
 
 pub loop-left-preserved : goal.loop-left-preserved

@@ -6,8 +6,8 @@ use Rattle.pygrammar.specs.declared.levels.Level.TheVariants.{Named}
 use Rattle.pywritten.specs.Pieces.{piece, pieces}
 use Rattle.pywritten.specs.Written.{leading}
 use Rattle.pyunparse.specs.Inner.Writing.{behind}
-use Rattle.pyunparse.proofs.FoldLemmas.{two}
-use Rattle.pyunparse.proofs.LineLemmas.{whole_line}
+use Rattle.pyunparse.proofs.Sequences.FoldLemmas.{two}
+use Rattle.pyunparse.proofs.Texts.LineLemmas.{whole_line}
 use Rattle.pyunparse.proofs.lines.write_decorator.Goals as goal
 
 pub returns : goal.returns

@@ -5,7 +5,7 @@ use Rattle.pygrammar.specs.declared.levels.Level.TheVariants.{Named}
 use Rattle.pywritten.specs.Modules.{decorators, written_line}
 use Rattle.pywritten.specs.Pieces.{piece, pieces}
 use Rattle.pywritten.specs.Written.{leading}
-use Rattle.pyunparse.proofs.LineLemmas.{all_lines, line_on}
+use Rattle.pyunparse.proofs.Texts.LineLemmas.{all_lines, line_on}
 use Rattle.pyunparse.proofs.lines.write_decorators.Goals as goal
 
 pub loop-e-preserved : goal.loop-e-preserved

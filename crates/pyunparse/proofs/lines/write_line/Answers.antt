@@ -2,7 +2,7 @@ use Rattle.std.proofs.lemmas.Result.{IfOk-weaker}
 use Rattle.pynode.specs.TreeOf.{stmt_of}
 use Rattle.pywritten.specs.Pieces.{piece}
 use Rattle.pywritten.specs.Statements.{simple_tokens}
-use Rattle.pyunparse.proofs.LineLemmas.{whole_line}
+use Rattle.pyunparse.proofs.Texts.LineLemmas.{whole_line}
 use Rattle.pyunparse.proofs.lines.write_line.Goals as goal
 
 pub returns : goal.returns

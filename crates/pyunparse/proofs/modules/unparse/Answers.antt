@@ -4,7 +4,7 @@ use Rattle.pynode.specs.TreeOf.{module_of, stmt_of}
 use Rattle.pywritten.specs.Modules.{lines_of}
 use Rattle.pywritten.specs.Pieces.{piece}
 use Rattle.pyunparse.specs.Inner.Lines.{in_utf8}
-use Rattle.pyunparse.proofs.StatedLemmas.{gives_back}
+use Rattle.pyunparse.proofs.Texts.StatedLemmas.{gives_back}
 use Rattle.pyunparse.proofs.modules.unparse.Goals as goal
 
 pub returns-clause-text : goal.returns-clause-text

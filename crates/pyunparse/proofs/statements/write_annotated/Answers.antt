@@ -1,7 +1,7 @@
 use Rattle.std.proofs.lemmas.Result.{IfOk-equal}
 use Rattle.pynode.specs.TreeOf.{tree_of}
-use Rattle.pyunparse.proofs.ShapeLemmas.{not_named, simple_annotated}
-use Rattle.pyunparse.proofs.SimpleLemmas.{bracketed_name}
+use Rattle.pyunparse.proofs.Shapes.ShapeLemmas.{not_named, simple_annotated}
+use Rattle.pyunparse.proofs.StatementParts.SimpleLemmas.{bracketed_name}
 use Rattle.pyunparse.proofs.statements.write_annotated.Goals as goal
 
 pub returns-then-simple : goal.returns-then-simple

@@ -1,6 +1,6 @@
 use Rattle.std.proofs.lemmas.Result.{IfOk-equal}
 use Rattle.pynode.specs.TreeOf.{option_of, tree_of}
-use Rattle.pyunparse.proofs.SimpleLemmas.{assert_on}
+use Rattle.pyunparse.proofs.StatementParts.SimpleLemmas.{assert_on}
 use Rattle.pyunparse.proofs.statements.write_assert.Goals as goal
 
 pub returns : goal.returns

@@ -3,7 +3,7 @@ use Rattle.pylexeme.specs.declared.kinds.Exact.TheVariants.{Comma}
 use Rattle.pywritten.specs.Statements.{one_name}
 use Rattle.pywritten.specs.Pieces.{piece}
 use Rattle.pywritten.specs.Written.{trailing}
-use Rattle.pyunparse.proofs.MemberLemmas.{all_items, item_on}
+use Rattle.pyunparse.proofs.Sequences.MemberLemmas.{all_items, item_on}
 use Rattle.pyunparse.proofs.statements.write_names.Goals as goal
 
 pub loop-name-preserved : goal.loop-name-preserved

@@ -1,6 +1,6 @@
 use Rattle.pynode.specs.TreeOf.{option_of}
 use Rattle.std.proofs.lemmas.Result.{IfOk-equal}
-use Rattle.pyunparse.proofs.SimpleLemmas.{raise_on}
+use Rattle.pyunparse.proofs.StatementParts.SimpleLemmas.{raise_on}
 use Rattle.pyunparse.proofs.statements.write_raise.Goals as goal
 
 pub returns : goal.returns

@@ -7,7 +7,7 @@ use Rattle.pywritten.specs.Pieces.{piece, pieces}
 use Rattle.pywritten.specs.Statements.{targets}
 use Rattle.pywritten.specs.Written.{free}
 use Rattle.pyunparse.specs.Inner.Assigned.{assigned}
-use Rattle.pyunparse.proofs.MemberLemmas.{all_parts, part_on}
+use Rattle.pyunparse.proofs.Sequences.MemberLemmas.{all_parts, part_on}
 use Rattle.pyunparse.proofs.statements.write_targets.Goals as goal
 
 pub loop-target-preserved : goal.loop-target-preserved

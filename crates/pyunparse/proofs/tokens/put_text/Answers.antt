@@ -1,7 +1,7 @@
 use Rattle.std.proofs.Common.{ap, false, sym}
 use Rattle.std.proofs.lemmas.Result.{IfOk-equal}
 use Rattle.std.proofs.lemmas.Str.{encodes-chars}
-use Rattle.pylex.specs.declared.kinds.Kind.TheVariants as kinds
+use Rattle.pylex.specs.declared.kind.Kind.TheVariants as kinds
 use Rattle.pyunparse.proofs.tokens.put_text.Goals as goal
 
 pub returns : goal.returns

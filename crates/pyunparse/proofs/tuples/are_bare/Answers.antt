@@ -1,5 +1,5 @@
 use Rattle.std.proofs.Common.{◌∙◌, sym}
-use Rattle.pyunparse.proofs.AloneLemmas.{some_bare}
+use Rattle.pyunparse.proofs.Sequences.AloneLemmas.{some_bare}
 use Rattle.pyunparse.proofs.tuples.are_bare.Goals as goal
 
 pub returns-then-not-is_empty : goal.returns-then-not-is_empty

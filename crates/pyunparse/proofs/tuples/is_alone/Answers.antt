@@ -1,5 +1,5 @@
 use Rattle.std.proofs.Common.{◌∙◌, ◌&&◌, not}
-use Rattle.pyunparse.proofs.AloneLemmas.{many_elements, one_element}
+use Rattle.pyunparse.proofs.Sequences.AloneLemmas.{many_elements, one_element}
 use Rattle.pyunparse.proofs.tuples.is_alone.Goals as goal
 
 pub returns-then-count-ne1 : goal.returns-then-count-ne1

@@ -1,5 +1,5 @@
 use Rattle.std.proofs.Common.{sym}
-use Rattle.pyunparse.proofs.AloneLemmas.{not_lone_star}
+use Rattle.pyunparse.proofs.Sequences.AloneLemmas.{not_lone_star}
 use Rattle.pyunparse.proofs.tuples.lone_star.Goals as goal
 
 pub returns-then-count-ne1 : goal.returns-then-count-ne1

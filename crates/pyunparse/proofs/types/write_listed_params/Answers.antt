@@ -4,7 +4,7 @@ use Rattle.pynode.specs.TreeOf.{type_param_of}
 use Rattle.pywritten.specs.Statements.{type_param}
 use Rattle.pywritten.specs.Pieces.{piece}
 use Rattle.pywritten.specs.Written.{trailing}
-use Rattle.pyunparse.proofs.MemberLemmas.{all_items, item_on}
+use Rattle.pyunparse.proofs.Sequences.MemberLemmas.{all_items, item_on}
 use Rattle.pyunparse.proofs.types.write_listed_params.Goals as goal
 
 pub loop-param-preserved : goal.loop-param-preserved

@@ -1,5 +1,5 @@
 use Rattle.std.proofs.lemmas.Result.{IfOk-equal}
-use Rattle.pyunparse.proofs.TypeLemmas.{specification_on, tuple_on, variable_on}
+use Rattle.pyunparse.proofs.StatementParts.TypeLemmas.{specification_on, tuple_on, variable_on}
 use Rattle.pyunparse.proofs.types.write_type_param.Goals as goal
 
 pub returns-in_ok-put_name-in-TypeVar : goal.returns-in_ok-put_name-in-TypeVar

@@ -1,6 +1,6 @@
 use Rattle.std.proofs.Common.{◌∙◌, sym}
 use Rattle.std.proofs.lemmas.Result.{IfOk-equal}
-use Rattle.pyunparse.proofs.TypeLemmas.{no_params, params_on}
+use Rattle.pyunparse.proofs.StatementParts.TypeLemmas.{no_params, params_on}
 use Rattle.pyunparse.proofs.types.write_type_params.Goals as goal
 
 pub returns-then-is_empty : goal.returns-then-is_empty

@@ -1,7 +1,7 @@
 use Rattle.std.proofs.Common.{[], length, refl, ap, arith}
 use Rattle.std.specs.Str.{chars}
 use Rattle.pylex.specs.Cursors.{CursorParts}
-use Rattle.pylex.proofs.Returning.{point_boundary, point_parts, skip_led, keeps_led}
+use Rattle.pylex.proofs.Resumption.Returning.{point_boundary, point_parts, skip_led, keeps_led}
 use Rattle.pylex.proofs.lister.Lister.at_point.Goals as goal
 
 pub split_at-requires : goal.split_at-requires

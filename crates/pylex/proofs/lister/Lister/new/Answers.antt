@@ -1,14 +1,14 @@
 use Rattle.std.proofs.Common.{subst}
 use Rattle.std.specs.Str.{IsUtf8}
 use Rattle.pylex.specs.Listing.{in_characters}
-use Rattle.pylex.proofs.Blocks.{closes_blocks}
-use Rattle.pylex.proofs.Covering.{is_covered}
-use Rattle.pylex.proofs.Ends.{is_whole}
-use Rattle.pylex.proofs.Exactness.{have_exact}
-use Rattle.pylex.proofs.Lexed.{is_cut, longest_wins}
-use Rattle.pylex.proofs.Lying.{entries_lie}
-use Rattle.pylex.proofs.Moving.{keeps_first, shown_first}
-use Rattle.pylex.proofs.Order.{is_ordered}
+use Rattle.pylex.proofs.Listing.Blocks.{closes_blocks}
+use Rattle.pylex.proofs.Listing.Covering.{is_covered}
+use Rattle.pylex.proofs.Listing.Ends.{is_whole}
+use Rattle.pylex.proofs.Listing.Exactness.{have_exact}
+use Rattle.pylex.proofs.MachineLaws.Lexed.{is_cut, longest_wins}
+use Rattle.pylex.proofs.Listing.Lying.{entries_lie}
+use Rattle.pylex.proofs.Listers.Moving.{keeps_first, shown_first}
+use Rattle.pylex.proofs.Listing.Order.{is_ordered}
 use Rattle.pylex.proofs.lister.Lister.new.Goals as goal
 
 pub invariant_of-result : goal.invariant_of-result

@@ -1,6 +1,6 @@
 use Rattle.std.proofs.Common.{◌+◌, ◌-◌, ap, ◌∙◌, arith}
 use Rattle.pylex.specs.Listers.{Listed}
-use Rattle.pylex.proofs.Returning.{begins_back, goes_back_on, arrives}
+use Rattle.pylex.proofs.Resumption.Returning.{begins_back, goes_back_on, arrives}
 use Rattle.pylex.proofs.lister.Lister.resume.Goals as goal
 
 pub loop-given-init : goal.loop-given-init

@@ -3,7 +3,7 @@ use Rattle.pylex.specs.Cursors.{cursor}
 use Rattle.pylex.specs.Listing.{in_characters}
 use Rattle.pylex.specs.Steps.{entries_in}
 use Rattle.pylex.specs.Listers.{StandsIn}
-use Rattle.pylex.proofs.Moving.{entry_due}
+use Rattle.pylex.proofs.Listers.Moving.{entry_due}
 use Rattle.pylex.proofs.lister.Lister.resume_checked.Goals as goal
 use Rattle.pylex.proofs.Callers.{is_behind}
 

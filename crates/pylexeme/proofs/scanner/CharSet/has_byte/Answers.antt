@@ -1,7 +1,7 @@
 use Rattle.std.proofs.Common.{◌≡◌, true, false, sym, ◌∙◌, ap, ◌&&◌, nat_lt}
 use Rattle.std.specs.Char.{is_ascii_alphanumeric}
 use Rattle.pylexeme.specs.Chars.{has}
-use Rattle.pylexeme.proofs.NameBytes.{name_letter, name_other}
+use Rattle.pylexeme.proofs.Fronts.NameBytes.{name_letter, name_other}
 use Rattle.pylexeme.proofs.scanner.CharSet.has_byte.Goals as goal
 
 pub returns-then-is_ascii_alphanumeric : goal.returns-then-is_ascii_alphanumeric

@@ -1,7 +1,7 @@
 use Rattle.std.proofs.Common.{◌≡◌, ◌<◌, sym, ◌∙◌, ap, Some, slice_get, drop, arith}
 use Rattle.std.specs.Str.{chars}
 use Rattle.std.proofs.lemmas.Bool.Decides.{nat_tests}
-use Rattle.pylexeme.proofs.Runs.{first_ascii, rest_ascii, cut_ascii}
+use Rattle.pylexeme.proofs.Fronts.Runs.{first_ascii, rest_ascii, cut_ascii}
 use Rattle.pylexeme.proofs.scanner.Scanner.bump.Goals as goal
 
 pub range_from-self-inside-requires : goal.range_from-self-inside-requires

@@ -2,8 +2,8 @@ use Rattle.std.proofs.Common.{◌≡◌, sym, ◌∙◌, ap, ℕ, List, Bool, dr
 use Rattle.std.specs.List.{prefix_len}
 use Rattle.std.specs.Str.{chars}
 use Rattle.pylexeme.specs.Chars.{has, begins}
-use Rattle.pylexeme.proofs.Texts.{after_run}
-use Rattle.pylexeme.proofs.Runs.{in_ascii, tells_ascii, run_cut, run_utf8, run_same, run_stopped, ascii_stops}
+use Rattle.pylexeme.proofs.Fronts.Texts.{after_run}
+use Rattle.pylexeme.proofs.Fronts.Runs.{in_ascii, tells_ascii, run_cut, run_utf8, run_same, run_stopped, ascii_stops}
 use Rattle.pylexeme.proofs.scanner.Scanner.bump_while.Goals as goal
 
 pub range_from-self-inside-requires : goal.range_from-self-inside-requires

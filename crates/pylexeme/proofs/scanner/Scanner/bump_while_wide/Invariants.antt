@@ -1,6 +1,6 @@
 use Rattle.std.proofs.Common.{◌≡◌, length}
 use Rattle.pylexeme.specs.Chars.{has}
-use Rattle.pylexeme.proofs.Texts.{after_run}
+use Rattle.pylexeme.proofs.Fronts.Texts.{after_run}
 use Rattle.pylexeme.proofs.scanner.Scanner.bump_while_wide.Given as goal
 
 abbrev pub invariant-loop-first : goal.invariant-loop-first

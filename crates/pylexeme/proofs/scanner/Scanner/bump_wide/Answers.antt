@@ -1,6 +1,6 @@
 use Rattle.std.proofs.Common.{ap, ◌∙◌, drop, subst, sym}
 use Rattle.std.specs.Str.{IsUtf8, chars}
-use Rattle.pylexeme.proofs.Texts.{bump_rest}
+use Rattle.pylexeme.proofs.Fronts.Texts.{bump_rest}
 use Rattle.pylexeme.proofs.scanner.Scanner.bump_wide.Goals as goal
 
 pub returns-clause-rest : goal.returns-clause-rest

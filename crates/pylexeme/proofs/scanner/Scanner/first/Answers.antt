@@ -1,6 +1,6 @@
 use Rattle.std.proofs.Common.{◌≡◌, ◌<◌, sym, ◌∙◌, ap, Some, slice_get, arith}
 use Rattle.std.proofs.lemmas.Bool.Decides.{nat_tests}
-use Rattle.pylexeme.proofs.Runs.{first_ascii}
+use Rattle.pylexeme.proofs.Fronts.Runs.{first_ascii}
 use Rattle.pylexeme.proofs.scanner.Scanner.first.Goals as goal
 
 pub returns-in-Some : goal.returns-in-Some

@@ -1,6 +1,6 @@
 use Rattle.std.proofs.Common.{ap, ◌∙◌, length}
 use Rattle.std.specs.Str.{encode_utf8_all}
-use Rattle.pylexeme.proofs.Texts.{length-text}
+use Rattle.pylexeme.proofs.Fronts.Texts.{length-text}
 use Rattle.pylexeme.proofs.scanner.Scanner.len.Goals as goal
 
 pub returns : goal.returns

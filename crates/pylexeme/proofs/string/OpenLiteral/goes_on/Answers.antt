@@ -3,7 +3,7 @@ use Rattle.std.specs.Str.{chars}
 use Rattle.pylexeme.specs.Strings.{units, quote_char}
 use Rattle.pylexeme.specs.Lexemes.{ends_by_join}
 use Rattle.pylexeme.specs.Lengths.{triple_len}
-use Rattle.pylexeme.proofs.OpenLiterals.{unclosed, triple_on, single_on}
+use Rattle.pylexeme.proofs.WholeLines.OpenLiterals.{unclosed, triple_on, single_on}
 use Rattle.pylexeme.proofs.string.OpenLiteral.goes_on.Goals as goal
 
 pub returns-then-self : goal.returns-then-self

@@ -1,7 +1,7 @@
 use Rattle.std.proofs.Common.{◌≡◌, ◌≤◌, ◌<◌, ℕ, List, ◌∙◌, ap, length, take, drop, ◌++◌, ◌+◌, ◌-◌, arith}
 use Rattle.std.proofs.lemmas.List.{length-take-le, with_items_is}
-use Rattle.pysource.proofs.ByteLemmas.{Keeps-Consumes}
-use Rattle.pysource.proofs.BufferLemmas.{read_view, read_view_none, put_size}
+use Rattle.pysource.proofs.TakenBytes.ByteLemmas.{Keeps-Consumes}
+use Rattle.pysource.proofs.TakenBytes.BufferLemmas.{read_view, read_view_none, put_size}
 use Rattle.pysource.proofs.buffers.Buffer.read_from.Goals as goal
 
 pub returns-in-Ok-clause-gave : goal.returns-in-Ok-clause-gave

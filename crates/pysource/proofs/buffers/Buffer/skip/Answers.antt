@@ -1,6 +1,6 @@
 use Rattle.std.proofs.Common.{◌∙◌, ap, length, drop, ◌-◌, arith}
 use Rattle.std.proofs.lemmas.List.{length-take}
-use Rattle.pysource.proofs.BufferLemmas.{skip_view}
+use Rattle.pysource.proofs.TakenBytes.BufferLemmas.{skip_view}
 use Rattle.pysource.proofs.buffers.Buffer.skip.Goals as goal
 
 pub returns : goal.returns

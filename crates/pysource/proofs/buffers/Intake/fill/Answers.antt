@@ -1,7 +1,7 @@
 use Rattle.std.proofs.Common.{◌<◌, [], ◌∙◌, sym, take, arith, append-nil, refl}
 use Rattle.std.proofs.lemmas.List.{length-take-le}
-use Rattle.pysource.proofs.ByteLemmas.{Keeps-Consumes}
-use Rattle.pysource.proofs.TakingLemmas.{Takes-some, Takes-end, Takes-failed, Takes-passed}
+use Rattle.pysource.proofs.TakenBytes.ByteLemmas.{Keeps-Consumes}
+use Rattle.pysource.proofs.TakenBytes.TakingLemmas.{Takes-some, Takes-end, Takes-failed, Takes-passed}
 use Rattle.pysource.proofs.buffers.Intake.fill.Goals as goal
 use Rattle.pysource.proofs.buffers.Intake.fill.Goals.{in-Ok-eq0, in-Ok, in-Err}
 

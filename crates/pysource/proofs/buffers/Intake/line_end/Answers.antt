@@ -2,9 +2,9 @@ use Rattle.std.proofs.Common.{[], refl, append-nil, ◌≡◌, ℕ, ◌+◌, ◌
 use Rattle.std.proofs.lemmas.List.{take_rest}
 use Rattle.std.proofs.lemmas.Result.{err_from_is_err_and}
 use Rattle.pysource.specs.Taking.{NoLfFrom}
-use Rattle.pysource.proofs.ByteLemmas.{Steady-append}
-use Rattle.pysource.proofs.ReturnsLemmas.{found_behind, none_behind}
-use Rattle.pysource.proofs.TakingLemmas.{Takes-none, Grows-append, kept_or_full, clean_on, clean_under}
+use Rattle.pysource.proofs.TakenBytes.ByteLemmas.{Steady-append}
+use Rattle.pysource.proofs.FaultyLines.ReturnsLemmas.{found_behind, none_behind}
+use Rattle.pysource.proofs.TakenBytes.TakingLemmas.{Takes-none, Grows-append, kept_or_full, clean_on, clean_under}
 use Rattle.pysource.proofs.buffers.Intake.line_end.Goals as goal
 
 pub returns-in-Some-clause-found : goal.returns-in-Some-clause-found

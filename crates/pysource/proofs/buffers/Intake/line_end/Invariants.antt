@@ -3,7 +3,7 @@ use Rattle.std.specs.Prelude.{◌⊎◌, max}
 use Rattle.pysource.specs.Bytes.{IsSteady}
 use Rattle.pysource.specs.Limits.{source_limit}
 use Rattle.pysource.specs.Taking.{Grows, NoLfFrom}
-use Rattle.pysource.proofs.TakingLemmas.{left}
+use Rattle.pysource.proofs.TakenBytes.TakingLemmas.{left}
 use Rattle.pysource.proofs.buffers.Intake.line_end.Given as goal
 
 abbrev pub invariant-loop-at : goal.invariant-loop-at

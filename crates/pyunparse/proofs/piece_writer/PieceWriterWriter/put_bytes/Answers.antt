@@ -1,11 +1,11 @@
 use Rattle.std.proofs.Common.{◌≡◌, ◌∙◌, ◌++◌, ◌∷◌, [], List, map, refl, ap, sym}
 use Rattle.std.specs.Str.{encode_utf8_all}
 use Rattle.std.specs.String.{string_bytes}
-use Rattle.pylex.specs.declared.kinds.Kind.TheVariants as kinds
+use Rattle.pylex.specs.declared.kind.Kind.TheVariants as kinds
 use Rattle.pysource.specs.Reprs.{repr_bytes}
 use Rattle.pyspacing.specs.Tokens.{PlainToken}
 use Rattle.pyunparse.specs.Told.{told}
-use Rattle.pyunparse.proofs.ReprLemmas.{bytes_plain}
+use Rattle.pyunparse.proofs.Texts.ReprLemmas.{bytes_plain}
 use Rattle.pyunparse.proofs.piece_writer.PieceWriterWriter.put_bytes.Goals as goal
 
 map_push : {A B : Type 0} (f : A → B) (xs : List A) (x : A) → map f (xs ++ x ∷ []) ≡ map f xs ++ f x ∷ []

@@ -3,8 +3,8 @@ use Rattle.std.specs.String.{string_bytes}
 use Rattle.std.proofs.lemmas.Result.{IfOk-weaker}
 use Rattle.pysource.specs.Reprs.{repr_bytes}
 use Rattle.pyunparse.specs.Inner.Writing.{Writing}
-use Rattle.pyunparse.proofs.ReprLemmas.{bytes_plain}
-use Rattle.pyunparse.proofs.SpaceLemmas.{bytes_sign, literal_on}
+use Rattle.pyunparse.proofs.Texts.ReprLemmas.{bytes_plain}
+use Rattle.pyunparse.proofs.Texts.SpaceLemmas.{bytes_sign, literal_on}
 use Rattle.pyunparse.proofs.text_writer.TextWriterWriter.put_bytes.Goals as goal
 
 pub returns : goal.returns

@@ -4,7 +4,7 @@ use Rattle.std.specs.String.{string_bytes}
 use Rattle.std.proofs.lemmas.Result.{IfOk-weaker}
 use Rattle.pysource.specs.Reprs.{repr_chars}
 use Rattle.pyunparse.specs.Inner.Writing.{Writing, prefix}
-use Rattle.pyunparse.proofs.SpaceLemmas.{literal_on, prefixed_text, text_sign}
+use Rattle.pyunparse.proofs.Texts.SpaceLemmas.{literal_on, prefixed_text, text_sign}
 use Rattle.pyunparse.proofs.text_writer.TextWriterWriter.put_str.Goals as goal
 
 pub returns : goal.returns

@@ -1,0 +1,5 @@
+-- Comprehensions.
+pub mod CompSteps
+pub mod ClauseSteps
+pub mod ClausePushes
+pub mod ClauseParts

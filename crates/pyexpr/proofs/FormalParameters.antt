@@ -1,0 +1,7 @@
+-- Parameters, and `lambda`.
+pub mod Formals
+pub mod FormalSteps
+pub mod FormalNodes
+pub mod SignatureHeights
+pub mod ParameterParts
+pub mod ParameterSteps

@@ -1,0 +1,6 @@
+-- Lists with commas, and what stands in brackets and braces.
+pub mod Pushes
+pub mod ListSteps
+pub mod SquareSteps
+pub mod PairSteps
+pub mod BraceSteps

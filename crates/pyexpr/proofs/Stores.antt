@@ -1,0 +1,5 @@
+-- Expressions as targets.
+pub mod TargetShapes
+pub mod Changes
+pub mod TurnedHeights
+pub mod TargetSteps

@@ -1,0 +1,4 @@
+-- How deep the reader goes, and the plain reader as a whole.
+pub mod Keeps
+pub mod Enough
+pub mod Whole

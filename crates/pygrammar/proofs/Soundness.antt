@@ -1,0 +1,5 @@
+-- What the reader finds, the table gives.
+pub mod Says
+pub mod SoundClimb
+pub mod SoundLists
+pub mod Sound

@@ -1,0 +1,16 @@
+-- A lister that reads line by line: what it finds in the lines that it
+-- holds it finds in the source.
+pub mod Carried
+pub mod HeldLinesLemmas
+pub mod Lined
+pub mod Streaming
+pub mod Reading
+pub mod Searching
+pub mod Stepping
+pub mod Steppings
+pub mod Beginning
+pub mod Behind
+pub mod Adding
+pub mod LexedOn
+pub mod AheadOn
+pub mod JoinedOn

@@ -1,0 +1,166 @@
+-- A step of a lister that reads line by line.
+--
+-- Carries: step_is, stands_then, streams_entry, streams_other, for Steppings. On: Streaming, Lined,
+-- Lying, Ranges and 2 more.
+use Rattle.std.proofs.Common.{◌≡◌, ◌⊎◌, inl, inr, ⊎_elim, ℕ, ◌+◌, ◌<◌, Bool, List, [], ◌∷◌, ◌++◌, length, take, drop, refl, ap, sym, ◌∙◌, subst, length-append, length-drop, arith, Some, None, string_bytes, zero, suc}
+use Rattle.std.specs.Prelude.{slice_get}
+use Rattle.std.specs.Str.{chars, IsUtf8}
+use Rattle.std.proofs.lemmas.Str.{chars-append, chars-nil, IsUtf8-append, IsUtf8-take, IsCharBoundary-at_seam}
+use Rattle.std.proofs.Math.Seq.{take-append_seam}
+use Rattle.pysource.specs.Parts.{Parts}
+use Rattle.pysource.specs.Streams.{comes}
+use Rattle.pylex.specs.declared.held_lines.HeldLines.{HeldLines}
+use Rattle.pylex.specs.declared.entries.Entry.{Entry}
+use Rattle.pylex.specs.declared.entries.Step.{Step}
+use Rattle.pylex.specs.declared.entries.Step.TheVariants as steps
+use Rattle.pylex.specs.declared.machine.Machine.{Machine}
+use Rattle.pylex.specs.declared.line_lister.Found.{Found}
+use Rattle.pylexeme.specs.Chunks.{EndsLine}
+use Rattle.pylex.specs.Laws.{AllLie, StepLies}
+use Rattle.pylexeme.specs.Chars.{bytes_in}
+use Rattle.pylex.specs.Listing.{in_characters, listing}
+use Rattle.pylex.specs.Listers.{StandsIn, NextStep}
+use Rattle.pylex.specs.MachineSteps.{shown_from, Holds, Advance, Ranges, left_by}
+use Rattle.pylex.specs.LineState.{Peek}
+use Rattle.pylex.specs.Steps.{entries_in}
+use Rattle.pylex.specs.Streamed.{Continues, StreamsIn, IsStreaming, IsHeld, streamed, PeekedIn}
+use Rattle.pylex.proofs.LineByLine.Lined.{lined_chars}
+use Rattle.pylex.proofs.Listing.Lying.{entries_lie}
+use Rattle.pylex.proofs.Listers.Ranges.{in_offset}
+use Rattle.pylex.proofs.LineByLine.Reading.{lined_left}
+use Rattle.pylex.proofs.LineByLine.Streaming.{Lined, utf8_after, finds_whole, end_whole, stands_whole}
+use Rattle.pylexeme.proofs.Fronts.Texts.{length-text}
+use Rattle.pylex.proofs.Listing.Unencoded.{not_encoding}
+
+-- a step lies in the text with all of them
+lies_at : (text : List ℕ) (ss : List Step) (k : ℕ) (s : Step) → AllLie text ss → slice_get ss k ≡ Some s → StepLies text s
+lies_at text [] k s l e = absurd cc
+lies_at text (r ∷ ss) zero s l e = let f : r ≡ s = cc in subst (StepLies text) f l.0
+lies_at text (r ∷ ss) (suc k) s l e = lies_at text ss k s l.1 e
+
+utf8_before : (front back : List ℕ) → IsUtf8 (front ++ back) → IsUtf8 back → IsUtf8 front
+utf8_before front back u v = subst IsUtf8 (take-append_seam front back) (IsUtf8-take (front ++ back) (length front) u (IsCharBoundary-at_seam (front ++ back) front back refl v))
+
+-- nothing is left behind a step without entry but what was left
+left_same : (s : Step) (from to : List ℕ) → ((e : Entry) → s ≡ steps.Entry e → ⊥) → left_by s from to ≡ from
+left_same (steps.Entry e) from to h = absurd (h e refl)
+left_same steps.End from to h = refl
+left_same (steps.Fault f) from to h = refl
+
+module _ (q r : Machine) (d : HeldLines) (f : Found) (step : Step) (h : IsStreaming q d None) (m : PeekedIn q d f) (w : Advance q f.peeked f.now (drop f.at (string_bytes d.text)) f.fault step r) (s : Parts) (k : ℕ) (more : List ℕ) (broken : Bool) (g : Continues d.lines more broken) (x : StreamsIn (streamed q d None) s k more broken) where
+  abbrev held : List ℕ
+  held = string_bytes d.text
+
+  abbrev coming : List ℕ
+  coming = (comes d.lines more broken).text
+
+  abbrev left : List ℕ
+  left = drop d.at held
+
+  abbrev rest : List ℕ
+  rest = drop f.at held
+
+  lined : Lined left coming
+  lined = lined_left held d.at coming h.left x.ends
+
+  found : Peek (take q.nested q.levels.items) q.now (chars (left ++ coming)) f.peeked f.now (chars (rest ++ coming))
+  found = finds_whole (take q.nested q.levels.items) q.now left f.peeked f.now rest coming s.fault f.fault h.left m.looks.left lined (m.stops s k more broken g x) m.looks.finds
+
+  gone : NextStep (record { source = s; shown = shown_from q }) step (record { source = s; shown = shown_from r }) × Holds s r (left_by step (left ++ coming) (rest ++ coming))
+  gone = w.goes s (left ++ coming) (rest ++ coming) x.keeps found
+      (stands_whole q.now f.now left rest coming x.keeps.stands h.left m.looks.left m.looks.room)
+      (λ is levels. end_whole levels (take q.nested q.levels.items) q.now left f.peeked f.now rest coming s.fault f.fault h.left m.looks.left lined (m.stops s k more broken g x) m.looks.finds is)
+
+  pub step_is : slice_get (listing (in_characters s)) k ≡ Some step
+  step_is = (gone.0 (in_characters s) k x.stands).0
+
+  pub stands_then : StandsIn (record { source = s; shown = shown_from r }) (in_characters s) (k + entries_in step)
+  stands_then = (gone.0 (in_characters s) k x.stands).1
+
+  pub keeps_then : Holds s r (left_by step (left ++ coming) (rest ++ coming))
+  keeps_then = gone.1
+
+  utf8_coming : IsUtf8 coming
+  utf8_coming = utf8_after left coming x.keeps.stands.utf8 h.left
+
+  utf8_held : IsUtf8 (held ++ coming)
+  utf8_held = IsUtf8-append held coming h.text utf8_coming
+
+  utf8_begin : IsUtf8 x.before
+  utf8_begin = utf8_before x.before (held ++ coming) (subst IsUtf8 x.whole x.keeps.utf8) utf8_held
+
+  size_text : bytes_in (chars s.text) ≡ length x.before + (length held + length coming)
+  size_text = sym (length-text s.text x.keeps.utf8) ∙ ap length x.whole ∙ length-append x.before (held ++ coming) ∙ ap (λ n. length x.before + n) (length-append held coming)
+
+  size_left : bytes_in (chars (left ++ coming)) ≡ length left + length coming
+  size_left = sym (length-text (left ++ coming) x.keeps.stands.utf8) ∙ length-append left coming
+
+  size_rest : bytes_in (chars (rest ++ coming)) ≡ length rest + length coming
+  size_rest = sym (length-text (rest ++ coming) (IsUtf8-append rest coming m.looks.left utf8_coming)) ∙ length-append rest coming
+
+  size_held : bytes_in (chars (held ++ coming)) ≡ length held + length coming
+  size_held = sym (length-text (held ++ coming) utf8_held) ∙ length-append held coming
+
+  size_begin : bytes_in (chars x.before) ≡ length x.before
+  size_begin = sym (length-text x.before utf8_begin)
+
+  begin_lines : (chars x.before ≡ []) ⊎ EndsLine (chars x.before)
+  begin_lines = ⊎_elim (λ none. inl (ap chars none ∙ chars-nil)) (λ l. inr (lined_chars x.before utf8_begin l)) x.begins
+
+  in_range : Ranges (bytes_in (chars x.before)) r.now.now.offset step
+  in_range =
+      let less = length-drop f.at held in
+      let less_left = length-drop d.at held in
+      let placed = in_offset (chars s.text) _ (chars (left ++ coming)) x.keeps.placed in
+      w.ranges s (left ++ coming) (rest ++ coming) (chars x.before) (chars (held ++ coming)) x.keeps found (ap chars x.whole ∙ chars-append x.before (held ++ coming) utf8_begin) begin_lines
+      (omega (arith, size_rest, size_held, less)) (omega (arith, placed, size_text, size_left, size_begin, less_left)) x.measuring
+
+  module _ (e : Entry) (is : step ≡ steps.Entry e) where
+    keeps_entry : Holds s r (rest ++ coming)
+    keeps_entry = subst (Holds s r) (ap (λ t. left_by t (left ++ coming) (rest ++ coming)) is) keeps_then
+
+    held_entry : IsHeld d.base held e
+    held_entry =
+        let range = subst (Ranges (bytes_in (chars x.before)) r.now.now.offset) is in_range in
+        let placed = in_offset (chars s.text) _ (chars (rest ++ coming)) keeps_entry.placed in
+        let less = length-drop f.at held in
+        record {
+          begins = omega (arith, range.0, size_begin, x.base);
+          ends = omega (arith, range.1, placed, size_text, size_rest, x.base);
+        }
+
+    -- Behind an entry.
+    pub streams_entry : 0 < k → StreamsIn (streamed r (record d { at = f.at }) (Some e)) s (k + entries_in step) more broken
+    streams_entry some = record {
+      before = x.before;
+      whole = x.whole;
+      base = x.base;
+      begins = x.begins;
+      closed = x.closed;
+      joined = x.joined;
+      ends = x.ends;
+      encoding = x.encoding;
+      fault = x.fault;
+      stands = stands_then;
+      keeps = keeps_entry;
+      measuring = w.measuring (chars left) (chars rest) m.looks.finds x.measuring;
+      last = inr (not_encoding (in_characters s) k e some (step_is ∙ ap Some is), held_entry, lies_at s.text (listing (in_characters s)) k (steps.Entry e) (entries_lie s x.keeps.utf8) (step_is ∙ ap Some is));
+    }
+
+  -- Where no entry comes.
+  pub streams_other : ((e : Entry) → step ≡ steps.Entry e → ⊥) → StreamsIn (streamed r d None) s (k + entries_in step) more broken
+  streams_other no_entry = record {
+    before = x.before;
+    whole = x.whole;
+    base = x.base;
+    begins = x.begins;
+    closed = x.closed;
+    joined = x.joined;
+    ends = x.ends;
+    encoding = x.encoding;
+    fault = x.fault;
+    stands = stands_then;
+    keeps = subst (Holds s r) (left_same step (left ++ coming) (rest ++ coming) no_entry) keeps_then;
+    measuring = w.measuring (chars left) (chars rest) m.looks.finds x.measuring;
+    last = tt;
+  }

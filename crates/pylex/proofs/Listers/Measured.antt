@@ -1,0 +1,119 @@
+-- The layout before the first significant token of a logical line, and what follows it.
+--
+-- Carries: stop_within, remaining_lexeme, lexeme_front, behind_steps-append and 3 more, for
+-- Finding, Ending, Passing, Carried and 3 more. On: Steps, Run, Full.
+use Rattle.std.proofs.Common.{◌≡◌, ℕ, ◌<◌, true, false, ◌==◌, List, [], ◌∷◌, ◌++◌, length, take, drop, refl, ap, ◌∙◌, sym, subst, arith, Option, Some, None}
+use Rattle.std.specs.Prelude.{option_map}
+use Rattle.std.proofs.lemmas.Bool.Decides.{nat_tests}
+use Rattle.std.proofs.lemmas.List.{take-append-drop}
+use Rattle.pylex.specs.declared.entries.ListingFault.{ListingFault}
+use Rattle.pylex.specs.declared.entries.Step.{Step}
+use Rattle.pylex.specs.declared.entries.Step.TheVariants as steps
+use Rattle.pylexeme.specs.declared.lexeme.Class.{Class}
+use Rattle.pylexeme.specs.declared.lexeme.Class.TheVariants.{Name, Number, String, Operator, Comment, Blanks, LineEnd, Join}
+use Rattle.pylexeme.specs.Lexemes.{Lexeme, lexeme_at, lexeme_len, class_in}
+use Rattle.pylex.specs.Lines.{is_significant}
+use Rattle.pylexeme.specs.Chars.{bytes_in}
+use Rattle.pylex.specs.Listing.{stop_fault, up_to_end}
+use Rattle.pylex.specs.Machine.{State, after, gives, entry_by, layout_of, stop_of, remaining, behind_steps}
+use Rattle.pylex.specs.LineState.{measured}
+use Rattle.pylex.proofs.MachineLaws.Run.{up_to_end-append}
+use Rattle.pylex.proofs.MachineLaws.Steps.{remaining_step, remaining_stop}
+use Rattle.pylex.proofs.MachineLaws.Full.{lexeme_full}
+
+-- the state after a significant token is the same, measured before or with it
+pub after_measured : (s : State) (k : Class) (t : List ℕ) → s.margin ≡ true → is_significant (record { «class» = k; text = t }) ≡ true → after (measured s) (record { «class» = k; text = t }) ≡ after s (record { «class» = k; text = t })
+unfolding after
+after_measured s Name t m e = rw m refl
+after_measured s Number t m e = rw m refl
+after_measured s String t m e = rw m refl
+after_measured s (Operator o) t m e = rw m refl
+after_measured s Join t m e = rw m refl
+after_measured s Blanks t m e = cc
+after_measured s Comment t m e = cc
+after_measured s LineEnd t m e = cc
+
+-- and what it gives comes behind the layout
+pub gives_measured : (s : State) (k : Class) (t : List ℕ) → s.margin ≡ true → is_significant (record { «class» = k; text = t }) ≡ true → gives s (record { «class» = k; text = t }) ≡ layout_of s ++ gives (measured s) (record { «class» = k; text = t })
+unfolding gives entry_by layout_of
+gives_measured s Name t m e = refl
+gives_measured s Number t m e = refl
+gives_measured s String t m e = refl
+gives_measured s (Operator o) t m e = refl
+gives_measured s Join t m e = refl
+gives_measured s Blanks t m e = cc
+gives_measured s Comment t m e = cc
+gives_measured s LineEnd t m e = cc
+
+pub behind_steps-append : (a b c : List Step) → behind_steps (a ++ b) c ≡ behind_steps a (behind_steps b c)
+behind_steps-append [] b c = refl
+behind_steps-append (steps.Entry e ∷ a) b c = ap (λ ss. steps.Entry e ∷ ss) (behind_steps-append a b c)
+behind_steps-append (steps.End ∷ a) b c = refl
+behind_steps-append (steps.Fault f ∷ a) b c = refl
+
+-- the text of a lexeme is a front of the text
+front_by : (t : List ℕ) (o : Option Class) (x : Lexeme) → option_map (λ k. record { «class» = k; text = t }) o ≡ Some x → x.text ≡ t
+front_by t None x e = cc
+front_by t (Some k) x e = cc
+
+pub lexeme_front : (cs : List ℕ) (x : Lexeme) → lexeme_at cs ≡ Some x → x.text ≡ take (lexeme_len cs) cs
+unfolding lexeme_at
+lexeme_front cs x e = front_by (take (lexeme_len cs) cs) (class_in cs (take (lexeme_len cs) cs)) x e
+
+full_length : (t : List ℕ) → 0 < bytes_in t → 0 < length t
+full_length [] h = absurd (omega (arith, no_bytes))
+  where
+    no_bytes : bytes_in [] ≡ 0
+    no_bytes = refl
+full_length (c ∷ t) h = omega arith
+
+-- one lexeme off the front of what is left to list
+pub remaining_lexeme : (fault : Option ListingFault) (s : State) (cs : List ℕ) (x : Lexeme) → lexeme_at cs ≡ Some x → remaining fault s cs ≡ behind_steps (gives s x) (remaining fault (after s x) (drop (lexeme_len cs) cs))
+remaining_lexeme fault s cs x e =
+    let front = take (lexeme_len cs) cs in
+    let back = drop (lexeme_len cs) cs in
+    let whole : front ++ back ≡ cs = take-append-drop (lexeme_len cs) cs in
+    let text : x.text ≡ front = lexeme_front cs x e in
+    let some : 0 < length front = full_length front (subst (λ (t : List ℕ). 0 < bytes_in t) text (lexeme_full cs x e)) in
+    let at : lexeme_at (front ++ back) ≡ Some x = ap lexeme_at whole ∙ e in
+    ap (remaining fault s) (sym whole) ∙ remaining_step fault s front back x at text some
+
+-- a lexeme, its class and text apart
+measured_at : (fault : Option ListingFault) (s : State) (cs : List ℕ) (k : Class) (t : List ℕ) → s.margin ≡ true → lexeme_at cs ≡ Some (record { «class» = k; text = t }) → is_significant (record { «class» = k; text = t }) ≡ true → remaining fault s cs ≡ behind_steps (layout_of s) (remaining fault (measured s) cs)
+measured_at fault s cs k t m e h =
+    let x : Lexeme = record { «class» = k; text = t } in
+    let back = drop (lexeme_len cs) cs in
+    remaining_lexeme fault s cs x e
+    ∙ ap (λ ss. behind_steps ss (remaining fault (after s x) back)) (gives_measured s k t m h)
+    ∙ behind_steps-append (layout_of s) (gives (measured s) x) (remaining fault (after s x) back)
+    ∙ ap (λ r. behind_steps (layout_of s) (behind_steps (gives (measured s) x) (remaining fault r back))) (sym (after_measured s k t m h))
+    ∙ ap (behind_steps (layout_of s)) (sym (remaining_lexeme fault (measured s) cs x e))
+
+-- before a significant token that is a lexeme
+pub measured_lexeme : (fault : Option ListingFault) (s : State) (cs : List ℕ) (x : Lexeme) → s.margin ≡ true → lexeme_at cs ≡ Some x → is_significant x ≡ true → remaining fault s cs ≡ behind_steps (layout_of s) (remaining fault (measured s) cs)
+measured_lexeme fault s cs x m e h = measured_at fault s cs x.«class» x.text m e h
+
+-- where the cut stops within the text
+pub stop_within : (fault : Option ListingFault) (s : State) (c : ℕ) (cs : List ℕ) → stop_of fault s (c ∷ cs) ≡ layout_of s ++ stop_fault fault s.now.place (c ∷ cs) ∷ []
+unfolding stop_of
+stop_within fault s c cs =
+    let more : (length (c ∷ cs) == 0) ≡ false = grind (arith, nat_tests) in
+    rw more refl
+
+-- the layout of a line that is measured already
+pub layout_measured : (s : State) → layout_of (measured s) ≡ []
+unfolding layout_of
+layout_measured s = refl
+
+-- before a stop within the text
+pub measured_stop : (fault : Option ListingFault) (s : State) (c : ℕ) (cs : List ℕ) → lexeme_at (c ∷ cs) ≡ None → remaining fault s (c ∷ cs) ≡ behind_steps (layout_of s) (remaining fault (measured s) (c ∷ cs))
+measured_stop fault s c cs e =
+    let last = stop_fault fault s.now.place (c ∷ cs) ∷ [] in
+    remaining_stop fault s (c ∷ cs) e
+    ∙ ap up_to_end (stop_within fault s c cs)
+    ∙ up_to_end-append (layout_of s) last
+    ∙ ap (λ ss. behind_steps (layout_of s) (up_to_end ss)) (sym (stop_within fault (measured s) c cs ∙ ap (λ ss. ss ++ last) (layout_measured s) ∙ nil_append last))
+    ∙ ap (behind_steps (layout_of s)) (sym (remaining_stop fault (measured s) (c ∷ cs) e))
+  where
+    nil_append : (ss : List Step) → [] ++ ss ≡ ss
+    nil_append ss = refl

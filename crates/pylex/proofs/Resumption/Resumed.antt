@@ -1,0 +1,67 @@
+-- The state at a point, told by the cursor's parts and the line before it.
+--
+-- Carries: column_is, resumed_start, front_line, for Ahead, Looking, Ranges, Points and 1 more. On:
+-- Law, LeadingChar, Resume.
+use Rattle.std.proofs.Common.{◌≡◌, ℕ, Bool, true, false, not, ◌==◌, List, [], ◌∷◌, length, refl, ap, ◌∙◌, sym, arith, reverse, ⊎_elim}
+use Rattle.std.specs.List.{take_while, prefix_len}
+use Rattle.std.proofs.lemmas.List.{reverse-reverse, length-reverse}
+use Rattle.std.proofs.lemmas.List.Sums.{take_while-cons}
+use Rattle.pysource.specs.Places.{place_after}
+use Rattle.pylexeme.specs.Lexemes.{Lexeme}
+use Rattle.pylex.specs.Lines.{text_before, line_so_far, is_at_margin, is_logical}
+use Rattle.pylex.specs.Indentation.{width_from, width_at}
+use Rattle.pylex.specs.Listing.{last_line, ends_in_join}
+use Rattle.pylex.specs.Cursors.{cursor_at}
+use Rattle.pylex.specs.Machine.{front_after}
+use Rattle.pylex.specs.declared.line_state.LeadingChar.TheVariants.{Nothing}
+use Rattle.pylex.specs.Standing.{resumed}
+use Rattle.pylexeme.proofs.Cases.{bool_cases}
+use Rattle.pylex.proofs.MachineLaws.Law.{state_of, point_after}
+use Rattle.pylex.proofs.MachineLaws.LeadingChar.{last_front, front_in}
+use Rattle.pylex.proofs.Resumption.Resume.{begun_at}
+
+abbrev goes_on : ℕ → Bool
+goes_on c = not (c == 10)
+
+front_length : (r : List ℕ) → length (take_while goes_on r) ≡ prefix_len goes_on r
+front_length [] = refl
+front_length (c ∷ r) = ⊎_elim
+    (λ (e : (c == 10) ≡ true). rw take_while-cons (rw e refl))
+    (λ (e : (c == 10) ≡ false). let h = front_length r in rw take_while-cons (rw e (omega arith)))
+    (bool_cases (c == 10))
+
+pub column_is : (t : List ℕ) → (place_after t).column ≡ length (last_line t)
+unfolding place_after last_line
+column_is t = sym (length-reverse (take_while goes_on (reverse t)) ∙ front_length (reverse t))
+
+front_again : (r : List ℕ) → take_while goes_on (take_while goes_on r) ≡ take_while goes_on r
+front_again [] = refl
+front_again (c ∷ r) = ⊎_elim
+    (λ (e : (c == 10) ≡ true). let w : take_while goes_on (c ∷ r) ≡ [] = rw take_while-cons (rw e refl) in ap (take_while goes_on) w ∙ sym w)
+    (λ (e : (c == 10) ≡ false).
+    let h = front_again r in
+    let w : take_while goes_on (c ∷ r) ≡ c ∷ take_while goes_on r = rw take_while-cons (rw e refl) in
+    let v : take_while goes_on (c ∷ take_while goes_on r) ≡ c ∷ take_while goes_on r = rw take_while-cons (rw e (ap (λ t. c ∷ t) h)) in
+    ap (take_while goes_on) w ∙ v ∙ sym w)
+    (bool_cases (c == 10))
+
+pub front_line : (t : List ℕ) → front_after Nothing (last_line t) ≡ front_after Nothing t
+unfolding last_line
+front_line t =
+    let again : last_line (last_line t) ≡ last_line t = ap (λ r. reverse (take_while goes_on r)) (reverse-reverse (take_while goes_on (reverse t))) ∙ ap reverse (front_again (reverse t)) in
+    sym (last_front (last_line t) []) ∙ ap front_in again ∙ last_front t []
+
+pub resumed_begun : (h : List Lexeme) (k n : ℕ) → is_logical h ≡ true → is_at_margin h ≡ false → ends_in_join h ≡ false → resumed (cursor_at k n false h) (last_line (text_before h)) ≡ begun_at (state_of h) (point_after (text_before h))
+unfolding resumed cursor_at state_of
+resumed_begun h k n l m j =
+    let c = sym (column_is (text_before h)) in
+    let f = front_line (text_before h) in
+    rw (c, f, l, m, j) refl
+
+pub resumed_start : (h : List Lexeme) (k n : ℕ) → line_so_far h ≡ [] → ends_in_join h ≡ false → last_line (text_before h) ≡ [] → resumed (cursor_at k n false h) (last_line (text_before h)) ≡ state_of h
+unfolding resumed cursor_at state_of is_logical is_at_margin width_at width_from
+resumed_start h k n l j e =
+    let c : (place_after (text_before h)).column ≡ 0 = column_is (text_before h) ∙ ap length e in
+    let p : record { row = (place_after (text_before h)).row; column = 0 } ≡ place_after (text_before h) = sym (ap (λ q. record { row = (place_after (text_before h)).row; column = q }) c) in
+    let f : Nothing ≡ front_after Nothing (text_before h) = sym (ap (front_after Nothing) e) ∙ front_line (text_before h) in
+    rw (e, l, j, ← f, p) refl

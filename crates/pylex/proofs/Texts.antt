@@ -1,0 +1,5 @@
+-- Texts that are read and written: lines, fields, cursors.
+pub mod LinesLemmas
+pub mod CursorLemmas
+pub mod LastLines
+pub mod Plain

@@ -1,0 +1,4 @@
+-- Worked examples, by computation.
+pub mod Computing
+pub mod Examples
+pub mod LiteralExamples

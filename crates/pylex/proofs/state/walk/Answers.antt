@@ -1,6 +1,0 @@
-use Rattle.std.proofs.Common.{sym, rules}
-use Rattle.pylex.proofs.Plain.{advance_plain}
-use Rattle.pylex.proofs.state.walk.Goals as goal
-
-pub returns-clause-place : goal.returns-clause-place
-returns-clause-place c = sym (advance_plain c.args.place c.args.text.now (search rules))

@@ -1,5 +1,0 @@
-use Rattle.pylex.proofs.Steppings.{place_held}
-use Rattle.pylex.proofs.stream.LineLister.shows.Goals as goal
-
-pub is_at-requires : goal.is_at-requires
-is_at-requires c = place_held c.self.inside.position c.self.inside.chunk c.self.inside.last c.self.invariant

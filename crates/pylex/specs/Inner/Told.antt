@@ -1,0 +1,54 @@
+-- What the class of a lexeme tells of the places in its text.
+use Rattle.std.specs.Prelude.{◌≡◌, ℕ, ◌+◌, Bool, true, false, List, length}
+use Rattle.std.specs.Str.{chars}
+use Rattle.pysource.specs.declared.places.Place.{Place}
+use Rattle.pylexeme.specs.declared.lexeme.Class.{Class}
+use Rattle.pylexeme.specs.declared.lexeme.Class.TheVariants.{Name, Number, String, Operator, Comment, Blanks, LineEnd, Join}
+use Rattle.pylex.specs.declared.line_state.LeadingChar.{LeadingChar}
+use Rattle.pylex.specs.declared.line_state.LeadingChar.TheVariants.{Nothing, Hash, Other}
+use Rattle.pylex.specs.declared.entries.Entry.{Entry}
+use Rattle.pylex.specs.declared.kind.Kind.{Kind}
+use Rattle.pylex.specs.declared.kind.Kind.TheVariants as kinds
+use Rattle.pylex.specs.declared.line_state.Emitted.TheVariants as gives
+use Rattle.pylex.specs.declared.line_state.LineState.{LineState}
+use Rattle.pylex.specs.Machine.{place_past, front_after, after, entry_by}
+use Rattle.pylex.specs.LineState.{with_levels, given}
+
+-- each byte is a character of one line
+abbrev pub GoesOn : List ℕ → Type 0
+GoesOn bs = (p : Place) → place_past p (chars bs) ≡ record { row = p.row; column = p.column + length bs }
+
+-- a line ends with it
+abbrev pub EndsRow : List ℕ → Type 0
+EndsRow bs = (p : Place) → place_past p (chars bs) ≡ record { row = p.row + 1; column = 0 }
+
+-- what a line begins with after a character that is neither a blank nor `#`
+abbrev pub begun_by : LeadingChar → LeadingChar
+begun_by f = elim f [ Nothing ↦ Other | Hash ↦ Hash | Other ↦ Other ]
+
+-- what is known without a look at the text
+abbrev pub Tells : Class → List ℕ → Type 0
+Tells Name bs = Unit {0}
+Tells Number bs = Unit {0}
+Tells String bs = Unit {0}
+Tells Comment bs = Unit {0}
+Tells (Operator o) bs = GoesOn bs × ((f : LeadingChar) → front_after f (chars bs) ≡ begun_by f)
+Tells Blanks bs = GoesOn bs × ((f : LeadingChar) → front_after f (chars bs) ≡ f)
+Tells LineEnd bs = EndsRow bs × ((f : LeadingChar) → front_after f (chars bs) ≡ Nothing) × (length (chars bs) ≡ length bs)
+Tells Join bs = EndsRow bs × ((f : LeadingChar) → front_after f (chars bs) ≡ Nothing)
+
+-- a lexeme that is given as it stands, operators aside
+abbrev pub is_text : Class → Bool
+is_text k = elim k [ Name ↦ true | Number ↦ true | String ↦ true | Comment ↦ true | _ ↦ false ]
+
+-- and the type of its entry
+abbrev pub text_kind : Class → Kind
+text_kind k = elim k [ Name ↦ kinds.Name | Number ↦ kinds.Number | String ↦ kinds.String | _ ↦ kinds.Comment ]
+
+-- one state is another after a lexeme, whatever levels are open
+abbrev pub Passed : LineState → Class → List ℕ → LineState → Type 0
+Passed p k t q = (levels : List ℕ) → with_levels q levels ≡ after (with_levels p levels) (record { «class» = k; text = t })
+
+-- and the lexeme gives an entry
+abbrev pub GivesEntry : LineState → Class → List ℕ → Entry → Type 0
+GivesEntry p k t e = (levels : List ℕ) → entry_by (with_levels p levels) (record { «class» = k; text = t }) ≡ given (gives.Entry e)

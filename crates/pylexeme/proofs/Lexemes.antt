@@ -1,0 +1,6 @@
+-- The longest lexeme of all classes, and the class of a text.
+pub mod Classes
+pub mod Union
+pub mod OperatorLengths
+pub mod Seconds
+pub mod Cutting

@@ -1,0 +1,4 @@
+-- The longest number.
+pub mod NumberSets
+pub mod Parts
+pub mod NumberBest

@@ -1,0 +1,7 @@
+-- The first lexeme of some whole lines, whatever follows them.
+pub mod InLine
+pub mod LinedUnits
+pub mod LineFronts
+pub mod Kept
+pub mod Lengthened
+pub mod OpenLiterals

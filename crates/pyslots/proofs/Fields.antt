@@ -1,0 +1,8 @@
+-- What passes in the fields of a tree.
+pub mod Tests
+pub mod Levels
+pub mod Entries
+pub mod TargetShapes
+pub mod Arranging
+pub mod AsSpelled
+pub mod Dots

@@ -1,0 +1,86 @@
+//! The lines of a source that a reader gives, one at a time, from a reader of its own.
+//!
+//! Python language reference, 2.1.2 "Physical lines" and 2.1.4 "Encoding declarations".
+
+ghost use Rattle.std.specs.Prelude.{◌≡◌, ℕ, ◌+◌, ◌-◌, ◌^◌, ◌<◌, ◌≤◌, false, List, Option, length};
+ghost use Rattle.std.specs.Prelude.{IfOk, IfErr};
+ghost use Rattle.std.specs.String.{string_bytes};
+ghost use Rattle.pysource.specs.Bytes.{IsSteady};
+ghost use Rattle.pysource.specs.Limits.{source_limit};
+ghost use Rattle.pysource.specs.Streams.{NextLine, Opens, Refuses};
+ghost use Rattle.pysource.specs.Taking.{fails};
+
+use crate::bytes::ByteIn;
+use crate::encodings::Encoding;
+use crate::line_reader::{Line, LineReader, StreamFault};
+use std::alloc::{AllocError, Global};
+
+/// Reads the lines of a source from a reader of its own.
+#[derive(Drop)]
+pub struct Chunks<R: ByteIn> {
+    reader: R,
+    told: u64,
+    lines: LineReader,
+    // The reader can be read on where reading isn't over.
+    ghost possible: { told < 2 ^ 64 - 1 },
+    // Besides the failures that it told when it was taken, at most one was counted.
+    ghost counted: { R.failure_count reader ≡ told + fails lines.reach },
+}
+
+impl<R: ByteIn> Chunks<R> {
+    /// Opens the lines of a source, as [`LineReader::new`] does. A refusal drops the reader. Where
+    /// no read can fail, `Read` tells that the source has more bytes than `SOURCE_LIMIT`.
+    pub fn new(alloc: Global, mut reader: R) -> Result<Chunks<R>, StreamFault>
+    where
+        R: Drop,
+        requires { R.failure_count reader < 2 ^ 64 - 1 }
+        ensures opens { IfOk result
+            (λ c. Opens (R.to_come reader) (R.to_come c.reader) (R.failure_count reader)
+            (R.failure_count c.reader) c.lines) }
+        ensures told { IfOk result (λ c. c.told ≡ R.failure_count reader) }
+        ensures steady { IfOk result
+            (λ c. IsSteady (R.may_fail reader) (R.may_fail c.reader) (R.failure_count reader)
+            (R.failure_count c.reader)) }
+        ensures refuses { IfErr result
+            (λ e. (come : Option (List ℕ)) × (told : ℕ)
+            × (R.may_fail reader ≡ false → told ≡ R.failure_count reader)
+            × Refuses (R.to_come reader) come (R.failure_count reader) told e) }
+    {
+        let told = reader.failures();
+        let lines = LineReader::new(alloc, &mut reader)?;
+        Ok(Chunks {
+            reader,
+            told,
+            lines,
+        })
+    }
+
+    /// The encoding that the first two lines declare.
+    pub fn encoding(&self) -> &Encoding
+        ensures { result.now ≡ self.now.lines.encoding }
+    {
+        self.lines.encoding()
+    }
+
+    /// The reader, as far as it was read.
+    pub fn reader(&self) -> &R
+        ensures { result.now ≡ self.now.reader }
+    {
+        &self.reader
+    }
+
+    /// Appends the next line, as [`LineReader::next_line`] does.
+    pub fn next_line(&mut self, chunk: &mut String) -> Result<Line, AllocError>
+        ensures moves { NextLine (R.to_come self.old.reader) (R.to_come self.new.reader)
+            (R.failure_count self.old.reader)
+            (R.failure_count self.new.reader) self.old.lines self.new.lines (string_bytes chunk.old)
+            (string_bytes chunk.new) result }
+        ensures within { self.new.lines.count ≤ source_limit }
+        ensures pending { length self.new.lines.pending ≤ self.new.lines.count }
+        ensures told { self.new.told ≡ self.old.told }
+        ensures steady { IsSteady (R.may_fail self.old.reader) (R.may_fail self.new.reader)
+            (R.failure_count self.old.reader) (R.failure_count self.new.reader) }
+    {
+        self.lines.next_line(&mut self.reader, chunk)
+    }
+}

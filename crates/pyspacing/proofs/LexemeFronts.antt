@@ -1,0 +1,8 @@
+-- A piece is the lexeme at the front of the text from it on.
+pub mod Fronts
+pub mod NameFronts
+pub mod NumberFronts
+pub mod OperatorFronts
+pub mod StringFronts
+pub mod PieceFronts
+pub mod LineCuts

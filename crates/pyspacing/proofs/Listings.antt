@@ -1,0 +1,6 @@
+-- The listing of the text of written lines.
+pub mod Columns
+pub mod Tells
+pub mod Margins
+pub mod Runs
+pub mod Relisting

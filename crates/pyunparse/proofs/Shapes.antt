@@ -1,0 +1,5 @@
+-- The shapes and the heights of trees that are walked.
+pub mod StatementLemmas
+pub mod HeightLemmas
+pub mod MeasureLemmas
+pub mod ShapeLemmas

@@ -1,0 +1,128 @@
+-- Carries: the measures of the walk. What stands in an expression, a clause, an argument or
+-- parameters is no higher than these.
+use Rattle.std.proofs.Common.{◌≡◌, ◌∙◌, ℕ, ◌+◌, ◌≤◌, max, List, Option, map, Global, ap, sym, arith}
+use Rattle.std.specs.declared.boxed.Box.{Box}
+use Rattle.std.specs.declared.vec.Vec.{Vec}
+use Rattle.pynode.specs.declared.expressions.Arg.{Arg}
+use Rattle.pynode.specs.declared.expressions.Arg as given_arg
+use Rattle.pynode.specs.declared.expressions.Arguments.{Arguments}
+use Rattle.pynode.specs.declared.expressions.Arguments as given_arguments
+use Rattle.pynode.specs.declared.expressions.Comprehension.{Comprehension}
+use Rattle.pynode.specs.declared.expressions.Comprehension as given_comprehension
+use Rattle.pynode.specs.declared.expressions.Expr.{Expr}
+use Rattle.pynode.specs.declared.expressions.Expr.TheVariants as variant
+use Rattle.pynode.specs.declared.expressions.Keyword.{Keyword}
+use Rattle.pynode.specs.declared.expressions.Keyword as given_keyword
+use Rattle.pynode.specs.declared.operators.Comparison.{Comparison}
+use Rattle.pynode.specs.Trees.{args, comprehensions, exprs, keywords, optional, optional_arg, optionals}
+use Rattle.pynode.specs.TreeOf.{arg_of, arg_option_of, arguments_of, boxed_of, comprehension_of, keyword_of, option_of, tree_of}
+use Rattle.pynode.proofs.Callers.ExprShapes.{arg_tree, arguments_tree, call_tree, compare_tree, comprehension_tree, dict_comp_tree, generator_exp_tree, keyword_tree}
+use Rattle.pyheight.specs.Heights.{arg_height, arg_heights, arguments_height, comprehension_heights, height, heights, keyword_heights, optional_arg_height, optional_height, optional_heights}
+use Rattle.pyunparse.specs.Inner.Clauses.{clause_height}
+
+-- ---- Classes of expressions.
+
+pub generator_height : (e x : Expr) (gs : List Comprehension) (elt : Box Expr Global) (generators : Vec Comprehension Global) →
+    e ≡ variant.GeneratorExp elt generators → x ≡ elt.value → gs ≡ generators.items →
+    height (tree_of e) ≡ max (height (tree_of x)) (comprehension_heights (comprehensions (map comprehension_of gs))) + 1
+generator_height e x gs elt generators is hx hg =
+    ap (λ z. height (tree_of z)) is ∙ ap height (generator_exp_tree elt generators)
+    ∙ (λ i. max (height (tree_of (sym hx i))) (comprehension_heights (comprehensions (map comprehension_of (sym hg i)))) + 1)
+
+pub dict_comp_height : (e k x : Expr) (gs : List Comprehension) (key value : Box Expr Global) (generators : Vec Comprehension Global) →
+    e ≡ variant.DictComp key value generators → k ≡ key.value → x ≡ value.value → gs ≡ generators.items →
+    height (tree_of e) ≡ max (height (tree_of k)) (max (height (tree_of x)) (comprehension_heights (comprehensions (map comprehension_of gs)))) + 1
+dict_comp_height e k x gs key value generators is hk hx hg =
+    ap (λ z. height (tree_of z)) is ∙ ap height (dict_comp_tree key value generators)
+    ∙ (λ i. max (height (tree_of (sym hk i))) (max (height (tree_of (sym hx i))) (comprehension_heights (comprehensions (map comprehension_of (sym hg i))))) + 1)
+
+pub compare_height : (e l : Expr) (es : List Expr) (left : Box Expr Global) (ops : Vec Comparison Global) (comparators : Vec Expr Global) →
+    e ≡ variant.Compare left ops comparators → l ≡ left.value → es ≡ comparators.items →
+    height (tree_of e) ≡ max (height (tree_of l)) (heights (exprs (map tree_of es))) + 1
+compare_height e l es left ops comparators is hl he =
+    ap (λ z. height (tree_of z)) is ∙ ap height (compare_tree left ops comparators)
+    ∙ (λ i. max (height (tree_of (sym hl i))) (heights (exprs (map tree_of (sym he i)))) + 1)
+
+pub call_height : (e f : Expr) (es : List Expr) (ks : List Keyword) (func : Box Expr Global) (arguments : Vec Expr Global) (words : Vec Keyword Global) →
+    e ≡ variant.Call func arguments words → f ≡ func.value → es ≡ arguments.items → ks ≡ words.items →
+    height (tree_of e) ≡ max (height (tree_of f)) (max (heights (exprs (map tree_of es))) (keyword_heights (keywords (map keyword_of ks)))) + 1
+call_height e f es ks func arguments words is hf he hk =
+    ap (λ z. height (tree_of z)) is ∙ ap height (call_tree func arguments words)
+    ∙ (λ i. max (height (tree_of (sym hf i))) (max (heights (exprs (map tree_of (sym he i)))) (keyword_heights (keywords (map keyword_of (sym hk i))))) + 1)
+
+-- ---- What is no expression.
+
+pub keyword_height : (k : Keyword) → height (keyword_of k).value ≡ height (tree_of (given_keyword.out-Keyword k).value)
+keyword_height k = ap (λ z. height z.value) (keyword_tree k)
+
+pub named_arg_height : (a : Arg) → arg_height (arg_of a) ≡ optional_height (optional (boxed_of (given_arg.out-Arg a).annotation))
+named_arg_height a = ap arg_height (arg_tree a)
+
+pub parts_height : (c : Comprehension) (es : List Expr) → es ≡ (given_comprehension.out-Comprehension c).ifs.items →
+    clause_height (comprehension_of c)
+    ≡ max (height (tree_of (given_comprehension.out-Comprehension c).target)) (max (height (tree_of (given_comprehension.out-Comprehension c).iter)) (heights (exprs (map tree_of es))))
+parts_height c es h =
+    ap clause_height (comprehension_tree c)
+    ∙ (λ i. max (height (tree_of (given_comprehension.out-Comprehension c).target)) (max (height (tree_of (given_comprehension.out-Comprehension c).iter)) (heights (exprs (map tree_of (sym h i))))))
+
+-- ---- Parameters.
+
+seven_places : (a b c d e f g : ℕ) → max a (max b g) ≤ max a (max b (max c (max d (max e (max f g)))))
+seven_places a b c d e f g = omega arith
+
+seven_star : (a b c d e f g : ℕ) → c ≤ max a (max b (max c (max d (max e (max f g)))))
+seven_star a b c d e f g = omega arith
+
+seven_keyword_only : (a b c d e f g : ℕ) → max d e ≤ max a (max b (max c (max d (max e (max f g)))))
+seven_keyword_only a b c d e f g = omega arith
+
+seven_gathered : (a b c d e f g : ℕ) → f ≤ max a (max b (max c (max d (max e (max f g)))))
+seven_gathered a b c d e f g = omega arith
+
+module _ (a : Arguments) where
+  -- the heights of the seven parts
+  abbrev P : ℕ
+  P = arg_heights (args (map arg_of (given_arguments.out-Arguments a).posonlyargs.items))
+
+  abbrev Q : ℕ
+  Q = arg_heights (args (map arg_of (given_arguments.out-Arguments a).args.items))
+
+  abbrev V : ℕ
+  V = optional_arg_height (optional_arg (arg_option_of (given_arguments.out-Arguments a).vararg))
+
+  abbrev O : ℕ
+  O = arg_heights (args (map arg_of (given_arguments.out-Arguments a).kwonlyargs.items))
+
+  abbrev E : ℕ
+  E = optional_heights (optionals (map option_of (given_arguments.out-Arguments a).kw_defaults.items))
+
+  abbrev K : ℕ
+  K = optional_arg_height (optional_arg (arg_option_of (given_arguments.out-Arguments a).kwarg))
+
+  abbrev D : ℕ
+  D = heights (exprs (map tree_of (given_arguments.out-Arguments a).defaults.items))
+
+  whole : arguments_height (arguments_of a) ≡ max P (max Q (max V (max O (max E (max K D)))))
+  whole = ap arguments_height (arguments_tree a)
+
+  pub places_lower : (ps qs : List Arg) (ds : List Expr) →
+      ps ≡ (given_arguments.out-Arguments a).posonlyargs.items → qs ≡ (given_arguments.out-Arguments a).args.items → ds ≡ (given_arguments.out-Arguments a).defaults.items →
+      max (arg_heights (args (map arg_of ps))) (max (arg_heights (args (map arg_of qs))) (heights (exprs (map tree_of ds)))) ≤ arguments_height (arguments_of a)
+  places_lower ps qs ds hp hq hd =
+      let same : max (arg_heights (args (map arg_of ps))) (max (arg_heights (args (map arg_of qs))) (heights (exprs (map tree_of ds)))) ≡ max P (max Q D) =
+      (λ i. max (arg_heights (args (map arg_of (hp i)))) (max (arg_heights (args (map arg_of (hq i)))) (heights (exprs (map tree_of (hd i)))))) in
+      rw (same, whole) (seven_places P Q V O E K D)
+
+  pub star_lower : V ≤ arguments_height (arguments_of a)
+  star_lower = rw whole (seven_star P Q V O E K D)
+
+  pub keyword_only_lower : (ks : List Arg) (es : List (Option Expr)) →
+      ks ≡ (given_arguments.out-Arguments a).kwonlyargs.items → es ≡ (given_arguments.out-Arguments a).kw_defaults.items →
+      max (arg_heights (args (map arg_of ks))) (optional_heights (optionals (map option_of es))) ≤ arguments_height (arguments_of a)
+  keyword_only_lower ks es hk he =
+      let same : max (arg_heights (args (map arg_of ks))) (optional_heights (optionals (map option_of es))) ≡ max O E =
+      (λ i. max (arg_heights (args (map arg_of (hk i)))) (optional_heights (optionals (map option_of (he i))))) in
+      rw (same, whole) (seven_keyword_only P Q V O E K D)
+
+  pub gathered_lower : K ≤ arguments_height (arguments_of a)
+  gathered_lower = rw whole (seven_gathered P Q V O E K D)

@@ -1,0 +1,52 @@
+-- Carries: write_bases, write_function_header. The bases and keywords of a class, and what stands
+-- behind the name of a function.
+use Rattle.std.proofs.Common.{◌≡◌, ◌∙◌, ◌==◌, Bool, true, false, ◌&&◌, List, [], ◌∷◌, ◌++◌, length, map, refl, ap, sym}
+use Rattle.std.proofs.lemmas.Bool.{false≢true}
+use Rattle.pylexeme.specs.declared.kinds.Exact.TheVariants.{Comma, LPar, RPar}
+use Rattle.pynode.specs.declared.expressions.Expr as given
+use Rattle.pynode.specs.declared.expressions.Keyword as given_keyword
+use Rattle.pynode.specs.Trees.{Keywords, exprs, keywords}
+use Rattle.pynode.specs.TreeOf.{keyword_of, tree_of}
+use Rattle.pygrammar.specs.declared.levels.Level.TheVariants.{Named}
+use Rattle.pyspacing.specs.Spacing.{Piece}
+use Rattle.pywritten.specs.Pieces.{piece}
+use Rattle.pywritten.specs.Statements.{bases}
+use Rattle.pywritten.specs.Written.{by_name, each, enclosed, listed, tight, trailing, written}
+use Rattle.pyunparse.specs.Inner.Folds.{puts}
+use Rattle.pyunparse.specs.Inner.Members.{members}
+use Rattle.pyunparse.proofs.Sequences.AloneLemmas.{not_zero}
+use Rattle.pyunparse.proofs.Sequences.FoldLemmas.{two}
+use Rattle.pyunparse.proofs.Sequences.MemberLemmas.{is_nil, members_both}
+
+none_each : (es : List given.Expr) → is_nil (each piece Named (exprs (map tree_of es))) ≡ (length es == 0)
+unfolding written
+none_each [] = refl
+none_each (e ∷ es) = sym (not_zero (length es))
+
+-- bases, and keywords behind them
+pub bases_listed : {S : Type 0} (after : S → Piece → S) (s s1 : S) (es : List given.Expr) (ks : Keywords) (b : Bool) →
+    b ≡ (length es == 0) → s1 ≡ puts after s (members true (trailing piece Comma) (each piece Named (exprs (map tree_of es)))) →
+    puts after s1 (members b (trailing piece Comma) (by_name piece ks)) ≡ puts after s (listed piece (each piece Named (exprs (map tree_of es)) ++ by_name piece ks))
+bases_listed after s s1 es ks b h e =
+    let t : Piece = trailing piece Comma in
+    let X : List (List Piece) = each piece Named (exprs (map tree_of es)) in
+    let Y : List (List Piece) = by_name piece ks in
+    two after s (members true t X) (members b t Y) s1 e
+    ∙ ap (λ z. puts after s (members true t X ++ members z t Y)) (h ∙ sym (none_each es))
+    ∙ ap (puts after s) (sym (members_both true t X Y))
+
+-- none of them, and some of them in their brackets
+module _ (b c : Bool) where
+  pub no_bases : (es : List given.Expr) (ks : List given_keyword.Keyword) → b ≡ (length es == 0) → c ≡ (length ks == 0) → (b && c) ≡ true →
+      [] ≡ bases piece (map tree_of es) (keywords (map keyword_of ks))
+  no_bases [] [] h k e = refl
+  no_bases [] (w ∷ ks) h k e = absurd (false≢true (sym (λ i. h i && (k ∙ not_zero (length ks)) i) ∙ e))
+  no_bases (x ∷ es) ks h k e = absurd (false≢true (sym (ap (λ z. z && c) (h ∙ not_zero (length es))) ∙ e))
+
+  pub some_bases : (es : List given.Expr) (ks : List given_keyword.Keyword) → b ≡ (length es == 0) → c ≡ (length ks == 0) → (b && c) ≡ false →
+      enclosed piece (tight piece LPar) RPar (listed piece (each piece Named (exprs (map tree_of es)) ++ by_name piece (keywords (map keyword_of ks))))
+      ≡ bases piece (map tree_of es) (keywords (map keyword_of ks))
+  some_bases [] [] h k e = absurd (false≢true (sym e ∙ (λ i. h i && k i)))
+  some_bases [] (w ∷ ks) h k e = refl
+  some_bases (x ∷ es) [] h k e = refl
+  some_bases (x ∷ es) (w ∷ ks) h k e = refl
