@@ -5,10 +5,15 @@
 //! [`resumed`] it goes on.
 #![tactic(auto)]
 
+mod assignments;
 mod cursors;
 mod listings;
 mod streams;
 
+pub use assignments::assignment;
 pub use cursors::{kept, resumed};
 pub use listings::count_names;
 pub use streams::first_comment;
+
+#[cfg(test)]
+mod tests;
