@@ -8,8 +8,8 @@ ghost use Rattle.uses.specs.Trees.{assignment};
 use pynode::{Constant, Context, Expr, Identifier, Integer, Module, Stmt};
 use std::alloc::{AllocError, Global};
 
-#[tactic(auto, using(pynode::proofs::Callers::ExprShapes::name_tree, pynode::proofs::Callers::ExprShapes::constant_tree, pynode::proofs::Callers::StmtShapes::assign_tree))]
 /// The module of one statement, `name = value`.
+#[tactic(auto, using(pynode::proofs::Callers::ExprShapes::name_tree, pynode::proofs::Callers::ExprShapes::constant_tree, pynode::proofs::Callers::StmtShapes::assign_tree))]
 pub fn assignment(alloc: Global, name: &str, value: u128) -> Result<Module, AllocError>
     ensures { IfOk result (λ made. module_of made ≡ assignment (chars name.now) value) }
 {
