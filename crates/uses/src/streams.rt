@@ -1,0 +1,32 @@
+//! The listing of a source that is read line by line.
+
+ghost use Rattle.std.specs.Prelude.{◌-◌, ◌^◌, ◌<◌};
+
+use pylex::{Kind, Step, StreamLister};
+use pysource::{ByteIn, StreamFault};
+use std::alloc::Global;
+
+/// The first comment of what a reader gives, if there is one before its end or its fault. One line
+/// is held at a time, and at most 8 KiB are read past the line of the comment.
+pub fn first_comment<R: ByteIn + Drop>(
+    alloc: Global,
+    reader: R,
+) -> Result<Option<String>, StreamFault>
+    requires { R.failure_count reader < 2 ^ 64 - 1 }
+{
+    let mut lister = StreamLister::new(alloc, reader)?;
+    loop {
+        let Ok(step) = lister.next() else {
+            return Err(StreamFault::Memory);
+        };
+        let Step::Entry(entry) = step else {
+            return Ok(None);
+        };
+        if entry.kind == Kind::Comment {
+            let Ok(comment) = String::from_str(alloc, lister.text(&entry)) else {
+                return Err(StreamFault::Memory);
+            };
+            return Ok(Some(comment));
+        }
+    }
+}
