@@ -47,8 +47,8 @@ fn perform<R: ByteIn, W: ByteOut>(
 ///
 /// `dump` and `unparse` read the source whole. Where a read fails, or the source is too long, that
 /// alone is told; and nothing is written of a source that is refused. `dump` writes its text in
-/// pieces: where memory ends in the midst of it, a front of it was written. What `unparse` writes is
-/// itself a source, and is accepted as the same module.
+/// pieces: where memory ends in the midst of it, a front of it was written. What `unparse` writes
+/// is itself a source, and is accepted as the same module.
 ///
 /// Behind `dump` and `unparse` the tree of the source is not freed: it is left to the end of the
 /// process, whose last act a run is.

@@ -21,7 +21,8 @@ pub fn kept(lister: &Lister) -> Result<String, AllocError>
 pub fn resumed<'a>(alloc: Global, source: &'a Source, text: &str) -> Result<Lister<'a>, CursorFault>
     ensures source { IfOk result (λ lister. lister.source ≡ source.now) }
     ensures shown { IfOk result (λ lister. cursor_text lister.shown ≡ text.now) }
-    ensures stands { IfOk result (λ lister. StandsIn lister (in_characters source.now) lister.shown.given) }
+    ensures stands { IfOk result
+        (λ lister. StandsIn lister (in_characters source.now) lister.shown.given) }
 {
     let cursor = Cursor::from_text(alloc, text)?;
     Lister::resume_checked(alloc, source, &cursor)

@@ -21,7 +21,8 @@ fn is_name(entry: &Entry) -> bool
 
 /// How many names and keywords a source has before its end or its fault.
 pub fn count_names(alloc: Global, source: &Source) -> Result<usize, AllocError>
-    ensures { IfOk result (λ count. count ≡ count_by is_name (entries_of (listing (in_characters source.now)))) }
+    ensures { IfOk result
+        (λ count. count ≡ count_by is_name (entries_of (listing (in_characters source.now)))) }
 {
     let mut lister = Lister::new(alloc, source);
     let mut count = 0;
