@@ -13,7 +13,7 @@ ghost use Rattle.pystatement.specs.Inner.Imports.{more_names};
 
 use crate::found::{ReadAlias, ReadAliases, ReadName};
 use crate::names::{read_as, read_name};
-use pyexpr::{Stop, append, is_op, name_at};
+use pyexpr::{Stop, is_op, name_at};
 use pylex::Exact;
 use pynode::{Alias, Identifier};
 use pyvalue::{Terminal, name_value};
@@ -105,7 +105,7 @@ pub(crate) fn dotted_aliases(
     let mut next = at;
     'more: loop {
         let one = dotted_alias(alloc, tokens, next)?;
-        append(&mut aliases, one.alias)?;
+        aliases.push(one.alias)?;
         if !is_op(tokens, one.next, Exact::Comma) {
             return Ok(ReadAliases {
                 aliases,
@@ -143,7 +143,7 @@ pub(crate) fn name_aliases(
     let mut next = at;
     'more: loop {
         let one = name_alias(alloc, tokens, next)?;
-        append(&mut aliases, one.alias)?;
+        aliases.push(one.alias)?;
         if !is_op(tokens, one.next, Exact::Comma) {
             return Ok(ReadAliases {
                 aliases,

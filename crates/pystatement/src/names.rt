@@ -6,7 +6,7 @@ ghost use Rattle.pyexpr.specs.Answers.{PartAnswered};
 ghost use Rattle.pyexpr.specs.Views.{seen};
 
 use crate::found::{ReadAs, ReadName, ReadNames};
-use pyexpr::{Stop, append, identifier_of, is_op, is_word, name_at};
+use pyexpr::{Stop, identifier_of, is_op, is_word, name_at};
 use pylex::Exact;
 use pytoken::Keyword;
 use pyvalue::Terminal;
@@ -63,7 +63,7 @@ pub(crate) fn read_names(alloc: Global, tokens: &[Terminal], at: usize) -> Resul
     let mut next = at;
     'more: loop {
         let one = read_name(alloc, tokens, next)?;
-        append(&mut names, one.name)?;
+        names.push(one.name)?;
         if !is_op(tokens, one.next, Exact::Comma) {
             return Ok(ReadNames {
                 names,
