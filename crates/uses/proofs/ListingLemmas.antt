@@ -6,13 +6,13 @@ use Rattle.pylex.specs.declared.entries.Entry.{Entry}
 use Rattle.pylex.specs.declared.entries.Step.{Step}
 use Rattle.pylex.specs.declared.entries.Step.TheVariants as steps
 use Rattle.pylex.specs.Listing.{Source, listing, rest}
-use Rattle.pylex.specs.Listers.{Listed, StandsIn, Moves}
+use Rattle.pylex.specs.Listers.{Listed, StandsIn, NextStep}
 use Rattle.pylex.specs.Steps.{entries_of, entries_in, IsNoEntry}
 use Rattle.pylex.proofs.Callers.{next_is, end_last, fault_last}
 use Rattle.uses.specs.Listings.{is_name}
 
 -- a move of a lister, by the step that came
-pub moved : (old new : Listed) (step came : Step) (s : Source) (k : ℕ) → Moves old step new → step ≡ came → StandsIn old s k →
+pub moved : (old new : Listed) (step came : Step) (s : Source) (k : ℕ) → NextStep old step new → step ≡ came → StandsIn old s k →
     (slice_get (listing s) k ≡ Some came) × StandsIn new s (k + entries_in came)
 moved old new step came s k moves is stands =
     let m = moves s k stands in

@@ -3,8 +3,8 @@ use Rattle.std.proofs.Common.{◌≡◌, ℕ, ◌+◌, ◌≤◌, Bool, true, fa
 use Rattle.pysource.specs.Parts.{Parts}
 use Rattle.pysource.specs.Limits.{source_limit}
 use Rattle.pysource.specs.Streams.{FollowsAt}
-use Rattle.pysource.specs.declared.streams.Reach.{Reach}
-use Rattle.pysource.specs.declared.streams.Reach.TheVariants as reach
+use Rattle.pysource.specs.declared.line_reader.Reach.{Reach}
+use Rattle.pysource.specs.declared.line_reader.Reach.TheVariants as reach
 use Rattle.pylex.specs.declared.entries.Entry.{Entry}
 use Rattle.pylex.specs.declared.entries.Step.{Step}
 use Rattle.pylex.specs.declared.entries.Step.TheVariants as steps
