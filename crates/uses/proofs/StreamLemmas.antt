@@ -8,7 +8,7 @@ use Rattle.pysource.specs.declared.line_reader.Reach.TheVariants as reach
 use Rattle.pylex.specs.declared.entries.Entry.{Entry}
 use Rattle.pylex.specs.declared.entries.Step.{Step}
 use Rattle.pylex.specs.declared.entries.Step.TheVariants as steps
-use Rattle.pylex.specs.Streamed.{Streamed, StreamsIn, Continues, BeginsAnew, Steps}
+use Rattle.pylex.specs.Streamed.{Streamed, StreamsIn, Continues, BeginsAnew, Next}
 
 -- no byte comes any more, since a read failed or the limit was passed
 abbrev is_broken : Reach → Bool
@@ -38,10 +38,10 @@ begun {v = v} b = record {
 }
 
 -- and behind an entry, which is one more
-pub goes_on : {come_old come_new : Option (List ℕ)} {told_old told_new : ℕ} {old new : Streamed} (step : Step) (e : Entry) → Steps come_old come_new told_old told_new old new (Ok step) → step ≡ steps.Entry e → Stands old
+pub goes_on : {come_old come_new : Option (List ℕ)} {told_old told_new : ℕ} {old new : Streamed} (step : Step) (e : Entry) → Next come_old come_new told_old told_new old new (Ok step) → step ≡ steps.Entry e → Stands old
     → Stands new × (new.shown.given ≡ old.shown.given + 1)
 goes_on {come_old} {come_new} {told_old} {told_new} {old} {new} step e by is o =
-    let s = subst (λ (x : Step). Steps come_old come_new told_old told_new old new (Ok x)) is by in
+    let s = subst (λ (x : Step). Next come_old come_new told_old told_new old new (Ok x)) is by in
     let within = s.reads.within o.within in
     let there : (more : List ℕ) (broken : Bool) → Continues new.lines more broken → (p : Parts) × StreamsIn new p (old.shown.given + 1) more broken = λ more broken f.
     let t = o.stands (s.taken ++ more) broken (s.follows more broken f) in
