@@ -44,7 +44,7 @@ goes_on {come_old} {come_new} {told_old} {told_new} {old} {new} step e by is o =
     let s = subst (λ (x : Step). Steps come_old come_new told_old told_new old new (Ok x)) is by in
     let within = s.reads.within o.within in
     let there : (more : List ℕ) (broken : Bool) → Continues new.lines more broken → (p : Parts) × StreamsIn new p (old.shown.given + 1) more broken = λ more broken f.
-        let t = o.stands (s.taken ++ more) broken (s.follows more broken f) in
-        (t.0, (s.moves t.0 old.shown.given more broken f t.1).1) in
+    let t = o.stands (s.taken ++ more) broken (s.follows more broken f) in
+    (t.0, (s.moves t.0 old.shown.given more broken f t.1).1) in
     let one = there [] (is_broken new.lines.reach) (follows_none new.lines.reach, omega arith) in
     (record { within = within; stands = λ more broken f. let t = there more broken f in (t.0, given_is new t.0 (old.shown.given + 1) more broken t.1) }, one.1.stands.count)

@@ -5,9 +5,7 @@ ghost use Rattle.std.specs.Str.{chars};
 ghost use Rattle.pynode.specs.TreeOf.{module_of};
 ghost use Rattle.uses.specs.Trees.{assignment, Tells};
 
-use pytree::{
-    Constant, Context, Expr, Identifier, Integer, Module, Profile, Stmt, well_formed,
-};
+use pytree::{Constant, Context, Expr, Identifier, Integer, Module, Profile, Stmt, well_formed};
 use pyunparse::unparse;
 use std::alloc::{AllocError, Global};
 
@@ -31,11 +29,7 @@ pub fn assignment(alloc: Global, name: &str, value: u128) -> Result<Module, Allo
 
 /// The statement `name = value` as source text, or none where the grammar gives no such tree, as
 /// where the name is a keyword. The text is accepted as this tree, and as no other.
-pub fn assignment_text(
-    alloc: Global,
-    name: &str,
-    value: u128,
-) -> Result<Option<String>, AllocError>
+pub fn assignment_text(alloc: Global, name: &str, value: u128) -> Result<Option<String>, AllocError>
     ensures { IfOk result (Tells (assignment (chars name.now) value)) }
 {
     let tree = assignment(alloc, name, value)?;

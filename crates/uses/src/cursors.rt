@@ -18,11 +18,7 @@ pub fn kept(lister: &Lister) -> Result<String, AllocError>
 
 /// Goes on behind a cursor that was kept as a text. A text that is no cursor's is refused, and a
 /// cursor that this source doesn't have.
-pub fn resumed<'a>(
-    alloc: Global,
-    source: &'a Source,
-    text: &str,
-) -> Result<Lister<'a>, CursorFault>
+pub fn resumed<'a>(alloc: Global, source: &'a Source, text: &str) -> Result<Lister<'a>, CursorFault>
     ensures source { IfOk result (λ lister. lister.source ≡ source.now) }
     ensures shown { IfOk result (λ lister. cursor_text lister.shown ≡ text.now) }
     ensures stands { IfOk result (λ lister. StandsIn lister (in_characters source.now) lister.shown.given) }

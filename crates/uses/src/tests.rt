@@ -51,7 +51,10 @@ fn writes(rt: HostRuntime) -> Result<(), Fail> {
     let text = rewritten(rt.alloc(), &source, Profile::Py311)?;
     assert_eq!(rt; text.as_str(), "x = 1\n");
     let shown = dumped(rt.alloc(), &source, INDENTED)?;
-    assert_eq!(rt; shown.as_str(), "Module(\n  body=[\n    Assign(\n      targets=[\n        Name(id='x', ctx=Store())],\n      value=Constant(value=1))],\n  type_ignores=[])");
+    assert_eq!(rt;
+        shown.as_str(),
+        "Module(\n  body=[\n    Assign(\n      targets=[\n        Name(id='x', ctx=Store())],\n      value=Constant(value=1))],\n  type_ignores=[])"
+    );
     Ok(())
 }
 

@@ -26,11 +26,7 @@ pub fn dumped(alloc: Global, source: &Source, style: Style) -> Result<String, Pa
 }
 
 /// Source text for the tree of a source, with the fewest brackets and no comments.
-pub fn rewritten(
-    alloc: Global,
-    source: &Source,
-    profile: Profile,
-) -> Result<String, ParseFault>
+pub fn rewritten(alloc: Global, source: &Source, profile: Profile) -> Result<String, ParseFault>
     ensures { IfOk result (λ text. IsWritten profile (in_characters source.now) (string_bytes text)) }
 {
     let tree = parse(alloc, source, profile)?;
