@@ -1,7 +1,9 @@
 -- What is written of the tree of a source, and of one that is made by hand.
-use Rattle.std.specs.Prelude.{◌≡◌, ℕ, List, [], ◌∷◌, Option, Some, None, String, string_bytes}
+use Rattle.std.specs.Prelude.{◌≡◌, ℕ, List, [], ◌∷◌, Option, Some, None, Ok, String, string_bytes}
 use Rattle.std.specs.Str.{encode_utf8_all}
-use Rattle.pylex.specs.Listing.{Source}
+use Rattle.pysource.specs.Parts.{Parts}
+use Rattle.pysource.specs.Sources.{source_of}
+use Rattle.pylex.specs.Listing.{Source, in_characters}
 use Rattle.pynode.specs.declared.operators.Context.TheVariants.{Store}
 use Rattle.pynode.specs.declared.profiles.Profile.{Profile}
 use Rattle.pynode.specs.declared.profiles.Profile.TheVariants.{Py311}
@@ -15,6 +17,12 @@ use Rattle.pygrammar.specs.Refusals.{Accepted}
 use Rattle.pyslots.specs.Given.{Stated}
 use Rattle.pywritten.specs.Modules.{module_text}
 use Rattle.pyunparse.specs.RoundTrips.{RoundTrips, GivesBack}
+
+-- bytes are a source that is accepted as a module
+pub record IsTreeOf (profile : Profile) (bytes : List ℕ) (m : Module) : Type 0 where
+  pub parts : Parts
+  pub source_is : source_of bytes ≡ Ok parts
+  pub accepted : Accepted profile (in_characters parts) m
 
 -- a text is the dump of the module that a source is accepted as
 pub record IsDumped (style : Style) (s : Source) (text : List ℕ) : Type 0 where

@@ -1,9 +1,10 @@
 //! What is told of a source that has no tree.
 
 ghost use Rattle.std.specs.Prelude.{◌≡◌, ◌≤◌, length, IfOk, string_bytes};
-ghost use Rattle.pyfault.specs.Faults.{of_parse};
 ghost use Rattle.pysource.specs.Limits.{source_limit};
+ghost use Rattle.pynode.specs.TreeOf.{module_of};
 ghost use Rattle.uses.specs.Faults.{words};
+ghost use Rattle.uses.specs.Trees.{IsTreeOf};
 
 use pyfault::{Fault, FaultCode, fault_text};
 use pyparse::{ParseFault, parse};
@@ -14,6 +15,7 @@ use std::alloc::{AllocError, Global};
 /// The tree of some bytes. Each layer's fault becomes the one that the program tells.
 pub fn tree_of_bytes(alloc: Global, bytes: &[u8], profile: Profile) -> Result<Module, Fault>
     requires { length bytes.now ≤ source_limit }
+    ensures { IfOk result (λ tree. IsTreeOf profile bytes.now (module_of tree)) }
 {
     let source = decode(alloc, bytes)?;
     Ok(parse(alloc, &source, profile)?)
