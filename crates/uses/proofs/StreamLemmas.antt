@@ -2,7 +2,7 @@
 use Rattle.std.proofs.Common.{◌≡◌, ℕ, ◌+◌, ◌≤◌, Bool, true, false, List, [], ◌++◌, Option, Ok, refl, sym, subst, arith}
 use Rattle.pysource.specs.Parts.{Parts}
 use Rattle.pysource.specs.Limits.{source_limit}
-use Rattle.pysource.specs.Streams.{Buffered, FollowsAt}
+use Rattle.pysource.specs.Streams.{FollowsAt}
 use Rattle.pysource.specs.declared.streams.Reach.{Reach}
 use Rattle.pysource.specs.declared.streams.Reach.TheVariants as reach
 use Rattle.pylex.specs.declared.entries.Entry.{Entry}

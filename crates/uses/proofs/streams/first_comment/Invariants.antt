@@ -1,4 +1,4 @@
-use Rattle.std.proofs.Common.{◌-◌, ◌≤◌}
+use Rattle.std.proofs.Common.{◌-◌}
 use Rattle.pylex.specs.Steps.{most_entries}
 use Rattle.uses.proofs.StreamLemmas.{Stands}
 use Rattle.uses.proofs.streams.first_comment.Given as goal
