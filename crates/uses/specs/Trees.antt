@@ -1,10 +1,47 @@
--- A tree that is made by hand.
-use Rattle.std.specs.Prelude.{ℕ, List, [], ◌∷◌}
+-- What is written of the tree of a source, and of one that is made by hand.
+use Rattle.std.specs.Prelude.{◌≡◌, ℕ, List, [], ◌∷◌, Option, Some, None, Ok, String, string_bytes}
+use Rattle.std.specs.Str.{encode_utf8_all}
+use Rattle.pysource.specs.Parts.{Parts}
+use Rattle.pysource.specs.Sources.{source_of}
+use Rattle.pylex.specs.Listing.{Source, in_characters}
 use Rattle.pynode.specs.declared.operators.Context.TheVariants.{Store}
+use Rattle.pynode.specs.declared.profiles.Profile.{Profile}
+use Rattle.pynode.specs.declared.profiles.Profile.TheVariants.{Py311}
 use Rattle.pynode.specs.Trees.{Module}
 use Rattle.pynode.specs.Trees as trees
 use Rattle.pynode.specs.Values as values
+use Rattle.pydump.specs.declared.styles.Style.{Style}
+use Rattle.pydump.specs.Layout.{dump_text}
+use Rattle.pydump.specs.Shows.{shown_module}
+use Rattle.pygrammar.specs.Refusals.{Accepted}
+use Rattle.pyslots.specs.Given.{Stated}
+use Rattle.pywritten.specs.Modules.{module_text}
+use Rattle.pyunparse.specs.RoundTrips.{RoundTrips, GivesBack}
+
+-- bytes are a source that is accepted as a module
+pub record IsTreeOf (profile : Profile) (bytes : List ℕ) (m : Module) : Type 0 where
+  pub parts : Parts
+  pub source_is : source_of bytes ≡ Ok parts
+  pub accepted : Accepted profile (in_characters parts) m
+
+-- a text is the dump of the module that a source is accepted as
+pub record IsDumped (style : Style) (s : Source) (text : List ℕ) : Type 0 where
+  pub tree : Module
+  pub accepted : Accepted style.profile s tree
+  pub text_is : text ≡ dump_text style (shown_module style.profile tree)
+
+-- it is the module's source text
+pub record IsWritten (profile : Profile) (s : Source) (text : List ℕ) : Type 0 where
+  pub tree : Module
+  pub accepted : Accepted profile s tree
+  pub text_is : text ≡ encode_utf8_all (module_text tree)
+  pub back : RoundTrips text tree
 
 -- the module of one statement, `name = value`
 abbrev pub assignment : List ℕ → ℕ → Module
 assignment name value = record { body = trees.Assign (trees.Name name Store ∷ []) (trees.Constant (values.Int value)) ∷ [] }
+
+-- there is no text where the grammar doesn't give the module, and else one that gives it back
+abbrev pub Tells : Module → Option String → Type 0
+Tells m None = Stated Py311 m → ⊥
+Tells m (Some text) = GivesBack Py311 (string_bytes text) m

@@ -3,9 +3,10 @@
 ghost use Rattle.std.specs.Prelude.{◌≡◌, IfOk};
 ghost use Rattle.std.specs.Str.{chars};
 ghost use Rattle.pynode.specs.TreeOf.{module_of};
-ghost use Rattle.uses.specs.Trees.{assignment};
+ghost use Rattle.uses.specs.Trees.{assignment, Tells};
 
-use pynode::{Constant, Context, Expr, Identifier, Integer, Module, Stmt};
+use pytree::{Constant, Context, Expr, Identifier, Integer, Module, Profile, Stmt, well_formed};
+use pyunparse::unparse;
 use std::alloc::{AllocError, Global};
 
 /// The module of one statement, `name = value`.
@@ -24,4 +25,16 @@ pub fn assignment(alloc: Global, name: &str, value: u128) -> Result<Module, Allo
     let mut body = Vec::new(alloc);
     body.push(Stmt::Assign { targets, value })?;
     Ok(Module { body })
+}
+
+/// The statement `name = value` as source text, or none where the grammar gives no such tree, as
+/// where the name is a keyword. The text is accepted as this tree, and as no other.
+pub fn assignment_text(alloc: Global, name: &str, value: u128) -> Result<Option<String>, AllocError>
+    ensures { IfOk result (Tells (assignment (chars name.now) value)) }
+{
+    let tree = assignment(alloc, name, value)?;
+    if !well_formed(alloc, &tree, Profile::Py311)? {
+        return Ok(None);
+    }
+    Ok(Some(unparse(alloc, &tree)?))
 }

@@ -2,18 +2,24 @@
 //!
 //! `docs/LIBRARY.md` quotes them word for word. [`count_names`] lists a source that is held whole,
 //! [`first_comment`] one that is read line by line; with [`kept`] a listing stops, and with
-//! [`resumed`] it goes on.
+//! [`resumed`] it goes on. [`dumped`] and [`rewritten`] write what a source's tree is, and
+//! [`assignment_text`] one that is made by hand. [`tree_of_bytes`] takes the fault of each layer,
+//! and [`described`] tells it.
 #![tactic(auto)]
 
 mod assignments;
 mod cursors;
+mod faults;
 mod listings;
 mod streams;
+mod trees;
 
-pub use assignments::assignment;
+pub use assignments::{assignment, assignment_text};
 pub use cursors::{kept, resumed};
+pub use faults::{described, tree_of_bytes};
 pub use listings::count_names;
 pub use streams::first_comment;
+pub use trees::{INDENTED, dumped, rewritten};
 
 #[cfg(test)]
 mod tests;

@@ -1,8 +1,12 @@
 //! Each example once where all goes well, and where a source is at fault.
 
-use crate::{count_names, first_comment, kept, resumed};
+use crate::{
+    INDENTED, assignment_text, count_names, described, dumped, first_comment, kept, resumed,
+    rewritten, tree_of_bytes,
+};
 use pylex::{Lister, Step};
 use pysource::{Counted, decode};
+use pytree::Profile;
 use std::test::Fail;
 
 /// `if x:`, `    y = x`: four names and keywords.
@@ -37,5 +41,40 @@ fn comments(rt: HostRuntime) -> Result<(), Fail> {
         let found = first_comment(rt.alloc(), reader)?;
         assert_eq!(rt; found.as_deref(), expected);
     }
+    Ok(())
+}
+
+/// As Python 3.12 dumps and unparses it.
+#[test]
+fn writes(rt: HostRuntime) -> Result<(), Fail> {
+    let source = decode(rt.alloc(), b"x = (1)  # one\n")?;
+    let text = rewritten(rt.alloc(), &source, Profile::Py311)?;
+    assert_eq!(rt; text.as_str(), "x = 1\n");
+    let shown = dumped(rt.alloc(), &source, INDENTED)?;
+    assert_eq!(rt;
+        shown.as_str(),
+        "Module(\n  body=[\n    Assign(\n      targets=[\n        Name(id='x', ctx=Store())],\n      value=Constant(value=1))],\n  type_ignores=[])"
+    );
+    Ok(())
+}
+
+/// A name, and a keyword.
+#[test]
+fn assigns(rt: HostRuntime) -> Result<(), Fail> {
+    for (name, expected) in [("x", Some("x = 7\n")), ("if", None)] {
+        let text = assignment_text(rt.alloc(), name, 7)?;
+        assert_eq!(rt; text.as_deref(), expected);
+    }
+    Ok(())
+}
+
+/// A line that has no form.
+#[test]
+fn tells(rt: HostRuntime) -> Result<(), Fail> {
+    let Err(fault) = tree_of_bytes(rt.alloc(), b"x\ny = = 1\n", Profile::Py311) else {
+        return Err(Fail::from("no fault"));
+    };
+    let told = described(rt.alloc(), fault)?;
+    assert_eq!(rt; told.as_str(), "2:0: invalid syntax");
     Ok(())
 }

@@ -1,0 +1,5 @@
+use Rattle.pynode.specs.TreeOf.{module_of}
+use Rattle.uses.proofs.trees.dumped.Goals as goal
+
+pub returns : goal.returns
+returns c = record { tree = module_of c.in_ok-tree.tree; accepted = c.in_ok-tree.ensures.accepted; text_is = c.in_ok-dump.ensures }

@@ -1,0 +1,35 @@
+//! What is told of a source that has no tree.
+
+ghost use Rattle.std.specs.Prelude.{◌≡◌, ◌≤◌, length, IfOk, string_bytes};
+ghost use Rattle.pysource.specs.Limits.{source_limit};
+ghost use Rattle.pynode.specs.TreeOf.{module_of};
+ghost use Rattle.uses.specs.Faults.{words};
+ghost use Rattle.uses.specs.Trees.{IsTreeOf};
+
+use pyfault::{Fault, FaultCode, fault_text};
+use pyparse::{ParseFault, parse};
+use pysource::decode;
+use pytree::{Module, Profile};
+use std::alloc::{AllocError, Global};
+
+/// The tree of some bytes. Each layer's fault becomes the one that the program tells.
+pub fn tree_of_bytes(alloc: Global, bytes: &[u8], profile: Profile) -> Result<Module, Fault>
+    requires { length bytes.now ≤ source_limit }
+    ensures { IfOk result (λ tree. IsTreeOf profile bytes.now (module_of tree)) }
+{
+    let source = decode(alloc, bytes)?;
+    Ok(parse(alloc, &source, profile)?)
+}
+
+/// Where a source is at fault, and how, as `3:4: invalid syntax`.
+pub fn described(alloc: Global, fault: Fault) -> Result<String, AllocError>
+    ensures { IfOk result (λ text. string_bytes text ≡ words fault) }
+{
+    match fault {
+        Fault::InSource(code, place) => {
+            let text = fault_text(FaultCode::Source(code));
+            format!(in alloc; "{}:{}: {text}", place.row, place.column)
+        }
+        Fault::Plain(code) => String::from_str(alloc, fault_text(FaultCode::Run(code))),
+    }
+}
