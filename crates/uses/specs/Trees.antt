@@ -1,6 +1,7 @@
 -- What is written of the tree of a source, and of one that is made by hand.
 use Rattle.std.specs.Prelude.{◌≡◌, ℕ, List, [], ◌∷◌, Option, Some, None, Ok, String, string_bytes}
 use Rattle.std.specs.Str.{encode_utf8_all}
+use Rattle.std.specs.declared.alloc.Global.{Global}
 use Rattle.pysource.specs.Parts.{Parts}
 use Rattle.pysource.specs.Sources.{source_of}
 use Rattle.pylex.specs.Listing.{Source, in_characters}
@@ -42,6 +43,6 @@ abbrev pub assignment : List ℕ → ℕ → Module
 assignment name value = record { body = trees.Assign (trees.Name name Store ∷ []) (trees.Constant (values.Int value)) ∷ [] }
 
 -- there is no text where the grammar doesn't give the module, and else one that gives it back
-abbrev pub Tells : Module → Option String → Type 0
+abbrev pub Tells : Module → Option (String Global) → Type 0
 Tells m None = Stated Py311 m → ⊥
 Tells m (Some text) = GivesBack Py311 (string_bytes text) m

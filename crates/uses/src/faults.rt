@@ -3,7 +3,7 @@
 ghost use Rattle.std.specs.Prelude.{◌≡◌, ◌≤◌, length, IfOk, string_bytes};
 ghost use Rattle.pysource.specs.Limits.{source_limit};
 ghost use Rattle.pynode.specs.TreeOf.{module_of};
-ghost use Rattle.uses.specs.Faults.{words};
+ghost use Rattle.uses.specs.Faults.{placed, words};
 ghost use Rattle.uses.specs.Trees.{IsTreeOf};
 
 use pyfault::{Fault, FaultCode, fault_text};
@@ -21,6 +21,13 @@ pub fn tree_of_bytes(alloc: Global, bytes: &[u8], profile: Profile) -> Result<Mo
     Ok(parse(alloc, &source, profile)?)
 }
 
+/// What stands at a place.
+fn placed(alloc: Global, row: usize, column: usize, text: &str) -> Result<String, AllocError>
+    ensures { IfOk result (λ line. string_bytes line ≡ placed row column text.now) }
+{
+    format!(in alloc; "{row}:{column}: {text}")
+}
+
 /// Where a source is at fault, and how, as `3:4: invalid syntax`.
 pub fn described(alloc: Global, fault: Fault) -> Result<String, AllocError>
     ensures { IfOk result (λ text. string_bytes text ≡ words fault) }
@@ -28,7 +35,7 @@ pub fn described(alloc: Global, fault: Fault) -> Result<String, AllocError>
     match fault {
         Fault::InSource(code, place) => {
             let text = fault_text(FaultCode::Source(code));
-            format!(in alloc; "{}:{}: {text}", place.row, place.column)
+            placed(alloc, place.row, place.column, text)
         }
         Fault::Plain(code) => String::from_str(alloc, fault_text(FaultCode::Run(code))),
     }
