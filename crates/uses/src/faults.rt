@@ -12,6 +12,13 @@ use pysource::decode;
 use pytree::{Module, Profile};
 use std::alloc::{AllocError, Global};
 
+/// What stands at a place.
+fn placed(alloc: Global, row: usize, column: usize, text: &str) -> Result<String, AllocError>
+    ensures { IfOk result (λ line. string_bytes line ≡ placed row column text.now) }
+{
+    format!(in alloc; "{row}:{column}: {text}")
+}
+
 /// The tree of some bytes. Each layer's fault becomes the one that the program tells.
 pub fn tree_of_bytes(alloc: Global, bytes: &[u8], profile: Profile) -> Result<Module, Fault>
     requires { length bytes.now ≤ source_limit }
@@ -19,13 +26,6 @@ pub fn tree_of_bytes(alloc: Global, bytes: &[u8], profile: Profile) -> Result<Mo
 {
     let source = decode(alloc, bytes)?;
     Ok(parse(alloc, &source, profile)?)
-}
-
-/// What stands at a place.
-fn placed(alloc: Global, row: usize, column: usize, text: &str) -> Result<String, AllocError>
-    ensures { IfOk result (λ line. string_bytes line ≡ placed row column text.now) }
-{
-    format!(in alloc; "{row}:{column}: {text}")
 }
 
 /// Where a source is at fault, and how, as `3:4: invalid syntax`.
