@@ -1,13 +1,16 @@
 -- The text of names and constants, which stand on one line in each style.
 --
--- Carries: show_name, show_constant.
-use Rattle.std.proofs.Common.{◌≡◌, ◌∙◌, ap, sym, refl, ◌++◌, ◌||◌, ℕ, List, [], Bool, true, false, codes, if◌then◌else◌, Result, Ok, Err, OnOk, is_ok}
+-- Carries: show_plain_name, show_name, show_constant.
+use Rattle.std.proofs.Common.{◌≡◌, ◌∙◌, ap, sym, refl, ◌++◌, ◌∷◌, ◌||◌, ℕ, List, [], Bool, true, false, codes, if◌then◌else◌, Result, Ok, Err, OnOk, is_ok}
 use Rattle.std.proofs.lemmas.List.{append-nil, append_assoc}
+use Rattle.std.specs.List.{list_all}
+use Rattle.std.specs.Str.{chars}
 use Rattle.pynode.specs.declared.operators.Context.{Context}
 use Rattle.pynode.specs.Trees
 use Rattle.pynode.specs.Values as value
 use Rattle.pynode.specs.Values.{Value}
-use Rattle.pysource.specs.Reprs.{repr_text}
+use Rattle.pysource.specs.Reprs.{is_plain, repr_text}
+use Rattle.pysource.proofs.Printing.PushReprLemmas.{plain_repr}
 use Rattle.pydump.specs.declared.styles.Style.{Style}
 use Rattle.pydump.specs.Shows.{Fields, Scalar, a_field, no_field, context_name, kind_field, shown, shown_name, value_text, word}
 use Rattle.pydump.specs.Layout.{deeper, fields, is_flat, is_short, label, text}
@@ -48,6 +51,20 @@ name_text s f x c o0 o1 o2 o3 start end es ee e1 e2 e3 =
     e3 ∙ (λ i. (e2 ∙ (λ j. (e1 ∙ (λ k. o0 ++ es k)) j ++ repr_text x)) i ++ ee i)
     ∙ sym (name_parts s f x c o0) ∙ sym (ap (λ b. o0 ++ node s f b (codes "Name") (name_fields x c)) (or_true (is_flat s.indent)))
 
+-- its text between the quotes
+quoted_parts : (o p b e : List ℕ) → ((o ++ (p ++ 39 ∷ [])) ++ b) ++ (39 ∷ e) ≡ o ++ (p ++ (39 ∷ b ++ 39 ∷ []) ++ e)
+quoted_parts o p b e = simp append_assoc refl
+
+-- a name whose text is plain
+pub plain_name : (bs : List ℕ) (c : Context) (o0 o1 o2 o3 : List ℕ) → list_all is_plain bs ≡ true →
+    o1 ≡ o0 ++ codes "Name(id='" → o2 ≡ o1 ++ bs → o3 ≡ o2 ++ (codes "', ctx=" ++ context_name c ++ codes "())") →
+    o3 ≡ o0 ++ (codes "Name(id=" ++ repr_text (chars bs) ++ (codes ", ctx=" ++ context_name c ++ codes "())"))
+plain_name bs c o0 o1 o2 o3 plain e1 e2 e3 =
+    let end = codes ", ctx=" ++ context_name c ++ codes "())" in
+    e3 ∙ ap (λ z. z ++ (39 ∷ end)) (e2 ∙ ap (λ z. z ++ bs) e1)
+    ∙ quoted_parts o0 (codes "Name(id=") bs end
+    ∙ ap (λ z. o0 ++ (codes "Name(id=" ++ z ++ end)) (sym (plain_repr bs plain))
+
 abbrev constant_fields : Value → Fields
 constant_fields v = a_field (codes "value") (Scalar (value_text v)) (kind_field v no_field)
 
@@ -77,6 +94,11 @@ constant_text s f v o0 o1 o2 o3 start end es ee e1 e2 e3 =
     e3 ∙ (λ i. (e2 ∙ (λ j. (e1 ∙ (λ k. o0 ++ es k)) j ++ value_text v)) i ++ ee i)
     ∙ sym (constant_parts s f o0 v)
     ∙ sym (ap (λ b. o0 ++ node s f b (codes "Constant") (constant_fields v)) (ap (λ b. is_flat s.indent || b) (short v) ∙ or_true (is_flat s.indent)))
+
+-- what follows from what holds where a call did well
+pub on_ok : {T E P Q : Type 0} (r : Result T E) → (P → Q) → OnOk r P → OnOk r Q
+on_ok (Ok x) f h = f h
+on_ok (Err e) f h = tt
 
 -- what holds where the last text was appended
 pub where_pushed : {T E Q : Type 0} (old more new : List ℕ) (r : Result T E) → (new ≡ more → Q) → new ≡ (if is_ok r then more else old) → OnOk r Q

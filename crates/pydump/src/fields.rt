@@ -70,6 +70,7 @@ pub(crate) enum Field {
 }
 
 /// What stands between the value of another field on the line and the value of this one.
+#[inline(always)]
 pub(crate) fn joined(field: Field) -> &'static str
     ensures { result.now ≡ codes ", " ++ field_name field ++ codes "=" }
 {

@@ -1,17 +1,20 @@
 //! The nodes without a node below them, each of which stands on one line: names and constants.
 
-ghost use Rattle.std.specs.Prelude.{◌≡◌, ◌++◌, ℕ, List, OnOk, codes};
+ghost use Rattle.std.specs.Prelude.{◌≡◌, ◌++◌, ℕ, List, OnOk, codes, true};
+ghost use Rattle.std.specs.List.{list_all};
+ghost use Rattle.std.specs.Str.{chars};
 ghost use Rattle.std.specs.String.{string_bytes};
 ghost use Rattle.pydump.specs.Inner.Slots.{kind_shown};
 ghost use Rattle.pydump.specs.Layout.{label, text};
 ghost use Rattle.pydump.specs.Shows.{context_name, shown};
 ghost use Rattle.pynode.specs.TreeOf.{constant_of};
+ghost use Rattle.pysource.specs.Reprs.{is_plain, repr_text};
 ghost use Rattle.pynode.specs.Trees.{Constant as ConstantTree, Name};
 
 use crate::styles::Style;
 use crate::words::push_value;
 use pynode::{Constant, Context, Identifier};
-use pysource::push_repr;
+use pysource::{is_plain_text, push_repr};
 use std::alloc::AllocError;
 
 /// The end of a node whose last field is its context, which is not its first.
@@ -41,8 +44,35 @@ fn name_start(named: bool) -> &'static str
     if named { "Name(id=" } else { "Name(" }
 }
 
+/// Appends what ends a node whose field before its context is a repr: from the closing quote on.
+#[inline(always)]
+fn push_context_end(out: &mut String, ctx: Context) -> Result<(), AllocError>
+    ensures { OnOk result
+        (string_bytes out.new ≡ string_bytes out.old
+        ++ (codes "', ctx=" ++ context_name ctx ++ codes "())")) }
+{
+    match ctx {
+        Context::Load => out.push_str("', ctx=Load())"),
+        Context::Store => out.push_str("', ctx=Store())"),
+        Context::Del => out.push_str("', ctx=Del())"),
+    }
+}
+
+/// Appends a name, its fields with their names, whose text stands as it is between single quotes.
+#[inline(always)]
+fn show_plain_name(out: &mut String, text: &str, ctx: Context) -> Result<(), AllocError>
+    requires { list_all is_plain text.now ≡ true }
+    ensures { OnOk result
+        (string_bytes out.new ≡ string_bytes out.old
+        ++ (codes "Name(id=" ++ repr_text (chars text.now)
+        ++ (codes ", ctx=" ++ context_name ctx ++ codes "())"))) }
+{
+    out.push_str("Name(id='")?;
+    out.push_str(text)?;
+    push_context_end(out, ctx)
+}
+
 /// Appends a name.
-#[tactic(auto, using(crate::proofs::LeafLemmas::name_text))]
 pub(crate) fn show_name(
     out: &mut String,
     style: Style,
@@ -54,8 +84,13 @@ pub(crate) fn show_name(
         (string_bytes out.new ≡ string_bytes out.old
         ++ text style front (shown (Name id.now ctx))) }
 {
+    let text = id.as_str();
+    // Without a call for its repr, as most names are told.
+    if style.names && is_plain_text(text) {
+        return show_plain_name(out, text, ctx);
+    }
     out.push_str(name_start(style.names))?;
-    push_repr(out, id.as_str())?;
+    push_repr(out, text)?;
     out.push_str(context_end(style.names, ctx))
 }
 

@@ -22,6 +22,7 @@ use std::alloc::AllocError;
 
 /// Appends what a field shows.
 #[cycle(showing)]
+#[inline(always)]
 fn show_part(
     out: &mut String,
     front: &mut String,
@@ -62,6 +63,7 @@ fn show_part(
 
 /// Appends a field, and tells how the fields behind it are told.
 #[cycle(showing)]
+#[inline(always)]
 pub(crate) fn show_field(
     out: &mut String,
     front: &mut String,
