@@ -54,7 +54,6 @@ fn all(a: bool, b: bool, c: bool) -> bool
 
 /// Whether a field is left out or simple.
 #[tactic(auto, using(crate::proofs::SlotLemmas::plain_parts))]
-#[inline(always)]
 fn is_plain(part: Part<'_>) -> bool
     ensures { result ≡ is_plain (slot_of part.entry) }
 {
@@ -87,7 +86,6 @@ fn is_plain(part: Part<'_>) -> bool
 
 /// Whether a node of one field stands on one line.
 #[tactic(auto, using(crate::proofs::SlotLemmas::one_slot))]
-#[inline(always)]
 pub(crate) fn is_short_one(style: Style, a: Part<'_>) -> bool
     ensures { result ≡ (is_flat style.indent || is_short (with_slot (slot_of a.entry) no_field)) }
 {
@@ -96,7 +94,6 @@ pub(crate) fn is_short_one(style: Style, a: Part<'_>) -> bool
 
 /// Whether a node of two fields stands on one line.
 #[tactic(auto, using(crate::proofs::SlotLemmas::two_slots))]
-#[inline(always)]
 pub(crate) fn is_short_two(style: Style, a: Part<'_>, b: Part<'_>) -> bool
     ensures { result ≡ (is_flat style.indent
         || is_short (with_slot (slot_of a.entry) (with_slot (slot_of b.entry) no_field))) }
@@ -106,7 +103,6 @@ pub(crate) fn is_short_two(style: Style, a: Part<'_>, b: Part<'_>) -> bool
 
 /// Whether a node of three fields stands on one line.
 #[tactic(auto, using(crate::proofs::SlotLemmas::three_slots))]
-#[inline(always)]
 pub(crate) fn is_short_three(style: Style, a: Part<'_>, b: Part<'_>, c: Part<'_>) -> bool
     ensures { result ≡ (is_flat style.indent
         || is_short (with_slot (slot_of a.entry)
@@ -116,7 +112,6 @@ pub(crate) fn is_short_three(style: Style, a: Part<'_>, b: Part<'_>, c: Part<'_>
 }
 
 /// Whether one of four fields is left out, so that three are shown.
-#[inline(always)]
 fn is_one_absent(a: Part<'_>, b: Part<'_>, c: Part<'_>, d: Part<'_>) -> bool
     ensures { result ≡ (is_missing (slot_of a.entry) || is_missing (slot_of b.entry)
         || is_missing (slot_of c.entry) || is_missing (slot_of d.entry)) }
@@ -126,7 +121,6 @@ fn is_one_absent(a: Part<'_>, b: Part<'_>, c: Part<'_>, d: Part<'_>) -> bool
 
 /// Whether a node of four fields stands on one line. It doesn't where all are shown.
 #[tactic(auto, using(crate::proofs::SlotLemmas::four_slots))]
-#[inline(always)]
 pub(crate) fn is_short_four(
     style: Style,
     a: Part<'_>,
