@@ -1,9 +1,24 @@
--- What is told of a fault.
-use Rattle.std.specs.Prelude.{ℕ, List, ◌++◌, codes, decimal}
+-- The fault of bytes that have no tree, and what is told of it.
+use Rattle.std.specs.Prelude.{◌≡◌, ◌⊎◌, ℕ, List, ◌++◌, Ok, Err, codes, decimal}
+use Rattle.pysource.specs.Parts.{Parts}
+use Rattle.pysource.specs.Sources.{source_of}
+use Rattle.pysource.specs.declared.encodings.SourceFault.{SourceFault}
+use Rattle.pylex.specs.Listing.{in_characters}
+use Rattle.pynode.specs.declared.profiles.Profile.{Profile}
+use Rattle.pyparse.specs.declared.faults.ParseFault.{ParseFault}
+use Rattle.pyparse.specs.Modules.{Refuses}
 use Rattle.pyfault.specs.declared.fault.Fault.{Fault}
 use Rattle.pyfault.specs.declared.fault.Fault.TheVariants.{InSource, Plain}
 use Rattle.pyfault.specs.declared.fault.FaultCode.TheVariants as codes_of
-use Rattle.pyfault.specs.Faults.{text_of}
+use Rattle.pyfault.specs.declared.fault.RunFaultCode.TheVariants as run
+use Rattle.pyfault.specs.Faults.{of_source, of_parse, text_of}
+
+-- there was no memory; or the bytes are no source, or one that is refused, and for that this is told
+abbrev pub IsFaultOf : Profile → List ℕ → Fault → Type 0
+IsFaultOf profile bytes fault =
+    (fault ≡ Plain run.Memory)
+    ⊎ ((f : SourceFault) × (source_of bytes ≡ Err f) × (fault ≡ of_source f))
+    ⊎ ((parts : Parts) × (f : ParseFault) × (source_of bytes ≡ Ok parts) × Refuses profile (in_characters parts) f × (fault ≡ of_parse f))
 
 -- `ROW:COLUMN: TEXT`
 abbrev pub placed : ℕ → ℕ → List ℕ → List ℕ

@@ -1,3 +1,5 @@
 pub mod Listings
+pub mod Cursors
+pub mod Streams
 pub mod Trees
 pub mod Faults

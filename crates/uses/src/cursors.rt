@@ -1,9 +1,10 @@
 //! A listing that stops, and goes on later.
 
-ghost use Rattle.std.specs.Prelude.{◌≡◌, IfOk, string_bytes};
+ghost use Rattle.std.specs.Prelude.{◌≡◌, IfOk, IfErr, string_bytes};
 ghost use Rattle.pylex.specs.Cursors.{cursor_text};
 ghost use Rattle.pylex.specs.Listing.{in_characters};
 ghost use Rattle.pylex.specs.Listers.{StandsIn};
+ghost use Rattle.uses.specs.Cursors.{IsNoCursor};
 
 use pylex::{Cursor, CursorFault, Lister};
 use pysource::Source;
@@ -23,6 +24,7 @@ pub fn resumed<'a>(alloc: Global, source: &'a Source, text: &str) -> Result<List
     ensures shown { IfOk result (λ lister. cursor_text lister.shown ≡ text.now) }
     ensures stands { IfOk result
         (λ lister. StandsIn lister (in_characters source.now) lister.shown.given) }
+    ensures refused { IfErr result (IsNoCursor (in_characters source.now) text.now) }
 {
     let cursor = Cursor::from_text(alloc, text)?;
     Lister::resume_checked(alloc, source, &cursor)

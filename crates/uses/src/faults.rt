@@ -1,9 +1,9 @@
 //! What is told of a source that has no tree.
 
-ghost use Rattle.std.specs.Prelude.{◌≡◌, ◌≤◌, length, IfOk, string_bytes};
+ghost use Rattle.std.specs.Prelude.{◌≡◌, ◌≤◌, length, IfOk, IfErr, string_bytes};
 ghost use Rattle.pysource.specs.Limits.{source_limit};
 ghost use Rattle.pynode.specs.TreeOf.{module_of};
-ghost use Rattle.uses.specs.Faults.{placed, words};
+ghost use Rattle.uses.specs.Faults.{IsFaultOf, placed, words};
 ghost use Rattle.uses.specs.Trees.{IsTreeOf};
 
 use pyfault::{Fault, FaultCode, fault_text};
@@ -22,7 +22,8 @@ fn placed(alloc: Global, row: usize, column: usize, text: &str) -> Result<String
 /// The tree of some bytes. Each layer's fault becomes the one that the program tells.
 pub fn tree_of_bytes(alloc: Global, bytes: &[u8], profile: Profile) -> Result<Module, Fault>
     requires { length bytes.now ≤ source_limit }
-    ensures { IfOk result (λ tree. IsTreeOf profile bytes.now (module_of tree)) }
+    ensures tree { IfOk result (λ tree. IsTreeOf profile bytes.now (module_of tree)) }
+    ensures fault { IfErr result (IsFaultOf profile bytes.now) }
 {
     let source = decode(alloc, bytes)?;
     Ok(parse(alloc, &source, profile)?)

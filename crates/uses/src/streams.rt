@@ -1,6 +1,7 @@
 //! The listing of a source that is read line by line.
 
-ghost use Rattle.std.specs.Prelude.{◌-◌, ◌^◌, ◌<◌};
+ghost use Rattle.std.specs.Prelude.{◌-◌, ◌^◌, ◌<◌, IfOk, IfErr};
+ghost use Rattle.uses.specs.Streams.{Finds, FindsNone};
 
 use pylex::{Kind, Step, StreamLister};
 use pysource::{ByteIn, StreamFault};
@@ -13,6 +14,8 @@ pub fn first_comment<R: ByteIn + Drop>(
     reader: R,
 ) -> Result<Option<String>, StreamFault>
     requires { R.failure_count reader < 2 ^ 64 - 1 }
+    ensures found { IfOk result (Finds (R.to_come reader) (R.failure_count reader)) }
+    ensures refused { IfErr result (FindsNone (R.to_come reader) (R.failure_count reader)) }
 {
     let mut lister = StreamLister::new(alloc, reader)?;
     loop {

@@ -1,7 +1,8 @@
 //! The tree of a source, and what is written of it.
 
-ghost use Rattle.std.specs.Prelude.{IfOk, string_bytes};
+ghost use Rattle.std.specs.Prelude.{IfOk, IfErr, string_bytes};
 ghost use Rattle.pylex.specs.Listing.{in_characters};
+ghost use Rattle.pyparse.specs.Modules.{Refuses};
 ghost use Rattle.uses.specs.Trees.{IsDumped, IsWritten};
 
 use pyparse::{ParseFault, parse};
@@ -19,7 +20,9 @@ pub const INDENTED: Style = Style {
 
 /// What `ast.dump` gives for the tree of a source, in a style.
 pub fn dumped(alloc: Global, source: &Source, style: Style) -> Result<String, ParseFault>
-    ensures { IfOk result (λ text. IsDumped style (in_characters source.now) (string_bytes text)) }
+    ensures dumped { IfOk result
+        (λ text. IsDumped style (in_characters source.now) (string_bytes text)) }
+    ensures refused { IfErr result (Refuses style.profile (in_characters source.now)) }
 {
     let tree = parse(alloc, source, style.profile)?;
     Ok(dump(alloc, &tree, style)?)
@@ -27,8 +30,9 @@ pub fn dumped(alloc: Global, source: &Source, style: Style) -> Result<String, Pa
 
 /// Source text for the tree of a source, with the fewest brackets and no comments.
 pub fn rewritten(alloc: Global, source: &Source, profile: Profile) -> Result<String, ParseFault>
-    ensures { IfOk result
+    ensures written { IfOk result
         (λ text. IsWritten profile (in_characters source.now) (string_bytes text)) }
+    ensures refused { IfErr result (Refuses profile (in_characters source.now)) }
 {
     let tree = parse(alloc, source, profile)?;
     Ok(unparse(alloc, &tree)?)

@@ -2,4 +2,7 @@ use Rattle.pynode.specs.TreeOf.{module_of}
 use Rattle.uses.proofs.trees.dumped.Goals as goal
 
 pub returns : goal.returns
-returns c = record { tree = module_of c.in_ok-tree.tree; accepted = c.in_ok-tree.ensures.accepted; text_is = c.in_ok-dump.ensures }
+returns c = record {
+  dumped = record { tree = module_of c.in_ok-tree.tree; accepted = c.in_ok-tree.ensures.accepted; text_is = c.in_ok-dump.ensures };
+  refused = tt;
+}

@@ -2,4 +2,7 @@ use Rattle.pynode.specs.TreeOf.{module_of}
 use Rattle.uses.proofs.trees.rewritten.Goals as goal
 
 pub returns : goal.returns
-returns c = record { tree = module_of c.in_ok-tree.tree; accepted = c.in_ok-tree.ensures.accepted; text_is = c.in_ok-unparse.ensures.text; back = c.in_ok-unparse.ensures.round_trip }
+returns c = record {
+  written = record { tree = module_of c.in_ok-tree.tree; accepted = c.in_ok-tree.ensures.accepted; text_is = c.in_ok-unparse.ensures.text; back = c.in_ok-unparse.ensures.round_trip };
+  refused = tt;
+}
