@@ -13,10 +13,11 @@ use Rattle.pylex.specs.declared.entries.Step.{Step}
 use Rattle.pylexeme.specs.Lexemes.{Lexeme}
 use Rattle.pylex.specs.Lines.{text_before, is_significant, line_so_far, before_line, is_at_margin}
 use Rattle.pylex.specs.Steps.{piece, mark, fault_at}
+use Rattle.pylexeme.specs.Characters.{tab, form_feed}
 
 -- the column that a blank goes on to (reference 2.1.8)
 abbrev pub column_after : ℕ → ℕ → ℕ
-column_after n c = if c == 9 then (n / 8 + 1) * 8 else (if c == 12 then 0 else n + 1)
+column_after n c = if c == tab then (n / 8 + 1) * 8 else (if c == form_feed then 0 else n + 1)
 
 -- the width of blanks that begin at a column: tabs go to multiples of 8, a form feed sets 0
 unfoldable pub width_from : ℕ → List ℕ → ℕ

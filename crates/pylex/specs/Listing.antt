@@ -21,6 +21,7 @@ use Rattle.pylexeme.specs.Lexemes.{Lexeme, cut, left_by_cut, is_open_string}
 use Rattle.pylex.specs.Lines.{text_before, depth, is_significant, is_at_margin, is_logical}
 use Rattle.pylex.specs.Indentation.{widths, open_levels, layout, dedents}
 use Rattle.pylex.specs.Steps.{piece, mark, fault_at}
+use Rattle.pylexeme.specs.Characters.{line_feed, hash}
 
 -- what decoding gives: the encoding's text, the good lines, and the fault of the line after them
 pub record Source : Type 0 where
@@ -77,12 +78,12 @@ row_after end = if end.column == 0 then end.row else end.row + 1
 
 -- the line that a text ends in
 unfoldable pub last_line : List ℕ → List ℕ
-last_line text = reverse (take_while (λ c. not (c == 10)) (reverse text))
+last_line text = reverse (take_while (λ c. not (c == line_feed)) (reverse text))
 
 -- the first character that isn't a blank is `#`
 abbrev pub begins_comment : List ℕ → Bool
 begins_comment [] = false
-begins_comment (c ∷ cs) = if is_blank_char c then begins_comment cs else c == 35
+begins_comment (c ∷ cs) = if is_blank_char c then begins_comment cs else c == hash
 
 -- what the text's end gives to a line without LF: an empty NL after a comment line, nothing after a line of blanks, else an empty NEWLINE
 unfoldable pub line_end_of_last : List Lexeme → Place → List Step

@@ -9,6 +9,7 @@ use Rattle.pylex.specs.declared.entries.Entry.{Entry}
 use Rattle.pylex.specs.declared.kind.Kind.{Kind}
 use Rattle.pylex.specs.declared.kind.Kind.TheVariants.{Encoding, Name, Number, String, Op, Comment, Nl, Newline, Indent, Dedent, EndMarker}
 use Rattle.pylexeme.specs.Operators.{exact_name}
+use Rattle.pylexeme.specs.Characters.{space}
 
 -- the name of a type of tokens
 abbrev pub kind_name : Kind → List ℕ
@@ -30,7 +31,7 @@ shown_name exact e = if exact then elim e.exact [ Some x ↦ exact_name x | None
 
 -- filled with blanks up to a width in characters; nothing is cut off
 abbrev pub filled : ℕ → List ℕ → List ℕ
-filled width t = t ++ replicate (width - length (chars t)) 32
+filled width t = t ++ replicate (width - length (chars t)) space
 
 -- `ROW,COLUMN`
 abbrev pub shown_place : Place → List ℕ

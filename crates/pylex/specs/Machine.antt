@@ -11,9 +11,9 @@ use Rattle.pylex.specs.declared.entries.ListingFault.{ListingFault}
 use Rattle.pylex.specs.declared.entries.ListingError.TheVariants as errors
 use Rattle.pylex.specs.declared.entries.Step.{Step}
 use Rattle.pylex.specs.declared.entries.Step.TheVariants as steps
-use Rattle.pylex.specs.declared.line_state.Point.{Point}
-use Rattle.pylex.specs.declared.line_state.LeadingChar.{LeadingChar}
-use Rattle.pylex.specs.declared.line_state.LeadingChar.TheVariants.{Nothing, Hash, Other}
+use Rattle.pylex.specs.declared.point.Point.{Point}
+use Rattle.pylex.specs.declared.leading_char.LeadingChar.{LeadingChar}
+use Rattle.pylex.specs.declared.leading_char.LeadingChar.TheVariants.{Nothing, Hash, Other}
 use Rattle.pylexeme.specs.Chars.{is_blank_char}
 use Rattle.pylexeme.specs.Operators.{is_closer}
 use Rattle.pylexeme.specs.Lexemes.{Lexeme, cut, left_by_cut, is_join_class}
@@ -22,6 +22,7 @@ use Rattle.pylex.specs.Steps.{fault_at}
 use Rattle.pylex.specs.Indentation.{width_from}
 use Rattle.pylexeme.specs.Chars.{bytes_in}
 use Rattle.pylex.specs.Listing.{further, row_after, stop_fault, up_to_end}
+use Rattle.pylexeme.specs.Characters.{line_feed, hash}
 
 pub record State : Type 0 where
   pub now : Point
@@ -37,10 +38,10 @@ pub record State : Type 0 where
 -- the place after a text that begins at a place
 abbrev pub place_past : Place → List ℕ → Place
 place_past p [] = p
-place_past p (c ∷ cs) = place_past (if c == 10 then record { row = p.row + 1; column = 0 } else record { row = p.row; column = p.column + 1 }) cs
+place_past p (c ∷ cs) = place_past (if c == line_feed then record { row = p.row + 1; column = 0 } else record { row = p.row; column = p.column + 1 }) cs
 
 abbrev pub front_after_char : LeadingChar → ℕ → LeadingChar
-front_after_char f c = if c == 10 then Nothing else elim f [ Nothing ↦ if is_blank_char c then Nothing else (if c == 35 then Hash else Other) | Hash ↦ Hash | Other ↦ Other ]
+front_after_char f c = if c == line_feed then Nothing else elim f [ Nothing ↦ if is_blank_char c then Nothing else (if c == hash then Hash else Other) | Hash ↦ Hash | Other ↦ Other ]
 
 abbrev pub front_after : LeadingChar → List ℕ → LeadingChar
 front_after f [] = f

@@ -5,10 +5,11 @@ use Rattle.std.specs.List.{take_while}
 use Rattle.pylexeme.specs.Chars.{is_blank_char}
 use Rattle.pylex.specs.declared.margins.Widths.{Widths}
 use Rattle.pylex.specs.Indentation.{width_from}
+use Rattle.pylexeme.specs.Characters.{form_feed}
 
 -- the column that a blank goes on to, where a tab counts as one space; a form feed sets 0
 abbrev pub column_by_one : ℕ → ℕ → ℕ
-column_by_one n c = if c == 12 then 0 else n + 1
+column_by_one n c = if c == form_feed then 0 else n + 1
 
 -- the width of blanks that begin at a column, where a tab counts as one space
 unfoldable pub width_by_one : ℕ → List ℕ → ℕ

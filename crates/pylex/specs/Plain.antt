@@ -1,10 +1,11 @@
 -- Text that moves its place by one column for each byte.
 use Rattle.std.specs.Prelude.{◌≡◌, ◌≢◌, ℕ, ◌<◌, List, EachIndex, slice_index}
+use Rattle.pylexeme.specs.Characters.{line_feed, space}
 
 -- in ASCII, and without LF
 abbrev pub IsPlain : List ℕ → Type 0
-IsPlain bs = EachIndex bs (λ k. (slice_index bs k < 128) × (slice_index bs k ≢ 10))
+IsPlain bs = EachIndex bs (λ k. (slice_index bs k < 128) × (slice_index bs k ≢ line_feed))
 
 -- spaces alone
 abbrev pub AreSpaces : List ℕ → Type 0
-AreSpaces bs = EachIndex bs (λ k. slice_index bs k ≡ 32)
+AreSpaces bs = EachIndex bs (λ k. slice_index bs k ≡ space)

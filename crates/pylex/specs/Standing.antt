@@ -8,8 +8,8 @@ use Rattle.pylex.specs.Listing.{Source, listing, rest, last_line, origin}
 use Rattle.pylex.specs.Cursors.{CursorParts, cursor, same_parts}
 use Rattle.pylex.specs.Steps.{entries_of, mark}
 use Rattle.pylex.specs.Machine.{State, front_after, remaining}
-use Rattle.pylex.specs.declared.line_state.Point.{Point}
-use Rattle.pylex.specs.declared.line_state.LeadingChar.TheVariants.{Nothing}
+use Rattle.pylex.specs.declared.point.Point.{Point}
+use Rattle.pylex.specs.declared.leading_char.LeadingChar.TheVariants.{Nothing}
 
 -- the longest front of a text of at most n bytes, and what is behind it
 unfoldable pub front_to : ℕ → List ℕ → List ℕ

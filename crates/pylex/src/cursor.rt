@@ -13,7 +13,9 @@ ghost use Rattle.pylex.specs.Standing.{resumed};
 ghost use Rattle.pylex.specs.Listers.{shown_at, shown_by};
 ghost use Rattle.std.specs.Str.{chars};
 
-use crate::line_state::{LineState, Point, front_of};
+use crate::leading_char::front_of;
+use crate::line_state::LineState;
+use crate::point::Point;
 use itoa::Buffer;
 use pylexeme::scanner::char_count;
 use pysource::Place;

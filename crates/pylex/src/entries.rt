@@ -49,6 +49,14 @@ pub struct ListingFault {
     pub code: ListingError,
 }
 
+/// What a lexeme or the text's end gives to a listing.
+#[derive(Clone, Copy, Debug, PartialEq, Eq)]
+pub enum Emitted {
+    Nothing,
+    Entry(Entry),
+    Fault(ListingFault),
+}
+
 /// What a lister answers: the next entry, that there is none, or the fault that ends the listing.
 #[derive(Clone, Copy, Debug, PartialEq, Eq)]
 pub enum Step {

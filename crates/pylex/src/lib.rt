@@ -11,6 +11,7 @@ mod cursor;
 mod entries;
 mod held_lines;
 mod kind;
+mod leading_char;
 mod line_lister;
 mod line_state;
 mod lines;
@@ -18,6 +19,7 @@ mod lister;
 mod machine;
 mod margins;
 mod measures;
+mod point;
 mod stream_lister;
 
 pub use cursor::{Cursor, CursorFault};

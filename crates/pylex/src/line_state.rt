@@ -1,46 +1,26 @@
 //! How far a lister has come in a text.
 
-ghost use Rattle.std.specs.Prelude.{◌≡◌, ◌↔◌, IsTrue, ℕ, ◌+◌, ◌*◌, ◌^◌, ◌<◌, ◌≤◌, ◌&&◌, ◌||◌, not};
-ghost use Rattle.std.specs.Prelude.{◌==◌, if◌then◌else◌, List, [], ◌∷◌, length, false, true, Ok};
-ghost use Rattle.std.specs.Prelude.{◌-◌, IfSome};
+ghost use Rattle.std.specs.Prelude.{◌≡◌, ℕ, ◌+◌, ◌-◌, ◌*◌, ◌^◌, ◌<◌, ◌≤◌, ◌&&◌, ◌||◌, not, ◌==◌};
+ghost use Rattle.std.specs.Prelude.{if◌then◌else◌, List, [], ◌∷◌, length, false, true, IfSome};
 ghost use Rattle.std.specs.Str.{chars};
-ghost use Rattle.pylex.specs.Indentation.{column_after, width_from};
+ghost use Rattle.pylex.specs.Indentation.{width_from};
 ghost use Rattle.pylexeme.specs.Lexemes.{is_significant_class, is_blanks_class, is_line_end_class};
-ghost use Rattle.pylexeme.specs.Lexemes.{is_join_class, is_opener_class, is_closer_class};
+ghost use Rattle.pylexeme.specs.Lexemes.{is_opener_class, is_closer_class};
 ghost use Rattle.pylexeme.specs.Chars.{bytes_in};
 ghost use Rattle.pylexeme.specs.Operators.{is_closer};
-ghost use Rattle.pylex.specs.Machine.{place_past, front_after_char, front_after, past, behind};
-ghost use Rattle.pylex.specs.Machine.{after, entry_by, step_of, mark_at, is_hash, still, count_if};
-ghost use Rattle.pylex.specs.Machine.{pushed, first_state, last_line_end, last_place};
-ghost use Rattle.pylex.specs.Machine.{line_end_kind_of};
+ghost use Rattle.pylex.specs.Machine.{past, after, entry_by, still, count_if, pushed, first_state};
+ghost use Rattle.pylex.specs.Machine.{last_line_end, last_place, line_end_kind_of};
 ghost use Rattle.pylex.specs.Listing.{row_after};
-ghost use Rattle.pylex.specs.Plain.{AreSpaces, IsPlain};
 ghost use Rattle.pylex.specs.LineState.{with_levels, measured, begun_anew, given, HasRoom};
-ghost use Rattle.pylex.specs.Inner.Told.{Tells, Passed, GivesEntry, is_text, text_kind, begun_by};
+ghost use Rattle.pylex.specs.Inner.Told.{Tells, Passed, GivesEntry, is_text, text_kind};
 
-use crate::entries::{Entry, ListingError, ListingFault, Step};
+use crate::entries::{Emitted, Entry, ListingError, ListingFault};
 use crate::kind::{Exact, Kind};
+use crate::leading_char::{LeadingChar, walk, walk_lexeme};
+use crate::measures::width_after;
+use crate::point::{Point, entry_of, mark};
 use pylexeme::lexeme::Class;
-use pylexeme::scanner::char_count;
 use pysource::Place;
-
-/// A place of a text, and its offset in bytes.
-#[derive(Clone, Copy, Debug, PartialEq, Eq)]
-pub struct Point {
-    pub place: Place,
-    pub offset: usize,
-}
-
-/// What a physical line begins with, blanks aside.
-#[derive(Clone, Copy, Debug, PartialEq, Eq)]
-pub enum LeadingChar {
-    /// Nothing yet.
-    Nothing,
-    /// A `#`.
-    Hash,
-    /// Another character.
-    Other,
-}
 
 /// How far a lister has come, its open levels aside.
 #[derive(Clone, Copy, Debug, PartialEq, Eq)]
@@ -61,229 +41,6 @@ pub struct LineState {
     pub front: LeadingChar,
 }
 
-/// What a lexeme or the text's end gives to a listing.
-#[derive(Clone, Copy, Debug, PartialEq, Eq)]
-pub enum Emitted {
-    Nothing,
-    Entry(Entry),
-    Fault(ListingFault),
-}
-
-impl LeadingChar {
-    /// What the line begins with after one more character.
-    fn after(self, c: char) -> LeadingChar
-        ensures { result ≡ front_after_char self c }
-    {
-        if c == '\n' {
-            return LeadingChar::Nothing;
-        }
-        match self {
-            LeadingChar::Nothing => match c {
-                ' ' | '\t' | '\x0c' => LeadingChar::Nothing,
-                '#' => LeadingChar::Hash,
-                _ => LeadingChar::Other,
-            },
-            LeadingChar::Hash => LeadingChar::Hash,
-            LeadingChar::Other => LeadingChar::Other,
-        }
-    }
-}
-
-impl LeadingChar {
-    fn is_nothing(self) -> bool
-        ensures { IsTrue result ↔ (self ≡ LeadingChar.Nothing) }
-    {
-        matches!(self, LeadingChar::Nothing)
-    }
-
-    /// What the line begins with after a character that is neither a blank nor `#`.
-    #[inline(always)]
-    fn begun(self) -> LeadingChar
-        ensures { result ≡ begun_by self }
-    {
-        match self {
-            LeadingChar::Nothing => LeadingChar::Other,
-            LeadingChar::Hash => LeadingChar::Hash,
-            LeadingChar::Other => LeadingChar::Other,
-        }
-    }
-
-    fn is_hash(self) -> bool
-        ensures { result ≡ is_hash self }
-    {
-        matches!(self, LeadingChar::Hash)
-    }
-}
-
-/// Whether a text is in ASCII and has no line feed: each of its bytes is a character of one line.
-fn is_plain(text: &str) -> bool
-    ensures { IsTrue result ↔ IsPlain text.now }
-{
-    text.as_bytes().iter().all(|b| *b < 128 && *b != b'\n')
-}
-
-/// Whether a text has spaces alone.
-fn is_spaces(text: &str) -> bool
-    ensures { IsTrue result ↔ AreSpaces text.now }
-{
-    text.as_bytes().iter().all(|b| *b == b' ')
-}
-
-/// What a line begins with after plain text at its start.
-#[inline(never)]
-fn front_of_plain(text: &str) -> LeadingChar
-    requires { IsPlain text.now }
-    ensures { result ≡ front_after LeadingChar.Nothing (chars text.now) }
-{
-    if is_spaces(text) {
-        return LeadingChar::Nothing;
-    }
-    for c in text.chars() {
-        let front = LeadingChar::Nothing.after(c);
-        if !front.is_nothing() {
-            return front;
-        }
-    }
-    LeadingChar::Nothing
-}
-
-impl LeadingChar {
-    /// What the line begins with after some more plain text.
-    fn after_plain(self, text: &str) -> LeadingChar
-        requires { IsPlain text.now }
-        ensures { result ≡ front_after self (chars text.now) }
-    {
-        if self.is_nothing() {
-            return front_of_plain(text);
-        }
-        self
-    }
-}
-
-/// The place after a text that begins at a place, and what its line begins with: by each character.
-#[inline(never)]
-fn walk_chars(place: Place, front: LeadingChar, text: &str) -> (Place, LeadingChar)
-    requires row { place.row + length text.now < 2 ^ 63 }
-    requires column { place.column + length text.now < 2 ^ 63 }
-    ensures place { result.0 ≡ place_past place (chars text.now) }
-    ensures front { result.1 ≡ front_after front (chars text.now) }
-{
-    let mut place = place;
-    let mut front = front;
-    for c in text.chars() {
-        front = front.after(c);
-        if c == '\n' {
-            place.row += 1;
-            place.column = 0;
-        } else {
-            place.column += 1;
-        }
-    }
-    (place, front)
-}
-
-/// The place after a text that begins at a place, and what its line begins with.
-#[inline(always)]
-fn walk(place: Place, front: LeadingChar, text: &str) -> (Place, LeadingChar)
-    requires row { place.row + length text.now < 2 ^ 63 }
-    requires column { place.column + length text.now < 2 ^ 63 }
-    ensures place { result.0 ≡ place_past place (chars text.now) }
-    ensures front { result.1 ≡ front_after front (chars text.now) }
-{
-    if !is_plain(text) {
-        return walk_chars(place, front, text);
-    }
-    let further = Place {
-        row: place.row,
-        column: place.column + text.len(),
-    };
-    (further, front.after_plain(text))
-}
-
-/// The place after a lexeme that begins at a place, and what its line begins with.
-#[inline(always)]
-fn walk_lexeme(place: Place, front: LeadingChar, class: Class, text: &str) -> (Place, LeadingChar)
-    requires row { place.row + length text.now < 2 ^ 63 }
-    requires column { place.column + length text.now < 2 ^ 63 }
-    requires told { Tells class text.now }
-    ensures place { result.0 ≡ place_past place (chars text.now) }
-    ensures front { result.1 ≡ front_after front (chars text.now) }
-{
-    match class {
-        Class::Blanks => {
-            let column = place.column + text.len();
-            let row = place.row;
-            (Place { row, column }, front)
-        }
-        Class::LineEnd => {
-            let next = Place {
-                row: place.row + 1,
-                column: 0,
-            };
-            (next, LeadingChar::Nothing)
-        }
-        _ => walk(place, front, text),
-    }
-}
-
-/// What a line begins with.
-pub(crate) fn front_of(line: &str) -> LeadingChar
-    requires { length line.now < 2 ^ 62 }
-    ensures { result ≡ front_after LeadingChar.Nothing (chars line.now) }
-{
-    let (_, front) = walk(Place { row: 1, column: 0 }, LeadingChar::Nothing, line);
-    front
-}
-
-/// The column that a blank goes on to: a tab goes to the next multiple of 8, a form feed sets 0.
-pub(crate) fn column_after(column: usize, blank: char) -> usize
-    requires { column < 2 ^ 63 }
-    ensures value { result ≡ column_after column blank }
-    ensures bound { result ≤ column + 8 }
-{
-    if blank == '\t' {
-        (column / 8 + 1) * 8
-    } else if blank == '\x0c' {
-        0
-    } else {
-        column + 1
-    }
-}
-
-/// The width of blanks that go on from a width.
-fn width_after(width: usize, blanks: &str) -> usize
-    requires { width + 8 * length blanks.now < 2 ^ 63 }
-    ensures value { result ≡ width_from width (chars blanks.now) }
-    ensures bound { result ≤ width + 8 * length blanks.now }
-{
-    if is_spaces(blanks) {
-        return width + blanks.len();
-    }
-    let mut width = width;
-    for c in blanks.chars() {
-        width = column_after(width, c);
-    }
-    width
-}
-
-impl Point {
-    /// The point after a line end that begins here, still on its row.
-    fn behind(self, text: &str) -> Point
-        requires column { self.place.column + length text.now < 2 ^ 63 }
-        requires offset { self.offset + length text.now < 2 ^ 63 }
-        requires counted { bytes_in (chars text.now) ≡ length text.now }
-        ensures { result ≡ behind self (chars text.now) }
-    {
-        Point {
-            place: Place {
-                row: self.place.row,
-                column: self.place.column + char_count(text),
-            },
-            offset: self.offset + text.len(),
-        }
-    }
-}
-
 /// The type of the entry of a lexeme that is given as it stands, operators aside.
 #[inline(always)]
 fn text_kind(class: Class) -> Kind
@@ -294,34 +51,6 @@ fn text_kind(class: Class) -> Kind
         Class::Number => Kind::Number,
         Class::String => Kind::String,
         _ => Kind::Comment,
-    }
-}
-
-/// The entry from a point to another.
-pub(crate) fn entry_of(kind: Kind, exact: Option<Exact>, from: Point, to: Point) -> Entry
-    ensures { step_of kind exact from to ≡ Step.Entry result }
-{
-    Entry {
-        kind,
-        exact,
-        start: from.place,
-        end: to.place,
-        from: from.offset,
-        to: to.offset,
-    }
-}
-
-/// An entry of empty text.
-pub(crate) fn mark(kind: Kind, offset: usize, start: Place, end: Place) -> Entry
-    ensures { mark_at kind offset start end ≡ Step.Entry result }
-{
-    Entry {
-        kind,
-        exact: None,
-        start,
-        end,
-        from: offset,
-        to: offset,
     }
 }
 
@@ -403,9 +132,9 @@ impl LineState {
         }
     }
 
-    #[tactic(auto, unfolding(crate::specs::Machine::entry_by))]
     /// What a lexeme gives that ends at a point: an entry, nothing, or the fault of a closing
     /// bracket where none is open.
+    #[tactic(auto, unfolding(crate::specs::Machine::entry_by))]
     #[inline(always)]
     pub(crate) fn give(self, class: Class, text: &str, end: Point) -> Emitted
         requires room { HasRoom self (length text.now) }

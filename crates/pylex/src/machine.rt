@@ -18,9 +18,10 @@ ghost use Rattle.pylex.specs.MachineSteps.{FaultsFirst, HasPlace, IsSame, StepsO
 ghost use Rattle.pylex.specs.MachineSteps.{shown_from};
 
 use crate::cursor::{Cursor, Shown};
-use crate::entries::{Entry, ListingError, ListingFault, Step};
+use crate::entries::{Emitted, Entry, ListingError, ListingFault, Step};
 use crate::kind::Kind;
-use crate::line_state::{Emitted, LineState, entry_of, mark};
+use crate::line_state::LineState;
+use crate::point::{entry_of, mark};
 use pylexeme::lexeme::{Class, begins_significant, cut};
 use pylexeme::string::{is_open_string, opens_string};
 use pysource::{LineFault, Place};

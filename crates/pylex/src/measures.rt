@@ -5,9 +5,10 @@
 ghost use Rattle.std.specs.Prelude.{◌≡◌, ◌+◌, ◌*◌, ◌^◌, ◌<◌, ◌≤◌, length, drop};
 ghost use Rattle.std.specs.Str.{chars, IsCharBoundary};
 ghost use Rattle.pylexeme.specs.Chars.{is_blank_char};
+ghost use Rattle.pylex.specs.Indentation.{column_after, width_from};
 ghost use Rattle.pylex.specs.Margins.{column_by_one, widths_of};
 
-use crate::line_state::column_after;
+use crate::leading_char::is_spaces;
 use crate::margins::Widths;
 use pysource::Source;
 
@@ -18,6 +19,21 @@ fn is_blank(c: char) -> bool
     c == ' ' || c == '\t' || c == '\x0c'
 }
 
+/// The column that a blank goes on to: a tab goes to the next multiple of 8, a form feed sets 0.
+fn column_after(column: usize, blank: char) -> usize
+    requires { column < 2 ^ 63 }
+    ensures value { result ≡ column_after column blank }
+    ensures bound { result ≤ column + 8 }
+{
+    if blank == '\t' {
+        (column / 8 + 1) * 8
+    } else if blank == '\x0c' {
+        0
+    } else {
+        column + 1
+    }
+}
+
 /// The column that a blank goes on to where a tab counts as one space.
 fn column_by_one(column: usize, blank: char) -> usize
     requires { column < 2 ^ 63 }
@@ -25,6 +41,22 @@ fn column_by_one(column: usize, blank: char) -> usize
     ensures bound { result ≤ column + 1 }
 {
     if blank == '\x0c' { 0 } else { column + 1 }
+}
+
+/// The width of blanks that go on from a width.
+pub(crate) fn width_after(width: usize, blanks: &str) -> usize
+    requires { width + 8 * length blanks.now < 2 ^ 63 }
+    ensures value { result ≡ width_from width (chars blanks.now) }
+    ensures bound { result ≤ width + 8 * length blanks.now }
+{
+    if is_spaces(blanks) {
+        return width + blanks.len();
+    }
+    let mut width = width;
+    for c in blanks.chars() {
+        width = column_after(width, c);
+    }
+    width
 }
 
 /// The widths of the blanks at the front of a text.

@@ -8,18 +8,23 @@ use Rattle.unicode_ident.specs.Ident.{is_xid_start, is_xid_continue}
 use Rattle.pylexeme.specs.declared.scanner.CharSet.{CharSet}
 use Rattle.pylexeme.specs.declared.scanner.CharSet.TheVariants.{NamePart, Digit, CommentPart, Blank, One, HexDigit, OctalDigit, BinaryDigit, LetterX, LetterO, LetterB, LetterE, LetterJ, Sign, Quote, Any, LetterR, LetterBorF, PrefixLetter}
 use Rattle.pylexeme.specs.Numbers.{is_decimal_digit, is_hex_digit, is_octal_digit, is_binary_digit, is_x, is_o, is_b, is_e, is_j, is_sign}
+use Rattle.pylexeme.specs.Characters.{tab, line_feed, form_feed, carriage_return, space, double_quote, single_quote, low_line}
 
 -- what a name may begin with: XID_Start, or the low line
+-- xid_start ::= <all characters in id_start whose NFKC normalization is in
+--               "id_start xid_continue*">
+-- id_start  ::= <all characters in general categories Lu, Ll, Lt, Lm, Lo, Nl, the underscore, and
+--               characters with the Other_ID_Start property>
 abbrev pub starts_name : ℕ → Bool
-starts_name c = is_xid_start c || (c == 95)
+starts_name c = is_xid_start c || (c == low_line)
 
 -- any character but CR and LF
 abbrev pub is_comment_part : ℕ → Bool
-is_comment_part c = not (c == 10) && not (c == 13)
+is_comment_part c = not (c == line_feed) && not (c == carriage_return)
 
 -- space, tab, form feed
 abbrev pub is_blank_char : ℕ → Bool
-is_blank_char c = (c == 32) || (c == 9) || (c == 12)
+is_blank_char c = (c == space) || (c == tab) || (c == form_feed)
 
 -- r or R
 abbrev pub is_r : ℕ → Bool
@@ -49,7 +54,7 @@ has LetterB c = is_b c
 has LetterE c = is_e c
 has LetterJ c = is_j c
 has Sign c = is_sign c
-has Quote c = (c == 39) || (c == 34)
+has Quote c = (c == single_quote) || (c == double_quote)
 has Any c = true
 has LetterR c = is_r c
 has LetterBorF c = is_b_or_f c

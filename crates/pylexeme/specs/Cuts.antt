@@ -7,6 +7,7 @@ use Rattle.pylexeme.specs.Strings.{opens_string}
 use Rattle.pylexeme.specs.Lengths.{begins_number}
 use Rattle.pylexeme.specs.Lexemes.{lexeme_at, lexeme_len}
 use Rattle.pylexeme.specs.Chars.{bytes_in}
+use Rattle.pylexeme.specs.Characters.{line_feed, carriage_return, hash, backslash}
 
 -- the longest lexeme at the front of old is taken, and its class is said; new is what is left, all of old where there is none
 pub record Takes (old : List ℕ) (k : Option Class) (new : List ℕ) : Type 0 where
@@ -15,7 +16,7 @@ pub record Takes (old : List ℕ) (k : Option Class) (new : List ℕ) : Type 0 w
 
 -- what begins no name, comment, blanks, line end or join
 abbrev pub starts_other : ℕ → Bool
-starts_other c = not (starts_name c) && not (c == 35) && not (is_blank_char c) && not (c == 10) && not (c == 13) && not (c == 92)
+starts_other c = not (starts_name c) && not (c == hash) && not (is_blank_char c) && not (c == line_feed) && not (c == carriage_return) && not (c == backslash)
 
 -- no lexeme but an operator begins here
 pub record BeginsOther (cs : List ℕ) : Type 0 where
@@ -36,10 +37,10 @@ pub record Cuts (bytes : List ℕ) (k : Class) (front back : List ℕ) : Type 0 
 -- a text begins with LF, or with CR LF
 abbrev pub begins_line_end : List ℕ → Bool
 begins_line_end [] = false
-begins_line_end (c ∷ []) = c == 10
-begins_line_end (c ∷ d ∷ cs) = if c == 10 then true else (c == 13) && (d == 10)
+begins_line_end (c ∷ []) = c == line_feed
+begins_line_end (c ∷ d ∷ cs) = if c == line_feed then true else (c == carriage_return) && (d == line_feed)
 
 -- a text begins with what makes a line logical: a lexeme other than blanks, a comment and a line end, or what begins none
 unfoldable pub begins_significant : List ℕ → Bool
 begins_significant [] = false
-begins_significant (c ∷ cs) = not (is_blank_char c) && not (c == 35) && not (begins_line_end (c ∷ cs))
+begins_significant (c ∷ cs) = not (is_blank_char c) && not (c == hash) && not (begins_line_end (c ∷ cs))

@@ -9,6 +9,7 @@ use Rattle.pylexeme.specs.Operators.{is_operator, exact_of}
 use Rattle.pylexeme.specs.Lexemes.{longest_within}
 use Rattle.pylexeme.specs.Strings.{units, is_unit, begins_quote, is_prefix}
 use Rattle.pylexeme.specs.Numbers.{is_decimal_digit, is_zero, is_hex_digit, is_octal_digit, is_binary_digit, is_point, is_e, is_j, is_x, is_o, is_b, is_sign}
+use Rattle.pylexeme.specs.Characters.{line_feed, carriage_return, backslash, low_line}
 
 -- the length of the longest front that passes; 0 where there is none
 unfoldable pub longest : (List ℕ → Bool) → List ℕ → ℕ
@@ -31,11 +32,11 @@ pub record Took (n : ℕ) (any : Bool) (old new : List ℕ) : Type 0 where
 abbrev pub joined_len : (ℕ → Bool) → List ℕ → ℕ
 joined_len d [] = 0
 joined_len d (a ∷ []) = if d a then 1 else 0
-joined_len d (a ∷ b ∷ t) = if d a then suc (joined_len d (b ∷ t)) else (if (a == 95) && d b then suc (suc (joined_len d t)) else 0)
+joined_len d (a ∷ b ∷ t) = if d a then suc (joined_len d (b ∷ t)) else (if (a == low_line) && d b then suc (suc (joined_len d t)) else 0)
 
 -- a digit, or an underscore and a digit
 abbrev pub begins_some : (ℕ → Bool) → List ℕ → Bool
-begins_some d cs = begins d cs || (begins (λ c. c == 95) cs && begins d (drop 1 cs))
+begins_some d cs = begins d cs || (begins (λ c. c == low_line) cs && begins d (drop 1 cs))
 
 -- (_?digit)+ after two characters
 unfoldable pub based_len : (ℕ → Bool) → List ℕ → ℕ
@@ -90,7 +91,7 @@ begins_number cs = begins is_decimal_digit cs || (begins is_point cs && begins i
 -- how long a unit is
 unfoldable pub unit_len : List ℕ → ℕ
 unit_len cs =
-    if begins (λ c. c == 92) cs then (if begins (λ c. c == 13) (drop 1 cs) && begins (λ c. c == 10) (drop 2 cs) then 3 else 2)
+    if begins (λ c. c == backslash) cs then (if begins (λ c. c == carriage_return) (drop 1 cs) && begins (λ c. c == line_feed) (drop 2 cs) then 3 else 2)
     else 1
 
 -- u more, but nothing stays nothing
@@ -101,7 +102,7 @@ shift u (suc n) = u + suc n
 -- the length of the units up to the first that is the quote, or 0
 abbrev pub single_of : ℕ → List (List ℕ) → ℕ
 single_of q [] = 0
-single_of q (u ∷ us) = if is_unit q u then 1 else (if is_unit 13 u || is_unit 10 u then 0 else shift (length u) (single_of q us))
+single_of q (u ∷ us) = if is_unit q u then 1 else (if is_unit carriage_return u || is_unit line_feed u then 0 else shift (length u) (single_of q us))
 
 -- the length of the units up to the first three that are the quote, or 0
 abbrev pub triple_of : ℕ → List (List ℕ) → ℕ
@@ -141,4 +142,4 @@ begins_pair cs = (begins is_r cs && begins is_b_or_f (drop 1 cs)) || (begins is_
 
 -- a backslash and a line end
 abbrev pub begins_join : List ℕ → Bool
-begins_join cs = begins (λ c. c == 92) cs && (begins (λ c. c == 10) (drop 1 cs) || (begins (λ c. c == 13) (drop 1 cs) && begins (λ c. c == 10) (drop 1 (drop 1 cs))))
+begins_join cs = begins (λ c. c == backslash) cs && (begins (λ c. c == line_feed) (drop 1 cs) || (begins (λ c. c == carriage_return) (drop 1 cs) && begins (λ c. c == line_feed) (drop 1 (drop 1 cs))))

@@ -9,8 +9,11 @@ use Rattle.pylexeme.specs.Strings.{opens_string, opens_triple, counts_as_string,
 use Rattle.pylexeme.specs.Operators.{is_operator, exact_of, is_opener, is_closer}
 use Rattle.pylexeme.specs.declared.lexeme.Class.{Class}
 use Rattle.pylexeme.specs.declared.lexeme.Class.TheVariants.{Name, Number, String, Operator, Comment, Blanks, LineEnd, Join}
+use Rattle.pylexeme.specs.Characters.{line_feed, carriage_return, double_quote, hash, single_quote, backslash}
 
 -- XID_Start or the low line, and then XID_Continue
+-- identifier   ::= xid_start xid_continue*
+-- xid_continue ::= <all characters in id_continue whose NFKC normalization is in "id_continue*">
 unfoldable pub is_name : List ℕ → Bool
 is_name [] = false
 is_name (c ∷ cs) = starts_name c && list_all is_xid_continue cs
@@ -18,7 +21,7 @@ is_name (c ∷ cs) = starts_name c && list_all is_xid_continue cs
 -- `#`, and characters other than CR and LF
 unfoldable pub is_comment : List ℕ → Bool
 is_comment [] = false
-is_comment (c ∷ cs) = (c == 35) && list_all is_comment_part cs
+is_comment (c ∷ cs) = (c == hash) && list_all is_comment_part cs
 
 -- one or more blanks
 unfoldable pub are_blanks : List ℕ → Bool
@@ -27,12 +30,12 @@ are_blanks (c ∷ cs) = is_blank_char c && list_all is_blank_char cs
 
 -- LF or CR LF
 unfoldable pub is_line_end : List ℕ → Bool
-is_line_end t = bytes_eq t (10 ∷ []) || bytes_eq t (13 ∷ 10 ∷ [])
+is_line_end t = bytes_eq t (line_feed ∷ []) || bytes_eq t (carriage_return ∷ line_feed ∷ [])
 
 -- a backslash and a line end
 unfoldable pub is_join : List ℕ → Bool
 is_join [] = false
-is_join (c ∷ cs) = (c == 92) && is_line_end cs
+is_join (c ∷ cs) = (c == backslash) && is_line_end cs
 
 -- the class that a text is in, strings aside
 unfoldable pub plain_class : List ℕ → Option Class
@@ -88,12 +91,12 @@ left_by_cut cs = drop (length (flat_map (λ x. x.text) (cut cs))) cs
 -- no unit is the quote, a CR or an LF, and the last one is a backslash and a line end
 abbrev pub ends_by_join : ℕ → List (List ℕ) → Bool
 ends_by_join q [] = false
-ends_by_join q (u ∷ us) = not (is_unit q u || is_unit 13 u || is_unit 10 u) && (if no_units us then is_join u else ends_by_join q us)
+ends_by_join q (u ∷ us) = not (is_unit q u || is_unit carriage_return u || is_unit line_feed u) && (if no_units us then is_join u else ends_by_join q us)
 
 -- a quote, and units up to a join
 abbrev pub is_joined : List ℕ → Bool
 is_joined [] = false
-is_joined (q ∷ t) = ((q == 39) || (q == 34)) && ends_by_join q (units t)
+is_joined (q ∷ t) = ((q == single_quote) || (q == double_quote)) && ends_by_join q (units t)
 
 -- a literal that doesn't end here is open up to the text's end: in three quotes, or directly after a join
 unfoldable pub is_open_string : List ℕ → Bool

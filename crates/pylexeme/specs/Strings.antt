@@ -5,11 +5,15 @@ use Rattle.std.specs.Str.{bytes_eq}
 use Rattle.pylexeme.specs.declared.string.Quote.{Quote}
 use Rattle.pylexeme.specs.declared.string.Quote.TheVariants.{Single, Double}
 use Rattle.pylexeme.specs.Numbers.{split_any, headed}
+use Rattle.pylexeme.specs.Characters.{line_feed, carriage_return, double_quote, single_quote, backslash}
 
 -- A to Z as a to z
 abbrev pub lower : ℕ → ℕ
 lower c = if nat_le 65 c && nat_le c 90 then c + 32 else c
 
+-- stringprefix ::= "r" | "u" | "R" | "U" | "f" | "F"
+--                  | "fr" | "Fr" | "fR" | "FR" | "rf" | "rF" | "Rf" | "RF"
+-- bytesprefix  ::= "b" | "B" | "br" | "Br" | "bR" | "BR" | "rb" | "rB" | "Rb" | "RB"
 abbrev pub prefixes : List (List ℕ)
 prefixes = [] ∷ codes "r" ∷ codes "u" ∷ codes "b" ∷ codes "f" ∷ codes "br" ∷ codes "rb" ∷ codes "fr" ∷ codes "rf" ∷ []
 
@@ -18,13 +22,16 @@ unfoldable pub is_prefix : List ℕ → Bool
 is_prefix t = list_any (bytes_eq (map lower t)) prefixes
 
 -- the units of a text: a backslash with the next character, or with the CR LF after it; any other character
+-- stringescapeseq ::= "\" <any source character>
+-- shortstringitem ::= shortstringchar | stringescapeseq
+-- longstringitem  ::= longstringchar | stringescapeseq
 abbrev pub units : List ℕ → List (List ℕ)
 units [] = []
 units (a ∷ []) = (a ∷ []) ∷ []
-units (a ∷ b ∷ []) = if a == 92 then (a ∷ b ∷ []) ∷ [] else (a ∷ []) ∷ units (b ∷ [])
+units (a ∷ b ∷ []) = if a == backslash then (a ∷ b ∷ []) ∷ [] else (a ∷ []) ∷ units (b ∷ [])
 units (a ∷ b ∷ c ∷ t) =
-    if not (a == 92) then (a ∷ []) ∷ units (b ∷ c ∷ t)
-    else (if (b == 13) && (c == 10) then (a ∷ b ∷ c ∷ []) ∷ units t else (a ∷ b ∷ []) ∷ units (c ∷ t))
+    if not (a == backslash) then (a ∷ []) ∷ units (b ∷ c ∷ t)
+    else (if (b == carriage_return) && (c == line_feed) then (a ∷ b ∷ c ∷ []) ∷ units t else (a ∷ b ∷ []) ∷ units (c ∷ t))
 
 -- the unit is this character
 abbrev pub is_unit : ℕ → List ℕ → Bool
@@ -35,11 +42,13 @@ no_units [] = true
 no_units (u ∷ us) = false
 
 -- the first unit that is the quote is the last one, and none before it is a CR or an LF
+-- shortstringchar ::= <any source character except "\" or newline or the quote>
 abbrev pub ends_by_one : ℕ → List (List ℕ) → Bool
 ends_by_one q [] = false
-ends_by_one q (u ∷ us) = if is_unit q u then no_units us else not (is_unit 13 u) && not (is_unit 10 u) && ends_by_one q us
+ends_by_one q (u ∷ us) = if is_unit q u then no_units us else not (is_unit carriage_return u) && not (is_unit line_feed u) && ends_by_one q us
 
 -- the first three units in a row that are the quote are the last ones
+-- longstringchar ::= <any source character except "\">
 abbrev pub ends_by_three : ℕ → List (List ℕ) → Bool
 ends_by_three q [] = false
 ends_by_three q (u ∷ []) = false
@@ -48,38 +57,43 @@ ends_by_three q (u ∷ v ∷ w ∷ us) =
     if is_unit q u && is_unit q v && is_unit q w then no_units us else ends_by_three q (v ∷ w ∷ us)
 
 -- a quote, and units up to a quote
+-- shortstring ::= "'" shortstringitem* "'" | '"' shortstringitem* '"'
 unfoldable pub is_single : ℕ → List ℕ → Bool
 is_single q t = headed (λ a. a == q) (λ u. ends_by_one q (units u)) t
 
 -- three quotes, and units up to three quotes
+-- longstring ::= "'''" longstringitem* "'''" | '"""' longstringitem* '"""'
 unfoldable pub is_triple : ℕ → List ℕ → Bool
 is_triple q t = headed (λ a. a == q) (headed (λ a. a == q) (headed (λ a. a == q) (λ u. ends_by_three q (units u)))) t
 
 -- a prefix, and a literal in three quotes
 unfoldable pub is_triple_string : List ℕ → Bool
-is_triple_string t = split_any is_prefix (λ u. is_triple 39 u || is_triple 34 u) t
+is_triple_string t = split_any is_prefix (λ u. is_triple single_quote u || is_triple double_quote u) t
 
 -- a prefix, and a literal in one quote
 unfoldable pub is_single_string : List ℕ → Bool
-is_single_string t = split_any is_prefix (λ u. is_single 39 u || is_single 34 u) t
+is_single_string t = split_any is_prefix (λ u. is_single single_quote u || is_single double_quote u) t
 
+-- stringliteral ::= [stringprefix](shortstring | longstring)
+-- bytesliteral  ::= bytesprefix(shortbytes | longbytes)
+-- (That bytes hold ASCII alone is asked of the values, in StringValues of pytoken.)
 unfoldable pub is_string : List ℕ → Bool
 is_string t = is_triple_string t || is_single_string t
 
 -- the quotes, as characters
 abbrev pub quote_char : Quote → ℕ
-quote_char Single = 39
-quote_char Double = 34
+quote_char Single = single_quote
+quote_char Double = double_quote
 
 abbrev pub begins_quote : List ℕ → Bool
 begins_quote [] = false
-begins_quote (a ∷ t) = (a == 39) || (a == 34)
+begins_quote (a ∷ t) = (a == single_quote) || (a == double_quote)
 
 abbrev pub begins_three : List ℕ → Bool
 begins_three [] = false
 begins_three (a ∷ []) = false
 begins_three (a ∷ b ∷ []) = false
-begins_three (a ∷ b ∷ c ∷ t) = ((a == 39) || (a == 34)) && (b == a) && (c == a)
+begins_three (a ∷ b ∷ c ∷ t) = ((a == single_quote) || (a == double_quote)) && (b == a) && (c == a)
 
 -- behind a prefix, perhaps empty, the rest of the text passes
 abbrev pub after_prefix : (List ℕ → Bool) → List ℕ → Bool

@@ -8,6 +8,7 @@ use Rattle.pytoken.specs.declared.faults.TokenError.{TokenError}
 use Rattle.pytoken.specs.declared.faults.TokenError.TheVariants.{NamedEscape, BadEscape}
 use Rattle.pytoken.specs.declared.meanings.Meaning.{Meaning}
 use Rattle.pytoken.specs.declared.meanings.Meaning.TheVariants.{Point, Nothing, Wrong}
+use Rattle.pylexeme.specs.Characters.{line_feed, backslash}
 
 -- what stands at a place, and how many more characters belong to it than the first
 pub record Reading : Type 0 where
@@ -66,17 +67,17 @@ names_character bytes c = not bytes && (c == 78)
 
 -- A backslash, by what stands behind it. With a line end it is nothing; where no escape stands, it stands for itself.
 unfoldable pub escaped_by : Bool → List ℕ → Reading
-escaped_by bytes [] = reads (Point 92) 0
+escaped_by bytes [] = reads (Point backslash) 0
 escaped_by bytes (c ∷ cs) =
-    if c == 10 then reads Nothing 1
+    if c == line_feed then reads Nothing 1
     else (if is_digit c 8 then octal bytes (digits_at_front 8 3 (c ∷ cs))
     else (if nat_lt 0 (hexadecimal_len bytes c) then hexadecimal (hexadecimal_len bytes c) (digits_at_front 16 (hexadecimal_len bytes c) cs)
     else (if names_character bytes c then reads (Wrong NamedEscape) 1
-    else elim (escape_point c) [ Some p ↦ reads (Point p) 1 | None ↦ reads (Point 92) 0 ])))
+    else elim (escape_point c) [ Some p ↦ reads (Point p) 1 | None ↦ reads (Point backslash) 0 ])))
 
 -- A character, by what stands behind it: it stands for itself, but for a backslash of a literal that isn't raw.
 abbrev pub reading : Bool → Bool → ℕ → List ℕ → Reading
-reading raw bytes c cs = if not raw && (c == 92) then escaped_by bytes cs else reads (Point c) 0
+reading raw bytes c cs = if not raw && (c == backslash) then escaped_by bytes cs else reads (Point c) 0
 
 -- what stands in a text of which n more characters belong to the one before
 abbrev pub meanings_after : Bool → Bool → ℕ → List ℕ → List Meaning

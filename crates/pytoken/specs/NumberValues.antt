@@ -6,6 +6,7 @@ use Rattle.std.specs.Str.Parse.{digits_value}
 use Rattle.pylexeme.specs.Numbers.{is_x, is_o, is_b, is_e, is_j, is_point}
 use Rattle.pytoken.specs.declared.faults.TokenError.{TokenError}
 use Rattle.pytoken.specs.declared.faults.TokenError.TheVariants.{Float, Complex, IntegerTooLarge}
+use Rattle.pylexeme.specs.Characters.{low_line}
 
 -- the base of a number's digits: `0x` is of hexadecimal ones, `0o` of octal ones, `0b` of binary ones, in either case
 abbrev pub radix_of : List ℕ → ℕ
@@ -15,7 +16,7 @@ radix_of (a ∷ b ∷ t) = if is_x b then 16 else (if is_o b then 8 else (if is_
 
 -- a character other than an underscore, which only parts digits
 abbrev pub is_no_underscore : ℕ → Bool
-is_no_underscore c = not (c == 95)
+is_no_underscore c = not (c == low_line)
 
 -- its digits: what stands behind `0x`, `0o` or `0b`, or else all of it, without the underscores
 abbrev pub digits_in : List ℕ → List ℕ

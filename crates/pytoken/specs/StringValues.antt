@@ -7,14 +7,15 @@ use Rattle.pynode.specs.Values.{Value, Str, Bytes}
 use Rattle.pytoken.specs.declared.faults.TokenError.{TokenError}
 use Rattle.pytoken.specs.declared.faults.TokenError.TheVariants.{FString, NonAsciiBytes, Nul}
 use Rattle.pytoken.specs.Escapes.{meanings, points_in, escape_fault}
+use Rattle.pylexeme.specs.Characters.{carriage_return, double_quote, single_quote}
 
 -- A CR LF counts as one LF. A source has a CR only in front of an LF, so a literal is read without its CRs.
 abbrev pub with_line_feeds : List ℕ → List ℕ
-with_line_feeds t = filter (λ c. not (c == 13)) t
+with_line_feeds t = filter (λ c. not (c == carriage_return)) t
 
 -- the prefix is what stands before the first quote, single or double
 abbrev pub is_quote : ℕ → Bool
-is_quote c = (c == 39) || (c == 34)
+is_quote c = (c == single_quote) || (c == double_quote)
 
 abbrev pub prefix_len_of : List ℕ → ℕ
 prefix_len_of t = prefix_len (λ c. not (is_quote c)) t

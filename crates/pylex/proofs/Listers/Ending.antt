@@ -7,6 +7,8 @@ use Rattle.std.specs.Str.{chars, encode_utf8_all, IsUtf8}
 use Rattle.std.proofs.lemmas.Str.{chars-nil, encodes-chars}
 use Rattle.std.proofs.lemmas.Bool.Decides.{nat_tests}
 use Rattle.std.proofs.lemmas.Grind.{common_steps}
+use Rattle.pylex.specs.declared.entries.Emitted.{Emitted}
+use Rattle.pylex.specs.declared.entries.Emitted.TheVariants as gives
 use Rattle.pylex.specs.declared.entries.Entry.{Entry}
 use Rattle.pylex.specs.declared.entries.ListingFault.{ListingFault}
 use Rattle.pylex.specs.declared.entries.ListingError.TheVariants as errors
@@ -14,8 +16,6 @@ use Rattle.pylex.specs.declared.entries.Step.{Step}
 use Rattle.pylex.specs.declared.entries.Step.TheVariants as steps
 use Rattle.pylex.specs.declared.kind.Kind.TheVariants as kinds
 use Rattle.pysource.specs.declared.places.Place.{Place}
-use Rattle.pylex.specs.declared.line_state.Emitted.{Emitted}
-use Rattle.pylex.specs.declared.line_state.Emitted.TheVariants as gives
 use Rattle.pylex.specs.declared.line_state.LineState.{LineState}
 use Rattle.pylexeme.specs.Lexemes.{lexeme_at}
 use Rattle.pylexeme.specs.Cuts.{begins_significant}

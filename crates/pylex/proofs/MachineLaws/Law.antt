@@ -16,9 +16,9 @@ use Rattle.pylexeme.specs.Chars.{bytes_in}
 use Rattle.pylex.specs.Indentation.{column_after, width_from, width_at, widths, open_levels}
 use Rattle.pylex.specs.Listing.{ends_in_join}
 use Rattle.pylex.specs.Machine.{State, place_past, front_after_char, front_after, past, after, still, count_if, pushed}
-use Rattle.pylex.specs.declared.line_state.Point.{Point}
-use Rattle.pylex.specs.declared.line_state.LeadingChar.{LeadingChar}
-use Rattle.pylex.specs.declared.line_state.LeadingChar.TheVariants.{Nothing}
+use Rattle.pylex.specs.declared.point.Point.{Point}
+use Rattle.pylex.specs.declared.leading_char.LeadingChar.{LeadingChar}
+use Rattle.pylex.specs.declared.leading_char.LeadingChar.TheVariants.{Nothing}
 use Rattle.pylexeme.proofs.Cases.{bool_cases}
 use Rattle.pylex.proofs.Levels.Stack.{push}
 

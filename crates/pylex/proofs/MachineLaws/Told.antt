@@ -18,14 +18,14 @@ use Rattle.pylexeme.specs.declared.kinds.Exact.{Exact}
 use Rattle.pylexeme.specs.Lexemes.{Lexeme, are_blanks, is_line_end, is_join, is_line_end_class, is_blanks_class, is_join_class, is_opener_class, is_closer_class}
 use Rattle.pylexeme.proofs.Cases.{bool_cases}
 use Rattle.pylexeme.proofs.Lexemes.Classes.{by_words, words}
-use Rattle.pylex.specs.declared.line_state.LeadingChar.{LeadingChar}
-use Rattle.pylex.specs.declared.line_state.LeadingChar.TheVariants.{Nothing, Hash, Other}
+use Rattle.pylex.specs.declared.leading_char.LeadingChar.{LeadingChar}
+use Rattle.pylex.specs.declared.leading_char.LeadingChar.TheVariants.{Nothing, Hash, Other}
 use Rattle.pylex.specs.declared.entries.Entry.{Entry}
 use Rattle.pylex.specs.declared.entries.Step.{Step}
 use Rattle.pylex.specs.declared.entries.Step.TheVariants as steps
 use Rattle.pylex.specs.declared.kind.Kind.{Kind}
 use Rattle.pylex.specs.declared.kind.Kind.TheVariants as kinds
-use Rattle.pylex.specs.declared.line_state.Point.{Point}
+use Rattle.pylex.specs.declared.point.Point.{Point}
 use Rattle.pylex.specs.declared.line_state.LineState.{LineState}
 use Rattle.pylex.specs.Lines.{opens, closes}
 use Rattle.pylex.specs.Machine.{State, place_past, front_after, after, behind, entry_by, line_end_kind_of, step_of, past, count_if, still}

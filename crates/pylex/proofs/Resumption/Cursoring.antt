@@ -47,7 +47,7 @@ use Rattle.pylex.proofs.Resumption.Agreement.{agrees_on}
 use Rattle.pylex.proofs.Resumption.Points.{GoesAs, StoodAt, PointOf, point_after_given, given_pointed}
 use Rattle.pylex.proofs.Resumption.Passing.{passes_steps, passes_reach, Reached, plain_stood, stood_depth, next_alike, next_of}
 use Rattle.pylex.proofs.Levels.OpenLevels.{grounded, above_ground}
-use Rattle.pylex.specs.declared.line_state.Point.{Point}
+use Rattle.pylex.specs.declared.point.Point.{Point}
 use Rattle.std.proofs.lemmas.Str.{length-le-encodes}
 use Rattle.pylex.proofs.Callers.{is_behind, is_own}
 

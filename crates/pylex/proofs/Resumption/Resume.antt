@@ -17,7 +17,7 @@ use Rattle.std.proofs.lemmas.Grind.{common_steps}
 use Rattle.pylex.specs.declared.entries.Entry.{Entry}
 use Rattle.pylex.specs.Cursors.{lexemes_to, CursorParts, given_last_first, has_no_text, is_encoding, is_indent, cursor, cursor_at, with_text}
 use Rattle.pylex.specs.Machine.{State, gives, layout_of, entry_by, after, ends_line, stop_of, tail_of, last_line_end, run}
-use Rattle.pylex.specs.declared.line_state.Point.{Point}
+use Rattle.pylex.specs.declared.point.Point.{Point}
 use Rattle.pylex.specs.Standing.{front_to, back_from, line_begin, Agrees, standing_by}
 use Rattle.pylexeme.proofs.Cases.{bool_cases}
 use Rattle.pylex.proofs.MachineLaws.Law.{bytes_in-append}

@@ -13,7 +13,7 @@ use Rattle.pylex.specs.Indentation.{width_from, width_at}
 use Rattle.pylex.specs.Listing.{last_line, ends_in_join}
 use Rattle.pylex.specs.Cursors.{cursor_at}
 use Rattle.pylex.specs.Machine.{front_after}
-use Rattle.pylex.specs.declared.line_state.LeadingChar.TheVariants.{Nothing}
+use Rattle.pylex.specs.declared.leading_char.LeadingChar.TheVariants.{Nothing}
 use Rattle.pylex.specs.Standing.{resumed}
 use Rattle.pylexeme.proofs.Cases.{bool_cases}
 use Rattle.pylex.proofs.MachineLaws.Law.{state_of, point_after}

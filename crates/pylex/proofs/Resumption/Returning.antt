@@ -10,7 +10,7 @@ use Rattle.pysource.specs.Limits.{source_limit}
 use Rattle.pysource.specs.Parts.{Parts}
 use Rattle.pylex.specs.declared.cursor.Shown.{Shown}
 use Rattle.pylex.specs.declared.entries.Entry.{Entry}
-use Rattle.pylex.specs.declared.line_state.LeadingChar.TheVariants.{Nothing}
+use Rattle.pylex.specs.declared.leading_char.LeadingChar.TheVariants.{Nothing}
 use Rattle.pylex.specs.declared.line_state.LineState.{LineState}
 use Rattle.std.specs.Prelude.{slice_get}
 use Rattle.pylex.specs.declared.entries.Step.{Step}

@@ -7,8 +7,8 @@ use Rattle.std.proofs.lemmas.Str.{chars-IsAscii}
 use Rattle.std.proofs.lemmas.Bool.Decides.{nat_tests}
 use Rattle.std.proofs.lemmas.Bool.{cases_lt}
 use Rattle.pysource.specs.declared.places.Place.{Place}
-use Rattle.pylex.specs.declared.line_state.LeadingChar.{LeadingChar}
-use Rattle.pylex.specs.declared.line_state.LeadingChar.TheVariants.{Nothing, Hash, Other}
+use Rattle.pylex.specs.declared.leading_char.LeadingChar.{LeadingChar}
+use Rattle.pylex.specs.declared.leading_char.LeadingChar.TheVariants.{Nothing, Hash, Other}
 use Rattle.pylex.specs.Machine.{place_past, front_after}
 use Rattle.std.specs.Prelude.{slice_index}
 use Rattle.pylex.specs.Indentation.{width_from}

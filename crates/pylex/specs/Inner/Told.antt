@@ -4,12 +4,12 @@ use Rattle.std.specs.Str.{chars}
 use Rattle.pysource.specs.declared.places.Place.{Place}
 use Rattle.pylexeme.specs.declared.lexeme.Class.{Class}
 use Rattle.pylexeme.specs.declared.lexeme.Class.TheVariants.{Name, Number, String, Operator, Comment, Blanks, LineEnd, Join}
-use Rattle.pylex.specs.declared.line_state.LeadingChar.{LeadingChar}
-use Rattle.pylex.specs.declared.line_state.LeadingChar.TheVariants.{Nothing, Hash, Other}
+use Rattle.pylex.specs.declared.leading_char.LeadingChar.{LeadingChar}
+use Rattle.pylex.specs.declared.leading_char.LeadingChar.TheVariants.{Nothing, Hash, Other}
+use Rattle.pylex.specs.declared.entries.Emitted.TheVariants as gives
 use Rattle.pylex.specs.declared.entries.Entry.{Entry}
 use Rattle.pylex.specs.declared.kind.Kind.{Kind}
 use Rattle.pylex.specs.declared.kind.Kind.TheVariants as kinds
-use Rattle.pylex.specs.declared.line_state.Emitted.TheVariants as gives
 use Rattle.pylex.specs.declared.line_state.LineState.{LineState}
 use Rattle.pylex.specs.Machine.{place_past, front_after, after, entry_by}
 use Rattle.pylex.specs.LineState.{with_levels, given}

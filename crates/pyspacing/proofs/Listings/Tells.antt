@@ -15,7 +15,7 @@ use Rattle.pylexeme.specs.declared.kinds.Exact.{Exact}
 use Rattle.pylex.specs.declared.entries.Entry.{Entry}
 use Rattle.pylex.specs.declared.entries.Step.{Step}
 use Rattle.pylex.specs.declared.entries.Step.TheVariants as steps
-use Rattle.pylex.specs.declared.line_state.Point.{Point}
+use Rattle.pylex.specs.declared.point.Point.{Point}
 use Rattle.pylexeme.specs.Chars.{bytes_in}
 use Rattle.pylex.specs.Machine.{step_of, mark_at}
 use Rattle.pyspacing.specs.Tokens.{PlainToken, token_at, exact_in}

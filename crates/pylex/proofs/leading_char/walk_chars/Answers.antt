@@ -1,10 +1,10 @@
 use Rattle.std.proofs.Common.{ap, ◌∙◌, sym, arith}
 use Rattle.std.specs.Str.{chars}
 use Rattle.std.specs.Str.Iter.{chars_rest}
-use Rattle.pylex.specs.declared.line_state.LeadingChar.{LeadingChar}
+use Rattle.pylex.specs.declared.leading_char.LeadingChar.{LeadingChar}
 use Rattle.pylex.specs.Machine.{place_past, front_after}
 use Rattle.pylex.proofs.MachineLaws.Walking.{Past, past, no_chars, advance_feed, advance_other}
-use Rattle.pylex.proofs.line_state.walk_chars.Goals as goal
+use Rattle.pylex.proofs.leading_char.walk_chars.Goals as goal
 
 pub loop-c-preserved-then-c-eq10 : goal.loop-c-preserved-then-c-eq10
 loop-c-preserved-then-c-eq10 c =

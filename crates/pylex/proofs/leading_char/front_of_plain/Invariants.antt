@@ -1,10 +1,10 @@
 use Rattle.std.proofs.Common.{◌≡◌}
 use Rattle.std.specs.Str.{chars, IsUtf8}
 use Rattle.std.specs.Str.Iter.{chars_rest}
-use Rattle.pylex.specs.declared.line_state.LeadingChar.TheVariants.{Nothing}
+use Rattle.pylex.specs.declared.leading_char.LeadingChar.TheVariants.{Nothing}
 use Rattle.pylex.specs.Machine.{front_after}
 use Rattle.pylex.proofs.Texts.Plain.{AllInLine}
-use Rattle.pylex.proofs.line_state.front_of_plain.Given as goal
+use Rattle.pylex.proofs.leading_char.front_of_plain.Given as goal
 
 abbrev pub invariant-loop-c : goal.invariant-loop-c
 invariant-loop-c l = record {

@@ -4,7 +4,7 @@ use Rattle.std.specs.Str.Iter.{chars_rest}
 use Rattle.pylex.specs.Indentation.{width_from}
 use Rattle.pylex.proofs.Texts.Plain.{spaces_width}
 use Rattle.pylex.proofs.MachineLaws.Walking.{Past, past, no_chars, width_more, width_none}
-use Rattle.pylex.proofs.line_state.width_after.Goals as goal
+use Rattle.pylex.proofs.measures.width_after.Goals as goal
 
 pub loop-c-preserved : goal.loop-c-preserved
 loop-c-preserved c =

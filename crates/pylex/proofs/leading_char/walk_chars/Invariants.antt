@@ -2,7 +2,7 @@ use Rattle.std.proofs.Common.{◌≡◌, ◌+◌, ◌≤◌, length}
 use Rattle.std.specs.Str.{chars, IsUtf8}
 use Rattle.std.specs.Str.Iter.{chars_rest}
 use Rattle.pylex.specs.Machine.{place_past, front_after}
-use Rattle.pylex.proofs.line_state.walk_chars.Given as goal
+use Rattle.pylex.proofs.leading_char.walk_chars.Given as goal
 
 abbrev pub invariant-loop-c : goal.invariant-loop-c
 invariant-loop-c l = record {

@@ -1,12 +1,12 @@
 use Rattle.std.proofs.Common.{◌≡◌, ap, ◌∙◌, sym, rules, arith}
 use Rattle.std.specs.Str.{chars}
 use Rattle.std.specs.Str.Iter.{chars_rest}
-use Rattle.pylex.specs.declared.line_state.LeadingChar.{LeadingChar}
-use Rattle.pylex.specs.declared.line_state.LeadingChar.TheVariants.{Nothing}
+use Rattle.pylex.specs.declared.leading_char.LeadingChar.{LeadingChar}
+use Rattle.pylex.specs.declared.leading_char.LeadingChar.TheVariants.{Nothing}
 use Rattle.pylex.specs.Machine.{front_after}
 use Rattle.pylex.proofs.Texts.Plain.{plain_in_line, in_line_past, begun, spaces_front}
 use Rattle.pylex.proofs.MachineLaws.Walking.{Past, past, no_chars}
-use Rattle.pylex.proofs.line_state.front_of_plain.Goals as goal
+use Rattle.pylex.proofs.leading_char.front_of_plain.Goals as goal
 
 pub loop-c-init : goal.loop-c-init
 loop-c-init c = record { begins = search rules; utf8 = search rules; in_line = search (rules, plain_in_line) }

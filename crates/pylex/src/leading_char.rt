@@ -1,0 +1,188 @@
+//! What a line begins with, and the walk over a text that tells it and the place behind.
+
+ghost use Rattle.std.specs.Prelude.{◌≡◌, ◌↔◌, IsTrue, ◌+◌, ◌^◌, ◌<◌, length};
+ghost use Rattle.std.specs.Str.{chars};
+ghost use Rattle.pylex.specs.Machine.{place_past, front_after_char, front_after, is_hash};
+ghost use Rattle.pylex.specs.Plain.{AreSpaces, IsPlain};
+ghost use Rattle.pylex.specs.Inner.Told.{Tells, begun_by};
+
+use pylexeme::lexeme::Class;
+use pysource::Place;
+
+/// What a physical line begins with, blanks aside.
+#[derive(Clone, Copy, Debug, PartialEq, Eq)]
+pub enum LeadingChar {
+    /// Nothing yet.
+    Nothing,
+    /// A `#`.
+    Hash,
+    /// Another character.
+    Other,
+}
+
+impl LeadingChar {
+    /// What the line begins with after one more character.
+    fn after(self, c: char) -> LeadingChar
+        ensures { result ≡ front_after_char self c }
+    {
+        if c == '\n' {
+            return LeadingChar::Nothing;
+        }
+        match self {
+            LeadingChar::Nothing => match c {
+                ' ' | '\t' | '\x0c' => LeadingChar::Nothing,
+                '#' => LeadingChar::Hash,
+                _ => LeadingChar::Other,
+            },
+            LeadingChar::Hash => LeadingChar::Hash,
+            LeadingChar::Other => LeadingChar::Other,
+        }
+    }
+
+    fn is_nothing(self) -> bool
+        ensures { IsTrue result ↔ (self ≡ LeadingChar.Nothing) }
+    {
+        matches!(self, LeadingChar::Nothing)
+    }
+
+    /// What the line begins with after a character that is neither a blank nor `#`.
+    #[inline(always)]
+    pub(crate) fn begun(self) -> LeadingChar
+        ensures { result ≡ begun_by self }
+    {
+        match self {
+            LeadingChar::Nothing => LeadingChar::Other,
+            LeadingChar::Hash => LeadingChar::Hash,
+            LeadingChar::Other => LeadingChar::Other,
+        }
+    }
+
+    pub(crate) fn is_hash(self) -> bool
+        ensures { result ≡ is_hash self }
+    {
+        matches!(self, LeadingChar::Hash)
+    }
+
+    /// What the line begins with after some more plain text.
+    fn after_plain(self, text: &str) -> LeadingChar
+        requires { IsPlain text.now }
+        ensures { result ≡ front_after self (chars text.now) }
+    {
+        if self.is_nothing() {
+            return front_of_plain(text);
+        }
+        self
+    }
+}
+
+/// Whether a text is in ASCII and has no line feed: each of its bytes is a character of one line.
+fn is_plain(text: &str) -> bool
+    ensures { IsTrue result ↔ IsPlain text.now }
+{
+    text.as_bytes().iter().all(|b| *b < 128 && *b != b'\n')
+}
+
+/// Whether a text has spaces alone.
+pub(crate) fn is_spaces(text: &str) -> bool
+    ensures { IsTrue result ↔ AreSpaces text.now }
+{
+    text.as_bytes().iter().all(|b| *b == b' ')
+}
+
+/// What a line begins with after plain text at its start.
+#[inline(never)]
+fn front_of_plain(text: &str) -> LeadingChar
+    requires { IsPlain text.now }
+    ensures { result ≡ front_after LeadingChar.Nothing (chars text.now) }
+{
+    if is_spaces(text) {
+        return LeadingChar::Nothing;
+    }
+    for c in text.chars() {
+        let front = LeadingChar::Nothing.after(c);
+        if !front.is_nothing() {
+            return front;
+        }
+    }
+    LeadingChar::Nothing
+}
+
+/// The place after a text that begins at a place, and what its line begins with: by each character.
+#[inline(never)]
+fn walk_chars(place: Place, front: LeadingChar, text: &str) -> (Place, LeadingChar)
+    requires row { place.row + length text.now < 2 ^ 63 }
+    requires column { place.column + length text.now < 2 ^ 63 }
+    ensures place { result.0 ≡ place_past place (chars text.now) }
+    ensures front { result.1 ≡ front_after front (chars text.now) }
+{
+    let mut place = place;
+    let mut front = front;
+    for c in text.chars() {
+        front = front.after(c);
+        if c == '\n' {
+            place.row += 1;
+            place.column = 0;
+        } else {
+            place.column += 1;
+        }
+    }
+    (place, front)
+}
+
+/// The place after a text that begins at a place, and what its line begins with.
+#[inline(always)]
+pub(crate) fn walk(place: Place, front: LeadingChar, text: &str) -> (Place, LeadingChar)
+    requires row { place.row + length text.now < 2 ^ 63 }
+    requires column { place.column + length text.now < 2 ^ 63 }
+    ensures place { result.0 ≡ place_past place (chars text.now) }
+    ensures front { result.1 ≡ front_after front (chars text.now) }
+{
+    if !is_plain(text) {
+        return walk_chars(place, front, text);
+    }
+    let further = Place {
+        row: place.row,
+        column: place.column + text.len(),
+    };
+    (further, front.after_plain(text))
+}
+
+/// The place after a lexeme that begins at a place, and what its line begins with.
+#[inline(always)]
+pub(crate) fn walk_lexeme(
+    place: Place,
+    front: LeadingChar,
+    class: Class,
+    text: &str,
+) -> (Place, LeadingChar)
+    requires row { place.row + length text.now < 2 ^ 63 }
+    requires column { place.column + length text.now < 2 ^ 63 }
+    requires told { Tells class text.now }
+    ensures place { result.0 ≡ place_past place (chars text.now) }
+    ensures front { result.1 ≡ front_after front (chars text.now) }
+{
+    match class {
+        Class::Blanks => {
+            let column = place.column + text.len();
+            let row = place.row;
+            (Place { row, column }, front)
+        }
+        Class::LineEnd => {
+            let next = Place {
+                row: place.row + 1,
+                column: 0,
+            };
+            (next, LeadingChar::Nothing)
+        }
+        _ => walk(place, front, text),
+    }
+}
+
+/// What a line begins with.
+pub(crate) fn front_of(line: &str) -> LeadingChar
+    requires { length line.now < 2 ^ 62 }
+    ensures { result ≡ front_after LeadingChar.Nothing (chars line.now) }
+{
+    let (_, front) = walk(Place { row: 1, column: 0 }, LeadingChar::Nothing, line);
+    front
+}
