@@ -1,9 +1,10 @@
 #!/usr/bin/env python3
-"""Checks that the manual page and the completions name exactly the commands and options that the program's help shows.
+"""Checks that the manual page and the completions name exactly the commands and options that the program's help shows, and that the help of
+a command begins its usage with the program's name.
 
     conformance/options.py [--program PATH]
 
-The exit status is 0, but 1 where a file names others, and 2 where the program isn't there.
+The exit status is 0, but 1 where a file names others or a usage another name, and 2 where the program isn't there.
 """
 
 import argparse
@@ -82,6 +83,10 @@ def main():
             if found[command] != due[command]:
                 well = False
                 print(f"{name}: {command}: {sorted(found[command])} in place of {sorted(due[command])}")
+    for command in COMMANDS:
+        if f"Usage: pyast {command} " not in shown(options.program, [command]):
+            well = False
+            print(f"the help of {command} lacks `Usage: pyast {command} `")
     print("the manual page and the completions name the options of the help" if well else "they differ")
     return int(not well)
 
