@@ -7,7 +7,7 @@ use std::alloc::{AllocError, Global};
 use std::process::Abort;
 use std::test::Fail;
 
-// Appends a line, if there is one.
+/// Appends a line, if there is one.
 fn push_told(out: &mut String, line: &str) -> Result<(), AllocError> {
     if line.is_empty() {
         return Ok(());

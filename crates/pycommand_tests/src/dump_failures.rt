@@ -45,13 +45,13 @@ pub(crate) fn tells_failed_reads(rt: &impl Abort, alloc: Global, words: &str) ->
     Ok(())
 }
 
-// A failed read is told alone, before a fault of the encoding too; nothing is written.
+/// A failed read is told alone, before a fault of the encoding too; nothing is written.
 #[test]
 fn tells_a_failed_read_alone(rt: HostRuntime) -> Result<(), Fail> {
     tells_failed_reads(&rt, rt.alloc(), "dump")
 }
 
-// What the writer took is a front of the dump.
+/// What the writer took is a front of the dump.
 #[test]
 fn stops_where_the_writer_fails(rt: HostRuntime) -> Result<(), Fail> {
     let command = command(rt.alloc(), "dump --bare")?;
@@ -60,8 +60,8 @@ fn stops_where_the_writer_fails(rt: HostRuntime) -> Result<(), Fail> {
     Ok(())
 }
 
-// A long dump is written in pieces, here of 65,556 and 9,457 bytes. What the writer took is a front
-// of it, whichever fails.
+/// A long dump is written in pieces, here of 65,556 and 9,457 bytes. What the writer took is a
+/// front of it, whichever fails.
 #[test]
 fn stops_where_a_piece_fails(rt: HostRuntime) -> Result<(), Fail> {
     let command = command(rt.alloc(), "dump --bare")?;
@@ -100,7 +100,7 @@ fn keeps_its_status(rt: &impl Abort, alloc: Global, command: &Command, line: &[u
     same_status(rt, status, 1, "a room");
 }
 
-// The status stays where the line of the fault can't be written.
+/// The status stays where the line of the fault can't be written.
 #[test]
 fn keeps_its_status_where_the_fault_line_fails(rt: HostRuntime) -> Result<(), Fail> {
     let command = command(rt.alloc(), "dump")?;
@@ -130,7 +130,7 @@ fn answers_each_front(rt: &impl Abort, alloc: Global, command: &Command, source:
     }
 }
 
-// A source that is cut off anywhere is dumped or refused.
+/// A source that is cut off anywhere is dumped or refused.
 #[test]
 fn answers_each_front_of_a_source(rt: HostRuntime) -> Result<(), Fail> {
     let command = command(rt.alloc(), "dump")?;

@@ -187,8 +187,8 @@ fn refuses(rt: &impl Abort, alloc: Global, command: &Command, source: &str) {
     same_status(rt, status, 1, "a long line");
 }
 
-// Many tokens without a form are bad syntax, or too deep where the reader stopped before it saw
-// that; and the tree of a long chain is never made, so that it isn't dropped either.
+/// Many tokens without a form are bad syntax, or too deep where the reader stopped before it saw
+/// that; and the tree of a long chain is never made, so that it isn't dropped either.
 #[test]
 fn refuses_a_long_line_without_a_form(rt: HostRuntime) -> Result<(), Fail> {
     for count in [600, 100_000] {

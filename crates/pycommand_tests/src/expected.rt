@@ -201,7 +201,7 @@ pub(crate) fn lists_bytes_as(
     Ok(())
 }
 
-// Asserts that `tokens` writes and tells this of what a reader gives.
+/// Asserts that `tokens` writes and tells this of what a reader gives.
 fn writes_and_tells<R: ByteIn>(
     rt: &impl Abort,
     alloc: Global,

@@ -31,7 +31,7 @@ fn stops_where_the_writer_fails(rt: HostRuntime) -> Result<(), Fail> {
     Ok(())
 }
 
-// The line of the cursor behind a count is written as the entries' lines are.
+/// The line of the cursor behind a count is written as the entries' lines are.
 #[test]
 fn stops_where_the_writer_fails_in_the_line_of_a_cursor(rt: HostRuntime) -> Result<(), Fail> {
     let mut wanted = String::new(rt.alloc());
@@ -66,8 +66,8 @@ fn push_row(alloc: Global, wanted: &mut String, row: i32) -> Result<(), Fail> {
     Ok(())
 }
 
-// What is held is written more than once here, so the writer also fails in the middle of the
-// listing.
+/// What is held is written more than once here, so the writer also fails in the middle of the
+/// listing.
 #[test]
 fn stops_within_a_long_listing(rt: HostRuntime) -> Result<(), Fail> {
     let mut source = String::new(rt.alloc());
@@ -94,8 +94,8 @@ fn stops_within_a_long_listing(rt: HostRuntime) -> Result<(), Fail> {
     Ok(())
 }
 
-// The lines before a fault of the source are written before it is told, so a failed write of them
-// is met first.
+/// The lines before a fault of the source are written before it is told, so a failed write of them
+/// is met first.
 #[test]
 fn tells_a_failed_write_before_a_fault_of_the_source(rt: HostRuntime) -> Result<(), Fail> {
     let mut reader = reader(b"x $\n");
@@ -107,8 +107,8 @@ fn tells_a_failed_write_before_a_fault_of_the_source(rt: HostRuntime) -> Result<
     Ok(())
 }
 
-// Asserts that `tokens` writes these lines where the reader fails behind these bytes, and then
-// tells the failed read.
+/// Asserts that `tokens` writes these lines where the reader fails behind these bytes, and then
+/// tells the failed read.
 fn lists_read_lines(
     rt: &impl Abort,
     alloc: Global,
@@ -133,7 +133,7 @@ fn lists_read_lines(
     Ok(())
 }
 
-// Each is what was read before a read failed, and the lines that are written.
+/// Each is what was read before a read failed, and the lines that are written.
 #[test]
 fn writes_the_lines_that_were_read_whole(rt: HostRuntime) -> Result<(), Fail> {
     let rows: &[(&[u8], &str)] = &[
@@ -200,7 +200,7 @@ fn tells(rt: &impl Abort, alloc: Global, source: &[u8], line: &[u8]) {
     same_status(rt, status, 1, "a failed read");
 }
 
-// A fault of the lines that were read whole stands before the failed read.
+/// A fault of the lines that were read whole stands before the failed read.
 #[test]
 fn tells_a_fault_before_a_failed_read(rt: HostRuntime) -> Result<(), Fail> {
     let rows: &[(&[u8], &[u8])] = &[
@@ -217,7 +217,7 @@ fn tells_a_fault_before_a_failed_read(rt: HostRuntime) -> Result<(), Fail> {
     Ok(())
 }
 
-// A count stops the listing before the line that can't be read.
+/// A count stops the listing before the line that can't be read.
 #[test]
 fn stops_at_a_count_before_a_failed_read(rt: HostRuntime) -> Result<(), Fail> {
     let mut wanted = String::new(rt.alloc());
@@ -278,8 +278,8 @@ fn tells_of_a_cursor(
     Ok(())
 }
 
-// Whether a cursor behind more entries than were read is one of the source isn't known, so the
-// failed read is told.
+/// Whether a cursor behind more entries than were read is one of the source isn't known, so the
+/// failed read is told.
 #[test]
 fn tells_a_failed_read_before_a_cursor(rt: HostRuntime) -> Result<(), Fail> {
     let rows: &[(&str, &[u8], u8)] = &[

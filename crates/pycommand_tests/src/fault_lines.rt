@@ -163,7 +163,7 @@ fn refuses(rt: &impl Abort, alloc: Global, text: &str, line: &str) -> Result<(),
     }
 }
 
-// Rows count from 1, and columns from 0 in characters.
+/// Rows count from 1, and columns from 0 in characters.
 #[test]
 fn tells_why_a_source_has_no_tokens(rt: HostRuntime) -> Result<(), Fail> {
     for (text, line) in &[
@@ -212,7 +212,7 @@ fn tells_brackets_that_are_too_deep(rt: HostRuntime) -> Result<(), Fail> {
     )
 }
 
-// What the grammar says against a line is told at its place.
+/// What the grammar says against a line is told at its place.
 #[test]
 fn tells_what_the_grammar_says(rt: HostRuntime) -> Result<(), Fail> {
     let place = Place { row: 3, column: 7 };
@@ -242,7 +242,7 @@ fn tells_what_the_grammar_says(rt: HostRuntime) -> Result<(), Fail> {
     Ok(())
 }
 
-// A failed read has no place, and want of memory is told as such.
+/// A failed read has no place, and want of memory is told as such.
 #[test]
 fn tells_what_is_no_fault_of_a_source(rt: HostRuntime) -> Result<(), Fail> {
     for (fault, line, status) in [

@@ -6,8 +6,8 @@ use crate::expected::{
 use pycommand::{Command, Tokens, run};
 use std::test::Fail;
 
-// Each is a source, its encoding as it is shown (empty where nothing is written), its entries but
-// for that of the encoding, and the fault told behind them, if one is.
+/// Each is a source, its encoding as it is shown (empty where nothing is written), its entries but
+/// for that of the encoding, and the fault told behind them, if one is.
 #[test]
 fn lists(rt: HostRuntime) -> Result<(), Fail> {
     let rows = &[

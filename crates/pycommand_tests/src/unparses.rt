@@ -88,14 +88,14 @@ fn writes_source_text_of_python_3_12(rt: HostRuntime) -> Result<(), Fail> {
     writes_all(&rt, rt.alloc(), "unparse --py312", rows)
 }
 
-// Brackets that the tree doesn't have are left out.
+/// Brackets that the tree doesn't have are left out.
 #[test]
 fn writes_what_stands_in_many_brackets(rt: HostRuntime) -> Result<(), Fail> {
     let source = joined(rt.alloc(), &[("(", 600), ("x", 1), (")", 600)])?;
     writes(&rt, rt.alloc(), "unparse", source.as_str(), "x")
 }
 
-// Nothing is written of a source that is refused.
+/// Nothing is written of a source that is refused.
 #[test]
 fn tells_why_a_source_has_no_text(rt: HostRuntime) -> Result<(), Fail> {
     let rows = &[
@@ -138,13 +138,13 @@ fn tells_why_a_source_has_no_text(rt: HostRuntime) -> Result<(), Fail> {
     does_all(&rt, rt.alloc(), rows)
 }
 
-// A failed read is told alone, before a fault of the encoding too; nothing is written.
+/// A failed read is told alone, before a fault of the encoding too; nothing is written.
 #[test]
 fn tells_a_failed_read_in_place_of_a_text(rt: HostRuntime) -> Result<(), Fail> {
     tells_failed_reads(&rt, rt.alloc(), "unparse")
 }
 
-// What the writer took is a front of the text.
+/// What the writer took is a front of the text.
 #[test]
 fn stops_within_a_text_where_the_writer_fails(rt: HostRuntime) -> Result<(), Fail> {
     let command = command(rt.alloc(), "unparse")?;

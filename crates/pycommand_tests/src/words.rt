@@ -63,7 +63,7 @@ fn push_file(given: &mut String, file: &Option<String>) -> Result<(), Fail> {
     Ok(())
 }
 
-// What words give: `bad`, `malformed`, `help`, or the command and what it has.
+/// What words give: `bad`, `malformed`, `help`, or the command and what it has.
 fn answer(rt: &impl Abort, alloc: Global, words: &[String]) -> Result<String, Fail> {
     let mut given = String::new(alloc);
     match Command::read(alloc, words) {
@@ -295,7 +295,7 @@ fn reads_cursors(rt: HostRuntime) -> Result<(), Fail> {
     gives_all_with_cursors(&rt, rt.alloc(), rows)
 }
 
-// The help of a command shows how it is called.
+/// The help of a command shows how it is called.
 #[test]
 fn helps_with_the_whole_call(rt: HostRuntime) -> Result<(), Fail> {
     for (command, usage) in &[

@@ -67,7 +67,7 @@ fn is_significant(rt: &impl Abort, text: &str, significant: bool) -> Result<(), 
     Ok(())
 }
 
-// Blanks, comments and line ends alone make no line logical.
+/// Blanks, comments and line ends alone make no line logical.
 #[test]
 fn tells_what_is_significant(rt: HostRuntime) -> Result<(), Fail> {
     for (text, significant) in &[

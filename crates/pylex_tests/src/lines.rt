@@ -58,8 +58,8 @@ fn writes(
     Ok(())
 }
 
-// The lines are those of Python 3.11's `python -m tokenize`, but for the widest, whose places no
-// small source has.
+/// The lines are those of Python 3.11's `python -m tokenize`, but for the widest, whose places no
+/// small source has.
 #[test]
 fn lists_entries(rt: HostRuntime) -> Result<(), Fail> {
     let name = entry_at(Kind::Name, None, (1, 0), (1, 1));

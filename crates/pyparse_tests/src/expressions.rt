@@ -437,7 +437,7 @@ const DEEP: Option<(GrammarError, Place)> = Some((
     Place { row: 1, column: 0 },
 ));
 
-// At most 500 nodes stand in one another, and 600 brackets.
+/// At most 500 nodes stand in one another, and 600 brackets.
 #[test]
 fn high(rt: HostRuntime) -> Result<(), Fail> {
     for (count, before, middle, behind, refused) in &[

@@ -74,6 +74,7 @@ fn function(draw: &mut Draw) -> Result<Stmt, AllocError> {
     })
 }
 
+/// `class`.
 fn class(draw: &mut Draw) -> Result<Stmt, AllocError> {
     let count = draw.below(3);
     let bases = elements(draw, count)?;
@@ -136,6 +137,7 @@ fn bound(draw: &mut Draw) -> Result<Option<Box<Expr>>, AllocError> {
     Ok(Some(made))
 }
 
+/// An item of a `with`.
 fn item(draw: &mut Draw) -> Result<Item, AllocError> {
     let context_expr = boxed(draw)?;
     let optional_vars = bound(draw)?;
@@ -145,6 +147,7 @@ fn item(draw: &mut Draw) -> Result<Item, AllocError> {
     })
 }
 
+/// Some such items.
 fn items(draw: &mut Draw) -> Result<Vec<Item>, AllocError> {
     let mut all = Vec::new(draw.alloc());
     for _ in 0..=draw.below(3) {
@@ -173,6 +176,7 @@ fn class_caught(draw: &mut Draw, star: bool) -> Result<Option<Box<Expr>>, AllocE
     Ok(Some(class))
 }
 
+/// An `except`, or an `except*`.
 fn handler(draw: &mut Draw, star: bool) -> Result<Handler, AllocError> {
     let body = block(draw)?;
     let class = class_caught(draw, star)?;

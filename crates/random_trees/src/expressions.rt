@@ -11,6 +11,7 @@ use crate::targets::target;
 use pynode::{Comprehension, Context, Expr, Keyword};
 use std::alloc::AllocError;
 
+/// A chain of `and` or `or`.
 fn bool_op(draw: &mut Draw) -> Result<Expr, AllocError> {
     let count = 2 + draw.below(2);
     Ok(Expr::BoolOp {
@@ -19,6 +20,7 @@ fn bool_op(draw: &mut Draw) -> Result<Expr, AllocError> {
     })
 }
 
+/// A name with `:=` and a value.
 fn named_expr(draw: &mut Draw) -> Result<Expr, AllocError> {
     let target = name(draw, Context::Store)?;
     Ok(Expr::NamedExpr {
@@ -27,6 +29,7 @@ fn named_expr(draw: &mut Draw) -> Result<Expr, AllocError> {
     })
 }
 
+/// An operator between two operands.
 fn bin_op(draw: &mut Draw) -> Result<Expr, AllocError> {
     Ok(Expr::BinOp {
         left: boxed(draw)?,
@@ -35,6 +38,7 @@ fn bin_op(draw: &mut Draw) -> Result<Expr, AllocError> {
     })
 }
 
+/// An operator before its operand.
 fn unary_op(draw: &mut Draw) -> Result<Expr, AllocError> {
     Ok(Expr::UnaryOp {
         op: unary(draw),
@@ -42,6 +46,7 @@ fn unary_op(draw: &mut Draw) -> Result<Expr, AllocError> {
     })
 }
 
+/// `lambda`.
 fn lambda(draw: &mut Draw) -> Result<Expr, AllocError> {
     Ok(Expr::Lambda {
         args: arguments(draw, false)?,
@@ -49,6 +54,7 @@ fn lambda(draw: &mut Draw) -> Result<Expr, AllocError> {
     })
 }
 
+/// A conditional expression.
 fn if_exp(draw: &mut Draw) -> Result<Expr, AllocError> {
     Ok(Expr::IfExp {
         test: boxed(draw)?,
@@ -57,6 +63,7 @@ fn if_exp(draw: &mut Draw) -> Result<Expr, AllocError> {
     })
 }
 
+/// A chain of comparisons.
 fn compare(draw: &mut Draw) -> Result<Expr, AllocError> {
     let count = 1 + draw.below(3);
     Ok(Expr::Compare {
@@ -75,6 +82,7 @@ fn dict(draw: &mut Draw) -> Result<Expr, AllocError> {
     })
 }
 
+/// A set.
 fn set(draw: &mut Draw) -> Result<Expr, AllocError> {
     let count = 1 + draw.below(3);
     Ok(Expr::Set {
@@ -108,6 +116,7 @@ fn comprehension(draw: &mut Draw) -> Result<Comprehension, AllocError> {
     })
 }
 
+/// Some `for`s, at least one.
 fn generators(draw: &mut Draw) -> Result<Vec<Comprehension>, AllocError> {
     let mut all = Vec::new(draw.alloc());
     for _ in 0..=draw.below(2) {
@@ -127,6 +136,7 @@ fn gathering(draw: &mut Draw) -> Result<Expr, AllocError> {
     })
 }
 
+/// A comprehension of dictionaries.
 fn dict_comp(draw: &mut Draw) -> Result<Expr, AllocError> {
     Ok(Expr::DictComp {
         key: boxed(draw)?,
@@ -163,12 +173,14 @@ pub(crate) fn value(draw: &mut Draw) -> Result<Box<Expr>, AllocError> {
     boxed(draw)
 }
 
+/// `yield`, with a value or without.
 fn yielded(draw: &mut Draw) -> Result<Expr, AllocError> {
     Ok(Expr::Yield {
         value: optional_value(draw)?,
     })
 }
 
+/// An argument by name, or one of `**`.
 fn keyword(draw: &mut Draw) -> Result<Keyword, AllocError> {
     let arg = optional_word(draw)?;
     Ok(Keyword {
@@ -186,6 +198,7 @@ pub(crate) fn keywords(draw: &mut Draw) -> Result<Vec<Keyword>, AllocError> {
     Ok(all)
 }
 
+/// A call.
 fn call(draw: &mut Draw) -> Result<Expr, AllocError> {
     let count = draw.below(3);
     Ok(Expr::Call {
@@ -195,6 +208,7 @@ fn call(draw: &mut Draw) -> Result<Expr, AllocError> {
     })
 }
 
+/// An expression with operators, or a conditional one.
 fn operation(draw: &mut Draw) -> Result<Expr, AllocError> {
     match draw.below(7) {
         0 => bool_op(draw),
@@ -206,6 +220,7 @@ fn operation(draw: &mut Draw) -> Result<Expr, AllocError> {
     }
 }
 
+/// What stands in brackets or braces, and the like.
 fn display(draw: &mut Draw) -> Result<Expr, AllocError> {
     match draw.below(8) {
         0 => dict(draw),
@@ -216,6 +231,7 @@ fn display(draw: &mut Draw) -> Result<Expr, AllocError> {
     }
 }
 
+/// Another expression with parts.
 fn primary(draw: &mut Draw) -> Result<Expr, AllocError> {
     match draw.below(8) {
         0 => lambda(draw),

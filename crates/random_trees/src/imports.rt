@@ -51,6 +51,7 @@ fn source(draw: &mut Draw, level: u64) -> Result<Option<Identifier>, AllocError>
     Ok(Some(name))
 }
 
+/// `from .. import ..`.
 fn import_from(draw: &mut Draw) -> Result<Stmt, AllocError> {
     let level = u64::from(draw.below(9).saturating_sub(4));
     let names = taken(draw)?;

@@ -4,6 +4,7 @@ use crate::draw::Draw;
 use pynode::{BoolOperator, Comparison, Operator, UnaryOperator};
 use std::alloc::AllocError;
 
+/// All operators between two operands.
 const BINARY: [Operator; 13] = [
     Operator::Add,
     Operator::Sub,
@@ -20,6 +21,7 @@ const BINARY: [Operator; 13] = [
     Operator::FloorDiv,
 ];
 
+/// All operators before their operand.
 const UNARY: [UnaryOperator; 4] = [
     UnaryOperator::Invert,
     UnaryOperator::Not,
@@ -27,6 +29,7 @@ const UNARY: [UnaryOperator; 4] = [
     UnaryOperator::USub,
 ];
 
+/// All comparisons.
 const COMPARISONS: [Comparison; 10] = [
     Comparison::Eq,
     Comparison::NotEq,

@@ -11,18 +11,21 @@ use crate::targets::{single, target, targets};
 use pynode::{Context, Expr, Profile, Stmt};
 use std::alloc::AllocError;
 
+/// `return`, with a value or without.
 fn returned(draw: &mut Draw) -> Result<Stmt, AllocError> {
     Ok(Stmt::Return {
         value: unboxed(optional_value(draw)?),
     })
 }
 
+/// `del`.
 fn delete(draw: &mut Draw) -> Result<Stmt, AllocError> {
     Ok(Stmt::Delete {
         targets: targets(draw, Context::Del)?,
     })
 }
 
+/// An assignment to some targets.
 fn assign(draw: &mut Draw) -> Result<Stmt, AllocError> {
     let targets = targets(draw, Context::Store)?;
     Ok(Stmt::Assign {
@@ -55,6 +58,7 @@ fn assigned(draw: &mut Draw) -> Result<Box<Expr>, AllocError> {
     single(draw, Context::Store)
 }
 
+/// An assignment by an operator.
 fn aug_assign(draw: &mut Draw) -> Result<Stmt, AllocError> {
     let target = assigned(draw)?;
     let value = value(draw)?;
@@ -73,6 +77,7 @@ fn is_name(expr: &Expr) -> bool {
     }
 }
 
+/// An assignment with an annotation.
 fn ann_assign(draw: &mut Draw) -> Result<Stmt, AllocError> {
     let target = assigned(draw)?;
     let simple = is_name(&target) && draw.is_heads();
@@ -84,6 +89,7 @@ fn ann_assign(draw: &mut Draw) -> Result<Stmt, AllocError> {
     })
 }
 
+/// `raise`, with a cause where it has an exception.
 fn raise(draw: &mut Draw) -> Result<Stmt, AllocError> {
     let exc = optional(draw)?;
     let cause = if exc.is_some() { optional(draw)? } else { None };
@@ -93,6 +99,7 @@ fn raise(draw: &mut Draw) -> Result<Stmt, AllocError> {
     })
 }
 
+/// `assert`, with a message or without.
 fn assert(draw: &mut Draw) -> Result<Stmt, AllocError> {
     let test = boxed(draw)?;
     let msg = optional(draw)?;
@@ -121,6 +128,7 @@ fn bare(draw: &mut Draw) -> Stmt {
     }
 }
 
+/// An assignment of any class.
 fn assignment(draw: &mut Draw) -> Result<Stmt, AllocError> {
     match draw.below(5) {
         0 => aug_assign(draw),
@@ -130,6 +138,7 @@ fn assignment(draw: &mut Draw) -> Result<Stmt, AllocError> {
     }
 }
 
+/// A statement that begins with a word.
 fn other(draw: &mut Draw) -> Result<Stmt, AllocError> {
     match draw.below(6) {
         0 => returned(draw),

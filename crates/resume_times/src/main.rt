@@ -8,6 +8,7 @@ use std::alloc::Global;
 use std::process::ExitCode;
 use std::time::Instant;
 
+/// How many entries a lister still gives.
 fn count(mut lister: Lister<'_>) -> usize {
     let mut n: usize = 0;
     for _ in 0..u64::MAX {
@@ -19,6 +20,7 @@ fn count(mut lister: Lister<'_>) -> usize {
     n
 }
 
+/// Times listing up to a cursor, and going on from it; the status that the program ends with.
 fn times(rt: &HostRuntime, alloc: Global, source: &Source, cursor: &Cursor) -> u8 {
     let Ok(t1) = Instant::now(rt) else {
         return 1;
