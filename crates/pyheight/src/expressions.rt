@@ -96,6 +96,7 @@ pub(crate) fn exprs_height(es: &[Expr]) -> u64
     most
 }
 
+/// The height of the highest of some expressions that may be missing.
 #[cycle(expression_height)]
 #[tactic(auto, using(pynode::proofs::Callers::ExprShapes::expr_shapes, crate::proofs::CapLemmas::caps))]
 fn options_height(es: &[Option<Expr>]) -> u64
@@ -112,6 +113,7 @@ fn options_height(es: &[Option<Expr>]) -> u64
     most
 }
 
+/// The height of the highest expression in some `for`s.
 #[cycle(expression_height)]
 #[tactic(auto, using(pynode::proofs::Callers::ExprShapes::expr_shapes, crate::proofs::CapLemmas::caps))]
 fn generators_height(cs: &[Comprehension]) -> u64
@@ -125,6 +127,7 @@ fn generators_height(cs: &[Comprehension]) -> u64
     most
 }
 
+/// The height of the highest of some arguments by name.
 #[cycle(expression_height)]
 #[tactic(auto, using(pynode::proofs::Callers::ExprShapes::expr_shapes, crate::proofs::CapLemmas::caps))]
 pub(crate) fn keywords_height(ks: &[Keyword]) -> u64
@@ -137,6 +140,7 @@ pub(crate) fn keywords_height(ks: &[Keyword]) -> u64
     most
 }
 
+/// The height of a parameter's annotation.
 #[cycle(expression_height)]
 #[tactic(auto, using(pynode::proofs::Callers::ExprShapes::expr_shapes, crate::proofs::CapLemmas::caps))]
 fn parameter_height(a: &Arg) -> u64
@@ -145,6 +149,7 @@ fn parameter_height(a: &Arg) -> u64
     boxed_height(&a.annotation)
 }
 
+/// The height of the highest annotation of some parameters.
 #[cycle(expression_height)]
 #[tactic(auto, using(pynode::proofs::Callers::ExprShapes::expr_shapes, crate::proofs::CapLemmas::caps))]
 fn each_parameter_height(all: &[Arg]) -> u64
@@ -157,6 +162,7 @@ fn each_parameter_height(all: &[Arg]) -> u64
     most
 }
 
+/// The height of the annotation of a parameter that may be missing.
 #[cycle(expression_height)]
 #[tactic(auto, using(pynode::proofs::Callers::ExprShapes::expr_shapes, crate::proofs::CapLemmas::caps))]
 fn optional_parameter_height(a: &Option<Arg>) -> u64

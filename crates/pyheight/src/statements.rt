@@ -82,6 +82,7 @@ pub(crate) fn statements_height(body: &[Stmt]) -> u64
     most
 }
 
+/// The height of the highest statement in some handlers.
 #[cycle(statement_height)]
 #[tactic(auto, using(pynode::proofs::Callers::StmtShapes::stmt_shapes, crate::proofs::CapLemmas::caps))]
 fn handlers_height(all: &[Handler]) -> u64
