@@ -104,6 +104,7 @@ pub(crate) fn for_head_fits(alloc: Global, target: &Expr, iter: &Expr) -> Result
     expr_fits(alloc, iter, Level::Stars)
 }
 
+/// Whether the target of an item fits, if it has one.
 fn optional_target_fits(alloc: Global, expr: &Option<Expr>) -> Result<bool, AllocError>
     ensures { IfOk result (λ told. told ≡ perhaps_target_fits is_name (option_of expr.now)) }
 {
@@ -113,6 +114,7 @@ fn optional_target_fits(alloc: Global, expr: &Option<Expr>) -> Result<bool, Allo
     }
 }
 
+/// Whether an item of a `with` fits.
 fn item_fits(alloc: Global, item: &Item) -> Result<bool, AllocError>
     ensures { IfOk result (λ told. told ≡ item_fits is_name (item_of item.now)) }
 {

@@ -59,6 +59,7 @@ fn alias_fits(alloc: Global, alias: &Alias) -> Result<bool, AllocError>
     Ok(is_name(alloc, alias.name.as_str())? && optional_name_fits(alloc, &alias.asname)?)
 }
 
+/// Whether all names that are imported fit.
 fn aliases_fit(alloc: Global, names: &[Alias]) -> Result<bool, AllocError>
     ensures { IfOk result (λ told. told ≡ list_all (alias_fits is_name) (map alias_of names.now)) }
 {

@@ -64,6 +64,7 @@ fn parameter_fits(alloc: Global, a: &Arg, annotated: bool, level: Level) -> Resu
     )
 }
 
+/// Whether all of some parameters fit.
 #[cycle(fits)]
 #[tactic(auto, using(pynode::proofs::Callers::ExprShapes::expr_shapes))]
 fn each_parameter_fits(alloc: Global, all: &[Arg], annotated: bool) -> Result<bool, AllocError>
@@ -78,6 +79,7 @@ fn each_parameter_fits(alloc: Global, all: &[Arg], annotated: bool) -> Result<bo
     Ok(true)
 }
 
+/// Whether a parameter fits, if there is one.
 #[cycle(fits)]
 #[tactic(auto, using(pynode::proofs::Callers::ExprShapes::expr_shapes))]
 fn optional_parameter_fits(

@@ -149,6 +149,7 @@ pub(crate) fn has_types(profile: Profile) -> bool
     }
 }
 
+/// Whether a parameter of a type fits.
 fn type_param_fits(alloc: Global, parameter: &TypeParam) -> Result<bool, AllocError>
     ensures { IfOk result (λ told. told ≡ type_param_fits is_name (type_param_of parameter.now)) }
 {
@@ -161,6 +162,7 @@ fn type_param_fits(alloc: Global, parameter: &TypeParam) -> Result<bool, AllocEr
     }
 }
 
+/// Whether all parameters of a type fit.
 fn each_type_param_fits(alloc: Global, parameters: &[TypeParam]) -> Result<bool, AllocError>
     ensures { IfOk result
         (λ told. told ≡ list_all (type_param_fits is_name) (map type_param_of parameters.now)) }
