@@ -11,6 +11,7 @@ use pynode::{BoolOperator, Comparison, Constant, Context, Operator, UnaryOperato
 use pysource::{push_repr_bytes, push_repr_points};
 use std::alloc::AllocError;
 
+/// How an operator between two operands is shown.
 pub(crate) fn operator_word(op: Operator) -> &'static str
     ensures { result.now ≡ operator_name op ++ codes "()" }
 {
@@ -31,6 +32,7 @@ pub(crate) fn operator_word(op: Operator) -> &'static str
     }
 }
 
+/// How a context is shown.
 pub(crate) fn context_word(ctx: Context) -> &'static str
     ensures { result.now ≡ context_name ctx ++ codes "()" }
 {
@@ -41,6 +43,7 @@ pub(crate) fn context_word(ctx: Context) -> &'static str
     }
 }
 
+/// How `and` and `or` are shown.
 pub(crate) fn bool_word(op: BoolOperator) -> &'static str
     ensures { result.now ≡ bool_name op ++ codes "()" }
 {
@@ -50,6 +53,7 @@ pub(crate) fn bool_word(op: BoolOperator) -> &'static str
     }
 }
 
+/// How an operator before its operand is shown.
 pub(crate) fn unary_word(op: UnaryOperator) -> &'static str
     ensures { result.now ≡ unary_name op ++ codes "()" }
 {
@@ -61,6 +65,7 @@ pub(crate) fn unary_word(op: UnaryOperator) -> &'static str
     }
 }
 
+/// How a comparison is shown.
 pub(crate) fn comparison_word(op: Comparison) -> &'static str
     ensures { result.now ≡ comparison_name op ++ codes "()" }
 {
