@@ -33,6 +33,7 @@ use pytoken::Keyword;
 use pyvalue::Terminal;
 use std::alloc::Global;
 
+/// Reads an atom.
 #[cycle(reading)]
 #[inline(always)]
 pub(crate) fn read_atom(

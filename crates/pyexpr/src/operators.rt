@@ -37,6 +37,7 @@ pub(crate) enum Prefix {
     Awaits,
 }
 
+/// How close a level binds, as a number: the lowest level is 1.
 pub(crate) fn rank(level: Level) -> u8
     ensures { result ≡ precedence.rank level }
 {
@@ -140,6 +141,7 @@ pub(crate) fn behind(t: Terminal) -> Option<Infix>
     }
 }
 
+/// The number of the level that an operator between two operands is of.
 pub(crate) fn infix_rank(o: Infix) -> u8
     ensures { result ≡ precedence.infix_rank (infix_value o) }
 {
@@ -205,6 +207,7 @@ pub(crate) fn before(t: Terminal) -> Option<Prefix>
     }
 }
 
+/// The number of the level that an operator before its operand is of.
 pub(crate) fn prefix_rank(o: Prefix) -> u8
     ensures { result ≡ precedence.prefix_rank (prefix_value o) }
 {

@@ -31,6 +31,7 @@ use pynode::Expr;
 use pyvalue::Terminal;
 use std::alloc::Global;
 
+/// Reads what stands between the brackets of a subscript.
 #[cycle(reading)]
 pub(crate) fn read_slices(
     alloc: Global,
@@ -54,6 +55,7 @@ pub(crate) fn read_slices(
     Ok(first)
 }
 
+/// Reads one of several parts of a subscript.
 #[cycle(reading)]
 pub(crate) fn read_part(
     alloc: Global,
@@ -74,6 +76,7 @@ pub(crate) fn read_part(
     }
 }
 
+/// Reads a slice, or an expression in its place.
 #[cycle(reading)]
 pub(crate) fn read_slice(
     alloc: Global,
