@@ -95,8 +95,8 @@ impl Shown {
         self.begun = now.logical;
     }
 
-    #[tactic(auto, unfolding(crate::specs::Standing::resumed))]
     /// How far a lister has come there; the point's line so far is this.
+    #[tactic(auto, unfolding(crate::specs::Standing::resumed))]
     pub(crate) fn line_state(self, line: &str) -> LineState
         requires { length line.now < 2 ^ 62 }
         ensures { (k n : ℕ) (levels : List ℕ)

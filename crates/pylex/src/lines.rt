@@ -253,6 +253,7 @@ fn push_end(out: &mut String, text: &str) -> Result<(), AllocError>
     out.push_str("\n")
 }
 
+/// Appends an entry's line, by its fields.
 #[inline(always)]
 fn push_fields(out: &mut String, entry: &Entry, text: &str, exact: bool) -> Result<(), AllocError>
     ensures ok { OnOk result

@@ -214,8 +214,8 @@ fn line_fault(fault: LineFault) -> ListingFault
     }
 }
 
-#[tactic(auto, unfolding(crate::specs::Listing::stop_fault))]
 /// The fault where no lexeme stands before the text's end.
+#[tactic(auto, unfolding(crate::specs::Listing::stop_fault))]
 fn stop_fault_at(place: Place, left: &str, fault: Option<LineFault>) -> ListingFault
     ensures { stop_fault (option_map of_line fault) place (chars left.now) ≡ Step.Fault result }
 {
