@@ -19,7 +19,6 @@ use pytoken::Keyword;
 use std::alloc::AllocError;
 
 /// Writes an operator or delimiter.
-
 pub(crate) fn put_sign<W: Writer>(
     out: &mut W,
     sign: Exact,
@@ -32,7 +31,6 @@ pub(crate) fn put_sign<W: Writer>(
 }
 
 /// Writes a keyword.
-
 pub(crate) fn put_word<W: Writer>(out: &mut W, word: Keyword) -> Result<(), AllocError>
     ensures { OnOk result (out.new ≡ puts W.after out.old (written.word piece word ∷ [])) }
 {
