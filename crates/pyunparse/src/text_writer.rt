@@ -146,7 +146,8 @@ impl TextWriter {
         ensures { OnOk result (self.new ≡ record {
           text = self.old.text ++ blank self.old.last
               (record { kind = kind; text = text.now; before = before; behind = behind });
-          last = Some (edge_of (record { kind = kind; text = text.now; before = before; behind = behind }));
+          last = Some
+              (edge_of (record { kind = kind; text = text.now; before = before; behind = behind }));
           level = self.old.level;
         }) }
     {
