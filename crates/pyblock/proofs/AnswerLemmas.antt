@@ -28,10 +28,6 @@ end_blamed xs s (stop.Faulty f) h t = end_fault_found xs s (fault_of f) h t
 end_blamed xs s stop.Memory h t = tt
 
 -- what answers say of the lines so far
-pub line_told : (xs more : List Line) (x : Line) (s : State) (r : Result (Unit {0}) Stop) → run xs start ≡ Fine s → IfErr r (Tells (step s x)) →
-    IfErr r (Blames (xs ++ x ∷ more) (x ∷ more))
-line_told xs more x s r h = IfErr-weaker r (Tells (step s x)) (Blames (xs ++ x ∷ more) (x ∷ more)) (λ e. line_blamed xs more x s e h)
-
 pub end_told : (xs : List Line) (s : State) (r : Result (Vec Stmt Global) Stop) → run xs start ≡ Fine s → IfErr r (Tells (finish s)) → IfErr r (Blames xs [])
 end_told xs s r h = IfErr-weaker r (Tells (finish s)) (Blames xs []) (λ e. end_blamed xs s e h)
 
