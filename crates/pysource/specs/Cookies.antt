@@ -1,58 +1,61 @@
 -- Which encoding the first two lines of a source declare.
 -- Python language reference, 2.1.4 "Encoding declarations", and `detect_encoding` of the module `tokenize` of the library reference:
--- a line declares an encoding by blanks, `#`, and somewhere behind that `coding`, `:` or `=`, spaces or tabs, and the cookie.
+-- a line declares an encoding by blanks, `#`, and somewhere behind that `coding`, `:` or `=`, spaces or tabs, and the cookie. In the module:
+--     cookie_re = ^[ \t\f]*#.*?coding[:=][ \t]*([-\w.]+), where \w is of ASCII; in PEP 263: ^[ \t\f]*#.*?coding[:=][ \t]*([-_.a-zA-Z0-9]+)
+--     blank_re  = ^[ \t\f]*(?:[#\r\n]|$)
 -- A comment alone can, and in the second line only where the first is blank or another comment.
 use Rattle.std.specs.Prelude.{ℕ, Bool, ◌&&◌, ◌||◌, List, [], ◌∷◌, codes, length, take, drop, map, nat_lt, nat_eq, ◌==◌, Result, Ok, Err, slice_index, if◌then◌else◌}
 use Rattle.std.specs.List.{starts_with, prefix_len, take_while}
 use Rattle.std.specs.Str.{bytes_eq}
 use Rattle.std.specs.Int.{is_in_range}
 use Rattle.std.specs.Char.{to_ascii_lowercase}
+use Rattle.pysource.specs.Characters.{tab, line_feed, form_feed, carriage_return, space, hash, hyphen, full_stop, colon, equals_sign, low_line}
 use Rattle.pysource.specs.Names.{Named}
 use Rattle.pysource.specs.declared.encodings.Charset.TheVariants.{Utf8, Ascii}
 use Rattle.pysource.specs.declared.places.Place.{Place}
 use Rattle.pysource.specs.declared.encodings.SourceFault.{SourceFault}
 use Rattle.pysource.specs.declared.encodings.SourceFault.TheVariants.{UnsupportedEncoding, BomConflict}
 
--- the space or the tab
+-- the space or the tab: [ \t]
 abbrev pub is_space_or_tab : ℕ → Bool
-is_space_or_tab b = b == 32 || b == 9
+is_space_or_tab b = b == space || b == tab
 
--- the space, the tab or the form feed
+-- the space, the tab or the form feed: [ \t\f]
 abbrev pub is_blank : ℕ → Bool
-is_blank b = is_space_or_tab b || b == 12
+is_blank b = is_space_or_tab b || b == form_feed
 
--- a byte of a cookie: an ASCII digit or letter, `_`, `-` or `.`
+-- a byte of a cookie, an ASCII digit or letter, `_`, `-` or `.`: [-_.a-zA-Z0-9]
 abbrev pub is_cookie_byte : ℕ → Bool
-is_cookie_byte b = (is_in_range 48 57 b || (is_in_range 65 90 b || is_in_range 97 122 b)) || (b == 95 || (b == 45 || b == 46))
+is_cookie_byte b = (is_in_range 48 57 b || (is_in_range 65 90 b || is_in_range 97 122 b)) || (b == low_line || (b == hyphen || b == full_stop))
 
 -- the list behind its longest front that passes
 abbrev pub drop_while : (ℕ → Bool) → List ℕ → List ℕ
 drop_while p bs = drop (prefix_len p bs) bs
 
--- the cookie of bytes that begin with `coding`, `:` or `=`, spaces or tabs and that cookie; else nothing
+-- the cookie of bytes that begin with `coding`, `:` or `=`, spaces or tabs and that cookie; else nothing: coding[:=][ \t]*([-_.a-zA-Z0-9]+)
 abbrev pub declared_here : List ℕ → List ℕ
 declared_here bs =
     let sign = slice_index bs 6 in
-    if starts_with nat_eq bs (codes "coding") && (sign == 58 || sign == 61)
+    if starts_with nat_eq bs (codes "coding") && (sign == colon || sign == equals_sign)
     then take_while is_cookie_byte (drop_while is_space_or_tab (drop 7 bs)) else []
 
--- the cookie at the first place of the bytes that has one; nothing where no place has
+-- the cookie at the first place of the bytes that has one; nothing where no place has: .*?coding[:=][ \t]*([-_.a-zA-Z0-9]+)
 unfoldable pub declared_first : List ℕ → List ℕ
 declared_first [] = []
 declared_first (b ∷ bs) = let here = declared_here (b ∷ bs) in if length here == 0 then declared_first bs else here
 
--- the cookie of a line, behind the `#` that its first non-blank is; nothing where it has none
+-- the cookie of a line, behind the `#` that its first non-blank is; nothing where it has none: cookie_re
 abbrev pub cookie_of : List ℕ → List ℕ
-cookie_of line = let rest = drop_while is_blank line in if slice_index rest 0 == 35 then declared_first (drop 1 rest) else []
+cookie_of line = let rest = drop_while is_blank line in if slice_index rest 0 == hash then declared_first (drop 1 rest) else []
 
--- the line holds blanks alone, its line end aside, or blanks and a comment
+-- the line holds blanks alone, its line end aside, or blanks and a comment: blank_re, but that a lone CR is no line end
 abbrev pub leads_on : List ℕ → Bool
 leads_on line = let rest = drop_while is_blank line in
-    (slice_index rest 0 == 35 || length rest == 0) || (bytes_eq rest (10 ∷ []) || bytes_eq rest (13 ∷ 10 ∷ []))
+    (slice_index rest 0 == hash || length rest == 0) || (bytes_eq rest (line_feed ∷ []) || bytes_eq rest (carriage_return ∷ line_feed ∷ []))
 
 -- a byte in lower case, with `-` for `_`
 abbrev pub folded : ℕ → ℕ
-folded b = if b == 95 then 45 else to_ascii_lowercase b
+folded b = if b == low_line then hyphen else to_ascii_lowercase b
 
 -- the cookie is the word, but for case and `_`
 abbrev pub is_spelled : List ℕ → List ℕ → Bool

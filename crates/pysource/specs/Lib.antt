@@ -1,3 +1,4 @@
+pub mod Characters
 pub mod Limits
 pub mod Names
 pub mod Parts

@@ -5,6 +5,7 @@ use Rattle.std.specs.List.{onto_first}
 use Rattle.std.specs.Option.{option_map_or}
 use Rattle.std.specs.Str.{chars}
 use Rattle.std.specs.Str.Lossy.{utf8_valid_len}
+use Rattle.pysource.specs.Characters.{carriage_return}
 use Rattle.pysource.specs.Places.{is_lf}
 use Rattle.pysource.specs.declared.encodings.Charset.{Charset}
 use Rattle.pysource.specs.declared.encodings.Charset.TheVariants.{Utf8, Ascii}
@@ -19,7 +20,7 @@ lines_of (b ∷ bs) = if is_lf b then (b ∷ []) ∷ lines_of bs else onto_first
 
 -- a carriage return that no line feed follows
 abbrev pub lone_return_at : List ℕ → ℕ → Option LineError
-lone_return_at line i = if slice_index line i == 13 && not (is_lf (slice_index line (i + 1))) then Some LoneReturn else None
+lone_return_at line i = if slice_index line i == carriage_return && not (is_lf (slice_index line (i + 1))) then Some LoneReturn else None
 
 -- what is wrong with the byte at i: in UTF-8 the bad byte is the one behind the longest front that is UTF-8
 abbrev pub bad_at : Charset → List ℕ → ℕ → Option LineError

@@ -4,13 +4,14 @@ use Rattle.std.specs.Prelude.{ℕ, zero, suc, ◌/◌, ◌%◌, Bool, not, ◌&&
 use Rattle.std.specs.List.{list_any, flat_map}
 use Rattle.std.specs.Char.{digit_char}
 use Rattle.std.specs.Str.{encode_utf8_all}
+use Rattle.pysource.specs.Characters.{tab, line_feed, carriage_return, space, double_quote, single_quote, backslash}
 use Rattle.unicode.specs.GeneralCategory.{general_category}
 use Rattle.unicode.specs.GeneralCategoryGroup.{in_group}
 use Rattle.ucd_category.specs.declared.GeneralCategoryGroup.TheVariants.{Other, Separator}
 
 -- a character of category "Other" or "Separator", but for the space
 abbrev pub is_unprintable : ℕ → Bool
-is_unprintable c = not (c == 32) && (in_group Other (general_category c) || in_group Separator (general_category c))
+is_unprintable c = not (c == space) && (in_group Other (general_category c) || in_group Separator (general_category c))
 
 -- a byte outside 20 to 7E
 abbrev pub is_unprintable_byte : ℕ → Bool
@@ -28,15 +29,15 @@ hex_escape c = if nat_lt c 0x100 then codes "\\x" ++ hex 2 c
 
 -- what stands for c between the quotes q, where a test says which other characters are escaped
 abbrev pub escaped : (ℕ → Bool) → ℕ → ℕ → List ℕ
-escaped test q c = if c == 92 || c == q then 92 ∷ c ∷ []
-    else (if c == 9 then codes "\\t"
-    else (if c == 10 then codes "\\n"
-    else (if c == 13 then codes "\\r"
+escaped test q c = if c == backslash || c == q then backslash ∷ c ∷ []
+    else (if c == tab then codes "\\t"
+    else (if c == line_feed then codes "\\n"
+    else (if c == carriage_return then codes "\\r"
     else (if test c then hex_escape c else c ∷ []))))
 
 -- a single quote, or a double quote where only single ones stand inside
 abbrev pub quote_for : List ℕ → ℕ
-quote_for cs = if list_any (λ c. c == 39) cs && not (list_any (λ c. c == 34) cs) then 34 else 39
+quote_for cs = if list_any (λ c. c == single_quote) cs && not (list_any (λ c. c == double_quote) cs) then double_quote else single_quote
 
 -- a quote, what stands for each character, and the quote again
 abbrev pub quoted : (ℕ → Bool) → List ℕ → List ℕ
@@ -50,10 +51,10 @@ repr_chars = quoted is_unprintable
 abbrev pub repr_text : List ℕ → List ℕ
 repr_text points = encode_utf8_all (repr_chars points)
 
--- the repr of bytes
+-- the repr of bytes: a `b` before it
 abbrev pub repr_bytes : List ℕ → List ℕ
 repr_bytes bytes = 98 ∷ quoted is_unprintable_byte bytes
 
 -- a byte that stands for itself between quotes of either kind: ASCII from the space to the tilde, but for the quotes and the backslash
 abbrev pub is_plain : ℕ → Bool
-is_plain b = (nat_le 0x20 b && nat_le b 0x7E) && (not (b == 39) && (not (b == 34) && not (b == 92)))
+is_plain b = (nat_le 0x20 b && nat_le b 0x7E) && (not (b == single_quote) && (not (b == double_quote) && not (b == backslash)))

@@ -2,6 +2,7 @@
 use Rattle.std.specs.Prelude.{◌≡◌, ◌≢◌, ◌⊎◌, ℕ, ◌+◌, ◌-◌, ◌<◌, ◌≤◌, max, List, [], ◌++◌, length, Option, None, Some, Result, Ok, Err, slice_index}
 use Rattle.std.specs.Io.KnownBytes.{Consumes, IsAtEnd}
 use Rattle.std.specs.declared.alloc.AllocError.{AllocError}
+use Rattle.pysource.specs.Characters.{line_feed}
 use Rattle.pysource.specs.Limits.{source_limit}
 use Rattle.pysource.specs.declared.buffers.Intake.{Intake}
 use Rattle.pysource.specs.declared.line_reader.Reach.{Reach}
@@ -59,14 +60,14 @@ GaveInto come_old come_new told_old told_new most old new (Err e) = GaveNone com
 
 -- no line feed stands from `start` up to `end`
 abbrev pub NoLfFrom : ℕ → ℕ → List ℕ → Type 0
-NoLfFrom start end bytes = (k : ℕ) → start ≤ k → k < end → slice_index bytes k ≢ 10
+NoLfFrom start end bytes = (k : ℕ) → start ≤ k → k < end → slice_index bytes k ≢ line_feed
 
 -- a line from `start` up to `end`, the last byte of which is its line feed
 pub record LineAt (start end : ℕ) (bytes : List ℕ) : Type 0 where
   pub some : start < end
   pub within : end ≤ length bytes
   pub before : NoLfFrom start (end - 1) bytes
-  pub at : slice_index bytes (end - 1) ≡ 10
+  pub at : slice_index bytes (end - 1) ≡ line_feed
 
 pub record LineThere (start end : ℕ) (old new : Intake) : Type 0 where
   pub line : LineAt start end new.buffer
