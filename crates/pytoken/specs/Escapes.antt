@@ -8,7 +8,7 @@ use Rattle.pytoken.specs.declared.faults.TokenError.{TokenError}
 use Rattle.pytoken.specs.declared.faults.TokenError.TheVariants.{NamedEscape, BadEscape}
 use Rattle.pytoken.specs.declared.meanings.Meaning.{Meaning}
 use Rattle.pytoken.specs.declared.meanings.Meaning.TheVariants.{Point, Nothing, Wrong}
-use Rattle.pylexeme.specs.Characters.{line_feed, backslash}
+use Rattle.pylexeme.specs.Characters.{tab, line_feed, form_feed, carriage_return, double_quote, single_quote, backslash}
 
 -- what stands at a place, and how many more characters belong to it than the first
 pub record Reading : Type 0 where
@@ -29,15 +29,15 @@ esc letter point = record { letter = letter; point = point }
 -- these escapes, in the reference's order
 abbrev pub escapes : List Escape
 escapes =
-    esc 92 92 ∷  -- \\ a backslash
-    esc 39 39 ∷  -- \' a single quote
-    esc 34 34 ∷  -- \" a double quote
+    esc backslash backslash ∷  -- \\ a backslash
+    esc single_quote single_quote ∷  -- \' a single quote
+    esc double_quote double_quote ∷  -- \" a double quote
     esc 97 7 ∷  -- \a BEL
     esc 98 8 ∷  -- \b BS
-    esc 102 12 ∷  -- \f FF
-    esc 110 10 ∷  -- \n LF
-    esc 114 13 ∷  -- \r CR
-    esc 116 9 ∷  -- \t TAB
+    esc 102 form_feed ∷  -- \f FF
+    esc 110 line_feed ∷  -- \n LF
+    esc 114 carriage_return ∷  -- \r CR
+    esc 116 tab ∷  -- \t TAB
     esc 118 11 ∷  -- \v VT
     []
 
@@ -65,6 +65,7 @@ hexadecimal_len bytes c = if c == 120 then 2 else (if bytes then 0 else (if c ==
 abbrev pub names_character : Bool → ℕ → Bool
 names_character bytes c = not bytes && (c == 78)
 
+-- stringescapeseq ::= "\" <any source character>; bytesescapeseq ::= "\" <any ASCII character>
 -- A backslash, by what stands behind it. With a line end it is nothing; where no escape stands, it stands for itself.
 unfoldable pub escaped_by : Bool → List ℕ → Reading
 escaped_by bytes [] = reads (Point backslash) 0

@@ -1,4 +1,7 @@
 -- What may be wrong with a NAME by itself (reference 2.3): it stands for its form NFKC, which has to be a name too.
+--     identifier ::= xid_start xid_continue*
+--     xid_start    ::= <all characters in id_start whose NFKC normalization is in "id_start xid_continue*">
+--     xid_continue ::= <all characters in id_continue whose NFKC normalization is in "id_continue*">
 use Rattle.std.specs.Prelude.{ℕ, Bool, not, ◌||◌, List, Option, Some, None, is_some, if◌then◌else◌}
 use Rattle.unicode_normalization.specs.Forms.{Nfkc, nfkc, is_in_form}
 use Rattle.pylexeme.specs.Lexemes.{is_name}

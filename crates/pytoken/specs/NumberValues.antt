@@ -8,7 +8,11 @@ use Rattle.pytoken.specs.declared.faults.TokenError.{TokenError}
 use Rattle.pytoken.specs.declared.faults.TokenError.TheVariants.{Float, Complex, IntegerTooLarge}
 use Rattle.pylexeme.specs.Characters.{low_line}
 
--- the base of a number's digits: `0x` is of hexadecimal ones, `0o` of octal ones, `0b` of binary ones, in either case
+-- integer    ::= decinteger | bininteger | octinteger | hexinteger
+-- bininteger ::= "0" ("b" | "B") (["_"] bindigit)+
+-- octinteger ::= "0" ("o" | "O") (["_"] octdigit)+
+-- hexinteger ::= "0" ("x" | "X") (["_"] hexdigit)+
+-- The base of a number's digits: `0x` is of hexadecimal ones, `0o` of octal ones, `0b` of binary ones, in either case.
 abbrev pub radix_of : List ℕ → ℕ
 radix_of [] = 10
 radix_of (a ∷ []) = 10
@@ -26,11 +30,13 @@ digits_in t = filter is_no_underscore (if radix_of t == 10 then t else drop 2 t)
 unfoldable pub whole_value : List ℕ → ℕ
 whole_value t = digits_value (radix_of t) (digits_in t)
 
--- an imaginary number has a j: it is the last character, as no digit of any base is a j
+-- imagnumber ::= (floatnumber | digitpart) ("j" | "J")
+-- An imaginary number has a j: it is the last character, as no digit of any base is a j.
 abbrev pub is_complex : List ℕ → Bool
 is_complex t = list_any is_j t
 
--- a decimal number with a point or an exponent; among the digits of another base an e is a digit
+-- floatnumber ::= pointfloat | exponentfloat
+-- A decimal number with a point or an exponent; among the digits of another base an e is a digit.
 abbrev pub is_real : List ℕ → Bool
 is_real t = (radix_of t == 10) && list_any (λ c. is_point c || is_e c) t
 

@@ -13,7 +13,9 @@ use Rattle.pylexeme.specs.Characters.{carriage_return, double_quote, single_quot
 abbrev pub with_line_feeds : List ℕ → List ℕ
 with_line_feeds t = filter (λ c. not (c == carriage_return)) t
 
--- the prefix is what stands before the first quote, single or double
+-- stringliteral ::= [stringprefix](shortstring | longstring)
+-- bytesliteral  ::= bytesprefix(shortbytes | longbytes)
+-- The prefix is what stands before the first quote, single or double.
 abbrev pub is_quote : ℕ → Bool
 is_quote c = (c == single_quote) || (c == double_quote)
 
@@ -24,6 +26,9 @@ prefix_len_of t = prefix_len (λ c. not (is_quote c)) t
 abbrev pub is_marked : ℕ → ℕ → List ℕ → Bool
 is_marked a b t = list_any (λ c. (c == a) || (c == b)) (take (prefix_len_of t) t)
 
+-- stringprefix ::= "r" | "u" | "R" | "U" | "f" | "F"
+--                  | "fr" | "Fr" | "fR" | "FR" | "rf" | "rF" | "Rf" | "RF"
+-- bytesprefix  ::= "b" | "B" | "br" | "Br" | "bR" | "BR" | "rb" | "rB" | "Rb" | "RB"
 -- r or R
 abbrev pub is_raw : List ℕ → Bool
 is_raw = is_marked 114 82
@@ -44,7 +49,9 @@ is_unicode = is_marked 117 117
 abbrev pub without_last : ℕ → List ℕ → List ℕ
 without_last n t = take (length t - n) t
 
--- what stands between the quotes of a text that begins with them
+-- shortstring ::= "'" shortstringitem* "'" | '"' shortstringitem* '"', and shortbytes likewise
+-- longstring  ::= "'''" longstringitem* "'''" | '"""' longstringitem* '"""', and longbytes likewise
+-- What stands between the quotes of a text that begins with them.
 abbrev pub inside : List ℕ → List ℕ
 inside t = let width = if begins_three t then 3 else 1 in without_last width (drop width t)
 
@@ -72,7 +79,9 @@ abbrev pub or_else : Option TokenError → Option TokenError → Option TokenErr
 or_else (Some e) other = Some e
 or_else None other = other
 
--- the fault of a literal without CRs: it is an f-string, or its escapes have one, or bytes have a character above 7F, or U+0000 stands in it
+-- shortbyteschar ::= <any ASCII character except "\" or newline or the quote>
+-- longbyteschar  ::= <any ASCII character except "\">
+-- The fault of a literal without CRs: it is an f-string, or its escapes have one, or bytes have a character above 7F, or U+0000 stands in it
 unfoldable pub literal_fault : List ℕ → Option TokenError
 literal_fault t =
     if is_formatted t then Some FString
