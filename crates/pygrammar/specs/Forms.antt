@@ -1,6 +1,7 @@
 -- The forms of a logical line (reference 7 and 8): which lists of terminals are which line in a version of Python, a constructor for each
 -- alternative of the table. The NEWLINE is not part of the list.
 use Rattle.std.specs.Prelude.{◌≡◌, ℕ, ◌+◌, ◌<◌, List, [], ◌∷◌, ◌++◌, Option, Some, None, Bool, true, false, codes}
+use Rattle.pylexeme.specs.Characters.{full_stop}
 use Rattle.pylexeme.specs.declared.kinds.Exact.{Exact}
 use Rattle.pylexeme.specs.declared.kinds.Exact.TheVariants as Sign
 use Rattle.pytoken.specs.declared.keywords.Keyword.TheVariants as Key
@@ -52,6 +53,7 @@ pub data Async : List Terminal → Bool → Type 0 where
   no_async : Async [] false
   async : Async (Word Key.Async ∷ []) true
 
+-- NAME
 pub data Name : List Terminal → Identifier → Type 0 where
   name : {x : Spelled} → Name (Ident x ∷ []) x.form
 
@@ -86,7 +88,7 @@ pub data TypeParams (profile : Profile) : List Terminal → List TypeParam → T
 -- Dotted = NAME ("." NAME)*
 pub data Dotted : List Terminal → Identifier → Type 0 where
   one_name : {x : Spelled} → Dotted (Ident x ∷ []) x.form
-  dot_name : {x : Spelled} {y : Identifier} {ts : List Terminal} → Dotted ts y → Dotted (Ident x ∷ (Op Sign.Dot ∷ ts)) (x.form ++ (46 ∷ y))
+  dot_name : {x : Spelled} {y : Identifier} {ts : List Terminal} → Dotted ts y → Dotted (Ident x ∷ (Op Sign.Dot ∷ ts)) (x.form ++ (full_stop ∷ y))
 
 abbrev pub alias : Identifier → Option Identifier → Alias
 alias x a = record { name = x; asname = a }
@@ -195,7 +197,7 @@ pub data Simple (profile : Profile) : List Terminal → Stmt → Type 0 where
   from_dots : {ts vs : List Terminal} {n : ℕ} {as_ : List Alias} →
       Dots ts n → 0 < n → Names vs as_ → Simple profile (Word Key.From ∷ (ts ++ (Word Key.Import ∷ vs))) (ImportFrom None as_ n)
 
--- simple statements with `;` between and perhaps one at the end
+-- Simple (";" Simple)* [";"]
 pub data Simples (profile : Profile) : List Terminal → List Stmt → Type 0 where
   last_simple : {ts : List Terminal} {s : Stmt} → Simple profile ts s → Simples profile ts (s ∷ [])
   ended_simple : {ts : List Terminal} {s : Stmt} → Simple profile ts s → Simples profile (ts ++ (Op Sign.Semi ∷ [])) (s ∷ [])
@@ -215,7 +217,7 @@ pub data ItemOf : List Terminal → Item → Type 0 where
 pub data Bracketed : List Terminal → List Item → Type 0 where
   bracketed : {ts : List Terminal} {is : List Item} → Commas? Item ItemOf ts is → Bracketed (Op Sign.LPar ∷ (ts ++ (Op Sign.RPar ∷ []))) is
 
--- Items; of the two readings the bracketed one counts where both exist
+-- Items = Item,.. | "(" Item,.. [,] ")"; of the two readings the bracketed one counts where both exist
 pub data Items : List Terminal → List Item → Type 0 where
   in_brackets : {ts : List Terminal} {is : List Item} → Bracketed ts is → Items ts is
   without : {ts : List Terminal} {is : List Item} → Commas Item ItemOf ts is → ((others : List Item) → Bracketed ts others → ⊥) → Items ts is
@@ -267,12 +269,12 @@ pub data HeaderOf (profile : Profile) : List Terminal → Header → Type 0 wher
 -- ---- Lines.
 
 pub data FormOf (profile : Profile) : List Terminal → Form → Type 0 where
-  -- simple statements, with `;` between and perhaps one at the end
+  -- Simple (";" Simple)* [";"]
   simple_statements : {ts : List Terminal} {ss : List Stmt} → Simples profile ts ss → FormOf profile ts (simple_form ss)
   -- "@" Named
   decorator_line : {ts : List Terminal} {e : Expr} → Derives Named ts e → FormOf profile (Op Sign.At ∷ ts) (decorator_form e)
-  -- a header and its colon, nothing behind it
+  -- Header ":"
   header_line : {ts : List Terminal} {h : Header} → HeaderOf profile ts h → FormOf profile (ts ++ (Op Sign.Colon ∷ [])) (header_form h None)
-  -- a header, its colon and an inline suite
+  -- Header ":" Simple (";" Simple)* [";"]
   header_suite : {ts us : List Terminal} {h : Header} {ss : List Stmt} → HeaderOf profile ts h → Simples profile us ss →
       FormOf profile (ts ++ (Op Sign.Colon ∷ us)) (header_form h (Some ss))

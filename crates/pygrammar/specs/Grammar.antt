@@ -173,9 +173,11 @@ mutual
 
   -- the yield forms of Value, behind the word
   pub data Yields : List Terminal → Expr → Type 0 where
+    -- "from" Expression
     yield_from : {ts : List Terminal} {e : Expr}
         → Derives Expression ts e
         → Yields (Word Key.From ∷ ts) (Trees.YieldFrom e)
+    -- [Stars]
     yield_some : {ts : List Terminal} {e : OptionalExpr} → Perhaps Stars ts e → Yields ts (Trees.Yield e)
 
   -- [X]

@@ -1,6 +1,7 @@
 -- The plain reader of one logical line: which form its terminals are, by the first word and by small looks ahead.
 use Rattle.std.specs.Prelude.{ℕ, zero, suc, ◌+◌, List, [], ◌∷◌, ◌++◌, Option, Some, None, length, Bool, true, false, cond, leb}
 use Rattle.std.specs.Str.{bytes_eq}
+use Rattle.pylexeme.specs.Characters.{full_stop}
 use Rattle.pylexeme.specs.declared.kinds.Exact.TheVariants as Sign
 use Rattle.pytoken.specs.declared.keywords.Keyword.TheVariants as Key
 use Rattle.pynode.specs.declared.operators.Operator.{Operator}
@@ -80,7 +81,7 @@ read_as i = on_first (is_word Key.As) i (λ _ r. on_first name_in r (λ x r1. Fo
 
 abbrev pub dotted : ℕ → List Terminal → Answer Identifier
 dotted zero i = NoForm
-dotted (suc n) i = on_first name_in i (λ x r. on_first (is_op Sign.Dot) r (λ _ r1. and_then (dotted n r1) (λ y r2. Found (x ++ (46 ∷ y)) r2)) (Found x r)) NoForm
+dotted (suc n) i = on_first name_in i (λ x r. on_first (is_op Sign.Dot) r (λ _ r1. and_then (dotted n r1) (λ y r2. Found (x ++ (full_stop ∷ y)) r2)) (Found x r)) NoForm
 
 abbrev pub read_dotted : List Terminal → Answer Identifier
 read_dotted i = dotted (suc (length i)) i
