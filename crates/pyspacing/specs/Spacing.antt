@@ -2,6 +2,7 @@
 use Rattle.std.specs.Prelude.{ℕ, ◌*◌, Bool, true, false, not, ◌&&◌, ◌||◌, nat_eq, List, [], ◌∷◌, ◌++◌, codes, take, replicate, if◌then◌else◌}
 use Rattle.std.specs.List.{list_all, list_any, starts_with}
 use Rattle.std.specs.Str.{bytes_eq}
+use Rattle.pylexeme.specs.Characters.{line_feed, space}
 use Rattle.pylex.specs.declared.kind.Kind.{Kind}
 use Rattle.pylex.specs.declared.kind.Kind.TheVariants as kinds
 use Rattle.pylexeme.specs.Chars.{is_comment_part}
@@ -45,7 +46,7 @@ touches p q = (p.behind || q.before) && not (is_number_kind p.kind && bytes_eq q
 -- the text behind a piece of its line, up to the line end
 abbrev pub text_behind : Piece → List Piece → List ℕ
 text_behind p [] = []
-text_behind p (q ∷ qs) = (if touches p q then [] else 32 ∷ []) ++ (q.text ++ text_behind q qs)
+text_behind p (q ∷ qs) = (if touches p q then [] else space ∷ []) ++ (q.text ++ text_behind q qs)
 
 -- the text of pieces
 abbrev pub spaced : List Piece → List ℕ
@@ -85,7 +86,7 @@ pub record Line : Type 0 where
 
 -- four blanks a level, the pieces, and LF
 abbrev pub line_text : Line → List ℕ
-line_text l = replicate (4 * l.level) 32 ++ (spaced l.pieces ++ 10 ∷ [])
+line_text l = replicate (4 * l.level) space ++ (spaced l.pieces ++ line_feed ∷ [])
 
 abbrev pub lines_text : List Line → List ℕ
 lines_text [] = []

@@ -3,6 +3,7 @@
 use Rattle.std.specs.Prelude.{◌≡◌, ℕ, ◌+◌, ◌-◌, ◌*◌, nat_le, nat_lt, Bool, true, not, ◌&&◌, ◌==◌, List, [], ◌∷◌, ◌++◌, map, replicate, if◌then◌else◌, slice_range, false, Option, Some, None}
 use Rattle.std.specs.List.{list_all}
 use Rattle.std.specs.Str.{chars, encode_utf8_all, all_scalars}
+use Rattle.pylexeme.specs.Characters.{line_feed, space}
 use Rattle.pylex.specs.declared.kind.Kind.{Kind}
 use Rattle.pylex.specs.declared.kind.Kind.TheVariants as kinds
 use Rattle.pylex.specs.declared.entries.Entry.{Entry}
@@ -48,10 +49,10 @@ abbrev pub token_line : Line → PlainLine
 token_line l = record { level = l.level; tokens = map token_of l.pieces }
 
 abbrev pub newline : PlainToken
-newline = record { kind = kinds.Newline; text = 10 ∷ [] }
+newline = record { kind = kinds.Newline; text = line_feed ∷ [] }
 
 abbrev pub indent : ℕ → PlainToken
-indent n = record { kind = kinds.Indent; text = replicate (4 * n) 32 }
+indent n = record { kind = kinds.Indent; text = replicate (4 * n) space }
 
 abbrev pub dedent : PlainToken
 dedent = record { kind = kinds.Dedent; text = [] }
