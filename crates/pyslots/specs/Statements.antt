@@ -2,6 +2,7 @@
 -- Each function takes the test of names, and those that ask for it the version.
 use Rattle.std.specs.Prelude.{ℕ, ◌==◌, nat_lt, Bool, true, false, ◌&&◌, ◌||◌, not, cond, List, [], ◌∷◌, Option, Some, None, is_none}
 use Rattle.std.specs.List.{list_all}
+use Rattle.pylexeme.specs.Characters.{full_stop}
 use Rattle.pynode.specs.declared.operators.Context.TheVariants.{Store, Del}
 use Rattle.pynode.specs.declared.profiles.Profile.{Profile}
 use Rattle.pynode.specs.Trees
@@ -32,7 +33,7 @@ lengthen c (part ∷ parts) = (c ∷ part) ∷ parts
 -- what stands between the dots of a name
 abbrev pub parts : Identifier → List Identifier
 parts [] = [] ∷ []
-parts (c ∷ cs) = cond (c == 46) ([] ∷ parts cs) (lengthen c (parts cs))
+parts (c ∷ cs) = cond (c == full_stop) ([] ∷ parts cs) (lengthen c (parts cs))
 
 -- the name of a module: names with dots between
 abbrev pub dotted : (Identifier → Bool) → Identifier → Bool
