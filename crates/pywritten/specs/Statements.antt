@@ -1,5 +1,6 @@
 -- The tokens that a logical line is written in: a simple statement, or a header up to its colon (reference 7 and 8).
 use Rattle.std.specs.Prelude.{ℕ, zero, suc, ◌==◌, Bool, true, false, if◌then◌else◌, List, [], ◌∷◌, ◌++◌, map, Option, Some, None}
+use Rattle.pylexeme.specs.Characters.{full_stop}
 use Rattle.pylexeme.specs.declared.kinds.Exact.{Exact}
 use Rattle.pylexeme.specs.declared.kinds.Exact.TheVariants.{LPar, RPar, LSqb, RSqb, Colon, Comma, Star, Equal, Dot, DoubleStar, RArrow, Ellipsis, PlusEqual, MinEqual, StarEqual, SlashEqual, PercentEqual, AmperEqual, VBarEqual, CircumflexEqual, LeftShiftEqual, RightShiftEqual, DoubleStarEqual, DoubleSlashEqual, AtEqual}
 use Rattle.pytoken.specs.declared.keywords.Keyword.TheVariants as Key
@@ -46,7 +47,7 @@ longer c (x ∷ xs) = (c ∷ x) ∷ xs
 -- the names that a text is of, with points between
 abbrev pub names_in : Identifier → List Identifier
 names_in [] = [] ∷ []
-names_in (c ∷ cs) = if c == 46 then [] ∷ names_in cs else longer c (names_in cs)
+names_in (c ∷ cs) = if c == full_stop then [] ∷ names_in cs else longer c (names_in cs)
 
 -- `*` alone, for all names
 abbrev pub is_star : Identifier → Option Identifier → Bool
