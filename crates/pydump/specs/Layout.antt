@@ -3,6 +3,7 @@
 -- On one line, members are parted by a comma and a blank. Else each begins a line of its own, after a comma but for the first; the
 -- closing bracket follows the last. The front of a line is a newline and as many blanks as its level has.
 use Rattle.std.specs.Prelude.{ℕ, ◌+◌, nat_le, Bool, true, false, ◌&&◌, ◌||◌, List, [], ◌++◌, Option, Some, None, codes, replicate, if◌then◌else◌}
+use Rattle.pysource.specs.Characters.{space}
 use Rattle.pydump.specs.declared.styles.Style.{Style}
 use Rattle.pydump.specs.Shows.{Shown, Showns, Fields, Scalar, Row, Node, no_shown, a_shown, no_field, a_field, left_out}
 
@@ -14,7 +15,7 @@ is_flat (Some n) = false
 -- the front of a line one level deeper
 abbrev pub deeper : Option ℕ → List ℕ → List ℕ
 deeper None front = front
-deeper (Some n) front = front ++ replicate n 32
+deeper (Some n) front = front ++ replicate n space
 
 -- how many fields are shown
 abbrev pub shown_count : Fields → ℕ
