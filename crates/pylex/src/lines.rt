@@ -2,7 +2,7 @@
 //! command-line usage).
 
 ghost use Rattle.std.specs.Prelude.{◌≡◌, ◌≤◌, ◌-◌, ◌+◌, ◌∷◌, [], ◌++◌, true, drop, length};
-ghost use Rattle.std.specs.Prelude.{replicate, decimal, codes, IfOk, OnOk, OnErr};
+ghost use Rattle.std.specs.Prelude.{replicate, decimal, codes, IfOk, IfSome, OnOk, OnErr};
 ghost use Rattle.std.specs.Str.{chars, IsAscii};
 ghost use Rattle.std.specs.Io.{StartsWith};
 ghost use Rattle.std.specs.List.{list_all};
@@ -72,13 +72,12 @@ fn put_number(field: &mut [u8; 104], end: usize, number: usize) -> usize
     ensures short { end ≤ result + 20 }
     ensures written { drop result field.new ≡ decimal number ++ drop end field.old }
 {
-    // Most columns have one digit or two.
-    if number < 10 {
-        return put_sign(field, end, b'0' + number as u8);
-    }
+    // Most columns have one digit or two: two are written, and what is written before the number
+    // takes the place of a 0.
     if number < 100 {
         let ones = put_sign(field, end, b'0' + (number % 10) as u8);
-        return put_sign(field, ones, b'0' + (number / 10) as u8);
+        let tens = put_sign(field, ones, b'0' + (number / 10) as u8);
+        return if number < 10 { ones } else { tens };
     }
     write_digits(number as u64, field, end)
 }
@@ -179,21 +178,62 @@ fn push_name(out: &mut String, entry: &Entry, exact: bool) -> Result<(), AllocEr
     }
 }
 
-/// Writes the field of a short text whose `repr` shows it as it is, and the line's end.
+/// The bytes that stand for themselves between quotes of either kind, each at its own place, and a
+/// tab at every other.
+static PLAIN_BYTES: [u8; 256] = *b"\
+    \t\t\t\t\t\t\t\t\t\t\t\t\t\t\t\t\t\t\t\t\t\t\t\t\t\t\t\t\t\t\t\t\
+    \x20!\t#$%&\t()*+,-./0123456789:;<=>?\
+    @ABCDEFGHIJKLMNOPQRSTUVWXYZ[\t]^_\
+    `abcdefghijklmnopqrstuvwxyz{|}~\t\
+    \t\t\t\t\t\t\t\t\t\t\t\t\t\t\t\t\t\t\t\t\t\t\t\t\t\t\t\t\t\t\t\t\
+    \t\t\t\t\t\t\t\t\t\t\t\t\t\t\t\t\t\t\t\t\t\t\t\t\t\t\t\t\t\t\t\t\
+    \t\t\t\t\t\t\t\t\t\t\t\t\t\t\t\t\t\t\t\t\t\t\t\t\t\t\t\t\t\t\t\t\
+    \t\t\t\t\t\t\t\t\t\t\t\t\t\t\t\t\t\t\t\t\t\t\t\t\t\t\t\t\t\t\t\t";
+
+/// Whether a byte stands for itself between quotes of either kind.
 #[inline(always)]
-fn push_short(out: &mut String, text: &str) -> Result<(), AllocError>
-    requires plain { list_all is_plain text.now ≡ true }
-    requires short { length text.now ≤ 13 }
-    ensures ok { OnOk result
-        (string_bytes out.new ≡ string_bytes out.old
-        ++ (filled 15 (repr_text (chars text.now)) ++ codes "\n")) }
-    ensures kept { StartsWith (string_bytes out.new) (string_bytes out.old) }
+fn is_plain_byte(byte: u8) -> bool
+    ensures { result ≡ is_plain byte }
+{
+    PLAIN_BYTES[byte as usize] != b'\t'
+}
+
+/// Copies bytes up to one that doesn't stand for itself between quotes, and answers whether there
+/// is none.
+#[inline(always)]
+fn copy_plain(into: &mut [u8], bytes: &[u8]) -> bool
+    requires { length into.old ≡ length bytes.now }
+    ensures size { length into.new ≡ length into.old }
+    ensures plain { result ≡ true → list_all is_plain bytes.now ≡ true }
+    ensures copied { result ≡ true → into.new ≡ bytes.now }
+{
+    let mut count = 0;
+    while count < bytes.len() {
+        let byte = bytes[count];
+        if !is_plain_byte(byte) {
+            return false;
+        }
+        into[count] = byte;
+        count += 1;
+    }
+    true
+}
+
+/// The field of a short text and the line's end, where the text's `repr` shows it as it is.
+#[inline(always)]
+fn short_field(text: &str) -> Option<[u8; 16]>
+    requires { length text.now ≤ 13 }
+    ensures ascii { IfSome result IsAscii }
+    ensures field { IfSome result
+        (λ field. field ≡ filled 15 (repr_text (chars text.now)) ++ codes "\n") }
 {
     let mut field = *b"'              \n";
     let end = text.len() + 1;
-    field[1..end].copy_from_slice(text.as_bytes());
+    if !copy_plain(&mut field[1..end], text.as_bytes()) {
+        return None;
+    }
     field[end] = b'\'';
-    push_ascii(out, &field)
+    Some(field)
 }
 
 /// Writes the field of a text whose `repr` shows it as it is.
@@ -246,8 +286,10 @@ fn push_end(out: &mut String, text: &str) -> Result<(), AllocError>
         ++ (filled 15 (repr_text (chars text.now)) ++ codes "\n")) }
     ensures kept { StartsWith (string_bytes out.new) (string_bytes out.old) }
 {
-    if text.len() <= FIELD_WIDTH - 2 && is_plain_text(text) {
-        return push_short(out, text);
+    if text.len() <= FIELD_WIDTH - 2
+        && let Some(field) = short_field(text)
+    {
+        return push_ascii(out, &field);
     }
     push_text(out, text)?;
     out.push_str("\n")

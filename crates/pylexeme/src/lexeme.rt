@@ -209,6 +209,7 @@ fn literal_or_name(text: &mut Scanner) -> Option<Class>
 }
 
 /// Whether a name may begin with a character. Those of ASCII are told without a table.
+#[inline(always)]
 fn is_name_start(c: char) -> bool
     ensures { result ≡ starts_name c }
 {

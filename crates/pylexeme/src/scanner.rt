@@ -1,6 +1,7 @@
 //! A text that is read from its front, one character after another.
 
-ghost use Rattle.std.specs.Prelude.{◌≡◌, ◌==◌, ◌&&◌, ℕ, ◌≤◌, List, length, drop, slice_get, nat_lt};
+ghost use Rattle.std.specs.Char.{is_ascii_alphanumeric};
+ghost use Rattle.std.specs.Prelude.{◌≡◌, ◌==◌, ◌&&◌, ◌||◌, ℕ, ◌≤◌, List, length, drop, slice_get, nat_lt};
 ghost use Rattle.std.specs.Str.{chars, encode_utf8_all, IsUtf8};
 ghost use Rattle.std.specs.List.{prefix_len};
 ghost use Rattle.unicode_ident.specs.Ident.{is_xid_continue};
@@ -47,7 +48,7 @@ impl<'a> Scanner<'a> {
     }
 
     /// The next character.
-    #[inline]
+    #[inline(always)]
     pub(crate) fn first(&self) -> Option<char>
         ensures { result ≡ slice_get self.now 0 }
     {
@@ -66,7 +67,7 @@ impl<'a> Scanner<'a> {
     }
 
     /// Takes the next character.
-    #[inline]
+    #[inline(always)]
     pub(crate) fn bump(&mut self) -> Option<char>
         ensures first { result ≡ slice_get self.old 0 }
         ensures rest { self.new ≡ drop 1 self.old }
@@ -255,6 +256,25 @@ fn plain_run(bytes: &[u8]) -> usize
     count
 }
 
+/// The characters of ASCII that a name may have, each at its own place, and a comma at every other.
+static NAME_BYTES: [u8; 256] = *b"\
+    ,,,,,,,,,,,,,,,,,,,,,,,,,,,,,,,,\
+    ,,,,,,,,,,,,,,,,0123456789,,,,,,\
+    ,ABCDEFGHIJKLMNOPQRSTUVWXYZ,,,,_\
+    ,abcdefghijklmnopqrstuvwxyz,,,,,\
+    ,,,,,,,,,,,,,,,,,,,,,,,,,,,,,,,,\
+    ,,,,,,,,,,,,,,,,,,,,,,,,,,,,,,,,\
+    ,,,,,,,,,,,,,,,,,,,,,,,,,,,,,,,,\
+    ,,,,,,,,,,,,,,,,,,,,,,,,,,,,,,,,";
+
+/// Whether a byte is a character of ASCII that a name may have.
+#[inline(always)]
+fn is_name_byte(byte: u8) -> bool
+    ensures { result ≡ (is_ascii_alphanumeric byte || (byte == 95)) }
+{
+    NAME_BYTES[byte as usize] != b','
+}
+
 /// Whether a name may go on with a character. Those of ASCII are told without a table.
 #[inline(always)]
 fn is_name_part(c: char) -> bool
@@ -298,7 +318,7 @@ impl CharSet {
         ensures { result ≡ (nat_lt byte 128 && has self byte) }
     {
         match self {
-            CharSet::NamePart => byte.is_ascii_alphanumeric() || byte == b'_',
+            CharSet::NamePart => is_name_byte(byte),
             CharSet::CommentPart => byte < 128 && byte != b'\n' && byte != b'\r',
             CharSet::Blank => byte == b' ' || byte == b'\t' || byte == b'\x0c',
             _ => byte < 128 && self.has(byte as char),

@@ -9,7 +9,7 @@ use Rattle.std.specs.Result.{OnOk}
 use Rattle.std.specs.Str.{chars, IsAscii}
 use Rattle.std.proofs.lemmas.Str.{chars-IsAscii, IsAscii-append}
 use Rattle.std.proofs.lemmas.Str.Ascii.{IsAscii-nil, IsAscii-cons}
-use Rattle.std.proofs.lemmas.List.{append_assoc, drop-append-le, drop_all, get_or-append_right, get_or-replicate, length-replicate, replicate-append-replicate, take_at, drop-replicate, set-append_right}
+use Rattle.std.proofs.lemmas.List.{append_assoc, drop-append-le, drop-drop, drop_all, get_or-append_right, get_or-replicate, length-replicate, replicate-append-replicate, take_at, drop-replicate, set-append_right}
 use Rattle.std.specs.Fmt.{digits, digits_onto, digit_glyph}
 use Rattle.std.proofs.lemmas.Bool.{ne_eqb, and_parts}
 use Rattle.std.proofs.lemmas.Bool.Decides.{nat_tests}
@@ -60,6 +60,11 @@ two_digits n some small =
     let none : n / 10 / 10 ≡ 0 = omega arith in
     let whole : n / 10 % 10 ≡ n / 10 = omega arith in
     rw (more, none, whole) (ap₂ (λ g h. g ∷ h ∷ []) (glyph (n / 10) (omega arith)) (glyph (n % 10) (omega arith)))
+
+-- what stands behind the first of what stands from a place on
+pub drop_behind : (next at x : ℕ) (rest all : List ℕ) → at + 1 ≡ next → drop at all ≡ x ∷ rest → drop next all ≡ rest
+drop_behind next at x rest all step here =
+    ap (λ n. drop n all) (sym step) ∙ sym (drop-drop 1 at all) ∙ ap (λ (t : List ℕ). drop 1 t) here
 
 place_ascii : (p : Place) → IsAscii (shown_place p)
 place_ascii p =
