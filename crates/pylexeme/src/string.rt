@@ -1,6 +1,6 @@
 //! Strings: where one opens, and where the longest one ends (reference 2.4.1).
 
-ghost use Rattle.std.specs.Prelude.{◌≡◌, ◌||◌, ◌==◌, true, false, ℕ, List, ◌++◌, drop, None};
+ghost use Rattle.std.specs.Prelude.{◌≡◌, ◌≢◌, [], ◌||◌, ◌==◌, true, false, ℕ, List, ◌++◌, drop, None};
 ghost use Rattle.std.specs.Prelude.{IfSome, IfNone, IsTrue};
 ghost use Rattle.std.specs.Str.{chars};
 ghost use Rattle.pylexeme.specs.Chars.{begins};
@@ -271,9 +271,12 @@ pub fn open_literal(text: &str) -> Option<OpenLiteral>
 impl OpenLiteral {
     /// Whether it is still open behind one more line.
     pub fn goes_on(self, line: &str) -> bool
-        ensures { IsTrue result → (cs : List ℕ) → EndsLine cs → IsOpenBy self cs
+        ensures longer { IsTrue result → (cs : List ℕ) → EndsLine cs → IsOpenBy self cs
             → lexeme_at cs ≡ None
             → IsOpenBy self (cs ++ chars line.now) × (lexeme_at (cs ++ chars line.now) ≡ None) }
+        ensures still { (cs : List ℕ) → EndsLine cs → IsOpenBy self cs → chars line.now ≢ []
+            → lexeme_at (cs ++ chars line.now) ≡ None → is_open_string (cs ++ chars line.now) ≡ true
+            → IsTrue result }
     {
         let mut left = Scanner::new(line);
         if self.triple {

@@ -220,6 +220,8 @@ pub fn read_all<R: ByteIn>(alloc: Global, reader: &mut R) -> Result<Vec<u8>, Inp
     ensures memory { IsErrOf result InputFault.Memory →
         R.failure_count reader.new ≡ R.failure_count reader.old }
     ensures once { R.failure_count reader.new ≤ R.failure_count reader.old + 1 }
+    ensures gave { OnErr result ((given : List ℕ)
+        × Consumes (R.to_come reader.old) (R.to_come reader.new) given) }
     ensures steady { IsSteady (R.may_fail reader.old) (R.may_fail reader.new)
         (R.failure_count reader.old) (R.failure_count reader.new) }
 {

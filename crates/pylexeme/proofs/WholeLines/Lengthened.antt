@@ -1,7 +1,7 @@
 -- Where a literal is open at the end of whole lines, the next line alone says whether
 -- it is closed or goes on.
 --
--- Carries: triple_goes_on, single_goes_on, for OpenLiterals. On: LinedUnits, LineFronts,
+-- Carries: triple_goes_on, single_goes_on, triple_ended, single_open, for OpenLiterals. On: LinedUnits, LineFronts,
 -- StringLongest, Units and 3 more.
 use Rattle.std.proofs.Common.{◌≡◌, ℕ, true, false, ◌&&◌, ◌==◌, List, [], ◌∷◌, ◌++◌, drop, refl, sym, ◌∙◌, ap, None}
 use Rattle.pylexeme.specs.Chars.{begins}
@@ -14,7 +14,7 @@ use Rattle.pylexeme.proofs.Fronts.Best.{and_parts}
 use Rattle.pylexeme.proofs.Strings.Units.{IsQuote, nil_units}
 use Rattle.pylexeme.proofs.Strings.StringLongest.{string_opens, triple_opens, quotes_three, head_is}
 use Rattle.pylexeme.proofs.Strings.OpenStrings.{open_behind}
-use Rattle.pylexeme.proofs.WholeLines.LinedUnits.{lined, lined_tail, ends_lined, units_join, units_last, shift_none, joined_single, joined_join, triple_crosses}
+use Rattle.pylexeme.proofs.WholeLines.LinedUnits.{lined, lined_tail, ends_lined, units_join, units_last, shift_none, joined_single, joined_join, triple_behind, triple_crosses}
 use Rattle.pylexeme.proofs.WholeLines.LineFronts.{triples_kept, behind_quote, quote_which, which_quote, behind_front, here_longer, opens_longer, drop_lined}
 use Rattle.pylexeme.proofs.WholeLines.Kept.{none_at, none_read}
 
@@ -31,6 +31,16 @@ three_longer q (a ∷ b ∷ c ∷ t) line k h l e f =
     let n : triple_of q (units t) ≡ 0 = shift_none 3 (triple_of q (units t)) (rw h at e) in
     let z : triple_of q (units (t ++ line)) ≡ 0 = ap (triple_of q) (units_join t line i) ∙ triple_crosses q (units t) (units line) k (units_last t (behind_quote q c t k p.1 m) i) n f in
     rw (h, z) refl
+
+three_ended : (q : ℕ) (r line : List ℕ) → begins_quotes q r ≡ true → lined r ≡ true → quoted_len q (r ++ line) ≡ 0 → triple_len q line ≡ 0
+unfolding quoted_len triple_len
+three_ended q [] line h l e = cc
+three_ended q (a ∷ []) line h l e = absurd (let p = and_parts ((a == q) && false) false h in let z : false ≡ true = p.1 in cc)
+three_ended q (a ∷ b ∷ []) line h l e = absurd (let p = and_parts ((a == q) && (b == q)) false h in let z : false ≡ true = p.1 in cc)
+three_ended q (a ∷ b ∷ c ∷ t) line h l e =
+    let i : lined t ≡ true = lined_tail c t (lined_tail b (c ∷ t) l) in
+    let n : triple_of q (units (t ++ line)) ≡ 0 = shift_none 3 (triple_of q (units (t ++ line))) (rw h at e) in
+    triple_behind q (units t) (units line) (ap (triple_of q) (sym (units_join t line i)) ∙ n)
 
 one_longer : (q : ℕ) (r line : List ℕ) → begins (λ c. c == q) r ≡ true → begins_quotes q (r ++ line) ≡ false → lined r ≡ true → ends_by_join q (units (drop 1 r)) ≡ true → single_len q line ≡ 0 → quoted_len q (r ++ line) ≡ 0
 unfolding quoted_len single_len
@@ -55,6 +65,12 @@ triple_none q n cs line l o h t e f =
     none_at q n (cs ++ line) (string_opens n (cs ++ line) p) p (here_longer q n cs line o h)
     (ap (quoted_len q) (behind_front n cs line o)
     ∙ three_longer q (drop n cs) line (which_quote q (quote_which q n cs o h)) (quotes_by q n cs o h ∙ t) (drop_lined n cs (ends_lined cs l)) (none_read q n cs (string_opens n cs o) o h e) f)
+
+pub triple_ended : (q n : ℕ) (cs line : List ℕ) → EndsLine cs → Opens n cs → begins (λ c. c == q) (drop n cs) ≡ true → opens_triple cs ≡ true → lexeme_at (cs ++ line) ≡ None → triple_len q line ≡ 0
+triple_ended q n cs line l o h t e =
+    let p = opens_longer n cs line o in
+    three_ended q (drop n cs) line (quotes_by q n cs o h ∙ t) (drop_lined n cs (ends_lined cs l))
+    (ap (quoted_len q) (sym (behind_front n cs line o)) ∙ none_read q n (cs ++ line) (string_opens n (cs ++ line) p) p (here_longer q n cs line o h) e)
 
 pub triple_open : (cs line : List ℕ) → EndsLine cs → opens_triple cs ≡ true → is_open_string (cs ++ line) ≡ true
 unfolding is_open_string

@@ -213,6 +213,20 @@ joined_join q (u ∷ []) [] e f = cc
 joined_join q (u ∷ []) (v ∷ vs) e f = goes_join q u v vs (goes_by q u (is_join u) e).0
 joined_join q (u ∷ v ∷ us) vs e f = let g = goes_by q u (ends_by_join q (v ∷ us)) e in goes_join q u v (us ++ vs) g.0 ∙ joined_join q (v ∷ us) vs g.1 f
 
+-- Three quotes in what follows stand in the whole
+pub triple_behind : (q : ℕ) (us vs : List (List ℕ)) → triple_of q (us ++ vs) ≡ 0 → triple_of q vs ≡ 0
+triple_behind q [] vs e = e
+triple_behind q (u ∷ us) vs e = triple_behind q us vs (without (us ++ vs) e)
+  where
+    without : (ws : List (List ℕ)) → triple_of q (u ∷ ws) ≡ 0 → triple_of q ws ≡ 0
+    without [] e = refl
+    without (v ∷ []) e = refl
+    without (v ∷ w ∷ ws) e =
+        ⊎_elim
+        (λ (h : (is_unit q u && is_unit q v && is_unit q w) ≡ true). let z : 3 ≡ 0 = rw h at e in cc)
+        (λ (h : (is_unit q u && is_unit q v && is_unit q w) ≡ false). shift_none (length u) (triple_of q (v ∷ w ∷ ws)) (rw h at e))
+        (bool_cases (is_unit q u && is_unit q v && is_unit q w))
+
 -- Three quotes don't run over a line end
 end_not_quote : (q : ℕ) (u : List ℕ) → IsQuote q → (is_unit 10 u || is_join u) ≡ true → is_unit q u ≡ false
 unfolding is_join

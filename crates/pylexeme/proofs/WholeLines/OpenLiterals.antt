@@ -2,11 +2,12 @@
 --
 -- Carries: goes_on, is_open_string, open_literal. On: StringLongest, LineFronts,
 -- Lengthened, StringBest and 2 more.
-use Rattle.std.proofs.Common.{◌≡◌, ℕ, Bool, true, false, ◌||◌, ◌==◌, not, arith, nat_lt, List, [], ◌++◌, drop, refl, sym, ◌∙◌, ap, Option, Some, None, is_some}
+use Rattle.std.proofs.Common.{◌≡◌, ◌≢◌, ℕ, Bool, true, false, ◌||◌, ◌==◌, not, arith, nat_lt, List, [], ◌∷◌, ◌++◌, drop, refl, sym, ◌∙◌, ap, Option, Some, None, is_some}
 use Rattle.std.proofs.lemmas.List.{append-nil}
 use Rattle.std.specs.Prelude.{IfSome, IfNone, IsTrue}
 use Rattle.std.proofs.lemmas.Bool.Decides.{nat_tests}
 use Rattle.pylexeme.specs.Chars.{begins}
+use Rattle.pylexeme.specs.Numbers.{is_nil}
 use Rattle.pylexeme.specs.Strings.{units, begins_three, quote_char}
 use Rattle.pylexeme.specs.Lexemes.{lexeme_at, ends_by_join, is_open_string}
 use Rattle.pylexeme.specs.Lengths.{single_of, single_len, triple_len, begins_quotes, Opens}
@@ -18,7 +19,7 @@ use Rattle.pylexeme.proofs.Strings.StringLongest.{triple_opens, quotes_three, he
 use Rattle.pylexeme.proofs.Strings.OpenStrings.{open_behind}
 use Rattle.pylexeme.proofs.WholeLines.LinedUnits.{joined_single}
 use Rattle.pylexeme.proofs.WholeLines.LineFronts.{triples_kept, here_longer, opens_longer}
-use Rattle.pylexeme.proofs.WholeLines.Lengthened.{triple_goes_on, single_goes_on}
+use Rattle.pylexeme.proofs.WholeLines.Lengthened.{triple_goes_on, single_goes_on, triple_ended, single_open}
 
 pub open_is : (o : Option OpenLiteral) (cs : List ℕ) → IfSome o (λ l. IsOpenBy l cs) → IfNone o (is_open_string cs ≡ false) → is_some o ≡ is_open_string cs
 open_is None cs s n = sym n
@@ -66,3 +67,17 @@ pub single_on : (o : OpenLiteral) (line : List ℕ) → o.triple ≡ false → e
 single_on o line t j cs l i e =
     let g = single_goes_on (quote_char o.quote) i.«prefix» cs line l i.opens i.here (i.triple ∙ t) i.unended (joins_unclosed (quote_char o.quote) line j) j in
     (longer o cs line l i g.1, g.0)
+
+-- Where it is open still, the next line doesn't close it
+pub closed : (b : Bool) (n : ℕ) → b ≡ nat_lt 0 n → n ≡ 0 → IsTrue (not b)
+closed b n e f = ap not (e ∙ ap (nat_lt 0) f)
+
+some : (line : List ℕ) → line ≢ [] → is_nil line ≡ false
+some [] n = absurd (n refl)
+some (c ∷ line) n = refl
+
+pub triple_still : (o : OpenLiteral) (line : List ℕ) → o.triple ≡ true → (cs : List ℕ) → EndsLine cs → IsOpenBy o cs → lexeme_at (cs ++ line) ≡ None → triple_len (quote_char o.quote) line ≡ 0
+triple_still o line t cs l i e = triple_ended (quote_char o.quote) i.«prefix» cs line l i.opens i.here (i.triple ∙ t) e
+
+pub single_still : (o : OpenLiteral) (line : List ℕ) → o.triple ≡ false → (cs : List ℕ) → EndsLine cs → IsOpenBy o cs → line ≢ [] → is_open_string (cs ++ line) ≡ true → ends_by_join (quote_char o.quote) (units line) ≡ true
+single_still o line t cs l i n u = sym (single_open (quote_char o.quote) i.«prefix» cs line l i.opens i.here (i.triple ∙ t) i.unended (some line n)) ∙ u

@@ -43,7 +43,7 @@ loop-literal-preserved g c =
           let b = ap fails is in
           omega arith;
       joins = λ at start l. subst (λ n. LinesBehind c.args.literal at n start c.next_line.new.self (string_bytes c.next_line.new.chunk)) size
-          (behind_line _ _ _ _ c.args.literal at c.loop-literal.from start c.loop-literal.lines c.next_line.new.self _ _ (c.loop-literal.invariant.joins at start l) (rw (← c.deref.ensures, ← c.range_from.ensures.value) (c.loop-literal-test.ensures refl)) m c.in-Ok.ensures.within);
+          (behind_line _ _ _ _ c.args.literal at c.loop-literal.from start c.loop-literal.lines c.next_line.new.self _ _ (c.loop-literal.invariant.joins at start l) (rw (← c.deref.ensures, ← c.range_from.ensures.value) (c.loop-literal-test.ensures.longer refl)) m c.in-Ok.ensures.within);
       steady = Steady-append _ _ _ _ _ _ c.loop-literal.invariant.steady c.in-Ok.ensures.steady;
       from = subst (IsCharBoundary (string_bytes c.next_line.new.chunk)) size (IsCharBoundary-at_seam _ (string_bytes c.loop-literal.text) m.line m.chunk m.tells.0.utf8);
     }
@@ -59,12 +59,12 @@ returns-clause-joins g c = λ at start l. joins_ended c.args.literal at c.loop-l
 pub returns-in_default-clause-joins : goal.returns-in_default-clause-joins
 returns-in_default-clause-joins g c = λ at start l.
     let m = c.in_default.ensures.moves in
-    joins_no_line _ _ _ _ c.args.literal at c.loop-literal.from start c.loop-literal.lines c.next_line.new.self _ _ (c.loop-literal.invariant.joins at start l) (rw (← c.deref.ensures, ← c.range_from.ensures.value) (c.loop-literal-test.ensures refl)) (Err c.in_default.field-0) m m.tells (λ is. cc)
+    joins_no_line _ _ _ _ c.args.literal at c.loop-literal.from start c.loop-literal.lines c.next_line.new.self _ _ (c.loop-literal.invariant.joins at start l) (rw (← c.deref.ensures, ← c.range_from.ensures.value) (c.loop-literal-test.ensures.longer refl)) (Err c.in_default.field-0) m m.tells (λ is. cc)
 
 pub returns-in_default-line-clause-joins : goal.returns-in_default-line-clause-joins
 returns-in_default-line-clause-joins g c = λ at start l.
     let m = c.in-Ok.ensures.moves in
-    joins_no_line _ _ _ _ c.args.literal at c.loop-literal.from start c.loop-literal.lines c.next_line.new.self _ _ (c.loop-literal.invariant.joins at start l) (rw (← c.deref.ensures, ← c.range_from.ensures.value) (c.loop-literal-test.ensures refl)) (Ok c.in-Ok.line) m
+    joins_no_line _ _ _ _ c.args.literal at c.loop-literal.from start c.loop-literal.lines c.next_line.new.self _ _ (c.loop-literal.invariant.joins at start l) (rw (← c.deref.ensures, ← c.range_from.ensures.value) (c.loop-literal-test.ensures.longer refl)) (Ok c.in-Ok.line) m
     (no_line c.in-Ok.line m.line c.next_line.new.self c.in_default-line.not-Text (adds_of (Ok c.in-Ok.line) m.line c.next_line.new.self m.tells)) (λ is. c.in_default-line.not-Text (let e : c.in-Ok.line ≡ met.Text = cc in e))
 
 pub returns-in_default-clause-steady : goal.returns-in_default-clause-steady
