@@ -1,6 +1,8 @@
 -- One lexeme off the front of a text.
 use Rattle.std.specs.Prelude.{◌≡◌, ℕ, ◌+◌, ◌<◌, Bool, true, false, not, if◌then◌else◌, ◌&&◌, ◌==◌, List, [], ◌∷◌, ◌++◌, length, drop, Option, Some, option_map}
 use Rattle.std.specs.Str.{chars, IsUtf8}
+use Rattle.pylexeme.specs.declared.kinds.Exact.{Exact}
+use Rattle.pylexeme.specs.declared.kinds.Exact.TheVariants.{LPar, RPar, LSqb, RSqb, LBrace, RBrace, Comma}
 use Rattle.pylexeme.specs.declared.lexeme.Class.{Class}
 use Rattle.pylexeme.specs.Chars.{is_blank_char, starts_name, begins}
 use Rattle.pylexeme.specs.Strings.{opens_string}
@@ -33,6 +35,10 @@ pub record Cuts (bytes : List ℕ) (k : Class) (front back : List ℕ) : Type 0 
   pub nonempty : 0 < length (chars front)
   pub front_utf8 : IsUtf8 front
   pub back_utf8 : IsUtf8 back
+
+-- a character alone is this operator, and begins no longer one: the brackets and the comma
+abbrev pub is_sign : Exact → ℕ → Bool
+is_sign e c = elim e [ LPar ↦ c == 40 | RPar ↦ c == 41 | LSqb ↦ c == 91 | RSqb ↦ c == 93 | LBrace ↦ c == 123 | RBrace ↦ c == 125 | Comma ↦ c == 44 | _ ↦ false ]
 
 -- a text begins with LF, or with CR LF
 abbrev pub begins_line_end : List ℕ → Bool
