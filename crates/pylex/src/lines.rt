@@ -16,7 +16,7 @@ use crate::entries::Entry;
 use crate::kind::{Exact, Kind};
 use itoa::write_digits;
 use pylexeme::scanner::char_count;
-use pysource::{Place, is_plain_text, push_repr};
+use pysource::{Place, push_repr};
 use std::alloc::{AllocError, Global};
 use std::str::from_utf8_unchecked;
 
@@ -198,6 +198,17 @@ fn is_plain_byte(byte: u8) -> bool
     PLAIN_BYTES[byte as usize] != b'\t'
 }
 
+/// Whether all bytes stand for themselves between quotes of either kind.
+fn are_plain(bytes: &[u8]) -> bool
+    ensures { result ≡ true → list_all is_plain bytes.now ≡ true }
+{
+    let mut count = 0;
+    while count < bytes.len() && is_plain_byte(bytes[count]) {
+        count += 1;
+    }
+    count == bytes.len()
+}
+
 /// Copies bytes up to one that doesn't stand for itself between quotes, and answers whether there
 /// is none.
 #[inline(always)]
@@ -266,7 +277,7 @@ fn push_text(out: &mut String, text: &str) -> Result<(), AllocError>
         (string_bytes out.new ≡ string_bytes out.old ++ filled 15 (repr_text (chars text.now))) }
     ensures kept { StartsWith (string_bytes out.new) (string_bytes out.old) }
 {
-    if is_plain_text(text) {
+    if are_plain(text.as_bytes()) {
         return push_plain(out, text);
     }
     if text == "\n" {

@@ -6,3 +6,4 @@ pub mod Longest
 pub mod Best
 pub mod Joined
 pub mod Taking
+pub mod Tables

@@ -237,12 +237,24 @@ fn ascii_run(bytes: &[u8], set: CharSet) -> usize
     count
 }
 
+/// A plus for each byte that is a character of ASCII, and neither a quote, a backslash nor of a
+/// line end; a minus for every other.
+static PLAIN_BYTES: [u8; 256] = *b"\
+    ++++++++++-++-++++++++++++++++++\
+    ++-++++-++++++++++++++++++++++++\
+    ++++++++++++++++++++++++++++-+++\
+    ++++++++++++++++++++++++++++++++\
+    --------------------------------\
+    --------------------------------\
+    --------------------------------\
+    --------------------------------";
+
 /// Whether a byte is a character of ASCII, and neither a quote, a backslash nor of a line end.
 #[inline(always)]
 fn is_plain(byte: u8) -> bool
     ensures { result ≡ is_plain_char byte }
 {
-    byte < 128 && byte != b'"' && byte != b'\'' && byte != b'\\' && byte != b'\n' && byte != b'\r'
+    PLAIN_BYTES[byte as usize] == b'+'
 }
 
 /// How many bytes at the front are such characters.
