@@ -12,7 +12,7 @@ use Rattle.pynode.specs.declared.expressions.Arguments.{Arguments}
 use Rattle.pynode.specs.Trees.{optional, optional_arg, args, optionals, exprs}
 use Rattle.pynode.specs.TreeOf.{tree_of, option_of, arg_of, arg_option_of, arguments_of}
 use Rattle.pynode.proofs.Callers.ExprShapes.{arguments_tree}
-use Rattle.pydump.specs.Shows.{Shown, Showns, Fields, Node, Row, no_field, a_field, arg_field, shown, shown_arg, shown_args, shown_arguments, shown_exprs, shown_optional, shown_optionals, showns}
+use Rattle.pydump.specs.Shows.{Shown, Fields, Node, Row, no_field, a_field, arg_field, shown, shown_arg, shown_args, shown_arguments, shown_exprs, shown_optional, shown_optionals, showns}
 use Rattle.pydump.specs.Layout.{is_short}
 use Rattle.pydump.specs.Inner.Slots.{Slot, missing, field, with_slot}
 use Rattle.pydump.specs.Inner.Weights.{field_weights, slot_weight}

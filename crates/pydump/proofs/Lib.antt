@@ -1,6 +1,7 @@
 mod ArgumentsLemmas
 pub mod BlockLemmas
 mod Examples
+pub mod JoinedLemmas
 pub mod LeafLemmas
 pub mod LineLemmas
 pub mod PieceLemmas

@@ -1,7 +1,7 @@
 -- Which fields are simple, and which nodes stand on one line.
 --
 -- Carries: is_plain, is_short_one, is_short_two, is_short_three, is_short_four.
-use Rattle.std.proofs.Common.{◌≡◌, ℕ, length, nat_eq, nat_le, arith, refl, ap, ◌∙◌, ◌||◌, Bool, true, false, ◌&&◌, List, [], ◌∷◌, map}
+use Rattle.std.proofs.Common.{◌≡◌, length, nat_eq, nat_le, arith, refl, ap, ◌∙◌, ◌||◌, Bool, true, false, ◌&&◌, List, [], ◌∷◌, map}
 use Rattle.pynode.specs.Trees
 use Rattle.pydump.specs.Shows.{Shown, Row, showns, shown_arg, shown_arguments, no_field, Fields}
 use Rattle.pydump.specs.Layout.{is_simple, is_short, all_simple, shown_count}

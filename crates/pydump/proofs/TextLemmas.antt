@@ -6,7 +6,7 @@ use Rattle.std.proofs.lemmas.Bool.{both_ways}
 use Rattle.std.proofs.lemmas.List.{append-nil, append_assoc, take_all, take_at}
 use Rattle.pydump.specs.declared.styles.Style.{Style}
 use Rattle.pydump.specs.declared.lines.Told.{Told}
-use Rattle.pydump.specs.Shows.{Shown, Showns, Fields, Row, a_shown, no_field, showns}
+use Rattle.pydump.specs.Shows.{Shown, Fields, no_field, showns}
 use Rattle.pydump.specs.Layout.{text, fields, members, before, deeper, is_flat, is_short, label}
 use Rattle.pydump.specs.Inner.Slots.{Slot, missing, field, coming, is_missing, node_text, slot_name, slot_shown, with_slot}
 

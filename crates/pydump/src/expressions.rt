@@ -7,6 +7,7 @@ ghost use Rattle.pydump.specs.Shows.{shown};
 ghost use Rattle.pynode.specs.TreeOf.{tree_of};
 
 use crate::fields::Field;
+use crate::joined::{is_joined, show_joined_attribute, show_joined_call};
 use crate::leaves::{show_constant, show_name};
 use crate::nodes::{show_one, show_three, show_two};
 use crate::parts::{Part, boxed_part};
@@ -163,25 +164,37 @@ pub(crate) fn show_expr(
             func,
             args,
             keywords,
-        } => show_three(
-            out,
-            front,
-            style,
-            "Call(",
-            Part::Expr(Field::Func, func),
-            Part::Exprs(Field::Args, args),
-            Part::Keywords(Field::Keywords, keywords),
-        ),
+        } => {
+            if is_joined(style) {
+                show_joined_call(out, front, style, func, args, keywords)
+            } else {
+                show_three(
+                    out,
+                    front,
+                    style,
+                    "Call(",
+                    Part::Expr(Field::Func, func),
+                    Part::Exprs(Field::Args, args),
+                    Part::Keywords(Field::Keywords, keywords),
+                )
+            }
+        }
         Expr::Constant { value } => show_constant(out, style, value),
-        Expr::Attribute { value, attr, ctx } => show_three(
-            out,
-            front,
-            style,
-            "Attribute(",
-            Part::Expr(Field::Value, value),
-            Part::Name(Field::Attr, attr),
-            Part::Context(*ctx),
-        ),
+        Expr::Attribute { value, attr, ctx } => {
+            if is_joined(style) {
+                show_joined_attribute(out, front, style, value, attr, *ctx)
+            } else {
+                show_three(
+                    out,
+                    front,
+                    style,
+                    "Attribute(",
+                    Part::Expr(Field::Value, value),
+                    Part::Name(Field::Attr, attr),
+                    Part::Context(*ctx),
+                )
+            }
+        }
         Expr::Subscript { value, slice, ctx } => show_three(
             out,
             front,

@@ -72,6 +72,29 @@ fn show_plain_name(out: &mut String, text: &str, ctx: Context) -> Result<(), All
     push_context_end(out, ctx)
 }
 
+/// Appends the name of an attribute and its context, from what stands before the name on, and the
+/// bracket that ends it.
+pub(crate) fn push_name_and_context(
+    out: &mut String,
+    text: &str,
+    ctx: Context,
+) -> Result<(), AllocError>
+    ensures { OnOk result
+        (string_bytes out.new ≡ string_bytes out.old
+        ++ (codes ", attr=" ++ repr_text (chars text.now)
+        ++ (codes ", ctx=" ++ context_name ctx ++ codes "())"))) }
+{
+    // Without a call for its repr, as most names are told.
+    if is_plain_text(text) {
+        out.push_str(", attr='")?;
+        out.push_str(text)?;
+        return push_context_end(out, ctx);
+    }
+    out.push_str(", attr=")?;
+    push_repr(out, text)?;
+    out.push_str(context_end(true, ctx))
+}
+
 /// Appends a name.
 pub(crate) fn show_name(
     out: &mut String,

@@ -10,6 +10,7 @@ mod compounds;
 mod expressions;
 mod fields;
 mod handlers;
+mod joined;
 mod leaves;
 mod lines;
 mod lists;

@@ -36,6 +36,10 @@ pub(crate) fn show_exprs(
         (Row (showns (map (λ e. shown (tree_of e)) es.now)))) }
     ensures front { OnOk result (string_bytes front.new ≡ string_bytes front.old) }
 {
+    // At once, as many lists are.
+    if es.is_empty() {
+        return out.push_str("[]");
+    }
     let outer = open(out, front, style, "[")?;
     let mut first = true;
     for e in es {
@@ -117,6 +121,10 @@ pub(crate) fn show_keywords(
         (Row (showns (map (λ k. shown_keyword (keyword_of k)) ks.now)))) }
     ensures front { OnOk result (string_bytes front.new ≡ string_bytes front.old) }
 {
+    // At once, as many lists are.
+    if ks.is_empty() {
+        return out.push_str("[]");
+    }
     let outer = open(out, front, style, "[")?;
     let mut first = true;
     for k in ks {
@@ -143,6 +151,10 @@ pub(crate) fn show_args(
         (Row (showns (map (λ a. shown_arg (arg_of a)) all.now)))) }
     ensures front { OnOk result (string_bytes front.new ≡ string_bytes front.old) }
 {
+    // At once, as many lists are.
+    if all.is_empty() {
+        return out.push_str("[]");
+    }
     let outer = open(out, front, style, "[")?;
     let mut first = true;
     for a in all {

@@ -1,11 +1,10 @@
 use Rattle.std.specs.Prelude.{decimal}
-use Rattle.std.proofs.Common.{◌≡◌, ◌+◌, true, arith, refl, ap, sym, map, ◌∙◌, codes}
+use Rattle.std.proofs.Common.{◌≡◌, ◌+◌, true, arith, refl, sym, map, ◌∙◌, codes}
 use Rattle.pynode.specs.TreeOf.{alias_of, arguments_of, boxed_of, handler_of, item_of, keyword_of, option_of, stmt_of, tree_of, type_param_of}
 use Rattle.pydump.specs.Shows.{Fields, Node, Scalar, a_field, expr_field, left_out, name_field, no_field, shown, shown_alias, shown_arguments, shown_flag, shown_item, shown_keyword, shown_name, shown_stmt, type_params_field}
 use Rattle.pydump.specs.Layout.{shown_count}
 use Rattle.pydump.specs.Inner.Blocks.{listed, shown_block, shown_caught, shown_handler}
 use Rattle.pydump.specs.Inner.Slots.{slot_of, with_slot}
-use Rattle.pydump.specs.Inner.Weights.{weight, field_weights}
 use Rattle.pydump.proofs.RowLemmas.{aliases_row, boxed_field, exprs_row, items_row, keywords_row, member_weight, names_row, type_params_row}
 use Rattle.pydump.proofs.BlockLemmas.{ahead, ahead_as, at_end, handler_shows, handler_weighs, long_node, node_shown, stmts_row, text_as}
 use Rattle.pynode.specs.declared.statements.Handler as given_handler

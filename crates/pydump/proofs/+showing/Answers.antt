@@ -1,15 +1,17 @@
 use Rattle.std.proofs.Common.{rules, ◌≡◌, ◌+◌, ◌++◌, OnOk, arith, refl, ap, sym, subst, map, codes, ◌∙◌, true, false}
 use Rattle.std.specs.String.{string_bytes}
 use Rattle.pynode.specs.Trees.{optional}
-use Rattle.pynode.specs.TreeOf.{tree_of, option_of, comprehension_of, keyword_of, arg_of, arguments_of, alias_of, item_of, type_param_of}
+use Rattle.pynode.specs.TreeOf.{tree_of, option_of, comprehension_of, keyword_of, arg_of, arguments_of, item_of, type_param_of}
 use Rattle.pydump.specs.Layout.{text, before, is_flat}
-use Rattle.pydump.specs.Shows.{shown, shown_optional, shown_comprehension, shown_keyword, shown_arg, shown_arguments, shown_alias, shown_item, shown_type_param, word, comparison_name, showns, Row, no_field}
+use Rattle.pydump.specs.Shows.{shown, shown_optional, shown_comprehension, shown_keyword, shown_arg, shown_arguments, shown_item, shown_type_param, word, comparison_name, showns, Row, no_field}
 use Rattle.pydump.specs.Inner.Slots.{is_missing, slot_of, with_slot}
 use Rattle.pydump.specs.Inner.Weights.{weight, field_weights}
+use Rattle.pydump.proofs.JoinedLemmas.{attribute_text, call_text, empty_row, keywords_text}
+use Rattle.pydump.proofs.LeafLemmas.{on_ok, where_pushed}
 use Rattle.pydump.proofs.ArgumentsLemmas.{alone, five_shown, seven_weigh, arguments_shown}
 use Rattle.pydump.proofs.RowLemmas.{slot_weighs, member_weight, exprs_row, comprehensions_row, keywords_row, comparisons_row, optionals_row}
 use Rattle.pydump.proofs.TextLemmas.{field_shown, left, node_closed, one_field, two_fields, three_fields, four_fields, then_fields, member_shown}
-use Rattle.pynode.proofs.Callers.ExprShapes.{generator_exp_tree, dict_comp_tree, compare_tree, call_tree, slice_tree, comprehension_tree, attribute_tree, await_tree, bin_op_tree, bool_op_tree, constant_tree, dict_tree, if_exp_tree, lambda_tree, list_comp_tree, list_tree, name_tree, named_expr_tree, set_comp_tree, set_tree, starred_tree, subscript_tree, tuple_tree, unary_op_tree, yield_from_tree, yield_tree}
+use Rattle.pynode.proofs.Callers.ExprShapes.{generator_exp_tree, dict_comp_tree, compare_tree, call_tree, slice_tree, comprehension_tree, await_tree, bin_op_tree, bool_op_tree, constant_tree, dict_tree, if_exp_tree, lambda_tree, list_comp_tree, list_tree, name_tree, named_expr_tree, set_comp_tree, set_tree, starred_tree, subscript_tree, tuple_tree, unary_op_tree, yield_from_tree, yield_tree}
 use Rattle.pydump.proofs.+showing.Goals as goal
 
 pub nodes::show_field-returns-clause-text : goal.nodes::show_field-returns-clause-text
@@ -180,6 +182,70 @@ members::show_arguments-returns-clause-text t c =
     (Row (showns (map (λ e. shown_optional (optional (option_of e))) c.deref-4.result.now))) (Row (showns (map (λ e. shown (tree_of e)) c.deref-5.result.now)))
     (slot_of c.arg_part.result) (slot_of c.arg_part-2.result)))
 
+pub joined::show_joined_attribute-returns-clause-text : goal.joined::show_joined_attribute-returns-clause-text
+joined::show_joined_attribute-returns-clause-text t c =
+    on_ok c.push_name_and_context.result
+    (attribute_text c.args.style (string_bytes c.args.front.now) c.args.attr.now _ (shown (tree_of c.args.value.now)) c.args.ctx _ _ _ _ c.requires c.as_str.ensures.characters
+    c.in_ok-push_str.ensures.bytes c.in_ok-show_expr.ensures.text)
+    c.push_name_and_context.ensures
+
+pub joined::show_joined_attribute-show_expr-requires : goal.joined::show_joined_attribute-show_expr-requires
+joined::show_joined_attribute-show_expr-requires t c = (omega arith, tt)
+
+pub joined::show_joined_keywords-returns-then-is_empty-clause-text : goal.joined::show_joined_keywords-returns-then-is_empty-clause-text
+joined::show_joined_keywords-returns-then-is_empty-clause-text t c =
+    where_pushed _ _ _ c.push_str.result
+    (λ pushed. pushed ∙ ap (λ z. string_bytes c.args.out.now ++ (codes ", keywords=" ++ z ++ codes ")"))
+    (sym (empty_row (λ k. shown_keyword (keyword_of k)) c.args.keywords.now c.args.style (string_bytes c.args.front.now) (sym c.if-is_empty.ensures))))
+    c.push_str.ensures.bytes
+
+pub joined::show_joined_keywords-returns-clause-text : goal.joined::show_joined_keywords-returns-clause-text
+joined::show_joined_keywords-returns-clause-text t c =
+    where_pushed _ _ _ c.push_str-3.result
+    (keywords_text _ _ _ _ _ c.in_ok-push_str.ensures.bytes c.in_ok-show_keywords.ensures.text)
+    c.push_str-3.ensures.bytes
+
+pub joined::show_joined_keywords-show_keywords-requires : goal.joined::show_joined_keywords-show_keywords-requires
+joined::show_joined_keywords-show_keywords-requires t c = (omega arith, tt)
+
+pub joined::show_joined_call-returns-clause-text : goal.joined::show_joined_call-returns-clause-text
+joined::show_joined_call-returns-clause-text t c =
+    on_ok c.show_joined_keywords.result
+    (λ ended. call_text c.args.style (string_bytes c.args.front.now) (shown (tree_of c.args.func.now)) (Row (showns (map (λ e. shown (tree_of e)) c.args.args.now)))
+    (Row (showns (map (λ k. shown_keyword (keyword_of k)) c.args.keywords.now))) _ _ _ _ _ _ c.requires
+    c.in_ok-push_str.ensures.bytes c.in_ok-show_expr.ensures.text c.in_ok-push_str-2.ensures.bytes
+    (c.in_ok-show_exprs.ensures.text ∙ ap (λ z. string_bytes c.push_str-2.new.self ++ text c.args.style z (Row (showns (map (λ e. shown (tree_of e)) c.args.args.now)))) c.in_ok-show_expr.ensures.front)
+    (ended ∙ ap (λ z. string_bytes c.show_exprs.new.out ++ (codes ", keywords=" ++ text c.args.style z (Row (showns (map (λ k. shown_keyword (keyword_of k)) c.args.keywords.now))) ++ codes ")"))
+    (c.in_ok-show_exprs.ensures.front ∙ c.in_ok-show_expr.ensures.front)))
+    c.show_joined_keywords.ensures.text
+
+pub joined::show_joined_call-show_expr-requires : goal.joined::show_joined_call-show_expr-requires
+joined::show_joined_call-show_expr-requires t c = (omega arith, tt)
+
+pub joined::show_joined_call-show_exprs-requires : goal.joined::show_joined_call-show_exprs-requires
+joined::show_joined_call-show_exprs-requires t c = (omega arith, tt)
+
+pub joined::show_joined_call-show_joined_keywords-requires : goal.joined::show_joined_call-show_joined_keywords-requires
+joined::show_joined_call-show_joined_keywords-requires t c = (omega arith, tt)
+
+pub lists::show_exprs-returns-then-is_empty-clause-text : goal.lists::show_exprs-returns-then-is_empty-clause-text
+lists::show_exprs-returns-then-is_empty-clause-text t c =
+    where_pushed _ _ _ c.push_str.result
+    (λ pushed. pushed ∙ ap (λ z. string_bytes c.args.out.now ++ z) (sym (empty_row (λ e. shown (tree_of e)) c.args.es.now c.args.style (string_bytes c.args.front.now) (sym c.if-is_empty.ensures))))
+    c.push_str.ensures.bytes
+
+pub lists::show_keywords-returns-then-is_empty-clause-text : goal.lists::show_keywords-returns-then-is_empty-clause-text
+lists::show_keywords-returns-then-is_empty-clause-text t c =
+    where_pushed _ _ _ c.push_str.result
+    (λ pushed. pushed ∙ ap (λ z. string_bytes c.args.out.now ++ z) (sym (empty_row (λ k. shown_keyword (keyword_of k)) c.args.ks.now c.args.style (string_bytes c.args.front.now) (sym c.if-is_empty.ensures))))
+    c.push_str.ensures.bytes
+
+pub lists::show_args-returns-then-is_empty-clause-text : goal.lists::show_args-returns-then-is_empty-clause-text
+lists::show_args-returns-then-is_empty-clause-text t c =
+    where_pushed _ _ _ c.push_str.result
+    (λ pushed. pushed ∙ ap (λ z. string_bytes c.args.out.now ++ z) (sym (empty_row (λ a. shown_arg (arg_of a)) c.args.all.now c.args.style (string_bytes c.args.front.now) (sym c.if-is_empty.ensures))))
+    c.push_str.ensures.bytes
+
 pub expressions::show_expr-returns-in-GeneratorExp-clause-text : goal.expressions::show_expr-returns-in-GeneratorExp-clause-text
 expressions::show_expr-returns-in-GeneratorExp-clause-text t c = rw (c.in-GeneratorExp.is, generator_exp_tree, comprehensions_row, sym c.deref-in-GeneratorExp.ensures, sym c.deref-in-GeneratorExp-2.ensures.value) c.show_two-in-GeneratorExp.ensures.text
 
@@ -199,13 +265,21 @@ expressions::show_expr-show_three-requires-in-Compare t c =
     let e : weight (shown (tree_of c.args.e.now)) ≡ weight (shown (tree_of c.deref-in-Compare.result.now)) + (weight (Row (showns (map (λ c. word (comparison_name c)) c.deref-in-Compare-2.result.now))) + (weight (Row (showns (map (λ e. shown (tree_of e)) c.deref-in-Compare-3.result.now))) + 0)) + 1 =
     rw (c.in-Compare.is, compare_tree, exprs_row c.in-Compare.comparators.items, comparisons_row c.in-Compare.ops.items, sym c.deref-in-Compare.ensures, sym c.deref-in-Compare-2.ensures.value, sym c.deref-in-Compare-3.ensures.value) refl in (omega (arith, e), tt)
 
-pub expressions::show_expr-returns-in-Call-clause-text : goal.expressions::show_expr-returns-in-Call-clause-text
-expressions::show_expr-returns-in-Call-clause-text t c = rw (c.in-Call.is, call_tree, exprs_row, keywords_row, sym c.deref-in-Call.ensures, sym c.deref-in-Call-2.ensures.value, sym c.deref-in-Call-3.ensures.value) c.show_three-in-Call.ensures.text
+pub expressions::show_expr-returns-then-is_joined-clause-text : goal.expressions::show_expr-returns-then-is_joined-clause-text
+expressions::show_expr-returns-then-is_joined-clause-text t c = rw (c.in-Call.is, call_tree, exprs_row, keywords_row, sym c.deref-then-is_joined.ensures, sym c.deref-then-is_joined-2.ensures.value, sym c.deref-then-is_joined-3.ensures.value) c.show_joined_call.ensures.text
 
-pub expressions::show_expr-show_three-requires-in-Call : goal.expressions::show_expr-show_three-requires-in-Call
-expressions::show_expr-show_three-requires-in-Call t c =
-    let e : weight (shown (tree_of c.args.e.now)) ≡ weight (shown (tree_of c.deref-in-Call.result.now)) + (weight (Row (showns (map (λ e. shown (tree_of e)) c.deref-in-Call-2.result.now))) + (weight (Row (showns (map (λ k. shown_keyword (keyword_of k)) c.deref-in-Call-3.result.now))) + 0)) + 1 =
-    rw (c.in-Call.is, call_tree, exprs_row c.in-Call.args.items, keywords_row c.in-Call.keywords.items, sym c.deref-in-Call.ensures, sym c.deref-in-Call-2.ensures.value, sym c.deref-in-Call-3.ensures.value) refl in (omega (arith, e), tt)
+pub expressions::show_expr-show_joined_call-requires : goal.expressions::show_expr-show_joined_call-requires
+expressions::show_expr-show_joined_call-requires t c =
+    let e : weight (shown (tree_of c.args.e.now)) ≡ weight (shown (tree_of c.deref-then-is_joined.result.now)) + (weight (Row (showns (map (λ e. shown (tree_of e)) c.deref-then-is_joined-2.result.now))) + (weight (Row (showns (map (λ k. shown_keyword (keyword_of k)) c.deref-then-is_joined-3.result.now))) + 0)) + 1 =
+    rw (c.in-Call.is, call_tree, exprs_row c.in-Call.args.items, keywords_row c.in-Call.keywords.items, sym c.deref-then-is_joined.ensures, sym c.deref-then-is_joined-2.ensures.value, sym c.deref-then-is_joined-3.ensures.value) refl in (omega (arith, e), sym c.if-is_joined.ensures)
+
+pub expressions::show_expr-returns-else-is_joined-clause-text : goal.expressions::show_expr-returns-else-is_joined-clause-text
+expressions::show_expr-returns-else-is_joined-clause-text t c = rw (c.in-Call.is, call_tree, exprs_row, keywords_row, sym c.deref-else-is_joined.ensures, sym c.deref-else-is_joined-2.ensures.value, sym c.deref-else-is_joined-3.ensures.value) c.show_three-else-is_joined.ensures.text
+
+pub expressions::show_expr-show_three-requires-else-is_joined : goal.expressions::show_expr-show_three-requires-else-is_joined
+expressions::show_expr-show_three-requires-else-is_joined t c =
+    let e : weight (shown (tree_of c.args.e.now)) ≡ weight (shown (tree_of c.deref-else-is_joined.result.now)) + (weight (Row (showns (map (λ e. shown (tree_of e)) c.deref-else-is_joined-2.result.now))) + (weight (Row (showns (map (λ k. shown_keyword (keyword_of k)) c.deref-else-is_joined-3.result.now))) + 0)) + 1 =
+    rw (c.in-Call.is, call_tree, exprs_row c.in-Call.args.items, keywords_row c.in-Call.keywords.items, sym c.deref-else-is_joined.ensures, sym c.deref-else-is_joined-2.ensures.value, sym c.deref-else-is_joined-3.ensures.value) refl in (omega (arith, e), tt)
 
 pub expressions::show_expr-returns-in-Slice-clause-text : goal.expressions::show_expr-returns-in-Slice-clause-text
 expressions::show_expr-returns-in-Slice-clause-text t c = rw (c.in-Slice.is, slice_tree)
@@ -337,14 +411,6 @@ expressions::show_expr-show_one-requires-in-YieldFrom t c =
 
 pub expressions::show_expr-returns-in-Constant-clause-text : goal.expressions::show_expr-returns-in-Constant-clause-text
 expressions::show_expr-returns-in-Constant-clause-text t c = rw (c.in-Constant.is, constant_tree) (c.show_constant.ensures _)
-
-pub expressions::show_expr-returns-in-Attribute-clause-text : goal.expressions::show_expr-returns-in-Attribute-clause-text
-expressions::show_expr-returns-in-Attribute-clause-text t c = rw (c.in-Attribute.is, attribute_tree, sym c.deref-in-Attribute.ensures) c.show_three-in-Attribute.ensures.text
-
-pub expressions::show_expr-show_three-requires-in-Attribute : goal.expressions::show_expr-show_three-requires-in-Attribute
-expressions::show_expr-show_three-requires-in-Attribute t c =
-    let e : weight (shown (tree_of c.args.e.now)) ≡ weight (shown (tree_of c.deref-in-Attribute.result.now)) + (1 + (1 + 0)) + 1 =
-    rw (c.in-Attribute.is, attribute_tree, sym c.deref-in-Attribute.ensures) refl in (omega (arith, e), tt)
 
 pub expressions::show_expr-returns-in-Subscript-clause-text : goal.expressions::show_expr-returns-in-Subscript-clause-text
 expressions::show_expr-returns-in-Subscript-clause-text t c = rw (c.in-Subscript.is, subscript_tree, sym c.deref-in-Subscript.ensures, sym c.deref-in-Subscript-2.ensures) c.show_three-in-Subscript.ensures.text

@@ -133,3 +133,13 @@ invariant-lists::show_type_params-loop-p l = record {
       ≡ string_bytes l.initial.out ++ members l.style (string_bytes l.initial.front) true (showns (map (λ p. shown_type_param (type_param_of p)) l.all));
   front : string_bytes l.front ≡ string_bytes l.initial.front;
 }
+
+abbrev pub decreases-joined::show_joined_attribute : goal.decreases-joined::show_joined_attribute
+decreases-joined::show_joined_attribute l = 4 * weight (shown (tree_of l.value.now)) + 3
+
+abbrev pub decreases-joined::show_joined_keywords : goal.decreases-joined::show_joined_keywords
+decreases-joined::show_joined_keywords l = 4 * weight (Row (showns (map (λ k. shown_keyword (keyword_of k)) l.keywords.now))) + 1
+
+abbrev pub decreases-joined::show_joined_call : goal.decreases-joined::show_joined_call
+decreases-joined::show_joined_call l = 4 * (weight (shown (tree_of l.func.now)) + (weight (Row (showns (map (λ e. shown (tree_of e)) l.args.now)))
+    + weight (Row (showns (map (λ k. shown_keyword (keyword_of k)) l.keywords.now))))) + 3
