@@ -1,4 +1,3 @@
-pub mod Names
 pub use Rattle.pyheight.specs.Heights
 pub use Rattle.pynode.specs.Points
 pub use Rattle.pynode.specs.TreeOf
@@ -19,5 +18,6 @@ pub use Rattle.pytoken.specs.StringValues
 pub use Rattle.pytoken.specs.Terminals
 pub use Rattle.pytoken.specs.Tokens
 pub use Rattle.pyslots.specs.Given
+pub use Rattle.pyslots.specs.Names
 pub use Rattle.pyslots.specs.Slots
 pub use Rattle.pyslots.specs.Statements
