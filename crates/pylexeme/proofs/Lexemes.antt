@@ -4,4 +4,4 @@ pub mod Union
 pub mod OperatorLengths
 pub mod Seconds
 pub mod Cutting
-pub mod Signs
+pub mod Delimiters

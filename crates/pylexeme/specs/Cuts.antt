@@ -9,7 +9,7 @@ use Rattle.pylexeme.specs.Strings.{opens_string}
 use Rattle.pylexeme.specs.Lengths.{begins_number}
 use Rattle.pylexeme.specs.Lexemes.{lexeme_at, lexeme_len}
 use Rattle.pylexeme.specs.Chars.{bytes_in}
-use Rattle.pylexeme.specs.Characters.{line_feed, carriage_return, hash, backslash}
+use Rattle.pylexeme.specs.Characters.{line_feed, carriage_return, hash, backslash, left_parenthesis, right_parenthesis, left_square_bracket, right_square_bracket, left_curly_bracket, right_curly_bracket, comma}
 
 -- the longest lexeme at the front of old is taken, and its class is said; new is what is left, all of old where there is none
 pub record Takes (old : List ℕ) (k : Option Class) (new : List ℕ) : Type 0 where
@@ -37,8 +37,17 @@ pub record Cuts (bytes : List ℕ) (k : Class) (front back : List ℕ) : Type 0 
   pub back_utf8 : IsUtf8 back
 
 -- a character alone is this operator, and begins no longer one: the brackets and the comma
-abbrev pub is_sign : Exact → ℕ → Bool
-is_sign e c = elim e [ LPar ↦ c == 40 | RPar ↦ c == 41 | LSqb ↦ c == 91 | RSqb ↦ c == 93 | LBrace ↦ c == 123 | RBrace ↦ c == 125 | Comma ↦ c == 44 | _ ↦ false ]
+abbrev pub is_delimiter : Exact → ℕ → Bool
+is_delimiter e c = elim e [
+  | LPar ↦ c == left_parenthesis
+  | RPar ↦ c == right_parenthesis
+  | LSqb ↦ c == left_square_bracket
+  | RSqb ↦ c == right_square_bracket
+  | LBrace ↦ c == left_curly_bracket
+  | RBrace ↦ c == right_curly_bracket
+  | Comma ↦ c == comma
+  | _ ↦ false
+]
 
 -- a text begins with LF, or with CR LF
 abbrev pub begins_line_end : List ℕ → Bool

@@ -8,7 +8,7 @@ ghost use Rattle.pylexeme.specs.Lengths.{begins_number, Opens};
 ghost use Rattle.pylexeme.specs.Lexemes.{lexeme_at, is_significant_class, is_blanks_class};
 ghost use Rattle.pylexeme.specs.Lexemes.{is_line_end_class, is_join_class, is_opener_class};
 ghost use Rattle.pylexeme.specs.Lexemes.{is_closer_class};
-ghost use Rattle.pylexeme.specs.Cuts.{Takes, Cuts, BeginsOther, begins_significant, is_sign};
+ghost use Rattle.pylexeme.specs.Cuts.{Takes, Cuts, BeginsOther, begins_significant, is_delimiter};
 
 use crate::kinds::Exact;
 use crate::number::number;
@@ -167,12 +167,12 @@ fn operator(text: &mut Scanner) -> Option<Class>
 
 /// Takes the bracket or comma that stands here.
 #[inline(always)]
-fn sign(text: &mut Scanner, mark: Exact) -> Option<Class>
-    requires { begins (is_sign mark) text.old ≡ true }
+fn delimiter(text: &mut Scanner, which: Exact) -> Option<Class>
+    requires { begins (is_delimiter which) text.old ≡ true }
     ensures { Takes text.old result text.new }
 {
     let _ = text.bump();
-    Some(Class::Operator(mark))
+    Some(Class::Operator(which))
 }
 
 /// Takes the string that stands here, behind a prefix of `prefix_len` characters; one that isn't
@@ -269,13 +269,13 @@ pub(crate) fn lexeme(text: &mut Scanner) -> Option<Class>
             *text = ahead;
             class
         }
-        '(' => sign(text, Exact::LPar),
-        ')' => sign(text, Exact::RPar),
-        '[' => sign(text, Exact::LSqb),
-        ']' => sign(text, Exact::RSqb),
-        '{' => sign(text, Exact::LBrace),
-        '}' => sign(text, Exact::RBrace),
-        ',' => sign(text, Exact::Comma),
+        '(' => delimiter(text, Exact::LPar),
+        ')' => delimiter(text, Exact::RPar),
+        '[' => delimiter(text, Exact::LSqb),
+        ']' => delimiter(text, Exact::RSqb),
+        '{' => delimiter(text, Exact::LBrace),
+        '}' => delimiter(text, Exact::RBrace),
+        ',' => delimiter(text, Exact::Comma),
         c if CharSet::Blank.has(c) => {
             blanks(text);
             Some(Class::Blanks)
