@@ -1,6 +1,6 @@
 -- Tables by byte.
 --
--- Carries: is_name_byte, is_plain, and is_plain_byte of pylex.
+-- Carries: is_name_byte, is_plain.
 use Rattle.std.proofs.Common.{◌≡◌, ℕ, zero, suc, ◌<◌, Bool, true, false, ◌&&◌, refl, arith, inl, inr}
 use Rattle.std.specs.Bool.{beq}
 use Rattle.std.proofs.lemmas.Bool.{cases_eq}
