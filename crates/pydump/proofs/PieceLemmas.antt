@@ -1,7 +1,7 @@
 -- The pieces of a dump, put together.
 --
 -- Carries: Pieces::new, Pieces::push_next.
-use Rattle.std.proofs.Common.{◌≡◌, ℕ, ◌++◌, List, [], ◌∷◌, Bool, true, false, codes, refl, ap, sym, ◌∙◌, ◌||◌, map}
+use Rattle.std.proofs.Common.{◌≡◌, ℕ, ◌+◌, ◌++◌, List, [], ◌∷◌, Bool, true, false, codes, refl, ap, sym, ◌∙◌, ◌||◌, map, length, arith}
 use Rattle.std.specs.List.{concat}
 use Rattle.std.proofs.lemmas.List.{append-nil, append_assoc}
 use Rattle.pynode.specs.declared.statements.Stmt.{Stmt}
@@ -61,3 +61,8 @@ module_pieces s f0 f1 g1 f2 f3 b0 b1 b2 b3 e0 e1 e2 e3 line body items same none
     let whole : concat (b3 ∷ statement_pieces s f3 true e3 body) ≡ (b1 ++ fields s f1 line s.names true all) ++ codes ")" = put ∙ simp append_assoc refl in
     module_text s f0 b0 _ body items same none_begun top
     (node_shown s f0 f1 (codes "Module(") all b0 b1 (b1 ++ fields s f1 line s.names true all) _ line hf1 is_line hb1 refl whole)
+
+-- a piece for each statement, and one behind them
+pub statement_count : (s : Style) (f : List ℕ) (first : Bool) (end : List ℕ) (body : List Stmt) → length (statement_pieces s f first end body) ≡ length body + 1
+statement_count s f first end [] = refl
+statement_count s f first end (x ∷ xs) = grind (arith, statement_count s f false end xs)

@@ -1,6 +1,7 @@
 //! The dump of a module, in pieces.
 
-ghost use Rattle.std.specs.Prelude.{◌≡◌, ◌++◌, ◌<◌, [], true, false, length, IfOk, OnOk};
+ghost use Rattle.std.specs.Prelude.{◌≡◌, ◌+◌, ◌++◌, ◌<◌, ◌∷◌, [], ℕ, List, true, false};
+ghost use Rattle.std.specs.Prelude.{length, IfOk, OnOk};
 ghost use Rattle.std.specs.List.{concat};
 ghost use Rattle.std.specs.String.{string_bytes};
 ghost use Rattle.pydump.specs.Layout.{dump_text};
@@ -60,9 +61,10 @@ impl<'a> Model for Pieces<'a> {
 impl<'a> Pieces<'a> {
     /// All pieces of a module's dump text.
     pub fn new(alloc: Global, tree: &'a Module, style: Style) -> Result<Pieces<'a>, AllocError>
-        ensures { IfOk result
+        ensures text { IfOk result
             (λ pieces. concat pieces
             ≡ dump_text style (shown_module style.profile (module_of tree.now))) }
+        ensures count { IfOk result (λ pieces. length pieces ≡ length tree.now.body.items + 2) }
     {
         let body: &[Stmt] = &tree.body;
         let one_line = is_short_module(style, body);
@@ -109,6 +111,10 @@ impl<'a> Pieces<'a> {
             (string_bytes out.new ++ concat self.new ≡ string_bytes out.old ++ concat self.old) }
         ensures fewer { IfOk result (λ more. more ≡ true → length self.new < length self.old) }
         ensures end { IfOk result (λ more. more ≡ false → self.new ≡ []) }
+        ensures none { IfOk result (λ more. more ≡ false → self.old ≡ []) }
+        ensures next { IfOk result (λ more. more ≡ true → (piece : List ℕ)
+            × (self.old ≡ piece ∷ self.new)
+            × (string_bytes out.new ≡ string_bytes out.old ++ piece)) }
     {
         match self.stage {
             Stage::Begin => {

@@ -26,9 +26,9 @@ returns-in_err-write_pieces-clause-performs g c =
     let e = err_from_is_err_and c.from_residual-in_err-write_pieces.result c.from_residual-in_err-write_pieces.ensures.1 in
     rw (e.1, e.2) (pieces_cut c.args.asked.now.style.profile (λ m output. output ≡ dump_output c.args.asked.now.style m) _ _ _ _ (module_of c.in_ok-module.module)
     (g.W.ByteOut.taken c.args.writer.now) (g.W.ByteOut.taken c.write_pieces.new.writer) (concat c.in_ok-pieces.pieces ++ codes "\n") c.in_err-write_pieces.field-0.0 c.in_ok-module.ensures.reads
-    (ap (λ text. text ++ codes "\n") c.in_ok-pieces.ensures) c.in_err-write_pieces.ensures.writes)
+    (ap (λ text. text ++ codes "\n") c.in_ok-pieces.ensures.text) c.in_err-write_pieces.ensures.writes)
 
 pub returns-clause-performs : goal.returns-clause-performs
 returns-clause-performs g c =
     all_written in_pieces (g.W.ByteOut.taken c.args.writer.now) (g.W.ByteOut.taken c.write_pieces.new.writer) (concat c.in_ok-pieces.pieces ++ codes "\n") c.in_ok-module.ensures.reads
-    (ap (λ text. text ++ codes "\n") c.in_ok-pieces.ensures) c.in_ok-write_pieces.ensures.writes.1
+    (ap (λ text. text ++ codes "\n") c.in_ok-pieces.ensures.text) c.in_ok-write_pieces.ensures.writes.1
