@@ -1,6 +1,7 @@
 //! A reader that fails when it is told to.
 
-ghost use Rattle.std.specs.Prelude.{◌≡◌, ◌≤◌, ◌<◌, ◌+◌, ◌-◌, ◌^◌, [], true, Some, IfOk, OnErr};
+ghost use Rattle.std.specs.Prelude.{◌≡◌, ◌≤◌, ◌<◌, ◌+◌, ◌-◌, ◌^◌, [], true, Some, IfOk, IsErr, OnErr};
+ghost use Rattle.std.specs.Prelude.{length};
 ghost use Rattle.std.specs.Io.{ReadsAtMost};
 ghost use Rattle.std.specs.Io.KnownBytes.{ReadConsumes};
 ghost use Rattle.pysource.specs.Bytes.{read_failures};
@@ -66,6 +67,9 @@ impl ByteIn for FakeReader<'_> {
         ensures able { OnErr result (self.old.fails ≡ true) }
         ensures most { IfOk result (λ count. count ≤ self.old.most) }
         ensures last { OnErr result (self.old.bytes.now ≡ []) }
+        ensures told { self.old.fails ≡ true → self.old.bytes.now ≡ [] → 0 < length buf.new
+            → IsErr result }
+        ensures kept { self.new.most ≡ self.old.most }
     {
         if self.bytes.is_empty() && self.fails && !buf.is_empty() {
             self.failures += 1;

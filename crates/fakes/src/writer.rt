@@ -1,6 +1,6 @@
 //! A writer that fails when it is told to.
 
-ghost use Rattle.std.specs.Prelude.{◌≡◌, ◌≤◌, ◌<◌, ◌+◌, ◌-◌, ◌^◌, [], Some, IfOk};
+ghost use Rattle.std.specs.Prelude.{◌≡◌, ◌≤◌, ◌<◌, ◌+◌, ◌-◌, ◌^◌, [], Some, IfOk, OnErr};
 ghost use Rattle.std.specs.Io.{WritesAtMost};
 ghost use Rattle.std.specs.Io.KnownBytes.{WriteAppends};
 ghost use Rattle.pysource.specs.Bytes.{write_failures};
@@ -63,6 +63,9 @@ impl ByteOut for FakeWriter {
         ensures failed { self.new.failures ≡ self.old.failures + write_failures result buf.now }
         ensures most { IfOk result (λ count. count ≤ self.old.most) }
         ensures room { IfOk result (λ count. count + self.new.room ≡ self.old.room) }
+        ensures err { OnErr result (self.new.room ≡ self.old.room) }
+        ensures kept { self.new.most ≡ self.old.most }
+        ensures way { self.new.takes_none ≡ self.old.takes_none }
     {
         if buf.is_empty() {
             return Ok(0);

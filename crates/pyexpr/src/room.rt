@@ -1,6 +1,6 @@
 //! Lists with room for what they hold.
 
-ghost use Rattle.std.specs.Prelude.{◌≡◌, ◌++◌, ◌∷◌, [], MatchResult, map, option_map};
+ghost use Rattle.std.specs.Prelude.{◌≡◌, ◌++◌, ◌∷◌, [], MatchResult, OnErr, map, option_map};
 ghost use Rattle.std.specs.Str.{chars};
 ghost use Rattle.unicode_normalization.specs.Forms.{nfkc};
 ghost use Rattle.pynode.specs.TreeOf.{boxed_of, keyword_of, option_of, tree_of};
@@ -16,8 +16,9 @@ use std::alloc::Global;
 /// Answers `Stop::Memory` where there was no memory.
 #[inline(always)]
 pub fn append<T: Drop>(items: &mut Vec<T>, item: T) -> Result<(), Stop>
-    ensures { MatchResult result (λ _. items.new.items ≡ items.old.items ++ (item ∷ []))
+    ensures put { MatchResult result (λ _. items.new.items ≡ items.old.items ++ (item ∷ []))
         (λ s. s ≡ Stop.Memory) }
+    ensures kept { OnErr result (items.new.items ≡ items.old.items) }
 {
     if items.is_empty() {
         items.reserve_exact(1)?;
