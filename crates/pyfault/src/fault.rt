@@ -1,5 +1,5 @@
 //! The faults that the program tells: their texts, their statuses and their lines.
-ghost use Rattle.std.specs.Prelude.{◌≡◌, ◌<◌, ◌-◌, ◌^◌, IfOk, string_bytes, Some};
+ghost use Rattle.std.specs.Prelude.{◌≡◌, ◌<◌, ◌≤◌, ◌+◌, ◌-◌, ◌^◌, IfOk, string_bytes, Some};
 ghost use Rattle.pyparse.specs.Modules.{code_of};
 ghost use Rattle.pyfault.specs.declared.fault.Fault.{Fault};
 ghost use Rattle.pyfault.specs.declared.fault.FaultCode.{FaultCode};
@@ -340,8 +340,9 @@ fn source_line(
 /// Writes the line of a fault without a place. It takes no memory.
 fn tell_plain<F: ByteOut>(code: RunFaultCode, faults: &mut F) -> Result<(), WriteFailed>
     requires { F.failure_count faults.old < 2 ^ 64 - 1 }
-    ensures { Tells (F.taken faults.old) (F.taken faults.new) (F.failure_count faults.old)
+    ensures told { Tells (F.taken faults.old) (F.taken faults.new) (F.failure_count faults.old)
         (F.failure_count faults.new) (plain_line (text_of (FaultCode.Run code))) }
+    ensures once { F.failure_count faults.new ≤ F.failure_count faults.old + 1 }
 {
     write_all(faults, b"pyast: ")?;
     write_all(faults, fault_text(FaultCode::Run(code)).as_bytes())?;
@@ -357,6 +358,7 @@ pub fn tell<F: ByteOut>(alloc: Global, name: &str, fault: Fault, faults: &mut F)
     requires { F.failure_count faults.old < 2 ^ 64 - 1 }
     ensures told { Tells (F.taken faults.old) (F.taken faults.new) (F.failure_count faults.old)
         (F.failure_count faults.new) (fault_line name.now result) }
+    ensures once { F.failure_count faults.new ≤ F.failure_count faults.old + 1 }
     ensures same { IsToldAs fault result }
 {
     let told = match fault {

@@ -7,12 +7,12 @@ use Rattle.pyfault.specs.declared.fault.FaultCode.TheVariants.{Run}
 use Rattle.pyfault.proofs.TellLemmas.{tells_cut, tells_last}
 use Rattle.pyfault.proofs.fault.tell_plain.Goals as goal
 
-pub returns-in_err-write_all : goal.returns-in_err-write_all
-returns-in_err-write_all g c =
+pub returns-in_err-write_all-clause-told : goal.returns-in_err-write_all-clause-told
+returns-in_err-write_all-clause-told g c =
     tells_cut _ _ _ _ _ [] (codes "pyast: ") (text_of (Run c.args.code) ++ codes "\n") _ refl (Appends-refl _) c.in_err-write_all.ensures.front c.in_err-write_all.ensures.failed
 
-pub returns-in_err-write_all-2 : goal.returns-in_err-write_all-2
-returns-in_err-write_all-2 g c =
+pub returns-in_err-write_all-2-clause-told : goal.returns-in_err-write_all-2-clause-told
+returns-in_err-write_all-2-clause-told g c =
     let first : Appends (g.F.ByteOut.taken c.args.faults.now) (g.F.ByteOut.taken c.write_all.new.writer) (codes "pyast: ") = c.in_ok-write_all.ensures.ok in
     let cut : TakesFront (g.F.ByteOut.taken c.write_all.new.writer) (g.F.ByteOut.taken c.write_all-2.new.writer) (text_of (Run c.args.code)) =
     rw (← c.fault_text.ensures, ← c.as_bytes.ensures.value) c.in_err-write_all-2.ensures.front in
@@ -20,8 +20,8 @@ returns-in_err-write_all-2 g c =
     omega (arith, c.in_ok-write_all.ensures.unfailed, c.in_err-write_all-2.ensures.failed) in
     tells_cut _ _ _ _ _ (codes "pyast: ") (text_of (Run c.args.code)) (codes "\n") _ refl first cut failed
 
-pub returns : goal.returns
-returns g c =
+pub returns-clause-told : goal.returns-clause-told
+returns-clause-told g c =
     let first : Appends (g.F.ByteOut.taken c.args.faults.now) (g.F.ByteOut.taken c.write_all.new.writer) (codes "pyast: ") = c.in_ok-write_all.ensures.ok in
     let second : Appends (g.F.ByteOut.taken c.write_all.new.writer) (g.F.ByteOut.taken c.write_all-2.new.writer) (text_of (Run c.args.code)) =
     rw (← c.fault_text.ensures, ← c.as_bytes.ensures.value) c.in_ok-write_all-2.ensures.ok in
