@@ -46,11 +46,8 @@ impl<'a> FakeReader<'a> {
 }
 
 impl ByteIn for FakeReader<'_> {
-    ghost to_come = { λ r. Some r.bytes.now };
-
-    ghost failure_count = { λ r. r.failures };
-
-    ghost may_fail = { λ r. r.fails };
+    ghost seen = { λ r. record
+        { to_come = Some r.bytes.now; failures = r.failures; may_fail = r.fails } };
 
     fn failures(&self) -> u64 {
         self.failures

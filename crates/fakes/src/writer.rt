@@ -46,9 +46,7 @@ impl FakeWriter {
 }
 
 impl ByteOut for FakeWriter {
-    ghost taken = { λ w. Some w.taken.items };
-
-    ghost failure_count = { λ w. w.failures };
+    ghost sent = { λ w. record { taken = Some w.taken.items; failures = w.failures } };
 
     fn failures(&self) -> u64 {
         self.failures

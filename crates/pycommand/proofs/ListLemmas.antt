@@ -4,11 +4,11 @@
 use Rattle.std.proofs.Common.{◌≡◌, ◌≢◌, ℕ, ◌+◌, ◌-◌, ◌<◌, ◌≤◌, Bool, List, [], ◌++◌, slice_get, refl, sym, ap, subst, ◌∙◌, Option, Some, None, Result, Ok, append_assoc, option_map, arith}
 use Rattle.std.specs.declared.alloc.AllocError.{AllocError}
 use Rattle.std.specs.Io.KnownBytes.{Appends}
+use Rattle.pysource.specs.Bytes.{Seen}
 use Rattle.pysource.specs.Parts.{Parts}
 use Rattle.pysource.specs.Streams.{Reads}
 use Rattle.pysource.specs.Limits.{source_limit}
-use Rattle.pysource.proofs.TakenBytes.ByteLemmas.{Appends-refl}
-use Rattle.pysource.proofs.TakenBytes.TakingLemmas.{Takes-none, Takes-on}
+use Rattle.pysource.proofs.Callers.Taken.{Appends-refl, Takes-none, Takes-on}
 use Rattle.pylex.specs.declared.entries.Entry.{Entry}
 use Rattle.pylex.specs.declared.entries.ListingFault.{ListingFault}
 use Rattle.pylex.specs.declared.entries.Step.{Step}
@@ -37,26 +37,26 @@ pub record Stood (v : Streamed) (p : Parts) (k : ℕ) (more : List ℕ) (broken 
   pub told : fault_from p count k ≡ fault_from p left v.shown.given
 
 -- from a lister to another, past bytes that were taken
-pub record Came (come_old come_new : Option (List ℕ)) (told_old told_new : ℕ) (old new : Streamed) (exact : Bool) (count left : Option ℕ) (x y : Option (List ℕ)) (held : List ℕ) : Type 0 where
+pub record Came (seen_old seen_new : Seen) (old new : Streamed) (exact : Bool) (count left : Option ℕ) (x y : Option (List ℕ)) (held : List ℕ) : Type 0 where
   pub taken : List ℕ
-  pub reads : Reads come_old come_new told_old told_new old.lines new.lines taken
+  pub reads : Reads seen_old seen_new old.lines new.lines taken
   pub follows : (more : List ℕ) (broken : Bool) → Continues new.lines more broken → Continues old.lines (taken ++ more) broken
   pub stood : (p : Parts) (more : List ℕ) (broken : Bool) → Continues new.lines more broken → StreamsIn old p old.shown.given (taken ++ more) broken
       → Stood new p old.shown.given more broken exact count left x y held
 
 -- nothing is done yet
-pub came_none : (come : Option (List ℕ)) (told : ℕ) (v : Streamed) (exact : Bool) (count : Option ℕ) (x : Option (List ℕ)) (held : List ℕ) → held ≡ [] → Came come come told told v v exact count count x x held
-came_none come told v exact count x held none = record {
+pub came_none : (seen : Seen) (v : Streamed) (exact : Bool) (count : Option ℕ) (x : Option (List ℕ)) (held : List ℕ) → held ≡ [] → Came seen seen v v exact count count x x held
+came_none seen v exact count x held none = record {
   taken = [];
-  reads = Takes-none come told v.lines.count v.lines.reach;
+  reads = Takes-none seen v.lines.count v.lines.reach;
   follows = λ more broken f. f;
   stood = λ p more broken f s. record { stands = s; holds = rw none ([], refl, Appends-refl x); told = refl };
 }
 
 -- what was held is written
-pub came_written : (come_old come_new : Option (List ℕ)) (told_old told_new : ℕ) (old new : Streamed) (exact : Bool) (count left : Option ℕ) (x y z : Option (List ℕ)) (held : List ℕ)
-    → Came come_old come_new told_old told_new old new exact count left x y held → Appends y z held → Came come_old come_new told_old told_new old new exact count left x z []
-came_written come_old come_new told_old told_new old new exact count left x y z held c w = record {
+pub came_written : (seen_old seen_new : Seen) (old new : Streamed) (exact : Bool) (count left : Option ℕ) (x y z : Option (List ℕ)) (held : List ℕ)
+    → Came seen_old seen_new old new exact count left x y held → Appends y z held → Came seen_old seen_new old new exact count left x z []
+came_written seen_old seen_new old new exact count left x y z held c w = record {
   taken = c.taken;
   reads = c.reads;
   follows = c.follows;
@@ -64,11 +64,11 @@ came_written come_old come_new told_old told_new old new exact count left x y z 
 }
 
 -- what was done so far was done with each source
-pub goes_here : (come_old come_new : Option (List ℕ)) (told_old told_new : ℕ) (old new : Streamed) (exact : Bool) (count left : Option ℕ) (x y : Option (List ℕ)) (held : List ℕ) (done : List ℕ → Option Fault → Type 0)
-    → Came come_old come_new told_old told_new old new exact count left x y held
+pub goes_here : (seen_old seen_new : Seen) (old new : Streamed) (exact : Bool) (count left : Option ℕ) (x y : Option (List ℕ)) (held : List ℕ) (done : List ℕ → Option Fault → Type 0)
+    → Came seen_old seen_new old new exact count left x y held
     → ((p : Parts) (more : List ℕ) (broken : Bool) → Stood new p old.shown.given more broken exact count left x y held → done (output_from exact p count old.shown.given) (fault_from p count old.shown.given))
-    → Goes come_old come_new told_old told_new old exact count done
-goes_here come_old come_new told_old told_new old new exact count left x y held done c does = record {
+    → Goes seen_old seen_new old exact count done
+goes_here seen_old seen_new old new exact count left x y held done c does = record {
   new = new.lines;
   taken = c.taken;
   reads = c.reads;
@@ -77,26 +77,26 @@ goes_here come_old come_new told_old told_new old new exact count left x y held 
 }
 
 -- and so with what a step on takes
-pub goes_on : (come_old come_mid come_new : Option (List ℕ)) (told_old told_mid told_new : ℕ) (old mid new : Streamed) (result : Result Step AllocError) (exact : Bool) (count left : Option ℕ) (x y : Option (List ℕ)) (held : List ℕ)
-    (done : List ℕ → Option Fault → Type 0) → Came come_old come_mid told_old told_mid old mid exact count left x y held → (s : Next come_mid come_new told_mid told_new mid new result)
+pub goes_on : (seen_old seen_mid seen_new : Seen) (old mid new : Streamed) (result : Result Step AllocError) (exact : Bool) (count left : Option ℕ) (x y : Option (List ℕ)) (held : List ℕ)
+    (done : List ℕ → Option Fault → Type 0) → Came seen_old seen_mid old mid exact count left x y held → (s : Next seen_mid seen_new mid new result)
     → ((p : Parts) (more : List ℕ) (broken : Bool) → Continues new.lines more broken → Stood mid p old.shown.given (s.taken ++ more) broken exact count left x y held → done (output_from exact p count old.shown.given) (fault_from p count old.shown.given))
-    → Goes come_old come_new told_old told_new old exact count done
-goes_on come_old come_mid come_new told_old told_mid told_new old mid new result exact count left x y held done c s does = record {
+    → Goes seen_old seen_new old exact count done
+goes_on seen_old seen_mid seen_new old mid new result exact count left x y held done c s does = record {
   new = new.lines;
   taken = c.taken ++ s.taken;
-  reads = Takes-on come_old come_mid come_new told_old told_mid told_new _ _ _ old.lines.reach mid.lines.reach new.lines.reach c.taken s.taken c.reads s.reads;
+  reads = Takes-on seen_old seen_mid seen_new _ _ _ old.lines.reach mid.lines.reach new.lines.reach c.taken s.taken c.reads s.reads;
   follows = λ more broken f. rw append_assoc (c.follows (s.taken ++ more) broken (s.follows more broken f));
   holds = λ p more broken f t. does p more broken f (c.stood p (s.taken ++ more) broken (s.follows more broken f) (rw append_assoc at t));
 }
 
 -- an entry's line is held, and the lister stands behind it
-pub came_next : (come_old come_mid come_new : Option (List ℕ)) (told_old told_mid told_new : ℕ) (old mid new : Streamed) (step : Step) (e : Entry) (exact : Bool) (count left : Option ℕ) (x y : Option (List ℕ)) (before text held : List ℕ)
-    → Came come_old come_mid told_old told_mid old mid exact count left x y before → Next come_mid come_new told_mid told_new mid new (Ok step) → step ≡ steps.Entry e → left ≢ Some 0
+pub came_next : (seen_old seen_mid seen_new : Seen) (old mid new : Streamed) (step : Step) (e : Entry) (exact : Bool) (count left : Option ℕ) (x y : Option (List ℕ)) (before text held : List ℕ)
+    → Came seen_old seen_mid old mid exact count left x y before → Next seen_mid seen_new mid new (Ok step) → step ≡ steps.Entry e → left ≢ Some 0
     → ((p : Parts) (k : ℕ) (more : List ℕ) (broken : Bool) → StreamsIn new p k more broken → text ≡ text_of p e) → held ≡ before ++ listing_line exact e text
-    → Came come_old come_new told_old told_new old new exact count (left_behind left e.kind) x y held
-came_next come_old come_mid come_new told_old told_mid told_new old mid new step e exact count left x y before text held c s is n shown held_is = record {
+    → Came seen_old seen_new old new exact count (left_behind left e.kind) x y held
+came_next seen_old seen_mid seen_new old mid new step e exact count left x y before text held c s is n shown held_is = record {
   taken = c.taken ++ s.taken;
-  reads = Takes-on come_old come_mid come_new told_old told_mid told_new _ _ _ old.lines.reach mid.lines.reach new.lines.reach c.taken s.taken c.reads s.reads;
+  reads = Takes-on seen_old seen_mid seen_new _ _ _ old.lines.reach mid.lines.reach new.lines.reach c.taken s.taken c.reads s.reads;
   follows = λ more broken f. rw append_assoc (c.follows (s.taken ++ more) broken (s.follows more broken f));
   stood = λ p more broken f t.
       let m = c.stood p (s.taken ++ more) broken (s.follows more broken f) (rw append_assoc at t) in
@@ -115,11 +115,11 @@ came_next come_old come_mid come_new told_old told_mid told_new old mid new step
     moved p k more broken f t = rw is at s.moves p k more broken f t
 
 -- a further entry is one more of those that a listing can have
-pub counts_up : (come_old come_mid come_new : Option (List ℕ)) (told_old told_mid told_new : ℕ) (old mid new : Streamed) (step : Step) (e : Entry) (exact : Bool) (count left : Option ℕ) (x y : Option (List ℕ)) (held : List ℕ)
+pub counts_up : (seen_old seen_mid seen_new : Seen) (old mid new : Streamed) (step : Step) (e : Entry) (exact : Bool) (count left : Option ℕ) (x y : Option (List ℕ)) (held : List ℕ)
     → old.lines.count ≤ source_limit → ((more : List ℕ) (broken : Bool) → Continues old.lines more broken → (p : Parts) × StreamsIn old p old.shown.given more broken)
-    → Came come_old come_mid told_old told_mid old mid exact count left x y held → Next come_mid come_new told_mid told_new mid new (Ok step) → step ≡ steps.Entry e → new.shown.given ≤ most_entries
+    → Came seen_old seen_mid old mid exact count left x y held → Next seen_mid seen_new mid new (Ok step) → step ≡ steps.Entry e → new.shown.given ≤ most_entries
     → most_entries - new.shown.given < most_entries - mid.shown.given
-counts_up come_old come_mid come_new told_old told_mid told_new old mid new step e exact count left x y held limited somewhere c s is bound =
+counts_up seen_old seen_mid seen_new old mid new step e exact count left x y held limited somewhere c s is bound =
     let broken = is_broken new.lines.reach in
     let after = continues_none new.lines (s.reads.within (c.reads.within limited)) in
     let before = s.follows [] broken after in
@@ -130,10 +130,10 @@ counts_up come_old come_mid come_new told_old told_mid told_new old mid new step
     omega arith
 
 -- which step comes next
-pub next_in : (come_mid come_new : Option (List ℕ)) (told_mid told_new : ℕ) (mid new : Streamed) (step met : Step) (p : Parts) (k : ℕ) (more : List ℕ) (broken exact : Bool) (count left : Option ℕ) (x y : Option (List ℕ)) (held : List ℕ)
-    (s : Next come_mid come_new told_mid told_new mid new (Ok step)) → step ≡ met → Continues new.lines more broken → Stood mid p k (s.taken ++ more) broken exact count left x y held
+pub next_in : (seen_mid seen_new : Seen) (mid new : Streamed) (step met : Step) (p : Parts) (k : ℕ) (more : List ℕ) (broken exact : Bool) (count left : Option ℕ) (x y : Option (List ℕ)) (held : List ℕ)
+    (s : Next seen_mid seen_new mid new (Ok step)) → step ≡ met → Continues new.lines more broken → Stood mid p k (s.taken ++ more) broken exact count left x y held
     → slice_get (listing (in_characters p)) mid.shown.given ≡ Some met
-next_in come_mid come_new told_mid told_new mid new step met p k more broken exact count left x y held s is f m = (rw is at s.moves p mid.shown.given more broken f m.stands).0
+next_in seen_mid seen_new mid new step met p k more broken exact count left x y held s is f m = (rw is at s.moves p mid.shown.given more broken f m.stands).0
 
 -- where there is no memory, what is held is kept
 pub memory_held : (v : Streamed) (p : Parts) (k : ℕ) (more : List ℕ) (broken exact : Bool) (count left : Option ℕ) (x y : Option (List ℕ)) (held : List ℕ)

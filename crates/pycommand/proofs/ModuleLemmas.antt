@@ -5,7 +5,7 @@ use Rattle.std.specs.Prelude.{IsUtf8}
 use Rattle.std.specs.Str.{encode_utf8_all}
 use Rattle.std.specs.Io.KnownBytes.{Appends}
 use Rattle.std.proofs.lemmas.Str.{scalars-chars}
-use Rattle.pysource.specs.Bytes.{TakesFront}
+use Rattle.pysource.specs.Bytes.{Seen, TakesFront}
 use Rattle.pysource.specs.Cookies.{encoding_of, without_mark}
 use Rattle.pysource.specs.Limits.{source_limit}
 use Rattle.pysource.specs.Lines.{lines_of}
@@ -14,8 +14,8 @@ use Rattle.pysource.specs.Parts.{Parts}
 use Rattle.pysource.specs.Sources.{nth_line, parts_under, source_of, source_under, UnlessMemory}
 use Rattle.pysource.specs.declared.encodings.SourceFault.{SourceFault}
 use Rattle.pysource.specs.declared.encodings.SourceFault.TheVariants as source_faults
-use Rattle.pysource.proofs.TakenBytes.ByteLemmas.{Appends-refl}
-use Rattle.pysource.proofs.FaultyLines.GoodLemmas.{good_utf8}
+use Rattle.pysource.proofs.Callers.Taken.{Appends-refl}
+use Rattle.pysource.proofs.Callers.Faults.{good_utf8}
 use Rattle.pylex.specs.Laws.{IsLawful}
 use Rattle.pylex.specs.declared.entries.Entry.{Entry}
 use Rattle.pylex.specs.declared.entries.ListingError.{ListingError}
@@ -157,41 +157,41 @@ gives_back profile bytes p m is lawful accepted =
 -- ---- Of a reader.
 
 -- what a fault of bytes that were read whole is to their reader
-pub reads_none : (profile : Profile) (come_old come_new : Option (List ℕ)) (reads_old reads_new : ℕ) (input : List ℕ) (fault : Fault)
-    → ReadsAll come_old come_new reads_old reads_new source_limit input → Refuses profile input fault → ReadsNone profile come_old come_new reads_old reads_new fault
-reads_none profile come_old come_new reads_old reads_new input (InSource code place) all h = (input, all, h)
-reads_none profile come_old come_new reads_old reads_new input (Plain Memory) all h = all.unfailed
-reads_none profile come_old come_new reads_old reads_new input (Plain other) all h = absurd h
+pub reads_none : (profile : Profile) (seen_old seen_new : Seen) (input : List ℕ) (fault : Fault)
+    → ReadsAll seen_old seen_new source_limit input → Refuses profile input fault → ReadsNone profile seen_old seen_new fault
+reads_none profile seen_old seen_new input (InSource code place) all h = (input, all, h)
+reads_none profile seen_old seen_new input (Plain Memory) all h = all.unfailed
+reads_none profile seen_old seen_new input (Plain other) all h = absurd h
 
 -- where there is no module nothing is written
-pub none_written : (making : Making) (profile : Profile) (output : Module → List ℕ → Type 0) (come_old come_new : Option (List ℕ)) (reads_old reads_new : ℕ) (x : Option (List ℕ)) (fault : Fault)
-    → ReadsNone profile come_old come_new reads_old reads_new fault → PerformsWhole making (Writes profile output) come_old come_new reads_old reads_new x x source_limit (Some fault)
-none_written making profile output come_old come_new reads_old reads_new x (InSource code place) h = (h.0, h.1, of_none h.2, Appends-refl x)
-none_written whole profile output come_old come_new reads_old reads_new x (Plain Memory) h = (h, Appends-refl x)
-none_written in_pieces profile output come_old come_new reads_old reads_new x (Plain Memory) h = (h, inl (Appends-refl x))
-none_written making profile output come_old come_new reads_old reads_new x (Plain Read) h = (h, Appends-refl x)
-none_written making profile output come_old come_new reads_old reads_new x (Plain other) h = absurd h
+pub none_written : (making : Making) (profile : Profile) (output : Module → List ℕ → Type 0) (seen_old seen_new : Seen) (x : Option (List ℕ)) (fault : Fault)
+    → ReadsNone profile seen_old seen_new fault → PerformsWhole making (Writes profile output) seen_old seen_new x x source_limit (Some fault)
+none_written making profile output seen_old seen_new x (InSource code place) h = (h.0, h.1, of_none h.2, Appends-refl x)
+none_written whole profile output seen_old seen_new x (Plain Memory) h = (h, Appends-refl x)
+none_written in_pieces profile output seen_old seen_new x (Plain Memory) h = (h, inl (Appends-refl x))
+none_written making profile output seen_old seen_new x (Plain Read) h = (h, Appends-refl x)
+none_written making profile output seen_old seen_new x (Plain other) h = absurd h
 
 -- where a write fails a front of the output is, and else all of it
-module _ (making : Making) {profile : Profile} {output : Module → List ℕ → Type 0} {come_old come_new : Option (List ℕ)} {reads_old reads_new : ℕ} {m : Module} (x y : Option (List ℕ)) (text : List ℕ) where
-  pub front_written : ReadsModule profile come_old come_new reads_old reads_new m → output m text → TakesFront x y text
-      → PerformsWhole making (Writes profile output) come_old come_new reads_old reads_new x y source_limit (Some (Plain Write))
+module _ (making : Making) {profile : Profile} {output : Module → List ℕ → Type 0} {seen_old seen_new : Seen} {m : Module} (x y : Option (List ℕ)) (text : List ℕ) where
+  pub front_written : ReadsModule profile seen_old seen_new m → output m text → TakesFront x y text
+      → PerformsWhole making (Writes profile output) seen_old seen_new x y source_limit (Some (Plain Write))
   front_written reads is front = (reads.input, text, reads.all, of_module reads.is is, front)
 
-  pub all_written : ReadsModule profile come_old come_new reads_old reads_new m → output m text → Appends x y text
-      → PerformsWhole making (Writes profile output) come_old come_new reads_old reads_new x y source_limit None
+  pub all_written : ReadsModule profile seen_old seen_new m → output m text → Appends x y text
+      → PerformsWhole making (Writes profile output) seen_old seen_new x y source_limit None
   all_written reads is all = (reads.input, text, reads.all, of_module reads.is is, all)
 
 -- where memory ends while the output is made in pieces, a front of it is written
-pub pieces_cut : (profile : Profile) (output : Module → List ℕ → Type 0) (come_old come_new : Option (List ℕ)) (reads_old reads_new : ℕ) (m : Module) (x y : Option (List ℕ)) (text : List ℕ) (fault : Fault)
-    → ReadsModule profile come_old come_new reads_old reads_new m → output m text → WritesFor text None x y (Some fault)
-    → PerformsWhole in_pieces (Writes profile output) come_old come_new reads_old reads_new x y source_limit (Some fault)
-pieces_cut profile output come_old come_new reads_old reads_new m x y text (InSource code place) reads is h = cc
-pieces_cut profile output come_old come_new reads_old reads_new m x y text (Plain Read) reads is h = cc
-pieces_cut profile output come_old come_new reads_old reads_new m x y text (Plain Write) reads is h = (reads.input, text, reads.all, of_module reads.is is, h)
-pieces_cut profile output come_old come_new reads_old reads_new m x y text (Plain Memory) reads is h = (reads.all.unfailed, inr (reads.input, text, reads.all, of_module reads.is is, h))
-pieces_cut profile output come_old come_new reads_old reads_new m x y text (Plain CursorOfAnotherSource) reads is h = cc
-pieces_cut profile output come_old come_new reads_old reads_new m x y text (Plain other) reads is h = absurd h
+pub pieces_cut : (profile : Profile) (output : Module → List ℕ → Type 0) (seen_old seen_new : Seen) (m : Module) (x y : Option (List ℕ)) (text : List ℕ) (fault : Fault)
+    → ReadsModule profile seen_old seen_new m → output m text → WritesFor text None x y (Some fault)
+    → PerformsWhole in_pieces (Writes profile output) seen_old seen_new x y source_limit (Some fault)
+pieces_cut profile output seen_old seen_new m x y text (InSource code place) reads is h = cc
+pieces_cut profile output seen_old seen_new m x y text (Plain Read) reads is h = cc
+pieces_cut profile output seen_old seen_new m x y text (Plain Write) reads is h = (reads.input, text, reads.all, of_module reads.is is, h)
+pieces_cut profile output seen_old seen_new m x y text (Plain Memory) reads is h = (reads.all.unfailed, inr (reads.input, text, reads.all, of_module reads.is is, h))
+pieces_cut profile output seen_old seen_new m x y text (Plain CursorOfAnotherSource) reads is h = cc
+pieces_cut profile output seen_old seen_new m x y text (Plain other) reads is h = absurd h
 
 -- the text of a module that its own text gives back
 pub is_text : {profile : Profile} {m : Module} {text : List ℕ} → text ≡ encode_utf8_all (module_text m) → GivesBack profile (encode_utf8_all (module_text m)) m → IsTextOf profile m text

@@ -3,7 +3,7 @@
 use Rattle.std.proofs.Common.{◌≡◌, ℕ, List, [], ◌++◌, Option, refl, ap, sym, ◌∙◌, append_assoc, append-nil}
 use Rattle.std.specs.List.{concat}
 use Rattle.pysource.specs.Bytes.{TakesFront}
-use Rattle.pysource.proofs.TakenBytes.ByteLemmas.{Appends-refl}
+use Rattle.pysource.proofs.Callers.Taken.{Appends-refl}
 use Rattle.pycommand.specs.Runs.{TakesAllBut}
 
 -- before the first piece

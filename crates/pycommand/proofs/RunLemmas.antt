@@ -4,8 +4,8 @@
 use Rattle.std.proofs.Common.{true, Bool, ◌≡◌, ◌≢◌, ◌++◌, ℕ, List, [], false, Option, None, Some, Ok, Err, Result, refl, sym, ap, inl, inr, ◌∙◌, append_assoc, append-nil}
 use Rattle.std.specs.Prelude.{OnOk, OnErr, is_err}
 use Rattle.std.specs.Io.KnownBytes.{Appends}
-use Rattle.pysource.specs.Bytes.{TakesFront}
-use Rattle.pysource.proofs.TakenBytes.ByteLemmas.{Appends-append, TakesFront-after}
+use Rattle.pysource.specs.Bytes.{Seen, TakesFront}
+use Rattle.pysource.proofs.Callers.Taken.{Appends-append, TakesFront-after}
 use Rattle.pylex.specs.declared.entries.ListingFault.{ListingFault}
 use Rattle.pyfault.specs.Faults.{listing_code, told_at, of_listing, IsToldAs}
 use Rattle.pywords.specs.declared.command.Command.{Command}
@@ -96,10 +96,10 @@ WritesFor-front output told x y (Some (Plain CursorOfAnotherSource)) p = (output
 WritesFor-front output told x y (Some (Plain other)) p = absurd p
 
 -- A run whose fault was told as another ended by that one.
-Performs-told : (output : Bool → List ℕ → List ℕ) (told : Bool → List ℕ → Option Fault) (come_old come_new : Option (List ℕ)) (reads_old reads_new : ℕ) (x y : Option (List ℕ)) (limit : ℕ) (fault other : Fault)
-    → IsToldAs fault other → Performs output told come_old come_new reads_old reads_new x y limit (Some fault) → Performs output told come_old come_new reads_old reads_new x y limit (Some other)
-Performs-told output told come_old come_new reads_old reads_new x y limit (Plain code) other is p = rw is p
-Performs-told output told come_old come_new reads_old reads_new x y limit (InSource code place) other is p = elim is [
+Performs-told : (output : Bool → List ℕ → List ℕ) (told : Bool → List ℕ → Option Fault) (seen_old seen_new : Seen) (x y : Option (List ℕ)) (limit : ℕ) (fault other : Fault)
+    → IsToldAs fault other → Performs output told seen_old seen_new x y limit (Some fault) → Performs output told seen_old seen_new x y limit (Some other)
+Performs-told output told seen_old seen_new x y limit (Plain code) other is p = rw is p
+Performs-told output told seen_old seen_new x y limit (InSource code place) other is p = elim is [
   | inl e ↦ rw e p
   | inr e ↦ rw e (record {
     input = p.input;
@@ -112,23 +112,23 @@ Performs-told output told come_old come_new reads_old reads_new x y limit (InSou
   })
 ]
 
-PerformsWhole-told : (making : Making) (does : List ℕ → List ℕ → Option Fault → Type 0) (come_old come_new : Option (List ℕ)) (reads_old reads_new : ℕ) (x y : Option (List ℕ)) (limit : ℕ) (fault other : Fault)
-    → IsToldAs fault other → PerformsWhole making does come_old come_new reads_old reads_new x y limit (Some fault) → PerformsWhole making does come_old come_new reads_old reads_new x y limit (Some other)
-PerformsWhole-told making does come_old come_new reads_old reads_new x y limit (Plain code) other is p = rw is p
-PerformsWhole-told whole does come_old come_new reads_old reads_new x y limit (InSource code place) other is p = elim is [
+PerformsWhole-told : (making : Making) (does : List ℕ → List ℕ → Option Fault → Type 0) (seen_old seen_new : Seen) (x y : Option (List ℕ)) (limit : ℕ) (fault other : Fault)
+    → IsToldAs fault other → PerformsWhole making does seen_old seen_new x y limit (Some fault) → PerformsWhole making does seen_old seen_new x y limit (Some other)
+PerformsWhole-told making does seen_old seen_new x y limit (Plain code) other is p = rw is p
+PerformsWhole-told whole does seen_old seen_new x y limit (InSource code place) other is p = elim is [
   | inl e ↦ rw e p
   | inr e ↦ rw e (p.1.unfailed, p.3)
 ]
-PerformsWhole-told in_pieces does come_old come_new reads_old reads_new x y limit (InSource code place) other is p = elim is [
+PerformsWhole-told in_pieces does seen_old seen_new x y limit (InSource code place) other is p = elim is [
   | inl e ↦ rw e p
   | inr e ↦ rw e (p.1.unfailed, inl p.3)
 ]
 
-pub Does-told : (command : Command) (come_old come_new : Option (List ℕ)) (reads_old reads_new : ℕ) (x y : Option (List ℕ)) (limit : ℕ) (fault other : Fault)
-    → IsToldAs fault other → Does command come_old come_new reads_old reads_new x y limit (Some fault) → Does command come_old come_new reads_old reads_new x y limit (Some other)
-Does-told (Tokens asked) come_old come_new reads_old reads_new x y limit fault other is p = Performs-told (output_of asked) (fault_in asked) come_old come_new reads_old reads_new x y limit fault other is p
-Does-told (Dump asked) come_old come_new reads_old reads_new x y limit fault other is p = PerformsWhole-told in_pieces (Dumps asked.style) come_old come_new reads_old reads_new x y limit fault other is p
-Does-told (Unparse asked) come_old come_new reads_old reads_new x y limit fault other is p = PerformsWhole-told whole (Unparses asked.profile) come_old come_new reads_old reads_new x y limit fault other is p
+pub Does-told : (command : Command) (seen_old seen_new : Seen) (x y : Option (List ℕ)) (limit : ℕ) (fault other : Fault)
+    → IsToldAs fault other → Does command seen_old seen_new x y limit (Some fault) → Does command seen_old seen_new x y limit (Some other)
+Does-told (Tokens asked) seen_old seen_new x y limit fault other is p = Performs-told (output_of asked) (fault_in asked) seen_old seen_new x y limit fault other is p
+Does-told (Dump asked) seen_old seen_new x y limit fault other is p = PerformsWhole-told in_pieces (Dumps asked.style) seen_old seen_new x y limit fault other is p
+Does-told (Unparse asked) seen_old seen_new x y limit fault other is p = PerformsWhole-told whole (Unparses asked.profile) seen_old seen_new x y limit fault other is p
 
 -- a fault without a place is told as itself, and only as that
 pub told-plain : (fault told : Fault) (code : RunFaultCode) → code ≢ Memory → IsToldAs fault told → (told ≡ Plain code → fault ≡ Plain code) × (fault ≡ Plain code → told ≡ Plain code)

@@ -5,7 +5,7 @@ use Rattle.std.proofs.Common.{◌≡◌, ℕ, Bool, true, false, ◌&&◌, List,
 use Rattle.std.specs.Prelude.{nat_lt}
 use Rattle.std.proofs.lemmas.Bool.Decides.{nat_tests}
 use Rattle.pysource.specs.Parts.{Parts}
-use Rattle.pysource.specs.Bytes.{TakesFront}
+use Rattle.pysource.specs.Bytes.{Seen, TakesFront}
 use Rattle.pysource.specs.Streams.{stream_of, Refuses}
 use Rattle.pysource.specs.Taking.{Takes}
 use Rattle.pysource.specs.Limits.{source_limit}
@@ -14,8 +14,7 @@ use Rattle.pysource.specs.declared.line_reader.Reach.{Reach}
 use Rattle.pysource.specs.declared.line_reader.Reach.TheVariants as reach
 use Rattle.pysource.specs.declared.line_reader.StreamFault.{StreamFault}
 use Rattle.pysource.specs.declared.line_reader.StreamFault.TheVariants as stream_faults
-use Rattle.pysource.proofs.TakenBytes.ByteLemmas.{Appends-refl}
-use Rattle.pysource.proofs.TakenBytes.TakingLemmas.{Takes-on}
+use Rattle.pysource.proofs.Callers.Taken.{Appends-refl, Takes-on}
 use Rattle.pylex.specs.declared.entries.ListingError.{ListingError}
 use Rattle.pylex.specs.declared.entries.ListingError.TheVariants as errors
 use Rattle.pylex.specs.declared.entries.ListingFault.{ListingFault}
@@ -38,9 +37,9 @@ use Rattle.pycommand.proofs.TakenLemmas.{performs}
 use Rattle.pycommand.proofs.UnreadLemmas.{quiet}
 
 -- a lister that has begun
-pub starts : (come new : Option (List ℕ)) (told_old told_new : ℕ) (resume : Option CursorParts) (v : Streamed) (k : ℕ) → Begins come new told_old told_new v k → v.shown.given ≡ k
-    → ((p : Parts) (more : List ℕ) (broken : Bool) → StreamsIn v p k more broken → start_in resume (in_characters p) ≡ Some k) → Starts come new told_old told_new resume v
-starts come new told_old told_new resume v k b given start = record {
+pub starts : (seen_old seen_new : Seen) (resume : Option CursorParts) (v : Streamed) (k : ℕ) → Begins seen_old seen_new v k → v.shown.given ≡ k
+    → ((p : Parts) (more : List ℕ) (broken : Bool) → StreamsIn v p k more broken → start_in resume (in_characters p) ≡ Some k) → Starts seen_old seen_new resume v
+starts seen_old seen_new resume v k b given start = record {
   all = b.taken;
   took = b.reads;
   stands = λ more broken f.
@@ -49,8 +48,8 @@ starts come new told_old told_new resume v k b given start = record {
 }
 
 -- behind a cursor
-pub starts_at : (come new : Option (List ℕ)) (told_old told_new : ℕ) (c : CursorParts) (v : Streamed) → Begins come new told_old told_new v c.given → v.shown ≡ c → Starts come new told_old told_new (Some c) v
-starts_at come new told_old told_new c v b shown = starts come new told_old told_new (Some c) v c.given b (ap (λ d. d.given) shown) (λ p more broken s. starts_behind c (in_characters p) (subst (λ d. IsCursorOf d (in_characters p)) shown s.stands.cursor))
+pub starts_at : (seen_old seen_new : Seen) (c : CursorParts) (v : Streamed) → Begins seen_old seen_new v c.given → v.shown ≡ c → Starts seen_old seen_new (Some c) v
+starts_at seen_old seen_new c v b shown = starts seen_old seen_new (Some c) v c.given b (ap (λ d. d.given) shown) (λ p more broken s. starts_behind c (in_characters p) (subst (λ d. IsCursorOf d (in_characters p)) shown s.stands.cursor))
 
 -- the output and the fault of what a reader gives
 abbrev pub output_by : Bool → Option ℕ → Option CursorParts → Bool → List ℕ → List ℕ
@@ -63,21 +62,21 @@ fault_by count resume broken input = tokens_fault count resume (stream_of broken
 front_of : (output : List ℕ) (x : Option (List ℕ)) → TakesFront x x output
 front_of output x = ([], output, refl, Appends-refl x)
 
-unread : (exact : Bool) (count : Option ℕ) (resume : Option CursorParts) (come new : Option (List ℕ)) (told_old told_new : ℕ) (x : Option (List ℕ)) (r : Reach) (n : ℕ) (taken : List ℕ)
-    → Takes come new told_old told_new reach.Reading r 0 n taken → Performs (output_by exact count resume) (fault_by count resume) come new told_old told_new x x source_limit (Some (Plain Memory))
-unread exact count resume come new told_old told_new x r n taken t =
-    performs _ _ told_old told_new x x n taken _ (quiet count resume) come new r t (λ more broken f w. front_of (output_by exact count resume broken (taken ++ more)) x)
+unread : (exact : Bool) (count : Option ℕ) (resume : Option CursorParts) (seen_old seen_new : Seen) (x : Option (List ℕ)) (r : Reach) (n : ℕ) (taken : List ℕ)
+    → Takes seen_old seen_new reach.Reading r 0 n taken → Performs (output_by exact count resume) (fault_by count resume) seen_old seen_new x x source_limit (Some (Plain Memory))
+unread exact count resume seen_old seen_new x r n taken t =
+    performs _ _ x x n taken _ (quiet count resume) seen_old seen_new r t (λ more broken f w. front_of (output_by exact count resume broken (taken ++ more)) x)
 
 -- what gives no source
-pub refused : (exact : Bool) (count : Option ℕ) (resume : Option CursorParts) (come new : Option (List ℕ)) (told_old told_new : ℕ) (fault : StreamFault) (x : Option (List ℕ)) → Refuses come new told_old told_new fault
-    → Performs (output_by exact count resume) (fault_by count resume) come new told_old told_new x x source_limit (Some (of_stream fault))
-refused exact count resume come new told_old told_new stream_faults.Memory x r = unread exact count resume come new told_old told_new x r.reach _ r.taken r.reads
-refused exact count resume come new told_old told_new stream_faults.Read x r =
-    performs _ _ told_old told_new x x _ r.taken _ (quiet count resume) come new r.reach r.reads (λ more broken f w. rw (r.explains.1 more broken f) (refl, Appends-refl x))
-refused exact count resume come new told_old told_new (stream_faults.UnsupportedEncoding place) x r =
-    performs _ _ told_old told_new x x _ r.taken _ (quiet count resume) come new r.reach r.reads (λ more broken f w. rw (r.explains.1 more broken f) (refl, Appends-refl x))
-refused exact count resume come new told_old told_new (stream_faults.BomConflict place) x r =
-    performs _ _ told_old told_new x x _ r.taken _ (quiet count resume) come new r.reach r.reads (λ more broken f w. rw (r.explains.1 more broken f) (refl, Appends-refl x))
+pub refused : (exact : Bool) (count : Option ℕ) (resume : Option CursorParts) (seen_old seen_new : Seen) (fault : StreamFault) (x : Option (List ℕ)) → Refuses seen_old seen_new fault
+    → Performs (output_by exact count resume) (fault_by count resume) seen_old seen_new x x source_limit (Some (of_stream fault))
+refused exact count resume seen_old seen_new stream_faults.Memory x r = unread exact count resume seen_old seen_new x r.reach _ r.taken r.reads
+refused exact count resume seen_old seen_new stream_faults.Read x r =
+    performs _ _ x x _ r.taken _ (quiet count resume) seen_old seen_new r.reach r.reads (λ more broken f w. rw (r.explains.1 more broken f) (refl, Appends-refl x))
+refused exact count resume seen_old seen_new (stream_faults.UnsupportedEncoding place) x r =
+    performs _ _ x x _ r.taken _ (quiet count resume) seen_old seen_new r.reach r.reads (λ more broken f w. rw (r.explains.1 more broken f) (refl, Appends-refl x))
+refused exact count resume seen_old seen_new (stream_faults.BomConflict place) x r =
+    performs _ _ x x _ r.taken _ (quiet count resume) seen_old seen_new r.reach r.reads (λ more broken f w. rw (r.explains.1 more broken f) (refl, Appends-refl x))
 
 is_unread_is : (e : ListingError) → is_unread_code e ≡ true → e ≡ errors.Line line_errors.Unread
 is_unread_is (errors.Line line_errors.Unread) h = refl
@@ -119,48 +118,48 @@ missed_another c p n = by_test (ends_unread (listing (in_characters p)) && nat_l
     by_test false e = rw e refl
 
 -- a source without the cursor, or that could not be read so far
-misses_by : (exact : Bool) (count : Option ℕ) (come new : Option (List ℕ)) (told_old told_new : ℕ) (c : CursorParts) (x : Option (List ℕ)) → Misses come new told_old told_new c true
-    → Performs (output_by exact count (Some c)) (fault_by count (Some c)) come new told_old told_new x x source_limit (Some (Plain Read))
-misses_by exact count come new told_old told_new c x m =
-    performs _ _ told_old told_new x x _ m.taken _ (quiet count (Some c)) come new m.lines.reach m.reads
+misses_by : (exact : Bool) (count : Option ℕ) (seen_old seen_new : Seen) (c : CursorParts) (x : Option (List ℕ)) → Misses seen_old seen_new c true
+    → Performs (output_by exact count (Some c)) (fault_by count (Some c)) seen_old seen_new x x source_limit (Some (Plain Read))
+misses_by exact count seen_old seen_new c x m =
+    performs _ _ x x _ m.taken _ (quiet count (Some c)) seen_old seen_new m.lines.reach m.reads
     (λ more broken f w. let s = m.misses more broken (f, w) in rw (s.1, starts_nowhere c (in_characters s.0) s.2, tokens_output, tokens_fault) (ap (λ code. Some (Plain code)) (missed_unread c s.0 (s.3 refl)), Appends-refl x))
 
-misses_stream : (exact : Bool) (count : Option ℕ) (come new : Option (List ℕ)) (told_old told_new : ℕ) (c : CursorParts) (fault : StreamFault) (x : Option (List ℕ))
-    → ResumeRefusal come new told_old told_new c (resumes.Stream fault) → Performs (output_by exact count (Some c)) (fault_by count (Some c)) come new told_old told_new x x source_limit (Some (of_stream fault))
-misses_stream exact count come new told_old told_new c fault x m = elim m [
-  | inl r ↦ refused exact count (Some c) come new told_old told_new fault x r
-  | inr (inl r) ↦ rw r.0 (misses_by exact count come new told_old told_new c x r.1)
-  | inr (inr r) ↦ rw r.0 (unread exact count (Some c) come new told_old told_new x r.1.at _ r.1.taken r.1.reads)
+misses_stream : (exact : Bool) (count : Option ℕ) (seen_old seen_new : Seen) (c : CursorParts) (fault : StreamFault) (x : Option (List ℕ))
+    → ResumeRefusal seen_old seen_new c (resumes.Stream fault) → Performs (output_by exact count (Some c)) (fault_by count (Some c)) seen_old seen_new x x source_limit (Some (of_stream fault))
+misses_stream exact count seen_old seen_new c fault x m = elim m [
+  | inl r ↦ refused exact count (Some c) seen_old seen_new fault x r
+  | inr (inl r) ↦ rw r.0 (misses_by exact count seen_old seen_new c x r.1)
+  | inr (inr r) ↦ rw r.0 (unread exact count (Some c) seen_old seen_new x r.1.at _ r.1.taken r.1.reads)
 ]
 
-misses : (exact : Bool) (count : Option ℕ) (come new : Option (List ℕ)) (told_old told_new : ℕ) (c : CursorParts) (x : Option (List ℕ)) → Misses come new told_old told_new c false
-    → Performs (output_by exact count (Some c)) (fault_by count (Some c)) come new told_old told_new x x source_limit (Some (Plain CursorOfAnotherSource))
-misses exact count come new told_old told_new c x m =
-    performs _ _ told_old told_new x x _ m.taken _ (quiet count (Some c)) come new m.lines.reach m.reads
+misses : (exact : Bool) (count : Option ℕ) (seen_old seen_new : Seen) (c : CursorParts) (x : Option (List ℕ)) → Misses seen_old seen_new c false
+    → Performs (output_by exact count (Some c)) (fault_by count (Some c)) seen_old seen_new x x source_limit (Some (Plain CursorOfAnotherSource))
+misses exact count seen_old seen_new c x m =
+    performs _ _ x x _ m.taken _ (quiet count (Some c)) seen_old seen_new m.lines.reach m.reads
     (λ more broken f w. let s = m.misses more broken (f, w) in rw (s.1, starts_nowhere c (in_characters s.0) s.2, tokens_output, tokens_fault) (ap (λ code. Some (Plain code)) (missed_another c s.0 (s.4 refl)), Appends-refl x))
 
 -- what gives no source with such a cursor
-pub unresumed : (exact : Bool) (count : Option ℕ) (come new : Option (List ℕ)) (told_old told_new : ℕ) (c : CursorParts) (fault : ResumeFault) (x : Option (List ℕ))
-    → ResumeRefusal come new told_old told_new c fault → Performs (output_by exact count (Some c)) (fault_by count (Some c)) come new told_old told_new x x source_limit (Some (of_resume fault))
-unresumed exact count come new told_old told_new c (resumes.Stream fault) x m = misses_stream exact count come new told_old told_new c fault x m
-unresumed exact count come new told_old told_new c resumes.AnotherSource x m = misses exact count come new told_old told_new c x m
+pub unresumed : (exact : Bool) (count : Option ℕ) (seen_old seen_new : Seen) (c : CursorParts) (fault : ResumeFault) (x : Option (List ℕ))
+    → ResumeRefusal seen_old seen_new c fault → Performs (output_by exact count (Some c)) (fault_by count (Some c)) seen_old seen_new x x source_limit (Some (of_resume fault))
+unresumed exact count seen_old seen_new c (resumes.Stream fault) x m = misses_stream exact count seen_old seen_new c fault x m
+unresumed exact count seen_old seen_new c resumes.AnotherSource x m = misses exact count seen_old seen_new c x m
 
 -- where there is no memory behind the start, nothing is written
-pub begun : (exact : Bool) (count : Option ℕ) (resume : Option CursorParts) (come new : Option (List ℕ)) (told_old told_new : ℕ) (x : Option (List ℕ)) (v : Streamed) → Starts come new told_old told_new resume v
-    → Performs (output_by exact count resume) (fault_by count resume) come new told_old told_new x x source_limit (Some (Plain Memory))
-begun exact count resume come new told_old told_new x v s = unread exact count resume come new told_old told_new x v.lines.reach _ s.all s.took
+pub begun : (exact : Bool) (count : Option ℕ) (resume : Option CursorParts) (seen_old seen_new : Seen) (x : Option (List ℕ)) (v : Streamed) → Starts seen_old seen_new resume v
+    → Performs (output_by exact count resume) (fault_by count resume) seen_old seen_new x x source_limit (Some (Plain Memory))
+begun exact count resume seen_old seen_new x v s = unread exact count resume seen_old seen_new x v.lines.reach _ s.all s.took
 
 -- what was taken at the start, and behind it
-all_taken : (come mid new : Option (List ℕ)) (told_old told_mid told_new : ℕ) (resume : Option CursorParts) (exact : Bool) (count : Option ℕ) (v : Streamed) (done : List ℕ → Option Fault → Type 0)
-    → (s : Starts come mid told_old told_mid resume v) → (g : Goes mid new told_mid told_new v exact count done) → TookAll come new told_old told_new g.new (s.all ++ g.taken)
-all_taken come mid new told_old told_mid told_new resume exact count v done s g = Takes-on come mid new told_old told_mid told_new 0 _ _ reach.Reading v.lines.reach g.new.reach s.all g.taken s.took g.reads
+all_taken : (seen_old seen_mid seen_new : Seen) (resume : Option CursorParts) (exact : Bool) (count : Option ℕ) (v : Streamed) (done : List ℕ → Option Fault → Type 0)
+    → (s : Starts seen_old seen_mid resume v) → (g : Goes seen_mid seen_new v exact count done) → TookAll seen_old seen_new g.new (s.all ++ g.taken)
+all_taken seen_old seen_mid seen_new resume exact count v done s g = Takes-on seen_old seen_mid seen_new 0 _ _ reach.Reading v.lines.reach g.new.reach s.all g.taken s.took g.reads
 
 -- what was done behind the start
-pub listed : (exact : Bool) (count : Option ℕ) (resume : Option CursorParts) (come mid new : Option (List ℕ)) (told_old told_mid told_new : ℕ) (x y : Option (List ℕ)) (v : Streamed) (done : List ℕ → Option Fault → Type 0) (ended : Option Fault)
-    → Starts come mid told_old told_mid resume v → Goes mid new told_mid told_new v exact count done → ((output : List ℕ) (told : Option Fault) → done output told → WritesFor output told x y ended)
-    → Performs (output_by exact count resume) (fault_by count resume) come new told_old told_new x y source_limit ended
-listed exact count resume come mid new told_old told_mid told_new x y v done ended s g does =
-    performs _ _ told_old told_new x y _ (s.all ++ g.taken) ended (quiet count resume) come new g.new.reach (all_taken come mid new told_old told_mid told_new resume exact count v done s g)
+pub listed : (exact : Bool) (count : Option ℕ) (resume : Option CursorParts) (seen_old seen_mid seen_new : Seen) (x y : Option (List ℕ)) (v : Streamed) (done : List ℕ → Option Fault → Type 0) (ended : Option Fault)
+    → Starts seen_old seen_mid resume v → Goes seen_mid seen_new v exact count done → ((output : List ℕ) (told : Option Fault) → done output told → WritesFor output told x y ended)
+    → Performs (output_by exact count resume) (fault_by count resume) seen_old seen_new x y source_limit ended
+listed exact count resume seen_old seen_mid seen_new x y v done ended s g does =
+    performs _ _ x y _ (s.all ++ g.taken) ended (quiet count resume) seen_old seen_new g.new.reach (all_taken seen_old seen_mid seen_new resume exact count v done s g)
     (λ more broken f w.
     let p = s.stands (g.taken ++ more) broken (g.follows more broken (f, w)) in
     let is : stream_of broken ((s.all ++ g.taken) ++ more) ≡ Ok p.0 = ap (stream_of broken) (append_assoc s.all g.taken more) ∙ p.1 in

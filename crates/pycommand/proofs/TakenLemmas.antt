@@ -6,6 +6,7 @@ use Rattle.std.specs.Prelude.{IfSome}
 use Rattle.std.specs.Io.KnownBytes.{Consumes, IsAtEnd}
 use Rattle.std.proofs.lemmas.Bool.{cases_lt}
 use Rattle.std.proofs.lemmas.List.{length-take-le, take-append-drop}
+use Rattle.pysource.specs.Bytes.{Seen}
 use Rattle.pysource.specs.Streams.{Buffered, FollowsAt}
 use Rattle.pysource.specs.Taking.{Takes}
 use Rattle.pysource.specs.Limits.{source_limit}
@@ -45,20 +46,21 @@ all_known (Some known) (Some rest) all c e = c ∙ ap (λ r. all ++ r) e ∙ app
 
 -- What was done with each source that what was taken can be the front of, was done with
 -- that which the reader gives.
-module _ (output : Bool → List ℕ → List ℕ) (told : Bool → List ℕ → Option Fault) (told_old told_new : ℕ) (x y : Option (List ℕ)) (n : ℕ) (all : List ℕ) (ended : Option Fault) (quiet : (bytes : List ℕ) → told false bytes ≢ Some (Plain Read)) where
+module _ (output : Bool → List ℕ → List ℕ) (told : Bool → List ℕ → Option Fault) (x y : Option (List ℕ)) (n : ℕ) (all : List ℕ) (ended : Option Fault) (quiet : (bytes : List ℕ) → told false bytes ≢ Some (Plain Read)) where
   -- whatever may follow
   abbrev Does : Reach → Type 0
   Does r = (more : List ℕ) (broken : Bool) → FollowsAt r more broken → n + length more ≤ source_limit → WritesFor (output broken (all ++ more)) (told broken (all ++ more)) x y ended
 
-  abbrev Done : Option (List ℕ) → Option (List ℕ) → Type 0
-  Done come new = Performs output told come new told_old told_new x y source_limit ended
+  abbrev Done : Seen → Seen → Type 0
+  Done seen_old seen_new = Performs output told seen_old seen_new x y source_limit ended
 
   -- no failed read is told of bytes behind which none failed
   unread : (bytes : List ℕ) → WritesFor (output false bytes) (told false bytes) x y ended → ended ≡ Some (Plain Read) → ⊥
   unread bytes w is = quiet bytes (rw is at w).0
 
-  reading : (come new : Option (List ℕ)) → n ≤ source_limit → n ≡ length all → told_new ≡ told_old → Consumes come new all → Does reach.Reading → Done come new
-  reading None new within size same c does = record {
+  reading : (come new : Option (List ℕ)) (failures_old failures_new : ℕ) (may_old may_new : Bool) → n ≤ source_limit → n ≡ length all → failures_new ≡ failures_old → Consumes come new all → Does reach.Reading
+      → Done (record { to_come = come; failures = failures_old; may_fail = may_old }) (record { to_come = new; failures = failures_new; may_fail = may_new })
+  reading None new failures_old failures_new may_old may_new within size same c does = record {
     input = all ++ [];
     broken = false;
     within = rw length-append (omega (arith, size, within));
@@ -67,8 +69,8 @@ module _ (output : Bool → List ℕ → List ℕ) (told : Bool → List ℕ →
     read = λ is. absurd (unread (all ++ []) (does [] false tt (omega arith)) is);
     writes = does [] false tt (omega arith);
   }
-  reading (Some known) None within size same c does = absurd c
-  reading (Some known) (Some rest) within size same c does = elim (cases_lt source_limit (n + length rest)) [
+  reading (Some known) None failures_old failures_new may_old may_new within size same c does = absurd c
+  reading (Some known) (Some rest) failures_old failures_new may_old may_new within size same c does = elim (cases_lt source_limit (n + length rest)) [
     | inl past ↦
         let front = take (source_limit - n) rest in
         let back = drop (source_limit - n) rest in
@@ -97,11 +99,12 @@ module _ (output : Bool → List ℕ → List ℕ) (told : Bool → List ℕ →
     }
   ]
 
-  pub performs : (come new : Option (List ℕ)) (r : Reach) → Takes come new told_old told_new reach.Reading r 0 n all → Does r → Done come new
-  performs come new reach.Reading t does =
+  pub performs : (seen_old seen_new : Seen) (r : Reach) → Takes seen_old seen_new reach.Reading r 0 n all → Does r → Done seen_old seen_new
+  performs seen_old seen_new reach.Reading t does =
       let none : t.lost ≡ [] = none_long t.lost (λ h. absurd (let e = (t.passed h).0 in cc)) in
-      reading come new (t.within (omega arith)) (omega (arith, t.count)) (omega (arith, t.told)) (subst (Consumes come new) (ap (λ l. all ++ l) none ∙ append-nil all) t.consumes) does
-  performs come new reach.End t does =
+      reading seen_old.to_come seen_new.to_come seen_old.failures seen_new.failures seen_old.may_fail seen_new.may_fail (t.within (omega arith)) (omega (arith, t.count)) (omega (arith, t.told))
+      (subst (Consumes seen_old.to_come seen_new.to_come) (ap (λ l. all ++ l) none ∙ append-nil all) t.consumes) does
+  performs seen_old seen_new reach.End t does =
       let none : t.lost ≡ [] = none_long t.lost (λ h. absurd (let e = (t.passed h).0 in cc)) in
       let within = t.within (omega arith) in
       let writes = does [] false (refl, refl) (omega (arith, within)) in
@@ -109,12 +112,12 @@ module _ (output : Bool → List ℕ → List ℕ) (told : Bool → List ℕ →
         input = all ++ [];
         broken = false;
         within = rw length-append (omega (arith, within, t.count));
-        whole = λ e. (all_known come new (all ++ []) (subst (λ l. Consumes come new (all ++ l)) none t.consumes) (t.ended (λ e. cc) refl), omega (arith, t.told));
+        whole = λ e. (all_known seen_old.to_come seen_new.to_come (all ++ []) (subst (λ l. Consumes seen_old.to_come seen_new.to_come (all ++ l)) none t.consumes) (t.ended (λ e. cc) refl), omega (arith, t.told));
         cut = λ e. cc;
         read = λ is. absurd (unread (all ++ []) writes is);
         writes = writes;
       }
-  performs come new reach.Broken t does =
+  performs seen_old seen_new reach.Broken t does =
       let none : t.lost ≡ [] = none_long t.lost (λ h. absurd (let e = (t.passed h).0 in cc)) in
       let within = t.within (omega arith) in
       record {
@@ -122,11 +125,11 @@ module _ (output : Bool → List ℕ → List ℕ) (told : Bool → List ℕ →
         broken = true;
         within = rw length-append (omega (arith, within, t.count));
         whole = λ e. cc;
-        cut = λ e. inl (record { front = subst (λ l. Consumes come new (all ++ l)) none t.consumes; failed = omega (arith, t.told) });
+        cut = λ e. inl (record { front = subst (λ l. Consumes seen_old.to_come seen_new.to_come (all ++ l)) none t.consumes; failed = omega (arith, t.told) });
         read = λ is. inl (omega (arith, t.told));
         writes = does [] true (refl, refl) (omega (arith, within));
       }
-  performs come new reach.Passed t does =
+  performs seen_old seen_new reach.Passed t does =
       let within = t.within (omega arith) in
       let some = t.newly (λ e. cc) refl in
       let full = (t.passed some).1 in

@@ -1,7 +1,7 @@
 -- What a run of the program is, whatever its reader and its writers do.
 use Rattle.std.specs.Prelude.{◌≡◌, ◌≢◌, ◌⊎◌, ◌≤◌, ℕ, ◌+◌, ◌<◌, Bool, true, false, List, [], ◌++◌, length, Option, Some, None, IfSome, Result, Ok, Err}
 use Rattle.std.specs.Io.KnownBytes.{Appends, Consumes, IsAtEnd}
-use Rattle.pysource.specs.Bytes.{TakesFront, GivesTooMany}
+use Rattle.pysource.specs.Bytes.{Seen, Sent, TakesFront, GivesTooMany}
 use Rattle.pyfault.specs.Faults.{status_of, fault_line, Tells}
 use Rattle.pyfault.specs.declared.fault.RunFaultCode.TheVariants.{Read, Write, Memory, CursorOfAnotherSource}
 use Rattle.pyfault.specs.declared.fault.Fault.{Fault}
@@ -36,46 +36,46 @@ ended_by (Ok a) = None
 ended_by (Err fault) = Some fault
 
 -- a read failed behind these bytes
-pub record FailsBehind (come_old come_new : Option (List ℕ)) (reads_old reads_new : ℕ) (input : List ℕ) : Type 0 where
-  pub front : Consumes come_old come_new input
-  pub failed : reads_new ≡ reads_old + 1
+pub record FailsBehind (seen_old seen_new : Seen) (input : List ℕ) : Type 0 where
+  pub front : Consumes seen_old.to_come seen_new.to_come input
+  pub failed : seen_new.failures ≡ seen_old.failures + 1
 
 -- these are as many bytes as a source may have, and the reader gave more, or has more to give
-pub record PassesLimit (come_old come_new : Option (List ℕ)) (reads_old reads_new limit : ℕ) (input : List ℕ) : Type 0 where
+pub record PassesLimit (seen_old seen_new : Seen) (limit : ℕ) (input : List ℕ) : Type 0 where
   pub past : List ℕ
   pub some : 0 < length past
   pub full : length input ≡ limit
-  pub front : Consumes come_old come_new (input ++ past) ⊎ (come_old ≡ Some (input ++ past))
-  pub unfailed : reads_new ≡ reads_old
+  pub front : Consumes seen_old.to_come seen_new.to_come (input ++ past) ⊎ (seen_old.to_come ≡ Some (input ++ past))
+  pub unfailed : seen_new.failures ≡ seen_old.failures
 
 -- A run whose output and fault are known by what it reads (bytes, behind which a read failed or not) did so with what its reader gives:
 -- the bytes up to the end, or those before a failed read or before the one that passes the limit.
 -- A failed read ends a run only where a read failed, or the reader gave more than a source may have.
-pub record Performs (output : Bool → List ℕ → List ℕ) (told : Bool → List ℕ → Option Fault) (come_old come_new : Option (List ℕ)) (reads_old reads_new : ℕ)
+pub record Performs (output : Bool → List ℕ → List ℕ) (told : Bool → List ℕ → Option Fault) (seen_old seen_new : Seen)
     (old new : Option (List ℕ)) (limit : ℕ) (ended : Option Fault) : Type 0 where
   pub input : List ℕ
   pub broken : Bool
   pub within : length input ≤ limit
-  pub whole : broken ≡ false → IfSome come_old (λ known. known ≡ input) × (reads_new ≡ reads_old)
-  pub cut : broken ≡ true → FailsBehind come_old come_new reads_old reads_new input ⊎ PassesLimit come_old come_new reads_old reads_new limit input
-  pub read : ended ≡ Some (Plain Read) → (reads_new ≡ reads_old + 1) ⊎ GivesTooMany come_old come_new limit
+  pub whole : broken ≡ false → IfSome seen_old.to_come (λ known. known ≡ input) × (seen_new.failures ≡ seen_old.failures)
+  pub cut : broken ≡ true → FailsBehind seen_old seen_new input ⊎ PassesLimit seen_old seen_new limit input
+  pub read : ended ≡ Some (Plain Read) → (seen_new.failures ≡ seen_old.failures + 1) ⊎ GivesTooMany seen_old.to_come seen_new.to_come limit
   pub writes : WritesFor (output broken input) (told broken input) old new ended
 
 -- all the bytes of a reader were read, to its end: no read failed, and they are no more than a source may have
-pub record ReadsAll (come_old come_new : Option (List ℕ)) (reads_old reads_new limit : ℕ) (input : List ℕ) : Type 0 where
-  pub all : Consumes come_old come_new input
-  pub ended : IsAtEnd come_new
+pub record ReadsAll (seen_old seen_new : Seen) (limit : ℕ) (input : List ℕ) : Type 0 where
+  pub all : Consumes seen_old.to_come seen_new.to_come input
+  pub ended : IsAtEnd seen_new.to_come
   pub within : length input ≤ limit
-  pub unfailed : reads_new ≡ reads_old
+  pub unfailed : seen_new.failures ≡ seen_old.failures
 
 -- a read failed, or the reader gave more than a source may have
-abbrev pub ReadsNotAll : Option (List ℕ) → Option (List ℕ) → ℕ → ℕ → ℕ → Type 0
-ReadsNotAll come_old come_new reads_old reads_new limit = (reads_new ≢ reads_old) ⊎ GivesTooMany come_old come_new limit
+abbrev pub ReadsNotAll : Seen → Seen → ℕ → Type 0
+ReadsNotAll seen_old seen_new limit = (seen_new.failures ≢ seen_old.failures) ⊎ GivesTooMany seen_old.to_come seen_new.to_come limit
 
 -- a front was written of the output of a source that was read whole and is accepted
-abbrev pub WritesFront : (List ℕ → List ℕ → Option Fault → Type 0) → Option (List ℕ) → Option (List ℕ) → ℕ → ℕ → Option (List ℕ) → Option (List ℕ) → ℕ → Type 0
-WritesFront does come_old come_new reads_old reads_new old new limit =
-    (input output : List ℕ) × ReadsAll come_old come_new reads_old reads_new limit input × does input output None × TakesFront old new output
+abbrev pub WritesFront : (List ℕ → List ℕ → Option Fault → Type 0) → Seen → Seen → Option (List ℕ) → Option (List ℕ) → ℕ → Type 0
+WritesFront does seen_old seen_new old new limit =
+    (input output : List ℕ) × ReadsAll seen_old seen_new limit input × does input output None × TakesFront old new output
 
 -- how an output is made: whole before any of it is written, or piece by piece as it is written
 pub data Making : Type 0 where
@@ -85,20 +85,20 @@ pub data Making : Type 0 where
 -- A run that reads its source whole first ended by a fault or by none; its output and the fault that it tells are known by the bytes.
 -- Nothing was written where a read failed or the source is at fault, and a front of the output where a write failed. Where memory was
 -- wanting nothing was written, or of an output that is made in pieces a front.
-abbrev pub PerformsWhole : Making → (List ℕ → List ℕ → Option Fault → Type 0) → Option (List ℕ) → Option (List ℕ) → ℕ → ℕ → Option (List ℕ) → Option (List ℕ) → ℕ → Option Fault → Type 0
-PerformsWhole making does come_old come_new reads_old reads_new old new limit None =
-    (input output : List ℕ) × ReadsAll come_old come_new reads_old reads_new limit input × does input output None × Appends old new output
-PerformsWhole making does come_old come_new reads_old reads_new old new limit (Some (InSource code place)) =
-    (input : List ℕ) × ReadsAll come_old come_new reads_old reads_new limit input × does input [] (Some (InSource code place)) × Appends old new []
-PerformsWhole making does come_old come_new reads_old reads_new old new limit (Some (Plain code)) = elim code [
-  | Read ↦ ReadsNotAll come_old come_new reads_old reads_new limit × Appends old new []
-  | Write ↦ WritesFront does come_old come_new reads_old reads_new old new limit
-  | Memory ↦ (reads_new ≡ reads_old) × elim making [ whole ↦ Appends old new [] | in_pieces ↦ Appends old new [] ⊎ WritesFront does come_old come_new reads_old reads_new old new limit ]
+abbrev pub PerformsWhole : Making → (List ℕ → List ℕ → Option Fault → Type 0) → Seen → Seen → Option (List ℕ) → Option (List ℕ) → ℕ → Option Fault → Type 0
+PerformsWhole making does seen_old seen_new old new limit None =
+    (input output : List ℕ) × ReadsAll seen_old seen_new limit input × does input output None × Appends old new output
+PerformsWhole making does seen_old seen_new old new limit (Some (InSource code place)) =
+    (input : List ℕ) × ReadsAll seen_old seen_new limit input × does input [] (Some (InSource code place)) × Appends old new []
+PerformsWhole making does seen_old seen_new old new limit (Some (Plain code)) = elim code [
+  | Read ↦ ReadsNotAll seen_old seen_new limit × Appends old new []
+  | Write ↦ WritesFront does seen_old seen_new old new limit
+  | Memory ↦ (seen_new.failures ≡ seen_old.failures) × elim making [ whole ↦ Appends old new [] | in_pieces ↦ Appends old new [] ⊎ WritesFront does seen_old seen_new old new limit ]
   | _ ↦ ⊥
 ]
 
 -- What a command does with what its reader gives: `tokens` reads it line by line, `dump` and `unparse` whole. The text of a dump is made in pieces.
-abbrev pub Does : Command → Option (List ℕ) → Option (List ℕ) → ℕ → ℕ → Option (List ℕ) → Option (List ℕ) → ℕ → Option Fault → Type 0
+abbrev pub Does : Command → Seen → Seen → Option (List ℕ) → Option (List ℕ) → ℕ → Option Fault → Type 0
 Does (Tokens asked) = Performs (output_of asked) (fault_in asked)
 Does (Dump asked) = PerformsWhole in_pieces (Dumps asked.style)
 Does (Unparse asked) = PerformsWhole whole (Unparses asked.profile)
@@ -109,10 +109,10 @@ told_line name None = []
 told_line name (Some fault) = fault_line name fault
 
 -- a run of a command that ended by this fault or by none: its status, what it wrote and told, and when a read or a write is blamed
-pub record IsRun (command : Command) (come_old come_new : Option (List ℕ)) (reads_old reads_new : ℕ) (old new : Option (List ℕ)) (writes_old writes_new : ℕ)
-    (told_old told_new : Option (List ℕ)) (tells_old tells_new limit : ℕ) (answer : ℕ) (ended : Option Fault) : Type 0 where
+pub record IsRun (command : Command) (seen_old seen_new : Seen) (sent_old sent_new told_old told_new : Sent)
+    (limit answer : ℕ) (ended : Option Fault) : Type 0 where
   pub status : answer ≡ status_of ended
-  pub output : Does command come_old come_new reads_old reads_new old new limit ended
-  pub told : Tells told_old told_new tells_old tells_new (told_line (name_of command) ended)
-  pub write_failed : ended ≡ Some (Plain Write) → writes_new ≡ writes_old + 1
-  pub write_told : ended ≢ Some (Plain Write) → writes_new ≡ writes_old
+  pub output : Does command seen_old seen_new sent_old.taken sent_new.taken limit ended
+  pub told : Tells told_old told_new (told_line (name_of command) ended)
+  pub write_failed : ended ≡ Some (Plain Write) → sent_new.failures ≡ sent_old.failures + 1
+  pub write_told : ended ≢ Some (Plain Write) → sent_new.failures ≡ sent_old.failures

@@ -26,13 +26,13 @@ fn write_pieces<W: ByteOut>(
     mut pieces: Pieces<'_>,
     writer: &mut W,
 ) -> Result<(), Fault>
-    requires writer { W.failure_count writer.old < 2 ^ 64 - 1 }
-    ensures writes { WritesFor (concat pieces.entry ++ codes "\n") None (W.taken writer.old)
-        (W.taken writer.new) (ended_by result) }
+    requires writer { (W.sent writer.old).failures < 2 ^ 64 - 1 }
+    ensures writes { WritesFor (concat pieces.entry ++ codes "\n") None
+        (W.sent writer.old).taken (W.sent writer.new).taken (ended_by result) }
     ensures failed { ended_by result ≡ Some (Fault.Plain RunFaultCode.Write)
-        → W.failure_count writer.new ≡ W.failure_count writer.old + 1 }
+        → (W.sent writer.new).failures ≡ (W.sent writer.old).failures + 1 }
     ensures unfailed { ended_by result ≢ Some (Fault.Plain RunFaultCode.Write)
-        → W.failure_count writer.new ≡ W.failure_count writer.old }
+        → (W.sent writer.new).failures ≡ (W.sent writer.old).failures }
 {
     let mut held = String::with_capacity(alloc, ROOM)?;
     'pieces: while pieces.push_next(&mut held)? {
@@ -53,15 +53,15 @@ pub(crate) fn write_dump<R: ByteIn, W: ByteOut>(
     reader: &mut R,
     writer: &mut W,
 ) -> Result<(), Fault>
-    requires reader { R.failure_count reader.old < 2 ^ 64 - 1 }
-    requires writer { W.failure_count writer.old < 2 ^ 64 - 1 }
-    ensures performs { PerformsWhole in_pieces (Dumps asked.now.style) (R.to_come reader.old)
-        (R.to_come reader.new) (R.failure_count reader.old) (R.failure_count reader.new)
-        (W.taken writer.old) (W.taken writer.new) source_limit (ended_by result) }
+    requires reader { (R.seen reader.old).failures < 2 ^ 64 - 1 }
+    requires writer { (W.sent writer.old).failures < 2 ^ 64 - 1 }
+    ensures performs { PerformsWhole in_pieces (Dumps asked.now.style)
+        (R.seen reader.old) (R.seen reader.new)
+        (W.sent writer.old).taken (W.sent writer.new).taken source_limit (ended_by result) }
     ensures failed { ended_by result ≡ Some (Fault.Plain RunFaultCode.Write)
-        → W.failure_count writer.new ≡ W.failure_count writer.old + 1 }
+        → (W.sent writer.new).failures ≡ (W.sent writer.old).failures + 1 }
     ensures unfailed { ended_by result ≢ Some (Fault.Plain RunFaultCode.Write)
-        → W.failure_count writer.new ≡ W.failure_count writer.old }
+        → (W.sent writer.new).failures ≡ (W.sent writer.old).failures }
 {
     let module = read_module(alloc, asked.style.profile, reader)?;
     let pieces = Pieces::new(alloc, &module, asked.style)?;

@@ -69,20 +69,19 @@ fn list<R: ByteIn, W: ByteOut>(
     reader: &mut R,
     writer: &mut W,
 ) -> Result<(), Fault>
-    requires reads { R.failure_count reader.old < 2 ^ 64 - 1 + fails lister.lines.reach }
-    requires writes { W.failure_count writer.old < 2 ^ 64 - 1 }
+    requires reads { (R.seen reader.old).failures < 2 ^ 64 - 1 + fails lister.lines.reach }
+    requires writes { (W.sent writer.old).failures < 2 ^ 64 - 1 }
     requires empty { string_bytes held.old ≡ [] }
     requires within { lister.lines.count ≤ source_limit }
     requires stands { (more : List ℕ) (broken : Bool) → Continues lister.lines more broken
         → (p : Parts) × StreamsIn lister p lister.shown.given more broken }
-    ensures holds { Goes (R.to_come reader.old) (R.to_come reader.new) (R.failure_count reader.old)
-        (R.failure_count reader.new) lister exact count
-        (λ output told. HoldsFor output told (W.taken writer.old) (W.taken writer.new)
+    ensures holds { Goes (R.seen reader.old) (R.seen reader.new) lister exact count
+        (λ output told. HoldsFor output told (W.sent writer.old).taken (W.sent writer.new).taken
         (string_bytes held.new) (ended_by result)) }
     ensures failed { ended_by result ≡ Some (Fault.Plain RunFaultCode.Write)
-        → W.failure_count writer.new ≡ W.failure_count writer.old + 1 }
+        → (W.sent writer.new).failures ≡ (W.sent writer.old).failures + 1 }
     ensures unfailed { ended_by result ≢ Some (Fault.Plain RunFaultCode.Write)
-        → W.failure_count writer.new ≡ W.failure_count writer.old }
+        → (W.sent writer.new).failures ≡ (W.sent writer.old).failures }
 {
     let mut left = count;
     while !is_reached(left) {
@@ -110,10 +109,9 @@ fn begin<R: ByteIn>(
     resume: Option<&Cursor>,
     reader: &mut R,
 ) -> Result<LineLister, Fault>
-    requires { R.failure_count reader.old < 2 ^ 64 - 1 }
+    requires { (R.seen reader.old).failures < 2 ^ 64 - 1 }
     ensures starts { IfOk result
-        (λ lister. Starts (R.to_come reader.old) (R.to_come reader.new) (R.failure_count reader.old)
-        (R.failure_count reader.new)
+        (λ lister. Starts (R.seen reader.old) (R.seen reader.new)
         (option_map (λ c. c.now) resume.entry) lister) }
     ensures refused { IfErr result
         (λ fault. (exact : Bool) (count : Option ℕ) (taken : Option (List ℕ)) →
@@ -121,8 +119,7 @@ fn begin<R: ByteIn>(
         (stream_of broken input))
         (λ broken input. tokens_fault count (option_map (λ c. c.now) resume.entry)
         (stream_of broken input))
-        (R.to_come reader.old) (R.to_come reader.new) (R.failure_count reader.old)
-        (R.failure_count reader.new) taken taken source_limit (Some fault)) }
+        (R.seen reader.old) (R.seen reader.new) taken taken source_limit (Some fault)) }
     ensures untouched { IfErr result (λ fault. fault ≢ Fault.Plain RunFaultCode.Write) }
 {
     match resume {
@@ -148,15 +145,15 @@ pub(crate) fn write_listing<R: ByteIn, W: ByteOut>(
     reader: &mut R,
     writer: &mut W,
 ) -> Result<(), Fault>
-    requires reader { R.failure_count reader.old < 2 ^ 64 - 1 }
-    requires writer { W.failure_count writer.old < 2 ^ 64 - 1 }
-    ensures performs { Performs (output_of asked.now) (fault_in asked.now) (R.to_come reader.old)
-        (R.to_come reader.new) (R.failure_count reader.old) (R.failure_count reader.new)
-        (W.taken writer.old) (W.taken writer.new) source_limit (ended_by result) }
+    requires reader { (R.seen reader.old).failures < 2 ^ 64 - 1 }
+    requires writer { (W.sent writer.old).failures < 2 ^ 64 - 1 }
+    ensures performs { Performs (output_of asked.now) (fault_in asked.now)
+        (R.seen reader.old) (R.seen reader.new)
+        (W.sent writer.old).taken (W.sent writer.new).taken source_limit (ended_by result) }
     ensures failed { ended_by result ≡ Some (Fault.Plain RunFaultCode.Write)
-        → W.failure_count writer.new ≡ W.failure_count writer.old + 1 }
+        → (W.sent writer.new).failures ≡ (W.sent writer.old).failures + 1 }
     ensures unfailed { ended_by result ≢ Some (Fault.Plain RunFaultCode.Write)
-        → W.failure_count writer.new ≡ W.failure_count writer.old }
+        → (W.sent writer.new).failures ≡ (W.sent writer.old).failures }
 {
     let lister = begin(alloc, asked.resume.as_ref(), reader)?;
     let mut held = String::with_capacity(alloc, ROOM)?;

@@ -44,15 +44,12 @@ pub(crate) fn read_module<R: ByteIn>(
     profile: Profile,
     reader: &mut R,
 ) -> Result<Module, Fault>
-    requires { R.failure_count reader.old < 2 ^ 64 - 1 }
+    requires { (R.seen reader.old).failures < 2 ^ 64 - 1 }
     ensures reads { IfOk result
-        (λ m. ReadsModule profile (R.to_come reader.old) (R.to_come reader.new)
-        (R.failure_count reader.old) (R.failure_count reader.new) (module_of m)) }
+        (λ m. ReadsModule profile (R.seen reader.old) (R.seen reader.new) (module_of m)) }
     ensures back { IfOk result
         (λ m. GivesBack profile (encode_utf8_all (module_text (module_of m))) (module_of m)) }
-    ensures none { IfErr result
-        (ReadsNone profile (R.to_come reader.old) (R.to_come reader.new)
-        (R.failure_count reader.old) (R.failure_count reader.new)) }
+    ensures none { IfErr result (ReadsNone profile (R.seen reader.old) (R.seen reader.new)) }
 {
     let bytes = read_all(alloc, reader)?;
     accept(alloc, bytes.as_slice(), profile)

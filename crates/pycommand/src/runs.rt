@@ -20,15 +20,14 @@ fn perform<R: ByteIn, W: ByteOut>(
     reader: &mut R,
     writer: &mut W,
 ) -> Result<(), Fault>
-    requires reader { R.failure_count reader.old < 2 ^ 64 - 1 }
-    requires writer { W.failure_count writer.old < 2 ^ 64 - 1 }
-    ensures does { Does command.now (R.to_come reader.old) (R.to_come reader.new)
-        (R.failure_count reader.old) (R.failure_count reader.new)
-        (W.taken writer.old) (W.taken writer.new) source_limit (ended_by result) }
+    requires reader { (R.seen reader.old).failures < 2 ^ 64 - 1 }
+    requires writer { (W.sent writer.old).failures < 2 ^ 64 - 1 }
+    ensures does { Does command.now (R.seen reader.old) (R.seen reader.new)
+        (W.sent writer.old).taken (W.sent writer.new).taken source_limit (ended_by result) }
     ensures write_failed { ended_by result ≡ Some (Fault.Plain RunFaultCode.Write)
-        → W.failure_count writer.new ≡ W.failure_count writer.old + 1 }
+        → (W.sent writer.new).failures ≡ (W.sent writer.old).failures + 1 }
     ensures write_told { ended_by result ≢ Some (Fault.Plain RunFaultCode.Write)
-        → W.failure_count writer.new ≡ W.failure_count writer.old }
+        → (W.sent writer.new).failures ≡ (W.sent writer.old).failures }
 {
     match command {
         Command::Tokens(asked) => write_listing(alloc, asked, reader, writer),
@@ -62,16 +61,13 @@ pub fn run<R: ByteIn, W: ByteOut, F: ByteOut>(
     writer: &mut W,
     faults: &mut F,
 ) -> u8
-    requires reader { R.failure_count reader.old < 2 ^ 64 - 1 }
-    requires writer { W.failure_count writer.old < 2 ^ 64 - 1 }
-    requires faults { F.failure_count faults.old < 2 ^ 64 - 1 }
+    requires reader { (R.seen reader.old).failures < 2 ^ 64 - 1 }
+    requires writer { (W.sent writer.old).failures < 2 ^ 64 - 1 }
+    requires faults { (F.sent faults.old).failures < 2 ^ 64 - 1 }
     ensures { (ended : Option Fault)
-        × IsRun command.now (R.to_come reader.old) (R.to_come reader.new)
-        (R.failure_count reader.old) (R.failure_count reader.new)
-        (W.taken writer.old) (W.taken writer.new) (W.failure_count writer.old)
-        (W.failure_count writer.new)
-        (F.taken faults.old) (F.taken faults.new) (F.failure_count faults.old)
-        (F.failure_count faults.new) source_limit result ended }
+        × IsRun command.now (R.seen reader.old) (R.seen reader.new)
+        (W.sent writer.old) (W.sent writer.new)
+        (F.sent faults.old) (F.sent faults.new) source_limit result ended }
 {
     match perform(alloc, command, reader, writer) {
         Ok(()) => 0,

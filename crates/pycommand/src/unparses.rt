@@ -21,15 +21,15 @@ pub(crate) fn write_unparse<R: ByteIn, W: ByteOut>(
     reader: &mut R,
     writer: &mut W,
 ) -> Result<(), Fault>
-    requires reader { R.failure_count reader.old < 2 ^ 64 - 1 }
-    requires writer { W.failure_count writer.old < 2 ^ 64 - 1 }
-    ensures performs { PerformsWhole whole (Unparses asked.now.profile) (R.to_come reader.old)
-        (R.to_come reader.new) (R.failure_count reader.old) (R.failure_count reader.new)
-        (W.taken writer.old) (W.taken writer.new) source_limit (ended_by result) }
+    requires reader { (R.seen reader.old).failures < 2 ^ 64 - 1 }
+    requires writer { (W.sent writer.old).failures < 2 ^ 64 - 1 }
+    ensures performs { PerformsWhole whole (Unparses asked.now.profile)
+        (R.seen reader.old) (R.seen reader.new)
+        (W.sent writer.old).taken (W.sent writer.new).taken source_limit (ended_by result) }
     ensures failed { ended_by result ≡ Some (Fault.Plain RunFaultCode.Write)
-        → W.failure_count writer.new ≡ W.failure_count writer.old + 1 }
+        → (W.sent writer.new).failures ≡ (W.sent writer.old).failures + 1 }
     ensures unfailed { ended_by result ≢ Some (Fault.Plain RunFaultCode.Write)
-        → W.failure_count writer.new ≡ W.failure_count writer.old }
+        → (W.sent writer.new).failures ≡ (W.sent writer.old).failures }
 {
     let module = read_module(alloc, asked.profile, reader)?;
     let text = unparse(alloc, &module)?;

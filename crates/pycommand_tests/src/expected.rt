@@ -69,7 +69,7 @@ pub(crate) fn leaves<R: ByteIn>(
     left: &Left<'_>,
     at: &str,
 )
-    requires { R.failure_count reader.old < 2 ^ 64 - 1 }
+    requires { (R.seen reader.old).failures < 2 ^ 64 - 1 }
 {
     let mut output = writer(alloc);
     let mut faults = writer(alloc);
@@ -210,7 +210,7 @@ fn writes_and_tells<R: ByteIn>(
     told: &[u8],
     at: &str,
 )
-    requires { R.failure_count reader.old < 2 ^ 64 - 1 }
+    requires { (R.seen reader.old).failures < 2 ^ 64 - 1 }
 {
     let command = Command::Tokens(Tokens {
         exact: false,

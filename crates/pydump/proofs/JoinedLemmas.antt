@@ -8,7 +8,7 @@ use Rattle.std.specs.List.{list_all}
 use Rattle.std.specs.Str.{chars}
 use Rattle.pynode.specs.declared.operators.Context.{Context}
 use Rattle.pysource.specs.Reprs.{is_plain, repr_text}
-use Rattle.pysource.proofs.Printing.PushReprLemmas.{plain_repr}
+use Rattle.pysource.proofs.Callers.Printing.{plain_repr}
 use Rattle.pydump.specs.declared.styles.Style.{Style}
 use Rattle.pydump.specs.Shows.{Shown, Fields, Row, a_field, context_name, no_field, shown_name, showns, word}
 use Rattle.pydump.specs.Layout.{deeper, fields, is_flat, is_short, text}

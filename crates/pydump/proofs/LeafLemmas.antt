@@ -10,7 +10,7 @@ use Rattle.pynode.specs.Trees
 use Rattle.pynode.specs.Values as value
 use Rattle.pynode.specs.Values.{Value}
 use Rattle.pysource.specs.Reprs.{is_plain, repr_text}
-use Rattle.pysource.proofs.Printing.PushReprLemmas.{plain_repr}
+use Rattle.pysource.proofs.Callers.Printing.{plain_repr}
 use Rattle.pydump.specs.declared.styles.Style.{Style}
 use Rattle.pydump.specs.Shows.{Fields, Scalar, a_field, no_field, context_name, kind_field, shown, shown_name, value_text, word}
 use Rattle.pydump.specs.Layout.{deeper, fields, is_flat, is_short, label, text}

@@ -1,7 +1,7 @@
 -- The faults, what is printed for each, and the status that the program ends with.
 use Rattle.std.specs.Prelude.{◌≡◌, ℕ, List, ◌++◌, ◌⊎◌, codes, Option, Some, None, decimal}
 use Rattle.std.specs.Io.KnownBytes.{Appends}
-use Rattle.pysource.specs.Bytes.{TakesFront}
+use Rattle.pysource.specs.Bytes.{Sent, TakesFront}
 use Rattle.pysource.specs.declared.bytes.InputFault.{InputFault}
 use Rattle.pysource.specs.declared.bytes.InputFault.TheVariants as input_faults
 use Rattle.pysource.specs.declared.encodings.SourceFault.{SourceFault}
@@ -182,9 +182,9 @@ fault_line name (InSource code place) = source_line name place.row place.column 
 fault_line name (Plain code) = plain_line (text_of (Run code))
 
 -- the writer took the line whole, or a front of it where it failed
-pub record Tells (old new : Option (List ℕ)) (failures_old failures_new : ℕ) (line : List ℕ) : Type 0 where
-  pub front : TakesFront old new line
-  pub whole : failures_new ≡ failures_old → Appends old new line
+pub record Tells (sent_old sent_new : Sent) (line : List ℕ) : Type 0 where
+  pub front : TakesFront sent_old.taken sent_new.taken line
+  pub whole : sent_new.failures ≡ sent_old.failures → Appends sent_old.taken sent_new.taken line
 
 -- a fault is told as it is; but a fault of the source also as want of memory for its line
 abbrev pub IsToldAs : Fault → Fault → Type 0

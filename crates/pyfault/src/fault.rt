@@ -339,10 +339,10 @@ fn source_line(
 
 /// Writes the line of a fault without a place. It takes no memory.
 fn tell_plain<F: ByteOut>(code: RunFaultCode, faults: &mut F) -> Result<(), WriteFailed>
-    requires { F.failure_count faults.old < 2 ^ 64 - 1 }
-    ensures told { Tells (F.taken faults.old) (F.taken faults.new) (F.failure_count faults.old)
-        (F.failure_count faults.new) (plain_line (text_of (FaultCode.Run code))) }
-    ensures once { F.failure_count faults.new ≤ F.failure_count faults.old + 1 }
+    requires { (F.sent faults.old).failures < 2 ^ 64 - 1 }
+    ensures told { Tells (F.sent faults.old) (F.sent faults.new)
+        (plain_line (text_of (FaultCode.Run code))) }
+    ensures once { (F.sent faults.new).failures ≤ (F.sent faults.old).failures + 1 }
 {
     write_all(faults, b"pyast: ")?;
     write_all(faults, fault_text(FaultCode::Run(code)).as_bytes())?;
@@ -355,10 +355,9 @@ fn tell_plain<F: ByteOut>(code: RunFaultCode, faults: &mut F) -> Result<(), Writ
 /// The line of a place takes memory. Where there is none for it, that is told instead, and is the
 /// answer.
 pub fn tell<F: ByteOut>(alloc: Global, name: &str, fault: Fault, faults: &mut F) -> Fault
-    requires { F.failure_count faults.old < 2 ^ 64 - 1 }
-    ensures told { Tells (F.taken faults.old) (F.taken faults.new) (F.failure_count faults.old)
-        (F.failure_count faults.new) (fault_line name.now result) }
-    ensures once { F.failure_count faults.new ≤ F.failure_count faults.old + 1 }
+    requires { (F.sent faults.old).failures < 2 ^ 64 - 1 }
+    ensures told { Tells (F.sent faults.old) (F.sent faults.new) (fault_line name.now result) }
+    ensures once { (F.sent faults.new).failures ≤ (F.sent faults.old).failures + 1 }
     ensures same { IsToldAs fault result }
 {
     let told = match fault {

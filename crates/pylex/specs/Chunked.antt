@@ -1,6 +1,7 @@
 -- What reading on does to the lines that a lister holds.
-use Rattle.std.specs.Prelude.{◌≡◌, ◌⊎◌, ℕ, ◌+◌, ◌≤◌, ◌<◌, true, List, [], ◌++◌, length, drop, string_bytes, Option, Some, None, Result, Ok, Err, IsUtf8}
+use Rattle.std.specs.Prelude.{◌≡◌, ◌⊎◌, ℕ, ◌+◌, ◌≤◌, ◌<◌, true, List, [], ◌++◌, length, drop, string_bytes, Some, None, Result, Ok, Err, IsUtf8}
 use Rattle.std.specs.declared.alloc.AllocError.{AllocError}
+use Rattle.pysource.specs.Bytes.{Seen}
 use Rattle.pysource.specs.Streams.{Buffered, Reads, Gives, ComesOnly, IsLine, ends_line, unread}
 use Rattle.pysource.specs.Limits.{source_limit}
 use Rattle.pysource.specs.declared.line_reader.Line.{Line}
@@ -44,10 +45,10 @@ Adds (Ok met.Read) line new = (line ≡ []) × ComesOnly new (Some (unread new.r
 Adds (Err e) line new = line ≡ []
 
 -- a chunk that reads on from a place in it
-pub record ReadsOn (come_old come_new : Option (List ℕ)) (told_old told_new : ℕ) (old new : HeldLines) (from : ℕ) (result : Result Line AllocError) : Type 0 where
+pub record ReadsOn (seen_old seen_new : Seen) (old new : HeldLines) (from : ℕ) (result : Result Line AllocError) : Type 0 where
   pub taken : List ℕ
   pub line : List ℕ
-  pub reads : Reads come_old come_new told_old told_new old.lines new.lines taken
+  pub reads : Reads seen_old seen_new old.lines new.lines taken
   pub gives : Gives old.lines taken line new.lines
   pub adds : Adds result line new.lines
   pub same : new.lines.encoding ≡ old.lines.encoding
@@ -57,10 +58,10 @@ pub record ReadsOn (come_old come_new : Option (List ℕ)) (told_old told_new : 
   pub holding : Holding old new from line result
 
 -- Further lines were read behind a text.
-pub record AddsOn (come_old come_new : Option (List ℕ)) (told_old told_new : ℕ) (old new : Buffered) (text_old text_new : List ℕ) : Type 0 where
+pub record AddsOn (seen_old seen_new : Seen) (old new : Buffered) (text_old text_new : List ℕ) : Type 0 where
   pub taken : List ℕ
   pub added : List ℕ
-  pub reads : Reads come_old come_new told_old told_new old new taken
+  pub reads : Reads seen_old seen_new old new taken
   pub gives : Gives old taken added new
   pub text : text_new ≡ text_old ++ added
   pub utf8 : IsUtf8 added

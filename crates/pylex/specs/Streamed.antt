@@ -2,6 +2,7 @@
 use Rattle.std.specs.Prelude.{◌≡◌, ◌≢◌, ◌⊎◌, ◌||◌, ◌==◌, ℕ, ◌+◌, ◌≤◌, Bool, true, List, [], ◌++◌, take, length, drop, string_bytes, suc, false, ◌<◌, slice_get, Option, Some, None, Result, Ok, IfOk, OnErr}
 use Rattle.std.specs.declared.alloc.AllocError.{AllocError}
 use Rattle.std.specs.Str.{chars, IsUtf8}
+use Rattle.pysource.specs.Bytes.{Seen}
 use Rattle.pysource.specs.Parts.{Parts}
 use Rattle.pysource.specs.Streams.{Buffered, Follows, comes, ends_line, head_len, stream_of, unread, Reads, Refuses, Coming}
 use Rattle.pysource.specs.Taking.{Takes}
@@ -137,9 +138,9 @@ pub record PeekedIn (p : Machine) (c : HeldLines) (f : Found) : Type 0 where
   pub stops : (s : Parts) (k : ℕ) (more : List ℕ) (broken : Bool) → Continues c.lines more broken → StreamsIn (streamed p c None) s k more broken → Stops f.peeked (drop f.at (string_bytes c.text)) (comes c.lines more broken).text f.fault s.fault
 
 -- A search for what is met next: the lister stands where it stood, and holds other lines.
-pub record Searches (come_old come_new : Option (List ℕ)) (told_old told_new : ℕ) (old new : Machine) (c d : HeldLines) : Type 0 where
+pub record Searches (seen_old seen_new : Seen) (old new : Machine) (c d : HeldLines) : Type 0 where
   pub taken : List ℕ
-  pub reads : Reads come_old come_new told_old told_new c.lines d.lines taken
+  pub reads : Reads seen_old seen_new c.lines d.lines taken
   pub follows : (more : List ℕ) (broken : Bool) → Continues d.lines more broken → Continues c.lines (taken ++ more) broken
   pub stands : (s : Parts) (k : ℕ) (more : List ℕ) (broken : Bool) → Continues d.lines more broken → StreamsIn (streamed old c None) s k (taken ++ more) broken → StreamsIn (streamed new d None) s k more broken
   pub machine : new ≡ record old { now = new.now }
@@ -162,16 +163,16 @@ Lacks (lines.Fault f) row fault = fault ≡ Some f
 Lacks lines.Read row fault = fault ≡ Some (unread row)
 
 -- a lister that has begun over a reader, behind k entries: what it took, and in which sources it stands
-pub record Begins (come_old come_new : Option (List ℕ)) (told_old told_new : ℕ) (v : Streamed) (k : ℕ) : Type 0 where
+pub record Begins (seen_old seen_new : Seen) (v : Streamed) (k : ℕ) : Type 0 where
   pub taken : List ℕ
-  pub reads : Takes come_old come_new told_old told_new reach.Reading v.lines.reach 0 v.lines.count taken
+  pub reads : Takes seen_old seen_new reach.Reading v.lines.reach 0 v.lines.count taken
   -- no more is taken past the lines that are held, and those that decide the encoding, than one read gives
   pub ahead : (length v.lines.pending ≤ 8_192) ⊎ (v.lines.count ≤ 8_192 + head_len taken)
   pub stands : (more : List ℕ) (broken : Bool) → Continues v.lines more broken → (p : Parts) × (stream_of broken (taken ++ more) ≡ Ok p) × StreamsIn v p k more broken
 
 -- A lister that has begun at a source's start: nothing is held, and no more is taken past the lines that decide the encoding than one read gives.
-pub record BeginsAnew (come_old come_new : Option (List ℕ)) (told_old told_new : ℕ) (v : Streamed) : Type 0 where
-  pub begins : Begins come_old come_new told_old told_new v 0
+pub record BeginsAnew (seen_old seen_new : Seen) (v : Streamed) : Type 0 where
+  pub begins : Begins seen_old seen_new v 0
   pub ahead : v.lines.count ≤ 8_192 + head_len begins.taken
   pub held : v.held ≡ []
 
@@ -188,9 +189,9 @@ IsAhead old new steps.End = Unit {0}
 IsAhead old new (steps.Fault f) = Unit {0}
 
 -- A step: in each source in which the lister stood it comes next, and the lister stands behind it. Where memory is refused it stands where it stood.
-pub record Next (come_old come_new : Option (List ℕ)) (told_old told_new : ℕ) (old new : Streamed) (result : Result Step AllocError) : Type 0 where
+pub record Next (seen_old seen_new : Seen) (old new : Streamed) (result : Result Step AllocError) : Type 0 where
   pub taken : List ℕ
-  pub reads : Reads come_old come_new told_old told_new old.lines new.lines taken
+  pub reads : Reads seen_old seen_new old.lines new.lines taken
   pub follows : (more : List ℕ) (broken : Bool) → Continues new.lines more broken → Continues old.lines (taken ++ more) broken
   pub moves : IfOk result (λ step. (p : Parts) (k : ℕ) (more : List ℕ) (broken : Bool) → Continues new.lines more broken → StreamsIn old p k (taken ++ more) broken
       → (slice_get (listing (in_characters p)) k ≡ Some step) × StreamsIn new p (k + entries_in step) more broken)
@@ -200,8 +201,8 @@ pub record Next (come_old come_new : Option (List ℕ)) (told_old told_new : ℕ
 
 -- Past what a search found: that is a step, behind whatever was searched.
 abbrev pub Passes : Machine → HeldLines → Found → Streamed → Result Step AllocError → Type 0
-Passes q d f new result = (come_old come_new : Option (List ℕ)) (told_old told_new : ℕ) (p : Machine) (c : HeldLines) (last : Option Entry) → Searches come_old come_new told_old told_new p q c d → 0 < p.given → LooksAhead f c.lines d.lines
-    → Next come_old come_new told_old told_new (streamed p c last) new result
+Passes q d f new result = (seen_old seen_new : Seen) (p : Machine) (c : HeldLines) (last : Option Entry) → Searches seen_old seen_new p q c d → 0 < p.given → LooksAhead f c.lines d.lines
+    → Next seen_old seen_new (streamed p c last) new result
 
 -- an entry is passed by, whatever was found
 pub record PassesOn (q : Machine) (d : HeldLines) (e : Entry) (r : Machine) (new : HeldLines) (last : Option Entry) : Type 0 where
@@ -215,22 +216,22 @@ pub record EndsUnread (p : Parts) (n : ℕ) : Type 0 where
   pub before : suc (length (entries_of (listing (in_characters p)))) ≤ n
 
 -- A lister that was not to go on behind a cursor: a read failed before it, or the source has no such cursor.
-pub record Misses (come_old come_new : Option (List ℕ)) (told_old told_new : ℕ) (cursor : CursorParts) (unread : Bool) : Type 0 where
+pub record Misses (seen_old seen_new : Seen) (cursor : CursorParts) (unread : Bool) : Type 0 where
   pub taken : List ℕ
   pub lines : Buffered
-  pub reads : Takes come_old come_new told_old told_new reach.Reading lines.reach 0 lines.count taken
+  pub reads : Takes seen_old seen_new reach.Reading lines.reach 0 lines.count taken
   pub misses : (more : List ℕ) (broken : Bool) → Continues lines more broken → (p : Parts) × (stream_of broken (taken ++ more) ≡ Ok p) × (IsCursorOf cursor (in_characters p) → ⊥) × (unread ≡ true → EndsUnread p cursor.given) × (unread ≡ false → EndsUnread p cursor.given → ⊥)
 
 -- a call took bytes from a reader
-pub record Took (come_old come_new : Option (List ℕ)) (told_old told_new : ℕ) : Type 0 where
+pub record Took (seen_old seen_new : Seen) : Type 0 where
   pub taken : List ℕ
   pub at : Reach
-  pub reads : Takes come_old come_new told_old told_new reach.Reading at 0 (length taken) taken
+  pub reads : Takes seen_old seen_new reach.Reading at 0 (length taken) taken
 
 -- why a lister could not go on behind a cursor
-abbrev pub ResumeRefusal : Option (List ℕ) → Option (List ℕ) → ℕ → ℕ → CursorParts → ResumeFault → Type 0
-ResumeRefusal come_old come_new told_old told_new cursor (resumes.Stream fault) = Refuses come_old come_new told_old told_new fault ⊎ (((fault ≡ faults.Read) × Misses come_old come_new told_old told_new cursor true) ⊎ ((fault ≡ faults.Memory) × Took come_old come_new told_old told_new))
-ResumeRefusal come_old come_new told_old told_new cursor resumes.AnotherSource = Misses come_old come_new told_old told_new cursor false
+abbrev pub ResumeRefusal : Seen → Seen → CursorParts → ResumeFault → Type 0
+ResumeRefusal seen_old seen_new cursor (resumes.Stream fault) = Refuses seen_old seen_new fault ⊎ (((fault ≡ faults.Read) × Misses seen_old seen_new cursor true) ⊎ ((fault ≡ faults.Memory) × Took seen_old seen_new))
+ResumeRefusal seen_old seen_new cursor resumes.AnotherSource = Misses seen_old seen_new cursor false
 
 -- a step tells of a line that could not be read whole
 abbrev pub is_unread_code : ListingError → Bool

@@ -2,7 +2,6 @@
 
 ghost use Rattle.std.specs.Prelude.{◌≡◌, ◌≤◌, ◌<◌, ◌-◌, ◌+◌, ◌^◌, ℕ, [], length, drop};
 ghost use Rattle.std.specs.Prelude.{string_bytes, slice_range, IfOk, Ok, Err};
-ghost use Rattle.pysource.specs.Bytes.{IsSteady};
 ghost use Rattle.pysource.specs.Streams.{Buffered};
 ghost use Rattle.pysource.specs.Limits.{source_limit};
 ghost use Rattle.pysource.specs.declared.line_reader.Reach.{Reach};
@@ -39,17 +38,14 @@ fn add_lines<R: ByteIn>(
     from: usize,
     text: &mut String,
 )
-    requires reading { lines.old.reach ≡ Reach.Reading → R.failure_count reader.old < 2 ^ 64 - 1 }
+    requires reading { lines.old.reach ≡ Reach.Reading → (R.seen reader.old).failures < 2 ^ 64 - 1 }
     requires within { lines.old.count ≤ source_limit }
     requires from { IsCharBoundary (string_bytes text.old) from }
     ensures joins { (at : ℕ) (start : Buffered)
         → LinesBehind literal at from start lines.old (string_bytes text.old)
         → Joins literal at start lines.new (string_bytes text.new) }
-    ensures adds { AddsOn (R.to_come reader.old) (R.to_come reader.new) (R.failure_count reader.old)
-        (R.failure_count reader.new) lines.old lines.new (string_bytes text.old)
-        (string_bytes text.new) }
-    ensures steady { IsSteady (R.may_fail reader.old) (R.may_fail reader.new)
-        (R.failure_count reader.old) (R.failure_count reader.new) }
+    ensures adds { AddsOn (R.seen reader.old) (R.seen reader.new) lines.old lines.new
+        (string_bytes text.old) (string_bytes text.new) }
 {
     let mut from = from;
     while literal.goes_on(&text[from..]) {
@@ -112,17 +108,14 @@ impl HeldLines {
         at: usize,
     ) -> Result<Line, AllocError>
         requires reading { self.old.lines.reach ≡ Reach.Reading
-            → R.failure_count reader.old < 2 ^ 64 - 1 }
+            → (R.seen reader.old).failures < 2 ^ 64 - 1 }
         requires within { self.old.lines.count ≤ source_limit }
         requires chunk { IsHeldLines self.old }
         requires at { at ≤ length (string_bytes self.old.text) }
         requires boundary { IsCharBoundary (string_bytes self.old.text) at }
         requires room { self.old.base + length (string_bytes self.old.text) < 2 ^ 62 }
-        ensures on { ReadsOn (R.to_come reader.old) (R.to_come reader.new)
-            (R.failure_count reader.old) (R.failure_count reader.new) self.old self.new at result }
+        ensures on { ReadsOn (R.seen reader.old) (R.seen reader.new) self.old self.new at result }
         ensures holds { HoldsOn self.old self.new at result }
-        ensures steady { IsSteady (R.may_fail reader.old) (R.may_fail reader.new)
-            (R.failure_count reader.old) (R.failure_count reader.new) }
     {
         if at < self.text.len() {
             self.lengthen(reader, at)
@@ -135,16 +128,13 @@ impl HeldLines {
     /// is looked at line by line, and not from its start again for each.
     fn lengthen<R: ByteIn>(&mut self, reader: &mut R, at: usize) -> Result<Line, AllocError>
         requires reading { self.old.lines.reach ≡ Reach.Reading
-            → R.failure_count reader.old < 2 ^ 64 - 1 }
+            → (R.seen reader.old).failures < 2 ^ 64 - 1 }
         requires within { self.old.lines.count ≤ source_limit }
         requires chunk { IsHeldLines self.old }
         requires at { at < length (string_bytes self.old.text) }
         requires boundary { IsCharBoundary (string_bytes self.old.text) at }
-        ensures on { ReadsOn (R.to_come reader.old) (R.to_come reader.new)
-            (R.failure_count reader.old) (R.failure_count reader.new) self.old self.new at result }
+        ensures on { ReadsOn (R.seen reader.old) (R.seen reader.new) self.old self.new at result }
         ensures holds { HoldsOn self.old self.new at result }
-        ensures steady { IsSteady (R.may_fail reader.old) (R.may_fail reader.new)
-            (R.failure_count reader.old) (R.failure_count reader.new) }
     {
         let literal = open_literal(&self.text[at..]);
         let from = self.text.len();
@@ -161,16 +151,13 @@ impl HeldLines {
     /// Reads the next line behind those held.
     fn add_line<R: ByteIn>(&mut self, reader: &mut R, at: usize) -> Result<Line, AllocError>
         requires reading { self.old.lines.reach ≡ Reach.Reading
-            → R.failure_count reader.old < 2 ^ 64 - 1 }
+            → (R.seen reader.old).failures < 2 ^ 64 - 1 }
         requires chunk { IsHeldLines self.old }
         requires at { at ≤ length (string_bytes self.old.text) }
         ensures line { AddsLine self.old self.new at result }
         ensures longer { IfOk result
             (λ _. IsLonger (string_bytes self.old.text) (string_bytes self.new.text)) }
-        ensures on { ReadsOn (R.to_come reader.old) (R.to_come reader.new)
-            (R.failure_count reader.old) (R.failure_count reader.new) self.old self.new at result }
-        ensures steady { IsSteady (R.may_fail reader.old) (R.may_fail reader.new)
-            (R.failure_count reader.old) (R.failure_count reader.new) }
+        ensures on { ReadsOn (R.seen reader.old) (R.seen reader.new) self.old self.new at result }
     {
         let line = self.lines.next_line(reader, &mut self.text)?;
         if let Line::Text = line {
@@ -182,15 +169,12 @@ impl HeldLines {
     /// Reads the next line in place of those held.
     fn replace<R: ByteIn>(&mut self, reader: &mut R) -> Result<Line, AllocError>
         requires reading { self.old.lines.reach ≡ Reach.Reading
-            → R.failure_count reader.old < 2 ^ 64 - 1 }
+            → (R.seen reader.old).failures < 2 ^ 64 - 1 }
         requires chunk { IsHeldLines self.old }
         requires room { self.old.base + length (string_bytes self.old.text) < 2 ^ 62 }
-        ensures on { ReadsOn (R.to_come reader.old) (R.to_come reader.new)
-            (R.failure_count reader.old) (R.failure_count reader.new) self.old self.new
+        ensures on { ReadsOn (R.seen reader.old) (R.seen reader.new) self.old self.new
             (length (string_bytes self.old.text)) result }
         ensures holds { HoldsOn self.old self.new (length (string_bytes self.old.text)) result }
-        ensures steady { IsSteady (R.may_fail reader.old) (R.may_fail reader.new)
-            (R.failure_count reader.old) (R.failure_count reader.new) }
     {
         let line = self.lines.next_line(reader, &mut self.spare)?;
         if let Line::Text = line {

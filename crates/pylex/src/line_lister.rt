@@ -6,7 +6,6 @@ ghost use Rattle.std.specs.Prelude.{◌≡◌, ◌≤◌, ◌<◌, ◌-◌, ◌+
 ghost use Rattle.std.specs.Prelude.{drop, string_bytes, Ok, Err, Option, Some, None, IfOk, IfErr};
 ghost use Rattle.std.specs.Prelude.{IfSome, IsTrue, ◌↔◌, Result};
 ghost use Rattle.std.specs.Str.{chars};
-ghost use Rattle.pysource.specs.Bytes.{IsSteady};
 ghost use Rattle.pysource.specs.Parts.{Parts};
 ghost use Rattle.pysource.specs.declared.line_reader.Reach.{Reach};
 ghost use Rattle.pysource.specs.Streams.{Refuses};
@@ -95,16 +94,13 @@ fn find<R: ByteIn>(
     reader: &mut R,
 ) -> Result<Found, AllocError>
     requires reading { chunk.old.lines.reach ≡ Reach.Reading
-        → R.failure_count reader.old < 2 ^ 64 - 1 }
+        → (R.seen reader.old).failures < 2 ^ 64 - 1 }
     requires streaming { IsStreaming machine.old chunk.old None }
     requires given { 0 < machine.old.given }
     ensures ahead { IfOk result (λ f. LooksAhead f chunk.old.lines chunk.new.lines) }
-    ensures searches { Searches (R.to_come reader.old) (R.to_come reader.new)
-        (R.failure_count reader.old)
-        (R.failure_count reader.new) machine.old machine.new chunk.old chunk.new }
+    ensures searches { Searches (R.seen reader.old) (R.seen reader.new)
+        machine.old machine.new chunk.old chunk.new }
     ensures peeked { IfOk result (PeekedIn machine.new chunk.new) }
-    ensures steady { IsSteady (R.may_fail reader.old) (R.may_fail reader.new)
-        (R.failure_count reader.old) (R.failure_count reader.new) }
 {
     loop {
         let found = look(machine, chunk);
@@ -223,16 +219,11 @@ impl LineLister {
     ///
     /// As [`LineReader::new`].
     pub fn new<R: ByteIn>(alloc: Global, reader: &mut R) -> Result<LineLister, StreamFault>
-        requires { R.failure_count reader.old < 2 ^ 64 - 1 }
-        ensures begins { IfOk result
-            (BeginsAnew (R.to_come reader.old) (R.to_come reader.new) (R.failure_count reader.old)
-            (R.failure_count reader.new)) }
+        requires { (R.seen reader.old).failures < 2 ^ 64 - 1 }
+        ensures begins { IfOk result (BeginsAnew (R.seen reader.old) (R.seen reader.new)) }
         ensures given { IfOk result (λ v. v.shown.given ≡ 0) }
         ensures refuses { IfErr result
-            (λ fault. Refuses (R.to_come reader.old) (R.to_come reader.new)
-            (R.failure_count reader.old) (R.failure_count reader.new) fault) }
-        ensures steady { IsSteady (R.may_fail reader.old) (R.may_fail reader.new)
-            (R.failure_count reader.old) (R.failure_count reader.new) }
+            (λ fault. Refuses (R.seen reader.old) (R.seen reader.new) fault) }
     {
         let lines = LineReader::new(alloc, reader)?;
         Ok(LineLister {
@@ -253,16 +244,12 @@ impl LineLister {
         reader: &mut R,
         cursor: &Cursor,
     ) -> Result<LineLister, ResumeFault>
-        requires { R.failure_count reader.old < 2 ^ 64 - 1 }
+        requires { (R.seen reader.old).failures < 2 ^ 64 - 1 }
         ensures begins { IfOk result
-            (λ v. Begins (R.to_come reader.old) (R.to_come reader.new) (R.failure_count reader.old)
-            (R.failure_count reader.new) v cursor.now.given) }
+            (λ v. Begins (R.seen reader.old) (R.seen reader.new) v cursor.now.given) }
         ensures shown { IfOk result (λ v. v.shown ≡ cursor.now) }
         ensures misses { IfErr result
-            (ResumeRefusal (R.to_come reader.old) (R.to_come reader.new)
-            (R.failure_count reader.old) (R.failure_count reader.new) cursor.now) }
-        ensures steady { IsSteady (R.may_fail reader.old) (R.may_fail reader.new)
-            (R.failure_count reader.old) (R.failure_count reader.new) }
+            (ResumeRefusal (R.seen reader.old) (R.seen reader.new) cursor.now) }
     {
         let mut lister = LineLister::new(alloc, reader).map_err(ResumeFault::Stream)?;
         for _given in 0..cursor.given() {
@@ -297,12 +284,10 @@ impl LineLister {
     /// step is still due.
     #[inline(always)]
     pub fn next<R: ByteIn>(&mut self, reader: &mut R) -> Result<Step, AllocError>
-        requires { self.old.lines.reach ≡ Reach.Reading → R.failure_count reader.old < 2 ^ 64 - 1 }
-        ensures steps { Next (R.to_come reader.old) (R.to_come reader.new)
-            (R.failure_count reader.old) (R.failure_count reader.new) self.old self.new result }
+        requires { self.old.lines.reach ≡ Reach.Reading
+            → (R.seen reader.old).failures < 2 ^ 64 - 1 }
+        ensures steps { Next (R.seen reader.old) (R.seen reader.new) self.old self.new result }
         ensures given { self.new.shown.given ≤ most_entries }
-        ensures steady { IsSteady (R.may_fail reader.old) (R.may_fail reader.new)
-            (R.failure_count reader.old) (R.failure_count reader.new) }
     {
         if self.machine.is_at_start() {
             let entry = self.machine.begin();
@@ -327,14 +312,11 @@ impl LineLister {
     #[inline(never)]
     fn next_behind<R: ByteIn>(&mut self, reader: &mut R) -> Result<Step, AllocError>
         requires reading { self.old.lines.reach ≡ Reach.Reading
-            → R.failure_count reader.old < 2 ^ 64 - 1 }
+            → (R.seen reader.old).failures < 2 ^ 64 - 1 }
         requires given { 0 < self.old.shown.given }
         requires last { self.old.last ≡ None }
-        ensures steps { Next (R.to_come reader.old) (R.to_come reader.new)
-            (R.failure_count reader.old) (R.failure_count reader.new) self.old self.new result }
+        ensures steps { Next (R.seen reader.old) (R.seen reader.new) self.old self.new result }
         ensures given { self.new.shown.given ≤ most_entries }
-        ensures steady { IsSteady (R.may_fail reader.old) (R.may_fail reader.new)
-            (R.failure_count reader.old) (R.failure_count reader.new) }
     {
         let found = find(&mut self.machine, &mut self.chunk, reader)?;
         pass(&mut self.machine, &mut self.chunk, &mut self.last, found)

@@ -2,9 +2,9 @@
 //!
 //! Python library reference, `tokenize`.
 
-ghost use Rattle.std.specs.Prelude.{◌≡◌, ◌<◌, ◌≤◌, ◌-◌, ◌+◌, ◌^◌, ℕ, List, Bool, false, Option};
+ghost use Rattle.std.specs.Prelude.{◌≡◌, ◌<◌, ◌≤◌, ◌-◌, ◌+◌, ◌^◌, ℕ, List, Bool};
 ghost use Rattle.std.specs.Prelude.{Some, IfOk, IfErr};
-ghost use Rattle.pysource.specs.Bytes.{IsSteady};
+ghost use Rattle.pysource.specs.Bytes.{Seen};
 ghost use Rattle.pysource.specs.Parts.{Parts};
 ghost use Rattle.pysource.specs.Streams.{Refuses};
 ghost use Rattle.pysource.specs.Taking.{fails};
@@ -28,7 +28,7 @@ pub struct StreamLister<R: ByteIn> {
     // The reader can be read on where reading isn't over.
     ghost possible: { told < 2 ^ 64 - 1 },
     // Besides the failures that it told when it was taken, at most one was counted.
-    ghost counted: { R.failure_count reader ≡ told + fails lister.lines.reach },
+    ghost counted: { (R.seen reader).failures ≡ told + fails lister.lines.reach },
 }
 
 impl<R: ByteIn> StreamLister<R> {
@@ -42,18 +42,10 @@ impl<R: ByteIn> StreamLister<R> {
     pub fn new(alloc: Global, mut reader: R) -> Result<StreamLister<R>, StreamFault>
     where
         R: Drop,
-        requires { R.failure_count reader < 2 ^ 64 - 1 }
-        ensures begins { IfOk result
-            (λ s. BeginsAnew (R.to_come reader) (R.to_come s.reader) (R.failure_count reader)
-            (R.failure_count s.reader) s.lister) }
-        ensures told { IfOk result (λ s. s.told ≡ R.failure_count reader) }
-        ensures steady { IfOk result
-            (λ s. IsSteady (R.may_fail reader) (R.may_fail s.reader) (R.failure_count reader)
-            (R.failure_count s.reader)) }
-        ensures refuses { IfErr result
-            (λ e. (come : Option (List ℕ)) × (told : ℕ)
-            × (R.may_fail reader ≡ false → told ≡ R.failure_count reader)
-            × Refuses (R.to_come reader) come (R.failure_count reader) told e) }
+        requires { (R.seen reader).failures < 2 ^ 64 - 1 }
+        ensures begins { IfOk result (λ s. BeginsAnew (R.seen reader) (R.seen s.reader) s.lister) }
+        ensures told { IfOk result (λ s. s.told ≡ (R.seen reader).failures) }
+        ensures refuses { IfErr result (λ e. (seen : Seen) × Refuses (R.seen reader) seen e) }
     {
         let told = reader.failures();
         let lister = LineLister::new(alloc, &mut reader)?;
@@ -77,19 +69,13 @@ impl<R: ByteIn> StreamLister<R> {
     ) -> Result<StreamLister<R>, ResumeFault>
     where
         R: Drop,
-        requires { R.failure_count reader < 2 ^ 64 - 1 }
+        requires { (R.seen reader).failures < 2 ^ 64 - 1 }
         ensures begins { IfOk result
-            (λ s. Begins (R.to_come reader) (R.to_come s.reader) (R.failure_count reader)
-            (R.failure_count s.reader) s.lister cursor.now.given) }
+            (λ s. Begins (R.seen reader) (R.seen s.reader) s.lister cursor.now.given) }
         ensures shown { IfOk result (λ s. s.lister.shown ≡ cursor.now) }
-        ensures told { IfOk result (λ s. s.told ≡ R.failure_count reader) }
-        ensures steady { IfOk result
-            (λ s. IsSteady (R.may_fail reader) (R.may_fail s.reader) (R.failure_count reader)
-            (R.failure_count s.reader)) }
+        ensures told { IfOk result (λ s. s.told ≡ (R.seen reader).failures) }
         ensures misses { IfErr result
-            (λ e. (come : Option (List ℕ)) × (told : ℕ)
-            × (R.may_fail reader ≡ false → told ≡ R.failure_count reader)
-            × ResumeRefusal (R.to_come reader) come (R.failure_count reader) told cursor.now e) }
+            (λ e. (seen : Seen) × ResumeRefusal (R.seen reader) seen cursor.now e) }
     {
         let told = reader.failures();
         let lister = LineLister::resume_checked(alloc, &mut reader, cursor)?;
@@ -109,13 +95,10 @@ impl<R: ByteIn> StreamLister<R> {
 
     /// The next entry, the end, or the fault that ends the listing, as [`LineLister::next`].
     pub fn next(&mut self) -> Result<Step, AllocError>
-        ensures steps { Next (R.to_come self.old.reader) (R.to_come self.new.reader)
-            (R.failure_count self.old.reader)
-            (R.failure_count self.new.reader) self.old.lister self.new.lister result }
+        ensures steps { Next (R.seen self.old.reader) (R.seen self.new.reader)
+            self.old.lister self.new.lister result }
         ensures given { self.new.lister.shown.given ≤ most_entries }
         ensures told { self.new.told ≡ self.old.told }
-        ensures steady { IsSteady (R.may_fail self.old.reader) (R.may_fail self.new.reader)
-            (R.failure_count self.old.reader) (R.failure_count self.new.reader) }
     {
         self.lister.next(&mut self.reader)
     }

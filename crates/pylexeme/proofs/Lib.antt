@@ -1,7 +1,8 @@
-pub mod Cases
-pub mod Computing
-pub mod Fronts
-pub mod Numbers
-pub mod Strings
-pub mod Lexemes
-pub mod WholeLines
+mod Cases
+mod Computing
+mod Fronts
+mod Numbers
+mod Strings
+mod Lexemes
+mod WholeLines
+pub mod Callers

@@ -1,6 +1,7 @@
 mod Offsets
-pub mod Printing
+mod Printing
 mod LineReading
-pub mod FaultyLines
+mod FaultyLines
 mod Examples
-pub mod TakenBytes
+mod TakenBytes
+pub mod Callers

@@ -7,9 +7,20 @@ abbrev pub read_failures : {E : Type 0} → Result ℕ E → ℕ
 read_failures (Ok n) = 0
 read_failures (Err e) = 1
 
+-- What a contract sees of a reader: the bytes that reads will give from here on, where they are known, how many reads failed, and whether one may fail, now or later.
+pub record Seen : Type 0 where
+  pub to_come : Option (List ℕ)
+  pub failures : ℕ
+  pub may_fail : Bool
+
+-- What a contract sees of a writer: the bytes that it took so far, where they are known, and how many writes failed, or took none of some bytes.
+pub record Sent : Type 0 where
+  pub taken : Option (List ℕ)
+  pub failures : ℕ
+
 -- Whether reads may fail stays as it was. Where they can't, none failed.
-abbrev pub IsSteady : Bool → Bool → ℕ → ℕ → Type 0
-IsSteady may_old may_new told_old told_new = (may_new ≡ may_old) × (may_old ≡ false → told_new ≡ told_old)
+abbrev pub IsSteady : Seen → Seen → Type 0
+IsSteady old new = (new.may_fail ≡ old.may_fail) × (old.may_fail ≡ false → new.failures ≡ old.failures)
 
 -- a failed write counts one, and so does a write that takes none of some bytes
 abbrev pub write_failures : {E : Type 0} → Result ℕ E → List ℕ → ℕ

@@ -10,6 +10,7 @@ use Rattle.pysource.specs.Places.{is_lf}
 use Rattle.pysource.specs.Lines.{lines_of, good_text, line_fault, first_bad}
 use Rattle.pysource.specs.Cookies.{encoding_of, without_mark, cookie_of, leads_on}
 use Rattle.pysource.specs.Sources.{nth_line}
+use Rattle.pysource.specs.Bytes.{Seen}
 use Rattle.pysource.specs.Taking.{Takes}
 use Rattle.pysource.specs.Limits.{source_limit}
 use Rattle.pysource.specs.declared.encodings.Charset.{Charset}
@@ -112,9 +113,9 @@ abbrev pub Gives : Buffered → List ℕ → List ℕ → Buffered → Type 0
 Gives old taken line new = (more : List ℕ) (broken : Bool) → Follows new more broken →
     Follows old (taken ++ more) broken × (comes old (taken ++ more) broken ≡ onto line (comes new more broken))
 
--- what a call did to its reader (bytes to come and failures before and after)
-abbrev pub Reads : Option (List ℕ) → Option (List ℕ) → ℕ → ℕ → Buffered → Buffered → List ℕ → Type 0
-Reads come_old come_new told_old told_new old new taken = Takes come_old come_new told_old told_new old.reach new.reach old.count new.count taken
+-- what a call did to its reader
+abbrev pub Reads : Seen → Seen → Buffered → Buffered → List ℕ → Type 0
+Reads seen_old seen_new old new taken = Takes seen_old seen_new old.reach new.reach old.count new.count taken
 
 -- exactly one line
 pub record IsLine (line : List ℕ) : Type 0 where
@@ -152,10 +153,10 @@ abbrev pub IsText : Result Line AllocError → Type 0
 IsText result = result ≡ Ok lines.Text
 
 -- a call of `next_line`
-pub record NextLine (come_old come_new : Option (List ℕ)) (told_old told_new : ℕ) (old new : Buffered) (chunk_old chunk_new : List ℕ) (result : Result Line AllocError) : Type 0 where
+pub record NextLine (seen_old seen_new : Seen) (old new : Buffered) (chunk_old chunk_new : List ℕ) (result : Result Line AllocError) : Type 0 where
   pub taken : List ℕ
   pub line : List ℕ
-  pub reads : Reads come_old come_new told_old told_new old new taken
+  pub reads : Reads seen_old seen_new old new taken
   pub gives : Gives old taken line new
   pub chunk : chunk_new ≡ chunk_old ++ line
   pub tells : Tells result line new
@@ -172,9 +173,9 @@ abbrev pub head_len : List ℕ → ℕ
 head_len bytes = length (nth_line bytes 0) + (if searches_second (nth_line bytes 0) then length (nth_line bytes 1) else 0)
 
 -- a reader of lines was opened
-pub record Opens (come_old come_new : Option (List ℕ)) (told_old told_new : ℕ) (b : Buffered) : Type 0 where
+pub record Opens (seen_old seen_new : Seen) (b : Buffered) : Type 0 where
   pub taken : List ℕ
-  pub reads : Takes come_old come_new told_old told_new Reading b.reach 0 b.count taken
+  pub reads : Takes seen_old seen_new Reading b.reach 0 b.count taken
   pub source : (more : List ℕ) (broken : Bool) → Follows b more broken →
       stream_of broken (taken ++ more) ≡ Ok (record { encoding = b.encoding; text = (comes b more broken).text; fault = (comes b more broken).fault })
   pub row : b.row ≡ 1
@@ -193,13 +194,13 @@ Explains (UnsupportedEncoding place) reach source =
 Explains (BomConflict place) reach source =
     ((reach ≡ Reading) ⊎ (reach ≡ End)) × ((more : List ℕ) (broken : Bool) → FollowsAt reach more broken → source more broken ≡ Err (BomConflict place))
 
-pub record Refuses (come_old come_new : Option (List ℕ)) (told_old told_new : ℕ) (fault : StreamFault) : Type 0 where
+pub record Refuses (seen_old seen_new : Seen) (fault : StreamFault) : Type 0 where
   pub taken : List ℕ
   pub reach : Reach
-  pub reads : Takes come_old come_new told_old told_new Reading reach 0 (length taken) taken
+  pub reads : Takes seen_old seen_new Reading reach 0 (length taken) taken
   pub explains : Explains fault reach (λ more broken. stream_of broken (taken ++ more))
 
 -- how an opening ended
-abbrev pub Open : Option (List ℕ) → Option (List ℕ) → ℕ → ℕ → Result Buffered StreamFault → Type 0
-Open come_old come_new told_old told_new (Ok b) = Opens come_old come_new told_old told_new b
-Open come_old come_new told_old told_new (Err e) = Refuses come_old come_new told_old told_new e
+abbrev pub Open : Seen → Seen → Result Buffered StreamFault → Type 0
+Open seen_old seen_new (Ok b) = Opens seen_old seen_new b
+Open seen_old seen_new (Err e) = Refuses seen_old seen_new e

@@ -2,6 +2,7 @@
 use Rattle.std.specs.Prelude.{◌≡◌, ◌≢◌, ◌⊎◌, ℕ, ◌+◌, ◌-◌, ◌<◌, ◌≤◌, max, List, [], ◌++◌, length, Option, None, Some, Result, Ok, Err, slice_index}
 use Rattle.std.specs.Io.KnownBytes.{Consumes, IsAtEnd}
 use Rattle.std.specs.declared.alloc.AllocError.{AllocError}
+use Rattle.pysource.specs.Bytes.{Seen, IsSteady}
 use Rattle.pysource.specs.Limits.{source_limit}
 use Rattle.pysource.specs.declared.buffers.Intake.{Intake}
 use Rattle.pysource.specs.declared.line_reader.Reach.{Reach}
@@ -17,46 +18,49 @@ fails End = 0
 fails Broken = 1
 fails Passed = 0
 
--- What reads took from a reader (its bytes to come and its failures, before and after): some bytes, and the one that passes the limit, which is lost.
-pub record Takes (come_old come_new : Option (List ℕ)) (told_old told_new : ℕ) (reach_old reach_new : Reach) (count_old count_new : ℕ) (taken : List ℕ) : Type 0 where
+-- What reads took from a reader: some bytes, and the one that passes the limit, which is lost.
+pub record Takes (seen_old seen_new : Seen) (reach_old reach_new : Reach) (count_old count_new : ℕ) (taken : List ℕ) : Type 0 where
   pub lost : List ℕ
-  pub consumes : Consumes come_old come_new (taken ++ lost)
+  pub consumes : Consumes seen_old.to_come seen_new.to_come (taken ++ lost)
   pub count : count_new ≡ count_old + length taken
   pub within : count_old ≤ source_limit → count_new ≤ source_limit
-  pub told : told_new + fails reach_old ≡ told_old + fails reach_new
+  pub told : seen_new.failures + fails reach_old ≡ seen_old.failures + fails reach_new
+  pub steady : IsSteady seen_old seen_new
   pub passed : 0 < length lost → (reach_new ≡ Passed) × (count_new ≡ source_limit)
   pub newly : reach_old ≢ Passed → reach_new ≡ Passed → 0 < length lost
   -- the end is told only where no byte is to come
-  pub ended : reach_old ≢ End → reach_new ≡ End → IsAtEnd come_new
+  pub ended : reach_old ≢ End → reach_new ≡ End → IsAtEnd seen_new.to_come
   -- once reading is over nothing more is read
-  pub over : reach_old ≢ Reading → (reach_new ≡ reach_old) × (taken ++ lost ≡ []) × (come_new ≡ come_old)
+  pub over : reach_old ≢ Reading → (reach_new ≡ reach_old) × (taken ++ lost ≡ []) × (seen_new ≡ seen_old)
 
 -- what reads took stands behind the bytes that were there
-pub record Grows (come_old come_new : Option (List ℕ)) (told_old told_new : ℕ) (old new : Intake) : Type 0 where
+pub record Grows (seen_old seen_new : Seen) (old new : Intake) : Type 0 where
   pub taken : List ℕ
-  pub takes : Takes come_old come_new told_old told_new old.reach new.reach old.count new.count taken
+  pub takes : Takes seen_old seen_new old.reach new.reach old.count new.count taken
   pub bytes : new.buffer ≡ old.buffer ++ taken
 
 -- one read into a buffer
-pub record Gave (come_old come_new : Option (List ℕ)) (told_old told_new most : ℕ) (old new : List ℕ) (count : ℕ) : Type 0 where
+pub record Gave (seen_old seen_new : Seen) (most : ℕ) (old new : List ℕ) (count : ℕ) : Type 0 where
   pub taken : List ℕ
-  pub consumes : Consumes come_old come_new taken
+  pub consumes : Consumes seen_old.to_come seen_new.to_come taken
   pub bytes : new ≡ old ++ taken
   pub size : length taken ≡ count
   pub short : count ≤ most
-  pub ended : count ≡ 0 → IsAtEnd come_new
-  pub told : told_new ≡ told_old
+  pub ended : count ≡ 0 → IsAtEnd seen_new.to_come
+  pub told : seen_new.failures ≡ seen_old.failures
+  pub steady : IsSteady seen_old seen_new
 
 -- none was made, or it failed
-pub record GaveNone (come_old come_new : Option (List ℕ)) (told_old told_new : ℕ) (old new : List ℕ) (failed : ℕ) : Type 0 where
-  pub consumes : Consumes come_old come_new []
+pub record GaveNone (seen_old seen_new : Seen) (old new : List ℕ) (failed : ℕ) : Type 0 where
+  pub consumes : Consumes seen_old.to_come seen_new.to_come []
   pub bytes : new ≡ old
-  pub told : told_new ≡ told_old + failed
+  pub told : seen_new.failures ≡ seen_old.failures + failed
+  pub steady : IsSteady seen_old seen_new
 
-abbrev pub GaveInto : Option (List ℕ) → Option (List ℕ) → ℕ → ℕ → ℕ → List ℕ → List ℕ → Result (Option ℕ) AllocError → Type 0
-GaveInto come_old come_new told_old told_new most old new (Ok (Some count)) = Gave come_old come_new told_old told_new most old new count
-GaveInto come_old come_new told_old told_new most old new (Ok None) = GaveNone come_old come_new told_old told_new old new 1
-GaveInto come_old come_new told_old told_new most old new (Err e) = GaveNone come_old come_new told_old told_new old new 0
+abbrev pub GaveInto : Seen → Seen → ℕ → List ℕ → List ℕ → Result (Option ℕ) AllocError → Type 0
+GaveInto seen_old seen_new most old new (Ok (Some count)) = Gave seen_old seen_new most old new count
+GaveInto seen_old seen_new most old new (Ok None) = GaveNone seen_old seen_new old new 1
+GaveInto seen_old seen_new most old new (Err e) = GaveNone seen_old seen_new old new 0
 
 -- no line feed stands from `start` up to `end`
 abbrev pub NoLfFrom : ℕ → ℕ → List ℕ → Type 0

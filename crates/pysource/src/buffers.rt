@@ -5,7 +5,6 @@
 ghost use Rattle.std.specs.Prelude.{◌≡◌, ◌≢◌, ℕ, ◌+◌, ◌-◌, ◌^◌, ◌<◌, ◌≤◌, ◌++◌, [], length, take};
 ghost use Rattle.std.specs.Prelude.{drop, max, vec_len, OnOk, OnErr, IfOk, Ok, Err, Some, None};
 ghost use Rattle.std.specs.Prelude.{slice_index};
-ghost use Rattle.pysource.specs.Bytes.{IsSteady};
 ghost use Rattle.pysource.specs.Limits.{source_limit};
 ghost use Rattle.pysource.specs.Taking.{Grows, GaveInto, FoundLine};
 
@@ -90,13 +89,10 @@ impl Buffer {
         reader: &mut R,
         most: usize,
     ) -> Result<Option<usize>, AllocError>
-        requires possible { R.failure_count reader.old < 2 ^ 64 - 1 }
+        requires possible { (R.seen reader.old).failures < 2 ^ 64 - 1 }
         requires some { 0 < most }
-        ensures gave { GaveInto (R.to_come reader.old) (R.to_come reader.new)
-            (R.failure_count reader.old)
-            (R.failure_count reader.new) most self.old self.new result }
-        ensures steady { IsSteady (R.may_fail reader.old) (R.may_fail reader.new)
-            (R.failure_count reader.old) (R.failure_count reader.new) }
+        ensures { GaveInto (R.seen reader.old) (R.seen reader.new)
+            most self.old self.new result }
     {
         let (from, to) = make_room(&mut self.room, self.from, self.to)?;
         self.from = from;
@@ -138,10 +134,9 @@ impl Intake {
     /// those is lost.
     fn fill<R: ByteIn>(&mut self, reader: &mut R) -> Result<(), AllocError>
         requires reading { self.old.reach ≡ Reach.Reading }
-        requires possible { R.failure_count reader.old < 2 ^ 64 - 1 }
+        requires possible { (R.seen reader.old).failures < 2 ^ 64 - 1 }
         requires within { self.old.count ≤ source_limit }
-        ensures grows { Grows (R.to_come reader.old) (R.to_come reader.new)
-            (R.failure_count reader.old) (R.failure_count reader.new) self.old self.new }
+        ensures grows { Grows (R.seen reader.old) (R.seen reader.new) self.old self.new }
         ensures within { self.new.count ≤ source_limit }
         ensures short { length self.new.buffer ≤ length self.old.buffer + 8_192 }
         ensures more { OnOk result
@@ -149,8 +144,6 @@ impl Intake {
         ensures same { self.new.reach ≢ Reach.Reading → self.new.buffer ≡ self.old.buffer }
         ensures err { OnErr result
             ((self.new.reach ≡ Reach.Reading) × (self.new.buffer ≡ self.old.buffer)) }
-        ensures steady { IsSteady (R.may_fail reader.old) (R.may_fail reader.new)
-            (R.failure_count reader.old) (R.failure_count reader.new) }
     {
         let left = SOURCE_LIMIT - self.count;
         if left == 0 {
@@ -179,15 +172,12 @@ impl Intake {
         start: usize,
     ) -> Result<Option<usize>, AllocError>
         requires possible { self.old.reach ≡ Reach.Reading
-            → R.failure_count reader.old < 2 ^ 64 - 1 }
+            → (R.seen reader.old).failures < 2 ^ 64 - 1 }
         requires within { self.old.count ≤ source_limit }
         requires start { start ≤ length self.old.buffer }
-        ensures grows { Grows (R.to_come reader.old) (R.to_come reader.new)
-            (R.failure_count reader.old) (R.failure_count reader.new) self.old self.new }
+        ensures grows { Grows (R.seen reader.old) (R.seen reader.new) self.old self.new }
         ensures within { self.new.count ≤ source_limit }
         ensures found { FoundLine start self.old self.new result }
-        ensures steady { IsSteady (R.may_fail reader.old) (R.may_fail reader.new)
-            (R.failure_count reader.old) (R.failure_count reader.new) }
     {
         let mut searched = start;
         loop {

@@ -9,8 +9,8 @@ ghost use Rattle.std.specs.Prelude.{◌≡◌, ◌≤◌, ℕ, ◌+◌, ◌-◌,
 ghost use Rattle.std.specs.Prelude.{None, OnOk, OnErr, IfOk, IsErrOf, length, vec_len};
 ghost use Rattle.std.specs.Io.{ReadsAtMost, WritesAtMost};
 ghost use Rattle.std.specs.Io.KnownBytes.{ReadConsumes, WriteAppends, Appends, Consumes, IsAtEnd};
-ghost use Rattle.pysource.specs.Bytes.{read_failures, IsSteady, write_failures, TakesFront};
-ghost use Rattle.pysource.specs.Bytes.{GivesTooMany};
+ghost use Rattle.pysource.specs.Bytes.{Seen, Sent, read_failures, IsSteady, write_failures};
+ghost use Rattle.pysource.specs.Bytes.{TakesFront, GivesTooMany};
 ghost use Rattle.pysource.specs.Limits.{source_limit};
 
 use std::alloc::Global;
@@ -29,58 +29,47 @@ pub struct WriteFailed;
 
 /// A reader of bytes that counts its failures.
 pub trait ByteIn {
-    // The bytes that reads will give from here on, where they are known.
-    ghost to_come: { Self → Option (List ℕ) } = { λ _. None };
-
-    // How many reads failed.
-    ghost failure_count: { Self → ℕ };
-
-    // Whether a read may fail, now or later.
-    ghost may_fail: { Self → Bool } = { λ _. true };
+    // The bytes to come, the failures, and whether there may be any.
+    ghost seen: { Self → Seen };
 
     /// How many reads failed so far.
     fn failures(&self) -> u64
-        ensures { result ≡ failure_count self.now };
+        ensures { result ≡ (seen self.now).failures };
 
     /// Fills the front of `buf` with the next bytes, and answers how many they are: 0 at the end
     /// (or for an empty `buf`). An error is counted, and comes only where a read may fail.
     fn read(&mut self, buf: &mut [u8]) -> Result<usize, ReadFailed>
-        requires { failure_count self.old < 2 ^ 64 - 1 }
+        requires { (seen self.old).failures < 2 ^ 64 - 1 }
         ensures bound { ReadsAtMost result buf.new }
-        ensures bytes { ReadConsumes (to_come self.old) (to_come self.new) result buf.new }
-        ensures failed { failure_count self.new ≡ failure_count self.old + read_failures result }
-        ensures same { may_fail self.new ≡ may_fail self.old }
-        ensures able { OnErr result (may_fail self.old ≡ true) };
+        ensures bytes { ReadConsumes
+            (seen self.old).to_come (seen self.new).to_come result buf.new }
+        ensures failed { (seen self.new).failures
+            ≡ (seen self.old).failures + read_failures result }
+        ensures same { (seen self.new).may_fail ≡ (seen self.old).may_fail }
+        ensures able { OnErr result ((seen self.old).may_fail ≡ true) };
 }
 
 /// A writer of bytes that counts its failures.
 pub trait ByteOut {
-    // The bytes that the writer took so far, where they are known.
-    ghost taken: { Self → Option (List ℕ) } = { λ _. None };
-
-    // How many writes failed, or took none of some bytes.
-    ghost failure_count: { Self → ℕ };
+    // The bytes that were taken, and the failures.
+    ghost sent: { Self → Sent };
 
     /// How many writes failed so far, or took none of some bytes.
     fn failures(&self) -> u64
-        ensures { result ≡ failure_count self.now };
+        ensures { result ≡ (sent self.now).failures };
 
     /// Takes bytes from the front of `buf`, and answers how many. An error is counted, and so is
     /// an answer of 0 for a `buf` that isn't empty.
     fn write(&mut self, buf: &[u8]) -> Result<usize, WriteFailed>
-        requires { failure_count self.old < 2 ^ 64 - 1 }
+        requires { (sent self.old).failures < 2 ^ 64 - 1 }
         ensures bound { WritesAtMost result buf.now }
-        ensures bytes { WriteAppends (taken self.old) (taken self.new) result buf.now }
-        ensures failed { failure_count self.new
-            ≡ failure_count self.old + write_failures result buf.now };
+        ensures bytes { WriteAppends (sent self.old).taken (sent self.new).taken result buf.now }
+        ensures failed { (sent self.new).failures
+            ≡ (sent self.old).failures + write_failures result buf.now };
 }
 
 impl<R: ByteIn> ByteIn for &mut R {
-    ghost to_come = { λ r. R.to_come r.now };
-
-    ghost failure_count = { λ r. R.failure_count r.now };
-
-    ghost may_fail = { λ r. R.may_fail r.now };
+    ghost seen = { λ r. R.seen r.now };
 
     fn failures(&self) -> u64 {
         (**self).failures()
@@ -92,9 +81,7 @@ impl<R: ByteIn> ByteIn for &mut R {
 }
 
 impl<W: ByteOut> ByteOut for &mut W {
-    ghost taken = { λ w. W.taken w.now };
-
-    ghost failure_count = { λ w. W.failure_count w.now };
+    ghost sent = { λ w. W.sent w.now };
 
     fn failures(&self) -> u64 {
         (**self).failures()
@@ -123,9 +110,8 @@ impl<T> Counted<T> {
 }
 
 impl<R: Read> ByteIn for Counted<R> {
-    ghost to_come = { λ r. R.remaining r.inner };
-
-    ghost failure_count = { λ r. r.failures };
+    ghost seen = { λ r. record
+        { to_come = R.remaining r.inner; failures = r.failures; may_fail = true } };
 
     fn failures(&self) -> u64 {
         self.failures
@@ -143,9 +129,7 @@ impl<R: Read> ByteIn for Counted<R> {
 }
 
 impl<W: Write> ByteOut for Counted<W> {
-    ghost taken = { λ w. W.contents w.inner };
-
-    ghost failure_count = { λ w. w.failures };
+    ghost sent = { λ w. record { taken = W.contents w.inner; failures = w.failures } };
 
     fn failures(&self) -> u64 {
         self.failures
@@ -171,11 +155,14 @@ impl<W: Write> ByteOut for Counted<W> {
 /// an error, or a write that takes none. What was taken then is a front of `bytes`, and exactly
 /// one failure was counted.
 pub fn write_all<W: ByteOut>(writer: &mut W, bytes: &[u8]) -> Result<(), WriteFailed>
-    requires { W.failure_count writer.old < 2 ^ 64 - 1 }
-    ensures ok { OnOk result (Appends (W.taken writer.old) (W.taken writer.new) bytes.now) }
-    ensures unfailed { OnOk result (W.failure_count writer.new ≡ W.failure_count writer.old) }
-    ensures front { OnErr result (TakesFront (W.taken writer.old) (W.taken writer.new) bytes.now) }
-    ensures failed { OnErr result (W.failure_count writer.new ≡ W.failure_count writer.old + 1) }
+    requires { (W.sent writer.old).failures < 2 ^ 64 - 1 }
+    ensures ok { OnOk result
+        (Appends (W.sent writer.old).taken (W.sent writer.new).taken bytes.now) }
+    ensures unfailed { OnOk result ((W.sent writer.new).failures ≡ (W.sent writer.old).failures) }
+    ensures front { OnErr result
+        (TakesFront (W.sent writer.old).taken (W.sent writer.new).taken bytes.now) }
+    ensures failed { OnErr result
+        ((W.sent writer.new).failures ≡ (W.sent writer.old).failures + 1) }
 {
     let mut at = 0;
     while at < bytes.len() {
@@ -209,21 +196,21 @@ pub enum InputFault {
 /// byte too many are both `InputFault::Read`; the reader's count of failures tells them apart.
 /// Where no read can fail, `Read` tells a byte too many.
 pub fn read_all<R: ByteIn>(alloc: Global, reader: &mut R) -> Result<Vec<u8>, InputFault>
-    requires { R.failure_count reader.old < 2 ^ 64 - 1 }
-    ensures ok { IfOk result (λ v. Consumes (R.to_come reader.old) (R.to_come reader.new) v.items) }
-    ensures end { OnOk result (IsAtEnd (R.to_come reader.new)) }
+    requires { (R.seen reader.old).failures < 2 ^ 64 - 1 }
+    ensures ok { IfOk result
+        (λ v. Consumes (R.seen reader.old).to_come (R.seen reader.new).to_come v.items) }
+    ensures end { OnOk result (IsAtEnd (R.seen reader.new).to_come) }
     ensures within { IfOk result (λ v. vec_len v ≤ source_limit) }
-    ensures unfailed { OnOk result (R.failure_count reader.new ≡ R.failure_count reader.old) }
+    ensures unfailed { OnOk result ((R.seen reader.new).failures ≡ (R.seen reader.old).failures) }
     ensures read { IsErrOf result InputFault.Read →
-        R.failure_count reader.new ≡ R.failure_count reader.old →
-        GivesTooMany (R.to_come reader.old) (R.to_come reader.new) source_limit }
+        (R.seen reader.new).failures ≡ (R.seen reader.old).failures →
+        GivesTooMany (R.seen reader.old).to_come (R.seen reader.new).to_come source_limit }
     ensures memory { IsErrOf result InputFault.Memory →
-        R.failure_count reader.new ≡ R.failure_count reader.old }
-    ensures once { R.failure_count reader.new ≤ R.failure_count reader.old + 1 }
+        (R.seen reader.new).failures ≡ (R.seen reader.old).failures }
+    ensures once { (R.seen reader.new).failures ≤ (R.seen reader.old).failures + 1 }
     ensures gave { OnErr result ((given : List ℕ)
-        × Consumes (R.to_come reader.old) (R.to_come reader.new) given) }
-    ensures steady { IsSteady (R.may_fail reader.old) (R.may_fail reader.new)
-        (R.failure_count reader.old) (R.failure_count reader.new) }
+        × Consumes (R.seen reader.old).to_come (R.seen reader.new).to_come given) }
+    ensures steady { IsSteady (R.seen reader.old) (R.seen reader.new) }
 {
     let mut all = Vec::new(alloc);
     let mut piece = [0u8; PIECE];

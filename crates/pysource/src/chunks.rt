@@ -2,10 +2,10 @@
 //!
 //! Python language reference, 2.1.2 "Physical lines" and 2.1.4 "Encoding declarations".
 
-ghost use Rattle.std.specs.Prelude.{◌≡◌, ℕ, ◌+◌, ◌-◌, ◌^◌, ◌<◌, ◌≤◌, false, List, Option, length};
+ghost use Rattle.std.specs.Prelude.{◌≡◌, ℕ, ◌+◌, ◌-◌, ◌^◌, ◌<◌, ◌≤◌, length};
 ghost use Rattle.std.specs.Prelude.{IfOk, IfErr};
 ghost use Rattle.std.specs.String.{string_bytes};
-ghost use Rattle.pysource.specs.Bytes.{IsSteady};
+ghost use Rattle.pysource.specs.Bytes.{Seen};
 ghost use Rattle.pysource.specs.Limits.{source_limit};
 ghost use Rattle.pysource.specs.Streams.{NextLine, Opens, Refuses};
 ghost use Rattle.pysource.specs.Taking.{fails};
@@ -24,7 +24,7 @@ pub struct Chunks<R: ByteIn> {
     // The reader can be read on where reading isn't over.
     ghost possible: { told < 2 ^ 64 - 1 },
     // Besides the failures that it told when it was taken, at most one was counted.
-    ghost counted: { R.failure_count reader ≡ told + fails lines.reach },
+    ghost counted: { (R.seen reader).failures ≡ told + fails lines.reach },
 }
 
 impl<R: ByteIn> Chunks<R> {
@@ -33,18 +33,10 @@ impl<R: ByteIn> Chunks<R> {
     pub fn new(alloc: Global, mut reader: R) -> Result<Chunks<R>, StreamFault>
     where
         R: Drop,
-        requires { R.failure_count reader < 2 ^ 64 - 1 }
-        ensures opens { IfOk result
-            (λ c. Opens (R.to_come reader) (R.to_come c.reader) (R.failure_count reader)
-            (R.failure_count c.reader) c.lines) }
-        ensures told { IfOk result (λ c. c.told ≡ R.failure_count reader) }
-        ensures steady { IfOk result
-            (λ c. IsSteady (R.may_fail reader) (R.may_fail c.reader) (R.failure_count reader)
-            (R.failure_count c.reader)) }
-        ensures refuses { IfErr result
-            (λ e. (come : Option (List ℕ)) × (told : ℕ)
-            × (R.may_fail reader ≡ false → told ≡ R.failure_count reader)
-            × Refuses (R.to_come reader) come (R.failure_count reader) told e) }
+        requires { (R.seen reader).failures < 2 ^ 64 - 1 }
+        ensures opens { IfOk result (λ c. Opens (R.seen reader) (R.seen c.reader) c.lines) }
+        ensures told { IfOk result (λ c. c.told ≡ (R.seen reader).failures) }
+        ensures refuses { IfErr result (λ e. (seen : Seen) × Refuses (R.seen reader) seen e) }
     {
         let told = reader.failures();
         let lines = LineReader::new(alloc, &mut reader)?;
@@ -71,15 +63,12 @@ impl<R: ByteIn> Chunks<R> {
 
     /// Appends the next line, as [`LineReader::next_line`] does.
     pub fn next_line(&mut self, chunk: &mut String) -> Result<Line, AllocError>
-        ensures moves { NextLine (R.to_come self.old.reader) (R.to_come self.new.reader)
-            (R.failure_count self.old.reader)
-            (R.failure_count self.new.reader) self.old.lines self.new.lines (string_bytes chunk.old)
-            (string_bytes chunk.new) result }
+        ensures moves { NextLine (R.seen self.old.reader) (R.seen self.new.reader)
+            self.old.lines self.new.lines
+            (string_bytes chunk.old) (string_bytes chunk.new) result }
         ensures within { self.new.lines.count ≤ source_limit }
         ensures pending { length self.new.lines.pending ≤ self.new.lines.count }
         ensures told { self.new.told ≡ self.old.told }
-        ensures steady { IsSteady (R.may_fail self.old.reader) (R.may_fail self.new.reader)
-            (R.failure_count self.old.reader) (R.failure_count self.new.reader) }
     {
         self.lines.next_line(&mut self.reader, chunk)
     }

@@ -7,7 +7,6 @@
 ghost use Rattle.std.specs.Prelude.{◌≡◌, ℕ, ◌+◌, ◌-◌, ◌^◌, ◌<◌, ◌≤◌, List, [], Option, length};
 ghost use Rattle.std.specs.Prelude.{IfOk};
 ghost use Rattle.std.specs.String.{string_bytes};
-ghost use Rattle.pysource.specs.Bytes.{IsSteady};
 ghost use Rattle.pysource.specs.Limits.{source_limit};
 ghost use Rattle.pysource.specs.Streams.{NextLine, Open, of_source, searches_second, PushesLine};
 ghost use Rattle.pysource.specs.Taking.{Takes, Grows, FoundHead, FoundDue};
@@ -152,15 +151,13 @@ fn head_line<R: ByteIn>(
     reader: &mut R,
     start: usize,
 ) -> Result<usize, StreamFault>
-    requires possible { intake.old.reach ≡ Reach.Reading → R.failure_count reader.old < 2 ^ 64 - 1 }
+    requires possible { intake.old.reach ≡ Reach.Reading
+        → (R.seen reader.old).failures < 2 ^ 64 - 1 }
     requires within { intake.old.count ≤ source_limit }
     requires start { start ≤ length intake.old.buffer }
-    ensures grows { Grows (R.to_come reader.old) (R.to_come reader.new) (R.failure_count reader.old)
-        (R.failure_count reader.new) intake.old intake.new }
+    ensures grows { Grows (R.seen reader.old) (R.seen reader.new) intake.old intake.new }
     ensures within { intake.new.count ≤ source_limit }
     ensures found { FoundHead start intake.old intake.new result }
-    ensures steady { IsSteady (R.may_fail reader.old) (R.may_fail reader.new)
-        (R.failure_count reader.old) (R.failure_count reader.new) }
 {
     match intake.line_end(reader, start) {
         Err(_) => Err(StreamFault::Memory),
@@ -175,17 +172,14 @@ fn head_line<R: ByteIn>(
 /// The ends of the lines that decide the encoding: of the first, and of the second where that is
 /// searched for a cookie.
 fn read_head<R: ByteIn>(intake: &mut Intake, reader: &mut R) -> Result<(usize, usize), StreamFault>
-    requires possible { R.failure_count reader.old < 2 ^ 64 - 1 }
+    requires possible { (R.seen reader.old).failures < 2 ^ 64 - 1 }
     requires buffer { intake.old.buffer ≡ [] }
     requires reach { intake.old.reach ≡ Reach.Reading }
     requires count { intake.old.count ≡ 0 }
-    ensures takes { Takes (R.to_come reader.old) (R.to_come reader.new) (R.failure_count reader.old)
-        (R.failure_count reader.new) Reach.Reading intake.new.reach 0 intake.new.count
-        intake.new.buffer }
+    ensures takes { Takes (R.seen reader.old) (R.seen reader.new)
+        Reach.Reading intake.new.reach 0 intake.new.count intake.new.buffer }
     ensures within { intake.new.count ≤ source_limit }
     ensures found { FoundHeads intake.new result }
-    ensures steady { IsSteady (R.may_fail reader.old) (R.may_fail reader.new)
-        (R.failure_count reader.old) (R.failure_count reader.new) }
 {
     let first = head_line(intake, reader, 0)?;
     match intake.reach {
@@ -202,14 +196,12 @@ fn read_head<R: ByteIn>(intake: &mut Intake, reader: &mut R) -> Result<(usize, u
 /// The line that is due, by its length: 0 where no line is left, and `None` where it could not be
 /// read whole.
 fn due_line<R: ByteIn>(intake: &mut Intake, reader: &mut R) -> Result<Option<usize>, AllocError>
-    requires possible { intake.old.reach ≡ Reach.Reading → R.failure_count reader.old < 2 ^ 64 - 1 }
+    requires possible { intake.old.reach ≡ Reach.Reading
+        → (R.seen reader.old).failures < 2 ^ 64 - 1 }
     requires within { intake.old.count ≤ source_limit }
-    ensures grows { Grows (R.to_come reader.old) (R.to_come reader.new) (R.failure_count reader.old)
-        (R.failure_count reader.new) intake.old intake.new }
+    ensures grows { Grows (R.seen reader.old) (R.seen reader.new) intake.old intake.new }
     ensures within { intake.new.count ≤ source_limit }
     ensures found { FoundDue intake.old intake.new result }
-    ensures steady { IsSteady (R.may_fail reader.old) (R.may_fail reader.new)
-        (R.failure_count reader.old) (R.failure_count reader.new) }
 {
     match intake.line_end(reader, 0)? {
         Some(end) => Ok(Some(end)),
@@ -231,11 +223,8 @@ impl LineReader {
     /// `UnsupportedEncoding` and `BomConflict` as [`encoding_of`] for these lines, `Read` where one
     /// of them could not be read whole, and `Memory`. What was taken of the reader is lost then.
     pub fn new<R: ByteIn>(alloc: Global, reader: &mut R) -> Result<LineReader, StreamFault>
-        requires { R.failure_count reader.old < 2 ^ 64 - 1 }
-        ensures opening { Open (R.to_come reader.old) (R.to_come reader.new)
-            (R.failure_count reader.old) (R.failure_count reader.new) result }
-        ensures steady { IsSteady (R.may_fail reader.old) (R.may_fail reader.new)
-            (R.failure_count reader.old) (R.failure_count reader.new) }
+        requires { (R.seen reader.old).failures < 2 ^ 64 - 1 }
+        ensures opening { Open (R.seen reader.old) (R.seen reader.new) result }
     {
         let mut intake = Intake::new(alloc);
         let (first, second) = read_head(&mut intake, reader)?;
@@ -280,14 +269,11 @@ impl LineReader {
         reader: &mut R,
         chunk: &mut String,
     ) -> Result<Line, AllocError>
-        requires { self.old.reach ≡ Reach.Reading → R.failure_count reader.old < 2 ^ 64 - 1 }
-        ensures moves { NextLine (R.to_come reader.old) (R.to_come reader.new)
-            (R.failure_count reader.old) (R.failure_count reader.new) self.old self.new
+        requires { self.old.reach ≡ Reach.Reading → (R.seen reader.old).failures < 2 ^ 64 - 1 }
+        ensures moves { NextLine (R.seen reader.old) (R.seen reader.new) self.old self.new
             (string_bytes chunk.old) (string_bytes chunk.new) result }
         ensures within { self.new.count ≤ source_limit }
         ensures pending { length self.new.pending ≤ self.new.count }
-        ensures steady { IsSteady (R.may_fail reader.old) (R.may_fail reader.new)
-            (R.failure_count reader.old) (R.failure_count reader.new) }
     {
         if let Some(fault) = self.fault {
             return Ok(Line::Fault(fault));

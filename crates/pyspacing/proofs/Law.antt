@@ -10,7 +10,7 @@ use Rattle.std.specs.Str.{encode_utf8_all}
 use Rattle.pysource.specs.Cookies.{plain}
 use Rattle.pysource.specs.Parts.{Parts}
 use Rattle.pylex.specs.Listing.{in_characters}
-use Rattle.pylexeme.proofs.Fronts.Best.{and_parts}
+use Rattle.pylexeme.proofs.Callers.Booleans.{and_parts}
 use Rattle.pyspacing.specs.Spacing.{lines_text}
 use Rattle.pyspacing.specs.Tokens.{tokens_behind, is_written, rise_by_one, IsListedAs}
 use Rattle.pyspacing.specs.Laws.{WrittenIsRead, WrittenIsClear}

@@ -7,10 +7,9 @@ use Rattle.std.proofs.lemmas.Bool.Decides.{nat_tests}
 use Rattle.pylexeme.specs.Numbers.{is_nil, split_any, optional, headed, is_decimal_digit, is_zero, is_hex_digit, is_octal_digit, is_binary_digit}
 use Rattle.pylexeme.specs.Numbers.{is_point, is_e, is_j, is_x, is_o, is_b, is_sign, are_some, is_decimal, is_radix, is_digit_part, is_exponent}
 use Rattle.pylexeme.specs.Numbers.{is_point_after, is_point_before, is_raised, is_float, is_imaginary}
-use Rattle.pylexeme.proofs.Fronts.Best.{and_parts, or_parts, split_all}
-use Rattle.pylexeme.proofs.Fronts.Joined.{joined_all}
-use Rattle.pylexeme.proofs.Numbers.NumberSets.{digit_bounds, either, either_not, point_is}
-use Rattle.pylexeme.proofs.Numbers.Parts.{part_all, decimal_part}
+use Rattle.pylexeme.proofs.Callers.Booleans.{and_parts, or_parts}
+use Rattle.pylexeme.proofs.Callers.Fronts.{split_all, joined_all}
+use Rattle.pylexeme.proofs.Callers.Numbers.{digit_bounds, either, either_not, point_is, part_all, decimal_part}
 use Rattle.pytoken.specs.declared.faults.TokenError.TheVariants.{Float, Complex, IntegerTooLarge}
 use Rattle.pytoken.specs.NumberValues.{radix_of, whole_value, is_complex, is_real, number_fault}
 use Rattle.pytoken.specs.Laws.{FaultsAreByClass}

@@ -17,7 +17,7 @@ use Rattle.unicode_ident.proofs.Computing.{unicode_ident}
 use Rattle.unicode_normalization.specs.Forms.{Nfkc, nfkc, is_in_form}
 use Rattle.unicode_normalization.proofs.FormsLemmas.{normalize-ascii}
 use Rattle.pysource.specs.Reprs.{escaped, quote_for, repr_chars, repr_text, is_unprintable}
-use Rattle.pysource.proofs.Printing.Categories.{unprintable_no_character}
+use Rattle.pysource.proofs.Callers.Printing.{unprintable_no_character}
 use Rattle.pylexeme.specs.Lexemes.{is_name}
 use Rattle.pylex.specs.declared.kind.Kind.{Kind}
 use Rattle.pylex.specs.declared.kind.Kind.TheVariants as kinds

@@ -3,13 +3,14 @@ use Rattle.std.proofs.Common.{◌≡◌, ℕ, ◌+◌, ◌≤◌, Bool, true, fa
 use Rattle.std.proofs.lemmas.Grind.{common_steps}
 use Rattle.std.specs.Prelude.{find, String}
 use Rattle.std.specs.declared.alloc.Global.{Global}
+use Rattle.pysource.specs.Bytes.{Seen}
 use Rattle.pysource.specs.Parts.{Parts}
 use Rattle.pysource.specs.Limits.{source_limit}
 use Rattle.pysource.specs.Streams.{FollowsAt, stream_of}
 use Rattle.pysource.specs.Taking.{Takes}
 use Rattle.pysource.specs.declared.line_reader.Reach.{Reach}
 use Rattle.pysource.specs.declared.line_reader.Reach.TheVariants as reach
-use Rattle.pysource.proofs.TakenBytes.TakingLemmas.{Takes-on}
+use Rattle.pysource.proofs.Callers.Taken.{Takes-on}
 use Rattle.pylex.specs.declared.entries.Entry.{Entry}
 use Rattle.pylex.specs.declared.entries.Step.{Step}
 use Rattle.pylex.specs.declared.entries.Step.TheVariants as steps
@@ -50,16 +51,16 @@ other_is e h = by e.kind h
     by _ h = refl
 
 -- a lister stands in a source, whatever follows of what was taken, and no comment was given
-pub record Searches (come_old come_new : Option (List ℕ)) (told_old told_new : ℕ) (v : Streamed) : Type 0 where
+pub record Searches (seen_old seen_new : Seen) (v : Streamed) : Type 0 where
   pub taken : List ℕ
-  pub reads : Takes come_old come_new told_old told_new reach.Reading v.lines.reach 0 v.lines.count taken
+  pub reads : Takes seen_old seen_new reach.Reading v.lines.reach 0 v.lines.count taken
   pub stands : (more : List ℕ) (broken : Bool) → Continues v.lines more broken → (p : Parts) × (stream_of broken (taken ++ more) ≡ Ok p) × StreamsIn v p v.shown.given more broken × (first_comment_of p ≡ first_behind p v.shown.given)
 
 given_is : (v : Streamed) (p : Parts) (k : ℕ) (more : List ℕ) (broken : Bool) → StreamsIn v p k more broken → StreamsIn v p v.shown.given more broken
 given_is v p k more broken s = subst (λ (n : ℕ). StreamsIn v p n more broken) (sym s.stands.count) s
 
 -- it does where it begins
-pub begun : {come_old come_new : Option (List ℕ)} {told_old told_new : ℕ} {v : Streamed} → BeginsAnew come_old come_new told_old told_new v → Searches come_old come_new told_old told_new v
+pub begun : {seen_old seen_new : Seen} {v : Streamed} → BeginsAnew seen_old seen_new v → Searches seen_old seen_new v
 begun {v = v} b = record {
   taken = b.begins.taken;
   reads = b.begins.reads;
@@ -67,12 +68,12 @@ begun {v = v} b = record {
 }
 
 -- A step was taken.
-module _ {come_old come_mid come_new : Option (List ℕ)} {told_old told_mid told_new : ℕ} {old new : Streamed} {step : Step} (s : Next come_mid come_new told_mid told_new old new (Ok step)) (o : Searches come_old come_mid told_old told_mid old) where
+module _ {seen_old seen_mid seen_new : Seen} {old new : Streamed} {step : Step} (s : Next seen_mid seen_new old new (Ok step)) (o : Searches seen_old seen_mid old) where
   abbrev taken : List ℕ
   taken = o.taken ++ s.taken
 
-  reads : Takes come_old come_new told_old told_new reach.Reading new.lines.reach 0 new.lines.count taken
-  reads = Takes-on come_old come_mid come_new told_old told_mid told_new 0 _ _ reach.Reading old.lines.reach new.lines.reach o.taken s.taken o.reads s.reads
+  reads : Takes seen_old seen_new reach.Reading new.lines.reach 0 new.lines.count taken
+  reads = Takes-on seen_old seen_mid seen_new 0 _ _ reach.Reading old.lines.reach new.lines.reach o.taken s.taken o.reads s.reads
 
   -- the step is the next one in the source, and the lister stands behind it
   stepped : (more : List ℕ) (broken : Bool) → Continues new.lines more broken
@@ -94,7 +95,7 @@ module _ {come_old come_mid come_new : Option (List ℕ)} {told_old told_mid tol
   first_of p e at is = ap (λ (ss : List Step). entries_of ss) (next_is (in_characters p) old.shown.given (steps.Entry e) (at ∙ ap (λ (x : Step). Some x) is))
 
   -- past an entry that is no comment
-  pub goes_on : (e : Entry) → step ≡ steps.Entry e → is_comment e ≡ false → Searches come_old come_new told_old told_new new
+  pub goes_on : (e : Entry) → step ≡ steps.Entry e → is_comment e ≡ false → Searches seen_old seen_new new
   goes_on e is other = record {
     taken = taken;
     reads = reads;
@@ -106,10 +107,9 @@ module _ {come_old come_mid come_new : Option (List ℕ)} {told_old told_mid tol
 
   -- to a comment
   pub finds : (e : Entry) (text : String Global) → step ≡ steps.Entry e → is_comment e ≡ true
-      → ((p : Parts) (k : ℕ) (more : List ℕ) (broken : Bool) → StreamsIn new p k more broken → string_bytes text ≡ text_of p e) → Finds come_old told_old (Some text)
+      → ((p : Parts) (k : ℕ) (more : List ℕ) (broken : Bool) → StreamsIn new p k more broken → string_bytes text ≡ text_of p e) → Finds seen_old (Some text)
   finds e text is comment shown = record {
-    come_new = come_new;
-    told_new = told_new;
+    seen_new = seen_new;
     taken = taken;
     lines = new.lines;
     reads = reads;
@@ -125,10 +125,9 @@ module _ {come_old come_mid come_new : Option (List ℕ)} {told_old told_mid tol
   none_behind p (steps.Fault f) at ends = ap (λ (es : List Entry). option_map (text_of p) (find is_comment es)) (fault_last (in_characters p) old.shown.given f at).0
 
   -- to the end or the fault
-  pub finds_none : ((e : Entry) → step ≡ steps.Entry e → ⊥) → Finds come_old told_old None
+  pub finds_none : ((e : Entry) → step ≡ steps.Entry e → ⊥) → Finds seen_old None
   finds_none ends = record {
-    come_new = come_new;
-    told_new = told_new;
+    seen_new = seen_new;
     taken = taken;
     lines = new.lines;
     reads = reads;

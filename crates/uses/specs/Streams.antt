@@ -1,6 +1,7 @@
 -- The first comment of what a reader gives.
 use Rattle.std.specs.Prelude.{◌≡◌, ◌⊎◌, ℕ, Bool, true, false, List, ◌++◌, Option, option_map, find, Ok, String, string_bytes}
 use Rattle.std.specs.declared.alloc.Global.{Global}
+use Rattle.pysource.specs.Bytes.{Seen}
 use Rattle.pysource.specs.Parts.{Parts}
 use Rattle.pysource.specs.Streams.{Buffered, stream_of, Refuses}
 use Rattle.pysource.specs.Taking.{Takes}
@@ -23,14 +24,13 @@ abbrev pub first_comment_of : Parts → Option (List ℕ)
 first_comment_of p = option_map (text_of p) (find is_comment (entries_of (listing (in_characters p))))
 
 -- From a reader bytes were taken, and whatever may follow them, this is the first comment of the source.
-pub record Finds (come : Option (List ℕ)) (told : ℕ) (found : Option (String Global)) : Type 0 where
-  pub come_new : Option (List ℕ)
-  pub told_new : ℕ
+pub record Finds (seen : Seen) (found : Option (String Global)) : Type 0 where
+  pub seen_new : Seen
   pub taken : List ℕ
   pub lines : Buffered
-  pub reads : Takes come come_new told told_new Reading lines.reach 0 lines.count taken
+  pub reads : Takes seen seen_new Reading lines.reach 0 lines.count taken
   pub is : (more : List ℕ) (broken : Bool) → Continues lines more broken → (p : Parts) × (stream_of broken (taken ++ more) ≡ Ok p) × (first_comment_of p ≡ option_map (λ t. string_bytes t) found)
 
 -- there was no memory, or the reader gives no source
-abbrev pub FindsNone : Option (List ℕ) → ℕ → StreamFault → Type 0
-FindsNone come told fault = (fault ≡ Memory) ⊎ ((come_new : Option (List ℕ)) × (told_new : ℕ) × Refuses come come_new told told_new fault)
+abbrev pub FindsNone : Seen → StreamFault → Type 0
+FindsNone seen fault = (fault ≡ Memory) ⊎ ((seen_new : Seen) × Refuses seen seen_new fault)

@@ -13,9 +13,9 @@ pub fn first_comment<R: ByteIn + Drop>(
     alloc: Global,
     reader: R,
 ) -> Result<Option<String>, StreamFault>
-    requires { R.failure_count reader < 2 ^ 64 - 1 }
-    ensures found { IfOk result (Finds (R.to_come reader) (R.failure_count reader)) }
-    ensures refused { IfErr result (FindsNone (R.to_come reader) (R.failure_count reader)) }
+    requires { (R.seen reader).failures < 2 ^ 64 - 1 }
+    ensures found { IfOk result (Finds (R.seen reader)) }
+    ensures refused { IfErr result (FindsNone (R.seen reader)) }
 {
     let mut lister = StreamLister::new(alloc, reader)?;
     loop {

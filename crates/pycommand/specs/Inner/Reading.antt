@@ -1,5 +1,6 @@
 -- A source that is read whole, and the module that it is.
-use Rattle.std.specs.Prelude.{◌≡◌, ℕ, List, Option}
+use Rattle.std.specs.Prelude.{◌≡◌, ℕ, List}
+use Rattle.pysource.specs.Bytes.{Seen}
 use Rattle.pysource.specs.Limits.{source_limit}
 use Rattle.pynode.specs.declared.profiles.Profile.{Profile}
 use Rattle.pynode.specs.Trees.{Module}
@@ -15,17 +16,17 @@ Refuses profile bytes (InSource code place) = IsRefused profile bytes (InSource 
 Refuses profile bytes (Plain code) = elim code [ Memory ↦ Unit {0} | _ ↦ ⊥ ]
 
 -- a reader's bytes are a module
-pub record ReadsModule (profile : Profile) (come_old come_new : Option (List ℕ)) (reads_old reads_new : ℕ) (m : Module) : Type 0 where
+pub record ReadsModule (profile : Profile) (seen_old seen_new : Seen) (m : Module) : Type 0 where
   pub input : List ℕ
-  pub all : ReadsAll come_old come_new reads_old reads_new source_limit input
+  pub all : ReadsAll seen_old seen_new source_limit input
   pub is : IsModule profile input m
 
 -- why they give none: the source is at fault, a read failed, or memory was wanting
-abbrev pub ReadsNone : Profile → Option (List ℕ) → Option (List ℕ) → ℕ → ℕ → Fault → Type 0
-ReadsNone profile come_old come_new reads_old reads_new (InSource code place) =
-    (input : List ℕ) × ReadsAll come_old come_new reads_old reads_new source_limit input × IsRefused profile input (InSource code place)
-ReadsNone profile come_old come_new reads_old reads_new (Plain code) = elim code [
-  | Read ↦ ReadsNotAll come_old come_new reads_old reads_new source_limit
-  | Memory ↦ reads_new ≡ reads_old
+abbrev pub ReadsNone : Profile → Seen → Seen → Fault → Type 0
+ReadsNone profile seen_old seen_new (InSource code place) =
+    (input : List ℕ) × ReadsAll seen_old seen_new source_limit input × IsRefused profile input (InSource code place)
+ReadsNone profile seen_old seen_new (Plain code) = elim code [
+  | Read ↦ ReadsNotAll seen_old seen_new source_limit
+  | Memory ↦ seen_new.failures ≡ seen_old.failures
   | _ ↦ ⊥
 ]

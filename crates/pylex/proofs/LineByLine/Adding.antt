@@ -1,17 +1,18 @@
 -- Further lines behind a text.
 --
 -- Carries: lengthen, add_lines. On: Reading.
-use Rattle.std.proofs.Common.{◌≡◌, ◌⊎◌, inl, inr, ⊎_elim, ℕ, ◌<◌, ◌≤◌, true, List, [], ◌++◌, length, drop, refl, ap, sym, ◌∙◌, subst, append-nil, append_assoc, length-append, arith, Option, None, string_bytes}
+use Rattle.std.proofs.Common.{◌≡◌, ◌⊎◌, inl, inr, ⊎_elim, ℕ, ◌<◌, ◌≤◌, true, List, [], ◌++◌, length, drop, refl, ap, sym, ◌∙◌, subst, append-nil, append_assoc, length-append, arith, None, string_bytes}
 use Rattle.std.specs.Prelude.{Result, Ok}
 use Rattle.std.specs.declared.alloc.AllocError.{AllocError}
 use Rattle.std.specs.Str.{IsCharBoundary}
 use lib.Seq.{drop-append-le}
 use Rattle.std.proofs.lemmas.Str.{IsUtf8-append, IsUtf8-nil, IsCharBoundary-at_seam}
+use Rattle.pysource.specs.Bytes.{Seen}
 use Rattle.pysource.specs.Limits.{source_limit}
 use Rattle.pysource.specs.declared.line_reader.Line.{Line}
 use Rattle.pysource.specs.declared.line_reader.Line.TheVariants as met
 use Rattle.pysource.specs.Streams.{Buffered, Follows, Gives, ComesOnly, NextLine, Reads, comes, onto, ends_line}
-use Rattle.pysource.proofs.TakenBytes.TakingLemmas.{Takes-none, Takes-on}
+use Rattle.pysource.proofs.Callers.Taken.{Takes-none, Takes-on}
 use Rattle.pylex.specs.declared.held_lines.HeldLines.{HeldLines}
 use Rattle.pylex.specs.Chunked.{AddsOn, IsLonger, ReadsOn}
 use Rattle.pylex.proofs.LineByLine.Reading.{ends_behind}
@@ -29,11 +30,11 @@ gives_both a b c t u l m p q = λ more broken f.
 only_kept : (b c : Buffered) (u : List ℕ) → Gives b u [] c → ComesOnly b None → ComesOnly c None
 only_kept b c u g o = λ more broken f. let r = g more broken f in sym r.1 ∙ o (u ++ more) broken r.0
 
-pub adds_none : (come : Option (List ℕ)) (told : ℕ) (b : Buffered) (text : List ℕ) → b.count ≤ source_limit → AddsOn come come told told b b text text
-adds_none come told b text within = record {
+pub adds_none : (seen : Seen) (b : Buffered) (text : List ℕ) → b.count ≤ source_limit → AddsOn seen seen b b text text
+adds_none seen b text within = record {
   taken = [];
   added = [];
-  reads = Takes-none come told b.count b.reach;
+  reads = Takes-none seen b.count b.reach;
   gives = λ more broken f. (f, refl);
   text = sym (append-nil text);
   utf8 = IsUtf8-nil;
@@ -43,12 +44,12 @@ adds_none come told b text within = record {
   within = within;
 }
 
-module _ (x y z : Option (List ℕ)) (k m n : ℕ) (a b c : Buffered) (text_a text_b text_c : List ℕ) (p : AddsOn x y k m a b text_a text_b) where
-  reads_both : (u : List ℕ) → Reads y z m n b c u → Reads x z k n a c (p.taken ++ u)
-  reads_both u r = Takes-on x y z k m n a.count b.count c.count a.reach b.reach c.reach p.taken u p.reads r
+module _ (x y z : Seen) (a b c : Buffered) (text_a text_b text_c : List ℕ) (p : AddsOn x y a b text_a text_b) where
+  reads_both : (u : List ℕ) → Reads y z b c u → Reads x z a c (p.taken ++ u)
+  reads_both u r = Takes-on x y z a.count b.count c.count a.reach b.reach c.reach p.taken u p.reads r
 
   -- One line more.
-  pub adds_line : (r : NextLine y z m n b c text_b text_c (Ok met.Text)) → c.count ≤ source_limit → AddsOn x z k n a c text_a text_c
+  pub adds_line : (r : NextLine y z b c text_b text_c (Ok met.Text)) → c.count ≤ source_limit → AddsOn x z a c text_a text_c
   adds_line r within = record {
     taken = p.taken ++ r.taken;
     added = p.added ++ r.line;
@@ -63,7 +64,7 @@ module _ (x y z : Option (List ℕ)) (k m n : ℕ) (a b c : Buffered) (text_a te
   }
 
   -- No line more.
-  pub adds_no_line : (q : Result Line AllocError) (r : NextLine y z m n b c text_b text_c q) → r.line ≡ [] → c.count ≤ source_limit → AddsOn x z k n a c text_a text_c
+  pub adds_no_line : (q : Result Line AllocError) (r : NextLine y z b c text_b text_c q) → r.line ≡ [] → c.count ≤ source_limit → AddsOn x z a c text_a text_c
   adds_no_line q r none within =
       let gives : Gives b r.taken [] c = subst (λ l. Gives b r.taken l c) none r.gives in
       record {
@@ -80,16 +81,16 @@ module _ (x y z : Option (List ℕ)) (k m n : ℕ) (a b c : Buffered) (text_a te
       }
 
 -- The lines behind one that was read are part of what was read on.
-pub reads_more : (x y z : Option (List ℕ)) (k m n : ℕ) (old mid new : HeldLines) (at : ℕ) → ReadsOn x y k m old mid at (Ok met.Text) → AddsOn y z m n mid.lines new.lines (string_bytes mid.text) (string_bytes new.text)
-    → string_bytes new.spare ≡ string_bytes mid.spare → new.base ≡ mid.base → new.at ≡ mid.at → ReadsOn x z k n old new at (Ok met.Text)
-reads_more x y z k m n old mid new at r p spare base place =
+pub reads_more : (x y z : Seen) (old mid new : HeldLines) (at : ℕ) → ReadsOn x y old mid at (Ok met.Text) → AddsOn y z mid.lines new.lines (string_bytes mid.text) (string_bytes new.text)
+    → string_bytes new.spare ≡ string_bytes mid.spare → new.base ≡ mid.base → new.at ≡ mid.at → ReadsOn x z old new at (Ok met.Text)
+reads_more x y z old mid new at r p spare base place =
     let longer = length-append (string_bytes mid.text) p.added in
     let fits = r.chunk.at in
     let size = ap length p.text in
     record {
       taken = r.taken ++ p.taken;
       line = r.line ++ p.added;
-      reads = Takes-on x y z k m n old.lines.count mid.lines.count new.lines.count old.lines.reach mid.lines.reach new.lines.reach r.taken p.taken r.reads p.reads;
+      reads = Takes-on x y z old.lines.count mid.lines.count new.lines.count old.lines.reach mid.lines.reach new.lines.reach r.taken p.taken r.reads p.reads;
       gives = gives_both old.lines mid.lines new.lines r.taken p.taken r.line p.added r.gives p.gives;
       adds = (some, IsUtf8-append r.line p.added r.adds.1 p.utf8, ends);
       same = p.same ∙ r.same;

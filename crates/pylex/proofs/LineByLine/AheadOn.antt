@@ -1,9 +1,10 @@
 -- How far is read ahead over several reads.
 --
 -- Carries: LineLister::next.
-use Rattle.std.proofs.Common.{◌≡◌, inl, inr, ⊎_elim, ℕ, ◌≤◌, List, [], ◌∷◌, length, refl, ap, sym, ◌∙◌, subst, arith, Option}
+use Rattle.std.proofs.Common.{◌≡◌, inl, inr, ⊎_elim, ℕ, ◌≤◌, List, [], ◌∷◌, length, refl, ap, sym, ◌∙◌, subst, arith}
 use Rattle.std.specs.Prelude.{Result, Ok}
 use Rattle.std.specs.declared.alloc.AllocError.{AllocError}
+use Rattle.pysource.specs.Bytes.{Seen}
 use Rattle.pysource.specs.Streams.{Buffered, NextLine, IsText, past_first}
 use Rattle.pysource.specs.declared.line_reader.Line.{Line}
 use Rattle.pysource.specs.declared.line_reader.Line.TheVariants as met
@@ -26,9 +27,9 @@ but_both a b c p (inr few) = inr few
 but_both a b c (inl s) (inl t) = inl (t.0 ∙ s.0, omega (arith, s.1, t.1))
 but_both a b c (inr few) (inl t) = inr (omega (arith, few, t.1))
 
-module _ (x y : Option (List ℕ)) (k m : ℕ) (a b c : Buffered) (text_b text_c : List ℕ) where
+module _ (x y : Seen) (a b c : Buffered) (text_b text_c : List ℕ) where
   -- A line was given.
-  pub ahead_line : AheadBut a b → NextLine x y k m b c text_b text_c (Ok met.Text) → Ahead a c
+  pub ahead_line : AheadBut a b → NextLine x y b c text_b text_c (Ok met.Text) → Ahead a c
   ahead_line (inl s) r = by (r.taken) refl
     where
       by : (t : List ℕ) → r.taken ≡ t → Ahead a c
@@ -37,7 +38,7 @@ module _ (x y : Option (List ℕ)) (k m : ℕ) (a b c : Buffered) (text_b text_c
   ahead_line (inr few) r = inr (omega (arith, few, r.ahead refl, r.first refl))
 
   -- or none
-  pub ahead_kept : (q : Result Line AllocError) → (r : NextLine x y k m b c text_b text_c q) → r.line ≡ [] → (IsText q → ⊥) → AheadBut a b → AheadBut a c
+  pub ahead_kept : (q : Result Line AllocError) → (r : NextLine x y b c text_b text_c q) → r.line ≡ [] → (IsText q → ⊥) → AheadBut a b → AheadBut a c
   ahead_kept q r none not p = ⊎_elim (λ same. stays same p) (λ few. inr few) (r.kept not)
     where
       stays : c.pending ≡ b.pending → AheadBut a b → AheadBut a c

@@ -10,7 +10,7 @@ use Rattle.std.proofs.lemmas.Str.{IsUtf8-nil, chars-nil}
 use Rattle.pysource.specs.Parts.{Parts}
 use Rattle.pysource.specs.Limits.{source_limit}
 use Rattle.pysource.specs.Streams.{comes, ends_line}
-use Rattle.pysource.proofs.FaultyLines.GoodLemmas.{comes_utf8, comes_len}
+use Rattle.pysource.proofs.Callers.Faults.{comes_utf8, comes_len}
 use Rattle.pylex.specs.declared.held_lines.HeldLines.{HeldLines}
 use Rattle.pylex.specs.declared.entries.Entry.{Entry}
 use Rattle.pylex.specs.declared.kind.Kind.{Kind}

@@ -1,13 +1,14 @@
 -- A lister over lines that goes on behind a cursor.
 --
 -- Carries: LineLister::resume_checked. On: Ends, Moving, Callers.
-use Rattle.std.proofs.Common.{◌≡◌, ◌⊎◌, inl, inr, ⊎_elim, ℕ, zero, suc, ◌+◌, ◌≤◌, ◌<◌, Bool, true, false, List, [], ◌∷◌, ◌++◌, length, length-append, map, refl, ap, sym, ◌∙◌, subst, append-nil, append_assoc, arith, Option, Some, None}
+use Rattle.std.proofs.Common.{◌≡◌, ◌⊎◌, inl, inr, ⊎_elim, ℕ, zero, suc, ◌+◌, ◌≤◌, ◌<◌, Bool, true, false, List, [], ◌∷◌, ◌++◌, length, length-append, map, refl, ap, sym, ◌∙◌, subst, append-nil, append_assoc, arith, Some, None}
 use Rattle.std.specs.Prelude.{slice_get, Ok, Err}
 use Rattle.std.specs.declared.alloc.AllocError.{AllocError}
+use Rattle.pysource.specs.Bytes.{Seen}
 use Rattle.pysource.specs.Parts.{Parts}
 use Rattle.pysource.specs.Streams.{head_len, stream_of}
 use Rattle.pysource.specs.Taking.{Takes}
-use Rattle.pysource.proofs.TakenBytes.TakingLemmas.{Takes-on}
+use Rattle.pysource.proofs.Callers.Taken.{Takes-on}
 use Rattle.pysource.specs.declared.faults.LineError.TheVariants.{Unread}
 use Rattle.pysource.specs.declared.line_reader.Reach.TheVariants.{Reading}
 use Rattle.pylex.specs.declared.entries.Entry.{Entry}
@@ -26,13 +27,13 @@ use Rattle.pylex.proofs.Listing.Ends.{is_whole}
 use Rattle.pylex.proofs.Listers.Moving.{entry_due}
 use Rattle.pylex.proofs.Callers.{is_behind}
 
-module _ (come_0 come_1 come_2 : Option (List ℕ)) (told_0 told_1 told_2 : ℕ) (v w : Streamed) (k : ℕ) (b : Begins come_0 come_1 told_0 told_1 v k) where
-  module _ (step : Step) (t : Next come_1 come_2 told_1 told_2 v w (Ok step)) where
+module _ (seen_0 seen_1 seen_2 : Seen) (v w : Streamed) (k : ℕ) (b : Begins seen_0 seen_1 v k) where
+  module _ (step : Step) (t : Next seen_1 seen_2 v w (Ok step)) where
     all : List ℕ
     all = b.taken ++ t.taken
 
-    reads_all : Takes come_0 come_2 told_0 told_2 Reading w.lines.reach 0 w.lines.count (b.taken ++ t.taken)
-    reads_all = Takes-on come_0 come_1 come_2 told_0 told_1 told_2 0 v.lines.count w.lines.count Reading v.lines.reach w.lines.reach b.taken t.taken b.reads t.reads
+    reads_all : Takes seen_0 seen_2 Reading w.lines.reach 0 w.lines.count (b.taken ++ t.taken)
+    reads_all = Takes-on seen_0 seen_1 seen_2 0 v.lines.count w.lines.count Reading v.lines.reach w.lines.reach b.taken t.taken b.reads t.reads
 
     stands_all : (more : List ℕ) (broken : Bool) → Continues w.lines more broken → (p : Parts) × (stream_of broken ((b.taken ++ t.taken) ++ more) ≡ Ok p) × (slice_get (listing (in_characters p)) k ≡ Some step) × StreamsIn w p (k + entries_in step) more broken
     stands_all more broken g =
@@ -53,7 +54,7 @@ module _ (come_0 come_1 come_2 : Option (List ℕ)) (told_0 told_1 told_2 : ℕ)
         same = sym (ap (λ l. b.taken ++ l) (nothing t.taken (let n = t.reads.count in omega (arith, n, s.0))) ∙ append-nil b.taken)
 
     -- One entry more.
-    pub begins_next : (e : Entry) → step ≡ steps.Entry e → Begins come_0 come_2 told_0 told_2 w (k + 1)
+    pub begins_next : (e : Entry) → step ≡ steps.Entry e → Begins seen_0 seen_2 w (k + 1)
     begins_next e is = record {
       taken = b.taken ++ t.taken;
       reads = reads_all;
@@ -119,7 +120,7 @@ module _ (come_0 come_1 come_2 : Option (List ℕ)) (told_0 told_1 told_2 : ℕ)
                 let t : is_unread (steps.Fault g) ≡ true = ap is_unread_code code in
                 let z : true ≡ false = sym t ∙ sym (ap is_unread is) ∙ h in cc
 
-      pub misses_stop : (c : CursorParts) (u : Bool) → k < c.given → is_unread step ≡ u → Misses come_0 come_2 told_0 told_2 c u
+      pub misses_stop : (c : CursorParts) (u : Bool) → k < c.given → is_unread step ≡ u → Misses seen_0 seen_2 c u
       misses_stop c u less is = record {
         taken = b.taken ++ t.taken;
         lines = w.lines;
@@ -130,20 +131,20 @@ module _ (come_0 come_1 come_2 : Option (List ℕ)) (told_0 told_1 told_2 : ℕ)
       }
 
   -- Memory was refused.
-  pub took_on : (e : AllocError) → Next come_1 come_2 told_1 told_2 v w (Err e) → Took come_0 come_2 told_0 told_2
+  pub took_on : (e : AllocError) → Next seen_1 seen_2 v w (Err e) → Took seen_0 seen_2
   took_on e t = record {
     taken = b.taken ++ t.taken;
     at = w.lines.reach;
-    reads = subst (λ n. Takes come_0 come_2 told_0 told_2 Reading w.lines.reach 0 n (b.taken ++ t.taken)) counted
-        (Takes-on come_0 come_1 come_2 told_0 told_1 told_2 0 v.lines.count w.lines.count Reading v.lines.reach w.lines.reach b.taken t.taken b.reads t.reads);
+    reads = subst (λ n. Takes seen_0 seen_2 Reading w.lines.reach 0 n (b.taken ++ t.taken)) counted
+        (Takes-on seen_0 seen_1 seen_2 0 v.lines.count w.lines.count Reading v.lines.reach w.lines.reach b.taken t.taken b.reads t.reads);
   }
     where
       counted : w.lines.count ≡ length (b.taken ++ t.taken)
       counted = let n = t.reads.count in let m = b.reads.count in let l = length-append b.taken t.taken in omega arith
 
 -- The lister shows another cursor.
-pub misses_shown : (come_0 come_1 : Option (List ℕ)) (told_0 told_1 : ℕ) (v : Streamed) (c : CursorParts) → Begins come_0 come_1 told_0 told_1 v c.given → (c ≡ v.shown → ⊥) → Misses come_0 come_1 told_0 told_1 c false
-misses_shown come_0 come_1 told_0 told_1 v c b other = record {
+pub misses_shown : (seen_0 seen_1 : Seen) (v : Streamed) (c : CursorParts) → Begins seen_0 seen_1 v c.given → (c ≡ v.shown → ⊥) → Misses seen_0 seen_1 c false
+misses_shown seen_0 seen_1 v c b other = record {
   taken = b.taken;
   lines = v.lines;
   reads = b.reads;

@@ -23,8 +23,7 @@ use Rattle.pylex.proofs.MachineLaws.Steps.{remaining_stop}
 use Rattle.pylex.proofs.Listers.Measured.{stop_within}
 use Rattle.pylex.proofs.MachineLaws.Significant.{none_at_all, len_within}
 use Rattle.pylex.proofs.Listers.Finding.{no_significant}
-use Rattle.pylexeme.proofs.WholeLines.Kept.{lexeme_kept, len_kept, none_kept, open_kept}
-use Rattle.pylexeme.proofs.WholeLines.LineFronts.{opens_kept, significant_kept}
+use Rattle.pylexeme.proofs.Callers.WholeLines.{lexeme_kept, len_kept, none_kept, open_kept, opens_kept, significant_kept}
 
 -- Behind a front of whole lines are whole lines, or nothing.
 line_left : (c : ℕ) (cs front : List ℕ) → c ∷ cs ≡ front ++ 10 ∷ [] → EndsLine cs ⊎ (cs ≡ [])

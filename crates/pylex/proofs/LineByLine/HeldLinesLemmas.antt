@@ -1,10 +1,11 @@
 -- What reading on does to the lines that a lister holds.
 --
 -- Carries: add_line, replace, add_lines, line_lister::find.
-use Rattle.std.proofs.Common.{◌≡◌, ℕ, ◌≤◌, ◌<◌, List, [], ◌∷◌, ◌++◌, length, drop, refl, ap, sym, ◌∙◌, append-nil, arith, Option}
+use Rattle.std.proofs.Common.{◌≡◌, ℕ, ◌≤◌, ◌<◌, List, [], ◌∷◌, ◌++◌, length, drop, refl, ap, sym, ◌∙◌, append-nil, arith}
 use Rattle.std.specs.Prelude.{Result, Ok, Err}
 use Rattle.std.specs.declared.alloc.AllocError.{AllocError}
 use lib.Seq.{drop-append-le}
+use Rattle.pysource.specs.Bytes.{Seen}
 use Rattle.pysource.specs.Lines.{lines_of}
 use Rattle.pysource.specs.Streams.{Buffered, Tells, NextLine}
 use Rattle.pysource.specs.Limits.{source_limit}
@@ -50,8 +51,8 @@ pub left_longer : (at : ℕ) (old new line : List ℕ) → at ≤ length old →
 left_longer at old new line h e = ap (drop at) e ∙ drop-append-le at old line h
 
 -- a call for a line, with what it did to the lines held
-pub reads_on : (come_old come_new : Option (List ℕ)) (told_old told_new : ℕ) (old new : HeldLines) (chunk_old chunk_new : List ℕ) (from : ℕ) (r : Result Line AllocError) → (m : NextLine come_old come_new told_old told_new old.lines new.lines chunk_old chunk_new r) → new.lines.count ≤ source_limit → IsHeldLines new → Holding old new from m.line r → ReadsOn come_old come_new told_old told_new old new from r
-reads_on come_old come_new told_old told_new old new chunk_old chunk_new from r m within chunk holding = record {
+pub reads_on : (seen_old seen_new : Seen) (old new : HeldLines) (chunk_old chunk_new : List ℕ) (from : ℕ) (r : Result Line AllocError) → (m : NextLine seen_old seen_new old.lines new.lines chunk_old chunk_new r) → new.lines.count ≤ source_limit → IsHeldLines new → Holding old new from m.line r → ReadsOn seen_old seen_new old new from r
+reads_on seen_old seen_new old new chunk_old chunk_new from r m within chunk holding = record {
   taken = m.taken;
   line = m.line;
   reads = m.reads;

@@ -2,7 +2,7 @@
 --
 -- Carries: add_line, lengthen, replace, add_lines. On: AheadOn, LexedOn, Lined,
 -- HeldLinesLemmas and 3 more.
-use Rattle.std.proofs.Common.{◌≡◌, inl, inr, ⊎_elim, ℕ, ◌≤◌, ◌<◌, zero, suc, true, false, List, [], ◌∷◌, ◌++◌, length, take, drop, refl, ap, sym, ◌∙◌, subst, append-nil, append_assoc, length-append, arith, Option, None, string_bytes}
+use Rattle.std.proofs.Common.{◌≡◌, inl, inr, ⊎_elim, ℕ, ◌≤◌, ◌<◌, zero, suc, true, false, List, [], ◌∷◌, ◌++◌, length, take, drop, refl, ap, sym, ◌∙◌, subst, append-nil, append_assoc, length-append, arith, None, string_bytes}
 use Rattle.std.specs.Prelude.{Result, Ok, ◌==◌}
 use Rattle.std.specs.declared.alloc.AllocError.{AllocError}
 use Rattle.std.specs.Str.{chars, IsUtf8}
@@ -10,6 +10,7 @@ use Rattle.std.proofs.lemmas.List.{take-append-drop, length-drop}
 use Rattle.std.proofs.lemmas.Str.{chars-append, IsUtf8-append}
 use Rattle.std.proofs.Math.Seq.{drop-append_seam}
 use lib.Seq.{drop-append-le}
+use Rattle.pysource.specs.Bytes.{Seen}
 use Rattle.pysource.specs.Streams.{Buffered, Coming, ComesOnly, NextLine, IsText, comes, ends_line}
 use Rattle.pysource.specs.Lines.{lines_of}
 use Rattle.pysource.specs.Limits.{source_limit}
@@ -66,7 +67,7 @@ pub left_open : (o : OpenLiteral) (at : ℕ) (text : List ℕ) → IsOpenAt o at
 left_open o at text i = ap is_open_string (left_lexed (chars (drop at text)) (chars text) i.lexed ∙ left_stop (chars (drop at text)) i.none) ∙ i.opened.unended
 
 -- nothing follows a last line without line feed
-pub comes_some : {x y : Option (List ℕ)} {k m : ℕ} {text_b text_c : List ℕ} (b c : Buffered) → (r : NextLine x y k m b c text_b text_c (Ok met.Text)) → c.count ≤ source_limit → ComesOnly b None → ⊥
+pub comes_some : {x y : Seen} {text_b text_c : List ℕ} (b c : Buffered) → (r : NextLine x y b c text_b text_c (Ok met.Text)) → c.count ≤ source_limit → ComesOnly b None → ⊥
 comes_some b c r within only =
     let f = some_future c within in
     let g = r.gives f.more f.broken f.follows.0 in
@@ -77,7 +78,7 @@ comes_some b c r within only =
     no_text [] h e = omega arith
     no_text (u ∷ line) h e = cc
 
-module _ (x y : Option (List ℕ)) (k m : ℕ) (o : OpenLiteral) (at from : ℕ) (a b c : Buffered) (text_b text_c : List ℕ) (l : LinesBehind o at from a b text_b) where
+module _ (x y : Seen) (o : OpenLiteral) (at from : ℕ) (a b c : Buffered) (text_b text_c : List ℕ) (l : LinesBehind o at from a b text_b) where
   -- the literal is open behind the last line too
   open_behind : GoesOn o (drop from text_b) → IsOpenAt o at text_b
   open_behind goes =
@@ -85,7 +86,7 @@ module _ (x y : Option (List ℕ)) (k m : ℕ) (o : OpenLiteral) (at from : ℕ)
       subst (IsOpenAt o at) (sym l.whole) (open_on o at l.front l.line l.utf8 l.line_utf8 l.feed l.opened (subst (GoesOn o) line goes))
 
   -- One line more.
-  pub behind_line : GoesOn o (drop from text_b) → (r : NextLine x y k m b c text_b text_c (Ok met.Text)) → c.count ≤ source_limit → LinesBehind o at (length text_b) a c text_c
+  pub behind_line : GoesOn o (drop from text_b) → (r : NextLine x y b c text_b text_c (Ok met.Text)) → c.count ≤ source_limit → LinesBehind o at (length text_b) a c text_c
   behind_line goes r within =
       let open_at = open_behind goes in
       record {
@@ -99,16 +100,16 @@ module _ (x y : Option (List ℕ)) (k m : ℕ) (o : OpenLiteral) (at from : ℕ)
         opened = open_at;
         ends = r.tells.1;
         joined = subst (IsJoined []) (sym r.chunk) (joined_more text_b r.line l.joined (λ _. left_open o at text_b open_at) r.tells.0.one);
-        ahead = ahead_line x y k m a b c text_b text_c (ahead_but a b l.ahead) r;
+        ahead = ahead_line x y a b c text_b text_c (ahead_but a b l.ahead) r;
       }
 
   -- No line more.
-  pub joins_no_line : GoesOn o (drop from text_b) → (q : Result Line AllocError) → (r : NextLine x y k m b c text_b text_c q) → r.line ≡ [] → (IsText q → ⊥) → Joins o at a c text_c
+  pub joins_no_line : GoesOn o (drop from text_b) → (q : Result Line AllocError) → (r : NextLine x y b c text_b text_c q) → r.line ≡ [] → (IsText q → ⊥) → Joins o at a c text_c
   joins_no_line goes q r none not =
       let same : text_c ≡ text_b = r.chunk ∙ ap (λ t. text_b ++ t) none ∙ append-nil text_b in
       record {
         joined = subst (IsJoined []) (sym same) l.joined;
-        ahead = inr (ahead_kept x y k m a b c text_b text_c q r none not (ahead_but a b l.ahead), subst (IsOpenAt o at) (sym same) (open_behind goes));
+        ahead = inr (ahead_kept x y a b c text_b text_c q r none not (ahead_but a b l.ahead), subst (IsOpenAt o at) (sym same) (open_behind goes));
       }
 
 -- The literal ended.
@@ -160,11 +161,11 @@ pub holds_none : (old new : HeldLines) (at : ℕ) → at < length (string_bytes 
 holds_none old new at less none = λ s. let n = length-drop at (string_bytes old.text) in absurd (let f : true ≡ false = sym (s.opened (omega (arith, n, less))) ∙ none in cc)
 
 -- A line took the place of those held.
-pub holds_line : (x y : Option (List ℕ)) (k m : ℕ) (b c : Buffered) (text_b text_c rest line : List ℕ) → (r : NextLine x y k m b c text_b text_c (Ok met.Text)) → line ≡ r.line → Holds b c rest line (drop 0 line)
-holds_line x y k m b c text_b text_c rest line r is = record {
+pub holds_line : (x y : Seen) (b c : Buffered) (text_b text_c rest line : List ℕ) → (r : NextLine x y b c text_b text_c (Ok met.Text)) → line ≡ r.line → Holds b c rest line (drop 0 line)
+holds_line x y b c text_b text_c rest line r is = record {
   joined = joined_more [] line (λ front back e feed some. absurd (no_front front back e feed)) (λ h. absurd (omega arith)) (subst (λ l. lines_of l ≡ l ∷ []) (sym is) r.tells.0.one);
   lexed = at_left;
-  ahead = λ start a. inl (ahead_line x y k m start b c text_b text_c a r);
+  ahead = λ start a. inl (ahead_line x y start b c text_b text_c a r);
 }
   where
     no_front : (front back : List ℕ) → [] ≡ front ++ back → ends_line front ≡ true → ⊥
@@ -184,12 +185,12 @@ adds_other old new from (met.Fault f) h = tt
 adds_other old new from met.Read h = tt
 
 -- a line that was read behind those held
-pub line_more : (x y : Option (List ℕ)) (k m : ℕ) (old new : HeldLines) (from : ℕ) → (r : NextLine x y k m old.lines new.lines (string_bytes old.text) (string_bytes new.text) (Ok met.Text)) → new.at ≡ from → IsLineMore old new from
-line_more x y k m old new from r at = record {
+pub line_more : (x y : Seen) (old new : HeldLines) (from : ℕ) → (r : NextLine x y old.lines new.lines (string_bytes old.text) (string_bytes new.text) (Ok met.Text)) → new.at ≡ from → IsLineMore old new from
+line_more x y old new from r at = record {
   line = r.line;
   is = r.tells.0;
   text = r.chunk;
   ends = r.tells.1;
-  ahead = λ start a. ahead_line x y k m start old.lines new.lines (string_bytes old.text) (string_bytes new.text) a r;
+  ahead = λ start a. ahead_line x y start old.lines new.lines (string_bytes old.text) (string_bytes new.text) a r;
   at = at;
 }

@@ -22,9 +22,9 @@ use Rattle.pylex.specs.Machine.{State}
 use Rattle.pylex.specs.LineState.{Walks, stays, silent, level, dedent, Comes, GivesFault, mismatch, faulty, StopAhead, Peek}
 use Rattle.pylex.specs.Held.{IsJoined, LexedTo, at_left, past_lexeme}
 use Rattle.pylex.proofs.LineByLine.Carried.{drop_ends, drop_carried}
-use Rattle.pylexeme.proofs.WholeLines.Kept.{lexeme_kept}
+use Rattle.pylexeme.proofs.Callers.WholeLines.{lexeme_kept}
 use Rattle.pylex.proofs.MachineLaws.Lexed.{cut_lexed, lexeme_front, lexeme_parts, lexeme_some}
-use Rattle.pylexeme.proofs.Cases.{bool_cases}
+use Rattle.pylexeme.proofs.Callers.Booleans.{bool_cases}
 use Rattle.pylex.proofs.LineByLine.Lined.{lined_chars, feed_behind, ends_on}
 use Rattle.pylex.proofs.MachineLaws.Steps.{left_step, left_stop}
 use Rattle.pylex.proofs.MachineLaws.Significant.{none_at_all}

@@ -20,8 +20,7 @@ use Rattle.pylex.proofs.Listers.Measured.{stop_within}
 use Rattle.pylex.proofs.MachineLaws.Significant.{none_at_all}
 use Rattle.pylex.proofs.Listers.Finding.{walks_on}
 use Rattle.pylex.proofs.Listers.Looking.{walks_in}
-use Rattle.pylexeme.proofs.WholeLines.Kept.{lexeme_kept}
-use Rattle.pylexeme.proofs.WholeLines.LineFronts.{significant_kept}
+use Rattle.pylexeme.proofs.Callers.WholeLines.{lexeme_kept, significant_kept}
 use Rattle.pylex.proofs.LineByLine.Carried.{chars_lines}
 
 -- A lister that may go on over some bytes may go on over their front.

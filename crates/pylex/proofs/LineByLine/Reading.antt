@@ -9,7 +9,7 @@ use Rattle.std.proofs.lemmas.Str.{chars-append, chars-nil, IsUtf8-append, IsUtf8
 use Rattle.std.proofs.Math.Seq.{drop-append_seam, take-append_seam}
 use Rattle.pysource.specs.Parts.{Parts}
 use Rattle.pysource.specs.Streams.{Coming, comes, onto, ends_line}
-use Rattle.pysource.proofs.FaultyLines.GoodLemmas.{comes_utf8}
+use Rattle.pysource.proofs.Callers.Faults.{comes_utf8}
 use Rattle.pylex.specs.declared.held_lines.HeldLines.{HeldLines}
 use Rattle.pylex.specs.declared.machine.Machine.{Machine}
 use Rattle.pylex.specs.declared.line_state.LineState.{LineState}

@@ -11,6 +11,7 @@ use Rattle.std.proofs.lemmas.Bool.{ne_eqb}
 use Rattle.std.proofs.lemmas.List.{take-append-drop, length-drop}
 use Rattle.std.proofs.lemmas.Str.{encodes-chars, chars-append, IsUtf8-append, IsCharBoundary-from_drop}
 use Rattle.std.proofs.Math.Seq.{drop-append_seam}
+use Rattle.pysource.specs.Bytes.{Seen}
 use Rattle.pysource.specs.Parts.{Parts}
 use Rattle.pysource.specs.Limits.{source_limit}
 use Rattle.pysource.specs.declared.faults.LineFault.{LineFault}
@@ -19,7 +20,7 @@ use Rattle.pysource.specs.declared.line_reader.Line.TheVariants as lines
 use Rattle.pysource.specs.declared.line_reader.Reach.{Reach}
 use Rattle.pysource.specs.declared.line_reader.Reach.TheVariants as reach
 use Rattle.pysource.specs.Streams.{Buffered, Coming, FollowsAt, ComesOnly, comes, ends_line}
-use Rattle.pysource.proofs.TakenBytes.TakingLemmas.{Takes-none, Takes-on}
+use Rattle.pysource.proofs.Callers.Taken.{Takes-none, Takes-on}
 use Rattle.pylex.specs.declared.held_lines.HeldLines.{HeldLines}
 use Rattle.pylex.specs.declared.entries.Entry.{Entry}
 use Rattle.pylex.specs.declared.machine.Peeked.TheVariants as peeked
@@ -33,7 +34,7 @@ use Rattle.pylexeme.specs.Cuts.{begins_significant}
 use Rattle.pylexeme.specs.Lexemes.{is_open_string}
 use Rattle.pylex.proofs.LineByLine.AheadOn.{ahead_but}
 use Rattle.pylex.proofs.LineByLine.LexedOn.{lexed_both, lexed_comes, stuck_finds}
-use Rattle.pylexeme.proofs.WholeLines.LineFronts.{significant_kept}
+use Rattle.pylexeme.proofs.Callers.WholeLines.{significant_kept}
 use Rattle.pylex.proofs.LineByLine.Lined.{lined_or_last, stands_front, stop_back}
 use Rattle.pylex.proofs.LineByLine.Reading.{lined_left, no_text, only_line, reads_line, reads_none}
 
@@ -126,20 +127,24 @@ len_behind text at rest b =
     let k = length-append (take at text) (drop at text) in
     omega (arith, n, m, k)
 
+-- a reader that isn't read
+abbrev pub not_read : Seen
+not_read = record { to_come = None; failures = 0; may_fail = false }
+
 -- Before the first look.
-pub searches_none : (come : Option (List ℕ)) (told : ℕ) (p : Machine) (c : HeldLines) → IsStreaming p c None → Searches come come told told p p c c
-searches_none come told p c h = record {
+pub searches_none : (seen : Seen) (p : Machine) (c : HeldLines) → IsStreaming p c None → Searches seen seen p p c c
+searches_none seen p c h = record {
   taken = [];
-  reads = Takes-none come told c.lines.count c.lines.reach;
+  reads = Takes-none seen c.lines.count c.lines.reach;
   follows = λ more broken f. f;
   stands = λ s k more broken f x. x;
   machine = refl;
   streaming = h;
 }
 
-module _ (come_0 come_1 come_2 : Option (List ℕ)) (told_0 told_1 told_2 : ℕ) (p q : Machine) (c d e : HeldLines) (f : Found) (so : Searches come_0 come_1 told_0 told_1 p q c d) (looks : Looks q d f) (is : f.peeked ≡ peeked.Stop) where
+module _ (seen_0 seen_1 seen_2 : Seen) (p q : Machine) (c d e : HeldLines) (f : Found) (so : Searches seen_0 seen_1 p q c d) (looks : Looks q d f) (is : f.peeked ≡ peeked.Stop) where
   -- what may follow a reading may follow with what it took
-  back : {r : Result Line AllocError} (o : ReadsOn come_1 come_2 told_1 told_2 d e f.at r) (more : List ℕ) (broken : Bool) → Continues e.lines more broken → Continues d.lines (o.taken ++ more) broken
+  back : {r : Result Line AllocError} (o : ReadsOn seen_1 seen_2 d e f.at r) (more : List ℕ) (broken : Bool) → Continues e.lines more broken → Continues d.lines (o.taken ++ more) broken
   back o more broken g = ((o.gives more broken g.0).0, omega (arith, g.1, o.reads.count, length-append o.taken more))
 
   text_new : {line : List ℕ} → Grows d e f.at line → IsUtf8 line → IsUtf8 (string_bytes e.text)
@@ -149,7 +154,7 @@ module _ (come_0 come_1 come_2 : Option (List ℕ)) (told_0 told_1 told_2 : ℕ)
       grows.looked
 
   -- the lister stands before a literal that is open, or before nothing
-  pub at_stop : ReadsOn come_1 come_2 told_1 told_2 d e f.at (Ok lines.Text) → lacks (drop f.at (string_bytes d.text)) ≡ true → IsAtStop (string_bytes d.text) f.at
+  pub at_stop : ReadsOn seen_1 seen_2 d e f.at (Ok lines.Text) → lacks (drop f.at (string_bytes d.text)) ≡ true → IsAtStop (string_bytes d.text) f.at
   at_stop r lack =
       let g = rw is at looks.finds in
       record {
@@ -176,7 +181,7 @@ module _ (come_0 come_1 come_2 : Option (List ℕ)) (told_0 told_1 told_2 : ℕ)
           ⊎_elim (λ n. inl n) (⊎_elim (λ l. inr l) (λ n. absurd (no_text r.line (comes e.lines z.more z.broken).text r.adds.0 (sym text ∙ n)))) x.ends
 
   -- A line was read.
-  pub searches_line : ReadsOn come_1 come_2 told_1 told_2 d e f.at (Ok lines.Text) → lacks (drop f.at (string_bytes d.text)) ≡ true → 0 < p.given → HoldsOn d e f.at (Ok lines.Text) → Searches come_0 come_2 told_0 told_2 p (record q { now = f.now }) c e
+  pub searches_line : ReadsOn seen_1 seen_2 d e f.at (Ok lines.Text) → lacks (drop f.at (string_bytes d.text)) ≡ true → 0 < p.given → HoldsOn d e f.at (Ok lines.Text) → Searches seen_0 seen_2 p (record q { now = f.now }) c e
   searches_line r lack some holds_on =
       let stop = at_stop r lack in
       let holds = holds_on stop in
@@ -185,7 +190,7 @@ module _ (come_0 come_1 come_2 : Option (List ℕ)) (told_0 told_1 told_2 : ℕ)
       holds.joined so.streaming.text stop.lexed so.streaming.left looks.left (rw is at looks.finds).0 looks.room (λ h. let t = looks.tail h in (t.1, t.2)) r.same in
       record {
         taken = so.taken ++ r.taken;
-        reads = Takes-on come_0 come_1 come_2 told_0 told_1 told_2 c.lines.count d.lines.count e.lines.count c.lines.reach d.lines.reach e.lines.reach so.taken r.taken so.reads r.reads;
+        reads = Takes-on seen_0 seen_1 seen_2 c.lines.count d.lines.count e.lines.count c.lines.reach d.lines.reach e.lines.reach so.taken r.taken so.reads r.reads;
         follows = λ more broken g. subst (λ t. Continues c.lines t broken) (sym (append_assoc so.taken r.taken more)) (so.follows (r.taken ++ more) broken (back r more broken g));
         stands = λ s k more broken g x. in_line s k more broken g (so.stands s k (r.taken ++ more) broken (back r more broken g) (subst (λ t. StreamsIn (streamed p c None) s k t broken) (append_assoc so.taken r.taken more) x));
         machine = ap (λ (z : Machine). record z { now = f.now }) so.machine;
@@ -202,7 +207,7 @@ module _ (come_0 come_1 come_2 : Option (List ℕ)) (told_0 told_1 told_2 : ℕ)
       }
 
   -- How far was read ahead behind a line, and where the literal is open still.
-  pub ahead_then : ReadsOn come_1 come_2 told_1 told_2 d e f.at (Ok lines.Text) → lacks (drop f.at (string_bytes d.text)) ≡ true → HoldsOn d e f.at (Ok lines.Text) → Ahead c.lines d.lines ⊎ (AheadBut c.lines d.lines × IsWaiting q d)
+  pub ahead_then : ReadsOn seen_1 seen_2 d e f.at (Ok lines.Text) → lacks (drop f.at (string_bytes d.text)) ≡ true → HoldsOn d e f.at (Ok lines.Text) → Ahead c.lines d.lines ⊎ (AheadBut c.lines d.lines × IsWaiting q d)
       → Ahead c.lines e.lines ⊎ (AheadBut c.lines e.lines × IsWaiting (record q { now = f.now }) e)
   ahead_then r lack holds_on a =
       let stop = at_stop r lack in
@@ -225,13 +230,13 @@ module _ (come_0 come_1 come_2 : Option (List ℕ)) (told_0 told_1 told_2 : ℕ)
           ap (λ t. f.now.margin && begins_significant t) whole ∙ ap (λ t. f.now.margin && t) (significant_kept (chars left) (chars r.line) lined) ∙ h
 
   -- No line was read.
-  pub searches_stay : (r : Result Line AllocError) → (o : ReadsOn come_1 come_2 told_1 told_2 d e f.at r) → o.line ≡ [] → Stays d e → Searches come_0 come_2 told_0 told_2 p q c e
+  pub searches_stay : (r : Result Line AllocError) → (o : ReadsOn seen_1 seen_2 d e f.at r) → o.line ≡ [] → Stays d e → Searches seen_0 seen_2 p q c e
   searches_stay r o none stays =
       let in_none : (s : Parts) (k : ℕ) (more : List ℕ) (broken : Bool) → Continues e.lines more broken → StreamsIn (streamed q d None) s k (o.taken ++ more) broken → StreamsIn (streamed q e None) s k more broken = λ s k more broken g x.
       reads_none q f.now d e f.at o.taken o.line s k more broken x (o.gives more broken g.0).1 none stays o.same in
       record {
         taken = so.taken ++ o.taken;
-        reads = Takes-on come_0 come_1 come_2 told_0 told_1 told_2 c.lines.count d.lines.count e.lines.count c.lines.reach d.lines.reach e.lines.reach so.taken o.taken so.reads o.reads;
+        reads = Takes-on seen_0 seen_1 seen_2 c.lines.count d.lines.count e.lines.count c.lines.reach d.lines.reach e.lines.reach so.taken o.taken so.reads o.reads;
         follows = λ more broken g. subst (λ t. Continues c.lines t broken) (sym (append_assoc so.taken o.taken more)) (so.follows (o.taken ++ more) broken (back o more broken g));
         stands = λ s k more broken g x. in_none s k more broken g (so.stands s k (o.taken ++ more) broken (back o more broken g) (subst (λ t. StreamsIn (streamed p c None) s k t broken) (append_assoc so.taken o.taken more) x));
         machine = so.machine;

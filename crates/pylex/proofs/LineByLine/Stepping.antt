@@ -29,7 +29,7 @@ use Rattle.pylex.proofs.Listing.Lying.{entries_lie}
 use Rattle.pylex.proofs.Listers.Ranges.{in_offset}
 use Rattle.pylex.proofs.LineByLine.Reading.{lined_left}
 use Rattle.pylex.proofs.LineByLine.Streaming.{Lined, utf8_after, finds_whole, end_whole, stands_whole}
-use Rattle.pylexeme.proofs.Fronts.Texts.{length-text}
+use Rattle.pylexeme.proofs.Callers.Fronts.{length-text}
 use Rattle.pylex.proofs.Listing.Unencoded.{not_encoding}
 
 -- a step lies in the text with all of them

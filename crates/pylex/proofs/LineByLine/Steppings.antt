@@ -6,13 +6,14 @@ use Rattle.std.proofs.Common.{◌≡◌, inl, inr, ℕ, ◌+◌, ◌<◌, ◌-�
 use Rattle.std.specs.Prelude.{slice_get, Result, Ok, Err}
 use Rattle.std.specs.declared.alloc.AllocError.{AllocError}
 use Rattle.std.specs.Str.{chars}
+use Rattle.pysource.specs.Bytes.{Seen}
 use Rattle.pysource.specs.Parts.{Parts}
 use Rattle.pysource.specs.Streams.{Buffered, comes}
 use Rattle.pysource.specs.declared.faults.LineFault.{LineFault}
 use Rattle.pylex.specs.declared.entries.ListingFault.{ListingFault}
 use Rattle.pylex.specs.declared.machine.Peeked.{Peeked}
 use Rattle.pylex.specs.declared.machine.Peeked.TheVariants as peeked
-use Rattle.pysource.proofs.TakenBytes.TakingLemmas.{Takes-none}
+use Rattle.pysource.proofs.Callers.Taken.{Takes-none}
 use Rattle.pylex.specs.declared.held_lines.HeldLines.{HeldLines}
 use Rattle.pylex.specs.declared.entries.Entry.{Entry}
 use Rattle.pylex.specs.declared.entries.Step.{Step}
@@ -65,8 +66,8 @@ drop_last p c last h = record {
 }
 
 -- nor in a step
-pub steps_last : (come_old come_new : Option (List ℕ)) (told_old told_new : ℕ) (p : Machine) (c : HeldLines) (last : Option Entry) (v : Streamed) (r : Result Step AllocError) → Next come_old come_new told_old told_new (streamed p c None) v r → Next come_old come_new told_old told_new (streamed p c last) v r
-steps_last come_old come_new told_old told_new p c last v (Ok step) h = record {
+pub steps_last : (seen_old seen_new : Seen) (p : Machine) (c : HeldLines) (last : Option Entry) (v : Streamed) (r : Result Step AllocError) → Next seen_old seen_new (streamed p c None) v r → Next seen_old seen_new (streamed p c last) v r
+steps_last seen_old seen_new p c last v (Ok step) h = record {
   taken = h.taken;
   reads = h.reads;
   follows = h.follows;
@@ -75,7 +76,7 @@ steps_last come_old come_new told_old told_new p c last v (Ok step) h = record {
   ahead = h.ahead;
   same = tt;
 }
-steps_last come_old come_new told_old told_new p c last v (Err e) h = record {
+steps_last seen_old seen_new p c last v (Err e) h = record {
   taken = h.taken;
   reads = h.reads;
   follows = h.follows;
@@ -135,10 +136,10 @@ module _ (p : Machine) (c : HeldLines) (last : Option Entry) (e : Entry) (z : p.
         (s.0, subst (λ n. StreamsIn (streamed begun c (Some e)) s.0 n more broken) one (first_in s.0 p.given more broken (h.fresh z) s.1).1);
   }
 
-  pub steps_first : IsStreaming p c last → (come : Option (List ℕ)) (told : ℕ) → Next come come told told (streamed p c last) (streamed begun c (Some e)) (Ok (steps.Entry e))
-  steps_first h come told = record {
+  pub steps_first : IsStreaming p c last → (seen : Seen) → Next seen seen (streamed p c last) (streamed begun c (Some e)) (Ok (steps.Entry e))
+  steps_first h seen = record {
     taken = [];
-    reads = Takes-none come told c.lines.count c.lines.reach;
+    reads = Takes-none seen c.lines.count c.lines.reach;
     follows = λ more broken g. g;
     moves = λ s k more broken g x. first_in s k more broken (h.fresh z) x;
     last = refl;
@@ -160,12 +161,12 @@ entry_ahead f step e a b is first (inr l) = l
 entry_ahead f step e a b is first (inl (stop, fault, some)) = absurd (rw (is, stop, some) at first)
 
 -- A step behind a search.
-module _ (come_old come_new : Option (List ℕ)) (told_old told_new : ℕ) (p q : Machine) (c d : HeldLines) (last : Option Entry) (so : Searches come_old come_new told_old told_new p q c d) where
+module _ (seen_old seen_new : Seen) (p q : Machine) (c d : HeldLines) (last : Option Entry) (so : Searches seen_old seen_new p q c d) where
   stood : (s : Parts) (k : ℕ) (more : List ℕ) (broken : Bool) → Continues d.lines more broken → StreamsIn (streamed p c last) s k (so.taken ++ more) broken → StreamsIn (streamed q d None) s k more broken
   stood s k more broken g x = so.stands s k more broken g (none_last p c last s k (so.taken ++ more) broken x)
 
   -- memory was refused where a line was read
-  pub steps_unread : (e : AllocError) → Next come_old come_new told_old told_new (streamed p c last) (streamed q d None) (Err e)
+  pub steps_unread : (e : AllocError) → Next seen_old seen_new (streamed p c last) (streamed q d None) (Err e)
   steps_unread e = record { taken = so.taken; reads = so.reads; follows = so.follows; moves = tt; last = tt; ahead = tt; same = stood }
 
   module _ (r : Machine) (same : IsSame q r) where
@@ -175,7 +176,7 @@ module _ (come_old come_new : Option (List ℕ)) (told_old told_new : ℕ) (p q 
         ∙ ap (λ ls. record { lines = d.lines; shown = shown_by q.given q.point ls ((length ls - q.nested) + q.tail); base = d.base; held = string_bytes d.text; left = drop d.at (string_bytes d.text); now = q.now; levels = ls; nested = q.nested; tail = q.tail; last = None }) same.1
 
     -- or where an INDENT came
-    pub steps_unopened : (e : AllocError) → Next come_old come_new told_old told_new (streamed p c last) (streamed r d None) (Err e)
+    pub steps_unopened : (e : AllocError) → Next seen_old seen_new (streamed p c last) (streamed r d None) (Err e)
     steps_unopened e = record { taken = so.taken; reads = so.reads; follows = so.follows; moves = tt; last = tt; ahead = tt; same = λ s k more broken g x. subst (λ v. StreamsIn v s k more broken) (sym same_view) (stood s k more broken g x) }
 
     pub streaming_unopened : IsStreaming r d None
@@ -209,7 +210,7 @@ module _ (come_old come_new : Option (List ℕ)) (told_old told_new : ℕ) (p q 
       some_given : 0 < p.given → 0 < q.given
       some_given h = let same : q.given ≡ p.given = ap (λ (y : Machine). y.given) so.machine in omega (arith, same, h)
 
-      pub steps_entry : 0 < p.given → Ahead c.lines d.lines → Next come_old come_new told_old told_new (streamed p c last) (streamed r (record d { at = f.at }) (Some e)) (Ok step)
+      pub steps_entry : 0 < p.given → Ahead c.lines d.lines → Next seen_old seen_new (streamed p c last) (streamed r (record d { at = f.at }) (Some e)) (Ok step)
       steps_entry some a = record {
         taken = so.taken;
         reads = so.reads;
@@ -252,7 +253,7 @@ module _ (come_old come_new : Option (List ℕ)) (told_old told_new : ℕ) (p q 
           let n = count_then x.source x.more x.broken x.follows x.streams in
           omega (arith, n, z)
 
-      pub steps_other : Next come_old come_new told_old told_new (streamed p c last) (streamed r d None) (Ok step)
+      pub steps_other : Next seen_old seen_new (streamed p c last) (streamed r d None) (Ok step)
       steps_other = record {
         taken = so.taken;
         reads = so.reads;

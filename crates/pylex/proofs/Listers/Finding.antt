@@ -27,7 +27,7 @@ use Rattle.std.proofs.lemmas.Bool.Decides.{nat_tests}
 use lib.Utf8.{encodes}
 use Rattle.std.specs.Str.{IsUtf8}
 use Rattle.std.proofs.lemmas.Str.{length-le-encodes, encodes-chars, encodes-append}
-use Rattle.pylexeme.proofs.Cases.{bool_cases}
+use Rattle.pylexeme.proofs.Callers.Booleans.{bool_cases}
 use Rattle.pylex.proofs.Listers.Measured.{lexeme_front, remaining_lexeme, measured_lexeme, measured_stop}
 use Rattle.pylex.proofs.Levels.Layouts.{layout_dedents, layout_mismatch, level_not_above, level-push, pushed_less, dedents-push}
 use Rattle.pylex.proofs.MachineLaws.Significant.{significant_at, plain_at}

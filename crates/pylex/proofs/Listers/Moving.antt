@@ -32,7 +32,7 @@ use Rattle.pylex.specs.Listers.{Listed, StandsIn, NextStep, AwaitsIndent, Keeps,
 use Rattle.pylex.proofs.MachineLaws.Law.{state_of}
 use Rattle.pylex.proofs.Resumption.Ahead.{history_is, placed_first}
 use Rattle.pylex.proofs.Resumption.Resuming.{begun_state}
-use Rattle.pylexeme.proofs.Cases.{bool_cases}
+use Rattle.pylexeme.proofs.Callers.Booleans.{bool_cases}
 use Rattle.pylex.proofs.Listing.Ends.{is_whole}
 use Rattle.pylex.proofs.Levels.Layouts.{level-push, pushed_above, ascending-push, ascending-front}
 use Rattle.pylex.proofs.Listers.Finding.{walks_steps, walks_on, same_ahead, fault_step, dedent_step}

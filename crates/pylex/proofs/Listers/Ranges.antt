@@ -28,7 +28,7 @@ use Rattle.pylex.specs.Listing.{last_line, further}
 use Rattle.pylex.specs.Machine.{State, place_past, past, after, entry_by, ends_line, first_state, is_hash, last_line_end, mark_at, step_of}
 use Rattle.pylex.specs.LineState.{with_levels, measured, begun_anew, Walks, stays, silent, level, dedent, Comes, EntryAhead, given, GivesAt, IsMeasuring}
 use Rattle.pylex.specs.Listers.{IsIn}
-use Rattle.pylexeme.proofs.Cases.{bool_cases, and_parts}
+use Rattle.pylexeme.proofs.Callers.Booleans.{bool_cases, and_parts}
 use Rattle.pylex.proofs.MachineLaws.Law.{place_after-append, bytes_in-append}
 use Rattle.pylex.proofs.Resumption.Resumed.{column_is}
 use Rattle.pylex.proofs.MachineLaws.Significant.{blanks_text}

@@ -22,7 +22,7 @@ use Rattle.pylex.specs.Machine.{State, pushed, after, dedents_at, mark_at, last_
 use Rattle.pylex.specs.Laws.{AreLexemes}
 use Rattle.pylex.specs.Listers.{Listed, StandsIn}
 use Rattle.pylex.specs.LineState.{is_above, is_level}
-use Rattle.pylexeme.proofs.Cases.{bool_cases}
+use Rattle.pylexeme.proofs.Callers.Booleans.{bool_cases}
 use Rattle.std.proofs.Math.Bool.{and-true, and-false}
 use Rattle.pylex.proofs.Levels.Layouts.{layout_indent, layout_dedents, layout_mismatch}
 use Rattle.pylex.proofs.Listers.Finding.{settled_layout}

@@ -23,7 +23,7 @@ use Rattle.pylex.specs.Listing.{Source, origin, up_to_end, stop_fault}
 use Rattle.pylex.specs.Steps.{entries_of, fault_of, mark}
 use Rattle.pylex.specs.Machine.{State, past, behind, after, dedents_at, mark_at, step_of, layout_of, entry_by, gives, is_hash, last_line_end, last_place, tail_of, stop_of, run, remaining, first_state}
 use Rattle.pylex.specs.Laws.{AreLexemes, IsGap, StandsNext, Covers, IsCovered}
-use Rattle.pylexeme.proofs.Cases.{bool_cases}
+use Rattle.pylexeme.proofs.Callers.Booleans.{bool_cases}
 use Rattle.pylex.proofs.MachineLaws.Law.{bytes_in-append}
 use Rattle.pylex.proofs.MachineLaws.Run.{listing_is}
 use Rattle.pylex.proofs.Listing.Ends.{stop_is_fault}

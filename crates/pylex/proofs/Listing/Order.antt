@@ -22,7 +22,7 @@ use Rattle.pylex.specs.Listing.{Source, origin, up_to_end}
 use Rattle.pylex.specs.Steps.{entries_of}
 use Rattle.pylex.specs.Machine.{State, place_past, past, after, ends_line, dedents_at, mark_at, step_of, layout_of, entry_by, gives, is_hash, last_line_end, last_place, tail_of, stop_of, run, remaining, first_state, first_point}
 use Rattle.pylex.specs.Laws.{RunsForward, EndsBefore, AreOrdered, IsOrdered}
-use Rattle.pylexeme.proofs.Cases.{bool_cases}
+use Rattle.pylexeme.proofs.Callers.Booleans.{bool_cases}
 use Rattle.pylex.proofs.MachineLaws.Run.{listing_is}
 use Rattle.pylex.proofs.Listing.Ends.{stop_is_fault}
 

@@ -12,7 +12,7 @@ use Rattle.pylex.specs.Lines.{opens, closes, is_significant, is_of_blanks, is_of
 use Rattle.pylex.specs.Indentation.{width_from}
 use Rattle.pylexeme.specs.Chars.{bytes_in}
 use Rattle.pylex.specs.Machine.{place_past, front_after, after, past, count_if, still, is_of_join}
-use Rattle.pylexeme.proofs.Cases.{bool_cases}
+use Rattle.pylexeme.proofs.Callers.Booleans.{bool_cases}
 use Rattle.pylex.specs.LineState.{with_levels, HasRoom}
 
 abbrev pub ends : LineState → Lexeme → Bool

@@ -19,7 +19,7 @@ use Rattle.pylex.specs.Machine.{State, place_past, front_after_char, front_after
 use Rattle.pylex.specs.declared.point.Point.{Point}
 use Rattle.pylex.specs.declared.leading_char.LeadingChar.{LeadingChar}
 use Rattle.pylex.specs.declared.leading_char.LeadingChar.TheVariants.{Nothing}
-use Rattle.pylexeme.proofs.Cases.{bool_cases}
+use Rattle.pylexeme.proofs.Callers.Booleans.{bool_cases}
 use Rattle.pylex.proofs.Levels.Stack.{push}
 
 -- Places and offsets.

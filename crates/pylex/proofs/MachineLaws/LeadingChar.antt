@@ -10,7 +10,7 @@ use Rattle.pylex.specs.Listing.{last_line, begins_comment}
 use Rattle.pylex.specs.Machine.{front_after_char, front_after, is_hash}
 use Rattle.pylex.specs.declared.leading_char.LeadingChar.{LeadingChar}
 use Rattle.pylex.specs.declared.leading_char.LeadingChar.TheVariants.{Nothing, Hash, Other}
-use Rattle.pylexeme.proofs.Cases.{bool_cases}
+use Rattle.pylexeme.proofs.Callers.Booleans.{bool_cases}
 
 pub last_push : (t : List ℕ) (c : ℕ) → last_line (t ++ c ∷ []) ≡ cond (c == 10) [] (last_line t ++ c ∷ [])
 unfolding last_line

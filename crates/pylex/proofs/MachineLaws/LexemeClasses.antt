@@ -18,7 +18,7 @@ use Rattle.pylexeme.specs.Numbers.{is_number}
 use Rattle.pylexeme.specs.Strings.{opens_string, counts_as_string}
 use Rattle.pylexeme.specs.Lexemes.{Lexeme, is_name, is_comment, are_blanks, is_line_end, is_join, plain_class, class_in, lexeme_at}
 use Rattle.pylex.specs.Listing.{last_line}
-use Rattle.pylexeme.proofs.Cases.{bool_cases}
+use Rattle.pylexeme.proofs.Callers.Booleans.{bool_cases}
 use Rattle.pylex.proofs.MachineLaws.LeadingChar.{last_push}
 use Rattle.pylex.proofs.MachineLaws.Lexed.{lexeme_class}
 

@@ -18,7 +18,7 @@ use Rattle.pylex.specs.Indentation.{width_from, width_at, widths, open_levels, l
 use Rattle.pylex.specs.Listing.{Source, entry_of, steps_of, line_end_of_last, end_place, tail, stop, steps_from, up_to_end, listing, origin}
 use Rattle.pylex.specs.declared.kind.Kind.TheVariants as kinds
 use Rattle.pylex.specs.Machine.{State, layout_of, entry_by, gives, last_line_end, tail_of, stop_of, run, remaining, after, behind_steps, first_state, still}
-use Rattle.pylexeme.proofs.Cases.{bool_cases}
+use Rattle.pylexeme.proofs.Callers.Booleans.{bool_cases}
 use Rattle.pylex.proofs.MachineLaws.Law.{state_of, state_push, IsBalanced, balanced_push, place_after-append, bytes_in-append}
 use Rattle.pylex.proofs.MachineLaws.LeadingChar.{hash_is}
 

@@ -17,9 +17,8 @@ use Rattle.pylexeme.specs.Operators.{is_operator, exact_of}
 use Rattle.pylexeme.specs.declared.kinds.Exact.{Exact}
 use Rattle.pylex.specs.Lines.{is_significant}
 use Rattle.pylexeme.specs.Cuts.{Takes, begins_significant, begins_line_end}
-use Rattle.pylexeme.proofs.Cases.{bool_cases}
-use Rattle.pylexeme.proofs.Fronts.Best.{and_parts, or_parts}
-use Rattle.pylexeme.proofs.Lexemes.Union.{nothing_takes, comment_takes, blanks_take, feed_takes, both_take, no_end_front}
+use Rattle.pylexeme.proofs.Callers.Booleans.{and_parts, bool_cases, or_parts}
+use Rattle.pylexeme.proofs.Callers.Lexemes.{nothing_takes, comment_takes, blanks_take, feed_takes, both_take, no_end_front}
 
 -- a lexeme by its class and its text
 record At (cs : List ℕ) (x : Lexeme) : Type 0 where

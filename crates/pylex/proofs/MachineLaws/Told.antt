@@ -16,8 +16,8 @@ use Rattle.pylexeme.specs.Cuts.{Cuts}
 use Rattle.pylexeme.specs.Operators.{is_operator, is_closer}
 use Rattle.pylexeme.specs.declared.kinds.Exact.{Exact}
 use Rattle.pylexeme.specs.Lexemes.{Lexeme, are_blanks, is_line_end, is_join, is_line_end_class, is_blanks_class, is_join_class, is_opener_class, is_closer_class}
-use Rattle.pylexeme.proofs.Cases.{bool_cases}
-use Rattle.pylexeme.proofs.Lexemes.Classes.{by_words, words}
+use Rattle.pylexeme.proofs.Callers.Booleans.{bool_cases}
+use Rattle.pylexeme.proofs.Callers.Lexemes.{by_words, words}
 use Rattle.pylex.specs.declared.leading_char.LeadingChar.{LeadingChar}
 use Rattle.pylex.specs.declared.leading_char.LeadingChar.TheVariants.{Nothing, Hash, Other}
 use Rattle.pylex.specs.declared.entries.Entry.{Entry}

@@ -18,7 +18,7 @@ use Rattle.pylex.specs.Cursors.{cursor_at, lexemes_to}
 use Rattle.pylex.specs.Machine.{State, pushed, after, is_of_join, layout_of, entry_by, gives, stop_of, run, remaining}
 use Rattle.pylex.specs.Standing.{front_to, back_from, resumed}
 use Rattle.pylex.specs.Laws.{AreLexemes}
-use Rattle.pylexeme.proofs.Cases.{bool_cases}
+use Rattle.pylexeme.proofs.Callers.Booleans.{bool_cases}
 use Rattle.pylex.proofs.Levels.Stack.{push}
 use Rattle.pylex.proofs.MachineLaws.Law.{state_of, point_after, margin_push, logical_push, count_cons}
 use Rattle.pylex.proofs.MachineLaws.Steps.{cut_step, cut_stop, left_step, left_stop}

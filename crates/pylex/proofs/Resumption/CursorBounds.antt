@@ -20,9 +20,9 @@ use Rattle.pylex.specs.Listing.{Source, in_characters}
 use Rattle.pylex.specs.Cursors.{CursorParts, cursor_at, cursor}
 use Rattle.pylex.specs.Standing.{front_to, back_from}
 use Rattle.pylex.specs.Listers.{Listed, StandsIn}
-use Rattle.pylexeme.proofs.Cases.{bool_cases}
+use Rattle.pylexeme.proofs.Callers.Booleans.{bool_cases}
 use Rattle.pylex.proofs.MachineLaws.Law.{bytes_in-append, count_cons}
-use Rattle.pylexeme.proofs.Fronts.Texts.{length-text}
+use Rattle.pylexeme.proofs.Callers.Fronts.{length-text}
 use Rattle.pylex.proofs.Listing.Lying.{scalars_behind}
 use Rattle.pylex.proofs.Resumption.Resume.{front_and_back, Full, onto}
 use Rattle.pylex.proofs.MachineLaws.Full.{cut_full}

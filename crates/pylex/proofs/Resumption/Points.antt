@@ -27,7 +27,7 @@ use Rattle.pylex.specs.Cursors.{given_last_first, has_no_text, is_encoding, is_i
 use Rattle.pylex.specs.Machine.{State, past, behind, after, ends_line, is_of_join, dedents_at, mark_at, line_end_kind_of, layout_of, entry_by, gives, is_hash, last_line_end, last_place, tail_of, stop_of, run, remaining, first_state}
 use Rattle.pylex.specs.LineState.{measured}
 use Rattle.pylex.specs.Standing.{resumed}
-use Rattle.pylexeme.proofs.Cases.{bool_cases, and_parts}
+use Rattle.pylexeme.proofs.Callers.Booleans.{bool_cases, and_parts}
 use Rattle.pylex.proofs.MachineLaws.Law.{state_of, state_push, point_after, IsBalanced, balanced_push, bytes_in-append}
 use Rattle.pylex.proofs.MachineLaws.Run.{listing_is}
 use Rattle.pylex.proofs.Listing.Ends.{stop_is_fault}

@@ -19,7 +19,7 @@ use Rattle.pylex.specs.Cursors.{lexemes_to, CursorParts, given_last_first, has_n
 use Rattle.pylex.specs.Machine.{State, gives, layout_of, entry_by, after, ends_line, stop_of, tail_of, last_line_end, run}
 use Rattle.pylex.specs.declared.point.Point.{Point}
 use Rattle.pylex.specs.Standing.{front_to, back_from, line_begin, Agrees, standing_by}
-use Rattle.pylexeme.proofs.Cases.{bool_cases}
+use Rattle.pylexeme.proofs.Callers.Booleans.{bool_cases}
 use Rattle.pylex.proofs.MachineLaws.Law.{bytes_in-append}
 
 -- Where a line has begun, its start counts no more.

@@ -15,7 +15,7 @@ use Rattle.pylex.specs.Cursors.{cursor_at}
 use Rattle.pylex.specs.Machine.{front_after}
 use Rattle.pylex.specs.declared.leading_char.LeadingChar.TheVariants.{Nothing}
 use Rattle.pylex.specs.Standing.{resumed}
-use Rattle.pylexeme.proofs.Cases.{bool_cases}
+use Rattle.pylexeme.proofs.Callers.Booleans.{bool_cases}
 use Rattle.pylex.proofs.MachineLaws.Law.{state_of, point_after}
 use Rattle.pylex.proofs.MachineLaws.LeadingChar.{last_front, front_in}
 use Rattle.pylex.proofs.Resumption.Resume.{begun_at}

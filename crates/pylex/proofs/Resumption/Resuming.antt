@@ -28,7 +28,7 @@ use Rattle.pylex.specs.Steps.{entries_of, mark}
 use Rattle.pylex.specs.Cursors.{given_last_first, has_no_text, is_encoding, is_indent, with_text, point, ends_in_indent, lexemes_to, cursor_at, cursor}
 use Rattle.pylex.specs.Machine.{State, past, behind, after, is_of_join, dedents_at, mark_at, line_end_kind_of, layout_of, entry_by, gives, is_hash, last_line_end, last_place, tail_of, stop_of, run, remaining, first_state}
 use Rattle.pylex.specs.Standing.{standing_by, standing, resumed, to_give, Resumes, StandsInAgreeing}
-use Rattle.pylexeme.proofs.Cases.{bool_cases}
+use Rattle.pylexeme.proofs.Callers.Booleans.{bool_cases}
 use Rattle.pylex.proofs.MachineLaws.Law.{state_of, state_push, IsBalanced, balanced_push, bytes_in-append}
 use Rattle.pylex.proofs.MachineLaws.Run.{listing_is}
 use Rattle.pylex.proofs.Resumption.Resume.{agreeing}

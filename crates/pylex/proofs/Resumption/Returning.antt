@@ -24,12 +24,12 @@ use Rattle.pylex.specs.Machine.{State, front_after}
 use Rattle.pylex.specs.LineState.{with_levels, IsAscending, Walks, stays}
 use Rattle.pylex.specs.Standing.{resumed, standing_by, Agrees, IsCursorOf}
 use Rattle.pylex.specs.Listers.{Listed, StandsIn, LeadsInto, Keeps, IsIn, shown_by}
-use Rattle.pylexeme.proofs.Cases.{bool_cases}
+use Rattle.pylexeme.proofs.Callers.Booleans.{bool_cases}
 use Rattle.pylex.proofs.Resumption.Resume.{cursor_skips, cursor_moves, last_split, lines_before}
 use Rattle.pylex.proofs.Listers.Looking.{line_in, left_in}
 use Rattle.pylex.proofs.Resumption.Cursoring.{GivenNext, given_next, not_encoding, given_of, none_given, first_given, cursor_by, cursor_is, cursor_first, agrees_itself}
 use Rattle.pylex.proofs.Resumption.CursorBounds.{shown_fits}
-use Rattle.pylexeme.proofs.Fronts.Texts.{length-text}
+use Rattle.pylexeme.proofs.Callers.Fronts.{length-text}
 use Rattle.pylex.proofs.Listers.Moving.{first_at, listing_length, cursor_opens, entry_due}
 use Rattle.pylex.proofs.Callers.{is_behind, is_own}
 

@@ -26,7 +26,7 @@ use Rattle.pylex.specs.Machine.{State, past, pushed, after, ends_line, still, de
 use Rattle.pylex.specs.LineState.{IsAscending, is_above, is_level}
 use Rattle.pylex.specs.Standing.{standing, resumed}
 use Rattle.pylex.specs.Listers.{Listed, StandsIn}
-use Rattle.pylexeme.proofs.Cases.{bool_cases, and_parts}
+use Rattle.pylexeme.proofs.Callers.Booleans.{bool_cases, and_parts}
 use Rattle.pylex.proofs.Listing.Ends.{is_whole, stop_is_fault}
 use Rattle.pylex.proofs.Resumption.Resume.{Full, margin_goes, cursor_skips, cursor_moves}
 use Rattle.pylex.proofs.MachineLaws.Full.{cut_full}

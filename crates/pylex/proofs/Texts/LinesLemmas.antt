@@ -15,7 +15,7 @@ use Rattle.std.proofs.lemmas.Bool.{ne_eqb, and_parts}
 use Rattle.std.proofs.lemmas.Bool.Decides.{nat_tests}
 use Rattle.pysource.specs.declared.places.Place.{Place}
 use Rattle.pysource.specs.Reprs.{is_plain, repr_text}
-use Rattle.pysource.proofs.Printing.PushReprLemmas.{plain_repr, plain_repr_characters}
+use Rattle.pysource.proofs.Callers.Printing.{plain_repr, plain_repr_characters}
 use Rattle.pylex.specs.declared.entries.Entry.{Entry}
 use Rattle.pylexeme.specs.declared.kinds.Exact.{Exact}
 use Rattle.pylexeme.specs.declared.kinds.Exact.TheVariants.{LPar}

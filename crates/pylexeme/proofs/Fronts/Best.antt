@@ -1,11 +1,12 @@
 -- The longest fronts that pass, for tests made of parts.
 --
--- Carries: and_parts, or_parts, and_false, Reads and 19 more, for NumberBest, Parts, StringBest,
+-- Carries: or_parts, and_false, Reads and 19 more, for NumberBest, Parts, StringBest,
 -- Union and 14 more. On: Longest.
 use Rattle.std.proofs.Common.{◌≡◌, ℕ, ◌+◌, ◌-◌, ◌≤◌, ◌<◌, Bool, true, false, ◌&&◌, ◌||◌, List, [], ◌∷◌, length, drop, take, refl, ◌∙◌, arith, zero, suc, ◌⊎◌, ⊎_elim, length-drop, inl, inr}
 use Rattle.std.specs.List.{list_all}
 use Rattle.std.proofs.lemmas.Bool.{cases_lt}
 use Rattle.pylexeme.specs.Numbers.{split_any, optional, headed}
+use Rattle.pylexeme.proofs.Cases.{and_parts}
 use Rattle.pylexeme.proofs.Fronts.Longest.{IsBest}
 
 -- no front passes
@@ -28,10 +29,6 @@ Starts a q = (c : ℕ) (t : List ℕ) → a c ≡ true → q (c ∷ t) ≡ false
 pub and_false : (a b : Bool) → b ≡ false → (a && b) ≡ false
 and_false true b e = e
 and_false false b e = refl
-
-pub and_parts : (a b : Bool) → (a && b) ≡ true → (a ≡ true) × (b ≡ true)
-and_parts true b e = (refl, e)
-and_parts false b e = cc
 
 pub or_parts : (a b : Bool) → (a || b) ≡ true → (a ≡ true) ⊎ (b ≡ true)
 or_parts true b e = inl refl

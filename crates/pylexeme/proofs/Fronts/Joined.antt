@@ -7,9 +7,9 @@ use Rattle.std.specs.List.{list_all}
 use Rattle.pylexeme.specs.Chars.{begins}
 use Rattle.pylexeme.specs.Numbers.{are_joined, are_some}
 use Rattle.pylexeme.specs.Lengths.{joined_len, begins_some}
-use Rattle.pylexeme.proofs.Cases.{bool_cases}
+use Rattle.pylexeme.proofs.Cases.{and_parts, bool_cases}
 use Rattle.pylexeme.proofs.Fronts.Longest.{IsBest}
-use Rattle.pylexeme.proofs.Fronts.Best.{NoFront, and_parts, and_false}
+use Rattle.pylexeme.proofs.Fronts.Best.{NoFront, and_false}
 
 pub or_parts_false : (a b : Bool) → (a || b) ≡ false → (a ≡ false) × (b ≡ false)
 or_parts_false true b e = cc

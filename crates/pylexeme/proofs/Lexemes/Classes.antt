@@ -16,8 +16,8 @@ use Rattle.pylexeme.specs.Numbers.{is_nil, split_any, optional, headed, is_decim
 use Rattle.pylexeme.specs.Operators.{Operator, operators, is_operator, exact_of}
 use Rattle.pylexeme.specs.Lexemes.{plain_class, is_name, is_comment, are_blanks, is_line_end, is_join}
 use Rattle.pylexeme.specs.declared.lexeme.Class.TheVariants.{Name, Comment, Blanks, LineEnd, Join}
-use Rattle.pylexeme.proofs.Cases.{bool_cases}
-use Rattle.pylexeme.proofs.Fronts.Best.{and_parts, or_parts, and_false}
+use Rattle.pylexeme.proofs.Cases.{and_parts, bool_cases}
+use Rattle.pylexeme.proofs.Fronts.Best.{or_parts, and_false}
 use Rattle.pylexeme.proofs.Fronts.Joined.{or_parts_false}
 
 -- Operators by their spellings

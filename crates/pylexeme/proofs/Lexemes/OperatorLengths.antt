@@ -9,10 +9,10 @@ use Rattle.std.proofs.lemmas.Bool.{leb-true, cases_lt}
 use Rattle.pylexeme.specs.declared.kinds.Exact.{Exact}
 use Rattle.pylexeme.specs.Operators.{operators, is_operator, exact_of}
 use Rattle.pylexeme.specs.Lengths.{longest, operator_at, pair_at}
-use Rattle.pylexeme.proofs.Cases.{bool_cases}
+use Rattle.pylexeme.proofs.Cases.{and_parts, bool_cases}
 use Rattle.std.proofs.lemmas.List.{length-take}
 use Rattle.pylexeme.proofs.Fronts.Longest.{IsBest}
-use Rattle.pylexeme.proofs.Fronts.Best.{and_parts, Reads, NoFront}
+use Rattle.pylexeme.proofs.Fronts.Best.{Reads, NoFront}
 use Rattle.pylexeme.proofs.Strings.StringLongest.{longest_reads}
 use Rattle.pylexeme.proofs.Lexemes.Classes.{words, by_words}
 

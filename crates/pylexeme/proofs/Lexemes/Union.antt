@@ -21,9 +21,9 @@ use Rattle.pylexeme.specs.Lengths.{longest, begins_pair, begins_number, number_l
 use Rattle.pylexeme.specs.Operators.{is_operator, exact_of}
 use Rattle.pylexeme.specs.Cuts.{Takes, BeginsOther, starts_other, begins_significant}
 use Rattle.pylexeme.proofs.Computing.{classes}
-use Rattle.pylexeme.proofs.Cases.{bool_cases}
+use Rattle.pylexeme.proofs.Cases.{and_parts, bool_cases}
 use Rattle.pylexeme.proofs.Fronts.Longest.{IsBest, longest_within_is, longest_within_none, run_best}
-use Rattle.pylexeme.proofs.Fronts.Best.{NoFront, headed_best, headed_rest, or_parts, and_parts}
+use Rattle.pylexeme.proofs.Fronts.Best.{NoFront, headed_best, headed_rest, or_parts}
 use Rattle.pylexeme.proofs.Fronts.Joined.{or_parts_false}
 use Rattle.pylexeme.proofs.Strings.Prefixes.{one_prefix, two_prefix}
 use Rattle.pylexeme.proofs.Numbers.NumberBest.{number_best, longest_number, longest_more}

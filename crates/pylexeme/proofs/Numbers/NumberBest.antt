@@ -7,10 +7,10 @@ use Rattle.std.proofs.lemmas.Bool.Decides.{nat_tests}
 use Rattle.pylexeme.specs.Chars.{begins}
 use Rattle.pylexeme.specs.Numbers.{is_nil, split_any, optional, headed, is_digit_part, is_exponent, is_decimal_digit, is_zero, is_point, is_e, is_j, is_x, is_o, is_b, is_radix, is_decimal, is_point_after, is_point_before, is_raised, is_float, is_imaginary, is_number}
 use Rattle.pylexeme.specs.Lengths.{longest, joined_len, radix_len, digit_part_len, exponent_len, point_len, j_len, fraction_len, tail_len, plain_len, number_len, begins_number}
-use Rattle.pylexeme.proofs.Cases.{bool_cases}
+use Rattle.pylexeme.proofs.Cases.{and_parts, bool_cases}
 use Rattle.pylexeme.proofs.Fronts.Longest.{IsBest, longest_within_is}
 use Rattle.pylexeme.proofs.Fronts.Joined.{len_digit, stop_first}
-use Rattle.pylexeme.proofs.Fronts.Best.{NoFront, Above, Reads, and_parts, or_parts, then_best, then_none, first_none, optional_best, headed_best, headed_none, headed_nil, headed_starts, or_left, or_right, or_none, or_above, none_above, best_above, split_all}
+use Rattle.pylexeme.proofs.Fronts.Best.{NoFront, Above, Reads, or_parts, then_best, then_none, first_none, optional_best, headed_best, headed_none, headed_nil, headed_starts, or_left, or_right, or_none, or_above, none_above, best_above, split_all}
 use Rattle.pylexeme.proofs.Numbers.NumberSets.{in_run, not_j, run_not_point, digit_not_point, digit_not_j, either, either_not, zero_digit, point_is}
 use Rattle.pylexeme.proofs.Numbers.Parts.{ReadsAfter, then_reads, reads_best, part_best, part_none, part_all, part_run, exponent_reads, exponent_starts, j_reads, j_starts, after_point, radix_reads, decimal_part, zeros_best, whole_best}
 use Rattle.pylexeme.proofs.Fronts.Taking.{drop_drop, point_none, exponent_none, j_none, radix_none, radix_other, tail_is}

@@ -5,7 +5,8 @@ use Rattle.std.proofs.Common.{◌≡◌, ℕ, ◌≤◌, Bool, true, false, ◌|
 use Rattle.std.proofs.lemmas.Bool.{eqb-true, leb-true}
 use Rattle.std.proofs.lemmas.Bool.Decides.{nat_tests}
 use Rattle.pylexeme.specs.Numbers.{is_decimal_digit, is_zero, is_one_to_nine, is_point, is_e, is_j, is_sign}
-use Rattle.pylexeme.proofs.Fronts.Best.{and_parts, or_parts}
+use Rattle.pylexeme.proofs.Cases.{and_parts}
+use Rattle.pylexeme.proofs.Fronts.Best.{or_parts}
 
 abbrev pub in_run : ℕ → Bool
 in_run c = is_decimal_digit c || (c == 95)

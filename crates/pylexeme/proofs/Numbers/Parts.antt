@@ -7,10 +7,10 @@ use Rattle.std.specs.List.{list_all}
 use Rattle.pylexeme.specs.Chars.{begins}
 use Rattle.pylexeme.specs.Numbers.{is_nil, split_any, optional, headed, are_joined, are_some, is_digit_part, is_exponent, is_decimal_digit, is_zero, is_one_to_nine, is_hex_digit, is_octal_digit, is_binary_digit, is_e, is_j, is_x, is_o, is_b, is_sign, is_radix, is_decimal}
 use Rattle.pylexeme.specs.Lengths.{joined_len, begins_some, based_len, radix_len, digit_part_len, exponent_len, j_len}
-use Rattle.pylexeme.proofs.Cases.{bool_cases}
+use Rattle.pylexeme.proofs.Cases.{and_parts, bool_cases}
 use Rattle.pylexeme.proofs.Fronts.Longest.{IsBest}
 use Rattle.pylexeme.proofs.Fronts.Joined.{joined_best, joined_all, joined_subset, len_digit, some_best, some_none}
-use Rattle.pylexeme.proofs.Fronts.Best.{NoFront, Reads, Starts, and_parts, or_parts, then_best, then_none, optional_best, headed_best, headed_none, headed_rest, headed_nil, or_left, or_right, or_none, none_above}
+use Rattle.pylexeme.proofs.Fronts.Best.{NoFront, Reads, Starts, or_parts, then_best, then_none, optional_best, headed_best, headed_none, headed_rest, headed_nil, or_left, or_right, or_none, none_above}
 use Rattle.pylexeme.proofs.Numbers.NumberSets.{in_run, not_j, run_not_e, digit_not_sign, either_not, zero_digit, one_digit, other_digit, not_both}
 use Rattle.pylexeme.proofs.Fronts.Taking.{exponent_none, exponent_digits, exponent_unsigned, exponent_empty, exponent_signed, j_none, j_some, radix_none, radix_x, radix_o, radix_b, radix_other, based_none, based_some}
 

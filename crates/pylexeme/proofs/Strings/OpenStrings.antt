@@ -9,8 +9,8 @@ use Rattle.pylexeme.specs.Chars.{begins, is_comment_part}
 use Rattle.pylexeme.specs.Strings.{units, is_unit, no_units, is_prefix, begins_quote, begins_three, after_prefix, opens_string, opens_triple}
 use Rattle.pylexeme.specs.Lexemes.{is_line_end, is_join, ends_by_join, is_joined, is_open_string}
 use Rattle.pylexeme.specs.Lengths.{unit_len, Opens, begins_quotes, begins_join}
-use Rattle.pylexeme.proofs.Cases.{bool_cases}
-use Rattle.pylexeme.proofs.Fronts.Best.{Starts, and_parts, and_false}
+use Rattle.pylexeme.proofs.Cases.{and_parts, bool_cases}
+use Rattle.pylexeme.proofs.Fronts.Best.{Starts, and_false}
 use Rattle.pylexeme.proofs.Strings.Units.{units_plain, nil_units, unit_one, unit_slash, IsQuote}
 use Rattle.pylexeme.proofs.Strings.StringBest.{not_quote, Which, one, two, three_starts}
 use Rattle.pylexeme.proofs.Strings.StringLongest.{at_prefix, string_opens, triple_opens, quotes_three, head_is}

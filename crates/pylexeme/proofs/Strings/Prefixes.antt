@@ -8,8 +8,8 @@ use Rattle.std.proofs.lemmas.Bool.Decides.{nat_tests}
 use Rattle.pylexeme.specs.Chars.{begins, is_r, is_prefix_letter}
 use Rattle.pylexeme.specs.Strings.{lower, is_prefix, opens_string, begins_quote}
 use Rattle.pylexeme.specs.Lengths.{Opens, begins_pair}
-use Rattle.pylexeme.proofs.Cases.{bool_cases}
-use Rattle.pylexeme.proofs.Fronts.Best.{and_parts, and_false}
+use Rattle.pylexeme.proofs.Cases.{and_parts, bool_cases}
+use Rattle.pylexeme.proofs.Fronts.Best.{and_false}
 use Rattle.pylexeme.proofs.Strings.StringBest.{which}
 use Rattle.pylexeme.proofs.Strings.StringLongest.{eq_short, no_prefix_two}
 

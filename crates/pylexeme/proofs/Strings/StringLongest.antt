@@ -10,9 +10,9 @@ use Rattle.pylexeme.specs.Chars.{begins}
 use Rattle.pylexeme.specs.Numbers.{split_any}
 use Rattle.pylexeme.specs.Strings.{is_prefix, is_single_string, is_triple_string, begins_quote, begins_three, opens_triple, opens_string, after_prefix, counts_as_string, lower, prefixes}
 use Rattle.pylexeme.specs.Lengths.{shift, single_len, triple_len, begins_quotes, quoted_len, Opens, Closed, longest}
-use Rattle.pylexeme.proofs.Cases.{bool_cases}
+use Rattle.pylexeme.proofs.Cases.{and_parts, bool_cases}
 use Rattle.pylexeme.proofs.Fronts.Longest.{IsBest, longest_within_is, longest_within_none}
-use Rattle.pylexeme.proofs.Fronts.Best.{Reads, Starts, and_parts, and_false}
+use Rattle.pylexeme.proofs.Fronts.Best.{Reads, Starts, and_false}
 use Rattle.pylexeme.proofs.Numbers.Parts.{ReadsAfter, then_reads}
 use Rattle.pylexeme.proofs.Fronts.Taking.{drop_drop}
 use Rattle.pylexeme.proofs.Strings.StringBest.{not_quote, Which, one, two, which, single_either, triple_either, single_starts, triple_starts, quote_starts, three_starts, single_quoted, triple_quoted, no_prefix_one}

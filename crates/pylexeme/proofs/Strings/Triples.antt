@@ -7,9 +7,9 @@ use Rattle.std.proofs.lemmas.Bool.{eqb-true}
 use Rattle.pylexeme.specs.Chars.{begins, is_comment_part}
 use Rattle.pylexeme.specs.Strings.{units, is_unit, no_units, ends_by_one, ends_by_three}
 use Rattle.pylexeme.specs.Lengths.{unit_len, shift, single_of, triple_of, single_len, triple_len, begins_quotes}
-use Rattle.pylexeme.proofs.Cases.{bool_cases}
+use Rattle.pylexeme.proofs.Cases.{and_parts, bool_cases}
 use Rattle.pylexeme.proofs.Fronts.Longest.{IsBest}
-use Rattle.pylexeme.proofs.Fronts.Best.{Reads, and_parts, and_false}
+use Rattle.pylexeme.proofs.Fronts.Best.{Reads, and_false}
 use Rattle.pylexeme.proofs.Fronts.Taking.{drop_drop}
 use Rattle.pylexeme.proofs.Strings.Units.{left_of, left_shift, shift_reads, units_plain, some_units, unit_one, IsQuote, unit_slash, slash_not, Closer, single_closer}
 

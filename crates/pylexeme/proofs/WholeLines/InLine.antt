@@ -13,8 +13,8 @@ use Rattle.pylexeme.specs.Numbers.{headed, optional, split_any, are_some, is_dig
 use Rattle.pylexeme.specs.Operators.{is_operator}
 use Rattle.pylexeme.specs.Lexemes.{is_name, is_comment, are_blanks, is_line_end, is_join, plain_class}
 use Rattle.pylexeme.specs.Chunks.{EndsLine}
-use Rattle.pylexeme.proofs.Cases.{bool_cases}
-use Rattle.pylexeme.proofs.Fronts.Best.{and_parts, and_false, or_parts, split_all}
+use Rattle.pylexeme.proofs.Cases.{and_parts, bool_cases}
+use Rattle.pylexeme.proofs.Fronts.Best.{and_false, or_parts, split_all}
 use Rattle.pylexeme.proofs.Fronts.Joined.{joined_all}
 use Rattle.pylexeme.proofs.Numbers.Parts.{part_all, decimal_part}
 use Rattle.pylexeme.proofs.Strings.StringLongest.{eq_short}

@@ -14,8 +14,8 @@ use Rattle.pylexeme.specs.Lexemes.{Lexeme, class_in, plain_class, longest_within
 use Rattle.pylexeme.specs.Lengths.{shift, single_of, triple_of, single_len, triple_len, quoted_len, begins_quotes, longest, Opens}
 use Rattle.pylexeme.specs.Cuts.{Takes}
 use Rattle.pylexeme.specs.Chunks.{EndsLine}
-use Rattle.pylexeme.proofs.Cases.{bool_cases}
-use Rattle.pylexeme.proofs.Fronts.Best.{Reads, and_parts}
+use Rattle.pylexeme.proofs.Cases.{and_parts, bool_cases}
+use Rattle.pylexeme.proofs.Fronts.Best.{Reads}
 use Rattle.pylexeme.proofs.Fronts.Joined.{or_parts_false}
 use Rattle.pylexeme.proofs.Strings.Units.{IsQuote}
 use Rattle.pylexeme.proofs.Strings.StringLongest.{head_is, string_reads, longest_reads}

@@ -10,7 +10,7 @@ use Rattle.pylexeme.specs.Strings.{units, begins_three, opens_triple}
 use Rattle.pylexeme.specs.Lexemes.{lexeme_at, ends_by_join, is_open_string}
 use Rattle.pylexeme.specs.Lengths.{single_of, triple_of, single_len, triple_len, quoted_len, begins_quotes, Opens}
 use Rattle.pylexeme.specs.Chunks.{EndsLine}
-use Rattle.pylexeme.proofs.Fronts.Best.{and_parts}
+use Rattle.pylexeme.proofs.Cases.{and_parts}
 use Rattle.pylexeme.proofs.Strings.Units.{IsQuote, nil_units}
 use Rattle.pylexeme.proofs.Strings.StringLongest.{string_opens, triple_opens, quotes_three, head_is}
 use Rattle.pylexeme.proofs.Strings.OpenStrings.{open_behind}

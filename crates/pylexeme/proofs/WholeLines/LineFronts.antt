@@ -11,8 +11,8 @@ use Rattle.pylexeme.specs.Strings.{is_prefix, begins_quote, begins_three, after_
 use Rattle.pylexeme.specs.Lengths.{Opens, begins_quotes}
 use Rattle.pylexeme.specs.Cuts.{begins_significant}
 use Rattle.pylexeme.specs.Chunks.{EndsLine}
-use Rattle.pylexeme.proofs.Cases.{bool_cases}
-use Rattle.pylexeme.proofs.Fronts.Best.{and_parts, and_false, or_parts}
+use Rattle.pylexeme.proofs.Cases.{and_parts, bool_cases}
+use Rattle.pylexeme.proofs.Fronts.Best.{and_false, or_parts}
 use Rattle.pylexeme.proofs.Strings.Units.{IsQuote, quote_is}
 use Rattle.pylexeme.proofs.Strings.StringBest.{Which, one, two, which}
 use Rattle.pylexeme.proofs.Strings.Prefixes.{one_prefix, two_prefix}

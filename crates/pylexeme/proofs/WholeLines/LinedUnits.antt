@@ -11,8 +11,8 @@ use Rattle.pylexeme.specs.Numbers.{is_nil}
 use Rattle.pylexeme.specs.Strings.{units, is_unit, no_units}
 use Rattle.pylexeme.specs.Lexemes.{is_line_end, is_join, ends_by_join}
 use Rattle.pylexeme.specs.Lengths.{shift, single_of, triple_of}
-use Rattle.pylexeme.proofs.Cases.{bool_cases}
-use Rattle.pylexeme.proofs.Fronts.Best.{and_parts, and_false, or_parts}
+use Rattle.pylexeme.proofs.Cases.{and_parts, bool_cases}
+use Rattle.pylexeme.proofs.Fronts.Best.{and_false, or_parts}
 use Rattle.pylexeme.proofs.Fronts.Joined.{or_parts_false}
 use Rattle.pylexeme.proofs.Strings.Units.{units_plain, nil_units, unit_one, unit_slash, IsQuote}
 

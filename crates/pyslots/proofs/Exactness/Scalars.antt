@@ -16,7 +16,7 @@ use Rattle.ucd_derived.specs.Binary.{is_xid_start, is_xid_continue}
 use Rattle.ucd_derived.specs.XidStartRanges.{xid_start_ranges}
 use Rattle.ucd_derived.specs.XidContinueRanges.{xid_continue_ranges}
 use Rattle.pysource.specs.Reprs.{is_unprintable, is_unprintable_byte, hex, hex_escape, escaped, quote_for, repr_chars, repr_bytes}
-use Rattle.pysource.proofs.Printing.Categories.{unprintable_no_character}
+use Rattle.pysource.proofs.Callers.Printing.{unprintable_no_character}
 use Rattle.pylexeme.specs.Chars.{starts_name}
 use Rattle.pylexeme.specs.Lexemes as Lexemes
 use Rattle.pynode.specs.Points.{IsPoint}

@@ -1,10 +1,11 @@
 -- What a call for the next line did, by how it ended.
 --
 -- Carries: LineReader::next_line. On: StreamLemmas, HeadLemmas, CutLemmas, ComingLemmas and 1 more.
-use Rattle.std.proofs.Common.{◌≡◌, ◌≢◌, ℕ, ◌+◌, ◌-◌, ◌<◌, ◌≤◌, List, ◌∷◌, get_or, [], ◌++◌, length, take, None, Some, Ok, Option, Result, sym, ap, refl, inl, inr, ◌∙◌, arith, append-nil, length-append}
+use Rattle.std.proofs.Common.{◌≡◌, ◌≢◌, ℕ, ◌+◌, ◌-◌, ◌<◌, ◌≤◌, List, ◌∷◌, get_or, [], ◌++◌, length, take, None, Some, Ok, Result, sym, ap, refl, inl, inr, ◌∙◌, arith, append-nil, length-append}
 use Rattle.std.specs.Prelude.{◌⊎◌, IsUtf8}
 use Rattle.std.specs.declared.alloc.AllocError.{AllocError}
 use Rattle.std.proofs.lemmas.List.{length-take-le, length-drop, get_or_append_left}
+use Rattle.pysource.specs.Bytes.{Seen}
 use Rattle.pysource.specs.Names.{Named}
 use Rattle.pysource.specs.Lines.{first_bad}
 use Rattle.std.proofs.lemmas.Bool.{cases_lt}
@@ -75,9 +76,9 @@ past_found end old mid (x ∷ taken) e (inl there) =
     inr (omega (arith, size, both, past, there.ahead))
 
 -- no line was given
-pub moves_nothing : {x y : Option (List ℕ)} {a b : ℕ} (e : Named) (row : ℕ) (old mid : Intake) (chunk chunk' : List ℕ) (result : Result Line AllocError) → Grows x y a b old mid → chunk' ≡ chunk → Tells result [] (held e row None mid) → (IsText result → ⊥)
+pub moves_nothing : {x y : Seen} (e : Named) (row : ℕ) (old mid : Intake) (chunk chunk' : List ℕ) (result : Result Line AllocError) → Grows x y old mid → chunk' ≡ chunk → Tells result [] (held e row None mid) → (IsText result → ⊥)
     → (mid.buffer ≡ old.buffer) ⊎ (past_first mid.buffer ≤ 8_192)
-    → NextLine x y a b (held e row None old) (held e row None mid) chunk chunk' result
+    → NextLine x y (held e row None old) (held e row None mid) chunk chunk' result
 moves_nothing e row old mid chunk chunk' result p same tells not kept = record {
   taken = p.taken;
   line = [];
@@ -93,12 +94,12 @@ moves_nothing e row old mid chunk chunk' result p same tells not kept = record {
 }
 
 -- a fault is told again
-pub moves_told : (x : Option (List ℕ)) (a : ℕ) (e : Named) (row : ℕ) (fault : LineFault) (i : Intake) (chunk : List ℕ)
-    → NextLine x x a a (held e row (Some fault) i) (held e row (Some fault) i) chunk chunk (Ok (lines.Fault fault))
-moves_told x a e row fault i chunk = record {
+pub moves_told : (x : Seen) (e : Named) (row : ℕ) (fault : LineFault) (i : Intake) (chunk : List ℕ)
+    → NextLine x x (held e row (Some fault) i) (held e row (Some fault) i) chunk chunk (Ok (lines.Fault fault))
+moves_told x e row fault i chunk = record {
   taken = [];
   line = [];
-  reads = Takes-none x a i.count i.reach;
+  reads = Takes-none x i.count i.reach;
   gives = gives_fault e row fault i;
   chunk = sym (append-nil chunk);
   tells = (refl, refl, only_fault e row fault i);
@@ -110,9 +111,9 @@ moves_told x a e row fault i chunk = record {
 }
 
 -- a line was given
-pub moves_text : {x y : Option (List ℕ)} {a b : ℕ} (e : Named) (row end : ℕ) (old mid : Intake) (chunk chunk' : List ℕ) → Grows x y a b old mid → LineThere 0 end old mid ⊎ LineLeft 0 end mid → end ≢ 0
+pub moves_text : {x y : Seen} (e : Named) (row end : ℕ) (old mid : Intake) (chunk chunk' : List ℕ) → Grows x y old mid → LineThere 0 end old mid ⊎ LineLeft 0 end mid → end ≢ 0
     → first_bad e.charset (take end mid.buffer) ≡ None → IsUtf8 (take end mid.buffer) → chunk' ≡ chunk ++ take end mid.buffer
-    → NextLine x y a b (held e row None old) (held e (row + 1) None (skipped end mid)) chunk chunk' (Ok lines.Text)
+    → NextLine x y (held e row None old) (held e (row + 1) None (skipped end mid)) chunk chunk' (Ok lines.Text)
 moves_text e row end old mid chunk chunk' p (inl there) some good utf8 is =
     let size = length-take-le end mid.buffer there.line.within in
     let left = length-drop end mid.buffer in
@@ -151,9 +152,9 @@ moves_text e row end old mid chunk chunk' p (inr last) some good utf8 is =
     }
 
 -- a faulty line
-pub moves_bad : {x y : Option (List ℕ)} {a b : ℕ} (e : Named) (row end : ℕ) (old mid : Intake) (chunk chunk' : List ℕ) (bad : ℕ × LineError) → Grows x y a b old mid → LineThere 0 end old mid ⊎ LineLeft 0 end mid → end ≢ 0
+pub moves_bad : {x y : Seen} (e : Named) (row end : ℕ) (old mid : Intake) (chunk chunk' : List ℕ) (bad : ℕ × LineError) → Grows x y old mid → LineThere 0 end old mid ⊎ LineLeft 0 end mid → end ≢ 0
     → first_bad e.charset (take end mid.buffer) ≡ Some bad → chunk' ≡ chunk
-    → NextLine x y a b (held e row None old) (held e row (Some (fault_at row (take end mid.buffer) bad)) mid) chunk chunk' (Ok (lines.Fault (fault_at row (take end mid.buffer) bad)))
+    → NextLine x y (held e row None old) (held e row (Some (fault_at row (take end mid.buffer) bad)) mid) chunk chunk' (Ok (lines.Fault (fault_at row (take end mid.buffer) bad)))
 moves_bad e row end old mid chunk chunk' bad p found some is same = record {
   taken = p.taken;
   line = [];

@@ -13,6 +13,7 @@ use Rattle.pysource.specs.Taking.{Takes, fails}
 use Rattle.pysource.specs.Streams.{Coming, FollowsAt, comes, coming, decides, of_source, stream_of, stream_under, Opens, Refuses}
 use Rattle.pysource.specs.Heads.{Head, FoundHeads}
 use Rattle.pysource.specs.declared.buffers.Intake.{Intake}
+use Rattle.pysource.specs.Bytes.{Seen}
 use Rattle.pysource.specs.Limits.{source_limit}
 use Rattle.pysource.specs.declared.encodings.SourceFault.{SourceFault}
 use Rattle.pysource.specs.declared.encodings.SourceFault.TheVariants as cookies
@@ -56,8 +57,8 @@ without_mark_short bytes = elim (cases_Bool (has_mark bytes)) [
 ]
 
 -- the lines are opened
-pub opens : {x y : Option (List ℕ)} {a b : ℕ} (i : Intake) (first second : ℕ) (named : Named) → Takes x y a b Reading i.reach 0 i.count i.buffer → i.count ≤ source_limit → Head i first second
-    → encoding_of (take first i.buffer) (take (second - first) (drop first i.buffer)) ≡ Ok named → Opens x y a b (held named 1 None (unmarked i))
+pub opens : {x y : Seen} (i : Intake) (first second : ℕ) (named : Named) → Takes x y Reading i.reach 0 i.count i.buffer → i.count ≤ source_limit → Head i first second
+    → encoding_of (take first i.buffer) (take (second - first) (drop first i.buffer)) ≡ Ok named → Opens x y (held named 1 None (unmarked i))
 opens i first second named takes within h is =
     let short = without_mark_short i.buffer in
     record {
@@ -76,23 +77,23 @@ opens i first second named takes within h is =
     }
 
 -- the encoding is refused
-refuses_unsupported : {x y : Option (List ℕ)} {a b : ℕ} (i : Intake) (first second : ℕ) (place : Place) → Takes x y a b Reading i.reach 0 i.count i.buffer → Head i first second
-    → encoding_of (take first i.buffer) (take (second - first) (drop first i.buffer)) ≡ Err (cookies.UnsupportedEncoding place) → Refuses x y a b (UnsupportedEncoding place)
+refuses_unsupported : {x y : Seen} (i : Intake) (first second : ℕ) (place : Place) → Takes x y Reading i.reach 0 i.count i.buffer → Head i first second
+    → encoding_of (take first i.buffer) (take (second - first) (drop first i.buffer)) ≡ Err (cookies.UnsupportedEncoding place) → Refuses x y (UnsupportedEncoding place)
 unfolding stream_under
-refuses_unsupported {x} {y} {a} {b} i first second place takes h is = record {
+refuses_unsupported {x} {y} i first second place takes h is = record {
   taken = i.buffer;
   reach = i.reach;
-  reads = subst (λ (n : ℕ). Takes x y a b Reading i.reach 0 n i.buffer) (let e : i.count ≡ length i.buffer = omega (arith, takes.count) in e) takes;
+  reads = subst (λ (n : ℕ). Takes x y Reading i.reach 0 n i.buffer) (let e : i.count ≡ length i.buffer = omega (arith, takes.count) in e) takes;
   explains = (h.reach, λ more broken f. streamed i first second h more broken f ∙ ap (λ (r : Result Named SourceFault). stream_under r broken (i.buffer ++ more)) is);
 }
 
-refuses_conflict : {x y : Option (List ℕ)} {a b : ℕ} (i : Intake) (first second : ℕ) (place : Place) → Takes x y a b Reading i.reach 0 i.count i.buffer → Head i first second
-    → encoding_of (take first i.buffer) (take (second - first) (drop first i.buffer)) ≡ Err (cookies.BomConflict place) → Refuses x y a b (BomConflict place)
+refuses_conflict : {x y : Seen} (i : Intake) (first second : ℕ) (place : Place) → Takes x y Reading i.reach 0 i.count i.buffer → Head i first second
+    → encoding_of (take first i.buffer) (take (second - first) (drop first i.buffer)) ≡ Err (cookies.BomConflict place) → Refuses x y (BomConflict place)
 unfolding stream_under
-refuses_conflict {x} {y} {a} {b} i first second place takes h is = record {
+refuses_conflict {x} {y} i first second place takes h is = record {
   taken = i.buffer;
   reach = i.reach;
-  reads = subst (λ (n : ℕ). Takes x y a b Reading i.reach 0 n i.buffer) (let e : i.count ≡ length i.buffer = omega (arith, takes.count) in e) takes;
+  reads = subst (λ (n : ℕ). Takes x y Reading i.reach 0 n i.buffer) (let e : i.count ≡ length i.buffer = omega (arith, takes.count) in e) takes;
   explains = (h.reach, λ more broken f. streamed i first second h more broken f ∙ ap (λ (r : Result Named SourceFault). stream_under r broken (i.buffer ++ more)) is);
 }
 
@@ -117,8 +118,8 @@ never_memory first second =
     neither (nat_lt 0 (length (cookie_of line))) _ _ (named_never (has_mark first) 1 (cookie_of line))
     (neither (leads_on line && nat_lt 0 (length (cookie_of second))) _ _ (named_never (has_mark first) 2 (cookie_of second)) tt)
 
-pub refuses_source : {x y : Option (List ℕ)} {a b : ℕ} (i : Intake) (first second : ℕ) (fault : SourceFault) → Takes x y a b Reading i.reach 0 i.count i.buffer → Head i first second
-    → encoding_of (take first i.buffer) (take (second - first) (drop first i.buffer)) ≡ Err fault → Refuses x y a b (of_source fault)
+pub refuses_source : {x y : Seen} (i : Intake) (first second : ℕ) (fault : SourceFault) → Takes x y Reading i.reach 0 i.count i.buffer → Head i first second
+    → encoding_of (take first i.buffer) (take (second - first) (drop first i.buffer)) ≡ Err fault → Refuses x y (of_source fault)
 refuses_source i first second (cookies.UnsupportedEncoding place) takes h is = refuses_unsupported i first second place takes h is
 refuses_source i first second (cookies.BomConflict place) takes h is = refuses_conflict i first second place takes h is
 refuses_source i first second cookies.Memory takes h is = absurd (subst NotMemory is (never_memory (take first i.buffer) (take (second - first) (drop first i.buffer))))
@@ -132,11 +133,11 @@ unfolding stream_of
 unreadable bytes e = rw e refl
 
 -- the lines that decide could not be read
-pub refuses_head : {x y : Option (List ℕ)} {a b : ℕ} (i : Intake) (fault : StreamFault) → Takes x y a b Reading i.reach 0 i.count i.buffer → FoundHeads i (Err fault) → Refuses x y a b fault
-refuses_head {x} {y} {a} {b} i Read takes found = record {
+pub refuses_head : {x y : Seen} (i : Intake) (fault : StreamFault) → Takes x y Reading i.reach 0 i.count i.buffer → FoundHeads i (Err fault) → Refuses x y fault
+refuses_head {x} {y} i Read takes found = record {
   taken = i.buffer;
   reach = i.reach;
-  reads = subst (λ (n : ℕ). Takes x y a b Reading i.reach 0 n i.buffer) (let e : i.count ≡ length i.buffer = omega (arith, takes.count) in e) takes;
+  reads = subst (λ (n : ℕ). Takes x y Reading i.reach 0 n i.buffer) (let e : i.count ≡ length i.buffer = omega (arith, takes.count) in e) takes;
   explains = (
     found.reach,
     λ more broken f.
@@ -145,10 +146,10 @@ refuses_head {x} {y} {a} {b} i Read takes found = record {
         ∙ unreadable i.buffer found.undecided,
   );
 }
-refuses_head {x} {y} {a} {b} i Memory takes found = record {
+refuses_head {x} {y} i Memory takes found = record {
   taken = i.buffer;
   reach = i.reach;
-  reads = subst (λ (n : ℕ). Takes x y a b Reading i.reach 0 n i.buffer) (let e : i.count ≡ length i.buffer = omega (arith, takes.count) in e) takes;
+  reads = subst (λ (n : ℕ). Takes x y Reading i.reach 0 n i.buffer) (let e : i.count ≡ length i.buffer = omega (arith, takes.count) in e) takes;
   explains = found;
 }
 refuses_head i (UnsupportedEncoding place) takes found = absurd found
@@ -162,14 +163,14 @@ pub unmarked_same : (i : Intake) → has_mark i.buffer ≡ false → i.buffer �
 unmarked_same i e = rw e refl
 
 -- Where no read failed, known bytes are refused by `Read` only past the limit.
-pub read_past_limit : (bytes : List ℕ) (come : Option (List ℕ)) (told : ℕ) → Refuses (Some bytes) come told told Read → source_limit < length bytes
-read_past_limit bytes come told r = elim r.explains.0 [
-  | inl broken ↦ absurd (let failed = ap fails broken in omega (arith, r.reads.told, failed))
+pub read_past_limit : (bytes : List ℕ) (x y : Seen) → x.to_come ≡ Some bytes → y.failures ≡ x.failures → Refuses x y Read → source_limit < length bytes
+read_past_limit bytes x y known told r = elim r.explains.0 [
+  | inl broken ↦ absurd (let failed = ap fails broken in omega (arith, r.reads.told, told, failed))
   | inr passed ↦
       let some = r.reads.newly (λ e. let e' : Reading ≡ Passed = e in cc) passed in
       let full = (r.reads.passed some).1 in
       let long = length-append r.taken r.reads.lost in
-      given come (r.taken ++ r.reads.lost) r.reads.consumes (omega (arith, some, full, long))
+      given y.to_come (r.taken ++ r.reads.lost) (rw known at r.reads.consumes) (omega (arith, some, full, long))
 ]
   where
     given : (come : Option (List ℕ)) (t : List ℕ) → Consumes (Some bytes) come t → source_limit < length t → source_limit < length bytes

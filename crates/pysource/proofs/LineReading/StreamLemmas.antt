@@ -5,6 +5,7 @@ use Rattle.std.proofs.Common.{◌≡◌, ◌≢◌, ℕ, ◌+◌, ◌-◌, ◌<�
 use Rattle.std.specs.Prelude.{◌⊎◌, IsUtf8}
 use Rattle.std.proofs.lemmas.List.{take-append-drop, take_all, length-drop}
 use Rattle.std.specs.Option.{option_or}
+use Rattle.pysource.specs.Bytes.{Seen}
 use Rattle.pysource.specs.Names.{Named}
 use Rattle.pysource.specs.Parts.{Parts}
 use Rattle.pysource.specs.Cookies.{encoding_of, without_mark}
@@ -36,10 +37,10 @@ none_left [] ys e = refl
 none_left (x ∷ xs) ys e = cc
 
 -- What may follow in the end may follow what was taken before.
-followed : {x y : Option (List ℕ)} {a b k l : ℕ} {r s : Reach} {t : List ℕ} (b' : Bool) (more : List ℕ) → r ≢ Reading → Takes x y a b r s k l t → (s ≡ r) × (t ++ more ≡ more)
+followed : {x y : Seen} {k l : ℕ} {r s : Reach} {t : List ℕ} (b' : Bool) (more : List ℕ) → r ≢ Reading → Takes x y r s k l t → (s ≡ r) × (t ++ more ≡ more)
 followed {t = t} b' more not p = let over = p.over not in (over.0, ap (λ (w : List ℕ). w ++ more) (none_left t p.lost over.1))
 
-pub follows_back : {x y : Option (List ℕ)} {a b k l : ℕ} (r : Reach) {s : Reach} {t : List ℕ} (more : List ℕ) (broken : Bool) → Takes x y a b r s k l t → FollowsAt s more broken → FollowsAt r (t ++ more) broken
+pub follows_back : {x y : Seen} {k l : ℕ} (r : Reach) {s : Reach} {t : List ℕ} (more : List ℕ) (broken : Bool) → Takes x y r s k l t → FollowsAt s more broken → FollowsAt r (t ++ more) broken
 follows_back Reading more broken p f = tt
 follows_back End more broken p f =
     let o = followed broken more (λ e. let e' : End ≡ Reading = e in cc) p in
@@ -64,7 +65,7 @@ unfolding comes
 comes_fault e row f i more broken = refl
 
 -- the same by the bytes that were there before
-comes_grown : {x y : Option (List ℕ)} {a b : ℕ} (e : Named) (row : ℕ) (old mid : Intake) (p : Grows x y a b old mid) (more : List ℕ) (broken : Bool) → comes (held e row None old) (p.taken ++ more) broken ≡ coming e.charset row broken (mid.buffer ++ more)
+comes_grown : {x y : Seen} (e : Named) (row : ℕ) (old mid : Intake) (p : Grows x y old mid) (more : List ℕ) (broken : Bool) → comes (held e row None old) (p.taken ++ more) broken ≡ coming e.charset row broken (mid.buffer ++ more)
 comes_grown e row old mid p more broken =
     comes_is e row old (p.taken ++ more) broken
     ∙ ap (coming e.charset row broken) (sym (append_assoc old.buffer p.taken more) ∙ ap (λ (w : List ℕ). w ++ more) (sym p.bytes))
@@ -74,7 +75,7 @@ cut_at : (n : ℕ) (bytes more : List ℕ) → bytes ++ more ≡ take n bytes ++
 cut_at n bytes more = ap (λ (w : List ℕ). w ++ more) (sym (take-append-drop n bytes)) ∙ append_assoc (take n bytes) (drop n bytes) more
 
 -- no line was given
-pub gives_nothing : {x y : Option (List ℕ)} {a b : ℕ} (e : Named) (row : ℕ) (old mid : Intake) (p : Grows x y a b old mid) → Gives (held e row None old) p.taken [] (held e row None mid)
+pub gives_nothing : {x y : Seen} (e : Named) (row : ℕ) (old mid : Intake) (p : Grows x y old mid) → Gives (held e row None old) p.taken [] (held e row None mid)
 gives_nothing e row old mid p more broken f =
     (follows_back old.reach more broken p.takes f, comes_grown e row old mid p more broken ∙ sym (comes_is e row mid more broken))
 
@@ -83,7 +84,7 @@ pub gives_fault : (e : Named) (row : ℕ) (fault : LineFault) (i : Intake) → G
 gives_fault e row fault i more broken f = (f, refl)
 
 -- a line with its line feed
-pub gives_line : {x y : Option (List ℕ)} {a b : ℕ} (e : Named) (row end : ℕ) (old mid : Intake) (p : Grows x y a b old mid) → LineAt 0 end mid.buffer → first_bad e.charset (take end mid.buffer) ≡ None
+pub gives_line : {x y : Seen} (e : Named) (row end : ℕ) (old mid : Intake) (p : Grows x y old mid) → LineAt 0 end mid.buffer → first_bad e.charset (take end mid.buffer) ≡ None
     → Gives (held e row None old) p.taken (take end mid.buffer) (held e (row + 1) None (skipped end mid))
 gives_line e row end old mid p at good more broken f =
     let front = line_front end mid.buffer at in
@@ -109,7 +110,7 @@ is_line end bytes at utf8 =
     )
 
 -- a faulty line with its line feed
-pub gives_bad : {x y : Option (List ℕ)} {a b : ℕ} (e : Named) (row end : ℕ) (old mid : Intake) (p : Grows x y a b old mid) (bad : ℕ × LineError) → LineAt 0 end mid.buffer → first_bad e.charset (take end mid.buffer) ≡ Some bad
+pub gives_bad : {x y : Seen} (e : Named) (row end : ℕ) (old mid : Intake) (p : Grows x y old mid) (bad : ℕ × LineError) → LineAt 0 end mid.buffer → first_bad e.charset (take end mid.buffer) ≡ Some bad
     → Gives (held e row None old) p.taken [] (held e row (Some (fault_at row (take end mid.buffer) bad)) mid)
 gives_bad e row end old mid p bad at is more broken f =
     let front = line_front end mid.buffer at in
@@ -150,7 +151,7 @@ left_none : (end : ℕ) (mid : Intake) → LineLeft 0 end mid → drop end mid.b
 left_none end mid left = no_more (drop end mid.buffer) (let size = length-drop end mid.buffer in omega (arith, left.all, size))
 
 -- a last line without line feed
-pub gives_last : {x y : Option (List ℕ)} {a b : ℕ} (e : Named) (row end : ℕ) (old mid : Intake) (p : Grows x y a b old mid) → LineLeft 0 end mid → 0 < end → first_bad e.charset (take end mid.buffer) ≡ None
+pub gives_last : {x y : Seen} (e : Named) (row end : ℕ) (old mid : Intake) (p : Grows x y old mid) → LineLeft 0 end mid → 0 < end → first_bad e.charset (take end mid.buffer) ≡ None
     → Gives (held e row None old) p.taken (take end mid.buffer) (held e (row + 1) None (skipped end mid))
 gives_last e row end old mid p left some good more broken f =
     let line = take end mid.buffer in
@@ -165,7 +166,7 @@ gives_last e row end old mid p left some good more broken f =
     )
 
 -- a faulty one
-pub gives_last_bad : {x y : Option (List ℕ)} {a b : ℕ} (e : Named) (row end : ℕ) (old mid : Intake) (p : Grows x y a b old mid) (bad : ℕ × LineError) → LineLeft 0 end mid → 0 < end → first_bad e.charset (take end mid.buffer) ≡ Some bad
+pub gives_last_bad : {x y : Seen} (e : Named) (row end : ℕ) (old mid : Intake) (p : Grows x y old mid) (bad : ℕ × LineError) → LineLeft 0 end mid → 0 < end → first_bad e.charset (take end mid.buffer) ≡ Some bad
     → Gives (held e row None old) p.taken [] (held e row (Some (fault_at row (take end mid.buffer) bad)) mid)
 gives_last_bad e row end old mid p bad left some is more broken f =
     let line = take end mid.buffer in

@@ -2,15 +2,19 @@
 --
 -- Carries: read_from, fill, line_end, read_all, write_all.
 use Rattle.std.specs.Prelude.{slice_set}
-use Rattle.std.proofs.Common.{◌≡◌, ◌≢◌, ◌<◌, arith, ℕ, zero, suc, Ok, ◌+◌, Bool, List, [], ◌∷◌, ◌++◌, length, take, drop, Option, None, Some, refl, sym, ◌∙◌, ap, append_assoc, append-nil, ◌-◌, length-drop}
+use Rattle.std.proofs.Common.{◌≡◌, ◌≢◌, ◌<◌, arith, ℕ, zero, suc, Ok, ◌+◌, true, List, [], ◌∷◌, ◌++◌, length, take, drop, Option, None, Some, refl, sym, ◌∙◌, ap, append_assoc, append-nil, ◌-◌, length-drop}
 use Rattle.std.specs.Io.KnownBytes.{Appends, Consumes, Keeps}
 use Rattle.std.proofs.Math.Seq.{take-add, take-length}
 use Rattle.std.proofs.lemmas.List.{take-append-drop}
-use Rattle.pysource.specs.Bytes.{IsSteady, write_failures, TakesFront}
+use Rattle.pysource.specs.Bytes.{Seen, IsSteady, write_failures, TakesFront}
 
 -- reads, and then others
-pub Steady-append : (x y z : Bool) (a b c : ℕ) → IsSteady x y a b → IsSteady y z b c → IsSteady x z a c
-Steady-append x y z a b c p q = (q.0 ∙ p.0, λ never. q.1 (p.0 ∙ never) ∙ p.1 never)
+pub Steady-append : (x y z : Seen) → IsSteady x y → IsSteady y z → IsSteady x z
+Steady-append x y z p q = (q.0 ∙ p.0, λ never. q.1 (p.0 ∙ never) ∙ p.1 never)
+
+-- a read that failed
+pub Steady-failed : (x y : Seen) → y.may_fail ≡ x.may_fail → x.may_fail ≡ true → IsSteady x y
+Steady-failed x y same able = (same, λ never. absurd (let e = sym able ∙ never in cc))
 
 -- known bytes grow by a, and then by b
 pub Appends-append : (x y z : Option (List ℕ)) (a b : List ℕ) → Appends x y a → Appends y z b → Appends x z (a ++ b)

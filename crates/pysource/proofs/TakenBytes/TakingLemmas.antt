@@ -1,17 +1,18 @@
 -- Reads one after another.
 --
 -- Carries: fill, line_end, read_head. On: ByteLemmas.
-use Rattle.std.proofs.Common.{◌≡◌, ◌≢◌, ℕ, ◌+◌, ◌<◌, ◌≤◌, List, [], ◌∷◌, ◌++◌, length, Option, sym, ap, subst, refl, inl, inr, ◌∙◌, arith, length-append, append_assoc, append-nil}
+use Rattle.std.proofs.Common.{◌≡◌, ◌≢◌, ℕ, ◌+◌, ◌<◌, ◌≤◌, List, [], ◌∷◌, ◌++◌, length, sym, ap, subst, refl, inl, inr, ◌∙◌, arith, length-append, append_assoc, append-nil}
 use Rattle.std.specs.Prelude.{◌⊎◌}
 use Rattle.std.specs.Io.KnownBytes.{Consumes, IsAtEnd}
 use Rattle.std.proofs.lemmas.Bool.{cases_lt}
 use Rattle.std.proofs.lemmas.List.{get_or_append_left}
 use Rattle.pysource.specs.declared.buffers.Intake.{Intake}
+use Rattle.pysource.specs.Bytes.{Seen, IsSteady}
 use Rattle.pysource.specs.Limits.{source_limit}
-use Rattle.pysource.specs.Taking.{Takes, Grows, fails, NoLfFrom}
+use Rattle.pysource.specs.Taking.{Takes, Grows, NoLfFrom}
 use Rattle.pysource.specs.declared.line_reader.Reach.{Reach}
 use Rattle.pysource.specs.declared.line_reader.Reach.TheVariants.{Reading, End, Broken, Passed}
-use Rattle.pysource.proofs.TakenBytes.ByteLemmas.{Consumes-append, Consumes-refl}
+use Rattle.pysource.proofs.TakenBytes.ByteLemmas.{Consumes-append, Consumes-refl, Steady-append}
 
 -- a list of no length
 none_of : (xs : List ℕ) → length xs ≡ 0 → xs ≡ []
@@ -19,13 +20,14 @@ none_of [] h = refl
 none_of (x ∷ xs) h = absurd (omega (arith, h))
 
 -- no read was made
-pub Takes-none : (come : Option (List ℕ)) (told count : ℕ) (reach : Reach) → Takes come come told told reach reach count count []
-Takes-none come told count reach = record {
+pub Takes-none : (seen : Seen) (count : ℕ) (reach : Reach) → Takes seen seen reach reach count count []
+Takes-none seen count reach = record {
   lost = [];
-  consumes = Consumes-refl come;
+  consumes = Consumes-refl seen.to_come;
   count = omega arith;
   within = λ h. h;
   told = refl;
+  steady = (refl, λ _. refl);
   passed = λ h. absurd (omega arith);
   newly = λ not is. absurd (not is);
   ended = λ not is. absurd (not is);
@@ -37,21 +39,22 @@ zero_or [] = inl refl
 zero_or (x ∷ xs) = inr (omega arith)
 
 -- where reading goes on nothing was lost
-pub lost_none : {x y : Option (List ℕ)} {a b c d : ℕ} {r : Reach} {t : List ℕ} (p : Takes x y a b r Reading c d t) → p.lost ≡ []
+pub lost_none : {x y : Seen} {c d : ℕ} {r : Reach} {t : List ℕ} (p : Takes x y r Reading c d t) → p.lost ≡ []
 lost_none p = none_of p.lost (elim (zero_or p.lost) [ inl e ↦ e | inr h ↦ absurd (let e = (p.passed h).0 in cc) ])
 
 -- reads, and then others
-pub Takes-append : {x y z : Option (List ℕ)} {a b c k l m : ℕ} {r s : Reach} (t u : List ℕ) → Takes x y a b r Reading k l t → Takes y z b c Reading s l m u → Takes x z a c r s k m (t ++ u)
-Takes-append {x} {y} {z} {a} {b} {c} {k} {l} {m} {r} {s} t u p q =
+pub Takes-append : {x y z : Seen} {k l m : ℕ} {r s : Reach} (t u : List ℕ) → Takes x y r Reading k l t → Takes y z Reading s l m u → Takes x z r s k m (t ++ u)
+Takes-append {x} {y} {z} {k} {l} {m} {r} {s} t u p q =
     let none = lost_none p in
-    let first : Consumes x y t = subst (Consumes x y) (ap (λ (w : List ℕ). t ++ w) none ∙ append-nil t) p.consumes in
+    let first : Consumes x.to_come y.to_come t = subst (Consumes x.to_come y.to_come) (ap (λ (w : List ℕ). t ++ w) none ∙ append-nil t) p.consumes in
     let whole = length-append t u in
     record {
       lost = q.lost;
-      consumes = subst (Consumes x z) (sym (append_assoc t u q.lost)) (Consumes-append x y z t (u ++ q.lost) first q.consumes);
+      consumes = subst (Consumes x.to_come z.to_come) (sym (append_assoc t u q.lost)) (Consumes-append x.to_come y.to_come z.to_come t (u ++ q.lost) first q.consumes);
       count = omega (arith, p.count, q.count, whole);
       within = λ h. q.within (p.within h);
       told = omega (arith, p.told, q.told);
+      steady = Steady-append x y z p.steady q.steady;
       passed = q.passed;
       newly = λ not is. q.newly (λ e. let e' : Reading ≡ Passed = e in cc) is;
       ended = λ not is. q.ended (λ e. let e' : Reading ≡ End = e in cc) is;
@@ -59,13 +62,14 @@ Takes-append {x} {y} {z} {a} {b} {c} {k} {l} {m} {r} {s} t u p q =
     }
 
 -- one read that gave some bytes
-pub Takes-some : (x y : Option (List ℕ)) (a b c d : ℕ) (t : List ℕ) → Consumes x y t → d ≡ c + length t → (c ≤ source_limit → d ≤ source_limit) → b ≡ a → Takes x y a b Reading Reading c d t
-Takes-some x y a b c d t p size within told = record {
+pub Takes-some : (x y : Seen) (c d : ℕ) (t : List ℕ) → Consumes x.to_come y.to_come t → d ≡ c + length t → (c ≤ source_limit → d ≤ source_limit) → y.failures ≡ x.failures → IsSteady x y → Takes x y Reading Reading c d t
+Takes-some x y c d t p size within told steady = record {
   lost = [];
-  consumes = subst (Consumes x y) (sym (append-nil t)) p;
+  consumes = subst (Consumes x.to_come y.to_come) (sym (append-nil t)) p;
   count = size;
   within = within;
   told = omega (arith, told);
+  steady = steady;
   passed = λ h. absurd (omega arith);
   newly = λ not is. cc;
   ended = λ not is. cc;
@@ -73,13 +77,14 @@ Takes-some x y a b c d t p size within told = record {
 }
 
 -- that found the end
-pub Takes-end : (x y : Option (List ℕ)) (a b c : ℕ) → Consumes x y [] → IsAtEnd y → b ≡ a → Takes x y a b Reading End c c []
-Takes-end x y a b c p at told = record {
+pub Takes-end : (x y : Seen) (c : ℕ) → Consumes x.to_come y.to_come [] → IsAtEnd y.to_come → y.failures ≡ x.failures → IsSteady x y → Takes x y Reading End c c []
+Takes-end x y c p at told steady = record {
   lost = [];
   consumes = p;
   count = omega arith;
   within = λ h. h;
   told = omega (arith, told);
+  steady = steady;
   passed = λ h. absurd (omega arith);
   newly = λ not is. cc;
   ended = λ not is. at;
@@ -87,13 +92,14 @@ Takes-end x y a b c p at told = record {
 }
 
 -- that failed
-pub Takes-failed : (x y : Option (List ℕ)) (a b c : ℕ) → Consumes x y [] → b ≡ a + 1 → Takes x y a b Reading Broken c c []
-Takes-failed x y a b c p told = record {
+pub Takes-failed : (x y : Seen) (c : ℕ) → Consumes x.to_come y.to_come [] → y.failures ≡ x.failures + 1 → IsSteady x y → Takes x y Reading Broken c c []
+Takes-failed x y c p told steady = record {
   lost = [];
   consumes = p;
   count = omega arith;
   within = λ h. h;
   told = omega (arith, told);
+  steady = steady;
   passed = λ h. absurd (omega arith);
   newly = λ not is. cc;
   ended = λ not is. cc;
@@ -101,13 +107,14 @@ Takes-failed x y a b c p told = record {
 }
 
 -- that passed the limit
-pub Takes-passed : (x y : Option (List ℕ)) (a b c : ℕ) (t : List ℕ) → Consumes x y t → 0 < length t → c ≡ source_limit → b ≡ a → Takes x y a b Reading Passed c c []
-Takes-passed x y a b c t p some full told = record {
+pub Takes-passed : (x y : Seen) (c : ℕ) (t : List ℕ) → Consumes x.to_come y.to_come t → 0 < length t → c ≡ source_limit → y.failures ≡ x.failures → IsSteady x y → Takes x y Reading Passed c c []
+Takes-passed x y c t p some full told steady = record {
   lost = t;
   consumes = p;
   count = omega arith;
   within = λ h. h;
   told = omega (arith, told);
+  steady = steady;
   passed = λ h. (refl, full);
   newly = λ not is. some;
   ended = λ not is. cc;
@@ -122,18 +129,18 @@ left Broken = 0
 left Passed = 0
 
 -- a reader that is read now was read before
-pub was_reading : {x y : Option (List ℕ)} {a b c d : ℕ} {r : Reach} {t : List ℕ} → Takes x y a b r Reading c d t → r ≡ Reading
+pub was_reading : {x y : Seen} {c d : ℕ} {r : Reach} {t : List ℕ} → Takes x y r Reading c d t → r ≡ Reading
 was_reading {r = Reading} p = refl
 was_reading {r = End} p = sym (p.over (λ e. let e' : End ≡ Reading = e in cc)).0
 was_reading {r = Broken} p = sym (p.over (λ e. let e' : Broken ≡ Reading = e in cc)).0
 was_reading {r = Passed} p = sym (p.over (λ e. let e' : Passed ≡ Reading = e in cc)).0
 
 -- the same of an intake
-pub Grows-append : {x y z : Option (List ℕ)} {a b c : ℕ} {s t u : Intake} → t.reach ≡ Reading → Grows x y a b s t → Grows y z b c t u → Grows x z a c s u
-Grows-append {x} {y} {z} {a} {b} {c} {s} {t} {u} e p q = record {
+pub Grows-append : {x y z : Seen} {s t u : Intake} → t.reach ≡ Reading → Grows x y s t → Grows y z t u → Grows x z s u
+Grows-append {x} {y} {z} {s} {t} {u} e p q = record {
   taken = p.taken ++ q.taken;
-  takes = Takes-append p.taken q.taken (subst (λ (r : Reach). Takes x y a b s.reach r s.count t.count p.taken) e p.takes)
-      (subst (λ (r : Reach). Takes y z b c r u.reach t.count u.count q.taken) e q.takes);
+  takes = Takes-append p.taken q.taken (subst (λ (r : Reach). Takes x y s.reach r s.count t.count p.taken) e p.takes)
+      (subst (λ (r : Reach). Takes y z r u.reach t.count u.count q.taken) e q.takes);
   bytes = q.bytes ∙ ap (λ (w : List ℕ). w ++ q.taken) p.bytes ∙ append_assoc s.buffer p.taken q.taken;
 }
 
@@ -144,9 +151,9 @@ is_reading Broken = inr (λ e. cc)
 is_reading Passed = inr (λ e. cc)
 
 -- what reading leaves of the kinds of reach
-pub kept_or_full : {x y : Option (List ℕ)} {a b : ℕ} {s t : Intake} (u : Intake) → t.reach ≡ Reading → Grows x y a b s t → (u.reach ≢ Reading → u.buffer ≡ t.buffer) → (u.reach ≡ s.reach) ⊎ (length t.buffer ≡ length u.buffer)
-kept_or_full {x} {y} {a} {b} {s} {t} u e p same =
-    let was : s.reach ≡ Reading = was_reading (subst (λ (r : Reach). Takes x y a b s.reach r s.count t.count p.taken) e p.takes) in
+pub kept_or_full : {x y : Seen} {s t : Intake} (u : Intake) → t.reach ≡ Reading → Grows x y s t → (u.reach ≢ Reading → u.buffer ≡ t.buffer) → (u.reach ≡ s.reach) ⊎ (length t.buffer ≡ length u.buffer)
+kept_or_full {x} {y} {s} {t} u e p same =
+    let was : s.reach ≡ Reading = was_reading (subst (λ (r : Reach). Takes x y s.reach r s.count t.count p.taken) e p.takes) in
     elim (is_reading u.reach) [ inl is ↦ inl (is ∙ sym was) | inr not ↦ inr (sym (ap length (same not))) ]
 
 -- no line feed stands up to where a search began, nor behind
@@ -158,31 +165,27 @@ pub clean_under : (start : ℕ) (bytes more : List ℕ) → NoLfFrom start (leng
 clean_under start bytes more p k low high e = p k low high (sym (get_or_append_left bytes more 0 k high) ∙ e)
 
 -- all that was read, where nothing had been
-pub Takes-whole : {x y : Option (List ℕ)} {a b : ℕ} {s t : Intake} → s.buffer ≡ [] → s.reach ≡ Reading → s.count ≡ 0 → Grows x y a b s t → Takes x y a b Reading t.reach 0 t.count t.buffer
-Takes-whole {x} {y} {a} {b} {s} {t} empty reading none p =
+pub Takes-whole : {x y : Seen} {s t : Intake} → s.buffer ≡ [] → s.reach ≡ Reading → s.count ≡ 0 → Grows x y s t → Takes x y Reading t.reach 0 t.count t.buffer
+Takes-whole {x} {y} {s} {t} empty reading none p =
     let all : p.taken ≡ t.buffer = sym (p.bytes ∙ ap (λ (w : List ℕ). w ++ p.taken) empty) in
-    subst (λ (w : List ℕ). Takes x y a b Reading t.reach 0 t.count w) all
-    (subst (λ (n : ℕ). Takes x y a b Reading t.reach n t.count p.taken) none
-    (subst (λ (r : Reach). Takes x y a b r t.reach s.count t.count p.taken) reading p.takes))
+    subst (λ (w : List ℕ). Takes x y Reading t.reach 0 t.count w) all
+    (subst (λ (n : ℕ). Takes x y Reading t.reach n t.count p.taken) none
+    (subst (λ (r : Reach). Takes x y r t.reach s.count t.count p.taken) reading p.takes))
 
 -- reads, and then others, which may be none
 empty_parts : (t u : List ℕ) → t ++ u ≡ [] → (t ≡ []) × (u ≡ [])
 empty_parts [] u e = (refl, e)
 empty_parts (x ∷ t) u e = absurd (let f : x ∷ (t ++ u) ≡ [] = e in cc)
 
-pub Takes-on : (x y z : Option (List ℕ)) (a b c k l m : ℕ) (r q s : Reach) (t u : List ℕ) → Takes x y a b r q k l t → Takes y z b c q s l m u → Takes x z a c r s k m (t ++ u)
-Takes-on x y z a b c k l m r q s t u p n = by (is_reading q)
+pub Takes-on : (x y z : Seen) (k l m : ℕ) (r q s : Reach) (t u : List ℕ) → Takes x y r q k l t → Takes y z q s l m u → Takes x z r s k m (t ++ u)
+Takes-on x y z k l m r q s t u p n = by (is_reading q)
   where
-    by : (q ≡ Reading) ⊎ (q ≢ Reading) → Takes x z a c r s k m (t ++ u)
-    by (inl e) = Takes-append t u (subst (λ w. Takes x y a b r w k l t) e p) (subst (λ w. Takes y z b c w s l m u) e n)
+    by : (q ≡ Reading) ⊎ (q ≢ Reading) → Takes x z r s k m (t ++ u)
+    by (inl e) = Takes-append t u (subst (λ w. Takes x y r w k l t) e p) (subst (λ w. Takes y z w s l m u) e n)
     by (inr over) =
         let o = n.over over in
         let none = empty_parts u n.lost o.1 in
         let same : t ++ u ≡ t = ap (λ w. t ++ w) none.0 ∙ append-nil t in
         let size : length u ≡ 0 = ap length none.0 in
         let counts : m ≡ l = omega (arith, n.count, size) in
-        let told : c ≡ b = told_same s q o.0 n.told in
-        rw (same, o.0, o.2, counts, told) p
-      where
-        told_same : (s q : Reach) → s ≡ q → c + fails q ≡ b + fails s → c ≡ b
-        told_same s q e h = let f : fails s ≡ fails q = ap fails e in omega (arith, h, f)
+        rw (same, o.0, o.2, counts) p

@@ -12,8 +12,8 @@ use Rattle.pylexeme.specs.declared.lexeme.Class.TheVariants.{Blanks, LineEnd}
 use Rattle.pylexeme.specs.Chars.{begins, is_blank_char}
 use Rattle.pylexeme.specs.Lexemes.{Lexeme, lexeme_at, lexeme_len, class_in}
 use Rattle.pylexeme.specs.Cuts.{Takes}
-use Rattle.pylexeme.proofs.Fronts.Best.{and_parts}
-use Rattle.pylexeme.proofs.Lexemes.Union.{class_at, blanks_take, feed_takes}
+use Rattle.pylexeme.proofs.Callers.Booleans.{and_parts}
+use Rattle.pylexeme.proofs.Callers.Lexemes.{class_at, blanks_take, feed_takes}
 
 -- What is taken off the front of t and r, where r is left, is t.
 of_class : (o : Option Class) (t : List ℕ) (k : Class) → o ≡ Some k → option_map {U = Lexeme} (λ c. record { «class» = c; text = t }) o ≡ Some (record { «class» = k; text = t })

@@ -7,10 +7,9 @@ use Rattle.std.proofs.lemmas.List.{append_cancel_left}
 use Rattle.pylexeme.specs.Chars.{begins, is_blank_char}
 use Rattle.pylexeme.specs.Lexemes.{Lexeme, lexeme_at, cut, left_by_cut}
 use Rattle.pylex.specs.Laws.{AreLexemes}
-use Rattle.pylexeme.proofs.Fronts.Best.{and_parts}
-use Rattle.pylexeme.proofs.Lexemes.Cutting.{none_is}
+use Rattle.pylexeme.proofs.Callers.Booleans.{and_parts}
+use Rattle.pylexeme.proofs.Callers.Lexemes.{none_is, nothing_takes}
 use Rattle.pylex.proofs.Callers.{cut_lexed}
-use Rattle.pylexeme.proofs.Lexemes.Union.{nothing_takes}
 use Rattle.pyspacing.specs.Spacing.{Piece, Line, is_token, touches, text_behind, spaced, stay_apart, are_two_points, all_apart, are_readable, line_text, lines_text}
 use Rattle.pyspacing.specs.Inner.Relexed.{lexeme_of, blanks, feed, lexemes_behind, lexemes_of, indent_lexemes, line_lexemes, lines_lexemes}
 use Rattle.pyspacing.proofs.LexemeFronts.Fronts.{blanks_front, feed_front}

@@ -9,11 +9,10 @@ use Rattle.pylexeme.specs.declared.lexeme.Class.TheVariants.{Name}
 use Rattle.pylexeme.specs.Chars.{begins, starts_name, is_r, is_b_or_f}
 use Rattle.pylexeme.specs.Lexemes.{lexeme_at, is_name}
 use Rattle.pylexeme.specs.Strings.{opens_string, begins_quote, is_prefix}
-use Rattle.pylexeme.proofs.Fronts.Best.{and_parts, and_false, or_parts}
-use Rattle.pylexeme.proofs.Lexemes.Classes.{start_continues}
-use Rattle.pylexeme.proofs.Numbers.NumberSets.{either, either_not}
-use Rattle.pylexeme.proofs.Strings.Prefixes.{two_prefix}
-use Rattle.pylexeme.proofs.Lexemes.Union.{name_takes}
+use Rattle.pylexeme.proofs.Callers.Booleans.{and_parts, and_false, or_parts}
+use Rattle.pylexeme.proofs.Callers.Lexemes.{start_continues, name_takes}
+use Rattle.pylexeme.proofs.Callers.Numbers.{either, either_not}
+use Rattle.pylexeme.proofs.Callers.Strings.{two_prefix}
 use Rattle.pyspacing.proofs.LexemeFronts.Fronts.{is_lexeme, leaves, run_ends}
 use Rattle.pyspacing.proofs.Cases.{cases}
 

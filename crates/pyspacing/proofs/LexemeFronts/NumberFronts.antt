@@ -13,12 +13,10 @@ use Rattle.pylexeme.specs.Chars.{begins}
 use Rattle.pylexeme.specs.Numbers.{is_nil, is_decimal_digit, is_zero, is_one_to_nine, is_point, is_e, is_j, is_x, is_o, is_b, is_number}
 use Rattle.pylexeme.specs.Lengths.{longest, begins_number, number_len, plain_len, radix_len, tail_len, fraction_len, joined_len}
 use Rattle.pylexeme.specs.Lexemes.{lexeme_at}
-use Rattle.pylexeme.proofs.Fronts.Best.{and_parts, or_parts}
-use Rattle.pylexeme.proofs.Fronts.Joined.{len_digit, stop_first}
-use Rattle.pylexeme.proofs.Numbers.NumberSets.{digit_bounds, either, zero_digit, one_digit, not_both}
-use Rattle.pylexeme.proofs.Fronts.Taking.{radix_none, radix_other, exponent_none, point_none, j_none, fraction_is, tail_is}
-use Rattle.pylexeme.proofs.Numbers.NumberBest.{longest_number}
-use Rattle.pylexeme.proofs.Lexemes.Union.{number_takes}
+use Rattle.pylexeme.proofs.Callers.Booleans.{and_parts, or_parts}
+use Rattle.pylexeme.proofs.Callers.Numbers.{len_digit, digit_bounds, either, zero_digit, one_digit, not_both, radix_none, radix_other, exponent_none, point_none, j_none, fraction_is, tail_is, longest_number}
+use Rattle.pylexeme.proofs.Callers.Fronts.{stop_first}
+use Rattle.pylexeme.proofs.Callers.Lexemes.{number_takes}
 use Rattle.pyspacing.specs.Spacing.{is_whole}
 use Rattle.pyspacing.proofs.LexemeFronts.Fronts.{is_lexeme, leaves}
 use Rattle.pyspacing.proofs.Cases.{cases}

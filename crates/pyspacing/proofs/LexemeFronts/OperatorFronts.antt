@@ -21,13 +21,10 @@ use Rattle.pylexeme.specs.Operators.{operators, exact_of, is_operator}
 use Rattle.pylexeme.specs.Lexemes.{lexeme_at}
 use Rattle.pylexeme.specs.Lengths.{longest, operator_at}
 use Rattle.pylexeme.specs.Cuts.{BeginsOther}
-use Rattle.pylexeme.proofs.Fronts.Best.{and_parts, or_parts}
-use Rattle.pylexeme.proofs.Numbers.NumberSets.{digit_bounds}
-use Rattle.pylexeme.proofs.Fronts.Longest.{IsBest}
-use Rattle.pylexeme.proofs.Numbers.NumberBest.{longest_is}
-use Rattle.pylexeme.proofs.Lexemes.Classes.{words, heads, by_words, no_operator}
-use Rattle.pylexeme.proofs.Lexemes.OperatorLengths.{no_operator_none}
-use Rattle.pylexeme.proofs.Lexemes.Union.{opens_off, operator_takes}
+use Rattle.pylexeme.proofs.Callers.Booleans.{and_parts, or_parts}
+use Rattle.pylexeme.proofs.Callers.Numbers.{digit_bounds, longest_is}
+use Rattle.pylexeme.proofs.Callers.Fronts.{IsBest}
+use Rattle.pylexeme.proofs.Callers.Lexemes.{words, heads, by_words, no_operator, no_operator_none, opens_off, operator_takes}
 use Rattle.pyspacing.specs.Spacing.{begins_operator}
 use Rattle.pyspacing.proofs.LexemeFronts.Fronts.{is_lexeme, leaves}
 use Rattle.pyspacing.proofs.Cases.{bool_cases, cases, off}

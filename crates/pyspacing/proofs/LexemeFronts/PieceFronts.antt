@@ -20,11 +20,9 @@ use Rattle.pylexeme.specs.declared.lexeme.Class.TheVariants.{Operator, Join}
 use Rattle.pylexeme.specs.Operators.{operators, exact_of, is_operator}
 use Rattle.pylexeme.specs.Strings.{begins_quote, is_single_string, is_single, is_prefix, prefixes, lower}
 use Rattle.pylexeme.specs.Lexemes.{lexeme_at, is_name}
-use Rattle.pylexeme.proofs.Fronts.Best.{and_parts, or_parts}
-use Rattle.pylexeme.proofs.Lexemes.Classes.{words, heads, by_words, no_head, no_operator}
-use Rattle.pylexeme.proofs.Fronts.Joined.{or_parts_false}
-use Rattle.pylexeme.proofs.Numbers.NumberSets.{zero_digit, one_digit, digit_bounds}
-use Rattle.pylexeme.proofs.Lexemes.OperatorLengths.{no_operator_none}
+use Rattle.pylexeme.proofs.Callers.Booleans.{and_parts, or_parts, or_parts_false}
+use Rattle.pylexeme.proofs.Callers.Lexemes.{words, heads, by_words, no_head, no_operator, no_operator_none}
+use Rattle.pylexeme.proofs.Callers.Numbers.{zero_digit, one_digit, digit_bounds}
 use Rattle.pyspacing.specs.Spacing.{Piece, is_token, is_whole, is_number_kind, is_operator_kind, touches, text_behind, begins_operator, stay_apart, are_two_points, all_apart}
 use Rattle.pyspacing.specs.Inner.Relexed.{class_of}
 use Rattle.pyspacing.proofs.LexemeFronts.NameFronts.{name_front}

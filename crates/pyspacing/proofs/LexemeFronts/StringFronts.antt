@@ -13,12 +13,9 @@ use Rattle.pylexeme.specs.Numbers.{split_any, is_nil}
 use Rattle.pylexeme.specs.Strings.{units, is_unit, no_units, ends_by_one, is_single, is_single_string, is_prefix, prefixes, lower, begins_quote, counts_as_string}
 use Rattle.pylexeme.specs.Lengths.{Opens, shift, single_of, single_len, quoted_len, begins_quotes, longest}
 use Rattle.pylexeme.specs.Lexemes.{lexeme_at}
-use Rattle.pylexeme.proofs.Fronts.Best.{and_parts, or_parts}
-use Rattle.pylexeme.proofs.Fronts.Joined.{or_parts_false}
-use Rattle.pylexeme.proofs.Strings.Units.{IsQuote, quote_is, units_plain, nil_units, unit_one, unit_slash}
-use Rattle.pylexeme.proofs.Strings.StringBest.{Which, one, two}
-use Rattle.pylexeme.proofs.Strings.StringLongest.{string_reads, longest_reads, string_opens}
-use Rattle.pylexeme.proofs.Lexemes.Union.{string_takes}
+use Rattle.pylexeme.proofs.Callers.Booleans.{and_parts, or_parts, or_parts_false}
+use Rattle.pylexeme.proofs.Callers.Strings.{IsQuote, quote_is, units_plain, nil_units, unit_one, unit_slash, Which, one, two, string_reads, longest_reads, string_opens}
+use Rattle.pylexeme.proofs.Callers.Lexemes.{string_takes}
 use Rattle.pyspacing.proofs.LexemeFronts.Fronts.{is_lexeme, leaves}
 use Rattle.pyspacing.proofs.Cases.{bool_cases, off}
 

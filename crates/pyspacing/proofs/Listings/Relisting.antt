@@ -16,7 +16,7 @@ use Rattle.pylex.specs.Steps.{entries_of, mark}
 use Rattle.pylexeme.specs.Chars.{bytes_in}
 use Rattle.pytoken.specs.Indentation.{margin_at, margins_from, margins}
 use Rattle.pylex.specs.Machine.{State, first_state, remaining, run, stop_of, tail_of, last_line_end, last_place, dedents_at, mark_at}
-use Rattle.pylexeme.proofs.Fronts.Best.{and_parts}
+use Rattle.pylexeme.proofs.Callers.Booleans.{and_parts}
 use Rattle.pylex.proofs.Callers.{listing_is}
 use Rattle.pyspacing.specs.Spacing.{Line, are_readable, lines_text}
 use Rattle.pyspacing.specs.Inner.Relexed.{lines_lexemes}

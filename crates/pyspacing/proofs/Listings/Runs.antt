@@ -21,7 +21,7 @@ use Rattle.pylexeme.specs.Lexemes.{Lexeme}
 use Rattle.pylexeme.specs.Chars.{bytes_in}
 use Rattle.pylex.specs.Indentation.{width_from}
 use Rattle.pylex.specs.Machine.{State, after, gives, run, stop_of, layout_of, entry_by, step_of, past, behind, count_if, pushed}
-use Rattle.pylexeme.proofs.Fronts.Best.{and_parts}
+use Rattle.pylexeme.proofs.Callers.Booleans.{and_parts}
 use Rattle.pyspacing.specs.Spacing.{Piece, Line, is_token, is_operator_kind, touches, text_behind, spaced, are_readable, line_text, lines_text}
 use Rattle.pyspacing.specs.Inner.Relexed.{class_of, lexeme_of, blanks, feed, lexemes_behind, lexemes_of, indent_lexemes, line_lexemes, lines_lexemes}
 use Rattle.pyspacing.specs.Tokens.{PlainToken, token_of, exact_in, newline, dedent, end_marker, level_tokens, line_tokens, tokens_behind, opens, closes, closes_all, rise_by_one, is_written, is_opening, is_closing}

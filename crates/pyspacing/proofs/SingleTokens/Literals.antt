@@ -12,9 +12,8 @@ use Rattle.pysource.specs.Reprs.{hex, hex_escape, escaped, quote_for, quoted, is
 use Rattle.pylex.specs.declared.kind.Kind.TheVariants as kinds
 use Rattle.pylexeme.specs.Chars.{is_comment_part}
 use Rattle.pylexeme.specs.Strings.{units, ends_by_one, is_single, is_single_string, is_prefix}
-use Rattle.pylexeme.proofs.Fronts.Best.{or_parts}
-use Rattle.pylexeme.proofs.Fronts.Joined.{or_parts_false}
-use Rattle.pylexeme.proofs.Strings.Units.{IsQuote, quote_is, units_plain, unit_one, unit_slash}
+use Rattle.pylexeme.proofs.Callers.Booleans.{or_parts, or_parts_false}
+use Rattle.pylexeme.proofs.Callers.Strings.{IsQuote, quote_is, units_plain, unit_one, unit_slash}
 use Rattle.pyspacing.specs.Spacing.{is_token}
 use Rattle.pyspacing.proofs.LexemeFronts.StringFronts.{units_slash}
 use Rattle.pyspacing.proofs.Cases.{bool_cases}

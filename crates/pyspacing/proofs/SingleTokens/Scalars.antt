@@ -10,8 +10,8 @@ use Rattle.std.proofs.Math.Utf8.{scalar, low_scalar}
 use Rattle.std.proofs.lemmas.Bool.{eqb-true, cases_lt, leb-true}
 use Rattle.std.proofs.lemmas.Bool.Decides.{nat_tests}
 use Rattle.pysource.specs.Reprs.{hex, hex_escape, escaped, quote_for, quoted, is_unprintable, is_unprintable_byte, repr_chars, repr_bytes}
-use Rattle.pysource.proofs.Printing.Categories.{unprintable_no_character}
-use Rattle.pylexeme.proofs.Fronts.Best.{and_parts, or_parts}
+use Rattle.pysource.proofs.Callers.Printing.{unprintable_no_character}
+use Rattle.pylexeme.proofs.Callers.Booleans.{and_parts, or_parts}
 use Rattle.pyspacing.proofs.Sources.Bytes.{scalars_both}
 use Rattle.pyspacing.proofs.SingleTokens.Literals.{which_quote}
 use Rattle.pyspacing.proofs.Cases.{bool_cases}

@@ -10,7 +10,7 @@ use Rattle.std.proofs.lemmas.Bool.Decides.{nat_tests}
 use Rattle.std.proofs.lemmas.List.Folds.{list_all-append}
 use Rattle.std.proofs.lemmas.Str.{encode_ascii, length-encode, len_utf8_bounds}
 use Rattle.pylexeme.specs.Chars.{begins}
-use Rattle.pylexeme.proofs.Fronts.Best.{and_parts}
+use Rattle.pylexeme.proofs.Callers.Booleans.{and_parts}
 
 least : (a b : ℕ) → 128 ≤ a → leb 128 (a + b) ≡ true
 least a b h = grind (arith, nat_tests)

@@ -23,19 +23,16 @@ use Rattle.pysource.specs.Cookies.{has_mark, without_mark, cookie_of, drop_while
 use Rattle.pysource.specs.Lines.{lines_of, first_bad, good_text, line_fault, bad_at}
 use Rattle.pysource.specs.Sources.{source_of}
 use Rattle.pysource.specs.declared.encodings.Charset.TheVariants.{Utf8}
-use Rattle.pysource.proofs.FaultyLines.BadLemmas.{utf8_before}
-use Rattle.pysource.proofs.FaultyLines.CutLemmas.{NoLf, lines_at}
-use Rattle.pysource.proofs.FaultyLines.LinesLemmas.{valid_all, first_given_none}
-use Rattle.pysource.proofs.FaultyLines.ReturnsLemmas.{lone_none_byte}
+use Rattle.pysource.proofs.Callers.Faults.{utf8_before, NoLf, lines_at, valid_all, first_given_none, lone_none_byte}
 use Rattle.pylex.specs.declared.kind.Kind.{Kind}
 use Rattle.pylex.specs.declared.kind.Kind.TheVariants as kinds
 use Rattle.pylexeme.specs.Chars.{begins, starts_name, is_comment_part, is_blank_char}
 use Rattle.pylexeme.specs.Numbers.{is_nil, is_decimal_digit, is_zero, is_one_to_nine}
 use Rattle.pylexeme.specs.Strings.{is_single_string}
 use Rattle.pylexeme.specs.Lexemes.{is_name}
-use Rattle.pylexeme.proofs.Fronts.Best.{and_parts, or_parts}
-use Rattle.pylexeme.proofs.Lexemes.Classes.{words, heads, by_words, start_continues}
-use Rattle.pylexeme.proofs.Numbers.NumberSets.{zero_digit, one_digit, digit_bounds}
+use Rattle.pylexeme.proofs.Callers.Booleans.{and_parts, or_parts}
+use Rattle.pylexeme.proofs.Callers.Lexemes.{words, heads, by_words, start_continues}
+use Rattle.pylexeme.proofs.Callers.Numbers.{zero_digit, one_digit, digit_bounds}
 use Rattle.pyspacing.specs.Spacing.{Piece, Line, is_token, is_whole, touches, text_behind, spaced, are_readable, line_text, lines_text}
 use Rattle.pyspacing.specs.Tokens.{is_written}
 use Rattle.pyspacing.proofs.LexemeFronts.Fronts.{run_ends}

@@ -13,7 +13,7 @@ use Rattle.pylex.specs.declared.kind.Kind.TheVariants as kinds
 use Rattle.pylex.specs.declared.entries.Entry.{Entry}
 use Rattle.pylex.specs.Listing.{Source, listing}
 use Rattle.pylex.specs.Steps.{entries_of}
-use Rattle.pylexeme.proofs.Fronts.Best.{and_parts}
+use Rattle.pylexeme.proofs.Callers.Booleans.{and_parts}
 use Rattle.pyspacing.specs.Spacing.{Piece, Line, is_token, are_readable}
 use Rattle.pyspacing.specs.Tokens.{PlainToken, token_at, token_of, newline, indent, dedent, end_marker, level_tokens, line_tokens, tokens_behind, is_written, are_written, rise_by_one, IsListedAs, PlainLine, unplaced, unplaced_line, token_line}
 use Rattle.pytoken.specs.Tokens.{is_open, tokens_of_entry, tokens_from, tokens, lines}

@@ -10,8 +10,8 @@ use Rattle.std.proofs.lemmas.List.Folds.{list_all-append}
 use Rattle.std.proofs.lemmas.Slice.Eq.{bytes_eq-Decides}
 use Rattle.pylex.specs.declared.kind.Kind.TheVariants as kinds
 use Rattle.pylexeme.specs.Operators.{operators, exact_of}
-use Rattle.pylexeme.proofs.Fronts.Best.{and_parts, or_parts}
-use Rattle.pylexeme.proofs.Lexemes.Classes.{by_words}
+use Rattle.pylexeme.proofs.Callers.Booleans.{and_parts, or_parts}
+use Rattle.pylexeme.proofs.Callers.Lexemes.{by_words}
 use Rattle.pyspacing.specs.Spacing.{Piece, is_token, is_operator_kind, touches, begins_operator, stay_apart, are_readable}
 use Rattle.pyspacing.specs.Inner.Edges.{begins_item, openers, stars, is_among, closings, leading, openings, trailing, begins_expression, ends_expression, is_free_behind, is_free_before, is_sign, fit, are_neat, begins_by, ends_by}
 use Rattle.pyspacing.proofs.LexemeFronts.PieceFronts.{ArePieces, words_all}

@@ -12,8 +12,8 @@ use Rattle.std.proofs.lemmas.Slice.Eq.{bytes_eq-Decides}
 use Rattle.pylex.specs.declared.kind.Kind.{Kind}
 use Rattle.pylex.specs.declared.kind.Kind.TheVariants as kinds
 use Rattle.pylexeme.specs.Operators.{operators}
-use Rattle.pylexeme.proofs.Fronts.Best.{and_parts, or_parts}
-use Rattle.pylexeme.proofs.Lexemes.Classes.{words, heads}
+use Rattle.pylexeme.proofs.Callers.Booleans.{and_parts, or_parts}
+use Rattle.pylexeme.proofs.Callers.Lexemes.{words, heads}
 use Rattle.pylexeme.specs.Strings.{lower, prefixes}
 use Rattle.pyspacing.specs.Spacing.{Piece, is_token, is_operator_kind, is_number_kind, touches, stay_apart, are_two_points, begins_operator, all_apart, are_readable}
 use Rattle.pyspacing.specs.Inner.Edges.{is_among, closings, leading, openings, trailing, begins_expression, ends_expression, is_sign, fit, all_fit, are_neat, begins_by, ends_by}

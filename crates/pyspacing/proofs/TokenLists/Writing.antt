@@ -5,7 +5,7 @@ use Rattle.std.proofs.Common.{◌≡◌, ℕ, ◌+◌, ◌≤◌, Bool, true, �
 use Rattle.std.specs.Prelude.{nat_le}
 use Rattle.std.specs.List.{list_all}
 use Rattle.std.proofs.lemmas.Bool.{leb-true, le-leb, eqb-true}
-use Rattle.pylexeme.proofs.Fronts.Best.{and_parts}
+use Rattle.pylexeme.proofs.Callers.Booleans.{and_parts}
 use Rattle.pyspacing.specs.Spacing.{Piece, Line, touches, text_behind, spaced, line_text, lines_text}
 use Rattle.pyspacing.specs.Tokens.{rise_by_one}
 

@@ -26,7 +26,7 @@ use Rattle.pygrammar.proofs.SourceLaw.{lines_are_lawful, blocks_are_lawful, answ
 use Rattle.pyspacing.specs.Spacing.{Piece, is_operator_kind}
 use Rattle.pyspacing.specs.Tokens.{token_of, unplaced, unplaced_line, token_line, is_opening, is_closing, opens, closes, opens_within}
 use Rattle.pyspacing.specs.Laws.{ReadsBack, IsClear}
-use Rattle.pyspacing.proofs.Law.{written_is_read, written_is_clear}
+use Rattle.pyspacing.proofs.Callers.Pieces.{written_is_read, written_is_clear}
 use Rattle.pywritten.specs.Brackets.{open_after, most_open, brackets}
 use Rattle.pywritten.specs.Modules.{WrittenLine, written_line, line_of, terminal_lines, piece_lines}
 use Rattle.pywritten.specs.Laws.{Give, give_none, give, HaveForms, no_form, a_form, AreModule, LinesAreOneModule, AcceptedComeBack, source_lines, AreWithin, GiveLines, no_line, a_line, ModuleTextsAreAccepted}

@@ -17,7 +17,7 @@ use Rattle.pygrammar.specs.Lines.{Line as FormLine, Header, if_header, elif_head
 use Rattle.pygrammar.specs.Forms as F
 use Rattle.pyspacing.specs.Spacing.{Piece, Line}
 use Rattle.pyspacing.specs.Tokens.{is_written, rise_by_one}
-use Rattle.pyspacing.proofs.TokenLists.Writing.{begin_at, rise_both}
+use Rattle.pyspacing.proofs.Callers.Lists.{begin_at, rise_both}
 use Rattle.pywritten.specs.Written.{leading, written}
 use Rattle.pywritten.specs.Terminals.{terminal}
 use Rattle.pywritten.specs.Pieces.{piece}

@@ -21,7 +21,7 @@ use Rattle.pytoken.specs.Terminals.{terminal_of, IsSound}
 use Rattle.pytoken.proofs.Callers.Said.{tokens_are_sound}
 use Rattle.pygrammar.specs.Lines.{Line}
 use Rattle.pygrammar.specs.Refusals.{terminals, Formed, formed_end, formed_line}
-use Rattle.pyspacing.proofs.Listings.Tells.{bytes_both, sliced}
+use Rattle.pyspacing.proofs.Callers.Lists.{bytes_both, sliced}
 use Rattle.pywritten.specs.Modules.{written_line}
 use Rattle.pywritten.specs.Laws.{IsOfToken, AreOfTokens, AreWithin, source_lines, IsGood, TokensAreOfTokens, AcceptedTextsAreAccepted}
 use Rattle.pywritten.proofs.Modules.High.{modules_low}

@@ -7,11 +7,10 @@ use Rattle.std.proofs.lemmas.Bool.{and_parts, or_cases, cases_Bool}
 use Rattle.std.proofs.lemmas.List.{take-append-drop}
 use Rattle.std.proofs.lemmas.Slice.Eq.{bytes_eq-Decides}
 use Rattle.pylexeme.specs.Strings.{lower, prefixes}
-use Rattle.pylexeme.proofs.Lexemes.Classes.{words, heads}
+use Rattle.pylexeme.proofs.Callers.Lexemes.{words, heads}
 use Rattle.pylex.specs.declared.kind.Kind.{Kind}
 use Rattle.pyspacing.specs.Spacing.{is_token, is_operator_kind, begins_operator}
-use Rattle.pyspacing.proofs.LexemeFronts.PieceFronts.{Off, no_token, none_empty}
-use Rattle.pyspacing.proofs.LexemeFronts.OperatorFronts.{begins_word, of_any, is_sign_char, sign_of}
+use Rattle.pyspacing.proofs.Callers.Pieces.{Off, no_token, none_empty, begins_word, of_any, is_sign_char, sign_of}
 
 abbrev sign_chars : List ℕ
 sign_chars = codes "()[]{}:,;+-*/|&<>=.%!~^@"

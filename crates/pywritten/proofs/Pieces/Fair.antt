@@ -13,7 +13,7 @@ use Rattle.pylexeme.specs.declared.kinds.Exact.{Exact}
 use Rattle.pylexeme.specs.declared.kinds.Exact.TheVariants.{LPar, RPar, LSqb, RSqb, LBrace, RBrace, Colon, Comma, Semi, Plus, Minus, Star, Slash, VBar, Amper, Less, Greater, Equal, Dot, Percent, EqEqual, NotEqual, LessEqual, GreaterEqual, Tilde, Circumflex, LeftShift, RightShift, DoubleStar, PlusEqual, MinEqual, StarEqual, SlashEqual, PercentEqual, AmperEqual, VBarEqual, CircumflexEqual, LeftShiftEqual, RightShiftEqual, DoubleStarEqual, DoubleSlash, DoubleSlashEqual, At, AtEqual, RArrow, Ellipsis, ColonEqual}
 use Rattle.pylexeme.specs.Numbers.{is_zero, is_one_to_nine, is_decimal_digit, is_nil}
 use Rattle.pylexeme.specs.Operators.{operators, exact_of, is_operator, is_opener, is_closer}
-use Rattle.pylexeme.proofs.Numbers.NumberSets.{digit_bounds}
+use Rattle.pylexeme.proofs.Callers.Numbers.{digit_bounds}
 use Rattle.pynode.specs.Points.{IsPoint}
 use Rattle.pynode.specs.Values
 use Rattle.pytoken.specs.declared.keywords.Keyword.{Keyword}
@@ -24,9 +24,7 @@ use Rattle.pytoken.specs.Laws.{IsProper}
 use Rattle.pytoken.proofs.Callers.Said.{come_back}
 use Rattle.pyspacing.specs.Spacing.{is_whole, is_token}
 use Rattle.pyspacing.specs.Tokens.{opens, closes}
-use Rattle.pyspacing.proofs.SingleTokens.Literals.{text_token, marked_token, bytes_token}
-use Rattle.pyspacing.proofs.SingleTokens.Decimals.{decimal_token}
-use Rattle.pyspacing.proofs.SingleTokens.Scalars.{text_scalars, bytes_scalars}
+use Rattle.pyspacing.proofs.Callers.Tokens.{text_token, marked_token, bytes_token, decimal_token, text_scalars, bytes_scalars}
 use Rattle.pywritten.specs.Written.{constant_terminal}
 use Rattle.pywritten.specs.Pieces.{sign_text, kind_of, text_of, piece}
 use Rattle.pywritten.proofs.Pieces.NameCharacters.{name_scalars}

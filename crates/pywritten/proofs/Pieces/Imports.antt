@@ -18,9 +18,8 @@ use Rattle.pytoken.specs.Laws.{IsProper}
 use Rattle.pyspacing.specs.Spacing.{Piece, is_token, is_operator_kind, touches, stay_apart, are_two_points, begins_operator, all_apart, are_readable}
 use Rattle.pyspacing.specs.Tokens.{closes_all}
 use Rattle.pyspacing.specs.Inner.Edges.{fit, all_fit, are_neat, begins_by, ends_by}
-use Rattle.pyspacing.proofs.LexemeFronts.PieceFronts.{ArePieces}
-use Rattle.pyspacing.proofs.Listings.Runs.{AreScalar}
-use Rattle.pyspacing.proofs.TokenLists.Joins.{begins_both, neat_apart, Balanced, balanced_both, balanced_closes}
+use Rattle.pyspacing.proofs.Callers.Pieces.{ArePieces}
+use Rattle.pyspacing.proofs.Callers.Lists.{AreScalar, begins_both, neat_apart, Balanced, balanced_both, balanced_closes}
 use Rattle.pywritten.specs.Written.{free, word, tight, listed}
 use Rattle.pywritten.specs.Terminals.{terminal}
 use Rattle.pywritten.specs.Pieces.{piece}

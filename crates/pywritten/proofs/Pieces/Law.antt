@@ -6,7 +6,7 @@ use Rattle.pytoken.specs.Terminals.{Terminal}
 use Rattle.pyspacing.specs.Spacing.{Piece, are_readable}
 use Rattle.pyspacing.specs.Tokens.{closes_all}
 use Rattle.pyspacing.specs.Inner.Edges.{begins_by}
-use Rattle.pyspacing.proofs.TokenLists.Joins.{neat_readable, balanced_closes}
+use Rattle.pyspacing.proofs.Callers.Lists.{neat_readable, balanced_closes}
 use Rattle.pywritten.specs.Laws.{IsOfToken, AreRead, ExpressionsAreRead}
 use Rattle.pywritten.proofs.Fewest.Less.{star_place}
 use Rattle.pywritten.proofs.Pieces.Sorts.{within}

@@ -8,7 +8,7 @@ use Rattle.unicode_ident.proofs.IdentLemmas.{is_xid_continue-ascii}
 use Rattle.pylexeme.specs.declared.kinds.Exact.TheVariants as Sign
 use Rattle.pylexeme.specs.Chars.{starts_name}
 use Rattle.pylexeme.specs.Lexemes.{is_name}
-use Rattle.pylexeme.proofs.Lexemes.Classes.{start_continues}
+use Rattle.pylexeme.proofs.Callers.Lexemes.{start_continues}
 use Rattle.pynode.specs.declared.profiles.Profile.{Profile}
 use Rattle.pynode.specs.declared.operators.Context.TheVariants.{Load, Store, Del}
 use Rattle.pytoken.specs.declared.keywords.Keyword.TheVariants as Key

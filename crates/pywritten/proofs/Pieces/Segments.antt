@@ -15,9 +15,8 @@ use Rattle.pywritten.specs.Terminals.{terminal}
 use Rattle.pywritten.specs.Pieces.{piece}
 use Rattle.pywritten.specs.Laws.{Give, give_none, give}
 use Rattle.pylexeme.specs.Operators.{exact_of, operators}
-use Rattle.pyspacing.proofs.TokenLists.Joins.{Balanced, balanced_none, balanced_one, balanced_both, balanced_within}
-use Rattle.pyspacing.proofs.TokenLists.Forms.{Written}
-use Rattle.pyspacing.proofs.TokenLists.Forms as Form
+use Rattle.pyspacing.proofs.Callers.Lists.{Balanced, balanced_none, balanced_one, balanced_both, balanced_within, Written}
+use Rattle.pyspacing.proofs.Callers.Lists as Form
 use Rattle.pywritten.proofs.Pieces.Sorts.{is_like, within, suit, sorts_fit, starts_plain, starts_part, ends_plain, ends_comma, ends_part, starts, ends, starts_more, ends_more, more_item, more_part, more_comma, more_colon}
 use Rattle.pywritten.proofs.Pieces.Fair.{Fair, fair_sign, is_bracket, opens_none, closes_none}
 

@@ -6,10 +6,10 @@ use Rattle.pycommand.proofs.listings.list.Given as goal
 
 abbrev pub invariant-loop-left : goal.invariant-loop-left
 invariant-loop-left g l = record {
-  came : Came (g.R.ByteIn.to_come l.fn.reader) (g.R.ByteIn.to_come l.reader) (g.R.ByteIn.failure_count l.fn.reader) (g.R.ByteIn.failure_count l.reader) l.fn.lister l.lister l.exact l.fn.count l.left
-      (g.W.ByteOut.taken l.fn.writer) (g.W.ByteOut.taken l.writer) (string_bytes l.held);
-  room : g.R.ByteIn.failure_count l.reader < 2 ^ 64 - 1 + fails l.lister.lines.reach;
-  counted : g.W.ByteOut.failure_count l.writer ≡ g.W.ByteOut.failure_count l.fn.writer;
+  came : Came (g.R.ByteIn.seen l.fn.reader) (g.R.ByteIn.seen l.reader) l.fn.lister l.lister l.exact l.fn.count l.left
+      (g.W.ByteOut.sent l.fn.writer).taken (g.W.ByteOut.sent l.writer).taken (string_bytes l.held);
+  room : (g.R.ByteIn.seen l.reader).failures < 2 ^ 64 - 1 + fails l.lister.lines.reach;
+  counted : (g.W.ByteOut.sent l.writer).failures ≡ (g.W.ByteOut.sent l.fn.writer).failures;
 }
 
 abbrev pub decreases-loop-left : goal.decreases-loop-left

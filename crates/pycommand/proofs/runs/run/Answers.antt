@@ -11,7 +11,7 @@ returns-in-Err g c =
     let told = c.tell.result in
     let same = c.tell.ensures.same in
     let write = told-plain c.in-Err.fault told Write (λ e. cc) same in
-    let output = Does-told c.args.command.now _ _ _ _ _ _ source_limit c.in-Err.fault told same p.does in (
+    let output = Does-told c.args.command.now _ _ _ _ source_limit c.in-Err.fault told same p.does in (
       Some told,
       record {
         status = c.status.ensures;

@@ -4,8 +4,7 @@ use Rattle.std.specs.Str.{IsCharBoundary}
 use Rattle.std.proofs.lemmas.Str.{IsCharBoundary-at_seam}
 use Rattle.pysource.specs.declared.line_reader.Line.TheVariants as met
 use Rattle.pysource.specs.Taking.{fails}
-use Rattle.pysource.proofs.TakenBytes.ByteLemmas.{Steady-append}
-use Rattle.pysource.proofs.TakenBytes.TakingLemmas.{was_reading}
+use Rattle.pysource.proofs.Callers.Taken.{was_reading}
 use Rattle.pylex.proofs.LineByLine.Adding.{adds_none, adds_line, adds_no_line}
 use Rattle.pylex.proofs.LineByLine.HeldLinesLemmas.{adds_of, no_line, line_some}
 use Rattle.pylex.specs.Held.{LinesBehind}
@@ -13,12 +12,12 @@ use Rattle.pylex.proofs.LineByLine.JoinedOn.{behind_line, joins_no_line, joins_e
 use Rattle.pylex.proofs.held_lines.add_lines.Goals as goal
 
 pub loop-literal-init : goal.loop-literal-init
-loop-literal-init g c = record { adds = adds_none _ _ c.args.lines.now _ c.requires.within; reading = c.requires.reading; joins = λ at start l. l; steady = (refl, λ _. refl); from = c.requires.from }
+loop-literal-init g c = record { adds = adds_none _ c.args.lines.now _ c.requires.within; reading = c.requires.reading; joins = λ at start l. l; from = c.requires.from }
 
 pub returns-in_default-line-clause-adds : goal.returns-in_default-line-clause-adds
 returns-in_default-line-clause-adds g c =
     let m = c.in-Ok.ensures.moves in
-    adds_no_line _ _ _ _ _ _ c.args.lines.now c.loop-literal.lines c.next_line.new.self _ _ _ c.loop-literal.invariant.adds (Ok c.in-Ok.line) m (no_line c.in-Ok.line m.line c.next_line.new.self c.in_default-line.not-Text (adds_of (Ok c.in-Ok.line) m.line c.next_line.new.self m.tells)) c.in-Ok.ensures.within
+    adds_no_line _ _ _ c.args.lines.now c.loop-literal.lines c.next_line.new.self _ _ _ c.loop-literal.invariant.adds (Ok c.in-Ok.line) m (no_line c.in-Ok.line m.line c.next_line.new.self c.in_default-line.not-Text (adds_of (Ok c.in-Ok.line) m.line c.next_line.new.self m.tells)) c.in-Ok.ensures.within
 
 pub loop-literal-smaller : goal.loop-literal-smaller
 loop-literal-smaller g c =
@@ -34,7 +33,7 @@ loop-literal-preserved g c =
     let m = rw c.in-Text.is at c.in-Ok.ensures.moves in
     let size : length (string_bytes c.loop-literal.text) ≡ c.len-end.result = omega (arith, c.len-end.ensures) in
     record {
-      adds = adds_line _ _ _ _ _ _ c.args.lines.now c.loop-literal.lines c.next_line.new.self _ _ _ c.loop-literal.invariant.adds m c.in-Ok.ensures.within;
+      adds = adds_line _ _ _ c.args.lines.now c.loop-literal.lines c.next_line.new.self _ _ _ c.loop-literal.invariant.adds m c.in-Ok.ensures.within;
       reading = λ is.
           let old = was_reading (rw is at m.reads) in
           let told = m.reads.told in
@@ -43,15 +42,14 @@ loop-literal-preserved g c =
           let b = ap fails is in
           omega arith;
       joins = λ at start l. subst (λ n. LinesBehind c.args.literal at n start c.next_line.new.self (string_bytes c.next_line.new.chunk)) size
-          (behind_line _ _ _ _ c.args.literal at c.loop-literal.from start c.loop-literal.lines c.next_line.new.self _ _ (c.loop-literal.invariant.joins at start l) (rw (← c.deref.ensures, ← c.range_from.ensures.value) (c.loop-literal-test.ensures.longer refl)) m c.in-Ok.ensures.within);
-      steady = Steady-append _ _ _ _ _ _ c.loop-literal.invariant.steady c.in-Ok.ensures.steady;
+          (behind_line _ _ c.args.literal at c.loop-literal.from start c.loop-literal.lines c.next_line.new.self _ _ (c.loop-literal.invariant.joins at start l) (rw (← c.deref.ensures, ← c.range_from.ensures.value) (c.loop-literal-test.ensures.longer refl)) m c.in-Ok.ensures.within);
       from = subst (IsCharBoundary (string_bytes c.next_line.new.chunk)) size (IsCharBoundary-at_seam _ (string_bytes c.loop-literal.text) m.line m.chunk m.tells.0.utf8);
     }
 
 pub returns-in_default-clause-adds : goal.returns-in_default-clause-adds
 returns-in_default-clause-adds g c =
     let m = c.in_default.ensures.moves in
-    adds_no_line _ _ _ _ _ _ c.args.lines.now c.loop-literal.lines c.next_line.new.self _ _ _ c.loop-literal.invariant.adds (Err c.in_default.field-0) m m.tells c.in_default.ensures.within
+    adds_no_line _ _ _ c.args.lines.now c.loop-literal.lines c.next_line.new.self _ _ _ c.loop-literal.invariant.adds (Err c.in_default.field-0) m m.tells c.in_default.ensures.within
 
 pub returns-clause-joins : goal.returns-clause-joins
 returns-clause-joins g c = λ at start l. joins_ended c.args.literal at c.loop-literal.from start c.loop-literal.lines _ (c.loop-literal.invariant.joins at start l)
@@ -59,16 +57,10 @@ returns-clause-joins g c = λ at start l. joins_ended c.args.literal at c.loop-l
 pub returns-in_default-clause-joins : goal.returns-in_default-clause-joins
 returns-in_default-clause-joins g c = λ at start l.
     let m = c.in_default.ensures.moves in
-    joins_no_line _ _ _ _ c.args.literal at c.loop-literal.from start c.loop-literal.lines c.next_line.new.self _ _ (c.loop-literal.invariant.joins at start l) (rw (← c.deref.ensures, ← c.range_from.ensures.value) (c.loop-literal-test.ensures.longer refl)) (Err c.in_default.field-0) m m.tells (λ is. cc)
+    joins_no_line _ _ c.args.literal at c.loop-literal.from start c.loop-literal.lines c.next_line.new.self _ _ (c.loop-literal.invariant.joins at start l) (rw (← c.deref.ensures, ← c.range_from.ensures.value) (c.loop-literal-test.ensures.longer refl)) (Err c.in_default.field-0) m m.tells (λ is. cc)
 
 pub returns-in_default-line-clause-joins : goal.returns-in_default-line-clause-joins
 returns-in_default-line-clause-joins g c = λ at start l.
     let m = c.in-Ok.ensures.moves in
-    joins_no_line _ _ _ _ c.args.literal at c.loop-literal.from start c.loop-literal.lines c.next_line.new.self _ _ (c.loop-literal.invariant.joins at start l) (rw (← c.deref.ensures, ← c.range_from.ensures.value) (c.loop-literal-test.ensures.longer refl)) (Ok c.in-Ok.line) m
+    joins_no_line _ _ c.args.literal at c.loop-literal.from start c.loop-literal.lines c.next_line.new.self _ _ (c.loop-literal.invariant.joins at start l) (rw (← c.deref.ensures, ← c.range_from.ensures.value) (c.loop-literal-test.ensures.longer refl)) (Ok c.in-Ok.line) m
     (no_line c.in-Ok.line m.line c.next_line.new.self c.in_default-line.not-Text (adds_of (Ok c.in-Ok.line) m.line c.next_line.new.self m.tells)) (λ is. c.in_default-line.not-Text (let e : c.in-Ok.line ≡ met.Text = cc in e))
-
-pub returns-in_default-clause-steady : goal.returns-in_default-clause-steady
-returns-in_default-clause-steady g c = Steady-append _ _ _ _ _ _ c.loop-literal.invariant.steady c.in_default.ensures.steady
-
-pub returns-in_default-line-clause-steady : goal.returns-in_default-line-clause-steady
-returns-in_default-line-clause-steady g c = Steady-append _ _ _ _ _ _ c.loop-literal.invariant.steady c.in-Ok.ensures.steady

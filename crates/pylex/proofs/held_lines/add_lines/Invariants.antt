@@ -1,6 +1,5 @@
 use Rattle.std.proofs.Common.{◌≡◌, ◌+◌, ◌-◌, ◌<◌, ◌^◌, ℕ, length, string_bytes}
 use Rattle.std.specs.Str.{IsCharBoundary}
-use Rattle.pysource.specs.Bytes.{IsSteady}
 use Rattle.pysource.specs.Streams.{Buffered}
 use Rattle.pysource.specs.Limits.{source_limit}
 use Rattle.pysource.specs.declared.line_reader.Reach.TheVariants.{Reading}
@@ -10,10 +9,9 @@ use Rattle.pylex.proofs.held_lines.add_lines.Given as goal
 
 abbrev pub invariant-loop-literal : goal.invariant-loop-literal
 invariant-loop-literal g l = record {
-  adds : AddsOn (g.R.ByteIn.to_come l.fn.reader) (g.R.ByteIn.to_come l.reader) (g.R.ByteIn.failure_count l.fn.reader) (g.R.ByteIn.failure_count l.reader) l.fn.lines l.lines (string_bytes l.fn.text) (string_bytes l.text);
-  reading : l.lines.reach ≡ Reading → g.R.ByteIn.failure_count l.reader < 2 ^ 64 - 1;
+  adds : AddsOn (g.R.ByteIn.seen l.fn.reader) (g.R.ByteIn.seen l.reader) l.fn.lines l.lines (string_bytes l.fn.text) (string_bytes l.text);
+  reading : l.lines.reach ≡ Reading → (g.R.ByteIn.seen l.reader).failures < 2 ^ 64 - 1;
   joins : (at : ℕ) (start : Buffered) → LinesBehind l.literal at l.fn.from start l.fn.lines (string_bytes l.fn.text) → LinesBehind l.literal at l.from start l.lines (string_bytes l.text);
-  steady : IsSteady (g.R.ByteIn.may_fail l.fn.reader) (g.R.ByteIn.may_fail l.reader) (g.R.ByteIn.failure_count l.fn.reader) (g.R.ByteIn.failure_count l.reader);
   from : IsCharBoundary (string_bytes l.text) l.from;
 }
 

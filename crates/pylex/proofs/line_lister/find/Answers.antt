@@ -1,7 +1,6 @@
 use Rattle.std.proofs.Common.{◌≡◌, true, length, drop, ap, sym, arith, string_bytes, length-append}
 use Rattle.std.specs.Prelude.{Ok, Err}
 use Rattle.std.proofs.lemmas.Str.{IsCharBoundary-from_drop}
-use Rattle.pysource.proofs.TakenBytes.ByteLemmas.{Steady-append}
 use Rattle.pylex.specs.Streamed.{lacks}
 use Rattle.pylex.proofs.LineByLine.HeldLinesLemmas.{no_line, stays_other}
 use Rattle.pylex.proofs.LineByLine.Searching.{ahead_found, ahead_end, ahead_then, searches_line, searches_stay, meets_end, small_held}
@@ -18,18 +17,17 @@ read_on-requires-clause-room g c = let s = small_held c.loop-chunk.machine c.loo
 pub returns-in_err-line-clause-searches : goal.returns-in_err-line-clause-searches
 returns-in_err-line-clause-searches g c =
     let o = c.in_err-line.ensures.on in
-    searches_stay _ _ _ _ _ _ c.args.machine.now c.loop-chunk.machine c.args.chunk.now c.loop-chunk.chunk c.read_on.new.self c.look-found.result c.loop-chunk.invariant.searches c.look-found.ensures.looks c.in-Stop.is (Err _) o o.adds o.holding
+    searches_stay _ _ _ c.args.machine.now c.loop-chunk.machine c.args.chunk.now c.loop-chunk.chunk c.read_on.new.self c.look-found.result c.loop-chunk.invariant.searches c.look-found.ensures.looks c.in-Stop.is (Err _) o o.adds o.holding
 
 pub returns-in_default-line : goal.returns-in_default-line
 returns-in_default-line g c =
     let o = c.in_ok-line.ensures.on in
     let stays = stays_other _ _ _ o.line c.in_ok-line.line c.in_default-line.not-Text o.holding in
     record {
-      searches = searches_stay _ _ _ _ _ _ c.args.machine.now c.loop-chunk.machine c.args.chunk.now c.loop-chunk.chunk c.read_on.new.self c.look-found.result c.loop-chunk.invariant.searches c.look-found.ensures.looks c.in-Stop.is (Ok c.in_ok-line.line) o
+      searches = searches_stay _ _ _ c.args.machine.now c.loop-chunk.machine c.args.chunk.now c.loop-chunk.chunk c.read_on.new.self c.look-found.result c.loop-chunk.invariant.searches c.look-found.ensures.looks c.in-Stop.is (Ok c.in_ok-line.line) o
           (no_line c.in_ok-line.line o.line c.read_on.new.self.lines c.in_default-line.not-Text o.adds) stays;
-      steady = Steady-append _ _ _ _ _ _ c.loop-chunk.invariant.steady c.in_ok-line.ensures.steady;
       ahead = ahead_end c.args.chunk.now.lines c.read_on.new.self.lines c.look-found.result c.in_ok-line.line o.line c.fault_of.result c.in-Stop.is c.in_default-line.not-Text o.adds (rw c.row.ensures at c.fault_of.ensures);
-      peeked = meets_end (g.R.ByteIn.to_come c.args.reader.now) (g.R.ByteIn.to_come c.loop-chunk.reader) (g.R.ByteIn.to_come c.read_on.new.reader) (g.R.ByteIn.failure_count c.args.reader.now) (g.R.ByteIn.failure_count c.loop-chunk.reader) (g.R.ByteIn.failure_count c.read_on.new.reader) c.args.machine.now c.loop-chunk.machine c.args.chunk.now c.loop-chunk.chunk c.read_on.new.self c.look-found.result c.loop-chunk.invariant.searches c.look-found.ensures.looks c.in-Stop.is c.in_ok-line.line o.line c.fault_of.result c.in_default-line.not-Text o.adds (rw c.row.ensures at c.fault_of.ensures) stays;
+      peeked = meets_end (g.R.ByteIn.seen c.args.reader.now) (g.R.ByteIn.seen c.loop-chunk.reader) (g.R.ByteIn.seen c.read_on.new.reader) c.args.machine.now c.loop-chunk.machine c.args.chunk.now c.loop-chunk.chunk c.read_on.new.self c.look-found.result c.loop-chunk.invariant.searches c.look-found.ensures.looks c.in-Stop.is c.in_ok-line.line o.line c.fault_of.result c.in_default-line.not-Text o.adds (rw c.row.ensures at c.fault_of.ensures) stays;
     }
 
 pub loop-chunk-preserved : goal.loop-chunk-preserved
@@ -38,16 +36,15 @@ loop-chunk-preserved g c =
     let holds = rw c.in-Text.is at c.in_ok-line.ensures.holds in
     let lack : lacks (drop c.look-found.result.at (string_bytes c.loop-chunk.chunk.text)) ≡ true = (rw (← c.deref.ensures, ← c.range_from.ensures.value) (sym c.if-not-lacks.ensures)) in
     record {
-      searches = rw c.look_from.ensures (searches_line _ _ _ _ _ _ c.args.machine.now c.loop-chunk.machine c.args.chunk.now c.loop-chunk.chunk c.read_on.new.self c.look-found.result c.loop-chunk.invariant.searches c.look-found.ensures.looks c.in-Stop.is o lack c.requires.given holds);
-      steady = Steady-append _ _ _ _ _ _ c.loop-chunk.invariant.steady c.in_ok-line.ensures.steady;
-      ahead = rw c.look_from.ensures (ahead_then _ _ _ _ _ _ c.args.machine.now c.loop-chunk.machine c.args.chunk.now c.loop-chunk.chunk c.read_on.new.self c.look-found.result c.loop-chunk.invariant.searches c.look-found.ensures.looks c.in-Stop.is o lack holds c.loop-chunk.invariant.ahead);
+      searches = rw c.look_from.ensures (searches_line _ _ _ c.args.machine.now c.loop-chunk.machine c.args.chunk.now c.loop-chunk.chunk c.read_on.new.self c.look-found.result c.loop-chunk.invariant.searches c.look-found.ensures.looks c.in-Stop.is o lack c.requires.given holds);
+      ahead = rw c.look_from.ensures (ahead_then _ _ _ c.args.machine.now c.loop-chunk.machine c.args.chunk.now c.loop-chunk.chunk c.read_on.new.self c.look-found.result c.loop-chunk.invariant.searches c.look-found.ensures.looks c.in-Stop.is o lack holds c.loop-chunk.invariant.ahead);
     }
 
 pub loop-chunk-smaller : goal.loop-chunk-smaller
 loop-chunk-smaller g c =
     let o = rw c.in-Text.is at c.in_ok-line.ensures.on in
     let holds = rw c.in-Text.is at c.in_ok-line.ensures.holds in
-    let s = searches_line _ _ _ _ _ _ c.args.machine.now c.loop-chunk.machine c.args.chunk.now c.loop-chunk.chunk c.read_on.new.self c.look-found.result c.loop-chunk.invariant.searches c.look-found.ensures.looks c.in-Stop.is o (rw (← c.deref.ensures, ← c.range_from.ensures.value) (sym c.if-not-lacks.ensures)) c.requires.given holds in
+    let s = searches_line _ _ _ c.args.machine.now c.loop-chunk.machine c.args.chunk.now c.loop-chunk.chunk c.read_on.new.self c.look-found.result c.loop-chunk.invariant.searches c.look-found.ensures.looks c.in-Stop.is o (rw (← c.deref.ensures, ← c.range_from.ensures.value) (sym c.if-not-lacks.ensures)) c.requires.given holds in
     let small = small_held _ c.read_on.new.self s.streaming in
     let whole = ap length o.holding.whole in
     let one = length-append (string_bytes c.loop-chunk.chunk.text) o.line in
@@ -62,6 +59,3 @@ returns-in_default-clause-ahead g c = ahead_found c.args.chunk.now.lines c.loop-
 
 pub returns-then-not-lacks-clause-ahead : goal.returns-then-not-lacks-clause-ahead
 returns-then-not-lacks-clause-ahead g c = ahead_found c.args.chunk.now.lines c.loop-chunk.machine c.loop-chunk.chunk c.look-found.result c.look-found.ensures.looks (λ is. rw (← c.deref.ensures, ← c.range_from.ensures.value) (sym c.if-not-lacks.ensures)) c.loop-chunk.invariant.ahead
-
-pub returns-in_err-line-clause-steady : goal.returns-in_err-line-clause-steady
-returns-in_err-line-clause-steady g c = Steady-append _ _ _ _ _ _ c.loop-chunk.invariant.steady c.in_err-line.ensures.steady

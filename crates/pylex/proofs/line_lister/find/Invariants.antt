@@ -1,15 +1,13 @@
 use Rattle.std.proofs.Common.{◌+◌, ◌-◌, length, string_bytes}
 use Rattle.std.specs.Prelude.{◌⊎◌}
 use Rattle.pysource.specs.Limits.{source_limit}
-use Rattle.pysource.specs.Bytes.{IsSteady}
 use Rattle.pylex.specs.Held.{Ahead, AheadBut}
 use Rattle.pylex.specs.Streamed.{IsWaiting, Searches}
 use Rattle.pylex.proofs.line_lister.find.Given as goal
 
 abbrev pub invariant-loop-chunk : goal.invariant-loop-chunk
 invariant-loop-chunk g l = record {
-  searches : Searches (g.R.ByteIn.to_come l.fn.reader) (g.R.ByteIn.to_come l.reader) (g.R.ByteIn.failure_count l.fn.reader) (g.R.ByteIn.failure_count l.reader) l.fn.machine l.machine l.fn.chunk l.chunk;
-  steady : IsSteady (g.R.ByteIn.may_fail l.fn.reader) (g.R.ByteIn.may_fail l.reader) (g.R.ByteIn.failure_count l.fn.reader) (g.R.ByteIn.failure_count l.reader);
+  searches : Searches (g.R.ByteIn.seen l.fn.reader) (g.R.ByteIn.seen l.reader) l.fn.machine l.machine l.fn.chunk l.chunk;
   ahead : Ahead l.fn.chunk.lines l.chunk.lines ⊎ (AheadBut l.fn.chunk.lines l.chunk.lines × IsWaiting l.machine l.chunk);
 }
 

@@ -8,7 +8,7 @@ use Rattle.pylex.specs.declared.line_state.LineState.{LineState}
 use Rattle.pylex.specs.declared.line_lister.Found.{Found}
 use Rattle.pylex.specs.MachineSteps.{StepsOn}
 use Rattle.pylex.specs.Streamed.{Looks}
-use Rattle.pylex.proofs.LineByLine.Searching.{searches_none, boundary_held, stands_held, drop_behind, meets_here}
+use Rattle.pylex.proofs.LineByLine.Searching.{not_read, searches_none, boundary_held, stands_held, drop_behind, meets_here}
 use Rattle.pylex.proofs.LineByLine.Steppings.{entry_ahead, place_held, steps_entry, streaming_entry}
 use Rattle.pylex.proofs.line_lister.pass_on.Goals as goal
 
@@ -58,6 +58,6 @@ returns-clause-some c =
     let went = rw (← at) at (s.went None) in
     record {
       found = found;
-      streaming = streaming_entry None None 0 0 p p d d None (searches_none None 0 _ _ c.requires.streaming) r found (steps.Entry e) peeked went e refl c.requires.given tt;
-      passes = λ come_old come_new told_old told_new q b last so some ahead. steps_entry _ _ _ _ q p b d last so r found (steps.Entry e) peeked went e refl some (entry_ahead found (steps.Entry e) e b.lines d.lines refl tt ahead);
+      streaming = streaming_entry not_read not_read p p d d None (searches_none not_read _ _ c.requires.streaming) r found (steps.Entry e) peeked went e refl c.requires.given tt;
+      passes = λ seen_old seen_new q b last so some ahead. steps_entry _ _ q p b d last so r found (steps.Entry e) peeked went e refl some (entry_ahead found (steps.Entry e) e b.lines d.lines refl tt ahead);
     }

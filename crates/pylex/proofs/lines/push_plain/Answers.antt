@@ -4,7 +4,7 @@ use Rattle.std.specs.String.{string_bytes}
 use Rattle.std.proofs.Transfers.{starts_with_of_append, starts_with_trans}
 use Rattle.std.proofs.lemmas.Result.{on_ok_weaker}
 use Rattle.pysource.specs.Reprs.{repr_text}
-use Rattle.pysource.proofs.Printing.PushReprLemmas.{plain_repr, plain_repr_characters}
+use Rattle.pysource.proofs.Callers.Printing.{plain_repr, plain_repr_characters}
 use Rattle.pylex.proofs.Texts.LinesLemmas.{field_filled, three_parts}
 use Rattle.pylex.proofs.lines.push_plain.Goals as goal
 

@@ -7,9 +7,9 @@ use Rattle.pysource.proofs.bytes.read_all.Given as goal
 abbrev pub invariant-loop-all : goal.invariant-loop-all
 invariant-loop-all g l = record {
   within : vec_len l.all ≤ source_limit;
-  gave : Consumes (g.R.ByteIn.to_come l.fn.reader) (g.R.ByteIn.to_come l.reader) l.all.items;
-  counted : g.R.ByteIn.failure_count l.reader ≡ g.R.ByteIn.failure_count l.fn.reader;
-  steady : IsSteady (g.R.ByteIn.may_fail l.fn.reader) (g.R.ByteIn.may_fail l.reader) (g.R.ByteIn.failure_count l.fn.reader) (g.R.ByteIn.failure_count l.reader);
+  gave : Consumes (g.R.ByteIn.seen l.fn.reader).to_come (g.R.ByteIn.seen l.reader).to_come l.all.items;
+  counted : (g.R.ByteIn.seen l.reader).failures ≡ (g.R.ByteIn.seen l.fn.reader).failures;
+  steady : IsSteady (g.R.ByteIn.seen l.fn.reader) (g.R.ByteIn.seen l.reader);
 }
 
 abbrev pub decreases-loop-all : goal.decreases-loop-all

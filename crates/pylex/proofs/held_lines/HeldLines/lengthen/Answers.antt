@@ -1,6 +1,5 @@
 use Rattle.std.proofs.Common.{◌≡◌, length, refl, subst, string_bytes, arith}
 use Rattle.std.specs.Str.{IsCharBoundary}
-use Rattle.pysource.proofs.TakenBytes.ByteLemmas.{Steady-append}
 use Rattle.pylex.proofs.LineByLine.Adding.{boundary_longer, reads_more}
 use Rattle.pylex.specs.Held.{LinesBehind}
 use Rattle.pylex.proofs.LineByLine.JoinedOn.{behind_first, holds_joined, holds_none}
@@ -14,7 +13,7 @@ add_lines-requires-clause-from g c =
 pub returns-in-Some-clause-on : goal.returns-in-Some-clause-on
 returns-in-Some-clause-on g c =
     let r = rw c.in-Text.is at c.in_ok-line.ensures.on in
-    rw c.in-Text.is (reads_more _ _ _ _ _ _ c.args.self.now c.add_line.new.self _ c.args.at r c.add_lines.ensures.adds refl refl refl)
+    rw c.in-Text.is (reads_more _ _ _ c.args.self.now c.add_line.new.self _ c.args.at r c.add_lines.ensures.adds refl refl refl)
 
 pub returns-in-Some-clause-holds : goal.returns-in-Some-clause-holds
 returns-in-Some-clause-holds g c =
@@ -30,6 +29,3 @@ pub returns-in_default-literal-clause-holds : goal.returns-in_default-literal-cl
 returns-in_default-literal-clause-holds g c =
     let none = rw (c.range_from.ensures.value, c.deref.ensures) at c.in_default-literal.ensures.none in
     rw c.in-Text.is (holds_none c.args.self.now c.add_line.new.self c.args.at c.requires.at none)
-
-pub returns-in-Some-clause-steady : goal.returns-in-Some-clause-steady
-returns-in-Some-clause-steady g c = Steady-append _ _ _ _ _ _ c.in_ok-line.ensures.steady c.add_lines.ensures.steady

@@ -1,43 +1,37 @@
 use Rattle.std.proofs.Common.{◌≡◌, ◌<◌, true, false, ◌⊎◌, inl, inr, refl, arith}
-use Rattle.pysource.proofs.TakenBytes.ByteLemmas.{Steady-append}
 use Rattle.pylex.specs.Streamed.{ResumeRefusal, is_unread}
 use Rattle.pylex.proofs.LineByLine.Behind.{begins_next, misses_stop, took_on, misses_shown}
-use Rattle.pylexeme.proofs.Cases.{bool_cases}
+use Rattle.pylexeme.proofs.Callers.Booleans.{bool_cases}
 use Rattle.pylex.proofs.line_lister.LineLister.resume_checked.Goals as goal
 
 pub returns-in_default-clause-misses : goal.returns-in_default-clause-misses
-returns-in_default-clause-misses g c = inr (inr (refl, took_on _ _ _ _ _ _ _ _ _ c.loop-given.invariant.begins _ c.in_default.ensures.steps))
+returns-in_default-clause-misses g c = inr (inr (refl, took_on _ _ _ _ _ _ c.loop-given.invariant.begins _ c.in_default.ensures.steps))
 
 pub loop-given-preserved : goal.loop-given-preserved
 loop-given-preserved g c = record {
-  begins = begins_next _ _ _ _ _ _ _ _ _ c.loop-given.invariant.begins c.in-Ok.step c.in-Ok.ensures.steps _ c.in-Entry.is;
-  steady = Steady-append _ _ _ _ _ _ c.loop-given.invariant.steady c.in-Ok.ensures.steady;
+  begins = begins_next _ _ _ _ _ _ c.loop-given.invariant.begins c.in-Ok.step c.in-Ok.ensures.steps _ c.in-Entry.is;
 }
 
 pub returns-then-not-shows-clause-misses : goal.returns-then-not-shows-clause-misses
 returns-then-not-shows-clause-misses g c =
     let end : c.loop-given._given ≡ c.args.cursor.now.given = omega (arith, c.loop-given-test.false, c.loop-given.auto._given-end, c.given-given-end.ensures) in
-    misses_shown _ _ _ _ c.loop-given.lister c.args.cursor.now (rw end at c.loop-given.invariant.begins) (λ e. let t = c.shows.ensures.1 e in let n = c.if-not-shows.ensures in let f = rw (n, t) at c.if-not-shows.true in cc)
+    misses_shown _ _ c.loop-given.lister c.args.cursor.now (rw end at c.loop-given.invariant.begins) (λ e. let t = c.shows.ensures.1 e in let n = c.if-not-shows.ensures in let f = rw (n, t) at c.if-not-shows.true in cc)
 
 pub returns-in_default-step : goal.returns-in_default-step
 returns-in_default-step g c = record {
   begins = tt;
   shown = tt;
-  steady = Steady-append _ _ _ _ _ _ c.loop-given.invariant.steady c.in-Ok.ensures.steady;
   misses = by (bool_cases (is_unread c.in-Ok.step));
 }
   where
     less : c.loop-given._given < c.args.cursor.now.given
     less = omega (arith, c.loop-given-test.true, c.given-given-end.ensures)
 
-    by : (is_unread c.in-Ok.step ≡ true) ⊎ (is_unread c.in-Ok.step ≡ false) → ResumeRefusal (g.R.ByteIn.to_come c.args.reader.now) (g.R.ByteIn.to_come c.next.new.reader) (g.R.ByteIn.failure_count c.args.reader.now) (g.R.ByteIn.failure_count c.next.new.reader) c.args.cursor.now c.ended_before.result
-    by (inr u) = rw (c.ended_before.ensures.other u) (misses_stop _ _ _ _ _ _ _ _ _ c.loop-given.invariant.begins c.in-Ok.step c.in-Ok.ensures.steps c.in_default-step.not-Entry c.args.cursor.now false less u)
-    by (inl u) = rw (c.ended_before.ensures.read u) (inr (inl (refl, misses_stop _ _ _ _ _ _ _ _ _ c.loop-given.invariant.begins c.in-Ok.step c.in-Ok.ensures.steps c.in_default-step.not-Entry c.args.cursor.now true less u)))
+    by : (is_unread c.in-Ok.step ≡ true) ⊎ (is_unread c.in-Ok.step ≡ false) → ResumeRefusal (g.R.ByteIn.seen c.args.reader.now) (g.R.ByteIn.seen c.next.new.reader) c.args.cursor.now c.ended_before.result
+    by (inr u) = rw (c.ended_before.ensures.other u) (misses_stop _ _ _ _ _ _ c.loop-given.invariant.begins c.in-Ok.step c.in-Ok.ensures.steps c.in_default-step.not-Entry c.args.cursor.now false less u)
+    by (inl u) = rw (c.ended_before.ensures.read u) (inr (inl (refl, misses_stop _ _ _ _ _ _ c.loop-given.invariant.begins c.in-Ok.step c.in-Ok.ensures.steps c.in_default-step.not-Entry c.args.cursor.now true less u)))
 
 pub returns-clause-begins : goal.returns-clause-begins
 returns-clause-begins g c =
     let end : c.loop-given._given ≡ c.args.cursor.now.given = omega (arith, c.loop-given-test.false, c.loop-given.auto._given-end, c.given-given-end.ensures) in
     rw end at c.loop-given.invariant.begins
-
-pub returns-in_default-clause-steady : goal.returns-in_default-clause-steady
-returns-in_default-clause-steady g c = Steady-append _ _ _ _ _ _ c.loop-given.invariant.steady c.in_default.ensures.steady

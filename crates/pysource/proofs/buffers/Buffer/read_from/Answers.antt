@@ -1,11 +1,11 @@
 use Rattle.std.proofs.Common.{◌≡◌, ◌≤◌, ◌<◌, ℕ, List, ◌∙◌, ap, length, take, drop, ◌++◌, ◌+◌, ◌-◌, arith}
 use Rattle.std.proofs.lemmas.List.{length-take-le, with_items_is}
-use Rattle.pysource.proofs.TakenBytes.ByteLemmas.{Keeps-Consumes}
+use Rattle.pysource.proofs.TakenBytes.ByteLemmas.{Keeps-Consumes, Steady-failed}
 use Rattle.pysource.proofs.TakenBytes.BufferLemmas.{read_view, read_view_none, put_size}
 use Rattle.pysource.proofs.buffers.Buffer.read_from.Goals as goal
 
-pub returns-in-Ok-clause-gave : goal.returns-in-Ok-clause-gave
-returns-in-Ok-clause-gave g c =
+pub returns-in-Ok : goal.returns-in-Ok
+returns-in-Ok g c =
     let xs = c.deref_mut.result.now in
     let buf = c.read.new.buf in
     let from = c.in_ok-from.from in
@@ -30,10 +30,11 @@ returns-in-Ok-clause-gave g c =
       short = omega (arith, few, size, c.min.ensures);
       ended = λ none. c.in-Ok.ensures.bytes.1 none (omega (arith, size, c.min.ensures, c.len.ensures, room, inside));
       told = omega (arith, c.in-Ok.ensures.failed);
+      steady = (c.in-Ok.ensures.same, λ _. omega (arith, c.in-Ok.ensures.failed));
     }
 
-pub returns-in-Err-clause-gave : goal.returns-in-Err-clause-gave
-returns-in-Err-clause-gave g c =
+pub returns-in-Err : goal.returns-in-Err
+returns-in-Err g c =
     let xs = c.deref_mut.result.now in
     let buf = c.read.new.buf in
     let from = c.in_ok-from.from in
@@ -51,4 +52,5 @@ returns-in-Err-clause-gave g c =
       consumes = Keeps-Consumes _ _ c.in-Err.ensures.bytes;
       bytes = ap (λ (x : List ℕ). take (to - from) (drop from x)) wrote ∙ read_view_none xs buf post from to c.in_ok-from.ensures.order (omega (arith, inside)) ∙ stood;
       told = c.in-Err.ensures.failed;
+      steady = Steady-failed (g.R.ByteIn.seen c.args.reader.now) (g.R.ByteIn.seen c.read.new.self) c.in-Err.ensures.same c.in-Err.ensures.able;
     }

@@ -2,7 +2,6 @@ use Rattle.std.proofs.Common.{[], refl, append-nil, ◌≡◌, ℕ, ◌+◌, ◌
 use Rattle.std.proofs.lemmas.List.{take_rest}
 use Rattle.std.proofs.lemmas.Result.{err_from_is_err_and}
 use Rattle.pysource.specs.Taking.{NoLfFrom}
-use Rattle.pysource.proofs.TakenBytes.ByteLemmas.{Steady-append}
 use Rattle.pysource.proofs.FaultyLines.ReturnsLemmas.{found_behind, none_behind}
 use Rattle.pysource.proofs.TakenBytes.TakingLemmas.{Takes-none, Grows-append, kept_or_full, clean_on, clean_under}
 use Rattle.pysource.proofs.buffers.Intake.line_end.Goals as goal
@@ -47,7 +46,6 @@ loop-at-preserved g c =
           subst (λ (n : ℕ). NoLfFrom c.args.start n c.fill.new.self.buffer) (sym size)
           (subst (NoLfFrom c.args.start (length l.self.buffer)) (sym f.grows.bytes) (clean_under c.args.start l.self.buffer f.grows.taken clean));
       ahead = omega (arith, f.short, size);
-      steady = Steady-append _ _ _ _ _ _ l.invariant.steady f.steady;
       kept = elim (kept_or_full c.fill.new.self c.in-Reading.is l.invariant.grows f.same) [ inl e ↦ inl e | inr e ↦ inr (size ∙ e) ];
     }
 
@@ -68,12 +66,11 @@ returns-in_default-reach-clause-found g c =
 pub loop-at-init : goal.loop-at-init
 loop-at-init g c = record {
   within = c.requires.within;
-  grows = record { taken = []; takes = Takes-none _ _ _ _; bytes = sym (append-nil _) };
+  grows = record { taken = []; takes = Takes-none _ _ _; bytes = sym (append-nil _) };
   low = omega arith;
   high = c.requires.start;
   clean = λ k a b. absurd (omega arith);
   ahead = omega arith;
-  steady = (refl, λ _. refl);
   kept = inl refl;
 }
 

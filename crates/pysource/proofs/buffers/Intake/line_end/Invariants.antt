@@ -1,6 +1,5 @@
 use Rattle.std.proofs.Common.{◌≡◌, ◌+◌, ◌-◌, ◌≤◌, length}
 use Rattle.std.specs.Prelude.{◌⊎◌, max}
-use Rattle.pysource.specs.Bytes.{IsSteady}
 use Rattle.pysource.specs.Limits.{source_limit}
 use Rattle.pysource.specs.Taking.{Grows, NoLfFrom}
 use Rattle.pysource.proofs.TakenBytes.TakingLemmas.{left}
@@ -9,12 +8,11 @@ use Rattle.pysource.proofs.buffers.Intake.line_end.Given as goal
 abbrev pub invariant-loop-at : goal.invariant-loop-at
 invariant-loop-at g l = record {
   within : l.self.count ≤ source_limit;
-  grows : Grows (g.R.ByteIn.to_come l.fn.reader) (g.R.ByteIn.to_come l.reader) (g.R.ByteIn.failure_count l.fn.reader) (g.R.ByteIn.failure_count l.reader) l.fn.self l.self;
+  grows : Grows (g.R.ByteIn.seen l.fn.reader) (g.R.ByteIn.seen l.reader) l.fn.self l.self;
   low : l.start ≤ l.searched;
   high : l.searched ≤ length l.self.buffer;
   clean : NoLfFrom l.start l.searched l.self.buffer;
   ahead : length l.self.buffer ≤ max (l.searched + 8_192) (length l.fn.self.buffer);
-  steady : IsSteady (g.R.ByteIn.may_fail l.fn.reader) (g.R.ByteIn.may_fail l.reader) (g.R.ByteIn.failure_count l.fn.reader) (g.R.ByteIn.failure_count l.reader);
   kept : (l.self.reach ≡ l.fn.self.reach) ⊎ (l.searched ≡ length l.self.buffer);
 }
 

@@ -11,7 +11,7 @@ use Rattle.pysource.proofs.line_reader.LineReader.next_line.Goals as goal
 pub returns-in-Some-clause-moves : goal.returns-in-Some-clause-moves
 returns-in-Some-clause-moves g c =
     let s = c.self.inside in
-    rw (← c.self.view_is, c.in-Some.is) (moves_told _ _ s.encoding s.row c.in-Some.fault s.intake _)
+    rw (← c.self.view_is, c.in-Some.is) (moves_told _ s.encoding s.row c.in-Some.fault s.intake _)
 
 pub returns-in_err-due_line-clause-moves : goal.returns-in_err-due_line-clause-moves
 returns-in_err-due_line-clause-moves g c =

@@ -1,0 +1,4 @@
+-- What other crates cite of pysource.
+pub mod Faults
+pub mod Printing
+pub mod Taken
