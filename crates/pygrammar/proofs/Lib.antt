@@ -6,4 +6,3 @@ mod Soundness
 mod Worked
 mod Line
 mod Block
-pub mod SourceLaw

@@ -30,7 +30,7 @@ use std::alloc::Global;
 /// that has none at any height may be told either; else by the first line that is faulty among the
 /// others, or the end; else by the first line in which a statement begins with 500 around it,
 /// `TooDeep`. Its place is where the line starts, that of the end where ENDMARKER does.
-#[tactic(auto, using(pygrammar::proofs::SourceLaw::lines_are_lawful, pygrammar::proofs::SourceLaw::blocks_are_lawful, pygrammar::proofs::SourceLaw::answers_are_lawful))]
+#[tactic(auto, using(pygrammar::proofs::Callers::SourceLaw::lines_are_lawful, pygrammar::proofs::Callers::SourceLaw::blocks_are_lawful, pygrammar::proofs::Callers::SourceLaw::answers_are_lawful))]
 pub fn parse(alloc: Global, source: &Source, profile: Profile) -> Result<Module, ParseFault>
     ensures accepted { IfOk result
         (λ m. Accepted profile (in_characters source.now) (module_of m)) }

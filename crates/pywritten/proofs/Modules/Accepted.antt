@@ -22,7 +22,7 @@ use Rattle.pygrammar.specs.Lines.{Line, line}
 use Rattle.pygrammar.specs.Forms.{FormOf}
 use Rattle.pygrammar.specs.Blocks.{Block}
 use Rattle.pygrammar.specs.Refusals.{terminals, HasForm, Formed, formed_end, formed_line, Accepted}
-use Rattle.pygrammar.proofs.SourceLaw.{lines_are_lawful, blocks_are_lawful, answers_are_lawful}
+use Rattle.pygrammar.proofs.Callers.SourceLaw.{lines_are_lawful, blocks_are_lawful, answers_are_lawful}
 use Rattle.pyspacing.specs.Spacing.{Piece, is_operator_kind}
 use Rattle.pyspacing.specs.Tokens.{token_of, unplaced, unplaced_line, token_line, is_opening, is_closing, opens, closes, opens_within}
 use Rattle.pyspacing.specs.Laws.{ReadsBack, IsClear}
