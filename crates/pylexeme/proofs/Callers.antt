@@ -5,3 +5,4 @@ pub mod Lexemes
 pub mod Numbers
 pub mod Strings
 pub mod WholeLines
+pub mod Tables

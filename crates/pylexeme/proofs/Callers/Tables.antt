@@ -1,0 +1,2 @@
+-- What callers cite of tables by byte. Cited by pylex.
+pub use Rattle.pylexeme.proofs.Fronts.Tables.{agree_at, agree_below}
