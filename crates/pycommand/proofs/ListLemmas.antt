@@ -21,7 +21,7 @@ use Rattle.pylex.proofs.Callers.{end_last, fault_last}
 use Rattle.pyfault.specs.Faults.{of_listing}
 use Rattle.pycommand.specs.Listings.{cursor_line, left_behind, output_from, fault_from}
 use Rattle.pycommand.specs.Runs.{TakesAllBut, HoldsFor}
-use Rattle.pycommand.specs.Taken.{Goes}
+use Rattle.pycommand.specs.Inner.Taken.{Goes}
 use Rattle.pyfault.specs.declared.fault.Fault.{Fault}
 use Rattle.pyfault.specs.declared.fault.Fault.TheVariants.{Plain}
 use Rattle.pyfault.specs.declared.fault.RunFaultCode.TheVariants.{Memory}

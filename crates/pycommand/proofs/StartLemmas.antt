@@ -28,7 +28,7 @@ use Rattle.pylex.specs.Streamed.{Streamed, StreamsIn, Begins, Misses, ResumeRefu
 use Rattle.pyfault.specs.Faults.{of_resume, of_stream}
 use Rattle.pycommand.specs.Listings.{start_in, ends_unread, missed, tokens_output, tokens_fault}
 use Rattle.pycommand.specs.Runs.{WritesFor, Performs}
-use Rattle.pycommand.specs.Taken.{TookAll, Starts, Goes}
+use Rattle.pycommand.specs.Inner.Taken.{TookAll, Starts, Goes}
 use Rattle.pyfault.specs.declared.fault.Fault.{Fault}
 use Rattle.pyfault.specs.declared.fault.Fault.TheVariants.{Plain}
 use Rattle.pyfault.specs.declared.fault.RunFaultCode.TheVariants.{Read, Memory, CursorOfAnotherSource}

@@ -3,5 +3,4 @@ pub mod Modules
 pub mod Dumps
 pub mod Unparses
 pub mod Runs
-pub mod Taken
 pub mod Inner

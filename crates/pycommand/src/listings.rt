@@ -12,7 +12,7 @@ ghost use Rattle.pyfault.specs.declared.fault.RunFaultCode.{RunFaultCode};
 ghost use Rattle.pycommand.specs.Listings.{cursor_line, left_behind, tokens_output, tokens_fault};
 ghost use Rattle.pycommand.specs.Listings.{output_of, fault_in};
 ghost use Rattle.pycommand.specs.Runs.{HoldsFor, ended_by, Performs};
-ghost use Rattle.pycommand.specs.Taken.{Starts, Goes};
+ghost use Rattle.pycommand.specs.Inner.Taken.{Starts, Goes};
 
 use pyfault::{Fault, RunFaultCode};
 use pylex::{Cursor, Kind, LineLister, Step, push_line};

@@ -1,10 +1,10 @@
 mod ArgumentsLemmas
-pub mod BlockLemmas
+mod BlockLemmas
 mod Examples
-pub mod JoinedLemmas
-pub mod LeafLemmas
-pub mod LineLemmas
-pub mod PieceLemmas
-pub mod SlotLemmas
-pub mod RowLemmas
-pub mod TextLemmas
+mod JoinedLemmas
+mod LeafLemmas
+mod LineLemmas
+mod PieceLemmas
+mod SlotLemmas
+mod RowLemmas
+mod TextLemmas

@@ -1,5 +1,5 @@
-//! The nodes that a tree has most of, where all is on one line with the names of fields: what stands
-//! between their fields is appended at once.
+//! The nodes that a tree has most of, where all is on one line with the names of fields: what
+//! stands between their fields is appended at once.
 
 ghost use Rattle.std.specs.Prelude.{◌≡◌, ◌++◌, ◌&&◌, OnOk, codes, map, true};
 ghost use Rattle.std.specs.String.{string_bytes};

@@ -2,6 +2,7 @@
 
 ghost use Rattle.std.specs.Prelude.{◌≡◌, ◌++◌, ◌||◌, length, replicate, take, IfOk, OnOk};
 ghost use Rattle.std.specs.String.{string_bytes};
+ghost use Rattle.pysource.specs.Characters.{space};
 ghost use Rattle.pydump.specs.Inner.Names.{field_name};
 ghost use Rattle.pydump.specs.Layout.{before, deeper, is_flat, label};
 
@@ -75,7 +76,7 @@ pub(crate) fn push_lead(
 /// Appends some blanks.
 #[tactic(auto, using(crate::proofs::LineLemmas::one_blank))]
 fn push_blanks(out: &mut String, n: u8) -> Result<(), AllocError>
-    ensures { OnOk result (string_bytes out.new ≡ string_bytes out.old ++ replicate n 32) }
+    ensures { OnOk result (string_bytes out.new ≡ string_bytes out.old ++ replicate n space) }
 {
     for _ in 0..n {
         out.push_str(" ")?;

@@ -1,7 +1,7 @@
 -- The forms of a logical line (reference 7 and 8): which lists of terminals are which line in a version of Python, a constructor for each
 -- alternative of the table. The NEWLINE is not part of the list.
 use Rattle.std.specs.Prelude.{◌≡◌, ℕ, ◌+◌, ◌<◌, List, [], ◌∷◌, ◌++◌, Option, Some, None, Bool, true, false, codes}
-use Rattle.pylexeme.specs.Characters.{full_stop}
+use Rattle.pylexeme.specs.Characters.{full_stop, asterisk}
 use Rattle.pylexeme.specs.declared.kinds.Exact.{Exact}
 use Rattle.pylexeme.specs.declared.kinds.Exact.TheVariants as Sign
 use Rattle.pytoken.specs.declared.keywords.Keyword.TheVariants as Key
@@ -109,7 +109,7 @@ pub data Dots : List Terminal → ℕ → Type 0 where
 
 -- Names = "*" | (NAME ["as" NAME]),.. | "(" (NAME ["as" NAME]),.. [,] ")"
 pub data Names : List Terminal → List Alias → Type 0 where
-  all_names : Names (Op Sign.Star ∷ []) (alias (42 ∷ []) None ∷ [])
+  all_names : Names (Op Sign.Star ∷ []) (alias (asterisk ∷ []) None ∷ [])
   names : {ts : List Terminal} {as_ : List Alias} → Commas Alias NameAlias ts as_ → Names ts as_
   bracketed_names : {ts : List Terminal} {as_ : List Alias} → Commas? Alias NameAlias ts as_ → Names (Op Sign.LPar ∷ (ts ++ (Op Sign.RPar ∷ []))) as_
 

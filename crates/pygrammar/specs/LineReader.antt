@@ -1,7 +1,7 @@
 -- The plain reader of one logical line: which form its terminals are, by the first word and by small looks ahead.
 use Rattle.std.specs.Prelude.{ℕ, zero, suc, ◌+◌, List, [], ◌∷◌, ◌++◌, Option, Some, None, length, Bool, true, false, cond, leb}
 use Rattle.std.specs.Str.{bytes_eq}
-use Rattle.pylexeme.specs.Characters.{full_stop}
+use Rattle.pylexeme.specs.Characters.{full_stop, asterisk}
 use Rattle.pylexeme.specs.declared.kinds.Exact.TheVariants as Sign
 use Rattle.pytoken.specs.declared.keywords.Keyword.TheVariants as Key
 use Rattle.pynode.specs.declared.operators.Operator.{Operator}
@@ -99,7 +99,7 @@ read_dots r = Found 0 r
 
 abbrev pub read_names : List Terminal → Answer (List Alias)
 read_names i =
-    on_first (is_op Sign.Star) i (λ _ r. Found (alias (42 ∷ []) None ∷ []) r)
+    on_first (is_op Sign.Star) i (λ _ r. Found (alias (asterisk ∷ []) None ∷ []) r)
     (on_first (is_op Sign.LPar) i (λ _ r. and_then (commas_of name_alias starts_name r) (λ as_ r1. closed Sign.RPar r1 as_))
     (commas_of name_alias always i))
 

@@ -16,6 +16,7 @@ use Rattle.pygrammar.specs.Lines.{Line, line, Form, header_form}
 use Rattle.pygrammar.specs.Forms.{FormOf}
 use Rattle.pygrammar.specs.FormHeights.{form_height}
 use Rattle.pygrammar.specs.Blocks.{Block, Fault, FirstFault, Kind, ElifLine, ElseLine, ExceptLine, FinallyLine, kind_of, header_kind}
+use Rattle.pylexeme.specs.Characters.{colon}
 
 -- why a line, or what stands at ENDMARKER, is refused
 pub data Code : Type 0 where
@@ -44,7 +45,7 @@ terminals x = map (λ t. terminal_of t.kind t.text) x.tokens
 -- the last of some tokens is a colon
 abbrev pub ends_in_colon : List Token → Bool
 ends_in_colon [] = false
-ends_in_colon (t ∷ []) = bytes_eq t.text (58 ∷ [])
+ends_in_colon (t ∷ []) = bytes_eq t.text (colon ∷ [])
 ends_in_colon (_ ∷ ts) = ends_in_colon ts
 
 -- they begin with the text `match`, as it is written, and end in a colon

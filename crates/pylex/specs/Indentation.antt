@@ -1,8 +1,8 @@
 -- The rule of indentation (reference 2.1.8): the width of a line, the levels that are open before it, and the INDENT, the DEDENTs or the
 -- fault that stand before its first significant token. The lexemes before a place stand last first, and so do the widths of lines.
 --
--- The open levels are a set, which knows no order of events. That they behave as the stack of the reference is a law (`proofs/Stack`): after
--- a line of width w those below w are left, and w is the last.
+-- The open levels are a set, which knows no order of events. That they behave as the stack of the reference is a law (`LevelsAreAStack` in
+-- `Laws`): behind a line of width w those below w are left, and w is the last.
 use Rattle.std.specs.Prelude.{ℕ, ◌+◌, ◌*◌, ◌/◌, zero, suc, nat_lt, nat_le, Bool, ◌&&◌, ◌||◌, ◌==◌, List, [], ◌∷◌, ◌++◌, sum, filter, count_by, replicate, if◌then◌else◌, None}
 use Rattle.std.specs.List.{list_all, list_any, take_while}
 use Rattle.pysource.specs.Places.{place_after}

@@ -1,5 +1,5 @@
 -- Laws of lexemes and listings, in words that name no step of a lister (reference 2.1 to 2.6).
-use Rattle.std.specs.Prelude.{◌≡◌, ℕ, ◌+◌, ◌≤◌, ◌<◌, Bool, true, false, List, [], ◌∷◌, ◌++◌, length, take, map, count_by, slice_range, Some, None, All, AllPairs, IsTrue, ◌||◌}
+use Rattle.std.specs.Prelude.{◌≡◌, ℕ, ◌+◌, ◌≤◌, ◌<◌, nat_lt, Bool, true, false, List, [], ◌∷◌, ◌++◌, length, take, filter, map, count_by, slice_range, Some, None, All, AllPairs, IsTrue, ◌||◌}
 use Rattle.std.specs.List.{flat_map}
 use Rattle.std.specs.Str.{chars, encode_utf8_all, IsCharBoundary}
 use Rattle.pylex.specs.declared.kind.Kind.TheVariants as kinds
@@ -12,6 +12,7 @@ use Rattle.pylexeme.specs.Operators.{exact_of}
 use Rattle.pylex.specs.Listing.{Source, listing}
 use Rattle.pylex.specs.Steps.{entries_of, fault_of}
 use Rattle.pylex.specs.Cursors.{is_indent}
+use Rattle.pylex.specs.Indentation.{open_levels}
 
 -- an entry's offsets stand in order in a text, each where a character begins or the text ends
 pub record LiesIn (text : List ℕ) (e : Entry) : Type 0 where
@@ -137,8 +138,14 @@ pub record ClosesBlocks (s : Source) : Type 0 where
   pub within : (k : ℕ) → count_by is_dedent (take k (entries_of (listing s))) ≤ count_by is_indent (take k (entries_of (listing s)))
   pub at_end : fault_of (listing s) ≡ None → count_by is_dedent (entries_of (listing s)) ≡ count_by is_indent (entries_of (listing s))
 
+-- The open levels are a stack (reference 2.1.8): behind a line of width w those below w are left, and w is the last. The widths stand last
+-- line first.
+abbrev pub LevelsAreAStack : Type 0
+LevelsAreAStack = (w : ℕ) (widths : List ℕ) → open_levels (w ∷ widths) ≡ filter (λ v. nat_lt v w) (open_levels widths) ++ w ∷ []
+
 -- The laws of a listing, in words that its definition doesn't use: its lexemes are each the longest of its place, and joined are the text up to the stop;
--- its entries stand in order and don't overlap, with nothing but blanks and joins between them; it has one end; its blocks are closed.
+-- its entries stand in order and don't overlap, with nothing but blanks and joins between them; it has one end; its blocks are closed; the levels
+-- that are open are a stack.
 pub record IsLawful (s : Source) : Type 0 where
   pub longest : (text : List ℕ) → LongestWins text
   pub cut : IsCut s.text
@@ -146,3 +153,4 @@ pub record IsLawful (s : Source) : Type 0 where
   pub covered : IsCovered s
   pub whole : IsWhole s
   pub blocks : ClosesBlocks s
+  pub levels : LevelsAreAStack

@@ -10,11 +10,8 @@ pub mod LineState
 pub mod Standing
 pub mod Laws
 pub mod Listers
-pub mod MachineSteps
 pub mod Held
-pub mod Chunked
 pub mod Streamed
-pub mod Plain
 pub mod Inner
 pub mod Margins
 pub use Rattle.pylexeme.specs.Chars

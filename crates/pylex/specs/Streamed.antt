@@ -1,7 +1,7 @@
 -- How a lister stands that reads its source line by line.
-use Rattle.std.specs.Prelude.{◌≡◌, ◌≢◌, ◌⊎◌, ◌||◌, ◌==◌, ℕ, ◌+◌, ◌≤◌, Bool, true, List, [], ◌++◌, take, length, drop, string_bytes, suc, false, ◌<◌, slice_get, Option, Some, None, Result, Ok, IfOk, OnErr}
+use Rattle.std.specs.Prelude.{◌≡◌, ◌≢◌, ◌⊎◌, ℕ, ◌+◌, ◌≤◌, Bool, true, List, [], ◌++◌, length, suc, false, slice_get, Option, Some, None, Result, Ok, IfOk, OnErr}
 use Rattle.std.specs.declared.alloc.AllocError.{AllocError}
-use Rattle.std.specs.Str.{chars, IsUtf8}
+use Rattle.std.specs.Str.{chars}
 use Rattle.pysource.specs.Bytes.{Seen}
 use Rattle.pysource.specs.Parts.{Parts}
 use Rattle.pysource.specs.Streams.{Buffered, Follows, comes, ends_line, head_len, stream_of, unread, Reads, Refuses, Coming}
@@ -11,29 +11,21 @@ use Rattle.pylex.specs.declared.line_lister.ResumeFault.{ResumeFault}
 use Rattle.pylex.specs.declared.line_lister.ResumeFault.TheVariants as resumes
 use Rattle.pysource.specs.Limits.{source_limit}
 use Rattle.pysource.specs.declared.faults.LineError.TheVariants.{Unread}
-use Rattle.pysource.specs.declared.faults.LineFault.{LineFault}
 use Rattle.pysource.specs.declared.line_reader.Line.{Line}
 use Rattle.pysource.specs.declared.line_reader.Line.TheVariants as lines
-use Rattle.pylex.specs.declared.machine.Peeked.{Peeked}
-use Rattle.pylex.specs.declared.machine.Peeked.TheVariants as met
-use Rattle.pylex.specs.declared.line_lister.Found.{Found}
-use Rattle.pylexeme.specs.Lexemes.{is_open_string, left_by_cut}
-use Rattle.pylex.specs.LineState.{Peek, HasRoom, Stands, StopAhead, IsMeasuring}
+use Rattle.pylexeme.specs.Lexemes.{left_by_cut}
+use Rattle.pylex.specs.LineState.{IsMeasuring}
 use Rattle.pysource.specs.declared.line_reader.Reach.TheVariants as reach
 use Rattle.pysource.specs.declared.line_reader.StreamFault.TheVariants as faults
 use Rattle.pylex.specs.declared.entries.Entry.{Entry}
-use Rattle.pylex.specs.declared.entries.ListingError.{ListingError}
 use Rattle.pylex.specs.declared.entries.ListingError.TheVariants as errors
 use Rattle.pylex.specs.declared.entries.ListingFault.{ListingFault}
+use Rattle.pylex.specs.declared.entries.ListingError.{ListingError}
 use Rattle.pylex.specs.declared.entries.Step.{Step}
 use Rattle.pylex.specs.declared.entries.Step.TheVariants as steps
 use Rattle.pylex.specs.declared.kind.Kind.TheVariants as kinds
 use Rattle.pylex.specs.declared.line_state.LineState.{LineState}
-use Rattle.pylex.specs.declared.held_lines.HeldLines.{HeldLines}
-use Rattle.pylex.specs.declared.machine.Machine.{Machine}
-use Rattle.pylex.specs.MachineSteps.{shown_from}
-use Rattle.pylex.specs.Chunked.{IsHeldLines}
-use Rattle.pylex.specs.Held.{Ahead, IsJoined, LexedTo}
+use Rattle.pylex.specs.Held.{Ahead, IsJoined}
 use Rattle.pylex.specs.Cursors.{CursorParts}
 use Rattle.pylex.specs.Listing.{listing, in_characters}
 use Rattle.pylex.specs.Steps.{entries_of, entries_in, fault_of}
@@ -89,79 +81,6 @@ pub record StreamsIn (v : Streamed) (p : Parts) (k : ℕ) (more : List ℕ) (bro
   pub measuring : IsMeasuring v.now
   pub last : HoldsLast v.base v.held p.text v.last
 
--- a lister by its machine, the lines that it holds, and the entry that it gave last
-abbrev pub streamed : Machine → HeldLines → Option Entry → Streamed
-streamed p c last = record {
-  lines = c.lines;
-  shown = shown_from p;
-  base = c.base;
-  held = string_bytes c.text;
-  left = drop c.at (string_bytes c.text);
-  now = p.now;
-  levels = p.levels.items;
-  nested = p.nested;
-  tail = p.tail;
-  last = last;
-}
-
--- a lister that stands in a source whatever follows
-pub record IsStreaming (p : Machine) (c : HeldLines) (last : Option Entry) : Type 0 where
-  pub chunk : IsHeldLines c
-  pub text : IsUtf8 (string_bytes c.text)
-  pub within : c.lines.count ≤ source_limit
-  pub left : IsUtf8 (drop c.at (string_bytes c.text))
-  pub lexed : LexedTo (chars (drop c.at (string_bytes c.text))) (chars (string_bytes c.text))
-  pub joined : IsJoined [] (string_bytes c.text)
-  pub fresh : p.given ≡ 0 → string_bytes c.text ≡ []
-  pub stands : (more : List ℕ) (broken : Bool) → Continues c.lines more broken → (s : Parts) × StreamsIn (streamed p c last) s p.given more broken
-
--- nothing is left, or a literal that is open
-abbrev pub lacks : List ℕ → Bool
-lacks left = (length left == 0) || is_open_string (chars left)
-
--- a stop is one of the source: no literal is open there, or nothing follows and the fault is the source's
-abbrev pub Stops : Peeked → List ℕ → List ℕ → Option LineFault → Option LineFault → Type 0
-Stops m left coming fault own = m ≡ met.Stop → (lacks left ≡ false) ⊎ ((coming ≡ []) × (own ≡ fault))
-
--- what is met in the lines held, and where
-pub record Looks (p : Machine) (c : HeldLines) (f : Found) : Type 0 where
-  pub at : f.at ≤ length (string_bytes c.text)
-  pub left : IsUtf8 (drop f.at (string_bytes c.text))
-  pub finds : Peek (take p.nested p.levels.items) p.now (chars (drop c.at (string_bytes c.text))) f.peeked f.now (chars (drop f.at (string_bytes c.text)))
-  pub stands : Stands f.now (drop f.at (string_bytes c.text))
-  pub room : (n : ℕ) → HasRoom p.now (length (drop c.at (string_bytes c.text)) + n) → HasRoom f.now (length (drop f.at (string_bytes c.text)) + n)
-  pub tail : 0 < p.tail → (f.peeked ≡ met.Stop) × (f.now ≡ p.now) × (drop f.at (string_bytes c.text) ≡ drop c.at (string_bytes c.text))
-
--- that is met in the source
-pub record PeekedIn (p : Machine) (c : HeldLines) (f : Found) : Type 0 where
-  pub looks : Looks p c f
-  pub stops : (s : Parts) (k : ℕ) (more : List ℕ) (broken : Bool) → Continues c.lines more broken → StreamsIn (streamed p c None) s k more broken → Stops f.peeked (drop f.at (string_bytes c.text)) (comes c.lines more broken).text f.fault s.fault
-
--- A search for what is met next: the lister stands where it stood, and holds other lines.
-pub record Searches (seen_old seen_new : Seen) (old new : Machine) (c d : HeldLines) : Type 0 where
-  pub taken : List ℕ
-  pub reads : Reads seen_old seen_new c.lines d.lines taken
-  pub follows : (more : List ℕ) (broken : Bool) → Continues d.lines more broken → Continues c.lines (taken ++ more) broken
-  pub stands : (s : Parts) (k : ℕ) (more : List ℕ) (broken : Bool) → Continues d.lines more broken → StreamsIn (streamed old c None) s k (taken ++ more) broken → StreamsIn (streamed new d None) s k more broken
-  pub machine : new ≡ record old { now = new.now }
-  pub streaming : IsStreaming new d None
-
--- no more was read ahead than one read gives, or a fault was met in place of the next line
-abbrev pub LooksAhead : Found → Buffered → Buffered → Type 0
-LooksAhead f old new = ((f.peeked ≡ met.Stop) × (fault : LineFault) × (f.fault ≡ Some fault)) ⊎ Ahead old new
-
--- a literal is open at the end of the lines held, and no lexeme and no layout come before it
-pub record IsWaiting (p : Machine) (c : HeldLines) : Type 0 where
-  pub stop : StopAhead p.now (chars (drop c.at (string_bytes c.text)))
-  pub unended : is_open_string (chars (drop c.at (string_bytes c.text))) ≡ true
-
--- the fault of an answer that is no line
-abbrev pub Lacks : Line → ℕ → Option LineFault → Type 0
-Lacks lines.Text row fault = Unit {0}
-Lacks lines.End row fault = fault ≡ None
-Lacks (lines.Fault f) row fault = fault ≡ Some f
-Lacks lines.Read row fault = fault ≡ Some (unread row)
-
 -- a lister that has begun over a reader, behind k entries: what it took, and in which sources it stands
 pub record Begins (seen_old seen_new : Seen) (v : Streamed) (k : ℕ) : Type 0 where
   pub taken : List ℕ
@@ -199,17 +118,6 @@ pub record Next (seen_old seen_new : Seen) (old new : Streamed) (result : Result
   pub ahead : IfOk result (IsAhead old.lines new.lines)
   pub same : OnErr result ((p : Parts) (k : ℕ) (more : List ℕ) (broken : Bool) → Continues new.lines more broken → StreamsIn old p k (taken ++ more) broken → StreamsIn new p k more broken)
 
--- Past what a search found: that is a step, behind whatever was searched.
-abbrev pub Passes : Machine → HeldLines → Found → Streamed → Result Step AllocError → Type 0
-Passes q d f new result = (seen_old seen_new : Seen) (p : Machine) (c : HeldLines) (last : Option Entry) → Searches seen_old seen_new p q c d → 0 < p.given → LooksAhead f c.lines d.lines
-    → Next seen_old seen_new (streamed p c last) new result
-
--- an entry is passed by, whatever was found
-pub record PassesOn (q : Machine) (d : HeldLines) (e : Entry) (r : Machine) (new : HeldLines) (last : Option Entry) : Type 0 where
-  pub found : Found
-  pub streaming : IsStreaming r new last
-  pub passes : Passes q d found (streamed r new last) (Ok (steps.Entry e))
-
 -- a source's listing ends by a line that could not be read whole, before this many entries
 pub record EndsUnread (p : Parts) (n : ℕ) : Type 0 where
   pub fault : (f : ListingFault) × (fault_of (listing (in_characters p)) ≡ Some f) × (f.code ≡ errors.Line Unread)
@@ -241,8 +149,3 @@ is_unread_code code = false
 abbrev pub is_unread : Step → Bool
 is_unread (steps.Fault f) = is_unread_code f.code
 is_unread s = false
-
--- why a lister can't go on that met this step too early
-pub record IsEndedBy (step : Step) (fault : ResumeFault) : Type 0 where
-  pub read : is_unread step ≡ true → fault ≡ resumes.Stream faults.Read
-  pub other : is_unread step ≡ false → fault ≡ resumes.AnotherSource

@@ -6,6 +6,7 @@ ghost use Rattle.std.specs.Prelude.{◌↔◌, ◌-◌, slice_index, MatchOption
 ghost use Rattle.std.specs.List.{flat_map};
 ghost use Rattle.std.specs.Option.{IsSomeAnd};
 ghost use Rattle.std.specs.String.{string_bytes};
+ghost use Rattle.pylexeme.specs.Characters.{space};
 ghost use Rattle.pylex.specs.Cursors.{CursorParts, cursor_text, part, with_commas};
 ghost use Rattle.pylex.specs.CursorTexts.{AreLevels, IsWellFormed};
 ghost use Rattle.pylex.specs.LineState.{IsAscending, with_levels};
@@ -176,7 +177,7 @@ fn push_levels(text: &mut String, levels: &[usize]) -> Result<(), AllocError>
 /// Reads the number in front, up to a blank, and gives what stands behind that. Other spellings of
 /// a number are read too.
 fn number(text: &str) -> Option<(usize, &str)>
-    ensures { (n : ℕ) (rest : List ℕ) → n < 2 ^ 64 → text.now ≡ decimal n ++ 32 ∷ rest
+    ensures { (n : ℕ) (rest : List ℕ) → n < 2 ^ 64 → text.now ≡ decimal n ++ space ∷ rest
         → IsSomeAnd result (λ r. (r.0 ≡ n) × (r.1.now ≡ rest)) }
 {
     let (front, rest) = text.split_once(' ')?;
@@ -186,7 +187,7 @@ fn number(text: &str) -> Option<(usize, &str)>
 /// Reads the six numbers before the levels, each with a blank behind it, and gives the levels.
 fn numbers(text: &str) -> Option<([usize; 6], &str)>
     ensures { (ns rest : List ℕ) → length ns ≡ 6 → All (λ n. n < 2 ^ 64) ns
-        → text.now ≡ flat_map (λ n. decimal n ++ 32 ∷ []) ns ++ rest
+        → text.now ≡ flat_map (λ n. decimal n ++ space ∷ []) ns ++ rest
         → IsSomeAnd result (λ r. (r.0 ≡ ns) × (r.1.now ≡ rest)) }
 {
     let mut numbers = [0; 6];

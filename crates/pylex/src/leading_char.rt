@@ -3,7 +3,7 @@
 ghost use Rattle.std.specs.Prelude.{◌≡◌, ◌↔◌, IsTrue, ◌+◌, ◌^◌, ◌<◌, length};
 ghost use Rattle.std.specs.Str.{chars};
 ghost use Rattle.pylex.specs.Machine.{place_past, front_after_char, front_after, is_hash};
-ghost use Rattle.pylex.specs.Plain.{AreSpaces, IsPlain};
+ghost use Rattle.pylex.specs.Inner.Plain.{AreSpaces, IsPlain};
 ghost use Rattle.pylex.specs.Inner.Told.{Tells, begun_by};
 
 use pylexeme::lexeme::Class;
@@ -39,6 +39,7 @@ impl LeadingChar {
         }
     }
 
+    /// Whether only blanks have come.
     fn is_nothing(self) -> bool
         ensures { IsTrue result ↔ (self ≡ LeadingChar.Nothing) }
     {
@@ -57,6 +58,7 @@ impl LeadingChar {
         }
     }
 
+    /// Whether the line begins with `#`.
     pub(crate) fn is_hash(self) -> bool
         ensures { result ≡ is_hash self }
     {

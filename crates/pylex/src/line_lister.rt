@@ -12,9 +12,9 @@ ghost use Rattle.pysource.specs.Streams.{Refuses};
 ghost use Rattle.pylex.specs.ListingLines.{text_of};
 ghost use Rattle.pylexeme.specs.Lexemes.{is_open_string};
 ghost use Rattle.pylex.specs.Steps.{most_entries};
-ghost use Rattle.pylex.specs.Streamed.{Begins, BeginsAnew, ResumeRefusal, IsEndedBy, StreamsIn};
-ghost use Rattle.pylex.specs.Streamed.{IsStreaming, PeekedIn, Looks, LooksAhead, Passes, PassesOn};
-ghost use Rattle.pylex.specs.Streamed.{Searches, Next, Lacks, lacks, streamed};
+ghost use Rattle.pylex.specs.Streamed.{Begins, BeginsAnew, Next, ResumeRefusal, StreamsIn};
+ghost use Rattle.pylex.specs.Inner.LineSteps.{IsEndedBy, IsStreaming, Lacks, Looks, LooksAhead};
+ghost use Rattle.pylex.specs.Inner.LineSteps.{Passes, PassesOn, PeekedIn, Searches, lacks, streamed};
 
 use crate::cursor::Cursor;
 use crate::entries::{Entry, ListingError, Step};
@@ -202,7 +202,8 @@ pub struct LineLister {
 }
 
 impl Model for LineLister {
-    ghost use Rattle.pylex.specs.Streamed.{Streamed, IsStreaming, streamed};
+    ghost use Rattle.pylex.specs.Streamed.{Streamed};
+    ghost use Rattle.pylex.specs.Inner.LineSteps.{IsStreaming, streamed};
 
     ghost Value = { Streamed };
 

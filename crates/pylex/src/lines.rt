@@ -10,6 +10,7 @@ ghost use Rattle.std.specs.String.{string_bytes};
 ghost use Rattle.pysource.specs.Reprs.{is_plain, repr_text};
 ghost use Rattle.pylex.specs.ListingLines.{filled, kind_name, listing_line, shown_name};
 ghost use Rattle.pylex.specs.ListingLines.{shown_place, shown_range};
+ghost use Rattle.pylexeme.specs.Characters.{line_feed, space};
 ghost use Rattle.pylexeme.specs.Operators.{exact_name};
 
 use crate::entries::Entry;
@@ -40,7 +41,7 @@ const BLANKS: &str = "                    ";
 fn push_filling(out: &mut String, width: usize, taken: usize) -> Result<(), AllocError>
     requires { width ≤ 20 }
     ensures ok { OnOk result
-        (string_bytes out.new ≡ string_bytes out.old ++ replicate (width - taken) 32) }
+        (string_bytes out.new ≡ string_bytes out.old ++ replicate (width - taken) space) }
     ensures kept { StartsWith (string_bytes out.new) (string_bytes out.old) }
 {
     if taken >= width {
@@ -265,7 +266,7 @@ fn push_plain(out: &mut String, text: &str) -> Result<(), AllocError>
 #[tactic(auto, using(crate::proofs::Texts::LinesLemmas::line_feed_field))]
 fn push_line_feed(out: &mut String) -> Result<(), AllocError>
     ensures ok { OnOk result
-        (string_bytes out.new ≡ string_bytes out.old ++ filled 15 (repr_text (chars (10 ∷ [])))) }
+        (string_bytes out.new ≡ string_bytes out.old ++ filled 15 (repr_text (chars (line_feed ∷ [])))) }
     ensures kept { StartsWith (string_bytes out.new) (string_bytes out.old) }
 {
     out.push_str("'\\n'           ")

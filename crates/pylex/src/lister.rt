@@ -38,7 +38,7 @@ pub struct Lister<'a> {
 
 impl<'a> Model for Lister<'a> {
     ghost use Rattle.pylex.specs.Listers.{Listed};
-    ghost use Rattle.pylex.specs.MachineSteps.{shown_from, Holds};
+    ghost use Rattle.pylex.specs.Inner.MachineSteps.{shown_from, Holds};
 
     ghost Value = { Listed };
 

@@ -14,8 +14,8 @@ ghost use Rattle.pylex.specs.LineState.{Settles, Peek, StopAhead, HasRoom, Behin
 ghost use Rattle.pylex.specs.LineState.{closing, with_levels, given, GivesNoText, IsGivenFault};
 ghost use Rattle.pylex.specs.LineState.{GivesAt};
 ghost use Rattle.pylex.specs.Listers.{shown_by, shown_at};
-ghost use Rattle.pylex.specs.MachineSteps.{FaultsFirst, HasPlace, IsSame, StepsOn, Advance};
-ghost use Rattle.pylex.specs.MachineSteps.{shown_from};
+ghost use Rattle.pylex.specs.Inner.MachineSteps.{FaultsFirst, HasPlace, IsSame, StepsOn, Advance};
+ghost use Rattle.pylex.specs.Inner.MachineSteps.{shown_from};
 
 use crate::cursor::{Cursor, Shown};
 use crate::entries::{Emitted, Entry, ListingError, ListingFault, Step};

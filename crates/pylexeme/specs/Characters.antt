@@ -31,11 +31,17 @@ left_parenthesis = 40
 abbrev pub right_parenthesis : ℕ
 right_parenthesis = 41
 
+abbrev pub asterisk : ℕ
+asterisk = 42
+
 abbrev pub comma : ℕ
 comma = 44
 
 abbrev pub full_stop : ℕ
 full_stop = 46
+
+abbrev pub colon : ℕ
+colon = 58
 
 abbrev pub left_square_bracket : ℕ
 left_square_bracket = 91

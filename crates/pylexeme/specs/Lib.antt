@@ -1,3 +1,4 @@
+pub mod Inner
 pub mod Characters
 pub mod Numbers
 pub mod Strings
@@ -8,4 +9,3 @@ pub mod Lexemes
 pub mod Chunks
 pub mod Cuts
 pub mod OpenLiterals
-pub mod Plain

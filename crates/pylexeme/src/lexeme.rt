@@ -3,6 +3,7 @@
 ghost use Rattle.std.specs.Prelude.{◌≡◌, ◌==◌, ℕ, List, true, false, Some, IfSome, IfNone};
 ghost use Rattle.std.specs.Str.{chars};
 ghost use Rattle.pylexeme.specs.Chars.{begins, starts_name, is_blank_char, is_prefix_letter};
+ghost use Rattle.pylexeme.specs.Characters.{backslash, carriage_return, hash, line_feed};
 ghost use Rattle.pylexeme.specs.Strings.{opens_string};
 ghost use Rattle.pylexeme.specs.Lengths.{begins_number, Opens};
 ghost use Rattle.pylexeme.specs.Lexemes.{lexeme_at, is_significant_class, is_blanks_class};
@@ -103,7 +104,7 @@ fn name(text: &mut Scanner)
 
 /// Takes the comment that stands here.
 fn comment(text: &mut Scanner)
-    requires { begins (λ c. c == 35) text.old ≡ true }
+    requires { begins (λ c. c == hash) text.old ≡ true }
     ensures { Takes text.old (Some Class.Comment) text.new }
 {
     text.bump_while(CharSet::CommentPart);
@@ -120,7 +121,7 @@ fn blanks(text: &mut Scanner)
 
 /// Takes the LF that stands here.
 fn line_feed(text: &mut Scanner)
-    requires { begins (λ c. c == 10) text.old ≡ true }
+    requires { begins (λ c. c == line_feed) text.old ≡ true }
     ensures { Takes text.old (Some Class.LineEnd) text.new }
 {
     text.bump_count(1);
@@ -128,7 +129,7 @@ fn line_feed(text: &mut Scanner)
 
 /// Takes the CR that stands here and the LF behind it; a lone CR is no lexeme.
 fn carriage_return(text: &mut Scanner) -> Option<Class>
-    requires { begins (λ c. c == 13) text.old ≡ true }
+    requires { begins (λ c. c == carriage_return) text.old ≡ true }
     ensures { Takes text.old result text.new }
 {
     if !text.has_next(1, CharSet::One('\n')) {
@@ -140,7 +141,7 @@ fn carriage_return(text: &mut Scanner) -> Option<Class>
 
 /// Takes the backslash that stands here and the line end behind it; another backslash is no lexeme.
 fn join(text: &mut Scanner) -> Option<Class>
-    requires { begins (λ c. c == 92) text.old ≡ true }
+    requires { begins (λ c. c == backslash) text.old ≡ true }
     ensures { Takes text.old result text.new }
 {
     if text.has_next(1, CharSet::One('\n')) {

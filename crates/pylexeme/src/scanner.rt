@@ -1,12 +1,14 @@
 //! A text that is read from its front, one character after another.
 
 ghost use Rattle.std.specs.Char.{is_ascii_alphanumeric};
-ghost use Rattle.std.specs.Prelude.{◌≡◌, ◌==◌, ◌&&◌, ◌||◌, ℕ, ◌≤◌, List, length, drop, slice_get, nat_lt};
+ghost use Rattle.std.specs.Prelude.{◌≡◌, ◌==◌, ◌&&◌, ◌||◌, ℕ, ◌≤◌, List, length, drop, slice_get};
+ghost use Rattle.std.specs.Prelude.{nat_lt};
 ghost use Rattle.std.specs.Str.{chars, encode_utf8_all, IsUtf8};
 ghost use Rattle.std.specs.List.{prefix_len};
 ghost use Rattle.unicode_ident.specs.Ident.{is_xid_continue};
 ghost use Rattle.pylexeme.specs.Chars.{has, begins};
-ghost use Rattle.pylexeme.specs.Plain.{is_plain_char};
+ghost use Rattle.pylexeme.specs.Characters.{carriage_return, line_feed, low_line};
+ghost use Rattle.pylexeme.specs.Inner.Plain.{is_plain_char};
 ghost use Rattle.pylexeme.specs.Lengths.{joined_len, begins_some};
 
 use std::marker::Model;
@@ -189,8 +191,8 @@ impl<'a> Scanner<'a> {
     /// Whether a CR and an LF stand after some characters.
     pub(crate) fn has_line_end(&self, skipped: usize) -> bool
         ensures { result
-            ≡ (begins (λ c. c == 13) (drop skipped self.now) && begins (λ c. c == 10)
-            (drop 1 (drop skipped self.now))) }
+            ≡ (begins (λ c. c == carriage_return) (drop skipped self.now)
+            && begins (λ c. c == line_feed) (drop 1 (drop skipped self.now))) }
     {
         let mut ahead = self.again();
         ahead.bump_count(skipped);
@@ -282,7 +284,7 @@ static NAME_BYTES: [u8; 256] = *b"\
 /// Whether a byte is a character of ASCII that a name may have.
 #[inline(always)]
 fn is_name_byte(byte: u8) -> bool
-    ensures { result ≡ (is_ascii_alphanumeric byte || (byte == 95)) }
+    ensures { result ≡ (is_ascii_alphanumeric byte || (byte == low_line)) }
 {
     NAME_BYTES[byte as usize] != b','
 }

@@ -1,7 +1,7 @@
 //! Strings: where one opens, and where the longest one ends (reference 2.4.1).
 
-ghost use Rattle.std.specs.Prelude.{◌≡◌, ◌≢◌, [], ◌||◌, ◌==◌, true, false, ℕ, List, ◌++◌, drop, None};
-ghost use Rattle.std.specs.Prelude.{IfSome, IfNone, IsTrue};
+ghost use Rattle.std.specs.Prelude.{◌≡◌, ◌≢◌, [], ◌||◌, ◌==◌, true, false, ℕ, List, ◌++◌, drop};
+ghost use Rattle.std.specs.Prelude.{None, IfSome, IfNone, IsTrue};
 ghost use Rattle.std.specs.Str.{chars};
 ghost use Rattle.pylexeme.specs.Chars.{begins};
 ghost use Rattle.pylexeme.specs.Strings.{begins_quote, quote_char, counts_as_string, opens_string};

@@ -1,3 +1,4 @@
+pub mod Inner
 pub mod Characters
 pub mod Limits
 pub mod Names
@@ -10,4 +11,3 @@ pub mod Sources
 pub mod Bytes
 pub mod Taking
 pub mod Streams
-pub mod Heads

@@ -10,7 +10,7 @@ ghost use Rattle.std.specs.String.{string_bytes};
 ghost use Rattle.pysource.specs.Limits.{source_limit};
 ghost use Rattle.pysource.specs.Streams.{NextLine, Open, of_source, searches_second, PushesLine};
 ghost use Rattle.pysource.specs.Taking.{Takes, Grows, FoundHead, FoundDue};
-ghost use Rattle.pysource.specs.Heads.{FoundHeads};
+ghost use Rattle.pysource.specs.Inner.Heads.{FoundHeads};
 
 use crate::buffers::Intake;
 use crate::bytes::ByteIn;

@@ -10,6 +10,7 @@
 ghost use Rattle.std.specs.Prelude.{◌≡◌, ◌≢◌, ℕ, ◌≤◌, ◌<◌, ◌+◌, ◌-◌, false, length, take, drop};
 ghost use Rattle.std.specs.Prelude.{slice_index, IsUtf8, MatchOption};
 ghost use Rattle.std.specs.Str.Lossy.{utf8_valid_len};
+ghost use Rattle.pysource.specs.Characters.{carriage_return};
 ghost use Rattle.pysource.specs.Limits.{source_limit};
 ghost use Rattle.pysource.specs.Lines.{first_bad, good_text, line_fault, lines_of, lone_return_at};
 ghost use Rattle.pysource.specs.Lines.{bad_at, invalid};
@@ -99,8 +100,8 @@ fn find_return(bytes: &[u8], from: usize) -> usize
     requires { from ≤ length bytes.now }
     ensures low { from ≤ result }
     ensures within { result ≤ length bytes.now }
-    ensures before { (k : ℕ) → from ≤ k → k < result → slice_index bytes.now k ≢ 13 }
-    ensures at { result < length bytes.now → slice_index bytes.now result ≡ 13 }
+    ensures before { (k : ℕ) → from ≤ k → k < result → slice_index bytes.now k ≢ carriage_return }
+    ensures at { result < length bytes.now → slice_index bytes.now result ≡ carriage_return }
 {
     match memchr::memchr(b'\r', &bytes[from..]) {
         None => bytes.len(),
@@ -115,7 +116,7 @@ fn lone_return(bytes: &[u8]) -> usize
     ensures before { (k : ℕ) → k < result → lone_return_at bytes.now k ≡ None }
     ensures at { result < length bytes.now →
         lone_return_at bytes.now result ≡ Some LineError.LoneReturn }
-    ensures byte { result < length bytes.now → slice_index bytes.now result ≡ 13 }
+    ensures byte { result < length bytes.now → slice_index bytes.now result ≡ carriage_return }
 {
     let mut from = 0;
     while from < bytes.len() {

@@ -1,8 +1,8 @@
 pub mod Callers
-pub mod ImportSteps
-pub mod NameSteps
-pub mod OptionSteps
-pub mod StatementSteps
-pub mod TypeNameSteps
-pub mod TypeSteps
-pub mod ValueSteps
+mod ImportSteps
+mod NameSteps
+mod OptionSteps
+mod StatementSteps
+mod TypeNameSteps
+mod TypeSteps
+mod ValueSteps

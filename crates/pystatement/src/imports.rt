@@ -4,6 +4,7 @@
 
 ghost use Rattle.std.specs.Prelude.{◌≡◌, ◌+◌, ◌<◌, ◌≤◌, ◌∷◌, [], MatchResult, None, Some, length};
 ghost use Rattle.std.specs.Prelude.{map};
+ghost use Rattle.pylexeme.specs.Characters.{asterisk};
 ghost use Rattle.pynode.specs.TreeOf.{alias_of, stmt_of};
 ghost use Rattle.pynode.specs.Trees as plain;
 ghost use Rattle.pyvalue.specs.Terminals.{terminal};
@@ -69,7 +70,7 @@ fn read_dots(tokens: &[Terminal], at: usize) -> Result<ReadDots, Stop>
 
 /// A `*`, as the name of an import.
 fn star(alloc: Global) -> Result<Alias, Stop>
-    ensures { MatchResult result (λ a. alias_of a ≡ forms.alias (42 ∷ []) None)
+    ensures { MatchResult result (λ a. alias_of a ≡ forms.alias (asterisk ∷ []) None)
         (λ s. s ≡ Stop.Memory) }
 {
     let name = Identifier::new(alloc, "*")?;
@@ -80,7 +81,7 @@ fn star(alloc: Global) -> Result<Alias, Stop>
 #[tactic(auto, using(crate::proofs::ImportSteps::alias_pushed))]
 fn star_alias(alloc: Global, next: usize) -> Result<ReadAliases, Stop>
     ensures names { MatchResult result
-        (λ r. map alias_of r.aliases.items ≡ forms.alias (42 ∷ []) None ∷ [])
+        (λ r. map alias_of r.aliases.items ≡ forms.alias (asterisk ∷ []) None ∷ [])
         (λ s. s ≡ Stop.Memory) }
     ensures next { MatchResult result (λ r. r.next ≡ next) (λ s. s ≡ Stop.Memory) }
 {

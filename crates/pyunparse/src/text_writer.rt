@@ -4,6 +4,7 @@ ghost use Rattle.std.specs.Prelude.{◌≡◌, ◌+◌, ◌-◌, ◌*◌, ◌<�
 ghost use Rattle.std.specs.Prelude.{IfOk, OnOk};
 ghost use Rattle.std.specs.Str.{bytes_eq};
 ghost use Rattle.std.specs.String.{string_bytes};
+ghost use Rattle.pylexeme.specs.Characters.{line_feed, space};
 ghost use Rattle.pyspacing.specs.Spacing.{is_number_kind};
 ghost use Rattle.pyunparse.specs.Inner.Writing.{meets};
 
@@ -96,7 +97,7 @@ impl TextWriter {
     pub(crate) fn begin_line(&mut self) -> Result<(), AllocError>
         ensures { OnOk result
             (self.new ≡ record {
-              text = self.old.text ++ replicate (4 * self.old.level) 32;
+              text = self.old.text ++ replicate (4 * self.old.level) space;
               last = None;
               level = self.old.level;
             }) }
@@ -109,7 +110,7 @@ impl TextWriter {
     pub(crate) fn end_line(&mut self) -> Result<(), AllocError>
         ensures { OnOk result
             (self.new ≡ record
-            { text = self.old.text ++ 10 ∷ []; last = self.old.last; level = self.old.level }) }
+            { text = self.old.text ++ line_feed ∷ []; last = self.old.last; level = self.old.level }) }
     {
         self.text.push('\n')
     }

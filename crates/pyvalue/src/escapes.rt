@@ -4,6 +4,7 @@
 
 ghost use Rattle.std.specs.Prelude.{◌≡◌, ◌≤◌, ◌==◌, ◌&&◌, not, nat_lt, nat_le, drop, length};
 ghost use Rattle.std.specs.Str.Parse.{digits_value};
+ghost use Rattle.pylexeme.specs.Characters.{backslash};
 ghost use Rattle.pytoken.specs.Escapes.{digits_at_front, escape_point, octal, hexadecimal};
 ghost use Rattle.pytoken.specs.Escapes.{hexadecimal_len, names_character, escaped_by, reads};
 ghost use Rattle.pyvalue.specs.Inner.Readings.{Takes, first_digit, first_meaning, behind_meaning};
@@ -174,7 +175,7 @@ pub(crate) fn next_meaning(text: &mut Characters, raw: bool, bytes: bool) -> Opt
 
 /// Whether a character begins an escape.
 fn begins_escape(raw: bool, first: char) -> bool
-    ensures { result ≡ (not raw && (first == 92)) }
+    ensures { result ≡ (not raw && (first == backslash)) }
 {
     !raw && first == '\\'
 }

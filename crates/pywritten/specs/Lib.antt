@@ -1,8 +1,8 @@
+pub mod Inner
 pub mod Levels
 pub mod Written
 pub mod Terminals
 pub mod Pieces
 pub mod Statements
 pub mod Modules
-pub mod Brackets
 pub mod Laws

@@ -14,7 +14,7 @@ use Rattle.pysource.specs.declared.line_reader.Line.TheVariants as met
 use Rattle.pysource.specs.Streams.{Buffered, Follows, Gives, ComesOnly, NextLine, Reads, comes, onto, ends_line}
 use Rattle.pysource.proofs.Callers.Taken.{Takes-none, Takes-on}
 use Rattle.pylex.specs.declared.held_lines.HeldLines.{HeldLines}
-use Rattle.pylex.specs.Chunked.{AddsOn, IsLonger, ReadsOn}
+use Rattle.pylex.specs.Inner.Chunked.{AddsOn, IsLonger, ReadsOn}
 use Rattle.pylex.proofs.LineByLine.Reading.{ends_behind}
 
 -- what comes behind two lines comes behind both

@@ -25,7 +25,8 @@ use Rattle.pylex.proofs.LineByLine.Searching.{witness}
 use Rattle.pylex.specs.Listers.{shown_by, shown_at}
 use Rattle.pylex.specs.Machine.{first_state}
 use Rattle.pylex.specs.LineState.{with_levels}
-use Rattle.pylex.specs.Streamed.{Continues, StreamsIn, IsStreaming, IsHeld, HoldsLast, streamed}
+use Rattle.pylex.specs.Streamed.{Continues, StreamsIn, IsHeld, HoldsLast}
+use Rattle.pylex.specs.Inner.LineSteps.{IsStreaming, streamed}
 use Rattle.pylex.proofs.Listers.Moving.{keeps_first, shown_first}
 use Rattle.pylex.proofs.Listers.Ranges.{measuring_start}
 

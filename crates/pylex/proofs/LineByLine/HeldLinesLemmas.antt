@@ -12,7 +12,7 @@ use Rattle.pysource.specs.Limits.{source_limit}
 use Rattle.pysource.specs.declared.line_reader.Line.{Line}
 use Rattle.pysource.specs.declared.line_reader.Line.TheVariants as met
 use Rattle.pylex.specs.declared.held_lines.HeldLines.{HeldLines}
-use Rattle.pylex.specs.Chunked.{Adds, Holding, Stays, IsHeldLines, ReadsOn}
+use Rattle.pylex.specs.Inner.Chunked.{Adds, Holding, Stays, IsHeldLines, ReadsOn}
 
 no_lines : lines_of [] ≡ []
 unfolding lines_of

@@ -21,7 +21,7 @@ use Rattle.pylex.specs.declared.held_lines.HeldLines.{HeldLines}
 use Rattle.pylexeme.specs.Chars.{begins}
 use Rattle.pylexeme.specs.Strings.{quote_char}
 use Rattle.pylexeme.specs.Chunks.{EndsLine}
-use Rattle.pylex.specs.Chunked.{AddsLine, IsLineMore, HoldsOn}
+use Rattle.pylex.specs.Inner.Chunked.{AddsLine, IsLineMore, HoldsOn}
 use Rattle.pylexeme.specs.Lexemes.{lexeme_at, left_by_cut, is_open_string}
 use Rattle.pylexeme.specs.OpenLiterals.{IsOpenBy}
 use Rattle.pylex.specs.Held.{AheadBut, IsJoined, LexedTo, at_left, IsAtStop, Holds, IsOpenAt, LinesBehind, Joins}

@@ -13,11 +13,12 @@ use Rattle.pysource.proofs.Callers.Faults.{comes_utf8}
 use Rattle.pylex.specs.declared.held_lines.HeldLines.{HeldLines}
 use Rattle.pylex.specs.declared.machine.Machine.{Machine}
 use Rattle.pylex.specs.declared.line_state.LineState.{LineState}
-use Rattle.pylex.specs.Chunked.{Grows, Stays}
+use Rattle.pylex.specs.Inner.Chunked.{Grows, Stays}
 use Rattle.pylex.specs.Listers.{Listed, Keeps}
-use Rattle.pylex.specs.MachineSteps.{shown_from}
+use Rattle.pylex.specs.Inner.MachineSteps.{shown_from}
 use Rattle.pylex.specs.LineState.{Comes, HasRoom, StopAhead}
-use Rattle.pylex.specs.Streamed.{StreamsIn, streamed}
+use Rattle.pylex.specs.Streamed.{StreamsIn}
+use Rattle.pylex.specs.Inner.LineSteps.{streamed}
 use Rattle.pylex.specs.Held.{IsJoined, LexedTo}
 use Rattle.pylexeme.specs.Lexemes.{left_by_cut}
 use Rattle.pylex.proofs.LineByLine.LexedOn.{joined_behind, left_behind, left_all}

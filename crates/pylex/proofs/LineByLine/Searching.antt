@@ -26,9 +26,10 @@ use Rattle.pylex.specs.declared.entries.Entry.{Entry}
 use Rattle.pylex.specs.declared.machine.Peeked.TheVariants as peeked
 use Rattle.pylex.specs.declared.machine.Machine.{Machine}
 use Rattle.pylex.specs.declared.line_lister.Found.{Found}
-use Rattle.pylex.specs.Chunked.{Grows, HoldsOn, Stays, Adds, ReadsOn}
+use Rattle.pylex.specs.Inner.Chunked.{Grows, HoldsOn, Stays, Adds, ReadsOn}
 use Rattle.pylex.specs.LineState.{Stands, StopAhead, IsAscending, Behind}
-use Rattle.pylex.specs.Streamed.{Continues, StreamsIn, IsStreaming, IsWaiting, streamed, Looks, LooksAhead, PeekedIn, Searches, Lacks, lacks}
+use Rattle.pylex.specs.Streamed.{Continues, StreamsIn}
+use Rattle.pylex.specs.Inner.LineSteps.{IsStreaming, IsWaiting, streamed, Looks, LooksAhead, PeekedIn, Searches, Lacks, lacks}
 use Rattle.pylex.specs.Held.{Ahead, AheadBut, IsAtStop}
 use Rattle.pylexeme.specs.Cuts.{begins_significant}
 use Rattle.pylexeme.specs.Lexemes.{is_open_string}

@@ -20,10 +20,11 @@ use Rattle.pylex.specs.Laws.{AllLie, StepLies}
 use Rattle.pylexeme.specs.Chars.{bytes_in}
 use Rattle.pylex.specs.Listing.{in_characters, listing}
 use Rattle.pylex.specs.Listers.{StandsIn, NextStep}
-use Rattle.pylex.specs.MachineSteps.{shown_from, Holds, Advance, Ranges, left_by}
+use Rattle.pylex.specs.Inner.MachineSteps.{shown_from, Holds, Advance, Ranges, left_by}
 use Rattle.pylex.specs.LineState.{Peek}
 use Rattle.pylex.specs.Steps.{entries_in}
-use Rattle.pylex.specs.Streamed.{Continues, StreamsIn, IsStreaming, IsHeld, streamed, PeekedIn}
+use Rattle.pylex.specs.Streamed.{Continues, StreamsIn, IsHeld}
+use Rattle.pylex.specs.Inner.LineSteps.{IsStreaming, streamed, PeekedIn}
 use Rattle.pylex.proofs.LineByLine.Lined.{lined_chars}
 use Rattle.pylex.proofs.Listing.Lying.{entries_lie}
 use Rattle.pylex.proofs.Listers.Ranges.{in_offset}

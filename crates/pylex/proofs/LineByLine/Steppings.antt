@@ -24,9 +24,10 @@ use Rattle.pylex.specs.declared.line_lister.Found.{Found}
 use Rattle.pylex.specs.Listing.{in_characters, listing, origin}
 use Rattle.pylex.specs.Listers.{Listed, shown_by}
 use Rattle.pylex.specs.Machine.{mark_at}
-use Rattle.pylex.specs.MachineSteps.{shown_from, FaultsFirst, HasPlace, IsSame, Advance}
+use Rattle.pylex.specs.Inner.MachineSteps.{shown_from, FaultsFirst, HasPlace, IsSame, Advance}
 use Rattle.pylex.specs.Steps.{entries_in}
-use Rattle.pylex.specs.Streamed.{Continues, Streamed, StreamsIn, IsStreaming, IsLast, IsAhead, LooksAhead, Next, Searches, streamed, PeekedIn}
+use Rattle.pylex.specs.Streamed.{Continues, Streamed, StreamsIn, IsLast, IsAhead, Next}
+use Rattle.pylex.specs.Inner.LineSteps.{IsStreaming, LooksAhead, Searches, streamed, PeekedIn}
 use Rattle.pylex.specs.Held.{Ahead}
 use Rattle.pylex.proofs.LineByLine.AheadOn.{ahead_none}
 use Rattle.pylex.proofs.LineByLine.LexedOn.{lexed_both, lexed_finds}

@@ -5,7 +5,7 @@ use Rattle.std.proofs.Common.{ℕ, List, arith}
 use Rattle.pysource.specs.Parts.{Parts}
 use Rattle.pylex.specs.declared.machine.Machine.{Machine}
 use Rattle.pylex.specs.Listers.{Listed}
-use Rattle.pylex.specs.MachineSteps.{shown_from, Holds, HasPlace}
+use Rattle.pylex.specs.Inner.MachineSteps.{shown_from, Holds, HasPlace}
 use Rattle.pylex.proofs.Listers.Moving.{given_fits, skip_fits, row_from_one}
 use Rattle.std.proofs.Common.{◌≤◌}
 

@@ -31,7 +31,7 @@ use Rattle.pylex.specs.Lines.{opens, closes}
 use Rattle.pylex.specs.Machine.{State, place_past, front_after, after, behind, entry_by, line_end_kind_of, step_of, past, count_if, still}
 use Rattle.pylex.specs.LineState.{with_levels, HasRoom}
 use Rattle.pylex.proofs.MachineLaws.Advancing.{room_on}
-use Rattle.pylex.specs.Plain.{IsPlain}
+use Rattle.pylex.specs.Inner.Plain.{IsPlain}
 use Rattle.pylex.specs.Inner.Told.{GoesOn, begun_by, Tells, Passed, is_text, text_kind}
 use Rattle.pylex.proofs.MachineLaws.LexemeClasses.{Says, lexeme_says}
 use Rattle.pylex.proofs.Texts.Plain.{plain_ascii, AllInLine, advance_in_line, begun}

@@ -12,7 +12,7 @@ use Rattle.pylex.specs.declared.leading_char.LeadingChar.TheVariants.{Nothing, H
 use Rattle.pylex.specs.Machine.{place_past, front_after}
 use Rattle.std.specs.Prelude.{slice_index}
 use Rattle.pylex.specs.Indentation.{width_from}
-use Rattle.pylex.specs.Plain.{AreSpaces, IsPlain}
+use Rattle.pylex.specs.Inner.Plain.{AreSpaces, IsPlain}
 
 -- no character is an LF
 abbrev pub AllInLine : List ℕ → Type 0

@@ -9,7 +9,7 @@ use Rattle.std.proofs.lemmas.Str.{chars-nil, chars_past_char, encode_ascii, byte
 use Rattle.std.proofs.lemmas.List.Sums.{prefix_len-le-length}
 use Rattle.std.proofs.lemmas.Bool.Decides.{nat_tests}
 use Rattle.pylexeme.specs.Chars.{begins}
-use Rattle.pylexeme.specs.Plain.{is_plain_char}
+use Rattle.pylexeme.specs.Inner.Plain.{is_plain_char}
 use Rattle.pylexeme.proofs.Cases.{bool_cases, and_parts}
 use Rattle.pylexeme.proofs.Fronts.Texts.{after_run}
 

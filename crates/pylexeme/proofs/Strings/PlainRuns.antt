@@ -6,7 +6,7 @@ use Rattle.std.specs.List.{prefix_len}
 use Rattle.pylexeme.specs.declared.string.Quote.{Quote}
 use Rattle.pylexeme.specs.declared.string.Quote.TheVariants.{Single, Double}
 use Rattle.pylexeme.specs.Chars.{is_comment_part}
-use Rattle.pylexeme.specs.Plain.{is_plain_char}
+use Rattle.pylexeme.specs.Inner.Plain.{is_plain_char}
 use Rattle.pylexeme.specs.Strings.{quote_char}
 use Rattle.pylexeme.specs.Lengths.{single_len, triple_len, begins_quotes}
 use Rattle.pylexeme.proofs.Cases.{bool_cases, and_parts}

@@ -10,7 +10,7 @@ use Rattle.pysource.specs.Cookies.{encoding_of, without_mark, has_mark, cookie_o
 use Rattle.pysource.specs.Sources.{nth_line}
 use Rattle.pysource.specs.Taking.{NoLfFrom, LineAt, LineThere, LineLeft, LineUnread}
 use Rattle.pysource.specs.Streams.{FollowsAt, searches_second, decides, head_len, ends_line}
-use Rattle.pysource.specs.Heads.{Head, Headless}
+use Rattle.pysource.specs.Inner.Heads.{Head, Headless}
 use Rattle.pysource.specs.declared.buffers.Intake.{Intake}
 use Rattle.pysource.specs.declared.line_reader.Reach.{Reach}
 use Rattle.pysource.specs.declared.line_reader.Reach.TheVariants.{Reading, End}

@@ -11,7 +11,7 @@ use Rattle.pysource.specs.Cookies.{encoding_of, named_by, cookie_of, leads_on, i
 use Rattle.pysource.specs.Sources.{nth_line}
 use Rattle.pysource.specs.Taking.{Takes, fails}
 use Rattle.pysource.specs.Streams.{Coming, FollowsAt, comes, coming, decides, of_source, stream_of, stream_under, Opens, Refuses}
-use Rattle.pysource.specs.Heads.{Head, FoundHeads}
+use Rattle.pysource.specs.Inner.Heads.{Head, FoundHeads}
 use Rattle.pysource.specs.declared.buffers.Intake.{Intake}
 use Rattle.pysource.specs.Bytes.{Seen}
 use Rattle.pysource.specs.Limits.{source_limit}

@@ -4,7 +4,7 @@ use Rattle.pysource.specs.Streams.{Buffered}
 use Rattle.pysource.specs.Limits.{source_limit}
 use Rattle.pysource.specs.declared.line_reader.Reach.TheVariants.{Reading}
 use Rattle.pylex.specs.Held.{LinesBehind}
-use Rattle.pylex.specs.Chunked.{AddsOn}
+use Rattle.pylex.specs.Inner.Chunked.{AddsOn}
 use Rattle.pylex.proofs.held_lines.add_lines.Given as goal
 
 abbrev pub invariant-loop-literal : goal.invariant-loop-literal

@@ -1,7 +1,7 @@
 use Rattle.std.proofs.Common.{◌≡◌, true, length, drop, ap, sym, arith, string_bytes, length-append}
 use Rattle.std.specs.Prelude.{Ok, Err}
 use Rattle.std.proofs.lemmas.Str.{IsCharBoundary-from_drop}
-use Rattle.pylex.specs.Streamed.{lacks}
+use Rattle.pylex.specs.Inner.LineSteps.{lacks}
 use Rattle.pylex.proofs.LineByLine.HeldLinesLemmas.{no_line, stays_other}
 use Rattle.pylex.proofs.LineByLine.Searching.{ahead_found, ahead_end, ahead_then, searches_line, searches_stay, meets_end, small_held}
 use Rattle.pylex.proofs.line_lister.find.Goals as goal

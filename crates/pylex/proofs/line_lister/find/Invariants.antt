@@ -2,7 +2,7 @@ use Rattle.std.proofs.Common.{◌+◌, ◌-◌, length, string_bytes}
 use Rattle.std.specs.Prelude.{◌⊎◌}
 use Rattle.pysource.specs.Limits.{source_limit}
 use Rattle.pylex.specs.Held.{Ahead, AheadBut}
-use Rattle.pylex.specs.Streamed.{IsWaiting, Searches}
+use Rattle.pylex.specs.Inner.LineSteps.{IsWaiting, Searches}
 use Rattle.pylex.proofs.line_lister.find.Given as goal
 
 abbrev pub invariant-loop-chunk : goal.invariant-loop-chunk

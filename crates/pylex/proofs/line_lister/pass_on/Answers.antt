@@ -6,8 +6,8 @@ use Rattle.pylex.specs.declared.machine.Peeked.TheVariants as peeked
 use Rattle.pylex.specs.declared.machine.Machine.{Machine}
 use Rattle.pylex.specs.declared.line_state.LineState.{LineState}
 use Rattle.pylex.specs.declared.line_lister.Found.{Found}
-use Rattle.pylex.specs.MachineSteps.{StepsOn}
-use Rattle.pylex.specs.Streamed.{Looks}
+use Rattle.pylex.specs.Inner.MachineSteps.{StepsOn}
+use Rattle.pylex.specs.Inner.LineSteps.{Looks}
 use Rattle.pylex.proofs.LineByLine.Searching.{not_read, searches_none, boundary_held, stands_held, drop_behind, meets_here}
 use Rattle.pylex.proofs.LineByLine.Steppings.{entry_ahead, place_held, steps_entry, streaming_entry}
 use Rattle.pylex.proofs.line_lister.pass_on.Goals as goal

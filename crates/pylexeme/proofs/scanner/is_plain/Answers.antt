@@ -1,6 +1,6 @@
 -- The table is held against the definition at each of the 256 bytes, by computing.
 use Rattle.std.proofs.Common.{◌≡◌, ℕ, ◌<◌, true, nat_eq, get_or, List, refl, arith}
-use Rattle.pylexeme.specs.Plain.{is_plain_char}
+use Rattle.pylexeme.specs.Inner.Plain.{is_plain_char}
 use Rattle.pylexeme.specs.declared.scanner.TheConstants.{PLAIN_BYTES}
 use Rattle.pylexeme.proofs.Fronts.Tables.{agree_below, agree_at}
 use Rattle.pylexeme.proofs.scanner.is_plain.Goals as goal

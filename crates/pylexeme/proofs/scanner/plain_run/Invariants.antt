@@ -1,6 +1,6 @@
 use Rattle.std.proofs.Common.{◌≡◌, ◌≤◌, ◌+◌, ◌-◌, length, drop}
 use Rattle.std.specs.List.{prefix_len}
-use Rattle.pylexeme.specs.Plain.{is_plain_char}
+use Rattle.pylexeme.specs.Inner.Plain.{is_plain_char}
 use Rattle.pylexeme.proofs.scanner.plain_run.Given as goal
 
 abbrev pub invariant-loop-count : goal.invariant-loop-count

@@ -3,7 +3,7 @@ use Rattle.std.specs.Prelude.{◌⊎◌}
 use Rattle.std.proofs.lemmas.Result.{err_from_is_err_and}
 use Rattle.pysource.specs.Taking.{FoundHead, LineThere, LineLeft}
 use Rattle.pysource.specs.Streams.{searches_second}
-use Rattle.pysource.specs.Heads.{Head, FoundHeads}
+use Rattle.pysource.specs.Inner.Heads.{Head, FoundHeads}
 use Rattle.pysource.specs.declared.buffers.Intake.{Intake}
 use Rattle.pysource.specs.declared.line_reader.Reach.TheVariants.{Reading}
 use Rattle.pysource.specs.declared.line_reader.StreamFault.{StreamFault}

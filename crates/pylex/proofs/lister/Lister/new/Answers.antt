@@ -1,6 +1,7 @@
 use Rattle.std.proofs.Common.{subst}
 use Rattle.std.specs.Str.{IsUtf8}
 use Rattle.pylex.specs.Listing.{in_characters}
+use Rattle.pylex.proofs.Levels.Stack.{push}
 use Rattle.pylex.proofs.Listing.Blocks.{closes_blocks}
 use Rattle.pylex.proofs.Listing.Covering.{is_covered}
 use Rattle.pylex.proofs.Listing.Ends.{is_whole}
@@ -31,6 +32,7 @@ returns-clause-lawful c =
       covered = is_covered s;
       whole = is_whole s;
       blocks = closes_blocks s;
+      levels = push;
     }
 
 pub returns-clause-lies : goal.returns-clause-lies

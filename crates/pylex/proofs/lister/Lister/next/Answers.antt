@@ -7,7 +7,7 @@ use Rattle.pylex.specs.declared.entries.Step.TheVariants as steps
 use Rattle.pylex.specs.declared.machine.Peeked.TheVariants as peeked
 use Rattle.pylex.specs.declared.machine.Machine.{Machine}
 use Rattle.pylex.specs.Listers.{Listed, NextStep}
-use Rattle.pylex.specs.MachineSteps.{shown_from, Holds, StepsOn}
+use Rattle.pylex.specs.Inner.MachineSteps.{shown_from, Holds, StepsOn}
 use Rattle.pylex.proofs.Listers.Moving.{moves_from, goes_first}
 use Rattle.pylex.proofs.Listers.Placing.{has_place}
 use Rattle.pylex.proofs.lister.Lister.next.Goals as goal

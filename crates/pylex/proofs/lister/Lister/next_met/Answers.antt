@@ -13,7 +13,7 @@ use Rattle.pylex.specs.declared.machine.Peeked.TheVariants as peeked
 use Rattle.pylex.specs.Listing.{of_line}
 use Rattle.pylex.specs.Listers.{Listed, NextStep, AwaitsIndent}
 use Rattle.pylex.specs.Machine.{remaining}
-use Rattle.pylex.specs.MachineSteps.{shown_from, left_by, Holds}
+use Rattle.pylex.specs.Inner.MachineSteps.{shown_from, left_by, Holds}
 use Rattle.pylex.specs.LineState.{with_levels}
 use Rattle.pylex.proofs.Listers.Moving.{awaits_indent}
 use Rattle.pylex.proofs.Listers.Placing.{has_place}

@@ -10,7 +10,7 @@ use Rattle.pylex.specs.declared.entries.Step.TheVariants as steps
 use Rattle.pylex.specs.declared.machine.Peeked.{Peeked}
 use Rattle.pylex.specs.declared.machine.Peeked.TheVariants as peeked
 use Rattle.pylex.specs.Listers.{Listed}
-use Rattle.pylex.specs.MachineSteps.{shown_from, left_by, Holds, Ranges}
+use Rattle.pylex.specs.Inner.MachineSteps.{shown_from, left_by, Holds, Ranges}
 use Rattle.pylex.specs.Steps.{entries_in, first_step}
 use Rattle.pylex.proofs.Listers.Moving.{ascending-take, leads_moves, leads_fault, leads_stop, goes_entry, goes_indent, goes_dedent, goes_end, stop_in}
 use Rattle.pylexeme.specs.Chars.{bytes_in}

@@ -3,7 +3,7 @@ use Rattle.std.specs.Str.{chars}
 use Rattle.std.proofs.lemmas.List.{take_all}
 use Rattle.pylex.specs.Listers.{Listed}
 use Rattle.pylex.specs.Machine.{State}
-use Rattle.pylex.specs.MachineSteps.{shown_from}
+use Rattle.pylex.specs.Inner.MachineSteps.{shown_from}
 use Rattle.pylex.proofs.Listers.Moving.{leads_moves, goes_entry}
 use Rattle.pylex.proofs.Listers.Ranges.{entry_range, measuring_anew}
 use Rattle.pylex.proofs.machine.Machine.step_on.Goals as goal

@@ -1,7 +1,7 @@
 use Rattle.std.proofs.Common.{◌≡◌, sym, ◌∙◌, ap, ℕ, List, drop}
 use Rattle.std.specs.List.{prefix_len}
 use Rattle.std.specs.Str.{chars}
-use Rattle.pylexeme.specs.Plain.{is_plain_char}
+use Rattle.pylexeme.specs.Inner.Plain.{is_plain_char}
 use Rattle.pylexeme.proofs.Fronts.Texts.{after_run}
 use Rattle.pylexeme.proofs.Fronts.Runs.{tells_plain, run_cut, run_utf8, run_same, run_stopped, plain_stops}
 use Rattle.pylexeme.proofs.scanner.Scanner.bump_plain.Goals as goal
