@@ -1,6 +1,6 @@
 -- What callers cite of the longest lexeme of all classes, and of the class of a text. Cited by
 -- pylex, pyspacing, pytoken, pywritten.
-pub use Rattle.pylexeme.proofs.Computing.{lexemes}
+unfoldable pub use Rattle.pylexeme.proofs.Computing.{lexemes}
 pub use Rattle.pylexeme.proofs.Lexemes.Classes.{by_words, heads, no_head, no_operator, start_continues, words}
 pub use Rattle.pylexeme.proofs.Lexemes.Cutting.{none_is}
 pub use Rattle.pylexeme.proofs.Lexemes.OperatorLengths.{no_operator_none}

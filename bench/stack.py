@@ -1,0 +1,74 @@
+#!/usr/bin/env python3
+"""Finds how much stack pyast's `dump` and `unparse` take on the deepest sources that they accept.
+
+    bench/stack.py [PROGRAM ..]
+
+PROGRAM is a built pyast, or several, as LLVM and as Rattle's own compiler build it; without one it is the built program of this checkout.
+A run is tried with less and less stack, to 4 KB: the least with which it ends well is shown, in KB. The exit status is 0, but 1 where a
+source isn't accepted within the stack of a login shell, and 2 where nothing could be measured.
+"""
+
+import argparse
+import resource
+import subprocess
+import sys
+import tempfile
+
+from timers import built_program
+
+COMMANDS = ("dump", "unparse")
+# The stack that a login shell gives, and how close the least is found, in bytes.
+STACK, STEP = 8 << 20, 4 << 10
+
+
+def within(levels, line):
+    """A line in so many `if` statements in one another."""
+    return "".join(f"{' ' * i}if x:\n" for i in range(levels)) + " " * levels + line + "\n"
+
+
+def sources():
+    """The name of each source, and the source."""
+    yield "600 brackets", "(" * 600 + "x" + ")" * 600 + "\n"
+    yield "249 `[(yield`", "[(yield " * 249 + "x" + ")]" * 249 + "\n"
+    yield "499 `lambda`", "lambda: " * 499 + "x\n"
+    yield "499 `if` in one another", within(499, "pass")
+    yield "499 `lambda` in 499 `if`", within(499, "lambda: " * 499 + "x")
+    yield "249 `[(yield` in 499 `if`", within(499, "[(yield " * 249 + "x" + ")]" * 249)
+
+
+def ends_well(program, command, file, stack):
+    """Whether a run with so much stack ends with status 0."""
+    limit = lambda: resource.setrlimit(resource.RLIMIT_STACK, (stack, stack))
+    done = subprocess.run([program, command, file], stdout=subprocess.DEVNULL, stderr=subprocess.DEVNULL, preexec_fn=limit, check=False)
+    return done.returncode == 0
+
+
+def least_stack(program, command, file):
+    """The least stack, to STEP, with which a run ends well, or None where a login shell's is too little."""
+    low, high = 0, STACK // STEP
+    if not ends_well(program, command, file, STACK):
+        return None
+    while high - low > 1:
+        middle = (low + high) // 2
+        low, high = (low, middle) if ends_well(program, command, file, middle * STEP) else (middle, high)
+    return high * STEP
+
+
+def main():
+    parser = argparse.ArgumentParser(description=__doc__.split("\n", 1)[0])
+    parser.add_argument("program", nargs="*")
+    programs = parser.parse_args().program or [built_program(None)]
+    status = 0
+    for name, text in sources():
+        with tempfile.NamedTemporaryFile("w", suffix=".py") as file:
+            file.write(text)
+            file.flush()
+            found = [least_stack(program, command, file.name) for program in programs for command in COMMANDS]
+        status |= None in found
+        shown = "  ".join("too much" if one is None else f"{one >> 10:,} KB".rjust(9) for one in found)
+        print(f"{name:<28}{shown}", flush=True)
+    return status
+
+
+if __name__ == "__main__":
+    sys.exit(main())
