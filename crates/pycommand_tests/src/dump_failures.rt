@@ -2,8 +2,7 @@
 
 use crate::dumps::command;
 use crate::expected::{
-    Left, failing_reader, leaves, reader, same_answer, same_bytes, same_status, stops_anywhere,
-    stops_at, writer,
+    Left, failing_reader, leaves, reader, same_bytes, same_status, stops_anywhere, stops_at, writer,
 };
 use fakes::FakeWriter;
 use pycommand::{Command, run};
@@ -28,7 +27,8 @@ fn tells_a_failed_read(rt: &impl Abort, alloc: Global, command: &Command, source
     );
 }
 
-/// Asserts that of some bytes, a fault of their encoding or of their tokens among them.
+/// Asserts that of some bytes, a fault of their encoding or of their tokens among them, and of each
+/// front of a source.
 pub(crate) fn tells_failed_reads(rt: &impl Abort, alloc: Global, words: &str) -> Result<(), Fail> {
     let command = command(alloc, words)?;
     let rows: &[&[u8]] = &[
@@ -41,6 +41,10 @@ pub(crate) fn tells_failed_reads(rt: &impl Abort, alloc: Global, words: &str) ->
     ];
     for source in rows {
         tells_a_failed_read(rt, alloc, &command, source);
+    }
+    let source = b"if x:\n\ty\n".as_slice();
+    for given in 0..=source.len() {
+        tells_a_failed_read(rt, alloc, &command, &source[..given]);
     }
     Ok(())
 }
@@ -100,47 +104,22 @@ fn keeps_its_status(rt: &impl Abort, alloc: Global, command: &Command, line: &[u
     same_status(rt, status, 1, "a room");
 }
 
+/// Asserts that of each number of bytes, up to the whole line.
+pub(crate) fn keeps_its_status_anywhere(
+    rt: &impl Abort,
+    alloc: Global,
+    words: &str,
+) -> Result<(), Fail> {
+    let command = command(alloc, words)?;
+    let line = b"<stdin>:1:4: error: float literal\n".as_slice();
+    for room in 0..=line.len() {
+        keeps_its_status(rt, alloc, &command, line, room);
+    }
+    Ok(())
+}
+
 /// The status stays where the line of the fault can't be written.
 #[test]
 fn keeps_its_status_where_the_fault_line_fails(rt: HostRuntime) -> Result<(), Fail> {
-    let command = command(rt.alloc(), "dump")?;
-    let line = b"<stdin>:1:4: error: float literal\n".as_slice();
-    for room in [0usize, 1, 20] {
-        keeps_its_status(&rt, rt.alloc(), &command, line, room);
-    }
-    Ok(())
-}
-
-/// Asserts that bytes are dumped or refused.
-fn answers(rt: &impl Abort, alloc: Global, command: &Command, bytes: &[u8], at: &str) {
-    let mut reader = reader(bytes);
-    let mut output = writer(alloc);
-    let mut faults = writer(alloc);
-    let status = run(alloc, command, &mut reader, &mut output, &mut faults);
-    same_answer(rt, status <= 1, true, at);
-    same_answer(rt, output.taken().is_empty(), status == 1, at);
-    same_answer(rt, faults.taken().is_empty(), status == 0, at);
-}
-
-/// Asserts that of each front of a source.
-fn answers_each_front(rt: &impl Abort, alloc: Global, command: &Command, source: &str) {
-    let bytes = source.as_bytes();
-    for count in 0..=bytes.len() {
-        answers(rt, alloc, command, &bytes[..count], source);
-    }
-}
-
-/// A source that is cut off anywhere is dumped or refused.
-#[test]
-fn answers_each_front_of_a_source(rt: HostRuntime) -> Result<(), Fail> {
-    let command = command(rt.alloc(), "dump")?;
-    let rows: &[&str] = &[
-        "\u{feff}\u{e9} = '\u{fc}'\n",
-        "if x:\n        y\n\tz\n",
-        "def f(a, /, b: int = 1, *, c=2, **d) -> g: return a\n",
-    ];
-    for source in rows {
-        answers_each_front(&rt, rt.alloc(), &command, source);
-    }
-    Ok(())
+    keeps_its_status_anywhere(&rt, rt.alloc(), "dump")
 }

@@ -181,6 +181,30 @@ fn writes_the_lines_that_were_read_whole(rt: HostRuntime) -> Result<(), Fail> {
     Ok(())
 }
 
+/// The same behind each number of bytes of a source. No block ends there.
+#[test]
+fn writes_the_lines_that_were_read_whole_wherever_a_read_fails(
+    rt: HostRuntime,
+) -> Result<(), Fail> {
+    let source = b"if x:\n\ty\n".as_slice();
+    let first = "0,0-0,0 ENCODING 'utf-8'\n\
+                 1,0-1,2 NAME 'if'\n\
+                 1,3-1,4 NAME 'x'\n\
+                 1,4-1,5 OP ':'\n\
+                 1,5-1,6 NEWLINE '\\n'";
+    let mut both = String::from_str(rt.alloc(), first)?;
+    both.push_str("\n2,0-2,1 INDENT '\\t'\n2,1-2,2 NAME 'y'\n2,2-2,3 NEWLINE '\\n'")?;
+    for given in 0..=source.len() {
+        let entries = match given {
+            0..=5 => "",
+            6..=8 => first,
+            _ => both.as_str(),
+        };
+        lists_read_lines(&rt, rt.alloc(), &source[..given], entries)?;
+    }
+    Ok(())
+}
+
 #[test]
 fn writes_nothing_where_the_reader_fails_before_the_encoding(rt: HostRuntime) -> Result<(), Fail> {
     let source = b"# x\n# coding: latin-1\n";

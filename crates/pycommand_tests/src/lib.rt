@@ -24,6 +24,8 @@ mod failures;
 #[cfg(test)]
 mod fault_lines;
 #[cfg(test)]
+mod fronts;
+#[cfg(test)]
 mod listings;
 #[cfg(test)]
 mod unparses;

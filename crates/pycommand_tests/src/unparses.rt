@@ -1,6 +1,6 @@
 //! What `unparse` writes of a source, and that this gives itself.
 
-use crate::dump_failures::tells_failed_reads;
+use crate::dump_failures::{keeps_its_status_anywhere, tells_failed_reads};
 use crate::dump_limits::joined;
 use crate::dumps::{command, does, does_all, line};
 use crate::expected::stops_anywhere;
@@ -150,4 +150,10 @@ fn stops_within_a_text_where_the_writer_fails(rt: HostRuntime) -> Result<(), Fai
     let command = command(rt.alloc(), "unparse")?;
     stops_anywhere(&rt, rt.alloc(), &command, b"if a: b\n", b"if a:\n    b\n");
     Ok(())
+}
+
+/// The status stays where the line of the fault of a source without a text can't be written.
+#[test]
+fn keeps_its_status_where_the_line_of_a_fault_fails(rt: HostRuntime) -> Result<(), Fail> {
+    keeps_its_status_anywhere(&rt, rt.alloc(), "unparse")
 }
