@@ -164,7 +164,10 @@ fn stops_at_statements(rt: HostRuntime) -> Result<(), Fail> {
     for (count, last, fault) in &[
         (499, "pass\n", ""),
         (500, "pass\n", "501:500: error: too deep"),
+        (501, "pass\n", "501:500: error: too deep"),
         (499, "if x: pass\n", "500:499: error: too deep"),
+        (500, "if x: pass\n", "501:500: error: too deep"),
+        (501, "if x: pass\n", "501:500: error: too deep"),
         (498, "if x: pass\n", ""),
     ] {
         let source = nested(rt.alloc(), *count, last)?;

@@ -1,6 +1,9 @@
 //! The styles of dumps, and the forms of Python 3.12.
 
-use crate::dumps::does_all;
+use crate::dump_limits::joined;
+use crate::dumps::{does, does_all};
+use std::alloc::Global;
+use std::process::Abort;
 use std::test::Fail;
 
 #[test]
@@ -139,4 +142,31 @@ fn dumps_in_styles(rt: HostRuntime) -> Result<(), Fail> {
         ),
     ];
     does_all(&rt, rt.alloc(), rows)
+}
+
+/// Asserts how many blanks stand before the lines of a dump with this indent.
+fn indents(rt: &impl Abort, alloc: Global, indent: u8) -> Result<(), Fail> {
+    let words = format!(in alloc; "dump --indent {indent}")?;
+    let level = usize::from(indent);
+    let text = joined(
+        alloc,
+        &[
+            ("Module(\n", 1),
+            (" ", level),
+            ("body=[\n", 1),
+            ("  ", level),
+            ("Pass()],\n", 1),
+            (" ", level),
+            ("type_ignores=[])", 1),
+        ],
+    )?;
+    does(rt, alloc, &(words.as_str(), "pass\n", text.as_str(), 0, ""))
+}
+
+#[test]
+fn dumps_with_each_indent(rt: HostRuntime) -> Result<(), Fail> {
+    for indent in 0u8..=16 {
+        indents(&rt, rt.alloc(), indent)?;
+    }
+    Ok(())
 }

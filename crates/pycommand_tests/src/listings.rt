@@ -1,9 +1,10 @@
 //! Worked listings: what `tokens` writes of a source, and the fault that it tells.
 
 use crate::expected::{
-    Left, leaves, lists_all, lists_bytes_as, reader, same_bytes, same_status, writer,
+    Left, leaves, lists_all, lists_as, lists_bytes_as, reader, same_bytes, same_status, writer,
 };
 use pycommand::{Command, Tokens, run};
+use std::alloc::Global;
 use std::test::Fail;
 
 /// Each is a source, its encoding as it is shown (empty where nothing is written), its entries but
@@ -294,6 +295,35 @@ fn lists(rt: HostRuntime) -> Result<(), Fail> {
         ),
     ];
     lists_all(&rt, rt.alloc(), rows)
+}
+
+/// Appends the entry of a bracket in the first row, and an LF.
+fn push_bracket(alloc: Global, entries: &mut String, column: u16) -> Result<(), Fail> {
+    let end = u32::from(column) + 1;
+    let entry = format!(in alloc; "1,{column}-1,{end} OP '('\n")?;
+    entries.push_str(entry.as_str())?;
+    Ok(())
+}
+
+/// A listing has no limit on brackets.
+#[test]
+fn lists_many_brackets(rt: HostRuntime) -> Result<(), Fail> {
+    let mut source = String::new(rt.alloc());
+    let mut entries = String::new(rt.alloc());
+    for column in 0u16..5000 {
+        source.push('(')?;
+        push_bracket(rt.alloc(), &mut entries, column)?;
+    }
+    source.push('\n')?;
+    entries.push_str("1,5000-1,5001 NL '\\n'")?;
+    lists_as(
+        &rt,
+        rt.alloc(),
+        source.as_str(),
+        "'utf-8'",
+        entries.as_str(),
+        "2:0: error: EOF in multi-line statement",
+    )
 }
 
 #[test]

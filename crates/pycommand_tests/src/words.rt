@@ -202,6 +202,26 @@ fn reads_words_of_dump(rt: HostRuntime) -> Result<(), Fail> {
     gives_all(&rt, rt.alloc(), rows)
 }
 
+/// Asserts that `dump` is taken with this indent, or that these are bad arguments.
+fn reads_indent(rt: &impl Abort, alloc: Global, indent: u8, taken: bool) -> Result<(), Fail> {
+    let words = format!(in alloc; "dump --indent {indent}")?;
+    let wanted = if taken {
+        format!(in alloc; "dump indent {indent}")?
+    } else {
+        String::from_str(alloc, "bad")?
+    };
+    gives(rt, alloc, words.as_str(), wanted.as_str())
+}
+
+/// The indents are the whole numbers to 16.
+#[test]
+fn reads_each_indent(rt: HostRuntime) -> Result<(), Fail> {
+    for indent in 0u8..=17 {
+        reads_indent(&rt, rt.alloc(), indent, indent <= 16)?;
+    }
+    Ok(())
+}
+
 #[test]
 fn reads_words_of_unparse(rt: HostRuntime) -> Result<(), Fail> {
     let rows = &[
