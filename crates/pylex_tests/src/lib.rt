@@ -7,6 +7,8 @@ mod cursors;
 #[cfg(test)]
 mod expected;
 #[cfg(test)]
+mod forged_cursors;
+#[cfg(test)]
 mod lexemes;
 #[cfg(test)]
 mod lines;

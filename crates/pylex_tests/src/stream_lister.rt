@@ -116,7 +116,7 @@ fn lists_each_alike(
 }
 
 /// The source of a few bytes.
-fn source_of(rt: &impl Abort, alloc: Global, bytes: &[u8]) -> Result<Source, Fail> {
+pub(crate) fn source_of(rt: &impl Abort, alloc: Global, bytes: &[u8]) -> Result<Source, Fail> {
     assert!(rt; bytes.len() < 100);
     let source = decode(alloc, bytes)?;
     Ok(source)

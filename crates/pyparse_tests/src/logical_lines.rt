@@ -1,5 +1,6 @@
 //! The logical lines of sources.
 
+use crate::refusals::bracketed;
 use crate::sources::source_of;
 use pylex::{Exact, ListingError, ListingFault};
 use pyparse::{LiteralText, LogicalLines, ParseFault, Terminal};
@@ -186,6 +187,24 @@ fn the_first_reason_behind_lines(rt: HostRuntime) -> Result<(), Fail> {
         refuses(&rt, rt.alloc(), text, *given, *refusal)?;
     }
     Ok(())
+}
+
+/// A line has at most 600 brackets in one another.
+#[test]
+fn brackets(rt: HostRuntime) -> Result<(), Fail> {
+    let alloc = rt.alloc();
+    let text = bracketed(alloc, 600, "x")?;
+    let source = source_of(alloc, text.as_str())?;
+    let mut lines = LogicalLines::new(alloc, &source)?;
+    assert_eq!(rt; lines.next(), Ok(true));
+    assert_eq!(rt; lines.terminals().len(), 1201);
+    assert_eq!(rt; lines.next(), Ok(false));
+    let text = bracketed(alloc, 601, "x")?;
+    let place = Place {
+        row: 1,
+        column: 600,
+    };
+    refuses(&rt, alloc, text.as_str(), 0, Refusal::TooDeep(place))
 }
 
 #[test]

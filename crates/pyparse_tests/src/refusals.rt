@@ -98,7 +98,7 @@ fn tabs_and_spaces(rt: HostRuntime) -> Result<(), Fail> {
 }
 
 /// A source of `count` brackets round a text.
-fn bracketed(alloc: Global, count: usize, text: &str) -> Result<String, Fail> {
+pub(crate) fn bracketed(alloc: Global, count: usize, text: &str) -> Result<String, Fail> {
     let mut source = String::new(alloc);
     for _ in 0..count {
         source.push_str("(")?;

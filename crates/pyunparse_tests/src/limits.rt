@@ -1,6 +1,6 @@
 //! Modules at the limits of what is accepted.
 
-use crate::modules::text_of;
+use crate::modules::{text_of, writes};
 use std::alloc::Global;
 use std::test::Fail;
 
@@ -37,13 +37,76 @@ fn heights(rt: HostRuntime) -> Result<(), Fail> {
         (499, "", "x", "**x"),
         (499, "not ", "x", ""),
         (499, "x if y else ", "z", ""),
+        (1999, "", "x", " or x"),
         (2000, "x = ", "1", ""),
-        (249, "[(yield ", "x", ")]"),
         (499, "lambda: ", "x", ""),
         (498, "", "if a: pass\n", "elif a: pass\n"),
     ] {
         let text = nested(alloc, *count, *before, *middle, *behind)?;
         text_of(&rt, alloc, text.as_str())?;
+    }
+    Ok(())
+}
+
+/// What is written in no fewer brackets comes back as it was.
+#[test]
+fn brackets_that_stay(rt: HostRuntime) -> Result<(), Fail> {
+    let alloc = rt.alloc();
+    let text = nested(alloc, 249, "[(yield ", "x", ")]")?;
+    let line = format!(in alloc; "{text}\n")?;
+    writes(&rt, alloc, text.as_str(), line.as_str())
+}
+
+/// As many brackets as may be open, in the default of a parameter.
+#[test]
+fn brackets_in_defaults(rt: HostRuntime) -> Result<(), Fail> {
+    let alloc = rt.alloc();
+    for (count, front, back, expected) in &[
+        (599, "def f(a=", "): pass\n", "def f(a=x):\n    pass\n"),
+        (600, "lambda a=", ": a\n", "lambda a=x: a\n"),
+        (600, "lambda *, a=", ": a\n", "lambda *, a=x: a\n"),
+    ] {
+        let default = nested(alloc, *count, "(", "x", ")")?;
+        let text = format!(in alloc; "{front}{default}{back}")?;
+        writes(&rt, alloc, text.as_str(), *expected)?;
+    }
+    Ok(())
+}
+
+/// The largest integer, in three bases.
+#[test]
+fn the_largest_integer(rt: HostRuntime) -> Result<(), Fail> {
+    for text in &[
+        "340282366920938463463374607431768211455",
+        "0xffffffffffffffffffffffffffffffff",
+        "0o3777777777777777777777777777777777777777777",
+    ] {
+        let expected = "340282366920938463463374607431768211455\n";
+        writes(&rt, rt.alloc(), *text, expected)?;
+    }
+    Ok(())
+}
+
+/// Lines `if x:`, so many, each by a text deeper than the one before, and a last line.
+fn blocks(alloc: Global, count: usize, deeper: &str, last: &str) -> Result<String, Fail> {
+    let mut text = String::new(alloc);
+    for row in 0..=count {
+        for _ in 0..row {
+            text.push_str(deeper)?;
+        }
+        text.push_str(if row < count { "if x:\n" } else { last })?;
+    }
+    Ok(text)
+}
+
+/// As many statements in one another as may be, the last one in a block or behind a header.
+#[test]
+fn statements_in_one_another(rt: HostRuntime) -> Result<(), Fail> {
+    let alloc = rt.alloc();
+    let expected = blocks(alloc, 499, "    ", "pass\n")?;
+    for (count, last) in &[(499, "pass\n"), (498, "if x: pass\n")] {
+        let text = blocks(alloc, *count, " ", *last)?;
+        writes(&rt, alloc, text.as_str(), expected.as_str())?;
     }
     Ok(())
 }

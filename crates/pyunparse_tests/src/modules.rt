@@ -28,7 +28,12 @@ pub(crate) fn text_of(rt: &impl Abort, alloc: Global, text: &str) -> Result<Stri
 }
 
 /// A text is written so.
-fn writes(rt: &impl Abort, alloc: Global, text: &str, expected: &str) -> Result<(), Fail> {
+pub(crate) fn writes(
+    rt: &impl Abort,
+    alloc: Global,
+    text: &str,
+    expected: &str,
+) -> Result<(), Fail> {
     let written = text_of(rt, alloc, text)?;
     assert_eq!(rt; written.as_str(), expected);
     Ok(())
