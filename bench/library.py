@@ -10,7 +10,7 @@ TOP = os.path.dirname(os.path.dirname(os.path.abspath(__file__)))
 sys.path.append(os.path.join(TOP, "conformance"))
 
 from dumps import parts_of, prepare, program_outcome  # noqa: E402
-from run import MEGABYTE, ROUNDS, Runs, answer, apart, find_python, library_files, show_machine  # noqa: E402
+from run import MEGABYTE, ROUNDS, Runs, apart, library_files, library_of_python_311, show_machine  # noqa: E402
 from timers import built_program, refuse  # noqa: E402
 
 
@@ -54,10 +54,7 @@ def show_rows(rows, megabytes):
 
 def measure(options, folder, command, peer):
     """Measures a command and the function of `ast` on the library's source; answers the exit status."""
-    python = find_python("3.11")
-    if not python:
-        refuse("no Python 3.11 is found on the PATH or among those of pyenv: the source is made of its library")
-    library = answer(python, "import sysconfig; print(sysconfig.get_path('stdlib'))").strip()
+    python, library = library_of_python_311()
     path = os.path.join(folder, "library.py")
     apart(lambda: write_library(options.program, library, path, options.size * MEGABYTE))
     code = f"import ast,sys;{peer}(ast.parse(sys.stdin.read()))"

@@ -137,12 +137,12 @@ def good_sources(library, wanted, size):
             yield data
 
 
-def write_sources(folder, library, name, wanted):
-    """Writes the sources of all sizes. One of 10 MB begins as that of 1 MB does; where files run out, they come again."""
+def write_sources(folder, library, name, wanted, sizes=SIZES):
+    """Writes the sources of some sizes. One of 10 MB begins as that of 1 MB does; where files run out, they come again."""
     pieces = list(good_sources(library, wanted, 10 * MEGABYTE))
     if not pieces:
         raise ValueError(f"{library} has no file to make a source of")
-    for size in SIZES:
+    for size in sizes:
         left = size * MEGABYTE
         with open(source_path(folder, name, size), "wb") as file:
             while left > 0:
@@ -183,6 +183,14 @@ def find_python(version):
         if found and found.split()[0] == version:
             return found.split()[1]
     return None
+
+
+def library_of_python_311():
+    """The path of a Python 3.11, and the folder of its library, of which the sources are made."""
+    python = find_python("3.11")
+    if not python:
+        refuse("no Python 3.11 is found on the PATH or among those of pyenv: sources are made of its library")
+    return python, answer(python, "import sysconfig; print(sysconfig.get_path('stdlib'))").strip()
 
 
 def programs(options, python):
@@ -246,10 +254,7 @@ def measure_source(options, peers, folder, name):
 
 def measure(options, folder):
     """Makes the sources, measures all and prints the table; answers the exit status."""
-    python = find_python("3.11")
-    if not python:
-        refuse("no Python 3.11 is found on the PATH or among those of pyenv: the sources are made of its library")
-    library = answer(python, "import sysconfig; print(sysconfig.get_path('stdlib'))").strip()
+    python, library = library_of_python_311()
     show_machine()
     kinds = {"ASCII": bytes.isascii, "past ASCII": lambda data: not data.isascii() and is_text(data)}
     for name, wanted in kinds.items():

@@ -38,10 +38,7 @@ def told(timer, call, data):
 
 def pieces(timer):
     """The files of the library that have tokens."""
-    python = run.find_python("3.11")
-    if not python:
-        refuse("no Python 3.11 is found on the PATH or among those of pyenv: the source is made of its library")
-    library = run.answer(python, "import sysconfig; print(sysconfig.get_path('stdlib'))").strip()
+    _, library = run.library_of_python_311()
     found = list(run.good_sources(library, lambda data: told(timer, "terminals", data) is not None, SIZE))
     if not found:
         refuse(f"{library} has no file with tokens")
