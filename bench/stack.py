@@ -57,7 +57,7 @@ def least_stack(program, command, file):
 def main():
     parser = argparse.ArgumentParser(description=__doc__.split("\n", 1)[0])
     parser.add_argument("program", nargs="*")
-    programs = parser.parse_args().program or [built_program(None)]
+    programs = [built_program(one) for one in parser.parse_args().program or [None]]
     status = 0
     for name, text in sources():
         with tempfile.NamedTemporaryFile("w", suffix=".py") as file:
