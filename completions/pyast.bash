@@ -2,7 +2,7 @@
 _pyast() {
   local word=${COMP_WORDS[COMP_CWORD]} before=${COMP_WORDS[COMP_CWORD - 1]} command=${COMP_WORDS[1]} words=
   if [ "$COMP_CWORD" -eq 1 ]; then
-    mapfile -t COMPREPLY < <(compgen -W 'tokens dump unparse help -h --help' -- "$word")
+    mapfile -t COMPREPLY < <(compgen -W 'tokens dump unparse help -h --help -V --version' -- "$word")
     return
   fi
   case $before in

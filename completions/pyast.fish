@@ -4,6 +4,7 @@ complete -c pyast -n __fish_use_subcommand -f -a dump -d 'Dump the tree of a sou
 complete -c pyast -n __fish_use_subcommand -f -a unparse -d 'Write the tree of a source as source text'
 complete -c pyast -n __fish_use_subcommand -f -a help -d 'Print help'
 complete -c pyast -s h -l help -d 'Print help'
+complete -c pyast -n __fish_use_subcommand -s V -l version -d 'Print version'
 complete -c pyast -n '__fish_seen_subcommand_from tokens' -s e -d 'Show operators by their exact names'
 complete -c pyast -n '__fish_seen_subcommand_from tokens' -l count -x -d 'Stop after N entries, and write a cursor to go on from'
 complete -c pyast -n '__fish_seen_subcommand_from tokens' -l resume -x -d 'Go on behind a cursor of the same source'

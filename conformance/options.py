@@ -1,6 +1,6 @@
 #!/usr/bin/env python3
-"""Checks that the manual page and the completions name exactly the commands and options that the program's help shows, and that the help of
-a command begins its usage with the program's name.
+"""Checks that the manual page and the completions name exactly the options that the program's help shows, of itself and of each command, and
+that the help of a command begins its usage with the program's name.
 
     conformance/options.py [--program PATH]
 
@@ -15,7 +15,9 @@ import sys
 
 TOP = os.path.dirname(os.path.dirname(os.path.abspath(__file__)))
 COMMANDS = ("tokens", "dump", "unparse")
-OPTION = re.compile(r"(?<![\w-])(--[a-z][a-z0-9]*|-[a-z])(?![\w-])")
+# What stands for the program without a command.
+ALONE = "pyast"
+OPTION = re.compile(r"(?<![\w-])(--[a-z][a-z0-9]*|-[a-zA-Z])(?![\w-])")
 
 
 def shown(program, words):
@@ -30,7 +32,8 @@ def options_in(text):
 
 def of_help(program):
     """The options of each command, as the program's help shows them."""
-    return {command: options_in(shown(program, [command]).split("Options:", 1)[1]) for command in COMMANDS}
+    words = {ALONE: [], **{command: [command] for command in COMMANDS}}
+    return {name: options_in(shown(program, given).split("Options:", 1)[1]) for name, given in words.items()}
 
 
 def of_manual(text):
@@ -38,31 +41,34 @@ def of_manual(text):
     text = text.replace("\\-", "-")
     synopsis = text.split(".SH SYNOPSIS", 1)[1].split(".SH", 1)[0]
     parts = {part.split()[0]: options_in(part) for part in synopsis.split(".B pyast ")[1:]}
-    help_options = options_in(text.split(".SH OPTIONS", 1)[1].split(".SH", 1)[0].rsplit(".TP", 1)[1])
-    return {command: parts[command] | help_options for command in COMMANDS}
+    for_help, for_version = map(options_in, text.split(".SH OPTIONS", 1)[1].split(".SH", 1)[0].rsplit(".TP", 2)[1:])
+    return {ALONE: for_help | for_version, **{command: parts[command] | for_help for command in COMMANDS}}
 
 
 def of_bash(text):
     """The same by the completions for bash."""
-    return {command: options_in(re.search(rf"{command}\) words='([^']*)'", text)[1]) for command in COMMANDS}
+    alone = re.search(r"compgen -W '([^']*)'", text)[1]
+    return {ALONE: options_in(alone), **{command: options_in(re.search(rf"{command}\) words='([^']*)'", text)[1]) for command in COMMANDS}}
 
 
 def of_zsh(text):
     """The same by the completions for zsh."""
+    parts = {ALONE: re.search(r"CURRENT == 2 \)\); then\n(.*?)return", text, re.DOTALL)[1]}
+    parts |= {command: re.search(rf"\n    {command}\)\n(.*?);;", text, re.DOTALL)[1] for command in COMMANDS}
     found = {}
-    for command in COMMANDS:
-        part = re.search(rf"\n    {command}\)\n(.*?);;", text, re.DOTALL)[1]
+    for command, part in parts.items():
         found[command] = set(re.findall(r"'(--?[a-z0-9]+)\[", part)) | options_in(" ".join(re.findall(r"\{([^}]*)\}", part)).replace(",", " "))
     return found
 
 
 def of_fish(text):
     """The same by the completions for fish."""
-    found = {command: set() for command in COMMANDS}
+    found = {name: set() for name in (ALONE, *COMMANDS)}
     for line in text.splitlines():
         names = {f"-{name}" for name in re.findall(r" -s (\w)\b", line)} | {f"--{name}" for name in re.findall(r" -l (\w+)", line)}
         seen = re.search(r"__fish_seen_subcommand_from ([a-z ]+)'", line)
-        for command in seen[1].split() if seen else COMMANDS:
+        everywhere = [ALONE] if "__fish_use_subcommand" in line else [ALONE, *COMMANDS]
+        for command in seen[1].split() if seen else everywhere:
             if command in found:
                 found[command] |= names
     return found
@@ -79,7 +85,7 @@ def main():
     for name, read in (("docs/pyast.1", of_manual), ("completions/pyast.bash", of_bash), ("completions/_pyast", of_zsh), ("completions/pyast.fish", of_fish)):
         with open(os.path.join(TOP, name), encoding="utf-8") as file:
             found = read(file.read())
-        for command in COMMANDS:
+        for command in (ALONE, *COMMANDS):
             if found[command] != due[command]:
                 well = False
                 print(f"{name}: {command}: {sorted(found[command])} in place of {sorted(due[command])}")

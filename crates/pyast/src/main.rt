@@ -36,10 +36,11 @@ fn perform(rt: &HostRuntime, command: &Command) -> u8 {
     }
 }
 
-/// Tells why the words gave no command. Help that was asked for goes to the standard output.
+/// Tells why the words gave no command. Help or the version, where it was asked for, goes to the
+/// standard output.
 fn refuse(rt: &HostRuntime, fault: UsageFault) -> u8 {
     let code = match fault {
-        UsageFault::HelpAsked(text) => {
+        UsageFault::HelpAsked(text) | UsageFault::VersionAsked(text) => {
             let mut writer = Counted::new(rt.stdout());
             match write_all(&mut writer, text.as_bytes()) {
                 Ok(()) => return 0,

@@ -63,7 +63,7 @@ fn push_file(given: &mut String, file: &Option<String>) -> Result<(), Fail> {
     Ok(())
 }
 
-/// What words give: `bad`, `malformed`, `help`, or the command and what it has.
+/// What words give: `bad`, `malformed`, `help`, `version`, or the command and what it has.
 fn answer(rt: &impl Abort, alloc: Global, words: &[String]) -> Result<String, Fail> {
     let mut given = String::new(alloc);
     match Command::read(alloc, words) {
@@ -75,6 +75,10 @@ fn answer(rt: &impl Abort, alloc: Global, words: &[String]) -> Result<String, Fa
         Err(UsageFault::HelpAsked(text)) => {
             assert!(rt; text.as_str().contains("pyast"));
             given.push_str("help")?;
+        }
+        Err(UsageFault::VersionAsked(text)) => {
+            assert!(rt; text.as_str() == "pyast 1.0.0\n", "is {text}");
+            given.push_str("version")?;
         }
         Err(UsageFault::Memory) => given.push_str("memory")?,
     }
@@ -149,7 +153,12 @@ fn reads_words(rt: HostRuntime) -> Result<(), Fail> {
         ("tokens --indent 2", "bad"),
         ("tokens --bare", "bad"),
         ("tokens --py312", "bad"),
-        ("--version", "bad"),
+        ("--version", "version"),
+        ("-V", "version"),
+        ("--version tokens", "version"),
+        ("tokens --version", "bad"),
+        ("tokens -V", "bad"),
+        ("-v", "bad"),
         ("help", "help"),
         ("help tokens", "help"),
         ("-h", "help"),

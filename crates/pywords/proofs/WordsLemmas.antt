@@ -11,7 +11,7 @@ use Rattle.clap.specs.Walk.{Row, first_of}
 use Rattle.clap.specs.declared.builder.command.Command.{Command as ClapCommand}
 use Rattle.clap.specs.declared.error.Error.{Error}
 use Rattle.clap.specs.declared.error.kind.ErrorKind.{ErrorKind}
-use Rattle.clap.specs.declared.error.kind.ErrorKind.TheVariants.{DisplayHelp, OutOfMemory}
+use Rattle.clap.specs.declared.error.kind.ErrorKind.TheVariants.{DisplayHelp, DisplayVersion, OutOfMemory}
 use Rattle.clap.specs.declared.parser.matches.ArgMatches.{ArgMatches}
 use Rattle.pylex.specs.CursorTexts.{IsWellFormed}
 use Rattle.pylex.specs.Cursors.{CursorParts, cursor_text}
@@ -71,27 +71,39 @@ misses_cursor found word cursor_faults.Memory is n m = tt
 none_among : (kind : ErrorKind) (words : List (List ℕ)) → fault_of grammar words ≡ [] → IsAmong kind (fault_of grammar words) → ⊥
 none_among kind words none among = rw none at among
 
-only_help : (kind : ErrorKind) (words : List (List ℕ)) → kind ≢ DisplayHelp → fault_of grammar words ≡ DisplayHelp ∷ [] → IsAmong kind (fault_of grammar words) → ⊥
-only_help kind words other help among = by_first (rw help at among)
+only_one : (kind one : ErrorKind) (words : List (List ℕ)) → kind ≢ one → fault_of grammar words ≡ one ∷ [] → IsAmong kind (fault_of grammar words) → ⊥
+only_one kind one words other is among = by_first (rw is at among)
   where
-    by_first : IsAmong kind (DisplayHelp ∷ []) → ⊥
+    by_first : IsAmong kind (one ∷ []) → ⊥
     by_first (inl e) = other e
     by_first (inr n) = n
 
 -- a refusal by the grammar
 pub refuses_kind : (words : List (List ℕ)) (kind : ErrorKind) (fault : UsageFault) → Explains kind fault → (kind ≡ OutOfMemory) ⊎ IsAmong kind (fault_of grammar words) → Refuses words fault
-refuses_kind words kind faults.BadArguments x (inl e) = absurd (x.1 e)
-refuses_kind words kind faults.BadArguments x (inr among) = (λ command given. none_among kind words given.0 among, λ help. only_help kind words x.0 help among)
+refuses_kind words kind faults.BadArguments x (inl e) = absurd (x.2 e)
+refuses_kind words kind faults.BadArguments x (inr among) = record {
+  no_command = λ command given. none_among kind words given.0 among;
+  not_by_cursor = λ malformed. none_among kind words malformed.0 among;
+  not_help = λ help. only_one kind DisplayHelp words x.0 help among;
+  not_version = λ version. only_one kind DisplayVersion words x.1 version among;
+}
 refuses_kind words kind (faults.HelpAsked text) x (inl e) = let same : DisplayHelp ≡ OutOfMemory = sym x ∙ e in cc
 refuses_kind words kind (faults.HelpAsked text) x (inr among) = rw (← x) among
+refuses_kind words kind (faults.VersionAsked text) x (inl e) = let same : DisplayVersion ≡ OutOfMemory = sym x ∙ e in cc
+refuses_kind words kind (faults.VersionAsked text) x (inr among) = rw (← x) among
 refuses_kind words kind faults.MalformedCursor x among = absurd x
 refuses_kind words kind faults.Memory x among = tt
 
 -- a refusal by what was found
 pub refuses_found : (words : List (List ℕ)) (sub : Option (List ℕ × List Row)) (fault : UsageFault) → fault_of grammar words ≡ [] → sub ≡ subcommand_of grammar words → MissesCommand sub fault → Refuses words fault
-refuses_found words sub faults.BadArguments none is misses =
-    (λ command given. misses command (subst (λ s. IsCommand s command) (sym is) given.1), λ help. let e : [] ≡ DisplayHelp ∷ [] = sym none ∙ help in cc)
+refuses_found words sub faults.BadArguments none is misses = record {
+  no_command = λ command given. misses.0 command (subst (λ s. IsCommand s command) (sym is) given.1);
+  not_by_cursor = λ malformed. misses.1 malformed.1.0 (is ∙ malformed.1.1) malformed.1.2;
+  not_help = λ help. let e : [] ≡ DisplayHelp ∷ [] = sym none ∙ help in cc;
+  not_version = λ version. let e : [] ≡ DisplayVersion ∷ [] = sym none ∙ version in cc;
+}
 refuses_found words sub (faults.HelpAsked text) none is misses = absurd misses
+refuses_found words sub (faults.VersionAsked text) none is misses = absurd misses
 refuses_found words sub faults.MalformedCursor none is misses = (none, (misses.0, sym is ∙ misses.1, misses.2))
 refuses_found words sub faults.Memory none is misses = tt
 

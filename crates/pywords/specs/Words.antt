@@ -8,7 +8,7 @@ use Rattle.clap.specs.Values.{IsUnsignedIn}
 use Rattle.clap.specs.Walk.{Row, Rule, first_of, one_of}
 use Rattle.clap.specs.declared.builder.action.ArgAction.TheVariants.{SetTrue}
 use Rattle.clap.specs.declared.builder.value_parser.ValueParser.TheVariants.{Unsigned}
-use Rattle.clap.specs.declared.error.kind.ErrorKind.TheVariants.{DisplayHelp}
+use Rattle.clap.specs.declared.error.kind.ErrorKind.TheVariants.{DisplayHelp, DisplayVersion}
 use Rattle.pylex.specs.CursorTexts.{IsWellFormed}
 use Rattle.pylex.specs.Cursors.{CursorParts, cursor_text}
 use Rattle.pylex.specs.declared.cursor.CursorFault.{CursorFault}
@@ -65,10 +65,10 @@ dump_shape = record (new_shape (codes "dump")) { rules = number_rule (codes "ind
 abbrev pub unparse_shape : Shape
 unparse_shape = record (new_shape (codes "unparse")) { rules = flag_rule (codes "py312") ∷ file_rule ∷ [] }
 
--- what the words after the program's name may be: a subcommand with its arguments
+-- what the words after the program's name may be: a subcommand with its arguments, or `--version`
 abbrev pub grammar : App
 grammar = record {
-  top = record (new_shape (codes "pyast")) { is_leaf = false; no_binary_name = true; subcommand_required = true };
+  top = record (new_shape (codes "pyast")) { is_leaf = false; no_binary_name = true; subcommand_required = true; has_version = true };
   subs = tokens_shape ∷ dump_shape ∷ unparse_shape ∷ [];
 }
 
@@ -145,12 +145,24 @@ of_cursor cursor_faults.Text = faults.MalformedCursor
 of_cursor cursor_faults.AnotherSource = faults.MalformedCursor
 of_cursor cursor_faults.Memory = faults.Memory
 
--- Why the words give no command: they are no command's, and don't only ask for help; they may ask for help; or all is good but
--- the word that was found for the cursor. Want of memory says nothing of them.
+-- the words are those of `tokens`, and good but for the cursor
+abbrev pub IsMalformed : List (List ℕ) → Type 0
+IsMalformed words = (fault_of grammar words ≡ []) × ((found : List Row) × (subcommand_of grammar words ≡ Some (codes "tokens", found)) × LacksCursor found)
+
+-- the words are no command's, for another reason than the cursor, and don't only ask for help or for the version
+pub record AreBad (words : List (List ℕ)) : Type 0 where
+  pub no_command : (command : Command) → Gives words command → ⊥
+  pub not_by_cursor : IsMalformed words → ⊥
+  pub not_help : fault_of grammar words ≢ DisplayHelp ∷ []
+  pub not_version : fault_of grammar words ≢ DisplayVersion ∷ []
+
+-- Why the words give no command: they are bad; they may ask for help, or for the version; or all is good but the word that was found
+-- for the cursor. Want of memory says nothing of them.
 abbrev pub Refuses : List (List ℕ) → UsageFault → Type 0
-Refuses words faults.BadArguments = ((command : Command) → Gives words command → ⊥) × (fault_of grammar words ≢ DisplayHelp ∷ [])
+Refuses words faults.BadArguments = AreBad words
 Refuses words (faults.HelpAsked text) = IsAmong DisplayHelp (fault_of grammar words)
-Refuses words faults.MalformedCursor = (fault_of grammar words ≡ []) × ((found : List Row) × (subcommand_of grammar words ≡ Some (codes "tokens", found)) × LacksCursor found)
+Refuses words (faults.VersionAsked text) = IsAmong DisplayVersion (fault_of grammar words)
+Refuses words faults.MalformedCursor = IsMalformed words
 Refuses words faults.Memory = ⊤
 
 -- ---- The file.

@@ -33,6 +33,9 @@ pub enum UsageFault {
     /// They ask for help, which is this text.
     #[error("{0}")]
     HelpAsked(String),
+    /// They ask for the program's version, which is this text.
+    #[error("{0}")]
+    VersionAsked(String),
     /// They are of such a form, but what they give as a cursor isn't the text of one.
     #[error("malformed cursor")]
     MalformedCursor,
@@ -67,6 +70,9 @@ impl From<CursorFault> for UsageFault {
         }
     }
 }
+
+/// The version of the program.
+const VERSION: &str = "1.0.0";
 
 /// The largest count of entries that can be asked for.
 const LARGEST_COUNT: u32 = 1_000_000_000;
@@ -217,6 +223,7 @@ fn grammar<'a>(alloc: Global) -> Result<clap::Command<'a>, AllocError>
     clap::Command::new(alloc, "pyast")
         .bin_name("pyast")?
         .about("List, dump and unparse Python source")
+        .version(VERSION)
         .no_binary_name(true)
         .subcommand_required(true)
         .subcommand(tokens_form(alloc)?)?
@@ -231,6 +238,10 @@ fn usage_fault(alloc: Global, error: &clap::Error) -> UsageFault
     match error.kind() {
         ErrorKind::DisplayHelp => match error.to_string(alloc) {
             Ok(text) => UsageFault::HelpAsked(text),
+            Err(_) => UsageFault::Memory,
+        },
+        ErrorKind::DisplayVersion => match error.to_string(alloc) {
+            Ok(text) => UsageFault::VersionAsked(text),
             Err(_) => UsageFault::Memory,
         },
         ErrorKind::OutOfMemory => UsageFault::Memory,
@@ -374,7 +385,8 @@ impl Command {
     ///
     /// They are `tokens [-e] [--count N] [--resume CURSOR] [FILE]`, `dump [--indent N] [--bare]
     /// [--py312] [FILE]` or `unparse [--py312] [FILE]`, with the options in any order. All others
-    /// are bad arguments, but for those that ask for help: `help`, `-h` and `--help`.
+    /// are bad arguments, but for those that ask for help, `help`, `-h` and `--help`, or for the
+    /// program's version, `-V` and `--version`.
     ///
     /// # Errors
     ///

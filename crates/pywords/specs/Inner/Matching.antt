@@ -6,7 +6,7 @@ use Rattle.clap.specs.declared.builder.arg.Arg.{Arg}
 use Rattle.clap.specs.declared.builder.command.Command.{Command as ClapCommand}
 use Rattle.clap.specs.declared.builder.command.Command.TheViews.{out-Command}
 use Rattle.clap.specs.declared.error.kind.ErrorKind.{ErrorKind}
-use Rattle.clap.specs.declared.error.kind.ErrorKind.TheVariants.{DisplayHelp, OutOfMemory}
+use Rattle.clap.specs.declared.error.kind.ErrorKind.TheVariants.{DisplayHelp, DisplayVersion, OutOfMemory}
 use Rattle.pywords.specs.declared.command.Command.{Command}
 use Rattle.pywords.specs.declared.command.Dump.{Dump}
 use Rattle.pywords.specs.declared.command.Tokens.{Tokens}
@@ -37,10 +37,10 @@ MissesCursor found fault = ⊥
 
 -- why what was found gives no arguments of `tokens`
 abbrev pub MissesTokens : List Row → UsageFault → Type 0
-MissesTokens found faults.BadArguments = (asked : Tokens) → IsTokens found asked → ⊥
+MissesTokens found faults.BadArguments = ((asked : Tokens) → IsTokens found asked → ⊥) × (LacksCursor found → ⊥)
 MissesTokens found faults.MalformedCursor = LacksCursor found
 MissesTokens found faults.Memory = ⊤
-MissesTokens found (faults.HelpAsked text) = ⊥
+MissesTokens found fault = ⊥
 
 -- why what was found gives no arguments of `dump`
 abbrev pub MissesDump : List Row → UsageFault → Type 0
@@ -50,14 +50,15 @@ MissesDump found fault = ⊥
 
 -- why a subcommand's name and what was found behind it give no command
 abbrev pub MissesCommand : Option (List ℕ × List Row) → UsageFault → Type 0
-MissesCommand sub faults.BadArguments = (command : Command) → IsCommand sub command → ⊥
+MissesCommand sub faults.BadArguments = ((command : Command) → IsCommand sub command → ⊥) × ((found : List Row) → sub ≡ Some (codes "tokens", found) → LacksCursor found → ⊥)
 MissesCommand sub faults.MalformedCursor = (found : List Row) × (sub ≡ Some (codes "tokens", found)) × LacksCursor found
 MissesCommand sub faults.Memory = ⊤
-MissesCommand sub (faults.HelpAsked text) = ⊥
+MissesCommand sub fault = ⊥
 
 -- what a refusal of this kind is told as
 abbrev pub Explains : ErrorKind → UsageFault → Type 0
-Explains kind faults.BadArguments = (kind ≢ DisplayHelp) × (kind ≢ OutOfMemory)
+Explains kind faults.BadArguments = (kind ≢ DisplayHelp) × (kind ≢ DisplayVersion) × (kind ≢ OutOfMemory)
 Explains kind (faults.HelpAsked text) = kind ≡ DisplayHelp
+Explains kind (faults.VersionAsked text) = kind ≡ DisplayVersion
 Explains kind faults.Memory = ⊤
 Explains kind faults.MalformedCursor = ⊥
