@@ -22,4 +22,5 @@ pub mod Types
 pub mod Refusals
 pub mod Depths
 pub mod Laws
+pub mod LineLaws
 pub mod SourceLaws

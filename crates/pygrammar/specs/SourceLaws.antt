@@ -1,5 +1,5 @@
--- What holds of logical lines, of their blocks, and of the answer for a source.
-use Rattle.std.specs.Prelude.{◌≡◌, ◌⊎◌, ◌↔◌, ℕ, ◌<◌, ◌≤◌, true, List, [], length, Contains}
+-- What holds of the forms of logical lines, of their blocks, and of the answer for a source.
+use Rattle.std.specs.Prelude.{◌≡◌, ◌⊎◌, ◌↔◌, ℕ, ◌<◌, true, List, [], length, Contains}
 use Rattle.pysource.specs.declared.places.Place.{Place}
 use Rattle.pylex.specs.Listing.{Source}
 use Rattle.pynode.specs.declared.profiles.Profile.{Profile}
@@ -9,13 +9,8 @@ use Rattle.pyheight.specs.Heights.{statement_height}
 use Rattle.pytoken.specs.Tokens.{lines}
 use Rattle.pytoken.specs.Tokens as Tokens
 use Rattle.pytoken.specs.Terminals.{Terminal}
-use Rattle.pygrammar.specs.Reader.{Found, NoForm, TooDeep}
 use Rattle.pygrammar.specs.Lines.{Line, Form, untyped}
 use Rattle.pygrammar.specs.Forms.{FormOf}
-use Rattle.pygrammar.specs.LineReader.{read_line, read_line_to}
-use Rattle.pygrammar.specs.FormHeights.{form_height}
-use Rattle.pygrammar.specs.LimitedLines.{limit_line}
-use Rattle.pygrammar.specs.Meets.{LineMeets}
 use Rattle.pygrammar.specs.Blocks.{Block, Fault, FirstFault}
 use Rattle.pygrammar.specs.Types.{is_module_untyped}
 use Rattle.pygrammar.specs.Refusals.{Code, Reason, at, HasNone, Formed, FirstDeep, Accepted, Refused}
@@ -24,40 +19,13 @@ use Rattle.pygrammar.specs.Refusals.{Code, Reason, at, HasNone, Formed, FirstDee
 abbrev pub FormsAreUnique : Type 0
 FormsAreUnique = (profile : Profile) (ts : List Terminal) (f g : Form) → FormOf profile ts f → FormOf profile ts g → f ≡ g
 
--- the reader of a line gives its form, and none where there is none
-abbrev pub LineReaderIsExact : Type 0
-LineReaderIsExact = (profile : Profile) (ts : List Terminal) (f : Form) → FormOf profile ts f ↔ (read_line profile ts ≡ Found f [])
-
--- it gives the whole line's form, or says that there is none
-abbrev pub FormsAreDecided : Type 0
-FormsAreDecided = (profile : Profile) (ts : List Terminal) →
-    ((f : Form) × (read_line profile ts ≡ Found f []) × FormOf profile ts f) ⊎ ((read_line profile ts ≡ NoForm) × ((f : Form) → FormOf profile ts f → ⊥))
-
--- to a depth it answers the same or goes too deep, and it goes too deep in no line that has fewer terminals
-abbrev pub DepthIsKept : Type 0
-DepthIsKept = (profile : Profile) (d : ℕ) (ts : List Terminal) →
-    ((read_line_to profile d ts ≡ TooDeep) ⊎ (read_line_to profile d ts ≡ read_line profile ts)) × (length ts < d → read_line_to profile d ts ≡ TooDeep → ⊥)
-
--- within a height it gives a line's form exactly where that is no higher
-abbrev pub LineLimitIsExact : Type 0
-LineLimitIsExact = (profile : Profile) (d : ℕ) (ts : List Terminal) (f : Form) → (FormOf profile ts f × (form_height f ≤ d)) ↔ (limit_line profile d ts ≡ Found f [])
-
--- and each of its answers means what `LineMeets` says
-abbrev pub LineLimitMeets : Type 0
-LineLimitMeets = (profile : Profile) (d : ℕ) (ts : List Terminal) → LineMeets profile d ts (limit_line profile d ts)
-
 -- the forms of Python 3.11 are those of 3.12 without types
 abbrev pub TypesAreNew : Type 0
 TypesAreNew = (ts : List Terminal) (f : Form) → FormOf Py311 ts f ↔ (FormOf Py312 ts f × (untyped f ≡ true))
 
 -- the laws of the forms of a line
-pub record LinesAreLawful : Type 0 where
+pub record FormsAreLawful : Type 0 where
   pub unique : FormsAreUnique
-  pub exact : LineReaderIsExact
-  pub decided : FormsAreDecided
-  pub deep : DepthIsKept
-  pub limited : LineLimitIsExact
-  pub meets : LineLimitMeets
   pub new : TypesAreNew
 
 -- lines have at most one tree

@@ -3,6 +3,7 @@
 ghost use Rattle.std.specs.Prelude.{◌≤◌, MatchResult, map};
 ghost use Rattle.pygrammar.specs.Forms.{FormOf};
 ghost use Rattle.pygrammar.specs.FormHeights.{form_height};
+ghost use Rattle.pygrammar.specs.LineLaws.{LinesAreLawful};
 ghost use Rattle.pyvalue.specs.Terminals.{terminal};
 ghost use Rattle.pyform.specs.FormOf.{form_of};
 ghost use Rattle.pyline.specs.Lines.{Refused};
@@ -21,12 +22,13 @@ use std::alloc::Global;
 ///
 /// [`Stop::NoForm`]: they are none. [`Stop::TooDeep`]: they are none of this height; where they are
 /// none at all, there are more of them than [`MOST_HEIGHT`]. [`Stop::Memory`].
-#[tactic(auto, using(crate::proofs::Wholes::line_failed, crate::proofs::Wholes::line_more, crate::proofs::Wholes::line_high, crate::proofs::Wholes::line_found))]
+#[tactic(auto, using(crate::proofs::Wholes::line_failed, crate::proofs::Wholes::line_more, crate::proofs::Wholes::line_high, crate::proofs::Wholes::line_found, pygrammar::proofs::Callers::Lines::lines_are_lawful))]
 pub fn read_line(alloc: Global, tokens: &[Terminal], profile: Profile) -> Result<Form, Stop>
-    ensures { MatchResult result
+    ensures form { MatchResult result
         (λ f. FormOf profile (map terminal tokens.now) (form_of f)
         × (form_height (form_of f) ≤ 500))
         (λ s. Refused s profile (map terminal tokens.now)) }
+    ensures lawful { LinesAreLawful }
 {
     let read = read_front(alloc, tokens, profile, Depth::of(tokens))?;
     if read.next != tokens.len() {

@@ -21,7 +21,7 @@ use Rattle.pygrammar.specs.Refusals.{Code, Indentation, at, StartsAt, at_end, is
 use Rattle.pygrammar.specs.Refusals as code
 use Rattle.pygrammar.specs.Reading.{Fine, run, start}
 use Rattle.pygrammar.proofs.Callers.Blocks.{formed_flat, deep_is_high}
-use Rattle.pygrammar.proofs.Callers.SourceLaw.{lines_are_lawful}
+use Rattle.pygrammar.proofs.Callers.Lines.{lines_are_lawful}
 use Rattle.pyblock.specs.declared.blocks.Blocks.{Blocks}
 use Rattle.pyblock.specs.StateOf.{state_of}
 use Rattle.pyoutline.specs.declared.outlines.Outline.{Outline}

@@ -6,7 +6,7 @@ ghost use Rattle.std.specs.Prelude.{IfOk, IfErr};
 ghost use Rattle.pylex.specs.Listing.{in_characters};
 ghost use Rattle.pynode.specs.TreeOf.{module_of};
 ghost use Rattle.pygrammar.specs.Refusals.{Accepted};
-ghost use Rattle.pygrammar.specs.SourceLaws.{LinesAreLawful, BlocksAreLawful, AnswersAreLawful};
+ghost use Rattle.pygrammar.specs.SourceLaws.{FormsAreLawful, BlocksAreLawful, AnswersAreLawful};
 ghost use Rattle.pyparse.specs.Modules.{Refuses};
 
 use crate::faults::ParseFault;
@@ -30,12 +30,12 @@ use std::alloc::Global;
 /// that has none at any height may be told either; else by the first line that is faulty among the
 /// others, or the end; else by the first line in which a statement begins with 500 around it,
 /// `TooDeep`. Its place is where the line starts, that of the end where ENDMARKER does.
-#[tactic(auto, using(pygrammar::proofs::Callers::SourceLaw::lines_are_lawful, pygrammar::proofs::Callers::SourceLaw::blocks_are_lawful, pygrammar::proofs::Callers::SourceLaw::answers_are_lawful))]
+#[tactic(auto, using(pygrammar::proofs::Callers::SourceLaw::forms_are_lawful, pygrammar::proofs::Callers::SourceLaw::blocks_are_lawful, pygrammar::proofs::Callers::SourceLaw::answers_are_lawful))]
 pub fn parse(alloc: Global, source: &Source, profile: Profile) -> Result<Module, ParseFault>
     ensures accepted { IfOk result
         (λ m. Accepted profile (in_characters source.now) (module_of m)) }
     ensures refused { IfErr result (Refuses profile (in_characters source.now)) }
-    ensures forms { LinesAreLawful }
+    ensures forms { FormsAreLawful }
     ensures trees { BlocksAreLawful }
     ensures answers { AnswersAreLawful }
 {

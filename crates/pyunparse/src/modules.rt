@@ -4,6 +4,7 @@ ghost use Rattle.std.specs.Prelude.{◌≡◌, IfOk};
 ghost use Rattle.std.specs.Str.{encode_utf8_all};
 ghost use Rattle.std.specs.String.{string_bytes};
 ghost use Rattle.pynode.specs.TreeOf.{module_of};
+ghost use Rattle.pywritten.specs.Laws.{WritingIsShortest};
 ghost use Rattle.pywritten.specs.Modules.{module_text};
 ghost use Rattle.pyunparse.specs.RoundTrips.{RoundTrips};
 
@@ -16,11 +17,13 @@ use std::alloc::{AllocError, Global};
 /// place allows.
 ///
 /// Each line ends in a line feed; an empty module has the empty text. The only error is of memory.
+#[tactic(auto, using(pywritten::proofs::Callers::Law::writing_is_shortest))]
 pub fn unparse(alloc: Global, module: &Module) -> Result<String, AllocError>
     ensures text { IfOk result
         (λ text. string_bytes text ≡ encode_utf8_all (module_text (module_of «module».now))) }
     ensures round_trip { IfOk result
         (λ text. RoundTrips (string_bytes text) (module_of «module».now)) }
+    ensures fewest { WritingIsShortest }
 {
     let mut out = TextWriter::new(alloc);
     write_stmts(&mut out, &module.body)?;

@@ -89,6 +89,14 @@ not_atom _ = true
 abbrev pub BracketsAreWithinHeight : Type 0
 BracketsAreWithinHeight = (l : Level) (e : Expr) → not_atom l ≡ true → brackets (terminals l e) ≤ height e
 
+-- what a tree is written in has the fewest tokens at each place of an expression, and no more brackets in one another than it is high
+pub record WritingIsShortest : Type 0 where
+  pub expressions : ExpressionsAreShortest
+  pub targets : TargetsAreShortest
+  pub parameters : ParametersAreShortest
+  pub arguments : ArgumentsAreShortest
+  pub brackets : BracketsAreWithinHeight
+
 -- ---- Pieces.
 
 -- pieces give terminals one by one: each is what its type says, has no fault, and is the terminal
@@ -209,12 +217,8 @@ AcceptedTextsAreAccepted = (profile : Profile) (s : Source) (m : Module) → IsL
 
 -- the laws of what a tree is written in
 pub record WritingIsLawful : Type 0 where
-  pub shortest : ExpressionsAreShortest
+  pub shortest : WritingIsShortest
   pub back : ExpressionsComeBack
-  pub targets : TargetsAreShortest
-  pub parameters : ParametersAreShortest
-  pub arguments : ArgumentsAreShortest
-  pub brackets : BracketsAreWithinHeight
   pub read : ExpressionsAreRead
   pub modules : ModulesComeBack
   pub one : LinesAreOneModule

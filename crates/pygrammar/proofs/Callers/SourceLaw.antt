@@ -1,12 +1,8 @@
--- On: the laws of lines, of blocks and of the answer for a source.
+-- On: the laws of the forms of lines, of blocks and of the answer for a source.
 --
 -- Carries: what pyparse, pywritten cite.
-use Rattle.pygrammar.specs.SourceLaws.{LinesAreLawful, BlocksAreLawful, AnswersAreLawful}
-use Rattle.pygrammar.proofs.Line.Answered.{enough, read_or_not}
-use Rattle.pygrammar.proofs.Line.Depth.{at_depth}
+use Rattle.pygrammar.specs.SourceLaws.{FormsAreLawful, BlocksAreLawful, AnswersAreLawful}
 use Rattle.pygrammar.proofs.Line.Law.{one_form}
-use Rattle.pygrammar.proofs.Line.Limit.{line_limit_exactly, line_limit_meets}
-use Rattle.pygrammar.proofs.Line.SoundLines.{exactly}
 use Rattle.pygrammar.proofs.Line.Stays.{old_is_untyped}
 use Rattle.pygrammar.proofs.Block.Goes.{one_tree}
 use Rattle.pygrammar.proofs.Block.Law.{fault_or_tree, tree_faultless, one_first, no_first}
@@ -16,16 +12,8 @@ use Rattle.pygrammar.proofs.Block.Total.{answered}
 use Rattle.pygrammar.proofs.Block.Reasons.{one_reason}
 use Rattle.pygrammar.proofs.Block.Types.{old_has_no_types}
 
-pub lines_are_lawful : LinesAreLawful
-lines_are_lawful = record {
-  unique = λ profile ts f g p q. one_form p q;
-  exact = exactly;
-  decided = read_or_not;
-  deep = λ profile d ts. (at_depth profile d ts, enough profile d ts);
-  limited = line_limit_exactly;
-  meets = line_limit_meets;
-  new = old_is_untyped;
-}
+pub forms_are_lawful : FormsAreLawful
+forms_are_lawful = record { unique = λ profile ts f g p q. one_form p q; new = old_is_untyped }
 
 pub blocks_are_lawful : BlocksAreLawful
 blocks_are_lawful = record {

@@ -22,7 +22,7 @@ use Rattle.pygrammar.specs.Lines.{Line, line}
 use Rattle.pygrammar.specs.Forms.{FormOf}
 use Rattle.pygrammar.specs.Blocks.{Block}
 use Rattle.pygrammar.specs.Refusals.{terminals, HasForm, Formed, formed_end, formed_line, Accepted}
-use Rattle.pygrammar.proofs.Callers.SourceLaw.{lines_are_lawful, blocks_are_lawful, answers_are_lawful}
+use Rattle.pygrammar.proofs.Callers.SourceLaw.{forms_are_lawful, blocks_are_lawful, answers_are_lawful}
 use Rattle.pyspacing.specs.Spacing.{Piece, is_operator_kind}
 use Rattle.pyspacing.specs.Tokens.{token_of, unplaced, unplaced_line, token_line, is_opening, is_closing, opens, closes, opens_within}
 use Rattle.pyspacing.specs.Laws.{ReadsBack, IsClear}
@@ -40,7 +40,7 @@ use Rattle.pywritten.proofs.Modules.LinesRead.{modules_read}
 
 same_forms : {profile : Profile} {ws : List (WrittenLine Terminal)} {xs ys : List Line} → HaveForms profile ws xs → HaveForms profile ws ys → xs ≡ ys
 same_forms no_form no_form = refl
-same_forms {profile} (a_form {l = l} {ts = ts} {f = f} {xs = xs} p c) (a_form {f = g} q d) = ap (λ z. line l z ∷ xs) (lines_are_lawful.unique profile ts f g p q) ∙ ap (λ z. line l g ∷ z) (same_forms c d)
+same_forms {profile} (a_form {l = l} {ts = ts} {f = f} {xs = xs} p c) (a_form {f = g} q d) = ap (λ z. line l z ∷ xs) (forms_are_lawful.unique profile ts f g p q) ∙ ap (λ z. line l g ∷ z) (same_forms c d)
 
 pub one_module : LinesAreOneModule
 one_module profile ws m n g h = ap (λ b. record { body = b }) (blocks_are_lawful.unique h.forms m.body n.body (subst (λ z. Block 0 z m.body) (same_forms g.formed h.formed) g.block) h.block)
