@@ -74,6 +74,12 @@ impl From<CursorFault> for UsageFault {
 /// The version of the program.
 const VERSION: &str = "1.0.0";
 
+/// What `dump` and `unparse` leave out, behind their help.
+const LEFT_OUT: &str = "\
+Left out of Python 3.11: floats and complex numbers, f-strings, match statements, \\N{..} in strings,
+and whole numbers from 2 to the 128 on. With --py312 the forms of types of Python 3.12 are read too.
+Limits: 600 open brackets, 500 expressions in one another, 500 statements in one another.";
+
 /// The largest count of entries that can be asked for.
 const LARGEST_COUNT: u32 = 1_000_000_000;
 
@@ -200,6 +206,7 @@ fn dump_form<'a>(alloc: Global) -> Result<clap::Command<'a>, AllocError>
     let bare = "Leave the names of fields out";
     clap::Command::new(alloc, "dump")
         .about("Dump the tree of a source")
+        .after_help(LEFT_OUT)
         .arg(number_form(alloc, "indent", LARGEST_INDENT, lines))?
         .arg(flag_form(alloc, "bare", bare))?
         .arg(newer_form(alloc))?
@@ -212,6 +219,7 @@ fn unparse_form<'a>(alloc: Global) -> Result<clap::Command<'a>, AllocError>
 {
     clap::Command::new(alloc, "unparse")
         .about("Write the tree of a source as source text")
+        .after_help(LEFT_OUT)
         .arg(newer_form(alloc))?
         .arg(file_form(alloc))
 }

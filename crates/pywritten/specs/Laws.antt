@@ -30,7 +30,7 @@ use Rattle.pywritten.specs.Terminals.{terminal, terminals}
 use Rattle.pywritten.specs.Pieces.{piece, pieces}
 use Rattle.pywritten.specs.Statements.{item_target}
 use Rattle.pywritten.specs.Modules.{WrittenLine, written_line, module_lines, terminal_lines, piece_lines, module_text}
-use Rattle.pywritten.specs.Inner.Brackets.{brackets}
+use Rattle.pywritten.specs.Brackets.{brackets}
 
 -- ---- Fewest brackets.
 

@@ -1,4 +1,4 @@
-pub mod Inner
+pub mod Brackets
 pub mod Levels
 pub mod Written
 pub mod Terminals

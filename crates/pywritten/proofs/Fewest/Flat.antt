@@ -24,7 +24,7 @@ use Rattle.pyheight.specs.Heights.{height, heights, optional_height, optional_he
 use Rattle.pywritten.specs.Levels.{leads, reaches, operator_level, left_level, right_level, operator_sign, unary_level, unary_sign, comparison_signs}
 use Rattle.pywritten.specs.Written.{separated, beside, star_level, some_named, lone_star, element_level, lone_generator, constant_terminal, free, bracketed, fit, with_comma, tuple_of, compared, for_in, behind_equal, with_slash, with_star, written, each, perhaps, suffixed, alone, by_name, written_keys, pairs, clauses, conditions, parameters, names, gathered, defaults}
 use Rattle.pywritten.specs.Terminals.{terminal}
-use Rattle.pywritten.specs.Inner.Brackets.{open_after, most_open, brackets}
+use Rattle.pywritten.specs.Brackets.{open_after, most_open, brackets}
 use Rattle.pywritten.specs.Laws.{not_atom}
 use Rattle.pywritten.proofs.Fewest.Reach.{every, implied, fit_within}
 

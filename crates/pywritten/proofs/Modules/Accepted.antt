@@ -27,7 +27,7 @@ use Rattle.pyspacing.specs.Spacing.{Piece, is_operator_kind}
 use Rattle.pyspacing.specs.Tokens.{token_of, unplaced, unplaced_line, token_line, is_opening, is_closing, opens, closes, opens_within}
 use Rattle.pyspacing.specs.Laws.{ReadsBack, IsClear}
 use Rattle.pyspacing.proofs.Callers.Pieces.{written_is_read, written_is_clear}
-use Rattle.pywritten.specs.Inner.Brackets.{open_after, most_open, brackets}
+use Rattle.pywritten.specs.Brackets.{open_after, most_open, brackets}
 use Rattle.pywritten.specs.Modules.{WrittenLine, written_line, line_of, terminal_lines, piece_lines}
 use Rattle.pywritten.specs.Laws.{Give, give_none, give, HaveForms, no_form, a_form, AreModule, LinesAreOneModule, AcceptedComeBack, source_lines, AreWithin, GiveLines, no_line, a_line, ModuleTextsAreAccepted}
 use Rattle.pywritten.proofs.Fewest.Flat.{start_open}

@@ -18,7 +18,7 @@ use Rattle.pygrammar.specs.FormHeights.{header_height}
 use Rattle.pywritten.specs.Written.{listed, written, each, by_name}
 use Rattle.pywritten.specs.Terminals.{terminal}
 use Rattle.pywritten.specs.Statements as S
-use Rattle.pywritten.specs.Inner.Brackets.{brackets}
+use Rattle.pywritten.specs.Brackets.{brackets}
 use Rattle.pywritten.specs.Modules.{WrittenLine, header, decorators, lines_of, statement_lines, alternative, clause, handler_lines, terminal_lines}
 use Rattle.pywritten.specs.Laws.{LineBracketsAreWithinHeight}
 use Rattle.pywritten.proofs.Fewest.Flat.{Flat, Neutral, flat_none, both, plain, pair, up, neutral, AllFlat, none, one, all_up, all_append, separated_flat, open_round, open_square, close_round, close_square, flat, flat_each, flat_by_name, flat_parameters}
