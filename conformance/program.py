@@ -21,6 +21,8 @@ from common import PROGRAM, run
 
 # The stack within which the deepest sources are accepted, in bytes.
 STACK = 4 << 20
+# The memory within which a source of any length is listed, in bytes, the program and the C library with it.
+MEMORY = 12 << 20
 # The seconds within which an answer has to come that waits for nothing.
 SOON = 20
 LISTING = """\
@@ -118,10 +120,19 @@ def wait_for(process, size):
 
 def open_pipe(checks, words, data):
     """A run whose input stays open behind some bytes."""
-    process = subprocess.Popen([checks.program, *words], stdin=subprocess.PIPE, stdout=subprocess.PIPE)
+    process = subprocess.Popen([checks.program, *words], stdin=subprocess.PIPE, stdout=subprocess.PIPE, stderr=subprocess.DEVNULL)
     process.stdin.write(data)
     process.stdin.flush()
     return process
+
+
+def ended(process):
+    """The status with which a process ends, or None where it is late."""
+    try:
+        return process.wait(SOON)
+    except subprocess.TimeoutExpired:
+        process.kill()
+        return None
 
 
 def check_streams(checks):
@@ -130,7 +141,7 @@ def check_streams(checks):
         process = open_pipe(checks, ["tokens", "--count", str(count)], b"x = 1\n")
         written = wait_for(process, 1 << 16)
         checks.is_due(f"--count {count} on an open pipe", written.decode().splitlines()[:count], LISTING.splitlines()[:count])
-        checks.is_due(f"--count {count} asks for no more", (process.poll() is not None or process.wait(SOON), written.count(b"\n")), (True, count + 1))
+        checks.is_due(f"--count {count} asks for no more", (ended(process), written.count(b"\n")), (0, count + 1))
         process.stdin.close()
     process = open_pipe(checks, ["tokens"], b"x = 1\n" * 10_000)
     written = wait_for(process, 1 << 20)
@@ -141,14 +152,12 @@ def check_streams(checks):
     process.stdin.close()
     process.stdout.close()
     process.wait()
-    for megabytes in (2, 40):
-        with tempfile.NamedTemporaryFile() as file:
-            file.write(b"x = 1\n" * (megabytes << 20 // 6) if False else b"name = value  # text\n" * (megabytes * 50_000))
-            file.flush()
-            process = subprocess.Popen([checks.program, "tokens", file.name], stdout=subprocess.DEVNULL)
-            _, status, used = os.wait4(process.pid, 0)
-            process.returncode = status
-            checks.is_due(f"tokens of {megabytes} MB, in less than 8 MB", (status, used.ru_maxrss < 8 << 10), (0, True))
+    with tempfile.NamedTemporaryFile() as file:
+        file.write(b"name = value  # text\n" * 2_000_000)
+        file.flush()
+        little = lambda: resource.setrlimit(resource.RLIMIT_AS, (MEMORY, MEMORY))
+        done = subprocess.run([checks.program, "tokens", file.name], stdout=subprocess.DEVNULL, preexec_fn=little, check=False)
+        checks.is_due("tokens of 42 MB, in 12 MB of memory", done.returncode, 0)
 
 
 # --- large sources ------------------------------------------------------------------------------------------------------
