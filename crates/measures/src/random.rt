@@ -5,8 +5,7 @@
 //! into it that stood in statements before, in place of its own. In Python 3.11 and in 3.12 each
 //! has to come back from the text that `unparse` gives where it is well formed and not too high,
 //! and nowhere else. The first that doesn't is shown by its text, and `lost` below. Else a line
-//! tells how many statements there are, and how many of them and of the changed ones are well
-//! formed.
+//! tells how many statements and changed ones there are, and how many of them are well formed.
 
 use crate::input::{module_of, source_of};
 use crate::places::{name_of, part_of, place_of};
@@ -19,12 +18,20 @@ use std::mem;
 /// How many expressions of an accepted source may stand in one another, and how many statements.
 const HIGHEST: u64 = 500;
 
-/// How many trees are well formed: in Python 3.11, and in 3.12.
+/// How many trees there were, and how many of them are well formed in Python 3.11, and in 3.12.
 #[derive(Drop)]
 struct Counts {
+    trees: u64,
     old: u64,
     new: u64,
 }
+
+/// Of no trees.
+const NONE: Counts = Counts {
+    trees: 0,
+    old: 0,
+    new: 0,
+};
 
 /// Modules of one statement each: the tree that is compared, and two that hold what is put into
 /// the next one, expressions and a name.
@@ -74,6 +81,7 @@ fn compare(rt: &HostRuntime, alloc: Global, tree: &Module, counts: &mut Counts) 
     let text = unparse(alloc, tree).ok()?;
     let old = told(rt, alloc, tree, text.as_str(), Profile::Py311)?;
     let new = told(rt, alloc, tree, text.as_str(), Profile::Py312)?;
+    counts.trees = counts.trees.wrapping_add(1);
     counts.old = counts.old.wrapping_add(u64::from(old));
     counts.new = counts.new.wrapping_add(u64::from(new));
     Some(())
@@ -131,8 +139,8 @@ fn compare_all(
     module: &mut Module,
     trees: &mut Trees,
 ) -> Option<()> {
-    let mut whole = Counts { old: 0, new: 0 };
-    let mut changed = Counts { old: 0, new: 0 };
+    let mut whole = NONE;
+    let mut changed = NONE;
     for stmt in module.body.iter_mut() {
         if let Some(place) = trees.tree.body.first_mut() {
             mem::swap(place, stmt);
@@ -140,10 +148,11 @@ fn compare_all(
         compare_changed(rt, alloc, trees, &mut whole, &mut changed)?;
     }
     println!(rt;
-        "{} statements, {} well formed in 3.11, {} in 3.12; changed, {} and {}",
-        module.body.len(),
+        "{} statements: {} well formed in 3.11, {} in 3.12; {} changed: {} and {}",
+        whole.trees,
         whole.old,
         whole.new,
+        changed.trees,
         changed.old,
         changed.new
     )
