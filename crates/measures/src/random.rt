@@ -27,11 +27,13 @@ struct Counts {
 }
 
 /// Of no trees.
-const NONE: Counts = Counts {
-    trees: 0,
-    old: 0,
-    new: 0,
-};
+fn no_counts() -> Counts {
+    Counts {
+        trees: 0,
+        old: 0,
+        new: 0,
+    }
+}
 
 /// Modules of one statement each: the tree that is compared, and two that hold what is put into
 /// the next one, expressions and a name.
@@ -139,8 +141,8 @@ fn compare_all(
     module: &mut Module,
     trees: &mut Trees,
 ) -> Option<()> {
-    let mut whole = NONE;
-    let mut changed = NONE;
+    let mut whole = no_counts();
+    let mut changed = no_counts();
     for stmt in module.body.iter_mut() {
         if let Some(place) = trees.tree.body.first_mut() {
             mem::swap(place, stmt);
@@ -149,12 +151,7 @@ fn compare_all(
     }
     println!(rt;
         "{} statements: {} well formed in 3.11, {} in 3.12; {} changed: {} and {}",
-        whole.trees,
-        whole.old,
-        whole.new,
-        changed.trees,
-        changed.old,
-        changed.new
+        whole.trees, whole.old, whole.new, changed.trees, changed.old, changed.new
     )
     .ok()
 }

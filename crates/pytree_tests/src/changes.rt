@@ -36,12 +36,16 @@ pub(crate) fn put(tree: &mut Module, other: &mut Module) -> Option<()> {
 /// Takes the last value off `and`, and the last default off the parameters by name of `lambda`.
 pub(crate) fn shorten(tree: &mut Module) -> bool {
     match tree.body.first_mut() {
-        Some(Stmt::Expr {
-            value: Expr::BoolOp { values, .. },
-        }) => values.pop().is_some(),
-        Some(Stmt::Expr {
-            value: Expr::Lambda { args, .. },
-        }) => args.kw_defaults.pop().is_some(),
+        Some(
+            Stmt::Expr {
+                value: Expr::BoolOp { values, .. },
+            },
+        ) => values.pop().is_some(),
+        Some(
+            Stmt::Expr {
+                value: Expr::Lambda { args, .. },
+            },
+        ) => args.kw_defaults.pop().is_some(),
         _ => false,
     }
 }

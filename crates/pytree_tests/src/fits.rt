@@ -2,9 +2,7 @@
 
 use crate::changes::{catch_all, import, put, shorten};
 use crate::sources::{expression, module};
-use pytree::{
-    Context, Expr, Identifier, Level, Module, Profile, well_formed, well_formed_at,
-};
+use pytree::{Context, Expr, Identifier, Level, Module, Profile, well_formed, well_formed_at};
 use std::alloc::{AllocError, Global};
 use std::test::Fail;
 
