@@ -3,7 +3,7 @@
 
     bench/parsing.py [--timer PATH] [--goal MB]
 
-1 MB of them, each text once, none with what is left out. The timer is the program of crates/expression_dumps, which is built anew where
+1 MB of them, each text once, none with what is left out. The timer is the program of crates/measures, which is built anew where
 it isn't there; it tells how many of the lines are expressions, and what reading them took by its own clock, with nothing written and
 without making the tokens: the least of five runs. The exit status is 0, but 1 where fewer MB a second were read than the goal, and 2
 where nothing could be measured.
@@ -46,7 +46,7 @@ def lines():
 
 def told(timer, data):
     """How many of some lines are expressions, and the nanoseconds."""
-    done = subprocess.run([timer, "time"], input=data, stdout=subprocess.PIPE, check=False)
+    done = subprocess.run([timer, "expressions", "time"], input=data, stdout=subprocess.PIPE, check=False)
     if done.returncode or done.stdout.startswith(b"refused"):
         refuse(f"{timer} told {done.stdout[:80]!r}")
     count, taken = done.stdout.split()
@@ -55,8 +55,8 @@ def told(timer, data):
 
 def main():
     parser = argparse.ArgumentParser(description=__doc__.partition("\n")[0])
-    parser.add_argument("--timer", default=os.path.join(TOP, "crates", "expression_dumps", "out", "expression_dumps"), metavar="PATH",
-                        help="the built program of crates/expression_dumps")
+    parser.add_argument("--timer", default=os.path.join(TOP, "crates", "measures", "out", "measures"), metavar="PATH",
+                        help="the built program of crates/measures")
     parser.add_argument("--goal", type=float, default=30.0, metavar="MB", help="status 1 where fewer MB a second are read")
     options = parser.parse_args()
     if sys.version_info[:2] != (3, 11):

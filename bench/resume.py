@@ -5,7 +5,7 @@ the time that listing up to there takes.
     bench/resume.py [--program PATH] [--timer PATH]
 
 The cursor is taken by `pyast tokens --count`, behind seven eighths of the entries. The timer is the program of
-crates/resume_times, which is built anew where it isn't there; it lists up to the cursor (`Lister::resume_checked`) and goes on
+crates/measures, which is built anew where it isn't there; it lists up to the cursor (`Lister::resume_checked`) and goes on
 from it (`Lister::resume`), and tells both times. The exit status is 0, but 1 where going on takes longer or leaves other
 entries than it should, and 2 where nothing could be measured.
 """
@@ -66,7 +66,7 @@ def times(timer, path, cursor):
     left, listing, resuming = set(), [], []
     for _ in range(ROUNDS):
         with open(path, "rb") as file:
-            done = subprocess.run([timer, cursor], stdin=file, stdout=subprocess.PIPE, check=False)
+            done = subprocess.run([timer, "resume", cursor], stdin=file, stdout=subprocess.PIPE, check=False)
         told = TOLD.fullmatch(done.stdout.decode())
         if done.returncode or not told:
             refuse(f"{timer} ended with status {done.returncode} and wrote {done.stdout!r}")
@@ -80,8 +80,8 @@ def main():
     parser = argparse.ArgumentParser(description="Checks that going on from a cursor takes no new listing.")
     parser.add_argument("--program", default=os.path.join(TOP, "crates", "pyast", "out", "pyast"), metavar="PATH",
                         help="the built program; default: that of this project")
-    parser.add_argument("--timer", default=os.path.join(TOP, "crates", "resume_times", "out", "resume_times"), metavar="PATH",
-                        help="the built program of crates/resume_times")
+    parser.add_argument("--timer", default=os.path.join(TOP, "crates", "measures", "out", "measures"), metavar="PATH",
+                        help="the built program of crates/measures")
     options = parser.parse_args()
     program, timer = os.path.abspath(options.program), os.path.abspath(options.timer)
     if not os.access(program, os.X_OK):

@@ -5,7 +5,7 @@ long as the lister's walk over the same source, with nothing written.
     bench/terminals.py [--timer PATH] [--goal TIMES] [--instructions]
 
 The source is made of those files of Python 3.11's library that have tokens here, 9.5 MB. The timer is the program of
-crates/token_values, which is built anew where it isn't there; it tells what each of the two took by its own clock, without reading the
+crates/measures, which is built anew where it isn't there; it tells what each of the two took by its own clock, without reading the
 source: the least of five runs, in which they take turns. With --instructions valgrind counts the instructions of the whole runs on a
 tenth of the source, which other work on the machine doesn't disturb. The exit status is 0, but 1 where the goal was missed, and 2 where
 nothing could be measured.
@@ -32,7 +32,7 @@ CALLS = ("list", "terminals")
 
 def told(timer, call, data):
     """What the timer tells of a call on a source: how many entries or terminals, and the nanoseconds. None where it can't be read."""
-    done = subprocess.run([timer, call], input=data, stdout=subprocess.PIPE, check=False)
+    done = subprocess.run([timer, "values", call], input=data, stdout=subprocess.PIPE, check=False)
     return None if done.returncode or done.stdout.startswith(b"refused") else [int(word) for word in done.stdout.split()]
 
 
@@ -57,18 +57,18 @@ def source(files, size):
 def instructions(timer, call, data):
     """How many instructions a whole run takes."""
     with tempfile.TemporaryDirectory(prefix="pyast-bench-") as folder:
-        words = ["valgrind", "--tool=callgrind", f"--callgrind-out-file={folder}/out", timer, call]
+        words = ["valgrind", "--tool=callgrind", f"--callgrind-out-file={folder}/out", timer, "values", call]
         done = subprocess.run(words, input=data, stdout=subprocess.DEVNULL, stderr=subprocess.PIPE, check=False)
     found = re.search(r"Collected : (\d+)", done.stderr.decode())
     if done.returncode or not found:
-        refuse(f"valgrind {timer} {call} told no count")
+        refuse(f"valgrind {timer} values {call} told no count")
     return int(found.group(1))
 
 
 def main():
     parser = argparse.ArgumentParser(description="Times reading a source into terminals beside listing it.")
-    parser.add_argument("--timer", default=os.path.join(TOP, "crates", "token_values", "out", "token_values"), metavar="PATH",
-                        help="the built program of crates/token_values")
+    parser.add_argument("--timer", default=os.path.join(TOP, "crates", "measures", "out", "measures"), metavar="PATH",
+                        help="the built program of crates/measures")
     parser.add_argument("--goal", type=float, default=1.3, metavar="TIMES", help="status 1 where terminals take more times as long")
     parser.add_argument("--instructions", action="store_true", help="count instructions by valgrind too")
     options = parser.parse_args()

@@ -3,7 +3,7 @@
 
     bench/trees.py [--timer PATH] [--statements N]
 
-The timer is the program of crates/tree_times, which is built anew where it isn't there; with --backend rattle in its folder `rt run`
+The timer is the program of crates/measures, which is built anew where it isn't there; with --backend rattle in its folder `rt run`
 builds it by the other compiler. Of a tree of N statements it tells how long each call takes, and of `dump` the megabytes of text a
 second; of a tree of one statement how many expressions may stand in one another before the stack of 8 MB ends the program. The exit
 status is 0, 1 where `dump` writes less than 200 MB a second, and 2 where nothing could be measured.
@@ -32,9 +32,9 @@ def limit_stack():
 
 def told(timer, call, shape, count):
     """What the timer tells of a call, or None where the stack didn't hold the tree."""
-    done = subprocess.run([timer, call, shape, str(count)], stdout=subprocess.PIPE, stderr=subprocess.DEVNULL, preexec_fn=limit_stack, check=False)
+    done = subprocess.run([timer, "trees", call, shape, str(count)], stdout=subprocess.PIPE, stderr=subprocess.DEVNULL, preexec_fn=limit_stack, check=False)
     if done.returncode > 0:
-        refuse(f"{timer} {call} {shape} {count} ended with status {done.returncode}")
+        refuse(f"{timer} trees {call} {shape} {count} ended with status {done.returncode}")
     return None if done.returncode else [int(word) for word in done.stdout.split()]
 
 
@@ -51,8 +51,8 @@ def deepest(timer, call):
 
 def main():
     parser = argparse.ArgumentParser(description="Times what is done with large trees, and finds how deep a tree may be.")
-    parser.add_argument("--timer", default=os.path.join(TOP, "crates", "tree_times", "out", "tree_times"), metavar="PATH",
-                        help="the built program of crates/tree_times")
+    parser.add_argument("--timer", default=os.path.join(TOP, "crates", "measures", "out", "measures"), metavar="PATH",
+                        help="the built program of crates/measures")
     parser.add_argument("--statements", type=int, default=100_000, metavar="N", help="the statements of the wide tree")
     options = parser.parse_args()
     timer = os.path.abspath(options.timer)

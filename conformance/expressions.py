@@ -5,7 +5,7 @@
 
 Of every .py file below the folders (by default Python's own library) the source of each expression is taken that stands on one line and
 holds none of what is left out (floats, complex numbers, numbers too large, f-strings, named escapes), each text once; of these N are
-drawn. Besides, N are drawn that were changed in one token. The program of crates/expression_dumps tells of each what it is: its dump has
+drawn. Besides, N are drawn that were changed in one token. The program of crates/measures tells of each what it is: its dump has
 to be Python's, and where Python's parser refuses it, it has to be refused. The exit status is 0 where all agree, 1 where one differs (it
 is shown), and 2 where nothing could be compared.
 """
@@ -110,7 +110,7 @@ def python_tells(text):
 def told(dumper, texts):
     """What the program tells of some lines, or None where one of them is refused by a token or a place."""
     source = "".join(text + "\n" for text in texts).encode()
-    done = subprocess.run([dumper], input=source, stdout=subprocess.PIPE, check=False)
+    done = subprocess.run([dumper, "expressions"], input=source, stdout=subprocess.PIPE, check=False)
     lines = done.stdout.decode().splitlines()
     return lines if done.returncode == 0 and len(lines) == len(texts) and not lines[0].startswith("refused") else None
 
@@ -146,13 +146,13 @@ def main():
     parser.add_argument("--count", type=int, default=10_000, metavar="N", help="how many expressions are drawn")
     parser.add_argument("--changed", type=int, default=100_000, metavar="N", help="how many changed ones are drawn")
     parser.add_argument("--seed", type=int, default=1, metavar="N", help="of the drawing")
-    parser.add_argument("--dumper", default=os.path.join(TOP, "crates", "expression_dumps", "out", "expression_dumps"), metavar="PATH",
-                        help="the built program of crates/expression_dumps")
+    parser.add_argument("--dumper", default=os.path.join(TOP, "crates", "measures", "out", "measures"), metavar="PATH",
+                        help="the built program of crates/measures")
     words = parser.parse_args()
     if sys.version_info[:2] != (3, 11):
         refuse("this isn't Python 3.11")
     if not os.access(words.dumper, os.X_OK):
-        refuse(f"{words.dumper} isn't there: `rt run` in crates/expression_dumps builds it")
+        refuse(f"{words.dumper} isn't there: `rt run` in crates/measures builds it")
     warnings.simplefilter("ignore")
     random_ = random.Random(words.seed)
     texts = sorted({text for path in python_files(words.folders or [sysconfig.get_path("stdlib")]) for text in expressions_in(path)})

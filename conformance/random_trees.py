@@ -1,62 +1,114 @@
 #!/usr/bin/env python3
-"""Has random trees written and read again, until so many have come back.
+"""Has random trees read, written and read again, as they are and changed.
 
-    conformance/random_trees.py [--count N] [--seed N] [--program PATH]
+    conformance/random_trees.py [--count N] [--seed N] [--jobs N] [--program PATH]
 
-The program of crates/random_trees draws trees of Python 3.11 and of 3.12, of all classes of nodes, writes each that is well formed by
-`unparse`, reads the text by `decode` and `parse`, and compares the two trees by `same`. It is run on one seed after the other, from N on,
-until COUNT trees were compared in all. The exit status is 0 where all came back, 1 where one was lost (its text is shown), and 2 where
-nothing could be compared. No Python 3.11 is needed.
+Sources of trees of Python 3.11 and of 3.12, of all classes of nodes, are made by chance, each expression in brackets of its own. `measures
+random` reads them, writes each statement by `unparse`, reads its text by `decode` and `parse`, and compares the two trees by `same`, in
+both versions. It does so too with three trees that it makes of each, in which a part of an expression, an expression and a name come
+from other statements: so they stand where they may not, or as what they may not be. Each tree has to come back where `well_formed` says
+that it is well formed, and nowhere else. Until N statements were compared in all. The exit status is 0 where all are as they should be,
+1 where one is not (the smallest source is shown), and 2 where nothing could be compared. Any Python from 3.10 on will do.
 """
 
 import argparse
+import functools
 import os
+import random
 import re
-import resource
 import sys
+import time
 
-from common import TOP, refuse, run
+from common import TOP, refuse, results_of, run, smallest
+from trees import Maker, source_of
 
-# The trees that are drawn from one seed, at most.
-PORTION = 10_000
-TOLD = re.compile(rb"(\d+) trees: (\d+) well formed in 3\.11 or 3\.12, all came back\n")
+PROGRAM = os.path.join(TOP, "crates", "measures", "out", "measures")
+# The statements of a source, at least.
+PORTION = 500
+TOLD = re.compile(rb"(\d+) statements: (\d+) well formed in 3\.11, (\d+) in 3\.12; (\d+) changed: (\d+) and (\d+)\n")
 
 
-def compared(program, seed, count):
-    """How many of the trees that a seed gives were well formed, and so came back; None where one was lost, which is shown."""
-    done = run([program, str(seed), str(count)])
-    if done.status == 1:
-        print(done.out.decode("utf-8", "backslashreplace"), end="")
-        return None
+class Deep(Maker):
+    """Makes trees of those that it made before, so that they are deep and not wide."""
+
+    def __init__(self, chance):
+        super().__init__(chance, types=True)
+        self.exprs, self.stmts = [], []
+
+    def expr(self, depth):
+        """One that was made before, now and then, where no more may be made."""
+        if depth <= 0 and self.exprs and self.chance.randrange(3):
+            return self.exprs.pop()
+        return super().expr(depth)
+
+    def stmt(self, depth):
+        """One that was made before, where no more may be made."""
+        return self.stmts.pop() if depth <= 0 and self.stmts else super().stmt(depth)
+
+    def statements(self):
+        """Some statements. No more than 160 expressions stand in one another, and no more than 16 statements."""
+        for _ in range(self.chance.randrange(9)):
+            for _ in range(self.chance.randrange(6)):
+                self.exprs.append(self.expr(self.chance.randint(1, 2)))
+            self.stmts.append(self.stmt(self.chance.randint(0, 2)))
+        made, self.exprs, self.stmts = self.stmts, [], []
+        return made
+
+
+def source(seed, number):
+    """A source of so many statements, the same for the same seed and number."""
+    maker = Deep(random.Random(f"{seed}-{number}"))
+    statements = []
+    while len(statements) < PORTION:
+        statements += maker.statements()
+    return source_of(statements)
+
+
+def counts(program, data):
+    """What the program counts in a source, or what else it tells."""
+    done = run([program, "random"], input=data)
     told = TOLD.fullmatch(done.out)
-    if done.status != 0 or not told or int(told[1]) != count:
-        refuse(f"{program} {seed} {count} ended with status {done.status}: {(done.out + done.err).decode(errors='backslashreplace')}")
-    return int(told[2])
+    if done.status != 0 or not told:
+        return None, f"status {done.status}: {(done.out + done.err).decode('utf-8', 'backslashreplace')}"
+    found = tuple(int(one) for one in told.groups())
+    return (found, None) if found[0] == found[2] else (None, f"read, but not well formed: {done.out.decode()}")
+
+
+def compare(program, seed, number):
+    """What is counted in a source, or its number and what is told of it."""
+    found, told = counts(program, source(seed, number))
+    return found, number, told
+
+
+def show(program, seed, number, told):
+    """Shows what is told of a source, and the smallest one of which it is told."""
+    data = source(seed, number)
+    print(f"source {number} of the seed {seed}: {told}")
+    if told.endswith("lost\n"):
+        least = smallest(data, lambda less: (counts(program, less)[1] or "").endswith("lost\n"))
+        print(f"  smallest source: {least!r}: {counts(program, least)[1]}")
 
 
 def main():
     parser = argparse.ArgumentParser(description=__doc__.partition("\n")[0])
-    parser.add_argument("--count", type=int, default=100_000, metavar="N", help="how many trees are compared")
-    parser.add_argument("--seed", type=int, default=1, metavar="N", help="the first seed")
-    parser.add_argument("--program", default=os.path.join(TOP, "crates", "random_trees", "out", "random_trees"), metavar="PATH",
-                        help="the built program of crates/random_trees")
+    parser.add_argument("--count", type=int, default=100_000, metavar="N", help="how many statements are compared, at least")
+    parser.add_argument("--seed", type=int, default=1, metavar="N", help="what is drawn depends on it")
+    parser.add_argument("--jobs", type=int, default=os.cpu_count() or 1, metavar="N", help="processes; default: cores")
+    parser.add_argument("--program", default=PROGRAM, metavar="PATH", help="the built program of crates/measures")
     words = parser.parse_args()
     if not os.access(words.program, os.X_OK):
-        refuse(f"{words.program} isn't there: `rt run` in crates/random_trees builds it")
-    portion = min(PORTION, words.count)
-    seed, total = words.seed, 0
-    while total < words.count:
-        found = compared(words.program, seed, portion)
-        if found is None:
-            print(f"lost: a tree of the seed {seed}, behind {total} trees of earlier seeds that came back")
-            return 1
-        if not found:
-            refuse(f"no tree of the seed {seed} is well formed")
-        seed, total = seed + 1, total + found
-    spent = resource.getrusage(resource.RUSAGE_CHILDREN)
-    seeds = seed - words.seed
-    print(f"{portion * seeds} trees of {seeds} seeds, {total} well formed: all came back, in {spent.ru_utime + spent.ru_stime:.1f} s of processor time")
-    return 0
+        refuse(f"{words.program} isn't there: `rt run` in crates/measures builds it")
+    started = time.monotonic()
+    sources = -(-words.count // PORTION)
+    results = results_of(functools.partial(compare, words.program, words.seed), sources, range(sources), words.jobs)
+    wrong = sorted((number, told) for found, number, told in results if not found)
+    for number, told in wrong[:10]:
+        show(words.program, words.seed, number, told)
+    sums = [sum(one) for one in zip((0,) * 6, *(found for found, _, _ in results if found))]
+    print("{} statements: {} well formed in 3.11, {} in 3.12; {} changed: {} and {}".format(*sums))
+    told = f"{len(wrong)} of {sources} sources are wrong" if wrong else "all came back where they should, and nowhere else"
+    print(f"{told}, in {time.monotonic() - started:.0f} s")
+    return int(bool(wrong))
 
 
 if __name__ == "__main__":

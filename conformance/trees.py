@@ -1,12 +1,18 @@
 """Trees of Python 3.11 made by chance, and for each a source that is surely its: every expression in it has brackets of its own.
 
-All classes of nodes and all their fields occur but those of what pyast leaves out: floats, complex numbers, f-strings, `match`.
+All classes of nodes and all their fields occur but those of what pyast leaves out: floats, complex numbers, f-strings, `match`. Where
+a maker is told so, there are the types of Python 3.12 too: the statement `type`, and parameters of types.
 """
 
 import ast
+import collections
+import keyword
 
-NAMES = ["a", "b", "c", "x", "y", "f", "self", "match", "case", "type", "_", "gr\u00f6\u00dfe", "\u4e2d"]
-NUMBERS = [0, 1, 2, 10, 255, 2**63, 2**64, 2**128 - 1]
+NAMES = ["a", "b", "c", "x", "y", "f", "self", "match", "case", "type", "_", "gr\u00f6\u00dfe", "\u4e2d",
+         "a_name_of_more_than_thirty_bytes"]
+# What rare names are put together of. None may begin with the last.
+PIECES = ["a", "i", "f", "s", "n", "o", "t", "_", "\u00e9", "\u0436", "\u4e2d", "\u00b7"]
+NUMBERS = [0, 1, 2, 10, 255, 2**63, 2**64 - 1, 2**64, 2**128 - 1]
 TEXTS = ["", "a", "it's", '"', "'\"", "a\nb", "\t\\", "\0\x7f\x85", "\u00e9", "\u4e2d", "\ud800", "\U0001f600", "{x}"]
 BINARY = {ast.Add: "+", ast.Sub: "-", ast.Mult: "*", ast.MatMult: "@", ast.Div: "/", ast.Mod: "%", ast.Pow: "**", ast.LShift: "<<",
           ast.RShift: ">>", ast.BitOr: "|", ast.BitXor: "^", ast.BitAnd: "&", ast.FloorDiv: "//"}
@@ -15,15 +21,28 @@ BOOLEAN = {ast.And: "and", ast.Or: "or"}
 COMPARISONS = {ast.Eq: "==", ast.NotEq: "!=", ast.Lt: "<", ast.LtE: "<=", ast.Gt: ">", ast.GtE: ">=", ast.Is: "is",
                ast.IsNot: "is not", ast.In: "in", ast.NotIn: "not in"}
 
+# A parameter of a type, of Python 3.12: what stands before its name, `*`, `**` or nothing, and the bound that it may have then.
+TypeParam = collections.namedtuple("TypeParam", "mark name bound")
+
+
+class TypeAlias(ast.stmt):
+    """The statement `type` of Python 3.12."""
+
+    _fields = ("name", "type_params", "value")
+
 
 # --- making -----------------------------------------------------------------------------------------------------------
 
 
 class Maker:
-    """Makes trees by chance, each the tree of some source. A depth is how many nodes may still stand in one another."""
+    """Makes trees by chance, each the tree of some source, with types or without.
 
-    def __init__(self, chance):
+    A depth is how many nodes may still stand in one another.
+    """
+
+    def __init__(self, chance, types=False):
         self.chance = chance
+        self.types = types
 
     def one_of(self, things):
         """One of some things."""
@@ -65,7 +84,10 @@ class Maker:
 
     def word(self, _=0):
         """A name as a text."""
-        return self.one_of(NAMES)
+        if self.chance.randrange(40):
+            return self.one_of(NAMES)
+        text = "".join(self.some(1, 6, self.one_of, PIECES))
+        return text if text.isidentifier() and not keyword.iskeyword(text) else f"n{text}"
 
     def dotted(self):
         """Names with dots between them."""
@@ -73,6 +95,14 @@ class Maker:
 
     def name(self, _):
         return ast.Name(self.word(), ast.Load())
+
+    def number(self):
+        """A whole number: a marked one, or any."""
+        return self.one_of(NUMBERS) if self.chance.randrange(2) else self.chance.getrandbits(self.chance.choice((4, 64, 128)))
+
+    def text(self):
+        """A text: a marked one, or any code point."""
+        return self.one_of(TEXTS) if self.chance.randrange(3) else chr(self.chance.randrange(0x110000))
 
     def constant(self, _):
         kind = self.chance.randrange(6)
@@ -83,8 +113,8 @@ class Maker:
         if kind == 2:
             return ast.Constant(self.one_of(TEXTS), "u")
         if kind == 3:
-            return ast.Constant(self.one_of(NUMBERS))
-        return ast.Constant("".join(self.some(0, 2, self.one_of, TEXTS)) if kind == 4 else self.chance.randrange(100))
+            return ast.Constant(self.number())
+        return ast.Constant("".join(self.some(0, 3, self.text)) if kind == 4 else self.chance.randrange(100))
 
     def bool_op(self, depth):
         return ast.BoolOp(self.one_of(BOOLEAN)(), self.some(2, 3, self.expr, depth))
@@ -216,18 +246,37 @@ class Maker:
     def stmt(self, depth):
         """A statement."""
         simple = [self.return_, self.delete, self.assign, self.aug_assign, self.ann_assign, self.raise_, self.assert_, self.import_,
-                  self.import_from, self.global_, self.expr_stmt, self.bare]
+                  self.import_from, self.global_, self.expr_stmt, self.bare] + [self.type_alias] * self.types
         inner = [self.function, self.class_, self.for_, self.while_, self.if_, self.with_, self.try_]
         return self.one_of(simple + inner if depth > 0 else simple)(depth)
 
     def function(self, depth):
         kind = self.one_of([ast.FunctionDef, ast.AsyncFunctionDef])
-        return kind(self.word(), self.arguments(depth - 1, True), self.block(depth), self.some(0, 1, self.expr, depth - 1),
+        made = kind(self.word(), self.arguments(depth - 1, True), self.block(depth), self.some(0, 2, self.expr, depth - 1),
                     self.perhaps(self.expr, depth - 1))
+        return self.with_types(made, depth)
 
     def class_(self, depth):
-        return ast.ClassDef(self.word(), self.some(0, 2, self.element, depth - 1), self.some(0, 1, self.keyword, depth - 1),
-                            self.block(depth), self.some(0, 1, self.expr, depth - 1))
+        made = ast.ClassDef(self.word(), self.some(0, 2, self.element, depth - 1), self.some(0, 2, self.keyword, depth - 1),
+                            self.block(depth), self.some(0, 2, self.expr, depth - 1))
+        return self.with_types(made, depth)
+
+    def with_types(self, node, depth):
+        """A definition, with parameters of types where there may be some: Python 3.11 knows nothing of such a field."""
+        node.type_params = self.type_params(depth - 1) if self.types else []
+        return node
+
+    def type_params(self, depth):
+        """Parameters of types, or none."""
+        return self.perhaps(self.some, 1, 3, self.type_param, depth) or []
+
+    def type_param(self, depth):
+        """A parameter of a type."""
+        mark = self.one_of(["", "*", "**"])
+        return TypeParam(mark, self.word(), None if mark else self.perhaps(self.expr, depth))
+
+    def type_alias(self, depth):
+        return TypeAlias(ast.Name(self.word(), ast.Store()), self.type_params(depth), self.expr(depth))
 
     def for_(self, depth):
         kind = self.one_of([ast.For, ast.AsyncFor])
@@ -421,6 +470,12 @@ def parameter(arg, default=None):
     return f"{arg.arg}{optional(': ', arg.annotation)}{optional('=', default)}"
 
 
+def type_parameters(node):
+    """The parameters of types of a definition or a `type`, in their brackets, if there are some."""
+    parts = (f"{one.mark}{one.name}{optional(': ', one.bound)}" for one in node.type_params)
+    return f"[{', '.join(parts)}]" if node.type_params else ""
+
+
 def aliases(names):
     """The names of an import."""
     return ", ".join(one.name + (f" as {one.asname}" if one.asname else "") for one in names)
@@ -441,10 +496,10 @@ def lines_of(node):
     word = "async " if isinstance(node, (ast.AsyncFunctionDef, ast.AsyncFor, ast.AsyncWith)) else ""
     match node:
         case ast.FunctionDef() | ast.AsyncFunctionDef():
-            header = f"{word}def {node.name}({parameters(node.args)}){optional(' -> ', node.returns)}"
+            header = f"{word}def {node.name}{type_parameters(node)}({parameters(node.args)}){optional(' -> ', node.returns)}"
             return decorators(node) + clause(header, node.body)
         case ast.ClassDef():
-            return decorators(node) + clause(f"class {node.name}({given(node.bases, node.keywords)})", node.body)
+            return decorators(node) + clause(f"class {node.name}{type_parameters(node)}({given(node.bases, node.keywords)})", node.body)
         case ast.For() | ast.AsyncFor():
             header = f"{word}for {bracketed(node.target)} in {bracketed(node.iter)}"
             return clause(header, node.body) + perhaps_clause("else", node.orelse)
@@ -478,6 +533,8 @@ def simple(node):
             return f"del {', '.join(map(bracketed, node.targets))}"
         case ast.Assign():
             return "".join(f"{bracketed(one)} = " for one in node.targets) + bracketed(node.value)
+        case TypeAlias():
+            return f"type {node.name.id}{type_parameters(node)} = {bracketed(node.value)}"
         case ast.AugAssign():
             return f"{bracketed(node.target)} {BINARY[type(node.op)]}= {bracketed(node.value)}"
         case ast.AnnAssign():
@@ -500,15 +557,15 @@ def simple(node):
     raise TypeError(type(node))
 
 
-def source_of(module):
-    """A source that is surely the module."""
-    return "".join(f"{line}\n" for statement in module.body for line in lines_of(statement)).encode()
+def source_of(statements):
+    """A source that is surely these statements."""
+    return "".join(f"{line}\n" for statement in statements for line in lines_of(statement)).encode()
 
 
 def random_source(chance):
     """A source of a tree made by chance, which Python's parser is asked to confirm."""
     tree = Maker(chance).module(chance.choice((1, 2, 2, 3, 3, 4)))
-    source = source_of(tree)
+    source = source_of(tree.body)
     if ast.dump(ast.parse(source)) != ast.dump(tree):
         raise ValueError(f"this isn't the source of its tree: {source.decode()}")
     return source

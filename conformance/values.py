@@ -4,7 +4,7 @@
     conformance/values.py [FOLDER ..] [--teller PATH]
 
 Of every .py file below the folders (by default Python's own library) all number and string tokens are taken, each text once. Those
-that stand for a whole number below 2 to the 128, a text or bytes are told in batches by the program of crates/token_values, and each
+that stand for a whole number below 2 to the 128, a text or bytes are told in batches by the program of crates/measures, and each
 value has to be Python's. Each other has to be refused, by itself, for its reason: float, complex number, number too large, f-string,
 named escape. The exit status is 0 where all agree, 1 where one differs (it is shown), and 2 where nothing could be compared.
 """
@@ -66,7 +66,7 @@ def value_of(kind, text):
 def lines_of(teller, texts):
     """What the program tells of a source of these tokens, one behind the other."""
     source = "".join(text + "\n" for text in texts).encode("utf-8", "surrogatepass")
-    done = subprocess.run([teller], input=source, stdout=subprocess.PIPE, check=False)
+    done = subprocess.run([teller, "values"], input=source, stdout=subprocess.PIPE, check=False)
     return [line.split(" ", 2 if not line.startswith("refused") else 1) for line in done.stdout.decode("utf-8", "surrogatepass").splitlines()]
 
 
@@ -82,13 +82,13 @@ def differing(teller, tokens):
 def main():
     parser = argparse.ArgumentParser(description=__doc__.partition("\n")[0])
     parser.add_argument("folders", metavar="FOLDER", nargs="*", help="the folders of sources; Python's own library if none is named")
-    parser.add_argument("--teller", default=os.path.join(TOP, "crates", "token_values", "out", "token_values"), metavar="PATH",
-                        help="the built program of crates/token_values")
+    parser.add_argument("--teller", default=os.path.join(TOP, "crates", "measures", "out", "measures"), metavar="PATH",
+                        help="the built program of crates/measures")
     words = parser.parse_args()
     if sys.version_info[:2] != (3, 11):
         refuse("this isn't Python 3.11")
     if not os.access(words.teller, os.X_OK):
-        refuse(f"{words.teller} isn't there: `rt run` in crates/token_values builds it")
+        refuse(f"{words.teller} isn't there: `rt run` in crates/measures builds it")
     warnings.simplefilter("ignore")
     texts = sorted({token for path in python_files(words.folders or [sysconfig.get_path("stdlib")]) for token in tokens_in(path)})
     valued = [token for token in texts if reason_of(*token) is None]

@@ -1,6 +1,6 @@
-//! Dumps of trees made by hand, as Python 3.11 gives them.
+//! Dumps of expressions, as Python 3.11 gives them.
 
-use crate::words::expression;
+use crate::sources::{expression, module};
 use pytree::{Profile, Style, dump_expr};
 use std::test::Fail;
 
@@ -25,20 +25,16 @@ const TWO: Style = Style {
     profile: Profile::Py311,
 };
 
-/// `f(a, b=1)`.
-const CALL: &str = "Load:f exprs Load:a also keywords Int:1 keyword:b Call";
+const CALL: &str = "f(a, b=1)";
 
-/// `{**d}`.
-const SPREAD: &str = "keys none exprs Load:d also Dict";
+const SPREAD: &str = "{**d}";
 
-/// `lambda a, /, b=1, *c, d, e=2, **f: a`.
-const LAMBDA: &str =
-    "args arg:a args arg:b args arg:c args arg:d arg:e keys none Int:2 some args arg:f exprs Int:1 also arguments Load:a Lambda";
+const LAMBDA: &str = "lambda a, /, b=1, *c, d, e=2, **f: a";
 
 #[test]
 fn dumps_expressions(rt: HostRuntime) -> Result<(), Fail> {
     let alloc = rt.alloc();
-    for (words, style, expected) in [
+    for (text, style, expected) in &[
         (
             CALL,
             PLAIN,
@@ -71,9 +67,9 @@ fn dumps_expressions(rt: HostRuntime) -> Result<(), Fail> {
             "Lambda(\n  args=arguments(\n    posonlyargs=[\n      arg(arg='a')],\n    args=[\n      arg(arg='b')],\n    vararg=arg(arg='c'),\n    kwonlyargs=[\n      arg(arg='d'),\n      arg(arg='e')],\n    kw_defaults=[\n      None,\n      Constant(value=2)],\n    kwarg=arg(arg='f'),\n    defaults=[\n      Constant(value=1)]),\n  body=Name(id='a', ctx=Load()))",
         ),
     ] {
-        let tree = expression(&rt, alloc, words)?;
-        let text = dump_expr(alloc, &tree, style)?;
-        assert_eq!(rt; text.as_str(), expected, "{words}");
+        let tree = module(alloc, *text)?;
+        let dumped = dump_expr(alloc, expression(&rt, &tree), *style)?;
+        assert_eq!(rt; dumped.as_str(), *expected, "{text}");
     }
     Ok(())
 }

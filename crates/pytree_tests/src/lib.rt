@@ -1,9 +1,14 @@
-//! Tests of `pynode`, `pydump` and `pytree`, over the public calls of `pytree`: trees made by hand,
-//! whose heights are counted and whose dumps were taken from Python 3.11 and 3.12.
+//! Tests of `pynode`, `pydump` and `pytree`, over the public calls of `pytree`: trees of sources,
+//! whose heights are counted and whose dumps were taken from Python 3.11 and 3.12, and trees that
+//! no source gives, made of those by a change.
 #![tactic(auto)]
 
 #[cfg(test)]
+mod changes;
+#[cfg(test)]
 mod expression_dumps;
+#[cfg(test)]
+mod fits;
 #[cfg(test)]
 mod module_dumps;
 #[cfg(test)]
@@ -11,14 +16,6 @@ mod names;
 #[cfg(test)]
 mod nodes;
 #[cfg(test)]
+mod sources;
+#[cfg(test)]
 mod trees;
-#[cfg(test)]
-mod word_expressions;
-#[cfg(test)]
-mod word_lists;
-#[cfg(test)]
-mod word_stack;
-#[cfg(test)]
-mod word_statements;
-#[cfg(test)]
-mod words;

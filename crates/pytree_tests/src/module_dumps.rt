@@ -1,6 +1,6 @@
-//! Dumps of modules made by hand, as Python gives them.
+//! Dumps of modules, as Python gives them.
 
-use crate::words::module;
+use crate::sources::module;
 use pytree::{Module, Pieces, Profile, Style, dump};
 use std::alloc::Global;
 use std::process::Abort;
@@ -34,16 +34,6 @@ const FLUSH: Style = Style {
     profile: Profile::Py311,
 };
 
-/// `x: int`.
-const ANNOTATED: &str = "Store:x Load:int exprs AnnAssign";
-
-/// `class C[T]: pass`.
-const CLASS: &str = "types exprs type:T body Pass ClassDef:C";
-
-/// `def f(): pass`.
-const DEFINITION: &str =
-    "types args args args args keys args exprs arguments body Pass FunctionDef:f";
-
 /// Asserts that the pieces of a dump put together are this text. Behind the last of them there is
 /// nothing.
 fn same_in_pieces(
@@ -67,46 +57,46 @@ fn same_in_pieces(
 #[test]
 fn dumps_modules(rt: HostRuntime) -> Result<(), Fail> {
     let alloc = rt.alloc();
-    for (words, style, expected) in [
+    for (text, style, expected) in &[
         ("", PLAIN, "Module(body=[], type_ignores=[])"),
         ("", FLUSH, "Module(body=[], type_ignores=[])"),
-        ("Pass", FLUSH, "Module(\nbody=[\nPass()],\ntype_ignores=[])"),
+        ("pass", FLUSH, "Module(\nbody=[\nPass()],\ntype_ignores=[])"),
         (
-            "Pass Break Pass",
+            "pass; break; pass",
             FLUSH,
             "Module(\nbody=[\nPass(),\nBreak(),\nPass()],\ntype_ignores=[])",
         ),
-        ("Pass Break", BARE, "Module([Pass(), Break()], [])"),
+        ("pass; break", BARE, "Module([Pass(), Break()], [])"),
         (
-            ANNOTATED,
+            "x: int",
             BARE,
             "Module([AnnAssign(Name('x', Store()), Name('int', Load()), simple=1)], [])",
         ),
         (
-            CLASS,
+            "class C[T]: pass",
             BARE,
             "Module([ClassDef('C', [], [], [Pass()], [], [TypeVar('T')])], [])",
         ),
         (
-            DEFINITION,
+            "def f(): pass",
             PLAIN,
             "Module(body=[FunctionDef(name='f', args=arguments(posonlyargs=[], args=[], kwonlyargs=[], kw_defaults=[], defaults=[]), body=[Pass()], decorator_list=[])], type_ignores=[])",
         ),
         (
-            DEFINITION,
+            "def f(): pass",
             PLAIN_312,
             "Module(body=[FunctionDef(name='f', args=arguments(posonlyargs=[], args=[], kwonlyargs=[], kw_defaults=[], defaults=[]), body=[Pass()], decorator_list=[], type_params=[])], type_ignores=[])",
         ),
         (
-            DEFINITION,
+            "def f(): pass",
             BARE,
             "Module([FunctionDef('f', arguments([], [], kwonlyargs=[], kw_defaults=[], defaults=[]), [Pass()], [], type_params=[])], [])",
         ),
     ] {
-        let tree = module(&rt, alloc, words)?;
-        let text = dump(alloc, &tree, style)?;
-        assert_eq!(rt; text.as_str(), expected, "{words}");
-        same_in_pieces(&rt, alloc, &tree, style, expected)?;
+        let tree = module(alloc, *text)?;
+        let dumped = dump(alloc, &tree, *style)?;
+        assert_eq!(rt; dumped.as_str(), *expected, "{text}");
+        same_in_pieces(&rt, alloc, &tree, *style, *expected)?;
     }
     Ok(())
 }

@@ -13,15 +13,15 @@ const KEYWORDS: [&str; 35] = [
 
 #[test]
 fn keywords(rt: HostRuntime) {
-    for text in KEYWORDS {
-        assert!(rt; is_keyword(text), "{text}");
+    for text in &KEYWORDS {
+        assert!(rt; is_keyword(*text), "{text}");
     }
 }
 
 /// Other cases, soft keywords, what was a keyword, fronts, longer texts, another form.
 #[test]
 fn no_keywords(rt: HostRuntime) {
-    let rows = [
+    for text in &[
         "",
         "Match",
         "none",
@@ -42,16 +42,15 @@ fn no_keywords(rt: HostRuntime) {
         " if",
         "elseif",
         "ﬁnally",
-    ];
-    for text in rows {
-        assert!(rt; !is_keyword(text), "{text}");
+    ] {
+        assert!(rt; !is_keyword(*text), "{text}");
     }
 }
 
 /// By `str.isidentifier` of Python.
 #[test]
 fn identifiers(rt: HostRuntime) {
-    let rows = [
+    for (text, expected) in &[
         ("x1", true),
         ("_", true),
         ("__init__", true),
@@ -70,16 +69,15 @@ fn identifiers(rt: HostRuntime) {
         ("x²", false),
         ("·x", false),
         ("$x", false),
-    ];
-    for (text, expected) in rows {
-        assert_eq!(rt; is_identifier(text), expected, "{text}");
+    ] {
+        assert_eq!(rt; is_identifier(*text), *expected, "{text}");
     }
 }
 
 /// What `ast.parse` gives as the `id` of a `Name`: `ﬁ` is read as `fi`, `ª` as `a`.
 #[test]
 fn names(rt: HostRuntime) -> Result<(), Fail> {
-    let rows = [
+    for (text, expected) in &[
         ("fi", true),
         ("é", true),
         ("_", true),
@@ -91,9 +89,8 @@ fn names(rt: HostRuntime) -> Result<(), Fail> {
         ("e\u{301}", false),
         ("1x", false),
         ("", false),
-    ];
-    for (text, expected) in rows {
-        assert_eq!(rt; is_name(rt.alloc(), text)?, expected, "{text}");
+    ] {
+        assert_eq!(rt; is_name(rt.alloc(), *text)?, *expected, "{text}");
     }
     Ok(())
 }

@@ -1,6 +1,6 @@
-//! Sizes, the texts and numbers that are kept, and a tree of many classes made by hand.
+//! Sizes, the texts and numbers that are kept, and a tree of many classes.
 
-use crate::words::module;
+use crate::sources::module;
 use pytree::{
     Alias, Arg, Comprehension, Constant, Expr, Handler, Identifier, Integer, Item, Keyword, Points,
     Stmt, TypeParam,
@@ -27,17 +27,16 @@ fn sizes(rt: HostRuntime) {
 #[test]
 fn keeps_names(rt: HostRuntime) -> Result<(), Fail> {
     let alloc = rt.alloc();
-    let texts = [
+    for text in &[
         "",
         "x",
         "été",
         "a_name_of_thirty_bytes_exactly",
         "a_name_of_thirty_one_bytes_that",
         "os.path.a.b.c.d.e.f.g.h.i.j.k.l.m.n.o.p.q.r.s.t.u.v.w.x.y.z",
-    ];
-    for text in texts {
-        let name = Identifier::new(alloc, text)?;
-        assert!(rt; name.as_str() == text);
+    ] {
+        let name = Identifier::new(alloc, *text)?;
+        assert!(rt; name.as_str() == *text);
         let copy = name.clone()?;
         assert!(rt; copy == name);
         let other = Identifier::new(alloc, "another_name_than_any_of_the_others")?;
@@ -56,9 +55,9 @@ fn keeps_numbers(rt: HostRuntime) -> Result<(), Fail> {
         18_446_744_073_709_551_616,
         340_282_366_920_938_463_463_374_607_431_768_211_455,
     ];
-    for number in numbers {
-        let integer = Integer::new(alloc, number)?;
-        assert!(rt; integer.value() == number);
+    for number in &numbers {
+        let integer = Integer::new(alloc, *number)?;
+        assert!(rt; integer.value() == *number);
         let copy = integer.clone()?;
         assert!(rt; copy == integer);
     }
@@ -88,30 +87,21 @@ fn keeps_points(rt: HostRuntime) -> Result<(), Fail> {
     Ok(())
 }
 
-/// `from .. import a as b`, `x = 1`, then
-///
-/// ```text
-/// def f[T](x):
-///     return [-y for y in x if y < 1 and y] + f(*x, key={**x}, **x)[1:]
-/// try:
-///     pass
-/// except E as e:
-///     e.args: u'a' = b'a'
-/// ```
-const MANY: &str = "ImportFrom:a=b exprs Store:x also Int:1 Assign \
-    types exprs type:T args args arg:x args args keys args exprs arguments \
-    body Load:y USub Store:y Load:x exprs exprs Load:y exprs Int:1 also Lt also Load:y also And also ListComp \
-    Load:f exprs Load:x Starred also \
-    keywords keys none exprs Load:x also Dict keyword:key Load:x keyword Call \
-    Int:1 Slice Subscript:Load Add Return FunctionDef:f \
-    body Pass Load:E body Load:e Attribute:args UStr:a exprs Bytes:a also AnnAssign Try:e";
+/// A tree of many classes.
+const MANY: &str = "\
+from .. import a as b
+x = 1
+def f[T](x):
+    return [-y for y in x if y < 1 and y] + f(*x, key={**x}, **x)[1:]
+try:
+    pass
+except E as e:
+    e.args: u'a' = b'a'
+";
 
-#[test]
-fn makes_and_drops_a_tree(rt: HostRuntime) -> Result<(), Fail> {
-    let alloc = rt.alloc();
-    let module = module(&rt, alloc, MANY)?;
-    assert!(rt; module.body.len() == 4);
-    let value = match &module.body[1] {
+/// The number that is assigned by a statement, 0 where it is none.
+fn number_of(stmt: &Stmt) -> u128 {
+    match stmt {
         Stmt::Assign {
             targets: _,
             value: Expr::Constant {
@@ -119,8 +109,14 @@ fn makes_and_drops_a_tree(rt: HostRuntime) -> Result<(), Fail> {
             },
         } => number.value(),
         _ => 0,
-    };
-    assert!(rt; value == 1);
+    }
+}
+
+#[test]
+fn makes_and_drops_a_tree(rt: HostRuntime) -> Result<(), Fail> {
+    let module = module(rt.alloc(), MANY)?;
+    assert!(rt; module.body.len() == 4);
+    assert!(rt; number_of(&module.body[1]) == 1);
     let name = match &module.body[2] {
         Stmt::FunctionDef { name, .. } => name.as_str(),
         _ => "",

@@ -1,68 +1,53 @@
-//! Trees made by hand: their heights by definition, copies of them, and whether they are equal.
+//! Trees: their heights by definition, copies of them, and whether they are equal.
 
-use crate::words::module;
+use crate::changes::put;
+use crate::sources::module;
 use pytree::{Heights, copy, height, same};
 use std::test::Fail;
 
-/// `x[not y]: z = u'a'`.
-const ANNOTATED: &str = "Load:x Load:y Not Subscript:Store Load:z exprs UStr:a also AnnAssign";
+/// An assignment with an annotation.
+const ANNOTATED: &str = "x[not y]: z = u'a'";
 
-/// The same, but with `'a'`.
-const PLAIN: &str = "Load:x Load:y Not Subscript:Store Load:z exprs Str:a also AnnAssign";
-
-/// The same, but as if the target were read.
-const READ: &str = "Load:x Load:y Not Subscript:Load Load:z exprs Str:a also AnnAssign";
+/// The same, but with another kind of text.
+const PLAIN: &str = "x[not y]: z = 'a'";
 
 #[test]
 fn heights(rt: HostRuntime) -> Result<(), Fail> {
-    for (words, expression, statement) in [
+    for (text, expression, statement) in &[
         ("", 0, 0),
-        ("Pass", 0, 1),
-        // `if x: pass`
-        ("Load:x body Pass body If", 1, 2),
-        // `if x: pass`, `elif not y: pass`
-        (
-            "Load:x body Pass body Load:y Not body Pass body If If",
-            2,
-            3,
-        ),
-        // `f(a=not not x)`: a keyword is no expression
-        (
-            "Load:f exprs keywords Load:x Not Not keyword:a Call Expr",
-            4,
-            1,
-        ),
-        // `class C[T: not x]: pass`
-        (
-            "types exprs Load:x Not also type:T body Pass ClassDef:C",
-            2,
-            2,
-        ),
+        ("pass", 0, 1),
+        ("if x: pass", 1, 2),
+        ("if x: pass\nelif not y: pass\n", 2, 3),
+        // A keyword is no expression.
+        ("f(a=not not x)", 4, 1),
+        ("class C[T: not x]: pass", 2, 2),
     ] {
         let expected = Heights {
-            expression,
-            statement,
+            expression: *expression,
+            statement: *statement,
         };
-        let tree = module(&rt, rt.alloc(), words)?;
-        assert!(rt; height(&tree) == expected, "{words}");
+        let tree = module(rt.alloc(), *text)?;
+        assert!(rt; height(&tree) == expected, "{text}");
     }
     Ok(())
 }
 
-/// `x[...]`, and 499 `not` before it.
+/// `x[...]`, and 499 `not` before it: one more than a source may have.
 #[test]
 fn height_of_many(rt: HostRuntime) -> Result<(), Fail> {
     let alloc = rt.alloc();
-    let mut words = String::from_str(alloc, "Load:x Ellipsis Subscript:Load")?;
-    for _ in 0..499 {
-        words.push_str(" Not")?;
+    let mut text = String::new(alloc);
+    for _ in 0..498 {
+        text.push_str("not ")?;
     }
-    words.push_str(" Expr")?;
+    text.push_str("x[...]")?;
+    let mut inner = module(alloc, text.as_str())?;
+    let mut tree = module(alloc, "not y")?;
+    assert!(rt; put(&mut tree, &mut inner).is_some());
     let expected = Heights {
         expression: 501,
         statement: 1,
     };
-    let tree = module(&rt, alloc, words.as_str())?;
     assert!(rt; height(&tree) == expected);
     Ok(())
 }
@@ -71,11 +56,11 @@ fn height_of_many(rt: HostRuntime) -> Result<(), Fail> {
 #[test]
 fn copies(rt: HostRuntime) -> Result<(), Fail> {
     let alloc = rt.alloc();
-    let tree = module(&rt, alloc, ANNOTATED)?;
+    let tree = module(alloc, ANNOTATED)?;
     let made = copy(alloc, &tree)?;
     assert!(rt; same(&tree, &made));
     drop(tree);
-    let again = module(&rt, alloc, ANNOTATED)?;
+    let again = module(alloc, ANNOTATED)?;
     assert!(rt; same(&made, &again));
     Ok(())
 }
@@ -83,21 +68,33 @@ fn copies(rt: HostRuntime) -> Result<(), Fail> {
 #[test]
 fn equality(rt: HostRuntime) -> Result<(), Fail> {
     let alloc = rt.alloc();
-    for (words, others, expected) in [
-        // Another context, another kind of text.
-        (PLAIN, READ, false),
+    for (text, other, expected) in &[
+        // Another kind of text.
         (PLAIN, ANNOTATED, false),
         // Another end.
-        ("Pass Break", "Pass Break", true),
-        ("Pass Break", "Pass Continue", false),
-        ("Pass Break", "Pass", false),
-        ("Pass", "Pass Break", false),
+        ("pass; break", "pass; break", true),
+        ("pass; break", "pass; continue", false),
+        ("pass; break", "pass", false),
+        ("pass", "pass; break", false),
         // Another class.
-        ("Pass Global:x", "Pass Nonlocal:x", false),
+        ("pass; global x", "pass; nonlocal x", false),
     ] {
-        let tree = module(&rt, alloc, words)?;
-        let other = module(&rt, alloc, others)?;
-        assert!(rt; same(&tree, &other) == expected, "{words}, {others}");
+        let tree = module(alloc, *text)?;
+        let others = module(alloc, *other)?;
+        assert!(rt; same(&tree, &others) == *expected, "{text}, {other}");
     }
+    Ok(())
+}
+
+/// Another context: as if the target were read.
+#[test]
+fn equality_of_contexts(rt: HostRuntime) -> Result<(), Fail> {
+    let alloc = rt.alloc();
+    let tree = module(alloc, PLAIN)?;
+    let mut other = module(alloc, PLAIN)?;
+    assert!(rt; same(&tree, &other));
+    let mut read = module(alloc, "x[not y]")?;
+    assert!(rt; put(&mut other, &mut read).is_some());
+    assert!(rt; !same(&tree, &other));
     Ok(())
 }

@@ -1,20 +1,15 @@
-//! Tells of each line of a source which expression it is, or times how they are read: a crate of
-//! its own, over pyparse.
+//! Which expression each line of a source is, and how long it takes to read them.
 //!
-//! `expression_dumps [WHAT]` reads the standard input as a source. By `dump`, and with no word, it
-//! writes the dump of each line that is an expression, and of each other one why it is none. By
-//! `time` it reads each line with nothing written: it writes how many of them are expressions, and
-//! how many nanoseconds that took.
-#![tactic(auto)]
+//! By `measures expressions`, also with the word `dump`, the dump of each line that is an
+//! expression is written, and of each other one why it is none. By `measures expressions time` each
+//! line is read with nothing written: how many of them are expressions is written, and how many
+//! nanoseconds that took.
 
-use pydump::{Style, dump_expr};
-use pygrammar::Level;
+use crate::input::{nanoseconds, source_of};
 use pylex::Kind;
-use pynode::Profile;
 use pyparse::{ParseFault, Token, parse_expression, tokens_of};
-use pysource::{Counted, decode, read_all};
+use pytree::{Level, Profile, Style, dump_expr};
 use std::alloc::Global;
-use std::process::ExitCode;
 use std::time::Instant;
 
 /// As Python's `ast.dump` writes it, without the names of fields.
@@ -104,37 +99,22 @@ fn expression_count(alloc: Global, lines: &Lines<'_>) -> usize {
 fn time(rt: &HostRuntime, alloc: Global, lines: &Lines<'_>) -> Option<()> {
     let start = Instant::now(rt).ok()?;
     let count = expression_count(alloc, lines);
-    let taken = start.elapsed(rt).ok()?.as_nanos();
+    let taken = nanoseconds(rt, start)?;
     println!(rt; "{count} {taken}").ok()
 }
 
-/// Reads the standard input as a source, and does with its lines what the word of the command line
-/// says.
-fn run(rt: &HostRuntime) -> Option<()> {
-    let alloc = rt.alloc();
-    let word = std::env::args(rt).ok()?.skip(1).next();
-    let mut reader = Counted::new(rt.stdin());
-    let bytes = read_all(alloc, &mut reader).ok()?;
-    let source = decode(alloc, bytes.as_slice()).ok()?;
+/// Does with the lines of the source that the standard input is what a word says.
+pub(crate) fn expressions(rt: &HostRuntime, alloc: Global, what: &str) -> Option<()> {
+    let source = source_of(rt, alloc)?;
     let tokens = match tokens_of(alloc, &source) {
         Ok(tokens) => tokens,
         Err(ParseFault::Refused(refusal)) => return println!(rt; "refused {refusal:?}").ok(),
         Err(_) => return None,
     };
     let lines = lines_of(alloc, tokens.as_slice())?;
-    match &word {
-        Some(word) => match word.as_str() {
-            "dump" => tell_all(rt, alloc, &lines),
-            "time" => time(rt, alloc, &lines),
-            _ => None,
-        },
-        None => tell_all(rt, alloc, &lines),
-    }
-}
-
-fn main(rt: HostRuntime) -> ExitCode {
-    match run(&rt) {
-        Some(()) => ExitCode::SUCCESS,
-        None => ExitCode::from(1),
+    match what {
+        "" | "dump" => tell_all(rt, alloc, &lines),
+        "time" => time(rt, alloc, &lines),
+        _ => None,
     }
 }

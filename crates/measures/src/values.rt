@@ -1,19 +1,17 @@
-//! Tells what the numbers and strings of a source stand for, or times how they are read: a crate of
-//! its own, over pyparse.
+//! What the numbers and strings of a source stand for, and how long it takes to read them.
 //!
-//! `token_values [WHAT]` reads the standard input as a source. By `values`, and with no word, it
-//! writes for each number and string the row and the column, a word, and the value: `int` with the
-//! number in decimal, `text`, `u` or `bytes` with a repr. By `list` it lists the source with
-//! nothing written, and by `terminals` reads its logical lines: it writes how many entries or
-//! terminals there are, and how many nanoseconds that took. Where the source has no tokens it
-//! writes `refused` and why.
-#![tactic(auto)]
+//! By `measures values`, also with the word `values`, a line is written for each number and string:
+//! the row and the column, a word, and the value: `int` with the number in decimal, `text`, `u` or
+//! `bytes` with a repr. By `measures values list` the source is listed with nothing written, and by
+//! `measures values terminals` its logical lines are read: how many entries or terminals there are
+//! is written, and how many nanoseconds that took. Where the source has no tokens `refused` is
+//! written, and why.
 
+use crate::input::{nanoseconds, source_of};
 use pylex::{Kind, Lister, Step};
 use pyparse::{Literal, LogicalLines, ParseFault, Token, number_value, string_value, tokens_of};
-use pysource::{Counted, Source, decode, push_repr_bytes, push_repr_points, read_all};
+use pysource::{Source, push_repr_bytes, push_repr_points};
 use std::alloc::Global;
-use std::process::ExitCode;
 use std::time::Instant;
 
 /// Writes what a string stands for.
@@ -100,40 +98,21 @@ fn terminal_count(alloc: Global, source: &Source) -> Result<usize, ParseFault> {
 
 /// Writes a count, and how many nanoseconds went by since then.
 fn tell_count(rt: &HostRuntime, start: Instant, count: usize) -> Option<()> {
-    let taken = start.elapsed(rt).ok()?.as_nanos();
+    let taken = nanoseconds(rt, start)?;
     println!(rt; "{count} {taken}").ok()
 }
 
-/// Does with a source what a word says.
-fn perform(rt: &HostRuntime, alloc: Global, what: &str, source: &Source) -> Option<()> {
+/// Does with the source that the standard input is what a word says.
+pub(crate) fn values(rt: &HostRuntime, alloc: Global, what: &str) -> Option<()> {
+    let source = source_of(rt, alloc)?;
     let start = Instant::now(rt).ok()?;
     match what {
-        "values" => tell_values(rt, alloc, source),
-        "list" => tell_count(rt, start, entry_count(alloc, source)),
-        "terminals" => match terminal_count(alloc, source) {
+        "" | "values" => tell_values(rt, alloc, &source),
+        "list" => tell_count(rt, start, entry_count(alloc, &source)),
+        "terminals" => match terminal_count(alloc, &source) {
             Ok(count) => tell_count(rt, start, count),
             Err(fault) => tell_refusal(rt, fault),
         },
         _ => None,
-    }
-}
-
-/// Reads the standard input as a source, and does with it what the word of the command line says.
-fn run(rt: &HostRuntime) -> Option<()> {
-    let alloc = rt.alloc();
-    let word = std::env::args(rt).ok()?.skip(1).next();
-    let mut reader = Counted::new(rt.stdin());
-    let bytes = read_all(alloc, &mut reader).ok()?;
-    let source = decode(alloc, bytes.as_slice()).ok()?;
-    match &word {
-        Some(word) => perform(rt, alloc, word.as_str(), &source),
-        None => perform(rt, alloc, "values", &source),
-    }
-}
-
-fn main(rt: HostRuntime) -> ExitCode {
-    match run(&rt) {
-        Some(()) => ExitCode::SUCCESS,
-        None => ExitCode::from(1),
     }
 }

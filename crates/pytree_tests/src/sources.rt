@@ -1,0 +1,29 @@
+//! Trees of source texts.
+
+use pyparse::parse;
+use pysource::{SOURCE_LIMIT, decode};
+use pytree::{Expr, Module, Profile, Stmt};
+use std::alloc::Global;
+use std::process::Abort;
+use std::test::Fail;
+
+/// The module that a text is in Python 3.12.
+pub(crate) fn module(alloc: Global, text: &str) -> Result<Module, Fail> {
+    let bytes = text.as_bytes();
+    if bytes.len() > SOURCE_LIMIT {
+        return Err(Fail::from("too long"));
+    }
+    let source = decode(alloc, bytes)?;
+    match parse(alloc, &source, Profile::Py312) {
+        Ok(module) => Ok(module),
+        Err(_) => Err(Fail::from("no module")),
+    }
+}
+
+/// The expression that a module is.
+pub(crate) fn expression<'a>(rt: &impl Abort, module: &'a Module) -> &'a Expr {
+    match module.body.first() {
+        Some(Stmt::Expr { value }) => value,
+        _ => panic!(rt; "no expression"),
+    }
+}
