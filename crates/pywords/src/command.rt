@@ -2,7 +2,7 @@
 ghost use Rattle.std.specs.Prelude.{◌≡◌, ◌≤◌, true, codes, map, option_map, string_bytes, IfOk};
 ghost use Rattle.std.specs.Prelude.{IfErr, IfSome};
 ghost use Rattle.clap.specs.Matches.{found_of};
-ghost use Rattle.clap.specs.Simple.{app_of, subcommand_rows_of};
+ghost use Rattle.clap.specs.Simple.{app_of, new_shape, subcommand_rows_of};
 ghost use Rattle.clap.specs.Values.{kind_of};
 ghost use Rattle.clap.specs.Walk.{first_of, one_of, rows_of};
 ghost use Rattle.pylex.specs.CursorTexts.{IsWellFormed};
@@ -198,15 +198,22 @@ fn tokens_form<'a>(alloc: Global) -> Result<clap::Command<'a>, AllocError>
         .arg(file_form(alloc))
 }
 
+/// A subcommand that reads trees, as yet without words of its own.
+fn tree_form<'a>(alloc: Global, name: &'a str, about: &'a str) -> clap::Command<'a>
+    ensures { IsForm (new_shape name.now) result }
+{
+    clap::Command::new(alloc, name)
+        .about(about)
+        .after_help(LEFT_OUT)
+}
+
 /// The words of `dump`.
 fn dump_form<'a>(alloc: Global) -> Result<clap::Command<'a>, AllocError>
     ensures { IfOk result (IsForm dump_shape) }
 {
     let lines = "Give each field and each member a line, with N blanks a level";
     let bare = "Leave the names of fields out";
-    clap::Command::new(alloc, "dump")
-        .about("Dump the tree of a source")
-        .after_help(LEFT_OUT)
+    tree_form(alloc, "dump", "Dump the tree of a source")
         .arg(number_form(alloc, "indent", LARGEST_INDENT, lines))?
         .arg(flag_form(alloc, "bare", bare))?
         .arg(newer_form(alloc))?
@@ -217,11 +224,13 @@ fn dump_form<'a>(alloc: Global) -> Result<clap::Command<'a>, AllocError>
 fn unparse_form<'a>(alloc: Global) -> Result<clap::Command<'a>, AllocError>
     ensures { IfOk result (IsForm unparse_shape) }
 {
-    clap::Command::new(alloc, "unparse")
-        .about("Write the tree of a source as source text")
-        .after_help(LEFT_OUT)
-        .arg(newer_form(alloc))?
-        .arg(file_form(alloc))
+    tree_form(
+        alloc,
+        "unparse",
+        "Write the tree of a source as source text",
+    )
+    .arg(newer_form(alloc))?
+    .arg(file_form(alloc))
 }
 
 /// The forms that the words may have.
