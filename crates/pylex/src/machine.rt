@@ -126,11 +126,14 @@ fn find<'a>(start: LineState, levels: &[usize], text: &'a str) -> (Peeked, LineS
 {
     let mut now = start;
     let mut rest = text;
+    let mut walked = false;
     loop {
         if let Some(peeked) = line_start(&mut now, levels, rest) {
             return (peeked, now, rest);
         }
-        if !now.margin {
+        // One walk tells whether an entry comes: where none does it is not begun again.
+        if !now.margin && !walked {
+            walked = true;
             let mut ahead = now;
             if let Some((entry, left)) = next_entry(&mut ahead, rest) {
                 return (Peeked::Entry(entry), ahead, left);
