@@ -2,10 +2,14 @@
 --
 -- Carries: line_lister::find, line_lister::pass, pass_on, LineLister::next, next_behind. On:
 -- Streaming, LexedOn.
-use Rattle.std.proofs.Common.{◌≡◌, ◌⊎◌, inl, inr, ⊎_elim, ℕ, zero, suc, ◌<◌, Bool, true, false, ◌&&◌, ◌==◌, ◌||◌, List, [], ◌∷◌, ◌++◌, length, take, drop, refl, ap, sym, ◌∙◌, subst, arith, Option, Some, None, string_bytes}
+use Rattle.std.proofs.Common.{◌≡◌, ◌⊎◌, inl, inr, ⊎_elim, ℕ, zero, suc, ◌+◌, ◌<◌, Bool, true, false, ◌&&◌, ◌==◌, ◌||◌, List, [], ◌∷◌, ◌++◌, length, take, drop, refl, ap, sym, ◌∙◌, subst, arith, Option, Some, None, string_bytes}
+use Rattle.std.specs.Prelude.{slice_get, Ok, Err}
+use Rattle.std.specs.declared.alloc.AllocError.{AllocError}
 use Rattle.std.specs.Str.{chars, IsUtf8}
 use Rattle.std.proofs.lemmas.Bool.{eqb-true}
 use Rattle.std.proofs.lemmas.Str.{chars-nil}
+use Rattle.pysource.specs.Bytes.{Seen}
+use Rattle.pysource.specs.Parts.{Parts}
 use Rattle.pysource.specs.Streams.{Buffered, Gives, ComesOnly, MayCome}
 use Rattle.pysource.specs.declared.faults.LineFault.{LineFault}
 use Rattle.pysource.proofs.Callers.Coming.{may_come, only_given}
@@ -22,7 +26,9 @@ use Rattle.pylexeme.specs.Cuts.{begins_significant}
 use Rattle.pylexeme.specs.Lexemes.{Lexeme, lexeme_at, lexeme_len, left_by_cut, is_open_string}
 use Rattle.pylex.specs.Machine.{State, after, entry_by}
 use Rattle.pylex.specs.LineState.{Walks, stays, silent, level, dedent, Comes, FaultAhead, GivesFault, mismatch, faulty, StopAhead, is_level, measured, with_levels}
-use Rattle.pylex.specs.Streamed.{Streamed, AwaitsLine}
+use Rattle.pylex.specs.Listing.{in_characters, listing, rest}
+use Rattle.pylex.specs.Steps.{entries_in, first_step, IsIndent, IsNoEntry}
+use Rattle.pylex.specs.Streamed.{Streamed, AwaitsLine, Continues, Next, StreamsIn}
 use Rattle.pylex.specs.Inner.LineSteps.{Looks, lacks, streamed}
 use Rattle.pylex.proofs.LineByLine.LexedOn.{left_lexed, lexed_comes, not_both, stuck_walks}
 use Rattle.pylex.proofs.LineByLine.Streaming.{not_lacking}
@@ -116,3 +122,29 @@ may_before b c taken line gives none may fault only = may fault (only_given b c 
 pub awaits_on : (p q : Machine) (c d : HeldLines) → ((d ≡ c) × (q ≡ p)) ⊎ AwaitsLine (streamed p c None) → AwaitsLine (streamed q d None) → AwaitsLine (streamed p c None)
 awaits_on p q c d (inl same) a = subst (λ m. AwaitsLine (streamed m c None)) same.1 (subst (λ h. AwaitsLine (streamed q h None)) same.0 a)
 awaits_on p q c d (inr before) a = before
+
+-- the step at a place is the first of those from there on
+first_at : (ss : List Step) (k : ℕ) (s : Step) → slice_get ss k ≡ Some s → first_step (drop k ss) ≡ s
+first_at [] k s e = absurd cc
+first_at (r ∷ ss) zero s e = let same : r ≡ s = cc in same
+first_at (r ∷ ss) (suc k) s e = first_at ss k s e
+
+no_indent : (s : Step) → IsNoEntry s → IsIndent s → ⊥
+no_indent (steps.Entry e) none i = none
+no_indent steps.End none i = i
+no_indent (steps.Fault f) none i = i
+
+-- Behind the end or a fault memory is never refused.
+pub never_refused : (seen_0 seen_1 seen_2 : Seen) (u v w : Streamed) (step : Step) (e : AllocError) → IsNoEntry step → (t : Next seen_0 seen_1 u v (Ok step)) → (n : Next seen_1 seen_2 v w (Err e)) → (p : Parts) (k : ℕ) (more : List ℕ) (broken : Bool) → Continues w.lines more broken → StreamsIn u p k (t.taken ++ (n.taken ++ more)) broken → ⊥
+never_refused seen_0 seen_1 seen_2 u v w step e none t n p k more broken g x = ⊎_elim (t.ended none) (λ i. no_indent step none (subst IsIndent here (i p (k + entries_in step) more broken g moved.1))) n.refused
+  where
+    moved : (slice_get (listing (in_characters p)) k ≡ Some step) × StreamsIn v p (k + entries_in step) (n.taken ++ more) broken
+    moved = t.moves p k (n.taken ++ more) broken (n.follows more broken g) x
+
+    same : (s : Step) → IsNoEntry s → k + entries_in s ≡ k
+    same (steps.Entry d) h = absurd h
+    same steps.End h = omega arith
+    same (steps.Fault f) h = omega arith
+
+    here : first_step (rest (in_characters p) (k + entries_in step)) ≡ step
+    here = ap (λ j. first_step (rest (in_characters p) j)) (same step none) ∙ first_at (listing (in_characters p)) k step moved.0

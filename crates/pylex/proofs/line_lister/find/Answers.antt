@@ -38,7 +38,7 @@ returns-in_err-line-clause-awaits g c =
     let lack : lacks (drop c.look-found.result.at (string_bytes c.loop-chunk.chunk.text)) ≡ true = (rw (← c.deref.ensures, ← c.range_from.ensures.value) (sym c.if-not-lacks.ensures)) in
     let given : 0 < c.loop-chunk.machine.given = some_given c.args.machine.now c.loop-chunk.machine c.loop-chunk.invariant.searches.machine c.requires.given in
     let awaits = awaits_on c.args.machine.now c.loop-chunk.machine c.args.chunk.now c.loop-chunk.chunk c.loop-chunk.invariant.awaits
-        (awaits_found c.loop-chunk.machine c.loop-chunk.chunk c.look-found.result c.look-found.ensures.looks c.in-Stop.is lack given (may_before c.loop-chunk.chunk.lines c.read_on.new.self.lines o.taken o.line o.gives o.adds.0 o.adds.1)) in
+    (awaits_found c.loop-chunk.machine c.loop-chunk.chunk c.look-found.result c.look-found.ensures.looks c.in-Stop.is lack given (may_before c.loop-chunk.chunk.lines c.read_on.new.self.lines o.taken o.line o.gives o.adds.0 o.adds.1)) in
     on_err c.from_residual.result (AwaitsLine (streamed c.args.machine.now c.args.chunk.now None)) awaits
 
 pub returns-in_default-line : goal.returns-in_default-line
@@ -62,7 +62,7 @@ loop-chunk-preserved g c =
       searches = rw c.look_from.ensures (searches_line _ _ _ c.args.machine.now c.loop-chunk.machine c.args.chunk.now c.loop-chunk.chunk c.read_on.new.self c.look-found.result c.loop-chunk.invariant.searches c.look-found.ensures.looks c.in-Stop.is o lack c.requires.given holds);
       ahead = rw c.look_from.ensures (ahead_then _ _ _ c.args.machine.now c.loop-chunk.machine c.args.chunk.now c.loop-chunk.chunk c.read_on.new.self c.look-found.result c.loop-chunk.invariant.searches c.look-found.ensures.looks c.in-Stop.is o lack holds c.loop-chunk.invariant.ahead);
       awaits = inr (awaits_on c.args.machine.now c.loop-chunk.machine c.args.chunk.now c.loop-chunk.chunk c.loop-chunk.invariant.awaits
-      (awaits_found c.loop-chunk.machine c.loop-chunk.chunk c.look-found.result c.look-found.ensures.looks c.in-Stop.is lack (some_given c.args.machine.now c.loop-chunk.machine c.loop-chunk.invariant.searches.machine c.requires.given) (may_come c.loop-chunk.chunk.lines c.read_on.new.self.lines o.taken o.line o.gives o.adds.0)));
+          (awaits_found c.loop-chunk.machine c.loop-chunk.chunk c.look-found.result c.look-found.ensures.looks c.in-Stop.is lack (some_given c.args.machine.now c.loop-chunk.machine c.loop-chunk.invariant.searches.machine c.requires.given) (may_come c.loop-chunk.chunk.lines c.read_on.new.self.lines o.taken o.line o.gives o.adds.0)));
     }
 
 pub loop-chunk-smaller : goal.loop-chunk-smaller
