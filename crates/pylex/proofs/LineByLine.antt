@@ -5,6 +5,7 @@ pub mod HeldLinesLemmas
 pub mod Lined
 pub mod Streaming
 pub mod Reading
+pub mod Awaiting
 pub mod Searching
 pub mod Stepping
 pub mod Steppings

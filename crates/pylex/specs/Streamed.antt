@@ -1,10 +1,10 @@
 -- How a lister stands that reads its source line by line.
-use Rattle.std.specs.Prelude.{◌≡◌, ◌≢◌, ◌⊎◌, ℕ, ◌+◌, ◌≤◌, Bool, true, List, [], ◌++◌, length, suc, false, slice_get, Option, Some, None, Result, Ok, IfOk, OnErr}
+use Rattle.std.specs.Prelude.{◌≡◌, ◌≢◌, ◌⊎◌, ℕ, ◌+◌, ◌<◌, ◌≤◌, Bool, true, List, [], ◌++◌, length, take, suc, false, slice_get, Option, Some, None, Result, Ok, IfOk, OnErr}
 use Rattle.std.specs.declared.alloc.AllocError.{AllocError}
 use Rattle.std.specs.Str.{chars}
 use Rattle.pysource.specs.Bytes.{Seen}
 use Rattle.pysource.specs.Parts.{Parts}
-use Rattle.pysource.specs.Streams.{Buffered, Follows, comes, ends_line, head_len, stream_of, unread, Reads, Refuses, Coming}
+use Rattle.pysource.specs.Streams.{Buffered, Follows, MayCome, comes, ends_line, head_len, stream_of, unread, Reads, Refuses, Coming}
 use Rattle.pysource.specs.Taking.{Takes}
 use Rattle.pysource.specs.declared.line_reader.Reach.{Reach}
 use Rattle.pylex.specs.declared.line_lister.ResumeFault.{ResumeFault}
@@ -13,8 +13,8 @@ use Rattle.pysource.specs.Limits.{source_limit}
 use Rattle.pysource.specs.declared.faults.LineError.TheVariants.{Unread}
 use Rattle.pysource.specs.declared.line_reader.Line.{Line}
 use Rattle.pysource.specs.declared.line_reader.Line.TheVariants as lines
-use Rattle.pylexeme.specs.Lexemes.{left_by_cut}
-use Rattle.pylex.specs.LineState.{IsMeasuring}
+use Rattle.pylexeme.specs.Lexemes.{left_by_cut, is_open_string}
+use Rattle.pylex.specs.LineState.{Comes, IsMeasuring, StopAhead}
 use Rattle.pysource.specs.declared.line_reader.Reach.TheVariants as reach
 use Rattle.pysource.specs.declared.line_reader.StreamFault.TheVariants as faults
 use Rattle.pylex.specs.declared.entries.Entry.{Entry}
@@ -27,8 +27,8 @@ use Rattle.pylex.specs.declared.kind.Kind.TheVariants as kinds
 use Rattle.pylex.specs.declared.line_state.LineState.{LineState}
 use Rattle.pylex.specs.Held.{Ahead, IsJoined}
 use Rattle.pylex.specs.Cursors.{CursorParts}
-use Rattle.pylex.specs.Listing.{listing, in_characters}
-use Rattle.pylex.specs.Steps.{entries_of, entries_in, fault_of}
+use Rattle.pylex.specs.Listing.{listing, in_characters, rest}
+use Rattle.pylex.specs.Steps.{entries_of, entries_in, fault_of, first_step, IsIndent, IsNoEntry}
 use Rattle.pylex.specs.Laws.{LiesIn}
 use Rattle.pylex.specs.Standing.{IsCursorOf}
 use Rattle.pylex.specs.Listers.{StandsIn, Keeps}
@@ -107,7 +107,18 @@ IsAhead old new (steps.Entry e) = Ahead old new
 IsAhead old new steps.End = Unit {0}
 IsAhead old new (steps.Fault f) = Unit {0}
 
+-- A line has to be read: past what gives nothing, nothing is left of the lines held, or a literal that is open, and it isn't so that nothing comes but the end, or one fault.
+pub record AwaitsLine (v : Streamed) : Type 0 where
+  pub begun : 0 < v.shown.given
+  pub there : LineState
+  pub behind : List ℕ
+  pub passes : Comes (take v.nested v.levels) v.now (chars v.left) there behind
+  pub stop : StopAhead there behind
+  pub lacks : (behind ≡ []) ⊎ (is_open_string behind ≡ true)
+  pub line : MayCome v.lines
+
 -- A step: in each source in which the lister stood it comes next, and the lister stands behind it. Where memory is refused it stands where it stood.
+-- Memory is refused only where a line has to be read, or an INDENT comes next. Behind the end, a fault and a failed read that is never so.
 pub record Next (seen_old seen_new : Seen) (old new : Streamed) (result : Result Step AllocError) : Type 0 where
   pub taken : List ℕ
   pub reads : Reads seen_old seen_new old.lines new.lines taken
@@ -117,6 +128,8 @@ pub record Next (seen_old seen_new : Seen) (old new : Streamed) (result : Result
   pub last : IfOk result (IsLast new)
   pub ahead : IfOk result (IsAhead old.lines new.lines)
   pub same : OnErr result ((p : Parts) (k : ℕ) (more : List ℕ) (broken : Bool) → Continues new.lines more broken → StreamsIn old p k (taken ++ more) broken → StreamsIn new p k more broken)
+  pub refused : OnErr result (AwaitsLine old ⊎ ((p : Parts) (k : ℕ) (more : List ℕ) (broken : Bool) → Continues new.lines more broken → StreamsIn old p k (taken ++ more) broken → IsIndent (first_step (rest (in_characters p) k))))
+  pub ended : IfOk result (λ step. IsNoEntry step → AwaitsLine new → ⊥)
 
 -- a source's listing ends by a line that could not be read whole, before this many entries
 pub record EndsUnread (p : Parts) (n : ℕ) : Type 0 where

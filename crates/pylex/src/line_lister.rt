@@ -4,7 +4,7 @@
 
 ghost use Rattle.std.specs.Prelude.{◌≡◌, ◌≤◌, ◌<◌, ◌-◌, ◌+◌, ◌^◌, ◌||◌, ℕ, List, Bool, length};
 ghost use Rattle.std.specs.Prelude.{drop, string_bytes, Ok, Err, Option, Some, None, IfOk, IfErr};
-ghost use Rattle.std.specs.Prelude.{IfSome, IsTrue, ◌↔◌, Result};
+ghost use Rattle.std.specs.Prelude.{IfSome, IsTrue, ◌↔◌, Result, OnErr};
 ghost use Rattle.std.specs.Str.{chars};
 ghost use Rattle.pysource.specs.Parts.{Parts};
 ghost use Rattle.pysource.specs.declared.line_reader.Reach.{Reach};
@@ -12,7 +12,8 @@ ghost use Rattle.pysource.specs.Streams.{Refuses};
 ghost use Rattle.pylex.specs.ListingLines.{text_of};
 ghost use Rattle.pylexeme.specs.Lexemes.{is_open_string};
 ghost use Rattle.pylex.specs.Steps.{most_entries};
-ghost use Rattle.pylex.specs.Streamed.{Begins, BeginsAnew, Next, ResumeRefusal, StreamsIn};
+ghost use Rattle.pylex.specs.Streamed.{AwaitsLine, Begins, BeginsAnew, Next, ResumeRefusal};
+ghost use Rattle.pylex.specs.Streamed.{StreamsIn};
 ghost use Rattle.pylex.specs.Inner.LineSteps.{IsEndedBy, IsStreaming, Lacks, Looks, LooksAhead};
 ghost use Rattle.pylex.specs.Inner.LineSteps.{Passes, PassesOn, PeekedIn, Searches, lacks, streamed};
 
@@ -101,6 +102,7 @@ fn find<R: ByteIn>(
     ensures searches { Searches (R.seen reader.old) (R.seen reader.new)
         machine.old machine.new chunk.old chunk.new }
     ensures peeked { IfOk result (PeekedIn machine.new chunk.new) }
+    ensures awaits { OnErr result (AwaitsLine (streamed machine.old chunk.old None)) }
 {
     loop {
         let found = look(machine, chunk);
@@ -282,7 +284,7 @@ impl LineLister {
     /// # Errors
     ///
     /// Memory is taken where a line is read and where an INDENT comes. Where it is refused the same
-    /// step is still due.
+    /// step is still due. Behind the end or a fault none is taken.
     #[inline(always)]
     pub fn next<R: ByteIn>(&mut self, reader: &mut R) -> Result<Step, AllocError>
         requires { self.old.lines.reach ≡ Reach.Reading

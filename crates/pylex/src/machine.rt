@@ -15,7 +15,7 @@ ghost use Rattle.pylex.specs.LineState.{closing, with_levels, given, GivesNoText
 ghost use Rattle.pylex.specs.LineState.{GivesAt};
 ghost use Rattle.pylex.specs.Listers.{shown_by, shown_at};
 ghost use Rattle.pylex.specs.Inner.MachineSteps.{FaultsFirst, HasPlace, IsSame, StepsOn, Advance};
-ghost use Rattle.pylex.specs.Inner.MachineSteps.{shown_from};
+ghost use Rattle.pylex.specs.Inner.MachineSteps.{StaysBehind, shown_from};
 
 use crate::cursor::{Cursor, Shown};
 use crate::entries::{Emitted, Entry, ListingError, ListingFault, Step};
@@ -126,11 +126,14 @@ fn find<'a>(start: LineState, levels: &[usize], text: &'a str) -> (Peeked, LineS
 {
     let mut now = start;
     let mut rest = text;
+    let mut walked = false;
     loop {
         if let Some(peeked) = line_start(&mut now, levels, rest) {
             return (peeked, now, rest);
         }
-        if !now.margin {
+        // One walk tells whether an entry comes: where none does it is not begun again.
+        if !now.margin && !walked {
+            walked = true;
             let mut ahead = now;
             if let Some((entry, left)) = next_entry(&mut ahead, rest) {
                 return (Peeked::Entry(entry), ahead, left);
@@ -491,6 +494,7 @@ impl Machine {
         ensures went { IfOk result
             (λ step. Advance self.old peeked now left.now fault step self.new) }
         ensures fault { IfOk result (FaultsFirst peeked fault) }
+        ensures stays { IfOk result (StaysBehind self.old peeked self.new) }
         ensures same { OnErr result (IsSame self.old self.new) }
         ensures indent { OnErr result (peeked ≡ Peeked.Indent) }
     {

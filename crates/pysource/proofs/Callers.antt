@@ -1,4 +1,5 @@
 -- What other crates cite of pysource.
+pub mod Coming
 pub mod Faults
 pub mod Printing
 pub mod Taken

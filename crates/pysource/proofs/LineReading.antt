@@ -2,6 +2,7 @@
 pub mod CookiesLemmas
 pub mod ComingLemmas
 pub mod StreamLemmas
+pub mod MayComeLemmas
 pub mod NextLineLemmas
 pub mod HeadLemmas
 pub mod OpenLemmas

@@ -126,23 +126,28 @@ pub record IsLine (line : List ℕ) : Type 0 where
 abbrev pub ComesOnly : Buffered → Option LineFault → Type 0
 ComesOnly b fault = (more : List ℕ) (broken : Bool) → Follows b more broken → comes b more broken ≡ record { text = []; fault = fault }
 
+-- a line may still come: it isn't so that nothing does but the end, or one fault
+abbrev pub MayCome : Buffered → Type 0
+MayCome b = (fault : Option LineFault) → ComesOnly b fault → ⊥
+
 -- What an answer says of the line that was given with it. Behind a last line without line feed nothing comes, and at the end nothing is pending.
+-- Memory is refused only where a line may still come: never behind the end, a faulty line or a failed read.
 abbrev pub Tells : Result Line AllocError → List ℕ → Buffered → Type 0
 Tells (Ok lines.Text) line new = IsLine line × ((ends_line line ≡ true) ⊎ ComesOnly new None)
 Tells (Ok lines.End) line new = (line ≡ []) × ComesOnly new None × (new.pending ≡ [])
 Tells (Ok (lines.Fault f)) line new = (line ≡ []) × (new.fault ≡ Some f) × ComesOnly new (Some f)
 Tells (Ok lines.Read) line new = (line ≡ []) × ((new.reach ≡ Broken) ⊎ (new.reach ≡ Passed)) × ComesOnly new (Some (unread new.row))
-Tells (Err e) line new = line ≡ []
+Tells (Err e) line new = (line ≡ []) × MayCome new
 
 -- the fault of a bad byte of a line
 abbrev pub fault_at : ℕ → List ℕ → ℕ × LineError → LineFault
 fault_at row line bad = record { code = bad.1; place = record { row = row; column = length (chars (take bad.0 line)) } }
 
--- a good line is appended to a text
+-- a good line is appended to a text; memory is wanted only for such
 abbrev pub PushesLine : Charset → ℕ → List ℕ → List ℕ → List ℕ → Result (Option LineFault) AllocError → Type 0
 PushesLine charset row line old new (Ok None) = (first_bad charset line ≡ None) × IsUtf8 line × (new ≡ old ++ line)
 PushesLine charset row line old new (Ok (Some fault)) = (bad : ℕ × LineError) × (first_bad charset line ≡ Some bad) × (fault ≡ fault_at row line bad) × (new ≡ old)
-PushesLine charset row line old new (Err e) = new ≡ old
+PushesLine charset row line old new (Err e) = (first_bad charset line ≡ None) × (new ≡ old)
 
 -- how many bytes stand behind the first line of some
 abbrev pub past_first : List ℕ → ℕ

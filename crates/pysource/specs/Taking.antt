@@ -112,4 +112,4 @@ FoundHead start old new (Err (BomConflict place)) = ⊥
 abbrev pub FoundDue : Intake → Intake → Result (Option ℕ) AllocError → Type 0
 FoundDue old new (Ok (Some end)) = LineThere 0 end old new ⊎ LineLeft 0 end new
 FoundDue old new (Ok None) = LineUnread 0 new
-FoundDue old new (Err e) = NoLfFrom 0 (length new.buffer) new.buffer
+FoundDue old new (Err e) = (new.reach ≡ Reading) × NoLfFrom 0 (length new.buffer) new.buffer

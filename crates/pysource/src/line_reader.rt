@@ -263,7 +263,9 @@ impl LineReader {
     ///
     /// # Errors
     ///
-    /// Where memory ran out nothing is appended, and the line is still due.
+    /// Where memory ran out nothing is appended, and the line is still due. Memory is taken only for
+    /// a line that may still come: behind the end, a faulty line or a failed read the call cannot
+    /// fail.
     pub fn next_line<R: ByteIn>(
         &mut self,
         reader: &mut R,

@@ -96,12 +96,12 @@ lexed_finds levels p cs peeked.Dedent q ds h f = lexed_comes levels p cs q ds f.
 lexed_finds levels p cs peeked.Stop q ds h f = lexed_comes levels p cs q ds f.0
 
 -- A lister at which no lexeme stands, and no layout is due, finds nothing there.
-not_both : (a b : Bool) → (a && b) ≡ false → a ≡ true → b ≡ true → ⊥
+pub not_both : (a b : Bool) → (a && b) ≡ false → a ≡ true → b ≡ true → ⊥
 not_both true true h d e = cc
 not_both true false h d e = cc
 not_both false b h d e = cc
 
-stuck_walks : (t : State) (ds : List ℕ) (n : ℕ) (s : State) (cs : List ℕ) → lexeme_at cs ≡ None → (s.margin && begins_significant cs) ≡ false → Walks t ds n s cs → (ds ≡ cs) × (t.margin ≡ s.margin)
+pub stuck_walks : (t : State) (ds : List ℕ) (n : ℕ) (s : State) (cs : List ℕ) → lexeme_at cs ≡ None → (s.margin && begins_significant cs) ≡ false → Walks t ds n s cs → (ds ≡ cs) × (t.margin ≡ s.margin)
 stuck_walks t ds n s cs h d stays = (refl, refl)
 stuck_walks t ds n s cs h d (silent m r bs x z e g w) = absurd (let f : None ≡ Some x = sym h ∙ e in cc)
 stuck_walks t ds n s cs h d (level m r bs a b i c w) = absurd (not_both s.margin (begins_significant cs) d a b)

@@ -34,6 +34,7 @@ use Rattle.pylex.specs.Held.{Ahead, AheadBut, IsAtStop}
 use Rattle.pylexeme.specs.Cuts.{begins_significant}
 use Rattle.pylexeme.specs.Lexemes.{is_open_string}
 use Rattle.pylex.proofs.LineByLine.AheadOn.{ahead_but}
+use Rattle.pylex.proofs.LineByLine.Awaiting.{awaits_no_stop}
 use Rattle.pylex.proofs.LineByLine.LexedOn.{lexed_both, lexed_comes, stuck_finds}
 use Rattle.pylexeme.proofs.Callers.WholeLines.{significant_kept}
 use Rattle.pylex.proofs.LineByLine.Lined.{lined_or_last, stands_front, stop_back}
@@ -276,11 +277,16 @@ module _ (seen_0 seen_1 seen_2 : Seen) (p q : Machine) (c d e : HeldLines) (f : 
       record {
         looks = looks_on o stays;
         stops = λ s k more broken g x i. let z = only more broken g.0 in inr (ap (λ (y : Coming). y.text) z, x.fault ∙ ap (λ (y : Coming). y.fault) z);
+        ended = λ _ a. a.line o only;
       }
 
 -- what is met where nothing is lacking
 pub meets_here : (q : Machine) (d : HeldLines) (f : Found) → Looks q d f → (f.peeked ≡ peeked.Stop → lacks (drop f.at (string_bytes d.text)) ≡ false) → PeekedIn q d f
-meets_here q d f looks whole = record { looks = looks; stops = λ s k more broken g x i. inl (whole i) }
+meets_here q d f looks whole = record {
+  looks = looks;
+  stops = λ s k more broken g x i. inl (whole i);
+  ended = λ i a. let g = rw i at looks.finds in awaits_no_stop (streamed q d None) f.now (drop f.at (string_bytes d.text)) a g.0 g.1 looks.left (whole i);
+}
 
 -- A lister that waits for more of a literal meets the end of the lines it holds.
 pub waiting_meets : (q : Machine) (d : HeldLines) (f : Found) → Looks q d f → IsWaiting q d → (f.peeked ≡ peeked.Stop) × (lacks (drop f.at (string_bytes d.text)) ≡ true)

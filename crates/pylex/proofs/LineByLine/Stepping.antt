@@ -14,19 +14,22 @@ use Rattle.pylex.specs.declared.entries.Entry.{Entry}
 use Rattle.pylex.specs.declared.entries.Step.{Step}
 use Rattle.pylex.specs.declared.entries.Step.TheVariants as steps
 use Rattle.pylex.specs.declared.machine.Machine.{Machine}
+use Rattle.pylex.specs.declared.machine.Peeked.TheVariants as peeked
 use Rattle.pylex.specs.declared.line_lister.Found.{Found}
 use Rattle.pylexeme.specs.Chunks.{EndsLine}
 use Rattle.pylex.specs.Laws.{AllLie, StepLies}
 use Rattle.pylexeme.specs.Chars.{bytes_in}
 use Rattle.pylex.specs.Listing.{in_characters, listing}
+use Rattle.pylex.specs.Listing.{rest as rest_of_listing}
 use Rattle.pylex.specs.Listers.{StandsIn, NextStep}
 use Rattle.pylex.specs.Inner.MachineSteps.{shown_from, Holds, Advance, Ranges, left_by}
 use Rattle.pylex.specs.LineState.{Peek}
-use Rattle.pylex.specs.Steps.{entries_in}
+use Rattle.pylex.specs.Steps.{entries_in, first_step, IsIndent}
 use Rattle.pylex.specs.Streamed.{Continues, StreamsIn, IsHeld}
 use Rattle.pylex.specs.Inner.LineSteps.{IsStreaming, streamed, PeekedIn}
 use Rattle.pylex.proofs.LineByLine.Lined.{lined_chars}
 use Rattle.pylex.proofs.Listing.Lying.{entries_lie}
+use Rattle.pylex.proofs.Listers.Moving.{awaits_indent}
 use Rattle.pylex.proofs.Listers.Ranges.{in_offset}
 use Rattle.pylex.proofs.LineByLine.Reading.{lined_left}
 use Rattle.pylex.proofs.LineByLine.Streaming.{Lined, utf8_after, finds_whole, end_whole, stands_whole}
@@ -47,6 +50,20 @@ left_same : (s : Step) (from to : List ℕ) → ((e : Entry) → s ≡ steps.Ent
 left_same (steps.Entry e) from to h = absurd (h e refl)
 left_same steps.End from to h = refl
 left_same (steps.Fault f) from to h = refl
+
+-- Where an INDENT is met it comes next in each source.
+pub indent_is : (q : Machine) (d : HeldLines) (f : Found) → IsStreaming q d None → PeekedIn q d f → f.peeked ≡ peeked.Indent → 0 < q.given → (s : Parts) (k : ℕ) (more : List ℕ) (broken : Bool) → Continues d.lines more broken → StreamsIn (streamed q d None) s k more broken → IsIndent (first_step (rest_of_listing (in_characters s) k))
+indent_is q d f h m is some s k more broken g x =
+    let coming = (comes d.lines more broken).text in
+    let left = drop d.at (string_bytes d.text) in
+    let behind = drop f.at (string_bytes d.text) in
+    let found = finds_whole (take q.nested q.levels.items) q.now left f.peeked f.now behind coming s.fault f.fault h.left m.looks.left (lined_left (string_bytes d.text) d.at coming h.left x.ends) (m.stops s k more broken g x) m.looks.finds in
+    let i = rw is at found in
+    awaits_indent (record { source = s; shown = shown_from q }) q.now (left ++ coming) q.levels.items q.nested q.tail x.keeps refl some (no_tail q.tail m.looks.tail) f.now (chars (behind ++ coming)) i.0 i.1 (in_characters s) k x.stands
+  where
+    no_tail : (n : ℕ) → (0 < n → (f.peeked ≡ peeked.Stop) × (f.now ≡ q.now) × (drop f.at (string_bytes d.text) ≡ drop d.at (string_bytes d.text))) → n ≡ 0
+    no_tail zero t = refl
+    no_tail (suc n) t = absurd (let z : peeked.Indent ≡ peeked.Stop = sym is ∙ (t (omega arith)).0 in cc)
 
 module _ (q r : Machine) (d : HeldLines) (f : Found) (step : Step) (h : IsStreaming q d None) (m : PeekedIn q d f) (w : Advance q f.peeked f.now (drop f.at (string_bytes d.text)) f.fault step r) (s : Parts) (k : ℕ) (more : List ℕ) (broken : Bool) (g : Continues d.lines more broken) (x : StreamsIn (streamed q d None) s k more broken) where
   abbrev held : List ℕ

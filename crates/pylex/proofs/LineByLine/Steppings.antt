@@ -2,7 +2,7 @@
 --
 -- Carries: LineLister::cursor, LineLister::next, next_behind, LineLister::shows, line_lister::pass,
 -- pass_on. On: Stepping, LexedOn, Moving, AheadOn and 2 more.
-use Rattle.std.proofs.Common.{◌≡◌, inl, inr, ℕ, ◌+◌, ◌<◌, ◌-◌, Bool, List, [], ◌++◌, length, take, drop, refl, ap, sym, ◌∙◌, subst, arith, Option, Some, None, string_bytes}
+use Rattle.std.proofs.Common.{◌≡◌, ◌⊎◌, inl, inr, ⊎_elim, ℕ, ◌+◌, ◌<◌, ◌-◌, Bool, List, [], ◌++◌, length, take, drop, refl, ap, sym, ◌∙◌, subst, arith, Option, Some, None, string_bytes}
 use Rattle.std.specs.Prelude.{slice_get, Result, Ok, Err}
 use Rattle.std.specs.declared.alloc.AllocError.{AllocError}
 use Rattle.std.specs.Str.{chars}
@@ -24,17 +24,18 @@ use Rattle.pylex.specs.declared.line_lister.Found.{Found}
 use Rattle.pylex.specs.Listing.{in_characters, listing, origin}
 use Rattle.pylex.specs.Listers.{Listed, shown_by}
 use Rattle.pylex.specs.Machine.{mark_at}
-use Rattle.pylex.specs.Inner.MachineSteps.{shown_from, FaultsFirst, HasPlace, IsSame, Advance}
-use Rattle.pylex.specs.Steps.{entries_in}
-use Rattle.pylex.specs.Streamed.{Continues, Streamed, StreamsIn, IsLast, IsAhead, Next}
+use Rattle.pylex.specs.Inner.MachineSteps.{shown_from, FaultsFirst, HasPlace, IsSame, Advance, StaysBehind}
+use Rattle.pylex.specs.Steps.{entries_in, IsNoEntry}
+use Rattle.pylex.specs.Streamed.{AwaitsLine, Continues, Streamed, StreamsIn, IsLast, IsAhead, Next}
 use Rattle.pylex.specs.Inner.LineSteps.{IsStreaming, LooksAhead, Searches, streamed, PeekedIn}
 use Rattle.pylex.specs.Held.{Ahead}
 use Rattle.pylex.proofs.LineByLine.AheadOn.{ahead_none}
+use Rattle.pylex.proofs.LineByLine.Awaiting.{awaits_last, awaits_no_fault}
 use Rattle.pylex.proofs.LineByLine.LexedOn.{lexed_both, lexed_finds}
 use Rattle.pylex.proofs.Listers.Moving.{leads_moves, goes_first}
 use Rattle.pylex.proofs.Listers.Placing.{has_place}
 use Rattle.pylex.proofs.LineByLine.Searching.{witness}
-use Rattle.pylex.proofs.LineByLine.Stepping.{step_is, stands_then, streams_entry, streams_other}
+use Rattle.pylex.proofs.LineByLine.Stepping.{indent_is, step_is, stands_then, streams_entry, streams_other}
 
 -- The entry given last plays no part in what follows.
 pub none_last : (p : Machine) (c : HeldLines) (last : Option Entry) (s : Parts) (k : ℕ) (more : List ℕ) (broken : Bool) → StreamsIn (streamed p c last) s k more broken → StreamsIn (streamed p c None) s k more broken
@@ -76,6 +77,8 @@ steps_last seen_old seen_new p c last v (Ok step) h = record {
   last = h.last;
   ahead = h.ahead;
   same = tt;
+  refused = tt;
+  ended = h.ended;
 }
 steps_last seen_old seen_new p c last v (Err e) h = record {
   taken = h.taken;
@@ -85,6 +88,8 @@ steps_last seen_old seen_new p c last v (Err e) h = record {
   last = tt;
   ahead = tt;
   same = λ s k more broken g x. h.same s k more broken g (none_last p c last s k (h.taken ++ more) broken x);
+  refused = ⊎_elim (λ a. inl (awaits_last p c last a)) (λ i. inr (λ s k more broken g x. i s k more broken g (none_last p c last s k (h.taken ++ more) broken x))) h.refused;
+  ended = tt;
 }
 
 pub place_held : (p : Machine) (c : HeldLines) (last : Option Entry) → IsStreaming p c last → HasPlace p
@@ -146,6 +151,8 @@ module _ (p : Machine) (c : HeldLines) (last : Option Entry) (e : Entry) (z : p.
     last = refl;
     ahead = ahead_none c.lines;
     same = tt;
+    refused = tt;
+    ended = λ h. absurd h;
   }
 
 -- an entry comes of no fault
@@ -167,8 +174,11 @@ module _ (seen_old seen_new : Seen) (p q : Machine) (c d : HeldLines) (last : Op
   stood s k more broken g x = so.stands s k more broken g (none_last p c last s k (so.taken ++ more) broken x)
 
   -- memory was refused where a line was read
-  pub steps_unread : (e : AllocError) → Next seen_old seen_new (streamed p c last) (streamed q d None) (Err e)
-  steps_unread e = record { taken = so.taken; reads = so.reads; follows = so.follows; moves = tt; last = tt; ahead = tt; same = stood }
+  pub steps_unread : (e : AllocError) → AwaitsLine (streamed p c last) → Next seen_old seen_new (streamed p c last) (streamed q d None) (Err e)
+  steps_unread e a = record { taken = so.taken; reads = so.reads; follows = so.follows; moves = tt; last = tt; ahead = tt; same = stood; refused = inl a; ended = tt }
+
+  some_given : 0 < p.given → 0 < q.given
+  some_given h = let same : q.given ≡ p.given = ap (λ (y : Machine). y.given) so.machine in omega (arith, same, h)
 
   module _ (r : Machine) (same : IsSame q r) where
     same_view : streamed r d None ≡ streamed q d None
@@ -177,8 +187,18 @@ module _ (seen_old seen_new : Seen) (p q : Machine) (c d : HeldLines) (last : Op
         ∙ ap (λ ls. record { lines = d.lines; shown = shown_by q.given q.point ls ((length ls - q.nested) + q.tail); base = d.base; held = string_bytes d.text; left = drop d.at (string_bytes d.text); now = q.now; levels = ls; nested = q.nested; tail = q.tail; last = None }) same.1
 
     -- or where an INDENT came
-    pub steps_unopened : (e : AllocError) → Next seen_old seen_new (streamed p c last) (streamed r d None) (Err e)
-    steps_unopened e = record { taken = so.taken; reads = so.reads; follows = so.follows; moves = tt; last = tt; ahead = tt; same = λ s k more broken g x. subst (λ v. StreamsIn v s k more broken) (sym same_view) (stood s k more broken g x) }
+    pub steps_unopened : (e : AllocError) (f : Found) → PeekedIn q d f → f.peeked ≡ peeked.Indent → 0 < p.given → Next seen_old seen_new (streamed p c last) (streamed r d None) (Err e)
+    steps_unopened e f m is some = record {
+      taken = so.taken;
+      reads = so.reads;
+      follows = so.follows;
+      moves = tt;
+      last = tt;
+      ahead = tt;
+      same = λ s k more broken g x. subst (λ v. StreamsIn v s k more broken) (sym same_view) (stood s k more broken g x);
+      refused = inr (λ s k more broken g x. indent_is q d f so.streaming m is (some_given some) s k more broken g (stood s k more broken g x));
+      ended = tt;
+    }
 
     pub streaming_unopened : IsStreaming r d None
     streaming_unopened =
@@ -208,9 +228,6 @@ module _ (seen_old seen_new : Seen) (p q : Machine) (c d : HeldLines) (last : Op
           let one : entries_in step ≡ 1 = ap entries_in is in
           omega (arith, n, one, z)
 
-      some_given : 0 < p.given → 0 < q.given
-      some_given h = let same : q.given ≡ p.given = ap (λ (y : Machine). y.given) so.machine in omega (arith, same, h)
-
       pub steps_entry : 0 < p.given → Ahead c.lines d.lines → Next seen_old seen_new (streamed p c last) (streamed r (record d { at = f.at }) (Some e)) (Ok step)
       steps_entry some a = record {
         taken = so.taken;
@@ -220,6 +237,8 @@ module _ (seen_old seen_new : Seen) (p q : Machine) (c d : HeldLines) (last : Op
         last = subst (IsLast (streamed r (record d { at = f.at }) (Some e))) (sym is) refl;
         ahead = subst (IsAhead c.lines d.lines) (sym is) a;
         same = tt;
+        refused = tt;
+        ended = λ h. absurd (subst IsNoEntry is h);
       }
 
       pub streaming_entry : 0 < p.given → FaultsFirst f.peeked f.fault step → IsStreaming r (record d { at = f.at }) (Some e)
@@ -254,8 +273,22 @@ module _ (seen_old seen_new : Seen) (p q : Machine) (c d : HeldLines) (last : Op
           let n = count_then x.source x.more x.broken x.follows x.streams in
           omega (arith, n, z)
 
-      pub steps_other : Next seen_old seen_new (streamed p c last) (streamed r d None) (Ok step)
-      steps_other = record {
+      -- no line has to be read then
+      ended_other : (t : Step) → ((e : Entry) → t ≡ steps.Entry e → ⊥) → StaysBehind q f.peeked r t → AwaitsLine (streamed r d None) → ⊥
+      ended_other t h stays a = by t h stays
+        where
+          met : (r ≡ q) × ((f.peeked ≡ peeked.Stop) ⊎ ((g : ListingFault) × (f.peeked ≡ peeked.Fault g))) → ⊥
+          met w =
+              let b : AwaitsLine (streamed q d None) = subst (λ x. AwaitsLine (streamed x d None)) w.0 a in
+              ⊎_elim (λ i. m.ended i b) (λ i. awaits_no_fault (streamed q d None) i.0 b (rw i.1 at m.looks.finds)) w.1
+
+          by : (t : Step) → ((e : Entry) → t ≡ steps.Entry e → ⊥) → StaysBehind q f.peeked r t → ⊥
+          by (steps.Entry e) h w = h e refl
+          by steps.End h w = met w
+          by (steps.Fault g) h w = met w
+
+      pub steps_other : StaysBehind q f.peeked r step → Next seen_old seen_new (streamed p c last) (streamed r d None) (Ok step)
+      steps_other stays = record {
         taken = so.taken;
         reads = so.reads;
         follows = so.follows;
@@ -263,6 +296,8 @@ module _ (seen_old seen_new : Seen) (p q : Machine) (c d : HeldLines) (last : Op
         last = last_other step no_entry;
         ahead = ahead_other step no_entry;
         same = tt;
+        refused = tt;
+        ended = λ _. ended_other step no_entry stays;
       }
 
       pub streaming_other : IsStreaming r d None

@@ -35,7 +35,7 @@ abbrev pub Lined : List ℕ → List ℕ → Type 0
 Lined left coming = (EndsLine (chars left) ⊎ (chars left ≡ [])) ⊎ (coming ≡ [])
 
 -- no literal is open where something is left
-not_lacking : (left : List ℕ) → IsUtf8 left → lacks left ≡ false → (chars left ≢ []) × (is_open_string (chars left) ≡ false)
+pub not_lacking : (left : List ℕ) → IsUtf8 left → lacks left ≡ false → (chars left ≢ []) × (is_open_string (chars left) ≡ false)
 not_lacking left u h = (λ e. some left u e h, closed (length left == 0) (is_open_string (chars left)) h)
   where
     closed : (a b : Bool) → (a || b) ≡ false → b ≡ false

@@ -2,7 +2,7 @@
 use Rattle.std.specs.Prelude.{◌≡◌, ◌⊎◌, ℕ, ◌+◌, ◌≤◌, ◌<◌, true, List, [], ◌++◌, length, drop, string_bytes, Some, None, Result, Ok, Err, IsUtf8}
 use Rattle.std.specs.declared.alloc.AllocError.{AllocError}
 use Rattle.pysource.specs.Bytes.{Seen}
-use Rattle.pysource.specs.Streams.{Buffered, Reads, Gives, ComesOnly, IsLine, ends_line, unread}
+use Rattle.pysource.specs.Streams.{Buffered, Reads, Gives, ComesOnly, MayCome, IsLine, ends_line, unread}
 use Rattle.pysource.specs.Limits.{source_limit}
 use Rattle.pysource.specs.declared.line_reader.Line.{Line}
 use Rattle.pysource.specs.declared.line_reader.Line.TheVariants as met
@@ -36,13 +36,13 @@ Holding old new from line (Ok (met.Fault f)) = Stays old new
 Holding old new from line (Ok met.Read) = Stays old new
 Holding old new from line (Err e) = Stays old new
 
--- what an answer says of the text that was added: at the source's end, a faulty line and a failed read it is none
+-- what an answer says of the text that was added: at the source's end, a faulty line and a failed read it is none; memory is refused only where a line may come
 abbrev pub Adds : Result Line AllocError → List ℕ → Buffered → Type 0
 Adds (Ok met.Text) line new = (0 < length line) × IsUtf8 line × ((ends_line line ≡ true) ⊎ ComesOnly new None)
 Adds (Ok met.End) line new = (line ≡ []) × ComesOnly new None × (new.pending ≡ [])
 Adds (Ok (met.Fault f)) line new = (line ≡ []) × ComesOnly new (Some f)
 Adds (Ok met.Read) line new = (line ≡ []) × ComesOnly new (Some (unread new.row))
-Adds (Err e) line new = line ≡ []
+Adds (Err e) line new = (line ≡ []) × MayCome new
 
 -- a chunk that reads on from a place in it
 pub record ReadsOn (seen_old seen_new : Seen) (old new : HeldLines) (from : ℕ) (result : Result Line AllocError) : Type 0 where

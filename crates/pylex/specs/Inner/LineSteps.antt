@@ -25,7 +25,7 @@ use Rattle.pylex.specs.declared.machine.Machine.{Machine}
 use Rattle.pylex.specs.Inner.MachineSteps.{shown_from}
 use Rattle.pylex.specs.Inner.Chunked.{IsHeldLines}
 use Rattle.pylex.specs.Held.{Ahead, IsJoined, LexedTo}
-use Rattle.pylex.specs.Streamed.{is_unread, Streamed, Continues, StreamsIn, Next}
+use Rattle.pylex.specs.Streamed.{is_unread, Streamed, AwaitsLine, Continues, StreamsIn, Next}
 
 -- a lister by its machine, the lines that it holds, and the entry that it gave last
 abbrev pub streamed : Machine → HeldLines → Option Entry → Streamed
@@ -74,6 +74,7 @@ pub record Looks (p : Machine) (c : HeldLines) (f : Found) : Type 0 where
 pub record PeekedIn (p : Machine) (c : HeldLines) (f : Found) : Type 0 where
   pub looks : Looks p c f
   pub stops : (s : Parts) (k : ℕ) (more : List ℕ) (broken : Bool) → Continues c.lines more broken → StreamsIn (streamed p c None) s k more broken → Stops f.peeked (drop f.at (string_bytes c.text)) (comes c.lines more broken).text f.fault s.fault
+  pub ended : f.peeked ≡ met.Stop → AwaitsLine (streamed p c None) → ⊥
 
 -- A search for what is met next: the lister stands where it stood, and holds other lines.
 pub record Searches (seen_old seen_new : Seen) (old new : Machine) (c d : HeldLines) : Type 0 where

@@ -4,6 +4,7 @@ use Rattle.std.specs.Str.{chars}
 use Rattle.pysource.specs.Parts.{Parts}
 use Rattle.pysource.specs.declared.faults.LineFault.{LineFault}
 use Rattle.pylex.specs.declared.entries.Entry.{Entry}
+use Rattle.pylex.specs.declared.entries.ListingFault.{ListingFault}
 use Rattle.pylex.specs.declared.entries.Step.{Step}
 use Rattle.pylex.specs.declared.entries.Step.TheVariants as steps
 use Rattle.pylex.specs.declared.machine.Peeked.{Peeked}
@@ -57,6 +58,12 @@ FaultsFirst (peeked.Fault f) fault step = IsNoEntry step
 FaultsFirst peeked.Indent fault step = Unit {0}
 FaultsFirst peeked.Dedent fault step = Unit {0}
 FaultsFirst peeked.Stop fault step = OnSome fault (IsNoEntry step)
+
+-- a step that is no entry comes of a fault or a stop, and changes nothing
+abbrev pub StaysBehind : Machine → Peeked → Machine → Step → Type 0
+StaysBehind old met new (steps.Entry e) = Unit {0}
+StaysBehind old met new steps.End = (new ≡ old) × ((met ≡ peeked.Stop) ⊎ ((f : ListingFault) × (met ≡ peeked.Fault f)))
+StaysBehind old met new (steps.Fault g) = (new ≡ old) × ((met ≡ peeked.Stop) ⊎ ((f : ListingFault) × (met ≡ peeked.Fault f)))
 
 -- From a machine to another by a step: in each source in which a lister stood so, before a text in which it finds what was met, that step comes next. A text may go on behind what was looked at, if that makes no other end.
 pub record Advance (old : Machine) (met : Peeked) (now : LineState) (left : List ℕ) (fault : Option LineFault) (step : Step) (new : Machine) : Type 0 where

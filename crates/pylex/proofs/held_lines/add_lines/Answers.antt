@@ -49,7 +49,7 @@ loop-literal-preserved g c =
 pub returns-in_default-clause-adds : goal.returns-in_default-clause-adds
 returns-in_default-clause-adds g c =
     let m = c.in_default.ensures.moves in
-    adds_no_line _ _ _ c.args.lines.now c.loop-literal.lines c.next_line.new.self _ _ _ c.loop-literal.invariant.adds (Err c.in_default.field-0) m m.tells c.in_default.ensures.within
+    adds_no_line _ _ _ c.args.lines.now c.loop-literal.lines c.next_line.new.self _ _ _ c.loop-literal.invariant.adds (Err c.in_default.field-0) m m.tells.0 c.in_default.ensures.within
 
 pub returns-clause-joins : goal.returns-clause-joins
 returns-clause-joins g c = λ at start l. joins_ended c.args.literal at c.loop-literal.from start c.loop-literal.lines _ (c.loop-literal.invariant.joins at start l)
@@ -57,7 +57,7 @@ returns-clause-joins g c = λ at start l. joins_ended c.args.literal at c.loop-l
 pub returns-in_default-clause-joins : goal.returns-in_default-clause-joins
 returns-in_default-clause-joins g c = λ at start l.
     let m = c.in_default.ensures.moves in
-    joins_no_line _ _ c.args.literal at c.loop-literal.from start c.loop-literal.lines c.next_line.new.self _ _ (c.loop-literal.invariant.joins at start l) (rw (← c.deref.ensures, ← c.range_from.ensures.value) (c.loop-literal-test.ensures.longer refl)) (Err c.in_default.field-0) m m.tells (λ is. cc)
+    joins_no_line _ _ c.args.literal at c.loop-literal.from start c.loop-literal.lines c.next_line.new.self _ _ (c.loop-literal.invariant.joins at start l) (rw (← c.deref.ensures, ← c.range_from.ensures.value) (c.loop-literal-test.ensures.longer refl)) (Err c.in_default.field-0) m m.tells.0 (λ is. cc)
 
 pub returns-in_default-line-clause-joins : goal.returns-in_default-line-clause-joins
 returns-in_default-line-clause-joins g c = λ at start l.

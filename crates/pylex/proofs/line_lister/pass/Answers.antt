@@ -19,7 +19,7 @@ returns-in_err-step-clause-streaming c = rw c.requires.last (streaming_unopened 
 pub returns-in_err-step-clause-passes : goal.returns-in_err-step-clause-passes
 returns-in_err-step-clause-passes c = λ seen_old seen_new p d last so some ahead.
     let e = err_from_is_err_and c.from_residual.result c.from_residual.ensures.1 in
-    rw (e.1, e.2, c.requires.last) (steps_unopened _ _ p c.args.machine.now d c.args.chunk.now last so c.advance.new.self c.in_err-step.ensures.same _)
+    rw (e.1, e.2, c.requires.last) (steps_unopened _ _ p c.args.machine.now d c.args.chunk.now last so c.advance.new.self c.in_err-step.ensures.same _ c.args.found c.requires.peeked c.in_err-step.ensures.indent some)
 
 pub returns-in-Entry-clause-streaming : goal.returns-in-Entry-clause-streaming
 returns-in-Entry-clause-streaming c = streaming_entry not_read not_read c.args.machine.now c.args.machine.now c.args.chunk.now c.args.chunk.now None (searches_none not_read _ _ c.requires.streaming) c.advance.new.self c.args.found c.in_ok-step.step c.requires.peeked (rw (c.range_from-left.ensures.value, c.deref.ensures) at c.in_ok-step.ensures.went) c.in-Entry.entry c.in-Entry.is c.requires.given c.in_ok-step.ensures.fault
@@ -30,5 +30,5 @@ returns-in-Entry-clause-passes c = λ seen_old seen_new p d last so some ahead. 
 pub returns-in_default : goal.returns-in_default
 returns-in_default c = record {
   streaming = rw c.requires.last (streaming_other not_read not_read c.args.machine.now c.args.machine.now c.args.chunk.now c.args.chunk.now None (searches_none not_read _ _ c.requires.streaming) c.advance.new.self c.args.found c.in_ok-step.step c.requires.peeked (rw (c.range_from-left.ensures.value, c.deref.ensures) at c.in_ok-step.ensures.went) c.in_default.not-Entry);
-  passes = λ seen_old seen_new p d last so some ahead. rw c.requires.last (steps_other _ _ p c.args.machine.now d c.args.chunk.now last so c.advance.new.self c.args.found c.in_ok-step.step c.requires.peeked (rw (c.range_from-left.ensures.value, c.deref.ensures) at c.in_ok-step.ensures.went) c.in_default.not-Entry);
+  passes = λ seen_old seen_new p d last so some ahead. rw c.requires.last (steps_other _ _ p c.args.machine.now d c.args.chunk.now last so c.advance.new.self c.args.found c.in_ok-step.step c.requires.peeked (rw (c.range_from-left.ensures.value, c.deref.ensures) at c.in_ok-step.ensures.went) c.in_default.not-Entry c.in_ok-step.ensures.stays);
 }

@@ -12,7 +12,7 @@ returns-in_err-line-clause-on g c =
     let p = err_from_is_err_and c.from_residual.result c.from_residual.ensures.1 in
     let m = c.in_err-line.ensures.moves in
     let old = c.args.self.now in
-    let text : string_bytes c.next_line.new.chunk ≡ string_bytes old.text = same_text _ _ _ m.chunk m.tells in
+    let text : string_bytes c.next_line.new.chunk ≡ string_bytes old.text = same_text _ _ _ m.chunk m.tells.0 in
     rw (p.1, p.2) (reads_on _ _ _ _ _ _ c.args.at (Err _) m c.in_err-line.ensures.within
     (record { spare = c.requires.chunk.spare; at = rw text c.requires.chunk.at })
     (record { text = text; base = refl; at = refl }))

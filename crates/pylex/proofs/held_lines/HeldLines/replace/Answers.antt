@@ -10,7 +10,7 @@ pub returns-in_err-line-clause-on : goal.returns-in_err-line-clause-on
 returns-in_err-line-clause-on g c =
     let p = err_from_is_err_and c.from_residual.result c.from_residual.ensures.1 in
     let m = c.in_err-line.ensures.moves in
-    let spare : string_bytes c.next_line.new.chunk ≡ [] = same_text _ _ _ m.chunk m.tells ∙ c.requires.chunk.spare in
+    let spare : string_bytes c.next_line.new.chunk ≡ [] = same_text _ _ _ m.chunk m.tells.0 ∙ c.requires.chunk.spare in
     rw (p.1, p.2) (reads_on _ _ _ _ _ _ _ (Err _) m c.in_err-line.ensures.within
     (record { spare = spare; at = c.requires.chunk.at })
     (record { text = refl; base = refl; at = refl }))

@@ -1,4 +1,4 @@
-use Rattle.std.proofs.Common.{[], ◌≡◌, ℕ, zero, suc, ◌+◌, ◌-◌, ◌<◌, List, ◌∷◌, length, take, drop, refl, ap, sym, ◌∙◌, subst, arith}
+use Rattle.std.proofs.Common.{[], ◌≡◌, inl, inr, ℕ, zero, suc, ◌+◌, ◌-◌, ◌<◌, List, ◌∷◌, length, take, drop, refl, ap, sym, ◌∙◌, subst, arith}
 use Rattle.std.specs.Prelude.{Result, Ok, Err, OnErr}
 use Rattle.std.specs.declared.alloc.AllocError.{AllocError}
 use Rattle.std.specs.Str.{chars}
@@ -10,7 +10,8 @@ use Rattle.pylex.specs.declared.entries.Step.TheVariants as steps
 use Rattle.pylex.specs.declared.machine.Peeked.{Peeked}
 use Rattle.pylex.specs.declared.machine.Peeked.TheVariants as peeked
 use Rattle.pylex.specs.Listers.{Listed}
-use Rattle.pylex.specs.Inner.MachineSteps.{shown_from, left_by, Holds, Ranges}
+use Rattle.pylex.specs.declared.machine.Machine.{Machine}
+use Rattle.pylex.specs.Inner.MachineSteps.{shown_from, left_by, Holds, Ranges, StaysBehind}
 use Rattle.pylex.specs.Steps.{entries_in, first_step}
 use Rattle.pylex.proofs.Listers.Moving.{ascending-take, leads_moves, leads_fault, leads_stop, goes_entry, goes_indent, goes_dedent, goes_end, stop_in}
 use Rattle.pylexeme.specs.Chars.{bytes_in}
@@ -69,6 +70,9 @@ returns-in-Entry-clause-went c = record {
       let same = ap (λ (t : State). t.now.offset) (c.begun_anew-self.ensures.begun []) in
       (omega (arith, low, r.0), r.1 ∙ sym same);
 }
+
+pub returns-in-Fault-clause-stays : goal.returns-in-Fault-clause-stays
+returns-in-Fault-clause-stays c = (refl, inr (c.in-Fault.fault, c.in-Fault.is))
 
 pub returns-in-Fault-clause-went : goal.returns-in-Fault-clause-went
 returns-in-Fault-clause-went c = record {
@@ -153,6 +157,12 @@ no_range low high (steps.Entry e) h = absurd (h e refl)
 no_range low high steps.End h = tt
 no_range low high (steps.Fault f) h = tt
 
+-- nor does it change anything
+stays_stop : (p : Machine) (m : Peeked) (s : Step) → ((e : Entry) → s ≡ steps.Entry e → ⊥) → m ≡ peeked.Stop → StaysBehind p m p s
+stays_stop p m (steps.Entry e) h is = absurd (h e refl)
+stays_stop p m steps.End h is = (refl, inl is)
+stays_stop p m (steps.Fault f) h is = (refl, inl is)
+
 pub returns-in_default : goal.returns-in_default
 returns-in_default c = record {
   went = record {
@@ -169,6 +179,7 @@ returns-in_default c = record {
     ranges = λ source from to before rest keeps found e b w low m. no_range (bytes_in before) c.args.self.now.now.now.offset c.end_step-step.result c.in_default.not-Entry;
   };
   fault = rw c.in-Stop.is c.end_step-step.ensures.fault;
+  stays = stays_stop c.args.self.now c.args.peeked c.end_step-step.result c.in_default.not-Entry c.in-Stop.is;
   same = tt;
   indent = tt;
 }

@@ -5,6 +5,7 @@ use Rattle.std.specs.String.{string_bytes}
 use Rattle.pysource.specs.Lines.{first_bad}
 use Rattle.pysource.specs.Streams.{fault_at}
 use Rattle.pysource.specs.declared.encodings.Charset.{Charset}
+use Rattle.pysource.proofs.LineReading.MayComeLemmas.{line_may_come, reading_may_come}
 use Rattle.pysource.proofs.LineReading.NextLineLemmas.{none_past, past_found, moves_nothing, moves_told, moves_text, moves_bad, tells_end, tells_unread}
 use Rattle.pysource.proofs.line_reader.LineReader.next_line.Goals as goal
 
@@ -17,7 +18,8 @@ pub returns-in_err-due_line-clause-moves : goal.returns-in_err-due_line-clause-m
 returns-in_err-due_line-clause-moves g c =
     let s = c.self.inside in
     let p = err_from_is_err_and c.from_residual.result c.from_residual.ensures.1 in
-    rw (← c.self.view_is, c.in_default.is, p.1) (moves_nothing s.encoding s.row s.intake c.due_line.new.intake _ _ _ c.in_err-due_line.ensures.grows refl refl (λ is. cc) (inr (omega (arith, none_past _ c.in_err-due_line.ensures.found))))
+    rw (← c.self.view_is, c.in_default.is, p.1) (moves_nothing s.encoding s.row s.intake c.due_line.new.intake _ _ _ c.in_err-due_line.ensures.grows refl
+    (refl, reading_may_come s.encoding s.row c.due_line.new.intake c.in_err-due_line.ensures.found.0 c.in_err-due_line.ensures.found.1) (λ is. cc) (inr (omega (arith, none_past _ c.in_err-due_line.ensures.found.1))))
 
 pub returns-in-None-clause-moves : goal.returns-in-None-clause-moves
 returns-in-None-clause-moves g c =
@@ -38,9 +40,16 @@ pub returns-in_err-push_line-clause-moves : goal.returns-in_err-push_line-clause
 returns-in_err-push_line-clause-moves g c =
     let s = c.self.inside in
     let p = err_from_is_err_and c.from_residual-in_err-push_line.result c.from_residual-in_err-push_line.ensures.1 in
+    let mid = c.due_line.new.intake in
+    let len = c.in-Some-2.len in
+    let found = rw c.in-Some-2.is at c.in_ok-due_line.ensures.found in
+    let bytes : c.bytes.result.now ≡ mid.buffer = c.bytes.ensures in
+    let good : first_bad s.encoding.charset (take len mid.buffer) ≡ None =
+    ap (λ (x : List ℕ). first_bad s.encoding.charset (take len x)) (sym bytes) ∙ ap (λ (h : Charset). first_bad h (take len c.bytes.result.now)) (sym c.charset.ensures) ∙ c.in_err-push_line.ensures.0 in
     rw (← c.self.view_is, c.in_default.is, p.1)
-    (moves_nothing s.encoding s.row s.intake c.due_line.new.intake _ _ _ c.in_ok-due_line.ensures.grows c.in_err-push_line.ensures refl (λ is. cc)
-    (past_found c.in-Some-2.len s.intake c.due_line.new.intake _ c.in_ok-due_line.ensures.grows.bytes (rw c.in-Some-2.is at c.in_ok-due_line.ensures.found)))
+    (moves_nothing s.encoding s.row s.intake mid _ _ _ c.in_ok-due_line.ensures.grows c.in_err-push_line.ensures.1
+    (refl, line_may_come s.encoding s.row len s.intake mid found (omega (arith, c.in-Some-2.len-test.1)) good) (λ is. cc)
+    (past_found len s.intake mid _ c.in_ok-due_line.ensures.grows.bytes found))
 
 pub returns-in-None-2-clause-moves : goal.returns-in-None-2-clause-moves
 returns-in-None-2-clause-moves g c =
