@@ -3,7 +3,8 @@
 
     bench/growth.py [COMMAND ..] [--program PATH] [--only TEXT]
 
-COMMAND is `tokens`, `dump` or `unparse`; without one all three are run. Twice the input is to take at most 2.2 times the time, and 2.2 times the
+COMMAND is `tokens`, `dump` or `unparse`; without one all three are run. Each source is run as it is, and with a character behind it that begins no
+token. Twice the input is to take at most 2.2 times the time, and 2.2 times the
 memory; a line that takes more is marked. Times of less than 20 ms are mostly the start of a process, and peaks of less than 64 MB are in part
 what each run takes: neither is judged. Each source is to be accepted or refused as its table says. All run within the stack of a login shell.
 
@@ -52,6 +53,9 @@ def sources_of_lines():
     yield "a literal of 100,000 lines", lambda n: b"'''" + b"a b c\n" * (n * 50_000) + b"'''\n", ACCEPTED, ACCEPTED
     yield "a literal that is not ended", lambda n: b"x = '''" + b"a\n" * (n * 1_000_000), REFUSED, REFUSED
     yield "2,000,000 blank lines", lambda n: b"\n" * (n * 1_000_000), ACCEPTED, ACCEPTED
+    yield "1,000,000 joins alone", lambda n: b"\\\n" * (n * 500_000) + b"x\n", ACCEPTED, ACCEPTED
+    yield "1,000,000 joins, then the end", lambda n: b"\\\n" * (n * 500_000), REFUSED, REFUSED
+    yield "1,000,000 joins, then a bracket", lambda n: b"\\\n" * (n * 500_000) + b")\n", REFUSED, REFUSED
     yield "1,000,000 joined lines", lambda n: b"x = 1 " + b"\\\n" * (n * 500_000) + b"\n", ACCEPTED, ACCEPTED
     yield "names past ASCII", lambda n: "\u00e9 = \u00fc\n".encode() * (n * 300_000), ACCEPTED, ACCEPTED
     yield "10,000 indentation levels", lambda n: levels((7_071, 10_000)[n - 1]), ACCEPTED, REFUSED
@@ -89,6 +93,11 @@ def sources_of_trees():
     yield "names in another form", lambda n: "\u00e9 = \ufb01\n".encode() * (n * 300_000), ACCEPTED
 
 
+def with_fault(name, make, dues):
+    """A source with a fault of the listing behind it, before its last line end."""
+    return f"{name}, and `$`", lambda n: make(n).removesuffix(b"\n") + b"$\n", dict.fromkeys(dues, REFUSED)
+
+
 # --- the table --------------------------------------------------------------------------------------------------------
 
 
@@ -111,7 +120,7 @@ def show_growth(command, half, whole, megabytes, due):
     is_large = memory > LARGEST_GROWTH and whole.memory > SMALLEST_PEAK
     statuses = sorted({half.status, whole.status})
     marks = "  more time than it may" * is_slow + "  more memory than it may" * is_large + f"  status {statuses}" * (statuses != [due])
-    print(f"{command:9}{whole.name:46}{megabytes:8.1f}{half.processor * 1e3:10.0f}{whole.processor * 1e3:11.0f}{time:8.2f}"
+    print(f"{command:9}{whole.name:54}{megabytes:8.1f}{half.processor * 1e3:10.0f}{whole.processor * 1e3:11.0f}{time:8.2f}"
           f"{half.shown_memory():>10}{whole.shown_memory():>11}{memory:8.2f}{marks}", flush=True)
     return not marks
 
@@ -142,9 +151,10 @@ def main():
     program, commands = built_program(options.program), [one for one in COMMANDS if one in (options.commands or COMMANDS)]
     show_machine()
     limit_stack()
-    print(f"{'command':9}{'source':46}{'MB':>8}{'half, ms':>10}{'whole, ms':>11}{'growth':>8}{'half, MB':>10}{'whole, MB':>11}{'growth':>8}")
+    print(f"{'command':9}{'source':54}{'MB':>8}{'half, ms':>10}{'whole, ms':>11}{'growth':>8}{'half, MB':>10}{'whole, MB':>11}{'growth':>8}")
     sources = [(name, make, {"tokens": listed, "dump": read, "unparse": read}) for name, make, listed, read in sources_of_lines()]
     sources += [(name, make, {"dump": read, "unparse": read}) for name, make, read in sources_of_trees()]
+    sources += [with_fault(*source) for source in sources]
     with tempfile.TemporaryDirectory(prefix="pyast-bench-") as folder:
         found = [measure(program, {one: dues[one] for one in commands if one in dues}, name, make, folder) for name, make, dues in sources
                  if options.only in name and set(commands) & set(dues)]

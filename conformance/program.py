@@ -90,6 +90,8 @@ def check_files(checks):
             checks.ends(["tokens", name], (0, LISTING, ""), b"w\n", cwd=folder)
             checks.ends(["dump", name], (0, DUMP, ""), b"w\n", cwd=folder)
             checks.ends(["unparse", name], (0, "x = 1\n", ""), b"w\n", cwd=folder)
+        for name in (" a.py", "a.py "):
+            checks.ends(["unparse", name], (0, "z\n", ""), b"w\n", cwd=folder)
         for command in ("tokens", "dump", "unparse"):
             checks.ends([command, "bad.py"], (1, None, "bad.py:3:0: error: EOF in multi-line statement\n"), cwd=folder)
             checks.ends([command, "none.py"], (3, "", "pyast: cannot open file\n"), cwd=folder)
