@@ -8,7 +8,7 @@ random` reads them, writes each statement by `unparse`, reads its text by `decod
 both versions. It does so too with three trees that it makes of each, in which a part of an expression, an expression and a name come
 from other statements: so they stand where they may not, or as what they may not be. Each tree has to come back where `well_formed` says
 that it is well formed, and nowhere else. Until N statements were compared in all. The exit status is 0 where all are as they should be,
-1 where one is not (the smallest source is shown), and 2 where nothing could be compared. Any Python from 3.10 on will do.
+1 where one is not (the smallest source is shown), and 2 where nothing could be compared. Any Python from 3.11 on will do.
 """
 
 import argparse

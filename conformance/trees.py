@@ -7,6 +7,7 @@ a maker is told so, there are the types of Python 3.12 too: the statement `type`
 import ast
 import collections
 import keyword
+import unicodedata
 
 NAMES = ["a", "b", "c", "x", "y", "f", "self", "match", "case", "type", "_", "gr\u00f6\u00dfe", "\u4e2d",
          "a_name_of_more_than_thirty_bytes"]
@@ -101,8 +102,9 @@ class Maker:
         return self.one_of(NUMBERS) if self.chance.randrange(2) else self.chance.getrandbits(self.chance.choice((4, 64, 128)))
 
     def text(self):
-        """A text: a marked one, or any code point."""
-        return self.one_of(TEXTS) if self.chance.randrange(3) else chr(self.chance.randrange(0x110000))
+        """A text: a marked one, or any code point that is assigned, as newer ones have other reprs."""
+        found = chr(self.chance.randrange(0x110000))
+        return self.one_of(TEXTS) if self.chance.randrange(3) or unicodedata.category(found) == "Cn" else found
 
     def constant(self, _):
         kind = self.chance.randrange(6)

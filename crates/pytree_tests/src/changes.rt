@@ -1,7 +1,6 @@
 //! Changes of trees in place.
 
-use pytree::{Expr, Identifier, Module, Stmt};
-use std::alloc::{AllocError, Global};
+use pytree::{Alias, Expr, Identifier, Module, Stmt};
 use std::mem;
 
 /// The target of an assignment, or the operand of an expression.
@@ -61,24 +60,39 @@ pub(crate) fn catch_all(tree: &mut Module) -> bool {
     }
 }
 
-/// Gives a `from .. import` so many dots, and the first name that it imports another text.
-pub(crate) fn import(
-    alloc: Global,
-    tree: &mut Module,
-    dots: u64,
-    text: &str,
-) -> Result<bool, AllocError> {
+/// Gives a `from .. import` so many dots.
+pub(crate) fn set_dots(tree: &mut Module, dots: u64) -> bool {
     match tree.body.first_mut() {
-        Some(Stmt::ImportFrom { names, level, .. }) => {
+        Some(Stmt::ImportFrom { level, .. }) => {
             *level = dots;
-            match names.first_mut() {
-                Some(alias) => {
-                    alias.name = Identifier::new(alloc, text)?;
-                    Ok(true)
-                }
-                None => Ok(false),
-            }
+            true
         }
-        _ => Ok(false),
+        _ => false,
     }
+}
+
+/// The name of the first of some imported names.
+fn first_name(names: &mut Vec<Alias>) -> Option<&mut Identifier> {
+    match names.first_mut() {
+        Some(alias) => Some(&mut alias.name),
+        None => None,
+    }
+}
+
+/// The first name that an import has.
+fn imported(stmt: &mut Stmt) -> Option<&mut Identifier> {
+    match stmt {
+        Stmt::Import { names } => first_name(names),
+        Stmt::ImportFrom { names, .. } => first_name(names),
+        _ => None,
+    }
+}
+
+/// Puts the name that a module imports into another one, in place of its own. `None` is told where
+/// one of the two imports none.
+pub(crate) fn put_name(tree: &mut Module, other: &mut Module) -> Option<()> {
+    let mine = imported(tree.body.first_mut()?)?;
+    let yours = imported(other.body.first_mut()?)?;
+    mem::swap(mine, yours);
+    Some(())
 }

@@ -1,6 +1,6 @@
 //! Which modules are well formed in a version of Python, and which expressions at a level.
 
-use crate::changes::{catch_all, import, put, shorten};
+use crate::changes::{catch_all, put, put_name, set_dots, shorten};
 use crate::sources::{expression, module};
 use pytree::{Context, Expr, Identifier, Level, Module, Profile, well_formed, well_formed_at};
 use std::alloc::{AllocError, Global};
@@ -75,16 +75,18 @@ fn targets(rt: HostRuntime) -> Result<(), Fail> {
 #[test]
 fn imports(rt: HostRuntime) -> Result<(), Fail> {
     let alloc = rt.alloc();
-    for (text, dots, name, expected) in &[
-        ("from . import b as c", 1, "b", true),
-        ("from . import b", 0, "b", false),
-        ("from . import b", 1, "b.c", false),
-        ("from . import b", 1, "*", true),
-        ("from . import b as c", 1, "*", false),
+    for (text, dots, other, expected) in &[
+        ("from . import b as c", 1, "import b", true),
+        ("from . import b", 0, "import b", false),
+        ("from . import b", 1, "import b.c", false),
+        ("from . import b", 1, "from a import *", true),
+        ("from . import b as c", 1, "from a import *", false),
     ] {
         let mut tree = module(alloc, *text)?;
-        assert!(rt; import(alloc, &mut tree, *dots, *name)?);
-        assert_eq!(rt; told(alloc, &tree)?, *expected, "{dots} {name}");
+        let mut name = module(alloc, *other)?;
+        assert!(rt; set_dots(&mut tree, *dots));
+        assert!(rt; put_name(&mut tree, &mut name).is_some());
+        assert_eq!(rt; told(alloc, &tree)?, *expected, "{dots} {other}");
     }
     Ok(())
 }
