@@ -18,6 +18,6 @@ returns-in_ok-error-in-Err c k held was =
     let s = in_characters c.args.lines.now.source in
     unread_first c.args.self held.line c.in_ok-error-in-Err.error c.start-in-Err.result c.requires was held.stands
     (c.in_ok-error-in-Err.ensures c.args.profile held.line
-    (subst (λ (ts : List Terminal). Refused c.in-Err.stop c.args.profile ts) (c.terminals.ensures ∙ held.holds.terminals) c.in-Err.ensures)
+    (subst (λ (ts : List Terminal). Refused c.in-Err.stop c.args.profile ts) (c.terminals.ensures ∙ held.holds.terminals) c.in-Err.ensures.form)
     (c.is_match.ensures ∙ held.holds.is_match))
     (subst (StartsAt s k) (sym c.start-in-Err.ensures) (starts_held s k c.args.lines.now held))
