@@ -11,7 +11,7 @@ use Rattle.pyparse.proofs.progress.Progress.read.Goals as goal
 pub returns-in-Ok : goal.returns-in-Ok
 returns-in-Ok c k held was =
     c.place.ensures c.args.profile (in_characters c.args.lines.now.source) k was
-    (comes_held (map terminal c.terminals.result.now) c.level.result (form_of c.in-Ok.form) c.start.result held c.terminals.ensures c.level.ensures c.start.ensures c.in-Ok.ensures)
+    (comes_held (map terminal c.terminals.result.now) c.level.result (form_of c.in-Ok.form) c.start.result held c.terminals.ensures c.level.ensures c.start.ensures c.in-Ok.ensures.form)
 
 pub returns-in_ok-error-in-Err : goal.returns-in_ok-error-in-Err
 returns-in_ok-error-in-Err c k held was =
