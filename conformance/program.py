@@ -181,8 +181,13 @@ def check_large(checks):
     checks.ends(["unparse"], (0, source.decode(), ""), source)
     for command in ("dump", "unparse", "tokens"):
         checks.ends([command], (1, None, f"<stdin>:{rows + 1}:0: error: unmatched closing bracket\n"), source + b")\n")
-        checks.ends([command], (1, None, "<stdin>:1:1000001: error: unexpected character\n"), b" " * 1_000_001 + b"$\n" if command == "tokens" else b"x" * 1_000_001 + b"$\n")
+        checks.ends([command], (1, None, "<stdin>:1:2200001: error: unexpected character\n"), (b" " if command == "tokens" else b"x") * 2_200_001 + b"$\n")
         checks.ends([command], (1, None, f"<stdin>:{rows + 1}:12345: error: unexpected character\n"), source + b"x" * 12_345 + b"?\n")
+    with tempfile.TemporaryFile() as file:
+        file.write(b"abc + " * 200_000 + b"x\n")
+        file.seek(0)
+        process = subprocess.Popen([checks.program, "tokens"], stdin=file, stdout=subprocess.DEVNULL)
+        checks.is_due("tokens of a line of 400,001 entries, in seconds", ended(process), 0)
     long_name, long_text = "n" * 1_100_000, "t" * 1_100_000
     checks.ends(["unparse"], (0, f"{long_name} = '{long_text}'\n", ""), f"{long_name}='{long_text}'".encode())
     checks.ends(["dump", "--bare"], (0, f"Module([Expr(Name('{long_name}', Load()))], [])\n", ""), long_name.encode())
