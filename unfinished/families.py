@@ -17,14 +17,14 @@ def edit(f, fn):
         with open(f, "w", encoding="utf-8") as it: it.write(u)
 
 # --- folder merges: B becomes the module `m` of A
-FOLD = [("pyvalue","pytoken","values"), ("pyheader","pyline","headers"), ("pystatement","pyline","statements"), ("pyoutline","pyblock","outline")]
+FOLD = [("pytoken","pytoken","values"), ("pyparse_line","pyparse_line","headers"), ("pyparse_line","pyparse_line","statements"), ("pyparse_block","pyparse_block","outline")]
 # --- root merges: B's modules stand beside A's
-ROOT = [("pyform","pygrammar"), ("pyspacing","pywritten"), ("pyslots","pywellformed")]
+ROOT = [("pygrammar","pygrammar"), ("pyunparse_text","pyunparse_text"), ("pytree_fits","pytree_fits")]
 # --- specs to be renamed before a merge (crate, old, new)
-SPECS = [("pyvalue","Terminals","TerminalOf"), ("pyspacing","Laws","SpacingLaws")]
-RENAME = {"pylexeme":"pylex_lexeme","pynode":"pytree_node","pydump":"pytree_dump","pyheight":"pytree_height","pycopy":"pytree_copy","pysame":"pytree_same",
- "pyexpr":"pyparse_expr","pyline":"pyparse_line","pyblock":"pyparse_block","pywritten":"pyunparse_text","pywellformed":"pytree_fits",
- "pywords":"pyast_words","pyfault":"pyast_fault","pycommand":"pyast_command","pycommand_tests":"pyast_tests"}
+SPECS = [("pytoken","Terminals","TerminalOf"), ("pyunparse_text","Laws","SpacingLaws")]
+RENAME = {"pylex_lexeme":"pylex_lexeme","pytree_node":"pytree_node","pytree_dump":"pytree_dump","pytree_height":"pytree_height","pytree_copy":"pytree_copy","pytree_same":"pytree_same",
+ "pyparse_expr":"pyparse_expr","pyparse_line":"pyparse_line","pyparse_block":"pyparse_block","pyunparse_text":"pyunparse_text","pytree_fits":"pytree_fits",
+ "pyast_words":"pyast_words","pyast_fault":"pyast_fault","pyast_command":"pyast_command","pyast_tests":"pyast_tests"}
 
 for crate, old, new in SPECS:
     git("mv", f"crates/{crate}/specs/{old}.antt", f"crates/{crate}/specs/{new}.antt")
@@ -255,7 +255,7 @@ open(p,'w').write(t)
 sub(c+'pyparse_block/src/lib.rt',('mod meeting;\n','mod meeting;\nmod outline;\n'),('pub use blocks::Blocks;\n','pub use blocks::Blocks;\npub use outline::{BlockFault, Outline, Stop};\n'),
 ("`Blocks` which statements some lines are, and which line is the first faulty one. `pyparse_block`\n//! has the faults.","`Blocks` which statements some lines are, and which line is the first faulty one.\n//!\n//! An [`Outline`] keeps the same without trees, and tells the first faulty line ([`BlockFault`])\n//! among lines whose trees nobody wants."))
 # roots
-for f in ('pygrammar/src/lib-pyform.rt','pytree_fits/src/lib-pyslots.rt','pyunparse_text/src/lib-pyspacing.rt'):
+for f in ('pygrammar/src/lib-pygrammar.rt','pytree_fits/src/lib-pytree_fits.rt','pyunparse_text/src/lib-pyunparse_text.rt'):
     print(f); print(open(c+f).read())
     subprocess.run(['git','rm','-qf',c+f])
 sub(c+'pygrammar/src/lib.rt',('mod levels;\n\npub use levels::Level;\n','mod forms;\nmod headers;\nmod levels;\n\npub use forms::Form;\npub use headers::{DefHead, Header, LoopHead};\npub use levels::Level;\n'),

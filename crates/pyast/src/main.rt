@@ -1,7 +1,7 @@
 //! Lists, dumps and unparses Python source.
 #![tactic(auto)]
 
-use pycommand::{Command, Fault, RunFaultCode, UsageFault, open_source, run, tell};
+use pyast_command::{Command, Fault, RunFaultCode, UsageFault, open_source, run, tell};
 use pysource::{Counted, write_all};
 use std::io::ErrorKind;
 use std::process::ExitCode;

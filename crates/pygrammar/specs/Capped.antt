@@ -2,17 +2,17 @@
 -- expression may be that is read here. A child is read with one level less; what stands at the front, or alone in round brackets, with
 -- the same room. What would be higher is refused on the spot, with TooDeep.
 use Rattle.std.specs.Prelude.{ℕ, zero, suc, List, [], length, cond, leb}
-use Rattle.pylexeme.specs.declared.kinds.Exact.TheVariants.{LPar, RPar, LSqb, RSqb, Colon, Comma, Star, Dot, ColonEqual}
+use Rattle.pylex_lexeme.specs.declared.kinds.Exact.TheVariants.{LPar, RPar, LSqb, RSqb, Colon, Comma, Star, Dot, ColonEqual}
 use Rattle.pytoken.specs.declared.keywords.Keyword.TheVariants as Key
-use Rattle.pynode.specs.declared.operators.Context.TheVariants.{Load, Store}
+use Rattle.pytree_node.specs.declared.operators.Context.TheVariants.{Load, Store}
 use Rattle.pygrammar.specs.declared.levels.Level.{Level}
 use Rattle.pygrammar.specs.declared.levels.Level.TheVariants.{Value, Stars, StarItem, Named, Expression, Or, BitOr, Primary, Atom, Elem, Slices, Part, Slice}
-use Rattle.pynode.specs.Trees
-use Rattle.pynode.specs.Trees.{Expr, no_exprs, an_expr, absent, present, comprehensions}
+use Rattle.pytree_node.specs.Trees
+use Rattle.pytree_node.specs.Trees.{Expr, no_exprs, an_expr, absent, present, comprehensions}
 use Rattle.pytoken.specs.Terminals.{Terminal}
 use Rattle.pygrammar.specs.Looks.{is_op, is_word, name_in}
 use Rattle.pygrammar.specs.Entries.{Of, singles}
-use Rattle.pyheight.specs.Heights.{height}
+use Rattle.pytree_height.specs.Heights.{height}
 use Rattle.pygrammar.specs.Reader.{Answer, Found, NoForm, TooDeep, and_then, on_first, on_name_with, closed, Reads, starred, listing_of, tupled, comps_closed, unstarred, unnamed, yield_step, atom, call_step, operation, prefixed, slice_rest, lambda_step, if_else_step, levels_from}
 use Rattle.pygrammar.specs.Precedence.{rank, starts_comp, infix_from, prefix_from, first, behind}
 

@@ -1,8 +1,8 @@
 -- The constants that are keywords or signs, and what literals side by side are (language reference, 2.4.2 and 6.2.2).
 use Rattle.std.specs.Prelude.{List, [], ◌∷◌, ◌++◌, Option, Some, None, true, false}
-use Rattle.pylexeme.specs.declared.kinds.Exact.TheVariants.{Ellipsis}
+use Rattle.pylex_lexeme.specs.declared.kinds.Exact.TheVariants.{Ellipsis}
 use Rattle.pytoken.specs.declared.keywords.Keyword.TheVariants as Key
-use Rattle.pynode.specs.Values
+use Rattle.pytree_node.specs.Values
 use Rattle.pytoken.specs.Terminals.{Terminal, Op, Word}
 
 -- None, True, False and the three dots

@@ -1,7 +1,7 @@
 -- The height of a form of a logical line: that of its highest expression, or 0 where it has none.
 use Rattle.std.specs.Prelude.{ℕ, max, Some, None}
-use Rattle.pynode.specs.Trees.{stmts}
-use Rattle.pyheight.specs.Heights.{height, option_height, list_height, item_heights, keyword_heights, arguments_height, type_param_heights, highest_in_all}
+use Rattle.pytree_node.specs.Trees.{stmts}
+use Rattle.pytree_height.specs.Heights.{height, option_height, list_height, item_heights, keyword_heights, arguments_height, type_param_heights, highest_in_all}
 use Rattle.pygrammar.specs.Lines.{Form, simple_form, decorator_form, header_form, Header, if_header, elif_header, else_header, loop_header, with_header, try_header, except_header, finally_header, def_header, while_head, for_head, function_head, class_head}
 
 abbrev pub header_height : Header → ℕ

@@ -1,19 +1,19 @@
 -- The forms of a logical line (reference 7 and 8): which lists of terminals are which line in a version of Python, a constructor for each
 -- alternative of the table. The NEWLINE is not part of the list.
 use Rattle.std.specs.Prelude.{◌≡◌, ℕ, ◌+◌, ◌<◌, List, [], ◌∷◌, ◌++◌, Option, Some, None, Bool, true, false, codes}
-use Rattle.pylexeme.specs.Characters.{full_stop, asterisk}
-use Rattle.pylexeme.specs.declared.kinds.Exact.{Exact}
-use Rattle.pylexeme.specs.declared.kinds.Exact.TheVariants as Sign
+use Rattle.pylex_lexeme.specs.Characters.{full_stop, asterisk}
+use Rattle.pylex_lexeme.specs.declared.kinds.Exact.{Exact}
+use Rattle.pylex_lexeme.specs.declared.kinds.Exact.TheVariants as Sign
 use Rattle.pytoken.specs.declared.keywords.Keyword.TheVariants as Key
-use Rattle.pynode.specs.declared.operators.Operator.{Operator}
-use Rattle.pynode.specs.declared.operators.Operator.TheVariants as Bin
-use Rattle.pynode.specs.declared.operators.Context.TheVariants.{Store}
-use Rattle.pynode.specs.declared.profiles.Profile.{Profile}
-use Rattle.pynode.specs.declared.profiles.Profile.TheVariants.{Py311, Py312}
+use Rattle.pytree_node.specs.declared.operators.Operator.{Operator}
+use Rattle.pytree_node.specs.declared.operators.Operator.TheVariants as Bin
+use Rattle.pytree_node.specs.declared.operators.Context.TheVariants.{Store}
+use Rattle.pytree_node.specs.declared.profiles.Profile.{Profile}
+use Rattle.pytree_node.specs.declared.profiles.Profile.TheVariants.{Py311, Py312}
 use Rattle.pygrammar.specs.declared.levels.Level.{Level}
 use Rattle.pygrammar.specs.declared.levels.Level.TheVariants.{Value, Stars, Named, Expression}
-use Rattle.pynode.specs.Trees.{Expr, Exprs, no_exprs, an_expr, Arguments, Keywords, no_keyword, Identifier, Stmt, Alias, Item, TypeParam, TypeVar, ParamSpec, TypeVarTuple, Return, Delete, Assign, TypeAlias, AugAssign, AnnAssign, Raise, Assert, Import, ImportFrom, Global, Nonlocal, ExprOf, Pass, Break, Continue}
-use Rattle.pynode.specs.Trees as Trees
+use Rattle.pytree_node.specs.Trees.{Expr, Exprs, no_exprs, an_expr, Arguments, Keywords, no_keyword, Identifier, Stmt, Alias, Item, TypeParam, TypeVar, ParamSpec, TypeVarTuple, Return, Delete, Assign, TypeAlias, AugAssign, AnnAssign, Raise, Assert, Import, ImportFrom, Global, Nonlocal, ExprOf, Pass, Break, Continue}
+use Rattle.pytree_node.specs.Trees as Trees
 use Rattle.pytoken.specs.Terminals.{Terminal, Spelled, Op, Word, Ident}
 use Rattle.pygrammar.specs.Entries.{Argument, Parameter, Entry}
 use Rattle.pygrammar.specs.Arguments.{in_order, positional, keywords}

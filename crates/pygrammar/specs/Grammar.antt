@@ -1,20 +1,20 @@
 -- Which lists of terminals give which expressions: the table of the grammar, a constructor for each alternative.
 use Rattle.std.specs.Prelude.{◌≡◌, ℕ, List, [], ◌∷◌, ◌++◌, map, Option, Some, None, Bool, true, false, cond}
-use Rattle.pylexeme.specs.declared.kinds.Exact.{Exact}
-use Rattle.pylexeme.specs.declared.kinds.Exact.TheVariants.{LPar, RPar, LSqb, RSqb, LBrace, RBrace, Colon, Comma, Star, Slash, Equal, Dot, DoubleStar, ColonEqual}
+use Rattle.pylex_lexeme.specs.declared.kinds.Exact.{Exact}
+use Rattle.pylex_lexeme.specs.declared.kinds.Exact.TheVariants.{LPar, RPar, LSqb, RSqb, LBrace, RBrace, Colon, Comma, Star, Slash, Equal, Dot, DoubleStar, ColonEqual}
 use Rattle.pytoken.specs.declared.keywords.Keyword.TheVariants as Key
-use Rattle.pynode.specs.declared.operators.Operator.{Operator}
-use Rattle.pynode.specs.declared.operators.Operator.TheVariants as Bin
-use Rattle.pynode.specs.declared.operators.UnaryOperator.{UnaryOperator}
-use Rattle.pynode.specs.declared.operators.BoolOperator.{BoolOperator}
-use Rattle.pynode.specs.declared.operators.Comparison.{Comparison}
-use Rattle.pynode.specs.declared.operators.Comparison.TheVariants as Is
-use Rattle.pynode.specs.declared.operators.Context.TheVariants.{Load, Store}
+use Rattle.pytree_node.specs.declared.operators.Operator.{Operator}
+use Rattle.pytree_node.specs.declared.operators.Operator.TheVariants as Bin
+use Rattle.pytree_node.specs.declared.operators.UnaryOperator.{UnaryOperator}
+use Rattle.pytree_node.specs.declared.operators.BoolOperator.{BoolOperator}
+use Rattle.pytree_node.specs.declared.operators.Comparison.{Comparison}
+use Rattle.pytree_node.specs.declared.operators.Comparison.TheVariants as Is
+use Rattle.pytree_node.specs.declared.operators.Context.TheVariants.{Load, Store}
 use Rattle.pygrammar.specs.declared.levels.Level.{Level}
 use Rattle.pygrammar.specs.declared.levels.Level.TheVariants.{Value, Stars, StarItem, Named, Expression, Or, Compare, BitOr, Factor, Power, Await, Primary, Atom, Elem, Slices, Part, Slice}
-use Rattle.pynode.specs.Trees
-use Rattle.pynode.specs.Trees.{Expr, no_exprs, an_expr, OptionalExpr, absent, present, arg, Arguments, Identifier, exprs, Comprehension, comprehensions}
-use Rattle.pynode.specs.Values
+use Rattle.pytree_node.specs.Trees
+use Rattle.pytree_node.specs.Trees.{Expr, no_exprs, an_expr, OptionalExpr, absent, present, arg, Arguments, Identifier, exprs, Comprehension, comprehensions}
+use Rattle.pytree_node.specs.Values
 use Rattle.pytoken.specs.Terminals.{Terminal, Spelled, Op, Word, Ident, Whole, Literal}
 use Rattle.pygrammar.specs.Operators.{below, left_operator, prefix_operator, chain_level, chain_word, comparison}
 use Rattle.pygrammar.specs.Constants.{constant_word, joined}

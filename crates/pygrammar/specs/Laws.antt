@@ -2,8 +2,8 @@
 use Rattle.std.specs.Prelude.{◌≡◌, ◌↔◌, ◌⊎◌, ℕ, ◌+◌, ◌≤◌, List, [], length}
 use Rattle.pygrammar.specs.declared.levels.Level.{Level}
 use Rattle.pygrammar.specs.declared.levels.Level.TheVariants.{Slices}
-use Rattle.pynode.specs.Trees.{Expr}
-use Rattle.pyheight.specs.Heights.{height}
+use Rattle.pytree_node.specs.Trees.{Expr}
+use Rattle.pytree_height.specs.Heights.{height}
 use Rattle.pytoken.specs.Terminals.{Terminal}
 use Rattle.pygrammar.specs.Grammar.{Derives}
 use Rattle.pygrammar.specs.Reader.{Found, reads}

@@ -24,3 +24,4 @@ pub mod Depths
 pub mod Laws
 pub mod LineLaws
 pub mod SourceLaws
+pub mod FormOf

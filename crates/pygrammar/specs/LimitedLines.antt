@@ -1,6 +1,6 @@
 -- The reader of a logical line within a height: each expression is read with one level more of room, and the form is checked last.
 use Rattle.std.specs.Prelude.{ℕ, suc, List, length, cond, leb}
-use Rattle.pynode.specs.declared.profiles.Profile.{Profile}
+use Rattle.pytree_node.specs.declared.profiles.Profile.{Profile}
 use Rattle.pytoken.specs.Terminals.{Terminal}
 use Rattle.pygrammar.specs.Reader.{Answer, Found, NoForm, TooDeep}
 use Rattle.pygrammar.specs.Capped.{capped}

@@ -1,6 +1,6 @@
 -- Logical lines: what each says of itself, before it is known what stands round it.
 use Rattle.std.specs.Prelude.{ℕ, Bool, true, false, not, ◌&&◌, List, [], ◌∷◌, Option, Some, None}
-use Rattle.pynode.specs.Trees.{Expr, Arguments, Keywords, Identifier, Stmt, Item, Handler, TypeParam, FunctionDef, AsyncFunctionDef, ClassDef, TypeAlias, While, For, AsyncFor, With, AsyncWith, Try, TryStar, stmts, handlers}
+use Rattle.pytree_node.specs.Trees.{Expr, Arguments, Keywords, Identifier, Stmt, Item, Handler, TypeParam, FunctionDef, AsyncFunctionDef, ClassDef, TypeAlias, While, For, AsyncFor, With, AsyncWith, Try, TryStar, stmts, handlers}
 
 -- the heads of `while` and `for`, which differ in nothing else
 pub data LoopHead : Type 0 where

@@ -1,10 +1,10 @@
 -- What the answer of a reader up to a height means: of expressions, and of a logical line.
 use Rattle.std.specs.Prelude.{ℕ, List, [], ◌∷◌, length, ◌≤◌, ◌<◌}
 use Rattle.pygrammar.specs.declared.levels.Level.{Level}
-use Rattle.pynode.specs.declared.profiles.Profile.{Profile}
-use Rattle.pynode.specs.Trees.{Expr}
+use Rattle.pytree_node.specs.declared.profiles.Profile.{Profile}
+use Rattle.pytree_node.specs.Trees.{Expr}
 use Rattle.pytoken.specs.Terminals.{Terminal}
-use Rattle.pyheight.specs.Heights.{height}
+use Rattle.pytree_height.specs.Heights.{height}
 use Rattle.pygrammar.specs.Grammar.{Derives}
 use Rattle.pygrammar.specs.Lines.{Form}
 use Rattle.pygrammar.specs.Forms.{FormOf}

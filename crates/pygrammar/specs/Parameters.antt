@@ -1,6 +1,6 @@
 -- The order of parameters (language reference, 8.7).
 use Rattle.std.specs.Prelude.{List, [], ◌∷◌, Option, Some, None, Bool, true, false, cond}
-use Rattle.pynode.specs.Trees.{Exprs, no_exprs, an_expr, OptionalExpr, absent, present, no_optional, an_optional, Arg, no_arg, an_arg, absent_arg, present_arg, Arguments, arguments}
+use Rattle.pytree_node.specs.Trees.{Exprs, no_exprs, an_expr, OptionalExpr, absent, present, no_optional, an_optional, Arg, no_arg, an_arg, absent_arg, present_arg, Arguments, arguments}
 use Rattle.pygrammar.specs.Entries.{Entry, Plain, Slashed, Bare, Gathered, Collected}
 use Rattle.pygrammar.specs.Targets.{mapped}
 

@@ -1,18 +1,18 @@
 -- The plain reader: what is read at the front of a list of terminals, by one look at the next one or two of them.
 use Rattle.std.specs.Prelude.{ℕ, zero, suc, List, [], ◌∷◌, ◌++◌, Option, Some, None, length, Bool, true, false, cond}
-use Rattle.pylexeme.specs.declared.kinds.Exact.{Exact}
-use Rattle.pylexeme.specs.declared.kinds.Exact.TheVariants.{LPar, RPar, LSqb, RSqb, LBrace, RBrace, Colon, Comma, Star, Slash, Equal, Dot, DoubleStar, ColonEqual}
+use Rattle.pylex_lexeme.specs.declared.kinds.Exact.{Exact}
+use Rattle.pylex_lexeme.specs.declared.kinds.Exact.TheVariants.{LPar, RPar, LSqb, RSqb, LBrace, RBrace, Colon, Comma, Star, Slash, Equal, Dot, DoubleStar, ColonEqual}
 use Rattle.pytoken.specs.declared.keywords.Keyword.TheVariants as Key
-use Rattle.pynode.specs.declared.operators.Operator.TheVariants as Bin
-use Rattle.pynode.specs.declared.operators.BoolOperator.{BoolOperator}
-use Rattle.pynode.specs.declared.operators.Comparison.{Comparison}
-use Rattle.pynode.specs.declared.operators.Comparison.TheVariants as Is
-use Rattle.pynode.specs.declared.operators.Context.TheVariants.{Load, Store}
+use Rattle.pytree_node.specs.declared.operators.Operator.TheVariants as Bin
+use Rattle.pytree_node.specs.declared.operators.BoolOperator.{BoolOperator}
+use Rattle.pytree_node.specs.declared.operators.Comparison.{Comparison}
+use Rattle.pytree_node.specs.declared.operators.Comparison.TheVariants as Is
+use Rattle.pytree_node.specs.declared.operators.Context.TheVariants.{Load, Store}
 use Rattle.pygrammar.specs.declared.levels.Level.{Level}
 use Rattle.pygrammar.specs.declared.levels.Level.TheVariants.{Value, Stars, StarItem, Named, Expression, Or, BitOr, Factor, Await, Primary, Atom, Elem, Slices, Part, Slice}
-use Rattle.pynode.specs.Trees
-use Rattle.pynode.specs.Trees.{Expr, no_exprs, an_expr, OptionalExpr, absent, present, no_optional, arg, Arguments, Identifier, exprs, Comprehension, comprehensions}
-use Rattle.pynode.specs.Values
+use Rattle.pytree_node.specs.Trees
+use Rattle.pytree_node.specs.Trees.{Expr, no_exprs, an_expr, OptionalExpr, absent, present, no_optional, arg, Arguments, Identifier, exprs, Comprehension, comprehensions}
+use Rattle.pytree_node.specs.Values
 use Rattle.pytoken.specs.Terminals.{Terminal, Op, Ident, Whole, Literal}
 use Rattle.pygrammar.specs.Looks.{is_op, is_word, name_in}
 use Rattle.pygrammar.specs.Operators.{below, chain_level, chain_word, comparison}

@@ -1,6 +1,6 @@
 -- Blocks read line by line: what is kept of the lines so far, and what the next line makes of it.
 use Rattle.std.specs.Prelude.{ℕ, Bool, true, false, nat_lt, cond, List, [], ◌∷◌, ◌++◌, length, Option, Some, None}
-use Rattle.pynode.specs.Trees.{Expr, Stmt, Handler, If, stmts}
+use Rattle.pytree_node.specs.Trees.{Expr, Stmt, Handler, If, stmts}
 use Rattle.pygrammar.specs.Lines.{Line, Form, simple_form, decorator_form, header_form, Header, if_header, elif_header, else_header, loop_header, with_header, try_header, except_header, finally_header, def_header, LoopHead, loop, with_of, definition, try_of}
 use Rattle.pygrammar.specs.Blocks.{handler, Fault, ExpectedIndent, UnexpectedIndent, MisplacedClause, same_bool}
 

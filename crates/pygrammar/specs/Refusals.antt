@@ -4,9 +4,9 @@ use Rattle.std.specs.Prelude.{◌≡◌, ℕ, suc, ◌+◌, ◌<◌, ◌≤◌, 
 use Rattle.std.specs.Str.{bytes_eq}
 use Rattle.pysource.specs.declared.places.Place.{Place}
 use Rattle.pylex.specs.Listing.{Source}
-use Rattle.pynode.specs.declared.profiles.Profile.{Profile}
-use Rattle.pynode.specs.Trees.{Module}
-use Rattle.pyheight.specs.Heights.{statement_height}
+use Rattle.pytree_node.specs.declared.profiles.Profile.{Profile}
+use Rattle.pytree_node.specs.Trees.{Module}
+use Rattle.pytree_height.specs.Heights.{statement_height}
 use Rattle.pytoken.specs.declared.refusals.Refusal.{Refusal}
 use Rattle.pytoken.specs.Tokens.{Token, tokens, lines}
 use Rattle.pytoken.specs.Tokens as Tokens
@@ -16,7 +16,7 @@ use Rattle.pygrammar.specs.Lines.{Line, line, Form, header_form}
 use Rattle.pygrammar.specs.Forms.{FormOf}
 use Rattle.pygrammar.specs.FormHeights.{form_height}
 use Rattle.pygrammar.specs.Blocks.{Block, Fault, FirstFault, Kind, ElifLine, ElseLine, ExceptLine, FinallyLine, kind_of, header_kind}
-use Rattle.pylexeme.specs.Characters.{colon}
+use Rattle.pylex_lexeme.specs.Characters.{colon}
 
 -- why a line, or what stands at ENDMARKER, is refused
 pub data Code : Type 0 where

@@ -1,8 +1,8 @@
 -- The shapes of targets, and the contexts that they have there (language reference, 7.2 and 7.5).
 use Rattle.std.specs.Prelude.{Option, Some, None}
-use Rattle.pynode.specs.declared.operators.Context.TheVariants.{Store, Del}
-use Rattle.pynode.specs.Trees
-use Rattle.pynode.specs.Trees.{Expr, Exprs, no_exprs, an_expr}
+use Rattle.pytree_node.specs.declared.operators.Context.TheVariants.{Store, Del}
+use Rattle.pytree_node.specs.Trees
+use Rattle.pytree_node.specs.Trees.{Expr, Exprs, no_exprs, an_expr}
 
 -- a function of what is there
 abbrev pub mapped : {A B : Type 0} → (A → B) → Option A → Option B

@@ -1,7 +1,7 @@
 -- Which modules have nothing of the types that are new in Python 3.12: no parameters of types, and no statement `type`.
 use Rattle.std.specs.Prelude.{Bool, true, false, ◌&&◌}
-use Rattle.pynode.specs.Trees
-use Rattle.pynode.specs.Trees.{stmts}
+use Rattle.pytree_node.specs.Trees
+use Rattle.pytree_node.specs.Trees.{stmts}
 use Rattle.pygrammar.specs.Lines.{no_types}
 
 abbrev mutual

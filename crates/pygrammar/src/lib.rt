@@ -1,4 +1,5 @@
-//! The grammar of Python: definitions and laws alone, with the one type that they name, [`Level`].
+//! The grammar of Python: definitions and laws alone, with the types that they name: [`Level`], and [`Form`], what a
+//! logical line says of itself.
 //!
 //! Python language reference, 6 "Expressions" to 8 "Compound statements", and 10 "Full Grammar
 //! specification".
@@ -20,6 +21,10 @@
 //! sources without the `Types` of 3.12.
 #![tactic(auto)]
 
+mod forms;
+mod headers;
 mod levels;
 
+pub use forms::Form;
+pub use headers::{DefHead, Header, LoopHead};
 pub use levels::Level;

@@ -1,7 +1,7 @@
 -- What callers compute with: when a cursor is one of a source, the steps of a listing behind its
 -- first ones, the lexemes of a text, and the machine's run over these.
 --
--- Carries: what pycommand, pyparse, pyspacing, pytoken cite. On: Lexed, Finding, Run.
+-- Carries: what pyast_command, pyparse, pyunparse_text, pytoken cite. On: Lexed, Finding, Run.
 use Rattle.std.proofs.Common.{◌≡◌, ℕ, zero, suc, ◌+◌, ◌≤◌, Bool, true, false, ◌&&◌, ◌==◌, List, [], ◌∷◌, drop, length, refl, sym, ap, ◌∙◌, subst, Some, None, slice_get, nat_le, arith}
 use Rattle.std.proofs.lemmas.Bool.Decides.{nat_tests}
 use lib.Pointwise.{bytes_decides}
@@ -10,8 +10,8 @@ use Rattle.pylex.specs.declared.entries.ListingFault.{ListingFault}
 use Rattle.pylex.specs.declared.entries.Step.{Step}
 use Rattle.pylex.specs.declared.entries.Step.TheVariants as steps
 use Rattle.pylex.specs.declared.kind.Kind.TheVariants as kinds
-use Rattle.pylexeme.specs.Cuts.{begins_significant}
-use Rattle.pylexeme.specs.Lexemes.{Lexeme, lexeme_at, cut, left_by_cut}
+use Rattle.pylex_lexeme.specs.Cuts.{begins_significant}
+use Rattle.pylex_lexeme.specs.Lexemes.{Lexeme, lexeme_at, cut, left_by_cut}
 use Rattle.pylex.specs.Lines.{is_significant}
 use Rattle.pylex.specs.Cursors.{CursorParts, cursor, flag, same_parts}
 use Rattle.pylex.specs.Laws.{LiesIn, AllLie, AreLexemes, IsCut, LongestWins}

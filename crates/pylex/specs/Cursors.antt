@@ -5,9 +5,9 @@ use Rattle.std.specs.List.{prefix_len}
 use Rattle.pysource.specs.Places.{place_after}
 use Rattle.pylex.specs.declared.entries.Entry.{Entry}
 use Rattle.pylex.specs.declared.kind.Kind.TheVariants as kinds
-use Rattle.pylexeme.specs.Lexemes.{Lexeme, cut}
+use Rattle.pylex_lexeme.specs.Lexemes.{Lexeme, cut}
 use Rattle.pylex.specs.Lines.{text_before, depth, is_logical}
-use Rattle.pylexeme.specs.Chars.{bytes_in}
+use Rattle.pylex_lexeme.specs.Chars.{bytes_in}
 use Rattle.pylex.specs.Indentation.{width_at, widths, open_levels}
 use Rattle.pylex.specs.Listing.{Source, listing}
 use Rattle.pylex.specs.Steps.{entries_of}

@@ -2,9 +2,9 @@
 use Rattle.std.specs.Prelude.{◌≡◌, ◌⊎◌, ℕ, ◌≤◌, ◌<◌, true, List, [], ◌++◌, length, drop, Some, None, IsUtf8}
 use Rattle.std.specs.Str.{chars}
 use Rattle.pysource.specs.Streams.{Buffered, ComesOnly, ends_line, past_first}
-use Rattle.pylexeme.specs.declared.string.OpenLiteral.{OpenLiteral}
-use Rattle.pylexeme.specs.Lexemes.{Lexeme, lexeme_at, lexeme_len, left_by_cut, is_open_string}
-use Rattle.pylexeme.specs.OpenLiterals.{IsOpenBy}
+use Rattle.pylex_lexeme.specs.declared.string.OpenLiteral.{OpenLiteral}
+use Rattle.pylex_lexeme.specs.Lexemes.{Lexeme, lexeme_at, lexeme_len, left_by_cut, is_open_string}
+use Rattle.pylex_lexeme.specs.OpenLiterals.{IsOpenBy}
 
 -- From one reader of lines to another: nothing was taken, or what was taken past the lines that were given is no more than one read gives.
 abbrev pub Ahead : Buffered → Buffered → Type 0

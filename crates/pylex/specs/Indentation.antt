@@ -10,10 +10,10 @@ use Rattle.pysource.specs.declared.places.Place.{Place}
 use Rattle.pylex.specs.declared.kind.Kind.TheVariants as kinds
 use Rattle.pylex.specs.declared.entries.ListingError.TheVariants as errors
 use Rattle.pylex.specs.declared.entries.Step.{Step}
-use Rattle.pylexeme.specs.Lexemes.{Lexeme}
+use Rattle.pylex_lexeme.specs.Lexemes.{Lexeme}
 use Rattle.pylex.specs.Lines.{text_before, is_significant, line_so_far, before_line, is_at_margin}
 use Rattle.pylex.specs.Steps.{piece, mark, fault_at}
-use Rattle.pylexeme.specs.Characters.{tab, form_feed}
+use Rattle.pylex_lexeme.specs.Characters.{tab, form_feed}
 
 -- the column that a blank goes on to (reference 2.1.8)
 abbrev pub column_after : ℕ → ℕ → ℕ

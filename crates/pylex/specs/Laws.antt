@@ -6,9 +6,9 @@ use Rattle.pylex.specs.declared.kind.Kind.TheVariants as kinds
 use Rattle.pylex.specs.declared.entries.Entry.{Entry}
 use Rattle.pylex.specs.declared.entries.Step.{Step}
 use Rattle.pylex.specs.declared.entries.Step.TheVariants as steps
-use Rattle.pylexeme.specs.Lexemes.{Lexeme, are_blanks, is_join, class_in, lexeme_at, cut, left_by_cut}
-use Rattle.pylexeme.specs.Chars.{bytes_in}
-use Rattle.pylexeme.specs.Operators.{exact_of}
+use Rattle.pylex_lexeme.specs.Lexemes.{Lexeme, are_blanks, is_join, class_in, lexeme_at, cut, left_by_cut}
+use Rattle.pylex_lexeme.specs.Chars.{bytes_in}
+use Rattle.pylex_lexeme.specs.Operators.{exact_of}
 use Rattle.pylex.specs.Listing.{Source, listing}
 use Rattle.pylex.specs.Steps.{entries_of, fault_of}
 use Rattle.pylex.specs.Cursors.{is_indent}

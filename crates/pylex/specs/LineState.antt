@@ -15,8 +15,8 @@ use Rattle.pylex.specs.declared.machine.Indentation.{Indentation}
 use Rattle.pylex.specs.declared.machine.Indentation.TheVariants as indentations
 use Rattle.pylex.specs.declared.machine.Peeked.{Peeked}
 use Rattle.pylex.specs.declared.machine.Peeked.TheVariants as peeked
-use Rattle.pylexeme.specs.Lexemes.{Lexeme, lexeme_at, lexeme_len}
-use Rattle.pylexeme.specs.Cuts.{begins_significant}
+use Rattle.pylex_lexeme.specs.Lexemes.{Lexeme, lexeme_at, lexeme_len}
+use Rattle.pylex_lexeme.specs.Cuts.{begins_significant}
 use Rattle.pylex.specs.Machine.{State, after, entry_by, pushed, mark_at, dedents_at, last_place}
 
 -- the state of a lister, with the levels that are open

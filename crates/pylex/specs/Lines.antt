@@ -1,7 +1,7 @@
 -- Places, depth and lines. The lexemes before a place stand last first.
 use Rattle.std.specs.Prelude.{ℕ, ◌-◌, ◌+◌, Bool, ◌&&◌, ◌==◌, List, [], ◌∷◌, ◌++◌, length, drop, count_by, if◌then◌else◌}
 use Rattle.std.specs.List.{list_all, list_any}
-use Rattle.pylexeme.specs.Lexemes.{Lexeme, is_blanks_class, is_line_end_class, is_significant_class, is_opener_class, is_closer_class}
+use Rattle.pylex_lexeme.specs.Lexemes.{Lexeme, is_blanks_class, is_line_end_class, is_significant_class, is_opener_class, is_closer_class}
 
 -- the text of the lexemes before a place
 abbrev pub text_before : List Lexeme → List ℕ

@@ -7,9 +7,9 @@ use Rattle.pylex.specs.declared.entries.Step.{Step}
 use Rattle.pylex.specs.declared.cursor.Shown.{Shown}
 use Rattle.pylex.specs.declared.leading_char.LeadingChar.TheVariants.{Nothing}
 use Rattle.pylex.specs.declared.line_state.LineState.{LineState}
-use Rattle.pylexeme.specs.Cuts.{begins_significant}
-use Rattle.pylexeme.specs.Lexemes.{Lexeme, lexeme_at, lexeme_len}
-use Rattle.pylexeme.specs.Chars.{bytes_in}
+use Rattle.pylex_lexeme.specs.Cuts.{begins_significant}
+use Rattle.pylex_lexeme.specs.Lexemes.{Lexeme, lexeme_at, lexeme_len}
+use Rattle.pylex_lexeme.specs.Chars.{bytes_in}
 use Rattle.pylex.specs.Listing.{Source, in_characters, last_line, listing, rest}
 use Rattle.pylex.specs.Steps.{first_step, entries_in, IsIndent}
 use Rattle.pylex.specs.Cursors.{CursorParts}

@@ -5,8 +5,8 @@ use Rattle.std.specs.Str.{chars}
 use Rattle.pysource.specs.Places.{place_after}
 use Rattle.pysource.specs.Parts.{Parts}
 use Rattle.pysource.specs.declared.faults.LineFault.{LineFault}
-use Rattle.pylexeme.specs.declared.kinds.Exact.{Exact}
-use Rattle.pylexeme.specs.declared.lexeme.Class.TheVariants.{Name, Number, String, Operator, Comment, Blanks, LineEnd, Join}
+use Rattle.pylex_lexeme.specs.declared.kinds.Exact.{Exact}
+use Rattle.pylex_lexeme.specs.declared.lexeme.Class.TheVariants.{Name, Number, String, Operator, Comment, Blanks, LineEnd, Join}
 use Rattle.pysource.specs.declared.places.Place.{Place}
 use Rattle.pylex.specs.declared.kind.Kind.{Kind}
 use Rattle.pylex.specs.declared.kind.Kind.TheVariants as kinds
@@ -14,14 +14,14 @@ use Rattle.pylex.specs.declared.entries.ListingFault.{ListingFault}
 use Rattle.pylex.specs.declared.entries.ListingError.TheVariants as errors
 use Rattle.pylex.specs.declared.entries.Step.{Step}
 use Rattle.pylex.specs.declared.entries.Step.TheVariants as steps
-use Rattle.pylexeme.specs.Chars.{is_blank_char}
-use Rattle.pylexeme.specs.Strings.{opens_string}
-use Rattle.pylexeme.specs.Operators.{is_closer}
-use Rattle.pylexeme.specs.Lexemes.{Lexeme, cut, left_by_cut, is_open_string}
+use Rattle.pylex_lexeme.specs.Chars.{is_blank_char}
+use Rattle.pylex_lexeme.specs.Strings.{opens_string}
+use Rattle.pylex_lexeme.specs.Operators.{is_closer}
+use Rattle.pylex_lexeme.specs.Lexemes.{Lexeme, cut, left_by_cut, is_open_string}
 use Rattle.pylex.specs.Lines.{text_before, depth, is_significant, is_at_margin, is_logical}
 use Rattle.pylex.specs.Indentation.{widths, open_levels, layout, dedents}
 use Rattle.pylex.specs.Steps.{piece, mark, fault_at}
-use Rattle.pylexeme.specs.Characters.{line_feed, hash}
+use Rattle.pylex_lexeme.specs.Characters.{line_feed, hash}
 
 -- what decoding gives: the encoding's text, the good lines, and the fault of the line after them
 pub record Source : Type 0 where

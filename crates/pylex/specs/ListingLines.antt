@@ -8,8 +8,8 @@ use Rattle.pysource.specs.declared.places.Place.{Place}
 use Rattle.pylex.specs.declared.entries.Entry.{Entry}
 use Rattle.pylex.specs.declared.kind.Kind.{Kind}
 use Rattle.pylex.specs.declared.kind.Kind.TheVariants.{Encoding, Name, Number, String, Op, Comment, Nl, Newline, Indent, Dedent, EndMarker}
-use Rattle.pylexeme.specs.Operators.{exact_name}
-use Rattle.pylexeme.specs.Characters.{space}
+use Rattle.pylex_lexeme.specs.Operators.{exact_name}
+use Rattle.pylex_lexeme.specs.Characters.{space}
 
 -- the name of a type of tokens
 abbrev pub kind_name : Kind → List ℕ

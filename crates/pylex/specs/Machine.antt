@@ -1,9 +1,9 @@
 -- The listing as a lister makes it: by a state, which one lexeme after another changes.
 use Rattle.std.specs.Prelude.{ℕ, ◌+◌, ◌-◌, nat_lt, Bool, true, false, not, ◌&&◌, ◌||◌, ◌==◌, List, [], ◌∷◌, ◌++◌, length, filter, replicate, count_by, if◌then◌else◌, Option, Some, None}
 use Rattle.std.specs.List.{list_all, list_any}
-use Rattle.pylexeme.specs.declared.lexeme.Class.{Class}
-use Rattle.pylexeme.specs.declared.lexeme.Class.TheVariants.{Name, Number, String, Operator, Comment, Blanks, LineEnd, Join}
-use Rattle.pylexeme.specs.declared.kinds.Exact.{Exact}
+use Rattle.pylex_lexeme.specs.declared.lexeme.Class.{Class}
+use Rattle.pylex_lexeme.specs.declared.lexeme.Class.TheVariants.{Name, Number, String, Operator, Comment, Blanks, LineEnd, Join}
+use Rattle.pylex_lexeme.specs.declared.kinds.Exact.{Exact}
 use Rattle.pysource.specs.declared.places.Place.{Place}
 use Rattle.pylex.specs.declared.kind.Kind.{Kind}
 use Rattle.pylex.specs.declared.kind.Kind.TheVariants as kinds
@@ -14,15 +14,15 @@ use Rattle.pylex.specs.declared.entries.Step.TheVariants as steps
 use Rattle.pylex.specs.declared.point.Point.{Point}
 use Rattle.pylex.specs.declared.leading_char.LeadingChar.{LeadingChar}
 use Rattle.pylex.specs.declared.leading_char.LeadingChar.TheVariants.{Nothing, Hash, Other}
-use Rattle.pylexeme.specs.Chars.{is_blank_char}
-use Rattle.pylexeme.specs.Operators.{is_closer}
-use Rattle.pylexeme.specs.Lexemes.{Lexeme, cut, left_by_cut, is_join_class}
+use Rattle.pylex_lexeme.specs.Chars.{is_blank_char}
+use Rattle.pylex_lexeme.specs.Operators.{is_closer}
+use Rattle.pylex_lexeme.specs.Lexemes.{Lexeme, cut, left_by_cut, is_join_class}
 use Rattle.pylex.specs.Lines.{is_of_blanks, is_of_line_end, is_significant, opens, closes}
 use Rattle.pylex.specs.Steps.{fault_at}
 use Rattle.pylex.specs.Indentation.{width_from}
-use Rattle.pylexeme.specs.Chars.{bytes_in}
+use Rattle.pylex_lexeme.specs.Chars.{bytes_in}
 use Rattle.pylex.specs.Listing.{further, row_after, stop_fault, up_to_end}
-use Rattle.pylexeme.specs.Characters.{line_feed, hash}
+use Rattle.pylex_lexeme.specs.Characters.{line_feed, hash}
 
 pub record State : Type 0 where
   pub now : Point

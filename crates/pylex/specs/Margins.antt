@@ -2,10 +2,10 @@
 -- (reference 2.1.8).
 use Rattle.std.specs.Prelude.{ℕ, ◌+◌, ◌==◌, List, [], ◌∷◌, if◌then◌else◌}
 use Rattle.std.specs.List.{take_while}
-use Rattle.pylexeme.specs.Chars.{is_blank_char}
+use Rattle.pylex_lexeme.specs.Chars.{is_blank_char}
 use Rattle.pylex.specs.declared.margins.Widths.{Widths}
 use Rattle.pylex.specs.Indentation.{width_from}
-use Rattle.pylexeme.specs.Characters.{form_feed}
+use Rattle.pylex_lexeme.specs.Characters.{form_feed}
 
 -- the column that a blank goes on to, where a tab counts as one space; a form feed sets 0
 abbrev pub column_by_one : ℕ → ℕ → ℕ

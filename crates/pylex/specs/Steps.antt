@@ -3,8 +3,8 @@ use Rattle.std.specs.Prelude.{◌≡◌, ℕ, ◌+◌, ◌*◌, List, [], ◌∷
 use Rattle.pysource.specs.Limits.{source_limit}
 use Rattle.pysource.specs.Places.{place_after}
 use Rattle.pysource.specs.declared.places.Place.{Place}
-use Rattle.pylexeme.specs.Chars.{bytes_in}
-use Rattle.pylexeme.specs.declared.kinds.Exact.{Exact}
+use Rattle.pylex_lexeme.specs.Chars.{bytes_in}
+use Rattle.pylex_lexeme.specs.declared.kinds.Exact.{Exact}
 use Rattle.pylex.specs.declared.entries.Entry.{Entry}
 use Rattle.pylex.specs.declared.entries.ListingFault.{ListingFault}
 use Rattle.pylex.specs.declared.entries.ListingError.{ListingError}

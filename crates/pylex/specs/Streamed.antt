@@ -13,7 +13,7 @@ use Rattle.pysource.specs.Limits.{source_limit}
 use Rattle.pysource.specs.declared.faults.LineError.TheVariants.{Unread}
 use Rattle.pysource.specs.declared.line_reader.Line.{Line}
 use Rattle.pysource.specs.declared.line_reader.Line.TheVariants as lines
-use Rattle.pylexeme.specs.Lexemes.{left_by_cut, is_open_string}
+use Rattle.pylex_lexeme.specs.Lexemes.{left_by_cut, is_open_string}
 use Rattle.pylex.specs.LineState.{Comes, IsMeasuring, StopAhead}
 use Rattle.pysource.specs.declared.line_reader.Reach.TheVariants as reach
 use Rattle.pysource.specs.declared.line_reader.StreamFault.TheVariants as faults

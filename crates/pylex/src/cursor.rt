@@ -6,7 +6,7 @@ ghost use Rattle.std.specs.Prelude.{◌↔◌, ◌-◌, slice_index, MatchOption
 ghost use Rattle.std.specs.List.{flat_map};
 ghost use Rattle.std.specs.Option.{IsSomeAnd};
 ghost use Rattle.std.specs.String.{string_bytes};
-ghost use Rattle.pylexeme.specs.Characters.{space};
+ghost use Rattle.pylex_lexeme.specs.Characters.{space};
 ghost use Rattle.pylex.specs.Cursors.{CursorParts, cursor_text, part, with_commas};
 ghost use Rattle.pylex.specs.CursorTexts.{AreLevels, IsWellFormed};
 ghost use Rattle.pylex.specs.LineState.{IsAscending, with_levels};
@@ -18,7 +18,7 @@ use crate::leading_char::front_of;
 use crate::line_state::LineState;
 use crate::point::Point;
 use itoa::Buffer;
-use pylexeme::scanner::char_count;
+use pylex_lexeme::scanner::char_count;
 use pysource::Place;
 use std::alloc::{AllocError, Global};
 use std::marker::Model;

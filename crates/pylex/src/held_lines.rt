@@ -9,7 +9,7 @@ ghost use Rattle.std.specs.Str.{IsCharBoundary};
 ghost use Rattle.pylex.specs.Held.{Joins, LinesBehind};
 ghost use Rattle.pylex.specs.Inner.Chunked.{AddsLine, AddsOn, HoldsOn, IsHeldLines, IsLonger, ReadsOn};
 
-use pylexeme::string::{OpenLiteral, open_literal};
+use pylex_lexeme::string::{OpenLiteral, open_literal};
 use pysource::{ByteIn, Line, LineReader};
 use std::alloc::{AllocError, Global};
 use std::mem;

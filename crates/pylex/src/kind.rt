@@ -40,4 +40,4 @@ impl Kind {
     }
 }
 
-pub use pylexeme::kinds::Exact;
+pub use pylex_lexeme::kinds::Exact;

@@ -6,7 +6,7 @@ ghost use Rattle.pylex.specs.Machine.{place_past, front_after_char, front_after,
 ghost use Rattle.pylex.specs.Inner.Plain.{AreSpaces, IsPlain};
 ghost use Rattle.pylex.specs.Inner.Told.{Tells, begun_by};
 
-use pylexeme::lexeme::Class;
+use pylex_lexeme::lexeme::Class;
 use pysource::Place;
 
 /// What a physical line begins with, blanks aside.

@@ -4,10 +4,10 @@ ghost use Rattle.std.specs.Prelude.{◌≡◌, ℕ, ◌+◌, ◌-◌, ◌*◌, �
 ghost use Rattle.std.specs.Prelude.{if◌then◌else◌, List, [], ◌∷◌, length, false, true, IfSome};
 ghost use Rattle.std.specs.Str.{chars};
 ghost use Rattle.pylex.specs.Indentation.{width_from};
-ghost use Rattle.pylexeme.specs.Lexemes.{is_significant_class, is_blanks_class, is_line_end_class};
-ghost use Rattle.pylexeme.specs.Lexemes.{is_opener_class, is_closer_class};
-ghost use Rattle.pylexeme.specs.Chars.{bytes_in};
-ghost use Rattle.pylexeme.specs.Operators.{is_closer};
+ghost use Rattle.pylex_lexeme.specs.Lexemes.{is_significant_class, is_blanks_class, is_line_end_class};
+ghost use Rattle.pylex_lexeme.specs.Lexemes.{is_opener_class, is_closer_class};
+ghost use Rattle.pylex_lexeme.specs.Chars.{bytes_in};
+ghost use Rattle.pylex_lexeme.specs.Operators.{is_closer};
 ghost use Rattle.pylex.specs.Machine.{past, after, entry_by, still, count_if, pushed, first_state};
 ghost use Rattle.pylex.specs.Machine.{last_line_end, last_place, line_end_kind_of};
 ghost use Rattle.pylex.specs.Listing.{row_after};
@@ -19,7 +19,7 @@ use crate::kind::{Exact, Kind};
 use crate::leading_char::{LeadingChar, walk, walk_lexeme};
 use crate::measures::width_after;
 use crate::point::{Point, entry_of, mark};
-use pylexeme::lexeme::Class;
+use pylex_lexeme::lexeme::Class;
 use pysource::Place;
 
 /// How far a lister has come, its open levels aside.

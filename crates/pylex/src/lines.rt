@@ -10,13 +10,13 @@ ghost use Rattle.std.specs.String.{string_bytes};
 ghost use Rattle.pysource.specs.Reprs.{is_plain, repr_text};
 ghost use Rattle.pylex.specs.ListingLines.{filled, kind_name, listing_line, shown_name};
 ghost use Rattle.pylex.specs.ListingLines.{shown_place, shown_range};
-ghost use Rattle.pylexeme.specs.Characters.{line_feed, space};
-ghost use Rattle.pylexeme.specs.Operators.{exact_name};
+ghost use Rattle.pylex_lexeme.specs.Characters.{line_feed, space};
+ghost use Rattle.pylex_lexeme.specs.Operators.{exact_name};
 
 use crate::entries::Entry;
 use crate::kind::{Exact, Kind};
 use itoa::write_digits;
-use pylexeme::scanner::char_count;
+use pylex_lexeme::scanner::char_count;
 use pysource::{Place, push_repr};
 use std::alloc::{AllocError, Global};
 use std::str::from_utf8_unchecked;

@@ -22,8 +22,8 @@ use crate::entries::{Emitted, Entry, ListingError, ListingFault, Step};
 use crate::kind::Kind;
 use crate::line_state::LineState;
 use crate::point::{entry_of, mark};
-use pylexeme::lexeme::{Class, begins_significant, cut};
-use pylexeme::string::{is_open_string, opens_string};
+use pylex_lexeme::lexeme::{Class, begins_significant, cut};
+use pylex_lexeme::string::{is_open_string, opens_string};
 use pysource::{LineFault, Place};
 use std::alloc::{AllocError, Global};
 

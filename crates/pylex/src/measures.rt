@@ -4,7 +4,7 @@
 
 ghost use Rattle.std.specs.Prelude.{◌≡◌, ◌+◌, ◌*◌, ◌^◌, ◌<◌, ◌≤◌, length, drop};
 ghost use Rattle.std.specs.Str.{chars, IsCharBoundary};
-ghost use Rattle.pylexeme.specs.Chars.{is_blank_char};
+ghost use Rattle.pylex_lexeme.specs.Chars.{is_blank_char};
 ghost use Rattle.pylex.specs.Indentation.{column_after, width_from};
 ghost use Rattle.pylex.specs.Margins.{column_by_one, widths_of};
 

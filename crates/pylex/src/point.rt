@@ -2,12 +2,12 @@
 
 ghost use Rattle.std.specs.Prelude.{◌≡◌, ◌+◌, ◌^◌, ◌<◌, length};
 ghost use Rattle.std.specs.Str.{chars};
-ghost use Rattle.pylexeme.specs.Chars.{bytes_in};
+ghost use Rattle.pylex_lexeme.specs.Chars.{bytes_in};
 ghost use Rattle.pylex.specs.Machine.{behind, step_of, mark_at};
 
 use crate::entries::{Entry, Step};
 use crate::kind::{Exact, Kind};
-use pylexeme::scanner::char_count;
+use pylex_lexeme::scanner::char_count;
 use pysource::Place;
 
 /// A place of a text, and its offset in bytes.

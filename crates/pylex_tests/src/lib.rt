@@ -1,4 +1,4 @@
-//! Tests of `pylexeme` and `pylex`: rows whose outcome was taken from Python 3.11, and each call
+//! Tests of `pylex_lexeme` and `pylex`: rows whose outcome was taken from Python 3.11, and each call
 //! once where all goes well.
 #![tactic(auto)]
 

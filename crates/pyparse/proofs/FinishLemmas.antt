@@ -7,9 +7,9 @@ use Rattle.std.proofs.lemmas.List.{length-map}
 use Rattle.pysource.specs.declared.places.Place.{Place}
 use Rattle.pysource.specs.Parts.{Parts}
 use Rattle.pylex.specs.Listing.{Source, in_characters}
-use Rattle.pynode.specs.declared.profiles.Profile.{Profile}
-use Rattle.pynode.specs.Trees.{Stmt, Module}
-use Rattle.pyheight.specs.Heights.{statement_height}
+use Rattle.pytree_node.specs.declared.profiles.Profile.{Profile}
+use Rattle.pytree_node.specs.Trees.{Stmt, Module}
+use Rattle.pytree_height.specs.Heights.{statement_height}
 use Rattle.pytoken.specs.Terminals.{terminal_of}
 use Rattle.pytoken.specs.Tokens.{lines}
 use Rattle.pytoken.specs.Tokens as Tokens
@@ -22,13 +22,13 @@ use Rattle.pygrammar.specs.Refusals as code
 use Rattle.pygrammar.specs.Reading.{Fine, run, start}
 use Rattle.pygrammar.proofs.Callers.Blocks.{formed_flat, deep_is_high}
 use Rattle.pygrammar.proofs.Callers.Lines.{lines_are_lawful}
-use Rattle.pyblock.specs.declared.blocks.Blocks.{Blocks}
-use Rattle.pyblock.specs.StateOf.{state_of}
-use Rattle.pyoutline.specs.declared.outlines.Outline.{Outline}
-use Rattle.pyoutline.specs.Outlines.{Follows}
-use Rattle.pyoutline.specs.declared.faults.Stop.{Stop}
-use Rattle.pyoutline.specs.declared.faults.Stop.TheVariants as variant
-use Rattle.pyoutline.specs.Faults.{fault_of, Blames}
+use Rattle.pyparse_block.specs.declared.blocks.Blocks.{Blocks}
+use Rattle.pyparse_block.specs.StateOf.{state_of}
+use Rattle.pyparse_block.specs.declared.outline.outlines.Outline.{Outline}
+use Rattle.pyparse_block.specs.Outlines.{Follows}
+use Rattle.pyparse_block.specs.declared.outline.faults.Stop.{Stop}
+use Rattle.pyparse_block.specs.declared.outline.faults.Stop.TheVariants as variant
+use Rattle.pyparse_block.specs.Faults.{fault_of, Blames}
 use Rattle.pyparse.specs.declared.faults.GrammarError.{GrammarError}
 use Rattle.pyparse.specs.declared.faults.ParseFault.{ParseFault}
 use Rattle.pyparse.specs.declared.faults.ParseFault.TheVariants as faults

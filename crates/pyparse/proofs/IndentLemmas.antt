@@ -8,7 +8,7 @@ use Rattle.std.proofs.lemmas.Bool.Decides.{nat_tests}
 use Rattle.std.proofs.lemmas.List.{length-replicate}
 use Rattle.std.proofs.lemmas.List.Sums.{take_while-cons}
 use Rattle.std.proofs.lemmas.Str.{encode_ascii, encodes-chars, IsCharBoundary-at_seam}
-use Rattle.pylexeme.specs.Chars.{is_blank_char}
+use Rattle.pylex_lexeme.specs.Chars.{is_blank_char}
 use Rattle.pylex.specs.Indentation.{width_from}
 use Rattle.pylex.specs.Margins.{blanks_of, width_by_one, widths_of}
 use Rattle.pyparse.proofs.TextLemmas.{past, no_chars}

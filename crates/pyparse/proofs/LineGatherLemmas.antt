@@ -21,8 +21,8 @@ use Rattle.pylex.proofs.Callers.{entry_lies}
 use Rattle.pylex.specs.Steps.{entries_of, most_entries}
 use Rattle.pytoken.specs.Tokens.{Token, Line, text_of, token_of, is_open, level_behind, tokens_from, lines_from, tokens, lines}
 use Rattle.pytoken.specs.Refusals.{entry_refusal}
-use Rattle.pyvalue.specs.Terminals.{terminal}
-use Rattle.pyvalue.specs.declared.terminals.Terminal.{Terminal}
+use Rattle.pytoken.specs.TerminalOf.{terminal}
+use Rattle.pytoken.specs.declared.values.terminals.Terminal.{Terminal}
 use Rattle.pyparse.specs.declared.line_gather.LineGather.{LineGather}
 use Rattle.pyparse.specs.LineReadings.{first_start, token_terminal, lines_within}
 use Rattle.pyparse.specs.Inner.Passing.{counted, still_open, kept_refusal}

@@ -3,8 +3,8 @@ use Rattle.std.proofs.Common.{◌≡◌, ℕ, Bool, true, List, [], ◌∷◌, �
 use Rattle.std.specs.Prelude.{if◌then◌else◌}
 use Rattle.std.specs.Str.{chars}
 use Rattle.std.proofs.lemmas.List.{map-append}
-use Rattle.pylexeme.specs.declared.kinds.Exact.{Exact}
-use Rattle.pylexeme.specs.Operators.{exact_of}
+use Rattle.pylex_lexeme.specs.declared.kinds.Exact.{Exact}
+use Rattle.pylex_lexeme.specs.Operators.{exact_of}
 use Rattle.pylex.specs.declared.kind.Kind.{Kind}
 use Rattle.pylex.specs.declared.kind.Kind.TheVariants as kinds
 use Rattle.pylex.specs.declared.entries.Entry.{Entry}
@@ -13,8 +13,8 @@ use Rattle.pytoken.specs.Terminals
 use Rattle.pytoken.specs.Terminals.{terminal_of, fault_of}
 use Rattle.pytoken.specs.Tokens.{text_of}
 use Rattle.pytoken.specs.Refusals.{entry_refusal}
-use Rattle.pyvalue.specs.Terminals.{terminal}
-use Rattle.pyvalue.specs.declared.terminals.Terminal.TheVariants.{Op}
+use Rattle.pytoken.specs.TerminalOf.{terminal}
+use Rattle.pytoken.specs.declared.values.terminals.Terminal.TheVariants.{Op}
 use Rattle.pyparse.specs.declared.line_gather.LineGather.{LineGather}
 use Rattle.pyparse.specs.Inner.LineGathering.{stands_in_line, own_terminals, of_first, Adds}
 

@@ -3,7 +3,7 @@ use Rattle.std.proofs.Common.{◌≡◌, inl, inr, ℕ, zero, suc, ◌+◌, ◌�
 use Rattle.std.specs.Prelude.{slice_get}
 use Rattle.pysource.specs.declared.places.Place.{Place}
 use Rattle.pylex.specs.Listing.{Source}
-use Rattle.pynode.specs.declared.profiles.Profile.{Profile}
+use Rattle.pytree_node.specs.declared.profiles.Profile.{Profile}
 use Rattle.pytoken.specs.Inner.Behind.{behind}
 use Rattle.pytoken.specs.Terminals.{Terminal}
 use Rattle.pytoken.specs.Tokens.{Token, lines}
@@ -16,13 +16,13 @@ use Rattle.pygrammar.specs.Depths.{count, innermost, is_deep}
 use Rattle.pygrammar.specs.Reading.{Fine, run, start}
 use Rattle.pygrammar.specs.Refusals.{Indentation, StartsAt, at_line, Formed, formed_end, formed_line, Unread, FirstUnread, FirstDeep, beginning}
 use Rattle.pygrammar.proofs.Callers.Blocks.{formed_on, unread_on, unread_more, innermost_on, deep_is, not_deep, deep_more, deep_last, deep_parts}
-use Rattle.pyblock.specs.declared.blocks.Blocks.{Blocks}
-use Rattle.pyblock.specs.StateOf.{state_of}
-use Rattle.pyoutline.specs.declared.outlines.Outline.{Outline}
-use Rattle.pyoutline.specs.Outlines.{Follows}
-use Rattle.pyoutline.specs.declared.faults.Stop.{Stop}
-use Rattle.pyoutline.specs.declared.faults.Stop.TheVariants as variant
-use Rattle.pyoutline.specs.Faults.{fault_of, Blames}
+use Rattle.pyparse_block.specs.declared.blocks.Blocks.{Blocks}
+use Rattle.pyparse_block.specs.StateOf.{state_of}
+use Rattle.pyparse_block.specs.declared.outline.outlines.Outline.{Outline}
+use Rattle.pyparse_block.specs.Outlines.{Follows}
+use Rattle.pyparse_block.specs.declared.outline.faults.Stop.{Stop}
+use Rattle.pyparse_block.specs.declared.outline.faults.Stop.TheVariants as variant
+use Rattle.pyparse_block.specs.Faults.{fault_of, Blames}
 use Rattle.pyparse.specs.declared.faults.GrammarError.{GrammarError}
 use Rattle.pyparse.specs.declared.progress.Progress.{Progress}
 use Rattle.pyparse.specs.declared.progress.Progress.TheVariants.{Sound, Deep, Faulty}

@@ -1,6 +1,6 @@
 -- What the answer for a source says: its module, or why it has none.
 use Rattle.pylex.specs.Listing.{Source}
-use Rattle.pynode.specs.declared.profiles.Profile.{Profile}
+use Rattle.pytree_node.specs.declared.profiles.Profile.{Profile}
 use Rattle.pygrammar.specs.Blocks as block
 use Rattle.pygrammar.specs.Refusals.{Code, Indentation, in_tokens, at, Refused}
 use Rattle.pygrammar.specs.Refusals as code

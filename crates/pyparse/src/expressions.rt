@@ -3,22 +3,22 @@
 //! Python language reference, 6 "Expressions".
 
 ghost use Rattle.std.specs.Prelude.{◌≡◌, ◌++◌, ◌∷◌, [], map, IfOk, IfErr, OnOk, None};
-ghost use Rattle.pyexpr.specs.Expressions.{IsExpression};
+ghost use Rattle.pyparse_expr.specs.Expressions.{IsExpression};
 ghost use Rattle.pygrammar.specs.Laws.{GrammarIsLawful};
-ghost use Rattle.pynode.specs.TreeOf.{tree_of};
-ghost use Rattle.pyvalue.specs.Terminals.{terminal};
+ghost use Rattle.pytree_node.specs.TreeOf.{tree_of};
+ghost use Rattle.pytoken.specs.TerminalOf.{terminal};
 ghost use Rattle.pyparse.specs.Answers.{Tells};
 ghost use Rattle.pyparse.specs.Expressions.{first_place, first_refusal, terminals, token_refusal};
 ghost use Rattle.pyparse.specs.Expressions.{Refuses};
 
 use crate::faults::{GrammarError, ParseFault};
 use crate::tokens::Token;
-use pyexpr::{Stop, read_whole};
+use pyparse_expr::{Stop, read_whole};
 use pygrammar::Level;
-use pynode::Expr;
+use pytree_node::Expr;
 use pysource::Place;
 use pytoken::Refusal;
-use pyvalue::{Terminal, TerminalFault, terminal_of};
+use pytoken::{Terminal, TerminalFault, terminal_of};
 use std::alloc::{AllocError, Global};
 
 /// What a token is to the grammar.

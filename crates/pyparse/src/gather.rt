@@ -16,7 +16,7 @@ use crate::tokens::Token;
 use pylex::{Entry, Kind};
 use pysource::{Place, Source, place_of};
 use pytoken::Refusal;
-use pyvalue::token_fault;
+use pytoken::token_fault;
 use std::alloc::{AllocError, Global};
 
 /// What stands between an entry's offsets in a source.

@@ -4,7 +4,7 @@
 
 ghost use Rattle.std.specs.Prelude.{◌≡◌, ◌++◌, true, [], length, drop, OnOk, None};
 ghost use Rattle.std.specs.Str.{chars, IsCharBoundary};
-ghost use Rattle.pylexeme.specs.Chars.{is_blank_char};
+ghost use Rattle.pylex_lexeme.specs.Chars.{is_blank_char};
 ghost use Rattle.pylex.specs.Margins.{blanks_of, widths_of};
 ghost use Rattle.pytoken.specs.Indentation.{behind_offset, are_alike, margin_at};
 ghost use Rattle.pyparse.specs.Inner.Indenting.{is_logical_at, start_at, are_rising};

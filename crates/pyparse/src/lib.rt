@@ -5,7 +5,7 @@
 //! each as terminals in one buffer. [`number_value`], [`string_value`] and [`name_value`] tell what
 //! the text of a number, a string or a name stands for, [`string_fault`] and [`name_fault`] what is
 //! wrong with it by itself. [`terminal_of`] tells what a token is to the grammar ([`Terminal`]).
-//! These are `pyvalue`'s.
+//! These are `pytoken`'s.
 //!
 //! The words of contracts are `pytoken`'s, and here in `specs/` those of `Answers` and
 //! `LineReadings`.
@@ -27,7 +27,7 @@ pub use expressions::parse_expression;
 pub use faults::{GrammarError, ParseFault};
 pub use logical_lines::LogicalLines;
 pub use modules::parse;
-pub use pyvalue::{
+pub use pytoken::{
     Literal, LiteralText, Terminal, TerminalFault, identifier_value, name_fault, name_value,
     number_value, string_fault, string_value, terminal_of, token_fault,
 };

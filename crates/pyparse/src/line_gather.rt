@@ -6,7 +6,7 @@ ghost use Rattle.std.specs.Prelude.{true, false};
 ghost use Rattle.std.specs.Str.{chars, IsCharBoundary};
 ghost use Rattle.pylex.specs.Laws.{LiesIn, HasExact};
 ghost use Rattle.pytoken.specs.Refusals.{entry_refusal};
-ghost use Rattle.pyvalue.specs.Terminals.{terminal};
+ghost use Rattle.pytoken.specs.TerminalOf.{terminal};
 ghost use Rattle.pyparse.specs.Inner.Passing.{counted, kept_refusal, Passed};
 ghost use Rattle.pyparse.specs.Inner.LineGathering.{
   stands_in_line,
@@ -28,7 +28,7 @@ use crate::room::put;
 use pylex::{Entry, Kind};
 use pysource::{Place, Source};
 use pytoken::Refusal;
-use pyvalue::{Terminal, TerminalFault, terminal_of};
+use pytoken::{Terminal, TerminalFault, terminal_of};
 use std::alloc::{AllocError, Global};
 
 /// Whether a token of this type stands in a line.

@@ -5,7 +5,7 @@
 ghost use Rattle.std.specs.Prelude.{◌≡◌, ◌+◌, ℕ, true, false, length, map, Bool, Some, None};
 ghost use Rattle.std.specs.Prelude.{Result, IfOk, IfErr, if◌then◌else◌};
 ghost use Rattle.pylex.specs.Listing.{in_characters};
-ghost use Rattle.pyvalue.specs.Terminals.{terminal};
+ghost use Rattle.pytoken.specs.TerminalOf.{terminal};
 ghost use Rattle.pytoken.specs.Tokens.{lines};
 ghost use Rattle.pytoken.specs.Refusals.{refusal};
 ghost use Rattle.pytoken.specs.Laws.{AreLawful, TokensAreSound};
@@ -20,7 +20,7 @@ use crate::line_gather::LineGather;
 use pylex::{Lister, Step};
 use pysource::{Place, Source};
 use pytoken::Refusal;
-use pyvalue::Terminal;
+use pytoken::Terminal;
 use std::alloc::{AllocError, Global};
 use std::marker::Model;
 

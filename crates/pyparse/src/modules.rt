@@ -4,7 +4,7 @@
 
 ghost use Rattle.std.specs.Prelude.{IfOk, IfErr};
 ghost use Rattle.pylex.specs.Listing.{in_characters};
-ghost use Rattle.pynode.specs.TreeOf.{module_of};
+ghost use Rattle.pytree_node.specs.TreeOf.{module_of};
 ghost use Rattle.pygrammar.specs.Refusals.{Accepted};
 ghost use Rattle.pygrammar.specs.SourceLaws.{FormsAreLawful, BlocksAreLawful, AnswersAreLawful};
 ghost use Rattle.pyparse.specs.Modules.{Refuses};
@@ -12,7 +12,7 @@ ghost use Rattle.pyparse.specs.Modules.{Refuses};
 use crate::faults::ParseFault;
 use crate::logical_lines::LogicalLines;
 use crate::progress::Progress;
-use pynode::{Module, Profile};
+use pytree_node::{Module, Profile};
 use pysource::Source;
 use std::alloc::Global;
 

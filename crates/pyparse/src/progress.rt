@@ -2,14 +2,14 @@
 
 ghost use Rattle.std.specs.Prelude.{◌≡◌, ◌+◌, ℕ, false, IfOk, IfErr};
 ghost use Rattle.pylex.specs.Listing.{Source, in_characters};
-ghost use Rattle.pynode.specs.declared.profiles.Profile.{Profile};
-ghost use Rattle.pynode.specs.TreeOf.{module_of};
+ghost use Rattle.pytree_node.specs.declared.profiles.Profile.{Profile};
+ghost use Rattle.pytree_node.specs.TreeOf.{module_of};
 ghost use Rattle.pytoken.specs.Tokens.{Line};
 ghost use Rattle.pygrammar.specs.Lines.{line};
 ghost use Rattle.pygrammar.specs.Refusals.{is_match, terminals, Accepted, Unread};
-ghost use Rattle.pyform.specs.FormOf.{form_of};
-ghost use Rattle.pyoutline.specs.declared.outlines.Outline.{Outline};
-ghost use Rattle.pyline.specs.Lines.{Refused};
+ghost use Rattle.pygrammar.specs.FormOf.{form_of};
+ghost use Rattle.pyparse_block.specs.declared.outline.outlines.Outline.{Outline};
+ghost use Rattle.pyparse_line.specs.Lines.{Refused};
 ghost use Rattle.pyparse.specs.LineReadings.{HoldsLine};
 ghost use Rattle.pyparse.specs.Modules.{code_of, Refuses};
 ghost use Rattle.pyparse.specs.Inner.Progressing.{is_unread, IsSound, IsDeepAt, IsKnown, Comes};
@@ -17,11 +17,11 @@ ghost use Rattle.pyparse.specs.Inner.Progressing.{Closes, TellsFault};
 
 use crate::faults::{GrammarError, ParseFault};
 use crate::logical_lines::LogicalLines;
-use pyblock::Blocks;
-use pyform::Form;
-use pyline::read_line;
-use pynode::{Module, Profile};
-use pyoutline::{BlockFault, Outline, Stop};
+use pyparse_block::Blocks;
+use pygrammar::Form;
+use pyparse_line::read_line;
+use pytree_node::{Module, Profile};
+use pyparse_block::{BlockFault, Outline, Stop};
 use pysource::Place;
 use std::alloc::{AllocError, Global};
 
@@ -40,18 +40,18 @@ fn block_error(stop: Stop) -> Result<GrammarError, AllocError>
 }
 
 /// The error of a line that has no form, by whether it looks like a `match` statement.
-fn line_error(stop: pyexpr::Stop, like_match: bool) -> Result<GrammarError, AllocError>
+fn line_error(stop: pyparse_expr::Stop, like_match: bool) -> Result<GrammarError, AllocError>
     ensures { (profile : Profile) (x : Line) → Refused stop profile (terminals x)
         → like_match ≡ is_match x.tokens → IfOk result (λ e. Unread profile x (code_of e)) }
 {
     match stop {
-        pyexpr::Stop::NoForm => Ok(if like_match {
+        pyparse_expr::Stop::NoForm => Ok(if like_match {
             GrammarError::MatchStatement
         } else {
             GrammarError::Syntax
         }),
-        pyexpr::Stop::TooDeep => Ok(GrammarError::TooDeep),
-        pyexpr::Stop::Memory => Err(AllocError),
+        pyparse_expr::Stop::TooDeep => Ok(GrammarError::TooDeep),
+        pyparse_expr::Stop::Memory => Err(AllocError),
     }
 }
 

@@ -2,9 +2,9 @@
 //! none.
 
 use crate::sources::source_of;
-use pydump::{Style, dump_expr};
+use pytree_dump::{Style, dump_expr};
 use pygrammar::Level;
-use pynode::Profile;
+use pytree_node::Profile;
 use pyparse::{GrammarError, ParseFault, Token, parse_expression, tokens_of};
 use pysource::Place;
 use std::alloc::Global;

@@ -1,4 +1,4 @@
--- Characters and bytes by their names (Unicode names). `pylexeme` has its own: neither crate stands on the other.
+-- Characters and bytes by their names (Unicode names). `pylex_lexeme` has its own: neither crate stands on the other.
 use Rattle.std.specs.Prelude.{ℕ}
 
 abbrev pub tab : ℕ

@@ -6,8 +6,8 @@ use lib.Utf8.{encode}
 use Rattle.std.specs.Str.{chars}
 use Rattle.unicode_normalization.proofs.Computing.{unicode_normalization}
 use Rattle.pysource.specs.Places.{place_after}
-use Rattle.pylexeme.proofs.Callers.Lexemes.{lexemes}
-use Rattle.pylexeme.specs.Cuts.{begins_significant}
+use Rattle.pylex_lexeme.proofs.Callers.Lexemes.{lexemes}
+use Rattle.pylex_lexeme.specs.Cuts.{begins_significant}
 use Rattle.pylex.specs.Margins.{width_by_one}
 use Rattle.pylex.specs.Lines.{depth, line_so_far, is_at_margin, is_logical}
 use Rattle.pylex.specs.Indentation.{width_from, width_at, widths, open_levels, layout_by, layout}

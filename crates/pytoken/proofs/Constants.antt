@@ -12,11 +12,11 @@ use Rattle.std.proofs.lemmas.List.Folds.{list_any-append}
 use Rattle.std.proofs.lemmas.Str.Parse.{digit_from_value}
 use Rattle.ucd_category.proofs.Computing.{ucd_category}
 use Rattle.pysource.specs.Reprs.{escaped, quote_for, repr_chars, repr_bytes, is_unprintable, is_unprintable_byte}
-use Rattle.pylexeme.specs.Numbers.{is_j, is_point, is_e}
-use Rattle.pylexeme.specs.Strings.{begins_three}
+use Rattle.pylex_lexeme.specs.Numbers.{is_j, is_point, is_e}
+use Rattle.pylex_lexeme.specs.Strings.{begins_three}
 use Rattle.pylex.specs.declared.kind.Kind.{Kind}
 use Rattle.pylex.specs.declared.kind.Kind.TheVariants as kinds
-use Rattle.pynode.specs.Values.{Str, Bytes}
+use Rattle.pytree_node.specs.Values.{Str, Bytes}
 use Rattle.pytoken.specs.declared.meanings.Meaning.{Meaning}
 use Rattle.pytoken.specs.declared.meanings.Meaning.TheVariants.{Point}
 use Rattle.pytoken.specs.NumberValues.{radix_of, is_no_underscore, whole_value, number_fault}
@@ -24,7 +24,7 @@ use Rattle.pytoken.specs.Escapes.{meanings, meanings_after, points_in, escape_fa
 use Rattle.pytoken.specs.StringValues.{with_line_feeds, prefix_len_of, inside, body_of, points_of, value_of, string_value, literal_fault}
 use Rattle.pytoken.specs.StringValues.{string_fault, nul_fault, is_bytes, is_unicode, is_raw, is_formatted}
 use Rattle.pytoken.specs.Terminals.{Terminal, Whole, Literal, terminal_of, fault_of}
-use Rattle.pynode.specs.Points.{IsPoint}
+use Rattle.pytree_node.specs.Points.{IsPoint}
 use Rattle.pytoken.proofs.ReadBack.{IsMark, Fits, Begins, begins, written, all_read_back, all_pass, written_begins}
 
 -- Whole numbers

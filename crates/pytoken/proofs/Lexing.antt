@@ -9,8 +9,8 @@ use Rattle.std.proofs.lemmas.Bool.{and_from, and_parts, or_left, or_right, cases
 use Rattle.std.proofs.lemmas.Fmt.{decimal_by_steps_wide}
 use Rattle.std.proofs.lemmas.Bool.Decides.{nat_tests}
 use Rattle.pysource.specs.Reprs.{hex, escaped, quote_for, repr_chars, repr_bytes, is_unprintable, is_unprintable_byte}
-use Rattle.pylexeme.specs.Numbers.{split_any, headed, is_decimal_digit, is_one_to_nine, is_zero, are_joined, is_decimal, is_number}
-use Rattle.pylexeme.specs.Strings.{units, ends_by_one, is_single, is_single_string, is_string, is_prefix, is_triple_string}
+use Rattle.pylex_lexeme.specs.Numbers.{split_any, headed, is_decimal_digit, is_one_to_nine, is_zero, are_joined, is_decimal, is_number}
+use Rattle.pylex_lexeme.specs.Strings.{units, ends_by_one, is_single, is_single_string, is_string, is_prefix, is_triple_string}
 use Rattle.pytoken.proofs.ReadBack.{IsMark, Written, marked, tab, feed, return, short, middle, long, itself, written}
 use Rattle.pytoken.proofs.Constants.{quote_mark}
 

@@ -12,15 +12,15 @@ use Rattle.std.proofs.lemmas.Bool.{and_parts}
 use Rattle.std.proofs.lemmas.Bool.Decides.{nat_tests}
 use Rattle.std.proofs.lemmas.List.Sums.{take_while-cons}
 use Rattle.std.proofs.lemmas.Str.{encodes-append, chars_from_encodes}
-use Rattle.pylexeme.specs.declared.kinds.Exact.{Exact}
-use Rattle.pylexeme.specs.declared.lexeme.Class.{Class}
-use Rattle.pylexeme.specs.declared.lexeme.Class.TheVariants.{Name, Number, String, Operator, Comment, Blanks, LineEnd, Join}
-use Rattle.pylexeme.specs.Chars.{bytes_in, is_blank_char, is_comment_part}
-use Rattle.pylexeme.specs.Cuts.{begins_line_end, begins_significant}
-use Rattle.pylexeme.specs.Strings.{opens_string, counts_as_string}
-use Rattle.pylexeme.specs.Operators.{is_operator, exact_of}
-use Rattle.pylexeme.specs.Numbers.{is_number}
-use Rattle.pylexeme.specs.Lexemes.{is_name, is_comment, are_blanks, is_line_end, is_join, plain_class, class_in}
+use Rattle.pylex_lexeme.specs.declared.kinds.Exact.{Exact}
+use Rattle.pylex_lexeme.specs.declared.lexeme.Class.{Class}
+use Rattle.pylex_lexeme.specs.declared.lexeme.Class.TheVariants.{Name, Number, String, Operator, Comment, Blanks, LineEnd, Join}
+use Rattle.pylex_lexeme.specs.Chars.{bytes_in, is_blank_char, is_comment_part}
+use Rattle.pylex_lexeme.specs.Cuts.{begins_line_end, begins_significant}
+use Rattle.pylex_lexeme.specs.Strings.{opens_string, counts_as_string}
+use Rattle.pylex_lexeme.specs.Operators.{is_operator, exact_of}
+use Rattle.pylex_lexeme.specs.Numbers.{is_number}
+use Rattle.pylex_lexeme.specs.Lexemes.{is_name, is_comment, are_blanks, is_line_end, is_join, plain_class, class_in}
 use Rattle.pylex.specs.Indentation.{column_after, width_from}
 use Rattle.pylex.specs.Margins.{blanks_of, widths_of}
 use Rattle.pytoken.specs.Indentation.{Margin, behind_offset, margin_at}

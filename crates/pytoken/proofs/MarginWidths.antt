@@ -11,14 +11,14 @@ use Rattle.std.proofs.lemmas.Grind.{common_steps}
 use Rattle.std.proofs.lemmas.List.{map-append, reverse-append}
 use Rattle.pysource.specs.declared.places.Place.{Place}
 use Rattle.pysource.specs.Places.{place_after}
-use Rattle.pylexeme.specs.declared.lexeme.Class.{Class}
-use Rattle.pylexeme.specs.declared.lexeme.Class.TheVariants.{Name, Number, String, Operator, Comment, Blanks, LineEnd, Join}
-use Rattle.pylexeme.specs.Chars.{bytes_in}
-use Rattle.pylexeme.specs.Cuts.{begins_significant}
-use Rattle.pylexeme.specs.Strings.{opens_string}
-use Rattle.pylexeme.specs.Operators.{is_closer}
-use Rattle.pylexeme.specs.Lexemes.{Lexeme, is_comment, are_blanks, is_line_end, lexeme_at, cut, left_by_cut}
-use Rattle.pylexeme.specs.Lexemes.{is_open_string, is_significant_class, is_line_end_class, is_blanks_class}
+use Rattle.pylex_lexeme.specs.declared.lexeme.Class.{Class}
+use Rattle.pylex_lexeme.specs.declared.lexeme.Class.TheVariants.{Name, Number, String, Operator, Comment, Blanks, LineEnd, Join}
+use Rattle.pylex_lexeme.specs.Chars.{bytes_in}
+use Rattle.pylex_lexeme.specs.Cuts.{begins_significant}
+use Rattle.pylex_lexeme.specs.Strings.{opens_string}
+use Rattle.pylex_lexeme.specs.Operators.{is_closer}
+use Rattle.pylex_lexeme.specs.Lexemes.{Lexeme, is_comment, are_blanks, is_line_end, lexeme_at, cut, left_by_cut}
+use Rattle.pylex_lexeme.specs.Lexemes.{is_open_string, is_significant_class, is_line_end_class, is_blanks_class}
 use Rattle.pylex.specs.declared.kind.Kind.TheVariants as kinds
 use Rattle.pylex.specs.declared.entries.Entry.{Entry}
 use Rattle.pylex.specs.declared.entries.ListingFault.{ListingFault}

@@ -4,12 +4,12 @@ use Rattle.std.specs.Prelude.{◌==◌, ◌||◌, ◌&&◌, not, nat_le, if◌th
 use Rattle.std.specs.List.{list_any, list_all}
 use Rattle.std.proofs.lemmas.Bool.{and_from, and_left, or_from, or_left, or_right, cases_Bool, not-true}
 use Rattle.std.proofs.lemmas.Bool.Decides.{nat_tests}
-use Rattle.pylexeme.specs.Numbers.{is_nil, split_any, optional, headed, is_decimal_digit, is_zero, is_hex_digit, is_octal_digit, is_binary_digit}
-use Rattle.pylexeme.specs.Numbers.{is_point, is_e, is_j, is_x, is_o, is_b, is_sign, are_some, is_decimal, is_radix, is_digit_part, is_exponent}
-use Rattle.pylexeme.specs.Numbers.{is_point_after, is_point_before, is_raised, is_float, is_imaginary}
-use Rattle.pylexeme.proofs.Callers.Booleans.{and_parts, or_parts}
-use Rattle.pylexeme.proofs.Callers.Fronts.{split_all, joined_all}
-use Rattle.pylexeme.proofs.Callers.Numbers.{digit_bounds, either, either_not, point_is, part_all, decimal_part}
+use Rattle.pylex_lexeme.specs.Numbers.{is_nil, split_any, optional, headed, is_decimal_digit, is_zero, is_hex_digit, is_octal_digit, is_binary_digit}
+use Rattle.pylex_lexeme.specs.Numbers.{is_point, is_e, is_j, is_x, is_o, is_b, is_sign, are_some, is_decimal, is_radix, is_digit_part, is_exponent}
+use Rattle.pylex_lexeme.specs.Numbers.{is_point_after, is_point_before, is_raised, is_float, is_imaginary}
+use Rattle.pylex_lexeme.proofs.Callers.Booleans.{and_parts, or_parts}
+use Rattle.pylex_lexeme.proofs.Callers.Fronts.{split_all, joined_all}
+use Rattle.pylex_lexeme.proofs.Callers.Numbers.{digit_bounds, either, either_not, point_is, part_all, decimal_part}
 use Rattle.pytoken.specs.declared.faults.TokenError.TheVariants.{Float, Complex, IntegerTooLarge}
 use Rattle.pytoken.specs.NumberValues.{radix_of, whole_value, is_complex, is_real, number_fault}
 use Rattle.pytoken.specs.Laws.{FaultsAreByClass}

@@ -12,15 +12,15 @@ use Rattle.std.proofs.lemmas.List.Elements.{All-nil, All-cons, All-append}
 use Rattle.std.proofs.lemmas.Str.{encodes-append, chars_from_encodes}
 use Rattle.pysource.specs.declared.places.Place.{Place}
 use Rattle.pysource.specs.Places.{place_after}
-use Rattle.pylexeme.specs.declared.kinds.Exact.{Exact}
-use Rattle.pylexeme.specs.declared.lexeme.Class.{Class}
-use Rattle.pylexeme.specs.declared.lexeme.Class.TheVariants.{Name, Number, String, Operator, Comment, Blanks, LineEnd, Join}
-use Rattle.pylexeme.specs.Chars.{bytes_in}
-use Rattle.pylexeme.specs.Numbers.{is_number}
-use Rattle.pylexeme.specs.Strings.{opens_string, opens_triple, counts_as_string, is_string, is_triple_string, is_single_string}
-use Rattle.pylexeme.specs.Operators.{is_closer, is_operator, exact_of}
-use Rattle.pylexeme.specs.Lexemes.{Lexeme, is_name, is_comment, are_blanks, is_line_end, is_join, plain_class, class_in, cut, left_by_cut}
-use Rattle.pylexeme.specs.Lexemes.{is_open_string}
+use Rattle.pylex_lexeme.specs.declared.kinds.Exact.{Exact}
+use Rattle.pylex_lexeme.specs.declared.lexeme.Class.{Class}
+use Rattle.pylex_lexeme.specs.declared.lexeme.Class.TheVariants.{Name, Number, String, Operator, Comment, Blanks, LineEnd, Join}
+use Rattle.pylex_lexeme.specs.Chars.{bytes_in}
+use Rattle.pylex_lexeme.specs.Numbers.{is_number}
+use Rattle.pylex_lexeme.specs.Strings.{opens_string, opens_triple, counts_as_string, is_string, is_triple_string, is_single_string}
+use Rattle.pylex_lexeme.specs.Operators.{is_closer, is_operator, exact_of}
+use Rattle.pylex_lexeme.specs.Lexemes.{Lexeme, is_name, is_comment, are_blanks, is_line_end, is_join, plain_class, class_in, cut, left_by_cut}
+use Rattle.pylex_lexeme.specs.Lexemes.{is_open_string}
 use Rattle.pylex.specs.declared.kind.Kind.{Kind}
 use Rattle.pylex.specs.declared.kind.Kind.TheVariants as kinds
 use Rattle.pylex.specs.declared.entries.Entry.{Entry}

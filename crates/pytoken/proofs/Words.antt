@@ -18,10 +18,10 @@ use Rattle.unicode_normalization.specs.Forms.{Nfkc, nfkc, is_in_form}
 use Rattle.unicode_normalization.proofs.FormsLemmas.{normalize-ascii}
 use Rattle.pysource.specs.Reprs.{escaped, quote_for, repr_chars, repr_text, is_unprintable}
 use Rattle.pysource.proofs.Callers.Printing.{unprintable_no_character}
-use Rattle.pylexeme.specs.Lexemes.{is_name}
+use Rattle.pylex_lexeme.specs.Lexemes.{is_name}
 use Rattle.pylex.specs.declared.kind.Kind.{Kind}
 use Rattle.pylex.specs.declared.kind.Kind.TheVariants as kinds
-use Rattle.pynode.specs.Points.{IsPoint}
+use Rattle.pytree_node.specs.Points.{IsPoint}
 use Rattle.pytoken.specs.declared.keywords.Keyword.{Keyword}
 use Rattle.pytoken.specs.declared.keywords.Keyword.TheVariants as words
 use Rattle.pytoken.specs.declared.faults.TokenError.TheVariants.{NameForm}

@@ -8,7 +8,7 @@ use Rattle.pytoken.specs.declared.faults.TokenError.{TokenError}
 use Rattle.pytoken.specs.declared.faults.TokenError.TheVariants.{NamedEscape, BadEscape}
 use Rattle.pytoken.specs.declared.meanings.Meaning.{Meaning}
 use Rattle.pytoken.specs.declared.meanings.Meaning.TheVariants.{Point, Nothing, Wrong}
-use Rattle.pylexeme.specs.Characters.{tab, line_feed, form_feed, carriage_return, double_quote, single_quote, backslash}
+use Rattle.pylex_lexeme.specs.Characters.{tab, line_feed, form_feed, carriage_return, double_quote, single_quote, backslash}
 
 -- what stands at a place, and how many more characters belong to it than the first
 pub record Reading : Type 0 where

@@ -4,15 +4,15 @@ use Rattle.std.specs.List.{list_all, flat_map}
 use Rattle.std.specs.Str.{chars, all_scalars}
 use Rattle.unicode_normalization.specs.Forms.{nfkc}
 use Rattle.pysource.specs.Reprs.{repr_chars, repr_text, repr_bytes}
-use Rattle.pylexeme.specs.Numbers.{is_decimal, is_radix, is_float, is_imaginary}
-use Rattle.pylexeme.specs.Lexemes.{is_name, cut}
+use Rattle.pylex_lexeme.specs.Numbers.{is_decimal, is_radix, is_float, is_imaginary}
+use Rattle.pylex_lexeme.specs.Lexemes.{is_name, cut}
 use Rattle.pylex.specs.declared.kind.Kind.TheVariants as kinds
 use Rattle.pylex.specs.Indentation.{widths}
 use Rattle.pylex.specs.Listing.{Source, listing}
 use Rattle.pylex.specs.Steps.{entries_of}
 use Rattle.pylex.specs.Steps.{fault_of as listing_fault}
-use Rattle.pynode.specs.Points.{IsPoint}
-use Rattle.pynode.specs.Values.{Str, Bytes}
+use Rattle.pytree_node.specs.Points.{IsPoint}
+use Rattle.pytree_node.specs.Values.{Str, Bytes}
 use Rattle.pytoken.specs.declared.keywords.Keyword.{Keyword}
 use Rattle.pytoken.specs.declared.faults.TokenError.TheVariants.{Float, Complex, IntegerTooLarge}
 use Rattle.pytoken.specs.Keywords.{keyword_of, spelling_of}

@@ -10,3 +10,5 @@ pub mod Brackets
 pub mod Indentation
 pub mod Refusals
 pub mod Laws
+pub mod Values
+pub mod TerminalOf

@@ -4,7 +4,7 @@
 --     xid_continue ::= <all characters in id_continue whose NFKC normalization is in "id_continue*">
 use Rattle.std.specs.Prelude.{ℕ, Bool, not, ◌||◌, List, Option, Some, None, is_some, if◌then◌else◌}
 use Rattle.unicode_normalization.specs.Forms.{Nfkc, nfkc, is_in_form}
-use Rattle.pylexeme.specs.Lexemes.{is_name}
+use Rattle.pylex_lexeme.specs.Lexemes.{is_name}
 use Rattle.pytoken.specs.declared.faults.TokenError.{TokenError}
 use Rattle.pytoken.specs.declared.faults.TokenError.TheVariants.{NameForm}
 use Rattle.pytoken.specs.Keywords.{keyword_of}

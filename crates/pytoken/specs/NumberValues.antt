@@ -3,10 +3,10 @@ use Rattle.std.specs.Prelude.{ℕ, ◌^◌, Bool, not, ◌&&◌, ◌||◌, ◌==
 use Rattle.std.specs.Prelude.{if◌then◌else◌}
 use Rattle.std.specs.List.{list_any}
 use Rattle.std.specs.Str.Parse.{digits_value}
-use Rattle.pylexeme.specs.Numbers.{is_x, is_o, is_b, is_e, is_j, is_point}
+use Rattle.pylex_lexeme.specs.Numbers.{is_x, is_o, is_b, is_e, is_j, is_point}
 use Rattle.pytoken.specs.declared.faults.TokenError.{TokenError}
 use Rattle.pytoken.specs.declared.faults.TokenError.TheVariants.{Float, Complex, IntegerTooLarge}
-use Rattle.pylexeme.specs.Characters.{low_line}
+use Rattle.pylex_lexeme.specs.Characters.{low_line}
 
 -- integer    ::= decinteger | bininteger | octinteger | hexinteger
 -- bininteger ::= "0" ("b" | "B") (["_"] bindigit)+

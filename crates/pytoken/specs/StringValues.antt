@@ -2,12 +2,12 @@
 -- stands between the quotes.
 use Rattle.std.specs.Prelude.{ℕ, ◌-◌, Bool, not, ◌&&◌, ◌||◌, ◌==◌, nat_lt, List, length, take, drop, filter, Option, Some, None, if◌then◌else◌}
 use Rattle.std.specs.List.{list_any, flat_map, prefix_len}
-use Rattle.pylexeme.specs.Strings.{begins_three}
-use Rattle.pynode.specs.Values.{Value, Str, Bytes}
+use Rattle.pylex_lexeme.specs.Strings.{begins_three}
+use Rattle.pytree_node.specs.Values.{Value, Str, Bytes}
 use Rattle.pytoken.specs.declared.faults.TokenError.{TokenError}
 use Rattle.pytoken.specs.declared.faults.TokenError.TheVariants.{FString, NonAsciiBytes, Nul}
 use Rattle.pytoken.specs.Escapes.{meanings, points_in, escape_fault}
-use Rattle.pylexeme.specs.Characters.{carriage_return, double_quote, single_quote}
+use Rattle.pylex_lexeme.specs.Characters.{carriage_return, double_quote, single_quote}
 
 -- A CR LF counts as one LF. A source has a CR only in front of an LF, so a literal is read without its CRs.
 abbrev pub with_line_feeds : List ℕ → List ℕ

@@ -1,14 +1,14 @@
 -- What the grammar reads of a token, and the fault that a token may be by itself.
 use Rattle.std.specs.Prelude.{◌≡◌, ℕ, Bool, true, List, Option, Some, None}
 use Rattle.unicode_normalization.specs.Forms.{nfkc}
-use Rattle.pylexeme.specs.declared.kinds.Exact.{Exact}
-use Rattle.pylexeme.specs.Numbers.{is_number}
-use Rattle.pylexeme.specs.Strings.{is_string}
-use Rattle.pylexeme.specs.Operators.{exact_of, is_operator}
-use Rattle.pylexeme.specs.Lexemes.{is_name}
+use Rattle.pylex_lexeme.specs.declared.kinds.Exact.{Exact}
+use Rattle.pylex_lexeme.specs.Numbers.{is_number}
+use Rattle.pylex_lexeme.specs.Strings.{is_string}
+use Rattle.pylex_lexeme.specs.Operators.{exact_of, is_operator}
+use Rattle.pylex_lexeme.specs.Lexemes.{is_name}
 use Rattle.pylex.specs.declared.kind.Kind.{Kind}
 use Rattle.pylex.specs.declared.kind.Kind.TheVariants as kinds
-use Rattle.pynode.specs.Values.{Value}
+use Rattle.pytree_node.specs.Values.{Value}
 use Rattle.pytoken.specs.declared.keywords.Keyword.{Keyword}
 use Rattle.pytoken.specs.declared.faults.TokenError.{TokenError}
 use Rattle.pytoken.specs.Keywords.{keyword_of}

@@ -1,9 +1,11 @@
 //! What the tokens of a Python source are to its grammar, and what they say.
 //!
-//! Here stand the definitions alone, with the laws that tie them to the language, and the few types
-//! that they name: [`Keyword`], what an escape stands for ([`Meaning`]), and what may be wrong with
-//! a token ([`TokenError`]) or a source ([`Refusal`]). [`is_identifier`] tells which texts are
-//! names. The code that reads tokens and their values is `pyparse`'s.
+//! [`number_value`], [`string_value`], [`name_value`] and [`identifier_value`] tell what the text
+//! of a number, a string or a name stands for, [`string_fault`] and [`name_fault`] what is wrong
+//! with it by itself, and [`token_fault`] what is wrong with a token or a comment by its type.
+//! [`terminal_of`] tells what a token is to the grammar ([`Terminal`]); a string is a
+//! [`LiteralText`] there, whose value is made where it is asked for. [`is_identifier`] tells which
+//! texts are names. The tokens of a whole source are read by `pyparse`.
 //!
 //! Python language reference, 2.3 "Identifiers and keywords" and 2.4 "Literals".
 //!
@@ -11,7 +13,8 @@
 //! lines, `Terminals` what a token is to the grammar and the fault that it may be by itself,
 //! `Refusals` why a source has no tokens. `Keywords`, `NumberValues`, `Escapes`, `StringValues` and
 //! `NameValues` say what the texts of tokens stand for. `Laws` has what holds of these: each
-//! constant of a tree comes back from its text.
+//! constant of a tree comes back from its text. `Values` and `TerminalOf` have the values of the
+//! types of this crate.
 #![tactic(auto)]
 
 mod faults;
@@ -19,9 +22,14 @@ mod keywords;
 mod meanings;
 mod names;
 mod refusals;
+mod values;
 
 pub use faults::TokenError;
 pub use keywords::Keyword;
 pub use meanings::Meaning;
 pub use names::is_identifier;
 pub use refusals::Refusal;
+pub use values::{
+    Literal, LiteralText, Terminal, TerminalFault, identifier_value, name_fault, name_value,
+    number_value, string_fault, string_value, terminal_of, token_fault,
+};

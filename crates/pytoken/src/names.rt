@@ -6,8 +6,8 @@ ghost use Rattle.std.specs.Prelude.{◌≡◌, ◌&&◌};
 ghost use Rattle.std.specs.Str.{chars};
 ghost use Rattle.std.specs.List.{list_all};
 ghost use Rattle.unicode_ident.specs.Ident.{is_xid_continue};
-ghost use Rattle.pylexeme.specs.Chars.{starts_name};
-ghost use Rattle.pylexeme.specs.Lexemes.{is_name};
+ghost use Rattle.pylex_lexeme.specs.Chars.{starts_name};
+ghost use Rattle.pylex_lexeme.specs.Lexemes.{is_name};
 
 use unicode_ident::{is_xid_continue, is_xid_start};
 

@@ -3,7 +3,7 @@ use Rattle.std.proofs.Common.{◌≡◌, ℕ, Bool, true, false, List, refl, sym
 use Rattle.std.specs.Prelude.{◌↔◌, Result, Ok, Err, IfOk, IsTrue}
 use Rattle.std.proofs.lemmas.Slice.Eq.{bytes_eq-Decides}
 use Rattle.unicode_normalization.specs.Forms.{Nfkc, nfkc, is_in_form, IsInForm}
-use Rattle.pyslots.specs.Names.{is_keyword, is_identifier, is_name}
+use Rattle.pytree_fits.specs.Names.{is_keyword, is_identifier, is_name}
 
 pub no_identifier : (cs : List ℕ) → is_identifier cs ≡ false → is_name cs ≡ false
 unfolding is_name

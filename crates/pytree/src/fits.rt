@@ -1,16 +1,16 @@
 //! Whether a module is well formed, and an expression at a level.
 
 ghost use Rattle.std.specs.Prelude.{◌≡◌, ◌↔◌, IfOk, IsTrue};
-ghost use Rattle.pynode.specs.TreeOf.{module_of, tree_of};
-ghost use Rattle.pyslots.specs.Given.{Expressed, Stated};
-ghost use Rattle.pyslots.specs.Laws.{SlotsAreLawful};
-ghost use Rattle.pyslots.specs.Names.{is_name};
-ghost use Rattle.pyslots.specs.Slots.{fits_at};
-ghost use Rattle.pyslots.specs.Statements.{module_fits};
+ghost use Rattle.pytree_node.specs.TreeOf.{module_of, tree_of};
+ghost use Rattle.pytree_fits.specs.Given.{Expressed, Stated};
+ghost use Rattle.pytree_fits.specs.Laws.{SlotsAreLawful};
+ghost use Rattle.pytree_fits.specs.Names.{is_name};
+ghost use Rattle.pytree_fits.specs.Slots.{fits_at};
+ghost use Rattle.pytree_fits.specs.Statements.{module_fits};
 
 use pygrammar::Level;
-use pynode::{Expr, Module, Profile};
-use pywellformed::{expr_fits, statements_fit};
+use pytree_node::{Expr, Module, Profile};
+use pytree_fits::{expr_fits, statements_fit};
 use std::alloc::{AllocError, Global};
 
 /// Whether a module is well formed in a version of Python: whether the grammar gives it to some
@@ -18,7 +18,7 @@ use std::alloc::{AllocError, Global};
 ///
 /// So its names are names, its targets and contexts stand where they may, and no list is empty that
 /// needs a member. `Err` is want of memory alone, which the test of names may meet.
-#[tactic(auto, using(pyslots::proofs::Callers::Law::slots_are_lawful))]
+#[tactic(auto, using(pytree_fits::proofs::Callers::Law::slots_are_lawful))]
 pub fn well_formed(alloc: Global, tree: &Module, profile: Profile) -> Result<bool, AllocError>
     ensures given { IfOk result (λ told. IsTrue told ↔ Stated profile (module_of tree.now)) }
     ensures slots { IfOk result (λ told. told ≡ module_fits profile is_name (module_of tree.now)) }
@@ -29,7 +29,7 @@ pub fn well_formed(alloc: Global, tree: &Module, profile: Profile) -> Result<boo
 
 /// Whether an expression is well formed at a level: whether the grammar gives it there to some
 /// sound tokens, with no regard to heights and brackets.
-#[tactic(auto, using(pyslots::proofs::Callers::Law::slots_are_lawful))]
+#[tactic(auto, using(pytree_fits::proofs::Callers::Law::slots_are_lawful))]
 pub fn well_formed_at(alloc: Global, expr: &Expr, level: Level) -> Result<bool, AllocError>
     ensures given { IfOk result (λ told. IsTrue told ↔ Expressed level (tree_of expr.now)) }
     ensures slots { IfOk result (λ told. told ≡ fits_at is_name level (tree_of expr.now)) }

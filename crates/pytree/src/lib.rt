@@ -1,6 +1,6 @@
 //! The tree of a Python module, and what can be asked of a tree alone.
 //!
-//! The types are those of `pynode`, and come from here too. So do [`height`], which tells how high
+//! The types are those of `pytree_node`, and come from here too. So do [`height`], which tells how high
 //! a tree is, [`copy`], which makes an equal one, [`same`], which tells whether two are equal, and
 //! [`dump`], which gives the text that Python's `ast.dump` gives, and [`Pieces`], which gives it in
 //! pieces: the walks of each are a crate of their own.
@@ -18,7 +18,7 @@
 //! node, `Heights` the heights of a tree, `Shows` what it shows, `Layout` the text of that. So do
 //! those of `pytoken`: `Tokens` has the tokens of a source, `Terminals` what each is to the
 //! grammar, `Refusals` why a source has none, and `Laws` what holds of the values of tokens.
-//! Which trees the grammar gives, and what fits each field, say those of `pyslots`: `Given`,
+//! Which trees the grammar gives, and what fits each field, say those of `pytree_fits`: `Given`,
 //! `Slots` and `Statements`.
 #![tactic(auto)]
 
@@ -29,10 +29,10 @@ mod names;
 pub use fits::{well_formed, well_formed_at};
 pub use modules::{copy, same};
 pub use names::{is_keyword, is_name};
-pub use pydump::{Pieces, Style, dump, dump_expr};
+pub use pytree_dump::{Pieces, Style, dump, dump_expr};
 pub use pygrammar::Level;
-pub use pyheight::{Heights, height};
-pub use pynode::{
+pub use pytree_height::{Heights, height};
+pub use pytree_node::{
     Alias, Arg, Arguments, BoolOperator, Comparison, Comprehension, Constant, Context, Expr,
     Handler, Identifier, Integer, Item, Keyword, Module, Operator, Points, Profile, Stmt,
     TypeParam, UnaryOperator,

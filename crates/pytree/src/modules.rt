@@ -1,11 +1,11 @@
 //! Copies of a module, and whether two are equal.
 
 ghost use Rattle.std.specs.Prelude.{◌≡◌, ◌↔◌, IsTrue, IfOk};
-ghost use Rattle.pynode.specs.TreeOf.{module_of};
+ghost use Rattle.pytree_node.specs.TreeOf.{module_of};
 
-use pycopy::copy_stmts;
-use pynode::Module;
-use pysame::same_stmts;
+use pytree_copy::copy_stmts;
+use pytree_node::Module;
+use pytree_same::same_stmts;
 use std::alloc::{AllocError, Global};
 
 /// A tree that is equal to this one. Where memory is refused, what was made of it is dropped.

@@ -2,7 +2,7 @@
 
 ghost use Rattle.std.specs.Prelude.{◌≡◌, IfOk};
 ghost use Rattle.std.specs.Str.{chars};
-ghost use Rattle.pyslots.specs.Names.{is_keyword, is_name};
+ghost use Rattle.pytree_fits.specs.Names.{is_keyword, is_name};
 
 use pytoken::{Keyword, is_identifier};
 use std::alloc::{AllocError, Global};

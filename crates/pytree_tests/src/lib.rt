@@ -1,4 +1,4 @@
-//! Tests of `pynode`, `pydump` and `pytree`, over the public calls of `pytree`: trees of sources,
+//! Tests of `pytree_node`, `pytree_dump` and `pytree`, over the public calls of `pytree`: trees of sources,
 //! whose heights are counted and whose dumps were taken from Python 3.11 and 3.12, and trees that
 //! no source gives, made of those by a change.
 #![tactic(auto)]

@@ -1,13 +1,13 @@
 -- That a text is accepted as a module, and gives it back.
 use Rattle.std.specs.Prelude.{◌≡◌, ℕ, ◌≤◌, List}
 use Rattle.pylex.specs.Listing.{in_characters}
-use Rattle.pynode.specs.declared.profiles.Profile.{Profile}
-use Rattle.pynode.specs.Trees.{Module}
-use Rattle.pyheight.specs.Heights.{expression_height, statement_height}
+use Rattle.pytree_node.specs.declared.profiles.Profile.{Profile}
+use Rattle.pytree_node.specs.Trees.{Module}
+use Rattle.pytree_height.specs.Heights.{expression_height, statement_height}
 use Rattle.pygrammar.specs.Refusals.{Accepted}
-use Rattle.pyslots.specs.Given.{Stated}
-use Rattle.pyspacing.specs.Laws.{ReadsBack}
-use Rattle.pywritten.specs.Modules.{piece_lines}
+use Rattle.pytree_fits.specs.Given.{Stated}
+use Rattle.pyunparse_text.specs.SpacingLaws.{ReadsBack}
+use Rattle.pyunparse_text.specs.Modules.{piece_lines}
 
 -- Bytes are a source in UTF-8, without a mark, a cookie or a fault, whose tokens and lines are those that the module is written in; it is
 -- accepted as this module, and as no other.

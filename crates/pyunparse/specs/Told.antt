@@ -2,8 +2,8 @@
 use Rattle.std.specs.Prelude.{List, map}
 use Rattle.std.specs.Str.{encode_utf8_all}
 use Rattle.std.specs.String.{string_bytes}
-use Rattle.pyspacing.specs.Spacing
-use Rattle.pyspacing.specs.Tokens.{PlainToken}
+use Rattle.pyunparse_text.specs.Spacing
+use Rattle.pyunparse_text.specs.Tokens.{PlainToken}
 use Rattle.pyunparse.specs.declared.pieces.Piece as given
 
 -- of a token of the program

@@ -2,16 +2,16 @@
 
 ghost use Rattle.std.specs.Prelude.{◌≡◌, ◌∷◌, [], suc, OnOk, map};
 ghost use Rattle.pygrammar.specs.Lines.{Header, class_head, function_head};
-ghost use Rattle.pynode.specs.TreeOf.{arguments_of, boxed_of, handler_of, item_of, keyword_of};
-ghost use Rattle.pynode.specs.TreeOf.{stmt_of, tree_of, type_param_of};
-ghost use Rattle.pynode.specs.Trees as plain;
-ghost use Rattle.pynode.specs.Trees.{handlers, keywords, stmts};
+ghost use Rattle.pytree_node.specs.TreeOf.{arguments_of, boxed_of, handler_of, item_of, keyword_of};
+ghost use Rattle.pytree_node.specs.TreeOf.{stmt_of, tree_of, type_param_of};
+ghost use Rattle.pytree_node.specs.Trees as plain;
+ghost use Rattle.pytree_node.specs.Trees.{handlers, keywords, stmts};
 ghost use Rattle.pyunparse.specs.Inner.Lines.{Blocked, Wrote, def_lines, elif_lines, for_lines};
 ghost use Rattle.pyunparse.specs.Inner.Lines.{is_if, one_handler, try_lines, with_lines};
-ghost use Rattle.pywritten.specs.Modules as modules;
-ghost use Rattle.pywritten.specs.Pieces.{piece};
-ghost use Rattle.pywritten.specs.Statements.{header_tokens};
-ghost use Rattle.pywritten.specs.Written as written;
+ghost use Rattle.pyunparse_text.specs.Modules as modules;
+ghost use Rattle.pyunparse_text.specs.Pieces.{piece};
+ghost use Rattle.pyunparse_text.specs.Statements.{header_tokens};
+ghost use Rattle.pyunparse_text.specs.Written as written;
 
 use crate::headers::{
     write_class_header, write_except_header, write_for_header, write_function_header,
@@ -19,7 +19,7 @@ use crate::headers::{
 };
 use crate::lines::{write_decorators, write_line};
 use crate::text_writer::TextWriter;
-use pynode::{Arguments, Expr, Handler, Identifier, Item, Keyword as Word, Stmt, TypeParam};
+use pytree_node::{Arguments, Expr, Handler, Identifier, Item, Keyword as Word, Stmt, TypeParam};
 use pytoken::Keyword;
 use std::alloc::AllocError;
 
@@ -52,7 +52,7 @@ fn write_block(out: &mut TextWriter, body: &[Stmt]) -> Result<(), AllocError>
 
 /// Writes a statement.
 #[cycle(blocks)]
-#[tactic(auto, using(pynode::proofs::Callers::StmtShapes::stmt_shapes))]
+#[tactic(auto, using(pytree_node::proofs::Callers::StmtShapes::stmt_shapes))]
 fn write_stmt(out: &mut TextWriter, s: &Stmt) -> Result<(), AllocError>
     ensures { OnOk result
         (Wrote out.old out.new (modules.statement_lines piece out.old.level (stmt_of s.now))) }
@@ -329,7 +329,7 @@ fn write_alternative(out: &mut TextWriter, body: &[Stmt]) -> Result<(), AllocErr
 
 /// Writes an `if` as an `elif`, and any other statement not at all.
 #[cycle(blocks)]
-#[tactic(auto, using(pynode::proofs::Callers::StmtShapes::stmt_shapes))]
+#[tactic(auto, using(pytree_node::proofs::Callers::StmtShapes::stmt_shapes))]
 fn write_elif(out: &mut TextWriter, s: &Stmt) -> Result<(), AllocError>
     ensures { OnOk result (Wrote out.old out.new (elif_lines out.old.level (stmt_of s.now))) }
 {

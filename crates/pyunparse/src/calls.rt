@@ -1,18 +1,18 @@
 //! Primaries: attributes, subscripts and calls.
 
 ghost use Rattle.std.specs.Prelude.{◌≡◌, ◌++◌, OnOk, map, false, true, if◌then◌else◌};
-ghost use Rattle.pylexeme.specs.declared.kinds.Exact.TheVariants.{Comma};
-ghost use Rattle.pynode.specs.declared.operators.Context.{Context};
-ghost use Rattle.pynode.specs.TreeOf.{keyword_of, tree_of};
-ghost use Rattle.pynode.specs.Trees as plain;
-ghost use Rattle.pynode.specs.Trees.{an_expr, exprs, keywords, no_exprs};
+ghost use Rattle.pylex_lexeme.specs.declared.kinds.Exact.TheVariants.{Comma};
+ghost use Rattle.pytree_node.specs.declared.operators.Context.{Context};
+ghost use Rattle.pytree_node.specs.TreeOf.{keyword_of, tree_of};
+ghost use Rattle.pytree_node.specs.Trees as plain;
+ghost use Rattle.pytree_node.specs.Trees.{an_expr, exprs, keywords, no_exprs};
 ghost use Rattle.pygrammar.specs.declared.levels.Level.TheVariants as Level;
 ghost use Rattle.pyunparse.specs.Inner.Arguments.{argument, argument_name};
 ghost use Rattle.pyunparse.specs.Inner.Folds.{puts};
 ghost use Rattle.pyunparse.specs.Inner.Members.{members};
 ghost use Rattle.pyunparse.specs.Inner.Sorts.{is_generator};
-ghost use Rattle.pywritten.specs.Pieces.{piece, pieces};
-ghost use Rattle.pywritten.specs.Written.{alone, by_name, each, listed, lone_generator, trailing};
+ghost use Rattle.pyunparse_text.specs.Pieces.{piece, pieces};
+ghost use Rattle.pyunparse_text.specs.Written.{alone, by_name, each, listed, lone_generator, trailing};
 
 use crate::clauses::write_generator;
 use crate::displays::write_members;
@@ -23,7 +23,7 @@ use crate::tokens::{close, open, put_between, put_name, put_sign};
 use crate::writers::Writer;
 use pygrammar::Level;
 use pylex::Exact;
-use pynode::{Expr, Identifier, Keyword};
+use pytree_node::{Expr, Identifier, Keyword};
 use std::alloc::AllocError;
 
 /// Writes `value.attr`.

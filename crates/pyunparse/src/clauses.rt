@@ -1,21 +1,21 @@
 //! Comprehensions.
 
 ghost use Rattle.std.specs.Prelude.{◌≡◌, ◌++◌, ◌∷◌, [], OnOk, map};
-ghost use Rattle.pylexeme.specs.declared.kinds.Exact.TheVariants.{Colon, LBrace, RBrace};
-ghost use Rattle.pynode.specs.TreeOf.{comprehension_of, tree_of};
-ghost use Rattle.pynode.specs.Trees.{comprehensions, exprs};
+ghost use Rattle.pylex_lexeme.specs.declared.kinds.Exact.TheVariants.{Colon, LBrace, RBrace};
+ghost use Rattle.pytree_node.specs.TreeOf.{comprehension_of, tree_of};
+ghost use Rattle.pytree_node.specs.Trees.{comprehensions, exprs};
 ghost use Rattle.pygrammar.specs.declared.levels.Level.TheVariants as Level;
 ghost use Rattle.pyunparse.specs.Inner.Clauses.{clause, condition};
 ghost use Rattle.pyunparse.specs.Inner.Folds.{puts};
-ghost use Rattle.pywritten.specs.Pieces.{piece, pieces};
-ghost use Rattle.pywritten.specs.Written.{clauses, conditions, enclosed, for_in, leading, trailing};
+ghost use Rattle.pyunparse_text.specs.Pieces.{piece, pieces};
+ghost use Rattle.pyunparse_text.specs.Written.{clauses, conditions, enclosed, for_in, leading, trailing};
 
 use crate::expressions::write_expr;
 use crate::tokens::{put_sign, put_word};
 use crate::writers::Writer;
 use pygrammar::Level;
 use pylex::Exact;
-use pynode::{Comprehension, Expr};
+use pytree_node::{Comprehension, Expr};
 use pytoken::Keyword;
 use std::alloc::AllocError;
 

@@ -1,16 +1,16 @@
 //! Constants.
 
 ghost use Rattle.std.specs.Prelude.{◌≡◌, [], ◌∷◌, OnOk};
-ghost use Rattle.pynode.specs.TreeOf.{constant_of};
+ghost use Rattle.pytree_node.specs.TreeOf.{constant_of};
 ghost use Rattle.pyunparse.specs.Inner.Folds.{puts};
-ghost use Rattle.pywritten.specs.Pieces.{piece};
-ghost use Rattle.pywritten.specs.Written.{constant_terminal, free};
+ghost use Rattle.pyunparse_text.specs.Pieces.{piece};
+ghost use Rattle.pyunparse_text.specs.Written.{constant_terminal, free};
 
 use crate::tokens::{put_sign, put_word};
 use crate::writers::Writer;
 use itoa::Buffer;
 use pylex::{Exact, Kind};
-use pynode::Constant;
+use pytree_node::Constant;
 use pytoken::Keyword;
 use std::alloc::AllocError;
 

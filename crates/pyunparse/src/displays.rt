@@ -1,15 +1,15 @@
 //! Lists of expressions, and the displays of sets, lists and dictionaries.
 
 ghost use Rattle.std.specs.Prelude.{◌≡◌, Option, OnOk, map, true};
-ghost use Rattle.pylexeme.specs.declared.kinds.Exact.TheVariants.{LBrace, RBrace, Comma};
-ghost use Rattle.pynode.specs.TreeOf.{option_of, tree_of};
-ghost use Rattle.pynode.specs.Trees.{exprs, optionals};
+ghost use Rattle.pylex_lexeme.specs.declared.kinds.Exact.TheVariants.{LBrace, RBrace, Comma};
+ghost use Rattle.pytree_node.specs.TreeOf.{option_of, tree_of};
+ghost use Rattle.pytree_node.specs.Trees.{exprs, optionals};
 ghost use Rattle.pygrammar.specs.declared.levels.Level.TheVariants as Level;
 ghost use Rattle.pyunparse.specs.Inner.Folds.{puts};
 ghost use Rattle.pyunparse.specs.Inner.Members.{mark, members};
 ghost use Rattle.pyunparse.specs.Inner.Pairs.{pair};
-ghost use Rattle.pywritten.specs.Pieces.{piece};
-ghost use Rattle.pywritten.specs.Written.{each, enclosed, leading, listed, pairs, written_keys};
+ghost use Rattle.pyunparse_text.specs.Pieces.{piece};
+ghost use Rattle.pyunparse_text.specs.Written.{each, enclosed, leading, listed, pairs, written_keys};
 
 use crate::expressions::write_expr;
 use crate::marks::Between;
@@ -17,7 +17,7 @@ use crate::tokens::{put_between, put_sign};
 use crate::writers::Writer;
 use pygrammar::Level;
 use pylex::Exact;
-use pynode::Expr;
+use pytree_node::Expr;
 use std::alloc::AllocError;
 
 /// Writes expressions with a token between each two, and before the first where it isn't the

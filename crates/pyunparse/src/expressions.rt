@@ -1,14 +1,14 @@
 //! Expressions.
 
 ghost use Rattle.std.specs.Prelude.{◌≡◌, All, IfOk, List, OnOk, map};
-ghost use Rattle.pynode.specs.TreeOf.{tree_of};
+ghost use Rattle.pytree_node.specs.TreeOf.{tree_of};
 ghost use Rattle.pyunparse.specs.Inner.Folds.{puts};
 ghost use Rattle.pyunparse.specs.Told.{in_bytes, told};
 ghost use Rattle.pytoken.specs.Terminals.{Terminal};
 ghost use Rattle.pygrammar.specs.Grammar.{Derives};
-ghost use Rattle.pywritten.specs.Laws.{AreRead, IsOfToken, Shortest};
-ghost use Rattle.pywritten.specs.Pieces.{pieces};
-ghost use Rattle.pywritten.specs.Terminals.{terminals};
+ghost use Rattle.pyunparse_text.specs.Laws.{AreRead, IsOfToken, Shortest};
+ghost use Rattle.pyunparse_text.specs.Pieces.{pieces};
+ghost use Rattle.pyunparse_text.specs.Terminals.{terminals};
 
 use crate::calls::{write_attribute, write_call, write_subscript};
 use crate::clauses::{write_comprehension, write_dict_comprehension};
@@ -26,12 +26,12 @@ use crate::tuples::{write_slice, write_tuple};
 use crate::writers::Writer;
 use pygrammar::Level;
 use pylex::Exact;
-use pynode::Expr;
+use pytree_node::Expr;
 use std::alloc::{AllocError, Global};
 
 /// Writes an expression at a level of the grammar.
 #[cycle(writing)]
-#[tactic(auto, using(pynode::proofs::Callers::ExprShapes::expr_shapes))]
+#[tactic(auto, using(pytree_node::proofs::Callers::ExprShapes::expr_shapes))]
 pub(crate) fn write_expr<W: Writer>(out: &mut W, level: Level, e: &Expr) -> Result<(), AllocError>
     ensures { OnOk result (out.new ≡ puts W.after out.old (pieces level (tree_of e.now))) }
 {

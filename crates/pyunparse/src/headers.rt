@@ -3,17 +3,17 @@
 #![tactic(auto, using(crate::proofs::Sequences::FoldLemmas::puts_append))]
 
 ghost use Rattle.std.specs.Prelude.{◌≡◌, ◌++◌, ◌∷◌, [], None, OnOk, map};
-ghost use Rattle.pylexeme.specs.declared.kinds.Exact.TheVariants.{Colon};
+ghost use Rattle.pylex_lexeme.specs.declared.kinds.Exact.TheVariants.{Colon};
 ghost use Rattle.pygrammar.specs.Lines as lines;
-ghost use Rattle.pynode.specs.TreeOf.{arguments_of, boxed_of, item_of, keyword_of, option_of};
-ghost use Rattle.pynode.specs.TreeOf.{tree_of, type_param_of};
-ghost use Rattle.pynode.specs.Trees.{exprs, keywords};
+ghost use Rattle.pytree_node.specs.TreeOf.{arguments_of, boxed_of, item_of, keyword_of, option_of};
+ghost use Rattle.pytree_node.specs.TreeOf.{tree_of, type_param_of};
+ghost use Rattle.pytree_node.specs.Trees.{exprs, keywords};
 ghost use Rattle.pyunparse.specs.Inner.Folds.{puts};
 ghost use Rattle.pyunparse.specs.Inner.Lines.{with_colon};
-ghost use Rattle.pywritten.specs.Pieces.{piece, pieces};
+ghost use Rattle.pyunparse_text.specs.Pieces.{piece, pieces};
 ghost use Rattle.pygrammar.specs.declared.levels.Level.TheVariants as Level;
-ghost use Rattle.pywritten.specs.Statements as written;
-ghost use Rattle.pywritten.specs.Written.{listed, trailing, word as written_word};
+ghost use Rattle.pyunparse_text.specs.Statements as written;
+ghost use Rattle.pyunparse_text.specs.Written.{listed, trailing, word as written_word};
 
 use crate::calls::write_keywords;
 use crate::displays::write_members;
@@ -28,7 +28,7 @@ use crate::types::write_type_params;
 use crate::writers::Writer;
 use pygrammar::Level;
 use pylex::Exact;
-use pynode::{Arguments, Expr, Identifier, Item, Keyword as Word, TypeParam};
+use pytree_node::{Arguments, Expr, Identifier, Item, Keyword as Word, TypeParam};
 use pytoken::Keyword;
 use std::alloc::AllocError;
 

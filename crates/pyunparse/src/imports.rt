@@ -4,17 +4,17 @@
 
 ghost use Rattle.std.specs.Prelude.{◌≡◌, None, OnOk, map, false};
 ghost use Rattle.std.specs.Str.{chars};
-ghost use Rattle.pynode.specs.TreeOf.{alias_of};
+ghost use Rattle.pytree_node.specs.TreeOf.{alias_of};
 ghost use Rattle.pyunparse.specs.Inner.Folds.{puts};
-ghost use Rattle.pywritten.specs.Pieces.{piece};
-ghost use Rattle.pywritten.specs.Written.{listed};
-ghost use Rattle.pywritten.specs.Statements as written;
+ghost use Rattle.pyunparse_text.specs.Pieces.{piece};
+ghost use Rattle.pyunparse_text.specs.Written.{listed};
+ghost use Rattle.pyunparse_text.specs.Statements as written;
 
 use crate::marks::Between;
 use crate::tokens::{put_between, put_name, put_sign, put_text, put_word};
 use crate::writers::Writer;
 use pylex::Exact;
-use pynode::{Alias, Identifier};
+use pytree_node::{Alias, Identifier};
 use pytoken::Keyword;
 use std::alloc::AllocError;
 

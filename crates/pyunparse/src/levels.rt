@@ -3,11 +3,11 @@
 ghost use Rattle.std.specs.Prelude.{◌≡◌};
 ghost use Rattle.pygrammar.specs.Operators.{below, chain_level};
 ghost use Rattle.pygrammar.specs.Precedence as precedence;
-ghost use Rattle.pywritten.specs.Levels as levels;
-ghost use Rattle.pywritten.specs.Written as written;
+ghost use Rattle.pyunparse_text.specs.Levels as levels;
+ghost use Rattle.pyunparse_text.specs.Written as written;
 
 use pygrammar::Level;
-use pynode::{BoolOperator, Operator, UnaryOperator};
+use pytree_node::{BoolOperator, Operator, UnaryOperator};
 
 /// The place of a level in one order: a higher one is further in.
 fn rank(level: Level) -> u8

@@ -1,8 +1,8 @@
 //! Source text for a tree: its tokens, and the text of a module.
 //!
 //! Python language reference, 6 "Expressions" to 8 "Compound statements". In which tokens a tree is
-//! written, and with how few brackets, say the definitions of `pywritten`; which blanks stand
-//! between them those of `pyspacing`. The text is written as the tree is walked, with no list of
+//! written, and with how few brackets, say the definitions of `pyunparse_text`; which blanks stand
+//! between them those of `pyunparse_text`. The text is written as the tree is walked, with no list of
 //! tokens in between.
 #![tactic(auto)]
 

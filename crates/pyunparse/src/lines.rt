@@ -1,15 +1,15 @@
 //! Lines without a block.
 
 ghost use Rattle.std.specs.Prelude.{◌≡◌, ◌∷◌, [], OnOk, map};
-ghost use Rattle.pylexeme.specs.declared.kinds.Exact.TheVariants.{At};
+ghost use Rattle.pylex_lexeme.specs.declared.kinds.Exact.TheVariants.{At};
 ghost use Rattle.pygrammar.specs.declared.levels.Level.TheVariants as Level;
-ghost use Rattle.pynode.specs.TreeOf.{stmt_of, tree_of};
+ghost use Rattle.pytree_node.specs.TreeOf.{stmt_of, tree_of};
 ghost use Rattle.pyunparse.specs.Inner.Lines.{Wrote};
-ghost use Rattle.pywritten.specs.Modules as modules;
-ghost use Rattle.pywritten.specs.Modules.{written_line};
-ghost use Rattle.pywritten.specs.Pieces.{piece, pieces};
-ghost use Rattle.pywritten.specs.Statements.{simple_tokens};
-ghost use Rattle.pywritten.specs.Written.{leading};
+ghost use Rattle.pyunparse_text.specs.Modules as modules;
+ghost use Rattle.pyunparse_text.specs.Modules.{written_line};
+ghost use Rattle.pyunparse_text.specs.Pieces.{piece, pieces};
+ghost use Rattle.pyunparse_text.specs.Statements.{simple_tokens};
+ghost use Rattle.pyunparse_text.specs.Written.{leading};
 
 use crate::expressions::write_expr;
 use crate::statements::write_simple;
@@ -17,7 +17,7 @@ use crate::text_writer::TextWriter;
 use crate::tokens::put_sign;
 use pygrammar::Level;
 use pylex::Exact;
-use pynode::{Expr, Stmt};
+use pytree_node::{Expr, Stmt};
 use std::alloc::AllocError;
 
 /// Writes a simple statement on a line of its own.

@@ -1,15 +1,15 @@
 //! Expressions of operators and of keywords.
 
 ghost use Rattle.std.specs.Prelude.{◌≡◌, OnOk, map};
-ghost use Rattle.pynode.specs.TreeOf.{arguments_of, boxed_of, tree_of};
-ghost use Rattle.pynode.specs.Trees as plain;
-ghost use Rattle.pynode.specs.Trees.{exprs, optional};
+ghost use Rattle.pytree_node.specs.TreeOf.{arguments_of, boxed_of, tree_of};
+ghost use Rattle.pytree_node.specs.Trees as plain;
+ghost use Rattle.pytree_node.specs.Trees.{exprs, optional};
 ghost use Rattle.pygrammar.specs.Operators.{chain_word};
 ghost use Rattle.pyunparse.specs.Inner.Folds.{puts};
 ghost use Rattle.pyunparse.specs.Inner.Members.{mark};
-ghost use Rattle.pywritten.specs.Pieces.{piece, pieces};
+ghost use Rattle.pyunparse_text.specs.Pieces.{piece, pieces};
 ghost use Rattle.pygrammar.specs.declared.levels.Level.TheVariants as Level;
-ghost use Rattle.pywritten.specs.Written.{compared, each, word};
+ghost use Rattle.pyunparse_text.specs.Written.{compared, each, word};
 
 use crate::displays::write_members;
 use crate::expressions::write_expr;
@@ -24,7 +24,7 @@ use crate::tokens::{close, open, put_comparison, put_sign, put_unary, put_word};
 use crate::writers::Writer;
 use pygrammar::Level;
 use pylex::Exact;
-use pynode::{Arguments, BoolOperator, Comparison, Expr, Operator, UnaryOperator};
+use pytree_node::{Arguments, BoolOperator, Comparison, Expr, Operator, UnaryOperator};
 use pytoken::Keyword;
 use std::alloc::AllocError;
 

@@ -1,17 +1,17 @@
 //! The parameters of functions.
 
 ghost use Rattle.std.specs.Prelude.{◌≡◌, ℕ, OnOk, length, map, false};
-ghost use Rattle.pylexeme.specs.declared.kinds.Exact.TheVariants.{Comma, DoubleStar, Equal, Star};
-ghost use Rattle.pynode.specs.TreeOf.{arg_of, arg_option_of, arguments_of, option_of, tree_of};
-ghost use Rattle.pynode.specs.Trees.{args, exprs, optional, optionals, optional_arg};
+ghost use Rattle.pylex_lexeme.specs.declared.kinds.Exact.TheVariants.{Comma, DoubleStar, Equal, Star};
+ghost use Rattle.pytree_node.specs.TreeOf.{arg_of, arg_option_of, arguments_of, option_of, tree_of};
+ghost use Rattle.pytree_node.specs.Trees.{args, exprs, optional, optionals, optional_arg};
 ghost use Rattle.pygrammar.specs.declared.levels.Level.TheVariants as Level;
 ghost use Rattle.pyunparse.specs.Inner.Folds.{puts};
 ghost use Rattle.pyunparse.specs.Inner.Members.{members, padded};
 ghost use Rattle.pyunparse.specs.Inner.Parameters.{by_places, default_at, named, positional};
 ghost use Rattle.pyunparse.specs.Inner.Parameters.{slash_behind};
-ghost use Rattle.pywritten.specs.Pieces.{piece};
-ghost use Rattle.pywritten.specs.Written.{behind_equal, beside, defaults, each, gathered, listed};
-ghost use Rattle.pywritten.specs.Written.{names, parameters, suffixed, tight, trailing, with_star};
+ghost use Rattle.pyunparse_text.specs.Pieces.{piece};
+ghost use Rattle.pyunparse_text.specs.Written.{behind_equal, beside, defaults, each, gathered, listed};
+ghost use Rattle.pyunparse_text.specs.Written.{names, parameters, suffixed, tight, trailing, with_star};
 
 use crate::expressions::write_expr;
 use crate::marks::Between;
@@ -20,7 +20,7 @@ use crate::tokens::{put_between, put_name, put_sign};
 use crate::writers::Writer;
 use pygrammar::Level;
 use pylex::Exact;
-use pynode::{Arg, Arguments, Expr};
+use pytree_node::{Arg, Arguments, Expr};
 use std::alloc::AllocError;
 
 /// Writes parameters, without brackets.

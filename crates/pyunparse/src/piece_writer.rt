@@ -18,7 +18,7 @@ pub(crate) struct PieceWriter {
 
 impl Model for PieceWriter {
     ghost use Rattle.std.specs.Prelude.{List, map};
-    ghost use Rattle.pyspacing.specs.Tokens.{PlainToken};
+    ghost use Rattle.pyunparse_text.specs.Tokens.{PlainToken};
     ghost use Rattle.pyunparse.specs.Told.{told};
 
     ghost Value = { List PlainToken };
@@ -50,7 +50,7 @@ impl PieceWriter {
 
 impl Writer for PieceWriter {
     ghost use Rattle.std.specs.Prelude.{◌++◌, ◌∷◌, []};
-    ghost use Rattle.pyspacing.specs.Tokens.{token_of};
+    ghost use Rattle.pyunparse_text.specs.Tokens.{token_of};
 
     ghost after = { λ ts p. ts ++ token_of p ∷ [] };
 

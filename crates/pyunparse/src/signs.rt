@@ -1,13 +1,13 @@
 //! The texts of operators and delimiters, and which stand for the operators of a tree.
 
 ghost use Rattle.std.specs.Prelude.{◌≡◌};
-ghost use Rattle.pywritten.specs.Levels as levels;
-ghost use Rattle.pywritten.specs.Pieces as pieces;
-ghost use Rattle.pywritten.specs.Statements as statements;
+ghost use Rattle.pyunparse_text.specs.Levels as levels;
+ghost use Rattle.pyunparse_text.specs.Pieces as pieces;
+ghost use Rattle.pyunparse_text.specs.Statements as statements;
 ghost use Rattle.pytoken.specs.Terminals.{Op};
 
 use pylex::Exact;
-use pynode::Operator;
+use pytree_node::Operator;
 
 /// How an operator or delimiter is written.
 pub(crate) fn sign_text(sign: Exact) -> &'static str

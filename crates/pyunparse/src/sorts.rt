@@ -1,10 +1,10 @@
 //! The expressions that a list is looked through for.
 
 ghost use Rattle.std.specs.Prelude.{◌≡◌};
-ghost use Rattle.pynode.specs.TreeOf.{tree_of};
+ghost use Rattle.pytree_node.specs.TreeOf.{tree_of};
 ghost use Rattle.pyunparse.specs.Inner.Sorts.{sort};
 
-use pynode::Expr;
+use pytree_node::Expr;
 
 /// Whether an expression is starred, a `:=`, or any other.
 #[derive(Clone, Copy)]
@@ -15,7 +15,7 @@ pub(crate) enum Sort {
 }
 
 /// The sort of an expression.
-#[tactic(auto, using(pynode::proofs::Callers::ExprShapes::expr_shapes))]
+#[tactic(auto, using(pytree_node::proofs::Callers::ExprShapes::expr_shapes))]
 pub(crate) fn sort_of(e: &Expr) -> Sort
     ensures { result ≡ sort (tree_of e.now) }
 {

@@ -3,17 +3,17 @@
 #![tactic(auto, using(crate::proofs::Sequences::FoldLemmas::puts_append))]
 
 ghost use Rattle.std.specs.Prelude.{◌≡◌, ◌∷◌, [], OnOk, map, false};
-ghost use Rattle.pynode.specs.TreeOf.{alias_of, boxed_of, option_of, stmt_of, tree_of};
-ghost use Rattle.pynode.specs.Trees as plain;
+ghost use Rattle.pytree_node.specs.TreeOf.{alias_of, boxed_of, option_of, stmt_of, tree_of};
+ghost use Rattle.pytree_node.specs.Trees as plain;
 ghost use Rattle.pytoken.specs.Terminals.{Op};
-ghost use Rattle.pylexeme.specs.declared.kinds.Exact.TheVariants.{Comma};
+ghost use Rattle.pylex_lexeme.specs.declared.kinds.Exact.TheVariants.{Comma};
 ghost use Rattle.pytoken.specs.declared.keywords.Keyword.TheVariants as Key;
 ghost use Rattle.pygrammar.specs.declared.levels.Level.TheVariants as Level;
 ghost use Rattle.pyunparse.specs.Inner.Assigned.{assigned};
 ghost use Rattle.pyunparse.specs.Inner.Folds.{puts};
-ghost use Rattle.pywritten.specs.Pieces.{piece};
-ghost use Rattle.pywritten.specs.Written.{listed, trailing, word};
-ghost use Rattle.pywritten.specs.Statements as written;
+ghost use Rattle.pyunparse_text.specs.Pieces.{piece};
+ghost use Rattle.pyunparse_text.specs.Written.{listed, trailing, word};
+ghost use Rattle.pyunparse_text.specs.Statements as written;
 
 use crate::displays::write_members;
 use crate::expressions::write_expr;
@@ -25,7 +25,7 @@ use crate::types::write_type_params;
 use crate::writers::Writer;
 use pygrammar::Level;
 use pylex::Exact;
-use pynode::{Alias, Expr, Identifier, Stmt};
+use pytree_node::{Alias, Expr, Identifier, Stmt};
 use pytoken::Keyword;
 use std::alloc::AllocError;
 

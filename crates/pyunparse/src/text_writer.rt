@@ -4,8 +4,8 @@ ghost use Rattle.std.specs.Prelude.{◌≡◌, ◌+◌, ◌-◌, ◌*◌, ◌<�
 ghost use Rattle.std.specs.Prelude.{IfOk, OnOk};
 ghost use Rattle.std.specs.Str.{bytes_eq};
 ghost use Rattle.std.specs.String.{string_bytes};
-ghost use Rattle.pylexeme.specs.Characters.{line_feed, space};
-ghost use Rattle.pyspacing.specs.Spacing.{is_number_kind};
+ghost use Rattle.pylex_lexeme.specs.Characters.{line_feed, space};
+ghost use Rattle.pyunparse_text.specs.Spacing.{is_number_kind};
 ghost use Rattle.pyunparse.specs.Inner.Writing.{meets};
 
 use crate::edges::Edge;
@@ -71,7 +71,7 @@ impl Model for TextWriter {
 
 impl TextWriter {
     ghost use Rattle.pylex.specs.declared.kind.Kind.{Kind};
-    ghost use Rattle.pyspacing.specs.Spacing.{Piece};
+    ghost use Rattle.pyunparse_text.specs.Spacing.{Piece};
     ghost use Rattle.pyunparse.specs.Inner.Writing.{blank, edge_of, prefix};
 
     /// The empty text.

@@ -2,19 +2,19 @@
 
 ghost use Rattle.std.specs.Prelude.{◌≡◌, Bool, false, true, [], ◌∷◌, OnOk, map, not, if◌then◌else◌};
 ghost use Rattle.std.specs.Str.{chars};
-ghost use Rattle.pynode.specs.declared.operators.Comparison.{Comparison};
+ghost use Rattle.pytree_node.specs.declared.operators.Comparison.{Comparison};
 ghost use Rattle.pytoken.specs.Terminals.{in_form, Op, Word};
 ghost use Rattle.pyunparse.specs.Inner.Folds.{closed, opened, puts};
 ghost use Rattle.pyunparse.specs.Inner.Members.{mark};
-ghost use Rattle.pywritten.specs.Levels.{comparison_signs};
-ghost use Rattle.pywritten.specs.Pieces.{piece};
-ghost use Rattle.pywritten.specs.Written as written;
+ghost use Rattle.pyunparse_text.specs.Levels.{comparison_signs};
+ghost use Rattle.pyunparse_text.specs.Pieces.{piece};
+ghost use Rattle.pyunparse_text.specs.Written as written;
 
 use crate::marks::Between;
 use crate::signs::sign_text;
 use crate::writers::Writer;
 use pylex::{Exact, Kind};
-use pynode::{Comparison, Identifier, UnaryOperator};
+use pytree_node::{Comparison, Identifier, UnaryOperator};
 use pytoken::Keyword;
 use std::alloc::AllocError;
 

@@ -1,14 +1,14 @@
 //! Tuples and slices, which are written by their places.
 
 ghost use Rattle.std.specs.Prelude.{◌≡◌, OnOk, map};
-ghost use Rattle.pynode.specs.declared.operators.Context.{Context};
-ghost use Rattle.pynode.specs.TreeOf.{boxed_of, tree_of};
-ghost use Rattle.pynode.specs.Trees as plain;
-ghost use Rattle.pynode.specs.Trees.{exprs, optional};
+ghost use Rattle.pytree_node.specs.declared.operators.Context.{Context};
+ghost use Rattle.pytree_node.specs.TreeOf.{boxed_of, tree_of};
+ghost use Rattle.pytree_node.specs.Trees as plain;
+ghost use Rattle.pytree_node.specs.Trees.{exprs, optional};
 ghost use Rattle.pyunparse.specs.Inner.Elements.{are_bare, is_alone, is_elem, is_part, last};
 ghost use Rattle.pyunparse.specs.Inner.Folds.{puts};
-ghost use Rattle.pywritten.specs.Pieces.{pieces};
-ghost use Rattle.pywritten.specs.Written as written;
+ghost use Rattle.pyunparse_text.specs.Pieces.{pieces};
+ghost use Rattle.pyunparse_text.specs.Written as written;
 
 use crate::displays::write_members;
 use crate::levels::{element_level, reaches};
@@ -19,7 +19,7 @@ use crate::tokens::{close, open, put_sign};
 use crate::writers::Writer;
 use pygrammar::Level;
 use pylex::Exact;
-use pynode::Expr;
+use pytree_node::Expr;
 use std::alloc::AllocError;
 
 /// Whether there is a `:=` among some expressions.

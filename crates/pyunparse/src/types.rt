@@ -3,13 +3,13 @@
 #![tactic(auto, using(crate::proofs::Sequences::FoldLemmas::puts_append))]
 
 ghost use Rattle.std.specs.Prelude.{◌≡◌, OnOk, map};
-ghost use Rattle.pylexeme.specs.declared.kinds.Exact.TheVariants.{Colon};
+ghost use Rattle.pylex_lexeme.specs.declared.kinds.Exact.TheVariants.{Colon};
 ghost use Rattle.pygrammar.specs.declared.levels.Level.TheVariants as Level;
-ghost use Rattle.pynode.specs.TreeOf.{option_of, type_param_of};
+ghost use Rattle.pytree_node.specs.TreeOf.{option_of, type_param_of};
 ghost use Rattle.pyunparse.specs.Inner.Folds.{puts};
-ghost use Rattle.pywritten.specs.Pieces.{piece};
-ghost use Rattle.pywritten.specs.Statements as written;
-ghost use Rattle.pywritten.specs.Written.{listed, trailing};
+ghost use Rattle.pyunparse_text.specs.Pieces.{piece};
+ghost use Rattle.pyunparse_text.specs.Statements as written;
+ghost use Rattle.pyunparse_text.specs.Written.{listed, trailing};
 
 use crate::expressions::write_expr;
 use crate::marks::Between;
@@ -17,7 +17,7 @@ use crate::tokens::{put_between, put_name, put_sign};
 use crate::writers::Writer;
 use pygrammar::Level;
 use pylex::Exact;
-use pynode::{Expr, TypeParam};
+use pytree_node::{Expr, TypeParam};
 use std::alloc::AllocError;
 
 /// Writes a parameter of a type.

@@ -2,11 +2,11 @@
 
 ghost use Rattle.std.specs.Prelude.{◌≡◌, Bool, false, OnOk};
 ghost use Rattle.pylex.specs.declared.kind.Kind.{Kind};
-ghost use Rattle.pynode.specs.Values.{Bytes, Str};
-ghost use Rattle.pyspacing.specs.Spacing.{Piece};
+ghost use Rattle.pytree_node.specs.Values.{Bytes, Str};
+ghost use Rattle.pyunparse_text.specs.Spacing.{Piece};
 ghost use Rattle.pytoken.specs.Terminals.{Literal};
 ghost use Rattle.pyunparse.specs.Inner.Folds.{in_utf8};
-ghost use Rattle.pywritten.specs.Pieces.{piece};
+ghost use Rattle.pyunparse_text.specs.Pieces.{piece};
 
 use pylex::Kind;
 use std::alloc::AllocError;

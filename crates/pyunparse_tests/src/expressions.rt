@@ -2,7 +2,7 @@
 
 use crate::sources::source_of;
 use pygrammar::Level;
-use pynode::Expr;
+use pytree_node::Expr;
 use pyparse::{parse_expression, tokens_of};
 use pyunparse::expression_tokens;
 use std::alloc::Global;

@@ -1,7 +1,7 @@
 //! Modules that come back from their text.
 
 use crate::sources::source_of;
-use pynode::{Module, Profile};
+use pytree_node::{Module, Profile};
 use pyparse::parse;
 use pytree::same;
 use pyunparse::unparse;

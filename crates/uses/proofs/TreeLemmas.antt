@@ -3,10 +3,10 @@
 -- Carries: assignment_text.
 use Rattle.std.proofs.Common.{◌≡◌, ◌≤◌, Bool, true, List, ℕ, subst}
 use Rattle.std.specs.Prelude.{◌↔◌, IsTrue}
-use Rattle.pyheight.specs.Heights.{expression_height, statement_height}
-use Rattle.pynode.specs.declared.profiles.Profile.TheVariants.{Py311}
-use Rattle.pynode.specs.Trees.{Module}
-use Rattle.pyslots.specs.Given.{Stated}
+use Rattle.pytree_height.specs.Heights.{expression_height, statement_height}
+use Rattle.pytree_node.specs.declared.profiles.Profile.TheVariants.{Py311}
+use Rattle.pytree_node.specs.Trees.{Module}
+use Rattle.pytree_fits.specs.Given.{Stated}
 use Rattle.pyunparse.specs.RoundTrips.{RoundTrips, GivesBack}
 
 pub some_text : (m n : Module) (told : Bool) (text : List ℕ) → m ≡ n → (IsTrue told ↔ Stated Py311 m) → told ≡ true → RoundTrips text m → expression_height n ≤ 500 → statement_height n ≤ 500 → GivesBack Py311 text n

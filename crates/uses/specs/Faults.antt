@@ -4,14 +4,14 @@ use Rattle.pysource.specs.Parts.{Parts}
 use Rattle.pysource.specs.Sources.{source_of}
 use Rattle.pysource.specs.declared.encodings.SourceFault.{SourceFault}
 use Rattle.pylex.specs.Listing.{in_characters}
-use Rattle.pynode.specs.declared.profiles.Profile.{Profile}
+use Rattle.pytree_node.specs.declared.profiles.Profile.{Profile}
 use Rattle.pyparse.specs.declared.faults.ParseFault.{ParseFault}
 use Rattle.pyparse.specs.Modules.{Refuses}
-use Rattle.pyfault.specs.declared.fault.Fault.{Fault}
-use Rattle.pyfault.specs.declared.fault.Fault.TheVariants.{InSource, Plain}
-use Rattle.pyfault.specs.declared.fault.FaultCode.TheVariants as codes_of
-use Rattle.pyfault.specs.declared.fault.RunFaultCode.TheVariants as run
-use Rattle.pyfault.specs.Faults.{of_source, of_parse, text_of}
+use Rattle.pyast_fault.specs.declared.fault.Fault.{Fault}
+use Rattle.pyast_fault.specs.declared.fault.Fault.TheVariants.{InSource, Plain}
+use Rattle.pyast_fault.specs.declared.fault.FaultCode.TheVariants as codes_of
+use Rattle.pyast_fault.specs.declared.fault.RunFaultCode.TheVariants as run
+use Rattle.pyast_fault.specs.Faults.{of_source, of_parse, text_of}
 
 -- there was no memory; or the bytes are no source, or one that is refused, and for that this is told
 abbrev pub IsFaultOf : Profile → List ℕ → Fault → Type 0

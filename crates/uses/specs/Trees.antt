@@ -5,18 +5,18 @@ use Rattle.std.specs.declared.alloc.Global.{Global}
 use Rattle.pysource.specs.Parts.{Parts}
 use Rattle.pysource.specs.Sources.{source_of}
 use Rattle.pylex.specs.Listing.{Source, in_characters}
-use Rattle.pynode.specs.declared.operators.Context.TheVariants.{Store}
-use Rattle.pynode.specs.declared.profiles.Profile.{Profile}
-use Rattle.pynode.specs.declared.profiles.Profile.TheVariants.{Py311}
-use Rattle.pynode.specs.Trees.{Module}
-use Rattle.pynode.specs.Trees as trees
-use Rattle.pynode.specs.Values as values
-use Rattle.pydump.specs.declared.styles.Style.{Style}
-use Rattle.pydump.specs.Layout.{dump_text}
-use Rattle.pydump.specs.Shows.{shown_module}
+use Rattle.pytree_node.specs.declared.operators.Context.TheVariants.{Store}
+use Rattle.pytree_node.specs.declared.profiles.Profile.{Profile}
+use Rattle.pytree_node.specs.declared.profiles.Profile.TheVariants.{Py311}
+use Rattle.pytree_node.specs.Trees.{Module}
+use Rattle.pytree_node.specs.Trees as trees
+use Rattle.pytree_node.specs.Values as values
+use Rattle.pytree_dump.specs.declared.styles.Style.{Style}
+use Rattle.pytree_dump.specs.Layout.{dump_text}
+use Rattle.pytree_dump.specs.Shows.{shown_module}
 use Rattle.pygrammar.specs.Refusals.{Accepted}
-use Rattle.pyslots.specs.Given.{Stated}
-use Rattle.pywritten.specs.Modules.{module_text}
+use Rattle.pytree_fits.specs.Given.{Stated}
+use Rattle.pyunparse_text.specs.Modules.{module_text}
 use Rattle.pyunparse.specs.RoundTrips.{RoundTrips, GivesBack}
 
 -- bytes are a source that is accepted as a module

@@ -2,7 +2,7 @@
 
 ghost use Rattle.std.specs.Prelude.{◌≡◌, IfOk};
 ghost use Rattle.std.specs.Str.{chars};
-ghost use Rattle.pynode.specs.TreeOf.{module_of};
+ghost use Rattle.pytree_node.specs.TreeOf.{module_of};
 ghost use Rattle.uses.specs.Trees.{assignment, Tells};
 
 use pytree::{Constant, Context, Expr, Identifier, Integer, Module, Profile, Stmt, well_formed};
@@ -10,7 +10,7 @@ use pyunparse::unparse;
 use std::alloc::{AllocError, Global};
 
 /// The module of one statement, `name = value`.
-#[tactic(auto, using(pynode::proofs::Callers::ExprShapes::name_tree, pynode::proofs::Callers::ExprShapes::constant_tree, pynode::proofs::Callers::StmtShapes::assign_tree))]
+#[tactic(auto, using(pytree_node::proofs::Callers::ExprShapes::name_tree, pytree_node::proofs::Callers::ExprShapes::constant_tree, pytree_node::proofs::Callers::StmtShapes::assign_tree))]
 pub fn assignment(alloc: Global, name: &str, value: u128) -> Result<Module, AllocError>
     ensures { IfOk result (λ made. module_of made ≡ assignment (chars name.now) value) }
 {

@@ -2,11 +2,11 @@
 
 ghost use Rattle.std.specs.Prelude.{◌≡◌, ◌≤◌, length, IfOk, IfErr, string_bytes};
 ghost use Rattle.pysource.specs.Limits.{source_limit};
-ghost use Rattle.pynode.specs.TreeOf.{module_of};
+ghost use Rattle.pytree_node.specs.TreeOf.{module_of};
 ghost use Rattle.uses.specs.Faults.{IsFaultOf, placed, words};
 ghost use Rattle.uses.specs.Trees.{IsTreeOf};
 
-use pyfault::{Fault, FaultCode, fault_text};
+use pyast_fault::{Fault, FaultCode, fault_text};
 use pyparse::{ParseFault, parse};
 use pysource::decode;
 use pytree::{Module, Profile};

@@ -5,10 +5,10 @@
 -- Types. On: Law, Line/Law, Stays, Goes.
 use Rattle.std.proofs.Common.{◌≡◌, ℕ, List, ◌∷◌, refl, ap, ◌∙◌, subst, arith}
 use Rattle.pylex.specs.Listing.{Source}
-use Rattle.pynode.specs.declared.profiles.Profile.{Profile}
-use Rattle.pynode.specs.declared.profiles.Profile.TheVariants.{Py312}
-use Rattle.pynode.specs.Trees.{Stmt, Module}
-use Rattle.pyheight.specs.Heights.{statement_height}
+use Rattle.pytree_node.specs.declared.profiles.Profile.{Profile}
+use Rattle.pytree_node.specs.declared.profiles.Profile.TheVariants.{Py312}
+use Rattle.pytree_node.specs.Trees.{Stmt, Module}
+use Rattle.pytree_height.specs.Heights.{statement_height}
 use Rattle.pytoken.specs.Tokens as Tokens
 use Rattle.pygrammar.specs.Lines.{Line, line, Form}
 use Rattle.pygrammar.specs.FormHeights.{form_height}

@@ -4,7 +4,7 @@
 -- more, for Heights. On: Steps.
 use Rattle.std.proofs.Common.{◌≡◌, ℕ, suc, ◌+◌, ◌<◌, ◌≤◌, List, [], ◌∷◌, ◌++◌, Option, Bool, true, false, cond, refl, ap, ◌∙◌, le_refl, eq-eqb, arith}
 use Rattle.std.specs.Prelude.{nat_lt, ◌==◌}
-use Rattle.pynode.specs.Trees.{Expr, Stmt, Handler}
+use Rattle.pytree_node.specs.Trees.{Expr, Stmt, Handler}
 use Rattle.pytoken.specs.Inner.Behind.{behind}
 use Rattle.pygrammar.specs.Lines.{Line, line, header_form, Header}
 use Rattle.pygrammar.specs.Blocks.{Block, Statement, Body, Alternative, Otherwise, Excepts, Ending, Decorators, nothing, and_then, simple_line, if_statement, loop_statement, with_statement, try_finally, try_except, definition_of, inline, indented, an_else, an_elif, no_else, else_clause, no_except, except_clause, no_finally, finally_clause, no_decorator, decorator, Kind, ElifLine, ElseLine, kind_of, header_kind}

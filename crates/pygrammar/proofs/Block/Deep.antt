@@ -4,9 +4,9 @@
 use Rattle.std.proofs.Common.{◌≡◌, ◌↔◌, ◌⊎◌, inl, inr, ℕ, suc, ◌<◌, ◌≤◌, max, List, [], ◌∷◌, length, ◌+◌, Option, Some, None, true, false, refl, arith}
 use Rattle.std.specs.Prelude.{nat_lt}
 use borrow.Author.Tests.{ltb-true, ltb-false}
-use Rattle.pynode.specs.declared.profiles.Profile.{Profile}
-use Rattle.pynode.specs.Trees.{Stmt, Module}
-use Rattle.pyheight.specs.Heights.{stmt_height, statement_height}
+use Rattle.pytree_node.specs.declared.profiles.Profile.{Profile}
+use Rattle.pytree_node.specs.Trees.{Stmt, Module}
+use Rattle.pytree_height.specs.Heights.{stmt_height, statement_height}
 use Rattle.pytoken.specs.Terminals.{Terminal}
 use Rattle.pytoken.specs.Tokens as Tokens
 use Rattle.pygrammar.specs.Lines.{Line, Form}

@@ -5,8 +5,8 @@
 use Rattle.std.proofs.Common.{◌≡◌, inl, inr, ℕ, suc, ◌<◌, ◌≤◌, List, [], ◌∷◌, ◌++◌, length, Option, Some, None, Bool, true, false, cond, refl, sym, ap, ◌∙◌, subst}
 use Rattle.std.specs.Prelude.{nat_lt, option_map}
 use borrow.Author.Tests.{ltb-true, ltb-false}
-use Rattle.pynode.specs.Trees.{Module}
-use Rattle.pyheight.specs.Heights.{statement_height}
+use Rattle.pytree_node.specs.Trees.{Module}
+use Rattle.pytree_height.specs.Heights.{statement_height}
 use Rattle.pygrammar.specs.Lines.{Line}
 use Rattle.pygrammar.specs.Blocks.{Block}
 use Rattle.pygrammar.specs.Refusals.{IsDeep, FirstDeep}

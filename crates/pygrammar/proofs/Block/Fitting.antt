@@ -3,7 +3,7 @@
 -- Carries: is_marked, is_decorator, not_marked, no_decorator_header and 13 more, for Settling,
 -- Law. On: Standing, Growing.
 use Rattle.std.proofs.Common.{◌≡◌, List, [], ◌∷◌, Option, Some, None, Bool, true, false, cond, refl, sym, ap, ◌∙◌}
-use Rattle.pynode.specs.Trees.{Expr, Identifier, Stmt, Handler}
+use Rattle.pytree_node.specs.Trees.{Expr, Identifier, Stmt, Handler}
 use Rattle.pygrammar.specs.Lines.{Line, Header, if_header, elif_header, else_header, loop_header, with_header, try_header, except_header, finally_header, def_header, DefHead}
 use Rattle.pygrammar.specs.Blocks.{Kind, DecoratorLine, IfLine, LoopLine, WithLine, TryLine, DefLine, header_kind, kind_of, same_bool, is_try_clause, is_decorated}
 use Rattle.pygrammar.specs.Reading.{Group, Idle, Marked, Choice, Loop, Trial, Caught, Settled, closes, Part, part, ended, meets, grows, decorated}

@@ -3,7 +3,7 @@
 --
 -- Carries: choice-append, for Blocks. On: Steps.
 use Rattle.std.proofs.Common.{◌≡◌, ℕ, suc, List, [], ◌∷◌, ◌++◌, length, Option, Some, None, Bool, true, false, cond, refl, sym, ap, ◌∙◌, subst, arith, append_assoc, append-nil}
-use Rattle.pynode.specs.Trees.{Expr, Stmt, Handler, If, stmts}
+use Rattle.pytree_node.specs.Trees.{Expr, Stmt, Handler, If, stmts}
 use Rattle.pygrammar.specs.Lines.{Line, line, Form, simple_form, decorator_form, header_form, Header, if_header, elif_header, else_header, loop_header, with_header, try_header, except_header, finally_header, def_header, DefHead, loop, definition, try_of}
 use Rattle.pygrammar.specs.Blocks.{handler, same_bool, MisplacedClause, Block, Statement, Body, Alternative, Otherwise, Excepts, Ending, Decorators, nothing, and_then, simple_line, if_statement, loop_statement, with_statement, try_finally, try_except, definition_of, inline, indented, an_else, an_elif, no_else, else_clause, no_except, except_clause, no_finally, finally_clause, no_decorator, decorator}
 use Rattle.pygrammar.specs.Reading.{Answer, Fine, Faulty, then, Arm, arm, Group, Idle, Marked, Choice, Loop, Trial, Caught, Settled, choice, closes, Part, part, ended, meets, grows, decorated, or_misplaced, place_header, Waiting, waiting, State, state, start, joined, settle, place, run, finish, read}

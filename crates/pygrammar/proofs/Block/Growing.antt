@@ -2,7 +2,7 @@
 --
 -- Carries: ended_of, Prefix, block_to, closed_prefix and 5 more, for Sound, Fitting. On: Goes.
 use Rattle.std.proofs.Common.{◌≡◌, ℕ, List, [], ◌∷◌, ◌++◌, Option, Some, None, Bool, true, false, cond, refl, sym, ap, ◌∙◌, subst, append_assoc, append-nil}
-use Rattle.pynode.specs.Trees.{Expr, Identifier, Stmt, Handler, If, stmts}
+use Rattle.pytree_node.specs.Trees.{Expr, Identifier, Stmt, Handler, If, stmts}
 use Rattle.pygrammar.specs.Lines.{Line, line, header_form, Header, if_header, elif_header, else_header, loop_header, with_header, try_header, except_header, finally_header, def_header, loop, with_of, definition, try_of}
 use Rattle.pygrammar.specs.Blocks.{handler, same_bool, Block, Statement, Body, Alternative, Otherwise, Excepts, Ending, Decorators, nothing, and_then, if_statement, loop_statement, with_statement, try_finally, try_except, definition_of, an_else, an_elif, no_else, else_clause, no_except, except_clause, no_finally, finally_clause, no_decorator}
 use Rattle.pygrammar.specs.Reading.{arm, Group, Idle, Marked, Choice, Loop, Trial, Caught, Settled, choice, closes, Part, part, ended, meets, grows, joined}

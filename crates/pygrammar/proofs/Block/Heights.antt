@@ -3,8 +3,8 @@
 -- Carries: high, AreFlat, deepest, IsFlat and 2 more, for Deep,
 -- WorkedDepths, DeepLines. On: Around.
 use Rattle.std.proofs.Common.{◌≡◌, ℕ, suc, ◌+◌, ◌≤◌, max, List, [], ◌∷◌, ◌++◌, Option, Some, None, Bool, true, false, cond, refl, sym, ap, ◌∙◌, subst, arith}
-use Rattle.pynode.specs.Trees.{Expr, Stmt, Handler, stmts, handlers}
-use Rattle.pyheight.specs.Heights.{stmt_height, stmt_heights, handler_heights}
+use Rattle.pytree_node.specs.Trees.{Expr, Stmt, Handler, stmts, handlers}
+use Rattle.pytree_height.specs.Heights.{stmt_height, stmt_heights, handler_heights}
 use Rattle.pytoken.specs.Inner.Behind.{behind}
 use Rattle.pygrammar.specs.Lines.{Line, line, Form, simple_form, decorator_form, header_form, Header, if_header, elif_header, else_header, loop_header, with_header, try_header, except_header, finally_header, def_header, LoopHead, while_head, for_head, DefHead, function_head, class_head, loop, with_of, definition, try_of}
 use Rattle.pygrammar.specs.Blocks.{Block, Statement, Body, Alternative, Otherwise, Excepts, Ending, Decorators, nothing, and_then, simple_line, if_statement, loop_statement, with_statement, try_finally, try_except, definition_of, inline, indented, an_else, an_elif, no_else, else_clause, no_except, except_clause, no_finally, finally_clause, no_decorator, decorator, ElifLine, ElseLine, TryLine, ExceptLine, header_kind}

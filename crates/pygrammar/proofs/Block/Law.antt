@@ -6,7 +6,7 @@
 use Rattle.std.proofs.Common.{◌≡◌, ℕ, suc, ◌≤◌, List, [], ◌∷◌, ◌++◌, length, Option, Some, None, true, false, cond, refl, sym, ap, ◌∙◌, subst, arith, ◌⊎◌, inl, inr}
 use Rattle.std.specs.Prelude.{nat_lt}
 use borrow.Author.Tests.{ltb-true, ltb-false}
-use Rattle.pynode.specs.Trees.{Expr, Stmt}
+use Rattle.pytree_node.specs.Trees.{Expr, Stmt}
 use Rattle.pygrammar.specs.Lines.{Line, line, Form, simple_form, decorator_form, header_form, Header, opens}
 use Rattle.pygrammar.specs.Blocks.{Block, Fault, ExpectedIndent, UnexpectedIndent, MisplacedClause, Kind, SimpleLine, DecoratorLine, EndLine, header_kind, kind_of, IsClear, IsFault, IsFaultless, clear_end, clear_line, FirstFault, fault_at_end, fault_at, fault_behind}
 use Rattle.pygrammar.specs.Reading.{Answer, Fine, Faulty, then, Group, Idle, Marked, closes, Part, part, meets, decorated, or_misplaced, place_header, Waiting, waiting, State, state, start, joined, settle, place, placed, step, run, stops, finish, read}

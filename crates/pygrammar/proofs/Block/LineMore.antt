@@ -3,8 +3,8 @@
 -- Carries: formed_on, unread_on, unread_more, step_on and 3 more, for
 -- Blocks. On: Law, Steps, Sound.
 use Rattle.std.proofs.Common.{◌≡◌, ℕ, List, [], ◌∷◌, ◌++◌, length, sym, ap, ◌∙◌, subst, append-nil}
-use Rattle.pynode.specs.declared.profiles.Profile.{Profile}
-use Rattle.pynode.specs.Trees.{Stmt}
+use Rattle.pytree_node.specs.declared.profiles.Profile.{Profile}
+use Rattle.pytree_node.specs.Trees.{Stmt}
 use Rattle.pytoken.specs.Tokens as Tokens
 use Rattle.pygrammar.specs.Lines.{Line, line, Form}
 use Rattle.pygrammar.specs.Blocks.{Block, Fault, FirstFault}

@@ -5,7 +5,7 @@
 use Rattle.std.proofs.Common.{◌≡◌, ℕ, suc, ◌<◌, ◌≤◌, List, [], ◌∷◌, ◌++◌, length, Some, None, Bool, true, false, cond, refl, sym, ap, ◌∙◌, arith, ◌⊎◌, inl, inr}
 use Rattle.std.specs.Prelude.{nat_lt, ◌==◌}
 use borrow.Author.Tests.{ltb-true, ltb-false, eqb-true, eqb-false}
-use Rattle.pynode.specs.Trees.{Stmt}
+use Rattle.pytree_node.specs.Trees.{Stmt}
 use Rattle.pygrammar.specs.Lines.{Line, Form, simple_form, decorator_form, header_form, Header, opens}
 use Rattle.pygrammar.specs.Blocks.{Fault, ExpectedIndent, UnexpectedIndent, MisplacedClause, Kind, SimpleLine, DecoratorLine, header_kind, kind_of, previous, may_follow, is_try_clause, is_decorated, level_before, opens_before, Misplaced, not_taken, ends_try, ends_decorators, HasFault, not_deeper, far_deeper, opens_none, misplaced, comes_before, IsClear, IsFault}
 use Rattle.pygrammar.specs.Reading.{Answer, Fine, Faulty, Group, Marked, closes, grows, Waiting, State, state, joined, settle_in}

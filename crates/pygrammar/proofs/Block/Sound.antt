@@ -4,7 +4,7 @@
 use Rattle.std.proofs.Common.{◌≡◌, ℕ, suc, ◌≤◌, List, [], ◌∷◌, ◌++◌, length, Option, Some, None, Bool, true, false, cond, refl, sym, ap, ◌∙◌, subst, arith, append_assoc, append-nil}
 use Rattle.std.specs.Prelude.{nat_lt}
 use borrow.Author.Tests.{ltb-false}
-use Rattle.pynode.specs.Trees.{Expr, Stmt}
+use Rattle.pytree_node.specs.Trees.{Expr, Stmt}
 use Rattle.pygrammar.specs.Lines.{Line, line, Form, simple_form, decorator_form, header_form, Header}
 use Rattle.pygrammar.specs.Blocks.{ExpectedIndent, UnexpectedIndent, MisplacedClause, Block, Body, Decorators, nothing, simple_line, inline, indented, no_decorator, decorator}
 use Rattle.pygrammar.specs.Reading.{Answer, Fine, Faulty, then, Group, Idle, Marked, closes, Part, part, meets, decorated, or_misplaced, place_header, Waiting, State, state, start, joined, settle_in, settle, place, placed, step, run, finish, read}

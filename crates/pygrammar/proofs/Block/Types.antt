@@ -4,9 +4,9 @@
 -- Carries: old_has_no_types, for SourceLaw. On: Stays, Answer.
 use Rattle.std.proofs.Common.{◌≡◌, ◌↔◌, ℕ, List, [], ◌∷◌, ◌++◌, Option, Some, None, Bool, true, false, not, ◌&&◌, refl, sym, ap, ◌∙◌}
 use Rattle.pylex.specs.Listing.{Source}
-use Rattle.pynode.specs.declared.profiles.Profile.{Profile}
-use Rattle.pynode.specs.declared.profiles.Profile.TheVariants.{Py311, Py312}
-use Rattle.pynode.specs.Trees.{Expr, Stmt, Handler, Item, Module, stmts, handlers}
+use Rattle.pytree_node.specs.declared.profiles.Profile.{Profile}
+use Rattle.pytree_node.specs.declared.profiles.Profile.TheVariants.{Py311, Py312}
+use Rattle.pytree_node.specs.Trees.{Expr, Stmt, Handler, Item, Module, stmts, handlers}
 use Rattle.pytoken.specs.Terminals.{Terminal}
 use Rattle.pytoken.specs.Tokens as Tokens
 use Rattle.pygrammar.specs.Lines.{Line, line, Form, simple_form, decorator_form, header_form, Header, if_header, elif_header, else_header, loop_header, with_header, try_header, except_header, finally_header, def_header, LoopHead, while_head, for_head, DefHead, function_head, class_head, loop, with_of, definition, try_of, is_alias, untyped_statements, untyped_header, untyped}

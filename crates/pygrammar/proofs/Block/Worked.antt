@@ -2,9 +2,9 @@
 --
 -- Carries: v, says, head, short, for WorkedDepths. On: Law, Sound.
 use Rattle.std.proofs.Common.{◌≡◌, ℕ, List, [], ◌∷◌, Some, None, true, false, refl, subst}
-use Rattle.pynode.specs.Trees.{Expr, no_keyword, Arguments, Stmt, If, ClassDef, Try, ExprOf, stmts, handlers}
-use Rattle.pynode.specs.Trees as Trees
-use Rattle.pynode.specs.declared.operators.Context.TheVariants.{Load}
+use Rattle.pytree_node.specs.Trees.{Expr, no_keyword, Arguments, Stmt, If, ClassDef, Try, ExprOf, stmts, handlers}
+use Rattle.pytree_node.specs.Trees as Trees
+use Rattle.pytree_node.specs.declared.operators.Context.TheVariants.{Load}
 use Rattle.pygrammar.specs.Lines.{Line, line, simple_form, decorator_form, header_form, Header, if_header, elif_header, else_header, loop_header, try_header, except_header, finally_header, def_header, for_head, class_head}
 use Rattle.pygrammar.specs.Blocks.{Block, handler, Fault, ExpectedIndent, UnexpectedIndent, MisplacedClause, FirstFault}
 use Rattle.pygrammar.specs.Reading.{Answer, Faulty, start, stops, read}

@@ -2,7 +2,7 @@
 --
 -- Carries: no contract; its rows are computed as it is checked. On: Worked, Heights.
 use Rattle.std.proofs.Common.{◌≡◌, ℕ, zero, suc, ◌+◌, List, [], ◌∷◌, Some, None, false, replicate, refl}
-use Rattle.pynode.specs.Trees.{no_keyword}
+use Rattle.pytree_node.specs.Trees.{no_keyword}
 use Rattle.pygrammar.specs.Lines.{Line, line, decorator_form, if_header, elif_header, else_header, loop_header, with_header, try_header, except_header, finally_header, def_header, while_head, for_head, class_head}
 use Rattle.pygrammar.specs.Reading.{Fine, Faulty, read}
 use Rattle.pygrammar.specs.Depths.{first_deep}

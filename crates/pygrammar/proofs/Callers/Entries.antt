@@ -1,10 +1,10 @@
 -- On: targets, arguments and parameters are as high as what they are made of.
 --
--- Carries: what pyexpr cites.
+-- Carries: what pyparse_expr cites.
 use Rattle.std.proofs.Common.{◌≡◌, ◌+◌, List, Some}
 use Rattle.std.specs.Prelude.{max}
-use Rattle.pynode.specs.Trees.{Expr, Arguments}
-use Rattle.pyheight.specs.Heights.{height, arguments_height}
+use Rattle.pytree_node.specs.Trees.{Expr, Arguments}
+use Rattle.pytree_height.specs.Heights.{height, arguments_height}
 use Rattle.pygrammar.specs.Entries.{Entry}
 use Rattle.pygrammar.specs.Inner.EntryHeights.{entries_height}
 use Rattle.pygrammar.specs.Arguments.{called}

@@ -1,9 +1,9 @@
 -- On: the laws of the grammar of expressions.
 --
--- Carries: what pyexpr, pyparse, pywritten cite.
+-- Carries: what pyparse_expr, pyparse, pyunparse_text cite.
 use Rattle.std.proofs.Common.{◌≡◌, ◌⊎◌, inl, inr, refl, sym, ◌∙◌, ℕ, suc, List, [], ◌∷◌, length}
 use Rattle.pygrammar.specs.declared.levels.Level.{Level}
-use Rattle.pynode.specs.Trees.{Expr}
+use Rattle.pytree_node.specs.Trees.{Expr}
 use Rattle.pytoken.specs.Terminals.{Terminal}
 use Rattle.pygrammar.specs.Grammar.{Derives}
 use Rattle.pygrammar.specs.Reader.{Answer, Found, NoForm, TooDeep, reads}

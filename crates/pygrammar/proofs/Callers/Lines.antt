@@ -1,6 +1,6 @@
 -- On: the laws of the reader of a logical line within a height.
 --
--- Carries: what pyline cites.
+-- Carries: what pyparse_line cites.
 use Rattle.pygrammar.specs.LineLaws.{LineLimitIsExact, LineLimitMeets, LinesAreLawful}
 use Rattle.pygrammar.proofs.Line.Answered.{enough, read_or_not}
 use Rattle.pygrammar.proofs.Line.Depth.{at_depth}

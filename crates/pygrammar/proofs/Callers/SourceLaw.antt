@@ -1,6 +1,6 @@
 -- On: the laws of the forms of lines, of blocks and of the answer for a source.
 --
--- Carries: what pyparse, pywritten cite.
+-- Carries: what pyparse, pyunparse_text cite.
 use Rattle.pygrammar.specs.SourceLaws.{FormsAreLawful, BlocksAreLawful, AnswersAreLawful}
 use Rattle.pygrammar.proofs.Line.Law.{one_form}
 use Rattle.pygrammar.proofs.Line.Stays.{old_is_untyped}

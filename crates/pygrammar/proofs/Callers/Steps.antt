@@ -1,12 +1,12 @@
 -- On: the readers: one level of each; of the one within a height, how high its answers are, and
 -- what they are to the plain reader.
 --
--- Carries: what pyexpr cites.
+-- Carries: what pyparse_expr cites.
 use Rattle.std.proofs.Common.{◌≡◌, refl, ℕ, suc, ◌≤◌, ◌<◌, List, length}
 use Rattle.pygrammar.specs.declared.levels.Level.{Level}
 use Rattle.pygrammar.specs.declared.levels.Level.TheVariants.{Value}
-use Rattle.pynode.specs.Trees.{Expr}
-use Rattle.pyheight.specs.Heights.{height}
+use Rattle.pytree_node.specs.Trees.{Expr}
+use Rattle.pytree_height.specs.Heights.{height}
 use Rattle.pytoken.specs.Terminals.{Terminal}
 use Rattle.pygrammar.specs.Reader.{Found, NoForm, TooDeep, level_step, read, reads}
 use Rattle.pygrammar.specs.Capped.{cap, capped_step, capped}

@@ -1,8 +1,8 @@
 -- On: one terminal is a certain sign or keyword, or isn't.
 --
--- Carries: what pyexpr, pystatement cite.
+-- Carries: what pyparse_expr, pyparse_line cite.
 use Rattle.std.proofs.Common.{◌≡◌, ◌⊎◌, Some, None}
-use Rattle.pylexeme.specs.declared.kinds.Exact.{Exact}
+use Rattle.pylex_lexeme.specs.declared.kinds.Exact.{Exact}
 use Rattle.pytoken.specs.declared.keywords.Keyword.{Keyword}
 use Rattle.pytoken.specs.Terminals.{Terminal, Op, Word}
 use Rattle.pygrammar.specs.Looks.{is_op, is_word}

@@ -4,13 +4,13 @@
 -- LookLemmas, Climb, LevelLemmas and 1 more.
 use Rattle.std.proofs.Common.{map, ◌≡◌, ◌⊎◌, inl, inr, refl, sym, ap, subst, ◌∙◌, ℕ, suc, ◌≤◌, ◌<◌, arith, List, [], ◌∷◌, ◌++◌, length, Some, true, false, append_assoc}
 use Rattle.std.specs.Prelude.{max}
-use Rattle.pylexeme.specs.declared.kinds.Exact.TheVariants.{LPar, RPar, LSqb, RSqb, LBrace, RBrace, Colon, Comma, Star, DoubleStar, ColonEqual}
+use Rattle.pylex_lexeme.specs.declared.kinds.Exact.TheVariants.{LPar, RPar, LSqb, RSqb, LBrace, RBrace, Colon, Comma, Star, DoubleStar, ColonEqual}
 use Rattle.pytoken.specs.declared.keywords.Keyword.TheVariants as Key
-use Rattle.pynode.specs.declared.operators.Context.TheVariants.{Load}
+use Rattle.pytree_node.specs.declared.operators.Context.TheVariants.{Load}
 use Rattle.pygrammar.specs.declared.levels.Level.TheVariants.{Named, Expression, BitOr, Primary, Atom, Elem}
-use Rattle.pynode.specs.Trees
-use Rattle.pynode.specs.Trees.{Expr, no_exprs, an_expr, no_optional, Comprehension, comprehensions}
-use Rattle.pynode.specs.Values
+use Rattle.pytree_node.specs.Trees
+use Rattle.pytree_node.specs.Trees.{Expr, no_exprs, an_expr, no_optional, Comprehension, comprehensions}
+use Rattle.pytree_node.specs.Values
 use Rattle.pytoken.specs.Terminals.{Spelled, Terminal, Op, Word, Ident, Whole, Literal, Layout}
 use Rattle.pygrammar.specs.Constants.{constant_word, joined}
 use Rattle.pygrammar.specs.Entries.{Item, Of, Pair, Entry, Single, Paired, Doubled, singles, keys, values}

@@ -2,7 +2,7 @@
 -- exactly what the grammar gives.
 use Rattle.std.proofs.Common.{◌≡◌, ◌⊎◌, inl, inr, ◌↔◌, sym, ap, subst, ◌∙◌, ℕ, zero, suc, ◌+◌, ◌≤◌, ◌<◌, arith, List, [], ◌++◌, length, Some}
 use Rattle.pygrammar.specs.declared.levels.Level.{Level}
-use Rattle.pynode.specs.Trees.{Expr}
+use Rattle.pytree_node.specs.Trees.{Expr}
 use Rattle.pygrammar.specs.Targets.{stored}
 use Rattle.pytoken.specs.Terminals.{Terminal}
 use Rattle.pygrammar.specs.declared.levels.Level.TheVariants.{Stars}

@@ -2,18 +2,18 @@
 -- more where a star stands alone in a subscript).
 use Rattle.std.proofs.Common.{◌≡◌, refl, ℕ, suc, ◌+◌, ◌≤◌, ◌<◌, arith, List, [], ◌∷◌, ◌++◌, length, Option, Bool, length-append}
 use Rattle.std.specs.Prelude.{max}
-use Rattle.pylexeme.specs.declared.kinds.Exact.{Exact}
-use Rattle.pylexeme.specs.declared.kinds.Exact.TheVariants.{LPar, RPar, LSqb, RSqb, RBrace, Colon, Comma, Dot, DoubleStar}
+use Rattle.pylex_lexeme.specs.declared.kinds.Exact.{Exact}
+use Rattle.pylex_lexeme.specs.declared.kinds.Exact.TheVariants.{LPar, RPar, LSqb, RSqb, RBrace, Colon, Comma, Dot, DoubleStar}
 use Rattle.pytoken.specs.declared.keywords.Keyword.TheVariants as Key
-use Rattle.pynode.specs.declared.operators.BoolOperator.{BoolOperator}
-use Rattle.pynode.specs.declared.operators.Comparison.{Comparison}
+use Rattle.pytree_node.specs.declared.operators.BoolOperator.{BoolOperator}
+use Rattle.pytree_node.specs.declared.operators.Comparison.{Comparison}
 use Rattle.pygrammar.specs.declared.levels.Level.{Level}
 use Rattle.pygrammar.specs.declared.levels.Level.TheVariants.{Value, Slices}
-use Rattle.pynode.specs.Trees.{Expr, OptionalExpr, exprs, Comprehension}
+use Rattle.pytree_node.specs.Trees.{Expr, OptionalExpr, exprs, Comprehension}
 use Rattle.pytoken.specs.Terminals.{Terminal, Op, Word, Ident}
 use Rattle.pygrammar.specs.Operators.{below, chain_level, chain_word}
 use Rattle.pygrammar.specs.Entries.{Item, Of, Entry, Single, Paired, Doubled, singles, keys, values}
-use Rattle.pyheight.specs.Heights.{height, heights, optional_height, optional_heights}
+use Rattle.pytree_height.specs.Heights.{height, heights, optional_height, optional_heights}
 use Rattle.pygrammar.specs.Inner.EntryHeights.{entry_height, entries_height}
 use Rattle.pygrammar.specs.Laws.{slack}
 use Rattle.pygrammar.specs.Grammar as G

@@ -6,18 +6,18 @@
 use Rattle.std.proofs.Common.{◌≡◌, ◌⊎◌, inl, inr, refl, ap, subst, ◌∙◌, ℕ, zero, suc, ◌≤◌, arith, List, [], ◌∷◌, ◌++◌, length, Option, Some, None, Bool, true, false, cond, leb}
 use Rattle.std.proofs.lemmas.Bool.{leb-false}
 use Rattle.std.specs.Prelude.{max}
-use Rattle.pylexeme.specs.declared.kinds.Exact.{Exact}
-use Rattle.pylexeme.specs.declared.kinds.Exact.TheVariants.{LPar, RPar, LSqb, RSqb, LBrace, RBrace, Colon, Comma, Star, Equal, Dot, DoubleStar, ColonEqual}
+use Rattle.pylex_lexeme.specs.declared.kinds.Exact.{Exact}
+use Rattle.pylex_lexeme.specs.declared.kinds.Exact.TheVariants.{LPar, RPar, LSqb, RSqb, LBrace, RBrace, Colon, Comma, Star, Equal, Dot, DoubleStar, ColonEqual}
 use Rattle.pytoken.specs.declared.keywords.Keyword.TheVariants as Key
-use Rattle.pynode.specs.declared.operators.Operator.TheVariants as Bin
-use Rattle.pynode.specs.declared.operators.BoolOperator.{BoolOperator}
-use Rattle.pynode.specs.declared.operators.Comparison.{Comparison}
-use Rattle.pynode.specs.declared.operators.Comparison.TheVariants as Is
-use Rattle.pynode.specs.declared.operators.Context.TheVariants.{Load, Store}
+use Rattle.pytree_node.specs.declared.operators.Operator.TheVariants as Bin
+use Rattle.pytree_node.specs.declared.operators.BoolOperator.{BoolOperator}
+use Rattle.pytree_node.specs.declared.operators.Comparison.{Comparison}
+use Rattle.pytree_node.specs.declared.operators.Comparison.TheVariants as Is
+use Rattle.pytree_node.specs.declared.operators.Context.TheVariants.{Load, Store}
 use Rattle.pygrammar.specs.declared.levels.Level.{Level}
 use Rattle.pygrammar.specs.declared.levels.Level.TheVariants.{Value, Stars, StarItem, Named, Expression, Or, And, Not, Compare, BitOr, BitXor, BitAnd, Shift, Sum, Term, Factor, Power, Await, Primary, Atom, Elem, Slices, Part, Slice}
-use Rattle.pynode.specs.Trees
-use Rattle.pynode.specs.Trees.{Expr, an_expr, OptionalExpr, absent, present, arg, Arguments, Identifier, exprs, comprehensions, Comprehension}
+use Rattle.pytree_node.specs.Trees
+use Rattle.pytree_node.specs.Trees.{Expr, an_expr, OptionalExpr, absent, present, arg, Arguments, Identifier, exprs, comprehensions, Comprehension}
 use Rattle.pytoken.specs.Terminals.{Terminal, Op}
 use Rattle.pygrammar.specs.Looks.{is_op, is_word, name_in}
 use Rattle.pygrammar.specs.Operators.{below, chain_level, chain_word, comparison}
@@ -27,7 +27,7 @@ use Rattle.pygrammar.specs.Parameters.{arranged}
 use Rattle.pygrammar.specs.Entries.{singles, keys, values, Item, Of, Pair, Argument, Parameter, Entry, Single, Paired, Spread, Doubled, Keyed, Plain, Gathered, Collected}
 use Rattle.pygrammar.specs.Reader.{Answer, Found, NoForm, TooDeep, and_then, made, closed, generator_of, lambda_of, called_with, on_some, on_first, on_name_with, Reads, perhaps, suffixed, starred, annotated, star_annotated, read_pair, read_argument, read_parameter, piece, listing_loop, listing_of, others_of, tupled, target_item, target_piece, read_target, ifs_loop, for_in_step, comps_loop, comps_closed, unstarred, unnamed, yield_step, round, square, dict_from, curly, atom, generator_call, call_step, primary_loop, chain_loop, on_comparison, compare_loop, operation, climb_loop, prefixed, slice_rest, lambda_step, if_else_step, climb, level_step, levels_from, descend, read}
 use Rattle.pygrammar.specs.Precedence.{Infix, Left, Raise, Joins, Compares, Prefix, Signed, Awaits, rank, starts, starts_comp, infix_from, prefix_from}
-use Rattle.pyheight.specs.Heights.{height, heights, optional_height, optional_heights, comprehension_heights}
+use Rattle.pytree_height.specs.Heights.{height, heights, optional_height, optional_heights, comprehension_heights}
 use Rattle.pygrammar.specs.Inner.EntryHeights.{entry_height, entries_height}
 use Rattle.pygrammar.specs.Capped.{cap, capped_round, capped_atom, capped_primary, capped_loop, capped_climb, capped_step, capped_descend, capped}
 use Rattle.pygrammar.proofs.Heights.HeightLemmas.{stored_height, called_height, arranged_height}

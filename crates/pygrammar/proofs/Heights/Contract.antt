@@ -4,10 +4,10 @@ use Rattle.std.proofs.Common.{◌≡◌, ◌↔◌, sym, ap, subst, ◌∙◌, r
 use Rattle.std.proofs.lemmas.Bool.{leb-true, leb-false, le-leb}
 use Rattle.pygrammar.specs.declared.levels.Level.{Level}
 use Rattle.pygrammar.specs.declared.levels.Level.TheVariants.{Value}
-use Rattle.pynode.specs.Trees.{Expr}
+use Rattle.pytree_node.specs.Trees.{Expr}
 use Rattle.pytoken.specs.Terminals.{Terminal}
 use Rattle.pygrammar.specs.Grammar.{Derives}
-use Rattle.pyheight.specs.Heights.{height}
+use Rattle.pytree_height.specs.Heights.{height}
 use Rattle.pygrammar.specs.Reader.{Answer, Found, NoForm, TooDeep, read}
 use Rattle.pygrammar.specs.Capped.{cap, capped_step, capped, limited, limit}
 use Rattle.pygrammar.specs.Meets.{High, Meets}

@@ -3,15 +3,15 @@
 -- Carries: arranged_height, called_height, deleted_height, single_height and 1 more, for Entries.
 use Rattle.std.proofs.Common.{◌≡◌, refl, sym, ap, ◌∙◌, ℕ, ◌+◌, arith, List, [], ◌∷◌, Option, Some, None, Bool, true, false, cond}
 use Rattle.std.specs.Prelude.{max}
-use Rattle.pynode.specs.declared.operators.Context.{Context}
-use Rattle.pynode.specs.declared.operators.Context.TheVariants.{Store, Del}
-use Rattle.pynode.specs.Trees
-use Rattle.pynode.specs.Trees.{Expr, Exprs, no_exprs, an_expr, OptionalExpr, absent, present, Arg, Arguments, arguments}
+use Rattle.pytree_node.specs.declared.operators.Context.{Context}
+use Rattle.pytree_node.specs.declared.operators.Context.TheVariants.{Store, Del}
+use Rattle.pytree_node.specs.Trees
+use Rattle.pytree_node.specs.Trees.{Expr, Exprs, no_exprs, an_expr, OptionalExpr, absent, present, Arg, Arguments, arguments}
 use Rattle.pygrammar.specs.Targets.{mapped, both, stored, all_stored, deleted, all_deleted, single_stored}
 use Rattle.pygrammar.specs.Entries.{Entry, Single, Spread, Doubled, Keyed, Plain, Slashed, Bare, Gathered, Collected}
 use Rattle.pygrammar.specs.Arguments.{in_order, positional, keywords, called}
 use Rattle.pygrammar.specs.Parameters.{arranged, at_star, after_star, plain_ones, before_slash, has_slash, with_kwarg, with_default, add_keyword_only, set_vararg, add_plain, add_before_slash, no_arguments}
-use Rattle.pyheight.specs.Heights.{height, heights, optional_height, keyword_heights, arg_height, arg_heights, optional_heights, arguments_height, optional_arg_height}
+use Rattle.pytree_height.specs.Heights.{height, heights, optional_height, keyword_heights, arg_height, arg_heights, optional_heights, arguments_height, optional_arg_height}
 use Rattle.pygrammar.specs.Inner.EntryHeights.{entries_height}
 
 some_is : {A : Type 0} (a b : A) → Some a ≡ Some b → a ≡ b

@@ -5,10 +5,10 @@
 use Rattle.std.proofs.Common.{◌≡◌, inl, inr, ◌↔◌, sym, subst, ◌∙◌, refl, ℕ, zero, suc, ◌≤◌, ◌<◌, arith, List, [], ◌∷◌, ◌++◌, length, Bool, true, false, cond, leb}
 use Rattle.std.proofs.lemmas.Bool.{leb-true}
 use Rattle.pygrammar.specs.declared.levels.Level.{Level}
-use Rattle.pynode.specs.Trees.{Expr}
+use Rattle.pytree_node.specs.Trees.{Expr}
 use Rattle.pytoken.specs.Terminals.{Terminal}
 use Rattle.pygrammar.specs.Grammar.{Derives}
-use Rattle.pyheight.specs.Heights.{height}
+use Rattle.pytree_height.specs.Heights.{height}
 use Rattle.pygrammar.specs.Reader.{Answer, Found, NoForm, TooDeep, Reads, levels_from, read, reads}
 use Rattle.pygrammar.specs.Capped.{cap, capped_descend, capped_step, capped, limited}
 use Rattle.pygrammar.proofs.Completeness.Climb.{Stops}

@@ -5,21 +5,21 @@
 -- Soundness/Sound, Caps and 3 more.
 use Rattle.std.proofs.Common.{◌≡◌, inl, inr, refl, sym, ap, subst, ◌∙◌, ℕ, zero, suc, ◌≤◌, ◌<◌, arith, List, [], ◌∷◌, ◌++◌, length, Option, Some, None, cond, append_assoc, length-append}
 use Rattle.std.proofs.lemmas.Bool.{le-leb}
-use Rattle.pylexeme.specs.declared.kinds.Exact.{Exact}
-use Rattle.pylexeme.specs.declared.kinds.Exact.TheVariants.{LPar, RPar, LSqb, RSqb, Colon, Comma, Star, Dot, ColonEqual}
+use Rattle.pylex_lexeme.specs.declared.kinds.Exact.{Exact}
+use Rattle.pylex_lexeme.specs.declared.kinds.Exact.TheVariants.{LPar, RPar, LSqb, RSqb, Colon, Comma, Star, Dot, ColonEqual}
 use Rattle.pytoken.specs.declared.keywords.Keyword.TheVariants as Key
-use Rattle.pynode.specs.declared.operators.Context.TheVariants.{Load}
+use Rattle.pytree_node.specs.declared.operators.Context.TheVariants.{Load}
 use Rattle.pygrammar.specs.declared.levels.Level.{Level}
 use Rattle.pygrammar.specs.declared.levels.Level.TheVariants.{Value, Stars, StarItem, Named, Expression, Or, And, Not, Compare, BitOr, BitXor, BitAnd, Shift, Sum, Term, Factor, Power, Await, Primary, Atom, Elem, Slices, Part, Slice}
-use Rattle.pynode.specs.Trees
-use Rattle.pynode.specs.Trees.{Expr, absent, present, Identifier}
+use Rattle.pytree_node.specs.Trees
+use Rattle.pytree_node.specs.Trees.{Expr, absent, present, Identifier}
 use Rattle.pytoken.specs.Terminals.{Spelled, Terminal, Op, Ident}
 use Rattle.pygrammar.specs.Looks.{is_op, is_word, name_in}
 use Rattle.pygrammar.specs.Entries.{Of}
 use Rattle.pygrammar.specs.Reader.{Answer, Found, TooDeep, and_then, on_some, on_first, Reads, call_step, operation, prefixed, levels_from, descend, read}
 use Rattle.pygrammar.specs.Precedence.{Infix, rank, starts_comp, infix_from, prefix_from, infix_rank, behind}
 use Rattle.pygrammar.specs.Grammar as G
-use Rattle.pyheight.specs.Heights.{height}
+use Rattle.pytree_height.specs.Heights.{height}
 use Rattle.pygrammar.specs.Capped.{cap, capped_round, capped_atom, capped_primary, capped_loop, capped_climb, capped_step, capped_descend, capped, limited}
 use Rattle.pygrammar.proofs.Completeness.LookLemmas.{op_or_not}
 use Rattle.pygrammar.proofs.Soundness.Says.{Says, found, no_form, deep, Reads_as, SoundAt}

@@ -4,13 +4,13 @@
 -- Carries: read_or_not, enough, g_line, for Limit, SourceLaw, Total. On: Enough, Law, SoundLines.
 use Rattle.std.proofs.Common.{◌≡◌, ◌⊎◌, inl, inr, refl, sym, ap, subst, ◌∙◌, ℕ, zero, suc, ◌≤◌, ◌<◌, arith, List, [], ◌∷◌, ◌++◌, length, Option, Some, None, Bool, true, false}
 use Rattle.std.specs.Prelude.{leb}
-use Rattle.pylexeme.specs.declared.kinds.Exact.TheVariants as Sign
+use Rattle.pylex_lexeme.specs.declared.kinds.Exact.TheVariants as Sign
 use Rattle.pytoken.specs.declared.keywords.Keyword.TheVariants as Key
-use Rattle.pynode.specs.declared.profiles.Profile.{Profile}
+use Rattle.pytree_node.specs.declared.profiles.Profile.{Profile}
 use Rattle.pygrammar.specs.declared.levels.Level.{Level}
 use Rattle.pygrammar.specs.declared.levels.Level.TheVariants.{Value, Stars, Named, Expression}
-use Rattle.pynode.specs.Trees.{Expr, Identifier, TypeParam}
-use Rattle.pynode.specs.Trees as Trees
+use Rattle.pytree_node.specs.Trees.{Expr, Identifier, TypeParam}
+use Rattle.pytree_node.specs.Trees as Trees
 use Rattle.pytoken.specs.Terminals.{Terminal, Op, Word}
 use Rattle.pygrammar.specs.Looks.{is_op, is_word, name_in}
 use Rattle.pygrammar.specs.Entries.{Of, Argument, Parameter}

@@ -4,16 +4,16 @@
 -- Carries: brackets, for Limit.
 use Rattle.std.proofs.Common.{◌≡◌, ◌⊎◌, inl, inr, refl, sym, ap, subst, ◌∙◌, ℕ, zero, suc, ◌≤◌, arith, List, [], ◌∷◌, ◌++◌, length, Option, Some, None, Bool, true, false, cond, length-append}
 use Rattle.std.proofs.lemmas.Bool.{leb-true, le-leb}
-use Rattle.pylexeme.specs.declared.kinds.Exact.{Exact}
-use Rattle.pylexeme.specs.declared.kinds.Exact.TheVariants as Sign
+use Rattle.pylex_lexeme.specs.declared.kinds.Exact.{Exact}
+use Rattle.pylex_lexeme.specs.declared.kinds.Exact.TheVariants as Sign
 use Rattle.pytoken.specs.declared.keywords.Keyword.{Keyword}
 use Rattle.pytoken.specs.declared.keywords.Keyword.TheVariants as Key
-use Rattle.pynode.specs.declared.operators.Context.TheVariants.{Load}
+use Rattle.pytree_node.specs.declared.operators.Context.TheVariants.{Load}
 use Rattle.pygrammar.specs.declared.levels.Level.TheVariants.{Expression, Or, Primary, Elem}
-use Rattle.pynode.specs.Trees.{Expr, an_expr, comprehensions, Identifier, Item}
-use Rattle.pynode.specs.Trees as Trees
+use Rattle.pytree_node.specs.Trees.{Expr, an_expr, comprehensions, Identifier, Item}
+use Rattle.pytree_node.specs.Trees as Trees
 use Rattle.pytoken.specs.Terminals.{Spelled, Terminal, Op, Word, Ident}
-use Rattle.pyheight.specs.Heights.{height, item_heights}
+use Rattle.pytree_height.specs.Heights.{height, item_heights}
 use Rattle.pygrammar.specs.Looks.{is_op, is_word, name_in}
 use Rattle.pygrammar.specs.Entries.{Of, Entry, Single, singles}
 use Rattle.pygrammar.specs.Reader.{Answer, Found, NoForm, TooDeep, and_then, on_some, on_first, on_name_with, Reads, closed, listing_loop, piece, listing_of, comps_closed, unstarred, round, primary_loop, climb_loop, if_else_step, read}

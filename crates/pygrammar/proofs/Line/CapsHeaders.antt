@@ -3,15 +3,15 @@
 -- Carries: Brackets, item_height, over_item, c_header, for CapsBrackets, CapsLines.
 use Rattle.std.proofs.Common.{◌≡◌, inl, refl, ap, ◌∙◌, ℕ, suc, ◌≤◌, arith, List, [], ◌∷◌, length, Some, None, Bool, true, false}
 use Rattle.std.specs.Prelude.{max}
-use Rattle.pylexeme.specs.declared.kinds.Exact.TheVariants as Sign
+use Rattle.pylex_lexeme.specs.declared.kinds.Exact.TheVariants as Sign
 use Rattle.pytoken.specs.declared.keywords.Keyword.TheVariants as Key
-use Rattle.pynode.specs.declared.operators.Context.TheVariants.{Load}
-use Rattle.pynode.specs.declared.profiles.Profile.{Profile}
+use Rattle.pytree_node.specs.declared.operators.Context.TheVariants.{Load}
+use Rattle.pytree_node.specs.declared.profiles.Profile.{Profile}
 use Rattle.pygrammar.specs.declared.levels.Level.TheVariants.{Stars, Named, Expression}
-use Rattle.pynode.specs.Trees.{Expr, Exprs, no_exprs, an_expr, exprs, no_keyword, Identifier, Item, TypeParam}
-use Rattle.pynode.specs.Trees as Trees
+use Rattle.pytree_node.specs.Trees.{Expr, Exprs, no_exprs, an_expr, exprs, no_keyword, Identifier, Item, TypeParam}
+use Rattle.pytree_node.specs.Trees as Trees
 use Rattle.pytoken.specs.Terminals.{Terminal, Op, Word}
-use Rattle.pyheight.specs.Heights.{height, heights, option_height, item_heights, type_param_heights, keyword_heights}
+use Rattle.pytree_height.specs.Heights.{height, heights, option_height, item_heights, type_param_heights, keyword_heights}
 use Rattle.pygrammar.specs.Looks.{is_op, is_word, name_in}
 use Rattle.pygrammar.specs.Entries.{Of, Argument, Parameter, Entry}
 use Rattle.pygrammar.specs.Inner.EntryHeights.{entries_height}

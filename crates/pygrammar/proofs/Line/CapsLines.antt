@@ -2,11 +2,11 @@
 --
 -- Carries: c_line, for Limit.
 use Rattle.std.proofs.Common.{inl, refl, ℕ, suc, ◌≤◌, arith, List, [], ◌∷◌, length, Some}
-use Rattle.pylexeme.specs.declared.kinds.Exact.TheVariants as Sign
-use Rattle.pynode.specs.declared.profiles.Profile.{Profile}
+use Rattle.pylex_lexeme.specs.declared.kinds.Exact.TheVariants as Sign
+use Rattle.pytree_node.specs.declared.profiles.Profile.{Profile}
 use Rattle.pygrammar.specs.declared.levels.Level.TheVariants.{Named}
 use Rattle.pytoken.specs.Terminals.{Terminal}
-use Rattle.pyheight.specs.Heights.{height}
+use Rattle.pytree_height.specs.Heights.{height}
 use Rattle.pygrammar.specs.Looks.{is_op}
 use Rattle.pygrammar.specs.Reader.{Found, NoForm, Reads}
 use Rattle.pygrammar.specs.Lines.{Header, simple_form, decorator_form, header_form}

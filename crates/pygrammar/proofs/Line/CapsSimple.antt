@@ -3,16 +3,16 @@
 -- Carries: c_after, c_type_params, suite_height, c_statements, for CapsHeaders, CapsLines.
 use Rattle.std.proofs.Common.{inl, refl, ℕ, zero, suc, ◌≤◌, arith, List, [], ◌∷◌, ◌++◌, length, Some, Bool, true, false}
 use Rattle.std.specs.Prelude.{max}
-use Rattle.pylexeme.specs.declared.kinds.Exact.TheVariants as Sign
+use Rattle.pylex_lexeme.specs.declared.kinds.Exact.TheVariants as Sign
 use Rattle.pytoken.specs.declared.keywords.Keyword.TheVariants as Key
-use Rattle.pynode.specs.declared.operators.Context.TheVariants.{Store}
-use Rattle.pynode.specs.declared.profiles.Profile.{Profile}
+use Rattle.pytree_node.specs.declared.operators.Context.TheVariants.{Store}
+use Rattle.pytree_node.specs.declared.profiles.Profile.{Profile}
 use Rattle.pygrammar.specs.declared.levels.Level.{Level}
 use Rattle.pygrammar.specs.declared.levels.Level.TheVariants.{Value, Stars, Expression}
-use Rattle.pynode.specs.Trees.{Expr, Identifier, Stmt, stmts, TypeParam, TypeVar, Return, Delete, TypeAlias, AugAssign, AnnAssign, Raise, Assert}
-use Rattle.pynode.specs.Trees as Trees
+use Rattle.pytree_node.specs.Trees.{Expr, Identifier, Stmt, stmts, TypeParam, TypeVar, Return, Delete, TypeAlias, AugAssign, AnnAssign, Raise, Assert}
+use Rattle.pytree_node.specs.Trees as Trees
 use Rattle.pytoken.specs.Terminals.{Terminal, Op, Word}
-use Rattle.pyheight.specs.Heights.{height, option_height, list_height, type_param_height, type_param_heights, highest_in, highest_in_all}
+use Rattle.pytree_height.specs.Heights.{height, option_height, list_height, type_param_height, type_param_heights, highest_in, highest_in_all}
 use Rattle.pygrammar.specs.Looks.{is_op, name_in}
 use Rattle.pygrammar.specs.Entries.{Of}
 use Rattle.pygrammar.specs.Targets.{stored, deleted, single_stored}

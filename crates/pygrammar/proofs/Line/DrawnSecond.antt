@@ -2,16 +2,16 @@
 --
 -- Carries: no contract; its rows are computed as it is checked.
 use Rattle.std.proofs.Common.{◌≡◌, refl, [], ◌∷◌, Some, None, true, false}
-use Rattle.pylexeme.specs.declared.kinds.Exact.TheVariants as Sign
+use Rattle.pylex_lexeme.specs.declared.kinds.Exact.TheVariants as Sign
 use Rattle.pytoken.specs.declared.keywords.Keyword.TheVariants as Key
-use Rattle.pynode.specs.declared.operators.Comparison.TheVariants as Is
-use Rattle.pynode.specs.declared.operators.Context.TheVariants.{Load, Store}
-use Rattle.pynode.specs.declared.profiles.Profile.TheVariants.{Py311}
-use Rattle.pynode.specs.Trees as Trees
-use Rattle.pynode.specs.Values as Values
+use Rattle.pytree_node.specs.declared.operators.Comparison.TheVariants as Is
+use Rattle.pytree_node.specs.declared.operators.Context.TheVariants.{Load, Store}
+use Rattle.pytree_node.specs.declared.profiles.Profile.TheVariants.{Py311}
+use Rattle.pytree_node.specs.Trees as Trees
+use Rattle.pytree_node.specs.Values as Values
 use Rattle.pytoken.specs.Terminals.{Op, Word, in_form, Whole}
 use Rattle.pygrammar.specs.Reader.{Found, NoForm}
-use Rattle.pynode.specs.Trees.{Return, Assign, AnnAssign, Assert, ExprOf, Pass}
+use Rattle.pytree_node.specs.Trees.{Return, Assign, AnnAssign, Assert, ExprOf, Pass}
 use Rattle.pygrammar.specs.Lines.{simple_form, header_form, if_header, else_header, loop_header, with_header, try_header, def_header, for_head, function_head}
 use Rattle.pygrammar.specs.Forms.{item}
 use Rattle.pygrammar.specs.LineReader.{read_line}

@@ -1,7 +1,7 @@
 -- Carries: `line_limit_meets`. What each answer of the reader of a line within a height says.
 use Rattle.std.proofs.Common.{◌≡◌, ◌↔◌, inl, inr, sym, ap, subst, ◌∙◌, refl, ℕ, suc, ◌≤◌, ◌<◌, arith, List, [], ◌∷◌, length, Bool, true, false, cond, leb}
 use Rattle.std.proofs.lemmas.Bool.{leb-true, leb-false, le-leb}
-use Rattle.pynode.specs.declared.profiles.Profile.{Profile}
+use Rattle.pytree_node.specs.declared.profiles.Profile.{Profile}
 use Rattle.pytoken.specs.Terminals.{Terminal}
 use Rattle.pygrammar.specs.Reader.{Answer, Found, NoForm, TooDeep, read}
 use Rattle.pygrammar.specs.Capped.{capped}

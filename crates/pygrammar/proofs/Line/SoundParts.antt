@@ -7,11 +7,11 @@ use Rattle.std.proofs.lemmas.Bool.{leb-true}
 use Rattle.std.specs.Prelude.{leb}
 use Rattle.std.specs.Str.{bytes_eq}
 use Rattle.std.proofs.lemmas.Slice.Eq.{bytes_eq-Decides}
-use Rattle.pylexeme.specs.declared.kinds.Exact.{Exact}
+use Rattle.pylex_lexeme.specs.declared.kinds.Exact.{Exact}
 use Rattle.pytoken.specs.declared.keywords.Keyword.{Keyword}
-use Rattle.pylexeme.specs.declared.kinds.Exact.TheVariants as Sign
+use Rattle.pylex_lexeme.specs.declared.kinds.Exact.TheVariants as Sign
 use Rattle.pytoken.specs.declared.keywords.Keyword.TheVariants as Key
-use Rattle.pynode.specs.declared.profiles.Profile.{Profile}
+use Rattle.pytree_node.specs.declared.profiles.Profile.{Profile}
 use Rattle.pygrammar.specs.declared.levels.Level.{Level}
 use Rattle.pygrammar.specs.declared.levels.Level.TheVariants.{Expression}
 use Rattle.pytoken.specs.Terminals.{Spelled, Terminal, Op, Word, Ident, Whole, Literal, Layout}
@@ -21,7 +21,7 @@ use Rattle.pygrammar.specs.Precedence.{starts}
 use Rattle.pygrammar.proofs.Soundness.Says.{Says, found, no_form, says_then, says_first, says_op, says_word, says_name, says_cond, says_is, SoundAt}
 use Rattle.pygrammar.proofs.Soundness.Sound.{sound_read}
 use Rattle.pygrammar.proofs.Soundness.SoundLists.{says_if, says_closed}
-use Rattle.pynode.specs.Trees.{Alias, Identifier, TypeParam}
+use Rattle.pytree_node.specs.Trees.{Alias, Identifier, TypeParam}
 use Rattle.pygrammar.specs.Forms as F
 use Rattle.pygrammar.specs.Forms.{has_types, type_name, type_word}
 use Rattle.pygrammar.specs.LineReader.{is_type, on_type, starts_name, starts_type_param, always, commas, read_name, read_as, dotted, dotted_alias, name_alias, read_dots, read_names, import_from, plain, if_any, after, read_type_param, read_type_params}

@@ -3,9 +3,9 @@
 -- Carries: old_is_untyped, form_stays, for Answer, Block/Types, SourceLaw.
 use Rattle.std.proofs.Common.{◌≡◌, ◌↔◌, refl, ap, ◌∙◌, List, Bool, true, false}
 use Rattle.std.specs.Prelude.{not, ◌&&◌}
-use Rattle.pynode.specs.declared.profiles.Profile.{Profile}
-use Rattle.pynode.specs.declared.profiles.Profile.TheVariants.{Py311, Py312}
-use Rattle.pynode.specs.Trees.{Stmt, TypeParam}
+use Rattle.pytree_node.specs.declared.profiles.Profile.{Profile}
+use Rattle.pytree_node.specs.declared.profiles.Profile.TheVariants.{Py311, Py312}
+use Rattle.pytree_node.specs.Trees.{Stmt, TypeParam}
 use Rattle.pytoken.specs.Terminals.{Terminal}
 use Rattle.pygrammar.specs.Lines.{Form, Header, no_types, is_alias, untyped_statements, untyped_header, untyped}
 use Rattle.pygrammar.specs.Forms as F

@@ -2,12 +2,12 @@
 --
 -- Carries: type_params_goes, alias_goes, for Headers, Simple. On: Tools, Climb.
 use Rattle.std.proofs.Common.{◌≡◌, refl, ap, ◌∙◌, arith, List, [], ◌∷◌, ◌++◌, None, Bool, true, false, cond, append_assoc}
-use Rattle.pylexeme.specs.declared.kinds.Exact.TheVariants as Sign
-use Rattle.pynode.specs.declared.operators.Context.TheVariants.{Store}
-use Rattle.pynode.specs.declared.profiles.Profile.{Profile}
+use Rattle.pylex_lexeme.specs.declared.kinds.Exact.TheVariants as Sign
+use Rattle.pytree_node.specs.declared.operators.Context.TheVariants.{Store}
+use Rattle.pytree_node.specs.declared.profiles.Profile.{Profile}
 use Rattle.pygrammar.specs.declared.levels.Level.TheVariants.{Expression}
-use Rattle.pynode.specs.Trees.{Expr, Identifier, TypeParam, TypeAlias}
-use Rattle.pynode.specs.Trees as Trees
+use Rattle.pytree_node.specs.Trees.{Expr, Identifier, TypeParam, TypeAlias}
+use Rattle.pytree_node.specs.Trees as Trees
 use Rattle.pytoken.specs.Terminals.{Spelled, Terminal, Op, Ident}
 use Rattle.pygrammar.specs.Looks.{is_op}
 use Rattle.pygrammar.specs.Grammar as G

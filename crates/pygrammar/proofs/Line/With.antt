@@ -6,10 +6,10 @@
 use Rattle.std.proofs.Common.{◌≡◌, ◌⊎◌, inl, inr, refl, sym, ap, subst, ◌∙◌, ℕ, zero, suc, ◌≤◌, arith, List, [], ◌∷◌, ◌++◌, length, Option, Some, None, Bool, true, false, cond, append_assoc}
 use Rattle.std.proofs.lemmas.List.{append_cancel_right}
 use Rattle.std.specs.Prelude.{max}
-use Rattle.pylexeme.specs.declared.kinds.Exact.TheVariants as Sign
+use Rattle.pylex_lexeme.specs.declared.kinds.Exact.TheVariants as Sign
 use Rattle.pytoken.specs.declared.keywords.Keyword.TheVariants as Key
 use Rattle.pygrammar.specs.declared.levels.Level.TheVariants.{Expression, Atom, Primary, Or, Elem}
-use Rattle.pynode.specs.Trees.{Expr}
+use Rattle.pytree_node.specs.Trees.{Expr}
 use Rattle.pytoken.specs.Terminals.{Terminal, Op, Word}
 use Rattle.pygrammar.specs.Looks.{is_op, is_word}
 use Rattle.pygrammar.specs.Entries.{Of, Entry, Single}
@@ -22,7 +22,7 @@ use Rattle.pygrammar.proofs.Completeness.LevelLemmas.{led}
 use Rattle.pygrammar.proofs.Completeness.Complete.{goes, listing_all}
 use Rattle.pygrammar.proofs.Soundness.Says.{Says, found, no_form, deep, says_then, says_op, says_word, says_made, says_is, lower}
 use Rattle.pygrammar.proofs.Depths.Whole.{final, answered, says_found}
-use Rattle.pynode.specs.Trees as Trees
+use Rattle.pytree_node.specs.Trees as Trees
 use Rattle.pygrammar.specs.Lines.{with_header}
 use Rattle.pygrammar.specs.Forms as F
 use Rattle.pygrammar.specs.LineReader.{or_else, always, commas, commas_of, plain, item_target, read_item, bracketed, read_items, with_rest}

@@ -3,20 +3,20 @@
 -- Carries: Stands, operation_sound, infix_hit, climb_front and 1 more, for
 -- Room, Sound. On: Says, Climb.
 use Rattle.std.proofs.Common.{◌≡◌, ◌⊎◌, inl, inr, refl, sym, ap, subst, ◌∙◌, ℕ, zero, suc, ◌≤◌, ◌<◌, arith, List, [], ◌∷◌, ◌++◌, length, Option, Some, None, Bool, true, false, cond, append_assoc, length-append, leb}
-use Rattle.pylexeme.specs.declared.kinds.Exact.TheVariants.{LPar, Plus, Minus, Star, Slash, VBar, Amper, Less, Greater, Percent, EqEqual, NotEqual, LessEqual, GreaterEqual, Tilde, Circumflex, LeftShift, RightShift, DoubleStar, DoubleSlash, At}
+use Rattle.pylex_lexeme.specs.declared.kinds.Exact.TheVariants.{LPar, Plus, Minus, Star, Slash, VBar, Amper, Less, Greater, Percent, EqEqual, NotEqual, LessEqual, GreaterEqual, Tilde, Circumflex, LeftShift, RightShift, DoubleStar, DoubleSlash, At}
 use Rattle.pytoken.specs.declared.keywords.Keyword.TheVariants as Key
-use Rattle.pynode.specs.declared.operators.Operator.{Operator}
-use Rattle.pynode.specs.declared.operators.Operator.TheVariants as Bin
-use Rattle.pynode.specs.declared.operators.UnaryOperator.{UnaryOperator}
-use Rattle.pynode.specs.declared.operators.UnaryOperator.TheVariants as Un
-use Rattle.pynode.specs.declared.operators.BoolOperator.{BoolOperator}
-use Rattle.pynode.specs.declared.operators.BoolOperator.TheVariants as Join
-use Rattle.pynode.specs.declared.operators.Comparison.{Comparison}
-use Rattle.pynode.specs.declared.operators.Comparison.TheVariants as Is
+use Rattle.pytree_node.specs.declared.operators.Operator.{Operator}
+use Rattle.pytree_node.specs.declared.operators.Operator.TheVariants as Bin
+use Rattle.pytree_node.specs.declared.operators.UnaryOperator.{UnaryOperator}
+use Rattle.pytree_node.specs.declared.operators.UnaryOperator.TheVariants as Un
+use Rattle.pytree_node.specs.declared.operators.BoolOperator.{BoolOperator}
+use Rattle.pytree_node.specs.declared.operators.BoolOperator.TheVariants as Join
+use Rattle.pytree_node.specs.declared.operators.Comparison.{Comparison}
+use Rattle.pytree_node.specs.declared.operators.Comparison.TheVariants as Is
 use Rattle.pygrammar.specs.declared.levels.Level.{Level}
 use Rattle.pygrammar.specs.declared.levels.Level.TheVariants.{Or, And, Not, Compare, BitOr, BitXor, BitAnd, Shift, Sum, Term, Factor, Power, Await, Primary}
-use Rattle.pynode.specs.Trees
-use Rattle.pynode.specs.Trees.{Expr, exprs}
+use Rattle.pytree_node.specs.Trees
+use Rattle.pytree_node.specs.Trees.{Expr, exprs}
 use Rattle.pytoken.specs.Terminals.{Terminal, Op, Word}
 use Rattle.pygrammar.specs.Looks.{is_word}
 use Rattle.pygrammar.specs.Operators.{below, chain_level, chain_word, comparison, left_operator, prefix_operator}

@@ -3,18 +3,18 @@
 -- Carries: says_if, listing_of_sound, says_closed, says_name_with and 11 more, for Sound,
 -- SoundLines, SoundParts, SoundSimple. On: Says, LookLemmas.
 use Rattle.std.proofs.Common.{◌≡◌, ◌⊎◌, inl, inr, refl, sym, ap, subst, ◌∙◌, ℕ, zero, suc, ◌≤◌, arith, List, [], ◌∷◌, ◌++◌, length, Option, Some, None, Bool, true, false, cond, append_assoc, length-append}
-use Rattle.pylexeme.specs.declared.kinds.Exact.{Exact}
-use Rattle.pylexeme.specs.declared.kinds.Exact.TheVariants.{LPar, Colon, Comma, Star, Slash, Equal, DoubleStar, ColonEqual}
+use Rattle.pylex_lexeme.specs.declared.kinds.Exact.{Exact}
+use Rattle.pylex_lexeme.specs.declared.kinds.Exact.TheVariants.{LPar, Colon, Comma, Star, Slash, Equal, DoubleStar, ColonEqual}
 use Rattle.pytoken.specs.declared.keywords.Keyword.TheVariants as Key
-use Rattle.pynode.specs.declared.operators.Operator.{Operator}
-use Rattle.pynode.specs.declared.operators.UnaryOperator.{UnaryOperator}
-use Rattle.pynode.specs.declared.operators.BoolOperator.{BoolOperator}
-use Rattle.pynode.specs.declared.operators.BoolOperator.TheVariants as Join
-use Rattle.pynode.specs.declared.operators.Context.TheVariants.{Load}
+use Rattle.pytree_node.specs.declared.operators.Operator.{Operator}
+use Rattle.pytree_node.specs.declared.operators.UnaryOperator.{UnaryOperator}
+use Rattle.pytree_node.specs.declared.operators.BoolOperator.{BoolOperator}
+use Rattle.pytree_node.specs.declared.operators.BoolOperator.TheVariants as Join
+use Rattle.pytree_node.specs.declared.operators.Context.TheVariants.{Load}
 use Rattle.pygrammar.specs.declared.levels.Level.{Level}
 use Rattle.pygrammar.specs.declared.levels.Level.TheVariants.{Stars, StarItem, Named, Expression, Or, BitOr, Primary, Elem, Part, Slice}
-use Rattle.pynode.specs.Trees
-use Rattle.pynode.specs.Trees.{Expr, an_expr, OptionalExpr, arg, exprs, Comprehension}
+use Rattle.pytree_node.specs.Trees
+use Rattle.pytree_node.specs.Trees.{Expr, an_expr, OptionalExpr, arg, exprs, Comprehension}
 use Rattle.pytoken.specs.Terminals.{Spelled, Terminal, Op, Word, Ident, Whole, Literal, Layout}
 use Rattle.pygrammar.specs.Looks.{is_op, is_word}
 use Rattle.pygrammar.specs.Operators.{below, chain_level, left_operator, prefix_operator}

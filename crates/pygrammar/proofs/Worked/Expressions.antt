@@ -2,16 +2,16 @@
 --
 -- Carries: no contract; its rows are computed as it is checked.
 use Rattle.std.proofs.Common.{◌≡◌, refl, [], ◌∷◌, Some, None, true, false, Bool}
-use Rattle.pylexeme.specs.declared.kinds.Exact.TheVariants.{Amper, Circumflex, Colon, ColonEqual, Comma, Dot, DoubleStar, Ellipsis, EqEqual, Equal, LBrace, LeftShift, Less, LPar, LSqb, Minus, Plus, RBrace, RightShift, RPar, RSqb, Slash, Star, Tilde, VBar}
+use Rattle.pylex_lexeme.specs.declared.kinds.Exact.TheVariants.{Amper, Circumflex, Colon, ColonEqual, Comma, Dot, DoubleStar, Ellipsis, EqEqual, Equal, LBrace, LeftShift, Less, LPar, LSqb, Minus, Plus, RBrace, RightShift, RPar, RSqb, Slash, Star, Tilde, VBar}
 use Rattle.pytoken.specs.declared.keywords.Keyword.TheVariants as Key
-use Rattle.pynode.specs.declared.operators.Operator.TheVariants as Bin
-use Rattle.pynode.specs.declared.operators.UnaryOperator.TheVariants as Un
-use Rattle.pynode.specs.declared.operators.BoolOperator.TheVariants as Join
-use Rattle.pynode.specs.declared.operators.Comparison.TheVariants as Is
-use Rattle.pynode.specs.declared.operators.Context.TheVariants.{Load, Store}
+use Rattle.pytree_node.specs.declared.operators.Operator.TheVariants as Bin
+use Rattle.pytree_node.specs.declared.operators.UnaryOperator.TheVariants as Un
+use Rattle.pytree_node.specs.declared.operators.BoolOperator.TheVariants as Join
+use Rattle.pytree_node.specs.declared.operators.Comparison.TheVariants as Is
+use Rattle.pytree_node.specs.declared.operators.Context.TheVariants.{Load, Store}
 use Rattle.pygrammar.specs.declared.levels.Level.TheVariants.{Value}
-use Rattle.pynode.specs.Trees
-use Rattle.pynode.specs.Values
+use Rattle.pytree_node.specs.Trees
+use Rattle.pytree_node.specs.Values
 use Rattle.pytoken.specs.Terminals.{Op, Word, in_form, Whole, Literal}
 use Rattle.pygrammar.specs.Reader.{Answer, Found, NoForm, TooDeep, read}
 

@@ -2,11 +2,11 @@
 --
 -- Carries: no contract; its rows are computed as it is checked.
 use Rattle.std.proofs.Common.{◌≡◌, refl, ℕ, List, [], ◌∷◌, ◌++◌, zero, suc}
-use Rattle.pylexeme.specs.declared.kinds.Exact.TheVariants.{Plus, Minus, Star, Dot, LPar, RPar, LSqb, RSqb}
+use Rattle.pylex_lexeme.specs.declared.kinds.Exact.TheVariants.{Plus, Minus, Star, Dot, LPar, RPar, LSqb, RSqb}
 use Rattle.pygrammar.specs.declared.levels.Level.TheVariants.{Value}
-use Rattle.pynode.specs.Trees.{Expr}
+use Rattle.pytree_node.specs.Trees.{Expr}
 use Rattle.pytoken.specs.Terminals.{Terminal, Op, in_form}
-use Rattle.pyheight.specs.Heights.{height}
+use Rattle.pytree_height.specs.Heights.{height}
 use Rattle.pygrammar.specs.Reader.{Answer, Found, NoForm, TooDeep}
 use Rattle.pygrammar.specs.Capped.{limited, limit}
 

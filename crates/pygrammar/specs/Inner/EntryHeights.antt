@@ -1,6 +1,6 @@
 -- Heights of what stands between the commas of a list.
 use Rattle.std.specs.Prelude.{ℕ, suc, max, List, [], ◌∷◌}
-use Rattle.pyheight.specs.Heights.{height, arg_height, optional_height}
+use Rattle.pytree_height.specs.Heights.{height, arg_height, optional_height}
 use Rattle.pygrammar.specs.Entries.{Entry, Single, Paired, Spread, Doubled, Keyed, Plain, Slashed, Bare, Gathered, Collected}
 
 -- of what stands between the commas of a list

@@ -12,7 +12,7 @@ use Rattle.pylex.specs.declared.entries.ListingError.TheVariants as errors
 use Rattle.pylex.specs.declared.kind.Kind.TheVariants as kinds
 use Rattle.pylex.specs.Steps.{fault_at}
 use Rattle.pylex.specs.Machine.{State, layout_of, pushed, step_of, mark_at, dedents_at}
-use Rattle.pylexeme.proofs.Callers.Booleans.{bool_cases, and_parts}
+use Rattle.pylex_lexeme.proofs.Callers.Booleans.{bool_cases, and_parts}
 use Rattle.std.proofs.Math.Bool.{and-false}
 use Rattle.pysource.specs.declared.places.Place.{Place}
 use Rattle.pylex.specs.LineState.{IsAscending, is_above, is_level}

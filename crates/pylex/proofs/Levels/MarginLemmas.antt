@@ -2,7 +2,7 @@
 use Rattle.std.proofs.Common.{◌≡◌, ℕ, true, false, List, [], ◌∷◌, refl, sym, ap, ap₂, ◌∙◌}
 use Rattle.std.specs.Str.{chars}
 use Rattle.std.proofs.lemmas.List.Sums.{take_while-cons}
-use Rattle.pylexeme.specs.Chars.{is_blank_char}
+use Rattle.pylex_lexeme.specs.Chars.{is_blank_char}
 use Rattle.pylex.specs.Indentation.{column_after, width_from}
 use Rattle.pylex.specs.declared.margins.Widths.{Widths}
 use Rattle.pylex.specs.Margins.{column_by_one, width_by_one, blanks_of, widths_of}

@@ -8,7 +8,7 @@ use Rattle.std.proofs.lemmas.List.{append-nil}
 use Rattle.std.proofs.lemmas.List.Elements.{filter-append}
 use Rattle.pylex.specs.Indentation.{below, is_open, open_levels}
 use Rattle.pylex.specs.LineState.{IsAscending, is_above}
-use Rattle.pylexeme.proofs.Callers.Booleans.{bool_cases, and_parts}
+use Rattle.pylex_lexeme.proofs.Callers.Booleans.{bool_cases, and_parts}
 use Rattle.pylex.proofs.Levels.Layouts.{above-push, ascending-push}
 use Rattle.pylex.proofs.Levels.Tops.{above_more}
 

@@ -9,7 +9,7 @@ use Rattle.std.proofs.lemmas.List.{append-nil}
 use Rattle.std.proofs.lemmas.List.Elements.{filter-append}
 use Rattle.std.proofs.lemmas.Grind.{common_steps}
 use Rattle.pylex.specs.Indentation.{below, is_open, open_levels}
-use Rattle.pylexeme.proofs.Callers.Booleans.{bool_cases}
+use Rattle.pylex_lexeme.proofs.Callers.Booleans.{bool_cases}
 
 or_comes : (a b c : Bool) → a ≡ false → (a || (b || c)) ≡ (b || c)
 or_comes a b c e = rw e refl

@@ -6,7 +6,7 @@ use Rattle.std.specs.Prelude.{nat_lt}
 use Rattle.std.proofs.lemmas.Bool.Decides.{nat_tests}
 use Rattle.pylex.specs.declared.machine.Indentation.TheVariants as indentations
 use Rattle.pylex.specs.LineState.{IsAscending, IsTop, IsIndentation, is_above, is_level}
-use Rattle.pylexeme.proofs.Callers.Booleans.{and_parts}
+use Rattle.pylex_lexeme.proofs.Callers.Booleans.{and_parts}
 use Rattle.pylex.proofs.Levels.Layouts.{above-push, level-push, count-push, ascending_above, pushed_last, count_none}
 
 -- a list is empty, or has a last member

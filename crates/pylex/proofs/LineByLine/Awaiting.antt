@@ -22,8 +22,8 @@ use Rattle.pylex.specs.declared.line_lister.Found.{Found}
 use Rattle.pylex.specs.declared.line_state.LineState.{LineState}
 use Rattle.pylex.specs.declared.machine.Machine.{Machine}
 use Rattle.pylex.specs.declared.machine.Peeked.TheVariants as peeked
-use Rattle.pylexeme.specs.Cuts.{begins_significant}
-use Rattle.pylexeme.specs.Lexemes.{Lexeme, lexeme_at, lexeme_len, left_by_cut, is_open_string}
+use Rattle.pylex_lexeme.specs.Cuts.{begins_significant}
+use Rattle.pylex_lexeme.specs.Lexemes.{Lexeme, lexeme_at, lexeme_len, left_by_cut, is_open_string}
 use Rattle.pylex.specs.Machine.{State, after, entry_by}
 use Rattle.pylex.specs.LineState.{Walks, stays, silent, level, dedent, Comes, FaultAhead, GivesFault, mismatch, faulty, StopAhead, is_level, measured, with_levels}
 use Rattle.pylex.specs.Listing.{in_characters, listing, rest}

@@ -18,7 +18,7 @@ use Rattle.pylex.specs.declared.kind.Kind.TheVariants as kinds
 use Rattle.pylex.specs.declared.machine.Machine.{Machine}
 use Rattle.pylex.specs.Laws.{LiesIn}
 use Rattle.pylex.specs.Held.{IsJoined, at_left}
-use Rattle.pylexeme.specs.Lexemes.{left_by_cut}
+use Rattle.pylex_lexeme.specs.Lexemes.{left_by_cut}
 use Rattle.pylex.proofs.LineByLine.LexedOn.{left_all}
 use Rattle.pylex.specs.ListingLines.{text_of}
 use Rattle.pylex.proofs.LineByLine.Searching.{witness}

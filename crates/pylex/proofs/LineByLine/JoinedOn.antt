@@ -16,14 +16,14 @@ use Rattle.pysource.specs.Lines.{lines_of}
 use Rattle.pysource.specs.Limits.{source_limit}
 use Rattle.pysource.specs.declared.line_reader.Line.{Line}
 use Rattle.pysource.specs.declared.line_reader.Line.TheVariants as met
-use Rattle.pylexeme.specs.declared.string.OpenLiteral.{OpenLiteral}
+use Rattle.pylex_lexeme.specs.declared.string.OpenLiteral.{OpenLiteral}
 use Rattle.pylex.specs.declared.held_lines.HeldLines.{HeldLines}
-use Rattle.pylexeme.specs.Chars.{begins}
-use Rattle.pylexeme.specs.Strings.{quote_char}
-use Rattle.pylexeme.specs.Chunks.{EndsLine}
+use Rattle.pylex_lexeme.specs.Chars.{begins}
+use Rattle.pylex_lexeme.specs.Strings.{quote_char}
+use Rattle.pylex_lexeme.specs.Chunks.{EndsLine}
 use Rattle.pylex.specs.Inner.Chunked.{AddsLine, IsLineMore, HoldsOn}
-use Rattle.pylexeme.specs.Lexemes.{lexeme_at, left_by_cut, is_open_string}
-use Rattle.pylexeme.specs.OpenLiterals.{IsOpenBy}
+use Rattle.pylex_lexeme.specs.Lexemes.{lexeme_at, left_by_cut, is_open_string}
+use Rattle.pylex_lexeme.specs.OpenLiterals.{IsOpenBy}
 use Rattle.pylex.specs.Held.{AheadBut, IsJoined, LexedTo, at_left, IsAtStop, Holds, IsOpenAt, LinesBehind, Joins}
 use Rattle.pylex.proofs.LineByLine.HeldLinesLemmas.{line_some}
 use Rattle.pylex.proofs.LineByLine.Lined.{lined_chars, lined_or_last}

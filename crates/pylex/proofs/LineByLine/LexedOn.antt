@@ -14,17 +14,17 @@ use Rattle.pylex.specs.declared.entries.ListingFault.{ListingFault}
 use Rattle.pylex.specs.declared.machine.Peeked.{Peeked}
 use Rattle.pylex.specs.declared.machine.Peeked.TheVariants as peeked
 use Rattle.pylex.specs.declared.line_state.LineState.{LineState}
-use Rattle.pylexeme.specs.Chunks.{EndsLine}
-use Rattle.pylexeme.specs.Cuts.{begins_significant}
+use Rattle.pylex_lexeme.specs.Chunks.{EndsLine}
+use Rattle.pylex_lexeme.specs.Cuts.{begins_significant}
 use Rattle.pylex.specs.Laws.{AreLexemes}
-use Rattle.pylexeme.specs.Lexemes.{Lexeme, lexeme_at, lexeme_len, cut, left_by_cut, is_open_string}
+use Rattle.pylex_lexeme.specs.Lexemes.{Lexeme, lexeme_at, lexeme_len, cut, left_by_cut, is_open_string}
 use Rattle.pylex.specs.Machine.{State}
 use Rattle.pylex.specs.LineState.{Walks, stays, silent, level, dedent, Comes, GivesFault, mismatch, faulty, StopAhead, Peek}
 use Rattle.pylex.specs.Held.{IsJoined, LexedTo, at_left, past_lexeme}
 use Rattle.pylex.proofs.LineByLine.Carried.{drop_ends, drop_carried}
-use Rattle.pylexeme.proofs.Callers.WholeLines.{lexeme_kept}
+use Rattle.pylex_lexeme.proofs.Callers.WholeLines.{lexeme_kept}
 use Rattle.pylex.proofs.MachineLaws.Lexed.{cut_lexed, lexeme_front, lexeme_parts, lexeme_some}
-use Rattle.pylexeme.proofs.Callers.Booleans.{bool_cases}
+use Rattle.pylex_lexeme.proofs.Callers.Booleans.{bool_cases}
 use Rattle.pylex.proofs.LineByLine.Lined.{lined_chars, feed_behind, ends_on}
 use Rattle.pylex.proofs.MachineLaws.Steps.{left_step, left_stop}
 use Rattle.pylex.proofs.MachineLaws.Significant.{none_at_all}

@@ -8,9 +8,9 @@ use Rattle.std.proofs.lemmas.Str.{chars-nil}
 use Rattle.pysource.specs.Streams.{ends_line}
 use Rattle.pylex.specs.declared.entries.ListingFault.{ListingFault}
 use Rattle.pylex.specs.declared.line_state.LineState.{LineState}
-use Rattle.pylexeme.specs.Chunks.{EndsLine}
-use Rattle.pylexeme.specs.Cuts.{begins_significant}
-use Rattle.pylexeme.specs.Lexemes.{Lexeme, lexeme_at, is_open_string}
+use Rattle.pylex_lexeme.specs.Chunks.{EndsLine}
+use Rattle.pylex_lexeme.specs.Cuts.{begins_significant}
+use Rattle.pylex_lexeme.specs.Lexemes.{Lexeme, lexeme_at, is_open_string}
 use Rattle.pylex.specs.Listing.{stop_fault, up_to_end}
 use Rattle.pylex.specs.Listers.{Listed, Keeps}
 use Rattle.pylex.specs.Machine.{State, layout_of, remaining}
@@ -20,7 +20,7 @@ use Rattle.pylex.proofs.Listers.Measured.{stop_within}
 use Rattle.pylex.proofs.MachineLaws.Significant.{none_at_all}
 use Rattle.pylex.proofs.Listers.Finding.{walks_on}
 use Rattle.pylex.proofs.Listers.Looking.{walks_in}
-use Rattle.pylexeme.proofs.Callers.WholeLines.{lexeme_kept, significant_kept}
+use Rattle.pylex_lexeme.proofs.Callers.WholeLines.{lexeme_kept, significant_kept}
 use Rattle.pylex.proofs.LineByLine.Carried.{chars_lines}
 
 -- A lister that may go on over some bytes may go on over their front.

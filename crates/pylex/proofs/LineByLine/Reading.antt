@@ -20,7 +20,7 @@ use Rattle.pylex.specs.LineState.{Comes, HasRoom, StopAhead}
 use Rattle.pylex.specs.Streamed.{StreamsIn}
 use Rattle.pylex.specs.Inner.LineSteps.{streamed}
 use Rattle.pylex.specs.Held.{IsJoined, LexedTo}
-use Rattle.pylexeme.specs.Lexemes.{left_by_cut}
+use Rattle.pylex_lexeme.specs.Lexemes.{left_by_cut}
 use Rattle.pylex.proofs.LineByLine.LexedOn.{joined_behind, left_behind, left_all}
 use Rattle.pylex.proofs.LineByLine.Carried.{comes_carried}
 use Rattle.pylex.proofs.LineByLine.Lined.{keeps_on, lined_or_last, ends_on}

@@ -31,12 +31,12 @@ use Rattle.pylex.specs.LineState.{Stands, StopAhead, IsAscending, Behind}
 use Rattle.pylex.specs.Streamed.{Continues, StreamsIn}
 use Rattle.pylex.specs.Inner.LineSteps.{IsStreaming, IsWaiting, streamed, Looks, LooksAhead, PeekedIn, Searches, Lacks, lacks}
 use Rattle.pylex.specs.Held.{Ahead, AheadBut, IsAtStop}
-use Rattle.pylexeme.specs.Cuts.{begins_significant}
-use Rattle.pylexeme.specs.Lexemes.{is_open_string}
+use Rattle.pylex_lexeme.specs.Cuts.{begins_significant}
+use Rattle.pylex_lexeme.specs.Lexemes.{is_open_string}
 use Rattle.pylex.proofs.LineByLine.AheadOn.{ahead_but}
 use Rattle.pylex.proofs.LineByLine.Awaiting.{awaits_no_stop}
 use Rattle.pylex.proofs.LineByLine.LexedOn.{lexed_both, lexed_comes, stuck_finds}
-use Rattle.pylexeme.proofs.Callers.WholeLines.{significant_kept}
+use Rattle.pylex_lexeme.proofs.Callers.WholeLines.{significant_kept}
 use Rattle.pylex.proofs.LineByLine.Lined.{lined_or_last, stands_front, stop_back}
 use Rattle.pylex.proofs.LineByLine.Reading.{lined_left, no_text, only_line, reads_line, reads_none}
 

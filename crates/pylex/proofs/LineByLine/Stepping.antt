@@ -16,9 +16,9 @@ use Rattle.pylex.specs.declared.entries.Step.TheVariants as steps
 use Rattle.pylex.specs.declared.machine.Machine.{Machine}
 use Rattle.pylex.specs.declared.machine.Peeked.TheVariants as peeked
 use Rattle.pylex.specs.declared.line_lister.Found.{Found}
-use Rattle.pylexeme.specs.Chunks.{EndsLine}
+use Rattle.pylex_lexeme.specs.Chunks.{EndsLine}
 use Rattle.pylex.specs.Laws.{AllLie, StepLies}
-use Rattle.pylexeme.specs.Chars.{bytes_in}
+use Rattle.pylex_lexeme.specs.Chars.{bytes_in}
 use Rattle.pylex.specs.Listing.{in_characters, listing}
 use Rattle.pylex.specs.Listing.{rest as rest_of_listing}
 use Rattle.pylex.specs.Listers.{StandsIn, NextStep}
@@ -33,7 +33,7 @@ use Rattle.pylex.proofs.Listers.Moving.{awaits_indent}
 use Rattle.pylex.proofs.Listers.Ranges.{in_offset}
 use Rattle.pylex.proofs.LineByLine.Reading.{lined_left}
 use Rattle.pylex.proofs.LineByLine.Streaming.{Lined, utf8_after, finds_whole, end_whole, stands_whole}
-use Rattle.pylexeme.proofs.Callers.Fronts.{length-text}
+use Rattle.pylex_lexeme.proofs.Callers.Fronts.{length-text}
 use Rattle.pylex.proofs.Listing.Unencoded.{not_encoding}
 
 -- a step lies in the text with all of them

@@ -14,8 +14,8 @@ use Rattle.pysource.specs.declared.faults.LineFault.{LineFault}
 use Rattle.pylex.specs.declared.machine.Peeked.{Peeked}
 use Rattle.pylex.specs.declared.machine.Peeked.TheVariants as peeked
 use Rattle.pylex.specs.declared.line_state.LineState.{LineState}
-use Rattle.pylexeme.specs.Chunks.{EndsLine}
-use Rattle.pylexeme.specs.Lexemes.{is_open_string}
+use Rattle.pylex_lexeme.specs.Chunks.{EndsLine}
+use Rattle.pylex_lexeme.specs.Lexemes.{is_open_string}
 use Rattle.pylex.specs.Listing.{of_line}
 use Rattle.pylex.specs.Machine.{remaining}
 use Rattle.pylex.specs.LineState.{Peek, HasRoom, Stands, with_levels}

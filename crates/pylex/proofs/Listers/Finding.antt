@@ -5,7 +5,7 @@
 use Rattle.std.proofs.Common.{◌≡◌, ℕ, zero, suc, ◌+◌, ◌<◌, Bool, true, false, ◌&&◌, ◌||◌, ◌==◌, take, drop, List, [], ◌∷◌, ◌++◌, length, refl, ap, cond, replicate, inl, inr, ◌⊎◌, ◌∙◌, sym, append_assoc, subst, arith, Option, Some, None, ⊎_elim}
 use Rattle.std.specs.Str.{chars}
 use Rattle.std.specs.Prelude.{count_by, nat_lt}
-use Rattle.pylexeme.specs.declared.lexeme.Class.{Class}
+use Rattle.pylex_lexeme.specs.declared.lexeme.Class.{Class}
 use Rattle.pylex.specs.declared.entries.Emitted.TheVariants as gives
 use Rattle.pylex.specs.declared.entries.Entry.{Entry}
 use Rattle.pylex.specs.declared.entries.ListingFault.{ListingFault}
@@ -17,17 +17,17 @@ use Rattle.pylex.specs.declared.line_state.LineState.{LineState}
 use Rattle.pylex.specs.declared.machine.Indentation.TheVariants as indentations
 use Rattle.pylex.specs.declared.machine.Peeked.{Peeked}
 use Rattle.pylex.specs.declared.machine.Peeked.TheVariants as peeked
-use Rattle.pylexeme.specs.Lexemes.{Lexeme, lexeme_at, lexeme_len, is_significant_class, is_line_end_class, is_blanks_class}
-use Rattle.pylexeme.specs.declared.lexeme.Class.TheVariants.{Name, Number, String, Operator, Comment, Blanks, LineEnd, Join}
+use Rattle.pylex_lexeme.specs.Lexemes.{Lexeme, lexeme_at, lexeme_len, is_significant_class, is_line_end_class, is_blanks_class}
+use Rattle.pylex_lexeme.specs.declared.lexeme.Class.TheVariants.{Name, Number, String, Operator, Comment, Blanks, LineEnd, Join}
 use Rattle.pylex.specs.Lines.{is_significant}
-use Rattle.pylexeme.specs.Cuts.{Cuts, begins_significant}
+use Rattle.pylex_lexeme.specs.Cuts.{Cuts, begins_significant}
 use Rattle.pylex.specs.Machine.{State, after, gives, entry_by, layout_of, remaining, behind_steps, pushed, dedents_at, mark_at}
 use Rattle.pylex.specs.LineState.{with_levels, measured, given, Stands, HasRoom, Comes, Walks, stays, silent, level, dedent, EntryAhead, GivesFault, mismatch, faulty, FaultAhead, IndentAhead, DedentAhead, Peek, Settles, IsIndentation, is_level, Behind}
 use Rattle.std.proofs.lemmas.Bool.Decides.{nat_tests}
 use lib.Utf8.{encodes}
 use Rattle.std.specs.Str.{IsUtf8}
 use Rattle.std.proofs.lemmas.Str.{length-le-encodes, encodes-chars, encodes-append}
-use Rattle.pylexeme.proofs.Callers.Booleans.{bool_cases}
+use Rattle.pylex_lexeme.proofs.Callers.Booleans.{bool_cases}
 use Rattle.pylex.proofs.Listers.Measured.{lexeme_front, remaining_lexeme, measured_lexeme, measured_stop}
 use Rattle.pylex.proofs.Levels.Layouts.{layout_dedents, layout_mismatch, level_not_above, level-push, pushed_less, dedents-push}
 use Rattle.pylex.proofs.MachineLaws.Significant.{significant_at, plain_at}

@@ -19,7 +19,7 @@ use Rattle.pylex.specs.declared.kind.Kind.TheVariants as kinds
 use Rattle.pysource.specs.declared.places.Place.{Place}
 use Rattle.pylex.specs.declared.line_state.LineState.{LineState}
 use Rattle.pylex.specs.declared.leading_char.LeadingChar.TheVariants.{Nothing}
-use Rattle.pylexeme.specs.Lexemes.{cut, left_by_cut}
+use Rattle.pylex_lexeme.specs.Lexemes.{cut, left_by_cut}
 use Rattle.pylex.specs.Cursors.{CursorParts, has_no_text, given_last_first, with_text, lexemes_to, cursor_at, cursor}
 use Rattle.pylex.specs.Listing.{Source, in_characters, listing, rest, origin, last_line}
 use Rattle.pylex.specs.Steps.{entries_of, first_step, entries_in, IsIndent, mark}
@@ -32,7 +32,7 @@ use Rattle.pylex.specs.Listers.{Listed, StandsIn, NextStep, AwaitsIndent, Keeps,
 use Rattle.pylex.proofs.MachineLaws.Law.{state_of}
 use Rattle.pylex.proofs.Resumption.Ahead.{history_is, placed_first}
 use Rattle.pylex.proofs.Resumption.Resuming.{begun_state}
-use Rattle.pylexeme.proofs.Callers.Booleans.{bool_cases}
+use Rattle.pylex_lexeme.proofs.Callers.Booleans.{bool_cases}
 use Rattle.pylex.proofs.Listing.Ends.{is_whole}
 use Rattle.pylex.proofs.Levels.Layouts.{level-push, pushed_above, ascending-push, ascending-front}
 use Rattle.pylex.proofs.Listers.Finding.{walks_steps, walks_on, same_ahead, fault_step, dedent_step}

@@ -7,8 +7,8 @@ use Rattle.std.proofs.lemmas.Bool.Decides.{nat_tests}
 use Rattle.std.proofs.lemmas.Str.{encode_ascii, length-le-encodes}
 use Rattle.pysource.specs.Places.{place_after}
 use Rattle.pysource.specs.declared.places.Place.{Place}
-use Rattle.pylexeme.specs.declared.lexeme.Class.{Class}
-use Rattle.pylexeme.specs.declared.lexeme.Class.TheVariants.{Name, Number, String, Operator, Comment, Blanks, LineEnd, Join}
+use Rattle.pylex_lexeme.specs.declared.lexeme.Class.{Class}
+use Rattle.pylex_lexeme.specs.declared.lexeme.Class.TheVariants.{Name, Number, String, Operator, Comment, Blanks, LineEnd, Join}
 use Rattle.pylex.specs.declared.entries.Emitted.{Emitted}
 use Rattle.pylex.specs.declared.entries.Emitted.TheVariants as gives
 use Rattle.pylex.specs.declared.entries.Entry.{Entry}
@@ -18,17 +18,17 @@ use Rattle.pylex.specs.declared.kind.Kind.{Kind}
 use Rattle.pylex.specs.declared.kind.Kind.TheVariants as kinds
 use Rattle.pylex.specs.declared.point.Point.{Point}
 use Rattle.pylex.specs.declared.line_state.LineState.{LineState}
-use Rattle.pylexeme.specs.Chars.{is_blank_char}
-use Rattle.pylexeme.specs.Chunks.{EndsLine}
-use Rattle.pylexeme.specs.Operators.{is_closer}
-use Rattle.pylexeme.specs.Lexemes.{Lexeme, lexeme_at, lexeme_len, is_blanks_class}
+use Rattle.pylex_lexeme.specs.Chars.{is_blank_char}
+use Rattle.pylex_lexeme.specs.Chunks.{EndsLine}
+use Rattle.pylex_lexeme.specs.Operators.{is_closer}
+use Rattle.pylex_lexeme.specs.Lexemes.{Lexeme, lexeme_at, lexeme_len, is_blanks_class}
 use Rattle.pylex.specs.Lines.{is_of_blanks}
-use Rattle.pylexeme.specs.Chars.{bytes_in}
+use Rattle.pylex_lexeme.specs.Chars.{bytes_in}
 use Rattle.pylex.specs.Listing.{last_line, further}
 use Rattle.pylex.specs.Machine.{State, place_past, past, after, entry_by, ends_line, first_state, is_hash, last_line_end, mark_at, step_of}
 use Rattle.pylex.specs.LineState.{with_levels, measured, begun_anew, Walks, stays, silent, level, dedent, Comes, EntryAhead, given, GivesAt, IsMeasuring}
 use Rattle.pylex.specs.Listers.{IsIn}
-use Rattle.pylexeme.proofs.Callers.Booleans.{bool_cases, and_parts}
+use Rattle.pylex_lexeme.proofs.Callers.Booleans.{bool_cases, and_parts}
 use Rattle.pylex.proofs.MachineLaws.Law.{place_after-append, bytes_in-append}
 use Rattle.pylex.proofs.Resumption.Resumed.{column_is}
 use Rattle.pylex.proofs.MachineLaws.Significant.{blanks_text}

@@ -11,12 +11,12 @@ use Rattle.pylex.specs.declared.entries.ListingFault.{ListingFault}
 use Rattle.pylex.specs.declared.entries.ListingError.TheVariants as errors
 use Rattle.pylex.specs.declared.entries.Step.{Step}
 use Rattle.pylex.specs.declared.entries.Step.TheVariants as steps
-use Rattle.pylexeme.specs.Strings.{opens_string}
-use Rattle.pylexeme.specs.declared.lexeme.Class.{Class}
-use Rattle.pylexeme.specs.declared.lexeme.Class.TheVariants.{Name, Number, String, Operator, Comment, Blanks, LineEnd, Join}
-use Rattle.pylexeme.specs.Operators.{is_closer}
+use Rattle.pylex_lexeme.specs.Strings.{opens_string}
+use Rattle.pylex_lexeme.specs.declared.lexeme.Class.{Class}
+use Rattle.pylex_lexeme.specs.declared.lexeme.Class.TheVariants.{Name, Number, String, Operator, Comment, Blanks, LineEnd, Join}
+use Rattle.pylex_lexeme.specs.Operators.{is_closer}
 use Rattle.pylex.specs.Lines.{is_significant}
-use Rattle.pylexeme.specs.Lexemes.{Lexeme, cut, left_by_cut, is_open_string}
+use Rattle.pylex_lexeme.specs.Lexemes.{Lexeme, cut, left_by_cut, is_open_string}
 use Rattle.pylex.specs.Listing.{Source, origin, stop_fault, up_to_end}
 use Rattle.pylex.specs.Steps.{entries_of, mark, fault_at}
 use Rattle.pylex.specs.Machine.{State, layout_of, entry_by, gives, is_hash, dedents_at, last_place, last_line_end, tail_of, stop_of, after, run, remaining, first_state}

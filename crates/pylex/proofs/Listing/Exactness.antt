@@ -13,14 +13,14 @@ use Rattle.std.proofs.lemmas.Str.{encodes-append, chars_from_encodes, scalars-ch
 use Rattle.pysource.specs.Places.{place_after}
 use Rattle.pysource.specs.Parts.{Parts}
 use Rattle.pysource.specs.declared.places.Place.{Place}
-use Rattle.pylexeme.specs.declared.kinds.Exact.{Exact}
-use Rattle.pylexeme.specs.declared.lexeme.Class.{Class}
-use Rattle.pylexeme.specs.declared.lexeme.Class.TheVariants.{Name, Number, String, Operator, Comment, Blanks, LineEnd, Join}
-use Rattle.pylexeme.specs.Chars.{bytes_in}
-use Rattle.pylexeme.specs.Numbers.{is_number}
-use Rattle.pylexeme.specs.Strings.{opens_string, counts_as_string}
-use Rattle.pylexeme.specs.Operators.{is_closer, is_operator, exact_of}
-use Rattle.pylexeme.specs.Lexemes.{Lexeme, cut, left_by_cut, is_open_string, is_name, is_comment, are_blanks, is_line_end, is_join, plain_class, class_in}
+use Rattle.pylex_lexeme.specs.declared.kinds.Exact.{Exact}
+use Rattle.pylex_lexeme.specs.declared.lexeme.Class.{Class}
+use Rattle.pylex_lexeme.specs.declared.lexeme.Class.TheVariants.{Name, Number, String, Operator, Comment, Blanks, LineEnd, Join}
+use Rattle.pylex_lexeme.specs.Chars.{bytes_in}
+use Rattle.pylex_lexeme.specs.Numbers.{is_number}
+use Rattle.pylex_lexeme.specs.Strings.{opens_string, counts_as_string}
+use Rattle.pylex_lexeme.specs.Operators.{is_closer, is_operator, exact_of}
+use Rattle.pylex_lexeme.specs.Lexemes.{Lexeme, cut, left_by_cut, is_open_string, is_name, is_comment, are_blanks, is_line_end, is_join, plain_class, class_in}
 use Rattle.pylex.specs.declared.entries.ListingFault.{ListingFault}
 use Rattle.pylex.specs.declared.entries.ListingError.TheVariants as errors
 use Rattle.pylex.specs.declared.entries.Step.{Step}

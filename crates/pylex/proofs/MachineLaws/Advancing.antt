@@ -2,17 +2,17 @@
 --
 -- Carries: LineState::after, pass_blanks, pass_join, pass_line_end, pass_operator, pass_text.
 use Rattle.std.proofs.Common.{◌≡◌, ℕ, ◌+◌, ◌-◌, ◌*◌, ◌<◌, ◌≤◌, Bool, true, false, not, ◌&&◌, ◌||◌, ◌==◌, List, [], ◌∷◌, length, refl, ap, ◌∙◌, arith, cond, ⊎_elim}
-use Rattle.pylexeme.specs.declared.lexeme.Class.{Class}
-use Rattle.pylexeme.specs.declared.lexeme.Class.TheVariants.{Name, Number, String, Operator, Comment, Blanks, LineEnd, Join}
+use Rattle.pylex_lexeme.specs.declared.lexeme.Class.{Class}
+use Rattle.pylex_lexeme.specs.declared.lexeme.Class.TheVariants.{Name, Number, String, Operator, Comment, Blanks, LineEnd, Join}
 use Rattle.pysource.specs.declared.places.Place.{Place}
 use Rattle.pylex.specs.declared.point.Point.{Point}
 use Rattle.pylex.specs.declared.line_state.LineState.{LineState}
-use Rattle.pylexeme.specs.Lexemes.{Lexeme}
+use Rattle.pylex_lexeme.specs.Lexemes.{Lexeme}
 use Rattle.pylex.specs.Lines.{opens, closes, is_significant, is_of_blanks, is_of_line_end}
 use Rattle.pylex.specs.Indentation.{width_from}
-use Rattle.pylexeme.specs.Chars.{bytes_in}
+use Rattle.pylex_lexeme.specs.Chars.{bytes_in}
 use Rattle.pylex.specs.Machine.{place_past, front_after, after, past, count_if, still, is_of_join}
-use Rattle.pylexeme.proofs.Callers.Booleans.{bool_cases}
+use Rattle.pylex_lexeme.proofs.Callers.Booleans.{bool_cases}
 use Rattle.pylex.specs.LineState.{with_levels, HasRoom}
 
 abbrev pub ends : LineState → Lexeme → Bool

@@ -4,10 +4,10 @@
 use Rattle.std.proofs.Common.{◌≡◌, ℕ, ◌-◌, ◌<◌, zero, suc, List, [], ◌∷◌, length, take, refl, ap, ◌∙◌, sym, subst, arith, Option, Some, None}
 use Rattle.std.specs.Prelude.{option_map}
 use Rattle.std.proofs.lemmas.Str.{length-le-encodes}
-use Rattle.pylexeme.specs.declared.lexeme.Class.{Class}
-use Rattle.pylexeme.specs.Lexemes.{Lexeme, class_in, lexeme_len, lexeme_at, cut, cut_after, list_of}
-use Rattle.pylexeme.specs.Chars.{bytes_in}
-use Rattle.pylexeme.proofs.Callers.Lexemes.{class_none}
+use Rattle.pylex_lexeme.specs.declared.lexeme.Class.{Class}
+use Rattle.pylex_lexeme.specs.Lexemes.{Lexeme, class_in, lexeme_len, lexeme_at, cut, cut_after, list_of}
+use Rattle.pylex_lexeme.specs.Chars.{bytes_in}
+use Rattle.pylex_lexeme.proofs.Callers.Lexemes.{class_none}
 use Rattle.pylex.proofs.Resumption.Resume.{Full}
 
 text_is : (t : List ℕ) (o : Option Class) (x : Lexeme) → option_map (λ k. record { «class» = k; text = t }) o ≡ Some x → x.text ≡ t

@@ -5,12 +5,12 @@ use Rattle.std.proofs.Common.{◌≡◌, ℕ, Bool, true, false, not, ◌==◌, 
 use Rattle.std.specs.List.{take_while}
 use Rattle.std.proofs.lemmas.List.{append-nil, reverse-append}
 use Rattle.std.proofs.lemmas.List.Sums.{take_while-cons}
-use Rattle.pylexeme.specs.Chars.{is_blank_char}
+use Rattle.pylex_lexeme.specs.Chars.{is_blank_char}
 use Rattle.pylex.specs.Listing.{last_line, begins_comment}
 use Rattle.pylex.specs.Machine.{front_after_char, front_after, is_hash}
 use Rattle.pylex.specs.declared.leading_char.LeadingChar.{LeadingChar}
 use Rattle.pylex.specs.declared.leading_char.LeadingChar.TheVariants.{Nothing, Hash, Other}
-use Rattle.pylexeme.proofs.Callers.Booleans.{bool_cases}
+use Rattle.pylex_lexeme.proofs.Callers.Booleans.{bool_cases}
 
 pub last_push : (t : List ℕ) (c : ℕ) → last_line (t ++ c ∷ []) ≡ cond (c == 10) [] (last_line t ++ c ∷ [])
 unfolding last_line

@@ -5,13 +5,13 @@ use Rattle.std.proofs.Common.{◌≡◌, ℕ, ◌-◌, ◌≤◌, ◌<◌, zero,
 use Rattle.std.specs.Prelude.{option_map}
 use Rattle.std.specs.List.{flat_map}
 use Rattle.std.proofs.lemmas.List.{take-append-drop}
-use Rattle.pylexeme.specs.declared.lexeme.Class.{Class}
-use Rattle.pylexeme.specs.Lexemes.{Lexeme, class_in, longest_within, lexeme_len, lexeme_at, cut, cut_after, left_by_cut, list_of}
-use Rattle.pylexeme.specs.Chars.{bytes_in}
+use Rattle.pylex_lexeme.specs.declared.lexeme.Class.{Class}
+use Rattle.pylex_lexeme.specs.Lexemes.{Lexeme, class_in, longest_within, lexeme_len, lexeme_at, cut, cut_after, left_by_cut, list_of}
+use Rattle.pylex_lexeme.specs.Chars.{bytes_in}
 use Rattle.pylex.specs.Laws.{AreLexemes, IsCut, LongestWins}
-use Rattle.pylexeme.proofs.Callers.Booleans.{bool_cases}
+use Rattle.pylex_lexeme.proofs.Callers.Booleans.{bool_cases}
 use Rattle.pylex.proofs.MachineLaws.Full.{lexeme_full}
-use Rattle.pylexeme.proofs.Callers.Lexemes.{class_none}
+use Rattle.pylex_lexeme.proofs.Callers.Lexemes.{class_none}
 
 text_taken : (t : List ℕ) (o : Option Class) (x : Lexeme) → option_map (λ k. record { «class» = k; text = t }) o ≡ Some x → x.text ≡ t
 text_taken t None x e = cc

@@ -9,16 +9,16 @@ use Rattle.std.specs.Str.{bytes_eq}
 use Rattle.std.proofs.lemmas.List.{append-nil}
 use Rattle.std.proofs.lemmas.Slice.Eq.{bytes_eq-Decides}
 use Rattle.std.proofs.lemmas.Bool.Decides.{nat_tests}
-use Rattle.pylexeme.specs.declared.lexeme.Class.{Class}
-use Rattle.pylexeme.specs.declared.lexeme.Class.TheVariants.{Name, Number, String, Operator, Comment, Blanks, LineEnd, Join}
-use Rattle.pylexeme.specs.Chars.{is_comment_part}
-use Rattle.pylexeme.specs.Operators.{is_operator, exact_of}
-use Rattle.pylexeme.specs.declared.kinds.Exact.{Exact}
-use Rattle.pylexeme.specs.Numbers.{is_number}
-use Rattle.pylexeme.specs.Strings.{opens_string, counts_as_string}
-use Rattle.pylexeme.specs.Lexemes.{Lexeme, is_name, is_comment, are_blanks, is_line_end, is_join, plain_class, class_in, lexeme_at}
+use Rattle.pylex_lexeme.specs.declared.lexeme.Class.{Class}
+use Rattle.pylex_lexeme.specs.declared.lexeme.Class.TheVariants.{Name, Number, String, Operator, Comment, Blanks, LineEnd, Join}
+use Rattle.pylex_lexeme.specs.Chars.{is_comment_part}
+use Rattle.pylex_lexeme.specs.Operators.{is_operator, exact_of}
+use Rattle.pylex_lexeme.specs.declared.kinds.Exact.{Exact}
+use Rattle.pylex_lexeme.specs.Numbers.{is_number}
+use Rattle.pylex_lexeme.specs.Strings.{opens_string, counts_as_string}
+use Rattle.pylex_lexeme.specs.Lexemes.{Lexeme, is_name, is_comment, are_blanks, is_line_end, is_join, plain_class, class_in, lexeme_at}
 use Rattle.pylex.specs.Listing.{last_line}
-use Rattle.pylexeme.proofs.Callers.Booleans.{bool_cases}
+use Rattle.pylex_lexeme.proofs.Callers.Booleans.{bool_cases}
 use Rattle.pylex.proofs.MachineLaws.LeadingChar.{last_push}
 use Rattle.pylex.proofs.MachineLaws.Lexed.{lexeme_class}
 

@@ -4,21 +4,21 @@
 use Rattle.std.proofs.Common.{◌≡◌, ℕ, ◌+◌, Bool, true, false, ◌&&◌, ◌==◌, List, [], ◌∷◌, ◌++◌, refl, ap, ◌∙◌, sym, arith, cond, Option, Some, None, append_assoc, ⊎_elim}
 use Rattle.std.proofs.lemmas.List.{append-nil}
 use Rattle.pysource.specs.Places.{place_after}
-use Rattle.pylexeme.specs.declared.lexeme.Class.{Class}
-use Rattle.pylexeme.specs.declared.lexeme.Class.TheVariants.{Name, Number, String, Operator, Comment, Blanks, LineEnd, Join}
+use Rattle.pylex_lexeme.specs.declared.lexeme.Class.{Class}
+use Rattle.pylex_lexeme.specs.declared.lexeme.Class.TheVariants.{Name, Number, String, Operator, Comment, Blanks, LineEnd, Join}
 use Rattle.pylex.specs.declared.entries.ListingFault.{ListingFault}
 use Rattle.pylex.specs.declared.entries.ListingError.TheVariants as errors
 use Rattle.pylex.specs.declared.entries.Step.{Step}
 use Rattle.pylex.specs.declared.entries.Step.TheVariants as steps
-use Rattle.pylexeme.specs.Lexemes.{Lexeme, cut, left_by_cut}
+use Rattle.pylex_lexeme.specs.Lexemes.{Lexeme, cut, left_by_cut}
 use Rattle.pylex.specs.Lines.{text_before, depth, closes, line_so_far, before_line, is_of_line_end, is_at_margin, is_logical}
 use Rattle.pylex.specs.Steps.{mark}
-use Rattle.pylexeme.specs.Chars.{bytes_in}
+use Rattle.pylex_lexeme.specs.Chars.{bytes_in}
 use Rattle.pylex.specs.Indentation.{width_from, width_at, widths, open_levels, layout_by, layout}
 use Rattle.pylex.specs.Listing.{Source, entry_of, steps_of, line_end_of_last, end_place, tail, stop, steps_from, up_to_end, listing, origin}
 use Rattle.pylex.specs.declared.kind.Kind.TheVariants as kinds
 use Rattle.pylex.specs.Machine.{State, layout_of, entry_by, gives, last_line_end, tail_of, stop_of, run, remaining, after, behind_steps, first_state, still}
-use Rattle.pylexeme.proofs.Callers.Booleans.{bool_cases}
+use Rattle.pylex_lexeme.proofs.Callers.Booleans.{bool_cases}
 use Rattle.pylex.proofs.MachineLaws.Law.{state_of, state_push, IsBalanced, balanced_push, place_after-append, bytes_in-append}
 use Rattle.pylex.proofs.MachineLaws.LeadingChar.{hash_is}
 

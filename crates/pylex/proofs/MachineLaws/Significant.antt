@@ -7,18 +7,18 @@ use Rattle.std.specs.Prelude.{option_map}
 use Rattle.std.specs.List.{list_all}
 use Rattle.std.specs.Str.{bytes_eq}
 use Rattle.std.proofs.lemmas.Bool.{eqb-true}
-use Rattle.pylexeme.specs.declared.lexeme.Class.{Class}
-use Rattle.pylexeme.specs.declared.lexeme.Class.TheVariants.{Name, Number, Operator, Comment, Blanks, LineEnd, Join, String}
-use Rattle.pylexeme.specs.Chars.{is_comment_part, is_blank_char}
-use Rattle.pylexeme.specs.Strings.{opens_string, counts_as_string}
-use Rattle.pylexeme.specs.Lexemes.{longest_within, class_in, plain_class, lexeme_len, lexeme_at, Lexeme, is_name, is_comment, are_blanks, is_line_end, is_join}
-use Rattle.pylexeme.specs.Numbers.{is_number}
-use Rattle.pylexeme.specs.Operators.{is_operator, exact_of}
-use Rattle.pylexeme.specs.declared.kinds.Exact.{Exact}
+use Rattle.pylex_lexeme.specs.declared.lexeme.Class.{Class}
+use Rattle.pylex_lexeme.specs.declared.lexeme.Class.TheVariants.{Name, Number, Operator, Comment, Blanks, LineEnd, Join, String}
+use Rattle.pylex_lexeme.specs.Chars.{is_comment_part, is_blank_char}
+use Rattle.pylex_lexeme.specs.Strings.{opens_string, counts_as_string}
+use Rattle.pylex_lexeme.specs.Lexemes.{longest_within, class_in, plain_class, lexeme_len, lexeme_at, Lexeme, is_name, is_comment, are_blanks, is_line_end, is_join}
+use Rattle.pylex_lexeme.specs.Numbers.{is_number}
+use Rattle.pylex_lexeme.specs.Operators.{is_operator, exact_of}
+use Rattle.pylex_lexeme.specs.declared.kinds.Exact.{Exact}
 use Rattle.pylex.specs.Lines.{is_significant}
-use Rattle.pylexeme.specs.Cuts.{Takes, begins_significant, begins_line_end}
-use Rattle.pylexeme.proofs.Callers.Booleans.{and_parts, bool_cases, or_parts}
-use Rattle.pylexeme.proofs.Callers.Lexemes.{nothing_takes, comment_takes, blanks_take, feed_takes, both_take, no_end_front}
+use Rattle.pylex_lexeme.specs.Cuts.{Takes, begins_significant, begins_line_end}
+use Rattle.pylex_lexeme.proofs.Callers.Booleans.{and_parts, bool_cases, or_parts}
+use Rattle.pylex_lexeme.proofs.Callers.Lexemes.{nothing_takes, comment_takes, blanks_take, feed_takes, both_take, no_end_front}
 
 -- a lexeme by its class and its text
 record At (cs : List ℕ) (x : Lexeme) : Type 0 where

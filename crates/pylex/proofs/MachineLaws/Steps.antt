@@ -5,7 +5,7 @@
 use Rattle.std.proofs.Common.{◌≡◌, ℕ, ◌+◌, ◌-◌, ◌<◌, suc, List, [], ◌∷◌, ◌++◌, length, drop, refl, ap, arith, Option, Some, None, length-append}
 use Rattle.std.specs.List.{flat_map}
 use Rattle.pylex.specs.declared.entries.ListingFault.{ListingFault}
-use Rattle.pylexeme.specs.Lexemes.{Lexeme, lexeme_at, cut, cut_after, left_by_cut}
+use Rattle.pylex_lexeme.specs.Lexemes.{Lexeme, lexeme_at, cut, cut_after, left_by_cut}
 use Rattle.pylex.specs.Listing.{up_to_end}
 use Rattle.pylex.specs.Machine.{State, gives, after, run, remaining, stop_of, behind_steps}
 use Rattle.pylex.proofs.MachineLaws.Run.{up_to_end-append}

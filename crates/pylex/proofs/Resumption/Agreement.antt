@@ -5,10 +5,10 @@ use Rattle.std.proofs.Common.{◌≡◌, ℕ, suc, ◌+◌, ◌-◌, ◌≤◌, 
 use Rattle.std.specs.List.{take_while, prefix_len}
 use Rattle.std.proofs.lemmas.List.{append-nil, reverse-append, reverse-reverse}
 use Rattle.std.proofs.lemmas.List.Sums.{take_while-cons}
-use Rattle.pylexeme.specs.Chars.{bytes_in}
+use Rattle.pylex_lexeme.specs.Chars.{bytes_in}
 use Rattle.pylex.specs.Listing.{Source, last_line}
 use Rattle.pylex.specs.Standing.{front_to, back_from, line_begin, Agrees}
-use Rattle.pylexeme.proofs.Callers.Booleans.{bool_cases}
+use Rattle.pylex_lexeme.proofs.Callers.Booleans.{bool_cases}
 use Rattle.pylex.proofs.MachineLaws.Law.{bytes_in-append}
 use Rattle.pylex.proofs.Resumption.Resume.{goes_on, lines_before, last_split, front_in, front_zero, front_bytes, front_and_back, drop_of}
 

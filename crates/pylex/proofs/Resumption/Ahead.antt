@@ -5,20 +5,20 @@
 use Rattle.std.proofs.Common.{◌≡◌, ℕ, ◌-◌, Bool, true, false, not, ◌&&◌, ◌||◌, ◌==◌, cond, List, [], ◌∷◌, ◌++◌, length, drop, refl, ap, ◌∙◌, sym, subst, arith, Option, Some, append_assoc, ⊎_elim}
 use Rattle.std.proofs.lemmas.List.{append-nil}
 use Rattle.std.proofs.lemmas.Bool.Decides.{nat_tests}
-use Rattle.pylexeme.specs.declared.lexeme.Class.{Class}
-use Rattle.pylexeme.specs.declared.lexeme.Class.TheVariants.{Name, Number, String, Operator, Comment, Blanks, LineEnd, Join}
+use Rattle.pylex_lexeme.specs.declared.lexeme.Class.{Class}
+use Rattle.pylex_lexeme.specs.declared.lexeme.Class.TheVariants.{Name, Number, String, Operator, Comment, Blanks, LineEnd, Join}
 use Rattle.pylex.specs.declared.entries.ListingFault.{ListingFault}
 use Rattle.pylex.specs.declared.entries.Step.{Step}
-use Rattle.pylexeme.specs.Lexemes.{Lexeme, lexeme_at, cut, left_by_cut}
+use Rattle.pylex_lexeme.specs.Lexemes.{Lexeme, lexeme_at, cut, left_by_cut}
 use Rattle.pylex.specs.Lines.{text_before, depth, opens, closes, is_of_blanks, is_of_line_end, is_significant, line_so_far, is_at_margin, is_logical}
-use Rattle.pylexeme.specs.Chars.{bytes_in}
+use Rattle.pylex_lexeme.specs.Chars.{bytes_in}
 use Rattle.pylex.specs.Indentation.{width_at, widths, open_levels}
 use Rattle.pylex.specs.Listing.{Source, last_line, ends_in_join, up_to_end, stop_fault}
 use Rattle.pylex.specs.Cursors.{cursor_at, lexemes_to}
 use Rattle.pylex.specs.Machine.{State, pushed, after, is_of_join, layout_of, entry_by, gives, stop_of, run, remaining}
 use Rattle.pylex.specs.Standing.{front_to, back_from, resumed}
 use Rattle.pylex.specs.Laws.{AreLexemes}
-use Rattle.pylexeme.proofs.Callers.Booleans.{bool_cases}
+use Rattle.pylex_lexeme.proofs.Callers.Booleans.{bool_cases}
 use Rattle.pylex.proofs.Levels.Stack.{push}
 use Rattle.pylex.proofs.MachineLaws.Law.{state_of, point_after, margin_push, logical_push, count_cons}
 use Rattle.pylex.proofs.MachineLaws.Steps.{cut_step, cut_stop, left_step, left_stop}

@@ -8,26 +8,26 @@ use Rattle.std.specs.Prelude.{nat_lt}
 use Rattle.std.proofs.lemmas.List.{reverse-append, length-reverse, length-take-le}
 use Rattle.std.proofs.lemmas.Bool.Decides.{nat_tests}
 use Rattle.pysource.specs.declared.places.Place.{Place}
-use Rattle.pylexeme.specs.declared.lexeme.Class.{Class}
-use Rattle.pylexeme.specs.declared.lexeme.Class.TheVariants.{Name, Number, String, Operator, Comment, Blanks, LineEnd, Join}
+use Rattle.pylex_lexeme.specs.declared.lexeme.Class.{Class}
+use Rattle.pylex_lexeme.specs.declared.lexeme.Class.TheVariants.{Name, Number, String, Operator, Comment, Blanks, LineEnd, Join}
 use Rattle.pylex.specs.declared.kind.Kind.TheVariants as kinds
 use Rattle.pylex.specs.declared.entries.Entry.{Entry}
 use Rattle.pylex.specs.declared.entries.ListingFault.{ListingFault}
 use Rattle.pylex.specs.declared.entries.Step.{Step}
 use Rattle.pylex.specs.declared.entries.Step.TheVariants as steps
 use Rattle.pylex.specs.declared.point.Point.{Point}
-use Rattle.pylexeme.specs.Operators.{is_closer}
-use Rattle.pylexeme.specs.Cuts.{begins_significant}
-use Rattle.pylexeme.specs.Lexemes.{Lexeme, lexeme_at, cut, left_by_cut}
+use Rattle.pylex_lexeme.specs.Operators.{is_closer}
+use Rattle.pylex_lexeme.specs.Cuts.{begins_significant}
+use Rattle.pylex_lexeme.specs.Lexemes.{Lexeme, lexeme_at, cut, left_by_cut}
 use Rattle.pylex.specs.Lines.{text_before, depth, closes, is_of_blanks, is_of_line_end, is_significant, line_so_far, is_at_margin, is_logical}
-use Rattle.pylexeme.specs.Chars.{bytes_in}
+use Rattle.pylex_lexeme.specs.Chars.{bytes_in}
 use Rattle.pylex.specs.Listing.{Source, listing, last_line, up_to_end}
 use Rattle.pylex.specs.Steps.{entries_of}
 use Rattle.pylex.specs.Cursors.{given_last_first, has_no_text, is_encoding, is_indent, with_text, point, ends_in_indent, cursor_at}
 use Rattle.pylex.specs.Machine.{State, past, behind, after, ends_line, is_of_join, dedents_at, mark_at, line_end_kind_of, layout_of, entry_by, gives, is_hash, last_line_end, last_place, tail_of, stop_of, run, remaining, first_state}
 use Rattle.pylex.specs.LineState.{measured}
 use Rattle.pylex.specs.Standing.{resumed}
-use Rattle.pylexeme.proofs.Callers.Booleans.{bool_cases, and_parts}
+use Rattle.pylex_lexeme.proofs.Callers.Booleans.{bool_cases, and_parts}
 use Rattle.pylex.proofs.MachineLaws.Law.{state_of, state_push, point_after, IsBalanced, balanced_push, bytes_in-append}
 use Rattle.pylex.proofs.MachineLaws.Run.{listing_is}
 use Rattle.pylex.proofs.Listing.Ends.{stop_is_fault}

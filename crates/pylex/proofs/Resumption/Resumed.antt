@@ -7,7 +7,7 @@ use Rattle.std.specs.List.{take_while, prefix_len}
 use Rattle.std.proofs.lemmas.List.{reverse-reverse, length-reverse}
 use Rattle.std.proofs.lemmas.List.Sums.{take_while-cons}
 use Rattle.pysource.specs.Places.{place_after}
-use Rattle.pylexeme.specs.Lexemes.{Lexeme}
+use Rattle.pylex_lexeme.specs.Lexemes.{Lexeme}
 use Rattle.pylex.specs.Lines.{text_before, line_so_far, is_at_margin, is_logical}
 use Rattle.pylex.specs.Indentation.{width_from, width_at}
 use Rattle.pylex.specs.Listing.{last_line, ends_in_join}
@@ -15,7 +15,7 @@ use Rattle.pylex.specs.Cursors.{cursor_at}
 use Rattle.pylex.specs.Machine.{front_after}
 use Rattle.pylex.specs.declared.leading_char.LeadingChar.TheVariants.{Nothing}
 use Rattle.pylex.specs.Standing.{resumed}
-use Rattle.pylexeme.proofs.Callers.Booleans.{bool_cases}
+use Rattle.pylex_lexeme.proofs.Callers.Booleans.{bool_cases}
 use Rattle.pylex.proofs.MachineLaws.Law.{state_of, point_after}
 use Rattle.pylex.proofs.MachineLaws.LeadingChar.{last_front, front_in}
 use Rattle.pylex.proofs.Resumption.Resume.{begun_at}

@@ -15,8 +15,8 @@ use Rattle.pylex.specs.declared.line_state.LineState.{LineState}
 use Rattle.std.specs.Prelude.{slice_get}
 use Rattle.pylex.specs.declared.entries.Step.{Step}
 use Rattle.pylex.specs.declared.entries.Step.TheVariants as steps
-use Rattle.pylexeme.specs.Lexemes.{Lexeme, cut}
-use Rattle.pylexeme.specs.Chars.{bytes_in}
+use Rattle.pylex_lexeme.specs.Lexemes.{Lexeme, cut}
+use Rattle.pylex_lexeme.specs.Chars.{bytes_in}
 use Rattle.pylex.specs.Listing.{Source, in_characters, last_line, listing, rest}
 use Rattle.pylex.specs.Steps.{entries_of, first_step, entries_in}
 use Rattle.pylex.specs.Cursors.{CursorParts, has_no_text, lexemes_to, cursor_at, cursor}
@@ -24,12 +24,12 @@ use Rattle.pylex.specs.Machine.{State, front_after}
 use Rattle.pylex.specs.LineState.{with_levels, IsAscending, Walks, stays}
 use Rattle.pylex.specs.Standing.{resumed, standing_by, Agrees, IsCursorOf}
 use Rattle.pylex.specs.Listers.{Listed, StandsIn, LeadsInto, Keeps, IsIn, shown_by}
-use Rattle.pylexeme.proofs.Callers.Booleans.{bool_cases}
+use Rattle.pylex_lexeme.proofs.Callers.Booleans.{bool_cases}
 use Rattle.pylex.proofs.Resumption.Resume.{cursor_skips, cursor_moves, last_split, lines_before}
 use Rattle.pylex.proofs.Listers.Looking.{line_in, left_in}
 use Rattle.pylex.proofs.Resumption.Cursoring.{GivenNext, given_next, not_encoding, given_of, none_given, first_given, cursor_by, cursor_is, cursor_first, agrees_itself}
 use Rattle.pylex.proofs.Resumption.CursorBounds.{shown_fits}
-use Rattle.pylexeme.proofs.Callers.Fronts.{length-text}
+use Rattle.pylex_lexeme.proofs.Callers.Fronts.{length-text}
 use Rattle.pylex.proofs.Listers.Moving.{first_at, listing_length, cursor_opens, entry_due}
 use Rattle.pylex.proofs.Callers.{is_behind, is_own}
 

@@ -7,18 +7,18 @@ use Rattle.std.specs.Prelude.{nat_lt}
 use Rattle.std.proofs.lemmas.Bool.Decides.{nat_tests}
 use Rattle.std.proofs.Math.Bool.{and-false}
 use Rattle.pysource.specs.declared.places.Place.{Place}
-use Rattle.pylexeme.specs.declared.lexeme.Class.{Class}
-use Rattle.pylexeme.specs.declared.lexeme.Class.TheVariants.{Name, Number, String, Operator, Comment, Blanks, LineEnd, Join}
+use Rattle.pylex_lexeme.specs.declared.lexeme.Class.{Class}
+use Rattle.pylex_lexeme.specs.declared.lexeme.Class.TheVariants.{Name, Number, String, Operator, Comment, Blanks, LineEnd, Join}
 use Rattle.pylex.specs.declared.kind.Kind.TheVariants as kinds
 use Rattle.pylex.specs.declared.entries.Entry.{Entry}
 use Rattle.pylex.specs.declared.entries.ListingFault.{ListingFault}
 use Rattle.pylex.specs.declared.entries.Step.{Step}
 use Rattle.pylex.specs.declared.entries.Step.TheVariants as steps
-use Rattle.pylexeme.specs.Operators.{is_closer}
-use Rattle.pylexeme.specs.Lexemes.{Lexeme, cut, left_by_cut}
+use Rattle.pylex_lexeme.specs.Operators.{is_closer}
+use Rattle.pylex_lexeme.specs.Lexemes.{Lexeme, cut, left_by_cut}
 use Rattle.pylex.specs.Lines.{is_significant, is_of_blanks, is_of_line_end}
 use Rattle.pylex.specs.Indentation.{width_from}
-use Rattle.pylexeme.specs.Chars.{bytes_in}
+use Rattle.pylex_lexeme.specs.Chars.{bytes_in}
 use Rattle.pylex.specs.Listing.{Source, listing, rest, stop_fault, up_to_end}
 use Rattle.pylex.specs.Steps.{entries_of, first_step}
 use Rattle.pylex.specs.Cursors.{CursorParts, cursor_at, cursor, has_no_text}
@@ -26,7 +26,7 @@ use Rattle.pylex.specs.Machine.{State, past, pushed, after, ends_line, still, de
 use Rattle.pylex.specs.LineState.{IsAscending, is_above, is_level}
 use Rattle.pylex.specs.Standing.{standing, resumed}
 use Rattle.pylex.specs.Listers.{Listed, StandsIn}
-use Rattle.pylexeme.proofs.Callers.Booleans.{bool_cases, and_parts}
+use Rattle.pylex_lexeme.proofs.Callers.Booleans.{bool_cases, and_parts}
 use Rattle.pylex.proofs.Listing.Ends.{is_whole, stop_is_fault}
 use Rattle.pylex.proofs.Resumption.Resume.{Full, margin_goes, cursor_skips, cursor_moves}
 use Rattle.pylex.proofs.MachineLaws.Full.{cut_full}

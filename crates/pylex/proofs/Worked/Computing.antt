@@ -10,7 +10,7 @@ use Rattle.pylex.specs.Listing.{entry_of, steps_of, stop_fault, last_line, line_
 use Rattle.pylex.specs.Cursors.{given_last_first, with_text, cursor_at, cursor, cursor_text}
 use Rattle.pylex.specs.Machine.{layout_of, entry_by, gives, last_line_end, tail_of, stop_of, after, remaining}
 use Rattle.pylex.specs.Standing.{front_to, standing_by, resumed, to_give}
-use Rattle.pylexeme.proofs.Callers.Lexemes.{lexemes}
+use Rattle.pylex_lexeme.proofs.Callers.Lexemes.{lexemes}
 
 unfoldable pub listings : Unit {0}
 unfolding lexemes encode place_after depth line_so_far is_at_margin is_logical width_from width_at widths open_levels layout_by layout entry_of steps_of stop_fault last_line line_end_of_last end_place tail stop listing

@@ -11,8 +11,8 @@ use Rattle.pylex.specs.declared.entries.Step.{Step}
 use Rattle.pylex.specs.declared.entries.Step.TheVariants as steps
 use Rattle.pylex.specs.declared.entries.ListingError.TheVariants as errors
 use Rattle.pysource.specs.declared.faults.LineError.TheVariants as lines
-use Rattle.pylexeme.specs.declared.kinds.Exact.{Exact}
-use Rattle.pylexeme.specs.declared.kinds.Exact.TheVariants as exacts
+use Rattle.pylex_lexeme.specs.declared.kinds.Exact.{Exact}
+use Rattle.pylex_lexeme.specs.declared.kinds.Exact.TheVariants as exacts
 use Rattle.pylex.specs.Listing.{Source, listing, rest}
 use Rattle.pylex.specs.Cursors.{cursor, cursor_text}
 use Rattle.pylex.proofs.Worked.Computing.{listings, cursors, standings}

@@ -4,9 +4,9 @@
 use Rattle.std.proofs.Common.{◌≡◌, [], ◌∷◌, refl, true, false}
 use Rattle.std.specs.Prelude.{codes}
 use Rattle.std.specs.List.{list_all, list_any}
-use Rattle.pylexeme.specs.Numbers.{is_number, is_decimal, is_radix, is_float, is_imaginary, is_exponent, is_point_after, is_point_before, is_raised}
-use Rattle.pylexeme.specs.Strings.{is_string, is_prefix, is_single, is_triple, is_single_string, is_triple_string, opens_string, opens_triple}
-use Rattle.pylexeme.specs.Lexemes.{is_line_end, is_join, is_open_string}
+use Rattle.pylex_lexeme.specs.Numbers.{is_number, is_decimal, is_radix, is_float, is_imaginary, is_exponent, is_point_after, is_point_before, is_raised}
+use Rattle.pylex_lexeme.specs.Strings.{is_string, is_prefix, is_single, is_triple, is_single_string, is_triple_string, opens_string, opens_triple}
+use Rattle.pylex_lexeme.specs.Lexemes.{is_line_end, is_join, is_open_string}
 
 numbers : list_all is_number (
     codes "0" ∷ codes "00" ∷ codes "0_0" ∷ codes "7" ∷ codes "1_000" ∷

@@ -14,7 +14,7 @@ use Rattle.pysource.specs.declared.line_reader.Line.TheVariants as lines
 use Rattle.pylex.specs.declared.machine.Peeked.{Peeked}
 use Rattle.pylex.specs.declared.machine.Peeked.TheVariants as met
 use Rattle.pylex.specs.declared.line_lister.Found.{Found}
-use Rattle.pylexeme.specs.Lexemes.{is_open_string}
+use Rattle.pylex_lexeme.specs.Lexemes.{is_open_string}
 use Rattle.pylex.specs.LineState.{Peek, HasRoom, Stands, StopAhead}
 use Rattle.pysource.specs.declared.line_reader.StreamFault.TheVariants as faults
 use Rattle.pylex.specs.declared.entries.Entry.{Entry}

@@ -11,9 +11,9 @@ use Rattle.pylex.specs.declared.machine.Peeked.{Peeked}
 use Rattle.pylex.specs.declared.machine.Peeked.TheVariants as peeked
 use Rattle.pylex.specs.declared.machine.Machine.{Machine}
 use Rattle.pylex.specs.declared.line_state.LineState.{LineState}
-use Rattle.pylexeme.specs.Chunks.{EndsLine}
+use Rattle.pylex_lexeme.specs.Chunks.{EndsLine}
 use Rattle.pylex.specs.Cursors.{CursorParts}
-use Rattle.pylexeme.specs.Chars.{bytes_in}
+use Rattle.pylex_lexeme.specs.Chars.{bytes_in}
 use Rattle.pylex.specs.Listing.{of_line}
 use Rattle.pylex.specs.Listers.{Keeps, NextStep, shown_by}
 use Rattle.pylex.specs.Machine.{remaining}

@@ -1,6 +1,6 @@
 -- Text that moves its place by one column for each byte.
 use Rattle.std.specs.Prelude.{◌≡◌, ◌≢◌, ℕ, ◌<◌, List, EachIndex, slice_index}
-use Rattle.pylexeme.specs.Characters.{line_feed, space}
+use Rattle.pylex_lexeme.specs.Characters.{line_feed, space}
 
 -- in ASCII, and without LF
 abbrev pub IsPlain : List ℕ → Type 0

@@ -16,8 +16,8 @@ use Rattle.pytoken.specs.Terminals.{terminal_of}
 use Rattle.pytoken.specs.Tokens.{Token, Line, text_of, tokens_from, lines_from, lines}
 use Rattle.pytoken.specs.Refusals.{entry_refusal}
 use Rattle.pygrammar.specs.Refusals.{is_match}
-use Rattle.pyvalue.specs.Terminals.{terminal}
-use Rattle.pyvalue.specs.declared.terminals.Terminal.{Terminal}
+use Rattle.pytoken.specs.TerminalOf.{terminal}
+use Rattle.pytoken.specs.declared.values.terminals.Terminal.{Terminal}
 use Rattle.pyparse.specs.declared.line_gather.LineGather.{LineGather}
 use Rattle.pyparse.specs.LineReadings.{first_start, token_terminal, lines_within}
 use Rattle.pyparse.specs.Inner.Passing.{counted, Gains, Passed}

@@ -4,7 +4,7 @@ use Rattle.pysource.specs.declared.places.Place.{Place}
 use Rattle.pylex.specs.Listing.{Source, in_characters}
 use Rattle.pytoken.specs.Tokens.{lines}
 use Rattle.pytoken.specs.Refusals.{refusal}
-use Rattle.pyvalue.specs.Terminals.{terminal}
+use Rattle.pytoken.specs.TerminalOf.{terminal}
 use Rattle.pyparse.specs.declared.faults.ParseFault.{ParseFault}
 use Rattle.pyparse.specs.declared.logical_lines.LogicalLines.TheInside.{Inside}
 use Rattle.pyparse.specs.Answers.{Tells}

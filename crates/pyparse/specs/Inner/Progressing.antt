@@ -2,7 +2,7 @@
 use Rattle.std.specs.Prelude.{◌≡◌, ℕ, ◌+◌, Bool, true, false, List, [], ◌++◌, length, take, slice_get, Some, None}
 use Rattle.pysource.specs.declared.places.Place.{Place}
 use Rattle.pylex.specs.Listing.{Source}
-use Rattle.pynode.specs.declared.profiles.Profile.{Profile}
+use Rattle.pytree_node.specs.declared.profiles.Profile.{Profile}
 use Rattle.pytoken.specs.Tokens.{lines}
 use Rattle.pytoken.specs.Tokens as Tokens
 use Rattle.pytoken.specs.Refusals.{refusal}
@@ -10,13 +10,13 @@ use Rattle.pygrammar.specs.Lines.{Line}
 use Rattle.pygrammar.specs.Blocks.{Fault, FirstFault}
 use Rattle.pygrammar.specs.Reading.{Fine, run, start}
 use Rattle.pygrammar.specs.Refusals.{Indentation, StartsAt, HasForm, Formed, FirstUnread, FirstDeep}
-use Rattle.pyblock.specs.declared.blocks.Blocks.{Blocks}
-use Rattle.pyblock.specs.StateOf.{state_of}
-use Rattle.pyoutline.specs.declared.outlines.Outline.{Outline}
-use Rattle.pyoutline.specs.Outlines.{Follows}
-use Rattle.pyoutline.specs.declared.faults.Stop.{Stop}
-use Rattle.pyoutline.specs.declared.faults.Stop.TheVariants as variant
-use Rattle.pyoutline.specs.Faults.{fault_of}
+use Rattle.pyparse_block.specs.declared.blocks.Blocks.{Blocks}
+use Rattle.pyparse_block.specs.StateOf.{state_of}
+use Rattle.pyparse_block.specs.declared.outline.outlines.Outline.{Outline}
+use Rattle.pyparse_block.specs.Outlines.{Follows}
+use Rattle.pyparse_block.specs.declared.outline.faults.Stop.{Stop}
+use Rattle.pyparse_block.specs.declared.outline.faults.Stop.TheVariants as variant
+use Rattle.pyparse_block.specs.Faults.{fault_of}
 use Rattle.pyparse.specs.declared.faults.GrammarError.{GrammarError}
 use Rattle.pyparse.specs.declared.progress.Progress.{Progress}
 use Rattle.pyparse.specs.declared.progress.Progress.TheVariants.{Sound, Deep, Faulty, Unread}

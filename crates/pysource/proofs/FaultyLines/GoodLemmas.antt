@@ -1,6 +1,6 @@
 -- The text that is to come is UTF-8, and no longer than the bytes that it is read from.
 --
--- Carries: what pycommand, pylex cite. On: BadLemmas, LinesLemmas.
+-- Carries: what pyast_command, pylex cite. On: BadLemmas, LinesLemmas.
 use Rattle.std.proofs.Common.{◌≡◌, ℕ, ◌+◌, ◌≤◌, Bool, true, false, List, [], ◌∷◌, ◌++◌, length, get_or, None, Some, Option, refl, inl, inr, arith, zero-le, length-append}
 use Rattle.std.specs.Prelude.{IsUtf8, not}
 use Rattle.std.specs.List.{onto_first, sum_by}

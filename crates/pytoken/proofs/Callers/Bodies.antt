@@ -1,11 +1,11 @@
 -- On: what all characters of a literal are, those of its body are.
 --
--- Carries: what pyslots, pyvalue, pywritten cite.
+-- Carries: what pytree_fits, pytoken, pyunparse_text cite.
 use Rattle.std.proofs.Common.{◌≡◌, ℕ, zero, suc, ◌-◌, Bool, true, List, [], ◌∷◌, length, take, drop, refl, inl, inr}
 use Rattle.std.specs.Prelude.{filter, if◌then◌else◌}
 use Rattle.std.specs.List.{list_all}
 use Rattle.std.proofs.lemmas.Bool.{cases_Bool, and_from, and_parts}
-use Rattle.pylexeme.specs.Strings.{begins_three}
+use Rattle.pylex_lexeme.specs.Strings.{begins_three}
 use Rattle.pytoken.specs.StringValues.{prefix_len_of, without_last, body_of}
 
 all_drop : (p : ℕ → Bool) (n : ℕ) (xs : List ℕ) → list_all p xs ≡ true → list_all p (drop n xs) ≡ true

@@ -1,11 +1,11 @@
 use Rattle.std.proofs.Common.{◌≡◌, ◌+◌, ◌-◌, ◌*◌, max, true, false, map, drop}
-use Rattle.pylexeme.specs.declared.kinds.Exact.TheVariants.{Comma}
-use Rattle.pynode.specs.Trees.{args, comprehensions, exprs, keywords, optional, optional_arg, optionals}
-use Rattle.pynode.specs.TreeOf.{arg_of, arg_option_of, arguments_of, boxed_of, comprehension_of, keyword_of, option_of, tree_of}
+use Rattle.pylex_lexeme.specs.declared.kinds.Exact.TheVariants.{Comma}
+use Rattle.pytree_node.specs.Trees.{args, comprehensions, exprs, keywords, optional, optional_arg, optionals}
+use Rattle.pytree_node.specs.TreeOf.{arg_of, arg_option_of, arguments_of, boxed_of, comprehension_of, keyword_of, option_of, tree_of}
 use Rattle.pygrammar.specs.declared.levels.Level.TheVariants.{BitOr, Expression}
-use Rattle.pyheight.specs.Heights.{arg_height, arg_heights, arguments_height, comprehension_heights, height, heights, keyword_heights, optional_arg_height, optional_height, optional_heights}
-use Rattle.pywritten.specs.Pieces.{piece}
-use Rattle.pywritten.specs.Written.{behind_equal, beside, by_name, clauses, compared, conditions, defaults, each, names, pairs, trailing, written_keys}
+use Rattle.pytree_height.specs.Heights.{arg_height, arg_heights, arguments_height, comprehension_heights, height, heights, keyword_heights, optional_arg_height, optional_height, optional_heights}
+use Rattle.pyunparse_text.specs.Pieces.{piece}
+use Rattle.pyunparse_text.specs.Written.{behind_equal, beside, by_name, clauses, compared, conditions, defaults, each, names, pairs, trailing, written_keys}
 use Rattle.pyunparse.specs.Inner.Clauses.{clause_height}
 use Rattle.pyunparse.specs.Inner.Folds.{puts}
 use Rattle.pyunparse.specs.Inner.Members.{mark, members, padded}

@@ -1,14 +1,14 @@
 -- Carries: write_arguments. Arguments with commas between, or a generator that stands alone.
 use Rattle.std.proofs.Common.{◌≡◌, ◌∙◌, ℕ, ◌<◌, ◌==◌, Bool, true, false, if◌then◌else◌, List, [], ◌∷◌, ◌++◌, length, get_or, map, refl, ap, sym, arith}
 use Rattle.std.proofs.lemmas.Bool.{false≢true}
-use Rattle.pylexeme.specs.declared.kinds.Exact.TheVariants.{Comma}
-use Rattle.pynode.specs.declared.expressions.Expr as given
-use Rattle.pynode.specs.Trees.{Exprs, Keywords, an_expr, exprs, no_exprs}
-use Rattle.pynode.specs.TreeOf.{tree_of}
+use Rattle.pylex_lexeme.specs.declared.kinds.Exact.TheVariants.{Comma}
+use Rattle.pytree_node.specs.declared.expressions.Expr as given
+use Rattle.pytree_node.specs.Trees.{Exprs, Keywords, an_expr, exprs, no_exprs}
+use Rattle.pytree_node.specs.TreeOf.{tree_of}
 use Rattle.pygrammar.specs.declared.levels.Level.TheVariants.{Named}
-use Rattle.pyspacing.specs.Spacing.{Piece}
-use Rattle.pywritten.specs.Pieces.{piece}
-use Rattle.pywritten.specs.Written.{alone, by_name, each, listed, lone_generator, separated, trailing, written}
+use Rattle.pyunparse_text.specs.Spacing.{Piece}
+use Rattle.pyunparse_text.specs.Pieces.{piece}
+use Rattle.pyunparse_text.specs.Written.{alone, by_name, each, listed, lone_generator, separated, trailing, written}
 use Rattle.pyunparse.specs.Inner.Folds.{puts}
 use Rattle.pyunparse.specs.Inner.Members.{members}
 use Rattle.pyunparse.proofs.Sequences.AloneLemmas.{not_lone_generator, not_zero}

@@ -1,24 +1,24 @@
 -- Carries: the functions of the walk that have no loop. What is written for each class of
 -- expression, part by part.
 use Rattle.std.proofs.Common.{◌≡◌, ◌∙◌, Bool, true, false, if◌then◌else◌, List, [], ◌∷◌, ◌++◌, refl, ap, sym, append_assoc}
-use Rattle.pylexeme.specs.declared.kinds.Exact.{Exact}
-use Rattle.pylexeme.specs.declared.kinds.Exact.TheVariants.{LPar, RPar, LSqb, RSqb, LBrace, RBrace, Colon, Comma, Star, ColonEqual, Dot}
+use Rattle.pylex_lexeme.specs.declared.kinds.Exact.{Exact}
+use Rattle.pylex_lexeme.specs.declared.kinds.Exact.TheVariants.{LPar, RPar, LSqb, RSqb, LBrace, RBrace, Colon, Comma, Star, ColonEqual, Dot}
 use Rattle.pytoken.specs.declared.keywords.Keyword.TheVariants as Key
-use Rattle.pynode.specs.declared.operators.Operator.{Operator}
-use Rattle.pynode.specs.declared.operators.UnaryOperator.{UnaryOperator}
-use Rattle.pynode.specs.declared.operators.BoolOperator.{BoolOperator}
-use Rattle.pynode.specs.declared.operators.Comparison.{Comparison}
-use Rattle.pynode.specs.declared.operators.Context.{Context}
+use Rattle.pytree_node.specs.declared.operators.Operator.{Operator}
+use Rattle.pytree_node.specs.declared.operators.UnaryOperator.{UnaryOperator}
+use Rattle.pytree_node.specs.declared.operators.BoolOperator.{BoolOperator}
+use Rattle.pytree_node.specs.declared.operators.Comparison.{Comparison}
+use Rattle.pytree_node.specs.declared.operators.Context.{Context}
 use Rattle.pygrammar.specs.declared.levels.Level.{Level}
 use Rattle.pygrammar.specs.declared.levels.Level.TheVariants.{Value, Stars, Named, Expression, Or, Compare, BitOr, Await, Primary, Atom, Elem, Slices, Slice}
 use Rattle.pygrammar.specs.Operators.{below, chain_level, chain_word}
-use Rattle.pynode.specs.Trees
-use Rattle.pynode.specs.Trees.{Identifier, Expr, Exprs, OptionalExpr, Keywords, Comprehensions, Arguments}
-use Rattle.pyspacing.specs.Spacing.{Piece}
+use Rattle.pytree_node.specs.Trees
+use Rattle.pytree_node.specs.Trees.{Identifier, Expr, Exprs, OptionalExpr, Keywords, Comprehensions, Arguments}
+use Rattle.pyunparse_text.specs.Spacing.{Piece}
 use Rattle.pytoken.specs.Terminals.{Op, in_form}
-use Rattle.pywritten.specs.Levels.{reaches, operator_level, left_level, right_level, operator_sign, unary_level}
-use Rattle.pywritten.specs.Pieces.{piece, pieces}
-use Rattle.pywritten.specs.Written.{enclosed, fit, written, free, word, leading, trailing, tight, separated, listed, unary, compared, each, perhaps, suffixed, parameters, clauses, alone, by_name, lone_generator}
+use Rattle.pyunparse_text.specs.Levels.{reaches, operator_level, left_level, right_level, operator_sign, unary_level}
+use Rattle.pyunparse_text.specs.Pieces.{piece, pieces}
+use Rattle.pyunparse_text.specs.Written.{enclosed, fit, written, free, word, leading, trailing, tight, separated, listed, unary, compared, each, perhaps, suffixed, parameters, clauses, alone, by_name, lone_generator}
 use Rattle.pyunparse.specs.Inner.Folds.{puts, opened, closed}
 use Rattle.pyunparse.proofs.Sequences.FoldLemmas.{fits, five, four, six, three, two}
 

@@ -6,7 +6,7 @@ use Rattle.pygrammar.specs.declared.levels.Level.{Level}
 use Rattle.pygrammar.specs.declared.levels.Level.TheVariants.{Value, Stars, StarItem, Named, Elem, Slices, Part, Slice}
 use Rattle.pygrammar.specs.Operators.{below}
 use Rattle.pygrammar.specs.Precedence.{rank}
-use Rattle.pywritten.specs.Levels.{leads, reaches}
+use Rattle.pyunparse_text.specs.Levels.{leads, reaches}
 
 -- from `Expression` on inwards all levels are in one chain
 pub by_rank : (l k : Level) → 9 ≤ rank k → leb (rank l) (rank k) ≡ reaches l k

@@ -1,16 +1,16 @@
 -- Carries: write_pairs, write_clause, write_keyword_only. One pair of a dictionary, one clause,
 -- one parameter by name more.
 use Rattle.std.proofs.Common.{◌≡◌, ◌∙◌, Bool, true, false, List, [], ◌∷◌, ◌++◌, Option, None, Some, map, refl, ap, sym}
-use Rattle.pylexeme.specs.declared.kinds.Exact.TheVariants.{Comma, Equal}
+use Rattle.pylex_lexeme.specs.declared.kinds.Exact.TheVariants.{Comma, Equal}
 use Rattle.pytoken.specs.declared.keywords.Keyword.TheVariants as Key
-use Rattle.pynode.specs.declared.expressions.Expr as given
-use Rattle.pynode.specs.declared.expressions.Arg as given_arg
-use Rattle.pynode.specs.Trees.{Arg, Args, Identifier, Keyword, Keywords, a_keyword, an_arg, args, arg, Expr, Exprs, exprs, optional, optionals}
-use Rattle.pynode.specs.TreeOf.{arg_of, option_of, tree_of}
+use Rattle.pytree_node.specs.declared.expressions.Expr as given
+use Rattle.pytree_node.specs.declared.expressions.Arg as given_arg
+use Rattle.pytree_node.specs.Trees.{Arg, Args, Identifier, Keyword, Keywords, a_keyword, an_arg, args, arg, Expr, Exprs, exprs, optional, optionals}
+use Rattle.pytree_node.specs.TreeOf.{arg_of, option_of, tree_of}
 use Rattle.pygrammar.specs.declared.levels.Level.TheVariants.{Expression, Or, Stars}
-use Rattle.pyspacing.specs.Spacing.{Piece}
-use Rattle.pywritten.specs.Pieces.{piece, pieces}
-use Rattle.pywritten.specs.Written.{beside, by_name, conditions, defaults, for_in, names, pairs, suffixed, tight, word, written, written_keys}
+use Rattle.pyunparse_text.specs.Spacing.{Piece}
+use Rattle.pyunparse_text.specs.Pieces.{piece, pieces}
+use Rattle.pyunparse_text.specs.Written.{beside, by_name, conditions, defaults, for_in, names, pairs, suffixed, tight, word, written, written_keys}
 use Rattle.pyunparse.specs.Inner.Arguments.{argument, argument_name}
 use Rattle.pyunparse.specs.Inner.Folds.{puts}
 use Rattle.pyunparse.specs.Inner.Pairs.{pair}

@@ -1,15 +1,15 @@
 -- Carries: write_tuple. A tuple is its elements, with the comma behind one that stands alone, in
 -- brackets where these are needed.
 use Rattle.std.proofs.Common.{◌≡◌, ◌∙◌, Bool, true, false, not, ◌&&◌, List, [], ◌∷◌, ◌++◌, refl, ap, sym, append-nil, append_assoc}
-use Rattle.pylexeme.specs.declared.kinds.Exact.TheVariants.{Comma, RPar}
-use Rattle.pynode.specs.declared.operators.Context.{Context}
-use Rattle.pynode.specs.Trees
-use Rattle.pynode.specs.Trees.{Exprs, no_exprs, an_expr}
+use Rattle.pylex_lexeme.specs.declared.kinds.Exact.TheVariants.{Comma, RPar}
+use Rattle.pytree_node.specs.declared.operators.Context.{Context}
+use Rattle.pytree_node.specs.Trees
+use Rattle.pytree_node.specs.Trees.{Exprs, no_exprs, an_expr}
 use Rattle.pygrammar.specs.declared.levels.Level.{Level}
 use Rattle.pygrammar.specs.declared.levels.Level.TheVariants.{Elem, Part}
-use Rattle.pyspacing.specs.Spacing.{Piece}
-use Rattle.pywritten.specs.Pieces.{piece, pieces}
-use Rattle.pywritten.specs.Written.{each, element_level, lone_star, separated, some_named, trailing, tuple_of, written}
+use Rattle.pyunparse_text.specs.Spacing.{Piece}
+use Rattle.pyunparse_text.specs.Pieces.{piece, pieces}
+use Rattle.pyunparse_text.specs.Written.{each, element_level, lone_star, separated, some_named, trailing, tuple_of, written}
 use Rattle.pyunparse.specs.Inner.Elements.{are_bare, is_alone, is_elem, is_part, last}
 use Rattle.pyunparse.specs.Inner.Folds.{closed, opened, puts}
 use Rattle.pyunparse.proofs.Sequences.FoldLemmas.{four}

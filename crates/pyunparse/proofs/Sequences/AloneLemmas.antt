@@ -1,15 +1,15 @@
 -- Carries: lone_star, is_lone, write_arguments, write_alternative. A list of one.
 use Rattle.std.proofs.Common.{◌≡◌, ◌∙◌, zero, suc, ◌==◌, ℕ, Bool, true, false, not, ◌&&◌, Option, None, Some, List, [], ◌∷◌, length, get_or, map, refl, ap, sym, arith}
-use Rattle.pynode.specs.declared.expressions.Expr as given
-use Rattle.pynode.specs.declared.statements.Alias as given_alias
-use Rattle.pynode.specs.declared.expressions.Keyword as given_keyword
-use Rattle.pynode.specs.Trees as plain
-use Rattle.pynode.specs.Trees.{exprs}
-use Rattle.pynode.specs.TreeOf.{alias_of, keyword_of, tree_of}
+use Rattle.pytree_node.specs.declared.expressions.Expr as given
+use Rattle.pytree_node.specs.declared.statements.Alias as given_alias
+use Rattle.pytree_node.specs.declared.expressions.Keyword as given_keyword
+use Rattle.pytree_node.specs.Trees as plain
+use Rattle.pytree_node.specs.Trees.{exprs}
+use Rattle.pytree_node.specs.TreeOf.{alias_of, keyword_of, tree_of}
 use Rattle.std.specs.Prelude.{is_some}
 use Rattle.std.proofs.lemmas.Bool.{eqb-true, false≢true}
-use Rattle.pywritten.specs.Statements.{are_all, is_star}
-use Rattle.pywritten.specs.Written.{lone_generator, lone_star}
+use Rattle.pyunparse_text.specs.Statements.{are_all, is_star}
+use Rattle.pyunparse_text.specs.Written.{lone_generator, lone_star}
 use Rattle.pygrammar.specs.declared.levels.Level.{Level}
 use Rattle.pyunparse.specs.Inner.Elements.{are_bare, is_alone, is_elem, is_part}
 use Rattle.pyunparse.specs.Inner.Sorts.{is_generator}

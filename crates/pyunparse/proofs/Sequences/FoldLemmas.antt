@@ -2,12 +2,12 @@
 use Rattle.std.proofs.Common.{◌≡◌, Result, IfOk, Bool, true, false, if◌then◌else◌, List, [], ◌∷◌, ◌++◌, ◌∙◌, refl, ap, sym}
 use Rattle.std.proofs.lemmas.Result.{IfOk-equal}
 use Rattle.pygrammar.specs.declared.levels.Level.{Level}
-use Rattle.pyspacing.specs.Spacing.{Piece}
-use Rattle.pywritten.specs.Levels.{reaches}
-use Rattle.pywritten.specs.Pieces.{piece}
-use Rattle.pywritten.specs.Written.{bracketed, enclosed, fit, leading, trailing}
-use Rattle.pylexeme.specs.declared.kinds.Exact.{Exact}
-use Rattle.pylexeme.specs.declared.kinds.Exact.TheVariants.{LPar, RPar}
+use Rattle.pyunparse_text.specs.Spacing.{Piece}
+use Rattle.pyunparse_text.specs.Levels.{reaches}
+use Rattle.pyunparse_text.specs.Pieces.{piece}
+use Rattle.pyunparse_text.specs.Written.{bracketed, enclosed, fit, leading, trailing}
+use Rattle.pylex_lexeme.specs.declared.kinds.Exact.{Exact}
+use Rattle.pylex_lexeme.specs.declared.kinds.Exact.TheVariants.{LPar, RPar}
 use Rattle.pyunparse.specs.Inner.Folds.{in_utf8, puts, opened, closed}
 
 pub puts_append : {S : Type 0} (after : S → Piece → S) (s : S) (ps qs : List Piece) → puts after s (ps ++ qs) ≡ puts after (puts after s ps) qs

@@ -3,21 +3,21 @@
 use Rattle.std.proofs.Common.{◌≡◌, ◌∙◌, ℕ, ◌+◌, ◌≤◌, max, List, Option, map, Global, ap, sym, arith}
 use Rattle.std.specs.declared.boxed.Box.{Box}
 use Rattle.std.specs.declared.vec.Vec.{Vec}
-use Rattle.pynode.specs.declared.expressions.Arg.{Arg}
-use Rattle.pynode.specs.declared.expressions.Arg as given_arg
-use Rattle.pynode.specs.declared.expressions.Arguments.{Arguments}
-use Rattle.pynode.specs.declared.expressions.Arguments as given_arguments
-use Rattle.pynode.specs.declared.expressions.Comprehension.{Comprehension}
-use Rattle.pynode.specs.declared.expressions.Comprehension as given_comprehension
-use Rattle.pynode.specs.declared.expressions.Expr.{Expr}
-use Rattle.pynode.specs.declared.expressions.Expr.TheVariants as variant
-use Rattle.pynode.specs.declared.expressions.Keyword.{Keyword}
-use Rattle.pynode.specs.declared.expressions.Keyword as given_keyword
-use Rattle.pynode.specs.declared.operators.Comparison.{Comparison}
-use Rattle.pynode.specs.Trees.{args, comprehensions, exprs, keywords, optional, optional_arg, optionals}
-use Rattle.pynode.specs.TreeOf.{arg_of, arg_option_of, arguments_of, boxed_of, comprehension_of, keyword_of, option_of, tree_of}
-use Rattle.pynode.proofs.Callers.ExprShapes.{arg_tree, arguments_tree, call_tree, compare_tree, comprehension_tree, dict_comp_tree, generator_exp_tree, keyword_tree}
-use Rattle.pyheight.specs.Heights.{arg_height, arg_heights, arguments_height, comprehension_heights, height, heights, keyword_heights, optional_arg_height, optional_height, optional_heights}
+use Rattle.pytree_node.specs.declared.expressions.Arg.{Arg}
+use Rattle.pytree_node.specs.declared.expressions.Arg as given_arg
+use Rattle.pytree_node.specs.declared.expressions.Arguments.{Arguments}
+use Rattle.pytree_node.specs.declared.expressions.Arguments as given_arguments
+use Rattle.pytree_node.specs.declared.expressions.Comprehension.{Comprehension}
+use Rattle.pytree_node.specs.declared.expressions.Comprehension as given_comprehension
+use Rattle.pytree_node.specs.declared.expressions.Expr.{Expr}
+use Rattle.pytree_node.specs.declared.expressions.Expr.TheVariants as variant
+use Rattle.pytree_node.specs.declared.expressions.Keyword.{Keyword}
+use Rattle.pytree_node.specs.declared.expressions.Keyword as given_keyword
+use Rattle.pytree_node.specs.declared.operators.Comparison.{Comparison}
+use Rattle.pytree_node.specs.Trees.{args, comprehensions, exprs, keywords, optional, optional_arg, optionals}
+use Rattle.pytree_node.specs.TreeOf.{arg_of, arg_option_of, arguments_of, boxed_of, comprehension_of, keyword_of, option_of, tree_of}
+use Rattle.pytree_node.proofs.Callers.ExprShapes.{arg_tree, arguments_tree, call_tree, compare_tree, comprehension_tree, dict_comp_tree, generator_exp_tree, keyword_tree}
+use Rattle.pytree_height.specs.Heights.{arg_height, arg_heights, arguments_height, comprehension_heights, height, heights, keyword_heights, optional_arg_height, optional_height, optional_heights}
 use Rattle.pyunparse.specs.Inner.Clauses.{clause_height}
 
 -- ---- Classes of expressions.

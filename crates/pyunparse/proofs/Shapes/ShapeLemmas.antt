@@ -3,23 +3,23 @@
 use Rattle.std.proofs.Common.{◌≡◌, Bool, true, false, List, [], Option, Global, refl, sym, subst}
 use Rattle.std.specs.declared.vec.Vec.{Vec}
 use Rattle.std.specs.declared.boxed.Box.{Box}
-use Rattle.pynode.specs.declared.operators.Context.{Context}
-use Rattle.pynode.specs.declared.expressions.Expr as given
-use Rattle.pynode.specs.declared.expressions.Expr.{Expr}
-use Rattle.pynode.specs.declared.expressions.Expr.TheVariants as variant
-use Rattle.pynode.specs.declared.expressions.Expr.TheOpen as layer
-use Rattle.pynode.specs.declared.expressions.Arg.{Arg}
-use Rattle.pynode.specs.declared.expressions.Arguments.{Arguments}
-use Rattle.pynode.specs.declared.expressions.Comprehension.{Comprehension}
-use Rattle.pynode.specs.declared.expressions.Keyword.{Keyword}
-use Rattle.pynode.specs.Trees as plain
-use Rattle.pynode.specs.Trees.{Identifier}
-use Rattle.pynode.specs.TreeOf.{tree_of, arg_of, arguments_of, comprehension_of, keyword_of, expr_step, arg_step, arguments_step, comprehension_step, keyword_step}
+use Rattle.pytree_node.specs.declared.operators.Context.{Context}
+use Rattle.pytree_node.specs.declared.expressions.Expr as given
+use Rattle.pytree_node.specs.declared.expressions.Expr.{Expr}
+use Rattle.pytree_node.specs.declared.expressions.Expr.TheVariants as variant
+use Rattle.pytree_node.specs.declared.expressions.Expr.TheOpen as layer
+use Rattle.pytree_node.specs.declared.expressions.Arg.{Arg}
+use Rattle.pytree_node.specs.declared.expressions.Arguments.{Arguments}
+use Rattle.pytree_node.specs.declared.expressions.Comprehension.{Comprehension}
+use Rattle.pytree_node.specs.declared.expressions.Keyword.{Keyword}
+use Rattle.pytree_node.specs.Trees as plain
+use Rattle.pytree_node.specs.Trees.{Identifier}
+use Rattle.pytree_node.specs.TreeOf.{tree_of, arg_of, arguments_of, comprehension_of, keyword_of, expr_step, arg_step, arguments_step, comprehension_step, keyword_step}
 use Rattle.pygrammar.specs.declared.levels.Level.TheVariants.{Expression, Primary}
-use Rattle.pyspacing.specs.Spacing.{Piece}
-use Rattle.pywritten.specs.Pieces.{piece, pieces}
-use Rattle.pywritten.specs.Statements.{annotated, item_target, reads_as_items}
-use Rattle.pywritten.specs.Written.{alone, written}
+use Rattle.pyunparse_text.specs.Spacing.{Piece}
+use Rattle.pyunparse_text.specs.Pieces.{piece, pieces}
+use Rattle.pyunparse_text.specs.Statements.{annotated, item_target, reads_as_items}
+use Rattle.pyunparse_text.specs.Written.{alone, written}
 use Rattle.pyunparse.specs.Inner.Sorts.{is_generator}
 
 -- one node, whose children are nodes of the program

@@ -3,26 +3,26 @@
 use Rattle.std.proofs.Common.{◌≡◌, ◌∙◌, ℕ, Bool, true, false, List, [], ◌∷◌, length, get_or, map, Global, Option, refl, ap, sym, subst}
 use Rattle.std.specs.declared.vec.Vec.{Vec}
 use Rattle.std.specs.declared.boxed.Box.{Box}
-use Rattle.pynode.specs.declared.operators.Operator.{Operator}
-use Rattle.pynode.specs.declared.expressions.Arguments.{Arguments}
-use Rattle.pynode.specs.declared.expressions.Expr.{Expr}
-use Rattle.pynode.specs.declared.expressions.Keyword.{Keyword}
-use Rattle.pynode.specs.declared.statements.Alias.{Alias}
-use Rattle.pynode.specs.declared.statements.Item.{Item}
-use Rattle.pynode.specs.declared.statements.TypeParam.{TypeParam}
-use Rattle.pynode.specs.declared.statements.Handler.{Handler}
-use Rattle.pynode.specs.declared.statements.Stmt as given
-use Rattle.pynode.specs.declared.statements.Stmt.{Stmt}
-use Rattle.pynode.specs.declared.statements.Stmt.TheVariants as variant
-use Rattle.pynode.specs.declared.statements.Stmt.TheOpen as layer
-use Rattle.pynode.specs.Trees as plain
-use Rattle.pynode.specs.Trees.{Identifier}
-use Rattle.pynode.specs.TreeOf.{stmt_of, handler_of, stmt_step, handler_step}
+use Rattle.pytree_node.specs.declared.operators.Operator.{Operator}
+use Rattle.pytree_node.specs.declared.expressions.Arguments.{Arguments}
+use Rattle.pytree_node.specs.declared.expressions.Expr.{Expr}
+use Rattle.pytree_node.specs.declared.expressions.Keyword.{Keyword}
+use Rattle.pytree_node.specs.declared.statements.Alias.{Alias}
+use Rattle.pytree_node.specs.declared.statements.Item.{Item}
+use Rattle.pytree_node.specs.declared.statements.TypeParam.{TypeParam}
+use Rattle.pytree_node.specs.declared.statements.Handler.{Handler}
+use Rattle.pytree_node.specs.declared.statements.Stmt as given
+use Rattle.pytree_node.specs.declared.statements.Stmt.{Stmt}
+use Rattle.pytree_node.specs.declared.statements.Stmt.TheVariants as variant
+use Rattle.pytree_node.specs.declared.statements.Stmt.TheOpen as layer
+use Rattle.pytree_node.specs.Trees as plain
+use Rattle.pytree_node.specs.Trees.{Identifier}
+use Rattle.pytree_node.specs.TreeOf.{stmt_of, handler_of, stmt_step, handler_step}
 use Rattle.pygrammar.specs.Lines.{else_header}
-use Rattle.pyspacing.specs.Spacing.{Piece}
-use Rattle.pywritten.specs.Modules.{WrittenLine, alternative, clause, lines_of, statement_lines, written_line}
-use Rattle.pywritten.specs.Pieces.{piece}
-use Rattle.pywritten.specs.Statements.{simple_tokens}
+use Rattle.pyunparse_text.specs.Spacing.{Piece}
+use Rattle.pyunparse_text.specs.Modules.{WrittenLine, alternative, clause, lines_of, statement_lines, written_line}
+use Rattle.pyunparse_text.specs.Pieces.{piece}
+use Rattle.pyunparse_text.specs.Statements.{simple_tokens}
 use Rattle.pyunparse.specs.Inner.Lines.{elif_lines, is_if}
 use Rattle.pyunparse.proofs.Sequences.AloneLemmas.{one_item}
 

@@ -6,13 +6,13 @@ use Rattle.std.proofs.lemmas.List.{take_at, drop_at, get_or_at}
 use Rattle.std.proofs.lemmas.Str.{chars-append, chars_from_encodes, IsUtf8-take, IsUtf8-drop, IsCharBoundary-before_ascii, IsCharBoundary-after_ascii}
 use Rattle.std.proofs.lemmas.Str.Pattern.{IsSplitOnceResult, split_parts}
 use denote.Ref.{Bor}
-use Rattle.pylexeme.specs.declared.kinds.Exact.TheVariants.{Dot}
-use Rattle.pynode.specs.Trees.{Identifier}
-use Rattle.pyspacing.specs.Spacing.{Piece}
+use Rattle.pylex_lexeme.specs.declared.kinds.Exact.TheVariants.{Dot}
+use Rattle.pytree_node.specs.Trees.{Identifier}
+use Rattle.pyunparse_text.specs.Spacing.{Piece}
 use Rattle.pytoken.specs.Terminals.{in_form, Op}
-use Rattle.pywritten.specs.Pieces.{piece}
-use Rattle.pywritten.specs.Statements.{dotted, dotted_names, dotted_rest, longer, names_in}
-use Rattle.pywritten.specs.Written.{tight}
+use Rattle.pyunparse_text.specs.Pieces.{piece}
+use Rattle.pyunparse_text.specs.Statements.{dotted, dotted_names, dotted_rest, longer, names_in}
+use Rattle.pyunparse_text.specs.Written.{tight}
 use Rattle.pyunparse.specs.Inner.Folds.{in_utf8, puts}
 
 -- ---- The names of a text.

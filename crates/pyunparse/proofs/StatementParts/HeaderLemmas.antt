@@ -2,16 +2,16 @@
 -- behind the name of a function.
 use Rattle.std.proofs.Common.{◌≡◌, ◌∙◌, ◌==◌, Bool, true, false, ◌&&◌, List, [], ◌∷◌, ◌++◌, length, map, refl, ap, sym}
 use Rattle.std.proofs.lemmas.Bool.{false≢true}
-use Rattle.pylexeme.specs.declared.kinds.Exact.TheVariants.{Comma, LPar, RPar}
-use Rattle.pynode.specs.declared.expressions.Expr as given
-use Rattle.pynode.specs.declared.expressions.Keyword as given_keyword
-use Rattle.pynode.specs.Trees.{Keywords, exprs, keywords}
-use Rattle.pynode.specs.TreeOf.{keyword_of, tree_of}
+use Rattle.pylex_lexeme.specs.declared.kinds.Exact.TheVariants.{Comma, LPar, RPar}
+use Rattle.pytree_node.specs.declared.expressions.Expr as given
+use Rattle.pytree_node.specs.declared.expressions.Keyword as given_keyword
+use Rattle.pytree_node.specs.Trees.{Keywords, exprs, keywords}
+use Rattle.pytree_node.specs.TreeOf.{keyword_of, tree_of}
 use Rattle.pygrammar.specs.declared.levels.Level.TheVariants.{Named}
-use Rattle.pyspacing.specs.Spacing.{Piece}
-use Rattle.pywritten.specs.Pieces.{piece}
-use Rattle.pywritten.specs.Statements.{bases}
-use Rattle.pywritten.specs.Written.{by_name, each, enclosed, listed, tight, trailing, written}
+use Rattle.pyunparse_text.specs.Spacing.{Piece}
+use Rattle.pyunparse_text.specs.Pieces.{piece}
+use Rattle.pyunparse_text.specs.Statements.{bases}
+use Rattle.pyunparse_text.specs.Written.{by_name, each, enclosed, listed, tight, trailing, written}
 use Rattle.pyunparse.specs.Inner.Folds.{puts}
 use Rattle.pyunparse.specs.Inner.Members.{members}
 use Rattle.pyunparse.proofs.Sequences.AloneLemmas.{not_zero}

@@ -1,15 +1,15 @@
 -- Carries: write_points, write_import_from. The points of a relative import.
 use Rattle.std.proofs.Common.{◌≡◌, ◌∙◌, ℕ, zero, suc, ◌-◌, ◌<◌, ◌≤◌, nat_lt, Bool, true, false, Option, List, [], ◌∷◌, ◌++◌, refl, ap, sym, arith}
-use Rattle.pylexeme.specs.declared.kinds.Exact.{Exact}
-use Rattle.pylexeme.specs.declared.kinds.Exact.TheVariants.{Dot, Ellipsis}
+use Rattle.pylex_lexeme.specs.declared.kinds.Exact.{Exact}
+use Rattle.pylex_lexeme.specs.declared.kinds.Exact.TheVariants.{Dot, Ellipsis}
 use Rattle.std.proofs.lemmas.Bool.Decides.{nat_tests}
 use Rattle.pytoken.specs.declared.keywords.Keyword.TheVariants as Key
-use Rattle.pynode.specs.Trees as plain
-use Rattle.pyspacing.specs.Spacing.{Piece}
+use Rattle.pytree_node.specs.Trees as plain
+use Rattle.pyunparse_text.specs.Spacing.{Piece}
 use Rattle.pytoken.specs.Terminals.{Op}
-use Rattle.pywritten.specs.Pieces.{piece}
-use Rattle.pywritten.specs.Statements.{imported, module_name, point_signs, points, simple_tokens}
-use Rattle.pywritten.specs.Written.{word}
+use Rattle.pyunparse_text.specs.Pieces.{piece}
+use Rattle.pyunparse_text.specs.Statements.{imported, module_name, point_signs, points, simple_tokens}
+use Rattle.pyunparse_text.specs.Written.{word}
 use Rattle.pyunparse.specs.Inner.Folds.{puts}
 use Rattle.pyunparse.proofs.Sequences.FoldLemmas.{five}
 

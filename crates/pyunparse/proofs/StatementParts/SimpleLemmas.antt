@@ -4,29 +4,29 @@ use Rattle.std.proofs.Common.{◌≡◌, ◌∙◌, ℕ, Bool, false, List, [], 
 use Rattle.std.specs.Str.{chars}
 use Rattle.std.specs.declared.vec.Vec.{Vec}
 use Rattle.std.specs.declared.boxed.Box.{Box}
-use Rattle.pylexeme.specs.declared.kinds.Exact.{Exact}
-use Rattle.pylexeme.specs.declared.kinds.Exact.TheVariants.{Colon, Comma, Equal, LPar, RPar}
+use Rattle.pylex_lexeme.specs.declared.kinds.Exact.{Exact}
+use Rattle.pylex_lexeme.specs.declared.kinds.Exact.TheVariants.{Colon, Comma, Equal, LPar, RPar}
 use Rattle.pytoken.specs.declared.keywords.Keyword.TheVariants as Key
-use Rattle.pynode.specs.declared.operators.Context.{Context}
-use Rattle.pynode.specs.declared.operators.Operator.{Operator}
-use Rattle.pynode.specs.declared.expressions.Expr.{Expr}
-use Rattle.pynode.specs.declared.expressions.Expr.TheVariants as expression
-use Rattle.pynode.specs.declared.statements.Alias.{Alias}
-use Rattle.pynode.specs.declared.statements.Stmt.{Stmt}
-use Rattle.pynode.specs.declared.statements.Stmt.TheVariants as statement
-use Rattle.pynode.specs.declared.statements.TypeParam.{TypeParam}
-use Rattle.pynode.specs.Trees as plain
-use Rattle.pynode.specs.Trees.{Identifier, exprs}
-use Rattle.pynode.specs.TreeOf.{alias_of, boxed_of, option_of, stmt_of, tree_of, type_param_of}
-use Rattle.pynode.proofs.Callers.ExprShapes.{name_tree}
-use Rattle.pynode.proofs.Callers.StmtShapes.{ann_assign_tree, assert_tree, assign_tree, aug_assign_tree, break_tree, continue_tree, delete_tree, expr_stmt_tree, global_tree, import_from_tree, import_tree, nonlocal_tree, pass_tree, raise_tree, return_tree, type_alias_tree}
+use Rattle.pytree_node.specs.declared.operators.Context.{Context}
+use Rattle.pytree_node.specs.declared.operators.Operator.{Operator}
+use Rattle.pytree_node.specs.declared.expressions.Expr.{Expr}
+use Rattle.pytree_node.specs.declared.expressions.Expr.TheVariants as expression
+use Rattle.pytree_node.specs.declared.statements.Alias.{Alias}
+use Rattle.pytree_node.specs.declared.statements.Stmt.{Stmt}
+use Rattle.pytree_node.specs.declared.statements.Stmt.TheVariants as statement
+use Rattle.pytree_node.specs.declared.statements.TypeParam.{TypeParam}
+use Rattle.pytree_node.specs.Trees as plain
+use Rattle.pytree_node.specs.Trees.{Identifier, exprs}
+use Rattle.pytree_node.specs.TreeOf.{alias_of, boxed_of, option_of, stmt_of, tree_of, type_param_of}
+use Rattle.pytree_node.proofs.Callers.ExprShapes.{name_tree}
+use Rattle.pytree_node.proofs.Callers.StmtShapes.{ann_assign_tree, assert_tree, assign_tree, aug_assign_tree, break_tree, continue_tree, delete_tree, expr_stmt_tree, global_tree, import_from_tree, import_tree, nonlocal_tree, pass_tree, raise_tree, return_tree, type_alias_tree}
 use Rattle.pygrammar.specs.declared.levels.Level.TheVariants as Level
 use Rattle.pygrammar.specs.Forms.{type_name}
-use Rattle.pyspacing.specs.Spacing.{Piece}
+use Rattle.pyunparse_text.specs.Spacing.{Piece}
 use Rattle.pytoken.specs.Terminals.{in_form, Op}
-use Rattle.pywritten.specs.Pieces.{piece, pieces}
-use Rattle.pywritten.specs.Statements.{annotated, augmented_sign, behind, dotted_alias, one_name, perhaps_written, simple_tokens, targets, type_params}
-use Rattle.pywritten.specs.Written.{each, free, leading, listed, trailing, word}
+use Rattle.pyunparse_text.specs.Pieces.{piece, pieces}
+use Rattle.pyunparse_text.specs.Statements.{annotated, augmented_sign, behind, dotted_alias, one_name, perhaps_written, simple_tokens, targets, type_params}
+use Rattle.pyunparse_text.specs.Written.{each, free, leading, listed, trailing, word}
 use Rattle.pyunparse.specs.Inner.Folds.{puts}
 use Rattle.pyunparse.proofs.Sequences.FoldLemmas.{five, four, three, two}
 

@@ -1,18 +1,18 @@
 -- Carries: write_type_param, write_bound, write_type_params. The parameters of types, part by part.
 use Rattle.std.proofs.Common.{◌≡◌, ◌∙◌, ◌==◌, false, true, List, [], ◌∷◌, length, map, Option, refl, ap, sym}
 use Rattle.std.proofs.lemmas.Bool.{false≢true}
-use Rattle.pylexeme.specs.declared.kinds.Exact.TheVariants.{Colon, DoubleStar, LSqb, RSqb, Star}
-use Rattle.pynode.specs.declared.expressions.Expr.{Expr}
-use Rattle.pynode.specs.declared.statements.TypeParam.{TypeParam}
-use Rattle.pynode.specs.declared.statements.TypeParam.TheVariants as parameter
-use Rattle.pynode.specs.Trees.{Identifier}
-use Rattle.pynode.specs.TreeOf.{option_of, type_param_of}
+use Rattle.pylex_lexeme.specs.declared.kinds.Exact.TheVariants.{Colon, DoubleStar, LSqb, RSqb, Star}
+use Rattle.pytree_node.specs.declared.expressions.Expr.{Expr}
+use Rattle.pytree_node.specs.declared.statements.TypeParam.{TypeParam}
+use Rattle.pytree_node.specs.declared.statements.TypeParam.TheVariants as parameter
+use Rattle.pytree_node.specs.Trees.{Identifier}
+use Rattle.pytree_node.specs.TreeOf.{option_of, type_param_of}
 use Rattle.pygrammar.specs.declared.levels.Level.TheVariants.{Expression}
-use Rattle.pyspacing.specs.Spacing.{Piece}
+use Rattle.pyunparse_text.specs.Spacing.{Piece}
 use Rattle.pytoken.specs.Terminals.{in_form}
-use Rattle.pywritten.specs.Pieces.{piece}
-use Rattle.pywritten.specs.Statements.{behind, type_param, type_params}
-use Rattle.pywritten.specs.Written.{free, leading, listed, tight, trailing}
+use Rattle.pyunparse_text.specs.Pieces.{piece}
+use Rattle.pyunparse_text.specs.Statements.{behind, type_param, type_params}
+use Rattle.pyunparse_text.specs.Written.{free, leading, listed, tight, trailing}
 use Rattle.pyunparse.specs.Inner.Folds.{puts}
 use Rattle.pyunparse.proofs.Sequences.AloneLemmas.{not_zero}
 use Rattle.pyunparse.proofs.Sequences.FoldLemmas.{enclosed_on, two}

@@ -2,19 +2,19 @@
 use Rattle.std.proofs.Common.{◌≡◌, ◌∙◌, ◌==◌, Bool, true, false, not, ◌&&◌, if◌then◌else◌, List, [], ◌∷◌, ◌++◌, Option, None, Some, length, get_or, map, refl, ap, sym, append-nil, append_assoc}
 use Rattle.std.specs.Prelude.{is_some}
 use Rattle.std.proofs.lemmas.Bool.{false≢true}
-use Rattle.pylexeme.specs.declared.kinds.Exact.TheVariants.{Colon}
+use Rattle.pylex_lexeme.specs.declared.kinds.Exact.TheVariants.{Colon}
 use Rattle.pytoken.specs.declared.keywords.Keyword.TheVariants as Key
 use Rattle.pygrammar.specs.Lines.{with_header}
-use Rattle.pynode.specs.declared.operators.Context.{Context}
-use Rattle.pynode.specs.declared.expressions.Expr as given
-use Rattle.pynode.specs.declared.statements.Item as given_item
-use Rattle.pynode.specs.Trees as plain
-use Rattle.pynode.specs.Trees.{exprs}
-use Rattle.pynode.specs.TreeOf.{item_of, option_of, tree_of}
-use Rattle.pyspacing.specs.Spacing.{Piece}
-use Rattle.pywritten.specs.Pieces.{piece}
-use Rattle.pywritten.specs.Statements.{are_plain, async, item, items, need_brackets, reads_as_items}
-use Rattle.pywritten.specs.Written.{bracketed, listed, trailing, word}
+use Rattle.pytree_node.specs.declared.operators.Context.{Context}
+use Rattle.pytree_node.specs.declared.expressions.Expr as given
+use Rattle.pytree_node.specs.declared.statements.Item as given_item
+use Rattle.pytree_node.specs.Trees as plain
+use Rattle.pytree_node.specs.Trees.{exprs}
+use Rattle.pytree_node.specs.TreeOf.{item_of, option_of, tree_of}
+use Rattle.pyunparse_text.specs.Spacing.{Piece}
+use Rattle.pyunparse_text.specs.Pieces.{piece}
+use Rattle.pyunparse_text.specs.Statements.{are_plain, async, item, items, need_brackets, reads_as_items}
+use Rattle.pyunparse_text.specs.Written.{bracketed, listed, trailing, word}
 use Rattle.pyunparse.specs.Inner.Folds.{closed, opened, puts}
 use Rattle.pyunparse.specs.Inner.Lines.{with_colon}
 use Rattle.pyunparse.proofs.Sequences.FoldLemmas.{six}

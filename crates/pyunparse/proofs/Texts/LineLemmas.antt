@@ -3,14 +3,14 @@ use Rattle.std.proofs.Common.{◌≡◌, ◌∙◌, ℕ, zero, suc, ◌+◌, ◌
 use Rattle.std.specs.Str.{encode_utf8_all}
 use Rattle.std.proofs.lemmas.Str.{encodes-append}
 use Rattle.std.proofs.lemmas.Bool.{false≢true}
-use Rattle.pynode.specs.declared.statements.Stmt as given_stmt
-use Rattle.pynode.specs.Trees
-use Rattle.pynode.specs.Trees.{Arguments, Expr, Identifier, Keywords, Stmts, TypeParam, stmts}
-use Rattle.pynode.specs.TreeOf.{stmt_of}
+use Rattle.pytree_node.specs.declared.statements.Stmt as given_stmt
+use Rattle.pytree_node.specs.Trees
+use Rattle.pytree_node.specs.Trees.{Arguments, Expr, Identifier, Keywords, Stmts, TypeParam, stmts}
+use Rattle.pytree_node.specs.TreeOf.{stmt_of}
 use Rattle.pygrammar.specs.Lines.{Header, class_head, else_header, function_head, if_header, loop_header, while_head}
-use Rattle.pyspacing.specs.Spacing.{Piece, line_text, lines_text, spaced}
-use Rattle.pywritten.specs.Modules.{WrittenLine, alternative, clause, decorators, header, line_of, lines_of, statement_lines, written_line}
-use Rattle.pywritten.specs.Pieces.{piece}
+use Rattle.pyunparse_text.specs.Spacing.{Piece, line_text, lines_text, spaced}
+use Rattle.pyunparse_text.specs.Modules.{WrittenLine, alternative, clause, decorators, header, line_of, lines_of, statement_lines, written_line}
+use Rattle.pyunparse_text.specs.Pieces.{piece}
 use Rattle.pyunparse.specs.Inner.Folds.{puts}
 use Rattle.pyunparse.specs.Inner.Lines.{Blocked, Wrote, def_lines, in_utf8, with_colon}
 use Rattle.pyunparse.specs.Inner.Writing.{Writing, behind}

@@ -5,9 +5,9 @@ use Rattle.std.specs.Char.{encode_utf8}
 use Rattle.std.specs.Str.{bytes_eq, encode_utf8_all}
 use Rattle.pylex.specs.declared.kind.Kind.TheVariants as kinds
 use Rattle.pysource.specs.Reprs.{repr_chars}
-use Rattle.pynode.specs.Values.{Value, Str, Bytes}
-use Rattle.pyspacing.specs.Spacing.{Piece}
-use Rattle.pywritten.specs.Pieces.{literal_text}
+use Rattle.pytree_node.specs.Values.{Value, Str, Bytes}
+use Rattle.pyunparse_text.specs.Spacing.{Piece}
+use Rattle.pyunparse_text.specs.Pieces.{literal_text}
 use Rattle.pyunparse.specs.declared.edges.Edge.{Edge}
 use Rattle.pyunparse.specs.Inner.Writing.{Writing, behind, blank, edge_of, prefix}
 use Rattle.pyunparse.proofs.Texts.WritingLemmas.{same_sign}

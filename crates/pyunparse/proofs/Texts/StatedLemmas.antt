@@ -3,16 +3,16 @@ use Rattle.std.proofs.Common.{◌≡◌, ℕ, ◌≤◌, List, sym, subst}
 use Rattle.std.specs.Prelude.{All}
 use Rattle.std.specs.Str.{encode_utf8_all}
 use Rattle.std.proofs.lemmas.List.Elements.{All-nil, All-cons}
-use Rattle.pynode.specs.declared.profiles.Profile.{Profile}
-use Rattle.pynode.specs.Trees.{Module}
+use Rattle.pytree_node.specs.declared.profiles.Profile.{Profile}
+use Rattle.pytree_node.specs.Trees.{Module}
 use Rattle.pytoken.specs.Tokens as Tokens
-use Rattle.pyheight.specs.Heights.{expression_height, statement_height}
+use Rattle.pytree_height.specs.Heights.{expression_height, statement_height}
 use Rattle.pygrammar.specs.Lines.{Line}
-use Rattle.pyslots.specs.Given as given
-use Rattle.pyslots.specs.Given.{Stated}
-use Rattle.pywritten.specs.Laws.{HaveForms, no_form, a_form, IsGood, source_lines, TextIsAccepted}
-use Rattle.pywritten.specs.Modules.{module_text}
-use Rattle.pywritten.proofs.Callers.Texts.{module_texts_are_accepted, tokens_are_of_tokens}
+use Rattle.pytree_fits.specs.Given as given
+use Rattle.pytree_fits.specs.Given.{Stated}
+use Rattle.pyunparse_text.specs.Laws.{HaveForms, no_form, a_form, IsGood, source_lines, TextIsAccepted}
+use Rattle.pyunparse_text.specs.Modules.{module_text}
+use Rattle.pyunparse_text.proofs.Callers.Texts.{module_texts_are_accepted, tokens_are_of_tokens}
 use Rattle.pyunparse.specs.RoundTrips.{GivesBack, RoundTrips}
 
 forms_are : {profile : Profile} {xs : List Tokens.Line} {fs : List Line} → given.HaveForms profile xs fs → HaveForms profile (source_lines xs) fs

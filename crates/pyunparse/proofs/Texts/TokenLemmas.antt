@@ -4,14 +4,14 @@
 use Rattle.std.proofs.Common.{◌≡◌, ◌∙◌, List, [], ◌∷◌, ◌++◌, map, refl, sym, append-nil, append_assoc}
 use Rattle.std.specs.Str.{encode_utf8_all}
 use Rattle.std.specs.Char.{encode_utf8}
-use Rattle.pylexeme.specs.declared.kinds.Exact.{Exact}
-use Rattle.pylexeme.specs.declared.kinds.Exact.TheVariants.{LPar}
+use Rattle.pylex_lexeme.specs.declared.kinds.Exact.{Exact}
+use Rattle.pylex_lexeme.specs.declared.kinds.Exact.TheVariants.{LPar}
 use Rattle.pytoken.specs.declared.keywords.Keyword.{Keyword}
 use Rattle.pytoken.specs.declared.keywords.Keyword.TheVariants.{False}
 use Rattle.pytoken.specs.Keywords.{spelling_of}
-use Rattle.pyspacing.specs.Spacing.{Piece}
-use Rattle.pyspacing.specs.Tokens.{PlainToken, token_of}
-use Rattle.pywritten.specs.Pieces.{sign_text}
+use Rattle.pyunparse_text.specs.Spacing.{Piece}
+use Rattle.pyunparse_text.specs.Tokens.{PlainToken, token_of}
+use Rattle.pyunparse_text.specs.Pieces.{sign_text}
 use Rattle.pyunparse.specs.Inner.Folds.{in_utf8, puts}
 use Rattle.pyunparse.specs.Told.{in_bytes}
 

@@ -5,8 +5,8 @@ use Rattle.std.specs.Char.{encode_utf8}
 use Rattle.std.proofs.lemmas.Bool.Decides.{same_from_decides}
 use Rattle.std.proofs.lemmas.Slice.Eq.{bytes_eq-Decides}
 use Rattle.std.proofs.lemmas.Str.{encodes-append, encodes_same}
-use Rattle.pyspacing.specs.Spacing.{Piece, spaced, text_behind, touches}
-use Rattle.pywritten.specs.Statements.{is_star}
+use Rattle.pyunparse_text.specs.Spacing.{Piece, spaced, text_behind, touches}
+use Rattle.pyunparse_text.specs.Statements.{is_star}
 use Rattle.pyunparse.specs.Inner.Folds.{in_utf8, puts}
 use Rattle.pyunparse.specs.Inner.Writing.{Writing, behind, blank, edge_of, meets}
 

@@ -1,12 +1,12 @@
 -- Arguments by name, one by one.
 use Rattle.std.specs.Prelude.{List, [], ◌∷◌, ◌++◌, Option, Some, None}
-use Rattle.pylexeme.specs.declared.kinds.Exact.TheVariants.{DoubleStar, Equal}
+use Rattle.pylex_lexeme.specs.declared.kinds.Exact.TheVariants.{DoubleStar, Equal}
 use Rattle.pygrammar.specs.declared.levels.Level.TheVariants.{Expression}
-use Rattle.pynode.specs.Trees.{Identifier, Keyword}
-use Rattle.pyspacing.specs.Spacing.{Piece}
+use Rattle.pytree_node.specs.Trees.{Identifier, Keyword}
+use Rattle.pyunparse_text.specs.Spacing.{Piece}
 use Rattle.pytoken.specs.Terminals.{in_form}
-use Rattle.pywritten.specs.Written.{free, leading, tight}
-use Rattle.pywritten.specs.Pieces.{piece, pieces}
+use Rattle.pyunparse_text.specs.Written.{free, leading, tight}
+use Rattle.pyunparse_text.specs.Pieces.{piece, pieces}
 
 -- a name and `=`, or `**`
 abbrev pub argument_name : Option Identifier → List Piece

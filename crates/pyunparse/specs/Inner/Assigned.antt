@@ -1,12 +1,12 @@
 -- The targets of an assignment, one by one.
 use Rattle.std.specs.Prelude.{List, [], ◌∷◌, ◌++◌}
-use Rattle.pylexeme.specs.declared.kinds.Exact.TheVariants.{Equal}
-use Rattle.pynode.specs.Trees.{Expr}
+use Rattle.pylex_lexeme.specs.declared.kinds.Exact.TheVariants.{Equal}
+use Rattle.pytree_node.specs.Trees.{Expr}
 use Rattle.pygrammar.specs.declared.levels.Level.TheVariants.{Stars}
-use Rattle.pyspacing.specs.Spacing.{Piece}
+use Rattle.pyunparse_text.specs.Spacing.{Piece}
 use Rattle.pytoken.specs.Terminals.{Op}
-use Rattle.pywritten.specs.Written.{free}
-use Rattle.pywritten.specs.Pieces.{piece, pieces}
+use Rattle.pyunparse_text.specs.Written.{free}
+use Rattle.pyunparse_text.specs.Pieces.{piece, pieces}
 
 -- one with its `=`
 abbrev pub assigned : Expr → List Piece

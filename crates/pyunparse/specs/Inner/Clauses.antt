@@ -2,11 +2,11 @@
 use Rattle.std.specs.Prelude.{ℕ, max, List, ◌∷◌, ◌++◌}
 use Rattle.pytoken.specs.declared.keywords.Keyword.TheVariants as Key
 use Rattle.pygrammar.specs.declared.levels.Level.TheVariants.{Or, Stars}
-use Rattle.pynode.specs.Trees.{Comprehension, Expr, exprs}
-use Rattle.pyheight.specs.Heights.{height, heights}
-use Rattle.pyspacing.specs.Spacing.{Piece}
-use Rattle.pywritten.specs.Written.{conditions, for_in, word}
-use Rattle.pywritten.specs.Pieces.{piece, pieces}
+use Rattle.pytree_node.specs.Trees.{Comprehension, Expr, exprs}
+use Rattle.pytree_height.specs.Heights.{height, heights}
+use Rattle.pyunparse_text.specs.Spacing.{Piece}
+use Rattle.pyunparse_text.specs.Written.{conditions, for_in, word}
+use Rattle.pyunparse_text.specs.Pieces.{piece, pieces}
 
 abbrev pub clause : Comprehension → List Piece
 clause c = for_in piece c.is_async (pieces Stars c.target ++ (word piece Key.In ∷ (pieces Or c.iter ++ conditions piece (exprs c.ifs))))

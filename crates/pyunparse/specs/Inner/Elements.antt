@@ -1,12 +1,12 @@
 -- The elements of a tuple.
 use Rattle.std.specs.Prelude.{Bool, true, false, not, ◌&&◌, List, [], ◌∷◌}
-use Rattle.pylexeme.specs.declared.kinds.Exact.TheVariants.{Comma}
-use Rattle.pynode.specs.Trees.{Exprs, no_exprs, an_expr}
+use Rattle.pylex_lexeme.specs.declared.kinds.Exact.TheVariants.{Comma}
+use Rattle.pytree_node.specs.Trees.{Exprs, no_exprs, an_expr}
 use Rattle.pygrammar.specs.declared.levels.Level.{Level}
 use Rattle.pygrammar.specs.declared.levels.Level.TheVariants.{Elem, Part}
-use Rattle.pyspacing.specs.Spacing.{Piece}
-use Rattle.pywritten.specs.Written.{lone_star, trailing}
-use Rattle.pywritten.specs.Pieces.{piece}
+use Rattle.pyunparse_text.specs.Spacing.{Piece}
+use Rattle.pyunparse_text.specs.Written.{lone_star, trailing}
+use Rattle.pyunparse_text.specs.Pieces.{piece}
 
 -- the comma behind an element that stands alone
 abbrev pub last : Bool → List Piece

@@ -1,10 +1,10 @@
 -- What is behind tokens that are written one after another.
 use Rattle.std.specs.Prelude.{Bool, true, false, if◌then◌else◌, List, [], ◌∷◌}
 use Rattle.std.specs.Str.{encode_utf8_all}
-use Rattle.pylexeme.specs.declared.kinds.Exact.TheVariants.{LPar, RPar}
-use Rattle.pyspacing.specs.Spacing.{Piece}
-use Rattle.pywritten.specs.Written.{leading, trailing}
-use Rattle.pywritten.specs.Pieces.{piece}
+use Rattle.pylex_lexeme.specs.declared.kinds.Exact.TheVariants.{LPar, RPar}
+use Rattle.pyunparse_text.specs.Spacing.{Piece}
+use Rattle.pyunparse_text.specs.Written.{leading, trailing}
+use Rattle.pyunparse_text.specs.Pieces.{piece}
 
 -- a token with its text in UTF-8
 abbrev pub in_utf8 : Piece → Piece

@@ -1,16 +1,16 @@
 -- Lines of a module, and what stands in them.
 use Rattle.std.specs.Prelude.{◌≡◌, ℕ, suc, Bool, true, false, List, [], ◌∷◌, ◌++◌, map}
 use Rattle.std.specs.Str.{encode_utf8_all}
-use Rattle.pylexeme.specs.declared.kinds.Exact.TheVariants.{Colon}
+use Rattle.pylex_lexeme.specs.declared.kinds.Exact.TheVariants.{Colon}
 use Rattle.pygrammar.specs.Lines.{DefHead, Header, def_header, elif_header, else_header, except_header, finally_header, for_head, loop_header, try_header, with_header}
-use Rattle.pynode.specs.Trees
-use Rattle.pynode.specs.Trees.{Expr, Handler, Handlers, Item, Stmt, Stmts, stmts}
-use Rattle.pyspacing.specs.Spacing.{Piece, lines_text}
+use Rattle.pytree_node.specs.Trees
+use Rattle.pytree_node.specs.Trees.{Expr, Handler, Handlers, Item, Stmt, Stmts, stmts}
+use Rattle.pyunparse_text.specs.Spacing.{Piece, lines_text}
 use Rattle.pyunparse.specs.Inner.Writing.{Writing}
-use Rattle.pywritten.specs.Written.{trailing}
-use Rattle.pywritten.specs.Pieces.{piece}
-use Rattle.pywritten.specs.Statements.{header_tokens}
-use Rattle.pywritten.specs.Modules.{WrittenLine, alternative, clause, handler_lines, header, line_of, lines_of}
+use Rattle.pyunparse_text.specs.Written.{trailing}
+use Rattle.pyunparse_text.specs.Pieces.{piece}
+use Rattle.pyunparse_text.specs.Statements.{header_tokens}
+use Rattle.pyunparse_text.specs.Modules.{WrittenLine, alternative, clause, handler_lines, header, line_of, lines_of}
 
 -- a header with its colon
 abbrev pub with_colon : Header → List Piece

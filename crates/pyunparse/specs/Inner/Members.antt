@@ -1,10 +1,10 @@
 -- Members of a list, with a token between each two.
 use Rattle.std.specs.Prelude.{ℕ, zero, suc, Bool, true, false, List, [], ◌∷◌, ◌++◌}
-use Rattle.pylexeme.specs.declared.kinds.Exact.TheVariants.{Comma}
+use Rattle.pylex_lexeme.specs.declared.kinds.Exact.TheVariants.{Comma}
 use Rattle.pytoken.specs.declared.keywords.Keyword.TheVariants as Key
-use Rattle.pyspacing.specs.Spacing.{Piece}
-use Rattle.pywritten.specs.Written.{separated, trailing, word}
-use Rattle.pywritten.specs.Pieces.{piece}
+use Rattle.pyunparse_text.specs.Spacing.{Piece}
+use Rattle.pyunparse_text.specs.Written.{separated, trailing, word}
+use Rattle.pyunparse_text.specs.Pieces.{piece}
 use Rattle.pyunparse.specs.declared.marks.Between.{Between}
 use Rattle.pyunparse.specs.declared.marks.Between.TheVariants as between
 

@@ -1,11 +1,11 @@
 -- The pairs of a dictionary, one by one.
 use Rattle.std.specs.Prelude.{List, ◌∷◌, ◌++◌, Option, Some, None}
-use Rattle.pylexeme.specs.declared.kinds.Exact.TheVariants.{Colon, DoubleStar}
-use Rattle.pynode.specs.Trees.{Expr}
+use Rattle.pylex_lexeme.specs.declared.kinds.Exact.TheVariants.{Colon, DoubleStar}
+use Rattle.pytree_node.specs.Trees.{Expr}
 use Rattle.pygrammar.specs.declared.levels.Level.TheVariants.{BitOr, Expression}
-use Rattle.pyspacing.specs.Spacing.{Piece}
-use Rattle.pywritten.specs.Written.{leading, trailing}
-use Rattle.pywritten.specs.Pieces.{piece, pieces}
+use Rattle.pyunparse_text.specs.Spacing.{Piece}
+use Rattle.pyunparse_text.specs.Written.{leading, trailing}
+use Rattle.pyunparse_text.specs.Pieces.{piece, pieces}
 
 -- a key and its value, or `**` and a value
 abbrev pub pair : Option Expr → Expr → List Piece

@@ -1,12 +1,12 @@
 -- Parameters, one by one.
 use Rattle.std.specs.Prelude.{ℕ, zero, suc, ◌-◌, nat_lt, if◌then◌else◌, List, [], ◌∷◌, ◌++◌, drop, map}
-use Rattle.pylexeme.specs.declared.kinds.Exact.TheVariants.{Colon, Comma, Equal, Slash}
-use Rattle.pynode.specs.Trees.{Arg, Args, arg, Arguments, arguments, Expr, Exprs}
+use Rattle.pylex_lexeme.specs.declared.kinds.Exact.TheVariants.{Colon, Comma, Equal, Slash}
+use Rattle.pytree_node.specs.Trees.{Arg, Args, arg, Arguments, arguments, Expr, Exprs}
 use Rattle.pygrammar.specs.declared.levels.Level.TheVariants.{Expression}
 use Rattle.pytoken.specs.Terminals.{in_form, Op}
-use Rattle.pyspacing.specs.Spacing.{Piece}
-use Rattle.pywritten.specs.Written.{behind_equal, each, free, names, suffixed, tight, trailing, with_defaults, with_slash}
-use Rattle.pywritten.specs.Pieces.{piece, pieces}
+use Rattle.pyunparse_text.specs.Spacing.{Piece}
+use Rattle.pyunparse_text.specs.Written.{behind_equal, each, free, names, suffixed, tight, trailing, with_defaults, with_slash}
+use Rattle.pyunparse_text.specs.Pieces.{piece, pieces}
 
 -- a name with its annotation
 abbrev pub named : Arg → List Piece

@@ -1,7 +1,7 @@
 -- The expressions that a list is looked through for.
 use Rattle.std.specs.Prelude.{Bool, true, false}
-use Rattle.pynode.specs.Trees
-use Rattle.pynode.specs.Trees.{Expr}
+use Rattle.pytree_node.specs.Trees
+use Rattle.pytree_node.specs.Trees.{Expr}
 use Rattle.pyunparse.specs.declared.sorts.Sort.{Sort}
 use Rattle.pyunparse.specs.declared.sorts.Sort.TheVariants as sorts
 

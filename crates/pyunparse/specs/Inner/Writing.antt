@@ -1,7 +1,7 @@
 -- The text of a module while it is written, a token after another.
 use Rattle.std.specs.Prelude.{ℕ, Bool, true, false, not, ◌&&◌, ◌||◌, List, [], ◌∷◌, ◌++◌, codes, Option, Some, None, if◌then◌else◌}
 use Rattle.std.specs.Str.{bytes_eq}
-use Rattle.pyspacing.specs.Spacing.{Piece, is_number_kind}
+use Rattle.pyunparse_text.specs.Spacing.{Piece, is_number_kind}
 use Rattle.pyunparse.specs.declared.edges.Edge.{Edge}
 
 -- the text in UTF-8, what the last token of its line says of what follows, and how many levels stand open

@@ -1,7 +1,7 @@
 -- The table is held against the definition at each of the 256 bytes, by computing.
 use Rattle.std.proofs.Common.{◌≡◌, ℕ, ◌<◌, true, not, nat_eq, get_or, List, refl, arith}
 use Rattle.pysource.specs.Reprs.{is_plain}
-use Rattle.pylexeme.proofs.Callers.Tables.{agree_below, agree_at}
+use Rattle.pylex_lexeme.proofs.Callers.Tables.{agree_below, agree_at}
 use Rattle.pylex.specs.declared.lines.TheConstants.{PLAIN_BYTES}
 use Rattle.pylex.proofs.lines.is_plain_byte.Goals as goal
 

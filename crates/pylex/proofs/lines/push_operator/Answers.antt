@@ -2,7 +2,7 @@ use Rattle.std.proofs.Common.{rules, ◌≡◌, ◌++◌, length, sym, ap, ◌�
 use Rattle.std.specs.Str.{chars}
 use Rattle.std.specs.String.{string_bytes}
 use Rattle.std.proofs.lemmas.Result.{on_ok_weaker}
-use Rattle.pylexeme.specs.Operators.{exact_name}
+use Rattle.pylex_lexeme.specs.Operators.{exact_name}
 use Rattle.pylex.proofs.Texts.LinesLemmas.{exact_characters, field_filled}
 use Rattle.pylex.proofs.lines.push_operator.Goals as goal
 

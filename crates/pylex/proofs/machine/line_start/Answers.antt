@@ -1,8 +1,8 @@
 use Rattle.std.proofs.Common.{◌∙◌, refl, sym}
 use Rattle.std.specs.Str.{chars}
-use Rattle.pylexeme.proofs.Callers.Booleans.{right_false}
+use Rattle.pylex_lexeme.proofs.Callers.Booleans.{right_false}
 use Rattle.pylex.proofs.Listers.Finding.{settles_level, settles_same, indent_ahead, dedent_ahead, fault_mismatch}
-use Rattle.pylexeme.specs.Cuts.{begins_significant}
+use Rattle.pylex_lexeme.specs.Cuts.{begins_significant}
 use Rattle.pylex.proofs.machine.line_start.Goals as goal
 use Rattle.pylex.proofs.machine.line_start.Goals.{then-not-now-via-then-not-now, then-not-now-via-else-not-now+then-not-begins_significant}
 

@@ -1,6 +1,6 @@
 use Rattle.std.proofs.Common.{ℕ, List, [], length, subst, refl}
 use Rattle.std.specs.Str.{chars}
-use Rattle.pylexeme.specs.declared.lexeme.Class.TheVariants.{Blanks, Join}
+use Rattle.pylex_lexeme.specs.declared.lexeme.Class.TheVariants.{Blanks, Join}
 use Rattle.pylex.specs.LineState.{with_levels, HasRoom}
 use Rattle.pylex.proofs.Listers.Finding.{stays_there, settles_same, entry_found, nothing_found, some_bytes, stands_after, shorter_after, room_after, behind_cut, margin_past}
 use Rattle.pylex.proofs.MachineLaws.Told.{tells, cuts_as, fewer, passed_room, blanks_give, join_gives}

@@ -1,6 +1,6 @@
 use Rattle.std.proofs.Common.{◌∙◌, sym, ap, ap₂, ◌++◌, map, rules}
 use Rattle.std.proofs.lemmas.List.{map-append}
-use Rattle.pyvalue.specs.Terminals.{terminal}
+use Rattle.pytoken.specs.TerminalOf.{terminal}
 use Rattle.pyparse.proofs.ExpressionLemmas.{told_first, none_more, terminals_more}
 use Rattle.pyparse.proofs.expressions.terminals_of.Goals as goal
 

@@ -1,5 +1,5 @@
 use Rattle.std.proofs.Common.{◌≡◌, None, map, take}
-use Rattle.pyvalue.specs.Terminals.{terminal}
+use Rattle.pytoken.specs.TerminalOf.{terminal}
 use Rattle.pyparse.specs.Expressions.{first_refusal, terminals}
 use Rattle.pyparse.proofs.expressions.terminals_of.Given as goal
 

@@ -1,6 +1,6 @@
 use Rattle.std.proofs.Common.{ℕ, List, length, drop, sym, ap, ◌∙◌}
 use Rattle.std.specs.Str.{chars}
-use Rattle.pylexeme.specs.Cuts.{begins_significant}
+use Rattle.pylex_lexeme.specs.Cuts.{begins_significant}
 use Rattle.pylex.specs.Margins.{blanks_of}
 use Rattle.pyparse.proofs.IndentLemmas.{line_of}
 use Rattle.pyparse.proofs.indents.is_logical_at.Goals as goal

@@ -1,5 +1,5 @@
 use Rattle.std.proofs.Common.{map}
-use Rattle.pynode.specs.TreeOf.{stmt_of}
+use Rattle.pytree_node.specs.TreeOf.{stmt_of}
 use Rattle.pyparse.proofs.FinishLemmas.{sound_accepted, sound_refused}
 use Rattle.pyparse.proofs.progress.finish_sound.Goals as goal
 

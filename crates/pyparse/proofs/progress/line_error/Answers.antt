@@ -1,6 +1,6 @@
 use Rattle.std.proofs.Common.{◌∙◌, subst, sym}
-use Rattle.pyexpr.specs.declared.stop.Stop.{Stop}
-use Rattle.pyline.specs.Lines.{Refused}
+use Rattle.pyparse_expr.specs.declared.stop.Stop.{Stop}
+use Rattle.pyparse_line.specs.Lines.{Refused}
 use Rattle.pygrammar.specs.Refusals.{terminals, no_match, no_form}
 use Rattle.pyparse.proofs.FinishLemmas.{unread_high}
 use Rattle.pyparse.proofs.progress.line_error.Goals as goal

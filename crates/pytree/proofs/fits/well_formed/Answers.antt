@@ -1,10 +1,10 @@
 use Rattle.std.proofs.Common.{◌≡◌, map, subst}
 use Rattle.std.specs.Prelude.{IfOk}
-use Rattle.pynode.specs.TreeOf.{module_of, stmt_of}
-use Rattle.pynode.specs.Trees.{stmts}
-use Rattle.pyslots.specs.Names.{is_name}
-use Rattle.pyslots.specs.Statements.{module_fits, statements_fit}
-use Rattle.pyslots.proofs.Callers.Law.{modules_fit_exactly}
+use Rattle.pytree_node.specs.TreeOf.{module_of, stmt_of}
+use Rattle.pytree_node.specs.Trees.{stmts}
+use Rattle.pytree_fits.specs.Names.{is_name}
+use Rattle.pytree_fits.specs.Statements.{module_fits, statements_fit}
+use Rattle.pytree_fits.proofs.Callers.Law.{modules_fit_exactly}
 use Rattle.pytree.proofs.FitLemmas.{told_by}
 use Rattle.pytree.proofs.fits.well_formed.Goals as goal
 

@@ -1,7 +1,7 @@
-use Rattle.pynode.specs.TreeOf.{tree_of}
-use Rattle.pyslots.specs.Names.{is_name}
-use Rattle.pyslots.specs.Slots.{fits_at}
-use Rattle.pyslots.proofs.Callers.Law.{expressions_fit_exactly}
+use Rattle.pytree_node.specs.TreeOf.{tree_of}
+use Rattle.pytree_fits.specs.Names.{is_name}
+use Rattle.pytree_fits.specs.Slots.{fits_at}
+use Rattle.pytree_fits.proofs.Callers.Law.{expressions_fit_exactly}
 use Rattle.pytree.proofs.FitLemmas.{told_by}
 use Rattle.pytree.proofs.fits.well_formed_at.Goals as goal
 

@@ -1,17 +1,17 @@
 use Rattle.std.proofs.Common.{◌++◌, ◌∷◌, [], ◌∙◌, ◌<◌, ap, arith, false, true, length, map, refl, subst, suc, sym}
 use Rattle.std.proofs.lemmas.Result.{IfOk-weaker}
-use Rattle.pynode.specs.declared.statements.Handler as given_handler
-use Rattle.pynode.specs.Trees.{handlers, keywords, stmts}
-use Rattle.pynode.specs.TreeOf.{arguments_of, boxed_of, handler_of, item_of, keyword_of, option_of, stmt_of, tree_of, type_param_of}
+use Rattle.pytree_node.specs.declared.statements.Handler as given_handler
+use Rattle.pytree_node.specs.Trees.{handlers, keywords, stmts}
+use Rattle.pytree_node.specs.TreeOf.{arguments_of, boxed_of, handler_of, item_of, keyword_of, option_of, stmt_of, tree_of, type_param_of}
 use Rattle.pygrammar.specs.Lines.{class_head, def_header, elif_header, else_header, except_header, finally_header, for_head, function_head, if_header, loop_header, try_header, while_head, with_header}
-use Rattle.pyheight.specs.Heights.{handler_heights, stmt_height, stmt_heights}
-use Rattle.pywritten.specs.Modules.{alternative, clause, decorators, handler_lines, lines_of, statement_lines}
-use Rattle.pylexeme.specs.declared.kinds.Exact.TheVariants.{Colon}
-use Rattle.pywritten.specs.Pieces.{piece}
-use Rattle.pywritten.specs.Written.{trailing}
+use Rattle.pytree_height.specs.Heights.{handler_heights, stmt_height, stmt_heights}
+use Rattle.pyunparse_text.specs.Modules.{alternative, clause, decorators, handler_lines, lines_of, statement_lines}
+use Rattle.pylex_lexeme.specs.declared.kinds.Exact.TheVariants.{Colon}
+use Rattle.pyunparse_text.specs.Pieces.{piece}
+use Rattle.pyunparse_text.specs.Written.{trailing}
 use Rattle.pyunparse.specs.Inner.Folds.{puts}
 use Rattle.pyunparse.specs.Inner.Writing.{behind}
-use Rattle.pynode.proofs.Callers.StmtShapes.{async_for_tree, async_function_def_tree, async_with_tree, class_def_tree, for_tree, function_def_tree, handler_tree, if_tree, try_star_tree, try_tree, while_tree, with_tree}
+use Rattle.pytree_node.proofs.Callers.StmtShapes.{async_for_tree, async_function_def_tree, async_with_tree, class_def_tree, for_tree, function_def_tree, handler_tree, if_tree, try_star_tree, try_tree, while_tree, with_tree}
 use Rattle.pyunparse.specs.Inner.Lines.{Wrote, def_lines, one_handler}
 use Rattle.pyunparse.proofs.Shapes.StatementLemmas.{not_compound, not_elif, not_one, one_if, one_other}
 use Rattle.pyunparse.proofs.Texts.LineLemmas.{all_lines, async_function_lines, block_wrote, class_lines, deeper, function_lines, header_block, if_lines, line_on, no_clause, some_clause, while_lines, wrote_none, wrote_then}

@@ -1,9 +1,9 @@
 use Rattle.std.proofs.Common.{◌≡◌, ◌+◌, ◌*◌, ◌++◌, max, map, drop}
-use Rattle.pynode.specs.Trees.{handlers, stmts}
-use Rattle.pynode.specs.TreeOf.{handler_of, stmt_of}
-use Rattle.pyheight.specs.Heights.{handler_heights, stmt_height, stmt_heights}
-use Rattle.pywritten.specs.Modules.{handler_lines, lines_of}
-use Rattle.pywritten.specs.Pieces.{piece}
+use Rattle.pytree_node.specs.Trees.{handlers, stmts}
+use Rattle.pytree_node.specs.TreeOf.{handler_of, stmt_of}
+use Rattle.pytree_height.specs.Heights.{handler_heights, stmt_height, stmt_heights}
+use Rattle.pyunparse_text.specs.Modules.{handler_lines, lines_of}
+use Rattle.pyunparse_text.specs.Pieces.{piece}
 use Rattle.pyunparse.specs.Inner.Lines.{in_utf8}
 use Rattle.pyunparse.proofs.blocks.+blocks.Given as goal
 

@@ -1,5 +1,5 @@
 use Rattle.std.proofs.Common.{refl, sym}
-use Rattle.pynode.proofs.Callers.StmtShapes.{if_tree}
+use Rattle.pytree_node.proofs.Callers.StmtShapes.{if_tree}
 use Rattle.pyunparse.proofs.Shapes.StatementLemmas.{not_if}
 use Rattle.pyunparse.proofs.blocks.is_if.Goals as goal
 

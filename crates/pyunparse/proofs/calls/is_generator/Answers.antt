@@ -1,5 +1,5 @@
 use Rattle.std.proofs.Common.{refl, sym}
-use Rattle.pynode.proofs.Callers.ExprShapes.{generator_exp_tree}
+use Rattle.pytree_node.proofs.Callers.ExprShapes.{generator_exp_tree}
 use Rattle.pyunparse.proofs.Shapes.ShapeLemmas.{not_generator}
 use Rattle.pyunparse.proofs.calls.is_generator.Goals as goal
 

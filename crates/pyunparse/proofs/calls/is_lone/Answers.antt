@@ -1,6 +1,6 @@
 use Rattle.std.proofs.Common.{◌∙◌, map, sym}
-use Rattle.pynode.specs.Trees.{exprs, keywords}
-use Rattle.pynode.specs.TreeOf.{keyword_of, tree_of}
+use Rattle.pytree_node.specs.Trees.{exprs, keywords}
+use Rattle.pytree_node.specs.TreeOf.{keyword_of, tree_of}
 use Rattle.pyunparse.proofs.Sequences.AloneLemmas.{lone_keywords, lone_no_keywords, not_lone_generator}
 use Rattle.pyunparse.proofs.calls.is_lone.Goals as goal
 

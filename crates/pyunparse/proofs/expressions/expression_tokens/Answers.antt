@@ -1,9 +1,9 @@
 use Rattle.std.proofs.Common.{◌∙◌, ◌++◌, ◌∷◌, [], ap}
-use Rattle.pynode.specs.TreeOf.{tree_of}
-use Rattle.pyspacing.specs.Tokens.{token_of}
-use Rattle.pywritten.specs.Pieces.{pieces}
-use Rattle.pywritten.proofs.Callers.Shortest.{expressions_are_shortest}
-use Rattle.pywritten.proofs.Callers.Read.{expressions_are_read}
+use Rattle.pytree_node.specs.TreeOf.{tree_of}
+use Rattle.pyunparse_text.specs.Tokens.{token_of}
+use Rattle.pyunparse_text.specs.Pieces.{pieces}
+use Rattle.pyunparse_text.proofs.Callers.Shortest.{expressions_are_shortest}
+use Rattle.pyunparse_text.proofs.Callers.Read.{expressions_are_read}
 use Rattle.pyunparse.specs.Inner.Folds.{puts}
 use Rattle.pyunparse.proofs.Texts.TokenLemmas.{tokens_put}
 use Rattle.pyunparse.proofs.expressions.expression_tokens.Goals as goal

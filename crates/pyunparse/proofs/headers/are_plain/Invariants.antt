@@ -1,7 +1,7 @@
 use Rattle.std.proofs.Common.{◌≡◌, map, drop}
-use Rattle.pynode.specs.Trees.{exprs}
-use Rattle.pynode.specs.TreeOf.{tree_of}
-use Rattle.pywritten.specs.Statements.{are_plain}
+use Rattle.pytree_node.specs.Trees.{exprs}
+use Rattle.pytree_node.specs.TreeOf.{tree_of}
+use Rattle.pyunparse_text.specs.Statements.{are_plain}
 use Rattle.pyunparse.proofs.headers.are_plain.Given as goal
 
 abbrev pub invariant-loop-e : goal.invariant-loop-e

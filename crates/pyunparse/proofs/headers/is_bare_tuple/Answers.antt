@@ -1,8 +1,8 @@
 use Rattle.std.proofs.Common.{◌≡◌, ◌∙◌, ap, arith, length, map, None, sym, ◌==◌}
-use Rattle.pynode.specs.Trees.{exprs}
-use Rattle.pynode.specs.TreeOf.{tree_of}
-use Rattle.pynode.proofs.Callers.ExprShapes.{tuple_tree}
-use Rattle.pywritten.specs.Statements.{are_plain}
+use Rattle.pytree_node.specs.Trees.{exprs}
+use Rattle.pytree_node.specs.TreeOf.{tree_of}
+use Rattle.pytree_node.proofs.Callers.ExprShapes.{tuple_tree}
+use Rattle.pyunparse_text.specs.Statements.{are_plain}
 use Rattle.pyunparse.proofs.Shapes.ShapeLemmas.{not_tuple}
 use Rattle.pyunparse.proofs.StatementParts.WithLemmas.{tuple_reads}
 use Rattle.pyunparse.proofs.headers.is_bare_tuple.Goals as goal

@@ -1,11 +1,11 @@
 use Rattle.std.proofs.Common.{◌∙◌, ◌++◌, ap, map}
 use Rattle.std.proofs.lemmas.Result.{IfOk-equal}
-use Rattle.pylexeme.specs.declared.kinds.Exact.TheVariants.{LPar, RPar}
-use Rattle.pynode.specs.Trees.{exprs, keywords}
-use Rattle.pynode.specs.TreeOf.{keyword_of, tree_of}
+use Rattle.pylex_lexeme.specs.declared.kinds.Exact.TheVariants.{LPar, RPar}
+use Rattle.pytree_node.specs.Trees.{exprs, keywords}
+use Rattle.pytree_node.specs.TreeOf.{keyword_of, tree_of}
 use Rattle.pygrammar.specs.declared.levels.Level.TheVariants.{Named}
-use Rattle.pywritten.specs.Pieces.{piece}
-use Rattle.pywritten.specs.Written.{by_name, each, listed, tight}
+use Rattle.pyunparse_text.specs.Pieces.{piece}
+use Rattle.pyunparse_text.specs.Written.{by_name, each, listed, tight}
 use Rattle.pyunparse.specs.Inner.Folds.{puts}
 use Rattle.pyunparse.proofs.Sequences.FoldLemmas.{enclosed_on}
 use Rattle.pyunparse.proofs.StatementParts.HeaderLemmas.{bases_listed, no_bases, some_bases}

@@ -1,14 +1,14 @@
 use Rattle.std.proofs.Common.{◌∷◌, [], ◌∙◌, map}
 use Rattle.std.proofs.lemmas.Result.{IfOk-equal}
-use Rattle.pylexeme.specs.declared.kinds.Exact.TheVariants.{Colon}
+use Rattle.pylex_lexeme.specs.declared.kinds.Exact.TheVariants.{Colon}
 use Rattle.pytoken.specs.declared.keywords.Keyword.TheVariants as Key
 use Rattle.pytoken.specs.Terminals.{in_form}
-use Rattle.pynode.specs.Trees.{keywords}
-use Rattle.pynode.specs.TreeOf.{keyword_of, tree_of, type_param_of}
+use Rattle.pytree_node.specs.Trees.{keywords}
+use Rattle.pytree_node.specs.TreeOf.{keyword_of, tree_of, type_param_of}
 use Rattle.pygrammar.specs.Lines.{class_head, def_header}
-use Rattle.pywritten.specs.Pieces.{piece}
-use Rattle.pywritten.specs.Statements.{bases, header_tokens, type_params}
-use Rattle.pywritten.specs.Written.{free, trailing, word}
+use Rattle.pyunparse_text.specs.Pieces.{piece}
+use Rattle.pyunparse_text.specs.Statements.{bases, header_tokens, type_params}
+use Rattle.pyunparse_text.specs.Written.{free, trailing, word}
 use Rattle.pyunparse.proofs.Sequences.FoldLemmas.{four, two}
 use Rattle.pyunparse.proofs.headers.write_class_header.Goals as goal
 

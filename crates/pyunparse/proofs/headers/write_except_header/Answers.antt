@@ -1,13 +1,13 @@
 use Rattle.std.proofs.Common.{◌∷◌, [], ◌∙◌}
 use Rattle.std.proofs.lemmas.Result.{IfOk-equal}
-use Rattle.pylexeme.specs.declared.kinds.Exact.TheVariants.{Colon}
+use Rattle.pylex_lexeme.specs.declared.kinds.Exact.TheVariants.{Colon}
 use Rattle.pytoken.specs.declared.keywords.Keyword.TheVariants as Key
-use Rattle.pynode.specs.TreeOf.{option_of}
+use Rattle.pytree_node.specs.TreeOf.{option_of}
 use Rattle.pygrammar.specs.Lines.{except_header}
 use Rattle.pygrammar.specs.declared.levels.Level.TheVariants.{Expression}
-use Rattle.pywritten.specs.Pieces.{piece}
-use Rattle.pywritten.specs.Statements.{as_name, header_tokens, perhaps_written, starred}
-use Rattle.pywritten.specs.Written.{trailing, word}
+use Rattle.pyunparse_text.specs.Pieces.{piece}
+use Rattle.pyunparse_text.specs.Statements.{as_name, header_tokens, perhaps_written, starred}
+use Rattle.pyunparse_text.specs.Written.{trailing, word}
 use Rattle.pyunparse.proofs.Sequences.FoldLemmas.{four, two}
 use Rattle.pyunparse.proofs.headers.write_except_header.Goals as goal
 

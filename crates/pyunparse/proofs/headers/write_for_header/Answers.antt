@@ -1,13 +1,13 @@
 use Rattle.std.proofs.Common.{◌∷◌, [], ◌∙◌}
 use Rattle.std.proofs.lemmas.Result.{IfOk-equal}
-use Rattle.pylexeme.specs.declared.kinds.Exact.TheVariants.{Colon}
+use Rattle.pylex_lexeme.specs.declared.kinds.Exact.TheVariants.{Colon}
 use Rattle.pytoken.specs.declared.keywords.Keyword.TheVariants as Key
-use Rattle.pynode.specs.TreeOf.{tree_of}
+use Rattle.pytree_node.specs.TreeOf.{tree_of}
 use Rattle.pygrammar.specs.Lines.{for_head, loop_header}
 use Rattle.pygrammar.specs.declared.levels.Level.TheVariants.{Stars}
-use Rattle.pywritten.specs.Pieces.{piece, pieces}
-use Rattle.pywritten.specs.Statements.{async, header_tokens}
-use Rattle.pywritten.specs.Written.{trailing, word}
+use Rattle.pyunparse_text.specs.Pieces.{piece, pieces}
+use Rattle.pyunparse_text.specs.Statements.{async, header_tokens}
+use Rattle.pyunparse_text.specs.Written.{trailing, word}
 use Rattle.pyunparse.proofs.Sequences.FoldLemmas.{five, two}
 use Rattle.pyunparse.proofs.headers.write_for_header.Goals as goal
 

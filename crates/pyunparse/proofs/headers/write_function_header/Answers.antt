@@ -1,14 +1,14 @@
 use Rattle.std.proofs.Common.{◌∷◌, [], ◌∙◌, map}
 use Rattle.std.proofs.lemmas.Result.{IfOk-equal}
-use Rattle.pylexeme.specs.declared.kinds.Exact.TheVariants.{Colon, LPar, RArrow, RPar}
+use Rattle.pylex_lexeme.specs.declared.kinds.Exact.TheVariants.{Colon, LPar, RArrow, RPar}
 use Rattle.pytoken.specs.declared.keywords.Keyword.TheVariants as Key
 use Rattle.pytoken.specs.Terminals.{in_form, Op}
-use Rattle.pynode.specs.TreeOf.{arguments_of, boxed_of, type_param_of}
+use Rattle.pytree_node.specs.TreeOf.{arguments_of, boxed_of, type_param_of}
 use Rattle.pygrammar.specs.Lines.{def_header, function_head}
 use Rattle.pygrammar.specs.declared.levels.Level.TheVariants.{Expression}
-use Rattle.pywritten.specs.Pieces.{piece}
-use Rattle.pywritten.specs.Statements.{async, behind, header_tokens, type_params}
-use Rattle.pywritten.specs.Written.{enclosed, free, listed, parameters, tight, trailing, word}
+use Rattle.pyunparse_text.specs.Pieces.{piece}
+use Rattle.pyunparse_text.specs.Statements.{async, behind, header_tokens, type_params}
+use Rattle.pyunparse_text.specs.Written.{enclosed, free, listed, parameters, tight, trailing, word}
 use Rattle.pyunparse.proofs.Sequences.FoldLemmas.{enclosed_on, six, two}
 use Rattle.pyunparse.proofs.headers.write_function_header.Goals as goal
 

@@ -1,8 +1,8 @@
 use Rattle.std.proofs.lemmas.Result.{IfOk-equal}
-use Rattle.pynode.specs.TreeOf.{option_of, tree_of}
+use Rattle.pytree_node.specs.TreeOf.{option_of, tree_of}
 use Rattle.pygrammar.specs.declared.levels.Level.TheVariants.{Expression}
-use Rattle.pywritten.specs.Pieces.{piece, pieces}
-use Rattle.pywritten.specs.Statements.{as_target}
+use Rattle.pyunparse_text.specs.Pieces.{piece, pieces}
+use Rattle.pyunparse_text.specs.Statements.{as_target}
 use Rattle.pyunparse.proofs.Sequences.FoldLemmas.{two}
 use Rattle.pyunparse.proofs.headers.write_item.Goals as goal
 

@@ -1,11 +1,11 @@
 use Rattle.std.proofs.Common.{◌∷◌, [], ap, sym}
 use Rattle.std.proofs.lemmas.Result.{IfOk-equal}
-use Rattle.pylexeme.specs.declared.kinds.Exact.TheVariants.{Star}
-use Rattle.pynode.specs.TreeOf.{tree_of}
-use Rattle.pynode.proofs.Callers.ExprShapes.{starred_tree}
+use Rattle.pylex_lexeme.specs.declared.kinds.Exact.TheVariants.{Star}
+use Rattle.pytree_node.specs.TreeOf.{tree_of}
+use Rattle.pytree_node.proofs.Callers.ExprShapes.{starred_tree}
 use Rattle.pygrammar.specs.declared.levels.Level.TheVariants.{Expression}
-use Rattle.pywritten.specs.Pieces.{piece, pieces}
-use Rattle.pywritten.specs.Written.{leading}
+use Rattle.pyunparse_text.specs.Pieces.{piece, pieces}
+use Rattle.pyunparse_text.specs.Written.{leading}
 use Rattle.pyunparse.specs.Inner.Folds.{puts}
 use Rattle.pyunparse.proofs.Sequences.FoldLemmas.{two}
 use Rattle.pyunparse.proofs.Shapes.ShapeLemmas.{not_starred}

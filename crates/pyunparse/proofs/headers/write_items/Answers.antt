@@ -1,9 +1,9 @@
 use Rattle.std.proofs.Common.{map, refl}
-use Rattle.pylexeme.specs.declared.kinds.Exact.TheVariants.{Comma}
-use Rattle.pynode.specs.TreeOf.{item_of}
-use Rattle.pywritten.specs.Statements.{item}
-use Rattle.pywritten.specs.Pieces.{piece}
-use Rattle.pywritten.specs.Written.{trailing}
+use Rattle.pylex_lexeme.specs.declared.kinds.Exact.TheVariants.{Comma}
+use Rattle.pytree_node.specs.TreeOf.{item_of}
+use Rattle.pyunparse_text.specs.Statements.{item}
+use Rattle.pyunparse_text.specs.Pieces.{piece}
+use Rattle.pyunparse_text.specs.Written.{trailing}
 use Rattle.pyunparse.proofs.Sequences.MemberLemmas.{all_items, item_on}
 use Rattle.pyunparse.proofs.headers.write_items.Goals as goal
 

@@ -1,9 +1,9 @@
 use Rattle.std.proofs.Common.{◌≡◌, true, map, drop}
-use Rattle.pylexeme.specs.declared.kinds.Exact.TheVariants.{Comma}
-use Rattle.pynode.specs.TreeOf.{item_of}
-use Rattle.pywritten.specs.Statements.{item}
-use Rattle.pywritten.specs.Pieces.{piece}
-use Rattle.pywritten.specs.Written.{trailing}
+use Rattle.pylex_lexeme.specs.declared.kinds.Exact.TheVariants.{Comma}
+use Rattle.pytree_node.specs.TreeOf.{item_of}
+use Rattle.pyunparse_text.specs.Statements.{item}
+use Rattle.pyunparse_text.specs.Pieces.{piece}
+use Rattle.pyunparse_text.specs.Written.{trailing}
 use Rattle.pyunparse.specs.Inner.Folds.{puts}
 use Rattle.pyunparse.specs.Inner.Members.{members}
 use Rattle.pyunparse.proofs.headers.write_items.Given as goal

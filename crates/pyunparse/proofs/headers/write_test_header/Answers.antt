@@ -1,10 +1,10 @@
 use Rattle.std.proofs.Common.{◌∷◌, []}
 use Rattle.std.proofs.lemmas.Result.{IfOk-equal}
-use Rattle.pylexeme.specs.declared.kinds.Exact.TheVariants.{Colon}
-use Rattle.pynode.specs.TreeOf.{tree_of}
+use Rattle.pylex_lexeme.specs.declared.kinds.Exact.TheVariants.{Colon}
+use Rattle.pytree_node.specs.TreeOf.{tree_of}
 use Rattle.pygrammar.specs.declared.levels.Level.TheVariants.{Named}
-use Rattle.pywritten.specs.Pieces.{piece, pieces}
-use Rattle.pywritten.specs.Written.{trailing, word}
+use Rattle.pyunparse_text.specs.Pieces.{piece, pieces}
+use Rattle.pyunparse_text.specs.Written.{trailing, word}
 use Rattle.pyunparse.proofs.Sequences.FoldLemmas.{three}
 use Rattle.pyunparse.proofs.headers.write_test_header.Goals as goal
 

@@ -1,6 +1,6 @@
 use Rattle.std.proofs.Common.{map}
 use Rattle.std.proofs.lemmas.Result.{IfOk-equal}
-use Rattle.pynode.specs.TreeOf.{item_of}
+use Rattle.pytree_node.specs.TreeOf.{item_of}
 use Rattle.pyunparse.proofs.StatementParts.WithLemmas.{with_on}
 use Rattle.pyunparse.proofs.headers.write_with_header.Goals as goal
 

@@ -1,8 +1,8 @@
 use Rattle.std.proofs.Common.{◌∷◌, []}
 use Rattle.std.proofs.lemmas.Result.{IfOk-equal}
-use Rattle.pylexeme.specs.declared.kinds.Exact.TheVariants.{Colon}
-use Rattle.pywritten.specs.Pieces.{piece}
-use Rattle.pywritten.specs.Written.{trailing, word}
+use Rattle.pylex_lexeme.specs.declared.kinds.Exact.TheVariants.{Colon}
+use Rattle.pyunparse_text.specs.Pieces.{piece}
+use Rattle.pyunparse_text.specs.Written.{trailing, word}
 use Rattle.pyunparse.proofs.Sequences.FoldLemmas.{two}
 use Rattle.pyunparse.proofs.headers.write_word_header.Goals as goal
 

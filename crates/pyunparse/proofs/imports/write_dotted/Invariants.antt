@@ -1,7 +1,7 @@
 use Rattle.std.proofs.Common.{◌≡◌, length}
 use Rattle.std.specs.Str.{chars, IsUtf8}
-use Rattle.pywritten.specs.Pieces.{piece}
-use Rattle.pywritten.specs.Statements.{dotted}
+use Rattle.pyunparse_text.specs.Pieces.{piece}
+use Rattle.pyunparse_text.specs.Statements.{dotted}
 use Rattle.pyunparse.specs.Inner.Folds.{puts}
 use Rattle.pyunparse.proofs.imports.write_dotted.Given as goal
 

@@ -1,5 +1,5 @@
 use Rattle.std.proofs.Common.{◌≡◌, ◌-◌}
-use Rattle.pywritten.specs.Levels.{leads, reaches}
+use Rattle.pyunparse_text.specs.Levels.{leads, reaches}
 use Rattle.pyunparse.proofs.levels.reaches.Given as goal
 
 abbrev pub invariant-loop : goal.invariant-loop

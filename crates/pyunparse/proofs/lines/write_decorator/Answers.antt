@@ -1,10 +1,10 @@
 use Rattle.std.proofs.Common.{◌∷◌, [], ◌∙◌}
 use Rattle.std.proofs.lemmas.Result.{IfOk-weaker}
-use Rattle.pylexeme.specs.declared.kinds.Exact.TheVariants.{At}
-use Rattle.pynode.specs.TreeOf.{tree_of}
+use Rattle.pylex_lexeme.specs.declared.kinds.Exact.TheVariants.{At}
+use Rattle.pytree_node.specs.TreeOf.{tree_of}
 use Rattle.pygrammar.specs.declared.levels.Level.TheVariants.{Named}
-use Rattle.pywritten.specs.Pieces.{piece, pieces}
-use Rattle.pywritten.specs.Written.{leading}
+use Rattle.pyunparse_text.specs.Pieces.{piece, pieces}
+use Rattle.pyunparse_text.specs.Written.{leading}
 use Rattle.pyunparse.specs.Inner.Writing.{behind}
 use Rattle.pyunparse.proofs.Sequences.FoldLemmas.{two}
 use Rattle.pyunparse.proofs.Texts.LineLemmas.{whole_line}

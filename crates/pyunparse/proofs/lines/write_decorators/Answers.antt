@@ -1,10 +1,10 @@
 use Rattle.std.proofs.Common.{◌∷◌, [], ◌∙◌, map, refl}
-use Rattle.pylexeme.specs.declared.kinds.Exact.TheVariants.{At}
-use Rattle.pynode.specs.TreeOf.{tree_of}
+use Rattle.pylex_lexeme.specs.declared.kinds.Exact.TheVariants.{At}
+use Rattle.pytree_node.specs.TreeOf.{tree_of}
 use Rattle.pygrammar.specs.declared.levels.Level.TheVariants.{Named}
-use Rattle.pywritten.specs.Modules.{decorators, written_line}
-use Rattle.pywritten.specs.Pieces.{piece, pieces}
-use Rattle.pywritten.specs.Written.{leading}
+use Rattle.pyunparse_text.specs.Modules.{decorators, written_line}
+use Rattle.pyunparse_text.specs.Pieces.{piece, pieces}
+use Rattle.pyunparse_text.specs.Written.{leading}
 use Rattle.pyunparse.proofs.Texts.LineLemmas.{all_lines, line_on}
 use Rattle.pyunparse.proofs.lines.write_decorators.Goals as goal
 

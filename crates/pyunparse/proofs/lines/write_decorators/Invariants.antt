@@ -1,7 +1,7 @@
 use Rattle.std.proofs.Common.{◌≡◌, ◌++◌, map, drop}
-use Rattle.pynode.specs.TreeOf.{tree_of}
-use Rattle.pywritten.specs.Modules.{decorators}
-use Rattle.pywritten.specs.Pieces.{piece}
+use Rattle.pytree_node.specs.TreeOf.{tree_of}
+use Rattle.pyunparse_text.specs.Modules.{decorators}
+use Rattle.pyunparse_text.specs.Pieces.{piece}
 use Rattle.pyunparse.specs.Inner.Lines.{in_utf8}
 use Rattle.pyunparse.proofs.lines.write_decorators.Given as goal
 

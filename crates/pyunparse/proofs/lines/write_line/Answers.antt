@@ -1,7 +1,7 @@
 use Rattle.std.proofs.lemmas.Result.{IfOk-weaker}
-use Rattle.pynode.specs.TreeOf.{stmt_of}
-use Rattle.pywritten.specs.Pieces.{piece}
-use Rattle.pywritten.specs.Statements.{simple_tokens}
+use Rattle.pytree_node.specs.TreeOf.{stmt_of}
+use Rattle.pyunparse_text.specs.Pieces.{piece}
+use Rattle.pyunparse_text.specs.Statements.{simple_tokens}
 use Rattle.pyunparse.proofs.Texts.LineLemmas.{whole_line}
 use Rattle.pyunparse.proofs.lines.write_line.Goals as goal
 

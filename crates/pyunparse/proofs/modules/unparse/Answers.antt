@@ -1,8 +1,8 @@
 use Rattle.std.proofs.Common.{◌∙◌, ◌++◌, map}
-use Rattle.pynode.specs.Trees.{stmts}
-use Rattle.pynode.specs.TreeOf.{module_of, stmt_of}
-use Rattle.pywritten.specs.Modules.{lines_of}
-use Rattle.pywritten.specs.Pieces.{piece}
+use Rattle.pytree_node.specs.Trees.{stmts}
+use Rattle.pytree_node.specs.TreeOf.{module_of, stmt_of}
+use Rattle.pyunparse_text.specs.Modules.{lines_of}
+use Rattle.pyunparse_text.specs.Pieces.{piece}
 use Rattle.pyunparse.specs.Inner.Lines.{in_utf8}
 use Rattle.pyunparse.proofs.Texts.StatedLemmas.{gives_back}
 use Rattle.pyunparse.proofs.modules.unparse.Goals as goal

@@ -1,5 +1,5 @@
 use Rattle.std.proofs.lemmas.Result.{IfOk-equal}
-use Rattle.pynode.specs.TreeOf.{tree_of}
+use Rattle.pytree_node.specs.TreeOf.{tree_of}
 use Rattle.pyunparse.proofs.Shapes.ShapeLemmas.{not_named, simple_annotated}
 use Rattle.pyunparse.proofs.StatementParts.SimpleLemmas.{bracketed_name}
 use Rattle.pyunparse.proofs.statements.write_annotated.Goals as goal

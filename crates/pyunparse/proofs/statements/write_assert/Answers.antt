@@ -1,5 +1,5 @@
 use Rattle.std.proofs.lemmas.Result.{IfOk-equal}
-use Rattle.pynode.specs.TreeOf.{option_of, tree_of}
+use Rattle.pytree_node.specs.TreeOf.{option_of, tree_of}
 use Rattle.pyunparse.proofs.StatementParts.SimpleLemmas.{assert_on}
 use Rattle.pyunparse.proofs.statements.write_assert.Goals as goal
 

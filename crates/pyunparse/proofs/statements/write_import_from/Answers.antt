@@ -1,6 +1,6 @@
 use Rattle.std.proofs.Common.{map}
 use Rattle.std.proofs.lemmas.Result.{IfOk-equal}
-use Rattle.pynode.specs.TreeOf.{alias_of}
+use Rattle.pytree_node.specs.TreeOf.{alias_of}
 use Rattle.pyunparse.proofs.StatementParts.ImportLemmas.{import_on}
 use Rattle.pyunparse.proofs.statements.write_import_from.Goals as goal
 

@@ -1,8 +1,8 @@
 use Rattle.std.proofs.Common.{◌≡◌, true, map, drop}
-use Rattle.pylexeme.specs.declared.kinds.Exact.TheVariants.{Comma}
-use Rattle.pywritten.specs.Statements.{one_name}
-use Rattle.pywritten.specs.Pieces.{piece}
-use Rattle.pywritten.specs.Written.{trailing}
+use Rattle.pylex_lexeme.specs.declared.kinds.Exact.TheVariants.{Comma}
+use Rattle.pyunparse_text.specs.Statements.{one_name}
+use Rattle.pyunparse_text.specs.Pieces.{piece}
+use Rattle.pyunparse_text.specs.Written.{trailing}
 use Rattle.pyunparse.specs.Inner.Folds.{puts}
 use Rattle.pyunparse.specs.Inner.Members.{members}
 use Rattle.pyunparse.proofs.statements.write_names.Given as goal

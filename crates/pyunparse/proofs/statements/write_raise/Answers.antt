@@ -1,4 +1,4 @@
-use Rattle.pynode.specs.TreeOf.{option_of}
+use Rattle.pytree_node.specs.TreeOf.{option_of}
 use Rattle.std.proofs.lemmas.Result.{IfOk-equal}
 use Rattle.pyunparse.proofs.StatementParts.SimpleLemmas.{raise_on}
 use Rattle.pyunparse.proofs.statements.write_raise.Goals as goal

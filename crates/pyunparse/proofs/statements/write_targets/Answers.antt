@@ -1,11 +1,11 @@
 use Rattle.std.proofs.Common.{◌∷◌, [], append_assoc, map, refl, sym}
-use Rattle.pylexeme.specs.declared.kinds.Exact.TheVariants.{Equal}
-use Rattle.pynode.specs.TreeOf.{tree_of}
+use Rattle.pylex_lexeme.specs.declared.kinds.Exact.TheVariants.{Equal}
+use Rattle.pytree_node.specs.TreeOf.{tree_of}
 use Rattle.pygrammar.specs.declared.levels.Level.TheVariants.{Stars}
 use Rattle.pytoken.specs.Terminals.{Op}
-use Rattle.pywritten.specs.Pieces.{piece, pieces}
-use Rattle.pywritten.specs.Statements.{targets}
-use Rattle.pywritten.specs.Written.{free}
+use Rattle.pyunparse_text.specs.Pieces.{piece, pieces}
+use Rattle.pyunparse_text.specs.Statements.{targets}
+use Rattle.pyunparse_text.specs.Written.{free}
 use Rattle.pyunparse.specs.Inner.Assigned.{assigned}
 use Rattle.pyunparse.proofs.Sequences.MemberLemmas.{all_parts, part_on}
 use Rattle.pyunparse.proofs.statements.write_targets.Goals as goal

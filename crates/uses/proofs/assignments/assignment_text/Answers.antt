@@ -1,7 +1,7 @@
 use Rattle.std.proofs.Common.{◌≡◌, arith, rules, true}
 use Rattle.std.specs.Str.{chars}
 use Rattle.std.specs.Prelude.{string_bytes}
-use Rattle.pynode.specs.TreeOf.{module_of}
+use Rattle.pytree_node.specs.TreeOf.{module_of}
 use Rattle.uses.specs.Trees.{assignment}
 use Rattle.uses.proofs.TreeLemmas.{some_text}
 use Rattle.uses.proofs.assignments.assignment_text.Goals as goal

@@ -1,4 +1,4 @@
-use Rattle.pynode.specs.TreeOf.{module_of}
+use Rattle.pytree_node.specs.TreeOf.{module_of}
 use Rattle.uses.proofs.trees.dumped.Goals as goal
 
 pub returns : goal.returns

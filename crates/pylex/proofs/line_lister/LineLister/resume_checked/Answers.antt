@@ -1,7 +1,7 @@
 use Rattle.std.proofs.Common.{◌≡◌, ◌<◌, true, false, ◌⊎◌, inl, inr, refl, arith}
 use Rattle.pylex.specs.Streamed.{ResumeRefusal, is_unread}
 use Rattle.pylex.proofs.LineByLine.Behind.{begins_next, misses_stop, took_on, misses_shown}
-use Rattle.pylexeme.proofs.Callers.Booleans.{bool_cases}
+use Rattle.pylex_lexeme.proofs.Callers.Booleans.{bool_cases}
 use Rattle.pylex.proofs.line_lister.LineLister.resume_checked.Goals as goal
 
 pub returns-in_default-clause-misses : goal.returns-in_default-clause-misses

@@ -1,7 +1,7 @@
 use Rattle.std.proofs.Common.{◌≤◌, arith, length, refl}
 use Rattle.std.specs.Str.{chars}
 use Rattle.std.proofs.lemmas.Str.{length-le-encodes}
-use Rattle.pylexeme.specs.Lexemes.{Lexeme}
+use Rattle.pylex_lexeme.specs.Lexemes.{Lexeme}
 use Rattle.pylex.proofs.MachineLaws.Advancing.{is_after, more_room, place_offset}
 use Rattle.pylex.proofs.line_state.LineState.after.Goals as goal
 

@@ -14,7 +14,7 @@ use Rattle.pylex.specs.declared.machine.Machine.{Machine}
 use Rattle.pylex.specs.Inner.MachineSteps.{shown_from, left_by, Holds, Ranges, StaysBehind}
 use Rattle.pylex.specs.Steps.{entries_in, first_step}
 use Rattle.pylex.proofs.Listers.Moving.{ascending-take, leads_moves, leads_fault, leads_stop, goes_entry, goes_indent, goes_dedent, goes_end, stop_in}
-use Rattle.pylexeme.specs.Chars.{bytes_in}
+use Rattle.pylex_lexeme.specs.Chars.{bytes_in}
 use Rattle.pylex.specs.Machine.{State}
 use Rattle.pylex.specs.declared.kind.Kind.TheVariants as kinds
 use Rattle.pylex.proofs.Listers.Ranges.{entry_range, measuring_comes, measuring_anew, indent_range, mark_range, column_within}

@@ -1,6 +1,6 @@
 use Rattle.std.proofs.Common.{ℕ, List, drop, length, sym, ap, ◌∙◌}
 use Rattle.std.specs.Str.{chars}
-use Rattle.pylexeme.specs.Cuts.{begins_significant}
+use Rattle.pylex_lexeme.specs.Cuts.{begins_significant}
 use Rattle.pylex.specs.Margins.{blanks_of, widths_of}
 use Rattle.pytoken.specs.Indentation.{margin_at}
 use Rattle.pyparse.specs.Inner.Indenting.{begins_blank}

@@ -2,9 +2,9 @@ use Rattle.std.proofs.Common.{◌∙◌, List, map, subst, sym}
 use Rattle.pylex.specs.Listing.{in_characters}
 use Rattle.pytoken.specs.Terminals.{Terminal}
 use Rattle.pygrammar.specs.Refusals.{StartsAt}
-use Rattle.pyvalue.specs.Terminals.{terminal}
-use Rattle.pyform.specs.FormOf.{form_of}
-use Rattle.pyline.specs.Lines.{Refused}
+use Rattle.pytoken.specs.TerminalOf.{terminal}
+use Rattle.pygrammar.specs.FormOf.{form_of}
+use Rattle.pyparse_line.specs.Lines.{Refused}
 use Rattle.pyparse.proofs.ProgressLemmas.{starts_held, comes_held, unread_first}
 use Rattle.pyparse.proofs.progress.Progress.read.Goals as goal
 

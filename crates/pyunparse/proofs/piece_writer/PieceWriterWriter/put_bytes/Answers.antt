@@ -3,7 +3,7 @@ use Rattle.std.specs.Str.{encode_utf8_all}
 use Rattle.std.specs.String.{string_bytes}
 use Rattle.pylex.specs.declared.kind.Kind.TheVariants as kinds
 use Rattle.pysource.specs.Reprs.{repr_bytes}
-use Rattle.pyspacing.specs.Tokens.{PlainToken}
+use Rattle.pyunparse_text.specs.Tokens.{PlainToken}
 use Rattle.pyunparse.specs.Told.{told}
 use Rattle.pyunparse.proofs.Texts.ReprLemmas.{bytes_plain}
 use Rattle.pyunparse.proofs.piece_writer.PieceWriterWriter.put_bytes.Goals as goal

@@ -1,0 +1,139 @@
+-- Laws of a run.
+--
+-- Carries: list, write_listing, run.
+use Rattle.std.proofs.Common.{true, Bool, ◌≡◌, ◌≢◌, ◌++◌, ℕ, List, [], false, Option, None, Some, Ok, Err, Result, refl, sym, ap, inl, inr, ◌∙◌, append_assoc, append-nil}
+use Rattle.std.specs.Prelude.{OnOk, OnErr, is_err}
+use Rattle.std.specs.Io.KnownBytes.{Appends}
+use Rattle.pysource.specs.Bytes.{Seen, TakesFront}
+use Rattle.pysource.proofs.Callers.Taken.{Appends-append, TakesFront-after}
+use Rattle.pylex.specs.declared.entries.ListingFault.{ListingFault}
+use Rattle.pyast_fault.specs.Faults.{listing_code, told_at, of_listing, IsToldAs}
+use Rattle.pyast_words.specs.declared.command.Command.{Command}
+use Rattle.pyast_words.specs.declared.command.Command.TheVariants.{Tokens, Dump, Unparse}
+use Rattle.pyast_command.specs.Dumps.{Dumps}
+use Rattle.pyast_command.specs.Listings.{output_of, fault_in}
+use Rattle.pyast_command.specs.Runs.{TakesAllBut, HoldsFor, WritesFor, Performs, Making, whole, in_pieces, PerformsWhole, Does}
+use Rattle.pyast_command.specs.Unparses.{Unparses}
+use Rattle.pyast_fault.specs.declared.fault.RunFaultCode.{RunFaultCode}
+use Rattle.pyast_fault.specs.declared.fault.SourceFaultCode.{SourceFaultCode}
+use Rattle.pyast_fault.specs.declared.fault.RunFaultCode.TheVariants.{Read, Write, Memory, CursorOfAnotherSource}
+use Rattle.pyast_fault.specs.declared.fault.Fault.{Fault}
+use Rattle.pyast_fault.specs.declared.fault.Fault.TheVariants.{InSource, Plain}
+
+-- what holds anyway, holds where there is an error
+pub on_error : {A E : Type 0} (r : Result A E) (P : Type 0) → P → OnErr r P
+on_error (Ok a) P p = tt
+on_error (Err e) P p = p
+
+-- what a success brings, where there was no error
+pub on_success : {A E : Type 0} {P : Type 0} (r : Result A E) → is_err r ≡ false → OnOk r P → P
+on_success (Ok a) n p = p
+on_success (Err e) n p = cc
+
+-- what an error brings, where there was one
+pub on_failure : {A E : Type 0} {P : Type 0} (r : Result A E) → is_err r ≡ true → OnErr r P → P
+on_failure (Ok a) n p = cc
+on_failure (Err e) n p = p
+
+-- a further line is held, and no longer left
+pub TakesAllBut-held : (x y : Option (List ℕ)) (output held line left : List ℕ) → TakesAllBut x y output held (line ++ left) → TakesAllBut x y output (held ++ line) left
+TakesAllBut-held x y output held line left (written, is, p) = (written, is ∙ simp append_assoc, p)
+
+-- what was held is written
+pub TakesAllBut-written : (x y z : Option (List ℕ)) (output held left : List ℕ) → TakesAllBut x y output held left → Appends y z held → TakesAllBut x z output [] left
+TakesAllBut-written x y z output held left (written, is, p) q = (written ++ held, is ∙ ap (λ t. t ++ left) (sym (append-nil (written ++ held))), Appends-append x y z written held p q)
+
+-- a front of what was held is written
+pub TakesAllBut-cut : (x y z : Option (List ℕ)) (output held left : List ℕ) → TakesAllBut x y output held left → TakesFront y z held → TakesFront x z output
+TakesAllBut-cut x y z output held left (written, is, p) q = TakesFront-after x y z written held left output (is ∙ append_assoc written held left) p q
+
+-- a front of what is held at a listing's end is written
+pub HoldsFor-cut : (output : List ℕ) (told : Option Fault) (x y z : Option (List ℕ)) (held : List ℕ) (ended : Option Fault)
+    → ended ≢ Some (Plain Write) → HoldsFor output told x y held ended → TakesFront y z held → TakesFront x z output
+HoldsFor-cut output told x y z held None n p q = TakesAllBut-cut x y z output held [] p.1 q
+HoldsFor-cut output told x y z held (Some (InSource code place)) n p q = TakesAllBut-cut x y z output held [] p.1 q
+HoldsFor-cut output told x y z held (Some (Plain Memory)) n p q = TakesAllBut-cut x y z output held p.0 p.1 q
+HoldsFor-cut output told x y z held (Some (Plain Read)) n p q = TakesAllBut-cut x y z output held [] p.1 q
+HoldsFor-cut output told x y z held (Some (Plain Write)) n p q = absurd (n refl)
+HoldsFor-cut output told x y z held (Some (Plain other)) n p q = absurd p
+
+-- where a write failed, a front is written
+pub HoldsFor-failed : (output : List ℕ) (told : Option Fault) (x y : Option (List ℕ)) (held : List ℕ) (ended : Option Fault)
+    → ended ≡ Some (Plain Write) → HoldsFor output told x y held ended → WritesFor output told x y ended
+HoldsFor-failed output told x y held ended is p = rw is (rw is at p)
+
+-- all of the output is written
+pub all_written : (output : List ℕ) (x y z : Option (List ℕ)) (held : List ℕ) → TakesAllBut x y output held [] → Appends y z held → Appends x z output
+all_written output x y z held (written, is, p) q = rw (is, append-nil (written ++ held)) (Appends-append x y z written held p q)
+
+-- all that was held at a listing's end is written
+pub HoldsFor-written : (output : List ℕ) (told : Option Fault) (x y z : Option (List ℕ)) (held : List ℕ) (ended : Option Fault)
+    → ended ≢ Some (Plain Write) → HoldsFor output told x y held ended → Appends y z held → WritesFor output told x z ended
+HoldsFor-written output told x y z held None n p q = (p.0, all_written output x y z held p.1 q)
+HoldsFor-written output told x y z held (Some (InSource code place)) n p q = (p.0, all_written output x y z held p.1 q)
+HoldsFor-written output told x y z held (Some (Plain Read)) n p q = (p.0, all_written output x y z held p.1 q)
+HoldsFor-written output told x y z held (Some (Plain Memory)) n (left, (written, is, p)) q = (written ++ held, left, is, Appends-append x y z written held p q)
+HoldsFor-written output told x y z held (Some (Plain Write)) n p q = absurd (n refl)
+HoldsFor-written output told x y z held (Some (Plain other)) n p q = absurd p
+
+-- a listing ended by a fault, and all before that is held
+pub HoldsFor-fault : (output : List ℕ) (told : Option Fault) (x y : Option (List ℕ)) (held : List ℕ) (f : ListingFault) → told ≡ Some (of_listing f) → TakesAllBut x y output held []
+    → HoldsFor output told x y held (Some (of_listing f))
+HoldsFor-fault output told x y held f is p = by_code (listing_code f.code) is
+  where
+    by_code : (o : Option SourceFaultCode) → told ≡ Some (told_at o f.place) → HoldsFor output told x y held (Some (told_at o f.place))
+    by_code None e = (e, p)
+    by_code (Some code) e = (e, p)
+
+-- whatever was written stands at the front of the output
+pub WritesFor-front : (output : List ℕ) (told : Option Fault) (x y : Option (List ℕ)) (ended : Option Fault) → WritesFor output told x y ended → TakesFront x y output
+WritesFor-front output told x y None p = (output, [], sym (append-nil output), p.1)
+WritesFor-front output told x y (Some (InSource code place)) p = (output, [], sym (append-nil output), p.1)
+WritesFor-front output told x y (Some (Plain Read)) p = (output, [], sym (append-nil output), p.1)
+WritesFor-front output told x y (Some (Plain Memory)) p = p
+WritesFor-front output told x y (Some (Plain Write)) p = p
+WritesFor-front output told x y (Some (Plain CursorOfAnotherSource)) p = (output, [], sym (append-nil output), p.1)
+WritesFor-front output told x y (Some (Plain other)) p = absurd p
+
+-- A run whose fault was told as another ended by that one.
+Performs-told : (output : Bool → List ℕ → List ℕ) (told : Bool → List ℕ → Option Fault) (seen_old seen_new : Seen) (x y : Option (List ℕ)) (limit : ℕ) (fault other : Fault)
+    → IsToldAs fault other → Performs output told seen_old seen_new x y limit (Some fault) → Performs output told seen_old seen_new x y limit (Some other)
+Performs-told output told seen_old seen_new x y limit (Plain code) other is p = rw is p
+Performs-told output told seen_old seen_new x y limit (InSource code place) other is p = elim is [
+  | inl e ↦ rw e p
+  | inr e ↦ rw e (record {
+    input = p.input;
+    broken = p.broken;
+    within = p.within;
+    whole = p.whole;
+    cut = p.cut;
+    read = λ e. cc;
+    writes = WritesFor-front (output p.broken p.input) (told p.broken p.input) x y (Some (InSource code place)) p.writes;
+  })
+]
+
+PerformsWhole-told : (making : Making) (does : List ℕ → List ℕ → Option Fault → Type 0) (seen_old seen_new : Seen) (x y : Option (List ℕ)) (limit : ℕ) (fault other : Fault)
+    → IsToldAs fault other → PerformsWhole making does seen_old seen_new x y limit (Some fault) → PerformsWhole making does seen_old seen_new x y limit (Some other)
+PerformsWhole-told making does seen_old seen_new x y limit (Plain code) other is p = rw is p
+PerformsWhole-told whole does seen_old seen_new x y limit (InSource code place) other is p = elim is [
+  | inl e ↦ rw e p
+  | inr e ↦ rw e (p.1.unfailed, p.3)
+]
+PerformsWhole-told in_pieces does seen_old seen_new x y limit (InSource code place) other is p = elim is [
+  | inl e ↦ rw e p
+  | inr e ↦ rw e (p.1.unfailed, inl p.3)
+]
+
+pub Does-told : (command : Command) (seen_old seen_new : Seen) (x y : Option (List ℕ)) (limit : ℕ) (fault other : Fault)
+    → IsToldAs fault other → Does command seen_old seen_new x y limit (Some fault) → Does command seen_old seen_new x y limit (Some other)
+Does-told (Tokens asked) seen_old seen_new x y limit fault other is p = Performs-told (output_of asked) (fault_in asked) seen_old seen_new x y limit fault other is p
+Does-told (Dump asked) seen_old seen_new x y limit fault other is p = PerformsWhole-told in_pieces (Dumps asked.style) seen_old seen_new x y limit fault other is p
+Does-told (Unparse asked) seen_old seen_new x y limit fault other is p = PerformsWhole-told whole (Unparses asked.profile) seen_old seen_new x y limit fault other is p
+
+-- a fault without a place is told as itself, and only as that
+pub told-plain : (fault told : Fault) (code : RunFaultCode) → code ≢ Memory → IsToldAs fault told → (told ≡ Plain code → fault ≡ Plain code) × (fault ≡ Plain code → told ≡ Plain code)
+told-plain (Plain other) told code ne is = (λ e. cc, λ e. cc)
+told-plain (InSource other place) told code ne is = (λ e. elim is [ inl f ↦ cc | inr f ↦ absurd (ne (injects (sym e ∙ f))) ], λ e. cc)
+  where
+    injects : {a b : RunFaultCode} → Plain a ≡ Plain b → a ≡ b
+    injects e = cc

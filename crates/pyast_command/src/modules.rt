@@ -1,0 +1,62 @@
+//! The module of a source, which is read whole.
+ghost use Rattle.std.specs.Prelude.{◌+◌, ◌-◌, ◌^◌, ◌<◌, ◌≤◌, length, IfOk, IfErr};
+ghost use Rattle.std.specs.Str.{encode_utf8_all};
+ghost use Rattle.pysource.specs.Limits.{source_limit};
+ghost use Rattle.pylex.specs.Laws.{IsLawful};
+ghost use Rattle.pylex.specs.Listing.{in_characters};
+ghost use Rattle.pytree_node.specs.TreeOf.{module_of};
+ghost use Rattle.pyunparse_text.specs.Modules.{module_text};
+ghost use Rattle.pyunparse.specs.RoundTrips.{GivesBack};
+ghost use Rattle.pyast_command.specs.Modules.{IsModule};
+ghost use Rattle.pyast_command.specs.Inner.Reading.{Refuses, ReadsModule, ReadsNone};
+
+use pyast_fault::Fault;
+use pylex::Lister;
+use pytree_node::{Module, Profile};
+use pyparse::parse;
+use pysource::{ByteIn, Source, decode, read_all};
+use std::alloc::Global;
+
+/// Makes it known that the listing of a source is lawful, as the start of a lister says.
+fn know_listing(alloc: Global, source: &Source)
+    ensures { IsLawful (in_characters source.now) }
+{
+    let _ = Lister::new(alloc, source);
+}
+
+/// The module that bytes are as a source. Its own text gives it back.
+fn accept(alloc: Global, bytes: &[u8], profile: Profile) -> Result<Module, Fault>
+    requires { length bytes.now ≤ source_limit }
+    ensures is { IfOk result (λ m. IsModule profile bytes.now (module_of m)) }
+    ensures back { IfOk result
+        (λ m. GivesBack profile (encode_utf8_all (module_text (module_of m))) (module_of m)) }
+    ensures refused { IfErr result (Refuses profile bytes.now) }
+{
+    let source = decode(alloc, bytes)?;
+    know_listing(alloc, &source);
+    Ok(parse(alloc, &source, profile)?)
+}
+
+/// The module of what a reader gives, which is read whole: a failed read comes before a fault of
+/// the source.
+pub(crate) fn read_module<R: ByteIn>(
+    alloc: Global,
+    profile: Profile,
+    reader: &mut R,
+) -> Result<Module, Fault>
+    requires { (R.seen reader.old).failures < 2 ^ 64 - 1 }
+    ensures reads { IfOk result
+        (λ m. ReadsModule profile (R.seen reader.old) (R.seen reader.new) (module_of m)) }
+    ensures back { IfOk result
+        (λ m. GivesBack profile (encode_utf8_all (module_text (module_of m))) (module_of m)) }
+    ensures none { IfErr result (ReadsNone profile (R.seen reader.old) (R.seen reader.new)) }
+{
+    let bytes = read_all(alloc, reader)?;
+    accept(alloc, bytes.as_slice(), profile)
+}
+
+/// Leaves a module to the end of the process. A run is the last act of its program, and to free the
+/// tree node by node takes a tenth of the time of `dump` and a seventh of that of `unparse`.
+pub(crate) fn leave_to_exit(module: Module) {
+    std::mem::forget(module);
+}

@@ -1,0 +1,76 @@
+//! A run of the program, over a reader and two writers.
+ghost use Rattle.std.specs.Prelude.{◌≡◌, ◌≢◌, ◌+◌, ◌-◌, ◌^◌, ◌<◌, Option, Some};
+ghost use Rattle.pysource.specs.Limits.{source_limit};
+ghost use Rattle.pyast_fault.specs.declared.fault.Fault.{Fault};
+ghost use Rattle.pyast_fault.specs.declared.fault.RunFaultCode.{RunFaultCode};
+ghost use Rattle.pyast_command.specs.Runs.{ended_by, Does, IsRun};
+
+use crate::dumps::write_dump;
+use crate::listings::write_listing;
+use crate::unparses::write_unparse;
+use pyast_fault::{Fault, tell};
+use pysource::{ByteIn, ByteOut};
+use pyast_words::Command;
+use std::alloc::Global;
+
+/// Does what the command says with what a reader gives.
+fn perform<R: ByteIn, W: ByteOut>(
+    alloc: Global,
+    command: &Command,
+    reader: &mut R,
+    writer: &mut W,
+) -> Result<(), Fault>
+    requires reader { (R.seen reader.old).failures < 2 ^ 64 - 1 }
+    requires writer { (W.sent writer.old).failures < 2 ^ 64 - 1 }
+    ensures does { Does command.now (R.seen reader.old) (R.seen reader.new)
+        (W.sent writer.old).taken (W.sent writer.new).taken source_limit (ended_by result) }
+    ensures write_failed { ended_by result ≡ Some (Fault.Plain RunFaultCode.Write)
+        → (W.sent writer.new).failures ≡ (W.sent writer.old).failures + 1 }
+    ensures write_told { ended_by result ≢ Some (Fault.Plain RunFaultCode.Write)
+        → (W.sent writer.new).failures ≡ (W.sent writer.old).failures }
+{
+    match command {
+        Command::Tokens(asked) => write_listing(alloc, asked, reader, writer),
+        Command::Dump(asked) => write_dump(alloc, asked, reader, writer),
+        Command::Unparse(asked) => write_unparse(alloc, asked, reader, writer),
+    }
+}
+
+/// A run of the program: reads the source of `reader`, writes to `writer` what the command gives,
+/// and tells what ended the run early, if anything did, in a line to `faults`. The answer is the
+/// status that the program ends with: 0 where all was done, or that of the fault told.
+///
+/// `tokens` reads line by line. Where a read fails, or the source is too long, what is written and
+/// told is that of the lines that were read whole: the entries of those, and then the failed read,
+/// unless a count or a fault of the source ends the run before.
+///
+/// `dump` and `unparse` read the source whole. Where a read fails, or the source is too long, that
+/// alone is told; and nothing is written of a source that is refused. `dump` writes its text in
+/// pieces: where memory ends in the midst of it, a front of it was written. What `unparse` writes
+/// is itself a source, and is accepted as the same module.
+///
+/// Behind `dump` and `unparse` the tree of the source is not freed: it is left to the end of the
+/// process, whose last act a run is.
+///
+/// The file that the command names is the caller's to open; its name is used in the fault's line
+/// alone.
+pub fn run<R: ByteIn, W: ByteOut, F: ByteOut>(
+    alloc: Global,
+    command: &Command,
+    reader: &mut R,
+    writer: &mut W,
+    faults: &mut F,
+) -> u8
+    requires reader { (R.seen reader.old).failures < 2 ^ 64 - 1 }
+    requires writer { (W.sent writer.old).failures < 2 ^ 64 - 1 }
+    requires faults { (F.sent faults.old).failures < 2 ^ 64 - 1 }
+    ensures { (ended : Option Fault)
+        × IsRun command.now (R.seen reader.old) (R.seen reader.new)
+        (W.sent writer.old) (W.sent writer.new)
+        (F.sent faults.old) (F.sent faults.new) source_limit result ended }
+{
+    match perform(alloc, command, reader, writer) {
+        Ok(()) => 0,
+        Err(fault) => tell(alloc, command.name(), fault, faults).status(),
+    }
+}

@@ -1,0 +1,125 @@
+//! What `dump` does where reading or writing fails.
+
+use crate::dumps::command;
+use crate::expected::{
+    Left, failing_reader, leaves, reader, same_bytes, same_status, stops_anywhere, stops_at, writer,
+};
+use fakes::FakeWriter;
+use pyast_command::{Command, run};
+use std::alloc::Global;
+use std::process::Abort;
+use std::test::Fail;
+
+/// Asserts that a failed read behind these bytes is told alone.
+fn tells_a_failed_read(rt: &impl Abort, alloc: Global, command: &Command, source: &[u8]) {
+    let left = Left {
+        written: b"",
+        told: b"pyast: read failed\n",
+        status: 3,
+    };
+    leaves(
+        rt,
+        alloc,
+        command,
+        &mut failing_reader(source),
+        &left,
+        "a failed read",
+    );
+}
+
+/// Asserts that of some bytes, a fault of their encoding or of their tokens among them, and of each
+/// front of a source.
+pub(crate) fn tells_failed_reads(rt: &impl Abort, alloc: Global, words: &str) -> Result<(), Fail> {
+    let command = command(alloc, words)?;
+    let rows: &[&[u8]] = &[
+        b"",
+        b"x\n",
+        b"x\ny",
+        b")\n",
+        b"\xFF\n",
+        b"# x\n# coding: latin-1\n",
+    ];
+    for source in rows {
+        tells_a_failed_read(rt, alloc, &command, source);
+    }
+    let source = b"if x:\n\ty\n".as_slice();
+    for given in 0..=source.len() {
+        tells_a_failed_read(rt, alloc, &command, &source[..given]);
+    }
+    Ok(())
+}
+
+/// A failed read is told alone, before a fault of the encoding too; nothing is written.
+#[test]
+fn tells_a_failed_read_alone(rt: HostRuntime) -> Result<(), Fail> {
+    tells_failed_reads(&rt, rt.alloc(), "dump")
+}
+
+/// What the writer took is a front of the dump.
+#[test]
+fn stops_where_the_writer_fails(rt: HostRuntime) -> Result<(), Fail> {
+    let command = command(rt.alloc(), "dump --bare")?;
+    let whole = b"Module([Expr(Name('x', Load()))], [])\n".as_slice();
+    stops_anywhere(&rt, rt.alloc(), &command, b"x\n", whole);
+    Ok(())
+}
+
+/// A long dump is written in pieces, here of 65,556 and 9,457 bytes. What the writer took is a
+/// front of it, whichever fails.
+#[test]
+fn stops_where_a_piece_fails(rt: HostRuntime) -> Result<(), Fail> {
+    let command = command(rt.alloc(), "dump --bare")?;
+    let mut source = String::new(rt.alloc());
+    let mut whole = String::from_str(rt.alloc(), "Module([Expr(Name('x', Load()))")?;
+    source.push_str("x\n")?;
+    for _ in 1..3_000 {
+        source.push_str("x\n")?;
+        whole.push_str(", Expr(Name('x', Load()))")?;
+    }
+    whole.push_str("], [])\n")?;
+    for room in [0usize, 65_555, 65_556, 65_557, 75_012, 75_013] {
+        stops_at(
+            &rt,
+            rt.alloc(),
+            &command,
+            source.as_bytes(),
+            whole.as_bytes(),
+            room,
+            false,
+        );
+    }
+    Ok(())
+}
+
+/// Asserts that the line of a fault is written up to so many bytes, and the status is that of the
+/// fault.
+fn keeps_its_status(rt: &impl Abort, alloc: Global, command: &Command, line: &[u8], room: usize) {
+    assert!(rt; room <= line.len());
+    let mut reader = reader(b"x = 1.5\n");
+    let mut output = writer(alloc);
+    let mut faults = FakeWriter::new(alloc, 1, room, false);
+    let status = run(alloc, command, &mut reader, &mut output, &mut faults);
+    same_bytes(rt, output.taken(), b"", "a room");
+    same_bytes(rt, faults.taken(), &line[..room], "a room");
+    same_status(rt, status, 1, "a room");
+}
+
+/// Asserts that of each number of bytes, up to the whole line.
+pub(crate) fn keeps_its_status_anywhere(
+    rt: &impl Abort,
+    alloc: Global,
+    words: &str,
+) -> Result<(), Fail> {
+    let command = command(alloc, words)?;
+    let line = b"<stdin>:1:4: error: float literal\n".as_slice();
+    for room in 0..=line.len() {
+        keeps_its_status(rt, alloc, &command, line, room);
+    }
+    Ok(())
+}
+
+/// The status stays where the line of the fault can't be written.
+#[test]
+fn keeps_its_status_where_the_fault_line_fails(rt: HostRuntime) -> Result<(), Fail> {
+    keeps_its_status_anywhere(&rt, rt.alloc(), "dump")
+}

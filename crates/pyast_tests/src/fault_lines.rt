@@ -1,0 +1,257 @@
+//! The line that is told of each fault, and the status that it gives.
+
+use crate::expected::{same_bytes, same_status, same_text, writer};
+use pyast_command::{Fault, FaultCode, RunFaultCode, SourceFaultCode, fault_text, tell};
+use pyparse::{GrammarError, ParseFault, tokens_of};
+use pysource::{InputFault, Place, SOURCE_LIMIT, SourceFault, decode};
+use pytoken::TokenError;
+use std::alloc::Global;
+use std::process::Abort;
+use std::test::Fail;
+
+/// Asserts that a fault is the expected one.
+fn same_fault(rt: &impl Abort, told: &Fault, expected: &Fault, line: &str) {
+    assert_eq!(rt; told, expected, "at {line}");
+}
+
+/// Asserts that this line, and an LF behind it, is told of a fault of `a.py`, and that the status
+/// is this.
+fn tells(rt: &impl Abort, alloc: Global, fault: Fault, line: &str, status: u8) -> Result<(), Fail> {
+    let wanted = format!(in alloc; "{line}\n")?;
+    let mut faults = writer(alloc);
+    let told = tell(alloc, "a.py", fault, &mut faults);
+    same_bytes(rt, faults.taken(), wanted.as_bytes(), line);
+    same_fault(rt, &told, &fault, line);
+    same_status(rt, told.status(), status, line);
+    Ok(())
+}
+
+/// Asserts the text of a fault of a source, its line at a place, and the status.
+fn tells_in_source(
+    rt: &impl Abort,
+    alloc: Global,
+    code: SourceFaultCode,
+    text: &str,
+) -> Result<(), Fail> {
+    let place = Place { row: 3, column: 7 };
+    same_text(rt, fault_text(FaultCode::Source(code)), text, text);
+    let line = format!(in alloc; "a.py:3:7: error: {text}")?;
+    tells(rt, alloc, Fault::InSource(code, place), line.as_str(), 1)
+}
+
+/// Asserts that of each row.
+fn tells_all(rt: &impl Abort, alloc: Global, rows: &[(SourceFaultCode, &str)]) -> Result<(), Fail> {
+    for (code, text) in rows {
+        tells_in_source(rt, alloc, *code, text)?;
+    }
+    Ok(())
+}
+
+/// Asserts the text of a fault that is in no source, its line, and the status.
+fn tells_plainly(
+    rt: &impl Abort,
+    alloc: Global,
+    code: RunFaultCode,
+    text: &str,
+    status: u8,
+) -> Result<(), Fail> {
+    same_text(rt, fault_text(FaultCode::Run(code)), text, text);
+    let line = format!(in alloc; "pyast: {text}")?;
+    tells(rt, alloc, Fault::Plain(code), line.as_str(), status)
+}
+
+#[test]
+fn tells_what_is_wrong_with_a_source(rt: HostRuntime) -> Result<(), Fail> {
+    let rows = &[
+        (SourceFaultCode::UnsupportedEncoding, "unsupported encoding"),
+        (
+            SourceFaultCode::BomConflict,
+            "byte order mark with another encoding",
+        ),
+        (SourceFaultCode::NotUtf8, "invalid UTF-8"),
+        (SourceFaultCode::NotAscii, "not ASCII"),
+        (
+            SourceFaultCode::LoneReturn,
+            "carriage return without line feed",
+        ),
+        (SourceFaultCode::BadCharacter, "unexpected character"),
+        (
+            SourceFaultCode::UnterminatedString,
+            "unterminated string literal",
+        ),
+        (SourceFaultCode::EofInString, "EOF in multi-line string"),
+        (
+            SourceFaultCode::EofInStatement,
+            "EOF in multi-line statement",
+        ),
+        (
+            SourceFaultCode::UnindentMismatch,
+            "unindent does not match any outer indentation level",
+        ),
+        (
+            SourceFaultCode::UnmatchedCloser,
+            "unmatched closing bracket",
+        ),
+        (SourceFaultCode::Token(TokenError::Float), "float literal"),
+        (
+            SourceFaultCode::Token(TokenError::Complex),
+            "complex literal",
+        ),
+        (SourceFaultCode::Token(TokenError::FString), "f-string"),
+        (
+            SourceFaultCode::Token(TokenError::IntegerTooLarge),
+            "integer too large",
+        ),
+        (
+            SourceFaultCode::Token(TokenError::NamedEscape),
+            "named escape",
+        ),
+        (SourceFaultCode::Token(TokenError::BadEscape), "bad escape"),
+        (
+            SourceFaultCode::Token(TokenError::NonAsciiBytes),
+            "non-ASCII bytes literal",
+        ),
+        (SourceFaultCode::Token(TokenError::Nul), "null character"),
+        (SourceFaultCode::Token(TokenError::NameForm), "name form"),
+        (SourceFaultCode::Syntax, "invalid syntax"),
+        (SourceFaultCode::MatchStatement, "match statement"),
+        (
+            SourceFaultCode::ExpectedIndent,
+            "expected an indented block",
+        ),
+        (SourceFaultCode::UnexpectedIndent, "unexpected indent"),
+        (SourceFaultCode::MisplacedClause, "misplaced clause"),
+        (SourceFaultCode::TooDeep, "too deep"),
+        (
+            SourceFaultCode::InconsistentTabs,
+            "inconsistent tabs and spaces",
+        ),
+    ];
+    tells_all(&rt, rt.alloc(), rows)
+}
+
+#[test]
+fn tells_what_else_ends_a_run(rt: HostRuntime) -> Result<(), Fail> {
+    for (code, text, status) in &[
+        (RunFaultCode::Read, "read failed", 3),
+        (
+            RunFaultCode::CursorOfAnotherSource,
+            "cursor of another source",
+            2,
+        ),
+        (RunFaultCode::CursorText, "malformed cursor", 2),
+        (RunFaultCode::BadArguments, "bad arguments", 2),
+        (RunFaultCode::Open, "cannot open file", 3),
+        (RunFaultCode::Write, "write failed", 3),
+        (RunFaultCode::Memory, "out of memory", 4),
+    ] {
+        tells_plainly(&rt, rt.alloc(), *code, text, *status)?;
+    }
+    Ok(())
+}
+
+/// Asserts that this line is told of a source that has no tokens.
+fn refuses(rt: &impl Abort, alloc: Global, text: &str, line: &str) -> Result<(), Fail> {
+    let bytes = text.as_bytes();
+    if bytes.len() > SOURCE_LIMIT {
+        return Err(Fail::from("too long"));
+    }
+    let source = decode(alloc, bytes)?;
+    match tokens_of(alloc, &source) {
+        Ok(_) => Err(Fail::from("tokens")),
+        Err(fault) => tells(rt, alloc, Fault::from(fault), line, 1),
+    }
+}
+
+/// Rows count from 1, and columns from 0 in characters.
+#[test]
+fn tells_why_a_source_has_no_tokens(rt: HostRuntime) -> Result<(), Fail> {
+    for (text, line) in &[
+        ("x = 1.5\n", "a.py:1:4: error: float literal"),
+        ("'é' + 1j\n", "a.py:1:6: error: complex literal"),
+        ("x\nf''\n", "a.py:2:0: error: f-string"),
+        (
+            "x = 340282366920938463463374607431768211456\n",
+            "a.py:1:4: error: integer too large",
+        ),
+        ("'\\N{DASH}'\n", "a.py:1:0: error: named escape"),
+        ("'\\x4'\n", "a.py:1:0: error: bad escape"),
+        ("b'é'\n", "a.py:1:0: error: non-ASCII bytes literal"),
+        ("x # \0\n", "a.py:1:2: error: null character"),
+        ("ｉｆ = 1\n", "a.py:1:0: error: name form"),
+        (
+            "if x:\n        y\n\tz\n",
+            "a.py:3:1: error: inconsistent tabs and spaces",
+        ),
+        ("x $ 1.5\n", "a.py:1:2: error: unexpected character"),
+        (
+            "x\ry\n",
+            "a.py:1:1: error: carriage return without line feed",
+        ),
+    ] {
+        refuses(&rt, rt.alloc(), text, line)?;
+    }
+    Ok(())
+}
+
+#[test]
+fn tells_brackets_that_are_too_deep(rt: HostRuntime) -> Result<(), Fail> {
+    let mut text = String::new(rt.alloc());
+    for _ in 0..601 {
+        text.push('(')?;
+    }
+    text.push('x')?;
+    for _ in 0..601 {
+        text.push(')')?;
+    }
+    refuses(
+        &rt,
+        rt.alloc(),
+        text.as_str(),
+        "a.py:1:600: error: too deep",
+    )
+}
+
+/// What the grammar says against a line is told at its place.
+#[test]
+fn tells_what_the_grammar_says(rt: HostRuntime) -> Result<(), Fail> {
+    let place = Place { row: 3, column: 7 };
+    for (error, line) in &[
+        (GrammarError::Syntax, "a.py:3:7: error: invalid syntax"),
+        (
+            GrammarError::MatchStatement,
+            "a.py:3:7: error: match statement",
+        ),
+        (
+            GrammarError::ExpectedIndent,
+            "a.py:3:7: error: expected an indented block",
+        ),
+        (
+            GrammarError::UnexpectedIndent,
+            "a.py:3:7: error: unexpected indent",
+        ),
+        (
+            GrammarError::MisplacedClause,
+            "a.py:3:7: error: misplaced clause",
+        ),
+        (GrammarError::TooDeep, "a.py:3:7: error: too deep"),
+    ] {
+        let fault = Fault::from(ParseFault::Grammar(*error, place));
+        tells(&rt, rt.alloc(), fault, line, 1)?;
+    }
+    Ok(())
+}
+
+/// A failed read has no place, and want of memory is told as such.
+#[test]
+fn tells_what_is_no_fault_of_a_source(rt: HostRuntime) -> Result<(), Fail> {
+    for (fault, line, status) in [
+        (Fault::from(ParseFault::Memory), "pyast: out of memory", 4),
+        (Fault::from(SourceFault::Memory), "pyast: out of memory", 4),
+        (Fault::from(InputFault::Memory), "pyast: out of memory", 4),
+        (Fault::from(InputFault::Read), "pyast: read failed", 3),
+    ] {
+        tells(&rt, rt.alloc(), fault, line, status)?;
+    }
+    Ok(())
+}

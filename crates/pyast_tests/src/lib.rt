@@ -1,0 +1,33 @@
+//! Tests of `pyast_command`: which words give which command, what is listed, dumped and unparsed of
+//! which source, and what is told where reading or writing fails. The rows are worked by hand from
+//! the documentation of Python, or taken from Python 3.11.
+#![tactic(auto)]
+
+#[cfg(test)]
+mod cursors;
+#[cfg(test)]
+mod dump_failures;
+#[cfg(test)]
+mod dump_faults;
+#[cfg(test)]
+mod dump_limits;
+#[cfg(test)]
+mod dump_styles;
+#[cfg(test)]
+mod dumps;
+#[cfg(test)]
+mod edges;
+#[cfg(test)]
+mod expected;
+#[cfg(test)]
+mod failures;
+#[cfg(test)]
+mod fault_lines;
+#[cfg(test)]
+mod fronts;
+#[cfg(test)]
+mod listings;
+#[cfg(test)]
+mod unparses;
+#[cfg(test)]
+mod words;

@@ -1,2 +1,0 @@
-pub mod Meeting
-pub mod Levels

@@ -1,8 +1,0 @@
--- What is kept of lines, as the reading has it.
-use Rattle.pygrammar.specs.Reading.{State}
-use Rattle.pyblock.specs.declared.blocks.Blocks.{Blocks}
-use Rattle.pyblock.specs.Values as value
-
--- the state of the reading behind the lines so far
-abbrev pub state_of : Blocks → State
-state_of b = value.state_of b.stack

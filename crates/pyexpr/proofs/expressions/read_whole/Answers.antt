@@ -1,7 +1,0 @@
-use Rattle.std.proofs.Common.{arith}
-use Rattle.pynode.specs.TreeOf.{tree_of}
-use Rattle.pyexpr.proofs.Reader.Wholes.{whole_high}
-use Rattle.pyexpr.proofs.expressions.read_whole.Goals as goal
-
-pub returns-then-read-gt-MOST_HEIGHT : goal.returns-then-read-gt-MOST_HEIGHT
-returns-then-read-gt-MOST_HEIGHT c = whole_high c.args.tokens.now c.args.level _ _ (tree_of c.in_ok-read.read.expr.value) _ (omega arith) (omega arith) c.in_ok-read.ensures.is (omega (arith, c.in_ok-read.read.is_height))

@@ -1,7 +1,0 @@
-use Rattle.std.proofs.Common.{map}
-use Rattle.pynode.specs.TreeOf.{type_param_of}
-use Rattle.pyheader.proofs.DefinitionSteps.{class_open}
-use Rattle.pyheader.proofs.definitions.bases_rest.Goals as goal
-
-pub returns : goal.returns
-returns c = class_open c.args.tokens.now c.args.depth c.args.name (map type_param_of c.args.types.params.items) c.args.types.next c.if-not-is_op.ensures c.class_at.result c.class_at.ensures

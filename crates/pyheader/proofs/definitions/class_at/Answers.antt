@@ -1,7 +1,0 @@
-use Rattle.std.proofs.Common.{map}
-use Rattle.pynode.specs.TreeOf.{type_param_of}
-use Rattle.pyheader.proofs.DefinitionSteps.{class_made}
-use Rattle.pyheader.proofs.definitions.class_at.Goals as goal
-
-pub returns : goal.returns
-returns c = class_made c.args.tokens.now c.args.depth c.args.name (map type_param_of c.args.types.params.items) c.args.at _ _ _ c.class_of.result c.in_ok-arguments.ensures c.if-not-is_op.ensures c.class_of.ensures.header c.class_of.ensures.next

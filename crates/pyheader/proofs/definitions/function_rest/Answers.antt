@@ -1,7 +1,0 @@
-use Rattle.std.proofs.Common.{map}
-use Rattle.pynode.specs.TreeOf.{type_param_of}
-use Rattle.pyheader.proofs.DefinitionSteps.{function_open}
-use Rattle.pyheader.proofs.definitions.function_rest.Goals as goal
-
-pub returns : goal.returns
-returns c = function_open c.args.tokens.now c.args.depth c.args.name (map type_param_of c.args.types.params.items) c.args.types.next c.if-not-is_op.ensures c.args.is_async c.function_at.result c.function_at.ensures

@@ -1,0 +1,8 @@
+-- What other crates cite of pylex_lexeme.
+pub mod Booleans
+pub mod Fronts
+pub mod Lexemes
+pub mod Numbers
+pub mod Strings
+pub mod WholeLines
+pub mod Tables

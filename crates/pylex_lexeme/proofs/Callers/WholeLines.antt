@@ -1,0 +1,4 @@
+-- What callers cite of the first lexeme of some whole lines, whatever follows them. Cited by
+-- pylex.
+pub use Rattle.pylex_lexeme.proofs.WholeLines.Kept.{len_kept, lexeme_kept, none_kept, open_kept}
+pub use Rattle.pylex_lexeme.proofs.WholeLines.LineFronts.{opens_kept, significant_kept}

@@ -1,0 +1,93 @@
+-- The 47 operators and delimiters, with their names (reference 2.5 and 2.6, `token`).
+use Rattle.std.specs.Prelude.{ℕ, Bool, true, false, List, [], ◌∷◌, codes, Option, is_some, option_map}
+use Rattle.std.specs.List.{find}
+use Rattle.std.specs.Str.{bytes_eq}
+use Rattle.pylex_lexeme.specs.declared.kinds.Exact.{Exact}
+use Rattle.pylex_lexeme.specs.declared.kinds.Exact.TheVariants.{LPar, RPar, LSqb, RSqb, LBrace, RBrace, Colon, Comma, Semi, Plus, Minus, Star, Slash, VBar, Amper, Less, Greater, Equal, Dot, Percent, EqEqual, NotEqual, LessEqual, GreaterEqual, Tilde, Circumflex, LeftShift, RightShift, DoubleStar, PlusEqual, MinEqual, StarEqual, SlashEqual, PercentEqual, AmperEqual, VBarEqual, CircumflexEqual, LeftShiftEqual, RightShiftEqual, DoubleStarEqual, DoubleSlash, DoubleSlashEqual, At, AtEqual, RArrow, Ellipsis, ColonEqual}
+
+pub record Operator : Type 0 where
+  pub spelling : List ℕ
+  pub exact : Exact
+
+abbrev op : List ℕ → Exact → Operator
+op t e = record { spelling = t; exact = e }
+
+unfoldable pub operators : List Operator
+operators =
+    op (codes "(") LPar ∷ op (codes ")") RPar ∷ op (codes "[") LSqb ∷ op (codes "]") RSqb ∷
+    op (codes "{") LBrace ∷ op (codes "}") RBrace ∷ op (codes ":") Colon ∷ op (codes ",") Comma ∷
+    op (codes ";") Semi ∷ op (codes "+") Plus ∷ op (codes "-") Minus ∷ op (codes "*") Star ∷
+    op (codes "/") Slash ∷ op (codes "|") VBar ∷ op (codes "&") Amper ∷ op (codes "<") Less ∷
+    op (codes ">") Greater ∷ op (codes "=") Equal ∷ op (codes ".") Dot ∷ op (codes "%") Percent ∷
+    op (codes "==") EqEqual ∷ op (codes "!=") NotEqual ∷ op (codes "<=") LessEqual ∷ op (codes ">=") GreaterEqual ∷
+    op (codes "~") Tilde ∷ op (codes "^") Circumflex ∷ op (codes "<<") LeftShift ∷ op (codes ">>") RightShift ∷
+    op (codes "**") DoubleStar ∷ op (codes "+=") PlusEqual ∷ op (codes "-=") MinEqual ∷ op (codes "*=") StarEqual ∷
+    op (codes "/=") SlashEqual ∷ op (codes "%=") PercentEqual ∷ op (codes "&=") AmperEqual ∷ op (codes "|=") VBarEqual ∷
+    op (codes "^=") CircumflexEqual ∷ op (codes "<<=") LeftShiftEqual ∷ op (codes ">>=") RightShiftEqual ∷ op (codes "**=") DoubleStarEqual ∷
+    op (codes "//") DoubleSlash ∷ op (codes "//=") DoubleSlashEqual ∷ op (codes "@") At ∷ op (codes "@=") AtEqual ∷
+    op (codes "->") RArrow ∷ op (codes "...") Ellipsis ∷ op (codes ":=") ColonEqual ∷
+    []
+
+-- the name of an operator
+unfoldable pub exact_of : List ℕ → Option Exact
+exact_of t = option_map (λ o. o.exact) (find (λ o. bytes_eq t o.spelling) operators)
+
+unfoldable pub is_operator : List ℕ → Bool
+is_operator t = is_some (exact_of t)
+
+-- the brackets: parentheses, square brackets and braces (reference 2.6)
+abbrev pub is_opener : Exact → Bool
+is_opener e = elim e [ LPar ↦ true | LSqb ↦ true | LBrace ↦ true | _ ↦ false ]
+
+abbrev pub is_closer : Exact → Bool
+is_closer e = elim e [ RPar ↦ true | RSqb ↦ true | RBrace ↦ true | _ ↦ false ]
+
+-- the exact name that the module `token` gives an operator
+abbrev pub exact_name : Exact → List ℕ
+exact_name LPar = codes "LPAR"
+exact_name RPar = codes "RPAR"
+exact_name LSqb = codes "LSQB"
+exact_name RSqb = codes "RSQB"
+exact_name LBrace = codes "LBRACE"
+exact_name RBrace = codes "RBRACE"
+exact_name Colon = codes "COLON"
+exact_name Comma = codes "COMMA"
+exact_name Semi = codes "SEMI"
+exact_name Plus = codes "PLUS"
+exact_name Minus = codes "MINUS"
+exact_name Star = codes "STAR"
+exact_name Slash = codes "SLASH"
+exact_name VBar = codes "VBAR"
+exact_name Amper = codes "AMPER"
+exact_name Less = codes "LESS"
+exact_name Greater = codes "GREATER"
+exact_name Equal = codes "EQUAL"
+exact_name Dot = codes "DOT"
+exact_name Percent = codes "PERCENT"
+exact_name EqEqual = codes "EQEQUAL"
+exact_name NotEqual = codes "NOTEQUAL"
+exact_name LessEqual = codes "LESSEQUAL"
+exact_name GreaterEqual = codes "GREATEREQUAL"
+exact_name Tilde = codes "TILDE"
+exact_name Circumflex = codes "CIRCUMFLEX"
+exact_name LeftShift = codes "LEFTSHIFT"
+exact_name RightShift = codes "RIGHTSHIFT"
+exact_name DoubleStar = codes "DOUBLESTAR"
+exact_name PlusEqual = codes "PLUSEQUAL"
+exact_name MinEqual = codes "MINEQUAL"
+exact_name StarEqual = codes "STAREQUAL"
+exact_name SlashEqual = codes "SLASHEQUAL"
+exact_name PercentEqual = codes "PERCENTEQUAL"
+exact_name AmperEqual = codes "AMPEREQUAL"
+exact_name VBarEqual = codes "VBAREQUAL"
+exact_name CircumflexEqual = codes "CIRCUMFLEXEQUAL"
+exact_name LeftShiftEqual = codes "LEFTSHIFTEQUAL"
+exact_name RightShiftEqual = codes "RIGHTSHIFTEQUAL"
+exact_name DoubleStarEqual = codes "DOUBLESTAREQUAL"
+exact_name DoubleSlash = codes "DOUBLESLASH"
+exact_name DoubleSlashEqual = codes "DOUBLESLASHEQUAL"
+exact_name At = codes "AT"
+exact_name AtEqual = codes "ATEQUAL"
+exact_name RArrow = codes "RARROW"
+exact_name Ellipsis = codes "ELLIPSIS"
+exact_name ColonEqual = codes "COLONEQUAL"

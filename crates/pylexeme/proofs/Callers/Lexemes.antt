@@ -1,7 +1,0 @@
--- What callers cite of the longest lexeme of all classes, and of the class of a text. Cited by
--- pylex, pyspacing, pytoken, pywritten.
-unfoldable pub use Rattle.pylexeme.proofs.Computing.{lexemes}
-pub use Rattle.pylexeme.proofs.Lexemes.Classes.{by_words, heads, no_head, no_operator, start_continues, words}
-pub use Rattle.pylexeme.proofs.Lexemes.Cutting.{none_is}
-pub use Rattle.pylexeme.proofs.Lexemes.OperatorLengths.{no_operator_none}
-pub use Rattle.pylexeme.proofs.Lexemes.Union.{blanks_take, both_take, class_at, class_none, comment_takes, feed_takes, name_takes, no_end_front, nothing_takes, number_takes, opens_off, operator_takes, string_takes}

@@ -1,6 +1,0 @@
--- What callers cite of the longest number. Cited by pyspacing, pytoken, pywritten.
-pub use Rattle.pylexeme.proofs.Fronts.Joined.{len_digit}
-pub use Rattle.pylexeme.proofs.Fronts.Taking.{exponent_none, fraction_is, j_none, point_none, radix_none, radix_other, tail_is}
-pub use Rattle.pylexeme.proofs.Numbers.NumberBest.{longest_is, longest_number}
-pub use Rattle.pylexeme.proofs.Numbers.NumberSets.{digit_bounds, either, either_not, not_both, one_digit, point_is, zero_digit}
-pub use Rattle.pylexeme.proofs.Numbers.Parts.{decimal_part, part_all}

@@ -1,5 +1,0 @@
--- What callers cite of the longest string, its prefix and its quotes. Cited by pyspacing.
-pub use Rattle.pylexeme.proofs.Strings.Prefixes.{two_prefix}
-pub use Rattle.pylexeme.proofs.Strings.StringBest.{Which, one, two}
-pub use Rattle.pylexeme.proofs.Strings.StringLongest.{longest_reads, string_opens, string_reads}
-pub use Rattle.pylexeme.proofs.Strings.Units.{IsQuote, nil_units, quote_is, unit_one, unit_slash, units_plain}

@@ -1,5 +1,0 @@
-use Rattle.pylexeme.proofs.Lexemes.Delimiters.{delimiter_takes}
-use Rattle.pylexeme.proofs.lexeme.delimiter.Goals as goal
-
-pub returns : goal.returns
-returns c = rw c.bump.ensures.rest (delimiter_takes c.args.text.now c.args.which c.requires)

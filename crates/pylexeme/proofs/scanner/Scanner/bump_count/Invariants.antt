@@ -1,5 +1,0 @@
-use Rattle.std.proofs.Common.{◌≡◌, drop}
-use Rattle.pylexeme.proofs.scanner.Scanner.bump_count.Given as goal
-
-abbrev pub invariant-loop : goal.invariant-loop
-invariant-loop l = l.self ≡ drop l.counter l.initial.self

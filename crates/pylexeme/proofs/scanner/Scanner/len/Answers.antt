@@ -1,7 +1,0 @@
-use Rattle.std.proofs.Common.{ap, ◌∙◌, length}
-use Rattle.std.specs.Str.{encode_utf8_all}
-use Rattle.pylexeme.proofs.Fronts.Texts.{length-text}
-use Rattle.pylexeme.proofs.scanner.Scanner.len.Goals as goal
-
-pub returns : goal.returns
-returns c = length-text c.self.inside.rest.now c.self.invariant ∙ ap (λ cs. length (encode_utf8_all cs)) c.self.view_is

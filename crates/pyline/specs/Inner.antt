@@ -1,4 +1,0 @@
-pub mod Answers
-pub mod Fronts
-pub mod Heights
-pub mod Kinds

@@ -1,8 +1,0 @@
--- The height of the highest expression in the statements behind a colon, if there are any.
-use Rattle.std.specs.Prelude.{ℕ, List, Option, Some, None}
-use Rattle.pynode.specs.Trees.{Stmt, stmts}
-use Rattle.pyheight.specs.Heights.{highest_in_all}
-
-abbrev pub suite_height : Option (List Stmt) → ℕ
-suite_height None = 0
-suite_height (Some ss) = highest_in_all (stmts ss)

@@ -1,0 +1,141 @@
+-- Carries: Stack. On: what comes to its end, and what a line makes of the deepest level.
+use Rattle.std.proofs.Common.{◌≡◌, ℕ, ◌<◌, ◌≤◌, List, [], ◌∷◌, ◌++◌, length, map, reverse, Option, Some, None, Bool, true, false, cond, refl, sym, ap, ◌∙◌, arith}
+use Rattle.std.proofs.lemmas.List.{map-append, reverse-append, length-reverse, length-map}
+use Rattle.pytree_node.specs.Trees.{Expr, Stmt}
+use Rattle.pygrammar.specs.Lines.{Header, Form, simple_form, decorator_form, header_form}
+use Rattle.pygrammar.specs.Blocks.{Fault, ExpectedIndent, UnexpectedIndent, MisplacedClause}
+use Rattle.pygrammar.specs.Reading.{Answer, Fine, Faulty, then, Group, Idle, closes, Part, part, decorated, meets, or_misplaced, place_header, Waiting, State, state, joined, settle_in, settle, place, placed}
+use Rattle.pygrammar.proofs.Callers.Blocks.{is_less, not_less, settle_here}
+use Rattle.pyparse_block.specs.declared.stack.Waiting as given_waiting
+use Rattle.pyparse_block.specs.declared.stack.Stack.{Stack}
+use Rattle.pyparse_block.specs.Inner.Levels.{ended, grown, popped}
+use Rattle.pyparse_block.specs.Inner.Meeting.{closed, marked, met}
+use Rattle.pyparse_block.specs.Values.{waiting_of, below_of, state_of}
+use Rattle.pyparse_block.proofs.AnswerLemmas.{tells_then}
+
+-- ---- The levels below.
+
+pub length-below_of : (ws : List given_waiting.Waiting) → length (below_of ws) ≡ length ws
+length-below_of ws = length-reverse (map waiting_of ws) ∙ length-map ws waiting_of
+
+pub below_of-append : (ws : List given_waiting.Waiting) (w : given_waiting.Waiting) → below_of (ws ++ w ∷ []) ≡ waiting_of w ∷ below_of ws
+below_of-append ws w = ap reverse (map-append waiting_of ws (w ∷ [])) ∙ reverse-append (map waiting_of ws) (waiting_of w ∷ [])
+
+-- ---- Levels that come to their end.
+
+pub ended_popped : (s : State) (w : Waiting) (below : List Waiting) → s.below ≡ w ∷ below → ended s ≡ popped s w below
+ended_popped s w below e = ap (λ z. elim z [ [] ↦ Fine s | w ∷ below ↦ popped s w below ]) e
+
+pub ended_fresh : (s : State) → 0 < length s.below → s.fresh ≡ true → ended s ≡ Faulty ExpectedIndent
+ended_fresh s n f =
+    elim s.below as (λ b. 0 < length b → ◌≡◌ {A = Answer State} (elim b [ [] ↦ Fine s | w ∷ below ↦ popped s w below ]) (Faulty ExpectedIndent)) [
+      | [] ↦ λ n. absurd (omega arith)
+      | w ∷ below ↦ λ n. ap (λ b. cond b (Faulty ExpectedIndent) (then (closed s.done s.group) (λ body. Fine (grown w below body)))) f
+    ] n
+
+pub ended_refused : (s : State) (f : Fault) → 0 < length s.below → s.fresh ≡ false → closed s.done s.group ≡ Faulty f → ended s ≡ Faulty f
+ended_refused s f n e c =
+    elim s.below as (λ b. 0 < length b → ◌≡◌ {A = Answer State} (elim b [ [] ↦ Fine s | w ∷ below ↦ popped s w below ]) (Faulty f)) [
+      | [] ↦ λ n. absurd (omega arith)
+      | w ∷ below ↦ λ n.
+          ap (λ b. cond b (Faulty ExpectedIndent) (then (closed s.done s.group) (λ body. Fine (grown w below body)))) e
+          ∙ ap (λ a. then a (λ body. Fine (grown w below body))) c
+    ] n
+
+pub ended_fine : (s : State) (w : Waiting) (below : List Waiting) (body : List Stmt) → s.below ≡ w ∷ below → s.fresh ≡ false → closed s.done s.group ≡ Fine body →
+    ended s ≡ Fine (grown w below body)
+ended_fine s w below body b e c =
+    ended_popped s w below b
+    ∙ ap (λ b. cond b (Faulty ExpectedIndent) (then (closed s.done s.group) (λ body. Fine (grown w below body)))) e
+    ∙ ap (λ a. then a (λ body. Fine (grown w below body))) c
+
+-- one level, and then the others
+settle_closed : (l : ℕ) (d : List Stmt) (w : Waiting) (below : List Waiting) (o : Option (List Stmt)) →
+    ◌≡◌ {A = Answer State} (elim o [
+      | None ↦ Faulty MisplacedClause
+      | Some ss ↦ settle_in l (joined w.done w.group w.header (d ++ ss)).done (joined w.done w.group w.header (d ++ ss)).group false below
+    ]) (then (then {A = List Stmt} (elim o [ None ↦ Faulty MisplacedClause | Some ss ↦ Fine (d ++ ss) ])
+    (λ body. Fine (grown w below body))) (settle l))
+settle_closed l d w below None = refl
+settle_closed l d w below (Some ss) = refl
+
+settle_popped : (l : ℕ) (d : List Stmt) (g : Group) (f : Bool) (w : Waiting) (below : List Waiting) → l < length (w ∷ below) →
+    settle_in l d g f (w ∷ below) ≡ then (popped (state d g f (w ∷ below)) w below) (settle l)
+settle_popped l d g f w below h =
+    ap (λ b. cond b (cond f (Faulty ExpectedIndent) (elim (closes g) [
+      | None ↦ Faulty MisplacedClause
+      | Some ss ↦ settle_in l (joined w.done w.group w.header (d ++ ss)).done (joined w.done w.group w.header (d ++ ss)).group false below
+    ])) (Fine (state d g f (w ∷ below)))) (is_less l (length (w ∷ below)) h)
+    ∙ by_fresh f
+  where
+    by_fresh : (f : Bool) → ◌≡◌ {A = Answer State} (cond f (Faulty ExpectedIndent) (elim (closes g) [
+      | None ↦ Faulty MisplacedClause
+      | Some ss ↦ settle_in l (joined w.done w.group w.header (d ++ ss)).done (joined w.done w.group w.header (d ++ ss)).group false below
+    ])) (then (popped (state d g f (w ∷ below)) w below) (settle l))
+    by_fresh true = refl
+    by_fresh false = settle_closed l d w below (closes g)
+
+pub settle_ended : (l : ℕ) (s : State) → l < length s.below → settle l s ≡ then (ended s) (settle l)
+settle_ended l s h =
+    elim s.below as (λ b. l < length b → settle_in l s.done s.group s.fresh b ≡ then (elim b [ [] ↦ Fine s | w ∷ below ↦ popped s w below ]) (settle l)) [
+      | [] ↦ λ h. absurd (omega arith)
+      | w ∷ below ↦ λ h. settle_popped l s.done s.group s.fresh w below h
+    ] h
+
+pub settle_stays : (l : ℕ) (s : State) → length s.below ≤ l → settle l s ≡ Fine s
+settle_stays l s h = settle_here l s.done s.group s.fresh s.below h
+
+-- behind a level that ended the others are left
+pub settle_more : (l : ℕ) (s t : Stack) (whole : Answer State) → l < length s.below.items → ended (state_of s) ≡ Fine (state_of t) → settle l (state_of s) ≡ whole →
+    settle l (state_of t) ≡ whole
+settle_more l s t whole h e w =
+    let n = length-below_of s.below.items in
+    ap (λ a. then a (settle l)) (sym e) ∙ sym (settle_ended l (state_of s) (omega arith)) ∙ w
+
+-- where no level has to end, all is as it was
+pub settle_done : (l : ℕ) (s : Stack) (whole : Answer State) → length s.below.items ≤ l → settle l (state_of s) ≡ whole → whole ≡ Fine (state_of s)
+settle_done l s whole h w =
+    let n = length-below_of s.below.items in
+    sym w ∙ settle_stays l (state_of s) (omega arith)
+
+-- ---- What a line makes of the deepest level.
+
+pub place_simple_is : (s : State) (ss : List Stmt) → place s (simple_form ss) ≡ then (closed s.done s.group) (λ body. Fine (state (body ++ ss) Idle false s.below))
+place_simple_is s ss = by_closed (closes s.group)
+  where
+    by_closed : (o : Option (List Stmt)) → ◌≡◌ {A = Answer State} (or_misplaced o (λ more. state ((s.done ++ more) ++ ss) Idle false s.below))
+        (then {A = List Stmt} (elim o [ None ↦ Faulty MisplacedClause | Some more ↦ Fine (s.done ++ more) ]) (λ body. Fine (state (body ++ ss) Idle false s.below)))
+    by_closed None = refl
+    by_closed (Some more) = refl
+
+pub place_decorator_is : (s : State) (e : Expr) → place s (decorator_form e) ≡ then (marked s.done s.group e) (λ p. Fine (state p.done p.group false s.below))
+place_decorator_is s e = by_found (decorated s.group e)
+  where
+    by_found : (o : Option Part) → ◌≡◌ {A = Answer State} (or_misplaced o (λ p. state (s.done ++ p.done) p.group false s.below))
+        (then {A = Part} (elim o [ None ↦ Faulty MisplacedClause | Some p ↦ Fine (part (s.done ++ p.done) p.group) ]) (λ p. Fine (state p.done p.group false s.below)))
+    by_found None = refl
+    by_found (Some p) = refl
+
+-- with nothing in front of what the header found
+pub place_header_is : (s : State) (h : Header) (suite : Option (List Stmt)) →
+    place s (header_form h suite) ≡ then (met s.done s.group h) (λ p. Fine (place_header (state [] s.group s.fresh s.below) h suite p))
+place_header_is s h suite = by_found (meets s.group h) suite
+  where
+    by_found : (o : Option Part) (suite : Option (List Stmt)) → ◌≡◌ {A = Answer State} (or_misplaced o (place_header s h suite))
+        (then {A = Part} (elim o [ None ↦ Faulty MisplacedClause | Some p ↦ Fine (part (s.done ++ p.done) p.group) ]) (λ p. Fine (place_header (state [] s.group s.fresh s.below) h suite p)))
+    by_found None suite = refl
+    by_found (Some p) None = refl
+    by_found (Some p) (Some body) = refl
+
+-- a line that is deeper than all open levels, and one that isn't
+pub placed_deep : (l : ℕ) (f : Form) (s : State) → length s.below < l → placed l f s ≡ Faulty UnexpectedIndent
+placed_deep l f s h = ap (λ b. cond b (Faulty UnexpectedIndent) (place s f)) (is_less (length s.below) l h)
+
+pub placed_here : (l : ℕ) (f : Form) (s : State) → l ≤ length s.below → placed l f s ≡ place s f
+placed_here l f s h = ap (λ b. cond b (Faulty UnexpectedIndent) (place s f)) (not_less (length s.below) l h)
+
+-- for the levels that end
+pub ruleset ending = (length-below_of, below_of-append, ended_fresh, ended_refused, ended_fine, settle_ended, settle_stays, tells_then)
+
+-- for a line of the deepest level
+pub ruleset placing = (length-below_of, below_of-append, place_simple_is, place_decorator_is, place_header_is, placed_deep, placed_here, tells_then)

@@ -1,0 +1,5 @@
+pub mod Meeting
+pub mod Levels
+pub mod Shapes
+pub mod Steps
+pub mod Counting

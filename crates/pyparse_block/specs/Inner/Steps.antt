@@ -1,0 +1,96 @@
+-- The reading of blocks without the trees.
+use Rattle.std.specs.Prelude.{ℕ, Bool, true, false, ◌&&◌, nat_lt, cond, List, [], ◌∷◌, length, Option, Some, None}
+use Rattle.std.specs.List.{list_all}
+use Rattle.pygrammar.specs.Blocks.{ExpectedIndent, UnexpectedIndent, MisplacedClause, same_bool}
+use Rattle.pygrammar.specs.Reading.{Answer, Fine, Faulty, then}
+use Rattle.pyparse_block.specs.declared.outline.shapes.Clause.{Clause}
+use Rattle.pyparse_block.specs.declared.outline.shapes.Clause.TheVariants as clause
+use Rattle.pyparse_block.specs.declared.outline.shapes.Shape.{Shape}
+use Rattle.pyparse_block.specs.declared.outline.shapes.Shape.TheVariants as shape
+use Rattle.pyparse_block.specs.declared.outline.groups.Group.{Group}
+use Rattle.pyparse_block.specs.declared.outline.groups.Group.TheVariants.{Idle, Marked, Choice, Loop, Trial, Caught, Settled}
+use Rattle.pyparse_block.specs.Outlines.{Levels, levels}
+
+-- ---- One level.
+
+-- whether what is open may end here
+abbrev pub is_whole : Group → Bool
+is_whole Marked = false
+is_whole Trial = false
+is_whole _ = true
+
+-- what is open behind another statement that begins here, if it may
+abbrev pub ended : Group → Group → Option Group
+ended g next = cond (is_whole g) (Some next) None
+
+-- what is open behind a clause and its block, if the clause may stand here
+abbrev pub goes_on : Clause → Group → Option Group
+goes_on clause.If g = ended g Choice
+goes_on clause.Elif Choice = Some Choice
+goes_on clause.Elif _ = None
+goes_on clause.Else Choice = Some Idle
+goes_on clause.Else Loop = Some Idle
+goes_on clause.Else (Caught _) = Some Settled
+goes_on clause.Else _ = None
+goes_on clause.Loop g = ended g Loop
+goes_on clause.With g = ended g Idle
+goes_on clause.Try g = ended g Trial
+goes_on (clause.Except star) Trial = Some (Caught star)
+goes_on (clause.Except star) (Caught other) = cond (same_bool star other) (Some (Caught other)) None
+goes_on (clause.Except _) _ = None
+goes_on clause.Finally Trial = Some Idle
+goes_on clause.Finally (Caught _) = Some Idle
+goes_on clause.Finally Settled = Some Idle
+goes_on clause.Finally _ = None
+goes_on clause.Def Marked = Some Idle
+goes_on clause.Def g = ended g Idle
+
+-- and behind a line
+abbrev pub next : Shape → Group → Option Group
+next shape.Simple g = ended g Idle
+next shape.Decorator Marked = Some Marked
+next shape.Decorator g = ended g Marked
+next (shape.Opening c) g = goes_on c g
+next (shape.Inline c) g = goes_on c g
+
+abbrev pub opens : Shape → Bool
+opens (shape.Opening _) = true
+opens _ = false
+
+-- ---- All levels.
+
+-- the levels above l come to their end
+abbrev pub settle_in : ℕ → Group → Bool → List Group → Answer Levels
+settle_in l g fresh [] = Fine (levels g fresh [])
+settle_in l g fresh (w ∷ below) =
+    cond (nat_lt l (length (w ∷ below)))
+    (cond fresh (Faulty ExpectedIndent) (cond (is_whole g) (settle_in l w false below) (Faulty MisplacedClause)))
+    (Fine (levels g fresh (w ∷ below)))
+
+abbrev pub settle : ℕ → Levels → Answer Levels
+settle l s = settle_in l s.group s.fresh s.below
+
+-- a line of the deepest level
+abbrev pub place : Shape → Levels → Answer Levels
+place x s = elim (next x s.group) [
+  | None ↦ Faulty MisplacedClause
+  | Some g ↦ Fine (cond (opens x) (levels Idle true (g ∷ s.below)) (levels g false s.below))
+]
+
+abbrev pub placed : ℕ → Shape → Levels → Answer Levels
+placed l x s = cond (nat_lt (length s.below) l) (Faulty UnexpectedIndent) (place x s)
+
+abbrev pub step : ℕ → Shape → Levels → Answer Levels
+step l x s = then (settle l s) (placed l x)
+
+-- whether the last line waits for a block
+abbrev pub awaits_block : Levels → Bool
+awaits_block s = elim s.below [ [] ↦ false | _ ∷ _ ↦ s.fresh ]
+
+-- whether what the levels have open may end
+abbrev pub is_all_whole : Levels → Bool
+is_all_whole s = is_whole s.group && list_all is_whole s.below
+
+-- all levels come to their end
+abbrev pub finish : Levels → Answer (Unit {0})
+finish s = then (settle 0 s) (λ t. cond (is_whole t.group) (Fine tt) (Faulty MisplacedClause))

@@ -1,0 +1,5 @@
+pub mod Inner
+pub mod Values
+pub mod StateOf
+pub mod Faults
+pub mod Outlines

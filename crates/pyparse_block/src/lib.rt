@@ -1,0 +1,28 @@
+//! The statements of a source from the forms of its logical lines, line by line.
+//!
+//! Python language reference, 2.1.8 "Indentation", 8 "Compound statements", and 10 "Full Grammar
+//! specification".
+//!
+//! [`Blocks`] keeps the statements that are whole, and of the others what their lines have said so
+//! far, a level on another. There is no recursion: how deep blocks stand in one another is limited
+//! by memory alone.
+//!
+//! The words of contracts are those of the grammar: `Reading` is what a line makes of what is kept,
+//! `Blocks` which statements some lines are, and which line is the first faulty one.
+//!
+//! An [`Outline`] keeps the same without trees, and tells the first faulty line ([`BlockFault`])
+//! among lines whose trees nobody wants.
+#![tactic(auto)]
+
+mod blocks;
+mod closing;
+mod groups;
+mod growing;
+mod meeting;
+mod outline;
+mod room;
+mod stack;
+mod statements;
+
+pub use blocks::Blocks;
+pub use outline::{BlockFault, Outline, Stop};

@@ -1,0 +1,116 @@
+//! The open levels.
+
+ghost use Rattle.std.specs.Prelude.{◌≡◌, IfErr, OnOk};
+ghost use Rattle.pygrammar.specs.Reading.{Fine, start};
+ghost use Rattle.pyparse_block.specs.Faults.{IsFaulty, Tells};
+ghost use Rattle.pyparse_block.specs.Outlines.{levels_of, outline};
+ghost use Rattle.pyparse_block.specs.Inner.Steps.{awaits_block, is_all_whole};
+ghost use Rattle.pyparse_block.specs.Inner.Steps.{finish, place, settle, step};
+
+use crate::outline::faults::{BlockFault, Stop};
+use crate::outline::groups::{Group, are_whole};
+use crate::outline::shapes::Shape;
+use std::alloc::Global;
+
+/// What is kept of the open levels: what the deepest has open, whether it has had no line yet, and
+/// what those below it will have open once the block that they wait for is whole, the deepest last.
+#[derive(Drop)]
+pub(crate) struct Levels {
+    group: Group,
+    fresh: bool,
+    below: Vec<Group>,
+}
+
+impl Levels {
+    /// Before the first line.
+    pub(crate) fn new(alloc: Global) -> Levels
+        ensures { levels_of result ≡ outline start }
+    {
+        Levels {
+            group: Group::Idle,
+            fresh: false,
+            below: Vec::new(alloc),
+        }
+    }
+
+    /// The levels above this one come to their end.
+    #[tactic(auto, using(crate::proofs::outline::LevelLemmas::ending))]
+    fn settle(&mut self, level: usize) -> Result<(), Stop>
+        ensures ok { OnOk result (settle level (levels_of self.old) ≡ Fine (levels_of self.new)) }
+        ensures refused { IfErr result (Tells (settle level (levels_of self.old))) }
+    {
+        while level < self.below.len() {
+            if self.fresh {
+                return Err(Stop::Faulty(BlockFault::ExpectedIndent));
+            }
+            if !self.group.is_whole() {
+                return Err(Stop::Faulty(BlockFault::MisplacedClause));
+            }
+            self.group = self.below.pop().unwrap();
+        }
+        Ok(())
+    }
+
+    /// A line of the deepest level.
+    fn place(&mut self, shape: Shape) -> Result<(), Stop>
+        ensures ok { OnOk result (place shape (levels_of self.old) ≡ Fine (levels_of self.new)) }
+        ensures refused { IfErr result (Tells (place shape (levels_of self.old))) }
+    {
+        let Some(group) = self.group.next(shape) else {
+            return Err(Stop::Faulty(BlockFault::MisplacedClause));
+        };
+        if shape.opens() {
+            self.below.push(group)?;
+            self.group = Group::Idle;
+            self.fresh = true;
+        } else {
+            self.group = group;
+            self.fresh = false;
+        }
+        Ok(())
+    }
+
+    /// The next line: its level, and its shape.
+    pub(crate) fn step(&mut self, level: usize, shape: Shape) -> Result<(), Stop>
+        ensures ok { OnOk result
+            (step level shape (levels_of self.old) ≡ Fine (levels_of self.new)) }
+        ensures refused { IfErr result (Tells (step level shape (levels_of self.old))) }
+    {
+        self.settle(level)?;
+        if level > self.below.len() {
+            return Err(Stop::Faulty(BlockFault::UnexpectedIndent));
+        }
+        self.place(shape)
+    }
+
+    /// Whether the last line waits for a block.
+    fn awaits_block(&self) -> bool
+        ensures { result ≡ awaits_block (levels_of self.now) }
+    {
+        self.fresh && !self.below.is_empty()
+    }
+
+    /// Whether what the levels have open may end.
+    #[tactic(auto, using(crate::proofs::outline::LevelLemmas::all_reversed))]
+    fn is_whole(&self) -> bool
+        ensures { result ≡ is_all_whole (levels_of self.now) }
+    {
+        self.group.is_whole() && are_whole(&self.below)
+    }
+
+    /// The end of all lines.
+    #[tactic(auto, using(crate::proofs::outline::LevelLemmas::finishing))]
+    pub(crate) fn finish(&self) -> Result<(), Stop>
+        ensures ok { OnOk result (finish (levels_of self.now) ≡ Fine tt) }
+        ensures refused { IfErr result (Tells (finish (levels_of self.now))) }
+        ensures faulty { IfErr result IsFaulty }
+    {
+        if self.awaits_block() {
+            return Err(Stop::Faulty(BlockFault::ExpectedIndent));
+        }
+        if !self.is_whole() {
+            return Err(Stop::Faulty(BlockFault::MisplacedClause));
+        }
+        Ok(())
+    }
+}

@@ -1,0 +1,304 @@
+use Rattle.std.proofs.Common.{[], ◌+◌, ◌-◌, ◌*◌, ◌≤◌, length, map}
+use Rattle.pygrammar.specs.Reader.{operation}
+use Rattle.std.proofs.Common.{◌+◌, ◌-◌, ◌*◌, ◌≤◌, length, [], map}
+use Rattle.pygrammar.specs.Reader.{comps_loop, ifs_loop, operation}
+use Rattle.pygrammar.specs.Precedence as precedence
+use Rattle.pyparse_expr.proofs.Reader.ChainSteps.{Links, Sides}
+use Rattle.pyparse_expr.proofs.Calls.ArgumentSteps.{Reaches}
+use Rattle.pyparse_expr.specs.Inner.Arguments.{arguments_of, state_of}
+use Rattle.pyparse_expr.specs.Inner.Chains.{links_of}
+use Rattle.pytree_node.specs.TreeOf.{tree_of}
+use Rattle.pygrammar.specs.Capped.{capped_climb}
+use Rattle.pyparse_expr.specs.Readings.{reads}
+use Rattle.pyparse_expr.specs.Inner.Readings.{same_reads, inner_reads}
+use Rattle.pyparse_expr.specs.Views.{seen}
+use Rattle.pyparse_expr.proofs.Reader.Climbs.{Climbs}
+use Rattle.pyparse_expr.proofs.Lists.ListSteps.{Lists}
+use Rattle.pyparse_expr.proofs.FormalParameters.ParameterSteps.{Parameters, listed}
+use Rattle.pyparse_expr.specs.Inner.Found.{entries_of}
+use Rattle.pyparse_expr.specs.Inner.Lists.{more_at}
+use Rattle.pyparse_expr.proofs.Reader.Trails.{Trails, primary_step}
+use Rattle.pyparse_expr.specs.Inner.Pairs.{more_pairs_at, pairs_of}
+use Rattle.pyparse_expr.proofs.Lists.PairSteps.{HasPairs}
+use Rattle.pyparse_expr.proofs.ForClauses.ClauseSteps.{Reached}
+use Rattle.pyparse_expr.proofs.ForClauses.CompSteps.{Tests}
+use Rattle.pyparse_expr.proofs.+reading.Given as goal
+
+abbrev pub decreases-atoms::group_tuple : goal.decreases-atoms::group_tuple
+decreases-atoms::group_tuple l = 20 * (l.depth.steps - 1) + 12
+
+abbrev pub decreases-atoms::read_atom : goal.decreases-atoms::read_atom
+decreases-atoms::read_atom l = 20 * l.depth.steps + 1
+
+abbrev pub decreases-atoms::round : goal.decreases-atoms::round
+decreases-atoms::round l = 20 * (l.depth.steps - 1) + 17
+
+abbrev pub decreases-atoms::square : goal.decreases-atoms::square
+decreases-atoms::square l = 20 * (l.depth.steps - 1) + 17
+
+abbrev pub decreases-climbing::climb : goal.decreases-climbing::climb
+decreases-climbing::climb l = 20 * l.depth.steps + 4
+
+abbrev pub decreases-climbing::operation : goal.decreases-climbing::operation
+decreases-climbing::operation l = 20 * (l.depth.steps - 1) + 12
+
+abbrev pub decreases-climbing::prefixed : goal.decreases-climbing::prefixed
+decreases-climbing::prefixed l = 20 * (l.depth.steps - 1) + 9
+
+abbrev pub decreases-levels::if_else_step : goal.decreases-levels::if_else_step
+decreases-levels::if_else_step l = 20 * (l.depth.steps - 1) + 9
+
+abbrev pub decreases-levels::read_elem : goal.decreases-levels::read_elem
+decreases-levels::read_elem l = 20 * l.depth.steps + 7
+
+abbrev pub decreases-levels::read_expression : goal.decreases-levels::read_expression
+decreases-levels::read_expression l = 20 * l.depth.steps + 5
+
+abbrev pub decreases-levels::read_named : goal.decreases-levels::read_named
+decreases-levels::read_named l = 20 * l.depth.steps + 6
+
+abbrev pub decreases-levels::read_star_item : goal.decreases-levels::read_star_item
+decreases-levels::read_star_item l = 20 * l.depth.steps + 7
+
+abbrev pub decreases-levels::read_stars : goal.decreases-levels::read_stars
+decreases-levels::read_stars l = 20 * l.depth.steps + 8
+
+abbrev pub decreases-levels::yield_step : goal.decreases-levels::yield_step
+decreases-levels::yield_step l = 20 * (l.depth.steps - 1) + 13
+
+abbrev pub decreases-listings::listing : goal.decreases-listings::listing
+decreases-listings::listing l = 20 * (l.depth.steps - 1) + 10
+
+abbrev pub decreases-listings::others : goal.decreases-listings::others
+decreases-listings::others l = 20 * (l.depth.steps - 1) + 11
+
+abbrev pub decreases-listings::read_item : goal.decreases-listings::read_item
+decreases-listings::read_item l = 20 * (l.depth.steps - 1) + 9
+
+abbrev pub decreases-listings::tupled : goal.decreases-listings::tupled
+decreases-listings::tupled l = 20 * (l.depth.steps - 1) + 12
+
+abbrev pub decreases-primaries::index_step : goal.decreases-primaries::index_step
+decreases-primaries::index_step l = 20 * (l.depth.steps - 1) + 10
+
+abbrev pub decreases-primaries::read_primary : goal.decreases-primaries::read_primary
+decreases-primaries::read_primary l = 20 * l.depth.steps + 2
+
+abbrev pub decreases-slices::perhaps : goal.decreases-slices::perhaps
+decreases-slices::perhaps l = 20 * (l.depth.steps - 1) + 9
+
+abbrev pub decreases-slices::read_part : goal.decreases-slices::read_part
+decreases-slices::read_part l = 20 * l.depth.steps + 8
+
+abbrev pub decreases-slices::read_slice : goal.decreases-slices::read_slice
+decreases-slices::read_slice l = 20 * l.depth.steps + 7
+
+abbrev pub decreases-slices::read_slices : goal.decreases-slices::read_slices
+decreases-slices::read_slices l = 20 * l.depth.steps + 9
+
+abbrev pub invariant-climbing::climb-loop-o : goal.invariant-climbing::climb-loop-o
+invariant-climbing::climb-loop-o l = record {
+  ahead : l.at + 1 ≤ l.left.next;
+  is : Climbs l.tokens l.depth l.least (capped_climb l.depth.room (reads l.depth) (same_reads l.depth) (inner_reads l.depth) l.least (seen l.tokens l.at)) l.left;
+}
+
+abbrev pub decreases-climbing::climb-loop-o : goal.decreases-climbing::climb-loop-o
+decreases-climbing::climb-loop-o l = length l.tokens - l.left.next
+
+abbrev pub invariant-listings::listing-more : goal.invariant-listings::listing-more
+invariant-listings::listing-more l = record {
+  ahead : l.fn.items.next ≤ l.items.next;
+  is : Lists l.tokens l.depth l.item (more_at l.depth l.item (entries_of l.fn.items) (seen l.tokens l.fn.items.next)) l.items;
+}
+
+abbrev pub decreases-listings::listing-more : goal.decreases-listings::listing-more
+decreases-listings::listing-more l = length l.tokens - l.items.next
+
+abbrev pub invariant-primaries::read_primary-tails : goal.invariant-primaries::read_primary-tails
+invariant-primaries::read_primary-tails l = record {
+  ahead : l.at + 1 ≤ l.e.next;
+  is : Trails l.tokens l.depth (primary_step (reads l.depth) (inner_reads l.depth) l.depth.room (seen l.tokens l.at)) l.e;
+}
+
+abbrev pub decreases-primaries::read_primary-tails : goal.decreases-primaries::read_primary-tails
+decreases-primaries::read_primary-tails l = length l.tokens - l.e.next
+
+abbrev pub decreases-slices::slice_rest : goal.decreases-slices::slice_rest
+decreases-slices::slice_rest l = 20 * (l.depth.steps - 1) + 10
+
+abbrev pub decreases-climbing::climb_first : goal.decreases-climbing::climb_first
+decreases-climbing::climb_first l = 20 * l.depth.steps + 3
+
+abbrev pub decreases-climbing::signed : goal.decreases-climbing::signed
+decreases-climbing::signed l = 20 * (l.depth.steps - 1) + 8
+
+abbrev pub decreases-climbing::binary : goal.decreases-climbing::binary
+decreases-climbing::binary l = 20 * (l.depth.steps - 1) + 11
+
+abbrev pub decreases-atoms::atom_of : goal.decreases-atoms::atom_of
+decreases-atoms::atom_of l = 20 * l.depth.steps
+
+abbrev pub decreases-atoms::other_atom : goal.decreases-atoms::other_atom
+decreases-atoms::other_atom l = 20 * (l.depth.steps - 1) + 19
+
+abbrev pub decreases-comprehensions::target_item : goal.decreases-comprehensions::target_item
+decreases-comprehensions::target_item l = 20 * (l.depth.steps - 1) + 8
+
+abbrev pub invariant-chains::links-sides : goal.invariant-chains::links-sides
+invariant-chains::links-sides l = record {
+  ahead : l.fn.first.next ≤ l.items.next;
+  is : Links l.tokens l.depth l.o (links_of l.depth l.o (map tree_of l.fn.first.exprs.items) (seen l.tokens l.fn.first.next)) l.items;
+}
+
+abbrev pub decreases-chains::links-sides : goal.decreases-chains::links-sides
+decreases-chains::links-sides l = length l.tokens - l.items.next
+
+abbrev pub invariant-chains::compare-sides : goal.invariant-chains::compare-sides
+invariant-chains::compare-sides l = record {
+  ahead : l.fn.left.next ≤ l.items.next;
+  is : Sides l.tokens l.depth (tree_of l.fn.left.expr.value) (operation (inner_reads l.depth) (tree_of l.fn.left.expr.value) precedence.Compares (seen l.tokens l.fn.left.next) (seen l.tokens (l.fn.left.next + 1))) l.ops.items l.items;
+}
+
+abbrev pub decreases-chains::compare-sides : goal.decreases-chains::compare-sides
+decreases-chains::compare-sides l = length l.tokens - l.items.next
+
+abbrev pub decreases-chains::chain : goal.decreases-chains::chain
+decreases-chains::chain l = 20 * (l.depth.steps - 1) + 10
+
+abbrev pub decreases-chains::links : goal.decreases-chains::links
+decreases-chains::links l = 20 * (l.depth.steps - 1) + 9
+
+abbrev pub decreases-chains::compare : goal.decreases-chains::compare
+decreases-chains::compare l = 20 * (l.depth.steps - 1) + 10
+
+abbrev pub decreases-arguments::read_argument : goal.decreases-arguments::read_argument
+decreases-arguments::read_argument l = 20 * (l.depth.steps - 1) + 7
+
+abbrev pub decreases-arguments::one_more : goal.decreases-arguments::one_more
+decreases-arguments::one_more l = 20 * (l.depth.steps - 1) + 8
+
+abbrev pub decreases-arguments::more_arguments : goal.decreases-arguments::more_arguments
+decreases-arguments::more_arguments l = 20 * (l.depth.steps - 1) + 9
+
+abbrev pub decreases-arguments::call_from : goal.decreases-arguments::call_from
+decreases-arguments::call_from l = 20 * (l.depth.steps - 1) + 10
+
+abbrev pub decreases-arguments::call_step : goal.decreases-arguments::call_step
+decreases-arguments::call_step l = 20 * (l.depth.steps - 1) + 18
+
+abbrev pub invariant-arguments::more_arguments-more : goal.invariant-arguments::more_arguments-more
+invariant-arguments::more_arguments-more l = record {
+  ahead : l.fn.actual.next ≤ l.actual.next;
+  is : Reaches l.tokens l.depth (state_of l.fn.actual) (arguments_of l.depth [] (seen l.tokens l.fn.actual.next)) l.actual;
+}
+
+abbrev pub decreases-arguments::more_arguments-more : goal.decreases-arguments::more_arguments-more
+decreases-arguments::more_arguments-more l = length l.tokens - l.actual.next
+
+abbrev pub decreases-signatures::suffixed : goal.decreases-signatures::suffixed
+decreases-signatures::suffixed l = 20 * (l.depth.steps - 1) + 9
+
+abbrev pub decreases-signatures::star_annotation : goal.decreases-signatures::star_annotation
+decreases-signatures::star_annotation l = 20 * (l.depth.steps - 1) + 9
+
+abbrev pub decreases-signatures::plain_parameter : goal.decreases-signatures::plain_parameter
+decreases-signatures::plain_parameter l = 20 * (l.depth.steps - 1) + 10
+
+abbrev pub decreases-signatures::gathered_parameter : goal.decreases-signatures::gathered_parameter
+decreases-signatures::gathered_parameter l = 20 * (l.depth.steps - 1) + 10
+
+abbrev pub decreases-signatures::collected_parameter : goal.decreases-signatures::collected_parameter
+decreases-signatures::collected_parameter l = 20 * (l.depth.steps - 1) + 10
+
+abbrev pub decreases-signatures::read_parameter : goal.decreases-signatures::read_parameter
+decreases-signatures::read_parameter l = 20 * (l.depth.steps - 1) + 11
+
+abbrev pub decreases-signatures::parameters : goal.decreases-signatures::parameters
+decreases-signatures::parameters l = 20 * (l.depth.steps - 1) + 12
+
+abbrev pub decreases-signatures::lambda_step : goal.decreases-signatures::lambda_step
+decreases-signatures::lambda_step l = 20 * (l.depth.steps - 1) + 13
+
+abbrev pub invariant-signatures::parameters-more : goal.invariant-signatures::parameters-more
+invariant-signatures::parameters-more l = record {
+  ahead : l.at ≤ l.before.next;
+  is : Parameters l.tokens l.depth l.annotated (listed l.depth l.annotated (seen l.tokens l.at)) l.before;
+}
+
+abbrev pub decreases-signatures::parameters-more : goal.decreases-signatures::parameters-more
+decreases-signatures::parameters-more l = length l.tokens - l.before.next
+
+abbrev pub decreases-braces::curly : goal.decreases-braces::curly
+decreases-braces::curly l = 20 * (l.depth.steps - 1) + 18
+
+abbrev pub decreases-braces::keyed : goal.decreases-braces::keyed
+decreases-braces::keyed l = 20 * (l.depth.steps - 1) + 17
+
+abbrev pub decreases-braces::dict_from : goal.decreases-braces::dict_from
+decreases-braces::dict_from l = 20 * (l.depth.steps - 1) + 16
+
+abbrev pub decreases-braces::set_from : goal.decreases-braces::set_from
+decreases-braces::set_from l = 20 * (l.depth.steps - 1) + 16
+
+abbrev pub decreases-braces::more_pairs : goal.decreases-braces::more_pairs
+decreases-braces::more_pairs l = 20 * (l.depth.steps - 1) + 15
+
+abbrev pub decreases-braces::read_pair : goal.decreases-braces::read_pair
+decreases-braces::read_pair l = 20 * (l.depth.steps - 1) + 14
+
+abbrev pub invariant-braces::more_pairs-more : goal.invariant-braces::more_pairs-more
+invariant-braces::more_pairs-more l = record {
+  ahead : l.fn.pairs.next ≤ l.pairs.next;
+  is : HasPairs l.tokens l.depth (more_pairs_at l.depth (pairs_of l.fn.pairs) (seen l.tokens l.fn.pairs.next)) l.pairs;
+}
+
+abbrev pub decreases-braces::more_pairs-more : goal.decreases-braces::more_pairs-more
+decreases-braces::more_pairs-more l = length l.tokens - l.pairs.next
+
+abbrev pub decreases-comprehensions::read_target : goal.decreases-comprehensions::read_target
+decreases-comprehensions::read_target l = 20 * (l.depth.steps - 1) + 13
+
+abbrev pub decreases-comprehensions::target_tuple : goal.decreases-comprehensions::target_tuple
+decreases-comprehensions::target_tuple l = 20 * (l.depth.steps - 1) + 12
+
+abbrev pub decreases-comprehensions::ifs : goal.decreases-comprehensions::ifs
+decreases-comprehensions::ifs l = 20 * (l.depth.steps - 1) + 10
+
+abbrev pub decreases-comprehensions::for_in : goal.decreases-comprehensions::for_in
+decreases-comprehensions::for_in l = 20 * (l.depth.steps - 1) + 14
+
+abbrev pub decreases-comprehensions::comps : goal.decreases-comprehensions::comps
+decreases-comprehensions::comps l = 20 * (l.depth.steps - 1) + 15
+
+abbrev pub decreases-atoms::generator_group : goal.decreases-atoms::generator_group
+decreases-atoms::generator_group l = 20 * (l.depth.steps - 1) + 16
+
+abbrev pub decreases-atoms::list_comp : goal.decreases-atoms::list_comp
+decreases-atoms::list_comp l = 20 * (l.depth.steps - 1) + 16
+
+abbrev pub invariant-comprehensions::ifs-tests : goal.invariant-comprehensions::ifs-tests
+invariant-comprehensions::ifs-tests l = record {
+  ahead : l.at ≤ l.items.next;
+  is : Tests l.tokens l.depth (ifs_loop (inner_reads l.depth) (length (seen l.tokens l.at)) [] (seen l.tokens l.at)) l.items;
+}
+
+abbrev pub decreases-comprehensions::ifs-tests : goal.decreases-comprehensions::ifs-tests
+decreases-comprehensions::ifs-tests l = length l.tokens - l.items.next
+
+abbrev pub invariant-comprehensions::comps-more : goal.invariant-comprehensions::comps-more
+invariant-comprehensions::comps-more l = record {
+  ahead : l.at ≤ l.clauses.next;
+  is : Reached l.tokens l.depth (comps_loop (inner_reads l.depth) (length (seen l.tokens l.at)) [] (seen l.tokens l.at)) l.clauses;
+}
+
+abbrev pub decreases-comprehensions::comps-more : goal.decreases-comprehensions::comps-more
+decreases-comprehensions::comps-more l = length l.tokens - l.clauses.next
+
+abbrev pub decreases-arguments::generator_call : goal.decreases-arguments::generator_call
+decreases-arguments::generator_call l = 20 * (l.depth.steps - 1) + 16
+
+abbrev pub decreases-braces::set_comp : goal.decreases-braces::set_comp
+decreases-braces::set_comp l = 20 * (l.depth.steps - 1) + 16
+
+abbrev pub decreases-braces::dict_comp : goal.decreases-braces::dict_comp
+decreases-braces::dict_comp l = 20 * (l.depth.steps - 1) + 16

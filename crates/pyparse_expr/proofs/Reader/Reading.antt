@@ -1,0 +1,109 @@
+-- The reader within a height at a depth, and what the answers of parts say of the whole's.
+--
+-- Carries: the readers. On: Answers, Readings.
+use Rattle.std.proofs.Common.{◌≡◌, refl, sym, ap, ◌∙◌, arith, ℕ, zero, suc, ◌+◌, ◌-◌, ◌≤◌, ◌<◌, List, [], ◌∷◌, length, map, drop, length-drop, drop-drop, Option, Some, None, cond, Result, Ok, Err}
+use Rattle.std.proofs.lemmas.List.{length-map}
+use Rattle.std.proofs.lemmas.Bool.{le-leb, lt-leb}
+use Rattle.pytree_node.specs.Trees.{Expr}
+use Rattle.pytree_node.specs.TreeOf.{tree_of}
+use Rattle.pytoken.specs.Terminals.{Terminal}
+use Rattle.pytoken.specs.declared.values.terminals.Terminal as given
+use Rattle.pytree_height.specs.Heights.{height}
+use Rattle.pygrammar.specs.declared.levels.Level.{Level}
+use Rattle.pygrammar.specs.Reader.{Answer, Found, TooDeep, and_then, on_first, on_some}
+use Rattle.pygrammar.specs.Capped.{cap, capped, capped_step}
+use Rattle.pygrammar.proofs.Callers.Steps.{unroll_capped}
+use Rattle.pyparse_expr.specs.declared.depth.Depth.{Depth}
+use Rattle.pyparse_expr.specs.declared.found.Read.{Read}
+use Rattle.pyparse_expr.specs.declared.stop.Stop.{Stop}
+use Rattle.pyparse_expr.specs.declared.stop.Stop.TheVariants as stop
+use Rattle.pyparse_expr.specs.Answers.{Failed, Answered}
+use Rattle.pyparse_expr.specs.Inner.Answers.{Makes}
+use Rattle.pyparse_expr.specs.Readings.{reads}
+use Rattle.pyparse_expr.specs.Inner.Readings.{IsOpen, level_at}
+use Rattle.pyparse_expr.specs.Views.{seen, first_is}
+
+-- places
+pub seen_next : (ts : List given.Terminal) (n : ℕ) → drop 1 (seen ts n) ≡ seen ts (n + 1)
+seen_next ts n = drop-drop 1 n (map _ ts)
+
+pub seen_length : (ts : List given.Terminal) (n : ℕ) → length (seen ts n) ≡ length ts - n
+seen_length ts n = length-drop n (map _ ts) ∙ ap (λ z. z - n) (length-map ts _)
+
+-- one level
+pub opened : (g d : ℕ) (l : Level) (i : List Terminal) → 0 < g → 0 < d → capped g d l i ≡ cap d (capped_step d (capped g d) (capped (g - 1) d) (capped (g - 1) (d - 1)) l i)
+opened zero d l i h w = absurd (omega arith)
+opened (suc g) zero l i h w = absurd (omega arith)
+opened (suc g) (suc d) l i h w = go (suc g - 1) (suc d - 1) (omega arith) (omega arith)
+  where
+    go : (a b : ℕ) → a ≡ g → b ≡ d → capped (suc g) (suc d) l i ≡ cap (suc d) (capped_step (suc d) (capped (suc g) (suc d)) (capped a (suc d)) (capped a b) l i)
+    go a b p q = rw (p, q) (unroll_capped g d l i)
+
+pub by_level : (ts : List given.Terminal) (least : ℕ) (d : Depth) (l : Level) (i : List Terminal) (z : Result Read Stop) → IsOpen d → Answered ts d.room least (level_at d l i) z → Answered ts d.room least (reads d l i) z
+by_level ts least d l i z o h = rw (opened d.steps d.room l i o.steps o.room) h
+
+-- what is no higher than the room, and what is
+pub cap_low : (d : ℕ) (e : Expr) (r : List Terminal) → height e ≤ d → cap d (Found e r) ≡ Found e r
+cap_low d e r h = ap (λ b. cond b (Found e r) TooDeep) (le-leb (height e) d h)
+
+pub cap_high : (d : ℕ) (e : Expr) (r : List Terminal) → d < height e → cap d (Found e r) ≡ TooDeep
+cap_high d e r h = ap (λ b. cond b (Found e r) TooDeep) (lt-leb (height e) d h)
+
+-- why there is no answer, handed on
+pub failed_then : {A B : Type 0} (s : Stop) (x : Answer A) (k : A → List Terminal → Answer B) → Failed s x → Failed s (and_then x k)
+failed_then stop.NoForm x k h = ap (λ z. and_then z k) h
+failed_then stop.TooDeep x k h = ap (λ z. and_then z k) h
+failed_then stop.Memory x k h = tt
+
+pub failed_cap : (s : Stop) (d : ℕ) (x : Answer Expr) → Failed s x → Failed s (cap d x)
+failed_cap stop.NoForm d x h = ap (λ z. cap d z) h
+failed_cap stop.TooDeep d x h = ap (λ z. cap d z) h
+failed_cap stop.Memory d x h = tt
+
+-- an answer within the room is the same where the room is looked at again
+pub again : (ts : List given.Terminal) (room least : ℕ) (x : Answer Expr) (z : Result Read Stop) → Answered ts room least x z → Answered ts room least (cap room x) z
+again ts room least x (Ok r) h = record {
+  ahead = h.ahead;
+  within = h.within;
+  low = h.low;
+  is = ap (λ y. cap room y) h.is ∙ cap_low room (tree_of r.expr.value) (seen ts r.next) (omega (arith, h.low, r.is_height));
+}
+again ts room least x (Err s) h = failed_cap s room x h
+
+-- an answer of the same, from an earlier place on
+pub earlier : (ts : List given.Terminal) (room most least next : ℕ) (x : Answer Expr) (z : Result Read Stop) → most ≤ room → least ≤ next → Answered ts most next x z → Answered ts room least x z
+earlier ts room most least next x (Ok r) m le h = record { ahead = omega (arith, le, h.ahead); within = h.within; low = omega (arith, m, h.low); is = h.is }
+earlier ts room most least next x (Err s) m le h = h
+
+-- an answer that is a node, where the node was made
+pub node : (ts : List given.Terminal) (room least : ℕ) (e : Expr) (n : ℕ) (z : Result Read Stop) → least ≤ n → n ≤ length ts → Makes room e n z → Answered ts room least (cap room (Found e (seen ts n))) z
+node ts room least e n (Ok r) le w h = record {
+  ahead = omega (arith, le, h.next_is);
+  within = omega (arith, w, h.next_is);
+  low = h.low;
+  is = cap_low room e (seen ts n) (omega (arith, h.low, r.is_height, ap height h.tree)) ∙ ap (λ t. Found t (seen ts n)) (sym h.tree) ∙ ap (λ m. Found (tree_of r.expr.value) (seen ts m)) (sym h.next_is);
+}
+node ts room least e n (Err stop.NoForm) le w h = absurd h
+node ts room least e n (Err stop.TooDeep) le w h = cap_high room e (seen ts n) h
+node ts room least e n (Err stop.Memory) le w h = tt
+
+-- a node that is no higher than the room
+pub low_node : (ts : List given.Terminal) (room least : ℕ) (e : Expr) (n : ℕ) (z : Result Read Stop) → least ≤ n → n ≤ length ts → height e ≤ room → Makes room e n z → Answered ts room least (Found e (seen ts n)) z
+low_node ts room least e n (Ok r) le w b h = record {
+  ahead = omega (arith, le, h.next_is);
+  within = omega (arith, w, h.next_is);
+  low = h.low;
+  is = ap (λ t. Found t (seen ts n)) (sym h.tree) ∙ ap (λ m. Found (tree_of r.expr.value) (seen ts m)) (sym h.next_is);
+}
+low_node ts room least e n (Err stop.NoForm) le w b h = absurd h
+low_node ts room least e n (Err stop.TooDeep) le w b h = absurd (omega (arith, b, h))
+low_node ts room least e n (Err stop.Memory) le w b h = tt
+
+-- a choice by a test on the first terminal, where the test fails
+pub first_miss : {A B : Type 0} (f : Terminal → Option A) (r : List Terminal) (hit : A → List Terminal → B) (miss : B) → None ≡ first_is f r → on_first f r hit miss ≡ miss
+first_miss f [] hit miss h = refl
+first_miss f (t ∷ r) hit miss h = ap (λ o. on_some o (λ b. hit b r) miss) (sym h)
+
+pub first_hit : {A B : Type 0} (f : Terminal → Option A) (r : List Terminal) (a : A) (hit : A → List Terminal → B) (miss : B) → Some a ≡ first_is f r → on_first f r hit miss ≡ hit a (drop 1 r)
+first_hit f [] a hit miss h = absurd (cc)
+first_hit f (t ∷ r) a hit miss h = ap (λ o. on_some o (λ b. hit b r) miss) (sym h)

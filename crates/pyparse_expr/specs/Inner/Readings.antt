@@ -1,0 +1,63 @@
+-- The parts of the capped reader that the program's functions read.
+use Rattle.std.specs.Prelude.{◌≡◌, ℕ, ◌+◌, ◌-◌, ◌<◌, List, Bool, true, false}
+use Rattle.pytree_node.specs.Trees.{Expr}
+use Rattle.pytoken.specs.Terminals.{Terminal}
+use Rattle.pygrammar.specs.declared.levels.Level.{Level}
+use Rattle.pygrammar.specs.declared.levels.Level.TheVariants.{Or, And, Not, Compare, BitOr, BitXor, BitAnd, Shift, Sum, Term, Factor, Power, Await}
+use Rattle.pygrammar.specs.Operators.{below}
+use Rattle.pygrammar.specs.declared.levels.Level.TheVariants as level
+use Rattle.pygrammar.specs.Precedence.{Infix, Prefix, Left, Signed, prefix_from}
+use Rattle.pygrammar.specs.Reader.{Answer, Reads, on_first, prefixed}
+use Rattle.pygrammar.specs.Capped.{cap, capped, capped_step}
+use Rattle.pyparse_expr.specs.declared.depth.Depth.{Depth}
+use Rattle.pyparse_expr.specs.Readings.{reads}
+
+-- with the steps and the room of the parts of an expression; and with those of the same one within brackets
+abbrev pub inner_reads : Depth → Reads
+inner_reads d = capped (d.steps - 1) (d.room - 1)
+
+abbrev pub same_reads : Depth → Reads
+same_reads d = capped (d.steps - 1) d.room
+
+-- one level, where there are steps and room
+abbrev pub level_at : Depth → Reads
+level_at d l i = cap d.room (capped_step d.room (reads d) (same_reads d) (inner_reads d) l i)
+
+-- there are steps and room
+pub record IsOpen (d : Depth) : Type 0 where
+  pub steps : 0 < d.steps
+  pub room : 0 < d.room
+
+-- the parts of an expression of this depth have that one
+pub record IsOuter (outer d : Depth) : Type 0 where
+  pub steps : outer.steps ≡ d.steps + 1
+  pub room : outer.room ≡ d.room + 1
+
+-- the levels that are read by climbing
+abbrev pub climbing : Level → Bool
+climbing Or = true
+climbing And = true
+climbing Not = true
+climbing Compare = true
+climbing BitOr = true
+climbing BitXor = true
+climbing BitAnd = true
+climbing Shift = true
+climbing Sum = true
+climbing Term = true
+climbing Factor = true
+climbing Power = true
+climbing Await = true
+climbing _ = false
+
+abbrev pub IsPrefix : Prefix → Type 0
+IsPrefix (Signed l o) = climbing l ≡ true
+IsPrefix _ = Unit {0}
+
+abbrev pub IsInfix : Infix → Type 0
+IsInfix (Left l o) = climbing (below l) ≡ true
+IsInfix _ = Unit {0}
+
+-- what stands in front of the operators of a rank of at least k
+abbrev pub fronts : Depth → ℕ → List Terminal → Answer Expr
+fronts d k i = on_first (prefix_from k) i (λ p r. prefixed (inner_reads d) p r) (reads d level.Primary i)

@@ -1,0 +1,417 @@
+//! The arguments of a call.
+
+ghost use Rattle.std.specs.Prelude.{◌≡◌, ◌+◌, ◌-◌, ◌++◌, ◌<◌, ◌≤◌, ◌∷◌, MatchResult, [], length};
+ghost use Rattle.std.specs.Prelude.{map, max, option_map, true};
+ghost use Rattle.std.specs.Str.{chars};
+ghost use Rattle.unicode_normalization.specs.Forms.{nfkc};
+ghost use Rattle.pytree_node.specs.TreeOf.{keyword_of, tree_of};
+ghost use Rattle.pygrammar.specs.Capped.{cap};
+ghost use Rattle.pygrammar.specs.Entries as entries;
+ghost use Rattle.pygrammar.specs.Precedence as precedence;
+ghost use Rattle.pygrammar.specs.Reader as reader;
+ghost use Rattle.pyparse_expr.specs.Answers.{Answered, Failed};
+ghost use Rattle.pyparse_expr.specs.Inner.Arguments as arguments;
+ghost use Rattle.pyparse_expr.specs.Inner.Arguments.{ActualAt, AddedAt, IsKindAt, arguments_of, entry_of};
+ghost use Rattle.pyparse_expr.specs.Inner.Arguments.{level_of, place_of, state_of};
+ghost use Rattle.pyparse_expr.specs.Inner.Readings.{IsOpen, inner_reads};
+ghost use Rattle.pyparse_expr.specs.Views.{seen};
+
+use crate::actual::{Actual, Kind};
+use crate::comprehensions::comps;
+use crate::depth::Depth;
+use crate::found::Read;
+use crate::levels::{read_expression, read_named};
+use crate::list_makers::{make_call, make_generator};
+use crate::listings::first_items;
+use crate::looks::{is_op, lead_at, name_with, starts_comp};
+use crate::makers::make_starred;
+use crate::room::{put, put_keyword};
+use crate::stop::Stop;
+use pylex::Exact;
+use pytoken::Terminal;
+use std::alloc::Global;
+
+/// No arguments, at a place.
+fn none_at(alloc: Global, at: usize) -> Actual
+    ensures state { state_of result ≡ arguments.start }
+    ensures next { result.next ≡ at }
+    ensures height { result.height ≡ 0 }
+{
+    Actual {
+        args: Vec::new(alloc),
+        keywords: Vec::new(alloc),
+        keyed: false,
+        doubled: false,
+        wrong: false,
+        height: 0,
+        next: at,
+    }
+}
+
+/// The same arguments, from another place on.
+fn moved(actual: Actual, next: usize) -> Actual
+    ensures state { state_of result ≡ state_of actual }
+    ensures next { result.next ≡ next }
+    ensures height { result.height ≡ actual.height }
+{
+    let mut actual = actual;
+    actual.next = next;
+    actual
+}
+
+/// Appends an argument without a name.
+#[tactic(auto, using(crate::proofs::Lists::Pushes::pushed, crate::proofs::Calls::ArgumentSteps::args_height))]
+#[inline(always)]
+fn add_plain(actual: Actual, e: Read, wrong: bool) -> Result<Actual, Stop>
+    ensures state { MatchResult result
+        (λ r. state_of r ≡ arguments.state actual.keyed actual.doubled wrong
+        (map tree_of actual.args.items ++ (tree_of e.expr.value ∷ []))
+        (map keyword_of actual.keywords.items))
+        (λ s. s ≡ Stop.Memory) }
+    ensures next { MatchResult result (λ r. r.next ≡ e.next) (λ s. s ≡ Stop.Memory) }
+    ensures height { MatchResult result (λ r. r.height ≡ max actual.height e.height)
+        (λ s. s ≡ Stop.Memory) }
+{
+    let Actual {
+        args,
+        keywords,
+        keyed,
+        doubled,
+        wrong: _,
+        height,
+        next: _,
+    } = actual;
+    let mut args = args;
+    put(&mut args, e.expr)?;
+    Ok(Actual {
+        args,
+        keywords,
+        keyed,
+        doubled,
+        wrong,
+        height: height.max(e.height),
+        next: e.next,
+    })
+}
+
+/// Appends an argument of this name, or one of `**`.
+#[tactic(auto, using(crate::proofs::Calls::ArgumentSteps::keywords_height))]
+#[inline(never)]
+fn add_keyword(
+    alloc: Global,
+    actual: Actual,
+    name: Option<&str>,
+    e: Read,
+    doubled: bool,
+) -> Result<Actual, Stop>
+    ensures state { MatchResult result
+        (λ r. state_of r ≡ arguments.state true doubled actual.wrong (map tree_of actual.args.items)
+        (map keyword_of actual.keywords.items ++
+        (record {
+          arg = option_map (λ x. nfkc (chars x.now)) name.entry;
+          value = tree_of e.expr.value;
+        } ∷ [])))
+        (λ s. s ≡ Stop.Memory) }
+    ensures next { MatchResult result (λ r. r.next ≡ e.next) (λ s. s ≡ Stop.Memory) }
+    ensures height { MatchResult result (λ r. r.height ≡ max actual.height e.height)
+        (λ s. s ≡ Stop.Memory) }
+{
+    let Actual {
+        args,
+        keywords,
+        keyed: _,
+        doubled: _,
+        wrong,
+        height,
+        next: _,
+    } = actual;
+    let mut keywords = keywords;
+    put_keyword(alloc, &mut keywords, name, e.expr)?;
+    Ok(Actual {
+        args,
+        keywords,
+        keyed: true,
+        doubled,
+        wrong,
+        height: height.max(e.height),
+        next: e.next,
+    })
+}
+
+/// Appends an argument of this kind.
+#[inline(always)]
+fn add(alloc: Global, actual: Actual, kind: Kind, e: Read, room: usize) -> Result<Actual, Stop>
+    requires low { e.height < room }
+    requires held { actual.height ≤ room }
+    ensures state { MatchResult result
+        (λ r. state_of r ≡ arguments.step (state_of actual)
+        (entry_of kind.entry (tree_of e.expr.value)))
+        (λ s. s ≡ Stop.Memory) }
+    ensures next { MatchResult result (λ r. r.next ≡ e.next) (λ s. s ≡ Stop.Memory) }
+    ensures low { MatchResult result (λ r. r.height ≤ room) (λ s. s ≡ Stop.Memory) }
+{
+    match kind {
+        Kind::Single => {
+            let wrong = actual.wrong || actual.keyed;
+            add_plain(actual, e, wrong)
+        }
+        Kind::Spread => {
+            let wrong = actual.wrong || actual.doubled;
+            let starred = make_starred(alloc, e, room)?;
+            add_plain(actual, starred, wrong)
+        }
+        Kind::Doubled => add_keyword(alloc, actual, None, e, true),
+        Kind::Keyed(name) => {
+            let doubled = actual.doubled;
+            add_keyword(alloc, actual, Some(name), e, doubled)
+        }
+    }
+}
+
+/// Whether an argument begins at the place.
+#[tactic(auto, using(crate::proofs::Calls::ArgumentSteps::begins_high, crate::proofs::Calls::ArgumentSteps::begins_double, crate::proofs::Calls::ArgumentSteps::begins_not))]
+fn begins_argument(tokens: &[Terminal], at: usize) -> bool
+    ensures is { result ≡ precedence.starts entries.Argument (seen tokens.now at) }
+    ensures within { result ≡ true → at < length tokens.now }
+{
+    if lead_at(tokens, at) >= 7 {
+        return true;
+    }
+    is_op(tokens, at, Exact::DoubleStar)
+}
+
+/// How an argument at the place begins, if one does.
+#[tactic(auto, using(crate::proofs::Calls::ArgumentSteps::spread_kind, crate::proofs::Calls::ArgumentSteps::doubled_kind, crate::proofs::Calls::ArgumentSteps::keyed_kind, crate::proofs::Calls::ArgumentSteps::single_kind))]
+fn kind_at<'a>(tokens: &[Terminal<'a>], at: usize) -> Kind<'a>
+    requires { at ≤ length tokens.now }
+    ensures { IsKindAt result tokens.now at }
+{
+    if is_op(tokens, at, Exact::Star) {
+        return Kind::Spread;
+    }
+    if is_op(tokens, at, Exact::DoubleStar) {
+        return Kind::Doubled;
+    }
+    match name_with(tokens, at, Exact::Equal) {
+        Some(name) => Kind::Keyed(name),
+        None => Kind::Single,
+    }
+}
+
+/// The expression of an argument of this kind.
+#[cycle(reading)]
+#[inline(always)]
+fn read_argument(
+    alloc: Global,
+    tokens: &[Terminal],
+    kind: Kind,
+    at: usize,
+    depth: Depth,
+) -> Result<Read, Stop>
+    requires within { place_of kind at ≤ length tokens.now }
+    requires open { IsOpen depth }
+    ensures { Answered tokens.now (depth.room - 1) (at + 1)
+        (inner_reads depth (level_of kind.entry)
+        (seen tokens.now (place_of kind.entry at))) result }
+{
+    match kind {
+        Kind::Single => read_named(alloc, tokens, at, depth.inner()),
+        Kind::Spread => read_expression(alloc, tokens, at + 1, depth.inner()),
+        Kind::Doubled => read_expression(alloc, tokens, at + 1, depth.inner()),
+        Kind::Keyed(_) => read_expression(alloc, tokens, at + 2, depth.inner()),
+    }
+}
+
+/// One more argument.
+#[cycle(reading)]
+fn one_more(
+    alloc: Global,
+    tokens: &[Terminal],
+    actual: Actual,
+    depth: Depth,
+) -> Result<Actual, Stop>
+    requires within { actual.next ≤ length tokens.now }
+    requires open { IsOpen depth }
+    requires low { actual.height ≤ depth.room }
+    ensures { MatchResult result
+        (λ r. AddedAt tokens.now depth.room (actual.next + 1) (state_of actual)
+        (reader.read_argument (inner_reads depth) (seen tokens.now actual.next)) r)
+        (λ s. Failed s (reader.read_argument (inner_reads depth) (seen tokens.now actual.next))) }
+{
+    let kind = kind_at(tokens, actual.next);
+    let e = read_argument(alloc, tokens, kind, actual.next, depth)?;
+    add(alloc, actual, kind, e, depth.room)
+}
+
+/// Arguments with commas between them, behind some that were read.
+#[cycle(reading)]
+#[inline(never)]
+pub(crate) fn more_arguments(
+    alloc: Global,
+    tokens: &[Terminal],
+    actual: Actual,
+    depth: Depth,
+) -> Result<Actual, Stop>
+    requires within { actual.next ≤ length tokens.now }
+    requires open { IsOpen depth }
+    requires low { actual.height ≤ depth.room }
+    ensures { MatchResult result
+        (λ r. ActualAt tokens.now depth.room actual.next (state_of actual)
+        (arguments_of depth [] (seen tokens.now actual.next)) r)
+        (λ s. Failed s (arguments_of depth [] (seen tokens.now actual.next))) }
+{
+    let mut actual = actual;
+    'more: loop {
+        if !begins_argument(tokens, actual.next) {
+            return Ok(actual);
+        }
+        let grown = one_more(alloc, tokens, actual, depth)?;
+        if !is_op(tokens, grown.next, Exact::Comma) {
+            return Ok(grown);
+        }
+        let next = grown.next + 1;
+        actual = moved(grown, next);
+    }
+}
+
+/// The arguments from a place on.
+pub(crate) fn arguments(
+    alloc: Global,
+    tokens: &[Terminal],
+    at: usize,
+    depth: Depth,
+) -> Result<Actual, Stop>
+    requires within { at ≤ length tokens.now }
+    requires open { IsOpen depth }
+    ensures { MatchResult result
+        (λ r. ActualAt tokens.now depth.room at arguments.start
+        (arguments_of depth [] (seen tokens.now at)) r)
+        (λ s. Failed s (arguments_of depth [] (seen tokens.now at))) }
+{
+    more_arguments(alloc, tokens, none_at(alloc, at), depth)
+}
+
+/// The call of these arguments, behind which its bracket has to stand.
+#[inline(always)]
+fn finish(
+    alloc: Global,
+    tokens: &[Terminal],
+    func: Read,
+    actual: Actual,
+    room: usize,
+) -> Result<Read, Stop>
+    requires { actual.next ≤ length tokens.now }
+    ensures { Answered tokens.now room actual.next
+        (cap room (arguments.finished (tree_of func.expr.value) (state_of actual)
+        (seen tokens.now actual.next))) result }
+{
+    if !is_op(tokens, actual.next, Exact::RPar) {
+        return Err(Stop::NoForm);
+    }
+    if actual.wrong {
+        return Err(Stop::NoForm);
+    }
+    let next = actual.next + 1;
+    make_call(
+        alloc,
+        func.expr,
+        actual.args,
+        actual.keywords,
+        func.height.max(actual.height),
+        next,
+        room,
+    )
+}
+
+/// A call with a first argument.
+#[cycle(reading)]
+fn call_from(
+    alloc: Global,
+    tokens: &[Terminal],
+    func: Read,
+    first: Actual,
+    depth: Depth,
+) -> Result<Read, Stop>
+    requires within { first.next ≤ length tokens.now }
+    requires open { IsOpen depth }
+    requires low { first.height ≤ depth.room }
+    ensures { Answered tokens.now depth.room first.next
+        (cap depth.room
+        (arguments.called_from depth (tree_of func.expr.value) (state_of first)
+        (seen tokens.now first.next))) result }
+{
+    if !is_op(tokens, first.next, Exact::Comma) {
+        return finish(alloc, tokens, func, first, depth.room);
+    }
+    let next = first.next + 1;
+    let actual = more_arguments(alloc, tokens, moved(first, next), depth)?;
+    finish(alloc, tokens, func, actual, depth.room)
+}
+
+/// A call with a generator expression as its only argument, behind the element.
+#[cycle(reading)]
+#[inline(never)]
+fn generator_call(
+    alloc: Global,
+    tokens: &[Terminal],
+    func: Read,
+    elt: Read,
+    depth: Depth,
+) -> Result<Read, Stop>
+    requires within { elt.next ≤ length tokens.now }
+    requires open { IsOpen depth }
+    ensures { Answered tokens.now depth.room elt.next
+        (cap depth.room (reader.generator_call (inner_reads depth) (tree_of func.expr.value)
+        (entries.Single (tree_of elt.expr.value)) (seen tokens.now elt.next))) result }
+{
+    let comps = comps(alloc, tokens, elt.next, depth)?;
+    if !is_op(tokens, comps.next, Exact::RPar) {
+        return Err(Stop::NoForm);
+    }
+    let next = comps.next + 1;
+    let height = elt.height.max(comps.height);
+    let e = make_generator(alloc, elt.expr, comps.generators, height, next, depth.room)?;
+    let items = first_items(alloc, e)?;
+    make_call(
+        alloc,
+        func.expr,
+        items.exprs,
+        Vec::new(alloc),
+        func.height.max(items.height),
+        next,
+        depth.room,
+    )
+}
+
+/// A call, from its bracket on.
+#[cycle(reading)]
+#[inline(never)]
+pub(crate) fn call_step(
+    alloc: Global,
+    tokens: &[Terminal],
+    func: Read,
+    depth: Depth,
+) -> Result<Read, Stop>
+    requires within { func.next < length tokens.now }
+    requires open { IsOpen depth }
+    ensures { Answered tokens.now depth.room (func.next + 1)
+        (cap depth.room
+        (reader.call_step (inner_reads depth) (tree_of func.expr.value)
+        (seen tokens.now (func.next + 1)))) result }
+{
+    let at = func.next + 1;
+    let none = none_at(alloc, at);
+    if !begins_argument(tokens, at) {
+        return finish(alloc, tokens, func, none, depth.room);
+    }
+    let kind = kind_at(tokens, at);
+    let e = read_argument(alloc, tokens, kind, at, depth)?;
+    if starts_comp(tokens, e.next) {
+        return match kind {
+            Kind::Single => generator_call(alloc, tokens, func, e, depth),
+            _ => Err(Stop::NoForm),
+        };
+    }
+    let first = add(alloc, none, kind, e, depth.room)?;
+    call_from(alloc, tokens, func, first, depth)
+}

@@ -1,0 +1,274 @@
+//! Names, constants, and what stands in brackets.
+
+ghost use Rattle.std.specs.Prelude.{◌≡◌, ◌+◌, ◌<◌, ◌≤◌, ◌∷◌, [], MatchResult, length, true};
+ghost use Rattle.pytree_node.specs.TreeOf.{tree_of};
+ghost use Rattle.pytree_node.specs.Trees as plain;
+ghost use Rattle.pygrammar.specs.Capped.{cap, capped_atom, capped_round};
+ghost use Rattle.pygrammar.specs.Entries as entries;
+ghost use Rattle.pygrammar.specs.Looks as signs;
+ghost use Rattle.pygrammar.specs.Precedence as precedence;
+ghost use Rattle.pygrammar.specs.Reader as reader;
+ghost use Rattle.pyparse_expr.specs.Answers.{Answered, Failed};
+ghost use Rattle.pyparse_expr.specs.Readings.{reads};
+ghost use Rattle.pyparse_expr.specs.Inner.Readings.{IsOpen, inner_reads, level_at, same_reads};
+ghost use Rattle.pyparse_expr.specs.Views.{Stands, seen};
+ghost use Rattle.pytoken.specs.TerminalOf.{terminal};
+ghost use Rattle.pytoken.specs.Terminals as terminals;
+
+use crate::braces::curly;
+use crate::comprehensions::comps;
+use crate::depth::Depth;
+use crate::found::Read;
+use crate::levels::{read_elem, yield_step};
+use crate::list_makers::{make_generator, make_list, make_list_comp, make_tuple};
+use crate::listings::{Item, others};
+use crate::literals::string_run;
+use crate::looks::{is_op, is_word, lead_at, starts_comp, terminal_at};
+use crate::makers::{make_constant, make_name, make_whole};
+use crate::stop::Stop;
+use pygrammar::Level;
+use pylex::Exact;
+use pytree_node::{Constant, Context};
+use pytoken::Keyword;
+use pytoken::Terminal;
+use std::alloc::Global;
+
+/// Reads an atom.
+#[cycle(reading)]
+#[inline(always)]
+pub(crate) fn read_atom(
+    alloc: Global,
+    tokens: &[Terminal],
+    at: usize,
+    depth: Depth,
+) -> Result<Read, Stop>
+    requires { at ≤ length tokens.now }
+    ensures { Answered tokens.now depth.room (at + 1)
+        (reads depth Level.Atom (seen tokens.now at)) result }
+{
+    depth.enter()?;
+    match terminal_at(tokens, at) {
+        Some(t) => atom_of(alloc, tokens, t, at + 1, depth),
+        None => Err(Stop::NoForm),
+    }
+}
+
+/// The atom that begins with a terminal, from behind it.
+#[cycle(reading)]
+#[inline(always)]
+fn atom_of(
+    alloc: Global,
+    tokens: &[Terminal],
+    t: Terminal,
+    next: usize,
+    depth: Depth,
+) -> Result<Read, Stop>
+    requires within { next ≤ length tokens.now }
+    requires open { IsOpen depth }
+    ensures { Answered tokens.now depth.room next
+        (cap depth.room
+        (capped_atom (same_reads depth) (inner_reads depth)
+        (terminal t.entry ∷ seen tokens.now next))) result }
+{
+    match t {
+        Terminal::Ident(name) => make_name(alloc, name, Context::Load, next),
+        _ => other_atom(alloc, tokens, t, next, depth),
+    }
+}
+
+/// The same, kept apart from the many names.
+#[cycle(reading)]
+#[inline(never)]
+fn other_atom(
+    alloc: Global,
+    tokens: &[Terminal],
+    t: Terminal,
+    next: usize,
+    depth: Depth,
+) -> Result<Read, Stop>
+    requires within { next ≤ length tokens.now }
+    requires open { IsOpen depth }
+    ensures { Answered tokens.now depth.room next
+        (cap depth.room
+        (capped_atom (same_reads depth) (inner_reads depth)
+        (terminal t.entry ∷ seen tokens.now next))) result }
+{
+    match t {
+        Terminal::Ident(name) => make_name(alloc, name, Context::Load, next),
+        Terminal::Whole(n) => make_whole(alloc, n, next),
+        Terminal::Literal(value) => string_run(alloc, tokens, value, next),
+        Terminal::Op(sign) => match sign {
+            Exact::LPar => round(alloc, tokens, next, depth),
+            Exact::LSqb => square(alloc, tokens, next, depth),
+            Exact::LBrace => curly(alloc, tokens, next, depth),
+            Exact::Ellipsis => make_constant(alloc, Constant::Ellipsis, next),
+            _ => Err(Stop::NoForm),
+        },
+        Terminal::Word(word) => match word {
+            Keyword::None => make_constant(alloc, Constant::None, next),
+            Keyword::True => make_constant(alloc, Constant::Bool(true), next),
+            Keyword::False => make_constant(alloc, Constant::Bool(false), next),
+            _ => Err(Stop::NoForm),
+        },
+        Terminal::Layout => Err(Stop::NoForm),
+    }
+}
+
+/// The sign that has to stand behind an expression.
+pub(crate) fn closed(tokens: &[Terminal], sign: Exact, e: Read) -> Result<Read, Stop>
+    requires { e.next ≤ length tokens.now }
+    ensures { Answered tokens.now e.height (e.next + 1)
+        (reader.closed sign (seen tokens.now e.next) (tree_of e.expr.value)) result }
+{
+    if is_op(tokens, e.next, sign) {
+        let next = e.next + 1;
+        Ok(Read {
+            expr: e.expr,
+            height: e.height,
+            next,
+        })
+    } else {
+        Err(Stop::NoForm)
+    }
+}
+
+/// Behind a `(`.
+#[cycle(reading)]
+pub(crate) fn round(
+    alloc: Global,
+    tokens: &[Terminal],
+    at: usize,
+    depth: Depth,
+) -> Result<Read, Stop>
+    requires within { at ≤ length tokens.now }
+    requires open { IsOpen depth }
+    ensures { Answered tokens.now depth.room (at + 1)
+        (cap depth.room
+        (capped_round (same_reads depth) (inner_reads depth) (seen tokens.now at))) result }
+{
+    if is_op(tokens, at, Exact::RPar) {
+        return make_tuple(alloc, Vec::new(alloc), 0, at + 1, depth.room);
+    }
+    if is_word(tokens, at, Keyword::Yield) {
+        let e = yield_step(alloc, tokens, at + 1, depth)?;
+        return closed(tokens, Exact::RPar, e);
+    }
+    let first = read_elem(alloc, tokens, at, depth.same())?;
+    if is_op(tokens, first.next, Exact::Comma) {
+        return group_tuple(alloc, tokens, first, depth);
+    }
+    if is_op(tokens, at, Exact::Star) {
+        return Err(Stop::NoForm);
+    }
+    if starts_comp(tokens, first.next) {
+        return generator_group(alloc, tokens, first, depth);
+    }
+    closed(tokens, Exact::RPar, first)
+}
+
+/// A tuple in round brackets, from the comma behind its first element on.
+#[cycle(reading)]
+fn group_tuple(alloc: Global, tokens: &[Terminal], first: Read, depth: Depth) -> Result<Read, Stop>
+    requires open { IsOpen depth }
+    requires low { first.height ≤ depth.room }
+    requires comma { Stands (terminals.Op Exact.Comma) tokens.now first.next }
+    ensures { Answered tokens.now depth.room (first.next)
+        (cap depth.room
+        (reader.and_then
+        (reader.listing_of (inner_reads depth) (entries.Of Level.Elem) []
+        (seen tokens.now (first.next + 1)))
+        (λ es r. reader.closed Exact.RPar r
+        (plain.Tuple (plain.an_expr (tree_of first.expr.value)
+        (entries.singles es)) Context.Load)))) result }
+{
+    let items = others(alloc, tokens, Item::Elem, first, depth)?;
+    if !is_op(tokens, items.next, Exact::RPar) {
+        return Err(Stop::NoForm);
+    }
+    make_tuple(alloc, items.exprs, items.height, items.next + 1, depth.room)
+}
+
+/// A generator expression in round brackets, behind its element.
+#[cycle(reading)]
+fn generator_group(
+    alloc: Global,
+    tokens: &[Terminal],
+    first: Read,
+    depth: Depth,
+) -> Result<Read, Stop>
+    requires within { first.next ≤ length tokens.now }
+    requires open { IsOpen depth }
+    ensures { Answered tokens.now depth.room (first.next)
+        (cap depth.room
+        (reader.comps_closed (inner_reads depth) Exact.RPar (seen tokens.now first.next)
+        (λ gs. plain.GeneratorExp (tree_of first.expr.value) (plain.comprehensions gs)))) result }
+{
+    let comps = comps(alloc, tokens, first.next, depth)?;
+    if !is_op(tokens, comps.next, Exact::RPar) {
+        return Err(Stop::NoForm);
+    }
+    let next = comps.next + 1;
+    make_generator(
+        alloc,
+        first.expr,
+        comps.generators,
+        first.height.max(comps.height),
+        next,
+        depth.room,
+    )
+}
+
+/// Behind a `[`.
+#[cycle(reading)]
+fn square(alloc: Global, tokens: &[Terminal], at: usize, depth: Depth) -> Result<Read, Stop>
+    requires within { at ≤ length tokens.now }
+    requires open { IsOpen depth }
+    ensures { Answered tokens.now depth.room (at + 1)
+        (cap depth.room (reader.square (inner_reads depth) (seen tokens.now at))) result }
+{
+    if lead_at(tokens, at) < 7 {
+        return if is_op(tokens, at, Exact::RSqb) {
+            make_list(alloc, Vec::new(alloc), 0, at + 1, depth.room)
+        } else {
+            Err(Stop::NoForm)
+        };
+    }
+    let first = read_elem(alloc, tokens, at, depth.inner())?;
+    if starts_comp(tokens, first.next) {
+        return if is_op(tokens, at, Exact::Star) {
+            Err(Stop::NoForm)
+        } else {
+            list_comp(alloc, tokens, first, depth)
+        };
+    }
+    let items = others(alloc, tokens, Item::Elem, first, depth)?;
+    if !is_op(tokens, items.next, Exact::RSqb) {
+        return Err(Stop::NoForm);
+    }
+    make_list(alloc, items.exprs, items.height, items.next + 1, depth.room)
+}
+
+/// A list comprehension, behind its element.
+#[cycle(reading)]
+fn list_comp(alloc: Global, tokens: &[Terminal], first: Read, depth: Depth) -> Result<Read, Stop>
+    requires within { first.next ≤ length tokens.now }
+    requires open { IsOpen depth }
+    ensures { Answered tokens.now depth.room (first.next)
+        (cap depth.room
+        (reader.comps_closed (inner_reads depth) Exact.RSqb (seen tokens.now first.next)
+        (λ gs. plain.ListComp (tree_of first.expr.value) (plain.comprehensions gs)))) result }
+{
+    let comps = comps(alloc, tokens, first.next, depth)?;
+    if !is_op(tokens, comps.next, Exact::RSqb) {
+        return Err(Stop::NoForm);
+    }
+    let next = comps.next + 1;
+    make_list_comp(
+        alloc,
+        first.expr,
+        comps.generators,
+        first.height.max(comps.height),
+        next,
+        depth.room,
+    )
+}

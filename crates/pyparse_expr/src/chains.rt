@@ -1,0 +1,183 @@
+//! Chains of `and` and `or`, and of comparisons.
+
+ghost use Rattle.std.specs.Prelude.{◌≡◌, ◌+◌, ◌<◌, ◌≤◌, ◌∷◌, MatchOption, MatchResult, Some, []};
+ghost use Rattle.std.specs.Prelude.{length, map, true};
+ghost use Rattle.pytree_node.specs.TreeOf.{tree_of};
+ghost use Rattle.pytoken.specs.Terminals as terminals;
+ghost use Rattle.pygrammar.specs.Capped.{cap};
+ghost use Rattle.pygrammar.specs.Operators as operators;
+ghost use Rattle.pygrammar.specs.Precedence as precedence;
+ghost use Rattle.pygrammar.specs.Reader as reader;
+ghost use Rattle.pyparse_expr.specs.Answers.{Answered, Failed};
+ghost use Rattle.pyparse_expr.specs.Inner.Chains.{ComparedAt, LinkedAt, MisComparedAt, NotComparedAt};
+ghost use Rattle.pyparse_expr.specs.Inner.Chains.{links_of};
+ghost use Rattle.pyparse_expr.specs.Inner.Readings.{IsOpen, climbing, inner_reads};
+ghost use Rattle.pyparse_expr.specs.Views.{Stands, first_is, seen};
+ghost use Rattle.pyparse_expr.specs.Inner.Views.{infix_value};
+
+use crate::climbing::climb;
+use crate::depth::Depth;
+use crate::found::{Items, Read};
+use crate::listings::{first_items, push};
+use crate::looks::is_word;
+use crate::makers::{make_chain, make_compare};
+use crate::operators::{Infix, comparison_at};
+use crate::stop::Stop;
+use pygrammar::Level;
+use pytree_node::{BoolOperator, Comparison};
+use pytoken::Keyword;
+use pytoken::Terminal;
+use std::alloc::Global;
+
+/// A comparison, and the place behind it.
+#[derive(Clone, Copy)]
+pub(crate) struct Compared {
+    pub op: Comparison,
+    pub next: usize,
+}
+
+/// The word between the sides.
+fn chain_word(o: BoolOperator) -> Keyword
+    ensures { result ≡ operators.chain_word o }
+{
+    match o {
+        BoolOperator::Or => Keyword::Or,
+        BoolOperator::And => Keyword::And,
+    }
+}
+
+/// The level of the sides.
+fn side_level(o: BoolOperator) -> Level
+    ensures is { result ≡ operators.below (operators.chain_level o) }
+    ensures climbs { climbing result ≡ true }
+{
+    match o {
+        BoolOperator::Or => Level::And,
+        BoolOperator::And => Level::Not,
+    }
+}
+
+/// Expressions with `and` or `or` between them, behind the first one.
+#[cycle(reading)]
+pub(crate) fn chain(
+    alloc: Global,
+    tokens: &[Terminal],
+    left: Read,
+    o: BoolOperator,
+    depth: Depth,
+) -> Result<Read, Stop>
+    requires within { left.next < length tokens.now }
+    requires sign { Some (precedence.Joins o) ≡ first_is precedence.behind
+        (seen tokens.now left.next) }
+    requires open { IsOpen depth }
+    ensures { Answered tokens.now depth.room (left.next + 1)
+        (cap depth.room
+        (reader.operation (inner_reads depth) (tree_of left.expr.value)
+        (infix_value (Infix.Joins o))
+        (seen tokens.now left.next) (seen tokens.now (left.next + 1)))) result }
+{
+    let first = first_items(alloc, left)?;
+    let items = links(alloc, tokens, first, o, depth)?;
+    make_chain(alloc, o, items.exprs, items.height, items.next, depth.room)
+}
+
+/// The sides behind some that were read.
+#[cycle(reading)]
+fn links(
+    alloc: Global,
+    tokens: &[Terminal],
+    first: Items,
+    o: BoolOperator,
+    depth: Depth,
+) -> Result<Items, Stop>
+    requires word { Stands (terminals.Word (operators.chain_word o)) tokens.now first.next }
+    requires open { IsOpen depth }
+    ensures { MatchResult result
+        (λ r. LinkedAt tokens.now (first.next + 1)
+        (links_of depth o (map tree_of first.exprs.items) (seen tokens.now first.next)) r)
+        (λ s. Failed s
+        (links_of depth o (map tree_of first.exprs.items) (seen tokens.now first.next))) }
+{
+    let mut items = first;
+    'sides: while is_word(tokens, items.next, chain_word(o)) {
+        let e = climb(alloc, tokens, side_level(o), items.next + 1, depth.inner())?;
+        items = push(items, e)?;
+    }
+    Ok(items)
+}
+
+/// The comparison at a place, if one stands there.
+#[tactic(auto, using(crate::proofs::Places::Signs::one_sign, crate::proofs::Places::Signs::not_in, crate::proofs::Places::Signs::not_alone, crate::proofs::Places::Signs::is_not, crate::proofs::Places::Signs::is_alone, crate::proofs::Places::Signs::no_sign))]
+fn compared_at(tokens: &[Terminal], at: usize) -> Result<Option<Compared>, Stop>
+    ensures { MatchResult result
+        (λ o. MatchOption o (NotComparedAt tokens.now at) (λ c. ComparedAt tokens.now at c))
+        (λ s. MisComparedAt tokens.now at s) }
+{
+    if let Some(op) = comparison_at(tokens, at) {
+        return Ok(Some(Compared { op, next: at + 1 }));
+    }
+    if is_word(tokens, at, Keyword::Not) {
+        if !is_word(tokens, at + 1, Keyword::In) {
+            return Err(Stop::NoForm);
+        }
+        return Ok(Some(Compared {
+            op: Comparison::NotIn,
+            next: at + 2,
+        }));
+    }
+    if !is_word(tokens, at, Keyword::Is) {
+        return Ok(None);
+    }
+    if is_word(tokens, at + 1, Keyword::Not) {
+        Ok(Some(Compared {
+            op: Comparison::IsNot,
+            next: at + 2,
+        }))
+    } else {
+        Ok(Some(Compared {
+            op: Comparison::Is,
+            next: at + 1,
+        }))
+    }
+}
+
+/// An empty list.
+fn no_items(alloc: Global, next: usize) -> Items
+    ensures items { map tree_of result.exprs.items ≡ [] }
+    ensures next { result.next ≡ next }
+{
+    Items {
+        exprs: Vec::new(alloc),
+        height: 0,
+        next,
+    }
+}
+
+/// Comparisons behind an expression.
+#[cycle(reading)]
+pub(crate) fn compare(
+    alloc: Global,
+    tokens: &[Terminal],
+    left: Read,
+    depth: Depth,
+) -> Result<Read, Stop>
+    requires within { left.next < length tokens.now }
+    requires sign { Some precedence.Compares ≡ first_is precedence.behind
+        (seen tokens.now left.next) }
+    requires open { IsOpen depth }
+    ensures { Answered tokens.now depth.room (left.next + 1)
+        (cap depth.room
+        (reader.operation (inner_reads depth) (tree_of left.expr.value) (infix_value Infix.Compares)
+        (seen tokens.now left.next) (seen tokens.now (left.next + 1)))) result }
+{
+    let Read { expr, height, next } = left;
+    let mut ops = Vec::new(alloc);
+    let mut items = no_items(alloc, next);
+    'sides: while let Some(sign) = compared_at(tokens, items.next)? {
+        let e = climb(alloc, tokens, Level::BitOr, sign.next, depth.inner())?;
+        ops.push(sign.op)?;
+        items = push(items, e)?;
+    }
+    let under = height.max(items.height);
+    make_compare(alloc, expr, ops, items.exprs, under, items.next, depth.room)
+}

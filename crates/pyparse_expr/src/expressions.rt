@@ -1,0 +1,90 @@
+//! An expression of a list of terminals.
+
+ghost use Rattle.std.specs.Prelude.{◌≡◌, ◌+◌, ◌≤◌, MatchResult, length, map};
+ghost use Rattle.pytree_node.specs.TreeOf.{tree_of};
+ghost use Rattle.pytoken.specs.TerminalOf.{terminal};
+ghost use Rattle.pyparse_expr.specs.Expressions.{IsExpression, Refused};
+ghost use Rattle.pyparse_expr.specs.Answers.{Answered};
+ghost use Rattle.pyparse_expr.specs.Readings.{reads};
+ghost use Rattle.pyparse_expr.specs.Views.{seen};
+
+use crate::atoms::read_atom;
+use crate::climbing::climb;
+use crate::depth::Depth;
+use crate::found::Read;
+use crate::levels::{
+    read_elem, read_expression, read_named, read_star_item, read_stars, read_value,
+};
+use crate::primaries::read_primary;
+use crate::slices::{read_part, read_slice, read_slices};
+use crate::stop::Stop;
+use pygrammar::Level;
+use pytree_node::Expr;
+use pytoken::Terminal;
+use std::alloc::Global;
+
+/// How high an expression may be.
+pub const MOST_HEIGHT: usize = 500;
+
+/// Reads an expression of a level at a place of some terminals.
+pub fn read_at(
+    alloc: Global,
+    tokens: &[Terminal],
+    level: Level,
+    at: usize,
+    depth: Depth,
+) -> Result<Read, Stop>
+    requires { at ≤ length tokens.now }
+    ensures { Answered tokens.now depth.room (at + 1)
+        (reads depth level (seen tokens.now at)) result }
+{
+    match level {
+        Level::Value => read_value(alloc, tokens, at, depth),
+        Level::Stars => read_stars(alloc, tokens, at, depth),
+        Level::StarItem => read_star_item(alloc, tokens, at, depth),
+        Level::Elem => read_elem(alloc, tokens, at, depth),
+        Level::Named => read_named(alloc, tokens, at, depth),
+        Level::Expression => read_expression(alloc, tokens, at, depth),
+        Level::Or => climb(alloc, tokens, Level::Or, at, depth),
+        Level::And => climb(alloc, tokens, Level::And, at, depth),
+        Level::Not => climb(alloc, tokens, Level::Not, at, depth),
+        Level::Compare => climb(alloc, tokens, Level::Compare, at, depth),
+        Level::BitOr => climb(alloc, tokens, Level::BitOr, at, depth),
+        Level::BitXor => climb(alloc, tokens, Level::BitXor, at, depth),
+        Level::BitAnd => climb(alloc, tokens, Level::BitAnd, at, depth),
+        Level::Shift => climb(alloc, tokens, Level::Shift, at, depth),
+        Level::Sum => climb(alloc, tokens, Level::Sum, at, depth),
+        Level::Term => climb(alloc, tokens, Level::Term, at, depth),
+        Level::Factor => climb(alloc, tokens, Level::Factor, at, depth),
+        Level::Power => climb(alloc, tokens, Level::Power, at, depth),
+        Level::Await => climb(alloc, tokens, Level::Await, at, depth),
+        Level::Primary => read_primary(alloc, tokens, at, depth),
+        Level::Atom => read_atom(alloc, tokens, at, depth),
+        Level::Slices => read_slices(alloc, tokens, at, depth),
+        Level::Part => read_part(alloc, tokens, at, depth),
+        Level::Slice => read_slice(alloc, tokens, at, depth),
+    }
+}
+
+/// The expression of a level that some terminals are, as the grammar of the language reference,
+/// section 6, derives it. At most [`MOST_HEIGHT`] nodes stand in one another.
+///
+/// # Errors
+///
+/// [`Stop::NoForm`]: they are none. [`Stop::TooDeep`]: they are none of this height; where they are
+/// none at all, there are more of them than [`MOST_HEIGHT`]. [`Stop::Memory`].
+#[tactic(auto, using(crate::proofs::Reader::Wholes::whole_failed, crate::proofs::Reader::Wholes::whole_high, crate::proofs::Reader::Wholes::whole_more, crate::proofs::Reader::Wholes::whole_found))]
+pub fn read_whole(alloc: Global, tokens: &[Terminal], level: Level) -> Result<Box<Expr>, Stop>
+    ensures { MatchResult result
+        (λ e. IsExpression level (map terminal tokens.now) (tree_of e.value))
+        (λ s. Refused s level (map terminal tokens.now)) }
+{
+    let read = read_at(alloc, tokens, level, 0, Depth::of(tokens))?;
+    if read.height > MOST_HEIGHT {
+        return Err(Stop::TooDeep);
+    }
+    if read.next != tokens.len() {
+        return Err(Stop::NoForm);
+    }
+    Ok(read.expr)
+}

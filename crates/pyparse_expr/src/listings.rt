@@ -1,0 +1,209 @@
+//! Lists of expressions with commas between them.
+
+ghost use Rattle.std.specs.Prelude.{◌≡◌, ◌+◌, ◌++◌, ◌<◌, ◌≤◌, ◌∷◌, [], MatchResult, length, map};
+ghost use Rattle.std.specs.Prelude.{max};
+ghost use Rattle.pytree_node.specs.TreeOf.{tree_of};
+ghost use Rattle.pytree_node.specs.Trees as plain;
+ghost use Rattle.pytoken.specs.Terminals as terminals;
+ghost use Rattle.pygrammar.specs.Capped.{cap};
+ghost use Rattle.pygrammar.specs.Entries as entries;
+ghost use Rattle.pygrammar.specs.Precedence as precedence;
+ghost use Rattle.pygrammar.specs.Reader as reader;
+ghost use Rattle.pyparse_expr.specs.Answers.{Answered, Failed};
+ghost use Rattle.pyparse_expr.specs.Inner.Found.{ListedAt, entries_of};
+ghost use Rattle.pyparse_expr.specs.Inner.Lists.{item_reads, items_of, least_of, more_at};
+ghost use Rattle.pyparse_expr.specs.Inner.Readings.{IsOpen, inner_reads};
+ghost use Rattle.pyparse_expr.specs.Views.{Stands, seen};
+
+use crate::comprehensions::target_item;
+use crate::depth::Depth;
+use crate::found::{Items, Read};
+use crate::levels::{read_elem, read_star_item};
+use crate::list_makers::make_tuple;
+use crate::looks::{is_op, lead_at};
+use crate::room::put;
+use crate::slices::read_part;
+use crate::stop::Stop;
+use pylex::Exact;
+use pytree_node::Context;
+use pytoken::Terminal;
+use std::alloc::Global;
+
+/// What stands between the commas of a list of expressions.
+#[derive(Clone, Copy)]
+pub(crate) enum Item {
+    StarItem,
+    Elem,
+    Part,
+    /// A `*` and a Primary, or a Primary.
+    Target,
+}
+
+/// A list of no items.
+pub fn no_items(alloc: Global, at: usize) -> Items
+    ensures items { map tree_of result.exprs.items ≡ [] }
+    ensures next { result.next ≡ at }
+{
+    Items {
+        exprs: Vec::new(alloc),
+        height: 0,
+        next: at,
+    }
+}
+
+/// A list of one item.
+pub(crate) fn first_items(alloc: Global, e: Read) -> Result<Items, Stop>
+    ensures items { MatchResult result (λ r. map tree_of r.exprs.items ≡ tree_of e.expr.value ∷ [])
+        (λ s. s ≡ Stop.Memory) }
+    ensures next { MatchResult result (λ r. r.next ≡ e.next) (λ s. s ≡ Stop.Memory) }
+    ensures height { MatchResult result (λ r. r.height ≡ e.height) (λ s. s ≡ Stop.Memory) }
+{
+    let mut exprs = Vec::new(alloc);
+    put(&mut exprs, e.expr)?;
+    Ok(Items {
+        exprs,
+        height: e.height,
+        next: e.next,
+    })
+}
+
+/// A list with one more item.
+#[tactic(auto, using(crate::proofs::Lists::Pushes::pushed, crate::proofs::Lists::Pushes::pushed_height))]
+pub fn push(items: Items, e: Read) -> Result<Items, Stop>
+    ensures items { MatchResult result
+        (λ r. map tree_of r.exprs.items ≡ map tree_of items.exprs.items ++
+        (tree_of e.expr.value ∷ []))
+        (λ s. s ≡ Stop.Memory) }
+    ensures next { MatchResult result (λ r. r.next ≡ e.next) (λ s. s ≡ Stop.Memory) }
+    ensures height { MatchResult result (λ r. r.height ≡ max items.height e.height)
+        (λ s. s ≡ Stop.Memory) }
+{
+    let Items {
+        exprs,
+        height,
+        next: _,
+    } = items;
+    let mut exprs = exprs;
+    put(&mut exprs, e.expr)?;
+    Ok(Items {
+        exprs,
+        height: height.max(e.height),
+        next: e.next,
+    })
+}
+
+/// The least lead of a terminal that begins an item.
+fn least_lead(item: Item) -> u8
+    ensures { result ≡ least_of item }
+{
+    match item {
+        Item::Part => 5,
+        Item::StarItem => 7,
+        Item::Elem => 7,
+        Item::Target => 7,
+    }
+}
+
+/// The Tuple of a first item, behind which a comma stands.
+#[cycle(reading)]
+#[inline(never)]
+pub(crate) fn tupled(
+    alloc: Global,
+    tokens: &[Terminal],
+    item: Item,
+    first: Read,
+    depth: Depth,
+) -> Result<Read, Stop>
+    requires comma { Stands (terminals.Op Exact.Comma) tokens.now first.next }
+    requires open { IsOpen depth }
+    requires low { first.height ≤ depth.room }
+    ensures { Answered tokens.now depth.room first.next
+        (cap depth.room (reader.and_then (items_of depth item [] (seen tokens.now (first.next + 1)))
+        (λ es r. reader.Found
+        (plain.Tuple (plain.an_expr (tree_of first.expr.value)
+        (entries.singles es)) Context.Load) r))) result }
+{
+    let items = others(alloc, tokens, item, first, depth)?;
+    make_tuple(alloc, items.exprs, items.height, items.next, depth.room)
+}
+
+/// The items behind a first one.
+#[cycle(reading)]
+pub(crate) fn others(
+    alloc: Global,
+    tokens: &[Terminal],
+    item: Item,
+    first: Read,
+    depth: Depth,
+) -> Result<Items, Stop>
+    requires within { first.next ≤ length tokens.now }
+    requires open { IsOpen depth }
+    requires low { first.height ≤ depth.room }
+    ensures { MatchResult result
+        (λ r. ListedAt tokens.now depth.room first.next
+        (more_at depth item (entries.Single (tree_of first.expr.value) ∷ [])
+        (seen tokens.now first.next)) r)
+        (λ s. Failed s
+        (more_at depth item (entries.Single (tree_of first.expr.value) ∷ [])
+        (seen tokens.now first.next))) }
+{
+    let items = first_items(alloc, first)?;
+    listing(alloc, tokens, item, items, depth)
+}
+
+/// A list with the items behind a comma, if one stands there.
+#[cycle(reading)]
+pub(crate) fn listing(
+    alloc: Global,
+    tokens: &[Terminal],
+    item: Item,
+    items: Items,
+    depth: Depth,
+) -> Result<Items, Stop>
+    requires within { items.next ≤ length tokens.now }
+    requires open { IsOpen depth }
+    requires low { items.height ≤ depth.room }
+    ensures { MatchResult result
+        (λ r. ListedAt tokens.now depth.room items.next
+        (more_at depth item (entries_of items) (seen tokens.now items.next)) r)
+        (λ s. Failed s (more_at depth item (entries_of items) (seen tokens.now items.next))) }
+{
+    let mut items = items;
+    'more: loop {
+        if !is_op(tokens, items.next, Exact::Comma) {
+            return Ok(items);
+        }
+        let at = items.next + 1;
+        if lead_at(tokens, at) < least_lead(item) {
+            return Ok(Items {
+                exprs: items.exprs,
+                height: items.height,
+                next: at,
+            });
+        }
+        let e = read_item(alloc, tokens, item, at, depth)?;
+        items = push(items, e)?;
+    }
+}
+
+/// An item of a list.
+#[cycle(reading)]
+fn read_item(
+    alloc: Global,
+    tokens: &[Terminal],
+    item: Item,
+    at: usize,
+    depth: Depth,
+) -> Result<Read, Stop>
+    requires within { at ≤ length tokens.now }
+    requires open { IsOpen depth }
+    ensures { Answered tokens.now depth.room (at + 1)
+        (item_reads depth item (seen tokens.now at)) result }
+{
+    match item {
+        Item::StarItem => read_star_item(alloc, tokens, at, depth.inner()),
+        Item::Elem => read_elem(alloc, tokens, at, depth.inner()),
+        Item::Part => read_part(alloc, tokens, at, depth.inner()),
+        Item::Target => target_item(alloc, tokens, at, depth),
+    }
+}

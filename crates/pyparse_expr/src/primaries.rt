@@ -1,0 +1,90 @@
+//! Attributes, calls and subscripts.
+
+ghost use Rattle.std.specs.Prelude.{◌≡◌, ◌+◌, ◌<◌, ◌≤◌, length, true};
+ghost use Rattle.pytree_node.specs.TreeOf.{tree_of};
+ghost use Rattle.pytree_node.specs.Trees as plain;
+ghost use Rattle.pygrammar.specs.Capped.{cap};
+ghost use Rattle.pygrammar.specs.Looks as signs;
+ghost use Rattle.pygrammar.specs.Reader as reader;
+ghost use Rattle.pyparse_expr.specs.Answers.{Answered};
+ghost use Rattle.pyparse_expr.specs.Readings.{reads};
+ghost use Rattle.pyparse_expr.specs.Inner.Readings.{IsOpen, inner_reads, level_at};
+ghost use Rattle.pyparse_expr.specs.Views.{seen};
+
+use crate::arguments::call_step;
+use crate::atoms::read_atom;
+use crate::depth::Depth;
+use crate::found::Read;
+use crate::looks::{is_op, name_at};
+use crate::makers::{make_attribute, make_subscript};
+use crate::slices::read_slices;
+use crate::stop::Stop;
+use pygrammar::Level;
+use pylex::Exact;
+use pytree_node::Context;
+use pytoken::Terminal;
+use std::alloc::Global;
+
+/// An atom with attributes, calls and subscripts behind it.
+#[cycle(reading)]
+pub(crate) fn read_primary(
+    alloc: Global,
+    tokens: &[Terminal],
+    at: usize,
+    depth: Depth,
+) -> Result<Read, Stop>
+    requires { at ≤ length tokens.now }
+    ensures { Answered tokens.now depth.room (at + 1)
+        (reads depth Level.Primary (seen tokens.now at)) result }
+{
+    depth.enter()?;
+    let mut e = read_atom(alloc, tokens, at, depth)?;
+    'tails: loop {
+        if is_op(tokens, e.next, Exact::Dot) {
+            e = attribute_step(alloc, tokens, e, depth)?;
+        } else if is_op(tokens, e.next, Exact::LPar) {
+            e = call_step(alloc, tokens, e, depth)?;
+        } else if is_op(tokens, e.next, Exact::LSqb) {
+            e = index_step(alloc, tokens, e, depth)?;
+        } else {
+            return Ok(e);
+        }
+    }
+}
+
+/// An attribute, from its dot on.
+fn attribute_step(alloc: Global, tokens: &[Terminal], e: Read, depth: Depth) -> Result<Read, Stop>
+    requires within { e.next < length tokens.now }
+    ensures { Answered tokens.now depth.room (e.next + 1)
+        (cap depth.room (reader.on_first signs.name_in (seen tokens.now (e.next + 1))
+        (λ x r. reader.Found
+        (plain.Attribute (tree_of e.expr.value) x Context.Load) r) reader.NoForm)) result }
+{
+    let next = e.next + 1;
+    match name_at(tokens, next) {
+        Some(name) => make_attribute(alloc, e, name, next + 1, depth.room),
+        None => Err(Stop::NoForm),
+    }
+}
+
+/// A subscript, from its bracket on.
+#[cycle(reading)]
+#[inline(never)]
+fn index_step(alloc: Global, tokens: &[Terminal], e: Read, depth: Depth) -> Result<Read, Stop>
+    requires within { e.next < length tokens.now }
+    requires open { IsOpen depth }
+    ensures { Answered tokens.now depth.room (e.next + 1)
+        (cap depth.room
+        (reader.and_then (inner_reads depth Level.Slices (seen tokens.now (e.next + 1)))
+        (λ s r. reader.on_first (signs.is_op Exact.RSqb) r
+        (λ _ r2. reader.Found
+        (plain.Subscript (tree_of e.expr.value) s Context.Load) r2) reader.NoForm))) result }
+{
+    let slice = read_slices(alloc, tokens, e.next + 1, depth.inner())?;
+    if is_op(tokens, slice.next, Exact::RSqb) {
+        let next = slice.next + 1;
+        make_subscript(alloc, e, slice, next, depth.room)
+    } else {
+        Err(Stop::NoForm)
+    }
+}

@@ -1,0 +1,395 @@
+//! The parameters of a function, and `lambda`.
+
+ghost use Rattle.std.specs.Prelude.{◌≡◌, ◌+◌, ◌≤◌, ◌<◌, MatchResult, [], cond, length, max, true};
+ghost use Rattle.std.specs.Str.{chars};
+ghost use Rattle.unicode_normalization.specs.Forms.{nfkc};
+ghost use Rattle.pytree_node.specs.TreeOf.{arg_of, boxed_of, tree_of};
+ghost use Rattle.pytree_node.specs.Trees as plain;
+ghost use Rattle.pytoken.specs.TerminalOf.{terminal};
+ghost use Rattle.pygrammar.specs.Capped.{cap};
+ghost use Rattle.pygrammar.specs.Entries as entries;
+ghost use Rattle.pygrammar.specs.Precedence as precedence;
+ghost use Rattle.pygrammar.specs.Reader as reader;
+ghost use Rattle.pyparse_expr.specs.Answers.{Answered, Failed};
+ghost use Rattle.pyparse_expr.specs.Inner.FormalStates.{entry_of, state_of};
+ghost use Rattle.pyparse_expr.specs.Inner.Formals as formals;
+ghost use Rattle.pyparse_expr.specs.Inner.Found.{OptionalAt};
+ghost use Rattle.pyparse_expr.specs.Inner.Readings.{IsOpen, inner_reads};
+ghost use Rattle.pyparse_expr.specs.Inner.Signatures.{ParameterAnswered, SignatureAt, collected_reads};
+ghost use Rattle.pyparse_expr.specs.Inner.Signatures.{gathered_reads, plain_reads};
+ghost use Rattle.pyparse_expr.specs.Views.{seen};
+
+use crate::climbing::climb;
+use crate::depth::Depth;
+use crate::found::{Optional, Read};
+use crate::levels::read_expression;
+use crate::list_makers::make_lambda;
+use crate::looks::{is_op, name_at, terminal_at};
+use crate::makers::{identifier_of, make_starred};
+use crate::parameters::{Formal, Parameter, add_parameter, arranged, no_formal};
+use crate::stop::Stop;
+use pygrammar::Level;
+use pylex::Exact;
+use pytree_node::{Arg, Expr};
+use pytoken::Terminal;
+use std::alloc::Global;
+
+/// A parameter that was read, the height of the highest expression in it, and the place behind it.
+#[derive(Drop)]
+pub(crate) struct ReadParameter {
+    pub parameter: Parameter,
+    pub height: usize,
+    pub next: usize,
+}
+
+/// Parameters that were read, the height of the highest expression in them, and the place behind.
+#[derive(Drop)]
+pub(crate) struct Signature {
+    pub formal: Formal,
+    pub height: usize,
+    pub next: usize,
+}
+
+/// Whether a parameter begins with a terminal.
+fn begins_parameter(t: Terminal) -> bool
+    ensures { result ≡ precedence.begins (entries.Parameter true) (terminal t.entry) }
+{
+    match t {
+        Terminal::Op(sign) => match sign {
+            Exact::Star => true,
+            Exact::DoubleStar => true,
+            Exact::Slash => true,
+            _ => false,
+        },
+        Terminal::Ident(_) => true,
+        _ => false,
+    }
+}
+
+/// Whether a parameter begins at the place.
+fn starts_parameter(tokens: &[Terminal], at: usize) -> bool
+    ensures is { result ≡ precedence.starts (entries.Parameter true) (seen tokens.now at) }
+    ensures within { result ≡ true → at < length tokens.now }
+{
+    match terminal_at(tokens, at) {
+        Some(t) => begins_parameter(t),
+        None => false,
+    }
+}
+
+/// A parameter's name, and its annotation if it has one.
+#[tactic(auto, using(pytree_node::proofs::Callers::ExprShapes::expr_shapes))]
+fn make_arg(alloc: Global, name: &str, annotation: Option<Box<Expr>>) -> Result<Arg, Stop>
+    ensures { MatchResult result
+        (λ a. arg_of a ≡ plain.arg (nfkc (chars name.now)) (plain.optional (boxed_of annotation)))
+        (λ s. s ≡ Stop.Memory) }
+{
+    let arg = identifier_of(alloc, name)?;
+    Ok(Arg { arg, annotation })
+}
+
+/// No parameters yet, at a place.
+fn no_parameters(alloc: Global, at: usize) -> Signature
+    ensures formal { state_of result.formal ≡ formals.start }
+    ensures height { result.height ≡ 0 }
+    ensures next { result.next ≡ at }
+{
+    Signature {
+        formal: no_formal(alloc),
+        height: 0,
+        next: at,
+    }
+}
+
+/// One parameter more.
+fn with_parameter(before: Signature, one: ReadParameter) -> Result<Signature, Stop>
+    ensures formal { MatchResult result
+        (λ r. state_of r.formal ≡ formals.step (state_of before.formal) (entry_of one.parameter))
+        (λ s. s ≡ Stop.Memory) }
+    ensures height { MatchResult result (λ r. r.height ≡ max before.height one.height)
+        (λ s. s ≡ Stop.Memory) }
+    ensures next { MatchResult result (λ r. r.next ≡ one.next) (λ s. s ≡ Stop.Memory) }
+{
+    let height = before.height.max(one.height);
+    let formal = add_parameter(before.formal, one.parameter)?;
+    Ok(Signature {
+        formal,
+        height,
+        next: one.next,
+    })
+}
+
+/// The same parameters, with another place behind them.
+fn placed(signature: Signature, next: usize) -> Signature
+    ensures formal { state_of result.formal ≡ state_of signature.formal }
+    ensures height { result.height ≡ signature.height }
+    ensures next { result.next ≡ next }
+{
+    Signature {
+        formal: signature.formal,
+        height: signature.height,
+        next,
+    }
+}
+
+/// The sign in front of an annotation, where there may be one.
+fn annotation_sign(annotated: bool) -> Option<Exact>
+    ensures { result ≡ cond annotated (Some Exact.Colon) None }
+{
+    if annotated { Some(Exact::Colon) } else { None }
+}
+
+/// An Expression behind a sign, if there is a sign and it stands here.
+#[cycle(reading)]
+pub(crate) fn suffixed(
+    alloc: Global,
+    tokens: &[Terminal],
+    sign: Option<Exact>,
+    at: usize,
+    depth: Depth,
+) -> Result<Optional, Stop>
+    requires within { at ≤ length tokens.now }
+    requires open { IsOpen depth }
+    ensures { MatchResult result
+        (λ r. OptionalAt tokens.now depth.room at
+        (reader.suffixed (inner_reads depth) sign (seen tokens.now at)) r)
+        (λ s. Failed s (reader.suffixed (inner_reads depth) sign (seen tokens.now at))) }
+{
+    match sign {
+        Some(sign) => if is_op(tokens, at, sign) {
+            let e = read_expression(alloc, tokens, at + 1, depth.inner())?;
+            Ok(one_read(e))
+        } else {
+            Ok(none_read(at))
+        },
+        None => Ok(none_read(at)),
+    }
+}
+
+/// No expression, at a place.
+fn none_read(at: usize) -> Optional
+    ensures expr { boxed_of result.expr ≡ None }
+    ensures height { result.height ≡ 0 }
+    ensures next { result.next ≡ at }
+{
+    Optional {
+        expr: None,
+        height: 0,
+        next: at,
+    }
+}
+
+/// An expression.
+fn one_read(e: Read) -> Optional
+    ensures expr { boxed_of result.expr ≡ Some (tree_of e.expr.value) }
+    ensures height { result.height ≡ e.height }
+    ensures next { result.next ≡ e.next }
+{
+    Optional {
+        expr: Some(e.expr),
+        height: e.height,
+        next: e.next,
+    }
+}
+
+/// The annotation behind `*` and a name, where there may be one.
+#[cycle(reading)]
+fn star_annotation(
+    alloc: Global,
+    tokens: &[Terminal],
+    annotated: bool,
+    at: usize,
+    depth: Depth,
+) -> Result<Optional, Stop>
+    requires within { at ≤ length tokens.now }
+    requires open { IsOpen depth }
+    ensures { MatchResult result
+        (λ r. OptionalAt tokens.now depth.room at
+        (reader.star_annotated (inner_reads depth) annotated (seen tokens.now at)) r)
+        (λ s. Failed s (reader.star_annotated (inner_reads depth) annotated (seen tokens.now at))) }
+{
+    if !annotated {
+        return Ok(none_read(at));
+    }
+    if !is_op(tokens, at, Exact::Colon) {
+        return Ok(none_read(at));
+    }
+    if is_op(tokens, at + 1, Exact::Star) {
+        let e = climb(alloc, tokens, Level::BitOr, at + 2, depth.inner())?;
+        let starred = make_starred(alloc, e, depth.room)?;
+        return Ok(one_read(starred));
+    }
+    let e = read_expression(alloc, tokens, at + 1, depth.inner())?;
+    Ok(one_read(e))
+}
+
+/// A parameter with no star, behind its name.
+#[cycle(reading)]
+fn plain_parameter(
+    alloc: Global,
+    tokens: &[Terminal],
+    annotated: bool,
+    name: &str,
+    at: usize,
+    depth: Depth,
+) -> Result<ReadParameter, Stop>
+    requires within { at ≤ length tokens.now }
+    requires open { IsOpen depth }
+    ensures { ParameterAnswered tokens.now depth.room at
+        (plain_reads depth annotated (nfkc (chars name.now)) (seen tokens.now at)) result }
+{
+    let annotation = suffixed(alloc, tokens, annotation_sign(annotated), at, depth)?;
+    let default = suffixed(alloc, tokens, Some(Exact::Equal), annotation.next, depth)?;
+    let arg = make_arg(alloc, name, annotation.expr)?;
+    Ok(ReadParameter {
+        parameter: Parameter::Plain(arg, default.expr),
+        height: annotation.height.max(default.height),
+        next: default.next,
+    })
+}
+
+/// A parameter behind `*` and its name.
+#[cycle(reading)]
+fn gathered_parameter(
+    alloc: Global,
+    tokens: &[Terminal],
+    annotated: bool,
+    name: &str,
+    at: usize,
+    depth: Depth,
+) -> Result<ReadParameter, Stop>
+    requires within { at ≤ length tokens.now }
+    requires open { IsOpen depth }
+    ensures { ParameterAnswered tokens.now depth.room at
+        (gathered_reads depth annotated (nfkc (chars name.now)) (seen tokens.now at)) result }
+{
+    let annotation = star_annotation(alloc, tokens, annotated, at, depth)?;
+    let arg = make_arg(alloc, name, annotation.expr)?;
+    Ok(ReadParameter {
+        parameter: Parameter::Gathered(arg),
+        height: annotation.height,
+        next: annotation.next,
+    })
+}
+
+/// A parameter behind `**` and its name.
+#[cycle(reading)]
+fn collected_parameter(
+    alloc: Global,
+    tokens: &[Terminal],
+    annotated: bool,
+    name: &str,
+    at: usize,
+    depth: Depth,
+) -> Result<ReadParameter, Stop>
+    requires within { at ≤ length tokens.now }
+    requires open { IsOpen depth }
+    ensures { ParameterAnswered tokens.now depth.room at
+        (collected_reads depth annotated (nfkc (chars name.now)) (seen tokens.now at)) result }
+{
+    let annotation = suffixed(alloc, tokens, annotation_sign(annotated), at, depth)?;
+    let arg = make_arg(alloc, name, annotation.expr)?;
+    Ok(ReadParameter {
+        parameter: Parameter::Collected(arg),
+        height: annotation.height,
+        next: annotation.next,
+    })
+}
+
+/// A parameter, or a sign between parameters.
+#[cycle(reading)]
+fn read_parameter(
+    alloc: Global,
+    tokens: &[Terminal],
+    annotated: bool,
+    at: usize,
+    depth: Depth,
+) -> Result<ReadParameter, Stop>
+    requires within { at < length tokens.now }
+    requires open { IsOpen depth }
+    ensures { ParameterAnswered tokens.now depth.room (at + 1)
+        (reader.read_parameter (inner_reads depth) annotated (seen tokens.now at)) result }
+{
+    if let Some(name) = name_at(tokens, at) {
+        return plain_parameter(alloc, tokens, annotated, name, at + 1, depth);
+    }
+    if is_op(tokens, at, Exact::Star) {
+        return match name_at(tokens, at + 1) {
+            Some(name) => gathered_parameter(alloc, tokens, annotated, name, at + 2, depth),
+            None => Ok(ReadParameter {
+                parameter: Parameter::Bare,
+                height: 0,
+                next: at + 1,
+            }),
+        };
+    }
+    if is_op(tokens, at, Exact::DoubleStar) {
+        return match name_at(tokens, at + 1) {
+            Some(name) => collected_parameter(alloc, tokens, annotated, name, at + 2, depth),
+            None => Err(Stop::NoForm),
+        };
+    }
+    if is_op(tokens, at, Exact::Slash) {
+        return Ok(ReadParameter {
+            parameter: Parameter::Slashed,
+            height: 0,
+            next: at + 1,
+        });
+    }
+    Err(Stop::NoForm)
+}
+
+/// Parameters with commas between them, with annotations or without.
+#[cycle(reading)]
+pub(crate) fn parameters(
+    alloc: Global,
+    tokens: &[Terminal],
+    annotated: bool,
+    at: usize,
+    depth: Depth,
+) -> Result<Signature, Stop>
+    requires within { at ≤ length tokens.now }
+    requires open { IsOpen depth }
+    ensures { MatchResult result
+        (λ r. SignatureAt tokens.now depth.room at
+        (reader.listing_of (inner_reads depth) (entries.Parameter annotated) []
+        (seen tokens.now at)) r)
+        (λ s. Failed s
+        (reader.listing_of (inner_reads depth) (entries.Parameter annotated) []
+        (seen tokens.now at))) }
+{
+    let mut before = no_parameters(alloc, at);
+    'more: while starts_parameter(tokens, before.next) {
+        let one = read_parameter(alloc, tokens, annotated, before.next, depth)?;
+        let signature = with_parameter(before, one)?;
+        if !is_op(tokens, signature.next, Exact::Comma) {
+            return Ok(signature);
+        }
+        let next = signature.next + 1;
+        before = placed(signature, next);
+    }
+    Ok(before)
+}
+
+/// Behind a `lambda`.
+#[cycle(reading)]
+#[inline(never)]
+pub(crate) fn lambda_step(
+    alloc: Global,
+    tokens: &[Terminal],
+    at: usize,
+    depth: Depth,
+) -> Result<Read, Stop>
+    requires within { at ≤ length tokens.now }
+    requires open { IsOpen depth }
+    ensures { Answered tokens.now depth.room (at + 1)
+        (cap depth.room (reader.lambda_step (inner_reads depth) (seen tokens.now at))) result }
+{
+    let signature = parameters(alloc, tokens, false, at, depth)?;
+    if !is_op(tokens, signature.next, Exact::Colon) {
+        return Err(Stop::NoForm);
+    }
+    let body = read_expression(alloc, tokens, signature.next + 1, depth.inner())?;
+    let args = arranged(signature.formal)?;
+    make_lambda(alloc, args, signature.height, body, depth.room)
+}

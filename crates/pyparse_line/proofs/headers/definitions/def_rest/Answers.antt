@@ -1,0 +1,19 @@
+use Rattle.std.proofs.Common.{map, rules, subst}
+use Rattle.pytree_node.specs.Trees.{Identifier}
+use Rattle.pytree_node.specs.TreeOf.{type_param_of}
+use Rattle.pygrammar.specs.LineReader.{function_rest}
+use Rattle.pyparse_line.specs.Answers.{HeaderAnswered}
+use Rattle.pyparse_expr.specs.Readings.{reads}
+use Rattle.pyparse_expr.specs.Views.{seen}
+use Rattle.pyparse_line.proofs.headers.DefinitionSteps.{types_failed, types_found}
+use Rattle.pyparse_line.proofs.headers.definitions.def_rest.Goals as goal
+
+pub returns-in_err-types : goal.returns-in_err-types
+returns-in_err-types c =
+    let f = types_failed c.args.tokens.now c.args.profile c.args.depth c.args.at _ c.in-Some.ensures.is (λ x tps r. function_rest (reads c.args.depth) c.args.is_async x tps r) c.in_err-types.field-0.0 c.in_err-types.ensures in
+    search (rules, f)
+
+pub returns : goal.returns
+returns c =
+    let g = subst (λ (x : Identifier). HeaderAnswered c.args.tokens.now c.in_ok-types.types.next (function_rest (reads c.args.depth) c.args.is_async x (map type_param_of c.in_ok-types.types.params.items) (seen c.args.tokens.now c.in_ok-types.types.next)) c.function_rest.result) c.in_ok-name.ensures c.function_rest.ensures in
+    types_found c.args.tokens.now c.args.profile c.args.depth c.args.at _ c.in-Some.ensures.is (λ x tps r. function_rest (reads c.args.depth) c.args.is_async x tps r) (map type_param_of c.in_ok-types.types.params.items) c.in_ok-types.types.next c.function_rest.result c.in_ok-types.ensures g

@@ -1,0 +1,74 @@
+-- The name `type`, and where a statement `type` begins.
+--
+-- Carries: spells_type, is_type, type_name_at. On: LineReader.
+use Rattle.std.proofs.Common.{◌≡◌, refl, sym, ap, ◌∙◌, arith, inl, inr, ℕ, ◌+◌, ◌<◌, List, codes, Option, Some, None, true, false, length, is_some}
+use Rattle.std.specs.Str.{bytes_eq, chars, encode_utf8_all, IsUtf8}
+use Rattle.std.proofs.lemmas.Bool.{both_ways, cases_Bool, false_from_ne_true}
+use Rattle.std.proofs.lemmas.Slice.Eq.{bytes_eq-Decides}
+use Rattle.std.proofs.lemmas.Str.{encodes-chars, encodes_same}
+use Rattle.pytree_node.specs.declared.profiles.Profile.TheVariants.{Py311, Py312}
+use Rattle.pytree_node.specs.Trees.{Identifier, Stmt}
+use Rattle.pytoken.specs.Terminals.{Terminal}
+use Rattle.pytoken.specs.declared.values.terminals.Terminal as given
+use Rattle.pygrammar.specs.Forms.{type_name}
+use Rattle.pygrammar.specs.LineReader.{is_type, on_type}
+use Rattle.pygrammar.specs.Looks.{name_in}
+use Rattle.pygrammar.specs.Reader.{Answer, on_first}
+use Rattle.pyparse_expr.specs.Views.{first_is, seen}
+use Rattle.pyparse_expr.proofs.Callers.Looks.{first_hit, first_miss, seen_next}
+use Rattle.pyparse_line.specs.Inner.Types.{HasNoTypeName, HasTypeName}
+use Rattle.pyparse_line.proofs.statements.Callers.Parts.{name_next}
+
+name_encoded : encode_utf8_all type_name ≡ codes "type"
+unfolding lib.Utf8.encode
+name_encoded = refl
+
+-- a text is that name by its bytes where it is by its characters
+same_type : (x s : List ℕ) → s ≡ encode_utf8_all x → bytes_eq s (codes "type") ≡ bytes_eq x type_name
+same_type x s e = elim (cases_Bool (bytes_eq x type_name)) [
+  | inl same ↦ (bytes_eq-Decides s (codes "type")).1 (e ∙ ap encode_utf8_all ((bytes_eq-Decides x type_name).0 same) ∙ name_encoded) ∙ sym same
+  | inr other ↦
+      false_from_ne_true (bytes_eq s (codes "type")) (λ same.
+      let is : encode_utf8_all x ≡ encode_utf8_all type_name = sym e ∙ (bytes_eq-Decides s (codes "type")).0 same ∙ sym name_encoded in
+      both_ways (bytes_eq x type_name) other ((bytes_eq-Decides x type_name).1 (encodes_same x type_name is))) ∙ sym other
+]
+
+pub spelt_type : (bs : List ℕ) → IsUtf8 bs → bytes_eq bs (codes "type") ≡ bytes_eq (chars bs) type_name
+spelt_type bs u = same_type (chars bs) bs (sym (encodes-chars bs u))
+
+-- no version without types has one
+pub no_types : (ts : List given.Terminal) (at : ℕ) → HasNoTypeName Py311 ts at
+no_types ts at = record { is = λ hit miss. refl }
+
+some_of : (o : Option ℕ) → true ≡ is_some o → (n : ℕ) × (Some n ≡ o)
+some_of (Some n) h = (n, refl)
+some_of None h = absurd (cc)
+
+none_of : (o : Option ℕ) → false ≡ is_some o → None ≡ o
+none_of None h = refl
+none_of (Some n) h = absurd (cc)
+
+module _ (ts : List given.Terminal) (at : ℕ) where
+  abbrev behind : (Identifier → List Terminal → Answer Stmt) → Answer Stmt → List Terminal → Answer Stmt
+  behind hit miss r = on_first name_in r hit miss
+
+  -- `type` stands at the place, whatever is behind it
+  typed : (hit : Identifier → List Terminal → Answer Stmt) (miss : Answer Stmt) → true ≡ is_some (first_is is_type (seen ts at)) → on_type Py312 (seen ts at) hit miss ≡ on_first name_in (seen ts (at + 1)) hit miss
+  typed hit miss b =
+      let w = some_of (first_is is_type (seen ts at)) b in
+      first_hit is_type (seen ts at) w.0 (λ _ r. behind hit miss r) miss w.1 ∙ ap (behind hit miss) (seen_next ts at)
+
+  pub type_found : (x : Identifier) → true ≡ is_some (first_is is_type (seen ts at)) → Some x ≡ first_is name_in (seen ts (at + 1)) → at + 1 < length ts → HasTypeName Py312 x ts at
+  type_found x b g l = record {
+    within = l;
+    is = λ hit miss. typed hit miss b ∙ name_next ts (at + 1) x hit miss g ∙ ap (λ n. hit x (seen ts n)) two;
+  }
+    where
+      two : at + 1 + 1 ≡ at + 2
+      two = omega arith
+
+  pub type_other : false ≡ is_some (first_is is_type (seen ts at)) → HasNoTypeName Py312 ts at
+  type_other b = record { is = λ hit miss. first_miss is_type (seen ts at) (λ _ r. behind hit miss r) miss (none_of (first_is is_type (seen ts at)) b) }
+
+  pub type_alone : true ≡ is_some (first_is is_type (seen ts at)) → None ≡ first_is name_in (seen ts (at + 1)) → HasNoTypeName Py312 ts at
+  type_alone b g = record { is = λ hit miss. typed hit miss b ∙ first_miss name_in (seen ts (at + 1)) hit miss g }

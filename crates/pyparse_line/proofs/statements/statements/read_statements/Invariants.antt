@@ -1,0 +1,16 @@
+use Rattle.std.proofs.Common.{◌≤◌, ◌-◌, length, map, suc}
+use Rattle.pytree_node.specs.TreeOf.{stmt_of}
+use Rattle.pygrammar.specs.LineReader.{statements}
+use Rattle.pyparse_expr.specs.Readings.{reads}
+use Rattle.pyparse_expr.specs.Views.{seen}
+use Rattle.pyparse_line.proofs.statements.StatementSteps.{Runs}
+use Rattle.pyparse_line.proofs.statements.statements.read_statements.Given as goal
+
+abbrev pub invariant-more : goal.invariant-more
+invariant-more l = record {
+  ahead : l.at ≤ l.statements.next;
+  is : Runs l.tokens l.profile (reads l.depth) (statements l.profile (reads l.depth) (suc (length (seen l.tokens l.at))) (seen l.tokens l.at)) (map stmt_of l.statements.statements.items) l.statements.next;
+}
+
+abbrev pub decreases-more : goal.decreases-more
+decreases-more l = length l.tokens - l.statements.next

@@ -1,0 +1,16 @@
+use Rattle.std.proofs.Common.{◌≤◌, ◌-◌, length, map, suc, []}
+use Rattle.pytree_node.specs.TreeOf.{tree_of}
+use Rattle.pygrammar.specs.LineReader.{value_loop}
+use Rattle.pyparse_expr.specs.Readings.{reads}
+use Rattle.pyparse_expr.specs.Views.{seen}
+use Rattle.pyparse_line.proofs.statements.ValueSteps.{Assigns}
+use Rattle.pyparse_line.proofs.statements.values.assignment.Given as goal
+
+abbrev pub invariant-more : goal.invariant-more
+invariant-more l = record {
+  ahead : l.at ≤ l.targets.next;
+  is : Assigns l.tokens (reads l.depth) (value_loop (reads l.depth) (suc (length (seen l.tokens l.at))) [] (seen l.tokens l.at)) (map tree_of l.targets.exprs.items) l.targets.next;
+}
+
+abbrev pub decreases-more : goal.decreases-more
+decreases-more l = length l.tokens - l.targets.next

@@ -1,0 +1,10 @@
+pub mod Answers
+pub mod Fronts
+pub mod Heights
+pub mod Kinds
+pub mod Definitions
+pub mod Items
+pub mod Words
+pub mod Imports
+pub mod Simple
+pub mod Types

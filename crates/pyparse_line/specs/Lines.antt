@@ -1,0 +1,13 @@
+-- What it means that no form of a logical line was read.
+use Rattle.std.specs.Prelude.{List}
+use Rattle.pytree_node.specs.declared.profiles.Profile.{Profile}
+use Rattle.pytoken.specs.Terminals.{Terminal}
+use Rattle.pygrammar.specs.Meets.{Formless, HighLine}
+use Rattle.pyparse_expr.specs.declared.stop.Stop.{Stop}
+use Rattle.pyparse_expr.specs.declared.stop.Stop.TheVariants as stop
+
+-- The list is no form of a line; or none of a height of at most 500; or there was no memory.
+abbrev pub Refused : Stop → Profile → List Terminal → Type 0
+Refused stop.NoForm profile ts = Formless profile ts
+Refused stop.TooDeep profile ts = HighLine profile 500 ts
+Refused stop.Memory profile ts = Unit {0}

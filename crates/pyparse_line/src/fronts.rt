@@ -1,0 +1,153 @@
+//! The form at the front of a line.
+//!
+//! Python language reference, 7 "Simple statements" and 8 "Compound statements".
+
+ghost use Rattle.std.specs.Prelude.{◌≡◌, ◌+◌, ◌≤◌, length};
+ghost use Rattle.pygrammar.specs.FormOf.{form_of, header_of, suite_of};
+ghost use Rattle.pygrammar.specs.LineReader as line_reader;
+ghost use Rattle.pygrammar.specs.Lines as lines;
+ghost use Rattle.pyparse_expr.specs.Answers.{PartAnswered};
+ghost use Rattle.pyparse_expr.specs.Readings.{reads};
+ghost use Rattle.pyparse_expr.specs.Views.{seen};
+ghost use Rattle.pyparse_line.specs.Inner.Answers.{FormAnswered};
+ghost use Rattle.pyparse_line.specs.Inner.Fronts.{colon, decorator, headed, simple, suite};
+
+use crate::found::{ReadForm, ReadSuite};
+use crate::kinds::{Kind, kind_of};
+use pyparse_expr::{Depth, Stop, is_op, read_at, terminal_at};
+use pygrammar::Form;
+use pygrammar::Level;
+use crate::headers::{ReadHeader, read_header};
+use pylex::Exact;
+use pytree_node::Profile;
+use crate::statements::read_statements;
+use pytoken::Terminal;
+use std::alloc::Global;
+
+/// A decorator, behind its `@`: 8.7 "Function definitions".
+fn read_decorator(alloc: Global, tokens: &[Terminal], depth: Depth) -> Result<ReadForm, Stop>
+    requires { 1 ≤ length tokens.now }
+    ensures { FormAnswered tokens.now 1 (decorator (reads depth) (seen tokens.now 1)) result }
+{
+    let e = read_at(alloc, tokens, Level::Named, 1, depth)?;
+    Ok(ReadForm {
+        height: e.height,
+        next: e.next,
+        form: Form::Decorator { value: e.expr },
+    })
+}
+
+/// What stands behind a header's colon: 8 "Compound statements" (`suite`).
+fn read_suite(
+    alloc: Global,
+    tokens: &[Terminal],
+    at: usize,
+    profile: Profile,
+    depth: Depth,
+) -> Result<ReadSuite, Stop>
+    requires { at ≤ length tokens.now }
+    ensures { PartAnswered tokens.now at (suite profile (reads depth) (seen tokens.now at))
+        (λ r. suite_of r.statements) (λ r. r.next) result }
+{
+    if at == tokens.len() {
+        return Ok(ReadSuite {
+            statements: None,
+            height: 0,
+            next: at,
+        });
+    }
+    let read = read_statements(alloc, tokens, at, profile, depth)?;
+    Ok(ReadSuite {
+        statements: Some(read.statements),
+        height: read.height,
+        next: read.next,
+    })
+}
+
+/// A header's colon, and what stands behind it.
+fn read_colon(
+    alloc: Global,
+    tokens: &[Terminal],
+    at: usize,
+    profile: Profile,
+    depth: Depth,
+) -> Result<ReadSuite, Stop>
+    requires { at ≤ length tokens.now }
+    ensures { PartAnswered tokens.now at (colon profile (reads depth) (seen tokens.now at))
+        (λ r. suite_of r.statements) (λ r. r.next) result }
+{
+    if !is_op(tokens, at, Exact::Colon) {
+        return Err(Stop::NoForm);
+    }
+    read_suite(alloc, tokens, at + 1, profile, depth)
+}
+
+/// A line of a header, of its parts.
+fn headed_form(header: ReadHeader, suite: ReadSuite) -> ReadForm
+    ensures form { form_of result.form
+        ≡ lines.header_form (header_of header.header) (suite_of suite.statements) }
+    ensures next { result.next ≡ suite.next }
+{
+    ReadForm {
+        height: header.height.max(suite.height),
+        next: suite.next,
+        form: Form::Headed {
+            header: header.header,
+            suite: suite.statements,
+        },
+    }
+}
+
+/// A header, its colon, and what stands behind it.
+fn read_headed(
+    alloc: Global,
+    tokens: &[Terminal],
+    profile: Profile,
+    depth: Depth,
+) -> Result<ReadForm, Stop>
+    ensures { FormAnswered tokens.now 0 (headed profile (reads depth) (seen tokens.now 0)) result }
+{
+    let header = read_header(alloc, tokens, 0, profile, depth)?;
+    let suite = read_colon(alloc, tokens, header.next, profile, depth)?;
+    Ok(headed_form(header, suite))
+}
+
+/// Simple statements, with `;` between them.
+fn read_simple(
+    alloc: Global,
+    tokens: &[Terminal],
+    profile: Profile,
+    depth: Depth,
+) -> Result<ReadForm, Stop>
+    ensures { FormAnswered tokens.now 1 (simple profile (reads depth) (seen tokens.now 0)) result }
+{
+    let read = read_statements(alloc, tokens, 0, profile, depth)?;
+    Ok(ReadForm {
+        height: read.height,
+        next: read.next,
+        form: Form::Simple {
+            statements: read.statements,
+        },
+    })
+}
+
+/// The form at the front of a line, by its first terminal.
+pub(crate) fn read_front(
+    alloc: Global,
+    tokens: &[Terminal],
+    profile: Profile,
+    depth: Depth,
+) -> Result<ReadForm, Stop>
+    ensures { FormAnswered tokens.now 0
+        (line_reader.line_front profile (reads depth) (seen tokens.now 0)) result }
+{
+    let first = match terminal_at(tokens, 0) {
+        Some(first) => first,
+        None => return Err(Stop::NoForm),
+    };
+    match kind_of(first) {
+        Kind::Decorates => read_decorator(alloc, tokens, depth),
+        Kind::Heads => read_headed(alloc, tokens, profile, depth),
+        Kind::States => read_simple(alloc, tokens, profile, depth),
+    }
+}

@@ -1,0 +1,238 @@
+//! The headers of `def`, `async def` and `class`.
+//!
+//! Python language reference, 8.7 "Function definitions", 8.8 "Class definitions" and 8.9
+//! "Coroutines".
+
+ghost use Rattle.std.specs.Prelude.{◌≡◌, ◌+◌, ◌<◌, ◌≤◌, MatchResult, [], length, map};
+ghost use Rattle.pytree_node.specs.TreeOf.{arguments_of, boxed_of, keyword_of, tree_of, type_param_of};
+ghost use Rattle.pytree_node.specs.Trees as plain;
+ghost use Rattle.pygrammar.specs.LineReader as line_reader;
+ghost use Rattle.pygrammar.specs.Lines as lines;
+ghost use Rattle.pygrammar.specs.FormOf.{header_of};
+ghost use Rattle.pyparse_line.specs.Answers.{HeaderAnswered};
+ghost use Rattle.pyparse_expr.specs.Readings.{reads};
+ghost use Rattle.pyparse_expr.specs.Views.{seen};
+ghost use Rattle.pyparse_line.specs.Inner.Definitions.{class_from, function_from};
+
+use crate::headers::found::ReadHeader;
+use pyparse_expr::{
+    Depth, Optional, ReadArguments, ReadParameters, Stop, arguments_at, identifier_of, is_op,
+    name_at, parameters_at,
+};
+use pygrammar::{DefHead, Header};
+use pygrammar::Level;
+use pylex::Exact;
+use pytree_node::{Identifier, Profile};
+use crate::statements::{ReadTypeParams, after_sign, read_type_params};
+use pytoken::Terminal;
+use std::alloc::Global;
+
+/// The header of a `def`, of its parts.
+fn function_header(
+    alloc: Global,
+    is_async: bool,
+    name: Identifier,
+    types: ReadTypeParams,
+    parameters: ReadParameters,
+    returns: Optional,
+) -> Result<ReadHeader, Stop>
+    ensures header { MatchResult result
+        (λ r. header_of r.header
+        ≡ lines.def_header (lines.function_head is_async name (map type_param_of types.params.items)
+        (arguments_of parameters.arguments) (boxed_of returns.expr)))
+        (λ s. s ≡ Stop.Memory) }
+    ensures next { MatchResult result (λ r. r.next ≡ returns.next) (λ s. s ≡ Stop.Memory) }
+{
+    let height = types.height.max(parameters.height.max(returns.height));
+    let args = Box::new(alloc, parameters.arguments)?;
+    Ok(ReadHeader {
+        height,
+        next: returns.next,
+        header: Header::Def {
+            head: DefHead::Function {
+                is_async,
+                name,
+                type_params: types.params,
+                args,
+                returns: returns.expr,
+            },
+        },
+    })
+}
+
+/// The header of a `def`, from its parameters on.
+fn function_at(
+    alloc: Global,
+    tokens: &[Terminal],
+    is_async: bool,
+    name: Identifier,
+    types: ReadTypeParams,
+    at: usize,
+    depth: Depth,
+) -> Result<ReadHeader, Stop>
+    requires { at ≤ length tokens.now }
+    ensures { HeaderAnswered tokens.now at
+        (function_from depth is_async name (map type_param_of types.params.items)
+        (seen tokens.now at)) result }
+{
+    let parameters = parameters_at(alloc, tokens, at, depth)?;
+    if !is_op(tokens, parameters.next, Exact::RPar) {
+        return Err(Stop::NoForm);
+    }
+    let at = parameters.next + 1;
+    let returns = after_sign(alloc, tokens, Exact::RArrow, Level::Expression, at, depth)?;
+    function_header(alloc, is_async, name, types, parameters, returns)
+}
+
+/// Behind a `def`, its name and the parameters of types.
+fn function_rest(
+    alloc: Global,
+    tokens: &[Terminal],
+    is_async: bool,
+    name: Identifier,
+    types: ReadTypeParams,
+    depth: Depth,
+) -> Result<ReadHeader, Stop>
+    requires { types.next ≤ length tokens.now }
+    ensures { HeaderAnswered tokens.now types.next
+        (line_reader.function_rest (reads depth) is_async name
+        (map type_param_of types.params.items) (seen tokens.now types.next)) result }
+{
+    if !is_op(tokens, types.next, Exact::LPar) {
+        return Err(Stop::NoForm);
+    }
+    let at = types.next + 1;
+    function_at(alloc, tokens, is_async, name, types, at, depth)
+}
+
+/// Behind a `def`.
+pub(crate) fn def_rest(
+    alloc: Global,
+    tokens: &[Terminal],
+    is_async: bool,
+    at: usize,
+    profile: Profile,
+    depth: Depth,
+) -> Result<ReadHeader, Stop>
+    requires { at ≤ length tokens.now }
+    ensures { HeaderAnswered tokens.now at
+        (line_reader.def_rest profile (reads depth) is_async (seen tokens.now at)) result }
+{
+    let name = match name_at(tokens, at) {
+        Some(name) => name,
+        None => return Err(Stop::NoForm),
+    };
+    let types = read_type_params(alloc, tokens, at + 1, profile, depth)?;
+    let name = identifier_of(alloc, name)?;
+    function_rest(alloc, tokens, is_async, name, types, depth)
+}
+
+/// The header of a `class` with no brackets.
+fn bare_class(alloc: Global, name: Identifier, types: ReadTypeParams) -> ReadHeader
+    ensures header { header_of result.header
+        ≡ lines.def_header
+        (lines.class_head name (map type_param_of types.params.items) [] plain.no_keyword) }
+    ensures next { result.next ≡ types.next }
+{
+    ReadHeader {
+        height: types.height,
+        next: types.next,
+        header: Header::Def {
+            head: DefHead::Class {
+                name,
+                type_params: types.params,
+                bases: Vec::new(alloc),
+                keywords: Vec::new(alloc),
+            },
+        },
+    }
+}
+
+/// The header of a `class` with arguments in brackets.
+fn class_of(
+    name: Identifier,
+    types: ReadTypeParams,
+    arguments: ReadArguments,
+    next: usize,
+) -> ReadHeader
+    ensures header { header_of result.header
+        ≡ lines.def_header (lines.class_head name (map type_param_of types.params.items)
+        (map tree_of arguments.args.items)
+        (plain.keywords (map keyword_of arguments.keywords.items))) }
+    ensures next { result.next ≡ next }
+{
+    ReadHeader {
+        height: types.height.max(arguments.height),
+        next,
+        header: Header::Def {
+            head: DefHead::Class {
+                name,
+                type_params: types.params,
+                bases: arguments.args,
+                keywords: arguments.keywords,
+            },
+        },
+    }
+}
+
+/// The header of a `class`, from its arguments on.
+fn class_at(
+    alloc: Global,
+    tokens: &[Terminal],
+    name: Identifier,
+    types: ReadTypeParams,
+    at: usize,
+    depth: Depth,
+) -> Result<ReadHeader, Stop>
+    requires { at ≤ length tokens.now }
+    ensures { HeaderAnswered tokens.now at
+        (class_from depth name (map type_param_of types.params.items) (seen tokens.now at)) result }
+{
+    let arguments = arguments_at(alloc, tokens, at, depth)?;
+    if !is_op(tokens, arguments.next, Exact::RPar) {
+        return Err(Stop::NoForm);
+    }
+    let next = arguments.next + 1;
+    Ok(class_of(name, types, arguments, next))
+}
+
+/// Behind a `class`, its name and the parameters of types.
+fn bases_rest(
+    alloc: Global,
+    tokens: &[Terminal],
+    name: Identifier,
+    types: ReadTypeParams,
+    depth: Depth,
+) -> Result<ReadHeader, Stop>
+    requires { types.next ≤ length tokens.now }
+    ensures { HeaderAnswered tokens.now types.next
+        (line_reader.bases_rest (reads depth) name (map type_param_of types.params.items)
+        (seen tokens.now types.next)) result }
+{
+    if !is_op(tokens, types.next, Exact::LPar) {
+        return Ok(bare_class(alloc, name, types));
+    }
+    let at = types.next + 1;
+    class_at(alloc, tokens, name, types, at, depth)
+}
+
+/// Behind a `class`.
+pub(crate) fn class_rest(
+    alloc: Global,
+    tokens: &[Terminal],
+    at: usize,
+    profile: Profile,
+    depth: Depth,
+) -> Result<ReadHeader, Stop>
+    requires { at ≤ length tokens.now }
+    ensures { HeaderAnswered tokens.now at
+        (line_reader.class_rest profile (reads depth) (seen tokens.now at)) result }
+{
+    let name = match name_at(tokens, at) {
+        Some(name) => name,
+        None => return Err(Stop::NoForm),
+    };
+    let types = read_type_params(alloc, tokens, at + 1, profile, depth)?;
+    let name = identifier_of(alloc, name)?;
+    bases_rest(alloc, tokens, name, types, depth)
+}

@@ -1,0 +1,83 @@
+//! A header.
+
+ghost use Rattle.std.specs.Prelude.{◌≡◌, ◌+◌, ◌≤◌, length};
+ghost use Rattle.pytoken.specs.Terminals as plain;
+ghost use Rattle.pygrammar.specs.LineReader as line_reader;
+ghost use Rattle.pyparse_expr.specs.Views.{Stands, seen};
+ghost use Rattle.pyparse_line.specs.Answers.{HeaderAnswered};
+ghost use Rattle.pyparse_expr.specs.Readings.{reads};
+
+use crate::headers::clauses::{else_at, except_rest, finally_at, try_at};
+use crate::headers::definitions::{class_rest, def_rest};
+use crate::headers::found::ReadHeader;
+use crate::headers::loops::{for_rest, with_rest};
+use crate::headers::tests::{elif_rest, if_rest, while_rest};
+use crate::headers::words::word_at;
+use pyparse_expr::{Depth, Stop};
+use pytree_node::Profile;
+use pytoken::Keyword;
+use pytoken::Terminal;
+use std::alloc::Global;
+
+/// A header that begins with `async`.
+fn async_header(
+    alloc: Global,
+    tokens: &[Terminal],
+    at: usize,
+    profile: Profile,
+    depth: Depth,
+) -> Result<ReadHeader, Stop>
+    requires word { Stands (plain.Word Keyword.Async) tokens.now at }
+    ensures { HeaderAnswered tokens.now at
+        (line_reader.read_header profile (reads depth) (seen tokens.now at)) result }
+{
+    let word = match word_at(tokens, at + 1) {
+        Some(word) => word,
+        None => return Err(Stop::NoForm),
+    };
+    match word {
+        Keyword::For => for_rest(alloc, tokens, true, at + 2, depth),
+        Keyword::With => with_rest(alloc, tokens, true, at + 2, depth),
+        Keyword::Def => def_rest(alloc, tokens, true, at + 2, profile, depth),
+        _ => Err(Stop::NoForm),
+    }
+}
+
+/// The header at a place, up to its colon, in a version of Python.
+///
+/// # Errors
+///
+/// [`Stop::NoForm`]: none stands there. [`Stop::TooDeep`]: an expression in it is too high for
+/// `depth`. [`Stop::Memory`].
+pub fn read_header(
+    alloc: Global,
+    tokens: &[Terminal],
+    at: usize,
+    profile: Profile,
+    depth: Depth,
+) -> Result<ReadHeader, Stop>
+    requires { at ≤ length tokens.now }
+    ensures { HeaderAnswered tokens.now at
+        (line_reader.read_header profile (reads depth) (seen tokens.now at)) result }
+{
+    let word = match word_at(tokens, at) {
+        Some(word) => word,
+        None => return Err(Stop::NoForm),
+    };
+    let next = at + 1;
+    match word {
+        Keyword::If => if_rest(alloc, tokens, next, depth),
+        Keyword::Elif => elif_rest(alloc, tokens, next, depth),
+        Keyword::Else => Ok(else_at(next)),
+        Keyword::While => while_rest(alloc, tokens, next, depth),
+        Keyword::For => for_rest(alloc, tokens, false, next, depth),
+        Keyword::With => with_rest(alloc, tokens, false, next, depth),
+        Keyword::Try => Ok(try_at(next)),
+        Keyword::Finally => Ok(finally_at(next)),
+        Keyword::Except => except_rest(alloc, tokens, next, depth),
+        Keyword::Def => def_rest(alloc, tokens, false, next, profile, depth),
+        Keyword::Class => class_rest(alloc, tokens, next, profile, depth),
+        Keyword::Async => async_header(alloc, tokens, at, profile, depth),
+        _ => Err(Stop::NoForm),
+    }
+}

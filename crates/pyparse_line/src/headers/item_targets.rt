@@ -1,0 +1,36 @@
+//! The targets of a `with`.
+
+ghost use Rattle.std.specs.Prelude.{◌≡◌, ◌+◌, ◌≤◌, length};
+ghost use Rattle.pytree_node.specs.TreeOf.{tree_of};
+ghost use Rattle.pygrammar.specs.LineReader as line_reader;
+ghost use Rattle.pyparse_expr.specs.Answers.{PartAnswered};
+ghost use Rattle.pyparse_expr.specs.Readings.{reads};
+ghost use Rattle.pyparse_expr.specs.Views.{seen};
+
+use pyparse_expr::{Depth, Read, Stop, is_op, read_at, starred, stored};
+use pygrammar::Level;
+use pylex::Exact;
+use pytoken::Terminal;
+use std::alloc::Global;
+
+/// What stands behind the `as` of an item.
+pub(crate) fn item_target(
+    alloc: Global,
+    tokens: &[Terminal],
+    at: usize,
+    depth: Depth,
+) -> Result<Read, Stop>
+    requires { at ≤ length tokens.now }
+    ensures { PartAnswered tokens.now (at + 1)
+        (line_reader.item_target (reads depth) (seen tokens.now at)) (λ r. tree_of r.expr.value)
+        (λ r. r.next) result }
+{
+    if is_op(tokens, at, Exact::Star) {
+        let e = read_at(alloc, tokens, Level::Expression, at + 1, depth)?;
+        let e = starred(alloc, e)?;
+        stored(e)
+    } else {
+        let e = read_at(alloc, tokens, Level::Expression, at, depth)?;
+        stored(e)
+    }
+}

@@ -1,0 +1,73 @@
+//! The headers of `for` and `with`, and of `async for` and `async with`.
+//!
+//! Python language reference, 8.3 "The `for` statement", 8.5 "The `with` statement" and 8.9
+//! "Coroutines".
+
+ghost use Rattle.std.specs.Prelude.{◌≡◌, ◌+◌, ◌≤◌, length};
+ghost use Rattle.pygrammar.specs.LineReader as line_reader;
+ghost use Rattle.pyparse_expr.specs.Views.{seen};
+ghost use Rattle.pyparse_line.specs.Answers.{HeaderAnswered};
+ghost use Rattle.pyparse_expr.specs.Readings.{reads};
+
+use crate::headers::found::ReadHeader;
+use crate::headers::items::read_items;
+use pyparse_expr::{Depth, Stop, is_word, read_at, stored, target_at};
+use pygrammar::{Header, LoopHead};
+use pygrammar::Level;
+use pytoken::Keyword;
+use pytoken::Terminal;
+use std::alloc::Global;
+
+/// Behind a `for`.
+pub(crate) fn for_rest(
+    alloc: Global,
+    tokens: &[Terminal],
+    is_async: bool,
+    at: usize,
+    depth: Depth,
+) -> Result<ReadHeader, Stop>
+    requires { at ≤ length tokens.now }
+    ensures { HeaderAnswered tokens.now at
+        (line_reader.for_rest (reads depth) is_async (seen tokens.now at)) result }
+{
+    let target = target_at(alloc, tokens, at, depth)?;
+    if !is_word(tokens, target.next, Keyword::In) {
+        return Err(Stop::NoForm);
+    }
+    let iter = read_at(alloc, tokens, Level::Stars, target.next + 1, depth)?;
+    let target = stored(target)?;
+    Ok(ReadHeader {
+        height: target.height.max(iter.height),
+        next: iter.next,
+        header: Header::Loop {
+            head: LoopHead::For {
+                is_async,
+                target: target.expr,
+                iter: iter.expr,
+            },
+        },
+    })
+}
+
+/// Behind a `with`.
+pub(crate) fn with_rest(
+    alloc: Global,
+    tokens: &[Terminal],
+    is_async: bool,
+    at: usize,
+    depth: Depth,
+) -> Result<ReadHeader, Stop>
+    requires { at ≤ length tokens.now }
+    ensures { HeaderAnswered tokens.now at
+        (line_reader.with_rest (reads depth) is_async (seen tokens.now at)) result }
+{
+    let items = read_items(alloc, tokens, at, depth)?;
+    Ok(ReadHeader {
+        height: items.height,
+        next: items.next,
+        header: Header::With {
+            is_async,
+            items: items.items,
+        },
+    })
+}

@@ -1,0 +1,79 @@
+//! The headers of a test: `if`, `elif`, `while`.
+//!
+//! Python language reference, 8.1 "The `if` statement" and 8.2 "The `while` statement".
+
+ghost use Rattle.std.specs.Prelude.{◌≡◌, ◌+◌, ◌≤◌, length};
+ghost use Rattle.pygrammar.specs.Lines as lines;
+ghost use Rattle.pygrammar.specs.Reader as reader;
+ghost use Rattle.pyparse_expr.specs.Views.{seen};
+ghost use Rattle.pyparse_line.specs.Answers.{HeaderAnswered};
+ghost use Rattle.pyparse_expr.specs.Readings.{reads};
+
+use crate::headers::found::ReadHeader;
+use pyparse_expr::{Depth, Stop, read_at};
+use pygrammar::{Header, LoopHead};
+use pygrammar::Level;
+use pytoken::Terminal;
+use std::alloc::Global;
+
+/// Behind an `if`.
+pub(crate) fn if_rest(
+    alloc: Global,
+    tokens: &[Terminal],
+    at: usize,
+    depth: Depth,
+) -> Result<ReadHeader, Stop>
+    requires { at ≤ length tokens.now }
+    ensures { HeaderAnswered tokens.now at
+        (reader.and_then (reads depth Level.Named (seen tokens.now at))
+        (λ e r. reader.Found (lines.if_header e) r)) result }
+{
+    let test = read_at(alloc, tokens, Level::Named, at, depth)?;
+    Ok(ReadHeader {
+        height: test.height,
+        next: test.next,
+        header: Header::If { test: test.expr },
+    })
+}
+
+/// Behind an `elif`.
+pub(crate) fn elif_rest(
+    alloc: Global,
+    tokens: &[Terminal],
+    at: usize,
+    depth: Depth,
+) -> Result<ReadHeader, Stop>
+    requires { at ≤ length tokens.now }
+    ensures { HeaderAnswered tokens.now at
+        (reader.and_then (reads depth Level.Named (seen tokens.now at))
+        (λ e r. reader.Found (lines.elif_header e) r)) result }
+{
+    let test = read_at(alloc, tokens, Level::Named, at, depth)?;
+    Ok(ReadHeader {
+        height: test.height,
+        next: test.next,
+        header: Header::Elif { test: test.expr },
+    })
+}
+
+/// Behind a `while`.
+pub(crate) fn while_rest(
+    alloc: Global,
+    tokens: &[Terminal],
+    at: usize,
+    depth: Depth,
+) -> Result<ReadHeader, Stop>
+    requires { at ≤ length tokens.now }
+    ensures { HeaderAnswered tokens.now at
+        (reader.and_then (reads depth Level.Named (seen tokens.now at))
+        (λ e r. reader.Found (lines.loop_header (lines.while_head e)) r)) result }
+{
+    let test = read_at(alloc, tokens, Level::Named, at, depth)?;
+    Ok(ReadHeader {
+        height: test.height,
+        next: test.next,
+        header: Header::Loop {
+            head: LoopHead::While { test: test.expr },
+        },
+    })
+}

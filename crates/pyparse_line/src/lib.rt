@@ -1,0 +1,14 @@
+//! The reader of logical lines: which form the terminals of one are.
+//!
+//! Python language reference, 2.1.1 "Logical lines", 7 "Simple statements" and 8 "Compound
+//! statements".
+#![tactic(auto)]
+
+mod found;
+mod fronts;
+mod headers;
+mod kinds;
+mod lines;
+mod statements;
+
+pub use lines::read_line;

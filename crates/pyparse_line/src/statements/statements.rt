@@ -1,0 +1,181 @@
+//! Simple statements with semicolons between them.
+//!
+//! Python language reference, 7 "Simple statements".
+
+ghost use Rattle.std.specs.Prelude.{◌≡◌, ◌+◌, ◌++◌, ◌<◌, ◌≤◌, ◌∷◌, [], MatchResult, length, map};
+ghost use Rattle.std.specs.Prelude.{suc};
+ghost use Rattle.pytree_node.specs.TreeOf.{stmt_of};
+ghost use Rattle.pytoken.specs.Terminals as terminals;
+ghost use Rattle.pygrammar.specs.LineReader as line;
+ghost use Rattle.pyparse_expr.specs.Answers.{PartAnswered};
+ghost use Rattle.pyparse_expr.specs.Readings.{reads};
+ghost use Rattle.pyparse_expr.specs.Views.{Stands, seen};
+ghost use Rattle.pyparse_line.specs.Inner.Simple.{begun};
+
+use crate::statements::found::{ReadStatement, ReadStatements};
+use crate::statements::imports::{import, import_from};
+use crate::statements::simple::{
+    assert, break_at, continue_at, delete, global, nonlocal, pass_at, raise, return_value,
+};
+use crate::statements::type_names::type_name_at;
+use crate::statements::types::type_alias;
+use crate::statements::values::value_statement;
+use pyparse_expr::{Depth, Stop, append, is_op, terminal_at};
+use pylex::Exact;
+use pytree_node::Profile;
+use pytoken::Keyword;
+use pytoken::Terminal;
+use std::alloc::Global;
+
+/// A statement with no keyword in front: a `type`, or one that begins with a value.
+#[tactic(auto, using(crate::proofs::statements::StatementSteps::named_type, crate::proofs::statements::StatementSteps::no_type))]
+fn plain_statement(
+    alloc: Global,
+    tokens: &[Terminal],
+    at: usize,
+    profile: Profile,
+    depth: Depth,
+) -> Result<ReadStatement, Stop>
+    requires { at ≤ length tokens.now }
+    ensures { PartAnswered tokens.now (at + 1) (begun profile (reads depth) (seen tokens.now at))
+        (λ r. stmt_of r.statement) (λ r. r.next) result }
+{
+    match type_name_at(tokens, at, profile) {
+        Some(name) => type_alias(alloc, tokens, name, at + 2, profile, depth),
+        None => value_statement(alloc, tokens, at, depth),
+    }
+}
+
+/// A statement with this keyword in front.
+fn word_statement(
+    alloc: Global,
+    tokens: &[Terminal],
+    word: Keyword,
+    at: usize,
+    profile: Profile,
+    depth: Depth,
+) -> Result<ReadStatement, Stop>
+    requires { Stands (terminals.Word word) tokens.now at }
+    ensures { PartAnswered tokens.now (at + 1)
+        (line.statement profile (reads depth) (seen tokens.now at)) (λ r. stmt_of r.statement)
+        (λ r. r.next) result }
+{
+    match word {
+        Keyword::Return => return_value(alloc, tokens, at + 1, depth),
+        Keyword::Raise => raise(alloc, tokens, at + 1, depth),
+        Keyword::Assert => assert(alloc, tokens, at + 1, depth),
+        Keyword::Del => delete(alloc, tokens, at + 1, depth),
+        Keyword::Global => global(alloc, tokens, at + 1),
+        Keyword::Nonlocal => nonlocal(alloc, tokens, at + 1),
+        Keyword::Pass => Ok(pass_at(at + 1)),
+        Keyword::Break => Ok(break_at(at + 1)),
+        Keyword::Continue => Ok(continue_at(at + 1)),
+        Keyword::Import => import(alloc, tokens, at + 1),
+        Keyword::From => import_from(alloc, tokens, at + 1),
+        _ => plain_statement(alloc, tokens, at, profile, depth),
+    }
+}
+
+/// A statement.
+fn read_statement(
+    alloc: Global,
+    tokens: &[Terminal],
+    at: usize,
+    profile: Profile,
+    depth: Depth,
+) -> Result<ReadStatement, Stop>
+    requires { at ≤ length tokens.now }
+    ensures { PartAnswered tokens.now (at + 1)
+        (line.statement profile (reads depth) (seen tokens.now at)) (λ r. stmt_of r.statement)
+        (λ r. r.next) result }
+{
+    match terminal_at(tokens, at) {
+        Some(t) => match t {
+            Terminal::Word(word) => word_statement(alloc, tokens, word, at, profile, depth),
+            _ => plain_statement(alloc, tokens, at, profile, depth),
+        },
+        None => Err(Stop::NoForm),
+    }
+}
+
+/// No statements, at a place.
+fn no_statements(alloc: Global, next: usize) -> ReadStatements
+    ensures statements { map stmt_of result.statements.items ≡ [] }
+    ensures next { result.next ≡ next }
+{
+    ReadStatements {
+        statements: Vec::new(alloc),
+        height: 0,
+        next,
+    }
+}
+
+/// Statements with one more.
+#[tactic(auto, using(crate::proofs::statements::StatementSteps::statement_pushed, crate::proofs::statements::StatementSteps::statement_height))]
+fn with_statement(before: ReadStatements, one: ReadStatement) -> Result<ReadStatements, Stop>
+    ensures statements { MatchResult result
+        (λ r. map stmt_of r.statements.items
+        ≡ map stmt_of before.statements.items ++ (stmt_of one.statement ∷ []))
+        (λ s. s ≡ Stop.Memory) }
+    ensures next { MatchResult result (λ r. r.next ≡ one.next) (λ s. s ≡ Stop.Memory) }
+{
+    let ReadStatements {
+        statements,
+        height,
+        next: _,
+    } = before;
+    let mut statements = statements;
+    append(&mut statements, one.statement)?;
+    Ok(ReadStatements {
+        statements,
+        height: height.max(one.height),
+        next: one.next,
+    })
+}
+
+/// The same statements, with another place behind them.
+fn placed(statements: ReadStatements, next: usize) -> ReadStatements
+    ensures statements { map stmt_of result.statements.items
+        ≡ map stmt_of statements.statements.items }
+    ensures next { result.next ≡ next }
+{
+    ReadStatements {
+        statements: statements.statements,
+        height: statements.height,
+        next,
+    }
+}
+
+/// Simple statements with semicolons between them. One may stand behind the last statement where
+/// nothing follows it.
+///
+/// # Errors
+///
+/// [`Stop::NoForm`]: no statement stands there. [`Stop::TooDeep`]: an expression is too high.
+/// [`Stop::Memory`].
+pub fn read_statements(
+    alloc: Global,
+    tokens: &[Terminal],
+    at: usize,
+    profile: Profile,
+    depth: Depth,
+) -> Result<ReadStatements, Stop>
+    requires { at ≤ length tokens.now }
+    ensures { PartAnswered tokens.now (at + 1)
+        (line.statements profile (reads depth) (suc (length (seen tokens.now at)))
+        (seen tokens.now at)) (λ r. map stmt_of r.statements.items) (λ r. r.next) result }
+{
+    let mut statements = no_statements(alloc, at);
+    'more: loop {
+        let one = read_statement(alloc, tokens, statements.next, profile, depth)?;
+        let grown = with_statement(statements, one)?;
+        if !is_op(tokens, grown.next, Exact::Semi) {
+            return Ok(grown);
+        }
+        let next = grown.next + 1;
+        statements = placed(grown, next);
+        if next == tokens.len() {
+            return Ok(statements);
+        }
+    }
+}

@@ -1,3 +1,0 @@
--- On: the laws of the slots, and a module's lines as forms. Declares nothing.
-pub use Rattle.pyslots.proofs.Exactness.Exactly.{fits_exactly, targets_fit_exactly, parameters_fit_exactly, arguments_fit_exactly}
-pub use Rattle.pyslots.proofs.Exactness.Modules.{expressions_fit_exactly, modules_fit_exactly, slots_are_lawful, module_exactly, module_given}

@@ -1,4 +1,0 @@
--- On: names of a tree, and names with dots between. Declares nothing.
-pub use Rattle.pyslots.proofs.Fields.Dots.{is_other, one_part, part_before_dot}
-pub use Rattle.pyslots.proofs.Exactness.Modules.{undotted, type_is_name}
-pub use Rattle.pyslots.proofs.Exactness.Tokens.{proper, proper_name}

@@ -1,5 +1,0 @@
-pub mod Callers
-mod Fields
-mod Fitting
-mod Giving
-mod Exactness

@@ -1,4 +1,0 @@
-pub mod Inner
-pub mod Spacing
-pub mod Tokens
-pub mod Laws

@@ -1,5 +1,0 @@
-use Rattle.pystatement.proofs.NameSteps.{name_found}
-use Rattle.pystatement.proofs.names.read_name.Goals as goal
-
-pub returns-in_ok-name-in-Some : goal.returns-in_ok-name-in-Some
-returns-in_ok-name-in-Some c = name_found c.args.tokens.now c.args.at _ _ c.in-Some.ensures.is c.in_ok-name-in-Some.ensures c.in-Some.ensures.within

@@ -1,3 +1,0 @@
-pub mod Imports
-pub mod Simple
-pub mod Types

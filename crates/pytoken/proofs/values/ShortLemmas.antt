@@ -1,0 +1,98 @@
+-- Carries: short_value, number_value. On: numbers of decimal digits alone.
+use Rattle.std.proofs.Common.{◌≡◌, ℕ, ◌+◌, ◌-◌, ◌*◌, ◌^◌, ◌<◌, ◌≤◌, Bool, true, false, List, [], ◌∷◌, length, drop, get_or, refl, sym, ap, ◌∙◌, arith, Some}
+use Rattle.std.specs.Prelude.{◌==◌, ◌&&◌, ◌||◌, nat_le, filter, Ok}
+use Rattle.std.specs.Char.{digit_value}
+use Rattle.std.specs.List.{list_all, list_any}
+use Rattle.std.specs.Str.{chars, IsAscii}
+use Rattle.std.specs.Str.Parse.{digits_value_after}
+use Rattle.std.proofs.lemmas.Bool.{and_parts, leb-true, lt-leb, ne_eqb}
+use Rattle.std.proofs.lemmas.Bool.Decides.{nat_tests}
+use Rattle.std.proofs.lemmas.List.{at_drop_more}
+use Rattle.std.proofs.lemmas.Str.{chars-IsAscii, digit_value_digit}
+use Rattle.std.proofs.lemmas.Str.Ascii.{IsAscii-nil, IsAscii-cons}
+use Rattle.pylex_lexeme.specs.Numbers.{is_j, is_point, is_e, is_x, is_o, is_b}
+use Rattle.pytoken.specs.NumberValues.{radix_of, is_no_underscore, is_real, number_answer}
+use Rattle.pytoken.specs.Inner.Readings.{is_decimal_digit, IsShort, digits_behind, whole_below}
+use Rattle.pytoken.proofs.values.NumberLemmas.{answer_some}
+
+record Digit (c : ℕ) : Type 0 where
+  least : 48 ≤ c
+  most : c ≤ 57
+
+digit : (c : ℕ) → is_decimal_digit c ≡ true → Digit c
+digit c is =
+    let parts = and_parts (nat_le 48 c) (nat_le c 57) is in
+    record { least = omega (arith, leb-true 48 c parts.0); most = omega (arith, leb-true c 57 parts.1) }
+
+pub digit_worth : (c : ℕ) → is_decimal_digit c ≡ true → digit_value c ≡ c - 48
+digit_worth c is = let d = digit c is in omega (arith, digit_value_digit c (d.least, d.most))
+
+-- one more digit
+pub short_step : (bs : List ℕ) (i value b : ℕ) → i < length bs → b ≡ get_or bs i 0 → is_decimal_digit b ≡ true →
+    digits_value_after 10 (value * 10 + (b - 48)) (drop (i + 1) bs) ≡ digits_value_after 10 value (drop i bs)
+short_step bs i value b within here is =
+    let worth = digit_worth b is in
+    ap (λ (n : ℕ). digits_value_after 10 (value * 10 + n) (drop (i + 1) bs)) (sym worth)
+    ∙ ap (λ (c : ℕ). digits_value_after 10 value (c ∷ drop (i + 1) bs)) here
+    ∙ sym (at_drop_more (digits_value_after 10 value) bs i 0 within)
+
+none_of : (p : ℕ → Bool) → ((c : ℕ) → Digit c → p c ≡ false) → (t : List ℕ) → list_all is_decimal_digit t ≡ true → list_any p t ≡ false
+none_of p fails [] all = refl
+none_of p fails (c ∷ t) all =
+    let parts = and_parts (is_decimal_digit c) (list_all is_decimal_digit t) all in
+    let here = fails c (digit c parts.0) in
+    rw here (none_of p fails t parts.1)
+
+ascii : (t : List ℕ) → list_all is_decimal_digit t ≡ true → IsAscii t
+ascii [] all = IsAscii-nil
+ascii (c ∷ t) all =
+    let parts = and_parts (is_decimal_digit c) (list_all is_decimal_digit t) all in
+    let d = digit c parts.0 in
+    IsAscii-cons c t (omega (arith, d.most)) (ascii t parts.1)
+
+no_lines : (t : List ℕ) → list_all is_decimal_digit t ≡ true → filter is_no_underscore t ≡ t
+no_lines [] all = refl
+no_lines (c ∷ t) all =
+    let parts = and_parts (is_decimal_digit c) (list_all is_decimal_digit t) all in
+    let d = digit c parts.0 in
+    let other = ne_eqb c 95 (λ e. omega (arith, d.most, e)) in
+    rw other (ap (λ (x : List ℕ). c ∷ x) (no_lines t parts.1))
+
+decimal : (t : List ℕ) → list_all is_decimal_digit t ≡ true → radix_of t ≡ 10
+decimal [] all = refl
+decimal (a ∷ []) all = refl
+decimal (a ∷ b ∷ t) all =
+    let rest = (and_parts (is_decimal_digit a) (list_all is_decimal_digit (b ∷ t)) all).1 in
+    let d = digit b (and_parts (is_decimal_digit b) (list_all is_decimal_digit t) rest).0 in
+    let least = d.least in
+    let most = d.most in
+    let x : is_x b ≡ false = grind (arith, nat_tests) in
+    let o : is_o b ≡ false = grind (arith, nat_tests) in
+    let b2 : is_b b ≡ false = grind (arith, nat_tests) in
+    rw (x, o, b2) refl
+
+and_false : (b : Bool) → (b && false) ≡ false
+and_false true = refl
+and_false false = refl
+
+no_j : (c : ℕ) → Digit c → is_j c ≡ false
+no_j c d = let least = d.least in let most = d.most in grind (arith, nat_tests)
+
+no_fraction : (c : ℕ) → Digit c → (is_point c || is_e c) ≡ false
+no_fraction c d = let least = d.least in let most = d.most in grind (arith, nat_tests)
+
+whole_is : (t : List ℕ) (value : ℕ) → IsShort t value → whole_below (radix_of t) (digits_behind t) ≡ Some value
+whole_is t value is =
+    let ten = decimal t is.digits in
+    let same = no_lines t is.digits in
+    let small : nat_le (2 ^ 128) value ≡ false = lt-leb (2 ^ 128) value (omega (arith, is.fits)) in
+    let worth : digits_value_after 10 0 t ≡ value = sym is.worth in
+    rw (ten, same, worth, small) refl
+
+pub answer_short : (bs : List ℕ) (value : ℕ) → IsShort bs value → number_answer (chars bs) ≡ Ok value
+answer_short bs value is =
+    let t = chars-IsAscii bs (ascii bs is.digits) in
+    let complex = none_of is_j no_j bs is.digits in
+    let real : is_real bs ≡ false = ap (λ (b : Bool). (radix_of bs == 10) && b) (none_of (λ c. is_point c || is_e c) no_fraction bs is.digits)
+    ∙ and_false (radix_of bs == 10) in
+    ap number_answer t ∙ answer_some bs value complex real (whole_is bs value is)

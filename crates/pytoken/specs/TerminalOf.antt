@@ -1,0 +1,42 @@
+-- What a terminal of the code is to the grammar, and what is told of a token that is none.
+use Rattle.std.specs.Prelude.{◌≡◌, ℕ, List, Option, Some, None}
+use Rattle.std.specs.Str.{chars}
+use Rattle.unicode_normalization.specs.Forms.{nfkc}
+use Rattle.pytoken.specs.declared.faults.TokenError.{TokenError}
+use Rattle.pytoken.specs.Keywords.{keyword_of}
+use Rattle.pytoken.specs.NumberValues.{whole_value}
+use Rattle.pytoken.specs.StringValues.{string_value}
+use Rattle.pytoken.specs.Terminals
+use Rattle.pytoken.specs.declared.values.literal_text.LiteralText.{LiteralText}
+use Rattle.pytoken.specs.declared.values.terminals.Terminal.{Terminal}
+use Rattle.pytoken.specs.declared.values.terminals.Terminal.TheVariants.{Op, Word, Ident, Whole, Literal, Layout}
+use Rattle.pytoken.specs.declared.values.terminals.TerminalFault.{TerminalFault}
+use Rattle.pytoken.specs.declared.values.terminals.TerminalFault.TheVariants.{Token, Memory}
+
+-- the characters of a literal
+abbrev pub literal_characters : LiteralText → List ℕ
+literal_characters l = chars l.text.now
+
+-- what a terminal is: a name is its spelling and its form NFKC, a literal its value
+abbrev pub terminal : Terminal → Terminals.Terminal
+terminal (Op exact) = Terminals.Op exact
+terminal (Word word) = Terminals.Word word
+terminal (Ident text) = Terminals.Ident (record { spelling = chars text.now; form = nfkc (chars text.now) })
+terminal (Whole value) = Terminals.Whole value
+terminal (Literal l) = Terminals.Literal (string_value (literal_characters l))
+terminal Layout = Terminals.Layout
+
+-- what the texts of a NAME, a NUMBER and a STRING are
+abbrev pub named : List ℕ → Terminals.Terminal
+named t = elim (keyword_of t) [ Some w ↦ Terminals.Word w | None ↦ Terminals.Ident (record { spelling = t; form = nfkc t }) ]
+
+abbrev pub numbered : List ℕ → Terminals.Terminal
+numbered t = Terminals.Whole (whole_value t)
+
+abbrev pub quoted : List ℕ → Terminals.Terminal
+quoted t = Terminals.Literal (string_value t)
+
+-- a fault is the one of the token, or memory was wanting, as it may be at any point
+abbrev pub Tells : Option TokenError → TerminalFault → Type 0
+Tells fault (Token e) = fault ≡ Some e
+Tells fault Memory = Unit {0}

@@ -1,0 +1,21 @@
+//! What the text of a token stands for, and what may be wrong with it by itself.
+//!
+//! Python language reference, 2.3 "Identifiers and keywords" and 2.4 "Literals".
+
+mod characters;
+mod escapes;
+mod faults;
+mod literal_text;
+mod literals;
+mod names;
+mod numbers;
+mod strings;
+mod terminals;
+
+pub use crate::values::faults::token_fault;
+pub use crate::values::literal_text::LiteralText;
+pub use crate::values::literals::{Literal, string_value};
+pub use crate::values::names::{identifier_value, name_fault, name_value};
+pub use crate::values::numbers::number_value;
+pub use crate::values::strings::string_fault;
+pub use crate::values::terminals::{Terminal, TerminalFault, terminal_of};

@@ -1,0 +1,65 @@
+//! What may be wrong with a token by itself, by its type.
+
+ghost use Rattle.std.specs.Prelude.{◌≡◌, ◌==◌, IfOk};
+ghost use Rattle.std.specs.List.{list_any};
+ghost use Rattle.std.specs.Str.{chars};
+ghost use Rattle.pytoken.specs.NumberValues.{number_fault};
+ghost use Rattle.pytoken.specs.StringValues.{nul_fault};
+ghost use Rattle.pytoken.specs.Terminals.{fault_of};
+
+use crate::values::names::name_fault;
+use crate::values::numbers::number_value;
+use crate::values::strings::{are_plain, string_fault};
+use pylex::Kind;
+use crate::TokenError;
+use std::alloc::{AllocError, Global};
+
+/// The fault of a number.
+fn number_fault(text: &str) -> Option<TokenError>
+    ensures { result ≡ number_fault (chars text.now) }
+{
+    match number_value(text) {
+        Ok(_) => None,
+        Err(error) => Some(error),
+    }
+}
+
+/// Whether U+0000 stands in a text.
+fn has_nul(text: &str) -> bool
+    ensures { result ≡ list_any (λ c. c == 0) (chars text.now) }
+{
+    for c in text.chars() {
+        if c == '\0' {
+            return true;
+        }
+    }
+    false
+}
+
+/// The fault of a comment.
+pub(crate) fn comment_fault(text: &str) -> Option<TokenError>
+    ensures { result ≡ nul_fault (chars text.now) }
+{
+    if are_plain(text) {
+        return None;
+    }
+    if has_nul(text) {
+        Some(TokenError::Nul)
+    } else {
+        None
+    }
+}
+
+/// The fault that an entry of this type and text is by itself: a token or a comment.
+#[inline(always)]
+pub fn token_fault(alloc: Global, kind: Kind, text: &str) -> Result<Option<TokenError>, AllocError>
+    ensures { IfOk result (λ fault. fault ≡ fault_of kind (chars text.now)) }
+{
+    match kind {
+        Kind::Name => name_fault(alloc, text),
+        Kind::Number => Ok(number_fault(text)),
+        Kind::String => Ok(string_fault(text)),
+        Kind::Comment => Ok(comment_fault(text)),
+        _ => Ok(None),
+    }
+}

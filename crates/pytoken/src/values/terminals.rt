@@ -1,0 +1,135 @@
+//! What tokens are to the grammar.
+
+ghost use Rattle.std.specs.Prelude.{◌≡◌, IfOk, IfErr, OnOk, None};
+ghost use Rattle.std.specs.Str.{chars};
+ghost use Rattle.pytoken.specs.NameValues.{name_fault};
+ghost use Rattle.pytoken.specs.NumberValues.{number_fault};
+ghost use Rattle.pytoken.specs.StringValues.{string_fault, nul_fault};
+ghost use Rattle.pytoken.specs.Terminals.{terminal_of, fault_of};
+ghost use Rattle.pytoken.specs.TerminalOf.{terminal, named, numbered, quoted, Tells};
+
+use crate::values::faults::comment_fault;
+use crate::values::literal_text::LiteralText;
+use crate::values::names::name_fault;
+use crate::values::numbers::number_value;
+use pylex::{Exact, Kind, exact_of};
+use crate::{Keyword, TokenError};
+use std::alloc::{AllocError, Global};
+use thiserror::Error;
+
+/// What a token is to the grammar. It lends from the source what it doesn't hold itself.
+#[derive(Clone, Copy, Debug, PartialEq, Eq)]
+pub enum Terminal<'a> {
+    /// An operator or a delimiter.
+    Op(Exact),
+    /// A keyword.
+    Word(Keyword),
+    /// A name that is no keyword, as it stands in the source: it stands for its form NFKC.
+    Ident(&'a str),
+    /// A whole number.
+    Whole(u128),
+    /// One string literal.
+    Literal(LiteralText<'a>),
+    /// A line end, or the begin or end of a block.
+    Layout,
+}
+
+/// Why a token is no terminal.
+#[derive(Clone, Copy, Debug, PartialEq, Eq, Error)]
+pub enum TerminalFault {
+    /// Something is wrong with the token by itself.
+    #[error("faulty token")]
+    Token(TokenError),
+    /// There was no memory.
+    #[error("out of memory")]
+    Memory,
+}
+
+impl From<AllocError> for TerminalFault {
+    ghost use Rattle.pytoken.specs.declared.values.terminals.TerminalFault.TheVariants.{Memory};
+
+    ghost from_gives = { λ error r. r ≡ Memory };
+
+    fn from(_error: AllocError) -> TerminalFault {
+        TerminalFault::Memory
+    }
+}
+
+/// The terminal of a NAME.
+fn name_terminal<'a>(alloc: Global, text: &'a str) -> Result<Terminal<'a>, TerminalFault>
+    ensures terminal { IfOk result (λ made. terminal made ≡ named (chars text.now)) }
+    ensures sound { OnOk result (name_fault (chars text.now) ≡ None) }
+    ensures refused { IfErr result (Tells (name_fault (chars text.now))) }
+{
+    if let Some(error) = name_fault(alloc, text)? {
+        return Err(TerminalFault::Token(error));
+    }
+    match Keyword::of(text) {
+        Some(word) => Ok(Terminal::Word(word)),
+        None => Ok(Terminal::Ident(text)),
+    }
+}
+
+/// The terminal of a NUMBER.
+fn number_terminal<'a>(text: &'a str) -> Result<Terminal<'a>, TerminalFault>
+    ensures terminal { IfOk result (λ made. terminal made ≡ numbered (chars text.now)) }
+    ensures sound { OnOk result (number_fault (chars text.now) ≡ None) }
+    ensures refused { IfErr result (Tells (number_fault (chars text.now))) }
+{
+    match number_value(text) {
+        Ok(value) => Ok(Terminal::Whole(value)),
+        Err(error) => Err(TerminalFault::Token(error)),
+    }
+}
+
+/// The terminal of a STRING.
+fn string_terminal<'a>(text: &'a str) -> Result<Terminal<'a>, TerminalFault>
+    ensures terminal { IfOk result (λ made. terminal made ≡ quoted (chars text.now)) }
+    ensures sound { OnOk result (string_fault (chars text.now) ≡ None) }
+    ensures refused { IfErr result (Tells (string_fault (chars text.now))) }
+{
+    match LiteralText::new(text) {
+        Ok(literal) => Ok(Terminal::Literal(literal)),
+        Err(error) => Err(TerminalFault::Token(error)),
+    }
+}
+
+/// The terminal of an OP.
+#[inline(always)]
+fn operator_terminal<'a>(text: &'a str) -> Terminal<'a>
+    ensures { terminal result ≡ terminal_of Kind.Op (chars text.now) }
+{
+    match exact_of(text) {
+        Some(exact) => Terminal::Op(exact),
+        None => Terminal::Layout,
+    }
+}
+
+/// The terminal that a token of this type and text is. No memory is taken but for a name with
+/// characters past ASCII, and that only to find its fault.
+///
+/// # Errors
+///
+/// [`TerminalFault::Token`] by the fault that the token is by itself.
+#[inline(always)]
+pub fn terminal_of<'a>(
+    alloc: Global,
+    kind: Kind,
+    text: &'a str,
+) -> Result<Terminal<'a>, TerminalFault>
+    ensures terminal { IfOk result (λ made. terminal made ≡ terminal_of kind (chars text.now)) }
+    ensures sound { OnOk result (fault_of kind (chars text.now) ≡ None) }
+    ensures refused { IfErr result (Tells (fault_of kind (chars text.now))) }
+{
+    match kind {
+        Kind::Name => name_terminal(alloc, text),
+        Kind::Number => number_terminal(text),
+        Kind::String => string_terminal(text),
+        Kind::Op => Ok(operator_terminal(text)),
+        Kind::Comment => match comment_fault(text) {
+            Some(error) => Err(TerminalFault::Token(error)),
+            None => Ok(Terminal::Layout),
+        },
+        _ => Ok(Terminal::Layout),
+    }
+}

@@ -1,0 +1,10 @@
+//! Copies of trees: [`copy_stmts`] makes statements whose values (`pytree_node`'s `TreeOf`) are those of
+//! others.
+#![tactic(auto)]
+
+mod expressions;
+mod leaves;
+mod parts;
+mod statements;
+
+pub use statements::copy_stmts;

@@ -1,0 +1,238 @@
+//! Copies of statements.
+//!
+//! An expression that stands in its statement itself is copied behind the lists: so it need not be
+//! let go where one of these has no memory, which is long to prove.
+
+ghost use Rattle.std.specs.Prelude.{◌≡◌, IfOk, map};
+ghost use Rattle.pytree_node.specs.TreeOf.{handler_of, stmt_of};
+
+use crate::expressions::{
+    copy_box, copy_boxed_arguments, copy_expr, copy_exprs, copy_keywords, copy_optional_box,
+};
+use crate::leaves::{copy_names, copy_optional_name};
+use crate::parts::{copy_aliases, copy_items, copy_optional_expr, copy_type_params};
+use pytree_node::{Handler, Stmt};
+use std::alloc::{AllocError, Global};
+
+/// A copy of a statement.
+#[cycle(copying)]
+#[tactic(auto, using(pytree_node::proofs::Callers::StmtShapes::stmt_shapes))]
+fn copy_stmt(alloc: Global, s: &Stmt) -> Result<Stmt, AllocError>
+    ensures { IfOk result (λ made. stmt_of made ≡ stmt_of s.now) }
+{
+    match s {
+        Stmt::FunctionDef {
+            name,
+            args,
+            body,
+            decorator_list,
+            returns,
+            type_params,
+        } => Ok(Stmt::FunctionDef {
+            name: name.clone()?,
+            args: copy_boxed_arguments(alloc, args)?,
+            body: copy_stmts(alloc, body)?,
+            decorator_list: copy_exprs(alloc, decorator_list)?,
+            returns: copy_optional_box(alloc, returns)?,
+            type_params: copy_type_params(alloc, type_params)?,
+        }),
+        Stmt::AsyncFunctionDef {
+            name,
+            args,
+            body,
+            decorator_list,
+            returns,
+            type_params,
+        } => Ok(Stmt::AsyncFunctionDef {
+            name: name.clone()?,
+            args: copy_boxed_arguments(alloc, args)?,
+            body: copy_stmts(alloc, body)?,
+            decorator_list: copy_exprs(alloc, decorator_list)?,
+            returns: copy_optional_box(alloc, returns)?,
+            type_params: copy_type_params(alloc, type_params)?,
+        }),
+        Stmt::ClassDef {
+            name,
+            bases,
+            keywords,
+            body,
+            decorator_list,
+            type_params,
+        } => Ok(Stmt::ClassDef {
+            name: name.clone()?,
+            bases: copy_exprs(alloc, bases)?,
+            keywords: copy_keywords(alloc, keywords)?,
+            body: copy_stmts(alloc, body)?,
+            decorator_list: copy_exprs(alloc, decorator_list)?,
+            type_params: copy_type_params(alloc, type_params)?,
+        }),
+        Stmt::Return { value } => Ok(Stmt::Return {
+            value: copy_optional_expr(alloc, value)?,
+        }),
+        Stmt::Delete { targets } => Ok(Stmt::Delete {
+            targets: copy_exprs(alloc, targets)?,
+        }),
+        Stmt::Assign { targets, value } => Ok(Stmt::Assign {
+            targets: copy_exprs(alloc, targets)?,
+            value: copy_expr(alloc, value)?,
+        }),
+        Stmt::TypeAlias {
+            name,
+            type_params,
+            value,
+        } => Ok(Stmt::TypeAlias {
+            type_params: copy_type_params(alloc, type_params)?,
+            name: copy_expr(alloc, name)?,
+            value: copy_expr(alloc, value)?,
+        }),
+        Stmt::AugAssign { target, op, value } => Ok(Stmt::AugAssign {
+            target: copy_expr(alloc, target)?,
+            op: *op,
+            value: copy_expr(alloc, value)?,
+        }),
+        Stmt::AnnAssign {
+            target,
+            annotation,
+            value,
+            simple,
+        } => Ok(Stmt::AnnAssign {
+            target: copy_box(alloc, target)?,
+            annotation: copy_box(alloc, annotation)?,
+            value: copy_optional_box(alloc, value)?,
+            simple: *simple,
+        }),
+        Stmt::For {
+            target,
+            iter,
+            body,
+            orelse,
+        } => Ok(Stmt::For {
+            target: copy_box(alloc, target)?,
+            iter: copy_box(alloc, iter)?,
+            body: copy_stmts(alloc, body)?,
+            orelse: copy_stmts(alloc, orelse)?,
+        }),
+        Stmt::AsyncFor {
+            target,
+            iter,
+            body,
+            orelse,
+        } => Ok(Stmt::AsyncFor {
+            target: copy_box(alloc, target)?,
+            iter: copy_box(alloc, iter)?,
+            body: copy_stmts(alloc, body)?,
+            orelse: copy_stmts(alloc, orelse)?,
+        }),
+        Stmt::While { test, body, orelse } => Ok(Stmt::While {
+            body: copy_stmts(alloc, body)?,
+            orelse: copy_stmts(alloc, orelse)?,
+            test: copy_expr(alloc, test)?,
+        }),
+        Stmt::If { test, body, orelse } => Ok(Stmt::If {
+            body: copy_stmts(alloc, body)?,
+            orelse: copy_stmts(alloc, orelse)?,
+            test: copy_expr(alloc, test)?,
+        }),
+        Stmt::With { items, body } => Ok(Stmt::With {
+            items: copy_items(alloc, items)?,
+            body: copy_stmts(alloc, body)?,
+        }),
+        Stmt::AsyncWith { items, body } => Ok(Stmt::AsyncWith {
+            items: copy_items(alloc, items)?,
+            body: copy_stmts(alloc, body)?,
+        }),
+        Stmt::Raise { exc, cause } => Ok(Stmt::Raise {
+            exc: copy_optional_expr(alloc, exc)?,
+            cause: copy_optional_expr(alloc, cause)?,
+        }),
+        Stmt::Try {
+            body,
+            handlers,
+            orelse,
+            finalbody,
+        } => Ok(Stmt::Try {
+            body: copy_stmts(alloc, body)?,
+            handlers: copy_handlers(alloc, handlers)?,
+            orelse: copy_stmts(alloc, orelse)?,
+            finalbody: copy_stmts(alloc, finalbody)?,
+        }),
+        Stmt::TryStar {
+            body,
+            handlers,
+            orelse,
+            finalbody,
+        } => Ok(Stmt::TryStar {
+            body: copy_stmts(alloc, body)?,
+            handlers: copy_handlers(alloc, handlers)?,
+            orelse: copy_stmts(alloc, orelse)?,
+            finalbody: copy_stmts(alloc, finalbody)?,
+        }),
+        Stmt::Assert { test, msg } => Ok(Stmt::Assert {
+            test: copy_expr(alloc, test)?,
+            msg: copy_optional_expr(alloc, msg)?,
+        }),
+        Stmt::Import { names } => Ok(Stmt::Import {
+            names: copy_aliases(alloc, names)?,
+        }),
+        Stmt::ImportFrom {
+            module,
+            names,
+            level,
+        } => Ok(Stmt::ImportFrom {
+            module: copy_optional_name(module)?,
+            names: copy_aliases(alloc, names)?,
+            level: *level,
+        }),
+        Stmt::Global { names } => Ok(Stmt::Global {
+            names: copy_names(alloc, names)?,
+        }),
+        Stmt::Nonlocal { names } => Ok(Stmt::Nonlocal {
+            names: copy_names(alloc, names)?,
+        }),
+        Stmt::Expr { value } => Ok(Stmt::Expr {
+            value: copy_expr(alloc, value)?,
+        }),
+        Stmt::Pass => Ok(Stmt::Pass),
+        Stmt::Break => Ok(Stmt::Break),
+        Stmt::Continue => Ok(Stmt::Continue),
+    }
+}
+
+/// Statements that are equal to these. Where memory is refused, what was made of them is dropped.
+#[cycle(copying)]
+#[tactic(auto, using(pytree_node::proofs::Callers::StmtShapes::stmt_shapes))]
+pub fn copy_stmts(alloc: Global, body: &[Stmt]) -> Result<Vec<Stmt>, AllocError>
+    ensures { IfOk result (λ made. map stmt_of made.items ≡ map stmt_of body.now) }
+{
+    let mut made = Vec::new(alloc);
+    for s in body {
+        made.push(copy_stmt(alloc, s)?)?;
+    }
+    Ok(made)
+}
+
+/// A copy of an `except` with its block.
+#[cycle(copying)]
+#[tactic(auto, using(pytree_node::proofs::Callers::StmtShapes::stmt_shapes))]
+fn copy_handler(alloc: Global, h: &Handler) -> Result<Handler, AllocError>
+    ensures { IfOk result (λ made. handler_of made ≡ handler_of h.now) }
+{
+    Ok(Handler {
+        name: copy_optional_name(&h.name)?,
+        body: copy_stmts(alloc, &h.body)?,
+        class: copy_optional_expr(alloc, &h.class)?,
+    })
+}
+
+/// A copy of some `except`s.
+#[cycle(copying)]
+#[tactic(auto, using(pytree_node::proofs::Callers::StmtShapes::stmt_shapes))]
+fn copy_handlers(alloc: Global, all: &[Handler]) -> Result<Vec<Handler>, AllocError>
+    ensures { IfOk result (λ made. map handler_of made.items ≡ map handler_of all.now) }
+{
+    let mut made = Vec::new(alloc);
+    for h in all {
+        made.push(copy_handler(alloc, h)?)?;
+    }
+    Ok(made)
+}

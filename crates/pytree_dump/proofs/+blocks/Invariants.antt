@@ -1,0 +1,59 @@
+use Rattle.std.proofs.Common.{◌≡◌, ◌+◌, ◌*◌, ◌++◌, true, map, drop}
+use Rattle.std.specs.String.{string_bytes}
+use Rattle.pytree_node.specs.TreeOf.{handler_of, stmt_of}
+use Rattle.pytree_dump.specs.Layout.{members}
+use Rattle.pytree_dump.specs.Shows.{shown_stmt, showns}
+use Rattle.pytree_dump.specs.Inner.Blocks.{shown_block, shown_caught, shown_handler}
+use Rattle.pytree_dump.specs.Inner.Weights.{weight}
+use Rattle.pytree_dump.proofs.+blocks.Given as goal
+
+abbrev pub decreases-statements::show_stmt : goal.decreases-statements::show_stmt
+decreases-statements::show_stmt l = 4 * weight (shown_stmt l.style.profile (stmt_of l.s.now))
+
+abbrev pub decreases-statements::show_stmts : goal.decreases-statements::show_stmts
+decreases-statements::show_stmts l = 4 * weight (shown_block l.style.profile l.body.now)
+
+abbrev pub invariant-statements::show_stmts-loop-s : goal.invariant-statements::show_stmts-loop-s
+invariant-statements::show_stmts-loop-s l = record {
+  text : string_bytes l.out ++ members l.style (string_bytes l.initial.front) l.first (showns (map (λ s. shown_stmt l.style.profile (stmt_of s)) (drop l.s-index l.body)))
+      ≡ string_bytes l.initial.out ++ members l.style (string_bytes l.initial.front) true (showns (map (λ s. shown_stmt l.style.profile (stmt_of s)) l.body));
+  front : string_bytes l.front ≡ string_bytes l.initial.front;
+}
+
+abbrev pub decreases-statements::show_block : goal.decreases-statements::show_block
+decreases-statements::show_block l = 4 * weight (shown_block l.style.profile l.body.now) + 1
+
+abbrev pub decreases-compounds::show_test : goal.decreases-compounds::show_test
+decreases-compounds::show_test l = 4 * (weight (shown_block l.style.profile l.body.now) + weight (shown_block l.style.profile l.orelse.now)) + 2
+
+abbrev pub decreases-compounds::show_for : goal.decreases-compounds::show_for
+decreases-compounds::show_for l = 4 * (weight (shown_block l.style.profile l.body.now) + weight (shown_block l.style.profile l.orelse.now)) + 2
+
+abbrev pub decreases-compounds::show_with : goal.decreases-compounds::show_with
+decreases-compounds::show_with l = 4 * weight (shown_block l.style.profile l.body.now) + 2
+
+abbrev pub decreases-compounds::show_try : goal.decreases-compounds::show_try
+decreases-compounds::show_try l = 4 * (weight (shown_block l.style.profile l.body.now) + (weight (shown_caught l.style.profile l.handlers.now)
+    + (weight (shown_block l.style.profile l.orelse.now) + weight (shown_block l.style.profile l.finalbody.now)))) + 2
+
+abbrev pub decreases-compounds::show_function : goal.decreases-compounds::show_function
+decreases-compounds::show_function l = 4 * weight (shown_block l.style.profile l.body.now) + 2
+
+abbrev pub decreases-compounds::show_class : goal.decreases-compounds::show_class
+decreases-compounds::show_class l = 4 * weight (shown_block l.style.profile l.body.now) + 2
+
+abbrev pub decreases-handlers::show_caught : goal.decreases-handlers::show_caught
+decreases-handlers::show_caught l = 4 * weight (shown_caught l.style.profile l.handlers.now) + 1
+
+abbrev pub decreases-handlers::show_handlers : goal.decreases-handlers::show_handlers
+decreases-handlers::show_handlers l = 4 * weight (shown_caught l.style.profile l.handlers.now)
+
+abbrev pub invariant-handlers::show_handlers-loop-h : goal.invariant-handlers::show_handlers-loop-h
+invariant-handlers::show_handlers-loop-h l = record {
+  text : string_bytes l.out ++ members l.style (string_bytes l.initial.front) l.first (showns (map (λ h. shown_handler l.style.profile (handler_of h)) (drop l.h-index l.handlers)))
+      ≡ string_bytes l.initial.out ++ members l.style (string_bytes l.initial.front) true (showns (map (λ h. shown_handler l.style.profile (handler_of h)) l.handlers));
+  front : string_bytes l.front ≡ string_bytes l.initial.front;
+}
+
+abbrev pub decreases-handlers::show_handler : goal.decreases-handlers::show_handler
+decreases-handlers::show_handler l = 4 * weight (shown_handler l.style.profile (handler_of l.h.now))

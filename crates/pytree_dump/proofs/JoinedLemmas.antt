@@ -1,0 +1,98 @@
+-- The text of attributes and calls on one line, with the names of fields.
+--
+-- Carries: push_name_and_context, show_joined_attribute, show_joined_keywords, show_joined_call, and the lists that are empty.
+use Rattle.std.proofs.Common.{◌≡◌, ◌∙◌, ap, sym, refl, ◌++◌, ◌∷◌, ◌||◌, ◌&&◌, ℕ, List, [], Bool, true, false, codes, Option, Some, None, map, length, nat_eq, arith}
+use Rattle.std.proofs.lemmas.Bool.{both_ways, eqb-true}
+use Rattle.std.proofs.lemmas.List.{append-nil, append_assoc}
+use Rattle.std.specs.List.{list_all}
+use Rattle.std.specs.Str.{chars}
+use Rattle.pytree_node.specs.declared.operators.Context.{Context}
+use Rattle.pysource.specs.Reprs.{is_plain, repr_text}
+use Rattle.pysource.proofs.Callers.Printing.{plain_repr}
+use Rattle.pytree_dump.specs.declared.styles.Style.{Style}
+use Rattle.pytree_dump.specs.Shows.{Shown, Fields, Row, a_field, context_name, no_field, shown_name, showns, word}
+use Rattle.pytree_dump.specs.Layout.{deeper, fields, is_flat, is_short, text}
+use Rattle.pytree_dump.specs.Inner.Slots.{node_text}
+
+first_of : (a b : Bool) → (a && b) ≡ true → a ≡ true
+first_of true b e = refl
+first_of false b e = e
+
+second_of : (a b : Bool) → (a && b) ≡ true → b ≡ true
+second_of true b e = e
+second_of false b e = absurd (both_ways false refl e)
+
+flat_front : (i : Option ℕ) (f : List ℕ) → is_flat i ≡ true → deeper i f ≡ f
+flat_front None f e = refl
+flat_front (Some n) f e = absurd (both_ways false refl e)
+
+-- a node whose dump is one line with the names of fields
+one_line : (s : Style) (f start : List ℕ) (fs : Fields) → (is_flat s.indent && s.names) ≡ true →
+    node_text s f start fs ≡ start ++ fields s f true true true fs ++ codes ")"
+one_line s f start fs e =
+    let flat = first_of (is_flat s.indent) s.names e in
+    λ i. start ++ fields s (flat_front s.indent f flat i) (flat i || is_short fs) (second_of (is_flat s.indent) s.names e i) true fs ++ codes ")"
+
+-- an attribute's value, its name and its context
+attribute_parts : (o p l v c m r d n w a b : List ℕ) →
+    o ++ (p ++ (l ++ v ++ (c ++ m ++ r ++ (d ++ n ++ (w ++ a ++ [] ++ b) ++ []))) ++ b)
+    ≡ ((o ++ (p ++ l)) ++ v) ++ ((c ++ m) ++ r ++ ((d ++ n) ++ w ++ (a ++ b ++ b)))
+attribute_parts o p l v c m r d n w a b = simp (append_assoc, append-nil) refl
+
+pub attribute_text : (s : Style) (f x y : List ℕ) (v : Shown) (c : Context) (o0 o1 o2 o3 : List ℕ) → (is_flat s.indent && s.names) ≡ true → y ≡ x →
+    o1 ≡ o0 ++ codes "Attribute(value=" → o2 ≡ o1 ++ text s f v →
+    o3 ≡ o2 ++ (codes ", attr=" ++ repr_text y ++ (codes ", ctx=" ++ context_name c ++ codes "())")) →
+    o3 ≡ o0 ++ node_text s f (codes "Attribute(") (a_field (codes "value") v (a_field (codes "attr") (shown_name x) (a_field (codes "ctx") (word (context_name c)) no_field)))
+attribute_text s f x y v c o0 o1 o2 o3 is same e1 e2 e3 =
+    e3 ∙ (λ i. (e2 ∙ (λ j. e1 j ++ text s f v)) i ++ (codes ", attr=" ++ repr_text (same i) ++ (codes ", ctx=" ++ context_name c ++ codes "())")))
+    ∙ sym (attribute_parts o0 (codes "Attribute(") (codes "value=") (text s f v) (codes ", ") (codes "attr=") (repr_text x) (codes ", ") (codes "ctx=") (context_name c) (codes "(") (codes ")"))
+    ∙ ap (λ z. o0 ++ z) (sym (one_line s f (codes "Attribute(") (a_field (codes "value") v (a_field (codes "attr") (shown_name x) (a_field (codes "ctx") (word (context_name c)) no_field))) is))
+
+-- a call's function, its arguments and its keywords
+call_parts : (o p l v c m es d n ks b : List ℕ) →
+    o ++ (p ++ (l ++ v ++ (c ++ m ++ es ++ (d ++ n ++ ks ++ []))) ++ b)
+    ≡ ((((o ++ (p ++ l)) ++ v) ++ (c ++ m)) ++ es) ++ ((d ++ n) ++ ks ++ b)
+call_parts o p l v c m es d n ks b = simp (append_assoc, append-nil) refl
+
+pub call_text : (s : Style) (f : List ℕ) (v es ks : Shown) (o0 o1 o2 o3 o4 o5 : List ℕ) → (is_flat s.indent && s.names) ≡ true →
+    o1 ≡ o0 ++ codes "Call(func=" → o2 ≡ o1 ++ text s f v → o3 ≡ o2 ++ codes ", args=" → o4 ≡ o3 ++ text s f es →
+    o5 ≡ o4 ++ (codes ", keywords=" ++ text s f ks ++ codes ")") →
+    o5 ≡ o0 ++ node_text s f (codes "Call(") (a_field (codes "func") v (a_field (codes "args") es (a_field (codes "keywords") ks no_field)))
+call_text s f v es ks o0 o1 o2 o3 o4 o5 is e1 e2 e3 e4 e5 =
+    e5 ∙ (λ i. (e4 ∙ (λ j. (e3 ∙ (λ k. (e2 ∙ (λ l. e1 l ++ text s f v)) k ++ codes ", args=")) j ++ text s f es)) i ++ (codes ", keywords=" ++ text s f ks ++ codes ")"))
+    ∙ sym (call_parts o0 (codes "Call(") (codes "func=") (text s f v) (codes ", ") (codes "args=") (text s f es) (codes ", ") (codes "keywords=") (text s f ks) (codes ")"))
+    ∙ ap (λ z. o0 ++ z) (sym (one_line s f (codes "Call(") (a_field (codes "func") v (a_field (codes "args") es (a_field (codes "keywords") ks no_field))) is))
+
+-- the keywords of a call, and what ends it
+pub keywords_text : (o0 o1 o2 o3 ks : List ℕ) → o1 ≡ o0 ++ codes ", keywords=" → o2 ≡ o1 ++ ks → o3 ≡ o2 ++ codes ")" →
+    o3 ≡ o0 ++ (codes ", keywords=" ++ ks ++ codes ")")
+keywords_text o0 o1 o2 o3 ks e1 e2 e3 = e3 ∙ (λ i. (e2 ∙ (λ j. e1 j ++ ks)) i ++ codes ")") ∙ joined_parts o0 (codes ", keywords=") ks (codes ")")
+  where
+    joined_parts : (o p x b : List ℕ) → ((o ++ p) ++ x) ++ b ≡ o ++ (p ++ x ++ b)
+    joined_parts o p x b = simp append_assoc refl
+
+-- an empty list
+pub empty_row : {A : Type 0} (g : A → Shown) (xs : List A) (s : Style) (f : List ℕ) → nat_eq (length xs) 0 ≡ true →
+    text s f (Row (showns (map g xs))) ≡ codes "[]"
+empty_row g [] s f e = refl
+empty_row g (x ∷ xs) s f e =
+    let none : length (x ∷ xs) ≡ 0 = eqb-true (length (x ∷ xs)) 0 e in
+    absurd (omega (arith, none))
+
+-- a name between quotes, and what stands round it
+quoted_name : (o p b e : List ℕ) → ((o ++ (p ++ 39 ∷ [])) ++ b) ++ (39 ∷ e) ≡ o ++ (p ++ (39 ∷ b ++ 39 ∷ []) ++ e)
+quoted_name o p b e = simp append_assoc refl
+
+pub plain_attribute : (bs : List ℕ) (c : Context) (o0 o1 o2 o3 : List ℕ) → list_all is_plain bs ≡ true →
+    o1 ≡ o0 ++ codes ", attr='" → o2 ≡ o1 ++ bs → o3 ≡ o2 ++ (codes "', ctx=" ++ context_name c ++ codes "())") →
+    o3 ≡ o0 ++ (codes ", attr=" ++ repr_text (chars bs) ++ (codes ", ctx=" ++ context_name c ++ codes "())"))
+plain_attribute bs c o0 o1 o2 o3 plain e1 e2 e3 =
+    let end = codes ", ctx=" ++ context_name c ++ codes "())" in
+    e3 ∙ ap (λ z. z ++ (39 ∷ end)) (e2 ∙ ap (λ z. z ++ bs) e1)
+    ∙ quoted_name o0 (codes ", attr=") bs end
+    ∙ ap (λ z. o0 ++ (codes ", attr=" ++ z ++ end)) (sym (plain_repr bs plain))
+
+pub told_attribute : (x o0 o1 o2 o3 start end : List ℕ) → o1 ≡ o0 ++ start → o2 ≡ o1 ++ repr_text x → o3 ≡ o2 ++ end →
+    o3 ≡ o0 ++ (start ++ repr_text x ++ end)
+told_attribute x o0 o1 o2 o3 start end e1 e2 e3 =
+    e3 ∙ ap (λ z. z ++ end) (e2 ∙ ap (λ z. z ++ repr_text x) e1) ∙ simp append_assoc refl

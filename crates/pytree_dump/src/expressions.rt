@@ -1,0 +1,252 @@
+//! The dump of expressions.
+
+ghost use Rattle.std.specs.Prelude.{◌≡◌, ◌++◌, IfOk, OnOk};
+ghost use Rattle.std.specs.String.{string_bytes};
+ghost use Rattle.pytree_dump.specs.Layout.{dump_text, text};
+ghost use Rattle.pytree_dump.specs.Shows.{shown};
+ghost use Rattle.pytree_node.specs.TreeOf.{tree_of};
+
+use crate::fields::Field;
+use crate::joined::{is_joined, show_joined_attribute, show_joined_call};
+use crate::leaves::{show_constant, show_name};
+use crate::nodes::{show_one, show_three, show_two};
+use crate::parts::{Part, boxed_part};
+use crate::styles::Style;
+use pytree_node::Expr;
+use std::alloc::{AllocError, Global};
+
+/// Appends what an expression shows.
+#[cycle(showing)]
+#[tactic(auto, using(pytree_node::proofs::Callers::ExprShapes::expr_shapes, crate::proofs::RowLemmas::rows))]
+pub(crate) fn show_expr(
+    out: &mut String,
+    front: &mut String,
+    style: Style,
+    e: &Expr,
+) -> Result<(), AllocError>
+    ensures text { OnOk result
+        (string_bytes out.new ≡ string_bytes out.old
+        ++ text style (string_bytes front.old) (shown (tree_of e.now))) }
+    ensures front { OnOk result (string_bytes front.new ≡ string_bytes front.old) }
+{
+    match e {
+        Expr::BoolOp { op, values } => show_two(
+            out,
+            front,
+            style,
+            "BoolOp(",
+            Part::Bool(*op),
+            Part::Exprs(Field::Values, values),
+        ),
+        Expr::NamedExpr { target, value } => show_two(
+            out,
+            front,
+            style,
+            "NamedExpr(",
+            Part::Expr(Field::Target, target),
+            Part::Expr(Field::Value, value),
+        ),
+        Expr::BinOp { left, op, right } => show_three(
+            out,
+            front,
+            style,
+            "BinOp(",
+            Part::Expr(Field::Left, left),
+            Part::Operator(*op),
+            Part::Expr(Field::Right, right),
+        ),
+        Expr::UnaryOp { op, operand } => show_two(
+            out,
+            front,
+            style,
+            "UnaryOp(",
+            Part::Unary(*op),
+            Part::Expr(Field::Operand, operand),
+        ),
+        Expr::Lambda { args, body } => show_two(
+            out,
+            front,
+            style,
+            "Lambda(",
+            Part::Arguments(Field::Args, args),
+            Part::Expr(Field::Body, body),
+        ),
+        Expr::IfExp { test, body, orelse } => show_three(
+            out,
+            front,
+            style,
+            "IfExp(",
+            Part::Expr(Field::Test, test),
+            Part::Expr(Field::Body, body),
+            Part::Expr(Field::Orelse, orelse),
+        ),
+        Expr::Dict { keys, values } => show_two(
+            out,
+            front,
+            style,
+            "Dict(",
+            Part::Options(Field::Keys, keys),
+            Part::Exprs(Field::Values, values),
+        ),
+        Expr::Set { elts } => show_one(out, front, style, "Set(", Part::Exprs(Field::Elts, elts)),
+        Expr::ListComp { elt, generators } => show_two(
+            out,
+            front,
+            style,
+            "ListComp(",
+            Part::Expr(Field::Elt, elt),
+            Part::Comprehensions(Field::Generators, generators),
+        ),
+        Expr::SetComp { elt, generators } => show_two(
+            out,
+            front,
+            style,
+            "SetComp(",
+            Part::Expr(Field::Elt, elt),
+            Part::Comprehensions(Field::Generators, generators),
+        ),
+        Expr::DictComp {
+            key,
+            value,
+            generators,
+        } => show_three(
+            out,
+            front,
+            style,
+            "DictComp(",
+            Part::Expr(Field::Key, key),
+            Part::Expr(Field::Value, value),
+            Part::Comprehensions(Field::Generators, generators),
+        ),
+        Expr::GeneratorExp { elt, generators } => show_two(
+            out,
+            front,
+            style,
+            "GeneratorExp(",
+            Part::Expr(Field::Elt, elt),
+            Part::Comprehensions(Field::Generators, generators),
+        ),
+        Expr::Await { value } => show_one(
+            out,
+            front,
+            style,
+            "Await(",
+            Part::Expr(Field::Value, value),
+        ),
+        Expr::Yield { value } => show_one(
+            out,
+            front,
+            style,
+            "Yield(",
+            boxed_part(Field::Value, value),
+        ),
+        Expr::YieldFrom { value } => show_one(
+            out,
+            front,
+            style,
+            "YieldFrom(",
+            Part::Expr(Field::Value, value),
+        ),
+        Expr::Compare {
+            left,
+            ops,
+            comparators,
+        } => show_three(
+            out,
+            front,
+            style,
+            "Compare(",
+            Part::Expr(Field::Left, left),
+            Part::Comparisons(Field::Ops, ops),
+            Part::Exprs(Field::Comparators, comparators),
+        ),
+        Expr::Call {
+            func,
+            args,
+            keywords,
+        } => {
+            if is_joined(style) {
+                show_joined_call(out, front, style, func, args, keywords)
+            } else {
+                show_three(
+                    out,
+                    front,
+                    style,
+                    "Call(",
+                    Part::Expr(Field::Func, func),
+                    Part::Exprs(Field::Args, args),
+                    Part::Keywords(Field::Keywords, keywords),
+                )
+            }
+        }
+        Expr::Constant { value } => show_constant(out, style, value),
+        Expr::Attribute { value, attr, ctx } => {
+            if is_joined(style) {
+                show_joined_attribute(out, front, style, value, attr, *ctx)
+            } else {
+                show_three(
+                    out,
+                    front,
+                    style,
+                    "Attribute(",
+                    Part::Expr(Field::Value, value),
+                    Part::Name(Field::Attr, attr),
+                    Part::Context(*ctx),
+                )
+            }
+        }
+        Expr::Subscript { value, slice, ctx } => show_three(
+            out,
+            front,
+            style,
+            "Subscript(",
+            Part::Expr(Field::Value, value),
+            Part::Expr(Field::Slice, slice),
+            Part::Context(*ctx),
+        ),
+        Expr::Starred { value, ctx } => show_two(
+            out,
+            front,
+            style,
+            "Starred(",
+            Part::Expr(Field::Value, value),
+            Part::Context(*ctx),
+        ),
+        Expr::Name { id, ctx } => show_name(out, style, id, *ctx),
+        Expr::List { elts, ctx } => show_two(
+            out,
+            front,
+            style,
+            "List(",
+            Part::Exprs(Field::Elts, elts),
+            Part::Context(*ctx),
+        ),
+        Expr::Tuple { elts, ctx } => show_two(
+            out,
+            front,
+            style,
+            "Tuple(",
+            Part::Exprs(Field::Elts, elts),
+            Part::Context(*ctx),
+        ),
+        Expr::Slice { lower, upper, step } => show_three(
+            out,
+            front,
+            style,
+            "Slice(",
+            boxed_part(Field::Lower, lower),
+            boxed_part(Field::Upper, upper),
+            boxed_part(Field::Step, step),
+        ),
+    }
+}
+
+/// The dump text of an expression.
+pub fn dump_expr(alloc: Global, e: &Expr, style: Style) -> Result<String, AllocError>
+    ensures { IfOk result (λ t. string_bytes t ≡ dump_text style (shown (tree_of e.now))) }
+{
+    let mut out = String::new(alloc);
+    let mut front = String::from_str(alloc, "\n")?;
+    show_expr(&mut out, &mut front, style, e)?;
+    Ok(out)
+}

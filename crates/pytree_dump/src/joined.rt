@@ -1,0 +1,99 @@
+//! The nodes that a tree has most of, where all is on one line with the names of fields: what
+//! stands between their fields is appended at once.
+
+ghost use Rattle.std.specs.Prelude.{◌≡◌, ◌++◌, ◌&&◌, OnOk, codes, map, true};
+ghost use Rattle.std.specs.String.{string_bytes};
+ghost use Rattle.pytree_dump.specs.Inner.Slots.{node_text};
+ghost use Rattle.pytree_dump.specs.Layout.{is_flat, text};
+ghost use Rattle.pytree_dump.specs.Shows.{Row, a_field, context_name, no_field, shown, shown_keyword};
+ghost use Rattle.pytree_dump.specs.Shows.{shown_name, showns, word};
+ghost use Rattle.pytree_node.specs.TreeOf.{keyword_of, tree_of};
+
+use crate::expressions::show_expr;
+use crate::leaves::push_name_and_context;
+use crate::lines::is_flat;
+use crate::lists::{show_exprs, show_keywords};
+use crate::styles::Style;
+use pytree_node::{Context, Expr, Identifier, Keyword};
+use std::alloc::AllocError;
+
+/// Whether a dump is one line with the names of fields.
+pub(crate) fn is_joined(style: Style) -> bool
+    ensures { result ≡ (is_flat style.indent && style.names) }
+{
+    is_flat(style) && style.names
+}
+
+/// Appends an attribute.
+#[cycle(showing)]
+pub(crate) fn show_joined_attribute(
+    out: &mut String,
+    front: &mut String,
+    style: Style,
+    value: &Expr,
+    attr: &Identifier,
+    ctx: Context,
+) -> Result<(), AllocError>
+    requires { (is_flat style.indent && style.names) ≡ true }
+    ensures text { OnOk result
+        (string_bytes out.new ≡ string_bytes out.old
+        ++ node_text style (string_bytes front.old) (codes "Attribute(")
+        (a_field (codes "value") (shown (tree_of value.now))
+        (a_field (codes "attr") (shown_name attr.now)
+        (a_field (codes "ctx") (word (context_name ctx)) no_field)))) }
+    ensures front { OnOk result (string_bytes front.new ≡ string_bytes front.old) }
+{
+    out.push_str("Attribute(value=")?;
+    show_expr(out, front, style, value)?;
+    push_name_and_context(out, attr.as_str(), ctx)
+}
+
+/// Appends the keywords of a call, and what ends it.
+#[cycle(showing)]
+#[inline(always)]
+fn show_joined_keywords(
+    out: &mut String,
+    front: &mut String,
+    style: Style,
+    keywords: &[Keyword],
+) -> Result<(), AllocError>
+    ensures text { OnOk result
+        (string_bytes out.new ≡ string_bytes out.old
+        ++ (codes ", keywords=" ++ text style (string_bytes front.old)
+        (Row (showns (map (λ k. shown_keyword (keyword_of k)) keywords.now))) ++ codes ")")) }
+    ensures front { OnOk result (string_bytes front.new ≡ string_bytes front.old) }
+{
+    if keywords.is_empty() {
+        return out.push_str(", keywords=[])");
+    }
+    out.push_str(", keywords=")?;
+    show_keywords(out, front, style, keywords)?;
+    out.push_str(")")
+}
+
+/// Appends a call.
+#[cycle(showing)]
+pub(crate) fn show_joined_call(
+    out: &mut String,
+    front: &mut String,
+    style: Style,
+    func: &Expr,
+    args: &[Expr],
+    keywords: &[Keyword],
+) -> Result<(), AllocError>
+    requires { (is_flat style.indent && style.names) ≡ true }
+    ensures text { OnOk result
+        (string_bytes out.new ≡ string_bytes out.old
+        ++ node_text style (string_bytes front.old) (codes "Call(")
+        (a_field (codes "func") (shown (tree_of func.now))
+        (a_field (codes "args") (Row (showns (map (λ e. shown (tree_of e)) args.now)))
+        (a_field (codes "keywords")
+        (Row (showns (map (λ k. shown_keyword (keyword_of k)) keywords.now))) no_field)))) }
+    ensures front { OnOk result (string_bytes front.new ≡ string_bytes front.old) }
+{
+    out.push_str("Call(func=")?;
+    show_expr(out, front, style, func)?;
+    out.push_str(", args=")?;
+    show_exprs(out, front, style, args)?;
+    show_joined_keywords(out, front, style, keywords)
+}

@@ -1,0 +1,295 @@
+//! The lists of a tree: their brackets and their members.
+
+ghost use Rattle.std.specs.Prelude.{◌≡◌, ◌++◌, OnOk, map};
+ghost use Rattle.std.specs.String.{string_bytes};
+ghost use Rattle.pytree_dump.specs.Layout.{text};
+ghost use Rattle.pytree_dump.specs.Shows.{Row, comparison_name, shown, shown_alias, shown_arg};
+ghost use Rattle.pytree_dump.specs.Shows.{shown_comprehension, shown_item, shown_keyword, shown_name};
+ghost use Rattle.pytree_dump.specs.Shows.{shown_optional, shown_type_param, showns, word};
+ghost use Rattle.pytree_node.specs.TreeOf.{alias_of, arg_of, comprehension_of, item_of, keyword_of};
+ghost use Rattle.pytree_node.specs.TreeOf.{option_of, tree_of, type_param_of};
+ghost use Rattle.pytree_node.specs.Trees.{optional};
+
+use crate::expressions::show_expr;
+use crate::lines::{close, is_flat, open, push_before};
+use crate::members::{
+    show_alias, show_arg, show_comprehension, show_item, show_keyword, show_type_param,
+};
+use crate::styles::Style;
+use crate::words::comparison_word;
+use pytree_node::{Alias, Arg, Comparison, Comprehension, Expr, Identifier, Item, Keyword, TypeParam};
+use pysource::push_repr;
+use std::alloc::AllocError;
+
+/// Appends a list of expressions.
+#[cycle(showing)]
+#[tactic(auto, using(crate::proofs::TextLemmas::left, crate::proofs::TextLemmas::may_close))]
+pub(crate) fn show_exprs(
+    out: &mut String,
+    front: &mut String,
+    style: Style,
+    es: &[Expr],
+) -> Result<(), AllocError>
+    ensures text { OnOk result
+        (string_bytes out.new ≡ string_bytes out.old
+        ++ text style (string_bytes front.old)
+        (Row (showns (map (λ e. shown (tree_of e)) es.now)))) }
+    ensures front { OnOk result (string_bytes front.new ≡ string_bytes front.old) }
+{
+    // At once, as many lists are.
+    if es.is_empty() {
+        return out.push_str("[]");
+    }
+    let outer = open(out, front, style, "[")?;
+    let mut first = true;
+    for e in es {
+        push_before(out, front.as_str(), is_flat(style), first)?;
+        show_expr(out, front, style, e)?;
+        first = false;
+    }
+    close(out, front, style, outer, "]")?;
+    Ok(())
+}
+
+/// Appends a list of expressions, some of them absent.
+#[cycle(showing)]
+#[tactic(auto, using(crate::proofs::TextLemmas::left, crate::proofs::TextLemmas::may_close))]
+pub(crate) fn show_options(
+    out: &mut String,
+    front: &mut String,
+    style: Style,
+    es: &[Option<Expr>],
+) -> Result<(), AllocError>
+    ensures text { OnOk result
+        (string_bytes out.new ≡ string_bytes out.old
+        ++ text style (string_bytes front.old)
+        (Row (showns (map (λ e. shown_optional (optional (option_of e))) es.now)))) }
+    ensures front { OnOk result (string_bytes front.new ≡ string_bytes front.old) }
+{
+    let outer = open(out, front, style, "[")?;
+    let mut first = true;
+    for e in es {
+        push_before(out, front.as_str(), is_flat(style), first)?;
+        match e {
+            None => out.push_str("None")?,
+            Some(value) => show_expr(out, front, style, value)?,
+        }
+        first = false;
+    }
+    close(out, front, style, outer, "]")?;
+    Ok(())
+}
+
+/// Appends a list of clauses of a comprehension.
+#[cycle(showing)]
+#[tactic(auto, using(crate::proofs::TextLemmas::left, crate::proofs::TextLemmas::may_close))]
+pub(crate) fn show_comprehensions(
+    out: &mut String,
+    front: &mut String,
+    style: Style,
+    cs: &[Comprehension],
+) -> Result<(), AllocError>
+    ensures text { OnOk result
+        (string_bytes out.new ≡ string_bytes out.old
+        ++ text style (string_bytes front.old)
+        (Row (showns (map (λ c. shown_comprehension (comprehension_of c)) cs.now)))) }
+    ensures front { OnOk result (string_bytes front.new ≡ string_bytes front.old) }
+{
+    let outer = open(out, front, style, "[")?;
+    let mut first = true;
+    for c in cs {
+        push_before(out, front.as_str(), is_flat(style), first)?;
+        show_comprehension(out, front, style, c)?;
+        first = false;
+    }
+    close(out, front, style, outer, "]")?;
+    Ok(())
+}
+
+/// Appends a list of arguments by name.
+#[cycle(showing)]
+#[tactic(auto, using(crate::proofs::TextLemmas::left, crate::proofs::TextLemmas::may_close))]
+pub(crate) fn show_keywords(
+    out: &mut String,
+    front: &mut String,
+    style: Style,
+    ks: &[Keyword],
+) -> Result<(), AllocError>
+    ensures text { OnOk result
+        (string_bytes out.new ≡ string_bytes out.old
+        ++ text style (string_bytes front.old)
+        (Row (showns (map (λ k. shown_keyword (keyword_of k)) ks.now)))) }
+    ensures front { OnOk result (string_bytes front.new ≡ string_bytes front.old) }
+{
+    // At once, as many lists are.
+    if ks.is_empty() {
+        return out.push_str("[]");
+    }
+    let outer = open(out, front, style, "[")?;
+    let mut first = true;
+    for k in ks {
+        push_before(out, front.as_str(), is_flat(style), first)?;
+        show_keyword(out, front, style, k)?;
+        first = false;
+    }
+    close(out, front, style, outer, "]")?;
+    Ok(())
+}
+
+/// Appends a list of parameters.
+#[cycle(showing)]
+#[tactic(auto, using(crate::proofs::TextLemmas::left, crate::proofs::TextLemmas::may_close))]
+pub(crate) fn show_args(
+    out: &mut String,
+    front: &mut String,
+    style: Style,
+    all: &[Arg],
+) -> Result<(), AllocError>
+    ensures text { OnOk result
+        (string_bytes out.new ≡ string_bytes out.old
+        ++ text style (string_bytes front.old)
+        (Row (showns (map (λ a. shown_arg (arg_of a)) all.now)))) }
+    ensures front { OnOk result (string_bytes front.new ≡ string_bytes front.old) }
+{
+    // At once, as many lists are.
+    if all.is_empty() {
+        return out.push_str("[]");
+    }
+    let outer = open(out, front, style, "[")?;
+    let mut first = true;
+    for a in all {
+        push_before(out, front.as_str(), is_flat(style), first)?;
+        show_arg(out, front, style, a)?;
+        first = false;
+    }
+    close(out, front, style, outer, "]")?;
+    Ok(())
+}
+
+/// Appends a list of comparisons.
+#[tactic(auto, using(crate::proofs::TextLemmas::left, crate::proofs::TextLemmas::may_close))]
+pub(crate) fn show_comparisons(
+    out: &mut String,
+    front: &mut String,
+    style: Style,
+    cs: &[Comparison],
+) -> Result<(), AllocError>
+    ensures text { OnOk result
+        (string_bytes out.new ≡ string_bytes out.old
+        ++ text style (string_bytes front.old)
+        (Row (showns (map (λ c. word (comparison_name c)) cs.now)))) }
+    ensures front { OnOk result (string_bytes front.new ≡ string_bytes front.old) }
+{
+    let outer = open(out, front, style, "[")?;
+    let mut first = true;
+    for c in cs {
+        push_before(out, front.as_str(), is_flat(style), first)?;
+        out.push_str(comparison_word(*c))?;
+        first = false;
+    }
+    close(out, front, style, outer, "]")?;
+    Ok(())
+}
+
+/// Appends a list of names.
+#[tactic(auto, using(crate::proofs::TextLemmas::left, crate::proofs::TextLemmas::may_close))]
+pub(crate) fn show_names(
+    out: &mut String,
+    front: &mut String,
+    style: Style,
+    names: &[Identifier],
+) -> Result<(), AllocError>
+    ensures text { OnOk result
+        (string_bytes out.new ≡ string_bytes out.old
+        ++ text style (string_bytes front.old)
+        (Row (showns (map (λ name. shown_name name) names.now)))) }
+    ensures front { OnOk result (string_bytes front.new ≡ string_bytes front.old) }
+{
+    let outer = open(out, front, style, "[")?;
+    let mut first = true;
+    for name in names {
+        push_before(out, front.as_str(), is_flat(style), first)?;
+        push_repr(out, name.as_str())?;
+        first = false;
+    }
+    close(out, front, style, outer, "]")?;
+    Ok(())
+}
+
+/// Appends a list of names of an import.
+#[cycle(showing)]
+#[tactic(auto, using(crate::proofs::TextLemmas::left, crate::proofs::TextLemmas::may_close))]
+pub(crate) fn show_aliases(
+    out: &mut String,
+    front: &mut String,
+    style: Style,
+    names: &[Alias],
+) -> Result<(), AllocError>
+    ensures text { OnOk result
+        (string_bytes out.new ≡ string_bytes out.old
+        ++ text style (string_bytes front.old)
+        (Row (showns (map (λ a. shown_alias (alias_of a)) names.now)))) }
+    ensures front { OnOk result (string_bytes front.new ≡ string_bytes front.old) }
+{
+    let outer = open(out, front, style, "[")?;
+    let mut first = true;
+    for a in names {
+        push_before(out, front.as_str(), is_flat(style), first)?;
+        show_alias(out, front, style, a)?;
+        first = false;
+    }
+    close(out, front, style, outer, "]")?;
+    Ok(())
+}
+
+/// Appends a list of items of a `with`.
+#[cycle(showing)]
+#[tactic(auto, using(crate::proofs::TextLemmas::left, crate::proofs::TextLemmas::may_close))]
+pub(crate) fn show_items(
+    out: &mut String,
+    front: &mut String,
+    style: Style,
+    items: &[Item],
+) -> Result<(), AllocError>
+    ensures text { OnOk result
+        (string_bytes out.new ≡ string_bytes out.old
+        ++ text style (string_bytes front.old)
+        (Row (showns (map (λ item. shown_item (item_of item)) items.now)))) }
+    ensures front { OnOk result (string_bytes front.new ≡ string_bytes front.old) }
+{
+    let outer = open(out, front, style, "[")?;
+    let mut first = true;
+    for item in items {
+        push_before(out, front.as_str(), is_flat(style), first)?;
+        show_item(out, front, style, item)?;
+        first = false;
+    }
+    close(out, front, style, outer, "]")?;
+    Ok(())
+}
+
+/// Appends a list of parameters of a type.
+#[cycle(showing)]
+#[tactic(auto, using(crate::proofs::TextLemmas::left, crate::proofs::TextLemmas::may_close))]
+pub(crate) fn show_type_params(
+    out: &mut String,
+    front: &mut String,
+    style: Style,
+    all: &[TypeParam],
+) -> Result<(), AllocError>
+    ensures text { OnOk result
+        (string_bytes out.new ≡ string_bytes out.old
+        ++ text style (string_bytes front.old)
+        (Row (showns (map (λ p. shown_type_param (type_param_of p)) all.now)))) }
+    ensures front { OnOk result (string_bytes front.new ≡ string_bytes front.old) }
+{
+    let outer = open(out, front, style, "[")?;
+    let mut first = true;
+    for p in all {
+        push_before(out, front.as_str(), is_flat(style), first)?;
+        show_type_param(out, front, style, p)?;
+        first = false;
+    }
+    close(out, front, style, outer, "]")?;
+    Ok(())
+}

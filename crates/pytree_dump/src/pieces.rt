@@ -1,0 +1,143 @@
+//! The dump of a module, in pieces.
+
+ghost use Rattle.std.specs.Prelude.{◌≡◌, ◌+◌, ◌++◌, ◌<◌, ◌∷◌, [], ℕ, List, true, false};
+ghost use Rattle.std.specs.Prelude.{length, IfOk, OnOk};
+ghost use Rattle.std.specs.List.{concat};
+ghost use Rattle.std.specs.String.{string_bytes};
+ghost use Rattle.pytree_dump.specs.Layout.{dump_text};
+ghost use Rattle.pytree_dump.specs.Shows.{shown_module};
+ghost use Rattle.pytree_node.specs.TreeOf.{module_of};
+
+use crate::blocks::is_short_module;
+use crate::fields::Field;
+use crate::lines::{Told, is_flat, open, push_before, push_lead};
+use crate::nodes::show_field;
+use crate::parts::Part;
+use crate::statements::show_stmt;
+use crate::styles::Style;
+use pytree_node::{Module, Stmt};
+use std::alloc::{AllocError, Global};
+use std::marker::Model;
+
+/// Where the pieces of a dump stand.
+#[derive(Clone, Copy)]
+enum Stage {
+    /// Before all of them.
+    Begin,
+    /// At a statement, the first of the module or a later one, or behind the last.
+    Statements { first: bool },
+    /// Behind all of them.
+    Done,
+}
+
+/// The dump text of a module, in pieces that are still to come: what begins it, each statement,
+/// what ends it.
+///
+/// So the text need not be held whole. A piece is made when it is asked for.
+#[derive(Drop)]
+pub struct Pieces<'a> {
+    style: Style,
+    stage: Stage,
+    /// The statements that are still to come.
+    body: &'a [Stmt],
+    /// What begins the text.
+    begin: String,
+    /// What ends it.
+    end: String,
+    /// The front of a statement's line.
+    front: String,
+}
+
+impl<'a> Model for Pieces<'a> {
+    ghost use Rattle.std.specs.Prelude.{ℕ, List};
+
+    ghost Value = { List (List ℕ) };
+
+    ghost use Rattle.pytree_dump.specs.Inner.Pieces.{pieces_of};
+
+    ghost view = { pieces_of };
+}
+
+impl<'a> Pieces<'a> {
+    /// All pieces of a module's dump text.
+    pub fn new(alloc: Global, tree: &'a Module, style: Style) -> Result<Pieces<'a>, AllocError>
+        ensures text { IfOk result
+            (λ pieces. concat pieces
+            ≡ dump_text style (shown_module style.profile (module_of tree.now))) }
+        ensures count { IfOk result (λ pieces. length pieces ≡ length tree.now.body.items + 2) }
+    {
+        let body: &[Stmt] = &tree.body;
+        let one_line = is_short_module(style, body);
+        let named = style.names;
+        let mut begin = String::new(alloc);
+        let mut end = String::new(alloc);
+        let mut front = String::from_str(alloc, "\n")?;
+        let _ = open(&mut begin, &mut front, style, "Module(")?;
+        let told = Told {
+            one_line,
+            named,
+            first: true,
+        };
+        push_lead(&mut begin, front.as_str(), told, Field::Body)?;
+        end.push_str("]")?;
+        let told = Told {
+            one_line,
+            named,
+            first: false,
+        };
+        show_field(
+            &mut end,
+            &mut front,
+            style,
+            told,
+            Part::Names(Field::TypeIgnores, &[]),
+        )?;
+        end.push_str(")")?;
+        let _ = open(&mut begin, &mut front, style, "[")?;
+        Ok(Pieces {
+            style,
+            stage: Stage::Begin,
+            body,
+            begin,
+            end,
+            front,
+        })
+    }
+
+    /// Appends the next piece, and tells whether there was one. Behind an error nothing is said of
+    /// the text.
+    pub fn push_next(&mut self, out: &mut String) -> Result<bool, AllocError>
+        ensures text { OnOk result
+            (string_bytes out.new ++ concat self.new ≡ string_bytes out.old ++ concat self.old) }
+        ensures fewer { IfOk result (λ more. more ≡ true → length self.new < length self.old) }
+        ensures end { IfOk result (λ more. more ≡ false → self.new ≡ []) }
+        ensures none { IfOk result (λ more. more ≡ false → self.old ≡ []) }
+        ensures next { IfOk result (λ more. more ≡ true → (piece : List ℕ)
+            × (self.old ≡ piece ∷ self.new)
+            × (string_bytes out.new ≡ string_bytes out.old ++ piece)) }
+    {
+        match self.stage {
+            Stage::Begin => {
+                out.push_str(self.begin.as_str())?;
+                self.stage = Stage::Statements { first: true };
+                Ok(true)
+            }
+            Stage::Statements { first } => {
+                match self.body.split_first() {
+                    Some((s, rest)) => {
+                        push_before(out, self.front.as_str(), is_flat(self.style), first)?;
+                        show_stmt(out, &mut self.front, self.style, s)?;
+                        self.body = rest;
+                        self.stage = Stage::Statements { first: false };
+                    }
+                    None => {
+                        out.push_str(self.end.as_str())?;
+                        self.stage = Stage::Done;
+                    }
+                }
+                Ok(true)
+            }
+            Stage::Done => Ok(false),
+        }
+    }
+}

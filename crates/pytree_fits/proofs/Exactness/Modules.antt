@@ -1,0 +1,151 @@
+-- Carries: the laws by tokens. On: expressions and modules fit exactly where some tokens are these.
+use Rattle.std.proofs.Common.{◌≡◌, refl, sym, ap, subst, ◌∙◌, ℕ, List, [], ◌∷◌, None, Bool, true, false, get_or}
+use Rattle.std.specs.Prelude.{◌==◌, not, map}
+use Rattle.std.specs.List.{list_all}
+use Rattle.std.specs.Char.{is_ascii}
+use Rattle.std.proofs.lemmas.Bool.{and_parts, and_from, both_ways, eqb-true, ltb-true}
+use Rattle.std.proofs.lemmas.List.Recursion.{and_at}
+use Rattle.unicode_ident.proofs.Computing.{unicode_ident}
+use Rattle.unicode_ident.specs.Ident.{is_xid_continue}
+use Rattle.unicode_normalization.specs.Forms.{Nfkc, nfkc}
+use Rattle.unicode_normalization.proofs.FormsLemmas.{normalize-ascii}
+use Rattle.pylex_lexeme.specs.Chars.{starts_name}
+use Rattle.pylex_lexeme.specs.Lexemes as Lexemes
+use Rattle.pytree_node.specs.declared.profiles.Profile.{Profile}
+use Rattle.pytree_node.specs.Trees.{Identifier, Expr, Module, stmts}
+use Rattle.pytoken.specs.Keywords.{keywords, keyword_of}
+use Rattle.pytoken.specs.Terminals.{terminal_of}
+use Rattle.pytoken.specs.Tokens.{Token}
+use Rattle.pytoken.specs.Tokens as Tokens
+use Rattle.pygrammar.specs.declared.levels.Level.{Level}
+use Rattle.pygrammar.specs.Grammar.{Derives}
+use Rattle.pygrammar.specs.Lines.{Line}
+use Rattle.pygrammar.specs.Forms.{FormOf, type_name}
+use Rattle.pygrammar.specs.Blocks.{Block}
+use Rattle.pytree_fits.specs.Names.{is_name}
+use Rattle.pytree_fits.specs.Slots.{fits_at}
+use Rattle.pytree_fits.specs.Statements.{module_fits}
+use Rattle.pytree_fits.specs.Given.{AreGiven, no_line, a_line, GivenModule, Expressed, HaveForms, no_form, a_form, Stated}
+use Rattle.pytree_fits.specs.Laws.{ExpressionsFitExactly, ModulesFitExactly, SlotsAreLawful}
+use Rattle.pytree_fits.proofs.Fields.AsSpelled.{AreGivenAsSpelled, none_spelled, one_spelled, lines_given}
+use Rattle.pytree_fits.proofs.Fitting.Fits.{slots}
+use Rattle.pytree_fits.proofs.Giving.Gives.{made}
+use Rattle.pytree_fits.proofs.Exactness.Exactly.{fits_exactly, targets_fit_exactly, parameters_fit_exactly, arguments_fit_exactly}
+use Rattle.pytree_fits.proofs.Fields.Dots.{is_other}
+use Rattle.pytree_fits.proofs.Fitting.BlockFits.{block_fits, given_fit}
+use Rattle.pytree_fits.proofs.Giving.BlockGives.{of_stmts_back, drawn_all}
+use Rattle.pytree_fits.proofs.Exactness.Tokens.{proper, proper_name, tokens_pass, all_written}
+
+-- ---- A name holds no dot.
+
+dot_goes_on : is_xid_continue 46 ≡ false
+unfolding unicode_ident
+dot_goes_on = refl
+
+dot_starts : starts_name 46 ≡ false
+unfolding unicode_ident
+dot_starts = refl
+
+no_dot : (p : ℕ → Bool) (c : ℕ) → p 46 ≡ false → p c ≡ true → is_other c ≡ true
+no_dot p c none h = by (c == 46) (eqb-true c 46)
+  where
+    by : (b : Bool) → (b ≡ true → c ≡ 46) → not b ≡ true
+    by true e = absurd (both_ways (p 46) none (ap p (sym (e refl)) ∙ h))
+    by false e = refl
+
+no_dots : (cs : List ℕ) → list_all is_xid_continue cs ≡ true → list_all is_other cs ≡ true
+no_dots [] h = refl
+no_dots (c ∷ cs) h =
+    let w = and_parts (is_xid_continue c) (list_all is_xid_continue cs) h in
+    and_from (is_other c) (list_all is_other cs) (no_dot is_xid_continue c dot_goes_on w.0) (no_dots cs w.1)
+
+lexeme_undotted : (x : Identifier) → Lexemes.is_name x ≡ true → list_all is_other x ≡ true
+unfolding Lexemes.is_name
+lexeme_undotted [] h = refl
+lexeme_undotted (c ∷ cs) h =
+    let w = and_parts (starts_name c) (list_all is_xid_continue cs) h in
+    and_from (is_other c) (list_all is_other cs) (no_dot starts_name c dot_starts w.0) (no_dots cs w.1)
+
+pub undotted : (x : Identifier) → is_name x ≡ true → list_all is_other x ≡ true
+undotted x h = lexeme_undotted x (proper x h).name
+
+-- ---- `type` is a name.
+
+type_named : Lexemes.is_name type_name ≡ true
+unfolding unicode_ident Lexemes.is_name
+type_named = refl
+
+type_free : keyword_of type_name ≡ None
+unfolding keywords keyword_of
+type_free = refl
+
+type_form : nfkc type_name ≡ type_name
+type_form = normalize-ascii Nfkc type_name (λ i d within. ltb-true (get_or type_name i d) 128 (and_at (list_all is_ascii) is_ascii refl (λ x xs. refl) type_name i d within refl))
+
+pub type_is_name : is_name type_name ≡ true
+type_is_name = proper_name type_name (record { name = type_named; free = type_free; form = type_form })
+
+-- ---- Modules by terminals.
+
+pub module_exactly : (profile : Profile) (m : Module) → GivenModule profile is_name m → module_fits profile is_name m ≡ true
+module_exactly profile m w = block_fits profile is_name w.2 (given_fit profile is_name undotted w.1)
+
+module_as_spelled : (profile : Profile) (m : Module) → module_fits profile is_name m ≡ true → (xs : List Line) × AreGivenAsSpelled profile is_name xs × Block 0 xs m.body
+module_as_spelled profile m h =
+    let d = drawn_all profile is_name type_is_name 0 (stmts m.body) h in
+    (d.lines, d.given, subst (Block 0 d.lines) (of_stmts_back m.body) d.is)
+
+pub module_given : (profile : Profile) (m : Module) → module_fits profile is_name m ≡ true → GivenModule profile is_name m
+module_given profile m h = let w = module_as_spelled profile m h in (w.0, lines_given is_name w.1, w.2)
+
+-- ---- By tokens.
+
+expressed_fits : (l : Level) (e : Expr) → Expressed l e → fits_at is_name l e ≡ true
+expressed_fits l e x = slots is_name x.derived (tokens_pass x.tokens x.sound)
+
+fits_expressed : (l : Level) (e : Expr) → fits_at is_name l e ≡ true → Expressed l e
+fits_expressed l e h =
+    let w = made is_name l e h in
+    let t = all_written w.0 w.1 in
+    record { tokens = t.tokens; sound = t.of_source; derived = subst (λ z. Derives l z e) (sym t.terminals) w.2 }
+
+pub expressions_fit_exactly : ExpressionsFitExactly
+expressions_fit_exactly l e = (expressed_fits l e, fits_expressed l e)
+
+forms_given : {profile : Profile} {xs : List Tokens.Line} {ys : List Line} → HaveForms profile xs ys → AreGiven profile is_name ys
+forms_given no_form = no_line
+forms_given (a_form {x = x} s f r) = a_line (map (λ (t : Token). terminal_of t.kind t.text) x.tokens, tokens_pass x.tokens s, f) (forms_given r)
+
+record Tokened (profile : Profile) (ys : List Line) : Type 0 where
+  lines : List Tokens.Line
+  formed : HaveForms profile lines ys
+
+tokened : {profile : Profile} {ys : List Line} → AreGivenAsSpelled profile is_name ys → Tokened profile ys
+tokened none_spelled = record { lines = []; formed = no_form }
+tokened {profile} (one_spelled {x = y} w r) =
+    let t = all_written w.0 w.1 in
+    let k = tokened r in
+    let x : Tokens.Line = record { level = y.level; tokens = t.tokens } in
+    record { lines = x ∷ k.lines; formed = a_form {x = x} t.of_source (subst (λ z. FormOf profile z y.form) (sym t.terminals) w.2) k.formed }
+
+stated_fits : (profile : Profile) (m : Module) → Stated profile m → module_fits profile is_name m ≡ true
+stated_fits profile m s = module_exactly profile m (s.forms, forms_given s.formed, s.block)
+
+fits_stated : (profile : Profile) (m : Module) → module_fits profile is_name m ≡ true → Stated profile m
+fits_stated profile m h =
+    let w = module_as_spelled profile m h in
+    let k = tokened w.1 in
+    record { lines = k.lines; forms = w.0; formed = k.formed; block = w.2 }
+
+pub modules_fit_exactly : ModulesFitExactly
+modules_fit_exactly profile m = (stated_fits profile m, fits_stated profile m)
+
+pub slots_are_lawful : SlotsAreLawful
+slots_are_lawful = record {
+  exact = fits_exactly;
+  targets = targets_fit_exactly;
+  parameters = parameters_fit_exactly;
+  arguments = arguments_fit_exactly;
+  expressions = expressions_fit_exactly;
+  modules = modules_fit_exactly;
+}

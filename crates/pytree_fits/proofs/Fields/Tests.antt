@@ -1,0 +1,128 @@
+-- Carries: the laws of the slots. On: tests that hold together, values that are
+-- there, terminals that pass.
+use Rattle.std.proofs.Common.{◌≡◌, refl, subst, ℕ, map, List, [], ◌∷◌, ◌++◌, Option, Some, None, Bool, true, false}
+use Rattle.std.specs.Prelude.{◌&&◌, not}
+use Rattle.std.specs.List.{list_all}
+use Rattle.std.proofs.lemmas.Bool.{and_parts, and_from}
+use Rattle.pylex_lexeme.specs.declared.kinds.Exact.TheVariants.{Ellipsis}
+use Rattle.pytoken.specs.declared.keywords.Keyword.TheVariants as Key
+use Rattle.pytree_node.specs.declared.operators.Context.{Context}
+use Rattle.pytree_node.specs.declared.operators.Context.TheVariants.{Load, Store, Del}
+use Rattle.pytree_node.specs.Trees
+use Rattle.pytree_node.specs.Trees.{Identifier, Expr, Exprs, an_expr}
+use Rattle.pytree_node.specs.Values
+use Rattle.pytoken.specs.Terminals.{Terminal, Op, Word, Literal}
+use Rattle.pygrammar.specs.Constants.{constant_word, joined}
+use Rattle.pygrammar.specs.Targets.{mapped, both, stored}
+use Rattle.pytoken.specs.Laws.{is_point, is_byte}
+use Rattle.pytree_fits.specs.Literals.{is_value}
+use Rattle.pytree_fits.specs.Slots.{is_context}
+use Rattle.pytree_fits.specs.Given.{is_literal, passes, all_pass}
+
+-- ---- Three and four tests.
+
+pub parts3 : (x y z : Bool) → (x && y && z) ≡ true → (x ≡ true) × (y ≡ true) × (z ≡ true)
+parts3 true y z h = let w = and_parts y z h in (refl, w.0, w.1)
+parts3 false y z h = absurd (cc)
+
+pub from3 : (x y z : Bool) → x ≡ true → y ≡ true → z ≡ true → (x && y && z) ≡ true
+from3 true y z p q r = and_from y z q r
+from3 false y z p q r = absurd (cc)
+
+pub parts4 : (x y z u : Bool) → (x && y && z && u) ≡ true → (x ≡ true) × (y ≡ true) × (z ≡ true) × (u ≡ true)
+parts4 true y z u h = let w = parts3 y z u h in (refl, w.0, w.1, w.2)
+parts4 false y z u h = absurd (cc)
+
+pub from4 : (x y z u : Bool) → x ≡ true → y ≡ true → z ≡ true → u ≡ true → (x && y && z && u) ≡ true
+from4 true y z u p q r t = from3 y z u q r t
+from4 false y z u p q r t = absurd (cc)
+
+pub not_true : (b : Bool) → not b ≡ true → b ≡ false
+not_true true h = absurd (cc)
+not_true false h = refl
+
+pub never : ◌≡◌ {A = Bool} false true → ⊥
+never h = absurd (cc)
+
+-- ---- What is there.
+
+pub given : {A : Type 0} (P : A → Type 0) {a b : A} → ◌≡◌ {A = Option A} (Some a) (Some b) → P a → P b
+given {A} P {a} {b} h p = subst P (same a b h) p
+  where
+    same : (a b : A) → ◌≡◌ {A = Option A} (Some a) (Some b) → a ≡ b
+    same a b h = cc
+
+pub mapped_is : {A B : Type 0} (f : A → B) (o : Option A) (b : B) → mapped f o ≡ Some b → (a : A) × (o ≡ Some a) × (f a ≡ b)
+mapped_is {A} {B} f None b h = absurd (cc)
+mapped_is {A} {B} f (Some a) b h = (a, refl, given (λ x. f a ≡ x) h refl)
+
+pub both_is : (o : Option Expr) (p : Option Exprs) (z : Exprs) → both o p ≡ Some z → (e : Expr) × (es : Exprs) × (o ≡ Some e) × (p ≡ Some es) × (an_expr e es ≡ z)
+both_is None p z h = absurd (cc)
+both_is (Some e) None z h = absurd (cc)
+both_is (Some e) (Some es) z h = (e, es, refl, refl, given (λ x. an_expr e es ≡ x) h refl)
+
+pub both_some : (o : Option Expr) (p : Option Exprs) (e : Expr) (es : Exprs) → o ≡ Some e → p ≡ Some es → both o p ≡ Some (an_expr e es)
+both_some o p e es h g = rw (h, g) refl
+
+pub star_stored : (e : Expr) (c : Context) (s : Expr) → stored (Trees.Starred e c) ≡ Some s → (f : Expr) × (stored e ≡ Some f) × (Trees.Starred f Store ≡ s)
+star_stored (Trees.Starred e d) c s h = absurd (cc)
+star_stored e c s h = mapped_is (λ f. Trees.Starred f Store) (stored e) s h
+
+-- a node with the context of its place
+pub in_context : (P : Context → Type 0) (k c : Context) → is_context k c ≡ true → P k → P c
+in_context P Load Load h p = p
+in_context P Load Store h p = absurd (cc)
+in_context P Load Del h p = absurd (cc)
+in_context P Store Load h p = absurd (cc)
+in_context P Store Store h p = p
+in_context P Store Del h p = absurd (cc)
+in_context P Del Load h p = absurd (cc)
+in_context P Del Store h p = absurd (cc)
+in_context P Del Del h p = p
+
+-- ---- Terminals that pass.
+
+module _ (n : Identifier → Bool) where
+  pub left : (ts us : List Terminal) → all_pass n (ts ++ us) ≡ true → all_pass n ts ≡ true
+  left [] us s = refl
+  left (t ∷ ts) us s = let w = and_parts (passes n t) (all_pass n (ts ++ us)) s in and_from (passes n t) (all_pass n ts) w.0 (left ts us w.1)
+
+  pub right : (ts us : List Terminal) → all_pass n (ts ++ us) ≡ true → all_pass n us ≡ true
+  right [] us s = s
+  right (t ∷ ts) us s = right ts us (and_parts (passes n t) (all_pass n (ts ++ us)) s).1
+
+  pub behind : (t : Terminal) (ts : List Terminal) → all_pass n (t ∷ ts) ≡ true → all_pass n ts ≡ true
+  behind t ts s = (and_parts (passes n t) (all_pass n ts) s).1
+
+  pub pass_on : (ts us : List Terminal) → all_pass n ts ≡ true → all_pass n us ≡ true → all_pass n (ts ++ us) ≡ true
+  pass_on [] us p q = q
+  pass_on (t ∷ ts) us p q = let w = and_parts (passes n t) (all_pass n ts) p in and_from (passes n t) (all_pass n (ts ++ us)) w.0 (pass_on ts us w.1 q)
+
+-- ---- Constants.
+
+pub word_value : (t : Terminal) (v : Values.Value) → constant_word t ≡ Some v → is_value v ≡ true
+word_value (Word Key.None) v h = given (λ z. is_value z ≡ true) h refl
+word_value (Word Key.True) v h = given (λ z. is_value z ≡ true) h refl
+word_value (Word Key.False) v h = given (λ z. is_value z ≡ true) h refl
+word_value (Op Ellipsis) v h = given (λ z. is_value z ≡ true) h refl
+word_value _ v h = absurd (cc)
+
+pub literal_value : (v : Values.Value) → is_literal v ≡ true → is_value v ≡ true
+literal_value (Values.Str t u) h = h
+literal_value (Values.Bytes t) h = h
+literal_value _ h = absurd (never h)
+
+all_on : (p : ℕ → Bool) (xs ys : List ℕ) → list_all p xs ≡ true → list_all p ys ≡ true → list_all p (xs ++ ys) ≡ true
+all_on p [] ys h g = g
+all_on p (x ∷ xs) ys h g = let w = and_parts (p x) (list_all p xs) h in and_from (p x) (list_all p (xs ++ ys)) w.0 (all_on p xs ys w.1 g)
+
+-- literals side by side
+pub joined_value : (n : Identifier → Bool) (v w : Values.Value) (vs : List Values.Value) → is_literal v ≡ true → all_pass n (map Literal vs) ≡ true → joined v vs ≡ Some w → is_value w ≡ true
+joined_value n v w [] p q h = given (λ z. is_value z ≡ true) h (literal_value v p)
+joined_value n (Values.Str t u) w (Values.Str s x ∷ vs) p q h =
+    let r = and_parts (list_all is_point s) (all_pass n (map Literal vs)) q in
+    joined_value n (Values.Str (t ++ s) u) w vs (all_on is_point t s p r.0) r.1 h
+joined_value n (Values.Bytes t) w (Values.Bytes s ∷ vs) p q h =
+    let r = and_parts (list_all is_byte s) (all_pass n (map Literal vs)) q in
+    joined_value n (Values.Bytes (t ++ s)) w vs (all_on is_byte t s p r.0) r.1 h
+joined_value n _ w (_ ∷ vs) p q h = absurd (cc)

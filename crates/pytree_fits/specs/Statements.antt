@@ -1,0 +1,166 @@
+-- Which statements and modules the grammar gives in a version of Python to some lines, with no regard to heights (reference 7 and 8).
+-- Each function takes the test of names, and those that ask for it the version.
+use Rattle.std.specs.Prelude.{ℕ, ◌==◌, nat_lt, Bool, true, false, ◌&&◌, ◌||◌, not, cond, List, [], ◌∷◌, Option, Some, None, is_none}
+use Rattle.std.specs.List.{list_all}
+use Rattle.pylex_lexeme.specs.Characters.{full_stop}
+use Rattle.pytree_node.specs.declared.operators.Context.TheVariants.{Store, Del}
+use Rattle.pytree_node.specs.declared.profiles.Profile.{Profile}
+use Rattle.pytree_node.specs.Trees
+use Rattle.pytree_node.specs.Trees.{Identifier, Expr, exprs, optional, Stmt, Stmts, no_stmt, a_stmt, stmts, Handlers, no_handler, a_handler, Alias, Item, TypeParam, Module}
+use Rattle.pygrammar.specs.declared.levels.Level.TheVariants.{Value, Stars, Expression, Elem}
+use Rattle.pygrammar.specs.Lines.{no_types}
+use Rattle.pygrammar.specs.Forms.{has_types}
+use Rattle.pytree_fits.specs.Slots.{is_a_name, is_single, perhaps_name, fits_at, fits_target, each_target_fits, each_fits, perhaps_fits, each_keyword_fits, fits_arguments}
+
+abbrev pub has_one : {A : Type 0} → List A → Bool
+has_one [] = false
+has_one (a ∷ rest) = true
+
+abbrev pub has_stmt : Stmts → Bool
+has_stmt no_stmt = false
+has_stmt (a_stmt s ss) = true
+
+abbrev pub has_handler : Handlers → Bool
+has_handler no_handler = false
+has_handler (a_handler class name body hs) = true
+
+-- ---- Names.
+
+abbrev pub lengthen : ℕ → List Identifier → List Identifier
+lengthen c [] = (c ∷ []) ∷ []
+lengthen c (part ∷ parts) = (c ∷ part) ∷ parts
+
+-- what stands between the dots of a name
+abbrev pub parts : Identifier → List Identifier
+parts [] = [] ∷ []
+parts (c ∷ cs) = cond (c == full_stop) ([] ∷ parts cs) (lengthen c (parts cs))
+
+-- the name of a module: names with dots between
+abbrev pub dotted : (Identifier → Bool) → Identifier → Bool
+dotted n x = list_all n (parts x)
+
+-- what `import` imports
+abbrev pub import_fits : (Identifier → Bool) → Alias → Bool
+import_fits n a = dotted n a.name && perhaps_name n a.asname
+
+-- one of the names that are imported from a module
+abbrev pub alias_fits : (Identifier → Bool) → Alias → Bool
+alias_fits n a = n a.name && perhaps_name n a.asname
+
+-- the name `*`
+abbrev pub is_star : Identifier → Bool
+is_star (c ∷ []) = c == 42
+is_star _ = false
+
+abbrev pub is_all : List Alias → Bool
+is_all (a ∷ []) = is_star a.name && is_none a.asname
+is_all _ = false
+
+-- what is imported from a module: names, or all of them
+abbrev pub imports_fit : (Identifier → Bool) → List Alias → Bool
+imports_fit n names = is_all names || (has_one names && list_all (alias_fits n) names)
+
+-- the module that names are imported from; without one a dot is needed
+abbrev pub source_fits : (Identifier → Bool) → Option Identifier → (level : ℕ) → Bool
+source_fits n None level = nat_lt 0 level
+source_fits n (Some m) level = dotted n m
+
+-- ---- Parts.
+
+abbrev pub perhaps_target_fits : (Identifier → Bool) → Option Expr → Bool
+perhaps_target_fits n None = true
+perhaps_target_fits n (Some e) = fits_target n Store e
+
+-- what `with` opens, and the target of that
+abbrev pub item_fits : (Identifier → Bool) → Item → Bool
+item_fits n i = fits_at n Expression i.context_expr && perhaps_target_fits n i.optional_vars
+
+abbrev pub type_param_fits : (Identifier → Bool) → TypeParam → Bool
+type_param_fits n (Trees.TypeVar name bound) = n name && perhaps_fits n Expression (optional bound)
+type_param_fits n (Trees.ParamSpec name) = n name
+type_param_fits n (Trees.TypeVarTuple name) = n name
+
+-- parameters of types, in a version that has these
+abbrev pub types_fit : Profile → (Identifier → Bool) → List TypeParam → Bool
+types_fit profile n ps = (no_types ps || has_types profile) && list_all (type_param_fits n) ps
+
+-- what `raise` raises, and from what
+abbrev pub raised_fits : (Identifier → Bool) → Option Expr → Option Expr → Bool
+raised_fits n exc None = perhaps_fits n Expression (optional exc)
+raised_fits n None (Some cause) = false
+raised_fits n (Some exc) (Some cause) = fits_at n Expression exc && fits_at n Expression cause
+
+-- what an `except` catches, and its name there; only one without a star catches all
+abbrev pub caught_fits : (Identifier → Bool) → (star : Bool) → Option Expr → Option Identifier → Bool
+caught_fits n star None name = not star && is_none name
+caught_fits n star (Some class) name = fits_at n Expression class && perhaps_name n name
+
+-- without an `except` there is no `else`, but a `finally`, and no star
+abbrev pub clauses_fit : (star : Bool) → Handlers → (orelse finalbody : Stmts) → Bool
+clauses_fit star no_handler orelse finalbody = not star && not (has_stmt orelse) && has_stmt finalbody
+clauses_fit star (a_handler class name body hs) orelse finalbody = true
+
+-- ---- Statements.
+
+abbrev mutual
+  pub statement_fits : Profile → (Identifier → Bool) → Stmt → Bool
+  statement_fits p n (Trees.FunctionDef name args body decorators returns parameters) =
+      n name && fits_arguments n true args && each_fits n Expression (exprs decorators) && perhaps_fits n Expression (optional returns)
+      && types_fit p n parameters && suite_fits p n body
+  statement_fits p n (Trees.AsyncFunctionDef name args body decorators returns parameters) =
+      n name && fits_arguments n true args && each_fits n Expression (exprs decorators) && perhaps_fits n Expression (optional returns)
+      && types_fit p n parameters && suite_fits p n body
+  statement_fits p n (Trees.ClassDef name bases keywords body decorators parameters) =
+      n name && each_fits n Elem (exprs bases) && each_keyword_fits n keywords && each_fits n Expression (exprs decorators)
+      && types_fit p n parameters && suite_fits p n body
+  statement_fits p n (Trees.Return value) = perhaps_fits n Stars (optional value)
+  statement_fits p n (Trees.Delete targets) = has_one targets && each_target_fits n Del (exprs targets)
+  statement_fits p n (Trees.Assign targets value) = has_one targets && each_target_fits n Store (exprs targets) && fits_at n Value value
+  statement_fits p n (Trees.TypeAlias name parameters value) =
+      has_types p && is_a_name name && fits_target n Store name && list_all (type_param_fits n) parameters && fits_at n Expression value
+  statement_fits p n (Trees.AugAssign target op value) = is_single target && fits_target n Store target && fits_at n Value value
+  statement_fits p n (Trees.AnnAssign target annotation value simple) =
+      is_single target && (not simple || is_a_name target) && fits_target n Store target && fits_at n Expression annotation
+      && perhaps_fits n Value (optional value)
+  statement_fits p n (Trees.For target iter body orelse) =
+      fits_target n Store target && fits_at n Stars iter && suite_fits p n body && statements_fit p n orelse
+  statement_fits p n (Trees.AsyncFor target iter body orelse) =
+      fits_target n Store target && fits_at n Stars iter && suite_fits p n body && statements_fit p n orelse
+  statement_fits p n (Trees.While test body orelse) = fits_at n Expression test && suite_fits p n body && statements_fit p n orelse
+  statement_fits p n (Trees.If test body orelse) = fits_at n Expression test && suite_fits p n body && statements_fit p n orelse
+  statement_fits p n (Trees.With items body) = has_one items && list_all (item_fits n) items && suite_fits p n body
+  statement_fits p n (Trees.AsyncWith items body) = has_one items && list_all (item_fits n) items && suite_fits p n body
+  statement_fits p n (Trees.Raise exc cause) = raised_fits n exc cause
+  statement_fits p n (Trees.Try body handlers orelse finalbody) =
+      clauses_fit false handlers orelse finalbody && suite_fits p n body && handlers_fit p n false handlers
+      && statements_fit p n orelse && statements_fit p n finalbody
+  statement_fits p n (Trees.TryStar body handlers orelse finalbody) =
+      clauses_fit true handlers orelse finalbody && suite_fits p n body && handlers_fit p n true handlers
+      && statements_fit p n orelse && statements_fit p n finalbody
+  statement_fits p n (Trees.Assert test msg) = fits_at n Expression test && perhaps_fits n Expression (optional msg)
+  statement_fits p n (Trees.Import names) = has_one names && list_all (import_fits n) names
+  statement_fits p n (Trees.ImportFrom source names level) = source_fits n source level && imports_fit n names
+  statement_fits p n (Trees.Global names) = has_one names && list_all n names
+  statement_fits p n (Trees.Nonlocal names) = has_one names && list_all n names
+  statement_fits p n (Trees.ExprOf value) = fits_at n Value value
+  statement_fits p n Trees.Pass = true
+  statement_fits p n Trees.Break = true
+  statement_fits p n Trees.Continue = true
+
+  pub statements_fit : Profile → (Identifier → Bool) → Stmts → Bool
+  statements_fit p n no_stmt = true
+  statements_fit p n (a_stmt s ss) = statement_fits p n s && statements_fit p n ss
+
+  -- the block of a header: there is a statement
+  pub suite_fits : Profile → (Identifier → Bool) → Stmts → Bool
+  suite_fits p n no_stmt = false
+  suite_fits p n (a_stmt s ss) = statement_fits p n s && statements_fit p n ss
+
+  pub handlers_fit : Profile → (Identifier → Bool) → (star : Bool) → Handlers → Bool
+  handlers_fit p n star no_handler = true
+  handlers_fit p n star (a_handler class name body hs) =
+      caught_fits n star class name && suite_fits p n body && handlers_fit p n star hs
+
+-- the statements of a module
+abbrev pub module_fits : Profile → (Identifier → Bool) → Module → Bool
+module_fits p n m = statements_fit p n (stmts m.body)

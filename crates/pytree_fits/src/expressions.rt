@@ -1,0 +1,267 @@
+//! Whether expressions fit their places.
+
+ghost use Rattle.std.specs.Prelude.{◌≡◌, ◌&&◌, IfOk, map};
+ghost use Rattle.pytree_node.specs.declared.operators.Context.TheVariants as contexts;
+ghost use Rattle.pygrammar.specs.declared.levels.Level.TheVariants as levels;
+ghost use Rattle.pytree_node.specs.TreeOf.{boxed_of, comprehension_of, keyword_of, option_of, tree_of};
+ghost use Rattle.pytree_node.specs.Trees.{comprehensions, exprs, keywords, optional, optionals};
+ghost use Rattle.pytree_fits.specs.Names.{is_name};
+ghost use Rattle.pytree_fits.specs.Slots.{each_clause_fits, each_fits, each_keyword_fits};
+ghost use Rattle.pytree_fits.specs.Slots.{each_perhaps_fits, fits_at, fits_target, perhaps_fits};
+ghost use Rattle.pytree_fits.specs.Slots.{perhaps_name};
+
+use crate::leaves::{
+    are_at_least, are_comparisons, are_pairs, constant_fits, has_clause, optional_name_fits,
+};
+use crate::names::is_name;
+use crate::parameters::parameters_fit;
+use crate::places::{is_a_name, is_context, member_level, takes_slice, takes_star};
+use crate::targets::target_fits;
+use pygrammar::Level;
+use pytree_node::{Comprehension, Context, Expr, Keyword};
+use std::alloc::{AllocError, Global};
+
+/// Whether an expression fits a level of the grammar: whether each of its fields has what may stand
+/// there. `Err` is want of memory alone, which the test of names may meet.
+#[cycle(fits)]
+#[tactic(auto, using(pytree_node::proofs::Callers::ExprShapes::expr_shapes))]
+pub fn expr_fits(alloc: Global, expr: &Expr, level: Level) -> Result<bool, AllocError>
+    ensures { IfOk result (λ told. told ≡ fits_at is_name level (tree_of expr.now)) }
+{
+    match expr {
+        Expr::BoolOp { values, .. } => Ok(
+            are_at_least(values, 2) && exprs_fit(alloc, values, Level::Expression)?,
+        ),
+        Expr::NamedExpr { target, value } => Ok(
+            is_a_name(target)
+                && target_fits(alloc, target, Context::Store)?
+                && expr_fits(alloc, value, Level::Expression)?,
+        ),
+        Expr::BinOp { left, right, .. } => Ok(
+            expr_fits(alloc, left, Level::Expression)?
+                && expr_fits(alloc, right, Level::Expression)?,
+        ),
+        Expr::UnaryOp { operand, .. } => expr_fits(alloc, operand, Level::Expression),
+        Expr::Lambda { args, body } => Ok(
+            parameters_fit(alloc, args, false)? && expr_fits(alloc, body, Level::Expression)?,
+        ),
+        Expr::IfExp { test, body, orelse } => Ok(
+            expr_fits(alloc, test, Level::Expression)?
+                && expr_fits(alloc, body, Level::Expression)?
+                && expr_fits(alloc, orelse, Level::Expression)?,
+        ),
+        Expr::Dict { keys, values } => Ok(
+            are_pairs(keys, values)
+                && options_fit(alloc, keys)?
+                && exprs_fit(alloc, values, Level::Expression)?,
+        ),
+        Expr::Set { elts } => Ok(are_at_least(elts, 1) && exprs_fit(alloc, elts, Level::Elem)?),
+        Expr::ListComp { elt, generators } => Ok(
+            has_clause(generators)
+                && expr_fits(alloc, elt, Level::Expression)?
+                && clauses_fit(alloc, generators)?,
+        ),
+        Expr::SetComp { elt, generators } => Ok(
+            has_clause(generators)
+                && expr_fits(alloc, elt, Level::Expression)?
+                && clauses_fit(alloc, generators)?,
+        ),
+        Expr::DictComp {
+            key,
+            value,
+            generators,
+        } => {
+            if !has_clause(generators) {
+                return Ok(false);
+            }
+            if !expr_fits(alloc, key, Level::Expression)? {
+                return Ok(false);
+            }
+            if !expr_fits(alloc, value, Level::Expression)? {
+                return Ok(false);
+            }
+            clauses_fit(alloc, generators)
+        }
+        Expr::GeneratorExp { elt, generators } => Ok(
+            has_clause(generators)
+                && expr_fits(alloc, elt, Level::Expression)?
+                && clauses_fit(alloc, generators)?,
+        ),
+        Expr::Await { value } => expr_fits(alloc, value, Level::Expression),
+        Expr::Yield { value } => boxed_fits(alloc, value, Level::Stars),
+        Expr::YieldFrom { value } => expr_fits(alloc, value, Level::Expression),
+        Expr::Compare {
+            left,
+            ops,
+            comparators,
+        } => {
+            if !are_comparisons(ops, comparators) {
+                return Ok(false);
+            }
+            if !expr_fits(alloc, left, Level::Expression)? {
+                return Ok(false);
+            }
+            exprs_fit(alloc, comparators, Level::Expression)
+        }
+        Expr::Call {
+            func,
+            args,
+            keywords,
+        } => {
+            if !expr_fits(alloc, func, Level::Expression)? {
+                return Ok(false);
+            }
+            if !exprs_fit(alloc, args, Level::Elem)? {
+                return Ok(false);
+            }
+            keywords_fit(alloc, keywords)
+        }
+        Expr::Constant { value } => Ok(constant_fits(value)),
+        Expr::Attribute { value, attr, ctx } => Ok(
+            is_context(Context::Load, *ctx)
+                && is_name(alloc, attr.as_str())?
+                && expr_fits(alloc, value, Level::Expression)?,
+        ),
+        Expr::Subscript { value, slice, ctx } => Ok(
+            is_context(Context::Load, *ctx)
+                && expr_fits(alloc, value, Level::Expression)?
+                && expr_fits(alloc, slice, Level::Slices)?,
+        ),
+        Expr::Starred { value, ctx } => Ok(
+            takes_star(level)
+                && is_context(Context::Load, *ctx)
+                && expr_fits(alloc, value, Level::Expression)?,
+        ),
+        Expr::Name { id, ctx } => Ok(
+            is_context(Context::Load, *ctx) && is_name(alloc, id.as_str())?,
+        ),
+        Expr::List { elts, ctx } => Ok(
+            is_context(Context::Load, *ctx) && exprs_fit(alloc, elts, Level::Elem)?,
+        ),
+        Expr::Tuple { elts, ctx } => Ok(
+            is_context(Context::Load, *ctx) && exprs_fit(alloc, elts, member_level(level))?,
+        ),
+        Expr::Slice { lower, upper, step } => {
+            if !takes_slice(level) {
+                return Ok(false);
+            }
+            if !boxed_fits(alloc, lower, Level::Expression)? {
+                return Ok(false);
+            }
+            if !boxed_fits(alloc, upper, Level::Expression)? {
+                return Ok(false);
+            }
+            boxed_fits(alloc, step, Level::Expression)
+        }
+    }
+}
+
+/// Whether an expression that may be absent fits a level.
+#[cycle(fits)]
+#[tactic(auto, using(pytree_node::proofs::Callers::ExprShapes::expr_shapes))]
+pub(crate) fn boxed_fits(
+    alloc: Global,
+    expr: &Option<Box<Expr>>,
+    level: Level,
+) -> Result<bool, AllocError>
+    ensures { IfOk result
+        (λ told. told ≡ perhaps_fits is_name level (optional (boxed_of expr.now))) }
+{
+    match expr {
+        None => Ok(true),
+        Some(expr) => expr_fits(alloc, expr, level),
+    }
+}
+
+/// Whether each of some expressions fits a level.
+#[cycle(fits)]
+#[tactic(auto, using(pytree_node::proofs::Callers::ExprShapes::expr_shapes))]
+pub(crate) fn exprs_fit(alloc: Global, es: &[Expr], level: Level) -> Result<bool, AllocError>
+    ensures { IfOk result (λ told. told ≡ each_fits is_name level (exprs (map tree_of es.now))) }
+{
+    for e in es {
+        if !expr_fits(alloc, e, level)? {
+            return Ok(false);
+        }
+    }
+    Ok(true)
+}
+
+/// Whether each of some expressions fits, of those that are there.
+#[cycle(fits)]
+#[tactic(auto, using(pytree_node::proofs::Callers::ExprShapes::expr_shapes))]
+pub(crate) fn options_fit(alloc: Global, es: &[Option<Expr>]) -> Result<bool, AllocError>
+    ensures { IfOk result
+        (λ told. told ≡ each_perhaps_fits is_name (optionals (map option_of es.now))) }
+{
+    for e in es {
+        let fits = match e {
+            None => true,
+            Some(e) => expr_fits(alloc, e, Level::Expression)?,
+        };
+        if !fits {
+            return Ok(false);
+        }
+    }
+    Ok(true)
+}
+
+/// Whether an argument by name fits.
+#[cycle(fits)]
+#[tactic(auto, using(pytree_node::proofs::Callers::ExprShapes::expr_shapes))]
+fn keyword_fits(alloc: Global, k: &Keyword) -> Result<bool, AllocError>
+    ensures { IfOk result
+        (λ told. told
+        ≡ (perhaps_name is_name (keyword_of k.now).arg && fits_at is_name levels.Expression
+        (keyword_of k.now).value)) }
+{
+    Ok(optional_name_fits(alloc, &k.arg)? && expr_fits(alloc, &k.value, Level::Expression)?)
+}
+
+/// Whether each of some arguments by name fits.
+#[cycle(fits)]
+#[tactic(auto, using(pytree_node::proofs::Callers::ExprShapes::expr_shapes))]
+pub(crate) fn keywords_fit(alloc: Global, ks: &[Keyword]) -> Result<bool, AllocError>
+    ensures { IfOk result
+        (λ told. told ≡ each_keyword_fits is_name (keywords (map keyword_of ks.now))) }
+{
+    for k in ks {
+        if !keyword_fits(alloc, k)? {
+            return Ok(false);
+        }
+    }
+    Ok(true)
+}
+
+/// Whether a `for` clause fits.
+#[cycle(fits)]
+#[tactic(auto, using(pytree_node::proofs::Callers::ExprShapes::expr_shapes))]
+fn clause_fits(alloc: Global, c: &Comprehension) -> Result<bool, AllocError>
+    ensures { IfOk result
+        (λ told. told
+        ≡ (fits_target is_name contexts.Store
+        (comprehension_of c.now).target && fits_at is_name levels.Expression
+        (comprehension_of c.now).iter && each_fits is_name levels.Expression
+        (exprs (comprehension_of c.now).ifs))) }
+{
+    Ok(
+        target_fits(alloc, &c.target, Context::Store)?
+            && expr_fits(alloc, &c.iter, Level::Expression)?
+            && exprs_fit(alloc, &c.ifs, Level::Expression)?,
+    )
+}
+
+/// Whether each of some `for` clauses fits.
+#[cycle(fits)]
+#[tactic(auto, using(pytree_node::proofs::Callers::ExprShapes::expr_shapes))]
+fn clauses_fit(alloc: Global, cs: &[Comprehension]) -> Result<bool, AllocError>
+    ensures { IfOk result
+        (λ told. told ≡ each_clause_fits is_name (comprehensions (map comprehension_of cs.now))) }
+{
+    for c in cs {
+        if !clause_fits(alloc, c)? {
+            return Ok(false);
+        }
+    }
+    Ok(true)
+}

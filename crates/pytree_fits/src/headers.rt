@@ -1,0 +1,183 @@
+//! Whether the headers of compound statements fit, by their fields.
+
+ghost use Rattle.std.specs.Prelude.{◌≡◌, ◌&&◌, IfOk, map, true};
+ghost use Rattle.std.specs.List.{list_all};
+ghost use Rattle.pygrammar.specs.declared.levels.Level.TheVariants as levels;
+ghost use Rattle.pytree_node.specs.declared.operators.Context.TheVariants as contexts;
+ghost use Rattle.pytree_node.specs.TreeOf.{arguments_of, boxed_of, handler_of, item_of, keyword_of};
+ghost use Rattle.pytree_node.specs.TreeOf.{option_of, stmt_of, tree_of, type_param_of};
+ghost use Rattle.pytree_node.specs.Trees.{exprs, handlers, keywords, optional, stmts};
+ghost use Rattle.pytree_fits.specs.Names.{is_name};
+ghost use Rattle.pytree_fits.specs.Slots.{each_fits, each_keyword_fits, fits_arguments, fits_at};
+ghost use Rattle.pytree_fits.specs.Slots.{fits_target, perhaps_fits};
+ghost use Rattle.pytree_fits.specs.Statements.{caught_fits, clauses_fit, has_one, item_fits};
+ghost use Rattle.pytree_fits.specs.Statements.{perhaps_target_fits, types_fit};
+
+use crate::expressions::{boxed_fits, expr_fits, exprs_fit, keywords_fit};
+use crate::leaves::optional_name_fits;
+use crate::names::is_name;
+use crate::parameters::parameters_fit;
+use crate::simple::type_params_fit;
+use crate::targets::target_fits;
+use pygrammar::Level;
+use pytree_node::{
+    Arguments, Context, Expr, Handler, Identifier, Item, Keyword, Profile, Stmt, TypeParam,
+};
+use std::alloc::{AllocError, Global};
+
+/// Whether a `def` fits, but for its body.
+pub(crate) fn function_head_fits(
+    alloc: Global,
+    profile: Profile,
+    name: &Identifier,
+    args: &Arguments,
+    decorators: &[Expr],
+    returns: &Option<Box<Expr>>,
+    parameters: &[TypeParam],
+) -> Result<bool, AllocError>
+    ensures { IfOk result
+        (λ told. told
+        ≡ (is_name name.now && fits_arguments is_name true
+        (arguments_of args.now) && each_fits is_name levels.Expression
+        (exprs (map tree_of decorators.now)) && perhaps_fits is_name levels.Expression
+        (optional (boxed_of returns.now)) && types_fit profile is_name
+        (map type_param_of parameters.now))) }
+{
+    if !is_name(alloc, name.as_str())? {
+        return Ok(false);
+    }
+    if !parameters_fit(alloc, args, true)? {
+        return Ok(false);
+    }
+    if !exprs_fit(alloc, decorators, Level::Expression)? {
+        return Ok(false);
+    }
+    if !boxed_fits(alloc, returns, Level::Expression)? {
+        return Ok(false);
+    }
+    type_params_fit(alloc, profile, parameters)
+}
+
+/// Whether a `class` fits, but for its body.
+pub(crate) fn class_head_fits(
+    alloc: Global,
+    profile: Profile,
+    name: &Identifier,
+    bases: &[Expr],
+    words: &[Keyword],
+    decorators: &[Expr],
+    parameters: &[TypeParam],
+) -> Result<bool, AllocError>
+    ensures { IfOk result
+        (λ told. told
+        ≡ (is_name name.now && each_fits is_name levels.Elem
+        (exprs (map tree_of bases.now)) && each_keyword_fits is_name
+        (keywords (map keyword_of words.now)) && each_fits is_name levels.Expression
+        (exprs (map tree_of decorators.now)) && types_fit profile is_name
+        (map type_param_of parameters.now))) }
+{
+    if !is_name(alloc, name.as_str())? {
+        return Ok(false);
+    }
+    if !exprs_fit(alloc, bases, Level::Elem)? {
+        return Ok(false);
+    }
+    if !keywords_fit(alloc, words)? {
+        return Ok(false);
+    }
+    if !exprs_fit(alloc, decorators, Level::Expression)? {
+        return Ok(false);
+    }
+    type_params_fit(alloc, profile, parameters)
+}
+
+/// Whether the header of a `for` fits.
+pub(crate) fn for_head_fits(alloc: Global, target: &Expr, iter: &Expr) -> Result<bool, AllocError>
+    ensures { IfOk result
+        (λ told. told
+        ≡ (fits_target is_name contexts.Store (tree_of target.now) && fits_at is_name levels.Stars
+        (tree_of iter.now))) }
+{
+    if !target_fits(alloc, target, Context::Store)? {
+        return Ok(false);
+    }
+    expr_fits(alloc, iter, Level::Stars)
+}
+
+/// Whether the target of an item fits, if it has one.
+fn optional_target_fits(alloc: Global, expr: &Option<Expr>) -> Result<bool, AllocError>
+    ensures { IfOk result (λ told. told ≡ perhaps_target_fits is_name (option_of expr.now)) }
+{
+    match expr {
+        None => Ok(true),
+        Some(expr) => target_fits(alloc, expr, Context::Store),
+    }
+}
+
+/// Whether an item of a `with` fits.
+fn item_fits(alloc: Global, item: &Item) -> Result<bool, AllocError>
+    ensures { IfOk result (λ told. told ≡ item_fits is_name (item_of item.now)) }
+{
+    Ok(
+        expr_fits(alloc, &item.context_expr, Level::Expression)?
+            && optional_target_fits(alloc, &item.optional_vars)?,
+    )
+}
+
+/// Whether there are items of a `with`, each of which fits.
+pub(crate) fn items_fit(alloc: Global, items: &[Item]) -> Result<bool, AllocError>
+    ensures { IfOk result
+        (λ told. told
+        ≡ (has_one (map item_of items.now) && list_all (item_fits is_name)
+        (map item_of items.now))) }
+{
+    if items.is_empty() {
+        return Ok(false);
+    }
+    for item in items {
+        if !item_fits(alloc, item)? {
+            return Ok(false);
+        }
+    }
+    Ok(true)
+}
+
+/// Whether what an `except` catches fits, and its name.
+pub(crate) fn except_fits(
+    alloc: Global,
+    star: bool,
+    class: &Option<Expr>,
+    name: &Option<Identifier>,
+) -> Result<bool, AllocError>
+    ensures { IfOk result (λ told. told ≡ caught_fits is_name star (option_of class.now) name.now) }
+{
+    match class {
+        None => Ok(!star && name.is_none()),
+        Some(class) => Ok(
+            expr_fits(alloc, class, Level::Expression)? && optional_name_fits(alloc, name)?,
+        ),
+    }
+}
+
+/// Whether a `try` has the clauses that it needs.
+pub(crate) fn clauses_fit(
+    star: bool,
+    caught: &[Handler],
+    orelse: &[Stmt],
+    finalbody: &[Stmt],
+) -> bool
+    ensures { result
+        ≡ clauses_fit star (handlers (map handler_of caught.now)) (stmts (map stmt_of orelse.now))
+        (stmts (map stmt_of finalbody.now)) }
+{
+    if !caught.is_empty() {
+        return true;
+    }
+    if star {
+        return false;
+    }
+    if !orelse.is_empty() {
+        return false;
+    }
+    !finalbody.is_empty()
+}

@@ -1,0 +1,120 @@
+//! What holds no expression, and how many expressions there are.
+
+ghost use Rattle.std.specs.Prelude.{◌≡◌, ◌^◌, ◌&&◌, ◌+◌, All, IfOk, eqb, leb, length, map, nat_lt};
+ghost use Rattle.std.specs.List.{list_all};
+ghost use Rattle.pytree_node.specs.Points.{IsPoint};
+ghost use Rattle.pytree_node.specs.TreeOf.{arg_of, comprehension_of, constant_of, option_of, tree_of};
+ghost use Rattle.pytree_node.specs.Trees.{args, comprehensions, exprs, optionals};
+ghost use Rattle.pytoken.specs.Laws.{is_byte, is_point};
+ghost use Rattle.pytree_fits.specs.Literals.{is_value};
+ghost use Rattle.pytree_fits.specs.Names.{is_name};
+ghost use Rattle.pytree_fits.specs.Slots.{count, count_args, count_optional, has_some, perhaps_name};
+
+use crate::names::is_name;
+use pytree_node::{Arg, Comparison, Comprehension, Constant, Expr, Identifier};
+use std::alloc::{AllocError, Global};
+
+/// Whether a name that may be absent is a name.
+pub(crate) fn optional_name_fits(
+    alloc: Global,
+    name: &Option<Identifier>,
+) -> Result<bool, AllocError>
+    ensures { IfOk result (λ told. told ≡ perhaps_name is_name name.now) }
+{
+    match name {
+        None => Ok(true),
+        Some(name) => is_name(alloc, name.as_str()),
+    }
+}
+
+/// Whether a constant is one that literals stand for, as each constant is.
+pub(crate) fn constant_fits(value: &Constant) -> bool
+    ensures { result ≡ is_value (constant_of value.now) }
+{
+    match value {
+        Constant::None => true,
+        Constant::Ellipsis => true,
+        Constant::Bool(_) => true,
+        Constant::Int(number) => number_fits(number.value()),
+        Constant::Str { points, .. } => points_fit(points.as_slice()),
+        Constant::Bytes(bytes) => bytes_fit(bytes),
+    }
+}
+
+/// Whether a number is below 2 to the 128, as each is.
+fn number_fits(_number: u128) -> bool
+    ensures { result ≡ nat_lt _number (2 ^ 128) }
+{
+    true
+}
+
+/// Whether each of some code points is one, as they are.
+fn points_fit(_points: &[u32]) -> bool
+    requires { All IsPoint _points.now }
+    ensures { result ≡ list_all is_point _points.now }
+{
+    true
+}
+
+/// Whether each of some bytes is one, as they are.
+fn bytes_fit(_bytes: &[u8]) -> bool
+    ensures { result ≡ list_all is_byte _bytes.now }
+{
+    true
+}
+
+/// Whether there are at least so many expressions.
+#[tactic(auto, using(crate::proofs::Counts::counts))]
+pub(crate) fn are_at_least(es: &[Expr], least: usize) -> bool
+    ensures { result ≡ leb least (count (exprs (map tree_of es.now))) }
+{
+    es.len() >= least
+}
+
+/// Whether there is a `for` clause.
+#[tactic(auto, using(crate::proofs::Counts::counts))]
+pub(crate) fn has_clause(generators: &[Comprehension]) -> bool
+    ensures { result ≡ has_some (comprehensions (map comprehension_of generators.now)) }
+{
+    !generators.is_empty()
+}
+
+/// Whether there are as many keys as values.
+#[tactic(auto, using(crate::proofs::Counts::counts))]
+pub(crate) fn are_pairs(keys: &[Option<Expr>], values: &[Expr]) -> bool
+    ensures { result
+        ≡ eqb (count_optional (optionals (map option_of keys.now)))
+        (count (exprs (map tree_of values.now))) }
+{
+    keys.len() == values.len()
+}
+
+/// Whether there is an operator, and as many operators as comparators.
+#[tactic(auto, using(crate::proofs::Counts::counts))]
+pub(crate) fn are_comparisons(ops: &[Comparison], comparators: &[Expr]) -> bool
+    ensures { result
+        ≡ (leb 1 (length ops.now) && eqb (length ops.now)
+        (count (exprs (map tree_of comparators.now)))) }
+{
+    ops.len() >= 1 && ops.len() == comparators.len()
+}
+
+/// Whether there are as many defaults, or missing ones, as keyword-only parameters.
+#[tactic(auto, using(crate::proofs::Counts::counts))]
+pub(crate) fn are_keyword_defaults(defaults: &[Option<Expr>], kwonlyargs: &[Arg]) -> bool
+    ensures { result
+        ≡ eqb (count_optional (optionals (map option_of defaults.now)))
+        (count_args (args (map arg_of kwonlyargs.now))) }
+{
+    defaults.len() == kwonlyargs.len()
+}
+
+/// Whether there are no more defaults than plain parameters.
+pub(crate) fn are_defaults(defaults: &[Expr], posonlyargs: &[Arg], plain: &[Arg]) -> bool
+    ensures { result
+        ≡ leb (count (exprs (map tree_of defaults.now)))
+        (count_args (args (map arg_of posonlyargs.now)) + count_args
+        (args (map arg_of plain.now))) }
+{
+    defaults.len() <= posonlyargs.len() || defaults.len() - posonlyargs.len() <= plain.len()
+}

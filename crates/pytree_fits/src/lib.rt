@@ -1,0 +1,22 @@
+//! Whether a tree has in each field what may stand there, by the grammar, with no regard to
+//! heights.
+//!
+//! `pytree_fits` defines that, slot by slot, and has the laws that tie the slots to the grammar. The
+//! walks here ask the same in the same order, and build nothing: [`expr_fits`] of an expression at
+//! a level, [`statements_fit`] of the statements of a module. They serve `pytree`, which tells by
+//! them whether a module is well formed.
+#![tactic(auto)]
+
+mod expressions;
+mod headers;
+mod imports;
+mod leaves;
+mod names;
+mod parameters;
+mod places;
+mod simple;
+mod statements;
+mod targets;
+
+pub use expressions::expr_fits;
+pub use statements::statements_fit;

@@ -1,0 +1,281 @@
+//! Whether statements fit, with those inside.
+
+ghost use Rattle.std.specs.Prelude.{◌≡◌, ◌&&◌, IfOk, map};
+ghost use Rattle.pytree_node.specs.TreeOf.{handler_of, stmt_of};
+ghost use Rattle.pytree_node.specs.Trees.{handlers, stmts};
+ghost use Rattle.pytree_fits.specs.Names.{is_name};
+ghost use Rattle.pytree_fits.specs.Statements.{caught_fits, handlers_fit, statement_fits};
+ghost use Rattle.pytree_fits.specs.Statements.{statements_fit, suite_fits};
+
+use crate::expressions::expr_fits;
+use crate::headers::{
+    class_head_fits, clauses_fit, except_fits, for_head_fits, function_head_fits, items_fit,
+};
+use crate::imports::{imports_fit, modules_fit, source_fits};
+use crate::simple::{
+    ann_assign_fits, aug_assign_fits, names_fit, option_fits, raise_fits, some_targets_fit,
+    type_alias_fits,
+};
+use pygrammar::Level;
+use pytree_node::{Context, Handler, Profile, Stmt};
+use std::alloc::{AllocError, Global};
+
+/// Whether a statement fits.
+#[cycle(statements)]
+#[tactic(auto, using(pytree_node::proofs::Callers::StmtShapes::stmt_shapes))]
+fn statement_fits(alloc: Global, profile: Profile, s: &Stmt) -> Result<bool, AllocError>
+    ensures { IfOk result (λ told. told ≡ statement_fits profile is_name (stmt_of s.now)) }
+{
+    match s {
+        Stmt::FunctionDef {
+            name,
+            args,
+            body,
+            decorator_list,
+            returns,
+            type_params,
+        } => {
+            let head = function_head_fits(
+                alloc,
+                profile,
+                name,
+                args,
+                decorator_list,
+                returns,
+                type_params,
+            )?;
+            Ok(head && suite_fits(alloc, profile, body)?)
+        }
+        Stmt::AsyncFunctionDef {
+            name,
+            args,
+            body,
+            decorator_list,
+            returns,
+            type_params,
+        } => {
+            let head = function_head_fits(
+                alloc,
+                profile,
+                name,
+                args,
+                decorator_list,
+                returns,
+                type_params,
+            )?;
+            Ok(head && suite_fits(alloc, profile, body)?)
+        }
+        Stmt::ClassDef {
+            name,
+            bases,
+            keywords,
+            body,
+            decorator_list,
+            type_params,
+        } => {
+            let head = class_head_fits(
+                alloc,
+                profile,
+                name,
+                bases,
+                keywords,
+                decorator_list,
+                type_params,
+            )?;
+            Ok(head && suite_fits(alloc, profile, body)?)
+        }
+        Stmt::Return { value } => option_fits(alloc, value, Level::Stars),
+        Stmt::Delete { targets } => some_targets_fit(alloc, targets, Context::Del),
+        Stmt::Assign { targets, value } => Ok(
+            some_targets_fit(alloc, targets, Context::Store)?
+                && expr_fits(alloc, value, Level::Value)?,
+        ),
+        Stmt::TypeAlias {
+            name,
+            type_params,
+            value,
+        } => type_alias_fits(alloc, profile, name, type_params, value),
+        Stmt::AugAssign { target, value, .. } => aug_assign_fits(alloc, target, value),
+        Stmt::AnnAssign {
+            target,
+            annotation,
+            value,
+            simple,
+        } => ann_assign_fits(alloc, target, annotation, value, *simple),
+        Stmt::For {
+            target,
+            iter,
+            body,
+            orelse,
+        } => {
+            if !for_head_fits(alloc, target, iter)? {
+                return Ok(false);
+            }
+            if !suite_fits(alloc, profile, body)? {
+                return Ok(false);
+            }
+            statements_fit(alloc, profile, orelse)
+        }
+        Stmt::AsyncFor {
+            target,
+            iter,
+            body,
+            orelse,
+        } => {
+            if !for_head_fits(alloc, target, iter)? {
+                return Ok(false);
+            }
+            if !suite_fits(alloc, profile, body)? {
+                return Ok(false);
+            }
+            statements_fit(alloc, profile, orelse)
+        }
+        Stmt::While { test, body, orelse } => {
+            if !expr_fits(alloc, test, Level::Expression)? {
+                return Ok(false);
+            }
+            if !suite_fits(alloc, profile, body)? {
+                return Ok(false);
+            }
+            statements_fit(alloc, profile, orelse)
+        }
+        Stmt::If { test, body, orelse } => {
+            if !expr_fits(alloc, test, Level::Expression)? {
+                return Ok(false);
+            }
+            if !suite_fits(alloc, profile, body)? {
+                return Ok(false);
+            }
+            statements_fit(alloc, profile, orelse)
+        }
+        Stmt::With { items, body } => Ok(
+            items_fit(alloc, items)? && suite_fits(alloc, profile, body)?,
+        ),
+        Stmt::AsyncWith { items, body } => Ok(
+            items_fit(alloc, items)? && suite_fits(alloc, profile, body)?,
+        ),
+        Stmt::Raise { exc, cause } => raise_fits(alloc, exc, cause),
+        Stmt::Try {
+            body,
+            handlers,
+            orelse,
+            finalbody,
+        } => {
+            if !clauses_fit(false, handlers, orelse, finalbody) {
+                return Ok(false);
+            }
+            if !suite_fits(alloc, profile, body)? {
+                return Ok(false);
+            }
+            if !handlers_fit(alloc, profile, false, handlers)? {
+                return Ok(false);
+            }
+            if !statements_fit(alloc, profile, orelse)? {
+                return Ok(false);
+            }
+            statements_fit(alloc, profile, finalbody)
+        }
+        Stmt::TryStar {
+            body,
+            handlers,
+            orelse,
+            finalbody,
+        } => {
+            if !clauses_fit(true, handlers, orelse, finalbody) {
+                return Ok(false);
+            }
+            if !suite_fits(alloc, profile, body)? {
+                return Ok(false);
+            }
+            if !handlers_fit(alloc, profile, true, handlers)? {
+                return Ok(false);
+            }
+            if !statements_fit(alloc, profile, orelse)? {
+                return Ok(false);
+            }
+            statements_fit(alloc, profile, finalbody)
+        }
+        Stmt::Assert { test, msg } => Ok(
+            expr_fits(alloc, test, Level::Expression)?
+                && option_fits(alloc, msg, Level::Expression)?,
+        ),
+        Stmt::Import { names } => modules_fit(alloc, names),
+        Stmt::ImportFrom {
+            module,
+            names,
+            level,
+        } => Ok(source_fits(alloc, module, *level)? && imports_fit(alloc, names)?),
+        Stmt::Global { names } => names_fit(alloc, names),
+        Stmt::Nonlocal { names } => names_fit(alloc, names),
+        Stmt::Expr { value } => expr_fits(alloc, value, Level::Value),
+        Stmt::Pass => Ok(true),
+        Stmt::Break => Ok(true),
+        Stmt::Continue => Ok(true),
+    }
+}
+
+/// Whether the block of a header fits: there are statements, and each fits.
+#[cycle(statements)]
+#[tactic(auto, using(crate::proofs::Suites::suites))]
+fn suite_fits(alloc: Global, profile: Profile, body: &[Stmt]) -> Result<bool, AllocError>
+    ensures { IfOk result
+        (λ told. told ≡ suite_fits profile is_name (stmts (map stmt_of body.now))) }
+{
+    if body.is_empty() {
+        return Ok(false);
+    }
+    statements_fit(alloc, profile, body)
+}
+
+/// Whether each of some statements fits in a version of Python: whether each of its fields has what
+/// may stand there. `Err` is want of memory alone.
+#[cycle(statements)]
+#[tactic(auto, using(pytree_node::proofs::Callers::StmtShapes::stmt_shapes))]
+pub fn statements_fit(alloc: Global, profile: Profile, body: &[Stmt]) -> Result<bool, AllocError>
+    ensures { IfOk result
+        (λ told. told ≡ statements_fit profile is_name (stmts (map stmt_of body.now))) }
+{
+    for s in body {
+        if !statement_fits(alloc, profile, s)? {
+            return Ok(false);
+        }
+    }
+    Ok(true)
+}
+
+/// Whether a handler fits.
+#[cycle(statements)]
+#[tactic(auto, using(pytree_node::proofs::Callers::StmtShapes::stmt_shapes))]
+fn handler_fits(
+    alloc: Global,
+    profile: Profile,
+    star: bool,
+    h: &Handler,
+) -> Result<bool, AllocError>
+    ensures { IfOk result
+        (λ told. told
+        ≡ (caught_fits is_name star (handler_of h.now).class
+        (handler_of h.now).name && suite_fits profile is_name (stmts (handler_of h.now).body))) }
+{
+    Ok(except_fits(alloc, star, &h.class, &h.name)? && suite_fits(alloc, profile, &h.body)?)
+}
+
+/// Whether each of some handlers fits.
+#[cycle(statements)]
+#[tactic(auto, using(pytree_node::proofs::Callers::StmtShapes::stmt_shapes))]
+fn handlers_fit(
+    alloc: Global,
+    profile: Profile,
+    star: bool,
+    all: &[Handler],
+) -> Result<bool, AllocError>
+    ensures { IfOk result
+        (λ told. told ≡ handlers_fit profile is_name star (handlers (map handler_of all.now))) }
+{
+    for h in all {
+        if !handler_fits(alloc, profile, star, h)? {
+            return Ok(false);
+        }
+    }
+    Ok(true)
+}

@@ -1,0 +1,176 @@
+-- The value of a tree of the program, with no addresses. A layer is one node whose children are values already: each value is made
+-- of its node's by a step.
+use Rattle.std.specs.Prelude.{map, Option, Some, None}
+use Rattle.std.specs.declared.alloc.Global.{Global}
+use Rattle.std.specs.declared.boxed.Box.{Box}
+use Rattle.pytree_node.specs.declared.constants.Constant as given_constant
+use Rattle.pytree_node.specs.declared.constants.Constant.TheVariants as constant
+use Rattle.pytree_node.specs.declared.expressions.Expr as given
+use Rattle.pytree_node.specs.declared.expressions.Expr.TheOpen as layer
+use Rattle.pytree_node.specs.declared.expressions.Keyword as given_keyword
+use Rattle.pytree_node.specs.declared.expressions.Comprehension as given_comprehension
+use Rattle.pytree_node.specs.declared.expressions.Arg as given_arg
+use Rattle.pytree_node.specs.declared.expressions.Arguments as given_arguments
+use Rattle.pytree_node.specs.declared.statements.Alias as given_alias
+use Rattle.pytree_node.specs.declared.statements.Item as given_item
+use Rattle.pytree_node.specs.declared.statements.Stmt as given_stmt
+use Rattle.pytree_node.specs.declared.statements.Stmt.TheOpen as stmt_layer
+use Rattle.pytree_node.specs.declared.statements.Handler as given_handler
+use Rattle.pytree_node.specs.declared.statements.TypeParam as given_type_param
+use Rattle.pytree_node.specs.declared.statements.TypeParam.TheVariants as type_param
+use Rattle.pytree_node.specs.declared.modules.Module as given_module
+use Rattle.pytree_node.specs.Trees as plain
+use Rattle.pytree_node.specs.Values as value
+use Rattle.pytree_node.specs.Values.{Value}
+use Rattle.pytree_node.specs.Trees.{exprs, optional, optionals, comprehensions, keywords, args, optional_arg, stmts, handlers}
+
+-- the value of a constant
+abbrev pub constant_of : given_constant.Constant → Value
+constant_of constant.None = value.None
+constant_of constant.Ellipsis = value.Ellipsis
+constant_of (constant.Bool b) = value.Bool b
+constant_of (constant.Int n) = value.Int n
+constant_of (constant.Str points unicode) = value.Str points unicode
+constant_of (constant.Bytes bytes) = value.Bytes bytes.items
+
+-- what is in the box, if there is one
+abbrev pub boxed : {A : Type 0} → Option (Box A Global) → Option A
+boxed None = None
+boxed (Some b) = Some b.value
+
+-- the value of a node whose children are values
+abbrev pub expr_step : layer.Expr-F plain.Expr plain.Arg plain.Arguments plain.Comprehension plain.Keyword → plain.Expr
+expr_step (layer.BoolOp op values) = plain.BoolOp op (exprs values.items)
+expr_step (layer.NamedExpr target value) = plain.NamedExpr target.value value.value
+expr_step (layer.BinOp left op right) = plain.BinOp left.value op right.value
+expr_step (layer.UnaryOp op operand) = plain.UnaryOp op operand.value
+expr_step (layer.Lambda args body) = plain.Lambda args.value body.value
+expr_step (layer.IfExp test body orelse) = plain.IfExp test.value body.value orelse.value
+expr_step (layer.Dict keys values) = plain.Dict (optionals keys.items) (exprs values.items)
+expr_step (layer.Set elts) = plain.Set (exprs elts.items)
+expr_step (layer.ListComp elt generators) = plain.ListComp elt.value (comprehensions generators.items)
+expr_step (layer.SetComp elt generators) = plain.SetComp elt.value (comprehensions generators.items)
+expr_step (layer.DictComp key value generators) = plain.DictComp key.value value.value (comprehensions generators.items)
+expr_step (layer.GeneratorExp elt generators) = plain.GeneratorExp elt.value (comprehensions generators.items)
+expr_step (layer.Await value) = plain.Await value.value
+expr_step (layer.Yield value) = plain.Yield (optional (boxed value))
+expr_step (layer.YieldFrom value) = plain.YieldFrom value.value
+expr_step (layer.Compare left ops comparators) = plain.Compare left.value ops.items (exprs comparators.items)
+expr_step (layer.Call func args words) = plain.Call func.value (exprs args.items) (keywords words.items)
+expr_step (layer.Constant value) = plain.Constant (constant_of value)
+expr_step (layer.Attribute value attr ctx) = plain.Attribute value.value attr ctx
+expr_step (layer.Subscript value slice ctx) = plain.Subscript value.value slice.value ctx
+expr_step (layer.Starred value ctx) = plain.Starred value.value ctx
+expr_step (layer.Name id ctx) = plain.Name id ctx
+expr_step (layer.List elts ctx) = plain.ListOf (exprs elts.items) ctx
+expr_step (layer.Tuple elts ctx) = plain.Tuple (exprs elts.items) ctx
+expr_step (layer.Slice lower upper step) = plain.Slice (optional (boxed lower)) (optional (boxed upper)) (optional (boxed step))
+
+abbrev pub arg_step : layer.Arg-F plain.Expr plain.Arg plain.Arguments plain.Comprehension plain.Keyword → plain.Arg
+arg_step a = plain.arg a.arg (optional (boxed a.annotation))
+
+abbrev pub arguments_step : layer.Arguments-F plain.Expr plain.Arg plain.Arguments plain.Comprehension plain.Keyword → plain.Arguments
+arguments_step a = plain.arguments (args a.posonlyargs.items) (args a.args.items) (optional_arg a.vararg)
+    (args a.kwonlyargs.items) (optionals a.kw_defaults.items) (optional_arg a.kwarg) (exprs a.defaults.items)
+
+abbrev pub comprehension_step : layer.Comprehension-F plain.Expr plain.Arg plain.Arguments plain.Comprehension plain.Keyword → plain.Comprehension
+comprehension_step c = record { target = c.target; iter = c.iter; ifs = c.ifs.items; is_async = c.is_async }
+
+abbrev pub keyword_step : layer.Keyword-F plain.Expr plain.Arg plain.Arguments plain.Comprehension plain.Keyword → plain.Keyword
+keyword_step k = record { arg = k.arg; value = k.value }
+
+-- the value of an expression, and of the parts that hold expressions
+unfoldable pub tree_of : given.Expr → plain.Expr
+tree_of = given.fold-Expr plain.Expr plain.Arg plain.Arguments plain.Comprehension plain.Keyword
+    expr_step arg_step arguments_step comprehension_step keyword_step
+
+unfoldable pub keyword_of : given_keyword.Keyword → plain.Keyword
+keyword_of = given_keyword.fold-Keyword plain.Expr plain.Arg plain.Arguments plain.Comprehension plain.Keyword
+    expr_step arg_step arguments_step comprehension_step keyword_step
+
+unfoldable pub comprehension_of : given_comprehension.Comprehension → plain.Comprehension
+comprehension_of = given_comprehension.fold-Comprehension plain.Expr plain.Arg plain.Arguments plain.Comprehension plain.Keyword
+    expr_step arg_step arguments_step comprehension_step keyword_step
+
+unfoldable pub arg_of : given_arg.Arg → plain.Arg
+arg_of = given_arg.fold-Arg plain.Expr plain.Arg plain.Arguments plain.Comprehension plain.Keyword
+    expr_step arg_step arguments_step comprehension_step keyword_step
+
+unfoldable pub arguments_of : given_arguments.Arguments → plain.Arguments
+arguments_of = given_arguments.fold-Arguments plain.Expr plain.Arg plain.Arguments plain.Comprehension plain.Keyword
+    expr_step arg_step arguments_step comprehension_step keyword_step
+
+-- the value of an expression that may be absent
+abbrev pub option_of : Option given.Expr → Option plain.Expr
+option_of None = None
+option_of (Some e) = Some (tree_of e)
+
+abbrev pub boxed_of : Option (Box given.Expr Global) → Option plain.Expr
+boxed_of None = None
+boxed_of (Some b) = Some (tree_of b.value)
+
+abbrev pub arg_option_of : Option given_arg.Arg → Option plain.Arg
+arg_option_of None = None
+arg_option_of (Some a) = Some (arg_of a)
+
+-- the value of one name of an import, and of one item of a `with`
+abbrev pub alias_of : given_alias.Alias → plain.Alias
+alias_of a = record { name = a.name; asname = a.asname }
+
+abbrev pub item_of : given_item.Item → plain.Item
+item_of i = record { context_expr = tree_of i.context_expr; optional_vars = option_of i.optional_vars }
+
+-- the value of a parameter of a type
+abbrev pub type_param_of : given_type_param.TypeParam → plain.TypeParam
+type_param_of (type_param.TypeVar name bound) = plain.TypeVar name (option_of bound)
+type_param_of (type_param.ParamSpec name) = plain.ParamSpec name
+type_param_of (type_param.TypeVarTuple name) = plain.TypeVarTuple name
+
+-- the value of a statement whose inner statements are values
+abbrev pub stmt_step : stmt_layer.Stmt-F plain.Stmt plain.Handler → plain.Stmt
+stmt_step (stmt_layer.FunctionDef name args body decorators returns parameters) =
+    plain.FunctionDef name (arguments_of args.value) (stmts body.items) (map tree_of decorators.items) (boxed_of returns)
+    (map type_param_of parameters.items)
+stmt_step (stmt_layer.AsyncFunctionDef name args body decorators returns parameters) =
+    plain.AsyncFunctionDef name (arguments_of args.value) (stmts body.items) (map tree_of decorators.items) (boxed_of returns)
+    (map type_param_of parameters.items)
+stmt_step (stmt_layer.ClassDef name bases words body decorators parameters) =
+    plain.ClassDef name (map tree_of bases.items) (keywords (map keyword_of words.items)) (stmts body.items) (map tree_of decorators.items)
+    (map type_param_of parameters.items)
+stmt_step (stmt_layer.Return value) = plain.Return (option_of value)
+stmt_step (stmt_layer.Delete targets) = plain.Delete (map tree_of targets.items)
+stmt_step (stmt_layer.Assign targets value) = plain.Assign (map tree_of targets.items) (tree_of value)
+stmt_step (stmt_layer.TypeAlias name parameters value) = plain.TypeAlias (tree_of name) (map type_param_of parameters.items) (tree_of value)
+stmt_step (stmt_layer.AugAssign target op value) = plain.AugAssign (tree_of target) op (tree_of value)
+stmt_step (stmt_layer.AnnAssign target annotation value simple) = plain.AnnAssign (tree_of target.value) (tree_of annotation.value) (boxed_of value) simple
+stmt_step (stmt_layer.For target iter body orelse) = plain.For (tree_of target.value) (tree_of iter.value) (stmts body.items) (stmts orelse.items)
+stmt_step (stmt_layer.AsyncFor target iter body orelse) = plain.AsyncFor (tree_of target.value) (tree_of iter.value) (stmts body.items) (stmts orelse.items)
+stmt_step (stmt_layer.While test body orelse) = plain.While (tree_of test) (stmts body.items) (stmts orelse.items)
+stmt_step (stmt_layer.If test body orelse) = plain.If (tree_of test) (stmts body.items) (stmts orelse.items)
+stmt_step (stmt_layer.With items body) = plain.With (map item_of items.items) (stmts body.items)
+stmt_step (stmt_layer.AsyncWith items body) = plain.AsyncWith (map item_of items.items) (stmts body.items)
+stmt_step (stmt_layer.Raise exc cause) = plain.Raise (option_of exc) (option_of cause)
+stmt_step (stmt_layer.Try body caught orelse finalbody) = plain.Try (stmts body.items) (handlers caught.items) (stmts orelse.items) (stmts finalbody.items)
+stmt_step (stmt_layer.TryStar body caught orelse finalbody) = plain.TryStar (stmts body.items) (handlers caught.items) (stmts orelse.items) (stmts finalbody.items)
+stmt_step (stmt_layer.Assert test msg) = plain.Assert (tree_of test) (option_of msg)
+stmt_step (stmt_layer.Import names) = plain.Import (map alias_of names.items)
+stmt_step (stmt_layer.ImportFrom source names level) = plain.ImportFrom source (map alias_of names.items) level
+stmt_step (stmt_layer.Global names) = plain.Global names.items
+stmt_step (stmt_layer.Nonlocal names) = plain.Nonlocal names.items
+stmt_step (stmt_layer.Expr value) = plain.ExprOf (tree_of value)
+stmt_step stmt_layer.Pass = plain.Pass
+stmt_step stmt_layer.Break = plain.Break
+stmt_step stmt_layer.Continue = plain.Continue
+
+abbrev pub handler_step : stmt_layer.Handler-F plain.Stmt plain.Handler → plain.Handler
+handler_step h = record { class = option_of h.class; name = h.name; body = h.body.items }
+
+-- the value of a statement, of a handler, and of a module
+unfoldable pub stmt_of : given_stmt.Stmt → plain.Stmt
+stmt_of = given_stmt.fold-Stmt plain.Stmt plain.Handler stmt_step handler_step
+
+unfoldable pub handler_of : given_handler.Handler → plain.Handler
+handler_of = given_handler.fold-Handler plain.Stmt plain.Handler stmt_step handler_step
+
+abbrev pub module_of : given_module.Module → plain.Module
+module_of m = record { body = map stmt_of m.body.items }

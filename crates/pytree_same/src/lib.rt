@@ -1,0 +1,10 @@
+//! Whether trees are equal: [`same_stmts`] tells whether the values (`pytree_node`'s `TreeOf`) of
+//! statements are.
+#![tactic(auto)]
+
+mod expressions;
+mod leaves;
+mod parts;
+mod statements;
+
+pub use statements::same_stmts;

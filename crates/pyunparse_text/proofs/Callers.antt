@@ -1,0 +1,10 @@
+-- What other crates cite: the laws of what a tree is written in.
+pub mod Shortest
+pub mod Read
+pub mod Modules
+pub mod Texts
+pub mod Law
+-- What other crates cite of pyunparse_text.
+pub mod Pieces
+pub mod Tokens
+pub mod Lists

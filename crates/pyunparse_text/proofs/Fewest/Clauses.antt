@@ -1,0 +1,200 @@
+-- Comprehensions: targets are written as their expressions.
+--
+-- Carries: mapped_is, both_is, star_stored, lone_text and 22 more, for Induction, Places, Derived,
+-- Calls and 2 more. On: Claims, Reach, Less.
+use Rattle.std.proofs.Common.{◌≡◌, refl, sym, ap, subst, ◌∙◌, ◌≤◌, arith, List, [], ◌∷◌, ◌++◌, length, Option, Some, None, Bool, true, false, cond, length-append, append_assoc, append-nil}
+use Rattle.pylex_lexeme.specs.declared.kinds.Exact.TheVariants.{LPar, RPar, LSqb, RSqb, LBrace, RBrace, Colon, Comma, Star}
+use Rattle.pytoken.specs.declared.keywords.Keyword.TheVariants as Key
+use Rattle.pytree_node.specs.declared.operators.Context.{Context}
+use Rattle.pytree_node.specs.declared.operators.Context.TheVariants.{Store}
+use Rattle.pygrammar.specs.declared.levels.Level.{Level}
+use Rattle.pygrammar.specs.declared.levels.Level.TheVariants.{Stars, Named, Expression, Or, Primary, Atom, Elem}
+use Rattle.pytree_node.specs.Trees
+use Rattle.pytree_node.specs.Trees.{Expr, Exprs, no_exprs, an_expr, Comprehensions, no_keyword, exprs, Comprehension, comprehensions}
+use Rattle.pytoken.specs.Terminals.{Terminal, Op, Word}
+use Rattle.pygrammar.specs.Targets.{mapped, both, stored, all_stored}
+use Rattle.pygrammar.specs.Grammar as G
+use Rattle.pyunparse_text.specs.Written.{separated, star_level, some_named, lone_star, element_level, fit, tuple_of, for_in, written, each, alone, by_name, clauses, conditions}
+use Rattle.pyunparse_text.specs.Terminals.{terminal}
+use Rattle.pyunparse_text.proofs.Fewest.Reach.{deep_primary}
+use Rattle.pyunparse_text.proofs.Fewest.Less.{is_named}
+use Rattle.pyunparse_text.proofs.Fewest.Claims.{given, Claim, here, node, atom}
+
+-- contexts are not written terminal
+pub mapped_is : {A B : Type 0} (f : A → B) (o : Option A) (b : B) → mapped f o ≡ Some b → (a : A) × (o ≡ Some a) × (f a ≡ b)
+mapped_is {A} {B} f None b h = absurd (cc)
+mapped_is {A} {B} f (Some a) b h = (a, refl, given (λ x. f a ≡ x) h refl)
+
+pub both_is : (o : Option Expr) (p : Option Exprs) (z : Exprs) → both o p ≡ Some z → (e : Expr) × (es : Exprs) × (o ≡ Some e) × (p ≡ Some es) × (an_expr e es ≡ z)
+both_is None p z h = absurd (cc)
+both_is (Some e) None z h = absurd (cc)
+both_is (Some e) (Some es) z h = (e, es, refl, refl, given (λ x. an_expr e es ≡ x) h refl)
+
+pub star_stored : (e : Expr) (c : Context) (s : Expr) → stored (Trees.Starred e c) ≡ Some s → (f : Expr) × (stored e ≡ Some f) × (Trees.Starred f Store ≡ s)
+star_stored (Trees.Starred e d) c s h = absurd (cc)
+star_stored e c s h = mapped_is (λ f. Trees.Starred f Store) (stored e) s h
+
+abbrev pub is_starred : Expr → Bool
+is_starred (Trees.Starred e c) = true
+is_starred _ = false
+
+abbrev pub is_none : Exprs → Bool
+is_none no_exprs = true
+is_none _ = false
+
+some_named_is : (e : Expr) (es : Exprs) → some_named (an_expr e es) ≡ cond (is_named e) true (some_named es)
+some_named_is (Trees.NamedExpr t e) es = refl
+some_named_is _ es = refl
+
+lone_star_is : (e : Expr) (es : Exprs) → lone_star (an_expr e es) ≡ cond (is_starred e) (is_none es) false
+lone_star_is (Trees.Starred e c) no_exprs = refl
+lone_star_is (Trees.Starred e c) (an_expr f es) = refl
+lone_star_is _ es = refl
+
+-- the classes stay
+pub record SameClass (e f : Expr) : Type 0 where
+  pub named : is_named e ≡ is_named f
+  pub starred : is_starred e ≡ is_starred f
+
+stored_class : (e f : Expr) → stored e ≡ Some f → SameClass e f
+stored_class (Trees.Name x c) f h = given (SameClass (Trees.Name x c)) h (record { named = refl; starred = refl })
+stored_class (Trees.Attribute e x c) f h = given (SameClass (Trees.Attribute e x c)) h (record { named = refl; starred = refl })
+stored_class (Trees.Subscript e s c) f h = given (SameClass (Trees.Subscript e s c)) h (record { named = refl; starred = refl })
+stored_class (Trees.Tuple es c) f h = let w = mapped_is (λ fs. Trees.Tuple fs Store) (all_stored es) f h in subst (SameClass (Trees.Tuple es c)) w.2 (record { named = refl; starred = refl })
+stored_class (Trees.ListOf es c) f h = let w = mapped_is (λ fs. Trees.ListOf fs Store) (all_stored es) f h in subst (SameClass (Trees.ListOf es c)) w.2 (record { named = refl; starred = refl })
+stored_class (Trees.Starred e c) f h = let w = star_stored e c f h in subst (SameClass (Trees.Starred e c)) w.2 (record { named = refl; starred = refl })
+stored_class _ f h = absurd (cc)
+
+pub record SameList (es fs : Exprs) : Type 0 where
+  pub pieces_same : (l : Level) → each terminal l es ≡ each terminal l fs
+  pub named : some_named es ≡ some_named fs
+  pub lone : lone_star es ≡ lone_star fs
+  pub empty : is_none es ≡ is_none fs
+
+pub same_grown : (e f : Expr) (es fs : Exprs) → ((l : Level) → written terminal l e ≡ written terminal l f) → SameClass e f → SameList es fs → SameList (an_expr e es) (an_expr f fs)
+unfolding each
+same_grown e f es fs w k s = record {
+  pieces_same = λ l. cc (w l, s.pieces_same l);
+  named = rw (some_named_is e es, some_named_is f fs, k.named, s.named) refl;
+  lone = rw (lone_star_is e es, lone_star_is f fs, k.starred, s.empty) refl;
+  empty = refl;
+}
+
+pub tuple_same : (l : Level) (es fs : Exprs) → SameList es fs → tuple_of terminal (element_level l (some_named es)) (lone_star es) (each terminal (element_level l (some_named es)) es) ≡ tuple_of terminal (element_level l (some_named fs)) (lone_star fs) (each terminal (element_level l (some_named fs)) fs)
+tuple_same l es fs s = rw (s.named, s.lone, s.pieces_same (element_level l (some_named fs))) refl
+
+mutual
+  unfolding written each
+
+  pub stored_same : (t s : Expr) → stored t ≡ Some s → (l : Level) → written terminal l t ≡ written terminal l s
+  stored_same (Trees.Name x c) s h l = given (λ z. written terminal l (Trees.Name x c) ≡ written terminal l z) h refl
+  stored_same (Trees.Attribute e x c) s h l = given (λ z. written terminal l (Trees.Attribute e x c) ≡ written terminal l z) h refl
+  stored_same (Trees.Subscript e i c) s h l = given (λ z. written terminal l (Trees.Subscript e i c) ≡ written terminal l z) h refl
+  stored_same (Trees.Tuple es c) s h l = let w = mapped_is (λ fs. Trees.Tuple fs Store) (all_stored es) s h in tuple_same l es w.0 (all_same es w.0 w.1) ∙ ap (written terminal l) w.2
+  stored_same (Trees.ListOf es c) s h l = let w = mapped_is (λ fs. Trees.ListOf fs Store) (all_stored es) s h in ap (λ z. Op LSqb ∷ (separated (Op Comma) z ++ (Op RSqb ∷ []))) ((all_same es w.0 w.1).pieces_same Elem) ∙ ap (written terminal l) w.2
+  stored_same (Trees.Starred e c) s h l = let w = star_stored e c s h in ap (λ z. Op Star ∷ z) (stored_same e w.0 w.1 (star_level l)) ∙ ap (written terminal l) w.2
+  stored_same _ s h l = absurd (cc)
+
+  all_same : (es fs : Exprs) → all_stored es ≡ Some fs → SameList es fs
+  all_same no_exprs fs h = given (SameList no_exprs) h (record { pieces_same = λ l. refl; named = refl; lone = refl; empty = refl })
+  all_same (an_expr e es) fs h = let w = both_is (stored e) (all_stored es) fs h in subst (SameList (an_expr e es)) w.4 (same_grown e w.0 es w.1 (λ l. stored_same e w.0 w.2 l) (stored_class e w.0 w.2) (all_same es w.1 w.3))
+
+-- one `for`
+pub record IfsClaim (us : List Terminal) (es : List Expr) : Type 0 where
+  pub is : G.Ifs (conditions terminal (exprs es)) es
+  pub short : length (conditions terminal (exprs es)) ≤ length us
+
+pub no_if_claim : IfsClaim [] []
+unfolding conditions
+no_if_claim = record { is = G.no_if; short = omega arith }
+
+pub if_one_claim : {ts us : List Terminal} {e : Expr} {es : List Expr} → Claim Or ts e → IfsClaim us es → IfsClaim (Word Key.If ∷ (ts ++ us)) (e ∷ es)
+unfolding conditions
+if_one_claim p c = record { is = G.if_one (here p) c.is; short = simp length-append (omega (arith, p.short, c.short)) }
+
+abbrev pub for_text : Comprehension → List Terminal
+for_text g = written terminal Stars g.target ++ (Word Key.In ∷ (written terminal Or g.iter ++ conditions terminal (exprs g.ifs)))
+
+pub record ForInClaim (b : Bool) (us : List Terminal) (g : Comprehension) : Type 0 where
+  pub is : G.ForIn b (for_text g) g
+  pub short : length (for_text g) ≤ length us
+  pub async : g.is_async ≡ b
+
+abbrev a_for : Expr → Expr → List Expr → Bool → Comprehension
+a_for t e cs b = record { target = t; iter = e; ifs = cs; is_async = b }
+
+pub target_in_claim : {b : Bool} {ts us vs : List Terminal} {t s e : Expr} {cs : List Expr} → Claim Stars ts t → stored t ≡ Some s → Claim Or us e → IfsClaim vs cs → ForInClaim b (ts ++ (Word Key.In ∷ (us ++ vs))) (record { target = s; iter = e; ifs = cs; is_async = b })
+target_in_claim {b} {ts} {us} {vs} {t} {s} {e} {cs} p h q c = let w = stored_same t s h Stars in record {
+  is = subst (λ z. G.ForIn b (z ++ (Word Key.In ∷ (written terminal Or e ++ conditions terminal (exprs cs)))) (a_for s e cs b)) w (G.target_in (here p) h (here q) c.is);
+  short = subst (λ z. length (z ++ (Word Key.In ∷ (written terminal Or e ++ conditions terminal (exprs cs)))) ≤ length (ts ++ (Word Key.In ∷ (us ++ vs)))) w (simp length-append (omega (arith, p.short, q.short, c.short)));
+  async = refl;
+}
+
+pub record CompClaim (us : List Terminal) (g : Comprehension) : Type 0 where
+  pub is : G.Comp (for_in terminal g.is_async (for_text g)) g
+  pub short : length (for_in terminal g.is_async (for_text g)) ≤ length us
+
+pub for_claim : {ts : List Terminal} {g : Comprehension} → ForInClaim false ts g → CompClaim (Word Key.For ∷ ts) g
+for_claim {ts} {g} c = record {
+  is = subst (λ b. G.Comp (for_in terminal b (for_text g)) g) (sym c.async) (G.for_in c.is);
+  short = subst (λ b. length (for_in terminal b (for_text g)) ≤ length (Word Key.For ∷ ts)) (sym c.async) (omega (arith, c.short));
+}
+
+pub async_for_claim : {ts : List Terminal} {g : Comprehension} → ForInClaim true ts g → CompClaim (Word Key.Async ∷ (Word Key.For ∷ ts)) g
+async_for_claim {ts} {g} c = record {
+  is = subst (λ b. G.Comp (for_in terminal b (for_text g)) g) (sym c.async) (G.async_for_in c.is);
+  short = subst (λ b. length (for_in terminal b (for_text g)) ≤ length (Word Key.Async ∷ (Word Key.For ∷ ts))) (sym c.async) (omega (arith, c.short));
+}
+
+pub record CompsClaim (us : List Terminal) (gs : List Comprehension) : Type 0 where
+  pub is : G.Comps (clauses terminal (comprehensions gs)) gs
+  pub short : length (clauses terminal (comprehensions gs)) ≤ length us
+
+pub one_comp_claim : {ts : List Terminal} {g : Comprehension} → CompClaim ts g → CompsClaim ts (g ∷ [])
+unfolding clauses
+one_comp_claim {ts} {g} c =
+    let last = append-nil (for_in terminal g.is_async (for_text g)) in
+    record {
+      is = subst (λ z. G.Comps z (g ∷ [])) (sym last) (G.one_comp c.is);
+      short = subst (λ z. length z ≤ length ts) (sym last) c.short;
+    }
+
+pub comps_claim : {ts us : List Terminal} {g : Comprehension} {gs : List Comprehension} → CompClaim ts g → CompsClaim us gs → CompsClaim (ts ++ us) (g ∷ gs)
+unfolding clauses
+comps_claim c d = record { is = G.comps c.is d.is; short = simp length-append (omega (arith, c.short, d.short)) }
+
+-- the forms with comprehensions
+two_inside : (o c : Terminal) (ts us : List Terminal) → o ∷ ((ts ++ us) ++ (c ∷ [])) ≡ o ∷ (ts ++ (us ++ (c ∷ [])))
+two_inside o c ts us = ap (λ z. o ∷ z) (append_assoc ts us (c ∷ []))
+
+pub generator_group_claim : {ts us : List Terminal} {e : Expr} {gs : List Comprehension} → Claim Named ts e → CompsClaim us gs → Claim Atom (Op LPar ∷ (ts ++ (us ++ (Op RPar ∷ [])))) (Trees.GeneratorExp e (comprehensions gs))
+unfolding written
+generator_group_claim {ts} {us} {e} {gs} p c = atom _ _ _ (λ m. two_inside (Op LPar) (Op RPar) (written terminal Named e) (clauses terminal (comprehensions gs))) refl (gs, refl, here p, c.is) (G.generator_group (here p) c.is) (simp length-append (omega (arith, p.short, c.short)))
+
+pub list_comp_claim : {ts us : List Terminal} {e : Expr} {gs : List Comprehension} → Claim Named ts e → CompsClaim us gs → Claim Atom (Op LSqb ∷ (ts ++ (us ++ (Op RSqb ∷ [])))) (Trees.ListComp e (comprehensions gs))
+unfolding written
+list_comp_claim {ts} {us} {e} {gs} p c = atom _ _ _ (λ m. two_inside (Op LSqb) (Op RSqb) (written terminal Named e) (clauses terminal (comprehensions gs))) refl tt (G.list_comp (here p) c.is) (simp length-append (omega (arith, p.short, c.short)))
+
+pub set_comp_claim : {ts us : List Terminal} {e : Expr} {gs : List Comprehension} → Claim Named ts e → CompsClaim us gs → Claim Atom (Op LBrace ∷ (ts ++ (us ++ (Op RBrace ∷ [])))) (Trees.SetComp e (comprehensions gs))
+unfolding written
+set_comp_claim {ts} {us} {e} {gs} p c = atom _ _ _ (λ m. two_inside (Op LBrace) (Op RBrace) (written terminal Named e) (clauses terminal (comprehensions gs))) refl tt (G.set_comp (here p) c.is) (simp length-append (omega (arith, p.short, c.short)))
+
+three_inside : (o m c : Terminal) (ts us vs : List Terminal) → o ∷ ((ts ++ (m ∷ (us ++ vs))) ++ (c ∷ [])) ≡ o ∷ (ts ++ (m ∷ (us ++ (vs ++ (c ∷ [])))))
+three_inside o m c ts us vs = ap (λ z. o ∷ z) (append_assoc ts (m ∷ (us ++ vs)) (c ∷ [])) ∙ ap (λ z. o ∷ (ts ++ (m ∷ z))) (append_assoc us vs (c ∷ []))
+
+pub dict_comp_claim : {ts us vs : List Terminal} {k e : Expr} {gs : List Comprehension} → Claim Expression ts k → Claim Expression us e → CompsClaim vs gs → Claim Atom (Op LBrace ∷ (ts ++ (Op Colon ∷ (us ++ (vs ++ (Op RBrace ∷ [])))))) (Trees.DictComp k e (comprehensions gs))
+unfolding written
+dict_comp_claim {ts} {us} {vs} {k} {e} {gs} p q c = atom _ _ _ (λ m. three_inside (Op LBrace) (Op Colon) (Op RBrace) (written terminal Expression k) (written terminal Expression e) (clauses terminal (comprehensions gs))) refl tt (G.dict_comp (here p) (here q) c.is) (simp length-append (omega (arith, p.short, q.short, c.short)))
+
+-- a generator in the brackets of its call
+pub lone_text : (f e : Expr) (cs : Comprehensions) (m : Level) → written terminal m (Trees.Call f (an_expr (Trees.GeneratorExp e cs) no_exprs) no_keyword) ≡ fit terminal m Primary (written terminal Primary f ++ (Op LPar ∷ (written terminal Named e ++ (clauses terminal cs ++ (Op RPar ∷ [])))))
+unfolding written alone
+lone_text f e cs m = ap (λ z. fit terminal m Primary (written terminal Primary f ++ z)) (two_inside (Op LPar) (Op RPar) (written terminal Named e) (clauses terminal cs))
+
+-- which is one argument
+pub lone_length : (e : Expr) (cs : Comprehensions) → length (separated (Op Comma) (each terminal Named (an_expr (Trees.GeneratorExp e cs) no_exprs) ++ by_name terminal no_keyword)) ≡ length (Op LPar ∷ (written terminal Named e ++ (clauses terminal cs ++ (Op RPar ∷ []))))
+unfolding written each by_name
+lone_length e cs = ap length (two_inside (Op LPar) (Op RPar) (written terminal Named e) (clauses terminal cs))
+
+pub call_generator_claim : {ts us vs : List Terminal} {f e : Expr} {gs : List Comprehension} → Claim Primary ts f → Claim Named us e → CompsClaim vs gs → Claim Primary (ts ++ (Op LPar ∷ (us ++ (vs ++ (Op RPar ∷ []))))) (Trees.Call f (an_expr (Trees.GeneratorExp e (comprehensions gs)) no_exprs) no_keyword)
+call_generator_claim {ts} {us} {vs} {f} {e} {gs} p q c = node Primary _ (written terminal Primary f ++ (Op LPar ∷ (written terminal Named e ++ (clauses terminal (comprehensions gs) ++ (Op RPar ∷ []))))) _ (lone_text f e (comprehensions gs)) refl tt (G.call_generator (here p) (here q) c.is) deep_primary.named (simp length-append (omega (arith, p.short, q.short, c.short)))

@@ -1,0 +1,167 @@
+-- Carries: the law of source text. On: a module's text is a source that is accepted as the
+-- module, and as no other.
+use Rattle.std.proofs.Common.{◌≡◌, refl, sym, ap, subst, ◌∙◌, ℕ, suc, ◌+◌, ◌-◌, ◌≤◌, arith, Bool, true, false, ◌&&◌, List, [], ◌∷◌, map, Option, Some, None, if◌then◌else◌}
+use Rattle.std.specs.Prelude.{All, nat_lt}
+use Rattle.std.specs.Str.{encode_utf8_all}
+use Rattle.std.proofs.lemmas.Bool.Decides.{nat_tests}
+use Rattle.std.proofs.lemmas.List.Elements.{All-nil, All-cons, All-head, All-tail}
+use Rattle.pylex_lexeme.specs.declared.kinds.Exact.{Exact}
+use Rattle.pylex_lexeme.specs.Operators.{exact_of, is_opener, is_closer}
+use Rattle.pylex.specs.declared.kind.Kind.{Kind}
+use Rattle.pylex.specs.declared.kind.Kind.TheVariants as kinds
+use Rattle.pylex.specs.Listing.{in_characters}
+use Rattle.pytree_node.specs.declared.profiles.Profile.{Profile}
+use Rattle.pytoken.specs.declared.keywords.Keyword.{Keyword}
+use Rattle.pytoken.specs.Keywords.{keyword_of}
+use Rattle.pytoken.specs.Tokens as Tokens
+use Rattle.pytoken.specs.Terminals.{Terminal, Op, Word, Ident, Layout, terminal_of, fault_of}
+use Rattle.pytoken.specs.Refusals.{most_brackets}
+use Rattle.pytree_height.specs.Heights.{expression_height}
+use Rattle.unicode_normalization.specs.Forms.{nfkc}
+use Rattle.pygrammar.specs.Lines.{Line, line}
+use Rattle.pygrammar.specs.Forms.{FormOf}
+use Rattle.pygrammar.specs.Blocks.{Block}
+use Rattle.pygrammar.specs.Refusals.{terminals, HasForm, Formed, formed_end, formed_line, Accepted}
+use Rattle.pygrammar.proofs.Callers.SourceLaw.{forms_are_lawful, blocks_are_lawful, answers_are_lawful}
+use Rattle.pyunparse_text.specs.Spacing.{Piece, is_operator_kind}
+use Rattle.pyunparse_text.specs.Tokens.{token_of, unplaced, unplaced_line, token_line, is_opening, is_closing, opens, closes, opens_within}
+use Rattle.pyunparse_text.specs.SpacingLaws.{ReadsBack, IsClear}
+use Rattle.pyunparse_text.proofs.Callers.Pieces.{written_is_read, written_is_clear}
+use Rattle.pyunparse_text.specs.Brackets.{open_after, most_open, brackets}
+use Rattle.pyunparse_text.specs.Modules.{WrittenLine, written_line, line_of, terminal_lines, piece_lines}
+use Rattle.pyunparse_text.specs.Laws.{Give, give_none, give, HaveForms, no_form, a_form, AreModule, LinesAreOneModule, AcceptedComeBack, source_lines, AreWithin, GiveLines, no_line, a_line, ModuleTextsAreAccepted}
+use Rattle.pyunparse_text.proofs.Fewest.Flat.{start_open}
+use Rattle.pyunparse_text.proofs.Modules.Law.{modules_again}
+use Rattle.pyunparse_text.proofs.Modules.Low.{forms_low}
+use Rattle.pyunparse_text.proofs.Modules.FlatLines.{line_brackets}
+use Rattle.pyunparse_text.proofs.Modules.LinesRead.{modules_read}
+
+-- ---- Lines are one module.
+
+same_forms : {profile : Profile} {ws : List (WrittenLine Terminal)} {xs ys : List Line} → HaveForms profile ws xs → HaveForms profile ws ys → xs ≡ ys
+same_forms no_form no_form = refl
+same_forms {profile} (a_form {l = l} {ts = ts} {f = f} {xs = xs} p c) (a_form {f = g} q d) = ap (λ z. line l z ∷ xs) (forms_are_lawful.unique profile ts f g p q) ∙ ap (λ z. line l g ∷ z) (same_forms c d)
+
+pub one_module : LinesAreOneModule
+one_module profile ws m n g h = ap (λ b. record { body = b }) (blocks_are_lawful.unique h.forms m.body n.body (subst (λ z. Block 0 z m.body) (same_forms g.formed h.formed) g.block) h.block)
+
+-- ---- An accepted module is that of its own lines.
+
+pub source_forms : {profile : Profile} {xs : List Tokens.Line} {forms : List Line} → Formed profile xs forms → HaveForms profile (source_lines xs) forms
+source_forms formed_end = no_form
+source_forms (formed_line p c) = a_form p.is (source_forms c)
+
+pub accepted_again : AcceptedComeBack
+accepted_again profile s m p = modules_again profile (source_lines (Tokens.lines s)) m (record { forms = p.forms; formed = source_forms p.formed; block = p.block })
+
+-- ---- Brackets of pieces are those of their terminals.
+
+abbrev by_text : ℕ → Bool → Bool → ℕ
+by_text d o c = if o then suc d else (if c then d - 1 else d)
+
+op_after : (text : List ℕ) (d : ℕ) → open_after d (terminal_of kinds.Op text) ≡ by_text d (is_opening text) (is_closing text)
+unfolding terminal_of
+op_after text d = by (exact_of text)
+  where
+    by : (o : Option Exact) → open_after d (elim o [ Some e ↦ Op e | None ↦ Layout ]) ≡ by_text d (elim o [ Some e ↦ is_opener e | None ↦ false ]) (elim o [ Some e ↦ is_closer e | None ↦ false ])
+    by (Some e) = refl
+    by None = refl
+
+name_after : (text : List ℕ) (d : ℕ) → open_after d (terminal_of kinds.Name text) ≡ d
+unfolding terminal_of
+name_after text d = by (keyword_of text)
+  where
+    by : (o : Option Keyword) → open_after d (elim o [ Some w ↦ Word w | None ↦ Ident (record { spelling = text; form = nfkc text }) ]) ≡ d
+    by (Some w) = refl
+    by None = refl
+
+text_after : (k : Kind) (text : List ℕ) (d : ℕ) → open_after d (terminal_of k text) ≡ by_text d (is_operator_kind k && is_opening text) (is_operator_kind k && is_closing text)
+unfolding terminal_of
+text_after kinds.Op text d = op_after text d
+text_after kinds.Name text d = name_after text d
+text_after _ text d = refl
+
+one_more : (most d : ℕ) (ts : List Terminal) (ps : List Piece) → ((n : ℕ) → most_open n ts ≤ most → opens_within most n ps ≡ true) → (o s : Bool) → most_open (by_text d o s) ts ≤ most
+    → (if o then nat_lt d most && opens_within most (d + 1) ps else (if s then opens_within most (d - 1) ps else opens_within most d ps)) ≡ true
+one_more most d ts ps more true s k =
+    let e : suc d ≤ most_open (suc d) ts = start_open (suc d) ts in
+    let b : nat_lt d most ≡ true = grind (arith, nat_tests) in
+    let n : suc d ≡ d + 1 = omega arith in
+    let q : opens_within most (d + 1) ps ≡ true = subst (λ n. opens_within most n ps ≡ true) n (more (suc d) k) in
+    rw (b, q) refl
+one_more most d ts ps more false true k = more (d - 1) k
+one_more most d ts ps more false false k = more d k
+
+shallow : (most d : ℕ) {ps : List Piece} {ts : List Terminal} → Give ps ts → most_open d ts ≤ most → opens_within most d ps ≡ true
+shallow most d give_none h = refl
+shallow most d (give {p = p} {ps = ps} {t = t} {ts = ts} g c) h =
+    let a : open_after d t ≡ by_text d (opens p) (closes p) = ap (open_after d) (sym g.terminal) ∙ text_after p.kind p.text d in
+    let k : most_open (open_after d t) ts ≤ most = omega (arith, h) in
+    one_more most d ts ps (λ n q. shallow most n c q) (opens p) (closes p) (subst (λ n. most_open n ts ≤ most) a k)
+
+faultless : {ps : List Piece} {ts : List Terminal} → Give ps ts → All (λ (p : Piece). fault_of p.kind p.text ≡ None) ps
+faultless give_none = All-nil (λ (p : Piece). fault_of p.kind p.text ≡ None)
+faultless (give {p = p} {ps = ps} g c) = All-cons (λ (p : Piece). fault_of p.kind p.text ≡ None) p ps g.sound.faultless (faultless c)
+
+all_clear : {rs : List (WrittenLine Piece)} {qs : List (WrittenLine Terminal)} → GiveLines rs qs → All (λ w. brackets w.tokens ≤ most_brackets) qs → All IsClear (map line_of rs)
+all_clear no_line h = All-nil IsClear
+all_clear (a_line {l = l} {ps = ps} {ts = ts} {rs = rs} {qs = qs} g c) h =
+    let b : brackets ts ≤ most_brackets = All-head (λ (w : WrittenLine Terminal). brackets w.tokens ≤ most_brackets) (written_line l ts) qs h in
+    All-cons IsClear (line_of (written_line l ps)) (map line_of rs) (record { faultless = faultless g; shallow = shallow most_brackets 0 g b })
+    (all_clear c (All-tail (λ (w : WrittenLine Terminal). brackets w.tokens ≤ most_brackets) (written_line l ts) qs h))
+
+fewer : (n : ℕ) (ws : List (WrittenLine Terminal)) → n ≤ most_brackets → All (λ (w : WrittenLine Terminal). brackets w.tokens ≤ n) ws → All (λ (w : WrittenLine Terminal). brackets w.tokens ≤ most_brackets) ws
+fewer n [] e h = All-nil (λ (w : WrittenLine Terminal). brackets w.tokens ≤ most_brackets)
+fewer n (w ∷ ws) e h =
+    let b : brackets w.tokens ≤ n = All-head (λ (w : WrittenLine Terminal). brackets w.tokens ≤ n) w ws h in
+    All-cons (λ (w : WrittenLine Terminal). brackets w.tokens ≤ most_brackets) w ws (omega (arith, b, e)) (fewer n ws e (All-tail (λ (w : WrittenLine Terminal). brackets w.tokens ≤ n) w ws h))
+
+-- ---- The lines of the source have the forms of the written ones.
+
+same_terminals : (us : List Tokens.Token) {ps : List Piece} {ts : List Terminal} → map unplaced us ≡ map token_of ps → Give ps ts → map (λ (t : Tokens.Token). terminal_of t.kind t.text) us ≡ ts
+same_terminals [] e give_none = refl
+same_terminals [] e (give g c) = absurd (cc)
+same_terminals (u ∷ us) e give_none = absurd (cc)
+same_terminals (u ∷ us) e (give {p = p} {ps = ps} {t = t} {ts = ts} g c) =
+    let h : unplaced u ≡ token_of p = cc in
+    let r : map unplaced us ≡ map token_of ps = cc in
+    let k : terminal_of u.kind u.text ≡ t = ap (λ x. terminal_of x.kind x.text) h ∙ g.terminal in
+    ap (λ z. z ∷ map (λ (t : Tokens.Token). terminal_of t.kind t.text) us) k ∙ ap (λ z. t ∷ z) (same_terminals us r c)
+
+formed_by : (profile : Profile) (xs : List Tokens.Line) {rs : List (WrittenLine Piece)} {qs : List (WrittenLine Terminal)} {fs : List Line}
+    → map unplaced_line xs ≡ map token_line (map line_of rs) → GiveLines rs qs → HaveForms profile qs fs → AreWithin 500 fs → Formed profile xs fs
+formed_by profile [] e no_line no_form h = formed_end
+formed_by profile [] e (a_line g c) f h = absurd (cc)
+formed_by profile (x ∷ xs) e no_line no_form h = absurd (cc)
+formed_by profile (x ∷ xs) e (a_line {l = l} {ps = ps} {ts = ts} {rs = rs} g c) (a_form {f = f} {xs = fs} p d) h =
+    let i : unplaced_line x ≡ token_line (line_of (written_line l ps)) = cc in
+    let r : map unplaced_line xs ≡ map token_line (map line_of rs) = cc in
+    let n : x.level ≡ l = ap (λ y. y.level) i in
+    let s : terminals x ≡ ts = same_terminals x.tokens (ap (λ y. y.tokens) i) g in
+    let q : HasForm profile x f = record { is = subst (λ z. FormOf profile z f) (sym s) p; low = h.0 } in
+    subst (λ z. Formed profile (x ∷ xs) (line z f ∷ fs)) n (formed_line q (formed_by profile xs r c d h.1))
+
+lower : (m n : ℕ) (xs : List Line) → m ≤ n → AreWithin m xs → AreWithin n xs
+lower m n [] e h = tt
+lower m n (x ∷ xs) e h = (omega (arith, e, h.0), lower m n xs e h.1)
+
+pub texts_accepted : ModuleTextsAreAccepted
+texts_accepted profile ws m g h expressions statements =
+    let a : AreModule profile (terminal_lines m) m = modules_again profile ws m g in
+    let r = modules_read profile ws m g h in
+    let b : ReadsBack (encode_utf8_all _) (piece_lines m) = written_is_read (piece_lines m) r.written in
+    let w : AreWithin 500 a.forms = lower (expression_height m) 500 a.forms expressions (forms_low a.forms m a.block) in
+    let n : expression_height m + 1 ≤ most_brackets = omega (arith, expressions) in
+    let c : All IsClear (piece_lines m) = all_clear r.give (fewer (expression_height m + 1) (terminal_lines m) n (line_brackets m)) in
+    let x : Accepted profile (in_characters b.parts) m = record {
+      clear = written_is_clear (piece_lines m) r.written c b;
+      forms = a.forms;
+      formed = formed_by profile (Tokens.lines (in_characters b.parts)) b.lines r.give a.formed w;
+      block = a.block;
+      low = statements;
+    } in
+    record {
+      back = b;
+      accepted = x;
+      only = λ k p. answers_are_lawful.unique profile (in_characters b.parts) k m p x;
+    }

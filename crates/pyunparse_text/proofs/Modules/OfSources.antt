@@ -1,0 +1,142 @@
+-- Carries: the law of source text. On: the tokens of an accepted source are of Unicode characters
+-- and have no fault, so that its module is the one that its own text is.
+use Rattle.std.proofs.Common.{◌≡◌, refl, sym, ap, subst, ◌∙◌, ℕ, ◌+◌, Bool, true, false, List, [], ◌∷◌, ◌++◌, append_assoc}
+use Rattle.std.specs.Prelude.{All, map}
+use Rattle.std.specs.Str.{all_scalars}
+use Rattle.std.proofs.Math.Utf8.{scalar}
+use Rattle.std.proofs.lemmas.Bool.{and_parts, and_from}
+use Rattle.std.proofs.lemmas.List.Elements.{All-nil, All-cons, All-head, All-tail, All-append}
+use Rattle.pysource.specs.declared.places.Place.{Place}
+use Rattle.pylex_lexeme.specs.Chars.{bytes_in}
+use Rattle.pylex.specs.declared.kind.Kind.{Kind}
+use Rattle.pylex.specs.declared.kind.Kind.TheVariants as kinds
+use Rattle.pylex.specs.declared.entries.Entry.{Entry}
+use Rattle.pylex.specs.Listing.{Source, listing}
+use Rattle.pylex.specs.Steps.{entries_of}
+use Rattle.pylex.specs.Laws.{Covers, StandsNext, IsLawful}
+use Rattle.pytree_node.specs.declared.profiles.Profile.{Profile}
+use Rattle.pytoken.specs.Tokens.{Token, text_of, supplied, is_open, tokens_of_entry, tokens_from, tokens, lines_from, lines}
+use Rattle.pytoken.specs.Tokens as Tokens
+use Rattle.pytoken.specs.Terminals.{terminal_of, IsSound}
+use Rattle.pytoken.proofs.Callers.Said.{tokens_are_sound}
+use Rattle.pygrammar.specs.Lines.{Line}
+use Rattle.pygrammar.specs.Refusals.{terminals, Formed, formed_end, formed_line}
+use Rattle.pyunparse_text.proofs.Callers.Lists.{bytes_both, sliced}
+use Rattle.pyunparse_text.specs.Modules.{written_line}
+use Rattle.pyunparse_text.specs.Laws.{IsOfToken, AreOfTokens, AreWithin, source_lines, IsGood, TokensAreOfTokens, AcceptedTextsAreAccepted}
+use Rattle.pyunparse_text.proofs.Modules.High.{modules_low}
+use Rattle.pyunparse_text.proofs.Modules.Accepted.{source_forms, texts_accepted}
+
+-- ---- The characters of tokens.
+
+front_scalars : (t b : List ℕ) → all_scalars (t ++ b) ≡ true → all_scalars t ≡ true
+front_scalars [] b h = refl
+front_scalars (c ∷ t) b h = let w = and_parts (scalar c) (all_scalars (t ++ b)) h in and_from (scalar c) (all_scalars t) w.0 (front_scalars t b w.1)
+
+back_scalars : (a b : List ℕ) → all_scalars (a ++ b) ≡ true → all_scalars b ≡ true
+back_scalars [] b h = h
+back_scalars (c ∷ a) b h = back_scalars a b (and_parts (scalar c) (all_scalars (a ++ b)) h).1
+
+abbrev HasCharacters : List ℕ → Entry → Type 0
+HasCharacters text e = all_scalars (text_of text e) ≡ true
+
+covered : (text a t : List ℕ) (o : ℕ) (es : List Entry) (left : List ℕ) → text ≡ a ++ t → o ≡ bytes_in a → all_scalars t ≡ true → Covers o t es left → All (HasCharacters text) es
+covered text a t o [] left w e s c = All-nil (HasCharacters text)
+covered text a t o (x ∷ es) left w e s c =
+    let n : StandsNext o t x = c.0 in
+    let b : List ℕ = a ++ n.gap in
+    let p : text ≡ b ++ (n.own ++ n.behind) = w ∙ ap (λ u. a ++ u) n.parts ∙ sym (append_assoc a n.gap (n.own ++ n.behind)) in
+    let r : all_scalars (n.own ++ n.behind) ≡ true = back_scalars n.gap (n.own ++ n.behind) (subst (λ u. all_scalars u ≡ true) n.parts s) in
+    let f : x.«from» ≡ bytes_in b = n.begins ∙ ap (λ k. k + bytes_in n.gap) e ∙ sym (bytes_both a n.gap) in
+    let own : all_scalars n.own ≡ true = front_scalars n.own n.behind r in
+    let is : text_of text x ≡ n.own = sliced text b n.own n.behind x.«from» x.to p own f n.ends in
+    let q : text ≡ (b ++ n.own) ++ n.behind = p ∙ sym (append_assoc b n.own n.behind) in
+    let l : x.to ≡ bytes_in (b ++ n.own) = n.ends ∙ ap (λ k. k + bytes_in n.own) f ∙ sym (bytes_both b n.own) in
+    All-cons (HasCharacters text) x es (ap all_scalars is ∙ own) (covered text (b ++ n.own) n.behind x.to es left q l (back_scalars n.own n.behind r) c.1)
+
+abbrev IsText : Token → Type 0
+IsText t = all_scalars t.text ≡ true
+
+alone : (k : Kind) (p : Place) (t : List ℕ) → all_scalars t ≡ true → All IsText (record { kind = k; start = p; text = t } ∷ [])
+alone k p t h = All-cons IsText (record { kind = k; start = p; text = t }) [] h (All-nil IsText)
+
+behind_supplied : (text : List ℕ) (k : Kind) (p : Place) (t : List ℕ) → all_scalars t ≡ true → All IsText (supplied text ∷ (record { kind = k; start = p; text = t } ∷ []))
+behind_supplied text k p t h = All-cons IsText (supplied text) (record { kind = k; start = p; text = t } ∷ []) refl (alone k p t h)
+
+given_texts : (text : List ℕ) (b : Bool) (e : Entry) (k : Kind) → e.kind ≡ k → HasCharacters text e → All IsText (tokens_of_entry text b e)
+given_texts text b e kinds.Encoding q h = rw q (All-nil IsText)
+given_texts text b e kinds.Comment q h = rw q (All-nil IsText)
+given_texts text b e kinds.Nl q h = rw q (All-nil IsText)
+given_texts text true e kinds.Newline q h = rw q (alone kinds.Newline e.start (text_of text e) h)
+given_texts text false e kinds.Newline q h = rw q (All-nil IsText)
+given_texts text true e kinds.Dedent q h = rw q (behind_supplied text kinds.Dedent e.start (text_of text e) h)
+given_texts text false e kinds.Dedent q h = rw q (alone kinds.Dedent e.start (text_of text e) h)
+given_texts text true e kinds.EndMarker q h = rw q (behind_supplied text kinds.EndMarker e.start (text_of text e) h)
+given_texts text false e kinds.EndMarker q h = rw q (alone kinds.EndMarker e.start (text_of text e) h)
+given_texts text b e k q h = rw q (alone k e.start (text_of text e) h)
+
+all_texts : (text : List ℕ) (before es : List Entry) → All (HasCharacters text) es → All IsText (tokens_from text before es)
+all_texts text before [] h = All-nil IsText
+all_texts text before (e ∷ es) h =
+    All-append IsText (tokens_of_entry text (is_open before) e) (tokens_from text (e ∷ before) es)
+    (given_texts text (is_open before) e e.kind refl (All-head (HasCharacters text) e es h)) (all_texts text (e ∷ before) es (All-tail (HasCharacters text) e es h))
+
+token_texts : (s : Source) → IsLawful s → all_scalars s.text ≡ true → All IsText (tokens s)
+unfolding tokens
+token_texts s w h = all_texts s.text [] (entries_of (listing s)) (covered s.text [] s.text 0 (entries_of (listing s)) w.covered.left refl refl h w.covered.covers)
+
+-- ---- Lines of tokens.
+
+both : (ts : List Token) → All IsText ts → All (λ (t : Token). IsSound t.kind t.text) ts → All IsGood ts
+both [] a b = All-nil IsGood
+both (t ∷ ts) a b =
+    All-cons IsGood t ts (All-head IsText t ts a, All-head (λ (t : Token). IsSound t.kind t.text) t ts b) (both ts (All-tail IsText t ts a) (All-tail (λ (t : Token). IsSound t.kind t.text) t ts b))
+
+abbrev Good : Tokens.Line → Type 0
+Good x = All IsGood x.tokens
+
+record Goes (t : Token) : Type 0 where
+  at : (before line ts : List Token) → All IsGood line → All IsGood (line ++ t ∷ [])
+      → ((line : List Token) → All IsGood line → All Good (lines_from (t ∷ before) line ts)) → All Good (lines_from before line (t ∷ ts))
+
+goes : (k : Kind) (t : Token) → t.kind ≡ k → Goes t
+goes kinds.Newline t q = record { at = λ before line ts a b more. rw q (All-cons Good _ _ a (more [] (All-nil IsGood))) }
+goes kinds.Indent t q = record { at = λ before line ts a b more. rw q (more line a) }
+goes kinds.Dedent t q = record { at = λ before line ts a b more. rw q (more line a) }
+goes kinds.EndMarker t q = record { at = λ before line ts a b more. rw q (more line a) }
+goes _ t q = record { at = λ before line ts a b more. rw q (more (line ++ t ∷ []) b) }
+
+all_lines : (before line ts : List Token) → All IsGood line → All IsGood ts → All Good (lines_from before line ts)
+all_lines before line [] a h = All-nil Good
+all_lines before line (t ∷ ts) a h =
+    let b : All IsGood (line ++ t ∷ []) = All-append IsGood line (t ∷ []) a (All-cons IsGood t [] (All-head IsGood t ts h) (All-nil IsGood)) in
+    (goes t.kind t refl).at before line ts a b (λ u c. all_lines (t ∷ before) u ts c (All-tail IsGood t ts h))
+
+good_lines : (s : Source) → All IsGood (tokens s) → All Good (lines s)
+unfolding lines
+good_lines s h = all_lines [] [] (tokens s) (All-nil IsGood) h
+
+-- ---- Their terminals.
+
+token_terminals : (ts : List Token) → All IsGood ts → All IsOfToken (map (λ (t : Token). terminal_of t.kind t.text) ts)
+token_terminals [] h = All-nil IsOfToken
+token_terminals (t ∷ ts) h =
+    let g : IsGood t = All-head IsGood t ts h in
+    All-cons IsOfToken (terminal_of t.kind t.text) _ (record { kind = t.kind; text = t.text; characters = g.0; gives = record { terminal = refl; sound = g.1 } }) (token_terminals ts (All-tail IsGood t ts h))
+
+pub lines_of_tokens : TokensAreOfTokens
+lines_of_tokens [] h = All-nil AreOfTokens
+lines_of_tokens (x ∷ xs) h =
+    All-cons AreOfTokens (written_line x.level (terminals x)) (source_lines xs) (token_terminals x.tokens (All-head (λ (x : Tokens.Line). All IsGood x.tokens) x xs h)) (lines_of_tokens xs (All-tail (λ (x : Tokens.Line). All IsGood x.tokens) x xs h))
+
+-- ---- Accepted sources.
+
+formed_low : {profile : Profile} {xs : List Tokens.Line} {forms : List Line} → Formed profile xs forms → AreWithin 500 forms
+formed_low formed_end = tt
+formed_low (formed_line p c) = (p.low, formed_low c)
+
+pub accepted_texts : AcceptedTextsAreAccepted
+accepted_texts profile s m w h p =
+    let g : All IsGood (tokens s) = both (tokens s) (token_texts s w h) (tokens_are_sound s w h p.clear) in
+    texts_accepted profile (source_lines (lines s)) m (record { forms = p.forms; formed = source_forms p.formed; block = p.block })
+    (lines_of_tokens (lines s) (good_lines s g)) (modules_low 500 p.forms m p.block (formed_low p.formed)) p.low

@@ -1,0 +1,193 @@
+-- Carries: the laws of pieces. On: the text of a terminal is a token of its
+-- type, and gives the terminal.
+use Rattle.std.proofs.Common.{◌≡◌, ℕ, ◌<◌, ◌^◌, Bool, true, false, ◌&&◌, List, [], ◌∷◌, refl, arith, ⊎_elim, leb, Option, Some, None, ap, ◌∙◌}
+use Rattle.std.specs.Prelude.{decimal, is_some}
+use Rattle.std.specs.List.{list_all}
+use Rattle.std.specs.Str.{all_scalars}
+use Rattle.std.proofs.Math.Utf8.{low_scalar}
+use Rattle.std.proofs.lemmas.Bool.{eqb-true, le-leb, and_parts, or_cases}
+use Rattle.std.proofs.lemmas.Bool.Decides.{nat_tests}
+use Rattle.std.proofs.lemmas.List.Elements.{All-head, All-tail}
+use Rattle.std.specs.Prelude.{All}
+use Rattle.pylex_lexeme.specs.declared.kinds.Exact.{Exact}
+use Rattle.pylex_lexeme.specs.declared.kinds.Exact.TheVariants.{LPar, RPar, LSqb, RSqb, LBrace, RBrace, Colon, Comma, Semi, Plus, Minus, Star, Slash, VBar, Amper, Less, Greater, Equal, Dot, Percent, EqEqual, NotEqual, LessEqual, GreaterEqual, Tilde, Circumflex, LeftShift, RightShift, DoubleStar, PlusEqual, MinEqual, StarEqual, SlashEqual, PercentEqual, AmperEqual, VBarEqual, CircumflexEqual, LeftShiftEqual, RightShiftEqual, DoubleStarEqual, DoubleSlash, DoubleSlashEqual, At, AtEqual, RArrow, Ellipsis, ColonEqual}
+use Rattle.pylex_lexeme.specs.Numbers.{is_zero, is_one_to_nine, is_decimal_digit, is_nil}
+use Rattle.pylex_lexeme.specs.Operators.{operators, exact_of, is_operator, is_opener, is_closer}
+use Rattle.pylex_lexeme.proofs.Callers.Numbers.{digit_bounds}
+use Rattle.pytree_node.specs.Points.{IsPoint}
+use Rattle.pytree_node.specs.Values
+use Rattle.pytoken.specs.declared.keywords.Keyword.{Keyword}
+use Rattle.pytoken.specs.declared.keywords.Keyword.TheVariants as Key
+use Rattle.pytoken.specs.Keywords.{spelling_of}
+use Rattle.pytoken.specs.Terminals.{Terminal, Op, Word, in_form, Whole, Layout, Gives, terminal_of, fault_of}
+use Rattle.pytoken.specs.Laws.{IsProper}
+use Rattle.pytoken.proofs.Callers.Said.{come_back}
+use Rattle.pyunparse_text.specs.Spacing.{is_whole, is_token}
+use Rattle.pyunparse_text.specs.Tokens.{opens, closes}
+use Rattle.pyunparse_text.proofs.Callers.Tokens.{text_token, marked_token, bytes_token, decimal_token, text_scalars, bytes_scalars}
+use Rattle.pyunparse_text.specs.Written.{constant_terminal}
+use Rattle.pyunparse_text.specs.Pieces.{sign_text, kind_of, text_of, piece}
+use Rattle.pyunparse_text.proofs.Pieces.NameCharacters.{name_scalars}
+
+-- what is written for a terminal: a token of Unicode characters, which gives the terminal again
+pub record Fair (t : Terminal) : Type 0 where
+  pub token : is_token (kind_of t) (text_of t) ≡ true
+  pub scalars : all_scalars (text_of t) ≡ true
+  pub gives : Gives (kind_of t) (text_of t) t
+
+-- ---- Signs and words.
+
+record Spelled (x : Exact) : Type 0 where
+  name : exact_of (sign_text x) ≡ Some x
+  scalars : all_scalars (sign_text x) ≡ true
+
+sign_spelled : (x : Exact) → Spelled x
+unfolding exact_of operators
+sign_spelled LPar = record { name = refl; scalars = refl }
+sign_spelled RPar = record { name = refl; scalars = refl }
+sign_spelled LSqb = record { name = refl; scalars = refl }
+sign_spelled RSqb = record { name = refl; scalars = refl }
+sign_spelled LBrace = record { name = refl; scalars = refl }
+sign_spelled RBrace = record { name = refl; scalars = refl }
+sign_spelled Colon = record { name = refl; scalars = refl }
+sign_spelled Comma = record { name = refl; scalars = refl }
+sign_spelled Semi = record { name = refl; scalars = refl }
+sign_spelled Plus = record { name = refl; scalars = refl }
+sign_spelled Minus = record { name = refl; scalars = refl }
+sign_spelled Star = record { name = refl; scalars = refl }
+sign_spelled Slash = record { name = refl; scalars = refl }
+sign_spelled VBar = record { name = refl; scalars = refl }
+sign_spelled Amper = record { name = refl; scalars = refl }
+sign_spelled Less = record { name = refl; scalars = refl }
+sign_spelled Greater = record { name = refl; scalars = refl }
+sign_spelled Equal = record { name = refl; scalars = refl }
+sign_spelled Dot = record { name = refl; scalars = refl }
+sign_spelled Percent = record { name = refl; scalars = refl }
+sign_spelled EqEqual = record { name = refl; scalars = refl }
+sign_spelled NotEqual = record { name = refl; scalars = refl }
+sign_spelled LessEqual = record { name = refl; scalars = refl }
+sign_spelled GreaterEqual = record { name = refl; scalars = refl }
+sign_spelled Tilde = record { name = refl; scalars = refl }
+sign_spelled Circumflex = record { name = refl; scalars = refl }
+sign_spelled LeftShift = record { name = refl; scalars = refl }
+sign_spelled RightShift = record { name = refl; scalars = refl }
+sign_spelled DoubleStar = record { name = refl; scalars = refl }
+sign_spelled PlusEqual = record { name = refl; scalars = refl }
+sign_spelled MinEqual = record { name = refl; scalars = refl }
+sign_spelled StarEqual = record { name = refl; scalars = refl }
+sign_spelled SlashEqual = record { name = refl; scalars = refl }
+sign_spelled PercentEqual = record { name = refl; scalars = refl }
+sign_spelled AmperEqual = record { name = refl; scalars = refl }
+sign_spelled VBarEqual = record { name = refl; scalars = refl }
+sign_spelled CircumflexEqual = record { name = refl; scalars = refl }
+sign_spelled LeftShiftEqual = record { name = refl; scalars = refl }
+sign_spelled RightShiftEqual = record { name = refl; scalars = refl }
+sign_spelled DoubleStarEqual = record { name = refl; scalars = refl }
+sign_spelled DoubleSlash = record { name = refl; scalars = refl }
+sign_spelled DoubleSlashEqual = record { name = refl; scalars = refl }
+sign_spelled At = record { name = refl; scalars = refl }
+sign_spelled AtEqual = record { name = refl; scalars = refl }
+sign_spelled RArrow = record { name = refl; scalars = refl }
+sign_spelled Ellipsis = record { name = refl; scalars = refl }
+sign_spelled ColonEqual = record { name = refl; scalars = refl }
+
+abbrev as_terminal : Option Exact → Terminal
+as_terminal o = elim o [ Some e ↦ Op e | None ↦ Layout ]
+
+pub fair_sign : (x : Exact) → Fair (Op x)
+unfolding terminal_of fault_of is_operator
+fair_sign x =
+    let name = (sign_spelled x).name in
+    let is : is_operator (sign_text x) ≡ true = ap (λ (o : Option Exact). is_some o) name in
+    record {
+      token = is;
+      scalars = (sign_spelled x).scalars;
+      gives = record { terminal = ap as_terminal name; sound = record { of_kind = is; faultless = refl } };
+    }
+
+-- the brackets
+abbrev pub is_bracket : Exact → Bool
+is_bracket LPar = true
+is_bracket RPar = true
+is_bracket LSqb = true
+is_bracket RSqb = true
+is_bracket LBrace = true
+is_bracket RBrace = true
+is_bracket x = false
+
+pub opens_none : (x : Exact) (b h : Bool) → is_bracket x ≡ false → opens (piece (Op x) b h) ≡ false
+opens_none x b h e = ap (λ (o : Option Exact). elim o [ Some e ↦ is_opener e | None ↦ false ]) (sign_spelled x).name ∙ none x e
+  where
+    none : (x : Exact) → is_bracket x ≡ false → is_opener x ≡ false
+    none LPar e = absurd (cc)
+    none LSqb e = absurd (cc)
+    none LBrace e = absurd (cc)
+    none _ e = refl
+
+pub closes_none : (x : Exact) (b h : Bool) → is_bracket x ≡ false → closes (piece (Op x) b h) ≡ false
+closes_none x b h e = ap (λ (o : Option Exact). elim o [ Some e ↦ is_closer e | None ↦ false ]) (sign_spelled x).name ∙ none x e
+  where
+    none : (x : Exact) → is_bracket x ≡ false → is_closer x ≡ false
+    none RPar e = absurd (cc)
+    none RSqb e = absurd (cc)
+    none RBrace e = absurd (cc)
+    none _ e = refl
+
+pub fair_word : (k : Keyword) → Fair (Word k)
+fair_word k = let g = come_back.keyword k in record { token = g.sound.of_kind; scalars = name_scalars (spelling_of k) g.sound.of_kind; gives = g }
+
+-- ---- Names and constants.
+
+pub fair_name : (x : List ℕ) → IsProper x → Fair (in_form x)
+fair_name x i = record { token = i.name; scalars = name_scalars x i.name; gives = come_back.name x i }
+
+digits_scalars : (cs : List ℕ) → list_all is_decimal_digit cs ≡ true → all_scalars cs ≡ true
+digits_scalars [] e = refl
+digits_scalars (c ∷ cs) e =
+    let h = and_parts (is_decimal_digit c) (list_all is_decimal_digit cs) e in
+    let b = digit_bounds c h.0 in
+    let f = low_scalar c (omega arith) in
+    let r = digits_scalars cs h.1 in
+    rw (f, r) refl
+
+whole_scalars : (t : List ℕ) → is_whole t ≡ true → all_scalars t ≡ true
+whole_scalars [] e = cc
+whole_scalars (c ∷ cs) e = ⊎_elim
+    (λ (h : (is_zero c && is_nil cs) ≡ true). let q = and_parts (is_zero c) (is_nil cs) h in zero c cs q.0 q.1)
+    (λ (h : (is_one_to_nine c && list_all is_decimal_digit cs) ≡ true).
+    let q = and_parts (is_one_to_nine c) (list_all is_decimal_digit cs) h in
+    let d : is_decimal_digit c ≡ true = wider c q.0 in
+    let r = q.1 in
+    digits_scalars (c ∷ cs) (rw (d, r) refl))
+    (or_cases (is_zero c && is_nil cs) (is_one_to_nine c && list_all is_decimal_digit cs) e)
+  where
+    wider : (c : ℕ) → is_one_to_nine c ≡ true → is_decimal_digit c ≡ true
+    wider c e = grind (arith, nat_tests)
+
+    zero : (c : ℕ) (cs : List ℕ) → is_zero c ≡ true → is_nil cs ≡ true → all_scalars (c ∷ cs) ≡ true
+    zero c [] e f = let z : c ≡ 48 = eqb-true c 48 e in rw z refl
+    zero c (d ∷ cs) e f = cc
+
+points_pass : (points : List ℕ) → All IsPoint points → list_all (λ c. leb c 1114111) points ≡ true
+points_pass [] h = refl
+points_pass (c ∷ cs) h = let f : leb c 1114111 ≡ true = le-leb c 1114111 (All-head IsPoint c cs h) in let r = points_pass cs (All-tail IsPoint c cs h) in rw (f, r) refl
+
+fair_whole : (n : ℕ) → n < 2 ^ 128 → Fair (Whole n)
+fair_whole n h = record { token = decimal_token n (omega arith); scalars = whole_scalars (decimal n) (decimal_token n (omega arith)); gives = come_back.whole n h }
+
+-- the constants of literals
+abbrev pub IsConstant : Values.Value → Type 0
+IsConstant (Values.Int n) = n < 2 ^ 128
+IsConstant (Values.Str points unicode) = All IsPoint points
+IsConstant (Values.Bytes bytes) = All (λ b. b < 0x100) bytes
+IsConstant _ = Unit {0}
+
+pub fair_constant : (v : Values.Value) → IsConstant v → Fair (constant_terminal v)
+fair_constant (Values.Int n) h = fair_whole n h
+fair_constant (Values.Bool true) h = fair_word Key.True
+fair_constant (Values.Bool false) h = fair_word Key.False
+fair_constant Values.None h = fair_word Key.None
+fair_constant Values.Ellipsis h = fair_sign Ellipsis
+fair_constant (Values.Str points false) h = record { token = text_token points; scalars = text_scalars points (points_pass points h); gives = come_back.text points h }
+fair_constant (Values.Str points true) h = record { token = marked_token points; scalars = (let f = text_scalars points (points_pass points h) in rw f refl); gives = come_back.unicode points h }
+fair_constant (Values.Bytes bytes) h = record { token = bytes_token bytes; scalars = bytes_scalars bytes; gives = come_back.bytes bytes h }

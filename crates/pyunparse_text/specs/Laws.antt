@@ -1,0 +1,227 @@
+-- What holds of what a tree is written in.
+use Rattle.std.specs.Prelude.{◌≡◌, ◌+◌, ◌≤◌, ◌↔◌, List, [], ◌∷◌, ◌++◌, length, Bool, true, false, Some, ℕ, All}
+use Rattle.std.specs.Str.{all_scalars, encode_utf8_all}
+use Rattle.pylex.specs.Listing.{Source, in_characters}
+use Rattle.pylex.specs.Laws.{IsLawful}
+use Rattle.pytree_node.specs.declared.profiles.Profile.{Profile}
+use Rattle.pytree_node.specs.Trees.{Expr, Exprs, Keywords, Arguments, Module}
+use Rattle.pytoken.specs.Tokens as Tokens
+use Rattle.pytoken.specs.Terminals.{Terminal, Gives, IsSound}
+use Rattle.pytree_height.specs.Heights.{height, expression_height, statement_height}
+use Rattle.pygrammar.specs.declared.levels.Level.{Level}
+use Rattle.pygrammar.specs.declared.levels.Level.TheVariants.{Stars, Expression, Primary, Atom, Named}
+use Rattle.pygrammar.specs.Entries.{Entry, Argument, Parameter}
+use Rattle.pygrammar.specs.Arguments.{in_order, positional, keywords}
+use Rattle.pygrammar.specs.Parameters.{arranged}
+use Rattle.pygrammar.specs.Grammar.{Derives, Listing, Target, SingleTarget, DelTarget, ItemTarget}
+use Rattle.pygrammar.specs.Lines.{Line, line, Form}
+use Rattle.pygrammar.specs.Forms.{FormOf}
+use Rattle.pygrammar.specs.FormHeights.{form_height}
+use Rattle.pygrammar.specs.Blocks.{Block}
+use Rattle.pygrammar.specs.Refusals as Refusals
+use Rattle.pygrammar.specs.Refusals.{Accepted}
+use Rattle.pygrammar.specs.Reader.{Found, reads}
+use Rattle.pylex.specs.declared.kind.Kind.{Kind}
+use Rattle.pyunparse_text.specs.Spacing.{Piece}
+use Rattle.pyunparse_text.specs.Tokens.{is_written, are_written}
+use Rattle.pyunparse_text.specs.SpacingLaws.{ReadsBack}
+use Rattle.pyunparse_text.specs.Written.{listed, each, by_name, parameters}
+use Rattle.pyunparse_text.specs.Terminals.{terminal, terminals}
+use Rattle.pyunparse_text.specs.Pieces.{piece, pieces}
+use Rattle.pyunparse_text.specs.Statements.{item_target}
+use Rattle.pyunparse_text.specs.Modules.{WrittenLine, written_line, module_lines, terminal_lines, piece_lines, module_text}
+use Rattle.pyunparse_text.specs.Brackets.{brackets}
+
+-- ---- Fewest brackets.
+
+-- by a relation, a list of terminals gives something, and no shorter list does
+pub record Shortest {A : Type 0} (Gives : List Terminal → A → Type 0) (ts : List Terminal) (a : A) : Type 0 where
+  pub gives : Gives ts a
+  pub least : (us : List Terminal) → Gives us a → length ts ≤ length us
+
+-- An expression that the grammar gives to some list at a level is written there in terminals that give it back, and in no more than any list
+-- that does.
+abbrev pub ExpressionsAreShortest : Type 0
+ExpressionsAreShortest = (l : Level) (ts : List Terminal) (e : Expr) → Derives l ts e → Shortest (Derives l) (terminals l e) e
+
+-- So the reader finds it in its own terminals exactly where some list gives it.
+abbrev pub ExpressionsComeBack : Type 0
+ExpressionsComeBack = (l : Level) (e : Expr) → ((ts : List Terminal) × Derives l ts e) ↔ (reads l (terminals l e) ≡ Found e [])
+
+-- Targets are written as expressions at the level of their place, as if their contexts were Load.
+pub record TargetIsShortest (ts : List Terminal) (s : Expr) : Type 0 where
+  pub target : Target ts s → Shortest Target (terminals Stars s) s
+  pub single : SingleTarget ts s → Shortest SingleTarget (terminals Primary s) s
+  pub del : DelTarget ts s → Shortest DelTarget (terminals Expression s) s
+  pub item : ItemTarget ts s → Shortest ItemTarget (item_target terminal s) s
+
+abbrev pub TargetsAreShortest : Type 0
+TargetsAreShortest = (ts : List Terminal) (s : Expr) → TargetIsShortest ts s
+
+-- a list of parameters gives the arguments of a `lambda`, or with annotations of a `def`
+pub record IsArranged (annotated : Bool) (ts : List Terminal) (a : Arguments) : Type 0 where
+  pub entries : List Entry
+  pub listing : Listing (Parameter annotated) ts entries
+  pub arranged_as : arranged entries ≡ Some a
+
+abbrev pub ParametersAreShortest : Type 0
+ParametersAreShortest = (annotated : Bool) (ts : List Terminal) (a : Arguments) → IsArranged annotated ts a → Shortest (IsArranged annotated) (listed terminal (parameters terminal a)) a
+
+-- a list of arguments gives the fields `args` and `keywords`, of a call or of a class
+pub record AreArguments (ts : List Terminal) (fields : Exprs × Keywords) : Type 0 where
+  pub entries : List Entry
+  pub listing : Listing Argument ts entries
+  pub order : in_order false false entries ≡ true
+  pub positional_are : positional entries ≡ fields.0
+  pub keywords_are : keywords entries ≡ fields.1
+
+abbrev pub ArgumentsAreShortest : Type 0
+ArgumentsAreShortest = (ts : List Terminal) (es : Exprs) (ks : Keywords) → AreArguments ts (es, ks) → Shortest AreArguments (listed terminal (each terminal Named es ++ by_name terminal ks)) (es, ks)
+
+-- ---- Brackets within heights.
+
+-- no place is at Atom
+abbrev pub not_atom : Level → Bool
+not_atom Atom = false
+not_atom _ = true
+
+-- no more brackets are open at once than the expression is high
+abbrev pub BracketsAreWithinHeight : Type 0
+BracketsAreWithinHeight = (l : Level) (e : Expr) → not_atom l ≡ true → brackets (terminals l e) ≤ height e
+
+-- what a tree is written in has the fewest tokens at each place of an expression, and no more brackets in one another than it is high
+pub record WritingIsShortest : Type 0 where
+  pub expressions : ExpressionsAreShortest
+  pub targets : TargetsAreShortest
+  pub parameters : ParametersAreShortest
+  pub arguments : ArgumentsAreShortest
+  pub brackets : BracketsAreWithinHeight
+
+-- ---- Pieces.
+
+-- pieces give terminals one by one: each is what its type says, has no fault, and is the terminal
+pub data Give : List Piece → List Terminal → Type 0 where
+  give_none : Give [] []
+  give : {p : Piece} {ps : List Piece} {t : Terminal} {ts : List Terminal} → Gives p.kind p.text t → Give ps ts → Give (p ∷ ps) (t ∷ ts)
+
+-- a terminal of some token of Unicode characters that has no fault
+pub record IsOfToken (t : Terminal) : Type 0 where
+  pub kind : Kind
+  pub text : List ℕ
+  pub characters : all_scalars text ≡ true
+  pub gives : Gives kind text t
+
+-- Pieces give these terminals, and are a line that is read back: those that touch are told apart, and brackets are closed.
+pub record AreRead (ps : List Piece) (ts : List Terminal) : Type 0 where
+  pub give : Give ps ts
+  pub line : (level : ℕ) → is_written (record { level = level; pieces = ps }) ≡ true
+
+-- what is written for an expression that the grammar gives to some tokens
+abbrev pub ExpressionsAreRead : Type 0
+ExpressionsAreRead = (l : Level) (ts : List Terminal) (e : Expr) → All IsOfToken ts → Derives l ts e → AreRead (pieces l e) (terminals l e)
+
+-- ---- Modules.
+
+-- the lines have these forms in a version of Python
+pub data HaveForms (profile : Profile) : List (WrittenLine Terminal) → List Line → Type 0 where
+  no_form : HaveForms profile [] []
+  a_form : {l : ℕ} {ts : List Terminal} {f : Form} {ws : List (WrittenLine Terminal)} {xs : List Line}
+      → FormOf profile ts f → HaveForms profile ws xs → HaveForms profile (written_line l ts ∷ ws) (line l f ∷ xs)
+
+-- they have forms, and the statements of these are a module's
+pub record AreModule (profile : Profile) (ws : List (WrittenLine Terminal)) (m : Module) : Type 0 where
+  pub forms : List Line
+  pub formed : HaveForms profile ws forms
+  pub block : Block 0 forms m.body
+
+-- A module that some lines are is that of the lines that it is written in. Lines are one module at most (`pygrammar`'s laws), so these are
+-- no other.
+abbrev pub ModulesComeBack : Type 0
+ModulesComeBack = (profile : Profile) (ws : List (WrittenLine Terminal)) (m : Module) → AreModule profile ws m → AreModule profile (terminal_lines m) m
+
+-- lines are one module at most
+abbrev pub LinesAreOneModule : Type 0
+LinesAreOneModule = (profile : Profile) (ws : List (WrittenLine Terminal)) (m n : Module) → AreModule profile ws m → AreModule profile ws n → m ≡ n
+
+-- a module that is accepted is that of its own lines
+abbrev pub AcceptedComeBack : Type 0
+AcceptedComeBack = (profile : Profile) (s : Source) (m : Module) → Accepted profile s m → AreModule profile (terminal_lines m) m
+
+-- no expression of some forms is higher
+abbrev pub AreWithin : ℕ → List Line → Type 0
+AreWithin height [] = Unit {0}
+AreWithin height (x ∷ xs) = (form_height x.form ≤ height) × AreWithin height xs
+
+-- forms have no higher expressions than their module, nor has a module than they
+abbrev pub FormsAreLow : Type 0
+FormsAreLow = (xs : List Line) (m : Module) → Block 0 xs m.body → AreWithin (expression_height m) xs
+
+abbrev pub ModulesAreLow : Type 0
+ModulesAreLow = (n : ℕ) (xs : List Line) (m : Module) → Block 0 xs m.body → AreWithin n xs → expression_height m ≤ n
+
+-- a line's own brackets are one pair round its expressions, so in no line more are open at once than this
+abbrev pub LineBracketsAreWithinHeight : Type 0
+LineBracketsAreWithinHeight = (m : Module) → All (λ w. brackets w.tokens ≤ expression_height m + 1) (terminal_lines m)
+
+-- ---- Modules as text.
+
+-- terminals of tokens of Unicode characters that have no fault
+abbrev pub AreOfTokens : WrittenLine Terminal → Type 0
+AreOfTokens w = All IsOfToken w.tokens
+
+-- lines of pieces give lines of terminals, each at its level
+pub data GiveLines : List (WrittenLine Piece) → List (WrittenLine Terminal) → Type 0 where
+  no_line : GiveLines [] []
+  a_line : {l : ℕ} {ps : List Piece} {ts : List Terminal} {rs : List (WrittenLine Piece)} {qs : List (WrittenLine Terminal)}
+      → Give ps ts → GiveLines rs qs → GiveLines (written_line l ps ∷ rs) (written_line l ts ∷ qs)
+
+-- The lines of a module are read back, and give its lines of terminals.
+pub record ModuleIsRead (m : Module) : Type 0 where
+  pub written : are_written (piece_lines m) ≡ true
+  pub give : GiveLines (module_lines piece m) (terminal_lines m)
+
+-- so are those of a module that some lines of tokens are
+abbrev pub ModulesAreRead : Type 0
+ModulesAreRead = (profile : Profile) (ws : List (WrittenLine Terminal)) (m : Module) → AreModule profile ws m → All AreOfTokens ws → ModuleIsRead m
+
+-- The UTF-8 of a module's text is a source in UTF-8, without a mark, a cookie or a fault, whose tokens and lines are the module's pieces; it is
+-- accepted as this module, and as no other.
+pub record TextIsAccepted (profile : Profile) (m : Module) : Type 0 where
+  pub back : ReadsBack (encode_utf8_all (module_text m)) (piece_lines m)
+  pub accepted : Accepted profile (in_characters back.parts) m
+  pub only : (n : Module) → Accepted profile (in_characters back.parts) n → n ≡ m
+
+-- The law of source text: a module that some lines of tokens are, and that is no higher than 500, is the one that its own text is.
+abbrev pub ModuleTextsAreAccepted : Type 0
+ModuleTextsAreAccepted = (profile : Profile) (ws : List (WrittenLine Terminal)) (m : Module) → AreModule profile ws m → All AreOfTokens ws
+    → expression_height m ≤ 500 → statement_height m ≤ 500 → TextIsAccepted profile m
+
+-- the lines of a source as the grammar reads them
+abbrev pub source_lines : List Tokens.Line → List (WrittenLine Terminal)
+source_lines [] = []
+source_lines (x ∷ xs) = written_line x.level (Refusals.terminals x) ∷ source_lines xs
+
+-- a token of Unicode characters that is what its type says, and has no fault
+abbrev pub IsGood : Tokens.Token → Type 0
+IsGood t = (all_scalars t.text ≡ true) × IsSound t.kind t.text
+
+-- lines of such tokens are such lines of terminals
+abbrev pub TokensAreOfTokens : Type 0
+TokensAreOfTokens = (xs : List Tokens.Line) → All (λ (x : Tokens.Line). All IsGood x.tokens) xs → All AreOfTokens (source_lines xs)
+
+-- So a module that a source is accepted as, is the one that its own text is.
+abbrev pub AcceptedTextsAreAccepted : Type 0
+AcceptedTextsAreAccepted = (profile : Profile) (s : Source) (m : Module) → IsLawful s → all_scalars s.text ≡ true → Accepted profile s m → TextIsAccepted profile m
+
+-- ---- All of them.
+
+-- the laws of what a tree is written in
+pub record WritingIsLawful : Type 0 where
+  pub shortest : WritingIsShortest
+  pub back : ExpressionsComeBack
+  pub read : ExpressionsAreRead
+  pub modules : ModulesComeBack
+  pub one : LinesAreOneModule
+  pub lines : ModulesAreRead
+  pub texts : ModuleTextsAreAccepted
+  pub sources : AcceptedTextsAreAccepted

@@ -1,0 +1,12 @@
+pub mod Brackets
+pub mod Levels
+pub mod Written
+pub mod Terminals
+pub mod Pieces
+pub mod Statements
+pub mod Modules
+pub mod Laws
+pub mod Inner
+pub mod Spacing
+pub mod Tokens
+pub mod SpacingLaws

@@ -1,6 +1,0 @@
-use Rattle.std.proofs.Common.{refl, sym}
-use Rattle.pyvalue.proofs.NameLemmas.{name_low}
-use Rattle.pyvalue.proofs.names.name_fault.Goals as goal
-
-pub returns-then-is_ascii : goal.returns-then-is_ascii
-returns-then-is_ascii c = sym (name_low c.args.text.now (c.if-is_ascii.ensures.0 refl))

@@ -1,9 +1,0 @@
-use Rattle.std.proofs.Common.{◌≡◌, map, take, true}
-use Rattle.std.specs.List.{list_all}
-use Rattle.pynode.specs.TreeOf.{alias_of}
-use Rattle.pyslots.specs.Names.{is_name}
-use Rattle.pyslots.specs.Statements.{alias_fits}
-use Rattle.pywellformed.proofs.imports.aliases_fit.Given as goal
-
-abbrev pub invariant-loop-alias : goal.invariant-loop-alias
-invariant-loop-alias l = list_all (alias_fits is_name) (map alias_of (take l.alias-index l.names)) ≡ true

@@ -1,6 +1,0 @@
-use Rattle.std.proofs.Common.{sym}
-use Rattle.pywellformed.proofs.TargetShapes.{not_single}
-use Rattle.pywellformed.proofs.places.is_single.Goals as goal
-
-pub returns-in_default : goal.returns-in_default
-returns-in_default c = sym (not_single c.args.expr.now c.in_default.not-Attribute c.in_default.not-Subscript c.in_default.not-Name)

@@ -1,6 +1,0 @@
-use Rattle.std.proofs.Common.{sym}
-use Rattle.pywellformed.proofs.TargetShapes.{not_starred}
-use Rattle.pywellformed.proofs.places.is_starred.Goals as goal
-
-pub returns-in_default : goal.returns-in_default
-returns-in_default c = sym (not_starred c.args.expr.now c.in_default.not-Starred)

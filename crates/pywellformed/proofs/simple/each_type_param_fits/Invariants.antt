@@ -1,9 +1,0 @@
-use Rattle.std.proofs.Common.{◌≡◌, map, take, true}
-use Rattle.std.specs.List.{list_all}
-use Rattle.pynode.specs.TreeOf.{type_param_of}
-use Rattle.pyslots.specs.Names.{is_name}
-use Rattle.pyslots.specs.Statements.{type_param_fits}
-use Rattle.pywellformed.proofs.simple.each_type_param_fits.Given as goal
-
-abbrev pub invariant-loop-parameter : goal.invariant-loop-parameter
-invariant-loop-parameter l = list_all (type_param_fits is_name) (map type_param_of (take l.parameter-index l.parameters)) ≡ true

@@ -1,8 +1,0 @@
--- On: what is written is read back.
---
--- Carries: what pyunparse cites.
-use Rattle.pywritten.specs.Laws.{ExpressionsAreRead}
-use Rattle.pywritten.proofs.Pieces.Law
-
-pub expressions_are_read : ExpressionsAreRead
-expressions_are_read = Law.expressions_read
