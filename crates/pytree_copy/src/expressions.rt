@@ -219,7 +219,7 @@ fn copy_comprehensions(
     Ok(made)
 }
 
-/// A copy of an argument by name.
+/// A copy of a keyword argument.
 #[cycle(copying)]
 #[tactic(auto, using(pytree_node::proofs::Callers::ExprShapes::expr_shapes))]
 fn copy_keyword(alloc: Global, k: &Keyword) -> Result<Keyword, AllocError>
@@ -231,7 +231,7 @@ fn copy_keyword(alloc: Global, k: &Keyword) -> Result<Keyword, AllocError>
     })
 }
 
-/// A copy of some arguments by name.
+/// A copy of some keyword arguments.
 #[cycle(copying)]
 #[tactic(auto, using(pytree_node::proofs::Callers::ExprShapes::expr_shapes))]
 pub(crate) fn copy_keywords(alloc: Global, ks: &[Keyword]) -> Result<Vec<Keyword>, AllocError>

@@ -8,7 +8,7 @@ use std::alloc::{AllocError, Global};
 
 /// Both values, where there was memory for the second.
 ///
-/// A value is let go here, by a call, and not where it is made: of an enum with many classes that
+/// A value is dropped here, by a call, and not where it is made: of an enum with many classes that
 /// is long to prove.
 pub(crate) fn both<A: Drop, B>(a: A, b: Result<B, AllocError>) -> Result<(A, B), AllocError>
     ensures first { IfOk result (λ made. made.0 ≡ a) }

@@ -67,7 +67,7 @@ pub(crate) fn copy_aliases(alloc: Global, names: &[Alias]) -> Result<Vec<Alias>,
     Ok(made)
 }
 
-/// A copy of a parameter of a type.
+/// A copy of a type parameter.
 fn copy_type_param(alloc: Global, parameter: &TypeParam) -> Result<TypeParam, AllocError>
     ensures { IfOk result (λ made. type_param_of made ≡ type_param_of parameter.now) }
 {
@@ -85,7 +85,7 @@ fn copy_type_param(alloc: Global, parameter: &TypeParam) -> Result<TypeParam, Al
     }
 }
 
-/// A copy of some parameters of types.
+/// A copy of some type parameters.
 pub(crate) fn copy_type_params(
     alloc: Global,
     parameters: &[TypeParam],

@@ -1,7 +1,7 @@
 //! Copies of statements.
 //!
-//! An expression that stands in its statement itself is copied behind the lists: so it need not be
-//! let go where one of these has no memory, which is long to prove.
+//! An expression that is a field of its statement, not boxed, is copied after the lists: so it need
+//! not be dropped where one of these runs out of memory, which is long to prove.
 
 ghost use Rattle.std.specs.Prelude.{◌≡◌, IfOk, map};
 ghost use Rattle.pytree_node.specs.TreeOf.{handler_of, stmt_of};
@@ -198,7 +198,7 @@ fn copy_stmt(alloc: Global, s: &Stmt) -> Result<Stmt, AllocError>
     }
 }
 
-/// Statements that are equal to these. Where memory is refused, what was made of them is dropped.
+/// Statements that are equal to these. If memory runs out, what was made of them is dropped.
 #[cycle(copying)]
 #[tactic(auto, using(pytree_node::proofs::Callers::StmtShapes::stmt_shapes))]
 pub fn copy_stmts(alloc: Global, body: &[Stmt]) -> Result<Vec<Stmt>, AllocError>

@@ -127,7 +127,7 @@ fn generators_height(cs: &[Comprehension]) -> u64
     most
 }
 
-/// The height of the highest of some arguments by name.
+/// The height of the highest of some keyword arguments.
 #[cycle(expression_height)]
 #[tactic(auto, using(pytree_node::proofs::Callers::ExprShapes::expr_shapes, crate::proofs::CapLemmas::caps))]
 pub(crate) fn keywords_height(ks: &[Keyword]) -> u64

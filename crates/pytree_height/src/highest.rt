@@ -36,7 +36,7 @@ fn items_height(items: &[Item]) -> u64
     most
 }
 
-/// The height of a parameter of a type: of its bound, or 0.
+/// The height of a type parameter: of its bound, or 0.
 #[tactic(auto, using(crate::proofs::CapLemmas::caps))]
 fn type_param_height(parameter: &TypeParam) -> u64
     ensures { result ≡ capped (type_param_height (type_param_of parameter.now)) }
@@ -48,7 +48,7 @@ fn type_param_height(parameter: &TypeParam) -> u64
     }
 }
 
-/// The height of the highest expression of some parameters of types, or 0.
+/// The height of the highest expression of some type parameters, or 0.
 #[tactic(auto, using(crate::proofs::CapLemmas::caps))]
 fn type_params_height(parameters: &[TypeParam]) -> u64
     ensures { result ≡ capped (type_param_heights (map type_param_of parameters.now)) }

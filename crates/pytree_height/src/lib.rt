@@ -1,6 +1,6 @@
 //! How high a tree is.
 //!
-//! [`height`] tells how high the expressions and the statements of a module are. `specs/Heights`
+//! [`height`] gives the heights of a module's expressions and of its statements. `specs/Heights`
 //! defines heights.
 #![tactic(auto)]
 

@@ -21,7 +21,7 @@ pub struct Heights {
     pub statement: u64,
 }
 
-/// The heights of a module. One that is 2 to the 64 or more is told as the largest `u64`.
+/// The heights of a module. A height of 2 to the 64 or more is given as the largest `u64`.
 pub fn height(tree: &Module) -> Heights
     ensures expression { result.expression ≡ capped (expression_height (module_of tree.now)) }
     ensures statement { result.statement ≡ capped (statement_height (module_of tree.now)) }

@@ -5,7 +5,7 @@
 -- `type_ignores`, which is empty. `int simple` and `int is_async` are 0 or 1, so truth values here.
 --
 -- The classes List and Expr (of a statement) are ListOf and ExprOf here. The lists and the options of nodes within a node are data of
--- their own, since antt's data can't stand in one another's lists; outside of the nodes all speaks of std's lists and options, and
+-- their own, since antt's data can't be nested in std's lists; outside of the nodes all speaks of std's lists and options, and
 -- `exprs`, `optional` and the like lead from these to those.
 use Rattle.std.specs.Prelude.{ℕ, Bool, List, [], ◌∷◌, Option, Some, None}
 use Rattle.pytree_node.specs.declared.operators.Operator.{Operator}

@@ -1,4 +1,4 @@
-//! The expressions of a tree, and the parts that stand in them.
+//! The expressions of a tree, and the parts that they hold.
 //!
 //! Python library reference, `ast`: "Abstract grammar", `expr`.
 
@@ -150,7 +150,7 @@ pub struct Comprehension {
     pub is_async: bool,
 }
 
-/// An argument by name, or one of `**`, which has no name: the class `keyword`.
+/// A keyword argument, or one of `**`, which has no name: the class `keyword`.
 #[derive(Drop)]
 #[cycle(expressions)]
 pub struct Keyword {

@@ -54,7 +54,7 @@ impl Points {
         Some(Points { points })
     }
 
-    /// Appends a code point. Where memory is refused the text is as it was.
+    /// Appends a code point. If memory runs out, the text is as it was.
     pub fn push(&mut self, point: u32) -> Result<(), AllocError>
         requires { IsPoint point }
         ensures { self.new ≡ (if is_ok result then self.old ++ point ∷ [] else self.old) }
@@ -63,7 +63,7 @@ impl Points {
         Ok(())
     }
 
-    /// Appends the code points that bytes are, one for each. Where memory is refused the text is as
+    /// Appends the code points that bytes are, one for each. If memory runs out, the text is as
     /// it was.
     #[inline(always)]
     pub fn push_bytes(&mut self, bytes: &[u8]) -> Result<(), AllocError>

@@ -5,6 +5,6 @@
 pub enum Profile {
     /// Python 3.11.
     Py311,
-    /// Python 3.12: with `type` statements and parameters of types.
+    /// Python 3.12: with `type` statements and type parameters.
     Py312,
 }

@@ -1,4 +1,4 @@
-//! The statements of a tree, and the parts that stand in them.
+//! The statements of a tree, and the parts that they hold.
 //!
 //! Python library reference, `ast`: "Abstract grammar", `stmt`.
 
@@ -8,7 +8,7 @@ use crate::operators::Operator;
 
 /// A statement: the class `stmt`. It takes 160 bytes.
 ///
-/// An expression stands in its statement; it is boxed where the statement would be larger than
+/// An expression is a field of its statement; it is boxed where the statement would be larger than
 /// all others.
 #[derive(Drop)]
 #[cycle(statements)]
@@ -136,8 +136,8 @@ pub enum Stmt {
     Import {
         names: Vec<Alias>,
     },
-    /// `from ..a import b as c, d`: its level is the number of dots in front, and it has no module
-    /// where nothing stands behind them.
+    /// `from ..a import b as c, d`: its level is the number of leading dots, and it has no
+    /// module where nothing follows them.
     ImportFrom {
         module: Option<Identifier>,
         names: Vec<Alias>,
@@ -151,7 +151,7 @@ pub enum Stmt {
     Nonlocal {
         names: Vec<Identifier>,
     },
-    /// An expression that stands as a statement.
+    /// An expression as a statement.
     Expr {
         value: Expr,
     },
@@ -187,7 +187,7 @@ pub struct Item {
     pub optional_vars: Option<Expr>,
 }
 
-/// A parameter of a type, of Python 3.12: the class `type_param`.
+/// A type parameter, of Python 3.12: the class `type_param`.
 #[derive(Drop)]
 pub enum TypeParam {
     /// `T`, `T: int`.

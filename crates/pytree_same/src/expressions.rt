@@ -358,7 +358,7 @@ fn same_comprehensions(a: &[Comprehension], b: &[Comprehension]) -> bool
     true
 }
 
-/// Whether two arguments by name are equal.
+/// Whether two keyword arguments are equal.
 #[cycle(same)]
 #[tactic(auto, using(pytree_node::proofs::Callers::ExprShapes::expr_shapes, crate::proofs::Members::expr_members))]
 fn same_keyword(a: &Keyword, b: &Keyword) -> bool
@@ -367,7 +367,7 @@ fn same_keyword(a: &Keyword, b: &Keyword) -> bool
     same_optional_name(&a.arg, &b.arg) && same_expr(&a.value, &b.value)
 }
 
-/// Whether the arguments by name are equal, each with its own.
+/// Whether the keyword arguments are equal, each with its own.
 #[cycle(same)]
 #[tactic(auto, using(pytree_node::proofs::Callers::ExprShapes::expr_shapes, crate::proofs::Members::expr_members))]
 pub(crate) fn same_keywords(a: &[Keyword], b: &[Keyword]) -> bool

@@ -63,7 +63,7 @@ pub(crate) fn same_aliases(a: &[Alias], b: &[Alias]) -> bool
     true
 }
 
-/// Whether two parameters of types are equal.
+/// Whether two type parameters are equal.
 fn same_type_param(a: &TypeParam, b: &TypeParam) -> bool
     ensures { IsTrue result ↔ (type_param_of a.now ≡ type_param_of b.now) }
 {
@@ -84,7 +84,7 @@ fn same_type_param(a: &TypeParam, b: &TypeParam) -> bool
     }
 }
 
-/// Whether the parameters of types are equal, each with its own.
+/// Whether the type parameters are equal, each with its own.
 pub(crate) fn same_type_params(a: &[TypeParam], b: &[TypeParam]) -> bool
     ensures { IsTrue result ↔ (map type_param_of a.now ≡ map type_param_of b.now) }
 {
