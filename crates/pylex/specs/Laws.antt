@@ -10,7 +10,7 @@ use Rattle.pylex_lexeme.specs.Lexemes.{Lexeme, are_blanks, is_join, class_in, le
 use Rattle.pylex_lexeme.specs.Chars.{bytes_in}
 use Rattle.pylex_lexeme.specs.Operators.{exact_of}
 use Rattle.pylex.specs.Listing.{Source, listing}
-use Rattle.pylex.specs.Steps.{entries_of, fault_of}
+use Rattle.pylex.specs.Steps.{entries_of, fault_of, IsNoEntry}
 use Rattle.pylex.specs.Cursors.{is_indent}
 use Rattle.pylex.specs.Indentation.{open_levels}
 
@@ -80,12 +80,6 @@ pub record AreOrdered (es : List Entry) : Type 0 where
 abbrev pub IsOrdered : Source → Type 0
 IsOrdered s = AreOrdered (entries_of (listing s))
 
--- a step that ends a listing
-abbrev pub IsStop : Step → Type 0
-IsStop (steps.Entry e) = ⊥
-IsStop steps.End = Unit {0}
-IsStop (steps.Fault f) = Unit {0}
-
 -- the first entry is of the encoding
 abbrev pub BeginsWithEncoding : List Entry → Type 0
 BeginsWithEncoding es = (e : Entry) × (later : List Entry) × (es ≡ e ∷ later) × (e.kind ≡ kinds.Encoding)
@@ -98,7 +92,7 @@ EndsWithMarker es = (earlier : List Entry) × (e : Entry) × (es ≡ earlier ++ 
 pub record AreWhole (ss : List Step) : Type 0 where
   pub last : Step
   pub whole : ss ≡ map steps.Entry (entries_of ss) ++ last ∷ []
-  pub stops : IsStop last
+  pub stops : IsNoEntry last
   pub first : BeginsWithEncoding (entries_of ss)
   pub marker : last ≡ steps.End → EndsWithMarker (entries_of ss)
 

@@ -78,7 +78,7 @@ IsAt o (steps.Entry e) = (e.«from» ≡ o) × (e.to ≡ o)
 IsAt o steps.End = Unit {0}
 IsAt o (steps.Fault f) = Unit {0}
 
--- the step gives no entry
+-- the step gives no entry: it ends a listing
 abbrev pub IsNoEntry : Step → Type 0
 IsNoEntry (steps.Entry e) = ⊥
 IsNoEntry steps.End = Unit {0}

@@ -22,10 +22,9 @@ use Rattle.pylex.specs.declared.leading_char.LeadingChar.TheVariants.{Nothing}
 use Rattle.pylex_lexeme.specs.Lexemes.{cut, left_by_cut}
 use Rattle.pylex.specs.Cursors.{CursorParts, has_no_text, given_last_first, with_text, lexemes_to, cursor_at, cursor}
 use Rattle.pylex.specs.Listing.{Source, in_characters, listing, rest, origin, last_line}
-use Rattle.pylex.specs.Steps.{entries_of, first_step, entries_in, IsIndent, mark}
+use Rattle.pylex.specs.Steps.{entries_of, first_step, entries_in, IsIndent, mark, IsNoEntry}
 use Rattle.pylex.specs.Machine.{State, first_state, remaining, mark_at, step_of, pushed, after, front_after}
 use Rattle.pylex.specs.LineState.{with_levels, measured, begun_anew, Stands, HasRoom, IsAscending, Comes, EntryAhead, FaultAhead, IndentAhead, DedentAhead, StopAhead, Walks, stays, dedent, is_level}
-use Rattle.pylex.specs.Laws.{IsStop}
 use Rattle.pylex.specs.Standing.{standing_by, resumed}
 use Rattle.pylex.specs.declared.cursor.Shown.{Shown}
 use Rattle.pylex.specs.Listers.{Listed, StandsIn, NextStep, AwaitsIndent, Keeps, IsIn, Passes, shown_at, shown_by}
@@ -499,12 +498,12 @@ none_behind [] k h = drop_none k
 none_behind (s ∷ ss) zero h = absurd (omega arith)
 none_behind (s ∷ ss) (suc k) h = none_behind ss k (omega arith)
 
-no_stop : (s : Step) (e : Entry) → IsStop s → s ≡ steps.Entry e → ⊥
+no_stop : (s : Step) (e : Entry) → IsNoEntry s → s ≡ steps.Entry e → ⊥
 no_stop (steps.Entry d) e n h = n
 no_stop steps.End e n h = cc
 no_stop (steps.Fault f) e n h = cc
 
-pub rest_stop : (a : Source) (k : ℕ) (s : Step) → slice_get (listing a) k ≡ Some s → IsStop s → rest a k ≡ s ∷ []
+pub rest_stop : (a : Source) (k : ℕ) (s : Step) → slice_get (listing a) k ≡ Some s → IsNoEntry s → rest a k ≡ s ∷ []
 rest_stop a k s h n =
     let l = listing_length a in
     let last : length (entries_of (listing a)) ≤ k = ⊎_elim
