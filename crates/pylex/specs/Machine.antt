@@ -17,7 +17,7 @@ use Rattle.pylex.specs.declared.leading_char.LeadingChar.TheVariants.{Nothing, H
 use Rattle.pylex_lexeme.specs.Chars.{is_blank_char}
 use Rattle.pylex_lexeme.specs.Operators.{is_closer}
 use Rattle.pylex_lexeme.specs.Lexemes.{Lexeme, cut, left_by_cut, is_join_class}
-use Rattle.pylex.specs.Lines.{is_of_blanks, is_of_line_end, is_significant, opens, closes}
+use Rattle.pylex.specs.Lines.{is_of_blanks, is_of_line_end, is_significant, opens, closes, count_if}
 use Rattle.pylex.specs.Steps.{fault_at}
 use Rattle.pylex.specs.Indentation.{width_from}
 use Rattle.pylex_lexeme.specs.Chars.{bytes_in}
@@ -63,9 +63,6 @@ ends_line s x = is_of_line_end x && (s.depth == 0)
 
 abbrev pub begins_line : State → Lexeme → Bool
 begins_line s x = s.margin && is_significant x
-
-abbrev pub count_if : Bool → ℕ
-count_if b = if b then 1 else 0
 
 abbrev pub still : Bool → ℕ → ℕ
 still b n = if b then n else 0

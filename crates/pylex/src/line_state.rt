@@ -8,11 +8,12 @@ ghost use Rattle.pylex_lexeme.specs.Lexemes.{is_significant_class, is_blanks_cla
 ghost use Rattle.pylex_lexeme.specs.Lexemes.{is_opener_class, is_closer_class};
 ghost use Rattle.pylex_lexeme.specs.Chars.{bytes_in};
 ghost use Rattle.pylex_lexeme.specs.Operators.{is_closer};
-ghost use Rattle.pylex.specs.Machine.{past, after, entry_by, still, count_if, pushed, first_state};
+ghost use Rattle.pylex.specs.Machine.{past, after, entry_by, still, pushed, first_state};
 ghost use Rattle.pylex.specs.Machine.{last_line_end, last_place, line_end_kind_of};
 ghost use Rattle.pylex.specs.Listing.{row_after};
 ghost use Rattle.pylex.specs.LineState.{with_levels, measured, begun_anew, given, HasRoom};
 ghost use Rattle.pylex.specs.Inner.Told.{Tells, Passed, GivesEntry, is_text, text_kind};
+ghost use Rattle.pylex.specs.Lines.{count_if};
 
 use crate::entries::{Emitted, Entry, ListingError, ListingFault};
 use crate::kind::{Exact, Kind};

@@ -8,10 +8,10 @@ use Rattle.pysource.specs.declared.places.Place.{Place}
 use Rattle.pylex.specs.declared.point.Point.{Point}
 use Rattle.pylex.specs.declared.line_state.LineState.{LineState}
 use Rattle.pylex_lexeme.specs.Lexemes.{Lexeme}
-use Rattle.pylex.specs.Lines.{opens, closes, is_significant, is_of_blanks, is_of_line_end}
+use Rattle.pylex.specs.Lines.{opens, closes, is_significant, is_of_blanks, is_of_line_end, count_if}
 use Rattle.pylex.specs.Indentation.{width_from}
 use Rattle.pylex_lexeme.specs.Chars.{bytes_in}
-use Rattle.pylex.specs.Machine.{place_past, front_after, after, past, count_if, still, is_of_join}
+use Rattle.pylex.specs.Machine.{place_past, front_after, after, past, still, is_of_join}
 use Rattle.pylex_lexeme.proofs.Callers.Booleans.{bool_cases}
 use Rattle.pylex.specs.LineState.{with_levels, HasRoom}
 

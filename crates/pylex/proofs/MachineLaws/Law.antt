@@ -11,11 +11,11 @@ use Rattle.std.proofs.lemmas.Grind.{common_steps}
 use Rattle.std.proofs.lemmas.Bool.Decides.{nat_tests}
 use Rattle.pysource.specs.Places.{place_after}
 use Rattle.pylex_lexeme.specs.Lexemes.{Lexeme}
-use Rattle.pylex.specs.Lines.{text_before, depth, is_of_blanks, is_of_line_end, is_significant, opens, closes, line_so_far, before_line, is_at_margin, is_logical}
+use Rattle.pylex.specs.Lines.{text_before, depth, is_of_blanks, is_of_line_end, is_significant, opens, closes, line_so_far, before_line, is_at_margin, is_logical, count_if}
 use Rattle.pylex_lexeme.specs.Chars.{bytes_in}
 use Rattle.pylex.specs.Indentation.{column_after, width_from, width_at, widths, open_levels}
 use Rattle.pylex.specs.Listing.{ends_in_join}
-use Rattle.pylex.specs.Machine.{State, place_past, front_after_char, front_after, past, after, still, count_if, pushed}
+use Rattle.pylex.specs.Machine.{State, place_past, front_after_char, front_after, past, after, still, pushed}
 use Rattle.pylex.specs.declared.point.Point.{Point}
 use Rattle.pylex.specs.declared.leading_char.LeadingChar.{LeadingChar}
 use Rattle.pylex.specs.declared.leading_char.LeadingChar.TheVariants.{Nothing}

@@ -27,8 +27,8 @@ use Rattle.pylex.specs.declared.kind.Kind.{Kind}
 use Rattle.pylex.specs.declared.kind.Kind.TheVariants as kinds
 use Rattle.pylex.specs.declared.point.Point.{Point}
 use Rattle.pylex.specs.declared.line_state.LineState.{LineState}
-use Rattle.pylex.specs.Lines.{opens, closes}
-use Rattle.pylex.specs.Machine.{State, place_past, front_after, after, behind, entry_by, line_end_kind_of, step_of, past, count_if, still}
+use Rattle.pylex.specs.Lines.{opens, closes, count_if}
+use Rattle.pylex.specs.Machine.{State, place_past, front_after, after, behind, entry_by, line_end_kind_of, step_of, past, still}
 use Rattle.pylex.specs.LineState.{with_levels, HasRoom}
 use Rattle.pylex.proofs.MachineLaws.Advancing.{room_on}
 use Rattle.pylex.specs.Inner.Plain.{IsPlain}
