@@ -41,13 +41,13 @@ margins_from text before (e ∷ es) = (if ends_line before e then margin_at text
 abbrev pub margins : List ℕ → List Entry → List Margin
 margins text es = margin_at text 0 ++ margins_from text [] es
 
-abbrev agree : Bool → Bool → Bool
-agree true b = b
-agree false b = not b
+abbrev pub same_bool : Bool → Bool → Bool
+same_bool true b = b
+same_bool false b = not b
 
 -- two lines are in the same order, less, equal or greater, whichever way tabs count
 abbrev pub are_alike : Widths → Widths → Bool
-are_alike v w = agree (nat_lt v.eight w.eight) (nat_lt v.one w.one) && agree (nat_lt w.eight v.eight) (nat_lt w.one v.one)
+are_alike v w = same_bool (nat_lt v.eight w.eight) (nat_lt v.one w.one) && same_bool (nat_lt w.eight v.eight) (nat_lt w.one v.one)
 
 -- An earlier line stands in another order than this one, and no line from it on has a smaller width. The earlier ones stand last first, and
 -- those between in any order.

@@ -23,7 +23,7 @@ use Rattle.pytoken.specs.declared.faults.TokenError.{TokenError}
 use Rattle.pytoken.specs.declared.refusals.Refusal.{Refusal}
 use Rattle.pytoken.specs.declared.refusals.Refusal.TheVariants as refusals
 use Rattle.pytoken.specs.Brackets.{opens as entry_opens, closes as entry_closes}
-use Rattle.pytoken.specs.Indentation.{Margin, margins, are_alike, is_mixed_past}
+use Rattle.pytoken.specs.Indentation.{Margin, margins, are_alike, is_mixed_past, same_bool}
 use Rattle.pytoken.specs.Terminals.{fault_of}
 use Rattle.pytoken.specs.Refusals.{most_brackets, entry_refusal, first_entry_refusal, bracket_refusal, first_too_deep, first_mixed, refusal_of, refusal_at, refusal}
 use Rattle.pyunparse_text.specs.Spacing.{Piece, Line, is_operator_kind, are_readable}
@@ -218,11 +218,7 @@ lines_shallow m (l ∷ ls) w h =
 
 -- ---- Tabs.
 
-abbrev agree : Bool → Bool → Bool
-agree true b = b
-agree false b = not b
-
-agrees : (b : Bool) → agree b b ≡ true
+agrees : (b : Bool) → same_bool b b ≡ true
 agrees true = refl
 agrees false = refl
 
@@ -232,7 +228,7 @@ alike v w a b =
     let y : w.eight ≡ w.one = eqb-true w.eight w.one b in
     let f = agrees (nat_lt v.one w.one) in
     let g = agrees (nat_lt w.one v.one) in
-    let h : (agree (nat_lt v.one w.one) (nat_lt v.one w.one) && agree (nat_lt w.one v.one) (nat_lt w.one v.one)) ≡ true = rw (f, g) refl in
+    let h : (same_bool (nat_lt v.one w.one) (nat_lt v.one w.one) && same_bool (nat_lt w.one v.one) (nat_lt w.one v.one)) ≡ true = rw (f, g) refl in
     rw (x, y) h
 
 not_mixed : (between earlier : List Margin) (m : Margin) → list_all is_even earlier ≡ true → is_even m ≡ true → is_mixed_past between earlier m ≡ false
