@@ -38,7 +38,7 @@ is_indent e = elim e.kind [ kinds.Indent ↦ true | _ ↦ false ]
 unfoldable pub with_text : List Entry → List Entry
 with_text es = drop (prefix_len has_no_text es) es
 
--- the offset behind the last given entry with text in the source; 0 at the start
+-- the offset after the last given entry with text in the source; 0 at the start
 abbrev pub point : List Entry → ℕ
 point [] = 0
 point (e ∷ es) = e.to

@@ -132,7 +132,7 @@ pub record ClosesBlocks (s : Source) : Type 0 where
   pub within : (k : ℕ) → count_by is_dedent (take k (entries_of (listing s))) ≤ count_by is_indent (take k (entries_of (listing s)))
   pub at_end : fault_of (listing s) ≡ None → count_by is_dedent (entries_of (listing s)) ≡ count_by is_indent (entries_of (listing s))
 
--- The open levels are a stack (reference 2.1.8): behind a line of width w those below w are left, and w is the last. The widths stand last
+-- The open levels are a stack (reference 2.1.8): after a line of width w those below w are left, and w is the last. The widths stand last
 -- line first.
 abbrev pub LevelsAreAStack : Type 0
 LevelsAreAStack = (w : ℕ) (widths : List ℕ) → open_levels (w ∷ widths) ≡ filter (λ v. nat_lt v w) (open_levels widths) ++ w ∷ []

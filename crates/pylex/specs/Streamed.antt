@@ -50,7 +50,7 @@ pub record Streamed : Type 0 where
 abbrev pub Continues : Buffered → List ℕ → Bool → Type 0
 Continues b more broken = Follows b more broken × (b.count + length more ≤ source_limit)
 
--- what is to come behind the text that is held
+-- what is to come after the text that is held
 abbrev pub ahead : Streamed → List ℕ → Bool → Coming
 ahead v more broken = comes v.lines more broken
 
@@ -64,7 +64,7 @@ abbrev pub HoldsLast : ℕ → List ℕ → List ℕ → Option Entry → Type 0
 HoldsLast base held text None = Unit {0}
 HoldsLast base held text (Some e) = ((e.kind ≡ kinds.Encoding) × (held ≡ [])) ⊎ ((e.kind ≢ kinds.Encoding) × IsHeld base held e × LiesIn text e)
 
--- Where these bytes follow, and perhaps a failed read, the lister stands in a source of which k entries have been given: the text that it holds is whole lines of that, and behind them comes what is to come.
+-- Where these bytes follow, and perhaps a failed read, the lister stands in a source of which k entries have been given: the text that it holds is whole lines of that, and after them comes what is to come.
 pub record StreamsIn (v : Streamed) (p : Parts) (k : ℕ) (more : List ℕ) (broken : Bool) : Type 0 where
   pub before : List ℕ
   pub whole : p.text ≡ before ++ (v.held ++ (ahead v more broken).text)
@@ -81,7 +81,7 @@ pub record StreamsIn (v : Streamed) (p : Parts) (k : ℕ) (more : List ℕ) (bro
   pub measuring : IsMeasuring v.now
   pub last : HoldsLast v.base v.held p.text v.last
 
--- a lister that has begun over a reader, behind k entries: what it took, and in which sources it stands
+-- a lister that has begun over a reader, after k entries: what it took, and in which sources it stands
 pub record Begins (seen_old seen_new : Seen) (v : Streamed) (k : ℕ) : Type 0 where
   pub taken : List ℕ
   pub reads : Takes seen_old seen_new reach.Reading v.lines.reach 0 v.lines.count taken
@@ -117,8 +117,8 @@ pub record AwaitsLine (v : Streamed) : Type 0 where
   pub lacks : (behind ≡ []) ⊎ (is_open_string behind ≡ true)
   pub line : MayCome v.lines
 
--- A step: in each source in which the lister stood it comes next, and the lister stands behind it. Where memory is refused it stands where it stood.
--- Memory is refused only where a line has to be read, or an INDENT comes next. Behind the end, a fault and a failed read that is never so.
+-- A step: in each source in which the lister stood it comes next, and the lister stands after it. If memory runs out, it stands where it stood.
+-- Memory runs out only where a line has to be read, or an INDENT comes next. After the end, a fault and a failed read that is never so.
 pub record Next (seen_old seen_new : Seen) (old new : Streamed) (result : Result Step AllocError) : Type 0 where
   pub taken : List ℕ
   pub reads : Reads seen_old seen_new old.lines new.lines taken
@@ -136,7 +136,7 @@ pub record EndsUnread (p : Parts) (n : ℕ) : Type 0 where
   pub fault : (f : ListingFault) × (fault_of (listing (in_characters p)) ≡ Some f) × (f.code ≡ errors.Line Unread)
   pub before : suc (length (entries_of (listing (in_characters p)))) ≤ n
 
--- A lister that was not to go on behind a cursor: a read failed before it, or the source has no such cursor.
+-- A lister that could not resume after a cursor: a read failed before it, or the source has no such cursor.
 pub record Misses (seen_old seen_new : Seen) (cursor : CursorParts) (unread : Bool) : Type 0 where
   pub taken : List ℕ
   pub lines : Buffered
@@ -149,12 +149,12 @@ pub record Took (seen_old seen_new : Seen) : Type 0 where
   pub at : Reach
   pub reads : Takes seen_old seen_new reach.Reading at 0 (length taken) taken
 
--- why a lister could not go on behind a cursor
+-- why a lister could not resume after a cursor
 abbrev pub ResumeRefusal : Seen → Seen → CursorParts → ResumeFault → Type 0
 ResumeRefusal seen_old seen_new cursor (resumes.Stream fault) = Refuses seen_old seen_new fault ⊎ (((fault ≡ faults.Read) × Misses seen_old seen_new cursor true) ⊎ ((fault ≡ faults.Memory) × Took seen_old seen_new))
 ResumeRefusal seen_old seen_new cursor resumes.AnotherSource = Misses seen_old seen_new cursor false
 
--- a step tells of a line that could not be read whole
+-- a step reports a line that could not be read whole
 abbrev pub is_unread_code : ListingError → Bool
 is_unread_code (errors.Line Unread) = true
 is_unread_code code = false

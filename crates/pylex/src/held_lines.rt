@@ -1,4 +1,4 @@
-//! The lines of a source that a lister holds, and how it reads on.
+//! The lines of a source that a lister holds, and how it reads further ones.
 
 ghost use Rattle.std.specs.Prelude.{◌≡◌, ◌≤◌, ◌<◌, ◌-◌, ◌+◌, ◌^◌, ℕ, [], length, drop};
 ghost use Rattle.std.specs.Prelude.{string_bytes, slice_range, IfOk, Ok, Err};
@@ -14,7 +14,7 @@ use pysource::{ByteIn, Line, LineReader};
 use std::alloc::{AllocError, Global};
 use std::mem;
 
-/// Some whole lines of a source, and the reader of those behind them.
+/// Some whole lines of a source, and the reader of those after them.
 #[derive(Drop)]
 pub struct HeldLines {
     pub lines: LineReader,
@@ -28,8 +28,8 @@ pub struct HeldLines {
     pub at: usize,
 }
 
-/// Reads further lines behind a text as long as a literal goes on in the last of them, which begins
-/// at `from`. Where none comes, or memory is refused, it ends, with the literal still open: the
+/// Reads further lines after a text as long as a literal continues in the last of them, which
+/// begins at `from`. If none comes, or memory runs out, it ends, with the literal still open: the
 /// next call meets that again.
 fn add_lines<R: ByteIn>(
     lines: &mut LineReader,
@@ -100,7 +100,7 @@ impl HeldLines {
         &self.text[from - self.base..to - self.base]
     }
 
-    /// Reads the next line, behind what is left from `at` on: where that is nothing the line takes
+    /// Reads the next line, after what is left from `at` on: where that is nothing the line takes
     /// the place of those held, and else it lengthens them. Where no line comes nothing is changed.
     pub(crate) fn read_on<R: ByteIn>(
         &mut self,
@@ -124,7 +124,7 @@ impl HeldLines {
         }
     }
 
-    /// Reads the next line behind those held, and those that a literal joins to it: a long literal
+    /// Reads the next line after those held, and those that a literal joins to it: a long literal
     /// is looked at line by line, and not from its start again for each.
     fn lengthen<R: ByteIn>(&mut self, reader: &mut R, at: usize) -> Result<Line, AllocError>
         requires reading { self.old.lines.reach ≡ Reach.Reading
@@ -148,7 +148,7 @@ impl HeldLines {
         Ok(line)
     }
 
-    /// Reads the next line behind those held.
+    /// Reads the next line after those held.
     fn add_line<R: ByteIn>(&mut self, reader: &mut R, at: usize) -> Result<Line, AllocError>
         requires reading { self.old.lines.reach ≡ Reach.Reading
             → (R.seen reader.old).failures < 2 ^ 64 - 1 }

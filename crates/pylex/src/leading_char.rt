@@ -1,4 +1,4 @@
-//! What a line begins with, and the walk over a text that tells it and the place behind.
+//! What a line begins with, and the walk over a text that finds it and the place after.
 
 ghost use Rattle.std.specs.Prelude.{◌≡◌, ◌↔◌, IsTrue, ◌+◌, ◌^◌, ◌<◌, length};
 ghost use Rattle.std.specs.Str.{chars};

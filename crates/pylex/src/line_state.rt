@@ -90,7 +90,7 @@ impl LineState {
         }
     }
 
-    /// Directly behind an entry with text: a line is yet to be measured only at its start.
+    /// Directly after an entry with text: a line is yet to be measured only at its start.
     pub(crate) fn begun_anew(self) -> LineState
         ensures begun { (levels : List ℕ)
             → with_levels result levels ≡ begun_anew (with_levels self levels) }
@@ -255,7 +255,7 @@ impl LineState {
         }
     }
 
-    /// Goes past blanks behind a line's margin.
+    /// Goes past blanks after a line's margin.
     #[inline(always)]
     pub(crate) fn pass_blanks(&mut self, text: &str)
         requires room { HasRoom self.old (length text.now) }
@@ -270,7 +270,7 @@ impl LineState {
         self.joined = false;
     }
 
-    /// Goes past a backslash and a line end behind a line's margin.
+    /// Goes past a backslash and a line end after a line's margin.
     #[inline(always)]
     pub(crate) fn pass_join(&mut self, text: &str)
         requires room { HasRoom self.old (length text.now) }
@@ -296,7 +296,7 @@ impl LineState {
         operator.is_closer() && self.depth == 0
     }
 
-    /// Goes past an operator behind a line's margin, and gives its entry; none where it closes a
+    /// Goes past an operator after a line's margin, and gives its entry; none where it closes a
     /// bracket and none is open.
     #[inline(always)]
     fn pass_operator(&mut self, operator: Exact, text: &str) -> Option<Entry>
@@ -324,7 +324,7 @@ impl LineState {
         Some(entry_of(Kind::Op, Some(operator), start, self.now))
     }
 
-    /// Goes past another lexeme with an entry, behind a line's margin.
+    /// Goes past another lexeme with an entry, after a line's margin.
     #[inline(always)]
     fn pass_text(&mut self, class: Class, text: &str) -> Entry
         requires room { HasRoom self.old (length text.now) }
@@ -345,7 +345,7 @@ impl LineState {
         entry_of(text_kind(class), None, start, self.now)
     }
 
-    /// Goes past a line end behind a line's margin.
+    /// Goes past a line end after a line's margin.
     #[inline(always)]
     fn pass_line_end(&mut self, text: &str) -> Entry
         requires room { HasRoom self.old (length text.now) }
@@ -382,7 +382,7 @@ impl LineState {
         entry_of(kind, None, start, end)
     }
 
-    /// Goes past a lexeme behind a line's margin, and gives its entry; none where it gives a fault
+    /// Goes past a lexeme after a line's margin, and gives its entry; none where it gives a fault
     /// or nothing.
     #[inline(always)]
     pub(crate) fn pass(&mut self, class: Class, text: &str) -> Option<Entry>
@@ -404,7 +404,7 @@ impl LineState {
         }
     }
 
-    /// Directly behind an entry with text: a line is yet to be measured only at its start.
+    /// Directly after an entry with text: a line is yet to be measured only at its start.
     #[inline(always)]
     pub(crate) fn begin_anew(&mut self, behind: LineState)
         ensures begun { (levels : List ℕ)

@@ -26,7 +26,7 @@ pub record BeginsOther (cs : List ℕ) : Type 0 where
   pub number : begins_number cs ≡ false
   pub first : begins starts_other cs ≡ true
 
--- the front of a text, in bytes, is its first lexeme, of this class, and the rest is behind it
+-- the front of a text, in bytes, is its first lexeme, of this class, and the rest is after it
 pub record Cuts (bytes : List ℕ) (k : Class) (front back : List ℕ) : Type 0 where
   pub lexeme : lexeme_at (chars bytes) ≡ Some (record { «class» = k; text = chars front })
   pub whole : chars bytes ≡ chars front ++ chars back

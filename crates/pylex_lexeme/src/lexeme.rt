@@ -127,7 +127,7 @@ fn line_feed(text: &mut Scanner)
     text.bump_count(1);
 }
 
-/// Takes the CR that stands here and the LF behind it; a lone CR is no lexeme.
+/// Takes the CR that stands here and the LF after it; a lone CR is no lexeme.
 fn carriage_return(text: &mut Scanner) -> Option<Class>
     requires { begins (λ c. c == carriage_return) text.old ≡ true }
     ensures { Takes text.old result text.new }
@@ -139,7 +139,7 @@ fn carriage_return(text: &mut Scanner) -> Option<Class>
     Some(Class::LineEnd)
 }
 
-/// Takes the backslash that stands here and the line end behind it; another backslash is no lexeme.
+/// Takes the backslash that stands here and the line end after it; another backslash is no lexeme.
 fn join(text: &mut Scanner) -> Option<Class>
     requires { begins (λ c. c == backslash) text.old ≡ true }
     ensures { Takes text.old result text.new }
@@ -176,7 +176,7 @@ fn delimiter(text: &mut Scanner, which: Exact) -> Option<Class>
     Some(Class::Operator(which))
 }
 
-/// Takes the string that stands here, behind a prefix of `prefix_len` characters; one that isn't
+/// Takes the string that stands here, after a prefix of `prefix_len` characters; one that isn't
 /// ended is no lexeme.
 #[inline(always)]
 fn literal(text: &mut Scanner, prefix_len: usize) -> Option<Class>
@@ -219,7 +219,7 @@ fn literal_or_name(text: &mut Scanner) -> Option<Class>
     }
 }
 
-/// Whether a name may begin with a character. Those of ASCII are told without a table.
+/// Whether a name may begin with a character. Those of ASCII are recognized without a table.
 #[inline(always)]
 fn is_name_start(c: char) -> bool
     ensures { result ≡ starts_name c }
@@ -295,7 +295,7 @@ pub(crate) fn lexeme(text: &mut Scanner) -> Option<Class>
     }
 }
 
-/// The longest lexeme at the front of a text: its class, its text, and what is behind it; none
+/// The longest lexeme at the front of a text: its class, its text, and what is after it; none
 /// where no lexeme stands.
 #[inline(always)]
 pub fn cut(text: &str) -> Option<(Class, &str, &str)>

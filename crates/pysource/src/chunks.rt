@@ -21,15 +21,15 @@ pub struct Chunks<R: ByteIn> {
     reader: R,
     told: u64,
     lines: LineReader,
-    // The reader can be read on where reading isn't over.
+    // The reader can be read further where reading isn't over.
     ghost possible: { told < 2 ^ 64 - 1 },
-    // Besides the failures that it told when it was taken, at most one was counted.
+    // Besides the failures that it reported when it was taken, at most one was counted.
     ghost counted: { (R.seen reader).failures ≡ told + fails lines.reach },
 }
 
 impl<R: ByteIn> Chunks<R> {
     /// Opens the lines of a source, as [`LineReader::new`] does. A refusal drops the reader. Where
-    /// no read can fail, `Read` tells that the source has more bytes than `SOURCE_LIMIT`.
+    /// no read can fail, `Read` means that the source has more bytes than `SOURCE_LIMIT`.
     pub fn new(alloc: Global, mut reader: R) -> Result<Chunks<R>, StreamFault>
     where
         R: Drop,

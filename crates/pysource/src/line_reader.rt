@@ -2,7 +2,7 @@
 //!
 //! Python language reference, 2.1.2 "Physical lines" and 2.1.4 "Encoding declarations".
 //!
-//! Only the bytes of the line that is due are held, and at most 8,192 behind it.
+//! Only the bytes of the line that is due are held, and at most 8,192 after it.
 
 ghost use Rattle.std.specs.Prelude.{◌≡◌, ℕ, ◌+◌, ◌-◌, ◌^◌, ◌<◌, ◌≤◌, List, [], Option, length};
 ghost use Rattle.std.specs.Prelude.{IfOk};
@@ -51,7 +51,7 @@ pub enum StreamFault {
     /// more bytes than `SOURCE_LIMIT`.
     #[error("read failed")]
     Read,
-    /// There was no memory for the bytes.
+    /// Memory for the bytes ran out.
     #[error("out of memory")]
     Memory,
 }
@@ -110,7 +110,7 @@ impl Model for LineReader {
         × (s.intake.count ≤ source_limit) };
 }
 
-/// Whether the second line is searched for a cookie behind this first one.
+/// Whether the second line is searched for a cookie after this first one.
 fn searches_second(first: &[u8]) -> bool
     ensures { result ≡ searches_second first.now }
 {
@@ -118,7 +118,7 @@ fn searches_second(first: &[u8]) -> bool
     cookie_of(line).is_empty() && leads_on(line)
 }
 
-/// Appends a line, or tells its fault.
+/// Appends a line, or answers its fault.
 fn push_line(
     charset: Charset,
     row: usize,
@@ -256,15 +256,15 @@ impl LineReader {
     }
 
     /// Appends the next line, with its line end, to `chunk`, and answers `Text`; or answers `End`
-    /// behind the last, `Fault` where the line is faulty, and `Read` where it could not be read
+    /// after the last, `Fault` where the line is faulty, and `Read` where it could not be read
     /// whole, at each further call too.
     ///
-    /// At most 8,192 bytes behind a line are taken, or what was left of those taken before.
+    /// At most 8,192 bytes after a line are taken, or what was left of those taken before.
     ///
     /// # Errors
     ///
-    /// Where memory ran out nothing is appended, and the line is still due. Memory is taken only for
-    /// a line that may still come: behind the end, a faulty line or a failed read the call cannot
+    /// If memory runs out, nothing is appended, and the line is still due. Memory is taken only for
+    /// a line that may still come: after the end, a faulty line or a failed read the call cannot
     /// fail.
     pub fn next_line<R: ByteIn>(
         &mut self,

@@ -16,7 +16,7 @@ use Rattle.std.specs.Option.{option_or}
 abbrev pub most_brackets : ℕ
 most_brackets = 600
 
--- an entry opens one bracket more than may be open, behind those before it
+-- an entry opens one bracket more than may be open, after those before it
 abbrev pub opens_too_many : ℕ → List Entry → Entry → Bool
 opens_too_many most before e = opens e && nat_lt most (count_by opens before + 1 - count_by closes before)
 

@@ -36,7 +36,7 @@ Holding old new from line (Ok (met.Fault f)) = Stays old new
 Holding old new from line (Ok met.Read) = Stays old new
 Holding old new from line (Err e) = Stays old new
 
--- what an answer says of the text that was added: at the source's end, a faulty line and a failed read it is none; memory is refused only where a line may come
+-- what an answer says of the text that was added: at the source's end, a faulty line and a failed read it is none; memory runs out only where a line may come
 abbrev pub Adds : Result Line AllocError → List ℕ → Buffered → Type 0
 Adds (Ok met.Text) line new = (0 < length line) × IsUtf8 line × ((ends_line line ≡ true) ⊎ ComesOnly new None)
 Adds (Ok met.End) line new = (line ≡ []) × ComesOnly new None × (new.pending ≡ [])
@@ -57,7 +57,7 @@ pub record ReadsOn (seen_old seen_new : Seen) (old new : HeldLines) (from : ℕ)
   pub chunk : IsHeldLines new
   pub holding : Holding old new from line result
 
--- Further lines were read behind a text.
+-- Further lines were read after a text.
 pub record AddsOn (seen_old seen_new : Seen) (old new : Buffered) (text_old text_new : List ℕ) : Type 0 where
   pub taken : List ℕ
   pub added : List ℕ
@@ -74,7 +74,7 @@ pub record AddsOn (seen_old seen_new : Seen) (old new : Buffered) (text_old text
 abbrev pub IsLonger : List ℕ → List ℕ → Type 0
 IsLonger old new = (added : List ℕ) × IsUtf8 added × (new ≡ old ++ added)
 
--- a line was read behind those held
+-- a line was read after those held
 pub record IsLineMore (old new : HeldLines) (from : ℕ) : Type 0 where
   pub line : List ℕ
   pub is : IsLine line
@@ -90,7 +90,7 @@ AddsLine old new from (Ok (met.Fault f)) = Unit {0}
 AddsLine old new from (Ok met.Read) = Unit {0}
 AddsLine old new from (Err e) = Unit {0}
 
--- what is held where lines were read from a place at which a lister can't go on
+-- what is held where lines were read from a place at which a lister can't advance
 abbrev pub HoldsOn : HeldLines → HeldLines → ℕ → Result Line AllocError → Type 0
 HoldsOn old new from (Ok met.Text) = IsAtStop (string_bytes old.text) from → Holds old.lines new.lines (drop from (string_bytes old.text)) (string_bytes new.text) (drop new.at (string_bytes new.text))
 HoldsOn old new from (Ok met.End) = Unit {0}

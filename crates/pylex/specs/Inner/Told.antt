@@ -1,4 +1,4 @@
--- What the class of a lexeme tells of the places in its text.
+-- What the class of a lexeme says of the places in its text.
 use Rattle.std.specs.Prelude.{◌≡◌, ℕ, ◌+◌, Bool, true, false, List, length}
 use Rattle.std.specs.Str.{chars}
 use Rattle.pysource.specs.declared.places.Place.{Place}

@@ -62,7 +62,7 @@ fn is_past_byte(bytes: bool, value: u32) -> bool
     bytes && value > 0xFF
 }
 
-/// A letter that stands here, and so many hexadecimal digits behind it.
+/// A letter that stands here, and so many hexadecimal digits after it.
 fn hexadecimal(text: &mut Characters, wanted: usize) -> Meaning
     requires { wanted ≤ 8 }
     ensures { Takes (hexadecimal wanted (digits_at_front 16 wanted (drop 1 text.old))) text.old
@@ -83,7 +83,7 @@ fn is_point(count: usize, wanted: usize, value: u32) -> bool
     count == wanted && value <= 0x10_FFFF
 }
 
-/// How many hexadecimal digits a letter behind a backslash asks for.
+/// How many hexadecimal digits a letter after a backslash asks for.
 fn hexadecimal_len(letter: char, bytes: bool) -> usize
     ensures len { result ≡ hexadecimal_len bytes letter }
     ensures most { result ≤ 8 }
@@ -101,14 +101,14 @@ fn hexadecimal_len(letter: char, bytes: bool) -> usize
     }
 }
 
-/// Whether a letter behind a backslash names a character.
+/// Whether a letter after a backslash names a character.
 fn names_character(letter: char, bytes: bool) -> bool
     ensures { result ≡ names_character bytes letter }
 {
     !bytes && letter == 'N'
 }
 
-/// The point that a letter behind a backslash stands for.
+/// The point that a letter after a backslash stands for.
 fn point_of(letter: char) -> Option<u32>
     ensures { result ≡ escape_point letter }
 {
@@ -135,7 +135,7 @@ fn letter(text: &mut Characters, meaning: Meaning) -> Meaning
     meaning
 }
 
-/// What a backslash stands for with what stands here, behind it.
+/// What a backslash stands for with what stands here, after it.
 fn escape(text: &mut Characters, bytes: bool) -> Meaning
     ensures { Takes (escaped_by bytes text.old) text.old result text.new }
 {
