@@ -10,7 +10,7 @@ ghost use Rattle.pylex.specs.Held.{Joins, LinesBehind};
 ghost use Rattle.pylex.specs.Inner.Chunked.{AddsLine, AddsOn, HoldsOn, IsHeldLines, IsLonger, ReadsOn};
 
 use pylex_lexeme::string::{OpenLiteral, open_literal};
-use pysource::{ByteIn, Line, LineReader};
+use pysource::{ByteIn, LineRead, LineReader};
 use std::alloc::{AllocError, Global};
 use std::mem;
 
@@ -53,7 +53,7 @@ fn add_lines<R: ByteIn>(
         let Ok(line) = lines.next_line(reader, text) else {
             return;
         };
-        let Line::Text = line else {
+        let LineRead::Text = line else {
             return;
         };
         from = end;
@@ -106,7 +106,7 @@ impl HeldLines {
         &mut self,
         reader: &mut R,
         at: usize,
-    ) -> Result<Line, AllocError>
+    ) -> Result<LineRead, AllocError>
         requires reading { self.old.lines.reach ≡ Reach.Reading
             → (R.seen reader.old).failures < 2 ^ 64 - 1 }
         requires within { self.old.lines.count ≤ source_limit }
@@ -126,7 +126,7 @@ impl HeldLines {
 
     /// Reads the next line after those held, and those that a literal joins to it: a long literal
     /// is looked at line by line, and not from its start again for each.
-    fn lengthen<R: ByteIn>(&mut self, reader: &mut R, at: usize) -> Result<Line, AllocError>
+    fn lengthen<R: ByteIn>(&mut self, reader: &mut R, at: usize) -> Result<LineRead, AllocError>
         requires reading { self.old.lines.reach ≡ Reach.Reading
             → (R.seen reader.old).failures < 2 ^ 64 - 1 }
         requires within { self.old.lines.count ≤ source_limit }
@@ -139,7 +139,7 @@ impl HeldLines {
         let literal = open_literal(&self.text[at..]);
         let from = self.text.len();
         let line = self.add_line(reader, at)?;
-        let Line::Text = line else {
+        let LineRead::Text = line else {
             return Ok(line);
         };
         if let Some(literal) = literal {
@@ -149,7 +149,7 @@ impl HeldLines {
     }
 
     /// Reads the next line after those held.
-    fn add_line<R: ByteIn>(&mut self, reader: &mut R, at: usize) -> Result<Line, AllocError>
+    fn add_line<R: ByteIn>(&mut self, reader: &mut R, at: usize) -> Result<LineRead, AllocError>
         requires reading { self.old.lines.reach ≡ Reach.Reading
             → (R.seen reader.old).failures < 2 ^ 64 - 1 }
         requires chunk { IsHeldLines self.old }
@@ -160,14 +160,14 @@ impl HeldLines {
         ensures on { ReadsOn (R.seen reader.old) (R.seen reader.new) self.old self.new at result }
     {
         let line = self.lines.next_line(reader, &mut self.text)?;
-        if let Line::Text = line {
+        if let LineRead::Text = line {
             self.at = at;
         }
         Ok(line)
     }
 
     /// Reads the next line in place of those held.
-    fn replace<R: ByteIn>(&mut self, reader: &mut R) -> Result<Line, AllocError>
+    fn replace<R: ByteIn>(&mut self, reader: &mut R) -> Result<LineRead, AllocError>
         requires reading { self.old.lines.reach ≡ Reach.Reading
             → (R.seen reader.old).failures < 2 ^ 64 - 1 }
         requires chunk { IsHeldLines self.old }
@@ -177,7 +177,7 @@ impl HeldLines {
         ensures holds { HoldsOn self.old self.new (length (string_bytes self.old.text)) result }
     {
         let line = self.lines.next_line(reader, &mut self.spare)?;
-        if let Line::Text = line {
+        if let LineRead::Text = line {
             self.base += self.text.len();
             mem::swap(&mut self.text, &mut self.spare);
             self.spare.clear();

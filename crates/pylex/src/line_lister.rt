@@ -24,7 +24,7 @@ use crate::kind::Kind;
 use crate::line_state::LineState;
 use crate::machine::{Machine, Peeked};
 use pylex_lexeme::string::is_open_string;
-use pysource::{ByteIn, Line, LineError, LineFault, LineReader, Place, StreamFault};
+use pysource::{ByteIn, LineError, LineFault, LineRead, LineReader, Place, StreamFault};
 use std::alloc::{AllocError, Global};
 use std::marker::Model;
 use thiserror::Error;
@@ -74,13 +74,13 @@ fn lacks(left: &str) -> bool
 }
 
 /// The fault of an answer that is no line.
-fn fault_of(line: Line, row: usize) -> Option<LineFault>
+fn fault_of(line: LineRead, row: usize) -> Option<LineFault>
     ensures { Lacks line row result }
 {
     match line {
-        Line::Text | Line::End => None,
-        Line::Fault(fault) => Some(fault),
-        Line::Read => Some(LineFault {
+        LineRead::Text | LineRead::End => None,
+        LineRead::Fault(fault) => Some(fault),
+        LineRead::Read => Some(LineFault {
             code: LineError::Unread,
             place: Place { row, column: 0 },
         }),
@@ -113,7 +113,7 @@ fn find<R: ByteIn>(
             return Ok(found);
         }
         let line = chunk.read_on(reader, found.at)?;
-        let Line::Text = line else {
+        let LineRead::Text = line else {
             return Ok(Found {
                 fault: fault_of(line, chunk.lines.row()),
                 ..found

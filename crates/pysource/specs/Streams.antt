@@ -21,8 +21,8 @@ use Rattle.pysource.specs.declared.faults.LineError.{LineError}
 use Rattle.pysource.specs.declared.faults.LineError.TheVariants.{Unread}
 use Rattle.pysource.specs.declared.line_reader.Reach.{Reach}
 use Rattle.pysource.specs.declared.line_reader.Reach.TheVariants.{Reading, End, Broken, Passed}
-use Rattle.pysource.specs.declared.line_reader.Line.{Line}
-use Rattle.pysource.specs.declared.line_reader.Line.TheVariants as lines
+use Rattle.pysource.specs.declared.line_reader.LineRead.{LineRead}
+use Rattle.pysource.specs.declared.line_reader.LineRead.TheVariants as lines
 use Rattle.pysource.specs.declared.line_reader.StreamFault.{StreamFault}
 use Rattle.pysource.specs.declared.line_reader.StreamFault.TheVariants.{UnsupportedEncoding, BomConflict, Read, Memory}
 
@@ -132,7 +132,7 @@ MayCome b = (fault : Option LineFault) → ComesOnly b fault → ⊥
 
 -- What an answer says of the line that was given with it. After a last line without line feed nothing comes, and at the end nothing is pending.
 -- Memory runs out only where a line may still come: never after the end, a faulty line or a failed read.
-abbrev pub Tells : Result Line AllocError → List ℕ → Buffered → Type 0
+abbrev pub Tells : Result LineRead AllocError → List ℕ → Buffered → Type 0
 Tells (Ok lines.Text) line new = IsLine line × ((ends_line line ≡ true) ⊎ ComesOnly new None)
 Tells (Ok lines.End) line new = (line ≡ []) × ComesOnly new None × (new.pending ≡ [])
 Tells (Ok (lines.Fault f)) line new = (line ≡ []) × (new.fault ≡ Some f) × ComesOnly new (Some f)
@@ -154,11 +154,11 @@ abbrev pub past_first : List ℕ → ℕ
 past_first bytes = length bytes - length (nth_line bytes 0)
 
 -- a line is given
-abbrev pub IsText : Result Line AllocError → Type 0
+abbrev pub IsText : Result LineRead AllocError → Type 0
 IsText result = result ≡ Ok lines.Text
 
 -- a call of `next_line`
-pub record NextLine (seen_old seen_new : Seen) (old new : Buffered) (chunk_old chunk_new : List ℕ) (result : Result Line AllocError) : Type 0 where
+pub record NextLine (seen_old seen_new : Seen) (old new : Buffered) (chunk_old chunk_new : List ℕ) (result : Result LineRead AllocError) : Type 0 where
   pub taken : List ℕ
   pub line : List ℕ
   pub reads : Reads seen_old seen_new old new taken

@@ -12,7 +12,7 @@ ghost use Rattle.pysource.specs.Taking.{fails};
 
 use crate::bytes::ByteIn;
 use crate::encodings::Encoding;
-use crate::line_reader::{Line, LineReader, StreamFault};
+use crate::line_reader::{LineRead, LineReader, StreamFault};
 use std::alloc::{AllocError, Global};
 
 /// Reads the lines of a source from a reader of its own.
@@ -62,7 +62,7 @@ impl<R: ByteIn> Chunks<R> {
     }
 
     /// Appends the next line, as [`LineReader::next_line`] does.
-    pub fn next_line(&mut self, chunk: &mut String) -> Result<Line, AllocError>
+    pub fn next_line(&mut self, chunk: &mut String) -> Result<LineRead, AllocError>
         ensures moves { NextLine (R.seen self.old.reader) (R.seen self.new.reader)
             self.old.lines self.new.lines
             (string_bytes chunk.old) (string_bytes chunk.new) result }

@@ -30,7 +30,7 @@ pub use bytes::{
 pub use chunks::Chunks;
 pub use encodings::{Charset, Encoding, SourceFault, encoding_of};
 pub use faults::{LineError, LineFault};
-pub use line_reader::{Line, LineReader, Reach, StreamFault};
+pub use line_reader::{LineRead, LineReader, Reach, StreamFault};
 pub use places::{Place, place_of};
 pub use reprs::{
     is_plain_text, push_repr, push_repr_bytes, push_repr_points, repr_bytes, repr_text,

@@ -26,7 +26,7 @@ use thiserror::Error;
 
 /// What a call for the next line met.
 #[derive(Clone, Copy, Debug, PartialEq, Eq, Drop)]
-pub enum Line {
+pub enum LineRead {
     /// A line, which was appended whole: its line end too, which only the last line may lack.
     Text,
     /// The end of the source. Nothing was appended.
@@ -270,7 +270,7 @@ impl LineReader {
         &mut self,
         reader: &mut R,
         chunk: &mut String,
-    ) -> Result<Line, AllocError>
+    ) -> Result<LineRead, AllocError>
         requires { self.old.reach ≡ Reach.Reading → (R.seen reader.old).failures < 2 ^ 64 - 1 }
         ensures moves { NextLine (R.seen reader.old) (R.seen reader.new) self.old self.new
             (string_bytes chunk.old) (string_bytes chunk.new) result }
@@ -278,11 +278,11 @@ impl LineReader {
         ensures pending { length self.new.pending ≤ self.new.count }
     {
         if let Some(fault) = self.fault {
-            return Ok(Line::Fault(fault));
+            return Ok(LineRead::Fault(fault));
         }
         let len = match due_line(&mut self.intake, reader)? {
-            None => return Ok(Line::Read),
-            Some(0) => return Ok(Line::End),
+            None => return Ok(LineRead::Read),
+            Some(0) => return Ok(LineRead::End),
             Some(len) => len,
         };
         let line = &self.intake.buffer.bytes()[..len];
@@ -290,11 +290,11 @@ impl LineReader {
             None => {
                 self.intake.buffer.skip(len);
                 self.row += 1;
-                Ok(Line::Text)
+                Ok(LineRead::Text)
             }
             Some(fault) => {
                 self.fault = Some(fault);
-                Ok(Line::Fault(fault))
+                Ok(LineRead::Fault(fault))
             }
         }
     }

@@ -9,8 +9,8 @@ use lib.Seq.{drop-append-le}
 use Rattle.std.proofs.lemmas.Str.{IsUtf8-append, IsUtf8-nil, IsCharBoundary-at_seam}
 use Rattle.pysource.specs.Bytes.{Seen}
 use Rattle.pysource.specs.Limits.{source_limit}
-use Rattle.pysource.specs.declared.line_reader.Line.{Line}
-use Rattle.pysource.specs.declared.line_reader.Line.TheVariants as met
+use Rattle.pysource.specs.declared.line_reader.LineRead.{LineRead}
+use Rattle.pysource.specs.declared.line_reader.LineRead.TheVariants as met
 use Rattle.pysource.specs.Streams.{Buffered, Follows, Gives, ComesOnly, NextLine, Reads, comes, onto, ends_line}
 use Rattle.pysource.proofs.Callers.Taken.{Takes-none, Takes-on}
 use Rattle.pylex.specs.declared.held_lines.HeldLines.{HeldLines}
@@ -64,7 +64,7 @@ module _ (x y z : Seen) (a b c : Buffered) (text_a text_b text_c : List ℕ) (p 
   }
 
   -- No line more.
-  pub adds_no_line : (q : Result Line AllocError) (r : NextLine y z b c text_b text_c q) → r.line ≡ [] → c.count ≤ source_limit → AddsOn x z a c text_a text_c
+  pub adds_no_line : (q : Result LineRead AllocError) (r : NextLine y z b c text_b text_c q) → r.line ≡ [] → c.count ≤ source_limit → AddsOn x z a c text_a text_c
   adds_no_line q r none within =
       let gives : Gives b r.taken [] c = subst (λ l. Gives b r.taken l c) none r.gives in
       record {

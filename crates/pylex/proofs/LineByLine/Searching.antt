@@ -15,8 +15,8 @@ use Rattle.pysource.specs.Bytes.{Seen}
 use Rattle.pysource.specs.Parts.{Parts}
 use Rattle.pysource.specs.Limits.{source_limit}
 use Rattle.pysource.specs.declared.faults.LineFault.{LineFault}
-use Rattle.pysource.specs.declared.line_reader.Line.{Line}
-use Rattle.pysource.specs.declared.line_reader.Line.TheVariants as lines
+use Rattle.pysource.specs.declared.line_reader.LineRead.{LineRead}
+use Rattle.pysource.specs.declared.line_reader.LineRead.TheVariants as lines
 use Rattle.pysource.specs.declared.line_reader.Reach.{Reach}
 use Rattle.pysource.specs.declared.line_reader.Reach.TheVariants as reach
 use Rattle.pysource.specs.Streams.{Buffered, Coming, FollowsAt, ComesOnly, comes, ends_line}
@@ -146,7 +146,7 @@ searches_none seen p c h = record {
 
 module _ (seen_0 seen_1 seen_2 : Seen) (p q : Machine) (c d e : HeldLines) (f : Found) (so : Searches seen_0 seen_1 p q c d) (looks : Looks q d f) (is : f.peeked ≡ peeked.Stop) where
   -- what may follow a reading may follow with what it took
-  back : {r : Result Line AllocError} (o : ReadsOn seen_1 seen_2 d e f.at r) (more : List ℕ) (broken : Bool) → Continues e.lines more broken → Continues d.lines (o.taken ++ more) broken
+  back : {r : Result LineRead AllocError} (o : ReadsOn seen_1 seen_2 d e f.at r) (more : List ℕ) (broken : Bool) → Continues e.lines more broken → Continues d.lines (o.taken ++ more) broken
   back o more broken g = ((o.gives more broken g.0).0, omega (arith, g.1, o.reads.count, length-append o.taken more))
 
   text_new : {line : List ℕ} → Grows d e f.at line → IsUtf8 line → IsUtf8 (string_bytes e.text)
@@ -232,7 +232,7 @@ module _ (seen_0 seen_1 seen_2 : Seen) (p q : Machine) (c d e : HeldLines) (f : 
           ap (λ t. f.now.margin && begins_significant t) whole ∙ ap (λ t. f.now.margin && t) (significant_kept (chars left) (chars r.line) lined) ∙ h
 
   -- No line was read.
-  pub searches_stay : (r : Result Line AllocError) → (o : ReadsOn seen_1 seen_2 d e f.at r) → o.line ≡ [] → Stays d e → Searches seen_0 seen_2 p q c e
+  pub searches_stay : (r : Result LineRead AllocError) → (o : ReadsOn seen_1 seen_2 d e f.at r) → o.line ≡ [] → Stays d e → Searches seen_0 seen_2 p q c e
   searches_stay r o none stays =
       let in_none : (s : Parts) (k : ℕ) (more : List ℕ) (broken : Bool) → Continues e.lines more broken → StreamsIn (streamed q d None) s k (o.taken ++ more) broken → StreamsIn (streamed q e None) s k more broken = λ s k more broken g x.
       reads_none q f.now d e f.at o.taken o.line s k more broken x (o.gives more broken g.0).1 none stays o.same in
@@ -265,13 +265,13 @@ module _ (seen_0 seen_1 seen_2 : Seen) (p q : Machine) (c d e : HeldLines) (f : 
     tail = rw (stays.text, stays.at) looks.tail;
   }
 
-  ends_so : (r : Line) (line : List ℕ) (o : Option LineFault) → (r ≡ lines.Text → ⊥) → Adds (Ok r) line e.lines → Lacks r e.lines.row o → ComesOnly e.lines o
+  ends_so : (r : LineRead) (line : List ℕ) (o : Option LineFault) → (r ≡ lines.Text → ⊥) → Adds (Ok r) line e.lines → Lacks r e.lines.row o → ComesOnly e.lines o
   ends_so lines.Text line o h a l = absurd (h refl)
   ends_so lines.End line o h a l = subst (ComesOnly e.lines) (sym l) a.1
   ends_so (lines.Fault g) line o h a l = subst (ComesOnly e.lines) (sym l) a.1
   ends_so lines.Read line o h a l = subst (ComesOnly e.lines) (sym l) a.1
 
-  pub meets_end : (r : Line) (line : List ℕ) (o : Option LineFault) → (r ≡ lines.Text → ⊥) → Adds (Ok r) line e.lines → Lacks r e.lines.row o → Stays d e → PeekedIn q e (record f { fault = o })
+  pub meets_end : (r : LineRead) (line : List ℕ) (o : Option LineFault) → (r ≡ lines.Text → ⊥) → Adds (Ok r) line e.lines → Lacks r e.lines.row o → Stays d e → PeekedIn q e (record f { fault = o })
   meets_end r line o h a l stays =
       let only = ends_so r line o h a l in
       record {
@@ -303,7 +303,7 @@ pub ahead_found : (a : Buffered) (q : Machine) (d : HeldLines) (f : Found) → L
 ahead_found a q d f looks whole (inl h) = inr h
 ahead_found a q d f looks whole (inr h) = let w = waiting_meets q d f looks h.1 in absurd (let z : true ≡ false = sym w.1 ∙ whole w.0 in cc)
 
-pub ahead_end : (a b : Buffered) (f : Found) (r : Line) (line : List ℕ) (o : Option LineFault) → f.peeked ≡ peeked.Stop → (r ≡ lines.Text → ⊥) → Adds (Ok r) line b → Lacks r b.row o → LooksAhead (record f { fault = o }) a b
+pub ahead_end : (a b : Buffered) (f : Found) (r : LineRead) (line : List ℕ) (o : Option LineFault) → f.peeked ≡ peeked.Stop → (r ≡ lines.Text → ⊥) → Adds (Ok r) line b → Lacks r b.row o → LooksAhead (record f { fault = o }) a b
 ahead_end a b f lines.Text line o is h adds l = absurd (h refl)
 ahead_end a b f lines.End line o is h adds l = inr (inr (omega (arith, ap length adds.2)))
 ahead_end a b f (lines.Fault g) line o is h adds l = inl (is, g, l)

@@ -9,8 +9,8 @@ use Rattle.pylex.specs.declared.line_lister.ResumeFault.{ResumeFault}
 use Rattle.pylex.specs.declared.line_lister.ResumeFault.TheVariants as resumes
 use Rattle.pysource.specs.Limits.{source_limit}
 use Rattle.pysource.specs.declared.faults.LineFault.{LineFault}
-use Rattle.pysource.specs.declared.line_reader.Line.{Line}
-use Rattle.pysource.specs.declared.line_reader.Line.TheVariants as lines
+use Rattle.pysource.specs.declared.line_reader.LineRead.{LineRead}
+use Rattle.pysource.specs.declared.line_reader.LineRead.TheVariants as lines
 use Rattle.pylex.specs.declared.machine.Peeked.{Peeked}
 use Rattle.pylex.specs.declared.machine.Peeked.TheVariants as met
 use Rattle.pylex.specs.declared.line_lister.Found.{Found}
@@ -95,7 +95,7 @@ pub record IsWaiting (p : Machine) (c : HeldLines) : Type 0 where
   pub unended : is_open_string (chars (drop c.at (string_bytes c.text))) ≡ true
 
 -- the fault of an answer that is no line
-abbrev pub Lacks : Line → ℕ → Option LineFault → Type 0
+abbrev pub Lacks : LineRead → ℕ → Option LineFault → Type 0
 Lacks lines.Text row fault = Unit {0}
 Lacks lines.End row fault = fault ≡ None
 Lacks (lines.Fault f) row fault = fault ≡ Some f

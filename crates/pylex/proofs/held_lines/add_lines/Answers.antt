@@ -2,7 +2,7 @@ use Rattle.std.proofs.Common.{◌≡◌, length, refl, ap, subst, string_bytes, 
 use Rattle.std.specs.Prelude.{Ok, Err}
 use Rattle.std.specs.Str.{IsCharBoundary}
 use Rattle.std.proofs.lemmas.Str.{IsCharBoundary-at_seam}
-use Rattle.pysource.specs.declared.line_reader.Line.TheVariants as met
+use Rattle.pysource.specs.declared.line_reader.LineRead.TheVariants as met
 use Rattle.pysource.specs.Taking.{fails}
 use Rattle.pysource.proofs.Callers.Taken.{was_reading}
 use Rattle.pylex.proofs.LineByLine.Adding.{adds_none, adds_line, adds_no_line}

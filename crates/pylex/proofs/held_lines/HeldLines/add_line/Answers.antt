@@ -1,6 +1,6 @@
 use Rattle.std.proofs.Common.{◌≡◌, [], length, inl, refl, sym, ap, arith, string_bytes, length-append}
 use Rattle.std.specs.Prelude.{Ok, Err}
-use Rattle.pysource.specs.declared.line_reader.Line.TheVariants as met
+use Rattle.pysource.specs.declared.line_reader.LineRead.TheVariants as met
 use Rattle.std.proofs.lemmas.Str.{IsUtf8-nil}
 use Rattle.std.proofs.lemmas.Result.{err_from_is_err_and}
 use Rattle.pylex.proofs.LineByLine.HeldLinesLemmas.{adds_of, no_line, holding_other, same_text, left_longer, reads_on}

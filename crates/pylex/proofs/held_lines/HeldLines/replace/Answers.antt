@@ -1,6 +1,6 @@
 use Rattle.std.proofs.Common.{◌≡◌, ◌∙◌, [], ◌++◌, inr, refl, sym, ap, arith, string_bytes}
 use Rattle.std.specs.Prelude.{Ok, Err}
-use Rattle.pysource.specs.declared.line_reader.Line.TheVariants as met
+use Rattle.pysource.specs.declared.line_reader.LineRead.TheVariants as met
 use Rattle.std.proofs.lemmas.Result.{err_from_is_err_and}
 use Rattle.pylex.proofs.LineByLine.HeldLinesLemmas.{adds_of, no_line, holding_other, same_text, reads_on, drop_all}
 use Rattle.pylex.proofs.LineByLine.JoinedOn.{holds_line, holds_other}
