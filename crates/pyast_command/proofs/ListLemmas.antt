@@ -112,7 +112,7 @@ came_next seen_old seen_mid seen_new old mid new step e exact count left x y bef
   where
     moved : (p : Parts) (k : ℕ) (more : List ℕ) (broken : Bool) → Continues new.lines more broken → StreamsIn mid p k (s.taken ++ more) broken
         → (slice_get (listing (in_characters p)) k ≡ Some (steps.Entry e)) × StreamsIn new p (k + 1) more broken
-    moved p k more broken f t = rw is at s.moves p k more broken f t
+    moved p k more broken f t = rw is at s.steps p k more broken f t
 
 -- a further entry is one more of those that a listing can have
 pub counts_up : (seen_old seen_mid seen_new : Seen) (old mid new : Streamed) (step : Step) (e : Entry) (exact : Bool) (count left : Option ℕ) (x y : Option (List ℕ)) (held : List ℕ)
@@ -125,7 +125,7 @@ counts_up seen_old seen_mid seen_new old mid new step e exact count left x y hel
     let before = s.follows [] broken after in
     let source = somewhere (c.taken ++ (s.taken ++ [])) broken (c.follows (s.taken ++ []) broken before) in
     let m = c.stood source.0 (s.taken ++ []) broken before source.1 in
-    let next : StreamsIn new source.0 (mid.shown.given + 1) [] broken = (rw is at s.moves source.0 mid.shown.given [] broken after m.stands).1 in
+    let next : StreamsIn new source.0 (mid.shown.given + 1) [] broken = (rw is at s.steps source.0 mid.shown.given [] broken after m.stands).1 in
     let given : new.shown.given ≡ mid.shown.given + 1 = next.stands.count in
     omega arith
 
@@ -133,7 +133,7 @@ counts_up seen_old seen_mid seen_new old mid new step e exact count left x y hel
 pub next_in : (seen_mid seen_new : Seen) (mid new : Streamed) (step met : Step) (p : Parts) (k : ℕ) (more : List ℕ) (broken exact : Bool) (count left : Option ℕ) (x y : Option (List ℕ)) (held : List ℕ)
     (s : Next seen_mid seen_new mid new (Ok step)) → step ≡ met → Continues new.lines more broken → Stood mid p k (s.taken ++ more) broken exact count left x y held
     → slice_get (listing (in_characters p)) mid.shown.given ≡ Some met
-next_in seen_mid seen_new mid new step met p k more broken exact count left x y held s is f m = (rw is at s.moves p mid.shown.given more broken f m.stands).0
+next_in seen_mid seen_new mid new step met p k more broken exact count left x y held s is f m = (rw is at s.steps p mid.shown.given more broken f m.stands).0
 
 -- where there is no memory, what is held is kept
 pub memory_held : (v : Streamed) (p : Parts) (k : ℕ) (more : List ℕ) (broken exact : Bool) (count left : Option ℕ) (x y : Option (List ℕ)) (held : List ℕ)

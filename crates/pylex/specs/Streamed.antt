@@ -123,7 +123,7 @@ pub record Next (seen_old seen_new : Seen) (old new : Streamed) (result : Result
   pub taken : List ℕ
   pub reads : Reads seen_old seen_new old.lines new.lines taken
   pub follows : (more : List ℕ) (broken : Bool) → Continues new.lines more broken → Continues old.lines (taken ++ more) broken
-  pub moves : IfOk result (λ step. (p : Parts) (k : ℕ) (more : List ℕ) (broken : Bool) → Continues new.lines more broken → StreamsIn old p k (taken ++ more) broken
+  pub steps : IfOk result (λ step. (p : Parts) (k : ℕ) (more : List ℕ) (broken : Bool) → Continues new.lines more broken → StreamsIn old p k (taken ++ more) broken
       → (slice_get (listing (in_characters p)) k ≡ Some step) × StreamsIn new p (k + entries_in step) more broken)
   pub last : IfOk result (IsLast new)
   pub ahead : IfOk result (IsAhead old.lines new.lines)

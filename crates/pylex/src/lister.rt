@@ -69,7 +69,7 @@ impl<'a> Lister<'a> {
     /// Memory is taken only where an INDENT comes. If it runs out, the lister is unchanged, and
     /// the call can be repeated.
     pub fn next(&mut self) -> Result<Step, AllocError>
-        ensures moves { IfOk result (λ step. NextStep self.old step self.new) }
+        ensures steps { IfOk result (λ step. NextStep self.old step self.new) }
         ensures source { self.new.source ≡ self.old.source }
         ensures same { OnErr result (self.new ≡ self.old) }
         ensures indent { OnErr result (AwaitsIndent self.old) }
@@ -89,7 +89,7 @@ impl<'a> Lister<'a> {
     #[inline(never)]
     fn next_met(&mut self) -> Result<Step, AllocError>
         requires { 0 < self.old.shown.given }
-        ensures moves { IfOk result (λ step. NextStep self.old step self.new) }
+        ensures steps { IfOk result (λ step. NextStep self.old step self.new) }
         ensures source { self.new.source ≡ self.old.source }
         ensures same { OnErr result (self.new ≡ self.old) }
         ensures indent { OnErr result (AwaitsIndent self.old) }

@@ -171,10 +171,10 @@ pub record Read (p : Parts) (old new : Listed) (e : Entry) : Type 0 where
 
 pub entry_read : (p : Parts) (old new : Listed) (g : LineGather) (step : Step) (e : Entry) → StandsAt p old g → NextStep old step new → step ≡ steps.Entry e →
     Read p old new e
-entry_read p old new g step e had moves is =
+entry_read p old new g step e had stepped is =
     let s = in_characters p in
     let k = old.shown.given in
-    let m = moved old new step (steps.Entry e) s k moves is had.stands in
+    let m = moved old new step (steps.Entry e) s k stepped is had.stands in
     let next = at_entry (listing s) k e had.whole m.0 in
     record {
       lies = entry_lies p.text (listing s) k e had.lies m.0;

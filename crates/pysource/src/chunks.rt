@@ -63,7 +63,7 @@ impl<R: ByteIn> Chunks<R> {
 
     /// Appends the next line, as [`LineReader::next_line`] does.
     pub fn next_line(&mut self, chunk: &mut String) -> Result<LineRead, AllocError>
-        ensures moves { NextLine (R.seen self.old.reader) (R.seen self.new.reader)
+        ensures reads { NextLine (R.seen self.old.reader) (R.seen self.new.reader)
             self.old.lines self.new.lines
             (string_bytes chunk.old) (string_bytes chunk.new) result }
         ensures within { self.new.lines.count ≤ source_limit }

@@ -272,7 +272,7 @@ impl LineReader {
         chunk: &mut String,
     ) -> Result<LineRead, AllocError>
         requires { self.old.reach ≡ Reach.Reading → (R.seen reader.old).failures < 2 ^ 64 - 1 }
-        ensures moves { NextLine (R.seen reader.old) (R.seen reader.new) self.old self.new
+        ensures reads { NextLine (R.seen reader.old) (R.seen reader.new) self.old self.new
             (string_bytes chunk.old) (string_bytes chunk.new) result }
         ensures within { self.new.count ≤ source_limit }
         ensures pending { length self.new.pending ≤ self.new.count }

@@ -80,7 +80,7 @@ module _ {seen_old seen_mid seen_new : Seen} {old new : Streamed} {step : Step} 
       → (p : Parts) × (stream_of broken (taken ++ more) ≡ Ok p) × (first_comment_of p ≡ first_behind p old.shown.given) × (slice_get (listing (in_characters p)) old.shown.given ≡ Some step) × StreamsIn new p (old.shown.given + entries_in step) more broken
   stepped more broken f =
       let t = o.stands (s.taken ++ more) broken (s.follows more broken f) in
-      let m = s.moves t.0 old.shown.given more broken f t.2 in
+      let m = s.steps t.0 old.shown.given more broken f t.2 in
       (t.0, ap (λ (bytes : List ℕ). stream_of broken bytes) (append_assoc o.taken s.taken more) ∙ t.1, t.3, m.0, m.1)
 
   -- by one entry

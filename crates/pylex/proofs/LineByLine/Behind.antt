@@ -38,7 +38,7 @@ module _ (seen_0 seen_1 seen_2 : Seen) (v w : Streamed) (k : ℕ) (b : Begins se
     stands_all : (more : List ℕ) (broken : Bool) → Continues w.lines more broken → (p : Parts) × (stream_of broken ((b.taken ++ t.taken) ++ more) ≡ Ok p) × (slice_get (listing (in_characters p)) k ≡ Some step) × StreamsIn w p (k + entries_in step) more broken
     stands_all more broken g =
         let s = b.stands (t.taken ++ more) broken (t.follows more broken g) in
-        let m = t.moves s.0 k more broken g s.2 in
+        let m = t.steps s.0 k more broken g s.2 in
         (s.0, ap (stream_of broken) (append_assoc b.taken t.taken more) ∙ s.1, m.0, m.1)
 
     -- where nothing was taken it stands as it stood
