@@ -5,7 +5,7 @@ use Rattle.std.specs.Str.{chars}
 use Rattle.pysource.specs.Bytes.{Seen}
 use Rattle.pysource.specs.Parts.{Parts}
 use Rattle.pysource.specs.Streams.{Buffered, Follows, MayCome, comes, ends_line, head_len, stream_of, unread, Reads, Refuses, Coming}
-use Rattle.pysource.specs.Taking.{Takes}
+use Rattle.pysource.specs.Taking.{ReadsBytes}
 use Rattle.pysource.specs.declared.line_reader.Reach.{Reach}
 use Rattle.pylex.specs.declared.line_lister.ResumeFault.{ResumeFault}
 use Rattle.pylex.specs.declared.line_lister.ResumeFault.TheVariants as resumes
@@ -84,7 +84,7 @@ pub record StreamsIn (v : Streamed) (p : Parts) (k : ℕ) (more : List ℕ) (bro
 -- a lister that has begun over a reader, after k entries: what it took, and in which sources it stands
 pub record Begins (seen_old seen_new : Seen) (v : Streamed) (k : ℕ) : Type 0 where
   pub taken : List ℕ
-  pub reads : Takes seen_old seen_new reach.Reading v.lines.reach 0 v.lines.count taken
+  pub reads : ReadsBytes seen_old seen_new reach.Reading v.lines.reach 0 v.lines.count taken
   -- no more is taken past the lines that are held, and those that decide the encoding, than one read gives
   pub ahead : (length v.lines.pending ≤ 8_192) ⊎ (v.lines.count ≤ 8_192 + head_len taken)
   pub stands : (more : List ℕ) (broken : Bool) → Continues v.lines more broken → (p : Parts) × (stream_of broken (taken ++ more) ≡ Ok p) × StreamsIn v p k more broken
@@ -140,14 +140,14 @@ pub record EndsUnread (p : Parts) (n : ℕ) : Type 0 where
 pub record Misses (seen_old seen_new : Seen) (cursor : CursorParts) (unread : Bool) : Type 0 where
   pub taken : List ℕ
   pub lines : Buffered
-  pub reads : Takes seen_old seen_new reach.Reading lines.reach 0 lines.count taken
+  pub reads : ReadsBytes seen_old seen_new reach.Reading lines.reach 0 lines.count taken
   pub misses : (more : List ℕ) (broken : Bool) → Continues lines more broken → (p : Parts) × (stream_of broken (taken ++ more) ≡ Ok p) × (IsCursorOf cursor (in_characters p) → ⊥) × (unread ≡ true → EndsUnread p cursor.given) × (unread ≡ false → EndsUnread p cursor.given → ⊥)
 
 -- a call took bytes from a reader
 pub record Took (seen_old seen_new : Seen) : Type 0 where
   pub taken : List ℕ
   pub at : Reach
-  pub reads : Takes seen_old seen_new reach.Reading at 0 (length taken) taken
+  pub reads : ReadsBytes seen_old seen_new reach.Reading at 0 (length taken) taken
 
 -- why a lister could not resume after a cursor
 abbrev pub ResumeRefusal : Seen → Seen → CursorParts → ResumeFault → Type 0

@@ -12,7 +12,7 @@ use Rattle.pylex_lexeme.specs.Chars.{bytes_in}
 use Rattle.pylex_lexeme.specs.Characters.{line_feed, carriage_return, hash, backslash, left_parenthesis, right_parenthesis, left_square_bracket, right_square_bracket, left_curly_bracket, right_curly_bracket, comma}
 
 -- the longest lexeme at the front of old is taken, and its class is said; new is what is left, all of old where there is none
-pub record Takes (old : List ℕ) (k : Option Class) (new : List ℕ) : Type 0 where
+pub record TakesLexeme (old : List ℕ) (k : Option Class) (new : List ℕ) : Type 0 where
   pub «class» : k ≡ option_map (λ x. x.«class») (lexeme_at old)
   pub rest : new ≡ drop (lexeme_len old) old
 

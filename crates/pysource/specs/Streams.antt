@@ -11,7 +11,7 @@ use Rattle.pysource.specs.Lines.{lines_of, good_text, line_fault, first_bad}
 use Rattle.pysource.specs.Cookies.{encoding_of, without_mark, cookie_of, leads_on}
 use Rattle.pysource.specs.Sources.{nth_line}
 use Rattle.pysource.specs.Bytes.{Seen}
-use Rattle.pysource.specs.Taking.{Takes}
+use Rattle.pysource.specs.Taking.{ReadsBytes}
 use Rattle.pysource.specs.Limits.{source_limit}
 use Rattle.pysource.specs.declared.encodings.Charset.{Charset}
 use Rattle.pysource.specs.declared.encodings.SourceFault.{SourceFault}
@@ -115,7 +115,7 @@ Gives old taken line new = (more : List ℕ) (broken : Bool) → Follows new mor
 
 -- what a call did to its reader
 abbrev pub Reads : Seen → Seen → Buffered → Buffered → List ℕ → Type 0
-Reads seen_old seen_new old new taken = Takes seen_old seen_new old.reach new.reach old.count new.count taken
+Reads seen_old seen_new old new taken = ReadsBytes seen_old seen_new old.reach new.reach old.count new.count taken
 
 -- exactly one line
 pub record IsLine (line : List ℕ) : Type 0 where
@@ -180,7 +180,7 @@ head_len bytes = length (nth_line bytes 0) + (if searches_second (nth_line bytes
 -- a reader of lines was opened
 pub record Opens (seen_old seen_new : Seen) (b : Buffered) : Type 0 where
   pub taken : List ℕ
-  pub reads : Takes seen_old seen_new Reading b.reach 0 b.count taken
+  pub reads : ReadsBytes seen_old seen_new Reading b.reach 0 b.count taken
   pub source : (more : List ℕ) (broken : Bool) → Follows b more broken →
       stream_of broken (taken ++ more) ≡ Ok (record { encoding = b.encoding; text = (comes b more broken).text; fault = (comes b more broken).fault })
   pub row : b.row ≡ 1
@@ -202,7 +202,7 @@ Explains (BomConflict place) reach source =
 pub record Refuses (seen_old seen_new : Seen) (fault : StreamFault) : Type 0 where
   pub taken : List ℕ
   pub reach : Reach
-  pub reads : Takes seen_old seen_new Reading reach 0 (length taken) taken
+  pub reads : ReadsBytes seen_old seen_new Reading reach 0 (length taken) taken
   pub explains : Explains fault reach (λ more broken. stream_of broken (taken ++ more))
 
 -- how an opening ended

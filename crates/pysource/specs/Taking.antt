@@ -19,7 +19,7 @@ fails Broken = 1
 fails Passed = 0
 
 -- What reads took from a reader: some bytes, and the one that passes the limit, which is lost.
-pub record Takes (seen_old seen_new : Seen) (reach_old reach_new : Reach) (count_old count_new : ℕ) (taken : List ℕ) : Type 0 where
+pub record ReadsBytes (seen_old seen_new : Seen) (reach_old reach_new : Reach) (count_old count_new : ℕ) (taken : List ℕ) : Type 0 where
   pub lost : List ℕ
   pub consumes : Consumes seen_old.to_come seen_new.to_come (taken ++ lost)
   pub count : count_new ≡ count_old + length taken
@@ -36,7 +36,7 @@ pub record Takes (seen_old seen_new : Seen) (reach_old reach_new : Reach) (count
 -- what reads took stands after the bytes that were there
 pub record Grows (seen_old seen_new : Seen) (old new : Intake) : Type 0 where
   pub taken : List ℕ
-  pub takes : Takes seen_old seen_new old.reach new.reach old.count new.count taken
+  pub takes : ReadsBytes seen_old seen_new old.reach new.reach old.count new.count taken
   pub bytes : new.buffer ≡ old.buffer ++ taken
 
 -- one read into a buffer

@@ -9,7 +9,7 @@ ghost use Rattle.std.specs.Prelude.{IfOk};
 ghost use Rattle.std.specs.String.{string_bytes};
 ghost use Rattle.pysource.specs.Limits.{source_limit};
 ghost use Rattle.pysource.specs.Streams.{NextLine, Open, of_source, searches_second, PushesLine};
-ghost use Rattle.pysource.specs.Taking.{Takes, Grows, FoundHead, FoundDue};
+ghost use Rattle.pysource.specs.Taking.{ReadsBytes, Grows, FoundHead, FoundDue};
 ghost use Rattle.pysource.specs.Inner.Heads.{FoundHeads};
 
 use crate::buffers::Intake;
@@ -176,7 +176,7 @@ fn read_head<R: ByteIn>(intake: &mut Intake, reader: &mut R) -> Result<(usize, u
     requires buffer { intake.old.buffer ≡ [] }
     requires reach { intake.old.reach ≡ Reach.Reading }
     requires count { intake.old.count ≡ 0 }
-    ensures takes { Takes (R.seen reader.old) (R.seen reader.new)
+    ensures takes { ReadsBytes (R.seen reader.old) (R.seen reader.new)
         Reach.Reading intake.new.reach 0 intake.new.count intake.new.buffer }
     ensures within { intake.new.count ≤ source_limit }
     ensures found { FoundHeads intake.new result }

@@ -20,7 +20,7 @@ use Rattle.pysource.specs.declared.line_reader.LineRead.TheVariants as lines
 use Rattle.pysource.specs.declared.line_reader.Reach.{Reach}
 use Rattle.pysource.specs.declared.line_reader.Reach.TheVariants as reach
 use Rattle.pysource.specs.Streams.{Buffered, Coming, FollowsAt, ComesOnly, comes, ends_line}
-use Rattle.pysource.proofs.Callers.Taken.{Takes-none, Takes-on}
+use Rattle.pysource.proofs.Callers.Taken.{ReadsBytes-none, ReadsBytes-on}
 use Rattle.pylex.specs.declared.held_lines.HeldLines.{HeldLines}
 use Rattle.pylex.specs.declared.entries.Entry.{Entry}
 use Rattle.pylex.specs.declared.machine.Peeked.TheVariants as peeked
@@ -137,7 +137,7 @@ not_read = record { to_come = None; failures = 0; may_fail = false }
 pub searches_none : (seen : Seen) (p : Machine) (c : HeldLines) → IsStreaming p c None → Searches seen seen p p c c
 searches_none seen p c h = record {
   taken = [];
-  reads = Takes-none seen c.lines.count c.lines.reach;
+  reads = ReadsBytes-none seen c.lines.count c.lines.reach;
   follows = λ more broken f. f;
   stands = λ s k more broken f x. x;
   machine = refl;
@@ -192,7 +192,7 @@ module _ (seen_0 seen_1 seen_2 : Seen) (p q : Machine) (c d e : HeldLines) (f : 
       holds.joined so.streaming.text stop.lexed so.streaming.left looks.left (rw is at looks.finds).0 looks.room (λ h. let t = looks.tail h in (t.1, t.2)) r.same in
       record {
         taken = so.taken ++ r.taken;
-        reads = Takes-on seen_0 seen_1 seen_2 c.lines.count d.lines.count e.lines.count c.lines.reach d.lines.reach e.lines.reach so.taken r.taken so.reads r.reads;
+        reads = ReadsBytes-on seen_0 seen_1 seen_2 c.lines.count d.lines.count e.lines.count c.lines.reach d.lines.reach e.lines.reach so.taken r.taken so.reads r.reads;
         follows = λ more broken g. subst (λ t. Continues c.lines t broken) (sym (append_assoc so.taken r.taken more)) (so.follows (r.taken ++ more) broken (back r more broken g));
         stands = λ s k more broken g x. in_line s k more broken g (so.stands s k (r.taken ++ more) broken (back r more broken g) (subst (λ t. StreamsIn (streamed p c None) s k t broken) (append_assoc so.taken r.taken more) x));
         machine = ap (λ (z : Machine). record z { now = f.now }) so.machine;
@@ -238,7 +238,7 @@ module _ (seen_0 seen_1 seen_2 : Seen) (p q : Machine) (c d e : HeldLines) (f : 
       reads_none q f.now d e f.at o.taken o.line s k more broken x (o.gives more broken g.0).1 none stays o.same in
       record {
         taken = so.taken ++ o.taken;
-        reads = Takes-on seen_0 seen_1 seen_2 c.lines.count d.lines.count e.lines.count c.lines.reach d.lines.reach e.lines.reach so.taken o.taken so.reads o.reads;
+        reads = ReadsBytes-on seen_0 seen_1 seen_2 c.lines.count d.lines.count e.lines.count c.lines.reach d.lines.reach e.lines.reach so.taken o.taken so.reads o.reads;
         follows = λ more broken g. subst (λ t. Continues c.lines t broken) (sym (append_assoc so.taken o.taken more)) (so.follows (o.taken ++ more) broken (back o more broken g));
         stands = λ s k more broken g x. in_none s k more broken g (so.stands s k (o.taken ++ more) broken (back o more broken g) (subst (λ t. StreamsIn (streamed p c None) s k t broken) (append_assoc so.taken o.taken more) x));
         machine = so.machine;

@@ -13,7 +13,7 @@ use Rattle.pysource.specs.declared.faults.LineFault.{LineFault}
 use Rattle.pylex.specs.declared.entries.ListingFault.{ListingFault}
 use Rattle.pylex.specs.declared.machine.Peeked.{Peeked}
 use Rattle.pylex.specs.declared.machine.Peeked.TheVariants as peeked
-use Rattle.pysource.proofs.Callers.Taken.{Takes-none}
+use Rattle.pysource.proofs.Callers.Taken.{ReadsBytes-none}
 use Rattle.pylex.specs.declared.held_lines.HeldLines.{HeldLines}
 use Rattle.pylex.specs.declared.entries.Entry.{Entry}
 use Rattle.pylex.specs.declared.entries.Step.{Step}
@@ -145,7 +145,7 @@ module _ (p : Machine) (c : HeldLines) (last : Option Entry) (e : Entry) (z : p.
   pub steps_first : IsStreaming p c last → (seen : Seen) → Next seen seen (streamed p c last) (streamed begun c (Some e)) (Ok (steps.Entry e))
   steps_first h seen = record {
     taken = [];
-    reads = Takes-none seen c.lines.count c.lines.reach;
+    reads = ReadsBytes-none seen c.lines.count c.lines.reach;
     follows = λ more broken g. g;
     steps = λ s k more broken g x. first_in s k more broken (h.fresh z) x;
     last = refl;

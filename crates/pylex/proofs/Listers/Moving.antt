@@ -317,7 +317,7 @@ came_same a c k n t ds m w =
     (subst (λ (es : List ℕ). Walks t ds m (resumed c (standing_by a c).line) es) (same_left a c k n) w)
 
 -- A lister goes on by a step: it stands behind it, and keeps what it has to.
-pub record Goes (old : Listed) (step : Step) (new : Listed) (r : LineState) (left ls : List ℕ) (nested tail : ℕ) : Type 0 where
+pub record Advances (old : Listed) (step : Step) (new : Listed) (r : LineState) (left ls : List ℕ) (nested tail : ℕ) : Type 0 where
   pub leads : Leads old step new
   pub keeps : Keeps new r left ls nested tail
 
@@ -328,7 +328,7 @@ anew_stands q r ds room h = record { utf8 = h.utf8; room = room (length ds) h.ro
 pub ascending-take : (m n : ℕ) (ls : List ℕ) → IsAscending m ls → IsAscending m (take n ls)
 ascending-take m n ls h = ascending-front m (take n ls) (drop n ls) (subst (IsAscending m) (sym (take-append-drop n ls)) h)
 
-pub goes_first : (l : Listed) (p : LineState) (left levels : List ℕ) (nested tail : ℕ) (e : Entry) → Keeps l p left levels nested tail → l.shown.given ≡ 0 → mark_at kinds.Encoding 0 origin origin ≡ steps.Entry e → Goes l (steps.Entry e) (record l { shown = record l.shown { given = 1 } }) p left levels nested tail
+pub goes_first : (l : Listed) (p : LineState) (left levels : List ℕ) (nested tail : ℕ) (e : Entry) → Keeps l p left levels nested tail → l.shown.given ≡ 0 → mark_at kinds.Encoding 0 origin origin ≡ steps.Entry e → Advances l (steps.Entry e) (record l { shown = record l.shown { given = 1 } }) p left levels nested tail
 goes_first l p left levels nested tail e keeps z is =
     let new : Listed = record l { shown = record l.shown { given = 1 } } in
     let leads : Leads l (steps.Entry e) new = leads_encoding l e z is in
@@ -348,7 +348,7 @@ goes_first l p left levels nested tail e keeps z is =
     }
 
 module _ (l : Listed) (p : LineState) (left levels : List ℕ) (nested tail : ℕ) (keeps : Keeps l p left levels nested tail) (skips : l.shown.skip ≡ (length levels - nested) + tail) (some : 0 < l.shown.given) where
-  pub goes_entry : (none : tail ≡ 0) (e : Entry) (q r : LineState) (ds ls : List ℕ) (point : Shown) → EntryAhead (take nested levels) p (chars left) e q (chars ds) → Stands q ds → ((ns : List ℕ) → with_levels r ns ≡ begun_anew (with_levels q ns)) → ((n : ℕ) → HasRoom q n → HasRoom r n) → ((k : ℕ) (ms : List ℕ) → shown_by k point ms 0 ≡ shown_at k (with_levels q (0 ∷ ms))) → ls ≡ take nested levels → Goes l (steps.Entry e) (record { source = l.source; shown = shown_by (l.shown.given + 1) point ls ((length ls - nested) + tail) }) r ds ls nested tail
+  pub goes_entry : (none : tail ≡ 0) (e : Entry) (q r : LineState) (ds ls : List ℕ) (point : Shown) → EntryAhead (take nested levels) p (chars left) e q (chars ds) → Stands q ds → ((ns : List ℕ) → with_levels r ns ≡ begun_anew (with_levels q ns)) → ((n : ℕ) → HasRoom q n → HasRoom r n) → ((k : ℕ) (ms : List ℕ) → shown_by k point ms 0 ≡ shown_at k (with_levels q (0 ∷ ms))) → ls ≡ take nested levels → Advances l (steps.Entry e) (record { source = l.source; shown = shown_by (l.shown.given + 1) point ls ((length ls - nested) + tail) }) r ds ls nested tail
   goes_entry none e q r ds ls point h stands anew room at is =
       let counted : length ls ≡ nested = ap length is ∙ length-take-le nested levels keeps.within in
       let no_skip : (length ls - nested) + tail ≡ 0 = omega arith in
@@ -362,7 +362,7 @@ module _ (l : Listed) (p : LineState) (left levels : List ℕ) (nested tail : �
             (subst (λ (ns : List ℕ). IsIn (chars l.source.text) (with_levels q (0 ∷ ns)) (chars ds)) (sym is) (entry_in l p left levels nested tail keeps skips some none e q (chars ds) h)) anew;
       }
 
-  pub goes_indent : (none : tail ≡ 0) (e : Entry) (q m r : LineState) (ds ls : List ℕ) (count : ℕ) (point : Shown) → Comes (take nested levels) p (chars left) q (chars ds) → IndentAhead (take nested levels) q (chars ds) → step_of kinds.Indent None q.line q.now ≡ steps.Entry e → Stands q ds → ((ns : List ℕ) → with_levels m (pushed q.width ns) ≡ measured (with_levels q ns)) → ((n : ℕ) → HasRoom q n → HasRoom m n) → ((ns : List ℕ) → with_levels r ns ≡ begun_anew (with_levels m ns)) → ((n : ℕ) → HasRoom m n → HasRoom r n) → ((k : ℕ) (ms : List ℕ) → shown_by k point ms 0 ≡ shown_at k (with_levels m (0 ∷ ms))) → ls ≡ take nested levels ++ q.width ∷ [] → count ≡ length ls → Goes l (steps.Entry e) (record { source = l.source; shown = shown_by (l.shown.given + 1) point ls ((length ls - count) + tail) }) r ds ls count tail
+  pub goes_indent : (none : tail ≡ 0) (e : Entry) (q m r : LineState) (ds ls : List ℕ) (count : ℕ) (point : Shown) → Comes (take nested levels) p (chars left) q (chars ds) → IndentAhead (take nested levels) q (chars ds) → step_of kinds.Indent None q.line q.now ≡ steps.Entry e → Stands q ds → ((ns : List ℕ) → with_levels m (pushed q.width ns) ≡ measured (with_levels q ns)) → ((n : ℕ) → HasRoom q n → HasRoom m n) → ((ns : List ℕ) → with_levels r ns ≡ begun_anew (with_levels m ns)) → ((n : ℕ) → HasRoom m n → HasRoom r n) → ((k : ℕ) (ms : List ℕ) → shown_by k point ms 0 ≡ shown_at k (with_levels m (0 ∷ ms))) → ls ≡ take nested levels ++ q.width ∷ [] → count ≡ length ls → Advances l (steps.Entry e) (record { source = l.source; shown = shown_by (l.shown.given + 1) point ls ((length ls - count) + tail) }) r ds ls count tail
   goes_indent none e q m r ds ls count point c h step stands measures room anew room_anew at is counted =
       let no_skip : (length ls - count) + tail ≡ 0 = omega arith in
       let new : Listed = record { source = l.source; shown = shown_by (l.shown.given + 1) point ls ((length ls - count) + tail) } in
@@ -375,7 +375,7 @@ module _ (l : Listed) (p : LineState) (left levels : List ℕ) (nested tail : �
             (indent_in l p left levels nested tail keeps skips some none q m (chars ds) ls c h measures is) anew;
       }
 
-  pub goes_dedent : (none : tail ≡ 0) (e : Entry) (q : LineState) (ds : List ℕ) (skip : ℕ) → Comes (take nested levels) p (chars left) q (chars ds) → DedentAhead (take nested levels) q (chars ds) → mark_at kinds.Dedent q.now.offset q.now.place q.now.place ≡ steps.Entry e → Stands q ds → skip ≡ (length levels - (nested - 1)) + tail → Goes l (steps.Entry e) (record l { shown = record l.shown { given = l.shown.given + 1; skip = skip } }) q ds levels (nested - 1) tail
+  pub goes_dedent : (none : tail ≡ 0) (e : Entry) (q : LineState) (ds : List ℕ) (skip : ℕ) → Comes (take nested levels) p (chars left) q (chars ds) → DedentAhead (take nested levels) q (chars ds) → mark_at kinds.Dedent q.now.offset q.now.place q.now.place ≡ steps.Entry e → Stands q ds → skip ≡ (length levels - (nested - 1)) + tail → Advances l (steps.Entry e) (record l { shown = record l.shown { given = l.shown.given + 1; skip = skip } }) q ds levels (nested - 1) tail
   goes_dedent none e q ds skip c h step stands is =
       let within = keeps.within in
       let some_nested : 0 < nested = omega (arith, h.some, length-take-le nested levels keeps.within) in
@@ -399,7 +399,7 @@ module _ (l : Listed) (p : LineState) (left levels : List ℕ) (nested tail : �
         };
       }
 
-  pub goes_end : (e : Entry) (q : LineState) (ds : List ℕ) (skip : ℕ) → Comes (take nested levels) p (chars left) q (chars ds) → StopAhead q (chars ds) → (tail < length (remaining (in_characters l.source).fault (with_levels q (0 ∷ take nested levels)) (chars ds)) → steps.Entry e ≡ first_step (drop tail (remaining (in_characters l.source).fault (with_levels q (0 ∷ take nested levels)) (chars ds)))) → e.«from» ≡ e.to → Stands q ds → skip ≡ (length levels - nested) + (tail + 1) → Goes l (steps.Entry e) (record l { shown = record l.shown { given = l.shown.given + 1; skip = skip } }) q ds levels nested (tail + 1)
+  pub goes_end : (e : Entry) (q : LineState) (ds : List ℕ) (skip : ℕ) → Comes (take nested levels) p (chars left) q (chars ds) → StopAhead q (chars ds) → (tail < length (remaining (in_characters l.source).fault (with_levels q (0 ∷ take nested levels)) (chars ds)) → steps.Entry e ≡ first_step (drop tail (remaining (in_characters l.source).fault (with_levels q (0 ∷ take nested levels)) (chars ds)))) → e.«from» ≡ e.to → Stands q ds → skip ≡ (length levels - nested) + (tail + 1) → Advances l (steps.Entry e) (record l { shown = record l.shown { given = l.shown.given + 1; skip = skip } }) q ds levels nested (tail + 1)
   goes_end e q ds skip c h is empty stands skip_is =
       let more : skip ≡ l.shown.skip + 1 = omega arith in
       let new : Listed = record l { shown = record l.shown { given = l.shown.given + 1; skip = skip } } in

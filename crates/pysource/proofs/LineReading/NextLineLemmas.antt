@@ -20,7 +20,7 @@ use Rattle.pysource.specs.declared.faults.LineFault.{LineFault}
 use Rattle.pysource.proofs.FaultyLines.CutLemmas.{first_of_alone}
 use Rattle.pysource.proofs.LineReading.ComingLemmas.{no_lf_all}
 use Rattle.pysource.proofs.LineReading.HeadLemmas.{nth_first, nth_here}
-use Rattle.pysource.proofs.TakenBytes.TakingLemmas.{Takes-none}
+use Rattle.pysource.proofs.TakenBytes.TakingLemmas.{ReadsBytes-none}
 use Rattle.pysource.proofs.LineReading.StreamLemmas.{held, skipped, gives_nothing, gives_fault, gives_line, gives_last, gives_bad, gives_last_bad, is_line, is_last, only_behind, only_end, only_fault, only_unread}
 
 -- bytes without line feed are their own first line
@@ -99,7 +99,7 @@ pub moves_told : (x : Seen) (e : Named) (row : ℕ) (fault : LineFault) (i : Int
 moves_told x e row fault i chunk = record {
   taken = [];
   line = [];
-  reads = Takes-none x i.count i.reach;
+  reads = ReadsBytes-none x i.count i.reach;
   gives = gives_fault e row fault i;
   chunk = sym (append-nil chunk);
   tells = (refl, refl, only_fault e row fault i);

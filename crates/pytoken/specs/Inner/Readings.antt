@@ -10,7 +10,7 @@ use Rattle.pytoken.specs.StringValues.{is_quote}
 use Rattle.pytoken.specs.Escapes.{Reading, reading, meanings, points_in}
 
 -- a reading was made of the front of a text: what it means, and what is left of the text
-pub record Takes (r : Reading) (old : List ℕ) (m : Meaning) (new : List ℕ) : Type 0 where
+pub record ReadsEscape (r : Reading) (old : List ℕ) (m : Meaning) (new : List ℕ) : Type 0 where
   pub meaning : m ≡ r.meaning
   pub behind : new ≡ drop r.more old
 

@@ -7,7 +7,8 @@ ghost use Rattle.std.specs.Str.Parse.{digits_value};
 ghost use Rattle.pylex_lexeme.specs.Characters.{backslash};
 ghost use Rattle.pytoken.specs.Escapes.{digits_at_front, escape_point, octal, hexadecimal};
 ghost use Rattle.pytoken.specs.Escapes.{hexadecimal_len, names_character, escaped_by, reads};
-ghost use Rattle.pytoken.specs.Inner.Readings.{Takes, first_digit, first_meaning, behind_meaning};
+ghost use Rattle.pytoken.specs.Inner.Readings.{ReadsEscape, first_digit, first_meaning};
+ghost use Rattle.pytoken.specs.Inner.Readings.{behind_meaning};
 
 use crate::values::characters::Characters;
 use crate::{Meaning, TokenError};
@@ -46,7 +47,7 @@ fn digit(text: &Characters, radix: u32) -> Option<u32>
 
 /// One to three octal digits that stand here.
 fn octal(text: &mut Characters, bytes: bool) -> Meaning
-    ensures { Takes (octal bytes (digits_at_front 8 3 text.old)) text.old result text.new }
+    ensures { ReadsEscape (octal bytes (digits_at_front 8 3 text.old)) text.old result text.new }
 {
     let (_, value) = digits(text, 8, 3);
     if is_past_byte(bytes, value) {
@@ -65,8 +66,8 @@ fn is_past_byte(bytes: bool, value: u32) -> bool
 /// A letter that stands here, and so many hexadecimal digits after it.
 fn hexadecimal(text: &mut Characters, wanted: usize) -> Meaning
     requires { wanted ≤ 8 }
-    ensures { Takes (hexadecimal wanted (digits_at_front 16 wanted (drop 1 text.old))) text.old
-        result text.new }
+    ensures { ReadsEscape (hexadecimal wanted (digits_at_front 16 wanted (drop 1 text.old)))
+        text.old result text.new }
 {
     let _ = text.bump();
     let (count, value) = digits(text, 16, wanted);
@@ -129,7 +130,7 @@ fn point_of(letter: char) -> Option<u32>
 
 /// Takes the letter that stands here.
 fn letter(text: &mut Characters, meaning: Meaning) -> Meaning
-    ensures { Takes (reads meaning 1) text.old result text.new }
+    ensures { ReadsEscape (reads meaning 1) text.old result text.new }
 {
     let _ = text.bump();
     meaning
@@ -137,7 +138,7 @@ fn letter(text: &mut Characters, meaning: Meaning) -> Meaning
 
 /// What a backslash stands for with what stands here, after it.
 fn escape(text: &mut Characters, bytes: bool) -> Meaning
-    ensures { Takes (escaped_by bytes text.old) text.old result text.new }
+    ensures { ReadsEscape (escaped_by bytes text.old) text.old result text.new }
 {
     let Some(first) = text.first() else {
         return Meaning::Point(0x5C);
