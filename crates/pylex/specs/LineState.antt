@@ -30,7 +30,7 @@ with_levels p levels = record {
   width = p.width;
   logical = p.logical;
   joined = p.joined;
-  front = p.front;
+  lead = p.lead;
 }
 
 -- the state after the layout before the first significant token of a logical line
@@ -44,12 +44,12 @@ measured s = record {
   width = 0;
   logical = true;
   joined = s.joined;
-  front = s.front;
+  lead = s.lead;
 }
 
 -- the state directly after an entry: a line is yet to be measured only at its start
 abbrev pub begun_anew : State → State
-begun_anew s = record { now = s.now; line = s.now; depth = s.depth; levels = s.levels; margin = not s.logical && (s.now.place.column == 0); width = 0; logical = s.logical; joined = false; front = s.front }
+begun_anew s = record { now = s.now; line = s.now; depth = s.depth; levels = s.levels; margin = not s.logical && (s.now.place.column == 0); width = 0; logical = s.logical; joined = false; lead = s.lead }
 
 -- the counts of a lister that has n more bytes to go stay small
 pub record HasRoom (p : LineState) (n : ℕ) : Type 0 where

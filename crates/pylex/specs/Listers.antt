@@ -13,7 +13,7 @@ use Rattle.pylex_lexeme.specs.Chars.{bytes_in}
 use Rattle.pylex.specs.Listing.{Source, in_characters, last_line, listing, rest}
 use Rattle.pylex.specs.Steps.{first_step, entries_in, IsIndent}
 use Rattle.pylex.specs.Cursors.{CursorParts}
-use Rattle.pylex.specs.Machine.{State, gives, after, front_after, layout_of, dedents_at}
+use Rattle.pylex.specs.Machine.{State, gives, after, lead_after, layout_of, dedents_at}
 use Rattle.pylex.specs.LineState.{with_levels, measured, Stands, IsAscending, StopAhead, Walks}
 use Rattle.pylex.specs.Standing.{resumed, standing_by, Agrees, IsCursorOf}
 
@@ -60,7 +60,7 @@ pub record IsIn (text : List ℕ) (s : State) (ds : List ℕ) : Type 0 where
   pub whole : text ≡ before ++ ds
   pub offset : s.now.offset ≡ bytes_in before
   pub column : s.now.place.column ≡ length (last_line before)
-  pub front : s.front ≡ front_after Nothing (last_line before)
+  pub lead : s.lead ≡ lead_after Nothing (last_line before)
 
 -- What a lister keeps beside its cursor: how far it has looked from the cursor's point on, and how many of the levels above 0 that are open there it has not closed.
 pub record Keeps (l : Listed) (p : LineState) (left levels : List ℕ) (nested tail : ℕ) : Type 0 where

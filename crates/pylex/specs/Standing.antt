@@ -7,7 +7,7 @@ use Rattle.pylex_lexeme.specs.Chars.{bytes_in}
 use Rattle.pylex.specs.Listing.{Source, listing, rest, last_line, origin}
 use Rattle.pylex.specs.Cursors.{CursorParts, cursor, same_parts}
 use Rattle.pylex.specs.Steps.{entries_of, mark}
-use Rattle.pylex.specs.Machine.{State, front_after, remaining}
+use Rattle.pylex.specs.Machine.{State, lead_after, remaining}
 use Rattle.pylex.specs.declared.point.Point.{Point}
 use Rattle.pylex.specs.declared.leading_char.LeadingChar.TheVariants.{Nothing}
 
@@ -38,7 +38,7 @@ standing s k = standing_by s (cursor s k)
 unfoldable pub resumed : CursorParts → List ℕ → State
 resumed c line =
     let p : Point = record { place = record { row = c.row; column = length line }; offset = c.offset } in
-    record { now = p; line = p; depth = c.depth; levels = c.levels; margin = not c.begun && (length line == 0); width = 0; logical = c.begun; joined = false; front = front_after Nothing line }
+    record { now = p; line = p; depth = c.depth; levels = c.levels; margin = not c.begun && (length line == 0); width = 0; logical = c.begun; joined = false; lead = lead_after Nothing line }
 
 -- what a lister still gives
 unfoldable pub to_give : Standing → List Step

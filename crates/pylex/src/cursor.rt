@@ -14,7 +14,7 @@ ghost use Rattle.pylex.specs.Standing.{resumed};
 ghost use Rattle.pylex.specs.Listers.{shown_at, shown_by};
 ghost use Rattle.std.specs.Str.{chars};
 
-use crate::leading_char::front_of;
+use crate::leading_char::lead_of;
 use crate::line_state::LineState;
 use crate::point::Point;
 use itoa::Buffer;
@@ -119,7 +119,7 @@ impl Shown {
             width: 0,
             logical: self.begun,
             joined: false,
-            front: front_of(line),
+            lead: lead_of(line),
         }
     }
 }

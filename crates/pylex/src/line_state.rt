@@ -39,7 +39,7 @@ pub struct LineState {
     pub logical: bool,
     /// The last lexeme was a backslash and a line end.
     pub joined: bool,
-    pub front: LeadingChar,
+    pub lead: LeadingChar,
 }
 
 /// The type of the entry of a lexeme that is given as it stands, operators aside.
@@ -72,7 +72,7 @@ impl LineState {
             width: 0,
             logical: false,
             joined: false,
-            front: LeadingChar::Nothing,
+            lead: LeadingChar::Nothing,
         }
     }
 
@@ -238,7 +238,7 @@ impl LineState {
         ensures now { result.now ≡ past self.now (chars text.now) }
         ensures room { (n : ℕ) → HasRoom self (length text.now + n) → HasRoom result n }
     {
-        let (place, front) = walk_lexeme(self.now.place, self.front, class, text);
+        let (place, lead) = walk_lexeme(self.now.place, self.lead, class, text);
         let now = Point {
             place,
             offset: self.now.offset + text.len(),
@@ -251,7 +251,7 @@ impl LineState {
             width: self.width_past(class, text),
             logical: self.logical_after(class),
             joined: class.is_join(),
-            front,
+            lead,
         }
     }
 
@@ -285,7 +285,7 @@ impl LineState {
         self.width = 0;
         self.logical = true;
         self.joined = true;
-        self.front = LeadingChar::Nothing;
+        self.lead = LeadingChar::Nothing;
     }
 
     /// Whether an operator closes a bracket where none is open.
@@ -320,7 +320,7 @@ impl LineState {
         self.width = 0;
         self.logical = true;
         self.joined = false;
-        self.front = self.front.begun();
+        self.lead = self.lead.begun();
         Some(entry_of(Kind::Op, Some(operator), start, self.now))
     }
 
@@ -335,13 +335,13 @@ impl LineState {
         ensures entry { GivesEntry self.old class (chars text.now) result }
     {
         let start = self.now;
-        let (place, front) = walk(start.place, self.front, text);
+        let (place, lead) = walk(start.place, self.lead, text);
         self.now.place = place;
         self.now.offset += text.len();
         self.width = 0;
         self.logical = self.logical_after(class);
         self.joined = false;
-        self.front = front;
+        self.lead = lead;
         entry_of(text_kind(class), None, start, self.now)
     }
 
@@ -378,7 +378,7 @@ impl LineState {
         self.margin = self.ends_line(Class::LineEnd);
         self.logical = self.logical_after(Class::LineEnd);
         self.joined = false;
-        self.front = LeadingChar::Nothing;
+        self.lead = LeadingChar::Nothing;
         entry_of(kind, None, start, end)
     }
 
@@ -418,7 +418,7 @@ impl LineState {
         self.margin = !behind.logical && behind.now.place.column == 0;
         self.logical = behind.logical;
         self.joined = false;
-        self.front = behind.front;
+        self.lead = behind.lead;
     }
 
     /// Whether a statement is open at the text's end: within brackets, or directly after a join.
@@ -436,7 +436,7 @@ impl LineState {
     {
         let end = self.now.place;
         if self.logical {
-            if self.front.is_hash() {
+            if self.lead.is_hash() {
                 return Emitted::Nothing;
             }
             let further = Place {

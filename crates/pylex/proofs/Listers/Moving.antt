@@ -23,7 +23,7 @@ use Rattle.pylex_lexeme.specs.Lexemes.{cut, left_by_cut}
 use Rattle.pylex.specs.Cursors.{CursorParts, has_no_text, given_last_first, with_text, lexemes_to, cursor_at, cursor}
 use Rattle.pylex.specs.Listing.{Source, in_characters, listing, rest, origin, last_line}
 use Rattle.pylex.specs.Steps.{entries_of, first_step, entries_in, IsIndent, mark, IsNoEntry}
-use Rattle.pylex.specs.Machine.{State, first_state, remaining, mark_at, step_of, pushed, after, front_after}
+use Rattle.pylex.specs.Machine.{State, first_state, remaining, mark_at, step_of, pushed, after, lead_after}
 use Rattle.pylex.specs.LineState.{with_levels, measured, begun_anew, Stands, HasRoom, IsAscending, Comes, EntryAhead, FaultAhead, IndentAhead, DedentAhead, StopAhead, Walks, stays, dedent, is_level}
 use Rattle.pylex.specs.Standing.{standing_by, resumed}
 use Rattle.pylex.specs.declared.cursor.Shown.{Shown}
@@ -204,7 +204,7 @@ module _ (l : Listed) (p : LineState) (left levels : List ℕ) (nested tail : �
         let t : State = with_levels q (0 ∷ take nested levels) in
         let state : measured t ≡ with_levels r (0 ∷ ls) = sym (measures (0 ∷ take nested levels)) ∙ ap (with_levels r) (pushed_above q.width (0 ∷ take nested levels) h.above ∙ ap (λ ns. 0 ∷ ns) (sym levels_are)) in
         let i = is_there q ds c in
-        subst (λ (s : State). IsIn source.text s ds) state (record { before = i.before; whole = i.whole; offset = i.offset; column = i.column; front = i.front })
+        subst (λ (s : State). IsIn source.text s ds) state (record { before = i.before; whole = i.whole; offset = i.offset; column = i.column; lead = i.lead })
 
     pub awaits_indent : (q : LineState) (ds : List ℕ) → Comes (take nested levels) p (chars left) q ds → IndentAhead (take nested levels) q ds → AwaitsIndent l
     awaits_indent q ds c h a k s =
@@ -279,7 +279,7 @@ keeps_behind l q r left ls nested tail utf8 small stood is stands ascending n z 
     let state : resumed l.shown (standing_by a l.shown).line ≡ with_levels r (0 ∷ take nested ls) =
     ap (λ c. resumed c (standing_by a l.shown).line) is
     ∙ ap (resumed (shown_at l.shown.given s)) (line_in a l.shown s (chars left) o i)
-    ∙ resumed_anew l.shown.given s (last_line i.before) i.column i.front
+    ∙ resumed_anew l.shown.given s (last_line i.before) i.column i.lead
     ∙ sym (anew (0 ∷ ls))
     ∙ ap (λ ns. with_levels r (0 ∷ ns)) (sym all) in
     let now : begun_anew s ≡ with_levels r (0 ∷ take nested ls) = sym (anew (0 ∷ ls)) ∙ ap (λ ns. with_levels r (0 ∷ ns)) (sym all) in
@@ -290,7 +290,7 @@ keeps_behind l q r left ls nested tail utf8 small stood is stands ascending n z 
       stands = stands;
       ascending = ascending;
       within = omega arith;
-      placed = subst (λ (u : State). IsIn a.text u (chars left)) now (record { before = i.before; whole = i.whole; offset = i.offset; column = i.column; front = i.front });
+      placed = subst (λ (u : State). IsIn a.text u (chars left)) now (record { before = i.before; whole = i.whole; offset = i.offset; column = i.column; lead = i.lead });
       came = subst (λ (u : State). Walks (with_levels r (0 ∷ take nested ls)) (chars left) (length ls - nested) u (standing_by a l.shown).left) (sym state)
           (subst (λ (es : List ℕ). Walks (with_levels r (0 ∷ take nested ls)) (chars left) (length ls - nested) (with_levels r (0 ∷ take nested ls)) es) (sym (left_in a l.shown s (chars left) o i))
           (subst (λ (k : ℕ). Walks (with_levels r (0 ∷ take nested ls)) (chars left) k (with_levels r (0 ∷ take nested ls)) (chars left)) (sym none) stays));
@@ -393,7 +393,7 @@ module _ (l : Listed) (p : LineState) (left levels : List ℕ) (nested tail : �
           stands = stands;
           ascending = keeps.ascending;
           within = omega arith;
-          placed = record { before = i.before; whole = i.whole; offset = i.offset; column = i.column; front = i.front };
+          placed = record { before = i.before; whole = i.whole; offset = i.offset; column = i.column; lead = i.lead };
           came = came_same (in_characters l.source) l.shown (l.shown.given + 1) skip (with_levels q (0 ∷ take (nested - 1) levels)) (chars ds) (length levels - (nested - 1)) w;
           stop = λ n. absurd (omega arith);
         };
@@ -464,7 +464,7 @@ keeps_first source p point ls utf8 small e first at =
     (ap (shown_by 0 point ls) no_skip ∙ at 0 ls)
     (record { utf8 = utf8; room = record { row = omega arith; column = omega arith; offset = omega arith; depth = omega arith; width = omega arith } })
     (subst (IsAscending 0) (sym e) tt) (sym none) refl
-    (record { before = []; whole = refl; offset = offset; column = column ∙ ap length (sym no_line); front = ap (λ (s : State). s.front) first ∙ ap (front_after Nothing) (sym no_line) })
+    (record { before = []; whole = refl; offset = offset; column = column ∙ ap length (sym no_line); lead = ap (λ (s : State). s.lead) first ∙ ap (lead_after Nothing) (sym no_line) })
     (λ ns. ap (λ (s : State). record s { levels = ns }) first ∙ ap (λ (s : State). begun_anew (record s { levels = ns })) (sym first))
 
 pub row_from_one : (l : Listed) (p : LineState) (left levels : List ℕ) (nested tail : ℕ) → Keeps l p left levels nested tail → 1 ≤ l.shown.row

@@ -105,7 +105,7 @@ tail_stops s =
     cond_stops (not (s.depth == 0) || s.joined) _ _ fault
     (behind (last_line_end s ++ dedents_at 0 s.levels s.now.offset (last_place s)) _
     (NoEnd-append (last_line_end s) _
-    (cond_no_end s.logical _ _ (cond_no_end (is_hash s.front) [] _ tt tt) (cond_no_end s.margin [] _ tt tt))
+    (cond_no_end s.logical _ _ (cond_no_end (is_hash s.lead) [] _ tt tt) (cond_no_end s.margin [] _ tt tt))
     (dedents_no_end 0 s.levels s.now.offset (last_place s)))
     (marked refl))
 
