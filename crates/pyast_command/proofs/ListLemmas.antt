@@ -8,7 +8,7 @@ use Rattle.pysource.specs.Bytes.{Seen}
 use Rattle.pysource.specs.Parts.{Parts}
 use Rattle.pysource.specs.Streams.{Reads}
 use Rattle.pysource.specs.Limits.{source_limit}
-use Rattle.pysource.proofs.Callers.Taken.{Appends-refl, Takes-none, Takes-on}
+use Rattle.pysource.proofs.Callers.Taken.{Appends-refl, ReadsBytes-none, ReadsBytes-on}
 use Rattle.pylex.specs.declared.entries.Entry.{Entry}
 use Rattle.pylex.specs.declared.entries.ListingFault.{ListingFault}
 use Rattle.pylex.specs.declared.entries.Step.{Step}
@@ -21,7 +21,7 @@ use Rattle.pylex.proofs.Callers.{end_last, fault_last}
 use Rattle.pyast_fault.specs.Faults.{of_listing}
 use Rattle.pyast_command.specs.Listings.{cursor_line, left_behind, output_from, fault_from}
 use Rattle.pyast_command.specs.Runs.{TakesAllBut, HoldsFor}
-use Rattle.pyast_command.specs.Inner.Taken.{Goes}
+use Rattle.pyast_command.specs.Inner.Taken.{Lists}
 use Rattle.pyast_fault.specs.declared.fault.Fault.{Fault}
 use Rattle.pyast_fault.specs.declared.fault.Fault.TheVariants.{Plain}
 use Rattle.pyast_fault.specs.declared.fault.RunFaultCode.TheVariants.{Memory}
@@ -48,7 +48,7 @@ pub record Came (seen_old seen_new : Seen) (old new : Streamed) (exact : Bool) (
 pub came_none : (seen : Seen) (v : Streamed) (exact : Bool) (count : Option ℕ) (x : Option (List ℕ)) (held : List ℕ) → held ≡ [] → Came seen seen v v exact count count x x held
 came_none seen v exact count x held none = record {
   taken = [];
-  reads = Takes-none seen v.lines.count v.lines.reach;
+  reads = ReadsBytes-none seen v.lines.count v.lines.reach;
   follows = λ more broken f. f;
   stood = λ p more broken f s. record { stands = s; holds = rw none ([], refl, Appends-refl x); told = refl };
 }
@@ -67,7 +67,7 @@ came_written seen_old seen_new old new exact count left x y z held c w = record 
 pub goes_here : (seen_old seen_new : Seen) (old new : Streamed) (exact : Bool) (count left : Option ℕ) (x y : Option (List ℕ)) (held : List ℕ) (done : List ℕ → Option Fault → Type 0)
     → Came seen_old seen_new old new exact count left x y held
     → ((p : Parts) (more : List ℕ) (broken : Bool) → Stood new p old.shown.given more broken exact count left x y held → done (output_from exact p count old.shown.given) (fault_from p count old.shown.given))
-    → Goes seen_old seen_new old exact count done
+    → Lists seen_old seen_new old exact count done
 goes_here seen_old seen_new old new exact count left x y held done c does = record {
   new = new.lines;
   taken = c.taken;
@@ -80,11 +80,11 @@ goes_here seen_old seen_new old new exact count left x y held done c does = reco
 pub goes_on : (seen_old seen_mid seen_new : Seen) (old mid new : Streamed) (result : Result Step AllocError) (exact : Bool) (count left : Option ℕ) (x y : Option (List ℕ)) (held : List ℕ)
     (done : List ℕ → Option Fault → Type 0) → Came seen_old seen_mid old mid exact count left x y held → (s : Next seen_mid seen_new mid new result)
     → ((p : Parts) (more : List ℕ) (broken : Bool) → Continues new.lines more broken → Stood mid p old.shown.given (s.taken ++ more) broken exact count left x y held → done (output_from exact p count old.shown.given) (fault_from p count old.shown.given))
-    → Goes seen_old seen_new old exact count done
+    → Lists seen_old seen_new old exact count done
 goes_on seen_old seen_mid seen_new old mid new result exact count left x y held done c s does = record {
   new = new.lines;
   taken = c.taken ++ s.taken;
-  reads = Takes-on seen_old seen_mid seen_new _ _ _ old.lines.reach mid.lines.reach new.lines.reach c.taken s.taken c.reads s.reads;
+  reads = ReadsBytes-on seen_old seen_mid seen_new _ _ _ old.lines.reach mid.lines.reach new.lines.reach c.taken s.taken c.reads s.reads;
   follows = λ more broken f. rw append_assoc (c.follows (s.taken ++ more) broken (s.follows more broken f));
   holds = λ p more broken f t. does p more broken f (c.stood p (s.taken ++ more) broken (s.follows more broken f) (rw append_assoc at t));
 }
@@ -96,7 +96,7 @@ pub came_next : (seen_old seen_mid seen_new : Seen) (old mid new : Streamed) (st
     → Came seen_old seen_new old new exact count (left_behind left e.kind) x y held
 came_next seen_old seen_mid seen_new old mid new step e exact count left x y before text held c s is n shown held_is = record {
   taken = c.taken ++ s.taken;
-  reads = Takes-on seen_old seen_mid seen_new _ _ _ old.lines.reach mid.lines.reach new.lines.reach c.taken s.taken c.reads s.reads;
+  reads = ReadsBytes-on seen_old seen_mid seen_new _ _ _ old.lines.reach mid.lines.reach new.lines.reach c.taken s.taken c.reads s.reads;
   follows = λ more broken f. rw append_assoc (c.follows (s.taken ++ more) broken (s.follows more broken f));
   stood = λ p more broken f t.
       let m = c.stood p (s.taken ++ more) broken (s.follows more broken f) (rw append_assoc at t) in
@@ -112,7 +112,7 @@ came_next seen_old seen_mid seen_new old mid new step e exact count left x y bef
   where
     moved : (p : Parts) (k : ℕ) (more : List ℕ) (broken : Bool) → Continues new.lines more broken → StreamsIn mid p k (s.taken ++ more) broken
         → (slice_get (listing (in_characters p)) k ≡ Some (steps.Entry e)) × StreamsIn new p (k + 1) more broken
-    moved p k more broken f t = rw is at s.moves p k more broken f t
+    moved p k more broken f t = rw is at s.steps p k more broken f t
 
 -- a further entry is one more of those that a listing can have
 pub counts_up : (seen_old seen_mid seen_new : Seen) (old mid new : Streamed) (step : Step) (e : Entry) (exact : Bool) (count left : Option ℕ) (x y : Option (List ℕ)) (held : List ℕ)
@@ -125,7 +125,7 @@ counts_up seen_old seen_mid seen_new old mid new step e exact count left x y hel
     let before = s.follows [] broken after in
     let source = somewhere (c.taken ++ (s.taken ++ [])) broken (c.follows (s.taken ++ []) broken before) in
     let m = c.stood source.0 (s.taken ++ []) broken before source.1 in
-    let next : StreamsIn new source.0 (mid.shown.given + 1) [] broken = (rw is at s.moves source.0 mid.shown.given [] broken after m.stands).1 in
+    let next : StreamsIn new source.0 (mid.shown.given + 1) [] broken = (rw is at s.steps source.0 mid.shown.given [] broken after m.stands).1 in
     let given : new.shown.given ≡ mid.shown.given + 1 = next.stands.count in
     omega arith
 
@@ -133,7 +133,7 @@ counts_up seen_old seen_mid seen_new old mid new step e exact count left x y hel
 pub next_in : (seen_mid seen_new : Seen) (mid new : Streamed) (step met : Step) (p : Parts) (k : ℕ) (more : List ℕ) (broken exact : Bool) (count left : Option ℕ) (x y : Option (List ℕ)) (held : List ℕ)
     (s : Next seen_mid seen_new mid new (Ok step)) → step ≡ met → Continues new.lines more broken → Stood mid p k (s.taken ++ more) broken exact count left x y held
     → slice_get (listing (in_characters p)) mid.shown.given ≡ Some met
-next_in seen_mid seen_new mid new step met p k more broken exact count left x y held s is f m = (rw is at s.moves p mid.shown.given more broken f m.stands).0
+next_in seen_mid seen_new mid new step met p k more broken exact count left x y held s is f m = (rw is at s.steps p mid.shown.given more broken f m.stands).0
 
 -- where there is no memory, what is held is kept
 pub memory_held : (v : Streamed) (p : Parts) (k : ℕ) (more : List ℕ) (broken exact : Bool) (count left : Option ℕ) (x y : Option (List ℕ)) (held : List ℕ)

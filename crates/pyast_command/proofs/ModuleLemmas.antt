@@ -30,7 +30,7 @@ use Rattle.pytoken.specs.declared.faults.TokenError.{TokenError}
 use Rattle.pytoken.specs.declared.refusals.Refusal.{Refusal}
 use Rattle.pytoken.specs.declared.refusals.Refusal.TheVariants as refusals
 use Rattle.pytoken.specs.Indentation.{Margin, margins, is_mixed}
-use Rattle.pytoken.specs.Refusals.{most_brackets, opens_too_many, or_refusal, entry_refusal, first_entry_refusal, bracket_refusal, first_too_deep, margin_refusal, first_mixed, refusal_of, refusal_at, refusal}
+use Rattle.pytoken.specs.Refusals.{most_brackets, opens_too_many, entry_refusal, first_entry_refusal, bracket_refusal, first_too_deep, margin_refusal, first_mixed, refusal_of, refusal_at, refusal}
 use Rattle.pytoken.specs.Terminals.{fault_of}
 use Rattle.pytoken.specs.Tokens.{text_of}
 use Rattle.pytree_node.specs.declared.profiles.Profile.{Profile}
@@ -51,6 +51,7 @@ use Rattle.pyast_command.specs.Runs.{Making, whole, in_pieces, ReadsAll, WritesF
 use Rattle.pyast_command.specs.Unparses.{IsTextOf}
 use Rattle.pyast_command.specs.Inner.Reading.{Refuses, ReadsModule, ReadsNone}
 use Rattle.pyast_command.proofs.UnreadLemmas.{listing_is_read}
+use Rattle.std.specs.Option.{option_or}
 
 -- a refusal that is no fault of the listing
 abbrev IsOwn : Option Refusal → Type 0
@@ -60,7 +61,7 @@ IsOwn (Some (refusals.Token error place)) = Unit {0}
 IsOwn (Some (refusals.TooDeep place)) = Unit {0}
 IsOwn (Some (refusals.MixedTabs place)) = Unit {0}
 
-or_own : (a b : Option Refusal) → IsOwn a → IsOwn b → IsOwn (or_refusal a b)
+or_own : (a b : Option Refusal) → IsOwn a → IsOwn b → IsOwn (option_or a b)
 or_own None b h k = k
 or_own (Some r) b h k = h
 
@@ -90,7 +91,7 @@ margins_own earlier (m ∷ ms) = or_own (margin_refusal earlier m) (first_mixed 
 
 tokens_own : (most : ℕ) (text : List ℕ) (es : List Entry) → IsOwn (refusal_of most text es)
 tokens_own most text es =
-    or_own (first_entry_refusal text es) (or_refusal (first_too_deep most [] es) (first_mixed [] (margins text es))) (entries_own text es)
+    or_own (first_entry_refusal text es) (option_or (first_too_deep most [] es) (first_mixed [] (margins text es))) (entries_own text es)
     (or_own (first_too_deep most [] es) (first_mixed [] (margins text es)) (brackets_own most [] es) (margins_own [] (margins text es)))
 
 -- a refusal by the listing's fault is by the fault that the listing has

@@ -7,14 +7,14 @@ use Rattle.std.proofs.lemmas.Bool.Decides.{nat_tests}
 use Rattle.pysource.specs.Parts.{Parts}
 use Rattle.pysource.specs.Bytes.{Seen, TakesFront}
 use Rattle.pysource.specs.Streams.{stream_of, Refuses}
-use Rattle.pysource.specs.Taking.{Takes}
+use Rattle.pysource.specs.Taking.{ReadsBytes}
 use Rattle.pysource.specs.Limits.{source_limit}
 use Rattle.pysource.specs.declared.faults.LineError.TheVariants as line_errors
 use Rattle.pysource.specs.declared.line_reader.Reach.{Reach}
 use Rattle.pysource.specs.declared.line_reader.Reach.TheVariants as reach
 use Rattle.pysource.specs.declared.line_reader.StreamFault.{StreamFault}
 use Rattle.pysource.specs.declared.line_reader.StreamFault.TheVariants as stream_faults
-use Rattle.pysource.proofs.Callers.Taken.{Appends-refl, Takes-on}
+use Rattle.pysource.proofs.Callers.Taken.{Appends-refl, ReadsBytes-on}
 use Rattle.pylex.specs.declared.entries.ListingError.{ListingError}
 use Rattle.pylex.specs.declared.entries.ListingError.TheVariants as errors
 use Rattle.pylex.specs.declared.entries.ListingFault.{ListingFault}
@@ -28,7 +28,7 @@ use Rattle.pylex.specs.Streamed.{Streamed, StreamsIn, Begins, Misses, ResumeRefu
 use Rattle.pyast_fault.specs.Faults.{of_resume, of_stream}
 use Rattle.pyast_command.specs.Listings.{start_in, ends_unread, missed, tokens_output, tokens_fault}
 use Rattle.pyast_command.specs.Runs.{WritesFor, Performs}
-use Rattle.pyast_command.specs.Inner.Taken.{TookAll, Starts, Goes}
+use Rattle.pyast_command.specs.Inner.Taken.{TookAll, Starts, Lists}
 use Rattle.pyast_fault.specs.declared.fault.Fault.{Fault}
 use Rattle.pyast_fault.specs.declared.fault.Fault.TheVariants.{Plain}
 use Rattle.pyast_fault.specs.declared.fault.RunFaultCode.TheVariants.{Read, Memory, CursorOfAnotherSource}
@@ -63,7 +63,7 @@ front_of : (output : List ℕ) (x : Option (List ℕ)) → TakesFront x x output
 front_of output x = ([], output, refl, Appends-refl x)
 
 unread : (exact : Bool) (count : Option ℕ) (resume : Option CursorParts) (seen_old seen_new : Seen) (x : Option (List ℕ)) (r : Reach) (n : ℕ) (taken : List ℕ)
-    → Takes seen_old seen_new reach.Reading r 0 n taken → Performs (output_by exact count resume) (fault_by count resume) seen_old seen_new x x source_limit (Some (Plain Memory))
+    → ReadsBytes seen_old seen_new reach.Reading r 0 n taken → Performs (output_by exact count resume) (fault_by count resume) seen_old seen_new x x source_limit (Some (Plain Memory))
 unread exact count resume seen_old seen_new x r n taken t =
     performs _ _ x x n taken _ (quiet count resume) seen_old seen_new r t (λ more broken f w. front_of (output_by exact count resume broken (taken ++ more)) x)
 
@@ -151,12 +151,12 @@ begun exact count resume seen_old seen_new x v s = unread exact count resume see
 
 -- what was taken at the start, and behind it
 all_taken : (seen_old seen_mid seen_new : Seen) (resume : Option CursorParts) (exact : Bool) (count : Option ℕ) (v : Streamed) (done : List ℕ → Option Fault → Type 0)
-    → (s : Starts seen_old seen_mid resume v) → (g : Goes seen_mid seen_new v exact count done) → TookAll seen_old seen_new g.new (s.all ++ g.taken)
-all_taken seen_old seen_mid seen_new resume exact count v done s g = Takes-on seen_old seen_mid seen_new 0 _ _ reach.Reading v.lines.reach g.new.reach s.all g.taken s.took g.reads
+    → (s : Starts seen_old seen_mid resume v) → (g : Lists seen_mid seen_new v exact count done) → TookAll seen_old seen_new g.new (s.all ++ g.taken)
+all_taken seen_old seen_mid seen_new resume exact count v done s g = ReadsBytes-on seen_old seen_mid seen_new 0 _ _ reach.Reading v.lines.reach g.new.reach s.all g.taken s.took g.reads
 
 -- what was done behind the start
 pub listed : (exact : Bool) (count : Option ℕ) (resume : Option CursorParts) (seen_old seen_mid seen_new : Seen) (x y : Option (List ℕ)) (v : Streamed) (done : List ℕ → Option Fault → Type 0) (ended : Option Fault)
-    → Starts seen_old seen_mid resume v → Goes seen_mid seen_new v exact count done → ((output : List ℕ) (told : Option Fault) → done output told → WritesFor output told x y ended)
+    → Starts seen_old seen_mid resume v → Lists seen_mid seen_new v exact count done → ((output : List ℕ) (told : Option Fault) → done output told → WritesFor output told x y ended)
     → Performs (output_by exact count resume) (fault_by count resume) seen_old seen_new x y source_limit ended
 listed exact count resume seen_old seen_mid seen_new x y v done ended s g does =
     performs _ _ x y _ (s.all ++ g.taken) ended (quiet count resume) seen_old seen_new g.new.reach (all_taken seen_old seen_mid seen_new resume exact count v done s g)

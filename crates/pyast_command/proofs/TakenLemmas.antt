@@ -8,7 +8,7 @@ use Rattle.std.proofs.lemmas.Bool.{cases_lt}
 use Rattle.std.proofs.lemmas.List.{length-take-le, take-append-drop}
 use Rattle.pysource.specs.Bytes.{Seen}
 use Rattle.pysource.specs.Streams.{Buffered, FollowsAt}
-use Rattle.pysource.specs.Taking.{Takes}
+use Rattle.pysource.specs.Taking.{ReadsBytes}
 use Rattle.pysource.specs.Limits.{source_limit}
 use Rattle.pysource.specs.declared.line_reader.Reach.{Reach}
 use Rattle.pysource.specs.declared.line_reader.Reach.TheVariants as reach
@@ -99,7 +99,7 @@ module _ (output : Bool → List ℕ → List ℕ) (told : Bool → List ℕ →
     }
   ]
 
-  pub performs : (seen_old seen_new : Seen) (r : Reach) → Takes seen_old seen_new reach.Reading r 0 n all → Does r → Done seen_old seen_new
+  pub performs : (seen_old seen_new : Seen) (r : Reach) → ReadsBytes seen_old seen_new reach.Reading r 0 n all → Does r → Done seen_old seen_new
   performs seen_old seen_new reach.Reading t does =
       let none : t.lost ≡ [] = none_long t.lost (λ h. absurd (let e = (t.passed h).0 in cc)) in
       reading seen_old.to_come seen_new.to_come seen_old.failures seen_new.failures seen_old.may_fail seen_new.may_fail (t.within (omega arith)) (omega (arith, t.count)) (omega (arith, t.told))

@@ -12,7 +12,7 @@ ghost use Rattle.pyast_fault.specs.declared.fault.RunFaultCode.{RunFaultCode};
 ghost use Rattle.pyast_command.specs.Listings.{cursor_line, left_behind, tokens_output, tokens_fault};
 ghost use Rattle.pyast_command.specs.Listings.{output_of, fault_in};
 ghost use Rattle.pyast_command.specs.Runs.{HoldsFor, ended_by, Performs};
-ghost use Rattle.pyast_command.specs.Inner.Taken.{Starts, Goes};
+ghost use Rattle.pyast_command.specs.Inner.Taken.{Starts, Lists};
 
 use pyast_fault::{Fault, RunFaultCode};
 use pylex::{Cursor, Kind, LineLister, Step, push_line};
@@ -75,7 +75,7 @@ fn list<R: ByteIn, W: ByteOut>(
     requires within { lister.lines.count ≤ source_limit }
     requires stands { (more : List ℕ) (broken : Bool) → Continues lister.lines more broken
         → (p : Parts) × StreamsIn lister p lister.shown.given more broken }
-    ensures holds { Goes (R.seen reader.old) (R.seen reader.new) lister exact count
+    ensures holds { Lists (R.seen reader.old) (R.seen reader.new) lister exact count
         (λ output told. HoldsFor output told (W.sent writer.old).taken (W.sent writer.new).taken
         (string_bytes held.new) (ended_by result)) }
     ensures failed { ended_by result ≡ Some (Fault.Plain RunFaultCode.Write)

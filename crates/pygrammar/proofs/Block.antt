@@ -1,5 +1,5 @@
 pub mod Steps
-pub mod Goes
+pub mod Leads
 pub mod Standing
 pub mod Growing
 pub mod Sound

@@ -1,6 +1,7 @@
 -- The blocks of a list of logical lines (reference 8 and 10): which statements the lines are, and which line is faulty
 -- where they are none.
-use Rattle.std.specs.Prelude.{◌≡◌, ℕ, suc, ◌<◌, ◌≤◌, Bool, true, false, not, ◌==◌, nat_lt, cond, List, [], ◌∷◌, ◌++◌, Option, Some, None}
+use Rattle.std.specs.Prelude.{◌≡◌, ℕ, suc, ◌<◌, ◌≤◌, Bool, true, false, ◌==◌, nat_lt, cond, List, [], ◌∷◌, ◌++◌, Option, Some, None}
+pub use Rattle.pytoken.specs.Indentation.{same_bool}
 use Rattle.pytree_node.specs.Trees.{Expr, Identifier, Stmt, Handler, Item, If, stmts}
 use Rattle.pygrammar.specs.Lines.{Line, line, Form, simple_form, decorator_form, header_form, Header, if_header, elif_header, else_header, loop_header, with_header, try_header, except_header, finally_header, def_header, LoopHead, DefHead, opens, loop, with_of, definition, try_of}
 
@@ -140,10 +141,6 @@ takes_else ElifLine = true
 takes_else LoopLine = true
 takes_else (ExceptLine _) = true
 takes_else _ = false
-
-abbrev pub same_bool : Bool → Bool → Bool
-same_bool true b = b
-same_bool false b = not b
 
 abbrev pub takes_except : Bool → Kind → Bool
 takes_except _ TryLine = true

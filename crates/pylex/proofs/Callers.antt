@@ -12,8 +12,8 @@ use Rattle.pylex.specs.declared.entries.Step.TheVariants as steps
 use Rattle.pylex.specs.declared.kind.Kind.TheVariants as kinds
 use Rattle.pylex_lexeme.specs.Cuts.{begins_significant}
 use Rattle.pylex_lexeme.specs.Lexemes.{Lexeme, lexeme_at, cut, left_by_cut}
-use Rattle.pylex.specs.Lines.{is_significant}
-use Rattle.pylex.specs.Cursors.{CursorParts, cursor, flag, same_parts}
+use Rattle.pylex.specs.Lines.{is_significant, count_if}
+use Rattle.pylex.specs.Cursors.{CursorParts, cursor, same_parts}
 use Rattle.pylex.specs.Laws.{LiesIn, AllLie, AreLexemes, IsCut, LongestWins}
 use Rattle.pylex.specs.Machine.{remaining, first_state}
 use Rattle.pylex.specs.Listing.{Source, listing, rest, up_to_end, origin, steps_from}
@@ -33,7 +33,7 @@ both : (a b : Bool) → (a && b) ≡ true → (a ≡ true) × (b ≡ true)
 both true b h = (refl, h)
 both false b h = cc
 
-same_flag : (a b : Bool) → flag a ≡ flag b → a ≡ b
+same_flag : (a b : Bool) → count_if a ≡ count_if b → a ≡ b
 same_flag true true h = refl
 same_flag true false h = absurd (omega arith)
 same_flag false true h = absurd (omega arith)
@@ -53,12 +53,12 @@ same_is c d h =
     let b = both (c.offset == d.offset) _ a.1 in
     let e = both (c.row == d.row) _ b.1 in
     let f = both (c.depth == d.depth) _ e.1 in
-    let i = both (flag c.begun == flag d.begun) _ f.1 in
+    let i = both (count_if c.begun == count_if d.begun) _ f.1 in
     let j = both (c.skip == d.skip) _ i.1 in
     same_cursor c d (equal _ _ a.0) (equal _ _ b.0) (equal _ _ e.0) (equal _ _ f.0) (same_flag _ _ (equal _ _ i.0)) (equal _ _ j.0) ((bytes_decides c.levels d.levels).0 j.1)
 
 pub same_itself : (c : CursorParts) → same_parts c c ≡ true
-same_itself c = rw (equals_itself c.given, equals_itself c.offset, equals_itself c.row, equals_itself c.depth, equals_itself (flag c.begun), equals_itself c.skip) ((bytes_decides c.levels c.levels).1 refl)
+same_itself c = rw (equals_itself c.given, equals_itself c.offset, equals_itself c.row, equals_itself c.depth, equals_itself (count_if c.begun), equals_itself c.skip) ((bytes_decides c.levels c.levels).1 refl)
 
 -- a cursor of a source, by the entries of that
 pub record IsBehind (c : CursorParts) (s : Source) : Type 0 where

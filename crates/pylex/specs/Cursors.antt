@@ -6,7 +6,7 @@ use Rattle.pysource.specs.Places.{place_after}
 use Rattle.pylex.specs.declared.entries.Entry.{Entry}
 use Rattle.pylex.specs.declared.kind.Kind.TheVariants as kinds
 use Rattle.pylex_lexeme.specs.Lexemes.{Lexeme, cut}
-use Rattle.pylex.specs.Lines.{text_before, depth, is_logical}
+use Rattle.pylex.specs.Lines.{text_before, depth, is_logical, count_if}
 use Rattle.pylex_lexeme.specs.Chars.{bytes_in}
 use Rattle.pylex.specs.Indentation.{width_at, widths, open_levels}
 use Rattle.pylex.specs.Listing.{Source, listing}
@@ -38,7 +38,7 @@ is_indent e = elim e.kind [ kinds.Indent ↦ true | _ ↦ false ]
 unfoldable pub with_text : List Entry → List Entry
 with_text es = drop (prefix_len has_no_text es) es
 
--- the offset behind the last given entry with text in the source; 0 at the start
+-- the offset after the last given entry with text in the source; 0 at the start
 abbrev pub point : List Entry → ℕ
 point [] = 0
 point (e ∷ es) = e.to
@@ -76,12 +76,9 @@ with_commas [] = []
 with_commas (n ∷ []) = decimal n
 with_commas (n ∷ m ∷ ns) = decimal n ++ codes "," ++ with_commas (m ∷ ns)
 
-abbrev pub flag : Bool → ℕ
-flag b = if b then 1 else 0
-
 -- the same number is in each part of two cursors
 abbrev pub same_parts : CursorParts → CursorParts → Bool
-same_parts c d = (c.given == d.given) && ((c.offset == d.offset) && ((c.row == d.row) && ((c.depth == d.depth) && ((flag c.begun == flag d.begun) && ((c.skip == d.skip) && pointwise eqb c.levels d.levels)))))
+same_parts c d = (c.given == d.given) && ((c.offset == d.offset) && ((c.row == d.row) && ((c.depth == d.depth) && ((count_if c.begun == count_if d.begun) && ((c.skip == d.skip) && pointwise eqb c.levels d.levels)))))
 
 -- a part, and a blank before it
 abbrev pub part : ℕ → List ℕ
@@ -89,4 +86,4 @@ part n = codes " " ++ decimal n
 
 -- a cursor's text
 unfoldable pub cursor_text : CursorParts → List ℕ
-cursor_text c = codes "pytok1" ++ part c.given ++ part c.offset ++ part c.row ++ part c.depth ++ part (flag c.begun) ++ part c.skip ++ codes " " ++ with_commas c.levels
+cursor_text c = codes "pytok1" ++ part c.given ++ part c.offset ++ part c.row ++ part c.depth ++ part (count_if c.begun) ++ part c.skip ++ codes " " ++ with_commas c.levels

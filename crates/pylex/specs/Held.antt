@@ -14,11 +14,11 @@ Ahead old new = ((new.count ≡ old.count) × (length new.pending ≤ length old
 abbrev pub AheadBut : Buffered → Buffered → Type 0
 AheadBut old new = ((new.count ≡ old.count) × (length new.pending ≤ length old.pending)) ⊎ (past_first new.pending ≤ 8_192)
 
--- Behind some characters, a literal is open at each line end within a text but its last.
+-- After some characters, a literal is open at each line end within a text but its last.
 abbrev pub IsJoined : List ℕ → List ℕ → Type 0
 IsJoined before text = (front back : List ℕ) → text ≡ front ++ back → ends_line front ≡ true → 0 < length back → is_open_string (left_by_cut (chars (before ++ front))) ≡ true
 
--- From a text past lexemes, one after another, to what is left behind them.
+-- From a text past lexemes, one after another, to what is left after them.
 pub data LexedTo (left : List ℕ) : List ℕ → Type 0 where
   at_left : LexedTo left left
   past_lexeme : (cs : List ℕ) (x : Lexeme) → lexeme_at cs ≡ Some x → LexedTo left (drop (lexeme_len cs) cs) → LexedTo left cs
@@ -27,7 +27,7 @@ pub data LexedTo (left : List ℕ) : List ℕ → Type 0 where
 abbrev pub IsStuck : List ℕ → Type 0
 IsStuck left = (lexeme_at (chars left) ≡ None) × (is_open_string (chars left) ≡ true)
 
--- lines in which a lister has looked up to a place, where it can't go on
+-- lines in which a lister has looked up to a place, where it can't advance
 pub record IsAtStop (text : List ℕ) (from : ℕ) : Type 0 where
   pub within : from ≤ length text
   pub utf8 : IsUtf8 text
@@ -38,7 +38,7 @@ pub record IsAtStop (text : List ℕ) (from : ℕ) : Type 0 where
   pub none : lexeme_at (chars (drop from text)) ≡ None
   pub opened : 0 < length (drop from text) → is_open_string (chars (drop from text)) ≡ true
 
--- What is held where more lines were read behind such, of which this rest was left. If the last try for a line met none, the literal is open still.
+-- What is held where more lines were read after such, of which this rest was left. If the last try for a line met none, the literal is open still.
 pub record Holds (old new : Buffered) (rest text left : List ℕ) : Type 0 where
   pub joined : IsJoined [] text
   pub lexed : LexedTo (chars left) (chars text)
@@ -52,7 +52,7 @@ pub record IsOpenAt (o : OpenLiteral) (at : ℕ) (text : List ℕ) : Type 0 wher
   pub opened : IsOpenBy o (chars (drop at text))
   pub none : lexeme_at (chars (drop at text)) ≡ None
 
--- A text is read on behind a literal: its last line begins at an offset, and in front of that the literal is open.
+-- A text is read further after a literal: its last line begins at an offset, and in front of that the literal is open.
 pub record LinesBehind (o : OpenLiteral) (at from : ℕ) (old new : Buffered) (text : List ℕ) : Type 0 where
   pub front : List ℕ
   pub line : List ℕ
@@ -66,7 +66,7 @@ pub record LinesBehind (o : OpenLiteral) (at from : ℕ) (old new : Buffered) (t
   pub joined : IsJoined [] text
   pub ahead : Ahead old new
 
--- the literal ends in its last line, or is open behind that, and no line came
+-- the literal ends in its last line, or is open after that, and no line came
 pub record Joins (o : OpenLiteral) (at : ℕ) (old new : Buffered) (text : List ℕ) : Type 0 where
   pub joined : IsJoined [] text
   pub ahead : Ahead old new ⊎ (AheadBut old new × IsOpenAt o at text)

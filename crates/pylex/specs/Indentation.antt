@@ -2,7 +2,7 @@
 -- fault that stand before its first significant token. The lexemes before a place stand last first, and so do the widths of lines.
 --
 -- The open levels are a set, which knows no order of events. That they behave as the stack of the reference is a law (`LevelsAreAStack` in
--- `Laws`): behind a line of width w those below w are left, and w is the last.
+-- `Laws`): after a line of width w those below w are left, and w is the last.
 use Rattle.std.specs.Prelude.{ℕ, ◌+◌, ◌*◌, ◌/◌, zero, suc, nat_lt, nat_le, Bool, ◌&&◌, ◌||◌, ◌==◌, List, [], ◌∷◌, ◌++◌, sum, filter, count_by, replicate, if◌then◌else◌, None}
 use Rattle.std.specs.List.{list_all, list_any, take_while}
 use Rattle.pysource.specs.Places.{place_after}
@@ -15,7 +15,7 @@ use Rattle.pylex.specs.Lines.{text_before, is_significant, line_so_far, before_l
 use Rattle.pylex.specs.Steps.{piece, mark, fault_at}
 use Rattle.pylex_lexeme.specs.Characters.{tab, form_feed}
 
--- the column that a blank goes on to (reference 2.1.8)
+-- the column after a blank (reference 2.1.8)
 abbrev pub column_after : ℕ → ℕ → ℕ
 column_after n c = if c == tab then (n / 8 + 1) * 8 else (if c == form_feed then 0 else n + 1)
 
@@ -42,7 +42,7 @@ below (suc n) = below n ++ n ∷ []
 abbrev pub is_open : List ℕ → ℕ → Bool
 is_open widths v = (v == 0) || list_any (λ w. v == w) (take_while (nat_le v) widths)
 
--- the open levels, ascending: behind lines of the widths 0, 4 and 8 these are 0, 4 and 8, and behind a further one of 4 they are 0 and 4
+-- the open levels, ascending: after lines of the widths 0, 4 and 8 these are 0, 4 and 8, and after a further one of 4 they are 0 and 4
 unfoldable pub open_levels : List ℕ → List ℕ
 open_levels widths = filter (is_open widths) (below (1 + sum widths))
 

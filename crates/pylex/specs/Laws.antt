@@ -10,7 +10,7 @@ use Rattle.pylex_lexeme.specs.Lexemes.{Lexeme, are_blanks, is_join, class_in, le
 use Rattle.pylex_lexeme.specs.Chars.{bytes_in}
 use Rattle.pylex_lexeme.specs.Operators.{exact_of}
 use Rattle.pylex.specs.Listing.{Source, listing}
-use Rattle.pylex.specs.Steps.{entries_of, fault_of}
+use Rattle.pylex.specs.Steps.{entries_of, fault_of, IsNoEntry}
 use Rattle.pylex.specs.Cursors.{is_indent}
 use Rattle.pylex.specs.Indentation.{open_levels}
 
@@ -80,12 +80,6 @@ pub record AreOrdered (es : List Entry) : Type 0 where
 abbrev pub IsOrdered : Source → Type 0
 IsOrdered s = AreOrdered (entries_of (listing s))
 
--- a step that ends a listing
-abbrev pub IsStop : Step → Type 0
-IsStop (steps.Entry e) = ⊥
-IsStop steps.End = Unit {0}
-IsStop (steps.Fault f) = Unit {0}
-
 -- the first entry is of the encoding
 abbrev pub BeginsWithEncoding : List Entry → Type 0
 BeginsWithEncoding es = (e : Entry) × (later : List Entry) × (es ≡ e ∷ later) × (e.kind ≡ kinds.Encoding)
@@ -98,7 +92,7 @@ EndsWithMarker es = (earlier : List Entry) × (e : Entry) × (es ≡ earlier ++ 
 pub record AreWhole (ss : List Step) : Type 0 where
   pub last : Step
   pub whole : ss ≡ map steps.Entry (entries_of ss) ++ last ∷ []
-  pub stops : IsStop last
+  pub stops : IsNoEntry last
   pub first : BeginsWithEncoding (entries_of ss)
   pub marker : last ≡ steps.End → EndsWithMarker (entries_of ss)
 
@@ -138,7 +132,7 @@ pub record ClosesBlocks (s : Source) : Type 0 where
   pub within : (k : ℕ) → count_by is_dedent (take k (entries_of (listing s))) ≤ count_by is_indent (take k (entries_of (listing s)))
   pub at_end : fault_of (listing s) ≡ None → count_by is_dedent (entries_of (listing s)) ≡ count_by is_indent (entries_of (listing s))
 
--- The open levels are a stack (reference 2.1.8): behind a line of width w those below w are left, and w is the last. The widths stand last
+-- The open levels are a stack (reference 2.1.8): after a line of width w those below w are left, and w is the last. The widths stand last
 -- line first.
 abbrev pub LevelsAreAStack : Type 0
 LevelsAreAStack = (w : ℕ) (widths : List ℕ) → open_levels (w ∷ widths) ≡ filter (λ v. nat_lt v w) (open_levels widths) ++ w ∷ []

@@ -30,7 +30,7 @@ with_levels p levels = record {
   width = p.width;
   logical = p.logical;
   joined = p.joined;
-  front = p.front;
+  lead = p.lead;
 }
 
 -- the state after the layout before the first significant token of a logical line
@@ -44,12 +44,12 @@ measured s = record {
   width = 0;
   logical = true;
   joined = s.joined;
-  front = s.front;
+  lead = s.lead;
 }
 
--- the state directly behind an entry: a line is yet to be measured only at its start
+-- the state directly after an entry: a line is yet to be measured only at its start
 abbrev pub begun_anew : State → State
-begun_anew s = record { now = s.now; line = s.now; depth = s.depth; levels = s.levels; margin = not s.logical && (s.now.place.column == 0); width = 0; logical = s.logical; joined = false; front = s.front }
+begun_anew s = record { now = s.now; line = s.now; depth = s.depth; levels = s.levels; margin = not s.logical && (s.now.place.column == 0); width = 0; logical = s.logical; joined = false; lead = s.lead }
 
 -- the counts of a lister that has n more bytes to go stay small
 pub record HasRoom (p : LineState) (n : ℕ) : Type 0 where
@@ -59,7 +59,7 @@ pub record HasRoom (p : LineState) (n : ℕ) : Type 0 where
   pub depth : p.depth + n < 2 ^ 62
   pub width : p.width + 8 * n < 2 ^ 62
 
--- a lister may go on over these bytes
+-- a lister may advance over these bytes
 pub record Stands (p : LineState) (bytes : List ℕ) : Type 0 where
   pub utf8 : IsUtf8 bytes
   pub room : HasRoom p (length bytes)
@@ -119,7 +119,7 @@ pub data Walks (t : State) (ds : List ℕ) : ℕ → State → List ℕ → Type
 pub record Comes (levels : List ℕ) (p : LineState) (cs : List ℕ) (q : LineState) (ds : List ℕ) : Type 0 where
   pub walks : Walks (with_levels q (0 ∷ levels)) ds 0 (with_levels p (0 ∷ levels)) cs
 
--- the entry of a lexeme, where no layout is due, and q is behind it
+-- the entry of a lexeme, where no layout is due, and q is after it
 pub record EntryAhead (levels : List ℕ) (p : LineState) (cs : List ℕ) (e : Entry) (q : LineState) (ds : List ℕ) : Type 0 where
   pub there : LineState
   pub before : List ℕ
@@ -190,7 +190,7 @@ pub record Settles (levels : List ℕ) (p : LineState) (cs : List ℕ) (q : Line
 abbrev pub Behind : List ℕ → List ℕ → Type 0
 Behind whole rest = (front : List ℕ) × (whole ≡ front ++ rest)
 
--- from a place in a text an entry comes next, whatever levels are open: with how far a lister is behind it, and what is left there
+-- from a place in a text an entry comes next, whatever levels are open: with how far a lister is after it, and what is left there
 pub record NextEntry (p : LineState) (text : List ℕ) (e : Entry) (q : LineState) (rest : List ℕ) : Type 0 where
   pub entry : (levels : List ℕ) → EntryAhead levels p (chars text) e q (chars rest)
   pub stands : Stands q rest

@@ -8,6 +8,10 @@ abbrev pub text_before : List Lexeme → List ℕ
 text_before [] = []
 text_before (x ∷ before) = text_before before ++ x.text
 
+-- 1 if so, else 0
+abbrev pub count_if : Bool → ℕ
+count_if b = if b then 1 else 0
+
 abbrev pub opens : Lexeme → Bool
 opens x = is_opener_class x.«class»
 

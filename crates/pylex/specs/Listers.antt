@@ -13,7 +13,7 @@ use Rattle.pylex_lexeme.specs.Chars.{bytes_in}
 use Rattle.pylex.specs.Listing.{Source, in_characters, last_line, listing, rest}
 use Rattle.pylex.specs.Steps.{first_step, entries_in, IsIndent}
 use Rattle.pylex.specs.Cursors.{CursorParts}
-use Rattle.pylex.specs.Machine.{State, gives, after, front_after, layout_of, dedents_at}
+use Rattle.pylex.specs.Machine.{State, gives, after, lead_after, layout_of, dedents_at}
 use Rattle.pylex.specs.LineState.{with_levels, measured, Stands, IsAscending, StopAhead, Walks}
 use Rattle.pylex.specs.Standing.{resumed, standing_by, Agrees, IsCursorOf}
 
@@ -42,7 +42,7 @@ pub data Passes (t : State) (ds : List ℕ) : ℕ → State → List ℕ → Typ
   lexeme : (n : ℕ) (s : State) (cs : List ℕ) (x : Lexeme) → lexeme_at cs ≡ Some x → gives s x ≡ [] → Passes t ds n (after s x) (drop (lexeme_len cs) cs) → Passes t ds n s cs
   layout : (n : ℕ) (s : State) (cs : List ℕ) → s.margin ≡ true → begins_significant cs ≡ true → layout_of s ≡ dedents_at s.width s.levels s.now.offset s.now.place → Passes t ds n (measured s) cs → Passes t ds (count_by (nat_lt s.width) s.levels + n) s cs
 
--- From a lister to another by a step: in each source in which the first stands after k entries that step comes next, and the other stands behind it.
+-- From a lister to another by a step: in each source in which the first stands after k entries that step comes next, and the other stands after it.
 abbrev pub NextStep : Listed → Step → Listed → Type 0
 NextStep old step new = (a : Source) (k : ℕ) → StandsIn old a k → (slice_get (listing a) k ≡ Some step) × StandsIn new a (k + entries_in step)
 
@@ -50,7 +50,7 @@ NextStep old step new = (a : Source) (k : ℕ) → StandsIn old a k → (slice_g
 abbrev pub AwaitsIndent : Listed → Type 0
 AwaitsIndent l = (a : Source) (k : ℕ) → StandsIn l a k → IsIndent (first_step (rest a k))
 
--- a cursor, by its point, the levels above 0 that are open there, and the entries without text given behind it
+-- a cursor, by its point, the levels above 0 that are open there, and the entries without text given after it
 abbrev pub shown_by : ℕ → Shown → List ℕ → ℕ → CursorParts
 shown_by k p levels skip = record { given = k; offset = p.offset; row = p.row; depth = p.depth; begun = p.begun; skip = skip; levels = 0 ∷ levels }
 
@@ -60,7 +60,7 @@ pub record IsIn (text : List ℕ) (s : State) (ds : List ℕ) : Type 0 where
   pub whole : text ≡ before ++ ds
   pub offset : s.now.offset ≡ bytes_in before
   pub column : s.now.place.column ≡ length (last_line before)
-  pub front : s.front ≡ front_after Nothing (last_line before)
+  pub lead : s.lead ≡ lead_after Nothing (last_line before)
 
 -- What a lister keeps beside its cursor: how far it has looked from the cursor's point on, and how many of the levels above 0 that are open there it has not closed.
 pub record Keeps (l : Listed) (p : LineState) (left levels : List ℕ) (nested tail : ℕ) : Type 0 where

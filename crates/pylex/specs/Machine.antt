@@ -17,7 +17,7 @@ use Rattle.pylex.specs.declared.leading_char.LeadingChar.TheVariants.{Nothing, H
 use Rattle.pylex_lexeme.specs.Chars.{is_blank_char}
 use Rattle.pylex_lexeme.specs.Operators.{is_closer}
 use Rattle.pylex_lexeme.specs.Lexemes.{Lexeme, cut, left_by_cut, is_join_class}
-use Rattle.pylex.specs.Lines.{is_of_blanks, is_of_line_end, is_significant, opens, closes}
+use Rattle.pylex.specs.Lines.{is_of_blanks, is_of_line_end, is_significant, opens, closes, count_if}
 use Rattle.pylex.specs.Steps.{fault_at}
 use Rattle.pylex.specs.Indentation.{width_from}
 use Rattle.pylex_lexeme.specs.Chars.{bytes_in}
@@ -33,19 +33,19 @@ pub record State : Type 0 where
   pub width : ℕ
   pub logical : Bool
   pub joined : Bool
-  pub front : LeadingChar
+  pub lead : LeadingChar
 
 -- the place after a text that begins at a place
 abbrev pub place_past : Place → List ℕ → Place
 place_past p [] = p
 place_past p (c ∷ cs) = place_past (if c == line_feed then record { row = p.row + 1; column = 0 } else record { row = p.row; column = p.column + 1 }) cs
 
-abbrev pub front_after_char : LeadingChar → ℕ → LeadingChar
-front_after_char f c = if c == line_feed then Nothing else elim f [ Nothing ↦ if is_blank_char c then Nothing else (if c == hash then Hash else Other) | Hash ↦ Hash | Other ↦ Other ]
+abbrev pub lead_after_char : LeadingChar → ℕ → LeadingChar
+lead_after_char f c = if c == line_feed then Nothing else elim f [ Nothing ↦ if is_blank_char c then Nothing else (if c == hash then Hash else Other) | Hash ↦ Hash | Other ↦ Other ]
 
-abbrev pub front_after : LeadingChar → List ℕ → LeadingChar
-front_after f [] = f
-front_after f (c ∷ cs) = front_after (front_after_char f c) cs
+abbrev pub lead_after : LeadingChar → List ℕ → LeadingChar
+lead_after f [] = f
+lead_after f (c ∷ cs) = lead_after (lead_after_char f c) cs
 
 abbrev pub past : Point → List ℕ → Point
 past p t = record { place = place_past p.place t; offset = p.offset + bytes_in t }
@@ -64,9 +64,6 @@ ends_line s x = is_of_line_end x && (s.depth == 0)
 abbrev pub begins_line : State → Lexeme → Bool
 begins_line s x = s.margin && is_significant x
 
-abbrev pub count_if : Bool → ℕ
-count_if b = if b then 1 else 0
-
 abbrev pub still : Bool → ℕ → ℕ
 still b n = if b then n else 0
 
@@ -81,7 +78,7 @@ after s x = record {
   width = if ends_line s x then 0 else still (is_of_blanks x && s.margin) (width_from s.width x.text);
   logical = not (ends_line s x) && (is_significant x || s.logical);
   joined = is_of_join x;
-  front = front_after s.front x.text;
+  lead = lead_after s.lead x.text;
 }
 
 abbrev pub step_of : Kind → Option Exact → Point → Point → Step
@@ -129,7 +126,7 @@ is_hash f = elim f [ Hash ↦ true | _ ↦ false ]
 
 unfoldable pub last_line_end : State → List Step
 last_line_end s =
-    if s.logical then (if is_hash s.front then [] else mark_at kinds.Newline s.now.offset s.now.place (further s.now.place 1) ∷ [])
+    if s.logical then (if is_hash s.lead then [] else mark_at kinds.Newline s.now.offset s.now.place (further s.now.place 1) ∷ [])
     else (if s.margin then [] else mark_at kinds.Nl s.now.offset s.now.place s.now.place ∷ [])
 
 abbrev pub last_place : State → Place
@@ -158,7 +155,7 @@ abbrev pub first_point : Point
 first_point = record { place = record { row = 1; column = 0 }; offset = 0 }
 
 abbrev pub first_state : State
-first_state = record { now = first_point; line = first_point; depth = 0; levels = 0 ∷ []; margin = true; width = 0; logical = false; joined = false; front = Nothing }
+first_state = record { now = first_point; line = first_point; depth = 0; levels = 0 ∷ []; margin = true; width = 0; logical = false; joined = false; lead = Nothing }
 
 -- steps, and what follows them unless they end
 abbrev pub behind_steps : List Step → List Step → List Step

@@ -7,7 +7,7 @@ use Rattle.pylex.specs.declared.margins.Widths.{Widths}
 use Rattle.pylex.specs.Indentation.{width_from}
 use Rattle.pylex_lexeme.specs.Characters.{form_feed}
 
--- the column that a blank goes on to, where a tab counts as one space; a form feed sets 0
+-- the column after a blank, where a tab counts as one space; a form feed sets 0
 abbrev pub column_by_one : ℕ → ℕ → ℕ
 column_by_one n c = if c == form_feed then 0 else n + 1
 

@@ -1,4 +1,4 @@
--- How a lister stands, and what a cursor tells of it.
+-- How a lister stands, and what a cursor says of it.
 use Rattle.std.specs.Prelude.{◌≡◌, ℕ, ◌-◌, ◌≤◌, nat_le, Bool, true, false, not, ◌&&◌, ◌==◌, List, [], ◌∷◌, length, drop, if◌then◌else◌, Option}
 use Rattle.pylex.specs.declared.entries.ListingFault.{ListingFault}
 use Rattle.pylex.specs.declared.entries.Step.{Step}
@@ -7,11 +7,11 @@ use Rattle.pylex_lexeme.specs.Chars.{bytes_in}
 use Rattle.pylex.specs.Listing.{Source, listing, rest, last_line, origin}
 use Rattle.pylex.specs.Cursors.{CursorParts, cursor, same_parts}
 use Rattle.pylex.specs.Steps.{entries_of, mark}
-use Rattle.pylex.specs.Machine.{State, front_after, remaining}
+use Rattle.pylex.specs.Machine.{State, lead_after, remaining}
 use Rattle.pylex.specs.declared.point.Point.{Point}
 use Rattle.pylex.specs.declared.leading_char.LeadingChar.TheVariants.{Nothing}
 
--- the longest front of a text of at most n bytes, and what is behind it
+-- the longest front of a text of at most n bytes, and what is after it
 unfoldable pub front_to : ℕ → List ℕ → List ℕ
 front_to n [] = []
 front_to n (c ∷ cs) = if nat_le (bytes_in (c ∷ [])) n then c ∷ front_to (n - bytes_in (c ∷ [])) cs else []
@@ -19,7 +19,7 @@ front_to n (c ∷ cs) = if nat_le (bytes_in (c ∷ [])) n then c ∷ front_to (n
 abbrev pub back_from : ℕ → List ℕ → List ℕ
 back_from n text = drop (length (front_to n text)) text
 
--- a cursor's parts, the text of its line before the point, the text from the point on, and the fault behind it
+-- a cursor's parts, the text of its line before the point, the text from the point on, and the fault after it
 pub record Standing : Type 0 where
   pub shown : CursorParts
   pub line : List ℕ
@@ -38,7 +38,7 @@ standing s k = standing_by s (cursor s k)
 unfoldable pub resumed : CursorParts → List ℕ → State
 resumed c line =
     let p : Point = record { place = record { row = c.row; column = length line }; offset = c.offset } in
-    record { now = p; line = p; depth = c.depth; levels = c.levels; margin = not c.begun && (length line == 0); width = 0; logical = c.begun; joined = false; front = front_after Nothing line }
+    record { now = p; line = p; depth = c.depth; levels = c.levels; margin = not c.begun && (length line == 0); width = 0; logical = c.begun; joined = false; lead = lead_after Nothing line }
 
 -- what a lister still gives
 unfoldable pub to_give : Standing → List Step
@@ -58,7 +58,7 @@ pub record Agrees (a b : Source) (n : ℕ) : Type 0 where
   pub begins : line_begin n a.text ≡ line_begin n b.text
   pub same : back_from (line_begin n a.text) a.text ≡ back_from (line_begin n b.text) b.text
 
--- whether a cursor is one of a source: that behind some of its entries
+-- whether a cursor is one of a source: the one after some of its entries
 unfoldable pub is_cursor_of : CursorParts → Source → Bool
 is_cursor_of c s = nat_le c.given (length (entries_of (listing s))) && same_parts c (cursor s c.given)
 

@@ -17,7 +17,7 @@ use Rattle.pylex.specs.declared.entries.Step.TheVariants as steps
 abbrev pub piece : Kind → Option Exact → List ℕ → List ℕ → Place → Step
 piece k e earlier t end = steps.Entry (record { kind = k; exact = e; start = place_after earlier; «end» = end; «from» = bytes_in earlier; to = bytes_in earlier + bytes_in t })
 
--- an entry of empty text that stands behind a text, with its places
+-- an entry of empty text that stands after a text, with its places
 abbrev pub mark : Kind → List ℕ → Place → Place → Step
 mark k earlier start end = steps.Entry (record { kind = k; exact = None; start = start; «end» = end; «from» = bytes_in earlier; to = bytes_in earlier })
 
@@ -78,7 +78,7 @@ IsAt o (steps.Entry e) = (e.«from» ≡ o) × (e.to ≡ o)
 IsAt o steps.End = Unit {0}
 IsAt o (steps.Fault f) = Unit {0}
 
--- the step gives no entry
+-- the step gives no entry: it ends a listing
 abbrev pub IsNoEntry : Step → Type 0
 IsNoEntry (steps.Entry e) = ⊥
 IsNoEntry steps.End = Unit {0}

@@ -5,14 +5,14 @@ use Rattle.std.specs.Str.{chars}
 use Rattle.pysource.specs.Bytes.{Seen}
 use Rattle.pysource.specs.Parts.{Parts}
 use Rattle.pysource.specs.Streams.{Buffered, Follows, MayCome, comes, ends_line, head_len, stream_of, unread, Reads, Refuses, Coming}
-use Rattle.pysource.specs.Taking.{Takes}
+use Rattle.pysource.specs.Taking.{ReadsBytes}
 use Rattle.pysource.specs.declared.line_reader.Reach.{Reach}
 use Rattle.pylex.specs.declared.line_lister.ResumeFault.{ResumeFault}
 use Rattle.pylex.specs.declared.line_lister.ResumeFault.TheVariants as resumes
 use Rattle.pysource.specs.Limits.{source_limit}
 use Rattle.pysource.specs.declared.faults.LineError.TheVariants.{Unread}
-use Rattle.pysource.specs.declared.line_reader.Line.{Line}
-use Rattle.pysource.specs.declared.line_reader.Line.TheVariants as lines
+use Rattle.pysource.specs.declared.line_reader.LineRead.{LineRead}
+use Rattle.pysource.specs.declared.line_reader.LineRead.TheVariants as lines
 use Rattle.pylex_lexeme.specs.Lexemes.{left_by_cut, is_open_string}
 use Rattle.pylex.specs.LineState.{Comes, IsMeasuring, StopAhead}
 use Rattle.pysource.specs.declared.line_reader.Reach.TheVariants as reach
@@ -50,7 +50,7 @@ pub record Streamed : Type 0 where
 abbrev pub Continues : Buffered → List ℕ → Bool → Type 0
 Continues b more broken = Follows b more broken × (b.count + length more ≤ source_limit)
 
--- what is to come behind the text that is held
+-- what is to come after the text that is held
 abbrev pub ahead : Streamed → List ℕ → Bool → Coming
 ahead v more broken = comes v.lines more broken
 
@@ -64,7 +64,7 @@ abbrev pub HoldsLast : ℕ → List ℕ → List ℕ → Option Entry → Type 0
 HoldsLast base held text None = Unit {0}
 HoldsLast base held text (Some e) = ((e.kind ≡ kinds.Encoding) × (held ≡ [])) ⊎ ((e.kind ≢ kinds.Encoding) × IsHeld base held e × LiesIn text e)
 
--- Where these bytes follow, and perhaps a failed read, the lister stands in a source of which k entries have been given: the text that it holds is whole lines of that, and behind them comes what is to come.
+-- Where these bytes follow, and perhaps a failed read, the lister stands in a source of which k entries have been given: the text that it holds is whole lines of that, and after them comes what is to come.
 pub record StreamsIn (v : Streamed) (p : Parts) (k : ℕ) (more : List ℕ) (broken : Bool) : Type 0 where
   pub before : List ℕ
   pub whole : p.text ≡ before ++ (v.held ++ (ahead v more broken).text)
@@ -81,10 +81,10 @@ pub record StreamsIn (v : Streamed) (p : Parts) (k : ℕ) (more : List ℕ) (bro
   pub measuring : IsMeasuring v.now
   pub last : HoldsLast v.base v.held p.text v.last
 
--- a lister that has begun over a reader, behind k entries: what it took, and in which sources it stands
+-- a lister that has begun over a reader, after k entries: what it took, and in which sources it stands
 pub record Begins (seen_old seen_new : Seen) (v : Streamed) (k : ℕ) : Type 0 where
   pub taken : List ℕ
-  pub reads : Takes seen_old seen_new reach.Reading v.lines.reach 0 v.lines.count taken
+  pub reads : ReadsBytes seen_old seen_new reach.Reading v.lines.reach 0 v.lines.count taken
   -- no more is taken past the lines that are held, and those that decide the encoding, than one read gives
   pub ahead : (length v.lines.pending ≤ 8_192) ⊎ (v.lines.count ≤ 8_192 + head_len taken)
   pub stands : (more : List ℕ) (broken : Bool) → Continues v.lines more broken → (p : Parts) × (stream_of broken (taken ++ more) ≡ Ok p) × StreamsIn v p k more broken
@@ -117,13 +117,13 @@ pub record AwaitsLine (v : Streamed) : Type 0 where
   pub lacks : (behind ≡ []) ⊎ (is_open_string behind ≡ true)
   pub line : MayCome v.lines
 
--- A step: in each source in which the lister stood it comes next, and the lister stands behind it. Where memory is refused it stands where it stood.
--- Memory is refused only where a line has to be read, or an INDENT comes next. Behind the end, a fault and a failed read that is never so.
+-- A step: in each source in which the lister stood it comes next, and the lister stands after it. If memory runs out, it stands where it stood.
+-- Memory runs out only where a line has to be read, or an INDENT comes next. After the end, a fault and a failed read that is never so.
 pub record Next (seen_old seen_new : Seen) (old new : Streamed) (result : Result Step AllocError) : Type 0 where
   pub taken : List ℕ
   pub reads : Reads seen_old seen_new old.lines new.lines taken
   pub follows : (more : List ℕ) (broken : Bool) → Continues new.lines more broken → Continues old.lines (taken ++ more) broken
-  pub moves : IfOk result (λ step. (p : Parts) (k : ℕ) (more : List ℕ) (broken : Bool) → Continues new.lines more broken → StreamsIn old p k (taken ++ more) broken
+  pub steps : IfOk result (λ step. (p : Parts) (k : ℕ) (more : List ℕ) (broken : Bool) → Continues new.lines more broken → StreamsIn old p k (taken ++ more) broken
       → (slice_get (listing (in_characters p)) k ≡ Some step) × StreamsIn new p (k + entries_in step) more broken)
   pub last : IfOk result (IsLast new)
   pub ahead : IfOk result (IsAhead old.lines new.lines)
@@ -136,25 +136,25 @@ pub record EndsUnread (p : Parts) (n : ℕ) : Type 0 where
   pub fault : (f : ListingFault) × (fault_of (listing (in_characters p)) ≡ Some f) × (f.code ≡ errors.Line Unread)
   pub before : suc (length (entries_of (listing (in_characters p)))) ≤ n
 
--- A lister that was not to go on behind a cursor: a read failed before it, or the source has no such cursor.
+-- A lister that could not resume after a cursor: a read failed before it, or the source has no such cursor.
 pub record Misses (seen_old seen_new : Seen) (cursor : CursorParts) (unread : Bool) : Type 0 where
   pub taken : List ℕ
   pub lines : Buffered
-  pub reads : Takes seen_old seen_new reach.Reading lines.reach 0 lines.count taken
+  pub reads : ReadsBytes seen_old seen_new reach.Reading lines.reach 0 lines.count taken
   pub misses : (more : List ℕ) (broken : Bool) → Continues lines more broken → (p : Parts) × (stream_of broken (taken ++ more) ≡ Ok p) × (IsCursorOf cursor (in_characters p) → ⊥) × (unread ≡ true → EndsUnread p cursor.given) × (unread ≡ false → EndsUnread p cursor.given → ⊥)
 
 -- a call took bytes from a reader
 pub record Took (seen_old seen_new : Seen) : Type 0 where
   pub taken : List ℕ
   pub at : Reach
-  pub reads : Takes seen_old seen_new reach.Reading at 0 (length taken) taken
+  pub reads : ReadsBytes seen_old seen_new reach.Reading at 0 (length taken) taken
 
--- why a lister could not go on behind a cursor
+-- why a lister could not resume after a cursor
 abbrev pub ResumeRefusal : Seen → Seen → CursorParts → ResumeFault → Type 0
 ResumeRefusal seen_old seen_new cursor (resumes.Stream fault) = Refuses seen_old seen_new fault ⊎ (((fault ≡ faults.Read) × Misses seen_old seen_new cursor true) ⊎ ((fault ≡ faults.Memory) × Took seen_old seen_new))
 ResumeRefusal seen_old seen_new cursor resumes.AnotherSource = Misses seen_old seen_new cursor false
 
--- a step tells of a line that could not be read whole
+-- a step reports a line that could not be read whole
 abbrev pub is_unread_code : ListingError → Bool
 is_unread_code (errors.Line Unread) = true
 is_unread_code code = false

@@ -14,7 +14,7 @@ ghost use Rattle.pylex.specs.Standing.{resumed};
 ghost use Rattle.pylex.specs.Listers.{shown_at, shown_by};
 ghost use Rattle.std.specs.Str.{chars};
 
-use crate::leading_char::front_of;
+use crate::leading_char::lead_of;
 use crate::line_state::LineState;
 use crate::point::Point;
 use itoa::Buffer;
@@ -33,14 +33,14 @@ pub enum CursorFault {
     /// The text is no cursor's.
     #[error("malformed cursor")]
     Text,
-    /// There was no memory.
+    /// Memory ran out.
     #[error("out of memory")]
     Memory,
 }
 
-/// What is kept of a listing after its first entries, so that it can go on behind them.
+/// What is kept of a listing after its first entries, so that it can resume after them.
 ///
-/// All but the counts of entries speak of the point behind the last given entry that has text in
+/// All but the counts of entries speak of the point after the last given entry that has text in
 /// the source, or of the source's start.
 #[derive(Debug, Drop)]
 pub struct Cursor {
@@ -60,7 +60,7 @@ pub struct Cursor {
     levels: Vec<usize>,
 }
 
-/// What a cursor tells of its point: directly behind the last entry with text in the source, or at
+/// What a cursor says of its point: directly after the last entry with text in the source, or at
 /// its start.
 #[derive(Clone, Copy, Debug, PartialEq, Eq)]
 pub(crate) struct Shown {
@@ -71,7 +71,7 @@ pub(crate) struct Shown {
 }
 
 impl Shown {
-    /// Directly behind an entry.
+    /// Directly after an entry.
     pub(crate) fn at(now: LineState) -> Shown
         ensures { (k : ℕ) (levels : List ℕ)
             → shown_by k result levels 0 ≡ shown_at k (with_levels now (0 ∷ levels)) }
@@ -84,7 +84,7 @@ impl Shown {
         }
     }
 
-    /// Stands directly behind an entry.
+    /// Stands directly after an entry.
     #[inline(always)]
     pub(crate) fn stand(&mut self, now: LineState)
         ensures { (k : ℕ) (levels : List ℕ)
@@ -119,7 +119,7 @@ impl Shown {
             width: 0,
             logical: self.begun,
             joined: false,
-            front: front_of(line),
+            lead: lead_of(line),
         }
     }
 }
@@ -174,7 +174,7 @@ fn push_levels(text: &mut String, levels: &[usize]) -> Result<(), AllocError>
     Ok(())
 }
 
-/// Reads the number in front, up to a blank, and gives what stands behind that. Other spellings of
+/// Reads the number in front, up to a blank, and gives what stands after that. Other spellings of
 /// a number are read too.
 fn number(text: &str) -> Option<(usize, &str)>
     ensures { (n : ℕ) (rest : List ℕ) → n < 2 ^ 64 → text.now ≡ decimal n ++ space ∷ rest
@@ -184,7 +184,7 @@ fn number(text: &str) -> Option<(usize, &str)>
     Some((front.parse().ok()?, rest))
 }
 
-/// Reads the six numbers before the levels, each with a blank behind it, and gives the levels.
+/// Reads the six numbers before the levels, each with a blank after it, and gives the levels.
 fn numbers(text: &str) -> Option<([usize; 6], &str)>
     ensures { (ns rest : List ℕ) → length ns ≡ 6 → All (λ n. n < 2 ^ 64) ns
         → text.now ≡ flat_map (λ n. decimal n ++ space ∷ []) ns ++ rest
@@ -200,7 +200,7 @@ fn numbers(text: &str) -> Option<([usize; 6], &str)>
     Some((numbers, rest))
 }
 
-/// Reads the first level, and gives what stands behind its comma. Other spellings of a number are
+/// Reads the first level, and gives what stands after its comma. Other spellings of a number are
 /// read too.
 fn first_level(text: &str) -> Option<(usize, Option<&str>)>
     ensures reads { (n : ℕ) (ns : List ℕ) → n < 2 ^ 64 → text.now ≡ with_commas (n ∷ ns)
@@ -216,7 +216,7 @@ fn first_level(text: &str) -> Option<(usize, Option<&str>)>
     }
 }
 
-/// Whether a level can stand behind these: 0 in front, and else a larger one.
+/// Whether a level can follow these: 0 in front, and else a larger one.
 fn can_follow(levels: &[usize], level: usize) -> bool
     ensures first { length levels.now ≡ 0 → (IsTrue result ↔ (level ≡ 0)) }
     ensures above { 0 < length levels.now
@@ -282,7 +282,7 @@ fn are_from_ground(all: &[usize], levels: &[usize]) -> bool
 
 impl Cursor {
     /// The cursor at a point, by the entries given, the open levels above 0, and the entries
-    /// without text given behind it.
+    /// without text given after it.
     pub(crate) fn at(
         alloc: Global,
         given: usize,
@@ -361,7 +361,7 @@ impl Cursor {
 
 impl Cursor {
     /// Reads the one cursor that can have this text. The text may also be another spelling of that
-    /// cursor's, with a zero in front of a number or more behind the last one.
+    /// cursor's, with a zero in front of a number or more after the last one.
     fn read(alloc: Global, text: &str) -> Result<Cursor, CursorFault>
         ensures well_formed { IfOk result (λ cursor. IsWellFormed cursor) }
         ensures reads { (c : CursorParts) → IsWellFormed c → cursor_text c ≡ text.now

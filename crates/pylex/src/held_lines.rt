@@ -1,4 +1,4 @@
-//! The lines of a source that a lister holds, and how it reads on.
+//! The lines of a source that a lister holds, and how it reads further ones.
 
 ghost use Rattle.std.specs.Prelude.{◌≡◌, ◌≤◌, ◌<◌, ◌-◌, ◌+◌, ◌^◌, ℕ, [], length, drop};
 ghost use Rattle.std.specs.Prelude.{string_bytes, slice_range, IfOk, Ok, Err};
@@ -10,11 +10,11 @@ ghost use Rattle.pylex.specs.Held.{Joins, LinesBehind};
 ghost use Rattle.pylex.specs.Inner.Chunked.{AddsLine, AddsOn, HoldsOn, IsHeldLines, IsLonger, ReadsOn};
 
 use pylex_lexeme::string::{OpenLiteral, open_literal};
-use pysource::{ByteIn, Line, LineReader};
+use pysource::{ByteIn, LineRead, LineReader};
 use std::alloc::{AllocError, Global};
 use std::mem;
 
-/// Some whole lines of a source, and the reader of those behind them.
+/// Some whole lines of a source, and the reader of those after them.
 #[derive(Drop)]
 pub struct HeldLines {
     pub lines: LineReader,
@@ -28,8 +28,8 @@ pub struct HeldLines {
     pub at: usize,
 }
 
-/// Reads further lines behind a text as long as a literal goes on in the last of them, which begins
-/// at `from`. Where none comes, or memory is refused, it ends, with the literal still open: the
+/// Reads further lines after a text as long as a literal continues in the last of them, which
+/// begins at `from`. If none comes, or memory runs out, it ends, with the literal still open: the
 /// next call meets that again.
 fn add_lines<R: ByteIn>(
     lines: &mut LineReader,
@@ -53,7 +53,7 @@ fn add_lines<R: ByteIn>(
         let Ok(line) = lines.next_line(reader, text) else {
             return;
         };
-        let Line::Text = line else {
+        let LineRead::Text = line else {
             return;
         };
         from = end;
@@ -100,13 +100,13 @@ impl HeldLines {
         &self.text[from - self.base..to - self.base]
     }
 
-    /// Reads the next line, behind what is left from `at` on: where that is nothing the line takes
+    /// Reads the next line, after what is left from `at` on: where that is nothing the line takes
     /// the place of those held, and else it lengthens them. Where no line comes nothing is changed.
     pub(crate) fn read_on<R: ByteIn>(
         &mut self,
         reader: &mut R,
         at: usize,
-    ) -> Result<Line, AllocError>
+    ) -> Result<LineRead, AllocError>
         requires reading { self.old.lines.reach ≡ Reach.Reading
             → (R.seen reader.old).failures < 2 ^ 64 - 1 }
         requires within { self.old.lines.count ≤ source_limit }
@@ -124,9 +124,9 @@ impl HeldLines {
         }
     }
 
-    /// Reads the next line behind those held, and those that a literal joins to it: a long literal
+    /// Reads the next line after those held, and those that a literal joins to it: a long literal
     /// is looked at line by line, and not from its start again for each.
-    fn lengthen<R: ByteIn>(&mut self, reader: &mut R, at: usize) -> Result<Line, AllocError>
+    fn lengthen<R: ByteIn>(&mut self, reader: &mut R, at: usize) -> Result<LineRead, AllocError>
         requires reading { self.old.lines.reach ≡ Reach.Reading
             → (R.seen reader.old).failures < 2 ^ 64 - 1 }
         requires within { self.old.lines.count ≤ source_limit }
@@ -139,7 +139,7 @@ impl HeldLines {
         let literal = open_literal(&self.text[at..]);
         let from = self.text.len();
         let line = self.add_line(reader, at)?;
-        let Line::Text = line else {
+        let LineRead::Text = line else {
             return Ok(line);
         };
         if let Some(literal) = literal {
@@ -148,8 +148,8 @@ impl HeldLines {
         Ok(line)
     }
 
-    /// Reads the next line behind those held.
-    fn add_line<R: ByteIn>(&mut self, reader: &mut R, at: usize) -> Result<Line, AllocError>
+    /// Reads the next line after those held.
+    fn add_line<R: ByteIn>(&mut self, reader: &mut R, at: usize) -> Result<LineRead, AllocError>
         requires reading { self.old.lines.reach ≡ Reach.Reading
             → (R.seen reader.old).failures < 2 ^ 64 - 1 }
         requires chunk { IsHeldLines self.old }
@@ -160,14 +160,14 @@ impl HeldLines {
         ensures on { ReadsOn (R.seen reader.old) (R.seen reader.new) self.old self.new at result }
     {
         let line = self.lines.next_line(reader, &mut self.text)?;
-        if let Line::Text = line {
+        if let LineRead::Text = line {
             self.at = at;
         }
         Ok(line)
     }
 
     /// Reads the next line in place of those held.
-    fn replace<R: ByteIn>(&mut self, reader: &mut R) -> Result<Line, AllocError>
+    fn replace<R: ByteIn>(&mut self, reader: &mut R) -> Result<LineRead, AllocError>
         requires reading { self.old.lines.reach ≡ Reach.Reading
             → (R.seen reader.old).failures < 2 ^ 64 - 1 }
         requires chunk { IsHeldLines self.old }
@@ -177,7 +177,7 @@ impl HeldLines {
         ensures holds { HoldsOn self.old self.new (length (string_bytes self.old.text)) result }
     {
         let line = self.lines.next_line(reader, &mut self.spare)?;
-        if let Line::Text = line {
+        if let LineRead::Text = line {
             self.base += self.text.len();
             mem::swap(&mut self.text, &mut self.spare);
             self.spare.clear();

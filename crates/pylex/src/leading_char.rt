@@ -1,8 +1,8 @@
-//! What a line begins with, and the walk over a text that tells it and the place behind.
+//! What a line begins with, and the walk over a text that finds it and the place after.
 
 ghost use Rattle.std.specs.Prelude.{◌≡◌, ◌↔◌, IsTrue, ◌+◌, ◌^◌, ◌<◌, length};
 ghost use Rattle.std.specs.Str.{chars};
-ghost use Rattle.pylex.specs.Machine.{place_past, front_after_char, front_after, is_hash};
+ghost use Rattle.pylex.specs.Machine.{place_past, lead_after_char, lead_after, is_hash};
 ghost use Rattle.pylex.specs.Inner.Plain.{AreSpaces, IsPlain};
 ghost use Rattle.pylex.specs.Inner.Told.{Tells, begun_by};
 
@@ -23,7 +23,7 @@ pub enum LeadingChar {
 impl LeadingChar {
     /// What the line begins with after one more character.
     fn after(self, c: char) -> LeadingChar
-        ensures { result ≡ front_after_char self c }
+        ensures { result ≡ lead_after_char self c }
     {
         if c == '\n' {
             return LeadingChar::Nothing;
@@ -68,10 +68,10 @@ impl LeadingChar {
     /// What the line begins with after some more plain text.
     fn after_plain(self, text: &str) -> LeadingChar
         requires { IsPlain text.now }
-        ensures { result ≡ front_after self (chars text.now) }
+        ensures { result ≡ lead_after self (chars text.now) }
     {
         if self.is_nothing() {
-            return front_of_plain(text);
+            return lead_of_plain(text);
         }
         self
     }
@@ -93,17 +93,17 @@ pub(crate) fn is_spaces(text: &str) -> bool
 
 /// What a line begins with after plain text at its start.
 #[inline(never)]
-fn front_of_plain(text: &str) -> LeadingChar
+fn lead_of_plain(text: &str) -> LeadingChar
     requires { IsPlain text.now }
-    ensures { result ≡ front_after LeadingChar.Nothing (chars text.now) }
+    ensures { result ≡ lead_after LeadingChar.Nothing (chars text.now) }
 {
     if is_spaces(text) {
         return LeadingChar::Nothing;
     }
     for c in text.chars() {
-        let front = LeadingChar::Nothing.after(c);
-        if !front.is_nothing() {
-            return front;
+        let lead = LeadingChar::Nothing.after(c);
+        if !lead.is_nothing() {
+            return lead;
         }
     }
     LeadingChar::Nothing
@@ -111,16 +111,16 @@ fn front_of_plain(text: &str) -> LeadingChar
 
 /// The place after a text that begins at a place, and what its line begins with: by each character.
 #[inline(never)]
-fn walk_chars(place: Place, front: LeadingChar, text: &str) -> (Place, LeadingChar)
+fn walk_chars(place: Place, lead: LeadingChar, text: &str) -> (Place, LeadingChar)
     requires row { place.row + length text.now < 2 ^ 63 }
     requires column { place.column + length text.now < 2 ^ 63 }
     ensures place { result.0 ≡ place_past place (chars text.now) }
-    ensures front { result.1 ≡ front_after front (chars text.now) }
+    ensures lead { result.1 ≡ lead_after lead (chars text.now) }
 {
     let mut place = place;
-    let mut front = front;
+    let mut lead = lead;
     for c in text.chars() {
-        front = front.after(c);
+        lead = lead.after(c);
         if c == '\n' {
             place.row += 1;
             place.column = 0;
@@ -128,32 +128,32 @@ fn walk_chars(place: Place, front: LeadingChar, text: &str) -> (Place, LeadingCh
             place.column += 1;
         }
     }
-    (place, front)
+    (place, lead)
 }
 
 /// The place after a text that begins at a place, and what its line begins with.
 #[inline(always)]
-pub(crate) fn walk(place: Place, front: LeadingChar, text: &str) -> (Place, LeadingChar)
+pub(crate) fn walk(place: Place, lead: LeadingChar, text: &str) -> (Place, LeadingChar)
     requires row { place.row + length text.now < 2 ^ 63 }
     requires column { place.column + length text.now < 2 ^ 63 }
     ensures place { result.0 ≡ place_past place (chars text.now) }
-    ensures front { result.1 ≡ front_after front (chars text.now) }
+    ensures lead { result.1 ≡ lead_after lead (chars text.now) }
 {
     if !is_plain(text) {
-        return walk_chars(place, front, text);
+        return walk_chars(place, lead, text);
     }
     let further = Place {
         row: place.row,
         column: place.column + text.len(),
     };
-    (further, front.after_plain(text))
+    (further, lead.after_plain(text))
 }
 
 /// The place after a lexeme that begins at a place, and what its line begins with.
 #[inline(always)]
 pub(crate) fn walk_lexeme(
     place: Place,
-    front: LeadingChar,
+    lead: LeadingChar,
     class: Class,
     text: &str,
 ) -> (Place, LeadingChar)
@@ -161,13 +161,13 @@ pub(crate) fn walk_lexeme(
     requires column { place.column + length text.now < 2 ^ 63 }
     requires told { Tells class text.now }
     ensures place { result.0 ≡ place_past place (chars text.now) }
-    ensures front { result.1 ≡ front_after front (chars text.now) }
+    ensures lead { result.1 ≡ lead_after lead (chars text.now) }
 {
     match class {
         Class::Blanks => {
             let column = place.column + text.len();
             let row = place.row;
-            (Place { row, column }, front)
+            (Place { row, column }, lead)
         }
         Class::LineEnd => {
             let next = Place {
@@ -176,15 +176,15 @@ pub(crate) fn walk_lexeme(
             };
             (next, LeadingChar::Nothing)
         }
-        _ => walk(place, front, text),
+        _ => walk(place, lead, text),
     }
 }
 
 /// What a line begins with.
-pub(crate) fn front_of(line: &str) -> LeadingChar
+pub(crate) fn lead_of(line: &str) -> LeadingChar
     requires { length line.now < 2 ^ 62 }
-    ensures { result ≡ front_after LeadingChar.Nothing (chars line.now) }
+    ensures { result ≡ lead_after LeadingChar.Nothing (chars line.now) }
 {
-    let (_, front) = walk(Place { row: 1, column: 0 }, LeadingChar::Nothing, line);
-    front
+    let (_, lead) = walk(Place { row: 1, column: 0 }, LeadingChar::Nothing, line);
+    lead
 }

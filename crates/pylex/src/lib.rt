@@ -4,7 +4,7 @@
 //!
 //! A [`Lister`] lists a source that is held whole. A [`LineLister`] reads it line by line, from a
 //! reader that is lent to each call, and a [`StreamLister`] from a reader of its own. All three
-//! give the same steps of a source, and a [`Cursor`] of one goes on with another.
+//! give the same steps of a source, and a [`Cursor`] of one resumes another.
 #![tactic(auto)]
 
 mod cursor;

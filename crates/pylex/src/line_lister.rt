@@ -24,12 +24,12 @@ use crate::kind::Kind;
 use crate::line_state::LineState;
 use crate::machine::{Machine, Peeked};
 use pylex_lexeme::string::is_open_string;
-use pysource::{ByteIn, Line, LineError, LineFault, LineReader, Place, StreamFault};
+use pysource::{ByteIn, LineError, LineFault, LineRead, LineReader, Place, StreamFault};
 use std::alloc::{AllocError, Global};
 use std::marker::Model;
 use thiserror::Error;
 
-/// What a lister meets in the lines that it holds: with the place behind it, by how far it is
+/// What a lister meets in the lines that it holds: with the place after it, by how far it is
 /// looked there and the bytes up to it, and where the lines end here the fault of the next.
 #[derive(Clone, Copy, Debug, PartialEq, Eq)]
 pub struct Found {
@@ -74,20 +74,20 @@ fn lacks(left: &str) -> bool
 }
 
 /// The fault of an answer that is no line.
-fn fault_of(line: Line, row: usize) -> Option<LineFault>
+fn fault_of(line: LineRead, row: usize) -> Option<LineFault>
     ensures { Lacks line row result }
 {
     match line {
-        Line::Text | Line::End => None,
-        Line::Fault(fault) => Some(fault),
-        Line::Read => Some(LineFault {
+        LineRead::Text | LineRead::End => None,
+        LineRead::Fault(fault) => Some(fault),
+        LineRead::Read => Some(LineFault {
             code: LineError::Unread,
             place: Place { row, column: 0 },
         }),
     }
 }
 
-/// What is met next: it reads on as long as the lines held don't tell.
+/// What is met next: it reads on as long as the lines held don't decide it.
 #[inline(always)]
 fn find<R: ByteIn>(
     machine: &mut Machine,
@@ -113,7 +113,7 @@ fn find<R: ByteIn>(
             return Ok(found);
         }
         let line = chunk.read_on(reader, found.at)?;
-        let Line::Text = line else {
+        let LineRead::Text = line else {
             return Ok(Found {
                 fault: fault_of(line, chunk.lines.row()),
                 ..found
@@ -123,7 +123,7 @@ fn find<R: ByteIn>(
     }
 }
 
-/// Goes on past what was found, where that gives an entry.
+/// Advances past what was found, where that gives an entry.
 #[inline(always)]
 fn pass(
     machine: &mut Machine,
@@ -148,7 +148,7 @@ fn pass(
     Ok(step)
 }
 
-/// Gives the entry of the next lexeme in the lines held that gives one, behind a line's margin;
+/// Gives the entry of the next lexeme in the lines held that gives one, after a line's margin;
 /// otherwise nothing is changed.
 #[inline(always)]
 fn pass_on(machine: &mut Machine, chunk: &mut HeldLines, last: &mut Option<Entry>) -> Option<Entry>
@@ -166,11 +166,11 @@ fn pass_on(machine: &mut Machine, chunk: &mut HeldLines, last: &mut Option<Entry
     Some(entry)
 }
 
-/// Why a lister can't go on behind a cursor.
+/// Why a lister can't resume after a cursor.
 #[derive(Debug, Drop, Error)]
 pub enum ResumeFault {
-    /// The encoding was refused, a read failed before the cursor's count of entries, or there was
-    /// no memory.
+    /// The encoding was refused, a read failed before the cursor's count of entries, or memory
+    /// ran out.
     #[error("{0}")]
     Stream(StreamFault),
     /// The source has no such cursor.
@@ -178,7 +178,7 @@ pub enum ResumeFault {
     AnotherSource,
 }
 
-/// Why a lister can't go on behind a cursor, where its source's listing ends before.
+/// Why a lister can't resume after a cursor, where its source's listing ends before.
 fn ended_before(step: Step) -> ResumeFault
     ensures { IsEndedBy step result }
 {
@@ -194,7 +194,7 @@ fn ended_before(step: Step) -> ResumeFault
 /// each call.
 ///
 /// Only whole lines are held, those that a literal joins to the line that is looked at, and at most
-/// 8,192 bytes that were read behind them, or behind the lines that decide the encoding.
+/// 8,192 bytes that were read after them, or after the lines that decide the encoding.
 #[derive(Drop)]
 pub struct LineLister {
     machine: Machine,
@@ -236,7 +236,7 @@ impl LineLister {
         })
     }
 
-    /// Goes on behind a cursor of this very source. It lists the source from its start up to there.
+    /// Resumes after a cursor of this very source. It lists the source from its start up to there.
     ///
     /// # Errors
     ///
@@ -283,8 +283,8 @@ impl LineLister {
     ///
     /// # Errors
     ///
-    /// Memory is taken where a line is read and where an INDENT comes. Where it is refused the same
-    /// step is still due. Behind the end or a fault none is taken.
+    /// Memory is taken where a line is read and where an INDENT comes. If it runs out, the
+    /// same step is still due. After the end or a fault none is taken.
     #[inline(always)]
     pub fn next<R: ByteIn>(&mut self, reader: &mut R) -> Result<Step, AllocError>
         requires { self.old.lines.reach ≡ Reach.Reading
@@ -311,7 +311,7 @@ impl LineLister {
         Ok(Step::Entry(entry))
     }
 
-    /// The next step, where the lines that are held may not tell it, or it is none of a lexeme.
+    /// The next step, where the lines that are held may not decide it, or it is none of a lexeme.
     #[inline(never)]
     fn next_behind<R: ByteIn>(&mut self, reader: &mut R) -> Result<Step, AllocError>
         requires reading { self.old.lines.reach ≡ Reach.Reading
@@ -325,7 +325,7 @@ impl LineLister {
         pass(&mut self.machine, &mut self.chunk, &mut self.last, found)
     }
 
-    /// The lister's cursor: what is kept of the listing behind the entries that were given.
+    /// The lister's cursor: what is kept of the listing after the entries that were given.
     pub fn cursor(&self) -> Result<Cursor, AllocError>
         ensures { IfOk result (λ cursor. cursor ≡ self.now.shown) }
     {
@@ -345,8 +345,8 @@ impl LineLister {
         }
     }
 
-    /// The lines that are held, whole and with their line ends: directly behind an entry those in
-    /// which it stands, behind that of the encoding none. They are one line, or lines that literals
+    /// The lines that are held, whole and with their line ends: directly after an entry those in
+    /// which it stands, after that of the encoding none. They are one line, or lines that literals
     /// join: at each line end within them, but the last, a literal is open in the source.
     pub fn held(&self) -> &str
         ensures { result.now ≡ self.entry.now.held }

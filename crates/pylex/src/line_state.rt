@@ -8,11 +8,12 @@ ghost use Rattle.pylex_lexeme.specs.Lexemes.{is_significant_class, is_blanks_cla
 ghost use Rattle.pylex_lexeme.specs.Lexemes.{is_opener_class, is_closer_class};
 ghost use Rattle.pylex_lexeme.specs.Chars.{bytes_in};
 ghost use Rattle.pylex_lexeme.specs.Operators.{is_closer};
-ghost use Rattle.pylex.specs.Machine.{past, after, entry_by, still, count_if, pushed, first_state};
+ghost use Rattle.pylex.specs.Machine.{past, after, entry_by, still, pushed, first_state};
 ghost use Rattle.pylex.specs.Machine.{last_line_end, last_place, line_end_kind_of};
 ghost use Rattle.pylex.specs.Listing.{row_after};
 ghost use Rattle.pylex.specs.LineState.{with_levels, measured, begun_anew, given, HasRoom};
 ghost use Rattle.pylex.specs.Inner.Told.{Tells, Passed, GivesEntry, is_text, text_kind};
+ghost use Rattle.pylex.specs.Lines.{count_if};
 
 use crate::entries::{Emitted, Entry, ListingError, ListingFault};
 use crate::kind::{Exact, Kind};
@@ -38,7 +39,7 @@ pub struct LineState {
     pub logical: bool,
     /// The last lexeme was a backslash and a line end.
     pub joined: bool,
-    pub front: LeadingChar,
+    pub lead: LeadingChar,
 }
 
 /// The type of the entry of a lexeme that is given as it stands, operators aside.
@@ -71,7 +72,7 @@ impl LineState {
             width: 0,
             logical: false,
             joined: false,
-            front: LeadingChar::Nothing,
+            lead: LeadingChar::Nothing,
         }
     }
 
@@ -89,7 +90,7 @@ impl LineState {
         }
     }
 
-    /// Directly behind an entry with text: a line is yet to be measured only at its start.
+    /// Directly after an entry with text: a line is yet to be measured only at its start.
     pub(crate) fn begun_anew(self) -> LineState
         ensures begun { (levels : List ℕ)
             → with_levels result levels ≡ begun_anew (with_levels self levels) }
@@ -237,7 +238,7 @@ impl LineState {
         ensures now { result.now ≡ past self.now (chars text.now) }
         ensures room { (n : ℕ) → HasRoom self (length text.now + n) → HasRoom result n }
     {
-        let (place, front) = walk_lexeme(self.now.place, self.front, class, text);
+        let (place, lead) = walk_lexeme(self.now.place, self.lead, class, text);
         let now = Point {
             place,
             offset: self.now.offset + text.len(),
@@ -250,11 +251,11 @@ impl LineState {
             width: self.width_past(class, text),
             logical: self.logical_after(class),
             joined: class.is_join(),
-            front,
+            lead,
         }
     }
 
-    /// Goes past blanks behind a line's margin.
+    /// Goes past blanks after a line's margin.
     #[inline(always)]
     pub(crate) fn pass_blanks(&mut self, text: &str)
         requires room { HasRoom self.old (length text.now) }
@@ -269,7 +270,7 @@ impl LineState {
         self.joined = false;
     }
 
-    /// Goes past a backslash and a line end behind a line's margin.
+    /// Goes past a backslash and a line end after a line's margin.
     #[inline(always)]
     pub(crate) fn pass_join(&mut self, text: &str)
         requires room { HasRoom self.old (length text.now) }
@@ -284,7 +285,7 @@ impl LineState {
         self.width = 0;
         self.logical = true;
         self.joined = true;
-        self.front = LeadingChar::Nothing;
+        self.lead = LeadingChar::Nothing;
     }
 
     /// Whether an operator closes a bracket where none is open.
@@ -295,7 +296,7 @@ impl LineState {
         operator.is_closer() && self.depth == 0
     }
 
-    /// Goes past an operator behind a line's margin, and gives its entry; none where it closes a
+    /// Goes past an operator after a line's margin, and gives its entry; none where it closes a
     /// bracket and none is open.
     #[inline(always)]
     fn pass_operator(&mut self, operator: Exact, text: &str) -> Option<Entry>
@@ -319,11 +320,11 @@ impl LineState {
         self.width = 0;
         self.logical = true;
         self.joined = false;
-        self.front = self.front.begun();
+        self.lead = self.lead.begun();
         Some(entry_of(Kind::Op, Some(operator), start, self.now))
     }
 
-    /// Goes past another lexeme with an entry, behind a line's margin.
+    /// Goes past another lexeme with an entry, after a line's margin.
     #[inline(always)]
     fn pass_text(&mut self, class: Class, text: &str) -> Entry
         requires room { HasRoom self.old (length text.now) }
@@ -334,17 +335,17 @@ impl LineState {
         ensures entry { GivesEntry self.old class (chars text.now) result }
     {
         let start = self.now;
-        let (place, front) = walk(start.place, self.front, text);
+        let (place, lead) = walk(start.place, self.lead, text);
         self.now.place = place;
         self.now.offset += text.len();
         self.width = 0;
         self.logical = self.logical_after(class);
         self.joined = false;
-        self.front = front;
+        self.lead = lead;
         entry_of(text_kind(class), None, start, self.now)
     }
 
-    /// Goes past a line end behind a line's margin.
+    /// Goes past a line end after a line's margin.
     #[inline(always)]
     fn pass_line_end(&mut self, text: &str) -> Entry
         requires room { HasRoom self.old (length text.now) }
@@ -377,11 +378,11 @@ impl LineState {
         self.margin = self.ends_line(Class::LineEnd);
         self.logical = self.logical_after(Class::LineEnd);
         self.joined = false;
-        self.front = LeadingChar::Nothing;
+        self.lead = LeadingChar::Nothing;
         entry_of(kind, None, start, end)
     }
 
-    /// Goes past a lexeme behind a line's margin, and gives its entry; none where it gives a fault
+    /// Goes past a lexeme after a line's margin, and gives its entry; none where it gives a fault
     /// or nothing.
     #[inline(always)]
     pub(crate) fn pass(&mut self, class: Class, text: &str) -> Option<Entry>
@@ -403,7 +404,7 @@ impl LineState {
         }
     }
 
-    /// Directly behind an entry with text: a line is yet to be measured only at its start.
+    /// Directly after an entry with text: a line is yet to be measured only at its start.
     #[inline(always)]
     pub(crate) fn begin_anew(&mut self, behind: LineState)
         ensures begun { (levels : List ℕ)
@@ -417,7 +418,7 @@ impl LineState {
         self.margin = !behind.logical && behind.now.place.column == 0;
         self.logical = behind.logical;
         self.joined = false;
-        self.front = behind.front;
+        self.lead = behind.lead;
     }
 
     /// Whether a statement is open at the text's end: within brackets, or directly after a join.
@@ -435,7 +436,7 @@ impl LineState {
     {
         let end = self.now.place;
         if self.logical {
-            if self.front.is_hash() {
+            if self.lead.is_hash() {
                 return Emitted::Nothing;
             }
             let further = Place {

@@ -31,7 +31,7 @@ const FIELD_WIDTH: usize = 15;
 const LINE_ROOM: usize = 64;
 
 /// Where the places of an entry end in the field that they are written to, from the last to the
-/// first: the widest have room before it, and behind it stand the blanks of the shortest.
+/// first: the widest have room before it, and after it stand the blanks of the shortest.
 const RANGE_END: usize = 84;
 
 /// As many blanks as the widest field has.

@@ -32,7 +32,7 @@ fn last_line(text: &str) -> &str
 pub struct Lister<'a> {
     source: &'a Source,
     machine: Machine,
-    /// The text behind what the lister has looked at.
+    /// The text after what the lister has looked at.
     left: &'a str,
 }
 
@@ -66,10 +66,10 @@ impl<'a> Lister<'a> {
     /// The next entry, the end, or the fault that ends the listing; after the end or a fault the
     /// same again.
     ///
-    /// Memory is taken only where an INDENT comes. Where it is refused the lister is unchanged, and
-    /// the call can be made again.
+    /// Memory is taken only where an INDENT comes. If it runs out, the lister is unchanged, and
+    /// the call can be repeated.
     pub fn next(&mut self) -> Result<Step, AllocError>
-        ensures moves { IfOk result (λ step. NextStep self.old step self.new) }
+        ensures steps { IfOk result (λ step. NextStep self.old step self.new) }
         ensures source { self.new.source ≡ self.old.source }
         ensures same { OnErr result (self.new ≡ self.old) }
         ensures indent { OnErr result (AwaitsIndent self.old) }
@@ -85,11 +85,11 @@ impl<'a> Lister<'a> {
         self.next_met()
     }
 
-    /// The next step behind the first one, of whatever is met.
+    /// The next step after the first one, of whatever is met.
     #[inline(never)]
     fn next_met(&mut self) -> Result<Step, AllocError>
         requires { 0 < self.old.shown.given }
-        ensures moves { IfOk result (λ step. NextStep self.old step self.new) }
+        ensures steps { IfOk result (λ step. NextStep self.old step self.new) }
         ensures source { self.new.source ≡ self.old.source }
         ensures same { OnErr result (self.new ≡ self.old) }
         ensures indent { OnErr result (AwaitsIndent self.old) }
@@ -111,8 +111,8 @@ impl<'a> Lister<'a> {
         self.machine.is_at(cursor)
     }
 
-    /// The lister's cursor: what is kept of the listing behind the entries that were given. With it
-    /// [`Lister::resume`] goes on in this source.
+    /// The lister's cursor: what is kept of the listing after the entries that were given. With it
+    /// [`Lister::resume`] resumes in this source.
     pub fn cursor(&self) -> Result<Cursor, AllocError>
         ensures shown { IfOk result (λ cursor. cursor ≡ self.entry.now.shown) }
         ensures leads { IfOk result (λ cursor. LeadsInto cursor self.entry.now.source) }
@@ -120,7 +120,7 @@ impl<'a> Lister<'a> {
         self.machine.cursor()
     }
 
-    /// Begins at a cursor's point, with none of the entries given that stand behind it.
+    /// Begins at a cursor's point, with none of the entries given that stand after it.
     fn at_point(
         alloc: Global,
         source: &'a Source,
@@ -145,10 +145,10 @@ impl<'a> Lister<'a> {
         })
     }
 
-    /// Goes on behind a cursor of this source, or of another that agrees with it: of the same
+    /// Resumes after a cursor of this source, or of another that agrees with it: of the same
     /// encoding and line fault, and with a text of the same length, in which the line of the
-    /// cursor's offset begins at the same place and all from there on is the same. The lines before
-    /// that one are not read.
+    /// cursor's offset begins at the same place and everything from there on is the same. The lines
+    /// before that one are not read.
     pub fn resume(
         alloc: Global,
         source: &'a Source,
@@ -165,7 +165,7 @@ impl<'a> Lister<'a> {
         Ok(lister)
     }
 
-    /// Goes on behind a cursor of this very source. It lists the source from its start up to there.
+    /// Resumes after a cursor of this very source. It lists the source from its start up to there.
     ///
     /// # Errors
     ///

@@ -85,7 +85,7 @@ fn indentation_for(width: usize, levels: &[usize]) -> Indentation
     }
 }
 
-/// Goes past the layout before the first significant token of a logical line, or tells what it is.
+/// Goes past the layout before the first significant token of a logical line, or says what it is.
 #[inline(always)]
 fn line_start(now: &mut LineState, levels: &[usize], text: &str) -> Option<Peeked>
     requires stands { Stands now.old text.now }
@@ -113,7 +113,7 @@ fn line_start(now: &mut LineState, levels: &[usize], text: &str) -> Option<Peeke
     }
 }
 
-/// Goes on to what a lister meets next.
+/// Advances to what a lister meets next.
 #[inline(always)]
 fn find<'a>(start: LineState, levels: &[usize], text: &'a str) -> (Peeked, LineState, &'a str)
     requires stands { Stands start text.now }
@@ -131,7 +131,7 @@ fn find<'a>(start: LineState, levels: &[usize], text: &'a str) -> (Peeked, LineS
         if let Some(peeked) = line_start(&mut now, levels, rest) {
             return (peeked, now, rest);
         }
-        // One walk tells whether an entry comes: where none does it is not begun again.
+        // One walk finds whether an entry comes: if none does, it is not begun again.
         if !now.margin && !walked {
             walked = true;
             let mut ahead = now;
@@ -154,8 +154,8 @@ fn find<'a>(start: LineState, levels: &[usize], text: &'a str) -> (Peeked, LineS
     }
 }
 
-/// Goes on to the next lexeme that gives an entry, behind a line's margin: its entry, and what is
-/// left behind it.
+/// Advances to the next lexeme that gives an entry, after a line's margin: its entry, and what is
+/// left after it.
 #[inline(always)]
 fn next_entry<'a>(now: &mut LineState, text: &'a str) -> Option<(Entry, &'a str)>
     requires stands { Stands now.old text.now }
@@ -269,7 +269,7 @@ fn stop(now: LineState, left: &str, fault: Option<LineFault>) -> Emitted
     now.last_line_end()
 }
 
-/// The step of the end behind the line end, by how many of these steps were given: a DEDENT for
+/// The step of the end after the line end, by how many of these steps were given: a DEDENT for
 /// each open level, and then the end marker.
 fn closing_step(now: LineState, nested: usize, closed: usize) -> Step
     requires { now.now.place.row < 2 ^ 62 }
@@ -371,7 +371,7 @@ impl Machine {
         }
     }
 
-    /// At the point of a cursor, where nothing is looked at behind it.
+    /// At the point of a cursor, where nothing after it is looked at.
     pub(crate) fn at(given: usize, point: Shown, levels: Vec<usize>, line: &str) -> Machine
         requires { length line.now < 2 ^ 62 }
         ensures given { result.given ≡ given }
@@ -422,7 +422,7 @@ impl Machine {
         self.now
     }
 
-    /// Goes on from here at the next look.
+    /// Continues from here at the next look.
     #[inline(always)]
     pub(crate) fn look_from(&mut self, now: LineState)
         ensures { self.new ≡ record self.old { now = now } }
@@ -430,7 +430,7 @@ impl Machine {
         self.now = now;
     }
 
-    /// Gives the entry of the next lexeme that gives one, where that stands behind a line's margin,
+    /// Gives the entry of the next lexeme that gives one, where that stands after a line's margin,
     /// and the text that is left there. Otherwise nothing is changed.
     #[inline(always)]
     pub(crate) fn step_on<'a>(&mut self, text: &'a str) -> Option<(Entry, &'a str)>
@@ -473,10 +473,10 @@ impl Machine {
         peek(self.tail, self.now, levels, text)
     }
 
-    /// Goes on past what was met, where that gives an entry. `left` is the text that is left there,
-    /// and `fault` that of the line behind it.
+    /// Advances past what was met, where that gives an entry. `left` is the text that is left
+    /// there, and `fault` that of the line after it.
     ///
-    /// Memory is taken only for an INDENT; where it is refused nothing is changed.
+    /// Memory is taken only for an INDENT; if it runs out, nothing is changed.
     #[inline(always)]
     pub(crate) fn advance(
         &mut self,
@@ -535,7 +535,7 @@ impl Machine {
         }
     }
 
-    /// How many entries without text were given behind the point.
+    /// How many entries without text were given after the point.
     pub(crate) fn skip(&self) -> usize
         requires { HasPlace self.now }
         ensures { result

@@ -2,7 +2,7 @@
 //!
 //! Python language reference, 2.1.8 "Indentation".
 
-/// The widths of some blanks, counted behind their last form feed.
+/// The widths of some blanks, counted after their last form feed.
 #[derive(Clone, Copy, Debug, PartialEq, Eq)]
 pub struct Widths {
     /// Where a tab goes to the next multiple of 8.

@@ -19,7 +19,7 @@ fn is_blank(c: char) -> bool
     c == ' ' || c == '\t' || c == '\x0c'
 }
 
-/// The column that a blank goes on to: a tab goes to the next multiple of 8, a form feed sets 0.
+/// The column after a blank: a tab goes to the next multiple of 8, a form feed sets 0.
 fn column_after(column: usize, blank: char) -> usize
     requires { column < 2 ^ 63 }
     ensures value { result ≡ column_after column blank }
@@ -34,7 +34,7 @@ fn column_after(column: usize, blank: char) -> usize
     }
 }
 
-/// The column that a blank goes on to where a tab counts as one space.
+/// The column after a blank where a tab counts as one space.
 fn column_by_one(column: usize, blank: char) -> usize
     requires { column < 2 ^ 63 }
     ensures value { result ≡ column_by_one column blank }
@@ -43,7 +43,7 @@ fn column_by_one(column: usize, blank: char) -> usize
     if blank == '\x0c' { 0 } else { column + 1 }
 }
 
-/// The width of blanks that go on from a width.
+/// The width of blanks that follow a width.
 pub(crate) fn width_after(width: usize, blanks: &str) -> usize
     requires { width + 8 * length blanks.now < 2 ^ 63 }
     ensures value { result ≡ width_from width (chars blanks.now) }

@@ -25,9 +25,9 @@ pub struct StreamLister<R: ByteIn> {
     reader: R,
     told: u64,
     lister: LineLister,
-    // The reader can be read on where reading isn't over.
+    // The reader can be read further where reading isn't over.
     ghost possible: { told < 2 ^ 64 - 1 },
-    // Besides the failures that it told when it was taken, at most one was counted.
+    // Besides the failures that it reported when it was taken, at most one was counted.
     ghost counted: { (R.seen reader).failures ≡ told + fails lister.lines.reach },
 }
 
@@ -37,7 +37,7 @@ impl<R: ByteIn> StreamLister<R> {
     ///
     /// # Errors
     ///
-    /// As [`LineLister::new`]. Where no read can fail, `Read` tells that the source has too many
+    /// As [`LineLister::new`]. Where no read can fail, `Read` means that the source has too many
     /// bytes.
     pub fn new(alloc: Global, mut reader: R) -> Result<StreamLister<R>, StreamFault>
     where
@@ -56,7 +56,7 @@ impl<R: ByteIn> StreamLister<R> {
         })
     }
 
-    /// Goes on behind a cursor of the source that the reader gives, as
+    /// Resumes after a cursor of the source that the reader gives, as
     /// [`LineLister::resume_checked`] does. A refusal drops the reader.
     ///
     /// # Errors

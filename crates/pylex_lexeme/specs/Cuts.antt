@@ -12,7 +12,7 @@ use Rattle.pylex_lexeme.specs.Chars.{bytes_in}
 use Rattle.pylex_lexeme.specs.Characters.{line_feed, carriage_return, hash, backslash, left_parenthesis, right_parenthesis, left_square_bracket, right_square_bracket, left_curly_bracket, right_curly_bracket, comma}
 
 -- the longest lexeme at the front of old is taken, and its class is said; new is what is left, all of old where there is none
-pub record Takes (old : List ℕ) (k : Option Class) (new : List ℕ) : Type 0 where
+pub record TakesLexeme (old : List ℕ) (k : Option Class) (new : List ℕ) : Type 0 where
   pub «class» : k ≡ option_map (λ x. x.«class») (lexeme_at old)
   pub rest : new ≡ drop (lexeme_len old) old
 
@@ -26,7 +26,7 @@ pub record BeginsOther (cs : List ℕ) : Type 0 where
   pub number : begins_number cs ≡ false
   pub first : begins starts_other cs ≡ true
 
--- the front of a text, in bytes, is its first lexeme, of this class, and the rest is behind it
+-- the front of a text, in bytes, is its first lexeme, of this class, and the rest is after it
 pub record Cuts (bytes : List ℕ) (k : Class) (front back : List ℕ) : Type 0 where
   pub lexeme : lexeme_at (chars bytes) ≡ Some (record { «class» = k; text = chars front })
   pub whole : chars bytes ≡ chars front ++ chars back

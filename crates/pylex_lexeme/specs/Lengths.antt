@@ -67,7 +67,7 @@ point_len cs = if begins is_point cs then 1 + digit_part_len (drop 1 cs) else 0
 unfoldable pub j_len : List ℕ → ℕ
 j_len cs = if begins is_j cs then 1 else 0
 
--- what may stand behind a digitpart
+-- what may stand after a digitpart
 unfoldable pub fraction_len : List ℕ → ℕ
 fraction_len cs = point_len cs + exponent_len (drop (point_len cs) cs)
 

@@ -95,7 +95,7 @@ begins_three (a ∷ []) = false
 begins_three (a ∷ b ∷ []) = false
 begins_three (a ∷ b ∷ c ∷ t) = ((a == single_quote) || (a == double_quote)) && (b == a) && (c == a)
 
--- behind a prefix, perhaps empty, the rest of the text passes
+-- after a prefix, perhaps empty, the rest of the text passes
 abbrev pub after_prefix : (List ℕ → Bool) → List ℕ → Bool
 after_prefix p cs = list_any (λ n. is_prefix (take n cs) && p (drop n cs)) (0 ∷ 1 ∷ 2 ∷ [])
 

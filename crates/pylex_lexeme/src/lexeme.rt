@@ -9,7 +9,8 @@ ghost use Rattle.pylex_lexeme.specs.Lengths.{begins_number, Opens};
 ghost use Rattle.pylex_lexeme.specs.Lexemes.{lexeme_at, is_significant_class, is_blanks_class};
 ghost use Rattle.pylex_lexeme.specs.Lexemes.{is_line_end_class, is_join_class, is_opener_class};
 ghost use Rattle.pylex_lexeme.specs.Lexemes.{is_closer_class};
-ghost use Rattle.pylex_lexeme.specs.Cuts.{Takes, Cuts, BeginsOther, begins_significant, is_delimiter};
+ghost use Rattle.pylex_lexeme.specs.Cuts.{TakesLexeme, Cuts, BeginsOther, begins_significant};
+ghost use Rattle.pylex_lexeme.specs.Cuts.{is_delimiter};
 
 use crate::kinds::Exact;
 use crate::number::number;
@@ -97,7 +98,7 @@ impl Class {
 fn name(text: &mut Scanner)
     requires no_string { opens_string text.old ≡ false }
     requires start { begins starts_name text.old ≡ true }
-    ensures { Takes text.old (Some Class.Name) text.new }
+    ensures { TakesLexeme text.old (Some Class.Name) text.new }
 {
     text.bump_while(CharSet::NamePart);
 }
@@ -105,7 +106,7 @@ fn name(text: &mut Scanner)
 /// Takes the comment that stands here.
 fn comment(text: &mut Scanner)
     requires { begins (λ c. c == hash) text.old ≡ true }
-    ensures { Takes text.old (Some Class.Comment) text.new }
+    ensures { TakesLexeme text.old (Some Class.Comment) text.new }
 {
     text.bump_while(CharSet::CommentPart);
 }
@@ -114,7 +115,7 @@ fn comment(text: &mut Scanner)
 #[inline(always)]
 fn blanks(text: &mut Scanner)
     requires { begins is_blank_char text.old ≡ true }
-    ensures { Takes text.old (Some Class.Blanks) text.new }
+    ensures { TakesLexeme text.old (Some Class.Blanks) text.new }
 {
     text.bump_while(CharSet::Blank);
 }
@@ -122,15 +123,15 @@ fn blanks(text: &mut Scanner)
 /// Takes the LF that stands here.
 fn line_feed(text: &mut Scanner)
     requires { begins (λ c. c == line_feed) text.old ≡ true }
-    ensures { Takes text.old (Some Class.LineEnd) text.new }
+    ensures { TakesLexeme text.old (Some Class.LineEnd) text.new }
 {
     text.bump_count(1);
 }
 
-/// Takes the CR that stands here and the LF behind it; a lone CR is no lexeme.
+/// Takes the CR that stands here and the LF after it; a lone CR is no lexeme.
 fn carriage_return(text: &mut Scanner) -> Option<Class>
     requires { begins (λ c. c == carriage_return) text.old ≡ true }
-    ensures { Takes text.old result text.new }
+    ensures { TakesLexeme text.old result text.new }
 {
     if !text.has_next(1, CharSet::One('\n')) {
         return None;
@@ -139,10 +140,10 @@ fn carriage_return(text: &mut Scanner) -> Option<Class>
     Some(Class::LineEnd)
 }
 
-/// Takes the backslash that stands here and the line end behind it; another backslash is no lexeme.
+/// Takes the backslash that stands here and the line end after it; another backslash is no lexeme.
 fn join(text: &mut Scanner) -> Option<Class>
     requires { begins (λ c. c == backslash) text.old ≡ true }
-    ensures { Takes text.old result text.new }
+    ensures { TakesLexeme text.old result text.new }
 {
     if text.has_next(1, CharSet::One('\n')) {
         text.bump_count(2);
@@ -159,7 +160,7 @@ fn join(text: &mut Scanner) -> Option<Class>
 #[inline(always)]
 fn operator(text: &mut Scanner) -> Option<Class>
     requires { BeginsOther text.old }
-    ensures { Takes text.old result text.new }
+    ensures { TakesLexeme text.old result text.new }
 {
     let (exact, len) = longest_operator(text)?;
     text.bump_count(len);
@@ -170,18 +171,18 @@ fn operator(text: &mut Scanner) -> Option<Class>
 #[inline(always)]
 fn delimiter(text: &mut Scanner, which: Exact) -> Option<Class>
     requires { begins (is_delimiter which) text.old ≡ true }
-    ensures { Takes text.old result text.new }
+    ensures { TakesLexeme text.old result text.new }
 {
     let _ = text.bump();
     Some(Class::Operator(which))
 }
 
-/// Takes the string that stands here, behind a prefix of `prefix_len` characters; one that isn't
+/// Takes the string that stands here, after a prefix of `prefix_len` characters; one that isn't
 /// ended is no lexeme.
 #[inline(always)]
 fn literal(text: &mut Scanner, prefix_len: usize) -> Option<Class>
     requires { Opens prefix_len text.old }
-    ensures { Takes text.old result text.new }
+    ensures { TakesLexeme text.old result text.new }
 {
     let start = text.again();
     if string(text, prefix_len) {
@@ -196,7 +197,7 @@ fn literal(text: &mut Scanner, prefix_len: usize) -> Option<Class>
 #[inline(always)]
 fn prefixed(text: &mut Scanner) -> Option<Class>
     requires { begins is_prefix_letter text.old ≡ true }
-    ensures { Takes text.old result text.new }
+    ensures { TakesLexeme text.old result text.new }
 {
     let mut ahead = text.again();
     let class = literal_or_name(&mut ahead);
@@ -208,7 +209,7 @@ fn prefixed(text: &mut Scanner) -> Option<Class>
 #[inline(never)]
 fn literal_or_name(text: &mut Scanner) -> Option<Class>
     requires { begins is_prefix_letter text.old ≡ true }
-    ensures { Takes text.old result text.new }
+    ensures { TakesLexeme text.old result text.new }
 {
     match opening(text) {
         Some(prefix_len) => literal(text, prefix_len),
@@ -219,7 +220,7 @@ fn literal_or_name(text: &mut Scanner) -> Option<Class>
     }
 }
 
-/// Whether a name may begin with a character. Those of ASCII are told without a table.
+/// Whether a name may begin with a character. Those of ASCII are recognized without a table.
 #[inline(always)]
 fn is_name_start(c: char) -> bool
     ensures { result ≡ starts_name c }
@@ -247,7 +248,7 @@ fn has_number(text: &Scanner) -> bool
 #[tactic(auto, using(crate::proofs::Lexemes::Union::begins_by))]
 #[inline(always)]
 pub(crate) fn lexeme(text: &mut Scanner) -> Option<Class>
-    ensures { Takes text.old result text.new }
+    ensures { TakesLexeme text.old result text.new }
 {
     match text.first()? {
         '#' => {
@@ -295,7 +296,7 @@ pub(crate) fn lexeme(text: &mut Scanner) -> Option<Class>
     }
 }
 
-/// The longest lexeme at the front of a text: its class, its text, and what is behind it; none
+/// The longest lexeme at the front of a text: its class, its text, and what is after it; none
 /// where no lexeme stands.
 #[inline(always)]
 pub fn cut(text: &str) -> Option<(Class, &str, &str)>

@@ -2,7 +2,7 @@
 //!
 //! A lexeme is the longest name, number, string, operator, comment, run of blanks, line end or join
 //! of lines that stands at its place. `lexeme::cut` takes one off the front of a text: it gives its
-//! class, its text, and what is behind it, and nothing where no lexeme stands. So the lexemes of a
+//! class, its text, and what is after it, and nothing where no lexeme stands. So the lexemes of a
 //! text are
 //!
 //! ```

@@ -289,7 +289,7 @@ fn is_name_byte(byte: u8) -> bool
     NAME_BYTES[byte as usize] != b','
 }
 
-/// Whether a name may go on with a character. Those of ASCII are told without a table.
+/// Whether a name may continue with a character. Those of ASCII are recognized without a table.
 #[inline(always)]
 fn is_name_part(c: char) -> bool
     ensures { result ≡ is_xid_continue c }

@@ -130,10 +130,10 @@ fn quote_here(text: &Scanner) -> Quote
     Quote::Single
 }
 
-/// Takes the longest string that stands here, behind a prefix of `prefix_len` characters; false
+/// Takes the longest string that stands here, after a prefix of `prefix_len` characters; false
 /// where it isn't ended.
 ///
-/// Where three equal quotes stand behind the prefix, only a literal in three quotes counts.
+/// Where three equal quotes stand after the prefix, only a literal in three quotes counts.
 ///
 /// By another scanner: so this one need not stand in memory.
 #[inline(always)]
@@ -147,10 +147,10 @@ pub(crate) fn string(text: &mut Scanner, prefix_len: usize) -> bool
     closed
 }
 
-/// Takes the longest string that stands here, behind a prefix of `prefix_len` characters; false
+/// Takes the longest string that stands here, after a prefix of `prefix_len` characters; false
 /// where it isn't ended.
 ///
-/// Where three equal quotes stand behind the prefix, only a literal in three quotes counts.
+/// Where three equal quotes stand after the prefix, only a literal in three quotes counts.
 #[inline(never)]
 fn prefix_and_quoted(text: &mut Scanner, prefix_len: usize) -> bool
     requires { Opens prefix_len text.old }
@@ -169,7 +169,7 @@ fn has_pair(text: &Scanner) -> bool
         || text.has_next(0, CharSet::LetterBorF) && text.has_next(1, CharSet::LetterR)
 }
 
-/// How many characters the prefix has behind which a quote stands, perhaps none, if a string opens
+/// How many characters the prefix has after which a quote stands, perhaps none, if a string opens
 /// here.
 pub(crate) fn opening(text: &Scanner) -> Option<usize>
     ensures some { IfSome result (λ n. Opens n text.now) }
@@ -269,7 +269,7 @@ pub fn open_literal(text: &str) -> Option<OpenLiteral>
 }
 
 impl OpenLiteral {
-    /// Whether it is still open behind one more line.
+    /// Whether it is still open after one more line.
     pub fn goes_on(self, line: &str) -> bool
         ensures longer { IsTrue result → (cs : List ℕ) → EndsLine cs → IsOpenBy self cs
             → lexeme_at cs ≡ None

@@ -12,8 +12,8 @@ use Rattle.pylex.specs.declared.entries.Entry.{Entry}
 use Rattle.pylex.specs.declared.entries.Step.{Step}
 use Rattle.pylex.specs.declared.entries.Step.TheVariants as steps
 use Rattle.pylex.specs.Listing.{Source, listing}
-use Rattle.pylex.specs.Steps.{entries_of, fault_of}
-use Rattle.pylex.specs.Laws.{IsStop, AreWhole}
+use Rattle.pylex.specs.Steps.{entries_of, fault_of, IsNoEntry}
+use Rattle.pylex.specs.Laws.{AreWhole}
 use Rattle.pytoken.specs.Inner.Behind.{behind}
 use Rattle.pytoken.specs.Tokens.{Token, token_of, supplied, is_open, tokens_of_entry, tokens_from, tokens}
 use Rattle.pytoken.proofs.Callers.OnePass.{tokens_on}
@@ -92,7 +92,7 @@ same_last (x ∷ xs) (y ∷ ys) a b e = same_last xs ys a b (parts x y (xs ++ a 
 ends_whole : (ss : List Step) (w : AreWhole ss) → fault_of ss ≡ None → w.last ≡ steps.End
 ends_whole ss w none = by w.last w.stops (sym (fault_last (entries_of ss) w.last) ∙ ap fault_of (sym w.whole) ∙ none)
   where
-    by : (s : Step) → IsStop s → fault_of (s ∷ []) ≡ None → s ≡ steps.End
+    by : (s : Step) → IsNoEntry s → fault_of (s ∷ []) ≡ None → s ≡ steps.End
     by (steps.Entry e) stops is = absurd stops
     by steps.End stops is = refl
     by (steps.Fault f) stops is = absurd (cc)

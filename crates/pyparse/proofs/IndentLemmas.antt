@@ -13,14 +13,14 @@ use Rattle.pylex.specs.Indentation.{width_from}
 use Rattle.pylex.specs.Margins.{blanks_of, width_by_one, widths_of}
 use Rattle.pyparse.proofs.TextLemmas.{past, no_chars}
 use Rattle.std.specs.Prelude.{replicate, if◌then◌else◌}
-use Rattle.std.specs.Option.{is_some}
+use Rattle.std.specs.Option.{is_some, option_or}
 use Rattle.std.specs.List.{list_any}
 use Rattle.pylex.specs.declared.margins.Widths.{Widths}
 use Rattle.pytoken.specs.declared.refusals.Refusal.{Refusal}
 use Rattle.pytoken.specs.declared.refusals.Refusal.TheVariants.{MixedTabs}
 use Rattle.pytoken.specs.Inner.Behind.{behind}
 use Rattle.pytoken.specs.Indentation.{Margin, behind_offset, margin_at, is_mixed}
-use Rattle.pytoken.specs.Refusals.{or_refusal, margin_refusal, first_mixed}
+use Rattle.pytoken.specs.Refusals.{margin_refusal, first_mixed}
 use Rattle.pytoken.proofs.Callers.OnePass.{behind_on, mixed_on}
 use Rattle.pyparse.specs.declared.indents.Indents.{Indents}
 use Rattle.pyparse.specs.Inner.Indenting.{is_logical_at, start_at, AreSpaces, begins_blank, are_rising, narrower, Drops}
@@ -61,7 +61,7 @@ takes_behind more i is ms had =
     let told = some_of i.mixed is in
     let first : first_mixed [] ms ≡ Some told.0 = sym had.mixed ∙ told.1 in
     record {
-      mixed = told.1 ∙ sym (mixed_on [] ms more ∙ ap (λ (r : Option Refusal). or_refusal r (first_mixed (behind [] ms) more)) first);
+      mixed = told.1 ∙ sym (mixed_on [] ms more ∙ ap (λ (r : Option Refusal). option_or r (first_mixed (behind [] ms) more)) first);
       standing = λ none. absurd (none_some i.mixed told.0 told.1 none);
     }
 
@@ -75,7 +75,7 @@ one_more text o logical = rw logical refl
 mixed_one : (ms : List Margin) (m : Margin) → first_mixed [] ms ≡ None → first_mixed [] (ms ++ m ∷ []) ≡ margin_refusal (behind [] ms) m
 mixed_one ms m none = mixed_on [] ms (m ∷ []) ∙ (rw none (or_none (margin_refusal (behind [] ms) m)))
   where
-    or_none : (r : Option Refusal) → or_refusal r None ≡ r
+    or_none : (r : Option Refusal) → option_or r None ≡ r
     or_none (Some x) = refl
     or_none None = refl
 

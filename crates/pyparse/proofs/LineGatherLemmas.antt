@@ -26,7 +26,7 @@ use Rattle.pytoken.specs.declared.values.terminals.Terminal.{Terminal}
 use Rattle.pyparse.specs.declared.line_gather.LineGather.{LineGather}
 use Rattle.pyparse.specs.LineReadings.{first_start, token_terminal, lines_within}
 use Rattle.pyparse.specs.Inner.Passing.{counted, still_open, kept_refusal}
-use Rattle.pyparse.specs.Inner.LineGathering.{stands_in_line, ends_open_line, ended_by, is_indent, is_dedent, own_terminals, of_first, first_text, line_behind, front_tokens, front_line, front_lines, Adds, Takes, Counts, KeepsLine, StandsAt, ReadsLine}
+use Rattle.pyparse.specs.Inner.LineGathering.{stands_in_line, ends_open_line, ended_by, is_indent, is_dedent, own_terminals, of_first, first_text, line_behind, front_tokens, front_line, front_lines, Adds, TakesEntry, Counts, KeepsLine, StandsAt, ReadsLine}
 use Rattle.pyparse.proofs.PassLemmas.{passes, kept_before}
 use Rattle.pyparse.proofs.ListingLemmas.{moved, at_entry}
 use Rattle.pyparse.proofs.EndLemmas.{last_on, match_is, same_last}
@@ -37,7 +37,7 @@ counted_few n m true low = omega (arith, low)
 counted_few n m false low = omega (arith, low)
 
 -- one entry more
-pub counts : (text : List ℕ) (es : List Entry) (e : Entry) (old new : LineGather) → Counts text es old → Takes text e old new →
+pub counts : (text : List ℕ) (es : List Entry) (e : Entry) (old new : LineGather) → Counts text es old → TakesEntry text e old new →
     Counts text (es ++ e ∷ []) new
 counts text es e old new had gains =
     let size : length (es ++ e ∷ []) ≡ length es + 1 = length-append es (e ∷ []) in
@@ -171,10 +171,10 @@ pub record Read (p : Parts) (old new : Listed) (e : Entry) : Type 0 where
 
 pub entry_read : (p : Parts) (old new : Listed) (g : LineGather) (step : Step) (e : Entry) → StandsAt p old g → NextStep old step new → step ≡ steps.Entry e →
     Read p old new e
-entry_read p old new g step e had moves is =
+entry_read p old new g step e had stepped is =
     let s = in_characters p in
     let k = old.shown.given in
-    let m = moved old new step (steps.Entry e) s k moves is had.stands in
+    let m = moved old new step (steps.Entry e) s k stepped is had.stands in
     let next = at_entry (listing s) k e had.whole m.0 in
     record {
       lies = entry_lies p.text (listing s) k e had.lies m.0;
@@ -186,7 +186,7 @@ entry_read p old new g step e had moves is =
     }
 
 pub stands_on : (p : Parts) (old new : Listed) (e : Entry) (g h : LineGather) → StandsAt p old g → Read p old new e → new.shown.given ≤ most_entries →
-    Takes (chars p.text) e g h → StandsAt p new h
+    TakesEntry (chars p.text) e g h → StandsAt p new h
 stands_on p old new e g h had read few gains =
     let es = entries_of (listing (in_characters p)) in
     record {
@@ -226,14 +226,14 @@ cleared p l g h had is =
     }
 
 -- what is gathered has no refusal, so it had none before the entry
-pub none_before : (p : Parts) (l : Listed) (e : Entry) (g h : LineGather) → StandsAt p l g → Takes (chars p.text) e g h → kept_refusal h.pass ≡ None →
+pub none_before : (p : Parts) (l : Listed) (e : Entry) (g h : LineGather) → StandsAt p l g → TakesEntry (chars p.text) e g h → kept_refusal h.pass ≡ None →
     (kept_refusal g.pass ≡ None) × (entry_refusal (chars p.text) e ≡ None)
 none_before p l e g h had gains none =
     kept_before (chars p.text) (take l.shown.given (entries_of (listing (in_characters p)))) e (entry_refusal (chars p.text) e) g.pass h.pass
     had.counts.pass gains.pass none
 
 -- the same line, by an entry that doesn't end it
-pub same_line : (p : Parts) (old new : Listed) (e : Entry) (g h : LineGather) → StandsAt p old g → Read p old new e → Takes (chars p.text) e g h →
+pub same_line : (p : Parts) (old new : Listed) (e : Entry) (g h : LineGather) → StandsAt p old g → Read p old new e → TakesEntry (chars p.text) e g h →
     ended_by e g.pass.begun ≡ false → kept_refusal h.pass ≡ None →
     KeepsLine (front_line (chars p.text) (take old.shown.given (entries_of (listing (in_characters p))))) g →
     KeepsLine (front_line (chars p.text) (take new.shown.given (entries_of (listing (in_characters p))))) h
@@ -278,7 +278,7 @@ first_starts [] p some start = absurd (omega (arith, some))
 first_starts (t ∷ l) p some start = ap Some (sym (start t.start refl))
 
 pub line_read : (p : Parts) (first old new : Listed) (e : Entry) (g h : LineGather) → StandsAt p old g → Read p old new e → new.shown.given ≤ most_entries →
-    Takes (chars p.text) e g h → ended_by e g.pass.begun ≡ true → kept_refusal h.pass ≡ None →
+    TakesEntry (chars p.text) e g h → ended_by e g.pass.begun ≡ true → kept_refusal h.pass ≡ None →
     KeepsLine (front_line (chars p.text) (take old.shown.given (entries_of (listing (in_characters p))))) g →
     lines_within (in_characters p) old.shown.given ≡ lines_within (in_characters p) first.shown.given →
     ReadsLine p first new h

@@ -13,12 +13,13 @@ use Rattle.pytoken.specs.Brackets.{opens, closes}
 use Rattle.pytoken.specs.Indentation.{Margin, margin_at, margins_from, margins}
 use Rattle.pytoken.specs.Inner.Behind.{behind}
 use Rattle.pytoken.specs.Tokens.{is_open}
-use Rattle.pytoken.specs.Refusals.{most_brackets, or_refusal, entry_refusal, first_entry_refusal, first_too_deep, first_mixed, refusal_at, refusal}
+use Rattle.pytoken.specs.Refusals.{most_brackets, entry_refusal, first_entry_refusal, first_too_deep, first_mixed, refusal_at, refusal}
 use Rattle.pytoken.proofs.Callers.OnePass.{behind_on, refusal_on, too_deep_on, mixed_on, margins_of_entry, margins_on}
 use Rattle.pyparse.specs.declared.pass.Pass.{Pass}
 use Rattle.pyparse.specs.Inner.Passing.{still_open, exceeding, counted, given_margins, kept_refusal, Gains, Passed}
 use Rattle.pyparse.specs.Inner.Indenting.{Measures, Measured}
 use Rattle.pyparse.proofs.IndentLemmas.{measures}
+use Rattle.std.specs.Option.{option_or}
 
 -- a count with one more
 pub count_on : {X : Type 0} (p : X → Bool) (es : List X) (e : X) → counted (count_by p es) (p e) ≡ count_by p (e ∷ es)
@@ -42,11 +43,11 @@ passes text es e old new had gains =
       begun = gains.begun ∙ ap (still_open e.kind) had.begun ∙ sym (ap is_open order);
       opened = gains.opened ∙ ap (λ (n : ℕ). counted n (opens e)) had.opened ∙ count_on opens (behind [] es) e ∙ sym (ap (count_by opens) order);
       closed = gains.closed ∙ ap (λ (n : ℕ). counted n (closes e)) had.closed ∙ count_on closes (behind [] es) e ∙ sym (ap (count_by closes) order);
-      faulty = gains.faulty ∙ ap (λ (r : Option Refusal). or_refusal r (entry_refusal text e)) had.faulty ∙ sym (refusal_on text es e);
+      faulty = gains.faulty ∙ ap (λ (r : Option Refusal). option_or r (entry_refusal text e)) had.faulty ∙ sym (refusal_on text es e);
       deep =
           gains.deep
-          ∙ ap (λ (r : Option Refusal). or_refusal r (exceeding e old.opened old.closed)) had.deep
-          ∙ ap₂ (λ (o c : ℕ). or_refusal (first_too_deep most_brackets [] es) (exceeding e o c)) had.opened had.closed
+          ∙ ap (λ (r : Option Refusal). option_or r (exceeding e old.opened old.closed)) had.deep
+          ∙ ap₂ (λ (o c : ℕ). option_or (first_too_deep most_brackets [] es) (exceeding e o c)) had.opened had.closed
           ∙ sym (too_deep_on most_brackets [] es e);
       indents =
           subst (λ (ms : List Margin). Measured ms new.indents) (sym (margins_more text es e))
@@ -60,14 +61,14 @@ pub kept_before : (text : List ℕ) (es : List Entry) (e : Entry) (own : Option 
 kept_before text es e own old new had gains none =
     let more = given_margins text e old.opened old.closed in
     let mixed = (gains.indents (margins text es) had.indents).mixed ∙ mixed_on [] (margins text es) more in
-    let a = parts new.faulty (or_refusal new.deep new.indents.mixed) none in
+    let a = parts new.faulty (option_or new.deep new.indents.mixed) none in
     let b = parts new.deep new.indents.mixed a.1 in
     let faulty = parts old.faulty own (sym gains.faulty ∙ a.0) in
     let deep = parts old.deep (exceeding e old.opened old.closed) (sym gains.deep ∙ b.0) in
     let mix = parts (first_mixed [] (margins text es)) (first_mixed (behind [] (margins text es)) more) (sym mixed ∙ b.1) in
     (rw (faulty.0, deep.0) (had.indents.mixed ∙ mix.0), faulty.1)
   where
-    parts : (a b : Option Refusal) → or_refusal a b ≡ None → (a ≡ None) × (b ≡ None)
+    parts : (a b : Option Refusal) → option_or a b ≡ None → (a ≡ None) × (b ≡ None)
     parts None b is = (refl, is)
     parts (Some r) b is = absurd (cc)
 
@@ -90,8 +91,8 @@ pub all_refusals : (s : Source) (es : List Entry) (p : Pass) → Passed s.text e
     kept_refusal p ≡ refusal s
 unfolding refusal_at
 all_refusals s es p had all none =
-    ap₂ or_refusal (had.faulty ∙ ap (first_entry_refusal s.text) all)
-    (ap₂ or_refusal (had.deep ∙ ap (first_too_deep most_brackets []) all)
+    ap₂ option_or (had.faulty ∙ ap (first_entry_refusal s.text) all)
+    (ap₂ option_or (had.deep ∙ ap (first_too_deep most_brackets []) all)
     (had.indents.mixed ∙ ap (λ (es : List Entry). first_mixed [] (margins s.text es)) all))
     ∙ sym (rw (none, refusal_at) refl)
 

@@ -4,7 +4,6 @@ use Rattle.std.specs.Str.{chars}
 use Rattle.pysource.specs.declared.places.Place.{Place}
 use Rattle.pytoken.specs.declared.refusals.Refusal.{Refusal}
 use Rattle.pytoken.specs.declared.refusals.Refusal.TheVariants as refusals
-use Rattle.pytoken.specs.Refusals.{or_refusal}
 use Rattle.pytoken.specs.Terminals.{Terminal, terminal_of, fault_of}
 use Rattle.pygrammar.specs.declared.levels.Level.{Level}
 use Rattle.pygrammar.specs.Meets.{Shapeless, High}
@@ -12,6 +11,7 @@ use Rattle.pyparse.specs.declared.faults.GrammarError.TheVariants.{Syntax, TooDe
 use Rattle.pyparse.specs.declared.faults.ParseFault.{ParseFault}
 use Rattle.pyparse.specs.declared.faults.ParseFault.TheVariants.{Refused, Grammar, Memory}
 use Rattle.pyparse.specs.declared.tokens.Token.{Token}
+use Rattle.std.specs.Option.{option_or}
 
 -- what tokens are to the grammar
 abbrev pub terminals : List Token → List Terminal
@@ -28,7 +28,7 @@ token_refusal t = elim (fault_of t.kind (chars t.text.now)) [ Some x ↦ Some (r
 
 abbrev pub first_refusal : List Token → Option Refusal
 first_refusal [] = None
-first_refusal (t ∷ ts) = or_refusal (token_refusal t) (first_refusal ts)
+first_refusal (t ∷ ts) = option_or (token_refusal t) (first_refusal ts)
 
 -- Why tokens are not read as an expression of a level: the first that is faulty by itself; or they are none; or only one higher than 500,
 -- where a list of more than 500 that are none may be told so too; or memory was wanting, as it may be at any point.

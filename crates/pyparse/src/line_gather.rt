@@ -19,7 +19,7 @@ ghost use Rattle.pyparse.specs.Inner.LineGathering.{
   spell_match,
   keeps_match,
   Adds,
-  Takes,
+  TakesEntry,
 };
 
 use crate::gather::text_of;
@@ -232,7 +232,8 @@ impl<'a> LineGather<'a> {
         requires indents { self.old.indents < 2 ^ 63 }
         requires dedents { self.old.dedents < 2 ^ 63 }
         ensures ends { IfOk result (λ ends. ends ≡ ended_by entry.now self.old.pass.begun) }
-        ensures gathers { OnOk result (Takes (chars source.now.text) entry.now self.old self.new) }
+        ensures gathers { OnOk result
+            (TakesEntry (chars source.now.text) entry.now self.old self.new) }
     {
         let ends = ends_open_line(entry.kind) && self.pass.has_begun();
         let faulty = self.push(alloc, source, entry)?;
@@ -257,7 +258,8 @@ impl<'a> LineGather<'a> {
         requires indents { self.old.indents < 2 ^ 63 }
         requires dedents { self.old.dedents < 2 ^ 63 }
         ensures ends { IfOk result (λ ends. ends ≡ ended_by entry.now self.old.pass.begun) }
-        ensures gathers { OnOk result (Takes (chars source.now.text) entry.now self.old self.new) }
+        ensures gathers { OnOk result
+            (TakesEntry (chars source.now.text) entry.now self.old self.new) }
     {
         // Most entries are names and operators: what their type decides is decided once for all.
         match entry.kind {

@@ -4,9 +4,9 @@ ghost use Rattle.std.specs.Prelude.{◌≡◌, ◌^◌, ◌<◌, [], IfOk, OnOk}
 ghost use Rattle.std.specs.Str.{IsCharBoundary, chars};
 ghost use Rattle.pylex.specs.Laws.{LiesIn};
 ghost use Rattle.pytoken.specs.Brackets.{opens, closes};
-ghost use Rattle.pytoken.specs.Refusals.{or_refusal};
 ghost use Rattle.pyparse.specs.Inner.Passing.{still_open, line_ends, exceeding, counted};
 ghost use Rattle.pyparse.specs.Inner.Passing.{kept_refusal, TakesBracket, Gains, Passed};
+ghost use Rattle.std.specs.Option.{option_or};
 
 use crate::indents::Indents;
 use pylex::{Entry, Kind};
@@ -69,7 +69,7 @@ fn line_ends(kind: Kind, opened: usize, closed: usize) -> bool
 /// Keeps a refusal, if there is one, where none is kept yet.
 #[inline(always)]
 fn keep(kept: &mut Option<Refusal>, refusal: Option<Refusal>)
-    ensures { kept.new ≡ or_refusal kept.old refusal }
+    ensures { kept.new ≡ option_or kept.old refusal }
 {
     if refusal.is_some() && kept.is_none() {
         *kept = refusal;
@@ -78,7 +78,7 @@ fn keep(kept: &mut Option<Refusal>, refusal: Option<Refusal>)
 
 /// The first of two refusals.
 fn first(one: Option<Refusal>, other: Option<Refusal>) -> Option<Refusal>
-    ensures { result ≡ or_refusal one other }
+    ensures { result ≡ option_or one other }
 {
     match one {
         Some(refusal) => Some(refusal),

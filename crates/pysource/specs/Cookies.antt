@@ -1,6 +1,6 @@
 -- Which encoding the first two lines of a source declare.
 -- Python language reference, 2.1.4 "Encoding declarations", and `detect_encoding` of the module `tokenize` of the library reference:
--- a line declares an encoding by blanks, `#`, and somewhere behind that `coding`, `:` or `=`, spaces or tabs, and the cookie. In the module:
+-- a line declares an encoding by blanks, `#`, and somewhere after that `coding`, `:` or `=`, spaces or tabs, and the cookie. In the module:
 --     cookie_re = ^[ \t\f]*#.*?coding[:=][ \t]*([-\w.]+), where \w is of ASCII; in PEP 263: ^[ \t\f]*#.*?coding[:=][ \t]*([-_.a-zA-Z0-9]+)
 --     blank_re  = ^[ \t\f]*(?:[#\r\n]|$)
 -- A comment alone can, and in the second line only where the first is blank or another comment.
@@ -28,7 +28,7 @@ is_blank b = is_space_or_tab b || b == form_feed
 abbrev pub is_cookie_byte : ℕ → Bool
 is_cookie_byte b = (is_in_range 48 57 b || (is_in_range 65 90 b || is_in_range 97 122 b)) || (b == low_line || (b == hyphen || b == full_stop))
 
--- the list behind its longest front that passes
+-- the list after its longest front that passes
 abbrev pub drop_while : (ℕ → Bool) → List ℕ → List ℕ
 drop_while p bs = drop (prefix_len p bs) bs
 
@@ -44,7 +44,7 @@ unfoldable pub declared_first : List ℕ → List ℕ
 declared_first [] = []
 declared_first (b ∷ bs) = let here = declared_here (b ∷ bs) in if length here == 0 then declared_first bs else here
 
--- the cookie of a line, behind the `#` that its first non-blank is; nothing where it has none: cookie_re
+-- the cookie of a line, after the `#` that its first non-blank is; nothing where it has none: cookie_re
 abbrev pub cookie_of : List ℕ → List ℕ
 cookie_of line = let rest = drop_while is_blank line in if slice_index rest 0 == hash then declared_first (drop 1 rest) else []
 
@@ -78,7 +78,7 @@ abbrev pub is_ascii_name : List ℕ → Bool
 is_ascii_name cookie = is_spelled cookie (codes "ascii") || is_spelled cookie (codes "us-ascii")
 
 -- Which encoding a cookie in this row names, where a byte order mark stands in front or not.
--- Behind the mark it has to be UTF-8, and its name is always `utf-8`. Elsewhere the name is the cookie as it is written, but for `utf-8` itself.
+-- After the mark it has to be UTF-8, and its name is always `utf-8`. Elsewhere the name is the cookie as it is written, but for `utf-8` itself.
 abbrev pub named_by : Bool → ℕ → List ℕ → Result Named SourceFault
 named_by marked row cookie =
     if is_utf_8 cookie then Ok plain
@@ -90,7 +90,7 @@ named_by marked row cookie =
 abbrev pub has_mark : List ℕ → Bool
 has_mark bytes = starts_with nat_eq bytes (0xEF ∷ 0xBB ∷ 0xBF ∷ [])
 
--- the bytes behind the mark, where it stands in front
+-- the bytes after the mark, where it stands in front
 abbrev pub without_mark : List ℕ → List ℕ
 without_mark bytes = if has_mark bytes then drop 3 bytes else bytes
 

@@ -22,7 +22,7 @@ lines_of (b ∷ bs) = if is_lf b then (b ∷ []) ∷ lines_of bs else onto_first
 abbrev pub lone_return_at : List ℕ → ℕ → Option LineError
 lone_return_at line i = if slice_index line i == carriage_return && not (is_lf (slice_index line (i + 1))) then Some LoneReturn else None
 
--- what is wrong with the byte at i: in UTF-8 the bad byte is the one behind the longest front that is UTF-8
+-- what is wrong with the byte at i: in UTF-8 the bad byte is the one after the longest front that is UTF-8
 abbrev pub bad_at : Charset → List ℕ → ℕ → Option LineError
 bad_at Utf8 line i = if i == utf8_valid_len line then Some NotUtf8 else lone_return_at line i
 bad_at Ascii line i = if nat_le 128 (slice_index line i) then Some NotAscii else lone_return_at line i

@@ -1,4 +1,4 @@
--- What an `Encoding` tells. Python language reference, 2.1.4 "Encoding declarations".
+-- What an `Encoding` says. Python language reference, 2.1.4 "Encoding declarations".
 use Rattle.std.specs.Prelude.{ℕ, List}
 use Rattle.pysource.specs.declared.encodings.Charset.{Charset}
 

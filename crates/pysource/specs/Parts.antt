@@ -1,4 +1,4 @@
--- What a `Source` tells: its encoding, the text of the lines before the first faulty one, and that line's fault.
+-- What a `Source` holds: its encoding, the text of the lines before the first faulty one, and that line's fault.
 -- Python language reference, 2.1.2 "Physical lines" and 2.1.4 "Encoding declarations".
 use Rattle.std.specs.Prelude.{ℕ, List, Option}
 use Rattle.pysource.specs.Names.{Named}

@@ -11,7 +11,7 @@ use Rattle.pysource.specs.Lines.{lines_of, good_text, line_fault, first_bad}
 use Rattle.pysource.specs.Cookies.{encoding_of, without_mark, cookie_of, leads_on}
 use Rattle.pysource.specs.Sources.{nth_line}
 use Rattle.pysource.specs.Bytes.{Seen}
-use Rattle.pysource.specs.Taking.{Takes}
+use Rattle.pysource.specs.Taking.{ReadsBytes}
 use Rattle.pysource.specs.Limits.{source_limit}
 use Rattle.pysource.specs.declared.encodings.Charset.{Charset}
 use Rattle.pysource.specs.declared.encodings.SourceFault.{SourceFault}
@@ -21,8 +21,8 @@ use Rattle.pysource.specs.declared.faults.LineError.{LineError}
 use Rattle.pysource.specs.declared.faults.LineError.TheVariants.{Unread}
 use Rattle.pysource.specs.declared.line_reader.Reach.{Reach}
 use Rattle.pysource.specs.declared.line_reader.Reach.TheVariants.{Reading, End, Broken, Passed}
-use Rattle.pysource.specs.declared.line_reader.Line.{Line}
-use Rattle.pysource.specs.declared.line_reader.Line.TheVariants as lines
+use Rattle.pysource.specs.declared.line_reader.LineRead.{LineRead}
+use Rattle.pysource.specs.declared.line_reader.LineRead.TheVariants as lines
 use Rattle.pysource.specs.declared.line_reader.StreamFault.{StreamFault}
 use Rattle.pysource.specs.declared.line_reader.StreamFault.TheVariants.{UnsupportedEncoding, BomConflict, Read, Memory}
 
@@ -30,7 +30,7 @@ use Rattle.pysource.specs.declared.line_reader.StreamFault.TheVariants.{Unsuppor
 abbrev pub ends_line : List ℕ → Bool
 ends_line line = is_lf (slice_index line (length line - 1))
 
--- The lines of bytes. Where a read failed behind the bytes, a last line without line feed isn't whole, and is none of them.
+-- The lines of bytes. Where a read failed after the bytes, a last line without line feed isn't whole, and is none of them.
 abbrev pub lines_read : Bool → List ℕ → List (List ℕ)
 lines_read broken bytes = if broken then filter ends_line (lines_of bytes) else lines_of bytes
 
@@ -57,7 +57,7 @@ searches_second first = (length (cookie_of (without_mark first)) == 0) && leads_
 abbrev pub decides : Bool → List ℕ → Bool
 decides broken bytes = not broken || (ends_line (nth_line bytes 0) && (not (searches_second (nth_line bytes 0)) || ends_line (nth_line bytes 1)))
 
--- why bytes are no source, as it is told of a stream
+-- why bytes are no source, as it is reported of a stream
 abbrev pub of_source : SourceFault → StreamFault
 of_source (cookies.UnsupportedEncoding place) = UnsupportedEncoding place
 of_source (cookies.BomConflict place) = BomConflict place
@@ -68,7 +68,7 @@ unfoldable pub stream_under : Result Named SourceFault → Bool → List ℕ →
 stream_under (Ok named) broken bytes = let c = coming named.charset 1 broken (without_mark bytes) in Ok (record { encoding = named; text = c.text; fault = c.fault })
 stream_under (Err fault) broken bytes = Err (of_source fault)
 
--- the source that a reader gives: its bytes, and whether a read failed behind them
+-- the source that a reader gives: its bytes, and whether a read failed after them
 unfoldable pub stream_of : Bool → List ℕ → Result Parts StreamFault
 stream_of broken bytes = if decides broken bytes then stream_under (encoding_of (nth_line bytes 0) (nth_line bytes 1)) broken bytes else Err Read
 
@@ -87,7 +87,7 @@ pub record Buffered : Type 0 where
   pub count : ℕ
   pub fault : Option LineFault
 
--- what may follow the bytes taken: at the end nothing, behind a failed read nothing
+-- what may follow the bytes taken: at the end nothing, after a failed read nothing
 abbrev pub FollowsAt : Reach → List ℕ → Bool → Type 0
 FollowsAt Reading more broken = Unit {0}
 FollowsAt End more broken = (more ≡ []) × (broken ≡ false)
@@ -115,7 +115,7 @@ Gives old taken line new = (more : List ℕ) (broken : Bool) → Follows new mor
 
 -- what a call did to its reader
 abbrev pub Reads : Seen → Seen → Buffered → Buffered → List ℕ → Type 0
-Reads seen_old seen_new old new taken = Takes seen_old seen_new old.reach new.reach old.count new.count taken
+Reads seen_old seen_new old new taken = ReadsBytes seen_old seen_new old.reach new.reach old.count new.count taken
 
 -- exactly one line
 pub record IsLine (line : List ℕ) : Type 0 where
@@ -130,9 +130,9 @@ ComesOnly b fault = (more : List ℕ) (broken : Bool) → Follows b more broken 
 abbrev pub MayCome : Buffered → Type 0
 MayCome b = (fault : Option LineFault) → ComesOnly b fault → ⊥
 
--- What an answer says of the line that was given with it. Behind a last line without line feed nothing comes, and at the end nothing is pending.
--- Memory is refused only where a line may still come: never behind the end, a faulty line or a failed read.
-abbrev pub Tells : Result Line AllocError → List ℕ → Buffered → Type 0
+-- What an answer says of the line that was given with it. After a last line without line feed nothing comes, and at the end nothing is pending.
+-- Memory runs out only where a line may still come: never after the end, a faulty line or a failed read.
+abbrev pub Tells : Result LineRead AllocError → List ℕ → Buffered → Type 0
 Tells (Ok lines.Text) line new = IsLine line × ((ends_line line ≡ true) ⊎ ComesOnly new None)
 Tells (Ok lines.End) line new = (line ≡ []) × ComesOnly new None × (new.pending ≡ [])
 Tells (Ok (lines.Fault f)) line new = (line ≡ []) × (new.fault ≡ Some f) × ComesOnly new (Some f)
@@ -149,16 +149,16 @@ PushesLine charset row line old new (Ok None) = (first_bad charset line ≡ None
 PushesLine charset row line old new (Ok (Some fault)) = (bad : ℕ × LineError) × (first_bad charset line ≡ Some bad) × (fault ≡ fault_at row line bad) × (new ≡ old)
 PushesLine charset row line old new (Err e) = (first_bad charset line ≡ None) × (new ≡ old)
 
--- how many bytes stand behind the first line of some
+-- how many bytes stand after the first line of some
 abbrev pub past_first : List ℕ → ℕ
 past_first bytes = length bytes - length (nth_line bytes 0)
 
 -- a line is given
-abbrev pub IsText : Result Line AllocError → Type 0
+abbrev pub IsText : Result LineRead AllocError → Type 0
 IsText result = result ≡ Ok lines.Text
 
 -- a call of `next_line`
-pub record NextLine (seen_old seen_new : Seen) (old new : Buffered) (chunk_old chunk_new : List ℕ) (result : Result Line AllocError) : Type 0 where
+pub record NextLine (seen_old seen_new : Seen) (old new : Buffered) (chunk_old chunk_new : List ℕ) (result : Result LineRead AllocError) : Type 0 where
   pub taken : List ℕ
   pub line : List ℕ
   pub reads : Reads seen_old seen_new old new taken
@@ -180,7 +180,7 @@ head_len bytes = length (nth_line bytes 0) + (if searches_second (nth_line bytes
 -- a reader of lines was opened
 pub record Opens (seen_old seen_new : Seen) (b : Buffered) : Type 0 where
   pub taken : List ℕ
-  pub reads : Takes seen_old seen_new Reading b.reach 0 b.count taken
+  pub reads : ReadsBytes seen_old seen_new Reading b.reach 0 b.count taken
   pub source : (more : List ℕ) (broken : Bool) → Follows b more broken →
       stream_of broken (taken ++ more) ≡ Ok (record { encoding = b.encoding; text = (comes b more broken).text; fault = (comes b more broken).fault })
   pub row : b.row ≡ 1
@@ -202,7 +202,7 @@ Explains (BomConflict place) reach source =
 pub record Refuses (seen_old seen_new : Seen) (fault : StreamFault) : Type 0 where
   pub taken : List ℕ
   pub reach : Reach
-  pub reads : Takes seen_old seen_new Reading reach 0 (length taken) taken
+  pub reads : ReadsBytes seen_old seen_new Reading reach 0 (length taken) taken
   pub explains : Explains fault reach (λ more broken. stream_of broken (taken ++ more))
 
 -- how an opening ended

@@ -19,7 +19,7 @@ fails Broken = 1
 fails Passed = 0
 
 -- What reads took from a reader: some bytes, and the one that passes the limit, which is lost.
-pub record Takes (seen_old seen_new : Seen) (reach_old reach_new : Reach) (count_old count_new : ℕ) (taken : List ℕ) : Type 0 where
+pub record ReadsBytes (seen_old seen_new : Seen) (reach_old reach_new : Reach) (count_old count_new : ℕ) (taken : List ℕ) : Type 0 where
   pub lost : List ℕ
   pub consumes : Consumes seen_old.to_come seen_new.to_come (taken ++ lost)
   pub count : count_new ≡ count_old + length taken
@@ -28,15 +28,15 @@ pub record Takes (seen_old seen_new : Seen) (reach_old reach_new : Reach) (count
   pub steady : IsSteady seen_old seen_new
   pub passed : 0 < length lost → (reach_new ≡ Passed) × (count_new ≡ source_limit)
   pub newly : reach_old ≢ Passed → reach_new ≡ Passed → 0 < length lost
-  -- the end is told only where no byte is to come
+  -- the end is reported only where no byte is to come
   pub ended : reach_old ≢ End → reach_new ≡ End → IsAtEnd seen_new.to_come
   -- once reading is over nothing more is read
   pub over : reach_old ≢ Reading → (reach_new ≡ reach_old) × (taken ++ lost ≡ []) × (seen_new ≡ seen_old)
 
--- what reads took stands behind the bytes that were there
+-- what reads took stands after the bytes that were there
 pub record Grows (seen_old seen_new : Seen) (old new : Intake) : Type 0 where
   pub taken : List ℕ
-  pub takes : Takes seen_old seen_new old.reach new.reach old.count new.count taken
+  pub takes : ReadsBytes seen_old seen_new old.reach new.reach old.count new.count taken
   pub bytes : new.buffer ≡ old.buffer ++ taken
 
 -- one read into a buffer

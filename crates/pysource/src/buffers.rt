@@ -1,6 +1,6 @@
 //! Bytes that were read and are not yet used, and the reads that take more.
 //!
-//! Bytes are read only into room that is already there, so that want of memory loses none.
+//! Bytes are read only into room that is already there, so that running out of memory loses none.
 
 ghost use Rattle.std.specs.Prelude.{◌≡◌, ◌≢◌, ℕ, ◌+◌, ◌-◌, ◌^◌, ◌<◌, ◌≤◌, ◌++◌, [], length, take};
 ghost use Rattle.std.specs.Prelude.{drop, max, vec_len, OnOk, OnErr, IfOk, Ok, Err, Some, None};
@@ -31,7 +31,7 @@ impl Model for Buffer {
     ghost invariant = { λ b. (b.from ≤ b.to) × (b.to ≤ length b.room.items) };
 }
 
-/// Makes room behind the bytes from `from` up to `to`: by a move of them to the front where room
+/// Makes room after the bytes from `from` up to `to`: by a move of them to the front where room
 /// is there, or else by at least twice the room. It answers where they stand then.
 fn make_room(room: &mut Vec<u8>, from: usize, to: usize) -> Result<(usize, usize), AllocError>
     requires order { from ≤ to }
@@ -82,8 +82,8 @@ impl Buffer {
         self.from += count;
     }
 
-    /// One read of at most `most` bytes, which come behind the others: how many they are, or
-    /// `None` where it failed. No read is made where memory ran out.
+    /// One read of at most `most` bytes, which come after the others: how many they are, or
+    /// `None` where it failed. No read is made if memory runs out.
     pub fn read_from<R: ByteIn>(
         &mut self,
         reader: &mut R,
@@ -130,7 +130,7 @@ impl Intake {
         }
     }
 
-    /// One read of at most `PIECE` bytes, and of no more than `SOURCE_LIMIT` in all: a byte behind
+    /// One read of at most `PIECE` bytes, and of no more than `SOURCE_LIMIT` in all: a byte after
     /// those is lost.
     fn fill<R: ByteIn>(&mut self, reader: &mut R) -> Result<(), AllocError>
         requires reading { self.old.reach ≡ Reach.Reading }
@@ -162,7 +162,7 @@ impl Intake {
         Ok(())
     }
 
-    /// The end of the line that begins at `start`, behind its line feed. It reads until that is
+    /// The end of the line that begins at `start`, after its line feed. It reads until that is
     /// there, and answers `None` where reads give no more and the line has no line feed.
     ///
     /// Each byte is searched once.

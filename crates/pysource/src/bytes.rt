@@ -1,8 +1,8 @@
 //! Readers and writers of bytes that count their failures, and the two loops over them.
 //!
-//! A contract can't name what a file, a pipe or a terminal will give. So a reader tells the bytes
+//! A contract can't name what a file, a pipe or a terminal will give. So a reader states the bytes
 //! that it will give where they are known, and `None` where they aren't, and whether a read may
-//! fail; a writer likewise tells those that it took. Each counts its failures, so that a caller
+//! fail; a writer likewise states those that it took. Each counts its failures, so that a caller
 //! can say of a whole run whether any read or write in it failed.
 
 ghost use Rattle.std.specs.Prelude.{◌≡◌, ◌≤◌, ℕ, ◌+◌, ◌-◌, ◌^◌, ◌<◌, Bool, true, List, Option};
@@ -187,14 +187,14 @@ pub enum InputFault {
     /// A read failed, or the reader gave more than `SOURCE_LIMIT` bytes.
     #[error("read failed")]
     Read,
-    /// There was no memory for the bytes.
+    /// Memory for the bytes ran out.
     #[error("out of memory")]
     Memory,
 }
 
 /// All the bytes that the reader gives up to its end, at most `SOURCE_LIMIT`. A failed read and a
 /// byte too many are both `InputFault::Read`; the reader's count of failures tells them apart.
-/// Where no read can fail, `Read` tells a byte too many.
+/// Where no read can fail, `Read` means a byte too many.
 pub fn read_all<R: ByteIn>(alloc: Global, reader: &mut R) -> Result<Vec<u8>, InputFault>
     requires { (R.seen reader.old).failures < 2 ^ 64 - 1 }
     ensures ok { IfOk result

@@ -12,7 +12,7 @@ ghost use Rattle.pysource.specs.Taking.{fails};
 
 use crate::bytes::ByteIn;
 use crate::encodings::Encoding;
-use crate::line_reader::{Line, LineReader, StreamFault};
+use crate::line_reader::{LineRead, LineReader, StreamFault};
 use std::alloc::{AllocError, Global};
 
 /// Reads the lines of a source from a reader of its own.
@@ -21,15 +21,15 @@ pub struct Chunks<R: ByteIn> {
     reader: R,
     told: u64,
     lines: LineReader,
-    // The reader can be read on where reading isn't over.
+    // The reader can be read further where reading isn't over.
     ghost possible: { told < 2 ^ 64 - 1 },
-    // Besides the failures that it told when it was taken, at most one was counted.
+    // Besides the failures that it reported when it was taken, at most one was counted.
     ghost counted: { (R.seen reader).failures ≡ told + fails lines.reach },
 }
 
 impl<R: ByteIn> Chunks<R> {
     /// Opens the lines of a source, as [`LineReader::new`] does. A refusal drops the reader. Where
-    /// no read can fail, `Read` tells that the source has more bytes than `SOURCE_LIMIT`.
+    /// no read can fail, `Read` means that the source has more bytes than `SOURCE_LIMIT`.
     pub fn new(alloc: Global, mut reader: R) -> Result<Chunks<R>, StreamFault>
     where
         R: Drop,
@@ -62,8 +62,8 @@ impl<R: ByteIn> Chunks<R> {
     }
 
     /// Appends the next line, as [`LineReader::next_line`] does.
-    pub fn next_line(&mut self, chunk: &mut String) -> Result<Line, AllocError>
-        ensures moves { NextLine (R.seen self.old.reader) (R.seen self.new.reader)
+    pub fn next_line(&mut self, chunk: &mut String) -> Result<LineRead, AllocError>
+        ensures reads { NextLine (R.seen self.old.reader) (R.seen self.new.reader)
             self.old.lines self.new.lines
             (string_bytes chunk.old) (string_bytes chunk.new) result }
         ensures within { self.new.lines.count ≤ source_limit }

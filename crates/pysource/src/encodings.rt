@@ -56,7 +56,7 @@ pub enum SourceFault {
     /// The cookie of this row (column 0) names ASCII, though a byte order mark stands in front.
     #[error("byte order mark with another encoding")]
     BomConflict(Place),
-    /// There was no memory for the text.
+    /// Memory for the text ran out.
     #[error("out of memory")]
     Memory,
 }
@@ -158,7 +158,7 @@ fn declared_first(bytes: &[u8]) -> &[u8]
     &bytes[..0]
 }
 
-/// The cookie of a line: its first non-blank is a `#`, and the cookie stands behind that. Nothing
+/// The cookie of a line: its first non-blank is a `#`, and the cookie stands after that. Nothing
 /// where the line has none.
 pub(crate) fn cookie_of(line: &[u8]) -> &[u8]
     ensures { result.now ≡ cookie_of line.now }
@@ -209,7 +209,7 @@ pub(crate) fn has_mark(bytes: &[u8]) -> bool
     bytes.starts_with(&[0xEF, 0xBB, 0xBF])
 }
 
-/// The bytes behind the byte order mark, where one stands in front.
+/// The bytes after the byte order mark, where one stands in front.
 pub fn without_mark(bytes: &[u8]) -> &[u8]
     ensures { result.now ≡ without_mark bytes.now }
 {
@@ -254,7 +254,7 @@ fn named_by(marked: bool, row: usize, cookie: &[u8]) -> Result<Encoding, SourceF
 /// comment alone, without a cookie.
 ///
 /// `UnsupportedEncoding` is answered for a cookie of another encoding, and `BomConflict` for one
-/// of ASCII behind a byte order mark, both at the cookie's row and column 0. It takes no memory, so
+/// of ASCII after a byte order mark, both at the cookie's row and column 0. It takes no memory, so
 /// it never answers `Memory`. Python language reference, 2.1.4.
 pub fn encoding_of(first: &[u8], second: &[u8]) -> Result<Encoding, SourceFault>
     ensures { result ≡ encoding_of first.now second.now }

@@ -7,7 +7,7 @@ use crate::places::Place;
 /// What is wrong with a byte of a line.
 #[derive(Debug, Clone, Copy, PartialEq, Eq, Drop)]
 pub enum LineError {
-    /// The byte behind the longest front of the line that is UTF-8.
+    /// The byte after the longest front of the line that is UTF-8.
     NotUtf8,
     /// A byte above 7F in a source of ASCII.
     NotAscii,

@@ -5,7 +5,7 @@
 //! lines declare, and gives the text of the lines before the first faulty one, and that line's
 //! fault. [`LineReader`] gives the same line by line, from a reader that is lent to each call, and
 //! [`Chunks`] from a reader of its own; there a failed read is the fault of the line that it cut
-//! off. [`place_of`] tells the row and column of an offset of a text. [`repr_text`],
+//! off. [`place_of`] gives the row and column of an offset of a text. [`repr_text`],
 //! [`push_repr`], [`push_repr_points`], [`repr_bytes`] and [`push_repr_bytes`] write what Python's
 //! `repr` writes. [`ByteIn`] and [`ByteOut`] are readers and writers of bytes that count their
 //! failures, with [`read_all`] and [`write_all`] over them.
@@ -30,7 +30,7 @@ pub use bytes::{
 pub use chunks::Chunks;
 pub use encodings::{Charset, Encoding, SourceFault, encoding_of};
 pub use faults::{LineError, LineFault};
-pub use line_reader::{Line, LineReader, Reach, StreamFault};
+pub use line_reader::{LineRead, LineReader, Reach, StreamFault};
 pub use places::{Place, place_of};
 pub use reprs::{
     is_plain_text, push_repr, push_repr_bytes, push_repr_points, repr_bytes, repr_text,

@@ -2,14 +2,14 @@
 //!
 //! Python language reference, 2.1.2 "Physical lines" and 2.1.4 "Encoding declarations".
 //!
-//! Only the bytes of the line that is due are held, and at most 8,192 behind it.
+//! Only the bytes of the line that is due are held, and at most 8,192 after it.
 
 ghost use Rattle.std.specs.Prelude.{◌≡◌, ℕ, ◌+◌, ◌-◌, ◌^◌, ◌<◌, ◌≤◌, List, [], Option, length};
 ghost use Rattle.std.specs.Prelude.{IfOk};
 ghost use Rattle.std.specs.String.{string_bytes};
 ghost use Rattle.pysource.specs.Limits.{source_limit};
 ghost use Rattle.pysource.specs.Streams.{NextLine, Open, of_source, searches_second, PushesLine};
-ghost use Rattle.pysource.specs.Taking.{Takes, Grows, FoundHead, FoundDue};
+ghost use Rattle.pysource.specs.Taking.{ReadsBytes, Grows, FoundHead, FoundDue};
 ghost use Rattle.pysource.specs.Inner.Heads.{FoundHeads};
 
 use crate::buffers::Intake;
@@ -26,7 +26,7 @@ use thiserror::Error;
 
 /// What a call for the next line met.
 #[derive(Clone, Copy, Debug, PartialEq, Eq, Drop)]
-pub enum Line {
+pub enum LineRead {
     /// A line, which was appended whole: its line end too, which only the last line may lack.
     Text,
     /// The end of the source. Nothing was appended.
@@ -51,7 +51,7 @@ pub enum StreamFault {
     /// more bytes than `SOURCE_LIMIT`.
     #[error("read failed")]
     Read,
-    /// There was no memory for the bytes.
+    /// Memory for the bytes ran out.
     #[error("out of memory")]
     Memory,
 }
@@ -110,7 +110,7 @@ impl Model for LineReader {
         × (s.intake.count ≤ source_limit) };
 }
 
-/// Whether the second line is searched for a cookie behind this first one.
+/// Whether the second line is searched for a cookie after this first one.
 fn searches_second(first: &[u8]) -> bool
     ensures { result ≡ searches_second first.now }
 {
@@ -118,7 +118,7 @@ fn searches_second(first: &[u8]) -> bool
     cookie_of(line).is_empty() && leads_on(line)
 }
 
-/// Appends a line, or tells its fault.
+/// Appends a line, or answers its fault.
 fn push_line(
     charset: Charset,
     row: usize,
@@ -176,7 +176,7 @@ fn read_head<R: ByteIn>(intake: &mut Intake, reader: &mut R) -> Result<(usize, u
     requires buffer { intake.old.buffer ≡ [] }
     requires reach { intake.old.reach ≡ Reach.Reading }
     requires count { intake.old.count ≡ 0 }
-    ensures takes { Takes (R.seen reader.old) (R.seen reader.new)
+    ensures takes { ReadsBytes (R.seen reader.old) (R.seen reader.new)
         Reach.Reading intake.new.reach 0 intake.new.count intake.new.buffer }
     ensures within { intake.new.count ≤ source_limit }
     ensures found { FoundHeads intake.new result }
@@ -256,33 +256,33 @@ impl LineReader {
     }
 
     /// Appends the next line, with its line end, to `chunk`, and answers `Text`; or answers `End`
-    /// behind the last, `Fault` where the line is faulty, and `Read` where it could not be read
+    /// after the last, `Fault` where the line is faulty, and `Read` where it could not be read
     /// whole, at each further call too.
     ///
-    /// At most 8,192 bytes behind a line are taken, or what was left of those taken before.
+    /// At most 8,192 bytes after a line are taken, or what was left of those taken before.
     ///
     /// # Errors
     ///
-    /// Where memory ran out nothing is appended, and the line is still due. Memory is taken only for
-    /// a line that may still come: behind the end, a faulty line or a failed read the call cannot
+    /// If memory runs out, nothing is appended, and the line is still due. Memory is taken only for
+    /// a line that may still come: after the end, a faulty line or a failed read the call cannot
     /// fail.
     pub fn next_line<R: ByteIn>(
         &mut self,
         reader: &mut R,
         chunk: &mut String,
-    ) -> Result<Line, AllocError>
+    ) -> Result<LineRead, AllocError>
         requires { self.old.reach ≡ Reach.Reading → (R.seen reader.old).failures < 2 ^ 64 - 1 }
-        ensures moves { NextLine (R.seen reader.old) (R.seen reader.new) self.old self.new
+        ensures reads { NextLine (R.seen reader.old) (R.seen reader.new) self.old self.new
             (string_bytes chunk.old) (string_bytes chunk.new) result }
         ensures within { self.new.count ≤ source_limit }
         ensures pending { length self.new.pending ≤ self.new.count }
     {
         if let Some(fault) = self.fault {
-            return Ok(Line::Fault(fault));
+            return Ok(LineRead::Fault(fault));
         }
         let len = match due_line(&mut self.intake, reader)? {
-            None => return Ok(Line::Read),
-            Some(0) => return Ok(Line::End),
+            None => return Ok(LineRead::Read),
+            Some(0) => return Ok(LineRead::End),
             Some(len) => len,
         };
         let line = &self.intake.buffer.bytes()[..len];
@@ -290,11 +290,11 @@ impl LineReader {
             None => {
                 self.intake.buffer.skip(len);
                 self.row += 1;
-                Ok(Line::Text)
+                Ok(LineRead::Text)
             }
             Some(fault) => {
                 self.fault = Some(fault);
-                Ok(Line::Fault(fault))
+                Ok(LineRead::Fault(fault))
             }
         }
     }

@@ -15,7 +15,7 @@ pub struct Place {
     pub column: usize,
 }
 
-/// What stands behind the last line feed: the whole text where there is none.
+/// What stands after the last line feed: the whole text where there is none.
 pub fn last_line(text: &str) -> &str
     ensures { result.now ≡ after_last is_lf text.now }
 {

@@ -208,7 +208,7 @@ fn cut_line(bytes: &[u8]) -> (&[u8], &[u8])
 ///
 /// It answers `UnsupportedEncoding` and `BomConflict` as [`encoding_of`] does for the first two
 /// lines, whatever the lines hold otherwise, and `Memory` where there is none for the text. A
-/// faulty line is no error: the source tells it.
+/// faulty line is no error: the source holds its fault.
 ///
 /// Where no read fails the source of a stream, as [`LineReader`](crate::LineReader) gives it, is
 /// that of its bytes.

@@ -1,7 +1,7 @@
 //! What the tests compare. Each comparison is a function, so that its words on failure stand, and
 //! are proved, once.
 
-use pysource::Line;
+use pysource::LineRead;
 use std::process::Abort;
 
 /// Asserts that a text is the expected one, in the row of `at`.
@@ -30,6 +30,6 @@ pub(crate) fn same_answer(rt: &impl Abort, told: bool, expected: bool, at: &str)
 }
 
 /// Asserts that the answer of a reader of lines is the expected one.
-pub(crate) fn same_line(rt: &impl Abort, told: &Line, expected: &Line) {
+pub(crate) fn same_line(rt: &impl Abort, told: &LineRead, expected: &LineRead) {
     assert_eq!(rt; told, expected);
 }

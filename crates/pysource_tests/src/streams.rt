@@ -2,23 +2,23 @@
 
 use crate::expected::{same_count, same_line, same_number, same_text};
 use fakes::FakeReader;
-use pysource::{ByteIn, Chunks, Counted, Line, LineError, LineReader, StreamFault};
+use pysource::{ByteIn, Chunks, Counted, LineError, LineRead, LineReader, StreamFault};
 use std::alloc::Global;
 use std::process::Abort;
 use std::test::Fail;
 
 /// What an answer is called.
-fn name(line: &Line) -> &'static str {
+fn name(line: &LineRead) -> &'static str {
     match line {
-        Line::Text => "text",
-        Line::End => "end",
-        Line::Fault(fault) => match fault.code {
+        LineRead::Text => "text",
+        LineRead::End => "end",
+        LineRead::Fault(fault) => match fault.code {
             LineError::NotUtf8 => "not UTF-8",
             LineError::NotAscii => "not ASCII",
             LineError::LoneReturn => "lone return",
             LineError::Unread => "unread",
         },
-        Line::Read => "read",
+        LineRead::Read => "read",
     }
 }
 
@@ -32,10 +32,10 @@ fn refusal(fault: &StreamFault) -> &'static str {
 }
 
 /// Appends what an answer is called, and where a fault stands.
-fn push_answer(alloc: Global, told: &mut String, line: Line) -> Result<(), Fail> {
+fn push_answer(alloc: Global, told: &mut String, line: LineRead) -> Result<(), Fail> {
     told.push_str(" | ")?;
     told.push_str(name(&line))?;
-    if let Line::Fault(fault) = line {
+    if let LineRead::Fault(fault) = line {
         let place = format!(in alloc; " {} {}", fault.place.row, fault.place.column)?;
         told.push_str(place.as_str())?;
     }
@@ -154,7 +154,7 @@ fn gives_text(
 ) -> Result<(), Fail> {
     let mut chunk = String::new(alloc);
     let line = lines.next_line(&mut chunk)?;
-    same_line(rt, &line, &Line::Text);
+    same_line(rt, &line, &LineRead::Text);
     same_number(rt, chunk.len(), expected, b"a line");
     Ok(())
 }
@@ -173,7 +173,7 @@ fn reads_lines(
     }
     let mut chunk = String::new(alloc);
     let line = lines.next_line(&mut chunk)?;
-    same_line(rt, &line, &Line::End);
+    same_line(rt, &line, &LineRead::End);
     same_count(rt, lines.reader().failures(), 0);
     Ok(())
 }
@@ -192,7 +192,7 @@ fn answers(
     rt: &impl Abort,
     lines: &mut Chunks<FakeReader<'_>>,
     chunk: &mut String,
-    expected: &Line,
+    expected: &LineRead,
 ) -> Result<(), Fail> {
     let line = lines.next_line(chunk)?;
     same_line(rt, &line, expected);
@@ -203,9 +203,9 @@ fn answers(
 fn counts_failures(rt: HostRuntime) -> Result<(), Fail> {
     let mut lines = Chunks::new(rt.alloc(), FakeReader::new(b"a\nb", 1, true))?;
     let mut chunk = String::new(rt.alloc());
-    answers(&rt, &mut lines, &mut chunk, &Line::Text)?;
-    answers(&rt, &mut lines, &mut chunk, &Line::Read)?;
-    answers(&rt, &mut lines, &mut chunk, &Line::Read)?;
+    answers(&rt, &mut lines, &mut chunk, &LineRead::Text)?;
+    answers(&rt, &mut lines, &mut chunk, &LineRead::Read)?;
+    answers(&rt, &mut lines, &mut chunk, &LineRead::Read)?;
     same_text(&rt, chunk.as_str(), "a\n", b"a\nb");
     same_count(&rt, lines.reader().failures(), 1);
     Ok(())
@@ -218,7 +218,7 @@ fn counts_rows(rt: HostRuntime) -> Result<(), Fail> {
     let mut chunk = String::new(rt.alloc());
     same_number(&rt, lines.row(), 1, b"before a line");
     let line = lines.next_line(&mut reader, &mut chunk)?;
-    same_line(&rt, &line, &Line::Text);
+    same_line(&rt, &line, &LineRead::Text);
     same_number(&rt, lines.row(), 2, b"behind a line");
     Ok(())
 }

@@ -17,9 +17,10 @@ use Rattle.pytoken.specs.declared.meanings.Meaning.TheVariants.{Point, Wrong}
 use Rattle.pytoken.specs.Escapes.{Reading, Escape, escapes, escape_point, digits_at_front, octal, hexadecimal, escaped_by, reading, meanings_after}
 use Rattle.pytoken.specs.Escapes.{meanings, points_in, is_named_escape, is_bad_escape, escape_fault}
 use Rattle.pytoken.specs.StringValues.{with_line_feeds, is_raw, is_bytes, is_formatted, is_unicode, body_of, points_of, value_of, string_value}
-use Rattle.pytoken.specs.StringValues.{nul_fault, or_else, literal_fault, string_fault}
+use Rattle.pytoken.specs.StringValues.{nul_fault, literal_fault, string_fault}
 use Rattle.pytoken.proofs.Callers.Bodies.{body_all}
 use Rattle.pytoken.specs.Laws.{is_byte, BytesAreSmall}
+use Rattle.std.specs.Option.{option_or}
 
 abbrev is_low : ℕ → Bool
 is_low c = not (nat_lt 0x7F c)
@@ -169,7 +170,7 @@ no_bad ms sound = elim (cases_Bool (list_any is_named_escape ms)) [
   ]
 ]
 
-neither : (a b : Option TokenError) → or_else a b ≡ None → (a ≡ None) × (b ≡ None)
+neither : (a b : Option TokenError) → option_or a b ≡ None → (a ≡ None) × (b ≡ None)
 neither None b e = (refl, e)
 neither (Some x) b e = cc
 
@@ -183,7 +184,7 @@ faultless t bytes sound = elim (cases_Bool (is_formatted t)) [
   | inl formatted ↦ absurd (let some : Some errors.FString ≡ None = rw formatted at sound in cc)
   | inr plain ↦
       let ms = meanings (is_raw t) true (body_of t) in
-      let rest : or_else (escape_fault ms) (if list_any (nat_lt 0x7F) t then Some errors.NonAsciiBytes else nul_fault t) ≡ None = rw (
+      let rest : option_or (escape_fault ms) (if list_any (nat_lt 0x7F) t then Some errors.NonAsciiBytes else nul_fault t) ≡ None = rw (
         plain,
         bytes,
       ) at sound in

@@ -41,8 +41,9 @@ use Rattle.pytoken.specs.declared.refusals.Refusal.TheVariants as refusals
 use Rattle.pytoken.specs.Terminals.{fault_of, is_of, IsSound}
 use Rattle.pytoken.specs.Tokens.{Token, text_of, supplied, is_open, tokens_of_entry, tokens_from, tokens}
 use Rattle.pytoken.specs.Indentation.{margins}
-use Rattle.pytoken.specs.Refusals.{most_brackets, or_refusal, entry_refusal, first_entry_refusal, first_too_deep, first_mixed, refusal_of, refusal_at}
+use Rattle.pytoken.specs.Refusals.{most_brackets, entry_refusal, first_entry_refusal, first_too_deep, first_mixed, refusal_of, refusal_at}
 use Rattle.pytoken.specs.Laws.{TokensAreSound}
+use Rattle.std.specs.Option.{option_or}
 
 -- the text of a lexeme is what stands between its offsets
 
@@ -300,7 +301,7 @@ entries_are text (steps.Fault f ∷ ss) h = entries_are text ss h.1
 
 -- where nothing is refused, no entry has a fault
 
-none_parts : (a b : Option Refusal) → or_refusal a b ≡ None → (a ≡ None) × (b ≡ None)
+none_parts : (a b : Option Refusal) → option_or a b ≡ None → (a ≡ None) × (b ≡ None)
 none_parts (Some r) b h = absurd cc
 none_parts None b h = (refl, h)
 
@@ -377,6 +378,6 @@ unfolding tokens refusal_at
 tokens_are_sound s lawful good none =
     let es = entries_of (listing s) in
     let whole = not_refused (listing_fault (listing s)) (refusal_of most_brackets s.text es) none in
-    let later = or_refusal (first_too_deep most_brackets [] es) (first_mixed [] (margins s.text es)) in
+    let later = option_or (first_too_deep most_brackets [] es) (first_mixed [] (margins s.text es)) in
     let parts = none_parts (first_entry_refusal s.text es) later whole in
     tokens_are s.text [] es (entries_are s.text (listing s) (listing_are s good lawful)) parts.0

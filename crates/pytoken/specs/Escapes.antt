@@ -18,7 +18,7 @@ pub record Reading : Type 0 where
 abbrev pub reads : Meaning → ℕ → Reading
 reads m n = record { meaning = m; more = n }
 
--- an escape of one character behind the backslash, and the point that it stands for
+-- an escape of one character after the backslash, and the point that it stands for
 pub record Escape : Type 0 where
   pub letter : ℕ
   pub point : ℕ
@@ -57,7 +57,7 @@ abbrev pub hexadecimal : ℕ → List ℕ → Reading
 hexadecimal n ds =
     reads (if (length ds == n) && nat_le (digits_value 16 ds) 0x10_FFFF then Point (digits_value 16 ds) else Wrong BadEscape) (1 + length ds)
 
--- how many hexadecimal digits a letter behind a backslash asks for: x, and in texts u and U
+-- how many hexadecimal digits a letter after a backslash asks for: x, and in texts u and U
 abbrev pub hexadecimal_len : Bool → ℕ → ℕ
 hexadecimal_len bytes c = if c == 120 then 2 else (if bytes then 0 else (if c == 117 then 4 else (if c == 85 then 8 else 0)))
 
@@ -66,7 +66,7 @@ abbrev pub names_character : Bool → ℕ → Bool
 names_character bytes c = not bytes && (c == 78)
 
 -- stringescapeseq ::= "\" <any source character>; bytesescapeseq ::= "\" <any ASCII character>
--- A backslash, by what stands behind it. With a line end it is nothing; where no escape stands, it stands for itself.
+-- A backslash, by what stands after it. With a line end it is nothing; where no escape stands, it stands for itself.
 unfoldable pub escaped_by : Bool → List ℕ → Reading
 escaped_by bytes [] = reads (Point backslash) 0
 escaped_by bytes (c ∷ cs) =
@@ -76,7 +76,7 @@ escaped_by bytes (c ∷ cs) =
     else (if names_character bytes c then reads (Wrong NamedEscape) 1
     else elim (escape_point c) [ Some p ↦ reads (Point p) 1 | None ↦ reads (Point backslash) 0 ])))
 
--- A character, by what stands behind it: it stands for itself, but for a backslash of a literal that isn't raw.
+-- A character, by what stands after it: it stands for itself, but for a backslash of a literal that isn't raw.
 abbrev pub reading : Bool → Bool → ℕ → List ℕ → Reading
 reading raw bytes c cs = if not raw && (c == backslash) then escaped_by bytes cs else reads (Point c) 0
 

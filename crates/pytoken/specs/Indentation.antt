@@ -17,7 +17,7 @@ pub record Margin : Type 0 where
   pub widths : Widths
   pub start : Place
 
--- the text behind an offset
+-- the text after an offset
 abbrev pub behind_offset : List ℕ → ℕ → List ℕ
 behind_offset text o = chars (drop o (encode_utf8_all text))
 
@@ -32,7 +32,7 @@ margin_at text o =
 abbrev pub ends_line : List Entry → Entry → Bool
 ends_line before e = elim e.kind [ kinds.Newline ↦ open_brackets before == 0 | kinds.Nl ↦ open_brackets before == 0 | _ ↦ false ]
 
--- the margins of the logical lines that begin behind some entries; those before them stand last first
+-- the margins of the logical lines that begin after some entries; those before them stand last first
 abbrev pub margins_from : List ℕ → List Entry → List Entry → List Margin
 margins_from text before [] = []
 margins_from text before (e ∷ es) = (if ends_line before e then margin_at text e.to else []) ++ margins_from text (e ∷ before) es
@@ -41,13 +41,13 @@ margins_from text before (e ∷ es) = (if ends_line before e then margin_at text
 abbrev pub margins : List ℕ → List Entry → List Margin
 margins text es = margin_at text 0 ++ margins_from text [] es
 
-abbrev agree : Bool → Bool → Bool
-agree true b = b
-agree false b = not b
+abbrev pub same_bool : Bool → Bool → Bool
+same_bool true b = b
+same_bool false b = not b
 
 -- two lines are in the same order, less, equal or greater, whichever way tabs count
 abbrev pub are_alike : Widths → Widths → Bool
-are_alike v w = agree (nat_lt v.eight w.eight) (nat_lt v.one w.one) && agree (nat_lt w.eight v.eight) (nat_lt w.one v.one)
+are_alike v w = same_bool (nat_lt v.eight w.eight) (nat_lt v.one w.one) && same_bool (nat_lt w.eight v.eight) (nat_lt w.one v.one)
 
 -- An earlier line stands in another order than this one, and no line from it on has a smaller width. The earlier ones stand last first, and
 -- those between in any order.
@@ -56,6 +56,6 @@ is_mixed_past between [] m = false
 is_mixed_past between (v ∷ earlier) m =
     (list_all (λ u. nat_le v.widths.eight u.widths.eight) between && not (are_alike v.widths m.widths)) || is_mixed_past (v ∷ between) earlier m
 
--- the indentation of a line behind others, which stand last first, depends on how wide a tab is
+-- the indentation of a line after others, which stand last first, depends on how wide a tab is
 abbrev pub is_mixed : List Margin → Margin → Bool
 is_mixed earlier m = is_mixed_past [] earlier m

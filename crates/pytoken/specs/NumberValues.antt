@@ -22,7 +22,7 @@ radix_of (a ∷ b ∷ t) = if is_x b then 16 else (if is_o b then 8 else (if is_
 abbrev pub is_no_underscore : ℕ → Bool
 is_no_underscore c = not (c == low_line)
 
--- its digits: what stands behind `0x`, `0o` or `0b`, or else all of it, without the underscores
+-- its digits: what stands after `0x`, `0o` or `0b`, or else all of it, without the underscores
 abbrev pub digits_in : List ℕ → List ℕ
 digits_in t = filter is_no_underscore (if radix_of t == 10 then t else drop 2 t)
 

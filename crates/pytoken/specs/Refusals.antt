@@ -10,18 +10,15 @@ use Rattle.pytoken.specs.Brackets.{opens, closes}
 use Rattle.pytoken.specs.Indentation.{Margin, margins, is_mixed}
 use Rattle.pytoken.specs.Tokens.{text_of}
 use Rattle.pytoken.specs.Terminals.{fault_of}
+use Rattle.std.specs.Option.{option_or}
 
 -- the most brackets that may be open at once
 abbrev pub most_brackets : ℕ
 most_brackets = 600
 
--- an entry opens one bracket more than may be open, behind those before it
+-- an entry opens one bracket more than may be open, after those before it
 abbrev pub opens_too_many : ℕ → List Entry → Entry → Bool
 opens_too_many most before e = opens e && nat_lt most (count_by opens before + 1 - count_by closes before)
-
-abbrev pub or_refusal : Option Refusal → Option Refusal → Option Refusal
-or_refusal (Some r) other = Some r
-or_refusal None other = other
 
 -- the fault of an entry by itself
 abbrev pub entry_refusal : List ℕ → Entry → Option Refusal
@@ -30,7 +27,7 @@ entry_refusal text e = elim (fault_of e.kind (text_of text e)) [ Some x ↦ Some
 -- the first entry that has one
 abbrev pub first_entry_refusal : List ℕ → List Entry → Option Refusal
 first_entry_refusal text [] = None
-first_entry_refusal text (e ∷ es) = or_refusal (entry_refusal text e) (first_entry_refusal text es)
+first_entry_refusal text (e ∷ es) = option_or (entry_refusal text e) (first_entry_refusal text es)
 
 -- an entry that opens too many brackets
 abbrev pub bracket_refusal : ℕ → List Entry → Entry → Option Refusal
@@ -39,7 +36,7 @@ bracket_refusal most before e = if opens_too_many most before e then Some (refus
 -- the first such entry; the entries before stand last first
 abbrev pub first_too_deep : ℕ → List Entry → List Entry → Option Refusal
 first_too_deep most before [] = None
-first_too_deep most before (e ∷ es) = or_refusal (bracket_refusal most before e) (first_too_deep most (e ∷ before) es)
+first_too_deep most before (e ∷ es) = option_or (bracket_refusal most before e) (first_too_deep most (e ∷ before) es)
 
 -- the first logical line whose indentation depends on how wide a tab is; the lines before stand last first
 abbrev pub margin_refusal : List Margin → Margin → Option Refusal
@@ -47,12 +44,12 @@ margin_refusal earlier m = if is_mixed earlier m then Some (refusals.MixedTabs m
 
 abbrev pub first_mixed : List Margin → List Margin → Option Refusal
 first_mixed earlier [] = None
-first_mixed earlier (m ∷ ms) = or_refusal (margin_refusal earlier m) (first_mixed (m ∷ earlier) ms)
+first_mixed earlier (m ∷ ms) = option_or (margin_refusal earlier m) (first_mixed (m ∷ earlier) ms)
 
 -- The refusal of a source whose listing comes to its end: by the first entry with a fault of its own; else by the first bracket too many;
 -- else by the first line of mixed tabs and spaces.
 abbrev pub refusal_of : ℕ → List ℕ → List Entry → Option Refusal
-refusal_of most text es = or_refusal (first_entry_refusal text es) (or_refusal (first_too_deep most [] es) (first_mixed [] (margins text es)))
+refusal_of most text es = option_or (first_entry_refusal text es) (option_or (first_too_deep most [] es) (first_mixed [] (margins text es)))
 
 -- the listing's fault, or else one of these
 unfoldable pub refusal_at : ℕ → Source → Option Refusal

@@ -8,6 +8,7 @@ use Rattle.pytoken.specs.declared.faults.TokenError.{TokenError}
 use Rattle.pytoken.specs.declared.faults.TokenError.TheVariants.{FString, NonAsciiBytes, Nul}
 use Rattle.pytoken.specs.Escapes.{meanings, points_in, escape_fault}
 use Rattle.pylex_lexeme.specs.Characters.{carriage_return, double_quote, single_quote}
+use Rattle.std.specs.Option.{option_or}
 
 -- A CR LF counts as one LF. A source has a CR only in front of an LF, so a literal is read without its CRs.
 abbrev pub with_line_feeds : List ℕ → List ℕ
@@ -75,17 +76,13 @@ string_value t = value_of (with_line_feeds t)
 unfoldable pub nul_fault : List ℕ → Option TokenError
 nul_fault t = if list_any (λ c. c == 0) t then Some Nul else None
 
-abbrev pub or_else : Option TokenError → Option TokenError → Option TokenError
-or_else (Some e) other = Some e
-or_else None other = other
-
 -- shortbyteschar ::= <any ASCII character except "\" or newline or the quote>
 -- longbyteschar  ::= <any ASCII character except "\">
 -- The fault of a literal without CRs: it is an f-string, or its escapes have one, or bytes have a character above 7F, or U+0000 stands in it
 unfoldable pub literal_fault : List ℕ → Option TokenError
 literal_fault t =
     if is_formatted t then Some FString
-    else or_else (escape_fault (meanings (is_raw t) (is_bytes t) (body_of t)))
+    else option_or (escape_fault (meanings (is_raw t) (is_bytes t) (body_of t)))
     (if is_bytes t && list_any (nat_lt 0x7F) t then Some NonAsciiBytes else nul_fault t)
 
 -- the fault of a literal

@@ -1,4 +1,4 @@
--- What a terminal of the code is to the grammar, and what is told of a token that is none.
+-- What a terminal of the code is to the grammar, and what is reported of a token that is none.
 use Rattle.std.specs.Prelude.{◌≡◌, ℕ, List, Option, Some, None}
 use Rattle.std.specs.Str.{chars}
 use Rattle.unicode_normalization.specs.Forms.{nfkc}

@@ -41,7 +41,7 @@ is_open (e ∷ before) = elim e.kind [
 ]
 
 -- The tokens of an entry. ENCODING, COMMENT and NL give none, nor does a NEWLINE that closes no token.
--- Where a DEDENT or ENDMARKER comes upon an open line, the line's NEWLINE is missing and is supplied.
+-- Where a DEDENT or ENDMARKER meets an open line, the line's NEWLINE is missing and is supplied.
 abbrev pub tokens_of_entry : List ℕ → Bool → Entry → List Token
 tokens_of_entry text begun e = elim e.kind [
   | kinds.Encoding ↦ []
@@ -72,11 +72,11 @@ is kinds.Indent t = elim t.kind [ kinds.Indent ↦ true | _ ↦ false ]
 is kinds.Dedent t = elim t.kind [ kinds.Dedent ↦ true | _ ↦ false ]
 is _ t = false
 
--- the levels that are open behind some tokens: INDENTs less DEDENTs
+-- the levels that are open after some tokens: INDENTs less DEDENTs
 abbrev pub level_behind : List Token → ℕ
 level_behind before = count_by (is kinds.Indent) before - count_by (is kinds.Dedent) before
 
--- the lines from a place on: the tokens before it, those of its line so far, and those behind it
+-- the lines from a place on: the tokens before it, those of its line so far, and those after it
 abbrev pub lines_from : List Token → List Token → List Token → List Line
 lines_from before line [] = []
 lines_from before line (t ∷ ts) = elim t.kind [

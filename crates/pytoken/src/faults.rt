@@ -1,7 +1,7 @@
 //! What may be wrong with a token by itself.
 
 /// What may be wrong with a token by itself. Where a token has several faults, the first of these
-/// is told.
+/// is reported.
 #[derive(Clone, Copy, Debug, PartialEq, Eq)]
 pub enum TokenError {
     /// A floating point number.

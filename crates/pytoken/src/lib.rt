@@ -1,10 +1,10 @@
 //! What the tokens of a Python source are to its grammar, and what they say.
 //!
-//! [`number_value`], [`string_value`], [`name_value`] and [`identifier_value`] tell what the text
+//! [`number_value`], [`string_value`], [`name_value`] and [`identifier_value`] give what the text
 //! of a number, a string or a name stands for, [`string_fault`] and [`name_fault`] what is wrong
 //! with it by itself, and [`token_fault`] what is wrong with a token or a comment by its type.
-//! [`terminal_of`] tells what a token is to the grammar ([`Terminal`]); a string is a
-//! [`LiteralText`] there, whose value is made where it is asked for. [`is_identifier`] tells which
+//! [`terminal_of`] gives what a token is to the grammar ([`Terminal`]); a string is a
+//! [`LiteralText`] there, whose value is made when it is asked for. [`is_identifier`] says which
 //! texts are names. The tokens of a whole source are read by `pyparse`.
 //!
 //! Python language reference, 2.3 "Identifiers and keywords" and 2.4 "Literals".

@@ -29,14 +29,14 @@ pub fn is_identifier(text: &str) -> bool
     is_spelled(first, left.as_str())
 }
 
-/// Whether a character and the text behind it are an identifier.
+/// Whether a character and the text after it are an identifier.
 fn is_spelled(first: char, behind: &str) -> bool
     ensures { result ≡ (starts_name first && list_all is_xid_continue (chars behind.now)) }
 {
     starts_name(first) && goes_on(behind)
 }
 
-/// Whether an identifier may go on with each character of a text.
+/// Whether an identifier may continue with each character of a text.
 fn goes_on(text: &str) -> bool
     ensures { result ≡ list_all is_xid_continue (chars text.now) }
 {

@@ -4,8 +4,8 @@ use crate::faults::TokenError;
 use pylex::ListingFault;
 use pysource::Place;
 
-/// Why a source has no tokens. Where there are several reasons, the first of these kinds is told,
-/// and of its kind the first in the source.
+/// Why a source has no tokens. Where there are several reasons, the first of these kinds is
+/// reported, and of its kind the first in the source.
 #[derive(Clone, Copy, Debug, PartialEq, Eq)]
 pub enum Refusal {
     /// The fault that ends its listing.

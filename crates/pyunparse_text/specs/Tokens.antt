@@ -1,8 +1,8 @@
 -- What lines of pieces are as tokens, and when they are these: each line's brackets are closed within it, and no line stands more than a level deeper
 -- than the one before.
-use Rattle.std.specs.Prelude.{◌≡◌, ℕ, ◌+◌, ◌-◌, ◌*◌, nat_le, nat_lt, Bool, true, not, ◌&&◌, ◌==◌, List, [], ◌∷◌, ◌++◌, map, replicate, if◌then◌else◌, slice_range, false, Option, Some, None}
+use Rattle.std.specs.Prelude.{◌≡◌, ℕ, ◌+◌, ◌-◌, ◌*◌, nat_le, nat_lt, Bool, true, not, ◌&&◌, ◌==◌, List, [], ◌∷◌, ◌++◌, map, replicate, if◌then◌else◌, false, Option, Some, None}
 use Rattle.std.specs.List.{list_all}
-use Rattle.std.specs.Str.{chars, encode_utf8_all, all_scalars}
+use Rattle.std.specs.Str.{all_scalars}
 use Rattle.pylex_lexeme.specs.Characters.{line_feed, space}
 use Rattle.pylex.specs.declared.kind.Kind.{Kind}
 use Rattle.pylex.specs.declared.kind.Kind.TheVariants as kinds
@@ -23,7 +23,7 @@ pub record PlainToken : Type 0 where
 
 -- the token of an entry of a text, by its place in the text's bytes
 abbrev pub token_at : List ℕ → Entry → PlainToken
-token_at text e = record { kind = e.kind; text = chars (slice_range (encode_utf8_all text) e.«from» e.to) }
+token_at text e = record { kind = e.kind; text = source.text_of text e }
 
 -- which operator a token is
 abbrev pub exact_in : PlainToken → Option Exact

@@ -14,8 +14,8 @@ use Rattle.uses.specs.Listings.{is_name}
 -- a move of a lister, by the step that came
 pub moved : (old new : Listed) (step came : Step) (s : Source) (k : ℕ) → NextStep old step new → step ≡ came → StandsIn old s k →
     (slice_get (listing s) k ≡ Some came) × StandsIn new s (k + entries_in came)
-moved old new step came s k moves is stands =
-    let m = moves s k stands in
+moved old new step came s k stepped is stands =
+    let m = stepped s k stands in
     (m.0 ∙ ap Some is, subst (λ (x : Step). StandsIn new s (k + entries_in x)) is m.1)
 
 -- the names that are still to come

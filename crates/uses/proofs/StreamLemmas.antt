@@ -7,10 +7,10 @@ use Rattle.pysource.specs.Bytes.{Seen}
 use Rattle.pysource.specs.Parts.{Parts}
 use Rattle.pysource.specs.Limits.{source_limit}
 use Rattle.pysource.specs.Streams.{FollowsAt, stream_of}
-use Rattle.pysource.specs.Taking.{Takes}
+use Rattle.pysource.specs.Taking.{ReadsBytes}
 use Rattle.pysource.specs.declared.line_reader.Reach.{Reach}
 use Rattle.pysource.specs.declared.line_reader.Reach.TheVariants as reach
-use Rattle.pysource.proofs.Callers.Taken.{Takes-on}
+use Rattle.pysource.proofs.Callers.Taken.{ReadsBytes-on}
 use Rattle.pylex.specs.declared.entries.Entry.{Entry}
 use Rattle.pylex.specs.declared.entries.Step.{Step}
 use Rattle.pylex.specs.declared.entries.Step.TheVariants as steps
@@ -53,7 +53,7 @@ other_is e h = by e.kind h
 -- a lister stands in a source, whatever follows of what was taken, and no comment was given
 pub record Searches (seen_old seen_new : Seen) (v : Streamed) : Type 0 where
   pub taken : List ℕ
-  pub reads : Takes seen_old seen_new reach.Reading v.lines.reach 0 v.lines.count taken
+  pub reads : ReadsBytes seen_old seen_new reach.Reading v.lines.reach 0 v.lines.count taken
   pub stands : (more : List ℕ) (broken : Bool) → Continues v.lines more broken → (p : Parts) × (stream_of broken (taken ++ more) ≡ Ok p) × StreamsIn v p v.shown.given more broken × (first_comment_of p ≡ first_behind p v.shown.given)
 
 given_is : (v : Streamed) (p : Parts) (k : ℕ) (more : List ℕ) (broken : Bool) → StreamsIn v p k more broken → StreamsIn v p v.shown.given more broken
@@ -72,15 +72,15 @@ module _ {seen_old seen_mid seen_new : Seen} {old new : Streamed} {step : Step} 
   abbrev taken : List ℕ
   taken = o.taken ++ s.taken
 
-  reads : Takes seen_old seen_new reach.Reading new.lines.reach 0 new.lines.count taken
-  reads = Takes-on seen_old seen_mid seen_new 0 _ _ reach.Reading old.lines.reach new.lines.reach o.taken s.taken o.reads s.reads
+  reads : ReadsBytes seen_old seen_new reach.Reading new.lines.reach 0 new.lines.count taken
+  reads = ReadsBytes-on seen_old seen_mid seen_new 0 _ _ reach.Reading old.lines.reach new.lines.reach o.taken s.taken o.reads s.reads
 
   -- the step is the next one in the source, and the lister stands behind it
   stepped : (more : List ℕ) (broken : Bool) → Continues new.lines more broken
       → (p : Parts) × (stream_of broken (taken ++ more) ≡ Ok p) × (first_comment_of p ≡ first_behind p old.shown.given) × (slice_get (listing (in_characters p)) old.shown.given ≡ Some step) × StreamsIn new p (old.shown.given + entries_in step) more broken
   stepped more broken f =
       let t = o.stands (s.taken ++ more) broken (s.follows more broken f) in
-      let m = s.moves t.0 old.shown.given more broken f t.2 in
+      let m = s.steps t.0 old.shown.given more broken f t.2 in
       (t.0, ap (λ (bytes : List ℕ). stream_of broken bytes) (append_assoc o.taken s.taken more) ∙ t.1, t.3, m.0, m.1)
 
   -- by one entry

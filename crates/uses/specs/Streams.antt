@@ -4,7 +4,7 @@ use Rattle.std.specs.declared.alloc.Global.{Global}
 use Rattle.pysource.specs.Bytes.{Seen}
 use Rattle.pysource.specs.Parts.{Parts}
 use Rattle.pysource.specs.Streams.{Buffered, stream_of, Refuses}
-use Rattle.pysource.specs.Taking.{Takes}
+use Rattle.pysource.specs.Taking.{ReadsBytes}
 use Rattle.pysource.specs.declared.line_reader.Reach.TheVariants.{Reading}
 use Rattle.pysource.specs.declared.line_reader.StreamFault.{StreamFault}
 use Rattle.pysource.specs.declared.line_reader.StreamFault.TheVariants.{Memory}
@@ -28,7 +28,7 @@ pub record Finds (seen : Seen) (found : Option (String Global)) : Type 0 where
   pub seen_new : Seen
   pub taken : List ℕ
   pub lines : Buffered
-  pub reads : Takes seen seen_new Reading lines.reach 0 lines.count taken
+  pub reads : ReadsBytes seen seen_new Reading lines.reach 0 lines.count taken
   pub is : (more : List ℕ) (broken : Bool) → Continues lines more broken → (p : Parts) × (stream_of broken (taken ++ more) ≡ Ok p) × (first_comment_of p ≡ option_map (λ t. string_bytes t) found)
 
 -- there was no memory, or the reader gives no source

@@ -2,7 +2,7 @@
 -- stays so in Python 3.12.
 --
 -- Carries: answer_stays, one_formed, unread_formed, unread_none and 2 more, for Reasons, SourceLaw,
--- Types. On: Law, Line/Law, Stays, Goes.
+-- Types. On: Law, Line/Law, Stays, Leads.
 use Rattle.std.proofs.Common.{◌≡◌, ℕ, List, ◌∷◌, refl, ap, ◌∙◌, subst, arith}
 use Rattle.pylex.specs.Listing.{Source}
 use Rattle.pytree_node.specs.declared.profiles.Profile.{Profile}
@@ -16,7 +16,7 @@ use Rattle.pygrammar.specs.Blocks.{Block}
 use Rattle.pygrammar.specs.Refusals.{Code, Reason, HasForm, Formed, formed_end, formed_line, Unread, too_high, no_match, no_form, too_long, FirstUnread, unread, unread_behind, Accepted, Refused, by_tokens, by_line, by_block, by_height}
 use Rattle.pygrammar.proofs.Line.Law.{one_form}
 use Rattle.pygrammar.proofs.Line.Stays.{form_stays}
-use Rattle.pygrammar.proofs.Block.Goes.{one_tree}
+use Rattle.pygrammar.proofs.Block.Leads.{one_tree}
 use Rattle.pygrammar.proofs.Block.Law.{tree_faultless, no_first}
 
 pub one_formed : {profile : Profile} {xs : List Tokens.Line} {ys zs : List Line} → Formed profile xs ys → Formed profile xs zs → ys ≡ zs

@@ -1,12 +1,12 @@
 -- What a header and its block make of a group is what the relation makes of them.
 --
--- Carries: ended_of, Prefix, block_to, closed_prefix and 5 more, for Sound, Fitting. On: Goes.
+-- Carries: ended_of, Prefix, block_to, closed_prefix and 5 more, for Sound, Fitting. On: Leads.
 use Rattle.std.proofs.Common.{◌≡◌, ℕ, List, [], ◌∷◌, ◌++◌, Option, Some, None, Bool, true, false, cond, refl, sym, ap, ◌∙◌, subst, append_assoc, append-nil}
 use Rattle.pytree_node.specs.Trees.{Expr, Identifier, Stmt, Handler, If, stmts}
 use Rattle.pygrammar.specs.Lines.{Line, line, header_form, Header, if_header, elif_header, else_header, loop_header, with_header, try_header, except_header, finally_header, def_header, loop, with_of, definition, try_of}
 use Rattle.pygrammar.specs.Blocks.{handler, same_bool, Block, Statement, Body, Alternative, Otherwise, Excepts, Ending, Decorators, nothing, and_then, if_statement, loop_statement, with_statement, try_finally, try_except, definition_of, an_else, an_elif, no_else, else_clause, no_except, except_clause, no_finally, finally_clause, no_decorator}
 use Rattle.pygrammar.specs.Reading.{arm, Group, Idle, Marked, Choice, Loop, Trial, Caught, Settled, choice, closes, Part, part, ended, meets, grows, joined}
-use Rattle.pygrammar.proofs.Block.Goes.{choice-append, no_gap}
+use Rattle.pygrammar.proofs.Block.Leads.{choice-append, no_gap}
 
 -- lines of a group, whose statement the clauses to come make whole
 abbrev pub Grown : ℕ → List Line → Group → Type 0

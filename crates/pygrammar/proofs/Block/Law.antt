@@ -2,7 +2,7 @@
 -- one alone, and never both.
 --
 -- Carries: tree_faultless, no_first, Finds, read_finds and 2 more, for SourceLaw, Reasons, Answer,
--- LineMore and 2 more. On: Fitting, Settling, Standing, Goes and 1 more.
+-- LineMore and 2 more. On: Fitting, Settling, Standing, Leads and 1 more.
 use Rattle.std.proofs.Common.{◌≡◌, ℕ, suc, ◌≤◌, List, [], ◌∷◌, ◌++◌, length, Option, Some, None, true, false, cond, refl, sym, ap, ◌∙◌, subst, arith, ◌⊎◌, inl, inr}
 use Rattle.std.specs.Prelude.{nat_lt}
 use borrow.Author.Tests.{ltb-true, ltb-false}
@@ -10,7 +10,7 @@ use Rattle.pytree_node.specs.Trees.{Expr, Stmt}
 use Rattle.pygrammar.specs.Lines.{Line, line, Form, simple_form, decorator_form, header_form, Header, opens}
 use Rattle.pygrammar.specs.Blocks.{Block, Fault, ExpectedIndent, UnexpectedIndent, MisplacedClause, Kind, SimpleLine, DecoratorLine, EndLine, header_kind, kind_of, IsClear, IsFault, IsFaultless, clear_end, clear_line, FirstFault, fault_at_end, fault_at, fault_behind}
 use Rattle.pygrammar.specs.Reading.{Answer, Fine, Faulty, then, Group, Idle, Marked, closes, Part, part, meets, decorated, or_misplaced, place_header, Waiting, waiting, State, state, start, joined, settle, place, placed, step, run, stops, finish, read}
-use Rattle.pygrammar.proofs.Block.Goes.{read_block}
+use Rattle.pygrammar.proofs.Block.Leads.{read_block}
 use Rattle.pygrammar.proofs.Block.Sound.{read_gives}
 use Rattle.pygrammar.proofs.Block.Standing.{after, standing, stand, standing_above, standing_below, standing_here}
 use Rattle.pygrammar.proofs.Block.Fitting.{is_marked, is_decorator, not_marked, no_decorator_header, grows_stands, fits_closed, wrong_closed, fits_header, wrong_header, fits_decorator, wrong_decorator_line}

@@ -5,4 +5,4 @@ pub use Rattle.pygrammar.proofs.Block.FirstDeep.{deep_is, not_deep, first_deep_f
 pub use Rattle.pygrammar.proofs.Block.Deep.{formed_flat, deep_is_high, deep_within}
 pub use Rattle.pygrammar.proofs.Block.Starts.{starts_line, starts_end, starts}
 pub use Rattle.pygrammar.proofs.Block.Steps.{is_less, not_less, settle_here}
-pub use Rattle.pygrammar.proofs.Block.Goes.{choice-append}
+pub use Rattle.pygrammar.proofs.Block.Leads.{choice-append}

@@ -4,7 +4,7 @@
 use Rattle.pygrammar.specs.SourceLaws.{FormsAreLawful, BlocksAreLawful, AnswersAreLawful}
 use Rattle.pygrammar.proofs.Line.Law.{one_form}
 use Rattle.pygrammar.proofs.Line.Stays.{old_is_untyped}
-use Rattle.pygrammar.proofs.Block.Goes.{one_tree}
+use Rattle.pygrammar.proofs.Block.Leads.{one_tree}
 use Rattle.pygrammar.proofs.Block.Law.{fault_or_tree, tree_faultless, one_first, no_first}
 use Rattle.pygrammar.proofs.Block.Answer.{one_answer, never_both, answer_stays}
 use Rattle.pygrammar.proofs.Block.Deep.{formed_flat, deep_is_high}

@@ -1,6 +1,6 @@
 -- Atoms and Primaries.
 --
--- Carries: primary_goes, TailGoes, tail_keeps, tail_last and 20 more, for Complete. On: Comps,
+-- Carries: primary_goes, TailReads, tail_keeps, tail_last and 20 more, for Complete. On: Comps,
 -- LookLemmas, Climb, LevelLemmas and 1 more.
 use Rattle.std.proofs.Common.{map, ◌≡◌, ◌⊎◌, inl, inr, refl, sym, ap, subst, ◌∙◌, ℕ, suc, ◌≤◌, ◌<◌, arith, List, [], ◌∷◌, ◌++◌, length, Some, true, false, append_assoc}
 use Rattle.std.specs.Prelude.{max}
@@ -18,12 +18,12 @@ use Rattle.pygrammar.specs.Grammar as G
 use Rattle.pygrammar.specs.Reader.{Found, made, read, yield_step, comps_closed, string_run, constant_of, round, square, curly, others_of, listing_of, atom, Reads}
 use Rattle.pygrammar.specs.Precedence.{starts, starts_comp}
 use Rattle.pygrammar.proofs.Completeness.LookLemmas.{grip_of, lead_of, miss_op, pass_op, pass_word, miss_name_with}
-use Rattle.pygrammar.proofs.Completeness.Climb.{GoesAt, Goes, deeper, unroll, answers}
+use Rattle.pygrammar.proofs.Completeness.Climb.{ReadsAt, ReadsAs, deeper, unroll, answers}
 use Rattle.pygrammar.proofs.Completeness.LevelLemmas.{free, next_goes, primary_target}
-use Rattle.pygrammar.proofs.Completeness.Comps.{append_no, ListEnds, Separable, ListingGoes, CompsGoes, comps_first, comps_close}
-use Rattle.pygrammar.proofs.Completeness.Forms.{YieldsGoes, starts_of}
+use Rattle.pygrammar.proofs.Completeness.Comps.{append_no, ListEnds, Separable, ListingReads, CompsReads, comps_first, comps_close}
+use Rattle.pygrammar.proofs.Completeness.Forms.{YieldsReads, starts_of}
 
-pub primary_goes : (ts : List Terminal) (e : Expr) (n : ℕ) → ((d : ℕ) → n ≤ d → GoesAt Primary ts e d) → Goes Primary ts e
+pub primary_goes : (ts : List Terminal) (e : Expr) (n : ℕ) → ((d : ℕ) → n ≤ d → ReadsAt Primary ts e d) → ReadsAs Primary ts e
 primary_goes ts e n f = (n, f, λ d h. primary_target ts e d (f d h))
 
 -- behind the first item of a list
@@ -34,23 +34,23 @@ pub tail_keeps : (P : List Terminal → Type 0) (vs rest : List Terminal) → Ta
 tail_keeps P vs rest (inl e) p c = subst (λ z. P (z ++ rest)) (sym e) p
 tail_keeps P vs rest (inr (ws, e)) p c = subst (λ z. P (z ++ rest)) (sym e) (c (ws ++ rest))
 
-abbrev pub TailGoes : Item → List Terminal → List Entry → Type 0
-TailGoes i vs es = (n : ℕ) × ((d : ℕ) → n ≤ d → Separable i → (rest : List Terminal) → ListEnds i rest → (a : Entry) → others_of (read (suc d)) i a (vs ++ rest) ≡ Found (a ∷ es) rest) × TailFirst vs
+abbrev pub TailReads : Item → List Terminal → List Entry → Type 0
+TailReads i vs es = (n : ℕ) × ((d : ℕ) → n ≤ d → Separable i → (rest : List Terminal) → ListEnds i rest → (a : Entry) → others_of (read (suc d)) i a (vs ++ rest) ≡ Found (a ∷ es) rest) × TailFirst vs
 
 others_end : (self : Reads) (i : Item) (a : Entry) (r : List Terminal) → (grip_of r ≡ 3 → ⊥) → others_of self i a r ≡ Found (a ∷ []) r
 others_end self i a r g = miss_op Comma r _ _ g
 
-pub tail_last : (i : Item) → TailGoes i [] []
+pub tail_last : (i : Item) → TailReads i [] []
 tail_last i = (0, (λ d h w rest s a. others_end (read (suc d)) i a rest s.1), inl refl)
 
-pub tail_more : (i : Item) (us : List Terminal) (es : List Entry) → ListingGoes i us es → TailGoes i (Op Comma ∷ us) es
+pub tail_more : (i : Item) (us : List Terminal) (es : List Entry) → ListingReads i us es → TailReads i (Op Comma ∷ us) es
 tail_more i us es k = (k.0, (λ d h w rest s a. k.1 d h w rest s (length (us ++ rest)) (omega arith) (a ∷ [])), inr (us, refl))
 
 -- names, constants, strings
-pub name_goes : (x : Spelled) → Goes Atom (Ident x ∷ []) (Trees.Name x.form Load)
+pub name_goes : (x : Spelled) → ReadsAs Atom (Ident x ∷ []) (Trees.Name x.form Load)
 name_goes x = (0, (λ d h rest s. unroll d Atom (Ident x ∷ rest)), λ d h. tt)
 
-pub number_goes : (n : ℕ) → Goes Atom (Whole n ∷ []) (Trees.Constant (Values.Int n))
+pub number_goes : (n : ℕ) → ReadsAs Atom (Whole n ∷ []) (Trees.Constant (Values.Int n))
 number_goes n = (0, (λ d h rest s. unroll d Atom (Whole n ∷ rest)), λ d h. tt)
 
 constant_step : (self : Reads) (t : Terminal) (v : Values.Value) (r : List Terminal) → constant_word t ≡ Some v → atom self (t ∷ r) ≡ Found (Trees.Constant v) r
@@ -64,7 +64,7 @@ constant_step self (Whole x) v r h = absurd (cc)
 constant_step self (Literal x) v r h = absurd (cc)
 constant_step self Layout v r h = absurd (cc)
 
-pub constant_goes : (t : Terminal) (v : Values.Value) → constant_word t ≡ Some v → Goes Atom (t ∷ []) (Trees.Constant v)
+pub constant_goes : (t : Terminal) (v : Values.Value) → constant_word t ≡ Some v → ReadsAs Atom (t ∷ []) (Trees.Constant v)
 constant_goes t v w = (0, (λ d h rest s. unroll d Atom (t ∷ rest) ∙ constant_step (read d) t v rest w), λ d h. tt)
 
 string_run_end : (acc : List Values.Value) (r : List Terminal) → grip_of r ≤ 24 → string_run acc r ≡ Found acc r
@@ -83,7 +83,7 @@ string_run_all (v ∷ vs) acc r h = string_run_all vs (acc ++ (v ∷ [])) r h �
 strings_step : (self : Reads) (v w : Values.Value) (vs : List Values.Value) (i r : List Terminal) → string_run [] i ≡ Found vs r → joined v vs ≡ Some w → atom self (Literal v ∷ i) ≡ Found (Trees.Constant w) r
 strings_step self v w vs i r h k = rw h (rw k refl)
 
-pub strings_goes : (v w : Values.Value) (vs : List Values.Value) → joined v vs ≡ Some w → Goes Atom (Literal v ∷ map Literal vs) (Trees.Constant w)
+pub strings_goes : (v w : Values.Value) (vs : List Values.Value) → joined v vs ≡ Some w → ReadsAs Atom (Literal v ∷ map Literal vs) (Trees.Constant w)
 strings_goes v w vs k = (0, (λ d h rest s. unroll d Atom (Literal v ∷ (map Literal vs ++ rest)) ∙ strings_step (read d) v w vs (map Literal vs ++ rest) rest (string_run_all vs [] rest s) k), λ d h. tt)
 
 -- round brackets
@@ -136,80 +136,80 @@ close_after ts us rest s c t = simp append_assoc refl
 close_three : (ts us vs rest : List Terminal) (s c t : Terminal) → (s ∷ (ts ++ (c ∷ (us ++ (vs ++ (t ∷ [])))))) ++ rest ≡ s ∷ (ts ++ (c ∷ (us ++ (vs ++ (t ∷ rest)))))
 close_three ts us vs rest s c t = simp append_assoc refl
 
-elem_goes : (ts : List Terminal) (e : Expr) → 9 ≤ lead_of ts → Goes Named ts e → Goes Elem ts e
+elem_goes : (ts : List Terminal) (e : Expr) → 9 ≤ lead_of ts → ReadsAs Named ts e → ReadsAs Elem ts e
 elem_goes ts e l p = next_goes Elem ts e l tt p
 
-pub group_goes : (ts : List Terminal) (e : Expr) → 9 ≤ lead_of ts → Goes Named ts e → Goes Atom (Op LPar ∷ (ts ++ (Op RPar ∷ []))) e
-group_goes ts e l p = let q = elem_goes ts e l p in (suc q.0, deeper (GoesAt Atom (Op LPar ∷ (ts ++ (Op RPar ∷ []))) e) q.0 (λ d h rest s. ap (read (suc (suc d)) Atom) (close_shape ts rest (Op LPar) (Op RPar)) ∙ (unroll (suc d) Atom (Op LPar ∷ (ts ++ (Op RPar ∷ rest))) ∙ group_step (read (suc d)) ts rest e l (q.1 d h (Op RPar ∷ rest) (omega arith)))), λ d h. tt)
+pub group_goes : (ts : List Terminal) (e : Expr) → 9 ≤ lead_of ts → ReadsAs Named ts e → ReadsAs Atom (Op LPar ∷ (ts ++ (Op RPar ∷ []))) e
+group_goes ts e l p = let q = elem_goes ts e l p in (suc q.0, deeper (ReadsAt Atom (Op LPar ∷ (ts ++ (Op RPar ∷ []))) e) q.0 (λ d h rest s. ap (read (suc (suc d)) Atom) (close_shape ts rest (Op LPar) (Op RPar)) ∙ (unroll (suc d) Atom (Op LPar ∷ (ts ++ (Op RPar ∷ rest))) ∙ group_step (read (suc d)) ts rest e l (q.1 d h (Op RPar ∷ rest) (omega arith)))), λ d h. tt)
 
-pub yield_group_goes : (ts : List Terminal) (e : Expr) → YieldsGoes ts e → Goes Atom (Op LPar ∷ (Word Key.Yield ∷ (ts ++ (Op RPar ∷ [])))) e
-yield_group_goes ts e q = (suc q.0, deeper (GoesAt Atom (Op LPar ∷ (Word Key.Yield ∷ (ts ++ (Op RPar ∷ [])))) e) q.0 (λ d h rest s. ap (λ z. read (suc (suc d)) Atom (Op LPar ∷ z)) (close_shape ts rest (Word Key.Yield) (Op RPar)) ∙ (unroll (suc d) Atom (Op LPar ∷ (Word Key.Yield ∷ (ts ++ (Op RPar ∷ rest)))) ∙ yield_step_round (read (suc d)) (ts ++ (Op RPar ∷ rest)) rest e (q.1 d h (Op RPar ∷ rest) (omega arith, omega arith)))), λ d h. tt)
+pub yield_group_goes : (ts : List Terminal) (e : Expr) → YieldsReads ts e → ReadsAs Atom (Op LPar ∷ (Word Key.Yield ∷ (ts ++ (Op RPar ∷ [])))) e
+yield_group_goes ts e q = (suc q.0, deeper (ReadsAt Atom (Op LPar ∷ (Word Key.Yield ∷ (ts ++ (Op RPar ∷ [])))) e) q.0 (λ d h rest s. ap (λ z. read (suc (suc d)) Atom (Op LPar ∷ z)) (close_shape ts rest (Word Key.Yield) (Op RPar)) ∙ (unroll (suc d) Atom (Op LPar ∷ (Word Key.Yield ∷ (ts ++ (Op RPar ∷ rest)))) ∙ yield_step_round (read (suc d)) (ts ++ (Op RPar ∷ rest)) rest e (q.1 d h (Op RPar ∷ rest) (omega arith, omega arith)))), λ d h. tt)
 
-pub empty_tuple_goes : Goes Atom (Op LPar ∷ (Op RPar ∷ [])) (Trees.Tuple no_exprs Load)
+pub empty_tuple_goes : ReadsAs Atom (Op LPar ∷ (Op RPar ∷ [])) (Trees.Tuple no_exprs Load)
 empty_tuple_goes = (0, (λ d h rest s. unroll d Atom (Op LPar ∷ (Op RPar ∷ rest))), λ d h. tt)
 
-pub tuple_goes : (ts us : List Terminal) (e : Expr) (es : List Entry) → 7 ≤ lead_of ts → Goes Elem ts e → ListingGoes (Of Elem) us es → Goes Atom (Op LPar ∷ (ts ++ (Op Comma ∷ (us ++ (Op RPar ∷ []))))) (Trees.Tuple (an_expr e (singles es)) Load)
+pub tuple_goes : (ts us : List Terminal) (e : Expr) (es : List Entry) → 7 ≤ lead_of ts → ReadsAs Elem ts e → ListingReads (Of Elem) us es → ReadsAs Atom (Op LPar ∷ (ts ++ (Op Comma ∷ (us ++ (Op RPar ∷ []))))) (Trees.Tuple (an_expr e (singles es)) Load)
 tuple_goes ts us e es l p k = (
   suc (max p.0 k.0),
-  deeper (GoesAt Atom (Op LPar ∷ (ts ++ (Op Comma ∷ (us ++ (Op RPar ∷ []))))) (Trees.Tuple (an_expr e (singles es)) Load)) (max p.0 k.0) (λ d h rest s.
+  deeper (ReadsAt Atom (Op LPar ∷ (ts ++ (Op Comma ∷ (us ++ (Op RPar ∷ []))))) (Trees.Tuple (an_expr e (singles es)) Load)) (max p.0 k.0) (λ d h rest s.
       ap (read (suc (suc d)) Atom) (close_after ts us rest (Op LPar) (Op Comma) (Op RPar)) ∙ (unroll (suc d) Atom (Op LPar ∷ (ts ++ (Op Comma ∷ (us ++ (Op RPar ∷ rest))))) ∙ tuple_step (read (suc d)) ts (us ++ (Op RPar ∷ rest)) rest e es l (p.1 d (omega (arith, h)) (Op Comma ∷ (us ++ (Op RPar ∷ rest))) (omega arith)) (k.1 d (omega (arith, h)) (λ r. omega arith) (Op RPar ∷ rest) (refl, (λ q. absurd (omega (arith, q))), omega arith) (length (us ++ (Op RPar ∷ rest))) (omega arith) []))),
   λ d h. tt,
 )
 
-pub generator_goes : (ts us : List Terminal) (e : Expr) (gs : List Comprehension) → 9 ≤ lead_of ts → Goes Named ts e → G.Comps us gs → CompsGoes us gs → Goes Atom (Op LPar ∷ (ts ++ (us ++ (Op RPar ∷ [])))) (Trees.GeneratorExp e (comprehensions gs))
+pub generator_goes : (ts us : List Terminal) (e : Expr) (gs : List Comprehension) → 9 ≤ lead_of ts → ReadsAs Named ts e → G.Comps us gs → CompsReads us gs → ReadsAs Atom (Op LPar ∷ (ts ++ (us ++ (Op RPar ∷ [])))) (Trees.GeneratorExp e (comprehensions gs))
 generator_goes ts us e gs l p w k = let q = elem_goes ts e l p in (
   suc (max q.0 k.0),
-  deeper (GoesAt Atom (Op LPar ∷ (ts ++ (us ++ (Op RPar ∷ [])))) (Trees.GeneratorExp e (comprehensions gs))) (max q.0 k.0) (λ d h rest s.
+  deeper (ReadsAt Atom (Op LPar ∷ (ts ++ (us ++ (Op RPar ∷ [])))) (Trees.GeneratorExp e (comprehensions gs))) (max q.0 k.0) (λ d h rest s.
       let i = us ++ (Op RPar ∷ rest) in
       let g = comps_first w (Op RPar ∷ rest) in
       ap (read (suc (suc d)) Atom) (close_two ts us rest (Op LPar) (Op RPar)) ∙ (unroll (suc d) Atom (Op LPar ∷ (ts ++ i)) ∙ generator_step (read (suc d)) ts i rest e (Trees.GeneratorExp e (comprehensions gs)) (λ gs. Trees.GeneratorExp e (comprehensions gs)) refl l (q.1 d (omega (arith, h)) i (omega (arith, g.0))) g (comps_close us gs k d (omega (arith, h)) RPar rest refl (λ gs. Trees.GeneratorExp e (comprehensions gs))))),
   λ d h. tt,
 )
 
-pub empty_list_goes : Goes Atom (Op LSqb ∷ (Op RSqb ∷ [])) (Trees.ListOf no_exprs Load)
+pub empty_list_goes : ReadsAs Atom (Op LSqb ∷ (Op RSqb ∷ [])) (Trees.ListOf no_exprs Load)
 empty_list_goes = (0, (λ d h rest s. unroll d Atom (Op LSqb ∷ (Op RSqb ∷ rest))), λ d h. tt)
 
 -- us are ts and vs together
 abbrev pub Splits : List Terminal → List Terminal → List Terminal → Type 0
 Splits us ts vs = (r : List Terminal) → us ++ r ≡ ts ++ (vs ++ r)
 
-pub list_goes : (us ts vs : List Terminal) (e : Expr) (es : List Entry) → Splits us ts vs → 7 ≤ lead_of ts → Goes Elem ts e → TailGoes (Of Elem) vs es → Goes Atom (Op LSqb ∷ (us ++ (Op RSqb ∷ []))) (Trees.ListOf (singles (Single e ∷ es)) Load)
+pub list_goes : (us ts vs : List Terminal) (e : Expr) (es : List Entry) → Splits us ts vs → 7 ≤ lead_of ts → ReadsAs Elem ts e → TailReads (Of Elem) vs es → ReadsAs Atom (Op LSqb ∷ (us ++ (Op RSqb ∷ []))) (Trees.ListOf (singles (Single e ∷ es)) Load)
 list_goes us ts vs e es sp l p k = (
   suc (max p.0 k.0),
-  deeper (GoesAt Atom (Op LSqb ∷ (us ++ (Op RSqb ∷ []))) (Trees.ListOf (singles (Single e ∷ es)) Load)) (max p.0 k.0) (λ d h rest s.
+  deeper (ReadsAt Atom (Op LSqb ∷ (us ++ (Op RSqb ∷ []))) (Trees.ListOf (singles (Single e ∷ es)) Load)) (max p.0 k.0) (λ d h rest s.
       let c = Op RSqb ∷ rest in
       let i = vs ++ (Op RSqb ∷ rest) in
       ap (read (suc (suc d)) Atom) (close_shape us rest (Op LSqb) (Op RSqb) ∙ ap (λ z. Op LSqb ∷ z) (sp (Op RSqb ∷ rest))) ∙ (unroll (suc d) Atom (Op LSqb ∷ (ts ++ i)) ∙ list_step (read (suc d)) ts i rest e (Single e ∷ es) (starts_of Elem ts i l) (p.1 d (omega (arith, h)) i (tail_keeps (λ r. grip_of r ≤ 7) vs c k.2 (omega arith) (λ r. omega arith))) (tail_keeps (λ r. starts_comp r ≡ false) vs c k.2 refl (λ r. refl)) (k.1 d (omega (arith, h)) (λ r. omega arith) c (refl, (λ q. absurd (omega (arith, q))), omega arith) (Single e)))),
   λ d h. tt,
 )
 
-pub list_comp_goes : (ts us : List Terminal) (e : Expr) (gs : List Comprehension) → 9 ≤ lead_of ts → Goes Named ts e → G.Comps us gs → CompsGoes us gs → Goes Atom (Op LSqb ∷ (ts ++ (us ++ (Op RSqb ∷ [])))) (Trees.ListComp e (comprehensions gs))
+pub list_comp_goes : (ts us : List Terminal) (e : Expr) (gs : List Comprehension) → 9 ≤ lead_of ts → ReadsAs Named ts e → G.Comps us gs → CompsReads us gs → ReadsAs Atom (Op LSqb ∷ (ts ++ (us ++ (Op RSqb ∷ [])))) (Trees.ListComp e (comprehensions gs))
 list_comp_goes ts us e gs l p w k = let q = elem_goes ts e l p in (
   suc (max q.0 k.0),
-  deeper (GoesAt Atom (Op LSqb ∷ (ts ++ (us ++ (Op RSqb ∷ [])))) (Trees.ListComp e (comprehensions gs))) (max q.0 k.0) (λ d h rest s.
+  deeper (ReadsAt Atom (Op LSqb ∷ (ts ++ (us ++ (Op RSqb ∷ [])))) (Trees.ListComp e (comprehensions gs))) (max q.0 k.0) (λ d h rest s.
       let i = us ++ (Op RSqb ∷ rest) in
       let g = comps_first w (Op RSqb ∷ rest) in
       ap (read (suc (suc d)) Atom) (close_two ts us rest (Op LSqb) (Op RSqb)) ∙ (unroll (suc d) Atom (Op LSqb ∷ (ts ++ i)) ∙ list_comp_step (read (suc d)) ts i rest e (Trees.ListComp e (comprehensions gs)) (starts_of Elem ts i (omega (arith, l))) l (q.1 d (omega (arith, h)) i (omega (arith, g.0))) g.1 (comps_close us gs k d (omega (arith, h)) RSqb rest refl (λ gs. Trees.ListComp e (comprehensions gs))))),
   λ d h. tt,
 )
 
-pub empty_dict_goes : Goes Atom (Op LBrace ∷ (Op RBrace ∷ [])) (Trees.Dict no_optional no_exprs)
+pub empty_dict_goes : ReadsAs Atom (Op LBrace ∷ (Op RBrace ∷ [])) (Trees.Dict no_optional no_exprs)
 empty_dict_goes = (0, (λ d h rest s. unroll d Atom (Op LBrace ∷ (Op RBrace ∷ rest))), λ d h. tt)
 
-pub set_goes : (us ts vs : List Terminal) (e : Expr) (es : List Entry) → Splits us ts vs → 7 ≤ lead_of ts → Goes Elem ts e → TailGoes (Of Elem) vs es → Goes Atom (Op LBrace ∷ (us ++ (Op RBrace ∷ []))) (Trees.Set (singles (Single e ∷ es)))
+pub set_goes : (us ts vs : List Terminal) (e : Expr) (es : List Entry) → Splits us ts vs → 7 ≤ lead_of ts → ReadsAs Elem ts e → TailReads (Of Elem) vs es → ReadsAs Atom (Op LBrace ∷ (us ++ (Op RBrace ∷ []))) (Trees.Set (singles (Single e ∷ es)))
 set_goes us ts vs e es sp l p k = (
   suc (max p.0 k.0),
-  deeper (GoesAt Atom (Op LBrace ∷ (us ++ (Op RBrace ∷ []))) (Trees.Set (singles (Single e ∷ es)))) (max p.0 k.0) (λ d h rest s.
+  deeper (ReadsAt Atom (Op LBrace ∷ (us ++ (Op RBrace ∷ []))) (Trees.Set (singles (Single e ∷ es)))) (max p.0 k.0) (λ d h rest s.
       let c = Op RBrace ∷ rest in
       let i = vs ++ (Op RBrace ∷ rest) in
       ap (read (suc (suc d)) Atom) (close_shape us rest (Op LBrace) (Op RBrace) ∙ ap (λ z. Op LBrace ∷ z) (sp (Op RBrace ∷ rest))) ∙ (unroll (suc d) Atom (Op LBrace ∷ (ts ++ i)) ∙ set_step (read (suc d)) ts i rest e (Single e ∷ es) l (p.1 d (omega (arith, h)) i (tail_keeps (λ r. grip_of r ≤ 7) vs c k.2 (omega arith) (λ r. omega arith))) (tail_keeps (λ r. grip_of r ≡ 5 → ⊥) vs c k.2 (λ q. omega (arith, q)) (λ r q. omega (arith, q))) (tail_keeps (λ r. starts_comp r ≡ false) vs c k.2 refl (λ r. refl)) (k.1 d (omega (arith, h)) (λ r. omega arith) c (refl, (λ q. absurd (omega (arith, q))), omega arith) (Single e)))),
   λ d h. tt,
 )
 
-pub set_comp_goes : (ts us : List Terminal) (e : Expr) (gs : List Comprehension) → 9 ≤ lead_of ts → Goes Named ts e → G.Comps us gs → CompsGoes us gs → Goes Atom (Op LBrace ∷ (ts ++ (us ++ (Op RBrace ∷ [])))) (Trees.SetComp e (comprehensions gs))
+pub set_comp_goes : (ts us : List Terminal) (e : Expr) (gs : List Comprehension) → 9 ≤ lead_of ts → ReadsAs Named ts e → G.Comps us gs → CompsReads us gs → ReadsAs Atom (Op LBrace ∷ (ts ++ (us ++ (Op RBrace ∷ [])))) (Trees.SetComp e (comprehensions gs))
 set_comp_goes ts us e gs l p w k = let q = elem_goes ts e l p in (
   suc (max q.0 k.0),
-  deeper (GoesAt Atom (Op LBrace ∷ (ts ++ (us ++ (Op RBrace ∷ [])))) (Trees.SetComp e (comprehensions gs))) (max q.0 k.0) (λ d h rest s.
+  deeper (ReadsAt Atom (Op LBrace ∷ (ts ++ (us ++ (Op RBrace ∷ [])))) (Trees.SetComp e (comprehensions gs))) (max q.0 k.0) (λ d h rest s.
       let i = us ++ (Op RBrace ∷ rest) in
       let g = comps_first w (Op RBrace ∷ rest) in
       ap (read (suc (suc d)) Atom) (close_two ts us rest (Op LBrace) (Op RBrace)) ∙ (unroll (suc d) Atom (Op LBrace ∷ (ts ++ i)) ∙ set_comp_step (read (suc d)) ts i rest e (Trees.SetComp e (comprehensions gs)) l (q.1 d (omega (arith, h)) i (omega (arith, g.0))) g (comps_close us gs k d (omega (arith, h)) RBrace rest refl (λ gs. Trees.SetComp e (comprehensions gs))))),
@@ -217,16 +217,16 @@ set_comp_goes ts us e gs l p w k = let q = elem_goes ts e l p in (
 )
 
 -- a key is read as an element
-key_goes : (ts : List Terminal) (e : Expr) → 9 ≤ lead_of ts → Goes Expression ts e → Goes Elem ts e
+key_goes : (ts : List Terminal) (e : Expr) → 9 ≤ lead_of ts → ReadsAs Expression ts e → ReadsAs Elem ts e
 key_goes ts e l p = elem_goes ts e l (next_goes Named ts e l tt p)
 
-key_free : (ts i : List Terminal) (k : Expr) (d : ℕ) → GoesAt Expression ts k d → (x : Spelled) (us : List Terminal) → ts ++ (Op Colon ∷ i) ≡ Ident x ∷ (Op ColonEqual ∷ us) → ⊥
+key_free : (ts i : List Terminal) (k : Expr) (d : ℕ) → ReadsAt Expression ts k d → (x : Spelled) (us : List Terminal) → ts ++ (Op Colon ∷ i) ≡ Ident x ∷ (Op ColonEqual ∷ us) → ⊥
 key_free ts i k d p = free d Expression ColonEqual (ts ++ (Op Colon ∷ i)) (Op Colon ∷ i) k (λ x us. refl) (p (Op Colon ∷ i) (omega arith)) (λ q. absurd (omega (arith, q)))
 
-pub dict_goes : (us ts ws vs : List Terminal) (k e : Expr) (es : List Entry) → Splits us (ts ++ (Op Colon ∷ ws)) vs → 9 ≤ lead_of ts → Goes Expression ts k → Goes Expression ws e → TailGoes Pair vs es → Goes Atom (Op LBrace ∷ (us ++ (Op RBrace ∷ []))) (Trees.Dict (keys (Paired k e ∷ es)) (values (Paired k e ∷ es)))
+pub dict_goes : (us ts ws vs : List Terminal) (k e : Expr) (es : List Entry) → Splits us (ts ++ (Op Colon ∷ ws)) vs → 9 ≤ lead_of ts → ReadsAs Expression ts k → ReadsAs Expression ws e → TailReads Pair vs es → ReadsAs Atom (Op LBrace ∷ (us ++ (Op RBrace ∷ []))) (Trees.Dict (keys (Paired k e ∷ es)) (values (Paired k e ∷ es)))
 dict_goes us ts ws vs k e es sp l p q t = let f = key_goes ts k l p in (
   suc (max (max f.0 p.0) (max q.0 t.0)),
-  deeper (GoesAt Atom (Op LBrace ∷ (us ++ (Op RBrace ∷ []))) (Trees.Dict (keys (Paired k e ∷ es)) (values (Paired k e ∷ es)))) (max (max f.0 p.0) (max q.0 t.0)) (λ d h rest s.
+  deeper (ReadsAt Atom (Op LBrace ∷ (us ++ (Op RBrace ∷ []))) (Trees.Dict (keys (Paired k e ∷ es)) (values (Paired k e ∷ es)))) (max (max f.0 p.0) (max q.0 t.0)) (λ d h rest s.
       let c = Op RBrace ∷ rest in
       let r = vs ++ (Op RBrace ∷ rest) in
       let i = ws ++ (vs ++ (Op RBrace ∷ rest)) in
@@ -234,20 +234,20 @@ dict_goes us ts ws vs k e es sp l p q t = let f = key_goes ts k l p in (
   λ d h. tt,
 )
 
-pub doubled_goes : (us ts vs : List Terminal) (e : Expr) (es : List Entry) → Splits us (Op DoubleStar ∷ ts) vs → Goes BitOr ts e → TailGoes Pair vs es → Goes Atom (Op LBrace ∷ (us ++ (Op RBrace ∷ []))) (Trees.Dict (keys (Doubled e ∷ es)) (values (Doubled e ∷ es)))
+pub doubled_goes : (us ts vs : List Terminal) (e : Expr) (es : List Entry) → Splits us (Op DoubleStar ∷ ts) vs → ReadsAs BitOr ts e → TailReads Pair vs es → ReadsAs Atom (Op LBrace ∷ (us ++ (Op RBrace ∷ []))) (Trees.Dict (keys (Doubled e ∷ es)) (values (Doubled e ∷ es)))
 doubled_goes us ts vs e es sp p t = (
   suc (max p.0 t.0),
-  deeper (GoesAt Atom (Op LBrace ∷ (us ++ (Op RBrace ∷ []))) (Trees.Dict (keys (Doubled e ∷ es)) (values (Doubled e ∷ es)))) (max p.0 t.0) (λ d h rest s.
+  deeper (ReadsAt Atom (Op LBrace ∷ (us ++ (Op RBrace ∷ []))) (Trees.Dict (keys (Doubled e ∷ es)) (values (Doubled e ∷ es)))) (max p.0 t.0) (λ d h rest s.
       let c = Op RBrace ∷ rest in
       let r = vs ++ (Op RBrace ∷ rest) in
       ap (read (suc (suc d)) Atom) (close_shape us rest (Op LBrace) (Op RBrace) ∙ ap (λ z. Op LBrace ∷ z) (sp (Op RBrace ∷ rest))) ∙ (unroll (suc d) Atom (Op LBrace ∷ (Op DoubleStar ∷ (ts ++ r))) ∙ doubled_step (read (suc d)) (ts ++ r) r rest e (Doubled e ∷ es) (answers BitOr ts e d r (p.1 d (omega (arith, h))) (tail_keeps (λ r. grip_of r < 14) vs c t.2 (omega arith) (λ r. omega arith))) (t.1 d (omega (arith, h)) (λ r. omega arith) c (refl, (λ q. absurd (omega (arith, q))), omega arith) (Doubled e)))),
   λ d h. tt,
 )
 
-pub dict_comp_goes : (ts us vs : List Terminal) (k e : Expr) (gs : List Comprehension) → 9 ≤ lead_of ts → Goes Expression ts k → Goes Expression us e → G.Comps vs gs → CompsGoes vs gs → Goes Atom (Op LBrace ∷ (ts ++ (Op Colon ∷ (us ++ (vs ++ (Op RBrace ∷ [])))))) (Trees.DictComp k e (comprehensions gs))
+pub dict_comp_goes : (ts us vs : List Terminal) (k e : Expr) (gs : List Comprehension) → 9 ≤ lead_of ts → ReadsAs Expression ts k → ReadsAs Expression us e → G.Comps vs gs → CompsReads vs gs → ReadsAs Atom (Op LBrace ∷ (ts ++ (Op Colon ∷ (us ++ (vs ++ (Op RBrace ∷ [])))))) (Trees.DictComp k e (comprehensions gs))
 dict_comp_goes ts us vs k e gs l p q w t = let f = key_goes ts k l p in (
   suc (max (max f.0 p.0) (max q.0 t.0)),
-  deeper (GoesAt Atom (Op LBrace ∷ (ts ++ (Op Colon ∷ (us ++ (vs ++ (Op RBrace ∷ [])))))) (Trees.DictComp k e (comprehensions gs))) (max (max f.0 p.0) (max q.0 t.0)) (λ d h rest s.
+  deeper (ReadsAt Atom (Op LBrace ∷ (ts ++ (Op Colon ∷ (us ++ (vs ++ (Op RBrace ∷ [])))))) (Trees.DictComp k e (comprehensions gs))) (max (max f.0 p.0) (max q.0 t.0)) (λ d h rest s.
       let r = vs ++ (Op RBrace ∷ rest) in
       let i = us ++ (vs ++ (Op RBrace ∷ rest)) in
       let g = comps_first w (Op RBrace ∷ rest) in

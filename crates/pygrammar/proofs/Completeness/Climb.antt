@@ -1,6 +1,6 @@
 -- What it means that the reader finds an expression, and the levels Or .. Await.
 --
--- Carries: Stops, answers, Goes, unroll and 19 more, for Complete, LevelLemmas, Forms, Atoms and
+-- Carries: Stops, answers, ReadsAs, unroll and 19 more, for Complete, LevelLemmas, Forms, Atoms and
 -- 11 more. On: LookLemmas.
 use Rattle.std.proofs.Common.{◌≡◌, refl, sym, ap, subst, ◌∙◌, ℕ, zero, suc, ◌≤◌, ◌<◌, arith, List, [], ◌∷◌, ◌++◌, length, Option, Some, None, Bool, true, false, cond, append_assoc, length-append}
 use Rattle.std.proofs.lemmas.Bool.{leb-true, le-leb}
@@ -55,22 +55,22 @@ Stops Atom r = grip_of r ≤ 24
 Stops Power r = grip_of r ≤ 19
 Stops l r = grip_of r < rank l
 
-abbrev pub GoesAt : Level → List Terminal → Expr → ℕ → Type 0
-GoesAt Or ts e d = Climbs Or ts e d
-GoesAt And ts e d = Climbs And ts e d
-GoesAt Not ts e d = Climbs Not ts e d
-GoesAt Compare ts e d = Climbs Compare ts e d
-GoesAt BitOr ts e d = Climbs BitOr ts e d
-GoesAt BitXor ts e d = Climbs BitXor ts e d
-GoesAt BitAnd ts e d = Climbs BitAnd ts e d
-GoesAt Shift ts e d = Climbs Shift ts e d
-GoesAt Sum ts e d = Climbs Sum ts e d
-GoesAt Term ts e d = Climbs Term ts e d
-GoesAt Factor ts e d = Climbs Factor ts e d
-GoesAt Power ts e d = Climbs Power ts e d
-GoesAt Await ts e d = Climbs Await ts e d
-GoesAt Primary ts e d = (rest : List Terminal) → grip_of rest ≤ 23 → (m : ℕ) × (length rest ≤ m) × (read (suc d) Primary (ts ++ rest) ≡ primary_loop (read d) m e rest)
-GoesAt l ts e d = (rest : List Terminal) → Stops l rest → read (suc d) l (ts ++ rest) ≡ Found e rest
+abbrev pub ReadsAt : Level → List Terminal → Expr → ℕ → Type 0
+ReadsAt Or ts e d = Climbs Or ts e d
+ReadsAt And ts e d = Climbs And ts e d
+ReadsAt Not ts e d = Climbs Not ts e d
+ReadsAt Compare ts e d = Climbs Compare ts e d
+ReadsAt BitOr ts e d = Climbs BitOr ts e d
+ReadsAt BitXor ts e d = Climbs BitXor ts e d
+ReadsAt BitAnd ts e d = Climbs BitAnd ts e d
+ReadsAt Shift ts e d = Climbs Shift ts e d
+ReadsAt Sum ts e d = Climbs Sum ts e d
+ReadsAt Term ts e d = Climbs Term ts e d
+ReadsAt Factor ts e d = Climbs Factor ts e d
+ReadsAt Power ts e d = Climbs Power ts e d
+ReadsAt Await ts e d = Climbs Await ts e d
+ReadsAt Primary ts e d = (rest : List Terminal) → grip_of rest ≤ 23 → (m : ℕ) × (length rest ≤ m) × (read (suc d) Primary (ts ++ rest) ≡ primary_loop (read d) m e rest)
+ReadsAt l ts e d = (rest : List Terminal) → Stops l rest → read (suc d) l (ts ++ rest) ≡ Found e rest
 
 -- in front of `in` an expression of target shape is read as a Primary
 abbrev pub TargetAt : Level → List Terminal → Expr → ℕ → Type 0
@@ -98,8 +98,8 @@ no_target Stars ts e d h = λ s q. absurd (cc (h, q))
 no_target StarItem ts e d h = λ s q. absurd (cc (h, q))
 no_target _ ts e d h = λ s q. absurd (cc (h, q))
 
-abbrev pub Goes : Level → List Terminal → Expr → Type 0
-Goes l ts e = (n : ℕ) × ((d : ℕ) → n ≤ d → GoesAt l ts e d) × ((d : ℕ) → n ≤ d → TargetAt l ts e d)
+abbrev pub ReadsAs : Level → List Terminal → Expr → Type 0
+ReadsAs l ts e = (n : ℕ) × ((d : ℕ) → n ≤ d → ReadsAt l ts e d) × ((d : ℕ) → n ≤ d → TargetAt l ts e d)
 
 -- from one expression further out
 pub deeper : (P : ℕ → Type 0) (n : ℕ) → ((d : ℕ) → n ≤ d → P (suc d)) → (d : ℕ) → suc n ≤ d → P d
@@ -136,7 +136,7 @@ unroll d _ i = refl
 climbs_answer : (l : Level) (ts : List Terminal) (e : Expr) (d : ℕ) (rest : List Terminal) → Climbs l ts e d → grip_of rest < rank l → grip_of rest ≤ lim l → climb (read (suc d)) (read d) (rank l) (ts ++ rest) ≡ Found e rest
 climbs_answer l ts e d rest g s w = let c = g (rank l) (omega arith) rest w in c.2 ∙ loop_end (read d) (rank l) c.0 e rest s
 
-pub answers : (l : Level) (ts : List Terminal) (e : Expr) (d : ℕ) (rest : List Terminal) → GoesAt l ts e d → Stops l rest → read (suc d) l (ts ++ rest) ≡ Found e rest
+pub answers : (l : Level) (ts : List Terminal) (e : Expr) (d : ℕ) (rest : List Terminal) → ReadsAt l ts e d → Stops l rest → read (suc d) l (ts ++ rest) ≡ Found e rest
 answers Or ts e d rest g s = climbs_answer Or ts e d rest g s (omega (arith, s))
 answers And ts e d rest g s = climbs_answer And ts e d rest g s (omega (arith, s))
 answers Not ts e d rest g s = climbs_answer Not ts e d rest g s (omega (arith, s))
@@ -211,7 +211,7 @@ unary_climbs l ts t o e d h p k le rest s = (length rest, omega arith, unary_ste
 await_step : (next inner : Reads) (k : ℕ) (i rest : List Terminal) (e : Expr) → k ≤ 22 → inner Primary i ≡ Found e rest → climb next inner k (Word Key.Await ∷ i) ≡ climb_loop inner k (length rest) (Trees.Await e) rest
 await_step next inner k i rest e h q = rw (le-leb k 22 h) (rw q refl)
 
-pub await_climbs : (ts : List Terminal) (e : Expr) (d : ℕ) → GoesAt Primary ts e d → Climbs Await (Word Key.Await ∷ ts) (Trees.Await e) (suc d)
+pub await_climbs : (ts : List Terminal) (e : Expr) (d : ℕ) → ReadsAt Primary ts e d → Climbs Await (Word Key.Await ∷ ts) (Trees.Await e) (suc d)
 await_climbs ts e d p k le rest s = (length rest, omega arith, await_step (read (suc (suc d))) (read (suc d)) k (ts ++ rest) rest e le (answers Primary ts e d rest p (omega (arith, s))))
 
 -- a Primary with no operator in front
@@ -229,11 +229,11 @@ primary_step : (next inner : Reads) (k : ℕ) (ts us rest : List Terminal) (e : 
 primary_step next inner k [] us rest e h q = absurd (omega (arith, h))
 primary_step next inner k (t ∷ ts) us rest e h q = rw (no_before t h) (rw q refl)
 
-pub primary_climbs : (ts : List Terminal) (e : Expr) (d : ℕ) → 23 ≤ lead_of ts → GoesAt Primary ts e d → Climbs Await ts e d
+pub primary_climbs : (ts : List Terminal) (e : Expr) (d : ℕ) → 23 ≤ lead_of ts → ReadsAt Primary ts e d → Climbs Await ts e d
 primary_climbs ts e d h p k le rest s = (length rest, omega arith, primary_step (read (suc d)) (read d) k ts rest rest e h (answers Primary ts e d rest p (omega (arith, s))))
 
 -- `**`
-pub power_climbs : (ts us : List Terminal) (a b : Expr) (d : ℕ) → Climbs Await ts a (suc d) → GoesAt Factor us b d → Climbs Power (ts ++ (Op DoubleStar ∷ us)) (Trees.BinOp a Bin.Pow b) (suc d)
+pub power_climbs : (ts us : List Terminal) (a b : Expr) (d : ℕ) → Climbs Await ts a (suc d) → ReadsAt Factor us b d → Climbs Power (ts ++ (Op DoubleStar ∷ us)) (Trees.BinOp a Bin.Pow b) (suc d)
 power_climbs ts us a b d p q k le rest s =
     let c = p k (omega (arith, le)) (Op DoubleStar ∷ (us ++ rest)) (omega arith) in
     let h2 = answers Factor us b d rest q (omega (arith, s)) in
@@ -245,8 +245,8 @@ pub append_none : (es : List Expr) → es ++ [] ≡ es
 append_none [] = refl
 append_none (e ∷ es) = ap (λ z. e ∷ z) (append_none es)
 
-abbrev pub ChainGoes : BoolOperator → List Terminal → List Expr → Type 0
-ChainGoes o us es = (n : ℕ) × ((d : ℕ) → n ≤ d → (rest : List Terminal) → grip_of rest < rank (chain_level o) → (m : ℕ) → suc (length (us ++ rest)) ≤ m → (acc : List Expr) → chain_loop (read (suc d)) o m acc (Word (chain_word o) ∷ (us ++ rest)) ≡ Found (acc ++ es) rest)
+abbrev pub ChainReads : BoolOperator → List Terminal → List Expr → Type 0
+ChainReads o us es = (n : ℕ) × ((d : ℕ) → n ≤ d → (rest : List Terminal) → grip_of rest < rank (chain_level o) → (m : ℕ) → suc (length (us ++ rest)) ≤ m → (acc : List Expr) → chain_loop (read (suc d)) o m acc (Word (chain_word o) ∷ (us ++ rest)) ≡ Found (acc ++ es) rest)
 
 chain_loop_end : (self : Reads) (o : BoolOperator) (m : ℕ) (acc : List Expr) (r : List Terminal) → grip_of r < rank (chain_level o) → chain_loop self o m acc r ≡ Found acc r
 chain_loop_end self o zero acc r h = refl
@@ -265,14 +265,14 @@ chain_word_grip : (o : BoolOperator) → grip (Word (chain_word o)) ≡ rank (ch
 chain_word_grip Join.And = refl
 chain_word_grip Join.Or = refl
 
-pub last_link_goes : (o : BoolOperator) (ts : List Terminal) (e : Expr) → Goes (below (chain_level o)) ts e → ChainGoes o ts (e ∷ [])
+pub last_link_goes : (o : BoolOperator) (ts : List Terminal) (e : Expr) → ReadsAs (below (chain_level o)) ts e → ChainReads o ts (e ∷ [])
 last_link_goes o ts e p = (p.0, go)
   where
     go : (d : ℕ) → p.0 ≤ d → (rest : List Terminal) → grip_of rest < rank (chain_level o) → (m : ℕ) → suc (length (ts ++ rest)) ≤ m → (acc : List Expr) → chain_loop (read (suc d)) o m acc (Word (chain_word o) ∷ (ts ++ rest)) ≡ Found (acc ++ (e ∷ [])) rest
     go d h rest g zero le acc = absurd (omega (arith, le))
     go d h rest g (suc m) le acc = chain_loop_more (read (suc d)) o m acc (ts ++ rest) rest e (answers (below (chain_level o)) ts e d rest (p.1 d h) (chain_stops o rest (omega (arith, g)))) ∙ chain_loop_end (read (suc d)) o m (acc ++ (e ∷ [])) rest g
 
-pub link_goes : (o : BoolOperator) (ts us : List Terminal) (e : Expr) (es : List Expr) → Goes (below (chain_level o)) ts e → ChainGoes o us es → ChainGoes o (ts ++ (Word (chain_word o) ∷ us)) (e ∷ es)
+pub link_goes : (o : BoolOperator) (ts us : List Terminal) (e : Expr) (es : List Expr) → ReadsAs (below (chain_level o)) ts e → ChainReads o us es → ChainReads o (ts ++ (Word (chain_word o) ∷ us)) (e ∷ es)
 link_goes o ts us e es p q = (max p.0 q.0, go)
   where
     w : Terminal
@@ -302,8 +302,8 @@ chain_climbs o l n ts us e es d b0 b1 b2 b3 p q k le rest s =
     (v.0, v.1, ap (climb (read (suc (suc d))) (read (suc d)) k) (append_assoc ts (Word (chain_word o) ∷ us) rest) ∙ c.2 ∙ v.2)
 
 -- comparisons
-abbrev pub ComparesGoes : List Terminal → List Comparison → List Expr → Type 0
-ComparesGoes us os es = (n : ℕ) × ((d : ℕ) → n ≤ d → (rest : List Terminal) → grip_of rest < 13 → (m : ℕ) → length (us ++ rest) ≤ m → (xs : List Comparison) (acc : List Expr) (k : List Comparison → List Expr → List Terminal → Answer Expr) → compare_loop (read (suc d)) m xs acc (us ++ rest) k ≡ k (xs ++ os) (acc ++ es) rest)
+abbrev pub ComparesReads : List Terminal → List Comparison → List Expr → Type 0
+ComparesReads us os es = (n : ℕ) × ((d : ℕ) → n ≤ d → (rest : List Terminal) → grip_of rest < 13 → (m : ℕ) → length (us ++ rest) ≤ m → (xs : List Comparison) (acc : List Expr) (k : List Comparison → List Expr → List Terminal → Answer Expr) → compare_loop (read (suc d)) m xs acc (us ++ rest) k ≡ k (xs ++ os) (acc ++ es) rest)
 
 comparison_behind : (t : Terminal) (o : Comparison) → comparison t ≡ Some o → behind t ≡ Some Compares
 comparison_behind (Op EqEqual) o h = refl
@@ -364,14 +364,14 @@ compared_some G.not_in = omega arith
 compared_some G.is = omega arith
 compared_some G.is_not = omega arith
 
-pub last_compare_goes : (ss ts : List Terminal) (o : Comparison) (e : Expr) → G.Compared ss o → 12 < lead_of ts → Goes BitOr ts e → ComparesGoes (ss ++ ts) (o ∷ []) (e ∷ [])
+pub last_compare_goes : (ss ts : List Terminal) (o : Comparison) (e : Expr) → G.Compared ss o → 12 < lead_of ts → ReadsAs BitOr ts e → ComparesReads (ss ++ ts) (o ∷ []) (e ∷ [])
 last_compare_goes ss ts o e c l p = (p.0, go)
   where
     go : (d : ℕ) → p.0 ≤ d → (rest : List Terminal) → grip_of rest < 13 → (m : ℕ) → length ((ss ++ ts) ++ rest) ≤ m → (xs : List Comparison) (acc : List Expr) (k : List Comparison → List Expr → List Terminal → Answer Expr) → compare_loop (read (suc d)) m xs acc ((ss ++ ts) ++ rest) k ≡ k (xs ++ (o ∷ [])) (acc ++ (e ∷ [])) rest
     go d h rest g zero le xs acc k = absurd (omega (arith, le, compared_some c, length-append (ss ++ ts) rest, length-append ss ts))
     go d h rest g (suc m) le xs acc k = ap (λ z. compare_loop (read (suc d)) (suc m) xs acc z k) (append_assoc ss ts rest) ∙ compare_one (read (suc d)) c m xs acc ts rest rest e k l (answers BitOr ts e d rest (p.1 d h) (omega (arith, g))) ∙ compare_loop_end (read (suc d)) m (xs ++ (o ∷ [])) (acc ++ (e ∷ [])) rest k g
 
-pub compares_goes : (ss ts us : List Terminal) (o : Comparison) (e : Expr) (os : List Comparison) (es : List Expr) → G.Compared ss o → 12 < lead_of ts → Goes BitOr ts e → G.Compares us os es → ComparesGoes us os es → ComparesGoes (ss ++ (ts ++ us)) (o ∷ os) (e ∷ es)
+pub compares_goes : (ss ts us : List Terminal) (o : Comparison) (e : Expr) (os : List Comparison) (es : List Expr) → G.Compared ss o → 12 < lead_of ts → ReadsAs BitOr ts e → G.Compares us os es → ComparesReads us os es → ComparesReads (ss ++ (ts ++ us)) (o ∷ os) (e ∷ es)
 compares_goes ss ts us o e os es c l p w q = (max p.0 q.0, go)
   where
     go : (d : ℕ) → max p.0 q.0 ≤ d → (rest : List Terminal) → grip_of rest < 13 → (m : ℕ) → length ((ss ++ (ts ++ us)) ++ rest) ≤ m → (xs : List Comparison) (acc : List Expr) (k : List Comparison → List Expr → List Terminal → Answer Expr) → compare_loop (read (suc d)) m xs acc ((ss ++ (ts ++ us)) ++ rest) k ≡ k (xs ++ (o ∷ os)) (acc ++ (e ∷ es)) rest
@@ -387,37 +387,37 @@ compare_climbs ts t vs e os es d b p q k le rest s =
     let v = loop_step (read (suc d)) k c.0 e (Trees.Compare e os (exprs es)) t Compares (vs ++ rest) rest b le (q rest (omega (arith, s)) (λ os es r2. Found (Trees.Compare e os (exprs es)) r2)) (omega (arith, length-append vs rest)) c.1 in
     (v.0, v.1, ap (climb (read (suc (suc d))) (read (suc d)) k) (append_assoc ts (t ∷ vs) rest) ∙ c.2 ∙ v.2)
 
-pub compare_goes : (ts us : List Terminal) (e : Expr) (os : List Comparison) (es : List Expr) → Goes BitOr ts e → G.Compares us os es → ComparesGoes us os es → Goes Compare (ts ++ us) (Trees.Compare e os (exprs es))
+pub compare_goes : (ts us : List Terminal) (e : Expr) (os : List Comparison) (es : List Expr) → ReadsAs BitOr ts e → G.Compares us os es → ComparesReads us os es → ReadsAs Compare (ts ++ us) (Trees.Compare e os (exprs es))
 compare_goes ts us e os es p w q = go us (compares_shape w) q
   where
-    go : (us : List Terminal) → Shape us → ComparesGoes us os es → Goes Compare (ts ++ us) (Trees.Compare e os (exprs es))
-    go us (t, vs, eq, b) q = subst (λ z. ComparesGoes z os es → Goes Compare (ts ++ z) (Trees.Compare e os (exprs es))) (sym eq) (λ r. (
+    go : (us : List Terminal) → Shape us → ComparesReads us os es → ReadsAs Compare (ts ++ us) (Trees.Compare e os (exprs es))
+    go us (t, vs, eq, b) q = subst (λ z. ComparesReads z os es → ReadsAs Compare (ts ++ z) (Trees.Compare e os (exprs es))) (sym eq) (λ r. (
       suc (max p.0 r.0),
-      deeper (GoesAt Compare (ts ++ (t ∷ vs)) (Trees.Compare e os (exprs es))) (max p.0 r.0) (λ d h. compare_climbs ts t vs e os es d b (p.1 (suc d) (omega (arith, h))) (λ rest g k. r.1 d (omega (arith, h)) rest g (suc (length (vs ++ rest))) (omega arith) [] [] k)),
+      deeper (ReadsAt Compare (ts ++ (t ∷ vs)) (Trees.Compare e os (exprs es))) (max p.0 r.0) (λ d h. compare_climbs ts t vs e os es d b (p.1 (suc d) (omega (arith, h))) (λ rest g k. r.1 d (omega (arith, h)) rest g (suc (length (vs ++ rest))) (omega arith) [] [] k)),
       λ d h. no_target Compare (ts ++ (t ∷ vs)) (Trees.Compare e os (exprs es)) d refl,
     )) q
 
 -- the constructors of these levels
-pub binary_goes : (l : Level) (ts us : List Terminal) (a b : Expr) (t : Terminal) (o : Operator) → left_operator l t ≡ Some o → Goes l ts a → Goes (below l) us b → Goes l (ts ++ (t ∷ us)) (Trees.BinOp a o b)
-binary_goes BitOr ts us a b t o e p q = (suc (max p.0 q.0), deeper (GoesAt BitOr (ts ++ (t ∷ us)) (Trees.BinOp a o b)) (max p.0 q.0) (λ d h. binary_climbs BitOr BitXor ts us a b t o d refl refl e (p.1 (suc d) (omega (arith, h))) (λ rest s. answers BitXor us b d rest (q.1 d (omega (arith, h))) (omega (arith, s)))), λ d h. no_target BitOr (ts ++ (t ∷ us)) (Trees.BinOp a o b) d refl)
-binary_goes BitXor ts us a b t o e p q = (suc (max p.0 q.0), deeper (GoesAt BitXor (ts ++ (t ∷ us)) (Trees.BinOp a o b)) (max p.0 q.0) (λ d h. binary_climbs BitXor BitAnd ts us a b t o d refl refl e (p.1 (suc d) (omega (arith, h))) (λ rest s. answers BitAnd us b d rest (q.1 d (omega (arith, h))) (omega (arith, s)))), λ d h. no_target BitXor (ts ++ (t ∷ us)) (Trees.BinOp a o b) d refl)
-binary_goes BitAnd ts us a b t o e p q = (suc (max p.0 q.0), deeper (GoesAt BitAnd (ts ++ (t ∷ us)) (Trees.BinOp a o b)) (max p.0 q.0) (λ d h. binary_climbs BitAnd Shift ts us a b t o d refl refl e (p.1 (suc d) (omega (arith, h))) (λ rest s. answers Shift us b d rest (q.1 d (omega (arith, h))) (omega (arith, s)))), λ d h. no_target BitAnd (ts ++ (t ∷ us)) (Trees.BinOp a o b) d refl)
-binary_goes Shift ts us a b t o e p q = (suc (max p.0 q.0), deeper (GoesAt Shift (ts ++ (t ∷ us)) (Trees.BinOp a o b)) (max p.0 q.0) (λ d h. binary_climbs Shift Sum ts us a b t o d refl refl e (p.1 (suc d) (omega (arith, h))) (λ rest s. answers Sum us b d rest (q.1 d (omega (arith, h))) (omega (arith, s)))), λ d h. no_target Shift (ts ++ (t ∷ us)) (Trees.BinOp a o b) d refl)
-binary_goes Sum ts us a b t o e p q = (suc (max p.0 q.0), deeper (GoesAt Sum (ts ++ (t ∷ us)) (Trees.BinOp a o b)) (max p.0 q.0) (λ d h. binary_climbs Sum Term ts us a b t o d refl refl e (p.1 (suc d) (omega (arith, h))) (λ rest s. answers Term us b d rest (q.1 d (omega (arith, h))) (omega (arith, s)))), λ d h. no_target Sum (ts ++ (t ∷ us)) (Trees.BinOp a o b) d refl)
-binary_goes Term ts us a b t o e p q = (suc (max p.0 q.0), deeper (GoesAt Term (ts ++ (t ∷ us)) (Trees.BinOp a o b)) (max p.0 q.0) (λ d h. binary_climbs Term Factor ts us a b t o d refl refl e (p.1 (suc d) (omega (arith, h))) (λ rest s. answers Factor us b d rest (q.1 d (omega (arith, h))) (omega (arith, s)))), λ d h. no_target Term (ts ++ (t ∷ us)) (Trees.BinOp a o b) d refl)
+pub binary_goes : (l : Level) (ts us : List Terminal) (a b : Expr) (t : Terminal) (o : Operator) → left_operator l t ≡ Some o → ReadsAs l ts a → ReadsAs (below l) us b → ReadsAs l (ts ++ (t ∷ us)) (Trees.BinOp a o b)
+binary_goes BitOr ts us a b t o e p q = (suc (max p.0 q.0), deeper (ReadsAt BitOr (ts ++ (t ∷ us)) (Trees.BinOp a o b)) (max p.0 q.0) (λ d h. binary_climbs BitOr BitXor ts us a b t o d refl refl e (p.1 (suc d) (omega (arith, h))) (λ rest s. answers BitXor us b d rest (q.1 d (omega (arith, h))) (omega (arith, s)))), λ d h. no_target BitOr (ts ++ (t ∷ us)) (Trees.BinOp a o b) d refl)
+binary_goes BitXor ts us a b t o e p q = (suc (max p.0 q.0), deeper (ReadsAt BitXor (ts ++ (t ∷ us)) (Trees.BinOp a o b)) (max p.0 q.0) (λ d h. binary_climbs BitXor BitAnd ts us a b t o d refl refl e (p.1 (suc d) (omega (arith, h))) (λ rest s. answers BitAnd us b d rest (q.1 d (omega (arith, h))) (omega (arith, s)))), λ d h. no_target BitXor (ts ++ (t ∷ us)) (Trees.BinOp a o b) d refl)
+binary_goes BitAnd ts us a b t o e p q = (suc (max p.0 q.0), deeper (ReadsAt BitAnd (ts ++ (t ∷ us)) (Trees.BinOp a o b)) (max p.0 q.0) (λ d h. binary_climbs BitAnd Shift ts us a b t o d refl refl e (p.1 (suc d) (omega (arith, h))) (λ rest s. answers Shift us b d rest (q.1 d (omega (arith, h))) (omega (arith, s)))), λ d h. no_target BitAnd (ts ++ (t ∷ us)) (Trees.BinOp a o b) d refl)
+binary_goes Shift ts us a b t o e p q = (suc (max p.0 q.0), deeper (ReadsAt Shift (ts ++ (t ∷ us)) (Trees.BinOp a o b)) (max p.0 q.0) (λ d h. binary_climbs Shift Sum ts us a b t o d refl refl e (p.1 (suc d) (omega (arith, h))) (λ rest s. answers Sum us b d rest (q.1 d (omega (arith, h))) (omega (arith, s)))), λ d h. no_target Shift (ts ++ (t ∷ us)) (Trees.BinOp a o b) d refl)
+binary_goes Sum ts us a b t o e p q = (suc (max p.0 q.0), deeper (ReadsAt Sum (ts ++ (t ∷ us)) (Trees.BinOp a o b)) (max p.0 q.0) (λ d h. binary_climbs Sum Term ts us a b t o d refl refl e (p.1 (suc d) (omega (arith, h))) (λ rest s. answers Term us b d rest (q.1 d (omega (arith, h))) (omega (arith, s)))), λ d h. no_target Sum (ts ++ (t ∷ us)) (Trees.BinOp a o b) d refl)
+binary_goes Term ts us a b t o e p q = (suc (max p.0 q.0), deeper (ReadsAt Term (ts ++ (t ∷ us)) (Trees.BinOp a o b)) (max p.0 q.0) (λ d h. binary_climbs Term Factor ts us a b t o d refl refl e (p.1 (suc d) (omega (arith, h))) (λ rest s. answers Factor us b d rest (q.1 d (omega (arith, h))) (omega (arith, s)))), λ d h. no_target Term (ts ++ (t ∷ us)) (Trees.BinOp a o b) d refl)
 binary_goes _ ts us a b t o e p q = absurd (cc)
 
-pub unary_goes : (l : Level) (ts : List Terminal) (t : Terminal) (o : UnaryOperator) (e : Expr) → prefix_operator l t ≡ Some o → Goes l ts e → Goes l (t ∷ ts) (Trees.UnaryOp o e)
-unary_goes Not ts t o e h p = (suc p.0, deeper (GoesAt Not (t ∷ ts) (Trees.UnaryOp o e)) p.0 (λ d w. unary_climbs Not ts t o e d h (λ rest s. answers Not ts e d rest (p.1 d w) (omega (arith, s)))), λ d w. no_target Not (t ∷ ts) (Trees.UnaryOp o e) d refl)
-unary_goes Factor ts t o e h p = (suc p.0, deeper (GoesAt Factor (t ∷ ts) (Trees.UnaryOp o e)) p.0 (λ d w. unary_climbs Factor ts t o e d h (λ rest s. answers Factor ts e d rest (p.1 d w) (omega (arith, s)))), λ d w. no_target Factor (t ∷ ts) (Trees.UnaryOp o e) d refl)
+pub unary_goes : (l : Level) (ts : List Terminal) (t : Terminal) (o : UnaryOperator) (e : Expr) → prefix_operator l t ≡ Some o → ReadsAs l ts e → ReadsAs l (t ∷ ts) (Trees.UnaryOp o e)
+unary_goes Not ts t o e h p = (suc p.0, deeper (ReadsAt Not (t ∷ ts) (Trees.UnaryOp o e)) p.0 (λ d w. unary_climbs Not ts t o e d h (λ rest s. answers Not ts e d rest (p.1 d w) (omega (arith, s)))), λ d w. no_target Not (t ∷ ts) (Trees.UnaryOp o e) d refl)
+unary_goes Factor ts t o e h p = (suc p.0, deeper (ReadsAt Factor (t ∷ ts) (Trees.UnaryOp o e)) p.0 (λ d w. unary_climbs Factor ts t o e d h (λ rest s. answers Factor ts e d rest (p.1 d w) (omega (arith, s)))), λ d w. no_target Factor (t ∷ ts) (Trees.UnaryOp o e) d refl)
 unary_goes _ ts t o e h p = absurd (cc)
 
-pub chain_goes : (o : BoolOperator) (ts us : List Terminal) (e : Expr) (es : List Expr) → Goes (below (chain_level o)) ts e → ChainGoes o us es → Goes (chain_level o) (ts ++ (Word (chain_word o) ∷ us)) (Trees.BoolOp o (exprs (e ∷ es)))
-chain_goes Join.And ts us e es p q = (suc (max p.0 q.0), deeper (GoesAt And (ts ++ (Word Key.And ∷ us)) (Trees.BoolOp Join.And (exprs (e ∷ es)))) (max p.0 q.0) (λ d h. chain_climbs Join.And And Not ts us e es d refl refl (omega arith) (omega arith) (p.1 (suc d) (omega (arith, h))) (λ rest s. q.1 d (omega (arith, h)) rest s (suc (length (us ++ rest))) (omega arith) [])), λ d h. no_target And (ts ++ (Word Key.And ∷ us)) (Trees.BoolOp Join.And (exprs (e ∷ es))) d refl)
-chain_goes Join.Or ts us e es p q = (suc (max p.0 q.0), deeper (GoesAt Or (ts ++ (Word Key.Or ∷ us)) (Trees.BoolOp Join.Or (exprs (e ∷ es)))) (max p.0 q.0) (λ d h. chain_climbs Join.Or Or And ts us e es d refl refl (omega arith) (omega arith) (p.1 (suc d) (omega (arith, h))) (λ rest s. q.1 d (omega (arith, h)) rest s (suc (length (us ++ rest))) (omega arith) [])), λ d h. no_target Or (ts ++ (Word Key.Or ∷ us)) (Trees.BoolOp Join.Or (exprs (e ∷ es))) d refl)
+pub chain_goes : (o : BoolOperator) (ts us : List Terminal) (e : Expr) (es : List Expr) → ReadsAs (below (chain_level o)) ts e → ChainReads o us es → ReadsAs (chain_level o) (ts ++ (Word (chain_word o) ∷ us)) (Trees.BoolOp o (exprs (e ∷ es)))
+chain_goes Join.And ts us e es p q = (suc (max p.0 q.0), deeper (ReadsAt And (ts ++ (Word Key.And ∷ us)) (Trees.BoolOp Join.And (exprs (e ∷ es)))) (max p.0 q.0) (λ d h. chain_climbs Join.And And Not ts us e es d refl refl (omega arith) (omega arith) (p.1 (suc d) (omega (arith, h))) (λ rest s. q.1 d (omega (arith, h)) rest s (suc (length (us ++ rest))) (omega arith) [])), λ d h. no_target And (ts ++ (Word Key.And ∷ us)) (Trees.BoolOp Join.And (exprs (e ∷ es))) d refl)
+chain_goes Join.Or ts us e es p q = (suc (max p.0 q.0), deeper (ReadsAt Or (ts ++ (Word Key.Or ∷ us)) (Trees.BoolOp Join.Or (exprs (e ∷ es)))) (max p.0 q.0) (λ d h. chain_climbs Join.Or Or And ts us e es d refl refl (omega arith) (omega arith) (p.1 (suc d) (omega (arith, h))) (λ rest s. q.1 d (omega (arith, h)) rest s (suc (length (us ++ rest))) (omega arith) [])), λ d h. no_target Or (ts ++ (Word Key.Or ∷ us)) (Trees.BoolOp Join.Or (exprs (e ∷ es))) d refl)
 
-pub power_goes : (ts us : List Terminal) (a b : Expr) → Goes Await ts a → Goes Factor us b → Goes Power (ts ++ (Op DoubleStar ∷ us)) (Trees.BinOp a Bin.Pow b)
-power_goes ts us a b p q = (suc (max p.0 q.0), deeper (GoesAt Power (ts ++ (Op DoubleStar ∷ us)) (Trees.BinOp a Bin.Pow b)) (max p.0 q.0) (λ d h. power_climbs ts us a b d (p.1 (suc d) (omega (arith, h))) (q.1 d (omega (arith, h)))), λ d h. no_target Power (ts ++ (Op DoubleStar ∷ us)) (Trees.BinOp a Bin.Pow b) d refl)
+pub power_goes : (ts us : List Terminal) (a b : Expr) → ReadsAs Await ts a → ReadsAs Factor us b → ReadsAs Power (ts ++ (Op DoubleStar ∷ us)) (Trees.BinOp a Bin.Pow b)
+power_goes ts us a b p q = (suc (max p.0 q.0), deeper (ReadsAt Power (ts ++ (Op DoubleStar ∷ us)) (Trees.BinOp a Bin.Pow b)) (max p.0 q.0) (λ d h. power_climbs ts us a b d (p.1 (suc d) (omega (arith, h))) (q.1 d (omega (arith, h)))), λ d h. no_target Power (ts ++ (Op DoubleStar ∷ us)) (Trees.BinOp a Bin.Pow b) d refl)
 
-pub await_goes : (ts : List Terminal) (e : Expr) → Goes Primary ts e → Goes Await (Word Key.Await ∷ ts) (Trees.Await e)
-await_goes ts e p = (suc p.0, deeper (GoesAt Await (Word Key.Await ∷ ts) (Trees.Await e)) p.0 (λ d h. await_climbs ts e d (p.1 d h)), λ d h. no_target Await (Word Key.Await ∷ ts) (Trees.Await e) d refl)
+pub await_goes : (ts : List Terminal) (e : Expr) → ReadsAs Primary ts e → ReadsAs Await (Word Key.Await ∷ ts) (Trees.Await e)
+await_goes ts e p = (suc p.0, deeper (ReadsAt Await (Word Key.Await ∷ ts) (Trees.Await e)) p.0 (λ d h. await_climbs ts e d (p.1 d h)), λ d h. no_target Await (Word Key.Await ∷ ts) (Trees.Await e) d refl)

@@ -19,12 +19,12 @@ use Rattle.pygrammar.specs.Grammar as G
 use Rattle.pygrammar.specs.Reader.{Answer, Found, made, primary_loop, read, piece, comps_closed, others_of, call_step, Reads}
 use Rattle.pygrammar.specs.Precedence.{starts, starts_comp}
 use Rattle.pygrammar.proofs.Completeness.LookLemmas.{grip_of}
-use Rattle.pygrammar.proofs.Completeness.Climb.{Stops, GoesAt, Goes, deeper, answers, ChainGoes, ComparesGoes, last_link_goes, link_goes, last_compare_goes, compares_goes, compare_goes, binary_goes, unary_goes, chain_goes, power_goes, await_goes}
+use Rattle.pygrammar.proofs.Completeness.Climb.{Stops, ReadsAt, ReadsAs, deeper, answers, ChainReads, ComparesReads, last_link_goes, link_goes, last_compare_goes, compares_goes, compare_goes, binary_goes, unary_goes, chain_goes, power_goes, await_goes}
 use Rattle.pygrammar.proofs.Completeness.LevelLemmas.{led, next_goes, not_star}
-use Rattle.pygrammar.proofs.Completeness.Lists.{PieceGoes, piece_starts, SuffixGoes, no_suffix_goes, suffix_goes, single_goes, pair_goes, pairs_of_goes, argument_goes, star_argument_goes, keyword_argument_goes, double_argument_goes, parameter_goes, slash_goes, bare_goes, star_parameter_goes, star_annotation_goes, double_parameter_goes}
-use Rattle.pygrammar.proofs.Completeness.Comps.{ListingGoes, CompsGoes, comps_first, comps_close, no_item_goes, last_item_goes, item_goes, IfsGoes, no_if_goes, if_one_goes, ForInGoes, target_in_goes, CompGoes, for_in_goes, async_goes, one_comp_goes, comps_goes}
-use Rattle.pygrammar.proofs.Completeness.Forms.{YieldsGoes, PerhapsGoes, nothing_goes, something_goes, yield_from_goes, yield_some_goes, yields_goes, star_item_goes, star_elem_goes, star_part_goes, star_slices_goes, star_tuple_goes, parts_goes, named_goes, lambda_goes, if_else_goes, front_nothing, front_something, slice_goes, slice_step_goes}
-use Rattle.pygrammar.proofs.Completeness.Atoms.{primary_goes, TailGoes, tail_keeps, tail_last, tail_more, Splits, name_goes, number_goes, constant_goes, strings_goes, group_goes, yield_group_goes, empty_tuple_goes, tuple_goes, generator_goes, empty_list_goes, list_goes, list_comp_goes, empty_dict_goes, set_goes, set_comp_goes, dict_goes, doubled_goes, dict_comp_goes}
+use Rattle.pygrammar.proofs.Completeness.Lists.{PieceReads, piece_starts, SuffixReads, no_suffix_goes, suffix_goes, single_goes, pair_goes, pairs_of_goes, argument_goes, star_argument_goes, keyword_argument_goes, double_argument_goes, parameter_goes, slash_goes, bare_goes, star_parameter_goes, star_annotation_goes, double_parameter_goes}
+use Rattle.pygrammar.proofs.Completeness.Comps.{ListingReads, CompsReads, comps_first, comps_close, no_item_goes, last_item_goes, item_goes, IfsReads, no_if_goes, if_one_goes, ForInReads, target_in_goes, CompReads, for_in_goes, async_goes, one_comp_goes, comps_goes}
+use Rattle.pygrammar.proofs.Completeness.Forms.{YieldsReads, PerhapsReads, nothing_goes, something_goes, yield_from_goes, yield_some_goes, yields_goes, star_item_goes, star_elem_goes, star_part_goes, star_slices_goes, star_tuple_goes, parts_goes, named_goes, lambda_goes, if_else_goes, front_nothing, front_something, slice_goes, slice_step_goes}
+use Rattle.pygrammar.proofs.Completeness.Atoms.{primary_goes, TailReads, tail_keeps, tail_last, tail_more, Splits, name_goes, number_goes, constant_goes, strings_goes, group_goes, yield_group_goes, empty_tuple_goes, tuple_goes, generator_goes, empty_list_goes, list_goes, list_comp_goes, empty_dict_goes, set_goes, set_comp_goes, dict_goes, doubled_goes, dict_comp_goes}
 
 -- Primary and what follows it
 dot_more : (self : Reads) (m : ℕ) (e : Expr) (x : Spelled) (rest : List Terminal) → suc (suc (length rest)) ≤ m → (m' : ℕ) × (length rest ≤ m') × (primary_loop self m e (Op Dot ∷ (Ident x ∷ rest)) ≡ primary_loop self m' (Trees.Attribute e x.form Load) rest)
@@ -39,7 +39,7 @@ index_more : (self : Reads) (m : ℕ) (e s : Expr) (i rest : List Terminal) → 
 index_more self zero e s i rest h le lm = absurd (omega (arith, lm))
 index_more self (suc m) e s i rest h le lm = (m, omega (arith, le, lm), rw h refl)
 
-attribute_goes : (ts : List Terminal) (e : Expr) (x : Spelled) → Goes Primary ts e → Goes Primary (ts ++ (Op Dot ∷ (Ident x ∷ []))) (Trees.Attribute e x.form Load)
+attribute_goes : (ts : List Terminal) (e : Expr) (x : Spelled) → ReadsAs Primary ts e → ReadsAs Primary (ts ++ (Op Dot ∷ (Ident x ∷ []))) (Trees.Attribute e x.form Load)
 attribute_goes ts e x p = primary_goes (ts ++ (Op Dot ∷ (Ident x ∷ []))) (Trees.Attribute e x.form Load) p.0 (λ d h rest g.
     let c = p.1 d h (Op Dot ∷ (Ident x ∷ rest)) (omega arith) in
     let w = dot_more (read d) c.0 e x rest (omega (arith, c.1)) in
@@ -51,8 +51,8 @@ bracket_shape ts us rest s t = simp append_assoc refl
 generator_shape : (ts us vs rest : List Terminal) (s t : Terminal) → (ts ++ (s ∷ (us ++ (vs ++ (t ∷ []))))) ++ rest ≡ ts ++ (s ∷ (us ++ (vs ++ (t ∷ rest))))
 generator_shape ts us vs rest s t = simp append_assoc refl
 
-subscript_goes : (ts us : List Terminal) (e s : Expr) → Goes Primary ts e → Goes Slices us s → Goes Primary (ts ++ (Op LSqb ∷ (us ++ (Op RSqb ∷ [])))) (Trees.Subscript e s Load)
-subscript_goes ts us e s p q = primary_goes (ts ++ (Op LSqb ∷ (us ++ (Op RSqb ∷ [])))) (Trees.Subscript e s Load) (suc (max p.0 q.0)) (deeper (GoesAt Primary (ts ++ (Op LSqb ∷ (us ++ (Op RSqb ∷ [])))) (Trees.Subscript e s Load)) (max p.0 q.0) (λ d h rest g.
+subscript_goes : (ts us : List Terminal) (e s : Expr) → ReadsAs Primary ts e → ReadsAs Slices us s → ReadsAs Primary (ts ++ (Op LSqb ∷ (us ++ (Op RSqb ∷ [])))) (Trees.Subscript e s Load)
+subscript_goes ts us e s p q = primary_goes (ts ++ (Op LSqb ∷ (us ++ (Op RSqb ∷ [])))) (Trees.Subscript e s Load) (suc (max p.0 q.0)) (deeper (ReadsAt Primary (ts ++ (Op LSqb ∷ (us ++ (Op RSqb ∷ [])))) (Trees.Subscript e s Load)) (max p.0 q.0) (λ d h rest g.
     let i = us ++ (Op RSqb ∷ rest) in
     let c = p.1 (suc d) (omega (arith, h)) (Op LSqb ∷ i) (omega arith) in
     let w = index_more (read (suc d)) c.0 e s i rest (q.1 d (omega (arith, h)) (Op RSqb ∷ rest) (omega arith, omega arith)) (omega (arith, length-append us (Op RSqb ∷ rest))) c.1 in
@@ -68,26 +68,26 @@ call_generator_step : (self : Reads) (f e g : Expr) (i r rest : List Terminal) �
 call_generator_step self f e g i r rest h1 h2 h3 h4 = rw h1 (rw h2 (rw h3 h4))
 
 -- any call: what stands in the brackets
-any_call : (ts us : List Terminal) (f e : Expr) (n : ℕ) → ((d : ℕ) → n ≤ d → (rest : List Terminal) → call_step (read (suc d)) f (us ++ (Op RPar ∷ rest)) ≡ Found e rest) → Goes Primary ts f → Goes Primary (ts ++ (Op LPar ∷ (us ++ (Op RPar ∷ [])))) e
-any_call ts us f e n k p = primary_goes (ts ++ (Op LPar ∷ (us ++ (Op RPar ∷ [])))) e (suc (max p.0 n)) (deeper (GoesAt Primary (ts ++ (Op LPar ∷ (us ++ (Op RPar ∷ [])))) e) (max p.0 n) (λ d h rest g.
+any_call : (ts us : List Terminal) (f e : Expr) (n : ℕ) → ((d : ℕ) → n ≤ d → (rest : List Terminal) → call_step (read (suc d)) f (us ++ (Op RPar ∷ rest)) ≡ Found e rest) → ReadsAs Primary ts f → ReadsAs Primary (ts ++ (Op LPar ∷ (us ++ (Op RPar ∷ [])))) e
+any_call ts us f e n k p = primary_goes (ts ++ (Op LPar ∷ (us ++ (Op RPar ∷ [])))) e (suc (max p.0 n)) (deeper (ReadsAt Primary (ts ++ (Op LPar ∷ (us ++ (Op RPar ∷ [])))) e) (max p.0 n) (λ d h rest g.
     let i = us ++ (Op RPar ∷ rest) in
     let c = p.1 (suc d) (omega (arith, h)) (Op LPar ∷ i) (omega arith) in
     let w = call_more (read (suc d)) c.0 f e i rest (k d (omega (arith, h)) rest) (omega (arith, length-append us (Op RPar ∷ rest))) c.1 in
     (w.0, w.1, ap (read (suc (suc d)) Primary) (bracket_shape ts us rest (Op LPar) (Op RPar)) ∙ c.2 ∙ w.2)))
 
-call_none_goes : (ts : List Terminal) (f e : Expr) → called f [] ≡ Some e → Goes Primary ts f → Goes Primary (ts ++ (Op LPar ∷ (Op RPar ∷ []))) e
+call_none_goes : (ts : List Terminal) (f e : Expr) → called f [] ≡ Some e → ReadsAs Primary ts f → ReadsAs Primary (ts ++ (Op LPar ∷ (Op RPar ∷ []))) e
 call_none_goes ts f e h p = any_call ts [] f e 0 (λ d w rest. call_none_step (read (suc d)) f e rest h) p
 
-call_some_goes : (ts us xs vs : List Terminal) (f e : Expr) (a : Entry) (es : List Entry) → called f (a ∷ es) ≡ Some e → Splits us xs vs → ((r : List Terminal) → starts Argument (xs ++ r) ≡ true) → Goes Primary ts f → PieceGoes Argument xs a → TailGoes Argument vs es → Goes Primary (ts ++ (Op LPar ∷ (us ++ (Op RPar ∷ [])))) e
+call_some_goes : (ts us xs vs : List Terminal) (f e : Expr) (a : Entry) (es : List Entry) → called f (a ∷ es) ≡ Some e → Splits us xs vs → ((r : List Terminal) → starts Argument (xs ++ r) ≡ true) → ReadsAs Primary ts f → PieceReads Argument xs a → TailReads Argument vs es → ReadsAs Primary (ts ++ (Op LPar ∷ (us ++ (Op RPar ∷ [])))) e
 call_some_goes ts us xs vs f e a es h sp st p q t = any_call ts us f e (max q.0 t.0) (λ d w rest.
     let c = Op RPar ∷ rest in
     let r = vs ++ (Op RPar ∷ rest) in
     ap (call_step (read (suc d)) f) (sp (Op RPar ∷ rest)) ∙ call_first_step (read (suc d)) f e (xs ++ r) r rest a (a ∷ es) (st r) (q.1 d (omega (arith, w)) r (tail_keeps (λ r. (grip_of r ≤ 7) × (grip_of r ≡ 1 → ⊥)) vs c t.2 (omega arith, λ q. absurd (omega (arith, q))) (λ r. (omega arith, λ q. absurd (omega (arith, q)))))) (tail_keeps (λ r. starts_comp r ≡ false) vs c t.2 refl (λ r. refl)) (t.1 d (omega (arith, w)) (λ r. (omega arith, λ q. absurd (omega (arith, q)))) c (refl, (λ q. absurd (omega (arith, q))), (omega arith, λ q. absurd (omega (arith, q)))) a) h) p
 
-call_generator_goes : (ts us vs : List Terminal) (f e : Expr) (gs : List Comprehension) → ((r : List Terminal) → starts Argument (us ++ r) ≡ true) → Goes Primary ts f → PieceGoes Argument us (Single e) → G.Comps vs gs → CompsGoes vs gs → Goes Primary (ts ++ (Op LPar ∷ (us ++ (vs ++ (Op RPar ∷ []))))) (Trees.Call f (an_expr (Trees.GeneratorExp e (comprehensions gs)) no_exprs) Trees.no_keyword)
+call_generator_goes : (ts us vs : List Terminal) (f e : Expr) (gs : List Comprehension) → ((r : List Terminal) → starts Argument (us ++ r) ≡ true) → ReadsAs Primary ts f → PieceReads Argument us (Single e) → G.Comps vs gs → CompsReads vs gs → ReadsAs Primary (ts ++ (Op LPar ∷ (us ++ (vs ++ (Op RPar ∷ []))))) (Trees.Call f (an_expr (Trees.GeneratorExp e (comprehensions gs)) no_exprs) Trees.no_keyword)
 call_generator_goes ts us vs f e gs st p q w k =
     let g = Trees.Call f (an_expr (Trees.GeneratorExp e (comprehensions gs)) no_exprs) Trees.no_keyword in
-    subst (λ z. Goes Primary (ts ++ (Op LPar ∷ z)) (Trees.Call f (an_expr (Trees.GeneratorExp e (comprehensions gs)) no_exprs) Trees.no_keyword)) (append_assoc us vs (Op RPar ∷ [])) (any_call ts (us ++ vs) f (Trees.Call f (an_expr (Trees.GeneratorExp e (comprehensions gs)) no_exprs) Trees.no_keyword) (max q.0 k.0) (λ d h rest.
+    subst (λ z. ReadsAs Primary (ts ++ (Op LPar ∷ z)) (Trees.Call f (an_expr (Trees.GeneratorExp e (comprehensions gs)) no_exprs) Trees.no_keyword)) (append_assoc us vs (Op RPar ∷ [])) (any_call ts (us ++ vs) f (Trees.Call f (an_expr (Trees.GeneratorExp e (comprehensions gs)) no_exprs) Trees.no_keyword) (max q.0 k.0) (λ d h rest.
     let r = vs ++ (Op RPar ∷ rest) in
     let c = comps_first w (Op RPar ∷ rest) in
     ap (call_step (read (suc d)) f) (append_assoc us vs (Op RPar ∷ rest)) ∙ call_generator_step (read (suc d)) f e g (us ++ r) r rest (st r) (q.1 d (omega (arith, h)) r (omega (arith, c.0), λ q. omega (arith, q, c.0))) c.1 (comps_close vs gs k d (omega (arith, h)) RPar rest refl (λ gs. Trees.Call f (an_expr (Trees.GeneratorExp e (comprehensions gs)) no_exprs) Trees.no_keyword))) p)
@@ -99,7 +99,7 @@ split_more : (ts us : List Terminal) → Splits (ts ++ (Op Comma ∷ us)) ts (Op
 split_more ts us r = append_assoc ts (Op Comma ∷ us) r
 
 mutual
-  pub goes : {l : Level} {ts : List Terminal} {e : Expr} → G.Derives l ts e → Goes l ts e
+  pub goes : {l : Level} {ts : List Terminal} {e : Expr} → G.Derives l ts e → ReadsAs l ts e
   goes (G.next {l = l} {ts = ts} {e = e} p) = next_goes l ts e (led p) (not_star p) (goes p)
   goes (G.yields {ts = ts} {e = e} p) = yields_goes ts e (yields_all p)
   goes (G.star_tuple {ts = ts} {us = us} {e = e} {es = es} p c) = star_tuple_goes ts us e es (goes p) (listing_all c)
@@ -150,32 +150,32 @@ mutual
   goes (G.slice_step {us = us} {vs = vs} {b = b} {c = c} G.nothing q r) = slice_step_goes [] us vs absent b c front_nothing (perhaps_all q) (perhaps_all r)
   goes (G.slice_step {us = us} {vs = vs} {b = b} {c = c} (G.something {ts = ts} {e = a} p) q r) = slice_step_goes ts us vs (present a) b c (front_something ts a (led p) (goes p)) (perhaps_all q) (perhaps_all r)
 
-  yields_all : {ts : List Terminal} {e : Expr} → G.Yields ts e → YieldsGoes ts e
+  yields_all : {ts : List Terminal} {e : Expr} → G.Yields ts e → YieldsReads ts e
   yields_all (G.yield_from {ts = ts} {e = e} p) = yield_from_goes ts e (goes p)
   yields_all (G.yield_some {ts = ts} {e = a} p) = yield_some_goes ts a p (perhaps_all p)
 
-  perhaps_all : {l : Level} {ts : List Terminal} {a : OptionalExpr} → G.Perhaps l ts a → PerhapsGoes l ts a
+  perhaps_all : {l : Level} {ts : List Terminal} {a : OptionalExpr} → G.Perhaps l ts a → PerhapsReads l ts a
   perhaps_all (G.nothing {l = l}) = nothing_goes l
   perhaps_all (G.something {l = l} {ts = ts} {e = e} p) = something_goes l ts e (led p) (goes p)
 
-  suffix_all : {s : Option Exact} {ts : List Terminal} {a : OptionalExpr} → G.Suffix s ts a → SuffixGoes s ts a
+  suffix_all : {s : Option Exact} {ts : List Terminal} {a : OptionalExpr} → G.Suffix s ts a → SuffixReads s ts a
   suffix_all (G.no_suffix {s = s}) = no_suffix_goes s
   suffix_all (G.suffix {x = x} {ts = ts} {e = e} p) = suffix_goes x ts e (goes p)
 
-  chain_all : {o : BoolOperator} {us : List Terminal} {es : List Expr} → G.Chain o us es → ChainGoes o us es
+  chain_all : {o : BoolOperator} {us : List Terminal} {es : List Expr} → G.Chain o us es → ChainReads o us es
   chain_all (G.last_link {o = o} {ts = ts} {e = e} p) = last_link_goes o ts e (goes p)
   chain_all (G.link {o = o} {ts = ts} {us = us} {e = e} {es = es} p c) = link_goes o ts us e es (goes p) (chain_all c)
 
-  compares_all : {us : List Terminal} {os : List Comparison} {es : List Expr} → G.Compares us os es → ComparesGoes us os es
+  compares_all : {us : List Terminal} {os : List Comparison} {es : List Expr} → G.Compares us os es → ComparesReads us os es
   compares_all (G.last_compare {ss = ss} {ts = ts} {o = o} {e = e} c p) = last_compare_goes ss ts o e c (omega (arith, led p)) (goes p)
   compares_all (G.compares {ss = ss} {ts = ts} {us = us} {o = o} {e = e} {os = os} {es = es} c p w) = compares_goes ss ts us o e os es c (omega (arith, led p)) (goes p) w (compares_all w)
 
-  pub listing_all : {i : Item} {us : List Terminal} {es : List Entry} → G.Listing i us es → ListingGoes i us es
+  pub listing_all : {i : Item} {us : List Terminal} {es : List Entry} → G.Listing i us es → ListingReads i us es
   listing_all (G.no_item {i = i}) = no_item_goes i
   listing_all (G.last_item {i = i} {ts = ts} {e = a} p) = last_item_goes i ts a (λ r. piece_starts p r) (piece_all p)
   listing_all (G.item {i = i} {ts = ts} {us = us} {e = a} {es = es} p c) = item_goes i ts us a es (λ r. piece_starts p r) (piece_all p) (listing_all c)
 
-  piece_all : {i : Item} {ts : List Terminal} {a : Entry} → G.Piece i ts a → PieceGoes i ts a
+  piece_all : {i : Item} {ts : List Terminal} {a : Entry} → G.Piece i ts a → PieceReads i ts a
   piece_all (G.single {l = l} {ts = ts} {e = e} p) = single_goes l ts e (goes p)
   piece_all (G.pair {ts = ts} {us = us} {k = k} {e = e} p q) = pair_goes ts us k e (led p) (goes p) (goes q)
   piece_all (G.pairs_of {ts = ts} {e = e} p) = pairs_of_goes ts e (goes p)
@@ -190,18 +190,18 @@ mutual
   piece_all (G.star_annotation {x = x} {ts = ts} {e = e} p) = star_annotation_goes x ts e (goes p)
   piece_all (G.double_parameter {b = b} {x = x} {ts = ts} {a = a} p) = double_parameter_goes b x ts a (suffix_all p)
 
-  comps_all : {us : List Terminal} {gs : List Comprehension} → G.Comps us gs → CompsGoes us gs
+  comps_all : {us : List Terminal} {gs : List Comprehension} → G.Comps us gs → CompsReads us gs
   comps_all (G.one_comp {ts = ts} {g = g} p) = one_comp_goes ts g p (comp_all p)
   comps_all (G.comps {ts = ts} {us = us} {g = g} {gs = gs} p c) = comps_goes ts us g gs p c (comp_all p) (comps_all c)
 
-  comp_all : {us : List Terminal} {g : Comprehension} → G.Comp us g → CompGoes us g
+  comp_all : {us : List Terminal} {g : Comprehension} → G.Comp us g → CompReads us g
   comp_all (G.for_in {ts = ts} {g = g} p) = for_in_goes ts g (for_in_all p)
   comp_all (G.async_for_in {ts = ts} {g = g} p) = async_goes ts g (for_in_all p)
 
-  for_in_all : {b : Bool} {us : List Terminal} {g : Comprehension} → G.ForIn b us g → ForInGoes b us g
+  for_in_all : {b : Bool} {us : List Terminal} {g : Comprehension} → G.ForIn b us g → ForInReads b us g
   for_in_all (G.target_in {b = b} {ts = ts} {us = us} {vs = vs} {t = t} {s = s} {e = e} {cs = cs} p h q c) = target_in_goes b ts us vs t s e cs (goes p) h (goes q) c (ifs_all c)
 
-  ifs_all : {us : List Terminal} {es : List Expr} → G.Ifs us es → IfsGoes us es
+  ifs_all : {us : List Terminal} {es : List Expr} → G.Ifs us es → IfsReads us es
   ifs_all G.no_if = no_if_goes
   ifs_all (G.if_one {ts = ts} {us = us} {e = e} {es = es} p c) = if_one_goes ts us e es (goes p) c (ifs_all c)
 

@@ -1,6 +1,6 @@
 -- Lists of items, and comprehensions.
 --
--- Carries: starts_low, ListingGoes, ListEnds, Separable and 19 more, for Complete, Atoms, Forms,
+-- Carries: starts_low, ListingReads, ListEnds, Separable and 19 more, for Complete, Atoms, Forms,
 -- Headers and 2 more. On: LookLemmas, Lists, Climb.
 use Rattle.std.proofs.Common.{◌≡◌, refl, sym, ap, ◌∙◌, ℕ, zero, suc, ◌≤◌, ◌<◌, arith, List, [], ◌∷◌, ◌++◌, length, Option, Some, None, Bool, true, false, append_assoc, length-append}
 use Rattle.std.proofs.lemmas.Bool.{leb-true}
@@ -18,8 +18,8 @@ use Rattle.pygrammar.specs.Grammar as G
 use Rattle.pygrammar.specs.Reader.{Answer, Found, NoForm, Reads, read, read_target, piece, listing_loop, target_piece, ifs_loop, for_in_step, comps_loop, comps_closed}
 use Rattle.pygrammar.specs.Precedence.{lead, first, starts, starts_comp}
 use Rattle.pygrammar.proofs.Completeness.LookLemmas.{grip, grip_of, lead_of, miss_op, miss_word, hit_op}
-use Rattle.pygrammar.proofs.Completeness.Climb.{Goes, answers}
-use Rattle.pygrammar.proofs.Completeness.Lists.{PieceStops, PieceTarget, PieceGoes}
+use Rattle.pygrammar.proofs.Completeness.Climb.{ReadsAs, answers}
+use Rattle.pygrammar.proofs.Completeness.Lists.{PieceStops, PieceTarget, PieceReads}
 
 pub append_no : {A : Type 0} (es : List A) → es ++ [] ≡ es
 append_no [] = refl
@@ -36,8 +36,8 @@ abbrev pub ListingTarget : Item → List Terminal → List Entry → ℕ → Typ
 ListingTarget (Of StarItem) us es d = (z : Exprs) → all_stored (singles es) ≡ Some z → (rest : List Terminal) → grip_of rest ≤ 22 → (grip_of rest ≡ 3 → ⊥) → lead_of rest ≤ 6 → (m : ℕ) → length (us ++ rest) ≤ m → (acc : List Entry) → listing_loop (target_piece (read (suc d))) (Of StarItem) m acc (us ++ rest) ≡ Found (acc ++ es) rest
 ListingTarget i us es d = Unit {0}
 
-abbrev pub ListingGoes : Item → List Terminal → List Entry → Type 0
-ListingGoes i us es = (n : ℕ) × ((d : ℕ) → n ≤ d → Separable i → (rest : List Terminal) → ListEnds i rest → (m : ℕ) → length (us ++ rest) ≤ m → (acc : List Entry) → listing_loop (piece (read (suc d)) i) i m acc (us ++ rest) ≡ Found (acc ++ es) rest) × ((d : ℕ) → n ≤ d → ListingTarget i us es d)
+abbrev pub ListingReads : Item → List Terminal → List Entry → Type 0
+ListingReads i us es = (n : ℕ) × ((d : ℕ) → n ≤ d → Separable i → (rest : List Terminal) → ListEnds i rest → (m : ℕ) → length (us ++ rest) ≤ m → (acc : List Entry) → listing_loop (piece (read (suc d)) i) i m acc (us ++ rest) ≡ Found (acc ++ es) rest) × ((d : ℕ) → n ≤ d → ListingTarget i us es d)
 
 -- the loop over any reader of an item
 module _ (one : List Terminal → Answer Entry) (i : Item) where
@@ -63,7 +63,7 @@ starts_low l (t ∷ r) h = low (leb (first l) (lead t)) refl
     low false q = q
     low true q = absurd (omega (arith, h, leb-true (first l) (lead t) q))
 
-pub no_item_goes : (i : Item) → ListingGoes i [] []
+pub no_item_goes : (i : Item) → ListingReads i [] []
 no_item_goes i = (0, (λ d h w rest s m le acc. listing_end (piece (read (suc d)) i) i m acc rest s.0 ∙ ap (λ z. Found z rest) (sym (append_no acc))), λ d h. target i d)
   where
     target : (i : Item) (d : ℕ) → ListingTarget i [] [] d
@@ -102,14 +102,14 @@ item_target (Of StarItem) ts us a es d st (e, eq, p) k = λ z q rest g c l m le 
         ap (listing_loop (target_piece (read (suc d))) (Of StarItem) (suc m) acc) (append_assoc ts (Op Comma ∷ us) rest) ∙ (listing_more (target_piece (read (suc d))) (Of StarItem) m acc (ts ++ (Op Comma ∷ (us ++ rest))) (us ++ rest) a (st (Op Comma ∷ (us ++ rest))) h1 ∙ (k w.1.0 w.1.1 rest g c l m l1 (acc ++ (a ∷ [])) ∙ ap (λ z. Found z rest) (append_assoc acc (a ∷ []) es)))
 item_target _ ts us a es d st p k = tt
 
-pub last_item_goes : (i : Item) (ts : List Terminal) (a : Entry) → ((us : List Terminal) → starts i (ts ++ us) ≡ true) → PieceGoes i ts a → ListingGoes i ts (a ∷ [])
+pub last_item_goes : (i : Item) (ts : List Terminal) (a : Entry) → ((us : List Terminal) → starts i (ts ++ us) ≡ true) → PieceReads i ts a → ListingReads i ts (a ∷ [])
 last_item_goes i ts a st p = (p.0, go, λ d h. last_target i ts a d st (p.2 d h))
   where
     go : (d : ℕ) → p.0 ≤ d → Separable i → (rest : List Terminal) → ListEnds i rest → (m : ℕ) → length (ts ++ rest) ≤ m → (acc : List Entry) → listing_loop (piece (read (suc d)) i) i m acc (ts ++ rest) ≡ Found (acc ++ (a ∷ [])) rest
     go d h w rest s zero le acc = absurd (no_start i (ts ++ rest) le (st rest))
     go d h w rest s (suc m) le acc = listing_last (piece (read (suc d)) i) i m acc (ts ++ rest) rest a (st rest) (p.1 d h rest s.2) s.1
 
-pub item_goes : (i : Item) (ts us : List Terminal) (a : Entry) (es : List Entry) → ((us : List Terminal) → starts i (ts ++ us) ≡ true) → PieceGoes i ts a → ListingGoes i us es → ListingGoes i (ts ++ (Op Comma ∷ us)) (a ∷ es)
+pub item_goes : (i : Item) (ts us : List Terminal) (a : Entry) (es : List Entry) → ((us : List Terminal) → starts i (ts ++ us) ≡ true) → PieceReads i ts a → ListingReads i us es → ListingReads i (ts ++ (Op Comma ∷ us)) (a ∷ es)
 item_goes i ts us a es st p k = (max p.0 k.0, go, λ d h. item_target i ts us a es d st (p.2 d (omega (arith, h))) (k.2 d (omega (arith, h))))
   where
     go : (d : ℕ) → max p.0 k.0 ≤ d → Separable i → (rest : List Terminal) → ListEnds i rest → (m : ℕ) → length ((ts ++ (Op Comma ∷ us)) ++ rest) ≤ m → (acc : List Entry) → listing_loop (piece (read (suc d)) i) i m acc ((ts ++ (Op Comma ∷ us)) ++ rest) ≡ Found (acc ++ (a ∷ es)) rest
@@ -119,8 +119,8 @@ item_goes i ts us a es st p k = (max p.0 k.0, go, λ d h. item_target i ts us a 
         ap (listing_loop (piece (read (suc d)) i) i (suc m) acc) (append_assoc ts (Op Comma ∷ us) rest) ∙ (listing_more (piece (read (suc d)) i) i m acc (ts ++ (Op Comma ∷ (us ++ rest))) (us ++ rest) a (st (Op Comma ∷ (us ++ rest))) (p.1 d (omega (arith, h)) (Op Comma ∷ (us ++ rest)) (w (us ++ rest))) ∙ (k.1 d (omega (arith, h)) w rest s m l1 (acc ++ (a ∷ [])) ∙ ap (λ z. Found z rest) (append_assoc acc (a ∷ []) es)))
 
 -- conditions of a comprehension
-abbrev pub IfsGoes : List Terminal → List Expr → Type 0
-IfsGoes us es = (n : ℕ) × ((d : ℕ) → n ≤ d → (rest : List Terminal) → grip_of rest ≤ 8 → (m : ℕ) → length (us ++ rest) ≤ m → (acc : List Expr) → ifs_loop (read (suc d)) m acc (us ++ rest) ≡ Found (acc ++ es) rest)
+abbrev pub IfsReads : List Terminal → List Expr → Type 0
+IfsReads us es = (n : ℕ) × ((d : ℕ) → n ≤ d → (rest : List Terminal) → grip_of rest ≤ 8 → (m : ℕ) → length (us ++ rest) ≤ m → (acc : List Expr) → ifs_loop (read (suc d)) m acc (us ++ rest) ≡ Found (acc ++ es) rest)
 
 ifs_end : (self : Reads) (m : ℕ) (acc : List Expr) (r : List Terminal) → grip_of r ≤ 8 → ifs_loop self m acc r ≡ Found acc r
 ifs_end self zero acc r h = refl
@@ -129,14 +129,14 @@ ifs_end self (suc m) acc r h = miss_word Key.If r _ _ (λ q. omega (arith, h, q)
 ifs_more : (self : Reads) (m : ℕ) (acc : List Expr) (i r : List Terminal) (e : Expr) → self Or i ≡ Found e r → ifs_loop self (suc m) acc (Word Key.If ∷ i) ≡ ifs_loop self m (acc ++ (e ∷ [])) r
 ifs_more self m acc i r e h = rw h refl
 
-pub no_if_goes : IfsGoes [] []
+pub no_if_goes : IfsReads [] []
 no_if_goes = (0, λ d h rest g m le acc. ifs_end (read (suc d)) m acc rest g ∙ ap (λ z. Found z rest) (sym (append_no acc)))
 
 pub ifs_grip : {us : List Terminal} {es : List Expr} → G.Ifs us es → (rest : List Terminal) → grip_of rest ≤ 8 → grip_of (us ++ rest) ≤ 9
 ifs_grip G.no_if rest g = omega (arith, g)
 ifs_grip (G.if_one p q) rest g = omega arith
 
-pub if_one_goes : (ts us : List Terminal) (e : Expr) (es : List Expr) → Goes Or ts e → G.Ifs us es → IfsGoes us es → IfsGoes (Word Key.If ∷ (ts ++ us)) (e ∷ es)
+pub if_one_goes : (ts us : List Terminal) (e : Expr) (es : List Expr) → ReadsAs Or ts e → G.Ifs us es → IfsReads us es → IfsReads (Word Key.If ∷ (ts ++ us)) (e ∷ es)
 if_one_goes ts us e es p w q = (max p.0 q.0, go)
   where
     go : (d : ℕ) → max p.0 q.0 ≤ d → (rest : List Terminal) → grip_of rest ≤ 8 → (m : ℕ) → length ((Word Key.If ∷ (ts ++ us)) ++ rest) ≤ m → (acc : List Expr) → ifs_loop (read (suc d)) m acc ((Word Key.If ∷ (ts ++ us)) ++ rest) ≡ Found (acc ++ (e ∷ es)) rest
@@ -147,8 +147,8 @@ if_one_goes ts us e es p w q = (max p.0 q.0, go)
         ap (λ z. ifs_loop (read (suc d)) (suc m) acc (Word Key.If ∷ z)) (append_assoc ts us rest) ∙ (ifs_more (read (suc d)) m acc (ts ++ (us ++ rest)) (us ++ rest) e h1 ∙ (q.1 d (omega (arith, h)) rest g m l1 (acc ++ (e ∷ [])) ∙ ap (λ z. Found z rest) (append_assoc acc (e ∷ []) es)))
 
 -- one `for` of a comprehension
-abbrev pub ForInGoes : Bool → List Terminal → Comprehension → Type 0
-ForInGoes b us g = (n : ℕ) × ((d : ℕ) → n ≤ d → (rest : List Terminal) → grip_of rest ≤ 8 → for_in_step (read (suc d)) b (us ++ rest) ≡ Found g rest)
+abbrev pub ForInReads : Bool → List Terminal → Comprehension → Type 0
+ForInReads b us g = (n : ℕ) × ((d : ℕ) → n ≤ d → (rest : List Terminal) → grip_of rest ≤ 8 → for_in_step (read (suc d)) b (us ++ rest) ≡ Found g rest)
 
 for_in_one : (self : Reads) (b : Bool) (i r1 r2 rest : List Terminal) (t s e : Expr) (cs : List Expr) → read_target self i ≡ Found t (Word Key.In ∷ r1) → self Or r1 ≡ Found e r2 → ifs_loop self (length r2) [] r2 ≡ Found cs rest → stored t ≡ Some s → for_in_step self b i ≡ Found (record { target = s; iter = e; ifs = cs; is_async = b }) rest
 for_in_one self b i r1 r2 rest t s e cs h1 h2 h3 h4 = rw h1 (rw h2 (rw h3 (rw h4 refl)))
@@ -156,7 +156,7 @@ for_in_one self b i r1 r2 rest t s e cs h1 h2 h3 h4 = rw h1 (rw h2 (rw h3 (rw h4
 in_shape : (ts us vs rest : List Terminal) (t : Terminal) → (ts ++ (t ∷ (us ++ vs))) ++ rest ≡ ts ++ (t ∷ (us ++ (vs ++ rest)))
 in_shape ts us vs rest t = simp append_assoc refl
 
-pub target_in_goes : (b : Bool) (ts us vs : List Terminal) (t s e : Expr) (cs : List Expr) → Goes Stars ts t → stored t ≡ Some s → Goes Or us e → G.Ifs vs cs → IfsGoes vs cs → ForInGoes b (ts ++ (Word Key.In ∷ (us ++ vs))) (record { target = s; iter = e; ifs = cs; is_async = b })
+pub target_in_goes : (b : Bool) (ts us vs : List Terminal) (t s e : Expr) (cs : List Expr) → ReadsAs Stars ts t → stored t ≡ Some s → ReadsAs Or us e → G.Ifs vs cs → IfsReads vs cs → ForInReads b (ts ++ (Word Key.In ∷ (us ++ vs))) (record { target = s; iter = e; ifs = cs; is_async = b })
 target_in_goes b ts us vs t s e cs p st q w k = (
   max p.0 (max q.0 k.0),
   λ d h rest g.
@@ -166,8 +166,8 @@ target_in_goes b ts us vs t s e cs p st q w k = (
       ap (for_in_step (read (suc d)) b) (in_shape ts us vs rest (Word Key.In)) ∙ for_in_one (read (suc d)) b (ts ++ (Word Key.In ∷ (us ++ (vs ++ rest)))) (us ++ (vs ++ rest)) (vs ++ rest) rest t s e cs h1 h2 h3 st,
 )
 
-abbrev pub CompGoes : List Terminal → Comprehension → Type 0
-CompGoes us g = (n : ℕ) × ((d : ℕ) → n ≤ d → (rest : List Terminal) → grip_of rest ≤ 8 → (m : ℕ) (acc : List Comprehension) → comps_loop (read (suc d)) (suc m) acc (us ++ rest) ≡ comps_loop (read (suc d)) m (acc ++ (g ∷ [])) rest)
+abbrev pub CompReads : List Terminal → Comprehension → Type 0
+CompReads us g = (n : ℕ) × ((d : ℕ) → n ≤ d → (rest : List Terminal) → grip_of rest ≤ 8 → (m : ℕ) (acc : List Comprehension) → comps_loop (read (suc d)) (suc m) acc (us ++ rest) ≡ comps_loop (read (suc d)) m (acc ++ (g ∷ [])) rest)
 
 for_step : (self : Reads) (m : ℕ) (acc : List Comprehension) (i rest : List Terminal) (g : Comprehension) → for_in_step self false i ≡ Found g rest → comps_loop self (suc m) acc (Word Key.For ∷ i) ≡ comps_loop self m (acc ++ (g ∷ [])) rest
 for_step self m acc i rest g h = rw h refl
@@ -175,15 +175,15 @@ for_step self m acc i rest g h = rw h refl
 async_step : (self : Reads) (m : ℕ) (acc : List Comprehension) (i rest : List Terminal) (g : Comprehension) → for_in_step self true i ≡ Found g rest → comps_loop self (suc m) acc (Word Key.Async ∷ (Word Key.For ∷ i)) ≡ comps_loop self m (acc ++ (g ∷ [])) rest
 async_step self m acc i rest g h = rw h refl
 
-pub for_in_goes : (ts : List Terminal) (g : Comprehension) → ForInGoes false ts g → CompGoes (Word Key.For ∷ ts) g
+pub for_in_goes : (ts : List Terminal) (g : Comprehension) → ForInReads false ts g → CompReads (Word Key.For ∷ ts) g
 for_in_goes ts g p = (p.0, λ d h rest s m acc. for_step (read (suc d)) m acc (ts ++ rest) rest g (p.1 d h rest s))
 
-pub async_goes : (ts : List Terminal) (g : Comprehension) → ForInGoes true ts g → CompGoes (Word Key.Async ∷ (Word Key.For ∷ ts)) g
+pub async_goes : (ts : List Terminal) (g : Comprehension) → ForInReads true ts g → CompReads (Word Key.Async ∷ (Word Key.For ∷ ts)) g
 async_goes ts g p = (p.0, λ d h rest s m acc. async_step (read (suc d)) m acc (ts ++ rest) rest g (p.1 d h rest s))
 
 -- all of them, up to a bracket
-abbrev pub CompsGoes : List Terminal → List Comprehension → Type 0
-CompsGoes us gs = (n : ℕ) × ((d : ℕ) → n ≤ d → (s : Exact) (rest : List Terminal) → grip (Op s) ≡ 0 → (m : ℕ) → length (us ++ (Op s ∷ rest)) ≤ m → (acc : List Comprehension) → comps_loop (read (suc d)) m acc (us ++ (Op s ∷ rest)) ≡ Found (acc ++ gs) (Op s ∷ rest))
+abbrev pub CompsReads : List Terminal → List Comprehension → Type 0
+CompsReads us gs = (n : ℕ) × ((d : ℕ) → n ≤ d → (s : Exact) (rest : List Terminal) → grip (Op s) ≡ 0 → (m : ℕ) → length (us ++ (Op s ∷ rest)) ≤ m → (acc : List Comprehension) → comps_loop (read (suc d)) m acc (us ++ (Op s ∷ rest)) ≡ Found (acc ++ gs) (Op s ∷ rest))
 
 comp_first : {us : List Terminal} {g : Comprehension} → G.Comp us g → (r : List Terminal) → (grip_of (us ++ r) ≡ 0) × (starts_comp (us ++ r) ≡ true) × (0 < length us)
 comp_first (G.for_in p) r = (refl, refl, omega arith)
@@ -197,14 +197,14 @@ comps_end : (self : Reads) (m : ℕ) (acc : List Comprehension) (s : Exact) (r :
 comps_end self zero acc s r = refl
 comps_end self (suc m) acc s r = refl
 
-pub one_comp_goes : (us : List Terminal) (g : Comprehension) → G.Comp us g → CompGoes us g → CompsGoes us (g ∷ [])
+pub one_comp_goes : (us : List Terminal) (g : Comprehension) → G.Comp us g → CompReads us g → CompsReads us (g ∷ [])
 one_comp_goes us g w p = (p.0, go)
   where
     go : (d : ℕ) → p.0 ≤ d → (s : Exact) (rest : List Terminal) → grip (Op s) ≡ 0 → (m : ℕ) → length (us ++ (Op s ∷ rest)) ≤ m → (acc : List Comprehension) → comps_loop (read (suc d)) m acc (us ++ (Op s ∷ rest)) ≡ Found (acc ++ (g ∷ [])) (Op s ∷ rest)
     go d h s rest z zero le acc = absurd (omega (arith, le, length-append us (Op s ∷ rest)))
     go d h s rest z (suc m) le acc = p.1 d h (Op s ∷ rest) (omega (arith, z)) m acc ∙ comps_end (read (suc d)) m (acc ++ (g ∷ [])) s rest
 
-pub comps_goes : (ts us : List Terminal) (g : Comprehension) (gs : List Comprehension) → G.Comp ts g → G.Comps us gs → CompGoes ts g → CompsGoes us gs → CompsGoes (ts ++ us) (g ∷ gs)
+pub comps_goes : (ts us : List Terminal) (g : Comprehension) (gs : List Comprehension) → G.Comp ts g → G.Comps us gs → CompReads ts g → CompsReads us gs → CompsReads (ts ++ us) (g ∷ gs)
 comps_goes ts us g gs v w p q = (max p.0 q.0, go)
   where
     go : (d : ℕ) → max p.0 q.0 ≤ d → (s : Exact) (rest : List Terminal) → grip (Op s) ≡ 0 → (m : ℕ) → length ((ts ++ us) ++ (Op s ∷ rest)) ≤ m → (acc : List Comprehension) → comps_loop (read (suc d)) m acc ((ts ++ us) ++ (Op s ∷ rest)) ≡ Found (acc ++ (g ∷ gs)) (Op s ∷ rest)
@@ -218,5 +218,5 @@ comps_goes ts us g gs v w p q = (max p.0 q.0, go)
 comps_closed_step : (self : Reads) (s : Exact) (i rest : List Terminal) (gs : List Comprehension) (make : List Comprehension → Expr) → comps_loop self (length i) [] i ≡ Found gs (Op s ∷ rest) → comps_closed self s i make ≡ Found (make gs) rest
 comps_closed_step self s i rest gs make h = rw h (hit_op s rest (λ _ r1. Found (make gs) r1) NoForm)
 
-pub comps_close : (us : List Terminal) (gs : List Comprehension) (k : CompsGoes us gs) (d : ℕ) → k.0 ≤ d → (s : Exact) (rest : List Terminal) → grip (Op s) ≡ 0 → (make : List Comprehension → Expr) → comps_closed (read (suc d)) s (us ++ (Op s ∷ rest)) make ≡ Found (make gs) rest
+pub comps_close : (us : List Terminal) (gs : List Comprehension) (k : CompsReads us gs) (d : ℕ) → k.0 ≤ d → (s : Exact) (rest : List Terminal) → grip (Op s) ≡ 0 → (make : List Comprehension → Expr) → comps_closed (read (suc d)) s (us ++ (Op s ∷ rest)) make ≡ Found (make gs) rest
 comps_close us gs k d h s rest z make = comps_closed_step (read (suc d)) s (us ++ (Op s ∷ rest)) rest gs make (k.1 d h s rest z (length (us ++ (Op s ∷ rest))) (omega arith) [])

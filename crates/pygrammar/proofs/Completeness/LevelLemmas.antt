@@ -24,7 +24,7 @@ use Rattle.pygrammar.specs.Grammar as G
 use Rattle.pygrammar.specs.Reader.{Answer, Found, and_then, on_first, Reads, primary_loop, level_step, read, target_item, read_target, slice_rest, if_else_step, unnamed}
 use Rattle.pygrammar.specs.Precedence.{lead, first}
 use Rattle.pygrammar.proofs.Completeness.LookLemmas.{grip, grip_of, lead_of, lead_front, miss_op, miss_word, pass_op, pass_op_not, pass_word, miss_name_with}
-use Rattle.pygrammar.proofs.Completeness.Climb.{Stops, GoesAt, TargetAt, Goes, unroll, answers, weaken, primary_climbs}
+use Rattle.pygrammar.proofs.Completeness.Climb.{Stops, ReadsAt, TargetAt, ReadsAs, unroll, answers, weaken, primary_climbs}
 
 -- the first terminals
 pub first_below : (l : Level) → first l ≤ first (below l)
@@ -139,13 +139,13 @@ module _ (next inner : Reads) (i rest : List Terminal) (e : Expr) where
 slices_step : (next inner : Reads) (ts rest : List Terminal) (e : Expr) → next Part (ts ++ rest) ≡ Found e rest → (grip_of rest ≡ 3 → ⊥) → 0 < lead_of ts → (lead_of ts ≡ 7 → ⊥) → level_step next inner Slices (ts ++ rest) ≡ Found e rest
 slices_step next inner ts rest e h g p n = rw h (miss_op Comma rest _ _ g ∙ pass_op_not Star ts rest _ _ p n)
 
-part_answer : (ts rest : List Terminal) (e : Expr) (d : ℕ) → 5 ≤ lead_of ts → (lead_of ts ≡ 7 → ⊥) → GoesAt Slice ts e d → Stops Part rest → read (suc d) Part (ts ++ rest) ≡ Found e rest
+part_answer : (ts rest : List Terminal) (e : Expr) (d : ℕ) → 5 ≤ lead_of ts → (lead_of ts ≡ 7 → ⊥) → ReadsAt Slice ts e d → Stops Part rest → read (suc d) Part (ts ++ rest) ≡ Found e rest
 part_answer ts rest e d l n p s = unroll d Part (ts ++ rest) ∙ (pass_op_not Star ts rest _ _ (omega (arith, l)) n ∙ p rest s)
 
-pub primary_target : (ts : List Terminal) (e : Expr) (d : ℕ) → GoesAt Primary ts e d → TargetAt Primary ts e d
+pub primary_target : (ts : List Terminal) (e : Expr) (d : ℕ) → ReadsAt Primary ts e d → TargetAt Primary ts e d
 primary_target ts e d p s q rest g = answers Primary ts e d rest p g
 
-pub next_goes : (l : Level) (ts : List Terminal) (e : Expr) → first (below l) ≤ lead_of ts → NotStar (below l) ts → Goes (below l) ts e → Goes l ts e
+pub next_goes : (l : Level) (ts : List Terminal) (e : Expr) → first (below l) ≤ lead_of ts → NotStar (below l) ts → ReadsAs (below l) ts e → ReadsAs l ts e
 next_goes Value ts e l n p = (p.0, λ d h rest s. unroll d Value (ts ++ rest) ∙ (pass_word Key.Yield ts rest _ _ (omega (arith, l)) ∙ p.1 d h rest s), λ d h. tt)
 next_goes Stars ts e l n p = (p.0, λ d h rest s. unroll d Stars (ts ++ rest) ∙ stars_step (read (suc d)) (read d) (ts ++ rest) rest e (p.1 d h rest (omega (arith, s.0))) (λ q. omega (arith, s.0, q)), λ d h s q rest g c w. target_step (read (suc d)) (read (suc d)) (ts ++ rest) rest e (p.2 d h s q rest g) c)
 next_goes StarItem ts e l n p = (p.0, λ d h rest s. unroll d StarItem (ts ++ rest) ∙ (pass_op Star ts rest _ _ (omega (arith, l)) ∙ p.1 d h rest s), λ d h s q rest g. pass_op Star ts rest _ _ (omega (arith, l)) ∙ p.2 d h s q rest g)

@@ -9,10 +9,10 @@ use lib.Seq.{drop-append-le}
 use Rattle.std.proofs.lemmas.Str.{IsUtf8-append, IsUtf8-nil, IsCharBoundary-at_seam}
 use Rattle.pysource.specs.Bytes.{Seen}
 use Rattle.pysource.specs.Limits.{source_limit}
-use Rattle.pysource.specs.declared.line_reader.Line.{Line}
-use Rattle.pysource.specs.declared.line_reader.Line.TheVariants as met
+use Rattle.pysource.specs.declared.line_reader.LineRead.{LineRead}
+use Rattle.pysource.specs.declared.line_reader.LineRead.TheVariants as met
 use Rattle.pysource.specs.Streams.{Buffered, Follows, Gives, ComesOnly, NextLine, Reads, comes, onto, ends_line}
-use Rattle.pysource.proofs.Callers.Taken.{Takes-none, Takes-on}
+use Rattle.pysource.proofs.Callers.Taken.{ReadsBytes-none, ReadsBytes-on}
 use Rattle.pylex.specs.declared.held_lines.HeldLines.{HeldLines}
 use Rattle.pylex.specs.Inner.Chunked.{AddsOn, IsLonger, ReadsOn}
 use Rattle.pylex.proofs.LineByLine.Reading.{ends_behind}
@@ -34,7 +34,7 @@ pub adds_none : (seen : Seen) (b : Buffered) (text : List ℕ) → b.count ≤ s
 adds_none seen b text within = record {
   taken = [];
   added = [];
-  reads = Takes-none seen b.count b.reach;
+  reads = ReadsBytes-none seen b.count b.reach;
   gives = λ more broken f. (f, refl);
   text = sym (append-nil text);
   utf8 = IsUtf8-nil;
@@ -46,7 +46,7 @@ adds_none seen b text within = record {
 
 module _ (x y z : Seen) (a b c : Buffered) (text_a text_b text_c : List ℕ) (p : AddsOn x y a b text_a text_b) where
   reads_both : (u : List ℕ) → Reads y z b c u → Reads x z a c (p.taken ++ u)
-  reads_both u r = Takes-on x y z a.count b.count c.count a.reach b.reach c.reach p.taken u p.reads r
+  reads_both u r = ReadsBytes-on x y z a.count b.count c.count a.reach b.reach c.reach p.taken u p.reads r
 
   -- One line more.
   pub adds_line : (r : NextLine y z b c text_b text_c (Ok met.Text)) → c.count ≤ source_limit → AddsOn x z a c text_a text_c
@@ -64,7 +64,7 @@ module _ (x y z : Seen) (a b c : Buffered) (text_a text_b text_c : List ℕ) (p 
   }
 
   -- No line more.
-  pub adds_no_line : (q : Result Line AllocError) (r : NextLine y z b c text_b text_c q) → r.line ≡ [] → c.count ≤ source_limit → AddsOn x z a c text_a text_c
+  pub adds_no_line : (q : Result LineRead AllocError) (r : NextLine y z b c text_b text_c q) → r.line ≡ [] → c.count ≤ source_limit → AddsOn x z a c text_a text_c
   adds_no_line q r none within =
       let gives : Gives b r.taken [] c = subst (λ l. Gives b r.taken l c) none r.gives in
       record {
@@ -90,7 +90,7 @@ reads_more x y z old mid new at r p spare base place =
     record {
       taken = r.taken ++ p.taken;
       line = r.line ++ p.added;
-      reads = Takes-on x y z old.lines.count mid.lines.count new.lines.count old.lines.reach mid.lines.reach new.lines.reach r.taken p.taken r.reads p.reads;
+      reads = ReadsBytes-on x y z old.lines.count mid.lines.count new.lines.count old.lines.reach mid.lines.reach new.lines.reach r.taken p.taken r.reads p.reads;
       gives = gives_both old.lines mid.lines new.lines r.taken p.taken r.line p.added r.gives p.gives;
       adds = (some, IsUtf8-append r.line p.added r.adds.1 p.utf8, ends);
       same = p.same ∙ r.same;

@@ -6,8 +6,8 @@ use Rattle.std.specs.Prelude.{Result, Ok}
 use Rattle.std.specs.declared.alloc.AllocError.{AllocError}
 use Rattle.pysource.specs.Bytes.{Seen}
 use Rattle.pysource.specs.Streams.{Buffered, NextLine, IsText, past_first}
-use Rattle.pysource.specs.declared.line_reader.Line.{Line}
-use Rattle.pysource.specs.declared.line_reader.Line.TheVariants as met
+use Rattle.pysource.specs.declared.line_reader.LineRead.{LineRead}
+use Rattle.pysource.specs.declared.line_reader.LineRead.TheVariants as met
 use Rattle.pylex.specs.Held.{Ahead, AheadBut}
 
 pub ahead_none : (b : Buffered) → Ahead b b
@@ -38,7 +38,7 @@ module _ (x y : Seen) (a b c : Buffered) (text_b text_c : List ℕ) where
   ahead_line (inr few) r = inr (omega (arith, few, r.ahead refl, r.first refl))
 
   -- or none
-  pub ahead_kept : (q : Result Line AllocError) → (r : NextLine x y b c text_b text_c q) → r.line ≡ [] → (IsText q → ⊥) → AheadBut a b → AheadBut a c
+  pub ahead_kept : (q : Result LineRead AllocError) → (r : NextLine x y b c text_b text_c q) → r.line ≡ [] → (IsText q → ⊥) → AheadBut a b → AheadBut a c
   ahead_kept q r none not p = ⊎_elim (λ same. stays same p) (λ few. inr few) (r.kept not)
     where
       stays : c.pending ≡ b.pending → AheadBut a b → AheadBut a c

@@ -139,7 +139,7 @@ pub never_refused : (seen_0 seen_1 seen_2 : Seen) (u v w : Streamed) (step : Ste
 never_refused seen_0 seen_1 seen_2 u v w step e none t n p k more broken g x = ⊎_elim (t.ended none) (λ i. no_indent step none (subst IsIndent here (i p (k + entries_in step) more broken g moved.1))) n.refused
   where
     moved : (slice_get (listing (in_characters p)) k ≡ Some step) × StreamsIn v p (k + entries_in step) (n.taken ++ more) broken
-    moved = t.moves p k (n.taken ++ more) broken (n.follows more broken g) x
+    moved = t.steps p k (n.taken ++ more) broken (n.follows more broken g) x
 
     same : (s : Step) → IsNoEntry s → k + entries_in s ≡ k
     same (steps.Entry d) h = absurd h

@@ -7,8 +7,8 @@ use Rattle.std.specs.declared.alloc.AllocError.{AllocError}
 use Rattle.pysource.specs.Bytes.{Seen}
 use Rattle.pysource.specs.Parts.{Parts}
 use Rattle.pysource.specs.Streams.{head_len, stream_of}
-use Rattle.pysource.specs.Taking.{Takes}
-use Rattle.pysource.proofs.Callers.Taken.{Takes-on}
+use Rattle.pysource.specs.Taking.{ReadsBytes}
+use Rattle.pysource.proofs.Callers.Taken.{ReadsBytes-on}
 use Rattle.pysource.specs.declared.faults.LineError.TheVariants.{Unread}
 use Rattle.pysource.specs.declared.line_reader.Reach.TheVariants.{Reading}
 use Rattle.pylex.specs.declared.entries.Entry.{Entry}
@@ -32,13 +32,13 @@ module _ (seen_0 seen_1 seen_2 : Seen) (v w : Streamed) (k : ℕ) (b : Begins se
     all : List ℕ
     all = b.taken ++ t.taken
 
-    reads_all : Takes seen_0 seen_2 Reading w.lines.reach 0 w.lines.count (b.taken ++ t.taken)
-    reads_all = Takes-on seen_0 seen_1 seen_2 0 v.lines.count w.lines.count Reading v.lines.reach w.lines.reach b.taken t.taken b.reads t.reads
+    reads_all : ReadsBytes seen_0 seen_2 Reading w.lines.reach 0 w.lines.count (b.taken ++ t.taken)
+    reads_all = ReadsBytes-on seen_0 seen_1 seen_2 0 v.lines.count w.lines.count Reading v.lines.reach w.lines.reach b.taken t.taken b.reads t.reads
 
     stands_all : (more : List ℕ) (broken : Bool) → Continues w.lines more broken → (p : Parts) × (stream_of broken ((b.taken ++ t.taken) ++ more) ≡ Ok p) × (slice_get (listing (in_characters p)) k ≡ Some step) × StreamsIn w p (k + entries_in step) more broken
     stands_all more broken g =
         let s = b.stands (t.taken ++ more) broken (t.follows more broken g) in
-        let m = t.moves s.0 k more broken g s.2 in
+        let m = t.steps s.0 k more broken g s.2 in
         (s.0, ap (stream_of broken) (append_assoc b.taken t.taken more) ∙ s.1, m.0, m.1)
 
     -- where nothing was taken it stands as it stood
@@ -135,8 +135,8 @@ module _ (seen_0 seen_1 seen_2 : Seen) (v w : Streamed) (k : ℕ) (b : Begins se
   took_on e t = record {
     taken = b.taken ++ t.taken;
     at = w.lines.reach;
-    reads = subst (λ n. Takes seen_0 seen_2 Reading w.lines.reach 0 n (b.taken ++ t.taken)) counted
-        (Takes-on seen_0 seen_1 seen_2 0 v.lines.count w.lines.count Reading v.lines.reach w.lines.reach b.taken t.taken b.reads t.reads);
+    reads = subst (λ n. ReadsBytes seen_0 seen_2 Reading w.lines.reach 0 n (b.taken ++ t.taken)) counted
+        (ReadsBytes-on seen_0 seen_1 seen_2 0 v.lines.count w.lines.count Reading v.lines.reach w.lines.reach b.taken t.taken b.reads t.reads);
   }
     where
       counted : w.lines.count ≡ length (b.taken ++ t.taken)

@@ -14,8 +14,8 @@ use Rattle.pysource.specs.Bytes.{Seen}
 use Rattle.pysource.specs.Streams.{Buffered, Coming, ComesOnly, NextLine, IsText, comes, ends_line}
 use Rattle.pysource.specs.Lines.{lines_of}
 use Rattle.pysource.specs.Limits.{source_limit}
-use Rattle.pysource.specs.declared.line_reader.Line.{Line}
-use Rattle.pysource.specs.declared.line_reader.Line.TheVariants as met
+use Rattle.pysource.specs.declared.line_reader.LineRead.{LineRead}
+use Rattle.pysource.specs.declared.line_reader.LineRead.TheVariants as met
 use Rattle.pylex_lexeme.specs.declared.string.OpenLiteral.{OpenLiteral}
 use Rattle.pylex.specs.declared.held_lines.HeldLines.{HeldLines}
 use Rattle.pylex_lexeme.specs.Chars.{begins}
@@ -104,7 +104,7 @@ module _ (x y : Seen) (o : OpenLiteral) (at from : ℕ) (a b c : Buffered) (text
       }
 
   -- No line more.
-  pub joins_no_line : GoesOn o (drop from text_b) → (q : Result Line AllocError) → (r : NextLine x y b c text_b text_c q) → r.line ≡ [] → (IsText q → ⊥) → Joins o at a c text_c
+  pub joins_no_line : GoesOn o (drop from text_b) → (q : Result LineRead AllocError) → (r : NextLine x y b c text_b text_c q) → r.line ≡ [] → (IsText q → ⊥) → Joins o at a c text_c
   joins_no_line goes q r none not =
       let same : text_c ≡ text_b = r.chunk ∙ ap (λ t. text_b ++ t) none ∙ append-nil text_b in
       record {
@@ -172,13 +172,13 @@ holds_line x y b c text_b text_c rest line r is = record {
     no_front [] back e feed = let f : false ≡ true = feed in cc
     no_front (c ∷ front) back e feed = cc
 
-pub holds_other : (old new : HeldLines) (from : ℕ) (r : Line) → (r ≡ met.Text → ⊥) → HoldsOn old new from (Ok r)
+pub holds_other : (old new : HeldLines) (from : ℕ) (r : LineRead) → (r ≡ met.Text → ⊥) → HoldsOn old new from (Ok r)
 holds_other old new from met.Text h = absurd (h refl)
 holds_other old new from met.End h = tt
 holds_other old new from (met.Fault f) h = tt
 holds_other old new from met.Read h = tt
 
-pub adds_other : (old new : HeldLines) (from : ℕ) (r : Line) → (r ≡ met.Text → ⊥) → AddsLine old new from (Ok r)
+pub adds_other : (old new : HeldLines) (from : ℕ) (r : LineRead) → (r ≡ met.Text → ⊥) → AddsLine old new from (Ok r)
 adds_other old new from met.Text h = absurd (h refl)
 adds_other old new from met.End h = tt
 adds_other old new from (met.Fault f) h = tt

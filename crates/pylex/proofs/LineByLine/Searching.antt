@@ -15,12 +15,12 @@ use Rattle.pysource.specs.Bytes.{Seen}
 use Rattle.pysource.specs.Parts.{Parts}
 use Rattle.pysource.specs.Limits.{source_limit}
 use Rattle.pysource.specs.declared.faults.LineFault.{LineFault}
-use Rattle.pysource.specs.declared.line_reader.Line.{Line}
-use Rattle.pysource.specs.declared.line_reader.Line.TheVariants as lines
+use Rattle.pysource.specs.declared.line_reader.LineRead.{LineRead}
+use Rattle.pysource.specs.declared.line_reader.LineRead.TheVariants as lines
 use Rattle.pysource.specs.declared.line_reader.Reach.{Reach}
 use Rattle.pysource.specs.declared.line_reader.Reach.TheVariants as reach
 use Rattle.pysource.specs.Streams.{Buffered, Coming, FollowsAt, ComesOnly, comes, ends_line}
-use Rattle.pysource.proofs.Callers.Taken.{Takes-none, Takes-on}
+use Rattle.pysource.proofs.Callers.Taken.{ReadsBytes-none, ReadsBytes-on}
 use Rattle.pylex.specs.declared.held_lines.HeldLines.{HeldLines}
 use Rattle.pylex.specs.declared.entries.Entry.{Entry}
 use Rattle.pylex.specs.declared.machine.Peeked.TheVariants as peeked
@@ -137,7 +137,7 @@ not_read = record { to_come = None; failures = 0; may_fail = false }
 pub searches_none : (seen : Seen) (p : Machine) (c : HeldLines) → IsStreaming p c None → Searches seen seen p p c c
 searches_none seen p c h = record {
   taken = [];
-  reads = Takes-none seen c.lines.count c.lines.reach;
+  reads = ReadsBytes-none seen c.lines.count c.lines.reach;
   follows = λ more broken f. f;
   stands = λ s k more broken f x. x;
   machine = refl;
@@ -146,7 +146,7 @@ searches_none seen p c h = record {
 
 module _ (seen_0 seen_1 seen_2 : Seen) (p q : Machine) (c d e : HeldLines) (f : Found) (so : Searches seen_0 seen_1 p q c d) (looks : Looks q d f) (is : f.peeked ≡ peeked.Stop) where
   -- what may follow a reading may follow with what it took
-  back : {r : Result Line AllocError} (o : ReadsOn seen_1 seen_2 d e f.at r) (more : List ℕ) (broken : Bool) → Continues e.lines more broken → Continues d.lines (o.taken ++ more) broken
+  back : {r : Result LineRead AllocError} (o : ReadsOn seen_1 seen_2 d e f.at r) (more : List ℕ) (broken : Bool) → Continues e.lines more broken → Continues d.lines (o.taken ++ more) broken
   back o more broken g = ((o.gives more broken g.0).0, omega (arith, g.1, o.reads.count, length-append o.taken more))
 
   text_new : {line : List ℕ} → Grows d e f.at line → IsUtf8 line → IsUtf8 (string_bytes e.text)
@@ -192,7 +192,7 @@ module _ (seen_0 seen_1 seen_2 : Seen) (p q : Machine) (c d e : HeldLines) (f : 
       holds.joined so.streaming.text stop.lexed so.streaming.left looks.left (rw is at looks.finds).0 looks.room (λ h. let t = looks.tail h in (t.1, t.2)) r.same in
       record {
         taken = so.taken ++ r.taken;
-        reads = Takes-on seen_0 seen_1 seen_2 c.lines.count d.lines.count e.lines.count c.lines.reach d.lines.reach e.lines.reach so.taken r.taken so.reads r.reads;
+        reads = ReadsBytes-on seen_0 seen_1 seen_2 c.lines.count d.lines.count e.lines.count c.lines.reach d.lines.reach e.lines.reach so.taken r.taken so.reads r.reads;
         follows = λ more broken g. subst (λ t. Continues c.lines t broken) (sym (append_assoc so.taken r.taken more)) (so.follows (r.taken ++ more) broken (back r more broken g));
         stands = λ s k more broken g x. in_line s k more broken g (so.stands s k (r.taken ++ more) broken (back r more broken g) (subst (λ t. StreamsIn (streamed p c None) s k t broken) (append_assoc so.taken r.taken more) x));
         machine = ap (λ (z : Machine). record z { now = f.now }) so.machine;
@@ -232,13 +232,13 @@ module _ (seen_0 seen_1 seen_2 : Seen) (p q : Machine) (c d e : HeldLines) (f : 
           ap (λ t. f.now.margin && begins_significant t) whole ∙ ap (λ t. f.now.margin && t) (significant_kept (chars left) (chars r.line) lined) ∙ h
 
   -- No line was read.
-  pub searches_stay : (r : Result Line AllocError) → (o : ReadsOn seen_1 seen_2 d e f.at r) → o.line ≡ [] → Stays d e → Searches seen_0 seen_2 p q c e
+  pub searches_stay : (r : Result LineRead AllocError) → (o : ReadsOn seen_1 seen_2 d e f.at r) → o.line ≡ [] → Stays d e → Searches seen_0 seen_2 p q c e
   searches_stay r o none stays =
       let in_none : (s : Parts) (k : ℕ) (more : List ℕ) (broken : Bool) → Continues e.lines more broken → StreamsIn (streamed q d None) s k (o.taken ++ more) broken → StreamsIn (streamed q e None) s k more broken = λ s k more broken g x.
       reads_none q f.now d e f.at o.taken o.line s k more broken x (o.gives more broken g.0).1 none stays o.same in
       record {
         taken = so.taken ++ o.taken;
-        reads = Takes-on seen_0 seen_1 seen_2 c.lines.count d.lines.count e.lines.count c.lines.reach d.lines.reach e.lines.reach so.taken o.taken so.reads o.reads;
+        reads = ReadsBytes-on seen_0 seen_1 seen_2 c.lines.count d.lines.count e.lines.count c.lines.reach d.lines.reach e.lines.reach so.taken o.taken so.reads o.reads;
         follows = λ more broken g. subst (λ t. Continues c.lines t broken) (sym (append_assoc so.taken o.taken more)) (so.follows (o.taken ++ more) broken (back o more broken g));
         stands = λ s k more broken g x. in_none s k more broken g (so.stands s k (o.taken ++ more) broken (back o more broken g) (subst (λ t. StreamsIn (streamed p c None) s k t broken) (append_assoc so.taken o.taken more) x));
         machine = so.machine;
@@ -265,13 +265,13 @@ module _ (seen_0 seen_1 seen_2 : Seen) (p q : Machine) (c d e : HeldLines) (f : 
     tail = rw (stays.text, stays.at) looks.tail;
   }
 
-  ends_so : (r : Line) (line : List ℕ) (o : Option LineFault) → (r ≡ lines.Text → ⊥) → Adds (Ok r) line e.lines → Lacks r e.lines.row o → ComesOnly e.lines o
+  ends_so : (r : LineRead) (line : List ℕ) (o : Option LineFault) → (r ≡ lines.Text → ⊥) → Adds (Ok r) line e.lines → Lacks r e.lines.row o → ComesOnly e.lines o
   ends_so lines.Text line o h a l = absurd (h refl)
   ends_so lines.End line o h a l = subst (ComesOnly e.lines) (sym l) a.1
   ends_so (lines.Fault g) line o h a l = subst (ComesOnly e.lines) (sym l) a.1
   ends_so lines.Read line o h a l = subst (ComesOnly e.lines) (sym l) a.1
 
-  pub meets_end : (r : Line) (line : List ℕ) (o : Option LineFault) → (r ≡ lines.Text → ⊥) → Adds (Ok r) line e.lines → Lacks r e.lines.row o → Stays d e → PeekedIn q e (record f { fault = o })
+  pub meets_end : (r : LineRead) (line : List ℕ) (o : Option LineFault) → (r ≡ lines.Text → ⊥) → Adds (Ok r) line e.lines → Lacks r e.lines.row o → Stays d e → PeekedIn q e (record f { fault = o })
   meets_end r line o h a l stays =
       let only = ends_so r line o h a l in
       record {
@@ -303,7 +303,7 @@ pub ahead_found : (a : Buffered) (q : Machine) (d : HeldLines) (f : Found) → L
 ahead_found a q d f looks whole (inl h) = inr h
 ahead_found a q d f looks whole (inr h) = let w = waiting_meets q d f looks h.1 in absurd (let z : true ≡ false = sym w.1 ∙ whole w.0 in cc)
 
-pub ahead_end : (a b : Buffered) (f : Found) (r : Line) (line : List ℕ) (o : Option LineFault) → f.peeked ≡ peeked.Stop → (r ≡ lines.Text → ⊥) → Adds (Ok r) line b → Lacks r b.row o → LooksAhead (record f { fault = o }) a b
+pub ahead_end : (a b : Buffered) (f : Found) (r : LineRead) (line : List ℕ) (o : Option LineFault) → f.peeked ≡ peeked.Stop → (r ≡ lines.Text → ⊥) → Adds (Ok r) line b → Lacks r b.row o → LooksAhead (record f { fault = o }) a b
 ahead_end a b f lines.Text line o is h adds l = absurd (h refl)
 ahead_end a b f lines.End line o is h adds l = inr (inr (omega (arith, ap length adds.2)))
 ahead_end a b f (lines.Fault g) line o is h adds l = inl (is, g, l)

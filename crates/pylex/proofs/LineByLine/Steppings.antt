@@ -13,7 +13,7 @@ use Rattle.pysource.specs.declared.faults.LineFault.{LineFault}
 use Rattle.pylex.specs.declared.entries.ListingFault.{ListingFault}
 use Rattle.pylex.specs.declared.machine.Peeked.{Peeked}
 use Rattle.pylex.specs.declared.machine.Peeked.TheVariants as peeked
-use Rattle.pysource.proofs.Callers.Taken.{Takes-none}
+use Rattle.pysource.proofs.Callers.Taken.{ReadsBytes-none}
 use Rattle.pylex.specs.declared.held_lines.HeldLines.{HeldLines}
 use Rattle.pylex.specs.declared.entries.Entry.{Entry}
 use Rattle.pylex.specs.declared.entries.Step.{Step}
@@ -73,7 +73,7 @@ steps_last seen_old seen_new p c last v (Ok step) h = record {
   taken = h.taken;
   reads = h.reads;
   follows = h.follows;
-  moves = λ s k more broken g x. h.moves s k more broken g (none_last p c last s k (h.taken ++ more) broken x);
+  steps = λ s k more broken g x. h.steps s k more broken g (none_last p c last s k (h.taken ++ more) broken x);
   last = h.last;
   ahead = h.ahead;
   same = tt;
@@ -84,7 +84,7 @@ steps_last seen_old seen_new p c last v (Err e) h = record {
   taken = h.taken;
   reads = h.reads;
   follows = h.follows;
-  moves = tt;
+  steps = tt;
   last = tt;
   ahead = tt;
   same = λ s k more broken g x. h.same s k more broken g (none_last p c last s k (h.taken ++ more) broken x);
@@ -145,9 +145,9 @@ module _ (p : Machine) (c : HeldLines) (last : Option Entry) (e : Entry) (z : p.
   pub steps_first : IsStreaming p c last → (seen : Seen) → Next seen seen (streamed p c last) (streamed begun c (Some e)) (Ok (steps.Entry e))
   steps_first h seen = record {
     taken = [];
-    reads = Takes-none seen c.lines.count c.lines.reach;
+    reads = ReadsBytes-none seen c.lines.count c.lines.reach;
     follows = λ more broken g. g;
-    moves = λ s k more broken g x. first_in s k more broken (h.fresh z) x;
+    steps = λ s k more broken g x. first_in s k more broken (h.fresh z) x;
     last = refl;
     ahead = ahead_none c.lines;
     same = tt;
@@ -175,7 +175,7 @@ module _ (seen_old seen_new : Seen) (p q : Machine) (c d : HeldLines) (last : Op
 
   -- memory was refused where a line was read
   pub steps_unread : (e : AllocError) → AwaitsLine (streamed p c last) → Next seen_old seen_new (streamed p c last) (streamed q d None) (Err e)
-  steps_unread e a = record { taken = so.taken; reads = so.reads; follows = so.follows; moves = tt; last = tt; ahead = tt; same = stood; refused = inl a; ended = tt }
+  steps_unread e a = record { taken = so.taken; reads = so.reads; follows = so.follows; steps = tt; last = tt; ahead = tt; same = stood; refused = inl a; ended = tt }
 
   some_given : 0 < p.given → 0 < q.given
   some_given h = let same : q.given ≡ p.given = ap (λ (y : Machine). y.given) so.machine in omega (arith, same, h)
@@ -192,7 +192,7 @@ module _ (seen_old seen_new : Seen) (p q : Machine) (c d : HeldLines) (last : Op
       taken = so.taken;
       reads = so.reads;
       follows = so.follows;
-      moves = tt;
+      steps = tt;
       last = tt;
       ahead = tt;
       same = λ s k more broken g x. subst (λ v. StreamsIn v s k more broken) (sym same_view) (stood s k more broken g x);
@@ -233,7 +233,7 @@ module _ (seen_old seen_new : Seen) (p q : Machine) (c d : HeldLines) (last : Op
         taken = so.taken;
         reads = so.reads;
         follows = so.follows;
-        moves = λ s k more broken g x. let y = stood s k more broken g x in (step_is q r d f step so.streaming m w s k more broken g y, streams_entry q r d f step so.streaming m w s k more broken g y e is (let n = y.stands.count in omega (arith, n, some_given some)));
+        steps = λ s k more broken g x. let y = stood s k more broken g x in (step_is q r d f step so.streaming m w s k more broken g y, streams_entry q r d f step so.streaming m w s k more broken g y e is (let n = y.stands.count in omega (arith, n, some_given some)));
         last = subst (IsLast (streamed r (record d { at = f.at }) (Some e))) (sym is) refl;
         ahead = subst (IsAhead c.lines d.lines) (sym is) a;
         same = tt;
@@ -292,7 +292,7 @@ module _ (seen_old seen_new : Seen) (p q : Machine) (c d : HeldLines) (last : Op
         taken = so.taken;
         reads = so.reads;
         follows = so.follows;
-        moves = λ s k more broken g x. let y = stood s k more broken g x in (step_is q r d f step so.streaming m w s k more broken g y, streams_other q r d f step so.streaming m w s k more broken g y no_entry);
+        steps = λ s k more broken g x. let y = stood s k more broken g x in (step_is q r d f step so.streaming m w s k more broken g y, streams_other q r d f step so.streaming m w s k more broken g y no_entry);
         last = last_other step no_entry;
         ahead = ahead_other step no_entry;
         same = tt;

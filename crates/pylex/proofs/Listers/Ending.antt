@@ -184,7 +184,7 @@ end_later ss e c k r is h by = let z : k ≡ suc (k - 1) = omega arith in by ∙
 -- the line end that the text's end gives has no text
 last_line_end_empty : (s : State) (e : Entry) → last_line_end s ≡ steps.Entry e ∷ [] → e.«from» ≡ e.to
 unfolding last_line_end
-last_line_end_empty s e is = by s.logical (is_hash s.front) s.margin is
+last_line_end_empty s e is = by s.logical (is_hash s.lead) s.margin is
   where
     same_entry : (d e : Entry) → d.«from» ≡ d.to → steps.Entry d ∷ [] ≡ steps.Entry e ∷ [] → e.«from» ≡ e.to
     same_entry d e h q = let x : d ≡ e = cc in subst (λ (y : Entry). y.«from» ≡ y.to) x h

@@ -15,7 +15,7 @@ use Rattle.pylex.specs.Lines.{is_significant}
 use Rattle.pylex_lexeme.specs.Chars.{bytes_in}
 use Rattle.pylex.specs.Listing.{Source, last_line}
 use Rattle.pylex.specs.Cursors.{CursorParts}
-use Rattle.pylex.specs.Machine.{State, place_past, past, after, layout_of, dedents_at, pushed, front_after}
+use Rattle.pylex.specs.Machine.{State, place_past, past, after, layout_of, dedents_at, pushed, lead_after}
 use Rattle.pylex.specs.LineState.{measured, begun_anew, is_above, is_level, Walks, stays, silent, level, dedent}
 use Rattle.pylex.specs.Standing.{front_to, standing_by, resumed}
 use Rattle.pylex.specs.Listers.{IsIn, shown_at, Passes, here, lexeme, layout}
@@ -39,9 +39,9 @@ past_offset : (s : State) (x : Lexeme) → (after s x).now ≡ past s.now x.text
 unfolding after
 past_offset s x = refl
 
-front_past : (s : State) (x : Lexeme) → (after s x).front ≡ front_after s.front x.text
+lead_past : (s : State) (x : Lexeme) → (after s x).lead ≡ lead_after s.lead x.text
 unfolding after
-front_past s x = refl
+lead_past s x = refl
 
 -- A state goes on in its text by a lexeme.
 pub in_after : (text : List ℕ) (s : State) (cs : List ℕ) (x : Lexeme) → lexeme_at cs ≡ Some x → IsIn text s cs → IsIn text (after s x) (drop (lexeme_len cs) cs)
@@ -57,8 +57,8 @@ in_after text s cs x e i =
           ∙ advance_column s.now.place (place_after i.before) x.text (i.column ∙ sym (column_is i.before))
           ∙ ap (λ (p : Place). p.column) (sym (place_after-append i.before x.text))
           ∙ column_is (i.before ++ x.text);
-      front = front_past s x
-          ∙ ap (λ f. front_after f x.text) (i.front ∙ front_line i.before)
+      lead = lead_past s x
+          ∙ ap (λ f. lead_after f x.text) (i.lead ∙ front_line i.before)
           ∙ sym (front-append i.before x.text Nothing)
           ∙ sym (front_line (i.before ++ x.text));
     }
@@ -67,8 +67,8 @@ in_after text s cs x e i =
 pub walks_in : (text : List ℕ) (t : State) (ds : List ℕ) (n : ℕ) (s : State) (cs : List ℕ) → Walks t ds n s cs → IsIn text s cs → IsIn text t ds
 walks_in text t ds n s cs stays i = i
 walks_in text t ds n s cs (silent m r bs x d e g w) i = walks_in text t ds n (after s x) (drop (lexeme_len cs) cs) w (in_after text s cs x e i)
-walks_in text t ds n s cs (level m r bs a b l c w) i = walks_in text t ds n (measured s) cs w (record { before = i.before; whole = i.whole; offset = i.offset; column = i.column; front = i.front })
-walks_in text t ds n s cs (dedent m r bs ls v a b e l k w) i = walks_in text t ds m (record s { levels = ls }) cs w (record { before = i.before; whole = i.whole; offset = i.offset; column = i.column; front = i.front })
+walks_in text t ds n s cs (level m r bs a b l c w) i = walks_in text t ds n (measured s) cs w (record { before = i.before; whole = i.whole; offset = i.offset; column = i.column; lead = i.lead })
+walks_in text t ds n s cs (dedent m r bs ls v a b e l k w) i = walks_in text t ds m (record s { levels = ls }) cs w (record { before = i.before; whole = i.whole; offset = i.offset; column = i.column; lead = i.lead })
 
 -- A cursor at a state's point leads back to it.
 pub line_in : (a : Source) (c : CursorParts) (s : State) (ds : List ℕ) → c.offset ≡ s.now.offset → (i : IsIn a.text s ds) → (standing_by a c).line ≡ last_line i.before
@@ -79,7 +79,7 @@ pub left_in : (a : Source) (c : CursorParts) (s : State) (ds : List ℕ) → c.o
 unfolding standing_by
 left_in a c s ds o i = ap (λ t. drop (length t) a.text) (ap (λ n. front_to n a.text) (o ∙ i.offset) ∙ ap (front_to (bytes_in i.before)) i.whole ∙ front_is i.before ds) ∙ ap (drop (length i.before)) i.whole ∙ drop_front i.before ds
 
-pub resumed_anew : (k : ℕ) (s : State) (line : List ℕ) → s.now.place.column ≡ length line → s.front ≡ front_after Nothing line → resumed (shown_at k s) line ≡ begun_anew s
+pub resumed_anew : (k : ℕ) (s : State) (line : List ℕ) → s.now.place.column ≡ length line → s.lead ≡ lead_after Nothing line → resumed (shown_at k s) line ≡ begun_anew s
 unfolding resumed
 resumed_anew k s line c f = rw (← c, ← f) refl
 

@@ -22,10 +22,9 @@ use Rattle.pylex.specs.declared.leading_char.LeadingChar.TheVariants.{Nothing}
 use Rattle.pylex_lexeme.specs.Lexemes.{cut, left_by_cut}
 use Rattle.pylex.specs.Cursors.{CursorParts, has_no_text, given_last_first, with_text, lexemes_to, cursor_at, cursor}
 use Rattle.pylex.specs.Listing.{Source, in_characters, listing, rest, origin, last_line}
-use Rattle.pylex.specs.Steps.{entries_of, first_step, entries_in, IsIndent, mark}
-use Rattle.pylex.specs.Machine.{State, first_state, remaining, mark_at, step_of, pushed, after, front_after}
+use Rattle.pylex.specs.Steps.{entries_of, first_step, entries_in, IsIndent, mark, IsNoEntry}
+use Rattle.pylex.specs.Machine.{State, first_state, remaining, mark_at, step_of, pushed, after, lead_after}
 use Rattle.pylex.specs.LineState.{with_levels, measured, begun_anew, Stands, HasRoom, IsAscending, Comes, EntryAhead, FaultAhead, IndentAhead, DedentAhead, StopAhead, Walks, stays, dedent, is_level}
-use Rattle.pylex.specs.Laws.{IsStop}
 use Rattle.pylex.specs.Standing.{standing_by, resumed}
 use Rattle.pylex.specs.declared.cursor.Shown.{Shown}
 use Rattle.pylex.specs.Listers.{Listed, StandsIn, NextStep, AwaitsIndent, Keeps, IsIn, Passes, shown_at, shown_by}
@@ -205,7 +204,7 @@ module _ (l : Listed) (p : LineState) (left levels : List ℕ) (nested tail : �
         let t : State = with_levels q (0 ∷ take nested levels) in
         let state : measured t ≡ with_levels r (0 ∷ ls) = sym (measures (0 ∷ take nested levels)) ∙ ap (with_levels r) (pushed_above q.width (0 ∷ take nested levels) h.above ∙ ap (λ ns. 0 ∷ ns) (sym levels_are)) in
         let i = is_there q ds c in
-        subst (λ (s : State). IsIn source.text s ds) state (record { before = i.before; whole = i.whole; offset = i.offset; column = i.column; front = i.front })
+        subst (λ (s : State). IsIn source.text s ds) state (record { before = i.before; whole = i.whole; offset = i.offset; column = i.column; lead = i.lead })
 
     pub awaits_indent : (q : LineState) (ds : List ℕ) → Comes (take nested levels) p (chars left) q ds → IndentAhead (take nested levels) q ds → AwaitsIndent l
     awaits_indent q ds c h a k s =
@@ -280,7 +279,7 @@ keeps_behind l q r left ls nested tail utf8 small stood is stands ascending n z 
     let state : resumed l.shown (standing_by a l.shown).line ≡ with_levels r (0 ∷ take nested ls) =
     ap (λ c. resumed c (standing_by a l.shown).line) is
     ∙ ap (resumed (shown_at l.shown.given s)) (line_in a l.shown s (chars left) o i)
-    ∙ resumed_anew l.shown.given s (last_line i.before) i.column i.front
+    ∙ resumed_anew l.shown.given s (last_line i.before) i.column i.lead
     ∙ sym (anew (0 ∷ ls))
     ∙ ap (λ ns. with_levels r (0 ∷ ns)) (sym all) in
     let now : begun_anew s ≡ with_levels r (0 ∷ take nested ls) = sym (anew (0 ∷ ls)) ∙ ap (λ ns. with_levels r (0 ∷ ns)) (sym all) in
@@ -291,7 +290,7 @@ keeps_behind l q r left ls nested tail utf8 small stood is stands ascending n z 
       stands = stands;
       ascending = ascending;
       within = omega arith;
-      placed = subst (λ (u : State). IsIn a.text u (chars left)) now (record { before = i.before; whole = i.whole; offset = i.offset; column = i.column; front = i.front });
+      placed = subst (λ (u : State). IsIn a.text u (chars left)) now (record { before = i.before; whole = i.whole; offset = i.offset; column = i.column; lead = i.lead });
       came = subst (λ (u : State). Walks (with_levels r (0 ∷ take nested ls)) (chars left) (length ls - nested) u (standing_by a l.shown).left) (sym state)
           (subst (λ (es : List ℕ). Walks (with_levels r (0 ∷ take nested ls)) (chars left) (length ls - nested) (with_levels r (0 ∷ take nested ls)) es) (sym (left_in a l.shown s (chars left) o i))
           (subst (λ (k : ℕ). Walks (with_levels r (0 ∷ take nested ls)) (chars left) k (with_levels r (0 ∷ take nested ls)) (chars left)) (sym none) stays));
@@ -318,7 +317,7 @@ came_same a c k n t ds m w =
     (subst (λ (es : List ℕ). Walks t ds m (resumed c (standing_by a c).line) es) (same_left a c k n) w)
 
 -- A lister goes on by a step: it stands behind it, and keeps what it has to.
-pub record Goes (old : Listed) (step : Step) (new : Listed) (r : LineState) (left ls : List ℕ) (nested tail : ℕ) : Type 0 where
+pub record Advances (old : Listed) (step : Step) (new : Listed) (r : LineState) (left ls : List ℕ) (nested tail : ℕ) : Type 0 where
   pub leads : Leads old step new
   pub keeps : Keeps new r left ls nested tail
 
@@ -329,7 +328,7 @@ anew_stands q r ds room h = record { utf8 = h.utf8; room = room (length ds) h.ro
 pub ascending-take : (m n : ℕ) (ls : List ℕ) → IsAscending m ls → IsAscending m (take n ls)
 ascending-take m n ls h = ascending-front m (take n ls) (drop n ls) (subst (IsAscending m) (sym (take-append-drop n ls)) h)
 
-pub goes_first : (l : Listed) (p : LineState) (left levels : List ℕ) (nested tail : ℕ) (e : Entry) → Keeps l p left levels nested tail → l.shown.given ≡ 0 → mark_at kinds.Encoding 0 origin origin ≡ steps.Entry e → Goes l (steps.Entry e) (record l { shown = record l.shown { given = 1 } }) p left levels nested tail
+pub goes_first : (l : Listed) (p : LineState) (left levels : List ℕ) (nested tail : ℕ) (e : Entry) → Keeps l p left levels nested tail → l.shown.given ≡ 0 → mark_at kinds.Encoding 0 origin origin ≡ steps.Entry e → Advances l (steps.Entry e) (record l { shown = record l.shown { given = 1 } }) p left levels nested tail
 goes_first l p left levels nested tail e keeps z is =
     let new : Listed = record l { shown = record l.shown { given = 1 } } in
     let leads : Leads l (steps.Entry e) new = leads_encoding l e z is in
@@ -349,7 +348,7 @@ goes_first l p left levels nested tail e keeps z is =
     }
 
 module _ (l : Listed) (p : LineState) (left levels : List ℕ) (nested tail : ℕ) (keeps : Keeps l p left levels nested tail) (skips : l.shown.skip ≡ (length levels - nested) + tail) (some : 0 < l.shown.given) where
-  pub goes_entry : (none : tail ≡ 0) (e : Entry) (q r : LineState) (ds ls : List ℕ) (point : Shown) → EntryAhead (take nested levels) p (chars left) e q (chars ds) → Stands q ds → ((ns : List ℕ) → with_levels r ns ≡ begun_anew (with_levels q ns)) → ((n : ℕ) → HasRoom q n → HasRoom r n) → ((k : ℕ) (ms : List ℕ) → shown_by k point ms 0 ≡ shown_at k (with_levels q (0 ∷ ms))) → ls ≡ take nested levels → Goes l (steps.Entry e) (record { source = l.source; shown = shown_by (l.shown.given + 1) point ls ((length ls - nested) + tail) }) r ds ls nested tail
+  pub goes_entry : (none : tail ≡ 0) (e : Entry) (q r : LineState) (ds ls : List ℕ) (point : Shown) → EntryAhead (take nested levels) p (chars left) e q (chars ds) → Stands q ds → ((ns : List ℕ) → with_levels r ns ≡ begun_anew (with_levels q ns)) → ((n : ℕ) → HasRoom q n → HasRoom r n) → ((k : ℕ) (ms : List ℕ) → shown_by k point ms 0 ≡ shown_at k (with_levels q (0 ∷ ms))) → ls ≡ take nested levels → Advances l (steps.Entry e) (record { source = l.source; shown = shown_by (l.shown.given + 1) point ls ((length ls - nested) + tail) }) r ds ls nested tail
   goes_entry none e q r ds ls point h stands anew room at is =
       let counted : length ls ≡ nested = ap length is ∙ length-take-le nested levels keeps.within in
       let no_skip : (length ls - nested) + tail ≡ 0 = omega arith in
@@ -363,7 +362,7 @@ module _ (l : Listed) (p : LineState) (left levels : List ℕ) (nested tail : �
             (subst (λ (ns : List ℕ). IsIn (chars l.source.text) (with_levels q (0 ∷ ns)) (chars ds)) (sym is) (entry_in l p left levels nested tail keeps skips some none e q (chars ds) h)) anew;
       }
 
-  pub goes_indent : (none : tail ≡ 0) (e : Entry) (q m r : LineState) (ds ls : List ℕ) (count : ℕ) (point : Shown) → Comes (take nested levels) p (chars left) q (chars ds) → IndentAhead (take nested levels) q (chars ds) → step_of kinds.Indent None q.line q.now ≡ steps.Entry e → Stands q ds → ((ns : List ℕ) → with_levels m (pushed q.width ns) ≡ measured (with_levels q ns)) → ((n : ℕ) → HasRoom q n → HasRoom m n) → ((ns : List ℕ) → with_levels r ns ≡ begun_anew (with_levels m ns)) → ((n : ℕ) → HasRoom m n → HasRoom r n) → ((k : ℕ) (ms : List ℕ) → shown_by k point ms 0 ≡ shown_at k (with_levels m (0 ∷ ms))) → ls ≡ take nested levels ++ q.width ∷ [] → count ≡ length ls → Goes l (steps.Entry e) (record { source = l.source; shown = shown_by (l.shown.given + 1) point ls ((length ls - count) + tail) }) r ds ls count tail
+  pub goes_indent : (none : tail ≡ 0) (e : Entry) (q m r : LineState) (ds ls : List ℕ) (count : ℕ) (point : Shown) → Comes (take nested levels) p (chars left) q (chars ds) → IndentAhead (take nested levels) q (chars ds) → step_of kinds.Indent None q.line q.now ≡ steps.Entry e → Stands q ds → ((ns : List ℕ) → with_levels m (pushed q.width ns) ≡ measured (with_levels q ns)) → ((n : ℕ) → HasRoom q n → HasRoom m n) → ((ns : List ℕ) → with_levels r ns ≡ begun_anew (with_levels m ns)) → ((n : ℕ) → HasRoom m n → HasRoom r n) → ((k : ℕ) (ms : List ℕ) → shown_by k point ms 0 ≡ shown_at k (with_levels m (0 ∷ ms))) → ls ≡ take nested levels ++ q.width ∷ [] → count ≡ length ls → Advances l (steps.Entry e) (record { source = l.source; shown = shown_by (l.shown.given + 1) point ls ((length ls - count) + tail) }) r ds ls count tail
   goes_indent none e q m r ds ls count point c h step stands measures room anew room_anew at is counted =
       let no_skip : (length ls - count) + tail ≡ 0 = omega arith in
       let new : Listed = record { source = l.source; shown = shown_by (l.shown.given + 1) point ls ((length ls - count) + tail) } in
@@ -376,7 +375,7 @@ module _ (l : Listed) (p : LineState) (left levels : List ℕ) (nested tail : �
             (indent_in l p left levels nested tail keeps skips some none q m (chars ds) ls c h measures is) anew;
       }
 
-  pub goes_dedent : (none : tail ≡ 0) (e : Entry) (q : LineState) (ds : List ℕ) (skip : ℕ) → Comes (take nested levels) p (chars left) q (chars ds) → DedentAhead (take nested levels) q (chars ds) → mark_at kinds.Dedent q.now.offset q.now.place q.now.place ≡ steps.Entry e → Stands q ds → skip ≡ (length levels - (nested - 1)) + tail → Goes l (steps.Entry e) (record l { shown = record l.shown { given = l.shown.given + 1; skip = skip } }) q ds levels (nested - 1) tail
+  pub goes_dedent : (none : tail ≡ 0) (e : Entry) (q : LineState) (ds : List ℕ) (skip : ℕ) → Comes (take nested levels) p (chars left) q (chars ds) → DedentAhead (take nested levels) q (chars ds) → mark_at kinds.Dedent q.now.offset q.now.place q.now.place ≡ steps.Entry e → Stands q ds → skip ≡ (length levels - (nested - 1)) + tail → Advances l (steps.Entry e) (record l { shown = record l.shown { given = l.shown.given + 1; skip = skip } }) q ds levels (nested - 1) tail
   goes_dedent none e q ds skip c h step stands is =
       let within = keeps.within in
       let some_nested : 0 < nested = omega (arith, h.some, length-take-le nested levels keeps.within) in
@@ -394,13 +393,13 @@ module _ (l : Listed) (p : LineState) (left levels : List ℕ) (nested tail : �
           stands = stands;
           ascending = keeps.ascending;
           within = omega arith;
-          placed = record { before = i.before; whole = i.whole; offset = i.offset; column = i.column; front = i.front };
+          placed = record { before = i.before; whole = i.whole; offset = i.offset; column = i.column; lead = i.lead };
           came = came_same (in_characters l.source) l.shown (l.shown.given + 1) skip (with_levels q (0 ∷ take (nested - 1) levels)) (chars ds) (length levels - (nested - 1)) w;
           stop = λ n. absurd (omega arith);
         };
       }
 
-  pub goes_end : (e : Entry) (q : LineState) (ds : List ℕ) (skip : ℕ) → Comes (take nested levels) p (chars left) q (chars ds) → StopAhead q (chars ds) → (tail < length (remaining (in_characters l.source).fault (with_levels q (0 ∷ take nested levels)) (chars ds)) → steps.Entry e ≡ first_step (drop tail (remaining (in_characters l.source).fault (with_levels q (0 ∷ take nested levels)) (chars ds)))) → e.«from» ≡ e.to → Stands q ds → skip ≡ (length levels - nested) + (tail + 1) → Goes l (steps.Entry e) (record l { shown = record l.shown { given = l.shown.given + 1; skip = skip } }) q ds levels nested (tail + 1)
+  pub goes_end : (e : Entry) (q : LineState) (ds : List ℕ) (skip : ℕ) → Comes (take nested levels) p (chars left) q (chars ds) → StopAhead q (chars ds) → (tail < length (remaining (in_characters l.source).fault (with_levels q (0 ∷ take nested levels)) (chars ds)) → steps.Entry e ≡ first_step (drop tail (remaining (in_characters l.source).fault (with_levels q (0 ∷ take nested levels)) (chars ds)))) → e.«from» ≡ e.to → Stands q ds → skip ≡ (length levels - nested) + (tail + 1) → Advances l (steps.Entry e) (record l { shown = record l.shown { given = l.shown.given + 1; skip = skip } }) q ds levels nested (tail + 1)
   goes_end e q ds skip c h is empty stands skip_is =
       let more : skip ≡ l.shown.skip + 1 = omega arith in
       let new : Listed = record l { shown = record l.shown { given = l.shown.given + 1; skip = skip } } in
@@ -465,7 +464,7 @@ keeps_first source p point ls utf8 small e first at =
     (ap (shown_by 0 point ls) no_skip ∙ at 0 ls)
     (record { utf8 = utf8; room = record { row = omega arith; column = omega arith; offset = omega arith; depth = omega arith; width = omega arith } })
     (subst (IsAscending 0) (sym e) tt) (sym none) refl
-    (record { before = []; whole = refl; offset = offset; column = column ∙ ap length (sym no_line); front = ap (λ (s : State). s.front) first ∙ ap (front_after Nothing) (sym no_line) })
+    (record { before = []; whole = refl; offset = offset; column = column ∙ ap length (sym no_line); lead = ap (λ (s : State). s.lead) first ∙ ap (lead_after Nothing) (sym no_line) })
     (λ ns. ap (λ (s : State). record s { levels = ns }) first ∙ ap (λ (s : State). begun_anew (record s { levels = ns })) (sym first))
 
 pub row_from_one : (l : Listed) (p : LineState) (left levels : List ℕ) (nested tail : ℕ) → Keeps l p left levels nested tail → 1 ≤ l.shown.row
@@ -499,12 +498,12 @@ none_behind [] k h = drop_none k
 none_behind (s ∷ ss) zero h = absurd (omega arith)
 none_behind (s ∷ ss) (suc k) h = none_behind ss k (omega arith)
 
-no_stop : (s : Step) (e : Entry) → IsStop s → s ≡ steps.Entry e → ⊥
+no_stop : (s : Step) (e : Entry) → IsNoEntry s → s ≡ steps.Entry e → ⊥
 no_stop (steps.Entry d) e n h = n
 no_stop steps.End e n h = cc
 no_stop (steps.Fault f) e n h = cc
 
-pub rest_stop : (a : Source) (k : ℕ) (s : Step) → slice_get (listing a) k ≡ Some s → IsStop s → rest a k ≡ s ∷ []
+pub rest_stop : (a : Source) (k : ℕ) (s : Step) → slice_get (listing a) k ≡ Some s → IsNoEntry s → rest a k ≡ s ∷ []
 rest_stop a k s h n =
     let l = listing_length a in
     let last : length (entries_of (listing a)) ≤ k = ⊎_elim

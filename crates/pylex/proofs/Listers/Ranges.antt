@@ -202,7 +202,7 @@ indent_range text before rest q levels ds e w l i h m measuring step =
 -- The line end that the text's end gives stands there.
 line_end_at : (s : State) (e : Entry) → last_line_end s ≡ steps.Entry e ∷ [] → (e.«from» ≡ s.now.offset) × (e.to ≡ s.now.offset)
 unfolding last_line_end
-line_end_at s e is = by s.logical (is_hash s.front) s.margin is
+line_end_at s e is = by s.logical (is_hash s.lead) s.margin is
   where
     same_entry : (d e : Entry) → (d.«from» ≡ s.now.offset) × (d.to ≡ s.now.offset) → steps.Entry d ∷ [] ≡ steps.Entry e ∷ [] → (e.«from» ≡ s.now.offset) × (e.to ≡ s.now.offset)
     same_entry d e h q = let x : d ≡ e = cc in subst (λ (y : Entry). (y.«from» ≡ s.now.offset) × (y.to ≡ s.now.offset)) x h

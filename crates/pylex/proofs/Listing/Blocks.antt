@@ -221,7 +221,7 @@ tail_nested s n o =
     pick (not (s.depth == 0) || s.joined) _ _ tt
     (subst (λ (us : List Step). Nested n us) (sym (append_assoc (last_line_end s) (dedents_at 0 s.levels s.now.offset (last_place s)) marker))
     (cond_nested s.logical n _ _ (dedents_at 0 s.levels s.now.offset (last_place s) ++ marker)
-    (λ _. cond_nested (is_hash s.front) n [] _ (dedents_at 0 s.levels s.now.offset (last_place s) ++ marker) (λ _. closes) (λ _. closes))
+    (λ _. cond_nested (is_hash s.lead) n [] _ (dedents_at 0 s.levels s.now.offset (last_place s) ++ marker) (λ _. closes) (λ _. closes))
     (λ _. cond_nested s.margin n [] _ (dedents_at 0 s.levels s.now.offset (last_place s) ++ marker) (λ _. closes) (λ _. closes))))
   where
     pick : (b : Bool) (a c : List Step) → Nested n a → Nested n c → Nested n (cond b a c)

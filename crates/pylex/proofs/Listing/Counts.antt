@@ -120,7 +120,7 @@ gives_many s x = by_significant (is_significant x)
 last_many : (s : State) → many (last_line_end s) ≤ 1
 unfolding last_line_end
 last_many s = cond_many s.logical 1 _ _
-    (λ _. cond_many (is_hash s.front) 1 [] _ (λ _. omega arith) (λ _. omega arith))
+    (λ _. cond_many (is_hash s.lead) 1 [] _ (λ _. omega arith) (λ _. omega arith))
     (λ _. cond_many s.margin 1 [] _ (λ _. omega arith) (λ _. omega arith))
 
 tail_many : (s : State) → many (tail_of s) ≤ length s.levels + 2

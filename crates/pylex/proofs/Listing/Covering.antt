@@ -193,7 +193,7 @@ tail_spans s n gap g w =
     let closes : Begun s [] (dedents_at 0 s.levels s.now.offset (last_place s) ++ marker) = λ m h g w. dedents_span 0 s.levels (last_place s) m s.now.offset h [] marker closing g w in
     let ended : Spans n (gap ++ []) (last_line_end s ++ (dedents_at 0 s.levels s.now.offset (last_place s) ++ marker)) =
     cond_spans s.logical n (gap ++ []) _ _ (dedents_at 0 s.levels s.now.offset (last_place s) ++ marker)
-    (cond_spans (is_hash s.front) n (gap ++ []) [] _ (dedents_at 0 s.levels s.now.offset (last_place s) ++ marker) (closes n gap g w)
+    (cond_spans (is_hash s.lead) n (gap ++ []) [] _ (dedents_at 0 s.levels s.now.offset (last_place s) ++ marker) (closes n gap g w)
     (spans_piece n gap [] [] _ (dedents_at 0 s.levels s.now.offset (last_place s) ++ marker) g (sym w) (omega arith) (closes s.now.offset [] no_gap (omega arith))))
     (cond_spans s.margin n (gap ++ []) [] _ (dedents_at 0 s.levels s.now.offset (last_place s) ++ marker) (closes n gap g w)
     (spans_piece n gap [] [] _ (dedents_at 0 s.levels s.now.offset (last_place s) ++ marker) g (sym w) (omega arith) (closes s.now.offset [] no_gap (omega arith)))) in

@@ -18,9 +18,9 @@ use Rattle.pylex_lexeme.specs.Operators.{is_closer}
 use Rattle.pylex.specs.Lines.{is_significant}
 use Rattle.pylex_lexeme.specs.Lexemes.{Lexeme, cut, left_by_cut, is_open_string}
 use Rattle.pylex.specs.Listing.{Source, origin, stop_fault, up_to_end}
-use Rattle.pylex.specs.Steps.{entries_of, mark, fault_at}
+use Rattle.pylex.specs.Steps.{entries_of, mark, fault_at, IsNoEntry}
 use Rattle.pylex.specs.Machine.{State, layout_of, entry_by, gives, is_hash, dedents_at, last_place, last_line_end, tail_of, stop_of, after, run, remaining, first_state}
-use Rattle.pylex.specs.Laws.{IsStop, EndsWithMarker, AreWhole, IsWhole}
+use Rattle.pylex.specs.Laws.{EndsWithMarker, AreWhole, IsWhole}
 use Rattle.pylex.proofs.MachineLaws.Run.{listing_is}
 
 -- the step at a stop before the text's end is a fault
@@ -105,7 +105,7 @@ tail_stops s =
     cond_stops (not (s.depth == 0) || s.joined) _ _ fault
     (behind (last_line_end s ++ dedents_at 0 s.levels s.now.offset (last_place s)) _
     (NoEnd-append (last_line_end s) _
-    (cond_no_end s.logical _ _ (cond_no_end (is_hash s.front) [] _ tt tt) (cond_no_end s.margin [] _ tt tt))
+    (cond_no_end s.logical _ _ (cond_no_end (is_hash s.lead) [] _ tt tt) (cond_no_end s.margin [] _ tt tt))
     (dedents_no_end 0 s.levels s.now.offset (last_place s)))
     (marked refl))
 
@@ -128,7 +128,7 @@ run_stops o left (x ∷ xs) s = behind (gives s x) _ (gives_no_end s x) (run_sto
 record Closed (ss : List Step) : Type 0 where
   last : Step
   whole : ss ≡ map steps.Entry (entries_of ss) ++ last ∷ []
-  stops : IsStop last
+  stops : IsNoEntry last
   marker : last ≡ steps.End → EndsWithMarker (entries_of ss)
 
 one_more : (e : Entry) (ss : List Step) → Closed ss → Closed (steps.Entry e ∷ ss)

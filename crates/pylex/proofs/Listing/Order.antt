@@ -196,7 +196,7 @@ tail_reaches s =
     (joined (last_line_end s ++ dedents_at 0 s.levels s.now.offset (last_place s)) _ s.now (last_point s) (last_point s)
     (joined (last_line_end s) (dedents_at 0 s.levels s.now.offset (last_place s)) s.now (last_point s) (last_point s)
     (cond_reaches s.logical _ _ s.now (last_point s)
-    (cond_reaches (is_hash s.front) [] _ s.now (last_point s) n (same_point s.now, record { offset = omega arith; row = omega arith }, record { offset = omega arith; row = omega arith }))
+    (cond_reaches (is_hash s.lead) [] _ s.now (last_point s) n (same_point s.now, record { offset = omega arith; row = omega arith }, record { offset = omega arith; row = omega arith }))
     (cond_reaches s.margin [] _ s.now (last_point s) n (same_point s.now, same_point s.now, n)))
     (marks_reach _ s.now.offset (last_place s)))
     (same_point (last_point s), same_point (last_point s), tt))

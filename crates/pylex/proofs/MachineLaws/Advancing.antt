@@ -8,10 +8,10 @@ use Rattle.pysource.specs.declared.places.Place.{Place}
 use Rattle.pylex.specs.declared.point.Point.{Point}
 use Rattle.pylex.specs.declared.line_state.LineState.{LineState}
 use Rattle.pylex_lexeme.specs.Lexemes.{Lexeme}
-use Rattle.pylex.specs.Lines.{opens, closes, is_significant, is_of_blanks, is_of_line_end}
+use Rattle.pylex.specs.Lines.{opens, closes, is_significant, is_of_blanks, is_of_line_end, count_if}
 use Rattle.pylex.specs.Indentation.{width_from}
 use Rattle.pylex_lexeme.specs.Chars.{bytes_in}
-use Rattle.pylex.specs.Machine.{place_past, front_after, after, past, count_if, still, is_of_join}
+use Rattle.pylex.specs.Machine.{place_past, lead_after, after, past, still, is_of_join}
 use Rattle.pylex_lexeme.proofs.Callers.Booleans.{bool_cases}
 use Rattle.pylex.specs.LineState.{with_levels, HasRoom}
 
@@ -27,7 +27,7 @@ pub record IsAfter (p : LineState) (x : Lexeme) (q : LineState) : Type 0 where
   pub width : q.width ≡ still (is_of_blanks x && p.margin) (width_from p.width x.text)
   pub logical : q.logical ≡ (not (ends p x) && (is_significant x || p.logical))
   pub joined : q.joined ≡ is_of_join x
-  pub front : q.front ≡ front_after p.front x.text
+  pub lead : q.lead ≡ lead_after p.lead x.text
 
 -- a line end is no blanks
 no_width : (k : Class) (t : List ℕ) (d m : Bool) (n : ℕ) → still (is_of_blanks (record { «class» = k; text = t }) && m) n ≡ cond (is_of_line_end (record { «class» = k; text = t }) && d) 0 (still (is_of_blanks (record { «class» = k; text = t }) && m) n)
@@ -51,8 +51,8 @@ is_after p x q s h levels =
     let width = h.width ∙ no_width x.«class» x.text (p.depth == 0) p.margin (width_from p.width x.text) in
     let logical = h.logical in
     let joined = h.joined in
-    let front = h.front in
-    rw (line, now, depths, margin, width, logical, joined, front, s) refl
+    let lead = h.lead in
+    rw (line, now, depths, margin, width, logical, joined, lead, s) refl
 
 advance_row : (r : Place) (cs : List ℕ) → (place_past r cs).row ≤ r.row + length cs
 advance_row r [] = omega arith

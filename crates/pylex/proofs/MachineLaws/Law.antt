@@ -11,11 +11,11 @@ use Rattle.std.proofs.lemmas.Grind.{common_steps}
 use Rattle.std.proofs.lemmas.Bool.Decides.{nat_tests}
 use Rattle.pysource.specs.Places.{place_after}
 use Rattle.pylex_lexeme.specs.Lexemes.{Lexeme}
-use Rattle.pylex.specs.Lines.{text_before, depth, is_of_blanks, is_of_line_end, is_significant, opens, closes, line_so_far, before_line, is_at_margin, is_logical}
+use Rattle.pylex.specs.Lines.{text_before, depth, is_of_blanks, is_of_line_end, is_significant, opens, closes, line_so_far, before_line, is_at_margin, is_logical, count_if}
 use Rattle.pylex_lexeme.specs.Chars.{bytes_in}
 use Rattle.pylex.specs.Indentation.{column_after, width_from, width_at, widths, open_levels}
 use Rattle.pylex.specs.Listing.{ends_in_join}
-use Rattle.pylex.specs.Machine.{State, place_past, front_after_char, front_after, past, after, still, count_if, pushed}
+use Rattle.pylex.specs.Machine.{State, place_past, lead_after_char, lead_after, past, after, still, pushed}
 use Rattle.pylex.specs.declared.point.Point.{Point}
 use Rattle.pylex.specs.declared.leading_char.LeadingChar.{LeadingChar}
 use Rattle.pylex.specs.declared.leading_char.LeadingChar.TheVariants.{Nothing}
@@ -56,9 +56,9 @@ point-append a b =
     let o = bytes_in-append a b in
     rw (p, o) refl
 
-pub front-append : (a b : List ℕ) (f : LeadingChar) → front_after f (a ++ b) ≡ front_after (front_after f a) b
+pub front-append : (a b : List ℕ) (f : LeadingChar) → lead_after f (a ++ b) ≡ lead_after (lead_after f a) b
 front-append [] b f = refl
-front-append (c ∷ a) b f = front-append a b (front_after_char f c)
+front-append (c ∷ a) b f = front-append a b (lead_after_char f c)
 
 pub width-append : (a b : List ℕ) (n : ℕ) → width_from n (a ++ b) ≡ width_from (width_from n a) b
 unfolding width_from
@@ -76,7 +76,7 @@ state_of before = record {
   width = still (is_at_margin before) (width_at before);
   logical = is_logical before;
   joined = ends_in_join before;
-  front = front_after Nothing (text_before before);
+  lead = lead_after Nothing (text_before before);
 }
 
 -- No closing bracket is without its opening one so far.

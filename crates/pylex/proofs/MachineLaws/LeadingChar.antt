@@ -7,7 +7,7 @@ use Rattle.std.proofs.lemmas.List.{append-nil, reverse-append}
 use Rattle.std.proofs.lemmas.List.Sums.{take_while-cons}
 use Rattle.pylex_lexeme.specs.Chars.{is_blank_char}
 use Rattle.pylex.specs.Listing.{last_line, begins_comment}
-use Rattle.pylex.specs.Machine.{front_after_char, front_after, is_hash}
+use Rattle.pylex.specs.Machine.{lead_after_char, lead_after, is_hash}
 use Rattle.pylex.specs.declared.leading_char.LeadingChar.{LeadingChar}
 use Rattle.pylex.specs.declared.leading_char.LeadingChar.TheVariants.{Nothing, Hash, Other}
 use Rattle.pylex_lexeme.proofs.Callers.Booleans.{bool_cases}
@@ -35,7 +35,7 @@ front_in-hash : (l : List ℕ) → begins_comment l ≡ is_hash (front_in l)
 front_in-hash [] = refl
 front_in-hash (c ∷ cs) = hash_cases (is_blank_char c) (c == 35) (begins_comment cs) (front_in cs) (front_in-hash cs)
 
-front_in-push : (l : List ℕ) (c : ℕ) → (c == 10) ≡ false → front_in (l ++ c ∷ []) ≡ front_after_char (front_in l) c
+front_in-push : (l : List ℕ) (c : ℕ) → (c == 10) ≡ false → front_in (l ++ c ∷ []) ≡ lead_after_char (front_in l) c
 front_in-push [] c e = rw e refl
 front_in-push (d ∷ l) c e = ⊎_elim
     (λ (b : is_blank_char d ≡ true). rw b (front_in-push l c e))
@@ -46,7 +46,7 @@ front_in-push (d ∷ l) c e = ⊎_elim
     settled true = refl
     settled false = refl
 
-last_one : (t : List ℕ) (c : ℕ) → front_in (last_line (t ++ c ∷ [])) ≡ front_after_char (front_in (last_line t)) c
+last_one : (t : List ℕ) (c : ℕ) → front_in (last_line (t ++ c ∷ [])) ≡ lead_after_char (front_in (last_line t)) c
 last_one t c =
     let l = last_push t c in
     rw l (⊎_elim
@@ -54,13 +54,13 @@ last_one t c =
     (λ (e : (c == 10) ≡ false). let f = front_in-push (last_line t) c e in rw e (f ∙ rw e refl))
     (bool_cases (c == 10)))
 
-pub last_front : (b a : List ℕ) → front_in (last_line (a ++ b)) ≡ front_after (front_in (last_line a)) b
+pub last_front : (b a : List ℕ) → front_in (last_line (a ++ b)) ≡ lead_after (front_in (last_line a)) b
 last_front [] a = ap (λ t. front_in (last_line t)) (append-nil a)
 last_front (c ∷ b) a =
     ap (λ t. front_in (last_line t)) (sym (append_assoc a (c ∷ []) b))
     ∙ last_front b (a ++ c ∷ [])
-    ∙ ap (λ f. front_after f b) (last_one a c)
+    ∙ ap (λ f. lead_after f b) (last_one a c)
 
-pub hash_is : (t : List ℕ) → begins_comment (last_line t) ≡ is_hash (front_after Nothing t)
+pub hash_is : (t : List ℕ) → begins_comment (last_line t) ≡ is_hash (lead_after Nothing t)
 unfolding last_line
 hash_is t = front_in-hash (last_line t) ∙ ap is_hash (last_front t [])

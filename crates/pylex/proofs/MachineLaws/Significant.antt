@@ -16,7 +16,7 @@ use Rattle.pylex_lexeme.specs.Numbers.{is_number}
 use Rattle.pylex_lexeme.specs.Operators.{is_operator, exact_of}
 use Rattle.pylex_lexeme.specs.declared.kinds.Exact.{Exact}
 use Rattle.pylex.specs.Lines.{is_significant}
-use Rattle.pylex_lexeme.specs.Cuts.{Takes, begins_significant, begins_line_end}
+use Rattle.pylex_lexeme.specs.Cuts.{TakesLexeme, begins_significant, begins_line_end}
 use Rattle.pylex_lexeme.proofs.Callers.Booleans.{and_parts, bool_cases, or_parts}
 use Rattle.pylex_lexeme.proofs.Callers.Lexemes.{nothing_takes, comment_takes, blanks_take, feed_takes, both_take, no_end_front}
 
@@ -213,7 +213,7 @@ significant_at cs x h e = significant_by cs x x.«class» h e refl
 record Lays (cs : List ℕ) : Type 0 where
   pub kind : Class
   pub new : List ℕ
-  pub takes : Takes cs (Some kind) new
+  pub takes : TakesLexeme cs (Some kind) new
   pub plain : significant_of kind ≡ false
 
 lays_end : (c : ℕ) (cs : List ℕ) → begins_line_end (c ∷ cs) ≡ true → Lays (c ∷ cs)
@@ -243,10 +243,10 @@ lays c cs h =
     (bool_cases (c == 35)))
     (bool_cases (is_blank_char c))
 
-class_by : (cs new : List ℕ) (k : Class) (x : Lexeme) → Takes cs (Some k) new → lexeme_at cs ≡ Some x → x.«class» ≡ k
+class_by : (cs new : List ℕ) (k : Class) (x : Lexeme) → TakesLexeme cs (Some k) new → lexeme_at cs ≡ Some x → x.«class» ≡ k
 class_by cs new k x t e = let f : Some k ≡ Some x.«class» = t.«class» ∙ ap (option_map (λ (y : Lexeme). y.«class»)) e in cc
 
-some_by : (cs new : List ℕ) (k : Class) → Takes cs (Some k) new → lexeme_at cs ≡ None → ⊥
+some_by : (cs new : List ℕ) (k : Class) → TakesLexeme cs (Some k) new → lexeme_at cs ≡ None → ⊥
 some_by cs new k t e = let f : Some k ≡ None = t.«class» ∙ ap (option_map (λ (y : Lexeme). y.«class»)) e in cc
 
 pub none_at_all : (x : Lexeme) → lexeme_at [] ≡ Some x → ⊥

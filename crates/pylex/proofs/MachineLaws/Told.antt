@@ -27,8 +27,8 @@ use Rattle.pylex.specs.declared.kind.Kind.{Kind}
 use Rattle.pylex.specs.declared.kind.Kind.TheVariants as kinds
 use Rattle.pylex.specs.declared.point.Point.{Point}
 use Rattle.pylex.specs.declared.line_state.LineState.{LineState}
-use Rattle.pylex.specs.Lines.{opens, closes}
-use Rattle.pylex.specs.Machine.{State, place_past, front_after, after, behind, entry_by, line_end_kind_of, step_of, past, count_if, still}
+use Rattle.pylex.specs.Lines.{opens, closes, count_if}
+use Rattle.pylex.specs.Machine.{State, place_past, lead_after, after, behind, entry_by, line_end_kind_of, step_of, past, still}
 use Rattle.pylex.specs.LineState.{with_levels, HasRoom}
 use Rattle.pylex.proofs.MachineLaws.Advancing.{room_on}
 use Rattle.pylex.specs.Inner.Plain.{IsPlain}
@@ -83,7 +83,7 @@ abbrev is_sign : List ℕ → Bool
 is_sign [] = false
 is_sign (c ∷ cs) = list_all is_even (c ∷ cs) && (not (is_blank_char c) && not (c == 35))
 
-sign_front : (t : List ℕ) → is_sign t ≡ true → (f : LeadingChar) → front_after f t ≡ begun_by f
+sign_front : (t : List ℕ) → is_sign t ≡ true → (f : LeadingChar) → lead_after f t ≡ begun_by f
 sign_front [] e f = cc
 sign_front (c ∷ cs) e f =
     let p = both (list_all is_even (c ∷ cs)) (not (is_blank_char c) && not (c == 35)) e in
@@ -95,7 +95,7 @@ sign_front (c ∷ cs) e f =
     no true e = cc
     no false e = refl
 
-    by : (f : LeadingChar) → AllInLine (c ∷ cs) → is_blank_char c ≡ false → (c == 35) ≡ false → front_after f (c ∷ cs) ≡ begun_by f
+    by : (f : LeadingChar) → AllInLine (c ∷ cs) → is_blank_char c ≡ false → (c == 35) ≡ false → lead_after f (c ∷ cs) ≡ begun_by f
     by Nothing a b h = let e = a.0 in rw (e, b, h) (begun Other cs (λ n. cc) a.1)
     by Hash a b h = begun Hash (c ∷ cs) (λ n. cc) a
     by Other a b h = begun Other (c ∷ cs) (λ n. cc) a
@@ -118,7 +118,7 @@ blanks_even (c ∷ cs) e =
     even : (c : ℕ) → is_blank_char c ≡ true → is_even c ≡ true
     even c e = grind (arith, nat_tests)
 
-blanks_front : (cs : List ℕ) → list_all is_blank_char cs ≡ true → (f : LeadingChar) → front_after f cs ≡ f
+blanks_front : (cs : List ℕ) → list_all is_blank_char cs ≡ true → (f : LeadingChar) → lead_after f cs ≡ f
 blanks_front cs e Hash = begun Hash cs (λ n. cc) (even_in_line cs (blanks_even cs e))
 blanks_front cs e Other = begun Other cs (λ n. cc) (even_in_line cs (blanks_even cs e))
 blanks_front [] e Nothing = refl
@@ -154,7 +154,7 @@ end_row : (t : List ℕ) → LineEnd_is t → (p : Place) → place_past p t ≡
 end_row t (lf e) p = rw e refl
 end_row t (crlf e) p = rw e refl
 
-end_front : (t : List ℕ) → LineEnd_is t → (f : LeadingChar) → front_after f t ≡ Nothing
+end_front : (t : List ℕ) → LineEnd_is t → (f : LeadingChar) → lead_after f t ≡ Nothing
 end_front t (lf e) f = rw e refl
 end_front t (crlf e) f = rw e refl
 
@@ -174,7 +174,7 @@ join_row (c ∷ cs) e p =
     slash : (c : ℕ) → (c == 92) ≡ true → (c == 10) ≡ false
     slash c e = grind (arith, nat_tests)
 
-join_front : (t : List ℕ) → is_join t ≡ true → (f : LeadingChar) → front_after f t ≡ Nothing
+join_front : (t : List ℕ) → is_join t ≡ true → (f : LeadingChar) → lead_after f t ≡ Nothing
 unfolding is_join
 join_front [] e f = cc
 join_front (c ∷ cs) e f =

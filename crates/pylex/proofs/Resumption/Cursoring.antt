@@ -23,12 +23,11 @@ use Rattle.pylex_lexeme.specs.Chars.{bytes_in}
 use Rattle.pylex.specs.Indentation.{width_from, width_at, widths, open_levels}
 use Rattle.pysource.specs.Parts.{Parts}
 use Rattle.pylex.specs.Listing.{Source, in_characters, listing, rest, origin, last_line, up_to_end}
-use Rattle.pylex.specs.Steps.{entries_of, first_step, mark, fault_at}
+use Rattle.pylex.specs.Steps.{entries_of, first_step, mark, fault_at, IsNoEntry}
 use Rattle.pylex.specs.Cursors.{CursorParts, given_last_first, has_no_text, is_encoding, is_indent, with_text, point, ends_in_indent, lexemes_to, cursor_at, cursor}
 use Rattle.pylex.specs.Machine.{State, after, dedents_at, mark_at, stop_of, layout_of, step_of, entry_by, remaining, first_state, behind_steps}
 use Rattle.pylex.specs.LineState.{measured, is_above, is_level}
 use Rattle.pylex.specs.Standing.{Standing, front_to, standing_by, standing, resumed, to_give, Agrees}
-use Rattle.pylex.specs.Laws.{IsStop}
 use Rattle.pylex.specs.Listers.{Listed, StandsIn, shown_at, Passes, here, lexeme, layout}
 use Rattle.pylex.proofs.MachineLaws.Law.{state_of, bytes_in-append}
 use Rattle.pylex.proofs.MachineLaws.Run.{listing_is, line_split}
@@ -73,14 +72,14 @@ record NextAt (es : List Entry) (k : ℕ) (e : Entry) : Type 0 where
   within : k < length es
   taken : take (k + 1) es ≡ take k es ++ e ∷ []
 
-not_last : (last : Step) (j : ℕ) (e : Entry) → IsStop last → first_step (drop j (last ∷ [])) ≡ steps.Entry e → ⊥
+not_last : (last : Step) (j : ℕ) (e : Entry) → IsNoEntry last → first_step (drop j (last ∷ [])) ≡ steps.Entry e → ⊥
 not_last (steps.Entry d) j e s f = s
 not_last steps.End zero e s f = cc
 not_last steps.End (suc j) e s f = nothing_more j e f
 not_last (steps.Fault g) zero e s f = cc
 not_last (steps.Fault g) (suc j) e s f = nothing_more j e f
 
-next_at : (es : List Entry) (last : Step) (k : ℕ) (e : Entry) → IsStop last → first_step (drop k (map steps.Entry es ++ last ∷ [])) ≡ steps.Entry e → NextAt es k e
+next_at : (es : List Entry) (last : Step) (k : ℕ) (e : Entry) → IsNoEntry last → first_step (drop k (map steps.Entry es ++ last ∷ [])) ≡ steps.Entry e → NextAt es k e
 next_at [] last k e n f = absurd (not_last last k e n f)
 next_at (d ∷ es) last zero e n f = let s : d ≡ e = cc in record { within = omega arith; taken = ap (λ x. x ∷ []) s }
 next_at (d ∷ es) last (suc k) e n f =

@@ -212,7 +212,7 @@ tail_pointed s t =
     (λ _. pointed_append s (last_line_end t ++ dedents_at 0 t.levels t.now.offset (last_place t)) _
     (pointed_append s (last_line_end t) _
     (cond_pointed s t.logical _ _
-    (λ _. cond_pointed s (is_hash t.front) [] _ (λ _. tt) (λ _. ((refl, λ h. absurd (full_entry t.now.offset t.now.offset refl h)), tt)))
+    (λ _. cond_pointed s (is_hash t.lead) [] _ (λ _. tt) (λ _. ((refl, λ h. absurd (full_entry t.now.offset t.now.offset refl h)), tt)))
     (λ _. cond_pointed s t.margin [] _ (λ _. tt) (λ _. ((refl, λ h. absurd (full_entry t.now.offset t.now.offset refl h)), tt))))
     (dedents_pointed s 0 t.levels t.now.offset (last_place t)))
     ((refl, λ h. absurd (full_entry t.now.offset t.now.offset refl h)), tt))

@@ -12,7 +12,7 @@ use Rattle.pylex.specs.Lines.{text_before, line_so_far, is_at_margin, is_logical
 use Rattle.pylex.specs.Indentation.{width_from, width_at}
 use Rattle.pylex.specs.Listing.{last_line, ends_in_join}
 use Rattle.pylex.specs.Cursors.{cursor_at}
-use Rattle.pylex.specs.Machine.{front_after}
+use Rattle.pylex.specs.Machine.{lead_after}
 use Rattle.pylex.specs.declared.leading_char.LeadingChar.TheVariants.{Nothing}
 use Rattle.pylex.specs.Standing.{resumed}
 use Rattle.pylex_lexeme.proofs.Callers.Booleans.{bool_cases}
@@ -45,7 +45,7 @@ front_again (c ∷ r) = ⊎_elim
     ap (take_while goes_on) w ∙ v ∙ sym w)
     (bool_cases (c == 10))
 
-pub front_line : (t : List ℕ) → front_after Nothing (last_line t) ≡ front_after Nothing t
+pub front_line : (t : List ℕ) → lead_after Nothing (last_line t) ≡ lead_after Nothing t
 unfolding last_line
 front_line t =
     let again : last_line (last_line t) ≡ last_line t = ap (λ r. reverse (take_while goes_on r)) (reverse-reverse (take_while goes_on (reverse t))) ∙ ap reverse (front_again (reverse t)) in
@@ -63,5 +63,5 @@ unfolding resumed cursor_at state_of is_logical is_at_margin width_at width_from
 resumed_start h k n l j e =
     let c : (place_after (text_before h)).column ≡ 0 = column_is (text_before h) ∙ ap length e in
     let p : record { row = (place_after (text_before h)).row; column = 0 } ≡ place_after (text_before h) = sym (ap (λ q. record { row = (place_after (text_before h)).row; column = q }) c) in
-    let f : Nothing ≡ front_after Nothing (text_before h) = sym (ap (front_after Nothing) e) ∙ front_line (text_before h) in
+    let f : Nothing ≡ lead_after Nothing (text_before h) = sym (ap (lead_after Nothing) e) ∙ front_line (text_before h) in
     rw (e, l, j, ← f, p) refl

@@ -120,7 +120,7 @@ tail_resumable s t =
     pick (not (t.depth == 0) || t.joined) _ _ tt
     (subst (λ (us : List Step). Resumable s us) (sym (append_assoc (last_line_end t) (dedents_at 0 t.levels t.now.offset (last_place t)) marker))
     (cond_resumable s t.logical _ _ (dedents_at 0 t.levels t.now.offset (last_place t) ++ marker)
-    (λ _. cond_resumable s (is_hash t.front) [] _ (dedents_at 0 t.levels t.now.offset (last_place t) ++ marker) (λ _. closes) (λ _. empty_resumable s (mark_of kinds.Newline t.now.offset t.now.place (further t.now.place 1)) (dedents_at 0 t.levels t.now.offset (last_place t) ++ marker) refl refl closes))
+    (λ _. cond_resumable s (is_hash t.lead) [] _ (dedents_at 0 t.levels t.now.offset (last_place t) ++ marker) (λ _. closes) (λ _. empty_resumable s (mark_of kinds.Newline t.now.offset t.now.place (further t.now.place 1)) (dedents_at 0 t.levels t.now.offset (last_place t) ++ marker) refl refl closes))
     (λ _. cond_resumable s t.margin [] _ (dedents_at 0 t.levels t.now.offset (last_place t) ++ marker) (λ _. closes) (λ _. empty_resumable s (mark_of kinds.Nl t.now.offset t.now.place t.now.place) (dedents_at 0 t.levels t.now.offset (last_place t) ++ marker) refl refl closes))))
   where
     pick : (b : Bool) (a c : List Step) → Resumable s a → Resumable s c → Resumable s (cond b a c)

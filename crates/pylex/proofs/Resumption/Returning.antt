@@ -20,7 +20,7 @@ use Rattle.pylex_lexeme.specs.Chars.{bytes_in}
 use Rattle.pylex.specs.Listing.{Source, in_characters, last_line, listing, rest}
 use Rattle.pylex.specs.Steps.{entries_of, first_step, entries_in}
 use Rattle.pylex.specs.Cursors.{CursorParts, has_no_text, lexemes_to, cursor_at, cursor}
-use Rattle.pylex.specs.Machine.{State, front_after}
+use Rattle.pylex.specs.Machine.{State, lead_after}
 use Rattle.pylex.specs.LineState.{with_levels, IsAscending, Walks, stays}
 use Rattle.pylex.specs.Standing.{resumed, standing_by, Agrees, IsCursorOf}
 use Rattle.pylex.specs.Listers.{Listed, StandsIn, LeadsInto, Keeps, IsIn, shown_by}
@@ -134,9 +134,9 @@ point_width : (c : CursorParts) (line : List ℕ) → (resumed c line).width ≡
 unfolding resumed
 point_width c line = refl
 
-point_front : (c : CursorParts) (line : List ℕ) → (resumed c line).front ≡ front_after Nothing line
+point_lead : (c : CursorParts) (line : List ℕ) → (resumed c line).lead ≡ lead_after Nothing line
 unfolding resumed
-point_front c line = refl
+point_lead c line = refl
 
 same_above : (levels ls ms : List ℕ) → levels ≡ 0 ∷ ls → levels ≡ 0 ∷ ms → ms ≡ ls
 same_above levels ls ms e f = cc
@@ -166,7 +166,7 @@ keeps_point l p front left ls line nested utf8 small stood levels counted front_
     let column : p.now.place.column ≡ length line = ap (λ (s : State). s.now.place.column) state ∙ point_column c line in
     let depth : p.depth ≡ c.depth = ap (λ (s : State). s.depth) state ∙ point_depth c line in
     let width : p.width ≡ 0 = ap (λ (s : State). s.width) state ∙ point_width c line in
-    let front_state : p.front ≡ front_after Nothing line = ap (λ (s : State). s.front) state ∙ point_front c line in
+    let lead_state : p.lead ≡ lead_after Nothing line = ap (λ (s : State). s.lead) state ∙ point_lead c line in
     let short : length line ≤ c.offset = let x = ap length line_is in let y = line_within (chars front) in let z = length-le-encodes (chars front) in omega arith in
     let now : State = with_levels p (0 ∷ take nested ls) in
     let i : IsIn a.text (with_levels p (0 ∷ ls)) (chars left) = record {
@@ -174,7 +174,7 @@ keeps_point l p front left ls line nested utf8 small stood levels counted front_
       whole = text;
       offset = offset ∙ sym bytes;
       column = column ∙ ap length line_is;
-      front = front_state ∙ ap (front_after Nothing) line_is;
+      lead = lead_state ∙ ap (lead_after Nothing) line_is;
     } in
     let here : with_levels p (0 ∷ ls) ≡ now = ap (λ ns. with_levels p (0 ∷ ns)) (sym all) in
     let begun : resumed c (standing_by a c).line ≡ now = ap (resumed c) (line_in a c (with_levels p (0 ∷ ls)) (chars left) (sym offset) i ∙ sym line_is) ∙ sym state ∙ here in

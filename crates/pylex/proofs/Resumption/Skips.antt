@@ -121,7 +121,7 @@ tail_leads s a =
     pick (not (s.depth == 0) || s.joined) (n + 1) _ _ tt
     (subst (λ (us : List Step). Leads (n + 1) us) (sym (append_assoc (last_line_end s) (dedents_at 0 s.levels s.now.offset (last_place s)) marker))
     (cond_leads s.logical (n + 1) _ _ (dedents_at 0 s.levels s.now.offset (last_place s) ++ marker)
-    (λ _. cond_leads (is_hash s.front) (n + 1) [] _ (dedents_at 0 s.levels s.now.offset (last_place s) ++ marker) (λ _. more) (λ _ t. one))
+    (λ _. cond_leads (is_hash s.lead) (n + 1) [] _ (dedents_at 0 s.levels s.now.offset (last_place s) ++ marker) (λ _. more) (λ _ t. one))
     (λ _. cond_leads s.margin (n + 1) [] _ (dedents_at 0 s.levels s.now.offset (last_place s) ++ marker) (λ _. more) (λ _ t. one))))
   where
     pick : (b : Bool) (n : ℕ) (a c : List Step) → Leads n a → Leads n c → Leads n (cond b a c)

@@ -17,8 +17,9 @@ use Rattle.std.proofs.Common.{ap₂, set}
 use Rattle.std.proofs.lemmas.Str.Pattern.{IsSplitOnceResult, split_after, split_parts}
 use Rattle.std.proofs.lemmas.List.{append_cancel_left}
 use Rattle.std.proofs.lemmas.List.Elements.{All-from_recursion, All-cons, All-head, All-tail, All-nil, All-weaker}
-use Rattle.pylex.specs.Cursors.{CursorParts, cursor_text, with_commas, flag, part}
+use Rattle.pylex.specs.Cursors.{CursorParts, cursor_text, with_commas, part}
 use Rattle.pylex.specs.CursorTexts.{IsWellFormed}
+use Rattle.pylex.specs.Lines.{count_if}
 
 glyph_high : (d : ℕ) → d < 10 → 48 ≤ digit_glyph false d
 glyph_high d h = grind (arith, nat_tests)
@@ -120,7 +121,7 @@ numbers_separated (m ∷ ms) (n ∷ ns) x y l p q e =
 
 -- the numbers of a cursor before its levels
 abbrev pub numbers_of : CursorParts → List ℕ
-numbers_of c = c.given ∷ c.offset ∷ c.row ∷ c.depth ∷ flag c.begun ∷ c.skip ∷ []
+numbers_of c = c.given ∷ c.offset ∷ c.row ∷ c.depth ∷ count_if c.begun ∷ c.skip ∷ []
 
 regrouped : (p a b c d e f w : List ℕ) → p ++ 32 ∷ a ++ 32 ∷ b ++ 32 ∷ c ++ 32 ∷ d ++ 32 ∷ e ++ 32 ∷ f ++ 32 ∷ [] ++ w
     ≡ p ++ 32 ∷ (a ++ 32 ∷ (b ++ 32 ∷ (c ++ 32 ∷ (d ++ 32 ∷ (e ++ 32 ∷ (f ++ 32 ∷ w))))))
@@ -147,21 +148,21 @@ six_blanked a b c d e f w =
 pub cursor_text_is : (c : CursorParts) → cursor_text c ≡ codes "pytok1 " ++ (with_blanks (numbers_of c) ++ with_commas c.levels)
 unfolding cursor_text
 cursor_text_is c =
-    regrouped (codes "pytok1") (decimal c.given) (decimal c.offset) (decimal c.row) (decimal c.depth) (decimal (flag c.begun)) (decimal c.skip) (with_commas c.levels)
-    ∙ ap (λ t. codes "pytok1" ++ 32 ∷ t) (sym (six_blanked c.given c.offset c.row c.depth (flag c.begun) c.skip (with_commas c.levels)))
+    regrouped (codes "pytok1") (decimal c.given) (decimal c.offset) (decimal c.row) (decimal c.depth) (decimal (count_if c.begun)) (decimal c.skip) (with_commas c.levels)
+    ∙ ap (λ t. codes "pytok1" ++ 32 ∷ t) (sym (six_blanked c.given c.offset c.row c.depth (count_if c.begun) c.skip (with_commas c.levels)))
 
-flag_fits : (b : Bool) → flag b < 2 ^ 64
+flag_fits : (b : Bool) → count_if b < 2 ^ 64
 flag_fits true = omega arith
 flag_fits false = omega arith
 
 pub numbers_fit : (c : CursorParts) → IsWellFormed c → Words (numbers_of c)
 numbers_fit c h = All-from_recursion (λ n. n < 2 ^ 64) (numbers_of c) (h.given, (h.offset, (h.row, (h.depth, (flag_fits c.begun, (h.skip, tt))))))
 
-flag-injective : (a b : Bool) → flag a ≡ flag b → a ≡ b
-flag-injective true true e = refl
-flag-injective true false e = cc
-flag-injective false true e = cc
-flag-injective false false e = refl
+count_if-injective : (a b : Bool) → count_if a ≡ count_if b → a ≡ b
+count_if-injective true true e = refl
+count_if-injective true false e = cc
+count_if-injective false true e = cc
+count_if-injective false false e = refl
 
 made : ℕ → ℕ → ℕ → ℕ → Bool → ℕ → List ℕ → CursorParts
 made given offset row depth begun skip levels = record { given = given; offset = offset; row = row; depth = depth; begun = begun; skip = skip; levels = levels }
@@ -173,7 +174,7 @@ made-is c = refl
 -- a cursor is known by its numbers and its levels
 pub same_parts : (c d : CursorParts) → numbers_of c ≡ numbers_of d → c.levels ≡ d.levels → c ≡ d
 same_parts c d numbers levels =
-    let begun : c.begun ≡ d.begun = flag-injective c.begun d.begun (cc numbers) in
+    let begun : c.begun ≡ d.begun = count_if-injective c.begun d.begun (cc numbers) in
     cc (made-is c, made-is d, numbers, levels, begun)
 
 -- two cursors with one text are one cursor
@@ -256,13 +257,13 @@ appended p a b c d e f g h t₀ t₁ t₂ t₃ t₄ t₅ t₆ t₇ t₈ e₀ e�
 
 -- a cursor's text, part by part
 pub cursor_written : (c : CursorParts) (t₀ t₁ t₂ t₃ t₄ t₅ t₆ t₇ t₈ : List ℕ) → t₀ ≡ codes "pytok1" → t₁ ≡ t₀ ++ part c.given → t₂ ≡ t₁ ++ part c.offset → t₃ ≡ t₂ ++ part c.row
-    → t₄ ≡ t₃ ++ part c.depth → t₅ ≡ t₄ ++ part (flag c.begun) → t₆ ≡ t₅ ++ part c.skip → t₇ ≡ t₆ ++ 32 ∷ [] → t₈ ≡ t₇ ++ with_commas c.levels → t₈ ≡ cursor_text c
+    → t₄ ≡ t₃ ++ part c.depth → t₅ ≡ t₄ ++ part (count_if c.begun) → t₆ ≡ t₅ ++ part c.skip → t₇ ≡ t₆ ++ 32 ∷ [] → t₈ ≡ t₇ ++ with_commas c.levels → t₈ ≡ cursor_text c
 unfolding cursor_text
 cursor_written c t₀ t₁ t₂ t₃ t₄ t₅ t₆ t₇ t₈ e₀ e₁ e₂ e₃ e₄ e₅ e₆ e₇ e₈ =
-    appended (codes "pytok1") (part c.given) (part c.offset) (part c.row) (part c.depth) (part (flag c.begun)) (part c.skip) (32 ∷ []) (with_commas c.levels)
+    appended (codes "pytok1") (part c.given) (part c.offset) (part c.row) (part c.depth) (part (count_if c.begun)) (part c.skip) (32 ∷ []) (with_commas c.levels)
     t₀ t₁ t₂ t₃ t₄ t₅ t₆ t₇ t₈ e₀ e₁ e₂ e₃ e₄ e₅ e₆ e₇ e₈
 
-flag_back : (b : Bool) → (flag b == 1) ≡ b
+flag_back : (b : Bool) → (count_if b == 1) ≡ b
 flag_back true = refl
 flag_back false = refl
 
@@ -271,7 +272,7 @@ abbrev pub made_of : List ℕ → List ℕ → CursorParts
 made_of ns levels = record { given = get_or ns 0 0; offset = get_or ns 1 0; row = get_or ns 2 0; depth = get_or ns 3 0; begun = get_or ns 4 0 == 1; skip = get_or ns 5 0; levels = levels }
 
 pub made_of_its_own : (c : CursorParts) → made_of (numbers_of c) c.levels ≡ c
-made_of_its_own c = same_parts (made_of (numbers_of c) c.levels) c (ap (λ b. c.given ∷ c.offset ∷ c.row ∷ c.depth ∷ flag b ∷ c.skip ∷ []) (flag_back c.begun)) refl
+made_of_its_own c = same_parts (made_of (numbers_of c) c.levels) c (ap (λ b. c.given ∷ c.offset ∷ c.row ∷ c.depth ∷ count_if b ∷ c.skip ∷ []) (flag_back c.begun)) refl
 
 pub read_is : (c : CursorParts) (ns levels : List ℕ) → ns ≡ numbers_of c → levels ≡ c.levels → made_of ns levels ≡ c
 read_is c ns levels numbers same = ap₂ made_of numbers same ∙ made_of_its_own c

@@ -1,6 +1,6 @@
 -- Text in ASCII without LF: its bytes are characters of one line.
 --
--- Carries: after_plain, front_of_plain, walk, width_after.
+-- Carries: after_plain, lead_of_plain, walk, width_after.
 use Rattle.std.proofs.Common.{◌≡◌, ◌≢◌, ℕ, zero, suc, ◌+◌, ◌<◌, ◌≤◌, false, ◌==◌, List, [], ◌∷◌, length, refl, ap, ◌∙◌, sym, subst, arith, get_or, ⊎_elim}
 use Rattle.std.specs.Str.{chars, IsAscii}
 use Rattle.std.proofs.lemmas.Str.{chars-IsAscii}
@@ -9,7 +9,7 @@ use Rattle.std.proofs.lemmas.Bool.{cases_lt}
 use Rattle.pysource.specs.declared.places.Place.{Place}
 use Rattle.pylex.specs.declared.leading_char.LeadingChar.{LeadingChar}
 use Rattle.pylex.specs.declared.leading_char.LeadingChar.TheVariants.{Nothing, Hash, Other}
-use Rattle.pylex.specs.Machine.{place_past, front_after}
+use Rattle.pylex.specs.Machine.{place_past, lead_after}
 use Rattle.std.specs.Prelude.{slice_index}
 use Rattle.pylex.specs.Indentation.{width_from}
 use Rattle.pylex.specs.Inner.Plain.{AreSpaces, IsPlain}
@@ -51,13 +51,13 @@ pub advance_plain : (p : Place) (bs : List ℕ) → IsPlain bs → place_past p 
 advance_plain p bs h = advance_in_line p (chars bs) (plain_in_line bs h) ∙ ap (λ (cs : List ℕ). record { row = p.row; column = p.column + length cs }) (plain_chars bs h)
 
 -- what a line begins with stays so to its end
-pub begun : (f : LeadingChar) (cs : List ℕ) → (f ≡ Nothing → ⊥) → AllInLine cs → front_after f cs ≡ f
+pub begun : (f : LeadingChar) (cs : List ℕ) → (f ≡ Nothing → ⊥) → AllInLine cs → lead_after f cs ≡ f
 begun f [] n a = refl
 begun Nothing (c ∷ cs) n a = absurd (n refl)
 begun Hash (c ∷ cs) n a = let e = a.0 in rw e (begun Hash cs n a.1)
 begun Other (c ∷ cs) n a = let e = a.0 in rw e (begun Other cs n a.1)
 
-pub begun_plain : (f : LeadingChar) (bs : List ℕ) → (f ≡ Nothing → ⊥) → IsPlain bs → front_after f (chars bs) ≡ f
+pub begun_plain : (f : LeadingChar) (bs : List ℕ) → (f ≡ Nothing → ⊥) → IsPlain bs → lead_after f (chars bs) ≡ f
 begun_plain f bs n p = begun f (chars bs) n (plain_in_line bs p)
 
 -- one character off the front
@@ -74,7 +74,7 @@ spaces_past b bs p k h = p (suc k) (omega (arith, h))
 spaces_plain : (bs : List ℕ) → AreSpaces bs → IsPlain bs
 spaces_plain bs p k h = let e = p k h in (omega (arith, e), λ (n : slice_index bs k ≡ 10). absurd (omega (arith, e, n)))
 
-front_spaces : (bs : List ℕ) → AreSpaces bs → front_after Nothing bs ≡ Nothing
+front_spaces : (bs : List ℕ) → AreSpaces bs → lead_after Nothing bs ≡ Nothing
 front_spaces [] p = refl
 front_spaces (b ∷ bs) p = let e = space_first b bs p in rw e (front_spaces bs (spaces_past b bs p))
 
@@ -86,8 +86,8 @@ width_spaces n (b ∷ bs) p =
     let sum : n + 1 + length bs ≡ n + suc (length bs) = omega arith in
     rw e (width_spaces (n + 1) bs (spaces_past b bs p) ∙ sum)
 
-pub spaces_front : (bs : List ℕ) → AreSpaces bs → front_after Nothing (chars bs) ≡ Nothing
-spaces_front bs p = ap (front_after Nothing) (plain_chars bs (spaces_plain bs p)) ∙ front_spaces bs p
+pub spaces_front : (bs : List ℕ) → AreSpaces bs → lead_after Nothing (chars bs) ≡ Nothing
+spaces_front bs p = ap (lead_after Nothing) (plain_chars bs (spaces_plain bs p)) ∙ front_spaces bs p
 
 pub spaces_width : (n : ℕ) (bs : List ℕ) → AreSpaces bs → width_from n (chars bs) ≡ n + length bs
 spaces_width n bs p = ap (width_from n) (plain_chars bs (spaces_plain bs p)) ∙ width_spaces n bs p

@@ -9,8 +9,8 @@ use Rattle.pylex.specs.declared.line_lister.ResumeFault.{ResumeFault}
 use Rattle.pylex.specs.declared.line_lister.ResumeFault.TheVariants as resumes
 use Rattle.pysource.specs.Limits.{source_limit}
 use Rattle.pysource.specs.declared.faults.LineFault.{LineFault}
-use Rattle.pysource.specs.declared.line_reader.Line.{Line}
-use Rattle.pysource.specs.declared.line_reader.Line.TheVariants as lines
+use Rattle.pysource.specs.declared.line_reader.LineRead.{LineRead}
+use Rattle.pysource.specs.declared.line_reader.LineRead.TheVariants as lines
 use Rattle.pylex.specs.declared.machine.Peeked.{Peeked}
 use Rattle.pylex.specs.declared.machine.Peeked.TheVariants as met
 use Rattle.pylex.specs.declared.line_lister.Found.{Found}
@@ -95,13 +95,13 @@ pub record IsWaiting (p : Machine) (c : HeldLines) : Type 0 where
   pub unended : is_open_string (chars (drop c.at (string_bytes c.text))) ≡ true
 
 -- the fault of an answer that is no line
-abbrev pub Lacks : Line → ℕ → Option LineFault → Type 0
+abbrev pub Lacks : LineRead → ℕ → Option LineFault → Type 0
 Lacks lines.Text row fault = Unit {0}
 Lacks lines.End row fault = fault ≡ None
 Lacks (lines.Fault f) row fault = fault ≡ Some f
 Lacks lines.Read row fault = fault ≡ Some (unread row)
 
--- Past what a search found: that is a step, behind whatever was searched.
+-- Past what a search found: that is a step, after whatever was searched.
 abbrev pub Passes : Machine → HeldLines → Found → Streamed → Result Step AllocError → Type 0
 Passes q d f new result = (seen_old seen_new : Seen) (p : Machine) (c : HeldLines) (last : Option Entry) → Searches seen_old seen_new p q c d → 0 < p.given → LooksAhead f c.lines d.lines
     → Next seen_old seen_new (streamed p c last) new result
@@ -112,7 +112,7 @@ pub record PassesOn (q : Machine) (d : HeldLines) (e : Entry) (r : Machine) (new
   pub streaming : IsStreaming r new last
   pub passes : Passes q d found (streamed r new last) (Ok (steps.Entry e))
 
--- why a lister can't go on that met this step too early
+-- why a lister that met this step too early can't resume
 pub record IsEndedBy (step : Step) (fault : ResumeFault) : Type 0 where
   pub read : is_unread step ≡ true → fault ≡ resumes.Stream faults.Read
   pub other : is_unread step ≡ false → fault ≡ resumes.AnotherSource

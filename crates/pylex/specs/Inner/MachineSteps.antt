@@ -39,7 +39,7 @@ pub record HasPlace (p : Machine) : Type 0 where
 abbrev pub IsSame : Machine → Machine → Type 0
 IsSame p q = (q ≡ record p { levels = q.levels }) × (q.levels.items ≡ p.levels.items)
 
--- what is left of a text behind a step
+-- what is left of a text after a step
 abbrev pub left_by : Step → List ℕ → List ℕ → List ℕ
 left_by (steps.Entry e) from to = to
 left_by steps.End from to = from
@@ -65,7 +65,7 @@ StaysBehind old met new (steps.Entry e) = Unit {0}
 StaysBehind old met new steps.End = (new ≡ old) × ((met ≡ peeked.Stop) ⊎ ((f : ListingFault) × (met ≡ peeked.Fault f)))
 StaysBehind old met new (steps.Fault g) = (new ≡ old) × ((met ≡ peeked.Stop) ⊎ ((f : ListingFault) × (met ≡ peeked.Fault f)))
 
--- From a machine to another by a step: in each source in which a lister stood so, before a text in which it finds what was met, that step comes next. A text may go on behind what was looked at, if that makes no other end.
+-- From a machine to another by a step: in each source in which a lister stood so, before a text in which it finds what was met, that step comes next. A text may continue after what was looked at, if that makes no other end.
 pub record Advance (old : Machine) (met : Peeked) (now : LineState) (left : List ℕ) (fault : Option LineFault) (step : Step) (new : Machine) : Type 0 where
   pub goes : (source : Parts) (from to : List ℕ) → Holds source old from → Peek (take old.nested old.levels.items) old.now (chars from) met now (chars to) → Stands now to
       → (met ≡ peeked.Stop → (levels : List ℕ) → remaining (option_map of_line source.fault) (with_levels now levels) (chars to) ≡ remaining (option_map of_line fault) (with_levels now levels) (chars left))

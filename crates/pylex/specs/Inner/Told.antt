@@ -1,4 +1,4 @@
--- What the class of a lexeme tells of the places in its text.
+-- What the class of a lexeme says of the places in its text.
 use Rattle.std.specs.Prelude.{◌≡◌, ℕ, ◌+◌, Bool, true, false, List, length}
 use Rattle.std.specs.Str.{chars}
 use Rattle.pysource.specs.declared.places.Place.{Place}
@@ -11,7 +11,7 @@ use Rattle.pylex.specs.declared.entries.Entry.{Entry}
 use Rattle.pylex.specs.declared.kind.Kind.{Kind}
 use Rattle.pylex.specs.declared.kind.Kind.TheVariants as kinds
 use Rattle.pylex.specs.declared.line_state.LineState.{LineState}
-use Rattle.pylex.specs.Machine.{place_past, front_after, after, entry_by}
+use Rattle.pylex.specs.Machine.{place_past, lead_after, after, entry_by}
 use Rattle.pylex.specs.LineState.{with_levels, given}
 
 -- each byte is a character of one line
@@ -32,10 +32,10 @@ Tells Name bs = Unit {0}
 Tells Number bs = Unit {0}
 Tells String bs = Unit {0}
 Tells Comment bs = Unit {0}
-Tells (Operator o) bs = GoesOn bs × ((f : LeadingChar) → front_after f (chars bs) ≡ begun_by f)
-Tells Blanks bs = GoesOn bs × ((f : LeadingChar) → front_after f (chars bs) ≡ f)
-Tells LineEnd bs = EndsRow bs × ((f : LeadingChar) → front_after f (chars bs) ≡ Nothing) × (length (chars bs) ≡ length bs)
-Tells Join bs = EndsRow bs × ((f : LeadingChar) → front_after f (chars bs) ≡ Nothing)
+Tells (Operator o) bs = GoesOn bs × ((f : LeadingChar) → lead_after f (chars bs) ≡ begun_by f)
+Tells Blanks bs = GoesOn bs × ((f : LeadingChar) → lead_after f (chars bs) ≡ f)
+Tells LineEnd bs = EndsRow bs × ((f : LeadingChar) → lead_after f (chars bs) ≡ Nothing) × (length (chars bs) ≡ length bs)
+Tells Join bs = EndsRow bs × ((f : LeadingChar) → lead_after f (chars bs) ≡ Nothing)
 
 -- a lexeme that is given as it stands, operators aside
 abbrev pub is_text : Class → Bool

@@ -9,7 +9,7 @@ use Rattle.std.proofs.lemmas.List.{take-append-drop}
 use Rattle.std.proofs.Math.Seq.{take-append_seam, drop-append_seam}
 use Rattle.pylex_lexeme.specs.declared.lexeme.Class.{Class}
 use Rattle.pylex_lexeme.specs.Lexemes.{Lexeme, class_in, lexeme_len, lexeme_at}
-use Rattle.pylex_lexeme.specs.Cuts.{Takes, Cuts}
+use Rattle.pylex_lexeme.specs.Cuts.{TakesLexeme, Cuts}
 use Rattle.pylex_lexeme.proofs.Lexemes.Union.{class_at, class_none}
 
 and_true : (a b : Bool) → (a && b) ≡ true → (a ≡ true) × (b ≡ true)
@@ -61,10 +61,10 @@ not_empty : (cs t : List ℕ) (k : Class) → class_in cs t ≡ Some k → 0 < l
 not_empty cs [] k e = let f : None ≡ Some k = sym (class_none cs) ∙ e in cc
 not_empty cs (c ∷ t) k e = omega arith
 
-at_len : (cs new : List ℕ) (k : Class) → Takes cs (Some k) new → class_in cs (take (lexeme_len cs) cs) ≡ Some k
+at_len : (cs new : List ℕ) (k : Class) → TakesLexeme cs (Some k) new → class_in cs (take (lexeme_len cs) cs) ≡ Some k
 at_len cs new k t = sym (class_at cs) ∙ sym t.«class»
 
-pub cuts_is : (k : Class) (bs new front back : List ℕ) → IsUtf8 bs → Takes (chars bs) (Some k) new → front ≡ take (length bs - length (encodes new)) bs → back ≡ drop (length bs - length (encodes new)) bs → Cuts bs k front back
+pub cuts_is : (k : Class) (bs new front back : List ℕ) → IsUtf8 bs → TakesLexeme (chars bs) (Some k) new → front ≡ take (length bs - length (encodes new)) bs → back ≡ drop (length bs - length (encodes new)) bs → Cuts bs k front back
 unfolding front_of back_of lexeme_at
 cuts_is k bs new front back u t f b =
     let n : ℕ = lexeme_len (chars bs) in
@@ -86,7 +86,7 @@ cuts_is k bs new front back u t f b =
       back_utf8 = subst IsUtf8 (sym b') (back_utf8 n bs u);
     }
 
-pub none_is : (cs new : List ℕ) → Takes cs None new → lexeme_at cs ≡ None
+pub none_is : (cs new : List ℕ) → TakesLexeme cs None new → lexeme_at cs ≡ None
 none_is cs new t = of (lexeme_at cs) t.«class»
   where
     of : (o : Option Lexeme) → None ≡ option_map (λ (x : Lexeme). x.«class») o → o ≡ None

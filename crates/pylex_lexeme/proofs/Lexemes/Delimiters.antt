@@ -12,7 +12,7 @@ use Rattle.pylex_lexeme.specs.declared.lexeme.Class.TheVariants.{Operator as Ope
 use Rattle.pylex_lexeme.specs.Chars.{begins, is_blank_char, is_prefix_letter}
 use Rattle.pylex_lexeme.specs.Operators.{operators, is_operator, exact_of}
 use Rattle.pylex_lexeme.specs.Lengths.{longest, operator_at, begins_number}
-use Rattle.pylex_lexeme.specs.Cuts.{Takes, BeginsOther, is_delimiter}
+use Rattle.pylex_lexeme.specs.Cuts.{TakesLexeme, BeginsOther, is_delimiter}
 use Rattle.pylex_lexeme.proofs.Lexemes.Classes.{by_words}
 use Rattle.pylex_lexeme.proofs.Lexemes.OperatorLengths.{len_longest, operator_some}
 use Rattle.pylex_lexeme.proofs.Lexemes.Union.{operator_takes, opens_none, other_by}
@@ -27,7 +27,7 @@ unfolding operator_at
 delimiter_at c t e exact len = rw len (ap (option_map (λ x. (x, 1))) exact)
 
 -- a character that begins no lexeme but an operator, and that no operator goes on with
-alone_takes : (c : ℕ) (t : List ℕ) (e : Exact) → exact_of (c ∷ []) ≡ Some e → ((b : ℕ) (u : List ℕ) → is_operator (c ∷ b ∷ u) ≡ false) → BeginsOther (c ∷ t) → Takes (c ∷ t) (Some (OperatorClass e)) t
+alone_takes : (c : ℕ) (t : List ℕ) (e : Exact) → exact_of (c ∷ []) ≡ Some e → ((b : ℕ) (u : List ℕ) → is_operator (c ∷ b ∷ u) ≡ false) → BeginsOther (c ∷ t) → TakesLexeme (c ∷ t) (Some (OperatorClass e)) t
 alone_takes c t e exact none other =
     let one : is_operator (c ∷ []) ≡ true = sym (operator_some (c ∷ [])) ∙ ap is_some exact in
     operator_takes (c ∷ t) (operator_at (c ∷ t)) e 1 other refl (delimiter_at c t e exact (delimiter_len c t one none))
@@ -40,7 +40,7 @@ other_at c t small letter prefix quote number blank h f r l = record {
   first = other_by (c ∷ t) c refl (ap (λ b. b || (c == 95)) (is_xid_start-ascii c small) ∙ letter) blank h f r l;
 }
 
-pub delimiter_takes : (cs : List ℕ) (e : Exact) → begins (is_delimiter e) cs ≡ true → Takes cs (Some (OperatorClass e)) (drop 1 cs)
+pub delimiter_takes : (cs : List ℕ) (e : Exact) → begins (is_delimiter e) cs ≡ true → TakesLexeme cs (Some (OperatorClass e)) (drop 1 cs)
 unfolding exact_of operators
 delimiter_takes [] e h = cc
 delimiter_takes (c ∷ t) LPar h = let f : c ≡ 40 = eqb-true c 40 h in rw f (alone_takes 40 t LPar refl (λ b u. by_words (40 ∷ b ∷ u)) (other_at 40 t (omega arith) refl refl refl refl refl refl refl refl refl))

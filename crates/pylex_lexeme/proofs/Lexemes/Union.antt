@@ -19,7 +19,7 @@ use Rattle.pylex_lexeme.specs.Strings.{opens_string, opens_triple, is_triple_str
 use Rattle.pylex_lexeme.specs.Lexemes.{is_name, is_comment, are_blanks, is_join, longest_within, class_in, plain_class, lexeme_len, lexeme_at, Lexeme, is_line_end}
 use Rattle.pylex_lexeme.specs.Lengths.{longest, begins_pair, begins_number, number_len, Opens, operator_at}
 use Rattle.pylex_lexeme.specs.Operators.{is_operator, exact_of}
-use Rattle.pylex_lexeme.specs.Cuts.{Takes, BeginsOther, starts_other, begins_significant}
+use Rattle.pylex_lexeme.specs.Cuts.{TakesLexeme, BeginsOther, starts_other, begins_significant}
 use Rattle.pylex_lexeme.proofs.Computing.{classes}
 use Rattle.pylex_lexeme.proofs.Cases.{and_parts, bool_cases}
 use Rattle.pylex_lexeme.proofs.Fronts.Longest.{IsBest, longest_within_is, longest_within_none, run_best}
@@ -55,20 +55,20 @@ class_at cs = of (class_in cs (take (lexeme_len cs) cs))
     of (Some k) = refl
 
 -- a lexeme of n characters that no longer one stands beside
-pub takes_some : (cs : List ℕ) (n : ℕ) (k : Class) → n ≤ length cs → class_in cs (take n cs) ≡ Some k → ((j : ℕ) → n < j → j ≤ length cs → class_in cs (take j cs) ≡ None) → Takes cs (Some k) (drop n cs)
+pub takes_some : (cs : List ℕ) (n : ℕ) (k : Class) → n ≤ length cs → class_in cs (take n cs) ≡ Some k → ((j : ℕ) → n < j → j ≤ length cs → class_in cs (take j cs) ≡ None) → TakesLexeme cs (Some k) (drop n cs)
 unfolding lexeme_len
 takes_some cs n k h e f =
     let len : lexeme_len cs ≡ n = longest_within_is (λ t. is_some (class_in cs t)) cs (length cs) n h (ap is_some e) (λ j a b. ap is_some (f j a b)) in
     record { «class» = sym (class_at cs ∙ ap (λ i. class_in cs (take i cs)) len ∙ e); rest = ap (λ i. drop i cs) (sym len) }
 
 -- where no front is a lexeme
-pub takes_none : (cs : List ℕ) → ((j : ℕ) → 0 < j → j ≤ length cs → class_in cs (take j cs) ≡ None) → Takes cs None cs
+pub takes_none : (cs : List ℕ) → ((j : ℕ) → 0 < j → j ≤ length cs → class_in cs (take j cs) ≡ None) → TakesLexeme cs None cs
 unfolding lexeme_len
 takes_none cs f =
     let len : lexeme_len cs ≡ 0 = longest_within_none (λ t. is_some (class_in cs t)) cs (length cs) (λ j a b. ap is_some (f j a b)) in
     record { «class» = sym (class_at cs ∙ ap (λ i. class_in cs (take i cs)) len ∙ class_none cs); rest = ap (λ i. drop i cs) (sym len) }
 
-pub nothing_takes : Takes [] None []
+pub nothing_takes : TakesLexeme [] None []
 nothing_takes = takes_none [] (λ j a b. absurd (omega arith))
 
 -- Where no string opens
@@ -84,17 +84,17 @@ pub only_by : (p : List ℕ → Bool) (k : Class) (c : ℕ) (cs : List ℕ) → 
 only_by p k c cs f zero a b = absurd (omega arith)
 only_by p k c cs f (suc j) a b = f (take j cs)
 
-pub best_takes : (p : List ℕ → Bool) (k : Class) (cs : List ℕ) (n : ℕ) → opens_string cs ≡ false → 0 < n → IsBest p cs n → Only p k cs → Takes cs (Some k) (drop n cs)
+pub best_takes : (p : List ℕ → Bool) (k : Class) (cs : List ℕ) (n : ℕ) → opens_string cs ≡ false → 0 < n → IsBest p cs n → Only p k cs → TakesLexeme cs (Some k) (drop n cs)
 best_takes p k cs n o h b f =
     takes_some cs n k b.within
     (plainly cs (take n cs) o ∙ f n h b.within ∙ ap (λ x. cond x (Some k) None) b.passes)
     (λ j i l. plainly cs (take j cs) o ∙ f j (omega arith) l ∙ ap (λ x. cond x (Some k) None) (b.longest j i l))
 
-pub none_takes : (p : List ℕ → Bool) (k : Class) (cs : List ℕ) → opens_string cs ≡ false → NoFront p cs → Only p k cs → Takes cs None cs
+pub none_takes : (p : List ℕ → Bool) (k : Class) (cs : List ℕ) → opens_string cs ≡ false → NoFront p cs → Only p k cs → TakesLexeme cs None cs
 none_takes p k cs o b f = takes_none cs (λ j i l. plainly cs (take j cs) o ∙ f j i l ∙ ap (λ x. cond x (Some k) None) (b j l))
 
 -- a first character, and a run of others
-run_takes : (starts p : ℕ → Bool) (k : Class) (cs : List ℕ) → opens_string cs ≡ false → begins starts cs ≡ true → ((c : ℕ) → starts c ≡ true → p c ≡ true) → ((c : ℕ) → starts c ≡ true → (t : List ℕ) → plain_class (c ∷ t) ≡ cond (headed starts (list_all p) (c ∷ t)) (Some k) None) → Takes cs (Some k) (drop (prefix_len p cs) cs)
+run_takes : (starts p : ℕ → Bool) (k : Class) (cs : List ℕ) → opens_string cs ≡ false → begins starts cs ≡ true → ((c : ℕ) → starts c ≡ true → p c ≡ true) → ((c : ℕ) → starts c ≡ true → (t : List ℕ) → plain_class (c ∷ t) ≡ cond (headed starts (list_all p) (c ∷ t)) (Some k) None) → TakesLexeme cs (Some k) (drop (prefix_len p cs) cs)
 run_takes starts p k [] o h e f = cc
 run_takes starts p k (c ∷ cs) o h e f =
     let g : p c ≡ true = e c h in
@@ -125,7 +125,7 @@ opens_off c (d ∷ cs) l q =
     none false = refl
 
 -- Names, comments, blanks
-pub name_takes : (cs : List ℕ) → opens_string cs ≡ false → begins starts_name cs ≡ true → Takes cs (Some Name) (drop (prefix_len is_xid_continue cs) cs)
+pub name_takes : (cs : List ℕ) → opens_string cs ≡ false → begins starts_name cs ≡ true → TakesLexeme cs (Some Name) (drop (prefix_len is_xid_continue cs) cs)
 name_takes cs o h = run_takes starts_name is_xid_continue Name cs o h start_continues name_class
 
 hash_part : (c : ℕ) → (c == 35) ≡ true → is_comment_part c ≡ true
@@ -135,7 +135,7 @@ hash_opens : (cs : List ℕ) → begins (λ c. c == 35) cs ≡ true → opens_st
 hash_opens [] e = cc
 hash_opens (c ∷ cs) e = let f : c ≡ 35 = eqb-true c 35 e in rw f (opens_off 35 cs refl refl)
 
-pub comment_takes : (cs : List ℕ) → begins (λ c. c == 35) cs ≡ true → Takes cs (Some Comment) (drop (prefix_len is_comment_part cs) cs)
+pub comment_takes : (cs : List ℕ) → begins (λ c. c == 35) cs ≡ true → TakesLexeme cs (Some Comment) (drop (prefix_len is_comment_part cs) cs)
 comment_takes cs h = run_takes (λ c. c == 35) is_comment_part Comment cs (hash_opens cs h) h hash_part comment_class
 
 blank_opens : (cs : List ℕ) → begins is_blank_char cs ≡ true → opens_string cs ≡ false
@@ -150,7 +150,7 @@ blank_opens (c ∷ cs) e =
     (λ (h : eqb c 12 ≡ true). let f : c ≡ 12 = eqb-true c 12 h in rw f (opens_off 12 cs refl refl))
     (or_parts (eqb c 32 || eqb c 9) (eqb c 12) e)
 
-pub blanks_take : (cs : List ℕ) → begins is_blank_char cs ≡ true → Takes cs (Some Blanks) (drop (prefix_len is_blank_char cs) cs)
+pub blanks_take : (cs : List ℕ) → begins is_blank_char cs ≡ true → TakesLexeme cs (Some Blanks) (drop (prefix_len is_blank_char cs) cs)
 blanks_take cs h = run_takes is_blank_char is_blank_char Blanks cs (blank_opens cs h) h (λ c e. e) blank_class
 
 -- Line ends
@@ -209,13 +209,13 @@ head_is : (q : ℕ) (r : List ℕ) → begins (λ c. c == q) r ≡ true → r �
 head_is q [] e = cc
 head_is q (c ∷ t) e = ap (λ d. d ∷ t) (eqb-true c q e)
 
-pub feed_takes : (cs : List ℕ) → begins (λ c. c == 10) cs ≡ true → Takes cs (Some LineEnd) (drop 1 cs)
+pub feed_takes : (cs : List ℕ) → begins (λ c. c == 10) cs ≡ true → TakesLexeme cs (Some LineEnd) (drop 1 cs)
 feed_takes [] h = cc
 feed_takes (c ∷ cs) h =
     let e : c ≡ 10 = eqb-true c 10 h in
     rw e (best_takes is_line_end LineEnd (10 ∷ cs) 1 (opens_off 10 cs refl refl) (omega arith) (feed_best cs) (only_by is_line_end LineEnd 10 cs (end_class 10 refl)))
 
-pub both_take : (cs : List ℕ) → begins (λ c. c == 13) cs ≡ true → begins (λ c. c == 10) (drop 1 cs) ≡ true → Takes cs (Some LineEnd) (drop 2 cs)
+pub both_take : (cs : List ℕ) → begins (λ c. c == 13) cs ≡ true → begins (λ c. c == 10) (drop 1 cs) ≡ true → TakesLexeme cs (Some LineEnd) (drop 2 cs)
 both_take [] h i = cc
 both_take (c ∷ []) h i = cc
 both_take (c ∷ d ∷ cs) h i =
@@ -223,17 +223,17 @@ both_take (c ∷ d ∷ cs) h i =
     let f : d ≡ 10 = eqb-true d 10 i in
     rw (e, f) (best_takes is_line_end LineEnd (13 ∷ 10 ∷ cs) 2 (opens_off 13 (10 ∷ cs) refl refl) (omega arith) (both_best cs) (only_by is_line_end LineEnd 13 (10 ∷ cs) (end_class 13 refl)))
 
-pub return_takes : (cs : List ℕ) → begins (λ c. c == 13) cs ≡ true → begins (λ c. c == 10) (drop 1 cs) ≡ false → Takes cs None cs
+pub return_takes : (cs : List ℕ) → begins (λ c. c == 13) cs ≡ true → begins (λ c. c == 10) (drop 1 cs) ≡ false → TakesLexeme cs None cs
 return_takes [] h i = cc
 return_takes (c ∷ cs) h i =
     let e : c ≡ 13 = eqb-true c 13 h in
     rw e (none_takes is_line_end LineEnd (13 ∷ cs) (opens_off 13 cs refl refl) (no_end_front (13 ∷ cs) refl i) (only_by is_line_end LineEnd 13 cs (end_class 13 refl)))
 
 -- Joins
-join_by : (cs : List ℕ) (n : ℕ) → IsBest is_line_end cs n → Takes (92 ∷ cs) (Some Join) (drop n cs)
+join_by : (cs : List ℕ) (n : ℕ) → IsBest is_line_end cs n → TakesLexeme (92 ∷ cs) (Some Join) (drop n cs)
 join_by cs n b = best_takes (headed (λ c. c == 92) is_line_end) Join (92 ∷ cs) (suc n) (opens_off 92 cs refl refl) (omega arith) (headed_best (λ c. c == 92) is_line_end 92 cs n refl b) (only_by (headed (λ c. c == 92) is_line_end) Join 92 cs (join_class 92 refl))
 
-pub feed_joins : (cs : List ℕ) → begins (λ c. c == 92) cs ≡ true → begins (λ c. c == 10) (drop 1 cs) ≡ true → Takes cs (Some Join) (drop 2 cs)
+pub feed_joins : (cs : List ℕ) → begins (λ c. c == 92) cs ≡ true → begins (λ c. c == 10) (drop 1 cs) ≡ true → TakesLexeme cs (Some Join) (drop 2 cs)
 feed_joins [] h i = cc
 feed_joins (c ∷ []) h i = cc
 feed_joins (c ∷ d ∷ cs) h i =
@@ -241,7 +241,7 @@ feed_joins (c ∷ d ∷ cs) h i =
     let f : d ≡ 10 = eqb-true d 10 i in
     rw (e, f) (join_by (10 ∷ cs) 1 (feed_best cs))
 
-pub both_join : (cs : List ℕ) → begins (λ c. c == 92) cs ≡ true → (begins (λ c. c == 13) (drop 1 cs) && begins (λ c. c == 10) (drop 1 (drop 1 cs))) ≡ true → Takes cs (Some Join) (drop 3 cs)
+pub both_join : (cs : List ℕ) → begins (λ c. c == 92) cs ≡ true → (begins (λ c. c == 13) (drop 1 cs) && begins (λ c. c == 10) (drop 1 (drop 1 cs))) ≡ true → TakesLexeme cs (Some Join) (drop 3 cs)
 both_join [] h i = cc
 both_join (c ∷ []) h i = cc
 both_join (c ∷ d ∷ []) h i = absurd (none (d == 13) i)
@@ -260,7 +260,7 @@ both_join (c ∷ d ∷ b ∷ cs) h i =
     parts true y e = (refl, e)
     parts false y e = cc
 
-pub slash_takes : (cs : List ℕ) → begins (λ c. c == 92) cs ≡ true → begins (λ c. c == 10) (drop 1 cs) ≡ false → (begins (λ c. c == 13) (drop 1 cs) && begins (λ c. c == 10) (drop 1 (drop 1 cs))) ≡ false → Takes cs None cs
+pub slash_takes : (cs : List ℕ) → begins (λ c. c == 92) cs ≡ true → begins (λ c. c == 10) (drop 1 cs) ≡ false → (begins (λ c. c == 13) (drop 1 cs) && begins (λ c. c == 10) (drop 1 (drop 1 cs))) ≡ false → TakesLexeme cs None cs
 slash_takes [] h i l = cc
 slash_takes (c ∷ cs) h i l =
     let e : c ≡ 92 = eqb-true c 92 h in
@@ -352,7 +352,7 @@ number_no_operator (c ∷ d ∷ cs) (suc (suc j)) e a b =
     (λ (i : (is_point c && is_decimal_digit d) ≡ true). let p = and_parts (is_point c) (is_decimal_digit d) i in let f : c ≡ 46 = eqb-true c 46 p.0 in rw f (point_words d (take j cs) p.1))
     (or_parts (is_decimal_digit c) (is_point c && is_decimal_digit d) e)
 
-pub number_takes : (cs : List ℕ) → begins_number cs ≡ true → Takes cs (Some Number) (drop (longest is_number cs) cs)
+pub number_takes : (cs : List ℕ) → begins_number cs ≡ true → TakesLexeme cs (Some Number) (drop (longest is_number cs) cs)
 number_takes [] e = cc
 number_takes (c ∷ cs) e = rw (longest_number (c ∷ cs) e) (by (number_len (c ∷ cs)) (number_best (c ∷ cs) e) (subst (λ (i : ℕ). 0 < i) (longest_number (c ∷ cs) e) (longest_more (c ∷ cs) e)))
   where
@@ -360,7 +360,7 @@ number_takes (c ∷ cs) e = rw (longest_number (c ∷ cs) e) (by (number_len (c 
     none zero a b f = absurd (omega arith)
     none (suc j) a b f = plain_number c (take j cs) (number_head c cs e) (number_no_operator (c ∷ cs) (suc j) e a b) ∙ ap (λ x. cond x (Some Number) None) f
 
-    by : (n : ℕ) → IsBest is_number (c ∷ cs) n → 0 < n → Takes (c ∷ cs) (Some Number) (drop n (c ∷ cs))
+    by : (n : ℕ) → IsBest is_number (c ∷ cs) n → 0 < n → TakesLexeme (c ∷ cs) (Some Number) (drop n (c ∷ cs))
     by zero b h = absurd (omega arith)
     by (suc n) b h =
         takes_some (c ∷ cs) (suc n) Number b.within
@@ -411,7 +411,7 @@ other_only (c ∷ cs) f n (suc j) h i =
 no_class_at : (cs : List ℕ) → BeginsOther cs → (j : ℕ) → 0 < j → j ≤ length cs → is_operator (take j cs) ≡ false → class_in cs (take j cs) ≡ None
 no_class_at cs b j h i e = plainly cs (take j cs) b.string ∙ other_only cs b.first b.number j h i ∙ ap (option_map OperatorClass) (exact_off (take j cs) e)
 
-pub operator_takes : (cs : List ℕ) (o : Option (Exact × ℕ)) (e : Exact) (n : ℕ) → BeginsOther cs → o ≡ operator_at cs → o ≡ Some (e, n) → Takes cs (Some (OperatorClass e)) (drop n cs)
+pub operator_takes : (cs : List ℕ) (o : Option (Exact × ℕ)) (e : Exact) (n : ℕ) → BeginsOther cs → o ≡ operator_at cs → o ≡ Some (e, n) → TakesLexeme cs (Some (OperatorClass e)) (drop n cs)
 unfolding operator_at
 operator_takes cs o e n b f g = by (exact_of (take (longest is_operator cs) cs)) refl (sym f ∙ g)
   where
@@ -421,7 +421,7 @@ operator_takes cs o e n b f g = by (exact_of (take (longest is_operator cs) cs))
         none_there : (l : ℕ) → l ≡ 0 → exact_of (take l cs) ≡ Some x → ⊥
         none_there l z h = let i : exact_of [] ≡ Some x = ap (λ l. exact_of (take l cs)) (sym z) ∙ h in let j : None ≡ Some x = sym exact_none ∙ i in cc
 
-    there : (x : Exact) → exact_of (take (longest is_operator cs) cs) ≡ Some x → Takes cs (Some (OperatorClass x)) (drop (longest is_operator cs) cs)
+    there : (x : Exact) → exact_of (take (longest is_operator cs) cs) ≡ Some x → TakesLexeme cs (Some (OperatorClass x)) (drop (longest is_operator cs) cs)
     there x h =
         let p = some x h in
         let best = operator_best cs p in
@@ -429,21 +429,21 @@ operator_takes cs o e n b f g = by (exact_of (take (longest is_operator cs) cs))
         (plainly cs (take (longest is_operator cs) cs) b.string ∙ other_only cs b.first b.number (longest is_operator cs) p best.within ∙ ap (option_map OperatorClass) h)
         (λ j i l. no_class_at cs b j (omega arith) l (best.longest j i l))
 
-    by : (o : Option Exact) → exact_of (take (longest is_operator cs) cs) ≡ o → option_map {U = Exact × ℕ} (λ e. (e, longest is_operator cs)) o ≡ Some (e, n) → Takes cs (Some (OperatorClass e)) (drop n cs)
+    by : (o : Option Exact) → exact_of (take (longest is_operator cs) cs) ≡ o → option_map {U = Exact × ℕ} (λ e. (e, longest is_operator cs)) o ≡ Some (e, n) → TakesLexeme cs (Some (OperatorClass e)) (drop n cs)
     by None h i = absurd cc
-    by (Some x) h i = let z : (x, longest is_operator cs) ≡ (e, n) = cc in let y : x ≡ e = ap (λ (p : Exact × ℕ). p.0) z in let l : longest is_operator cs ≡ n = ap (λ (p : Exact × ℕ). p.1) z in subst (λ (k : Exact). Takes cs (Some (OperatorClass k)) (drop n cs)) y (subst (λ (m : ℕ). Takes cs (Some (OperatorClass x)) (drop m cs)) l (there x h))
+    by (Some x) h i = let z : (x, longest is_operator cs) ≡ (e, n) = cc in let y : x ≡ e = ap (λ (p : Exact × ℕ). p.0) z in let l : longest is_operator cs ≡ n = ap (λ (p : Exact × ℕ). p.1) z in subst (λ (k : Exact). TakesLexeme cs (Some (OperatorClass k)) (drop n cs)) y (subst (λ (m : ℕ). TakesLexeme cs (Some (OperatorClass x)) (drop m cs)) l (there x h))
 
-pub operator_none : (cs : List ℕ) (o : Option (Exact × ℕ)) → BeginsOther cs → o ≡ operator_at cs → o ≡ None → Takes cs None cs
+pub operator_none : (cs : List ℕ) (o : Option (Exact × ℕ)) → BeginsOther cs → o ≡ operator_at cs → o ≡ None → TakesLexeme cs None cs
 unfolding operator_at
 operator_none cs o b f g = by (exact_of (take (longest is_operator cs) cs)) refl (sym f ∙ g)
   where
-    none : longest is_operator cs ≡ 0 → Takes cs None cs
+    none : longest is_operator cs ≡ 0 → TakesLexeme cs None cs
     none z = takes_none cs (λ j i l. no_class_at cs b j i l (operator_none_at cs z j l))
 
     never : true ≡ false → ⊥
     never r = cc
 
-    by : (o : Option Exact) → exact_of (take (longest is_operator cs) cs) ≡ o → option_map {U = Exact × ℕ} (λ e. (e, longest is_operator cs)) o ≡ None → Takes cs None cs
+    by : (o : Option Exact) → exact_of (take (longest is_operator cs) cs) ≡ o → option_map {U = Exact × ℕ} (λ e. (e, longest is_operator cs)) o ≡ None → TakesLexeme cs None cs
     by (Some x) h i = absurd cc
     by None h i =
         ⊎_elim
@@ -484,7 +484,7 @@ string_passes : (cs : List ℕ) → 0 < longest (counts_as_string cs) cs → cou
 unfolding longest
 string_passes cs h = longest_passes (counts_as_string cs) cs (length cs) h
 
-pub string_takes : (cs new : List ℕ) → opens_string cs ≡ true → 0 < longest (counts_as_string cs) cs → new ≡ drop (longest (counts_as_string cs) cs) cs → Takes cs (Some String) new
+pub string_takes : (cs new : List ℕ) → opens_string cs ≡ true → 0 < longest (counts_as_string cs) cs → new ≡ drop (longest (counts_as_string cs) cs) cs → TakesLexeme cs (Some String) new
 string_takes cs new o h e =
     let l = string_len cs o in
     record {
@@ -492,7 +492,7 @@ string_takes cs new o h e =
       rest = e ∙ ap (λ i. drop i cs) (sym l);
     }
 
-pub string_none : (cs : List ℕ) → opens_string cs ≡ true → longest (counts_as_string cs) cs ≡ 0 → Takes cs None cs
+pub string_none : (cs : List ℕ) → opens_string cs ≡ true → longest (counts_as_string cs) cs ≡ 0 → TakesLexeme cs None cs
 string_none cs o h =
     let l = string_len cs o ∙ h in
     record { «class» = sym (class_at cs ∙ ap (λ i. class_in cs (take i cs)) l ∙ class_none cs); rest = ap (λ i. drop i cs) (sym l) }
@@ -523,7 +523,7 @@ pub begins_by : (p : ℕ → Bool) (cs : List ℕ) (c : ℕ) → slice_get cs 0 
 begins_by p [] c e h = cc
 begins_by p (d ∷ cs) c e h = let f : d ≡ c = cc in rw f h
 
-pub nothing_at : (cs : List ℕ) → slice_get cs 0 ≡ None → Takes cs None cs
+pub nothing_at : (cs : List ℕ) → slice_get cs 0 ≡ None → TakesLexeme cs None cs
 nothing_at [] e = nothing_takes
 nothing_at (c ∷ cs) e = cc
 

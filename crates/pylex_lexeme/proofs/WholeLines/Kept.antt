@@ -12,7 +12,7 @@ use Rattle.pylex_lexeme.specs.Numbers.{is_nil}
 use Rattle.pylex_lexeme.specs.Strings.{units, opens_string, counts_as_string}
 use Rattle.pylex_lexeme.specs.Lexemes.{Lexeme, class_in, plain_class, longest_within, lexeme_len, lexeme_at, ends_by_join, is_open_string}
 use Rattle.pylex_lexeme.specs.Lengths.{shift, single_of, triple_of, single_len, triple_len, quoted_len, begins_quotes, longest, Opens}
-use Rattle.pylex_lexeme.specs.Cuts.{Takes}
+use Rattle.pylex_lexeme.specs.Cuts.{TakesLexeme}
 use Rattle.pylex_lexeme.specs.Chunks.{EndsLine}
 use Rattle.pylex_lexeme.proofs.Cases.{and_parts, bool_cases}
 use Rattle.pylex_lexeme.proofs.Fronts.Best.{Reads}
@@ -165,7 +165,7 @@ none_at q n cs s o h e = none_is cs cs (string_none cs s (longest_reads (counts_
 pub none_read : (q n : ℕ) (cs : List ℕ) → opens_string cs ≡ true → Opens n cs → begins (λ c. c == q) (drop n cs) ≡ true → lexeme_at cs ≡ None → quoted_len q (drop n cs) ≡ 0
 none_read q n cs s o h e = by (quoted_len q (drop n cs)) refl
   where
-    some : (k : ℕ) → Takes cs (Some String) (drop k cs) → ⊥
+    some : (k : ℕ) → TakesLexeme cs (Some String) (drop k cs) → ⊥
     some k t = let f : Some String ≡ None = t.«class» ∙ ap (option_map (λ (x : Lexeme). x.«class»)) e in cc
 
     by : (k : ℕ) → quoted_len q (drop n cs) ≡ k → quoted_len q (drop n cs) ≡ 0

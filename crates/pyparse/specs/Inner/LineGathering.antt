@@ -69,7 +69,7 @@ pub record Adds (text : List ℕ) (e : Entry) (old new : LineGather) : Type 0 wh
   pub last : chars new.last.now ≡ (if stands_in_line e.kind then text_of text e else chars old.last.now)
 
 -- what is gathered behind one entry more
-pub record Takes (text : List ℕ) (e : Entry) (old new : LineGather) : Type 0 where
+pub record TakesEntry (text : List ℕ) (e : Entry) (old new : LineGather) : Type 0 where
   pub pass : Gains text e (entry_refusal text e) old.pass new.pass
   pub level : ended_by e old.pass.begun ≡ true → new.level ≡ old.indents - old.dedents
   pub indents : new.indents ≡ counted old.indents (is_indent e.kind)

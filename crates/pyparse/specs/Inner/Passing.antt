@@ -9,9 +9,10 @@ use Rattle.pytoken.specs.Inner.Behind.{behind}
 use Rattle.pytoken.specs.Brackets.{opens, closes}
 use Rattle.pytoken.specs.Indentation.{Margin, margin_at, margins}
 use Rattle.pytoken.specs.Tokens.{is_open}
-use Rattle.pytoken.specs.Refusals.{most_brackets, or_refusal, first_entry_refusal, first_too_deep}
+use Rattle.pytoken.specs.Refusals.{most_brackets, first_entry_refusal, first_too_deep}
 use Rattle.pyparse.specs.declared.pass.Pass.{Pass}
 use Rattle.pyparse.specs.Inner.Indenting.{Measures, Measured}
+use Rattle.std.specs.Option.{option_or}
 
 -- whether a line has tokens and no NEWLINE behind an entry of this type, by whether it had before
 abbrev pub still_open : Kind → Bool → Bool
@@ -47,7 +48,7 @@ pub record TakesBracket (e : Entry) (old new : Pass) : Type 0 where
   pub opened : new.opened ≡ counted old.opened (opens e)
   pub closed : new.closed ≡ counted old.closed (closes e)
   pub faulty : new.faulty ≡ old.faulty
-  pub deep : new.deep ≡ or_refusal old.deep (exceeding e old.opened old.closed)
+  pub deep : new.deep ≡ option_or old.deep (exceeding e old.opened old.closed)
   pub indents : new.indents ≡ old.indents
 
 -- what is kept behind one entry more, with its refusal if it has a fault of its own
@@ -55,8 +56,8 @@ pub record Gains (text : List ℕ) (e : Entry) (own : Option Refusal) (old new :
   pub begun : new.begun ≡ still_open e.kind old.begun
   pub opened : new.opened ≡ counted old.opened (opens e)
   pub closed : new.closed ≡ counted old.closed (closes e)
-  pub faulty : new.faulty ≡ or_refusal old.faulty own
-  pub deep : new.deep ≡ or_refusal old.deep (exceeding e old.opened old.closed)
+  pub faulty : new.faulty ≡ option_or old.faulty own
+  pub deep : new.deep ≡ option_or old.deep (exceeding e old.opened old.closed)
   pub indents : Measures (given_margins text e old.opened old.closed) old.indents new.indents
 
 -- what is kept is what the entries say
@@ -70,4 +71,4 @@ pub record Passed (text : List ℕ) (es : List Entry) (p : Pass) : Type 0 where
 
 -- the first refusal that is kept
 abbrev pub kept_refusal : Pass → Option Refusal
-kept_refusal p = or_refusal p.faulty (or_refusal p.deep p.indents.mixed)
+kept_refusal p = option_or p.faulty (option_or p.deep p.indents.mixed)

@@ -22,7 +22,7 @@ use Rattle.pysource.specs.declared.line_reader.Reach.TheVariants.{Reading, End, 
 use Rattle.pysource.proofs.FaultyLines.CutLemmas.{NoLf}
 use Rattle.pysource.proofs.LineReading.ComingLemmas.{no_lf_all, coming_last, coming_last_bad, coming_none, coming_cut}
 use Rattle.pysource.proofs.LineReading.StreamLemmas.{held, skipped, comes_is, gives_line, gives_last}
-use Rattle.pysource.proofs.TakenBytes.TakingLemmas.{Takes-none}
+use Rattle.pysource.proofs.TakenBytes.TakingLemmas.{ReadsBytes-none}
 use Rattle.pysource.specs.Bytes.{Seen}
 
 -- something may follow
@@ -115,7 +115,7 @@ not_read = record { to_come = None; failures = 0; may_fail = false }
 
 -- nothing was taken
 abbrev grown_none : (i : Intake) → Grows not_read not_read i i
-grown_none i = record { taken = []; takes = Takes-none _ _ _; bytes = sym (append-nil i.buffer) }
+grown_none i = record { taken = []; takes = ReadsBytes-none _ _ _; bytes = sym (append-nil i.buffer) }
 
 -- Where a good line is there it may come.
 pub line_may_come : (e : Named) (row end : ℕ) (old mid : Intake) → LineThere 0 end old mid ⊎ LineLeft 0 end mid → 0 < end → first_bad e.charset (take end mid.buffer) ≡ None → MayCome (held e row None mid)

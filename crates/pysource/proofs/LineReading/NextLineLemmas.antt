@@ -13,14 +13,14 @@ use Rattle.pysource.specs.Sources.{nth_line}
 use Rattle.pysource.specs.Taking.{Grows, LineAt, LineThere, LineLeft, LineUnread, NoLfFrom}
 use Rattle.pysource.specs.Streams.{NextLine, Tells, IsText, fault_at, past_first}
 use Rattle.pysource.specs.declared.buffers.Intake.{Intake}
-use Rattle.pysource.specs.declared.line_reader.Line.{Line}
-use Rattle.pysource.specs.declared.line_reader.Line.TheVariants as lines
+use Rattle.pysource.specs.declared.line_reader.LineRead.{LineRead}
+use Rattle.pysource.specs.declared.line_reader.LineRead.TheVariants as lines
 use Rattle.pysource.specs.declared.faults.LineError.{LineError}
 use Rattle.pysource.specs.declared.faults.LineFault.{LineFault}
 use Rattle.pysource.proofs.FaultyLines.CutLemmas.{first_of_alone}
 use Rattle.pysource.proofs.LineReading.ComingLemmas.{no_lf_all}
 use Rattle.pysource.proofs.LineReading.HeadLemmas.{nth_first, nth_here}
-use Rattle.pysource.proofs.TakenBytes.TakingLemmas.{Takes-none}
+use Rattle.pysource.proofs.TakenBytes.TakingLemmas.{ReadsBytes-none}
 use Rattle.pysource.proofs.LineReading.StreamLemmas.{held, skipped, gives_nothing, gives_fault, gives_line, gives_last, gives_bad, gives_last_bad, is_line, is_last, only_behind, only_end, only_fault, only_unread}
 
 -- bytes without line feed are their own first line
@@ -76,7 +76,7 @@ past_found end old mid (x ∷ taken) e (inl there) =
     inr (omega (arith, size, both, past, there.ahead))
 
 -- no line was given
-pub moves_nothing : {x y : Seen} (e : Named) (row : ℕ) (old mid : Intake) (chunk chunk' : List ℕ) (result : Result Line AllocError) → Grows x y old mid → chunk' ≡ chunk → Tells result [] (held e row None mid) → (IsText result → ⊥)
+pub moves_nothing : {x y : Seen} (e : Named) (row : ℕ) (old mid : Intake) (chunk chunk' : List ℕ) (result : Result LineRead AllocError) → Grows x y old mid → chunk' ≡ chunk → Tells result [] (held e row None mid) → (IsText result → ⊥)
     → (mid.buffer ≡ old.buffer) ⊎ (past_first mid.buffer ≤ 8_192)
     → NextLine x y (held e row None old) (held e row None mid) chunk chunk' result
 moves_nothing e row old mid chunk chunk' result p same tells not kept = record {
@@ -99,7 +99,7 @@ pub moves_told : (x : Seen) (e : Named) (row : ℕ) (fault : LineFault) (i : Int
 moves_told x e row fault i chunk = record {
   taken = [];
   line = [];
-  reads = Takes-none x i.count i.reach;
+  reads = ReadsBytes-none x i.count i.reach;
   gives = gives_fault e row fault i;
   chunk = sym (append-nil chunk);
   tells = (refl, refl, only_fault e row fault i);

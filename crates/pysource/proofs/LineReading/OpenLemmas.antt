@@ -9,7 +9,7 @@ use Rattle.pysource.specs.Names.{Named}
 use Rattle.pysource.specs.Parts.{Parts}
 use Rattle.pysource.specs.Cookies.{encoding_of, named_by, cookie_of, leads_on, is_utf_8, is_ascii_name, is_spelled, without_mark, has_mark}
 use Rattle.pysource.specs.Sources.{nth_line}
-use Rattle.pysource.specs.Taking.{Takes, fails}
+use Rattle.pysource.specs.Taking.{ReadsBytes, fails}
 use Rattle.pysource.specs.Streams.{Coming, FollowsAt, comes, coming, decides, of_source, stream_of, stream_under, Opens, Refuses}
 use Rattle.pysource.specs.Inner.Heads.{Head, FoundHeads}
 use Rattle.pysource.specs.declared.buffers.Intake.{Intake}
@@ -57,7 +57,7 @@ without_mark_short bytes = elim (cases_Bool (has_mark bytes)) [
 ]
 
 -- the lines are opened
-pub opens : {x y : Seen} (i : Intake) (first second : ℕ) (named : Named) → Takes x y Reading i.reach 0 i.count i.buffer → i.count ≤ source_limit → Head i first second
+pub opens : {x y : Seen} (i : Intake) (first second : ℕ) (named : Named) → ReadsBytes x y Reading i.reach 0 i.count i.buffer → i.count ≤ source_limit → Head i first second
     → encoding_of (take first i.buffer) (take (second - first) (drop first i.buffer)) ≡ Ok named → Opens x y (held named 1 None (unmarked i))
 opens i first second named takes within h is =
     let short = without_mark_short i.buffer in
@@ -77,23 +77,23 @@ opens i first second named takes within h is =
     }
 
 -- the encoding is refused
-refuses_unsupported : {x y : Seen} (i : Intake) (first second : ℕ) (place : Place) → Takes x y Reading i.reach 0 i.count i.buffer → Head i first second
+refuses_unsupported : {x y : Seen} (i : Intake) (first second : ℕ) (place : Place) → ReadsBytes x y Reading i.reach 0 i.count i.buffer → Head i first second
     → encoding_of (take first i.buffer) (take (second - first) (drop first i.buffer)) ≡ Err (cookies.UnsupportedEncoding place) → Refuses x y (UnsupportedEncoding place)
 unfolding stream_under
 refuses_unsupported {x} {y} i first second place takes h is = record {
   taken = i.buffer;
   reach = i.reach;
-  reads = subst (λ (n : ℕ). Takes x y Reading i.reach 0 n i.buffer) (let e : i.count ≡ length i.buffer = omega (arith, takes.count) in e) takes;
+  reads = subst (λ (n : ℕ). ReadsBytes x y Reading i.reach 0 n i.buffer) (let e : i.count ≡ length i.buffer = omega (arith, takes.count) in e) takes;
   explains = (h.reach, λ more broken f. streamed i first second h more broken f ∙ ap (λ (r : Result Named SourceFault). stream_under r broken (i.buffer ++ more)) is);
 }
 
-refuses_conflict : {x y : Seen} (i : Intake) (first second : ℕ) (place : Place) → Takes x y Reading i.reach 0 i.count i.buffer → Head i first second
+refuses_conflict : {x y : Seen} (i : Intake) (first second : ℕ) (place : Place) → ReadsBytes x y Reading i.reach 0 i.count i.buffer → Head i first second
     → encoding_of (take first i.buffer) (take (second - first) (drop first i.buffer)) ≡ Err (cookies.BomConflict place) → Refuses x y (BomConflict place)
 unfolding stream_under
 refuses_conflict {x} {y} i first second place takes h is = record {
   taken = i.buffer;
   reach = i.reach;
-  reads = subst (λ (n : ℕ). Takes x y Reading i.reach 0 n i.buffer) (let e : i.count ≡ length i.buffer = omega (arith, takes.count) in e) takes;
+  reads = subst (λ (n : ℕ). ReadsBytes x y Reading i.reach 0 n i.buffer) (let e : i.count ≡ length i.buffer = omega (arith, takes.count) in e) takes;
   explains = (h.reach, λ more broken f. streamed i first second h more broken f ∙ ap (λ (r : Result Named SourceFault). stream_under r broken (i.buffer ++ more)) is);
 }
 
@@ -118,7 +118,7 @@ never_memory first second =
     neither (nat_lt 0 (length (cookie_of line))) _ _ (named_never (has_mark first) 1 (cookie_of line))
     (neither (leads_on line && nat_lt 0 (length (cookie_of second))) _ _ (named_never (has_mark first) 2 (cookie_of second)) tt)
 
-pub refuses_source : {x y : Seen} (i : Intake) (first second : ℕ) (fault : SourceFault) → Takes x y Reading i.reach 0 i.count i.buffer → Head i first second
+pub refuses_source : {x y : Seen} (i : Intake) (first second : ℕ) (fault : SourceFault) → ReadsBytes x y Reading i.reach 0 i.count i.buffer → Head i first second
     → encoding_of (take first i.buffer) (take (second - first) (drop first i.buffer)) ≡ Err fault → Refuses x y (of_source fault)
 refuses_source i first second (cookies.UnsupportedEncoding place) takes h is = refuses_unsupported i first second place takes h is
 refuses_source i first second (cookies.BomConflict place) takes h is = refuses_conflict i first second place takes h is
@@ -133,11 +133,11 @@ unfolding stream_of
 unreadable bytes e = rw e refl
 
 -- the lines that decide could not be read
-pub refuses_head : {x y : Seen} (i : Intake) (fault : StreamFault) → Takes x y Reading i.reach 0 i.count i.buffer → FoundHeads i (Err fault) → Refuses x y fault
+pub refuses_head : {x y : Seen} (i : Intake) (fault : StreamFault) → ReadsBytes x y Reading i.reach 0 i.count i.buffer → FoundHeads i (Err fault) → Refuses x y fault
 refuses_head {x} {y} i Read takes found = record {
   taken = i.buffer;
   reach = i.reach;
-  reads = subst (λ (n : ℕ). Takes x y Reading i.reach 0 n i.buffer) (let e : i.count ≡ length i.buffer = omega (arith, takes.count) in e) takes;
+  reads = subst (λ (n : ℕ). ReadsBytes x y Reading i.reach 0 n i.buffer) (let e : i.count ≡ length i.buffer = omega (arith, takes.count) in e) takes;
   explains = (
     found.reach,
     λ more broken f.
@@ -149,7 +149,7 @@ refuses_head {x} {y} i Read takes found = record {
 refuses_head {x} {y} i Memory takes found = record {
   taken = i.buffer;
   reach = i.reach;
-  reads = subst (λ (n : ℕ). Takes x y Reading i.reach 0 n i.buffer) (let e : i.count ≡ length i.buffer = omega (arith, takes.count) in e) takes;
+  reads = subst (λ (n : ℕ). ReadsBytes x y Reading i.reach 0 n i.buffer) (let e : i.count ≡ length i.buffer = omega (arith, takes.count) in e) takes;
   explains = found;
 }
 refuses_head i (UnsupportedEncoding place) takes found = absurd found

@@ -11,7 +11,7 @@ use Rattle.pysource.specs.Parts.{Parts}
 use Rattle.pysource.specs.Cookies.{encoding_of, without_mark}
 use Rattle.pysource.specs.Lines.{lines_of, first_bad, good_text, line_fault}
 use Rattle.pysource.specs.Sources.{nth_line, source_of, source_under}
-use Rattle.pysource.specs.Taking.{Takes, Grows, LineAt, LineLeft, LineUnread}
+use Rattle.pysource.specs.Taking.{ReadsBytes, Grows, LineAt, LineLeft, LineUnread}
 use Rattle.pysource.specs.Streams.{Buffered, FollowsAt, comes, coming, onto, Gives, ComesOnly, unread, fault_at, IsLine, ends_line, stream_of, stream_under, as_stream}
 use Rattle.pysource.specs.declared.buffers.Intake.{Intake}
 use Rattle.pysource.specs.declared.encodings.SourceFault.{SourceFault}
@@ -37,10 +37,10 @@ none_left [] ys e = refl
 none_left (x ∷ xs) ys e = cc
 
 -- What may follow in the end may follow what was taken before.
-followed : {x y : Seen} {k l : ℕ} {r s : Reach} {t : List ℕ} (b' : Bool) (more : List ℕ) → r ≢ Reading → Takes x y r s k l t → (s ≡ r) × (t ++ more ≡ more)
+followed : {x y : Seen} {k l : ℕ} {r s : Reach} {t : List ℕ} (b' : Bool) (more : List ℕ) → r ≢ Reading → ReadsBytes x y r s k l t → (s ≡ r) × (t ++ more ≡ more)
 followed {t = t} b' more not p = let over = p.over not in (over.0, ap (λ (w : List ℕ). w ++ more) (none_left t p.lost over.1))
 
-pub follows_back : {x y : Seen} {k l : ℕ} (r : Reach) {s : Reach} {t : List ℕ} (more : List ℕ) (broken : Bool) → Takes x y r s k l t → FollowsAt s more broken → FollowsAt r (t ++ more) broken
+pub follows_back : {x y : Seen} {k l : ℕ} (r : Reach) {s : Reach} {t : List ℕ} (more : List ℕ) (broken : Bool) → ReadsBytes x y r s k l t → FollowsAt s more broken → FollowsAt r (t ++ more) broken
 follows_back Reading more broken p f = tt
 follows_back End more broken p f =
     let o = followed broken more (λ e. let e' : End ≡ Reading = e in cc) p in

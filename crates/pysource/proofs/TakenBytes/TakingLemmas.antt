@@ -9,7 +9,7 @@ use Rattle.std.proofs.lemmas.List.{get_or_append_left}
 use Rattle.pysource.specs.declared.buffers.Intake.{Intake}
 use Rattle.pysource.specs.Bytes.{Seen, IsSteady}
 use Rattle.pysource.specs.Limits.{source_limit}
-use Rattle.pysource.specs.Taking.{Takes, Grows, NoLfFrom}
+use Rattle.pysource.specs.Taking.{ReadsBytes, Grows, NoLfFrom}
 use Rattle.pysource.specs.declared.line_reader.Reach.{Reach}
 use Rattle.pysource.specs.declared.line_reader.Reach.TheVariants.{Reading, End, Broken, Passed}
 use Rattle.pysource.proofs.TakenBytes.ByteLemmas.{Consumes-append, Consumes-refl, Steady-append}
@@ -20,8 +20,8 @@ none_of [] h = refl
 none_of (x ∷ xs) h = absurd (omega (arith, h))
 
 -- no read was made
-pub Takes-none : (seen : Seen) (count : ℕ) (reach : Reach) → Takes seen seen reach reach count count []
-Takes-none seen count reach = record {
+pub ReadsBytes-none : (seen : Seen) (count : ℕ) (reach : Reach) → ReadsBytes seen seen reach reach count count []
+ReadsBytes-none seen count reach = record {
   lost = [];
   consumes = Consumes-refl seen.to_come;
   count = omega arith;
@@ -39,12 +39,12 @@ zero_or [] = inl refl
 zero_or (x ∷ xs) = inr (omega arith)
 
 -- where reading goes on nothing was lost
-pub lost_none : {x y : Seen} {c d : ℕ} {r : Reach} {t : List ℕ} (p : Takes x y r Reading c d t) → p.lost ≡ []
+pub lost_none : {x y : Seen} {c d : ℕ} {r : Reach} {t : List ℕ} (p : ReadsBytes x y r Reading c d t) → p.lost ≡ []
 lost_none p = none_of p.lost (elim (zero_or p.lost) [ inl e ↦ e | inr h ↦ absurd (let e = (p.passed h).0 in cc) ])
 
 -- reads, and then others
-pub Takes-append : {x y z : Seen} {k l m : ℕ} {r s : Reach} (t u : List ℕ) → Takes x y r Reading k l t → Takes y z Reading s l m u → Takes x z r s k m (t ++ u)
-Takes-append {x} {y} {z} {k} {l} {m} {r} {s} t u p q =
+pub ReadsBytes-append : {x y z : Seen} {k l m : ℕ} {r s : Reach} (t u : List ℕ) → ReadsBytes x y r Reading k l t → ReadsBytes y z Reading s l m u → ReadsBytes x z r s k m (t ++ u)
+ReadsBytes-append {x} {y} {z} {k} {l} {m} {r} {s} t u p q =
     let none = lost_none p in
     let first : Consumes x.to_come y.to_come t = subst (Consumes x.to_come y.to_come) (ap (λ (w : List ℕ). t ++ w) none ∙ append-nil t) p.consumes in
     let whole = length-append t u in
@@ -62,8 +62,8 @@ Takes-append {x} {y} {z} {k} {l} {m} {r} {s} t u p q =
     }
 
 -- one read that gave some bytes
-pub Takes-some : (x y : Seen) (c d : ℕ) (t : List ℕ) → Consumes x.to_come y.to_come t → d ≡ c + length t → (c ≤ source_limit → d ≤ source_limit) → y.failures ≡ x.failures → IsSteady x y → Takes x y Reading Reading c d t
-Takes-some x y c d t p size within told steady = record {
+pub ReadsBytes-some : (x y : Seen) (c d : ℕ) (t : List ℕ) → Consumes x.to_come y.to_come t → d ≡ c + length t → (c ≤ source_limit → d ≤ source_limit) → y.failures ≡ x.failures → IsSteady x y → ReadsBytes x y Reading Reading c d t
+ReadsBytes-some x y c d t p size within told steady = record {
   lost = [];
   consumes = subst (Consumes x.to_come y.to_come) (sym (append-nil t)) p;
   count = size;
@@ -77,8 +77,8 @@ Takes-some x y c d t p size within told steady = record {
 }
 
 -- that found the end
-pub Takes-end : (x y : Seen) (c : ℕ) → Consumes x.to_come y.to_come [] → IsAtEnd y.to_come → y.failures ≡ x.failures → IsSteady x y → Takes x y Reading End c c []
-Takes-end x y c p at told steady = record {
+pub ReadsBytes-end : (x y : Seen) (c : ℕ) → Consumes x.to_come y.to_come [] → IsAtEnd y.to_come → y.failures ≡ x.failures → IsSteady x y → ReadsBytes x y Reading End c c []
+ReadsBytes-end x y c p at told steady = record {
   lost = [];
   consumes = p;
   count = omega arith;
@@ -92,8 +92,8 @@ Takes-end x y c p at told steady = record {
 }
 
 -- that failed
-pub Takes-failed : (x y : Seen) (c : ℕ) → Consumes x.to_come y.to_come [] → y.failures ≡ x.failures + 1 → IsSteady x y → Takes x y Reading Broken c c []
-Takes-failed x y c p told steady = record {
+pub ReadsBytes-failed : (x y : Seen) (c : ℕ) → Consumes x.to_come y.to_come [] → y.failures ≡ x.failures + 1 → IsSteady x y → ReadsBytes x y Reading Broken c c []
+ReadsBytes-failed x y c p told steady = record {
   lost = [];
   consumes = p;
   count = omega arith;
@@ -107,8 +107,8 @@ Takes-failed x y c p told steady = record {
 }
 
 -- that passed the limit
-pub Takes-passed : (x y : Seen) (c : ℕ) (t : List ℕ) → Consumes x.to_come y.to_come t → 0 < length t → c ≡ source_limit → y.failures ≡ x.failures → IsSteady x y → Takes x y Reading Passed c c []
-Takes-passed x y c t p some full told steady = record {
+pub ReadsBytes-passed : (x y : Seen) (c : ℕ) (t : List ℕ) → Consumes x.to_come y.to_come t → 0 < length t → c ≡ source_limit → y.failures ≡ x.failures → IsSteady x y → ReadsBytes x y Reading Passed c c []
+ReadsBytes-passed x y c t p some full told steady = record {
   lost = t;
   consumes = p;
   count = omega arith;
@@ -129,7 +129,7 @@ left Broken = 0
 left Passed = 0
 
 -- a reader that is read now was read before
-pub was_reading : {x y : Seen} {c d : ℕ} {r : Reach} {t : List ℕ} → Takes x y r Reading c d t → r ≡ Reading
+pub was_reading : {x y : Seen} {c d : ℕ} {r : Reach} {t : List ℕ} → ReadsBytes x y r Reading c d t → r ≡ Reading
 was_reading {r = Reading} p = refl
 was_reading {r = End} p = sym (p.over (λ e. let e' : End ≡ Reading = e in cc)).0
 was_reading {r = Broken} p = sym (p.over (λ e. let e' : Broken ≡ Reading = e in cc)).0
@@ -139,8 +139,8 @@ was_reading {r = Passed} p = sym (p.over (λ e. let e' : Passed ≡ Reading = e 
 pub Grows-append : {x y z : Seen} {s t u : Intake} → t.reach ≡ Reading → Grows x y s t → Grows y z t u → Grows x z s u
 Grows-append {x} {y} {z} {s} {t} {u} e p q = record {
   taken = p.taken ++ q.taken;
-  takes = Takes-append p.taken q.taken (subst (λ (r : Reach). Takes x y s.reach r s.count t.count p.taken) e p.takes)
-      (subst (λ (r : Reach). Takes y z r u.reach t.count u.count q.taken) e q.takes);
+  takes = ReadsBytes-append p.taken q.taken (subst (λ (r : Reach). ReadsBytes x y s.reach r s.count t.count p.taken) e p.takes)
+      (subst (λ (r : Reach). ReadsBytes y z r u.reach t.count u.count q.taken) e q.takes);
   bytes = q.bytes ∙ ap (λ (w : List ℕ). w ++ q.taken) p.bytes ∙ append_assoc s.buffer p.taken q.taken;
 }
 
@@ -153,7 +153,7 @@ is_reading Passed = inr (λ e. cc)
 -- what reading leaves of the kinds of reach
 pub kept_or_full : {x y : Seen} {s t : Intake} (u : Intake) → t.reach ≡ Reading → Grows x y s t → (u.reach ≢ Reading → u.buffer ≡ t.buffer) → (u.reach ≡ s.reach) ⊎ (length t.buffer ≡ length u.buffer)
 kept_or_full {x} {y} {s} {t} u e p same =
-    let was : s.reach ≡ Reading = was_reading (subst (λ (r : Reach). Takes x y s.reach r s.count t.count p.taken) e p.takes) in
+    let was : s.reach ≡ Reading = was_reading (subst (λ (r : Reach). ReadsBytes x y s.reach r s.count t.count p.taken) e p.takes) in
     elim (is_reading u.reach) [ inl is ↦ inl (is ∙ sym was) | inr not ↦ inr (sym (ap length (same not))) ]
 
 -- no line feed stands up to where a search began, nor behind
@@ -165,23 +165,23 @@ pub clean_under : (start : ℕ) (bytes more : List ℕ) → NoLfFrom start (leng
 clean_under start bytes more p k low high e = p k low high (sym (get_or_append_left bytes more 0 k high) ∙ e)
 
 -- all that was read, where nothing had been
-pub Takes-whole : {x y : Seen} {s t : Intake} → s.buffer ≡ [] → s.reach ≡ Reading → s.count ≡ 0 → Grows x y s t → Takes x y Reading t.reach 0 t.count t.buffer
-Takes-whole {x} {y} {s} {t} empty reading none p =
+pub ReadsBytes-whole : {x y : Seen} {s t : Intake} → s.buffer ≡ [] → s.reach ≡ Reading → s.count ≡ 0 → Grows x y s t → ReadsBytes x y Reading t.reach 0 t.count t.buffer
+ReadsBytes-whole {x} {y} {s} {t} empty reading none p =
     let all : p.taken ≡ t.buffer = sym (p.bytes ∙ ap (λ (w : List ℕ). w ++ p.taken) empty) in
-    subst (λ (w : List ℕ). Takes x y Reading t.reach 0 t.count w) all
-    (subst (λ (n : ℕ). Takes x y Reading t.reach n t.count p.taken) none
-    (subst (λ (r : Reach). Takes x y r t.reach s.count t.count p.taken) reading p.takes))
+    subst (λ (w : List ℕ). ReadsBytes x y Reading t.reach 0 t.count w) all
+    (subst (λ (n : ℕ). ReadsBytes x y Reading t.reach n t.count p.taken) none
+    (subst (λ (r : Reach). ReadsBytes x y r t.reach s.count t.count p.taken) reading p.takes))
 
 -- reads, and then others, which may be none
 empty_parts : (t u : List ℕ) → t ++ u ≡ [] → (t ≡ []) × (u ≡ [])
 empty_parts [] u e = (refl, e)
 empty_parts (x ∷ t) u e = absurd (let f : x ∷ (t ++ u) ≡ [] = e in cc)
 
-pub Takes-on : (x y z : Seen) (k l m : ℕ) (r q s : Reach) (t u : List ℕ) → Takes x y r q k l t → Takes y z q s l m u → Takes x z r s k m (t ++ u)
-Takes-on x y z k l m r q s t u p n = by (is_reading q)
+pub ReadsBytes-on : (x y z : Seen) (k l m : ℕ) (r q s : Reach) (t u : List ℕ) → ReadsBytes x y r q k l t → ReadsBytes y z q s l m u → ReadsBytes x z r s k m (t ++ u)
+ReadsBytes-on x y z k l m r q s t u p n = by (is_reading q)
   where
-    by : (q ≡ Reading) ⊎ (q ≢ Reading) → Takes x z r s k m (t ++ u)
-    by (inl e) = Takes-append t u (subst (λ w. Takes x y r w k l t) e p) (subst (λ w. Takes y z w s l m u) e n)
+    by : (q ≡ Reading) ⊎ (q ≢ Reading) → ReadsBytes x z r s k m (t ++ u)
+    by (inl e) = ReadsBytes-append t u (subst (λ w. ReadsBytes x y r w k l t) e p) (subst (λ w. ReadsBytes y z w s l m u) e n)
     by (inr over) =
         let o = n.over over in
         let none = empty_parts u n.lost o.1 in

@@ -8,7 +8,8 @@ use Rattle.pytoken.specs.declared.refusals.Refusal.{Refusal}
 use Rattle.pytoken.specs.Indentation.{Margin, margin_at, ends_line, margins_from}
 use Rattle.pytoken.specs.Inner.Behind.{behind}
 use Rattle.pytoken.specs.Tokens.{Token, is_open, tokens_of_entry, tokens_from}
-use Rattle.pytoken.specs.Refusals.{or_refusal, entry_refusal, first_entry_refusal, bracket_refusal, first_too_deep, margin_refusal, first_mixed}
+use Rattle.pytoken.specs.Refusals.{entry_refusal, first_entry_refusal, bracket_refusal, first_too_deep, margin_refusal, first_mixed}
+use Rattle.std.specs.Option.{option_or}
 
 pub behind_on : {X : Type 0} (before xs : List X) (x : X) → behind before (xs ++ x ∷ []) ≡ x ∷ behind before xs
 behind_on before [] x = refl
@@ -22,26 +23,26 @@ tokens_on text before (x ∷ es) e =
     ap (λ (ts : List Token). here ++ ts) (tokens_on text (x ∷ before) es e)
     ∙ sym (append_assoc here (tokens_from text (x ∷ before) es) (tokens_of_entry text (is_open (behind (x ∷ before) es)) e))
 
-or_assoc : (a b c : Option Refusal) → or_refusal (or_refusal a b) c ≡ or_refusal a (or_refusal b c)
+or_assoc : (a b c : Option Refusal) → option_or (option_or a b) c ≡ option_or a (option_or b c)
 or_assoc (Some r) b c = refl
 or_assoc None b c = refl
 
-or_none : (a : Option Refusal) → or_refusal a None ≡ a
+or_none : (a : Option Refusal) → option_or a None ≡ a
 or_none (Some r) = refl
 or_none None = refl
 
 pub refusal_on : (text : List ℕ) (es : List Entry) (e : Entry)
-    → first_entry_refusal text (es ++ e ∷ []) ≡ or_refusal (first_entry_refusal text es) (entry_refusal text e)
+    → first_entry_refusal text (es ++ e ∷ []) ≡ option_or (first_entry_refusal text es) (entry_refusal text e)
 refusal_on text [] e = or_none (entry_refusal text e)
 refusal_on text (x ∷ es) e =
-    ap (or_refusal (entry_refusal text x)) (refusal_on text es e)
+    ap (option_or (entry_refusal text x)) (refusal_on text es e)
     ∙ sym (or_assoc (entry_refusal text x) (first_entry_refusal text es) (entry_refusal text e))
 
 pub too_deep_on : (most : ℕ) (before es : List Entry) (e : Entry)
-    → first_too_deep most before (es ++ e ∷ []) ≡ or_refusal (first_too_deep most before es) (bracket_refusal most (behind before es) e)
+    → first_too_deep most before (es ++ e ∷ []) ≡ option_or (first_too_deep most before es) (bracket_refusal most (behind before es) e)
 too_deep_on most before [] e = or_none (bracket_refusal most before e)
 too_deep_on most before (x ∷ es) e =
-    ap (or_refusal (bracket_refusal most before x)) (too_deep_on most (x ∷ before) es e)
+    ap (option_or (bracket_refusal most before x)) (too_deep_on most (x ∷ before) es e)
     ∙ sym (or_assoc (bracket_refusal most before x) (first_too_deep most (x ∷ before) es) (bracket_refusal most (behind (x ∷ before) es) e))
 
 -- the margins that an entry gives
@@ -58,8 +59,8 @@ margins_on text before (x ∷ es) e =
 
 -- the first mixed line among some and then others
 pub mixed_on : (earlier ms more : List Margin) → first_mixed earlier (ms ++ more)
-    ≡ or_refusal (first_mixed earlier ms) (first_mixed (behind earlier ms) more)
+    ≡ option_or (first_mixed earlier ms) (first_mixed (behind earlier ms) more)
 mixed_on earlier [] more = refl
 mixed_on earlier (m ∷ ms) more =
-    ap (or_refusal (margin_refusal earlier m)) (mixed_on (m ∷ earlier) ms more)
+    ap (option_or (margin_refusal earlier m)) (mixed_on (m ∷ earlier) ms more)
     ∙ sym (or_assoc (margin_refusal earlier m) (first_mixed (m ∷ earlier) ms) (first_mixed (behind (m ∷ earlier) ms) more))

@@ -10,10 +10,10 @@ use Rattle.pytoken.specs.declared.meanings.Meaning.{Meaning}
 use Rattle.pytoken.specs.declared.meanings.Meaning.TheVariants.{Point, Nothing, Wrong}
 use Rattle.pytoken.specs.declared.faults.TokenError.TheVariants as errors
 use Rattle.pytoken.specs.Escapes.{Reading, reads, octal, hexadecimal, hexadecimal_len, names_character, escape_point, digits_at_front, escaped_by}
-use Rattle.pytoken.specs.Inner.Readings.{Takes, first_digit}
+use Rattle.pytoken.specs.Inner.Readings.{ReadsEscape, first_digit}
 
-pub takes_by : (r s : Reading) (old new : List ℕ) (m : Meaning) → r ≡ s → Takes s old m new → Takes r old m new
-takes_by r s old new m e t = subst (λ (x : Reading). Takes x old m new) (sym e) t
+pub takes_by : (r s : Reading) (old new : List ℕ) (m : Meaning) → r ≡ s → ReadsEscape s old m new → ReadsEscape r old m new
+takes_by r s old new m e t = subst (λ (x : Reading). ReadsEscape x old m new) (sym e) t
 
 -- a text with this first letter
 pub begins_by : (t : List ℕ) (c : ℕ) → slice_get t 0 ≡ Some c → t ≡ c ∷ drop 1 t

@@ -10,7 +10,7 @@ use Rattle.pytoken.specs.StringValues.{is_quote}
 use Rattle.pytoken.specs.Escapes.{Reading, reading, meanings, points_in}
 
 -- a reading was made of the front of a text: what it means, and what is left of the text
-pub record Takes (r : Reading) (old : List ℕ) (m : Meaning) (new : List ℕ) : Type 0 where
+pub record ReadsEscape (r : Reading) (old : List ℕ) (m : Meaning) (new : List ℕ) : Type 0 where
   pub meaning : m ≡ r.meaning
   pub behind : new ≡ drop r.more old
 
@@ -27,7 +27,7 @@ abbrev pub behind_meaning : Bool → Bool → List ℕ → List ℕ
 behind_meaning raw bytes [] = []
 behind_meaning raw bytes (c ∷ cs) = drop (reading raw bytes c cs).more cs
 
--- the base of a number by the letter behind its leading 0
+-- the base of a number by the letter after its leading 0
 abbrev pub radix_by : ℕ → ℕ
 radix_by c = if is_x c then 16 else (if is_o c then 8 else (if is_b c then 2 else 10))
 
@@ -77,7 +77,7 @@ is_bare (c ∷ cs) = is_quote c
 abbrev pub is_plain : ℕ → Bool
 is_plain c = nat_le c 0x7F && (not (c == 92) && not (c == 0))
 
--- a character that may begin a wrong escape, behind a backslash: of an octal or hexadecimal escape, or \N
+-- a character that may begin a wrong escape, after a backslash: of an octal or hexadecimal escape, or \N
 abbrev pub asks : ℕ → Bool
 asks c = is_digit c 8 || ((c == 120) || ((c == 117) || ((c == 85) || (c == 78))))
 

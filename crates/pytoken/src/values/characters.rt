@@ -36,7 +36,7 @@ fn plain_len(bytes: &[u8], raw: bool) -> usize
     len
 }
 
-/// The first character of a text that is no carriage return, and what stands behind it.
+/// The first character of a text that is no carriage return, and what stands after it.
 #[inline(always)]
 fn first_character(text: &str) -> (Option<char>, &str)
     ensures first { result.0 ≡ slice_get (with_line_feeds (chars text.now)) 0 }

@@ -7,7 +7,8 @@ ghost use Rattle.std.specs.Str.Parse.{digits_value};
 ghost use Rattle.pylex_lexeme.specs.Characters.{backslash};
 ghost use Rattle.pytoken.specs.Escapes.{digits_at_front, escape_point, octal, hexadecimal};
 ghost use Rattle.pytoken.specs.Escapes.{hexadecimal_len, names_character, escaped_by, reads};
-ghost use Rattle.pytoken.specs.Inner.Readings.{Takes, first_digit, first_meaning, behind_meaning};
+ghost use Rattle.pytoken.specs.Inner.Readings.{ReadsEscape, first_digit, first_meaning};
+ghost use Rattle.pytoken.specs.Inner.Readings.{behind_meaning};
 
 use crate::values::characters::Characters;
 use crate::{Meaning, TokenError};
@@ -46,7 +47,7 @@ fn digit(text: &Characters, radix: u32) -> Option<u32>
 
 /// One to three octal digits that stand here.
 fn octal(text: &mut Characters, bytes: bool) -> Meaning
-    ensures { Takes (octal bytes (digits_at_front 8 3 text.old)) text.old result text.new }
+    ensures { ReadsEscape (octal bytes (digits_at_front 8 3 text.old)) text.old result text.new }
 {
     let (_, value) = digits(text, 8, 3);
     if is_past_byte(bytes, value) {
@@ -62,11 +63,11 @@ fn is_past_byte(bytes: bool, value: u32) -> bool
     bytes && value > 0xFF
 }
 
-/// A letter that stands here, and so many hexadecimal digits behind it.
+/// A letter that stands here, and so many hexadecimal digits after it.
 fn hexadecimal(text: &mut Characters, wanted: usize) -> Meaning
     requires { wanted ≤ 8 }
-    ensures { Takes (hexadecimal wanted (digits_at_front 16 wanted (drop 1 text.old))) text.old
-        result text.new }
+    ensures { ReadsEscape (hexadecimal wanted (digits_at_front 16 wanted (drop 1 text.old)))
+        text.old result text.new }
 {
     let _ = text.bump();
     let (count, value) = digits(text, 16, wanted);
@@ -83,7 +84,7 @@ fn is_point(count: usize, wanted: usize, value: u32) -> bool
     count == wanted && value <= 0x10_FFFF
 }
 
-/// How many hexadecimal digits a letter behind a backslash asks for.
+/// How many hexadecimal digits a letter after a backslash asks for.
 fn hexadecimal_len(letter: char, bytes: bool) -> usize
     ensures len { result ≡ hexadecimal_len bytes letter }
     ensures most { result ≤ 8 }
@@ -101,14 +102,14 @@ fn hexadecimal_len(letter: char, bytes: bool) -> usize
     }
 }
 
-/// Whether a letter behind a backslash names a character.
+/// Whether a letter after a backslash names a character.
 fn names_character(letter: char, bytes: bool) -> bool
     ensures { result ≡ names_character bytes letter }
 {
     !bytes && letter == 'N'
 }
 
-/// The point that a letter behind a backslash stands for.
+/// The point that a letter after a backslash stands for.
 fn point_of(letter: char) -> Option<u32>
     ensures { result ≡ escape_point letter }
 {
@@ -129,15 +130,15 @@ fn point_of(letter: char) -> Option<u32>
 
 /// Takes the letter that stands here.
 fn letter(text: &mut Characters, meaning: Meaning) -> Meaning
-    ensures { Takes (reads meaning 1) text.old result text.new }
+    ensures { ReadsEscape (reads meaning 1) text.old result text.new }
 {
     let _ = text.bump();
     meaning
 }
 
-/// What a backslash stands for with what stands here, behind it.
+/// What a backslash stands for with what stands here, after it.
 fn escape(text: &mut Characters, bytes: bool) -> Meaning
-    ensures { Takes (escaped_by bytes text.old) text.old result text.new }
+    ensures { ReadsEscape (escaped_by bytes text.old) text.old result text.new }
 {
     let Some(first) = text.first() else {
         return Meaning::Point(0x5C);

@@ -11,7 +11,7 @@ use crate::TokenError;
 use std::alloc::{AllocError, Global};
 
 /// The text of one string literal without a fault, lent from its source. Its value takes memory,
-/// and is made where it is asked for.
+/// and is made when it is asked for.
 #[derive(Clone, Copy, Debug, PartialEq, Eq)]
 pub struct LiteralText<'a> {
     text: &'a str,

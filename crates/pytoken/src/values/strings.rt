@@ -146,7 +146,7 @@ fn is_bad_escape(meaning: Meaning) -> bool
     matches!(meaning, Meaning::Wrong(TokenError::BadEscape))
 }
 
-/// Whether one of two holds, both of which have been found out.
+/// Whether one of two holds, both of which are known.
 fn either(one: bool, other: bool) -> bool
     ensures { result ≡ (one || other) }
 {
@@ -247,7 +247,7 @@ pub(crate) fn are_plain(text: &str) -> bool
     plain
 }
 
-/// Whether a character behind a backslash may begin an escape that is wrong.
+/// Whether a character after a backslash may begin an escape that is wrong.
 fn asks(c: char) -> bool
     ensures { result ≡ asks c }
 {

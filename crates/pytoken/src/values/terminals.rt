@@ -40,7 +40,7 @@ pub enum TerminalFault {
     /// Something is wrong with the token by itself.
     #[error("faulty token")]
     Token(TokenError),
-    /// There was no memory.
+    /// Memory ran out.
     #[error("out of memory")]
     Memory,
 }

@@ -11,7 +11,7 @@ use Rattle.pylex_lexeme.specs.declared.lexeme.Class.{Class}
 use Rattle.pylex_lexeme.specs.declared.lexeme.Class.TheVariants.{Blanks, LineEnd}
 use Rattle.pylex_lexeme.specs.Chars.{begins, is_blank_char}
 use Rattle.pylex_lexeme.specs.Lexemes.{Lexeme, lexeme_at, lexeme_len, class_in}
-use Rattle.pylex_lexeme.specs.Cuts.{Takes}
+use Rattle.pylex_lexeme.specs.Cuts.{TakesLexeme}
 use Rattle.pylex_lexeme.proofs.Callers.Booleans.{and_parts}
 use Rattle.pylex_lexeme.proofs.Callers.Lexemes.{class_at, blanks_take, feed_takes}
 
@@ -19,7 +19,7 @@ use Rattle.pylex_lexeme.proofs.Callers.Lexemes.{class_at, blanks_take, feed_take
 of_class : (o : Option Class) (t : List ℕ) (k : Class) → o ≡ Some k → option_map {U = Lexeme} (λ c. record { «class» = c; text = t }) o ≡ Some (record { «class» = k; text = t })
 of_class o t k e = rw e refl
 
-pub is_lexeme : (t r : List ℕ) (k : Class) → Takes (t ++ r) (Some k) r → lexeme_at (t ++ r) ≡ Some (record { «class» = k; text = t })
+pub is_lexeme : (t r : List ℕ) (k : Class) → TakesLexeme (t ++ r) (Some k) r → lexeme_at (t ++ r) ≡ Some (record { «class» = k; text = t })
 unfolding lexeme_at
 is_lexeme t r k h =
     let c : class_in (t ++ r) (take (lexeme_len (t ++ r)) (t ++ r)) ≡ Some k = sym (class_at (t ++ r)) ∙ sym h.«class» in
@@ -27,8 +27,8 @@ is_lexeme t r k h =
     let e : take (lexeme_len (t ++ r)) (t ++ r) ≡ t = append_cancel_right (take (lexeme_len (t ++ r)) (t ++ r)) t r w in
     of_class (class_in (t ++ r) (take (lexeme_len (t ++ r)) (t ++ r))) (take (lexeme_len (t ++ r)) (t ++ r)) k c ∙ ap (λ u. Some (record { «class» = k; text = u })) e
 
-pub leaves : (t r : List ℕ) (k : Class) (n : ℕ) → n ≡ length t → Takes (t ++ r) (Some k) (drop n (t ++ r)) → Takes (t ++ r) (Some k) r
-leaves t r k n e h = subst (Takes (t ++ r) (Some k)) (ap (λ i. drop i (t ++ r)) e ∙ drop-append_seam t r) h
+pub leaves : (t r : List ℕ) (k : Class) (n : ℕ) → n ≡ length t → TakesLexeme (t ++ r) (Some k) (drop n (t ++ r)) → TakesLexeme (t ++ r) (Some k) r
+leaves t r k n e h = subst (TakesLexeme (t ++ r) (Some k)) (ap (λ i. drop i (t ++ r)) e ∙ drop-append_seam t r) h
 
 -- A run of characters of a set ends where another stands.
 pub run_ends : (p : ℕ → Bool) (t r : List ℕ) → list_all p t ≡ true → begins p r ≡ false → prefix_len p (t ++ r) ≡ length t

@@ -20,7 +20,7 @@ use Rattle.pylex_lexeme.specs.Operators.{is_opener, is_closer, is_operator, exac
 use Rattle.pylex_lexeme.specs.Lexemes.{Lexeme}
 use Rattle.pylex_lexeme.specs.Chars.{bytes_in}
 use Rattle.pylex.specs.Indentation.{width_from}
-use Rattle.pylex.specs.Machine.{State, after, gives, run, stop_of, layout_of, entry_by, step_of, past, behind, count_if, pushed}
+use Rattle.pylex.specs.Machine.{State, after, gives, run, stop_of, layout_of, entry_by, step_of, past, behind, pushed}
 use Rattle.pylex_lexeme.proofs.Callers.Booleans.{and_parts}
 use Rattle.pyunparse_text.specs.Spacing.{Piece, Line, is_token, is_operator_kind, touches, text_behind, spaced, are_readable, line_text, lines_text}
 use Rattle.pyunparse_text.specs.Inner.Relexed.{class_of, lexeme_of, blanks, feed, lexemes_behind, lexemes_of, indent_lexemes, line_lexemes, lines_lexemes}
@@ -31,6 +31,7 @@ use Rattle.pyunparse_text.proofs.Listings.Tells.{Tells, bytes_both, nothing_told
 use Rattle.pyunparse_text.proofs.Listings.Margins.{Even, lines_even, margin_even, token_even}
 use Rattle.pyunparse_text.proofs.Sources.Decoding.{lines_scalars}
 use Rattle.pyunparse_text.proofs.Cases.{bool_cases, off}
+use Rattle.pylex.specs.Lines.{count_if}
 
 -- the steps of lexemes from a state on, and the state behind them
 abbrev pub steps_on : State → List Lexeme → List Step

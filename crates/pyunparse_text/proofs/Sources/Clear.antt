@@ -23,15 +23,16 @@ use Rattle.pytoken.specs.declared.faults.TokenError.{TokenError}
 use Rattle.pytoken.specs.declared.refusals.Refusal.{Refusal}
 use Rattle.pytoken.specs.declared.refusals.Refusal.TheVariants as refusals
 use Rattle.pytoken.specs.Brackets.{opens as entry_opens, closes as entry_closes}
-use Rattle.pytoken.specs.Indentation.{Margin, margins, are_alike, is_mixed_past}
+use Rattle.pytoken.specs.Indentation.{Margin, margins, are_alike, is_mixed_past, same_bool}
 use Rattle.pytoken.specs.Terminals.{fault_of}
-use Rattle.pytoken.specs.Refusals.{most_brackets, or_refusal, entry_refusal, first_entry_refusal, bracket_refusal, first_too_deep, first_mixed, refusal_of, refusal_at, refusal}
+use Rattle.pytoken.specs.Refusals.{most_brackets, entry_refusal, first_entry_refusal, bracket_refusal, first_too_deep, first_mixed, refusal_of, refusal_at, refusal}
 use Rattle.pyunparse_text.specs.Spacing.{Piece, Line, is_operator_kind, are_readable}
 use Rattle.pyunparse_text.specs.Tokens.{PlainToken, token_at, token_of, exact_in, newline, indent, dedent, end_marker, level_tokens, line_tokens, tokens_behind, is_opening, is_closing, opens, closes, closes_all, opens_within, is_even, is_written, are_written, rise_by_one, IsListedAs}
 use Rattle.pyunparse_text.specs.SpacingLaws.{IsClear}
 use Rattle.pyunparse_text.proofs.Listings.Relisting.{entries_all, encoding_entry}
 use Rattle.pyunparse_text.proofs.Listings.Runs.{opens_alone}
 use Rattle.pyunparse_text.proofs.Cases.{bool_cases, off}
+use Rattle.std.specs.Option.{option_or}
 
 -- ---- Faults of tokens.
 
@@ -217,11 +218,7 @@ lines_shallow m (l ∷ ls) w h =
 
 -- ---- Tabs.
 
-abbrev agree : Bool → Bool → Bool
-agree true b = b
-agree false b = not b
-
-agrees : (b : Bool) → agree b b ≡ true
+agrees : (b : Bool) → same_bool b b ≡ true
 agrees true = refl
 agrees false = refl
 
@@ -231,7 +228,7 @@ alike v w a b =
     let y : w.eight ≡ w.one = eqb-true w.eight w.one b in
     let f = agrees (nat_lt v.one w.one) in
     let g = agrees (nat_lt w.one v.one) in
-    let h : (agree (nat_lt v.one w.one) (nat_lt v.one w.one) && agree (nat_lt w.one v.one) (nat_lt w.one v.one)) ≡ true = rw (f, g) refl in
+    let h : (same_bool (nat_lt v.one w.one) (nat_lt v.one w.one) && same_bool (nat_lt w.one v.one) (nat_lt w.one v.one)) ≡ true = rw (f, g) refl in
     rw (x, y) h
 
 not_mixed : (between earlier : List Margin) (m : Margin) → list_all is_even earlier ≡ true → is_even m ≡ true → is_mixed_past between earlier m ≡ false
@@ -258,7 +255,7 @@ no_fault : (es : List Entry) → listing_fault (map steps.Entry es ++ steps.End 
 no_fault [] = refl
 no_fault (e ∷ es) = no_fault es
 
-all_none : (a b c : Option Refusal) → a ≡ None → b ≡ None → c ≡ None → or_refusal a (or_refusal b c) ≡ None
+all_none : (a b c : Option Refusal) → a ≡ None → b ≡ None → c ≡ None → option_or a (option_or b c) ≡ None
 all_none (Some r) b c e f g = absurd (cc)
 all_none None (Some r) c e f g = absurd (cc)
 all_none None None c e f g = g

@@ -2,7 +2,7 @@ use Rattle.std.proofs.Common.{◌≡◌, length, refl, ap, subst, string_bytes, 
 use Rattle.std.specs.Prelude.{Ok, Err}
 use Rattle.std.specs.Str.{IsCharBoundary}
 use Rattle.std.proofs.lemmas.Str.{IsCharBoundary-at_seam}
-use Rattle.pysource.specs.declared.line_reader.Line.TheVariants as met
+use Rattle.pysource.specs.declared.line_reader.LineRead.TheVariants as met
 use Rattle.pysource.specs.Taking.{fails}
 use Rattle.pysource.proofs.Callers.Taken.{was_reading}
 use Rattle.pylex.proofs.LineByLine.Adding.{adds_none, adds_line, adds_no_line}
@@ -16,12 +16,12 @@ loop-literal-init g c = record { adds = adds_none _ c.args.lines.now _ c.require
 
 pub returns-in_default-line-clause-adds : goal.returns-in_default-line-clause-adds
 returns-in_default-line-clause-adds g c =
-    let m = c.in-Ok.ensures.moves in
+    let m = c.in-Ok.ensures.reads in
     adds_no_line _ _ _ c.args.lines.now c.loop-literal.lines c.next_line.new.self _ _ _ c.loop-literal.invariant.adds (Ok c.in-Ok.line) m (no_line c.in-Ok.line m.line c.next_line.new.self c.in_default-line.not-Text (adds_of (Ok c.in-Ok.line) m.line c.next_line.new.self m.tells)) c.in-Ok.ensures.within
 
 pub loop-literal-smaller : goal.loop-literal-smaller
 loop-literal-smaller g c =
-    let m = rw c.in-Text.is at c.in-Ok.ensures.moves in
+    let m = rw c.in-Text.is at c.in-Ok.ensures.reads in
     let some = line_some m.line m.tells.0.one in
     let count = m.reads.count in
     let sizes = m.sizes in
@@ -30,7 +30,7 @@ loop-literal-smaller g c =
 
 pub loop-literal-preserved : goal.loop-literal-preserved
 loop-literal-preserved g c =
-    let m = rw c.in-Text.is at c.in-Ok.ensures.moves in
+    let m = rw c.in-Text.is at c.in-Ok.ensures.reads in
     let size : length (string_bytes c.loop-literal.text) ≡ c.len-end.result = omega (arith, c.len-end.ensures) in
     record {
       adds = adds_line _ _ _ c.args.lines.now c.loop-literal.lines c.next_line.new.self _ _ _ c.loop-literal.invariant.adds m c.in-Ok.ensures.within;
@@ -48,7 +48,7 @@ loop-literal-preserved g c =
 
 pub returns-in_default-clause-adds : goal.returns-in_default-clause-adds
 returns-in_default-clause-adds g c =
-    let m = c.in_default.ensures.moves in
+    let m = c.in_default.ensures.reads in
     adds_no_line _ _ _ c.args.lines.now c.loop-literal.lines c.next_line.new.self _ _ _ c.loop-literal.invariant.adds (Err c.in_default.field-0) m m.tells.0 c.in_default.ensures.within
 
 pub returns-clause-joins : goal.returns-clause-joins
@@ -56,11 +56,11 @@ returns-clause-joins g c = λ at start l. joins_ended c.args.literal at c.loop-l
 
 pub returns-in_default-clause-joins : goal.returns-in_default-clause-joins
 returns-in_default-clause-joins g c = λ at start l.
-    let m = c.in_default.ensures.moves in
+    let m = c.in_default.ensures.reads in
     joins_no_line _ _ c.args.literal at c.loop-literal.from start c.loop-literal.lines c.next_line.new.self _ _ (c.loop-literal.invariant.joins at start l) (rw (← c.deref.ensures, ← c.range_from.ensures.value) (c.loop-literal-test.ensures.longer refl)) (Err c.in_default.field-0) m m.tells.0 (λ is. cc)
 
 pub returns-in_default-line-clause-joins : goal.returns-in_default-line-clause-joins
 returns-in_default-line-clause-joins g c = λ at start l.
-    let m = c.in-Ok.ensures.moves in
+    let m = c.in-Ok.ensures.reads in
     joins_no_line _ _ c.args.literal at c.loop-literal.from start c.loop-literal.lines c.next_line.new.self _ _ (c.loop-literal.invariant.joins at start l) (rw (← c.deref.ensures, ← c.range_from.ensures.value) (c.loop-literal-test.ensures.longer refl)) (Ok c.in-Ok.line) m
     (no_line c.in-Ok.line m.line c.next_line.new.self c.in_default-line.not-Text (adds_of (Ok c.in-Ok.line) m.line c.next_line.new.self m.tells)) (λ is. c.in_default-line.not-Text (let e : c.in-Ok.line ≡ met.Text = cc in e))

@@ -18,12 +18,12 @@ use Rattle.pyparse.proofs.logical_lines.read_line.Goals as goal
 pub take-requires-clause-lies : goal.take-requires-clause-lies
 take-requires-clause-lies c =
     (entry_read c.args.source.now c.loop-entry.lister c.next.new.self c.loop-entry.gather c.in_ok-entry.field-0 c.in-Entry.entry
-    c.loop-entry.invariant.at c.in_ok-entry.ensures.moves c.in-Entry.is).lies
+    c.loop-entry.invariant.at c.in_ok-entry.ensures.steps c.in-Entry.is).lies
 
 pub take-requires-clause-exact : goal.take-requires-clause-exact
 take-requires-clause-exact c =
     (entry_read c.args.source.now c.loop-entry.lister c.next.new.self c.loop-entry.gather c.in_ok-entry.field-0 c.in-Entry.entry
-    c.loop-entry.invariant.at c.in_ok-entry.ensures.moves c.in-Entry.is).exact
+    c.loop-entry.invariant.at c.in_ok-entry.ensures.steps c.in-Entry.is).exact
 
 pub returns-then-is_none-clause-line : goal.returns-then-is_none-clause-line
 returns-then-is_none-clause-line c =
@@ -31,7 +31,7 @@ returns-then-is_none-clause-line c =
     let entry = c.in-Entry.entry in
     let gains = c.in_ok-take-in-Entry.ensures.gathers in
     let read =
-    entry_read c.args.source.now c.loop-entry.lister c.next.new.self c.loop-entry.gather c.in_ok-entry.field-0 entry at c.in_ok-entry.ensures.moves
+    entry_read c.args.source.now c.loop-entry.lister c.next.new.self c.loop-entry.gather c.in_ok-entry.field-0 entry at c.in_ok-entry.ensures.steps
     c.in-Entry.is
     in
     let none : kept_refusal c.take.new.self.pass ≡ None = search rules in
@@ -45,7 +45,7 @@ pub loop-entry-smaller-then-branch : goal.loop-entry-smaller-then-branch
 loop-entry-smaller-then-branch c =
     let read =
     entry_read c.args.source.now c.loop-entry.lister c.next.new.self c.loop-entry.gather c.in_ok-entry.field-0 c.in-Entry.entry
-    c.loop-entry.invariant.at c.in_ok-entry.ensures.moves c.in-Entry.is
+    c.loop-entry.invariant.at c.in_ok-entry.ensures.steps c.in-Entry.is
     in
     omega (arith, read.count, read.within)
 
@@ -53,7 +53,7 @@ pub loop-entry-smaller : goal.loop-entry-smaller
 loop-entry-smaller c =
     let read =
     entry_read c.args.source.now c.loop-entry.lister c.next.new.self c.loop-entry.gather c.in_ok-entry.field-0 c.in-Entry.entry
-    c.loop-entry.invariant.at c.in_ok-entry.ensures.moves c.in-Entry.is
+    c.loop-entry.invariant.at c.in_ok-entry.ensures.steps c.in-Entry.is
     in
     omega (arith, read.count, read.within)
 
@@ -66,7 +66,7 @@ loop-entry-preserved-then-branch c =
     let at = c.loop-entry.invariant.at in
     let read =
     entry_read c.args.source.now c.loop-entry.lister c.next.new.self c.loop-entry.gather c.in_ok-entry.field-0 c.in-Entry.entry at
-    c.in_ok-entry.ensures.moves c.in-Entry.is
+    c.in_ok-entry.ensures.steps c.in-Entry.is
     in
     let refused : kept_refusal c.clear-then-branch.new.self.pass ≡ None → ⊥ =
     λ none.
@@ -89,7 +89,7 @@ loop-entry-preserved c =
     let entry = c.in-Entry.entry in
     let gains = c.in_ok-take-in-Entry.ensures.gathers in
     let read =
-    entry_read c.args.source.now c.loop-entry.lister c.next.new.self c.loop-entry.gather c.in_ok-entry.field-0 entry at c.in_ok-entry.ensures.moves
+    entry_read c.args.source.now c.loop-entry.lister c.next.new.self c.loop-entry.gather c.in_ok-entry.field-0 entry at c.in_ok-entry.ensures.steps
     c.in-Entry.is
     in
     let goes = sym c.in_ok-take-in-Entry.ensures.ends ∙ c.if-branch.false in
@@ -108,7 +108,7 @@ loop-entry-preserved c =
 pub returns-in-End-clause-same : goal.returns-in-End-clause-same
 returns-in-End-clause-same c =
     let s = in_characters c.args.source.now in
-    let m = moved c.loop-entry.lister c.next.new.self c.in_ok-entry.field-0 steps.End s c.loop-entry.lister.shown.given c.in_ok-entry.ensures.moves
+    let m = moved c.loop-entry.lister c.next.new.self c.in_ok-entry.field-0 steps.End s c.loop-entry.lister.shown.given c.in_ok-entry.ensures.steps
     c.in-End.is c.loop-entry.invariant.at.stands in
     IfOk-weaker c.end.result _ _
     (λ more ends _.
@@ -118,7 +118,7 @@ pub returns-in-End-clause-all : goal.returns-in-End-clause-all
 returns-in-End-clause-all c =
     let s = in_characters c.args.source.now in
     let at = c.loop-entry.invariant.at in
-    let m = moved c.loop-entry.lister c.next.new.self c.in_ok-entry.field-0 steps.End s c.loop-entry.lister.shown.given c.in_ok-entry.ensures.moves
+    let m = moved c.loop-entry.lister c.next.new.self c.in_ok-entry.field-0 steps.End s c.loop-entry.lister.shown.given c.in_ok-entry.ensures.steps
     c.in-End.is at.stands in
     let last = at_stop (listing s) c.loop-entry.lister.shown.given steps.End at.whole at.within tt m.0 in
     IfOk-weaker c.end.result _ _
@@ -130,7 +130,7 @@ returns-in-End-clause-sound c =
     let s = in_characters c.args.source.now in
     let at = c.loop-entry.invariant.at in
     let k = c.loop-entry.lister.shown.given in
-    let m = moved c.loop-entry.lister c.next.new.self c.in_ok-entry.field-0 steps.End s k c.in_ok-entry.ensures.moves c.in-End.is at.stands in
+    let m = moved c.loop-entry.lister c.next.new.self c.in_ok-entry.field-0 steps.End s k c.in_ok-entry.ensures.steps c.in-End.is at.stands in
     let last = at_stop (listing s) k steps.End at.whole at.within tt m.0 in
     let all = all_refusals s (take k (entries_of (listing s))) c.loop-entry.gather.pass at.counts.pass last.0 last.1 in
     IfOk-weaker c.end.result _ _ (λ more ends _. sym all ∙ ends.1) c.end.ensures.end
@@ -140,7 +140,7 @@ returns-in-End-clause-marker c =
     let s = in_characters c.args.source.now in
     let at = c.loop-entry.invariant.at in
     let k = c.loop-entry.lister.shown.given in
-    let m = moved c.loop-entry.lister c.next.new.self c.in_ok-entry.field-0 steps.End s k c.in_ok-entry.ensures.moves c.in-End.is at.stands in
+    let m = moved c.loop-entry.lister c.next.new.self c.in_ok-entry.field-0 steps.End s k c.in_ok-entry.ensures.steps c.in-End.is at.stands in
     let last = at_stop (listing s) k steps.End at.whole at.within tt m.0 in
     let end = ends_at s at.whole last.1 in
     let start : c.loop-entry.gather.marker ≡ end.1.start = at.counts.marker end.0 end.1 (last.0 ∙ end.2) end.3 in
@@ -152,7 +152,7 @@ returns-in-End-clause-refused c =
     let s = in_characters c.args.source.now in
     let at = c.loop-entry.invariant.at in
     let k = c.loop-entry.lister.shown.given in
-    let m = moved c.loop-entry.lister c.next.new.self c.in_ok-entry.field-0 steps.End s k c.in_ok-entry.ensures.moves c.in-End.is at.stands in
+    let m = moved c.loop-entry.lister c.next.new.self c.in_ok-entry.field-0 steps.End s k c.in_ok-entry.ensures.steps c.in-End.is at.stands in
     let last = at_stop (listing s) k steps.End at.whole at.within tt m.0 in
     let all = all_refusals s (take k (entries_of (listing s))) c.loop-entry.gather.pass at.counts.pass last.0 last.1 in
     subst (λ (r : Option Refusal). IfErr c.end.result (Tells r)) all c.end.ensures.refused
@@ -163,6 +163,6 @@ returns-in-Fault-clause-refused c =
     let at = c.loop-entry.invariant.at in
     let k = c.loop-entry.lister.shown.given in
     let fault = c.in-Fault.fault in
-    let m = moved c.loop-entry.lister c.next.new.self c.in_ok-entry.field-0 (steps.Fault fault) s k c.in_ok-entry.ensures.moves c.in-Fault.is at.stands in
+    let m = moved c.loop-entry.lister c.next.new.self c.in_ok-entry.field-0 (steps.Fault fault) s k c.in_ok-entry.ensures.steps c.in-Fault.is at.stands in
     let last = at_stop (listing s) k (steps.Fault fault) at.whole at.within tt m.0 in
     refused_listing s fault last.1

@@ -40,7 +40,7 @@ take-requires-clause-lies c =
     let s = in_characters c.args.source.now in
     let k = c.loop-gather.lister.shown.given in
     let entry = c.in-Entry.entry in
-    let m = moved c.loop-gather.lister c.next.new.self c.in_ok-entry.field-0 (steps.Entry entry) s k c.in_ok-entry.ensures.moves c.in-Entry.is
+    let m = moved c.loop-gather.lister c.next.new.self c.in_ok-entry.field-0 (steps.Entry entry) s k c.in_ok-entry.ensures.steps c.in-Entry.is
     c.loop-gather.invariant.stands in
     entry_lies c.args.source.now.text (listing s) k entry c.loop-gather.invariant.lies m.0
 
@@ -63,7 +63,7 @@ loop-gather-smaller c =
     let s = in_characters c.args.source.now in
     let k = c.loop-gather.lister.shown.given in
     let entry = c.in-Entry.entry in
-    let m = moved c.loop-gather.lister c.next.new.self c.in_ok-entry.field-0 (steps.Entry entry) s k c.in_ok-entry.ensures.moves c.in-Entry.is
+    let m = moved c.loop-gather.lister c.next.new.self c.in_ok-entry.field-0 (steps.Entry entry) s k c.in_ok-entry.ensures.steps c.in-Entry.is
     c.loop-gather.invariant.stands in
     let next = at_entry (listing s) k entry c.loop-gather.invariant.whole m.0 in
     omega (arith, m.1.count, next.0)
@@ -75,7 +75,7 @@ loop-gather-preserved c =
     let es = entries_of (listing s) in
     let text = chars c.args.source.now.text in
     let entry = c.in-Entry.entry in
-    let m = moved c.loop-gather.lister c.next.new.self c.in_ok-entry.field-0 (steps.Entry entry) s k c.in_ok-entry.ensures.moves c.in-Entry.is
+    let m = moved c.loop-gather.lister c.next.new.self c.in_ok-entry.field-0 (steps.Entry entry) s k c.in_ok-entry.ensures.steps c.in-Entry.is
     c.loop-gather.invariant.stands in
     let next = at_entry (listing s) k entry c.loop-gather.invariant.whole m.0 in
     let grown = ap (λ (n : ℕ). take n es) m.1.count ∙ next.1 in
@@ -95,7 +95,7 @@ pub returns-in-End-clause-tokens : goal.returns-in-End-clause-tokens
 returns-in-End-clause-tokens c =
     let s = in_characters c.args.source.now in
     let k = c.loop-gather.lister.shown.given in
-    let m = moved c.loop-gather.lister c.next.new.self c.in_ok-entry.field-0 steps.End s k c.in_ok-entry.ensures.moves c.in-End.is
+    let m = moved c.loop-gather.lister c.next.new.self c.in_ok-entry.field-0 steps.End s k c.in_ok-entry.ensures.steps c.in-End.is
     c.loop-gather.invariant.stands in
     let last = at_stop (listing s) k steps.End c.loop-gather.invariant.whole c.loop-gather.invariant.within tt m.0 in
     let all = all_tokens s (take k (entries_of (listing s))) c.loop-gather.gather c.loop-gather.invariant.gathered last.0 in
@@ -105,7 +105,7 @@ pub returns-in-End-clause-sound : goal.returns-in-End-clause-sound
 returns-in-End-clause-sound c =
     let s = in_characters c.args.source.now in
     let k = c.loop-gather.lister.shown.given in
-    let m = moved c.loop-gather.lister c.next.new.self c.in_ok-entry.field-0 steps.End s k c.in_ok-entry.ensures.moves c.in-End.is
+    let m = moved c.loop-gather.lister c.next.new.self c.in_ok-entry.field-0 steps.End s k c.in_ok-entry.ensures.steps c.in-End.is
     c.loop-gather.invariant.stands in
     let last = at_stop (listing s) k steps.End c.loop-gather.invariant.whole c.loop-gather.invariant.within tt m.0 in
     let all = all_refusals s (take k (entries_of (listing s))) c.loop-gather.gather.pass c.loop-gather.invariant.gathered.pass last.0 last.1 in
@@ -115,7 +115,7 @@ pub returns-in-End-clause-refused : goal.returns-in-End-clause-refused
 returns-in-End-clause-refused c =
     let s = in_characters c.args.source.now in
     let k = c.loop-gather.lister.shown.given in
-    let m = moved c.loop-gather.lister c.next.new.self c.in_ok-entry.field-0 steps.End s k c.in_ok-entry.ensures.moves c.in-End.is
+    let m = moved c.loop-gather.lister c.next.new.self c.in_ok-entry.field-0 steps.End s k c.in_ok-entry.ensures.steps c.in-End.is
     c.loop-gather.invariant.stands in
     let last = at_stop (listing s) k steps.End c.loop-gather.invariant.whole c.loop-gather.invariant.within tt m.0 in
     let all = all_refusals s (take k (entries_of (listing s))) c.loop-gather.gather.pass c.loop-gather.invariant.gathered.pass last.0 last.1 in
@@ -126,7 +126,7 @@ returns-in-Fault-clause-refused c =
     let s = in_characters c.args.source.now in
     let k = c.loop-gather.lister.shown.given in
     let fault = c.in-Fault.fault in
-    let m = moved c.loop-gather.lister c.next.new.self c.in_ok-entry.field-0 (steps.Fault fault) s k c.in_ok-entry.ensures.moves c.in-Fault.is
+    let m = moved c.loop-gather.lister c.next.new.self c.in_ok-entry.field-0 (steps.Fault fault) s k c.in_ok-entry.ensures.steps c.in-Fault.is
     c.loop-gather.invariant.stands in
     let last = at_stop (listing s) k (steps.Fault fault) c.loop-gather.invariant.whole c.loop-gather.invariant.within tt m.0 in
     refused_listing s fault last.1

@@ -8,7 +8,7 @@ use Rattle.pysource.specs.declared.buffers.Intake.{Intake}
 use Rattle.pysource.specs.declared.line_reader.Reach.TheVariants.{Reading}
 use Rattle.pysource.specs.declared.line_reader.StreamFault.{StreamFault}
 use Rattle.pysource.specs.declared.line_reader.StreamFault.TheVariants.{UnsupportedEncoding, BomConflict, Read, Memory}
-use Rattle.pysource.proofs.TakenBytes.TakingLemmas.{Grows-append, Takes-whole}
+use Rattle.pysource.proofs.TakenBytes.TakingLemmas.{Grows-append, ReadsBytes-whole}
 use Rattle.pysource.proofs.LineReading.HeadLemmas.{head_left, head_one, head_two, unread_one, unread_two}
 use Rattle.pysource.proofs.line_reader.read_head.Goals as goal
 
@@ -57,7 +57,7 @@ returns-then-not-searches_second-clause-found g c =
 
 pub returns-in_err-second-clause-takes : goal.returns-in_err-second-clause-takes
 returns-in_err-second-clause-takes g c =
-    Takes-whole c.requires.buffer c.requires.reach c.requires.count (Grows-append c.in-Reading.is c.in_ok-first.ensures.grows c.in_err-second.ensures.grows)
+    ReadsBytes-whole c.requires.buffer c.requires.reach c.requires.count (Grows-append c.in-Reading.is c.in_ok-first.ensures.grows c.in_err-second.ensures.grows)
 
 pub returns-in_err-second-clause-found : goal.returns-in_err-second-clause-found
 returns-in_err-second-clause-found g c =
@@ -69,7 +69,7 @@ returns-in_err-second-clause-found g c =
 
 pub returns-clause-takes : goal.returns-clause-takes
 returns-clause-takes g c =
-    Takes-whole c.requires.buffer c.requires.reach c.requires.count (Grows-append c.in-Reading.is c.in_ok-first.ensures.grows c.in_ok-second.ensures.grows)
+    ReadsBytes-whole c.requires.buffer c.requires.reach c.requires.count (Grows-append c.in-Reading.is c.in_ok-first.ensures.grows c.in_ok-second.ensures.grows)
 
 pub returns-clause-found : goal.returns-clause-found
 returns-clause-found g c =

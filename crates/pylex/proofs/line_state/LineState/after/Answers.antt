@@ -9,18 +9,18 @@ pub returns-clause-after : goal.returns-clause-after
 returns-clause-after c =
     let x : Lexeme = record { «class» = c.args.class; text = chars c.args.text.now } in
     is_after c.args.self x _ c.requires.settled (record {
-      now = place_offset _ _ _ _ c.walk_lexeme-front.ensures.place c.requires.counted;
+      now = place_offset _ _ _ _ c.walk_lexeme-lead.ensures.place c.requires.counted;
       line = c.line_after.ensures;
       depth = c.depth_after.ensures;
       margin = c.margin_after.ensures;
       width = c.width_past.ensures.value;
       logical = c.logical_after.ensures;
       joined = c.is_join.ensures;
-      front = c.walk_lexeme-front.ensures.front;
+      lead = c.walk_lexeme-lead.ensures.lead;
     })
 
 pub returns-clause-now : goal.returns-clause-now
-returns-clause-now c = place_offset _ _ _ _ c.walk_lexeme-front.ensures.place c.requires.counted
+returns-clause-now c = place_offset _ _ _ _ c.walk_lexeme-lead.ensures.place c.requires.counted
 
 pub returns-clause-room : goal.returns-clause-room
 returns-clause-room c n room =
@@ -29,12 +29,12 @@ returns-clause-room c n room =
     let counted = c.requires.counted in
     let fits : length (chars c.args.text.now) ≤ length c.args.text.now = omega arith in
     more_room c.args.self x _ (length c.args.text.now) n (record {
-      now = place_offset _ _ _ _ c.walk_lexeme-front.ensures.place c.requires.counted;
+      now = place_offset _ _ _ _ c.walk_lexeme-lead.ensures.place c.requires.counted;
       line = c.line_after.ensures;
       depth = c.depth_after.ensures;
       margin = c.margin_after.ensures;
       width = c.width_past.ensures.value;
       logical = c.logical_after.ensures;
       joined = c.is_join.ensures;
-      front = c.walk_lexeme-front.ensures.front;
+      lead = c.walk_lexeme-lead.ensures.lead;
     }) refl fits c.width_past.ensures.bound c.requires.some room

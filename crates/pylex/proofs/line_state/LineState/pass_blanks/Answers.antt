@@ -14,5 +14,5 @@ returns c =
       width = rw m refl;
       logical = refl;
       joined = refl;
-      front = sym (c.requires.told.1 p.front);
+      lead = sym (c.requires.told.1 p.lead);
     })

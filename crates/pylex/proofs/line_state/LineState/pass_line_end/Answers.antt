@@ -15,7 +15,7 @@ returns-clause-passed c =
       width = refl;
       logical = c.logical_after-self.ensures;
       joined = refl;
-      front = sym (c.requires.told.1 p.front);
+      lead = sym (c.requires.told.1 p.lead);
     })
 
 pub returns-clause-entry : goal.returns-clause-entry

@@ -16,7 +16,7 @@ returns-clause-passed c =
       width = refl;
       logical = refl;
       joined = refl;
-      front = c.begun-self.ensures ∙ sym (c.requires.told.1 p.front);
+      lead = c.begun-self.ensures ∙ sym (c.requires.told.1 p.lead);
     })
 
 pub returns-clause-entry : goal.returns-clause-entry

@@ -10,15 +10,15 @@ returns-clause-passed c =
     let m = c.requires.behind in
     let t = text_after c.args.class c.requires.class in
     is_after p _ _ (rw m refl) (record {
-      now = place_offset _ _ _ _ c.walk-front.ensures.place c.requires.counted;
+      now = place_offset _ _ _ _ c.walk-lead.ensures.place c.requires.counted;
       line = rw t.end refl;
       depth = rw (t.opener, t.closer) (omega arith);
       margin = rw (t.end, t.blanks) m;
       width = rw t.blanks refl;
       logical = c.logical_after-self.ensures;
       joined = sym t.joined;
-      front = c.walk-front.ensures.front;
+      lead = c.walk-lead.ensures.lead;
     })
 
 pub returns-clause-entry : goal.returns-clause-entry
-returns-clause-entry c levels = text_given c.args.self.now c.args.class (chars c.args.text.now) levels _ _ c.entry_of.result c.requires.class c.text_kind.ensures (place_offset _ _ _ _ c.walk-front.ensures.place c.requires.counted) c.entry_of.ensures
+returns-clause-entry c levels = text_given c.args.self.now c.args.class (chars c.args.text.now) levels _ _ c.entry_of.result c.requires.class c.text_kind.ensures (place_offset _ _ _ _ c.walk-lead.ensures.place c.requires.counted) c.entry_of.ensures

@@ -31,8 +31,8 @@ invariant_of-self c =
     let p = c.self.inside.machine in
     rw c.begin.ensures.given (goes_first (record { source = c.self.inside.source.now; shown = shown_from p }) p.now c.self.inside.left.now p.levels.items p.nested p.tail c.begin.result c.self.invariant (c.is_at_start.ensures.start c.if-is_at_start.true) c.begin.ensures.entry).keeps
 
-pub returns-then-is_at_start-clause-moves : goal.returns-then-is_at_start-clause-moves
-returns-then-is_at_start-clause-moves c =
+pub returns-then-is_at_start-clause-steps : goal.returns-then-is_at_start-clause-steps
+returns-then-is_at_start-clause-steps c =
     let p = c.self.inside.machine in
     rw c.begin.ensures.given (moves_from _ _ _ _ c.self.view_is (goes_first (record { source = c.self.inside.source.now; shown = shown_from p }) p.now c.self.inside.left.now p.levels.items p.nested p.tail c.begin.result c.self.invariant (c.is_at_start.ensures.start c.if-is_at_start.true) c.begin.ensures.entry).leads)
 
@@ -42,14 +42,14 @@ step_on-requires-clause-place c = has_place c.self.inside.source.now c.self.insi
 pub invariant_of-self-in-Some : goal.invariant_of-self-in-Some
 invariant_of-self-in-Some c = (entry_passed c.self.inside.source.now c.self.inside.machine c.step_on.new.self c.self.inside.left.now c.in-Some.left.now c.in-Some.entry c.self.invariant c.in-Some.ensures.some).1
 
-pub returns-in-Some-clause-moves : goal.returns-in-Some-clause-moves
-returns-in-Some-clause-moves c = seen _ _ _ _ c.self.view_is (entry_passed c.self.inside.source.now c.self.inside.machine c.step_on.new.self c.self.inside.left.now c.in-Some.left.now c.in-Some.entry c.self.invariant c.in-Some.ensures.some).0
+pub returns-in-Some-clause-steps : goal.returns-in-Some-clause-steps
+returns-in-Some-clause-steps c = seen _ _ _ _ c.self.view_is (entry_passed c.self.inside.source.now c.self.inside.machine c.step_on.new.self c.self.inside.left.now c.in-Some.left.now c.in-Some.entry c.self.invariant c.in-Some.ensures.some).0
 
 pub returns-in-Some-clause-given : goal.returns-in-Some-clause-given
 returns-in-Some-clause-given c =
     (has_place c.self.inside.source.now c.step_on.new.self c.in-Some.left.now (entry_passed c.self.inside.source.now c.self.inside.machine c.step_on.new.self c.self.inside.left.now c.in-Some.left.now c.in-Some.entry c.self.invariant c.in-Some.ensures.some).1).given
 
-pub returns-clause-moves : goal.returns-clause-moves
-returns-clause-moves c =
+pub returns-clause-steps : goal.returns-clause-steps
+returns-clause-steps c =
     let same = ap (listed c.self.inside.source.now) (c.in_default.ensures.none refl) ∙ c.self.view_is in
-    IfOk-weaker c.next_met.result _ _ (λ step m. seen _ _ _ _ same m) c.next_met.ensures.moves
+    IfOk-weaker c.next_met.result _ _ (λ step m. seen _ _ _ _ same m) c.next_met.ensures.steps

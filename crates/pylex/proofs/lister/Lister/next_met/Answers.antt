@@ -66,8 +66,8 @@ invariant_of-self-in_default c =
     let g = c.in_ok-step.ensures.went.goes c.self.inside.source.now c.self.inside.left.now c.peek-peeked.result.2.now c.self.invariant c.peek-peeked.ensures.finds c.peek-peeked.ensures.stands (alike c.self.inside.source.now.fault c.line_fault-fault.result c.peek-peeked.result.1 (chars c.peek-peeked.result.2.now) c.peek-peeked.result.0 c.line_fault-fault.ensures) in
     subst (Holds c.self.inside.source.now c.advance.new.self) (left_same c.in_ok-step.step c.self.inside.left.now c.peek-peeked.result.2.now c.in_default.not-Entry) g.1
 
-pub returns-in-Entry-clause-moves : goal.returns-in-Entry-clause-moves
-returns-in-Entry-clause-moves c =
+pub returns-in-Entry-clause-steps : goal.returns-in-Entry-clause-steps
+returns-in-Entry-clause-steps c =
     let g = c.in_ok-step.ensures.went.goes c.self.inside.source.now c.self.inside.left.now c.peek-peeked.result.2.now c.self.invariant c.peek-peeked.ensures.finds c.peek-peeked.ensures.stands (alike c.self.inside.source.now.fault c.line_fault-fault.result c.peek-peeked.result.1 (chars c.peek-peeked.result.2.now) c.peek-peeked.result.0 c.line_fault-fault.ensures) in
     seen _ _ _ _ c.self.view_is g.0
 
@@ -85,4 +85,4 @@ returns-in_err-step-clause-given c =
 pub returns-in_default : goal.returns-in_default
 returns-in_default c =
     let g = c.in_ok-step.ensures.went.goes c.self.inside.source.now c.self.inside.left.now c.peek-peeked.result.2.now c.self.invariant c.peek-peeked.ensures.finds c.peek-peeked.ensures.stands (alike c.self.inside.source.now.fault c.line_fault-fault.result c.peek-peeked.result.1 (chars c.peek-peeked.result.2.now) c.peek-peeked.result.0 c.line_fault-fault.ensures) in
-    record { moves = seen _ _ _ _ c.self.view_is g.0; source = ap (λ (l : Listed). l.source) c.self.view_is; same = tt; indent = tt; given = (has_place c.self.inside.source.now c.advance.new.self _ g.1).given }
+    record { steps = seen _ _ _ _ c.self.view_is g.0; source = ap (λ (l : Listed). l.source) c.self.view_is; same = tt; indent = tt; given = (has_place c.self.inside.source.now c.advance.new.self _ g.1).given }

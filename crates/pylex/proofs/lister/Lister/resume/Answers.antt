@@ -14,7 +14,7 @@ loop-given-preserved c = record {
   source = c.in_ok-next.ensures.source ∙ c.loop-given.invariant.source;
   stands = λ a is agrees.
       goes_back_on c.args.cursor.now c.args.source.now c.next.new.self a c.in_ok-next.field-0 c.loop-given._given (omega (arith, c.loop-given-test.true, c.skip-given-end.ensures)) is agrees
-      (c.in_ok-next.ensures.moves a ((c.args.cursor.now.given - c.args.cursor.now.skip) + c.loop-given._given) (c.loop-given.invariant.stands a is agrees));
+      (c.in_ok-next.ensures.steps a ((c.args.cursor.now.given - c.args.cursor.now.skip) + c.loop-given._given) (c.loop-given.invariant.stands a is agrees));
 }
 
 pub returns : goal.returns

@@ -10,7 +10,7 @@ use Rattle.pylex.proofs.Callers.{is_behind}
 pub returns-in_default-step : goal.returns-in_default-step
 returns-in_default-step c =
     let a = in_characters c.args.source.now in
-    let moved = c.in-Ok.ensures.moves a c.loop-given._given c.loop-given.invariant.stands in
+    let moved = c.in-Ok.ensures.steps a c.loop-given._given c.loop-given.invariant.stands in
     record {
       lister = tt;
       own = tt;
@@ -23,7 +23,7 @@ pub loop-given-preserved : goal.loop-given-preserved
 loop-given-preserved c =
     let a = in_characters c.args.source.now in
     let one : entries_in c.in-Ok.step ≡ 1 = ap entries_in c.in-Entry.is in
-    let moved = c.in-Ok.ensures.moves a c.loop-given._given c.loop-given.invariant.stands in
+    let moved = c.in-Ok.ensures.steps a c.loop-given._given c.loop-given.invariant.stands in
     record {
       stands = subst (λ (n : ℕ). StandsIn c.next.new.self a (c.loop-given._given + n)) one moved.1;
       source = search rules;

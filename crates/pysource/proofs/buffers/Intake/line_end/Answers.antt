@@ -3,7 +3,7 @@ use Rattle.std.proofs.lemmas.List.{take_rest}
 use Rattle.std.proofs.lemmas.Result.{err_from_is_err_and}
 use Rattle.pysource.specs.Taking.{NoLfFrom}
 use Rattle.pysource.proofs.FaultyLines.ReturnsLemmas.{found_behind, none_behind}
-use Rattle.pysource.proofs.TakenBytes.TakingLemmas.{Takes-none, Grows-append, kept_or_full, clean_on, clean_under}
+use Rattle.pysource.proofs.TakenBytes.TakingLemmas.{ReadsBytes-none, Grows-append, kept_or_full, clean_on, clean_under}
 use Rattle.pysource.proofs.buffers.Intake.line_end.Goals as goal
 
 pub returns-in-Some-clause-found : goal.returns-in-Some-clause-found
@@ -66,7 +66,7 @@ returns-in_default-reach-clause-found g c =
 pub loop-at-init : goal.loop-at-init
 loop-at-init g c = record {
   within = c.requires.within;
-  grows = record { taken = []; takes = Takes-none _ _ _; bytes = sym (append-nil _) };
+  grows = record { taken = []; takes = ReadsBytes-none _ _ _; bytes = sym (append-nil _) };
   low = omega arith;
   high = c.requires.start;
   clean = λ k a b. absurd (omega arith);

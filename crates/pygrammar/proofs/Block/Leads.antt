@@ -20,20 +20,20 @@ still-append (x ∷ xs) [] f = refl
 still-append (x ∷ xs) (y ∷ ys) f = refl
 
 -- from a level with these statements and this group the lines lead to those
-pub record Goes (l : ℕ) (xs : List Line) (d : List Stmt) (g : Group) (d' : List Stmt) (g' : Group) : Type 0 where
+pub record Leads (l : ℕ) (xs : List Line) (d : List Stmt) (g : Group) (d' : List Stmt) (g' : Group) : Type 0 where
   pub go : (s : State) (f : Bool) (below : List Waiting) → length below ≡ l → settle l s ≡ Fine (state d g f below) →
       then (run xs s) (settle l) ≡ Fine (state d' g' (still xs f) below)
 
-goes_none : (l : ℕ) (d : List Stmt) (g : Group) → Goes l [] d g d g
-goes_none l d g = record { go = λ s f below n h. h }
+leads_none : (l : ℕ) (d : List Stmt) (g : Group) → Leads l [] d g d g
+leads_none l d g = record { go = λ s f below n h. h }
 
-go_on : (l : ℕ) (ys : List Line) (d1 d2 : List Stmt) (g1 g2 : Group) → Goes l ys d1 g1 d2 g2 → (f : Bool) (below : List Waiting) → length below ≡ l →
+go_on : (l : ℕ) (ys : List Line) (d1 d2 : List Stmt) (g1 g2 : Group) → Leads l ys d1 g1 d2 g2 → (f : Bool) (below : List Waiting) → length below ≡ l →
     (a : Answer State) → then a (settle l) ≡ Fine (state d1 g1 f below) → then a (λ t. then (run ys t) (settle l)) ≡ Fine (state d2 g2 (still ys f) below)
 go_on l ys d1 d2 g1 g2 q f below n (Fine t) h = q.go t f below n h
 go_on l ys d1 d2 g1 g2 q f below n (Faulty e) h = cc
 
-goes-append : {l : ℕ} {xs ys : List Line} {d d1 d2 : List Stmt} {g g1 g2 : Group} → Goes l xs d g d1 g1 → Goes l ys d1 g1 d2 g2 → Goes l (xs ++ ys) d g d2 g2
-goes-append {l} {xs} {ys} {d} {d1} {d2} {g} {g1} {g2} p q = record {
+leads-append : {l : ℕ} {xs ys : List Line} {d d1 d2 : List Stmt} {g g1 g2 : Group} → Leads l xs d g d1 g1 → Leads l ys d1 g1 d2 g2 → Leads l (xs ++ ys) d g d2 g2
+leads-append {l} {xs} {ys} {d} {d1} {d2} {g} {g1} {g2} p q = record {
   go = λ s f below n h.
       ap (λ a. then a (settle l)) (run-append xs ys s)
       ∙ then_then (run xs s) (run ys) (settle l)
@@ -41,12 +41,12 @@ goes-append {l} {xs} {ys} {d} {d1} {d2} {g} {g1} {g2} p q = record {
       ∙ ap (λ b. Fine (state d2 g2 b below)) (sym (still-append xs ys f));
 }
 
-goes_to : {l : ℕ} {xs : List Line} {d d1 d2 : List Stmt} {g g1 g2 : Group} → d1 ≡ d2 → g1 ≡ g2 → Goes l xs d g d1 g1 → Goes l xs d g d2 g2
-goes_to {l} {xs} {d} {d1} {d2} {g} {g1} {g2} e k p = subst (λ z. Goes l xs d g d2 z) k (subst (λ z. Goes l xs d g z g1) e p)
+leads_to : {l : ℕ} {xs : List Line} {d d1 d2 : List Stmt} {g g1 g2 : Group} → d1 ≡ d2 → g1 ≡ g2 → Leads l xs d g d1 g1 → Leads l xs d g d2 g2
+leads_to {l} {xs} {d} {d1} {d2} {g} {g1} {g2} e k p = subst (λ z. Leads l xs d g d2 z) k (subst (λ z. Leads l xs d g z g1) e p)
 
 -- one line that opens no block
 one_line : (l : ℕ) (f : Form) (d d' : List Stmt) (g g' : Group) → ((b : Bool) (below : List Waiting) → place (state d g b below) f ≡ Fine (state d' g' false below)) →
-    Goes l (line l f ∷ []) d g d' g'
+    Leads l (line l f ∷ []) d g d' g'
 one_line l f d d' g g' e = record {
   go = λ s b below n h.
       ap (λ a. then (then a (run [])) (settle l)) (step_here s l f (state d g b below) n h ∙ e b below)
@@ -60,17 +60,17 @@ pub record Closing (l : ℕ) (xs : List Line) (d : List Stmt) (g : Group) (whole
   pub last : List Stmt
   pub closed : closes group ≡ Some last
   pub is : done ++ last ≡ whole
-  pub goes : Goes l xs d g done group
+  pub leads : Leads l xs d g done group
 
-closing-append : {l : ℕ} {xs ys : List Line} {d d1 : List Stmt} {g g1 : Group} {whole : List Stmt} → Goes l xs d g d1 g1 → Closing l ys d1 g1 whole → Closing l (xs ++ ys) d g whole
-closing-append p c = record { done = c.done; group = c.group; last = c.last; closed = c.closed; is = c.is; goes = goes-append p c.goes }
+closing-append : {l : ℕ} {xs ys : List Line} {d d1 : List Stmt} {g g1 : Group} {whole : List Stmt} → Leads l xs d g d1 g1 → Closing l ys d1 g1 whole → Closing l (xs ++ ys) d g whole
+closing-append p c = record { done = c.done; group = c.group; last = c.last; closed = c.closed; is = c.is; leads = leads-append p c.leads }
 
 closing_to : {l : ℕ} {xs : List Line} {d : List Stmt} {g : Group} {v w : List Stmt} → v ≡ w → Closing l xs d g v → Closing l xs d g w
-closing_to e c = record { done = c.done; group = c.group; last = c.last; closed = c.closed; is = c.is ∙ e; goes = c.goes }
+closing_to e c = record { done = c.done; group = c.group; last = c.last; closed = c.closed; is = c.is ∙ e; leads = c.leads }
 
 -- lines after which no group is open
-closing_whole : {l : ℕ} {xs : List Line} {d d' : List Stmt} {g : Group} → Goes l xs d g d' Idle → Closing l xs d g d'
-closing_whole {l} {xs} {d} {d'} p = record { done = d'; group = Idle; last = []; closed = refl; is = append-nil d'; goes = p }
+closing_whole : {l : ℕ} {xs : List Line} {d d' : List Stmt} {g : Group} → Leads l xs d g d' Idle → Closing l xs d g d'
+closing_whole {l} {xs} {d} {d'} p = record { done = d'; group = Idle; last = []; closed = refl; is = append-nil d'; leads = p }
 
 -- what has to be shown of a block's and a statement's lines
 abbrev pub Gives : ℕ → List Line → List Stmt → Type 0
@@ -79,7 +79,7 @@ Gives l xs ss = (d : List Stmt) (g : Group) (more : List Stmt) → closes g ≡ 
 -- a header with its block
 abbrev pub GivesBody : ℕ → Option (List Stmt) → List Line → List Stmt → Type 0
 GivesBody l suite xs body = (d : List Stmt) (g : Group) (h : Header) (p : Part) → meets g h ≡ Some p →
-    Goes l (line l (header_form h suite) ∷ xs) d g (joined (d ++ p.done) p.group h body).done (joined (d ++ p.done) p.group h body).group
+    Leads l (line l (header_form h suite) ∷ xs) d g (joined (d ++ p.done) p.group h body).done (joined (d ++ p.done) p.group h body).group
 
 body_inline : (l : ℕ) (ss : List Stmt) → GivesBody l (Some ss) [] ss
 body_inline l ss d g h p e =
@@ -101,7 +101,7 @@ body_indented l x xs ss ih d g h p e =
           let w : Waiting = waiting (d ++ p.done) p.group h in
           ap (λ a. then (then a (run (x ∷ xs))) (settle l)) (step_here s l (header_form h None) (state d g f below) n k ∙ ap (λ o. or_misplaced o (place_header (state d g f below) h None)) e)
           ∙ after_block l c.done ss c.group c.last w below c.closed c.is n (run (x ∷ xs) (state [] Idle true (w ∷ below)))
-          (c.goes.go (state [] Idle true (w ∷ below)) true (w ∷ below) (ap suc n) (settle_here (suc l) [] Idle true (w ∷ below) (omega (arith, n))));
+          (c.leads.go (state [] Idle true (w ∷ below)) true (w ∷ below) (ap suc n) (settle_here (suc l) [] Idle true (w ∷ below) (omega (arith, n))));
     }
 
 -- groups that a new statement ends
@@ -139,10 +139,10 @@ last_clause : {l : ℕ} {suite : Option (List Stmt)} {xs : List Line} {body : Li
     GivesBody l suite xs body → meets g h ≡ Some (part [] g) → grows g h body ≡ part (whole body) Idle →
     Closing l (line l (header_form h suite) ∷ xs) d g (d ++ whole body)
 last_clause {l} {suite} {xs} {body} h whole d g b m e =
-    closing_whole (goes_to (ap (λ p. (d ++ []) ++ p.done) e ∙ ap (λ z. z ++ whole body) (append-nil d)) (ap (λ p. p.group) e) (b d g h (part [] g) m))
+    closing_whole (leads_to (ap (λ p. (d ++ []) ++ p.done) e ∙ ap (λ z. z ++ whole body) (append-nil d)) (ap (λ p. p.group) e) (b d g h (part [] g) m))
 
 no_clause : (l : ℕ) (whole : List Stmt → List Stmt) (d : List Stmt) (g : Group) → closes g ≡ Some (whole []) → Closing l [] d g (d ++ whole [])
-no_clause l whole d g e = record { done = d; group = g; last = whole []; closed = e; is = refl; goes = goes_none l d g }
+no_clause l whole d g e = record { done = d; group = g; last = whole []; closed = e; is = refl; leads = leads_none l d g }
 
 -- what has to be shown of the clauses
 abbrev pub GivesLast : ℕ → Header → List Line → List Stmt → Type 0
@@ -153,12 +153,12 @@ abbrev pub GivesAlternative : ℕ → List Line → List Stmt → Type 0
 GivesAlternative l xs orelse = (d : List Stmt) (arms : List Arm) → Closing l xs d (Choice arms) (d ++ choice arms orelse)
 
 abbrev pub GivesExcepts : ℕ → Bool → List Line → List Handler → Type 0
-GivesExcepts l star xs hs = (d body : List Stmt) (first : List Handler) → Goes l xs d (Caught star body first) d (Caught star body (first ++ hs))
+GivesExcepts l star xs hs = (d body : List Stmt) (first : List Handler) → Leads l xs d (Caught star body first) d (Caught star body (first ++ hs))
 
 -- after the `except`s and perhaps an `else`
 pub record Last (l : ℕ) (xs : List Line) (star : Bool) (body : List Stmt) (hs : List Handler) (orelse : List Stmt) (d : List Stmt) : Type 0 where
   pub group : Group
-  pub goes : Goes l xs d (Caught star body hs) d group
+  pub leads : Leads l xs d (Caught star body hs) d group
   pub closed : closes group ≡ Some (try_of star body hs orelse [] ∷ [])
   pub meeting : meets group finally_header ≡ Some (part [] group)
   pub growing : (b : List Stmt) → grows group finally_header b ≡ part (try_of star body hs orelse b ∷ []) Idle
@@ -169,7 +169,7 @@ GivesElse l xs orelse = GivesLast l else_header xs orelse × ((star : Bool) (bod
 no_else_gives : (l : ℕ) → GivesElse l [] []
 no_else_gives l = (
   λ whole d g c m e. no_clause l whole d g c,
-  λ star body hs d. record { group = Caught star body hs; goes = goes_none l d (Caught star body hs); closed = refl; meeting = refl; growing = λ b. refl },
+  λ star body hs d. record { group = Caught star body hs; leads = leads_none l d (Caught star body hs); closed = refl; meeting = refl; growing = λ b. refl },
 )
 
 else_gives : (l : ℕ) (suite : Option (List Stmt)) (xs : List Line) (orelse : List Stmt) → GivesBody l suite xs orelse → GivesElse l (line l (header_form else_header suite) ∷ xs) orelse
@@ -177,7 +177,7 @@ else_gives l suite xs orelse b = (
   λ whole d g c m e. last_clause else_header whole d g b m (e orelse),
   λ star body hs d. record {
     group = Settled star body hs orelse;
-    goes = goes_to (append-nil (d ++ []) ∙ append-nil d) refl (b d (Caught star body hs) else_header (part [] (Caught star body hs)) refl);
+    leads = leads_to (append-nil (d ++ []) ∙ append-nil d) refl (b d (Caught star body hs) else_header (part [] (Caught star body hs)) refl);
     closed = refl;
     meeting = refl;
     growing = λ b. refl;
@@ -185,11 +185,11 @@ else_gives l suite xs orelse b = (
 )
 
 -- decorators behind decorators
-marked_goes : {l : ℕ} {ds : List Line} {es : List Expr} → Decorators l ds es → (d : List Stmt) (first : List Expr) → Goes l ds d (Marked first) d (Marked (first ++ es))
-marked_goes {l} no_decorator d first = goes_to refl (ap Marked (sym (append-nil first))) (goes_none l d (Marked first))
+marked_goes : {l : ℕ} {ds : List Line} {es : List Expr} → Decorators l ds es → (d : List Stmt) (first : List Expr) → Leads l ds d (Marked first) d (Marked (first ++ es))
+marked_goes {l} no_decorator d first = leads_to refl (ap Marked (sym (append-nil first))) (leads_none l d (Marked first))
 marked_goes {l} (decorator {e = e} {xs = xs} {es = es} p) d first =
-    goes_to refl (ap Marked (append_assoc first (e ∷ []) es))
-    (goes-append (one_line l (decorator_form e) d d (Marked first) (Marked (first ++ e ∷ [])) (λ b below. ap (λ z. Fine (state z (Marked (first ++ e ∷ [])) false below)) (append-nil d)))
+    leads_to refl (ap Marked (append_assoc first (e ∷ []) es))
+    (leads-append (one_line l (decorator_form e) d d (Marked first) (Marked (first ++ e ∷ [])) (λ b below. ap (λ z. Fine (state z (Marked (first ++ e ∷ [])) false below)) (append-nil d)))
     (marked_goes p d (first ++ e ∷ [])))
 
 definition_gives : {l : ℕ} (head : DefHead) {suite : Option (List Stmt)} {ds xs : List Line} {es : List Expr} {body : List Stmt} →
@@ -197,10 +197,10 @@ definition_gives : {l : ℕ} (head : DefHead) {suite : Option (List Stmt)} {ds x
 definition_gives head {body = body} no_decorator b d g more c =
     closing_whole (b d g (def_header head) (part more Idle) (ends_def g head more c))
 definition_gives {l} head {body = body} (decorator {e = e} {xs = ds} {es = es} p) b d g more c =
-    closing_whole (goes-append
-    (goes-append (one_line l (decorator_form e) d (d ++ more) g (Marked (e ∷ [])) (λ f below. ap (λ o. or_misplaced o (λ p. state (d ++ p.done) p.group false below)) (ends_marked g e more c)))
+    closing_whole (leads-append
+    (leads-append (one_line l (decorator_form e) d (d ++ more) g (Marked (e ∷ [])) (λ f below. ap (λ o. or_misplaced o (λ p. state (d ++ p.done) p.group false below)) (ends_marked g e more c)))
     (marked_goes p (d ++ more) (e ∷ [])))
-    (goes_to (ap (λ z. z ++ (definition (e ∷ es) head body ∷ [])) (append-nil (d ++ more))) refl
+    (leads_to (ap (λ z. z ++ (definition (e ∷ es) head body ∷ [])) (append-nil (d ++ more))) refl
     (b (d ++ more) (Marked (e ∷ es)) (def_header head) (part [] (Marked (e ∷ es))) refl)))
 
 pub no_gap : (d x : List Stmt) → (d ++ []) ++ x ≡ d ++ x
@@ -218,10 +218,10 @@ same_fine a b e = cc
 
 mutual
   pub block_gives : {l : ℕ} {xs : List Line} {ss : List Stmt} → Block l xs ss → Gives l xs ss
-  block_gives {l} nothing d g more c = record { done = d; group = g; last = more; closed = c; is = sym (append-nil (d ++ more)); goes = goes_none l d g }
+  block_gives {l} nothing d g more c = record { done = d; group = g; last = more; closed = c; is = sym (append-nil (d ++ more)); leads = leads_none l d g }
   block_gives {l} (and_then {ss = ss} {more = rest} p q) d g more c =
       let a = statement_gives p d g more c in
-      closing_to (ap (λ z. z ++ rest) a.is ∙ append_assoc (d ++ more) ss rest) (closing-append a.goes (block_gives q a.done a.group a.last a.closed))
+      closing_to (ap (λ z. z ++ rest) a.is ∙ append_assoc (d ++ more) ss rest) (closing-append a.leads (block_gives q a.done a.group a.last a.closed))
 
   pub statement_gives : {l : ℕ} {xs : List Line} {ss : List Stmt} → Statement l xs ss → Gives l xs ss
   statement_gives {l} (simple_line {ss = ss}) d g more c =
@@ -244,10 +244,10 @@ mutual
       let k = (else_clause_gives o).1 star body (handler m n first ∷ hs) z in
       closing_to (no_gap (d ++ more) (try_of star body (handler m n first ∷ hs) orelse final ∷ []))
       (closing-append (body_gives p d g try_header (part more Idle) (ends g more c))
-      (closing-append (goes-append
-      (goes_to (append-nil (z ++ []) ∙ append-nil z) refl (body_gives r z (Trial body) (except_header star m n) (part [] (Trial body)) refl))
+      (closing-append (leads-append
+      (leads_to (append-nil (z ++ []) ∙ append-nil z) refl (body_gives r z (Trial body) (except_header star m n) (part [] (Trial body)) refl))
       (excepts_gives q z body (handler m n first ∷ [])))
-      (closing-append k.goes
+      (closing-append k.leads
       (ending_gives e (λ f. try_of star body (handler m n first ∷ hs) orelse f ∷ []) z k.group k.closed k.meeting k.growing))))
   statement_gives {l} (definition_of head p q) d g more c = definition_gives head p (body_gives q) d g more c
 
@@ -260,7 +260,7 @@ mutual
   alternative_gives {l} (an_elif {test = test} {body = body} {orelse = orelse} p q) d arms =
       closing_to (ap (λ z. d ++ z) (choice-append arms (arm test body) orelse))
       (closing-append
-      (goes_to (append-nil (d ++ []) ∙ append-nil d) refl (body_gives p d (Choice arms) (elif_header test) (part [] (Choice arms)) refl))
+      (leads_to (append-nil (d ++ []) ∙ append-nil d) refl (body_gives p d (Choice arms) (elif_header test) (part [] (Choice arms)) refl))
       (alternative_gives q d (arms ++ arm test body ∷ [])))
 
   pub else_clause_gives : {l : ℕ} {xs : List Line} {ss : List Stmt} → Otherwise l xs ss → GivesElse l xs ss
@@ -268,11 +268,11 @@ mutual
   else_clause_gives {l} (else_clause {suite = suite} {xs = xs} {body = body} p) = else_gives l suite xs body (body_gives p)
 
   pub excepts_gives : {l : ℕ} {star : Bool} {xs : List Line} {hs : List Handler} → Excepts l star xs hs → GivesExcepts l star xs hs
-  excepts_gives {l} {star} no_except d body first = goes_to refl (ap (Caught star body) (sym (append-nil first))) (goes_none l d (Caught star body first))
+  excepts_gives {l} {star} no_except d body first = leads_to refl (ap (Caught star body) (sym (append-nil first))) (leads_none l d (Caught star body first))
   excepts_gives {l} {star} (except_clause {matched = m} {name = n} {body = b} {hs = hs} p q) d body first =
-      goes_to refl (ap (Caught star body) (append_assoc first (handler m n b ∷ []) hs))
-      (goes-append
-      (goes_to (append-nil (d ++ []) ∙ append-nil d) refl
+      leads_to refl (ap (Caught star body) (append_assoc first (handler m n b ∷ []) hs))
+      (leads-append
+      (leads_to (append-nil (d ++ []) ∙ append-nil d) refl
       (body_gives p d (Caught star body first) (except_header star m n) (part [] (Caught star body first))
       (ap (λ b. cond b (Some (part [] (Caught star body first))) None) (same_self star))))
       (excepts_gives q d body (first ++ handler m n b ∷ [])))
@@ -285,7 +285,7 @@ mutual
 pub read_block : {xs : List Line} {ss : List Stmt} → Block 0 xs ss → read xs ≡ Fine ss
 read_block {xs} {ss} p =
     let c = block_gives p [] Idle [] refl in
-    let h : then (run xs start) (settle 0) ≡ Fine (state c.done c.group (still xs false) []) = c.goes.go start false [] refl refl in
+    let h : then (run xs start) (settle 0) ≡ Fine (state c.done c.group (still xs false) []) = c.leads.go start false [] refl refl in
     finishes (run xs start) c.done c.group (still xs false) c.last ss h c.closed c.is
 
 pub one_tree : {xs : List Line} {a b : List Stmt} → Block 0 xs a → Block 0 xs b → a ≡ b

@@ -2,13 +2,13 @@ use Rattle.std.proofs.Common.{◌≡◌}
 use Rattle.std.specs.Str.{chars, IsUtf8}
 use Rattle.std.specs.Str.Iter.{chars_rest}
 use Rattle.pylex.specs.declared.leading_char.LeadingChar.TheVariants.{Nothing}
-use Rattle.pylex.specs.Machine.{front_after}
+use Rattle.pylex.specs.Machine.{lead_after}
 use Rattle.pylex.proofs.Texts.Plain.{AllInLine}
-use Rattle.pylex.proofs.leading_char.front_of_plain.Given as goal
+use Rattle.pylex.proofs.leading_char.lead_of_plain.Given as goal
 
 abbrev pub invariant-loop-c : goal.invariant-loop-c
 invariant-loop-c l = record {
-  begins : front_after Nothing (chars (chars_rest l.c-iterator)) ≡ front_after Nothing (chars l.fn.text);
+  begins : lead_after Nothing (chars (chars_rest l.c-iterator)) ≡ lead_after Nothing (chars l.fn.text);
   utf8 : IsUtf8 (chars_rest l.c-iterator);
   in_line : AllInLine (chars (chars_rest l.c-iterator));
 }
