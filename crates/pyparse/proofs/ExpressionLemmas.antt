@@ -4,10 +4,10 @@
 use Rattle.std.proofs.Common.{◌≡◌, refl, ap, ℕ, ◌+◌, zero, suc, List, [], ◌∷◌, ◌++◌, take, Option, Some, None, length, get_or, ◌<◌, arith}
 use Rattle.pytoken.specs.declared.refusals.Refusal.{Refusal}
 use Rattle.pytoken.specs.Refusals.{or_refusal}
-use Rattle.pyparse.specs.declared.faults.ParseFault.{ParseFault}
-use Rattle.pyparse.specs.declared.faults.ParseFault.TheVariants.{Refused, Grammar, Memory}
-use Rattle.pyparse.specs.declared.tokens.Token.{Token}
-use Rattle.pyparse.specs.Answers.{Tells}
+use Rattle.pyparse_tokens.specs.declared.faults.ParseFault.{ParseFault}
+use Rattle.pyparse_tokens.specs.declared.faults.ParseFault.TheVariants.{Refused, Grammar, Memory}
+use Rattle.pyparse_tokens.specs.declared.tokens.Token.{Token}
+use Rattle.pyparse_tokens.specs.Answers.{Tells}
 use Rattle.pyparse.specs.Expressions.{terminals, token_refusal, first_refusal}
 
 or_none : (a b : Option Refusal) → or_refusal a b ≡ None → (a ≡ None) × (b ≡ None)
