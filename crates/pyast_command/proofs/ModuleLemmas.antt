@@ -37,8 +37,8 @@ use Rattle.pytree_node.specs.declared.profiles.Profile.{Profile}
 use Rattle.pytree_node.specs.Trees.{Module}
 use Rattle.pygrammar.specs.Refusals.{Accepted, Refused, in_tokens, by_tokens}
 use Rattle.pyparse.specs.Modules as parsing
-use Rattle.pyparse.specs.declared.faults.ParseFault.{ParseFault}
-use Rattle.pyparse.specs.declared.faults.ParseFault.TheVariants as parse_faults
+use Rattle.pyparse_tokens.specs.declared.faults.ParseFault.{ParseFault}
+use Rattle.pyparse_tokens.specs.declared.faults.ParseFault.TheVariants as parse_faults
 use Rattle.pyast_fault.specs.Faults.{listing_code, told_at, of_parse, of_refusal, of_source}
 use Rattle.pyast_fault.specs.declared.fault.Fault.{Fault}
 use Rattle.pyast_fault.specs.declared.fault.Fault.TheVariants.{InSource, Plain}

@@ -22,8 +22,8 @@ use Rattle.pytoken.specs.declared.refusals.Refusal.TheVariants as refusals
 use Rattle.pygrammar.specs.Blocks as blocks
 use Rattle.pygrammar.specs.Refusals.{Code, Reason, in_tokens, at}
 use Rattle.pygrammar.specs.Refusals as grammar
-use Rattle.pyparse.specs.declared.faults.ParseFault.{ParseFault}
-use Rattle.pyparse.specs.declared.faults.ParseFault.TheVariants as parse_faults
+use Rattle.pyparse_tokens.specs.declared.faults.ParseFault.{ParseFault}
+use Rattle.pyparse_tokens.specs.declared.faults.ParseFault.TheVariants as parse_faults
 use Rattle.pyparse.specs.Modules.{code_of}
 use Rattle.pyast_fault.specs.declared.fault.SourceFaultCode.{SourceFaultCode}
 use Rattle.pyast_fault.specs.declared.fault.SourceFaultCode.TheVariants.{UnsupportedEncoding, BomConflict, NotUtf8, NotAscii, LoneReturn, BadCharacter, UnterminatedString, EofInString, EofInStatement, UnindentMismatch, UnmatchedCloser, Token, Syntax, MatchStatement, ExpectedIndent, UnexpectedIndent, MisplacedClause, TooDeep, InconsistentTabs}

@@ -1,7 +1,6 @@
 -- What is accepted in a version of Python, and what is refused where. A refusal of the tokens comes first, in the order that `refusal` gives; then the first line
 -- without a form, the first faulty line of the blocks, and the first statement that stands too deep.
-use Rattle.std.specs.Prelude.{◌≡◌, ℕ, suc, ◌+◌, ◌<◌, ◌≤◌, Bool, true, false, ◌&&◌, nat_lt, ◌==◌, cond, List, [], ◌∷◌, ◌++◌, length, map, Option, Some, None}
-use Rattle.std.specs.Str.{bytes_eq}
+use Rattle.std.specs.Prelude.{◌≡◌, ℕ, suc, ◌+◌, ◌<◌, ◌≤◌, Bool, true, false, nat_lt, ◌==◌, cond, List, [], ◌∷◌, ◌++◌, length, map, Option, Some, None}
 use Rattle.pysource.specs.declared.places.Place.{Place}
 use Rattle.pylex.specs.Listing.{Source}
 use Rattle.pytree_node.specs.declared.profiles.Profile.{Profile}
@@ -12,11 +11,11 @@ use Rattle.pytoken.specs.Tokens.{Token, tokens, lines}
 use Rattle.pytoken.specs.Tokens as Tokens
 use Rattle.pytoken.specs.Terminals.{Terminal, terminal_of}
 use Rattle.pytoken.specs.Refusals.{refusal}
+use Rattle.pytoken.specs.MatchHeaders.{is_match}
 use Rattle.pygrammar.specs.Lines.{Line, line, Form, header_form}
 use Rattle.pygrammar.specs.Forms.{FormOf}
 use Rattle.pygrammar.specs.FormHeights.{form_height}
 use Rattle.pygrammar.specs.Blocks.{Block, Fault, FirstFault, Kind, ElifLine, ElseLine, ExceptLine, FinallyLine, kind_of, header_kind}
-use Rattle.pylex_lexeme.specs.Characters.{colon}
 
 -- why a line, or what stands at ENDMARKER, is refused
 pub data Code : Type 0 where
@@ -41,17 +40,6 @@ pub data StartsAt (s : Source) (n : ℕ) : Place → Type 0 where
 -- what the grammar reads of a line
 abbrev pub terminals : Tokens.Line → List Terminal
 terminals x = map (λ t. terminal_of t.kind t.text) x.tokens
-
--- the last of some tokens is a colon
-abbrev pub ends_in_colon : List Token → Bool
-ends_in_colon [] = false
-ends_in_colon (t ∷ []) = bytes_eq t.text (colon ∷ [])
-ends_in_colon (_ ∷ ts) = ends_in_colon ts
-
--- they begin with the text `match`, as it is written, and end in a colon
-abbrev pub is_match : List Token → Bool
-is_match [] = false
-is_match (t ∷ ts) = bytes_eq t.text (109 ∷ 97 ∷ 116 ∷ 99 ∷ 104 ∷ []) && ends_in_colon (t ∷ ts)
 
 -- a form whose expressions are no higher than 500
 pub record HasForm (profile : Profile) (x : Tokens.Line) (f : Form) : Type 0 where

@@ -1,7 +1,7 @@
 -- What callers compute with: when a cursor is one of a source, the steps of a listing behind its
 -- first ones, the lexemes of a text, and the machine's run over these.
 --
--- Carries: what pyast_command, pyparse, pyunparse_text, pytoken cite. On: Lexed, Finding, Run.
+-- Carries: what pyast_command, pyparse_tokens, pyunparse_text, pytoken cite. On: Lexed, Finding, Run.
 use Rattle.std.proofs.Common.{◌≡◌, ℕ, zero, suc, ◌+◌, ◌≤◌, Bool, true, false, ◌&&◌, ◌==◌, List, [], ◌∷◌, drop, length, refl, sym, ap, ◌∙◌, subst, Some, None, slice_get, nat_le, arith}
 use Rattle.std.proofs.lemmas.Bool.Decides.{nat_tests}
 use lib.Pointwise.{bytes_decides}

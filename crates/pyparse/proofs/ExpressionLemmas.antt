@@ -3,10 +3,10 @@
 -- Carries: terminals_of.
 use Rattle.std.proofs.Common.{◌≡◌, refl, ap, ℕ, ◌+◌, zero, suc, List, [], ◌∷◌, ◌++◌, take, Option, Some, None, length, get_or, ◌<◌, arith}
 use Rattle.pytoken.specs.declared.refusals.Refusal.{Refusal}
-use Rattle.pyparse.specs.declared.faults.ParseFault.{ParseFault}
-use Rattle.pyparse.specs.declared.faults.ParseFault.TheVariants.{Refused, Grammar, Memory}
-use Rattle.pyparse.specs.declared.tokens.Token.{Token}
-use Rattle.pyparse.specs.Answers.{Tells}
+use Rattle.pyparse_tokens.specs.declared.faults.ParseFault.{ParseFault}
+use Rattle.pyparse_tokens.specs.declared.faults.ParseFault.TheVariants.{Refused, Grammar, Memory}
+use Rattle.pyparse_tokens.specs.declared.tokens.Token.{Token}
+use Rattle.pyparse_tokens.specs.Answers.{Tells}
 use Rattle.pyparse.specs.Expressions.{terminals, token_refusal, first_refusal}
 use Rattle.std.specs.Option.{option_or}
 

@@ -17,7 +17,7 @@ use Rattle.pytoken.specs.Refusals.{refusal}
 use Rattle.pygrammar.specs.Lines.{Line}
 use Rattle.pygrammar.specs.Meets.{HighLine}
 use Rattle.pygrammar.specs.Blocks.{Block, Fault, FirstFault}
-use Rattle.pygrammar.specs.Refusals.{Code, Indentation, at, StartsAt, at_end, is_match, terminals, Formed, FirstUnread, Unread, too_high, no_match, no_form, too_long, Accepted, Refused, by_tokens, by_line, by_block, by_height}
+use Rattle.pygrammar.specs.Refusals.{Code, Indentation, at, StartsAt, at_end, terminals, Formed, FirstUnread, Unread, too_high, no_match, no_form, too_long, Accepted, Refused, by_tokens, by_line, by_block, by_height}
 use Rattle.pygrammar.specs.Refusals as code
 use Rattle.pygrammar.specs.Reading.{Fine, run, start}
 use Rattle.pygrammar.proofs.Callers.Blocks.{formed_flat, deep_is_high}
@@ -29,11 +29,11 @@ use Rattle.pyparse_block.specs.Outlines.{Follows}
 use Rattle.pyparse_block.specs.declared.outline.faults.Stop.{Stop}
 use Rattle.pyparse_block.specs.declared.outline.faults.Stop.TheVariants as variant
 use Rattle.pyparse_block.specs.Faults.{fault_of, Blames}
-use Rattle.pyparse.specs.declared.faults.GrammarError.{GrammarError}
-use Rattle.pyparse.specs.declared.faults.ParseFault.{ParseFault}
-use Rattle.pyparse.specs.declared.faults.ParseFault.TheVariants as faults
-use Rattle.pyparse.specs.Answers.{Tells}
-use Rattle.pyparse.specs.LineReadings.{EndsAt}
+use Rattle.pyparse_tokens.specs.declared.faults.GrammarError.{GrammarError}
+use Rattle.pyparse_tokens.specs.declared.faults.ParseFault.{ParseFault}
+use Rattle.pyparse_tokens.specs.declared.faults.ParseFault.TheVariants as faults
+use Rattle.pyparse_tokens.specs.Answers.{Tells}
+use Rattle.pyparse_tokens.specs.LineReadings.{EndsAt}
 use Rattle.pyparse.specs.Modules.{code_of, Refuses}
 use Rattle.pyparse.proofs.ProgressLemmas.{formed_length}
 use Rattle.pyparse.specs.Inner.Progressing.{first_lines, IsSound, IsDeepAt, IsFaultyAt, IsUnreadAt, Closes, TellsFault}

@@ -1,13 +1,3 @@
-pub use Rattle.pytoken.proofs.Callers.TextLemmas
-mod ListingLemmas
-mod EndLemmas
 mod ExpressionLemmas
-mod RisingLemmas
-mod IndentLemmas
-mod PassLemmas
-mod GatherLemmas
-mod LineLemmas
-mod LineGatherLemmas
-mod OperatorLemmas
 mod ProgressLemmas
 mod FinishLemmas

@@ -23,11 +23,11 @@ use Rattle.pyparse_block.specs.Outlines.{Follows}
 use Rattle.pyparse_block.specs.declared.outline.faults.Stop.{Stop}
 use Rattle.pyparse_block.specs.declared.outline.faults.Stop.TheVariants as variant
 use Rattle.pyparse_block.specs.Faults.{fault_of, Blames}
-use Rattle.pyparse.specs.declared.faults.GrammarError.{GrammarError}
+use Rattle.pyparse_tokens.specs.declared.faults.GrammarError.{GrammarError}
 use Rattle.pyparse.specs.declared.progress.Progress.{Progress}
 use Rattle.pyparse.specs.declared.progress.Progress.TheVariants.{Sound, Deep, Faulty}
 use Rattle.pyparse.specs.declared.progress.Progress.TheVariants as known
-use Rattle.pyparse.specs.LineReadings.{LineReading, first_start, HoldsLine}
+use Rattle.pyparse_tokens.specs.LineReadings.{LineReading, first_start, HoldsLine}
 use Rattle.pyparse.specs.Modules.{code_of}
 use Rattle.pyparse.specs.Inner.Progressing.{first_lines, IsSound, IsDeepAt, IsFaultyAt, IsUnreadAt, IsKnown, is_unread, Comes, TellsFault}
 

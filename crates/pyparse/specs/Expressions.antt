@@ -7,10 +7,10 @@ use Rattle.pytoken.specs.declared.refusals.Refusal.TheVariants as refusals
 use Rattle.pytoken.specs.Terminals.{Terminal, terminal_of, fault_of}
 use Rattle.pygrammar.specs.declared.levels.Level.{Level}
 use Rattle.pygrammar.specs.Meets.{Shapeless, High}
-use Rattle.pyparse.specs.declared.faults.GrammarError.TheVariants.{Syntax, TooDeep}
-use Rattle.pyparse.specs.declared.faults.ParseFault.{ParseFault}
-use Rattle.pyparse.specs.declared.faults.ParseFault.TheVariants.{Refused, Grammar, Memory}
-use Rattle.pyparse.specs.declared.tokens.Token.{Token}
+use Rattle.pyparse_tokens.specs.declared.faults.GrammarError.TheVariants.{Syntax, TooDeep}
+use Rattle.pyparse_tokens.specs.declared.faults.ParseFault.{ParseFault}
+use Rattle.pyparse_tokens.specs.declared.faults.ParseFault.TheVariants.{Refused, Grammar, Memory}
+use Rattle.pyparse_tokens.specs.declared.tokens.Token.{Token}
 use Rattle.std.specs.Option.{option_or}
 
 -- what tokens are to the grammar

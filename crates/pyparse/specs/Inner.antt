@@ -1,6 +1,1 @@
-pub mod Passing
-pub mod Gathering
-pub mod LineGathering
-pub mod LineReading
-pub mod Indenting
 pub mod Progressing

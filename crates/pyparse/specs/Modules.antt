@@ -4,10 +4,10 @@ use Rattle.pytree_node.specs.declared.profiles.Profile.{Profile}
 use Rattle.pygrammar.specs.Blocks as block
 use Rattle.pygrammar.specs.Refusals.{Code, Indentation, in_tokens, at, Refused}
 use Rattle.pygrammar.specs.Refusals as code
-use Rattle.pyparse.specs.declared.faults.GrammarError.{GrammarError}
-use Rattle.pyparse.specs.declared.faults.GrammarError.TheVariants as error
-use Rattle.pyparse.specs.declared.faults.ParseFault.{ParseFault}
-use Rattle.pyparse.specs.declared.faults.ParseFault.TheVariants as fault
+use Rattle.pyparse_tokens.specs.declared.faults.GrammarError.{GrammarError}
+use Rattle.pyparse_tokens.specs.declared.faults.GrammarError.TheVariants as error
+use Rattle.pyparse_tokens.specs.declared.faults.ParseFault.{ParseFault}
+use Rattle.pyparse_tokens.specs.declared.faults.ParseFault.TheVariants as fault
 
 -- what an error says of a line, or of the end
 abbrev pub code_of : GrammarError → Code

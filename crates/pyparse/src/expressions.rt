@@ -7,18 +7,16 @@ ghost use Rattle.pyparse_expr.specs.Expressions.{IsExpression};
 ghost use Rattle.pygrammar.specs.Laws.{GrammarIsLawful};
 ghost use Rattle.pytree_node.specs.TreeOf.{tree_of};
 ghost use Rattle.pytoken.specs.TerminalOf.{terminal};
-ghost use Rattle.pyparse.specs.Answers.{Tells};
+ghost use Rattle.pyparse_tokens.specs.Answers.{Tells};
 ghost use Rattle.pyparse.specs.Expressions.{first_place, first_refusal, terminals, token_refusal};
 ghost use Rattle.pyparse.specs.Expressions.{Refuses};
 
-use crate::faults::{GrammarError, ParseFault};
-use crate::tokens::Token;
-use pyparse_expr::{Stop, read_whole};
 use pygrammar::Level;
-use pytree_node::Expr;
+use pyparse_expr::{Stop, read_whole};
+use pyparse_tokens::{GrammarError, ParseFault, Token};
 use pysource::Place;
-use pytoken::Refusal;
-use pytoken::{Terminal, TerminalFault, terminal_of};
+use pytoken::{Refusal, Terminal, TerminalFault, terminal_of};
+use pytree_node::Expr;
 use std::alloc::{AllocError, Global};
 
 /// What a token is to the grammar.

@@ -1,34 +1,28 @@
-//! The reader of Python source: tokens as its grammar reads them, and their values.
+//! The reader of Python source: its tree, an expression of tokens, and the tokens themselves.
 //!
-//! [`tokens_of`] gives the tokens of a source in one pass over its listing, or the first reason why
-//! it has none ([`ParseFault`]). [`LogicalLines`] gives its lines one after another, the tokens of
-//! each as terminals in one buffer. [`number_value`], [`string_value`] and [`name_value`] tell what
-//! the text of a number, a string or a name stands for, [`string_fault`] and [`name_fault`] what is
-//! wrong with it by itself. [`terminal_of`] tells what a token is to the grammar ([`Terminal`]).
-//! These are `pytoken`'s.
+//! [`parse`] gives the tree of a source, or the first reason why it has none ([`ParseFault`]).
+//! [`parse_expression`] gives the expression that some tokens are.
 //!
-//! The words of contracts are `pytoken`'s, and here in `specs/` those of `Answers` and
-//! `LineReadings`.
+//! [`tokens_of`] gives the tokens of a source in one pass over its listing. [`LogicalLines`] gives
+//! its lines one after another, the tokens of each as terminals in one buffer. These are of
+//! `pyparse_tokens`.
+//!
+//! [`number_value`], [`string_value`] and [`name_value`] tell what the text of a number, a string
+//! or a name stands for, [`string_fault`] and [`name_fault`] what is wrong with it by itself.
+//! [`terminal_of`] tells what a token is to the grammar ([`Terminal`]). These are of `pytoken`.
+//!
+//! The words of contracts are those of these two crates and of `pygrammar`, and here in `specs/`
+//! those of `Expressions` and `Modules`.
 #![tactic(auto)]
 
 mod expressions;
-mod faults;
-mod gather;
-mod indents;
-mod line_gather;
-mod logical_lines;
 mod modules;
-mod pass;
 mod progress;
-mod room;
-mod tokens;
 
 pub use expressions::parse_expression;
-pub use faults::{GrammarError, ParseFault};
-pub use logical_lines::LogicalLines;
 pub use modules::parse;
+pub use pyparse_tokens::{GrammarError, LogicalLines, ParseFault, Token, tokens_of};
 pub use pytoken::{
     Literal, LiteralText, Terminal, TerminalFault, identifier_value, name_fault, name_value,
     number_value, string_fault, string_value, terminal_of, token_fault,
 };
-pub use tokens::{Token, tokens_of};

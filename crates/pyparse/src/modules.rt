@@ -9,11 +9,10 @@ ghost use Rattle.pygrammar.specs.Refusals.{Accepted};
 ghost use Rattle.pygrammar.specs.SourceLaws.{FormsAreLawful, BlocksAreLawful, AnswersAreLawful};
 ghost use Rattle.pyparse.specs.Modules.{Refuses};
 
-use crate::faults::ParseFault;
-use crate::logical_lines::LogicalLines;
 use crate::progress::Progress;
-use pytree_node::{Module, Profile};
+use pyparse_tokens::{LogicalLines, ParseFault};
 use pysource::Source;
+use pytree_node::{Module, Profile};
 use std::alloc::Global;
 
 /// The tree of a source, in a version of Python. At most 500 expressions stand in one another, and

@@ -5,24 +5,23 @@ ghost use Rattle.pylex.specs.Listing.{Source, in_characters};
 ghost use Rattle.pytree_node.specs.declared.profiles.Profile.{Profile};
 ghost use Rattle.pytree_node.specs.TreeOf.{module_of};
 ghost use Rattle.pytoken.specs.Tokens.{Line};
+ghost use Rattle.pytoken.specs.MatchHeaders.{is_match};
 ghost use Rattle.pygrammar.specs.Lines.{line};
-ghost use Rattle.pygrammar.specs.Refusals.{is_match, terminals, Accepted, Unread};
+ghost use Rattle.pygrammar.specs.Refusals.{terminals, Accepted, Unread};
 ghost use Rattle.pygrammar.specs.FormOf.{form_of};
 ghost use Rattle.pyparse_block.specs.declared.outline.outlines.Outline.{Outline};
 ghost use Rattle.pyparse_line.specs.Lines.{Refused};
-ghost use Rattle.pyparse.specs.LineReadings.{HoldsLine};
+ghost use Rattle.pyparse_tokens.specs.LineReadings.{HoldsLine};
 ghost use Rattle.pyparse.specs.Modules.{code_of, Refuses};
 ghost use Rattle.pyparse.specs.Inner.Progressing.{is_unread, IsSound, IsDeepAt, IsKnown, Comes};
 ghost use Rattle.pyparse.specs.Inner.Progressing.{Closes, TellsFault};
 
-use crate::faults::{GrammarError, ParseFault};
-use crate::logical_lines::LogicalLines;
-use pyparse_block::Blocks;
 use pygrammar::Form;
+use pyparse_block::{BlockFault, Blocks, Outline, Stop};
 use pyparse_line::read_line;
-use pytree_node::{Module, Profile};
-use pyparse_block::{BlockFault, Outline, Stop};
+use pyparse_tokens::{GrammarError, LogicalLines, ParseFault};
 use pysource::Place;
+use pytree_node::{Module, Profile};
 use std::alloc::{AllocError, Global};
 
 /// The error of lines that are no statements, by why they stop.

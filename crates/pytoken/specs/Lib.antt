@@ -9,6 +9,7 @@ pub mod Tokens
 pub mod Brackets
 pub mod Indentation
 pub mod Refusals
+pub mod MatchHeaders
 pub mod Laws
 pub mod Values
 pub mod TerminalOf

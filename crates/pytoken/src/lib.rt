@@ -5,16 +5,16 @@
 //! with it by itself, and [`token_fault`] what is wrong with a token or a comment by its type.
 //! [`terminal_of`] gives what a token is to the grammar ([`Terminal`]); a string is a
 //! [`LiteralText`] there, whose value is made when it is asked for. [`is_identifier`] says which
-//! texts are names. The tokens of a whole source are read by `pyparse`.
+//! texts are names. The tokens of a whole source are read by `pyparse_tokens`.
 //!
 //! Python language reference, 2.3 "Identifiers and keywords" and 2.4 "Literals".
 //!
 //! The words of contracts are in `specs/`: `Tokens` has the tokens of a source and its logical
 //! lines, `Terminals` what a token is to the grammar and the fault that it may be by itself,
-//! `Refusals` why a source has no tokens. `Keywords`, `NumberValues`, `Escapes`, `StringValues` and
-//! `NameValues` say what the texts of tokens stand for. `Laws` has what holds of these: each
-//! constant of a tree comes back from its text. `Values` and `TerminalOf` have the values of the
-//! types of this crate.
+//! `Refusals` why a source has no tokens, `MatchHeaders` which lines look like the header of a
+//! `match` statement. `Keywords`, `NumberValues`, `Escapes`, `StringValues` and `NameValues` say
+//! what the texts of tokens stand for. `Laws` has what holds of these: each constant of a tree
+//! comes back from its text. `Values` and `TerminalOf` have the values of the types of this crate.
 #![tactic(auto)]
 
 mod faults;

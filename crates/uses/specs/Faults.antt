@@ -5,7 +5,7 @@ use Rattle.pysource.specs.Sources.{source_of}
 use Rattle.pysource.specs.declared.encodings.SourceFault.{SourceFault}
 use Rattle.pylex.specs.Listing.{in_characters}
 use Rattle.pytree_node.specs.declared.profiles.Profile.{Profile}
-use Rattle.pyparse.specs.declared.faults.ParseFault.{ParseFault}
+use Rattle.pyparse_tokens.specs.declared.faults.ParseFault.{ParseFault}
 use Rattle.pyparse.specs.Modules.{Refuses}
 use Rattle.pyast_fault.specs.declared.fault.Fault.{Fault}
 use Rattle.pyast_fault.specs.declared.fault.Fault.TheVariants.{InSource, Plain}

@@ -10,13 +10,14 @@ use Rattle.pytree_node.specs.Trees.{Module}
 use Rattle.pytree_height.specs.Heights.{statement_height}
 use Rattle.pytoken.specs.declared.refusals.Refusal.{Refusal}
 use Rattle.pytoken.specs.Refusals.{refusal}
+use Rattle.pytoken.specs.MatchHeaders.{is_match}
 use Rattle.pytoken.specs.Tokens.{lines}
 use Rattle.pytoken.specs.Tokens as Tokens
 use Rattle.pygrammar.specs.Lines.{Line, line, Form}
 use Rattle.pygrammar.specs.FormHeights.{form_height}
 use Rattle.pygrammar.specs.Forms.{FormOf}
 use Rattle.pygrammar.specs.Blocks.{Block, Fault, FirstFault, fault_at_end, fault_at, fault_behind}
-use Rattle.pygrammar.specs.Refusals.{Code, Syntax, MatchStatement, Indentation, TooDeep, Reason, in_tokens, at, terminals, is_match, HasForm, HasNone, Formed, formed_end, formed_line, Unread, too_high, no_match, no_form, FirstUnread, unread, unread_behind, Accepted, Refused, by_tokens, by_line, by_block, by_height}
+use Rattle.pygrammar.specs.Refusals.{Code, Syntax, MatchStatement, Indentation, TooDeep, Reason, in_tokens, at, terminals, HasForm, HasNone, Formed, formed_end, formed_line, Unread, too_high, no_match, no_form, FirstUnread, unread, unread_behind, Accepted, Refused, by_tokens, by_line, by_block, by_height}
 use Rattle.pygrammar.proofs.Line.Answered.{read_or_not}
 use Rattle.pygrammar.proofs.Block.Law.{fault_or_tree}
 use Rattle.pygrammar.proofs.Block.Deep.{formed_flat, deep_is_high, deep_within}

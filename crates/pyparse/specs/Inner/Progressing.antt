@@ -17,10 +17,10 @@ use Rattle.pyparse_block.specs.Outlines.{Follows}
 use Rattle.pyparse_block.specs.declared.outline.faults.Stop.{Stop}
 use Rattle.pyparse_block.specs.declared.outline.faults.Stop.TheVariants as variant
 use Rattle.pyparse_block.specs.Faults.{fault_of}
-use Rattle.pyparse.specs.declared.faults.GrammarError.{GrammarError}
+use Rattle.pyparse_tokens.specs.declared.faults.GrammarError.{GrammarError}
 use Rattle.pyparse.specs.declared.progress.Progress.{Progress}
 use Rattle.pyparse.specs.declared.progress.Progress.TheVariants.{Sound, Deep, Faulty, Unread}
-use Rattle.pyparse.specs.LineReadings.{EndsAt}
+use Rattle.pyparse_tokens.specs.LineReadings.{EndsAt}
 use Rattle.pyparse.specs.Modules.{code_of}
 
 -- ---- The lines so far.

@@ -1,6 +1,6 @@
 -- On: the tokens and the refusals of a listing with one entry more.
 --
--- Carries: what pygrammar, pyparse cite.
+-- Carries: what pygrammar, pyparse_tokens cite.
 use Rattle.std.proofs.Common.{◌≡◌, ℕ, List, [], ◌∷◌, ◌++◌, refl, sym, ap, ◌∙◌, append_assoc, append-nil, Option, Some, None}
 use Rattle.std.specs.Prelude.{if◌then◌else◌}
 use Rattle.pylex.specs.declared.entries.Entry.{Entry}

@@ -2,7 +2,7 @@
 -- class; the points of literals;
 -- the tokens of a source that isn't refused; the widths of margins.
 --
--- Carries: what pyparse, pytree_fits, pytoken, pyunparse_text cite.
+-- Carries: what pyparse_tokens, pytree_fits, pytoken, pyunparse_text cite.
 use Rattle.std.proofs.Common.{◌≡◌, ℕ, true, List, None}
 use Rattle.std.specs.List.{list_all}
 use Rattle.pylex.specs.Listing.{Source}

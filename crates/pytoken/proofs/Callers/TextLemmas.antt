@@ -1,6 +1,6 @@
 -- On: a text character by character.
 --
--- Carries: what pyparse, pytoken cite.
+-- Carries: what pyparse_tokens, pytoken cite.
 use Rattle.std.proofs.Common.{◌≡◌, ℕ, ◌+◌, ◌<◌, Bool, true, false, List, [], ◌∷◌, ◌++◌, length, refl, sym, ap, ◌∙◌, arith, length-append}
 use Rattle.std.specs.List.{list_all, list_any}
 use Rattle.std.specs.Char.{encode_utf8}

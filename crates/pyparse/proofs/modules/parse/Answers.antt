@@ -6,8 +6,8 @@ use Rattle.pylex.specs.Listing.{in_characters}
 use Rattle.pytoken.specs.Tokens.{lines}
 use Rattle.std.proofs.lemmas.Result.{err_from_is_err_and}
 use Rattle.pytoken.specs.Refusals.{refusal}
-use Rattle.pyparse.specs.Answers.{Tells}
-use Rattle.pyparse.specs.LineReadings.{LineReading}
+use Rattle.pyparse_tokens.specs.Answers.{Tells}
+use Rattle.pyparse_tokens.specs.LineReadings.{LineReading}
 use Rattle.pyparse.specs.Inner.Progressing.{IsKnown}
 use Rattle.pyparse.proofs.FinishLemmas.{told_on, closes_at}
 use Rattle.pyparse.proofs.modules.parse.Goals as goal

@@ -1,0 +1,23 @@
+use Rattle.std.proofs.Common.{◌-◌, ◌≤◌, length, take}
+use Rattle.std.specs.Str.{chars}
+use Rattle.pylex.specs.Listing.{in_characters, listing}
+use Rattle.pylex.specs.Laws.{IsWhole, AllLie}
+use Rattle.pylex.specs.Listers.{StandsIn}
+use Rattle.pylex.specs.Steps.{most_entries, entries_of}
+use Rattle.pytoken.specs.Laws.{TokensAreSound}
+use Rattle.pyparse_tokens.specs.Inner.Gathering.{Gathered}
+use Rattle.pyparse_tokens.proofs.tokens.tokens_of.Given as goal
+
+abbrev pub invariant-loop-gather : goal.invariant-loop-gather
+invariant-loop-gather l = record {
+  stands : StandsIn l.lister (in_characters l.fn.source) l.lister.shown.given;
+  within : l.lister.shown.given ≤ length (entries_of (listing (in_characters l.fn.source)));
+  few : l.lister.shown.given ≤ most_entries;
+  whole : IsWhole (in_characters l.fn.source);
+  typed : TokensAreSound (in_characters l.fn.source);
+  lies : AllLie l.fn.source.text (listing (in_characters l.fn.source));
+  gathered : Gathered (chars l.fn.source.text) (take l.lister.shown.given (entries_of (listing (in_characters l.fn.source)))) l.gather;
+}
+
+abbrev pub decreases-loop-gather : goal.decreases-loop-gather
+decreases-loop-gather l = length (entries_of (listing (in_characters l.fn.source))) - l.lister.shown.given

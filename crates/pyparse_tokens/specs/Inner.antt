@@ -1,0 +1,5 @@
+pub mod Passing
+pub mod Gathering
+pub mod LineGathering
+pub mod LineReading
+pub mod Indenting

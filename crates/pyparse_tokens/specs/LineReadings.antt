@@ -1,0 +1,75 @@
+-- What the logical lines of a source are to a reader that has them one after another.
+use Rattle.std.specs.Prelude.{◌≡◌, ℕ, Bool, true, false, List, [], ◌∷◌, ◌++◌, map, take, slice_get, Option, Some, None, Result, Ok, Err}
+use Rattle.pysource.specs.declared.places.Place.{Place}
+use Rattle.pysource.specs.Parts.{Parts}
+use Rattle.pylex.specs.Listing.{Source, listing}
+use Rattle.pylex.specs.Steps.{entries_of}
+use Rattle.pytoken.specs.Terminals.{Terminal, terminal_of}
+use Rattle.pytoken.specs.Tokens.{Token, Line, tokens_from, tokens, lines_from, lines}
+use Rattle.pytoken.specs.MatchHeaders.{is_match}
+use Rattle.pyparse_tokens.specs.declared.faults.ParseFault.{ParseFault}
+
+-- the lines that end within the first entries of a listing, so many of them
+abbrev pub lines_within : Source → ℕ → List Line
+lines_within s n = lines_from [] [] (tokens_from s.text [] (take n (entries_of (listing s))))
+
+-- A source in hand; how many of its lines were given, which behind a fault says nothing; of the line that is held its level, its start, its
+-- terminals and whether it looks like a `match` statement; where ENDMARKER starts, behind the last line; and what each later call answers, once
+-- that is known.
+pub record LineReading : Type 0 where
+  pub source : Parts
+  pub given : ℕ
+  pub level : ℕ
+  pub start : Place
+  pub terminals : List Terminal
+  pub is_match : Bool
+  pub marker : Place
+  pub outcome : Option (Result Bool ParseFault)
+
+-- where the first of some tokens starts
+abbrev pub first_start : List Token → Option Place
+first_start [] = None
+first_start (t ∷ ts) = Some t.start
+
+-- what a token is to the grammar
+abbrev pub token_terminal : Token → Terminal
+token_terminal t = terminal_of t.kind t.text
+
+-- the line that is held is this one, which has a token
+pub record Holds (l : Line) (r : LineReading) : Type 0 where
+  pub level : r.level ≡ l.level
+  pub terminals : r.terminals ≡ map token_terminal l.tokens
+  pub start : first_start l.tokens ≡ Some r.start
+  pub is_match : r.is_match ≡ is_match l.tokens
+
+-- the line of this number is held, the first of the source being 0
+pub record HoldsLine (s : Source) (k : ℕ) (r : LineReading) : Type 0 where
+  pub line : Line
+  pub stands : slice_get (lines s) k ≡ Some line
+  pub holds : Holds line r
+
+-- the last token of a source, ENDMARKER, starts here
+pub record EndsAt (s : Source) (p : Place) : Type 0 where
+  pub before : List Token
+  pub last : Token
+  pub tokens : tokens s ≡ before ++ last ∷ []
+  pub start : last.start ≡ p
+
+-- a reader before the first line of a source, which holds none
+abbrev pub before_first : Parts → LineReading
+before_first p = record {
+  source = p;
+  given = 0;
+  level = 0;
+  start = record { row = 1; column = 0 };
+  terminals = [];
+  is_match = false;
+  marker = record { row = 1; column = 0 };
+  outcome = None;
+}
+
+-- what each call answers behind this answer: the same again, but for a line
+abbrev pub outcome_of : Result Bool ParseFault → Option (Result Bool ParseFault)
+outcome_of (Ok true) = None
+outcome_of (Ok false) = Some (Ok false)
+outcome_of (Err fault) = Some (Err fault)

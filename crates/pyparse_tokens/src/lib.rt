@@ -1,0 +1,23 @@
+//! The tokens and the logical lines of a source.
+//!
+//! [`tokens_of`] gives the tokens of a source in one pass over its listing, or the first reason why
+//! it has none ([`ParseFault`]). [`LogicalLines`] gives its lines one after another, the tokens of
+//! each as terminals in one buffer. The crate `pyparse` reads trees from these lines and passes all
+//! items on.
+//!
+//! The words of contracts are `pytoken`'s, and here in `specs/` those of `Answers` and
+//! `LineReadings`.
+#![tactic(auto)]
+
+mod faults;
+mod gather;
+mod indents;
+mod line_gather;
+mod logical_lines;
+mod pass;
+mod room;
+mod tokens;
+
+pub use faults::{GrammarError, ParseFault};
+pub use logical_lines::LogicalLines;
+pub use tokens::{Token, tokens_of};

@@ -1,0 +1,312 @@
+//! What one pass over a listing gathers of its lines: the tokens of the one that is open, and the
+//! first faults.
+
+ghost use Rattle.std.specs.Prelude.{◌≡◌, ◌^◌, ◌<◌, ◌-◌, ◌++◌, ◌&&◌, [], ◌∷◌, map, IfOk, OnOk, None};
+ghost use Rattle.std.specs.Prelude.{true, false};
+ghost use Rattle.std.specs.Str.{chars, IsCharBoundary};
+ghost use Rattle.pylex.specs.Laws.{LiesIn, HasExact};
+ghost use Rattle.pytoken.specs.Refusals.{entry_refusal};
+ghost use Rattle.pytoken.specs.TerminalOf.{terminal};
+ghost use Rattle.pyparse_tokens.specs.Inner.Passing.{counted, kept_refusal, Passed};
+ghost use Rattle.pyparse_tokens.specs.Inner.LineGathering.{
+  stands_in_line,
+  ends_open_line,
+  is_indent,
+  is_dedent,
+  ended_by,
+  of_first,
+  marker_behind,
+  spell_match,
+  keeps_match,
+  Adds,
+  TakesEntry,
+};
+
+use crate::gather::text_of;
+use crate::pass::Pass;
+use crate::room::put;
+use pylex::{Entry, Kind};
+use pysource::{Place, Source};
+use pytoken::{Refusal, Terminal, TerminalFault, terminal_of};
+use std::alloc::{AllocError, Global};
+
+/// Whether a token of this type stands in a line.
+fn stands_in_line(kind: Kind) -> bool
+    ensures { result ≡ stands_in_line kind }
+{
+    matches!(kind, Kind::Name | Kind::Number | Kind::String | Kind::Op)
+}
+
+/// Whether an entry of this type ends the line that is open.
+fn ends_open_line(kind: Kind) -> bool
+    ensures { result ≡ ends_open_line kind }
+{
+    matches!(kind, Kind::Newline | Kind::Dedent | Kind::EndMarker)
+}
+
+/// Whether the texts of a line's first and last token are those of the header of a `match`
+/// statement.
+fn spell_match(first: &str, last: &str) -> bool
+    ensures { result ≡ spell_match (chars first.now) (chars last.now) }
+{
+    first == "match" && last == ":"
+}
+
+/// What one pass over a listing has gathered of its lines behind some of its entries.
+#[derive(Drop)]
+pub(crate) struct LineGather<'a> {
+    pass: Pass,
+    /// What the tokens of the line are.
+    terminals: Vec<Terminal<'a>>,
+    /// Where the first of them starts.
+    start: Place,
+    /// The text of the first of them.
+    first: &'a str,
+    /// The text of the last of them.
+    last: &'a str,
+    /// The levels above 0 that were open before the entry that ended the last line.
+    level: usize,
+    /// The INDENTs.
+    indents: usize,
+    /// The DEDENTs.
+    dedents: usize,
+    /// Where ENDMARKER starts, once it was read.
+    marker: Place,
+}
+
+impl<'a> LineGather<'a> {
+    /// No entry of a source was read.
+    pub(crate) fn new(alloc: Global, source: &Source) -> Result<LineGather<'a>, AllocError>
+        requires { IsCharBoundary source.now.text 0 }
+        ensures pass { IfOk result (λ made. Passed (chars source.now.text) [] made.pass) }
+        ensures empty { IfOk result (λ made. made.terminals.items ≡ []) }
+        ensures start { IfOk result (λ made. made.start ≡ record { row = 1; column = 0 }) }
+        ensures level { IfOk result (λ made. made.level ≡ 0) }
+        ensures indents { IfOk result (λ made. made.indents ≡ 0) }
+        ensures dedents { IfOk result (λ made. made.dedents ≡ 0) }
+        ensures is_match { IfOk result (λ made. keeps_match made ≡ false) }
+        ensures marker { IfOk result (λ made. made.marker ≡ record { row = 1; column = 0 }) }
+    {
+        Ok(LineGather {
+            pass: Pass::new(alloc, source)?,
+            terminals: Vec::new(alloc),
+            start: Place { row: 1, column: 0 },
+            first: "",
+            last: "",
+            level: 0,
+            indents: 0,
+            dedents: 0,
+            marker: Place { row: 1, column: 0 },
+        })
+    }
+
+    /// Lets go of the line's tokens. The room that they took is kept.
+    pub(crate) fn clear(&mut self)
+        ensures rest { self.new ≡ record self.old { terminals = self.new.terminals } }
+        ensures empty { self.new.terminals.items ≡ [] }
+    {
+        self.terminals.clear();
+    }
+
+    /// Appends a token of the line.
+    #[inline(always)]
+    fn keep(
+        &mut self,
+        start: Place,
+        text: &'a str,
+        terminal: Terminal<'a>,
+    ) -> Result<(), AllocError>
+        ensures terminals { OnOk result
+            (self.new.terminals.items ≡ self.old.terminals.items ++ terminal.entry ∷ []) }
+        ensures start { self.new.start ≡ of_first self.old.terminals.items self.old.start start }
+        ensures first { chars self.new.first.now
+            ≡ of_first self.old.terminals.items (chars self.old.first.now) (chars text.now) }
+        ensures last { chars self.new.last.now ≡ chars text.now }
+        ensures rest { self.new
+            ≡ record self.old {
+              terminals = self.new.terminals;
+              start = self.new.start;
+              first = self.new.first;
+              last = self.new.last;
+            } }
+    {
+        if self.terminals.is_empty() {
+            self.start = start;
+            self.first = text;
+        }
+        self.last = text;
+        put(&mut self.terminals, terminal)
+    }
+
+    /// Takes what an entry adds to the line, or tells the fault that the entry has by itself.
+    #[inline(always)]
+    fn push(
+        &mut self,
+        alloc: Global,
+        source: &'a Source,
+        entry: &Entry,
+    ) -> Result<Option<Refusal>, AllocError>
+        requires lies { LiesIn source.now.text entry.now }
+        requires exact { HasExact (chars source.now.text) entry.now }
+        ensures fault { IfOk result
+            (λ fault. fault ≡ entry_refusal (chars source.now.text) entry.now) }
+        ensures line { OnOk result
+            (entry_refusal (chars source.now.text) entry.now ≡ None
+            → Adds (chars source.now.text) entry.now self.old self.new) }
+        ensures rest { self.new
+            ≡ record self.old {
+              terminals = self.new.terminals;
+              start = self.new.start;
+              first = self.new.first;
+              last = self.new.last;
+            } }
+    {
+        let text = text_of(source, entry);
+        // An operator is known by the entry, and has no fault.
+        if let Some(exact) = entry.exact {
+            self.keep(entry.start, text, Terminal::Op(exact))?;
+            return Ok(None);
+        }
+        match terminal_of(alloc, entry.kind, text) {
+            Err(TerminalFault::Memory) => Err(AllocError),
+            Err(TerminalFault::Token(error)) => Ok(Some(Refusal::Token(error, entry.start))),
+            Ok(terminal) => {
+                if stands_in_line(entry.kind) {
+                    self.keep(entry.start, text, terminal)?;
+                }
+                Ok(None)
+            }
+        }
+    }
+
+    /// Counts an INDENT or a DEDENT, and where a line ends keeps the levels that were open before.
+    #[inline(always)]
+    fn count(&mut self, kind: Kind, ends: bool)
+        requires indents { self.old.indents < 2 ^ 63 }
+        requires dedents { self.old.dedents < 2 ^ 63 }
+        ensures level { ends ≡ true → self.new.level ≡ self.old.indents - self.old.dedents }
+        ensures indents { self.new.indents ≡ counted self.old.indents (is_indent kind) }
+        ensures dedents { self.new.dedents ≡ counted self.old.dedents (is_dedent kind) }
+        ensures rest { self.new
+            ≡ record self.old {
+              level = self.new.level;
+              indents = self.new.indents;
+              dedents = self.new.dedents;
+            } }
+    {
+        if ends {
+            self.level = self.indents.saturating_sub(self.dedents);
+        }
+        match kind {
+            Kind::Indent => self.indents += 1,
+            Kind::Dedent => self.dedents += 1,
+            _ => {}
+        }
+    }
+
+    /// Keeps where ENDMARKER starts.
+    #[inline(always)]
+    fn keep_marker(&mut self, entry: &Entry)
+        ensures marker { self.new.marker ≡ marker_behind entry.now self.old.marker }
+        ensures rest { self.new ≡ record self.old { marker = self.new.marker } }
+    {
+        if matches!(entry.kind, Kind::EndMarker) {
+            self.marker = entry.start;
+        }
+    }
+
+    /// Takes the next entry of a source's listing, whatever its type: whether the line that is open
+    /// ends by it.
+    #[inline(always)]
+    fn take_entry(
+        &mut self,
+        alloc: Global,
+        source: &'a Source,
+        entry: &Entry,
+    ) -> Result<bool, AllocError>
+        requires lies { LiesIn source.now.text entry.now }
+        requires exact { HasExact (chars source.now.text) entry.now }
+        requires opened { self.old.pass.opened < 2 ^ 63 }
+        requires closed { self.old.pass.closed < 2 ^ 63 }
+        requires indents { self.old.indents < 2 ^ 63 }
+        requires dedents { self.old.dedents < 2 ^ 63 }
+        ensures ends { IfOk result (λ ends. ends ≡ ended_by entry.now self.old.pass.begun) }
+        ensures gathers { OnOk result
+            (TakesEntry (chars source.now.text) entry.now self.old self.new) }
+    {
+        let ends = ends_open_line(entry.kind) && self.pass.has_begun();
+        let faulty = self.push(alloc, source, entry)?;
+        self.pass.take(source, entry, faulty)?;
+        self.count(entry.kind, ends);
+        self.keep_marker(entry);
+        Ok(ends)
+    }
+
+    /// Takes the next entry of a source's listing: whether the line that is open ends by it.
+    #[inline(always)]
+    pub(crate) fn take(
+        &mut self,
+        alloc: Global,
+        source: &'a Source,
+        entry: &Entry,
+    ) -> Result<bool, AllocError>
+        requires lies { LiesIn source.now.text entry.now }
+        requires exact { HasExact (chars source.now.text) entry.now }
+        requires opened { self.old.pass.opened < 2 ^ 63 }
+        requires closed { self.old.pass.closed < 2 ^ 63 }
+        requires indents { self.old.indents < 2 ^ 63 }
+        requires dedents { self.old.dedents < 2 ^ 63 }
+        ensures ends { IfOk result (λ ends. ends ≡ ended_by entry.now self.old.pass.begun) }
+        ensures gathers { OnOk result
+            (TakesEntry (chars source.now.text) entry.now self.old self.new) }
+    {
+        // Most entries are names and operators: what their type decides is decided once for all.
+        match entry.kind {
+            Kind::Name => self.take_entry(alloc, source, entry),
+            Kind::Op => self.take_entry(alloc, source, entry),
+            _ => self.take_entry(alloc, source, entry),
+        }
+    }
+
+    /// The first refusal that is kept.
+    pub(crate) fn refusal(&self) -> Option<Refusal>
+        ensures { result ≡ kept_refusal self.now.pass }
+    {
+        self.pass.refusal()
+    }
+
+    /// What the tokens of the line are.
+    pub(crate) fn terminals(&self) -> &[Terminal<'a>]
+        ensures { result.now ≡ self.now.terminals.items }
+    {
+        self.terminals.as_slice()
+    }
+
+    /// Where the line starts.
+    pub(crate) fn start(&self) -> Place
+        ensures { result ≡ self.now.start }
+    {
+        self.start
+    }
+
+    /// Whether it begins and ends as the header of a `match` statement does.
+    pub(crate) fn is_match(&self) -> bool
+        ensures { result ≡ keeps_match self.now }
+    {
+        spell_match(self.first, self.last)
+    }
+
+    /// Where ENDMARKER starts, once it was read.
+    pub(crate) fn marker(&self) -> Place
+        ensures { result ≡ self.now.marker }
+    {
+        self.marker
+    }
+
+    /// The levels above 0 that were open before the entry that ended the last line.
+    pub(crate) fn level(&self) -> usize
+        ensures { result ≡ self.now.level }
+    {
+        self.level
+    }
+}

@@ -1,0 +1,190 @@
+//! The logical lines of a source.
+//!
+//! Python language reference, 2.1.1 "Logical lines".
+
+ghost use Rattle.std.specs.Prelude.{◌≡◌, ◌+◌, ℕ, true, false, length, map, Bool, Some, None};
+ghost use Rattle.std.specs.Prelude.{Result, IfOk, IfErr, if◌then◌else◌};
+ghost use Rattle.pylex.specs.Listing.{in_characters};
+ghost use Rattle.pytoken.specs.TerminalOf.{terminal};
+ghost use Rattle.pytoken.specs.Tokens.{lines};
+ghost use Rattle.pytoken.specs.Refusals.{refusal};
+ghost use Rattle.pytoken.specs.Laws.{AreLawful, TokensAreSound};
+ghost use Rattle.pyparse_tokens.specs.declared.faults.ParseFault.{ParseFault};
+ghost use Rattle.pyparse_tokens.specs.Answers.{Tells};
+ghost use Rattle.pyparse_tokens.specs.Inner.Passing.{kept_refusal};
+ghost use Rattle.pyparse_tokens.specs.LineReadings.{before_first, outcome_of, HoldsLine, EndsAt};
+ghost use Rattle.pyparse_tokens.specs.Inner.LineGathering.{lines_given, StandsBetween, ReadsLine};
+
+use crate::faults::ParseFault;
+use crate::line_gather::LineGather;
+use pylex::{Lister, Step};
+use pysource::{Place, Source};
+use pytoken::{Refusal, Terminal};
+use std::alloc::{AllocError, Global};
+use std::marker::Model;
+
+/// The answer at the end of a listing.
+fn end(gather: &LineGather) -> Result<bool, ParseFault>
+    ensures end { IfOk result (λ more. (more ≡ false) × (kept_refusal gather.now.pass ≡ None)) }
+    ensures refused { IfErr result (Tells (kept_refusal gather.now.pass)) }
+{
+    match gather.refusal() {
+        Some(refusal) => Err(ParseFault::Refused(refusal)),
+        None => Ok(false),
+    }
+}
+
+/// Reads up to the end of the next line, or of the source: whether there is a line.
+fn read_line<'a>(
+    alloc: Global,
+    source: &'a Source,
+    lister: &mut Lister<'a>,
+    gather: &mut LineGather<'a>,
+) -> Result<bool, ParseFault>
+    requires { StandsBetween source.now lister.old gather.old }
+    ensures line { IfOk result
+        (λ more. more ≡ true → ReadsLine source.now lister.old lister.new gather.new) }
+    ensures same { IfOk result
+        (λ more. more ≡ false
+        → lines_given source.now lister.new ≡ lines_given source.now lister.old) }
+    ensures all { IfOk result
+        (λ more. more ≡ false
+        → lines_given source.now lister.new ≡ length (lines (in_characters source.now))) }
+    ensures sound { IfOk result (λ more. more ≡ false → refusal (in_characters source.now) ≡ None) }
+    ensures marker { IfOk result
+        (λ more. more ≡ false → EndsAt (in_characters source.now) gather.new.marker) }
+    ensures refused { IfErr result (Tells (refusal (in_characters source.now))) }
+{
+    gather.clear();
+    loop {
+        match lister.next()? {
+            Step::Entry(entry) => {
+                if gather.take(alloc, source, &entry)? {
+                    if gather.refusal().is_none() {
+                        return Ok(true);
+                    }
+                    gather.clear();
+                }
+            }
+            Step::End => return end(gather),
+            Step::Fault(fault) => return Err(ParseFault::Refused(Refusal::Listing(fault))),
+        }
+    }
+}
+
+/// The logical lines of a source that have tokens, one after another: of each its level, where it
+/// starts, and what its tokens are to the grammar. They stand in one buffer, in turn.
+#[derive(Drop)]
+pub struct LogicalLines<'a> {
+    alloc: Global,
+    source: &'a Source,
+    lister: Lister<'a>,
+    gather: LineGather<'a>,
+    /// What each later call of `next` answers, once that is known.
+    outcome: Option<Result<bool, ParseFault>>,
+}
+
+impl<'a> Model for LogicalLines<'a> {
+    ghost use Rattle.pyparse_tokens.specs.LineReadings.{LineReading};
+
+    ghost Value = { LineReading };
+
+    ghost use Rattle.pyparse_tokens.specs.Inner.LineReading.{reading, IsReading};
+
+    ghost view = { reading };
+
+    ghost invariant = { IsReading };
+}
+
+impl<'a> LogicalLines<'a> {
+    /// Begins before the first line of a source; none is held.
+    pub fn new(alloc: Global, source: &'a Source) -> Result<LogicalLines<'a>, AllocError>
+        ensures before { IfOk result (λ made. made ≡ before_first source.now) }
+        ensures lawful { AreLawful }
+        ensures typed { TokensAreSound (in_characters source.now) }
+    {
+        Ok(LogicalLines {
+            alloc,
+            source,
+            lister: Lister::new(alloc, source),
+            gather: LineGather::new(alloc, source)?,
+            outcome: None,
+        })
+    }
+
+    /// What the tokens of the line that is held are, up to its NEWLINE.
+    pub fn terminals(&self) -> &[Terminal<'a>]
+        ensures { map terminal result.now ≡ self.now.terminals }
+    {
+        self.gather.terminals()
+    }
+
+    /// The levels above 0 that are open at the line that is held.
+    pub fn level(&self) -> usize
+        ensures { result ≡ self.now.level }
+    {
+        self.gather.level()
+    }
+
+    /// Where the line that is held starts: the place of its first token.
+    pub fn start(&self) -> Place
+        ensures { result ≡ self.now.start }
+    {
+        self.gather.start()
+    }
+
+    /// Whether the line that is held begins with the text `match`, as it is written, and ends in a
+    /// colon: as no line of Python 3.9 does that has a form.
+    pub fn is_match(&self) -> bool
+        ensures { result ≡ self.now.is_match }
+    {
+        self.gather.is_match()
+    }
+
+    /// Where the source ends, behind its last line: the place of ENDMARKER, its last token.
+    pub fn end(&self) -> Place
+        ensures { result ≡ self.now.marker }
+    {
+        self.gather.marker()
+    }
+
+    /// Goes to the next line: whether there is one. Once there is none, or an error was told, each
+    /// later call answers the same, and changes nothing.
+    ///
+    /// The room of the terminals is used again for each line. Besides, memory is taken only where
+    /// an INDENT comes, for the widths of the lines' indentations, and, to find its fault, for a
+    /// name with characters past ASCII.
+    ///
+    /// # Errors
+    ///
+    /// [`ParseFault::Refused`] by the reason why the source has no tokens, as
+    /// [`tokens_of`](crate::tokens_of) tells it. It may come behind lines that were given.
+    pub fn next(&mut self) -> Result<bool, ParseFault>
+        ensures source { self.new.source ≡ self.old.source }
+        ensures line { IfOk result
+            (λ more. more ≡ true
+            → HoldsLine (in_characters self.old.source) self.old.given self.new) }
+        ensures given { IfOk result
+            (λ more. self.new.given ≡ (if more then self.old.given + 1 else self.old.given)) }
+        ensures all { IfOk result
+            (λ more. more ≡ false
+            → self.old.given ≡ length (lines (in_characters self.old.source))) }
+        ensures sound { IfOk result
+            (λ more. more ≡ false → refusal (in_characters self.old.source) ≡ None) }
+        ensures end { IfOk result
+            (λ more. more ≡ false → EndsAt (in_characters self.old.source) self.new.marker) }
+        ensures refused { IfErr result (Tells (refusal (in_characters self.old.source))) }
+        ensures outcome { self.new.outcome ≡ outcome_of result }
+        ensures again { (answer : Result Bool ParseFault) → self.old.outcome ≡ Some answer
+            → (result ≡ answer) × (self.new ≡ self.old) }
+    {
+        if let Some(outcome) = self.outcome {
+            return outcome;
+        }
+        let answer = read_line(self.alloc, self.source, &mut self.lister, &mut self.gather);
+        if !matches!(answer, Ok(true)) {
+            self.outcome = Some(answer);
+        }
+        answer
+    }
+}
