@@ -5,8 +5,8 @@ ghost use Rattle.std.specs.String.{string_bytes};
 ghost use Rattle.pytree_dump_text.specs.Blocks.{listed, shown_block, shown_caught};
 ghost use Rattle.pytree_dump_text.specs.Slots.{coming, node_text};
 ghost use Rattle.pytree_dump_text.specs.Shows.{a_field, expr_field, left_out, no_field, shown};
-ghost use Rattle.pytree_dump_text.specs.Shows.{shown_arguments, shown_item, shown_keyword, shown_name};
-ghost use Rattle.pytree_dump_text.specs.Shows.{type_params_field};
+ghost use Rattle.pytree_dump_text.specs.Shows.{shown_arguments, shown_item, shown_keyword};
+ghost use Rattle.pytree_dump_text.specs.Shows.{shown_name, type_params_field};
 ghost use Rattle.pytree_node.specs.TreeOf.{arguments_of, boxed_of, item_of, keyword_of, tree_of};
 ghost use Rattle.pytree_node.specs.TreeOf.{type_param_of};
 

@@ -5,8 +5,8 @@ ghost use Rattle.std.specs.Prelude.{◌≡◌, ◌++◌, ◌&&◌, OnOk, codes, 
 ghost use Rattle.std.specs.String.{string_bytes};
 ghost use Rattle.pytree_dump_text.specs.Slots.{node_text};
 ghost use Rattle.pytree_dump_text.specs.Layout.{is_flat, text};
-ghost use Rattle.pytree_dump_text.specs.Shows.{Row, a_field, context_name, no_field, shown, shown_keyword};
-ghost use Rattle.pytree_dump_text.specs.Shows.{shown_name, showns, word};
+ghost use Rattle.pytree_dump_text.specs.Shows.{Row, a_field, context_name, no_field, shown};
+ghost use Rattle.pytree_dump_text.specs.Shows.{shown_keyword, shown_name, showns, word};
 ghost use Rattle.pytree_node.specs.TreeOf.{keyword_of, tree_of};
 
 use crate::expressions::show_expr;

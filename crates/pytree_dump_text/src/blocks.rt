@@ -3,8 +3,8 @@
 ghost use Rattle.std.specs.Prelude.{◌≡◌, ◌||◌, List, Option, codes, ℕ};
 ghost use Rattle.pytree_dump_text.specs.Blocks.{bare_option, listed, shown_block};
 ghost use Rattle.pytree_dump_text.specs.Layout.{is_flat, is_short};
-ghost use Rattle.pytree_dump_text.specs.Shows.{Row, a_field, expr_field, left_out, name_field, no_field};
-ghost use Rattle.pytree_dump_text.specs.Shows.{no_shown, shown, shown_item};
+ghost use Rattle.pytree_dump_text.specs.Shows.{Row, a_field, expr_field, left_out, name_field};
+ghost use Rattle.pytree_dump_text.specs.Shows.{no_field, no_shown, shown, shown_item};
 ghost use Rattle.pytree_node.specs.TreeOf.{item_of, option_of, tree_of};
 
 use crate::lines::is_flat;

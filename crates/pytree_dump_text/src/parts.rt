@@ -3,7 +3,8 @@
 ghost use Rattle.std.specs.Prelude.{◌≡◌, false};
 ghost use Rattle.pytree_dump_text.specs.Names.{field_name};
 ghost use Rattle.pytree_dump_text.specs.Slots.{is_missing, slot_name, slot_of, with_slot};
-ghost use Rattle.pytree_dump_text.specs.Shows.{Fields, arg_field, expr_field, name_field, optional_field};
+ghost use Rattle.pytree_dump_text.specs.Shows.{Fields, arg_field, expr_field, name_field};
+ghost use Rattle.pytree_dump_text.specs.Shows.{optional_field};
 ghost use Rattle.pytree_node.specs.TreeOf.{arg_option_of, boxed_of, option_of};
 ghost use Rattle.pytree_node.specs.Trees.{optional, optional_arg};
 

@@ -2,8 +2,8 @@
 
 ghost use Rattle.std.specs.Prelude.{◌≡◌, ◌++◌, OnOk, codes, decimal};
 ghost use Rattle.std.specs.String.{string_bytes};
-ghost use Rattle.pytree_dump_text.specs.Shows.{bool_name, comparison_name, context_name, operator_name};
-ghost use Rattle.pytree_dump_text.specs.Shows.{unary_name, value_text};
+ghost use Rattle.pytree_dump_text.specs.Shows.{bool_name, comparison_name, context_name};
+ghost use Rattle.pytree_dump_text.specs.Shows.{operator_name, unary_name, value_text};
 ghost use Rattle.pytree_node.specs.TreeOf.{constant_of};
 
 use itoa::Buffer;
