@@ -5,7 +5,7 @@ pub use Rattle.pytree_node.specs.Trees
 pub use Rattle.pytree_node.specs.Values
 pub use Rattle.pytree_dump.specs.Layout
 pub use Rattle.pytree_dump.specs.Shows
-pub use Rattle.pytree_dump.specs.declared.styles.Style
+pub use Rattle.pytree_dump.specs.Style
 pub use Rattle.pytoken.specs.Brackets
 pub use Rattle.pytoken.specs.Escapes
 pub use Rattle.pytoken.specs.Indentation

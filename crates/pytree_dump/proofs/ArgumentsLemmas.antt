@@ -12,9 +12,9 @@ use Rattle.pytree_node.specs.declared.expressions.Arguments.{Arguments}
 use Rattle.pytree_node.specs.Trees.{optional, optional_arg, args, optionals, exprs}
 use Rattle.pytree_node.specs.TreeOf.{tree_of, option_of, arg_of, arg_option_of, arguments_of}
 use Rattle.pytree_node.proofs.Callers.ExprShapes.{arguments_tree}
-use Rattle.pytree_dump.specs.Shows.{Shown, Fields, Node, Row, no_field, a_field, arg_field, shown, shown_arg, shown_args, shown_arguments, shown_exprs, shown_optional, shown_optionals, showns}
-use Rattle.pytree_dump.specs.Layout.{is_short}
-use Rattle.pytree_dump.specs.Inner.Slots.{Slot, missing, field, with_slot}
+use Rattle.pytree_dump_text.specs.Shows.{Shown, Fields, Node, Row, no_field, a_field, arg_field, shown, shown_arg, shown_args, shown_arguments, shown_exprs, shown_optional, shown_optionals, showns}
+use Rattle.pytree_dump_text.specs.Layout.{is_short}
+use Rattle.pytree_dump_text.specs.Slots.{Slot, missing, field, with_slot}
 use Rattle.pytree_dump.specs.Inner.Weights.{field_weights, slot_weight}
 use Rattle.pytree_dump.proofs.RowLemmas.{args_row, optionals_row, exprs_row, slot_weighs}
 

@@ -1,27 +1,25 @@
 -- What blocks and handlers show and weigh, and the text of a node's fields, one after another.
 --
--- Carries: the cycle of statements, is_short_test, is_short_with, is_short_handler, dump.
-use Rattle.std.proofs.Common.{◌≡◌, ℕ, ◌+◌, ◌<◌, ◌≤◌, ◌++◌, List, [], ◌∷◌, Bool, true, false, codes, refl, ap, sym, ◌∙◌, ◌||◌, ◌&&◌, length, nat_eq, map, Option, Some, None, arith}
+-- Carries: the cycle of statements, dump.
+use Rattle.std.proofs.Common.{◌≡◌, ℕ, ◌+◌, ◌<◌, ◌≤◌, ◌++◌, List, [], ◌∷◌, Bool, true, false, codes, refl, ap, sym, ◌∙◌, ◌||◌, ◌&&◌, map, Option, Some, None, arith}
 use Rattle.std.specs.Prelude.{nat_le}
 use Rattle.std.proofs.lemmas.List.{append-nil}
 use Rattle.pytree_node.specs.declared.profiles.Profile.{Profile}
 use Rattle.pytree_node.specs.declared.profiles.Profile.TheVariants as profile
 use Rattle.pytree_node.specs.declared.statements.Handler as given_handler
-use Rattle.pytree_node.specs.declared.statements.Item as given_item
 use Rattle.pytree_node.specs.declared.statements.Stmt as given_stmt
 use Rattle.pytree_node.specs.declared.statements.TypeParam as given_type_param
 use Rattle.pytree_node.specs.Trees
 use Rattle.pytree_node.specs.Trees.{Identifier, stmts, handlers}
-use Rattle.pytree_node.specs.TreeOf.{handler_of, item_of, option_of, stmt_of, type_param_of}
+use Rattle.pytree_node.specs.TreeOf.{handler_of, option_of, stmt_of, type_param_of}
 use Rattle.pytree_node.proofs.Callers.StmtShapes.{handler_tree}
-use Rattle.pytree_dump.specs.declared.styles.Style.{Style}
-use Rattle.pytree_dump.specs.Shows.{Shown, Fields, Node, Row, a_shown, a_field, left_out, no_field, no_shown, expr_field, name_field, showns, shown, shown_item, shown_module, shown_stmt, shown_stmts, shown_handlers, shown_type_param, type_params_field}
-use Rattle.pytree_dump.specs.Layout.{dump_text, text, fields, deeper, is_flat, is_short, is_simple, all_simple, shown_count}
-use Rattle.pytree_dump.specs.Inner.Blocks.{bare_option, listed, shown_block, shown_handler}
-use Rattle.pytree_dump.specs.Inner.Slots.{field, node_text}
+use Rattle.pytree_dump_text.specs.declared.styles.Style.{Style}
+use Rattle.pytree_dump_text.specs.Shows.{Shown, Fields, Node, Row, a_shown, a_field, no_field, no_shown, expr_field, name_field, showns, shown_module, shown_stmt, shown_stmts, shown_handlers, shown_type_param, type_params_field}
+use Rattle.pytree_dump_text.specs.Layout.{dump_text, text, fields, deeper, is_flat, is_short, all_simple, shown_count}
+use Rattle.pytree_dump_text.specs.Blocks.{listed, shown_block, shown_handler}
+use Rattle.pytree_dump_text.specs.Slots.{node_text}
 use Rattle.pytree_dump.specs.Inner.Weights.{weight, field_weights}
 use Rattle.pytree_dump.proofs.RowLemmas.{type_params_row}
-use Rattle.pytree_dump.proofs.SlotLemmas.{empty_is_simple, one_slot, two_slots, three_slots}
 use Rattle.pytree_dump.proofs.TextLemmas.{node_closed}
 
 pub stmts_row : (p : Profile) (ss : List given_stmt.Stmt) → shown_stmts p (stmts (map stmt_of ss)) ≡ showns (map (λ s. shown_stmt p (stmt_of s)) ss)
@@ -42,39 +40,6 @@ expr_weighs name (Some e) rest = omega arith
 pub name_weighs : (key : List ℕ) (name : Option Identifier) (rest : Fields) → field_weights rest ≤ field_weights (name_field key name rest)
 name_weighs key None rest = omega arith
 name_weighs key (Some n) rest = omega arith
-
--- which nodes with blocks are short
-pub short_test : (p : Profile) (x : Shown) (ys zs : List given_stmt.Stmt) →
-    is_short (a_field (codes "test") x (a_field (codes "body") (shown_block p ys) (a_field (codes "orelse") (shown_block p zs) no_field)))
-    ≡ is_simple x && nat_eq (length ys) 0 && nat_eq (length zs) 0
-short_test p x ys zs = three_slots (field (codes "test") x) (field (codes "body") (shown_block p ys)) (field (codes "orelse") (shown_block p zs))
-    ∙ (λ i. is_simple x && empty_is_simple (λ s. shown_stmt p (stmt_of s)) ys i && empty_is_simple (λ s. shown_stmt p (stmt_of s)) zs i)
-
-pub short_with : (p : Profile) (items : List given_item.Item) (ys : List given_stmt.Stmt) →
-    is_short (a_field (codes "items") (listed (λ item. shown_item (item_of item)) items) (a_field (codes "body") (shown_block p ys) (left_out no_field)))
-    ≡ nat_eq (length items) 0 && nat_eq (length ys) 0
-short_with p items ys = two_slots (field (codes "items") (listed (λ item. shown_item (item_of item)) items)) (field (codes "body") (shown_block p ys))
-    ∙ (λ i. empty_is_simple (λ item. shown_item (item_of item)) items i && empty_is_simple (λ s. shown_stmt p (stmt_of s)) ys i)
-
-short_body : (p : Profile) (ys : List given_stmt.Stmt) → is_short (a_field (codes "body") (shown_block p ys) no_field) ≡ nat_eq (length ys) 0
-short_body p ys = one_slot (field (codes "body") (shown_block p ys)) ∙ empty_is_simple (λ s. shown_stmt p (stmt_of s)) ys
-
-pub short_module : (p : Profile) (ys : List given_stmt.Stmt) →
-    is_short (a_field (codes "body") (shown_block p ys) (a_field (codes "type_ignores") (Row no_shown) no_field)) ≡ nat_eq (length ys) 0
-short_module p ys = short_body p ys
-
-short_typed : (p : Profile) (e : Trees.Expr) (ys : List given_stmt.Stmt) →
-    is_short (a_field (codes "type") (shown e) (a_field (codes "body") (shown_block p ys) no_field)) ≡ is_simple (shown e) && nat_eq (length ys) 0
-short_typed p e ys = two_slots (field (codes "type") (shown e)) (field (codes "body") (shown_block p ys))
-    ∙ (λ i. is_simple (shown e) && empty_is_simple (λ s. shown_stmt p (stmt_of s)) ys i)
-
-pub short_handler : (p : Profile) (class : Option Trees.Expr) (name : Option Identifier) (ys : List given_stmt.Stmt) →
-    is_short (expr_field (codes "type") class (name_field (codes "name") name (a_field (codes "body") (shown_block p ys) no_field)))
-    ≡ bare_option class && nat_eq (length ys) 0
-short_handler p None None ys = short_body p ys
-short_handler p None (Some n) ys = short_body p ys
-short_handler p (Some e) None ys = short_typed p e ys
-short_handler p (Some e) (Some n) ys = short_typed p e ys
 
 -- a node of more than three fields is never short
 too_many : (n : ℕ) → false ≡ nat_le (n + 1 + 1 + 1 + 1) 3

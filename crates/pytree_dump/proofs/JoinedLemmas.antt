@@ -1,18 +1,15 @@
 -- The text of attributes and calls on one line, with the names of fields.
 --
--- Carries: push_name_and_context, show_joined_attribute, show_joined_keywords, show_joined_call, and the lists that are empty.
+-- Carries: show_joined_attribute, show_joined_keywords, show_joined_call, and the lists that are empty.
 use Rattle.std.proofs.Common.{◌≡◌, ◌∙◌, ap, sym, refl, ◌++◌, ◌∷◌, ◌||◌, ◌&&◌, ℕ, List, [], Bool, true, false, codes, Option, Some, None, map, length, nat_eq, arith}
 use Rattle.std.proofs.lemmas.Bool.{both_ways, eqb-true}
 use Rattle.std.proofs.lemmas.List.{append-nil, append_assoc}
-use Rattle.std.specs.List.{list_all}
-use Rattle.std.specs.Str.{chars}
 use Rattle.pytree_node.specs.declared.operators.Context.{Context}
-use Rattle.pysource.specs.Reprs.{is_plain, repr_text}
-use Rattle.pysource.proofs.Callers.Printing.{plain_repr}
-use Rattle.pytree_dump.specs.declared.styles.Style.{Style}
-use Rattle.pytree_dump.specs.Shows.{Shown, Fields, Row, a_field, context_name, no_field, shown_name, showns, word}
-use Rattle.pytree_dump.specs.Layout.{deeper, fields, is_flat, is_short, text}
-use Rattle.pytree_dump.specs.Inner.Slots.{node_text}
+use Rattle.pysource.specs.Reprs.{repr_text}
+use Rattle.pytree_dump_text.specs.declared.styles.Style.{Style}
+use Rattle.pytree_dump_text.specs.Shows.{Shown, Fields, Row, a_field, context_name, no_field, shown_name, showns, word}
+use Rattle.pytree_dump_text.specs.Layout.{deeper, fields, is_flat, is_short, text}
+use Rattle.pytree_dump_text.specs.Slots.{node_text}
 
 first_of : (a b : Bool) → (a && b) ≡ true → a ≡ true
 first_of true b e = refl
@@ -78,21 +75,3 @@ empty_row g [] s f e = refl
 empty_row g (x ∷ xs) s f e =
     let none : length (x ∷ xs) ≡ 0 = eqb-true (length (x ∷ xs)) 0 e in
     absurd (omega (arith, none))
-
--- a name between quotes, and what stands round it
-quoted_name : (o p b e : List ℕ) → ((o ++ (p ++ 39 ∷ [])) ++ b) ++ (39 ∷ e) ≡ o ++ (p ++ (39 ∷ b ++ 39 ∷ []) ++ e)
-quoted_name o p b e = simp append_assoc refl
-
-pub plain_attribute : (bs : List ℕ) (c : Context) (o0 o1 o2 o3 : List ℕ) → list_all is_plain bs ≡ true →
-    o1 ≡ o0 ++ codes ", attr='" → o2 ≡ o1 ++ bs → o3 ≡ o2 ++ (codes "', ctx=" ++ context_name c ++ codes "())") →
-    o3 ≡ o0 ++ (codes ", attr=" ++ repr_text (chars bs) ++ (codes ", ctx=" ++ context_name c ++ codes "())"))
-plain_attribute bs c o0 o1 o2 o3 plain e1 e2 e3 =
-    let end = codes ", ctx=" ++ context_name c ++ codes "())" in
-    e3 ∙ ap (λ z. z ++ (39 ∷ end)) (e2 ∙ ap (λ z. z ++ bs) e1)
-    ∙ quoted_name o0 (codes ", attr=") bs end
-    ∙ ap (λ z. o0 ++ (codes ", attr=" ++ z ++ end)) (sym (plain_repr bs plain))
-
-pub told_attribute : (x o0 o1 o2 o3 start end : List ℕ) → o1 ≡ o0 ++ start → o2 ≡ o1 ++ repr_text x → o3 ≡ o2 ++ end →
-    o3 ≡ o0 ++ (start ++ repr_text x ++ end)
-told_attribute x o0 o1 o2 o3 start end e1 e2 e3 =
-    e3 ∙ ap (λ z. z ++ end) (e2 ∙ ap (λ z. z ++ repr_text x) e1) ∙ simp append_assoc refl

@@ -1,10 +1,6 @@
 mod ArgumentsLemmas
 mod BlockLemmas
-mod Examples
 mod JoinedLemmas
-mod LeafLemmas
-mod LineLemmas
 mod PieceLemmas
-mod SlotLemmas
 mod RowLemmas
 mod TextLemmas

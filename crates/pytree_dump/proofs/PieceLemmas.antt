@@ -6,10 +6,10 @@ use Rattle.std.specs.List.{concat}
 use Rattle.std.proofs.lemmas.List.{append-nil, append_assoc}
 use Rattle.pytree_node.specs.declared.statements.Stmt.{Stmt}
 use Rattle.pytree_node.specs.TreeOf.{stmt_of}
-use Rattle.pytree_dump.specs.declared.styles.Style.{Style}
-use Rattle.pytree_dump.specs.Shows.{Fields, Row, a_field, no_field, no_shown, showns, shown_module, shown_stmt}
-use Rattle.pytree_dump.specs.Layout.{before, deeper, dump_text, fields, is_flat, is_short, label, members, text}
-use Rattle.pytree_dump.specs.Inner.Blocks.{shown_block}
+use Rattle.pytree_dump_text.specs.declared.styles.Style.{Style}
+use Rattle.pytree_dump_text.specs.Shows.{Fields, Row, a_field, no_field, no_shown, showns, shown_module, shown_stmt}
+use Rattle.pytree_dump_text.specs.Layout.{before, deeper, dump_text, fields, is_flat, is_short, label, members, text}
+use Rattle.pytree_dump_text.specs.Blocks.{shown_block}
 use Rattle.pytree_dump.specs.Inner.Pieces.{statement_pieces}
 use Rattle.pytree_dump.proofs.BlockLemmas.{module_text, node_shown}
 

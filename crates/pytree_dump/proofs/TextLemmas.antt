@@ -4,11 +4,11 @@
 use Rattle.std.proofs.Common.{◌≡◌, ℕ, zero, suc, ◌+◌, ◌<◌, ◌++◌, List, [], ◌∷◌, Bool, true, false, codes, refl, ap, sym, ◌∙◌, ◌||◌, length, take, drop, map, get_or, replicate, Option, Some, None, arith}
 use Rattle.std.proofs.lemmas.Bool.{both_ways}
 use Rattle.std.proofs.lemmas.List.{append-nil, append_assoc, take_all, take_at}
-use Rattle.pytree_dump.specs.declared.styles.Style.{Style}
-use Rattle.pytree_dump.specs.declared.lines.Told.{Told}
-use Rattle.pytree_dump.specs.Shows.{Shown, Fields, no_field, showns}
-use Rattle.pytree_dump.specs.Layout.{text, fields, members, before, deeper, is_flat, is_short, label}
-use Rattle.pytree_dump.specs.Inner.Slots.{Slot, missing, field, coming, is_missing, node_text, slot_name, slot_shown, with_slot}
+use Rattle.pytree_dump_text.specs.declared.styles.Style.{Style}
+use Rattle.pytree_dump_text.specs.declared.lines.Told.{Told}
+use Rattle.pytree_dump_text.specs.Shows.{Shown, Fields, no_field, showns}
+use Rattle.pytree_dump_text.specs.Layout.{text, fields, members, before, deeper, is_flat, is_short, label}
+use Rattle.pytree_dump_text.specs.Slots.{Slot, missing, field, coming, is_missing, node_text, slot_name, slot_shown, with_slot}
 
 -- the front of a line, one level deeper and then as it was
 pub left : (indent : Option ℕ) (f0 f1 f2 : List ℕ) (n : ℕ) → n ≡ length f0 → f1 ≡ deeper indent f0 → f2 ≡ take n f1 → f2 ≡ f0

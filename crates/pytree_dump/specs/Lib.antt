@@ -1,3 +1,4 @@
 pub mod Inner
-pub mod Layout
-pub mod Shows
+pub use Rattle.pytree_dump_text.specs.Layout
+pub use Rattle.pytree_dump_text.specs.Shows
+pub use Rattle.pytree_dump_text.specs.declared.styles.Style

@@ -2,22 +2,20 @@
 
 ghost use Rattle.std.specs.Prelude.{◌≡◌, ◌++◌, OnOk, codes, map};
 ghost use Rattle.std.specs.String.{string_bytes};
-ghost use Rattle.pytree_dump.specs.Inner.Blocks.{listed, shown_block, shown_caught};
-ghost use Rattle.pytree_dump.specs.Inner.Slots.{coming, node_text};
-ghost use Rattle.pytree_dump.specs.Shows.{a_field, expr_field, left_out, no_field, shown};
-ghost use Rattle.pytree_dump.specs.Shows.{shown_arguments, shown_item, shown_keyword, shown_name};
-ghost use Rattle.pytree_dump.specs.Shows.{type_params_field};
+ghost use Rattle.pytree_dump_text.specs.Blocks.{listed, shown_block, shown_caught};
+ghost use Rattle.pytree_dump_text.specs.Slots.{coming, node_text};
+ghost use Rattle.pytree_dump_text.specs.Shows.{a_field, expr_field, left_out, no_field, shown};
+ghost use Rattle.pytree_dump_text.specs.Shows.{shown_arguments, shown_item, shown_keyword};
+ghost use Rattle.pytree_dump_text.specs.Shows.{shown_name, type_params_field};
 ghost use Rattle.pytree_node.specs.TreeOf.{arguments_of, boxed_of, item_of, keyword_of, tree_of};
 ghost use Rattle.pytree_node.specs.TreeOf.{type_param_of};
 
-use crate::blocks::{is_short_test, is_short_with};
-use crate::fields::Field;
 use crate::handlers::show_caught;
-use crate::lines::{Told, close, is_flat, open};
 use crate::nodes::show_field;
-use crate::parts::{Part, boxed_part};
 use crate::statements::show_block;
-use crate::styles::Style;
+use pytree_dump_text::{
+    Field, Part, Style, Told, boxed_part, close, is_flat, is_short_test, is_short_with, open,
+};
 use pytree_node::{Arguments, Expr, Handler, Identifier, Item, Keyword, Profile, Stmt, TypeParam};
 use std::alloc::AllocError;
 

@@ -2,16 +2,13 @@
 
 ghost use Rattle.std.specs.Prelude.{◌≡◌, ◌++◌, IfOk, OnOk};
 ghost use Rattle.std.specs.String.{string_bytes};
-ghost use Rattle.pytree_dump.specs.Layout.{dump_text, text};
-ghost use Rattle.pytree_dump.specs.Shows.{shown};
+ghost use Rattle.pytree_dump_text.specs.Layout.{dump_text, text};
+ghost use Rattle.pytree_dump_text.specs.Shows.{shown};
 ghost use Rattle.pytree_node.specs.TreeOf.{tree_of};
 
-use crate::fields::Field;
 use crate::joined::{is_joined, show_joined_attribute, show_joined_call};
-use crate::leaves::{show_constant, show_name};
 use crate::nodes::{show_one, show_three, show_two};
-use crate::parts::{Part, boxed_part};
-use crate::styles::Style;
+use pytree_dump_text::{Field, Part, Style, boxed_part, show_constant, show_name};
 use pytree_node::Expr;
 use std::alloc::{AllocError, Global};
 

@@ -2,19 +2,18 @@
 
 ghost use Rattle.std.specs.Prelude.{◌≡◌, ◌++◌, IfOk, OnOk, codes};
 ghost use Rattle.std.specs.String.{string_bytes};
-ghost use Rattle.pytree_dump.specs.Inner.Blocks.{shown_caught, shown_handler};
-ghost use Rattle.pytree_dump.specs.Inner.Slots.{coming};
-ghost use Rattle.pytree_dump.specs.Layout.{text};
-ghost use Rattle.pytree_dump.specs.Shows.{Fields, a_field};
+ghost use Rattle.pytree_dump_text.specs.Blocks.{shown_caught, shown_handler};
+ghost use Rattle.pytree_dump_text.specs.Slots.{coming};
+ghost use Rattle.pytree_dump_text.specs.Layout.{text};
+ghost use Rattle.pytree_dump_text.specs.Shows.{Fields, a_field};
 ghost use Rattle.pytree_node.specs.TreeOf.{handler_of};
 
-use crate::blocks::is_short_handler;
-use crate::fields::Field;
-use crate::lines::{Told, close, is_flat, open, push_before, push_lead};
 use crate::nodes::show_field;
-use crate::parts::{name_part, option_part};
 use crate::statements::show_block;
-use crate::styles::Style;
+use pytree_dump_text::{
+    Field, Style, Told, close, is_flat, is_short_handler, name_part, open, option_part,
+    push_before, push_lead,
+};
 use pytree_node::{Handler, Stmt};
 use std::alloc::AllocError;
 

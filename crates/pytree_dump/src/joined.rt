@@ -3,17 +3,15 @@
 
 ghost use Rattle.std.specs.Prelude.{◌≡◌, ◌++◌, ◌&&◌, OnOk, codes, map, true};
 ghost use Rattle.std.specs.String.{string_bytes};
-ghost use Rattle.pytree_dump.specs.Inner.Slots.{node_text};
-ghost use Rattle.pytree_dump.specs.Layout.{is_flat, text};
-ghost use Rattle.pytree_dump.specs.Shows.{Row, a_field, context_name, no_field, shown, shown_keyword};
-ghost use Rattle.pytree_dump.specs.Shows.{shown_name, showns, word};
+ghost use Rattle.pytree_dump_text.specs.Slots.{node_text};
+ghost use Rattle.pytree_dump_text.specs.Layout.{is_flat, text};
+ghost use Rattle.pytree_dump_text.specs.Shows.{Row, a_field, context_name, no_field, shown};
+ghost use Rattle.pytree_dump_text.specs.Shows.{shown_keyword, shown_name, showns, word};
 ghost use Rattle.pytree_node.specs.TreeOf.{keyword_of, tree_of};
 
 use crate::expressions::show_expr;
-use crate::leaves::push_name_and_context;
-use crate::lines::is_flat;
 use crate::lists::{show_exprs, show_keywords};
-use crate::styles::Style;
+use pytree_dump_text::{Style, is_flat, push_name_and_context};
 use pytree_node::{Context, Expr, Identifier, Keyword};
 use std::alloc::AllocError;
 

@@ -2,23 +2,24 @@
 
 ghost use Rattle.std.specs.Prelude.{◌≡◌, ◌++◌, OnOk, map};
 ghost use Rattle.std.specs.String.{string_bytes};
-ghost use Rattle.pytree_dump.specs.Layout.{text};
-ghost use Rattle.pytree_dump.specs.Shows.{Row, comparison_name, shown, shown_alias, shown_arg};
-ghost use Rattle.pytree_dump.specs.Shows.{shown_comprehension, shown_item, shown_keyword, shown_name};
-ghost use Rattle.pytree_dump.specs.Shows.{shown_optional, shown_type_param, showns, word};
+ghost use Rattle.pytree_dump_text.specs.Layout.{text};
+ghost use Rattle.pytree_dump_text.specs.Shows.{Row, comparison_name, shown, shown_alias, shown_arg};
+ghost use Rattle.pytree_dump_text.specs.Shows.{shown_comprehension, shown_item, shown_keyword};
+ghost use Rattle.pytree_dump_text.specs.Shows.{shown_name, shown_optional, shown_type_param};
+ghost use Rattle.pytree_dump_text.specs.Shows.{showns, word};
 ghost use Rattle.pytree_node.specs.TreeOf.{alias_of, arg_of, comprehension_of, item_of, keyword_of};
 ghost use Rattle.pytree_node.specs.TreeOf.{option_of, tree_of, type_param_of};
 ghost use Rattle.pytree_node.specs.Trees.{optional};
 
 use crate::expressions::show_expr;
-use crate::lines::{close, is_flat, open, push_before};
 use crate::members::{
     show_alias, show_arg, show_comprehension, show_item, show_keyword, show_type_param,
 };
-use crate::styles::Style;
-use crate::words::comparison_word;
-use pytree_node::{Alias, Arg, Comparison, Comprehension, Expr, Identifier, Item, Keyword, TypeParam};
 use pysource::push_repr;
+use pytree_dump_text::{Style, close, comparison_word, is_flat, open, push_before};
+use pytree_node::{
+    Alias, Arg, Comparison, Comprehension, Expr, Identifier, Item, Keyword, TypeParam,
+};
 use std::alloc::AllocError;
 
 /// Appends a list of expressions.

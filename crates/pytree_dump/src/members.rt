@@ -2,16 +2,15 @@
 
 ghost use Rattle.std.specs.Prelude.{◌≡◌, ◌++◌, OnOk};
 ghost use Rattle.std.specs.String.{string_bytes};
-ghost use Rattle.pytree_dump.specs.Layout.{text};
-ghost use Rattle.pytree_dump.specs.Shows.{shown_alias, shown_arg, shown_arguments, shown_comprehension};
-ghost use Rattle.pytree_dump.specs.Shows.{shown_item, shown_keyword, shown_type_param};
+ghost use Rattle.pytree_dump_text.specs.Layout.{text};
+ghost use Rattle.pytree_dump_text.specs.Shows.{shown_alias, shown_arg, shown_arguments};
+ghost use Rattle.pytree_dump_text.specs.Shows.{shown_comprehension, shown_item, shown_keyword};
+ghost use Rattle.pytree_dump_text.specs.Shows.{shown_type_param};
 ghost use Rattle.pytree_node.specs.TreeOf.{alias_of, arg_of, arguments_of, comprehension_of, item_of};
 ghost use Rattle.pytree_node.specs.TreeOf.{keyword_of, type_param_of};
 
-use crate::fields::Field;
 use crate::nodes::{show_four, show_one, show_seven, show_three, show_two};
-use crate::parts::{Part, arg_part, boxed_part, name_part, option_part};
-use crate::styles::Style;
+use pytree_dump_text::{Field, Part, Style, arg_part, boxed_part, name_part, option_part};
 use pytree_node::{Alias, Arg, Arguments, Comprehension, Item, Keyword, TypeParam};
 use std::alloc::AllocError;
 

@@ -2,17 +2,13 @@
 
 ghost use Rattle.std.specs.Prelude.{◌≡◌, IfOk};
 ghost use Rattle.std.specs.String.{string_bytes};
-ghost use Rattle.pytree_dump.specs.Layout.{dump_text};
-ghost use Rattle.pytree_dump.specs.Shows.{shown_module};
+ghost use Rattle.pytree_dump_text.specs.Layout.{dump_text};
+ghost use Rattle.pytree_dump_text.specs.Shows.{shown_module};
 ghost use Rattle.pytree_node.specs.TreeOf.{module_of};
 
-use crate::blocks::is_short_module;
-use crate::fields::Field;
-use crate::lines::{Told, close, open};
 use crate::nodes::show_field;
-use crate::parts::Part;
 use crate::statements::show_block;
-use crate::styles::Style;
+use pytree_dump_text::{Field, Part, Style, Told, close, is_short_module, open};
 use pytree_node::{Module, Stmt};
 use std::alloc::{AllocError, Global};
 

@@ -2,22 +2,22 @@
 
 ghost use Rattle.std.specs.Prelude.{◌≡◌, ◌++◌, false, IfOk, OnOk};
 ghost use Rattle.std.specs.String.{string_bytes};
-ghost use Rattle.pytree_dump.specs.Inner.Slots.{coming, node_text, slot_of, slot_shown, with_slot};
-ghost use Rattle.pytree_dump.specs.Layout.{is_short, text};
-ghost use Rattle.pytree_dump.specs.Shows.{Fields, no_field};
+ghost use Rattle.pytree_dump_text.specs.Slots.{coming, node_text, slot_of, slot_shown, with_slot};
+ghost use Rattle.pytree_dump_text.specs.Layout.{is_short, text};
+ghost use Rattle.pytree_dump_text.specs.Shows.{Fields, no_field};
 
 use crate::expressions::show_expr;
-use crate::lines::{Told, close, is_flat, open, push_lead};
 use crate::lists::{
     show_aliases, show_args, show_comparisons, show_comprehensions, show_exprs, show_items,
     show_keywords, show_names, show_options, show_type_params,
 };
 use crate::members::{show_arg, show_arguments};
-use crate::parts::{Part, field_of, is_absent};
-use crate::shortness::{is_short_four, is_short_one, is_short_three, is_short_two};
-use crate::styles::Style;
-use crate::words::{bool_word, context_word, operator_word, push_number, push_value, unary_word};
 use pysource::push_repr;
+use pytree_dump_text::{
+    Part, Style, Told, after_left_out, bool_word, close, context_word, field_of, is_absent,
+    is_flat, is_short_four, is_short_one, is_short_three, is_short_two, open, operator_word,
+    push_lead, push_number, push_value, unary_word,
+};
 use std::alloc::AllocError;
 
 /// Appends what a field shows.
@@ -78,11 +78,7 @@ pub(crate) fn show_field(
     ensures front { OnOk result (string_bytes front.new ≡ string_bytes front.old) }
 {
     if is_absent(part) {
-        return Ok(Told {
-            one_line: told.one_line,
-            named: true,
-            first: told.first,
-        });
+        return Ok(after_left_out(told));
     }
     push_lead(out, front.as_str(), told, field_of(part))?;
     show_part(out, front, style, part)?;

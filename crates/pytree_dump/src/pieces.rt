@@ -4,17 +4,15 @@ ghost use Rattle.std.specs.Prelude.{◌≡◌, ◌+◌, ◌++◌, ◌<◌, ◌�
 ghost use Rattle.std.specs.Prelude.{length, IfOk, OnOk};
 ghost use Rattle.std.specs.List.{concat};
 ghost use Rattle.std.specs.String.{string_bytes};
-ghost use Rattle.pytree_dump.specs.Layout.{dump_text};
-ghost use Rattle.pytree_dump.specs.Shows.{shown_module};
+ghost use Rattle.pytree_dump_text.specs.Layout.{dump_text};
+ghost use Rattle.pytree_dump_text.specs.Shows.{shown_module};
 ghost use Rattle.pytree_node.specs.TreeOf.{module_of};
 
-use crate::blocks::is_short_module;
-use crate::fields::Field;
-use crate::lines::{Told, is_flat, open, push_before, push_lead};
 use crate::nodes::show_field;
-use crate::parts::Part;
 use crate::statements::show_stmt;
-use crate::styles::Style;
+use pytree_dump_text::{
+    Field, Part, Style, Told, is_flat, is_short_module, open, push_before, push_lead,
+};
 use pytree_node::{Module, Stmt};
 use std::alloc::{AllocError, Global};
 use std::marker::Model;

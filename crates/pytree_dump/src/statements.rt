@@ -2,19 +2,19 @@
 
 ghost use Rattle.std.specs.Prelude.{◌≡◌, ◌++◌, IfOk, OnOk};
 ghost use Rattle.std.specs.String.{string_bytes};
-ghost use Rattle.pytree_dump.specs.Inner.Blocks.{shown_block};
-ghost use Rattle.pytree_dump.specs.Inner.Names.{field_name};
-ghost use Rattle.pytree_dump.specs.Inner.Slots.{coming};
-ghost use Rattle.pytree_dump.specs.Layout.{text};
-ghost use Rattle.pytree_dump.specs.Shows.{Fields, a_field, shown_stmt};
+ghost use Rattle.pytree_dump_text.specs.Blocks.{shown_block};
+ghost use Rattle.pytree_dump_text.specs.Names.{field_name};
+ghost use Rattle.pytree_dump_text.specs.Slots.{coming};
+ghost use Rattle.pytree_dump_text.specs.Layout.{text};
+ghost use Rattle.pytree_dump_text.specs.Shows.{Fields, a_field, shown_stmt};
 ghost use Rattle.pytree_node.specs.TreeOf.{stmt_of};
 
 use crate::compounds::{show_class, show_for, show_function, show_test, show_try, show_with};
-use crate::fields::Field;
-use crate::lines::{Told, close, is_flat, open, push_before, push_lead};
 use crate::nodes::{show_four, show_one, show_three, show_two};
-use crate::parts::{Part, boxed_part, name_part, option_part};
-use crate::styles::Style;
+use pytree_dump_text::{
+    Field, Part, Style, Told, boxed_part, close, is_flat, name_part, open, option_part,
+    push_before, push_lead,
+};
 use pytree_node::Stmt;
 use std::alloc::AllocError;
 

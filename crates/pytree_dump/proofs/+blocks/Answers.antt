@@ -1,10 +1,10 @@
 use Rattle.std.specs.Prelude.{decimal}
 use Rattle.std.proofs.Common.{◌≡◌, ◌+◌, true, arith, refl, sym, map, ◌∙◌, codes}
 use Rattle.pytree_node.specs.TreeOf.{alias_of, arguments_of, boxed_of, handler_of, item_of, keyword_of, option_of, stmt_of, tree_of, type_param_of}
-use Rattle.pytree_dump.specs.Shows.{Fields, Node, Scalar, a_field, expr_field, left_out, name_field, no_field, shown, shown_alias, shown_arguments, shown_flag, shown_item, shown_keyword, shown_name, shown_stmt, type_params_field}
-use Rattle.pytree_dump.specs.Layout.{shown_count}
-use Rattle.pytree_dump.specs.Inner.Blocks.{listed, shown_block, shown_caught, shown_handler}
-use Rattle.pytree_dump.specs.Inner.Slots.{slot_of, with_slot}
+use Rattle.pytree_dump_text.specs.Shows.{Fields, Node, Scalar, a_field, expr_field, left_out, name_field, no_field, shown, shown_alias, shown_arguments, shown_flag, shown_item, shown_keyword, shown_name, shown_stmt, type_params_field}
+use Rattle.pytree_dump_text.specs.Layout.{shown_count}
+use Rattle.pytree_dump_text.specs.Blocks.{listed, shown_block, shown_caught, shown_handler}
+use Rattle.pytree_dump_text.specs.Slots.{slot_of, with_slot}
 use Rattle.pytree_dump.proofs.RowLemmas.{aliases_row, boxed_field, exprs_row, items_row, keywords_row, member_weight, names_row, type_params_row}
 use Rattle.pytree_dump.proofs.BlockLemmas.{ahead, ahead_as, at_end, handler_shows, handler_weighs, long_node, node_shown, stmts_row, text_as}
 use Rattle.pytree_node.specs.declared.statements.Handler as given_handler

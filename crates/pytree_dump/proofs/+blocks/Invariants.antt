@@ -1,9 +1,9 @@
 use Rattle.std.proofs.Common.{◌≡◌, ◌+◌, ◌*◌, ◌++◌, true, map, drop}
 use Rattle.std.specs.String.{string_bytes}
 use Rattle.pytree_node.specs.TreeOf.{handler_of, stmt_of}
-use Rattle.pytree_dump.specs.Layout.{members}
-use Rattle.pytree_dump.specs.Shows.{shown_stmt, showns}
-use Rattle.pytree_dump.specs.Inner.Blocks.{shown_block, shown_caught, shown_handler}
+use Rattle.pytree_dump_text.specs.Layout.{members}
+use Rattle.pytree_dump_text.specs.Shows.{shown_stmt, showns}
+use Rattle.pytree_dump_text.specs.Blocks.{shown_block, shown_caught, shown_handler}
 use Rattle.pytree_dump.specs.Inner.Weights.{weight}
 use Rattle.pytree_dump.proofs.+blocks.Given as goal
 

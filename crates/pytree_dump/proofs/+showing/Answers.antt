@@ -2,12 +2,12 @@ use Rattle.std.proofs.Common.{rules, ◌≡◌, ◌+◌, ◌++◌, OnOk, arith, 
 use Rattle.std.specs.String.{string_bytes}
 use Rattle.pytree_node.specs.Trees.{optional}
 use Rattle.pytree_node.specs.TreeOf.{tree_of, option_of, comprehension_of, keyword_of, arg_of, arguments_of, item_of, type_param_of}
-use Rattle.pytree_dump.specs.Layout.{text, before, is_flat}
-use Rattle.pytree_dump.specs.Shows.{shown, shown_optional, shown_comprehension, shown_keyword, shown_arg, shown_arguments, shown_item, shown_type_param, word, comparison_name, showns, Row, no_field}
-use Rattle.pytree_dump.specs.Inner.Slots.{is_missing, slot_of, with_slot}
+use Rattle.pytree_dump_text.specs.Layout.{text, before, is_flat}
+use Rattle.pytree_dump_text.specs.Shows.{shown, shown_optional, shown_comprehension, shown_keyword, shown_arg, shown_arguments, shown_item, shown_type_param, word, comparison_name, showns, Row, no_field}
+use Rattle.pytree_dump_text.specs.Slots.{is_missing, slot_of, with_slot}
 use Rattle.pytree_dump.specs.Inner.Weights.{weight, field_weights}
 use Rattle.pytree_dump.proofs.JoinedLemmas.{attribute_text, call_text, empty_row, keywords_text}
-use Rattle.pytree_dump.proofs.LeafLemmas.{on_ok, where_pushed}
+use Rattle.pytree_dump_text.proofs.Callers.Results.{on_ok, where_pushed}
 use Rattle.pytree_dump.proofs.ArgumentsLemmas.{alone, five_shown, seven_weigh, arguments_shown}
 use Rattle.pytree_dump.proofs.RowLemmas.{slot_weighs, member_weight, exprs_row, comprehensions_row, keywords_row, comparisons_row, optionals_row}
 use Rattle.pytree_dump.proofs.TextLemmas.{field_shown, left, node_closed, one_field, two_fields, three_fields, four_fields, then_fields, member_shown}

@@ -2,9 +2,9 @@ use Rattle.std.proofs.Common.{◌≡◌, ◌+◌, ◌*◌, ◌++◌, true, map, 
 use Rattle.std.specs.String.{string_bytes}
 use Rattle.pytree_node.specs.Trees.{optional}
 use Rattle.pytree_node.specs.TreeOf.{tree_of, option_of, comprehension_of, keyword_of, arg_of, arguments_of, alias_of, item_of, type_param_of}
-use Rattle.pytree_dump.specs.Layout.{members}
-use Rattle.pytree_dump.specs.Shows.{shown, shown_optional, shown_comprehension, shown_keyword, shown_arg, shown_arguments, shown_alias, shown_item, shown_type_param, showns, Row, no_field}
-use Rattle.pytree_dump.specs.Inner.Slots.{slot_of, slot_shown, with_slot}
+use Rattle.pytree_dump_text.specs.Layout.{members}
+use Rattle.pytree_dump_text.specs.Shows.{shown, shown_optional, shown_comprehension, shown_keyword, shown_arg, shown_arguments, shown_alias, shown_item, shown_type_param, showns, Row, no_field}
+use Rattle.pytree_dump_text.specs.Slots.{slot_of, slot_shown, with_slot}
 use Rattle.pytree_dump.specs.Inner.Weights.{weight, field_weights, slot_weight}
 use Rattle.pytree_dump.proofs.+showing.Given as goal
 

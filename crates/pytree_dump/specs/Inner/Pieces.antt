@@ -6,9 +6,9 @@ use Rattle.pytree_node.specs.TreeOf.{stmt_of}
 use Rattle.pytree_dump.specs.declared.pieces.Pieces.TheInside.{Inside}
 use Rattle.pytree_dump.specs.declared.pieces.Stage.{Stage}
 use Rattle.pytree_dump.specs.declared.pieces.Stage.TheVariants as stage
-use Rattle.pytree_dump.specs.declared.styles.Style.{Style}
-use Rattle.pytree_dump.specs.Layout.{before, is_flat, text}
-use Rattle.pytree_dump.specs.Shows.{shown_stmt}
+use Rattle.pytree_dump_text.specs.declared.styles.Style.{Style}
+use Rattle.pytree_dump_text.specs.Layout.{before, is_flat, text}
+use Rattle.pytree_dump_text.specs.Shows.{shown_stmt}
 
 -- a piece for each statement, and what ends the text
 abbrev pub statement_pieces : Style → List ℕ → Bool → List ℕ → List Stmt → List (List ℕ)

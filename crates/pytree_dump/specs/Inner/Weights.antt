@@ -1,7 +1,7 @@
 -- The size of what is shown.
 use Rattle.std.specs.Prelude.{ℕ, ◌+◌}
-use Rattle.pytree_dump.specs.Shows.{Shown, Showns, Fields, Scalar, Row, Node, no_shown, a_shown, no_field, a_field, left_out}
-use Rattle.pytree_dump.specs.Inner.Slots.{Slot, missing, field}
+use Rattle.pytree_dump_text.specs.Shows.{Shown, Showns, Fields, Scalar, Row, Node, no_shown, a_shown, no_field, a_field, left_out}
+use Rattle.pytree_dump_text.specs.Slots.{Slot, missing, field}
 
 abbrev mutual
   pub weight : Shown → ℕ

@@ -1,4 +1,4 @@
-use Rattle.pytree_dump.specs.Shows.{no_field}
+use Rattle.pytree_dump_text.specs.Shows.{no_field}
 use Rattle.pytree_dump.proofs.BlockLemmas.{type_params_text}
 use Rattle.pytree_dump.proofs.compounds.show_type_params.Goals as goal
 use Rattle.pytree_dump.proofs.compounds.show_type_params.Goals.{in-Py311, in-Py312}

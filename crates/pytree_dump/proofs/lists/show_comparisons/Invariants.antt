@@ -1,7 +1,7 @@
 use Rattle.std.proofs.Common.{◌≡◌, ◌++◌, true, map, drop}
 use Rattle.std.specs.String.{string_bytes}
-use Rattle.pytree_dump.specs.Layout.{members}
-use Rattle.pytree_dump.specs.Shows.{word, comparison_name, showns}
+use Rattle.pytree_dump_text.specs.Layout.{members}
+use Rattle.pytree_dump_text.specs.Shows.{word, comparison_name, showns}
 use Rattle.pytree_dump.proofs.lists.show_comparisons.Given as goal
 
 abbrev pub invariant-loop-c : goal.invariant-loop-c

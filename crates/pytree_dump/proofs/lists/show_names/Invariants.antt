@@ -1,7 +1,7 @@
 use Rattle.std.proofs.Common.{◌≡◌, ◌++◌, true, map, drop}
 use Rattle.std.specs.String.{string_bytes}
-use Rattle.pytree_dump.specs.Layout.{members}
-use Rattle.pytree_dump.specs.Shows.{shown_name, showns}
+use Rattle.pytree_dump_text.specs.Layout.{members}
+use Rattle.pytree_dump_text.specs.Shows.{shown_name, showns}
 use Rattle.pytree_dump.proofs.lists.show_names.Given as goal
 
 abbrev pub invariant-loop-name : goal.invariant-loop-name

@@ -1,6 +1,6 @@
 use Rattle.std.proofs.Common.{codes}
-use Rattle.pytree_dump.specs.Shows.{Fields, Row, a_field, no_field, no_shown}
-use Rattle.pytree_dump.specs.Inner.Blocks.{shown_block}
+use Rattle.pytree_dump_text.specs.Shows.{Fields, Row, a_field, no_field, no_shown}
+use Rattle.pytree_dump_text.specs.Blocks.{shown_block}
 use Rattle.pytree_dump.proofs.BlockLemmas.{ahead, at_end, module_text, node_shown}
 use Rattle.pytree_dump.proofs.modules.dump.Goals as goal
 

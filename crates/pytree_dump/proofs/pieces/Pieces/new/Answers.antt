@@ -1,5 +1,5 @@
 use Rattle.std.proofs.Common.{ap, arith, length}
-use Rattle.pytree_dump.specs.Shows.{no_field}
+use Rattle.pytree_dump_text.specs.Shows.{no_field}
 use Rattle.pytree_dump.proofs.PieceLemmas.{module_pieces, statement_count}
 use Rattle.pytree_dump.proofs.pieces.Pieces.new.Goals as goal
 

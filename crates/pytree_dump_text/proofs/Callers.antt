@@ -1,0 +1,2 @@
+-- What callers cite of what an appended text means.
+pub mod Results

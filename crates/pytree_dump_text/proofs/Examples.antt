@@ -1,0 +1,105 @@
+-- Dumps of trees by the definition.
+--
+-- Carries: no contract; its rows are computed as it is checked.
+use Rattle.std.proofs.Common.{◌≡◌, ℕ, List, true, false, [], ◌∷◌, Some, None, refl, codes}
+use Rattle.std.specs.Char.{encode_utf8}
+use Rattle.std.specs.Fmt.{digits}
+use Rattle.ucd_category.proofs.Computing.{ucd_category}
+use Rattle.pytree_node.specs.declared.operators.Context.TheVariants as context
+use Rattle.pytree_dump_text.specs.declared.styles.Style.{Style}
+use Rattle.pytree_node.specs.declared.profiles.Profile.TheVariants.{Py311, Py312}
+use Rattle.pytree_node.specs.Values as value
+use Rattle.pytree_node.specs.Trees
+use Rattle.pytree_node.specs.Trees.{Expr, Module}
+use Rattle.pytree_dump_text.specs.Shows.{shown, shown_module, shown_arguments}
+use Rattle.pytree_dump_text.specs.Layout.{dump_text}
+
+abbrev plain : Style
+plain = record { indent = None; names = true; profile = Py311 }
+
+abbrev bare : Style
+bare = record { indent = None; names = false; profile = Py311 }
+
+abbrev two : Style
+two = record { indent = Some 2; names = true; profile = Py311 }
+
+abbrev flush : Style
+flush = record { indent = Some 0; names = true; profile = Py311 }
+
+abbrev name : List ℕ → Expr
+name id = Trees.Name id context.Load
+
+empty_module : dump_text plain (shown_module Py311 (record { body = [] })) ≡ codes "Module(body=[], type_ignores=[])"
+empty_module = refl
+
+-- `pass`
+flush_pass : dump_text flush (shown_module Py311 (record { body = Trees.Pass ∷ [] })) ≡ codes "Module(\nbody=[\nPass()],\ntype_ignores=[])"
+flush_pass = refl
+
+-- `x: int`
+bare_annotation : dump_text bare (shown_module Py311 (record { body = Trees.AnnAssign (Trees.Name (codes "x") context.Store) (name (codes "int")) None true ∷ [] }))
+    ≡ codes "Module([AnnAssign(Name('x', Store()), Name('int', Load()), simple=1)], [])"
+unfolding ucd_category encode_utf8 digits
+bare_annotation = refl
+
+-- `f(a, b=1)`
+indented_call : dump_text two (shown_module Py311 (record {
+  body = Trees.ExprOf (Trees.Call (name (codes "f")) (Trees.an_expr (name (codes "a")) Trees.no_exprs)
+      (Trees.a_keyword (Some (codes "b")) (Trees.Constant (value.Int 1)) Trees.no_keyword)) ∷ [];
+}))
+    ≡ codes "Module(\n  body=[\n    Expr(\n      value=Call(\n        func=Name(id='f', ctx=Load()),\n        args=[\n          Name(id='a', ctx=Load())],\n        keywords=[\n          keyword(\n            arg='b',\n            value=Constant(value=1))]))],\n  type_ignores=[])"
+unfolding ucd_category encode_utf8 digits
+indented_call = refl
+
+-- `{**d}`
+spread : dump_text plain (shown (Trees.Dict (Trees.an_optional Trees.absent Trees.no_optional) (Trees.an_expr (name (codes "d")) Trees.no_exprs)))
+    ≡ codes "Dict(keys=[None], values=[Name(id='d', ctx=Load())])"
+unfolding ucd_category encode_utf8 digits
+spread = refl
+
+bare_spread : dump_text bare (shown (Trees.Dict (Trees.an_optional Trees.absent Trees.no_optional) (Trees.an_expr (name (codes "d")) Trees.no_exprs)))
+    ≡ codes "Dict([None], [Name('d', Load())])"
+unfolding ucd_category encode_utf8 digits
+bare_spread = refl
+
+-- `a, /, b: int = 1, *, c=2, **d`
+parameters : dump_text plain (shown_arguments (Trees.arguments (Trees.an_arg (Trees.arg (codes "a") Trees.absent) Trees.no_arg)
+    (Trees.an_arg (Trees.arg (codes "b") (Trees.present (name (codes "int")))) Trees.no_arg) Trees.absent_arg
+    (Trees.an_arg (Trees.arg (codes "c") Trees.absent) Trees.no_arg)
+    (Trees.an_optional (Trees.present (Trees.Constant (value.Int 2))) Trees.no_optional)
+    (Trees.present_arg (Trees.arg (codes "d") Trees.absent)) (Trees.an_expr (Trees.Constant (value.Int 1)) Trees.no_exprs)))
+    ≡ codes "arguments(posonlyargs=[arg(arg='a')], args=[arg(arg='b', annotation=Name(id='int', ctx=Load()))], kwonlyargs=[arg(arg='c')], kw_defaults=[Constant(value=2)], kwarg=arg(arg='d'), defaults=[Constant(value=1)])"
+unfolding ucd_category encode_utf8 digits
+parameters = refl
+
+-- `class C[T]: pass`
+abbrev generic_class : Module
+generic_class = record {
+  body = Trees.ClassDef (codes "C") [] Trees.no_keyword (Trees.a_stmt Trees.Pass Trees.no_stmt) [] (Trees.TypeVar (codes "T") None ∷ []) ∷ [];
+}
+
+bare_class : dump_text bare (shown_module Py312 generic_class) ≡ codes "Module([ClassDef('C', [], [], [Pass()], [], [TypeVar('T')])], [])"
+unfolding ucd_category encode_utf8 digits
+bare_class = refl
+
+-- `def f(): pass`
+abbrev definition : Module
+definition = record {
+  body = Trees.FunctionDef (codes "f") (Trees.arguments Trees.no_arg Trees.no_arg Trees.absent_arg Trees.no_arg Trees.no_optional Trees.absent_arg Trees.no_exprs)
+      (Trees.a_stmt Trees.Pass Trees.no_stmt) [] None [] ∷ [];
+}
+
+plain_definition : dump_text plain (shown_module Py311 definition)
+    ≡ codes "Module(body=[FunctionDef(name='f', args=arguments(posonlyargs=[], args=[], kwonlyargs=[], kw_defaults=[], defaults=[]), body=[Pass()], decorator_list=[])], type_ignores=[])"
+unfolding ucd_category encode_utf8 digits
+plain_definition = refl
+
+generic_definition : dump_text plain (shown_module Py312 definition)
+    ≡ codes "Module(body=[FunctionDef(name='f', args=arguments(posonlyargs=[], args=[], kwonlyargs=[], kw_defaults=[], defaults=[]), body=[Pass()], decorator_list=[], type_params=[])], type_ignores=[])"
+unfolding ucd_category encode_utf8 digits
+generic_definition = refl
+
+bare_definition : dump_text bare (shown_module Py312 definition)
+    ≡ codes "Module([FunctionDef('f', arguments([], [], kwonlyargs=[], kw_defaults=[], defaults=[]), [Pass()], [], type_params=[])], [])"
+unfolding ucd_category encode_utf8 digits
+bare_definition = refl

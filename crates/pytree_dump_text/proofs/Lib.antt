@@ -1,0 +1,6 @@
+pub mod Callers
+mod Examples
+mod LeafLemmas
+mod LineLemmas
+mod ShortLemmas
+mod SlotLemmas

@@ -1,0 +1,111 @@
+//! The classes of operators and contexts with their brackets, and the values of constants.
+
+ghost use Rattle.std.specs.Prelude.{◌≡◌, ◌++◌, OnOk, codes, decimal};
+ghost use Rattle.std.specs.String.{string_bytes};
+ghost use Rattle.pytree_dump_text.specs.Shows.{bool_name, comparison_name, context_name};
+ghost use Rattle.pytree_dump_text.specs.Shows.{operator_name, unary_name, value_text};
+ghost use Rattle.pytree_node.specs.TreeOf.{constant_of};
+
+use itoa::Buffer;
+use pysource::{push_repr_bytes, push_repr_points};
+use pytree_node::{BoolOperator, Comparison, Constant, Context, Operator, UnaryOperator};
+use std::alloc::AllocError;
+
+/// How an operator between two operands is shown.
+pub fn operator_word(op: Operator) -> &'static str
+    ensures { result.now ≡ operator_name op ++ codes "()" }
+{
+    match op {
+        Operator::Add => "Add()",
+        Operator::Sub => "Sub()",
+        Operator::Mult => "Mult()",
+        Operator::MatMult => "MatMult()",
+        Operator::Div => "Div()",
+        Operator::Mod => "Mod()",
+        Operator::Pow => "Pow()",
+        Operator::LShift => "LShift()",
+        Operator::RShift => "RShift()",
+        Operator::BitOr => "BitOr()",
+        Operator::BitXor => "BitXor()",
+        Operator::BitAnd => "BitAnd()",
+        Operator::FloorDiv => "FloorDiv()",
+    }
+}
+
+/// How a context is shown.
+pub fn context_word(ctx: Context) -> &'static str
+    ensures { result.now ≡ context_name ctx ++ codes "()" }
+{
+    match ctx {
+        Context::Load => "Load()",
+        Context::Store => "Store()",
+        Context::Del => "Del()",
+    }
+}
+
+/// How `and` and `or` are shown.
+pub fn bool_word(op: BoolOperator) -> &'static str
+    ensures { result.now ≡ bool_name op ++ codes "()" }
+{
+    match op {
+        BoolOperator::And => "And()",
+        BoolOperator::Or => "Or()",
+    }
+}
+
+/// How an operator before its operand is shown.
+pub fn unary_word(op: UnaryOperator) -> &'static str
+    ensures { result.now ≡ unary_name op ++ codes "()" }
+{
+    match op {
+        UnaryOperator::Invert => "Invert()",
+        UnaryOperator::Not => "Not()",
+        UnaryOperator::UAdd => "UAdd()",
+        UnaryOperator::USub => "USub()",
+    }
+}
+
+/// How a comparison is shown.
+pub fn comparison_word(op: Comparison) -> &'static str
+    ensures { result.now ≡ comparison_name op ++ codes "()" }
+{
+    match op {
+        Comparison::Eq => "Eq()",
+        Comparison::NotEq => "NotEq()",
+        Comparison::Lt => "Lt()",
+        Comparison::LtE => "LtE()",
+        Comparison::Gt => "Gt()",
+        Comparison::GtE => "GtE()",
+        Comparison::Is => "Is()",
+        Comparison::IsNot => "IsNot()",
+        Comparison::Within => "In()",
+        Comparison::NotIn => "NotIn()",
+    }
+}
+
+/// Appends a number in decimal.
+pub fn push_number(out: &mut String, number: u64) -> Result<(), AllocError>
+    ensures { OnOk result (string_bytes out.new ≡ string_bytes out.old ++ decimal number) }
+{
+    let mut buffer = Buffer::new();
+    out.push_str(buffer.format(number))
+}
+
+/// Appends the value of a constant.
+#[inline(always)]
+pub fn push_value(out: &mut String, value: &Constant) -> Result<(), AllocError>
+    ensures { OnOk result
+        (string_bytes out.new ≡ string_bytes out.old ++ value_text (constant_of value.now)) }
+{
+    match value {
+        Constant::None => out.push_str("None"),
+        Constant::Ellipsis => out.push_str("Ellipsis"),
+        Constant::Bool(truth) => out.push_str(if *truth { "True" } else { "False" }),
+        Constant::Int(number) => {
+            let mut buffer = Buffer::new();
+            out.push_str(buffer.format(number.value()))
+        }
+        Constant::Str { points, .. } => push_repr_points(out, points.as_slice()),
+        Constant::Bytes(bytes) => push_repr_bytes(out, bytes.as_slice()),
+    }
+}
