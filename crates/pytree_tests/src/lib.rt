@@ -1,10 +1,13 @@
-//! Tests of `pytree_node`, `pytree_dump` and `pytree`, over the public calls of `pytree`: trees of sources,
-//! whose heights are counted and whose dumps were taken from Python 3.11 and 3.12, and trees that
-//! no source gives, made of those by a change.
+//! Tests of the tree's crates, of `pyunparse` and of the examples of `uses`: trees of sources, whose
+//! heights are counted and whose dumps were taken from Python 3.11 and 3.12; trees that no source
+//! gives, made of those by a change; the tokens that expressions are written in, and modules that
+//! come back from their text.
 #![tactic(auto)]
 
 #[cfg(test)]
 mod changes;
+#[cfg(test)]
+mod examples;
 #[cfg(test)]
 mod expression_dumps;
 #[cfg(test)]
@@ -19,3 +22,9 @@ mod nodes;
 mod sources;
 #[cfg(test)]
 mod trees;
+#[cfg(test)]
+mod written_expressions;
+#[cfg(test)]
+mod written_limits;
+#[cfg(test)]
+mod written_modules;

@@ -1,19 +1,25 @@
 //! Trees of source texts.
 
 use pyparse::parse;
-use pysource::{SOURCE_LIMIT, decode};
+use pysource::{SOURCE_LIMIT, Source, decode};
 use pytree::{Expr, Module, Profile, Stmt};
 use std::alloc::Global;
 use std::process::Abort;
 use std::test::Fail;
 
-/// The module that a text is in Python 3.12.
-pub(crate) fn module(alloc: Global, text: &str) -> Result<Module, Fail> {
+/// The source that a text is.
+pub(crate) fn source_of(alloc: Global, text: &str) -> Result<Source, Fail> {
     let bytes = text.as_bytes();
     if bytes.len() > SOURCE_LIMIT {
         return Err(Fail::from("too long"));
     }
     let source = decode(alloc, bytes)?;
+    Ok(source)
+}
+
+/// The module that a text is in Python 3.12.
+pub(crate) fn module(alloc: Global, text: &str) -> Result<Module, Fail> {
+    let source = source_of(alloc, text)?;
     match parse(alloc, &source, Profile::Py312) {
         Ok(module) => Ok(module),
         Err(_) => Err(Fail::from("no module")),

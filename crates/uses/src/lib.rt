@@ -20,6 +20,3 @@ pub use faults::{described, tree_of_bytes};
 pub use listings::count_names;
 pub use streams::first_comment;
 pub use trees::{INDENTED, dumped, rewritten};
-
-#[cfg(test)]
-mod tests;

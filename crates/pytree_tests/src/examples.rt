@@ -1,6 +1,6 @@
-//! Each example once where all goes well, and where a source is at fault.
+//! Each example of `uses` once where all goes well, and where a source is at fault.
 
-use crate::{
+use uses::{
     INDENTED, assignment_text, count_names, described, dumped, first_comment, kept, resumed,
     rewritten, tree_of_bytes,
 };

@@ -1,6 +1,6 @@
 //! Modules at the limits of what is accepted.
 
-use crate::modules::{text_of, writes};
+use crate::written_modules::{text_of, writes};
 use std::alloc::Global;
 use std::test::Fail;
 

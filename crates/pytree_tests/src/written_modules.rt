@@ -1,9 +1,8 @@
 //! Modules that come back from their text.
 
 use crate::sources::source_of;
-use pytree_node::{Module, Profile};
 use pyparse::parse;
-use pytree::same;
+use pytree::{Module, Profile, same};
 use pyunparse::unparse;
 use std::alloc::Global;
 use std::process::Abort;

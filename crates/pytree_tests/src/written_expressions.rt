@@ -2,8 +2,8 @@
 
 use crate::sources::source_of;
 use pygrammar::Level;
-use pytree_node::Expr;
 use pyparse::{parse_expression, tokens_of};
+use pytree::Expr;
 use pyunparse::expression_tokens;
 use std::alloc::Global;
 use std::process::Abort;
