@@ -20,10 +20,6 @@ abbrev pub has_stmt : Stmts → Bool
 has_stmt no_stmt = false
 has_stmt (a_stmt s ss) = true
 
-abbrev pub has_handler : Handlers → Bool
-has_handler no_handler = false
-has_handler (a_handler class name body hs) = true
-
 -- ---- Names.
 
 abbrev pub lengthen : ℕ → List Identifier → List Identifier
