@@ -1,12 +1,12 @@
 -- Which trees the grammar gives: to terminals whose names pass a test, and to the tokens of a source. Heights play no part.
 use Rattle.std.specs.Prelude.{◌≡◌, Bool, true, false, ◌&&◌, List, [], ◌∷◌, map, All, nat_lt, ◌^◌}
-use Rattle.std.specs.Str.{all_scalars}
 use Rattle.pytree_node.specs.declared.profiles.Profile.{Profile}
 use Rattle.pytree_node.specs.Trees.{Identifier, Expr, Module}
 use Rattle.pytree_node.specs.Values.{Value, Str, Bytes}
-use Rattle.pytoken.specs.Terminals.{Terminal, Ident, Whole, Literal, terminal_of, IsSound}
+use Rattle.pytoken.specs.Terminals.{Terminal, Ident, Whole, Literal, terminal_of}
 use Rattle.pytoken.specs.Tokens.{Token}
 use Rattle.pytoken.specs.Tokens as Tokens
+use Rattle.pytoken.specs.SourceTokens.{IsOfSource}
 use Rattle.pygrammar.specs.declared.levels.Level.{Level}
 use Rattle.pygrammar.specs.Grammar.{Derives}
 use Rattle.pygrammar.specs.Lines.{Line, line, Form}
@@ -48,10 +48,6 @@ abbrev pub GivenModule : Profile → (Identifier → Bool) → Module → Type 0
 GivenModule profile n m = (xs : List Line) × AreGiven profile n xs × Block 0 xs m.body
 
 -- ---- Tokens.
-
--- a token of Unicode characters that is what its type says, and has no fault
-abbrev pub IsOfSource : Token → Type 0
-IsOfSource t = (all_scalars t.text ≡ true) × IsSound t.kind t.text
 
 abbrev pub AreOfSource : List Token → Type 0
 AreOfSource ts = All IsOfSource ts

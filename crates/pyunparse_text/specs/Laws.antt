@@ -6,7 +6,8 @@ use Rattle.pylex.specs.Laws.{IsLawful}
 use Rattle.pytree_node.specs.declared.profiles.Profile.{Profile}
 use Rattle.pytree_node.specs.Trees.{Expr, Exprs, Keywords, Arguments, Module}
 use Rattle.pytoken.specs.Tokens as Tokens
-use Rattle.pytoken.specs.Terminals.{Terminal, Gives, IsSound}
+use Rattle.pytoken.specs.SourceTokens.{IsOfSource}
+use Rattle.pytoken.specs.Terminals.{Terminal, Gives}
 use Rattle.pytree_height.specs.Heights.{height, expression_height, statement_height}
 use Rattle.pygrammar.specs.declared.levels.Level.{Level}
 use Rattle.pygrammar.specs.declared.levels.Level.TheVariants.{Stars, Expression, Primary, Atom, Named}
@@ -201,13 +202,9 @@ abbrev pub source_lines : List Tokens.Line → List (WrittenLine Terminal)
 source_lines [] = []
 source_lines (x ∷ xs) = written_line x.level (Refusals.terminals x) ∷ source_lines xs
 
--- a token of Unicode characters that is what its type says, and has no fault
-abbrev pub IsGood : Tokens.Token → Type 0
-IsGood t = (all_scalars t.text ≡ true) × IsSound t.kind t.text
-
--- lines of such tokens are such lines of terminals
+-- lines of tokens as a source can have them are such lines of terminals
 abbrev pub TokensAreOfTokens : Type 0
-TokensAreOfTokens = (xs : List Tokens.Line) → All (λ (x : Tokens.Line). All IsGood x.tokens) xs → All AreOfTokens (source_lines xs)
+TokensAreOfTokens = (xs : List Tokens.Line) → All (λ (x : Tokens.Line). All IsOfSource x.tokens) xs → All AreOfTokens (source_lines xs)
 
 -- So a module that a source is accepted as, is the one that its own text is.
 abbrev pub AcceptedTextsAreAccepted : Type 0
