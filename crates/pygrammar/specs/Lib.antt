@@ -6,6 +6,7 @@ pub mod Arguments
 pub mod Parameters
 pub mod Targets
 pub mod Grammar
+pub mod ArgumentLists
 pub mod Looks
 pub mod Precedence
 pub mod Reader

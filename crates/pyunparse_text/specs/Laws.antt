@@ -1,5 +1,5 @@
 -- What holds of what a tree is written in.
-use Rattle.std.specs.Prelude.{◌≡◌, ◌+◌, ◌≤◌, ◌↔◌, List, [], ◌∷◌, ◌++◌, length, Bool, true, false, Some, ℕ, All}
+use Rattle.std.specs.Prelude.{◌≡◌, ◌+◌, ◌≤◌, ◌↔◌, List, [], ◌∷◌, ◌++◌, length, Bool, true, false, ℕ, All}
 use Rattle.std.specs.Str.{all_scalars, encode_utf8_all}
 use Rattle.pylex.specs.Listing.{Source, in_characters}
 use Rattle.pylex.specs.Laws.{IsLawful}
@@ -11,10 +11,8 @@ use Rattle.pytoken.specs.Terminals.{Terminal, Gives}
 use Rattle.pytree_height.specs.Heights.{height, expression_height, statement_height}
 use Rattle.pygrammar.specs.declared.levels.Level.{Level}
 use Rattle.pygrammar.specs.declared.levels.Level.TheVariants.{Stars, Expression, Primary, Atom, Named}
-use Rattle.pygrammar.specs.Entries.{Entry, Argument, Parameter}
-use Rattle.pygrammar.specs.Arguments.{in_order, positional, keywords}
-use Rattle.pygrammar.specs.Parameters.{arranged}
-use Rattle.pygrammar.specs.Grammar.{Derives, Listing, Target, SingleTarget, DelTarget, ItemTarget}
+use Rattle.pygrammar.specs.Grammar.{Derives, Target, SingleTarget, DelTarget, ItemTarget}
+use Rattle.pygrammar.specs.ArgumentLists.{IsArranged, AreArguments}
 use Rattle.pygrammar.specs.Lines.{Line, line, Form}
 use Rattle.pygrammar.specs.Forms.{FormOf}
 use Rattle.pygrammar.specs.FormHeights.{form_height}
@@ -59,22 +57,8 @@ pub record TargetIsShortest (ts : List Terminal) (s : Expr) : Type 0 where
 abbrev pub TargetsAreShortest : Type 0
 TargetsAreShortest = (ts : List Terminal) (s : Expr) → TargetIsShortest ts s
 
--- a list of parameters gives the arguments of a `lambda`, or with annotations of a `def`
-pub record IsArranged (annotated : Bool) (ts : List Terminal) (a : Arguments) : Type 0 where
-  pub entries : List Entry
-  pub listing : Listing (Parameter annotated) ts entries
-  pub arranged_as : arranged entries ≡ Some a
-
 abbrev pub ParametersAreShortest : Type 0
 ParametersAreShortest = (annotated : Bool) (ts : List Terminal) (a : Arguments) → IsArranged annotated ts a → Shortest (IsArranged annotated) (listed terminal (parameters terminal a)) a
-
--- a list of arguments gives the fields `args` and `keywords`, of a call or of a class
-pub record AreArguments (ts : List Terminal) (fields : Exprs × Keywords) : Type 0 where
-  pub entries : List Entry
-  pub listing : Listing Argument ts entries
-  pub order : in_order false false entries ≡ true
-  pub positional_are : positional entries ≡ fields.0
-  pub keywords_are : keywords entries ≡ fields.1
 
 abbrev pub ArgumentsAreShortest : Type 0
 ArgumentsAreShortest = (ts : List Terminal) (es : Exprs) (ks : Keywords) → AreArguments ts (es, ks) → Shortest AreArguments (listed terminal (each terminal Named es ++ by_name terminal ks)) (es, ks)

@@ -311,7 +311,7 @@ module _ (n : Identifier → Bool) where
         let us = u.0 ++ (Op Sign.LPar ∷ (v.0 ++ (Op Sign.RPar ∷ w.0))) in (
           s.0 ++ (Word Key.Def ∷ (in_form x ∷ us)),
           pass_on n s.0 (Word Key.Def ∷ (in_form x ∷ us)) s.1 (named_pass n x us h (pass_on n u.0 (Op Sign.LPar ∷ (v.0 ++ (Op Sign.RPar ∷ w.0))) u.1 (pass_on n v.0 (Op Sign.RPar ∷ w.0) v.1 w.1))),
-          F.def_line _ s.2 u.2 v.2.1 v.2.2 w.2,
+          F.def_line _ s.2 u.2 v.2.listing v.2.arranged_as w.2,
         )
 
     listed_same : (es : List Expr) → listed (exprs es) ≡ es
