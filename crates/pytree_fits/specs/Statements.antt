@@ -9,7 +9,7 @@ use Rattle.pytree_node.specs.Trees
 use Rattle.pytree_node.specs.Trees.{Identifier, Expr, exprs, optional, Stmt, Stmts, no_stmt, a_stmt, stmts, Handlers, no_handler, a_handler, Alias, Item, TypeParam, Module}
 use Rattle.pygrammar.specs.declared.levels.Level.TheVariants.{Value, Stars, Expression, Elem}
 use Rattle.pygrammar.specs.Lines.{no_types}
-use Rattle.pygrammar.specs.Forms.{has_types}
+use Rattle.pytree_node.specs.Profiles.{has_types}
 use Rattle.pytree_fits.specs.Slots.{is_a_name, is_single, perhaps_name, fits_at, fits_target, each_target_fits, each_fits, perhaps_fits, each_keyword_fits, fits_arguments}
 
 abbrev pub has_one : {A : Type 0} → List A → Bool

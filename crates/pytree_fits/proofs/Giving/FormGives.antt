@@ -19,7 +19,8 @@ use Rattle.pygrammar.specs.Arguments.{positional}
 use Rattle.pygrammar.specs.Grammar as G
 use Rattle.pygrammar.specs.Lines.{if_header, loop_header, with_header, except_header, def_header, while_head, for_head, function_head, class_head, no_types}
 use Rattle.pygrammar.specs.Forms as F
-use Rattle.pygrammar.specs.Forms.{alias, item, augmented, listed, has_types, type_name}
+use Rattle.pygrammar.specs.Forms.{alias, item, augmented, listed, type_name}
+use Rattle.pytree_node.specs.Profiles.{has_types}
 use Rattle.pytree_fits.specs.Slots.{is_context, is_a_name, is_single, perhaps_name, fits_at, fits_target, each_target_fits, each_fits, perhaps_fits, each_keyword_fits, fits_arguments}
 use Rattle.pytree_fits.specs.Statements.{has_one, dotted, import_fits, alias_fits, is_star, is_all, imports_fit, source_fits, perhaps_target_fits, item_fits, type_param_fits, types_fit, raised_fits, caught_fits}
 use Rattle.pytree_fits.proofs.Fields.AsSpelled.{all_as_spelled, GivenAsSpelled, pass_on}

@@ -5,6 +5,7 @@ use Rattle.std.specs.Prelude.{eqb, map}
 use Rattle.std.proofs.lemmas.Bool.{eqb-true}
 use Rattle.pylex_lexeme.specs.declared.kinds.Exact.TheVariants.{Star, Dot, Ellipsis}
 use Rattle.pytree_node.specs.declared.profiles.Profile.{Profile}
+use Rattle.pytree_node.specs.Profiles.{has_types}
 use Rattle.pytree_node.specs.Trees.{Identifier, Expr, Alias, TypeParam}
 use Rattle.pytoken.specs.Terminals.{Terminal, Op, in_form}
 use Rattle.pygrammar.specs.declared.levels.Level.{Level}
@@ -144,7 +145,7 @@ type_param_again _ _ (F.type_var b) = F.type_var (behind_again b)
 type_param_again _ _ F.type_var_tuple = F.type_var_tuple
 type_param_again _ _ F.param_spec = F.param_spec
 
-some_params : {profile : Profile} (ps : List TypeParam) → F.has_types profile ≡ true → F.Commas TypeParam F.TypeParamOf (listed terminal (map (S.type_param terminal) ps)) ps → F.TypeParams profile (S.type_params terminal ps) ps
+some_params : {profile : Profile} (ps : List TypeParam) → has_types profile ≡ true → F.Commas TypeParam F.TypeParamOf (listed terminal (map (S.type_param terminal) ps)) ps → F.TypeParams profile (S.type_params terminal ps) ps
 some_params [] h c = F.no_type_params
 some_params (p ∷ ps) h c = F.type_params h (F.ends_bare c)
 
