@@ -1,6 +1,6 @@
 -- Carries: the laws of the slots. On: expressions, targets, parameters and arguments fit
 -- exactly where they are given.
-use Rattle.std.proofs.Common.{◌≡◌, refl, ap, subst, List, ◌∷◌, Some, Bool, true, false}
+use Rattle.std.proofs.Common.{◌≡◌, refl, ap, subst, List, ◌∷◌, Some, Bool, true, false, option_map}
 use Rattle.std.specs.Prelude.{not, ◌&&◌}
 use Rattle.std.proofs.lemmas.Bool.{and_parts, and_from}
 use Rattle.pylex_lexeme.specs.declared.kinds.Exact.TheVariants.{Star}
@@ -10,7 +10,7 @@ use Rattle.pytree_node.specs.Trees.{Identifier, Expr, Exprs, no_exprs, an_expr, 
 use Rattle.pytoken.specs.Terminals.{Terminal, Op}
 use Rattle.pygrammar.specs.declared.levels.Level.TheVariants.{Stars, StarItem, Expression, Primary, Elem, Slices}
 use Rattle.pygrammar.specs.Arguments.{positional, keywords}
-use Rattle.pygrammar.specs.Targets.{mapped, deleted, all_deleted, single_stored}
+use Rattle.pygrammar.specs.Targets.{deleted, all_deleted, single_stored}
 use Rattle.pygrammar.specs.Grammar as G
 use Rattle.pygrammar.specs.ArgumentLists.{IsArranged, AreArguments}
 use Rattle.pytree_fits.specs.Slots.{is_context, is_starred, is_single, fits_at, fits_target, each_target_fits, each_fits, each_keyword_fits, fits_arguments, arg_fits, each_arg_fits, perhaps_arg_fits}
@@ -58,11 +58,11 @@ module _ (n : Identifier → Bool) where
     undeleted (Trees.Tuple es c) h =
         let w = and_parts (is_context Del c) (each_target_fits n Del es) h in
         let u = all_undeleted es w.1 in
-        in_context (λ k. (t : Expr) × (deleted t ≡ Some (Trees.Tuple es k)) × (fits_at n Expression t ≡ true)) Del c w.0 (Trees.Tuple u.0 Load, ap (mapped (λ fs. Trees.Tuple fs Del)) u.1, u.2)
+        in_context (λ k. (t : Expr) × (deleted t ≡ Some (Trees.Tuple es k)) × (fits_at n Expression t ≡ true)) Del c w.0 (Trees.Tuple u.0 Load, ap (option_map (λ fs. Trees.Tuple fs Del)) u.1, u.2)
     undeleted (Trees.ListOf es c) h =
         let w = and_parts (is_context Del c) (each_target_fits n Del es) h in
         let u = all_undeleted es w.1 in
-        in_context (λ k. (t : Expr) × (deleted t ≡ Some (Trees.ListOf es k)) × (fits_at n Expression t ≡ true)) Del c w.0 (Trees.ListOf u.0 Load, ap (mapped (λ fs. Trees.ListOf fs Del)) u.1, u.2)
+        in_context (λ k. (t : Expr) × (deleted t ≡ Some (Trees.ListOf es k)) × (fits_at n Expression t ≡ true)) Del c w.0 (Trees.ListOf u.0 Load, ap (option_map (λ fs. Trees.ListOf fs Del)) u.1, u.2)
     undeleted _ h = absurd (cc)
 
     all_undeleted : (es : Exprs) → each_target_fits n Del es ≡ true → (ts : Exprs) × (all_deleted ts ≡ Some es) × (each_fits n Elem ts ≡ true)
