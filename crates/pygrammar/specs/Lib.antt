@@ -13,6 +13,7 @@ pub mod Reader
 pub mod Capped
 pub mod Meets
 pub mod Lines
+pub mod DottedNames
 pub mod Forms
 pub mod LineReader
 pub mod Blocks
