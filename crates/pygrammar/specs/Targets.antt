@@ -4,7 +4,7 @@ use Rattle.pytree_node.specs.declared.operators.Context.TheVariants.{Store, Del}
 use Rattle.pytree_node.specs.Trees
 use Rattle.pytree_node.specs.Trees.{Expr, Exprs, no_exprs, an_expr}
 
--- a list of nodes, where all of them are there
+-- a list of nodes, if each of them is there
 abbrev pub both : Option Expr → Option Exprs → Option Exprs
 both (Some e) (Some es) = Some (an_expr e es)
 both _ _ = None

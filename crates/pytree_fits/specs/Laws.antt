@@ -18,7 +18,7 @@ use Rattle.pytree_fits.specs.Given.{Given, Expressed, Stated}
 abbrev pub FitsExactly : Type 0
 FitsExactly = (n : Identifier → Bool) (l : Level) (e : Expr) → Given n (Derives l) e ↔ (fits_at n l e ≡ true)
 
--- so do targets their places
+-- so do targets at their places
 pub record TargetFits (n : Identifier → Bool) (s : Expr) : Type 0 where
   pub target : Given n Target s ↔ (fits_target n Store s ≡ true)
   pub single : Given n SingleTarget s ↔ ((is_single s && fits_target n Store s) ≡ true)

@@ -1,5 +1,5 @@
 -- Which statements and modules the grammar gives in a version of Python to some lines, with no regard to heights (reference 7 and 8).
--- Each function takes the test of names, and those that ask for it the version.
+-- Each function takes the test of names, and the version if it depends on that.
 use Rattle.std.specs.Prelude.{ℕ, ◌==◌, nat_lt, Bool, true, false, ◌&&◌, ◌||◌, not, List, [], ◌∷◌, Option, Some, None, is_none}
 use Rattle.std.specs.List.{list_all}
 use Rattle.pytree_node.specs.declared.operators.Context.TheVariants.{Store, Del}
@@ -22,7 +22,7 @@ has_stmt (a_stmt s ss) = true
 
 -- ---- Names.
 
--- the name of a module: names with dots between
+-- the name of a module: names with dots between them
 abbrev pub dotted : (Identifier → Bool) → Identifier → Bool
 dotted n x = list_all n (names_in x)
 

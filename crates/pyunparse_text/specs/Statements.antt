@@ -65,7 +65,7 @@ need_brackets (i ∷ []) = reads_as_items i.context_expr i.optional_vars
 need_brackets _ = false
 
 module _ {A : Type 0} (make : Maker A) where
-  -- ---- Parts. Targets are written as expressions: contexts are not seen.
+  -- ---- Parts. Targets are written as expressions, since contexts are not written.
 
   -- [X]
   abbrev pub perhaps_written : Level → Option Expr → List A
@@ -102,12 +102,12 @@ module _ {A : Type 0} (make : Maker A) where
 
   -- ---- Imports.
 
-  -- names behind a first one
+  -- the names after the first
   abbrev pub dotted_rest : List Identifier → List A
   dotted_rest [] = []
   dotted_rest (x ∷ xs) = tight make Dot ∷ (free make (in_form x) ∷ dotted_rest xs)
 
-  -- NAME ("." NAME)*; behind points the first one keeps close to them
+  -- NAME ("." NAME)*; after points the first NAME keeps close to them
   abbrev pub dotted_names : Bool → List Identifier → List A
   dotted_names close [] = []
   dotted_names close (x ∷ xs) = make (in_form x) close false ∷ dotted_rest xs

@@ -48,7 +48,7 @@ annotated profile r {ts = ts} {us = us} {vs = vs} {e = e} {t = t} {a = a} {v = v
         shape : (ws zs : List Terminal) → Op Sign.LPar ∷ (ws ++ (Op Sign.RPar ∷ (Op Sign.Colon ∷ zs))) ≡ (Op Sign.LPar ∷ (ws ++ (Op Sign.RPar ∷ []))) ++ (Op Sign.Colon ∷ zs)
         shape ws zs = simp append_assoc refl
 
--- the targets behind the first
+-- the targets after the first
 data Others : List Terminal → List Expr → Type 0 where
   no_other : Others [] []
   others : {ts : List Terminal} {es : List Expr} → F.Targets ts es → Others ts es

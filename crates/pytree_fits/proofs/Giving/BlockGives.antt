@@ -105,7 +105,7 @@ module _ (p : Profile) (n : Identifier → Bool) (typed : n type_name ≡ true) 
   simply : (l : ℕ) (s : Stmt) → GivenAsSpelled n (F.Simple p) s → Drawn l s
   simply l s w = record { lines = line l (simple_form (s ∷ [])) ∷ []; some = refl; given = one_spelled (w.0, w.1, F.simple_statements (F.last_simple w.2)) none_spelled; is = simple_line }
 
-  -- what may stand behind a block
+  -- what may stand after a block
   record Behind (l : ℕ) (ss : Stmts) : Type 0 where
     lines : List Line
     given : AreGivenAsSpelled p n lines

@@ -92,7 +92,7 @@ module _ (n : Identifier → Bool) (b : Bool) where
   collected (noted {x = x} {e = e} h q f) = annotated_too (Collected (arg x (present e))) q
       (Op DoubleStar ∷ (in_form x ∷ (Op Colon ∷ f.0)), named_pass n x (Op Colon ∷ f.0) h f.1, G.double_parameter (G.suffix f.2))
 
-  -- behind the star
+  -- after the star
   after_run : {ks : Args} {ds : OptionalExprs} {k : OptionalArg} → count_optional ds ≡ count_args ks → ArgsMade n b ks → Keys n ds → OptionalArgMade n b k → Run n b after_star false (arguments no_arg no_arg absent_arg ks ds k no_exprs)
   after_run q no_args no_keys none_made = record { list = []; is = refl; slash = refl; pieces = no_piece }
   after_run q no_args no_keys (one_made {a = a} g) = record { list = Collected a ∷ []; is = refl; slash = refl; pieces = a_piece (collected g) no_piece }

@@ -111,7 +111,7 @@ later_read {b} {ps} x = record {
 abbrev near_word : Piece
 near_word = record { kind = kinds.Name; text = []; before = true; behind = false }
 
--- what stands behind points
+-- what stands after points
 abbrev behind_points : List Piece
 behind_points = near_word ∷ a_word ∷ []
 
@@ -313,7 +313,7 @@ pub from_plain : (x : Identifier) (names : List Alias) → AreProper (names_in x
 unfolding operators
 from_plain x names h i = join (keyword Key.From) (join (dotted_plain x h) (imported_are names i) refl) refl
 
--- behind points
+-- after points
 abbrev pub SoundModule : Option Identifier → Type 0
 SoundModule None = Unit {0}
 SoundModule (Some x) = AreProper (names_in x)
