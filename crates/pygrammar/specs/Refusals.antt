@@ -1,6 +1,6 @@
 -- What is accepted in a version of Python, and what is refused where. A refusal of the tokens comes first, in the order that `refusal` gives; then the first line
 -- without a form, the first faulty line of the blocks, and the first statement that stands too deep.
-use Rattle.std.specs.Prelude.{◌≡◌, ℕ, suc, ◌+◌, ◌<◌, ◌≤◌, Bool, true, false, ◌&&◌, nat_lt, ◌==◌, cond, List, [], ◌∷◌, ◌++◌, length, map, Option, Some, None, codes}
+use Rattle.std.specs.Prelude.{◌≡◌, ℕ, suc, ◌+◌, ◌<◌, ◌≤◌, Bool, true, false, ◌&&◌, nat_lt, ◌==◌, cond, List, [], ◌∷◌, ◌++◌, length, map, Option, Some, None}
 use Rattle.std.specs.Str.{bytes_eq}
 use Rattle.pysource.specs.declared.places.Place.{Place}
 use Rattle.pylex.specs.Listing.{Source}
@@ -51,7 +51,7 @@ ends_in_colon (_ ∷ ts) = ends_in_colon ts
 -- they begin with the text `match`, as it is written, and end in a colon
 abbrev pub is_match : List Token → Bool
 is_match [] = false
-is_match (t ∷ ts) = bytes_eq t.text (codes "match") && ends_in_colon (t ∷ ts)
+is_match (t ∷ ts) = bytes_eq t.text (109 ∷ 97 ∷ 116 ∷ 99 ∷ 104 ∷ []) && ends_in_colon (t ∷ ts)
 
 -- a form whose expressions are no higher than 500
 pub record HasForm (profile : Profile) (x : Tokens.Line) (f : Form) : Type 0 where
