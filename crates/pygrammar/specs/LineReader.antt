@@ -21,6 +21,7 @@ use Rattle.pygrammar.specs.Reader.{Answer, Found, NoForm, TooDeep, and_then, on_
 use Rattle.pygrammar.specs.Precedence.{starts}
 use Rattle.pygrammar.specs.Lines.{Form, simple_form, decorator_form, header_form, Header, if_header, elif_header, else_header, loop_header, with_header, try_header, except_header, finally_header, def_header, while_head, for_head, function_head, class_head}
 use Rattle.pygrammar.specs.Forms.{alias, type_name, augmented, item, listed}
+use Rattle.pytree_node.specs.Profiles.{has_types}
 
 -- ---- Parts.
 
