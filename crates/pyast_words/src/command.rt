@@ -7,12 +7,13 @@ ghost use Rattle.clap.specs.Values.{kind_of};
 ghost use Rattle.clap.specs.Walk.{first_of, one_of, rows_of};
 ghost use Rattle.pylex.specs.CursorTexts.{IsWellFormed};
 ghost use Rattle.pylex.specs.Cursors.{cursor_text};
+ghost use Rattle.pytree_node.specs.Profiles.{has_types};
 ghost use Rattle.pyast_words.specs.declared.command.UsageFault.{UsageFault};
 ghost use Rattle.pyast_words.specs.Inner.Matching.{IsRule, IsForm, MissesNumber, MissesCursor};
 ghost use Rattle.pyast_words.specs.Inner.Matching.{MissesTokens, MissesDump, MissesCommand, Explains};
 ghost use Rattle.pyast_words.specs.Words.{grammar, number_rule, flag_rule, exact_rule, resume_rule};
 ghost use Rattle.pyast_words.specs.Words.{file_rule, tokens_shape, dump_shape, unparse_shape};
-ghost use Rattle.pyast_words.specs.Words.{largest_indent, file_of, name_of, of_cursor, is_newer};
+ghost use Rattle.pyast_words.specs.Words.{largest_indent, file_of, name_of, of_cursor};
 ghost use Rattle.pyast_words.specs.Words.{IsNumber, IsFlag, IsTokens, IsDump, IsUnparse, IsCommand};
 ghost use Rattle.pyast_words.specs.Words.{Gives, Refuses, IsWithinLimits};
 
@@ -347,7 +348,7 @@ fn indent_of(matches: &ArgMatches<'_>) -> Result<Option<u8>, UsageFault>
 
 /// The version of Python that is asked for.
 fn profile_of(matches: &ArgMatches<'_>) -> Profile
-    ensures { IsFlag (one_of (codes "py312") (rows_of (found_of matches.now))) (is_newer result) }
+    ensures { IsFlag (one_of (codes "py312") (rows_of (found_of matches.now))) (has_types result) }
 {
     if matches.get_flag("py312") {
         Profile::Py312

@@ -19,15 +19,15 @@ pub mod CapsHeaders
 pub mod CapsBrackets
 pub mod CapsLines
 pub mod Limit
-mod WorkedFirst
-mod WorkedSecond
-mod WorkedThird
+mod WorkedExpressions
+mod WorkedKeywords
+mod WorkedHeaders
 mod WorkedTypes
-mod DepthsFirst
-mod DepthsSecond
-mod DepthsThird
-mod DrawnFirst
-mod DrawnSecond
-mod DrawnThird
+mod DepthsExpressions
+mod DepthsKeywords
+mod DepthsHeaders
+mod DrawnExpressions
+mod DrawnKeywords
+mod DrawnHeaders
 mod DrawnTypes
 mod WorkedHeights

@@ -1,6 +1,7 @@
 -- Worked rows: the reader computes them.
 mod Expressions
-mod DrawnFirst
-mod DrawnSecond
-mod DrawnThird
+mod DrawnTests
+mod DrawnOperands
+mod DrawnPlaces
+mod DrawnItems
 mod Rooms

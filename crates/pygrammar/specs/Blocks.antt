@@ -121,7 +121,7 @@ abbrev pub previous : ℕ → List Line → List Line
 previous l [] = []
 previous l (x ∷ earlier) = cond (nat_lt l x.level) (previous l earlier) (cond (x.level == l) (x ∷ earlier) [])
 
--- whether a first line is there, of such a kind
+-- whether there is a first line, and it is of such a kind
 abbrev pub begins_with : (Kind → Bool) → List Line → Bool
 begins_with p [] = false
 begins_with p (x ∷ _) = p (kind_of x.form)
@@ -175,7 +175,7 @@ is_decorated DecoratorLine = true
 is_decorated DefLine = true
 is_decorated _ = false
 
--- the level of the line before, and whether its block follows; before the first line counts one of level 0 without block
+-- the level of the line before, and whether its block follows; the first line is taken to follow one of level 0 without a block
 abbrev pub level_before : List Line → ℕ
 level_before [] = 0
 level_before (x ∷ _) = x.level
@@ -201,28 +201,28 @@ pub data HasFault (earlier : List Line) (l : ℕ) (k : Kind) : Fault → Type 0 
   opens_none : l ≡ suc (level_before earlier) → opens_before earlier ≡ false → HasFault earlier l k UnexpectedIndent
   misplaced : Misplaced earlier l k → HasFault earlier l k MisplacedClause
 
--- the faults of one line stand in this order
+-- the order in which the faults of one line are looked for
 abbrev pub comes_before : Fault → Fault → Bool
 comes_before ExpectedIndent UnexpectedIndent = true
 comes_before ExpectedIndent MisplacedClause = true
 comes_before UnexpectedIndent MisplacedClause = true
 comes_before _ _ = false
 
--- no fault stands here
+-- the line has no fault
 pub record IsClear (earlier : List Line) (l : ℕ) (k : Kind) : Type 0 where
   pub none : (f : Fault) → HasFault earlier l k f → ⊥
 
--- this fault stands here, and none of those before it in the order
+-- the line has this fault, and none that comes before it in the order
 pub record IsFault (earlier : List Line) (l : ℕ) (k : Kind) (f : Fault) : Type 0 where
   pub has : HasFault earlier l k f
   pub first : (e : Fault) → comes_before e f ≡ true → HasFault earlier l k e → ⊥
 
--- no line is faulty from these lines on, ENDMARKER included
+-- none of these lines is faulty, nor ENDMARKER after them
 pub data IsFaultless : List Line → List Line → Type 0 where
   clear_end : {earlier : List Line} → IsClear earlier 0 EndLine → IsFaultless earlier []
   clear_line : {earlier : List Line} {x : Line} {xs : List Line} → IsClear earlier x.level (kind_of x.form) → IsFaultless (x ∷ earlier) xs → IsFaultless earlier (x ∷ xs)
 
--- the first faulty line, with what stands behind it (nothing is ENDMARKER), and its fault
+-- the first faulty line with the lines after it (where there is none, ENDMARKER is faulty), and its fault
 pub data FirstFault : List Line → List Line → List Line → Fault → Type 0 where
   fault_at_end : {earlier : List Line} {f : Fault} → IsFault earlier 0 EndLine f → FirstFault earlier [] [] f
   fault_at : {earlier : List Line} {x : Line} {xs : List Line} {f : Fault} → IsFault earlier x.level (kind_of x.form) f → FirstFault earlier (x ∷ xs) (x ∷ xs) f

@@ -22,7 +22,7 @@ cap d (Found e r) = cond (leb (height e) d) (Found e r) TooDeep
 cap d NoForm = NoForm
 cap d TooDeep = TooDeep
 
--- behind `(`: the first element may be the whole expression
+-- after `(`: the first element may be the whole expression
 module _ (same inner : Reads) where
   abbrev pub capped_round : List Terminal → Answer Expr
   capped_round r =

@@ -13,7 +13,7 @@ constant_word (Word Key.False) = Some (Values.Bool false)
 constant_word (Op Ellipsis) = Some Values.Ellipsis
 constant_word _ = None
 
--- neighbouring literals are one: all texts, of the first one's kind, or all bytes
+-- literals side by side are one, if all are texts or all are bytes; the kind is that of the first
 abbrev pub joined : Values.Value → List Values.Value → Option Values.Value
 joined v [] = Some v
 joined (Values.Str t u) (Values.Str s v ∷ vs) = joined (Values.Str (t ++ s) u) vs

@@ -1,21 +1,21 @@
--- How many statements stand round the next line, kept line by line: what is kept is the last line of each level that later lines can stand in.
+-- How many statements are around the next line, counted line by line: what is kept is the last line of each level that later lines can be in.
 use Rattle.std.specs.Prelude.{ℕ, suc, ◌+◌, Bool, false, nat_lt, nat_le, ◌==◌, cond, List, [], ◌∷◌, Option, Some, None, option_map}
 use Rattle.pygrammar.specs.Lines.{Line, Form, header_form}
 use Rattle.pygrammar.specs.Blocks.{Kind, ElifLine, ElseLine, kind_of, header_kind}
 use Rattle.pygrammar.specs.Refusals.{is_clause}
 
--- the last line of a level: how many statements stand round it, and the `elif`s of the `if` that it belongs to, up to it
+-- the last line of a level: how many statements are around it, and how many `elif`s its `if` has up to it
 pub record Depth : Type 0 where
   pub level : ℕ
   pub round : ℕ
   pub arms : ℕ
 
--- how many statements stand round a line of this level; the deepest level stands first
+-- how many statements are around a line of this level; the deepest level comes first
 abbrev pub round_at : ℕ → List Depth → ℕ
 round_at l [] = 0
 round_at l (d ∷ ds) = cond (nat_lt d.level l) (d.round + (d.arms + 1)) (round_at l ds)
 
--- the `elif`s of the `if` that a line of this kind belongs to, up to it
+-- how many `elif`s the `if` of a line of this kind has up to the line
 abbrev pub arms_at : Kind → ℕ → List Depth → ℕ
 arms_at k l [] = 0
 arms_at ElifLine l (d ∷ ds) = cond (nat_lt l d.level) (arms_at ElifLine l ds) (cond (d.level == l) (1 + d.arms) 0)
@@ -39,7 +39,7 @@ abbrev pub count : List Depth → List Line → List Depth
 count ds [] = ds
 count ds (x ∷ xs) = count (counted ds x) xs
 
--- how many stand round the innermost statement that begins in a line, if one does, by what stands round the line and its `elif`s
+-- how many statements are around the innermost one that begins in a line, if one does, by how many are around the line and its `elif`s
 abbrev pub begins : ℕ → ℕ → Form → Option ℕ
 begins round arms (header_form h (Some suite)) = Some (round + (arms + 1))
 begins round arms (header_form h None) = cond (is_clause (header_kind h)) None (Some (round + arms))
@@ -48,7 +48,7 @@ begins round arms _ = Some round
 abbrev pub innermost : Line → List Depth → Option ℕ
 innermost x ds = begins (depth_of x ds).round (depth_of x ds).arms x.form
 
--- the number of the first line that begins a statement with 500 round it
+-- the number of the first line in which a statement begins that has 500 around it
 abbrev pub is_deep : Option ℕ → Bool
 is_deep None = false
 is_deep (Some n) = nat_le 500 n

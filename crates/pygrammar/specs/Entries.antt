@@ -35,7 +35,7 @@ keys [] = no_optional
 keys (Paired k v ∷ es) = an_optional (present k) (keys es)
 keys (_ ∷ es) = an_optional absent (keys es)
 
--- and its values
+-- the values of a Dict
 abbrev pub values : List Entry → Exprs
 values [] = no_exprs
 values (Paired k v ∷ es) = an_expr v (values es)

@@ -39,7 +39,7 @@ header_of (header_variant.Except star class name) = except_header star (boxed_of
 header_of header_variant.Finally = finally_header
 header_of (header_variant.Def head) = def_header (def_head_of head)
 
--- the value of the statements behind a colon, if there are any
+-- the value of the statements after a colon, if there are any
 abbrev pub suite_of : Option (Vec Stmt Global) → Option (List plain.Stmt)
 suite_of None = None
 suite_of (Some statements) = Some (map stmt_of statements.items)

@@ -9,7 +9,7 @@ use Rattle.pytree_node.specs.declared.operators.Operator.{Operator}
 use Rattle.pytree_node.specs.declared.operators.Operator.TheVariants as Bin
 use Rattle.pytree_node.specs.declared.operators.Context.TheVariants.{Store}
 use Rattle.pytree_node.specs.declared.profiles.Profile.{Profile}
-use Rattle.pytree_node.specs.declared.profiles.Profile.TheVariants.{Py311, Py312}
+use Rattle.pytree_node.specs.Profiles.{has_types}
 use Rattle.pygrammar.specs.declared.levels.Level.{Level}
 use Rattle.pygrammar.specs.declared.levels.Level.TheVariants.{Value, Stars, Named, Expression}
 use Rattle.pytree_node.specs.Trees.{Expr, Exprs, no_exprs, an_expr, Arguments, Keywords, no_keyword, Identifier, Stmt, Alias, Item, TypeParam, TypeVar, ParamSpec, TypeVarTuple, Return, Delete, Assign, TypeAlias, AugAssign, AnnAssign, Raise, Assert, Import, ImportFrom, Global, Nonlocal, ExprOf, Pass, Break, Continue}
@@ -58,11 +58,6 @@ pub data Name : List Terminal → Identifier → Type 0 where
   name : {x : Spelled} → Name (Ident x ∷ []) x.form
 
 -- ---- Parameters of types.
-
--- whether a version has parameters of types, and the statement `type`
-abbrev pub has_types : Profile → Bool
-has_types Py311 = false
-has_types Py312 = true
 
 -- `type` is no keyword: a NAME that is spelled so
 abbrev pub type_name : Identifier

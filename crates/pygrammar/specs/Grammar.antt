@@ -171,7 +171,7 @@ mutual
         → Perhaps Expression ts a → Perhaps Expression us b → Perhaps Expression vs c
         → Derives Slice (ts ++ (Op Colon ∷ (us ++ (Op Colon ∷ vs)))) (Trees.Slice a b c)
 
-  -- the yield forms of Value, behind the word
+  -- the yield forms of Value, after the word
   pub data Yields : List Terminal → Expr → Type 0 where
     -- "from" Expression
     yield_from : {ts : List Terminal} {e : Expr}
@@ -192,7 +192,7 @@ mutual
         → Derives Expression ts e
         → Suffix (Some x) (Op x ∷ ts) (present e)
 
-  -- X (word X)*, behind a word
+  -- X (word X)*, after a word
   pub data Chain : BoolOperator → List Terminal → List Expr → Type 0 where
     last_link : {o : BoolOperator} {ts : List Terminal} {e : Expr}
         → Derives (below (chain_level o)) ts e

@@ -6,12 +6,14 @@ pub mod Arguments
 pub mod Parameters
 pub mod Targets
 pub mod Grammar
+pub mod ArgumentLists
 pub mod Looks
 pub mod Precedence
 pub mod Reader
 pub mod Capped
 pub mod Meets
 pub mod Lines
+pub mod DottedNames
 pub mod Forms
 pub mod LineReader
 pub mod Blocks

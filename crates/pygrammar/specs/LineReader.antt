@@ -20,7 +20,8 @@ use Rattle.pygrammar.specs.Targets.{stored, deleted, single_stored}
 use Rattle.pygrammar.specs.Reader.{Answer, Found, NoForm, TooDeep, and_then, on_some, on_first, on_name_with, closed, made, Reads, listing_of, read_target, read}
 use Rattle.pygrammar.specs.Precedence.{starts}
 use Rattle.pygrammar.specs.Lines.{Form, simple_form, decorator_form, header_form, Header, if_header, elif_header, else_header, loop_header, with_header, try_header, except_header, finally_header, def_header, while_head, for_head, function_head, class_head}
-use Rattle.pygrammar.specs.Forms.{alias, has_types, type_name, augmented, item, listed}
+use Rattle.pygrammar.specs.Forms.{alias, type_name, augmented, item, listed}
+use Rattle.pytree_node.specs.Profiles.{has_types}
 
 -- ---- Parts.
 
@@ -62,7 +63,7 @@ starts_type_param r = false
 abbrev pub always : List Terminal → Bool
 always r = true
 
--- X,..: behind a comma another one follows where `more` says so; the number is above that of the terminals
+-- X,..: after a comma another one follows where `more` says so; the number is larger than the number of terminals
 abbrev pub commas : {A : Type 0} → (List Terminal → Answer A) → (List Terminal → Bool) → ℕ → List Terminal → Answer (List A)
 commas one more zero i = NoForm
 commas one more (suc n) i = and_then (one i) (λ a r. on_first (is_op Sign.Comma) r (λ _ r1. cond (more r1) (and_then (commas one more n r1) (λ as_ r2. Found (a ∷ as_) r2)) (Found (a ∷ []) r1)) (Found (a ∷ []) r))
@@ -103,7 +104,7 @@ read_names i =
     (on_first (is_op Sign.LPar) i (λ _ r. and_then (commas_of name_alias starts_name r) (λ as_ r1. closed Sign.RPar r1 as_))
     (commas_of name_alias always i))
 
--- `import` and the names, behind the dots and the module
+-- `import` and the names, after the dots and the module
 abbrev pub import_of : Option Identifier → ℕ → List Terminal → Answer Stmt
 import_of m n i = and_then (read_names i) (λ as_ r. Found (ImportFrom m as_ n) r)
 
@@ -158,7 +159,7 @@ module _ (self : Reads) where
   abbrev pub annotation : Expr → Bool → List Terminal → Answer Stmt
   annotation t b i = and_then (self Expression i) (λ a r. and_then (after (Op Sign.Equal) Value r) (λ v r1. Found (AnnAssign t a v b) r1))
 
-  -- behind a Value that no `=` follows
+  -- after a Value that no `=` follows
   abbrev pub end_value : List Expr → Expr → List Terminal → Answer Stmt
   end_value (t ∷ ts) e r = Found (Assign (t ∷ ts) e) r
   end_value [] e r =
@@ -191,11 +192,11 @@ module _ (profile : Profile) (self : Reads) where
   abbrev pub read_type_params : List Terminal → Answer (List TypeParam)
   read_type_params i = cond (has_types profile) (bracketed_type_params self i) (Found [] i)
 
-  -- behind `type` and the NAME
+  -- after `type` and the NAME
   abbrev pub alias_rest : Identifier → List Terminal → Answer Stmt
   alias_rest x i = and_then (read_type_params i) (λ ps r. on_first (is_op Sign.Equal) r (λ _ r1. and_then (self Expression r1) (λ e r2. Found (TypeAlias (Trees.Name x Store) ps e) r2)) NoForm)
 
-  -- r are the terminals behind the first
+  -- r are the terminals after the first
   abbrev pub statement_of : Start → (i r : List Terminal) → Answer Stmt
   statement_of Values i r = on_type profile i alias_rest (value_statement self i)
   statement_of Returns i r = and_then (if_any self Stars r) (λ e r1. Found (Return e) r1)
@@ -235,7 +236,7 @@ module _ (self : Reads) where
   abbrev pub read_items : List Terminal → Answer (List Item)
   read_items i = or_else (bracketed i) (commas_of read_item always i)
 
-  -- behind the words
+  -- after the words
   abbrev pub for_rest : Bool → List Terminal → Answer Header
   for_rest b i = and_then (read_target self i) (λ t r. on_first (is_word Key.In) r (λ _ r1. and_then (self Stars r1) (λ e r2. on_some (stored t) (λ s. Found (loop_header (for_head b s e)) r2) NoForm)) NoForm)
 
@@ -248,11 +249,11 @@ module _ (self : Reads) where
   abbrev pub except_rest : List Terminal → Answer Header
   except_rest i = on_first (is_op Sign.Star) i (λ _ r. except_of true r) (cond (starts (Of Expression) i) (except_of false i) (Found (except_header false None None) i))
 
-  -- behind `def`, its NAME and the parameters of types
+  -- after `def`, its NAME and the parameters of types
   abbrev pub function_rest : Bool → Identifier → List TypeParam → List Terminal → Answer Header
   function_rest b x tps i = on_first (is_op Sign.LPar) i (λ _ r. and_then (listing_of self (Parameter true) [] r) (λ ps r1. on_first (is_op Sign.RPar) r1 (λ _ r2. on_some (arranged ps) (λ a. and_then (after self (Op Sign.RArrow) Expression r2) (λ e r3. Found (def_header (function_head b x tps a e)) r3)) NoForm) NoForm)) NoForm
 
-  -- behind `class`, its NAME and the parameters of types
+  -- after `class`, its NAME and the parameters of types
   abbrev pub bases_rest : Identifier → List TypeParam → List Terminal → Answer Header
   bases_rest x tps i = on_first (is_op Sign.LPar) i (λ _ r. and_then (listing_of self Argument [] r) (λ es r1. on_first (is_op Sign.RPar) r1 (λ _ r2. cond (in_order false false es) (Found (def_header (class_head x tps (listed (positional es)) (keywords es))) r2) NoForm) NoForm)) (Found (def_header (class_head x tps [] no_keyword)) i)
 
@@ -305,12 +306,12 @@ kind (Word Key.Async) = Heads
 kind t = States
 
 module _ (profile : Profile) (self : Reads) where
-  -- behind a header's colon
+  -- after a header's colon
   abbrev pub suite : Header → List Terminal → Answer Form
   suite h [] = Found (header_form h None) []
   suite h (t ∷ r) = and_then (statements profile self (suc (length (t ∷ r))) (t ∷ r)) (λ ss r1. Found (header_form h (Some ss)) r1)
 
-  -- r are the terminals behind the first
+  -- r are the terminals after the first
   abbrev pub line_of : Kind → (i r : List Terminal) → Answer Form
   line_of Decorates i r = and_then (self Named r) (λ e r1. Found (decorator_form e) r1)
   line_of Heads i r = and_then (read_header profile self i) (λ h r1. on_first (is_op Sign.Colon) r1 (λ _ r2. suite h r2) NoForm)
@@ -323,13 +324,13 @@ module _ (profile : Profile) (self : Reads) where
   abbrev pub line : List Terminal → Answer Form
   line i = and_then (line_front i) (λ f r. on_none r (Found f []) NoForm)
 
--- with as many expressions inside one another as there are terminals
+-- with as many nested expressions as there are terminals
 abbrev pub plain : Reads
 plain l ts = read (suc (length ts)) l ts
 
 abbrev pub read_line : Profile → List Terminal → Answer Form
 read_line profile ts = line profile plain ts
 
--- with at most d expressions inside one another
+-- with at most d nested expressions
 abbrev pub read_line_to : Profile → ℕ → List Terminal → Answer Form
 read_line_to profile d ts = line profile (read d) ts

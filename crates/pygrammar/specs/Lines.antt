@@ -1,4 +1,4 @@
--- Logical lines: what each says of itself, before it is known what stands round it.
+-- Logical lines, each by itself: what its own tokens say, without the lines around it.
 use Rattle.std.specs.Prelude.{ℕ, Bool, true, false, not, ◌&&◌, List, [], ◌∷◌, Option, Some, None}
 use Rattle.pytree_node.specs.Trees.{Expr, Arguments, Keywords, Identifier, Stmt, Item, Handler, TypeParam, FunctionDef, AsyncFunctionDef, ClassDef, TypeAlias, While, For, AsyncFor, With, AsyncWith, Try, TryStar, stmts, handlers}
 

@@ -1,8 +1,7 @@
 -- The order of parameters (language reference, 8.7).
-use Rattle.std.specs.Prelude.{List, [], ◌∷◌, Option, Some, None, Bool, true, false, cond}
+use Rattle.std.specs.Prelude.{List, [], ◌∷◌, Option, Some, None, Bool, true, false, cond, option_map}
 use Rattle.pytree_node.specs.Trees.{Exprs, no_exprs, an_expr, OptionalExpr, absent, present, no_optional, an_optional, Arg, no_arg, an_arg, absent_arg, present_arg, Arguments, arguments}
 use Rattle.pygrammar.specs.Entries.{Entry, Plain, Slashed, Bare, Gathered, Collected}
-use Rattle.pygrammar.specs.Targets.{mapped}
 
 -- Parameters, in this order: plain ones, and `/` behind at least one; plain ones; `*` NAME, or a bare `*` that a keyword-only one follows;
 -- keyword-only ones; `**` NAME. No plain one without a default follows one with.
@@ -30,13 +29,13 @@ add_before_slash a d (arguments ps qs v ks kds k ds) = arguments (an_arg a ps) q
 
 abbrev pub after_star : List Entry → Option Arguments
 after_star [] = Some no_arguments
-after_star (Plain a d ∷ es) = mapped (add_keyword_only a d) (after_star es)
+after_star (Plain a d ∷ es) = option_map (add_keyword_only a d) (after_star es)
 after_star (Collected a ∷ []) = Some (with_kwarg a)
 after_star _ = None
 
 abbrev pub at_star : List Entry → Option Arguments
 at_star [] = Some no_arguments
-at_star (Gathered a ∷ es) = mapped (set_vararg a) (after_star es)
+at_star (Gathered a ∷ es) = option_map (set_vararg a) (after_star es)
 at_star (Bare ∷ (Plain a d ∷ es)) = after_star (Plain a d ∷ es)
 at_star (Collected a ∷ []) = Some (with_kwarg a)
 at_star _ = None
@@ -44,8 +43,8 @@ at_star _ = None
 -- whether a default must stand, as one stood before
 abbrev pub plain_ones : Bool → List Entry → Option Arguments
 plain_ones true (Plain a absent ∷ es) = None
-plain_ones false (Plain a absent ∷ es) = mapped (add_plain a absent) (plain_ones false es)
-plain_ones b (Plain a (present d) ∷ es) = mapped (add_plain a (present d)) (plain_ones true es)
+plain_ones false (Plain a absent ∷ es) = option_map (add_plain a absent) (plain_ones false es)
+plain_ones b (Plain a (present d) ∷ es) = option_map (add_plain a (present d)) (plain_ones true es)
 plain_ones b es = at_star es
 
 abbrev pub defaulted : Bool → OptionalExpr → Bool
@@ -54,9 +53,9 @@ defaulted b (present d) = true
 
 abbrev pub before_slash : Bool → List Entry → Option Arguments
 before_slash true (Plain a absent ∷ es) = None
-before_slash b (Plain a d ∷ (Slashed ∷ es)) = mapped (add_before_slash a d) (plain_ones (defaulted b d) es)
-before_slash b (Plain a absent ∷ es) = mapped (add_before_slash a absent) (before_slash b es)
-before_slash b (Plain a (present d) ∷ es) = mapped (add_before_slash a (present d)) (before_slash true es)
+before_slash b (Plain a d ∷ (Slashed ∷ es)) = option_map (add_before_slash a d) (plain_ones (defaulted b d) es)
+before_slash b (Plain a absent ∷ es) = option_map (add_before_slash a absent) (before_slash b es)
+before_slash b (Plain a (present d) ∷ es) = option_map (add_before_slash a (present d)) (before_slash true es)
 before_slash b _ = None
 
 abbrev pub has_slash : List Entry → Bool

@@ -1,4 +1,4 @@
--- The levels in one order, what a terminal can begin, and all operators in two tables: behind an expression and before one.
+-- The levels in one order, what a terminal can begin, and all operators in two tables: after an expression and before one.
 use Rattle.std.specs.Prelude.{ℕ, List, [], ◌∷◌, Option, Some, None, Bool, true, false, cond, leb}
 use Rattle.pylex_lexeme.specs.declared.kinds.Exact.TheVariants.{LPar, LSqb, LBrace, Colon, Plus, Minus, Star, Slash, VBar, Amper, Less, Greater, Percent, EqEqual, NotEqual, LessEqual, GreaterEqual, Tilde, Circumflex, LeftShift, RightShift, DoubleStar, DoubleSlash, At, Ellipsis}
 use Rattle.pytoken.specs.declared.keywords.Keyword.TheVariants as Key
@@ -101,7 +101,7 @@ abbrev pub starts_comp : List Terminal → Bool
 starts_comp [] = false
 starts_comp (t ∷ r) = begins_comp t
 
--- what an operator behind an expression makes: its rank, and how it goes on
+-- what an operator after an expression makes: its rank, and how it goes on
 pub data Infix : Type 0 where
   Left : Level → Operator → Infix  -- of this level, its right side of the next
   Raise : Infix  -- `**`

@@ -122,7 +122,7 @@ module _ (self : Reads) where
   abbrev pub listing_of : Item → List Entry → List Terminal → Answer (List Entry)
   listing_of i acc r = listing_loop (piece self i) i (length r) acc r
 
-  -- the same behind a first item
+  -- the same after a first item
   abbrev pub others_of : Item → Entry → List Terminal → Answer (List Entry)
   others_of i e r = on_first (is_op Comma) r (λ _ r1. listing_of i (e ∷ []) r1) (Found (e ∷ []) r)
 
@@ -157,7 +157,7 @@ module _ (self : Reads) where
   abbrev pub comps_closed : Exact → List Terminal → (List Comprehension → Expr) → Answer Expr
   comps_closed s r make = and_then (comps_loop (length r) [] r) (λ gs r1. closed s r1 (make gs))
 
--- no star item, and no NAME with `:=`, where r are the terminals from its begin
+-- neither a star item nor a NAME with `:=`; r are the terminals from where it begins
 abbrev pub unstarred : {A : Type 0} → List Terminal → Answer A → Answer A
 unstarred r a = on_first (is_op Star) r (λ _ _. NoForm) a
 
@@ -177,7 +177,7 @@ module _ (self : Reads) where
   abbrev pub yield_step : List Terminal → Answer Expr
   yield_step r = on_first (is_word Key.From) r (λ _ r1. and_then (self Expression r1) (λ e r2. Found (Trees.YieldFrom e) r2)) (and_then (perhaps self Stars r) (λ e r1. Found (Trees.Yield e) r1))
 
-  -- behind `(`, `[`, `{`
+  -- after `(`, `[`, `{`
   abbrev pub round : List Terminal → Answer Expr
   round r =
       on_first (is_op RPar) r (λ _ r1. Found (Trees.Tuple no_exprs Load) r1)
@@ -222,7 +222,7 @@ module _ (self : Reads) where
   atom (Op LBrace ∷ r) = curly r
   atom (t ∷ r) = made (constant_of (constant_word t)) r
 
-  -- behind the `(` of a call
+  -- after the `(` of a call
   abbrev pub called_with : Expr → List Entry → List Terminal → Answer Expr
   called_with f es r = on_first (is_op RPar) r (λ _ r1. made (called f es) r1) NoForm
 
@@ -261,7 +261,7 @@ module _ (self : Reads) where
   compare_loop zero os es r k = k os es r
   compare_loop (suc m) os es r k = on_comparison r (λ o r1. and_then (self BitOr r1) (λ b r2. compare_loop m (os ++ (o ∷ [])) (es ++ (b ∷ [])) r2 k)) (k os es r)
 
-  -- an expression with the operator behind it; r1 are the terminals behind the operator's first
+  -- an expression and the operator after it; r1 are the terminals after the operator's first
   abbrev pub operation : Expr → Infix → (r r1 : List Terminal) → Answer Expr
   operation e (Left l o) r r1 = and_then (self (below l) r1) (λ b r2. Found (Trees.BinOp e o b) r2)
   operation e Raise r r1 = and_then (self Factor r1) (λ b r2. Found (Trees.BinOp e Bin.Pow b) r2)
@@ -286,7 +286,7 @@ module _ (self : Reads) where
   abbrev pub if_else_step : Expr → List Terminal → Answer Expr
   if_else_step b r = on_first (is_word Key.If) r (λ _ r1. and_then (self Or r1) (λ a r2. on_first (is_word Key.Else) r2 (λ _ r3. and_then (self Expression r3) (λ c r4. Found (Trees.IfExp a b c) r4)) NoForm)) (Found b r)
 
--- One level. `next` reads further levels at the front, `inner` an expression further in: behind a bracket or an operator.
+-- One level. `next` reads further levels at the front, `inner` an expression further in: after a bracket or an operator.
 module _ (next inner : Reads) where
   -- all of Or .. Await, by the rank
   abbrev pub climb : ℕ → List Terminal → Answer Expr
@@ -325,7 +325,7 @@ abbrev pub descend : Reads → ℕ → Reads
 descend inner zero l i = NoForm
 descend inner (suc k) l i = level_step (descend inner k) inner l i
 
--- the reader: at most d expressions further in than one another
+-- the reader, with at most d nested expressions
 abbrev pub read : ℕ → Reads
 read zero l i = TooDeep
 read (suc d) l i = descend (read d) (levels_from l) l i

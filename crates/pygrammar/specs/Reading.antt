@@ -121,11 +121,11 @@ state done group fresh below = record { done = done; group = group; fresh = fres
 abbrev pub start : State
 start = state [] Idle false []
 
--- the statements of a level with a header and its block behind them
+-- the statements of a level, and after them a header with its block
 abbrev pub joined : List Stmt → Group → Header → List Stmt → Part
 joined done g h body = part (done ++ (grows g h body).done) (grows g h body).group
 
--- the levels above l come to their end
+-- the levels above l end
 abbrev pub settle_in : ℕ → List Stmt → Group → Bool → List Waiting → Answer State
 settle_in l done g fresh [] = Fine (state done g fresh [])
 settle_in l done g fresh (w ∷ below) =
@@ -174,7 +174,7 @@ abbrev pub stops : List Line → State → List Line
 stops [] s = []
 stops (x ∷ xs) s = elim (step s x) [ Fine t ↦ stops xs t | Faulty e ↦ x ∷ xs ]
 
--- all levels come to their end
+-- all levels end
 abbrev pub finish : State → Answer (List Stmt)
 finish s = then (settle 0 s) (λ t. elim (closes t.group) [ None ↦ Faulty MisplacedClause | Some ss ↦ Fine (t.done ++ ss) ])
 

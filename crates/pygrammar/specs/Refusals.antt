@@ -17,7 +17,7 @@ use Rattle.pygrammar.specs.Forms.{FormOf}
 use Rattle.pygrammar.specs.FormHeights.{form_height}
 use Rattle.pygrammar.specs.Blocks.{Block, Fault, FirstFault, Kind, ElifLine, ElseLine, ExceptLine, FinallyLine, kind_of, header_kind}
 
--- why a line, or what stands at ENDMARKER, is refused
+-- why a line or ENDMARKER is refused
 pub data Code : Type 0 where
   Syntax : Code
   MatchStatement : Code
@@ -69,14 +69,14 @@ pub data FirstUnread (profile : Profile) : List Tokens.Line → ℕ → Code →
 
 -- ---- Statement heights.
 
--- the `elif`s of the `if` that a line of this kind belongs to, up to it; the lines before it nearest first
+-- how many `elif`s the `if` of a line of this kind has up to the line; the lines before it come nearest first
 abbrev pub elifs : Kind → ℕ → List Line → ℕ
 elifs k l [] = 0
 elifs ElifLine l (x ∷ earlier) = cond (nat_lt l x.level) (elifs ElifLine l earlier) (cond (x.level == l) (1 + elifs (kind_of x.form) l earlier) 0)
 elifs ElseLine l (x ∷ earlier) = cond (nat_lt l x.level) (elifs ElseLine l earlier) (cond (x.level == l) (elifs (kind_of x.form) l earlier) 0)
 elifs _ l (x ∷ earlier) = 0
 
--- how many statements stand round a line of this level: its header's, and the header and its `elif`s
+-- how many statements are around a line of this level: those around its header, the header's own, and its `elif`s
 abbrev pub around : ℕ → List Line → ℕ
 around l [] = 0
 around l (x ∷ earlier) = cond (nat_lt x.level l) (around x.level earlier + (elifs (kind_of x.form) x.level earlier + 1)) (around l earlier)
@@ -87,7 +87,7 @@ is_clause (ExceptLine _) = true
 is_clause FinallyLine = true
 is_clause _ = false
 
--- how many stand round the innermost statement that begins in this line, if one does
+-- how many statements are around the innermost one that begins in this line, if one does
 abbrev pub beginning : Line → List Line → Option ℕ
 beginning x earlier = elim x.form [
   | header_form h (Some suite) ↦ Some (around x.level earlier + (elifs (header_kind h) x.level earlier + 1))
@@ -99,14 +99,14 @@ abbrev pub IsDeep : Option ℕ → Type 0
 IsDeep None = ⊥
 IsDeep (Some n) = 500 ≤ n
 
--- the first line that begins a statement with 500 round it
+-- the first line in which a statement begins that has 500 around it
 pub data FirstDeep : List Line → List Line → ℕ → Type 0 where
   deep : {earlier : List Line} {x : Line} {xs : List Line} → IsDeep (beginning x earlier) → FirstDeep earlier (x ∷ xs) 0
   deep_behind : {earlier : List Line} {x : Line} {xs : List Line} {n : ℕ} → (IsDeep (beginning x earlier) → ⊥) → FirstDeep (x ∷ earlier) xs n → FirstDeep earlier (x ∷ xs) (suc n)
 
 -- ---- The answer.
 
--- nothing refuses the tokens, each line has a form, the forms' tree is this module, and no height of it is past 500
+-- no refusal of the tokens, a form for each line, this module as the forms' tree, and no height above 500
 pub record Accepted (profile : Profile) (s : Source) (m : Module) : Type 0 where
   pub clear : refusal s ≡ None
   pub forms : List Line

@@ -1,15 +1,10 @@
 -- The shapes of targets, and the contexts that they have there (language reference, 7.2 and 7.5).
-use Rattle.std.specs.Prelude.{Option, Some, None}
+use Rattle.std.specs.Prelude.{Option, Some, None, option_map}
 use Rattle.pytree_node.specs.declared.operators.Context.TheVariants.{Store, Del}
 use Rattle.pytree_node.specs.Trees
 use Rattle.pytree_node.specs.Trees.{Expr, Exprs, no_exprs, an_expr}
 
--- a function of what is there
-abbrev pub mapped : {A B : Type 0} → (A → B) → Option A → Option B
-mapped f None = None
-mapped f (Some a) = Some (f a)
-
--- a list of nodes, where all of them are there
+-- a list of nodes, if each of them is there
 abbrev pub both : Option Expr → Option Exprs → Option Exprs
 both (Some e) (Some es) = Some (an_expr e es)
 both _ _ = None
@@ -21,10 +16,10 @@ abbrev mutual
   stored (Trees.Name x c) = Some (Trees.Name x Store)
   stored (Trees.Attribute e x c) = Some (Trees.Attribute e x Store)
   stored (Trees.Subscript e s c) = Some (Trees.Subscript e s Store)
-  stored (Trees.Tuple es c) = mapped (λ fs. Trees.Tuple fs Store) (all_stored es)
-  stored (Trees.ListOf es c) = mapped (λ fs. Trees.ListOf fs Store) (all_stored es)
+  stored (Trees.Tuple es c) = option_map (λ fs. Trees.Tuple fs Store) (all_stored es)
+  stored (Trees.ListOf es c) = option_map (λ fs. Trees.ListOf fs Store) (all_stored es)
   stored (Trees.Starred (Trees.Starred e d) c) = None
-  stored (Trees.Starred e c) = mapped (λ f. Trees.Starred f Store) (stored e)
+  stored (Trees.Starred e c) = option_map (λ f. Trees.Starred f Store) (stored e)
   stored _ = None
 
   pub all_stored : Exprs → Option Exprs
@@ -37,8 +32,8 @@ abbrev mutual
   deleted (Trees.Name x c) = Some (Trees.Name x Del)
   deleted (Trees.Attribute e x c) = Some (Trees.Attribute e x Del)
   deleted (Trees.Subscript e s c) = Some (Trees.Subscript e s Del)
-  deleted (Trees.Tuple es c) = mapped (λ fs. Trees.Tuple fs Del) (all_deleted es)
-  deleted (Trees.ListOf es c) = mapped (λ fs. Trees.ListOf fs Del) (all_deleted es)
+  deleted (Trees.Tuple es c) = option_map (λ fs. Trees.Tuple fs Del) (all_deleted es)
+  deleted (Trees.ListOf es c) = option_map (λ fs. Trees.ListOf fs Del) (all_deleted es)
   deleted _ = None
 
   pub all_deleted : Exprs → Option Exprs

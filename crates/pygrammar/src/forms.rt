@@ -16,7 +16,7 @@ pub enum Form {
     Decorator {
         value: Box<Expr>,
     },
-    /// A header and its colon, with the simple statements behind the colon, if there are any: 8
+    /// A header and its colon, with the simple statements after the colon, if there are any: 8
     /// (`suite`). Else its block is the lines that follow.
     Headed {
         header: Header,

@@ -6,7 +6,6 @@ ghost use Rattle.std.specs.Str.{chars};
 ghost use Rattle.unicode_normalization.specs.Forms.{nfkc};
 ghost use Rattle.pytoken.specs.StringValues.{string_value};
 ghost use Rattle.pygrammar.specs.Precedence as precedence;
-ghost use Rattle.pygrammar.specs.Targets.{mapped};
 ghost use Rattle.pygrammar.specs.Looks as signs;
 ghost use Rattle.pytoken.specs.Terminals as plain;
 ghost use Rattle.pyparse_expr.specs.Views.{IsNamed, IsNotNamed, Stands, first_is, first_of, lead_of};
@@ -23,7 +22,7 @@ use pytoken::{LiteralText, Terminal};
 #[tactic(auto, using(crate::proofs::Places::Here::here, crate::proofs::Places::Here::past))]
 pub fn terminal_at<'a>(tokens: &[Terminal<'a>], at: usize) -> Option<Terminal<'a>>
     ensures within { IfSome result (λ _. at < length tokens.now) }
-    ensures is { first_of (seen tokens.now at) ≡ mapped terminal result }
+    ensures is { first_of (seen tokens.now at) ≡ option_map terminal result }
 {
     if at < tokens.len() {
         Some(tokens[at])

@@ -6,6 +6,7 @@ pub mod StringValues
 pub mod NameValues
 pub mod Terminals
 pub mod Tokens
+pub mod SourceTokens
 pub mod Brackets
 pub mod Indentation
 pub mod Refusals

@@ -66,7 +66,7 @@ at_dot text (Some x) u h =
     let is = (split_parts 46 text (Some x) h (omega arith)).0 in
     ((sides x.0.now x.1.now (subst IsUtf8 is u)).1, around_dot text x.0.now x.1.now u is (subst IsDotless (sym h.3) h.2.0))
 
--- its first part tells that it is none, or leaves it to what is behind
+-- its first part shows that it is none, or leaves it to what follows
 pub fails : (x y : Bool) {told z : Bool} → told ≡ x → told ≡ false → z ≡ (x && y) → false ≡ z
 fails x y is failed e = sym (e ∙ ap (λ b. b && y) (sym is ∙ failed))
 

@@ -23,7 +23,7 @@ same_answer true false to from = sym (to refl)
 same_answer false true to from = from refl
 same_answer false false to from = refl
 
--- of an identifier that is no keyword the test of its form tells whether it is a name
+-- an identifier that is no keyword is a name where its form passes the test
 pub told : {E : Type 0} (r : Result Bool E) (cs : List ℕ) → is_identifier cs ≡ true → is_keyword cs ≡ false → IfOk r (λ b. IsTrue b ↔ IsInForm Nfkc cs) → IfOk r (λ b. b ≡ is_name cs)
 told (Ok b) cs identifier other by =
     let decides = bytes_eq-Decides (nfkc cs) cs in

@@ -1,12 +1,12 @@
 -- Which trees the grammar gives: to terminals whose names pass a test, and to the tokens of a source. Heights play no part.
 use Rattle.std.specs.Prelude.{◌≡◌, Bool, true, false, ◌&&◌, List, [], ◌∷◌, map, All, nat_lt, ◌^◌}
-use Rattle.std.specs.Str.{all_scalars}
 use Rattle.pytree_node.specs.declared.profiles.Profile.{Profile}
 use Rattle.pytree_node.specs.Trees.{Identifier, Expr, Module}
 use Rattle.pytree_node.specs.Values.{Value, Str, Bytes}
-use Rattle.pytoken.specs.Terminals.{Terminal, Ident, Whole, Literal, terminal_of, IsSound}
+use Rattle.pytoken.specs.Terminals.{Terminal, Ident, Whole, Literal, terminal_of}
 use Rattle.pytoken.specs.Tokens.{Token}
 use Rattle.pytoken.specs.Tokens as Tokens
+use Rattle.pytoken.specs.SourceTokens.{IsOfSource}
 use Rattle.pygrammar.specs.declared.levels.Level.{Level}
 use Rattle.pygrammar.specs.Grammar.{Derives}
 use Rattle.pygrammar.specs.Lines.{Line, line, Form}
@@ -23,7 +23,7 @@ is_literal (Str points unicode) = is_value (Str points unicode)
 is_literal (Bytes bytes) = is_value (Bytes bytes)
 is_literal _ = false
 
--- a terminal that a token may be, whose name passes
+-- a terminal that a token may be; if it is a name, it passes the test
 abbrev pub passes : (Identifier → Bool) → Terminal → Bool
 passes n (Ident x) = n x.form
 passes n (Whole k) = nat_lt k (2 ^ 128)
@@ -34,7 +34,7 @@ abbrev pub all_pass : (Identifier → Bool) → List Terminal → Bool
 all_pass n [] = true
 all_pass n (t ∷ ts) = passes n t && all_pass n ts
 
--- some list of such terminals is this, by a relation
+-- a relation gives this to some list of such terminals
 abbrev pub Given : {A : Type 0} → (Identifier → Bool) → (List Terminal → A → Type 0) → A → Type 0
 Given n r a = (ts : List Terminal) × (all_pass n ts ≡ true) × r ts a
 
@@ -49,14 +49,10 @@ GivenModule profile n m = (xs : List Line) × AreGiven profile n xs × Block 0 x
 
 -- ---- Tokens.
 
--- a token of Unicode characters that is what its type says, and has no fault
-abbrev pub IsOfSource : Token → Type 0
-IsOfSource t = (all_scalars t.text ≡ true) × IsSound t.kind t.text
-
 abbrev pub AreOfSource : List Token → Type 0
 AreOfSource ts = All IsOfSource ts
 
--- some such tokens are this expression at a level
+-- at a level the grammar gives this expression to some such tokens
 pub record Expressed (l : Level) (e : Expr) : Type 0 where
   pub tokens : List Token
   pub sound : AreOfSource tokens
@@ -68,7 +64,7 @@ pub data HaveForms (profile : Profile) : List Tokens.Line → List Line → Type
   a_form : {x : Tokens.Line} {xs : List Tokens.Line} {f : Form} {ys : List Line} →
       AreOfSource x.tokens → FormOf profile (terminals x) f → HaveForms profile xs ys → HaveForms profile (x ∷ xs) (line x.level f ∷ ys)
 
--- some lines of tokens are this module in a version of Python
+-- in a version of Python the grammar gives this module to some lines of such tokens
 pub record Stated (profile : Profile) (m : Module) : Type 0 where
   pub lines : List Tokens.Line
   pub forms : List Line

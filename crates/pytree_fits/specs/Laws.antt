@@ -1,19 +1,16 @@
 -- What holds of the trees that fit: they are those that the grammar gives.
-use Rattle.std.specs.Prelude.{◌≡◌, ◌↔◌, Bool, true, false, ◌&&◌, List, Some}
+use Rattle.std.specs.Prelude.{◌≡◌, ◌↔◌, Bool, true, ◌&&◌}
 use Rattle.pytree_node.specs.declared.operators.Context.TheVariants.{Store, Del}
 use Rattle.pytree_node.specs.declared.profiles.Profile.{Profile}
 use Rattle.pytree_node.specs.Trees.{Identifier, Expr, Exprs, Keywords, Arguments, Module}
-use Rattle.pytoken.specs.Terminals.{Terminal}
 use Rattle.pygrammar.specs.declared.levels.Level.{Level}
 use Rattle.pygrammar.specs.declared.levels.Level.TheVariants.{Elem}
-use Rattle.pygrammar.specs.Entries.{Entry, Argument, Parameter}
-use Rattle.pygrammar.specs.Arguments.{in_order, positional, keywords}
-use Rattle.pygrammar.specs.Parameters.{arranged}
-use Rattle.pygrammar.specs.Grammar.{Derives, Target, SingleTarget, DelTarget, ItemTarget, Listing}
+use Rattle.pygrammar.specs.Grammar.{Derives, Target, SingleTarget, DelTarget, ItemTarget}
+use Rattle.pygrammar.specs.ArgumentLists.{IsArranged, AreArguments}
 use Rattle.pytree_fits.specs.Names.{is_name}
 use Rattle.pytree_fits.specs.Slots.{is_single, fits_at, fits_target, each_fits, each_keyword_fits, fits_arguments}
 use Rattle.pytree_fits.specs.Statements.{module_fits}
-use Rattle.pytree_fits.specs.Given.{all_pass, Given, Expressed, Stated}
+use Rattle.pytree_fits.specs.Given.{Given, Expressed, Stated}
 
 -- ---- By terminals, for any test of names.
 
@@ -21,7 +18,7 @@ use Rattle.pytree_fits.specs.Given.{all_pass, Given, Expressed, Stated}
 abbrev pub FitsExactly : Type 0
 FitsExactly = (n : Identifier → Bool) (l : Level) (e : Expr) → Given n (Derives l) e ↔ (fits_at n l e ≡ true)
 
--- so do targets their places
+-- so do targets at their places
 pub record TargetFits (n : Identifier → Bool) (s : Expr) : Type 0 where
   pub target : Given n Target s ↔ (fits_target n Store s ≡ true)
   pub single : Given n SingleTarget s ↔ ((is_single s && fits_target n Store s) ≡ true)
@@ -34,20 +31,12 @@ TargetsFitExactly = (n : Identifier → Bool) (s : Expr) → TargetFits n s
 -- so do the parameters of a `lambda`, or with annotations those of a `def`
 abbrev pub ParametersFitExactly : Type 0
 ParametersFitExactly = (n : Identifier → Bool) (annotated : Bool) (a : Arguments) →
-    Given n (λ ts a. (es : List Entry) × Listing (Parameter annotated) ts es × (arranged es ≡ Some a)) a ↔ (fits_arguments n annotated a ≡ true)
-
--- what a list of arguments is, of a call or of a class
-pub record AreArguments (zs : Exprs) (ks : Keywords) (ts : List Terminal) : Type 0 where
-  pub entries : List Entry
-  pub listing : Listing Argument ts entries
-  pub order : in_order false false entries ≡ true
-  pub positional_are : positional entries ≡ zs
-  pub keywords_are : keywords entries ≡ ks
+    Given n (IsArranged annotated) a ↔ (fits_arguments n annotated a ≡ true)
 
 -- so do arguments; each order of the tree is given, so there is no test of an order
 abbrev pub ArgumentsFitExactly : Type 0
 ArgumentsFitExactly = (n : Identifier → Bool) (zs : Exprs) (ks : Keywords) →
-    ((ts : List Terminal) × (all_pass n ts ≡ true) × AreArguments zs ks ts) ↔ ((each_fits n Elem zs && each_keyword_fits n ks) ≡ true)
+    Given n AreArguments (zs, ks) ↔ ((each_fits n Elem zs && each_keyword_fits n ks) ≡ true)
 
 -- ---- By tokens.
 

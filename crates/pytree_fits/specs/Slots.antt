@@ -45,7 +45,7 @@ abbrev pub is_a_name : Expr → Bool
 is_a_name (Trees.Name id ctx) = true
 is_a_name _ = false
 
--- a target that is none of several
+-- a single target
 abbrev pub is_single : Expr → Bool
 is_single (Trees.Name id ctx) = true
 is_single (Trees.Attribute value attr ctx) = true

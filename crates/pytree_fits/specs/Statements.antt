@@ -1,15 +1,15 @@
 -- Which statements and modules the grammar gives in a version of Python to some lines, with no regard to heights (reference 7 and 8).
--- Each function takes the test of names, and those that ask for it the version.
-use Rattle.std.specs.Prelude.{ℕ, ◌==◌, nat_lt, Bool, true, false, ◌&&◌, ◌||◌, not, cond, List, [], ◌∷◌, Option, Some, None, is_none}
+-- Each function takes the test of names, and the version if it depends on that.
+use Rattle.std.specs.Prelude.{ℕ, ◌==◌, nat_lt, Bool, true, false, ◌&&◌, ◌||◌, not, List, [], ◌∷◌, Option, Some, None, is_none}
 use Rattle.std.specs.List.{list_all}
-use Rattle.pylex_lexeme.specs.Characters.{full_stop}
 use Rattle.pytree_node.specs.declared.operators.Context.TheVariants.{Store, Del}
 use Rattle.pytree_node.specs.declared.profiles.Profile.{Profile}
 use Rattle.pytree_node.specs.Trees
 use Rattle.pytree_node.specs.Trees.{Identifier, Expr, exprs, optional, Stmt, Stmts, no_stmt, a_stmt, stmts, Handlers, no_handler, a_handler, Alias, Item, TypeParam, Module}
 use Rattle.pygrammar.specs.declared.levels.Level.TheVariants.{Value, Stars, Expression, Elem}
 use Rattle.pygrammar.specs.Lines.{no_types}
-use Rattle.pygrammar.specs.Forms.{has_types}
+use Rattle.pygrammar.specs.DottedNames.{names_in}
+use Rattle.pytree_node.specs.Profiles.{has_types}
 use Rattle.pytree_fits.specs.Slots.{is_a_name, is_single, perhaps_name, fits_at, fits_target, each_target_fits, each_fits, perhaps_fits, each_keyword_fits, fits_arguments}
 
 abbrev pub has_one : {A : Type 0} → List A → Bool
@@ -20,24 +20,11 @@ abbrev pub has_stmt : Stmts → Bool
 has_stmt no_stmt = false
 has_stmt (a_stmt s ss) = true
 
-abbrev pub has_handler : Handlers → Bool
-has_handler no_handler = false
-has_handler (a_handler class name body hs) = true
-
 -- ---- Names.
 
-abbrev pub lengthen : ℕ → List Identifier → List Identifier
-lengthen c [] = (c ∷ []) ∷ []
-lengthen c (part ∷ parts) = (c ∷ part) ∷ parts
-
--- what stands between the dots of a name
-abbrev pub parts : Identifier → List Identifier
-parts [] = [] ∷ []
-parts (c ∷ cs) = cond (c == full_stop) ([] ∷ parts cs) (lengthen c (parts cs))
-
--- the name of a module: names with dots between
+-- the name of a module: names with dots between them
 abbrev pub dotted : (Identifier → Bool) → Identifier → Bool
-dotted n x = list_all n (parts x)
+dotted n x = list_all n (names_in x)
 
 -- what `import` imports
 abbrev pub import_fits : (Identifier → Bool) → Alias → Bool

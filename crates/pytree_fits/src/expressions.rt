@@ -22,7 +22,7 @@ use pytree_node::{Comprehension, Context, Expr, Keyword};
 use std::alloc::{AllocError, Global};
 
 /// Whether an expression fits a level of the grammar: whether each of its fields has what may stand
-/// there. `Err` is want of memory alone, which the test of names may meet.
+/// there. `Err` means out of memory alone, which the test of names may meet.
 #[cycle(fits)]
 #[tactic(auto, using(pytree_node::proofs::Callers::ExprShapes::expr_shapes))]
 pub fn expr_fits(alloc: Global, expr: &Expr, level: Level) -> Result<bool, AllocError>

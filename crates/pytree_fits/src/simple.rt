@@ -2,7 +2,7 @@
 
 ghost use Rattle.std.specs.Prelude.{◌≡◌, ◌&&◌, ◌||◌, IfOk, map, not};
 ghost use Rattle.std.specs.List.{list_all};
-ghost use Rattle.pygrammar.specs.Forms.{has_types};
+ghost use Rattle.pytree_node.specs.Profiles.{has_types};
 ghost use Rattle.pygrammar.specs.declared.levels.Level.TheVariants as levels;
 ghost use Rattle.pytree_node.specs.declared.operators.Context.TheVariants as contexts;
 ghost use Rattle.pytree_node.specs.TreeOf.{boxed_of, option_of, tree_of, type_param_of};

@@ -228,7 +228,7 @@ fn suite_fits(alloc: Global, profile: Profile, body: &[Stmt]) -> Result<bool, Al
 }
 
 /// Whether each of some statements fits in a version of Python: whether each of its fields has what
-/// may stand there. `Err` is want of memory alone.
+/// may stand there. `Err` means out of memory alone.
 #[cycle(statements)]
 #[tactic(auto, using(pytree_node::proofs::Callers::StmtShapes::stmt_shapes))]
 pub fn statements_fit(alloc: Global, profile: Profile, body: &[Stmt]) -> Result<bool, AllocError>

@@ -1,5 +1,6 @@
 pub mod Inner
 pub mod Points
+pub mod Profiles
 pub mod TreeOf
 pub mod Trees
 pub mod Values

@@ -11,7 +11,7 @@ use Rattle.pyunparse_text.specs.Tokens.{closes_all}
 abbrev name : List ℕ → Piece
 name t = record { kind = kinds.Name; text = t; before = false; behind = false }
 
--- a name directly behind the points of an import
+-- a name directly after the points of an import
 abbrev module_name : List ℕ → Piece
 module_name t = record { kind = kinds.Name; text = t; before = true; behind = false }
 

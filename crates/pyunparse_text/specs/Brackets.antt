@@ -7,7 +7,7 @@ abbrev pub open_after : ℕ → Terminal → ℕ
 open_after d (Op x) = if is_opener x then suc d else (if is_closer x then d - 1 else d)
 open_after d _ = d
 
--- where so many are open before
+-- with so many open before
 abbrev pub most_open : ℕ → List Terminal → ℕ
 most_open d [] = d
 most_open d (t ∷ ts) = max d (most_open (open_after d t) ts)

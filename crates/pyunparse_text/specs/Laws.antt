@@ -1,19 +1,18 @@
 -- What holds of what a tree is written in.
-use Rattle.std.specs.Prelude.{◌≡◌, ◌+◌, ◌≤◌, ◌↔◌, List, [], ◌∷◌, ◌++◌, length, Bool, true, false, Some, ℕ, All}
+use Rattle.std.specs.Prelude.{◌≡◌, ◌+◌, ◌≤◌, ◌↔◌, List, [], ◌∷◌, ◌++◌, length, Bool, true, false, ℕ, All}
 use Rattle.std.specs.Str.{all_scalars, encode_utf8_all}
 use Rattle.pylex.specs.Listing.{Source, in_characters}
 use Rattle.pylex.specs.Laws.{IsLawful}
 use Rattle.pytree_node.specs.declared.profiles.Profile.{Profile}
 use Rattle.pytree_node.specs.Trees.{Expr, Exprs, Keywords, Arguments, Module}
 use Rattle.pytoken.specs.Tokens as Tokens
-use Rattle.pytoken.specs.Terminals.{Terminal, Gives, IsSound}
+use Rattle.pytoken.specs.SourceTokens.{IsOfSource}
+use Rattle.pytoken.specs.Terminals.{Terminal, Gives}
 use Rattle.pytree_height.specs.Heights.{height, expression_height, statement_height}
 use Rattle.pygrammar.specs.declared.levels.Level.{Level}
 use Rattle.pygrammar.specs.declared.levels.Level.TheVariants.{Stars, Expression, Primary, Atom, Named}
-use Rattle.pygrammar.specs.Entries.{Entry, Argument, Parameter}
-use Rattle.pygrammar.specs.Arguments.{in_order, positional, keywords}
-use Rattle.pygrammar.specs.Parameters.{arranged}
-use Rattle.pygrammar.specs.Grammar.{Derives, Listing, Target, SingleTarget, DelTarget, ItemTarget}
+use Rattle.pygrammar.specs.Grammar.{Derives, Target, SingleTarget, DelTarget, ItemTarget}
+use Rattle.pygrammar.specs.ArgumentLists.{IsArranged, AreArguments}
 use Rattle.pygrammar.specs.Lines.{Line, line, Form}
 use Rattle.pygrammar.specs.Forms.{FormOf}
 use Rattle.pygrammar.specs.FormHeights.{form_height}
@@ -34,13 +33,13 @@ use Rattle.pyunparse_text.specs.Brackets.{brackets}
 
 -- ---- Fewest brackets.
 
--- by a relation, a list of terminals gives something, and no shorter list does
+-- a list of terminals gives something, by a relation, and no shorter list does
 pub record Shortest {A : Type 0} (Gives : List Terminal → A → Type 0) (ts : List Terminal) (a : A) : Type 0 where
   pub gives : Gives ts a
   pub least : (us : List Terminal) → Gives us a → length ts ≤ length us
 
--- An expression that the grammar gives to some list at a level is written there in terminals that give it back, and in no more than any list
--- that does.
+-- An expression that the grammar gives to some list at a level is written there in terminals that give it back, and in no more of them than
+-- any list has that does.
 abbrev pub ExpressionsAreShortest : Type 0
 ExpressionsAreShortest = (l : Level) (ts : List Terminal) (e : Expr) → Derives l ts e → Shortest (Derives l) (terminals l e) e
 
@@ -58,22 +57,8 @@ pub record TargetIsShortest (ts : List Terminal) (s : Expr) : Type 0 where
 abbrev pub TargetsAreShortest : Type 0
 TargetsAreShortest = (ts : List Terminal) (s : Expr) → TargetIsShortest ts s
 
--- a list of parameters gives the arguments of a `lambda`, or with annotations of a `def`
-pub record IsArranged (annotated : Bool) (ts : List Terminal) (a : Arguments) : Type 0 where
-  pub entries : List Entry
-  pub listing : Listing (Parameter annotated) ts entries
-  pub arranged_as : arranged entries ≡ Some a
-
 abbrev pub ParametersAreShortest : Type 0
 ParametersAreShortest = (annotated : Bool) (ts : List Terminal) (a : Arguments) → IsArranged annotated ts a → Shortest (IsArranged annotated) (listed terminal (parameters terminal a)) a
-
--- a list of arguments gives the fields `args` and `keywords`, of a call or of a class
-pub record AreArguments (ts : List Terminal) (fields : Exprs × Keywords) : Type 0 where
-  pub entries : List Entry
-  pub listing : Listing Argument ts entries
-  pub order : in_order false false entries ≡ true
-  pub positional_are : positional entries ≡ fields.0
-  pub keywords_are : keywords entries ≡ fields.1
 
 abbrev pub ArgumentsAreShortest : Type 0
 ArgumentsAreShortest = (ts : List Terminal) (es : Exprs) (ks : Keywords) → AreArguments ts (es, ks) → Shortest AreArguments (listed terminal (each terminal Named es ++ by_name terminal ks)) (es, ks)
@@ -89,7 +74,7 @@ not_atom _ = true
 abbrev pub BracketsAreWithinHeight : Type 0
 BracketsAreWithinHeight = (l : Level) (e : Expr) → not_atom l ≡ true → brackets (terminals l e) ≤ height e
 
--- what a tree is written in has the fewest tokens at each place of an expression, and no more brackets in one another than it is high
+-- what a tree is written in has the fewest tokens at each place of an expression, and no more nested brackets than the tree is high
 pub record WritingIsShortest : Type 0 where
   pub expressions : ExpressionsAreShortest
   pub targets : TargetsAreShortest
@@ -134,32 +119,32 @@ pub record AreModule (profile : Profile) (ws : List (WrittenLine Terminal)) (m :
   pub formed : HaveForms profile ws forms
   pub block : Block 0 forms m.body
 
--- A module that some lines are is that of the lines that it is written in. Lines are one module at most (`pygrammar`'s laws), so these are
+-- A module that some lines give is given by the lines that it is written in. Lines give one module at most (`pygrammar`'s laws), so these give
 -- no other.
 abbrev pub ModulesComeBack : Type 0
 ModulesComeBack = (profile : Profile) (ws : List (WrittenLine Terminal)) (m : Module) → AreModule profile ws m → AreModule profile (terminal_lines m) m
 
--- lines are one module at most
+-- lines give one module at most
 abbrev pub LinesAreOneModule : Type 0
 LinesAreOneModule = (profile : Profile) (ws : List (WrittenLine Terminal)) (m n : Module) → AreModule profile ws m → AreModule profile ws n → m ≡ n
 
--- a module that is accepted is that of its own lines
+-- a module that is accepted is given by its own lines
 abbrev pub AcceptedComeBack : Type 0
 AcceptedComeBack = (profile : Profile) (s : Source) (m : Module) → Accepted profile s m → AreModule profile (terminal_lines m) m
 
--- no expression of some forms is higher
+-- no expression of these forms is higher
 abbrev pub AreWithin : ℕ → List Line → Type 0
 AreWithin height [] = Unit {0}
 AreWithin height (x ∷ xs) = (form_height x.form ≤ height) × AreWithin height xs
 
--- forms have no higher expressions than their module, nor has a module than they
+-- forms have no higher expressions than their module, and the module none higher than they
 abbrev pub FormsAreLow : Type 0
 FormsAreLow = (xs : List Line) (m : Module) → Block 0 xs m.body → AreWithin (expression_height m) xs
 
 abbrev pub ModulesAreLow : Type 0
 ModulesAreLow = (n : ℕ) (xs : List Line) (m : Module) → Block 0 xs m.body → AreWithin n xs → expression_height m ≤ n
 
--- a line's own brackets are one pair round its expressions, so in no line more are open at once than this
+-- a line's own brackets are one pair around its expressions, so no more are open at once in any line
 abbrev pub LineBracketsAreWithinHeight : Type 0
 LineBracketsAreWithinHeight = (m : Module) → All (λ w. brackets w.tokens ≤ expression_height m + 1) (terminal_lines m)
 
@@ -180,7 +165,7 @@ pub record ModuleIsRead (m : Module) : Type 0 where
   pub written : are_written (piece_lines m) ≡ true
   pub give : GiveLines (module_lines piece m) (terminal_lines m)
 
--- so are those of a module that some lines of tokens are
+-- so are the lines of a module that some lines of tokens give
 abbrev pub ModulesAreRead : Type 0
 ModulesAreRead = (profile : Profile) (ws : List (WrittenLine Terminal)) (m : Module) → AreModule profile ws m → All AreOfTokens ws → ModuleIsRead m
 
@@ -191,7 +176,7 @@ pub record TextIsAccepted (profile : Profile) (m : Module) : Type 0 where
   pub accepted : Accepted profile (in_characters back.parts) m
   pub only : (n : Module) → Accepted profile (in_characters back.parts) n → n ≡ m
 
--- The law of source text: a module that some lines of tokens are, and that is no higher than 500, is the one that its own text is.
+-- The law of source text: a module that some lines of tokens give, and that is no higher than 500, is the one that its own text gives.
 abbrev pub ModuleTextsAreAccepted : Type 0
 ModuleTextsAreAccepted = (profile : Profile) (ws : List (WrittenLine Terminal)) (m : Module) → AreModule profile ws m → All AreOfTokens ws
     → expression_height m ≤ 500 → statement_height m ≤ 500 → TextIsAccepted profile m
@@ -201,15 +186,11 @@ abbrev pub source_lines : List Tokens.Line → List (WrittenLine Terminal)
 source_lines [] = []
 source_lines (x ∷ xs) = written_line x.level (Refusals.terminals x) ∷ source_lines xs
 
--- a token of Unicode characters that is what its type says, and has no fault
-abbrev pub IsGood : Tokens.Token → Type 0
-IsGood t = (all_scalars t.text ≡ true) × IsSound t.kind t.text
-
--- lines of such tokens are such lines of terminals
+-- lines of tokens as a source can have them are such lines of terminals
 abbrev pub TokensAreOfTokens : Type 0
-TokensAreOfTokens = (xs : List Tokens.Line) → All (λ (x : Tokens.Line). All IsGood x.tokens) xs → All AreOfTokens (source_lines xs)
+TokensAreOfTokens = (xs : List Tokens.Line) → All (λ (x : Tokens.Line). All IsOfSource x.tokens) xs → All AreOfTokens (source_lines xs)
 
--- So a module that a source is accepted as, is the one that its own text is.
+-- So a module that a source is accepted as is the one that its own text is accepted as.
 abbrev pub AcceptedTextsAreAccepted : Type 0
 AcceptedTextsAreAccepted = (profile : Profile) (s : Source) (m : Module) → IsLawful s → all_scalars s.text ≡ true → Accepted profile s m → TextIsAccepted profile m
 

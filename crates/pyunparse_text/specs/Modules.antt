@@ -13,7 +13,7 @@ use Rattle.pyunparse_text.specs.Terminals.{terminal}
 use Rattle.pyunparse_text.specs.Pieces.{piece}
 use Rattle.pyunparse_text.specs.Statements.{simple_tokens, header_tokens}
 
--- a logical line: how many levels stand open at it, and its tokens
+-- a logical line: how many levels are open at it, and its tokens
 pub record WrittenLine (A : Type 0) : Type 0 where
   pub level : ℕ
   pub tokens : List A

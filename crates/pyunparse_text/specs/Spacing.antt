@@ -11,7 +11,7 @@ use Rattle.pylex_lexeme.specs.Strings.{is_single_string}
 use Rattle.pylex_lexeme.specs.Operators.{operators, is_operator}
 use Rattle.pylex_lexeme.specs.Lexemes.{is_name}
 
--- A token as it is written: its kind, its text, and whether it keeps close to what stands before it, and to what stands behind it.
+-- A token as it is written: its kind, its text, and whether it keeps close to what comes before it, and to what comes after it.
 pub record Piece : Type 0 where
   pub kind : Kind
   pub text : List ℕ
@@ -38,12 +38,12 @@ is_token kinds.String t = is_single_string t && list_all is_comment_part t
 is_token kinds.Op t = is_operator t
 is_token _ t = false
 
--- The blanks: none stands where one of the two keeps close, but that a number isn't close to a point, nor a comma to a colon that keeps close to what
--- stands behind it, as a slice's does (a header's and a pair's don't).
+-- The blanks: there is none where one of the two keeps close, except that a number isn't close to a point, nor a comma to a colon that keeps close to what
+-- comes after it, as a slice's does (a header's and a pair's don't).
 abbrev pub touches : Piece → Piece → Bool
 touches p q = (p.behind || q.before) && not (is_number_kind p.kind && bytes_eq q.text (codes ".")) && not (bytes_eq p.text (codes ",") && (bytes_eq q.text (codes ":") && q.behind))
 
--- the text behind a piece of its line, up to the line end
+-- the text after a piece of its line, up to the line end
 abbrev pub text_behind : Piece → List Piece → List ℕ
 text_behind p [] = []
 text_behind p (q ∷ qs) = (if touches p q then [] else space ∷ []) ++ (q.text ++ text_behind q qs)
@@ -57,8 +57,8 @@ spaced (p ∷ ps) = p.text ++ text_behind p ps
 abbrev pub begins_operator : List ℕ → Bool
 begins_operator t = list_any (λ o. starts_with nat_eq o.spelling t) operators
 
--- Two pieces are told apart without a blank. Behind a name, a number or a string only an operator is, and behind a number none that begins with
--- a point. Behind an operator all is that makes no front of a longer operator of it, and no number of a point.
+-- Two pieces are told apart without a blank. After a name, a number or a string only an operator is, and after a number none that begins with
+-- a point. After an operator each piece is that doesn't make a longer operator of it, or a number of a point.
 abbrev pub stay_apart : Piece → Piece → Bool
 stay_apart p q =
     if is_operator_kind p.kind then not (begins_operator (p.text ++ take 1 q.text)) && not (bytes_eq p.text (codes ".") && is_number_kind q.kind)
@@ -74,12 +74,12 @@ abbrev pub all_apart : Piece → List Piece → Bool
 all_apart p [] = true
 all_apart p (q ∷ qs) = (not (touches p q) || (stay_apart p q || are_two_points p q qs)) && all_apart q qs
 
--- pieces that can be read back: there are any, each is a token, and they are told apart
+-- pieces that can be read back: there is at least one, each is a token, and they are told apart
 abbrev pub are_readable : List Piece → Bool
 are_readable [] = false
 are_readable (p ∷ ps) = list_all (λ q. is_token q.kind q.text) (p ∷ ps) && all_apart p ps
 
--- A line: how deep it stands, and its pieces.
+-- A line: its level, and its pieces.
 pub record Line : Type 0 where
   pub level : ℕ
   pub pieces : List Piece

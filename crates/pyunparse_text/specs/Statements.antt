@@ -1,6 +1,5 @@
 -- The tokens that a logical line is written in: a simple statement, or a header up to its colon (reference 7 and 8).
 use Rattle.std.specs.Prelude.{ℕ, zero, suc, ◌==◌, Bool, true, false, if◌then◌else◌, List, [], ◌∷◌, ◌++◌, map, Option, Some, None}
-use Rattle.pylex_lexeme.specs.Characters.{full_stop}
 use Rattle.pylex_lexeme.specs.declared.kinds.Exact.{Exact}
 use Rattle.pylex_lexeme.specs.declared.kinds.Exact.TheVariants.{LPar, RPar, LSqb, RSqb, Colon, Comma, Star, Equal, Dot, DoubleStar, RArrow, Ellipsis, PlusEqual, MinEqual, StarEqual, SlashEqual, PercentEqual, AmperEqual, VBarEqual, CircumflexEqual, LeftShiftEqual, RightShiftEqual, DoubleStarEqual, DoubleSlashEqual, AtEqual}
 use Rattle.pytoken.specs.declared.keywords.Keyword.TheVariants as Key
@@ -12,6 +11,7 @@ use Rattle.pytoken.specs.Terminals.{Op, in_form}
 use Rattle.pygrammar.specs.declared.levels.Level.{Level}
 use Rattle.pygrammar.specs.declared.levels.Level.TheVariants.{Value, Stars, Named, Expression, Primary}
 use Rattle.pygrammar.specs.Lines.{Header, if_header, elif_header, else_header, loop_header, with_header, try_header, except_header, finally_header, def_header, while_head, for_head, function_head, class_head}
+use Rattle.pygrammar.specs.DottedNames.{names_in}
 use Rattle.pygrammar.specs.Forms.{type_name}
 use Rattle.pyunparse_text.specs.Written.{Maker, free, word, leading, trailing, tight, enclosed, bracketed, listed, written, each, by_name, parameters}
 
@@ -39,16 +39,6 @@ points (suc zero) = Dot ∷ []
 points (suc (suc zero)) = Dot ∷ (Dot ∷ [])
 points (suc (suc (suc n))) = Ellipsis ∷ points n
 
--- a character more in front of the first of some names
-abbrev pub longer : ℕ → List Identifier → List Identifier
-longer c [] = (c ∷ []) ∷ []
-longer c (x ∷ xs) = (c ∷ x) ∷ xs
-
--- the names that a text is of, with points between
-abbrev pub names_in : Identifier → List Identifier
-names_in [] = [] ∷ []
-names_in (c ∷ cs) = if c == full_stop then [] ∷ names_in cs else longer c (names_in cs)
-
 -- `*` alone, for all names
 abbrev pub is_star : Identifier → Option Identifier → Bool
 is_star (c ∷ []) None = c == 42
@@ -75,7 +65,7 @@ need_brackets (i ∷ []) = reads_as_items i.context_expr i.optional_vars
 need_brackets _ = false
 
 module _ {A : Type 0} (make : Maker A) where
-  -- ---- Parts. Targets are written as expressions: contexts are not seen.
+  -- ---- Parts. Targets are written as expressions, since contexts are not written.
 
   -- [X]
   abbrev pub perhaps_written : Level → Option Expr → List A
@@ -112,12 +102,12 @@ module _ {A : Type 0} (make : Maker A) where
 
   -- ---- Imports.
 
-  -- names behind a first one
+  -- the names after the first
   abbrev pub dotted_rest : List Identifier → List A
   dotted_rest [] = []
   dotted_rest (x ∷ xs) = tight make Dot ∷ (free make (in_form x) ∷ dotted_rest xs)
 
-  -- NAME ("." NAME)*; behind points the first one keeps close to them
+  -- NAME ("." NAME)*; after points the first NAME keeps close to them
   abbrev pub dotted_names : Bool → List Identifier → List A
   dotted_names close [] = []
   dotted_names close (x ∷ xs) = make (in_form x) close false ∷ dotted_rest xs

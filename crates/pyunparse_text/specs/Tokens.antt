@@ -1,4 +1,4 @@
--- What lines of pieces are as tokens, and when they are these: each line's brackets are closed within it, and no line stands more than a level deeper
+-- Which tokens lines of pieces are, and when they are: each line's brackets are closed within it, and no line is more than a level deeper
 -- than the one before.
 use Rattle.std.specs.Prelude.{◌≡◌, ℕ, ◌+◌, ◌-◌, ◌*◌, nat_le, nat_lt, Bool, true, not, ◌&&◌, ◌==◌, List, [], ◌∷◌, ◌++◌, map, replicate, if◌then◌else◌, false, Option, Some, None}
 use Rattle.std.specs.List.{list_all}
@@ -60,14 +60,14 @@ dedent = record { kind = kinds.Dedent; text = [] }
 abbrev pub end_marker : PlainToken
 end_marker = record { kind = kinds.EndMarker; text = [] }
 
--- what stands before a line of level n behind one of level m
+-- what stands before a line of level n that follows one of level m
 abbrev pub level_tokens : ℕ → ℕ → List PlainToken
 level_tokens m n = if nat_lt m n then indent n ∷ [] else replicate (m - n) dedent
 
 abbrev pub line_tokens : ℕ → Line → List PlainToken
 line_tokens m l = level_tokens m l.level ++ (map token_of l.pieces ++ newline ∷ [])
 
--- the tokens of lines behind a line of level m, to the end
+-- the tokens of lines that follow a line of level m, to the end
 abbrev pub tokens_behind : ℕ → List Line → List PlainToken
 tokens_behind m [] = replicate m dedent ++ end_marker ∷ []
 tokens_behind m (l ∷ ls) = line_tokens m l ++ tokens_behind l.level ls
@@ -85,12 +85,12 @@ opens p = is_operator_kind p.kind && is_opening p.text
 abbrev pub closes : Piece → Bool
 closes p = is_operator_kind p.kind && is_closing p.text
 
--- d brackets are open, and the pieces close these and their own
+-- with d brackets open before them, the pieces close these and their own
 abbrev pub closes_all : ℕ → List Piece → Bool
 closes_all d [] = d == 0
 closes_all d (p ∷ ps) = if opens p then closes_all (d + 1) ps else (if closes p then not (d == 0) && closes_all (d - 1) ps else closes_all d ps)
 
--- no line stands more than a level deeper than the one before, which is of level m
+-- no line is more than a level deeper than the one before it; the one before the first is of level m
 abbrev pub rise_by_one : ℕ → List Line → Bool
 rise_by_one m [] = true
 rise_by_one m (l ∷ ls) = nat_le l.level (m + 1) && rise_by_one l.level ls
@@ -102,7 +102,7 @@ is_written l = are_readable l.pieces && (closes_all 0 l.pieces && list_all (λ p
 abbrev pub are_written : List Line → Bool
 are_written ls = list_all is_written ls && rise_by_one 0 ls
 
--- d brackets are open, and with those of the pieces no more than so many are at once
+-- with d brackets open before the pieces, no more than so many are ever open at once
 abbrev pub opens_within : ℕ → ℕ → List Piece → Bool
 opens_within most d [] = true
 opens_within most d (p ∷ ps) =

@@ -16,7 +16,7 @@ use Rattle.pytoken.specs.Terminals.{Terminal, Op, Word, in_form, Whole, Literal}
 use Rattle.pygrammar.specs.Operators.{below, chain_level, chain_word}
 use Rattle.pyunparse_text.specs.Levels.{reaches, operator_level, left_level, right_level, operator_sign, unary_level, unary_sign, comparison_signs}
 
--- What is made of a token: of its terminal, and of whether it keeps close to what stands before it, and to what stands behind it. All that
+-- What is made of a token: of its terminal, and of whether it keeps close to what comes before it, and to what comes after it. All that
 -- follows is said of any such maker: one gives the terminals, for the grammar, another the pieces, with their texts.
 abbrev pub Maker : Type 0 → Type 0
 Maker A = Terminal → Bool → Bool → A
@@ -38,7 +38,7 @@ with_defaults tss ds = beside tss (replicate (length tss - length ds) [] ++ ds)
 
 -- ---- What depends on the place of an expression.
 
--- what stands behind a star, by the level of its place; at Named it is an argument, at Expression an annotation
+-- what follows a star, by the level of its place; at Named it is an argument, at Expression an annotation
 abbrev pub star_level : Level → Level
 star_level Part = Expression
 star_level Named = Expression
@@ -117,7 +117,7 @@ module _ {A : Type 0} (make : Maker A) where
   abbrev pub listed : List (List A) → List A
   listed tss = separated (trailing Comma) tss
 
-  -- one alone has a comma behind it
+  -- one alone is followed by a comma
   abbrev pub with_comma : List (List A) → List A
   with_comma [] = []
   with_comma (ts ∷ tss) = ts ++ (trailing Comma ∷ listed tss)
@@ -146,14 +146,14 @@ module _ {A : Type 0} (make : Maker A) where
   abbrev pub behind_equal : List A → List A
   behind_equal ts = tight Equal ∷ ts
 
-  -- `/` behind as many as there are positional ones
+  -- `/` after as many as there are positional ones
   abbrev pub with_slash : List (List A) → List (List A) → List (List A)
   with_slash [] tss = tss
   with_slash (_ ∷ []) (ts ∷ tss) = ts ∷ ((free (Op Slash) ∷ []) ∷ tss)
   with_slash (_ ∷ uss) (ts ∷ tss) = ts ∷ with_slash uss tss
   with_slash _ [] = []
 
-  -- `*` before keyword-only ones, where no `*` NAME stands
+  -- `*` before keyword-only ones, where there is no `*` NAME
   abbrev pub with_star : List (List A) → List (List A) → List (List A)
   with_star [] [] = []
   with_star [] (_ ∷ _) = (leading Star ∷ []) ∷ []

@@ -26,7 +26,7 @@ pub from_lower : (l : ℕ) (xs : List Line) → AreFrom (suc l) xs → AreFrom l
 from_lower l [] p = tt
 from_lower l (x ∷ xs) p = (omega (arith, p.0), from_lower l xs p.1)
 
--- a header's line and its block, and clauses behind them
+-- a header's line and its block, and clauses after them
 headed : (l : ℕ) (xs ys : List Line) → AreFrom (suc l) xs → AreFrom l ys → AreFrom l (xs ++ ys)
 headed l xs ys p q = from-append l xs ys (from_lower l xs p) q
 
@@ -128,7 +128,7 @@ pub else_behind : (l : ℕ) (earlier xs : List Line) → AreFrom (suc l) xs → 
 else_behind l earlier [] p = refl
 else_behind l earlier (x ∷ xs) p = else_behind l (x ∷ earlier) xs p.1 ∙ else_past l x earlier p.0
 
--- what stands round a line behind a header and its block
+-- what stands round a line after a header and its block
 pub record After (l : ℕ) (h : Header) (earlier now : List Line) : Type 0 where
   pub round : around l now ≡ around l earlier
   pub elif_count : elifs ElifLine l now ≡ 1 + elifs (header_kind h) l earlier

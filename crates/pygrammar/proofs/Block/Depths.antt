@@ -11,7 +11,7 @@ use Rattle.pygrammar.specs.Refusals.{elifs, around, beginning}
 use Rattle.pygrammar.specs.Depths.{Depth, round_at, arms_at, under, depth_of, counted, count, begins, innermost}
 use Rattle.pygrammar.proofs.Block.Steps.{not_less, is_less}
 
--- what is kept behind some lines, the nearest first
+-- what is kept after some lines, the nearest first
 abbrev pub depths : List Line → List Depth
 depths [] = []
 depths (x ∷ earlier) = counted (depths earlier) x
@@ -142,7 +142,7 @@ depth_within x earlier =
     let c = within_lines (kind_of x.form) x.level earlier in
     omega (arith, a, b, c)
 
--- each level that is kept is deeper than those behind it
+-- each level that is kept is deeper than those after it
 abbrev pub AreUnder : ℕ → List Depth → Type 0
 AreUnder l [] = Unit {0}
 AreUnder l (d ∷ ds) = (d.level < l) × AreUnder d.level ds

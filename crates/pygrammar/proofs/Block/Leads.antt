@@ -184,7 +184,7 @@ else_gives l suite xs orelse b = (
   },
 )
 
--- decorators behind decorators
+-- decorators after decorators
 marked_goes : {l : ℕ} {ds : List Line} {es : List Expr} → Decorators l ds es → (d : List Stmt) (first : List Expr) → Leads l ds d (Marked first) d (Marked (first ++ es))
 marked_goes {l} no_decorator d first = leads_to refl (ap Marked (sym (append-nil first))) (leads_none l d (Marked first))
 marked_goes {l} (decorator {e = e} {xs = xs} {es = es} p) d first =

@@ -32,7 +32,7 @@ unread_more (unread_behind k p) more = unread_behind k (unread_more p more)
 
 -- ---- Blocks.
 
--- behind lines without fault the reading goes on where it stands
+-- after lines without fault the reading goes on where it stands
 stops_on : (xs ys : List Line) (s t : State) → run xs s ≡ Fine t → stops (xs ++ ys) s ≡ stops ys t
 stops_on [] ys s t h = ap (λ a. elim a [ Fine u ↦ stops ys u | Faulty f ↦ [] ]) h
 stops_on (x ∷ xs) ys s t h =

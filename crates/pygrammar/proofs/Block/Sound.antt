@@ -11,7 +11,7 @@ use Rattle.pygrammar.specs.Reading.{Answer, Fine, Faulty, then, Group, Idle, Mar
 use Rattle.pygrammar.proofs.Block.Steps.{popped}
 use Rattle.pygrammar.proofs.Block.Growing.{Prefix, block_to, closed_prefix, prefix_to, begins, whole, extends, grows_by}
 
--- ---- The lines behind a state.
+-- ---- The lines after a state.
 
 -- a level that waits for a block: whatever the block is, the level goes on with it
 pub record Awaits (l : ℕ) (xs : List Line) (w : Waiting) : Type 0 where

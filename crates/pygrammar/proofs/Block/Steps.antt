@@ -1,4 +1,4 @@
--- What the reading of blocks does with lines that stand behind one another, and with
+-- What the reading of blocks does with lines one after another, and with
 -- levels that come to their end.
 --
 -- Carries: is_less, not_less, settle_here, for Blocks.

@@ -77,7 +77,7 @@ stmts-append : (a b : List Stmt) → are_untyped (stmts (a ++ b)) ≡ are_untype
 stmts-append [] b = refl
 stmts-append (s ∷ a) b = ap (λ z. is_untyped s && z) (stmts-append a b) ∙ and_assoc (is_untyped s) (are_untyped (stmts a)) (are_untyped (stmts b))
 
--- lines behind lines
+-- lines after lines
 joined : (xs ys : List Line) (a b : Bool) → are_lines_untyped xs ≡ a → are_lines_untyped ys ≡ b → are_lines_untyped (xs ++ ys) ≡ a && b
 joined xs ys a b p q = lines-append xs ys ∙ both _ _ _ _ p q
 

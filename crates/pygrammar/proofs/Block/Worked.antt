@@ -80,7 +80,7 @@ elif_nested : Block 0 (short 0 (if_header (v 1)) 2 ∷ head 0 (elif_header (v 3)
     (If (v 1) (stmts (s 2)) (stmts (If (v 3) (stmts (s 4)) (stmts (s 5)) ∷ [])) ∷ [])
 elif_nested = read_gives _ _ refl
 
--- a whole `try` group, and a statement behind it
+-- a whole `try` group, and a statement after it
 try_group : Block 0 (short 0 try_header 1 ∷ short 0 (except_header false (Some (v 2)) None) 3 ∷ short 0 else_header 4 ∷ short 0 finally_header 5 ∷ says 0 6 ∷ [])
     (Try (stmts (s 1)) (handlers (handler (Some (v 2)) None (s 3) ∷ [])) (stmts (s 4)) (stmts (s 5)) ∷ s 6)
 try_group = read_gives _ _ refl

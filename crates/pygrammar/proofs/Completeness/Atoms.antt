@@ -26,7 +26,7 @@ use Rattle.pygrammar.proofs.Completeness.Forms.{YieldsReads, starts_of}
 pub primary_goes : (ts : List Terminal) (e : Expr) (n : ℕ) → ((d : ℕ) → n ≤ d → ReadsAt Primary ts e d) → ReadsAs Primary ts e
 primary_goes ts e n f = (n, f, λ d h. primary_target ts e d (f d h))
 
--- behind the first item of a list
+-- after the first item of a list
 abbrev pub TailFirst : List Terminal → Type 0
 TailFirst vs = (vs ≡ []) ⊎ ((ws : List Terminal) × (vs ≡ Op Comma ∷ ws))
 

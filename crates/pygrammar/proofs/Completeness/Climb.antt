@@ -153,7 +153,7 @@ answers Await ts e d rest g s = climbs_answer Await ts e d rest g s (omega (arit
 answers Primary ts e d rest g s = let c = g rest (omega (arith, s)) in c.2 ∙ primary_end (read d) c.0 e rest s
 answers _ ts e d rest g s = g rest s
 
--- an operator behind an expression
+-- an operator after an expression
 pub loop_step : (self : Reads) (k m : ℕ) (e f : Expr) (t : Terminal) (o : Infix) (r rest : List Terminal) → behind t ≡ Some o → k ≤ infix_rank o → operation self e o (t ∷ r) r ≡ Found f rest → length rest ≤ length r → suc (length r) ≤ m → (m' : ℕ) × (length rest ≤ m') × (climb_loop self k m e (t ∷ r) ≡ climb_loop self k m' f rest)
 loop_step self k zero e f t o r rest b h op le lm = absurd (omega (arith, lm))
 loop_step self k (suc m) e f t o r rest b h op le lm = (m, omega (arith, le, lm), rw b (rw (le-leb k (infix_rank o) h) (rw op refl)))

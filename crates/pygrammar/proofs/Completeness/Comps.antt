@@ -2,7 +2,7 @@
 --
 -- Carries: starts_low, ListingReads, ListEnds, Separable and 19 more, for Complete, Atoms, Forms,
 -- Headers and 2 more. On: LookLemmas, Lists, Climb.
-use Rattle.std.proofs.Common.{◌≡◌, refl, sym, ap, ◌∙◌, ℕ, zero, suc, ◌≤◌, ◌<◌, arith, List, [], ◌∷◌, ◌++◌, length, Option, Some, None, Bool, true, false, append_assoc, length-append}
+use Rattle.std.proofs.Common.{◌≡◌, refl, sym, ap, ◌∙◌, ℕ, zero, suc, ◌≤◌, ◌<◌, arith, List, [], ◌∷◌, ◌++◌, length, Option, Some, None, Bool, true, false, append_assoc, length-append, option_map}
 use Rattle.std.proofs.lemmas.Bool.{leb-true}
 use Rattle.std.specs.Prelude.{leb, max}
 use Rattle.pylex_lexeme.specs.declared.kinds.Exact.{Exact}
@@ -12,7 +12,7 @@ use Rattle.pygrammar.specs.declared.levels.Level.{Level}
 use Rattle.pygrammar.specs.declared.levels.Level.TheVariants.{Stars, StarItem, Or}
 use Rattle.pytree_node.specs.Trees.{Expr, Exprs, no_exprs, Comprehension}
 use Rattle.pytoken.specs.Terminals.{Terminal, Op, Word}
-use Rattle.pygrammar.specs.Targets.{all_stored, both, mapped, stored}
+use Rattle.pygrammar.specs.Targets.{all_stored, both, stored}
 use Rattle.pygrammar.specs.Entries.{Item, Of, Entry, singles}
 use Rattle.pygrammar.specs.Grammar as G
 use Rattle.pygrammar.specs.Reader.{Answer, Found, NoForm, Reads, read, read_target, piece, listing_loop, target_piece, ifs_loop, for_in_step, comps_loop, comps_closed}
@@ -71,7 +71,7 @@ no_item_goes i = (0, (λ d h w rest s m le acc. listing_end (piece (read (suc d)
     target _ d = tt
 
 -- targets of a list
-pub mapped_some : {A B : Type 0} (f : A → B) (o : Option A) (b : B) → mapped f o ≡ Some b → (a : A) × (o ≡ Some a)
+pub mapped_some : {A B : Type 0} (f : A → B) (o : Option A) (b : B) → option_map f o ≡ Some b → (a : A) × (o ≡ Some a)
 mapped_some f None b h = absurd (cc)
 mapped_some f (Some a) b h = (a, refl)
 

@@ -1,13 +1,13 @@
 -- Contexts and the order of arguments and parameters leave heights as they are.
 --
 -- Carries: arranged_height, called_height, deleted_height, single_height and 1 more, for Entries.
-use Rattle.std.proofs.Common.{◌≡◌, refl, sym, ap, ◌∙◌, ℕ, ◌+◌, arith, List, [], ◌∷◌, Option, Some, None, Bool, true, false, cond}
+use Rattle.std.proofs.Common.{◌≡◌, refl, sym, ap, ◌∙◌, ℕ, ◌+◌, arith, List, [], ◌∷◌, Option, Some, None, Bool, true, false, cond, option_map}
 use Rattle.std.specs.Prelude.{max}
 use Rattle.pytree_node.specs.declared.operators.Context.{Context}
 use Rattle.pytree_node.specs.declared.operators.Context.TheVariants.{Store, Del}
 use Rattle.pytree_node.specs.Trees
 use Rattle.pytree_node.specs.Trees.{Expr, Exprs, no_exprs, an_expr, OptionalExpr, absent, present, Arg, Arguments, arguments}
-use Rattle.pygrammar.specs.Targets.{mapped, both, stored, all_stored, deleted, all_deleted, single_stored}
+use Rattle.pygrammar.specs.Targets.{both, stored, all_stored, deleted, all_deleted, single_stored}
 use Rattle.pygrammar.specs.Entries.{Entry, Single, Spread, Doubled, Keyed, Plain, Slashed, Bare, Gathered, Collected}
 use Rattle.pygrammar.specs.Arguments.{in_order, positional, keywords, called}
 use Rattle.pygrammar.specs.Parameters.{arranged, at_star, after_star, plain_ones, before_slash, has_slash, with_kwarg, with_default, add_keyword_only, set_vararg, add_plain, add_before_slash, no_arguments}
@@ -18,7 +18,7 @@ some_is : {A : Type 0} (a b : A) → Some a ≡ Some b → a ≡ b
 some_is a b h = cc
 
 -- f keeps what n counts
-mapped_keeps : {A B : Type 0} (f : A → B) (o : Option A) (b : B) (n : A → ℕ) (k : B → ℕ) (z : ℕ) → ((a : A) → o ≡ Some a → k (f a) ≡ z) → mapped f o ≡ Some b → k b ≡ z
+mapped_keeps : {A B : Type 0} (f : A → B) (o : Option A) (b : B) (n : A → ℕ) (k : B → ℕ) (z : ℕ) → ((a : A) → o ≡ Some a → k (f a) ≡ z) → option_map f o ≡ Some b → k b ≡ z
 mapped_keeps f None b n k z h q = absurd (cc)
 mapped_keeps f (Some a) b n k z h q = ap k (sym (some_is (f a) b q)) ∙ h a refl
 
@@ -191,7 +191,7 @@ star_entries (Collected p ∷ []) a h = ap arguments_height (sym (some_is (with_
 star_entries (Collected p ∷ (x ∷ es)) a h = absurd (cc)
 star_entries (_ ∷ es) a h = absurd (cc)
 
-add_step : (p : Arg) (d : OptionalExpr) (es : List Entry) (o : Option Arguments) (a : Arguments) → ((b : Arguments) → o ≡ Some b → arguments_height b ≡ entries_height es) → mapped (add_plain p d) o ≡ Some a → arguments_height a ≡ entries_height (Plain p d ∷ es)
+add_step : (p : Arg) (d : OptionalExpr) (es : List Entry) (o : Option Arguments) (a : Arguments) → ((b : Arguments) → o ≡ Some b → arguments_height b ≡ entries_height es) → option_map (add_plain p d) o ≡ Some a → arguments_height a ≡ entries_height (Plain p d ∷ es)
 add_step p d es o a f h = mapped_keeps (add_plain p d) o a arguments_height arguments_height (max (max (arg_height p) (optional_height d)) (entries_height es)) (λ b q. plain_height p d b ∙ ap (λ n. max (max (arg_height p) (optional_height d)) n) (f b q)) h
 
 plain_entries : (b : Bool) (es : List Entry) (a : Arguments) → plain_ones b es ≡ Some a → arguments_height a ≡ entries_height es
@@ -202,7 +202,7 @@ plain_entries false (Plain p (present d) ∷ es) a h = add_step p (present d) es
 plain_entries true es a h = star_entries es a h
 plain_entries false es a h = star_entries es a h
 
-slash_step : (p : Arg) (d : OptionalExpr) (es : List Entry) (o : Option Arguments) (a : Arguments) → ((b : Arguments) → o ≡ Some b → arguments_height b ≡ entries_height es) → mapped (add_before_slash p d) o ≡ Some a → arguments_height a ≡ entries_height (Plain p d ∷ es)
+slash_step : (p : Arg) (d : OptionalExpr) (es : List Entry) (o : Option Arguments) (a : Arguments) → ((b : Arguments) → o ≡ Some b → arguments_height b ≡ entries_height es) → option_map (add_before_slash p d) o ≡ Some a → arguments_height a ≡ entries_height (Plain p d ∷ es)
 slash_step p d es o a f h = mapped_keeps (add_before_slash p d) o a arguments_height arguments_height (max (max (arg_height p) (optional_height d)) (entries_height es)) (λ b q. slash_height p d b ∙ ap (λ n. max (max (arg_height p) (optional_height d)) n) (f b q)) h
 
 slashed_zero : (es : List Entry) → entries_height (Slashed ∷ es) ≡ entries_height es

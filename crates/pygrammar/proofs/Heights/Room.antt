@@ -65,7 +65,7 @@ good_checked d m n x k g (found {a = a} {r = r} p) low h = subst (λ b. Good n (
 good_checked d m n x k g no_form low h = tt
 good_checked d m n x k g deep low h = g
 
--- a test on the first terminal, with what it tells
+-- a test on the first terminal, with what it says
 good_test : {A B : Type 0} (n : ℕ) (f : Terminal → Option A) (i : List Terminal) (k : A → List Terminal → Answer B) (x : Answer B) → ((t : Terminal) (a : A) (s : List Terminal) → f t ≡ Some a → i ≡ t ∷ s → Good n (k a s)) → Good n x → Good n (on_first f i k x)
 good_test n f [] k x h g = g
 good_test {A} {B} n f (t ∷ s) k x h g = go (f t) refl

@@ -21,7 +21,8 @@ use Rattle.pygrammar.specs.Reader.{Answer, Found, NoForm, TooDeep, and_then, on_
 use Rattle.pygrammar.specs.Precedence.{starts}
 use Rattle.pygrammar.proofs.Depths.Enough.{Good, GoodTo, good_then, good_first, good_cond, good_made, good_closed, good_read, g_name_with, g_listing_of, g_target}
 use Rattle.pygrammar.specs.Lines.{Form, Header}
-use Rattle.pygrammar.specs.Forms.{FormOf, has_types}
+use Rattle.pygrammar.specs.Forms.{FormOf}
+use Rattle.pytree_node.specs.Profiles.{has_types}
 use Rattle.pygrammar.specs.LineReader.{or_else, on_none, same_as, is_type, on_type, starts_name, starts_type_param, always, commas, read_name, read_as, dotted, dotted_alias, name_alias, read_dots, read_names, import_from, augmented_sign, Start, Values, Returns, Raises, Asserts, Deletes, Globals, Nonlocals, Passes, Breaks, Continues, Imports, Froms, start, if_any, after, annotation, end_value, value_loop, value_statement, deleted_one, read_type_param, bracketed_type_params, read_type_params, alias_rest, statement_of, statement, statements, item_target, read_item, bracketed, for_rest, with_rest, function_rest, bases_rest, def_rest, class_rest, except_of, except_rest, read_header, Kind, Decorates, Heads, States, kind, suite, line_of, line_front, line, plain, read_line, read_line_to}
 use Rattle.pygrammar.proofs.Line.Law.{read_goes}
 use Rattle.pygrammar.proofs.Line.SoundLines.{read_gives}

@@ -64,7 +64,7 @@ deep_not_found a r h = absurd (cc)
 abbrev more : List Terminal → Bool
 more r = starts (Of Expression) r
 
--- behind an item: a comma, and too deep further on
+-- after an item: a comma, and too deep further on
 abbrev Further : (List Terminal → Answer Item) → ℕ → List Terminal → Type 0
 Further one m r = (s : List Terminal) × (r ≡ Op Sign.Comma ∷ s) × (more s ≡ true) × (commas one more m s ≡ TooDeep)
 
@@ -131,7 +131,7 @@ module _ (h d : ℕ) where
       room_name : room Expression (Ident a ∷ (Op Sign.ColonEqual ∷ u)) ≡ Found (Trees.Name a.form Load) (Op Sign.ColonEqual ∷ u)
       room_name = elim (caps_read (suc h) (suc d) Expression (Ident a ∷ (Op Sign.ColonEqual ∷ u))) [ inl v ↦ v | inr v ↦ absurd (omega (arith, low (suc (suc d)) (Trees.Name a.form Load) (Op Sign.ColonEqual ∷ u) v.1)) ]
 
-  -- an element: high, or in front of `as`, or in front of a comma behind
+  -- an element: high, or before `as`, or before a comma
   -- which an item goes too deep
   element : (m : ℕ) (i : List Terminal) (K : Expr → List Terminal → Answer Expr) → commas one more (suc m) i ≡ TooDeep →
       ((e : Expr) (r : List Terminal) → suc (suc d) ≤ height e → Higher (K e r)) →
@@ -177,14 +177,14 @@ module _ (h d : ℕ) where
             | inr v ↦ over_on height height (suc (suc d)) (suc (suc d)) (read (suc h) Expression i) K v.1 high
           ]
 
-  -- the elements behind a comma, and their bracket
+  -- the elements after a comma, and their bracket
   abbrev tuple_closed : Expr → List Entry → List Terminal → Answer Expr
   tuple_closed e es r = closed Sign.RPar r (Trees.Tuple (an_expr e (singles es)) Load)
 
   abbrev elements : ℕ → List Entry → List Terminal → Answer (List Entry)
   elements m acc r = listing_loop (piece (read h) (Of Elem)) (Of Elem) m acc r
 
-  -- behind an element
+  -- after an element
   abbrev behind_element : Expr → ℕ → List Entry → Expr → List Terminal → Answer Expr
   behind_element c m acc e r = and_then (on_first (is_op Sign.Comma) r (λ _ r2. elements m (acc ++ (Single e ∷ [])) r2) (Found (acc ++ (Single e ∷ [])) r)) (tuple_closed c)
 
@@ -236,7 +236,7 @@ module _ (h d : ℕ) where
       (λ e r v. over_loop (read h) (suc (suc d)) (rank Or) (length r) e r v))
       (λ e r v. over_if_else (read h) (suc (suc d)) e r v)
 
-  -- behind the items in brackets nothing goes too deep
+  -- after the items in brackets nothing goes too deep
   abbrev behind_items : List Item → List Terminal → Answer (List Item)
   behind_items is r = on_first (is_op Sign.RPar) r (λ _ r2. on_first (is_op Sign.Colon) r2 (λ _ _. Found is r2) NoForm) NoForm
 

@@ -18,7 +18,7 @@ use Rattle.pygrammar.specs.Entries.{Of}
 use Rattle.pygrammar.specs.Targets.{stored, deleted, single_stored}
 use Rattle.pygrammar.specs.Reader.{Reads, closed}
 use Rattle.pygrammar.specs.Precedence.{starts}
-use Rattle.pygrammar.specs.Forms.{has_types}
+use Rattle.pytree_node.specs.Profiles.{has_types}
 use Rattle.pygrammar.specs.LineReader.{same_as, is_type, on_type, starts_type_param, augmented_sign, Start, Values, Returns, Raises, Asserts, Deletes, start, if_any, after, annotation, end_value, value_loop, value_statement, deleted_one, read_type_param, bracketed_type_params, read_type_params, alias_rest, statement_of, statement, statements}
 use Rattle.pygrammar.proofs.Heights.HeightLemmas.{stored_height, single_height, deleted_height}
 use Rattle.pygrammar.proofs.Heights.Caps.{Over, over, none, over_then, over_first, over_made, over_closed, Caps, CapsAt, caps_then, caps_first, caps_cond, c_one, c_name_with, exprs_last}
@@ -44,7 +44,7 @@ module _ (n : ℕ) (self other : Reads) (all : CapsAt n self other) where
   over_annotation : (t : Expr) (b : Bool) (i : List Terminal) → suc n ≤ height t → Over highest_in (suc n) (annotation other t b i)
   over_annotation t b i h = over_then highest_in (suc n) (other Expression i) _ (λ a r. over_found highest_in (suc n) (after other (Op Sign.Equal) Value r) (λ v. AnnAssign t a v b) (λ v. omega (arith, h)))
 
-  -- behind a Value that no `=` follows
+  -- after a Value that no `=` follows
   c_end : (acc : List Expr) (e : Expr) (r : List Terminal) → Caps highest_in n (end_value self acc e r) (end_value other acc e r)
   c_end (t ∷ ts) e r = inl refl
   c_end [] e r = caps_first highest_in n augmented_sign r _ _ _ _ (λ o s. caps_some highest_in n (single_stored e) _ _ _ _ (λ t. caps_found height highest_in n _ _ (λ v. AugAssign t o v) (all Value s) (λ v. omega arith)) (inl refl))

@@ -19,7 +19,7 @@ use Rattle.pygrammar.specs.Precedence.{starts}
 use Rattle.pygrammar.proofs.Depths.Keeps.{Keeps, AllKeep, keeps_then, keeps_first, keeps_cond, k_one, k_name_with, k_listing_of, k_target}
 use Rattle.pygrammar.proofs.Depths.Whole.{final}
 use Rattle.pygrammar.specs.Lines.{Header}
-use Rattle.pygrammar.specs.Forms.{has_types}
+use Rattle.pytree_node.specs.Profiles.{has_types}
 use Rattle.pygrammar.specs.LineReader.{or_else, on_none, same_as, is_type, on_type, starts_type_param, always, commas, augmented_sign, Start, Values, Returns, Raises, Asserts, Deletes, start, if_any, after, annotation, end_value, value_loop, value_statement, deleted_one, read_type_param, bracketed_type_params, read_type_params, alias_rest, statement_of, statement, statements, item_target, read_item, bracketed, for_rest, with_rest, function_rest, bases_rest, def_rest, class_rest, except_of, except_rest, read_header, Kind, Decorates, Heads, States, kind, suite, line_of, line_front, line, plain, read_line, read_line_to}
 
 -- ---- More depth changes no answer.

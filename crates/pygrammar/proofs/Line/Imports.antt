@@ -31,7 +31,7 @@ dotted_goes (suc m) (F.dot_name {ts = ts} c) r h l = thus _ _ (dotted_goes m c r
 pub read_dotted_goes : {ts : List Terminal} {x : Identifier} → F.Dotted ts x → (r : List Terminal) → peek (is_op Sign.Dot) r ≡ None → read_dotted (ts ++ r) ≡ Found x r
 read_dotted_goes {ts} c r h = dotted_goes (suc (length (ts ++ r))) c r h (omega arith)
 
--- behind a name that may have `as`
+-- after a name that may have `as`
 abbrev pub Unnamed : List Terminal → Type 0
 Unnamed r = (peek (is_op Sign.Dot) r ≡ None) × (peek (is_word Key.As) r ≡ None)
 

@@ -37,7 +37,7 @@ form_at {profile = profile} {f = f} q p = subst (λ k. F.FormOf profile k f) (sy
 abbrev HeaderAt : Profile → List Terminal → Header → List Terminal → Type 0
 HeaderAt profile i h r = (ts : List Terminal) × (i ≡ ts ++ r) × ((z : List Terminal) → r ≡ Op Sign.Colon ∷ z → F.HeaderOf profile ts h)
 
--- behind the first words
+-- after the first words
 abbrev RestAt : Profile → List Terminal → List Terminal → Header → List Terminal → Type 0
 RestAt profile ws i h r = (ts : List Terminal) × (i ≡ ts ++ r) × ((z : List Terminal) → r ≡ Op Sign.Colon ∷ z → F.HeaderOf profile (ws ++ ts) h)
 

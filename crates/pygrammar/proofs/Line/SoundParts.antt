@@ -23,7 +23,8 @@ use Rattle.pygrammar.proofs.Soundness.Sound.{sound_read}
 use Rattle.pygrammar.proofs.Soundness.SoundLists.{says_if, says_closed}
 use Rattle.pytree_node.specs.Trees.{Alias, Identifier, TypeParam}
 use Rattle.pygrammar.specs.Forms as F
-use Rattle.pygrammar.specs.Forms.{has_types, type_name, type_word}
+use Rattle.pygrammar.specs.Forms.{type_name, type_word}
+use Rattle.pytree_node.specs.Profiles.{has_types}
 use Rattle.pygrammar.specs.LineReader.{is_type, on_type, starts_name, starts_type_param, always, commas, read_name, read_as, dotted, dotted_alias, name_alias, read_dots, read_names, import_from, plain, if_any, after, read_type_param, read_type_params}
 
 pub plain_sound : SoundAt plain

@@ -21,7 +21,8 @@ use Rattle.pygrammar.specs.Precedence.{starts}
 use Rattle.pygrammar.proofs.Soundness.Says.{Says, found, no_form, says_then, says_first, says_op, says_cond, says_made, says_is}
 use Rattle.pygrammar.proofs.Soundness.SoundLists.{says_name_with}
 use Rattle.pygrammar.specs.Forms as F
-use Rattle.pygrammar.specs.Forms.{has_types, type_name, type_word, augmented, is_name}
+use Rattle.pygrammar.specs.Forms.{type_name, type_word, augmented, is_name}
+use Rattle.pytree_node.specs.Profiles.{has_types}
 use Rattle.pygrammar.specs.LineReader.{on_type, plain, read_name, dotted_alias, augmented_sign, annotation, value_loop, value_statement, deleted_one, alias_rest, statement, statements, on_none}
 use Rattle.pygrammar.proofs.Line.SoundParts.{At, headed, joins, says_some, plain_sound, always_sound, more_sound, if_any_sound, after_op_sound, after_word_sound, type_params_sound, says_type, name_sound, dotted_alias_sound, import_from_sound}
 use Rattle.pygrammar.proofs.Line.Invert.{to_primary, name_inv, stored_name, target_of}
@@ -47,7 +48,7 @@ annotated profile r {ts = ts} {us = us} {vs = vs} {e = e} {t = t} {a = a} {v = v
         shape : (ws zs : List Terminal) → Op Sign.LPar ∷ (ws ++ (Op Sign.RPar ∷ (Op Sign.Colon ∷ zs))) ≡ (Op Sign.LPar ∷ (ws ++ (Op Sign.RPar ∷ []))) ++ (Op Sign.Colon ∷ zs)
         shape ws zs = simp append_assoc refl
 
--- the targets behind the first
+-- the targets after the first
 data Others : List Terminal → List Expr → Type 0 where
   no_other : Others [] []
   others : {ts : List Terminal} {es : List Expr} → F.Targets ts es → Others ts es

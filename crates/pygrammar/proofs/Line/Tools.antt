@@ -92,7 +92,7 @@ pub as_goes : {us : List Terminal} {x : Option Identifier} → F.As us x → (r 
 as_goes F.no_as r h = missed (is_word Key.As) r _ _ h
 as_goes F.as_name r h = refl
 
--- lists with commas: what stands behind the last one
+-- lists with commas: what follows the last one
 pub data Tail (more : List Terminal → Bool) : List Terminal → List Terminal → Type 0 where
   bare : {r : List Terminal} → peek (is_op Sign.Comma) r ≡ None → Tail more r r
   ended : {r : List Terminal} → more r ≡ false → Tail more (Op Sign.Comma ∷ r) r

@@ -120,7 +120,7 @@ ended_grouped (more {ts = ts} {us = us} p c) = (_, moved (shape ts us) (G.tuple 
     shape : (ts us : List Terminal) → ts ++ (Op Sign.Comma ∷ ((us ++ (Op Sign.Comma ∷ [])) ++ (Op Sign.RPar ∷ []))) ≡ ((ts ++ (Op Sign.Comma ∷ us)) ++ (Op Sign.Comma ∷ [])) ++ (Op Sign.RPar ∷ [])
     shape ts us = simp append_assoc refl
 
--- an `as` behind a run
+-- an `as` after a run
 abbrev HasAs : List Terminal → Type 0
 HasAs vs = (ws : List Terminal) × (es : List Entry) × (zs : List Terminal) × (vs ≡ ws ++ (Word Key.As ∷ zs)) × Run ws es
 

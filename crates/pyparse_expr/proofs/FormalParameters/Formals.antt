@@ -1,11 +1,10 @@
 -- Parameters that are read one behind the other are arranged as the whole list is.
 --
 -- Carries: lambda_step. On: Parameters.
-use Rattle.std.proofs.Common.{◌≡◌, refl, sym, ap, ◌∙◌, List, [], ◌∷◌, ◌++◌, Option, Some, None, Bool, true, false, cond}
+use Rattle.std.proofs.Common.{◌≡◌, refl, sym, ap, ◌∙◌, List, [], ◌∷◌, ◌++◌, Option, Some, None, Bool, true, false, cond, option_map}
 use Rattle.pytree_node.specs.Trees.{Expr, Exprs, an_expr, OptionalExpr, absent, present, OptionalExprs, an_optional, Arg, Args, an_arg, Arguments, arguments}
 use Rattle.pygrammar.specs.Entries.{Entry, Single, Paired, Spread, Doubled, Keyed, Plain, Slashed, Bare, Gathered, Collected}
 use Rattle.pygrammar.specs.Parameters.{add_keyword_only, set_vararg, add_plain, add_before_slash, after_star, at_star, plain_ones, before_slash, has_slash, arranged}
-use Rattle.pygrammar.specs.Targets.{mapped}
 use Rattle.pyparse_expr.specs.declared.parameters.Stage.{Stage}
 use Rattle.pyparse_expr.specs.declared.parameters.Stage.TheVariants as stage
 use Rattle.pyparse_expr.specs.Inner.Formals.{state, start, steps, before, outcome, args_before, optionals_before, exprs_before, arg_or}
@@ -22,7 +21,7 @@ exprs_snoc : (es : List Expr) (e : Expr) (r : Exprs) → exprs_before (es ++ (e 
 exprs_snoc [] e r = refl
 exprs_snoc (b ∷ es) e r = ap (λ z. an_expr b z) (exprs_snoc es e r)
 
-twice : (f g h : Arguments → Arguments) (x : Option Arguments) → ((a : Arguments) → f (g a) ≡ h a) → mapped f (mapped g x) ≡ mapped h x
+twice : (f g h : Arguments → Arguments) (x : Option Arguments) → ((a : Arguments) → f (g a) ≡ h a) → option_map f (option_map g x) ≡ option_map h x
 twice f g h None q = refl
 twice f g h (Some a) q = ap (λ z. Some z) (q a)
 
@@ -35,7 +34,7 @@ keyword_before g h b ps qs v ks kds k ds a d (arguments ps2 qs2 v2 ks2 kds2 k2 d
     sym (λ i. arguments (args_before ps ps2) (args_before qs qs2) (arg_or v v2) (args_snoc ks a ks2 i) (optionals_snoc kds d kds2 i) (arg_or k k2) (exprs_before ds ds2))
 
 -- behind a star
-star_steps : (b : Bool) (ps qs : List Arg) (v : Option Arg) (ks : List Arg) (kds : List OptionalExpr) (ds : List Expr) (es : List Entry) → mapped (before (state stage.Starred b ps qs v ks kds None ds)) (after_star es) ≡ outcome (steps (state stage.Starred b ps qs v ks kds None ds) es)
+star_steps : (b : Bool) (ps qs : List Arg) (v : Option Arg) (ks : List Arg) (kds : List OptionalExpr) (ds : List Expr) (es : List Entry) → option_map (before (state stage.Starred b ps qs v ks kds None ds)) (after_star es) ≡ outcome (steps (state stage.Starred b ps qs v ks kds None ds) es)
 star_steps b ps qs v ks kds ds [] = refl
 star_steps b ps qs v ks kds ds (Plain a d ∷ es) = twice _ _ _ (after_star es) (keyword_before stage.Starred stage.Starred b ps qs v ks kds None ds a d) ∙ star_steps b ps qs v (ks ++ (a ∷ [])) (kds ++ (d ∷ [])) ds es
 star_steps b ps qs v ks kds ds (Collected a ∷ []) = refl
@@ -43,7 +42,7 @@ star_steps b ps qs v ks kds ds (Collected a ∷ (e ∷ es)) = sym (wrong_steps b
 star_steps b ps qs v ks kds ds (_ ∷ es) = sym (wrong_steps b ps qs v ks kds None ds es)
 
 -- behind a lone star
-lone_steps : (b : Bool) (ps qs : List Arg) (ds : List Expr) (es : List Entry) → mapped (before (state stage.Closed b ps qs None [] [] None ds)) (at_star (Bare ∷ es)) ≡ outcome (steps (state stage.Lone b ps qs None [] [] None ds) es)
+lone_steps : (b : Bool) (ps qs : List Arg) (ds : List Expr) (es : List Entry) → option_map (before (state stage.Closed b ps qs None [] [] None ds)) (at_star (Bare ∷ es)) ≡ outcome (steps (state stage.Lone b ps qs None [] [] None ds) es)
 lone_steps b ps qs ds [] = refl
 lone_steps b ps qs ds (Plain a d ∷ es) = twice _ _ _ (after_star es) (keyword_before stage.Closed stage.Starred b ps qs None [] [] None ds a d) ∙ star_steps b ps qs None (a ∷ []) (d ∷ []) ds es
 lone_steps b ps qs ds (_ ∷ es) = sym (wrong_steps b ps qs None [] [] None ds es)
@@ -59,15 +58,15 @@ present_before g b c ps qs ds a e (arguments ps2 qs2 v2 ks2 kds2 k2 ds2) =
 star_before : (b : Bool) (ps qs : List Arg) (ds : List Expr) (a : Arg) (r : Arguments) → before (state stage.Closed b ps qs None [] [] None ds) (set_vararg a r) ≡ before (state stage.Starred b ps qs (Some a) [] [] None ds) r
 star_before b ps qs ds a (arguments ps2 qs2 v2 ks2 kds2 k2 ds2) = refl
 
-gathered_steps : (b : Bool) (ps qs : List Arg) (ds : List Expr) (a : Arg) (es : List Entry) → mapped (before (state stage.Closed b ps qs None [] [] None ds)) (at_star (Gathered a ∷ es)) ≡ outcome (steps (state stage.Closed b ps qs None [] [] None ds) (Gathered a ∷ es))
+gathered_steps : (b : Bool) (ps qs : List Arg) (ds : List Expr) (a : Arg) (es : List Entry) → option_map (before (state stage.Closed b ps qs None [] [] None ds)) (at_star (Gathered a ∷ es)) ≡ outcome (steps (state stage.Closed b ps qs None [] [] None ds) (Gathered a ∷ es))
 gathered_steps b ps qs ds a es = twice _ _ _ (after_star es) (star_before b ps qs ds a) ∙ star_steps b ps qs (Some a) [] [] ds es
 
-collected_steps : (b : Bool) (ps qs : List Arg) (ds : List Expr) (a : Arg) (es : List Entry) → mapped (before (state stage.Closed b ps qs None [] [] None ds)) (at_star (Collected a ∷ es)) ≡ outcome (steps (state stage.Closed b ps qs None [] [] None ds) (Collected a ∷ es))
+collected_steps : (b : Bool) (ps qs : List Arg) (ds : List Expr) (a : Arg) (es : List Entry) → option_map (before (state stage.Closed b ps qs None [] [] None ds)) (at_star (Collected a ∷ es)) ≡ outcome (steps (state stage.Closed b ps qs None [] [] None ds) (Collected a ∷ es))
 collected_steps b ps qs ds a [] = refl
 collected_steps b ps qs ds a (e ∷ es) = sym (wrong_steps b ps qs None [] [] (Some a) ds es)
 
 -- where no slash may stand any more
-plain_steps : (b : Bool) (ps qs : List Arg) (ds : List Expr) (es : List Entry) → mapped (before (state stage.Closed b ps qs None [] [] None ds)) (plain_ones b es) ≡ outcome (steps (state stage.Closed b ps qs None [] [] None ds) es)
+plain_steps : (b : Bool) (ps qs : List Arg) (ds : List Expr) (es : List Entry) → option_map (before (state stage.Closed b ps qs None [] [] None ds)) (plain_ones b es) ≡ outcome (steps (state stage.Closed b ps qs None [] [] None ds) es)
 plain_steps true ps qs ds [] = refl
 plain_steps false ps qs ds [] = refl
 plain_steps true ps qs ds (Plain a absent ∷ es) = sym (wrong_steps true ps qs None [] [] None ds es)
@@ -85,7 +84,7 @@ plain_steps false ps qs ds (_ ∷ es) = sym (wrong_steps false ps qs None [] [] 
 
 slash_after : (es : List Entry) → has_slash es ≡ true → after_star es ≡ None
 slash_after [] h = absurd (cc)
-slash_after (Plain a d ∷ es) h = ap (λ x. mapped (add_keyword_only a d) x) (slash_after es h)
+slash_after (Plain a d ∷ es) h = ap (λ x. option_map (add_keyword_only a d) x) (slash_after es h)
 slash_after (Collected a ∷ []) h = absurd (cc)
 slash_after (Collected a ∷ (e ∷ es)) h = refl
 slash_after (_ ∷ es) h = refl
@@ -93,11 +92,11 @@ slash_after (_ ∷ es) h = refl
 slash_none : (b : Bool) (es : List Entry) → has_slash es ≡ true → plain_ones b es ≡ None
 slash_none b [] h = absurd (cc)
 slash_none true (Plain a absent ∷ es) h = refl
-slash_none false (Plain a absent ∷ es) h = ap (λ x. mapped (add_plain a absent) x) (slash_none false es h)
-slash_none true (Plain a (present d) ∷ es) h = ap (λ x. mapped (add_plain a (present d)) x) (slash_none true es h)
-slash_none false (Plain a (present d) ∷ es) h = ap (λ x. mapped (add_plain a (present d)) x) (slash_none true es h)
-slash_none true (Gathered a ∷ es) h = ap (λ x. mapped (set_vararg a) x) (slash_after es h)
-slash_none false (Gathered a ∷ es) h = ap (λ x. mapped (set_vararg a) x) (slash_after es h)
+slash_none false (Plain a absent ∷ es) h = ap (λ x. option_map (add_plain a absent) x) (slash_none false es h)
+slash_none true (Plain a (present d) ∷ es) h = ap (λ x. option_map (add_plain a (present d)) x) (slash_none true es h)
+slash_none false (Plain a (present d) ∷ es) h = ap (λ x. option_map (add_plain a (present d)) x) (slash_none true es h)
+slash_none true (Gathered a ∷ es) h = ap (λ x. option_map (set_vararg a) x) (slash_after es h)
+slash_none false (Gathered a ∷ es) h = ap (λ x. option_map (set_vararg a) x) (slash_after es h)
 slash_none b (Bare ∷ []) h = absurd (cc)
 slash_none true (Bare ∷ (Plain a d ∷ es)) h = slash_after (Plain a d ∷ es) h
 slash_none false (Bare ∷ (Plain a d ∷ es)) h = slash_after (Plain a d ∷ es) h
@@ -114,12 +113,12 @@ abbrev behind : Bool → List Entry → Option Arguments
 behind b (Slashed ∷ es) = plain_ones b es
 behind b es = before_slash b es
 
-absent_behind : (a : Arg) (es : List Entry) → before_slash false (Plain a absent ∷ es) ≡ mapped (add_before_slash a absent) (behind false es)
+absent_behind : (a : Arg) (es : List Entry) → before_slash false (Plain a absent ∷ es) ≡ option_map (add_before_slash a absent) (behind false es)
 absent_behind a [] = refl
 absent_behind a (Slashed ∷ es) = refl
 absent_behind a (_ ∷ es) = refl
 
-present_behind : (b : Bool) (a : Arg) (e : Expr) (es : List Entry) → before_slash b (Plain a (present e) ∷ es) ≡ mapped (add_before_slash a (present e)) (behind true es)
+present_behind : (b : Bool) (a : Arg) (e : Expr) (es : List Entry) → before_slash b (Plain a (present e) ∷ es) ≡ option_map (add_before_slash a (present e)) (behind true es)
 present_behind true a e [] = refl
 present_behind false a e [] = refl
 present_behind true a e (Slashed ∷ es) = refl
@@ -142,45 +141,45 @@ by_slash true x h = sym (h refl)
 by_slash false x h = refl
 
 -- the only stage at which a slash may follow
-open_steps : (b : Bool) (q : Arg) (qs : List Arg) (ds : List Expr) (es : List Entry) → cond (has_slash es) (mapped (before (state stage.Open b (q ∷ qs) [] None [] [] None ds)) (behind b es)) (mapped (before (state stage.Open b [] (q ∷ qs) None [] [] None ds)) (plain_ones b es)) ≡ outcome (steps (state stage.Open b [] (q ∷ qs) None [] [] None ds) es)
+open_steps : (b : Bool) (q : Arg) (qs : List Arg) (ds : List Expr) (es : List Entry) → cond (has_slash es) (option_map (before (state stage.Open b (q ∷ qs) [] None [] [] None ds)) (behind b es)) (option_map (before (state stage.Open b [] (q ∷ qs) None [] [] None ds)) (plain_ones b es)) ≡ outcome (steps (state stage.Open b [] (q ∷ qs) None [] [] None ds) es)
 open_steps true q qs ds [] = refl
 open_steps false q qs ds [] = refl
 open_steps b q qs ds (Slashed ∷ es) = plain_steps b (q ∷ qs) [] ds es
 open_steps true q qs ds (Plain a absent ∷ es) = no_choice (has_slash es) ∙ sym (wrong_steps true [] (q ∷ qs) None [] [] None ds es)
 open_steps false q qs ds (Plain a absent ∷ es) =
-    let one = ap (λ x. mapped (before (state stage.Open false (q ∷ qs) [] None [] [] None ds)) x) (absent_behind a es) ∙ twice _ _ _ (behind false es) (absent_first false false q qs ds a) in
+    let one = ap (λ x. option_map (before (state stage.Open false (q ∷ qs) [] None [] [] None ds)) x) (absent_behind a es) ∙ twice _ _ _ (behind false es) (absent_first false false q qs ds a) in
     let two = twice _ _ _ (plain_ones false es) (absent_before stage.Open false [] (q ∷ qs) ds a) in
     (λ i. cond (has_slash es) (one i) (two i)) ∙ open_steps false q (qs ++ (a ∷ [])) ds es
 open_steps true q qs ds (Plain a (present e) ∷ es) =
-    let one = ap (λ x. mapped (before (state stage.Open true (q ∷ qs) [] None [] [] None ds)) x) (present_behind true a e es) ∙ twice _ _ _ (behind true es) (present_first true true q qs ds a e) in
+    let one = ap (λ x. option_map (before (state stage.Open true (q ∷ qs) [] None [] [] None ds)) x) (present_behind true a e es) ∙ twice _ _ _ (behind true es) (present_first true true q qs ds a e) in
     let two = twice _ _ _ (plain_ones true es) (present_before stage.Open true true [] (q ∷ qs) ds a e) in
     (λ i. cond (has_slash es) (one i) (two i)) ∙ open_steps true q (qs ++ (a ∷ [])) (ds ++ (e ∷ [])) es
 open_steps false q qs ds (Plain a (present e) ∷ es) =
-    let one = ap (λ x. mapped (before (state stage.Open false (q ∷ qs) [] None [] [] None ds)) x) (present_behind false a e es) ∙ twice _ _ _ (behind true es) (present_first false true q qs ds a e) in
+    let one = ap (λ x. option_map (before (state stage.Open false (q ∷ qs) [] None [] [] None ds)) x) (present_behind false a e es) ∙ twice _ _ _ (behind true es) (present_first false true q qs ds a e) in
     let two = twice _ _ _ (plain_ones true es) (present_before stage.Open false true [] (q ∷ qs) ds a e) in
     (λ i. cond (has_slash es) (one i) (two i)) ∙ open_steps true q (qs ++ (a ∷ [])) (ds ++ (e ∷ [])) es
-open_steps true q qs ds (Bare ∷ es) = by_slash (has_slash es) _ (λ h. ap (λ x. mapped (before (state stage.Open true [] (q ∷ qs) None [] [] None ds)) x) (slash_none true (Bare ∷ es) h)) ∙ plain_steps true [] (q ∷ qs) ds (Bare ∷ es)
-open_steps true q qs ds (Gathered a ∷ es) = by_slash (has_slash es) _ (λ h. ap (λ x. mapped (before (state stage.Open true [] (q ∷ qs) None [] [] None ds)) x) (slash_none true (Gathered a ∷ es) h)) ∙ plain_steps true [] (q ∷ qs) ds (Gathered a ∷ es)
-open_steps true q qs ds (Collected a ∷ es) = by_slash (has_slash es) _ (λ h. ap (λ x. mapped (before (state stage.Open true [] (q ∷ qs) None [] [] None ds)) x) (slash_none true (Collected a ∷ es) h)) ∙ plain_steps true [] (q ∷ qs) ds (Collected a ∷ es)
-open_steps true q qs ds (Single a ∷ es) = by_slash (has_slash es) _ (λ h. ap (λ x. mapped (before (state stage.Open true [] (q ∷ qs) None [] [] None ds)) x) (slash_none true (Single a ∷ es) h)) ∙ plain_steps true [] (q ∷ qs) ds (Single a ∷ es)
-open_steps true q qs ds (Paired a c ∷ es) = by_slash (has_slash es) _ (λ h. ap (λ x. mapped (before (state stage.Open true [] (q ∷ qs) None [] [] None ds)) x) (slash_none true (Paired a c ∷ es) h)) ∙ plain_steps true [] (q ∷ qs) ds (Paired a c ∷ es)
-open_steps true q qs ds (Spread a ∷ es) = by_slash (has_slash es) _ (λ h. ap (λ x. mapped (before (state stage.Open true [] (q ∷ qs) None [] [] None ds)) x) (slash_none true (Spread a ∷ es) h)) ∙ plain_steps true [] (q ∷ qs) ds (Spread a ∷ es)
-open_steps true q qs ds (Doubled a ∷ es) = by_slash (has_slash es) _ (λ h. ap (λ x. mapped (before (state stage.Open true [] (q ∷ qs) None [] [] None ds)) x) (slash_none true (Doubled a ∷ es) h)) ∙ plain_steps true [] (q ∷ qs) ds (Doubled a ∷ es)
-open_steps true q qs ds (Keyed x a ∷ es) = by_slash (has_slash es) _ (λ h. ap (λ x. mapped (before (state stage.Open true [] (q ∷ qs) None [] [] None ds)) x) (slash_none true (Keyed x a ∷ es) h)) ∙ plain_steps true [] (q ∷ qs) ds (Keyed x a ∷ es)
-open_steps false q qs ds (Bare ∷ es) = by_slash (has_slash es) _ (λ h. ap (λ x. mapped (before (state stage.Open false [] (q ∷ qs) None [] [] None ds)) x) (slash_none false (Bare ∷ es) h)) ∙ plain_steps false [] (q ∷ qs) ds (Bare ∷ es)
-open_steps false q qs ds (Gathered a ∷ es) = by_slash (has_slash es) _ (λ h. ap (λ x. mapped (before (state stage.Open false [] (q ∷ qs) None [] [] None ds)) x) (slash_none false (Gathered a ∷ es) h)) ∙ plain_steps false [] (q ∷ qs) ds (Gathered a ∷ es)
-open_steps false q qs ds (Collected a ∷ es) = by_slash (has_slash es) _ (λ h. ap (λ x. mapped (before (state stage.Open false [] (q ∷ qs) None [] [] None ds)) x) (slash_none false (Collected a ∷ es) h)) ∙ plain_steps false [] (q ∷ qs) ds (Collected a ∷ es)
-open_steps false q qs ds (Single a ∷ es) = by_slash (has_slash es) _ (λ h. ap (λ x. mapped (before (state stage.Open false [] (q ∷ qs) None [] [] None ds)) x) (slash_none false (Single a ∷ es) h)) ∙ plain_steps false [] (q ∷ qs) ds (Single a ∷ es)
-open_steps false q qs ds (Paired a c ∷ es) = by_slash (has_slash es) _ (λ h. ap (λ x. mapped (before (state stage.Open false [] (q ∷ qs) None [] [] None ds)) x) (slash_none false (Paired a c ∷ es) h)) ∙ plain_steps false [] (q ∷ qs) ds (Paired a c ∷ es)
-open_steps false q qs ds (Spread a ∷ es) = by_slash (has_slash es) _ (λ h. ap (λ x. mapped (before (state stage.Open false [] (q ∷ qs) None [] [] None ds)) x) (slash_none false (Spread a ∷ es) h)) ∙ plain_steps false [] (q ∷ qs) ds (Spread a ∷ es)
-open_steps false q qs ds (Doubled a ∷ es) = by_slash (has_slash es) _ (λ h. ap (λ x. mapped (before (state stage.Open false [] (q ∷ qs) None [] [] None ds)) x) (slash_none false (Doubled a ∷ es) h)) ∙ plain_steps false [] (q ∷ qs) ds (Doubled a ∷ es)
-open_steps false q qs ds (Keyed x a ∷ es) = by_slash (has_slash es) _ (λ h. ap (λ x. mapped (before (state stage.Open false [] (q ∷ qs) None [] [] None ds)) x) (slash_none false (Keyed x a ∷ es) h)) ∙ plain_steps false [] (q ∷ qs) ds (Keyed x a ∷ es)
+open_steps true q qs ds (Bare ∷ es) = by_slash (has_slash es) _ (λ h. ap (λ x. option_map (before (state stage.Open true [] (q ∷ qs) None [] [] None ds)) x) (slash_none true (Bare ∷ es) h)) ∙ plain_steps true [] (q ∷ qs) ds (Bare ∷ es)
+open_steps true q qs ds (Gathered a ∷ es) = by_slash (has_slash es) _ (λ h. ap (λ x. option_map (before (state stage.Open true [] (q ∷ qs) None [] [] None ds)) x) (slash_none true (Gathered a ∷ es) h)) ∙ plain_steps true [] (q ∷ qs) ds (Gathered a ∷ es)
+open_steps true q qs ds (Collected a ∷ es) = by_slash (has_slash es) _ (λ h. ap (λ x. option_map (before (state stage.Open true [] (q ∷ qs) None [] [] None ds)) x) (slash_none true (Collected a ∷ es) h)) ∙ plain_steps true [] (q ∷ qs) ds (Collected a ∷ es)
+open_steps true q qs ds (Single a ∷ es) = by_slash (has_slash es) _ (λ h. ap (λ x. option_map (before (state stage.Open true [] (q ∷ qs) None [] [] None ds)) x) (slash_none true (Single a ∷ es) h)) ∙ plain_steps true [] (q ∷ qs) ds (Single a ∷ es)
+open_steps true q qs ds (Paired a c ∷ es) = by_slash (has_slash es) _ (λ h. ap (λ x. option_map (before (state stage.Open true [] (q ∷ qs) None [] [] None ds)) x) (slash_none true (Paired a c ∷ es) h)) ∙ plain_steps true [] (q ∷ qs) ds (Paired a c ∷ es)
+open_steps true q qs ds (Spread a ∷ es) = by_slash (has_slash es) _ (λ h. ap (λ x. option_map (before (state stage.Open true [] (q ∷ qs) None [] [] None ds)) x) (slash_none true (Spread a ∷ es) h)) ∙ plain_steps true [] (q ∷ qs) ds (Spread a ∷ es)
+open_steps true q qs ds (Doubled a ∷ es) = by_slash (has_slash es) _ (λ h. ap (λ x. option_map (before (state stage.Open true [] (q ∷ qs) None [] [] None ds)) x) (slash_none true (Doubled a ∷ es) h)) ∙ plain_steps true [] (q ∷ qs) ds (Doubled a ∷ es)
+open_steps true q qs ds (Keyed x a ∷ es) = by_slash (has_slash es) _ (λ h. ap (λ x. option_map (before (state stage.Open true [] (q ∷ qs) None [] [] None ds)) x) (slash_none true (Keyed x a ∷ es) h)) ∙ plain_steps true [] (q ∷ qs) ds (Keyed x a ∷ es)
+open_steps false q qs ds (Bare ∷ es) = by_slash (has_slash es) _ (λ h. ap (λ x. option_map (before (state stage.Open false [] (q ∷ qs) None [] [] None ds)) x) (slash_none false (Bare ∷ es) h)) ∙ plain_steps false [] (q ∷ qs) ds (Bare ∷ es)
+open_steps false q qs ds (Gathered a ∷ es) = by_slash (has_slash es) _ (λ h. ap (λ x. option_map (before (state stage.Open false [] (q ∷ qs) None [] [] None ds)) x) (slash_none false (Gathered a ∷ es) h)) ∙ plain_steps false [] (q ∷ qs) ds (Gathered a ∷ es)
+open_steps false q qs ds (Collected a ∷ es) = by_slash (has_slash es) _ (λ h. ap (λ x. option_map (before (state stage.Open false [] (q ∷ qs) None [] [] None ds)) x) (slash_none false (Collected a ∷ es) h)) ∙ plain_steps false [] (q ∷ qs) ds (Collected a ∷ es)
+open_steps false q qs ds (Single a ∷ es) = by_slash (has_slash es) _ (λ h. ap (λ x. option_map (before (state stage.Open false [] (q ∷ qs) None [] [] None ds)) x) (slash_none false (Single a ∷ es) h)) ∙ plain_steps false [] (q ∷ qs) ds (Single a ∷ es)
+open_steps false q qs ds (Paired a c ∷ es) = by_slash (has_slash es) _ (λ h. ap (λ x. option_map (before (state stage.Open false [] (q ∷ qs) None [] [] None ds)) x) (slash_none false (Paired a c ∷ es) h)) ∙ plain_steps false [] (q ∷ qs) ds (Paired a c ∷ es)
+open_steps false q qs ds (Spread a ∷ es) = by_slash (has_slash es) _ (λ h. ap (λ x. option_map (before (state stage.Open false [] (q ∷ qs) None [] [] None ds)) x) (slash_none false (Spread a ∷ es) h)) ∙ plain_steps false [] (q ∷ qs) ds (Spread a ∷ es)
+open_steps false q qs ds (Doubled a ∷ es) = by_slash (has_slash es) _ (λ h. ap (λ x. option_map (before (state stage.Open false [] (q ∷ qs) None [] [] None ds)) x) (slash_none false (Doubled a ∷ es) h)) ∙ plain_steps false [] (q ∷ qs) ds (Doubled a ∷ es)
+open_steps false q qs ds (Keyed x a ∷ es) = by_slash (has_slash es) _ (λ h. ap (λ x. option_map (before (state stage.Open false [] (q ∷ qs) None [] [] None ds)) x) (slash_none false (Keyed x a ∷ es) h)) ∙ plain_steps false [] (q ∷ qs) ds (Keyed x a ∷ es)
 
-same : (f h : Arguments → Arguments) (x : Option Arguments) → ((a : Arguments) → f a ≡ h a) → mapped f x ≡ mapped h x
+same : (f h : Arguments → Arguments) (x : Option Arguments) → ((a : Arguments) → f a ≡ h a) → option_map f x ≡ option_map h x
 same f h None q = refl
 same f h (Some a) q = ap (λ z. Some z) (q a)
 
-nothing_before : (x : Option Arguments) → x ≡ mapped (before (state stage.Closed false [] [] None [] [] None [])) x
+nothing_before : (x : Option Arguments) → x ≡ option_map (before (state stage.Closed false [] [] None [] [] None [])) x
 nothing_before None = refl
 nothing_before (Some (arguments ps qs v ks kds k ds)) = refl
 

@@ -1,12 +1,11 @@
 -- The height of parameters that are arranged is that of the highest of them.
 --
 -- Carries: lambda_step. On: Parameters, Heights.
-use Rattle.std.proofs.Common.{◌≡◌, refl, sym, ap, ◌∙◌, arith, ℕ, max, List, [], ◌∷◌, ◌++◌, Option, Some, None, Bool, true, false, cond}
+use Rattle.std.proofs.Common.{◌≡◌, refl, sym, ap, ◌∙◌, arith, ℕ, max, List, [], ◌∷◌, ◌++◌, Option, Some, None, Bool, true, false, cond, option_map}
 use Rattle.pytree_node.specs.Trees.{Exprs, OptionalExpr, absent, present, Arg, Arguments, arguments}
 use Rattle.pytree_height.specs.Heights.{height, heights, optional_height, optional_heights, arg_height, arg_heights, optional_arg_height, arguments_height}
 use Rattle.pygrammar.specs.Entries.{Entry, Plain, Slashed, Bare, Gathered, Collected}
 use Rattle.pygrammar.specs.Parameters.{with_kwarg, no_arguments, with_default, add_keyword_only, set_vararg, add_plain, add_before_slash, after_star, at_star, plain_ones, before_slash, has_slash, arranged}
-use Rattle.pygrammar.specs.Targets.{mapped}
 use Rattle.pyparse_expr.specs.Inner.FormalHeights.{entry_height, entry_heights}
 
 -- maxima of some
@@ -23,7 +22,7 @@ abbrev pub IsHigh : (Arguments → ℕ) → ℕ → Option Arguments → Type 0
 IsHigh m h None = Unit {0}
 IsHigh m h (Some a) = m a ≡ h
 
-high_mapped : (m : Arguments → ℕ) (f : Arguments → Arguments) (k h : ℕ) (x : Option Arguments) → ((a : Arguments) → m (f a) ≡ max k (m a)) → IsHigh m h x → IsHigh m (max k h) (mapped f x)
+high_mapped : (m : Arguments → ℕ) (f : Arguments → Arguments) (k h : ℕ) (x : Option Arguments) → ((a : Arguments) → m (f a) ≡ max k (m a)) → IsHigh m h x → IsHigh m (max k h) (option_map f x)
 high_mapped m f k h None s q = tt
 high_mapped m f k h (Some a) s q = s a ∙ ap (λ z. max k z) q
 
@@ -114,7 +113,7 @@ kwarg_beside a = omega arith
 star_high : (es : List Entry) → IsHigh arguments_height (entry_heights es) (after_star es)
 star_high es = after_high arguments_height keyword_high none_high kwarg_high es
 
-gathered_high : (a : Arg) (h : ℕ) (x : Option Arguments) → IsHigh beside h x → IsHigh arguments_height (max (arg_height a) h) (mapped (set_vararg a) x)
+gathered_high : (a : Arg) (h : ℕ) (x : Option Arguments) → IsHigh beside h x → IsHigh arguments_height (max (arg_height a) h) (option_map (set_vararg a) x)
 gathered_high a h None q = tt
 gathered_high a h (Some r) q = set_high a r ∙ ap (λ z. max (arg_height a) z) q
 

@@ -1,7 +1,7 @@
 -- What is stored of a starred expression.
 --
 -- Carries: store. On: Targets, Changes.
-use Rattle.std.proofs.Common.{◌≡◌, refl, sym, ap, ◌∙◌, Global, None, Bool, true, false, not}
+use Rattle.std.proofs.Common.{◌≡◌, refl, sym, ap, ◌∙◌, Global, None, Bool, true, false, not, option_map}
 use Rattle.std.specs.declared.boxed.Box.{Box}
 use Rattle.pytree_node.specs.declared.expressions.Expr as given
 use Rattle.pytree_node.specs.declared.expressions.Expr.TheVariants as variant
@@ -11,7 +11,7 @@ use Rattle.pytree_node.specs.Trees
 use Rattle.pytree_node.specs.Trees.{Expr}
 use Rattle.pytree_node.specs.TreeOf.{tree_of}
 use Rattle.pytree_node.proofs.Callers.ExprShapes.{starred_tree}
-use Rattle.pygrammar.specs.Targets.{mapped, stored}
+use Rattle.pygrammar.specs.Targets.{stored}
 use Rattle.pyparse_expr.specs.Answers.{IsChanged}
 use Rattle.pyparse_expr.specs.Inner.Answers.{is_starred}
 use Rattle.pyparse_expr.proofs.Stores.Changes.{whole_changed}
@@ -21,14 +21,14 @@ pub star_twice : (v : Expr) (c : Context) → is_starred v ≡ true → stored (
 star_twice (Trees.Starred e d) c h = refl
 star_twice _ c h = absurd (cc)
 
-pub star_once : (v : Expr) (c : Context) → is_starred v ≡ false → stored (Trees.Starred v c) ≡ mapped (λ f. Trees.Starred f Store) (stored v)
+pub star_once : (v : Expr) (c : Context) → is_starred v ≡ false → stored (Trees.Starred v c) ≡ option_map (λ f. Trees.Starred f Store) (stored v)
 star_once (Trees.Starred e d) c h = absurd (cc)
 star_once _ c h = refl
 
 -- a starred expression whose operand was stored, and one that is none
 pub star_changed : (e x : given.Expr) (v w : Box given.Expr Global) (c : Context) (b : Bool) → e ≡ variant.Starred v c → x ≡ v.value → is_starred (tree_of x) ≡ false → IsChanged b (stored (tree_of x)) (tree_of w.value) → IsChanged b (stored (tree_of e)) (tree_of (variant.Starred w Store))
 star_changed e x v w c b i p n h =
-    let old : stored (tree_of e) ≡ mapped (λ f. Trees.Starred f Store) (stored (tree_of x)) = ap (λ y. stored (tree_of y)) i ∙ ap (λ t. stored t) (starred_tree v c) ∙ ap (λ y. stored (Trees.Starred (tree_of y) c)) (sym p) ∙ star_once (tree_of x) c n in
+    let old : stored (tree_of e) ≡ option_map (λ f. Trees.Starred f Store) (stored (tree_of x)) = ap (λ y. stored (tree_of y)) i ∙ ap (λ t. stored t) (starred_tree v c) ∙ ap (λ y. stored (Trees.Starred (tree_of y) c)) (sym p) ∙ star_once (tree_of x) c n in
     let new : tree_of (variant.Starred w Store) ≡ Trees.Starred (tree_of w.value) Store = starred_tree w Store in
     rw (old, new) (whole_changed (λ f. Trees.Starred f Store) b (stored (tree_of x)) (tree_of w.value) h)
 

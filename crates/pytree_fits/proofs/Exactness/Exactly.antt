@@ -1,6 +1,6 @@
 -- Carries: the laws of the slots. On: expressions, targets, parameters and arguments fit
 -- exactly where they are given.
-use Rattle.std.proofs.Common.{◌≡◌, refl, ap, subst, List, ◌∷◌, Some, Bool, true, false}
+use Rattle.std.proofs.Common.{◌≡◌, refl, ap, subst, List, ◌∷◌, Some, Bool, true, false, option_map}
 use Rattle.std.specs.Prelude.{not, ◌&&◌}
 use Rattle.std.proofs.lemmas.Bool.{and_parts, and_from}
 use Rattle.pylex_lexeme.specs.declared.kinds.Exact.TheVariants.{Star}
@@ -9,15 +9,14 @@ use Rattle.pytree_node.specs.Trees
 use Rattle.pytree_node.specs.Trees.{Identifier, Expr, Exprs, no_exprs, an_expr, absent, present, Keywords, Arg, arg, Args, no_arg, an_arg, OptionalArg, absent_arg, present_arg, Arguments, arguments}
 use Rattle.pytoken.specs.Terminals.{Terminal, Op}
 use Rattle.pygrammar.specs.declared.levels.Level.TheVariants.{Stars, StarItem, Expression, Primary, Elem, Slices}
-use Rattle.pygrammar.specs.Entries.{Entry, Parameter}
 use Rattle.pygrammar.specs.Arguments.{positional, keywords}
-use Rattle.pygrammar.specs.Parameters.{arranged}
-use Rattle.pygrammar.specs.Targets.{mapped, deleted, all_deleted, single_stored}
+use Rattle.pygrammar.specs.Targets.{deleted, all_deleted, single_stored}
 use Rattle.pygrammar.specs.Grammar as G
+use Rattle.pygrammar.specs.ArgumentLists.{IsArranged, AreArguments}
 use Rattle.pytree_fits.specs.Slots.{is_context, is_starred, is_single, fits_at, fits_target, each_target_fits, each_fits, each_keyword_fits, fits_arguments, arg_fits, each_arg_fits, perhaps_arg_fits}
 use Rattle.pytree_fits.specs.Given.{all_pass}
 use Rattle.pytree_fits.proofs.Fields.AsSpelled.{all_as_spelled, GivenAsSpelled, all_passing}
-use Rattle.pytree_fits.specs.Laws.{FitsExactly, TargetsFitExactly, ParametersFitExactly, AreArguments, ArgumentsFitExactly}
+use Rattle.pytree_fits.specs.Laws.{FitsExactly, TargetsFitExactly, ParametersFitExactly, ArgumentsFitExactly}
 use Rattle.pytree_fits.proofs.Fields.Tests.{parts3, not_true, never, in_context, both_some}
 use Rattle.pytree_fits.proofs.Fields.Levels.{anywhere}
 use Rattle.pytree_fits.proofs.Fields.Entries.{positional_fit, keywords_fit}
@@ -59,11 +58,11 @@ module _ (n : Identifier → Bool) where
     undeleted (Trees.Tuple es c) h =
         let w = and_parts (is_context Del c) (each_target_fits n Del es) h in
         let u = all_undeleted es w.1 in
-        in_context (λ k. (t : Expr) × (deleted t ≡ Some (Trees.Tuple es k)) × (fits_at n Expression t ≡ true)) Del c w.0 (Trees.Tuple u.0 Load, ap (mapped (λ fs. Trees.Tuple fs Del)) u.1, u.2)
+        in_context (λ k. (t : Expr) × (deleted t ≡ Some (Trees.Tuple es k)) × (fits_at n Expression t ≡ true)) Del c w.0 (Trees.Tuple u.0 Load, ap (option_map (λ fs. Trees.Tuple fs Del)) u.1, u.2)
     undeleted (Trees.ListOf es c) h =
         let w = and_parts (is_context Del c) (each_target_fits n Del es) h in
         let u = all_undeleted es w.1 in
-        in_context (λ k. (t : Expr) × (deleted t ≡ Some (Trees.ListOf es k)) × (fits_at n Expression t ≡ true)) Del c w.0 (Trees.ListOf u.0 Load, ap (mapped (λ fs. Trees.ListOf fs Del)) u.1, u.2)
+        in_context (λ k. (t : Expr) × (deleted t ≡ Some (Trees.ListOf es k)) × (fits_at n Expression t ≡ true)) Del c w.0 (Trees.ListOf u.0 Load, ap (option_map (λ fs. Trees.ListOf fs Del)) u.1, u.2)
     undeleted _ h = absurd (cc)
 
     all_undeleted : (es : Exprs) → each_target_fits n Del es ≡ true → (ts : Exprs) × (all_deleted ts ≡ Some es) × (each_fits n Elem ts ≡ true)
@@ -132,24 +131,24 @@ module _ (n : Identifier → Bool) where
   star_arg b (present_arg (arg x absent)) h = unstarred (one_made (bare (parts3 (n x) true true h).0))
   star_arg b (present_arg (arg x (present e))) h = let w = parts3 (n x) b (fits_at n StarItem e) h in star_noted b x e w.0 w.1 w.2
 
-  pub parameters_given : (b : Bool) (a : Arguments) → fits_arguments n b a ≡ true → GivenAsSpelled n (λ ts a. (es : List Entry) × G.Listing (Parameter b) ts es × (arranged es ≡ Some a)) a
+  pub parameters_given : (b : Bool) (a : Arguments) → fits_arguments n b a ≡ true → GivenAsSpelled n (IsArranged b) a
   parameters_given b (arguments ps qs v ks ds k es) h =
       let p = fit_parts n b (arguments ps qs v ks ds k es) h in
       let w = arrangement n b ps qs v ks ds k es (noted_args b ps p.before) (noted_args b qs p.middle) (star_arg b v p.star) (noted_args b ks p.only)
       (keys n ds p.only_defaults) (noted_optional b k p.double) (each n Expression es p.defaults) p.even p.few in
       let u = listing n w.pieces in
-      (u.0, u.1, (w.list, u.2, w.is))
+      (u.0, u.1, record { entries = w.list; listing = u.2; arranged_as = w.is })
 
   -- ---- Arguments.
 
-  pub arguments_fit : (zs : Exprs) (ks : Keywords) {ts : List Terminal} → AreArguments zs ks ts → all_pass n ts ≡ true → (each_fits n Elem zs && each_keyword_fits n ks) ≡ true
+  pub arguments_fit : (zs : Exprs) (ks : Keywords) {ts : List Terminal} → AreArguments ts (zs, ks) → all_pass n ts ≡ true → (each_fits n Elem zs && each_keyword_fits n ks) ≡ true
   arguments_fit zs ks a s =
       let q = Fits.listing n a.listing s in
       subst (λ z. (each_fits n Elem z && each_keyword_fits n ks) ≡ true) a.positional_are
       (subst (λ z. (each_fits n Elem (positional a.entries) && each_keyword_fits n z) ≡ true) a.keywords_are
       (and_from (each_fits n Elem (positional a.entries)) (each_keyword_fits n (keywords a.entries)) (positional_fit n a.entries q) (keywords_fit n a.entries q)))
 
-  pub arguments_given : (zs : Exprs) (ks : Keywords) → (each_fits n Elem zs && each_keyword_fits n ks) ≡ true → (ts : List Terminal) × (all_as_spelled n ts ≡ true) × AreArguments zs ks ts
+  pub arguments_given : (zs : Exprs) (ks : Keywords) → (each_fits n Elem zs && each_keyword_fits n ks) ≡ true → (ts : List Terminal) × (all_as_spelled n ts ≡ true) × AreArguments ts (zs, ks)
   arguments_given zs ks h =
       let w = and_parts (each_fits n Elem zs) (each_keyword_fits n ks) h in
       let l = listed n (Gives.positional n zs w.0) (labelled n ks w.1) in
@@ -165,7 +164,7 @@ targets_fit_exactly n s = record {
 }
 
 pub parameters_fit_exactly : ParametersFitExactly
-parameters_fit_exactly n b a = (λ w. arranged_fit n b w.2.0 a (Fits.listing n w.2.1 w.1) w.2.2, λ h. let w = parameters_given n b a h in (w.0, all_passing n w.0 w.1, w.2))
+parameters_fit_exactly n b a = (λ w. arranged_fit n b w.2.entries a (Fits.listing n w.2.listing w.1) w.2.arranged_as, λ h. let w = parameters_given n b a h in (w.0, all_passing n w.0 w.1, w.2))
 
 pub arguments_fit_exactly : ArgumentsFitExactly
 arguments_fit_exactly n zs ks = (λ w. arguments_fit n zs ks w.2 w.1, λ h. let w = arguments_given n zs ks h in (w.0, all_passing n w.0 w.1, w.2))

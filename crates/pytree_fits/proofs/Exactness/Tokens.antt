@@ -30,11 +30,12 @@ use Rattle.pytoken.specs.StringValues.{with_line_feeds, is_raw, is_bytes, is_uni
 use Rattle.pytoken.specs.NameValues.{name_fault}
 use Rattle.pytoken.specs.Terminals.{Terminal, Op, Word, Ident, in_form, Whole, Literal, Layout, terminal_of, fault_of, is_of, IsSound, Gives}
 use Rattle.pytoken.specs.Tokens.{Token}
+use Rattle.pytoken.specs.SourceTokens.{IsOfSource}
 use Rattle.pytoken.specs.Laws.{IsProper, is_point, is_byte}
 use Rattle.pytoken.proofs.Callers.Bodies.{body_all, filter_all}
 use Rattle.pytoken.proofs.Callers.Said.{come_back, names_are_proper, points_are_in_range, bytes_are_small}
 use Rattle.pytree_fits.specs.Names.{is_keyword, is_identifier, is_name}
-use Rattle.pytree_fits.specs.Given.{is_literal, passes, all_pass, IsOfSource, AreOfSource}
+use Rattle.pytree_fits.specs.Given.{is_literal, passes, all_pass, AreOfSource}
 use Rattle.pytree_fits.proofs.Fields.AsSpelled.{passes_as_spelled, all_as_spelled}
 use Rattle.pytree_fits.proofs.Fields.Tests.{parts3, from3, never}
 use Rattle.pytree_fits.proofs.Exactness.Scalars.{name_scalars, decimal_scalars, text_scalars, bytes_scalars}

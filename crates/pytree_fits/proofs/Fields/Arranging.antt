@@ -1,10 +1,9 @@
 -- Carries: the laws of the slots. On: what is arranged of parameters that fit, fits.
-use Rattle.std.proofs.Common.{◌≡◌, refl, subst, ◌+◌, ◌≤◌, arith, List, [], ◌∷◌, Some, Bool, true, false, cond}
+use Rattle.std.proofs.Common.{◌≡◌, refl, subst, ◌+◌, ◌≤◌, arith, List, [], ◌∷◌, Some, Bool, true, false, cond, option_map}
 use Rattle.std.specs.Prelude.{◌&&◌, eqb, leb}
 use Rattle.std.proofs.lemmas.Bool.{and_parts, and_from, eq-eqb, le-leb, eqb-true, leb-true}
 use Rattle.pytree_node.specs.Trees.{Exprs, OptionalExpr, absent, present, OptionalExprs, Arg, Args, OptionalArg, Arguments, arguments, Identifier}
 use Rattle.pygrammar.specs.declared.levels.Level.TheVariants.{StarItem, Expression}
-use Rattle.pygrammar.specs.Targets.{mapped}
 use Rattle.pygrammar.specs.Entries.{Parameter, Entry, Plain, Slashed, Bare, Gathered, Collected}
 use Rattle.pygrammar.specs.Parameters.{with_kwarg, no_arguments, with_default, add_keyword_only, set_vararg, add_plain, add_before_slash, after_star, at_star, plain_ones, defaulted, before_slash, has_slash, arranged}
 use Rattle.pytree_fits.specs.Slots.{count, count_optional, count_args, fits_at, each_fits, perhaps_fits, each_perhaps_fits, fits_arguments, arg_fits, each_arg_fits, perhaps_arg_fits}
@@ -132,13 +131,13 @@ module _ (n : Identifier → Bool) (b : Bool) where
   plain_ones_parts false (e ∷ es) a f h = at_star_parts (e ∷ es) a f h
 
   -- in front of a slash
-  slashed_one : (z : Bool) (x : Arg) (d : OptionalExpr) (es : List Entry) (a : Arguments) → all_fit n (Parameter b) (Plain x d ∷ (Slashed ∷ es)) ≡ true → mapped (add_before_slash x d) (plain_ones (defaulted z d) es) ≡ Some a → PartsOf n b a
+  slashed_one : (z : Bool) (x : Arg) (d : OptionalExpr) (es : List Entry) (a : Arguments) → all_fit n (Parameter b) (Plain x d ∷ (Slashed ∷ es)) ≡ true → option_map (add_before_slash x d) (plain_ones (defaulted z d) es) ≡ Some a → PartsOf n b a
   slashed_one z x d es a f h =
       let w = mapped_is (add_before_slash x d) (plain_ones (defaulted z d) es) a h in
       let u = parts3 (arg_fits n b Expression x) (perhaps_fits n Expression d) (all_fit n (Parameter b) es) f in
       subst (PartsOf n b) w.2 (slash_parts x d w.0 u.0 u.1 (plain_ones_parts (defaulted z d) es w.0 u.2 w.1))
 
-  slashed_more : (z : Bool) (x : Arg) (d : OptionalExpr) (es : List Entry) (a : Arguments) → all_fit n (Parameter b) (Plain x d ∷ es) ≡ true → mapped (add_before_slash x d) (before_slash z es) ≡ Some a → ((c : Arguments) → all_fit n (Parameter b) es ≡ true → before_slash z es ≡ Some c → PartsOf n b c) → PartsOf n b a
+  slashed_more : (z : Bool) (x : Arg) (d : OptionalExpr) (es : List Entry) (a : Arguments) → all_fit n (Parameter b) (Plain x d ∷ es) ≡ true → option_map (add_before_slash x d) (before_slash z es) ≡ Some a → ((c : Arguments) → all_fit n (Parameter b) es ≡ true → before_slash z es ≡ Some c → PartsOf n b c) → PartsOf n b a
   slashed_more z x d es a f h r =
       let w = mapped_is (add_before_slash x d) (before_slash z es) a h in
       let u = parts3 (arg_fits n b Expression x) (perhaps_fits n Expression d) (all_fit n (Parameter b) es) f in

@@ -7,7 +7,8 @@ use Rattle.pylex_lexeme.specs.declared.kinds.Exact.TheVariants.{Dot}
 use Rattle.pytree_node.specs.Trees.{Identifier}
 use Rattle.pytoken.specs.Terminals.{Terminal, Op, in_form}
 use Rattle.pygrammar.specs.Forms as F
-use Rattle.pytree_fits.specs.Statements.{has_one, lengthen, parts, dotted}
+use Rattle.pygrammar.specs.DottedNames.{lengthen, names_in}
+use Rattle.pytree_fits.specs.Statements.{has_one, dotted}
 use Rattle.pytree_fits.specs.Given.{all_pass}
 use Rattle.pytree_fits.proofs.Fields.AsSpelled.{GivenAsSpelled}
 use Rattle.pytree_fits.proofs.Giving.Places.{named_pass}
@@ -18,19 +19,19 @@ is_other c = not (c == 46)
 
 -- ---- A name without dots is one part.
 
-pub one_part : (x : Identifier) → list_all is_other x ≡ true → parts x ≡ x ∷ []
+pub one_part : (x : Identifier) → list_all is_other x ≡ true → names_in x ≡ x ∷ []
 one_part [] h = refl
 one_part (c ∷ cs) h =
     let w = and_parts (is_other c) (list_all is_other cs) h in
     rw (not-true (c == 46) w.0, one_part cs w.1) refl
 
-pub part_before_dot : (x y : Identifier) → list_all is_other x ≡ true → parts (x ++ (46 ∷ y)) ≡ x ∷ parts y
+pub part_before_dot : (x y : Identifier) → list_all is_other x ≡ true → names_in (x ++ (46 ∷ y)) ≡ x ∷ names_in y
 part_before_dot [] y h = refl
 part_before_dot (c ∷ cs) y h =
     let w = and_parts (is_other c) (list_all is_other cs) h in
     rw (not-true (c == 46) w.0, part_before_dot cs y w.1) refl
 
--- ---- The parts with dots between are the name.
+-- ---- The names with dots between them are the text.
 
 abbrev pub with_dots : List Identifier → Identifier
 with_dots [] = []
@@ -41,13 +42,13 @@ some_lengthened : (c : ℕ) (xs : List Identifier) → has_one (lengthen c xs) �
 some_lengthened c [] = refl
 some_lengthened c (x ∷ xs) = refl
 
-pub some_part : (x : Identifier) → has_one (parts x) ≡ true
+pub some_part : (x : Identifier) → has_one (names_in x) ≡ true
 some_part [] = refl
 some_part (c ∷ cs) = by (c == 46)
   where
-    by : (b : Bool) → has_one (cond b ([] ∷ parts cs) (lengthen c (parts cs))) ≡ true
+    by : (b : Bool) → has_one (cond b ([] ∷ names_in cs) (lengthen c (names_in cs))) ≡ true
     by true = refl
-    by false = some_lengthened c (parts cs)
+    by false = some_lengthened c (names_in cs)
 
 none_before : (xs : List Identifier) → has_one xs ≡ true → with_dots ([] ∷ xs) ≡ 46 ∷ with_dots xs
 none_before [] h = absurd (cc)
@@ -58,13 +59,13 @@ lengthened c [] h = absurd (cc)
 lengthened c (x ∷ []) h = refl
 lengthened c (x ∷ (y ∷ ys)) h = refl
 
-pub parts_join : (x : Identifier) → with_dots (parts x) ≡ x
+pub parts_join : (x : Identifier) → with_dots (names_in x) ≡ x
 parts_join [] = refl
 parts_join (c ∷ cs) = by (c == 46) (eqb-true c 46) (parts_join cs)
   where
-    by : (b : Bool) → (b ≡ true → c ≡ 46) → with_dots (parts cs) ≡ cs → with_dots (cond b ([] ∷ parts cs) (lengthen c (parts cs))) ≡ c ∷ cs
-    by true h e = none_before (parts cs) (some_part cs) ∙ ap (λ z. 46 ∷ z) e ∙ ap (λ z. z ∷ cs) (sym (h refl))
-    by false h e = lengthened c (parts cs) (some_part cs) ∙ ap (λ z. c ∷ z) e
+    by : (b : Bool) → (b ≡ true → c ≡ 46) → with_dots (names_in cs) ≡ cs → with_dots (cond b ([] ∷ names_in cs) (lengthen c (names_in cs))) ≡ c ∷ cs
+    by true h e = none_before (names_in cs) (some_part cs) ∙ ap (λ z. 46 ∷ z) e ∙ ap (λ z. z ∷ cs) (sym (h refl))
+    by false h e = lengthened c (names_in cs) (some_part cs) ∙ ap (λ z. c ∷ z) e
 
 module _ (n : Identifier → Bool) where
   joined_given : (x : Identifier) (xs : List Identifier) → list_all n (x ∷ xs) ≡ true → GivenAsSpelled n F.Dotted (with_dots (x ∷ xs))
@@ -79,7 +80,7 @@ module _ (n : Identifier → Bool) where
   some_joined (x ∷ xs) h q = joined_given x xs q
 
   pub dotted_given : (x : Identifier) → dotted n x ≡ true → GivenAsSpelled n F.Dotted x
-  dotted_given x h = subst (GivenAsSpelled n F.Dotted) (parts_join x) (some_joined (parts x) (some_part x) h)
+  dotted_given x h = subst (GivenAsSpelled n F.Dotted) (parts_join x) (some_joined (names_in x) (some_part x) h)
 
   -- where no name that passes holds a dot
   pub dotted_fits : ((x : Identifier) → n x ≡ true → list_all is_other x ≡ true) → {ts : List Terminal} {x : Identifier} → F.Dotted ts x → all_pass n ts ≡ true → dotted n x ≡ true

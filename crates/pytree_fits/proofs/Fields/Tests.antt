@@ -1,6 +1,6 @@
 -- Carries: the laws of the slots. On: tests that hold together, values that are
 -- there, terminals that pass.
-use Rattle.std.proofs.Common.{◌≡◌, refl, subst, ℕ, map, List, [], ◌∷◌, ◌++◌, Option, Some, None, Bool, true, false}
+use Rattle.std.proofs.Common.{◌≡◌, refl, subst, ℕ, map, List, [], ◌∷◌, ◌++◌, Option, Some, None, Bool, true, false, option_map}
 use Rattle.std.specs.Prelude.{◌&&◌, not}
 use Rattle.std.specs.List.{list_all}
 use Rattle.std.proofs.lemmas.Bool.{and_parts, and_from}
@@ -13,7 +13,7 @@ use Rattle.pytree_node.specs.Trees.{Identifier, Expr, Exprs, an_expr}
 use Rattle.pytree_node.specs.Values
 use Rattle.pytoken.specs.Terminals.{Terminal, Op, Word, Literal}
 use Rattle.pygrammar.specs.Constants.{constant_word, joined}
-use Rattle.pygrammar.specs.Targets.{mapped, both, stored}
+use Rattle.pygrammar.specs.Targets.{both, stored}
 use Rattle.pytoken.specs.Laws.{is_point, is_byte}
 use Rattle.pytree_fits.specs.Literals.{is_value}
 use Rattle.pytree_fits.specs.Slots.{is_context}
@@ -52,7 +52,7 @@ given {A} P {a} {b} h p = subst P (same a b h) p
     same : (a b : A) → ◌≡◌ {A = Option A} (Some a) (Some b) → a ≡ b
     same a b h = cc
 
-pub mapped_is : {A B : Type 0} (f : A → B) (o : Option A) (b : B) → mapped f o ≡ Some b → (a : A) × (o ≡ Some a) × (f a ≡ b)
+pub mapped_is : {A B : Type 0} (f : A → B) (o : Option A) (b : B) → option_map f o ≡ Some b → (a : A) × (o ≡ Some a) × (f a ≡ b)
 mapped_is {A} {B} f None b h = absurd (cc)
 mapped_is {A} {B} f (Some a) b h = (a, refl, given (λ x. f a ≡ x) h refl)
 

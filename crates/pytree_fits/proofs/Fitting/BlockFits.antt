@@ -54,7 +54,7 @@ module _ (p : Profile) (n : Identifier → Bool) where
   header_parts h None f = (f, tt)
   header_parts h (Some ss) f = and_parts (header_fits p n h) (inline_fits p n ss) f
 
-  -- a header, and the lines behind it
+  -- a header, and the lines after it
   record First (h : Header) (suite : Option (List Stmt)) (xs : List Line) : Type 0 where
     head : header_fits p n h ≡ true
     inner : SuiteFits suite

@@ -15,7 +15,8 @@ use Rattle.pygrammar.specs.Arguments.{positional, keywords}
 use Rattle.pygrammar.specs.Grammar as G
 use Rattle.pygrammar.specs.Lines.{Form, simple_form, decorator_form, header_form, Header, if_header, elif_header, else_header, loop_header, with_header, try_header, except_header, finally_header, def_header, while_head, for_head, function_head, class_head, no_types}
 use Rattle.pygrammar.specs.Forms as F
-use Rattle.pygrammar.specs.Forms.{listed, has_types}
+use Rattle.pygrammar.specs.Forms.{listed}
+use Rattle.pytree_node.specs.Profiles.{has_types}
 use Rattle.pytree_fits.specs.Slots.{is_single, perhaps_name, fits_at, fits_target, each_target_fits, each_fits, perhaps_fits, each_keyword_fits, fits_arguments}
 use Rattle.pytree_fits.specs.Statements.{has_one, dotted, import_fits, alias_fits, imports_fit, item_fits, type_param_fits, types_fit, raised_fits, caught_fits, statement_fits, statements_fit}
 use Rattle.pytree_fits.specs.Given.{all_pass}

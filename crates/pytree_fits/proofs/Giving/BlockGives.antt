@@ -13,7 +13,8 @@ use Rattle.pytoken.specs.Terminals.{Op, Word}
 use Rattle.pygrammar.specs.declared.levels.Level.TheVariants.{Value, Stars, Named, Expression, Elem}
 use Rattle.pygrammar.specs.Lines.{Line, line, simple_form, decorator_form, header_form, Header, if_header, else_header, loop_header, with_header, try_header, except_header, finally_header, def_header, LoopHead, while_head, for_head, DefHead, function_head, class_head, loop, with_of, definition, try_of}
 use Rattle.pygrammar.specs.Forms as F
-use Rattle.pygrammar.specs.Forms.{has_types, type_name}
+use Rattle.pygrammar.specs.Forms.{type_name}
+use Rattle.pytree_node.specs.Profiles.{has_types}
 use Rattle.pygrammar.specs.Blocks.{handler, Block, Statement, Body, Otherwise, Excepts, Ending, Decorators, nothing, and_then, simple_line, if_statement, loop_statement, with_statement, try_finally, try_except, definition_of, indented, an_else, no_else, else_clause, no_except, except_clause, no_finally, finally_clause, no_decorator, decorator}
 use Rattle.pytree_fits.specs.Slots.{is_a_name, is_single, fits_at, fits_target, each_target_fits, each_fits, perhaps_fits, each_keyword_fits, fits_arguments}
 use Rattle.pytree_fits.specs.Statements.{has_one, has_stmt, source_fits, imports_fit, item_fits, type_param_fits, import_fits, types_fit, caught_fits, clauses_fit, statement_fits, statements_fit, suite_fits, handlers_fit}
@@ -104,7 +105,7 @@ module _ (p : Profile) (n : Identifier → Bool) (typed : n type_name ≡ true) 
   simply : (l : ℕ) (s : Stmt) → GivenAsSpelled n (F.Simple p) s → Drawn l s
   simply l s w = record { lines = line l (simple_form (s ∷ [])) ∷ []; some = refl; given = one_spelled (w.0, w.1, F.simple_statements (F.last_simple w.2)) none_spelled; is = simple_line }
 
-  -- what may stand behind a block
+  -- what may stand after a block
   record Behind (l : ℕ) (ss : Stmts) : Type 0 where
     lines : List Line
     given : AreGivenAsSpelled p n lines

@@ -1,6 +1,6 @@
 -- Carries: the laws of the slots. On: arguments, pairs of a Dict, targets and comprehensions of
 -- what is given are given.
-use Rattle.std.proofs.Common.{◌≡◌, refl, ap, subst, arith, List, [], ◌∷◌, ◌++◌, Option, Some, None, Bool, true, false}
+use Rattle.std.proofs.Common.{◌≡◌, refl, ap, subst, arith, List, [], ◌∷◌, ◌++◌, Option, Some, None, Bool, true, false, option_map}
 use Rattle.std.specs.Prelude.{not}
 use Rattle.pylex_lexeme.specs.declared.kinds.Exact.TheVariants.{LPar, RPar, LSqb, RSqb, LBrace, RBrace, Colon, Star, Equal, DoubleStar}
 use Rattle.pytoken.specs.declared.keywords.Keyword.TheVariants as Key
@@ -12,7 +12,7 @@ use Rattle.pygrammar.specs.declared.levels.Level.{Level}
 use Rattle.pygrammar.specs.declared.levels.Level.TheVariants.{Stars, Named, Expression, Or, BitOr, Primary, Atom, Elem, Slices}
 use Rattle.pygrammar.specs.Entries.{Pair, Argument, Entry, Single, Paired, Spread, Doubled, Keyed, keys, values}
 use Rattle.pygrammar.specs.Arguments.{called, in_order, positional, keywords}
-use Rattle.pygrammar.specs.Targets.{mapped, stored, all_stored}
+use Rattle.pygrammar.specs.Targets.{stored, all_stored}
 use Rattle.pygrammar.specs.Grammar as G
 use Rattle.pytree_fits.specs.Slots.{takes_star, is_starred, count, count_optional, has_some, perhaps_name}
 use Rattle.pytree_fits.proofs.Fields.AsSpelled.{all_as_spelled, GivenAsSpelled, pass_on}
@@ -158,7 +158,7 @@ record Aimed (n : Identifier → Bool) (es : Exprs) : Type 0 where
 
 pub star_up : (e f : Expr) → is_starred e ≡ false → stored e ≡ Some f → stored (Trees.Starred e Load) ≡ Some (Trees.Starred f Store)
 star_up (Trees.Starred e c) f h q = absurd (cc)
-star_up e f h q = ap (mapped (λ f. Trees.Starred f Store)) q
+star_up e f h q = ap (option_map (λ f. Trees.Starred f Store)) q
 
 module _ (n : Identifier → Bool) where
   aimed : {es : Exprs} → Aims n es → Aimed n es

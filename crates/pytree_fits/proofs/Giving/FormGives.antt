@@ -19,7 +19,8 @@ use Rattle.pygrammar.specs.Arguments.{positional}
 use Rattle.pygrammar.specs.Grammar as G
 use Rattle.pygrammar.specs.Lines.{if_header, loop_header, with_header, except_header, def_header, while_head, for_head, function_head, class_head, no_types}
 use Rattle.pygrammar.specs.Forms as F
-use Rattle.pygrammar.specs.Forms.{alias, item, augmented, listed, has_types, type_name}
+use Rattle.pygrammar.specs.Forms.{alias, item, augmented, listed, type_name}
+use Rattle.pytree_node.specs.Profiles.{has_types}
 use Rattle.pytree_fits.specs.Slots.{is_context, is_a_name, is_single, perhaps_name, fits_at, fits_target, each_target_fits, each_fits, perhaps_fits, each_keyword_fits, fits_arguments}
 use Rattle.pytree_fits.specs.Statements.{has_one, dotted, import_fits, alias_fits, is_star, is_all, imports_fit, source_fits, perhaps_target_fits, item_fits, type_param_fits, types_fit, raised_fits, caught_fits}
 use Rattle.pytree_fits.proofs.Fields.AsSpelled.{all_as_spelled, GivenAsSpelled, pass_on}
@@ -311,7 +312,7 @@ module _ (n : Identifier → Bool) where
         let us = u.0 ++ (Op Sign.LPar ∷ (v.0 ++ (Op Sign.RPar ∷ w.0))) in (
           s.0 ++ (Word Key.Def ∷ (in_form x ∷ us)),
           pass_on n s.0 (Word Key.Def ∷ (in_form x ∷ us)) s.1 (named_pass n x us h (pass_on n u.0 (Op Sign.LPar ∷ (v.0 ++ (Op Sign.RPar ∷ w.0))) u.1 (pass_on n v.0 (Op Sign.RPar ∷ w.0) v.1 w.1))),
-          F.def_line _ s.2 u.2 v.2.1 v.2.2 w.2,
+          F.def_line _ s.2 u.2 v.2.listing v.2.arranged_as w.2,
         )
 
     listed_same : (es : List Expr) → listed (exprs es) ≡ es

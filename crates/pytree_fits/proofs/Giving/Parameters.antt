@@ -1,6 +1,6 @@
 -- Carries: the laws of the slots. On: parameters whose parts are given are arranged
 -- from entries that are given.
-use Rattle.std.proofs.Common.{◌≡◌, refl, sym, ap, subst, ◌∙◌, ℕ, zero, suc, ◌+◌, ◌≤◌, arith, List, [], ◌∷◌, ◌++◌, Option, Some, Bool, true, false}
+use Rattle.std.proofs.Common.{◌≡◌, refl, sym, ap, subst, ◌∙◌, ℕ, zero, suc, ◌+◌, ◌≤◌, arith, List, [], ◌∷◌, ◌++◌, Option, Some, Bool, true, false, option_map}
 use Rattle.std.specs.Prelude.{◌-◌}
 use Rattle.std.proofs.lemmas.Bool.{and_parts}
 use Rattle.pylex_lexeme.specs.declared.kinds.Exact.TheVariants.{Colon, Equal, Star, Slash, DoubleStar}
@@ -11,7 +11,6 @@ use Rattle.pytree_node.specs.Trees.{Identifier, Expr, Exprs, no_exprs, OptionalE
 use Rattle.pytoken.specs.Terminals.{Op, Word, in_form}
 use Rattle.pygrammar.specs.declared.levels.Level.{Level}
 use Rattle.pygrammar.specs.declared.levels.Level.TheVariants.{StarItem, Expression, BitOr}
-use Rattle.pygrammar.specs.Targets.{mapped}
 use Rattle.pygrammar.specs.Entries.{Parameter, Entry, Plain, Slashed, Bare, Gathered, Collected}
 use Rattle.pygrammar.specs.Parameters.{add_keyword_only, set_vararg, add_plain, add_before_slash, after_star, at_star, plain_ones, before_slash, has_slash, arranged}
 use Rattle.pygrammar.specs.Grammar as G
@@ -93,7 +92,7 @@ module _ (n : Identifier → Bool) (b : Bool) where
   collected (noted {x = x} {e = e} h q f) = annotated_too (Collected (arg x (present e))) q
       (Op DoubleStar ∷ (in_form x ∷ (Op Colon ∷ f.0)), named_pass n x (Op Colon ∷ f.0) h f.1, G.double_parameter (G.suffix f.2))
 
-  -- behind the star
+  -- after the star
   after_run : {ks : Args} {ds : OptionalExprs} {k : OptionalArg} → count_optional ds ≡ count_args ks → ArgsMade n b ks → Keys n ds → OptionalArgMade n b k → Run n b after_star false (arguments no_arg no_arg absent_arg ks ds k no_exprs)
   after_run q no_args no_keys none_made = record { list = []; is = refl; slash = refl; pieces = no_piece }
   after_run q no_args no_keys (one_made {a = a} g) = record { list = Collected a ∷ []; is = refl; slash = refl; pieces = a_piece (collected g) no_piece }
@@ -102,10 +101,10 @@ module _ (n : Identifier → Bool) (b : Bool) where
   after_run q (more_args h r) no_keys g = absurd (omega (arith, q))
   after_run q (more_args {a = a} h r) (no_key s) g =
       let w = after_run (omega (arith, q)) r s g in
-      record { list = Plain a absent ∷ w.list; is = ap (mapped (add_keyword_only a absent)) w.is; slash = w.slash; pieces = a_piece (plain_none h) w.pieces }
+      record { list = Plain a absent ∷ w.list; is = ap (option_map (add_keyword_only a absent)) w.is; slash = w.slash; pieces = a_piece (plain_none h) w.pieces }
   after_run q (more_args {a = a} h r) (a_key {k = d} f s) g =
       let w = after_run (omega (arith, q)) r s g in
-      record { list = Plain a (present d) ∷ w.list; is = ap (mapped (add_keyword_only a (present d))) w.is; slash = w.slash; pieces = a_piece (plain_some d h f) w.pieces }
+      record { list = Plain a (present d) ∷ w.list; is = ap (option_map (add_keyword_only a (present d))) w.is; slash = w.slash; pieces = a_piece (plain_some d h f) w.pieces }
 
   -- from the star on
   star_is : (z : Bool) (a : Arg) (es : List Entry) → plain_ones z (Gathered a ∷ es) ≡ at_star (Gathered a ∷ es)
@@ -125,8 +124,8 @@ module _ (n : Identifier → Bool) (b : Bool) where
   none_is false = refl
 
   star_run : (z : Bool) {v : OptionalArg} {ks : Args} {ds : OptionalExprs} {k : OptionalArg} → StarArgMade n b v → count_optional ds ≡ count_args ks → ArgsMade n b ks → Keys n ds → OptionalArgMade n b k → Run n b (plain_ones z) false (arguments no_arg no_arg v ks ds k no_exprs)
-  star_run z (unstarred (one_made {a = a} p)) q h s g = let w = after_run q h s g in record { list = Gathered a ∷ w.list; is = star_is z a w.list ∙ ap (mapped (set_vararg a)) w.is; slash = w.slash; pieces = a_piece (gathered p) w.pieces }
-  star_run z (starred {x = x} {e = e} r p f) q h s g = let w = after_run q h s g in let a = arg x (present (Trees.Starred e Load)) in record { list = Gathered a ∷ w.list; is = star_is z a w.list ∙ ap (mapped (set_vararg a)) w.is; slash = w.slash; pieces = a_piece (gathered_star x e r p f) w.pieces }
+  star_run z (unstarred (one_made {a = a} p)) q h s g = let w = after_run q h s g in record { list = Gathered a ∷ w.list; is = star_is z a w.list ∙ ap (option_map (set_vararg a)) w.is; slash = w.slash; pieces = a_piece (gathered p) w.pieces }
+  star_run z (starred {x = x} {e = e} r p f) q h s g = let w = after_run q h s g in let a = arg x (present (Trees.Starred e Load)) in record { list = Gathered a ∷ w.list; is = star_is z a w.list ∙ ap (option_map (set_vararg a)) w.is; slash = w.slash; pieces = a_piece (gathered_star x e r p f) w.pieces }
   star_run z (unstarred none_made) q no_args no_keys none_made = record { list = []; is = none_is z; slash = refl; pieces = no_piece }
   star_run z (unstarred none_made) q no_args no_keys (one_made {a = a} g) = record { list = Collected a ∷ []; is = double_is z [] a; slash = refl; pieces = a_piece (collected g) no_piece }
   star_run z (unstarred none_made) q no_args (no_key s) g = absurd (omega (arith, q))
@@ -134,14 +133,14 @@ module _ (n : Identifier → Bool) (b : Bool) where
   star_run z (unstarred none_made) q (more_args h r) no_keys g = absurd (omega (arith, q))
   star_run z (unstarred none_made) q (more_args {a = a} h r) (no_key s) g =
       let w = after_run (omega (arith, q)) r s g in
-      record { list = Bare ∷ (Plain a absent ∷ w.list); is = bare_is z (Plain a absent ∷ w.list) ∙ ap (mapped (add_keyword_only a absent)) w.is; slash = w.slash; pieces = a_piece bare_piece (a_piece (plain_none h) w.pieces) }
+      record { list = Bare ∷ (Plain a absent ∷ w.list); is = bare_is z (Plain a absent ∷ w.list) ∙ ap (option_map (add_keyword_only a absent)) w.is; slash = w.slash; pieces = a_piece bare_piece (a_piece (plain_none h) w.pieces) }
   star_run z (unstarred none_made) q (more_args {a = a} h r) (a_key {k = d} f s) g =
       let w = after_run (omega (arith, q)) r s g in
-      record { list = Bare ∷ (Plain a (present d) ∷ w.list); is = bare_is z (Plain a (present d) ∷ w.list) ∙ ap (mapped (add_keyword_only a (present d))) w.is; slash = w.slash; pieces = a_piece bare_piece (a_piece (plain_some d h f) w.pieces) }
+      record { list = Bare ∷ (Plain a (present d) ∷ w.list); is = bare_is z (Plain a (present d) ∷ w.list) ∙ ap (option_map (add_keyword_only a (present d))) w.is; slash = w.slash; pieces = a_piece bare_piece (a_piece (plain_some d h f) w.pieces) }
 
   -- what stands from the star on
   module _ (v : OptionalArg) (ks : Args) (ds : OptionalExprs) (k : OptionalArg) (rest : (z : Bool) → Run n b (plain_ones z) false (arguments no_arg no_arg v ks ds k no_exprs)) where
-    some_is : (z : Bool) (a : Arg) (d : Expr) (es : List Entry) → plain_ones z (Plain a (present d) ∷ es) ≡ mapped (add_plain a (present d)) (plain_ones true es)
+    some_is : (z : Bool) (a : Arg) (d : Expr) (es : List Entry) → plain_ones z (Plain a (present d) ∷ es) ≡ option_map (add_plain a (present d)) (plain_ones true es)
     some_is true a d es = refl
     some_is false a d es = refl
 
@@ -152,11 +151,11 @@ module _ (n : Identifier → Bool) (b : Bool) where
     plain_run z zero q t (more_args h g) no_more = absurd (omega (arith, q))
     plain_run z zero q t (more_args {a = a} h g) (one_more {e = d} f r) =
         let w = plain_run true zero (omega (arith, q)) (λ x. refl) g r in
-        record { list = Plain a (present d) ∷ w.list; is = some_is z a d w.list ∙ ap (mapped (add_plain a (present d))) w.is; slash = w.slash; pieces = a_piece (plain_some d h f) w.pieces }
+        record { list = Plain a (present d) ∷ w.list; is = some_is z a d w.list ∙ ap (option_map (add_plain a (present d))) w.is; slash = w.slash; pieces = a_piece (plain_some d h f) w.pieces }
     plain_run true (suc m) q t (more_args h g) r = absurd (omega (arith, t refl))
     plain_run false (suc m) q t (more_args {a = a} h g) r =
         let w = plain_run false m (omega (arith, q)) (λ x. absurd (never x)) g r in
-        record { list = Plain a absent ∷ w.list; is = ap (mapped (add_plain a absent)) w.is; slash = w.slash; pieces = a_piece (plain_none h) w.pieces }
+        record { list = Plain a absent ∷ w.list; is = ap (option_map (add_plain a absent)) w.is; slash = w.slash; pieces = a_piece (plain_none h) w.pieces }
 
     -- those in front of the slash
     record Front (z : Bool) (a : Arguments) : Type 0 where
@@ -166,16 +165,16 @@ module _ (n : Identifier → Bool) (b : Bool) where
       pieces : Pieces n (Parameter b) list
       first : first_slash list ≡ false
 
-    last_some : (z : Bool) (a : Arg) (d : Expr) (es : List Entry) → before_slash z (Plain a (present d) ∷ (Slashed ∷ es)) ≡ mapped (add_before_slash a (present d)) (plain_ones true es)
+    last_some : (z : Bool) (a : Arg) (d : Expr) (es : List Entry) → before_slash z (Plain a (present d) ∷ (Slashed ∷ es)) ≡ option_map (add_before_slash a (present d)) (plain_ones true es)
     last_some true a d es = refl
     last_some false a d es = refl
 
-    more_none : (a : Arg) (es : List Entry) → first_slash es ≡ false → before_slash false (Plain a absent ∷ es) ≡ mapped (add_before_slash a absent) (before_slash false es)
+    more_none : (a : Arg) (es : List Entry) → first_slash es ≡ false → before_slash false (Plain a absent ∷ es) ≡ option_map (add_before_slash a absent) (before_slash false es)
     more_none a [] h = refl
     more_none a (Slashed ∷ es) h = absurd (cc)
     more_none a (_ ∷ es) h = refl
 
-    more_some : (z : Bool) (a : Arg) (d : Expr) (es : List Entry) → first_slash es ≡ false → before_slash z (Plain a (present d) ∷ es) ≡ mapped (add_before_slash a (present d)) (before_slash true es)
+    more_some : (z : Bool) (a : Arg) (d : Expr) (es : List Entry) → first_slash es ≡ false → before_slash z (Plain a (present d) ∷ es) ≡ option_map (add_before_slash a (present d)) (before_slash true es)
     more_some true a d [] h = refl
     more_some true a d (Slashed ∷ es) h = absurd (cc)
     more_some true a d (_ ∷ es) h = refl
@@ -187,17 +186,17 @@ module _ (n : Identifier → Bool) (b : Bool) where
     slash_run z zero q t p h g no_more = absurd (omega (arith, q))
     slash_run z zero {a = a} q t p no_args g (one_more {e = d} f r) =
         let w = plain_run true zero (omega (arith, q)) (λ x. refl) g r in
-        record { list = Plain a (present d) ∷ (Slashed ∷ w.list); is = last_some z a d w.list ∙ ap (mapped (add_before_slash a (present d))) w.is; slash = refl; pieces = a_piece (plain_some d p f) (a_piece slash_piece w.pieces); first = refl }
+        record { list = Plain a (present d) ∷ (Slashed ∷ w.list); is = last_some z a d w.list ∙ ap (option_map (add_before_slash a (present d))) w.is; slash = refl; pieces = a_piece (plain_some d p f) (a_piece slash_piece w.pieces); first = refl }
     slash_run z zero {a = a} q t p (more_args x h) g (one_more {e = d} f r) =
         let w = slash_run true zero (omega (arith, q)) (λ x. refl) x h g r in
-        record { list = Plain a (present d) ∷ w.list; is = more_some z a d w.list w.first ∙ ap (mapped (add_before_slash a (present d))) w.is; slash = w.slash; pieces = a_piece (plain_some d p f) w.pieces; first = refl }
+        record { list = Plain a (present d) ∷ w.list; is = more_some z a d w.list w.first ∙ ap (option_map (add_before_slash a (present d))) w.is; slash = w.slash; pieces = a_piece (plain_some d p f) w.pieces; first = refl }
     slash_run true (suc m) q t p h g r = absurd (omega (arith, t refl))
     slash_run false (suc m) {a = a} q t p no_args g r =
         let w = plain_run false m (omega (arith, q)) (λ x. absurd (never x)) g r in
-        record { list = Plain a absent ∷ (Slashed ∷ w.list); is = ap (mapped (add_before_slash a absent)) w.is; slash = refl; pieces = a_piece (plain_none p) (a_piece slash_piece w.pieces); first = refl }
+        record { list = Plain a absent ∷ (Slashed ∷ w.list); is = ap (option_map (add_before_slash a absent)) w.is; slash = refl; pieces = a_piece (plain_none p) (a_piece slash_piece w.pieces); first = refl }
     slash_run false (suc m) {a = a} q t p (more_args x h) g r =
         let w = slash_run false m (omega (arith, q)) (λ x. absurd (never x)) x h g r in
-        record { list = Plain a absent ∷ w.list; is = more_none a w.list w.first ∙ ap (mapped (add_before_slash a absent)) w.is; slash = w.slash; pieces = a_piece (plain_none p) w.pieces; first = refl }
+        record { list = Plain a absent ∷ w.list; is = more_none a w.list w.first ∙ ap (option_map (add_before_slash a absent)) w.is; slash = w.slash; pieces = a_piece (plain_none p) w.pieces; first = refl }
 
   pub record Arrangement (a : Arguments) : Type 0 where
     pub list : List Entry

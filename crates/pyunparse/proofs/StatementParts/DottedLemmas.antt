@@ -11,7 +11,8 @@ use Rattle.pytree_node.specs.Trees.{Identifier}
 use Rattle.pyunparse_text.specs.Spacing.{Piece}
 use Rattle.pytoken.specs.Terminals.{in_form, Op}
 use Rattle.pyunparse_text.specs.Pieces.{piece}
-use Rattle.pyunparse_text.specs.Statements.{dotted, dotted_names, dotted_rest, longer, names_in}
+use Rattle.pygrammar.specs.DottedNames.{lengthen, names_in}
+use Rattle.pyunparse_text.specs.Statements.{dotted, dotted_names, dotted_rest}
 use Rattle.pyunparse_text.specs.Written.{tight}
 use Rattle.pyunparse.specs.Inner.Folds.{in_utf8, puts}
 
@@ -33,7 +34,7 @@ behind_point [] = refl
 behind_point (c ∷ cs) = by (c == 46) (names_in cs)
   where
     by : (b : Bool) (xs : List Identifier) →
-        dotted_rest piece (if b then [] ∷ xs else longer c xs) ≡ tight piece Dot ∷ dotted_names piece false (if b then [] ∷ xs else longer c xs)
+        dotted_rest piece (if b then [] ∷ xs else lengthen c xs) ≡ tight piece Dot ∷ dotted_names piece false (if b then [] ∷ xs else lengthen c xs)
     by true xs = refl
     by false [] = refl
     by false (x ∷ xs) = refl

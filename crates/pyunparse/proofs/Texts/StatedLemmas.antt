@@ -6,11 +6,12 @@ use Rattle.std.proofs.lemmas.List.Elements.{All-nil, All-cons}
 use Rattle.pytree_node.specs.declared.profiles.Profile.{Profile}
 use Rattle.pytree_node.specs.Trees.{Module}
 use Rattle.pytoken.specs.Tokens as Tokens
+use Rattle.pytoken.specs.SourceTokens.{IsOfSource}
 use Rattle.pytree_height.specs.Heights.{expression_height, statement_height}
 use Rattle.pygrammar.specs.Lines.{Line}
 use Rattle.pytree_fits.specs.Given as given
 use Rattle.pytree_fits.specs.Given.{Stated}
-use Rattle.pyunparse_text.specs.Laws.{HaveForms, no_form, a_form, IsGood, source_lines, TextIsAccepted}
+use Rattle.pyunparse_text.specs.Laws.{HaveForms, no_form, a_form, source_lines, TextIsAccepted}
 use Rattle.pyunparse_text.specs.Modules.{module_text}
 use Rattle.pyunparse_text.proofs.Callers.Texts.{module_texts_are_accepted, tokens_are_of_tokens}
 use Rattle.pyunparse.specs.RoundTrips.{GivesBack, RoundTrips}
@@ -20,7 +21,7 @@ forms_are given.no_form = no_form
 forms_are (given.a_form h p c) = a_form p (forms_are c)
 
 abbrev Good : Tokens.Line → Type 0
-Good x = All IsGood x.tokens
+Good x = All IsOfSource x.tokens
 
 good : {profile : Profile} {xs : List Tokens.Line} {fs : List Line} → given.HaveForms profile xs fs → All Good xs
 good given.no_form = All-nil Good

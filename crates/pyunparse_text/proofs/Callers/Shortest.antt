@@ -9,10 +9,11 @@ use Rattle.pygrammar.specs.declared.levels.Level.TheVariants.{Named}
 use Rattle.pygrammar.specs.Entries.{Entry, Argument}
 use Rattle.pygrammar.specs.Arguments.{positional, keywords}
 use Rattle.pygrammar.specs.Grammar.{Listing}
+use Rattle.pygrammar.specs.ArgumentLists.{AreArguments}
 use Rattle.pygrammar.proofs.Callers.Law.{reader_is_exact}
 use Rattle.pyunparse_text.specs.Written.{listed, each, by_name}
 use Rattle.pyunparse_text.specs.Terminals.{terminal, terminals}
-use Rattle.pyunparse_text.specs.Laws.{ExpressionsAreShortest, ExpressionsComeBack, TargetsAreShortest, ParametersAreShortest, AreArguments, ArgumentsAreShortest, BracketsAreWithinHeight}
+use Rattle.pyunparse_text.specs.Laws.{ExpressionsAreShortest, ExpressionsComeBack, TargetsAreShortest, ParametersAreShortest, ArgumentsAreShortest, BracketsAreWithinHeight}
 use Rattle.pyunparse_text.proofs.Fewest.Induction.{fewest}
 use Rattle.pyunparse_text.proofs.Fewest.Places.{target_law, single_target_law, del_target_law, item_target_law, parameters_law, bases_law}
 use Rattle.pyunparse_text.proofs.Fewest.Flat.{brackets_height}

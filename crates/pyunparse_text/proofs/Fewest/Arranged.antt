@@ -25,7 +25,7 @@ texts ds = map (behind_equal terminal) (each terminal Expression ds)
 abbrev behind : OptionalArg → Args → OptionalExprs → OptionalArg → List (List Terminal)
 behind v ks kds k = with_star terminal (gathered terminal Star v) (names terminal ks) ++ (beside (names terminal ks) (defaults terminal kds) ++ gathered terminal DoubleStar k)
 
--- behind a star
+-- after a star
 data AfterStar : Arguments → List Entry → Type 0 where
   after : {ks : Args} {kds : OptionalExprs} {k : OptionalArg} {es : List Entry} → beside (names terminal ks) (defaults terminal kds) ++ gathered terminal DoubleStar k ≡ entries es → AfterStar (arguments no_arg no_arg absent_arg ks kds k no_exprs) es
 

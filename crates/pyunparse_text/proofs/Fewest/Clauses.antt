@@ -2,7 +2,7 @@
 --
 -- Carries: mapped_is, both_is, star_stored, lone_text and 22 more, for Induction, Places, Derived,
 -- Calls and 2 more. On: Claims, Reach, Less.
-use Rattle.std.proofs.Common.{◌≡◌, refl, sym, ap, subst, ◌∙◌, ◌≤◌, arith, List, [], ◌∷◌, ◌++◌, length, Option, Some, None, Bool, true, false, cond, length-append, append_assoc, append-nil}
+use Rattle.std.proofs.Common.{◌≡◌, refl, sym, ap, subst, ◌∙◌, ◌≤◌, arith, List, [], ◌∷◌, ◌++◌, length, Option, Some, None, Bool, true, false, cond, length-append, append_assoc, append-nil, option_map}
 use Rattle.pylex_lexeme.specs.declared.kinds.Exact.TheVariants.{LPar, RPar, LSqb, RSqb, LBrace, RBrace, Colon, Comma, Star}
 use Rattle.pytoken.specs.declared.keywords.Keyword.TheVariants as Key
 use Rattle.pytree_node.specs.declared.operators.Context.{Context}
@@ -12,7 +12,7 @@ use Rattle.pygrammar.specs.declared.levels.Level.TheVariants.{Stars, Named, Expr
 use Rattle.pytree_node.specs.Trees
 use Rattle.pytree_node.specs.Trees.{Expr, Exprs, no_exprs, an_expr, Comprehensions, no_keyword, exprs, Comprehension, comprehensions}
 use Rattle.pytoken.specs.Terminals.{Terminal, Op, Word}
-use Rattle.pygrammar.specs.Targets.{mapped, both, stored, all_stored}
+use Rattle.pygrammar.specs.Targets.{both, stored, all_stored}
 use Rattle.pygrammar.specs.Grammar as G
 use Rattle.pyunparse_text.specs.Written.{separated, star_level, some_named, lone_star, element_level, fit, tuple_of, for_in, written, each, alone, by_name, clauses, conditions}
 use Rattle.pyunparse_text.specs.Terminals.{terminal}
@@ -21,7 +21,7 @@ use Rattle.pyunparse_text.proofs.Fewest.Less.{is_named}
 use Rattle.pyunparse_text.proofs.Fewest.Claims.{given, Claim, here, node, atom}
 
 -- contexts are not written terminal
-pub mapped_is : {A B : Type 0} (f : A → B) (o : Option A) (b : B) → mapped f o ≡ Some b → (a : A) × (o ≡ Some a) × (f a ≡ b)
+pub mapped_is : {A B : Type 0} (f : A → B) (o : Option A) (b : B) → option_map f o ≡ Some b → (a : A) × (o ≡ Some a) × (f a ≡ b)
 mapped_is {A} {B} f None b h = absurd (cc)
 mapped_is {A} {B} f (Some a) b h = (a, refl, given (λ x. f a ≡ x) h refl)
 

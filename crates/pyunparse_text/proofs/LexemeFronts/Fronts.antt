@@ -1,4 +1,4 @@
--- The lexeme at the front of a text that begins with a whole one, by what stands behind that.
+-- The lexeme at the front of a text that begins with a whole one, by what stands after that.
 --
 -- Carries: is_lexeme, leaves, run_ends, blanks_front and 1 more, for NameFronts, LineCuts,
 -- NumberFronts, OperatorFronts and 2 more.

@@ -20,7 +20,7 @@ use Rattle.pyunparse_text.proofs.Cases.{bool_cases}
 before : (x : Lexeme) (t r : List ℕ) (xs : List Lexeme) (left : List ℕ) → x.text ≡ t → lexeme_at (t ++ r) ≡ Some x → AreLexemes r xs left → AreLexemes (t ++ r) (x ∷ xs) left
 before x t r xs left e h a = (r, h, ap (λ u. u ++ r) (sym e), a)
 
--- a piece, and what stands behind it in its line
+-- a piece, and what stands after it in its line
 piece_before : (q : Piece) (qs : List Piece) (more : List ℕ) (ys : List Lexeme) (left : List ℕ) → IsPiece q → ArePieces qs → all_apart q qs ≡ true → AreLexemes (text_behind q qs ++ 10 ∷ more) ys left → AreLexemes ((q.text ++ text_behind q qs) ++ 10 ∷ more) (lexeme_of q ∷ ys) left
 piece_before q qs more ys left e a h l =
     subst (λ (u : List ℕ). AreLexemes u (lexeme_of q ∷ ys) left) (sym (append_assoc q.text (text_behind q qs) (10 ∷ more)))

@@ -46,7 +46,7 @@ no_pair c d h = two_prefix c d ∙ rw (no_r d h, no_b_or_f d h) (none (is_r c) (
     none false true = refl
     none false false = refl
 
--- where no quote is the first character or the second, nor the third behind
+-- where no quote is the first character or the second, nor the third after
 -- a prefix, no string opens
 pub no_string : (cs : List ℕ) → begins_quote cs ≡ false → begins_quote (drop 1 cs) ≡ false → (is_prefix (take 2 cs) && begins_quote (drop 2 cs)) ≡ false → opens_string cs ≡ false
 unfolding opens_string

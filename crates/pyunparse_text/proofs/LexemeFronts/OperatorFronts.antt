@@ -137,7 +137,7 @@ point_words d t e =
     let n : eqb d 46 ≡ false = grind (arith, nat_tests) in
     by_words (46 ∷ d ∷ t) ∙ rw n refl
 
--- a point alone, and a digit behind it
+-- a point alone, and a digit after it
 abbrev pub makes_number : List ℕ → List ℕ → Bool
 makes_number t r = bytes_eq t (46 ∷ []) && begins is_decimal_digit r
 

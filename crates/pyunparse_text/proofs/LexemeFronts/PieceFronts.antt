@@ -31,7 +31,7 @@ use Rattle.pyunparse_text.proofs.LexemeFronts.StringFronts.{string_front}
 use Rattle.pyunparse_text.proofs.LexemeFronts.OperatorFronts.{Sign, operator_head, operator_front, makes_number, none_begins}
 use Rattle.pyunparse_text.proofs.Cases.{bool_cases, cases, off}
 
--- Nothing that stands behind a token of a kind joins it.
+-- Nothing that stands after a token of a kind joins it.
 abbrev pub Clear : Kind → List ℕ → List ℕ → Type 0
 Clear kinds.Name t r = (begins is_xid_continue r ≡ false) × (begins_quote r ≡ false)
 Clear kinds.Number t r = (begins is_xid_continue r ≡ false) × (begins is_point r ≡ false)
@@ -57,7 +57,7 @@ token_front kinds.Indent t r e c = cc
 token_front kinds.Dedent t r e c = cc
 token_front kinds.EndMarker t r e c = cc
 
--- Behind a blank or a line end
+-- After a blank or a line end
 pub words_all : (p : List ℕ → Bool) (t : List ℕ) (os : List (List ℕ)) → list_all p os ≡ true → list_any (bytes_eq t) os ≡ true → p t ≡ true
 words_all p t [] a e = cc
 words_all p t (o ∷ os) a e =
@@ -208,7 +208,7 @@ token_no_blank k (c ∷ t) r e = cases (is_blank_char c) (λ h. let o = blank_of
 token_no_digit : (k : Kind) (c : ℕ) (t : List ℕ) → is_token k (c ∷ t) ≡ true → is_number_kind k ≡ false → is_decimal_digit c ≡ false
 token_no_digit k c t e f = cases (is_decimal_digit c) (λ h. let n = no_token k c t (digit_off c h) (λ z. absurd (let y : true ≡ false = sym z ∙ f in cc)) (λ z. digit_no_sign c h) in cc)
 
--- Behind a piece that touches
+-- After a piece that touches
 operator_only : (k : Kind) (t : List ℕ) → is_operator_kind k ≡ true → is_token k t ≡ true → is_operator t ≡ true
 operator_only kinds.Op t h e = e
 operator_only kinds.Name t h e = cc
@@ -293,7 +293,7 @@ clear_points kinds.Indent r e f = tt
 clear_points kinds.Dedent r e f = tt
 clear_points kinds.EndMarker r e f = tt
 
--- Behind a piece of a line that is told apart
+-- After a piece of a line that is told apart
 abbrev pub IsPiece : Piece → Type 0
 IsPiece p = is_token p.kind p.text ≡ true
 

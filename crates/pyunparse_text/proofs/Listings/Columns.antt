@@ -109,7 +109,7 @@ below_column (suc m) n h =
         let e : ltb (4 * suc m) (4 * suc n) ≡ true = grind (arith, nat_tests) in
         filter_last (λ v. ltb v (4 * suc n)) (columns m) (4 * suc m) ∙ rw e (ap (λ l. l ++ (4 * suc m) ∷ []) (all_below m n (omega arith)))
 
--- behind a line that is at most one level deeper
+-- after a line that is at most one level deeper
 pub columns_pushed : (m n : ℕ) → n ≤ m + 1 → pushed (4 * n) (columns m) ≡ columns n
 columns_pushed m zero h = ap (λ l. l ++ 0 ∷ []) (none m)
   where

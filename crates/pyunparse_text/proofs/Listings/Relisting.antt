@@ -73,7 +73,7 @@ remaining_is : (text : List ℕ) (xs : List Lexeme) → cut text ≡ xs → left
 unfolding remaining
 remaining_is text xs c l = rw (c, l) refl
 
--- The law: a source with the text of written lines, and no faulty line behind it,
+-- The law: a source with the text of written lines, and no faulty line after it,
 -- is listed as their tokens.
 pub lines_listed : (s : Source) (ls : List Line) → s.text ≡ lines_text ls → s.fault ≡ None → are_written ls ≡ true → IsListedAs s (tokens_behind 0 ls)
 lines_listed s ls e f w =

@@ -33,7 +33,7 @@ use Rattle.pyunparse_text.proofs.Sources.Decoding.{lines_scalars}
 use Rattle.pyunparse_text.proofs.Cases.{bool_cases, off}
 use Rattle.pylex.specs.Lines.{count_if}
 
--- the steps of lexemes from a state on, and the state behind them
+-- the steps of lexemes from a state on, and the state after them
 abbrev pub steps_on : State → List Lexeme → List Step
 steps_on s [] = []
 steps_on s (x ∷ xs) = gives s x ++ steps_on (after s x) xs
@@ -54,7 +54,7 @@ pub after_both : (s : State) (xs ys : List Lexeme) → after_all s (xs ++ ys) �
 after_both s [] ys = refl
 after_both s (x ∷ xs) ys = after_both (after s x) xs ys
 
--- where a line begins, behind a line of level m
+-- where a line begins, after a line of level m
 pub record AtLine (text : List ℕ) (s : State) (m : ℕ) (rest : List ℕ) : Type 0 where
   pub before : List ℕ
   pub whole : text ≡ before ++ rest
@@ -67,7 +67,7 @@ pub record AtLine (text : List ℕ) (s : State) (m : ℕ) (rest : List ℕ) : Ty
   pub logical : s.logical ≡ false
   pub joined : s.joined ≡ false
 
--- behind the blanks of a line of level n
+-- after the blanks of a line of level n
 record AtMargin (text : List ℕ) (s : State) (m n : ℕ) (rest : List ℕ) : Type 0 where
   pub before : List ℕ
   pub whole : text ≡ before ++ (replicate (4 * n) 32 ++ rest)
@@ -78,7 +78,7 @@ record AtMargin (text : List ℕ) (s : State) (m n : ℕ) (rest : List ℕ) : Ty
   pub margin : s.margin ≡ true
   pub width : s.width ≡ 4 * n
 
--- behind a piece of a line of level n, d brackets being open
+-- after a piece of a line of level n, d brackets being open
 record InLine (text : List ℕ) (s : State) (d n : ℕ) (rest : List ℕ) : Type 0 where
   pub before : List ℕ
   pub whole : text ≡ before ++ rest
@@ -88,7 +88,7 @@ record InLine (text : List ℕ) (s : State) (d n : ℕ) (rest : List ℕ) : Type
   pub margin : s.margin ≡ false
   pub logical : s.logical ≡ true
 
--- A piece's step, and the state behind it
+-- A piece's step, and the state after it
 record Gives (s : State) (k : Kind) (t : List ℕ) : Type 0 where
   pub exact : Option Exact
   pub is : gives s (record { «class» = class_of k t; text = t }) ≡ layout_of s ++ step_of k exact s.now (past s.now t) ∷ []
@@ -291,14 +291,14 @@ feed_runs text s n rest v i = record {
 abbrev pub AreScalar : List Piece → Type 0
 AreScalar ps = list_all (λ p. all_scalars p.text) ps ≡ true
 
--- a piece, and what runs behind it
+-- a piece, and what runs after it
 then_runs : (text : List ℕ) (s : State) (p : Piece) (n : ℕ) (ps : List Piece) (rest more : List ℕ) (xs : List Lexeme) (ts : List PlainToken) (w : Went text s p n ps rest) → Ran text (after s (lexeme_of p)) xs ts n more → Ran text s (lexeme_of p ∷ xs) (token_of p ∷ ts) n more
 then_runs text s p n ps rest more xs ts w r = record {
   tells = tells_both text (gives s (lexeme_of p)) (steps_on (after s (lexeme_of p)) xs) (token_of p ∷ []) ts w.tells r.tells;
   at = r.at;
 }
 
--- what stands behind a piece of a line
+-- what stands after a piece of a line
 behind_runs : (text : List ℕ) (s : State) (d n : ℕ) (p : Piece) (qs : List Piece) (more : List ℕ) → Even more → InLine text s d n (text_behind p qs ++ 10 ∷ more) → ArePieces qs → AreScalar qs → closes_all d qs ≡ true → Ran text s (lexemes_behind p qs ++ feed ∷ []) (map token_of qs ++ newline ∷ []) n more
 behind_runs text s d n p [] more f i a u c =
     let z : d ≡ 0 = eqb-true d 0 c in

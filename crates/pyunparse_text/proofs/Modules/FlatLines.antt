@@ -6,6 +6,7 @@ use Rattle.std.proofs.lemmas.List.Elements.{All-nil, All-cons}
 use Rattle.pylex_lexeme.specs.declared.kinds.Exact.TheVariants.{LPar, RPar, Star, Equal, Comma, Colon, RArrow}
 use Rattle.pytree_node.specs.declared.operators.Operator.{Operator}
 use Rattle.pytree_node.specs.declared.operators.Operator.TheVariants as Bin
+use Rattle.pygrammar.specs.DottedNames.{names_in}
 use Rattle.pygrammar.specs.declared.levels.Level.{Level}
 use Rattle.pygrammar.specs.declared.levels.Level.TheVariants.{Value, Stars, Named, Expression, Primary}
 use Rattle.pytree_node.specs.Trees
@@ -73,7 +74,7 @@ dotted_flat close (x ∷ xs) = plain (λ d. refl) (rest_flat xs)
 
 module_flat : (close : Bool) (m : Option Identifier) → Flat 0 (S.module_name terminal close m)
 module_flat close None = flat_none 0
-module_flat close (Some x) = dotted_flat close (S.names_in x)
+module_flat close (Some x) = dotted_flat close (names_in x)
 
 points_flat : (close : Bool) (n : ℕ) → Flat 0 (S.point_signs terminal close (S.points n))
 points_flat close zero = flat_none 0
@@ -83,7 +84,7 @@ points_flat close (suc (suc (suc n))) = plain (λ d. refl) (points_flat true n)
 
 aliases_flat : (names : List Alias) → AllFlat 0 (map (S.dotted_alias terminal) names)
 aliases_flat [] = none
-aliases_flat (a ∷ names) = one (both (dotted_flat false (S.names_in a.name)) (as_flat a.asname)) (aliases_flat names)
+aliases_flat (a ∷ names) = one (both (dotted_flat false (names_in a.name)) (as_flat a.asname)) (aliases_flat names)
 
 name_aliases_flat : (names : List Alias) → AllFlat 0 (map (S.name_alias terminal) names)
 name_aliases_flat [] = none

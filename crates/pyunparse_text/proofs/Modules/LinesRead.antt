@@ -81,7 +81,7 @@ lower n (l ∷ ls) e =
     let i = leb-true (suc n) l.level h.0 in
     and_both (nat_le n l.level) (list_all (λ (l : Line). nat_le n l.level) ls) (le-leb n l.level (omega arith)) (lower n ls h.1)
 
--- a line, and lines one level deeper behind it
+-- a line, and lines one level deeper after it
 fine_head : {n : ℕ} {ps : List Piece} {ts : List Terminal} {rs : List (WrittenLine Piece)} {qs : List (WrittenLine Terminal)} → AreRead ps ts → Fine (suc n) rs qs → Fine n (written_line n ps ∷ rs) (written_line n ts ∷ qs)
 fine_head {n} {ps} {ts} {rs} {qs} x y =
     let ls : List Line = map line_of rs in

@@ -17,13 +17,14 @@ use Rattle.pylex.specs.Laws.{Covers, StandsNext, IsLawful}
 use Rattle.pytree_node.specs.declared.profiles.Profile.{Profile}
 use Rattle.pytoken.specs.Tokens.{Token, text_of, supplied, is_open, tokens_of_entry, tokens_from, tokens, lines_from, lines}
 use Rattle.pytoken.specs.Tokens as Tokens
+use Rattle.pytoken.specs.SourceTokens.{IsOfSource}
 use Rattle.pytoken.specs.Terminals.{terminal_of, IsSound}
 use Rattle.pytoken.proofs.Callers.Said.{tokens_are_sound}
 use Rattle.pygrammar.specs.Lines.{Line}
 use Rattle.pygrammar.specs.Refusals.{terminals, Formed, formed_end, formed_line}
 use Rattle.pyunparse_text.proofs.Callers.Lists.{bytes_both, sliced}
 use Rattle.pyunparse_text.specs.Modules.{written_line}
-use Rattle.pyunparse_text.specs.Laws.{IsOfToken, AreOfTokens, AreWithin, source_lines, IsGood, TokensAreOfTokens, AcceptedTextsAreAccepted}
+use Rattle.pyunparse_text.specs.Laws.{IsOfToken, AreOfTokens, AreWithin, source_lines, TokensAreOfTokens, AcceptedTextsAreAccepted}
 use Rattle.pyunparse_text.proofs.Modules.High.{modules_low}
 use Rattle.pyunparse_text.proofs.Modules.Accepted.{source_forms, texts_accepted}
 
@@ -87,47 +88,47 @@ token_texts s w h = all_texts s.text [] (entries_of (listing s)) (covered s.text
 
 -- ---- Lines of tokens.
 
-both : (ts : List Token) → All IsText ts → All (λ (t : Token). IsSound t.kind t.text) ts → All IsGood ts
-both [] a b = All-nil IsGood
+both : (ts : List Token) → All IsText ts → All (λ (t : Token). IsSound t.kind t.text) ts → All IsOfSource ts
+both [] a b = All-nil IsOfSource
 both (t ∷ ts) a b =
-    All-cons IsGood t ts (All-head IsText t ts a, All-head (λ (t : Token). IsSound t.kind t.text) t ts b) (both ts (All-tail IsText t ts a) (All-tail (λ (t : Token). IsSound t.kind t.text) t ts b))
+    All-cons IsOfSource t ts (All-head IsText t ts a, All-head (λ (t : Token). IsSound t.kind t.text) t ts b) (both ts (All-tail IsText t ts a) (All-tail (λ (t : Token). IsSound t.kind t.text) t ts b))
 
 abbrev Good : Tokens.Line → Type 0
-Good x = All IsGood x.tokens
+Good x = All IsOfSource x.tokens
 
 record Goes (t : Token) : Type 0 where
-  at : (before line ts : List Token) → All IsGood line → All IsGood (line ++ t ∷ [])
-      → ((line : List Token) → All IsGood line → All Good (lines_from (t ∷ before) line ts)) → All Good (lines_from before line (t ∷ ts))
+  at : (before line ts : List Token) → All IsOfSource line → All IsOfSource (line ++ t ∷ [])
+      → ((line : List Token) → All IsOfSource line → All Good (lines_from (t ∷ before) line ts)) → All Good (lines_from before line (t ∷ ts))
 
 goes : (k : Kind) (t : Token) → t.kind ≡ k → Goes t
-goes kinds.Newline t q = record { at = λ before line ts a b more. rw q (All-cons Good _ _ a (more [] (All-nil IsGood))) }
+goes kinds.Newline t q = record { at = λ before line ts a b more. rw q (All-cons Good _ _ a (more [] (All-nil IsOfSource))) }
 goes kinds.Indent t q = record { at = λ before line ts a b more. rw q (more line a) }
 goes kinds.Dedent t q = record { at = λ before line ts a b more. rw q (more line a) }
 goes kinds.EndMarker t q = record { at = λ before line ts a b more. rw q (more line a) }
 goes _ t q = record { at = λ before line ts a b more. rw q (more (line ++ t ∷ []) b) }
 
-all_lines : (before line ts : List Token) → All IsGood line → All IsGood ts → All Good (lines_from before line ts)
+all_lines : (before line ts : List Token) → All IsOfSource line → All IsOfSource ts → All Good (lines_from before line ts)
 all_lines before line [] a h = All-nil Good
 all_lines before line (t ∷ ts) a h =
-    let b : All IsGood (line ++ t ∷ []) = All-append IsGood line (t ∷ []) a (All-cons IsGood t [] (All-head IsGood t ts h) (All-nil IsGood)) in
-    (goes t.kind t refl).at before line ts a b (λ u c. all_lines (t ∷ before) u ts c (All-tail IsGood t ts h))
+    let b : All IsOfSource (line ++ t ∷ []) = All-append IsOfSource line (t ∷ []) a (All-cons IsOfSource t [] (All-head IsOfSource t ts h) (All-nil IsOfSource)) in
+    (goes t.kind t refl).at before line ts a b (λ u c. all_lines (t ∷ before) u ts c (All-tail IsOfSource t ts h))
 
-good_lines : (s : Source) → All IsGood (tokens s) → All Good (lines s)
+good_lines : (s : Source) → All IsOfSource (tokens s) → All Good (lines s)
 unfolding lines
-good_lines s h = all_lines [] [] (tokens s) (All-nil IsGood) h
+good_lines s h = all_lines [] [] (tokens s) (All-nil IsOfSource) h
 
 -- ---- Their terminals.
 
-token_terminals : (ts : List Token) → All IsGood ts → All IsOfToken (map (λ (t : Token). terminal_of t.kind t.text) ts)
+token_terminals : (ts : List Token) → All IsOfSource ts → All IsOfToken (map (λ (t : Token). terminal_of t.kind t.text) ts)
 token_terminals [] h = All-nil IsOfToken
 token_terminals (t ∷ ts) h =
-    let g : IsGood t = All-head IsGood t ts h in
-    All-cons IsOfToken (terminal_of t.kind t.text) _ (record { kind = t.kind; text = t.text; characters = g.0; gives = record { terminal = refl; sound = g.1 } }) (token_terminals ts (All-tail IsGood t ts h))
+    let g : IsOfSource t = All-head IsOfSource t ts h in
+    All-cons IsOfToken (terminal_of t.kind t.text) _ (record { kind = t.kind; text = t.text; characters = g.0; gives = record { terminal = refl; sound = g.1 } }) (token_terminals ts (All-tail IsOfSource t ts h))
 
 pub lines_of_tokens : TokensAreOfTokens
 lines_of_tokens [] h = All-nil AreOfTokens
 lines_of_tokens (x ∷ xs) h =
-    All-cons AreOfTokens (written_line x.level (terminals x)) (source_lines xs) (token_terminals x.tokens (All-head (λ (x : Tokens.Line). All IsGood x.tokens) x xs h)) (lines_of_tokens xs (All-tail (λ (x : Tokens.Line). All IsGood x.tokens) x xs h))
+    All-cons AreOfTokens (written_line x.level (terminals x)) (source_lines xs) (token_terminals x.tokens (All-head (λ (x : Tokens.Line). All IsOfSource x.tokens) x xs h)) (lines_of_tokens xs (All-tail (λ (x : Tokens.Line). All IsOfSource x.tokens) x xs h))
 
 -- ---- Accepted sources.
 
@@ -137,6 +138,6 @@ formed_low (formed_line p c) = (p.low, formed_low c)
 
 pub accepted_texts : AcceptedTextsAreAccepted
 accepted_texts profile s m w h p =
-    let g : All IsGood (tokens s) = both (tokens s) (token_texts s w h) (tokens_are_sound s w h p.clear) in
+    let g : All IsOfSource (tokens s) = both (tokens s) (token_texts s w h) (tokens_are_sound s w h p.clear) in
     texts_accepted profile (source_lines (lines s)) m (record { forms = p.forms; formed = source_forms p.formed; block = p.block })
     (lines_of_tokens (lines s) (good_lines s g)) (modules_low 500 p.forms m p.block (formed_low p.formed)) p.low

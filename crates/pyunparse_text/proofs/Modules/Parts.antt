@@ -5,10 +5,12 @@ use Rattle.std.specs.Prelude.{eqb, map}
 use Rattle.std.proofs.lemmas.Bool.{eqb-true}
 use Rattle.pylex_lexeme.specs.declared.kinds.Exact.TheVariants.{Star, Dot, Ellipsis}
 use Rattle.pytree_node.specs.declared.profiles.Profile.{Profile}
+use Rattle.pytree_node.specs.Profiles.{has_types}
 use Rattle.pytree_node.specs.Trees.{Identifier, Expr, Alias, TypeParam}
 use Rattle.pytoken.specs.Terminals.{Terminal, Op, in_form}
 use Rattle.pygrammar.specs.declared.levels.Level.{Level}
 use Rattle.pygrammar.specs.Grammar as G
+use Rattle.pygrammar.specs.DottedNames.{lengthen, names_in}
 use Rattle.pygrammar.specs.Forms as F
 use Rattle.pyunparse_text.specs.Written.{listed, written}
 use Rattle.pyunparse_text.specs.Terminals.{terminal}
@@ -77,7 +79,7 @@ longer_one c x y F.one_name = F.one_name
 longer_more : (c : ℕ) (x y : Identifier) (ts : List Terminal) → F.Dotted (in_form x ∷ (Op Dot ∷ ts)) y → F.Dotted (in_form (c ∷ x) ∷ (Op Dot ∷ ts)) (c ∷ y)
 longer_more c x y ts (F.dot_name p) = F.dot_name p
 
-longer_first : (c : ℕ) (xs : List Identifier) (y : Identifier) → F.Dotted (tokens xs) y → F.Dotted (tokens (S.longer c xs)) (c ∷ y)
+longer_first : (c : ℕ) (xs : List Identifier) (y : Identifier) → F.Dotted (tokens xs) y → F.Dotted (tokens (lengthen c xs)) (c ∷ y)
 longer_first c [] y p = absurd (no_tokens p refl)
 longer_first c (x ∷ []) y p = longer_one c x y p
 longer_first c (x ∷ (z ∷ zs)) y p = longer_more c x y (tokens (z ∷ zs)) p
@@ -86,16 +88,16 @@ new_first : (xs : List Identifier) (y : Identifier) → F.Dotted (tokens xs) y �
 new_first [] y p = absurd (no_tokens p refl)
 new_first (x ∷ xs) y p = F.dot_name {x = record { spelling = []; form = [] }} p
 
-dotted_plain : (x : Identifier) → F.Dotted (tokens (S.names_in x)) x
+dotted_plain : (x : Identifier) → F.Dotted (tokens (names_in x)) x
 dotted_plain [] = F.one_name
 dotted_plain (c ∷ cs) = by (eqb c 46) refl (dotted_plain cs)
   where
-    by : (b : Bool) → eqb c 46 ≡ b → F.Dotted (tokens (S.names_in cs)) cs → F.Dotted (tokens (cond b ([] ∷ S.names_in cs) (S.longer c (S.names_in cs)))) (c ∷ cs)
-    by true h p = subst (λ z. F.Dotted (tokens ([] ∷ S.names_in cs)) (z ∷ cs)) (sym (eqb-true c 46 h)) (new_first (S.names_in cs) cs p)
-    by false h p = longer_first c (S.names_in cs) cs p
+    by : (b : Bool) → eqb c 46 ≡ b → F.Dotted (tokens (names_in cs)) cs → F.Dotted (tokens (cond b ([] ∷ names_in cs) (lengthen c (names_in cs)))) (c ∷ cs)
+    by true h p = subst (λ z. F.Dotted (tokens ([] ∷ names_in cs)) (z ∷ cs)) (sym (eqb-true c 46 h)) (new_first (names_in cs) cs p)
+    by false h p = longer_first c (names_in cs) cs p
 
 pub dotted_again : (close : Bool) (x : Identifier) → F.Dotted (S.dotted terminal close x) x
-dotted_again close x = subst (λ z. F.Dotted z x) (sym (any close (S.names_in x))) (dotted_plain x)
+dotted_again close x = subst (λ z. F.Dotted z x) (sym (any close (names_in x))) (dotted_plain x)
 
 -- ---- Imports.
 
@@ -144,7 +146,7 @@ type_param_again _ _ (F.type_var b) = F.type_var (behind_again b)
 type_param_again _ _ F.type_var_tuple = F.type_var_tuple
 type_param_again _ _ F.param_spec = F.param_spec
 
-some_params : {profile : Profile} (ps : List TypeParam) → F.has_types profile ≡ true → F.Commas TypeParam F.TypeParamOf (listed terminal (map (S.type_param terminal) ps)) ps → F.TypeParams profile (S.type_params terminal ps) ps
+some_params : {profile : Profile} (ps : List TypeParam) → has_types profile ≡ true → F.Commas TypeParam F.TypeParamOf (listed terminal (map (S.type_param terminal) ps)) ps → F.TypeParams profile (S.type_params terminal ps) ps
 some_params [] h c = F.no_type_params
 some_params (p ∷ ps) h c = F.type_params h (F.ends_bare c)
 

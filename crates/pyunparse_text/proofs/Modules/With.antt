@@ -97,7 +97,7 @@ all_good : {ts : List Terminal} {is : List Item} → F.Commas? Item F.ItemOf ts 
 all_good (F.ends_bare c) = items_good c
 all_good (F.ends_comma c) = good_both (items_good c) (good_on refl (record { at = λ n. ends }))
 
--- brackets that end behind an expression don't end behind all
+-- brackets that end after an expression don't end after all
 early : (xs : List Terminal) {e : Expr} (t : Terminal) (ws us : List Terminal) → G.Derives Expression xs e → kind false t ≡ Plain → xs ++ (t ∷ ws) ≡ Op LPar ∷ (us ++ (Op RPar ∷ [])) → Good false us → ⊥
 early [] t ws us p k h g = absurd (cc)
 early (x ∷ xs) t ws us p k h g =

@@ -60,7 +60,7 @@ rest (also s h) = h
 pub first : {t : Terminal} {ts : List Terminal} → Said (t ∷ ts) → Sayable t
 first (also s h) = s
 
--- behind a terminal behind some
+-- after some terminals and one more
 pub behind : (ts us : List Terminal) (t : Terminal) → Said (ts ++ (t ∷ us)) → Said us
 behind ts us t h = rest (back ts (t ∷ us) h)
 

@@ -34,7 +34,7 @@ unfolding operators
 async_before false x = x
 async_before true x = join (keyword Key.Async) x refl
 
--- one, and perhaps others behind it
+-- one, and perhaps others after it
 after : {a c d e : List Piece} {xs ys zs : List Piece} {ts us vs : List Terminal} → Closed a d xs ts → Perhaps c d ys us → Perhaps e d zs vs → suit d c ≡ true → suit d e ≡ true → Closed a d (xs ++ (ys ++ zs)) (ts ++ (us ++ vs))
 after x nothing z p q = tail x z q
 after x (some y) z p q = join x (tail y z q) p

@@ -15,6 +15,7 @@ use Rattle.pytoken.specs.declared.keywords.Keyword.TheVariants as Key
 use Rattle.pytree_node.specs.Trees.{Identifier, Alias}
 use Rattle.pytoken.specs.Terminals.{Terminal, Op, Word, in_form}
 use Rattle.pytoken.specs.Laws.{IsProper}
+use Rattle.pygrammar.specs.DottedNames.{lengthen, names_in}
 use Rattle.pyunparse_text.specs.Spacing.{Piece, is_token, is_operator_kind, touches, stay_apart, are_two_points, begins_operator, all_apart, are_readable}
 use Rattle.pyunparse_text.specs.Tokens.{closes_all}
 use Rattle.pyunparse_text.specs.Inner.Edges.{fit, all_fit, are_neat, begins_by, ends_by}
@@ -110,7 +111,7 @@ later_read {b} {ps} x = record {
 abbrev near_word : Piece
 near_word = record { kind = kinds.Name; text = []; before = true; behind = false }
 
--- what stands behind points
+-- what stands after points
 abbrev behind_points : List Piece
 behind_points = near_word ∷ a_word ∷ []
 
@@ -149,9 +150,9 @@ near_names x xs h = tail (near_name x h.0) (perhaps_widen {c = tight piece Dot �
 record Named (x : Identifier) : Type 0 where
   first : Identifier
   others : List Identifier
-  is : S.names_in x ≡ first ∷ others
+  is : names_in x ≡ first ∷ others
 
-longer_named : (c : ℕ) (xs : List Identifier) → (y : Identifier) × (ys : List Identifier) × (S.longer c xs ≡ y ∷ ys)
+longer_named : (c : ℕ) (xs : List Identifier) → (y : Identifier) × (ys : List Identifier) × (lengthen c xs ≡ y ∷ ys)
 longer_named c [] = (c ∷ [], [], refl)
 longer_named c (x ∷ xs) = (c ∷ x, xs, refl)
 
@@ -160,13 +161,13 @@ named [] = record { first = []; others = []; is = refl }
 named (c ∷ cs) = by (c == 46) refl
   where
     by : (b : Bool) → (c == 46) ≡ b → Named (c ∷ cs)
-    by true e = record { first = []; others = S.names_in cs; is = rw e refl }
-    by false e = let w = longer_named c (S.names_in cs) in record { first = w.0; others = w.1; is = rw e w.2 }
+    by true e = record { first = []; others = names_in cs; is = rw e refl }
+    by false e = let w = longer_named c (names_in cs) in record { first = w.0; others = w.1; is = rw e w.2 }
 
-pub dotted_plain : (x : Identifier) → AreProper (S.names_in x) → Plain (S.dotted piece false x) (S.dotted terminal false x)
+pub dotted_plain : (x : Identifier) → AreProper (names_in x) → Plain (S.dotted piece false x) (S.dotted terminal false x)
 dotted_plain x h = let w = named x in subst (λ xs. Plain (S.dotted_names piece false xs) (S.dotted_names terminal false xs)) (sym w.is) (plain_names w.first w.others (subst AreProper w.is h))
 
-dotted_near : (x : Identifier) → AreProper (S.names_in x) → Closed behind_points ends_near (S.dotted piece true x) (S.dotted terminal true x)
+dotted_near : (x : Identifier) → AreProper (names_in x) → Closed behind_points ends_near (S.dotted piece true x) (S.dotted terminal true x)
 dotted_near x h = let w = named x in subst (λ xs. Closed behind_points ends_near (S.dotted_names piece true xs) (S.dotted_names terminal true xs)) (sym w.is) (near_names w.first w.others (subst AreProper w.is h))
 
 -- ---- Points.
@@ -298,7 +299,7 @@ imported_are names h = by (S.are_all names) h
 
 abbrev pub SoundAliases : List Alias → Type 0
 SoundAliases [] = Unit {0}
-SoundAliases (a ∷ names) = AreProper (S.names_in a.name) × MaybeProper a.asname × SoundAliases names
+SoundAliases (a ∷ names) = AreProper (names_in a.name) × MaybeProper a.asname × SoundAliases names
 
 aliases_each : (names : List Alias) → SoundAliases names → Each starts_plain ends_plain (map (S.dotted_alias piece) names) (map (S.dotted_alias terminal) names)
 aliases_each [] h = none
@@ -307,15 +308,15 @@ aliases_each (a ∷ names) h = more (plain_tail (dotted_plain a.name h.0) (as_na
 pub import_are : (names : List Alias) → SoundAliases names → Plain (word piece Key.Import ∷ listed piece (map (S.dotted_alias piece) names)) (word terminal Key.Import ∷ listed terminal (map (S.dotted_alias terminal) names))
 import_are names h = word_plain Key.Import (plain_listed (aliases_each names h))
 
-pub from_plain : (x : Identifier) (names : List Alias) → AreProper (S.names_in x) → SoundUnless (S.are_all names) names
+pub from_plain : (x : Identifier) (names : List Alias) → AreProper (names_in x) → SoundUnless (S.are_all names) names
     → Closed starts_plain ends_import (word piece Key.From ∷ (S.dotted piece false x ++ (word piece Key.Import ∷ S.imported piece names))) (word terminal Key.From ∷ (S.dotted terminal false x ++ (word terminal Key.Import ∷ S.imported terminal names)))
 unfolding operators
 from_plain x names h i = join (keyword Key.From) (join (dotted_plain x h) (imported_are names i) refl) refl
 
--- behind points
+-- after points
 abbrev pub SoundModule : Option Identifier → Type 0
 SoundModule None = Unit {0}
-SoundModule (Some x) = AreProper (S.names_in x)
+SoundModule (Some x) = AreProper (names_in x)
 
 module_are : (m : Option Identifier) (names : List Alias) → SoundModule m → SoundUnless (S.are_all names) names
     → Later behind_points (S.module_name piece true m ++ (word piece Key.Import ∷ S.imported piece names)) (S.module_name terminal true m ++ (word terminal Key.Import ∷ S.imported terminal names))

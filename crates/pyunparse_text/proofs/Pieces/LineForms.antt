@@ -37,7 +37,7 @@ Valued ps ts = Closed starts_item ends_comma ps ts
 pub valued : {xs : List Piece} {ts : List Terminal} → Plain xs ts → Valued xs ts
 valued x = widen more_item more_comma x
 
--- a word and what stands behind it
+-- a word and what stands after it
 pub word_value : (k : Keyword) {xs : List Piece} {ts : List Terminal} → Perhaps starts_item ends_comma xs ts → Closed starts_plain ends_comma (word piece k ∷ xs) (word terminal k ∷ ts)
 unfolding operators
 word_value k x = tail (widen {c = starts_plain} (λ p e. e) more_comma (keyword k)) x refl

@@ -22,6 +22,7 @@ use Rattle.pygrammar.specs.Arguments.{positional}
 use Rattle.pygrammar.specs.Targets.{deleted, all_deleted, single_stored}
 use Rattle.pygrammar.specs.Lines.{Header}
 use Rattle.pygrammar.specs.Grammar as G
+use Rattle.pygrammar.specs.DottedNames.{names_in}
 use Rattle.pygrammar.specs.Forms as F
 use Rattle.pyunparse_text.specs.Terminals.{terminal}
 use Rattle.pyunparse_text.specs.Pieces.{piece}
@@ -132,20 +133,20 @@ unfolding is_name
 name_pointless [] h = refl
 name_pointless (c ∷ cs) h = let w = and_parts (starts_name c) (list_all is_xid_continue cs) h in let s = start_continues c w.0 in rw (s, w.1) refl
 
-one_in : (t : List ℕ) → pointless t ≡ true → S.names_in t ≡ t ∷ []
+one_in : (t : List ℕ) → pointless t ≡ true → names_in t ≡ t ∷ []
 one_in [] h = refl
 one_in (c ∷ cs) h = let w = and_parts (is_xid_continue c) (pointless cs) h in let n = not_point c w.0 in let r = one_in cs w.1 in rw (n, r) refl
 
-names_behind : (t y : List ℕ) → pointless t ≡ true → S.names_in (t ++ (46 ∷ y)) ≡ t ∷ S.names_in y
+names_behind : (t y : List ℕ) → pointless t ≡ true → names_in (t ++ (46 ∷ y)) ≡ t ∷ names_in y
 names_behind [] y h = refl
 names_behind (c ∷ cs) y h = let w = and_parts (is_xid_continue c) (pointless cs) h in let n = not_point c w.0 in let r = names_behind cs y w.1 in rw (n, r) refl
 
-dotted_said : {ts : List Terminal} {x : Identifier} → F.Dotted ts x → Said ts → AreProper (S.names_in x)
+dotted_said : {ts : List Terminal} {x : Identifier} → F.Dotted ts x → Said ts → AreProper (names_in x)
 dotted_said (F.one_name {x = x}) h = let p : IsProper x.form = first h in subst AreProper (sym (one_in x.form (name_pointless x.form p.name))) (p, tt)
 dotted_said (F.dot_name {x = x} {y = y} d) h = let p : IsProper x.form = first h in subst AreProper (sym (names_behind x.form y (name_pointless x.form p.name))) (p, dotted_said d (rest (rest h)))
 
 abbrev SoundAlias : Alias → Type 0
-SoundAlias a = AreProper (S.names_in a.name) × MaybeProper a.asname
+SoundAlias a = AreProper (names_in a.name) × MaybeProper a.asname
 
 dotted_alias_said : (ts : List Terminal) (a : Alias) → F.DottedAlias ts a → Said ts → SoundAlias a
 dotted_alias_said _ _ (F.dotted_as {ts = ts} {us = us} p q) h = (dotted_said p (front ts us h), as_said q (back ts us h))
@@ -168,7 +169,7 @@ imported_said F.all_names h = tt
 imported_said (F.names {as_ = as_} c) h = unless (S.are_all as_) as_ (commas_said Alias F.NameAlias SoundName SoundNames tt (λ a as_ p q. (p.0, p.1, q)) name_alias_said c h)
 imported_said (F.bracketed_names {ts = ts} {as_ = as_} c) h = unless (S.are_all as_) as_ (last_said Alias F.NameAlias SoundName SoundNames tt (λ a as_ p q. (p.0, p.1, q)) name_alias_said c (front ts (Op Sign.RPar ∷ []) (rest h)))
 
-from_read : (n : ℕ) (m : Identifier) (as_ : List Alias) → AreProper (S.names_in m) → SoundUnless (S.are_all as_) as_ → AreRead (S.simple_tokens piece (Trees.ImportFrom (Some m) as_ n)) (S.simple_tokens terminal (Trees.ImportFrom (Some m) as_ n))
+from_read : (n : ℕ) (m : Identifier) (as_ : List Alias) → AreProper (names_in m) → SoundUnless (S.are_all as_) as_ → AreRead (S.simple_tokens piece (Trees.ImportFrom (Some m) as_ n)) (S.simple_tokens terminal (Trees.ImportFrom (Some m) as_ n))
 from_read zero m as_ h i = closed_read (from_plain m as_ h i)
 from_read (suc n) m as_ h i = later_read (from_points n (Some m) as_ h i)
 

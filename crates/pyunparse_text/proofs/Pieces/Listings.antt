@@ -197,7 +197,7 @@ pub subscript_behind : {xs ys : List Piece} {ts us : List Terminal} → Plain xs
 unfolding operators
 subscript_behind x y = join x y refl
 
--- signs and what stands behind them
+-- signs and what stands after them
 pub step_form : {xs : List Piece} {ts : List Terminal} → Plain xs ts → Closed starts_part ends_part (tight piece Colon ∷ xs) (tight terminal Colon ∷ ts)
 unfolding operators
 step_form x = widen {c = starts_part} (λ p e. e) (λ p e. more_colon p (more_comma p e)) (join second_colon x refl)

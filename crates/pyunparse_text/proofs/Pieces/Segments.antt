@@ -70,7 +70,7 @@ pub data Each (b e : List Piece) : List (List Piece) → List (List Terminal) �
   none : Each b e [] []
   more : {ps : List Piece} {ts : List Terminal} {pss : List (List Piece)} {tss : List (List Terminal)} → Closed b e ps ts → Each b e pss tss → Each b e (ps ∷ pss) (ts ∷ tss)
 
--- something, and perhaps more behind it
+-- something, and perhaps more after it
 pub tail : {a c d : List Piece} {xs ys : List Piece} {ts us : List Terminal} → Closed a d xs ts → Perhaps c d ys us → suit d c ≡ true → Closed a d (xs ++ ys) (ts ++ us)
 tail {xs = xs} {ts = ts} x nothing s = rw (append-nil xs, append-nil ts) x
 tail x (some y) s = join x y s

@@ -170,7 +170,7 @@ signs_form Is.Within = token starts_behind starts_behind (Word Key.In) false fal
 signs_form Is.IsNot = join (token starts_behind starts_behind (Word Key.Is) false false (fair_word Key.Is) refl refl refl refl) (token starts_behind starts_behind (Word Key.Not) false false (fair_word Key.Not) refl refl refl refl) refl
 signs_form Is.NotIn = join (token starts_behind starts_behind (Word Key.Not) false false (fair_word Key.Not) refl refl refl refl) (token starts_behind starts_behind (Word Key.In) false false (fair_word Key.In) refl refl refl refl) refl
 
--- a comparison's signs, each with what stands behind it
+-- a comparison's signs, each with what stands after it
 pub compared_more : (o : Comparison) {xs ys : List Piece} {ts us : List Terminal} → Plain xs ts → Perhaps starts_behind ends_plain ys us → Closed starts_behind ends_plain (map (free piece) (comparison_signs o) ++ (xs ++ ys)) (map (free terminal) (comparison_signs o) ++ (ts ++ us))
 unfolding operators
 compared_more o x y = join (signs_form o) (tail x y refl) refl

@@ -23,7 +23,7 @@ use Rattle.pyunparse_text.specs.Inner.PlainLines.{is_indent, is_dedent, level_be
 use Rattle.pyunparse_text.proofs.LexemeFronts.PieceFronts.{ArePieces}
 use Rattle.pyunparse_text.proofs.Listings.Relisting.{entries_all, encoding_entry}
 
--- whether a line is open behind a token
+-- whether a line is open after a token
 abbrev opens_line : Kind → Bool
 opens_line kinds.Name = true
 opens_line kinds.Number = true
@@ -64,7 +64,7 @@ one_token text e o kinds.Encoding k h = cc
 one_token text e o kinds.Comment k h = cc
 one_token text e o kinds.Nl k h = cc
 
--- and says whether a line is open behind it
+-- and says whether a line is open after it
 open_behind : (e : Entry) (before : List Entry) (o : Bool) (k : Kind) → e.kind ≡ k → has_place o k ≡ true → is_open (e ∷ before) ≡ opens_line k
 open_behind e before o kinds.Name k h = rw k refl
 open_behind e before o kinds.Number k h = rw k refl
@@ -178,7 +178,7 @@ counted_indent m n before c =
     let y : count_by is_dedent (indent n ∷ before) ≡ 0 + count_by is_dedent before = count_cons is_dedent (indent n) before in
     omega (arith, x, y, c)
 
--- behind the tokens of a level
+-- after the tokens of a level
 record Behind (ts us : List PlainToken) (n : ℕ) (before : List PlainToken) : Type 0 where
   pub passed : List PlainToken
   pub counted : Counted n passed
@@ -273,7 +273,7 @@ level_unplaced before = let i = count_unplaced is_indent before in let d = count
 line_unplaced : (level : ℕ) (line : List source.Token) (xs : List source.Line) (ys : List PlainLine) (n : ℕ) → level ≡ n → map unplaced_line xs ≡ ys → map unplaced_line (record { level = level; tokens = line } ∷ xs) ≡ record { level = n; tokens = map unplaced line } ∷ ys
 line_unplaced level line xs ys n l e = rw (l, e) refl
 
--- one token of a kind, by what is so of the tokens behind it
+-- one token of a kind, by what is so of the tokens after it
 record Unplaces (before line ts : List source.Token) : Type 0 where
   pub is : map unplaced_line (source.lines_from before line ts) ≡ lines_from (map unplaced before) (map unplaced line) (map unplaced ts)
 

@@ -101,7 +101,7 @@ begins_any t c (o ∷ os) a e =
     (λ (h : list_any (λ o. starts_with nat_eq o (t ++ c ∷ [])) os ≡ true). begins_any t c os q.1 h)
     (or_parts (starts_with nat_eq o (t ++ c ∷ [])) (list_any (λ o. starts_with nat_eq o (t ++ c ∷ [])) os) e)
 
--- behind no operator does a name, a number or a string make a longer one
+-- after no operator does a name, a number or a string make a longer one
 plain_head : (k : Kind) (t u : List ℕ) → is_token k u ≡ true → is_operator_kind k ≡ false → begins_operator (t ++ take 1 u) ≡ false
 plain_head k t [] e f = absurd (none_empty k e)
 plain_head k t (c ∷ u) e f = cases (begins_operator (t ++ c ∷ [])) (λ h.
@@ -112,7 +112,7 @@ plain_head k t (c ∷ u) e f = cases (begins_operator (t ++ c ∷ [])) (λ h.
     let n = no_token k c u o (λ z. g.digit) (λ z. absurd (let y : true ≡ false = sym z ∙ f in cc)) in
     cc)
 
--- An expression behind a sign
+-- An expression after a sign
 pairs_all : (p : List ℕ → List ℕ → Bool) (ts us : List (List ℕ)) (t u : List ℕ) → list_all (λ x. list_all (p x) us) ts ≡ true → is_among ts t ≡ true → is_among us u ≡ true → p t u ≡ true
 pairs_all p ts us t u a e f = words_all (p t) u us (words_all (λ x. list_all (p x) us) t ts a e) f
 
@@ -139,7 +139,7 @@ behind_leading p q a b =
     (bool_cases (is_operator_kind q.kind)) in
     rw (x.0, n, m) refl
 
--- A sign behind an expression
+-- A sign after an expression
 pub before_trailing : (p q : Piece) → ends_expression p ≡ true → is_sign trailing q ≡ true → stay_apart p q ≡ true
 before_trailing p q a b =
     let x0 = and_parts (is_token p.kind p.text) ((not (is_operator_kind p.kind) || is_among closings p.text) && not p.behind) a in
@@ -163,7 +163,7 @@ before_trailing p q a b =
     none true = refl
     none false = refl
 
--- A point behind an expression: a number has a blank before it
+-- A point after an expression: a number has a blank before it
 pub before_point : (p q : Piece) → ends_expression p ≡ true → is_operator_kind q.kind ≡ true → q.text ≡ codes "." → fit p q ≡ true
 before_point p q a k t =
     let x0 = and_parts (is_token p.kind p.text) ((not (is_operator_kind p.kind) || is_among closings p.text) && not p.behind) a in
@@ -190,7 +190,7 @@ before_point p q a k t =
     blank true = refl
     blank false = refl
 
--- A name behind a point
+-- A name after a point
 pub behind_point : (p q : Piece) → is_operator_kind p.kind ≡ true → p.text ≡ codes "." → q.kind ≡ kinds.Name → is_token q.kind q.text ≡ true → stay_apart p q ≡ true
 behind_point p q k t n e =
     let m : begins_operator (p.text ++ take 1 q.text) ≡ false = plain_head q.kind p.text q.text e (rw n refl) in

@@ -34,7 +34,7 @@ pub lines_both : (ls ms : List Line) → lines_text (ls ++ ms) ≡ lines_text ls
 lines_both [] ms = refl
 lines_both (l ∷ ls) ms = ap (λ t. line_text l ++ t) (lines_both ls ms) ∙ sym (append_assoc (line_text l) (lines_text ls) (lines_text ms))
 
--- Lines that begin at a level stand behind lines none of which is of a lower one.
+-- Lines that begin at a level follow lines none of which is of a lower one.
 abbrev pub begin_at : ℕ → List Line → Bool
 begin_at n [] = true
 begin_at n (l ∷ ls) = l.level == n

@@ -10,7 +10,7 @@ use Rattle.pyunparse_text.specs.Spacing.{Piece, is_token, is_operator_kind, touc
 abbrev pub is_among : List (List ℕ) → List ℕ → Bool
 is_among ts t = list_any (bytes_eq t) ts
 
--- operators behind which an expression may stand without a blank: opening brackets, prefixes, and those with none on either side
+-- operators after which an expression may stand without a blank: opening brackets, prefixes, and those with none on either side
 abbrev pub leading : List (List ℕ)
 leading = codes "(" ∷ codes "[" ∷ codes "{" ∷ codes "-" ∷ codes "+" ∷ codes "~" ∷ codes "*" ∷ codes "**" ∷ codes "@" ∷ codes "=" ∷ codes ":" ∷ []
 
@@ -38,25 +38,25 @@ begins_item p = begins_expression p || ((is_operator_kind p.kind && is_among sta
 abbrev pub closings : List (List ℕ)
 closings = codes ")" ∷ codes "]" ∷ codes "}" ∷ codes "..." ∷ []
 
--- a name, a number, a string, a closing bracket or an ellipsis, not close to what stands behind it
+-- a name, a number, a string, a closing bracket or an ellipsis, not close to what stands after it
 abbrev pub ends_expression : Piece → Bool
 ends_expression p = is_token p.kind p.text && ((not (is_operator_kind p.kind) || is_among closings p.text) && not p.behind)
 
--- not close to what stands behind, or before
+-- not close to what comes after, or before
 abbrev pub is_free_behind : Piece → Bool
 is_free_behind p = not p.behind
 
 abbrev pub is_free_before : Piece → Bool
 is_free_before p = not p.before
 
--- operators that may stand behind an expression without a blank
+-- operators that may stand after an expression without a blank
 abbrev pub trailing : List (List ℕ)
 trailing = codes ")" ∷ codes "]" ∷ codes "}" ∷ codes "," ∷ codes ":" ∷ codes "=" ∷ codes "(" ∷ codes "[" ∷ []
 
 abbrev pub is_sign : List (List ℕ) → Piece → Bool
 is_sign ts p = is_operator_kind p.kind && is_among ts p.text
 
--- two neighbours: a blank between them, or told apart without
+-- two neighbours: with a blank between them, or told apart without one
 abbrev pub fit : Piece → Piece → Bool
 fit p q = not (touches p q) || stay_apart p q
 

@@ -9,11 +9,11 @@ is_indent t = elim t.kind [ kinds.Indent ↦ true | _ ↦ false ]
 abbrev pub is_dedent : PlainToken → Bool
 is_dedent t = elim t.kind [ kinds.Dedent ↦ true | _ ↦ false ]
 
--- the levels that are open behind some tokens: INDENTs less DEDENTs
+-- the levels that are open after some tokens: INDENTs less DEDENTs
 abbrev pub level_behind : List PlainToken → ℕ
 level_behind before = count_by is_indent before - count_by is_dedent before
 
--- the lines from a place on: the tokens before it, those of its line so far, and those behind it
+-- the lines from a place on: the tokens before it, those of its line so far, and those after it
 abbrev pub lines_from : List PlainToken → List PlainToken → List PlainToken → List PlainLine
 lines_from before line [] = []
 lines_from before line (t ∷ ts) = elim t.kind [

@@ -24,7 +24,7 @@ blanks t = record { «class» = Blanks; text = t }
 abbrev pub feed : Lexeme
 feed = record { «class» = LineEnd; text = 10 ∷ [] }
 
--- the lexemes behind a piece of its line: a blank's where one stands, and each piece's own
+-- the lexemes after a piece of its line: a blank's where one stands, and each piece's own
 abbrev pub lexemes_behind : Piece → List Piece → List Lexeme
 lexemes_behind p [] = []
 lexemes_behind p (q ∷ qs) = (if touches p q then [] else blanks (32 ∷ []) ∷ []) ++ (lexeme_of q ∷ lexemes_behind q qs)

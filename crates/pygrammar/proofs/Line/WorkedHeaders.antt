@@ -1,64 +1,21 @@
--- Worked lines: the reader computes their forms.
+-- Worked lines that begin as a header or a decorator: the reader computes their forms.
 --
 -- Carries: no contract; its rows are computed as it is checked.
 use Rattle.std.proofs.Common.{◌≡◌, refl, [], ◌∷◌, Some, None, true, false}
 use Rattle.pylex_lexeme.specs.declared.kinds.Exact.TheVariants as Sign
 use Rattle.pytoken.specs.declared.keywords.Keyword.TheVariants as Key
-use Rattle.pytree_node.specs.declared.operators.Comparison.TheVariants as Is
+use Rattle.pytree_node.specs.declared.operators.Operator.TheVariants as Bin
 use Rattle.pytree_node.specs.declared.operators.Context.TheVariants.{Load, Store}
 use Rattle.pytree_node.specs.declared.profiles.Profile.TheVariants.{Py311}
 use Rattle.pytree_node.specs.Trees as Trees
 use Rattle.pytree_node.specs.Values as Values
 use Rattle.pytoken.specs.Terminals.{Op, Word, in_form, Whole}
 use Rattle.pygrammar.specs.Reader.{Found, NoForm}
-use Rattle.pytree_node.specs.Trees.{Assign, AnnAssign, ImportFrom, ExprOf, Pass}
-use Rattle.pygrammar.specs.Lines.{simple_form, header_form, if_header, elif_header, else_header, loop_header, with_header, try_header, except_header, finally_header, def_header, while_head, for_head, function_head}
-use Rattle.pygrammar.specs.Forms.{alias, item}
+use Rattle.pytree_node.specs.Trees.{Assign, AnnAssign, ExprOf, Pass}
+use Rattle.pygrammar.specs.Lines.{header_form, if_header, elif_header, else_header, loop_header, with_header, try_header, except_header, finally_header, def_header, while_head, for_head, function_head, decorator_form, class_head}
+use Rattle.pygrammar.specs.Forms.{item}
 use Rattle.pygrammar.specs.LineReader.{read_line}
-
--- import a as b.c
-row_67 : read_line Py311 (Word Key.Import ∷ in_form (97 ∷ []) ∷ Word Key.As ∷ in_form (98 ∷ []) ∷ Op Sign.Dot ∷ in_form (99 ∷ []) ∷ []) ≡ NoForm
-row_67 = refl
-
--- from . import (a)
-row_68 : read_line Py311 (Word Key.From ∷ Op Sign.Dot ∷ Word Key.Import ∷ Op Sign.LPar ∷ in_form (97 ∷ []) ∷ Op Sign.RPar ∷ []) ≡ Found (simple_form (ImportFrom None (alias (97 ∷ []) None ∷ []) 1 ∷ [])) []
-row_68 = refl
-
--- from . import a
-row_69 : read_line Py311 (Word Key.From ∷ Op Sign.Dot ∷ Word Key.Import ∷ in_form (97 ∷ []) ∷ []) ≡ Found (simple_form (ImportFrom None (alias (97 ∷ []) None ∷ []) 1 ∷ [])) []
-row_69 = refl
-
--- from ... import a, b as c
-row_70 : read_line Py311 (Word Key.From ∷ Op Sign.Ellipsis ∷ Word Key.Import ∷ in_form (97 ∷ []) ∷ Op Sign.Comma ∷ in_form (98 ∷ []) ∷ Word Key.As ∷ in_form (99 ∷ []) ∷ []) ≡ Found (simple_form (ImportFrom None (alias (97 ∷ []) None ∷ alias (98 ∷ []) (Some (99 ∷ [])) ∷ []) 3 ∷ [])) []
-row_70 = refl
-
--- from .. .... a.b import *
-row_71 : read_line Py311 (Word Key.From ∷ Op Sign.Dot ∷ Op Sign.Dot ∷ Op Sign.Ellipsis ∷ Op Sign.Dot ∷ in_form (97 ∷ []) ∷ Op Sign.Dot ∷ in_form (98 ∷ []) ∷ Word Key.Import ∷ Op Sign.Star ∷ []) ≡ Found (simple_form (ImportFrom (Some (97 ∷ 46 ∷ 98 ∷ [])) (alias (42 ∷ []) None ∷ []) 6 ∷ [])) []
-row_71 = refl
-
--- from a import (b, c as d,)
-row_72 : read_line Py311 (Word Key.From ∷ in_form (97 ∷ []) ∷ Word Key.Import ∷ Op Sign.LPar ∷ in_form (98 ∷ []) ∷ Op Sign.Comma ∷ in_form (99 ∷ []) ∷ Word Key.As ∷ in_form (100 ∷ []) ∷ Op Sign.Comma ∷ Op Sign.RPar ∷ []) ≡ Found (simple_form (ImportFrom (Some (97 ∷ [])) (alias (98 ∷ []) None ∷ alias (99 ∷ []) (Some (100 ∷ [])) ∷ []) 0 ∷ [])) []
-row_72 = refl
-
--- from a import ()
-row_73 : read_line Py311 (Word Key.From ∷ in_form (97 ∷ []) ∷ Word Key.Import ∷ Op Sign.LPar ∷ Op Sign.RPar ∷ []) ≡ NoForm
-row_73 = refl
-
--- from a import b,
-row_74 : read_line Py311 (Word Key.From ∷ in_form (97 ∷ []) ∷ Word Key.Import ∷ in_form (98 ∷ []) ∷ Op Sign.Comma ∷ []) ≡ NoForm
-row_74 = refl
-
--- from import a
-row_75 : read_line Py311 (Word Key.From ∷ Word Key.Import ∷ in_form (97 ∷ []) ∷ []) ≡ NoForm
-row_75 = refl
-
--- from a import (*)
-row_76 : read_line Py311 (Word Key.From ∷ in_form (97 ∷ []) ∷ Word Key.Import ∷ Op Sign.LPar ∷ Op Sign.Star ∷ Op Sign.RPar ∷ []) ≡ NoForm
-row_76 = refl
-
--- from .a.b import c as d
-row_77 : read_line Py311 (Word Key.From ∷ Op Sign.Dot ∷ in_form (97 ∷ []) ∷ Op Sign.Dot ∷ in_form (98 ∷ []) ∷ Word Key.Import ∷ in_form (99 ∷ []) ∷ Word Key.As ∷ in_form (100 ∷ []) ∷ []) ≡ Found (simple_form (ImportFrom (Some (97 ∷ 46 ∷ 98 ∷ [])) (alias (99 ∷ []) (Some (100 ∷ [])) ∷ []) 1 ∷ [])) []
-row_77 = refl
+use Rattle.pytree_node.specs.declared.operators.Comparison.TheVariants as Is
 
 -- if x: pass
 row_78 : read_line Py311 (Word Key.If ∷ in_form (120 ∷ []) ∷ Op Sign.Colon ∷ Word Key.Pass ∷ []) ≡ Found (header_form (if_header (Trees.Name (120 ∷ []) Load)) (Some (Pass ∷ []))) []
@@ -283,3 +240,175 @@ row_132 = refl
 -- with a as *(b, *c): d
 row_133 : read_line Py311 (Word Key.With ∷ in_form (97 ∷ []) ∷ Word Key.As ∷ Op Sign.Star ∷ Op Sign.LPar ∷ in_form (98 ∷ []) ∷ Op Sign.Comma ∷ Op Sign.Star ∷ in_form (99 ∷ []) ∷ Op Sign.RPar ∷ Op Sign.Colon ∷ in_form (100 ∷ []) ∷ []) ≡ Found (header_form (with_header false (item (Trees.Name (97 ∷ []) Load) (Some (Trees.Starred (Trees.Tuple (Trees.an_expr (Trees.Name (98 ∷ []) Store) (Trees.an_expr (Trees.Starred (Trees.Name (99 ∷ []) Store) Store) Trees.no_exprs)) Store) Store)) ∷ [])) (Some (ExprOf (Trees.Name (100 ∷ []) Load) ∷ []))) []
 row_133 = refl
+
+-- with (a as *b): c
+row_134 : read_line Py311 (Word Key.With ∷ Op Sign.LPar ∷ in_form (97 ∷ []) ∷ Word Key.As ∷ Op Sign.Star ∷ in_form (98 ∷ []) ∷ Op Sign.RPar ∷ Op Sign.Colon ∷ in_form (99 ∷ []) ∷ []) ≡ Found (header_form (with_header false (item (Trees.Name (97 ∷ []) Load) (Some (Trees.Starred (Trees.Name (98 ∷ []) Store) Store)) ∷ [])) (Some (ExprOf (Trees.Name (99 ∷ []) Load) ∷ []))) []
+row_134 = refl
+
+-- with a,: b
+row_135 : read_line Py311 (Word Key.With ∷ in_form (97 ∷ []) ∷ Op Sign.Comma ∷ Op Sign.Colon ∷ in_form (98 ∷ []) ∷ []) ≡ NoForm
+row_135 = refl
+
+-- with (): pass
+row_136 : read_line Py311 (Word Key.With ∷ Op Sign.LPar ∷ Op Sign.RPar ∷ Op Sign.Colon ∷ Word Key.Pass ∷ []) ≡ Found (header_form (with_header false (item (Trees.Tuple Trees.no_exprs Load) None ∷ [])) (Some (Pass ∷ []))) []
+row_136 = refl
+
+-- with (a): b: c
+row_137 : read_line Py311 (Word Key.With ∷ Op Sign.LPar ∷ in_form (97 ∷ []) ∷ Op Sign.RPar ∷ Op Sign.Colon ∷ in_form (98 ∷ []) ∷ Op Sign.Colon ∷ in_form (99 ∷ []) ∷ []) ≡ Found (header_form (with_header false (item (Trees.Name (97 ∷ []) Load) None ∷ [])) (Some (AnnAssign (Trees.Name (98 ∷ []) Store) (Trees.Name (99 ∷ []) Load) None true ∷ []))) []
+row_137 = refl
+
+-- with (a): lambda: b
+row_138 : read_line Py311 (Word Key.With ∷ Op Sign.LPar ∷ in_form (97 ∷ []) ∷ Op Sign.RPar ∷ Op Sign.Colon ∷ Word Key.Lambda ∷ Op Sign.Colon ∷ in_form (98 ∷ []) ∷ []) ≡ Found (header_form (with_header false (item (Trees.Name (97 ∷ []) Load) None ∷ [])) (Some (ExprOf (Trees.Lambda (Trees.arguments Trees.no_arg Trees.no_arg Trees.absent_arg Trees.no_arg Trees.no_optional Trees.absent_arg Trees.no_exprs) (Trees.Name (98 ∷ []) Load)) ∷ []))) []
+row_138 = refl
+
+-- with lambda: (a): b
+row_139 : read_line Py311 (Word Key.With ∷ Word Key.Lambda ∷ Op Sign.Colon ∷ Op Sign.LPar ∷ in_form (97 ∷ []) ∷ Op Sign.RPar ∷ Op Sign.Colon ∷ in_form (98 ∷ []) ∷ []) ≡ Found (header_form (with_header false (item (Trees.Lambda (Trees.arguments Trees.no_arg Trees.no_arg Trees.absent_arg Trees.no_arg Trees.no_optional Trees.absent_arg Trees.no_exprs) (Trees.Name (97 ∷ []) Load)) None ∷ [])) (Some (ExprOf (Trees.Name (98 ∷ []) Load) ∷ []))) []
+row_139 = refl
+
+-- with (lambda: a): b
+row_140 : read_line Py311 (Word Key.With ∷ Op Sign.LPar ∷ Word Key.Lambda ∷ Op Sign.Colon ∷ in_form (97 ∷ []) ∷ Op Sign.RPar ∷ Op Sign.Colon ∷ in_form (98 ∷ []) ∷ []) ≡ Found (header_form (with_header false (item (Trees.Lambda (Trees.arguments Trees.no_arg Trees.no_arg Trees.absent_arg Trees.no_arg Trees.no_optional Trees.absent_arg Trees.no_exprs) (Trees.Name (97 ∷ []) Load)) None ∷ [])) (Some (ExprOf (Trees.Name (98 ∷ []) Load) ∷ []))) []
+row_140 = refl
+
+-- with (a as b) as c: d
+row_141 : read_line Py311 (Word Key.With ∷ Op Sign.LPar ∷ in_form (97 ∷ []) ∷ Word Key.As ∷ in_form (98 ∷ []) ∷ Op Sign.RPar ∷ Word Key.As ∷ in_form (99 ∷ []) ∷ Op Sign.Colon ∷ in_form (100 ∷ []) ∷ []) ≡ NoForm
+row_141 = refl
+
+-- with (a,): b
+row_142 : read_line Py311 (Word Key.With ∷ Op Sign.LPar ∷ in_form (97 ∷ []) ∷ Op Sign.Comma ∷ Op Sign.RPar ∷ Op Sign.Colon ∷ in_form (98 ∷ []) ∷ []) ≡ Found (header_form (with_header false (item (Trees.Name (97 ∷ []) Load) None ∷ [])) (Some (ExprOf (Trees.Name (98 ∷ []) Load) ∷ []))) []
+row_142 = refl
+
+-- with (a,) as b: c
+row_143 : read_line Py311 (Word Key.With ∷ Op Sign.LPar ∷ in_form (97 ∷ []) ∷ Op Sign.Comma ∷ Op Sign.RPar ∷ Word Key.As ∷ in_form (98 ∷ []) ∷ Op Sign.Colon ∷ in_form (99 ∷ []) ∷ []) ≡ Found (header_form (with_header false (item (Trees.Tuple (Trees.an_expr (Trees.Name (97 ∷ []) Load) Trees.no_exprs) Load) (Some (Trees.Name (98 ∷ []) Store)) ∷ [])) (Some (ExprOf (Trees.Name (99 ∷ []) Load) ∷ []))) []
+row_143 = refl
+
+-- with (a if b else c): d
+row_144 : read_line Py311 (Word Key.With ∷ Op Sign.LPar ∷ in_form (97 ∷ []) ∷ Word Key.If ∷ in_form (98 ∷ []) ∷ Word Key.Else ∷ in_form (99 ∷ []) ∷ Op Sign.RPar ∷ Op Sign.Colon ∷ in_form (100 ∷ []) ∷ []) ≡ Found (header_form (with_header false (item (Trees.IfExp (Trees.Name (98 ∷ []) Load) (Trees.Name (97 ∷ []) Load) (Trees.Name (99 ∷ []) Load)) None ∷ [])) (Some (ExprOf (Trees.Name (100 ∷ []) Load) ∷ []))) []
+row_144 = refl
+
+-- with (a) if b else c: d
+row_145 : read_line Py311 (Word Key.With ∷ Op Sign.LPar ∷ in_form (97 ∷ []) ∷ Op Sign.RPar ∷ Word Key.If ∷ in_form (98 ∷ []) ∷ Word Key.Else ∷ in_form (99 ∷ []) ∷ Op Sign.Colon ∷ in_form (100 ∷ []) ∷ []) ≡ Found (header_form (with_header false (item (Trees.IfExp (Trees.Name (98 ∷ []) Load) (Trees.Name (97 ∷ []) Load) (Trees.Name (99 ∷ []) Load)) None ∷ [])) (Some (ExprOf (Trees.Name (100 ∷ []) Load) ∷ []))) []
+row_145 = refl
+
+-- with (a, b) + c: d
+row_146 : read_line Py311 (Word Key.With ∷ Op Sign.LPar ∷ in_form (97 ∷ []) ∷ Op Sign.Comma ∷ in_form (98 ∷ []) ∷ Op Sign.RPar ∷ Op Sign.Plus ∷ in_form (99 ∷ []) ∷ Op Sign.Colon ∷ in_form (100 ∷ []) ∷ []) ≡ Found (header_form (with_header false (item (Trees.BinOp (Trees.Tuple (Trees.an_expr (Trees.Name (97 ∷ []) Load) (Trees.an_expr (Trees.Name (98 ∷ []) Load) Trees.no_exprs)) Load) Bin.Add (Trees.Name (99 ∷ []) Load)) None ∷ [])) (Some (ExprOf (Trees.Name (100 ∷ []) Load) ∷ []))) []
+row_146 = refl
+
+-- with (a, lambda: b): c
+row_147 : read_line Py311 (Word Key.With ∷ Op Sign.LPar ∷ in_form (97 ∷ []) ∷ Op Sign.Comma ∷ Word Key.Lambda ∷ Op Sign.Colon ∷ in_form (98 ∷ []) ∷ Op Sign.RPar ∷ Op Sign.Colon ∷ in_form (99 ∷ []) ∷ []) ≡ Found (header_form (with_header false (item (Trees.Name (97 ∷ []) Load) None ∷ item (Trees.Lambda (Trees.arguments Trees.no_arg Trees.no_arg Trees.absent_arg Trees.no_arg Trees.no_optional Trees.absent_arg Trees.no_exprs) (Trees.Name (98 ∷ []) Load)) None ∷ [])) (Some (ExprOf (Trees.Name (99 ∷ []) Load) ∷ []))) []
+row_147 = refl
+
+-- def f(): pass
+row_148 : read_line Py311 (Word Key.Def ∷ in_form (102 ∷ []) ∷ Op Sign.LPar ∷ Op Sign.RPar ∷ Op Sign.Colon ∷ Word Key.Pass ∷ []) ≡ Found (header_form (def_header (function_head false (102 ∷ []) [] (Trees.arguments Trees.no_arg Trees.no_arg Trees.absent_arg Trees.no_arg Trees.no_optional Trees.absent_arg Trees.no_exprs) None)) (Some (Pass ∷ []))) []
+row_148 = refl
+
+-- def f(a, b: int = 1, /, *c: *d, e=2, **g) -> h: pass
+row_149 : read_line Py311 (Word Key.Def ∷ in_form (102 ∷ []) ∷ Op Sign.LPar ∷ in_form (97 ∷ []) ∷ Op Sign.Comma ∷ in_form (98 ∷ []) ∷ Op Sign.Colon ∷ in_form (105 ∷ 110 ∷ 116 ∷ []) ∷ Op Sign.Equal ∷ Whole 1 ∷ Op Sign.Comma ∷ Op Sign.Slash ∷ Op Sign.Comma ∷ Op Sign.Star ∷ in_form (99 ∷ []) ∷ Op Sign.Colon ∷ Op Sign.Star ∷ in_form (100 ∷ []) ∷ Op Sign.Comma ∷ in_form (101 ∷ []) ∷ Op Sign.Equal ∷ Whole 2 ∷ Op Sign.Comma ∷ Op Sign.DoubleStar ∷ in_form (103 ∷ []) ∷ Op Sign.RPar ∷ Op Sign.RArrow ∷ in_form (104 ∷ []) ∷ Op Sign.Colon ∷ Word Key.Pass ∷ []) ≡ Found (header_form (def_header (function_head false (102 ∷ []) [] (Trees.arguments (Trees.an_arg (Trees.arg (97 ∷ []) Trees.absent) (Trees.an_arg (Trees.arg (98 ∷ []) (Trees.present (Trees.Name (105 ∷ 110 ∷ 116 ∷ []) Load))) Trees.no_arg)) Trees.no_arg (Trees.present_arg (Trees.arg (99 ∷ []) (Trees.present (Trees.Starred (Trees.Name (100 ∷ []) Load) Load)))) (Trees.an_arg (Trees.arg (101 ∷ []) Trees.absent) Trees.no_arg) (Trees.an_optional (Trees.present (Trees.Constant (Values.Int 2))) Trees.no_optional) (Trees.present_arg (Trees.arg (103 ∷ []) Trees.absent)) (Trees.an_expr (Trees.Constant (Values.Int 1)) Trees.no_exprs)) (Some (Trees.Name (104 ∷ []) Load)))) (Some (Pass ∷ []))) []
+row_149 = refl
+
+-- def f(a=1, b): pass
+row_150 : read_line Py311 (Word Key.Def ∷ in_form (102 ∷ []) ∷ Op Sign.LPar ∷ in_form (97 ∷ []) ∷ Op Sign.Equal ∷ Whole 1 ∷ Op Sign.Comma ∷ in_form (98 ∷ []) ∷ Op Sign.RPar ∷ Op Sign.Colon ∷ Word Key.Pass ∷ []) ≡ NoForm
+row_150 = refl
+
+-- def f(*): pass
+row_151 : read_line Py311 (Word Key.Def ∷ in_form (102 ∷ []) ∷ Op Sign.LPar ∷ Op Sign.Star ∷ Op Sign.RPar ∷ Op Sign.Colon ∷ Word Key.Pass ∷ []) ≡ NoForm
+row_151 = refl
+
+-- def f(a):
+row_152 : read_line Py311 (Word Key.Def ∷ in_form (102 ∷ []) ∷ Op Sign.LPar ∷ in_form (97 ∷ []) ∷ Op Sign.RPar ∷ Op Sign.Colon ∷ []) ≡ Found (header_form (def_header (function_head false (102 ∷ []) [] (Trees.arguments Trees.no_arg (Trees.an_arg (Trees.arg (97 ∷ []) Trees.absent) Trees.no_arg) Trees.absent_arg Trees.no_arg Trees.no_optional Trees.absent_arg Trees.no_exprs) None)) None) []
+row_152 = refl
+
+-- def f:
+row_153 : read_line Py311 (Word Key.Def ∷ in_form (102 ∷ []) ∷ Op Sign.Colon ∷ []) ≡ NoForm
+row_153 = refl
+
+-- def f() -> *a:
+row_154 : read_line Py311 (Word Key.Def ∷ in_form (102 ∷ []) ∷ Op Sign.LPar ∷ Op Sign.RPar ∷ Op Sign.RArrow ∷ Op Sign.Star ∷ in_form (97 ∷ []) ∷ Op Sign.Colon ∷ []) ≡ NoForm
+row_154 = refl
+
+-- class C: pass
+row_155 : read_line Py311 (Word Key.Class ∷ in_form (67 ∷ []) ∷ Op Sign.Colon ∷ Word Key.Pass ∷ []) ≡ Found (header_form (def_header (class_head (67 ∷ []) [] ([]) Trees.no_keyword)) (Some (Pass ∷ []))) []
+row_155 = refl
+
+-- class C(): pass
+row_156 : read_line Py311 (Word Key.Class ∷ in_form (67 ∷ []) ∷ Op Sign.LPar ∷ Op Sign.RPar ∷ Op Sign.Colon ∷ Word Key.Pass ∷ []) ≡ Found (header_form (def_header (class_head (67 ∷ []) [] ([]) Trees.no_keyword)) (Some (Pass ∷ []))) []
+row_156 = refl
+
+-- class C(a, *b, c=d, **e): pass
+row_157 : read_line Py311 (Word Key.Class ∷ in_form (67 ∷ []) ∷ Op Sign.LPar ∷ in_form (97 ∷ []) ∷ Op Sign.Comma ∷ Op Sign.Star ∷ in_form (98 ∷ []) ∷ Op Sign.Comma ∷ in_form (99 ∷ []) ∷ Op Sign.Equal ∷ in_form (100 ∷ []) ∷ Op Sign.Comma ∷ Op Sign.DoubleStar ∷ in_form (101 ∷ []) ∷ Op Sign.RPar ∷ Op Sign.Colon ∷ Word Key.Pass ∷ []) ≡ Found (header_form (def_header (class_head (67 ∷ []) [] ((Trees.Name (97 ∷ []) Load) ∷ (Trees.Starred (Trees.Name (98 ∷ []) Load) Load) ∷ []) (Trees.a_keyword (Some (99 ∷ [])) (Trees.Name (100 ∷ []) Load) (Trees.a_keyword None (Trees.Name (101 ∷ []) Load) Trees.no_keyword)))) (Some (Pass ∷ []))) []
+row_157 = refl
+
+-- class C(a for a in b): pass
+row_158 : read_line Py311 (Word Key.Class ∷ in_form (67 ∷ []) ∷ Op Sign.LPar ∷ in_form (97 ∷ []) ∷ Word Key.For ∷ in_form (97 ∷ []) ∷ Word Key.In ∷ in_form (98 ∷ []) ∷ Op Sign.RPar ∷ Op Sign.Colon ∷ Word Key.Pass ∷ []) ≡ NoForm
+row_158 = refl
+
+-- class C(a=1, b): pass
+row_159 : read_line Py311 (Word Key.Class ∷ in_form (67 ∷ []) ∷ Op Sign.LPar ∷ in_form (97 ∷ []) ∷ Op Sign.Equal ∷ Whole 1 ∷ Op Sign.Comma ∷ in_form (98 ∷ []) ∷ Op Sign.RPar ∷ Op Sign.Colon ∷ Word Key.Pass ∷ []) ≡ NoForm
+row_159 = refl
+
+-- class C(a)(b): pass
+row_160 : read_line Py311 (Word Key.Class ∷ in_form (67 ∷ []) ∷ Op Sign.LPar ∷ in_form (97 ∷ []) ∷ Op Sign.RPar ∷ Op Sign.LPar ∷ in_form (98 ∷ []) ∷ Op Sign.RPar ∷ Op Sign.Colon ∷ Word Key.Pass ∷ []) ≡ NoForm
+row_160 = refl
+
+-- @a
+row_161 : read_line Py311 (Op Sign.At ∷ in_form (97 ∷ []) ∷ []) ≡ Found (decorator_form (Trees.Name (97 ∷ []) Load)) []
+row_161 = refl
+
+-- @a.b(c)
+row_162 : read_line Py311 (Op Sign.At ∷ in_form (97 ∷ []) ∷ Op Sign.Dot ∷ in_form (98 ∷ []) ∷ Op Sign.LPar ∷ in_form (99 ∷ []) ∷ Op Sign.RPar ∷ []) ≡ Found (decorator_form (Trees.Call (Trees.Attribute (Trees.Name (97 ∷ []) Load) (98 ∷ []) Load) (Trees.an_expr (Trees.Name (99 ∷ []) Load) Trees.no_exprs) Trees.no_keyword)) []
+row_162 = refl
+
+-- @x := y
+row_163 : read_line Py311 (Op Sign.At ∷ in_form (120 ∷ []) ∷ Op Sign.ColonEqual ∷ in_form (121 ∷ []) ∷ []) ≡ Found (decorator_form (Trees.NamedExpr (Trees.Name (120 ∷ []) Store) (Trees.Name (121 ∷ []) Load))) []
+row_163 = refl
+
+-- @lambda: x
+row_164 : read_line Py311 (Op Sign.At ∷ Word Key.Lambda ∷ Op Sign.Colon ∷ in_form (120 ∷ []) ∷ []) ≡ Found (decorator_form (Trees.Lambda (Trees.arguments Trees.no_arg Trees.no_arg Trees.absent_arg Trees.no_arg Trees.no_optional Trees.absent_arg Trees.no_exprs) (Trees.Name (120 ∷ []) Load))) []
+row_164 = refl
+
+-- @
+row_165 : read_line Py311 (Op Sign.At ∷ []) ≡ NoForm
+row_165 = refl
+
+-- @a: b
+row_166 : read_line Py311 (Op Sign.At ∷ in_form (97 ∷ []) ∷ Op Sign.Colon ∷ in_form (98 ∷ []) ∷ []) ≡ NoForm
+row_166 = refl
+
+-- @*a
+row_167 : read_line Py311 (Op Sign.At ∷ Op Sign.Star ∷ in_form (97 ∷ []) ∷ []) ≡ NoForm
+row_167 = refl
+
+-- for x in y: z; w;
+row_187 : read_line Py311 (Word Key.For ∷ in_form (120 ∷ []) ∷ Word Key.In ∷ in_form (121 ∷ []) ∷ Op Sign.Colon ∷ in_form (122 ∷ []) ∷ Op Sign.Semi ∷ in_form (119 ∷ []) ∷ Op Sign.Semi ∷ []) ≡ Found (header_form (loop_header (for_head false (Trees.Name (120 ∷ []) Store) (Trees.Name (121 ∷ []) Load))) (Some (ExprOf (Trees.Name (122 ∷ []) Load) ∷ ExprOf (Trees.Name (119 ∷ []) Load) ∷ []))) []
+row_187 = refl
+
+-- for x in y: ;
+row_188 : read_line Py311 (Word Key.For ∷ in_form (120 ∷ []) ∷ Word Key.In ∷ in_form (121 ∷ []) ∷ Op Sign.Colon ∷ Op Sign.Semi ∷ []) ≡ NoForm
+row_188 = refl
+
+-- if x: ;
+row_189 : read_line Py311 (Word Key.If ∷ in_form (120 ∷ []) ∷ Op Sign.Colon ∷ Op Sign.Semi ∷ []) ≡ NoForm
+row_189 = refl
+
+-- class C: x: int = 1
+row_190 : read_line Py311 (Word Key.Class ∷ in_form (67 ∷ []) ∷ Op Sign.Colon ∷ in_form (120 ∷ []) ∷ Op Sign.Colon ∷ in_form (105 ∷ 110 ∷ 116 ∷ []) ∷ Op Sign.Equal ∷ Whole 1 ∷ []) ≡ Found (header_form (def_header (class_head (67 ∷ []) [] ([]) Trees.no_keyword)) (Some (AnnAssign (Trees.Name (120 ∷ []) Store) (Trees.Name (105 ∷ 110 ∷ 116 ∷ []) Load) (Some (Trees.Constant (Values.Int 1))) true ∷ []))) []
+row_190 = refl
+
+-- with a as b: c: d
+row_191 : read_line Py311 (Word Key.With ∷ in_form (97 ∷ []) ∷ Word Key.As ∷ in_form (98 ∷ []) ∷ Op Sign.Colon ∷ in_form (99 ∷ []) ∷ Op Sign.Colon ∷ in_form (100 ∷ []) ∷ []) ≡ Found (header_form (with_header false (item (Trees.Name (97 ∷ []) Load) (Some (Trees.Name (98 ∷ []) Store)) ∷ [])) (Some (AnnAssign (Trees.Name (99 ∷ []) Store) (Trees.Name (100 ∷ []) Load) None true ∷ []))) []
+row_191 = refl
+
+-- with a as b,: c
+row_192 : read_line Py311 (Word Key.With ∷ in_form (97 ∷ []) ∷ Word Key.As ∷ in_form (98 ∷ []) ∷ Op Sign.Comma ∷ Op Sign.Colon ∷ in_form (99 ∷ []) ∷ []) ≡ NoForm
+row_192 = refl
+
+-- with a as 1: b
+row_193 : read_line Py311 (Word Key.With ∷ in_form (97 ∷ []) ∷ Word Key.As ∷ Whole 1 ∷ Op Sign.Colon ∷ in_form (98 ∷ []) ∷ []) ≡ NoForm
+row_193 = refl
+
+-- with a as b + c: d
+row_194 : read_line Py311 (Word Key.With ∷ in_form (97 ∷ []) ∷ Word Key.As ∷ in_form (98 ∷ []) ∷ Op Sign.Plus ∷ in_form (99 ∷ []) ∷ Op Sign.Colon ∷ in_form (100 ∷ []) ∷ []) ≡ NoForm
+row_194 = refl
+
+-- if a else b: c
+row_196 : read_line Py311 (Word Key.If ∷ in_form (97 ∷ []) ∷ Word Key.Else ∷ in_form (98 ∷ []) ∷ Op Sign.Colon ∷ in_form (99 ∷ []) ∷ []) ≡ NoForm
+row_196 = refl

@@ -1,22 +1,61 @@
--- Worked lines: the depth that is enough for each.
+-- Worked lines that begin as a header or a decorator: the depth that is enough for each.
 --
 -- Carries: no contract; its rows are computed as it is checked.
 use Rattle.std.proofs.Common.{◌≡◌, refl, [], ◌∷◌, Some, None, true, false}
 use Rattle.pylex_lexeme.specs.declared.kinds.Exact.TheVariants as Sign
 use Rattle.pytoken.specs.declared.keywords.Keyword.TheVariants as Key
 use Rattle.pytree_node.specs.declared.operators.Operator.TheVariants as Bin
-use Rattle.pytree_node.specs.declared.operators.UnaryOperator.TheVariants as Un
-use Rattle.pytree_node.specs.declared.operators.Comparison.TheVariants as Is
 use Rattle.pytree_node.specs.declared.operators.Context.TheVariants.{Load, Store}
 use Rattle.pytree_node.specs.declared.profiles.Profile.TheVariants.{Py311}
 use Rattle.pytree_node.specs.Trees as Trees
 use Rattle.pytree_node.specs.Values as Values
-use Rattle.pytoken.specs.Terminals.{Op, Word, in_form, Whole, Literal}
+use Rattle.pytoken.specs.Terminals.{Op, Word, in_form, Whole}
 use Rattle.pygrammar.specs.Reader.{Found}
 use Rattle.pytree_node.specs.Trees.{Assign, AnnAssign, ExprOf, Pass}
-use Rattle.pygrammar.specs.Lines.{simple_form, decorator_form, header_form, loop_header, with_header, try_header, except_header, finally_header, def_header, for_head, function_head, class_head}
+use Rattle.pygrammar.specs.Lines.{header_form, if_header, elif_header, else_header, loop_header, while_head, decorator_form, with_header, try_header, except_header, finally_header, def_header, for_head, function_head, class_head}
 use Rattle.pygrammar.specs.Forms.{item}
 use Rattle.pygrammar.specs.LineReader.{read_line_to}
+use Rattle.pytree_node.specs.declared.operators.Comparison.TheVariants as Is
+
+-- if x : pass
+depth_55 : read_line_to Py311 1 (Word Key.If ∷ in_form (120 ∷ []) ∷ Op Sign.Colon ∷ Word Key.Pass ∷ []) ≡ Found (header_form (if_header (Trees.Name (120 ∷ []) Load)) (Some (Pass ∷ []))) []
+depth_55 = refl
+
+-- if x :
+depth_56 : read_line_to Py311 1 (Word Key.If ∷ in_form (120 ∷ []) ∷ Op Sign.Colon ∷ []) ≡ Found (header_form (if_header (Trees.Name (120 ∷ []) Load)) None) []
+depth_56 = refl
+
+-- if x : y : int
+depth_57 : read_line_to Py311 1 (Word Key.If ∷ in_form (120 ∷ []) ∷ Op Sign.Colon ∷ in_form (121 ∷ []) ∷ Op Sign.Colon ∷ in_form (105 ∷ 110 ∷ 116 ∷ []) ∷ []) ≡ Found (header_form (if_header (Trees.Name (120 ∷ []) Load)) (Some (AnnAssign (Trees.Name (121 ∷ []) Store) (Trees.Name (105 ∷ 110 ∷ 116 ∷ []) Load) None true ∷ []))) []
+depth_57 = refl
+
+-- if lambda : x : y
+depth_58 : read_line_to Py311 2 (Word Key.If ∷ Word Key.Lambda ∷ Op Sign.Colon ∷ in_form (120 ∷ []) ∷ Op Sign.Colon ∷ in_form (121 ∷ []) ∷ []) ≡ Found (header_form (if_header (Trees.Lambda (Trees.arguments Trees.no_arg Trees.no_arg Trees.absent_arg Trees.no_arg Trees.no_optional Trees.absent_arg Trees.no_exprs) (Trees.Name (120 ∷ []) Load))) (Some (ExprOf (Trees.Name (121 ∷ []) Load) ∷ []))) []
+depth_58 = refl
+
+-- if ( x := 1 ) : pass
+depth_59 : read_line_to Py311 3 (Word Key.If ∷ Op Sign.LPar ∷ in_form (120 ∷ []) ∷ Op Sign.ColonEqual ∷ Whole 1 ∷ Op Sign.RPar ∷ Op Sign.Colon ∷ Word Key.Pass ∷ []) ≡ Found (header_form (if_header (Trees.NamedExpr (Trees.Name (120 ∷ []) Store) (Trees.Constant (Values.Int 1)))) (Some (Pass ∷ []))) []
+depth_59 = refl
+
+-- if x := 1 :
+depth_60 : read_line_to Py311 2 (Word Key.If ∷ in_form (120 ∷ []) ∷ Op Sign.ColonEqual ∷ Whole 1 ∷ Op Sign.Colon ∷ []) ≡ Found (header_form (if_header (Trees.NamedExpr (Trees.Name (120 ∷ []) Store) (Trees.Constant (Values.Int 1)))) None) []
+depth_60 = refl
+
+-- elif a : b ; c
+depth_61 : read_line_to Py311 1 (Word Key.Elif ∷ in_form (97 ∷ []) ∷ Op Sign.Colon ∷ in_form (98 ∷ []) ∷ Op Sign.Semi ∷ in_form (99 ∷ []) ∷ []) ≡ Found (header_form (elif_header (Trees.Name (97 ∷ []) Load)) (Some (ExprOf (Trees.Name (98 ∷ []) Load) ∷ ExprOf (Trees.Name (99 ∷ []) Load) ∷ []))) []
+depth_61 = refl
+
+-- else :
+depth_62 : read_line_to Py311 0 (Word Key.Else ∷ Op Sign.Colon ∷ []) ≡ Found (header_form (else_header) None) []
+depth_62 = refl
+
+-- else : x = 1
+depth_63 : read_line_to Py311 1 (Word Key.Else ∷ Op Sign.Colon ∷ in_form (120 ∷ []) ∷ Op Sign.Equal ∷ Whole 1 ∷ []) ≡ Found (header_form (else_header) (Some (Assign ((Trees.Name (120 ∷ []) Store) ∷ []) (Trees.Constant (Values.Int 1)) ∷ []))) []
+depth_63 = refl
+
+-- while x : pass
+depth_64 : read_line_to Py311 1 (Word Key.While ∷ in_form (120 ∷ []) ∷ Op Sign.Colon ∷ Word Key.Pass ∷ []) ≡ Found (header_form (loop_header (while_head (Trees.Name (120 ∷ []) Load))) (Some (Pass ∷ []))) []
+depth_64 = refl
 
 -- for x in y : pass
 depth_65 : read_line_to Py311 1 (Word Key.For ∷ in_form (120 ∷ []) ∷ Word Key.In ∷ in_form (121 ∷ []) ∷ Op Sign.Colon ∷ Word Key.Pass ∷ []) ≡ Found (header_form (loop_header (for_head false (Trees.Name (120 ∷ []) Store) (Trees.Name (121 ∷ []) Load))) (Some (Pass ∷ []))) []
@@ -254,26 +293,58 @@ depth_122 = refl
 depth_123 : read_line_to Py311 2 (Op Sign.At ∷ Word Key.Lambda ∷ Op Sign.Colon ∷ in_form (120 ∷ []) ∷ []) ≡ Found (decorator_form (Trees.Lambda (Trees.arguments Trees.no_arg Trees.no_arg Trees.absent_arg Trees.no_arg Trees.no_optional Trees.absent_arg Trees.no_exprs) (Trees.Name (120 ∷ []) Load))) []
 depth_123 = refl
 
--- a . b = c [ d ] = e
-depth_124 : read_line_to Py311 3 (in_form (97 ∷ []) ∷ Op Sign.Dot ∷ in_form (98 ∷ []) ∷ Op Sign.Equal ∷ in_form (99 ∷ []) ∷ Op Sign.LSqb ∷ in_form (100 ∷ []) ∷ Op Sign.RSqb ∷ Op Sign.Equal ∷ in_form (101 ∷ []) ∷ []) ≡ Found (simple_form (Assign ((Trees.Attribute (Trees.Name (97 ∷ []) Load) (98 ∷ []) Store) ∷ (Trees.Subscript (Trees.Name (99 ∷ []) Load) (Trees.Name (100 ∷ []) Load) Store) ∷ []) (Trees.Name (101 ∷ []) Load) ∷ [])) []
-depth_124 = refl
+-- for x in y : z ; w ;
+depth_136 : read_line_to Py311 1 (Word Key.For ∷ in_form (120 ∷ []) ∷ Word Key.In ∷ in_form (121 ∷ []) ∷ Op Sign.Colon ∷ in_form (122 ∷ []) ∷ Op Sign.Semi ∷ in_form (119 ∷ []) ∷ Op Sign.Semi ∷ []) ≡ Found (header_form (loop_header (for_head false (Trees.Name (120 ∷ []) Store) (Trees.Name (121 ∷ []) Load))) (Some (ExprOf (Trees.Name (122 ∷ []) Load) ∷ ExprOf (Trees.Name (119 ∷ []) Load) ∷ []))) []
+depth_136 = refl
 
--- a [ b : c ] = d
-depth_125 : read_line_to Py311 4 (in_form (97 ∷ []) ∷ Op Sign.LSqb ∷ in_form (98 ∷ []) ∷ Op Sign.Colon ∷ in_form (99 ∷ []) ∷ Op Sign.RSqb ∷ Op Sign.Equal ∷ in_form (100 ∷ []) ∷ []) ≡ Found (simple_form (Assign ((Trees.Subscript (Trees.Name (97 ∷ []) Load) (Trees.Slice (Trees.present (Trees.Name (98 ∷ []) Load)) (Trees.present (Trees.Name (99 ∷ []) Load)) Trees.absent) Store) ∷ []) (Trees.Name (100 ∷ []) Load) ∷ [])) []
-depth_125 = refl
+-- class C : x : int = 1
+depth_137 : read_line_to Py311 1 (Word Key.Class ∷ in_form (67 ∷ []) ∷ Op Sign.Colon ∷ in_form (120 ∷ []) ∷ Op Sign.Colon ∷ in_form (105 ∷ 110 ∷ 116 ∷ []) ∷ Op Sign.Equal ∷ Whole 1 ∷ []) ≡ Found (header_form (def_header (class_head (67 ∷ []) [] ([]) Trees.no_keyword)) (Some (AnnAssign (Trees.Name (120 ∷ []) Store) (Trees.Name (105 ∷ 110 ∷ 116 ∷ []) Load) (Some (Trees.Constant (Values.Int 1))) true ∷ []))) []
+depth_137 = refl
 
--- "x" "y"
-depth_126 : read_line_to Py311 1 (Literal (Values.Str (120 ∷ []) false) ∷ Literal (Values.Str (121 ∷ []) false) ∷ []) ≡ Found (simple_form (ExprOf (Trees.Constant (Values.Str (120 ∷ 121 ∷ []) false)) ∷ [])) []
-depth_126 = refl
+-- with a as b : c : d
+depth_138 : read_line_to Py311 1 (Word Key.With ∷ in_form (97 ∷ []) ∷ Word Key.As ∷ in_form (98 ∷ []) ∷ Op Sign.Colon ∷ in_form (99 ∷ []) ∷ Op Sign.Colon ∷ in_form (100 ∷ []) ∷ []) ≡ Found (header_form (with_header false (item (Trees.Name (97 ∷ []) Load) (Some (Trees.Name (98 ∷ []) Store)) ∷ [])) (Some (AnnAssign (Trees.Name (99 ∷ []) Store) (Trees.Name (100 ∷ []) Load) None true ∷ []))) []
+depth_138 = refl
 
--- x == y
-depth_127 : read_line_to Py311 2 (in_form (120 ∷ []) ∷ Op Sign.EqEqual ∷ in_form (121 ∷ []) ∷ []) ≡ Found (simple_form (ExprOf (Trees.Compare (Trees.Name (120 ∷ []) Load) (Is.Eq ∷ []) (Trees.an_expr (Trees.Name (121 ∷ []) Load) Trees.no_exprs)) ∷ [])) []
-depth_127 = refl
+-- with ( ( a ) ) : b
+depth_159 : read_line_to Py311 3 (Word Key.With ∷ Op Sign.LPar ∷ Op Sign.LPar ∷ in_form (97 ∷ []) ∷ Op Sign.RPar ∷ Op Sign.RPar ∷ Op Sign.Colon ∷ in_form (98 ∷ []) ∷ []) ≡ Found (header_form (with_header false (item (Trees.Name (97 ∷ []) Load) None ∷ [])) (Some (ExprOf (Trees.Name (98 ∷ []) Load) ∷ []))) []
+depth_159 = refl
 
--- not x
-depth_128 : read_line_to Py311 2 (Word Key.Not ∷ in_form (120 ∷ []) ∷ []) ≡ Found (simple_form (ExprOf (Trees.UnaryOp Un.Not (Trees.Name (120 ∷ []) Load)) ∷ [])) []
-depth_128 = refl
+-- with ( ( a ) ) as ( ( b ) ) : c
+depth_160 : read_line_to Py311 3 (Word Key.With ∷ Op Sign.LPar ∷ Op Sign.LPar ∷ in_form (97 ∷ []) ∷ Op Sign.RPar ∷ Op Sign.RPar ∷ Word Key.As ∷ Op Sign.LPar ∷ Op Sign.LPar ∷ in_form (98 ∷ []) ∷ Op Sign.RPar ∷ Op Sign.RPar ∷ Op Sign.Colon ∷ in_form (99 ∷ []) ∷ []) ≡ Found (header_form (with_header false (item (Trees.Name (97 ∷ []) Load) (Some (Trees.Name (98 ∷ []) Store)) ∷ [])) (Some (ExprOf (Trees.Name (99 ∷ []) Load) ∷ []))) []
+depth_160 = refl
 
--- await x
-depth_129 : read_line_to Py311 2 (Word Key.Await ∷ in_form (120 ∷ []) ∷ []) ≡ Found (simple_form (ExprOf (Trees.Await (Trees.Name (120 ∷ []) Load)) ∷ [])) []
-depth_129 = refl
+-- with ( ( ( a ) ) as ( ( b ) ) ) : c
+depth_161 : read_line_to Py311 4 (Word Key.With ∷ Op Sign.LPar ∷ Op Sign.LPar ∷ Op Sign.LPar ∷ in_form (97 ∷ []) ∷ Op Sign.RPar ∷ Op Sign.RPar ∷ Word Key.As ∷ Op Sign.LPar ∷ Op Sign.LPar ∷ in_form (98 ∷ []) ∷ Op Sign.RPar ∷ Op Sign.RPar ∷ Op Sign.RPar ∷ Op Sign.Colon ∷ in_form (99 ∷ []) ∷ []) ≡ Found (header_form (with_header false (item (Trees.Name (97 ∷ []) Load) (Some (Trees.Name (98 ∷ []) Store)) ∷ [])) (Some (ExprOf (Trees.Name (99 ∷ []) Load) ∷ []))) []
+depth_161 = refl
+
+-- with ( ( ( ( a ) ) ) ) . b : c
+depth_162 : read_line_to Py311 6 (Word Key.With ∷ Op Sign.LPar ∷ Op Sign.LPar ∷ Op Sign.LPar ∷ Op Sign.LPar ∷ in_form (97 ∷ []) ∷ Op Sign.RPar ∷ Op Sign.RPar ∷ Op Sign.RPar ∷ Op Sign.RPar ∷ Op Sign.Dot ∷ in_form (98 ∷ []) ∷ Op Sign.Colon ∷ in_form (99 ∷ []) ∷ []) ≡ Found (header_form (with_header false (item (Trees.Attribute (Trees.Name (97 ∷ []) Load) (98 ∷ []) Load) None ∷ [])) (Some (ExprOf (Trees.Name (99 ∷ []) Load) ∷ []))) []
+depth_162 = refl
+
+-- for ( ( a ) ) , [ b ] in ( ( c ) ) : d
+depth_163 : read_line_to Py311 5 (Word Key.For ∷ Op Sign.LPar ∷ Op Sign.LPar ∷ in_form (97 ∷ []) ∷ Op Sign.RPar ∷ Op Sign.RPar ∷ Op Sign.Comma ∷ Op Sign.LSqb ∷ in_form (98 ∷ []) ∷ Op Sign.RSqb ∷ Word Key.In ∷ Op Sign.LPar ∷ Op Sign.LPar ∷ in_form (99 ∷ []) ∷ Op Sign.RPar ∷ Op Sign.RPar ∷ Op Sign.Colon ∷ in_form (100 ∷ []) ∷ []) ≡ Found (header_form (loop_header (for_head false (Trees.Tuple (Trees.an_expr (Trees.Name (97 ∷ []) Store) (Trees.an_expr (Trees.ListOf (Trees.an_expr (Trees.Name (98 ∷ []) Store) Trees.no_exprs) Store) Trees.no_exprs)) Store) (Trees.Name (99 ∷ []) Load))) (Some (ExprOf (Trees.Name (100 ∷ []) Load) ∷ []))) []
+depth_163 = refl
+
+-- def f ( a : ( ( b ) ) = ( ( c ) ) ) -> ( ( d ) ) : e
+depth_164 : read_line_to Py311 4 (Word Key.Def ∷ in_form (102 ∷ []) ∷ Op Sign.LPar ∷ in_form (97 ∷ []) ∷ Op Sign.Colon ∷ Op Sign.LPar ∷ Op Sign.LPar ∷ in_form (98 ∷ []) ∷ Op Sign.RPar ∷ Op Sign.RPar ∷ Op Sign.Equal ∷ Op Sign.LPar ∷ Op Sign.LPar ∷ in_form (99 ∷ []) ∷ Op Sign.RPar ∷ Op Sign.RPar ∷ Op Sign.RPar ∷ Op Sign.RArrow ∷ Op Sign.LPar ∷ Op Sign.LPar ∷ in_form (100 ∷ []) ∷ Op Sign.RPar ∷ Op Sign.RPar ∷ Op Sign.Colon ∷ in_form (101 ∷ []) ∷ []) ≡ Found (header_form (def_header (function_head false (102 ∷ []) [] (Trees.arguments Trees.no_arg (Trees.an_arg (Trees.arg (97 ∷ []) (Trees.present (Trees.Name (98 ∷ []) Load))) Trees.no_arg) Trees.absent_arg Trees.no_arg Trees.no_optional Trees.absent_arg (Trees.an_expr (Trees.Name (99 ∷ []) Load) Trees.no_exprs)) (Some (Trees.Name (100 ∷ []) Load)))) (Some (ExprOf (Trees.Name (101 ∷ []) Load) ∷ []))) []
+depth_164 = refl
+
+-- class C ( ( a ) , * ( ( b ) ) , ** ( ( c ) ) ) : d
+depth_165 : read_line_to Py311 5 (Word Key.Class ∷ in_form (67 ∷ []) ∷ Op Sign.LPar ∷ Op Sign.LPar ∷ in_form (97 ∷ []) ∷ Op Sign.RPar ∷ Op Sign.Comma ∷ Op Sign.Star ∷ Op Sign.LPar ∷ Op Sign.LPar ∷ in_form (98 ∷ []) ∷ Op Sign.RPar ∷ Op Sign.RPar ∷ Op Sign.Comma ∷ Op Sign.DoubleStar ∷ Op Sign.LPar ∷ Op Sign.LPar ∷ in_form (99 ∷ []) ∷ Op Sign.RPar ∷ Op Sign.RPar ∷ Op Sign.RPar ∷ Op Sign.Colon ∷ in_form (100 ∷ []) ∷ []) ≡ Found (header_form (def_header (class_head (67 ∷ []) [] ((Trees.Name (97 ∷ []) Load) ∷ (Trees.Starred (Trees.Name (98 ∷ []) Load) Load) ∷ []) (Trees.a_keyword None (Trees.Name (99 ∷ []) Load) Trees.no_keyword))) (Some (ExprOf (Trees.Name (100 ∷ []) Load) ∷ []))) []
+depth_165 = refl
+
+-- @ ( ( a ) )
+depth_166 : read_line_to Py311 3 (Op Sign.At ∷ Op Sign.LPar ∷ Op Sign.LPar ∷ in_form (97 ∷ []) ∷ Op Sign.RPar ∷ Op Sign.RPar ∷ []) ≡ Found (decorator_form (Trees.Name (97 ∷ []) Load)) []
+depth_166 = refl
+
+-- with ( a , ( b , ( c ) ) ) : d
+depth_184 : read_line_to Py311 5 (Word Key.With ∷ Op Sign.LPar ∷ in_form (97 ∷ []) ∷ Op Sign.Comma ∷ Op Sign.LPar ∷ in_form (98 ∷ []) ∷ Op Sign.Comma ∷ Op Sign.LPar ∷ in_form (99 ∷ []) ∷ Op Sign.RPar ∷ Op Sign.RPar ∷ Op Sign.RPar ∷ Op Sign.Colon ∷ in_form (100 ∷ []) ∷ []) ≡ Found (header_form (with_header false (item (Trees.Name (97 ∷ []) Load) None ∷ item (Trees.Tuple (Trees.an_expr (Trees.Name (98 ∷ []) Load) (Trees.an_expr (Trees.Name (99 ∷ []) Load) Trees.no_exprs)) Load) None ∷ [])) (Some (ExprOf (Trees.Name (100 ∷ []) Load) ∷ []))) []
+depth_184 = refl
+
+-- with ( a , ( b , ( c ) ) ) [ 0 ] : d
+depth_185 : read_line_to Py311 7 (Word Key.With ∷ Op Sign.LPar ∷ in_form (97 ∷ []) ∷ Op Sign.Comma ∷ Op Sign.LPar ∷ in_form (98 ∷ []) ∷ Op Sign.Comma ∷ Op Sign.LPar ∷ in_form (99 ∷ []) ∷ Op Sign.RPar ∷ Op Sign.RPar ∷ Op Sign.RPar ∷ Op Sign.LSqb ∷ Whole 0 ∷ Op Sign.RSqb ∷ Op Sign.Colon ∷ in_form (100 ∷ []) ∷ []) ≡ Found (header_form (with_header false (item (Trees.Subscript (Trees.Tuple (Trees.an_expr (Trees.Name (97 ∷ []) Load) (Trees.an_expr (Trees.Tuple (Trees.an_expr (Trees.Name (98 ∷ []) Load) (Trees.an_expr (Trees.Name (99 ∷ []) Load) Trees.no_exprs)) Load) Trees.no_exprs)) Load) (Trees.Constant (Values.Int 0)) Load) None ∷ [])) (Some (ExprOf (Trees.Name (100 ∷ []) Load) ∷ []))) []
+depth_185 = refl
+
+-- with ( a if b else ( c ) ) : d
+depth_186 : read_line_to Py311 4 (Word Key.With ∷ Op Sign.LPar ∷ in_form (97 ∷ []) ∷ Word Key.If ∷ in_form (98 ∷ []) ∷ Word Key.Else ∷ Op Sign.LPar ∷ in_form (99 ∷ []) ∷ Op Sign.RPar ∷ Op Sign.RPar ∷ Op Sign.Colon ∷ in_form (100 ∷ []) ∷ []) ≡ Found (header_form (with_header false (item (Trees.IfExp (Trees.Name (98 ∷ []) Load) (Trees.Name (97 ∷ []) Load) (Trees.Name (99 ∷ []) Load)) None ∷ [])) (Some (ExprOf (Trees.Name (100 ∷ []) Load) ∷ []))) []
+depth_186 = refl

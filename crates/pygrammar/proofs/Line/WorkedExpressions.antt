@@ -1,20 +1,21 @@
--- Worked lines: the reader computes their forms.
+-- Worked lines that begin with an expression: the reader computes their forms.
 --
 -- Carries: no contract; its rows are computed as it is checked.
 use Rattle.std.proofs.Common.{◌≡◌, refl, [], ◌∷◌, Some, None, true, false}
 use Rattle.pylex_lexeme.specs.declared.kinds.Exact.TheVariants as Sign
 use Rattle.pytoken.specs.declared.keywords.Keyword.TheVariants as Key
 use Rattle.pytree_node.specs.declared.operators.Operator.TheVariants as Bin
-use Rattle.pytree_node.specs.declared.operators.Context.TheVariants.{Load, Store, Del}
+use Rattle.pytree_node.specs.declared.operators.Context.TheVariants.{Load, Store}
 use Rattle.pytree_node.specs.declared.profiles.Profile.TheVariants.{Py311}
 use Rattle.pytree_node.specs.Trees as Trees
 use Rattle.pytree_node.specs.Values as Values
-use Rattle.pytoken.specs.Terminals.{Op, Word, in_form, Whole}
+use Rattle.pytoken.specs.Terminals.{Op, Word, in_form, Whole, Literal}
 use Rattle.pygrammar.specs.Reader.{Found, NoForm}
-use Rattle.pytree_node.specs.Trees.{Return, Delete, Assign, AugAssign, AnnAssign, Raise, Assert, Import, Global, Nonlocal, ExprOf, Pass, Break, Continue}
+use Rattle.pytree_node.specs.Trees.{Assign, AugAssign, AnnAssign, ExprOf}
 use Rattle.pygrammar.specs.Lines.{simple_form}
-use Rattle.pygrammar.specs.Forms.{alias}
 use Rattle.pygrammar.specs.LineReader.{read_line}
+use Rattle.pytree_node.specs.declared.operators.Comparison.TheVariants as Is
+use Rattle.pytree_node.specs.declared.operators.UnaryOperator.TheVariants as Un
 
 -- x
 row_0 : read_line Py311 (in_form (120 ∷ []) ∷ []) ≡ Found (simple_form (ExprOf (Trees.Name (120 ∷ []) Load) ∷ [])) []
@@ -160,126 +161,94 @@ row_34 = refl
 row_35 : read_line Py311 (in_form (112 ∷ 114 ∷ 105 ∷ 110 ∷ 116 ∷ []) ∷ Op Sign.RightShift ∷ in_form (120 ∷ []) ∷ Op Sign.Comma ∷ in_form (121 ∷ []) ∷ []) ≡ Found (simple_form (ExprOf (Trees.Tuple (Trees.an_expr (Trees.BinOp (Trees.Name (112 ∷ 114 ∷ 105 ∷ 110 ∷ 116 ∷ []) Load) Bin.RShift (Trees.Name (120 ∷ []) Load)) (Trees.an_expr (Trees.Name (121 ∷ []) Load) Trees.no_exprs)) Load) ∷ [])) []
 row_35 = refl
 
--- return
-row_36 : read_line Py311 (Word Key.Return ∷ []) ≡ Found (simple_form (Return None ∷ [])) []
-row_36 = refl
-
--- return a, *b
-row_37 : read_line Py311 (Word Key.Return ∷ in_form (97 ∷ []) ∷ Op Sign.Comma ∷ Op Sign.Star ∷ in_form (98 ∷ []) ∷ []) ≡ Found (simple_form (Return (Some (Trees.Tuple (Trees.an_expr (Trees.Name (97 ∷ []) Load) (Trees.an_expr (Trees.Starred (Trees.Name (98 ∷ []) Load) Load) Trees.no_exprs)) Load)) ∷ [])) []
-row_37 = refl
-
--- return (yield)
-row_38 : read_line Py311 (Word Key.Return ∷ Op Sign.LPar ∷ Word Key.Yield ∷ Op Sign.RPar ∷ []) ≡ Found (simple_form (Return (Some (Trees.Yield Trees.absent)) ∷ [])) []
-row_38 = refl
-
--- return x = y
-row_39 : read_line Py311 (Word Key.Return ∷ in_form (120 ∷ []) ∷ Op Sign.Equal ∷ in_form (121 ∷ []) ∷ []) ≡ NoForm
-row_39 = refl
-
--- raise
-row_40 : read_line Py311 (Word Key.Raise ∷ []) ≡ Found (simple_form (Raise None None ∷ [])) []
-row_40 = refl
-
--- raise a
-row_41 : read_line Py311 (Word Key.Raise ∷ in_form (97 ∷ []) ∷ []) ≡ Found (simple_form (Raise (Some (Trees.Name (97 ∷ []) Load)) None ∷ [])) []
-row_41 = refl
-
--- raise a from b
-row_42 : read_line Py311 (Word Key.Raise ∷ in_form (97 ∷ []) ∷ Word Key.From ∷ in_form (98 ∷ []) ∷ []) ≡ Found (simple_form (Raise (Some (Trees.Name (97 ∷ []) Load)) (Some (Trees.Name (98 ∷ []) Load)) ∷ [])) []
-row_42 = refl
-
--- raise a, b
-row_43 : read_line Py311 (Word Key.Raise ∷ in_form (97 ∷ []) ∷ Op Sign.Comma ∷ in_form (98 ∷ []) ∷ []) ≡ NoForm
-row_43 = refl
-
--- assert a
-row_44 : read_line Py311 (Word Key.Assert ∷ in_form (97 ∷ []) ∷ []) ≡ Found (simple_form (Assert (Trees.Name (97 ∷ []) Load) None ∷ [])) []
-row_44 = refl
-
--- assert a, b
-row_45 : read_line Py311 (Word Key.Assert ∷ in_form (97 ∷ []) ∷ Op Sign.Comma ∷ in_form (98 ∷ []) ∷ []) ≡ Found (simple_form (Assert (Trees.Name (97 ∷ []) Load) (Some (Trees.Name (98 ∷ []) Load)) ∷ [])) []
-row_45 = refl
-
--- assert a, b, c
-row_46 : read_line Py311 (Word Key.Assert ∷ in_form (97 ∷ []) ∷ Op Sign.Comma ∷ in_form (98 ∷ []) ∷ Op Sign.Comma ∷ in_form (99 ∷ []) ∷ []) ≡ NoForm
-row_46 = refl
-
--- assert *a
-row_47 : read_line Py311 (Word Key.Assert ∷ Op Sign.Star ∷ in_form (97 ∷ []) ∷ []) ≡ NoForm
-row_47 = refl
-
--- del a
-row_48 : read_line Py311 (Word Key.Del ∷ in_form (97 ∷ []) ∷ []) ≡ Found (simple_form (Delete ((Trees.Name (97 ∷ []) Del) ∷ []) ∷ [])) []
-row_48 = refl
-
--- del a,
-row_49 : read_line Py311 (Word Key.Del ∷ in_form (97 ∷ []) ∷ Op Sign.Comma ∷ []) ≡ Found (simple_form (Delete ((Trees.Name (97 ∷ []) Del) ∷ []) ∷ [])) []
-row_49 = refl
-
--- del (a), [b, c.d], e[f]
-row_50 : read_line Py311 (Word Key.Del ∷ Op Sign.LPar ∷ in_form (97 ∷ []) ∷ Op Sign.RPar ∷ Op Sign.Comma ∷ Op Sign.LSqb ∷ in_form (98 ∷ []) ∷ Op Sign.Comma ∷ in_form (99 ∷ []) ∷ Op Sign.Dot ∷ in_form (100 ∷ []) ∷ Op Sign.RSqb ∷ Op Sign.Comma ∷ in_form (101 ∷ []) ∷ Op Sign.LSqb ∷ in_form (102 ∷ []) ∷ Op Sign.RSqb ∷ []) ≡ Found (simple_form (Delete ((Trees.Name (97 ∷ []) Del) ∷ (Trees.ListOf (Trees.an_expr (Trees.Name (98 ∷ []) Del) (Trees.an_expr (Trees.Attribute (Trees.Name (99 ∷ []) Load) (100 ∷ []) Del) Trees.no_exprs)) Del) ∷ (Trees.Subscript (Trees.Name (101 ∷ []) Load) (Trees.Name (102 ∷ []) Load) Del) ∷ []) ∷ [])) []
-row_50 = refl
-
--- del (a, b),
-row_51 : read_line Py311 (Word Key.Del ∷ Op Sign.LPar ∷ in_form (97 ∷ []) ∷ Op Sign.Comma ∷ in_form (98 ∷ []) ∷ Op Sign.RPar ∷ Op Sign.Comma ∷ []) ≡ Found (simple_form (Delete ((Trees.Tuple (Trees.an_expr (Trees.Name (97 ∷ []) Del) (Trees.an_expr (Trees.Name (98 ∷ []) Del) Trees.no_exprs)) Del) ∷ []) ∷ [])) []
-row_51 = refl
-
--- del *a
-row_52 : read_line Py311 (Word Key.Del ∷ Op Sign.Star ∷ in_form (97 ∷ []) ∷ []) ≡ NoForm
-row_52 = refl
-
--- del (*a,)
-row_53 : read_line Py311 (Word Key.Del ∷ Op Sign.LPar ∷ Op Sign.Star ∷ in_form (97 ∷ []) ∷ Op Sign.Comma ∷ Op Sign.RPar ∷ []) ≡ NoForm
-row_53 = refl
-
--- del a + b
-row_54 : read_line Py311 (Word Key.Del ∷ in_form (97 ∷ []) ∷ Op Sign.Plus ∷ in_form (98 ∷ []) ∷ []) ≡ NoForm
-row_54 = refl
-
--- del ()
-row_55 : read_line Py311 (Word Key.Del ∷ Op Sign.LPar ∷ Op Sign.RPar ∷ []) ≡ Found (simple_form (Delete ((Trees.Tuple Trees.no_exprs Del) ∷ []) ∷ [])) []
-row_55 = refl
-
--- del
-row_56 : read_line Py311 (Word Key.Del ∷ []) ≡ NoForm
-row_56 = refl
-
--- global a, b
-row_57 : read_line Py311 (Word Key.Global ∷ in_form (97 ∷ []) ∷ Op Sign.Comma ∷ in_form (98 ∷ []) ∷ []) ≡ Found (simple_form (Global ((97 ∷ []) ∷ (98 ∷ []) ∷ []) ∷ [])) []
-row_57 = refl
-
--- global a,
-row_58 : read_line Py311 (Word Key.Global ∷ in_form (97 ∷ []) ∷ Op Sign.Comma ∷ []) ≡ NoForm
-row_58 = refl
-
--- nonlocal x
-row_59 : read_line Py311 (Word Key.Nonlocal ∷ in_form (120 ∷ []) ∷ []) ≡ Found (simple_form (Nonlocal ((120 ∷ []) ∷ []) ∷ [])) []
-row_59 = refl
-
--- pass
-row_60 : read_line Py311 (Word Key.Pass ∷ []) ≡ Found (simple_form (Pass ∷ [])) []
-row_60 = refl
-
--- pass; break; continue;
-row_61 : read_line Py311 (Word Key.Pass ∷ Op Sign.Semi ∷ Word Key.Break ∷ Op Sign.Semi ∷ Word Key.Continue ∷ Op Sign.Semi ∷ []) ≡ Found (simple_form (Pass ∷ Break ∷ Continue ∷ [])) []
-row_61 = refl
-
--- pass pass
-row_62 : read_line Py311 (Word Key.Pass ∷ Word Key.Pass ∷ []) ≡ NoForm
-row_62 = refl
-
 -- ;
 row_63 : read_line Py311 (Op Sign.Semi ∷ []) ≡ NoForm
 row_63 = refl
 
--- import a
-row_64 : read_line Py311 (Word Key.Import ∷ in_form (97 ∷ []) ∷ []) ≡ Found (simple_form (Import (alias (97 ∷ []) None ∷ []) ∷ [])) []
-row_64 = refl
+-- match x: pass
+row_168 : read_line Py311 (in_form (109 ∷ 97 ∷ 116 ∷ 99 ∷ 104 ∷ []) ∷ in_form (120 ∷ []) ∷ Op Sign.Colon ∷ Word Key.Pass ∷ []) ≡ NoForm
+row_168 = refl
 
--- import a.b.c as d, e
-row_65 : read_line Py311 (Word Key.Import ∷ in_form (97 ∷ []) ∷ Op Sign.Dot ∷ in_form (98 ∷ []) ∷ Op Sign.Dot ∷ in_form (99 ∷ []) ∷ Word Key.As ∷ in_form (100 ∷ []) ∷ Op Sign.Comma ∷ in_form (101 ∷ []) ∷ []) ≡ Found (simple_form (Import (alias (97 ∷ 46 ∷ 98 ∷ 46 ∷ 99 ∷ []) (Some (100 ∷ [])) ∷ alias (101 ∷ []) None ∷ []) ∷ [])) []
-row_65 = refl
+-- a: b = c = d
+row_169 : read_line Py311 (in_form (97 ∷ []) ∷ Op Sign.Colon ∷ in_form (98 ∷ []) ∷ Op Sign.Equal ∷ in_form (99 ∷ []) ∷ Op Sign.Equal ∷ in_form (100 ∷ []) ∷ []) ≡ NoForm
+row_169 = refl
 
--- import a,
-row_66 : read_line Py311 (Word Key.Import ∷ in_form (97 ∷ []) ∷ Op Sign.Comma ∷ []) ≡ NoForm
-row_66 = refl
+-- x: *a
+row_170 : read_line Py311 (in_form (120 ∷ []) ∷ Op Sign.Colon ∷ Op Sign.Star ∷ in_form (97 ∷ []) ∷ []) ≡ NoForm
+row_170 = refl
+
+-- a if b else c = d
+row_171 : read_line Py311 (in_form (97 ∷ []) ∷ Word Key.If ∷ in_form (98 ∷ []) ∷ Word Key.Else ∷ in_form (99 ∷ []) ∷ Op Sign.Equal ∷ in_form (100 ∷ []) ∷ []) ≡ NoForm
+row_171 = refl
+
+-- f() = 1
+row_172 : read_line Py311 (in_form (102 ∷ []) ∷ Op Sign.LPar ∷ Op Sign.RPar ∷ Op Sign.Equal ∷ Whole 1 ∷ []) ≡ NoForm
+row_172 = refl
+
+-- None = 1
+row_173 : read_line Py311 (Word Key.None ∷ Op Sign.Equal ∷ Whole 1 ∷ []) ≡ NoForm
+row_173 = refl
+
+-- a.b = c[d] = e
+row_174 : read_line Py311 (in_form (97 ∷ []) ∷ Op Sign.Dot ∷ in_form (98 ∷ []) ∷ Op Sign.Equal ∷ in_form (99 ∷ []) ∷ Op Sign.LSqb ∷ in_form (100 ∷ []) ∷ Op Sign.RSqb ∷ Op Sign.Equal ∷ in_form (101 ∷ []) ∷ []) ≡ Found (simple_form (Assign ((Trees.Attribute (Trees.Name (97 ∷ []) Load) (98 ∷ []) Store) ∷ (Trees.Subscript (Trees.Name (99 ∷ []) Load) (Trees.Name (100 ∷ []) Load) Store) ∷ []) (Trees.Name (101 ∷ []) Load) ∷ [])) []
+row_174 = refl
+
+-- a[b:c] = d
+row_175 : read_line Py311 (in_form (97 ∷ []) ∷ Op Sign.LSqb ∷ in_form (98 ∷ []) ∷ Op Sign.Colon ∷ in_form (99 ∷ []) ∷ Op Sign.RSqb ∷ Op Sign.Equal ∷ in_form (100 ∷ []) ∷ []) ≡ Found (simple_form (Assign ((Trees.Subscript (Trees.Name (97 ∷ []) Load) (Trees.Slice (Trees.present (Trees.Name (98 ∷ []) Load)) (Trees.present (Trees.Name (99 ∷ []) Load)) Trees.absent) Store) ∷ []) (Trees.Name (100 ∷ []) Load) ∷ [])) []
+row_175 = refl
+
+-- "x" "y"
+row_176 : read_line Py311 (Literal (Values.Str (120 ∷ []) false) ∷ Literal (Values.Str (121 ∷ []) false) ∷ []) ≡ Found (simple_form (ExprOf (Trees.Constant (Values.Str (120 ∷ 121 ∷ []) false)) ∷ [])) []
+row_176 = refl
+
+-- x == y
+row_177 : read_line Py311 (in_form (120 ∷ []) ∷ Op Sign.EqEqual ∷ in_form (121 ∷ []) ∷ []) ≡ Found (simple_form (ExprOf (Trees.Compare (Trees.Name (120 ∷ []) Load) (Is.Eq ∷ []) (Trees.an_expr (Trees.Name (121 ∷ []) Load) Trees.no_exprs)) ∷ [])) []
+row_177 = refl
+
+-- not x
+row_178 : read_line Py311 (Word Key.Not ∷ in_form (120 ∷ []) ∷ []) ≡ Found (simple_form (ExprOf (Trees.UnaryOp Un.Not (Trees.Name (120 ∷ []) Load)) ∷ [])) []
+row_178 = refl
+
+-- await x
+row_179 : read_line Py311 (Word Key.Await ∷ in_form (120 ∷ []) ∷ []) ≡ Found (simple_form (ExprOf (Trees.Await (Trees.Name (120 ∷ []) Load)) ∷ [])) []
+row_179 = refl
+
+-- {x: y}
+row_180 : read_line Py311 (Op Sign.LBrace ∷ in_form (120 ∷ []) ∷ Op Sign.Colon ∷ in_form (121 ∷ []) ∷ Op Sign.RBrace ∷ []) ≡ Found (simple_form (ExprOf (Trees.Dict (Trees.an_optional (Trees.present (Trees.Name (120 ∷ []) Load)) Trees.no_optional) (Trees.an_expr (Trees.Name (121 ∷ []) Load) Trees.no_exprs)) ∷ [])) []
+row_180 = refl
+
+-- {x: y}[z]: w
+row_181 : read_line Py311 (Op Sign.LBrace ∷ in_form (120 ∷ []) ∷ Op Sign.Colon ∷ in_form (121 ∷ []) ∷ Op Sign.RBrace ∷ Op Sign.LSqb ∷ in_form (122 ∷ []) ∷ Op Sign.RSqb ∷ Op Sign.Colon ∷ in_form (119 ∷ []) ∷ []) ≡ Found (simple_form (AnnAssign (Trees.Subscript (Trees.Dict (Trees.an_optional (Trees.present (Trees.Name (120 ∷ []) Load)) Trees.no_optional) (Trees.an_expr (Trees.Name (121 ∷ []) Load) Trees.no_exprs)) (Trees.Name (122 ∷ []) Load) Store) (Trees.Name (119 ∷ []) Load) None false ∷ [])) []
+row_181 = refl
+
+-- x.y.z @= w
+row_182 : read_line Py311 (in_form (120 ∷ []) ∷ Op Sign.Dot ∷ in_form (121 ∷ []) ∷ Op Sign.Dot ∷ in_form (122 ∷ []) ∷ Op Sign.AtEqual ∷ in_form (119 ∷ []) ∷ []) ≡ Found (simple_form (AugAssign (Trees.Attribute (Trees.Attribute (Trees.Name (120 ∷ []) Load) (121 ∷ []) Load) (122 ∷ []) Store) Bin.MatMult (Trees.Name (119 ∷ []) Load) ∷ [])) []
+row_182 = refl
+
+-- x @ y
+row_183 : read_line Py311 (in_form (120 ∷ []) ∷ Op Sign.At ∷ in_form (121 ∷ []) ∷ []) ≡ Found (simple_form (ExprOf (Trees.BinOp (Trees.Name (120 ∷ []) Load) Bin.MatMult (Trees.Name (121 ∷ []) Load)) ∷ [])) []
+row_183 = refl
+
+-- 1: int
+row_184 : read_line Py311 (Whole 1 ∷ Op Sign.Colon ∷ in_form (105 ∷ 110 ∷ 116 ∷ []) ∷ []) ≡ NoForm
+row_184 = refl
+
+-- x: int; y: str = z
+row_185 : read_line Py311 (in_form (120 ∷ []) ∷ Op Sign.Colon ∷ in_form (105 ∷ 110 ∷ 116 ∷ []) ∷ Op Sign.Semi ∷ in_form (121 ∷ []) ∷ Op Sign.Colon ∷ in_form (115 ∷ 116 ∷ 114 ∷ []) ∷ Op Sign.Equal ∷ in_form (122 ∷ []) ∷ []) ≡ Found (simple_form (AnnAssign (Trees.Name (120 ∷ []) Store) (Trees.Name (105 ∷ 110 ∷ 116 ∷ []) Load) None true ∷ AnnAssign (Trees.Name (121 ∷ []) Store) (Trees.Name (115 ∷ 116 ∷ 114 ∷ []) Load) (Some (Trees.Name (122 ∷ []) Load)) true ∷ [])) []
+row_185 = refl
+
+-- lambda: (yield): x
+row_195 : read_line Py311 (Word Key.Lambda ∷ Op Sign.Colon ∷ Op Sign.LPar ∷ Word Key.Yield ∷ Op Sign.RPar ∷ Op Sign.Colon ∷ in_form (120 ∷ []) ∷ []) ≡ NoForm
+row_195 = refl
+
+-- x = *y,
+row_197 : read_line Py311 (in_form (120 ∷ []) ∷ Op Sign.Equal ∷ Op Sign.Star ∷ in_form (121 ∷ []) ∷ Op Sign.Comma ∷ []) ≡ Found (simple_form (Assign ((Trees.Name (120 ∷ []) Store) ∷ []) (Trees.Tuple (Trees.an_expr (Trees.Starred (Trees.Name (121 ∷ []) Load) Load) Trees.no_exprs) Load) ∷ [])) []
+row_197 = refl
+
+-- x = *y
+row_198 : read_line Py311 (in_form (120 ∷ []) ∷ Op Sign.Equal ∷ Op Sign.Star ∷ in_form (121 ∷ []) ∷ []) ≡ Found (simple_form (Assign ((Trees.Name (120 ∷ []) Store) ∷ []) (Trees.Starred (Trees.Name (121 ∷ []) Load) Load) ∷ [])) []
+row_198 = refl
+
+-- x += *y, z
+row_199 : read_line Py311 (in_form (120 ∷ []) ∷ Op Sign.PlusEqual ∷ Op Sign.Star ∷ in_form (121 ∷ []) ∷ Op Sign.Comma ∷ in_form (122 ∷ []) ∷ []) ≡ Found (simple_form (AugAssign (Trees.Name (120 ∷ []) Store) Bin.Add (Trees.Tuple (Trees.an_expr (Trees.Starred (Trees.Name (121 ∷ []) Load) Load) (Trees.an_expr (Trees.Name (122 ∷ []) Load) Trees.no_exprs)) Load) ∷ [])) []
+row_199 = refl

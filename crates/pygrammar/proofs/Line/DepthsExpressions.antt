@@ -1,23 +1,166 @@
--- Worked lines: the depth that is enough for each.
+-- Worked lines that begin with an expression: the depth that is enough for each.
 --
 -- Carries: no contract; its rows are computed as it is checked.
 use Rattle.std.proofs.Common.{◌≡◌, refl, [], ◌∷◌, Some, None, true, false}
 use Rattle.pylex_lexeme.specs.declared.kinds.Exact.TheVariants as Sign
 use Rattle.pytoken.specs.declared.keywords.Keyword.TheVariants as Key
 use Rattle.pytree_node.specs.declared.operators.Operator.TheVariants as Bin
-use Rattle.pytree_node.specs.declared.operators.UnaryOperator.TheVariants as Un
-use Rattle.pytree_node.specs.declared.operators.BoolOperator.TheVariants as Join
-use Rattle.pytree_node.specs.declared.operators.Comparison.TheVariants as Is
-use Rattle.pytree_node.specs.declared.operators.Context.TheVariants.{Load, Store, Del}
+use Rattle.pytree_node.specs.declared.operators.Context.TheVariants.{Load, Store}
 use Rattle.pytree_node.specs.declared.profiles.Profile.TheVariants.{Py311}
 use Rattle.pytree_node.specs.Trees as Trees
 use Rattle.pytree_node.specs.Values as Values
-use Rattle.pytoken.specs.Terminals.{Op, Word, in_form, Whole}
+use Rattle.pytoken.specs.Terminals.{Op, Word, in_form, Whole, Literal}
 use Rattle.pygrammar.specs.Reader.{Found}
-use Rattle.pytree_node.specs.Trees.{Return, Delete, Assign, AugAssign, AnnAssign, Raise, Import, ImportFrom, ExprOf, Pass}
-use Rattle.pygrammar.specs.Lines.{simple_form, decorator_form, header_form, loop_header, with_header, def_header, for_head, function_head, class_head}
-use Rattle.pygrammar.specs.Forms.{alias, item}
+use Rattle.pytree_node.specs.Trees.{Assign, AugAssign, AnnAssign, ExprOf}
+use Rattle.pygrammar.specs.Lines.{simple_form}
 use Rattle.pygrammar.specs.LineReader.{read_line_to}
+use Rattle.pytree_node.specs.declared.operators.UnaryOperator.TheVariants as Un
+use Rattle.pytree_node.specs.declared.operators.Comparison.TheVariants as Is
+use Rattle.pytree_node.specs.declared.operators.BoolOperator.TheVariants as Join
+
+-- x
+depth_0 : read_line_to Py311 1 (in_form (120 ∷ []) ∷ []) ≡ Found (simple_form (ExprOf (Trees.Name (120 ∷ []) Load) ∷ [])) []
+depth_0 = refl
+
+-- x ; y
+depth_1 : read_line_to Py311 1 (in_form (120 ∷ []) ∷ Op Sign.Semi ∷ in_form (121 ∷ []) ∷ []) ≡ Found (simple_form (ExprOf (Trees.Name (120 ∷ []) Load) ∷ ExprOf (Trees.Name (121 ∷ []) Load) ∷ [])) []
+depth_1 = refl
+
+-- x ;
+depth_2 : read_line_to Py311 1 (in_form (120 ∷ []) ∷ Op Sign.Semi ∷ []) ≡ Found (simple_form (ExprOf (Trees.Name (120 ∷ []) Load) ∷ [])) []
+depth_2 = refl
+
+-- x = y
+depth_3 : read_line_to Py311 1 (in_form (120 ∷ []) ∷ Op Sign.Equal ∷ in_form (121 ∷ []) ∷ []) ≡ Found (simple_form (Assign ((Trees.Name (120 ∷ []) Store) ∷ []) (Trees.Name (121 ∷ []) Load) ∷ [])) []
+depth_3 = refl
+
+-- x = y = z , * w
+depth_4 : read_line_to Py311 3 (in_form (120 ∷ []) ∷ Op Sign.Equal ∷ in_form (121 ∷ []) ∷ Op Sign.Equal ∷ in_form (122 ∷ []) ∷ Op Sign.Comma ∷ Op Sign.Star ∷ in_form (119 ∷ []) ∷ []) ≡ Found (simple_form (Assign ((Trees.Name (120 ∷ []) Store) ∷ (Trees.Name (121 ∷ []) Store) ∷ []) (Trees.Tuple (Trees.an_expr (Trees.Name (122 ∷ []) Load) (Trees.an_expr (Trees.Starred (Trees.Name (119 ∷ []) Load) Load) Trees.no_exprs)) Load) ∷ [])) []
+depth_4 = refl
+
+-- a = yield
+depth_5 : read_line_to Py311 1 (in_form (97 ∷ []) ∷ Op Sign.Equal ∷ Word Key.Yield ∷ []) ≡ Found (simple_form (Assign ((Trees.Name (97 ∷ []) Store) ∷ []) (Trees.Yield Trees.absent) ∷ [])) []
+depth_5 = refl
+
+-- a = yield b
+depth_6 : read_line_to Py311 2 (in_form (97 ∷ []) ∷ Op Sign.Equal ∷ Word Key.Yield ∷ in_form (98 ∷ []) ∷ []) ≡ Found (simple_form (Assign ((Trees.Name (97 ∷ []) Store) ∷ []) (Trees.Yield (Trees.present (Trees.Name (98 ∷ []) Load))) ∷ [])) []
+depth_6 = refl
+
+-- ( x ) = 1
+depth_7 : read_line_to Py311 2 (Op Sign.LPar ∷ in_form (120 ∷ []) ∷ Op Sign.RPar ∷ Op Sign.Equal ∷ Whole 1 ∷ []) ≡ Found (simple_form (Assign ((Trees.Name (120 ∷ []) Store) ∷ []) (Trees.Constant (Values.Int 1)) ∷ [])) []
+depth_7 = refl
+
+-- [ a , * b ] = c
+depth_8 : read_line_to Py311 4 (Op Sign.LSqb ∷ in_form (97 ∷ []) ∷ Op Sign.Comma ∷ Op Sign.Star ∷ in_form (98 ∷ []) ∷ Op Sign.RSqb ∷ Op Sign.Equal ∷ in_form (99 ∷ []) ∷ []) ≡ Found (simple_form (Assign ((Trees.ListOf (Trees.an_expr (Trees.Name (97 ∷ []) Store) (Trees.an_expr (Trees.Starred (Trees.Name (98 ∷ []) Store) Store) Trees.no_exprs)) Store) ∷ []) (Trees.Name (99 ∷ []) Load) ∷ [])) []
+depth_8 = refl
+
+-- ( a , b ) , c = d
+depth_9 : read_line_to Py311 4 (Op Sign.LPar ∷ in_form (97 ∷ []) ∷ Op Sign.Comma ∷ in_form (98 ∷ []) ∷ Op Sign.RPar ∷ Op Sign.Comma ∷ in_form (99 ∷ []) ∷ Op Sign.Equal ∷ in_form (100 ∷ []) ∷ []) ≡ Found (simple_form (Assign ((Trees.Tuple (Trees.an_expr (Trees.Tuple (Trees.an_expr (Trees.Name (97 ∷ []) Store) (Trees.an_expr (Trees.Name (98 ∷ []) Store) Trees.no_exprs)) Store) (Trees.an_expr (Trees.Name (99 ∷ []) Store) Trees.no_exprs)) Store) ∷ []) (Trees.Name (100 ∷ []) Load) ∷ [])) []
+depth_9 = refl
+
+-- * a , b = c
+depth_10 : read_line_to Py311 3 (Op Sign.Star ∷ in_form (97 ∷ []) ∷ Op Sign.Comma ∷ in_form (98 ∷ []) ∷ Op Sign.Equal ∷ in_form (99 ∷ []) ∷ []) ≡ Found (simple_form (Assign ((Trees.Tuple (Trees.an_expr (Trees.Starred (Trees.Name (97 ∷ []) Store) Store) (Trees.an_expr (Trees.Name (98 ∷ []) Store) Trees.no_exprs)) Store) ∷ []) (Trees.Name (99 ∷ []) Load) ∷ [])) []
+depth_10 = refl
+
+-- * a = b
+depth_11 : read_line_to Py311 2 (Op Sign.Star ∷ in_form (97 ∷ []) ∷ Op Sign.Equal ∷ in_form (98 ∷ []) ∷ []) ≡ Found (simple_form (Assign ((Trees.Starred (Trees.Name (97 ∷ []) Store) Store) ∷ []) (Trees.Name (98 ∷ []) Load) ∷ [])) []
+depth_11 = refl
+
+-- a , = b
+depth_12 : read_line_to Py311 2 (in_form (97 ∷ []) ∷ Op Sign.Comma ∷ Op Sign.Equal ∷ in_form (98 ∷ []) ∷ []) ≡ Found (simple_form (Assign ((Trees.Tuple (Trees.an_expr (Trees.Name (97 ∷ []) Store) Trees.no_exprs) Store) ∷ []) (Trees.Name (98 ∷ []) Load) ∷ [])) []
+depth_12 = refl
+
+-- x += 1
+depth_13 : read_line_to Py311 1 (in_form (120 ∷ []) ∷ Op Sign.PlusEqual ∷ Whole 1 ∷ []) ≡ Found (simple_form (AugAssign (Trees.Name (120 ∷ []) Store) Bin.Add (Trees.Constant (Values.Int 1)) ∷ [])) []
+depth_13 = refl
+
+-- ( x ) += 1
+depth_14 : read_line_to Py311 2 (Op Sign.LPar ∷ in_form (120 ∷ []) ∷ Op Sign.RPar ∷ Op Sign.PlusEqual ∷ Whole 1 ∷ []) ≡ Found (simple_form (AugAssign (Trees.Name (120 ∷ []) Store) Bin.Add (Trees.Constant (Values.Int 1)) ∷ [])) []
+depth_14 = refl
+
+-- a . b **= yield c
+depth_15 : read_line_to Py311 2 (in_form (97 ∷ []) ∷ Op Sign.Dot ∷ in_form (98 ∷ []) ∷ Op Sign.DoubleStarEqual ∷ Word Key.Yield ∷ in_form (99 ∷ []) ∷ []) ≡ Found (simple_form (AugAssign (Trees.Attribute (Trees.Name (97 ∷ []) Load) (98 ∷ []) Store) Bin.Pow (Trees.Yield (Trees.present (Trees.Name (99 ∷ []) Load))) ∷ [])) []
+depth_15 = refl
+
+-- x : int
+depth_16 : read_line_to Py311 1 (in_form (120 ∷ []) ∷ Op Sign.Colon ∷ in_form (105 ∷ 110 ∷ 116 ∷ []) ∷ []) ≡ Found (simple_form (AnnAssign (Trees.Name (120 ∷ []) Store) (Trees.Name (105 ∷ 110 ∷ 116 ∷ []) Load) None true ∷ [])) []
+depth_16 = refl
+
+-- x : int = 5
+depth_17 : read_line_to Py311 1 (in_form (120 ∷ []) ∷ Op Sign.Colon ∷ in_form (105 ∷ 110 ∷ 116 ∷ []) ∷ Op Sign.Equal ∷ Whole 5 ∷ []) ≡ Found (simple_form (AnnAssign (Trees.Name (120 ∷ []) Store) (Trees.Name (105 ∷ 110 ∷ 116 ∷ []) Load) (Some (Trees.Constant (Values.Int 5))) true ∷ [])) []
+depth_17 = refl
+
+-- x : y = z
+depth_18 : read_line_to Py311 1 (in_form (120 ∷ []) ∷ Op Sign.Colon ∷ in_form (121 ∷ []) ∷ Op Sign.Equal ∷ in_form (122 ∷ []) ∷ []) ≡ Found (simple_form (AnnAssign (Trees.Name (120 ∷ []) Store) (Trees.Name (121 ∷ []) Load) (Some (Trees.Name (122 ∷ []) Load)) true ∷ [])) []
+depth_18 = refl
+
+-- x : int = yield
+depth_19 : read_line_to Py311 1 (in_form (120 ∷ []) ∷ Op Sign.Colon ∷ in_form (105 ∷ 110 ∷ 116 ∷ []) ∷ Op Sign.Equal ∷ Word Key.Yield ∷ []) ≡ Found (simple_form (AnnAssign (Trees.Name (120 ∷ []) Store) (Trees.Name (105 ∷ 110 ∷ 116 ∷ []) Load) (Some (Trees.Yield Trees.absent)) true ∷ [])) []
+depth_19 = refl
+
+-- ( x ) : int
+depth_20 : read_line_to Py311 2 (Op Sign.LPar ∷ in_form (120 ∷ []) ∷ Op Sign.RPar ∷ Op Sign.Colon ∷ in_form (105 ∷ 110 ∷ 116 ∷ []) ∷ []) ≡ Found (simple_form (AnnAssign (Trees.Name (120 ∷ []) Store) (Trees.Name (105 ∷ 110 ∷ 116 ∷ []) Load) None false ∷ [])) []
+depth_20 = refl
+
+-- ( ( x ) ) : int
+depth_21 : read_line_to Py311 3 (Op Sign.LPar ∷ Op Sign.LPar ∷ in_form (120 ∷ []) ∷ Op Sign.RPar ∷ Op Sign.RPar ∷ Op Sign.Colon ∷ in_form (105 ∷ 110 ∷ 116 ∷ []) ∷ []) ≡ Found (simple_form (AnnAssign (Trees.Name (120 ∷ []) Store) (Trees.Name (105 ∷ 110 ∷ 116 ∷ []) Load) None false ∷ [])) []
+depth_21 = refl
+
+-- ( a . b ) : c
+depth_22 : read_line_to Py311 3 (Op Sign.LPar ∷ in_form (97 ∷ []) ∷ Op Sign.Dot ∷ in_form (98 ∷ []) ∷ Op Sign.RPar ∷ Op Sign.Colon ∷ in_form (99 ∷ []) ∷ []) ≡ Found (simple_form (AnnAssign (Trees.Attribute (Trees.Name (97 ∷ []) Load) (98 ∷ []) Store) (Trees.Name (99 ∷ []) Load) None false ∷ [])) []
+depth_22 = refl
+
+-- a . b : c
+depth_23 : read_line_to Py311 2 (in_form (97 ∷ []) ∷ Op Sign.Dot ∷ in_form (98 ∷ []) ∷ Op Sign.Colon ∷ in_form (99 ∷ []) ∷ []) ≡ Found (simple_form (AnnAssign (Trees.Attribute (Trees.Name (97 ∷ []) Load) (98 ∷ []) Store) (Trees.Name (99 ∷ []) Load) None false ∷ [])) []
+depth_23 = refl
+
+-- a [ b ] : c = d
+depth_24 : read_line_to Py311 3 (in_form (97 ∷ []) ∷ Op Sign.LSqb ∷ in_form (98 ∷ []) ∷ Op Sign.RSqb ∷ Op Sign.Colon ∷ in_form (99 ∷ []) ∷ Op Sign.Equal ∷ in_form (100 ∷ []) ∷ []) ≡ Found (simple_form (AnnAssign (Trees.Subscript (Trees.Name (97 ∷ []) Load) (Trees.Name (98 ∷ []) Load) Store) (Trees.Name (99 ∷ []) Load) (Some (Trees.Name (100 ∷ []) Load)) false ∷ [])) []
+depth_24 = refl
+
+-- ( a ) . b : c
+depth_25 : read_line_to Py311 3 (Op Sign.LPar ∷ in_form (97 ∷ []) ∷ Op Sign.RPar ∷ Op Sign.Dot ∷ in_form (98 ∷ []) ∷ Op Sign.Colon ∷ in_form (99 ∷ []) ∷ []) ≡ Found (simple_form (AnnAssign (Trees.Attribute (Trees.Name (97 ∷ []) Load) (98 ∷ []) Store) (Trees.Name (99 ∷ []) Load) None false ∷ [])) []
+depth_25 = refl
+
+-- lambda : x
+depth_26 : read_line_to Py311 2 (Word Key.Lambda ∷ Op Sign.Colon ∷ in_form (120 ∷ []) ∷ []) ≡ Found (simple_form (ExprOf (Trees.Lambda (Trees.arguments Trees.no_arg Trees.no_arg Trees.absent_arg Trees.no_arg Trees.no_optional Trees.absent_arg Trees.no_exprs) (Trees.Name (120 ∷ []) Load)) ∷ [])) []
+depth_26 = refl
+
+-- x = lambda : y
+depth_27 : read_line_to Py311 2 (in_form (120 ∷ []) ∷ Op Sign.Equal ∷ Word Key.Lambda ∷ Op Sign.Colon ∷ in_form (121 ∷ []) ∷ []) ≡ Found (simple_form (Assign ((Trees.Name (120 ∷ []) Store) ∷ []) (Trees.Lambda (Trees.arguments Trees.no_arg Trees.no_arg Trees.absent_arg Trees.no_arg Trees.no_optional Trees.absent_arg Trees.no_exprs) (Trees.Name (121 ∷ []) Load)) ∷ [])) []
+depth_27 = refl
+
+-- x : lambda : y = z
+depth_28 : read_line_to Py311 2 (in_form (120 ∷ []) ∷ Op Sign.Colon ∷ Word Key.Lambda ∷ Op Sign.Colon ∷ in_form (121 ∷ []) ∷ Op Sign.Equal ∷ in_form (122 ∷ []) ∷ []) ≡ Found (simple_form (AnnAssign (Trees.Name (120 ∷ []) Store) (Trees.Lambda (Trees.arguments Trees.no_arg Trees.no_arg Trees.absent_arg Trees.no_arg Trees.no_optional Trees.absent_arg Trees.no_exprs) (Trees.Name (121 ∷ []) Load)) (Some (Trees.Name (122 ∷ []) Load)) true ∷ [])) []
+depth_28 = refl
+
+-- print >> x , y
+depth_29 : read_line_to Py311 3 (in_form (112 ∷ 114 ∷ 105 ∷ 110 ∷ 116 ∷ []) ∷ Op Sign.RightShift ∷ in_form (120 ∷ []) ∷ Op Sign.Comma ∷ in_form (121 ∷ []) ∷ []) ≡ Found (simple_form (ExprOf (Trees.Tuple (Trees.an_expr (Trees.BinOp (Trees.Name (112 ∷ 114 ∷ 105 ∷ 110 ∷ 116 ∷ []) Load) Bin.RShift (Trees.Name (120 ∷ []) Load)) (Trees.an_expr (Trees.Name (121 ∷ []) Load) Trees.no_exprs)) Load) ∷ [])) []
+depth_29 = refl
+
+-- a . b = c [ d ] = e
+depth_124 : read_line_to Py311 3 (in_form (97 ∷ []) ∷ Op Sign.Dot ∷ in_form (98 ∷ []) ∷ Op Sign.Equal ∷ in_form (99 ∷ []) ∷ Op Sign.LSqb ∷ in_form (100 ∷ []) ∷ Op Sign.RSqb ∷ Op Sign.Equal ∷ in_form (101 ∷ []) ∷ []) ≡ Found (simple_form (Assign ((Trees.Attribute (Trees.Name (97 ∷ []) Load) (98 ∷ []) Store) ∷ (Trees.Subscript (Trees.Name (99 ∷ []) Load) (Trees.Name (100 ∷ []) Load) Store) ∷ []) (Trees.Name (101 ∷ []) Load) ∷ [])) []
+depth_124 = refl
+
+-- a [ b : c ] = d
+depth_125 : read_line_to Py311 4 (in_form (97 ∷ []) ∷ Op Sign.LSqb ∷ in_form (98 ∷ []) ∷ Op Sign.Colon ∷ in_form (99 ∷ []) ∷ Op Sign.RSqb ∷ Op Sign.Equal ∷ in_form (100 ∷ []) ∷ []) ≡ Found (simple_form (Assign ((Trees.Subscript (Trees.Name (97 ∷ []) Load) (Trees.Slice (Trees.present (Trees.Name (98 ∷ []) Load)) (Trees.present (Trees.Name (99 ∷ []) Load)) Trees.absent) Store) ∷ []) (Trees.Name (100 ∷ []) Load) ∷ [])) []
+depth_125 = refl
+
+-- "x" "y"
+depth_126 : read_line_to Py311 1 (Literal (Values.Str (120 ∷ []) false) ∷ Literal (Values.Str (121 ∷ []) false) ∷ []) ≡ Found (simple_form (ExprOf (Trees.Constant (Values.Str (120 ∷ 121 ∷ []) false)) ∷ [])) []
+depth_126 = refl
+
+-- x == y
+depth_127 : read_line_to Py311 2 (in_form (120 ∷ []) ∷ Op Sign.EqEqual ∷ in_form (121 ∷ []) ∷ []) ≡ Found (simple_form (ExprOf (Trees.Compare (Trees.Name (120 ∷ []) Load) (Is.Eq ∷ []) (Trees.an_expr (Trees.Name (121 ∷ []) Load) Trees.no_exprs)) ∷ [])) []
+depth_127 = refl
+
+-- not x
+depth_128 : read_line_to Py311 2 (Word Key.Not ∷ in_form (120 ∷ []) ∷ []) ≡ Found (simple_form (ExprOf (Trees.UnaryOp Un.Not (Trees.Name (120 ∷ []) Load)) ∷ [])) []
+depth_128 = refl
+
+-- await x
+depth_129 : read_line_to Py311 2 (Word Key.Await ∷ in_form (120 ∷ []) ∷ []) ≡ Found (simple_form (ExprOf (Trees.Await (Trees.Name (120 ∷ []) Load)) ∷ [])) []
+depth_129 = refl
 
 -- { x : y }
 depth_130 : read_line_to Py311 3 (Op Sign.LBrace ∷ in_form (120 ∷ []) ∷ Op Sign.Colon ∷ in_form (121 ∷ []) ∷ Op Sign.RBrace ∷ []) ≡ Found (simple_form (ExprOf (Trees.Dict (Trees.an_optional (Trees.present (Trees.Name (120 ∷ []) Load)) Trees.no_optional) (Trees.an_expr (Trees.Name (121 ∷ []) Load) Trees.no_exprs)) ∷ [])) []
@@ -39,22 +182,6 @@ depth_133 = refl
 depth_134 : read_line_to Py311 1 (in_form (120 ∷ []) ∷ Op Sign.Colon ∷ in_form (105 ∷ 110 ∷ 116 ∷ []) ∷ Op Sign.Semi ∷ in_form (121 ∷ []) ∷ Op Sign.Colon ∷ in_form (115 ∷ 116 ∷ 114 ∷ []) ∷ Op Sign.Equal ∷ in_form (122 ∷ []) ∷ []) ≡ Found (simple_form (AnnAssign (Trees.Name (120 ∷ []) Store) (Trees.Name (105 ∷ 110 ∷ 116 ∷ []) Load) None true ∷ AnnAssign (Trees.Name (121 ∷ []) Store) (Trees.Name (115 ∷ 116 ∷ 114 ∷ []) Load) (Some (Trees.Name (122 ∷ []) Load)) true ∷ [])) []
 depth_134 = refl
 
--- import a ; from b import c ; pass
-depth_135 : read_line_to Py311 0 (Word Key.Import ∷ in_form (97 ∷ []) ∷ Op Sign.Semi ∷ Word Key.From ∷ in_form (98 ∷ []) ∷ Word Key.Import ∷ in_form (99 ∷ []) ∷ Op Sign.Semi ∷ Word Key.Pass ∷ []) ≡ Found (simple_form (Import (alias (97 ∷ []) None ∷ []) ∷ ImportFrom (Some (98 ∷ [])) (alias (99 ∷ []) None ∷ []) 0 ∷ Pass ∷ [])) []
-depth_135 = refl
-
--- for x in y : z ; w ;
-depth_136 : read_line_to Py311 1 (Word Key.For ∷ in_form (120 ∷ []) ∷ Word Key.In ∷ in_form (121 ∷ []) ∷ Op Sign.Colon ∷ in_form (122 ∷ []) ∷ Op Sign.Semi ∷ in_form (119 ∷ []) ∷ Op Sign.Semi ∷ []) ≡ Found (header_form (loop_header (for_head false (Trees.Name (120 ∷ []) Store) (Trees.Name (121 ∷ []) Load))) (Some (ExprOf (Trees.Name (122 ∷ []) Load) ∷ ExprOf (Trees.Name (119 ∷ []) Load) ∷ []))) []
-depth_136 = refl
-
--- class C : x : int = 1
-depth_137 : read_line_to Py311 1 (Word Key.Class ∷ in_form (67 ∷ []) ∷ Op Sign.Colon ∷ in_form (120 ∷ []) ∷ Op Sign.Colon ∷ in_form (105 ∷ 110 ∷ 116 ∷ []) ∷ Op Sign.Equal ∷ Whole 1 ∷ []) ≡ Found (header_form (def_header (class_head (67 ∷ []) [] ([]) Trees.no_keyword)) (Some (AnnAssign (Trees.Name (120 ∷ []) Store) (Trees.Name (105 ∷ 110 ∷ 116 ∷ []) Load) (Some (Trees.Constant (Values.Int 1))) true ∷ []))) []
-depth_137 = refl
-
--- with a as b : c : d
-depth_138 : read_line_to Py311 1 (Word Key.With ∷ in_form (97 ∷ []) ∷ Word Key.As ∷ in_form (98 ∷ []) ∷ Op Sign.Colon ∷ in_form (99 ∷ []) ∷ Op Sign.Colon ∷ in_form (100 ∷ []) ∷ []) ≡ Found (header_form (with_header false (item (Trees.Name (97 ∷ []) Load) (Some (Trees.Name (98 ∷ []) Store)) ∷ [])) (Some (AnnAssign (Trees.Name (99 ∷ []) Store) (Trees.Name (100 ∷ []) Load) None true ∷ []))) []
-depth_138 = refl
-
 -- x = * y ,
 depth_139 : read_line_to Py311 3 (in_form (120 ∷ []) ∷ Op Sign.Equal ∷ Op Sign.Star ∷ in_form (121 ∷ []) ∷ Op Sign.Comma ∷ []) ≡ Found (simple_form (Assign ((Trees.Name (120 ∷ []) Store) ∷ []) (Trees.Tuple (Trees.an_expr (Trees.Starred (Trees.Name (121 ∷ []) Load) Load) Trees.no_exprs) Load) ∷ [])) []
 depth_139 = refl
@@ -66,10 +193,6 @@ depth_140 = refl
 -- x += * y , z
 depth_141 : read_line_to Py311 3 (in_form (120 ∷ []) ∷ Op Sign.PlusEqual ∷ Op Sign.Star ∷ in_form (121 ∷ []) ∷ Op Sign.Comma ∷ in_form (122 ∷ []) ∷ []) ≡ Found (simple_form (AugAssign (Trees.Name (120 ∷ []) Store) Bin.Add (Trees.Tuple (Trees.an_expr (Trees.Starred (Trees.Name (121 ∷ []) Load) Load) (Trees.an_expr (Trees.Name (122 ∷ []) Load) Trees.no_exprs)) Load) ∷ [])) []
 depth_141 = refl
-
--- return * a ,
-depth_142 : read_line_to Py311 3 (Word Key.Return ∷ Op Sign.Star ∷ in_form (97 ∷ []) ∷ Op Sign.Comma ∷ []) ≡ Found (simple_form (Return (Some (Trees.Tuple (Trees.an_expr (Trees.Starred (Trees.Name (97 ∷ []) Load) Load) Trees.no_exprs) Load)) ∷ [])) []
-depth_142 = refl
 
 -- - - - x
 depth_143 : read_line_to Py311 4 (Op Sign.Minus ∷ Op Sign.Minus ∷ Op Sign.Minus ∷ in_form (120 ∷ []) ∷ []) ≡ Found (simple_form (ExprOf (Trees.UnaryOp Un.USub (Trees.UnaryOp Un.USub (Trees.UnaryOp Un.USub (Trees.Name (120 ∷ []) Load)))) ∷ [])) []
@@ -135,46 +258,6 @@ depth_157 = refl
 depth_158 : read_line_to Py311 3 (in_form (97 ∷ []) ∷ Op Sign.Colon ∷ Op Sign.LPar ∷ Op Sign.LPar ∷ in_form (98 ∷ []) ∷ Op Sign.RPar ∷ Op Sign.RPar ∷ Op Sign.Equal ∷ Op Sign.LPar ∷ Op Sign.LPar ∷ in_form (99 ∷ []) ∷ Op Sign.RPar ∷ Op Sign.RPar ∷ []) ≡ Found (simple_form (AnnAssign (Trees.Name (97 ∷ []) Store) (Trees.Name (98 ∷ []) Load) (Some (Trees.Name (99 ∷ []) Load)) true ∷ [])) []
 depth_158 = refl
 
--- with ( ( a ) ) : b
-depth_159 : read_line_to Py311 3 (Word Key.With ∷ Op Sign.LPar ∷ Op Sign.LPar ∷ in_form (97 ∷ []) ∷ Op Sign.RPar ∷ Op Sign.RPar ∷ Op Sign.Colon ∷ in_form (98 ∷ []) ∷ []) ≡ Found (header_form (with_header false (item (Trees.Name (97 ∷ []) Load) None ∷ [])) (Some (ExprOf (Trees.Name (98 ∷ []) Load) ∷ []))) []
-depth_159 = refl
-
--- with ( ( a ) ) as ( ( b ) ) : c
-depth_160 : read_line_to Py311 3 (Word Key.With ∷ Op Sign.LPar ∷ Op Sign.LPar ∷ in_form (97 ∷ []) ∷ Op Sign.RPar ∷ Op Sign.RPar ∷ Word Key.As ∷ Op Sign.LPar ∷ Op Sign.LPar ∷ in_form (98 ∷ []) ∷ Op Sign.RPar ∷ Op Sign.RPar ∷ Op Sign.Colon ∷ in_form (99 ∷ []) ∷ []) ≡ Found (header_form (with_header false (item (Trees.Name (97 ∷ []) Load) (Some (Trees.Name (98 ∷ []) Store)) ∷ [])) (Some (ExprOf (Trees.Name (99 ∷ []) Load) ∷ []))) []
-depth_160 = refl
-
--- with ( ( ( a ) ) as ( ( b ) ) ) : c
-depth_161 : read_line_to Py311 4 (Word Key.With ∷ Op Sign.LPar ∷ Op Sign.LPar ∷ Op Sign.LPar ∷ in_form (97 ∷ []) ∷ Op Sign.RPar ∷ Op Sign.RPar ∷ Word Key.As ∷ Op Sign.LPar ∷ Op Sign.LPar ∷ in_form (98 ∷ []) ∷ Op Sign.RPar ∷ Op Sign.RPar ∷ Op Sign.RPar ∷ Op Sign.Colon ∷ in_form (99 ∷ []) ∷ []) ≡ Found (header_form (with_header false (item (Trees.Name (97 ∷ []) Load) (Some (Trees.Name (98 ∷ []) Store)) ∷ [])) (Some (ExprOf (Trees.Name (99 ∷ []) Load) ∷ []))) []
-depth_161 = refl
-
--- with ( ( ( ( a ) ) ) ) . b : c
-depth_162 : read_line_to Py311 6 (Word Key.With ∷ Op Sign.LPar ∷ Op Sign.LPar ∷ Op Sign.LPar ∷ Op Sign.LPar ∷ in_form (97 ∷ []) ∷ Op Sign.RPar ∷ Op Sign.RPar ∷ Op Sign.RPar ∷ Op Sign.RPar ∷ Op Sign.Dot ∷ in_form (98 ∷ []) ∷ Op Sign.Colon ∷ in_form (99 ∷ []) ∷ []) ≡ Found (header_form (with_header false (item (Trees.Attribute (Trees.Name (97 ∷ []) Load) (98 ∷ []) Load) None ∷ [])) (Some (ExprOf (Trees.Name (99 ∷ []) Load) ∷ []))) []
-depth_162 = refl
-
--- for ( ( a ) ) , [ b ] in ( ( c ) ) : d
-depth_163 : read_line_to Py311 5 (Word Key.For ∷ Op Sign.LPar ∷ Op Sign.LPar ∷ in_form (97 ∷ []) ∷ Op Sign.RPar ∷ Op Sign.RPar ∷ Op Sign.Comma ∷ Op Sign.LSqb ∷ in_form (98 ∷ []) ∷ Op Sign.RSqb ∷ Word Key.In ∷ Op Sign.LPar ∷ Op Sign.LPar ∷ in_form (99 ∷ []) ∷ Op Sign.RPar ∷ Op Sign.RPar ∷ Op Sign.Colon ∷ in_form (100 ∷ []) ∷ []) ≡ Found (header_form (loop_header (for_head false (Trees.Tuple (Trees.an_expr (Trees.Name (97 ∷ []) Store) (Trees.an_expr (Trees.ListOf (Trees.an_expr (Trees.Name (98 ∷ []) Store) Trees.no_exprs) Store) Trees.no_exprs)) Store) (Trees.Name (99 ∷ []) Load))) (Some (ExprOf (Trees.Name (100 ∷ []) Load) ∷ []))) []
-depth_163 = refl
-
--- def f ( a : ( ( b ) ) = ( ( c ) ) ) -> ( ( d ) ) : e
-depth_164 : read_line_to Py311 4 (Word Key.Def ∷ in_form (102 ∷ []) ∷ Op Sign.LPar ∷ in_form (97 ∷ []) ∷ Op Sign.Colon ∷ Op Sign.LPar ∷ Op Sign.LPar ∷ in_form (98 ∷ []) ∷ Op Sign.RPar ∷ Op Sign.RPar ∷ Op Sign.Equal ∷ Op Sign.LPar ∷ Op Sign.LPar ∷ in_form (99 ∷ []) ∷ Op Sign.RPar ∷ Op Sign.RPar ∷ Op Sign.RPar ∷ Op Sign.RArrow ∷ Op Sign.LPar ∷ Op Sign.LPar ∷ in_form (100 ∷ []) ∷ Op Sign.RPar ∷ Op Sign.RPar ∷ Op Sign.Colon ∷ in_form (101 ∷ []) ∷ []) ≡ Found (header_form (def_header (function_head false (102 ∷ []) [] (Trees.arguments Trees.no_arg (Trees.an_arg (Trees.arg (97 ∷ []) (Trees.present (Trees.Name (98 ∷ []) Load))) Trees.no_arg) Trees.absent_arg Trees.no_arg Trees.no_optional Trees.absent_arg (Trees.an_expr (Trees.Name (99 ∷ []) Load) Trees.no_exprs)) (Some (Trees.Name (100 ∷ []) Load)))) (Some (ExprOf (Trees.Name (101 ∷ []) Load) ∷ []))) []
-depth_164 = refl
-
--- class C ( ( a ) , * ( ( b ) ) , ** ( ( c ) ) ) : d
-depth_165 : read_line_to Py311 5 (Word Key.Class ∷ in_form (67 ∷ []) ∷ Op Sign.LPar ∷ Op Sign.LPar ∷ in_form (97 ∷ []) ∷ Op Sign.RPar ∷ Op Sign.Comma ∷ Op Sign.Star ∷ Op Sign.LPar ∷ Op Sign.LPar ∷ in_form (98 ∷ []) ∷ Op Sign.RPar ∷ Op Sign.RPar ∷ Op Sign.Comma ∷ Op Sign.DoubleStar ∷ Op Sign.LPar ∷ Op Sign.LPar ∷ in_form (99 ∷ []) ∷ Op Sign.RPar ∷ Op Sign.RPar ∷ Op Sign.RPar ∷ Op Sign.Colon ∷ in_form (100 ∷ []) ∷ []) ≡ Found (header_form (def_header (class_head (67 ∷ []) [] ((Trees.Name (97 ∷ []) Load) ∷ (Trees.Starred (Trees.Name (98 ∷ []) Load) Load) ∷ []) (Trees.a_keyword None (Trees.Name (99 ∷ []) Load) Trees.no_keyword))) (Some (ExprOf (Trees.Name (100 ∷ []) Load) ∷ []))) []
-depth_165 = refl
-
--- @ ( ( a ) )
-depth_166 : read_line_to Py311 3 (Op Sign.At ∷ Op Sign.LPar ∷ Op Sign.LPar ∷ in_form (97 ∷ []) ∷ Op Sign.RPar ∷ Op Sign.RPar ∷ []) ≡ Found (decorator_form (Trees.Name (97 ∷ []) Load)) []
-depth_166 = refl
-
--- del ( ( a ) ) , [ [ b ] ]
-depth_167 : read_line_to Py311 5 (Word Key.Del ∷ Op Sign.LPar ∷ Op Sign.LPar ∷ in_form (97 ∷ []) ∷ Op Sign.RPar ∷ Op Sign.RPar ∷ Op Sign.Comma ∷ Op Sign.LSqb ∷ Op Sign.LSqb ∷ in_form (98 ∷ []) ∷ Op Sign.RSqb ∷ Op Sign.RSqb ∷ []) ≡ Found (simple_form (Delete ((Trees.Name (97 ∷ []) Del) ∷ (Trees.ListOf (Trees.an_expr (Trees.ListOf (Trees.an_expr (Trees.Name (98 ∷ []) Del) Trees.no_exprs) Del) Trees.no_exprs) Del) ∷ []) ∷ [])) []
-depth_167 = refl
-
--- raise ( ( a ) ) from ( ( b ) )
-depth_168 : read_line_to Py311 3 (Word Key.Raise ∷ Op Sign.LPar ∷ Op Sign.LPar ∷ in_form (97 ∷ []) ∷ Op Sign.RPar ∷ Op Sign.RPar ∷ Word Key.From ∷ Op Sign.LPar ∷ Op Sign.LPar ∷ in_form (98 ∷ []) ∷ Op Sign.RPar ∷ Op Sign.RPar ∷ []) ≡ Found (simple_form (Raise (Some (Trees.Name (97 ∷ []) Load)) (Some (Trees.Name (98 ∷ []) Load)) ∷ [])) []
-depth_168 = refl
-
 -- await await_
 depth_169 : read_line_to Py311 2 (Word Key.Await ∷ in_form (97 ∷ 119 ∷ 97 ∷ 105 ∷ 116 ∷ 95 ∷ []) ∷ []) ≡ Found (simple_form (ExprOf (Trees.Await (Trees.Name (97 ∷ 119 ∷ 97 ∷ 105 ∷ 116 ∷ 95 ∷ []) Load)) ∷ [])) []
 depth_169 = refl
@@ -234,18 +317,6 @@ depth_182 = refl
 -- not a in not_
 depth_183 : read_line_to Py311 3 (Word Key.Not ∷ in_form (97 ∷ []) ∷ Word Key.In ∷ in_form (110 ∷ 111 ∷ 116 ∷ 95 ∷ []) ∷ []) ≡ Found (simple_form (ExprOf (Trees.UnaryOp Un.Not (Trees.Compare (Trees.Name (97 ∷ []) Load) (Is.Within ∷ []) (Trees.an_expr (Trees.Name (110 ∷ 111 ∷ 116 ∷ 95 ∷ []) Load) Trees.no_exprs))) ∷ [])) []
 depth_183 = refl
-
--- with ( a , ( b , ( c ) ) ) : d
-depth_184 : read_line_to Py311 5 (Word Key.With ∷ Op Sign.LPar ∷ in_form (97 ∷ []) ∷ Op Sign.Comma ∷ Op Sign.LPar ∷ in_form (98 ∷ []) ∷ Op Sign.Comma ∷ Op Sign.LPar ∷ in_form (99 ∷ []) ∷ Op Sign.RPar ∷ Op Sign.RPar ∷ Op Sign.RPar ∷ Op Sign.Colon ∷ in_form (100 ∷ []) ∷ []) ≡ Found (header_form (with_header false (item (Trees.Name (97 ∷ []) Load) None ∷ item (Trees.Tuple (Trees.an_expr (Trees.Name (98 ∷ []) Load) (Trees.an_expr (Trees.Name (99 ∷ []) Load) Trees.no_exprs)) Load) None ∷ [])) (Some (ExprOf (Trees.Name (100 ∷ []) Load) ∷ []))) []
-depth_184 = refl
-
--- with ( a , ( b , ( c ) ) ) [ 0 ] : d
-depth_185 : read_line_to Py311 7 (Word Key.With ∷ Op Sign.LPar ∷ in_form (97 ∷ []) ∷ Op Sign.Comma ∷ Op Sign.LPar ∷ in_form (98 ∷ []) ∷ Op Sign.Comma ∷ Op Sign.LPar ∷ in_form (99 ∷ []) ∷ Op Sign.RPar ∷ Op Sign.RPar ∷ Op Sign.RPar ∷ Op Sign.LSqb ∷ Whole 0 ∷ Op Sign.RSqb ∷ Op Sign.Colon ∷ in_form (100 ∷ []) ∷ []) ≡ Found (header_form (with_header false (item (Trees.Subscript (Trees.Tuple (Trees.an_expr (Trees.Name (97 ∷ []) Load) (Trees.an_expr (Trees.Tuple (Trees.an_expr (Trees.Name (98 ∷ []) Load) (Trees.an_expr (Trees.Name (99 ∷ []) Load) Trees.no_exprs)) Load) Trees.no_exprs)) Load) (Trees.Constant (Values.Int 0)) Load) None ∷ [])) (Some (ExprOf (Trees.Name (100 ∷ []) Load) ∷ []))) []
-depth_185 = refl
-
--- with ( a if b else ( c ) ) : d
-depth_186 : read_line_to Py311 4 (Word Key.With ∷ Op Sign.LPar ∷ in_form (97 ∷ []) ∷ Word Key.If ∷ in_form (98 ∷ []) ∷ Word Key.Else ∷ Op Sign.LPar ∷ in_form (99 ∷ []) ∷ Op Sign.RPar ∷ Op Sign.RPar ∷ Op Sign.Colon ∷ in_form (100 ∷ []) ∷ []) ≡ Found (header_form (with_header false (item (Trees.IfExp (Trees.Name (98 ∷ []) Load) (Trees.Name (97 ∷ []) Load) (Trees.Name (99 ∷ []) Load)) None ∷ [])) (Some (ExprOf (Trees.Name (100 ∷ []) Load) ∷ []))) []
-depth_186 = refl
 
 -- f ( ( a ) for b in c )
 depth_187 : read_line_to Py311 5 (in_form (102 ∷ []) ∷ Op Sign.LPar ∷ Op Sign.LPar ∷ in_form (97 ∷ []) ∷ Op Sign.RPar ∷ Word Key.For ∷ in_form (98 ∷ []) ∷ Word Key.In ∷ in_form (99 ∷ []) ∷ Op Sign.RPar ∷ []) ≡ Found (simple_form (ExprOf (Trees.Call (Trees.Name (102 ∷ []) Load) (Trees.an_expr (Trees.GeneratorExp (Trees.Name (97 ∷ []) Load) (Trees.a_comprehension (Trees.Name (98 ∷ []) Store) (Trees.Name (99 ∷ []) Load) Trees.no_exprs false Trees.no_comprehension)) Trees.no_exprs) Trees.no_keyword) ∷ [])) []
