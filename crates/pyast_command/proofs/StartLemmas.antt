@@ -78,8 +78,8 @@ refused exact count resume seen_old seen_new (stream_faults.UnsupportedEncoding 
 refused exact count resume seen_old seen_new (stream_faults.BomConflict place) x r =
     performs _ _ x x _ r.taken _ (quiet count resume) seen_old seen_new r.reach r.reads (λ more broken f w. rw (r.explains.1 more broken f) (refl, Appends-refl x))
 
-is_unread_is : (e : ListingError) → is_unread_code e ≡ true → e ≡ errors.Line line_errors.Unread
-is_unread_is (errors.Line line_errors.Unread) h = refl
+is_unread_is : (e : ListingError) → is_unread_code e ≡ true → e ≡ errors.Line line_errors.FailedRead
+is_unread_is (errors.Line line_errors.FailedRead) h = refl
 is_unread_is (errors.Line line_errors.NotUtf8) h = cc
 is_unread_is (errors.Line line_errors.NotAscii) h = cc
 is_unread_is (errors.Line line_errors.LoneReturn) h = cc
@@ -94,7 +94,7 @@ both : (a b : Bool) → (a && b) ≡ true → (a ≡ true) × (b ≡ true)
 both true b h = (refl, h)
 both false b h = cc
 
-unread_of : (o : Option ListingFault) → elim o [ Some f ↦ is_unread_code f.code | None ↦ false ] ≡ true → (f : ListingFault) × (o ≡ Some f) × (f.code ≡ errors.Line line_errors.Unread)
+unread_of : (o : Option ListingFault) → elim o [ Some f ↦ is_unread_code f.code | None ↦ false ] ≡ true → (f : ListingFault) × (o ≡ Some f) × (f.code ≡ errors.Line line_errors.FailedRead)
 unread_of None h = cc
 unread_of (Some f) h = (f, refl, is_unread_is f.code h)
 

@@ -210,7 +210,7 @@ code_read : (e : ListingError) (place : Place) → is_unread_code e ≡ false �
 code_read (errors.Line line_errors.NotUtf8) place h = λ g. cc
 code_read (errors.Line line_errors.NotAscii) place h = λ g. cc
 code_read (errors.Line line_errors.LoneReturn) place h = λ g. cc
-code_read (errors.Line line_errors.Unread) place h = cc
+code_read (errors.Line line_errors.FailedRead) place h = cc
 code_read errors.BadCharacter place h = λ g. cc
 code_read errors.UnterminatedString place h = λ g. cc
 code_read errors.EofInString place h = λ g. cc

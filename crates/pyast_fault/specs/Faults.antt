@@ -100,7 +100,7 @@ abbrev pub listing_code : ListingError → Option SourceFaultCode
 listing_code (errors.Line line_errors.NotUtf8) = Some NotUtf8
 listing_code (errors.Line line_errors.NotAscii) = Some NotAscii
 listing_code (errors.Line line_errors.LoneReturn) = Some LoneReturn
-listing_code (errors.Line line_errors.Unread) = None
+listing_code (errors.Line line_errors.FailedRead) = None
 listing_code errors.BadCharacter = Some BadCharacter
 listing_code errors.UnterminatedString = Some UnterminatedString
 listing_code errors.EofInString = Some EofInString

@@ -276,7 +276,7 @@ fn source_code(error: ListingError) -> Option<SourceFaultCode>
         ListingError::Line(LineError::NotUtf8) => Some(SourceFaultCode::NotUtf8),
         ListingError::Line(LineError::NotAscii) => Some(SourceFaultCode::NotAscii),
         ListingError::Line(LineError::LoneReturn) => Some(SourceFaultCode::LoneReturn),
-        ListingError::Line(LineError::Unread) => None,
+        ListingError::Line(LineError::FailedRead) => None,
         ListingError::BadCharacter => Some(SourceFaultCode::BadCharacter),
         ListingError::UnterminatedString => Some(SourceFaultCode::UnterminatedString),
         ListingError::EofInString => Some(SourceFaultCode::EofInString),

@@ -10,7 +10,7 @@ use Rattle.pysource.specs.declared.line_reader.Reach.{Reach}
 use Rattle.pylex.specs.declared.line_lister.ResumeFault.{ResumeFault}
 use Rattle.pylex.specs.declared.line_lister.ResumeFault.TheVariants as resumes
 use Rattle.pysource.specs.Limits.{source_limit}
-use Rattle.pysource.specs.declared.faults.LineError.TheVariants.{Unread}
+use Rattle.pysource.specs.declared.faults.LineError.TheVariants.{FailedRead}
 use Rattle.pysource.specs.declared.line_reader.LineRead.{LineRead}
 use Rattle.pysource.specs.declared.line_reader.LineRead.TheVariants as lines
 use Rattle.pylex_lexeme.specs.Lexemes.{left_by_cut, is_open_string}
@@ -133,7 +133,7 @@ pub record Next (seen_old seen_new : Seen) (old new : Streamed) (result : Result
 
 -- a source's listing ends by a line that could not be read whole, before this many entries
 pub record EndsUnread (p : Parts) (n : ℕ) : Type 0 where
-  pub fault : (f : ListingFault) × (fault_of (listing (in_characters p)) ≡ Some f) × (f.code ≡ errors.Line Unread)
+  pub fault : (f : ListingFault) × (fault_of (listing (in_characters p)) ≡ Some f) × (f.code ≡ errors.Line FailedRead)
   pub before : suc (length (entries_of (listing (in_characters p)))) ≤ n
 
 -- A lister that could not resume after a cursor: a read failed before it, or the source has no such cursor.
@@ -156,7 +156,7 @@ ResumeRefusal seen_old seen_new cursor resumes.AnotherSource = Misses seen_old s
 
 -- a step reports a line that could not be read whole
 abbrev pub is_unread_code : ListingError → Bool
-is_unread_code (errors.Line Unread) = true
+is_unread_code (errors.Line FailedRead) = true
 is_unread_code code = false
 
 abbrev pub is_unread : Step → Bool

@@ -81,7 +81,7 @@ fn fault_of(line: LineRead, row: usize) -> Option<LineFault>
         LineRead::Text | LineRead::End => None,
         LineRead::Fault(fault) => Some(fault),
         LineRead::Read => Some(LineFault {
-            code: LineError::Unread,
+            code: LineError::FailedRead,
             place: Place { row, column: 0 },
         }),
     }
@@ -183,7 +183,7 @@ fn ended_before(step: Step) -> ResumeFault
     ensures { IsEndedBy step result }
 {
     if let Step::Fault(fault) = step {
-        if let ListingError::Line(LineError::Unread) = fault.code {
+        if let ListingError::Line(LineError::FailedRead) = fault.code {
             return ResumeFault::Stream(StreamFault::Read);
         }
     }

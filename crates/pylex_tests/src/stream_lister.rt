@@ -200,7 +200,7 @@ fn refuses_cursors_of_other_sources(rt: HostRuntime) -> Result<(), Fail> {
 /// The fault of a line that could not be read whole.
 fn unread(row: usize) -> Step {
     Step::Fault(ListingFault {
-        code: ListingError::Line(LineError::Unread),
+        code: ListingError::Line(LineError::FailedRead),
         place: Place { row, column: 0 },
     })
 }

@@ -18,7 +18,7 @@ use Rattle.pysource.specs.declared.encodings.SourceFault.{SourceFault}
 use Rattle.pysource.specs.declared.encodings.SourceFault.TheVariants as cookies
 use Rattle.pysource.specs.declared.faults.LineFault.{LineFault}
 use Rattle.pysource.specs.declared.faults.LineError.{LineError}
-use Rattle.pysource.specs.declared.faults.LineError.TheVariants.{Unread}
+use Rattle.pysource.specs.declared.faults.LineError.TheVariants.{FailedRead}
 use Rattle.pysource.specs.declared.line_reader.Reach.{Reach}
 use Rattle.pysource.specs.declared.line_reader.Reach.TheVariants.{Reading, End, Broken, Passed}
 use Rattle.pysource.specs.declared.line_reader.LineRead.{LineRead}
@@ -36,7 +36,7 @@ lines_read broken bytes = if broken then filter ends_line (lines_of bytes) else 
 
 -- the fault of the line that could not be read whole
 abbrev pub unread : ℕ → LineFault
-unread row = record { code = Unread; place = record { row = row; column = 0 } }
+unread row = record { code = FailedRead; place = record { row = row; column = 0 } }
 
 -- the text of good lines, and the fault that ends it
 pub record Coming : Type 0 where

@@ -15,7 +15,7 @@ pub enum LineError {
     LoneReturn,
     /// The line could not be read whole: a read failed, or the source has more bytes than
     /// `SOURCE_LIMIT`. It has the column 0. `decode` never gives it.
-    Unread,
+    FailedRead,
 }
 
 /// The first bad byte of a line: what is wrong with it, and its row and column.

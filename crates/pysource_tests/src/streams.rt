@@ -16,7 +16,7 @@ fn name(line: &LineRead) -> &'static str {
             LineError::NotUtf8 => "not UTF-8",
             LineError::NotAscii => "not ASCII",
             LineError::LoneReturn => "lone return",
-            LineError::Unread => "unread",
+            LineError::FailedRead => "unread",
         },
         LineRead::Read => "read",
     }

@@ -10,7 +10,7 @@ use Rattle.pytree_dump_text.specs.Shows.{Shown, Fields, no_field, showns}
 use Rattle.pytree_dump_text.specs.Layout.{text, fields, members, before, deeper, is_flat, is_short, label}
 use Rattle.pytree_dump_text.specs.Slots.{Slot, missing, field, coming, is_missing, node_text, slot_name, slot_shown, with_slot}
 
--- the front of a line, one level deeper and then as it was
+-- the indentation of a line, one level deeper and then as it was
 pub left : (indent : Option ℕ) (f0 f1 f2 : List ℕ) (n : ℕ) → n ≡ length f0 → f1 ≡ deeper indent f0 → f2 ≡ take n f1 → f2 ≡ f0
 left None f0 f1 f2 n long deep cut = cut ∙ ap (take n) deep ∙ ap (λ m. take m f0) long ∙ take_all (length f0) f0 (omega arith)
 left (Some k) f0 f1 f2 n long deep cut =
@@ -39,7 +39,7 @@ field_shown s f f1 o o1 o2 t (field n x) name there named same e1 e2 rest =
     e2 ∙ (λ i. (e1 ∙ (λ j. o ++ before t.one_line (same j) t.first ++ label t.named (named j))) i ++ text s f x) in
     ap (λ z. z ++ fields s f t.one_line t.named false rest) grown ∙ simp append_assoc refl
 
--- the fields behind a first one, where the front of a line was kept
+-- the fields behind a first one, where the indentation of a line was kept
 step : (s : Style) (f g : List ℕ) (o o' : List ℕ) (t t' : Told) (a : Slot) → g ≡ f →
     ((rest : Fields) → o' ++ coming s g t' rest ≡ o ++ coming s g t (with_slot a rest)) →
     (rest : Fields) → o' ++ coming s f t' rest ≡ o ++ coming s f t (with_slot a rest)
@@ -76,7 +76,7 @@ four_fields s f f1 f2 f3 o o1 o2 o3 o4 t t1 t2 t3 t4 a b c d same same2 same3 h1
     three_fields s f f2 f3 o1 o2 o3 o4 t1 t2 t3 t4 b c d (same2 ∙ same) same3 (step s f f1 o1 o2 t1 t2 b same h2) h3 h4
     ∙ h1 (with_slot b (with_slot c (with_slot d no_field)))
 
--- a field before others, where the front of a line was kept
+-- a field before others, where the indentation of a line was kept
 pub then_fields : (s : Style) (f f1 : List ℕ) (o o1 on : List ℕ) (t t1 : Told) (a : Slot) (rest : Fields) → f1 ≡ f →
     ((rest : Fields) → o1 ++ coming s f t1 rest ≡ o ++ coming s f t (with_slot a rest)) →
     on ≡ o1 ++ coming s f1 t1 rest → on ≡ o ++ coming s f t (with_slot a rest)

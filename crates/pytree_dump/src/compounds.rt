@@ -24,7 +24,7 @@ use std::alloc::AllocError;
 #[tactic(auto, using(crate::proofs::TextLemmas::left, crate::proofs::TextLemmas::may_close))]
 pub(crate) fn show_test(
     out: &mut String,
-    front: &mut String,
+    indentation: &mut String,
     style: Style,
     class: &'static str,
     test: &Expr,
@@ -33,22 +33,22 @@ pub(crate) fn show_test(
 ) -> Result<(), AllocError>
     ensures text { OnOk result
         (string_bytes out.new ≡ string_bytes out.old
-        ++ node_text style (string_bytes front.old) class.now
+        ++ node_text style (string_bytes indentation.old) class.now
         (a_field (codes "test") (shown (tree_of test.now))
         (a_field (codes "body") (shown_block style.profile body.now)
         (a_field (codes "orelse") (shown_block style.profile orelse.now) no_field)))) }
-    ensures front { OnOk result (string_bytes front.new ≡ string_bytes front.old) }
+    ensures indentation { OnOk result (string_bytes indentation.new ≡ string_bytes indentation.old) }
 {
     let told = Told {
         one_line: is_short_test(style, test, body, orelse),
         named: style.names,
         first: true,
     };
-    let outer = open(out, front, style, class)?;
-    let told = show_field(out, front, style, told, Part::Expr(Field::Test, test))?;
-    let told = show_block(out, front, style, told, Field::Body, body)?;
-    show_block(out, front, style, told, Field::Orelse, orelse)?;
-    close(out, front, style, outer, ")")?;
+    let outer = open(out, indentation, style, class)?;
+    let told = show_field(out, indentation, style, told, Part::Expr(Field::Test, test))?;
+    let told = show_block(out, indentation, style, told, Field::Body, body)?;
+    show_block(out, indentation, style, told, Field::Orelse, orelse)?;
+    close(out, indentation, style, outer, ")")?;
     Ok(())
 }
 
@@ -57,7 +57,7 @@ pub(crate) fn show_test(
 #[tactic(auto, using(crate::proofs::TextLemmas::left, crate::proofs::TextLemmas::may_close))]
 pub(crate) fn show_for(
     out: &mut String,
-    front: &mut String,
+    indentation: &mut String,
     style: Style,
     class: &'static str,
     target: &Expr,
@@ -67,24 +67,30 @@ pub(crate) fn show_for(
 ) -> Result<(), AllocError>
     ensures text { OnOk result
         (string_bytes out.new ≡ string_bytes out.old
-        ++ node_text style (string_bytes front.old) class.now
+        ++ node_text style (string_bytes indentation.old) class.now
         (a_field (codes "target") (shown (tree_of target.now))
         (a_field (codes "iter") (shown (tree_of iter.now))
         (a_field (codes "body") (shown_block style.profile body.now)
         (a_field (codes "orelse") (shown_block style.profile orelse.now) (left_out no_field)))))) }
-    ensures front { OnOk result (string_bytes front.new ≡ string_bytes front.old) }
+    ensures indentation { OnOk result (string_bytes indentation.new ≡ string_bytes indentation.old) }
 {
     let told = Told {
         one_line: is_flat(style),
         named: style.names,
         first: true,
     };
-    let outer = open(out, front, style, class)?;
-    let told = show_field(out, front, style, told, Part::Expr(Field::Target, target))?;
-    let told = show_field(out, front, style, told, Part::Expr(Field::Iter, iter))?;
-    let told = show_block(out, front, style, told, Field::Body, body)?;
-    show_block(out, front, style, told, Field::Orelse, orelse)?;
-    close(out, front, style, outer, ")")?;
+    let outer = open(out, indentation, style, class)?;
+    let told = show_field(
+        out,
+        indentation,
+        style,
+        told,
+        Part::Expr(Field::Target, target),
+    )?;
+    let told = show_field(out, indentation, style, told, Part::Expr(Field::Iter, iter))?;
+    let told = show_block(out, indentation, style, told, Field::Body, body)?;
+    show_block(out, indentation, style, told, Field::Orelse, orelse)?;
+    close(out, indentation, style, outer, ")")?;
     Ok(())
 }
 
@@ -93,7 +99,7 @@ pub(crate) fn show_for(
 #[tactic(auto, using(crate::proofs::TextLemmas::left, crate::proofs::TextLemmas::may_close))]
 pub(crate) fn show_with(
     out: &mut String,
-    front: &mut String,
+    indentation: &mut String,
     style: Style,
     class: &'static str,
     items: &[Item],
@@ -101,20 +107,26 @@ pub(crate) fn show_with(
 ) -> Result<(), AllocError>
     ensures text { OnOk result
         (string_bytes out.new ≡ string_bytes out.old
-        ++ node_text style (string_bytes front.old) class.now
+        ++ node_text style (string_bytes indentation.old) class.now
         (a_field (codes "items") (listed (λ item. shown_item (item_of item)) items.now)
         (a_field (codes "body") (shown_block style.profile body.now) (left_out no_field)))) }
-    ensures front { OnOk result (string_bytes front.new ≡ string_bytes front.old) }
+    ensures indentation { OnOk result (string_bytes indentation.new ≡ string_bytes indentation.old) }
 {
     let told = Told {
         one_line: is_short_with(style, items, body),
         named: style.names,
         first: true,
     };
-    let outer = open(out, front, style, class)?;
-    let told = show_field(out, front, style, told, Part::Items(Field::Items, items))?;
-    show_block(out, front, style, told, Field::Body, body)?;
-    close(out, front, style, outer, ")")?;
+    let outer = open(out, indentation, style, class)?;
+    let told = show_field(
+        out,
+        indentation,
+        style,
+        told,
+        Part::Items(Field::Items, items),
+    )?;
+    show_block(out, indentation, style, told, Field::Body, body)?;
+    close(out, indentation, style, outer, ")")?;
     Ok(())
 }
 
@@ -123,7 +135,7 @@ pub(crate) fn show_with(
 #[tactic(auto, using(crate::proofs::TextLemmas::left, crate::proofs::TextLemmas::may_close))]
 pub(crate) fn show_try(
     out: &mut String,
-    front: &mut String,
+    indentation: &mut String,
     style: Style,
     class: &'static str,
     body: &[Stmt],
@@ -133,24 +145,24 @@ pub(crate) fn show_try(
 ) -> Result<(), AllocError>
     ensures text { OnOk result
         (string_bytes out.new ≡ string_bytes out.old
-        ++ node_text style (string_bytes front.old) class.now
+        ++ node_text style (string_bytes indentation.old) class.now
         (a_field (codes "body") (shown_block style.profile body.now)
         (a_field (codes "handlers") (shown_caught style.profile handlers.now)
         (a_field (codes "orelse") (shown_block style.profile orelse.now)
         (a_field (codes "finalbody") (shown_block style.profile finalbody.now) no_field))))) }
-    ensures front { OnOk result (string_bytes front.new ≡ string_bytes front.old) }
+    ensures indentation { OnOk result (string_bytes indentation.new ≡ string_bytes indentation.old) }
 {
     let told = Told {
         one_line: is_flat(style),
         named: style.names,
         first: true,
     };
-    let outer = open(out, front, style, class)?;
-    let told = show_block(out, front, style, told, Field::Body, body)?;
-    let told = show_caught(out, front, style, told, handlers)?;
-    let told = show_block(out, front, style, told, Field::Orelse, orelse)?;
-    show_block(out, front, style, told, Field::Finalbody, finalbody)?;
-    close(out, front, style, outer, ")")?;
+    let outer = open(out, indentation, style, class)?;
+    let told = show_block(out, indentation, style, told, Field::Body, body)?;
+    let told = show_caught(out, indentation, style, told, handlers)?;
+    let told = show_block(out, indentation, style, told, Field::Orelse, orelse)?;
+    show_block(out, indentation, style, told, Field::Finalbody, finalbody)?;
+    close(out, indentation, style, outer, ")")?;
     Ok(())
 }
 
@@ -159,7 +171,7 @@ pub(crate) fn show_try(
 #[tactic(auto, using(crate::proofs::TextLemmas::left, crate::proofs::TextLemmas::may_close))]
 pub(crate) fn show_function(
     out: &mut String,
-    front: &mut String,
+    indentation: &mut String,
     style: Style,
     class: &'static str,
     name: &Identifier,
@@ -171,36 +183,48 @@ pub(crate) fn show_function(
 ) -> Result<(), AllocError>
     ensures text { OnOk result
         (string_bytes out.new ≡ string_bytes out.old
-        ++ node_text style (string_bytes front.old) class.now
+        ++ node_text style (string_bytes indentation.old) class.now
         (a_field (codes "name") (shown_name name.now)
         (a_field (codes "args") (shown_arguments (arguments_of args.now))
         (a_field (codes "body") (shown_block style.profile body.now)
         (a_field (codes "decorator_list") (listed (λ e. shown (tree_of e)) decorator_list.now)
         (expr_field (codes "returns") (boxed_of returns.now)
         (left_out (type_params_field style.profile (map type_param_of type_params.now))))))))) }
-    ensures front { OnOk result (string_bytes front.new ≡ string_bytes front.old) }
+    ensures indentation { OnOk result (string_bytes indentation.new ≡ string_bytes indentation.old) }
 {
     let told = Told {
         one_line: is_flat(style),
         named: style.names,
         first: true,
     };
-    let outer = open(out, front, style, class)?;
-    let told = show_field(out, front, style, told, Part::Name(Field::Name, name))?;
-    let told = show_field(out, front, style, told, Part::Arguments(Field::Args, args))?;
-    let told = show_block(out, front, style, told, Field::Body, body)?;
+    let outer = open(out, indentation, style, class)?;
+    let told = show_field(out, indentation, style, told, Part::Name(Field::Name, name))?;
     let told = show_field(
         out,
-        front,
+        indentation,
+        style,
+        told,
+        Part::Arguments(Field::Args, args),
+    )?;
+    let told = show_block(out, indentation, style, told, Field::Body, body)?;
+    let told = show_field(
+        out,
+        indentation,
         style,
         told,
         Part::Exprs(Field::DecoratorList, decorator_list),
     )?;
-    let told = show_field(out, front, style, told, boxed_part(Field::Returns, returns))?;
+    let told = show_field(
+        out,
+        indentation,
+        style,
+        told,
+        boxed_part(Field::Returns, returns),
+    )?;
     // The field `type_comment`.
-    let told = show_field(out, front, style, told, Part::LeftOut)?;
-    show_type_params(out, front, style, told, type_params)?;
-    close(out, front, style, outer, ")")?;
+    let told = show_field(out, indentation, style, told, Part::LeftOut)?;
+    show_type_params(out, indentation, style, told, type_params)?;
+    close(out, indentation, style, outer, ")")?;
     Ok(())
 }
 
@@ -209,7 +233,7 @@ pub(crate) fn show_function(
 #[tactic(auto, using(crate::proofs::TextLemmas::left, crate::proofs::TextLemmas::may_close))]
 pub(crate) fn show_class(
     out: &mut String,
-    front: &mut String,
+    indentation: &mut String,
     style: Style,
     name: &Identifier,
     bases: &[Expr],
@@ -220,40 +244,46 @@ pub(crate) fn show_class(
 ) -> Result<(), AllocError>
     ensures text { OnOk result
         (string_bytes out.new ≡ string_bytes out.old
-        ++ node_text style (string_bytes front.old) (codes "ClassDef(")
+        ++ node_text style (string_bytes indentation.old) (codes "ClassDef(")
         (a_field (codes "name") (shown_name name.now)
         (a_field (codes "bases") (listed (λ e. shown (tree_of e)) bases.now)
         (a_field (codes "keywords") (listed (λ k. shown_keyword (keyword_of k)) words.now)
         (a_field (codes "body") (shown_block style.profile body.now)
         (a_field (codes "decorator_list") (listed (λ e. shown (tree_of e)) decorator_list.now)
         (type_params_field style.profile (map type_param_of type_params.now)))))))) }
-    ensures front { OnOk result (string_bytes front.new ≡ string_bytes front.old) }
+    ensures indentation { OnOk result (string_bytes indentation.new ≡ string_bytes indentation.old) }
 {
     let told = Told {
         one_line: is_flat(style),
         named: style.names,
         first: true,
     };
-    let outer = open(out, front, style, "ClassDef(")?;
-    let told = show_field(out, front, style, told, Part::Name(Field::Name, name))?;
-    let told = show_field(out, front, style, told, Part::Exprs(Field::Bases, bases))?;
+    let outer = open(out, indentation, style, "ClassDef(")?;
+    let told = show_field(out, indentation, style, told, Part::Name(Field::Name, name))?;
     let told = show_field(
         out,
-        front,
+        indentation,
+        style,
+        told,
+        Part::Exprs(Field::Bases, bases),
+    )?;
+    let told = show_field(
+        out,
+        indentation,
         style,
         told,
         Part::Keywords(Field::Keywords, words),
     )?;
-    let told = show_block(out, front, style, told, Field::Body, body)?;
+    let told = show_block(out, indentation, style, told, Field::Body, body)?;
     let told = show_field(
         out,
-        front,
+        indentation,
         style,
         told,
         Part::Exprs(Field::DecoratorList, decorator_list),
     )?;
-    show_type_params(out, front, style, told, type_params)?;
-    close(out, front, style, outer, ")")?;
+    show_type_params(out, indentation, style, told, type_params)?;
+    close(out, indentation, style, outer, ")")?;
     Ok(())
 }
 
@@ -261,15 +291,15 @@ pub(crate) fn show_class(
 /// field.
 fn show_type_params(
     out: &mut String,
-    front: &mut String,
+    indentation: &mut String,
     style: Style,
     told: Told,
     type_params: &[TypeParam],
 ) -> Result<(), AllocError>
     ensures text { OnOk result (string_bytes out.new ≡ string_bytes out.old
-        ++ coming style (string_bytes front.old) told
+        ++ coming style (string_bytes indentation.old) told
         (type_params_field style.profile (map type_param_of type_params.now))) }
-    ensures front { OnOk result (string_bytes front.new ≡ string_bytes front.old) }
+    ensures indentation { OnOk result (string_bytes indentation.new ≡ string_bytes indentation.old) }
 {
     let is_shown = match style.profile {
         Profile::Py311 => false,
@@ -278,7 +308,7 @@ fn show_type_params(
     if is_shown {
         show_field(
             out,
-            front,
+            indentation,
             style,
             told,
             Part::TypeParams(Field::TypeParams, type_params),

@@ -17,19 +17,19 @@ use std::alloc::{AllocError, Global};
 #[tactic(auto, using(pytree_node::proofs::Callers::ExprShapes::expr_shapes, crate::proofs::RowLemmas::rows))]
 pub(crate) fn show_expr(
     out: &mut String,
-    front: &mut String,
+    indentation: &mut String,
     style: Style,
     e: &Expr,
 ) -> Result<(), AllocError>
     ensures text { OnOk result
         (string_bytes out.new ≡ string_bytes out.old
-        ++ text style (string_bytes front.old) (shown (tree_of e.now))) }
-    ensures front { OnOk result (string_bytes front.new ≡ string_bytes front.old) }
+        ++ text style (string_bytes indentation.old) (shown (tree_of e.now))) }
+    ensures indentation { OnOk result (string_bytes indentation.new ≡ string_bytes indentation.old) }
 {
     match e {
         Expr::BoolOp { op, values } => show_two(
             out,
-            front,
+            indentation,
             style,
             "BoolOp(",
             Part::Bool(*op),
@@ -37,7 +37,7 @@ pub(crate) fn show_expr(
         ),
         Expr::NamedExpr { target, value } => show_two(
             out,
-            front,
+            indentation,
             style,
             "NamedExpr(",
             Part::Expr(Field::Target, target),
@@ -45,7 +45,7 @@ pub(crate) fn show_expr(
         ),
         Expr::BinOp { left, op, right } => show_three(
             out,
-            front,
+            indentation,
             style,
             "BinOp(",
             Part::Expr(Field::Left, left),
@@ -54,7 +54,7 @@ pub(crate) fn show_expr(
         ),
         Expr::UnaryOp { op, operand } => show_two(
             out,
-            front,
+            indentation,
             style,
             "UnaryOp(",
             Part::Unary(*op),
@@ -62,7 +62,7 @@ pub(crate) fn show_expr(
         ),
         Expr::Lambda { args, body } => show_two(
             out,
-            front,
+            indentation,
             style,
             "Lambda(",
             Part::Arguments(Field::Args, args),
@@ -70,7 +70,7 @@ pub(crate) fn show_expr(
         ),
         Expr::IfExp { test, body, orelse } => show_three(
             out,
-            front,
+            indentation,
             style,
             "IfExp(",
             Part::Expr(Field::Test, test),
@@ -79,16 +79,22 @@ pub(crate) fn show_expr(
         ),
         Expr::Dict { keys, values } => show_two(
             out,
-            front,
+            indentation,
             style,
             "Dict(",
             Part::Options(Field::Keys, keys),
             Part::Exprs(Field::Values, values),
         ),
-        Expr::Set { elts } => show_one(out, front, style, "Set(", Part::Exprs(Field::Elts, elts)),
+        Expr::Set { elts } => show_one(
+            out,
+            indentation,
+            style,
+            "Set(",
+            Part::Exprs(Field::Elts, elts),
+        ),
         Expr::ListComp { elt, generators } => show_two(
             out,
-            front,
+            indentation,
             style,
             "ListComp(",
             Part::Expr(Field::Elt, elt),
@@ -96,7 +102,7 @@ pub(crate) fn show_expr(
         ),
         Expr::SetComp { elt, generators } => show_two(
             out,
-            front,
+            indentation,
             style,
             "SetComp(",
             Part::Expr(Field::Elt, elt),
@@ -108,7 +114,7 @@ pub(crate) fn show_expr(
             generators,
         } => show_three(
             out,
-            front,
+            indentation,
             style,
             "DictComp(",
             Part::Expr(Field::Key, key),
@@ -117,7 +123,7 @@ pub(crate) fn show_expr(
         ),
         Expr::GeneratorExp { elt, generators } => show_two(
             out,
-            front,
+            indentation,
             style,
             "GeneratorExp(",
             Part::Expr(Field::Elt, elt),
@@ -125,21 +131,21 @@ pub(crate) fn show_expr(
         ),
         Expr::Await { value } => show_one(
             out,
-            front,
+            indentation,
             style,
             "Await(",
             Part::Expr(Field::Value, value),
         ),
         Expr::Yield { value } => show_one(
             out,
-            front,
+            indentation,
             style,
             "Yield(",
             boxed_part(Field::Value, value),
         ),
         Expr::YieldFrom { value } => show_one(
             out,
-            front,
+            indentation,
             style,
             "YieldFrom(",
             Part::Expr(Field::Value, value),
@@ -150,7 +156,7 @@ pub(crate) fn show_expr(
             comparators,
         } => show_three(
             out,
-            front,
+            indentation,
             style,
             "Compare(",
             Part::Expr(Field::Left, left),
@@ -163,11 +169,11 @@ pub(crate) fn show_expr(
             keywords,
         } => {
             if is_joined(style) {
-                show_joined_call(out, front, style, func, args, keywords)
+                show_joined_call(out, indentation, style, func, args, keywords)
             } else {
                 show_three(
                     out,
-                    front,
+                    indentation,
                     style,
                     "Call(",
                     Part::Expr(Field::Func, func),
@@ -179,11 +185,11 @@ pub(crate) fn show_expr(
         Expr::Constant { value } => show_constant(out, style, value),
         Expr::Attribute { value, attr, ctx } => {
             if is_joined(style) {
-                show_joined_attribute(out, front, style, value, attr, *ctx)
+                show_joined_attribute(out, indentation, style, value, attr, *ctx)
             } else {
                 show_three(
                     out,
-                    front,
+                    indentation,
                     style,
                     "Attribute(",
                     Part::Expr(Field::Value, value),
@@ -194,7 +200,7 @@ pub(crate) fn show_expr(
         }
         Expr::Subscript { value, slice, ctx } => show_three(
             out,
-            front,
+            indentation,
             style,
             "Subscript(",
             Part::Expr(Field::Value, value),
@@ -203,7 +209,7 @@ pub(crate) fn show_expr(
         ),
         Expr::Starred { value, ctx } => show_two(
             out,
-            front,
+            indentation,
             style,
             "Starred(",
             Part::Expr(Field::Value, value),
@@ -212,7 +218,7 @@ pub(crate) fn show_expr(
         Expr::Name { id, ctx } => show_name(out, style, id, *ctx),
         Expr::List { elts, ctx } => show_two(
             out,
-            front,
+            indentation,
             style,
             "List(",
             Part::Exprs(Field::Elts, elts),
@@ -220,7 +226,7 @@ pub(crate) fn show_expr(
         ),
         Expr::Tuple { elts, ctx } => show_two(
             out,
-            front,
+            indentation,
             style,
             "Tuple(",
             Part::Exprs(Field::Elts, elts),
@@ -228,7 +234,7 @@ pub(crate) fn show_expr(
         ),
         Expr::Slice { lower, upper, step } => show_three(
             out,
-            front,
+            indentation,
             style,
             "Slice(",
             boxed_part(Field::Lower, lower),
@@ -243,7 +249,7 @@ pub fn dump_expr(alloc: Global, e: &Expr, style: Style) -> Result<String, AllocE
     ensures { IfOk result (λ t. string_bytes t ≡ dump_text style (shown (tree_of e.now))) }
 {
     let mut out = String::new(alloc);
-    let mut front = String::from_str(alloc, "\n")?;
-    show_expr(&mut out, &mut front, style, e)?;
+    let mut indentation = String::from_str(alloc, "\n")?;
+    show_expr(&mut out, &mut indentation, style, e)?;
     Ok(out)
 }

@@ -21,20 +21,20 @@ use std::alloc::AllocError;
 #[cycle(blocks)]
 pub(crate) fn show_caught(
     out: &mut String,
-    front: &mut String,
+    indentation: &mut String,
     style: Style,
     told: Told,
     handlers: &[Handler],
 ) -> Result<Told, AllocError>
     ensures text { IfOk result (λ next. (rest : Fields) →
-        string_bytes out.new ++ coming style (string_bytes front.old) next rest
+        string_bytes out.new ++ coming style (string_bytes indentation.old) next rest
         ≡ string_bytes out.old
-        ++ coming style (string_bytes front.old) told
+        ++ coming style (string_bytes indentation.old) told
         (a_field (codes "handlers") (shown_caught style.profile handlers.now) rest)) }
-    ensures front { OnOk result (string_bytes front.new ≡ string_bytes front.old) }
+    ensures indentation { OnOk result (string_bytes indentation.new ≡ string_bytes indentation.old) }
 {
-    push_lead(out, front.as_str(), told, Field::Handlers)?;
-    show_handlers(out, front, style, handlers)?;
+    push_lead(out, indentation.as_str(), told, Field::Handlers)?;
+    show_handlers(out, indentation, style, handlers)?;
     Ok(Told {
         one_line: told.one_line,
         named: told.named,
@@ -47,23 +47,23 @@ pub(crate) fn show_caught(
 #[tactic(auto, using(crate::proofs::TextLemmas::left, crate::proofs::TextLemmas::may_close))]
 fn show_handlers(
     out: &mut String,
-    front: &mut String,
+    indentation: &mut String,
     style: Style,
     handlers: &[Handler],
 ) -> Result<(), AllocError>
     ensures text { OnOk result
         (string_bytes out.new ≡ string_bytes out.old
-        ++ text style (string_bytes front.old) (shown_caught style.profile handlers.now)) }
-    ensures front { OnOk result (string_bytes front.new ≡ string_bytes front.old) }
+        ++ text style (string_bytes indentation.old) (shown_caught style.profile handlers.now)) }
+    ensures indentation { OnOk result (string_bytes indentation.new ≡ string_bytes indentation.old) }
 {
-    let outer = open(out, front, style, "[")?;
+    let outer = open(out, indentation, style, "[")?;
     let mut first = true;
     for h in handlers {
-        push_before(out, front.as_str(), is_flat(style), first)?;
-        show_handler(out, front, style, h)?;
+        push_before(out, indentation.as_str(), is_flat(style), first)?;
+        show_handler(out, indentation, style, h)?;
         first = false;
     }
-    close(out, front, style, outer, "]")?;
+    close(out, indentation, style, outer, "]")?;
     Ok(())
 }
 
@@ -72,14 +72,14 @@ fn show_handlers(
 #[tactic(auto, using(crate::proofs::TextLemmas::left, crate::proofs::TextLemmas::may_close))]
 fn show_handler(
     out: &mut String,
-    front: &mut String,
+    indentation: &mut String,
     style: Style,
     h: &Handler,
 ) -> Result<(), AllocError>
     ensures text { OnOk result
         (string_bytes out.new ≡ string_bytes out.old
-        ++ text style (string_bytes front.old) (shown_handler style.profile (handler_of h.now))) }
-    ensures front { OnOk result (string_bytes front.new ≡ string_bytes front.old) }
+        ++ text style (string_bytes indentation.old) (shown_handler style.profile (handler_of h.now))) }
+    ensures indentation { OnOk result (string_bytes indentation.new ≡ string_bytes indentation.old) }
 {
     let body: &[Stmt] = &h.body;
     let told = Told {
@@ -87,10 +87,22 @@ fn show_handler(
         named: style.names,
         first: true,
     };
-    let outer = open(out, front, style, "ExceptHandler(")?;
-    let told = show_field(out, front, style, told, option_part(Field::Type, &h.class))?;
-    let told = show_field(out, front, style, told, name_part(Field::Name, &h.name))?;
-    show_block(out, front, style, told, Field::Body, body)?;
-    close(out, front, style, outer, ")")?;
+    let outer = open(out, indentation, style, "ExceptHandler(")?;
+    let told = show_field(
+        out,
+        indentation,
+        style,
+        told,
+        option_part(Field::Type, &h.class),
+    )?;
+    let told = show_field(
+        out,
+        indentation,
+        style,
+        told,
+        name_part(Field::Name, &h.name),
+    )?;
+    show_block(out, indentation, style, told, Field::Body, body)?;
+    close(out, indentation, style, outer, ")")?;
     Ok(())
 }

@@ -26,7 +26,7 @@ pub(crate) fn is_joined(style: Style) -> bool
 #[cycle(showing)]
 pub(crate) fn show_joined_attribute(
     out: &mut String,
-    front: &mut String,
+    indentation: &mut String,
     style: Style,
     value: &Expr,
     attr: &Identifier,
@@ -35,14 +35,14 @@ pub(crate) fn show_joined_attribute(
     requires { (is_flat style.indent && style.names) ≡ true }
     ensures text { OnOk result
         (string_bytes out.new ≡ string_bytes out.old
-        ++ node_text style (string_bytes front.old) (codes "Attribute(")
+        ++ node_text style (string_bytes indentation.old) (codes "Attribute(")
         (a_field (codes "value") (shown (tree_of value.now))
         (a_field (codes "attr") (shown_name attr.now)
         (a_field (codes "ctx") (word (context_name ctx)) no_field)))) }
-    ensures front { OnOk result (string_bytes front.new ≡ string_bytes front.old) }
+    ensures indentation { OnOk result (string_bytes indentation.new ≡ string_bytes indentation.old) }
 {
     out.push_str("Attribute(value=")?;
-    show_expr(out, front, style, value)?;
+    show_expr(out, indentation, style, value)?;
     push_name_and_context(out, attr.as_str(), ctx)
 }
 
@@ -51,21 +51,21 @@ pub(crate) fn show_joined_attribute(
 #[inline(always)]
 fn show_joined_keywords(
     out: &mut String,
-    front: &mut String,
+    indentation: &mut String,
     style: Style,
     keywords: &[Keyword],
 ) -> Result<(), AllocError>
     ensures text { OnOk result
         (string_bytes out.new ≡ string_bytes out.old
-        ++ (codes ", keywords=" ++ text style (string_bytes front.old)
+        ++ (codes ", keywords=" ++ text style (string_bytes indentation.old)
         (Row (showns (map (λ k. shown_keyword (keyword_of k)) keywords.now))) ++ codes ")")) }
-    ensures front { OnOk result (string_bytes front.new ≡ string_bytes front.old) }
+    ensures indentation { OnOk result (string_bytes indentation.new ≡ string_bytes indentation.old) }
 {
     if keywords.is_empty() {
         return out.push_str(", keywords=[])");
     }
     out.push_str(", keywords=")?;
-    show_keywords(out, front, style, keywords)?;
+    show_keywords(out, indentation, style, keywords)?;
     out.push_str(")")
 }
 
@@ -73,7 +73,7 @@ fn show_joined_keywords(
 #[cycle(showing)]
 pub(crate) fn show_joined_call(
     out: &mut String,
-    front: &mut String,
+    indentation: &mut String,
     style: Style,
     func: &Expr,
     args: &[Expr],
@@ -82,16 +82,16 @@ pub(crate) fn show_joined_call(
     requires { (is_flat style.indent && style.names) ≡ true }
     ensures text { OnOk result
         (string_bytes out.new ≡ string_bytes out.old
-        ++ node_text style (string_bytes front.old) (codes "Call(")
+        ++ node_text style (string_bytes indentation.old) (codes "Call(")
         (a_field (codes "func") (shown (tree_of func.now))
         (a_field (codes "args") (Row (showns (map (λ e. shown (tree_of e)) args.now)))
         (a_field (codes "keywords")
         (Row (showns (map (λ k. shown_keyword (keyword_of k)) keywords.now))) no_field)))) }
-    ensures front { OnOk result (string_bytes front.new ≡ string_bytes front.old) }
+    ensures indentation { OnOk result (string_bytes indentation.new ≡ string_bytes indentation.old) }
 {
     out.push_str("Call(func=")?;
-    show_expr(out, front, style, func)?;
+    show_expr(out, indentation, style, func)?;
     out.push_str(", args=")?;
-    show_exprs(out, front, style, args)?;
-    show_joined_keywords(out, front, style, keywords)
+    show_exprs(out, indentation, style, args)?;
+    show_joined_keywords(out, indentation, style, keywords)
 }

@@ -27,28 +27,28 @@ use std::alloc::AllocError;
 #[tactic(auto, using(crate::proofs::TextLemmas::left, crate::proofs::TextLemmas::may_close))]
 pub(crate) fn show_exprs(
     out: &mut String,
-    front: &mut String,
+    indentation: &mut String,
     style: Style,
     es: &[Expr],
 ) -> Result<(), AllocError>
     ensures text { OnOk result
         (string_bytes out.new ≡ string_bytes out.old
-        ++ text style (string_bytes front.old)
+        ++ text style (string_bytes indentation.old)
         (Row (showns (map (λ e. shown (tree_of e)) es.now)))) }
-    ensures front { OnOk result (string_bytes front.new ≡ string_bytes front.old) }
+    ensures indentation { OnOk result (string_bytes indentation.new ≡ string_bytes indentation.old) }
 {
     // At once, as many lists are.
     if es.is_empty() {
         return out.push_str("[]");
     }
-    let outer = open(out, front, style, "[")?;
+    let outer = open(out, indentation, style, "[")?;
     let mut first = true;
     for e in es {
-        push_before(out, front.as_str(), is_flat(style), first)?;
-        show_expr(out, front, style, e)?;
+        push_before(out, indentation.as_str(), is_flat(style), first)?;
+        show_expr(out, indentation, style, e)?;
         first = false;
     }
-    close(out, front, style, outer, "]")?;
+    close(out, indentation, style, outer, "]")?;
     Ok(())
 }
 
@@ -57,27 +57,27 @@ pub(crate) fn show_exprs(
 #[tactic(auto, using(crate::proofs::TextLemmas::left, crate::proofs::TextLemmas::may_close))]
 pub(crate) fn show_options(
     out: &mut String,
-    front: &mut String,
+    indentation: &mut String,
     style: Style,
     es: &[Option<Expr>],
 ) -> Result<(), AllocError>
     ensures text { OnOk result
         (string_bytes out.new ≡ string_bytes out.old
-        ++ text style (string_bytes front.old)
+        ++ text style (string_bytes indentation.old)
         (Row (showns (map (λ e. shown_optional (optional (option_of e))) es.now)))) }
-    ensures front { OnOk result (string_bytes front.new ≡ string_bytes front.old) }
+    ensures indentation { OnOk result (string_bytes indentation.new ≡ string_bytes indentation.old) }
 {
-    let outer = open(out, front, style, "[")?;
+    let outer = open(out, indentation, style, "[")?;
     let mut first = true;
     for e in es {
-        push_before(out, front.as_str(), is_flat(style), first)?;
+        push_before(out, indentation.as_str(), is_flat(style), first)?;
         match e {
             None => out.push_str("None")?,
-            Some(value) => show_expr(out, front, style, value)?,
+            Some(value) => show_expr(out, indentation, style, value)?,
         }
         first = false;
     }
-    close(out, front, style, outer, "]")?;
+    close(out, indentation, style, outer, "]")?;
     Ok(())
 }
 
@@ -86,24 +86,24 @@ pub(crate) fn show_options(
 #[tactic(auto, using(crate::proofs::TextLemmas::left, crate::proofs::TextLemmas::may_close))]
 pub(crate) fn show_comprehensions(
     out: &mut String,
-    front: &mut String,
+    indentation: &mut String,
     style: Style,
     cs: &[Comprehension],
 ) -> Result<(), AllocError>
     ensures text { OnOk result
         (string_bytes out.new ≡ string_bytes out.old
-        ++ text style (string_bytes front.old)
+        ++ text style (string_bytes indentation.old)
         (Row (showns (map (λ c. shown_comprehension (comprehension_of c)) cs.now)))) }
-    ensures front { OnOk result (string_bytes front.new ≡ string_bytes front.old) }
+    ensures indentation { OnOk result (string_bytes indentation.new ≡ string_bytes indentation.old) }
 {
-    let outer = open(out, front, style, "[")?;
+    let outer = open(out, indentation, style, "[")?;
     let mut first = true;
     for c in cs {
-        push_before(out, front.as_str(), is_flat(style), first)?;
-        show_comprehension(out, front, style, c)?;
+        push_before(out, indentation.as_str(), is_flat(style), first)?;
+        show_comprehension(out, indentation, style, c)?;
         first = false;
     }
-    close(out, front, style, outer, "]")?;
+    close(out, indentation, style, outer, "]")?;
     Ok(())
 }
 
@@ -112,28 +112,28 @@ pub(crate) fn show_comprehensions(
 #[tactic(auto, using(crate::proofs::TextLemmas::left, crate::proofs::TextLemmas::may_close))]
 pub(crate) fn show_keywords(
     out: &mut String,
-    front: &mut String,
+    indentation: &mut String,
     style: Style,
     ks: &[Keyword],
 ) -> Result<(), AllocError>
     ensures text { OnOk result
         (string_bytes out.new ≡ string_bytes out.old
-        ++ text style (string_bytes front.old)
+        ++ text style (string_bytes indentation.old)
         (Row (showns (map (λ k. shown_keyword (keyword_of k)) ks.now)))) }
-    ensures front { OnOk result (string_bytes front.new ≡ string_bytes front.old) }
+    ensures indentation { OnOk result (string_bytes indentation.new ≡ string_bytes indentation.old) }
 {
     // At once, as many lists are.
     if ks.is_empty() {
         return out.push_str("[]");
     }
-    let outer = open(out, front, style, "[")?;
+    let outer = open(out, indentation, style, "[")?;
     let mut first = true;
     for k in ks {
-        push_before(out, front.as_str(), is_flat(style), first)?;
-        show_keyword(out, front, style, k)?;
+        push_before(out, indentation.as_str(), is_flat(style), first)?;
+        show_keyword(out, indentation, style, k)?;
         first = false;
     }
-    close(out, front, style, outer, "]")?;
+    close(out, indentation, style, outer, "]")?;
     Ok(())
 }
 
@@ -142,28 +142,28 @@ pub(crate) fn show_keywords(
 #[tactic(auto, using(crate::proofs::TextLemmas::left, crate::proofs::TextLemmas::may_close))]
 pub(crate) fn show_args(
     out: &mut String,
-    front: &mut String,
+    indentation: &mut String,
     style: Style,
     all: &[Arg],
 ) -> Result<(), AllocError>
     ensures text { OnOk result
         (string_bytes out.new ≡ string_bytes out.old
-        ++ text style (string_bytes front.old)
+        ++ text style (string_bytes indentation.old)
         (Row (showns (map (λ a. shown_arg (arg_of a)) all.now)))) }
-    ensures front { OnOk result (string_bytes front.new ≡ string_bytes front.old) }
+    ensures indentation { OnOk result (string_bytes indentation.new ≡ string_bytes indentation.old) }
 {
     // At once, as many lists are.
     if all.is_empty() {
         return out.push_str("[]");
     }
-    let outer = open(out, front, style, "[")?;
+    let outer = open(out, indentation, style, "[")?;
     let mut first = true;
     for a in all {
-        push_before(out, front.as_str(), is_flat(style), first)?;
-        show_arg(out, front, style, a)?;
+        push_before(out, indentation.as_str(), is_flat(style), first)?;
+        show_arg(out, indentation, style, a)?;
         first = false;
     }
-    close(out, front, style, outer, "]")?;
+    close(out, indentation, style, outer, "]")?;
     Ok(())
 }
 
@@ -171,24 +171,24 @@ pub(crate) fn show_args(
 #[tactic(auto, using(crate::proofs::TextLemmas::left, crate::proofs::TextLemmas::may_close))]
 pub(crate) fn show_comparisons(
     out: &mut String,
-    front: &mut String,
+    indentation: &mut String,
     style: Style,
     cs: &[Comparison],
 ) -> Result<(), AllocError>
     ensures text { OnOk result
         (string_bytes out.new ≡ string_bytes out.old
-        ++ text style (string_bytes front.old)
+        ++ text style (string_bytes indentation.old)
         (Row (showns (map (λ c. word (comparison_name c)) cs.now)))) }
-    ensures front { OnOk result (string_bytes front.new ≡ string_bytes front.old) }
+    ensures indentation { OnOk result (string_bytes indentation.new ≡ string_bytes indentation.old) }
 {
-    let outer = open(out, front, style, "[")?;
+    let outer = open(out, indentation, style, "[")?;
     let mut first = true;
     for c in cs {
-        push_before(out, front.as_str(), is_flat(style), first)?;
+        push_before(out, indentation.as_str(), is_flat(style), first)?;
         out.push_str(comparison_word(*c))?;
         first = false;
     }
-    close(out, front, style, outer, "]")?;
+    close(out, indentation, style, outer, "]")?;
     Ok(())
 }
 
@@ -196,24 +196,24 @@ pub(crate) fn show_comparisons(
 #[tactic(auto, using(crate::proofs::TextLemmas::left, crate::proofs::TextLemmas::may_close))]
 pub(crate) fn show_names(
     out: &mut String,
-    front: &mut String,
+    indentation: &mut String,
     style: Style,
     names: &[Identifier],
 ) -> Result<(), AllocError>
     ensures text { OnOk result
         (string_bytes out.new ≡ string_bytes out.old
-        ++ text style (string_bytes front.old)
+        ++ text style (string_bytes indentation.old)
         (Row (showns (map (λ name. shown_name name) names.now)))) }
-    ensures front { OnOk result (string_bytes front.new ≡ string_bytes front.old) }
+    ensures indentation { OnOk result (string_bytes indentation.new ≡ string_bytes indentation.old) }
 {
-    let outer = open(out, front, style, "[")?;
+    let outer = open(out, indentation, style, "[")?;
     let mut first = true;
     for name in names {
-        push_before(out, front.as_str(), is_flat(style), first)?;
+        push_before(out, indentation.as_str(), is_flat(style), first)?;
         push_repr(out, name.as_str())?;
         first = false;
     }
-    close(out, front, style, outer, "]")?;
+    close(out, indentation, style, outer, "]")?;
     Ok(())
 }
 
@@ -222,24 +222,24 @@ pub(crate) fn show_names(
 #[tactic(auto, using(crate::proofs::TextLemmas::left, crate::proofs::TextLemmas::may_close))]
 pub(crate) fn show_aliases(
     out: &mut String,
-    front: &mut String,
+    indentation: &mut String,
     style: Style,
     names: &[Alias],
 ) -> Result<(), AllocError>
     ensures text { OnOk result
         (string_bytes out.new ≡ string_bytes out.old
-        ++ text style (string_bytes front.old)
+        ++ text style (string_bytes indentation.old)
         (Row (showns (map (λ a. shown_alias (alias_of a)) names.now)))) }
-    ensures front { OnOk result (string_bytes front.new ≡ string_bytes front.old) }
+    ensures indentation { OnOk result (string_bytes indentation.new ≡ string_bytes indentation.old) }
 {
-    let outer = open(out, front, style, "[")?;
+    let outer = open(out, indentation, style, "[")?;
     let mut first = true;
     for a in names {
-        push_before(out, front.as_str(), is_flat(style), first)?;
-        show_alias(out, front, style, a)?;
+        push_before(out, indentation.as_str(), is_flat(style), first)?;
+        show_alias(out, indentation, style, a)?;
         first = false;
     }
-    close(out, front, style, outer, "]")?;
+    close(out, indentation, style, outer, "]")?;
     Ok(())
 }
 
@@ -248,24 +248,24 @@ pub(crate) fn show_aliases(
 #[tactic(auto, using(crate::proofs::TextLemmas::left, crate::proofs::TextLemmas::may_close))]
 pub(crate) fn show_items(
     out: &mut String,
-    front: &mut String,
+    indentation: &mut String,
     style: Style,
     items: &[Item],
 ) -> Result<(), AllocError>
     ensures text { OnOk result
         (string_bytes out.new ≡ string_bytes out.old
-        ++ text style (string_bytes front.old)
+        ++ text style (string_bytes indentation.old)
         (Row (showns (map (λ item. shown_item (item_of item)) items.now)))) }
-    ensures front { OnOk result (string_bytes front.new ≡ string_bytes front.old) }
+    ensures indentation { OnOk result (string_bytes indentation.new ≡ string_bytes indentation.old) }
 {
-    let outer = open(out, front, style, "[")?;
+    let outer = open(out, indentation, style, "[")?;
     let mut first = true;
     for item in items {
-        push_before(out, front.as_str(), is_flat(style), first)?;
-        show_item(out, front, style, item)?;
+        push_before(out, indentation.as_str(), is_flat(style), first)?;
+        show_item(out, indentation, style, item)?;
         first = false;
     }
-    close(out, front, style, outer, "]")?;
+    close(out, indentation, style, outer, "]")?;
     Ok(())
 }
 
@@ -274,23 +274,23 @@ pub(crate) fn show_items(
 #[tactic(auto, using(crate::proofs::TextLemmas::left, crate::proofs::TextLemmas::may_close))]
 pub(crate) fn show_type_params(
     out: &mut String,
-    front: &mut String,
+    indentation: &mut String,
     style: Style,
     all: &[TypeParam],
 ) -> Result<(), AllocError>
     ensures text { OnOk result
         (string_bytes out.new ≡ string_bytes out.old
-        ++ text style (string_bytes front.old)
+        ++ text style (string_bytes indentation.old)
         (Row (showns (map (λ p. shown_type_param (type_param_of p)) all.now)))) }
-    ensures front { OnOk result (string_bytes front.new ≡ string_bytes front.old) }
+    ensures indentation { OnOk result (string_bytes indentation.new ≡ string_bytes indentation.old) }
 {
-    let outer = open(out, front, style, "[")?;
+    let outer = open(out, indentation, style, "[")?;
     let mut first = true;
     for p in all {
-        push_before(out, front.as_str(), is_flat(style), first)?;
-        show_type_param(out, front, style, p)?;
+        push_before(out, indentation.as_str(), is_flat(style), first)?;
+        show_type_param(out, indentation, style, p)?;
         first = false;
     }
-    close(out, front, style, outer, "]")?;
+    close(out, indentation, style, outer, "]")?;
     Ok(())
 }

@@ -19,18 +19,18 @@ use std::alloc::AllocError;
 #[tactic(auto, using(pytree_node::proofs::Callers::ExprShapes::comprehension_tree, crate::proofs::RowLemmas::rows))]
 pub(crate) fn show_comprehension(
     out: &mut String,
-    front: &mut String,
+    indentation: &mut String,
     style: Style,
     c: &Comprehension,
 ) -> Result<(), AllocError>
     ensures text { OnOk result
         (string_bytes out.new ≡ string_bytes out.old
-        ++ text style (string_bytes front.old) (shown_comprehension (comprehension_of c.now))) }
-    ensures front { OnOk result (string_bytes front.new ≡ string_bytes front.old) }
+        ++ text style (string_bytes indentation.old) (shown_comprehension (comprehension_of c.now))) }
+    ensures indentation { OnOk result (string_bytes indentation.new ≡ string_bytes indentation.old) }
 {
     show_four(
         out,
-        front,
+        indentation,
         style,
         "comprehension(",
         Part::Expr(Field::Target, &c.target),
@@ -45,18 +45,18 @@ pub(crate) fn show_comprehension(
 #[tactic(auto, using(pytree_node::proofs::Callers::ExprShapes::keyword_tree))]
 pub(crate) fn show_keyword(
     out: &mut String,
-    front: &mut String,
+    indentation: &mut String,
     style: Style,
     k: &Keyword,
 ) -> Result<(), AllocError>
     ensures text { OnOk result
         (string_bytes out.new ≡ string_bytes out.old
-        ++ text style (string_bytes front.old) (shown_keyword (keyword_of k.now))) }
-    ensures front { OnOk result (string_bytes front.new ≡ string_bytes front.old) }
+        ++ text style (string_bytes indentation.old) (shown_keyword (keyword_of k.now))) }
+    ensures indentation { OnOk result (string_bytes indentation.new ≡ string_bytes indentation.old) }
 {
     show_two(
         out,
-        front,
+        indentation,
         style,
         "keyword(",
         name_part(Field::Arg, &k.arg),
@@ -69,18 +69,18 @@ pub(crate) fn show_keyword(
 #[tactic(auto, using(pytree_node::proofs::Callers::ExprShapes::arg_tree))]
 pub(crate) fn show_arg(
     out: &mut String,
-    front: &mut String,
+    indentation: &mut String,
     style: Style,
     a: &Arg,
 ) -> Result<(), AllocError>
     ensures text { OnOk result
         (string_bytes out.new ≡ string_bytes out.old
-        ++ text style (string_bytes front.old) (shown_arg (arg_of a.now))) }
-    ensures front { OnOk result (string_bytes front.new ≡ string_bytes front.old) }
+        ++ text style (string_bytes indentation.old) (shown_arg (arg_of a.now))) }
+    ensures indentation { OnOk result (string_bytes indentation.new ≡ string_bytes indentation.old) }
 {
     show_three(
         out,
-        front,
+        indentation,
         style,
         "arg(",
         Part::Name(Field::Arg, &a.arg),
@@ -93,18 +93,18 @@ pub(crate) fn show_arg(
 #[cycle(showing)]
 pub(crate) fn show_arguments(
     out: &mut String,
-    front: &mut String,
+    indentation: &mut String,
     style: Style,
     a: &Arguments,
 ) -> Result<(), AllocError>
     ensures text { OnOk result
         (string_bytes out.new ≡ string_bytes out.old
-        ++ text style (string_bytes front.old) (shown_arguments (arguments_of a.now))) }
-    ensures front { OnOk result (string_bytes front.new ≡ string_bytes front.old) }
+        ++ text style (string_bytes indentation.old) (shown_arguments (arguments_of a.now))) }
+    ensures indentation { OnOk result (string_bytes indentation.new ≡ string_bytes indentation.old) }
 {
     show_seven(
         out,
-        front,
+        indentation,
         style,
         "arguments(",
         Part::Args(Field::Posonlyargs, &a.posonlyargs),
@@ -121,18 +121,18 @@ pub(crate) fn show_arguments(
 #[cycle(showing)]
 pub(crate) fn show_alias(
     out: &mut String,
-    front: &mut String,
+    indentation: &mut String,
     style: Style,
     a: &Alias,
 ) -> Result<(), AllocError>
     ensures text { OnOk result
         (string_bytes out.new ≡ string_bytes out.old
-        ++ text style (string_bytes front.old) (shown_alias (alias_of a.now))) }
-    ensures front { OnOk result (string_bytes front.new ≡ string_bytes front.old) }
+        ++ text style (string_bytes indentation.old) (shown_alias (alias_of a.now))) }
+    ensures indentation { OnOk result (string_bytes indentation.new ≡ string_bytes indentation.old) }
 {
     show_two(
         out,
-        front,
+        indentation,
         style,
         "alias(",
         Part::Name(Field::Name, &a.name),
@@ -144,18 +144,18 @@ pub(crate) fn show_alias(
 #[cycle(showing)]
 pub(crate) fn show_item(
     out: &mut String,
-    front: &mut String,
+    indentation: &mut String,
     style: Style,
     item: &Item,
 ) -> Result<(), AllocError>
     ensures text { OnOk result
         (string_bytes out.new ≡ string_bytes out.old
-        ++ text style (string_bytes front.old) (shown_item (item_of item.now))) }
-    ensures front { OnOk result (string_bytes front.new ≡ string_bytes front.old) }
+        ++ text style (string_bytes indentation.old) (shown_item (item_of item.now))) }
+    ensures indentation { OnOk result (string_bytes indentation.new ≡ string_bytes indentation.old) }
 {
     show_two(
         out,
-        front,
+        indentation,
         style,
         "withitem(",
         Part::Expr(Field::ContextExpr, &item.context_expr),
@@ -167,19 +167,19 @@ pub(crate) fn show_item(
 #[cycle(showing)]
 pub(crate) fn show_type_param(
     out: &mut String,
-    front: &mut String,
+    indentation: &mut String,
     style: Style,
     p: &TypeParam,
 ) -> Result<(), AllocError>
     ensures text { OnOk result
         (string_bytes out.new ≡ string_bytes out.old
-        ++ text style (string_bytes front.old) (shown_type_param (type_param_of p.now))) }
-    ensures front { OnOk result (string_bytes front.new ≡ string_bytes front.old) }
+        ++ text style (string_bytes indentation.old) (shown_type_param (type_param_of p.now))) }
+    ensures indentation { OnOk result (string_bytes indentation.new ≡ string_bytes indentation.old) }
 {
     match p {
         TypeParam::TypeVar { name, bound } => show_two(
             out,
-            front,
+            indentation,
             style,
             "TypeVar(",
             Part::Name(Field::Name, name),
@@ -188,7 +188,7 @@ pub(crate) fn show_type_param(
         TypeParam::ParamSpec { name } => {
             show_one(
                 out,
-                front,
+                indentation,
                 style,
                 "ParamSpec(",
                 Part::Name(Field::Name, name),
@@ -197,7 +197,7 @@ pub(crate) fn show_type_param(
         TypeParam::TypeVarTuple { name } => {
             show_one(
                 out,
-                front,
+                indentation,
                 style,
                 "TypeVarTuple(",
                 Part::Name(Field::Name, name),

@@ -23,21 +23,21 @@ pub fn dump(alloc: Global, tree: &Module, style: Style) -> Result<String, AllocE
 {
     let body: &[Stmt] = &tree.body;
     let mut out = String::new(alloc);
-    let mut front = String::from_str(alloc, "\n")?;
+    let mut indentation = String::from_str(alloc, "\n")?;
     let told = Told {
         one_line: is_short_module(style, body),
         named: style.names,
         first: true,
     };
-    let outer = open(&mut out, &mut front, style, "Module(")?;
-    let told = show_block(&mut out, &mut front, style, told, Field::Body, body)?;
+    let outer = open(&mut out, &mut indentation, style, "Module(")?;
+    let told = show_block(&mut out, &mut indentation, style, told, Field::Body, body)?;
     show_field(
         &mut out,
-        &mut front,
+        &mut indentation,
         style,
         told,
         Part::Names(Field::TypeIgnores, &[]),
     )?;
-    close(&mut out, &mut front, style, outer, ")")?;
+    close(&mut out, &mut indentation, style, outer, ")")?;
     Ok(out)
 }

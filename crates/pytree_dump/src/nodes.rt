@@ -25,29 +25,29 @@ use std::alloc::AllocError;
 #[inline(always)]
 fn show_part(
     out: &mut String,
-    front: &mut String,
+    indentation: &mut String,
     style: Style,
     part: Part<'_>,
 ) -> Result<(), AllocError>
     ensures text { OnOk result
         (string_bytes out.new ≡ string_bytes out.old
-        ++ text style (string_bytes front.old) (slot_shown (slot_of part.entry))) }
-    ensures front { OnOk result (string_bytes front.new ≡ string_bytes front.old) }
+        ++ text style (string_bytes indentation.old) (slot_shown (slot_of part.entry))) }
+    ensures indentation { OnOk result (string_bytes indentation.new ≡ string_bytes indentation.old) }
 {
     match part {
-        Part::Expr(_, e) => show_expr(out, front, style, e),
-        Part::Exprs(_, es) => show_exprs(out, front, style, es),
-        Part::Options(_, es) => show_options(out, front, style, es),
-        Part::Comprehensions(_, cs) => show_comprehensions(out, front, style, cs),
-        Part::Keywords(_, ks) => show_keywords(out, front, style, ks),
-        Part::Args(_, all) => show_args(out, front, style, all),
-        Part::Arg(_, a) => show_arg(out, front, style, a),
-        Part::Arguments(_, a) => show_arguments(out, front, style, a),
-        Part::Comparisons(_, cs) => show_comparisons(out, front, style, cs),
-        Part::Names(_, names) => show_names(out, front, style, names),
-        Part::Aliases(_, names) => show_aliases(out, front, style, names),
-        Part::Items(_, items) => show_items(out, front, style, items),
-        Part::TypeParams(_, all) => show_type_params(out, front, style, all),
+        Part::Expr(_, e) => show_expr(out, indentation, style, e),
+        Part::Exprs(_, es) => show_exprs(out, indentation, style, es),
+        Part::Options(_, es) => show_options(out, indentation, style, es),
+        Part::Comprehensions(_, cs) => show_comprehensions(out, indentation, style, cs),
+        Part::Keywords(_, ks) => show_keywords(out, indentation, style, ks),
+        Part::Args(_, all) => show_args(out, indentation, style, all),
+        Part::Arg(_, a) => show_arg(out, indentation, style, a),
+        Part::Arguments(_, a) => show_arguments(out, indentation, style, a),
+        Part::Comparisons(_, cs) => show_comparisons(out, indentation, style, cs),
+        Part::Names(_, names) => show_names(out, indentation, style, names),
+        Part::Aliases(_, names) => show_aliases(out, indentation, style, names),
+        Part::Items(_, items) => show_items(out, indentation, style, items),
+        Part::TypeParams(_, all) => show_type_params(out, indentation, style, all),
         Part::Operator(op) => out.push_str(operator_word(op)),
         Part::Unary(op) => out.push_str(unary_word(op)),
         Part::Bool(op) => out.push_str(bool_word(op)),
@@ -66,22 +66,22 @@ fn show_part(
 #[inline(always)]
 pub(crate) fn show_field(
     out: &mut String,
-    front: &mut String,
+    indentation: &mut String,
     style: Style,
     told: Told,
     part: Part<'_>,
 ) -> Result<Told, AllocError>
     ensures text { IfOk result (λ next. (rest : Fields) →
-        string_bytes out.new ++ coming style (string_bytes front.old) next rest
+        string_bytes out.new ++ coming style (string_bytes indentation.old) next rest
         ≡ string_bytes out.old
-        ++ coming style (string_bytes front.old) told (with_slot (slot_of part.entry) rest)) }
-    ensures front { OnOk result (string_bytes front.new ≡ string_bytes front.old) }
+        ++ coming style (string_bytes indentation.old) told (with_slot (slot_of part.entry) rest)) }
+    ensures indentation { OnOk result (string_bytes indentation.new ≡ string_bytes indentation.old) }
 {
     if is_absent(part) {
         return Ok(after_left_out(told));
     }
-    push_lead(out, front.as_str(), told, field_of(part))?;
-    show_part(out, front, style, part)?;
+    push_lead(out, indentation.as_str(), told, field_of(part))?;
+    show_part(out, indentation, style, part)?;
     Ok(Told {
         one_line: told.one_line,
         named: told.named,
@@ -95,25 +95,25 @@ pub(crate) fn show_field(
 #[inline(always)]
 pub(crate) fn show_one(
     out: &mut String,
-    front: &mut String,
+    indentation: &mut String,
     style: Style,
     class: &'static str,
     a: Part<'_>,
 ) -> Result<(), AllocError>
     ensures text { OnOk result
         (string_bytes out.new ≡ string_bytes out.old
-        ++ node_text style (string_bytes front.old) class.now
+        ++ node_text style (string_bytes indentation.old) class.now
         (with_slot (slot_of a.entry) no_field)) }
-    ensures front { OnOk result (string_bytes front.new ≡ string_bytes front.old) }
+    ensures indentation { OnOk result (string_bytes indentation.new ≡ string_bytes indentation.old) }
 {
     let told = Told {
         one_line: is_short_one(style, a),
         named: style.names,
         first: true,
     };
-    let outer = open(out, front, style, class)?;
-    show_field(out, front, style, told, a)?;
-    close(out, front, style, outer, ")")?;
+    let outer = open(out, indentation, style, class)?;
+    show_field(out, indentation, style, told, a)?;
+    close(out, indentation, style, outer, ")")?;
     Ok(())
 }
 
@@ -123,7 +123,7 @@ pub(crate) fn show_one(
 #[inline(always)]
 pub(crate) fn show_two(
     out: &mut String,
-    front: &mut String,
+    indentation: &mut String,
     style: Style,
     class: &'static str,
     a: Part<'_>,
@@ -131,19 +131,19 @@ pub(crate) fn show_two(
 ) -> Result<(), AllocError>
     ensures text { OnOk result
         (string_bytes out.new ≡ string_bytes out.old
-        ++ node_text style (string_bytes front.old) class.now
+        ++ node_text style (string_bytes indentation.old) class.now
         (with_slot (slot_of a.entry) (with_slot (slot_of b.entry) no_field))) }
-    ensures front { OnOk result (string_bytes front.new ≡ string_bytes front.old) }
+    ensures indentation { OnOk result (string_bytes indentation.new ≡ string_bytes indentation.old) }
 {
     let told = Told {
         one_line: is_short_two(style, a, b),
         named: style.names,
         first: true,
     };
-    let outer = open(out, front, style, class)?;
-    let told = show_field(out, front, style, told, a)?;
-    show_field(out, front, style, told, b)?;
-    close(out, front, style, outer, ")")?;
+    let outer = open(out, indentation, style, class)?;
+    let told = show_field(out, indentation, style, told, a)?;
+    show_field(out, indentation, style, told, b)?;
+    close(out, indentation, style, outer, ")")?;
     Ok(())
 }
 
@@ -153,7 +153,7 @@ pub(crate) fn show_two(
 #[inline(always)]
 pub(crate) fn show_three(
     out: &mut String,
-    front: &mut String,
+    indentation: &mut String,
     style: Style,
     class: &'static str,
     a: Part<'_>,
@@ -162,21 +162,21 @@ pub(crate) fn show_three(
 ) -> Result<(), AllocError>
     ensures text { OnOk result
         (string_bytes out.new ≡ string_bytes out.old
-        ++ node_text style (string_bytes front.old) class.now
+        ++ node_text style (string_bytes indentation.old) class.now
         (with_slot (slot_of a.entry)
         (with_slot (slot_of b.entry) (with_slot (slot_of c.entry) no_field)))) }
-    ensures front { OnOk result (string_bytes front.new ≡ string_bytes front.old) }
+    ensures indentation { OnOk result (string_bytes indentation.new ≡ string_bytes indentation.old) }
 {
     let told = Told {
         one_line: is_short_three(style, a, b, c),
         named: style.names,
         first: true,
     };
-    let outer = open(out, front, style, class)?;
-    let told = show_field(out, front, style, told, a)?;
-    let told = show_field(out, front, style, told, b)?;
-    show_field(out, front, style, told, c)?;
-    close(out, front, style, outer, ")")?;
+    let outer = open(out, indentation, style, class)?;
+    let told = show_field(out, indentation, style, told, a)?;
+    let told = show_field(out, indentation, style, told, b)?;
+    show_field(out, indentation, style, told, c)?;
+    close(out, indentation, style, outer, ")")?;
     Ok(())
 }
 
@@ -185,7 +185,7 @@ pub(crate) fn show_three(
 #[tactic(auto, using(crate::proofs::TextLemmas::left, crate::proofs::TextLemmas::may_close))]
 pub(crate) fn show_four(
     out: &mut String,
-    front: &mut String,
+    indentation: &mut String,
     style: Style,
     class: &'static str,
     a: Part<'_>,
@@ -195,23 +195,23 @@ pub(crate) fn show_four(
 ) -> Result<(), AllocError>
     ensures text { OnOk result
         (string_bytes out.new ≡ string_bytes out.old
-        ++ node_text style (string_bytes front.old) class.now
+        ++ node_text style (string_bytes indentation.old) class.now
         (with_slot (slot_of a.entry)
         (with_slot (slot_of b.entry)
         (with_slot (slot_of c.entry) (with_slot (slot_of d.entry) no_field))))) }
-    ensures front { OnOk result (string_bytes front.new ≡ string_bytes front.old) }
+    ensures indentation { OnOk result (string_bytes indentation.new ≡ string_bytes indentation.old) }
 {
     let told = Told {
         one_line: is_short_four(style, a, b, c, d),
         named: style.names,
         first: true,
     };
-    let outer = open(out, front, style, class)?;
-    let told = show_field(out, front, style, told, a)?;
-    let told = show_field(out, front, style, told, b)?;
-    let told = show_field(out, front, style, told, c)?;
-    show_field(out, front, style, told, d)?;
-    close(out, front, style, outer, ")")?;
+    let outer = open(out, indentation, style, class)?;
+    let told = show_field(out, indentation, style, told, a)?;
+    let told = show_field(out, indentation, style, told, b)?;
+    let told = show_field(out, indentation, style, told, c)?;
+    show_field(out, indentation, style, told, d)?;
+    close(out, indentation, style, outer, ")")?;
     Ok(())
 }
 
@@ -220,7 +220,7 @@ pub(crate) fn show_four(
 #[tactic(auto, using(crate::proofs::TextLemmas::left, crate::proofs::TextLemmas::may_close))]
 pub(crate) fn show_seven(
     out: &mut String,
-    front: &mut String,
+    indentation: &mut String,
     style: Style,
     class: &'static str,
     a: Part<'_>,
@@ -240,28 +240,28 @@ pub(crate) fn show_seven(
         (with_slot (slot_of f.entry) (with_slot (slot_of g.entry) no_field))))))) ≡ false
         → OnOk result
         (string_bytes out.new ≡ string_bytes out.old
-        ++ node_text style (string_bytes front.old) class.now
+        ++ node_text style (string_bytes indentation.old) class.now
         (with_slot (slot_of a.entry)
         (with_slot (slot_of b.entry)
         (with_slot (slot_of c.entry)
         (with_slot (slot_of d.entry)
         (with_slot (slot_of e.entry)
         (with_slot (slot_of f.entry) (with_slot (slot_of g.entry) no_field)))))))) }
-    ensures front { OnOk result (string_bytes front.new ≡ string_bytes front.old) }
+    ensures indentation { OnOk result (string_bytes indentation.new ≡ string_bytes indentation.old) }
 {
     let told = Told {
         one_line: is_flat(style),
         named: style.names,
         first: true,
     };
-    let outer = open(out, front, style, class)?;
-    let told = show_field(out, front, style, told, a)?;
-    let told = show_field(out, front, style, told, b)?;
-    let told = show_field(out, front, style, told, c)?;
-    let told = show_field(out, front, style, told, d)?;
-    let told = show_field(out, front, style, told, e)?;
-    let told = show_field(out, front, style, told, f)?;
-    show_field(out, front, style, told, g)?;
-    close(out, front, style, outer, ")")?;
+    let outer = open(out, indentation, style, class)?;
+    let told = show_field(out, indentation, style, told, a)?;
+    let told = show_field(out, indentation, style, told, b)?;
+    let told = show_field(out, indentation, style, told, c)?;
+    let told = show_field(out, indentation, style, told, d)?;
+    let told = show_field(out, indentation, style, told, e)?;
+    let told = show_field(out, indentation, style, told, f)?;
+    show_field(out, indentation, style, told, g)?;
+    close(out, indentation, style, outer, ")")?;
     Ok(())
 }

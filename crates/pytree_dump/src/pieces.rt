@@ -42,8 +42,8 @@ pub struct Pieces<'a> {
     begin: String,
     /// What ends it.
     end: String,
-    /// The front of a statement's line.
-    front: String,
+    /// The indentation of a statement's line.
+    indentation: String,
 }
 
 impl<'a> Model for Pieces<'a> {
@@ -69,14 +69,14 @@ impl<'a> Pieces<'a> {
         let named = style.names;
         let mut begin = String::new(alloc);
         let mut end = String::new(alloc);
-        let mut front = String::from_str(alloc, "\n")?;
-        let _ = open(&mut begin, &mut front, style, "Module(")?;
+        let mut indentation = String::from_str(alloc, "\n")?;
+        let _ = open(&mut begin, &mut indentation, style, "Module(")?;
         let told = Told {
             one_line,
             named,
             first: true,
         };
-        push_lead(&mut begin, front.as_str(), told, Field::Body)?;
+        push_lead(&mut begin, indentation.as_str(), told, Field::Body)?;
         end.push_str("]")?;
         let told = Told {
             one_line,
@@ -85,20 +85,20 @@ impl<'a> Pieces<'a> {
         };
         show_field(
             &mut end,
-            &mut front,
+            &mut indentation,
             style,
             told,
             Part::Names(Field::TypeIgnores, &[]),
         )?;
         end.push_str(")")?;
-        let _ = open(&mut begin, &mut front, style, "[")?;
+        let _ = open(&mut begin, &mut indentation, style, "[")?;
         Ok(Pieces {
             style,
             stage: Stage::Begin,
             body,
             begin,
             end,
-            front,
+            indentation,
         })
     }
 
@@ -123,8 +123,8 @@ impl<'a> Pieces<'a> {
             Stage::Statements { first } => {
                 match self.body.split_first() {
                     Some((s, rest)) => {
-                        push_before(out, self.front.as_str(), is_flat(self.style), first)?;
-                        show_stmt(out, &mut self.front, self.style, s)?;
+                        push_before(out, self.indentation.as_str(), is_flat(self.style), first)?;
+                        show_stmt(out, &mut self.indentation, self.style, s)?;
                         self.body = rest;
                         self.stage = Stage::Statements { first: false };
                     }

@@ -23,14 +23,14 @@ use std::alloc::AllocError;
 #[tactic(auto, using(pytree_node::proofs::Callers::StmtShapes::stmt_shapes, crate::proofs::RowLemmas::stmt_rows, crate::proofs::BlockLemmas::block_rows))]
 pub(crate) fn show_stmt(
     out: &mut String,
-    front: &mut String,
+    indentation: &mut String,
     style: Style,
     s: &Stmt,
 ) -> Result<(), AllocError>
     ensures text { OnOk result
         (string_bytes out.new ≡ string_bytes out.old
-        ++ text style (string_bytes front.old) (shown_stmt style.profile (stmt_of s.now))) }
-    ensures front { OnOk result (string_bytes front.new ≡ string_bytes front.old) }
+        ++ text style (string_bytes indentation.old) (shown_stmt style.profile (stmt_of s.now))) }
+    ensures indentation { OnOk result (string_bytes indentation.new ≡ string_bytes indentation.old) }
 {
     match s {
         Stmt::FunctionDef {
@@ -42,7 +42,7 @@ pub(crate) fn show_stmt(
             type_params,
         } => show_function(
             out,
-            front,
+            indentation,
             style,
             "FunctionDef(",
             name,
@@ -61,7 +61,7 @@ pub(crate) fn show_stmt(
             type_params,
         } => show_function(
             out,
-            front,
+            indentation,
             style,
             "AsyncFunctionDef(",
             name,
@@ -80,7 +80,7 @@ pub(crate) fn show_stmt(
             type_params,
         } => show_class(
             out,
-            front,
+            indentation,
             style,
             name,
             bases,
@@ -91,21 +91,21 @@ pub(crate) fn show_stmt(
         ),
         Stmt::Return { value } => show_one(
             out,
-            front,
+            indentation,
             style,
             "Return(",
             option_part(Field::Value, value),
         ),
         Stmt::Delete { targets } => show_one(
             out,
-            front,
+            indentation,
             style,
             "Delete(",
             Part::Exprs(Field::Targets, targets),
         ),
         Stmt::Assign { targets, value } => show_three(
             out,
-            front,
+            indentation,
             style,
             "Assign(",
             Part::Exprs(Field::Targets, targets),
@@ -118,7 +118,7 @@ pub(crate) fn show_stmt(
             value,
         } => show_three(
             out,
-            front,
+            indentation,
             style,
             "TypeAlias(",
             Part::Expr(Field::Name, name),
@@ -127,7 +127,7 @@ pub(crate) fn show_stmt(
         ),
         Stmt::AugAssign { target, op, value } => show_three(
             out,
-            front,
+            indentation,
             style,
             "AugAssign(",
             Part::Expr(Field::Target, target),
@@ -141,7 +141,7 @@ pub(crate) fn show_stmt(
             simple,
         } => show_four(
             out,
-            front,
+            indentation,
             style,
             "AnnAssign(",
             Part::Expr(Field::Target, target),
@@ -154,22 +154,52 @@ pub(crate) fn show_stmt(
             iter,
             body,
             orelse,
-        } => show_for(out, front, style, "For(", target, iter, body, orelse),
+        } => show_for(out, indentation, style, "For(", target, iter, body, orelse),
         Stmt::AsyncFor {
             target,
             iter,
             body,
             orelse,
-        } => show_for(out, front, style, "AsyncFor(", target, iter, body, orelse),
-        Stmt::While { test, body, orelse } => show_test(
-            out, front, style, "While(", test, body, orelse,
+        } => show_for(
+            out,
+            indentation,
+            style,
+            "AsyncFor(",
+            target,
+            iter,
+            body,
+            orelse,
         ),
-        Stmt::If { test, body, orelse } => show_test(out, front, style, "If(", test, body, orelse),
-        Stmt::With { items, body } => show_with(out, front, style, "With(", items, body),
-        Stmt::AsyncWith { items, body } => show_with(out, front, style, "AsyncWith(", items, body),
+        Stmt::While { test, body, orelse } => show_test(
+            out,
+            indentation,
+            style,
+            "While(",
+            test,
+            body,
+            orelse,
+        ),
+        Stmt::If { test, body, orelse } => show_test(
+            out,
+            indentation,
+            style,
+            "If(",
+            test,
+            body,
+            orelse,
+        ),
+        Stmt::With { items, body } => show_with(out, indentation, style, "With(", items, body),
+        Stmt::AsyncWith { items, body } => show_with(
+            out,
+            indentation,
+            style,
+            "AsyncWith(",
+            items,
+            body,
+        ),
         Stmt::Raise { exc, cause } => show_two(
             out,
-            front,
+            indentation,
             style,
             "Raise(",
             option_part(Field::Exc, exc),
@@ -180,18 +210,34 @@ pub(crate) fn show_stmt(
             handlers,
             orelse,
             finalbody,
-        } => show_try(out, front, style, "Try(", body, handlers, orelse, finalbody),
+        } => show_try(
+            out,
+            indentation,
+            style,
+            "Try(",
+            body,
+            handlers,
+            orelse,
+            finalbody,
+        ),
         Stmt::TryStar {
             body,
             handlers,
             orelse,
             finalbody,
         } => show_try(
-            out, front, style, "TryStar(", body, handlers, orelse, finalbody,
+            out,
+            indentation,
+            style,
+            "TryStar(",
+            body,
+            handlers,
+            orelse,
+            finalbody,
         ),
         Stmt::Assert { test, msg } => show_two(
             out,
-            front,
+            indentation,
             style,
             "Assert(",
             Part::Expr(Field::Test, test),
@@ -199,7 +245,7 @@ pub(crate) fn show_stmt(
         ),
         Stmt::Import { names } => show_one(
             out,
-            front,
+            indentation,
             style,
             "Import(",
             Part::Aliases(Field::Names, names),
@@ -210,7 +256,7 @@ pub(crate) fn show_stmt(
             level,
         } => show_three(
             out,
-            front,
+            indentation,
             style,
             "ImportFrom(",
             name_part(Field::Module, module),
@@ -219,21 +265,21 @@ pub(crate) fn show_stmt(
         ),
         Stmt::Global { names } => show_one(
             out,
-            front,
+            indentation,
             style,
             "Global(",
             Part::Names(Field::Names, names),
         ),
         Stmt::Nonlocal { names } => show_one(
             out,
-            front,
+            indentation,
             style,
             "Nonlocal(",
             Part::Names(Field::Names, names),
         ),
         Stmt::Expr { value } => show_one(
             out,
-            front,
+            indentation,
             style,
             "Expr(",
             Part::Expr(Field::Value, value),
@@ -249,23 +295,23 @@ pub(crate) fn show_stmt(
 #[tactic(auto, using(crate::proofs::TextLemmas::left, crate::proofs::TextLemmas::may_close))]
 fn show_stmts(
     out: &mut String,
-    front: &mut String,
+    indentation: &mut String,
     style: Style,
     body: &[Stmt],
 ) -> Result<(), AllocError>
     ensures text { OnOk result
         (string_bytes out.new ≡ string_bytes out.old
-        ++ text style (string_bytes front.old) (shown_block style.profile body.now)) }
-    ensures front { OnOk result (string_bytes front.new ≡ string_bytes front.old) }
+        ++ text style (string_bytes indentation.old) (shown_block style.profile body.now)) }
+    ensures indentation { OnOk result (string_bytes indentation.new ≡ string_bytes indentation.old) }
 {
-    let outer = open(out, front, style, "[")?;
+    let outer = open(out, indentation, style, "[")?;
     let mut first = true;
     for s in body {
-        push_before(out, front.as_str(), is_flat(style), first)?;
-        show_stmt(out, front, style, s)?;
+        push_before(out, indentation.as_str(), is_flat(style), first)?;
+        show_stmt(out, indentation, style, s)?;
         first = false;
     }
-    close(out, front, style, outer, "]")?;
+    close(out, indentation, style, outer, "]")?;
     Ok(())
 }
 
@@ -273,21 +319,21 @@ fn show_stmts(
 #[cycle(blocks)]
 pub(crate) fn show_block(
     out: &mut String,
-    front: &mut String,
+    indentation: &mut String,
     style: Style,
     told: Told,
     field: Field,
     body: &[Stmt],
 ) -> Result<Told, AllocError>
     ensures text { IfOk result (λ next. (rest : Fields) →
-        string_bytes out.new ++ coming style (string_bytes front.old) next rest
+        string_bytes out.new ++ coming style (string_bytes indentation.old) next rest
         ≡ string_bytes out.old
-        ++ coming style (string_bytes front.old) told
+        ++ coming style (string_bytes indentation.old) told
         (a_field (field_name field) (shown_block style.profile body.now) rest)) }
-    ensures front { OnOk result (string_bytes front.new ≡ string_bytes front.old) }
+    ensures indentation { OnOk result (string_bytes indentation.new ≡ string_bytes indentation.old) }
 {
-    push_lead(out, front.as_str(), told, field)?;
-    show_stmts(out, front, style, body)?;
+    push_lead(out, indentation.as_str(), told, field)?;
+    show_stmts(out, indentation, style, body)?;
     Ok(Told {
         one_line: told.one_line,
         named: told.named,

@@ -41,11 +41,11 @@ is_plain (field name x) = is_simple x
 
 -- the text of the fields that are still to come
 abbrev pub coming : Style → List ℕ → Told → Fields → List ℕ
-coming s front told rest = fields s front told.one_line told.named told.first rest
+coming s indentation told rest = fields s indentation told.one_line told.named told.first rest
 
 -- a node, of what begins it, its class and the bracket, and of its fields
 abbrev pub node_text : Style → List ℕ → List ℕ → Fields → List ℕ
-node_text s front start fs = start ++ fields s (deeper s.indent front) (is_flat s.indent || is_short fs) s.names true fs ++ codes ")"
+node_text s indentation start fs = start ++ fields s (deeper s.indent indentation) (is_flat s.indent || is_short fs) s.names true fs ++ codes ")"
 
 -- what a part of an expression shows
 abbrev pub slot_of : Part → Slot

@@ -139,7 +139,7 @@ pub(crate) fn joined(field: Field) -> &'static str
     }
 }
 
-/// What stands before the value of a field with no other in front of it on the line.
+/// What stands before the value of a field with no other in indentation of it on the line.
 pub(crate) fn label(field: Field) -> &'static str
     ensures { result.now ≡ field_name field ++ codes "=" }
 {

@@ -98,10 +98,10 @@ pub fn show_name(
     id: &Identifier,
     ctx: Context,
 ) -> Result<(), AllocError>
-    ensures { (front : List ℕ)
+    ensures { (indentation : List ℕ)
         → OnOk result
         (string_bytes out.new ≡ string_bytes out.old
-        ++ text style front (shown (Name id.now ctx))) }
+        ++ text style indentation (shown (Name id.now ctx))) }
 {
     let text = id.as_str();
     // Without a call for its repr, as most names are told.
@@ -137,10 +137,10 @@ fn constant_end(named: bool, value: &Constant) -> &'static str
 /// Appends a constant.
 #[tactic(auto, using(crate::proofs::LeafLemmas::constant_text))]
 pub fn show_constant(out: &mut String, style: Style, value: &Constant) -> Result<(), AllocError>
-    ensures { (front : List ℕ)
+    ensures { (indentation : List ℕ)
         → OnOk result
         (string_bytes out.new ≡ string_bytes out.old
-        ++ text style front (shown (ConstantTree (constant_of value.now)))) }
+        ++ text style indentation (shown (ConstantTree (constant_of value.now)))) }
 {
     out.push_str(constant_start(style.names))?;
     push_value(out, value)?;

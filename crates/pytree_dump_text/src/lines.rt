@@ -19,14 +19,14 @@ pub struct Told {
     pub one_line: bool,
     /// With their names.
     pub named: bool,
-    /// With no field in front of them.
+    /// With no field in indentation of them.
     pub first: bool,
 }
 
 /// How the fields after one that is left out are shown: with their names.
 pub fn after_left_out(told: Told) -> Told
-    ensures { (style : Style) → (front : List ℕ) → (rest : Fields)
-        → coming style front result rest ≡ coming style front told (left_out rest) }
+    ensures { (style : Style) → (indentation : List ℕ) → (rest : Fields)
+        → coming style indentation result rest ≡ coming style indentation told (left_out rest) }
 {
     Told {
         one_line: told.one_line,
@@ -46,12 +46,12 @@ pub fn is_flat(style: Style) -> bool
 #[inline(always)]
 pub fn push_before(
     out: &mut String,
-    front: &str,
+    indentation: &str,
     one_line: bool,
     first: bool,
 ) -> Result<(), AllocError>
     ensures { OnOk result
-        (string_bytes out.new ≡ string_bytes out.old ++ before one_line front.now first) }
+        (string_bytes out.new ≡ string_bytes out.old ++ before one_line indentation.now first) }
 {
     if one_line {
         if first { Ok(()) } else { out.push_str(", ") }
@@ -59,22 +59,27 @@ pub fn push_before(
         if !first {
             out.push_str(",")?;
         }
-        out.push_str(front)
+        out.push_str(indentation)
     }
 }
 
 /// Appends what stands before a field's value: what parts it from the others, and its name.
 #[inline(always)]
-pub fn push_lead(out: &mut String, front: &str, told: Told, field: Field) -> Result<(), AllocError>
+pub fn push_lead(
+    out: &mut String,
+    indentation: &str,
+    told: Told,
+    field: Field,
+) -> Result<(), AllocError>
     ensures { OnOk result
-        (string_bytes out.new ≡ string_bytes out.old ++ before told.one_line front.now told.first
+        (string_bytes out.new ≡ string_bytes out.old ++ before told.one_line indentation.now told.first
         ++ label told.named (field_name field)) }
 {
     // At once, as most fields are told.
     if told.one_line && told.named && !told.first {
         return out.push_str(joined(field));
     }
-    push_before(out, front, told.one_line, told.first)?;
+    push_before(out, indentation, told.one_line, told.first)?;
     if told.named {
         out.push_str(label(field))
     } else {
@@ -93,50 +98,50 @@ fn push_blanks(out: &mut String, n: u8) -> Result<(), AllocError>
     Ok(())
 }
 
-/// Makes the front of a line one level deeper.
-fn deepen(front: &mut String, style: Style) -> Result<(), AllocError>
-    ensures { OnOk result (string_bytes front.new ≡ deeper style.indent (string_bytes front.old)) }
+/// Makes the indentation of a line one level deeper.
+fn deepen(indentation: &mut String, style: Style) -> Result<(), AllocError>
+    ensures { OnOk result (string_bytes indentation.new ≡ deeper style.indent (string_bytes indentation.old)) }
 {
     if let Some(n) = style.indent {
-        push_blanks(front, n)?;
+        push_blanks(indentation, n)?;
     }
     Ok(())
 }
 
-/// Appends what begins a list or a node, its class and the bracket, makes the front of a line one
+/// Appends what begins a list or a node, its class and the bracket, makes the indentation of a line one
 /// level deeper, and tells how long it was.
 #[inline(always)]
 pub fn open(
     out: &mut String,
-    front: &mut String,
+    indentation: &mut String,
     style: Style,
     start: &'static str,
 ) -> Result<usize, AllocError>
     ensures text { OnOk result (string_bytes out.new ≡ string_bytes out.old ++ start.now) }
-    ensures front { OnOk result
-        (string_bytes front.new ≡ deeper style.indent (string_bytes front.old)) }
-    ensures len { IfOk result (λ len. len ≡ length (string_bytes front.old)) }
+    ensures indentation { OnOk result
+        (string_bytes indentation.new ≡ deeper style.indent (string_bytes indentation.old)) }
+    ensures len { IfOk result (λ len. len ≡ length (string_bytes indentation.old)) }
 {
-    let len = front.as_str().len();
+    let len = indentation.as_str().len();
     out.push_str(start)?;
-    deepen(front, style)?;
+    deepen(indentation, style)?;
     Ok(len)
 }
 
-/// Appends the bracket that ends a node's fields or a list, and makes the front of a line as short
+/// Appends the bracket that ends a node's fields or a list, and makes the indentation of a line as short
 /// as it was.
 #[inline(always)]
 pub fn close(
     out: &mut String,
-    front: &mut String,
+    indentation: &mut String,
     style: Style,
     len: usize,
     bracket: &'static str,
 ) -> Result<(), AllocError>
-    requires { string_bytes front.old ≡ deeper style.indent (take len (string_bytes front.old)) }
+    requires { string_bytes indentation.old ≡ deeper style.indent (take len (string_bytes indentation.old)) }
     ensures text { OnOk result (string_bytes out.new ≡ string_bytes out.old ++ bracket.now) }
-    ensures front { string_bytes front.new ≡ take len (string_bytes front.old) }
+    ensures indentation { string_bytes indentation.new ≡ take len (string_bytes indentation.old) }
 {
-    front.truncate(len);
+    indentation.truncate(len);
     out.push_str(bracket)
 }

@@ -9,7 +9,7 @@ use Rattle.pysource.specs.Parts.{Parts}
 use Rattle.pysource.specs.Streams.{head_len, stream_of}
 use Rattle.pysource.specs.Taking.{ReadsBytes}
 use Rattle.pysource.proofs.Callers.Taken.{ReadsBytes-on}
-use Rattle.pysource.specs.declared.faults.LineError.TheVariants.{Unread}
+use Rattle.pysource.specs.declared.faults.LineError.TheVariants.{FailedRead}
 use Rattle.pysource.specs.declared.line_reader.Reach.TheVariants.{Reading}
 use Rattle.pylex.specs.declared.entries.Entry.{Entry}
 use Rattle.pylex.specs.declared.entries.ListingError.{ListingError}
@@ -98,8 +98,8 @@ module _ (seen_0 seen_1 seen_2 : Seen) (v w : Streamed) (k : ℕ) (b : Begins se
         unread_there : (c : CursorParts) → k < c.given → is_unread step ≡ true → EndsUnread p c.given
         unread_there c less u = by step refl u
           where
-            coded : (e : ListingError) → is_unread_code e ≡ true → e ≡ errors.Line Unread
-            coded (errors.Line Unread) h = refl
+            coded : (e : ListingError) → is_unread_code e ≡ true → e ≡ errors.Line FailedRead
+            coded (errors.Line FailedRead) h = refl
             coded _ h = absurd cc
 
             by : (s : Step) → step ≡ s → is_unread step ≡ true → EndsUnread p c.given
@@ -116,7 +116,7 @@ module _ (seen_0 seen_1 seen_2 : Seen) (v w : Streamed) (k : ℕ) (b : Begins se
             by (steps.Fault g) is h =
                 let f : Some g ≡ Some ends.fault.0 = sym (last_is.0 ∙ ap (λ s. fault_of (s ∷ [])) is) ∙ ends.fault.1 in
                 let same : g ≡ ends.fault.0 = cc in
-                let code : g.code ≡ errors.Line Unread = ap (λ (x : ListingFault). x.code) same ∙ ends.fault.2 in
+                let code : g.code ≡ errors.Line FailedRead = ap (λ (x : ListingFault). x.code) same ∙ ends.fault.2 in
                 let t : is_unread (steps.Fault g) ≡ true = ap is_unread_code code in
                 let z : true ≡ false = sym t ∙ sym (ap is_unread is) ∙ h in cc
 

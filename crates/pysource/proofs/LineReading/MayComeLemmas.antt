@@ -15,7 +15,7 @@ use Rattle.pysource.specs.declared.buffers.Intake.{Intake}
 use Rattle.pysource.specs.declared.encodings.Charset.{Charset}
 use Rattle.pysource.specs.declared.encodings.Charset.TheVariants.{Utf8, Ascii}
 use Rattle.pysource.specs.declared.faults.LineError.{LineError}
-use Rattle.pysource.specs.declared.faults.LineError.TheVariants.{Unread}
+use Rattle.pysource.specs.declared.faults.LineError.TheVariants.{FailedRead}
 use Rattle.pysource.specs.declared.faults.LineFault.{LineFault}
 use Rattle.pysource.specs.declared.line_reader.Reach.{Reach}
 use Rattle.pysource.specs.declared.line_reader.Reach.TheVariants.{Reading, End, Broken, Passed}
@@ -62,7 +62,7 @@ only_given b c taken fault gives only more broken f = let g = gives more broken 
 -- no bad byte is a line that could not be read
 abbrev IsOwn : Option LineError → Type 0
 IsOwn None = Unit {0}
-IsOwn (Some e) = e ≡ Unread → ⊥
+IsOwn (Some e) = e ≡ FailedRead → ⊥
 
 own_if : (b : Bool) (o p : Option LineError) → IsOwn o → IsOwn p → IsOwn (cond b o p)
 own_if true o p h k = h
@@ -74,7 +74,7 @@ bad_own Ascii line i = own_if (nat_le 128 (slice_index line i)) _ _ (λ e. cc) (
 
 abbrev IsOwnAt : Option (ℕ × LineError) → Type 0
 IsOwnAt None = Unit {0}
-IsOwnAt (Some bad) = bad.1 ≡ Unread → ⊥
+IsOwnAt (Some bad) = bad.1 ≡ FailedRead → ⊥
 
 first_own : (f : ℕ → Option LineError) (i n : ℕ) → ((i : ℕ) → IsOwn (f i)) → IsOwnAt (first_given f i n)
 first_own f i zero h = tt

@@ -7,11 +7,11 @@ ghost use Rattle.pytoken.specs.NumberValues.{number_fault};
 ghost use Rattle.pytoken.specs.StringValues.{nul_fault};
 ghost use Rattle.pytoken.specs.Terminals.{fault_of};
 
+use crate::TokenError;
 use crate::values::names::name_fault;
 use crate::values::numbers::number_value;
 use crate::values::strings::{are_plain, string_fault};
 use pylex::Kind;
-use crate::TokenError;
 use std::alloc::{AllocError, Global};
 
 /// The fault of a number.

@@ -4,10 +4,10 @@ ghost use Rattle.std.specs.Prelude.{◌≡◌, None};
 ghost use Rattle.std.specs.Str.{chars};
 ghost use Rattle.pytoken.specs.StringValues.{string_fault};
 
+use crate::TokenError;
 use crate::values::characters::Characters;
 use crate::values::literals::{Literal, string_value};
 use crate::values::strings::{is_marked, string_fault};
-use crate::TokenError;
 use std::alloc::{AllocError, Global};
 
 /// The text of one string literal without a fault, lent from its source. Its value takes memory,

@@ -11,11 +11,11 @@ ghost use Rattle.pytoken.specs.Laws.{is_point, is_byte};
 ghost use Rattle.pytoken.specs.Values.{literal_value};
 ghost use Rattle.pytoken.specs.Inner.Readings.{body_points};
 
+use crate::Meaning;
 use crate::values::characters::Characters;
 use crate::values::escapes::next_meaning;
 use crate::values::strings::{begins_bare, body, inside, is_marked};
 use pytree_node::Points;
-use crate::Meaning;
 use std::alloc::{AllocError, Global};
 
 /// What a string literal stands for.

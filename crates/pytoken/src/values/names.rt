@@ -8,8 +8,8 @@ ghost use Rattle.unicode_normalization.specs.Forms.{nfkc};
 ghost use Rattle.pytoken.specs.NameValues.{name_fault, form_fault};
 ghost use Rattle.pytoken.specs.Inner.Readings.{AreLow};
 
-use pytree_node::Identifier;
 use crate::{Keyword, TokenError, is_identifier};
+use pytree_node::Identifier;
 use std::alloc::{AllocError, Global};
 use unicode_normalization::{is_nfkc, to_nfkc};
 

@@ -12,8 +12,8 @@ use crate::values::faults::comment_fault;
 use crate::values::literal_text::LiteralText;
 use crate::values::names::name_fault;
 use crate::values::numbers::number_value;
-use pylex::{Exact, Kind, exact_of};
 use crate::{Keyword, TokenError};
+use pylex::{Exact, Kind, exact_of};
 use std::alloc::{AllocError, Global};
 use thiserror::Error;
 

@@ -25,9 +25,9 @@ compounds::show_test-returns-clause-text t c =
     let r2 : Fields = a_field (codes "orelse") (shown_block s.profile c.args.orelse.now) no_field in
     let r1 : Fields = a_field (codes "body") (shown_block s.profile c.args.body.now) r2 in
     let r0 : Fields = a_field (codes "test") (shown (tree_of c.args.test.now)) r1 in
-    node_shown s _ _ _ r0 _ _ _ _ _ c.in_ok-outer.ensures.front c.is_short_test.ensures c.in_ok-outer.ensures.text
-    (ahead s _ _ _ _ _ _ _ _ _ _ _ r0 r1 c.in_ok-told.ensures.front (c.in_ok-told.ensures.text r1)
-    (ahead s _ _ _ _ _ _ _ _ _ _ _ r1 r2 c.in_ok-told-2.ensures.front (c.in_ok-told-2.ensures.text r2)
+    node_shown s _ _ _ r0 _ _ _ _ _ c.in_ok-outer.ensures.indentation c.is_short_test.ensures c.in_ok-outer.ensures.text
+    (ahead s _ _ _ _ _ _ _ _ _ _ _ r0 r1 c.in_ok-told.ensures.indentation (c.in_ok-told.ensures.text r1)
+    (ahead s _ _ _ _ _ _ _ _ _ _ _ r1 r2 c.in_ok-told-2.ensures.indentation (c.in_ok-told-2.ensures.text r2)
     (at_end _ _ (c.in_ok-show_block.ensures.text no_field)))) c.in_ok-close.ensures.text
 
 pub compounds::show_for-returns-clause-text : goal.compounds::show_for-returns-clause-text
@@ -37,10 +37,10 @@ compounds::show_for-returns-clause-text t c =
     let r2 : Fields = a_field (codes "body") (shown_block s.profile c.args.body.now) r3 in
     let r1 : Fields = a_field (codes "iter") (shown (tree_of c.args.iter.now)) r2 in
     let r0 : Fields = a_field (codes "target") (shown (tree_of c.args.target.now)) r1 in
-    node_shown s _ _ _ r0 _ _ _ _ _ c.in_ok-outer.ensures.front (c.is_flat.ensures ∙ long_node _ r0 0 refl) c.in_ok-outer.ensures.text
-    (ahead s _ _ _ _ _ _ _ _ _ _ _ r0 r1 c.in_ok-told.ensures.front (c.in_ok-told.ensures.text r1)
-    (ahead s _ _ _ _ _ _ _ _ _ _ _ r1 r2 c.in_ok-told-2.ensures.front (c.in_ok-told-2.ensures.text r2)
-    (ahead s _ _ _ _ _ _ _ _ _ _ _ r2 r3 c.in_ok-told-3.ensures.front (c.in_ok-told-3.ensures.text r3)
+    node_shown s _ _ _ r0 _ _ _ _ _ c.in_ok-outer.ensures.indentation (c.is_flat.ensures ∙ long_node _ r0 0 refl) c.in_ok-outer.ensures.text
+    (ahead s _ _ _ _ _ _ _ _ _ _ _ r0 r1 c.in_ok-told.ensures.indentation (c.in_ok-told.ensures.text r1)
+    (ahead s _ _ _ _ _ _ _ _ _ _ _ r1 r2 c.in_ok-told-2.ensures.indentation (c.in_ok-told-2.ensures.text r2)
+    (ahead s _ _ _ _ _ _ _ _ _ _ _ r2 r3 c.in_ok-told-3.ensures.indentation (c.in_ok-told-3.ensures.text r3)
     (at_end _ _ (c.in_ok-show_block.ensures.text no_field))))) c.in_ok-close.ensures.text
 
 pub compounds::show_with-returns-clause-text : goal.compounds::show_with-returns-clause-text
@@ -48,8 +48,8 @@ compounds::show_with-returns-clause-text t c =
     let s = c.args.style in
     let r1 : Fields = a_field (codes "body") (shown_block s.profile c.args.body.now) (left_out no_field) in
     let r0 : Fields = a_field (codes "items") (listed (λ item. shown_item (item_of item)) c.args.items.now) r1 in
-    node_shown s _ _ _ r0 _ _ _ _ _ c.in_ok-outer.ensures.front c.is_short_with.ensures c.in_ok-outer.ensures.text
-    (ahead s _ _ _ _ _ _ _ _ _ _ _ r0 r1 c.in_ok-told.ensures.front (c.in_ok-told.ensures.text r1)
+    node_shown s _ _ _ r0 _ _ _ _ _ c.in_ok-outer.ensures.indentation c.is_short_with.ensures c.in_ok-outer.ensures.text
+    (ahead s _ _ _ _ _ _ _ _ _ _ _ r0 r1 c.in_ok-told.ensures.indentation (c.in_ok-told.ensures.text r1)
     (at_end _ _ (c.in_ok-show_block.ensures.text no_field))) c.in_ok-close.ensures.text
 
 pub compounds::show_try-returns-clause-text : goal.compounds::show_try-returns-clause-text
@@ -59,10 +59,10 @@ compounds::show_try-returns-clause-text t c =
     let r2 : Fields = a_field (codes "orelse") (shown_block s.profile c.args.orelse.now) r3 in
     let r1 : Fields = a_field (codes "handlers") (shown_caught s.profile c.args.handlers.now) r2 in
     let r0 : Fields = a_field (codes "body") (shown_block s.profile c.args.body.now) r1 in
-    node_shown s _ _ _ r0 _ _ _ _ _ c.in_ok-outer.ensures.front (c.is_flat.ensures ∙ long_node _ r0 0 refl) c.in_ok-outer.ensures.text
-    (ahead s _ _ _ _ _ _ _ _ _ _ _ r0 r1 c.in_ok-told.ensures.front (c.in_ok-told.ensures.text r1)
-    (ahead s _ _ _ _ _ _ _ _ _ _ _ r1 r2 c.in_ok-told-2.ensures.front (c.in_ok-told-2.ensures.text r2)
-    (ahead s _ _ _ _ _ _ _ _ _ _ _ r2 r3 c.in_ok-told-3.ensures.front (c.in_ok-told-3.ensures.text r3)
+    node_shown s _ _ _ r0 _ _ _ _ _ c.in_ok-outer.ensures.indentation (c.is_flat.ensures ∙ long_node _ r0 0 refl) c.in_ok-outer.ensures.text
+    (ahead s _ _ _ _ _ _ _ _ _ _ _ r0 r1 c.in_ok-told.ensures.indentation (c.in_ok-told.ensures.text r1)
+    (ahead s _ _ _ _ _ _ _ _ _ _ _ r1 r2 c.in_ok-told-2.ensures.indentation (c.in_ok-told-2.ensures.text r2)
+    (ahead s _ _ _ _ _ _ _ _ _ _ _ r2 r3 c.in_ok-told-3.ensures.indentation (c.in_ok-told-3.ensures.text r3)
     (at_end _ _ (c.in_ok-show_block.ensures.text no_field))))) c.in_ok-close.ensures.text
 
 pub compounds::show_class-returns-clause-text : goal.compounds::show_class-returns-clause-text
@@ -74,13 +74,13 @@ compounds::show_class-returns-clause-text t c =
     let r2 : Fields = a_field (codes "keywords") (listed (λ k. shown_keyword (keyword_of k)) c.args.words.now) r3 in
     let r1 : Fields = a_field (codes "bases") (listed (λ e. shown (tree_of e)) c.args.bases.now) r2 in
     let r0 : Fields = a_field (codes "name") (shown_name c.args.name.now) r1 in
-    node_shown s _ _ _ r0 _ _ _ _ _ c.in_ok-outer.ensures.front (c.is_flat.ensures ∙ long_node _ r0 (shown_count r5 + 1) refl)
+    node_shown s _ _ _ r0 _ _ _ _ _ c.in_ok-outer.ensures.indentation (c.is_flat.ensures ∙ long_node _ r0 (shown_count r5 + 1) refl)
     c.in_ok-outer.ensures.text
-    (ahead s _ _ _ _ _ _ _ _ _ _ _ r0 r1 c.in_ok-told.ensures.front (c.in_ok-told.ensures.text r1)
-    (ahead s _ _ _ _ _ _ _ _ _ _ _ r1 r2 c.in_ok-told-2.ensures.front (c.in_ok-told-2.ensures.text r2)
-    (ahead s _ _ _ _ _ _ _ _ _ _ _ r2 r3 c.in_ok-told-3.ensures.front (c.in_ok-told-3.ensures.text r3)
-    (ahead s _ _ _ _ _ _ _ _ _ _ _ r3 r4 c.in_ok-told-4.ensures.front (c.in_ok-told-4.ensures.text r4)
-    (ahead s _ _ _ _ _ _ _ _ _ _ _ r4 r5 c.in_ok-told-5.ensures.front (c.in_ok-told-5.ensures.text r5)
+    (ahead s _ _ _ _ _ _ _ _ _ _ _ r0 r1 c.in_ok-told.ensures.indentation (c.in_ok-told.ensures.text r1)
+    (ahead s _ _ _ _ _ _ _ _ _ _ _ r1 r2 c.in_ok-told-2.ensures.indentation (c.in_ok-told-2.ensures.text r2)
+    (ahead s _ _ _ _ _ _ _ _ _ _ _ r2 r3 c.in_ok-told-3.ensures.indentation (c.in_ok-told-3.ensures.text r3)
+    (ahead s _ _ _ _ _ _ _ _ _ _ _ r3 r4 c.in_ok-told-4.ensures.indentation (c.in_ok-told-4.ensures.text r4)
+    (ahead s _ _ _ _ _ _ _ _ _ _ _ r4 r5 c.in_ok-told-5.ensures.indentation (c.in_ok-told-5.ensures.text r5)
     c.in_ok-show_type_params.ensures.text))))) c.in_ok-close.ensures.text
 
 pub compounds::show_function-returns-clause-text : goal.compounds::show_function-returns-clause-text
@@ -93,14 +93,14 @@ compounds::show_function-returns-clause-text t c =
     let r2 : Fields = a_field (codes "body") (shown_block s.profile c.args.body.now) r3 in
     let r1 : Fields = a_field (codes "args") (shown_arguments (arguments_of c.args.args.now)) r2 in
     let r0 : Fields = a_field (codes "name") (shown_name c.args.name.now) r1 in
-    node_shown s _ _ _ r0 _ _ _ _ _ c.in_ok-outer.ensures.front (c.is_flat.ensures ∙ long_node _ r0 (shown_count r4) refl)
+    node_shown s _ _ _ r0 _ _ _ _ _ c.in_ok-outer.ensures.indentation (c.is_flat.ensures ∙ long_node _ r0 (shown_count r4) refl)
     c.in_ok-outer.ensures.text
-    (ahead s _ _ _ _ _ _ _ _ _ _ _ r0 r1 c.in_ok-told.ensures.front (c.in_ok-told.ensures.text r1)
-    (ahead s _ _ _ _ _ _ _ _ _ _ _ r1 r2 c.in_ok-told-2.ensures.front (c.in_ok-told-2.ensures.text r2)
-    (ahead s _ _ _ _ _ _ _ _ _ _ _ r2 r3 c.in_ok-told-3.ensures.front (c.in_ok-told-3.ensures.text r3)
-    (ahead s _ _ _ _ _ _ _ _ _ _ _ r3 r4 c.in_ok-told-4.ensures.front (c.in_ok-told-4.ensures.text r4)
-    (ahead_as s _ _ _ _ _ _ true _ _ _ _ r4 _ r5 (c.boxed_part.ensures r5 ∙ boxed_field _ _ r5) c.in_ok-told-5.ensures.front (c.in_ok-told-5.ensures.text r5)
-    (ahead s _ _ _ true _ _ _ _ _ _ _ r5 r6 c.in_ok-told-6.ensures.front (c.in_ok-told-6.ensures.text r6)
+    (ahead s _ _ _ _ _ _ _ _ _ _ _ r0 r1 c.in_ok-told.ensures.indentation (c.in_ok-told.ensures.text r1)
+    (ahead s _ _ _ _ _ _ _ _ _ _ _ r1 r2 c.in_ok-told-2.ensures.indentation (c.in_ok-told-2.ensures.text r2)
+    (ahead s _ _ _ _ _ _ _ _ _ _ _ r2 r3 c.in_ok-told-3.ensures.indentation (c.in_ok-told-3.ensures.text r3)
+    (ahead s _ _ _ _ _ _ _ _ _ _ _ r3 r4 c.in_ok-told-4.ensures.indentation (c.in_ok-told-4.ensures.text r4)
+    (ahead_as s _ _ _ _ _ _ true _ _ _ _ r4 _ r5 (c.boxed_part.ensures r5 ∙ boxed_field _ _ r5) c.in_ok-told-5.ensures.indentation (c.in_ok-told-5.ensures.text r5)
+    (ahead s _ _ _ true _ _ _ _ _ _ _ r5 r6 c.in_ok-told-6.ensures.indentation (c.in_ok-told-6.ensures.text r6)
     c.in_ok-show_type_params.ensures.text)))))) c.in_ok-close.ensures.text
 
 pub handlers::show_handler-returns-clause-text : goal.handlers::show_handler-returns-clause-text
@@ -112,10 +112,10 @@ handlers::show_handler-returns-clause-text t c =
     let r1 : Fields = name_field (codes "name") (given_handler.out-Handler h).name r2 in
     let r0 : Fields = expr_field (codes "type") (option_of (given_handler.out-Handler h).class) r1 in
     text_as s _ _ _ (Node (codes "ExceptHandler") r0) _ (handler_shows s.profile h body c.deref-body.ensures.value)
-    (node_shown s _ _ _ r0 _ _ _ _ _ c.in_ok-outer.ensures.front (c.is_short_handler.ensures (given_handler.out-Handler h).name)
+    (node_shown s _ _ _ r0 _ _ _ _ _ c.in_ok-outer.ensures.indentation (c.is_short_handler.ensures (given_handler.out-Handler h).name)
     c.in_ok-outer.ensures.text
-    (ahead_as s _ _ _ _ _ _ _ _ _ _ _ r0 _ r1 (c.option_part.ensures r1) c.in_ok-told.ensures.front (c.in_ok-told.ensures.text r1)
-    (ahead_as s _ _ _ _ _ _ _ _ _ _ _ r1 _ r2 (c.name_part.ensures r2) c.in_ok-told-2.ensures.front (c.in_ok-told-2.ensures.text r2)
+    (ahead_as s _ _ _ _ _ _ _ _ _ _ _ r0 _ r1 (c.option_part.ensures r1) c.in_ok-told.ensures.indentation (c.in_ok-told.ensures.text r1)
+    (ahead_as s _ _ _ _ _ _ _ _ _ _ _ r1 _ r2 (c.name_part.ensures r2) c.in_ok-told-2.ensures.indentation (c.in_ok-told-2.ensures.text r2)
     (at_end _ _ (c.in_ok-show_block.ensures.text no_field)))) c.in_ok-close.ensures.text)
 
 pub handlers::show_handler-show_block-requires : goal.handlers::show_handler-show_block-requires

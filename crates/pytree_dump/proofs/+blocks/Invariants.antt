@@ -15,9 +15,9 @@ decreases-statements::show_stmts l = 4 * weight (shown_block l.style.profile l.b
 
 abbrev pub invariant-statements::show_stmts-loop-s : goal.invariant-statements::show_stmts-loop-s
 invariant-statements::show_stmts-loop-s l = record {
-  text : string_bytes l.out ++ members l.style (string_bytes l.initial.front) l.first (showns (map (λ s. shown_stmt l.style.profile (stmt_of s)) (drop l.s-index l.body)))
-      ≡ string_bytes l.initial.out ++ members l.style (string_bytes l.initial.front) true (showns (map (λ s. shown_stmt l.style.profile (stmt_of s)) l.body));
-  front : string_bytes l.front ≡ string_bytes l.initial.front;
+  text : string_bytes l.out ++ members l.style (string_bytes l.initial.indentation) l.first (showns (map (λ s. shown_stmt l.style.profile (stmt_of s)) (drop l.s-index l.body)))
+      ≡ string_bytes l.initial.out ++ members l.style (string_bytes l.initial.indentation) true (showns (map (λ s. shown_stmt l.style.profile (stmt_of s)) l.body));
+  indentation : string_bytes l.indentation ≡ string_bytes l.initial.indentation;
 }
 
 abbrev pub decreases-statements::show_block : goal.decreases-statements::show_block
@@ -50,9 +50,9 @@ decreases-handlers::show_handlers l = 4 * weight (shown_caught l.style.profile l
 
 abbrev pub invariant-handlers::show_handlers-loop-h : goal.invariant-handlers::show_handlers-loop-h
 invariant-handlers::show_handlers-loop-h l = record {
-  text : string_bytes l.out ++ members l.style (string_bytes l.initial.front) l.first (showns (map (λ h. shown_handler l.style.profile (handler_of h)) (drop l.h-index l.handlers)))
-      ≡ string_bytes l.initial.out ++ members l.style (string_bytes l.initial.front) true (showns (map (λ h. shown_handler l.style.profile (handler_of h)) l.handlers));
-  front : string_bytes l.front ≡ string_bytes l.initial.front;
+  text : string_bytes l.out ++ members l.style (string_bytes l.initial.indentation) l.first (showns (map (λ h. shown_handler l.style.profile (handler_of h)) (drop l.h-index l.handlers)))
+      ≡ string_bytes l.initial.out ++ members l.style (string_bytes l.initial.indentation) true (showns (map (λ h. shown_handler l.style.profile (handler_of h)) l.handlers));
+  indentation : string_bytes l.indentation ≡ string_bytes l.initial.indentation;
 }
 
 abbrev pub decreases-handlers::show_handler : goal.decreases-handlers::show_handler

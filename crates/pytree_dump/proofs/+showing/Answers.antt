@@ -20,53 +20,53 @@ nodes::show_field-returns-clause-text t c =
     field_shown c.args.style _ _ _ _ _ c.args.told (slot_of c.args.part) _ there c.field_of.ensures c.as_str.ensures.value c.in_ok-push_lead.ensures c.in_ok-show_part.ensures.text
 
 pub nodes::show_one-returns-clause-text : goal.nodes::show_one-returns-clause-text
-nodes::show_one-returns-clause-text t c = node_closed c.args.style (string_bytes c.args.front.now) _ c.args.class.now (with_slot (slot_of c.args.a) no_field) _ _ _ _ _
-    c.in_ok-outer.ensures.front c.is_short_one.ensures refl refl
+nodes::show_one-returns-clause-text t c = node_closed c.args.style (string_bytes c.args.indentation.now) _ c.args.class.now (with_slot (slot_of c.args.a) no_field) _ _ _ _ _
+    c.in_ok-outer.ensures.indentation c.is_short_one.ensures refl refl
     c.in_ok-outer.ensures.text
     (one_field _ _ (string_bytes c.open.new.out) _ (record { one_line = c.is_short_one.result; named = c.args.style.names; first = true }) _ (slot_of c.args.a) c.in_ok-show_field.ensures.text) c.in_ok-close.ensures.text
 
 pub nodes::show_two-returns-clause-text : goal.nodes::show_two-returns-clause-text
-nodes::show_two-returns-clause-text t c = node_closed c.args.style (string_bytes c.args.front.now) _ c.args.class.now (with_slot (slot_of c.args.a) (with_slot (slot_of c.args.b) no_field)) _ _ _ _ _
-    c.in_ok-outer.ensures.front c.is_short_two.ensures refl refl
+nodes::show_two-returns-clause-text t c = node_closed c.args.style (string_bytes c.args.indentation.now) _ c.args.class.now (with_slot (slot_of c.args.a) (with_slot (slot_of c.args.b) no_field)) _ _ _ _ _
+    c.in_ok-outer.ensures.indentation c.is_short_two.ensures refl refl
     c.in_ok-outer.ensures.text
-    (two_fields _ _ _ (string_bytes c.open.new.out) _ _ (record { one_line = c.is_short_two.result; named = c.args.style.names; first = true }) _ _ (slot_of c.args.a) _ c.in_ok-told.ensures.front c.in_ok-told.ensures.text c.in_ok-show_field.ensures.text) c.in_ok-close.ensures.text
+    (two_fields _ _ _ (string_bytes c.open.new.out) _ _ (record { one_line = c.is_short_two.result; named = c.args.style.names; first = true }) _ _ (slot_of c.args.a) _ c.in_ok-told.ensures.indentation c.in_ok-told.ensures.text c.in_ok-show_field.ensures.text) c.in_ok-close.ensures.text
 
 pub nodes::show_three-returns-clause-text : goal.nodes::show_three-returns-clause-text
-nodes::show_three-returns-clause-text t c = node_closed c.args.style (string_bytes c.args.front.now) _ c.args.class.now (with_slot (slot_of c.args.a) (with_slot (slot_of c.args.b) (with_slot (slot_of c.args.c) no_field))) _ _ _ _ _
-    c.in_ok-outer.ensures.front c.is_short_three.ensures refl refl
+nodes::show_three-returns-clause-text t c = node_closed c.args.style (string_bytes c.args.indentation.now) _ c.args.class.now (with_slot (slot_of c.args.a) (with_slot (slot_of c.args.b) (with_slot (slot_of c.args.c) no_field))) _ _ _ _ _
+    c.in_ok-outer.ensures.indentation c.is_short_three.ensures refl refl
     c.in_ok-outer.ensures.text
-    (three_fields _ _ _ _ (string_bytes c.open.new.out) _ _ _ (record { one_line = c.is_short_three.result; named = c.args.style.names; first = true }) _ _ _ (slot_of c.args.a) _ _ c.in_ok-told.ensures.front c.in_ok-told-2.ensures.front c.in_ok-told.ensures.text c.in_ok-told-2.ensures.text c.in_ok-show_field.ensures.text) c.in_ok-close.ensures.text
+    (three_fields _ _ _ _ (string_bytes c.open.new.out) _ _ _ (record { one_line = c.is_short_three.result; named = c.args.style.names; first = true }) _ _ _ (slot_of c.args.a) _ _ c.in_ok-told.ensures.indentation c.in_ok-told-2.ensures.indentation c.in_ok-told.ensures.text c.in_ok-told-2.ensures.text c.in_ok-show_field.ensures.text) c.in_ok-close.ensures.text
 
 pub nodes::show_four-returns-clause-text : goal.nodes::show_four-returns-clause-text
-nodes::show_four-returns-clause-text t c = node_closed c.args.style (string_bytes c.args.front.now) _ c.args.class.now (with_slot (slot_of c.args.a) (with_slot (slot_of c.args.b) (with_slot (slot_of c.args.c) (with_slot (slot_of c.args.d) no_field)))) _ _ _ _ _
-    c.in_ok-outer.ensures.front c.is_short_four.ensures refl refl
+nodes::show_four-returns-clause-text t c = node_closed c.args.style (string_bytes c.args.indentation.now) _ c.args.class.now (with_slot (slot_of c.args.a) (with_slot (slot_of c.args.b) (with_slot (slot_of c.args.c) (with_slot (slot_of c.args.d) no_field)))) _ _ _ _ _
+    c.in_ok-outer.ensures.indentation c.is_short_four.ensures refl refl
     c.in_ok-outer.ensures.text
-    (four_fields _ _ _ _ _ (string_bytes c.open.new.out) _ _ _ _ (record { one_line = c.is_short_four.result; named = c.args.style.names; first = true }) _ _ _ _ (slot_of c.args.a) _ _ _ c.in_ok-told.ensures.front c.in_ok-told-2.ensures.front c.in_ok-told-3.ensures.front c.in_ok-told.ensures.text c.in_ok-told-2.ensures.text c.in_ok-told-3.ensures.text c.in_ok-show_field.ensures.text) c.in_ok-close.ensures.text
+    (four_fields _ _ _ _ _ (string_bytes c.open.new.out) _ _ _ _ (record { one_line = c.is_short_four.result; named = c.args.style.names; first = true }) _ _ _ _ (slot_of c.args.a) _ _ _ c.in_ok-told.ensures.indentation c.in_ok-told-2.ensures.indentation c.in_ok-told-3.ensures.indentation c.in_ok-told.ensures.text c.in_ok-told-2.ensures.text c.in_ok-told-3.ensures.text c.in_ok-show_field.ensures.text) c.in_ok-close.ensures.text
 
 pub nodes::show_seven-returns-clause-text : goal.nodes::show_seven-returns-clause-text
-nodes::show_seven-returns-clause-text t c = λ long. node_closed c.args.style (string_bytes c.args.front.now) _ c.args.class.now (with_slot (slot_of c.args.a) (with_slot (slot_of c.args.b) (with_slot (slot_of c.args.c) (with_slot (slot_of c.args.d) (with_slot (slot_of c.args.e) (with_slot (slot_of c.args.f) (with_slot (slot_of c.args.g) no_field))))))) _ _ _ _ _
-    c.in_ok-outer.ensures.front (c.is_flat.ensures ∙ alone _ _ long) refl refl
+nodes::show_seven-returns-clause-text t c = λ long. node_closed c.args.style (string_bytes c.args.indentation.now) _ c.args.class.now (with_slot (slot_of c.args.a) (with_slot (slot_of c.args.b) (with_slot (slot_of c.args.c) (with_slot (slot_of c.args.d) (with_slot (slot_of c.args.e) (with_slot (slot_of c.args.f) (with_slot (slot_of c.args.g) no_field))))))) _ _ _ _ _
+    c.in_ok-outer.ensures.indentation (c.is_flat.ensures ∙ alone _ _ long) refl refl
     c.in_ok-outer.ensures.text
-    (then_fields _ _ _ (string_bytes c.open.new.out) _ _ (record { one_line = c.is_flat.result; named = c.args.style.names; first = true }) _ (slot_of c.args.a) (with_slot (slot_of c.args.b) (with_slot (slot_of c.args.c) (with_slot (slot_of c.args.d) (with_slot (slot_of c.args.e) (with_slot (slot_of c.args.f) (with_slot (slot_of c.args.g) no_field)))))) c.in_ok-told.ensures.front c.in_ok-told.ensures.text
-    (then_fields _ _ _ _ _ _ _ _ (slot_of c.args.b) (with_slot (slot_of c.args.c) (with_slot (slot_of c.args.d) (with_slot (slot_of c.args.e) (with_slot (slot_of c.args.f) (with_slot (slot_of c.args.g) no_field))))) c.in_ok-told-2.ensures.front c.in_ok-told-2.ensures.text
-    (then_fields _ _ _ _ _ _ _ _ (slot_of c.args.c) (with_slot (slot_of c.args.d) (with_slot (slot_of c.args.e) (with_slot (slot_of c.args.f) (with_slot (slot_of c.args.g) no_field)))) c.in_ok-told-3.ensures.front c.in_ok-told-3.ensures.text
-    (then_fields _ _ _ _ _ _ _ _ (slot_of c.args.d) (with_slot (slot_of c.args.e) (with_slot (slot_of c.args.f) (with_slot (slot_of c.args.g) no_field))) c.in_ok-told-4.ensures.front c.in_ok-told-4.ensures.text
-    (then_fields _ _ _ _ _ _ _ _ (slot_of c.args.e) (with_slot (slot_of c.args.f) (with_slot (slot_of c.args.g) no_field)) c.in_ok-told-5.ensures.front c.in_ok-told-5.ensures.text
-    (then_fields _ _ _ _ _ _ _ _ (slot_of c.args.f) (with_slot (slot_of c.args.g) no_field) c.in_ok-told-6.ensures.front c.in_ok-told-6.ensures.text
+    (then_fields _ _ _ (string_bytes c.open.new.out) _ _ (record { one_line = c.is_flat.result; named = c.args.style.names; first = true }) _ (slot_of c.args.a) (with_slot (slot_of c.args.b) (with_slot (slot_of c.args.c) (with_slot (slot_of c.args.d) (with_slot (slot_of c.args.e) (with_slot (slot_of c.args.f) (with_slot (slot_of c.args.g) no_field)))))) c.in_ok-told.ensures.indentation c.in_ok-told.ensures.text
+    (then_fields _ _ _ _ _ _ _ _ (slot_of c.args.b) (with_slot (slot_of c.args.c) (with_slot (slot_of c.args.d) (with_slot (slot_of c.args.e) (with_slot (slot_of c.args.f) (with_slot (slot_of c.args.g) no_field))))) c.in_ok-told-2.ensures.indentation c.in_ok-told-2.ensures.text
+    (then_fields _ _ _ _ _ _ _ _ (slot_of c.args.c) (with_slot (slot_of c.args.d) (with_slot (slot_of c.args.e) (with_slot (slot_of c.args.f) (with_slot (slot_of c.args.g) no_field)))) c.in_ok-told-3.ensures.indentation c.in_ok-told-3.ensures.text
+    (then_fields _ _ _ _ _ _ _ _ (slot_of c.args.d) (with_slot (slot_of c.args.e) (with_slot (slot_of c.args.f) (with_slot (slot_of c.args.g) no_field))) c.in_ok-told-4.ensures.indentation c.in_ok-told-4.ensures.text
+    (then_fields _ _ _ _ _ _ _ _ (slot_of c.args.e) (with_slot (slot_of c.args.f) (with_slot (slot_of c.args.g) no_field)) c.in_ok-told-5.ensures.indentation c.in_ok-told-5.ensures.text
+    (then_fields _ _ _ _ _ _ _ _ (slot_of c.args.f) (with_slot (slot_of c.args.g) no_field) c.in_ok-told-6.ensures.indentation c.in_ok-told-6.ensures.text
     (one_field _ _ _ _ _ _ (slot_of c.args.g) c.in_ok-show_field.ensures.text))))))) c.in_ok-close.ensures.text
 
-pub nodes::show_two-returns-clause-front : goal.nodes::show_two-returns-clause-front
-nodes::show_two-returns-clause-front t c = left c.args.style.indent _ _ _ _ c.in_ok-outer.ensures.len
-    (c.in_ok-show_field.ensures.front ∙ c.in_ok-told.ensures.front ∙ c.in_ok-outer.ensures.front) c.close.ensures.front
+pub nodes::show_two-returns-clause-indentation : goal.nodes::show_two-returns-clause-indentation
+nodes::show_two-returns-clause-indentation t c = left c.args.style.indent _ _ _ _ c.in_ok-outer.ensures.len
+    (c.in_ok-show_field.ensures.indentation ∙ c.in_ok-told.ensures.indentation ∙ c.in_ok-outer.ensures.indentation) c.close.ensures.indentation
 
 pub nodes::show_two-show_field-requires-2 : goal.nodes::show_two-show_field-requires-2
 nodes::show_two-show_field-requires-2 t c =
     let e0 = slot_weighs (slot_of c.args.a) (with_slot (slot_of c.args.b) no_field) in
     let e1 = slot_weighs (slot_of c.args.b) no_field in (omega (arith, e0, e1), tt)
 
-pub nodes::show_three-returns-clause-front : goal.nodes::show_three-returns-clause-front
-nodes::show_three-returns-clause-front t c = left c.args.style.indent _ _ _ _ c.in_ok-outer.ensures.len
-    (c.in_ok-show_field.ensures.front ∙ c.in_ok-told-2.ensures.front ∙ c.in_ok-told.ensures.front ∙ c.in_ok-outer.ensures.front) c.close.ensures.front
+pub nodes::show_three-returns-clause-indentation : goal.nodes::show_three-returns-clause-indentation
+nodes::show_three-returns-clause-indentation t c = left c.args.style.indent _ _ _ _ c.in_ok-outer.ensures.len
+    (c.in_ok-show_field.ensures.indentation ∙ c.in_ok-told-2.ensures.indentation ∙ c.in_ok-told.ensures.indentation ∙ c.in_ok-outer.ensures.indentation) c.close.ensures.indentation
 
 pub nodes::show_three-show_field-requires-2 : goal.nodes::show_three-show_field-requires-2
 nodes::show_three-show_field-requires-2 t c =
@@ -80,9 +80,9 @@ nodes::show_three-show_field-requires-3 t c =
     let e1 = slot_weighs (slot_of c.args.b) (with_slot (slot_of c.args.c) no_field) in
     let e2 = slot_weighs (slot_of c.args.c) no_field in (omega (arith, e0, e1, e2), tt)
 
-pub nodes::show_four-returns-clause-front : goal.nodes::show_four-returns-clause-front
-nodes::show_four-returns-clause-front t c = left c.args.style.indent _ _ _ _ c.in_ok-outer.ensures.len
-    (c.in_ok-show_field.ensures.front ∙ c.in_ok-told-3.ensures.front ∙ c.in_ok-told-2.ensures.front ∙ c.in_ok-told.ensures.front ∙ c.in_ok-outer.ensures.front) c.close.ensures.front
+pub nodes::show_four-returns-clause-indentation : goal.nodes::show_four-returns-clause-indentation
+nodes::show_four-returns-clause-indentation t c = left c.args.style.indent _ _ _ _ c.in_ok-outer.ensures.len
+    (c.in_ok-show_field.ensures.indentation ∙ c.in_ok-told-3.ensures.indentation ∙ c.in_ok-told-2.ensures.indentation ∙ c.in_ok-told.ensures.indentation ∙ c.in_ok-outer.ensures.indentation) c.close.ensures.indentation
 
 pub nodes::show_four-show_field-requires-2 : goal.nodes::show_four-show_field-requires-2
 nodes::show_four-show_field-requires-2 t c =
@@ -105,9 +105,9 @@ nodes::show_four-show_field-requires-4 t c =
     let e2 = slot_weighs (slot_of c.args.c) (with_slot (slot_of c.args.d) no_field) in
     let e3 = slot_weighs (slot_of c.args.d) no_field in (omega (arith, e0, e1, e2, e3), tt)
 
-pub nodes::show_seven-returns-clause-front : goal.nodes::show_seven-returns-clause-front
-nodes::show_seven-returns-clause-front t c = left c.args.style.indent _ _ _ _ c.in_ok-outer.ensures.len
-    (c.in_ok-show_field.ensures.front ∙ c.in_ok-told-6.ensures.front ∙ c.in_ok-told-5.ensures.front ∙ c.in_ok-told-4.ensures.front ∙ c.in_ok-told-3.ensures.front ∙ c.in_ok-told-2.ensures.front ∙ c.in_ok-told.ensures.front ∙ c.in_ok-outer.ensures.front) c.close.ensures.front
+pub nodes::show_seven-returns-clause-indentation : goal.nodes::show_seven-returns-clause-indentation
+nodes::show_seven-returns-clause-indentation t c = left c.args.style.indent _ _ _ _ c.in_ok-outer.ensures.len
+    (c.in_ok-show_field.ensures.indentation ∙ c.in_ok-told-6.ensures.indentation ∙ c.in_ok-told-5.ensures.indentation ∙ c.in_ok-told-4.ensures.indentation ∙ c.in_ok-told-3.ensures.indentation ∙ c.in_ok-told-2.ensures.indentation ∙ c.in_ok-told.ensures.indentation ∙ c.in_ok-outer.ensures.indentation) c.close.ensures.indentation
 
 pub nodes::show_seven-show_field-requires : goal.nodes::show_seven-show_field-requires
 nodes::show_seven-show_field-requires t c = let e = seven_weigh (slot_of c.args.a) (slot_of c.args.b) (slot_of c.args.c) (slot_of c.args.d) (slot_of c.args.e) (slot_of c.args.f) (slot_of c.args.g) in (omega (arith, e), tt)
@@ -156,11 +156,11 @@ lists::show_options-show_expr-requires t c =
 pub lists::show_comprehensions-loop-c-preserved : goal.lists::show_comprehensions-loop-c-preserved
 lists::show_comprehensions-loop-c-preserved t c = record {
   text =
-      let e1 : string_bytes c.push_before.new.out ≡ string_bytes c.loop-c.out ++ before (is_flat c.args.style.indent) (string_bytes c.loop-c.front) c.loop-c.first =
+      let e1 : string_bytes c.push_before.new.out ≡ string_bytes c.loop-c.out ++ before (is_flat c.args.style.indent) (string_bytes c.loop-c.indentation) c.loop-c.first =
       c.in_ok-push_before.ensures ∙ (λ i. string_bytes c.loop-c.out ++ before (c.is_flat.ensures i) (c.as_str.ensures.value i) c.loop-c.first) in
-      member_shown (λ c. shown_comprehension (comprehension_of c)) _ _ _ c.args.style _ _ _ _ _ _ _ c.loop-c-test.true c.c-item.is c.loop-c.invariant.front c.loop-c.invariant.text
+      member_shown (λ c. shown_comprehension (comprehension_of c)) _ _ _ c.args.style _ _ _ _ _ _ _ c.loop-c-test.true c.c-item.is c.loop-c.invariant.indentation c.loop-c.invariant.text
       e1 c.in_ok-show_comprehension.ensures.text;
-  front = c.in_ok-show_comprehension.ensures.front ∙ c.loop-c.invariant.front;
+  indentation = c.in_ok-show_comprehension.ensures.indentation ∙ c.loop-c.invariant.indentation;
 }
 
 pub members::show_comprehension-returns-clause-text : goal.members::show_comprehension-returns-clause-text
@@ -176,7 +176,7 @@ pub members::show_arguments-returns-clause-text : goal.members::show_arguments-r
 members::show_arguments-returns-clause-text t c =
     let e = arguments_shown c.args.a.now _ _ _ _ _ (slot_of c.arg_part.result) (slot_of c.arg_part-2.result)
     c.deref.ensures.value c.deref-2.ensures.value c.arg_part.ensures c.deref-3.ensures.value c.deref-4.ensures.value c.arg_part-2.ensures c.deref-5.ensures.value in
-    subst (λ x. OnOk c.show_seven.result (string_bytes c.show_seven.new.out ≡ string_bytes c.args.out.now ++ text c.args.style (string_bytes c.args.front.now) x))
+    subst (λ x. OnOk c.show_seven.result (string_bytes c.show_seven.new.out ≡ string_bytes c.args.out.now ++ text c.args.style (string_bytes c.args.indentation.now) x))
     (sym e) (c.show_seven.ensures.text (five_shown (codes "posonlyargs") (codes "args") (codes "kwonlyargs") (codes "kw_defaults") (codes "defaults")
     (Row (showns (map (λ a. shown_arg (arg_of a)) c.deref.result.now))) (Row (showns (map (λ a. shown_arg (arg_of a)) c.deref-2.result.now))) (Row (showns (map (λ a. shown_arg (arg_of a)) c.deref-3.result.now)))
     (Row (showns (map (λ e. shown_optional (optional (option_of e))) c.deref-4.result.now))) (Row (showns (map (λ e. shown (tree_of e)) c.deref-5.result.now)))
@@ -185,7 +185,7 @@ members::show_arguments-returns-clause-text t c =
 pub joined::show_joined_attribute-returns-clause-text : goal.joined::show_joined_attribute-returns-clause-text
 joined::show_joined_attribute-returns-clause-text t c =
     on_ok c.push_name_and_context.result
-    (attribute_text c.args.style (string_bytes c.args.front.now) c.args.attr.now _ (shown (tree_of c.args.value.now)) c.args.ctx _ _ _ _ c.requires c.as_str.ensures.characters
+    (attribute_text c.args.style (string_bytes c.args.indentation.now) c.args.attr.now _ (shown (tree_of c.args.value.now)) c.args.ctx _ _ _ _ c.requires c.as_str.ensures.characters
     c.in_ok-push_str.ensures.bytes c.in_ok-show_expr.ensures.text)
     c.push_name_and_context.ensures
 
@@ -196,7 +196,7 @@ pub joined::show_joined_keywords-returns-then-is_empty-clause-text : goal.joined
 joined::show_joined_keywords-returns-then-is_empty-clause-text t c =
     where_pushed _ _ _ c.push_str.result
     (λ pushed. pushed ∙ ap (λ z. string_bytes c.args.out.now ++ (codes ", keywords=" ++ z ++ codes ")"))
-    (sym (empty_row (λ k. shown_keyword (keyword_of k)) c.args.keywords.now c.args.style (string_bytes c.args.front.now) (sym c.if-is_empty.ensures))))
+    (sym (empty_row (λ k. shown_keyword (keyword_of k)) c.args.keywords.now c.args.style (string_bytes c.args.indentation.now) (sym c.if-is_empty.ensures))))
     c.push_str.ensures.bytes
 
 pub joined::show_joined_keywords-returns-clause-text : goal.joined::show_joined_keywords-returns-clause-text
@@ -211,12 +211,12 @@ joined::show_joined_keywords-show_keywords-requires t c = (omega arith, tt)
 pub joined::show_joined_call-returns-clause-text : goal.joined::show_joined_call-returns-clause-text
 joined::show_joined_call-returns-clause-text t c =
     on_ok c.show_joined_keywords.result
-    (λ ended. call_text c.args.style (string_bytes c.args.front.now) (shown (tree_of c.args.func.now)) (Row (showns (map (λ e. shown (tree_of e)) c.args.args.now)))
+    (λ ended. call_text c.args.style (string_bytes c.args.indentation.now) (shown (tree_of c.args.func.now)) (Row (showns (map (λ e. shown (tree_of e)) c.args.args.now)))
     (Row (showns (map (λ k. shown_keyword (keyword_of k)) c.args.keywords.now))) _ _ _ _ _ _ c.requires
     c.in_ok-push_str.ensures.bytes c.in_ok-show_expr.ensures.text c.in_ok-push_str-2.ensures.bytes
-    (c.in_ok-show_exprs.ensures.text ∙ ap (λ z. string_bytes c.push_str-2.new.self ++ text c.args.style z (Row (showns (map (λ e. shown (tree_of e)) c.args.args.now)))) c.in_ok-show_expr.ensures.front)
+    (c.in_ok-show_exprs.ensures.text ∙ ap (λ z. string_bytes c.push_str-2.new.self ++ text c.args.style z (Row (showns (map (λ e. shown (tree_of e)) c.args.args.now)))) c.in_ok-show_expr.ensures.indentation)
     (ended ∙ ap (λ z. string_bytes c.show_exprs.new.out ++ (codes ", keywords=" ++ text c.args.style z (Row (showns (map (λ k. shown_keyword (keyword_of k)) c.args.keywords.now))) ++ codes ")"))
-    (c.in_ok-show_exprs.ensures.front ∙ c.in_ok-show_expr.ensures.front)))
+    (c.in_ok-show_exprs.ensures.indentation ∙ c.in_ok-show_expr.ensures.indentation)))
     c.show_joined_keywords.ensures.text
 
 pub joined::show_joined_call-show_expr-requires : goal.joined::show_joined_call-show_expr-requires
@@ -231,19 +231,19 @@ joined::show_joined_call-show_joined_keywords-requires t c = (omega arith, tt)
 pub lists::show_exprs-returns-then-is_empty-clause-text : goal.lists::show_exprs-returns-then-is_empty-clause-text
 lists::show_exprs-returns-then-is_empty-clause-text t c =
     where_pushed _ _ _ c.push_str.result
-    (λ pushed. pushed ∙ ap (λ z. string_bytes c.args.out.now ++ z) (sym (empty_row (λ e. shown (tree_of e)) c.args.es.now c.args.style (string_bytes c.args.front.now) (sym c.if-is_empty.ensures))))
+    (λ pushed. pushed ∙ ap (λ z. string_bytes c.args.out.now ++ z) (sym (empty_row (λ e. shown (tree_of e)) c.args.es.now c.args.style (string_bytes c.args.indentation.now) (sym c.if-is_empty.ensures))))
     c.push_str.ensures.bytes
 
 pub lists::show_keywords-returns-then-is_empty-clause-text : goal.lists::show_keywords-returns-then-is_empty-clause-text
 lists::show_keywords-returns-then-is_empty-clause-text t c =
     where_pushed _ _ _ c.push_str.result
-    (λ pushed. pushed ∙ ap (λ z. string_bytes c.args.out.now ++ z) (sym (empty_row (λ k. shown_keyword (keyword_of k)) c.args.ks.now c.args.style (string_bytes c.args.front.now) (sym c.if-is_empty.ensures))))
+    (λ pushed. pushed ∙ ap (λ z. string_bytes c.args.out.now ++ z) (sym (empty_row (λ k. shown_keyword (keyword_of k)) c.args.ks.now c.args.style (string_bytes c.args.indentation.now) (sym c.if-is_empty.ensures))))
     c.push_str.ensures.bytes
 
 pub lists::show_args-returns-then-is_empty-clause-text : goal.lists::show_args-returns-then-is_empty-clause-text
 lists::show_args-returns-then-is_empty-clause-text t c =
     where_pushed _ _ _ c.push_str.result
-    (λ pushed. pushed ∙ ap (λ z. string_bytes c.args.out.now ++ z) (sym (empty_row (λ a. shown_arg (arg_of a)) c.args.all.now c.args.style (string_bytes c.args.front.now) (sym c.if-is_empty.ensures))))
+    (λ pushed. pushed ∙ ap (λ z. string_bytes c.args.out.now ++ z) (sym (empty_row (λ a. shown_arg (arg_of a)) c.args.all.now c.args.style (string_bytes c.args.indentation.now) (sym c.if-is_empty.ensures))))
     c.push_str.ensures.bytes
 
 pub expressions::show_expr-returns-in-GeneratorExp-clause-text : goal.expressions::show_expr-returns-in-GeneratorExp-clause-text

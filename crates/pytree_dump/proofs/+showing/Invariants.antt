@@ -43,9 +43,9 @@ decreases-lists::show_exprs l = 4 * weight (Row (showns (map (λ e. shown (tree_
 
 abbrev pub invariant-lists::show_exprs-loop-e : goal.invariant-lists::show_exprs-loop-e
 invariant-lists::show_exprs-loop-e l = record {
-  text : string_bytes l.out ++ members l.style (string_bytes l.initial.front) l.first (showns (map (λ e. shown (tree_of e)) (drop l.e-index l.es)))
-      ≡ string_bytes l.initial.out ++ members l.style (string_bytes l.initial.front) true (showns (map (λ e. shown (tree_of e)) l.es));
-  front : string_bytes l.front ≡ string_bytes l.initial.front;
+  text : string_bytes l.out ++ members l.style (string_bytes l.initial.indentation) l.first (showns (map (λ e. shown (tree_of e)) (drop l.e-index l.es)))
+      ≡ string_bytes l.initial.out ++ members l.style (string_bytes l.initial.indentation) true (showns (map (λ e. shown (tree_of e)) l.es));
+  indentation : string_bytes l.indentation ≡ string_bytes l.initial.indentation;
 }
 
 abbrev pub decreases-lists::show_options : goal.decreases-lists::show_options
@@ -53,9 +53,9 @@ decreases-lists::show_options l = 4 * weight (Row (showns (map (λ e. shown_opti
 
 abbrev pub invariant-lists::show_options-loop-e : goal.invariant-lists::show_options-loop-e
 invariant-lists::show_options-loop-e l = record {
-  text : string_bytes l.out ++ members l.style (string_bytes l.initial.front) l.first (showns (map (λ e. shown_optional (optional (option_of e))) (drop l.e-index l.es)))
-      ≡ string_bytes l.initial.out ++ members l.style (string_bytes l.initial.front) true (showns (map (λ e. shown_optional (optional (option_of e))) l.es));
-  front : string_bytes l.front ≡ string_bytes l.initial.front;
+  text : string_bytes l.out ++ members l.style (string_bytes l.initial.indentation) l.first (showns (map (λ e. shown_optional (optional (option_of e))) (drop l.e-index l.es)))
+      ≡ string_bytes l.initial.out ++ members l.style (string_bytes l.initial.indentation) true (showns (map (λ e. shown_optional (optional (option_of e))) l.es));
+  indentation : string_bytes l.indentation ≡ string_bytes l.initial.indentation;
 }
 
 abbrev pub decreases-lists::show_comprehensions : goal.decreases-lists::show_comprehensions
@@ -63,9 +63,9 @@ decreases-lists::show_comprehensions l = 4 * weight (Row (showns (map (λ c. sho
 
 abbrev pub invariant-lists::show_comprehensions-loop-c : goal.invariant-lists::show_comprehensions-loop-c
 invariant-lists::show_comprehensions-loop-c l = record {
-  text : string_bytes l.out ++ members l.style (string_bytes l.initial.front) l.first (showns (map (λ c. shown_comprehension (comprehension_of c)) (drop l.c-index l.cs)))
-      ≡ string_bytes l.initial.out ++ members l.style (string_bytes l.initial.front) true (showns (map (λ c. shown_comprehension (comprehension_of c)) l.cs));
-  front : string_bytes l.front ≡ string_bytes l.initial.front;
+  text : string_bytes l.out ++ members l.style (string_bytes l.initial.indentation) l.first (showns (map (λ c. shown_comprehension (comprehension_of c)) (drop l.c-index l.cs)))
+      ≡ string_bytes l.initial.out ++ members l.style (string_bytes l.initial.indentation) true (showns (map (λ c. shown_comprehension (comprehension_of c)) l.cs));
+  indentation : string_bytes l.indentation ≡ string_bytes l.initial.indentation;
 }
 
 abbrev pub decreases-lists::show_keywords : goal.decreases-lists::show_keywords
@@ -73,9 +73,9 @@ decreases-lists::show_keywords l = 4 * weight (Row (showns (map (λ k. shown_key
 
 abbrev pub invariant-lists::show_keywords-loop-k : goal.invariant-lists::show_keywords-loop-k
 invariant-lists::show_keywords-loop-k l = record {
-  text : string_bytes l.out ++ members l.style (string_bytes l.initial.front) l.first (showns (map (λ k. shown_keyword (keyword_of k)) (drop l.k-index l.ks)))
-      ≡ string_bytes l.initial.out ++ members l.style (string_bytes l.initial.front) true (showns (map (λ k. shown_keyword (keyword_of k)) l.ks));
-  front : string_bytes l.front ≡ string_bytes l.initial.front;
+  text : string_bytes l.out ++ members l.style (string_bytes l.initial.indentation) l.first (showns (map (λ k. shown_keyword (keyword_of k)) (drop l.k-index l.ks)))
+      ≡ string_bytes l.initial.out ++ members l.style (string_bytes l.initial.indentation) true (showns (map (λ k. shown_keyword (keyword_of k)) l.ks));
+  indentation : string_bytes l.indentation ≡ string_bytes l.initial.indentation;
 }
 
 abbrev pub decreases-lists::show_args : goal.decreases-lists::show_args
@@ -83,9 +83,9 @@ decreases-lists::show_args l = 4 * weight (Row (showns (map (λ a. shown_arg (ar
 
 abbrev pub invariant-lists::show_args-loop-a : goal.invariant-lists::show_args-loop-a
 invariant-lists::show_args-loop-a l = record {
-  text : string_bytes l.out ++ members l.style (string_bytes l.initial.front) l.first (showns (map (λ a. shown_arg (arg_of a)) (drop l.a-index l.all)))
-      ≡ string_bytes l.initial.out ++ members l.style (string_bytes l.initial.front) true (showns (map (λ a. shown_arg (arg_of a)) l.all));
-  front : string_bytes l.front ≡ string_bytes l.initial.front;
+  text : string_bytes l.out ++ members l.style (string_bytes l.initial.indentation) l.first (showns (map (λ a. shown_arg (arg_of a)) (drop l.a-index l.all)))
+      ≡ string_bytes l.initial.out ++ members l.style (string_bytes l.initial.indentation) true (showns (map (λ a. shown_arg (arg_of a)) l.all));
+  indentation : string_bytes l.indentation ≡ string_bytes l.initial.indentation;
 }
 
 abbrev pub decreases-nodes::show_four : goal.decreases-nodes::show_four
@@ -109,9 +109,9 @@ decreases-lists::show_aliases l = 4 * weight (Row (showns (map (λ a. shown_alia
 
 abbrev pub invariant-lists::show_aliases-loop-a : goal.invariant-lists::show_aliases-loop-a
 invariant-lists::show_aliases-loop-a l = record {
-  text : string_bytes l.out ++ members l.style (string_bytes l.initial.front) l.first (showns (map (λ a. shown_alias (alias_of a)) (drop l.a-index l.names)))
-      ≡ string_bytes l.initial.out ++ members l.style (string_bytes l.initial.front) true (showns (map (λ a. shown_alias (alias_of a)) l.names));
-  front : string_bytes l.front ≡ string_bytes l.initial.front;
+  text : string_bytes l.out ++ members l.style (string_bytes l.initial.indentation) l.first (showns (map (λ a. shown_alias (alias_of a)) (drop l.a-index l.names)))
+      ≡ string_bytes l.initial.out ++ members l.style (string_bytes l.initial.indentation) true (showns (map (λ a. shown_alias (alias_of a)) l.names));
+  indentation : string_bytes l.indentation ≡ string_bytes l.initial.indentation;
 }
 
 abbrev pub decreases-lists::show_items : goal.decreases-lists::show_items
@@ -119,9 +119,9 @@ decreases-lists::show_items l = 4 * weight (Row (showns (map (λ item. shown_ite
 
 abbrev pub invariant-lists::show_items-loop-item : goal.invariant-lists::show_items-loop-item
 invariant-lists::show_items-loop-item l = record {
-  text : string_bytes l.out ++ members l.style (string_bytes l.initial.front) l.first (showns (map (λ item. shown_item (item_of item)) (drop l.item-index l.items)))
-      ≡ string_bytes l.initial.out ++ members l.style (string_bytes l.initial.front) true (showns (map (λ item. shown_item (item_of item)) l.items));
-  front : string_bytes l.front ≡ string_bytes l.initial.front;
+  text : string_bytes l.out ++ members l.style (string_bytes l.initial.indentation) l.first (showns (map (λ item. shown_item (item_of item)) (drop l.item-index l.items)))
+      ≡ string_bytes l.initial.out ++ members l.style (string_bytes l.initial.indentation) true (showns (map (λ item. shown_item (item_of item)) l.items));
+  indentation : string_bytes l.indentation ≡ string_bytes l.initial.indentation;
 }
 
 abbrev pub decreases-lists::show_type_params : goal.decreases-lists::show_type_params
@@ -129,9 +129,9 @@ decreases-lists::show_type_params l = 4 * weight (Row (showns (map (λ p. shown_
 
 abbrev pub invariant-lists::show_type_params-loop-p : goal.invariant-lists::show_type_params-loop-p
 invariant-lists::show_type_params-loop-p l = record {
-  text : string_bytes l.out ++ members l.style (string_bytes l.initial.front) l.first (showns (map (λ p. shown_type_param (type_param_of p)) (drop l.p-index l.all)))
-      ≡ string_bytes l.initial.out ++ members l.style (string_bytes l.initial.front) true (showns (map (λ p. shown_type_param (type_param_of p)) l.all));
-  front : string_bytes l.front ≡ string_bytes l.initial.front;
+  text : string_bytes l.out ++ members l.style (string_bytes l.initial.indentation) l.first (showns (map (λ p. shown_type_param (type_param_of p)) (drop l.p-index l.all)))
+      ≡ string_bytes l.initial.out ++ members l.style (string_bytes l.initial.indentation) true (showns (map (λ p. shown_type_param (type_param_of p)) l.all));
+  indentation : string_bytes l.indentation ≡ string_bytes l.initial.indentation;
 }
 
 abbrev pub decreases-joined::show_joined_attribute : goal.decreases-joined::show_joined_attribute
