@@ -8,22 +8,22 @@ ghost use Rattle.pytree_node.specs.Trees as plain;
 ghost use Rattle.pytree_node.specs.Trees.{an_expr, exprs, keywords, no_exprs};
 ghost use Rattle.pygrammar.specs.declared.levels.Level.TheVariants as Level;
 ghost use Rattle.pyunparse.specs.Inner.Arguments.{argument, argument_name};
-ghost use Rattle.pyunparse.specs.Inner.Folds.{puts};
+ghost use Rattle.pyunparse_text.specs.Folds.{puts};
 ghost use Rattle.pyunparse.specs.Inner.Members.{members};
-ghost use Rattle.pyunparse.specs.Inner.Sorts.{is_generator};
+ghost use Rattle.pyunparse_text.specs.Sorts.{is_generator};
 ghost use Rattle.pyunparse_text.specs.Pieces.{piece, pieces};
 ghost use Rattle.pyunparse_text.specs.Written.{alone, by_name, each, listed, lone_generator, trailing};
 
 use crate::clauses::write_generator;
 use crate::displays::write_members;
 use crate::expressions::write_expr;
-use crate::levels::reaches;
-use crate::marks::Between;
-use crate::tokens::{close, open, put_between, put_name, put_sign};
-use crate::writers::Writer;
 use pygrammar::Level;
 use pylex::Exact;
 use pytree_node::{Expr, Identifier, Keyword};
+use pyunparse_text::levels::reaches;
+use pyunparse_text::marks::Between;
+use pyunparse_text::tokens::{close, open, put_between, put_name, put_sign};
+use pyunparse_text::writers::Writer;
 use std::alloc::AllocError;
 
 /// Writes `value.attr`.

@@ -6,17 +6,17 @@ ghost use Rattle.pytree_node.specs.TreeOf.{comprehension_of, tree_of};
 ghost use Rattle.pytree_node.specs.Trees.{comprehensions, exprs};
 ghost use Rattle.pygrammar.specs.declared.levels.Level.TheVariants as Level;
 ghost use Rattle.pyunparse.specs.Inner.Clauses.{clause, condition};
-ghost use Rattle.pyunparse.specs.Inner.Folds.{puts};
+ghost use Rattle.pyunparse_text.specs.Folds.{puts};
 ghost use Rattle.pyunparse_text.specs.Pieces.{piece, pieces};
 ghost use Rattle.pyunparse_text.specs.Written.{clauses, conditions, enclosed, for_in, leading, trailing};
 
 use crate::expressions::write_expr;
-use crate::tokens::{put_sign, put_word};
-use crate::writers::Writer;
 use pygrammar::Level;
 use pylex::Exact;
 use pytree_node::{Comprehension, Expr};
 use pytoken::Keyword;
+use pyunparse_text::tokens::{put_sign, put_word};
+use pyunparse_text::writers::Writer;
 use std::alloc::AllocError;
 
 /// Writes a comprehension in its brackets.

@@ -2,16 +2,16 @@
 
 ghost use Rattle.std.specs.Prelude.{◌≡◌, [], ◌∷◌, OnOk};
 ghost use Rattle.pytree_node.specs.TreeOf.{constant_of};
-ghost use Rattle.pyunparse.specs.Inner.Folds.{puts};
+ghost use Rattle.pyunparse_text.specs.Folds.{puts};
 ghost use Rattle.pyunparse_text.specs.Pieces.{piece};
 ghost use Rattle.pyunparse_text.specs.Written.{constant_terminal, free};
 
-use crate::tokens::{put_sign, put_word};
-use crate::writers::Writer;
 use itoa::Buffer;
 use pylex::{Exact, Kind};
 use pytree_node::Constant;
 use pytoken::Keyword;
+use pyunparse_text::tokens::{put_sign, put_word};
+use pyunparse_text::writers::Writer;
 use std::alloc::AllocError;
 
 /// Writes a constant.

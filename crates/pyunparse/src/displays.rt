@@ -5,19 +5,20 @@ ghost use Rattle.pylex_lexeme.specs.declared.kinds.Exact.TheVariants.{LBrace, RB
 ghost use Rattle.pytree_node.specs.TreeOf.{option_of, tree_of};
 ghost use Rattle.pytree_node.specs.Trees.{exprs, optionals};
 ghost use Rattle.pygrammar.specs.declared.levels.Level.TheVariants as Level;
-ghost use Rattle.pyunparse.specs.Inner.Folds.{puts};
-ghost use Rattle.pyunparse.specs.Inner.Members.{mark, members};
+ghost use Rattle.pyunparse_text.specs.Folds.{puts};
+ghost use Rattle.pyunparse.specs.Inner.Members.{members};
+ghost use Rattle.pyunparse_text.specs.Marks.{mark};
 ghost use Rattle.pyunparse.specs.Inner.Pairs.{pair};
 ghost use Rattle.pyunparse_text.specs.Pieces.{piece};
 ghost use Rattle.pyunparse_text.specs.Written.{each, enclosed, leading, listed, pairs, written_keys};
 
 use crate::expressions::write_expr;
-use crate::marks::Between;
-use crate::tokens::{put_between, put_sign};
-use crate::writers::Writer;
 use pygrammar::Level;
 use pylex::Exact;
 use pytree_node::Expr;
+use pyunparse_text::marks::Between;
+use pyunparse_text::tokens::{put_between, put_sign};
+use pyunparse_text::writers::Writer;
 use std::alloc::AllocError;
 
 /// Writes expressions with a token between each two, and before the first where it isn't the

@@ -2,13 +2,13 @@
 
 #![tactic(auto, using(crate::proofs::Sequences::FoldLemmas::puts_append))]
 
-ghost use Rattle.std.specs.Prelude.{◌≡◌, ◌++◌, ◌∷◌, [], None, OnOk, map};
+ghost use Rattle.std.specs.Prelude.{◌≡◌, ◌++◌, ◌∷◌, [], OnOk, map};
 ghost use Rattle.pylex_lexeme.specs.declared.kinds.Exact.TheVariants.{Colon};
 ghost use Rattle.pygrammar.specs.Lines as lines;
 ghost use Rattle.pytree_node.specs.TreeOf.{arguments_of, boxed_of, item_of, keyword_of, option_of};
 ghost use Rattle.pytree_node.specs.TreeOf.{tree_of, type_param_of};
 ghost use Rattle.pytree_node.specs.Trees.{exprs, keywords};
-ghost use Rattle.pyunparse.specs.Inner.Folds.{puts};
+ghost use Rattle.pyunparse_text.specs.Folds.{puts};
 ghost use Rattle.pyunparse.specs.Inner.Lines.{with_colon};
 ghost use Rattle.pyunparse_text.specs.Pieces.{piece, pieces};
 ghost use Rattle.pygrammar.specs.declared.levels.Level.TheVariants as Level;
@@ -19,17 +19,17 @@ use crate::calls::write_keywords;
 use crate::displays::write_members;
 use crate::expressions::write_expr;
 use crate::imports::write_as;
-use crate::marks::Between;
 use crate::parameters::write_parameters;
-use crate::sorts::{Sort, sort_of};
 use crate::statements::{write_behind, write_option};
-use crate::tokens::{close, open, put_between, put_name, put_sign, put_word};
 use crate::types::write_type_params;
-use crate::writers::Writer;
 use pygrammar::Level;
 use pylex::Exact;
 use pytree_node::{Arguments, Expr, Identifier, Item, Keyword as Word, TypeParam};
 use pytoken::Keyword;
+use pyunparse_text::line_brackets::need_brackets;
+use pyunparse_text::marks::Between;
+use pyunparse_text::tokens::{close, open, put_between, put_name, put_sign, put_word};
+use pyunparse_text::writers::Writer;
 use std::alloc::AllocError;
 
 /// Writes the colon of a header.
@@ -92,40 +92,6 @@ pub(crate) fn write_for_header<W: Writer>(
     put_word(out, Keyword::In)?;
     write_expr(out, Level::Stars, iter)?;
     put_colon(out)
-}
-
-/// Whether no starred expression and no `:=` is among some expressions.
-fn are_plain(es: &[Expr]) -> bool
-    ensures { result ≡ written.are_plain (exprs (map tree_of es.now)) }
-{
-    for e in es {
-        if !matches!(sort_of(e), Sort::Other) {
-            return false;
-        }
-    }
-    true
-}
-
-/// Whether an expression is a tuple whose brackets would be read as those of the items.
-fn is_bare_tuple(e: &Expr) -> bool
-    ensures { result ≡ written.reads_as_items (tree_of e.now) None }
-{
-    match e {
-        Expr::Tuple { elts, .. } => !elts.is_empty() & are_plain(elts),
-        _ => false,
-    }
-}
-
-/// Whether some items are one tuple without a target, whose brackets would be read as theirs.
-fn need_brackets(items: &[Item]) -> bool
-    ensures { result ≡ written.need_brackets (map item_of items.now) }
-{
-    let count = items.len();
-    if count != 1 {
-        return false;
-    }
-    let item = &items[0];
-    item.optional_vars.is_none() & is_bare_tuple(&item.context_expr)
 }
 
 /// Writes the target of an item, which may be starred.

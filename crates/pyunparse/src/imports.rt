@@ -5,17 +5,17 @@
 ghost use Rattle.std.specs.Prelude.{◌≡◌, None, OnOk, map, false};
 ghost use Rattle.std.specs.Str.{chars};
 ghost use Rattle.pytree_node.specs.TreeOf.{alias_of};
-ghost use Rattle.pyunparse.specs.Inner.Folds.{puts};
+ghost use Rattle.pyunparse_text.specs.Folds.{puts};
 ghost use Rattle.pyunparse_text.specs.Pieces.{piece};
 ghost use Rattle.pyunparse_text.specs.Written.{listed};
 ghost use Rattle.pyunparse_text.specs.Statements as written;
 
-use crate::marks::Between;
-use crate::tokens::{put_between, put_name, put_sign, put_text, put_word};
-use crate::writers::Writer;
 use pylex::Exact;
 use pytree_node::{Alias, Identifier};
 use pytoken::Keyword;
+use pyunparse_text::marks::Between;
+use pyunparse_text::tokens::{put_between, put_name, put_sign, put_text, put_word};
+use pyunparse_text::writers::Writer;
 use std::alloc::AllocError;
 
 /// Writes names with points between. The first may keep close to what stands before it.

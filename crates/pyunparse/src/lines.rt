@@ -13,11 +13,11 @@ ghost use Rattle.pyunparse_text.specs.Written.{leading};
 
 use crate::expressions::write_expr;
 use crate::statements::write_simple;
-use crate::text_writer::TextWriter;
-use crate::tokens::put_sign;
 use pygrammar::Level;
 use pylex::Exact;
 use pytree_node::{Expr, Stmt};
+use pyunparse_text::text_writer::TextWriter;
+use pyunparse_text::tokens::put_sign;
 use std::alloc::AllocError;
 
 /// Writes a simple statement on a line of its own.

@@ -5,7 +5,7 @@ ghost use Rattle.pylex_lexeme.specs.declared.kinds.Exact.TheVariants.{Comma, Dou
 ghost use Rattle.pytree_node.specs.TreeOf.{arg_of, arg_option_of, arguments_of, option_of, tree_of};
 ghost use Rattle.pytree_node.specs.Trees.{args, exprs, optional, optionals, optional_arg};
 ghost use Rattle.pygrammar.specs.declared.levels.Level.TheVariants as Level;
-ghost use Rattle.pyunparse.specs.Inner.Folds.{puts};
+ghost use Rattle.pyunparse_text.specs.Folds.{puts};
 ghost use Rattle.pyunparse.specs.Inner.Members.{members, padded};
 ghost use Rattle.pyunparse.specs.Inner.Parameters.{by_places, default_at, named, positional};
 ghost use Rattle.pyunparse.specs.Inner.Parameters.{slash_behind};
@@ -14,13 +14,13 @@ ghost use Rattle.pyunparse_text.specs.Written.{behind_equal, beside, defaults, e
 ghost use Rattle.pyunparse_text.specs.Written.{names, parameters, suffixed, tight, trailing, with_star};
 
 use crate::expressions::write_expr;
-use crate::marks::Between;
 use crate::options::write_suffix;
-use crate::tokens::{put_between, put_name, put_sign};
-use crate::writers::Writer;
 use pygrammar::Level;
 use pylex::Exact;
 use pytree_node::{Arg, Arguments, Expr};
+use pyunparse_text::marks::Between;
+use pyunparse_text::tokens::{put_between, put_name, put_sign};
+use pyunparse_text::writers::Writer;
 use std::alloc::AllocError;
 
 /// Writes parameters, without brackets.

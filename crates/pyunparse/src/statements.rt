@@ -10,7 +10,7 @@ ghost use Rattle.pylex_lexeme.specs.declared.kinds.Exact.TheVariants.{Comma};
 ghost use Rattle.pytoken.specs.declared.keywords.Keyword.TheVariants as Key;
 ghost use Rattle.pygrammar.specs.declared.levels.Level.TheVariants as Level;
 ghost use Rattle.pyunparse.specs.Inner.Assigned.{assigned};
-ghost use Rattle.pyunparse.specs.Inner.Folds.{puts};
+ghost use Rattle.pyunparse_text.specs.Folds.{puts};
 ghost use Rattle.pyunparse_text.specs.Pieces.{piece};
 ghost use Rattle.pyunparse_text.specs.Written.{listed, trailing, word};
 ghost use Rattle.pyunparse_text.specs.Statements as written;
@@ -18,15 +18,16 @@ ghost use Rattle.pyunparse_text.specs.Statements as written;
 use crate::displays::write_members;
 use crate::expressions::write_expr;
 use crate::imports::{write_dotted, write_imported, write_modules, write_points};
-use crate::marks::Between;
-use crate::signs::augmented_sign;
-use crate::tokens::{put_between, put_name, put_sign, put_text, put_word};
 use crate::types::write_type_params;
-use crate::writers::Writer;
 use pygrammar::Level;
 use pylex::Exact;
 use pytree_node::{Alias, Expr, Identifier, Stmt};
 use pytoken::Keyword;
+use pyunparse_text::line_brackets::annotated_in_brackets;
+use pyunparse_text::marks::Between;
+use pyunparse_text::signs::augmented_sign;
+use pyunparse_text::tokens::{close, open, put_between, put_name, put_sign, put_text, put_word};
+use pyunparse_text::writers::Writer;
 use std::alloc::AllocError;
 
 /// Writes an expression that may be absent.
@@ -102,17 +103,10 @@ fn write_annotated<W: Writer>(out: &mut W, target: &Expr, simple: bool) -> Resul
     ensures { OnOk result
         (out.new ≡ puts W.after out.old (written.annotated piece (tree_of target.now) simple)) }
 {
-    if simple {
-        return write_expr(out, Level::Primary, target);
-    }
-    match target {
-        Expr::Name { id, .. } => {
-            put_sign(out, Exact::LPar, false, true)?;
-            put_name(out, id)?;
-            put_sign(out, Exact::RPar, true, false)
-        }
-        _ => write_expr(out, Level::Primary, target),
-    }
+    let bare = !annotated_in_brackets(target, simple);
+    open(out, bare)?;
+    write_expr(out, Level::Primary, target)?;
+    close(out, bare)
 }
 
 /// Writes a `raise`.

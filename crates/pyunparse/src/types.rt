@@ -6,18 +6,18 @@ ghost use Rattle.std.specs.Prelude.{◌≡◌, OnOk, map};
 ghost use Rattle.pylex_lexeme.specs.declared.kinds.Exact.TheVariants.{Colon};
 ghost use Rattle.pygrammar.specs.declared.levels.Level.TheVariants as Level;
 ghost use Rattle.pytree_node.specs.TreeOf.{option_of, type_param_of};
-ghost use Rattle.pyunparse.specs.Inner.Folds.{puts};
+ghost use Rattle.pyunparse_text.specs.Folds.{puts};
 ghost use Rattle.pyunparse_text.specs.Pieces.{piece};
 ghost use Rattle.pyunparse_text.specs.Statements as written;
 ghost use Rattle.pyunparse_text.specs.Written.{listed, trailing};
 
 use crate::expressions::write_expr;
-use crate::marks::Between;
-use crate::tokens::{put_between, put_name, put_sign};
-use crate::writers::Writer;
 use pygrammar::Level;
 use pylex::Exact;
 use pytree_node::{Expr, TypeParam};
+use pyunparse_text::marks::Between;
+use pyunparse_text::tokens::{put_between, put_name, put_sign};
+use pyunparse_text::writers::Writer;
 use std::alloc::AllocError;
 
 /// Writes a parameter of a type.
