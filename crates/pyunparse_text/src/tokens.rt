@@ -11,7 +11,6 @@ ghost use Rattle.pyunparse_text.specs.Pieces.{piece};
 ghost use Rattle.pyunparse_text.specs.Written as written;
 
 use crate::marks::Between;
-use crate::signs::sign_text;
 use crate::writers::Writer;
 use pylex::{Exact, Kind};
 use pytree_node::{Comparison, Identifier, UnaryOperator};
@@ -27,7 +26,7 @@ pub fn put_sign<W: Writer>(
 ) -> Result<(), AllocError>
     ensures { OnOk result (out.new ≡ puts W.after out.old (piece (Op sign) before behind ∷ [])) }
 {
-    out.put(Kind::Op, sign_text(sign), before, behind)
+    out.put(Kind::Op, sign.text(), before, behind)
 }
 
 /// Writes a keyword.

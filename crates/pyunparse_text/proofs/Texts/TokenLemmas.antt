@@ -6,17 +6,17 @@ use Rattle.std.specs.Str.{encode_utf8_all}
 use Rattle.std.specs.Char.{encode_utf8}
 use Rattle.pylex_lexeme.specs.declared.kinds.Exact.{Exact}
 use Rattle.pylex_lexeme.specs.declared.kinds.Exact.TheVariants.{LPar}
+use Rattle.pylex_lexeme.specs.Operators.{exact_text}
 use Rattle.pytoken.specs.declared.keywords.Keyword.{Keyword}
 use Rattle.pytoken.specs.declared.keywords.Keyword.TheVariants.{False}
 use Rattle.pytoken.specs.Keywords.{spelling_of}
 use Rattle.pyunparse_text.specs.Spacing.{Piece}
 use Rattle.pyunparse_text.specs.Tokens.{PlainToken, token_of}
-use Rattle.pyunparse_text.specs.Pieces.{sign_text}
 use Rattle.pyunparse_text.specs.Folds.{in_utf8, puts}
 use Rattle.pyunparse_text.specs.Told.{in_bytes}
 
 -- the texts of operators and keywords are ASCII
-pub sign_bytes : (x : Exact) → encode_utf8_all (sign_text x) ≡ sign_text x
+pub sign_bytes : (x : Exact) → encode_utf8_all (exact_text x) ≡ exact_text x
 unfolding encode_utf8
 sign_bytes LPar = refl
 sign_bytes _ = refl
