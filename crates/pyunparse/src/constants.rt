@@ -10,6 +10,7 @@ use itoa::Buffer;
 use pylex::{Exact, Kind};
 use pytree_node::Constant;
 use pytoken::Keyword;
+use pyunparse_text::marks::Role;
 use pyunparse_text::tokens::{put_sign, put_word};
 use pyunparse_text::writers::Writer;
 use std::alloc::AllocError;
@@ -22,7 +23,7 @@ pub(crate) fn put_constant<W: Writer>(out: &mut W, value: &Constant) -> Result<(
 {
     match value {
         Constant::None => put_word(out, Keyword::None),
-        Constant::Ellipsis => put_sign(out, Exact::Ellipsis, false, false),
+        Constant::Ellipsis => put_sign(out, Exact::Ellipsis, Role::Free),
         Constant::Bool(truth) => {
             put_word(
                 out,

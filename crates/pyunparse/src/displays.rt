@@ -16,7 +16,7 @@ use crate::expressions::write_expr;
 use pygrammar::Level;
 use pylex::Exact;
 use pytree_node::Expr;
-use pyunparse_text::marks::Between;
+use pyunparse_text::marks::{Between, Role};
 use pyunparse_text::tokens::{put_between, put_sign};
 use pyunparse_text::writers::Writer;
 use std::alloc::AllocError;
@@ -57,9 +57,9 @@ pub(crate) fn write_display<W: Writer>(
         (enclosed piece (leading piece opener) closer
         (listed piece (each piece Level.Elem (exprs (map tree_of elts.now)))))) }
 {
-    put_sign(out, opener, false, true)?;
+    put_sign(out, opener, Role::Leading)?;
     write_members(out, true, Between::Comma, Level::Elem, elts)?;
-    put_sign(out, closer, true, false)
+    put_sign(out, closer, Role::Trailing)
 }
 
 /// Writes a dictionary. What has no key stands behind `**`.
@@ -76,9 +76,9 @@ pub(crate) fn write_dict<W: Writer>(
         (pairs piece (written_keys piece (optionals (map option_of keys.now)))
         (exprs (map tree_of values.now)))))) }
 {
-    put_sign(out, Exact::LBrace, false, true)?;
+    put_sign(out, Exact::LBrace, Role::Leading)?;
     write_pairs(out, keys, values)?;
-    put_sign(out, Exact::RBrace, true, false)
+    put_sign(out, Exact::RBrace, Role::Trailing)
 }
 
 /// Writes the pairs of a dictionary.
@@ -111,12 +111,12 @@ fn write_pair<W: Writer>(out: &mut W, key: &Option<Expr>, value: &Expr) -> Resul
 {
     match key {
         None => {
-            put_sign(out, Exact::DoubleStar, false, true)?;
+            put_sign(out, Exact::DoubleStar, Role::Leading)?;
             write_expr(out, Level::BitOr, value)
         }
         Some(key) => {
             write_expr(out, Level::Expression, key)?;
-            put_sign(out, Exact::Colon, true, false)?;
+            put_sign(out, Exact::Colon, Role::Trailing)?;
             write_expr(out, Level::Expression, value)
         }
     }

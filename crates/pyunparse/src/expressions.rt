@@ -25,6 +25,7 @@ use pytree_node::Expr;
 use pyunparse_text::levels::star_level;
 use pyunparse_text::piece_writer::PieceWriter;
 use pyunparse_text::pieces::Piece;
+use pyunparse_text::marks::Role;
 use pyunparse_text::tokens::{put_name, put_sign};
 use pyunparse_text::writers::Writer;
 use std::alloc::{AllocError, Global};
@@ -75,7 +76,7 @@ pub(crate) fn write_expr<W: Writer>(out: &mut W, level: Level, e: &Expr) -> Resu
         Expr::Attribute { value, attr, .. } => write_attribute(out, level, value, attr),
         Expr::Subscript { value, slice, .. } => write_subscript(out, level, value, slice),
         Expr::Starred { value, .. } => {
-            put_sign(out, Exact::Star, false, true)?;
+            put_sign(out, Exact::Star, Role::Leading)?;
             write_expr(out, star_level(level), value)
         }
         Expr::Name { id, .. } => put_name(out, id),

@@ -27,7 +27,7 @@ use pylex::Exact;
 use pytree_node::{Arguments, Expr, Identifier, Item, Keyword as Word, TypeParam};
 use pytoken::Keyword;
 use pyunparse_text::line_brackets::need_brackets;
-use pyunparse_text::marks::Between;
+use pyunparse_text::marks::{Between, Role};
 use pyunparse_text::tokens::{close, open, put_between, put_name, put_sign, put_word};
 use pyunparse_text::writers::Writer;
 use std::alloc::AllocError;
@@ -36,7 +36,7 @@ use std::alloc::AllocError;
 fn put_colon<W: Writer>(out: &mut W) -> Result<(), AllocError>
     ensures { OnOk result (out.new ≡ puts W.after out.old (trailing piece Colon ∷ [])) }
 {
-    put_sign(out, Exact::Colon, true, false)
+    put_sign(out, Exact::Colon, Role::Trailing)
 }
 
 /// Writes a header that is a keyword alone.
@@ -101,7 +101,7 @@ fn write_item_target<W: Writer>(out: &mut W, target: &Expr) -> Result<(), AllocE
 {
     match target {
         Expr::Starred { value, .. } => {
-            put_sign(out, Exact::Star, false, true)?;
+            put_sign(out, Exact::Star, Role::Leading)?;
             write_expr(out, Level::Expression, value)
         }
         _ => write_expr(out, Level::Expression, target),
@@ -169,7 +169,7 @@ fn put_star<W: Writer>(out: &mut W, is_star: bool) -> Result<(), AllocError>
     ensures { OnOk result (out.new ≡ puts W.after out.old (written.starred piece is_star)) }
 {
     if is_star {
-        return put_sign(out, Exact::Star, false, true);
+        return put_sign(out, Exact::Star, Role::Leading);
     }
     Ok(())
 }
@@ -211,9 +211,9 @@ pub(crate) fn write_function_header<W: Writer>(
     put_word(out, Keyword::Def)?;
     put_name(out, name)?;
     write_type_params(out, type_params)?;
-    put_sign(out, Exact::LPar, true, true)?;
+    put_sign(out, Exact::LPar, Role::Tight)?;
     write_parameters(out, args)?;
-    put_sign(out, Exact::RPar, true, false)?;
+    put_sign(out, Exact::RPar, Role::Trailing)?;
     write_behind(out, Exact::RArrow, Level::Expression, returns)?;
     put_colon(out)
 }
@@ -229,10 +229,10 @@ fn write_bases<W: Writer>(out: &mut W, bases: &[Expr], words: &[Word]) -> Result
     if none {
         return Ok(());
     }
-    put_sign(out, Exact::LPar, true, true)?;
+    put_sign(out, Exact::LPar, Role::Tight)?;
     write_members(out, true, Between::Comma, Level::Named, bases)?;
     write_keywords(out, first, words)?;
-    put_sign(out, Exact::RPar, true, false)
+    put_sign(out, Exact::RPar, Role::Trailing)
 }
 
 /// Writes the header of a class.

@@ -17,6 +17,7 @@ use pygrammar::Level;
 use pylex::Exact;
 use pytree_node::{Expr, Stmt};
 use pyunparse_text::text_writer::TextWriter;
+use pyunparse_text::marks::Role;
 use pyunparse_text::tokens::put_sign;
 use std::alloc::AllocError;
 
@@ -38,7 +39,7 @@ fn write_decorator(out: &mut TextWriter, e: &Expr) -> Result<(), AllocError>
         (written_line out.old.level (leading piece At ∷ pieces Level.Named (tree_of e.now)) ∷ [])) }
 {
     out.begin_line()?;
-    put_sign(out, Exact::At, false, true)?;
+    put_sign(out, Exact::At, Role::Leading)?;
     write_expr(out, Level::Named, e)?;
     out.end_line()
 }

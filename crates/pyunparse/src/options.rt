@@ -12,7 +12,7 @@ use crate::expressions::write_expr;
 use pygrammar::Level;
 use pylex::Exact;
 use pytree_node::Expr;
-use pyunparse_text::tokens::put_sign;
+use pyunparse_text::tokens::put_operator;
 use pyunparse_text::writers::Writer;
 use std::alloc::AllocError;
 
@@ -47,7 +47,7 @@ pub(crate) fn write_suffix<W: Writer>(
     match e {
         None => Ok(()),
         Some(e) => {
-            put_sign(out, sign, true, behind)?;
+            put_operator(out, sign, true, behind)?;
             write_expr(out, Level::Expression, e)
         }
     }

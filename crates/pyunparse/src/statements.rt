@@ -24,7 +24,7 @@ use pylex::Exact;
 use pytree_node::{Alias, Expr, Identifier, Stmt};
 use pytoken::Keyword;
 use pyunparse_text::line_brackets::annotated_in_brackets;
-use pyunparse_text::marks::Between;
+use pyunparse_text::marks::{Between, Role};
 use pyunparse_text::signs::augmented_sign;
 use pyunparse_text::tokens::{close, open, put_between, put_name, put_sign, put_text, put_word};
 use pyunparse_text::writers::Writer;
@@ -59,7 +59,7 @@ pub(crate) fn write_behind<W: Writer>(
     match e {
         None => Ok(()),
         Some(e) => {
-            put_sign(out, sign, false, false)?;
+            put_sign(out, sign, Role::Free)?;
             write_expr(out, level, e)
         }
     }
@@ -95,7 +95,7 @@ fn write_assigned<W: Writer>(out: &mut W, target: &Expr) -> Result<(), AllocErro
     ensures { OnOk result (out.new ≡ puts W.after out.old (assigned (tree_of target.now))) }
 {
     write_expr(out, Level::Stars, target)?;
-    put_sign(out, Exact::Equal, false, false)
+    put_sign(out, Exact::Equal, Role::Free)
 }
 
 /// Writes the target of an annotation: in brackets where it is a name that isn't simple.
@@ -159,7 +159,7 @@ fn write_message<W: Writer>(out: &mut W, msg: &Option<Expr>) -> Result<(), Alloc
     match msg {
         None => Ok(()),
         Some(e) => {
-            put_sign(out, Exact::Comma, true, false)?;
+            put_sign(out, Exact::Comma, Role::Trailing)?;
             write_expr(out, Level::Expression, e)
         }
     }
@@ -212,7 +212,7 @@ pub(crate) fn write_simple<W: Writer>(out: &mut W, s: &Stmt) -> Result<(), Alloc
         }
         Stmt::AugAssign { target, op, value } => {
             write_expr(out, Level::Primary, target)?;
-            put_sign(out, augmented_sign(*op), false, false)?;
+            put_sign(out, augmented_sign(*op), Role::Free)?;
             write_expr(out, Level::Value, value)
         }
         Stmt::AnnAssign {
@@ -222,7 +222,7 @@ pub(crate) fn write_simple<W: Writer>(out: &mut W, s: &Stmt) -> Result<(), Alloc
             simple,
         } => {
             write_annotated(out, target, *simple)?;
-            put_sign(out, Exact::Colon, true, false)?;
+            put_sign(out, Exact::Colon, Role::Trailing)?;
             write_expr(out, Level::Expression, annotation)?;
             write_behind(out, Exact::Equal, Level::Value, value)
         }
@@ -234,7 +234,7 @@ pub(crate) fn write_simple<W: Writer>(out: &mut W, s: &Stmt) -> Result<(), Alloc
             put_text(out, "type", false)?;
             write_expr(out, Level::Primary, name)?;
             write_type_params(out, type_params)?;
-            put_sign(out, Exact::Equal, false, false)?;
+            put_sign(out, Exact::Equal, Role::Free)?;
             write_expr(out, Level::Expression, value)
         }
         Stmt::Return { value } => {

@@ -5,20 +5,20 @@ ghost use Rattle.std.specs.Str.{chars};
 ghost use Rattle.pytree_node.specs.declared.operators.Comparison.{Comparison};
 ghost use Rattle.pytoken.specs.Terminals.{in_form, Op, Word};
 ghost use Rattle.pyunparse_text.specs.Folds.{closed, opened, puts};
-ghost use Rattle.pyunparse_text.specs.Marks.{mark};
+ghost use Rattle.pyunparse_text.specs.Marks.{in_role, mark};
 ghost use Rattle.pyunparse_text.specs.Levels.{comparison_signs};
 ghost use Rattle.pyunparse_text.specs.Pieces.{piece};
 ghost use Rattle.pyunparse_text.specs.Written as written;
 
-use crate::marks::Between;
+use crate::marks::{Between, Role};
 use crate::writers::Writer;
 use pylex::{Exact, Kind};
 use pytree_node::{Comparison, Identifier, UnaryOperator};
 use pytoken::Keyword;
 use std::alloc::AllocError;
 
-/// Writes an operator or delimiter.
-pub fn put_sign<W: Writer>(
+/// Writes an operator or delimiter that keeps close to its neighbours, or doesn't.
+pub fn put_operator<W: Writer>(
     out: &mut W,
     sign: Exact,
     before: bool,
@@ -27,6 +27,19 @@ pub fn put_sign<W: Writer>(
     ensures { OnOk result (out.new ≡ puts W.after out.old (piece (Op sign) before behind ∷ [])) }
 {
     out.put(Kind::Op, sign.text(), before, behind)
+}
+
+/// Writes an operator or delimiter by its role.
+#[inline(always)]
+pub fn put_sign<W: Writer>(out: &mut W, sign: Exact, role: Role) -> Result<(), AllocError>
+    ensures { OnOk result (out.new ≡ puts W.after out.old (in_role role sign ∷ [])) }
+{
+    match role {
+        Role::Free => put_operator(out, sign, false, false),
+        Role::Leading => put_operator(out, sign, false, true),
+        Role::Trailing => put_operator(out, sign, true, false),
+        Role::Tight => put_operator(out, sign, true, true),
+    }
 }
 
 /// Writes a keyword.
@@ -59,7 +72,7 @@ pub fn open<W: Writer>(out: &mut W, bare: bool) -> Result<(), AllocError>
     if bare {
         return Ok(());
     }
-    put_sign(out, Exact::LPar, false, true)
+    put_sign(out, Exact::LPar, Role::Leading)
 }
 
 /// Writes a bracket behind an expression, unless it is bare.
@@ -69,7 +82,7 @@ pub fn close<W: Writer>(out: &mut W, bare: bool) -> Result<(), AllocError>
     if bare {
         return Ok(());
     }
-    put_sign(out, Exact::RPar, true, false)
+    put_sign(out, Exact::RPar, Role::Trailing)
 }
 
 /// Writes what stands before a member of a list, unless it is the first one.
@@ -85,7 +98,7 @@ pub fn put_between<W: Writer>(
         return Ok(());
     }
     match between {
-        Between::Comma => put_sign(out, Exact::Comma, true, false),
+        Between::Comma => put_sign(out, Exact::Comma, Role::Trailing),
         Between::And => put_word(out, Keyword::And),
         Between::Or => put_word(out, Keyword::Or),
     }
@@ -97,9 +110,9 @@ pub fn put_unary<W: Writer>(out: &mut W, op: UnaryOperator) -> Result<(), AllocE
 {
     match op {
         UnaryOperator::Not => put_word(out, Keyword::Not),
-        UnaryOperator::Invert => put_sign(out, Exact::Tilde, false, true),
-        UnaryOperator::UAdd => put_sign(out, Exact::Plus, false, true),
-        UnaryOperator::USub => put_sign(out, Exact::Minus, false, true),
+        UnaryOperator::Invert => put_sign(out, Exact::Tilde, Role::Leading),
+        UnaryOperator::UAdd => put_sign(out, Exact::Plus, Role::Leading),
+        UnaryOperator::USub => put_sign(out, Exact::Minus, Role::Leading),
     }
 }
 
@@ -109,12 +122,12 @@ pub fn put_comparison<W: Writer>(out: &mut W, op: Comparison) -> Result<(), Allo
         (out.new ≡ puts W.after out.old (map (written.free piece) (comparison_signs op))) }
 {
     match op {
-        Comparison::Eq => put_sign(out, Exact::EqEqual, false, false),
-        Comparison::NotEq => put_sign(out, Exact::NotEqual, false, false),
-        Comparison::Lt => put_sign(out, Exact::Less, false, false),
-        Comparison::LtE => put_sign(out, Exact::LessEqual, false, false),
-        Comparison::Gt => put_sign(out, Exact::Greater, false, false),
-        Comparison::GtE => put_sign(out, Exact::GreaterEqual, false, false),
+        Comparison::Eq => put_sign(out, Exact::EqEqual, Role::Free),
+        Comparison::NotEq => put_sign(out, Exact::NotEqual, Role::Free),
+        Comparison::Lt => put_sign(out, Exact::Less, Role::Free),
+        Comparison::LtE => put_sign(out, Exact::LessEqual, Role::Free),
+        Comparison::Gt => put_sign(out, Exact::Greater, Role::Free),
+        Comparison::GtE => put_sign(out, Exact::GreaterEqual, Role::Free),
         Comparison::Is => put_word(out, Keyword::Is),
         Comparison::IsNot => {
             put_word(out, Keyword::Is)?;

@@ -467,10 +467,10 @@ pub options::write_suffix-returns-in-None : goal.options::write_suffix-returns-i
 unfolding written
 options::write_suffix-returns-in-None g t c = rw c.in-None.is refl
 
-pub options::write_suffix-returns-in_ok-put_sign-in-Some : goal.options::write_suffix-returns-in_ok-put_sign-in-Some
+pub options::write_suffix-returns-in_ok-put_operator-in-Some : goal.options::write_suffix-returns-in_ok-put_operator-in-Some
 unfolding written
-options::write_suffix-returns-in_ok-put_sign-in-Some g t c = rw (c.in-Some.is, sym c.deref.ensures) (IfOk-equal _ _ _ _ c.write_expr.ensures
-    (two g.W.Writer.after c.args.out.now (piece (Op c.args.sign) true c.args.behind ∷ []) (pieces Expression (tree_of c.deref.result.now)) _ c.in_ok-put_sign-in-Some.ensures))
+options::write_suffix-returns-in_ok-put_operator-in-Some g t c = rw (c.in-Some.is, sym c.deref.ensures) (IfOk-equal _ _ _ _ c.write_expr.ensures
+    (two g.W.Writer.after c.args.out.now (piece (Op c.args.sign) true c.args.behind ∷ []) (pieces Expression (tree_of c.deref.result.now)) _ c.in_ok-put_operator-in-Some.ensures))
 
 pub parameters::write_own_default-returns-in-None : goal.parameters::write_own_default-returns-in-None
 unfolding written

@@ -14,10 +14,8 @@ use Rattle.pyunparse_text.specs.Pieces.{piece}
 use Rattle.pyunparse_text.specs.Folds.{puts}
 use Rattle.pyunparse.specs.Inner.Lines.{Blocked, Wrote, def_lines, in_utf8, with_colon}
 use Rattle.pyunparse_text.specs.Writing.{Writing, behind}
-use Rattle.pyunparse_text.proofs.Callers.Writing.{not_zero}
+use Rattle.pyunparse_text.proofs.Callers.Writing.{both, level_kept, line_written, not_zero, one}
 use Rattle.pyunparse.proofs.Sequences.MemberLemmas.{dropped, none_left}
-use Rattle.pyunparse_text.proofs.Callers.Writing.{both, one}
-use Rattle.pyunparse_text.proofs.Callers.Writing.{level_kept, line_written}
 
 blanks_kept : (n : ℕ) → encode_utf8_all (replicate n 32) ≡ replicate n 32
 blanks_kept zero = refl
