@@ -13,8 +13,8 @@ ghost use Rattle.pyunparse_text.specs.Written.{clauses, conditions, enclosed, fo
 use crate::expressions::write_expr;
 use pygrammar::Level;
 use pylex::Exact;
-use pytree_node::{Comprehension, Expr};
 use pytoken::Keyword;
+use pytree_node::{Comprehension, Expr};
 use pyunparse_text::marks::Role;
 use pyunparse_text::tokens::{put_sign, put_word};
 use pyunparse_text::writers::Writer;

@@ -8,8 +8,8 @@ ghost use Rattle.pyunparse_text.specs.Written.{constant_terminal, free};
 
 use itoa::Buffer;
 use pylex::{Exact, Kind};
-use pytree_node::Constant;
 use pytoken::Keyword;
+use pytree_node::Constant;
 use pyunparse_text::marks::Role;
 use pyunparse_text::tokens::{put_sign, put_word};
 use pyunparse_text::writers::Writer;

@@ -11,8 +11,8 @@ ghost use Rattle.pyunparse_text.specs.Written.{listed};
 ghost use Rattle.pyunparse_text.specs.Statements as written;
 
 use pylex::Exact;
-use pytree_node::{Alias, Identifier};
 use pytoken::Keyword;
+use pytree_node::{Alias, Identifier};
 use pyunparse_text::marks::{Between, Role};
 use pyunparse_text::tokens::{put_between, put_name, put_operator, put_sign, put_text, put_word};
 use pyunparse_text::writers::Writer;

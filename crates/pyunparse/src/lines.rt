@@ -16,8 +16,8 @@ use crate::statements::write_simple;
 use pygrammar::Level;
 use pylex::Exact;
 use pytree_node::{Expr, Stmt};
-use pyunparse_text::text_writer::TextWriter;
 use pyunparse_text::marks::Role;
+use pyunparse_text::text_writer::TextWriter;
 use pyunparse_text::tokens::put_sign;
 use std::alloc::AllocError;
 

@@ -17,8 +17,8 @@ use crate::options::write_perhaps;
 use crate::parameters::write_parameters;
 use pygrammar::Level;
 use pylex::Exact;
-use pytree_node::{Arguments, BoolOperator, Comparison, Expr, Operator, UnaryOperator};
 use pytoken::Keyword;
+use pytree_node::{Arguments, BoolOperator, Comparison, Expr, Operator, UnaryOperator};
 use pyunparse_text::levels::{
     chain_level, chain_member_level, left_level, operator_level, reaches, right_level, unary_level,
 };

@@ -13,8 +13,8 @@ ghost use Rattle.pyunparse_text.specs.Written as written;
 use crate::marks::{Between, Role};
 use crate::writers::Writer;
 use pylex::{Exact, Kind};
-use pytree_node::{Comparison, Identifier, UnaryOperator};
 use pytoken::Keyword;
+use pytree_node::{Comparison, Identifier, UnaryOperator};
 use std::alloc::AllocError;
 
 /// Writes an operator or delimiter that keeps close to its neighbours, or doesn't.
@@ -86,11 +86,7 @@ pub fn close<W: Writer>(out: &mut W, bare: bool) -> Result<(), AllocError>
 }
 
 /// Writes what stands before a member of a list, unless it is the first one.
-pub fn put_between<W: Writer>(
-    out: &mut W,
-    first: bool,
-    between: Between,
-) -> Result<(), AllocError>
+pub fn put_between<W: Writer>(out: &mut W, first: bool, between: Between) -> Result<(), AllocError>
     ensures { OnOk result
         (out.new ≡ puts W.after out.old (if first then [] else mark between ∷ [])) }
 {
