@@ -2,6 +2,7 @@
 pub mod Classes
 pub mod Union
 pub mod OperatorLengths
+pub mod OperatorTexts
 pub mod Seconds
 pub mod Cutting
 pub mod Delimiters

@@ -1,7 +1,7 @@
-//! The names of the operators.
+//! The names of the operators, and their texts.
 
 ghost use Rattle.std.specs.Prelude.{◌≡◌};
-ghost use Rattle.pylex_lexeme.specs.Operators.{exact_name, is_opener, is_closer};
+ghost use Rattle.pylex_lexeme.specs.Operators.{exact_name, exact_text, is_opener, is_closer};
 
 /// The exact type of an operator or delimiter, as the module `token` names them.
 #[derive(Clone, Copy, Debug, PartialEq, Eq)]
@@ -70,6 +70,61 @@ impl Exact {
         ensures { result ≡ is_closer self }
     {
         matches!(self, Exact::RPar | Exact::RSqb | Exact::RBrace)
+    }
+
+    /// How the operator or delimiter is written.
+    pub fn text(self) -> &'static str
+        ensures { result.now ≡ exact_text self }
+    {
+        match self {
+            Exact::LPar => "(",
+            Exact::RPar => ")",
+            Exact::LSqb => "[",
+            Exact::RSqb => "]",
+            Exact::LBrace => "{",
+            Exact::RBrace => "}",
+            Exact::Colon => ":",
+            Exact::Comma => ",",
+            Exact::Semi => ";",
+            Exact::Plus => "+",
+            Exact::Minus => "-",
+            Exact::Star => "*",
+            Exact::Slash => "/",
+            Exact::VBar => "|",
+            Exact::Amper => "&",
+            Exact::Less => "<",
+            Exact::Greater => ">",
+            Exact::Equal => "=",
+            Exact::Dot => ".",
+            Exact::Percent => "%",
+            Exact::EqEqual => "==",
+            Exact::NotEqual => "!=",
+            Exact::LessEqual => "<=",
+            Exact::GreaterEqual => ">=",
+            Exact::Tilde => "~",
+            Exact::Circumflex => "^",
+            Exact::LeftShift => "<<",
+            Exact::RightShift => ">>",
+            Exact::DoubleStar => "**",
+            Exact::PlusEqual => "+=",
+            Exact::MinEqual => "-=",
+            Exact::StarEqual => "*=",
+            Exact::SlashEqual => "/=",
+            Exact::PercentEqual => "%=",
+            Exact::AmperEqual => "&=",
+            Exact::VBarEqual => "|=",
+            Exact::CircumflexEqual => "^=",
+            Exact::LeftShiftEqual => "<<=",
+            Exact::RightShiftEqual => ">>=",
+            Exact::DoubleStarEqual => "**=",
+            Exact::DoubleSlash => "//",
+            Exact::DoubleSlashEqual => "//=",
+            Exact::At => "@",
+            Exact::AtEqual => "@=",
+            Exact::RArrow => "->",
+            Exact::Ellipsis => "...",
+            Exact::ColonEqual => ":=",
+        }
     }
 
     /// The name of the operator, as the module `token` spells it.

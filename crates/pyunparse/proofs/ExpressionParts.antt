@@ -1,7 +1,6 @@
 -- What is written for an expression, part by part.
 pub mod ArgumentLemmas
 pub mod ClassLemmas
-pub mod LevelLemmas
 pub mod ParameterLemmas
 pub mod PartLemmas
 pub mod StarLemmas

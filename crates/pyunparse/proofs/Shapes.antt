@@ -2,4 +2,3 @@
 pub mod StatementLemmas
 pub mod HeightLemmas
 pub mod MeasureLemmas
-pub mod ShapeLemmas

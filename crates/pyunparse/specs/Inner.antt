@@ -2,10 +2,7 @@ pub mod Arguments
 pub mod Assigned
 pub mod Clauses
 pub mod Elements
-pub mod Folds
 pub mod Lines
 pub mod Members
 pub mod Pairs
 pub mod Parameters
-pub mod Sorts
-pub mod Writing

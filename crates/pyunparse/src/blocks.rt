@@ -18,9 +18,9 @@ use crate::headers::{
     write_test_header, write_with_header, write_word_header,
 };
 use crate::lines::{write_decorators, write_line};
-use crate::text_writer::TextWriter;
-use pytree_node::{Arguments, Expr, Handler, Identifier, Item, Keyword as Word, Stmt, TypeParam};
 use pytoken::Keyword;
+use pytree_node::{Arguments, Expr, Handler, Identifier, Item, Keyword as Word, Stmt, TypeParam};
+use pyunparse_text::text_writer::TextWriter;
 use std::alloc::AllocError;
 
 /// Writes statements, each on lines of its own.

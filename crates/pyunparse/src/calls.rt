@@ -8,22 +8,22 @@ ghost use Rattle.pytree_node.specs.Trees as plain;
 ghost use Rattle.pytree_node.specs.Trees.{an_expr, exprs, keywords, no_exprs};
 ghost use Rattle.pygrammar.specs.declared.levels.Level.TheVariants as Level;
 ghost use Rattle.pyunparse.specs.Inner.Arguments.{argument, argument_name};
-ghost use Rattle.pyunparse.specs.Inner.Folds.{puts};
+ghost use Rattle.pyunparse_text.specs.Folds.{puts};
 ghost use Rattle.pyunparse.specs.Inner.Members.{members};
-ghost use Rattle.pyunparse.specs.Inner.Sorts.{is_generator};
+ghost use Rattle.pyunparse_text.specs.Sorts.{is_generator};
 ghost use Rattle.pyunparse_text.specs.Pieces.{piece, pieces};
 ghost use Rattle.pyunparse_text.specs.Written.{alone, by_name, each, listed, lone_generator, trailing};
 
 use crate::clauses::write_generator;
 use crate::displays::write_members;
 use crate::expressions::write_expr;
-use crate::levels::reaches;
-use crate::marks::Between;
-use crate::tokens::{close, open, put_between, put_name, put_sign};
-use crate::writers::Writer;
 use pygrammar::Level;
 use pylex::Exact;
 use pytree_node::{Expr, Identifier, Keyword};
+use pyunparse_text::levels::reaches;
+use pyunparse_text::marks::{Between, Role};
+use pyunparse_text::tokens::{close, open, put_between, put_name, put_sign};
+use pyunparse_text::writers::Writer;
 use std::alloc::AllocError;
 
 /// Writes `value.attr`.
@@ -42,7 +42,7 @@ pub(crate) fn write_attribute<W: Writer>(
     let bare = reaches(level, Level::Primary);
     open(out, bare)?;
     write_expr(out, Level::Primary, value)?;
-    put_sign(out, Exact::Dot, true, true)?;
+    put_sign(out, Exact::Dot, Role::Tight)?;
     put_name(out, attr)?;
     close(out, bare)
 }
@@ -63,9 +63,9 @@ pub(crate) fn write_subscript<W: Writer>(
     let bare = reaches(level, Level::Primary);
     open(out, bare)?;
     write_expr(out, Level::Primary, value)?;
-    put_sign(out, Exact::LSqb, true, true)?;
+    put_sign(out, Exact::LSqb, Role::Tight)?;
     write_expr(out, Level::Slices, slice)?;
-    put_sign(out, Exact::RSqb, true, false)?;
+    put_sign(out, Exact::RSqb, Role::Trailing)?;
     close(out, bare)
 }
 
@@ -87,9 +87,9 @@ pub(crate) fn write_call<W: Writer>(
     let bare = reaches(level, Level::Primary);
     open(out, bare)?;
     write_expr(out, Level::Primary, func)?;
-    put_sign(out, Exact::LPar, true, true)?;
+    put_sign(out, Exact::LPar, Role::Tight)?;
     write_arguments(out, args, words)?;
-    put_sign(out, Exact::RPar, true, false)?;
+    put_sign(out, Exact::RPar, Role::Trailing)?;
     close(out, bare)
 }
 
@@ -184,10 +184,10 @@ fn put_argument_name<W: Writer>(out: &mut W, name: &Option<Identifier>) -> Resul
     ensures { OnOk result (out.new ≡ puts W.after out.old (argument_name name.now)) }
 {
     match name {
-        None => put_sign(out, Exact::DoubleStar, false, true),
+        None => put_sign(out, Exact::DoubleStar, Role::Leading),
         Some(name) => {
             put_name(out, name)?;
-            put_sign(out, Exact::Equal, true, true)
+            put_sign(out, Exact::Equal, Role::Tight)
         }
     }
 }

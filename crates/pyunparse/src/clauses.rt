@@ -6,17 +6,18 @@ ghost use Rattle.pytree_node.specs.TreeOf.{comprehension_of, tree_of};
 ghost use Rattle.pytree_node.specs.Trees.{comprehensions, exprs};
 ghost use Rattle.pygrammar.specs.declared.levels.Level.TheVariants as Level;
 ghost use Rattle.pyunparse.specs.Inner.Clauses.{clause, condition};
-ghost use Rattle.pyunparse.specs.Inner.Folds.{puts};
+ghost use Rattle.pyunparse_text.specs.Folds.{puts};
 ghost use Rattle.pyunparse_text.specs.Pieces.{piece, pieces};
 ghost use Rattle.pyunparse_text.specs.Written.{clauses, conditions, enclosed, for_in, leading, trailing};
 
 use crate::expressions::write_expr;
-use crate::tokens::{put_sign, put_word};
-use crate::writers::Writer;
 use pygrammar::Level;
 use pylex::Exact;
-use pytree_node::{Comprehension, Expr};
 use pytoken::Keyword;
+use pytree_node::{Comprehension, Expr};
+use pyunparse_text::marks::Role;
+use pyunparse_text::tokens::{put_sign, put_word};
+use pyunparse_text::writers::Writer;
 use std::alloc::AllocError;
 
 /// Writes a comprehension in its brackets.
@@ -34,9 +35,9 @@ pub(crate) fn write_comprehension<W: Writer>(
         (pieces Level.Named (tree_of elt.now)
         ++ clauses piece (comprehensions (map comprehension_of generators.now))))) }
 {
-    put_sign(out, opener, false, true)?;
+    put_sign(out, opener, Role::Leading)?;
     write_generator(out, elt, generators)?;
-    put_sign(out, closer, true, false)
+    put_sign(out, closer, Role::Trailing)
 }
 
 /// Writes a comprehension without brackets.
@@ -70,12 +71,12 @@ pub(crate) fn write_dict_comprehension<W: Writer>(
         ∷ (pieces Level.Expression (tree_of value.now)
         ++ clauses piece (comprehensions (map comprehension_of generators.now))))))) }
 {
-    put_sign(out, Exact::LBrace, false, true)?;
+    put_sign(out, Exact::LBrace, Role::Leading)?;
     write_expr(out, Level::Expression, key)?;
-    put_sign(out, Exact::Colon, true, false)?;
+    put_sign(out, Exact::Colon, Role::Trailing)?;
     write_expr(out, Level::Expression, value)?;
     write_clauses(out, generators)?;
-    put_sign(out, Exact::RBrace, true, false)
+    put_sign(out, Exact::RBrace, Role::Trailing)
 }
 
 /// Writes the clauses of a comprehension.

@@ -2,16 +2,17 @@
 
 ghost use Rattle.std.specs.Prelude.{◌≡◌, [], ◌∷◌, OnOk};
 ghost use Rattle.pytree_node.specs.TreeOf.{constant_of};
-ghost use Rattle.pyunparse.specs.Inner.Folds.{puts};
+ghost use Rattle.pyunparse_text.specs.Folds.{puts};
 ghost use Rattle.pyunparse_text.specs.Pieces.{piece};
 ghost use Rattle.pyunparse_text.specs.Written.{constant_terminal, free};
 
-use crate::tokens::{put_sign, put_word};
-use crate::writers::Writer;
 use itoa::Buffer;
 use pylex::{Exact, Kind};
-use pytree_node::Constant;
 use pytoken::Keyword;
+use pytree_node::Constant;
+use pyunparse_text::marks::Role;
+use pyunparse_text::tokens::{put_sign, put_word};
+use pyunparse_text::writers::Writer;
 use std::alloc::AllocError;
 
 /// Writes a constant.
@@ -22,7 +23,7 @@ pub(crate) fn put_constant<W: Writer>(out: &mut W, value: &Constant) -> Result<(
 {
     match value {
         Constant::None => put_word(out, Keyword::None),
-        Constant::Ellipsis => put_sign(out, Exact::Ellipsis, false, false),
+        Constant::Ellipsis => put_sign(out, Exact::Ellipsis, Role::Free),
         Constant::Bool(truth) => {
             put_word(
                 out,

@@ -5,19 +5,20 @@ ghost use Rattle.pylex_lexeme.specs.declared.kinds.Exact.TheVariants.{LBrace, RB
 ghost use Rattle.pytree_node.specs.TreeOf.{option_of, tree_of};
 ghost use Rattle.pytree_node.specs.Trees.{exprs, optionals};
 ghost use Rattle.pygrammar.specs.declared.levels.Level.TheVariants as Level;
-ghost use Rattle.pyunparse.specs.Inner.Folds.{puts};
-ghost use Rattle.pyunparse.specs.Inner.Members.{mark, members};
+ghost use Rattle.pyunparse_text.specs.Folds.{puts};
+ghost use Rattle.pyunparse.specs.Inner.Members.{members};
+ghost use Rattle.pyunparse_text.specs.Marks.{mark};
 ghost use Rattle.pyunparse.specs.Inner.Pairs.{pair};
 ghost use Rattle.pyunparse_text.specs.Pieces.{piece};
 ghost use Rattle.pyunparse_text.specs.Written.{each, enclosed, leading, listed, pairs, written_keys};
 
 use crate::expressions::write_expr;
-use crate::marks::Between;
-use crate::tokens::{put_between, put_sign};
-use crate::writers::Writer;
 use pygrammar::Level;
 use pylex::Exact;
 use pytree_node::Expr;
+use pyunparse_text::marks::{Between, Role};
+use pyunparse_text::tokens::{put_between, put_sign};
+use pyunparse_text::writers::Writer;
 use std::alloc::AllocError;
 
 /// Writes expressions with a token between each two, and before the first where it isn't the
@@ -56,9 +57,9 @@ pub(crate) fn write_display<W: Writer>(
         (enclosed piece (leading piece opener) closer
         (listed piece (each piece Level.Elem (exprs (map tree_of elts.now)))))) }
 {
-    put_sign(out, opener, false, true)?;
+    put_sign(out, opener, Role::Leading)?;
     write_members(out, true, Between::Comma, Level::Elem, elts)?;
-    put_sign(out, closer, true, false)
+    put_sign(out, closer, Role::Trailing)
 }
 
 /// Writes a dictionary. What has no key stands behind `**`.
@@ -75,9 +76,9 @@ pub(crate) fn write_dict<W: Writer>(
         (pairs piece (written_keys piece (optionals (map option_of keys.now)))
         (exprs (map tree_of values.now)))))) }
 {
-    put_sign(out, Exact::LBrace, false, true)?;
+    put_sign(out, Exact::LBrace, Role::Leading)?;
     write_pairs(out, keys, values)?;
-    put_sign(out, Exact::RBrace, true, false)
+    put_sign(out, Exact::RBrace, Role::Trailing)
 }
 
 /// Writes the pairs of a dictionary.
@@ -110,12 +111,12 @@ fn write_pair<W: Writer>(out: &mut W, key: &Option<Expr>, value: &Expr) -> Resul
 {
     match key {
         None => {
-            put_sign(out, Exact::DoubleStar, false, true)?;
+            put_sign(out, Exact::DoubleStar, Role::Leading)?;
             write_expr(out, Level::BitOr, value)
         }
         Some(key) => {
             write_expr(out, Level::Expression, key)?;
-            put_sign(out, Exact::Colon, true, false)?;
+            put_sign(out, Exact::Colon, Role::Trailing)?;
             write_expr(out, Level::Expression, value)
         }
     }

@@ -2,8 +2,8 @@
 
 ghost use Rattle.std.specs.Prelude.{◌≡◌, All, IfOk, List, OnOk, map};
 ghost use Rattle.pytree_node.specs.TreeOf.{tree_of};
-ghost use Rattle.pyunparse.specs.Inner.Folds.{puts};
-ghost use Rattle.pyunparse.specs.Told.{in_bytes, told};
+ghost use Rattle.pyunparse_text.specs.Folds.{puts};
+ghost use Rattle.pyunparse_text.specs.Told.{in_bytes, told};
 ghost use Rattle.pytoken.specs.Terminals.{Terminal};
 ghost use Rattle.pygrammar.specs.Grammar.{Derives};
 ghost use Rattle.pyunparse_text.specs.Laws.{AreRead, IsOfToken, Shortest};
@@ -14,19 +14,20 @@ use crate::calls::{write_attribute, write_call, write_subscript};
 use crate::clauses::{write_comprehension, write_dict_comprehension};
 use crate::constants::put_constant;
 use crate::displays::{write_dict, write_display};
-use crate::levels::star_level;
 use crate::operators::{
     write_await, write_binary, write_chain, write_compare, write_conditional, write_lambda,
     write_named, write_unary, write_yield, write_yield_from,
 };
-use crate::piece_writer::PieceWriter;
-use crate::pieces::Piece;
-use crate::tokens::{put_name, put_sign};
 use crate::tuples::{write_slice, write_tuple};
-use crate::writers::Writer;
 use pygrammar::Level;
 use pylex::Exact;
 use pytree_node::Expr;
+use pyunparse_text::levels::star_level;
+use pyunparse_text::marks::Role;
+use pyunparse_text::piece_writer::PieceWriter;
+use pyunparse_text::pieces::Piece;
+use pyunparse_text::tokens::{put_name, put_sign};
+use pyunparse_text::writers::Writer;
 use std::alloc::{AllocError, Global};
 
 /// Writes an expression at a level of the grammar.
@@ -75,7 +76,7 @@ pub(crate) fn write_expr<W: Writer>(out: &mut W, level: Level, e: &Expr) -> Resu
         Expr::Attribute { value, attr, .. } => write_attribute(out, level, value, attr),
         Expr::Subscript { value, slice, .. } => write_subscript(out, level, value, slice),
         Expr::Starred { value, .. } => {
-            put_sign(out, Exact::Star, false, true)?;
+            put_sign(out, Exact::Star, Role::Leading)?;
             write_expr(out, star_level(level), value)
         }
         Expr::Name { id, .. } => put_name(out, id),

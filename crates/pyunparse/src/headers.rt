@@ -2,13 +2,13 @@
 
 #![tactic(auto, using(crate::proofs::Sequences::FoldLemmas::puts_append))]
 
-ghost use Rattle.std.specs.Prelude.{◌≡◌, ◌++◌, ◌∷◌, [], None, OnOk, map};
+ghost use Rattle.std.specs.Prelude.{◌≡◌, ◌++◌, ◌∷◌, [], OnOk, map};
 ghost use Rattle.pylex_lexeme.specs.declared.kinds.Exact.TheVariants.{Colon};
 ghost use Rattle.pygrammar.specs.Lines as lines;
 ghost use Rattle.pytree_node.specs.TreeOf.{arguments_of, boxed_of, item_of, keyword_of, option_of};
 ghost use Rattle.pytree_node.specs.TreeOf.{tree_of, type_param_of};
 ghost use Rattle.pytree_node.specs.Trees.{exprs, keywords};
-ghost use Rattle.pyunparse.specs.Inner.Folds.{puts};
+ghost use Rattle.pyunparse_text.specs.Folds.{puts};
 ghost use Rattle.pyunparse.specs.Inner.Lines.{with_colon};
 ghost use Rattle.pyunparse_text.specs.Pieces.{piece, pieces};
 ghost use Rattle.pygrammar.specs.declared.levels.Level.TheVariants as Level;
@@ -19,24 +19,24 @@ use crate::calls::write_keywords;
 use crate::displays::write_members;
 use crate::expressions::write_expr;
 use crate::imports::write_as;
-use crate::marks::Between;
 use crate::parameters::write_parameters;
-use crate::sorts::{Sort, sort_of};
 use crate::statements::{write_behind, write_option};
-use crate::tokens::{close, open, put_between, put_name, put_sign, put_word};
 use crate::types::write_type_params;
-use crate::writers::Writer;
 use pygrammar::Level;
 use pylex::Exact;
-use pytree_node::{Arguments, Expr, Identifier, Item, Keyword as Word, TypeParam};
 use pytoken::Keyword;
+use pytree_node::{Arguments, Expr, Identifier, Item, Keyword as Word, TypeParam};
+use pyunparse_text::line_brackets::need_brackets;
+use pyunparse_text::marks::{Between, Role};
+use pyunparse_text::tokens::{close, open, put_between, put_name, put_sign, put_word};
+use pyunparse_text::writers::Writer;
 use std::alloc::AllocError;
 
 /// Writes the colon of a header.
 fn put_colon<W: Writer>(out: &mut W) -> Result<(), AllocError>
     ensures { OnOk result (out.new ≡ puts W.after out.old (trailing piece Colon ∷ [])) }
 {
-    put_sign(out, Exact::Colon, true, false)
+    put_sign(out, Exact::Colon, Role::Trailing)
 }
 
 /// Writes a header that is a keyword alone.
@@ -94,40 +94,6 @@ pub(crate) fn write_for_header<W: Writer>(
     put_colon(out)
 }
 
-/// Whether no starred expression and no `:=` is among some expressions.
-fn are_plain(es: &[Expr]) -> bool
-    ensures { result ≡ written.are_plain (exprs (map tree_of es.now)) }
-{
-    for e in es {
-        if !matches!(sort_of(e), Sort::Other) {
-            return false;
-        }
-    }
-    true
-}
-
-/// Whether an expression is a tuple whose brackets would be read as those of the items.
-fn is_bare_tuple(e: &Expr) -> bool
-    ensures { result ≡ written.reads_as_items (tree_of e.now) None }
-{
-    match e {
-        Expr::Tuple { elts, .. } => !elts.is_empty() & are_plain(elts),
-        _ => false,
-    }
-}
-
-/// Whether some items are one tuple without a target, whose brackets would be read as theirs.
-fn need_brackets(items: &[Item]) -> bool
-    ensures { result ≡ written.need_brackets (map item_of items.now) }
-{
-    let count = items.len();
-    if count != 1 {
-        return false;
-    }
-    let item = &items[0];
-    item.optional_vars.is_none() & is_bare_tuple(&item.context_expr)
-}
-
 /// Writes the target of an item, which may be starred.
 fn write_item_target<W: Writer>(out: &mut W, target: &Expr) -> Result<(), AllocError>
     ensures { OnOk result
@@ -135,7 +101,7 @@ fn write_item_target<W: Writer>(out: &mut W, target: &Expr) -> Result<(), AllocE
 {
     match target {
         Expr::Starred { value, .. } => {
-            put_sign(out, Exact::Star, false, true)?;
+            put_sign(out, Exact::Star, Role::Leading)?;
             write_expr(out, Level::Expression, value)
         }
         _ => write_expr(out, Level::Expression, target),
@@ -203,7 +169,7 @@ fn put_star<W: Writer>(out: &mut W, is_star: bool) -> Result<(), AllocError>
     ensures { OnOk result (out.new ≡ puts W.after out.old (written.starred piece is_star)) }
 {
     if is_star {
-        return put_sign(out, Exact::Star, false, true);
+        return put_sign(out, Exact::Star, Role::Leading);
     }
     Ok(())
 }
@@ -245,9 +211,9 @@ pub(crate) fn write_function_header<W: Writer>(
     put_word(out, Keyword::Def)?;
     put_name(out, name)?;
     write_type_params(out, type_params)?;
-    put_sign(out, Exact::LPar, true, true)?;
+    put_sign(out, Exact::LPar, Role::Tight)?;
     write_parameters(out, args)?;
-    put_sign(out, Exact::RPar, true, false)?;
+    put_sign(out, Exact::RPar, Role::Trailing)?;
     write_behind(out, Exact::RArrow, Level::Expression, returns)?;
     put_colon(out)
 }
@@ -263,10 +229,10 @@ fn write_bases<W: Writer>(out: &mut W, bases: &[Expr], words: &[Word]) -> Result
     if none {
         return Ok(());
     }
-    put_sign(out, Exact::LPar, true, true)?;
+    put_sign(out, Exact::LPar, Role::Tight)?;
     write_members(out, true, Between::Comma, Level::Named, bases)?;
     write_keywords(out, first, words)?;
-    put_sign(out, Exact::RPar, true, false)
+    put_sign(out, Exact::RPar, Role::Trailing)
 }
 
 /// Writes the header of a class.

@@ -5,17 +5,17 @@
 ghost use Rattle.std.specs.Prelude.{◌≡◌, None, OnOk, map, false};
 ghost use Rattle.std.specs.Str.{chars};
 ghost use Rattle.pytree_node.specs.TreeOf.{alias_of};
-ghost use Rattle.pyunparse.specs.Inner.Folds.{puts};
+ghost use Rattle.pyunparse_text.specs.Folds.{puts};
 ghost use Rattle.pyunparse_text.specs.Pieces.{piece};
 ghost use Rattle.pyunparse_text.specs.Written.{listed};
 ghost use Rattle.pyunparse_text.specs.Statements as written;
 
-use crate::marks::Between;
-use crate::tokens::{put_between, put_name, put_sign, put_text, put_word};
-use crate::writers::Writer;
 use pylex::Exact;
-use pytree_node::{Alias, Identifier};
 use pytoken::Keyword;
+use pytree_node::{Alias, Identifier};
+use pyunparse_text::marks::{Between, Role};
+use pyunparse_text::tokens::{put_between, put_name, put_operator, put_sign, put_text, put_word};
+use pyunparse_text::writers::Writer;
 use std::alloc::AllocError;
 
 /// Writes names with points between. The first may keep close to what stands before it.
@@ -31,7 +31,7 @@ pub(crate) fn write_dotted<W: Writer>(
     let mut rest = name;
     while let Some((part, tail)) = rest.split_once('.') {
         put_text(out, part, before)?;
-        put_sign(out, Exact::Dot, true, true)?;
+        put_sign(out, Exact::Dot, Role::Tight)?;
         before = false;
         rest = tail;
     }
@@ -46,12 +46,12 @@ pub(crate) fn write_points<W: Writer>(out: &mut W, count: u64) -> Result<(), All
     let mut close = false;
     let mut left = count;
     while left >= 3 {
-        put_sign(out, Exact::Ellipsis, close, false)?;
+        put_operator(out, Exact::Ellipsis, close, false)?;
         close = true;
         left -= 3;
     }
     while left > 0 {
-        put_sign(out, Exact::Dot, close, false)?;
+        put_operator(out, Exact::Dot, close, false)?;
         close = true;
         left -= 1;
     }
@@ -119,7 +119,7 @@ pub(crate) fn write_imported<W: Writer>(out: &mut W, names: &[Alias]) -> Result<
         (out.new ≡ puts W.after out.old (written.imported piece (map alias_of names.now))) }
 {
     if are_all(names) {
-        return put_sign(out, Exact::Star, false, false);
+        return put_sign(out, Exact::Star, Role::Free);
     }
     write_aliases(out, names)
 }

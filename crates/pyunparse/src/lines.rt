@@ -13,11 +13,12 @@ ghost use Rattle.pyunparse_text.specs.Written.{leading};
 
 use crate::expressions::write_expr;
 use crate::statements::write_simple;
-use crate::text_writer::TextWriter;
-use crate::tokens::put_sign;
 use pygrammar::Level;
 use pylex::Exact;
 use pytree_node::{Expr, Stmt};
+use pyunparse_text::marks::Role;
+use pyunparse_text::text_writer::TextWriter;
+use pyunparse_text::tokens::put_sign;
 use std::alloc::AllocError;
 
 /// Writes a simple statement on a line of its own.
@@ -38,7 +39,7 @@ fn write_decorator(out: &mut TextWriter, e: &Expr) -> Result<(), AllocError>
         (written_line out.old.level (leading piece At ∷ pieces Level.Named (tree_of e.now)) ∷ [])) }
 {
     out.begin_line()?;
-    put_sign(out, Exact::At, false, true)?;
+    put_sign(out, Exact::At, Role::Leading)?;
     write_expr(out, Level::Named, e)?;
     out.end_line()
 }

@@ -9,8 +9,8 @@ ghost use Rattle.pyunparse_text.specs.Modules.{module_text};
 ghost use Rattle.pyunparse.specs.RoundTrips.{RoundTrips};
 
 use crate::blocks::write_stmts;
-use crate::text_writer::TextWriter;
 use pytree_node::Module;
+use pyunparse_text::text_writer::TextWriter;
 use std::alloc::{AllocError, Global};
 
 /// Source text for a module: a statement a line, four blanks a level, and as few brackets as each

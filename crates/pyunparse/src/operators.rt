@@ -5,27 +5,27 @@ ghost use Rattle.pytree_node.specs.TreeOf.{arguments_of, boxed_of, tree_of};
 ghost use Rattle.pytree_node.specs.Trees as plain;
 ghost use Rattle.pytree_node.specs.Trees.{exprs, optional};
 ghost use Rattle.pygrammar.specs.Operators.{chain_word};
-ghost use Rattle.pyunparse.specs.Inner.Folds.{puts};
-ghost use Rattle.pyunparse.specs.Inner.Members.{mark};
+ghost use Rattle.pyunparse_text.specs.Folds.{puts};
+ghost use Rattle.pyunparse_text.specs.Marks.{mark};
 ghost use Rattle.pyunparse_text.specs.Pieces.{piece, pieces};
 ghost use Rattle.pygrammar.specs.declared.levels.Level.TheVariants as Level;
 ghost use Rattle.pyunparse_text.specs.Written.{compared, each, word};
 
 use crate::displays::write_members;
 use crate::expressions::write_expr;
-use crate::levels::{
-    chain_level, chain_member_level, left_level, operator_level, reaches, right_level, unary_level,
-};
-use crate::marks::Between;
 use crate::options::write_perhaps;
 use crate::parameters::write_parameters;
-use crate::signs::operator_sign;
-use crate::tokens::{close, open, put_comparison, put_sign, put_unary, put_word};
-use crate::writers::Writer;
 use pygrammar::Level;
 use pylex::Exact;
-use pytree_node::{Arguments, BoolOperator, Comparison, Expr, Operator, UnaryOperator};
 use pytoken::Keyword;
+use pytree_node::{Arguments, BoolOperator, Comparison, Expr, Operator, UnaryOperator};
+use pyunparse_text::levels::{
+    chain_level, chain_member_level, left_level, operator_level, reaches, right_level, unary_level,
+};
+use pyunparse_text::marks::{Between, Role};
+use pyunparse_text::signs::operator_sign;
+use pyunparse_text::tokens::{close, open, put_comparison, put_sign, put_unary, put_word};
+use pyunparse_text::writers::Writer;
 use std::alloc::AllocError;
 
 /// What stands between the members of a chain.
@@ -71,7 +71,7 @@ pub(crate) fn write_named<W: Writer>(
     let bare = reaches(level, Level::Named);
     open(out, bare)?;
     write_expr(out, Level::Primary, target)?;
-    put_sign(out, Exact::ColonEqual, false, false)?;
+    put_sign(out, Exact::ColonEqual, Role::Free)?;
     write_expr(out, Level::Expression, value)?;
     close(out, bare)
 }
@@ -92,7 +92,7 @@ pub(crate) fn write_binary<W: Writer>(
     let bare = reaches(level, operator_level(op));
     open(out, bare)?;
     write_expr(out, left_level(op), left)?;
-    put_sign(out, operator_sign(op), false, false)?;
+    put_sign(out, operator_sign(op), Role::Free)?;
     write_expr(out, right_level(op), right)?;
     close(out, bare)
 }
@@ -131,7 +131,7 @@ pub(crate) fn write_lambda<W: Writer>(
     open(out, bare)?;
     put_word(out, Keyword::Lambda)?;
     write_parameters(out, args)?;
-    put_sign(out, Exact::Colon, true, false)?;
+    put_sign(out, Exact::Colon, Role::Trailing)?;
     write_expr(out, Level::Expression, body)?;
     close(out, bare)
 }

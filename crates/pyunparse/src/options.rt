@@ -4,16 +4,16 @@ ghost use Rattle.std.specs.Prelude.{◌≡◌, OnOk, true};
 ghost use Rattle.pytree_node.specs.TreeOf.{boxed_of};
 ghost use Rattle.pytree_node.specs.Trees.{optional};
 ghost use Rattle.pytoken.specs.Terminals.{Op};
-ghost use Rattle.pyunparse.specs.Inner.Folds.{puts};
+ghost use Rattle.pyunparse_text.specs.Folds.{puts};
 ghost use Rattle.pyunparse_text.specs.Pieces.{piece};
 ghost use Rattle.pyunparse_text.specs.Written.{perhaps, suffixed};
 
 use crate::expressions::write_expr;
-use crate::tokens::put_sign;
-use crate::writers::Writer;
 use pygrammar::Level;
 use pylex::Exact;
 use pytree_node::Expr;
+use pyunparse_text::tokens::put_operator;
+use pyunparse_text::writers::Writer;
 use std::alloc::AllocError;
 
 /// Writes an expression that may be absent.
@@ -47,7 +47,7 @@ pub(crate) fn write_suffix<W: Writer>(
     match e {
         None => Ok(()),
         Some(e) => {
-            put_sign(out, sign, true, behind)?;
+            put_operator(out, sign, true, behind)?;
             write_expr(out, Level::Expression, e)
         }
     }

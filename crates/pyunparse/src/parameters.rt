@@ -5,7 +5,7 @@ ghost use Rattle.pylex_lexeme.specs.declared.kinds.Exact.TheVariants.{Comma, Dou
 ghost use Rattle.pytree_node.specs.TreeOf.{arg_of, arg_option_of, arguments_of, option_of, tree_of};
 ghost use Rattle.pytree_node.specs.Trees.{args, exprs, optional, optionals, optional_arg};
 ghost use Rattle.pygrammar.specs.declared.levels.Level.TheVariants as Level;
-ghost use Rattle.pyunparse.specs.Inner.Folds.{puts};
+ghost use Rattle.pyunparse_text.specs.Folds.{puts};
 ghost use Rattle.pyunparse.specs.Inner.Members.{members, padded};
 ghost use Rattle.pyunparse.specs.Inner.Parameters.{by_places, default_at, named, positional};
 ghost use Rattle.pyunparse.specs.Inner.Parameters.{slash_behind};
@@ -14,13 +14,13 @@ ghost use Rattle.pyunparse_text.specs.Written.{behind_equal, beside, defaults, e
 ghost use Rattle.pyunparse_text.specs.Written.{names, parameters, suffixed, tight, trailing, with_star};
 
 use crate::expressions::write_expr;
-use crate::marks::Between;
 use crate::options::write_suffix;
-use crate::tokens::{put_between, put_name, put_sign};
-use crate::writers::Writer;
 use pygrammar::Level;
 use pylex::Exact;
 use pytree_node::{Arg, Arguments, Expr};
+use pyunparse_text::marks::{Between, Role};
+use pyunparse_text::tokens::{put_between, put_name, put_sign};
+use pyunparse_text::writers::Writer;
 use std::alloc::AllocError;
 
 /// Writes parameters, without brackets.
@@ -78,7 +78,7 @@ fn put_slash<W: Writer>(out: &mut W, count: usize) -> Result<(), AllocError>
         return Ok(());
     }
     put_between(out, false, Between::Comma)?;
-    put_sign(out, Exact::Slash, false, false)
+    put_sign(out, Exact::Slash, Role::Free)
 }
 
 /// Writes parameters of which so many have no default, and the others these.
@@ -123,7 +123,7 @@ fn write_default<W: Writer>(
     if at >= given.len() {
         return Ok(());
     }
-    put_sign(out, Exact::Equal, true, true)?;
+    put_sign(out, Exact::Equal, Role::Tight)?;
     write_expr(out, Level::Expression, &given[at])
 }
 
@@ -144,7 +144,7 @@ fn write_star<W: Writer>(
         return write_gathered(out, is_first, Exact::Star, vararg);
     }
     put_between(out, is_first, Between::Comma)?;
-    put_sign(out, Exact::Star, false, true)
+    put_sign(out, Exact::Star, Role::Leading)
 }
 
 /// Writes a parameter that takes all other arguments, if there is one.
@@ -164,7 +164,7 @@ fn write_gathered<W: Writer>(
         None => Ok(()),
         Some(arg) => {
             put_between(out, is_first, Between::Comma)?;
-            put_sign(out, sign, false, true)?;
+            put_sign(out, sign, Role::Leading)?;
             write_named_arg(out, arg)
         }
     }
@@ -199,7 +199,7 @@ fn write_own_default<W: Writer>(out: &mut W, given: &Option<Expr>) -> Result<(),
     match given {
         None => Ok(()),
         Some(e) => {
-            put_sign(out, Exact::Equal, true, true)?;
+            put_sign(out, Exact::Equal, Role::Tight)?;
             write_expr(out, Level::Expression, e)
         }
     }

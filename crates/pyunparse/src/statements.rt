@@ -10,7 +10,7 @@ ghost use Rattle.pylex_lexeme.specs.declared.kinds.Exact.TheVariants.{Comma};
 ghost use Rattle.pytoken.specs.declared.keywords.Keyword.TheVariants as Key;
 ghost use Rattle.pygrammar.specs.declared.levels.Level.TheVariants as Level;
 ghost use Rattle.pyunparse.specs.Inner.Assigned.{assigned};
-ghost use Rattle.pyunparse.specs.Inner.Folds.{puts};
+ghost use Rattle.pyunparse_text.specs.Folds.{puts};
 ghost use Rattle.pyunparse_text.specs.Pieces.{piece};
 ghost use Rattle.pyunparse_text.specs.Written.{listed, trailing, word};
 ghost use Rattle.pyunparse_text.specs.Statements as written;
@@ -18,15 +18,16 @@ ghost use Rattle.pyunparse_text.specs.Statements as written;
 use crate::displays::write_members;
 use crate::expressions::write_expr;
 use crate::imports::{write_dotted, write_imported, write_modules, write_points};
-use crate::marks::Between;
-use crate::signs::augmented_sign;
-use crate::tokens::{put_between, put_name, put_sign, put_text, put_word};
 use crate::types::write_type_params;
-use crate::writers::Writer;
 use pygrammar::Level;
 use pylex::Exact;
-use pytree_node::{Alias, Expr, Identifier, Stmt};
 use pytoken::Keyword;
+use pytree_node::{Alias, Expr, Identifier, Stmt};
+use pyunparse_text::line_brackets::annotated_in_brackets;
+use pyunparse_text::marks::{Between, Role};
+use pyunparse_text::signs::augmented_sign;
+use pyunparse_text::tokens::{close, open, put_between, put_name, put_sign, put_text, put_word};
+use pyunparse_text::writers::Writer;
 use std::alloc::AllocError;
 
 /// Writes an expression that may be absent.
@@ -58,7 +59,7 @@ pub(crate) fn write_behind<W: Writer>(
     match e {
         None => Ok(()),
         Some(e) => {
-            put_sign(out, sign, false, false)?;
+            put_sign(out, sign, Role::Free)?;
             write_expr(out, level, e)
         }
     }
@@ -94,7 +95,7 @@ fn write_assigned<W: Writer>(out: &mut W, target: &Expr) -> Result<(), AllocErro
     ensures { OnOk result (out.new ≡ puts W.after out.old (assigned (tree_of target.now))) }
 {
     write_expr(out, Level::Stars, target)?;
-    put_sign(out, Exact::Equal, false, false)
+    put_sign(out, Exact::Equal, Role::Free)
 }
 
 /// Writes the target of an annotation: in brackets where it is a name that isn't simple.
@@ -102,17 +103,10 @@ fn write_annotated<W: Writer>(out: &mut W, target: &Expr, simple: bool) -> Resul
     ensures { OnOk result
         (out.new ≡ puts W.after out.old (written.annotated piece (tree_of target.now) simple)) }
 {
-    if simple {
-        return write_expr(out, Level::Primary, target);
-    }
-    match target {
-        Expr::Name { id, .. } => {
-            put_sign(out, Exact::LPar, false, true)?;
-            put_name(out, id)?;
-            put_sign(out, Exact::RPar, true, false)
-        }
-        _ => write_expr(out, Level::Primary, target),
-    }
+    let bare = !annotated_in_brackets(target, simple);
+    open(out, bare)?;
+    write_expr(out, Level::Primary, target)?;
+    close(out, bare)
 }
 
 /// Writes a `raise`.
@@ -165,7 +159,7 @@ fn write_message<W: Writer>(out: &mut W, msg: &Option<Expr>) -> Result<(), Alloc
     match msg {
         None => Ok(()),
         Some(e) => {
-            put_sign(out, Exact::Comma, true, false)?;
+            put_sign(out, Exact::Comma, Role::Trailing)?;
             write_expr(out, Level::Expression, e)
         }
     }
@@ -218,7 +212,7 @@ pub(crate) fn write_simple<W: Writer>(out: &mut W, s: &Stmt) -> Result<(), Alloc
         }
         Stmt::AugAssign { target, op, value } => {
             write_expr(out, Level::Primary, target)?;
-            put_sign(out, augmented_sign(*op), false, false)?;
+            put_sign(out, augmented_sign(*op), Role::Free)?;
             write_expr(out, Level::Value, value)
         }
         Stmt::AnnAssign {
@@ -228,7 +222,7 @@ pub(crate) fn write_simple<W: Writer>(out: &mut W, s: &Stmt) -> Result<(), Alloc
             simple,
         } => {
             write_annotated(out, target, *simple)?;
-            put_sign(out, Exact::Colon, true, false)?;
+            put_sign(out, Exact::Colon, Role::Trailing)?;
             write_expr(out, Level::Expression, annotation)?;
             write_behind(out, Exact::Equal, Level::Value, value)
         }
@@ -240,7 +234,7 @@ pub(crate) fn write_simple<W: Writer>(out: &mut W, s: &Stmt) -> Result<(), Alloc
             put_text(out, "type", false)?;
             write_expr(out, Level::Primary, name)?;
             write_type_params(out, type_params)?;
-            put_sign(out, Exact::Equal, false, false)?;
+            put_sign(out, Exact::Equal, Role::Free)?;
             write_expr(out, Level::Expression, value)
         }
         Stmt::Return { value } => {

@@ -6,20 +6,20 @@ ghost use Rattle.pytree_node.specs.TreeOf.{boxed_of, tree_of};
 ghost use Rattle.pytree_node.specs.Trees as plain;
 ghost use Rattle.pytree_node.specs.Trees.{exprs, optional};
 ghost use Rattle.pyunparse.specs.Inner.Elements.{are_bare, is_alone, is_elem, is_part, last};
-ghost use Rattle.pyunparse.specs.Inner.Folds.{puts};
+ghost use Rattle.pyunparse_text.specs.Folds.{puts};
 ghost use Rattle.pyunparse_text.specs.Pieces.{pieces};
 ghost use Rattle.pyunparse_text.specs.Written as written;
 
 use crate::displays::write_members;
-use crate::levels::{element_level, reaches};
-use crate::marks::Between;
 use crate::options::{write_perhaps, write_suffix};
-use crate::sorts::{Sort, sort_of};
-use crate::tokens::{close, open, put_sign};
-use crate::writers::Writer;
 use pygrammar::Level;
 use pylex::Exact;
 use pytree_node::Expr;
+use pyunparse_text::levels::{element_level, reaches};
+use pyunparse_text::marks::{Between, Role};
+use pyunparse_text::sorts::{Sort, sort_of};
+use pyunparse_text::tokens::{close, open, put_sign};
+use pyunparse_text::writers::Writer;
 use std::alloc::AllocError;
 
 /// Whether there is a `:=` among some expressions.
@@ -109,7 +109,7 @@ fn put_last<W: Writer>(out: &mut W, is_alone: bool) -> Result<(), AllocError>
     ensures { OnOk result (out.new ≡ puts W.after out.old (last is_alone)) }
 {
     if is_alone {
-        return put_sign(out, Exact::Comma, true, false);
+        return put_sign(out, Exact::Comma, Role::Trailing);
     }
     Ok(())
 }
@@ -132,7 +132,7 @@ pub(crate) fn write_slice<W: Writer>(
     let bare = reaches(level, Level::Slice);
     open(out, bare)?;
     write_perhaps(out, Level::Expression, lower)?;
-    put_sign(out, Exact::Colon, true, true)?;
+    put_sign(out, Exact::Colon, Role::Tight)?;
     write_perhaps(out, Level::Expression, upper)?;
     write_suffix(out, Exact::Colon, true, step)?;
     close(out, bare)

@@ -6,18 +6,18 @@ ghost use Rattle.std.specs.Prelude.{◌≡◌, OnOk, map};
 ghost use Rattle.pylex_lexeme.specs.declared.kinds.Exact.TheVariants.{Colon};
 ghost use Rattle.pygrammar.specs.declared.levels.Level.TheVariants as Level;
 ghost use Rattle.pytree_node.specs.TreeOf.{option_of, type_param_of};
-ghost use Rattle.pyunparse.specs.Inner.Folds.{puts};
+ghost use Rattle.pyunparse_text.specs.Folds.{puts};
 ghost use Rattle.pyunparse_text.specs.Pieces.{piece};
 ghost use Rattle.pyunparse_text.specs.Statements as written;
 ghost use Rattle.pyunparse_text.specs.Written.{listed, trailing};
 
 use crate::expressions::write_expr;
-use crate::marks::Between;
-use crate::tokens::{put_between, put_name, put_sign};
-use crate::writers::Writer;
 use pygrammar::Level;
 use pylex::Exact;
 use pytree_node::{Expr, TypeParam};
+use pyunparse_text::marks::{Between, Role};
+use pyunparse_text::tokens::{put_between, put_name, put_sign};
+use pyunparse_text::writers::Writer;
 use std::alloc::AllocError;
 
 /// Writes a parameter of a type.
@@ -31,11 +31,11 @@ fn write_type_param<W: Writer>(out: &mut W, param: &TypeParam) -> Result<(), All
             write_bound(out, bound)
         }
         TypeParam::TypeVarTuple { name } => {
-            put_sign(out, Exact::Star, false, true)?;
+            put_sign(out, Exact::Star, Role::Leading)?;
             put_name(out, name)
         }
         TypeParam::ParamSpec { name } => {
-            put_sign(out, Exact::DoubleStar, false, true)?;
+            put_sign(out, Exact::DoubleStar, Role::Leading)?;
             put_name(out, name)
         }
     }
@@ -50,7 +50,7 @@ fn write_bound<W: Writer>(out: &mut W, bound: &Option<Expr>) -> Result<(), Alloc
     match bound {
         None => Ok(()),
         Some(bound) => {
-            put_sign(out, Exact::Colon, true, false)?;
+            put_sign(out, Exact::Colon, Role::Trailing)?;
             write_expr(out, Level::Expression, bound)
         }
     }
@@ -83,7 +83,7 @@ pub(crate) fn write_type_params<W: Writer>(
     if params.is_empty() {
         return Ok(());
     }
-    put_sign(out, Exact::LSqb, true, true)?;
+    put_sign(out, Exact::LSqb, Role::Tight)?;
     write_listed_params(out, params)?;
-    put_sign(out, Exact::RSqb, true, false)
+    put_sign(out, Exact::RSqb, Role::Trailing)
 }

@@ -8,3 +8,4 @@ pub mod Law
 pub mod Pieces
 pub mod Tokens
 pub mod Lists
+pub mod Writing

@@ -16,3 +16,4 @@ mod Law
 mod SingleTokens
 mod TokenLists
 mod Examples
+mod Texts

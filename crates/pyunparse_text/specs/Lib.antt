@@ -10,3 +10,8 @@ pub mod Inner
 pub mod Spacing
 pub mod Tokens
 pub mod SpacingLaws
+pub mod Folds
+pub mod Marks
+pub mod Sorts
+pub mod Told
+pub mod Writing

@@ -1,5 +1,5 @@
 -- The tokens that a logical line is written in: a simple statement, or a header up to its colon (reference 7 and 8).
-use Rattle.std.specs.Prelude.{ℕ, zero, suc, ◌==◌, Bool, true, false, if◌then◌else◌, List, [], ◌∷◌, ◌++◌, map, Option, Some, None}
+use Rattle.std.specs.Prelude.{ℕ, zero, suc, ◌==◌, Bool, true, false, not, if◌then◌else◌, List, [], ◌∷◌, ◌++◌, map, Option, Some, None}
 use Rattle.pylex_lexeme.specs.declared.kinds.Exact.{Exact}
 use Rattle.pylex_lexeme.specs.declared.kinds.Exact.TheVariants.{LPar, RPar, LSqb, RSqb, Colon, Comma, Star, Equal, Dot, DoubleStar, RArrow, Ellipsis, PlusEqual, MinEqual, StarEqual, SlashEqual, PercentEqual, AmperEqual, VBarEqual, CircumflexEqual, LeftShiftEqual, RightShiftEqual, DoubleStarEqual, DoubleSlashEqual, AtEqual}
 use Rattle.pytoken.specs.declared.keywords.Keyword.TheVariants as Key
@@ -63,6 +63,11 @@ reads_as_items _ _ = false
 abbrev pub need_brackets : List Item → Bool
 need_brackets (i ∷ []) = reads_as_items i.context_expr i.optional_vars
 need_brackets _ = false
+
+-- a Name that is the target of an annotation has brackets where `simple` is false
+abbrev pub annotated_in_brackets : Expr → Bool → Bool
+annotated_in_brackets (Trees.Name x c) simple = not simple
+annotated_in_brackets _ simple = false
 
 module _ {A : Type 0} (make : Maker A) where
   -- ---- Parts. Targets are written as expressions, since contexts are not written.

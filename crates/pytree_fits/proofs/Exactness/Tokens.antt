@@ -1,7 +1,7 @@
 -- Carries: the laws by tokens. On: a token of a source stands for a terminal that passes, and each
 -- of these is that of a token.
 use Rattle.std.proofs.Common.{◌≡◌, refl, sym, subst, ap, ◌∙◌, inl, inr, ℕ, ◌<◌, arith, List, [], ◌∷◌, Option, Some, None, Bool, true, false, is_some}
-use Rattle.std.specs.Prelude.{◌^◌, ◌==◌, not, nat_le, All, map, codes, decimal, if◌then◌else◌}
+use Rattle.std.specs.Prelude.{◌^◌, ◌==◌, not, nat_le, All, map, decimal, if◌then◌else◌}
 use Rattle.std.specs.List.{list_all}
 use Rattle.std.specs.Str.{all_scalars, bytes_eq}
 use Rattle.std.proofs.Math.Utf8.{scalar, scalar_cases}
@@ -12,9 +12,9 @@ use Rattle.unicode_normalization.specs.Forms.{nfkc}
 use Rattle.pysource.specs.declared.places.Place.{Place}
 use Rattle.pysource.specs.Reprs.{repr_chars, repr_bytes}
 use Rattle.pylex_lexeme.specs.declared.kinds.Exact.{Exact}
-use Rattle.pylex_lexeme.specs.declared.kinds.Exact.TheVariants.{LPar, RPar, LSqb, RSqb, LBrace, RBrace, Colon, Comma, Semi, Plus, Minus, Star, Slash, VBar, Amper, Less, Greater, Equal, Dot, Percent, EqEqual, NotEqual, LessEqual, GreaterEqual, Tilde, Circumflex, LeftShift, RightShift, DoubleStar, PlusEqual, MinEqual, StarEqual, SlashEqual, PercentEqual, AmperEqual, VBarEqual, CircumflexEqual, LeftShiftEqual, RightShiftEqual, DoubleStarEqual, DoubleSlash, DoubleSlashEqual, At, AtEqual, RArrow, Ellipsis, ColonEqual}
-use Rattle.pylex_lexeme.specs.Operators.{operators, exact_of, is_operator}
+use Rattle.pylex_lexeme.specs.Operators.{exact_of, exact_text, is_operator}
 use Rattle.pylex_lexeme.specs.Lexemes as Lexemes
+use Rattle.pylex_lexeme.proofs.Callers.Lexemes.{exact_of_text, exact_scalars}
 use Rattle.pylex.specs.declared.kind.Kind.{Kind}
 use Rattle.pylex.specs.declared.kind.Kind.TheVariants as kinds
 use Rattle.pytree_node.specs.Points.{IsPoint}
@@ -164,54 +164,7 @@ spelled : (t : List ℕ) (e : Exact) → exact_of t ≡ Some e → all_scalars t
 spelled t e h s = record { kind = kinds.Op; text = t; gives = record { terminal = sign_is t e h; sound = sign_sound t e h }; scalars = s }
 
 sign_written : (e : Exact) → Written (Op e)
-unfolding exact_of operators
-sign_written LPar = spelled (codes "(") LPar refl refl
-sign_written RPar = spelled (codes ")") RPar refl refl
-sign_written LSqb = spelled (codes "[") LSqb refl refl
-sign_written RSqb = spelled (codes "]") RSqb refl refl
-sign_written LBrace = spelled (codes "{") LBrace refl refl
-sign_written RBrace = spelled (codes "}") RBrace refl refl
-sign_written Colon = spelled (codes ":") Colon refl refl
-sign_written Comma = spelled (codes ",") Comma refl refl
-sign_written Semi = spelled (codes ";") Semi refl refl
-sign_written Plus = spelled (codes "+") Plus refl refl
-sign_written Minus = spelled (codes "-") Minus refl refl
-sign_written Star = spelled (codes "*") Star refl refl
-sign_written Slash = spelled (codes "/") Slash refl refl
-sign_written VBar = spelled (codes "|") VBar refl refl
-sign_written Amper = spelled (codes "&") Amper refl refl
-sign_written Less = spelled (codes "<") Less refl refl
-sign_written Greater = spelled (codes ">") Greater refl refl
-sign_written Equal = spelled (codes "=") Equal refl refl
-sign_written Dot = spelled (codes ".") Dot refl refl
-sign_written Percent = spelled (codes "%") Percent refl refl
-sign_written EqEqual = spelled (codes "==") EqEqual refl refl
-sign_written NotEqual = spelled (codes "!=") NotEqual refl refl
-sign_written LessEqual = spelled (codes "<=") LessEqual refl refl
-sign_written GreaterEqual = spelled (codes ">=") GreaterEqual refl refl
-sign_written Tilde = spelled (codes "~") Tilde refl refl
-sign_written Circumflex = spelled (codes "^") Circumflex refl refl
-sign_written LeftShift = spelled (codes "<<") LeftShift refl refl
-sign_written RightShift = spelled (codes ">>") RightShift refl refl
-sign_written DoubleStar = spelled (codes "**") DoubleStar refl refl
-sign_written PlusEqual = spelled (codes "+=") PlusEqual refl refl
-sign_written MinEqual = spelled (codes "-=") MinEqual refl refl
-sign_written StarEqual = spelled (codes "*=") StarEqual refl refl
-sign_written SlashEqual = spelled (codes "/=") SlashEqual refl refl
-sign_written PercentEqual = spelled (codes "%=") PercentEqual refl refl
-sign_written AmperEqual = spelled (codes "&=") AmperEqual refl refl
-sign_written VBarEqual = spelled (codes "|=") VBarEqual refl refl
-sign_written CircumflexEqual = spelled (codes "^=") CircumflexEqual refl refl
-sign_written LeftShiftEqual = spelled (codes "<<=") LeftShiftEqual refl refl
-sign_written RightShiftEqual = spelled (codes ">>=") RightShiftEqual refl refl
-sign_written DoubleStarEqual = spelled (codes "**=") DoubleStarEqual refl refl
-sign_written DoubleSlash = spelled (codes "//") DoubleSlash refl refl
-sign_written DoubleSlashEqual = spelled (codes "//=") DoubleSlashEqual refl refl
-sign_written At = spelled (codes "@") At refl refl
-sign_written AtEqual = spelled (codes "@=") AtEqual refl refl
-sign_written RArrow = spelled (codes "->") RArrow refl refl
-sign_written Ellipsis = spelled (codes "...") Ellipsis refl refl
-sign_written ColonEqual = spelled (codes ":=") ColonEqual refl refl
+sign_written e = spelled (exact_text e) e (exact_of_text e) (exact_scalars e)
 
 word_scalars : (w : Keyword) → all_scalars (spelling_of w) ≡ true
 word_scalars Key.False = refl

@@ -16,8 +16,9 @@ use Rattle.pyunparse_text.specs.Pieces.{piece, pieces}
 use Rattle.pyunparse_text.specs.Written.{by_name, clauses, conditions, each, element_level, free, gathered, leading, listed, names, pairs, suffixed, tight, trailing, with_star, written, written_keys}
 use Rattle.pyunparse.specs.Inner.Arguments.{argument, argument_name}
 use Rattle.pyunparse.specs.Inner.Clauses.{clause, clause_height, condition}
-use Rattle.pyunparse.specs.Inner.Folds.{puts}
-use Rattle.pyunparse.specs.Inner.Members.{mark, members, padded}
+use Rattle.pyunparse_text.specs.Folds.{puts}
+use Rattle.pyunparse.specs.Inner.Members.{members, padded}
+use Rattle.pyunparse_text.specs.Marks.{mark}
 use Rattle.pyunparse.specs.Inner.Pairs.{pair}
 use Rattle.pyunparse.specs.Inner.Parameters.{named as named_arg, positional}
 use Rattle.pyunparse.proofs.ExpressionParts.ArgumentLemmas.{alone_is, args_listed, lone_some}
@@ -27,7 +28,7 @@ use Rattle.pyunparse.proofs.Shapes.MeasureLemmas.{call_height, compare_height, d
 use Rattle.pyunparse.proofs.Sequences.MemberLemmas.{all_items, all_parts, both_done, both_on, compared_done, compared_on, item_on, members_none, no_higher, part_on, read_again, rest_no_higher, take_rest}
 use Rattle.pyunparse.proofs.ExpressionParts.ParameterLemmas.{D, N, places_on, default_bare, default_none, default_some, parameters_told, plain_done, plain_on, plain_start}
 use Rattle.pyunparse.proofs.ExpressionParts.PartLemmas.{by_name_more, clause_on, kwonly, kwonly_more, no_defaults, no_params, no_keys, no_values, pair_more, pairs_of}
-use Rattle.pyunparse.proofs.Shapes.ShapeLemmas.{not_alone}
+use Rattle.pyunparse_text.proofs.Callers.Writing.{not_alone}
 use Rattle.pyunparse.proofs.ExpressionParts.StarLemmas.{gathered_on, star_given, star_on}
 use Rattle.pyunparse.proofs.ExpressionParts.TupleLemmas.{tuple}
 use Rattle.pyunparse.proofs.+writing.Goals as goal
@@ -466,10 +467,10 @@ pub options::write_suffix-returns-in-None : goal.options::write_suffix-returns-i
 unfolding written
 options::write_suffix-returns-in-None g t c = rw c.in-None.is refl
 
-pub options::write_suffix-returns-in_ok-put_sign-in-Some : goal.options::write_suffix-returns-in_ok-put_sign-in-Some
+pub options::write_suffix-returns-in_ok-put_operator-in-Some : goal.options::write_suffix-returns-in_ok-put_operator-in-Some
 unfolding written
-options::write_suffix-returns-in_ok-put_sign-in-Some g t c = rw (c.in-Some.is, sym c.deref.ensures) (IfOk-equal _ _ _ _ c.write_expr.ensures
-    (two g.W.Writer.after c.args.out.now (piece (Op c.args.sign) true c.args.behind ∷ []) (pieces Expression (tree_of c.deref.result.now)) _ c.in_ok-put_sign-in-Some.ensures))
+options::write_suffix-returns-in_ok-put_operator-in-Some g t c = rw (c.in-Some.is, sym c.deref.ensures) (IfOk-equal _ _ _ _ c.write_expr.ensures
+    (two g.W.Writer.after c.args.out.now (piece (Op c.args.sign) true c.args.behind ∷ []) (pieces Expression (tree_of c.deref.result.now)) _ c.in_ok-put_operator-in-Some.ensures))
 
 pub parameters::write_own_default-returns-in-None : goal.parameters::write_own_default-returns-in-None
 unfolding written

@@ -7,8 +7,9 @@ use Rattle.pytree_height.specs.Heights.{arg_height, arg_heights, arguments_heigh
 use Rattle.pyunparse_text.specs.Pieces.{piece}
 use Rattle.pyunparse_text.specs.Written.{behind_equal, beside, by_name, clauses, compared, conditions, defaults, each, names, pairs, trailing, written_keys}
 use Rattle.pyunparse.specs.Inner.Clauses.{clause_height}
-use Rattle.pyunparse.specs.Inner.Folds.{puts}
-use Rattle.pyunparse.specs.Inner.Members.{mark, members, padded}
+use Rattle.pyunparse_text.specs.Folds.{puts}
+use Rattle.pyunparse.specs.Inner.Members.{members, padded}
+use Rattle.pyunparse_text.specs.Marks.{mark}
 use Rattle.pyunparse.proofs.+writing.Given as goal
 
 abbrev pub invariant-displays::write_members-loop-e : goal.invariant-displays::write_members-loop-e

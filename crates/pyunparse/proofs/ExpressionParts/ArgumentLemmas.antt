@@ -9,9 +9,10 @@ use Rattle.pygrammar.specs.declared.levels.Level.TheVariants.{Named}
 use Rattle.pyunparse_text.specs.Spacing.{Piece}
 use Rattle.pyunparse_text.specs.Pieces.{piece}
 use Rattle.pyunparse_text.specs.Written.{alone, by_name, each, listed, lone_generator, separated, trailing, written}
-use Rattle.pyunparse.specs.Inner.Folds.{puts}
+use Rattle.pyunparse_text.specs.Folds.{puts}
 use Rattle.pyunparse.specs.Inner.Members.{members}
-use Rattle.pyunparse.proofs.Sequences.AloneLemmas.{not_lone_generator, not_zero}
+use Rattle.pyunparse_text.proofs.Callers.Writing.{not_zero}
+use Rattle.pyunparse.proofs.Sequences.AloneLemmas.{not_lone_generator}
 use Rattle.pyunparse.proofs.Sequences.FoldLemmas.{two}
 use Rattle.pyunparse.proofs.Sequences.MemberLemmas.{is_nil, members_both}
 

@@ -19,7 +19,7 @@ use Rattle.pytoken.specs.Terminals.{Op, in_form}
 use Rattle.pyunparse_text.specs.Levels.{reaches, operator_level, left_level, right_level, operator_sign, unary_level}
 use Rattle.pyunparse_text.specs.Pieces.{piece, pieces}
 use Rattle.pyunparse_text.specs.Written.{enclosed, fit, written, free, word, leading, trailing, tight, separated, listed, unary, compared, each, perhaps, suffixed, parameters, clauses, alone, by_name, lone_generator}
-use Rattle.pyunparse.specs.Inner.Folds.{puts, opened, closed}
+use Rattle.pyunparse_text.specs.Folds.{puts, opened, closed}
 use Rattle.pyunparse.proofs.Sequences.FoldLemmas.{fits, five, four, six, three, two}
 
 module _ {S : Type 0} (after : S → Piece → S) (s : S) (l : Level) where

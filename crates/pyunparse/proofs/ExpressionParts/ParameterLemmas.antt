@@ -14,10 +14,10 @@ use Rattle.pyunparse_text.specs.Spacing.{Piece}
 use Rattle.pytoken.specs.Terminals.{Op}
 use Rattle.pyunparse_text.specs.Pieces.{piece}
 use Rattle.pyunparse_text.specs.Written.{behind_equal, beside, defaults, each, free, gathered, listed, names, parameters, tight, trailing, with_defaults, with_slash, with_star, written}
-use Rattle.pyunparse.specs.Inner.Folds.{puts}
+use Rattle.pyunparse_text.specs.Folds.{puts}
 use Rattle.pyunparse.specs.Inner.Members.{members, padded}
 use Rattle.pyunparse.specs.Inner.Parameters.{by_places, default_at, head_default, named, positional, slash_behind}
-use Rattle.pyunparse.proofs.Sequences.AloneLemmas.{not_zero}
+use Rattle.pyunparse_text.proofs.Callers.Writing.{not_zero}
 use Rattle.pyunparse.proofs.Sequences.FoldLemmas.{four, three, two}
 use Rattle.pyunparse.proofs.Sequences.MemberLemmas.{dropped, is_nil, members_both, members_none, members_on, none_left}
 

@@ -12,7 +12,7 @@ use Rattle.pyunparse_text.specs.Spacing.{Piece}
 use Rattle.pyunparse_text.specs.Pieces.{piece, pieces}
 use Rattle.pyunparse_text.specs.Written.{beside, by_name, conditions, defaults, for_in, names, pairs, suffixed, tight, word, written, written_keys}
 use Rattle.pyunparse.specs.Inner.Arguments.{argument, argument_name}
-use Rattle.pyunparse.specs.Inner.Folds.{puts}
+use Rattle.pyunparse_text.specs.Folds.{puts}
 use Rattle.pyunparse.specs.Inner.Pairs.{pair}
 use Rattle.pyunparse.specs.Inner.Parameters.{named}
 use Rattle.pyunparse.proofs.Sequences.FoldLemmas.{five}

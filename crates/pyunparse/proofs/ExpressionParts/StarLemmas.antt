@@ -11,10 +11,10 @@ use Rattle.pytree_node.specs.TreeOf.{arg_of, arg_option_of}
 use Rattle.pyunparse_text.specs.Spacing.{Piece}
 use Rattle.pyunparse_text.specs.Pieces.{piece}
 use Rattle.pyunparse_text.specs.Written.{gathered, leading, names, trailing, with_star, written}
-use Rattle.pyunparse.specs.Inner.Folds.{puts}
+use Rattle.pyunparse_text.specs.Folds.{puts}
 use Rattle.pyunparse.specs.Inner.Members.{members}
 use Rattle.pyunparse.specs.Inner.Parameters.{named}
-use Rattle.pyunparse.proofs.Sequences.AloneLemmas.{not_zero}
+use Rattle.pyunparse_text.proofs.Callers.Writing.{not_zero}
 use Rattle.pyunparse.proofs.Sequences.FoldLemmas.{two}
 use Rattle.pyunparse.proofs.Sequences.MemberLemmas.{members_on}
 use Rattle.pyunparse.proofs.ExpressionParts.ParameterLemmas.{N, one_more}

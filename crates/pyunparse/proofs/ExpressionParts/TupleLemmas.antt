@@ -11,7 +11,7 @@ use Rattle.pyunparse_text.specs.Spacing.{Piece}
 use Rattle.pyunparse_text.specs.Pieces.{piece, pieces}
 use Rattle.pyunparse_text.specs.Written.{each, element_level, lone_star, separated, some_named, trailing, tuple_of, written}
 use Rattle.pyunparse.specs.Inner.Elements.{are_bare, is_alone, is_elem, is_part, last}
-use Rattle.pyunparse.specs.Inner.Folds.{closed, opened, puts}
+use Rattle.pyunparse_text.specs.Folds.{closed, opened, puts}
 use Rattle.pyunparse.proofs.Sequences.FoldLemmas.{four}
 
 abbrev comma : Piece

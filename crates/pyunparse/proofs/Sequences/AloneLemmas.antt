@@ -1,5 +1,5 @@
 -- Carries: lone_star, is_lone, write_arguments, write_alternative. A list of one.
-use Rattle.std.proofs.Common.{◌≡◌, ◌∙◌, zero, suc, ◌==◌, ℕ, Bool, true, false, not, ◌&&◌, Option, None, Some, List, [], ◌∷◌, length, get_or, map, refl, ap, sym, arith}
+use Rattle.std.proofs.Common.{◌≡◌, ◌∙◌, ◌==◌, ℕ, Bool, true, false, not, ◌&&◌, Option, None, Some, List, [], ◌∷◌, length, get_or, map, refl, ap, sym, arith}
 use Rattle.pytree_node.specs.declared.expressions.Expr as given
 use Rattle.pytree_node.specs.declared.statements.Alias as given_alias
 use Rattle.pytree_node.specs.declared.expressions.Keyword as given_keyword
@@ -7,25 +7,13 @@ use Rattle.pytree_node.specs.Trees as plain
 use Rattle.pytree_node.specs.Trees.{exprs}
 use Rattle.pytree_node.specs.TreeOf.{alias_of, keyword_of, tree_of}
 use Rattle.std.specs.Prelude.{is_some}
-use Rattle.std.proofs.lemmas.Bool.{eqb-true, false≢true}
+use Rattle.std.proofs.lemmas.Bool.{false≢true}
 use Rattle.pyunparse_text.specs.Statements.{are_all, is_star}
 use Rattle.pyunparse_text.specs.Written.{lone_generator, lone_star}
 use Rattle.pygrammar.specs.declared.levels.Level.{Level}
 use Rattle.pyunparse.specs.Inner.Elements.{are_bare, is_alone, is_elem, is_part}
-use Rattle.pyunparse.specs.Inner.Sorts.{is_generator}
-
--- a number above 0 is none
-pub not_zero : (n : ℕ) → (suc n == 0) ≡ false
-not_zero n = by (suc n == 0) refl
-  where
-    by : (b : Bool) → (suc n == 0) ≡ b → b ≡ false
-    by true e = absurd (omega (arith, eqb-true (suc n) 0 e))
-    by false e = refl
-
-pub one_item : {A : Type 0} (xs : List A) (x : A) → length xs ≡ 1 → x ≡ get_or xs 0 x → xs ≡ x ∷ []
-one_item [] x e read = absurd (omega (arith, e))
-one_item (y ∷ []) x e read = ap (λ z. z ∷ []) (sym read)
-one_item (y ∷ (z ∷ zs)) x e read = absurd (omega (arith, e))
+use Rattle.pyunparse_text.specs.Sorts.{is_generator}
+use Rattle.pyunparse_text.proofs.Callers.Writing.{not_zero, one_item}
 
 pub not_lone_star : (es : List given.Expr) → (length es ≡ 1 → ⊥) → lone_star (exprs (map tree_of es)) ≡ false
 not_lone_star [] n = refl

@@ -8,7 +8,7 @@ use Rattle.pyunparse_text.specs.Pieces.{piece}
 use Rattle.pyunparse_text.specs.Written.{bracketed, enclosed, fit, leading, trailing}
 use Rattle.pylex_lexeme.specs.declared.kinds.Exact.{Exact}
 use Rattle.pylex_lexeme.specs.declared.kinds.Exact.TheVariants.{LPar, RPar}
-use Rattle.pyunparse.specs.Inner.Folds.{in_utf8, puts, opened, closed}
+use Rattle.pyunparse_text.specs.Folds.{in_utf8, puts, opened, closed}
 
 pub puts_append : {S : Type 0} (after : S → Piece → S) (s : S) (ps qs : List Piece) → puts after s (ps ++ qs) ≡ puts after (puts after s ps) qs
 puts_append after s [] qs = refl

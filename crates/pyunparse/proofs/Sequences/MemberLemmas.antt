@@ -13,7 +13,7 @@ use Rattle.pytoken.specs.Terminals.{Op}
 use Rattle.pyunparse_text.specs.Levels.{comparison_signs}
 use Rattle.pyunparse_text.specs.Pieces.{piece, pieces}
 use Rattle.pyunparse_text.specs.Written.{compared, each, free, separated, written}
-use Rattle.pyunparse.specs.Inner.Folds.{in_utf8, puts}
+use Rattle.pyunparse_text.specs.Folds.{in_utf8, puts}
 use Rattle.pyunparse.specs.Inner.Members.{following, members, padded}
 use Rattle.pyunparse.proofs.Sequences.FoldLemmas.{puts_append}
 

@@ -24,7 +24,7 @@ use Rattle.pyunparse_text.specs.Modules.{WrittenLine, alternative, clause, lines
 use Rattle.pyunparse_text.specs.Pieces.{piece}
 use Rattle.pyunparse_text.specs.Statements.{simple_tokens}
 use Rattle.pyunparse.specs.Inner.Lines.{elif_lines, is_if}
-use Rattle.pyunparse.proofs.Sequences.AloneLemmas.{one_item}
+use Rattle.pyunparse_text.proofs.Callers.Writing.{one_item}
 
 -- one node, whose children are nodes of the program
 abbrev Layer : Type 0

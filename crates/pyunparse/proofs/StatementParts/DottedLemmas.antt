@@ -14,7 +14,7 @@ use Rattle.pyunparse_text.specs.Pieces.{piece}
 use Rattle.pygrammar.specs.DottedNames.{lengthen, names_in}
 use Rattle.pyunparse_text.specs.Statements.{dotted, dotted_names, dotted_rest}
 use Rattle.pyunparse_text.specs.Written.{tight}
-use Rattle.pyunparse.specs.Inner.Folds.{in_utf8, puts}
+use Rattle.pyunparse_text.specs.Folds.{in_utf8, puts}
 
 -- ---- The names of a text.
 

@@ -12,9 +12,9 @@ use Rattle.pyunparse_text.specs.Spacing.{Piece}
 use Rattle.pyunparse_text.specs.Pieces.{piece}
 use Rattle.pyunparse_text.specs.Statements.{bases}
 use Rattle.pyunparse_text.specs.Written.{by_name, each, enclosed, listed, tight, trailing, written}
-use Rattle.pyunparse.specs.Inner.Folds.{puts}
+use Rattle.pyunparse_text.specs.Folds.{puts}
 use Rattle.pyunparse.specs.Inner.Members.{members}
-use Rattle.pyunparse.proofs.Sequences.AloneLemmas.{not_zero}
+use Rattle.pyunparse_text.proofs.Callers.Writing.{not_zero}
 use Rattle.pyunparse.proofs.Sequences.FoldLemmas.{two}
 use Rattle.pyunparse.proofs.Sequences.MemberLemmas.{is_nil, members_both}
 

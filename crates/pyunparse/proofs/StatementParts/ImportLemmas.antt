@@ -10,7 +10,7 @@ use Rattle.pytoken.specs.Terminals.{Op}
 use Rattle.pyunparse_text.specs.Pieces.{piece}
 use Rattle.pyunparse_text.specs.Statements.{imported, module_name, point_signs, points, simple_tokens}
 use Rattle.pyunparse_text.specs.Written.{word}
-use Rattle.pyunparse.specs.Inner.Folds.{puts}
+use Rattle.pyunparse_text.specs.Folds.{puts}
 use Rattle.pyunparse.proofs.Sequences.FoldLemmas.{five}
 
 three_points : (n : ℕ) → 3 ≤ n → points n ≡ Ellipsis ∷ points (n - 3)

@@ -1,16 +1,14 @@
 -- Carries: write_simple and the functions that it calls. What is written for each simple
 -- statement, part by part.
-use Rattle.std.proofs.Common.{◌≡◌, ◌∙◌, ℕ, Bool, false, List, [], ◌∷◌, map, Global, Option, refl, ap, sym}
+use Rattle.std.proofs.Common.{◌≡◌, ◌∙◌, ℕ, Bool, true, false, not, List, [], ◌∷◌, ◌++◌, map, Global, Option, refl, ap, sym, append-nil}
 use Rattle.std.specs.Str.{chars}
 use Rattle.std.specs.declared.vec.Vec.{Vec}
 use Rattle.std.specs.declared.boxed.Box.{Box}
 use Rattle.pylex_lexeme.specs.declared.kinds.Exact.{Exact}
-use Rattle.pylex_lexeme.specs.declared.kinds.Exact.TheVariants.{Colon, Comma, Equal, LPar, RPar}
+use Rattle.pylex_lexeme.specs.declared.kinds.Exact.TheVariants.{Colon, Comma, Equal}
 use Rattle.pytoken.specs.declared.keywords.Keyword.TheVariants as Key
-use Rattle.pytree_node.specs.declared.operators.Context.{Context}
 use Rattle.pytree_node.specs.declared.operators.Operator.{Operator}
 use Rattle.pytree_node.specs.declared.expressions.Expr.{Expr}
-use Rattle.pytree_node.specs.declared.expressions.Expr.TheVariants as expression
 use Rattle.pytree_node.specs.declared.statements.Alias.{Alias}
 use Rattle.pytree_node.specs.declared.statements.Stmt.{Stmt}
 use Rattle.pytree_node.specs.declared.statements.Stmt.TheVariants as statement
@@ -18,22 +16,28 @@ use Rattle.pytree_node.specs.declared.statements.TypeParam.{TypeParam}
 use Rattle.pytree_node.specs.Trees as plain
 use Rattle.pytree_node.specs.Trees.{Identifier, exprs}
 use Rattle.pytree_node.specs.TreeOf.{alias_of, boxed_of, option_of, stmt_of, tree_of, type_param_of}
-use Rattle.pytree_node.proofs.Callers.ExprShapes.{name_tree}
 use Rattle.pytree_node.proofs.Callers.StmtShapes.{ann_assign_tree, assert_tree, assign_tree, aug_assign_tree, break_tree, continue_tree, delete_tree, expr_stmt_tree, global_tree, import_from_tree, import_tree, nonlocal_tree, pass_tree, raise_tree, return_tree, type_alias_tree}
 use Rattle.pygrammar.specs.declared.levels.Level.TheVariants as Level
 use Rattle.pygrammar.specs.Forms.{type_name}
 use Rattle.pyunparse_text.specs.Spacing.{Piece}
 use Rattle.pytoken.specs.Terminals.{in_form, Op}
 use Rattle.pyunparse_text.specs.Pieces.{piece, pieces}
-use Rattle.pyunparse_text.specs.Statements.{annotated, augmented_sign, behind, dotted_alias, one_name, perhaps_written, simple_tokens, targets, type_params}
-use Rattle.pyunparse_text.specs.Written.{each, free, leading, listed, trailing, word}
-use Rattle.pyunparse.specs.Inner.Folds.{puts}
+use Rattle.pyunparse_text.specs.Statements.{annotated, annotated_in_brackets, augmented_sign, behind, dotted_alias, one_name, perhaps_written, simple_tokens, targets, type_params}
+use Rattle.pyunparse_text.specs.Written.{each, free, listed, trailing, word, written}
+use Rattle.pyunparse_text.specs.Folds.{closed, opened, puts}
 use Rattle.pyunparse.proofs.Sequences.FoldLemmas.{five, four, three, two}
 
 -- `type` as it stands in the code
 type_text : chars (116 ∷ 121 ∷ 112 ∷ 101 ∷ []) ≡ type_name
 unfolding chars
 type_text = refl
+
+annotated_parts : (t : plain.Expr) (simple : Bool) →
+    opened (not (annotated_in_brackets t simple)) ++ (pieces Level.Primary t ++ closed (not (annotated_in_brackets t simple))) ≡ annotated piece t simple
+unfolding written
+annotated_parts (plain.Name x c) false = refl
+annotated_parts (plain.Name x c) true = append-nil (pieces Level.Primary (plain.Name x c))
+annotated_parts t simple = append-nil (pieces Level.Primary t)
 
 module _ {S : Type 0} (after : S → Piece → S) (s : S) where
   pub raise_on : (e c : Option plain.Expr) (s1 s2 : S) → s1 ≡ puts after s (word piece Key.Raise ∷ []) → s2 ≡ puts after s1 (perhaps_written piece Level.Expression e) →
@@ -44,13 +48,14 @@ module _ {S : Type 0} (after : S → Piece → S) (s : S) where
       puts after s2 (behind piece (trailing piece Comma) Level.Expression m) ≡ puts after s (simple_tokens piece (plain.Assert e m))
   assert_on e m s1 s2 e1 e2 = three after s (word piece Key.Assert ∷ []) (pieces Level.Expression e) (behind piece (trailing piece Comma) Level.Expression m) s1 s2 e1 e2
 
-  -- a Name that isn't simple, in its brackets
-  pub bracketed_name : (e : Expr) (x : Identifier) (c : Context) (s1 s2 : S) → e ≡ expression.Name x c →
-      s1 ≡ puts after s (leading piece LPar ∷ []) → s2 ≡ puts after s1 (free piece (in_form x) ∷ []) →
-      puts after s2 (trailing piece RPar ∷ []) ≡ puts after s (annotated piece (tree_of e) false)
-  bracketed_name e x c s1 s2 is e1 e2 =
-      three after s (leading piece LPar ∷ []) (free piece (in_form x) ∷ []) (trailing piece RPar ∷ []) s1 s2 e1 e2
-      ∙ ap (λ t. puts after s (annotated piece t false)) (sym (ap tree_of is ∙ name_tree x c))
+  -- the target of an annotation, in its brackets or without
+  pub annotated_on : (t : plain.Expr) (simple r : Bool) (s1 s2 : S) → r ≡ annotated_in_brackets t simple →
+      s1 ≡ puts after s (opened (not r)) → s2 ≡ puts after s1 (pieces Level.Primary t) →
+      puts after s2 (closed (not r)) ≡ puts after s (annotated piece t simple)
+  annotated_on t simple r s1 s2 h e1 e2 =
+      three after s (opened (not r)) (pieces Level.Primary t) (closed (not r)) s1 s2 e1 e2
+      ∙ ap (λ z. puts after s (opened (not z) ++ (pieces Level.Primary t ++ closed (not z)))) h
+      ∙ ap (puts after s) (annotated_parts t simple)
 
   -- by the class of a statement
   module _ (r : Stmt) where

@@ -13,8 +13,8 @@ use Rattle.pytoken.specs.Terminals.{in_form}
 use Rattle.pyunparse_text.specs.Pieces.{piece}
 use Rattle.pyunparse_text.specs.Statements.{behind, type_param, type_params}
 use Rattle.pyunparse_text.specs.Written.{free, leading, listed, tight, trailing}
-use Rattle.pyunparse.specs.Inner.Folds.{puts}
-use Rattle.pyunparse.proofs.Sequences.AloneLemmas.{not_zero}
+use Rattle.pyunparse_text.specs.Folds.{puts}
+use Rattle.pyunparse_text.proofs.Callers.Writing.{not_zero}
 use Rattle.pyunparse.proofs.Sequences.FoldLemmas.{enclosed_on, two}
 
 module _ {S : Type 0} (after : S → Piece → S) (s : S) where

@@ -11,13 +11,11 @@ use Rattle.pygrammar.specs.Lines.{Header, class_head, else_header, function_head
 use Rattle.pyunparse_text.specs.Spacing.{Piece, line_text, lines_text, spaced}
 use Rattle.pyunparse_text.specs.Modules.{WrittenLine, alternative, clause, decorators, header, line_of, lines_of, statement_lines, written_line}
 use Rattle.pyunparse_text.specs.Pieces.{piece}
-use Rattle.pyunparse.specs.Inner.Folds.{puts}
+use Rattle.pyunparse_text.specs.Folds.{puts}
 use Rattle.pyunparse.specs.Inner.Lines.{Blocked, Wrote, def_lines, in_utf8, with_colon}
-use Rattle.pyunparse.specs.Inner.Writing.{Writing, behind}
-use Rattle.pyunparse.proofs.Sequences.AloneLemmas.{not_zero}
+use Rattle.pyunparse_text.specs.Writing.{Writing, behind}
+use Rattle.pyunparse_text.proofs.Callers.Writing.{both, level_kept, line_written, not_zero, one}
 use Rattle.pyunparse.proofs.Sequences.MemberLemmas.{dropped, none_left}
-use Rattle.pyunparse.proofs.Texts.ReprLemmas.{both, one}
-use Rattle.pyunparse.proofs.Texts.WritingLemmas.{level_kept, line_written}
 
 blanks_kept : (n : ℕ) → encode_utf8_all (replicate n 32) ≡ replicate n 32
 blanks_kept zero = refl

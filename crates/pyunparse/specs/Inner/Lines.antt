@@ -6,7 +6,7 @@ use Rattle.pygrammar.specs.Lines.{DefHead, Header, def_header, elif_header, else
 use Rattle.pytree_node.specs.Trees
 use Rattle.pytree_node.specs.Trees.{Expr, Handler, Handlers, Item, Stmt, Stmts, stmts}
 use Rattle.pyunparse_text.specs.Spacing.{Piece, lines_text}
-use Rattle.pyunparse.specs.Inner.Writing.{Writing}
+use Rattle.pyunparse_text.specs.Writing.{Writing}
 use Rattle.pyunparse_text.specs.Written.{trailing}
 use Rattle.pyunparse_text.specs.Pieces.{piece}
 use Rattle.pyunparse_text.specs.Statements.{header_tokens}

@@ -1,18 +1,6 @@
 -- Members of a list, with a token between each two.
 use Rattle.std.specs.Prelude.{ℕ, zero, suc, Bool, true, false, List, [], ◌∷◌, ◌++◌}
-use Rattle.pylex_lexeme.specs.declared.kinds.Exact.TheVariants.{Comma}
-use Rattle.pytoken.specs.declared.keywords.Keyword.TheVariants as Key
-use Rattle.pyunparse_text.specs.Spacing.{Piece}
-use Rattle.pyunparse_text.specs.Written.{separated, trailing, word}
-use Rattle.pyunparse_text.specs.Pieces.{piece}
-use Rattle.pyunparse.specs.declared.marks.Between.{Between}
-use Rattle.pyunparse.specs.declared.marks.Between.TheVariants as between
-
--- the token between two members
-abbrev pub mark : Between → Piece
-mark between.Comma = trailing piece Comma
-mark between.And = word piece Key.And
-mark between.Or = word piece Key.Or
+use Rattle.pyunparse_text.specs.Written.{separated}
 
 -- members behind others
 abbrev pub following : {A : Type 0} → A → List (List A) → List A

@@ -10,9 +10,10 @@ use Rattle.std.proofs.lemmas.Bool.Decides.{nat_tests}
 use Rattle.std.proofs.lemmas.List.Elements.{All-head, All-tail}
 use Rattle.std.specs.Prelude.{All}
 use Rattle.pylex_lexeme.specs.declared.kinds.Exact.{Exact}
-use Rattle.pylex_lexeme.specs.declared.kinds.Exact.TheVariants.{LPar, RPar, LSqb, RSqb, LBrace, RBrace, Colon, Comma, Semi, Plus, Minus, Star, Slash, VBar, Amper, Less, Greater, Equal, Dot, Percent, EqEqual, NotEqual, LessEqual, GreaterEqual, Tilde, Circumflex, LeftShift, RightShift, DoubleStar, PlusEqual, MinEqual, StarEqual, SlashEqual, PercentEqual, AmperEqual, VBarEqual, CircumflexEqual, LeftShiftEqual, RightShiftEqual, DoubleStarEqual, DoubleSlash, DoubleSlashEqual, At, AtEqual, RArrow, Ellipsis, ColonEqual}
+use Rattle.pylex_lexeme.specs.declared.kinds.Exact.TheVariants.{LPar, RPar, LSqb, RSqb, LBrace, RBrace, Ellipsis}
 use Rattle.pylex_lexeme.specs.Numbers.{is_zero, is_one_to_nine, is_decimal_digit, is_nil}
-use Rattle.pylex_lexeme.specs.Operators.{operators, exact_of, is_operator, is_opener, is_closer}
+use Rattle.pylex_lexeme.specs.Operators.{exact_text, is_operator, is_opener, is_closer}
+use Rattle.pylex_lexeme.proofs.Callers.Lexemes.{exact_of_text, exact_scalars}
 use Rattle.pylex_lexeme.proofs.Callers.Numbers.{digit_bounds}
 use Rattle.pytree_node.specs.Points.{IsPoint}
 use Rattle.pytree_node.specs.Values
@@ -26,7 +27,7 @@ use Rattle.pyunparse_text.specs.Spacing.{is_whole, is_token}
 use Rattle.pyunparse_text.specs.Tokens.{opens, closes}
 use Rattle.pyunparse_text.proofs.Callers.Tokens.{text_token, marked_token, bytes_token, decimal_token, text_scalars, bytes_scalars}
 use Rattle.pyunparse_text.specs.Written.{constant_terminal}
-use Rattle.pyunparse_text.specs.Pieces.{sign_text, kind_of, text_of, piece}
+use Rattle.pyunparse_text.specs.Pieces.{kind_of, text_of, piece}
 use Rattle.pyunparse_text.proofs.Pieces.NameCharacters.{name_scalars}
 
 -- what is written for a terminal: a token of Unicode characters, which gives the terminal again
@@ -37,71 +38,17 @@ pub record Fair (t : Terminal) : Type 0 where
 
 -- ---- Signs and words.
 
-record Spelled (x : Exact) : Type 0 where
-  name : exact_of (sign_text x) ≡ Some x
-  scalars : all_scalars (sign_text x) ≡ true
-
-sign_spelled : (x : Exact) → Spelled x
-unfolding exact_of operators
-sign_spelled LPar = record { name = refl; scalars = refl }
-sign_spelled RPar = record { name = refl; scalars = refl }
-sign_spelled LSqb = record { name = refl; scalars = refl }
-sign_spelled RSqb = record { name = refl; scalars = refl }
-sign_spelled LBrace = record { name = refl; scalars = refl }
-sign_spelled RBrace = record { name = refl; scalars = refl }
-sign_spelled Colon = record { name = refl; scalars = refl }
-sign_spelled Comma = record { name = refl; scalars = refl }
-sign_spelled Semi = record { name = refl; scalars = refl }
-sign_spelled Plus = record { name = refl; scalars = refl }
-sign_spelled Minus = record { name = refl; scalars = refl }
-sign_spelled Star = record { name = refl; scalars = refl }
-sign_spelled Slash = record { name = refl; scalars = refl }
-sign_spelled VBar = record { name = refl; scalars = refl }
-sign_spelled Amper = record { name = refl; scalars = refl }
-sign_spelled Less = record { name = refl; scalars = refl }
-sign_spelled Greater = record { name = refl; scalars = refl }
-sign_spelled Equal = record { name = refl; scalars = refl }
-sign_spelled Dot = record { name = refl; scalars = refl }
-sign_spelled Percent = record { name = refl; scalars = refl }
-sign_spelled EqEqual = record { name = refl; scalars = refl }
-sign_spelled NotEqual = record { name = refl; scalars = refl }
-sign_spelled LessEqual = record { name = refl; scalars = refl }
-sign_spelled GreaterEqual = record { name = refl; scalars = refl }
-sign_spelled Tilde = record { name = refl; scalars = refl }
-sign_spelled Circumflex = record { name = refl; scalars = refl }
-sign_spelled LeftShift = record { name = refl; scalars = refl }
-sign_spelled RightShift = record { name = refl; scalars = refl }
-sign_spelled DoubleStar = record { name = refl; scalars = refl }
-sign_spelled PlusEqual = record { name = refl; scalars = refl }
-sign_spelled MinEqual = record { name = refl; scalars = refl }
-sign_spelled StarEqual = record { name = refl; scalars = refl }
-sign_spelled SlashEqual = record { name = refl; scalars = refl }
-sign_spelled PercentEqual = record { name = refl; scalars = refl }
-sign_spelled AmperEqual = record { name = refl; scalars = refl }
-sign_spelled VBarEqual = record { name = refl; scalars = refl }
-sign_spelled CircumflexEqual = record { name = refl; scalars = refl }
-sign_spelled LeftShiftEqual = record { name = refl; scalars = refl }
-sign_spelled RightShiftEqual = record { name = refl; scalars = refl }
-sign_spelled DoubleStarEqual = record { name = refl; scalars = refl }
-sign_spelled DoubleSlash = record { name = refl; scalars = refl }
-sign_spelled DoubleSlashEqual = record { name = refl; scalars = refl }
-sign_spelled At = record { name = refl; scalars = refl }
-sign_spelled AtEqual = record { name = refl; scalars = refl }
-sign_spelled RArrow = record { name = refl; scalars = refl }
-sign_spelled Ellipsis = record { name = refl; scalars = refl }
-sign_spelled ColonEqual = record { name = refl; scalars = refl }
-
 abbrev as_terminal : Option Exact → Terminal
 as_terminal o = elim o [ Some e ↦ Op e | None ↦ Layout ]
 
 pub fair_sign : (x : Exact) → Fair (Op x)
 unfolding terminal_of fault_of is_operator
 fair_sign x =
-    let name = (sign_spelled x).name in
-    let is : is_operator (sign_text x) ≡ true = ap (λ (o : Option Exact). is_some o) name in
+    let name = exact_of_text x in
+    let is : is_operator (exact_text x) ≡ true = ap (λ (o : Option Exact). is_some o) name in
     record {
       token = is;
-      scalars = (sign_spelled x).scalars;
+      scalars = exact_scalars x;
       gives = record { terminal = ap as_terminal name; sound = record { of_kind = is; faultless = refl } };
     }
 
@@ -116,7 +63,7 @@ is_bracket RBrace = true
 is_bracket x = false
 
 pub opens_none : (x : Exact) (b h : Bool) → is_bracket x ≡ false → opens (piece (Op x) b h) ≡ false
-opens_none x b h e = ap (λ (o : Option Exact). elim o [ Some e ↦ is_opener e | None ↦ false ]) (sign_spelled x).name ∙ none x e
+opens_none x b h e = ap (λ (o : Option Exact). elim o [ Some e ↦ is_opener e | None ↦ false ]) (exact_of_text x) ∙ none x e
   where
     none : (x : Exact) → is_bracket x ≡ false → is_opener x ≡ false
     none LPar e = absurd (cc)
@@ -125,7 +72,7 @@ opens_none x b h e = ap (λ (o : Option Exact). elim o [ Some e ↦ is_opener e 
     none _ e = refl
 
 pub closes_none : (x : Exact) (b h : Bool) → is_bracket x ≡ false → closes (piece (Op x) b h) ≡ false
-closes_none x b h e = ap (λ (o : Option Exact). elim o [ Some e ↦ is_closer e | None ↦ false ]) (sign_spelled x).name ∙ none x e
+closes_none x b h e = ap (λ (o : Option Exact). elim o [ Some e ↦ is_closer e | None ↦ false ]) (exact_of_text x) ∙ none x e
   where
     none : (x : Exact) → is_bracket x ≡ false → is_closer x ≡ false
     none RPar e = absurd (cc)

@@ -9,8 +9,8 @@ use Rattle.pyunparse_text.specs.Modules.{alternative, clause, decorators, handle
 use Rattle.pylex_lexeme.specs.declared.kinds.Exact.TheVariants.{Colon}
 use Rattle.pyunparse_text.specs.Pieces.{piece}
 use Rattle.pyunparse_text.specs.Written.{trailing}
-use Rattle.pyunparse.specs.Inner.Folds.{puts}
-use Rattle.pyunparse.specs.Inner.Writing.{behind}
+use Rattle.pyunparse_text.specs.Folds.{puts}
+use Rattle.pyunparse_text.specs.Writing.{behind}
 use Rattle.pytree_node.proofs.Callers.StmtShapes.{async_for_tree, async_function_def_tree, async_with_tree, class_def_tree, for_tree, function_def_tree, handler_tree, if_tree, try_star_tree, try_tree, while_tree, with_tree}
 use Rattle.pyunparse.specs.Inner.Lines.{Wrote, def_lines, one_handler}
 use Rattle.pyunparse.proofs.Shapes.StatementLemmas.{not_compound, not_elif, not_one, one_if, one_other}

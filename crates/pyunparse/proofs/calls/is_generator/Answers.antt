@@ -1,6 +1,6 @@
 use Rattle.std.proofs.Common.{refl, sym}
 use Rattle.pytree_node.proofs.Callers.ExprShapes.{generator_exp_tree}
-use Rattle.pyunparse.proofs.Shapes.ShapeLemmas.{not_generator}
+use Rattle.pyunparse_text.proofs.Callers.Writing.{not_generator}
 use Rattle.pyunparse.proofs.calls.is_generator.Goals as goal
 
 pub returns-in-GeneratorExp : goal.returns-in-GeneratorExp

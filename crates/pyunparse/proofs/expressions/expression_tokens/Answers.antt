@@ -4,8 +4,8 @@ use Rattle.pyunparse_text.specs.Tokens.{token_of}
 use Rattle.pyunparse_text.specs.Pieces.{pieces}
 use Rattle.pyunparse_text.proofs.Callers.Shortest.{expressions_are_shortest}
 use Rattle.pyunparse_text.proofs.Callers.Read.{expressions_are_read}
-use Rattle.pyunparse.specs.Inner.Folds.{puts}
-use Rattle.pyunparse.proofs.Texts.TokenLemmas.{tokens_put}
+use Rattle.pyunparse_text.specs.Folds.{puts}
+use Rattle.pyunparse_text.proofs.Callers.Writing.{tokens_put}
 use Rattle.pyunparse.proofs.expressions.expression_tokens.Goals as goal
 
 pub returns-clause-tokens : goal.returns-clause-tokens

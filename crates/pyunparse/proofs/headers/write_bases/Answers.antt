@@ -6,7 +6,7 @@ use Rattle.pytree_node.specs.TreeOf.{keyword_of, tree_of}
 use Rattle.pygrammar.specs.declared.levels.Level.TheVariants.{Named}
 use Rattle.pyunparse_text.specs.Pieces.{piece}
 use Rattle.pyunparse_text.specs.Written.{by_name, each, listed, tight}
-use Rattle.pyunparse.specs.Inner.Folds.{puts}
+use Rattle.pyunparse_text.specs.Folds.{puts}
 use Rattle.pyunparse.proofs.Sequences.FoldLemmas.{enclosed_on}
 use Rattle.pyunparse.proofs.StatementParts.HeaderLemmas.{bases_listed, no_bases, some_bases}
 use Rattle.pyunparse.proofs.headers.write_bases.Goals as goal

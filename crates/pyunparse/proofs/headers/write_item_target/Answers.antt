@@ -6,9 +6,9 @@ use Rattle.pytree_node.proofs.Callers.ExprShapes.{starred_tree}
 use Rattle.pygrammar.specs.declared.levels.Level.TheVariants.{Expression}
 use Rattle.pyunparse_text.specs.Pieces.{piece, pieces}
 use Rattle.pyunparse_text.specs.Written.{leading}
-use Rattle.pyunparse.specs.Inner.Folds.{puts}
+use Rattle.pyunparse_text.specs.Folds.{puts}
 use Rattle.pyunparse.proofs.Sequences.FoldLemmas.{two}
-use Rattle.pyunparse.proofs.Shapes.ShapeLemmas.{not_starred}
+use Rattle.pyunparse_text.proofs.Callers.Writing.{not_starred}
 use Rattle.pyunparse.proofs.headers.write_item_target.Goals as goal
 
 pub returns-in_ok-put_sign-in-Starred : goal.returns-in_ok-put_sign-in-Starred

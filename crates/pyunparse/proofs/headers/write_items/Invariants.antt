@@ -4,7 +4,7 @@ use Rattle.pytree_node.specs.TreeOf.{item_of}
 use Rattle.pyunparse_text.specs.Statements.{item}
 use Rattle.pyunparse_text.specs.Pieces.{piece}
 use Rattle.pyunparse_text.specs.Written.{trailing}
-use Rattle.pyunparse.specs.Inner.Folds.{puts}
+use Rattle.pyunparse_text.specs.Folds.{puts}
 use Rattle.pyunparse.specs.Inner.Members.{members}
 use Rattle.pyunparse.proofs.headers.write_items.Given as goal
 

@@ -1,6 +1,6 @@
 use Rattle.std.proofs.Common.{◌∙◌, ap, codes}
 use Rattle.std.specs.Str.{bytes_eq}
-use Rattle.pyunparse.proofs.Texts.WritingLemmas.{star_bytes}
+use Rattle.pyunparse_text.proofs.Callers.Writing.{star_bytes}
 use Rattle.pyunparse.proofs.imports.is_asterisk.Goals as goal
 
 pub returns : goal.returns

@@ -4,7 +4,7 @@ use Rattle.pytree_node.specs.TreeOf.{alias_of}
 use Rattle.pyunparse_text.specs.Statements.{dotted_alias}
 use Rattle.pyunparse_text.specs.Pieces.{piece}
 use Rattle.pyunparse_text.specs.Written.{trailing}
-use Rattle.pyunparse.specs.Inner.Folds.{puts}
+use Rattle.pyunparse_text.specs.Folds.{puts}
 use Rattle.pyunparse.specs.Inner.Members.{members}
 use Rattle.pyunparse.proofs.imports.write_modules.Given as goal
 

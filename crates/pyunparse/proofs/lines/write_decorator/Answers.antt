@@ -5,7 +5,7 @@ use Rattle.pytree_node.specs.TreeOf.{tree_of}
 use Rattle.pygrammar.specs.declared.levels.Level.TheVariants.{Named}
 use Rattle.pyunparse_text.specs.Pieces.{piece, pieces}
 use Rattle.pyunparse_text.specs.Written.{leading}
-use Rattle.pyunparse.specs.Inner.Writing.{behind}
+use Rattle.pyunparse_text.specs.Writing.{behind}
 use Rattle.pyunparse.proofs.Sequences.FoldLemmas.{two}
 use Rattle.pyunparse.proofs.Texts.LineLemmas.{whole_line}
 use Rattle.pyunparse.proofs.lines.write_decorator.Goals as goal

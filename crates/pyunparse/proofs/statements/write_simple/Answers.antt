@@ -1,6 +1,6 @@
 use Rattle.std.proofs.Common.{ap, sym}
 use Rattle.std.proofs.lemmas.Result.{IfOk-equal}
-use Rattle.pyunparse.specs.Inner.Folds.{puts}
+use Rattle.pyunparse_text.specs.Folds.{puts}
 use Rattle.pyunparse.proofs.StatementParts.SimpleLemmas.{alias_on, annotation_on, assert_is, assign_on, augmented_on, break_is, continue_is, delete_on, expression_is, global_on, import_from_is, import_on, nonlocal_on, pass_is, raise_is, return_on}
 use Rattle.pyunparse.proofs.Shapes.StatementLemmas.{not_simple}
 use Rattle.pyunparse.proofs.statements.write_simple.Goals as goal

@@ -2,7 +2,7 @@ use Rattle.std.proofs.Common.{◌≡◌, map, drop}
 use Rattle.pytree_node.specs.TreeOf.{tree_of}
 use Rattle.pyunparse_text.specs.Pieces.{piece}
 use Rattle.pyunparse_text.specs.Statements.{targets}
-use Rattle.pyunparse.specs.Inner.Folds.{puts}
+use Rattle.pyunparse_text.specs.Folds.{puts}
 use Rattle.pyunparse.proofs.statements.write_targets.Given as goal
 
 abbrev pub invariant-loop-target : goal.invariant-loop-target

@@ -4,7 +4,7 @@ use Rattle.pytree_node.specs.TreeOf.{type_param_of}
 use Rattle.pyunparse_text.specs.Statements.{type_param}
 use Rattle.pyunparse_text.specs.Pieces.{piece}
 use Rattle.pyunparse_text.specs.Written.{trailing}
-use Rattle.pyunparse.specs.Inner.Folds.{puts}
+use Rattle.pyunparse_text.specs.Folds.{puts}
 use Rattle.pyunparse.specs.Inner.Members.{members}
 use Rattle.pyunparse.proofs.types.write_listed_params.Given as goal
 

@@ -1,9 +1,0 @@
-//! What stands between the members of a list.
-
-/// The token between each two members of a list.
-#[derive(Clone, Copy)]
-pub(crate) enum Between {
-    Comma,
-    And,
-    Or,
-}

@@ -1,0 +1,12 @@
+//! What a token says of the blank behind it.
+
+/// What of a token tells whether the next one touches it.
+#[derive(Clone, Copy)]
+pub struct Edge {
+    /// It keeps close to what stands behind it.
+    pub behind: bool,
+    /// It is a number, which a point doesn't touch.
+    pub number: bool,
+    /// It is a comma, which the colon of a slice doesn't touch.
+    pub comma: bool,
+}

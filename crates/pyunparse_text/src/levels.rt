@@ -1,0 +1,211 @@
+//! The levels of the grammar: where an expression needs brackets, and the levels of its parts.
+
+ghost use Rattle.std.specs.Prelude.{◌≡◌};
+ghost use Rattle.pygrammar.specs.Operators.{below, chain_level};
+ghost use Rattle.pygrammar.specs.Precedence as precedence;
+ghost use Rattle.pyunparse_text.specs.Levels as levels;
+ghost use Rattle.pyunparse_text.specs.Written as written;
+
+use pygrammar::Level;
+use pytree_node::{BoolOperator, Operator, UnaryOperator};
+
+/// The place of a level in one order: a higher one is further in.
+fn rank(level: Level) -> u8
+    ensures { result ≡ precedence.rank level }
+{
+    match level {
+        Level::Value => 1,
+        Level::Slices => 2,
+        Level::Stars => 3,
+        Level::Part => 4,
+        Level::Slice => 5,
+        Level::StarItem => 6,
+        Level::Elem => 7,
+        Level::Named => 8,
+        Level::Expression => 9,
+        Level::Or => 10,
+        Level::And => 11,
+        Level::Not => 12,
+        Level::Compare => 13,
+        Level::BitOr => 14,
+        Level::BitXor => 15,
+        Level::BitAnd => 16,
+        Level::Shift => 17,
+        Level::Sum => 18,
+        Level::Term => 19,
+        Level::Factor => 20,
+        Level::Power => 21,
+        Level::Await => 22,
+        Level::Primary => 23,
+        Level::Atom => 24,
+    }
+}
+
+/// The level that the last alternative of a level names.
+fn below(level: Level) -> Level
+    ensures { result ≡ below level }
+{
+    match level {
+        Level::Value => Level::Stars,
+        Level::Stars => Level::StarItem,
+        Level::StarItem => Level::Expression,
+        Level::Named => Level::Expression,
+        Level::Expression => Level::Or,
+        Level::Or => Level::And,
+        Level::And => Level::Not,
+        Level::Not => Level::Compare,
+        Level::Compare => Level::BitOr,
+        Level::BitOr => Level::BitXor,
+        Level::BitXor => Level::BitAnd,
+        Level::BitAnd => Level::Shift,
+        Level::Shift => Level::Sum,
+        Level::Sum => Level::Term,
+        Level::Term => Level::Factor,
+        Level::Factor => Level::Power,
+        Level::Power => Level::Await,
+        Level::Await => Level::Primary,
+        Level::Primary => Level::Atom,
+        Level::Atom => Level::Atom,
+        Level::Elem => Level::Named,
+        Level::Slices => Level::Slice,
+        Level::Part => Level::Slice,
+        Level::Slice => Level::Named,
+    }
+}
+
+/// Whether an expression of one level stands at the place of another without brackets: from
+/// `Expression` on inwards all levels are in one chain.
+pub fn reaches(place: Level, own: Level) -> bool
+    ensures { result ≡ levels.reaches place own }
+{
+    if rank(own) >= 9 {
+        return rank(place) <= rank(own);
+    }
+    let mut level = place;
+    for _ in 0..19u8 {
+        if rank(level) == rank(own) {
+            return true;
+        }
+        level = below(level);
+    }
+    false
+}
+
+/// The level of a chain of `or` or of `and`.
+pub fn chain_level(op: BoolOperator) -> Level
+    ensures { result ≡ chain_level op }
+{
+    match op {
+        BoolOperator::Or => Level::Or,
+        BoolOperator::And => Level::And,
+    }
+}
+
+/// The level of the members of such a chain.
+pub fn chain_member_level(op: BoolOperator) -> Level
+    ensures { result ≡ below (chain_level op) }
+{
+    match op {
+        BoolOperator::Or => Level::And,
+        BoolOperator::And => Level::Not,
+    }
+}
+
+/// The level of what an operator before its operand makes, and of that operand.
+pub fn unary_level(op: UnaryOperator) -> Level
+    ensures { result ≡ levels.unary_level op }
+{
+    match op {
+        UnaryOperator::Not => Level::Not,
+        UnaryOperator::Invert => Level::Factor,
+        UnaryOperator::UAdd => Level::Factor,
+        UnaryOperator::USub => Level::Factor,
+    }
+}
+
+/// The level of what an operator between two operands makes.
+pub fn operator_level(op: Operator) -> Level
+    ensures { result ≡ levels.operator_level op }
+{
+    match op {
+        Operator::BitOr => Level::BitOr,
+        Operator::BitXor => Level::BitXor,
+        Operator::BitAnd => Level::BitAnd,
+        Operator::LShift => Level::Shift,
+        Operator::RShift => Level::Shift,
+        Operator::Add => Level::Sum,
+        Operator::Sub => Level::Sum,
+        Operator::Mult => Level::Term,
+        Operator::MatMult => Level::Term,
+        Operator::Div => Level::Term,
+        Operator::Mod => Level::Term,
+        Operator::FloorDiv => Level::Term,
+        Operator::Pow => Level::Power,
+    }
+}
+
+/// The level of its left operand.
+pub fn left_level(op: Operator) -> Level
+    ensures { result ≡ levels.left_level op }
+{
+    match op {
+        Operator::BitOr => Level::BitOr,
+        Operator::BitXor => Level::BitXor,
+        Operator::BitAnd => Level::BitAnd,
+        Operator::LShift => Level::Shift,
+        Operator::RShift => Level::Shift,
+        Operator::Add => Level::Sum,
+        Operator::Sub => Level::Sum,
+        Operator::Mult => Level::Term,
+        Operator::MatMult => Level::Term,
+        Operator::Div => Level::Term,
+        Operator::Mod => Level::Term,
+        Operator::FloorDiv => Level::Term,
+        Operator::Pow => Level::Await,
+    }
+}
+
+/// The level of its right operand.
+pub fn right_level(op: Operator) -> Level
+    ensures { result ≡ levels.right_level op }
+{
+    match op {
+        Operator::BitOr => Level::BitXor,
+        Operator::BitXor => Level::BitAnd,
+        Operator::BitAnd => Level::Shift,
+        Operator::LShift => Level::Sum,
+        Operator::RShift => Level::Sum,
+        Operator::Add => Level::Term,
+        Operator::Sub => Level::Term,
+        Operator::Mult => Level::Factor,
+        Operator::MatMult => Level::Factor,
+        Operator::Div => Level::Factor,
+        Operator::Mod => Level::Factor,
+        Operator::FloorDiv => Level::Factor,
+        Operator::Pow => Level::Factor,
+    }
+}
+
+/// The level of what stands behind a star, by the level of its place.
+pub fn star_level(place: Level) -> Level
+    ensures { result ≡ written.star_level place }
+{
+    match place {
+        Level::Part => Level::Expression,
+        Level::Named => Level::Expression,
+        _ => Level::BitOr,
+    }
+}
+
+/// The level of a tuple's elements, by the level of its place and whether there is a `:=` among
+/// them. At that of an element the tuple has brackets.
+pub fn element_level(place: Level, some_named: bool) -> Level
+    ensures { result ≡ written.element_level place some_named }
+{
+    match place {
+        Level::Slices => Level::Part,
+        Level::Value if !some_named => Level::StarItem,
+        Level::Stars if !some_named => Level::StarItem,
+        _ => Level::Elem,
+    }
+}
