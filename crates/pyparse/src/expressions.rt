@@ -13,12 +13,12 @@ ghost use Rattle.pyparse.specs.Expressions.{Refuses};
 
 use crate::faults::{GrammarError, ParseFault};
 use crate::tokens::Token;
-use pyparse_expr::{Stop, read_whole};
 use pygrammar::Level;
-use pytree_node::Expr;
+use pyparse_expr::read_whole;
+use pyparse_nodes::Stop;
 use pysource::Place;
-use pytoken::Refusal;
-use pytoken::{Terminal, TerminalFault, terminal_of};
+use pytoken::{Refusal, Terminal, TerminalFault, terminal_of};
+use pytree_node::Expr;
 use std::alloc::{AllocError, Global};
 
 /// What a token is to the grammar.
