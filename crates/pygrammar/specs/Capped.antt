@@ -14,7 +14,8 @@ use Rattle.pygrammar.specs.Looks.{is_op, is_word, name_in}
 use Rattle.pygrammar.specs.Entries.{Of, singles}
 use Rattle.pytree_height.specs.Heights.{height}
 use Rattle.pygrammar.specs.Reader.{Answer, Found, NoForm, TooDeep, and_then, on_first, on_name_with, closed, Reads, starred, listing_of, tupled, comps_closed, unstarred, unnamed, yield_step, atom, call_step, operation, prefixed, slice_rest, lambda_step, if_else_step, levels_from}
-use Rattle.pygrammar.specs.Precedence.{rank, starts_comp, infix_from, prefix_from, first, behind}
+use Rattle.pygrammar.specs.Operators.{rank}
+use Rattle.pygrammar.specs.Precedence.{starts_comp, infix_from, prefix_from, first, behind}
 
 -- what is higher than d is refused
 abbrev pub cap : ℕ → Answer Expr → Answer Expr

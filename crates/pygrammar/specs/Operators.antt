@@ -1,5 +1,5 @@
--- The levels of the grammar, and the operators of each (language reference, 6.5 to 6.12 and 10).
-use Rattle.std.specs.Prelude.{Option, Some, None}
+-- The levels of the grammar, in one order, and the operators of each (language reference, 6.5 to 6.12 and 10).
+use Rattle.std.specs.Prelude.{ℕ, Option, Some, None}
 use Rattle.pylex_lexeme.specs.declared.kinds.Exact.TheVariants.{Plus, Minus, Star, Slash, VBar, Amper, Less, Greater, Percent, EqEqual, NotEqual, LessEqual, GreaterEqual, Tilde, Circumflex, LeftShift, RightShift, DoubleSlash, At}
 use Rattle.pytoken.specs.declared.keywords.Keyword.{Keyword}
 use Rattle.pytoken.specs.declared.keywords.Keyword.TheVariants as Key
@@ -41,6 +41,33 @@ below Elem = Named
 below Slices = Slice
 below Part = Slice
 below Slice = Named
+
+-- the levels in one order: a level of a higher rank is further in
+abbrev pub rank : Level → ℕ
+rank Value = 1
+rank Slices = 2
+rank Stars = 3
+rank Part = 4
+rank Slice = 5
+rank StarItem = 6
+rank Elem = 7
+rank Named = 8
+rank Expression = 9
+rank Or = 10
+rank And = 11
+rank Not = 12
+rank Compare = 13
+rank BitOr = 14
+rank BitXor = 15
+rank BitAnd = 16
+rank Shift = 17
+rank Sum = 18
+rank Term = 19
+rank Factor = 20
+rank Power = 21
+rank Await = 22
+rank Primary = 23
+rank Atom = 24
 
 -- the operators of a level, whose left side is of that level too and whose right side of the next
 abbrev pub left_operator : Level → Terminal → Option Operator

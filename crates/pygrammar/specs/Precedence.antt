@@ -1,4 +1,4 @@
--- The levels in one order, what a terminal can begin, and all operators in two tables: after an expression and before one.
+-- What a terminal can begin, and all operators in two tables: after an expression and before one.
 use Rattle.std.specs.Prelude.{ℕ, List, [], ◌∷◌, Option, Some, None, Bool, true, false, cond, leb}
 use Rattle.pylex_lexeme.specs.declared.kinds.Exact.TheVariants.{LPar, LSqb, LBrace, Colon, Plus, Minus, Star, Slash, VBar, Amper, Less, Greater, Percent, EqEqual, NotEqual, LessEqual, GreaterEqual, Tilde, Circumflex, LeftShift, RightShift, DoubleStar, DoubleSlash, At, Ellipsis}
 use Rattle.pytoken.specs.declared.keywords.Keyword.TheVariants as Key
@@ -9,37 +9,10 @@ use Rattle.pytree_node.specs.declared.operators.UnaryOperator.TheVariants as Un
 use Rattle.pytree_node.specs.declared.operators.BoolOperator.{BoolOperator}
 use Rattle.pytree_node.specs.declared.operators.BoolOperator.TheVariants as Join
 use Rattle.pygrammar.specs.declared.levels.Level.{Level}
-use Rattle.pygrammar.specs.declared.levels.Level.TheVariants.{Value, Stars, StarItem, Named, Expression, Or, And, Not, Compare, BitOr, BitXor, BitAnd, Shift, Sum, Term, Factor, Power, Await, Primary, Atom, Elem, Slices, Part, Slice}
+use Rattle.pygrammar.specs.declared.levels.Level.TheVariants.{Stars, StarItem, Named, Not, BitOr, BitXor, BitAnd, Shift, Sum, Term, Factor, Elem, Slices, Part, Slice}
 use Rattle.pytoken.specs.Terminals.{Terminal, Op, Word, Ident, Whole, Literal}
-use Rattle.pygrammar.specs.Operators.{chain_level}
+use Rattle.pygrammar.specs.Operators.{chain_level, rank}
 use Rattle.pygrammar.specs.Entries.{Item, Of, Pair, Argument, Parameter}
-
--- the levels in one order: a level of a higher rank is further in
-abbrev pub rank : Level → ℕ
-rank Value = 1
-rank Slices = 2
-rank Stars = 3
-rank Part = 4
-rank Slice = 5
-rank StarItem = 6
-rank Elem = 7
-rank Named = 8
-rank Expression = 9
-rank Or = 10
-rank And = 11
-rank Not = 12
-rank Compare = 13
-rank BitOr = 14
-rank BitXor = 15
-rank BitAnd = 16
-rank Shift = 17
-rank Sum = 18
-rank Term = 19
-rank Factor = 20
-rank Power = 21
-rank Await = 22
-rank Primary = 23
-rank Atom = 24
 
 -- the highest rank of a level that begins with a terminal
 abbrev pub lead : Terminal → ℕ

@@ -15,13 +15,13 @@ use Rattle.pytree_node.specs.Trees.{Expr, no_exprs, an_expr, OptionalExpr, absen
 use Rattle.pytree_node.specs.Values
 use Rattle.pytoken.specs.Terminals.{Terminal, Op, Ident, Whole, Literal}
 use Rattle.pygrammar.specs.Looks.{is_op, is_word, name_in}
-use Rattle.pygrammar.specs.Operators.{below, chain_level, chain_word, comparison}
+use Rattle.pygrammar.specs.Operators.{below, chain_level, chain_word, comparison, rank}
 use Rattle.pygrammar.specs.Constants.{constant_word, joined}
 use Rattle.pygrammar.specs.Entries.{Item, Of, Pair, Argument, Parameter, Entry, Single, Paired, Spread, Doubled, Keyed, Plain, Slashed, Bare, Gathered, Collected, singles, keys, values}
 use Rattle.pygrammar.specs.Arguments.{called}
 use Rattle.pygrammar.specs.Parameters.{arranged}
 use Rattle.pygrammar.specs.Targets.{stored}
-use Rattle.pygrammar.specs.Precedence.{rank, first, starts, starts_comp, Infix, Left, Raise, Joins, Compares, behind, Prefix, Signed, Awaits, infix_from, prefix_from}
+use Rattle.pygrammar.specs.Precedence.{first, starts, starts_comp, Infix, Left, Raise, Joins, Compares, behind, Prefix, Signed, Awaits, infix_from, prefix_from}
 
 -- what a reader answers: a value and the terminals after it, no form, or that it went too deep
 pub data Answer (A : Type 0) : Type 0 where

@@ -1,5 +1,5 @@
-//! The grammar of Python: definitions and laws alone, with the types that they name: [`Level`], and [`Form`], what a
-//! logical line says of itself.
+//! The grammar of Python: definitions and laws alone, with the types that they name: [`Level`], with
+//! its rank, and [`Form`], what a logical line says of itself.
 //!
 //! Python language reference, 6 "Expressions" to 8 "Compound statements", and 10 "Full Grammar
 //! specification".

@@ -12,7 +12,8 @@ ghost use Rattle.pyparse.specs.Expressions.{first_place, first_refusal, terminal
 ghost use Rattle.pyparse.specs.Expressions.{Refuses};
 
 use pygrammar::Level;
-use pyparse_expr::{Stop, read_whole};
+use pyparse_expr::read_whole;
+use pyparse_nodes::Stop;
 use pyparse_tokens::{GrammarError, ParseFault, Token};
 use pysource::Place;
 use pytoken::{Refusal, Terminal, TerminalFault, terminal_of};

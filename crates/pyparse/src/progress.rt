@@ -39,18 +39,18 @@ fn block_error(stop: Stop) -> Result<GrammarError, AllocError>
 }
 
 /// The error of a line that has no form, by whether it looks like a `match` statement.
-fn line_error(stop: pyparse_expr::Stop, like_match: bool) -> Result<GrammarError, AllocError>
+fn line_error(stop: pyparse_nodes::Stop, like_match: bool) -> Result<GrammarError, AllocError>
     ensures { (profile : Profile) (x : Line) → Refused stop profile (terminals x)
         → like_match ≡ is_match x.tokens → IfOk result (λ e. Unread profile x (code_of e)) }
 {
     match stop {
-        pyparse_expr::Stop::NoForm => Ok(if like_match {
+        pyparse_nodes::Stop::NoForm => Ok(if like_match {
             GrammarError::MatchStatement
         } else {
             GrammarError::Syntax
         }),
-        pyparse_expr::Stop::TooDeep => Ok(GrammarError::TooDeep),
-        pyparse_expr::Stop::Memory => Err(AllocError),
+        pyparse_nodes::Stop::TooDeep => Ok(GrammarError::TooDeep),
+        pyparse_nodes::Stop::Memory => Err(AllocError),
     }
 }
 

@@ -1,6 +1,5 @@
 -- Parameters, and `lambda`.
 pub mod Formals
-pub mod FormalSteps
 pub mod FormalNodes
 pub mod SignatureHeights
 pub mod ParameterParts

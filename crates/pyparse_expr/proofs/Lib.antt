@@ -5,4 +5,3 @@ mod Lists
 mod Calls
 mod FormalParameters
 mod ForClauses
-mod Stores

@@ -1,5 +1,4 @@
 -- Lists with commas, and what stands in brackets and braces.
-pub mod Pushes
 pub mod ListSteps
 pub mod SquareSteps
 pub mod PairSteps

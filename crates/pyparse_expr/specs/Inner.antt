@@ -1,15 +1,9 @@
-pub mod Alone
-pub mod Answers
 pub mod Arguments
 pub mod Chains
 pub mod FormalHeights
-pub mod Formals
-pub mod FormalStates
 pub mod Found
 pub mod Lists
 pub mod Pairs
 pub mod Places
 pub mod Readings
-pub mod Runs
 pub mod Signatures
-pub mod Views

@@ -9,25 +9,23 @@ ghost use Rattle.pygrammar.specs.Capped.{cap};
 ghost use Rattle.pygrammar.specs.Entries as entries;
 ghost use Rattle.pygrammar.specs.Precedence as precedence;
 ghost use Rattle.pygrammar.specs.Reader as reader;
-ghost use Rattle.pyparse_expr.specs.Answers.{Answered, Failed};
+ghost use Rattle.pyparse_nodes.specs.Answers.{Answered, Failed};
 ghost use Rattle.pyparse_expr.specs.Inner.Arguments as arguments;
 ghost use Rattle.pyparse_expr.specs.Inner.Arguments.{ActualAt, AddedAt, IsKindAt, arguments_of, entry_of};
 ghost use Rattle.pyparse_expr.specs.Inner.Arguments.{level_of, place_of, state_of};
 ghost use Rattle.pyparse_expr.specs.Inner.Readings.{IsOpen, inner_reads};
-ghost use Rattle.pyparse_expr.specs.Views.{seen};
+ghost use Rattle.pyparse_nodes.specs.Views.{seen};
 
-use crate::actual::{Actual, Kind};
 use crate::comprehensions::comps;
 use crate::depth::Depth;
-use crate::found::Read;
 use crate::levels::{read_expression, read_named};
-use crate::list_makers::{make_call, make_generator};
 use crate::listings::first_items;
-use crate::looks::{is_op, lead_at, name_with, starts_comp};
-use crate::makers::make_starred;
-use crate::room::{put, put_keyword};
-use crate::stop::Stop;
+use pygrammar::Level;
 use pylex::Exact;
+use pyparse_nodes::{
+    Actual, Kind, Read, Stop, is_op, lead_at, make_call, make_generator, make_starred, name_with,
+    put, put_keyword, starts_comp,
+};
 use pytoken::Terminal;
 use std::alloc::Global;
 
@@ -60,7 +58,7 @@ fn moved(actual: Actual, next: usize) -> Actual
 }
 
 /// Appends an argument without a name.
-#[tactic(auto, using(crate::proofs::Lists::Pushes::pushed, crate::proofs::Calls::ArgumentSteps::args_height))]
+#[tactic(auto, using(pyparse_nodes::proofs::Callers::Pushes::pushed, crate::proofs::Calls::ArgumentSteps::args_height))]
 #[inline(always)]
 fn add_plain(actual: Actual, e: Read, wrong: bool) -> Result<Actual, Stop>
     ensures state { MatchResult result
@@ -174,7 +172,7 @@ fn begins_argument(tokens: &[Terminal], at: usize) -> bool
     ensures is { result ≡ precedence.starts entries.Argument (seen tokens.now at) }
     ensures within { result ≡ true → at < length tokens.now }
 {
-    if lead_at(tokens, at) >= 7 {
+    if lead_at(tokens, at) >= Level::Elem.rank() {
         return true;
     }
     is_op(tokens, at, Exact::DoubleStar)

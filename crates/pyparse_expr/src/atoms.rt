@@ -8,29 +8,26 @@ ghost use Rattle.pygrammar.specs.Entries as entries;
 ghost use Rattle.pygrammar.specs.Looks as signs;
 ghost use Rattle.pygrammar.specs.Precedence as precedence;
 ghost use Rattle.pygrammar.specs.Reader as reader;
-ghost use Rattle.pyparse_expr.specs.Answers.{Answered, Failed};
+ghost use Rattle.pyparse_nodes.specs.Answers.{Answered, Failed};
 ghost use Rattle.pyparse_expr.specs.Readings.{reads};
 ghost use Rattle.pyparse_expr.specs.Inner.Readings.{IsOpen, inner_reads, level_at, same_reads};
-ghost use Rattle.pyparse_expr.specs.Views.{Stands, seen};
+ghost use Rattle.pyparse_nodes.specs.Views.{Stands, seen};
 ghost use Rattle.pytoken.specs.TerminalOf.{terminal};
 ghost use Rattle.pytoken.specs.Terminals as terminals;
 
 use crate::braces::curly;
 use crate::comprehensions::comps;
 use crate::depth::Depth;
-use crate::found::Read;
 use crate::levels::{read_elem, yield_step};
-use crate::list_makers::{make_generator, make_list, make_list_comp, make_tuple};
 use crate::listings::{Item, others};
-use crate::literals::string_run;
-use crate::looks::{is_op, is_word, lead_at, starts_comp, terminal_at};
-use crate::makers::{make_constant, make_name, make_whole};
-use crate::stop::Stop;
 use pygrammar::Level;
 use pylex::Exact;
+use pyparse_nodes::{
+    Read, Stop, is_op, is_word, lead_at, make_constant, make_generator, make_list, make_list_comp,
+    make_name, make_tuple, make_whole, starts_comp, string_run, terminal_at,
+};
+use pytoken::{Keyword, Terminal};
 use pytree_node::{Constant, Context};
-use pytoken::Keyword;
-use pytoken::Terminal;
 use std::alloc::Global;
 
 /// Reads an atom.
@@ -226,7 +223,7 @@ fn square(alloc: Global, tokens: &[Terminal], at: usize, depth: Depth) -> Result
     ensures { Answered tokens.now depth.room (at + 1)
         (cap depth.room (reader.square (inner_reads depth) (seen tokens.now at))) result }
 {
-    if lead_at(tokens, at) < 7 {
+    if lead_at(tokens, at) < Level::Elem.rank() {
         return if is_op(tokens, at, Exact::RSqb) {
             make_list(alloc, Vec::new(alloc), 0, at + 1, depth.room)
         } else {

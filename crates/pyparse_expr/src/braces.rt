@@ -8,23 +8,22 @@ ghost use Rattle.pygrammar.specs.Capped.{cap};
 ghost use Rattle.pygrammar.specs.Entries as entries;
 ghost use Rattle.pygrammar.specs.Precedence as precedence;
 ghost use Rattle.pygrammar.specs.Reader as reader;
-ghost use Rattle.pyparse_expr.specs.Answers.{Answered, Failed};
+ghost use Rattle.pyparse_nodes.specs.Answers.{Answered, Failed};
 ghost use Rattle.pyparse_expr.specs.Inner.Pairs.{PairAt, PairsAt, more_pairs_at, pair_of, pairs_of};
 ghost use Rattle.pyparse_expr.specs.Inner.Readings.{IsOpen, inner_reads};
-ghost use Rattle.pyparse_expr.specs.Views.{seen};
+ghost use Rattle.pyparse_nodes.specs.Views.{seen};
 
 use crate::climbing::climb;
 use crate::comprehensions::comps;
 use crate::depth::Depth;
-use crate::found::{Pair, Pairs, Read};
 use crate::levels::{read_elem, read_expression};
-use crate::list_makers::{make_dict, make_dict_comp, make_set, make_set_comp};
 use crate::listings::{Item, others};
-use crate::looks::{is_op, lead_at, name_with, starts_comp};
-use crate::room::{put, put_option};
-use crate::stop::Stop;
 use pygrammar::Level;
 use pylex::Exact;
+use pyparse_nodes::{
+    Pair, Pairs, Read, Stop, is_op, lead_at, make_dict, make_dict_comp, make_set, make_set_comp,
+    name_with, put, put_option, starts_comp,
+};
 use pytoken::Terminal;
 use std::alloc::Global;
 
@@ -291,7 +290,7 @@ fn starts_pair(tokens: &[Terminal], at: usize) -> bool
     if is_op(tokens, at, Exact::DoubleStar) {
         true
     } else {
-        lead_at(tokens, at) >= 9
+        lead_at(tokens, at) >= Level::Expression.rank()
     }
 }
 

@@ -8,25 +8,20 @@ ghost use Rattle.pygrammar.specs.Capped.{cap};
 ghost use Rattle.pygrammar.specs.Operators as operators;
 ghost use Rattle.pygrammar.specs.Precedence as precedence;
 ghost use Rattle.pygrammar.specs.Reader as reader;
-ghost use Rattle.pyparse_expr.specs.Answers.{Answered, Failed};
+ghost use Rattle.pyparse_nodes.specs.Answers.{Answered, Failed};
 ghost use Rattle.pyparse_expr.specs.Inner.Chains.{ComparedAt, LinkedAt, MisComparedAt, NotComparedAt};
 ghost use Rattle.pyparse_expr.specs.Inner.Chains.{links_of};
-ghost use Rattle.pyparse_expr.specs.Inner.Readings.{IsOpen, climbing, inner_reads};
-ghost use Rattle.pyparse_expr.specs.Views.{Stands, first_is, seen};
-ghost use Rattle.pyparse_expr.specs.Inner.Views.{infix_value};
+ghost use Rattle.pyparse_expr.specs.Inner.Readings.{IsOpen, inner_reads};
+ghost use Rattle.pyparse_nodes.specs.Operators.{climbing, infix_value};
+ghost use Rattle.pyparse_nodes.specs.Views.{Stands, first_is, seen};
 
 use crate::climbing::climb;
 use crate::depth::Depth;
-use crate::found::{Items, Read};
 use crate::listings::{first_items, push};
-use crate::looks::is_word;
-use crate::makers::{make_chain, make_compare};
-use crate::operators::{Infix, comparison_at};
-use crate::stop::Stop;
 use pygrammar::Level;
+use pyparse_nodes::{Infix, Items, Read, Stop, comparison_at, is_word, make_chain, make_compare};
+use pytoken::{Keyword, Terminal};
 use pytree_node::{BoolOperator, Comparison};
-use pytoken::Keyword;
-use pytoken::Terminal;
 use std::alloc::Global;
 
 /// A comparison, and the place behind it.

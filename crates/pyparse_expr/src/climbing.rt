@@ -6,23 +6,22 @@ ghost use Rattle.pytree_node.specs.Trees as plain;
 ghost use Rattle.pygrammar.specs.Capped.{cap};
 ghost use Rattle.pygrammar.specs.Precedence as precedence;
 ghost use Rattle.pygrammar.specs.Reader as reader;
-ghost use Rattle.pyparse_expr.specs.Answers.{Answered};
+ghost use Rattle.pyparse_nodes.specs.Answers.{Answered};
 ghost use Rattle.pyparse_expr.specs.Readings.{reads};
-ghost use Rattle.pyparse_expr.specs.Inner.Readings.{IsInfix, IsOpen, IsPrefix, climbing, fronts};
-ghost use Rattle.pyparse_expr.specs.Inner.Readings.{inner_reads};
-ghost use Rattle.pyparse_expr.specs.Views.{first_is, seen};
-ghost use Rattle.pyparse_expr.specs.Inner.Views.{infix_value, prefix_value};
+ghost use Rattle.pyparse_nodes.specs.Operators.{IsInfix, IsPrefix, climbing};
+ghost use Rattle.pyparse_expr.specs.Inner.Readings.{IsOpen, fronts, inner_reads};
+ghost use Rattle.pyparse_nodes.specs.Views.{first_is, seen};
+ghost use Rattle.pyparse_nodes.specs.Operators.{infix_value, prefix_value};
 
 use crate::chains::{chain, compare};
 use crate::depth::Depth;
-use crate::found::Read;
-use crate::makers::{make_await, make_binary, make_unary};
-use crate::operators::{Infix, Prefix, below, infix_at, prefix_at, rank};
 use crate::primaries::read_primary;
-use crate::stop::Stop;
 use pygrammar::Level;
-use pytree_node::{Operator, UnaryOperator};
+use pyparse_nodes::{
+    Infix, Prefix, Read, Stop, infix_at, make_await, make_binary, make_unary, prefix_at,
+};
 use pytoken::Terminal;
+use pytree_node::{Operator, UnaryOperator};
 use std::alloc::Global;
 
 /// An expression of a level of operators.
@@ -40,7 +39,7 @@ pub(crate) fn climb(
         (reads depth level (seen tokens.now at)) result }
 {
     depth.enter()?;
-    let least = rank(level);
+    let least = level.rank();
     let first = climb_first(alloc, tokens, least, at, depth)?;
     let mut left = first;
     while let Some(o) = infix_at(tokens, left.next, least) {
@@ -136,7 +135,7 @@ fn operation(
         (seen tokens.now left.next) (seen tokens.now (left.next + 1)))) result }
 {
     match o {
-        Infix::Left(level, o) => binary(alloc, tokens, left, below(level), o, depth),
+        Infix::Left(level, o) => binary(alloc, tokens, left, level.below(), o, depth),
         Infix::Raise => binary(alloc, tokens, left, Level::Factor, Operator::Pow, depth),
         Infix::Joins(o) => chain(alloc, tokens, left, o, depth),
         Infix::Compares => compare(alloc, tokens, left, depth),

@@ -8,28 +8,23 @@ ghost use Rattle.pytoken.specs.Terminals as terminals;
 ghost use Rattle.pygrammar.specs.Entries as entries;
 ghost use Rattle.pygrammar.specs.Reader as reader;
 ghost use Rattle.pygrammar.specs.Targets.{stored};
-ghost use Rattle.pyparse_expr.specs.Answers.{Answered, Failed};
+ghost use Rattle.pyparse_nodes.specs.Answers.{Answered, Failed};
 ghost use Rattle.pyparse_expr.specs.Inner.Found.{ClauseAt, ClausesAt, TestsAt};
 ghost use Rattle.pyparse_expr.specs.Inner.Lists.{items_of};
 ghost use Rattle.pyparse_expr.specs.Inner.Readings.{IsOpen, inner_reads};
-ghost use Rattle.pyparse_expr.specs.Views.{Stands, seen};
+ghost use Rattle.pyparse_nodes.specs.Views.{Stands, seen};
 
 use crate::climbing::climb;
 use crate::depth::Depth;
-use crate::found::{Clause, Clauses, Items, Read};
-use crate::list_makers::make_tuple;
 use crate::listings::{Item, no_items, others, push};
-use crate::looks::{is_op, is_word};
-use crate::makers::make_starred;
 use crate::primaries::read_primary;
-use crate::room::append;
-use crate::stop::Stop;
-use crate::targets::store;
 use pygrammar::Level;
 use pylex::Exact;
+use pyparse_nodes::{
+    Clause, Clauses, Items, Read, Stop, append, is_op, is_word, make_starred, make_tuple, store,
+};
+use pytoken::{Keyword, Terminal};
 use pytree_node::{Comprehension, Context};
-use pytoken::Keyword;
-use pytoken::Terminal;
 use std::alloc::Global;
 
 /// A target item in front of `in`.

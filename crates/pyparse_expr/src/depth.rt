@@ -1,11 +1,10 @@
 //! How far down reading may go.
 
 ghost use Rattle.std.specs.Prelude.{◌≡◌, ◌+◌, ◌-◌, ◌<◌, MatchResult, length};
-ghost use Rattle.pyparse_expr.specs.Inner.Readings.{IsOpen, IsOuter};
-ghost use Rattle.pyparse_expr.specs.Inner.Answers.{IsShut};
+ghost use Rattle.pyparse_expr.specs.Inner.Readings.{IsOpen, IsOuter, IsShut};
 
 use crate::expressions::MOST_HEIGHT;
-use crate::stop::Stop;
+use pyparse_nodes::Stop;
 use pytoken::Terminal;
 
 /// How far down reading may go.

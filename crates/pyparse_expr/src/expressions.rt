@@ -4,23 +4,22 @@ ghost use Rattle.std.specs.Prelude.{◌≡◌, ◌+◌, ◌≤◌, MatchResult, 
 ghost use Rattle.pytree_node.specs.TreeOf.{tree_of};
 ghost use Rattle.pytoken.specs.TerminalOf.{terminal};
 ghost use Rattle.pyparse_expr.specs.Expressions.{IsExpression, Refused};
-ghost use Rattle.pyparse_expr.specs.Answers.{Answered};
+ghost use Rattle.pyparse_nodes.specs.Answers.{Answered};
 ghost use Rattle.pyparse_expr.specs.Readings.{reads};
-ghost use Rattle.pyparse_expr.specs.Views.{seen};
+ghost use Rattle.pyparse_nodes.specs.Views.{seen};
 
 use crate::atoms::read_atom;
 use crate::climbing::climb;
 use crate::depth::Depth;
-use crate::found::Read;
 use crate::levels::{
     read_elem, read_expression, read_named, read_star_item, read_stars, read_value,
 };
 use crate::primaries::read_primary;
 use crate::slices::{read_part, read_slice, read_slices};
-use crate::stop::Stop;
 use pygrammar::Level;
-use pytree_node::Expr;
+use pyparse_nodes::{Read, Stop};
 use pytoken::Terminal;
+use pytree_node::Expr;
 use std::alloc::Global;
 
 /// How high an expression may be.

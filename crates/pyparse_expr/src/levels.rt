@@ -6,26 +6,24 @@ ghost use Rattle.pytree_node.specs.Trees as plain;
 ghost use Rattle.pygrammar.specs.Capped.{cap};
 ghost use Rattle.pygrammar.specs.Reader as reader;
 ghost use Rattle.pygrammar.specs.Looks as signs;
-ghost use Rattle.pyparse_expr.specs.Answers.{Answered};
+ghost use Rattle.pyparse_nodes.specs.Answers.{Answered};
 ghost use Rattle.pyparse_expr.specs.Readings.{reads};
 ghost use Rattle.pyparse_expr.specs.Inner.Readings.{IsOpen, inner_reads, level_at};
-ghost use Rattle.pyparse_expr.specs.Views.{seen};
+ghost use Rattle.pyparse_nodes.specs.Views.{seen};
 
 use crate::atoms::read_atom;
 use crate::climbing::climb;
 use crate::depth::Depth;
-use crate::found::Read;
-use crate::list_makers::make_yield;
 use crate::listings::{Item, tupled};
-use crate::looks::{is_op, is_word, lead_at, name_with, stands_alone};
-use crate::makers::{make_if, make_name, make_named, make_starred, make_yield_from};
 use crate::signatures::lambda_step;
-use crate::stop::Stop;
 use pygrammar::Level;
 use pylex::Exact;
+use pyparse_nodes::{
+    Read, Stop, is_op, is_word, lead_at, make_if, make_name, make_named, make_starred, make_yield,
+    make_yield_from, name_with, stands_alone,
+};
+use pytoken::{Keyword, Terminal};
 use pytree_node::Context;
-use pytoken::Keyword;
-use pytoken::Terminal;
 use std::alloc::Global;
 
 /// A right side of an assignment or a statement of its own.
@@ -63,7 +61,7 @@ pub(crate) fn yield_step(
     if is_word(tokens, at, Keyword::From) {
         let e = read_expression(alloc, tokens, at + 1, depth.inner())?;
         make_yield_from(alloc, e, depth.room)
-    } else if lead_at(tokens, at) >= 7 {
+    } else if lead_at(tokens, at) >= Level::Elem.rank() {
         let e = read_stars(alloc, tokens, at, depth.inner())?;
         make_yield(alloc, Some(e.expr), e.height, e.next, depth.room)
     } else {

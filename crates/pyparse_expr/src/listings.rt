@@ -9,24 +9,21 @@ ghost use Rattle.pygrammar.specs.Capped.{cap};
 ghost use Rattle.pygrammar.specs.Entries as entries;
 ghost use Rattle.pygrammar.specs.Precedence as precedence;
 ghost use Rattle.pygrammar.specs.Reader as reader;
-ghost use Rattle.pyparse_expr.specs.Answers.{Answered, Failed};
+ghost use Rattle.pyparse_nodes.specs.Answers.{Answered, Failed};
 ghost use Rattle.pyparse_expr.specs.Inner.Found.{ListedAt, entries_of};
 ghost use Rattle.pyparse_expr.specs.Inner.Lists.{item_reads, items_of, least_of, more_at};
 ghost use Rattle.pyparse_expr.specs.Inner.Readings.{IsOpen, inner_reads};
-ghost use Rattle.pyparse_expr.specs.Views.{Stands, seen};
+ghost use Rattle.pyparse_nodes.specs.Views.{Stands, seen};
 
 use crate::comprehensions::target_item;
 use crate::depth::Depth;
-use crate::found::{Items, Read};
 use crate::levels::{read_elem, read_star_item};
-use crate::list_makers::make_tuple;
-use crate::looks::{is_op, lead_at};
-use crate::room::put;
 use crate::slices::read_part;
-use crate::stop::Stop;
+use pygrammar::Level;
 use pylex::Exact;
-use pytree_node::Context;
+use pyparse_nodes::{Items, Read, Stop, is_op, lead_at, make_tuple, put};
 use pytoken::Terminal;
+use pytree_node::Context;
 use std::alloc::Global;
 
 /// What stands between the commas of a list of expressions.
@@ -68,7 +65,7 @@ pub(crate) fn first_items(alloc: Global, e: Read) -> Result<Items, Stop>
 }
 
 /// A list with one more item.
-#[tactic(auto, using(crate::proofs::Lists::Pushes::pushed, crate::proofs::Lists::Pushes::pushed_height))]
+#[tactic(auto, using(pyparse_nodes::proofs::Callers::Pushes::pushed, pyparse_nodes::proofs::Callers::Pushes::pushed_height))]
 pub fn push(items: Items, e: Read) -> Result<Items, Stop>
     ensures items { MatchResult result
         (λ r. map tree_of r.exprs.items ≡ map tree_of items.exprs.items ++
@@ -97,10 +94,10 @@ fn least_lead(item: Item) -> u8
     ensures { result ≡ least_of item }
 {
     match item {
-        Item::Part => 5,
-        Item::StarItem => 7,
-        Item::Elem => 7,
-        Item::Target => 7,
+        Item::Part => Level::Slice.rank(),
+        Item::StarItem => Level::Elem.rank(),
+        Item::Elem => Level::Elem.rank(),
+        Item::Target => Level::Elem.rank(),
     }
 }
 

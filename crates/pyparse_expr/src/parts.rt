@@ -9,19 +9,17 @@ ghost use Rattle.pytree_node.specs.Trees as plain;
 ghost use Rattle.pytree_node.specs.Trees.{exprs};
 ghost use Rattle.pygrammar.specs.Reader as reader;
 ghost use Rattle.pytree_height.specs.Heights as Heights;
-ghost use Rattle.pyparse_expr.specs.Answers.{Answered, PartAnswered};
+ghost use Rattle.pyparse_nodes.specs.Answers.{Answered, PartAnswered};
 ghost use Rattle.pyparse_expr.specs.Readings.{read_arguments, read_parameters, reads};
-ghost use Rattle.pyparse_expr.specs.Views.{seen};
+ghost use Rattle.pyparse_nodes.specs.Views.{seen};
 
 use crate::arguments::arguments;
 use crate::comprehensions::read_target;
 use crate::depth::Depth;
-use crate::found::Read;
-use crate::parameters::arranged;
 use crate::signatures::parameters;
-use crate::stop::Stop;
-use pytree_node::{Arguments, Expr, Keyword};
+use pyparse_nodes::{Read, Stop, arranged};
 use pytoken::Terminal;
+use pytree_node::{Arguments, Expr, Keyword};
 use std::alloc::Global;
 
 /// The parameters of a function, the height of the highest expression in them, and the place

@@ -6,23 +6,20 @@ ghost use Rattle.pytree_node.specs.Trees as plain;
 ghost use Rattle.pygrammar.specs.Capped.{cap};
 ghost use Rattle.pygrammar.specs.Looks as signs;
 ghost use Rattle.pygrammar.specs.Reader as reader;
-ghost use Rattle.pyparse_expr.specs.Answers.{Answered};
+ghost use Rattle.pyparse_nodes.specs.Answers.{Answered};
 ghost use Rattle.pyparse_expr.specs.Readings.{reads};
 ghost use Rattle.pyparse_expr.specs.Inner.Readings.{IsOpen, inner_reads, level_at};
-ghost use Rattle.pyparse_expr.specs.Views.{seen};
+ghost use Rattle.pyparse_nodes.specs.Views.{seen};
 
 use crate::arguments::call_step;
 use crate::atoms::read_atom;
 use crate::depth::Depth;
-use crate::found::Read;
-use crate::looks::{is_op, name_at};
-use crate::makers::{make_attribute, make_subscript};
 use crate::slices::read_slices;
-use crate::stop::Stop;
 use pygrammar::Level;
 use pylex::Exact;
-use pytree_node::Context;
+use pyparse_nodes::{Read, Stop, is_op, make_attribute, make_subscript, name_at};
 use pytoken::Terminal;
+use pytree_node::Context;
 use std::alloc::Global;
 
 /// An atom with attributes, calls and subscripts behind it.

@@ -10,28 +10,26 @@ ghost use Rattle.pygrammar.specs.Capped.{cap};
 ghost use Rattle.pygrammar.specs.Entries as entries;
 ghost use Rattle.pygrammar.specs.Precedence as precedence;
 ghost use Rattle.pygrammar.specs.Reader as reader;
-ghost use Rattle.pyparse_expr.specs.Answers.{Answered, Failed};
-ghost use Rattle.pyparse_expr.specs.Inner.FormalStates.{entry_of, state_of};
-ghost use Rattle.pyparse_expr.specs.Inner.Formals as formals;
+ghost use Rattle.pyparse_nodes.specs.Answers.{Answered, Failed};
+ghost use Rattle.pyparse_nodes.specs.FormalStates.{entry_of, state_of};
+ghost use Rattle.pyparse_nodes.specs.Formals as formals;
 ghost use Rattle.pyparse_expr.specs.Inner.Found.{OptionalAt};
 ghost use Rattle.pyparse_expr.specs.Inner.Readings.{IsOpen, inner_reads};
 ghost use Rattle.pyparse_expr.specs.Inner.Signatures.{ParameterAnswered, SignatureAt, collected_reads};
 ghost use Rattle.pyparse_expr.specs.Inner.Signatures.{gathered_reads, plain_reads};
-ghost use Rattle.pyparse_expr.specs.Views.{seen};
+ghost use Rattle.pyparse_nodes.specs.Views.{seen};
 
 use crate::climbing::climb;
 use crate::depth::Depth;
-use crate::found::{Optional, Read};
 use crate::levels::read_expression;
-use crate::list_makers::make_lambda;
-use crate::looks::{is_op, name_at, terminal_at};
-use crate::makers::{identifier_of, make_starred};
-use crate::parameters::{Formal, Parameter, add_parameter, arranged, no_formal};
-use crate::stop::Stop;
 use pygrammar::Level;
 use pylex::Exact;
-use pytree_node::{Arg, Expr};
+use pyparse_nodes::{
+    Formal, Optional, Parameter, Read, Stop, add_parameter, arranged, identifier_of, is_op,
+    make_lambda, make_starred, name_at, no_formal, terminal_at,
+};
 use pytoken::Terminal;
+use pytree_node::{Arg, Expr};
 use std::alloc::Global;
 
 /// A parameter that was read, the height of the highest expression in it, and the place behind it.

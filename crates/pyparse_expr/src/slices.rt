@@ -8,27 +8,25 @@ ghost use Rattle.pygrammar.specs.Entries as entries;
 ghost use Rattle.pygrammar.specs.Looks as signs;
 ghost use Rattle.pygrammar.specs.Precedence as precedence;
 ghost use Rattle.pygrammar.specs.Reader as reader;
-ghost use Rattle.pyparse_expr.specs.Answers.{Answered, Failed};
+ghost use Rattle.pyparse_nodes.specs.Answers.{Answered, Failed};
 ghost use Rattle.pyparse_expr.specs.Readings.{reads};
 ghost use Rattle.pyparse_expr.specs.Inner.Readings.{IsOpen, inner_reads, level_at, same_reads};
-ghost use Rattle.pyparse_expr.specs.Views.{Stands, seen};
+ghost use Rattle.pyparse_nodes.specs.Views.{Stands, seen};
 ghost use Rattle.pytoken.specs.Terminals as terminals;
 ghost use Rattle.pyparse_expr.specs.Inner.Found.{OptionalAt};
 ghost use Rattle.pytree_node.specs.TreeOf.{boxed_of};
 ghost use Rattle.pytree_height.specs.Heights as Heights;
 
 use crate::depth::Depth;
-use crate::found::{Optional, Read};
 use crate::levels::{read_expression, read_named};
-use crate::list_makers::{make_slice, make_tuple};
 use crate::listings::{Item, first_items, tupled};
-use crate::looks::{is_op, lead_at, name_with};
-use crate::makers::make_starred;
-use crate::stop::Stop;
 use pygrammar::Level;
 use pylex::Exact;
-use pytree_node::Expr;
+use pyparse_nodes::{
+    Optional, Read, Stop, is_op, lead_at, make_slice, make_starred, make_tuple, name_with,
+};
 use pytoken::Terminal;
+use pytree_node::Expr;
 use std::alloc::Global;
 
 /// Reads what stands between the brackets of a subscript.
@@ -164,7 +162,7 @@ pub(crate) fn perhaps(
         (reader.perhaps (inner_reads depth) Level.Expression (seen tokens.now at)) r)
         (λ s. Failed s (reader.perhaps (inner_reads depth) Level.Expression (seen tokens.now at))) }
 {
-    if lead_at(tokens, at) >= 9 {
+    if lead_at(tokens, at) >= Level::Expression.rank() {
         let e = read_expression(alloc, tokens, at, depth.inner())?;
         Ok(Optional {
             expr: Some(e.expr),

@@ -6,22 +6,22 @@ ghost use Rattle.std.specs.Prelude.{◌≡◌, ◌+◌, ◌≤◌, length};
 ghost use Rattle.pygrammar.specs.FormOf.{form_of, header_of, suite_of};
 ghost use Rattle.pygrammar.specs.LineReader as line_reader;
 ghost use Rattle.pygrammar.specs.Lines as lines;
-ghost use Rattle.pyparse_expr.specs.Answers.{PartAnswered};
+ghost use Rattle.pyparse_nodes.specs.Answers.{PartAnswered};
 ghost use Rattle.pyparse_expr.specs.Readings.{reads};
-ghost use Rattle.pyparse_expr.specs.Views.{seen};
+ghost use Rattle.pyparse_nodes.specs.Views.{seen};
 ghost use Rattle.pyparse_line.specs.Inner.Answers.{FormAnswered};
 ghost use Rattle.pyparse_line.specs.Inner.Fronts.{colon, decorator, headed, simple, suite};
 
 use crate::found::{ReadForm, ReadSuite};
-use crate::kinds::{Kind, kind_of};
-use pyparse_expr::{Depth, Stop, is_op, read_at, terminal_at};
-use pygrammar::Form;
-use pygrammar::Level;
 use crate::headers::{ReadHeader, read_header};
-use pylex::Exact;
-use pytree_node::Profile;
+use crate::kinds::{Kind, kind_of};
 use crate::statements::read_statements;
+use pygrammar::{Form, Level};
+use pylex::Exact;
+use pyparse_expr::{Depth, read_at};
+use pyparse_nodes::{Stop, is_op, terminal_at};
 use pytoken::Terminal;
+use pytree_node::Profile;
 use std::alloc::Global;
 
 /// A decorator, behind its `@`: 8.7 "Function definitions".

@@ -9,10 +9,11 @@ ghost use Rattle.pygrammar.specs.FormOf.{form_of};
 ghost use Rattle.pyparse_line.specs.Lines.{Refused};
 
 use crate::fronts::read_front;
-use pyparse_expr::{Depth, MOST_HEIGHT, Stop};
 use pygrammar::Form;
-use pytree_node::Profile;
+use pyparse_expr::{Depth, MOST_HEIGHT};
+use pyparse_nodes::Stop;
 use pytoken::Terminal;
+use pytree_node::Profile;
 use std::alloc::Global;
 
 /// The form of a logical line that some terminals are, in a version of Python. At most

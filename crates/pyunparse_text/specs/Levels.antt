@@ -11,8 +11,7 @@ use Rattle.pytree_node.specs.declared.operators.Comparison.TheVariants as Is
 use Rattle.pygrammar.specs.declared.levels.Level.{Level}
 use Rattle.pygrammar.specs.declared.levels.Level.TheVariants.{Not, BitOr, BitXor, BitAnd, Shift, Sum, Term, Factor, Power, Await}
 use Rattle.pytoken.specs.Terminals.{Terminal, Op, Word}
-use Rattle.pygrammar.specs.Operators.{below}
-use Rattle.pygrammar.specs.Precedence.{rank}
+use Rattle.pygrammar.specs.Operators.{below, rank}
 
 -- ---- Which forms need no brackets.
 

@@ -2,91 +2,26 @@
 
 ghost use Rattle.std.specs.Prelude.{◌≡◌};
 ghost use Rattle.pygrammar.specs.Operators.{below, chain_level};
-ghost use Rattle.pygrammar.specs.Precedence as precedence;
 ghost use Rattle.pyunparse_text.specs.Levels as levels;
 ghost use Rattle.pyunparse_text.specs.Written as written;
 
 use pygrammar::Level;
 use pytree_node::{BoolOperator, Operator, UnaryOperator};
 
-/// The place of a level in one order: a higher one is further in.
-fn rank(level: Level) -> u8
-    ensures { result ≡ precedence.rank level }
-{
-    match level {
-        Level::Value => 1,
-        Level::Slices => 2,
-        Level::Stars => 3,
-        Level::Part => 4,
-        Level::Slice => 5,
-        Level::StarItem => 6,
-        Level::Elem => 7,
-        Level::Named => 8,
-        Level::Expression => 9,
-        Level::Or => 10,
-        Level::And => 11,
-        Level::Not => 12,
-        Level::Compare => 13,
-        Level::BitOr => 14,
-        Level::BitXor => 15,
-        Level::BitAnd => 16,
-        Level::Shift => 17,
-        Level::Sum => 18,
-        Level::Term => 19,
-        Level::Factor => 20,
-        Level::Power => 21,
-        Level::Await => 22,
-        Level::Primary => 23,
-        Level::Atom => 24,
-    }
-}
-
-/// The level that the last alternative of a level names.
-fn below(level: Level) -> Level
-    ensures { result ≡ below level }
-{
-    match level {
-        Level::Value => Level::Stars,
-        Level::Stars => Level::StarItem,
-        Level::StarItem => Level::Expression,
-        Level::Named => Level::Expression,
-        Level::Expression => Level::Or,
-        Level::Or => Level::And,
-        Level::And => Level::Not,
-        Level::Not => Level::Compare,
-        Level::Compare => Level::BitOr,
-        Level::BitOr => Level::BitXor,
-        Level::BitXor => Level::BitAnd,
-        Level::BitAnd => Level::Shift,
-        Level::Shift => Level::Sum,
-        Level::Sum => Level::Term,
-        Level::Term => Level::Factor,
-        Level::Factor => Level::Power,
-        Level::Power => Level::Await,
-        Level::Await => Level::Primary,
-        Level::Primary => Level::Atom,
-        Level::Atom => Level::Atom,
-        Level::Elem => Level::Named,
-        Level::Slices => Level::Slice,
-        Level::Part => Level::Slice,
-        Level::Slice => Level::Named,
-    }
-}
-
 /// Whether an expression of one level stands at the place of another without brackets: from
 /// `Expression` on inwards all levels are in one chain.
 pub fn reaches(place: Level, own: Level) -> bool
     ensures { result ≡ levels.reaches place own }
 {
-    if rank(own) >= 9 {
-        return rank(place) <= rank(own);
+    if own.rank() >= 9 {
+        return place.rank() <= own.rank();
     }
     let mut level = place;
     for _ in 0..19u8 {
-        if rank(level) == rank(own) {
+        if level.rank() == own.rank() {
             return true;
         }
-        level = below(level);
+        level = level.below();
     }
     false
 }

@@ -1,6 +1,6 @@
 -- On: targets, arguments and parameters are as high as what they are made of.
 --
--- Carries: what pyparse_expr cites.
+-- Carries: what pyparse_nodes, pyparse_expr cite.
 use Rattle.std.proofs.Common.{◌≡◌, ◌+◌, List, Some}
 use Rattle.std.specs.Prelude.{max}
 use Rattle.pytree_node.specs.Trees.{Expr, Arguments}

@@ -1,6 +1,6 @@
 -- On: one terminal is a certain sign or keyword, or isn't.
 --
--- Carries: what pyparse_expr, pyparse_line cite.
+-- Carries: what pyparse_nodes, pyparse_expr, pyparse_line cite.
 use Rattle.std.proofs.Common.{◌≡◌, ◌⊎◌, Some, None}
 use Rattle.pylex_lexeme.specs.declared.kinds.Exact.{Exact}
 use Rattle.pytoken.specs.declared.keywords.Keyword.{Keyword}

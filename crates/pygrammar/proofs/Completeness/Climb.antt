@@ -18,11 +18,11 @@ use Rattle.pygrammar.specs.declared.levels.Level.TheVariants.{Value, Stars, Star
 use Rattle.pytree_node.specs.Trees
 use Rattle.pytree_node.specs.Trees.{Expr, exprs}
 use Rattle.pytoken.specs.Terminals.{Terminal, Op, Word}
-use Rattle.pygrammar.specs.Operators.{below, left_operator, prefix_operator, chain_level, chain_word, comparison}
+use Rattle.pygrammar.specs.Operators.{below, left_operator, prefix_operator, chain_level, chain_word, comparison, rank}
 use Rattle.pygrammar.specs.Targets.{stored}
 use Rattle.pygrammar.specs.Grammar as G
 use Rattle.pygrammar.specs.Reader.{Answer, Found, and_then, on_some, on_first, Reads, chain_loop, on_comparison, compare_loop, operation, climb_loop, primary_loop, climb, level_step, read, target_item, read_target}
-use Rattle.pygrammar.specs.Precedence.{rank, lead, Infix, Left, Raise, Joins, Compares, infix_rank, behind, Signed, before, at_least, infix_from}
+use Rattle.pygrammar.specs.Precedence.{lead, Infix, Left, Raise, Joins, Compares, infix_rank, behind, Signed, before, at_least, infix_from}
 use Rattle.pygrammar.proofs.Completeness.LookLemmas.{grip, grip_of, lead_of, miss_op, miss_word, pass_word}
 
 -- the largest grip that may follow, at the levels with operators

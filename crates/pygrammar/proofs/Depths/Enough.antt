@@ -17,11 +17,11 @@ use Rattle.pytree_node.specs.Trees.{Expr, OptionalExpr, absent, present, Identif
 use Rattle.pytree_node.specs.Values
 use Rattle.pytoken.specs.Terminals.{Terminal, Op, Ident, Whole, Literal}
 use Rattle.pygrammar.specs.Looks.{is_op, is_word, name_in}
-use Rattle.pygrammar.specs.Operators.{below, chain_level, chain_word, comparison}
+use Rattle.pygrammar.specs.Operators.{below, chain_level, chain_word, comparison, rank}
 use Rattle.pygrammar.specs.Constants.{constant_word}
 use Rattle.pygrammar.specs.Entries.{Item, Of, Pair, Argument, Parameter, Entry, Single, Paired, Doubled}
 use Rattle.pygrammar.specs.Reader.{Answer, Found, NoForm, TooDeep, and_then, on_some, on_first, on_name_with, closed, made, Reads, perhaps, suffixed, starred, star_annotated, read_pair, read_argument, read_parameter, piece, listing_loop, listing_of, others_of, tupled, target_item, target_piece, read_target, ifs_loop, for_in_step, comps_loop, comps_closed, unstarred, unnamed, string_run, constant_of, yield_step, round, square, dict_from, curly, atom, called_with, generator_call, call_step, primary_loop, chain_loop, on_comparison, compare_loop, operation, climb_loop, prefixed, slice_rest, lambda_step, if_else_step, climb, level_step, levels_from, descend, read}
-use Rattle.pygrammar.specs.Precedence.{Infix, Left, Raise, Joins, Compares, Prefix, Signed, Awaits, rank, starts, starts_comp, infix_from, prefix_from}
+use Rattle.pygrammar.specs.Precedence.{Infix, Left, Raise, Joins, Compares, Prefix, Signed, Awaits, starts, starts_comp, infix_from, prefix_from}
 
 abbrev pub Good : {A : Type 0} → ℕ → Answer A → Type 0
 Good n (Found a r) = length r < n

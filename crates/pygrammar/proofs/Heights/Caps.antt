@@ -20,13 +20,13 @@ use Rattle.pytree_node.specs.Trees
 use Rattle.pytree_node.specs.Trees.{Expr, an_expr, OptionalExpr, absent, present, arg, Arguments, Identifier, exprs, comprehensions, Comprehension}
 use Rattle.pytoken.specs.Terminals.{Terminal, Op}
 use Rattle.pygrammar.specs.Looks.{is_op, is_word, name_in}
-use Rattle.pygrammar.specs.Operators.{below, chain_level, chain_word, comparison}
+use Rattle.pygrammar.specs.Operators.{below, chain_level, chain_word, comparison, rank}
 use Rattle.pygrammar.specs.Targets.{stored}
 use Rattle.pygrammar.specs.Arguments.{called}
 use Rattle.pygrammar.specs.Parameters.{arranged}
 use Rattle.pygrammar.specs.Entries.{singles, keys, values, Item, Of, Pair, Argument, Parameter, Entry, Single, Paired, Spread, Doubled, Keyed, Plain, Gathered, Collected}
 use Rattle.pygrammar.specs.Reader.{Answer, Found, NoForm, TooDeep, and_then, made, closed, generator_of, lambda_of, called_with, on_some, on_first, on_name_with, Reads, perhaps, suffixed, starred, annotated, star_annotated, read_pair, read_argument, read_parameter, piece, listing_loop, listing_of, others_of, tupled, target_item, target_piece, read_target, ifs_loop, for_in_step, comps_loop, comps_closed, unstarred, unnamed, yield_step, round, square, dict_from, curly, atom, generator_call, call_step, primary_loop, chain_loop, on_comparison, compare_loop, operation, climb_loop, prefixed, slice_rest, lambda_step, if_else_step, climb, level_step, levels_from, descend, read}
-use Rattle.pygrammar.specs.Precedence.{Infix, Left, Raise, Joins, Compares, Prefix, Signed, Awaits, rank, starts, starts_comp, infix_from, prefix_from}
+use Rattle.pygrammar.specs.Precedence.{Infix, Left, Raise, Joins, Compares, Prefix, Signed, Awaits, starts, starts_comp, infix_from, prefix_from}
 use Rattle.pytree_height.specs.Heights.{height, heights, optional_height, optional_heights, comprehension_heights}
 use Rattle.pygrammar.specs.Inner.EntryHeights.{entry_height, entries_height}
 use Rattle.pygrammar.specs.Capped.{cap, capped_round, capped_atom, capped_primary, capped_loop, capped_climb, capped_step, capped_descend, capped}

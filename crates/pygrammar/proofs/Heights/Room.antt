@@ -17,7 +17,8 @@ use Rattle.pytoken.specs.Terminals.{Spelled, Terminal, Op, Ident}
 use Rattle.pygrammar.specs.Looks.{is_op, is_word, name_in}
 use Rattle.pygrammar.specs.Entries.{Of}
 use Rattle.pygrammar.specs.Reader.{Answer, Found, TooDeep, and_then, on_some, on_first, Reads, call_step, operation, prefixed, levels_from, descend, read}
-use Rattle.pygrammar.specs.Precedence.{Infix, rank, starts_comp, infix_from, prefix_from, infix_rank, behind}
+use Rattle.pygrammar.specs.Operators.{rank}
+use Rattle.pygrammar.specs.Precedence.{Infix, starts_comp, infix_from, prefix_from, infix_rank, behind}
 use Rattle.pygrammar.specs.Grammar as G
 use Rattle.pytree_height.specs.Heights.{height}
 use Rattle.pygrammar.specs.Capped.{cap, capped_round, capped_atom, capped_primary, capped_loop, capped_climb, capped_step, capped_descend, capped, limited}

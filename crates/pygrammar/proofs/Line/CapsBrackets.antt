@@ -17,7 +17,8 @@ use Rattle.pytree_height.specs.Heights.{height, item_heights}
 use Rattle.pygrammar.specs.Looks.{is_op, is_word, name_in}
 use Rattle.pygrammar.specs.Entries.{Of, Entry, Single, singles}
 use Rattle.pygrammar.specs.Reader.{Answer, Found, NoForm, TooDeep, and_then, on_some, on_first, on_name_with, Reads, closed, listing_loop, piece, listing_of, comps_closed, unstarred, round, primary_loop, climb_loop, if_else_step, read}
-use Rattle.pygrammar.specs.Precedence.{rank, lead, starts, starts_comp}
+use Rattle.pygrammar.specs.Operators.{rank}
+use Rattle.pygrammar.specs.Precedence.{lead, starts, starts_comp}
 use Rattle.pygrammar.specs.Capped.{capped}
 use Rattle.pygrammar.specs.Forms.{item}
 use Rattle.pygrammar.specs.LineReader.{always, commas, commas_of, item_target, read_item, bracketed}

@@ -13,7 +13,8 @@ use Rattle.pytree_node.specs.Trees.{Expr, Identifier}
 use Rattle.pytoken.specs.Terminals.{Spelled, Terminal, Op, Word, Ident}
 use Rattle.pygrammar.specs.Looks.{is_op, is_word, name_in}
 use Rattle.pygrammar.specs.Reader.{Answer, Found, NoForm, TooDeep, and_then, on_some, on_first, made, Reads}
-use Rattle.pygrammar.specs.Precedence.{rank, infix_rank, behind}
+use Rattle.pygrammar.specs.Operators.{rank}
+use Rattle.pygrammar.specs.Precedence.{infix_rank, behind}
 use Rattle.pygrammar.specs.Grammar as G
 use Rattle.pygrammar.proofs.Completeness.LookLemmas.{op_or_not, word_or_not}
 

@@ -19,9 +19,9 @@ use Rattle.pytree_node.specs.Trees
 use Rattle.pytree_node.specs.Trees.{Expr, exprs}
 use Rattle.pytoken.specs.Terminals.{Terminal, Op, Word}
 use Rattle.pygrammar.specs.Looks.{is_word}
-use Rattle.pygrammar.specs.Operators.{below, chain_level, chain_word, comparison, left_operator, prefix_operator}
+use Rattle.pygrammar.specs.Operators.{below, chain_level, chain_word, comparison, left_operator, prefix_operator, rank}
 use Rattle.pygrammar.specs.Reader.{Answer, Found, and_then, on_some, on_first, Reads, chain_loop, on_comparison, compare_loop, operation, climb_loop, prefixed, climb}
-use Rattle.pygrammar.specs.Precedence.{Infix, Left, Raise, Joins, Compares, Prefix, Signed, Awaits, rank, infix_rank, behind, prefix_rank, before, at_least, infix_from, prefix_from}
+use Rattle.pygrammar.specs.Precedence.{Infix, Left, Raise, Joins, Compares, Prefix, Signed, Awaits, infix_rank, behind, prefix_rank, before, at_least, infix_from, prefix_from}
 use Rattle.pygrammar.specs.Grammar as G
 use Rattle.std.proofs.lemmas.Bool.{leb-true, le-leb}
 use Rattle.pygrammar.proofs.Completeness.Climb.{lim}

@@ -1,7 +1,7 @@
 use Rattle.std.proofs.Common.{refl, arith, rules, ◌+◌, ap, map, ◌≡◌, ◌-◌, true, false, ◌++◌, ◌∷◌, []}
 use Rattle.pytree_node.specs.TreeOf.{tree_of}
 use Rattle.pyparse_expr.specs.Inner.Readings.{same_reads, inner_reads}
-use Rattle.pyparse_expr.specs.Views.{seen}
+use Rattle.pyparse_nodes.specs.Views.{seen}
 use Rattle.pyparse_expr.specs.Inner.Chains.{ComparedAt}
 use Rattle.pyparse_expr.proofs.Places.Signs.{joins_stands, hit_sign, miss_sign}
 use Rattle.pyparse_expr.proofs.Reader.ChainSteps.{chain_failed, chain_made, links_start, links_error, links_more, links_end, sides_wrong, sides_error, sides_more, compare_made}

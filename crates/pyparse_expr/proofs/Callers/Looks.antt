@@ -4,12 +4,12 @@ use Rattle.pylex_lexeme.specs.declared.kinds.Exact.{Exact}
 use Rattle.pytoken.specs.Terminals.{Terminal}
 use Rattle.pytoken.specs.declared.values.terminals.Terminal as given
 use Rattle.pygrammar.specs.Reader.{Answer, and_then, on_first, on_name_with}
-use Rattle.pyparse_expr.specs.declared.stop.Stop.{Stop}
-use Rattle.pyparse_expr.specs.Answers.{Failed}
-use Rattle.pyparse_expr.specs.Views.{IsNotNamed, seen, first_is, first_of}
+use Rattle.pyparse_nodes.specs.declared.stop.Stop.{Stop}
+use Rattle.pyparse_nodes.specs.Answers.{Failed}
+use Rattle.pyparse_nodes.specs.Views.{IsNotNamed, seen, first_is, first_of}
 use Rattle.pyparse_expr.proofs.Reader.LevelSteps
 use Rattle.pyparse_expr.proofs.Reader.Reading
-use Rattle.pyparse_expr.proofs.Places.Stands
+use Rattle.pyparse_nodes.proofs.Callers.Places
 
 pub seen_next : (ts : List given.Terminal) (n : ℕ) → drop 1 (seen ts n) ≡ seen ts (n + 1)
 seen_next = Reading.seen_next
@@ -19,7 +19,7 @@ seen_length = Reading.seen_length
 
 -- the first terminal of a place, and those behind it
 pub front : (ts : List given.Terminal) (at : ℕ) (t : Terminal) → first_of (seen ts at) ≡ Some t → seen ts at ≡ t ∷ seen ts (at + 1)
-front = Stands.front
+front = Places.front
 
 -- why there is no answer, handed on
 pub failed_then : {A B : Type 0} (s : Stop) (x : Answer A) (k : A → List Terminal → Answer B) → Failed s x → Failed s (and_then x k)

@@ -3,7 +3,6 @@
 -- Carries: call_step, more_arguments. On: Reading, ArgumentOrder.
 use Rattle.std.proofs.Common.{◌≡◌, refl, sym, ap, subst, ◌∙◌, arith, ℕ, zero, suc, ◌+◌, ◌-◌, ◌≤◌, ◌<◌, max, List, [], ◌∷◌, ◌++◌, length, map, Option, Some, None, Bool, true, false, cond, Result}
 use Rattle.std.proofs.lemmas.Bool.{le-leb, lt-leb}
-use Rattle.std.proofs.lemmas.List.{map-append}
 use Rattle.std.specs.Borrow.{Bor}
 use Rattle.std.specs.Str.{chars}
 use Rattle.unicode_normalization.specs.Forms.{nfkc}
@@ -21,19 +20,19 @@ use Rattle.pygrammar.specs.Looks.{is_op}
 use Rattle.pygrammar.specs.Precedence.{starts, starts_comp}
 use Rattle.pygrammar.specs.Reader.{Answer, Found, NoForm, TooDeep, and_then, on_first, on_some, made, listing_loop, others_of, read_argument, called_with, call_step, generator_call}
 use Rattle.pygrammar.specs.Capped.{cap}
-use Rattle.pyparse_expr.specs.declared.actual.Actual.{Actual}
-use Rattle.pyparse_expr.specs.declared.actual.Kind.{Kind}
-use Rattle.pyparse_expr.specs.declared.actual.Kind.TheVariants as kind
+use Rattle.pyparse_nodes.specs.declared.actual.Actual.{Actual}
+use Rattle.pyparse_nodes.specs.declared.actual.Kind.{Kind}
+use Rattle.pyparse_nodes.specs.declared.actual.Kind.TheVariants as kind
 use Rattle.pyparse_expr.specs.declared.depth.Depth.{Depth}
-use Rattle.pyparse_expr.specs.declared.found.Read.{Read}
-use Rattle.pyparse_expr.specs.declared.stop.Stop.{Stop}
-use Rattle.pyparse_expr.specs.Answers.{Failed, Answered, FoundAt}
+use Rattle.pyparse_nodes.specs.declared.found.Read.{Read}
+use Rattle.pyparse_nodes.specs.declared.stop.Stop.{Stop}
+use Rattle.pyparse_nodes.specs.Answers.{Failed, Answered, FoundAt}
 use Rattle.pyparse_expr.specs.Inner.Arguments.{State, start, step, steps, state_of, level_of, place_of, entry_of, IsKindAt, AddedAt, ActualAt, finished, called_from}
 use Rattle.pyparse_expr.specs.Inner.Readings.{inner_reads}
-use Rattle.pyparse_expr.specs.Views.{Stands, IsNamed, IsNotNamed, seen, first_is, lead_of}
+use Rattle.pyparse_nodes.specs.Views.{Stands, IsNamed, IsNotNamed, seen, first_is, lead_of}
 use Rattle.pyparse_expr.proofs.Calls.ArgumentOrder.{called_steps}
 use Rattle.pyparse_expr.proofs.Reader.LevelSteps.{name_miss}
-use Rattle.pyparse_expr.proofs.Lists.Pushes.{pushed_height}
+use Rattle.pyparse_nodes.proofs.Callers.Pushes.{pushed_height}
 use Rattle.pyparse_expr.proofs.Reader.Reading.{first_miss, failed_then, earlier, seen_length}
 
 -- lists that grow by one
@@ -43,9 +42,6 @@ args_height xs ys e h k w q a b = omega (arith, a, b, pushed_height xs ys e (lis
 higher : (ks : List Keyword) (k : Keyword) → keyword_heights (Trees.keywords (ks ++ (k ∷ []))) ≡ max (keyword_heights (Trees.keywords ks)) (height k.value)
 higher [] k = omega arith
 higher (x ∷ ks) k = omega (arith, higher ks k)
-
-pub pushed_keyword : (ks ls : List given_keyword.Keyword) (k : given_keyword.Keyword) (t : Keyword) → ls ≡ ks ++ (k ∷ []) → keyword_of k ≡ t → map keyword_of ls ≡ map keyword_of ks ++ (t ∷ [])
-pushed_keyword ks ls k t q e = ap (λ l. map keyword_of l) q ∙ map-append keyword_of ks (k ∷ []) ∙ ap (λ z. map keyword_of ks ++ (z ∷ [])) e
 
 pub keywords_height : (ks ls : List given_keyword.Keyword) (t : Keyword) (h n w : ℕ) → map keyword_of ls ≡ map keyword_of ks ++ (t ∷ []) → h ≡ max w (keyword_heights (Trees.keywords (map keyword_of ks))) → n ≡ height t.value → max h n ≡ max w (keyword_heights (Trees.keywords (map keyword_of ls)))
 keywords_height ks ls t h n w q a b = omega (arith, a, b, ap (λ l. keyword_heights (Trees.keywords l)) q, higher (map keyword_of ks) t)

@@ -12,15 +12,15 @@ use Rattle.pygrammar.specs.Looks.{is_word}
 use Rattle.pygrammar.specs.Targets.{stored}
 use Rattle.pygrammar.specs.Reader.{Answer, Found, NoForm, and_then, on_first, made, generator_of, Reads, read_target, ifs_loop, for_in_step, comps_loop}
 use Rattle.pyparse_expr.specs.declared.depth.Depth.{Depth}
-use Rattle.pyparse_expr.specs.declared.found.Read.{Read}
-use Rattle.pyparse_expr.specs.declared.found.Items.{Items}
-use Rattle.pyparse_expr.specs.declared.found.Clause.{Clause}
-use Rattle.pyparse_expr.specs.declared.found.Clauses.{Clauses}
-use Rattle.pyparse_expr.specs.declared.stop.Stop.{Stop}
-use Rattle.pyparse_expr.specs.Answers.{Failed, FoundAt}
+use Rattle.pyparse_nodes.specs.declared.found.Read.{Read}
+use Rattle.pyparse_nodes.specs.declared.found.Items.{Items}
+use Rattle.pyparse_nodes.specs.declared.found.Clause.{Clause}
+use Rattle.pyparse_nodes.specs.declared.found.Clauses.{Clauses}
+use Rattle.pyparse_nodes.specs.declared.stop.Stop.{Stop}
+use Rattle.pyparse_nodes.specs.Answers.{Failed, FoundAt}
 use Rattle.pyparse_expr.specs.Inner.Found.{TestsAt, ClauseAt, ClausesAt}
 use Rattle.pyparse_expr.specs.Inner.Readings.{inner_reads}
-use Rattle.pyparse_expr.specs.Views.{Stands, seen, first_is}
+use Rattle.pyparse_nodes.specs.Views.{Stands, seen, first_is}
 use Rattle.pyparse_expr.proofs.Reader.Reading.{first_miss, failed_then, seen_length}
 
 -- one clause

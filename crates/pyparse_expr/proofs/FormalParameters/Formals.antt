@@ -5,9 +5,9 @@ use Rattle.std.proofs.Common.{◌≡◌, refl, sym, ap, ◌∙◌, List, [], ◌
 use Rattle.pytree_node.specs.Trees.{Expr, Exprs, an_expr, OptionalExpr, absent, present, OptionalExprs, an_optional, Arg, Args, an_arg, Arguments, arguments}
 use Rattle.pygrammar.specs.Entries.{Entry, Single, Paired, Spread, Doubled, Keyed, Plain, Slashed, Bare, Gathered, Collected}
 use Rattle.pygrammar.specs.Parameters.{add_keyword_only, set_vararg, add_plain, add_before_slash, after_star, at_star, plain_ones, before_slash, has_slash, arranged}
-use Rattle.pyparse_expr.specs.declared.parameters.Stage.{Stage}
-use Rattle.pyparse_expr.specs.declared.parameters.Stage.TheVariants as stage
-use Rattle.pyparse_expr.specs.Inner.Formals.{state, start, steps, before, outcome, args_before, optionals_before, exprs_before, arg_or}
+use Rattle.pyparse_nodes.specs.declared.parameters.Stage.{Stage}
+use Rattle.pyparse_nodes.specs.declared.parameters.Stage.TheVariants as stage
+use Rattle.pyparse_nodes.specs.Formals.{state, start, steps, before, outcome, args_before, optionals_before, exprs_before, arg_or}
 
 args_snoc : (xs : List Arg) (a : Arg) (r : Args) → args_before (xs ++ (a ∷ [])) r ≡ args_before xs (an_arg a r)
 args_snoc [] a r = refl

@@ -17,11 +17,11 @@ use Rattle.pygrammar.specs.Operators.{chain_word, comparison}
 use Rattle.pygrammar.specs.Precedence.{Joins, Compares, behind}
 use Rattle.pygrammar.specs.Reader.{Answer, NoForm, TooDeep, Reads, on_first, on_some, on_comparison}
 use Rattle.pyparse_expr.specs.declared.chains.Compared.{Compared}
-use Rattle.pyparse_expr.specs.declared.stop.Stop.TheVariants as stop
+use Rattle.pyparse_nodes.specs.declared.stop.Stop.TheVariants as stop
 use Rattle.pyparse_expr.specs.Inner.Chains.{ComparedAt, MisComparedAt, NotComparedAt}
-use Rattle.pyparse_expr.specs.Views.{Stands, seen, first_is, first_of}
+use Rattle.pyparse_nodes.specs.Views.{Stands, seen, first_is, first_of}
 use Rattle.pyparse_expr.proofs.Reader.Reading.{first_hit, first_miss, seen_next}
-use Rattle.pyparse_expr.proofs.Places.Stands.{front}
+use Rattle.pyparse_nodes.proofs.Callers.Places.{front}
 
 abbrev Hit : Type 0
 Hit = Comparison → List Terminal → Answer Expr

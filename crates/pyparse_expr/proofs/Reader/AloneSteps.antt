@@ -1,6 +1,6 @@
 -- Atoms of one terminal that no level goes on with.
 --
--- Carries: read_expression. On: Reading, Stands, Alone.
+-- Carries: read_expression. On: Reading, Alone.
 use Rattle.std.proofs.Common.{◌≡◌, refl, sym, ap, ◌∙◌, arith, ℕ, zero, suc, ◌+◌, ◌<◌, List, [], ◌∷◌, length, Option, Some, None, Bool, true, false, ◌&&◌, cond, leb, Result}
 use Rattle.pylex_lexeme.specs.declared.kinds.Exact.TheVariants.{RPar, RSqb, RBrace, Colon, Comma, Equal}
 use Rattle.pytree_node.specs.declared.operators.Context.TheVariants.{Load}
@@ -15,27 +15,13 @@ use Rattle.pygrammar.specs.Constants.{joined}
 use Rattle.pygrammar.specs.Reader.{Answer, Found, TooDeep, Reads, and_then, made, string_run, constant_of, if_else_step}
 use Rattle.pygrammar.specs.Capped.{cap, capped, capped_atom, capped_primary, capped_loop}
 use Rattle.pyparse_expr.specs.declared.depth.Depth.{Depth}
-use Rattle.pyparse_expr.specs.declared.found.Read.{Read}
-use Rattle.pyparse_expr.specs.declared.stop.Stop.{Stop}
-use Rattle.pyparse_expr.specs.Answers.{Answered}
+use Rattle.pyparse_nodes.specs.declared.found.Read.{Read}
+use Rattle.pyparse_nodes.specs.declared.stop.Stop.{Stop}
+use Rattle.pyparse_nodes.specs.Answers.{Answered}
 use Rattle.pyparse_expr.specs.Readings.{reads}
-use Rattle.pyparse_expr.specs.Inner.Alone.{alone, atom_with, ends}
+use Rattle.pyparse_nodes.specs.Alone.{alone, atom_with, ends}
 use Rattle.pyparse_expr.specs.Inner.Readings.{IsOpen}
-use Rattle.pyparse_expr.specs.Views.{seen, first_of}
-use Rattle.pyparse_expr.proofs.Places.Stands.{front}
-
-pub alone_here : (ts : List given.Terminal) (at : ℕ) (t : Terminal) → first_of (seen ts at) ≡ Some t → alone (seen ts at) ≡ atom_with t && ends (seen ts (at + 1))
-alone_here ts at t h = ap alone (front ts at t h)
-
-pub alone_with : (ts : List given.Terminal) (at : ℕ) (t : Terminal) (b : Bool) → first_of (seen ts at) ≡ Some t → true ≡ atom_with t → b ≡ ends (seen ts (at + 1)) → b ≡ alone (seen ts at)
-alone_with ts at t b h a e = e ∙ ap (λ x. x && ends (seen ts (at + 1))) a ∙ sym (alone_here ts at t h)
-
-pub alone_past : (ts : List given.Terminal) (at : ℕ) → first_of (seen ts at) ≡ None → alone (seen ts at) ≡ false
-alone_past ts at h = go (seen ts at) h
-  where
-    go : (r : List Terminal) → first_of r ≡ None → alone r ≡ false
-    go [] h = refl
-    go (t ∷ r) h = absurd (cc)
+use Rattle.pyparse_nodes.specs.Views.{seen}
 
 -- nothing goes on
 no_run : (r : List Terminal) → ends r ≡ true → string_run [] r ≡ Found [] r

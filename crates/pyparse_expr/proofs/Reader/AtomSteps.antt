@@ -1,6 +1,6 @@
 -- Atoms, by the terminal that they begin with.
 --
--- Carries: read_atom. On: Reading, Stands.
+-- Carries: read_atom. On: Reading, Places.
 use Rattle.std.proofs.Common.{◌≡◌, refl, ap, ◌∙◌, ℕ, ◌+◌, List, [], ◌∷◌, Some, None, Result, Err}
 use Rattle.pylex_lexeme.specs.declared.kinds.Exact.{Exact}
 use Rattle.pylex_lexeme.specs.declared.kinds.Exact.TheVariants.{LPar, LSqb, LBrace, Ellipsis}
@@ -12,15 +12,15 @@ use Rattle.pygrammar.specs.declared.levels.Level.TheVariants as level
 use Rattle.pygrammar.specs.Reader.{NoForm, Reads}
 use Rattle.pygrammar.specs.Capped.{cap, capped_atom}
 use Rattle.pyparse_expr.specs.declared.depth.Depth.{Depth}
-use Rattle.pyparse_expr.specs.declared.found.Read.{Read}
-use Rattle.pyparse_expr.specs.declared.stop.Stop.{Stop}
-use Rattle.pyparse_expr.specs.declared.stop.Stop.TheVariants as stop
-use Rattle.pyparse_expr.specs.Answers.{Answered}
+use Rattle.pyparse_nodes.specs.declared.found.Read.{Read}
+use Rattle.pyparse_nodes.specs.declared.stop.Stop.{Stop}
+use Rattle.pyparse_nodes.specs.declared.stop.Stop.TheVariants as stop
+use Rattle.pyparse_nodes.specs.Answers.{Answered}
 use Rattle.pyparse_expr.specs.Readings.{reads}
 use Rattle.pyparse_expr.specs.Inner.Readings.{IsOpen, inner_reads, same_reads}
-use Rattle.pyparse_expr.specs.Views.{seen, first_of}
+use Rattle.pyparse_nodes.specs.Views.{seen, first_of}
 use Rattle.pyparse_expr.proofs.Reader.Reading.{by_level}
-use Rattle.pyparse_expr.proofs.Places.Stands.{front}
+use Rattle.pyparse_nodes.proofs.Callers.Places.{front}
 
 pub atom_here : (ts : List given.Terminal) (d : Depth) (at : ℕ) (t : Terminal) (z : Result Read Stop) → IsOpen d → first_of (seen ts at) ≡ Some t → Answered ts d.room (at + 1) (cap d.room (capped_atom (same_reads d) (inner_reads d) (t ∷ seen ts (at + 1)))) z → Answered ts d.room (at + 1) (reads d level.Atom (seen ts at)) z
 atom_here ts d at t z o h a = by_level ts (at + 1) d level.Atom (seen ts at) z o (rw (front ts at t h) a)

@@ -18,13 +18,12 @@ use Rattle.pygrammar.specs.Looks.{is_op, is_word, name_in}
 use Rattle.pygrammar.specs.Reader.{Answer, Found, NoForm, and_then, on_first, on_some, on_name_with, tupled, listing_of, yield_step, if_else_step, lambda_step, slice_rest, unnamed}
 use Rattle.pygrammar.specs.Capped.{cap}
 use Rattle.pyparse_expr.specs.declared.depth.Depth.{Depth}
-use Rattle.pyparse_expr.specs.declared.found.Read.{Read}
-use Rattle.pyparse_expr.specs.declared.stop.Stop.{Stop}
-use Rattle.pyparse_expr.specs.Answers.{Answered, FoundAt, Made}
-use Rattle.pyparse_expr.specs.Inner.Answers.{Makes}
+use Rattle.pyparse_nodes.specs.declared.found.Read.{Read}
+use Rattle.pyparse_nodes.specs.declared.stop.Stop.{Stop}
+use Rattle.pyparse_nodes.specs.Answers.{Answered, FoundAt, Made, Makes}
 use Rattle.pyparse_expr.specs.Readings.{reads}
 use Rattle.pyparse_expr.specs.Inner.Readings.{IsOpen, inner_reads, level_at}
-use Rattle.pyparse_expr.specs.Views.{Stands, IsNamed, IsNotNamed, seen, first_is}
+use Rattle.pyparse_nodes.specs.Views.{Stands, IsNamed, IsNotNamed, seen, first_is}
 use Rattle.pyparse_expr.proofs.Reader.Reading.{by_level, again, earlier, node, first_miss}
 
 -- what was read is the answer

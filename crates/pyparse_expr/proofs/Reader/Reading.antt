@@ -14,14 +14,13 @@ use Rattle.pygrammar.specs.Reader.{Answer, Found, TooDeep, and_then, on_first, o
 use Rattle.pygrammar.specs.Capped.{cap, capped, capped_step}
 use Rattle.pygrammar.proofs.Callers.Steps.{unroll_capped}
 use Rattle.pyparse_expr.specs.declared.depth.Depth.{Depth}
-use Rattle.pyparse_expr.specs.declared.found.Read.{Read}
-use Rattle.pyparse_expr.specs.declared.stop.Stop.{Stop}
-use Rattle.pyparse_expr.specs.declared.stop.Stop.TheVariants as stop
-use Rattle.pyparse_expr.specs.Answers.{Failed, Answered}
-use Rattle.pyparse_expr.specs.Inner.Answers.{Makes}
+use Rattle.pyparse_nodes.specs.declared.found.Read.{Read}
+use Rattle.pyparse_nodes.specs.declared.stop.Stop.{Stop}
+use Rattle.pyparse_nodes.specs.declared.stop.Stop.TheVariants as stop
+use Rattle.pyparse_nodes.specs.Answers.{Failed, Answered, Makes}
 use Rattle.pyparse_expr.specs.Readings.{reads}
 use Rattle.pyparse_expr.specs.Inner.Readings.{IsOpen, level_at}
-use Rattle.pyparse_expr.specs.Views.{seen, first_is}
+use Rattle.pyparse_nodes.specs.Views.{seen, first_is}
 
 -- places
 pub seen_next : (ts : List given.Terminal) (n : ℕ) → drop 1 (seen ts n) ≡ seen ts (n + 1)

@@ -14,12 +14,12 @@ use Rattle.pygrammar.specs.declared.levels.Level.TheVariants as level
 use Rattle.pygrammar.specs.Entries.{Entry, Argument, Single, Spread, Doubled, Keyed}
 use Rattle.pygrammar.specs.Looks.{is_op}
 use Rattle.pygrammar.specs.Reader.{Answer, Found, NoForm, Reads, and_then, on_first, made, listing_of, read_argument}
-use Rattle.pyparse_expr.specs.declared.actual.Actual.{Actual}
-use Rattle.pyparse_expr.specs.declared.actual.Kind.{Kind}
-use Rattle.pyparse_expr.specs.declared.actual.Kind.TheVariants as kind
+use Rattle.pyparse_nodes.specs.declared.actual.Actual.{Actual}
+use Rattle.pyparse_nodes.specs.declared.actual.Kind.{Kind}
+use Rattle.pyparse_nodes.specs.declared.actual.Kind.TheVariants as kind
 use Rattle.pyparse_expr.specs.declared.depth.Depth.{Depth}
 use Rattle.pyparse_expr.specs.Inner.Readings.{inner_reads}
-use Rattle.pyparse_expr.specs.Views.{seen}
+use Rattle.pyparse_nodes.specs.Views.{seen}
 
 -- Whether a `NAME =` or a `**` stood, whether a `**` did, and whether one stood where it may not; then the parts of the node.
 pub data State : Type 0 where

@@ -4,12 +4,12 @@ use Rattle.pytree_node.specs.Trees.{Expr, OptionalExpr, Comprehension, optional}
 use Rattle.pytree_node.specs.TreeOf.{tree_of, boxed_of, comprehension_of}
 use Rattle.pygrammar.specs.Entries.{Entry, Single}
 use Rattle.pygrammar.specs.Reader.{Answer, Found}
-use Rattle.pyparse_expr.specs.declared.found.Clause.{Clause}
-use Rattle.pyparse_expr.specs.declared.found.Clauses.{Clauses}
-use Rattle.pyparse_expr.specs.declared.found.Items.{Items}
-use Rattle.pyparse_expr.specs.declared.found.Optional.{Optional}
+use Rattle.pyparse_nodes.specs.declared.found.Clause.{Clause}
+use Rattle.pyparse_nodes.specs.declared.found.Clauses.{Clauses}
+use Rattle.pyparse_nodes.specs.declared.found.Items.{Items}
+use Rattle.pyparse_nodes.specs.declared.found.Optional.{Optional}
 use Rattle.pytoken.specs.declared.values.terminals.Terminal.{Terminal}
-use Rattle.pyparse_expr.specs.Views.{seen}
+use Rattle.pyparse_nodes.specs.Views.{seen}
 
 -- what was read of a list of expressions
 abbrev pub entries_of : Items → List Entry

@@ -1,14 +1,14 @@
 -- The parts of the capped reader that the program's functions read.
-use Rattle.std.specs.Prelude.{◌≡◌, ℕ, ◌+◌, ◌-◌, ◌<◌, List, Bool, true, false}
+use Rattle.std.specs.Prelude.{◌≡◌, ℕ, ◌+◌, ◌-◌, ◌<◌, List}
 use Rattle.pytree_node.specs.Trees.{Expr}
 use Rattle.pytoken.specs.Terminals.{Terminal}
 use Rattle.pygrammar.specs.declared.levels.Level.{Level}
-use Rattle.pygrammar.specs.declared.levels.Level.TheVariants.{Or, And, Not, Compare, BitOr, BitXor, BitAnd, Shift, Sum, Term, Factor, Power, Await}
-use Rattle.pygrammar.specs.Operators.{below}
 use Rattle.pygrammar.specs.declared.levels.Level.TheVariants as level
-use Rattle.pygrammar.specs.Precedence.{Infix, Prefix, Left, Signed, prefix_from}
+use Rattle.pygrammar.specs.Precedence.{prefix_from}
 use Rattle.pygrammar.specs.Reader.{Answer, Reads, on_first, prefixed}
 use Rattle.pygrammar.specs.Capped.{cap, capped, capped_step}
+use Rattle.pyparse_nodes.specs.declared.stop.Stop.{Stop}
+use Rattle.pyparse_nodes.specs.Answers.{Failed}
 use Rattle.pyparse_expr.specs.declared.depth.Depth.{Depth}
 use Rattle.pyparse_expr.specs.Readings.{reads}
 
@@ -28,35 +28,14 @@ pub record IsOpen (d : Depth) : Type 0 where
   pub steps : 0 < d.steps
   pub room : 0 < d.room
 
+-- nothing is read at this depth
+pub record IsShut (d : Depth) (s : Stop) : Type 0 where
+  pub reads_nothing : (l : Level) (i : List Terminal) → Failed s (reads d l i)
+
 -- the parts of an expression of this depth have that one
 pub record IsOuter (outer d : Depth) : Type 0 where
   pub steps : outer.steps ≡ d.steps + 1
   pub room : outer.room ≡ d.room + 1
-
--- the levels that are read by climbing
-abbrev pub climbing : Level → Bool
-climbing Or = true
-climbing And = true
-climbing Not = true
-climbing Compare = true
-climbing BitOr = true
-climbing BitXor = true
-climbing BitAnd = true
-climbing Shift = true
-climbing Sum = true
-climbing Term = true
-climbing Factor = true
-climbing Power = true
-climbing Await = true
-climbing _ = false
-
-abbrev pub IsPrefix : Prefix → Type 0
-IsPrefix (Signed l o) = climbing l ≡ true
-IsPrefix _ = Unit {0}
-
-abbrev pub IsInfix : Infix → Type 0
-IsInfix (Left l o) = climbing (below l) ≡ true
-IsInfix _ = Unit {0}
 
 -- what stands in front of the operators of a rank of at least k
 abbrev pub fronts : Depth → ℕ → List Terminal → Answer Expr

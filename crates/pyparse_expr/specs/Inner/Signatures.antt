@@ -9,12 +9,12 @@ use Rattle.pygrammar.specs.Reader.{Answer, Found, and_then, annotated, star_anno
 use Rattle.pyparse_expr.specs.declared.depth.Depth.{Depth}
 use Rattle.pyparse_expr.specs.declared.signatures.ReadParameter.{ReadParameter}
 use Rattle.pyparse_expr.specs.declared.signatures.Signature.{Signature}
-use Rattle.pyparse_expr.specs.declared.stop.Stop.{Stop}
-use Rattle.pyparse_expr.specs.Answers.{Failed}
-use Rattle.pyparse_expr.specs.Inner.Formals.{start, steps}
-use Rattle.pyparse_expr.specs.Inner.FormalStates.{state_of, entry_of}
+use Rattle.pyparse_nodes.specs.declared.stop.Stop.{Stop}
+use Rattle.pyparse_nodes.specs.Answers.{Failed}
+use Rattle.pyparse_nodes.specs.Formals.{start, steps}
+use Rattle.pyparse_nodes.specs.FormalStates.{state_of, entry_of}
 use Rattle.pyparse_expr.specs.Inner.Readings.{inner_reads}
-use Rattle.pyparse_expr.specs.Views.{seen}
+use Rattle.pyparse_nodes.specs.Views.{seen}
 use Rattle.pyparse_expr.specs.Inner.FormalHeights.{entry_height, entry_heights}
 
 -- what stands behind the name of a parameter

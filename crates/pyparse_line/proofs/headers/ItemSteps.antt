@@ -10,8 +10,8 @@ use Rattle.pytoken.specs.declared.values.terminals.Terminal as given
 use Rattle.pygrammar.specs.Looks.{is_op}
 use Rattle.pygrammar.specs.LineReader.{read_item}
 use Rattle.pygrammar.specs.Reader.{Answer, Reads}
-use Rattle.pyparse_expr.specs.Answers.{PartAt}
-use Rattle.pyparse_expr.specs.Views.{Stands, first_is, seen}
+use Rattle.pyparse_nodes.specs.Answers.{PartAt}
+use Rattle.pyparse_nodes.specs.Views.{Stands, first_is, seen}
 use Rattle.pyparse_line.proofs.statements.Callers.Commas.{Listed, list_end, list_last, list_more}
 use Rattle.pyparse_line.specs.declared.headers.found.ReadItem.{ReadItem}
 use Rattle.pyparse_line.specs.declared.headers.found.ReadItems.{ReadItems}

@@ -17,9 +17,9 @@ use Rattle.pygrammar.specs.Forms.{alias}
 use Rattle.pygrammar.specs.LineReader.{always, commas_of, dotted, import_from, import_of, name_alias, read_as, read_dots, read_dotted, read_name, read_names, starts_name}
 use Rattle.pygrammar.specs.Looks.{is_op, is_word, name_in}
 use Rattle.pygrammar.specs.Reader.{Answer, Found, NoForm, TooDeep, and_then, closed, on_first, on_some}
-use Rattle.pyparse_expr.specs.declared.stop.Stop.{Stop}
-use Rattle.pyparse_expr.specs.Answers.{Failed, PartAt}
-use Rattle.pyparse_expr.specs.Views.{Stands, first_is, seen}
+use Rattle.pyparse_nodes.specs.declared.stop.Stop.{Stop}
+use Rattle.pyparse_nodes.specs.Answers.{Failed, PartAt}
+use Rattle.pyparse_nodes.specs.Views.{Stands, first_is, seen}
 use Rattle.pyparse_expr.proofs.Callers.Looks.{failed_then, first_miss, seen_length, seen_next}
 use Rattle.pyparse_line.specs.Inner.Imports.{dots_at, dots_in}
 use Rattle.pyparse_line.proofs.statements.Callers.Parts.{name_next}

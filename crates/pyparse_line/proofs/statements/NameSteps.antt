@@ -9,8 +9,8 @@ use Rattle.pytoken.specs.declared.values.terminals.Terminal as given
 use Rattle.pygrammar.specs.LineReader.{read_as, read_name}
 use Rattle.pygrammar.specs.Looks.{is_word, name_in}
 use Rattle.pygrammar.specs.Reader.{Found, NoForm, on_first}
-use Rattle.pyparse_expr.specs.Answers.{PartAt}
-use Rattle.pyparse_expr.specs.Views.{Stands, first_is, seen}
+use Rattle.pyparse_nodes.specs.Answers.{PartAt}
+use Rattle.pyparse_nodes.specs.Views.{Stands, first_is, seen}
 use Rattle.pyparse_expr.proofs.Callers.Looks.{first_miss}
 use Rattle.pyparse_line.proofs.statements.Callers.Parts.{name_next}
 

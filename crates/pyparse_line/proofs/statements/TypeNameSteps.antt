@@ -14,7 +14,7 @@ use Rattle.pygrammar.specs.Forms.{type_name}
 use Rattle.pygrammar.specs.LineReader.{is_type, on_type}
 use Rattle.pygrammar.specs.Looks.{name_in}
 use Rattle.pygrammar.specs.Reader.{Answer, on_first}
-use Rattle.pyparse_expr.specs.Views.{first_is, seen}
+use Rattle.pyparse_nodes.specs.Views.{first_is, seen}
 use Rattle.pyparse_expr.proofs.Callers.Looks.{first_hit, first_miss, seen_next}
 use Rattle.pyparse_line.specs.Inner.Types.{HasNoTypeName, HasTypeName}
 use Rattle.pyparse_line.proofs.statements.Callers.Parts.{name_next}

@@ -4,8 +4,8 @@ use Rattle.pytoken.specs.declared.values.terminals.Terminal.{Terminal}
 use Rattle.pygrammar.specs.Lines.{Form}
 use Rattle.pygrammar.specs.Reader.{Answer}
 use Rattle.pygrammar.specs.FormOf.{form_of}
-use Rattle.pyparse_expr.specs.declared.stop.Stop.{Stop}
-use Rattle.pyparse_expr.specs.Answers.{PartAnswered}
+use Rattle.pyparse_nodes.specs.declared.stop.Stop.{Stop}
+use Rattle.pyparse_nodes.specs.Answers.{PartAnswered}
 use Rattle.pyparse_line.specs.declared.found.ReadForm.{ReadForm}
 
 -- a form is the reader's answer, or there is none, for the reader's reason

@@ -9,8 +9,8 @@ use Rattle.pygrammar.specs.Entries.{Of}
 use Rattle.pygrammar.specs.Precedence.{starts}
 use Rattle.pygrammar.specs.LineReader.{always}
 use Rattle.pygrammar.specs.Reader.{Answer}
-use Rattle.pyparse_expr.specs.declared.stop.Stop.{Stop}
-use Rattle.pyparse_expr.specs.Answers.{PartAnswered}
+use Rattle.pyparse_nodes.specs.declared.stop.Stop.{Stop}
+use Rattle.pyparse_nodes.specs.Answers.{PartAnswered}
 use Rattle.pyparse_line.specs.declared.headers.found.ReadItems.{ReadItems}
 
 -- whether another item follows a comma: in brackets where an expression begins, else always

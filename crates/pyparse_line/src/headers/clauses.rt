@@ -5,17 +5,17 @@
 ghost use Rattle.std.specs.Prelude.{◌≡◌, ◌+◌, ◌≤◌, None, false, length};
 ghost use Rattle.pygrammar.specs.LineReader as line_reader;
 ghost use Rattle.pygrammar.specs.Lines as lines;
-ghost use Rattle.pyparse_expr.specs.Views.{seen};
+ghost use Rattle.pyparse_nodes.specs.Views.{seen};
 ghost use Rattle.pygrammar.specs.FormOf.{header_of};
 ghost use Rattle.pyparse_line.specs.Answers.{HeaderAnswered};
 ghost use Rattle.pyparse_expr.specs.Readings.{reads};
 
 use crate::headers::found::ReadHeader;
-use pyparse_expr::{Depth, Stop, is_op, read_at};
-use pygrammar::Header;
-use pygrammar::Level;
-use pylex::Exact;
 use crate::statements::{read_as, starts_expression};
+use pygrammar::{Header, Level};
+use pylex::Exact;
+use pyparse_expr::{Depth, read_at};
+use pyparse_nodes::{Stop, is_op};
 use pytoken::Terminal;
 use std::alloc::Global;
 

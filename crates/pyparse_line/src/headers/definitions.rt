@@ -11,20 +11,17 @@ ghost use Rattle.pygrammar.specs.Lines as lines;
 ghost use Rattle.pygrammar.specs.FormOf.{header_of};
 ghost use Rattle.pyparse_line.specs.Answers.{HeaderAnswered};
 ghost use Rattle.pyparse_expr.specs.Readings.{reads};
-ghost use Rattle.pyparse_expr.specs.Views.{seen};
+ghost use Rattle.pyparse_nodes.specs.Views.{seen};
 ghost use Rattle.pyparse_line.specs.Inner.Definitions.{class_from, function_from};
 
 use crate::headers::found::ReadHeader;
-use pyparse_expr::{
-    Depth, Optional, ReadArguments, ReadParameters, Stop, arguments_at, identifier_of, is_op,
-    name_at, parameters_at,
-};
-use pygrammar::{DefHead, Header};
-use pygrammar::Level;
-use pylex::Exact;
-use pytree_node::{Identifier, Profile};
 use crate::statements::{ReadTypeParams, after_sign, read_type_params};
+use pygrammar::{DefHead, Header, Level};
+use pylex::Exact;
+use pyparse_expr::{Depth, ReadArguments, ReadParameters, arguments_at, parameters_at};
+use pyparse_nodes::{Optional, Stop, identifier_of, is_op, name_at};
 use pytoken::Terminal;
+use pytree_node::{Identifier, Profile};
 use std::alloc::Global;
 
 /// The header of a `def`, of its parts.

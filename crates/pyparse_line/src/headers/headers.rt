@@ -3,7 +3,7 @@
 ghost use Rattle.std.specs.Prelude.{◌≡◌, ◌+◌, ◌≤◌, length};
 ghost use Rattle.pytoken.specs.Terminals as plain;
 ghost use Rattle.pygrammar.specs.LineReader as line_reader;
-ghost use Rattle.pyparse_expr.specs.Views.{Stands, seen};
+ghost use Rattle.pyparse_nodes.specs.Views.{Stands, seen};
 ghost use Rattle.pyparse_line.specs.Answers.{HeaderAnswered};
 ghost use Rattle.pyparse_expr.specs.Readings.{reads};
 
@@ -13,10 +13,10 @@ use crate::headers::found::ReadHeader;
 use crate::headers::loops::{for_rest, with_rest};
 use crate::headers::tests::{elif_rest, if_rest, while_rest};
 use crate::headers::words::word_at;
-use pyparse_expr::{Depth, Stop};
+use pyparse_expr::Depth;
+use pyparse_nodes::Stop;
+use pytoken::{Keyword, Terminal};
 use pytree_node::Profile;
-use pytoken::Keyword;
-use pytoken::Terminal;
 use std::alloc::Global;
 
 /// A header that begins with `async`.

@@ -3,13 +3,14 @@
 ghost use Rattle.std.specs.Prelude.{◌≡◌, ◌+◌, ◌≤◌, length};
 ghost use Rattle.pytree_node.specs.TreeOf.{tree_of};
 ghost use Rattle.pygrammar.specs.LineReader as line_reader;
-ghost use Rattle.pyparse_expr.specs.Answers.{PartAnswered};
+ghost use Rattle.pyparse_nodes.specs.Answers.{PartAnswered};
 ghost use Rattle.pyparse_expr.specs.Readings.{reads};
-ghost use Rattle.pyparse_expr.specs.Views.{seen};
+ghost use Rattle.pyparse_nodes.specs.Views.{seen};
 
-use pyparse_expr::{Depth, Read, Stop, is_op, read_at, starred, stored};
 use pygrammar::Level;
 use pylex::Exact;
+use pyparse_expr::{Depth, read_at};
+use pyparse_nodes::{Read, Stop, is_op, starred, stored};
 use pytoken::Terminal;
 use std::alloc::Global;
 

@@ -7,20 +7,20 @@ ghost use Rattle.pytree_node.specs.TreeOf.{item_of, tree_of};
 ghost use Rattle.pytree_node.specs.Trees as plain;
 ghost use Rattle.pygrammar.specs.Forms.{item};
 ghost use Rattle.pygrammar.specs.LineReader as line_reader;
-ghost use Rattle.pyparse_expr.specs.Views.{seen};
-ghost use Rattle.pyparse_expr.specs.Answers.{PartAnswered};
+ghost use Rattle.pyparse_nodes.specs.Views.{seen};
+ghost use Rattle.pyparse_nodes.specs.Answers.{PartAnswered};
 ghost use Rattle.pyparse_expr.specs.Readings.{reads};
 ghost use Rattle.pyparse_line.specs.Inner.Items.{ItemsAnswered, more_items};
 
 use crate::headers::found::{ReadItem, ReadItems};
 use crate::headers::item_targets::item_target;
-use pyparse_expr::{Depth, Read, Stop, append, is_op, is_word, read_at};
+use crate::statements::starts_expression;
 use pygrammar::Level;
 use pylex::Exact;
+use pyparse_expr::{Depth, read_at};
+use pyparse_nodes::{Read, Stop, append, is_op, is_word};
+use pytoken::{Keyword, Terminal};
 use pytree_node::Item;
-use crate::statements::starts_expression;
-use pytoken::Keyword;
-use pytoken::Terminal;
 use std::alloc::Global;
 
 /// An item with no target.

@@ -5,17 +5,16 @@
 
 ghost use Rattle.std.specs.Prelude.{◌≡◌, ◌+◌, ◌≤◌, length};
 ghost use Rattle.pygrammar.specs.LineReader as line_reader;
-ghost use Rattle.pyparse_expr.specs.Views.{seen};
+ghost use Rattle.pyparse_nodes.specs.Views.{seen};
 ghost use Rattle.pyparse_line.specs.Answers.{HeaderAnswered};
 ghost use Rattle.pyparse_expr.specs.Readings.{reads};
 
 use crate::headers::found::ReadHeader;
 use crate::headers::items::read_items;
-use pyparse_expr::{Depth, Stop, is_word, read_at, stored, target_at};
-use pygrammar::{Header, LoopHead};
-use pygrammar::Level;
-use pytoken::Keyword;
-use pytoken::Terminal;
+use pygrammar::{Header, Level, LoopHead};
+use pyparse_expr::{Depth, read_at, target_at};
+use pyparse_nodes::{Stop, is_word, stored};
+use pytoken::{Keyword, Terminal};
 use std::alloc::Global;
 
 /// Behind a `for`.

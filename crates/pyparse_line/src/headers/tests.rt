@@ -5,14 +5,14 @@
 ghost use Rattle.std.specs.Prelude.{◌≡◌, ◌+◌, ◌≤◌, length};
 ghost use Rattle.pygrammar.specs.Lines as lines;
 ghost use Rattle.pygrammar.specs.Reader as reader;
-ghost use Rattle.pyparse_expr.specs.Views.{seen};
+ghost use Rattle.pyparse_nodes.specs.Views.{seen};
 ghost use Rattle.pyparse_line.specs.Answers.{HeaderAnswered};
 ghost use Rattle.pyparse_expr.specs.Readings.{reads};
 
 use crate::headers::found::ReadHeader;
-use pyparse_expr::{Depth, Stop, read_at};
-use pygrammar::{Header, LoopHead};
-use pygrammar::Level;
+use pygrammar::{Header, Level, LoopHead};
+use pyparse_expr::{Depth, read_at};
+use pyparse_nodes::Stop;
 use pytoken::Terminal;
 use std::alloc::Global;
 

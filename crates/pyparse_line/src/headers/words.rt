@@ -3,12 +3,11 @@
 ghost use Rattle.std.specs.Prelude.{◌≡◌, ◌<◌, MatchOption, None, length};
 ghost use Rattle.pytoken.specs.Terminals as plain;
 ghost use Rattle.pytoken.specs.TerminalOf.{terminal};
-ghost use Rattle.pyparse_expr.specs.Views.{Stands, first_is, seen};
+ghost use Rattle.pyparse_nodes.specs.Views.{Stands, first_is, seen};
 ghost use Rattle.pyparse_line.specs.Inner.Words.{word_in};
 
-use pyparse_expr::terminal_at;
-use pytoken::Keyword;
-use pytoken::Terminal;
+use pyparse_nodes::terminal_at;
+use pytoken::{Keyword, Terminal};
 
 /// The word that a terminal is.
 fn word_of(t: Terminal) -> Option<Keyword>

@@ -7,16 +7,16 @@ ghost use Rattle.std.specs.Str.{chars, encode_utf8_all};
 ghost use Rattle.unicode_normalization.specs.Forms.{nfkc};
 ghost use Rattle.pytree_node.specs.TreeOf.{alias_of};
 ghost use Rattle.pygrammar.specs.LineReader as line;
-ghost use Rattle.pyparse_expr.specs.Answers.{PartAnswered};
-ghost use Rattle.pyparse_expr.specs.Views.{seen};
+ghost use Rattle.pyparse_nodes.specs.Answers.{PartAnswered};
+ghost use Rattle.pyparse_nodes.specs.Views.{seen};
 ghost use Rattle.pyparse_line.specs.Inner.Imports.{more_names};
 
 use crate::statements::found::{ReadAlias, ReadAliases, ReadName};
 use crate::statements::names::{read_as, read_name};
-use pyparse_expr::{Stop, is_op, name_at};
 use pylex::Exact;
-use pytree_node::{Alias, Identifier};
+use pyparse_nodes::{Stop, is_op, name_at};
 use pytoken::{Terminal, name_value};
+use pytree_node::{Alias, Identifier};
 use std::alloc::Global;
 
 /// Appends the name that a NAME of this text stands for.

@@ -7,7 +7,7 @@ ghost use Rattle.pytree_node.specs.TreeOf.{boxed_of, stmt_of, tree_of};
 ghost use Rattle.pytree_node.specs.Trees as plain;
 
 use crate::statements::found::ReadStatement;
-use pyparse_expr::{Items, Optional, Read};
+use pyparse_nodes::{Items, Optional, Read};
 use pytree_node::{Operator, Stmt};
 
 /// An annotation.

@@ -11,17 +11,16 @@ ghost use Rattle.pytoken.specs.TerminalOf.{terminal};
 ghost use Rattle.pygrammar.specs.Forms as forms;
 ghost use Rattle.pygrammar.specs.LineReader as line;
 ghost use Rattle.pygrammar.specs.Reader as reader;
-ghost use Rattle.pyparse_expr.specs.Answers.{PartAnswered};
-ghost use Rattle.pyparse_expr.specs.Views.{seen};
+ghost use Rattle.pyparse_nodes.specs.Answers.{PartAnswered};
+ghost use Rattle.pyparse_nodes.specs.Views.{seen};
 ghost use Rattle.pyparse_line.specs.Inner.Imports.{dots_at, dots_in};
 
 use crate::statements::aliases::{dotted_aliases, name_aliases, read_dotted};
 use crate::statements::found::{ReadAliases, ReadDots, ReadStatement};
-use pyparse_expr::{Stop, append, is_op, is_word, terminal_at};
 use pylex::Exact;
+use pyparse_nodes::{Stop, append, is_op, is_word, terminal_at};
+use pytoken::{Keyword, Terminal};
 use pytree_node::{Alias, Identifier, Stmt};
-use pytoken::Keyword;
-use pytoken::Terminal;
 use std::alloc::Global;
 
 /// How many dots a terminal stands for.

@@ -2,14 +2,13 @@
 
 ghost use Rattle.std.specs.Prelude.{◌+◌, ◌≤◌, length};
 ghost use Rattle.pygrammar.specs.LineReader as line;
-ghost use Rattle.pyparse_expr.specs.Answers.{PartAnswered};
-ghost use Rattle.pyparse_expr.specs.Views.{seen};
+ghost use Rattle.pyparse_nodes.specs.Answers.{PartAnswered};
+ghost use Rattle.pyparse_nodes.specs.Views.{seen};
 
 use crate::statements::found::{ReadAs, ReadName, ReadNames};
-use pyparse_expr::{Stop, identifier_of, is_op, is_word, name_at};
 use pylex::Exact;
-use pytoken::Keyword;
-use pytoken::Terminal;
+use pyparse_nodes::{Stop, identifier_of, is_op, is_word, name_at};
+use pytoken::{Keyword, Terminal};
 use std::alloc::Global;
 
 /// A name.

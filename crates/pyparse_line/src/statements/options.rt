@@ -6,16 +6,16 @@ ghost use Rattle.pytoken.specs.Terminals as tokens_of;
 ghost use Rattle.pygrammar.specs.Entries as entries;
 ghost use Rattle.pygrammar.specs.LineReader as line;
 ghost use Rattle.pygrammar.specs.Precedence as precedence;
-ghost use Rattle.pyparse_expr.specs.Answers.{PartAnswered};
+ghost use Rattle.pyparse_nodes.specs.Answers.{PartAnswered};
 ghost use Rattle.pyparse_expr.specs.Readings.{reads};
-ghost use Rattle.pyparse_expr.specs.Views.{seen};
+ghost use Rattle.pyparse_nodes.specs.Views.{seen};
 
-use pyparse_expr::{Depth, Optional, Read, Stop, is_op, is_word, lead_at, read_at};
 use pygrammar::Level;
 use pylex::Exact;
+use pyparse_expr::{Depth, read_at};
+use pyparse_nodes::{Optional, Read, Stop, is_op, is_word, lead_at};
+use pytoken::{Keyword, Terminal};
 use pytree_node::Expr;
-use pytoken::Keyword;
-use pytoken::Terminal;
 use std::alloc::Global;
 
 /// No expression, at a place.
@@ -58,7 +58,7 @@ pub fn starts_expression(tokens: &[Terminal], at: usize) -> bool
     ensures is { result ≡ precedence.starts (entries.Of Level.Expression) (seen tokens.now at) }
     ensures within { result ≡ true → at < length tokens.now }
 {
-    lead_at(tokens, at) >= 9
+    lead_at(tokens, at) >= Level::Expression.rank()
 }
 
 /// Whether expressions and starred ones begin at the place.
@@ -67,7 +67,7 @@ fn starts_stars(tokens: &[Terminal], at: usize) -> bool
     ensures is { result ≡ precedence.starts (entries.Of Level.Stars) (seen tokens.now at) }
     ensures within { result ≡ true → at < length tokens.now }
 {
-    lead_at(tokens, at) >= 7
+    lead_at(tokens, at) >= Level::Elem.rank()
 }
 
 /// Expressions and starred ones, if any begin at the place.

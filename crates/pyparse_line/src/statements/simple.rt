@@ -10,22 +10,24 @@ ghost use Rattle.pygrammar.specs.Entries as entries;
 ghost use Rattle.pygrammar.specs.LineReader as line;
 ghost use Rattle.pygrammar.specs.Precedence as precedence;
 ghost use Rattle.pygrammar.specs.Reader as reader;
-ghost use Rattle.pyparse_expr.specs.Answers.{PartAnswered};
+ghost use Rattle.pyparse_nodes.specs.Answers.{PartAnswered};
 ghost use Rattle.pyparse_expr.specs.Readings.{reads};
-ghost use Rattle.pyparse_expr.specs.Views.{seen};
+ghost use Rattle.pyparse_nodes.specs.Views.{seen};
 ghost use Rattle.pytree_node.specs.TreeOf.{tree_of};
 ghost use Rattle.pyparse_line.specs.Inner.Simple.{asserts, deletes, globals, nonlocals, raises};
 ghost use Rattle.pyparse_line.specs.Inner.Simple.{returns};
 
 use crate::statements::found::ReadStatement;
 use crate::statements::names::read_names;
-use crate::statements::options::{after_sign, after_word, stars_or_none, starts_expression, unboxed};
-use pyparse_expr::{Depth, Items, Read, Stop, deleted, is_op, no_items, push, read_at};
+use crate::statements::options::{
+    after_sign, after_word, stars_or_none, starts_expression, unboxed,
+};
 use pygrammar::Level;
 use pylex::Exact;
+use pyparse_expr::{Depth, no_items, push, read_at};
+use pyparse_nodes::{Items, Read, Stop, deleted, is_op};
+use pytoken::{Keyword, Terminal};
 use pytree_node::Stmt;
-use pytoken::Keyword;
-use pytoken::Terminal;
 use std::alloc::Global;
 
 /// A `pass`.

@@ -7,9 +7,9 @@ ghost use Rattle.std.specs.Prelude.{suc};
 ghost use Rattle.pytree_node.specs.TreeOf.{stmt_of};
 ghost use Rattle.pytoken.specs.Terminals as terminals;
 ghost use Rattle.pygrammar.specs.LineReader as line;
-ghost use Rattle.pyparse_expr.specs.Answers.{PartAnswered};
+ghost use Rattle.pyparse_nodes.specs.Answers.{PartAnswered};
 ghost use Rattle.pyparse_expr.specs.Readings.{reads};
-ghost use Rattle.pyparse_expr.specs.Views.{Stands, seen};
+ghost use Rattle.pyparse_nodes.specs.Views.{Stands, seen};
 ghost use Rattle.pyparse_line.specs.Inner.Simple.{begun};
 
 use crate::statements::found::{ReadStatement, ReadStatements};
@@ -20,11 +20,11 @@ use crate::statements::simple::{
 use crate::statements::type_names::type_name_at;
 use crate::statements::types::type_alias;
 use crate::statements::values::value_statement;
-use pyparse_expr::{Depth, Stop, append, is_op, terminal_at};
 use pylex::Exact;
+use pyparse_expr::Depth;
+use pyparse_nodes::{Stop, append, is_op, terminal_at};
+use pytoken::{Keyword, Terminal};
 use pytree_node::Profile;
-use pytoken::Keyword;
-use pytoken::Terminal;
 use std::alloc::Global;
 
 /// A statement with no keyword in front: a `type`, or one that begins with a value.

@@ -7,13 +7,13 @@ ghost use Rattle.std.specs.Str.{bytes_eq, chars};
 ghost use Rattle.unicode_normalization.specs.Forms.{nfkc};
 ghost use Rattle.pygrammar.specs.Forms.{type_name};
 ghost use Rattle.pygrammar.specs.LineReader as reader;
-ghost use Rattle.pyparse_expr.specs.Views.{first_is, seen};
+ghost use Rattle.pyparse_nodes.specs.Views.{first_is, seen};
 ghost use Rattle.pytoken.specs.TerminalOf.{terminal};
 ghost use Rattle.pyparse_line.specs.Inner.Types.{HasNoTypeName, HasTypeName};
 
-use pyparse_expr::{name_at, terminal_at};
-use pytree_node::Profile;
+use pyparse_nodes::{name_at, terminal_at};
 use pytoken::Terminal;
+use pytree_node::Profile;
 
 /// Whether a text is `type`.
 fn spells_type(text: &str) -> bool

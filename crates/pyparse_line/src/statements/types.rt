@@ -10,21 +10,21 @@ ghost use Rattle.pytree_node.specs.TreeOf.{boxed_of, stmt_of, tree_of, type_para
 ghost use Rattle.pytree_node.specs.Trees as plain;
 ghost use Rattle.pytoken.specs.TerminalOf.{terminal};
 ghost use Rattle.pygrammar.specs.LineReader as line;
-ghost use Rattle.pyparse_expr.specs.Answers.{PartAnswered};
+ghost use Rattle.pyparse_nodes.specs.Answers.{PartAnswered};
 ghost use Rattle.pyparse_expr.specs.Readings.{reads};
-ghost use Rattle.pyparse_expr.specs.Views.{seen};
+ghost use Rattle.pyparse_nodes.specs.Views.{seen};
 ghost use Rattle.pyparse_line.specs.Inner.Types.{begins_type_param, type_var};
 
 use crate::statements::found::{ReadStatement, ReadTypeParam, ReadTypeParams};
 use crate::statements::options::{after_sign, unboxed};
-use pyparse_expr::{
-    Depth, Optional, Read, Stop, append, identifier_of, is_op, make_name, name_at, read_at,
-    terminal_at,
-};
 use pygrammar::Level;
 use pylex::Exact;
-use pytree_node::{Context, Profile, Stmt, TypeParam};
+use pyparse_expr::{Depth, read_at};
+use pyparse_nodes::{
+    Optional, Read, Stop, append, identifier_of, is_op, make_name, name_at, terminal_at,
+};
 use pytoken::Terminal;
+use pytree_node::{Context, Profile, Stmt, TypeParam};
 use std::alloc::Global;
 
 /// A parameter with a bound, by its parts.

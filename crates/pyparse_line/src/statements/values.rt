@@ -12,21 +12,21 @@ ghost use Rattle.pytoken.specs.TerminalOf.{terminal};
 ghost use Rattle.pygrammar.specs.Forms as forms;
 ghost use Rattle.pygrammar.specs.LineReader as line;
 ghost use Rattle.pygrammar.specs.Reader as reader;
-ghost use Rattle.pyparse_expr.specs.Answers.{PartAnswered};
+ghost use Rattle.pyparse_nodes.specs.Answers.{PartAnswered};
 ghost use Rattle.pyparse_expr.specs.Readings.{reads};
-ghost use Rattle.pyparse_expr.specs.Views.{Stands, first_is, seen};
+ghost use Rattle.pyparse_nodes.specs.Views.{Stands, first_is, seen};
 
 use crate::statements::assignments::{annotation_of, assignment_of, augmented_of, expression_of};
 use crate::statements::found::ReadStatement;
 use crate::statements::options::after_sign;
-use pyparse_expr::{
-    Depth, Items, Read, Stop, is_op, make_name, name_with, no_items, push, read_at, single_stored,
-    stored, terminal_at,
-};
 use pygrammar::Level;
 use pylex::Exact;
-use pytree_node::{Context, Operator};
+use pyparse_expr::{Depth, no_items, push, read_at};
+use pyparse_nodes::{
+    Items, Read, Stop, is_op, make_name, name_with, single_stored, stored, terminal_at,
+};
 use pytoken::Terminal;
+use pytree_node::{Context, Operator};
 use std::alloc::Global;
 
 /// Behind the colon of an annotation.

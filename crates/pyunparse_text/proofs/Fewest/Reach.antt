@@ -15,8 +15,7 @@ use Rattle.pygrammar.specs.declared.levels.Level.{Level}
 use Rattle.pygrammar.specs.declared.levels.Level.TheVariants.{Value, Stars, StarItem, Named, Expression, Or, And, Not, Compare, BitOr, BitXor, BitAnd, Shift, Sum, Term, Factor, Power, Await, Primary, Atom, Elem, Slices, Part, Slice}
 use Rattle.pytree_node.specs.Trees.{Expr}
 use Rattle.pytoken.specs.Terminals.{Terminal}
-use Rattle.pygrammar.specs.Operators.{below, chain_level}
-use Rattle.pygrammar.specs.Precedence.{rank}
+use Rattle.pygrammar.specs.Operators.{below, chain_level, rank}
 use Rattle.pygrammar.specs.Grammar as G
 use Rattle.pyunparse_text.specs.Levels.{leads, reaches, operator_level, unary_level}
 use Rattle.pyunparse_text.specs.Written.{bracketed, fit}

@@ -4,8 +4,7 @@
 use Rattle.std.proofs.Common.{◌≡◌, ◌≤◌, ℕ, suc, ◌||◌, ◌==◌, false, refl, arith, leb}
 use Rattle.pygrammar.specs.declared.levels.Level.{Level}
 use Rattle.pygrammar.specs.declared.levels.Level.TheVariants.{Value, Stars, StarItem, Named, Elem, Slices, Part, Slice}
-use Rattle.pygrammar.specs.Operators.{below}
-use Rattle.pygrammar.specs.Precedence.{rank}
+use Rattle.pygrammar.specs.Operators.{below, rank}
 use Rattle.pyunparse_text.specs.Levels.{leads, reaches}
 
 -- from `Expression` on inwards all levels are in one chain

@@ -2,7 +2,7 @@ use Rattle.std.proofs.Common.{◌-◌, ◌≤◌, length, map}
 use Rattle.pytree_node.specs.TreeOf.{item_of}
 use Rattle.pygrammar.specs.LineReader.{commas_of, read_item}
 use Rattle.pyparse_expr.specs.Readings.{reads}
-use Rattle.pyparse_expr.specs.Views.{seen}
+use Rattle.pyparse_nodes.specs.Views.{seen}
 use Rattle.pyparse_line.proofs.statements.Callers.Commas.{Listed}
 use Rattle.pyparse_line.specs.Inner.Items.{more_items}
 use Rattle.pyparse_line.proofs.headers.items.items_at.Given as goal

@@ -1,6 +1,6 @@
 use Rattle.std.proofs.Common.{◌≤◌, ◌-◌, length}
 use Rattle.pygrammar.specs.LineReader.{always, commas_of, read_name}
-use Rattle.pyparse_expr.specs.Views.{seen}
+use Rattle.pyparse_nodes.specs.Views.{seen}
 use Rattle.pyparse_line.proofs.statements.Callers.Commas.{Listed}
 use Rattle.pyparse_line.proofs.statements.names.read_names.Given as goal
 

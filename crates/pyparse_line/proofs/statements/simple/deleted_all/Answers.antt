@@ -4,7 +4,7 @@ use Rattle.pygrammar.specs.Entries.{Of}
 use Rattle.pygrammar.specs.LineReader.{deleted_one}
 use Rattle.pygrammar.specs.Precedence.{starts}
 use Rattle.pyparse_expr.specs.Readings.{reads}
-use Rattle.pyparse_expr.specs.Views.{seen}
+use Rattle.pyparse_nodes.specs.Views.{seen}
 use Rattle.pyparse_line.proofs.statements.Callers.Commas.{list_end, list_failed, list_last, list_more, list_start}
 use Rattle.pyparse_line.proofs.statements.simple.deleted_all.Goals as goal
 

@@ -5,7 +5,7 @@ use Rattle.pygrammar.specs.Entries.{Of}
 use Rattle.pygrammar.specs.LineReader.{commas_of, deleted_one}
 use Rattle.pygrammar.specs.Precedence.{starts}
 use Rattle.pyparse_expr.specs.Readings.{reads}
-use Rattle.pyparse_expr.specs.Views.{seen}
+use Rattle.pyparse_nodes.specs.Views.{seen}
 use Rattle.pyparse_line.proofs.statements.Callers.Commas.{Listed}
 use Rattle.pyparse_line.proofs.statements.simple.deleted_all.Given as goal
 

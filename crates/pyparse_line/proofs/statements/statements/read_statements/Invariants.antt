@@ -2,7 +2,7 @@ use Rattle.std.proofs.Common.{◌≤◌, ◌-◌, length, map, suc}
 use Rattle.pytree_node.specs.TreeOf.{stmt_of}
 use Rattle.pygrammar.specs.LineReader.{statements}
 use Rattle.pyparse_expr.specs.Readings.{reads}
-use Rattle.pyparse_expr.specs.Views.{seen}
+use Rattle.pyparse_nodes.specs.Views.{seen}
 use Rattle.pyparse_line.proofs.statements.StatementSteps.{Runs}
 use Rattle.pyparse_line.proofs.statements.statements.read_statements.Given as goal
 

@@ -1,7 +1,7 @@
 use Rattle.std.proofs.Common.{◌+◌, ◌∙◌, ap, arith, rules, sym}
 use Rattle.pygrammar.specs.LineReader.{read_type_param, starts_type_param}
 use Rattle.pyparse_expr.specs.Readings.{reads}
-use Rattle.pyparse_expr.specs.Views.{seen}
+use Rattle.pyparse_nodes.specs.Views.{seen}
 use Rattle.pyparse_line.proofs.statements.Callers.Commas.{list_end, list_failed, list_last, list_more, list_start}
 use Rattle.pyparse_line.proofs.statements.types.type_params.Goals as goal
 

@@ -1,5 +1,0 @@
-use Rattle.pyparse_expr.proofs.FormalParameters.FormalNodes.{node_is}
-use Rattle.pyparse_expr.proofs.parameters.node_of.Goals as goal
-
-pub returns : goal.returns
-returns c = node_is _ c.args.formal.stage c.args.formal.defaulted

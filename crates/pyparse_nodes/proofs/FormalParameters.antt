@@ -1,0 +1,3 @@
+-- Parameters.
+pub mod FormalSteps
+pub mod FormalNodes

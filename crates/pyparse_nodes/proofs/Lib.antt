@@ -1,0 +1,4 @@
+pub mod Callers
+mod Places
+mod FormalParameters
+mod Stores

@@ -1,0 +1,19 @@
+-- Neighbouring literals behind a first one, of this value.
+use Rattle.std.specs.Prelude.{◌≡◌, List, [], ◌∷◌}
+use Rattle.pytree_node.specs.Trees.{Expr}
+use Rattle.pytree_node.specs.Values.{Value}
+use Rattle.pytoken.specs.Terminals.{Terminal, Literal}
+use Rattle.pygrammar.specs.Constants.{joined}
+use Rattle.pygrammar.specs.Reader.{Answer, and_then, made, constant_of, string_run}
+use Rattle.pyparse_nodes.specs.declared.stop.Stop.{Stop}
+use Rattle.pyparse_nodes.specs.Answers.{Failed}
+
+abbrev pub run : Value → List Terminal → Answer Expr
+run v r = and_then (string_run [] r) (λ vs s. made (constant_of (joined v vs)) s)
+
+-- one more literal makes one value of another; or it may not stand behind it
+pub record Joins (v w new : Value) : Type 0 where
+  pub is : (r : List Terminal) → run v (Literal w ∷ r) ≡ run new r
+
+pub record Parts (s : Stop) (v w : Value) : Type 0 where
+  pub is : (r : List Terminal) → Failed s (run v (Literal w ∷ r))

@@ -1,0 +1,124 @@
+//! Neighbouring literals.
+
+ghost use Rattle.std.specs.Prelude.{◌≡◌, ◌++◌, ◌≤◌, MatchResult, length};
+ghost use Rattle.pytree_node.specs.Values as values;
+ghost use Rattle.pytoken.specs.StringValues.{string_value};
+ghost use Rattle.pytoken.specs.TerminalOf.{literal_characters};
+ghost use Rattle.pyparse_nodes.specs.Answers.{Answered};
+ghost use Rattle.pyparse_nodes.specs.Runs.{Joins, Parts, run};
+ghost use Rattle.pyparse_nodes.specs.Views.{seen};
+
+use crate::found::Read;
+use crate::looks::literal_at;
+use crate::makers::make_constant;
+use crate::stop::Stop;
+use pytoken::{Literal, LiteralText, Terminal};
+use pytree_node::{Constant, Points};
+use std::alloc::{AllocError, Global};
+
+/// Appends the code points of a text.
+fn add_points(to: &mut Points, points: &Points) -> Result<(), AllocError>
+    ensures { MatchResult result (λ _. to.new ≡ to.old ++ points.now) (λ _. Unit {0}) }
+{
+    for point in points.as_slice() {
+        to.push(*point)?;
+    }
+    Ok(())
+}
+
+/// A text with one more behind it.
+#[tactic(auto, using(crate::proofs::Places::Runs::text_turn, crate::proofs::Places::Runs::text_mixed))]
+fn add_text(alloc: Global, points: Points, unicode: bool, more: LiteralText) -> Result<Points, Stop>
+    ensures { MatchResult result
+        (λ p. Joins (values.Str points unicode) (string_value (literal_characters more.entry))
+        (values.Str p unicode))
+        (λ s. Parts s (values.Str points unicode) (string_value (literal_characters more.entry))) }
+{
+    match more.value(alloc)? {
+        Literal::Text {
+            points: more,
+            unicode: _,
+        } => {
+            let mut points = points;
+            add_points(&mut points, &more)?;
+            Ok(points)
+        }
+        Literal::Bytes(_) => Err(Stop::NoForm),
+    }
+}
+
+/// Bytes with more behind them.
+#[tactic(auto, using(crate::proofs::Places::Runs::bytes_turn, crate::proofs::Places::Runs::bytes_mixed))]
+fn add_bytes(alloc: Global, bytes: Vec<u8>, more: LiteralText) -> Result<Vec<u8>, Stop>
+    ensures { MatchResult result
+        (λ b. Joins (values.Bytes bytes.items) (string_value (literal_characters more.entry))
+        (values.Bytes b.items))
+        (λ s. Parts s (values.Bytes bytes.items) (string_value (literal_characters more.entry))) }
+{
+    match more.value(alloc)? {
+        Literal::Text {
+            points: _,
+            unicode: _,
+        } => Err(Stop::NoForm),
+        Literal::Bytes(more) => {
+            let mut bytes = bytes;
+            bytes.extend_from_slice(&more)?;
+            Ok(bytes)
+        }
+    }
+}
+
+/// Neighbouring literals, behind a first one.
+#[inline(never)]
+pub fn string_run(
+    alloc: Global,
+    tokens: &[Terminal],
+    first: LiteralText,
+    at: usize,
+) -> Result<Read, Stop>
+    requires { at ≤ length tokens.now }
+    ensures { Answered tokens.now 1 at
+        (run (string_value (literal_characters first.entry)) (seen tokens.now at)) result }
+{
+    match first.value(alloc)? {
+        Literal::Text { points, unicode } => text_run(alloc, tokens, unicode, points, at),
+        Literal::Bytes(bytes) => bytes_run(alloc, tokens, bytes, at),
+    }
+}
+
+/// Texts behind a first one.
+fn text_run(
+    alloc: Global,
+    tokens: &[Terminal],
+    unicode: bool,
+    first: Points,
+    at: usize,
+) -> Result<Read, Stop>
+    requires { at ≤ length tokens.now }
+    ensures { Answered tokens.now 1 at
+        (run (values.Str first unicode) (seen tokens.now at)) result }
+{
+    let mut points = first;
+    let mut next = at;
+    while let Some(more) = literal_at(tokens, next) {
+        points = add_text(alloc, points, unicode, more)?;
+        next += 1;
+    }
+    make_constant(alloc, Constant::Str { points, unicode }, next)
+}
+
+/// Bytes behind a first one.
+#[inline(never)]
+fn bytes_run(alloc: Global, tokens: &[Terminal], first: Vec<u8>, at: usize) -> Result<Read, Stop>
+    requires { at ≤ length tokens.now }
+    ensures { Answered tokens.now 1 at
+        (run (values.Bytes first.items) (seen tokens.now at)) result }
+{
+    let mut bytes = first;
+    let mut next = at;
+    while let Some(more) = literal_at(tokens, next) {
+        bytes = add_bytes(alloc, bytes, more)?;
+        next += 1;
+    }
+    make_constant(alloc, Constant::Bytes(bytes), next)
+}
