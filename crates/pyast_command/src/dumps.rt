@@ -8,10 +8,10 @@ ghost use Rattle.pyast_command.specs.Dumps.{Dumps};
 ghost use Rattle.pyast_command.specs.Runs.{ended_by, in_pieces, PerformsWhole, WritesFor};
 
 use crate::modules::{leave_to_exit, read_module};
-use pytree_dump::Pieces;
 use pyast_fault::Fault;
-use pysource::{ByteIn, ByteOut, write_all};
 use pyast_words::Dump;
+use pysource::{ByteIn, ByteOut, write_all};
+use pytree_dump::Pieces;
 use std::alloc::Global;
 
 /// How many bytes of text are held at least before they are written.

@@ -17,7 +17,9 @@ mod modules;
 mod runs;
 mod unparses;
 
-pub use pyast_fault::{Fault, FaultCode, RunFaultCode, SourceFaultCode, fault_text, open_source, tell};
-pub use pysource::{ByteIn, ByteOut};
+pub use pyast_fault::{
+    Fault, FaultCode, RunFaultCode, SourceFaultCode, fault_text, open_source, tell,
+};
 pub use pyast_words::{Command, Dump, Tokens, Unparse, UsageFault};
+pub use pysource::{ByteIn, ByteOut};
 pub use runs::run;

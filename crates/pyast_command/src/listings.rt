@@ -15,26 +15,26 @@ ghost use Rattle.pyast_command.specs.Runs.{HoldsFor, ended_by, Performs};
 ghost use Rattle.pyast_command.specs.Inner.Taken.{Starts, Lists};
 
 use pyast_fault::{Fault, RunFaultCode};
+use pyast_words::Tokens;
 use pylex::{Cursor, Kind, LineLister, Step, push_line};
 use pysource::{ByteIn, ByteOut, write_all};
-use pyast_words::Tokens;
 use std::alloc::{AllocError, Global};
 
-/// How many bytes of lines are held at least before they are written.
+/// How many bytes of lines are output at least before they are written.
 const ENOUGH: usize = 32_768;
 
-/// Room for what is held, so that lines of usual length take no further memory.
+/// Room for what is output, so that lines of usual length take no further memory.
 const ROOM: usize = 65_536;
 
 /// Appends the line of the cursor at which a lister stands.
-fn push_cursor(held: &mut String, lister: &LineLister) -> Result<(), AllocError>
+fn push_cursor(output: &mut String, lister: &LineLister) -> Result<(), AllocError>
     ensures ok { OnOk result
-        (string_bytes held.new ≡ string_bytes held.old ++ cursor_line lister.entry.now.shown) }
-    ensures err { OnErr result (string_bytes held.new ≡ string_bytes held.old) }
+        (string_bytes output.new ≡ string_bytes output.old ++ cursor_line lister.entry.now.shown) }
+    ensures err { OnErr result (string_bytes output.new ≡ string_bytes output.old) }
 {
     let text = lister.cursor()?.to_text()?;
-    let line = format!(in *held.allocator(); "cursor {text}\n")?;
-    held.push_str(line.as_str())
+    let line = format!(in *output.allocator(); "cursor {text}\n")?;
+    output.push_str(line.as_str())
 }
 
 /// How many entries may still be listed behind one of this kind, of those that a count allows.
@@ -59,25 +59,25 @@ fn is_reached(left: Option<u64>) -> bool
 }
 
 /// Writes the line of each entry that a lister still gives, up to a count and then that of the
-/// cursor. The last of them are left in `held`, also where a fault ends the listing, unless it is a
+/// cursor. The last of them are left in `output`, also where a fault ends the listing, unless it is a
 /// failed write.
 fn list<R: ByteIn, W: ByteOut>(
     mut lister: LineLister,
     exact: bool,
     count: Option<u64>,
-    held: &mut String,
+    output: &mut String,
     reader: &mut R,
     writer: &mut W,
 ) -> Result<(), Fault>
     requires reads { (R.seen reader.old).failures < 2 ^ 64 - 1 + fails lister.lines.reach }
     requires writes { (W.sent writer.old).failures < 2 ^ 64 - 1 }
-    requires empty { string_bytes held.old ≡ [] }
+    requires empty { string_bytes output.old ≡ [] }
     requires within { lister.lines.count ≤ source_limit }
     requires stands { (more : List ℕ) (broken : Bool) → Continues lister.lines more broken
         → (p : Parts) × StreamsIn lister p lister.shown.given more broken }
     ensures holds { Lists (R.seen reader.old) (R.seen reader.new) lister exact count
         (λ output told. HoldsFor output told (W.sent writer.old).taken (W.sent writer.new).taken
-        (string_bytes held.new) (ended_by result)) }
+        (string_bytes output.new) (ended_by result)) }
     ensures failed { ended_by result ≡ Some (Fault.Plain RunFaultCode.Write)
         → (W.sent writer.new).failures ≡ (W.sent writer.old).failures + 1 }
     ensures unfailed { ended_by result ≢ Some (Fault.Plain RunFaultCode.Write)
@@ -87,18 +87,18 @@ fn list<R: ByteIn, W: ByteOut>(
     while !is_reached(left) {
         match lister.next(reader)? {
             Step::Entry(entry) => {
-                push_line(held, &entry, lister.text(&entry), exact)?;
+                push_line(output, &entry, lister.text(&entry), exact)?;
                 left = left_behind(left, entry.kind);
-                if held.len() >= ENOUGH {
-                    write_all(writer, held.as_bytes())?;
-                    held.clear();
+                if output.len() >= ENOUGH {
+                    write_all(writer, output.as_bytes())?;
+                    output.clear();
                 }
             }
             Step::End => return Ok(()),
             Step::Fault(fault) => return Err(Fault::from(fault)),
         }
     }
-    push_cursor(held, &lister)?;
+    push_cursor(output, &lister)?;
     Ok(())
 }
 
@@ -137,7 +137,7 @@ fn is_write_failed(listed: &Result<(), Fault>) -> bool
     matches!(listed, Err(Fault::Plain(RunFaultCode::Write)))
 }
 
-/// Writes the listing of what a reader gives, read line by line. What is held at its end is written
+/// Writes the listing of what a reader gives, read line by line. What is output at its end is written
 /// before a fault is told, and a failure of that write is what ends the run then: it is met first.
 pub(crate) fn write_listing<R: ByteIn, W: ByteOut>(
     alloc: Global,
@@ -156,11 +156,18 @@ pub(crate) fn write_listing<R: ByteIn, W: ByteOut>(
         → (W.sent writer.new).failures ≡ (W.sent writer.old).failures }
 {
     let lister = begin(alloc, asked.resume.as_ref(), reader)?;
-    let mut held = String::with_capacity(alloc, ROOM)?;
-    let listed = list(lister, asked.exact, asked.count, &mut held, reader, writer);
+    let mut output = String::with_capacity(alloc, ROOM)?;
+    let listed = list(
+        lister,
+        asked.exact,
+        asked.count,
+        &mut output,
+        reader,
+        writer,
+    );
     if is_write_failed(&listed) {
         return listed;
     }
-    write_all(writer, held.as_bytes())?;
+    write_all(writer, output.as_bytes())?;
     listed
 }

@@ -12,9 +12,9 @@ ghost use Rattle.pyast_command.specs.Inner.Reading.{Refuses, ReadsModule, ReadsN
 
 use pyast_fault::Fault;
 use pylex::Lister;
-use pytree_node::{Module, Profile};
 use pyparse::parse;
 use pysource::{ByteIn, Source, decode, read_all};
+use pytree_node::{Module, Profile};
 use std::alloc::Global;
 
 /// Makes it known that the listing of a source is lawful, as the start of a lister says.

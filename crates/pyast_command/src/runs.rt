@@ -9,8 +9,8 @@ use crate::dumps::write_dump;
 use crate::listings::write_listing;
 use crate::unparses::write_unparse;
 use pyast_fault::{Fault, tell};
-use pysource::{ByteIn, ByteOut};
 use pyast_words::Command;
+use pysource::{ByteIn, ByteOut};
 use std::alloc::Global;
 
 /// Does what the command says with what a reader gives.

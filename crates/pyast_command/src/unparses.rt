@@ -8,9 +8,9 @@ ghost use Rattle.pyast_command.specs.Runs.{ended_by, whole, PerformsWhole};
 
 use crate::modules::{leave_to_exit, read_module};
 use pyast_fault::Fault;
+use pyast_words::Unparse;
 use pysource::{ByteIn, ByteOut, write_all};
 use pyunparse::unparse;
-use pyast_words::Unparse;
 use std::alloc::Global;
 
 /// Writes source text for what a reader gives, which is read whole and accepted before anything is

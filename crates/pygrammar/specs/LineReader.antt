@@ -284,26 +284,26 @@ module _ (profile : Profile) (self : Reads) where
 -- ---- Lines.
 
 -- what the first terminal of a line says
-pub data Kind : Type 0 where
-  Decorates : Kind
-  Heads : Kind
-  States : Kind
+pub data Opening : Type 0 where
+  Decorates : Opening
+  Heads : Opening
+  States : Opening
 
-abbrev pub kind : Terminal → Kind
-kind (Op Sign.At) = Decorates
-kind (Word Key.If) = Heads
-kind (Word Key.Elif) = Heads
-kind (Word Key.Else) = Heads
-kind (Word Key.While) = Heads
-kind (Word Key.For) = Heads
-kind (Word Key.With) = Heads
-kind (Word Key.Try) = Heads
-kind (Word Key.Finally) = Heads
-kind (Word Key.Except) = Heads
-kind (Word Key.Def) = Heads
-kind (Word Key.Class) = Heads
-kind (Word Key.Async) = Heads
-kind t = States
+abbrev pub opening : Terminal → Opening
+opening (Op Sign.At) = Decorates
+opening (Word Key.If) = Heads
+opening (Word Key.Elif) = Heads
+opening (Word Key.Else) = Heads
+opening (Word Key.While) = Heads
+opening (Word Key.For) = Heads
+opening (Word Key.With) = Heads
+opening (Word Key.Try) = Heads
+opening (Word Key.Finally) = Heads
+opening (Word Key.Except) = Heads
+opening (Word Key.Def) = Heads
+opening (Word Key.Class) = Heads
+opening (Word Key.Async) = Heads
+opening t = States
 
 module _ (profile : Profile) (self : Reads) where
   -- after a header's colon
@@ -312,14 +312,14 @@ module _ (profile : Profile) (self : Reads) where
   suite h (t ∷ r) = and_then (statements profile self (suc (length (t ∷ r))) (t ∷ r)) (λ ss r1. Found (header_form h (Some ss)) r1)
 
   -- r are the terminals after the first
-  abbrev pub line_of : Kind → (i r : List Terminal) → Answer Form
+  abbrev pub line_of : Opening → (i r : List Terminal) → Answer Form
   line_of Decorates i r = and_then (self Named r) (λ e r1. Found (decorator_form e) r1)
   line_of Heads i r = and_then (read_header profile self i) (λ h r1. on_first (is_op Sign.Colon) r1 (λ _ r2. suite h r2) NoForm)
   line_of States i r = and_then (statements profile self (suc (length i)) i) (λ ss r1. Found (simple_form ss) r1)
 
   abbrev pub line_front : List Terminal → Answer Form
   line_front [] = NoForm
-  line_front (t ∷ r) = line_of (kind t) (t ∷ r) r
+  line_front (t ∷ r) = line_of (opening t) (t ∷ r) r
 
   abbrev pub line : List Terminal → Answer Form
   line i = and_then (line_front i) (λ f r. on_none r (Found f []) NoForm)

@@ -26,8 +26,8 @@ use Rattle.pyparse_block.specs.declared.blocks.Blocks.{Blocks}
 use Rattle.pyparse_block.specs.StateOf.{state_of}
 use Rattle.pyparse_block.specs.declared.outline.outlines.Outline.{Outline}
 use Rattle.pyparse_block.specs.Outlines.{Follows}
-use Rattle.pyparse_block.specs.declared.outline.faults.Stop.{Stop}
-use Rattle.pyparse_block.specs.declared.outline.faults.Stop.TheVariants as variant
+use Rattle.pyparse_block.specs.declared.outline.faults.BlockStop.{BlockStop}
+use Rattle.pyparse_block.specs.declared.outline.faults.BlockStop.TheVariants as variant
 use Rattle.pyparse_block.specs.Faults.{fault_of, Blames}
 use Rattle.pyparse_tokens.specs.declared.faults.GrammarError.{GrammarError}
 use Rattle.pyparse_tokens.specs.declared.faults.ParseFault.{ParseFault}
@@ -82,16 +82,16 @@ module _ {profile : Profile} {s : Source} {k : ℕ} {end : Place} (closes : Clos
       subst (λ (c : Code). Refused profile s (at end c)) (sym is)
       (by_block {n = k} closes.clear (formed_to_end formed) first (omega (arith, size, all)) (starts_at_end closes))
 
-  end_by : {forms : List Line} (e : GrammarError) (stop : Stop) → Formed profile (first_lines s k) forms → TellsFault stop e →
+  end_by : {forms : List Line} (e : GrammarError) (stop : BlockStop) → Formed profile (first_lines s k) forms → TellsFault stop e →
       Blames forms [] stop → Refused profile s (at end (code_of e))
   end_by e (variant.Faulty f) formed tells blames = faulty_end e (fault_of f) formed tells blames
   end_by e variant.Memory formed tells blames = absurd tells
 
-  pub sound_refused : {o : Outline} {b : Blocks} (e : GrammarError) (stop : Stop) → IsSound profile s k o b → TellsFault stop e →
+  pub sound_refused : {o : Outline} {b : Blocks} (e : GrammarError) (stop : BlockStop) → IsSound profile s k o b → TellsFault stop e →
       ((xs : List Line) → run xs start ≡ Fine (state_of b) → Blames xs [] stop) → Refused profile s (at end (code_of e))
   sound_refused e stop was tells blames = end_by e stop was.formed tells (blames was.forms was.read)
 
-  pub deep_refused : {o : Outline} {p : Place} (e : GrammarError) (stop : Stop) → IsDeepAt profile s k o p → TellsFault stop e →
+  pub deep_refused : {o : Outline} {p : Place} (e : GrammarError) (stop : BlockStop) → IsDeepAt profile s k o p → TellsFault stop e →
       ((xs : List Line) → Follows xs o → Blames xs [] stop) → Refused profile s (at end (code_of e))
   deep_refused e stop was tells blames = end_by e stop was.formed tells (blames was.forms was.follows)
 

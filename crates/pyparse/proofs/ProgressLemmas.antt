@@ -20,8 +20,8 @@ use Rattle.pyparse_block.specs.declared.blocks.Blocks.{Blocks}
 use Rattle.pyparse_block.specs.StateOf.{state_of}
 use Rattle.pyparse_block.specs.declared.outline.outlines.Outline.{Outline}
 use Rattle.pyparse_block.specs.Outlines.{Follows}
-use Rattle.pyparse_block.specs.declared.outline.faults.Stop.{Stop}
-use Rattle.pyparse_block.specs.declared.outline.faults.Stop.TheVariants as variant
+use Rattle.pyparse_block.specs.declared.outline.faults.BlockStop.{BlockStop}
+use Rattle.pyparse_block.specs.declared.outline.faults.BlockStop.TheVariants as variant
 use Rattle.pyparse_block.specs.Faults.{fault_of, Blames}
 use Rattle.pyparse_tokens.specs.declared.faults.GrammarError.{GrammarError}
 use Rattle.pyparse.specs.declared.progress.Progress.{Progress}
@@ -167,20 +167,20 @@ module _ {profile : Profile} {s : Source} {k : ℕ} {l : Line} {p : Place} (come
         starts = comes.starts;
       }
 
-  faulty_by : {forms : List Line} (e : GrammarError) (stop : Stop) → Formed profile (first_lines s k) forms → TellsFault stop e
+  faulty_by : {forms : List Line} (e : GrammarError) (stop : BlockStop) → Formed profile (first_lines s k) forms → TellsFault stop e
       → ((more : List Line) → Blames (forms ++ (l ∷ more)) (l ∷ more) stop) → IsFaultyAt profile s (k + 1) e p
   faulty_by e (variant.Faulty f) formed tells blames = faulty_on e (fault_of f) formed tells blames
   faulty_by e variant.Memory formed tells blames = absurd tells
 
-  pub sound_faulty : {o : Outline} {b : Blocks} (e : GrammarError) (stop : Stop) → IsSound profile s k o b → TellsFault stop e
+  pub sound_faulty : {o : Outline} {b : Blocks} (e : GrammarError) (stop : BlockStop) → IsSound profile s k o b → TellsFault stop e
       → ((xs more : List Line) → Follows xs o → Blames (xs ++ (l ∷ more)) (l ∷ more) stop) → IsFaultyAt profile s (k + 1) e p
   sound_faulty e stop was tells blames = faulty_by e stop was.formed tells (λ more. blames was.forms more was.follows)
 
-  pub sound_misplaced : {o : Outline} {b : Blocks} (e : GrammarError) (stop : Stop) → IsSound profile s k o b → TellsFault stop e
+  pub sound_misplaced : {o : Outline} {b : Blocks} (e : GrammarError) (stop : BlockStop) → IsSound profile s k o b → TellsFault stop e
       → ((xs more : List Line) → run xs start ≡ Fine (state_of b) → Blames (xs ++ (l ∷ more)) (l ∷ more) stop) → IsFaultyAt profile s (k + 1) e p
   sound_misplaced e stop was tells blames = faulty_by e stop was.formed tells (λ more. blames was.forms more was.read)
 
-  pub deep_faulty : {o : Outline} {q : Place} (e : GrammarError) (stop : Stop) → IsDeepAt profile s k o q → TellsFault stop e
+  pub deep_faulty : {o : Outline} {q : Place} (e : GrammarError) (stop : BlockStop) → IsDeepAt profile s k o q → TellsFault stop e
       → ((xs more : List Line) → Follows xs o → Blames (xs ++ (l ∷ more)) (l ∷ more) stop) → IsFaultyAt profile s (k + 1) e p
   deep_faulty e stop was tells blames = faulty_by e stop was.formed tells (λ more. blames was.forms more was.follows)
 

@@ -17,7 +17,7 @@ ghost use Rattle.pyparse.specs.Inner.Progressing.{is_unread, IsSound, IsDeepAt, 
 ghost use Rattle.pyparse.specs.Inner.Progressing.{Closes, TellsFault};
 
 use pygrammar::Form;
-use pyparse_block::{BlockFault, Blocks, Outline, Stop};
+use pyparse_block::{BlockFault, BlockStop, Blocks, Outline};
 use pyparse_line::read_line;
 use pyparse_tokens::{GrammarError, LogicalLines, ParseFault};
 use pysource::Place;
@@ -25,16 +25,16 @@ use pytree_node::{Module, Profile};
 use std::alloc::{AllocError, Global};
 
 /// The error of lines that are no statements, by why they stop.
-fn block_error(stop: Stop) -> Result<GrammarError, AllocError>
+fn block_error(stop: BlockStop) -> Result<GrammarError, AllocError>
     ensures { IfOk result (TellsFault stop) }
 {
     match stop {
-        Stop::Faulty(fault) => Ok(match fault {
+        BlockStop::Faulty(fault) => Ok(match fault {
             BlockFault::ExpectedIndent => GrammarError::ExpectedIndent,
             BlockFault::UnexpectedIndent => GrammarError::UnexpectedIndent,
             BlockFault::MisplacedClause => GrammarError::MisplacedClause,
         }),
-        Stop::Memory => Err(AllocError),
+        BlockStop::Memory => Err(AllocError),
     }
 }
 

@@ -5,8 +5,8 @@ use Rattle.pygrammar.specs.Blocks.{Fault, ExpectedIndent, UnexpectedIndent, Misp
 use Rattle.pygrammar.specs.Reading.{Answer, Faulty}
 use Rattle.pyparse_block.specs.declared.outline.faults.BlockFault.{BlockFault}
 use Rattle.pyparse_block.specs.declared.outline.faults.BlockFault.TheVariants as fault
-use Rattle.pyparse_block.specs.declared.outline.faults.Stop.{Stop}
-use Rattle.pyparse_block.specs.declared.outline.faults.Stop.TheVariants as stop
+use Rattle.pyparse_block.specs.declared.outline.faults.BlockStop.{BlockStop}
+use Rattle.pyparse_block.specs.declared.outline.faults.BlockStop.TheVariants as stop
 
 abbrev pub fault_of : BlockFault → Fault
 fault_of fault.ExpectedIndent = ExpectedIndent
@@ -14,16 +14,16 @@ fault_of fault.UnexpectedIndent = UnexpectedIndent
 fault_of fault.MisplacedClause = MisplacedClause
 
 -- an error is the fault of the reading, or memory was wanting, as it may be at any point
-abbrev pub Tells : {A : Type 0} → Answer A → Stop → Type 0
+abbrev pub Tells : {A : Type 0} → Answer A → BlockStop → Type 0
 Tells answer (stop.Faulty f) = answer ≡ Faulty (fault_of f)
 Tells answer stop.Memory = Unit {0}
 
 -- of these lines the first faulty one begins the rest, and has that fault; where nothing is left, it is the end
-abbrev pub Blames : (lines rest : List Line) → Stop → Type 0
+abbrev pub Blames : (lines rest : List Line) → BlockStop → Type 0
 Blames lines rest (stop.Faulty f) = FirstFault [] lines rest (fault_of f)
 Blames lines rest stop.Memory = Unit {0}
 
 -- an error that is a fault, where no memory is needed
-abbrev pub IsFaulty : Stop → Type 0
+abbrev pub IsFaulty : BlockStop → Type 0
 IsFaulty (stop.Faulty f) = Unit {0}
 IsFaulty stop.Memory = ⊥

@@ -4,8 +4,8 @@ use Rattle.pygrammar.specs.Lines.{Line}
 use Rattle.pygrammar.specs.Reading.{Answer, Fine, then, grows, Waiting, State, start, run}
 use Rattle.pygrammar.specs.Reading as reading
 use Rattle.pygrammar.specs.Depths.{Depth, count}
-use Rattle.pyparse_block.specs.declared.outline.groups.Group.{Group}
-use Rattle.pyparse_block.specs.declared.outline.groups.Group.TheVariants as group
+use Rattle.pyparse_block.specs.declared.outline.groups.GroupKind.{GroupKind}
+use Rattle.pyparse_block.specs.declared.outline.groups.GroupKind.TheVariants as group
 use Rattle.pyparse_block.specs.declared.outline.levels.Levels as given_levels
 use Rattle.pyparse_block.specs.declared.outline.depths.Last as given_last
 use Rattle.pyparse_block.specs.declared.outline.outlines.Outline.{Outline}
@@ -13,7 +13,7 @@ use Rattle.pyparse_block.specs.declared.outline.outlines.Outline.{Outline}
 -- ---- What is kept of a reading.
 
 -- the statement that a level has open
-abbrev pub group_of : reading.Group → Group
+abbrev pub group_of : reading.Group → GroupKind
 group_of reading.Idle = group.Idle
 group_of (reading.Marked _) = group.Marked
 group_of (reading.Choice _) = group.Choice
@@ -23,17 +23,17 @@ group_of (reading.Caught star _ _) = group.Caught star
 group_of (reading.Settled _ _ _ _) = group.Settled
 
 -- a level that waits for a block: what it has open once that is whole, whatever its statements are
-abbrev pub awaited : Waiting → Group
+abbrev pub awaited : Waiting → GroupKind
 awaited w = group_of (grows w.group w.header []).group
 
 -- what is kept of the open levels: what the deepest has open, whether it has had no line yet, and what those below it
 -- will have, the deepest first
 pub record Levels : Type 0 where
-  pub group : Group
+  pub group : GroupKind
   pub fresh : Bool
-  pub below : List Group
+  pub below : List GroupKind
 
-abbrev pub levels : Group → Bool → List Group → Levels
+abbrev pub levels : GroupKind → Bool → List GroupKind → Levels
 levels g fresh below = record { group = g; fresh = fresh; below = below }
 
 -- of a state of the reading

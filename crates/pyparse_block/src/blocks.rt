@@ -9,10 +9,10 @@ ghost use Rattle.pygrammar.specs.FormOf.{form_of};
 ghost use Rattle.pyparse_block.specs.Faults.{Blames, Tells};
 ghost use Rattle.pyparse_block.specs.StateOf.{state_of};
 
+use crate::outline::BlockStop;
 use crate::stack::Stack;
 use pygrammar::Form;
 use pytree_node::Stmt;
-use crate::outline::Stop;
 use std::alloc::Global;
 
 /// What is kept of the logical lines so far: the statements that are whole, and of the others what
@@ -38,10 +38,10 @@ impl Blocks {
     ///
     /// # Errors
     ///
-    /// [`Stop::Faulty`] where the line is the first faulty one, by its fault, and
-    /// [`Stop::Memory`].
+    /// [`BlockStop::Faulty`] where the line is the first faulty one, by its fault, and
+    /// [`BlockStop::Memory`].
     #[inline(always)]
-    pub fn step(&mut self, alloc: Global, level: usize, form: Form) -> Result<(), Stop>
+    pub fn step(&mut self, alloc: Global, level: usize, form: Form) -> Result<(), BlockStop>
         ensures ok { OnOk result
             (step (state_of self.old) (line level (form_of form)) ≡ Fine (state_of self.new)) }
         ensures refused { IfErr result
@@ -68,8 +68,8 @@ impl Blocks {
     ///
     /// # Errors
     ///
-    /// [`Stop::Faulty`] where the end of the lines is faulty, by its fault, and [`Stop::Memory`].
-    pub fn finish(self, alloc: Global) -> Result<Vec<Stmt>, Stop>
+    /// [`BlockStop::Faulty`] where the end of the lines is faulty, by its fault, and [`BlockStop::Memory`].
+    pub fn finish(self, alloc: Global) -> Result<Vec<Stmt>, BlockStop>
         ensures ok { IfOk result (λ v. finish (state_of self) ≡ Fine (map stmt_of v.items)) }
         ensures refused { IfErr result (Tells (finish (state_of self))) }
 

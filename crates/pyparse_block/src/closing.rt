@@ -8,10 +8,10 @@ ghost use Rattle.pyparse_block.specs.Inner.Meeting.{closed};
 ghost use Rattle.pyparse_block.specs.Values.{group_of};
 
 use crate::groups::{Group, Part};
+use crate::outline::{BlockFault, BlockStop};
 use crate::room::append;
 use crate::statements::{choice_statement, loop_statement, try_statement};
 use pytree_node::Stmt;
-use crate::outline::{BlockFault, Stop};
 use std::alloc::{AllocError, Global};
 use std::mem;
 
@@ -41,7 +41,7 @@ pub(crate) fn put_all(statements: &mut Vec<Stmt>, more: Vec<Stmt>) -> Result<(),
 
 /// Puts to the statements of a level those of a group that ends.
 #[inline(never)]
-pub(crate) fn end_group(alloc: Global, done: &mut Vec<Stmt>, group: Group) -> Result<(), Stop>
+pub(crate) fn end_group(alloc: Global, done: &mut Vec<Stmt>, group: Group) -> Result<(), BlockStop>
     ensures closed { OnOk result
         (closed (map stmt_of done.old.items) (group_of group)
         ≡ Fine (map stmt_of done.new.items)) }
@@ -51,7 +51,7 @@ pub(crate) fn end_group(alloc: Global, done: &mut Vec<Stmt>, group: Group) -> Re
     let one = match group {
         Group::Idle => return Ok(()),
         Group::Marked { decorators: _ } | Group::Trial { body: _ } => {
-            return Err(Stop::Faulty(BlockFault::MisplacedClause));
+            return Err(BlockStop::Faulty(BlockFault::MisplacedClause));
         }
         Group::Choice { first, elifs } => choice_statement(alloc, first, elifs, Vec::new(alloc))?,
         Group::Loop { head, body } => loop_statement(head, body, Vec::new(alloc)),
@@ -71,7 +71,7 @@ pub(crate) fn end_group(alloc: Global, done: &mut Vec<Stmt>, group: Group) -> Re
 }
 
 /// Ends the group of a level.
-pub(crate) fn close(alloc: Global, part: &mut Part) -> Result<(), Stop>
+pub(crate) fn close(alloc: Global, part: &mut Part) -> Result<(), BlockStop>
     ensures closed { OnOk result
         (closed (map stmt_of part.old.done.items) (group_of part.old.group)
         ≡ Fine (map stmt_of part.new.done.items)) }

@@ -25,4 +25,4 @@ mod stack;
 mod statements;
 
 pub use blocks::Blocks;
-pub use outline::{BlockFault, Outline, Stop};
+pub use outline::{BlockFault, BlockStop, Outline};

@@ -10,10 +10,10 @@ ghost use Rattle.pyparse_block.specs.Values.{group_of, part_of};
 
 use crate::closing::{close, end_group};
 use crate::groups::{Group, Part};
+use crate::outline::{BlockFault, BlockStop};
 use crate::room::append;
 use pygrammar::Header;
 use pytree_node::Expr;
-use crate::outline::{BlockFault, Stop};
 use std::alloc::{AllocError, Global};
 use std::mem;
 
@@ -57,7 +57,7 @@ fn begins(header: &Header) -> bool
 
 /// What a header finds: it goes on with the group of its level, or that ends before it.
 #[tactic(auto, using(crate::proofs::MeetingLemmas::met_is))]
-pub(crate) fn meet(alloc: Global, part: &mut Part, header: &Header) -> Result<(), Stop>
+pub(crate) fn meet(alloc: Global, part: &mut Part, header: &Header) -> Result<(), BlockStop>
     ensures met { OnOk result (met (map stmt_of part.old.done.items) (group_of part.old.group)
         (header_of header.now) ≡ Fine (part_of part.new)) }
     ensures refused { IfErr result
@@ -70,7 +70,7 @@ pub(crate) fn meet(alloc: Global, part: &mut Part, header: &Header) -> Result<()
     if begins(header) {
         return close(alloc, part);
     }
-    Err(Stop::Faulty(BlockFault::MisplacedClause))
+    Err(BlockStop::Faulty(BlockFault::MisplacedClause))
 }
 
 /// Expressions, and one more.
@@ -85,7 +85,7 @@ fn with_expr(expressions: Vec<Expr>, one: Box<Expr>) -> Result<Vec<Expr>, AllocE
 
 /// What a decorator makes of its level: it goes on with decorators, or the group ends before it.
 #[inline(never)]
-pub(crate) fn mark(alloc: Global, part: &mut Part, value: Box<Expr>) -> Result<(), Stop>
+pub(crate) fn mark(alloc: Global, part: &mut Part, value: Box<Expr>) -> Result<(), BlockStop>
     ensures marked { OnOk result (marked (map stmt_of part.old.done.items)
         (group_of part.old.group) (tree_of value.value) ≡ Fine (part_of part.new)) }
     ensures refused { IfErr result

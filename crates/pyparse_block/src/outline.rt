@@ -14,5 +14,5 @@ mod levels;
 mod outlines;
 mod shapes;
 
-pub use crate::outline::faults::{BlockFault, Stop};
+pub use crate::outline::faults::{BlockFault, BlockStop};
 pub use crate::outline::outlines::Outline;

@@ -13,9 +13,9 @@ use crate::closing::{close, put_all};
 use crate::groups::{Group, Part};
 use crate::growing::grow;
 use crate::meeting::{mark, meet};
+use crate::outline::{BlockFault, BlockStop};
 use pygrammar::{Form, Header};
 use pytree_node::{Expr, Stmt};
-use crate::outline::{BlockFault, Stop};
 use std::alloc::Global;
 use std::mem;
 
@@ -53,14 +53,14 @@ impl Stack {
     /// The deepest level comes to its end, and with it the block of the header below.
     #[tactic(auto, using(crate::proofs::LevelLemmas::ending))]
     #[inline(never)]
-    fn end_level(&mut self, alloc: Global) -> Result<(), Stop>
+    fn end_level(&mut self, alloc: Global) -> Result<(), BlockStop>
         requires { 0 < length self.old.below.items }
         ensures ended { OnOk result (ended (state_of self.old) ≡ Fine (state_of self.new)) }
         ensures refused { IfErr result (Tells (ended (state_of self.old))) }
         ensures fewer { OnOk result (length self.new.below.items < length self.old.below.items) }
     {
         if self.fresh {
-            return Err(Stop::Faulty(BlockFault::ExpectedIndent));
+            return Err(BlockStop::Faulty(BlockFault::ExpectedIndent));
         }
         close(alloc, &mut self.part)?;
         let Waiting { part, header } = self.below.pop().unwrap();
@@ -72,7 +72,7 @@ impl Stack {
 
     /// The levels above this one come to their end.
     #[tactic(auto, using(crate::proofs::LevelLemmas::ending))]
-    fn settle(&mut self, alloc: Global, level: usize) -> Result<(), Stop>
+    fn settle(&mut self, alloc: Global, level: usize) -> Result<(), BlockStop>
         ensures settled { OnOk result
             (settle level (state_of self.old) ≡ Fine (state_of self.new)) }
         ensures refused { IfErr result (Tells (settle level (state_of self.old))) }
@@ -85,7 +85,7 @@ impl Stack {
 
     /// Simple statements of the deepest level.
     #[tactic(auto, using(crate::proofs::LevelLemmas::placing))]
-    fn place_simple(&mut self, alloc: Global, statements: Vec<Stmt>) -> Result<(), Stop>
+    fn place_simple(&mut self, alloc: Global, statements: Vec<Stmt>) -> Result<(), BlockStop>
         ensures placed { OnOk result (place (state_of self.old)
             (simple_form (map stmt_of statements.items)) ≡ Fine (state_of self.new)) }
         ensures refused { IfErr result
@@ -100,7 +100,7 @@ impl Stack {
     /// A decorator of the deepest level.
     #[tactic(auto, using(crate::proofs::LevelLemmas::placing))]
     #[inline(never)]
-    fn place_decorator(&mut self, alloc: Global, value: Box<Expr>) -> Result<(), Stop>
+    fn place_decorator(&mut self, alloc: Global, value: Box<Expr>) -> Result<(), BlockStop>
         ensures placed { OnOk result (place (state_of self.old)
             (decorator_form (tree_of value.value)) ≡ Fine (state_of self.new)) }
         ensures refused { IfErr result
@@ -119,7 +119,7 @@ impl Stack {
         alloc: Global,
         header: Header,
         suite: Option<Vec<Stmt>>,
-    ) -> Result<(), Stop>
+    ) -> Result<(), BlockStop>
         ensures placed { OnOk result (place (state_of self.old)
             (header_form (header_of header) (suite_of suite)) ≡ Fine (state_of self.new)) }
         ensures refused { IfErr result
@@ -145,7 +145,7 @@ impl Stack {
     }
 
     /// A line of the deepest level.
-    fn place(&mut self, alloc: Global, form: Form) -> Result<(), Stop>
+    fn place(&mut self, alloc: Global, form: Form) -> Result<(), BlockStop>
         ensures placed { OnOk result
             (place (state_of self.old) (form_of form) ≡ Fine (state_of self.new)) }
         ensures refused { IfErr result (Tells (place (state_of self.old) (form_of form))) }
@@ -159,7 +159,7 @@ impl Stack {
 
     /// The next line: its level, and its form.
     #[tactic(auto, using(crate::proofs::LevelLemmas::placing))]
-    pub(crate) fn step(&mut self, alloc: Global, level: usize, form: Form) -> Result<(), Stop>
+    pub(crate) fn step(&mut self, alloc: Global, level: usize, form: Form) -> Result<(), BlockStop>
         ensures goes { OnOk result
             (step (state_of self.old) (line level (form_of form)) ≡ Fine (state_of self.new)) }
         ensures refused { IfErr result
@@ -167,13 +167,13 @@ impl Stack {
     {
         self.settle(alloc, level)?;
         if level > self.below.len() {
-            return Err(Stop::Faulty(BlockFault::UnexpectedIndent));
+            return Err(BlockStop::Faulty(BlockFault::UnexpectedIndent));
         }
         self.place(alloc, form)
     }
 
     /// The end of all lines.
-    pub(crate) fn finish(self, alloc: Global) -> Result<Vec<Stmt>, Stop>
+    pub(crate) fn finish(self, alloc: Global) -> Result<Vec<Stmt>, BlockStop>
         ensures tree { IfOk result (λ v. finish (state_of self) ≡ Fine (map stmt_of v.items)) }
         ensures refused { IfErr result (Tells (finish (state_of self))) }
     {

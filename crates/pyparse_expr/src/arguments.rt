@@ -23,8 +23,8 @@ use crate::listings::first_items;
 use pygrammar::Level;
 use pylex::Exact;
 use pyparse_nodes::{
-    Actual, Kind, Read, Stop, is_op, lead_at, make_call, make_generator, make_starred, name_with,
-    put, put_keyword, starts_comp,
+    Actual, ArgumentForm, Read, Stop, is_op, lead_at, make_call, make_generator, make_starred,
+    name_with, put, put_keyword, starts_comp,
 };
 use pytoken::Terminal;
 use std::alloc::Global;
@@ -138,7 +138,13 @@ fn add_keyword(
 
 /// Appends an argument of this kind.
 #[inline(always)]
-fn add(alloc: Global, actual: Actual, kind: Kind, e: Read, room: usize) -> Result<Actual, Stop>
+fn add(
+    alloc: Global,
+    actual: Actual,
+    kind: ArgumentForm,
+    e: Read,
+    room: usize,
+) -> Result<Actual, Stop>
     requires low { e.height < room }
     requires held { actual.height ≤ room }
     ensures state { MatchResult result
@@ -149,17 +155,17 @@ fn add(alloc: Global, actual: Actual, kind: Kind, e: Read, room: usize) -> Resul
     ensures low { MatchResult result (λ r. r.height ≤ room) (λ s. s ≡ Stop.Memory) }
 {
     match kind {
-        Kind::Single => {
+        ArgumentForm::Single => {
             let wrong = actual.wrong || actual.keyed;
             add_plain(actual, e, wrong)
         }
-        Kind::Spread => {
+        ArgumentForm::Spread => {
             let wrong = actual.wrong || actual.doubled;
             let starred = make_starred(alloc, e, room)?;
             add_plain(actual, starred, wrong)
         }
-        Kind::Doubled => add_keyword(alloc, actual, None, e, true),
-        Kind::Keyed(name) => {
+        ArgumentForm::Doubled => add_keyword(alloc, actual, None, e, true),
+        ArgumentForm::Keyed(name) => {
             let doubled = actual.doubled;
             add_keyword(alloc, actual, Some(name), e, doubled)
         }
@@ -180,19 +186,19 @@ fn begins_argument(tokens: &[Terminal], at: usize) -> bool
 
 /// How an argument at the place begins, if one does.
 #[tactic(auto, using(crate::proofs::Calls::ArgumentSteps::spread_kind, crate::proofs::Calls::ArgumentSteps::doubled_kind, crate::proofs::Calls::ArgumentSteps::keyed_kind, crate::proofs::Calls::ArgumentSteps::single_kind))]
-fn kind_at<'a>(tokens: &[Terminal<'a>], at: usize) -> Kind<'a>
+fn kind_at<'a>(tokens: &[Terminal<'a>], at: usize) -> ArgumentForm<'a>
     requires { at ≤ length tokens.now }
     ensures { IsKindAt result tokens.now at }
 {
     if is_op(tokens, at, Exact::Star) {
-        return Kind::Spread;
+        return ArgumentForm::Spread;
     }
     if is_op(tokens, at, Exact::DoubleStar) {
-        return Kind::Doubled;
+        return ArgumentForm::Doubled;
     }
     match name_with(tokens, at, Exact::Equal) {
-        Some(name) => Kind::Keyed(name),
-        None => Kind::Single,
+        Some(name) => ArgumentForm::Keyed(name),
+        None => ArgumentForm::Single,
     }
 }
 
@@ -202,7 +208,7 @@ fn kind_at<'a>(tokens: &[Terminal<'a>], at: usize) -> Kind<'a>
 fn read_argument(
     alloc: Global,
     tokens: &[Terminal],
-    kind: Kind,
+    kind: ArgumentForm,
     at: usize,
     depth: Depth,
 ) -> Result<Read, Stop>
@@ -213,10 +219,10 @@ fn read_argument(
         (seen tokens.now (place_of kind.entry at))) result }
 {
     match kind {
-        Kind::Single => read_named(alloc, tokens, at, depth.inner()),
-        Kind::Spread => read_expression(alloc, tokens, at + 1, depth.inner()),
-        Kind::Doubled => read_expression(alloc, tokens, at + 1, depth.inner()),
-        Kind::Keyed(_) => read_expression(alloc, tokens, at + 2, depth.inner()),
+        ArgumentForm::Single => read_named(alloc, tokens, at, depth.inner()),
+        ArgumentForm::Spread => read_expression(alloc, tokens, at + 1, depth.inner()),
+        ArgumentForm::Doubled => read_expression(alloc, tokens, at + 1, depth.inner()),
+        ArgumentForm::Keyed(_) => read_expression(alloc, tokens, at + 2, depth.inner()),
     }
 }
 
@@ -406,7 +412,7 @@ pub(crate) fn call_step(
     let e = read_argument(alloc, tokens, kind, at, depth)?;
     if starts_comp(tokens, e.next) {
         return match kind {
-            Kind::Single => generator_call(alloc, tokens, func, e, depth),
+            ArgumentForm::Single => generator_call(alloc, tokens, func, e, depth),
             _ => Err(Stop::NoForm),
         };
     }

@@ -21,7 +21,8 @@ use crate::primaries::read_primary;
 use pygrammar::Level;
 use pylex::Exact;
 use pyparse_nodes::{
-    Clause, Clauses, Items, Read, Stop, append, is_op, is_word, make_starred, make_tuple, store,
+    ForClause, ForClauses, Items, Read, Stop, append, is_op, is_word, make_starred, make_tuple,
+    store,
 };
 use pytoken::{Keyword, Terminal};
 use pytree_node::{Comprehension, Context};
@@ -121,7 +122,7 @@ fn for_in(
     is_async: bool,
     at: usize,
     depth: Depth,
-) -> Result<Clause, Stop>
+) -> Result<ForClause, Stop>
     requires within { at ≤ length tokens.now }
     requires open { IsOpen depth }
     ensures { MatchResult result
@@ -142,7 +143,7 @@ fn for_in(
 }
 
 /// A clause of these parts, if the first has target shape.
-fn clause_of(target: Read, iter: Read, ifs: Items, is_async: bool) -> Option<Clause>
+fn clause_of(target: Read, iter: Read, ifs: Items, is_async: bool) -> Option<ForClause>
     ensures next { IfSome result (λ c. c.next ≡ ifs.next) }
     ensures is { option_map (λ c. comprehension_of c.generator) result
         ≡ reader.generator_of (stored (tree_of target.expr.value)) (tree_of iter.expr.value)
@@ -153,7 +154,7 @@ fn clause_of(target: Read, iter: Read, ifs: Items, is_async: bool) -> Option<Cla
     if !store(&mut target) {
         return None;
     }
-    Some(Clause {
+    Some(ForClause {
         generator: Comprehension {
             target,
             iter: Box::into_inner(iter.expr),
@@ -166,11 +167,11 @@ fn clause_of(target: Read, iter: Read, ifs: Items, is_async: bool) -> Option<Cla
 }
 
 /// No clauses.
-fn no_clauses(alloc: Global, at: usize) -> Clauses
+fn no_clauses(alloc: Global, at: usize) -> ForClauses
     ensures generators { map comprehension_of result.generators.items ≡ [] }
     ensures next { result.next ≡ at }
 {
-    Clauses {
+    ForClauses {
         generators: Vec::new(alloc),
         height: 0,
         next: at,
@@ -179,21 +180,21 @@ fn no_clauses(alloc: Global, at: usize) -> Clauses
 
 /// Clauses with one more.
 #[tactic(auto, using(crate::proofs::ForClauses::ClausePushes::clause_pushed, crate::proofs::ForClauses::ClausePushes::clause_pushed_height))]
-fn push_clause(clauses: Clauses, clause: Clause) -> Result<Clauses, Stop>
+fn push_clause(clauses: ForClauses, clause: ForClause) -> Result<ForClauses, Stop>
     ensures generators { MatchResult result
         (λ r. map comprehension_of r.generators.items
         ≡ map comprehension_of clauses.generators.items ++ (comprehension_of clause.generator ∷ []))
         (λ s. s ≡ Stop.Memory) }
     ensures next { MatchResult result (λ r. r.next ≡ clause.next) (λ s. s ≡ Stop.Memory) }
 {
-    let Clauses {
+    let ForClauses {
         generators,
         height,
         next: _,
     } = clauses;
     let mut generators = generators;
     append(&mut generators, clause.generator)?;
-    Ok(Clauses {
+    Ok(ForClauses {
         generators,
         height: height.max(clause.height),
         next: clause.next,
@@ -207,7 +208,7 @@ pub(crate) fn comps(
     tokens: &[Terminal],
     at: usize,
     depth: Depth,
-) -> Result<Clauses, Stop>
+) -> Result<ForClauses, Stop>
     requires within { at ≤ length tokens.now }
     requires open { IsOpen depth }
     ensures { MatchResult result

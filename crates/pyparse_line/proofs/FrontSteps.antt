@@ -59,11 +59,11 @@ module _ (profile : Profile) (self : Reads) where
   headed_is NoForm = refl
   headed_is TooDeep = refl
 
-  pub front_headed : (i : List Terminal) (t : Terminal) → first_of i ≡ Some t → reader.kind t ≡ reader.Heads → line_front profile self i ≡ headed profile self i
+  pub front_headed : (i : List Terminal) (t : Terminal) → first_of i ≡ Some t → reader.opening t ≡ reader.Heads → line_front profile self i ≡ headed profile self i
   front_headed [] t h k = absurd (cc)
   front_headed (u ∷ r) t h k =
       let same : u ≡ t = cc in
-      ap (λ z. reader.line_of profile self z (u ∷ r) r) (ap reader.kind same ∙ k) ∙ headed_is (read_header profile self (u ∷ r))
+      ap (λ z. reader.line_of profile self z (u ∷ r) r) (ap reader.opening same ∙ k) ∙ headed_is (read_header profile self (u ∷ r))
 
-  pub headed_front : (ts : List given.Terminal) (t : Terminal) (z : Result ReadForm Stop) → first_of (seen ts 0) ≡ Some t → reader.kind t ≡ reader.Heads → FormAnswered ts 0 (headed profile self (seen ts 0)) z → FormAnswered ts 0 (line_front profile self (seen ts 0)) z
+  pub headed_front : (ts : List given.Terminal) (t : Terminal) (z : Result ReadForm Stop) → first_of (seen ts 0) ≡ Some t → reader.opening t ≡ reader.Heads → FormAnswered ts 0 (headed profile self (seen ts 0)) z → FormAnswered ts 0 (line_front profile self (seen ts 0)) z
   headed_front ts t z h k f = rw (front_headed (seen ts 0) t h k) f

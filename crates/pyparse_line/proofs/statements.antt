@@ -1,7 +1,7 @@
 pub mod Callers
 mod ImportSteps
 mod NameSteps
-mod OptionSteps
+mod OptionalSteps
 mod StatementSteps
 mod TypeNameSteps
 mod TypeSteps

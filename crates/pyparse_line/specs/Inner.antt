@@ -1,7 +1,7 @@
 pub mod Answers
 pub mod Fronts
 pub mod Heights
-pub mod Kinds
+pub mod Openings
 pub mod Definitions
 pub mod Items
 pub mod Words

@@ -14,7 +14,7 @@ ghost use Rattle.pyparse_line.specs.Inner.Fronts.{colon, decorator, headed, simp
 
 use crate::found::{ReadForm, ReadSuite};
 use crate::headers::{ReadHeader, read_header};
-use crate::kinds::{Kind, kind_of};
+use crate::openings::{Opening, opening_of};
 use crate::statements::read_statements;
 use pygrammar::{Form, Level};
 use pylex::Exact;
@@ -145,9 +145,9 @@ pub(crate) fn read_front(
         Some(first) => first,
         None => return Err(Stop::NoForm),
     };
-    match kind_of(first) {
-        Kind::Decorates => read_decorator(alloc, tokens, depth),
-        Kind::Heads => read_headed(alloc, tokens, profile, depth),
-        Kind::States => read_simple(alloc, tokens, profile, depth),
+    match opening_of(first) {
+        Opening::Decorates => read_decorator(alloc, tokens, depth),
+        Opening::Heads => read_headed(alloc, tokens, profile, depth),
+        Opening::States => read_simple(alloc, tokens, profile, depth),
     }
 }

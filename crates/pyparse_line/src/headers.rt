@@ -3,13 +3,13 @@
 //! Python language reference, 8 "Compound statements".
 
 mod clauses;
+mod conditions;
 mod definitions;
 mod found;
 mod headers;
 mod item_targets;
 mod items;
 mod loops;
-mod tests;
 mod words;
 
 pub use crate::headers::found::ReadHeader;

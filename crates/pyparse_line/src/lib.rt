@@ -7,8 +7,8 @@
 mod found;
 mod fronts;
 mod headers;
-mod kinds;
 mod lines;
+mod openings;
 mod statements;
 
 pub use lines::read_line;

@@ -7,7 +7,7 @@ mod assignments;
 mod found;
 mod imports;
 mod names;
-mod options;
+mod optional;
 mod simple;
 mod statements;
 mod type_names;
@@ -16,6 +16,6 @@ mod values;
 
 pub use crate::statements::found::{ReadAs, ReadStatements, ReadTypeParams};
 pub use crate::statements::names::read_as;
-pub use crate::statements::options::{after_sign, after_word, starts_expression};
+pub use crate::statements::optional::{after_sign, after_word, starts_expression};
 pub use crate::statements::statements::read_statements;
 pub use crate::statements::types::read_type_params;

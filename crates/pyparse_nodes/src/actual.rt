@@ -9,7 +9,7 @@ use pytree_node::{Expr, Keyword};
 
 /// How an argument begins.
 #[derive(Clone, Copy)]
-pub enum Kind<'a> {
+pub enum ArgumentForm<'a> {
     /// With its expression.
     Single,
     /// With a `*`.

@@ -54,7 +54,7 @@ pub struct Pairs {
 
 /// A clause of a comprehension.
 #[derive(Drop)]
-pub struct Clause {
+pub struct ForClause {
     pub generator: Comprehension,
     pub height: usize,
     pub next: usize,
@@ -64,7 +64,7 @@ pub struct Clause {
 
 /// The clauses of a comprehension.
 #[derive(Drop)]
-pub struct Clauses {
+pub struct ForClauses {
     pub generators: Vec<Comprehension>,
     pub height: usize,
     pub next: usize,

@@ -25,8 +25,8 @@ mod stop;
 mod targets;
 mod turns;
 
-pub use actual::{Actual, Kind};
-pub use found::{Clause, Clauses, Items, Optional, Pair, Pairs, Read};
+pub use actual::{Actual, ArgumentForm};
+pub use found::{ForClause, ForClauses, Items, Optional, Pair, Pairs, Read};
 pub use list_makers::{
     make_call, make_dict, make_dict_comp, make_generator, make_lambda, make_list, make_list_comp,
     make_set, make_set_comp, make_slice, make_tuple, make_yield,

@@ -80,14 +80,14 @@ pub(crate) fn write_modules<W: Writer>(out: &mut W, names: &[Alias]) -> Result<(
     let mut first = true;
     for alias in names {
         put_between(out, first, Between::Comma)?;
-        write_module(out, alias)?;
+        write_module_alias(out, alias)?;
         first = false;
     }
     Ok(())
 }
 
 /// Writes a module's name, and the name that it is given.
-fn write_module<W: Writer>(out: &mut W, alias: &Alias) -> Result<(), AllocError>
+fn write_module_alias<W: Writer>(out: &mut W, alias: &Alias) -> Result<(), AllocError>
     ensures { OnOk result
         (out.new ≡ puts W.after out.old (written.dotted_alias piece (alias_of alias.now))) }
 {

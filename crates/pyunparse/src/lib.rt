@@ -17,7 +17,7 @@ mod imports;
 mod lines;
 mod modules;
 mod operators;
-mod options;
+mod optional;
 mod parameters;
 mod statements;
 mod tuples;

@@ -13,7 +13,7 @@ ghost use Rattle.pyunparse_text.specs.Written.{compared, each, word};
 
 use crate::displays::write_members;
 use crate::expressions::write_expr;
-use crate::options::write_perhaps;
+use crate::optional::write_perhaps;
 use crate::parameters::write_parameters;
 use pygrammar::Level;
 use pylex::Exact;

@@ -14,7 +14,7 @@ ghost use Rattle.pyunparse_text.specs.Written.{behind_equal, beside, defaults, e
 ghost use Rattle.pyunparse_text.specs.Written.{names, parameters, suffixed, tight, trailing, with_star};
 
 use crate::expressions::write_expr;
-use crate::options::write_suffix;
+use crate::optional::write_suffix;
 use pygrammar::Level;
 use pylex::Exact;
 use pytree_node::{Arg, Arguments, Expr};

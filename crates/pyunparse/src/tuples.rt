@@ -11,7 +11,7 @@ ghost use Rattle.pyunparse_text.specs.Pieces.{pieces};
 ghost use Rattle.pyunparse_text.specs.Written as written;
 
 use crate::displays::write_members;
-use crate::options::{write_perhaps, write_suffix};
+use crate::optional::{write_perhaps, write_suffix};
 use pygrammar::Level;
 use pylex::Exact;
 use pytree_node::Expr;

@@ -23,7 +23,7 @@ use Rattle.pygrammar.proofs.Depths.Enough.{Good, GoodTo, good_then, good_first, 
 use Rattle.pygrammar.specs.Lines.{Form, Header}
 use Rattle.pygrammar.specs.Forms.{FormOf}
 use Rattle.pytree_node.specs.Profiles.{has_types}
-use Rattle.pygrammar.specs.LineReader.{or_else, on_none, same_as, is_type, on_type, starts_name, starts_type_param, always, commas, read_name, read_as, dotted, dotted_alias, name_alias, read_dots, read_names, import_from, augmented_sign, Start, Values, Returns, Raises, Asserts, Deletes, Globals, Nonlocals, Passes, Breaks, Continues, Imports, Froms, start, if_any, after, annotation, end_value, value_loop, value_statement, deleted_one, read_type_param, bracketed_type_params, read_type_params, alias_rest, statement_of, statement, statements, item_target, read_item, bracketed, for_rest, with_rest, function_rest, bases_rest, def_rest, class_rest, except_of, except_rest, read_header, Kind, Decorates, Heads, States, kind, suite, line_of, line_front, line, plain, read_line, read_line_to}
+use Rattle.pygrammar.specs.LineReader.{or_else, on_none, same_as, is_type, on_type, starts_name, starts_type_param, always, commas, read_name, read_as, dotted, dotted_alias, name_alias, read_dots, read_names, import_from, augmented_sign, Start, Values, Returns, Raises, Asserts, Deletes, Globals, Nonlocals, Passes, Breaks, Continues, Imports, Froms, start, if_any, after, annotation, end_value, value_loop, value_statement, deleted_one, read_type_param, bracketed_type_params, read_type_params, alias_rest, statement_of, statement, statements, item_target, read_item, bracketed, for_rest, with_rest, function_rest, bases_rest, def_rest, class_rest, except_of, except_rest, read_header, Opening, Decorates, Heads, States, opening, suite, line_of, line_front, line, plain, read_line, read_line_to}
 use Rattle.pygrammar.proofs.Line.Law.{read_goes}
 use Rattle.pygrammar.proofs.Line.SoundLines.{read_gives}
 
@@ -207,14 +207,14 @@ module _ (self : Reads) (b : ℕ) (all : GoodTo b self) where
   g_suite profile h [] w = w
   g_suite profile h (t ∷ u) w = good_then b b _ _ (g_statements profile (suc (length (t ∷ u))) (t ∷ u) w) (λ ss r1 p. p)
 
-  g_line_of : (profile : Profile) (k : Kind) (i r : List Terminal) → length i < b → length r < b → Good b (line_of profile self k i r)
+  g_line_of : (profile : Profile) (k : Opening) (i r : List Terminal) → length i < b → length r < b → Good b (line_of profile self k i r)
   g_line_of profile Decorates i r v w = one Named r _ w (λ e r1 p. p)
   g_line_of profile Heads i r v w = good_then b b _ _ (g_header profile i v) (λ h r1 p. good_first b (is_op Sign.Colon) r1 _ _ (λ _ u q. g_suite profile h u (omega arith)) tt)
   g_line_of profile States i r v w = good_then b b _ _ (g_statements profile (suc (length i)) i v) (λ ss r1 p. p)
 
   g_front : (profile : Profile) (i : List Terminal) → length i < b → Good b (line_front profile self i)
   g_front profile [] w = tt
-  g_front profile (t ∷ r) w = g_line_of profile (kind t) (t ∷ r) r w (omega (arith, w))
+  g_front profile (t ∷ r) w = g_line_of profile (opening t) (t ∷ r) r w (omega (arith, w))
 
   pub g_line : (profile : Profile) (i : List Terminal) → length i < b → Good b (line profile self i)
   g_line profile i w = good_then b b _ _ (g_front profile i w) (λ f r p. g_none b r _ _ (omega (arith, w)) tt)

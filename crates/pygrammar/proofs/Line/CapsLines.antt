@@ -11,7 +11,7 @@ use Rattle.pygrammar.specs.Looks.{is_op}
 use Rattle.pygrammar.specs.Reader.{Found, NoForm, Reads}
 use Rattle.pygrammar.specs.Lines.{Header, simple_form, decorator_form, header_form}
 use Rattle.pygrammar.specs.FormHeights.{header_height, form_height}
-use Rattle.pygrammar.specs.LineReader.{statements, Kind, Decorates, Heads, States, kind, suite, line_of, line_front, line}
+use Rattle.pygrammar.specs.LineReader.{statements, Opening, Decorates, Heads, States, opening, suite, line_of, line_front, line}
 use Rattle.pygrammar.proofs.Heights.Caps.{Over, over, none, over_first, Caps, CapsAt, caps_then, caps_first}
 use Rattle.pygrammar.proofs.Line.CapsTools.{caps_found, over_found, over_none}
 use Rattle.pygrammar.proofs.Line.CapsSimple.{suite_height, c_statements}
@@ -26,7 +26,7 @@ module _ (n : ℕ) (self other : Reads) (all : CapsAt n self other) (brackets : 
   over_suite profile h [] w = over w
   over_suite profile h (t ∷ r) w = over_found form_height (suc n) (statements profile other (suc (length (t ∷ r))) (t ∷ r)) (λ ss. header_form h (Some ss)) (λ ss. omega (arith, w))
 
-  c_line_of : (profile : Profile) (k : Kind) (i r : List Terminal) → Caps form_height n (line_of profile self k i r) (line_of profile other k i r)
+  c_line_of : (profile : Profile) (k : Opening) (i r : List Terminal) → Caps form_height n (line_of profile self k i r) (line_of profile other k i r)
   c_line_of profile Decorates i r = caps_found height form_height n _ _ (λ e. decorator_form e) (all Named r) (λ e. omega arith)
   c_line_of profile Heads i r = caps_then header_height form_height n n _ _ _ _ (c_header n self other all brackets profile i)
       (λ h r1. caps_first form_height n (is_op Sign.Colon) r1 _ _ _ _ (λ _ s. c_suite profile h s) (inl refl))
@@ -35,7 +35,7 @@ module _ (n : ℕ) (self other : Reads) (all : CapsAt n self other) (brackets : 
 
   c_front : (profile : Profile) (i : List Terminal) → Caps form_height n (line_front profile self i) (line_front profile other i)
   c_front profile [] = inl refl
-  c_front profile (t ∷ r) = c_line_of profile (kind t) (t ∷ r) r
+  c_front profile (t ∷ r) = c_line_of profile (opening t) (t ∷ r) r
 
   pub c_line : (profile : Profile) (i : List Terminal) → Caps form_height n (line profile self i) (line profile other i)
   c_line profile i = caps_then form_height form_height n n _ _ _ _ (c_front profile i) (λ f r. inl refl) (λ f r w. over_none form_height (suc n) r (Found f []) NoForm (over w) none)

@@ -20,7 +20,7 @@ use Rattle.pygrammar.proofs.Depths.Keeps.{Keeps, AllKeep, keeps_then, keeps_firs
 use Rattle.pygrammar.proofs.Depths.Whole.{final}
 use Rattle.pygrammar.specs.Lines.{Header}
 use Rattle.pytree_node.specs.Profiles.{has_types}
-use Rattle.pygrammar.specs.LineReader.{or_else, on_none, same_as, is_type, on_type, starts_type_param, always, commas, augmented_sign, Start, Values, Returns, Raises, Asserts, Deletes, start, if_any, after, annotation, end_value, value_loop, value_statement, deleted_one, read_type_param, bracketed_type_params, read_type_params, alias_rest, statement_of, statement, statements, item_target, read_item, bracketed, for_rest, with_rest, function_rest, bases_rest, def_rest, class_rest, except_of, except_rest, read_header, Kind, Decorates, Heads, States, kind, suite, line_of, line_front, line, plain, read_line, read_line_to}
+use Rattle.pygrammar.specs.LineReader.{or_else, on_none, same_as, is_type, on_type, starts_type_param, always, commas, augmented_sign, Start, Values, Returns, Raises, Asserts, Deletes, start, if_any, after, annotation, end_value, value_loop, value_statement, deleted_one, read_type_param, bracketed_type_params, read_type_params, alias_rest, statement_of, statement, statements, item_target, read_item, bracketed, for_rest, with_rest, function_rest, bases_rest, def_rest, class_rest, except_of, except_rest, read_header, Opening, Decorates, Heads, States, opening, suite, line_of, line_front, line, plain, read_line, read_line_to}
 
 -- ---- More depth changes no answer.
 k_some : {A B : Type 0} (o : Option A) (k j : A → Answer B) (x y : Answer B) → ((a : A) → Keeps (k a) (j a)) → Keeps x y → Keeps (on_some o k x) (on_some o j y)
@@ -150,14 +150,14 @@ module _ (self other : Reads) (all : AllKeep self other) where
   k_suite profile h [] = inr refl
   k_suite profile h (t ∷ u) = keeps_then _ _ _ _ (k_statements profile (suc (length (t ∷ u))) (t ∷ u)) (λ ss r1. inr refl)
 
-  k_line_of : (profile : Profile) (k : Kind) (i r : List Terminal) → Keeps (line_of profile self k i r) (line_of profile other k i r)
+  k_line_of : (profile : Profile) (k : Opening) (i r : List Terminal) → Keeps (line_of profile self k i r) (line_of profile other k i r)
   k_line_of profile Decorates i r = one Named r _
   k_line_of profile Heads i r = keeps_then _ _ _ _ (k_header profile i) (λ h r1. keeps_first (is_op Sign.Colon) r1 _ _ _ _ (λ _ u. k_suite profile h u) (inr refl))
   k_line_of profile States i r = keeps_then _ _ _ _ (k_statements profile (suc (length i)) i) (λ ss r1. inr refl)
 
   k_front : (profile : Profile) (i : List Terminal) → Keeps (line_front profile self i) (line_front profile other i)
   k_front profile [] = inr refl
-  k_front profile (t ∷ r) = k_line_of profile (kind t) (t ∷ r) r
+  k_front profile (t ∷ r) = k_line_of profile (opening t) (t ∷ r) r
 
   k_line : (profile : Profile) (i : List Terminal) → Keeps (line profile self i) (line profile other i)
   k_line profile i = keeps_then _ _ _ _ (k_front profile i) (λ f r. inr refl)

@@ -17,7 +17,7 @@ use Rattle.pygrammar.proofs.Completeness.LookLemmas.{lead_of, lead_front}
 use Rattle.pygrammar.proofs.Completeness.LevelLemmas.{led}
 use Rattle.pygrammar.specs.Lines.{Form, simple_form, decorator_form, Header, header_form}
 use Rattle.pygrammar.specs.Forms as F
-use Rattle.pygrammar.specs.LineReader.{plain, Kind, Heads, States, kind, statements, suite, line_of, line_front, read_line, read_header}
+use Rattle.pygrammar.specs.LineReader.{plain, Opening, Heads, States, opening, statements, suite, line_of, line_front, read_line, read_header}
 use Rattle.pygrammar.proofs.Line.Tools.{thus, front}
 use Rattle.pygrammar.proofs.Line.Simple.{Full, simples_full, statements_goes}
 use Rattle.pygrammar.proofs.Line.Headers.{header_by}
@@ -26,16 +26,16 @@ use Rattle.pygrammar.proofs.Line.With.{with_goes}
 header_goes : (profile : Profile) {ts : List Terminal} {h : Header} → F.HeaderOf profile ts h → (r : List Terminal) → read_header profile plain (ts ++ (Op Sign.Colon ∷ r)) ≡ Found h (Op Sign.Colon ∷ r)
 header_goes profile p r = header_by with_goes profile p r
 
--- the kind of a line by its first terminal
-abbrev kind_of : List Terminal → Kind
-kind_of [] = States
-kind_of (t ∷ r) = kind t
+-- the opening of a line by its first terminal
+abbrev opening_of : List Terminal → Opening
+opening_of [] = States
+opening_of (t ∷ r) = opening t
 
-led_kind : (ts : List Terminal) → 0 < lead_of ts → kind_of ts ≡ States
+led_kind : (ts : List Terminal) → 0 < lead_of ts → opening_of ts ≡ States
 led_kind [] h = refl
 led_kind (t ∷ ts) h = one t h
   where
-    one : (t : Terminal) → 0 < lead t → kind t ≡ States
+    one : (t : Terminal) → 0 < lead t → opening t ≡ States
     one (Op Sign.At) h = absurd (omega (arith, h))
     one (Op _) h = refl
     one (Word Key.If) h = absurd (omega (arith, h))
@@ -54,26 +54,26 @@ led_kind (t ∷ ts) h = one t h
     one _ h = refl
 
 -- a list that begins with an expression
-begun : (ts us : List Terminal) (n : ℕ) → 0 < n → n ≤ lead_of ts → kind_of (ts ++ us) ≡ States
+begun : (ts us : List Terminal) (n : ℕ) → 0 < n → n ≤ lead_of ts → opening_of (ts ++ us) ≡ States
 begun ts us n p h = led_kind (ts ++ us) (omega (arith, p, lead_front ts us n p h))
 
-targets_kind : {ts : List Terminal} {es : List Expr} → F.Targets ts es → (us : List Terminal) → kind_of (ts ++ us) ≡ States
-targets_kind (F.last_target {ts = ts} (G.target p q)) us = ap kind_of (append_assoc ts (Op Sign.Equal ∷ []) us) ∙ begun ts (Op Sign.Equal ∷ us) 7 (omega arith) (led p)
-targets_kind (F.more_targets {ts = ts} {us = vs} (G.target p q) c) us = ap kind_of (append_assoc ts (Op Sign.Equal ∷ vs) us) ∙ begun ts (Op Sign.Equal ∷ (vs ++ us)) 7 (omega arith) (led p)
+targets_kind : {ts : List Terminal} {es : List Expr} → F.Targets ts es → (us : List Terminal) → opening_of (ts ++ us) ≡ States
+targets_kind (F.last_target {ts = ts} (G.target p q)) us = ap opening_of (append_assoc ts (Op Sign.Equal ∷ []) us) ∙ begun ts (Op Sign.Equal ∷ us) 7 (omega arith) (led p)
+targets_kind (F.more_targets {ts = ts} {us = vs} (G.target p q) c) us = ap opening_of (append_assoc ts (Op Sign.Equal ∷ vs) us) ∙ begun ts (Op Sign.Equal ∷ (vs ++ us)) 7 (omega arith) (led p)
 
-simple_kind : {profile : Profile} {ts : List Terminal} {s : Stmt} → F.Simple profile ts s → (r : List Terminal) → kind_of (ts ++ r) ≡ States
+simple_kind : {profile : Profile} {ts : List Terminal} {s : Stmt} → F.Simple profile ts s → (r : List Terminal) → opening_of (ts ++ r) ≡ States
 simple_kind (F.value {ts = ts} p) r = begun ts r 1 (omega arith) (led p)
-simple_kind (F.assign {ts = ts} {us = us} c p) r = ap kind_of (append_assoc ts us r) ∙ targets_kind c (us ++ r)
-simple_kind (F.augmented_assign {ts = ts} {us = us} x (G.single_target p q) h v) r = ap kind_of (append_assoc ts (Op x ∷ us) r) ∙ begun ts (Op x ∷ (us ++ r)) 23 (omega arith) (led p)
-simple_kind (F.annotated_part {ts = ts} {us = us} {vs = vs} (G.single_target p q) n k b) r = ap kind_of (append_assoc ts (Op Sign.Colon ∷ (us ++ vs)) r) ∙ begun ts (Op Sign.Colon ∷ ((us ++ vs) ++ r)) 23 (omega arith) (led p)
+simple_kind (F.assign {ts = ts} {us = us} c p) r = ap opening_of (append_assoc ts us r) ∙ targets_kind c (us ++ r)
+simple_kind (F.augmented_assign {ts = ts} {us = us} x (G.single_target p q) h v) r = ap opening_of (append_assoc ts (Op x ∷ us) r) ∙ begun ts (Op x ∷ (us ++ r)) 23 (omega arith) (led p)
+simple_kind (F.annotated_part {ts = ts} {us = us} {vs = vs} (G.single_target p q) n k b) r = ap opening_of (append_assoc ts (Op Sign.Colon ∷ (us ++ vs)) r) ∙ begun ts (Op Sign.Colon ∷ ((us ++ vs) ++ r)) 23 (omega arith) (led p)
 simple_kind _ r = refl
 
-simples_kind : {profile : Profile} {ts : List Terminal} {ss : List Stmt} → F.Simples profile ts ss → kind_of ts ≡ States
-simples_kind (F.last_simple {ts = ts} p) = ap kind_of (sym (append-nil ts)) ∙ simple_kind p []
+simples_kind : {profile : Profile} {ts : List Terminal} {ss : List Stmt} → F.Simples profile ts ss → opening_of ts ≡ States
+simples_kind (F.last_simple {ts = ts} p) = ap opening_of (sym (append-nil ts)) ∙ simple_kind p []
 simples_kind (F.ended_simple p) = simple_kind p _
 simples_kind (F.more_simples p c) = simple_kind p _
 
-header_kind : {profile : Profile} {ts : List Terminal} {h : Header} → F.HeaderOf profile ts h → (r : List Terminal) → (kind_of (ts ++ r) ≡ Heads) × Full (ts ++ r)
+header_kind : {profile : Profile} {ts : List Terminal} {h : Header} → F.HeaderOf profile ts h → (r : List Terminal) → (opening_of (ts ++ r) ≡ Heads) × Full (ts ++ r)
 header_kind (F.for_line F.no_async p q) r = (refl, (_, _, refl))
 header_kind (F.for_line F.async p q) r = (refl, (_, _, refl))
 header_kind (F.with_line F.no_async p) r = (refl, (_, _, refl))
@@ -82,8 +82,8 @@ header_kind (F.def_line x F.no_async g c q k) r = (refl, (_, _, refl))
 header_kind (F.def_line x F.async g c q k) r = (refl, (_, _, refl))
 header_kind _ r = (refl, (_, _, refl))
 
--- a line of a kind
-line_by : (profile : Profile) (k : Kind) (i : List Terminal) → Full i → kind_of i ≡ k → (f : Form) → ((t : Terminal) (r : List Terminal) → i ≡ t ∷ r → line_of profile plain k i r ≡ Found f []) → read_line profile i ≡ Found f []
+-- a line by its opening
+line_by : (profile : Profile) (k : Opening) (i : List Terminal) → Full i → opening_of i ≡ k → (f : Form) → ((t : Terminal) (r : List Terminal) → i ≡ t ∷ r → line_of profile plain k i r ≡ Found f []) → read_line profile i ≡ Found f []
 line_by profile k [] g q f h = absurd (empty g)
   where
     empty : Full [] → ⊥

@@ -14,8 +14,8 @@ use Rattle.pyparse_block.specs.declared.blocks.Blocks.{Blocks}
 use Rattle.pyparse_block.specs.StateOf.{state_of}
 use Rattle.pyparse_block.specs.declared.outline.outlines.Outline.{Outline}
 use Rattle.pyparse_block.specs.Outlines.{Follows}
-use Rattle.pyparse_block.specs.declared.outline.faults.Stop.{Stop}
-use Rattle.pyparse_block.specs.declared.outline.faults.Stop.TheVariants as variant
+use Rattle.pyparse_block.specs.declared.outline.faults.BlockStop.{BlockStop}
+use Rattle.pyparse_block.specs.declared.outline.faults.BlockStop.TheVariants as variant
 use Rattle.pyparse_block.specs.Faults.{fault_of}
 use Rattle.pyparse_tokens.specs.declared.faults.GrammarError.{GrammarError}
 use Rattle.pyparse.specs.declared.progress.Progress.{Progress}
@@ -95,6 +95,6 @@ pub record Closes (s : Source) (k : ℕ) (p : Place) : Type 0 where
 -- ---- Faults.
 
 -- the error is that of a faulty line
-abbrev pub TellsFault : Stop → GrammarError → Type 0
+abbrev pub TellsFault : BlockStop → GrammarError → Type 0
 TellsFault (variant.Faulty f) e = code_of e ≡ Indentation (fault_of f)
 TellsFault variant.Memory e = ⊥

@@ -9,8 +9,8 @@ use Rattle.pygrammar.specs.Blocks.{Fault, ExpectedIndent, UnexpectedIndent, Misp
 use Rattle.pygrammar.specs.Reading.{Answer, Fine, Faulty, then, Group, Idle, Marked, Choice, Loop, Trial, Caught, Settled, closes, Part, part, meets, grows, decorated, or_misplaced, place_header, Waiting, waiting, State, state, start, joined}
 use Rattle.pygrammar.specs.Reading as reading
 use Rattle.pyparse_block.specs.declared.outline.shapes.Shape.TheVariants as shape
-use Rattle.pyparse_block.specs.declared.outline.groups.Group.TheVariants as group
-use Rattle.pyparse_block.specs.declared.outline.groups.Group as bare
+use Rattle.pyparse_block.specs.declared.outline.groups.GroupKind.TheVariants as group
+use Rattle.pyparse_block.specs.declared.outline.groups.GroupKind as bare
 use Rattle.pyparse_block.specs.Outlines.{group_of, awaited, Levels, levels, outline, outlined}
 use Rattle.pyparse_block.specs.Inner.Shapes.{clause_of, shape_of}
 use Rattle.pyparse_block.specs.Inner.Steps.{is_whole, ended, goes_on, next, opens, settle_in, place, placed, step, finish}

@@ -8,7 +8,7 @@ use Rattle.std.proofs.lemmas.List.Folds.{list_all-append}
 use Rattle.std.proofs.lemmas.Grind.{reverse_onto}
 use Rattle.pygrammar.specs.Blocks.{ExpectedIndent, MisplacedClause}
 use Rattle.pygrammar.specs.Reading.{Answer, Fine, Faulty, then}
-use Rattle.pyparse_block.specs.declared.outline.groups.Group.{Group}
+use Rattle.pyparse_block.specs.declared.outline.groups.GroupKind.{GroupKind}
 use Rattle.pyparse_block.specs.Outlines.{Levels, levels}
 use Rattle.pyparse_block.specs.Inner.Steps.{is_whole, settle_in, settle, awaits_block, is_all_whole, finish}
 
@@ -19,7 +19,7 @@ not_less a b h = elim (nat_lt a b) as (λ c. nat_lt a b ≡ c → nat_lt a b ≡
 ] refl
 
 -- the deepest level first, which stands last in the program
-pub reverse-push : (xs : List Group) (x : Group) → reverse (xs ++ x ∷ []) ≡ x ∷ reverse xs
+pub reverse-push : (xs : List GroupKind) (x : GroupKind) → reverse (xs ++ x ∷ []) ≡ x ∷ reverse xs
 reverse-push xs x = reverse-append xs (x ∷ [])
 
 -- ---- Levels that end.
@@ -34,7 +34,7 @@ settle_stays l s h =
     ] h
 
 -- the deepest of several levels
-ends : (l : ℕ) (s : Levels) (w : Group) (below : List Group) → s.below ≡ w ∷ below → l < length s.below →
+ends : (l : ℕ) (s : Levels) (w : GroupKind) (below : List GroupKind) → s.below ≡ w ∷ below → l < length s.below →
     settle l s ≡ cond s.fresh (Faulty ExpectedIndent) (cond (is_whole s.group) (settle_in l w false below) (Faulty MisplacedClause))
 ends l s w below e h =
     ap (settle_in l s.group s.fresh) e
@@ -42,12 +42,12 @@ ends l s w below e h =
     (lt-ltb l (length (w ∷ below)) (let n : length s.below ≡ length (w ∷ below) = ap length e in omega (arith, h, n)))
 
 -- one of some
-pub record Deepest (below : List Group) : Type 0 where
-  pub first : Group
-  pub others : List Group
+pub record Deepest (below : List GroupKind) : Type 0 where
+  pub first : GroupKind
+  pub others : List GroupKind
   pub is : below ≡ first ∷ others
 
-deepest : (l : ℕ) (below : List Group) → l < length below → Deepest below
+deepest : (l : ℕ) (below : List GroupKind) → l < length below → Deepest below
 deepest l [] h = absurd (omega (arith, h))
 deepest l (w ∷ below) h = record { first = w; others = below; is = refl }
 
@@ -63,7 +63,7 @@ settle_misplaced l s h f w =
     ∙ ap (λ b. cond b (Faulty ExpectedIndent) (cond (is_whole s.group) (settle_in l d.first false d.others) (Faulty MisplacedClause))) f
     ∙ ap (λ b. cond b (settle_in l d.first false d.others) (Faulty MisplacedClause)) w
 
-pub settle_goes : (l : ℕ) (s : Levels) (w : Group) (below : List Group) → s.below ≡ w ∷ below → l < length s.below → s.fresh ≡ false → is_whole s.group ≡ true →
+pub settle_goes : (l : ℕ) (s : Levels) (w : GroupKind) (below : List GroupKind) → s.below ≡ w ∷ below → l < length s.below → s.fresh ≡ false → is_whole s.group ≡ true →
     settle l s ≡ settle l (levels w s.fresh below)
 settle_goes l s w below e h f k =
     ends l s w below e h
@@ -86,7 +86,7 @@ alone : (b : Bool) → by_whole b ≡ by_whole (b && true)
 alone true = refl
 alone false = refl
 
-finish_settled : (g : Group) (below : List Group) → finish (levels g false below) ≡ by_whole (is_whole g && list_all is_whole below)
+finish_settled : (g : GroupKind) (below : List GroupKind) → finish (levels g false below) ≡ by_whole (is_whole g && list_all is_whole below)
 finish_settled g [] = alone (is_whole g)
 finish_settled g (w ∷ below) =
     ap (λ a. then a (λ t. by_whole (is_whole t.group))) (ends 0 (levels g false (w ∷ below)) w below refl (omega arith))
@@ -102,7 +102,7 @@ finish_is s =
       ]
     ]
   where
-    awaits_none : (g : Group) (below : List Group) → awaits_block (levels g false below) ≡ false
+    awaits_none : (g : GroupKind) (below : List GroupKind) → awaits_block (levels g false below) ≡ false
     awaits_none g [] = refl
     awaits_none g (w ∷ below) = refl
 
@@ -116,7 +116,7 @@ pub finish_fine : (s : Levels) → awaits_block s ≡ false → is_all_whole s �
 finish_fine s h w = finish_is s ∙ ap (λ b. cond b (Faulty ExpectedIndent) (by_whole (is_all_whole s))) h ∙ ap by_whole w
 
 -- whether all may end, from the deepest on or from the lowest
-pub all_reversed : (xs : List Group) → list_all is_whole (reverse xs) ≡ list_all is_whole xs
+pub all_reversed : (xs : List GroupKind) → list_all is_whole (reverse xs) ≡ list_all is_whole xs
 all_reversed [] = refl
 all_reversed (x ∷ xs) =
     ap (list_all is_whole) (reverse_onto xs x []) ∙ list_all-append is_whole (reverse xs) (x ∷ []) ∙ ap (λ b. b && (is_whole x && true)) (all_reversed xs)

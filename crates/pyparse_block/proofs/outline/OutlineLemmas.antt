@@ -7,8 +7,8 @@ use Rattle.pygrammar.specs.Reading.{Answer, Fine, Faulty, State, start, run}
 use Rattle.pygrammar.specs.Reading as reading
 use Rattle.pygrammar.specs.Depths.{Depth, count, innermost, is_deep}
 use Rattle.pygrammar.proofs.Callers.Blocks.{step_on, fault_found, end_fault_found, block_found, count_on}
-use Rattle.pyparse_block.specs.declared.outline.faults.Stop.{Stop}
-use Rattle.pyparse_block.specs.declared.outline.faults.Stop.TheVariants as stop
+use Rattle.pyparse_block.specs.declared.outline.faults.BlockStop.{BlockStop}
+use Rattle.pyparse_block.specs.declared.outline.faults.BlockStop.TheVariants as stop
 use Rattle.pyparse_block.specs.declared.outline.shapes.Shape.{Shape}
 use Rattle.pyparse_block.specs.declared.outline.outlines.Outline.{Outline}
 use Rattle.pyparse_block.specs.Faults.{fault_of, Tells, Blames}
@@ -77,7 +77,7 @@ pub deep_told : (xs : List Line) (old : Outline) (new : List Depth) (l : ℕ) (f
 deep_told xs old new l f x deep e k c = line_deep l f (count [] xs) new deep (counted_by l x (shape_of f) _ _ new deep e k.counted c)
 
 -- a line that is refused is the first faulty one
-pub line_blamed : (xs more : List Line) (o : Outline) (l : ℕ) (f : Form) (e : Stop) → Follows xs o → Tells (step l (shape_of f) (levels_of o.levels)) e →
+pub line_blamed : (xs more : List Line) (o : Outline) (l : ℕ) (f : Form) (e : BlockStop) → Follows xs o → Tells (step l (shape_of f) (levels_of o.levels)) e →
     Blames (xs ++ line l f ∷ more) (line l f ∷ more) e
 line_blamed xs more o l f stop.Memory k t = tt
 line_blamed xs more o l f (stop.Faulty x) k t =
@@ -91,7 +91,7 @@ finish_of xs o k =
     finish_outlined r.state ∙ ap finish r.kept
 
 -- an end that is refused
-pub end_blamed : (xs : List Line) (o : Outline) (e : Stop) → Follows xs o → Tells (finish (levels_of o.levels)) e → Blames xs [] e
+pub end_blamed : (xs : List Line) (o : Outline) (e : BlockStop) → Follows xs o → Tells (finish (levels_of o.levels)) e → Blames xs [] e
 end_blamed xs o stop.Memory k t = tt
 end_blamed xs o (stop.Faulty x) k t =
     let r = reads (run xs start) (levels_of o.levels) k.read in

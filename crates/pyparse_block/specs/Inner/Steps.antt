@@ -7,24 +7,24 @@ use Rattle.pyparse_block.specs.declared.outline.shapes.Clause.{Clause}
 use Rattle.pyparse_block.specs.declared.outline.shapes.Clause.TheVariants as clause
 use Rattle.pyparse_block.specs.declared.outline.shapes.Shape.{Shape}
 use Rattle.pyparse_block.specs.declared.outline.shapes.Shape.TheVariants as shape
-use Rattle.pyparse_block.specs.declared.outline.groups.Group.{Group}
-use Rattle.pyparse_block.specs.declared.outline.groups.Group.TheVariants.{Idle, Marked, Choice, Loop, Trial, Caught, Settled}
+use Rattle.pyparse_block.specs.declared.outline.groups.GroupKind.{GroupKind}
+use Rattle.pyparse_block.specs.declared.outline.groups.GroupKind.TheVariants.{Idle, Marked, Choice, Loop, Trial, Caught, Settled}
 use Rattle.pyparse_block.specs.Outlines.{Levels, levels}
 
 -- ---- One level.
 
 -- whether what is open may end here
-abbrev pub is_whole : Group → Bool
+abbrev pub is_whole : GroupKind → Bool
 is_whole Marked = false
 is_whole Trial = false
 is_whole _ = true
 
 -- what is open behind another statement that begins here, if it may
-abbrev pub ended : Group → Group → Option Group
+abbrev pub ended : GroupKind → GroupKind → Option GroupKind
 ended g next = cond (is_whole g) (Some next) None
 
 -- what is open behind a clause and its block, if the clause may stand here
-abbrev pub goes_on : Clause → Group → Option Group
+abbrev pub goes_on : Clause → GroupKind → Option GroupKind
 goes_on clause.If g = ended g Choice
 goes_on clause.Elif Choice = Some Choice
 goes_on clause.Elif _ = None
@@ -46,7 +46,7 @@ goes_on clause.Def Marked = Some Idle
 goes_on clause.Def g = ended g Idle
 
 -- and behind a line
-abbrev pub next : Shape → Group → Option Group
+abbrev pub next : Shape → GroupKind → Option GroupKind
 next shape.Simple g = ended g Idle
 next shape.Decorator Marked = Some Marked
 next shape.Decorator g = ended g Marked
@@ -60,7 +60,7 @@ opens _ = false
 -- ---- All levels.
 
 -- the levels above l come to their end
-abbrev pub settle_in : ℕ → Group → Bool → List Group → Answer Levels
+abbrev pub settle_in : ℕ → GroupKind → Bool → List GroupKind → Answer Levels
 settle_in l g fresh [] = Fine (levels g fresh [])
 settle_in l g fresh (w ∷ below) =
     cond (nat_lt l (length (w ∷ below)))

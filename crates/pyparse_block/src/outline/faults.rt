@@ -22,7 +22,7 @@ pub enum BlockFault {
 
 /// Why a line, or the end, was not taken.
 #[derive(Clone, Copy, Debug, PartialEq, Eq, Error)]
-pub enum Stop {
+pub enum BlockStop {
     /// It is faulty.
     #[error("{0}")]
     Faulty(BlockFault),
@@ -31,22 +31,22 @@ pub enum Stop {
     Memory,
 }
 
-impl From<AllocError> for Stop {
-    ghost use Rattle.pyparse_block.specs.declared.outline.faults.Stop.TheVariants.{Memory};
+impl From<AllocError> for BlockStop {
+    ghost use Rattle.pyparse_block.specs.declared.outline.faults.BlockStop.TheVariants.{Memory};
 
     ghost from_gives = { λ error r. r ≡ Memory };
 
-    fn from(_error: AllocError) -> Stop {
-        Stop::Memory
+    fn from(_error: AllocError) -> BlockStop {
+        BlockStop::Memory
     }
 }
 
-impl<T: Drop> From<AllocFailed<T>> for Stop {
-    ghost use Rattle.pyparse_block.specs.declared.outline.faults.Stop.TheVariants.{Memory};
+impl<T: Drop> From<AllocFailed<T>> for BlockStop {
+    ghost use Rattle.pyparse_block.specs.declared.outline.faults.BlockStop.TheVariants.{Memory};
 
     ghost from_gives = { λ error r. r ≡ Memory };
 
-    fn from(_error: AllocFailed<T>) -> Stop {
-        Stop::Memory
+    fn from(_error: AllocFailed<T>) -> BlockStop {
+        BlockStop::Memory
     }
 }

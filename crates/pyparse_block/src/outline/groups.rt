@@ -8,7 +8,7 @@ use crate::outline::shapes::{Clause, Shape};
 
 /// The statement that a level has open, whose last clause and its block are whole.
 #[derive(Clone, Copy)]
-pub(crate) enum Group {
+pub(crate) enum GroupKind {
     /// None that could go on.
     Idle,
     /// Decorators.
@@ -25,67 +25,69 @@ pub(crate) enum Group {
     Settled,
 }
 
-impl Group {
+impl GroupKind {
     /// Whether it may end here: all but decorators and a `try` alone.
     pub(crate) fn is_whole(self) -> bool
         ensures { result ≡ is_whole self }
     {
         match self {
-            Group::Marked | Group::Trial => false,
+            GroupKind::Marked | GroupKind::Trial => false,
             _ => true,
         }
     }
 
     /// What is open behind another statement that begins here, if it may.
-    fn ended(self, next: Group) -> Option<Group>
+    fn ended(self, next: GroupKind) -> Option<GroupKind>
         ensures { result ≡ ended self next }
     {
         if self.is_whole() { Some(next) } else { None }
     }
 
     /// What is open behind a clause and its block, if the clause may stand here: 8.1 to 8.8.
-    fn goes_on(self, clause: Clause) -> Option<Group>
+    fn goes_on(self, clause: Clause) -> Option<GroupKind>
         ensures { result ≡ goes_on clause self }
     {
         match clause {
-            Clause::If => self.ended(Group::Choice),
+            Clause::If => self.ended(GroupKind::Choice),
             Clause::Elif => match self {
-                Group::Choice => Some(Group::Choice),
+                GroupKind::Choice => Some(GroupKind::Choice),
                 _ => None,
             },
             Clause::Else => match self {
-                Group::Choice | Group::Loop => Some(Group::Idle),
-                Group::Caught { star: _ } => Some(Group::Settled),
+                GroupKind::Choice | GroupKind::Loop => Some(GroupKind::Idle),
+                GroupKind::Caught { star: _ } => Some(GroupKind::Settled),
                 _ => None,
             },
-            Clause::Loop => self.ended(Group::Loop),
-            Clause::With => self.ended(Group::Idle),
-            Clause::Try => self.ended(Group::Trial),
+            Clause::Loop => self.ended(GroupKind::Loop),
+            Clause::With => self.ended(GroupKind::Idle),
+            Clause::Try => self.ended(GroupKind::Trial),
             Clause::Except { star } => match self {
-                Group::Trial => Some(Group::Caught { star }),
-                Group::Caught { star: other } if star == other => Some(self),
+                GroupKind::Trial => Some(GroupKind::Caught { star }),
+                GroupKind::Caught { star: other } if star == other => Some(self),
                 _ => None,
             },
             Clause::Finally => match self {
-                Group::Trial | Group::Caught { star: _ } | Group::Settled => Some(Group::Idle),
+                GroupKind::Trial | GroupKind::Caught { star: _ } | GroupKind::Settled => Some(
+                    GroupKind::Idle,
+                ),
                 _ => None,
             },
             Clause::Def => match self {
-                Group::Marked => Some(Group::Idle),
-                _ => self.ended(Group::Idle),
+                GroupKind::Marked => Some(GroupKind::Idle),
+                _ => self.ended(GroupKind::Idle),
             },
         }
     }
 
     /// What is open behind a line, if the line may stand here.
-    pub(crate) fn next(self, shape: Shape) -> Option<Group>
+    pub(crate) fn next(self, shape: Shape) -> Option<GroupKind>
         ensures { result ≡ next shape self }
     {
         match shape {
-            Shape::Simple => self.ended(Group::Idle),
+            Shape::Simple => self.ended(GroupKind::Idle),
             Shape::Decorator => match self {
-                Group::Marked => Some(Group::Marked),
-                _ => self.ended(Group::Marked),
+                GroupKind::Marked => Some(GroupKind::Marked),
+                _ => self.ended(GroupKind::Marked),
             },
             Shape::Opening { clause } | Shape::Inline { clause } => self.goes_on(clause),
         }
@@ -93,7 +95,7 @@ impl Group {
 }
 
 /// Whether all of these may end.
-pub(crate) fn are_whole(groups: &[Group]) -> bool
+pub(crate) fn are_whole(groups: &[GroupKind]) -> bool
     ensures { result ≡ list_all is_whole groups.now }
 {
     groups.iter().all(|group| group.is_whole())

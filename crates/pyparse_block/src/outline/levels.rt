@@ -7,8 +7,8 @@ ghost use Rattle.pyparse_block.specs.Outlines.{levels_of, outline};
 ghost use Rattle.pyparse_block.specs.Inner.Steps.{awaits_block, is_all_whole};
 ghost use Rattle.pyparse_block.specs.Inner.Steps.{finish, place, settle, step};
 
-use crate::outline::faults::{BlockFault, Stop};
-use crate::outline::groups::{Group, are_whole};
+use crate::outline::faults::{BlockFault, BlockStop};
+use crate::outline::groups::{GroupKind, are_whole};
 use crate::outline::shapes::Shape;
 use std::alloc::Global;
 
@@ -16,9 +16,9 @@ use std::alloc::Global;
 /// what those below it will have open once the block that they wait for is whole, the deepest last.
 #[derive(Drop)]
 pub(crate) struct Levels {
-    group: Group,
+    group: GroupKind,
     fresh: bool,
-    below: Vec<Group>,
+    below: Vec<GroupKind>,
 }
 
 impl Levels {
@@ -27,7 +27,7 @@ impl Levels {
         ensures { levels_of result ≡ outline start }
     {
         Levels {
-            group: Group::Idle,
+            group: GroupKind::Idle,
             fresh: false,
             below: Vec::new(alloc),
         }
@@ -35,16 +35,16 @@ impl Levels {
 
     /// The levels above this one come to their end.
     #[tactic(auto, using(crate::proofs::outline::LevelLemmas::ending))]
-    fn settle(&mut self, level: usize) -> Result<(), Stop>
+    fn settle(&mut self, level: usize) -> Result<(), BlockStop>
         ensures ok { OnOk result (settle level (levels_of self.old) ≡ Fine (levels_of self.new)) }
         ensures refused { IfErr result (Tells (settle level (levels_of self.old))) }
     {
         while level < self.below.len() {
             if self.fresh {
-                return Err(Stop::Faulty(BlockFault::ExpectedIndent));
+                return Err(BlockStop::Faulty(BlockFault::ExpectedIndent));
             }
             if !self.group.is_whole() {
-                return Err(Stop::Faulty(BlockFault::MisplacedClause));
+                return Err(BlockStop::Faulty(BlockFault::MisplacedClause));
             }
             self.group = self.below.pop().unwrap();
         }
@@ -52,16 +52,16 @@ impl Levels {
     }
 
     /// A line of the deepest level.
-    fn place(&mut self, shape: Shape) -> Result<(), Stop>
+    fn place(&mut self, shape: Shape) -> Result<(), BlockStop>
         ensures ok { OnOk result (place shape (levels_of self.old) ≡ Fine (levels_of self.new)) }
         ensures refused { IfErr result (Tells (place shape (levels_of self.old))) }
     {
         let Some(group) = self.group.next(shape) else {
-            return Err(Stop::Faulty(BlockFault::MisplacedClause));
+            return Err(BlockStop::Faulty(BlockFault::MisplacedClause));
         };
         if shape.opens() {
             self.below.push(group)?;
-            self.group = Group::Idle;
+            self.group = GroupKind::Idle;
             self.fresh = true;
         } else {
             self.group = group;
@@ -71,14 +71,14 @@ impl Levels {
     }
 
     /// The next line: its level, and its shape.
-    pub(crate) fn step(&mut self, level: usize, shape: Shape) -> Result<(), Stop>
+    pub(crate) fn step(&mut self, level: usize, shape: Shape) -> Result<(), BlockStop>
         ensures ok { OnOk result
             (step level shape (levels_of self.old) ≡ Fine (levels_of self.new)) }
         ensures refused { IfErr result (Tells (step level shape (levels_of self.old))) }
     {
         self.settle(level)?;
         if level > self.below.len() {
-            return Err(Stop::Faulty(BlockFault::UnexpectedIndent));
+            return Err(BlockStop::Faulty(BlockFault::UnexpectedIndent));
         }
         self.place(shape)
     }
@@ -100,16 +100,16 @@ impl Levels {
 
     /// The end of all lines.
     #[tactic(auto, using(crate::proofs::outline::LevelLemmas::finishing))]
-    pub(crate) fn finish(&self) -> Result<(), Stop>
+    pub(crate) fn finish(&self) -> Result<(), BlockStop>
         ensures ok { OnOk result (finish (levels_of self.now) ≡ Fine tt) }
         ensures refused { IfErr result (Tells (finish (levels_of self.now))) }
         ensures faulty { IfErr result IsFaulty }
     {
         if self.awaits_block() {
-            return Err(Stop::Faulty(BlockFault::ExpectedIndent));
+            return Err(BlockStop::Faulty(BlockFault::ExpectedIndent));
         }
         if !self.is_whole() {
-            return Err(Stop::Faulty(BlockFault::MisplacedClause));
+            return Err(BlockStop::Faulty(BlockFault::MisplacedClause));
         }
         Ok(())
     }

@@ -12,7 +12,7 @@ ghost use Rattle.pyparse_block.specs.Inner.Counting.{Counts};
 ghost use Rattle.pyparse_block.specs.Inner.Steps.{step};
 
 use crate::outline::depths::Depths;
-use crate::outline::faults::Stop;
+use crate::outline::faults::BlockStop;
 use crate::outline::levels::Levels;
 use crate::outline::shapes::{Shape, shape_of};
 use pygrammar::Form;
@@ -46,11 +46,11 @@ impl Outline {
     ///
     /// # Errors
     ///
-    /// [`Stop::Faulty`] where the line is the first faulty one, by its fault, and
-    /// [`Stop::Memory`].
+    /// [`BlockStop::Faulty`] where the line is the first faulty one, by its fault, and
+    /// [`BlockStop::Memory`].
     #[tactic(auto, using(crate::proofs::outline::OutlineLemmas::following))]
     #[inline(always)]
-    pub fn step(&mut self, alloc: Global, level: usize, form: &Form) -> Result<bool, Stop>
+    pub fn step(&mut self, alloc: Global, level: usize, form: &Form) -> Result<bool, BlockStop>
         ensures ok { (xs : List Line) → Follows xs self.old
             → OnOk result (Follows (xs ++ line level (form_of form.now) ∷ []) self.new) }
         ensures deep { (xs : List Line) → Follows xs self.old → IfOk result
@@ -71,7 +71,7 @@ impl Outline {
 
     /// Takes the next line, by its shape.
     #[inline(always)]
-    fn take(&mut self, level: usize, shape: Shape) -> Result<bool, Stop>
+    fn take(&mut self, level: usize, shape: Shape) -> Result<bool, BlockStop>
         ensures ok { OnOk result
             (step level shape (levels_of self.old.levels) ≡ Fine (levels_of self.new.levels)) }
         ensures counts { IfOk result
@@ -87,9 +87,9 @@ impl Outline {
     ///
     /// # Errors
     ///
-    /// [`Stop::Faulty`] where the end of the lines is faulty, by its fault; it takes no memory.
+    /// [`BlockStop::Faulty`] where the end of the lines is faulty, by its fault; it takes no memory.
     #[tactic(auto, using(crate::proofs::outline::OutlineLemmas::following))]
-    pub fn finish(&self) -> Result<(), Stop>
+    pub fn finish(&self) -> Result<(), BlockStop>
         ensures ok { (xs : List Line) → Follows xs self.now
             → OnOk result ((ss : List Stmt) × Block 0 xs ss) }
         ensures blamed { (xs : List Line) → Follows xs self.now → IfErr result (Blames xs []) }

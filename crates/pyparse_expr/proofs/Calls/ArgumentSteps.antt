@@ -21,8 +21,8 @@ use Rattle.pygrammar.specs.Precedence.{starts, starts_comp}
 use Rattle.pygrammar.specs.Reader.{Answer, Found, NoForm, TooDeep, and_then, on_first, on_some, made, listing_loop, others_of, read_argument, called_with, call_step, generator_call}
 use Rattle.pygrammar.specs.Capped.{cap}
 use Rattle.pyparse_nodes.specs.declared.actual.Actual.{Actual}
-use Rattle.pyparse_nodes.specs.declared.actual.Kind.{Kind}
-use Rattle.pyparse_nodes.specs.declared.actual.Kind.TheVariants as kind
+use Rattle.pyparse_nodes.specs.declared.actual.ArgumentForm.{ArgumentForm}
+use Rattle.pyparse_nodes.specs.declared.actual.ArgumentForm.TheVariants as kind
 use Rattle.pyparse_expr.specs.declared.depth.Depth.{Depth}
 use Rattle.pyparse_nodes.specs.declared.found.Read.{Read}
 use Rattle.pyparse_nodes.specs.declared.stop.Stop.{Stop}
@@ -78,7 +78,7 @@ module _ (ts : List given.Terminal) (at : ℕ) where
   keyed_kind x s = record { within = omega (arith, s.within); is = λ self. rw (s.is, s.form) refl }
 
 -- what was read of an argument of a kind
-kind_found : (ts : List given.Terminal) (d : Depth) (k : Kind) (at room least : ℕ) (e : Read) → IsKindAt k ts at → FoundAt ts room least (inner_reads d (level_of k) (seen ts (place_of k at))) e → read_argument (inner_reads d) (seen ts at) ≡ Found (entry_of k (tree_of e.expr.value)) (seen ts e.next)
+kind_found : (ts : List given.Terminal) (d : Depth) (k : ArgumentForm) (at room least : ℕ) (e : Read) → IsKindAt k ts at → FoundAt ts room least (inner_reads d (level_of k) (seen ts (place_of k at))) e → read_argument (inner_reads d) (seen ts at) ≡ Found (entry_of k (tree_of e.expr.value)) (seen ts e.next)
 kind_found ts d k at room least e h f = h.is (inner_reads d) ∙ ap (λ z. and_then z (λ e2 r. Found (entry_of k e2) r)) f.is
 
 -- the loop
@@ -221,13 +221,13 @@ module _ (ts : List given.Terminal) (d : Depth) (f : Expr) (at : ℕ) where
   some_is : true ≡ starts Argument (seen ts at) → call_step (inner_reads d) f (seen ts at) ≡ and_then (read_argument (inner_reads d) (seen ts at)) (λ a r1. first a r1)
   some_is n = ap (λ b. cond b (and_then (read_argument (inner_reads d) (seen ts at)) (λ a r1. first a r1)) (called_with (inner_reads d) f [] (seen ts at))) (sym n)
 
-  abbrev IsRead : Kind → Read → Type 0
+  abbrev IsRead : ArgumentForm → Read → Type 0
   IsRead k e = FoundAt ts (d.room - 1) (at + 1) (inner_reads d (level_of k) (seen ts (place_of k at))) e
 
-  first_is_read : (k : Kind) (e : Read) → true ≡ starts Argument (seen ts at) → IsKindAt k ts at → IsRead k e → call_step (inner_reads d) f (seen ts at) ≡ first (entry_of k (tree_of e.expr.value)) (seen ts e.next)
+  first_is_read : (k : ArgumentForm) (e : Read) → true ≡ starts Argument (seen ts at) → IsKindAt k ts at → IsRead k e → call_step (inner_reads d) f (seen ts at) ≡ first (entry_of k (tree_of e.expr.value)) (seen ts e.next)
   first_is_read k e n h r = some_is n ∙ ap (λ y. and_then y (λ a r1. first a r1)) (kind_found ts d k at (d.room - 1) (at + 1) e h r)
 
-  pub call_behind : (k : Kind) (e : Read) (a : Actual) (b : Actual) (z : Result Read Stop) → true ≡ starts Argument (seen ts at) → IsKindAt k ts at → IsRead k e → false ≡ starts_comp (seen ts e.next) → state_of a ≡ start → state_of b ≡ step (state_of a) (entry_of k (tree_of e.expr.value)) → b.next ≡ e.next → Answered ts d.room b.next (cap d.room (called_from d f (state_of b) (seen ts b.next))) z → Answered ts d.room at (cap d.room (call_step (inner_reads d) f (seen ts at))) z
+  pub call_behind : (k : ArgumentForm) (e : Read) (a : Actual) (b : Actual) (z : Result Read Stop) → true ≡ starts Argument (seen ts at) → IsKindAt k ts at → IsRead k e → false ≡ starts_comp (seen ts e.next) → state_of a ≡ start → state_of b ≡ step (state_of a) (entry_of k (tree_of e.expr.value)) → b.next ≡ e.next → Answered ts d.room b.next (cap d.room (called_from d f (state_of b) (seen ts b.next))) z → Answered ts d.room at (cap d.room (call_step (inner_reads d) f (seen ts at))) z
   call_behind k e a b z n h r c p g q w =
       let i = first_is_read k e n h r ∙ ap (λ v. cond v (generator_call (inner_reads d) f (entry_of k (tree_of e.expr.value)) (seen ts e.next)) (behind d f (entry_of k (tree_of e.expr.value)) (seen ts e.next))) (sym c) ∙ behind_is d f (entry_of k (tree_of e.expr.value)) (seen ts e.next) in
       let u = subst (λ (y : State). Answered ts d.room b.next (cap d.room (called_from d f y (seen ts b.next))) z) (g ∙ ap (λ y. step y (entry_of k (tree_of e.expr.value))) p) w in

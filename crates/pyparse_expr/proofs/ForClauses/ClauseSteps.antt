@@ -14,8 +14,8 @@ use Rattle.pygrammar.specs.Reader.{Answer, Found, NoForm, and_then, on_first, ma
 use Rattle.pyparse_expr.specs.declared.depth.Depth.{Depth}
 use Rattle.pyparse_nodes.specs.declared.found.Read.{Read}
 use Rattle.pyparse_nodes.specs.declared.found.Items.{Items}
-use Rattle.pyparse_nodes.specs.declared.found.Clause.{Clause}
-use Rattle.pyparse_nodes.specs.declared.found.Clauses.{Clauses}
+use Rattle.pyparse_nodes.specs.declared.found.ForClause.{ForClause}
+use Rattle.pyparse_nodes.specs.declared.found.ForClauses.{ForClauses}
 use Rattle.pyparse_nodes.specs.declared.stop.Stop.{Stop}
 use Rattle.pyparse_nodes.specs.Answers.{Failed, FoundAt}
 use Rattle.pyparse_expr.specs.Inner.Found.{TestsAt, ClauseAt, ClausesAt}
@@ -46,7 +46,7 @@ module _ (ts : List given.Terminal) (d : Depth) (b : Bool) (at : ℕ) where
         pub clause_none : (cs : Items) → TestsAt ts i.next (ifs_loop (inner_reads d) (length (seen ts i.next)) [] (seen ts i.next)) cs → generator_of (stored (tree_of t.expr.value)) (tree_of i.expr.value) (map tree_of cs.exprs.items) b ≡ None → for_in_step (inner_reads d) b (seen ts at) ≡ NoForm
         clause_none cs f h = clause_is cs f ∙ ap (λ o. made o (seen ts cs.next)) h
 
-        pub clause_made : (cs : Items) (c : Clause) → TestsAt ts i.next (ifs_loop (inner_reads d) (length (seen ts i.next)) [] (seen ts i.next)) cs → generator_of (stored (tree_of t.expr.value)) (tree_of i.expr.value) (map tree_of cs.exprs.items) b ≡ Some (comprehension_of c.generator) → c.next ≡ cs.next → ClauseAt ts (at + 1) (for_in_step (inner_reads d) b (seen ts at)) c
+        pub clause_made : (cs : Items) (c : ForClause) → TestsAt ts i.next (ifs_loop (inner_reads d) (length (seen ts i.next)) [] (seen ts i.next)) cs → generator_of (stored (tree_of t.expr.value)) (tree_of i.expr.value) (map tree_of cs.exprs.items) b ≡ Some (comprehension_of c.generator) → c.next ≡ cs.next → ClauseAt ts (at + 1) (for_in_step (inner_reads d) b (seen ts at)) c
         clause_made cs c f h n = record {
           ahead = omega (arith, ft.ahead, fi.ahead, f.ahead, n);
           within = omega (arith, f.within, n);
@@ -54,13 +54,13 @@ module _ (ts : List given.Terminal) (d : Depth) (b : Bool) (at : ℕ) where
         }
 
 -- how far the clauses were read
-pub record Reached (ts : List given.Terminal) (d : Depth) (x : Answer (List Comprehension)) (r : Clauses) : Type 0 where
+pub record Reached (ts : List given.Terminal) (d : Depth) (x : Answer (List Comprehension)) (r : ForClauses) : Type 0 where
   pub within : r.next ≤ length ts
   pub most : ℕ
   pub enough : length (seen ts r.next) ≤ most
   pub is : x ≡ comps_loop (inner_reads d) most (map comprehension_of r.generators.items) (seen ts r.next)
 
-pub clauses_start : (ts : List given.Terminal) (d : Depth) (at : ℕ) (r : Clauses) → at ≤ length ts → map comprehension_of r.generators.items ≡ [] → r.next ≡ at → Reached ts d (comps_loop (inner_reads d) (length (seen ts at)) [] (seen ts at)) r
+pub clauses_start : (ts : List given.Terminal) (d : Depth) (at : ℕ) (r : ForClauses) → at ≤ length ts → map comprehension_of r.generators.items ≡ [] → r.next ≡ at → Reached ts d (comps_loop (inner_reads d) (length (seen ts at)) [] (seen ts at)) r
 clauses_start ts d at r w e n = record {
   within = omega (arith, w, n);
   most = length (seen ts at);
@@ -68,7 +68,7 @@ clauses_start ts d at r w e n = record {
   is = ap (λ gs. comps_loop (inner_reads d) (length (seen ts at)) gs (seen ts at)) (sym e) ∙ ap (λ k. comps_loop (inner_reads d) (length (seen ts at)) (map comprehension_of r.generators.items) (seen ts k)) (sym n);
 }
 
-module _ (ts : List given.Terminal) (d : Depth) (x : Answer (List Comprehension)) (r : Clauses) (c : Reached ts d x r) where
+module _ (ts : List given.Terminal) (d : Depth) (x : Answer (List Comprehension)) (r : ForClauses) (c : Reached ts d x r) where
   pub clauses_end : (least : ℕ) → None ≡ first_is (is_word Key.For) (seen ts r.next) → None ≡ first_is (is_word Key.Async) (seen ts r.next) → least ≤ r.next → ClausesAt ts least x r
   clauses_end least n a le = record { ahead = le; within = c.within; is = c.is ∙ go c.most }
     where
@@ -90,7 +90,7 @@ async_begins ts n s f =
     let two : n + 1 + 1 ≡ n + 2 = omega arith in
     subst (λ at. Begins ts n true at) two (record { within = s.within; ahead = omega arith; is = λ self m acc. rw (s.is, f.is) refl })
 
-module _ (ts : List given.Terminal) (d : Depth) (x : Answer (List Comprehension)) (r : Clauses) (c : Reached ts d x r) where
+module _ (ts : List given.Terminal) (d : Depth) (x : Answer (List Comprehension)) (r : ForClauses) (c : Reached ts d x r) where
   module _ (b : Bool) (at : ℕ) (s : Begins ts r.next b at) where
     pub clauses_error : (e : Stop) → Failed e (for_in_step (inner_reads d) b (seen ts at)) → Failed e x
     clauses_error e f = go c.most c.enough c.is
@@ -101,7 +101,7 @@ module _ (ts : List given.Terminal) (d : Depth) (x : Answer (List Comprehension)
             let one : Failed e (and_then (for_in_step (inner_reads d) b (seen ts at)) (λ g t. comps_loop (inner_reads d) m (map comprehension_of r.generators.items ++ (g ∷ [])) t)) = failed_then e _ _ f in
             rw (q, s.is (inner_reads d) m (map comprehension_of r.generators.items)) one
 
-    pub clauses_more : (new : Clauses) (g : Clause) → ClauseAt ts (at + 1) (for_in_step (inner_reads d) b (seen ts at)) g → map comprehension_of new.generators.items ≡ map comprehension_of r.generators.items ++ (comprehension_of g.generator ∷ []) → new.next ≡ g.next → Reached ts d x new
+    pub clauses_more : (new : ForClauses) (g : ForClause) → ClauseAt ts (at + 1) (for_in_step (inner_reads d) b (seen ts at)) g → map comprehension_of new.generators.items ≡ map comprehension_of r.generators.items ++ (comprehension_of g.generator ∷ []) → new.next ≡ g.next → Reached ts d x new
     clauses_more new g f p k = go c.most c.enough c.is
       where
         go : (m : ℕ) → length (seen ts r.next) ≤ m → x ≡ comps_loop (inner_reads d) m (map comprehension_of r.generators.items) (seen ts r.next) → Reached ts d x new

@@ -15,8 +15,8 @@ use Rattle.pygrammar.specs.Entries.{Entry, Argument, Single, Spread, Doubled, Ke
 use Rattle.pygrammar.specs.Looks.{is_op}
 use Rattle.pygrammar.specs.Reader.{Answer, Found, NoForm, Reads, and_then, on_first, made, listing_of, read_argument}
 use Rattle.pyparse_nodes.specs.declared.actual.Actual.{Actual}
-use Rattle.pyparse_nodes.specs.declared.actual.Kind.{Kind}
-use Rattle.pyparse_nodes.specs.declared.actual.Kind.TheVariants as kind
+use Rattle.pyparse_nodes.specs.declared.actual.ArgumentForm.{ArgumentForm}
+use Rattle.pyparse_nodes.specs.declared.actual.ArgumentForm.TheVariants as kind
 use Rattle.pyparse_expr.specs.declared.depth.Depth.{Depth}
 use Rattle.pyparse_expr.specs.Inner.Readings.{inner_reads}
 use Rattle.pyparse_nodes.specs.Views.{seen}
@@ -58,24 +58,24 @@ abbrev pub state_of : Actual → State
 state_of a = state a.keyed a.doubled a.wrong (map tree_of a.args.items) (map keyword_of a.keywords.items)
 
 -- the expression of an argument: its level, its place, and what it is with it
-abbrev pub level_of : Kind → Level
+abbrev pub level_of : ArgumentForm → Level
 level_of kind.Single = level.Named
 level_of _ = level.Expression
 
-abbrev pub place_of : Kind → ℕ → ℕ
+abbrev pub place_of : ArgumentForm → ℕ → ℕ
 place_of kind.Single at = at
 place_of kind.Spread at = at + 1
 place_of kind.Doubled at = at + 1
 place_of (kind.Keyed x) at = at + 2
 
-abbrev pub entry_of : Kind → Expr → Entry
+abbrev pub entry_of : ArgumentForm → Expr → Entry
 entry_of kind.Single e = Single e
 entry_of kind.Spread e = Spread e
 entry_of kind.Doubled e = Doubled e
 entry_of (kind.Keyed x) e = Keyed (nfkc (chars x.now)) e
 
 -- an argument of this kind stands at a place, if any does
-pub record IsKindAt (k : Kind) (ts : List Terminal) (at : ℕ) : Type 0 where
+pub record IsKindAt (k : ArgumentForm) (ts : List Terminal) (at : ℕ) : Type 0 where
   pub within : place_of k at ≤ length ts
   pub is : (self : Reads) → read_argument self (seen ts at) ≡ and_then (self (level_of k) (seen ts (place_of k at))) (λ e r. Found (entry_of k e) r)
 

@@ -8,10 +8,10 @@ ghost use Rattle.pyparse_line.specs.Answers.{HeaderAnswered};
 ghost use Rattle.pyparse_expr.specs.Readings.{reads};
 
 use crate::headers::clauses::{else_at, except_rest, finally_at, try_at};
+use crate::headers::conditions::{elif_rest, if_rest, while_rest};
 use crate::headers::definitions::{class_rest, def_rest};
 use crate::headers::found::ReadHeader;
 use crate::headers::loops::{for_rest, with_rest};
-use crate::headers::tests::{elif_rest, if_rest, while_rest};
 use crate::headers::words::word_at;
 use pyparse_expr::Depth;
 use pyparse_nodes::Stop;

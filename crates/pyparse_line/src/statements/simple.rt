@@ -19,7 +19,7 @@ ghost use Rattle.pyparse_line.specs.Inner.Simple.{returns};
 
 use crate::statements::found::ReadStatement;
 use crate::statements::names::read_names;
-use crate::statements::options::{
+use crate::statements::optional::{
     after_sign, after_word, stars_or_none, starts_expression, unboxed,
 };
 use pygrammar::Level;

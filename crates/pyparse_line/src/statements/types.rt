@@ -16,7 +16,7 @@ ghost use Rattle.pyparse_nodes.specs.Views.{seen};
 ghost use Rattle.pyparse_line.specs.Inner.Types.{begins_type_param, type_var};
 
 use crate::statements::found::{ReadStatement, ReadTypeParam, ReadTypeParams};
-use crate::statements::options::{after_sign, unboxed};
+use crate::statements::optional::{after_sign, unboxed};
 use pygrammar::Level;
 use pylex::Exact;
 use pyparse_expr::{Depth, read_at};

@@ -18,7 +18,7 @@ ghost use Rattle.pyparse_nodes.specs.Views.{Stands, first_is, seen};
 
 use crate::statements::assignments::{annotation_of, assignment_of, augmented_of, expression_of};
 use crate::statements::found::ReadStatement;
-use crate::statements::options::after_sign;
+use crate::statements::optional::after_sign;
 use pygrammar::Level;
 use pylex::Exact;
 use pyparse_expr::{Depth, no_items, push, read_at};

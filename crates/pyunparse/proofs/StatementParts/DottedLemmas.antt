@@ -1,4 +1,4 @@
--- Carries: write_dotted, write_module. A name is written point by point.
+-- Carries: write_dotted, write_module_alias. A name is written point by point.
 use Rattle.std.proofs.Common.{◌≡◌, ◌∙◌, ℕ, ◌+◌, ◌<◌, ◌==◌, Bool, true, false, if◌then◌else◌, List, [], ◌∷◌, ◌++◌, length, get_or, drop, Option, Some, None, refl, ap, sym, subst, arith, append_assoc, length-append}
 use Rattle.std.specs.Prelude.{MatchOption}
 use Rattle.std.specs.Str.{chars, IsUtf8, NoCharPasses, NonePass}

@@ -53,7 +53,7 @@ pub(crate) fn unboxed(e: Option<Box<Expr>>) -> Option<Expr>
 }
 
 /// Whether an expression begins at the place.
-#[tactic(auto, using(crate::proofs::statements::OptionSteps::expression_high, crate::proofs::statements::OptionSteps::expression_low))]
+#[tactic(auto, using(crate::proofs::statements::OptionalSteps::expression_high, crate::proofs::statements::OptionalSteps::expression_low))]
 pub fn starts_expression(tokens: &[Terminal], at: usize) -> bool
     ensures is { result ≡ precedence.starts (entries.Of Level.Expression) (seen tokens.now at) }
     ensures within { result ≡ true → at < length tokens.now }
@@ -62,7 +62,7 @@ pub fn starts_expression(tokens: &[Terminal], at: usize) -> bool
 }
 
 /// Whether expressions and starred ones begin at the place.
-#[tactic(auto, using(crate::proofs::statements::OptionSteps::stars_high, crate::proofs::statements::OptionSteps::stars_low))]
+#[tactic(auto, using(crate::proofs::statements::OptionalSteps::stars_high, crate::proofs::statements::OptionalSteps::stars_low))]
 fn starts_stars(tokens: &[Terminal], at: usize) -> bool
     ensures is { result ≡ precedence.starts (entries.Of Level.Stars) (seen tokens.now at) }
     ensures within { result ≡ true → at < length tokens.now }
