@@ -20,10 +20,10 @@ use pylex::{Cursor, Kind, LineLister, Step, push_line};
 use pysource::{ByteIn, ByteOut, write_all};
 use std::alloc::{AllocError, Global};
 
-/// How many bytes of lines are output at least before they are written.
+/// How many bytes of lines are held at least before they are written.
 const ENOUGH: usize = 32_768;
 
-/// Room for what is output, so that lines of usual length take no further memory.
+/// Room for what is held, so that lines of usual length take no further memory.
 const ROOM: usize = 65_536;
 
 /// Appends the line of the cursor at which a lister stands.
@@ -137,7 +137,7 @@ fn is_write_failed(listed: &Result<(), Fault>) -> bool
     matches!(listed, Err(Fault::Plain(RunFaultCode::Write)))
 }
 
-/// Writes the listing of what a reader gives, read line by line. What is output at its end is written
+/// Writes the listing of what a reader gives, read line by line. What is held at its end is written
 /// before a fault is told, and a failure of that write is what ends the run then: it is met first.
 pub(crate) fn write_listing<R: ByteIn, W: ByteOut>(
     alloc: Global,
