@@ -63,7 +63,7 @@ fn lines_of<'a>(alloc: Global, tokens: &[Token<'a>]) -> Option<Lines<'a>> {
     Some(lines)
 }
 
-/// The tokens of the line that begins at a place, and the place behind them.
+/// The tokens of the line that begins at a place, and the place after them.
 fn line_at<'a, 'b>(tokens: &'b [Token<'a>], at: usize, length: usize) -> (&'b [Token<'a>], usize) {
     let start = at.min(tokens.len());
     let end = at.wrapping_add(length).max(start).min(tokens.len());

@@ -15,7 +15,7 @@ use pyunparse::unparse;
 use std::alloc::Global;
 use std::mem;
 
-/// How many expressions of an accepted source may stand in one another, and how many statements.
+/// How many expressions of an accepted source may be nested, and how many statements.
 const HIGHEST: u64 = 500;
 
 /// How many trees there were, and how many of them are well formed in Python 3.11, and in 3.12.

@@ -1,6 +1,6 @@
 //! Listing a large source up to a cursor, and going on from there.
 //!
-//! `measures resume CURSOR` writes how many entries are left behind the cursor of this text, by
+//! `measures resume CURSOR` writes how many entries are left after the cursor of this text, by
 //! each of the two, and how long listing up to the cursor took, and going on from it.
 
 use crate::input::source_of;

@@ -1,7 +1,7 @@
 //! One thing that is done with a large tree.
 //!
 //! `measures trees WHAT SHAPE N` makes a tree, does with it what WHAT says, and writes how many
-//! nanoseconds that took, before the tree is let go; of `dump` also the bytes of its text. WHAT is
+//! nanoseconds that took, before the tree is dropped; of `dump` also the bytes of its text. WHAT is
 //! `drop`, `height`, `copy`, `same` or `dump`. SHAPE is `deep`, one statement of a name under N
 //! signs, or `wide`, N statements `x = f(a, b=1)`. A tree that is deeper than the stack allows ends
 //! the program by a signal.

@@ -37,7 +37,7 @@ fn push_cursor(output: &mut String, lister: &LineLister) -> Result<(), AllocErro
     output.push_str(line.as_str())
 }
 
-/// How many entries may still be listed behind one of this kind, of those that a count allows.
+/// How many entries may still be listed after one of this kind, of those that a count allows.
 /// Where the last of them is the end marker the count stops nothing: the listing comes to its end.
 fn left_behind(left: Option<u64>, kind: Kind) -> Option<u64>
     requires { left ≢ Some 0 }
@@ -59,8 +59,8 @@ fn is_reached(left: Option<u64>) -> bool
 }
 
 /// Writes the line of each entry that a lister still gives, up to a count and then that of the
-/// cursor. The last of them are left in `output`, also where a fault ends the listing, unless it is a
-/// failed write.
+/// cursor. The last of them are left in `output`, also where a fault ends the listing, unless it is
+/// a failed write.
 fn list<R: ByteIn, W: ByteOut>(
     mut lister: LineLister,
     exact: bool,
@@ -102,7 +102,7 @@ fn list<R: ByteIn, W: ByteOut>(
     Ok(())
 }
 
-/// Begins at the start of what a reader gives, or behind a cursor, which must be one of that
+/// Begins at the start of what a reader gives, or after a cursor, which must be one of that
 /// source.
 fn begin<R: ByteIn>(
     alloc: Global,
@@ -138,7 +138,8 @@ fn is_write_failed(listed: &Result<(), Fault>) -> bool
 }
 
 /// Writes the listing of what a reader gives, read line by line. What is held at its end is written
-/// before a fault is told, and a failure of that write is what ends the run then: it is met first.
+/// before a fault is reported, and a failure of that write is what ends the run then: it is met
+/// first.
 pub(crate) fn write_listing<R: ByteIn, W: ByteOut>(
     alloc: Global,
     asked: &Tokens,

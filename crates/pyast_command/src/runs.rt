@@ -38,18 +38,18 @@ fn perform<R: ByteIn, W: ByteOut>(
 
 /// A run of the program: reads the source of `reader`, writes to `writer` what the command gives,
 /// and tells what ended the run early, if anything did, in a line to `faults`. The answer is the
-/// status that the program ends with: 0 where all was done, or that of the fault told.
+/// status that the program ends with: 0 where all was done, or that of the fault reported.
 ///
 /// `tokens` reads line by line. Where a read fails, or the source is too long, what is written and
-/// told is that of the lines that were read whole: the entries of those, and then the failed read,
-/// unless a count or a fault of the source ends the run before.
+/// reported is that of the lines that were read whole: the entries of those, and then the failed
+/// read, unless a count or a fault of the source ends the run before.
 ///
 /// `dump` and `unparse` read the source whole. Where a read fails, or the source is too long, that
-/// alone is told; and nothing is written of a source that is refused. `dump` writes its text in
+/// alone is reported; and nothing is written of a source that is refused. `dump` writes its text in
 /// pieces: where memory ends in the midst of it, a front of it was written. What `unparse` writes
 /// is itself a source, and is accepted as the same module.
 ///
-/// Behind `dump` and `unparse` the tree of the source is not freed: it is left to the end of the
+/// After `dump` and `unparse` the tree of the source is not freed: it is left to the end of the
 /// process, whose last act a run is.
 ///
 /// The file that the command names is the caller's to open; its name is used in the fault's line

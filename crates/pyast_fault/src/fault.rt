@@ -80,7 +80,7 @@ pub enum RunFaultCode {
     Memory,
 }
 
-/// What can be told at the end of a run.
+/// What can be reported at the end of a run.
 #[derive(Clone, Copy, Debug, PartialEq, Eq)]
 pub enum FaultCode {
     /// What is wrong with the source.
@@ -94,7 +94,7 @@ pub enum FaultCode {
 pub enum Fault {
     /// A fault of the source, at this place of it.
     InSource(SourceFaultCode, Place),
-    /// A fault without a place: of the words, of reading or writing, or want of memory.
+    /// A fault without a place: of the words, of reading or writing, or out of memory.
     Plain(RunFaultCode),
 }
 
@@ -306,7 +306,7 @@ impl FaultCode {
 }
 
 impl Fault {
-    /// What is told of it.
+    /// What is reported of it.
     pub fn code(self) -> FaultCode
         ensures { result ≡ fault_code self }
     {
@@ -350,10 +350,10 @@ fn tell_plain<F: ByteOut>(code: RunFaultCode, faults: &mut F) -> Result<(), Writ
 }
 
 /// Tells a fault, in the line that it has: that of a fault of the source begins with the name of
-/// the source and the place. A failed write of this line is told nowhere.
+/// the source and the place. A failed write of this line is reported nowhere.
 ///
-/// The line of a place takes memory. Where there is none for it, that is told instead, and is the
-/// answer.
+/// The line of a place takes memory. Where there is none for it, that is reported instead, and is
+/// the answer.
 pub fn tell<F: ByteOut>(alloc: Global, name: &str, fault: Fault, faults: &mut F) -> Fault
     requires { (F.sent faults.old).failures < 2 ^ 64 - 1 }
     ensures told { Tells (F.sent faults.old) (F.sent faults.new) (fault_line name.now result) }

@@ -1,4 +1,4 @@
-//! Listings that stop after a count of entries, and that go on behind a cursor.
+//! Listings that stop after a count of entries, and that go on after a cursor.
 
 use crate::expected::{Left, leaves, push_lines, reader};
 use pyast_command::{Command, Tokens};
@@ -16,7 +16,7 @@ fn push_told(out: &mut String, line: &str) -> Result<(), AllocError> {
     out.push('\n')
 }
 
-/// `tokens` with this count, behind this cursor (at the start where it is empty).
+/// `tokens` with this count, after this cursor (at the start where it is empty).
 fn asked(alloc: Global, count: Option<u64>, resume: &str) -> Result<Command, Fail> {
     let resume = if resume.is_empty() {
         None
@@ -31,7 +31,7 @@ fn asked(alloc: Global, count: Option<u64>, resume: &str) -> Result<Command, Fai
     }))
 }
 
-/// The lines of these entries, and behind them that of a cursor, if one is given.
+/// The lines of these entries, and after them that of a cursor, if one is given.
 fn written(alloc: Global, entries: &str, line: &str) -> Result<String, AllocError> {
     let mut wanted = String::new(alloc);
     push_lines(&mut wanted, entries)?;
@@ -62,8 +62,8 @@ fn writes(
 }
 
 /// A source, a count, a cursor to go on from (none where it is empty), the entries that are listed,
-/// the line of the cursor behind them and the fault that is told (none where they are empty), and
-/// the status.
+/// the line of the cursor after them and the fault that is reported (none where they are empty),
+/// and the status.
 type Row<'a> = (&'a str, Option<u64>, &'a str, &'a str, &'a str, &'a str, u8);
 
 /// Asserts that `tokens` does what a row says.

@@ -10,7 +10,7 @@ use std::alloc::Global;
 use std::process::Abort;
 use std::test::Fail;
 
-/// Asserts that a failed read behind these bytes is told alone.
+/// Asserts that a failed read after these bytes is reported alone.
 fn tells_a_failed_read(rt: &impl Abort, alloc: Global, command: &Command, source: &[u8]) {
     let left = Left {
         written: b"",
@@ -49,7 +49,7 @@ pub(crate) fn tells_failed_reads(rt: &impl Abort, alloc: Global, words: &str) ->
     Ok(())
 }
 
-/// A failed read is told alone, before a fault of the encoding too; nothing is written.
+/// A failed read is reported alone, before a fault of the encoding too; nothing is written.
 #[test]
 fn tells_a_failed_read_alone(rt: HostRuntime) -> Result<(), Fail> {
     tells_failed_reads(&rt, rt.alloc(), "dump")

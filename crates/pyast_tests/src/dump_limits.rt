@@ -11,7 +11,7 @@ use std::test::Fail;
 /// A text that comes so many times.
 pub(crate) type Piece<'a> = (&'a str, usize);
 
-/// Pieces one behind the other.
+/// Pieces one after the other.
 pub(crate) fn joined(alloc: Global, pieces: &[Piece<'_>]) -> Result<String, AllocError> {
     let mut text = String::new(alloc);
     for (piece, count) in pieces {
@@ -112,8 +112,8 @@ fn stops_at_heights_and_brackets(rt: HostRuntime) -> Result<(), Fail> {
     meets_all(&rt, rt.alloc(), rows)
 }
 
-/// A bracket is told where it would be the 601st open one, whatever kinds the others are; a tree
-/// that is too high, where its statement starts.
+/// A bracket is reported where it would be the 601st open one, whatever kinds the others are; a
+/// tree that is too high, where its statement starts.
 #[test]
 fn stops_at_brackets_of_each_kind(rt: HostRuntime) -> Result<(), Fail> {
     let rows: &[(&[Piece<'_>], &str)] = &[

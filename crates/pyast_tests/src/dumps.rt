@@ -19,7 +19,7 @@ pub(crate) fn command(alloc: Global, text: &str) -> Result<Command, Fail> {
 }
 
 /// Words, a source, what is written of it less the last line feed, the status, and the line of the
-/// fault that is told; both texts are empty where there is none.
+/// fault that is reported; both texts are empty where there is none.
 pub(crate) type Row<'a> = (&'a str, &'a str, &'a str, u8, &'a str);
 
 /// A text and a line feed, or nothing where it is empty.

@@ -5,7 +5,7 @@ use crate::expected::{lists_all, lists_bytes_as};
 use std::test::Fail;
 
 /// Each is a source, its encoding as it is shown (empty where nothing is written), its entries but
-/// for that of the encoding, and the fault told behind them, if one is.
+/// for that of the encoding, and the fault reported after them, if one is.
 #[test]
 fn lists_edges(rt: HostRuntime) -> Result<(), Fail> {
     let rows = &[
@@ -253,7 +253,7 @@ fn lists_edges(rt: HostRuntime) -> Result<(), Fail> {
     lists_all(&rt, rt.alloc(), rows)
 }
 
-/// The second line may name the encoding behind a comment of any bytes.
+/// The second line may name the encoding after a comment of any bytes.
 #[test]
 fn refuses_the_encoding_behind_a_bad_byte(rt: HostRuntime) -> Result<(), Fail> {
     lists_bytes_as(

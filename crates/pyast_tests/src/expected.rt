@@ -49,12 +49,12 @@ pub(crate) fn same_answer(rt: &impl Abort, told: bool, expected: bool, at: &str)
     assert_eq!(rt; told, expected, "at {at:?}");
 }
 
-/// What a run is to leave: what is written, what is told, and its status.
+/// What a run is to leave: what is written, what is reported, and its status.
 #[derive(Drop)]
 pub(crate) struct Left<'a> {
     /// What is written.
     pub(crate) written: &'a [u8],
-    /// What is told of a fault.
+    /// What is reported of a fault.
     pub(crate) told: &'a [u8],
     /// How the run ends.
     pub(crate) status: u8,
@@ -146,7 +146,7 @@ pub(crate) fn push_lines(out: &mut String, entries: &str) -> Result<(), AllocErr
 }
 
 /// Asserts that `tokens` writes the entry of the encoding as it is shown (nothing where that is
-/// empty) and these entries of a text, and tells this fault of the standard input behind them, if
+/// empty) and these entries of a text, and tells this fault of the standard input after them, if
 /// one is given.
 pub(crate) fn lists_as(
     rt: &impl Abort,

@@ -1,4 +1,4 @@
-//! What is told where reading, writing or opening fails.
+//! What is reported where reading, writing or opening fails.
 
 use crate::expected::{
     Left, failing_reader, leaves, push_lines, reader, same_bytes, same_status, stops_anywhere,
@@ -31,7 +31,7 @@ fn stops_where_the_writer_fails(rt: HostRuntime) -> Result<(), Fail> {
     Ok(())
 }
 
-/// The line of the cursor behind a count is written as the entries' lines are.
+/// The line of the cursor after a count is written as the entries' lines are.
 #[test]
 fn stops_where_the_writer_fails_in_the_line_of_a_cursor(rt: HostRuntime) -> Result<(), Fail> {
     let mut wanted = String::new(rt.alloc());
@@ -94,8 +94,8 @@ fn stops_within_a_long_listing(rt: HostRuntime) -> Result<(), Fail> {
     Ok(())
 }
 
-/// The lines before a fault of the source are written before it is told, so a failed write of them
-/// is met first.
+/// The lines before a fault of the source are written before it is reported, so a failed write of
+/// them is met first.
 #[test]
 fn tells_a_failed_write_before_a_fault_of_the_source(rt: HostRuntime) -> Result<(), Fail> {
     let mut reader = reader(b"x $\n");
@@ -107,7 +107,7 @@ fn tells_a_failed_write_before_a_fault_of_the_source(rt: HostRuntime) -> Result<
     Ok(())
 }
 
-/// Asserts that `tokens` writes these lines where the reader fails behind these bytes, and then
+/// Asserts that `tokens` writes these lines where the reader fails after these bytes, and then
 /// tells the failed read.
 fn lists_read_lines(
     rt: &impl Abort,
@@ -181,7 +181,7 @@ fn writes_the_lines_that_were_read_whole(rt: HostRuntime) -> Result<(), Fail> {
     Ok(())
 }
 
-/// The same behind each number of bytes of a source. No block ends there.
+/// The same after each number of bytes of a source. No block ends there.
 #[test]
 fn writes_the_lines_that_were_read_whole_wherever_a_read_fails(
     rt: HostRuntime,
@@ -214,7 +214,7 @@ fn writes_nothing_where_the_reader_fails_before_the_encoding(rt: HostRuntime) ->
     Ok(())
 }
 
-/// Asserts that this line is told of bytes behind which a read fails.
+/// Asserts that this line is reported of bytes after which a read fails.
 fn tells(rt: &impl Abort, alloc: Global, source: &[u8], line: &[u8]) {
     let mut reader = failing_reader(source);
     let mut output = writer(alloc);
@@ -272,7 +272,7 @@ fn stops_at_a_count_before_a_failed_read(rt: HostRuntime) -> Result<(), Fail> {
     Ok(())
 }
 
-/// Asserts what is told of a cursor, where a read fails.
+/// Asserts what is reported of a cursor, where a read fails.
 fn tells_of_a_cursor(
     rt: &impl Abort,
     alloc: Global,
@@ -302,8 +302,8 @@ fn tells_of_a_cursor(
     Ok(())
 }
 
-/// Whether a cursor behind more entries than were read is one of the source isn't known, so the
-/// failed read is told.
+/// Whether a cursor after more entries than were read is one of the source isn't known, so the
+/// failed read is reported.
 #[test]
 fn tells_a_failed_read_before_a_cursor(rt: HostRuntime) -> Result<(), Fail> {
     let rows: &[(&str, &[u8], u8)] = &[

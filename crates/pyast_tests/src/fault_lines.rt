@@ -1,4 +1,4 @@
-//! The line that is told of each fault, and the status that it gives.
+//! The line that is reported of each fault, and the status that it gives.
 
 use crate::expected::{same_bytes, same_status, same_text, writer};
 use pyast_command::{Fault, FaultCode, RunFaultCode, SourceFaultCode, fault_text, tell};
@@ -14,8 +14,8 @@ fn same_fault(rt: &impl Abort, told: &Fault, expected: &Fault, line: &str) {
     assert_eq!(rt; told, expected, "at {line}");
 }
 
-/// Asserts that this line, and an LF behind it, is told of a fault of `a.py`, and that the status
-/// is this.
+/// Asserts that this line, and an LF after it, is reported of a fault of `a.py`, and that the
+/// status is this.
 fn tells(rt: &impl Abort, alloc: Global, fault: Fault, line: &str, status: u8) -> Result<(), Fail> {
     let wanted = format!(in alloc; "{line}\n")?;
     let mut faults = writer(alloc);
@@ -150,7 +150,7 @@ fn tells_what_else_ends_a_run(rt: HostRuntime) -> Result<(), Fail> {
     Ok(())
 }
 
-/// Asserts that this line is told of a source that has no tokens.
+/// Asserts that this line is reported of a source that has no tokens.
 fn refuses(rt: &impl Abort, alloc: Global, text: &str, line: &str) -> Result<(), Fail> {
     let bytes = text.as_bytes();
     if bytes.len() > SOURCE_LIMIT {
@@ -212,7 +212,7 @@ fn tells_brackets_that_are_too_deep(rt: HostRuntime) -> Result<(), Fail> {
     )
 }
 
-/// What the grammar says against a line is told at its place.
+/// What the grammar says against a line is reported at its place.
 #[test]
 fn tells_what_the_grammar_says(rt: HostRuntime) -> Result<(), Fail> {
     let place = Place { row: 3, column: 7 };
@@ -242,7 +242,7 @@ fn tells_what_the_grammar_says(rt: HostRuntime) -> Result<(), Fail> {
     Ok(())
 }
 
-/// A failed read has no place, and want of memory is told as such.
+/// A failed read has no place, and out of memory is reported as such.
 #[test]
 fn tells_what_is_no_fault_of_a_source(rt: HostRuntime) -> Result<(), Fail> {
     for (fault, line, status) in [

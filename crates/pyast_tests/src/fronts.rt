@@ -49,7 +49,7 @@ fn outcome_of(alloc: Global, command: &Command, source: &[u8]) -> Result<Outcome
 }
 
 /// Asserts that a source is accepted or refused. Something is written where it is accepted, unless
-/// it is one of those without a text; and something is told where it is refused.
+/// it is one of those without a text; and something is reported where it is refused.
 fn answers(
     rt: &impl Abort,
     alloc: Global,
@@ -106,7 +106,7 @@ fn unparses_or_refuses_each_front(rt: HostRuntime) -> Result<(), Fail> {
     answers_each_front_of_all(&rt, rt.alloc(), "unparse", &[b"", b"\xEF\xBB\xBF"])
 }
 
-/// `tokens` with this count, behind this cursor.
+/// `tokens` with this count, after this cursor.
 fn asked(count: Option<u64>, resume: Option<Cursor>) -> Command {
     Command::Tokens(Tokens {
         exact: false,
@@ -116,7 +116,7 @@ fn asked(count: Option<u64>, resume: Option<Cursor>) -> Command {
     })
 }
 
-/// The cursor whose line a listing has behind these lines.
+/// The cursor whose line a listing has after these lines.
 fn cursor_behind(alloc: Global, written: &str, lines: &str) -> Result<Cursor, Fail> {
     let Some(last) = written.strip_prefix(lines) else {
         return Err(Fail::from("other lines"));
@@ -130,8 +130,8 @@ fn cursor_behind(alloc: Global, written: &str, lines: &str) -> Result<Cursor, Fa
     Ok(Cursor::from_text(alloc, shown)?)
 }
 
-/// Asserts that `tokens` stops behind so many lines of the whole listing of a source, which are
-/// given, and goes on behind the cursor that it writes there with the others and the same fault.
+/// Asserts that `tokens` stops after so many lines of the whole listing of a source, which are
+/// given, and goes on after the cursor that it writes there with the others and the same fault.
 fn stops_and_goes_on(
     rt: &impl Abort,
     alloc: Global,
@@ -186,7 +186,7 @@ fn stops_and_goes_on_in_each_front(
     Ok(())
 }
 
-/// A listing that stops behind any of its lines and goes on there is the whole listing.
+/// A listing that stops after any of its lines and goes on there is the whole listing.
 #[test]
 fn lists_each_front_in_two_parts(rt: HostRuntime) -> Result<(), Fail> {
     for source in SOURCES {

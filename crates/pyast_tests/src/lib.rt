@@ -1,6 +1,6 @@
 //! Tests of `pyast_command`: which words give which command, what is listed, dumped and unparsed of
-//! which source, and what is told where reading or writing fails. The rows are worked by hand from
-//! the documentation of Python, or taken from Python 3.11.
+//! which source, and what is reported where reading or writing fails. The rows are worked by hand
+//! from the documentation of Python, or taken from Python 3.11.
 #![tactic(auto)]
 
 #[cfg(test)]

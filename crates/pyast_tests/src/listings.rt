@@ -8,7 +8,7 @@ use std::alloc::Global;
 use std::test::Fail;
 
 /// Each is a source, its encoding as it is shown (empty where nothing is written), its entries but
-/// for that of the encoding, and the fault told behind them, if one is.
+/// for that of the encoding, and the fault reported after them, if one is.
 #[test]
 fn lists(rt: HostRuntime) -> Result<(), Fail> {
     let rows = &[

@@ -138,7 +138,7 @@ fn tells_why_a_source_has_no_text(rt: HostRuntime) -> Result<(), Fail> {
     does_all(&rt, rt.alloc(), rows)
 }
 
-/// A failed read is told alone, before a fault of the encoding too; nothing is written.
+/// A failed read is reported alone, before a fault of the encoding too; nothing is written.
 #[test]
 fn tells_a_failed_read_in_place_of_a_text(rt: HostRuntime) -> Result<(), Fail> {
     tells_failed_reads(&rt, rt.alloc(), "unparse")

@@ -19,8 +19,8 @@ ghost use Rattle.pyast_words.specs.Words.{Gives, Refuses, IsWithinLimits};
 
 use clap::error::ErrorKind;
 use clap::{Arg, ArgAction, ArgMatches, value_parser};
-use pytree_dump::Style;
 use pylex::{Cursor, CursorFault};
+use pytree_dump::Style;
 use pytree_node::Profile;
 use std::alloc::{AllocError, AllocFailed, Global};
 use thiserror::Error;
@@ -75,7 +75,7 @@ impl From<CursorFault> for UsageFault {
 /// The version of the program.
 const VERSION: &str = "1.0.0";
 
-/// What `dump` and `unparse` leave out, behind their help.
+/// What `dump` and `unparse` refuse, after their help.
 const LEFT_OUT: &str = "\
 Left out of Python 3.11: floats and complex numbers, f-strings, match statements, \\N{..} in strings,
 and whole numbers from 2 to the 128 on. With --py312 the forms of types of Python 3.12 are read too.
@@ -94,7 +94,7 @@ pub struct Tokens {
     pub exact: bool,
     /// How many entries are listed at most, from 0 to 1,000,000,000; all if there is none.
     pub count: Option<u64>,
-    /// The cursor behind which the listing begins; the start of the source if there is none.
+    /// The cursor after which the listing begins; the start of the source if there is none.
     pub resume: Option<Cursor>,
     /// The file of the source; the standard input if there is none.
     pub file: Option<String>,
@@ -249,7 +249,7 @@ fn grammar<'a>(alloc: Global) -> Result<clap::Command<'a>, AllocError>
         .subcommand(unparse_form(alloc)?)
 }
 
-/// What a refusal of the words is told as.
+/// What a refusal of the words is reported as.
 fn usage_fault(alloc: Global, error: &clap::Error) -> UsageFault
     ensures { Explains (kind_of error.now) result }
 {
@@ -408,7 +408,7 @@ impl Command {
     ///
     /// # Errors
     ///
-    /// A text that is no cursor's is told as such only where the words are good otherwise.
+    /// A text that is no cursor's is reported as such only where the words are good otherwise.
     pub fn read(alloc: Global, words: &[String]) -> Result<Command, UsageFault>
         ensures gives { IfOk result (Gives (map string_bytes words.now)) }
         ensures within { IfOk result IsWithinLimits }

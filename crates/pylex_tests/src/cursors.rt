@@ -75,7 +75,7 @@ fn refuses_other_texts(rt: HostRuntime) -> Result<(), Fail> {
     Ok(())
 }
 
-/// Asserts how a fault is told.
+/// Asserts how a fault is reported.
 fn tells(rt: &impl Abort, alloc: Global, fault: CursorFault, told: &str) -> Result<(), Fail> {
     let text = format!(in alloc; "{fault}")?;
     same_text(rt, text.as_str(), told, told);

@@ -12,7 +12,7 @@ use std::test::Fail;
 /// A source that opens two blocks and closes both at once.
 const BYTES: &[u8] = b"if a:\n if b:\n  c\nd\n";
 
-/// The numbers of the source's cursors, one behind each count of entries: the entries given, the
+/// The numbers of the source's cursors, one after each count of entries: the entries given, the
 /// offset, the row, the open brackets, whether a line has begun, the entries of empty text, and
 /// then the levels.
 fn cursors() -> [&'static [usize]; 19] {
@@ -49,7 +49,7 @@ fn are_known(numbers: &[usize]) -> bool {
     false
 }
 
-/// The text of a cursor's numbers: a blank behind each of the first six, and commas between the
+/// The text of a cursor's numbers: a blank after each of the first six, and commas between the
 /// levels.
 fn text_of(alloc: Global, numbers: &[usize]) -> Result<String, Fail> {
     let mut text = String::new(alloc);
@@ -84,7 +84,7 @@ fn changed(
     Ok(changed)
 }
 
-/// Whether a lister of the whole source goes on behind a cursor, or refuses it as another source's.
+/// Whether a lister of the whole source goes on after a cursor, or refuses it as another source's.
 fn goes_on(alloc: Global, source: &Source, cursor: &Cursor) -> Result<bool, Fail> {
     match Lister::resume_checked(alloc, source, cursor) {
         Ok(_) => Ok(true),
@@ -93,7 +93,7 @@ fn goes_on(alloc: Global, source: &Source, cursor: &Cursor) -> Result<bool, Fail
     }
 }
 
-/// Whether a lister that reads line by line goes on behind a cursor, or refuses it as another
+/// Whether a lister that reads line by line goes on after a cursor, or refuses it as another
 /// source's.
 fn goes_on_by_lines(alloc: Global, cursor: &Cursor) -> Result<bool, Fail> {
     match StreamLister::resume_checked(alloc, FakeReader::new(BYTES, 5, false), cursor) {
@@ -103,7 +103,7 @@ fn goes_on_by_lines(alloc: Global, cursor: &Cursor) -> Result<bool, Fail> {
     }
 }
 
-/// Asserts of both listers whether they go on behind the cursor of a text, where it is a cursor's.
+/// Asserts of both listers whether they go on after the cursor of a text, where it is a cursor's.
 fn go_on(
     rt: &impl Abort,
     alloc: Global,
@@ -125,7 +125,7 @@ fn go_on(
     }
 }
 
-/// Numbers are gone on behind where the source has a cursor of them, and else refused.
+/// Numbers are gone on after where the source has a cursor of them, and else refused.
 fn only_own(
     rt: &impl Abort,
     alloc: Global,

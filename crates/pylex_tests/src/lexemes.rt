@@ -19,7 +19,7 @@ fn name(class: Class) -> &'static str {
     }
 }
 
-/// Asserts what stands at the front of a text, and behind that.
+/// Asserts what stands at the front of a text, and after that.
 fn cuts(rt: &impl Abort, text: &str, class: &str, lexeme: &str, rest: &str) -> Result<(), Fail> {
     let Some((found, front, behind)) = cut(text) else {
         return Err(Fail::from("no lexeme"));

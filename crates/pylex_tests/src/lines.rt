@@ -29,7 +29,7 @@ fn entry_at(kind: Kind, exact: Option<Exact>, start: (usize, usize), end: (usize
     }
 }
 
-/// Asserts the line of an entry, also where it is pushed behind the lines of others.
+/// Asserts the line of an entry, also where it is pushed after the lines of others.
 fn lists(
     rt: &impl Abort,
     whole: &mut String,

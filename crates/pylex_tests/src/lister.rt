@@ -45,7 +45,7 @@ fn gives(
     Ok(())
 }
 
-/// Behind a cursor these are the rest of a listing, whether the cursor is checked or not.
+/// After a cursor these are the rest of a listing, whether the cursor is checked or not.
 fn goes_on(
     rt: &impl Abort,
     alloc: Global,

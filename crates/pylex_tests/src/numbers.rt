@@ -5,7 +5,7 @@ use pylex::{Class, cut};
 use std::process::Abort;
 use std::test::Fail;
 
-/// Asserts that a number stands at the front of a text, and what is behind it.
+/// Asserts that a number stands at the front of a text, and what is after it.
 fn cuts_number(rt: &impl Abort, text: &str, number: &str, rest: &str) -> Result<(), Fail> {
     let Some((class, lexeme, behind)) = cut(text) else {
         return Err(Fail::from("no lexeme"));

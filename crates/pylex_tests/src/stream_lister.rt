@@ -132,7 +132,7 @@ fn lists_as_a_lister_does(rt: HostRuntime) -> Result<(), Fail> {
     Ok(())
 }
 
-/// Both listers give the same behind the cursor of one.
+/// Both listers give the same after the cursor of one.
 fn goes_on_alike(
     rt: &impl Abort,
     alloc: Global,
@@ -146,7 +146,7 @@ fn goes_on_alike(
     goes_on_as(rt, source, goes_on, lines)
 }
 
-/// Both listers give the same behind each cursor of a source.
+/// Both listers give the same after each cursor of a source.
 fn goes_on_anywhere(
     rt: &impl Abort,
     alloc: Global,
@@ -263,7 +263,7 @@ fn tells_failed_reads(rt: HostRuntime) -> Result<(), Fail> {
     Ok(())
 }
 
-/// Up to the row whose read fails a cursor is gone on behind, and then no longer.
+/// Up to the row whose read fails a cursor is gone on after, and then no longer.
 fn goes_on_or_fails(
     rt: &impl Abort,
     alloc: Global,
@@ -300,7 +300,7 @@ fn goes_on_up_to_a_failed_read(rt: HostRuntime) -> Result<(), Fail> {
     Ok(())
 }
 
-/// Asserts what is held behind so many entries.
+/// Asserts what is held after so many entries.
 fn holds(
     rt: &impl Abort,
     alloc: Global,

@@ -28,7 +28,7 @@ fn tells_what_more_text_could_end(rt: HostRuntime) {
     }
 }
 
-/// Asserts whether a literal that is open behind a text goes on behind a line.
+/// Asserts whether a literal that is open after a text goes on after a line.
 fn goes(rt: &impl Abort, text: &str, line: &str, expected: bool) {
     assert_eq!(rt;
         open_literal(text).map(|o| o.goes_on(line)),

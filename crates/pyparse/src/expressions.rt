@@ -69,14 +69,14 @@ fn first_place(tokens: &[Token<'_>]) -> Place
 }
 
 /// The expression of a level that all of some tokens are, as the grammar derives it. At most 500
-/// nodes stand in one another.
+/// nodes are nested.
 ///
 /// # Errors
 ///
 /// [`ParseFault::Refused`] by the first token that is faulty by itself; those of
 /// [`tokens_of`](crate::tokens_of) never are. [`ParseFault::Grammar`] where they are no expression
 /// of the level, or only a higher one; of more than 500 tokens that are none at all either may be
-/// told. It stands at the first token, and at 1,0 where there is none.
+/// reported. It stands at the first token, and at 1,0 where there is none.
 #[tactic(auto, using(pygrammar::proofs::Callers::Law::grammar_is_lawful))]
 pub fn parse_expression(
     alloc: Global,

@@ -15,7 +15,7 @@ use pysource::Source;
 use pytree_node::{Module, Profile};
 use std::alloc::Global;
 
-/// The tree of a source, in a version of Python. At most 500 expressions stand in one another, and
+/// The tree of a source, in a version of Python. At most 500 expressions are nested, and
 /// at most 500 statements.
 ///
 /// It is one pass: what is held of the source are the tokens of one line, the statements so far,
@@ -24,10 +24,10 @@ use std::alloc::Global;
 /// # Errors
 ///
 /// [`ParseFault::Refused`] by the reason why the source has no tokens, as
-/// [`tokens_of`](crate::tokens_of) tells it. Else [`ParseFault::Grammar`]: by the first line
+/// [`tokens_of`](crate::tokens_of) reports it. Else [`ParseFault::Grammar`]: by the first line
 /// without a form, `Syntax`, `MatchStatement` or `TooDeep`, of which a line of more than 500 tokens
-/// that has none at any height may be told either; else by the first line that is faulty among the
-/// others, or the end; else by the first line in which a statement begins with 500 around it,
+/// that has none at any height may be reported either; else by the first line that is faulty among
+/// the others, or the end; else by the first line in which a statement begins with 500 around it,
 /// `TooDeep`. Its place is where the line starts, that of the end where ENDMARKER does.
 #[tactic(auto, using(pygrammar::proofs::Callers::SourceLaw::forms_are_lawful, pygrammar::proofs::Callers::SourceLaw::blocks_are_lawful, pygrammar::proofs::Callers::SourceLaw::answers_are_lawful))]
 pub fn parse(alloc: Global, source: &Source, profile: Profile) -> Result<Module, ParseFault>

@@ -1,4 +1,4 @@
-//! What is known of a source behind some of its lines.
+//! What is known of a source after some of its lines.
 
 ghost use Rattle.std.specs.Prelude.{◌≡◌, ◌+◌, ℕ, false, IfOk, IfErr};
 ghost use Rattle.pylex.specs.Listing.{Source, in_characters};
@@ -54,7 +54,7 @@ fn line_error(stop: pyparse_nodes::Stop, like_match: bool) -> Result<GrammarErro
     }
 }
 
-/// What is known of a source behind some of its logical lines: what they are, or the first refusal
+/// What is known of a source after some of its logical lines: what they are, or the first refusal
 /// among them. Of the kinds of refusals the last here comes first.
 #[derive(Drop)]
 pub(crate) enum Progress {
@@ -68,7 +68,7 @@ pub(crate) enum Progress {
     Unread { error: GrammarError, start: Place },
 }
 
-/// The next line behind lines that are sound. What isn't kept is let go by calls, which is shorter
+/// The next line after lines that are sound. What isn't kept is dropped by calls, which is shorter
 /// to prove.
 fn grow(
     alloc: Global,
@@ -107,7 +107,7 @@ fn grow(
     }
 }
 
-/// The next line behind a statement that stands too deep.
+/// The next line after a statement that stands too deep.
 fn sink(
     alloc: Global,
     mut outline: Outline,
@@ -137,7 +137,7 @@ fn sink(
     }
 }
 
-/// The module of sound lines, behind the last one.
+/// The module of sound lines, after the last one.
 fn finish_sound(alloc: Global, blocks: Blocks, end: Place) -> Result<Module, ParseFault>
     ensures accepted { (profile : Profile) (s : Source) (k : ℕ) (outline : Outline)
         → IsSound profile s k outline blocks → Closes s k end
@@ -151,7 +151,7 @@ fn finish_sound(alloc: Global, blocks: Blocks, end: Place) -> Result<Module, Par
     }
 }
 
-/// The refusal of lines with a statement that stands too deep, behind the last one.
+/// The refusal of lines with a statement that stands too deep, after the last one.
 fn finish_deep(outline: &Outline, deep: Place, end: Place) -> ParseFault
     ensures { (profile : Profile) (s : Source) (k : ℕ) → IsDeepAt profile s k outline.now deep
         → Closes s k end → Refuses profile s result }
@@ -262,7 +262,7 @@ impl Progress {
         }
     }
 
-    /// The next line, which is held. Where a line has no form, none behind it is asked for one.
+    /// The next line, which is held. Where a line has no form, none after it is asked for one.
     pub(crate) fn take(
         self,
         alloc: Global,
@@ -279,7 +279,7 @@ impl Progress {
         self.read(alloc, lines, profile)
     }
 
-    /// The module, or the first refusal, behind the last line: where the source ends.
+    /// The module, or the first refusal, after the last line: where the source ends.
     pub(crate) fn finish(self, alloc: Global, end: Place) -> Result<Module, ParseFault>
         ensures accepted { (profile : Profile) (s : Source) (k : ℕ) → IsKnown profile s k self
             → Closes s k end → IfOk result (λ m. Accepted profile s (module_of m)) }

@@ -34,7 +34,7 @@ impl Blocks {
     }
 
     /// Takes the next line: its level, which is the number of levels above 0 that are open at it,
-    /// and its form. Behind an error it is as it was before the first line.
+    /// and its form. After an error it is as it was before the first line.
     ///
     /// # Errors
     ///
@@ -64,11 +64,12 @@ impl Blocks {
         }
     }
 
-    /// The statements of the lines, behind the last one.
+    /// The statements of the lines, after the last one.
     ///
     /// # Errors
     ///
-    /// [`BlockStop::Faulty`] where the end of the lines is faulty, by its fault, and [`BlockStop::Memory`].
+    /// [`BlockStop::Faulty`] where the end of the lines is faulty, by its fault, and
+    /// [`BlockStop::Memory`].
     pub fn finish(self, alloc: Global) -> Result<Vec<Stmt>, BlockStop>
         ensures ok { IfOk result (λ v. finish (state_of self) ≡ Fine (map stmt_of v.items)) }
         ensures refused { IfErr result (Tells (finish (state_of self))) }

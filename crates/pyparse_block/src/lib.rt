@@ -4,7 +4,7 @@
 //! specification".
 //!
 //! [`Blocks`] keeps the statements that are whole, and of the others what their lines have said so
-//! far, a level on another. There is no recursion: how deep blocks stand in one another is limited
+//! far, a level on another. There is no recursion: how deep blocks are nested is limited
 //! by memory alone.
 //!
 //! The words of contracts are those of the grammar: `Reading` is what a line makes of what is kept,

@@ -111,7 +111,7 @@ impl Stack {
         Ok(())
     }
 
-    /// A header of the deepest level, with its block if that stands behind its colon.
+    /// A header of the deepest level, with its block if that stands after its colon.
     #[tactic(auto, using(crate::proofs::LevelLemmas::placing))]
     #[inline(never)]
     fn place_header(

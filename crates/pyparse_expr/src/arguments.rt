@@ -247,7 +247,7 @@ fn one_more(
     add(alloc, actual, kind, e, depth.room)
 }
 
-/// Arguments with commas between them, behind some that were read.
+/// Arguments with commas between them, after some that were read.
 #[cycle(reading)]
 #[inline(never)]
 pub(crate) fn more_arguments(
@@ -295,7 +295,7 @@ pub(crate) fn arguments(
     more_arguments(alloc, tokens, none_at(alloc, at), depth)
 }
 
-/// The call of these arguments, behind which its bracket has to stand.
+/// The call of these arguments, after which its bracket has to stand.
 #[inline(always)]
 fn finish(
     alloc: Global,
@@ -352,7 +352,7 @@ fn call_from(
     finish(alloc, tokens, func, actual, depth.room)
 }
 
-/// A call with a generator expression as its only argument, behind the element.
+/// A call with a generator expression as its only argument, after the element.
 #[cycle(reading)]
 #[inline(never)]
 fn generator_call(

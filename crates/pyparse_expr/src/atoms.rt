@@ -50,7 +50,7 @@ pub(crate) fn read_atom(
     }
 }
 
-/// The atom that begins with a terminal, from behind it.
+/// The atom that begins with a terminal, from after it.
 #[cycle(reading)]
 #[inline(always)]
 fn atom_of(
@@ -111,7 +111,7 @@ fn other_atom(
     }
 }
 
-/// The sign that has to stand behind an expression.
+/// The sign that has to stand after an expression.
 pub(crate) fn closed(tokens: &[Terminal], sign: Exact, e: Read) -> Result<Read, Stop>
     requires { e.next ≤ length tokens.now }
     ensures { Answered tokens.now e.height (e.next + 1)
@@ -129,7 +129,7 @@ pub(crate) fn closed(tokens: &[Terminal], sign: Exact, e: Read) -> Result<Read, 
     }
 }
 
-/// Behind a `(`.
+/// After a `(`.
 #[cycle(reading)]
 pub(crate) fn round(
     alloc: Global,
@@ -163,7 +163,7 @@ pub(crate) fn round(
     closed(tokens, Exact::RPar, first)
 }
 
-/// A tuple in round brackets, from the comma behind its first element on.
+/// A tuple in round brackets, from the comma after its first element on.
 #[cycle(reading)]
 fn group_tuple(alloc: Global, tokens: &[Terminal], first: Read, depth: Depth) -> Result<Read, Stop>
     requires open { IsOpen depth }
@@ -185,7 +185,7 @@ fn group_tuple(alloc: Global, tokens: &[Terminal], first: Read, depth: Depth) ->
     make_tuple(alloc, items.exprs, items.height, items.next + 1, depth.room)
 }
 
-/// A generator expression in round brackets, behind its element.
+/// A generator expression in round brackets, after its element.
 #[cycle(reading)]
 fn generator_group(
     alloc: Global,
@@ -215,7 +215,7 @@ fn generator_group(
     )
 }
 
-/// Behind a `[`.
+/// After a `[`.
 #[cycle(reading)]
 fn square(alloc: Global, tokens: &[Terminal], at: usize, depth: Depth) -> Result<Read, Stop>
     requires within { at ≤ length tokens.now }
@@ -245,7 +245,7 @@ fn square(alloc: Global, tokens: &[Terminal], at: usize, depth: Depth) -> Result
     make_list(alloc, items.exprs, items.height, items.next + 1, depth.room)
 }
 
-/// A list comprehension, behind its element.
+/// A list comprehension, after its element.
 #[cycle(reading)]
 fn list_comp(alloc: Global, tokens: &[Terminal], first: Read, depth: Depth) -> Result<Read, Stop>
     requires within { first.next ≤ length tokens.now }

@@ -27,7 +27,7 @@ use pyparse_nodes::{
 use pytoken::Terminal;
 use std::alloc::Global;
 
-/// Behind a `{`.
+/// After a `{`.
 #[cycle(reading)]
 pub(crate) fn curly(
     alloc: Global,
@@ -74,7 +74,7 @@ pub(crate) fn curly(
     set_from(alloc, tokens, first, depth)
 }
 
-/// A set, behind its first element.
+/// A set, after its first element.
 #[cycle(reading)]
 fn set_from(alloc: Global, tokens: &[Terminal], first: Read, depth: Depth) -> Result<Read, Stop>
     requires within { first.next ≤ length tokens.now }
@@ -93,7 +93,7 @@ fn set_from(alloc: Global, tokens: &[Terminal], first: Read, depth: Depth) -> Re
     make_set(alloc, items.exprs, items.height, items.next + 1, depth.room)
 }
 
-/// A set comprehension, behind its element.
+/// A set comprehension, after its element.
 #[cycle(reading)]
 fn set_comp(alloc: Global, tokens: &[Terminal], first: Read, depth: Depth) -> Result<Read, Stop>
     requires within { first.next ≤ length tokens.now }
@@ -118,7 +118,7 @@ fn set_comp(alloc: Global, tokens: &[Terminal], first: Read, depth: Depth) -> Re
     )
 }
 
-/// A dictionary or its comprehension, from the colon behind the first key on.
+/// A dictionary or its comprehension, from the colon after the first key on.
 #[cycle(reading)]
 fn keyed(alloc: Global, tokens: &[Terminal], key: Read, depth: Depth) -> Result<Read, Stop>
     requires within { key.next < length tokens.now }
@@ -141,7 +141,7 @@ fn keyed(alloc: Global, tokens: &[Terminal], key: Read, depth: Depth) -> Result<
     }
 }
 
-/// A dictionary's comprehension, behind its value.
+/// A dictionary's comprehension, after its value.
 #[cycle(reading)]
 fn dict_comp(
     alloc: Global,
@@ -174,7 +174,7 @@ fn dict_comp(
     )
 }
 
-/// A dictionary, behind its first pair.
+/// A dictionary, after its first pair.
 #[cycle(reading)]
 fn dict_from(alloc: Global, tokens: &[Terminal], first: Pair, depth: Depth) -> Result<Read, Stop>
     requires within { first.next ≤ length tokens.now }
@@ -200,7 +200,7 @@ fn dict_from(alloc: Global, tokens: &[Terminal], first: Pair, depth: Depth) -> R
     )
 }
 
-/// Some pairs, with those behind a comma, if one stands there.
+/// Some pairs, with those after a comma, if one stands there.
 #[cycle(reading)]
 fn more_pairs(alloc: Global, tokens: &[Terminal], pairs: Pairs, depth: Depth) -> Result<Pairs, Stop>
     requires within { pairs.next ≤ length tokens.now }
@@ -252,7 +252,7 @@ fn read_pair(alloc: Global, tokens: &[Terminal], at: usize, depth: Depth) -> Res
     Ok(paired(key, value))
 }
 
-/// A value behind `**`.
+/// A value after `**`.
 fn doubled(value: Read) -> Pair
     ensures entry { pair_of result ≡ entries.Doubled (tree_of value.expr.value) }
     ensures next { result.next ≡ value.next }

@@ -24,7 +24,7 @@ use pytoken::{Keyword, Terminal};
 use pytree_node::{BoolOperator, Comparison};
 use std::alloc::Global;
 
-/// A comparison, and the place behind it.
+/// A comparison, and the place after it.
 #[derive(Clone, Copy)]
 pub(crate) struct Compared {
     pub op: Comparison,
@@ -52,7 +52,7 @@ fn side_level(o: BoolOperator) -> Level
     }
 }
 
-/// Expressions with `and` or `or` between them, behind the first one.
+/// Expressions with `and` or `or` between them, after the first one.
 #[cycle(reading)]
 pub(crate) fn chain(
     alloc: Global,
@@ -76,7 +76,7 @@ pub(crate) fn chain(
     make_chain(alloc, o, items.exprs, items.height, items.next, depth.room)
 }
 
-/// The sides behind some that were read.
+/// The sides after some that were read.
 #[cycle(reading)]
 fn links(
     alloc: Global,
@@ -148,7 +148,7 @@ fn no_items(alloc: Global, next: usize) -> Items
     }
 }
 
-/// Comparisons behind an expression.
+/// Comparisons after an expression.
 #[cycle(reading)]
 pub(crate) fn compare(
     alloc: Global,

@@ -68,7 +68,7 @@ fn climb_first(
     }
 }
 
-/// An expression behind an operator in front of it.
+/// An expression after its prefix operator.
 #[cycle(reading)]
 #[inline(never)]
 fn prefixed(
@@ -93,7 +93,7 @@ fn prefixed(
     }
 }
 
-/// An expression behind a sign or `not`.
+/// An expression after a sign or `not`.
 #[cycle(reading)]
 fn signed(
     alloc: Global,
@@ -114,7 +114,7 @@ fn signed(
     make_unary(alloc, o, e, depth.room)
 }
 
-/// An expression with the operator behind it.
+/// An expression with the operator after it.
 #[cycle(reading)]
 #[inline(never)]
 fn operation(

@@ -71,7 +71,7 @@ pub(crate) fn read_target(
     }
 }
 
-/// The tuple of target items, from the comma behind the first on.
+/// The tuple of target items, from the comma after the first on.
 #[cycle(reading)]
 fn target_tuple(alloc: Global, tokens: &[Terminal], first: Read, depth: Depth) -> Result<Read, Stop>
     requires comma { Stands (terminals.Op Exact.Comma) tokens.now first.next }
@@ -114,7 +114,7 @@ fn ifs(alloc: Global, tokens: &[Terminal], at: usize, depth: Depth) -> Result<It
     }
 }
 
-/// A clause, behind its `for`.
+/// A clause, after its `for`.
 #[cycle(reading)]
 fn for_in(
     alloc: Global,

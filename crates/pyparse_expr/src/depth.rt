@@ -10,7 +10,7 @@ use pytoken::Terminal;
 /// How far down reading may go.
 #[derive(Clone, Copy)]
 pub struct Depth {
-    /// How many readers may stand in one another. There are always more than terminals are left.
+    /// How many readers may be nested. There are always more than terminals are left.
     pub(crate) steps: usize,
     /// How high an expression may be.
     pub(crate) room: usize,
@@ -18,7 +18,7 @@ pub struct Depth {
 
 impl Depth {
     /// That at which the expressions of a line begin: one level more than [`MOST_HEIGHT`], so that
-    /// what is too high is told from what is no expression.
+    /// what is too high is told apart from what is no expression.
     pub fn of(tokens: &[Terminal]) -> Depth
         ensures steps { result.steps ≡ length tokens.now + 1 }
         ensures room { result.room ≡ 501 }

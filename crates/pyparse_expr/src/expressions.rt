@@ -66,7 +66,7 @@ pub fn read_at(
 }
 
 /// The expression of a level that some terminals are, as the grammar of the language reference,
-/// section 6, derives it. At most [`MOST_HEIGHT`] nodes stand in one another.
+/// section 6, derives it. At most [`MOST_HEIGHT`] nodes are nested.
 ///
 /// # Errors
 ///

@@ -45,7 +45,7 @@ pub(crate) fn read_value(
     }
 }
 
-/// Behind a `yield`.
+/// After a `yield`.
 #[cycle(reading)]
 pub(crate) fn yield_step(
     alloc: Global,

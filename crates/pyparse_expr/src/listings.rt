@@ -101,7 +101,7 @@ fn least_lead(item: Item) -> u8
     }
 }
 
-/// The Tuple of a first item, behind which a comma stands.
+/// The Tuple of a first item, after which a comma stands.
 #[cycle(reading)]
 #[inline(never)]
 pub(crate) fn tupled(
@@ -124,7 +124,7 @@ pub(crate) fn tupled(
     make_tuple(alloc, items.exprs, items.height, items.next, depth.room)
 }
 
-/// The items behind a first one.
+/// The items after a first one.
 #[cycle(reading)]
 pub(crate) fn others(
     alloc: Global,
@@ -148,7 +148,7 @@ pub(crate) fn others(
     listing(alloc, tokens, item, items, depth)
 }
 
-/// A list with the items behind a comma, if one stands there.
+/// A list with the items after a comma, if one stands there.
 #[cycle(reading)]
 pub(crate) fn listing(
     alloc: Global,

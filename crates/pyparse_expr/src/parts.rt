@@ -23,7 +23,7 @@ use pytree_node::{Arguments, Expr, Keyword};
 use std::alloc::Global;
 
 /// The parameters of a function, the height of the highest expression in them, and the place
-/// behind them.
+/// after them.
 #[derive(Drop)]
 pub struct ReadParameters {
     pub arguments: Arguments,
@@ -32,7 +32,7 @@ pub struct ReadParameters {
     pub ghost is_height: { height ≡ Heights.arguments_height (arguments_of arguments) },
 }
 
-/// Arguments, the height of the highest, and the place behind them.
+/// Arguments, the height of the highest, and the place after them.
 #[derive(Drop)]
 pub struct ReadArguments {
     pub args: Vec<Expr>,

@@ -22,7 +22,7 @@ use pytoken::Terminal;
 use pytree_node::Context;
 use std::alloc::Global;
 
-/// An atom with attributes, calls and subscripts behind it.
+/// An atom with attributes, calls and subscripts after it.
 #[cycle(reading)]
 pub(crate) fn read_primary(
     alloc: Global,

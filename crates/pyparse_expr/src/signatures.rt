@@ -32,7 +32,7 @@ use pytoken::Terminal;
 use pytree_node::{Arg, Expr};
 use std::alloc::Global;
 
-/// A parameter that was read, the height of the highest expression in it, and the place behind it.
+/// A parameter that was read, the height of the highest expression in it, and the place after it.
 #[derive(Drop)]
 pub(crate) struct ReadParameter {
     pub parameter: Parameter,
@@ -40,7 +40,7 @@ pub(crate) struct ReadParameter {
     pub next: usize,
 }
 
-/// Parameters that were read, the height of the highest expression in them, and the place behind.
+/// Parameters that were read, the height of the highest expression in them, and the place after.
 #[derive(Drop)]
 pub(crate) struct Signature {
     pub formal: Formal,
@@ -117,7 +117,7 @@ fn with_parameter(before: Signature, one: ReadParameter) -> Result<Signature, St
     })
 }
 
-/// The same parameters, with another place behind them.
+/// The same parameters, with another place after them.
 fn placed(signature: Signature, next: usize) -> Signature
     ensures formal { state_of result.formal ≡ state_of signature.formal }
     ensures height { result.height ≡ signature.height }
@@ -137,7 +137,7 @@ fn annotation_sign(annotated: bool) -> Option<Exact>
     if annotated { Some(Exact::Colon) } else { None }
 }
 
-/// An Expression behind a sign, if there is a sign and it stands here.
+/// An Expression after a sign, if there is a sign and it stands here.
 #[cycle(reading)]
 pub(crate) fn suffixed(
     alloc: Global,
@@ -190,7 +190,7 @@ fn one_read(e: Read) -> Optional
     }
 }
 
-/// The annotation behind `*` and a name, where there may be one.
+/// The annotation after `*` and a name, where there may be one.
 #[cycle(reading)]
 fn star_annotation(
     alloc: Global,
@@ -221,7 +221,7 @@ fn star_annotation(
     Ok(one_read(e))
 }
 
-/// A parameter with no star, behind its name.
+/// A parameter with no star, after its name.
 #[cycle(reading)]
 fn plain_parameter(
     alloc: Global,
@@ -246,7 +246,7 @@ fn plain_parameter(
     })
 }
 
-/// A parameter behind `*` and its name.
+/// A parameter after `*` and its name.
 #[cycle(reading)]
 fn gathered_parameter(
     alloc: Global,
@@ -270,7 +270,7 @@ fn gathered_parameter(
     })
 }
 
-/// A parameter behind `**` and its name.
+/// A parameter after `**` and its name.
 #[cycle(reading)]
 fn collected_parameter(
     alloc: Global,
@@ -369,7 +369,7 @@ pub(crate) fn parameters(
     Ok(before)
 }
 
-/// Behind a `lambda`.
+/// After a `lambda`.
 #[cycle(reading)]
 #[inline(never)]
 pub(crate) fn lambda_step(

@@ -108,7 +108,7 @@ pub(crate) fn read_slice(
     Ok(lower)
 }
 
-/// A slice, behind its first colon.
+/// A slice, after its first colon.
 #[cycle(reading)]
 pub(crate) fn slice_rest(
     alloc: Global,

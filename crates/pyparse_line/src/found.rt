@@ -8,7 +8,7 @@ ghost use Rattle.pyparse_line.specs.Inner.Heights.{suite_height};
 use pygrammar::Form;
 use pytree_node::Stmt;
 
-/// A form, the height of the highest expression in it, and the place behind it.
+/// A form, the height of the highest expression in it, and the place after it.
 #[derive(Drop)]
 pub(crate) struct ReadForm {
     pub form: Form,
@@ -17,8 +17,8 @@ pub(crate) struct ReadForm {
     pub ghost is_height: { height ≡ form_height (form_of form) },
 }
 
-/// The statements behind a header's colon, if there are any, the height of the highest expression
-/// in them, and the place behind them.
+/// The statements after a header's colon, if there are any, the height of the highest expression
+/// in them, and the place after them.
 #[derive(Drop)]
 pub(crate) struct ReadSuite {
     pub statements: Option<Vec<Stmt>>,

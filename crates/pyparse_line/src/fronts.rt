@@ -24,7 +24,7 @@ use pytoken::Terminal;
 use pytree_node::Profile;
 use std::alloc::Global;
 
-/// A decorator, behind its `@`: 8.7 "Function definitions".
+/// A decorator, after its `@`: 8.7 "Function definitions".
 fn read_decorator(alloc: Global, tokens: &[Terminal], depth: Depth) -> Result<ReadForm, Stop>
     requires { 1 ≤ length tokens.now }
     ensures { FormAnswered tokens.now 1 (decorator (reads depth) (seen tokens.now 1)) result }
@@ -37,7 +37,7 @@ fn read_decorator(alloc: Global, tokens: &[Terminal], depth: Depth) -> Result<Re
     })
 }
 
-/// What stands behind a header's colon: 8 "Compound statements" (`suite`).
+/// What stands after a header's colon: 8 "Compound statements" (`suite`).
 fn read_suite(
     alloc: Global,
     tokens: &[Terminal],
@@ -64,7 +64,7 @@ fn read_suite(
     })
 }
 
-/// A header's colon, and what stands behind it.
+/// A header's colon, and what stands after it.
 fn read_colon(
     alloc: Global,
     tokens: &[Terminal],
@@ -98,7 +98,7 @@ fn headed_form(header: ReadHeader, suite: ReadSuite) -> ReadForm
     }
 }
 
-/// A header, its colon, and what stands behind it.
+/// A header, its colon, and what stands after it.
 fn read_headed(
     alloc: Global,
     tokens: &[Terminal],

@@ -17,7 +17,7 @@ use pytree_node::Profile;
 use std::alloc::Global;
 
 /// The form of a logical line that some terminals are, in a version of Python. At most
-/// [`MOST_HEIGHT`] nodes of an expression stand in one another.
+/// [`MOST_HEIGHT`] nodes of an expression are nested.
 ///
 /// # Errors
 ///

@@ -20,7 +20,7 @@ pub enum ArgumentForm<'a> {
     Keyed(&'a str),
 }
 
-/// The arguments of a call so far, the height of the highest, and the place behind the last.
+/// The arguments of a call so far, the height of the highest, and the place after the last.
 #[derive(Drop)]
 pub struct Actual {
     pub args: Vec<Expr>,

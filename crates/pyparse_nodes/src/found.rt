@@ -9,7 +9,7 @@ use crate::stop::Stop;
 use pytree_node::{Comprehension, Expr};
 use std::alloc::Global;
 
-/// An expression, its height, and the place behind it.
+/// An expression, its height, and the place after it.
 #[derive(Drop)]
 pub struct Read {
     pub expr: Box<Expr>,
@@ -18,7 +18,7 @@ pub struct Read {
     pub ghost is_height: { height ≡ Heights.height (tree_of expr.value) },
 }
 
-/// The expressions of a list, the height of the highest, and the place behind the last.
+/// The expressions of a list, the height of the highest, and the place after the last.
 #[derive(Drop)]
 pub struct Items {
     pub exprs: Vec<Expr>,
@@ -27,7 +27,7 @@ pub struct Items {
     pub ghost is_height: { height ≡ Heights.list_height (map tree_of exprs.items) },
 }
 
-/// A key, or none behind a `**`, and a value, the height of the higher one, and the place behind.
+/// A key, or none after a `**`, and a value, the height of the higher one, and the place after.
 #[derive(Drop)]
 pub struct Pair {
     pub key: Option<Box<Expr>>,

@@ -26,7 +26,7 @@ fn add_points(to: &mut Points, points: &Points) -> Result<(), AllocError>
     Ok(())
 }
 
-/// A text with one more behind it.
+/// A text with one more after it.
 #[tactic(auto, using(crate::proofs::Places::Runs::text_turn, crate::proofs::Places::Runs::text_mixed))]
 fn add_text(alloc: Global, points: Points, unicode: bool, more: LiteralText) -> Result<Points, Stop>
     ensures { MatchResult result
@@ -47,7 +47,7 @@ fn add_text(alloc: Global, points: Points, unicode: bool, more: LiteralText) -> 
     }
 }
 
-/// Bytes with more behind them.
+/// Bytes with more after them.
 #[tactic(auto, using(crate::proofs::Places::Runs::bytes_turn, crate::proofs::Places::Runs::bytes_mixed))]
 fn add_bytes(alloc: Global, bytes: Vec<u8>, more: LiteralText) -> Result<Vec<u8>, Stop>
     ensures { MatchResult result
@@ -68,7 +68,7 @@ fn add_bytes(alloc: Global, bytes: Vec<u8>, more: LiteralText) -> Result<Vec<u8>
     }
 }
 
-/// Neighbouring literals, behind a first one.
+/// Neighbouring literals, after a first one.
 #[inline(never)]
 pub fn string_run(
     alloc: Global,
@@ -86,7 +86,7 @@ pub fn string_run(
     }
 }
 
-/// Texts behind a first one.
+/// Texts after a first one.
 fn text_run(
     alloc: Global,
     tokens: &[Terminal],
@@ -107,7 +107,7 @@ fn text_run(
     make_constant(alloc, Constant::Str { points, unicode }, next)
 }
 
-/// Bytes behind a first one.
+/// Bytes after a first one.
 #[inline(never)]
 fn bytes_run(alloc: Global, tokens: &[Terminal], first: Vec<u8>, at: usize) -> Result<Read, Stop>
     requires { at ≤ length tokens.now }

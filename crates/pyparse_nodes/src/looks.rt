@@ -95,7 +95,7 @@ pub fn name_at<'a>(tokens: &[Terminal<'a>], at: usize) -> Option<&'a str>
     }
 }
 
-/// A name, if this sign stands behind it.
+/// A name, if this sign stands after it.
 #[tactic(auto, using(crate::proofs::Places::Stands::named_stands, crate::proofs::Places::Stands::unnamed_sign, crate::proofs::Places::Stands::unnamed_first))]
 pub fn name_with<'a>(tokens: &[Terminal<'a>], at: usize, sign: Exact) -> Option<&'a str>
     ensures { MatchOption result (IsNotNamed sign tokens.now at)
@@ -168,7 +168,7 @@ fn lead(t: Terminal) -> u8
     }
 }
 
-/// The lead of the terminal at a place, or 0 behind the last one.
+/// The lead of the terminal at a place, or 0 after the last one.
 pub fn lead_at(tokens: &[Terminal], at: usize) -> u8
     ensures is { result ≡ lead_of (seen tokens.now at) }
     ensures within { 0 < result → at < length tokens.now }
@@ -238,7 +238,7 @@ fn ends_at(tokens: &[Terminal], at: usize) -> bool
     }
 }
 
-/// Whether an atom of one terminal stands at the place, and such a sign or nothing behind it.
+/// Whether an atom of one terminal stands at the place, and such a sign or nothing after it.
 #[inline(always)]
 #[tactic(auto, using(crate::proofs::Places::Alone::alone_here, crate::proofs::Places::Alone::alone_past))]
 pub fn stands_alone(tokens: &[Terminal], at: usize) -> bool

@@ -156,7 +156,7 @@ pub fn starred(alloc: Global, e: Read) -> Result<Read, Stop>
     ensures next { MatchResult result (λ r. r.next ≡ e.next) (λ s. s ≡ Stop.Memory) }
 {
     let next = e.next;
-    // No memory holds a tree of a height behind all numbers.
+    // No memory holds a tree of a height beyond all numbers.
     let height = e.height.checked_add(1).ok_or(Stop::Memory)?;
     boxed(
         alloc,

@@ -13,7 +13,7 @@ use pylex::Exact;
 use pytoken::{Keyword, Terminal};
 use pytree_node::{BoolOperator, Comparison, Operator, UnaryOperator};
 
-/// What an operator behind an expression makes.
+/// What an operator after an expression makes.
 #[derive(Clone, Copy)]
 pub enum Infix {
     /// Of this level, with its right side of the next one.
@@ -35,7 +35,7 @@ pub enum Prefix {
     Awaits,
 }
 
-/// What an operator behind an expression makes.
+/// What an operator after an expression makes.
 pub(crate) fn behind(t: Terminal) -> Option<Infix>
     ensures is { option_map infix_value result ≡ precedence.behind (terminal t.entry) }
     ensures level { IfSome result (λ o. IsInfix (infix_value o)) }

@@ -2,11 +2,11 @@
 //! none.
 
 use crate::sources::source_of;
-use pytree_dump::{Style, dump_expr};
 use pygrammar::Level;
-use pytree_node::Profile;
 use pyparse::{GrammarError, ParseFault, Token, parse_expression, tokens_of};
 use pysource::Place;
+use pytree_dump::{Style, dump_expr};
+use pytree_node::Profile;
 use std::alloc::Global;
 use std::process::Abort;
 use std::test::Fail;
@@ -431,13 +431,13 @@ fn at_the_first_token(rt: HostRuntime) -> Result<(), Fail> {
     Ok(())
 }
 
-/// What is said against too many nodes in one another.
+/// What is said against too many nodes nested.
 const DEEP: Option<(GrammarError, Place)> = Some((
     GrammarError::TooDeep,
     Place { row: 1, column: 0 },
 ));
 
-/// At most 500 nodes stand in one another, and 600 brackets.
+/// At most 500 nodes are nested, and 600 brackets.
 #[test]
 fn high(rt: HostRuntime) -> Result<(), Fail> {
     for (count, before, middle, behind, refused) in &[

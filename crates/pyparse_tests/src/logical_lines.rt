@@ -129,7 +129,7 @@ fn a_last_line_without_its_end(rt: HostRuntime) -> Result<(), Fail> {
     )
 }
 
-/// So many lines are given before the refusal, which is told again.
+/// So many lines are given before the refusal, which is reported again.
 fn refuses(
     rt: &impl Abort,
     alloc: Global,
@@ -163,7 +163,7 @@ fn the_first_reason_behind_lines(rt: HostRuntime) -> Result<(), Fail> {
             1,
             Refusal::Token(TokenError::Float, Place { row: 2, column: 4 }),
         ),
-        // The fault of the listing comes before all, though it stands behind them.
+        // The fault of the listing comes before all, though it stands after them.
         (
             "x\ny = 1.5\nz\n)\n",
             1,
@@ -189,7 +189,7 @@ fn the_first_reason_behind_lines(rt: HostRuntime) -> Result<(), Fail> {
     Ok(())
 }
 
-/// A line has at most 600 brackets in one another.
+/// A line has at most 600 brackets nested.
 #[test]
 fn brackets(rt: HostRuntime) -> Result<(), Fail> {
     let alloc = rt.alloc();

@@ -1,4 +1,4 @@
-//! Why sources have no tokens, and which reason is told.
+//! Why sources have no tokens, and which reason is reported.
 
 use crate::sources::source_of;
 use pylex::{ListingError, ListingFault};

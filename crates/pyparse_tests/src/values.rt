@@ -50,7 +50,7 @@ fn numbers_of_other_kinds(rt: HostRuntime) {
     }
 }
 
-/// A literal stands for the value of this repr, behind `u` where its kind is `u`.
+/// A literal stands for the value of this repr, after `u` where its kind is `u`.
 fn stands_for(rt: &impl Abort, alloc: Global, text: &str, expected: &str) -> Result<(), Fail> {
     let mut shown = String::new(alloc);
     match string_value(alloc, text)? {

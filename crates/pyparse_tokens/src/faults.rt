@@ -19,7 +19,7 @@ pub enum GrammarError {
     /// They are deeper than the line before them, which is no header whose block is to follow.
     UnexpectedIndent,
     /// They are a clause whose statement isn't there, or stand where a statement needs another
-    /// line: behind a `try` an `except` or `finally`, behind a decorator a `def` or `class`.
+    /// line: after a `try` an `except` or `finally`, after a decorator a `def` or `class`.
     MisplacedClause,
     /// Their form is too high, or a statement that begins in them stands too deep in others.
     TooDeep,

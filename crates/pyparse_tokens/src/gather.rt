@@ -107,7 +107,7 @@ fn push_given<'a>(
     }
 }
 
-/// What one pass over a listing has gathered behind some of its entries.
+/// What one pass over a listing has gathered after some of its entries.
 #[derive(Drop)]
 pub(crate) struct Gather<'a> {
     tokens: Vec<Token<'a>>,
@@ -144,7 +144,7 @@ impl<'a> Gather<'a> {
         self.pass.take(source, entry, faulty)
     }
 
-    /// The tokens, or the first refusal, behind all entries.
+    /// The tokens, or the first refusal, after all entries.
     pub(crate) fn finish(self) -> Result<Vec<Token<'a>>, ParseFault>
         ensures tokens { IfOk result (λ ts. map token_of ts.items
             ≡ map token_of self.entry.tokens.items) }

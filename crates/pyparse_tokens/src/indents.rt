@@ -23,7 +23,7 @@ fn is_blank(c: char) -> bool
     c == ' ' || c == '\t' || c == '\x0c'
 }
 
-/// What stands behind the blanks at the front of a text.
+/// What stands after the blanks at the front of a text.
 fn behind_blanks(text: &str) -> &str
     ensures cut { text.now ≡ blanks_of (chars text.now) ++ result.now }
     ensures rest { chars result.now ≡ drop (length (blanks_of (chars text.now))) (chars text.now) }
@@ -116,7 +116,7 @@ pub(crate) struct Indents {
     /// The widths of the lines from which on none has a smaller one: each once, rising, up to the
     /// first mixed line.
     standing: Vec<Widths>,
-    /// The first line whose indentation depends on how wide a tab is; behind it none is measured.
+    /// The first line whose indentation depends on how wide a tab is; after it none is measured.
     mixed: Option<Refusal>,
 }
 

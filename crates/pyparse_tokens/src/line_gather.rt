@@ -52,7 +52,7 @@ fn spell_match(first: &str, last: &str) -> bool
     first == "match" && last == ":"
 }
 
-/// What one pass over a listing has gathered of its lines behind some of its entries.
+/// What one pass over a listing has gathered of its lines after some of its entries.
 #[derive(Drop)]
 pub(crate) struct LineGather<'a> {
     pass: Pass,

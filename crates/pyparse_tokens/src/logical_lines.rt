@@ -141,15 +141,15 @@ impl<'a> LogicalLines<'a> {
         self.gather.is_match()
     }
 
-    /// Where the source ends, behind its last line: the place of ENDMARKER, its last token.
+    /// Where the source ends, after its last line: the place of ENDMARKER, its last token.
     pub fn end(&self) -> Place
         ensures { result ≡ self.now.marker }
     {
         self.gather.marker()
     }
 
-    /// Goes to the next line: whether there is one. Once there is none, or an error was told, each
-    /// later call answers the same, and changes nothing.
+    /// Goes to the next line: whether there is one. Once there is none, or an error was reported,
+    /// each later call answers the same, and changes nothing.
     ///
     /// The room of the terminals is used again for each line. Besides, memory is taken only where
     /// an INDENT comes, for the widths of the lines' indentations, and, to find its fault, for a
@@ -158,7 +158,7 @@ impl<'a> LogicalLines<'a> {
     /// # Errors
     ///
     /// [`ParseFault::Refused`] by the reason why the source has no tokens, as
-    /// [`tokens_of`](crate::tokens_of) tells it. It may come behind lines that were given.
+    /// [`tokens_of`](crate::tokens_of) reports it. It may come after lines that were given.
     pub fn next(&mut self) -> Result<bool, ParseFault>
         ensures source { self.new.source ≡ self.old.source }
         ensures line { IfOk result

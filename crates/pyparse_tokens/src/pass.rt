@@ -45,7 +45,7 @@ fn counted(count: usize, more: bool) -> usize
     if more { count + 1 } else { count }
 }
 
-/// Whether a line has tokens and no NEWLINE behind an entry, by whether it had before.
+/// Whether a line has tokens and no NEWLINE after an entry, by whether it had before.
 fn still_open(kind: Kind, begun: bool) -> bool
     ensures { result ≡ still_open kind begun }
 {
@@ -56,7 +56,7 @@ fn still_open(kind: Kind, begun: bool) -> bool
     }
 }
 
-/// Whether an entry of this type ends a line, behind so many opening and closing brackets.
+/// Whether an entry of this type ends a line, after so many opening and closing brackets.
 fn line_ends(kind: Kind, opened: usize, closed: usize) -> bool
     ensures { result ≡ line_ends kind opened closed }
 {
@@ -86,7 +86,7 @@ fn first(one: Option<Refusal>, other: Option<Refusal>) -> Option<Refusal>
     }
 }
 
-/// What one pass over a listing keeps of its faults behind some of its entries.
+/// What one pass over a listing keeps of its faults after some of its entries.
 #[derive(Drop)]
 pub(crate) struct Pass {
     /// Whether the line has tokens and no NEWLINE yet.

@@ -9,15 +9,15 @@ ghost use Rattle.pytree_fits.specs.Slots.{fits_at};
 ghost use Rattle.pytree_fits.specs.Statements.{module_fits};
 
 use pygrammar::Level;
-use pytree_node::{Expr, Module, Profile};
 use pytree_fits::{expr_fits, statements_fit};
+use pytree_node::{Expr, Module, Profile};
 use std::alloc::{AllocError, Global};
 
 /// Whether a module is well formed in a version of Python: whether the grammar gives it to some
 /// lines of sound tokens, with no regard to heights and brackets.
 ///
 /// So its names are names, its targets and contexts stand where they may, and no list is empty that
-/// needs a member. `Err` is want of memory alone, which the test of names may meet.
+/// needs a member. `Err` means out of memory alone, which the test of names may meet.
 #[tactic(auto, using(pytree_fits::proofs::Callers::Law::slots_are_lawful))]
 pub fn well_formed(alloc: Global, tree: &Module, profile: Profile) -> Result<bool, AllocError>
     ensures given { IfOk result (λ told. IsTrue told ↔ Stated profile (module_of tree.now)) }

@@ -29,12 +29,12 @@ mod names;
 pub use fits::{well_formed, well_formed_at};
 pub use modules::{copy, same};
 pub use names::{is_keyword, is_name};
-pub use pytree_dump::{Pieces, Style, dump, dump_expr};
 pub use pygrammar::Level;
+pub use pytoken::{Meaning, Refusal, TokenError, is_identifier};
+pub use pytree_dump::{Pieces, Style, dump, dump_expr};
 pub use pytree_height::{Heights, height};
 pub use pytree_node::{
     Alias, Arg, Arguments, BoolOperator, Comparison, Comprehension, Constant, Context, Expr,
     Handler, Identifier, Integer, Item, Keyword, Module, Operator, Points, Profile, Stmt,
     TypeParam, UnaryOperator,
 };
-pub use pytoken::{Meaning, Refusal, TokenError, is_identifier};

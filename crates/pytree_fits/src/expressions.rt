@@ -218,7 +218,7 @@ fn keyword_fits(alloc: Global, k: &Keyword) -> Result<bool, AllocError>
     Ok(optional_name_fits(alloc, &k.arg)? && expr_fits(alloc, &k.value, Level::Expression)?)
 }
 
-/// Whether each of some arguments by name fits.
+/// Whether each of some keyword arguments fits.
 #[cycle(fits)]
 #[tactic(auto, using(pytree_node::proofs::Callers::ExprShapes::expr_shapes))]
 pub(crate) fn keywords_fit(alloc: Global, ks: &[Keyword]) -> Result<bool, AllocError>

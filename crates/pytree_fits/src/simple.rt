@@ -139,7 +139,7 @@ pub(crate) fn raise_fits(
     }
 }
 
-/// Whether a version has parameters of types, and the statement `type`.
+/// Whether a version has type parameters, and the statement `type`.
 pub(crate) fn has_types(profile: Profile) -> bool
     ensures { result ≡ has_types profile }
 {
@@ -149,7 +149,7 @@ pub(crate) fn has_types(profile: Profile) -> bool
     }
 }
 
-/// Whether a parameter of a type fits.
+/// Whether a type parameter fits.
 fn type_param_fits(alloc: Global, parameter: &TypeParam) -> Result<bool, AllocError>
     ensures { IfOk result (λ told. told ≡ type_param_fits is_name (type_param_of parameter.now)) }
 {
@@ -175,7 +175,7 @@ fn each_type_param_fits(alloc: Global, parameters: &[TypeParam]) -> Result<bool,
     Ok(true)
 }
 
-/// Whether parameters of types fit, in a version that has these.
+/// Whether type parameters fit, in a version that has these.
 pub(crate) fn type_params_fit(
     alloc: Global,
     profile: Profile,

@@ -24,7 +24,7 @@ fn value(stmt: &mut Stmt) -> Option<&mut Expr> {
 }
 
 /// Puts the expression that a module is into another one, as a target or an operand, in place of
-/// its own. `None` is told where one of the two has none.
+/// its own. `None` is reported where one of the two has none.
 pub(crate) fn put(tree: &mut Module, other: &mut Module) -> Option<()> {
     let mine = place(tree.body.first_mut()?)?;
     let yours = value(other.body.first_mut()?)?;
@@ -88,8 +88,8 @@ fn imported(stmt: &mut Stmt) -> Option<&mut Identifier> {
     }
 }
 
-/// Puts the name that a module imports into another one, in place of its own. `None` is told where
-/// one of the two imports none.
+/// Puts the name that a module imports into another one, in place of its own. `None` is reported
+/// where one of the two imports none.
 pub(crate) fn put_name(tree: &mut Module, other: &mut Module) -> Option<()> {
     let mine = imported(tree.body.first_mut()?)?;
     let yours = imported(other.body.first_mut()?)?;

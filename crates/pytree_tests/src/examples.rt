@@ -1,13 +1,13 @@
 //! Each example of `uses` once where all goes well, and where a source is at fault.
 
-use uses::{
-    INDENTED, assignment_text, count_names, described, dumped, first_comment, kept, resumed,
-    rewritten, tree_of_bytes,
-};
 use pylex::{Lister, Step};
 use pysource::{Counted, decode};
 use pytree::Profile;
 use std::test::Fail;
+use uses::{
+    INDENTED, assignment_text, count_names, described, dumped, first_comment, kept, resumed,
+    rewritten, tree_of_bytes,
+};
 
 /// `if x:`, `    y = x`: four names and keywords.
 #[test]
@@ -17,7 +17,7 @@ fn counts(rt: HostRuntime) -> Result<(), Fail> {
     Ok(())
 }
 
-/// Behind the third entry, the name `x`, comes the colon.
+/// After the third entry, the name `x`, comes the colon.
 #[test]
 fn goes_on(rt: HostRuntime) -> Result<(), Fail> {
     let source = decode(rt.alloc(), b"if x:\n    y = x\n")?;

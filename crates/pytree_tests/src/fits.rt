@@ -6,7 +6,7 @@ use pytree::{Context, Expr, Identifier, Level, Module, Profile, well_formed, wel
 use std::alloc::{AllocError, Global};
 use std::test::Fail;
 
-/// What is told of a module in Python 3.11.
+/// What is reported of a module in Python 3.11.
 fn told(alloc: Global, tree: &Module) -> Result<bool, AllocError> {
     well_formed(alloc, tree, Profile::Py311)
 }
@@ -44,7 +44,7 @@ fn levels(rt: HostRuntime) -> Result<(), Fail> {
     Ok(())
 }
 
-/// `and` is between two values at least; each parameter behind `*` has a default, or none.
+/// `and` is between two values at least; each parameter after `*` has a default, or none.
 #[test]
 fn members(rt: HostRuntime) -> Result<(), Fail> {
     let alloc = rt.alloc();

@@ -34,7 +34,7 @@ const FLUSH: Style = Style {
     profile: Profile::Py311,
 };
 
-/// Asserts that the pieces of a dump put together are this text. Behind the last of them there is
+/// Asserts that the pieces of a dump put together are this text. After the last of them there is
 /// nothing.
 fn same_in_pieces(
     rt: &impl Abort,

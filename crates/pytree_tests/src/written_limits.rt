@@ -99,7 +99,7 @@ fn blocks(alloc: Global, count: usize, deeper: &str, last: &str) -> Result<Strin
     Ok(text)
 }
 
-/// As many statements in one another as may be, the last one in a block or behind a header.
+/// As many statements nested as may be, the last one in a block or after a header.
 #[test]
 fn statements_in_one_another(rt: HostRuntime) -> Result<(), Fail> {
     let alloc = rt.alloc();

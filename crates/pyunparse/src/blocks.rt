@@ -198,7 +198,7 @@ fn write_with(
     write_block(out, body)
 }
 
-/// Writes a `def` behind its decorators.
+/// Writes a `def` after its decorators.
 #[cycle(blocks)]
 fn write_function(
     out: &mut TextWriter,
@@ -218,7 +218,7 @@ fn write_function(
     write_block(out, body)
 }
 
-/// Writes a `class` behind its decorators.
+/// Writes a `class` after its decorators.
 #[cycle(blocks)]
 fn write_class(
     out: &mut TextWriter,

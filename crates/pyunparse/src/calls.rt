@@ -149,7 +149,7 @@ fn write_arguments<W: Writer>(
     write_keywords(out, args.is_empty(), words)
 }
 
-/// Writes arguments by name, and those of `**`, behind others or not.
+/// Writes keyword arguments, and those of `**`, after others or not.
 #[cycle(writing)]
 pub(crate) fn write_keywords<W: Writer>(
     out: &mut W,

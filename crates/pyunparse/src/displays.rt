@@ -62,7 +62,7 @@ pub(crate) fn write_display<W: Writer>(
     put_sign(out, closer, Role::Trailing)
 }
 
-/// Writes a dictionary. What has no key stands behind `**`.
+/// Writes a dictionary. What has no key stands after `**`.
 #[cycle(writing)]
 pub(crate) fn write_dict<W: Writer>(
     out: &mut W,

@@ -233,7 +233,7 @@ pub(crate) fn write_compare<W: Writer>(
     close(out, bare)
 }
 
-/// Writes comparisons with what stands behind them.
+/// Writes comparisons with what stands after them.
 #[cycle(writing)]
 fn write_compared<W: Writer>(
     out: &mut W,

@@ -38,7 +38,7 @@ pub(crate) fn write_parameters<W: Writer>(out: &mut W, a: &Arguments) -> Result<
 }
 
 /// Writes the parameters that may be given by their places, of which the last ones have the
-/// defaults, with `/` behind those that may only be given so.
+/// defaults, with `/` after those that may only be given so.
 #[cycle(writing)]
 fn write_positional<W: Writer>(out: &mut W, a: &Arguments) -> Result<(), AllocError>
     ensures { OnOk result
@@ -47,7 +47,7 @@ fn write_positional<W: Writer>(out: &mut W, a: &Arguments) -> Result<(), AllocEr
     write_both(out, &a.posonlyargs, &a.args, &a.defaults)
 }
 
-/// Writes parameters that may only be given by their places, `/` behind them if there are any, and
+/// Writes parameters that may only be given by their places, `/` after them if there are any, and
 /// others, of which the last ones have the defaults.
 #[cycle(writing)]
 fn write_both<W: Writer>(
@@ -70,7 +70,7 @@ fn write_both<W: Writer>(
     write_plain(out, count == 0, others, bare.saturating_sub(count), rest)
 }
 
-/// Writes the `/` behind parameters that may only be given by their places, if there are any.
+/// Writes the `/` after parameters that may only be given by their places, if there are any.
 fn put_slash<W: Writer>(out: &mut W, count: usize) -> Result<(), AllocError>
     ensures { OnOk result (out.new ≡ puts W.after out.old (slash_behind count)) }
 {
@@ -170,7 +170,7 @@ fn write_gathered<W: Writer>(
     }
 }
 
-/// Writes keyword-only parameters behind others.
+/// Writes keyword-only parameters after others.
 #[cycle(writing)]
 fn write_keyword_only<W: Writer>(
     out: &mut W,

@@ -72,7 +72,7 @@ fn is_part(place: Level) -> bool
     }
 }
 
-/// Whether an element stands alone with a comma behind it.
+/// Whether an element stands alone with a comma after it.
 fn is_alone(elts: &[Expr], place: Level) -> bool
     ensures { result ≡ is_alone (exprs (map tree_of elts.now)) place }
 {
@@ -84,7 +84,7 @@ fn is_alone(elts: &[Expr], place: Level) -> bool
 }
 
 /// Writes a tuple: with brackets where its place asks for them, or where it is empty, and with a
-/// comma behind an element that stands alone.
+/// comma after an element that stands alone.
 #[cycle(writing)]
 pub(crate) fn write_tuple<W: Writer>(
     out: &mut W,
@@ -104,7 +104,7 @@ pub(crate) fn write_tuple<W: Writer>(
     close(out, bare)
 }
 
-/// Writes the comma behind an element that stands alone, or nothing.
+/// Writes the comma after an element that stands alone, or nothing.
 fn put_last<W: Writer>(out: &mut W, is_alone: bool) -> Result<(), AllocError>
     ensures { OnOk result (out.new ≡ puts W.after out.old (last is_alone)) }
 {

@@ -1,4 +1,4 @@
-//! The parameters of types, of Python 3.12.
+//! The type parameters, of Python 3.12.
 
 #![tactic(auto, using(crate::proofs::Sequences::FoldLemmas::puts_append))]
 
@@ -20,7 +20,7 @@ use pyunparse_text::tokens::{put_between, put_name, put_sign};
 use pyunparse_text::writers::Writer;
 use std::alloc::AllocError;
 
-/// Writes a parameter of a type.
+/// Writes a type parameter.
 fn write_type_param<W: Writer>(out: &mut W, param: &TypeParam) -> Result<(), AllocError>
     ensures { OnOk result
         (out.new ≡ puts W.after out.old (written.type_param piece (type_param_of param.now))) }
@@ -41,7 +41,7 @@ fn write_type_param<W: Writer>(out: &mut W, param: &TypeParam) -> Result<(), All
     }
 }
 
-/// Writes the bound of a parameter of a type, if it has one.
+/// Writes the bound of a type parameter, if it has one.
 fn write_bound<W: Writer>(out: &mut W, bound: &Option<Expr>) -> Result<(), AllocError>
     ensures { OnOk result
         (out.new ≡ puts W.after out.old

@@ -1,9 +1,9 @@
-//! What a token says of the blank behind it.
+//! What a token says of the blank after it.
 
 /// What of a token tells whether the next one touches it.
 #[derive(Clone, Copy)]
 pub struct Edge {
-    /// It keeps close to what stands behind it.
+    /// It keeps close to what stands after it.
     pub behind: bool,
     /// It is a number, which a point doesn't touch.
     pub number: bool,

@@ -121,7 +121,7 @@ pub fn right_level(op: Operator) -> Level
     }
 }
 
-/// The level of what stands behind a star, by the level of its place.
+/// The level of what stands after a star, by the level of its place.
 pub fn star_level(place: Level) -> Level
     ensures { result ≡ written.star_level place }
 {

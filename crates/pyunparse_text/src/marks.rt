@@ -13,7 +13,7 @@ pub enum Between {
 pub enum Role {
     /// Between two blanks.
     Free,
-    /// Close to what stands behind it: an opening bracket, or a prefix.
+    /// Close to what stands after it: an opening bracket, or a prefix.
     Leading,
     /// Close to what stands before it: a closing bracket, a comma, or the colon of a header.
     Trailing,

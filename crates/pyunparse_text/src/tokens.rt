@@ -75,7 +75,7 @@ pub fn open<W: Writer>(out: &mut W, bare: bool) -> Result<(), AllocError>
     put_sign(out, Exact::LPar, Role::Leading)
 }
 
-/// Writes a bracket behind an expression, unless it is bare.
+/// Writes a bracket after an expression, unless it is bare.
 pub fn close<W: Writer>(out: &mut W, bare: bool) -> Result<(), AllocError>
     ensures { OnOk result (out.new ≡ puts W.after out.old (closed bare)) }
 {

@@ -13,7 +13,7 @@ use std::alloc::AllocError;
 
 /// What tokens are written into, one after another: a text, or a list.
 pub trait Writer {
-    // The writer behind a token, whose text is given in UTF-8.
+    // The writer after a token, whose text is given in UTF-8.
     ghost after: { Self → Piece → Self };
 
     /// Writes a token that keeps close to its neighbours, or doesn't.

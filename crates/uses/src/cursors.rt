@@ -17,7 +17,7 @@ pub fn kept(lister: &Lister) -> Result<String, AllocError>
     lister.cursor()?.to_text()
 }
 
-/// Goes on behind a cursor that was kept as a text. A text that is no cursor's is refused, and a
+/// Goes on after a cursor that was kept as a text. A text that is no cursor's is refused, and a
 /// cursor that this source doesn't have.
 pub fn resumed<'a>(alloc: Global, source: &'a Source, text: &str) -> Result<Lister<'a>, CursorFault>
     ensures source { IfOk result (λ lister. lister.source ≡ source.now) }

@@ -1,4 +1,4 @@
-//! What is told of a source that has no tree.
+//! What is reported of a source that has no tree.
 
 ghost use Rattle.std.specs.Prelude.{◌≡◌, ◌≤◌, length, IfOk, IfErr, string_bytes};
 ghost use Rattle.pysource.specs.Limits.{source_limit};

@@ -4,7 +4,7 @@
 //! [`first_comment`] one that is read line by line; with [`kept`] a listing stops, and with
 //! [`resumed`] it goes on. [`dumped`] and [`rewritten`] write what a source's tree is, and
 //! [`assignment_text`] one that is made by hand. [`tree_of_bytes`] takes the fault of each layer,
-//! and [`described`] tells it.
+//! and [`described`] reports it.
 #![tactic(auto)]
 
 mod assignments;

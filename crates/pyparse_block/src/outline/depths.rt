@@ -36,7 +36,7 @@ impl Last {
     }
 
     /// Whether a statement with so many round it that it stands too deep begins in the line, by the
-    /// line's shape: in an `else`, `except` or `finally` none begins but those behind its colon.
+    /// line's shape: in an `else`, `except` or `finally` none begins but those after its colon.
     fn is_deep(self, shape: Shape) -> bool
         ensures { result ≡ deep_in shape self.round self.arms }
     {

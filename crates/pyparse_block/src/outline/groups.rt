@@ -36,14 +36,14 @@ impl GroupKind {
         }
     }
 
-    /// What is open behind another statement that begins here, if it may.
+    /// What is open after another statement that begins here, if it may.
     fn ended(self, next: GroupKind) -> Option<GroupKind>
         ensures { result ≡ ended self next }
     {
         if self.is_whole() { Some(next) } else { None }
     }
 
-    /// What is open behind a clause and its block, if the clause may stand here: 8.1 to 8.8.
+    /// What is open after a clause and its block, if the clause may stand here: 8.1 to 8.8.
     fn goes_on(self, clause: Clause) -> Option<GroupKind>
         ensures { result ≡ goes_on clause self }
     {
@@ -79,7 +79,7 @@ impl GroupKind {
         }
     }
 
-    /// What is open behind a line, if the line may stand here.
+    /// What is open after a line, if the line may stand here.
     pub(crate) fn next(self, shape: Shape) -> Option<GroupKind>
         ensures { result ≡ next shape self }
     {

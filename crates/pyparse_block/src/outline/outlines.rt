@@ -41,7 +41,7 @@ impl Outline {
     }
 
     /// Takes the next line: its level, which is the number of levels above 0 that are open at it,
-    /// and its form. Whether a statement begins in it with 500 statements round it. Behind an error
+    /// and its form. Whether a statement begins in it with 500 statements round it. After an error
     /// it is as it was before the first line.
     ///
     /// # Errors
@@ -87,7 +87,8 @@ impl Outline {
     ///
     /// # Errors
     ///
-    /// [`BlockStop::Faulty`] where the end of the lines is faulty, by its fault; it takes no memory.
+    /// [`BlockStop::Faulty`] where the end of the lines is faulty, by its fault; it takes no
+    /// memory.
     #[tactic(auto, using(crate::proofs::outline::OutlineLemmas::following))]
     pub fn finish(&self) -> Result<(), BlockStop>
         ensures ok { (xs : List Line) → Follows xs self.now

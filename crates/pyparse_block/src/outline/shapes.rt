@@ -42,7 +42,7 @@ pub(crate) enum Shape {
     Decorator,
     /// A header whose block is the lines that follow.
     Opening { clause: Clause },
-    /// A header with its block behind its colon.
+    /// A header with its block after its colon.
     Inline { clause: Clause },
 }
 

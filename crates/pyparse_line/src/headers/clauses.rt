@@ -96,7 +96,7 @@ fn except_of(
     })
 }
 
-/// Behind an `except`.
+/// After an `except`.
 pub(crate) fn except_rest(
     alloc: Global,
     tokens: &[Terminal],

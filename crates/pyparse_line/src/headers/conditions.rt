@@ -16,7 +16,7 @@ use pyparse_nodes::Stop;
 use pytoken::Terminal;
 use std::alloc::Global;
 
-/// Behind an `if`.
+/// After an `if`.
 pub(crate) fn if_rest(
     alloc: Global,
     tokens: &[Terminal],
@@ -36,7 +36,7 @@ pub(crate) fn if_rest(
     })
 }
 
-/// Behind an `elif`.
+/// After an `elif`.
 pub(crate) fn elif_rest(
     alloc: Global,
     tokens: &[Terminal],
@@ -56,7 +56,7 @@ pub(crate) fn elif_rest(
     })
 }
 
-/// Behind a `while`.
+/// After a `while`.
 pub(crate) fn while_rest(
     alloc: Global,
     tokens: &[Terminal],

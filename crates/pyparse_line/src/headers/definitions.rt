@@ -81,7 +81,7 @@ fn function_at(
     function_header(alloc, is_async, name, types, parameters, returns)
 }
 
-/// Behind a `def`, its name and the parameters of types.
+/// After a `def`, its name and the type parameters.
 fn function_rest(
     alloc: Global,
     tokens: &[Terminal],
@@ -102,7 +102,7 @@ fn function_rest(
     function_at(alloc, tokens, is_async, name, types, at, depth)
 }
 
-/// Behind a `def`.
+/// After a `def`.
 pub(crate) fn def_rest(
     alloc: Global,
     tokens: &[Terminal],
@@ -193,7 +193,7 @@ fn class_at(
     Ok(class_of(name, types, arguments, next))
 }
 
-/// Behind a `class`, its name and the parameters of types.
+/// After a `class`, its name and the type parameters.
 fn bases_rest(
     alloc: Global,
     tokens: &[Terminal],
@@ -213,7 +213,7 @@ fn bases_rest(
     class_at(alloc, tokens, name, types, at, depth)
 }
 
-/// Behind a `class`.
+/// After a `class`.
 pub(crate) fn class_rest(
     alloc: Global,
     tokens: &[Terminal],

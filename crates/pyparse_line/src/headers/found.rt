@@ -9,7 +9,7 @@ ghost use Rattle.pygrammar.specs.FormOf.{header_of};
 use pygrammar::Header;
 use pytree_node::Item;
 
-/// A header, the height of the highest expression in it, and the place behind it.
+/// A header, the height of the highest expression in it, and the place after it.
 #[derive(Drop)]
 pub struct ReadHeader {
     pub header: Header,
@@ -18,7 +18,7 @@ pub struct ReadHeader {
     pub ghost is_height: { height ≡ header_height (header_of header) },
 }
 
-/// An item of a `with`, the height of the higher expression in it, and the place behind it.
+/// An item of a `with`, the height of the higher expression in it, and the place after it.
 #[derive(Drop)]
 pub(crate) struct ReadItem {
     pub item: Item,
@@ -27,7 +27,7 @@ pub(crate) struct ReadItem {
     pub ghost is_height: { height ≡ Heights.item_heights (item_of item ∷ []) },
 }
 
-/// Items of a `with`, the height of the highest expression in them, and the place behind the last.
+/// Items of a `with`, the height of the highest expression in them, and the place after the last.
 #[derive(Drop)]
 pub(crate) struct ReadItems {
     pub items: Vec<Item>,

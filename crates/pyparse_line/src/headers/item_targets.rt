@@ -14,7 +14,7 @@ use pyparse_nodes::{Read, Stop, is_op, starred, stored};
 use pytoken::Terminal;
 use std::alloc::Global;
 
-/// What stands behind the `as` of an item.
+/// What stands after the `as` of an item.
 pub(crate) fn item_target(
     alloc: Global,
     tokens: &[Terminal],

@@ -103,7 +103,7 @@ fn push(items: ReadItems, item: ReadItem) -> Result<ReadItems, Stop>
     })
 }
 
-/// The same items, with another place behind them.
+/// The same items, with another place after them.
 fn placed(items: ReadItems, next: usize) -> ReadItems
     ensures items { map item_of result.items.items ≡ map item_of items.items.items }
     ensures next { result.next ≡ next }

@@ -17,7 +17,7 @@ use pyparse_nodes::{Stop, is_word, stored};
 use pytoken::{Keyword, Terminal};
 use std::alloc::Global;
 
-/// Behind a `for`.
+/// After a `for`.
 pub(crate) fn for_rest(
     alloc: Global,
     tokens: &[Terminal],
@@ -48,7 +48,7 @@ pub(crate) fn for_rest(
     })
 }
 
-/// Behind a `with`.
+/// After a `with`.
 pub(crate) fn with_rest(
     alloc: Global,
     tokens: &[Terminal],

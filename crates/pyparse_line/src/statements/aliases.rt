@@ -56,7 +56,7 @@ pub(crate) fn read_dotted(alloc: Global, tokens: &[Terminal], at: usize) -> Resu
     }
 }
 
-/// A name with dots, and the name behind its `as`.
+/// A name with dots, and the name after its `as`.
 fn dotted_alias(alloc: Global, tokens: &[Terminal], at: usize) -> Result<ReadAlias, Stop>
     requires { at ≤ length tokens.now }
     ensures { PartAnswered tokens.now at (line.dotted_alias (seen tokens.now at))
@@ -73,7 +73,7 @@ fn dotted_alias(alloc: Global, tokens: &[Terminal], at: usize) -> Result<ReadAli
     })
 }
 
-/// A name, and the name behind its `as`.
+/// A name, and the name after its `as`.
 #[tactic(auto, using(crate::proofs::statements::ImportSteps::alias_is))]
 fn name_alias(alloc: Global, tokens: &[Terminal], at: usize) -> Result<ReadAlias, Stop>
     ensures { PartAnswered tokens.now at (line.name_alias (seen tokens.now at))

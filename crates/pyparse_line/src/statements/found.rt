@@ -7,49 +7,49 @@ ghost use Rattle.pytree_height.specs.Heights as Heights;
 
 use pytree_node::{Alias, Identifier, Stmt, TypeParam};
 
-/// A name, and the place behind it.
+/// A name, and the place after it.
 #[derive(Drop)]
 pub(crate) struct ReadName {
     pub name: Identifier,
     pub next: usize,
 }
 
-/// The name behind an `as`, if there is one, and the place behind it.
+/// The name after an `as`, if there is one, and the place after it.
 #[derive(Drop)]
 pub struct ReadAs {
     pub name: Option<Identifier>,
     pub next: usize,
 }
 
-/// Names, and the place behind them.
+/// Names, and the place after them.
 #[derive(Drop)]
 pub(crate) struct ReadNames {
     pub names: Vec<Identifier>,
     pub next: usize,
 }
 
-/// A name of an import, and the place behind it.
+/// A name of an import, and the place after it.
 #[derive(Drop)]
 pub(crate) struct ReadAlias {
     pub alias: Alias,
     pub next: usize,
 }
 
-/// The names of an import, and the place behind them.
+/// The names of an import, and the place after them.
 #[derive(Drop)]
 pub(crate) struct ReadAliases {
     pub aliases: Vec<Alias>,
     pub next: usize,
 }
 
-/// How many dots stood, and the place behind them.
+/// How many dots stood, and the place after them.
 #[derive(Clone, Copy)]
 pub(crate) struct ReadDots {
     pub count: u64,
     pub next: usize,
 }
 
-/// A parameter of a type, the height of its bound, and the place behind it.
+/// A type parameter, the height of its bound, and the place after it.
 #[derive(Drop)]
 pub(crate) struct ReadTypeParam {
     pub param: TypeParam,
@@ -58,7 +58,7 @@ pub(crate) struct ReadTypeParam {
     pub ghost is_height: { height ≡ Heights.type_param_height (type_param_of param) },
 }
 
-/// Parameters of types, the height of the highest bound, and the place behind them.
+/// Type parameters, the height of the highest bound, and the place after them.
 #[derive(Drop)]
 pub struct ReadTypeParams {
     pub params: Vec<TypeParam>,
@@ -68,7 +68,7 @@ pub struct ReadTypeParams {
         ≡ Heights.type_param_heights (map type_param_of params.items) },
 }
 
-/// A statement, the height of the highest expression in it, and the place behind it.
+/// A statement, the height of the highest expression in it, and the place after it.
 #[derive(Drop)]
 pub(crate) struct ReadStatement {
     pub statement: Stmt,
@@ -77,7 +77,7 @@ pub(crate) struct ReadStatement {
     pub ghost is_height: { height ≡ Heights.highest_in (stmt_of statement) },
 }
 
-/// Statements, the height of the highest expression in them, and the place behind them.
+/// Statements, the height of the highest expression in them, and the place after them.
 #[derive(Drop)]
 pub struct ReadStatements {
     pub statements: Vec<Stmt>,

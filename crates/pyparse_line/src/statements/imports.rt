@@ -90,7 +90,7 @@ fn star_alias(alloc: Global, next: usize) -> Result<ReadAliases, Stop>
     Ok(ReadAliases { aliases, next })
 }
 
-/// The names behind the `import` of a `from`.
+/// The names after the `import` of a `from`.
 fn import_names(alloc: Global, tokens: &[Terminal], at: usize) -> Result<ReadAliases, Stop>
     requires { at ≤ length tokens.now }
     ensures { PartAnswered tokens.now at (line.read_names (seen tokens.now at))
@@ -112,7 +112,7 @@ fn import_names(alloc: Global, tokens: &[Terminal], at: usize) -> Result<ReadAli
     })
 }
 
-/// Behind the `import` of a `from`, with the module and the dots in front of it.
+/// After the `import` of a `from`, with the module and the dots in front of it.
 #[tactic(auto, using(pytree_node::proofs::Callers::StmtShapes::import_from_tree))]
 fn import_of(
     alloc: Global,
@@ -137,7 +137,7 @@ fn import_of(
     })
 }
 
-/// Behind a `from`.
+/// After a `from`.
 pub(crate) fn import_from(
     alloc: Global,
     tokens: &[Terminal],
@@ -167,7 +167,7 @@ pub(crate) fn import_from(
     )
 }
 
-/// Behind an `import`.
+/// After an `import`.
 #[tactic(auto, using(pytree_node::proofs::Callers::StmtShapes::import_tree))]
 pub(crate) fn import(alloc: Global, tokens: &[Terminal], at: usize) -> Result<ReadStatement, Stop>
     requires { at ≤ length tokens.now }

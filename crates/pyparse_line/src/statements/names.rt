@@ -1,4 +1,4 @@
-//! Names, the name behind an `as`, and lists of names.
+//! Names, the name after an `as`, and lists of names.
 
 ghost use Rattle.std.specs.Prelude.{◌+◌, ◌≤◌, length};
 ghost use Rattle.pygrammar.specs.LineReader as line;

@@ -89,7 +89,7 @@ pub(crate) fn stars_or_none(
     Ok(one(e))
 }
 
-/// An expression of a level behind a sign, if the sign stands at the place.
+/// An expression of a level after a sign, if the sign stands at the place.
 pub fn after_sign(
     alloc: Global,
     tokens: &[Terminal],
@@ -110,7 +110,7 @@ pub fn after_sign(
     Ok(one(e))
 }
 
-/// An expression of a level behind a word, if the word stands at the place.
+/// An expression of a level after a word, if the word stands at the place.
 pub fn after_word(
     alloc: Global,
     tokens: &[Terminal],

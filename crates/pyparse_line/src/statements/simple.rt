@@ -1,4 +1,4 @@
-//! Simple statements that begin with a keyword, behind it.
+//! Simple statements that begin with a keyword, after it.
 //!
 //! Python language reference, 7.3 "The `assert` statement", 7.5 to 7.10, 7.12 and 7.13.
 
@@ -69,7 +69,7 @@ pub(crate) fn continue_at(next: usize) -> ReadStatement
     }
 }
 
-/// Behind a `global`.
+/// After a `global`.
 #[tactic(auto, using(pytree_node::proofs::Callers::StmtShapes::global_tree))]
 pub(crate) fn global(alloc: Global, tokens: &[Terminal], at: usize) -> Result<ReadStatement, Stop>
     requires { at ≤ length tokens.now }
@@ -84,7 +84,7 @@ pub(crate) fn global(alloc: Global, tokens: &[Terminal], at: usize) -> Result<Re
     })
 }
 
-/// Behind a `nonlocal`.
+/// After a `nonlocal`.
 #[tactic(auto, using(pytree_node::proofs::Callers::StmtShapes::nonlocal_tree))]
 pub(crate) fn nonlocal(alloc: Global, tokens: &[Terminal], at: usize) -> Result<ReadStatement, Stop>
     requires { at ≤ length tokens.now }
@@ -99,7 +99,7 @@ pub(crate) fn nonlocal(alloc: Global, tokens: &[Terminal], at: usize) -> Result<
     })
 }
 
-/// Behind a `return`.
+/// After a `return`.
 #[tactic(auto, using(pytree_node::proofs::Callers::StmtShapes::return_tree))]
 pub(crate) fn return_value(
     alloc: Global,
@@ -137,7 +137,7 @@ fn raise_at(next: usize) -> ReadStatement
     }
 }
 
-/// Behind a `raise`.
+/// After a `raise`.
 #[tactic(auto, using(pytree_node::proofs::Callers::StmtShapes::raise_tree))]
 pub(crate) fn raise(
     alloc: Global,
@@ -171,7 +171,7 @@ pub(crate) fn raise(
     })
 }
 
-/// Behind an `assert`.
+/// After an `assert`.
 #[tactic(auto, using(pytree_node::proofs::Callers::StmtShapes::assert_tree))]
 pub(crate) fn assert(
     alloc: Global,
@@ -212,7 +212,7 @@ fn deleted_one(alloc: Global, tokens: &[Terminal], at: usize, depth: Depth) -> R
     deleted(e)
 }
 
-/// The same targets, with another place behind them.
+/// The same targets, with another place after them.
 fn placed(targets: Items, next: usize) -> Items
     ensures items { map tree_of result.exprs.items ≡ map tree_of targets.exprs.items }
     ensures next { result.next ≡ next }
@@ -247,7 +247,7 @@ fn deleted_all(alloc: Global, tokens: &[Terminal], at: usize, depth: Depth) -> R
     }
 }
 
-/// Behind a `del`.
+/// After a `del`.
 #[tactic(auto, using(pytree_node::proofs::Callers::StmtShapes::delete_tree))]
 pub(crate) fn delete(
     alloc: Global,

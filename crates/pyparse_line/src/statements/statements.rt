@@ -133,7 +133,7 @@ fn with_statement(before: ReadStatements, one: ReadStatement) -> Result<ReadStat
     })
 }
 
-/// The same statements, with another place behind them.
+/// The same statements, with another place after them.
 fn placed(statements: ReadStatements, next: usize) -> ReadStatements
     ensures statements { map stmt_of result.statements.items
         ≡ map stmt_of statements.statements.items }
@@ -146,7 +146,7 @@ fn placed(statements: ReadStatements, next: usize) -> ReadStatements
     }
 }
 
-/// Simple statements with semicolons between them. One may stand behind the last statement where
+/// Simple statements with semicolons between them. One may stand after the last statement where
 /// nothing follows it.
 ///
 /// # Errors

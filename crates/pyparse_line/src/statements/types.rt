@@ -1,4 +1,4 @@
-//! Parameters of types, and the statement `type`, of Python 3.12.
+//! Type parameters, and the statement `type`, of Python 3.12.
 //!
 //! Python language reference, 7.14 "The `type` statement" and 8.10 "Type parameter lists".
 
@@ -45,7 +45,7 @@ fn type_var_of(alloc: Global, name: &str, bound: Optional) -> Result<ReadTypePar
     })
 }
 
-/// A parameter with no star, behind its name.
+/// A parameter with no star, after its name.
 fn type_var(
     alloc: Global,
     tokens: &[Terminal],
@@ -62,7 +62,7 @@ fn type_var(
     type_var_of(alloc, name, bound)
 }
 
-/// A parameter behind a `*`.
+/// A parameter after a `*`.
 fn type_var_tuple(alloc: Global, name: &str, next: usize) -> Result<ReadTypeParam, Stop>
     ensures param { MatchResult result
         (λ r. type_param_of r.param ≡ plain.TypeVarTuple (nfkc (chars name.now)))
@@ -77,7 +77,7 @@ fn type_var_tuple(alloc: Global, name: &str, next: usize) -> Result<ReadTypePara
     })
 }
 
-/// A parameter behind a `**`.
+/// A parameter after a `**`.
 fn param_spec(alloc: Global, name: &str, next: usize) -> Result<ReadTypeParam, Stop>
     ensures param { MatchResult result
         (λ r. type_param_of r.param ≡ plain.ParamSpec (nfkc (chars name.now)))
@@ -92,7 +92,7 @@ fn param_spec(alloc: Global, name: &str, next: usize) -> Result<ReadTypeParam, S
     })
 }
 
-/// A parameter of a type.
+/// A type parameter.
 #[tactic(auto, using(crate::proofs::statements::TypeSteps::by_name, crate::proofs::statements::TypeSteps::by_star, crate::proofs::statements::TypeSteps::by_stars))]
 fn read_type_param(
     alloc: Global,
@@ -122,7 +122,7 @@ fn read_type_param(
     Err(Stop::NoForm)
 }
 
-/// Whether a parameter of a type begins with a terminal.
+/// Whether a type parameter begins with a terminal.
 fn begins_type_param(t: Terminal) -> bool
     ensures { result ≡ begins_type_param (terminal t.entry) }
 {
@@ -137,7 +137,7 @@ fn begins_type_param(t: Terminal) -> bool
     }
 }
 
-/// Whether a parameter of a type begins at the place.
+/// Whether a type parameter begins at the place.
 #[tactic(auto, using(crate::proofs::statements::TypeSteps::starts_here, crate::proofs::statements::TypeSteps::starts_not))]
 fn starts_type_param(tokens: &[Terminal], at: usize) -> bool
     ensures { result ≡ line.starts_type_param (seen tokens.now at) }
@@ -183,7 +183,7 @@ fn with_param(before: ReadTypeParams, one: ReadTypeParam) -> Result<ReadTypePara
     })
 }
 
-/// The same parameters, with another place behind them.
+/// The same parameters, with another place after them.
 fn placed(params: ReadTypeParams, next: usize) -> ReadTypeParams
     ensures params { map type_param_of result.params.items ≡ map type_param_of params.params.items }
     ensures next { result.next ≡ next }
@@ -195,7 +195,7 @@ fn placed(params: ReadTypeParams, next: usize) -> ReadTypeParams
     }
 }
 
-/// Parameters of types with commas between them.
+/// Type parameters with commas between them.
 fn type_params(
     alloc: Global,
     tokens: &[Terminal],
@@ -222,7 +222,7 @@ fn type_params(
     }
 }
 
-/// Parameters of types in square brackets, if one stands at the place.
+/// Type parameters in square brackets, if one stands at the place.
 fn bracketed_type_params(
     alloc: Global,
     tokens: &[Terminal],
@@ -245,7 +245,7 @@ fn bracketed_type_params(
     Ok(placed(params, next))
 }
 
-/// Parameters of types in square brackets, if one stands at the place in a version that has them.
+/// Type parameters in square brackets, if one stands at the place in a version that has them.
 ///
 /// # Errors
 ///
@@ -288,7 +288,7 @@ fn alias_of(name: Read, params: ReadTypeParams, value: Read) -> ReadStatement
     }
 }
 
-/// Behind `type` and a name.
+/// After `type` and a name.
 pub(crate) fn type_alias(
     alloc: Global,
     tokens: &[Terminal],

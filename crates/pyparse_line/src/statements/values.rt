@@ -29,7 +29,7 @@ use pytoken::Terminal;
 use pytree_node::{Context, Operator};
 use std::alloc::Global;
 
-/// Behind the colon of an annotation.
+/// After the colon of an annotation.
 fn annotated(
     alloc: Global,
     tokens: &[Terminal],
@@ -137,7 +137,7 @@ fn annotated_value(
     annotated(alloc, tokens, target, false, next, depth)
 }
 
-/// Behind a value that no `=` follows.
+/// After a value that no `=` follows.
 #[tactic(auto, using(crate::proofs::statements::ValueSteps::assigned, crate::proofs::statements::ValueSteps::alone))]
 fn end_value(
     alloc: Global,
@@ -163,7 +163,7 @@ fn end_value(
     Ok(expression_of(value))
 }
 
-/// The same targets, with another place behind them.
+/// The same targets, with another place after them.
 fn placed(targets: Items, next: usize) -> Items
     ensures items { map tree_of result.exprs.items ≡ map tree_of targets.exprs.items }
     ensures next { result.next ≡ next }
