@@ -70,7 +70,7 @@ def sources_of_trees():
     yield "a chain of 100,000 attributes", lambda n: b"x" + b".a" * (n * 50_000) + b"\n", REFUSED
     yield "600 brackets on each of 10,000 lines", lambda n: (nested(600) + b"\n") * (n * 5_000), ACCEPTED
     yield "600 brackets around each of 10,000 elements", lambda n: b"[" + (nested(599) + b",\n") * (n * 5_000) + b"]\n", ACCEPTED
-    yield "249 `yield` in one another, 1,000 times", lambda n: (b"[(yield " * 249 + b"x" + b")]" * 249 + b"\n") * (n * 500), ACCEPTED
+    yield "249 nested `yield`, 1,000 times", lambda n: (b"[(yield " * 249 + b"x" + b")]" * 249 + b"\n") * (n * 500), ACCEPTED
     yield "a sum of 499 on each of 1,000 lines", lambda n: (b"x" + b"+x" * 499 + b"\n") * (n * 500), ACCEPTED
     yield "a list of 10 MB on one line", lambda n: b"[" + b"abc, " * (n * 1_000_000) + b"x]\n", ACCEPTED
     yield "a string of 2,000,000 escapes", lambda n: b"'" + b"\\0\\'" * (n * 500_000) + b"\"'\n", ACCEPTED

@@ -22,7 +22,7 @@ STACK, STEP = 8 << 20, 4 << 10
 
 
 def within(levels, line):
-    """A line in so many `if` statements in one another."""
+    """A line in so many nested `if` statements."""
     return "".join(f"{' ' * i}if x:\n" for i in range(levels)) + " " * levels + line + "\n"
 
 
@@ -31,7 +31,7 @@ def sources():
     yield "600 brackets", "(" * 600 + "x" + ")" * 600 + "\n"
     yield "249 `[(yield`", "[(yield " * 249 + "x" + ")]" * 249 + "\n"
     yield "499 `lambda`", "lambda: " * 499 + "x\n"
-    yield "499 `if` in one another", within(499, "pass")
+    yield "499 nested `if`", within(499, "pass")
     yield "499 `lambda` in 499 `if`", within(499, "lambda: " * 499 + "x")
     yield "249 `[(yield` in 499 `if`", within(499, "[(yield " * 249 + "x" + ")]" * 249)
 

@@ -5,7 +5,7 @@
 
 The timer is the program of crates/measures, which is built anew where it isn't there; with --backend rattle in its folder `rt run`
 builds it by the other compiler. Of a tree of N statements it tells how long each call takes, and of `dump` the megabytes of text a
-second; of a tree of one statement how many expressions may stand in one another before the stack of 8 MB ends the program. The exit
+second; of a tree of one statement how many expressions may be nested before the stack of 8 MB ends the program. The exit
 status is 0, 1 where `dump` writes less than 200 MB a second, and 2 where nothing could be measured.
 """
 

@@ -185,7 +185,7 @@ def told_fault(outcome):
 
 
 def is_high(tree):
-    """Whether more than 500 expressions or statements of a tree stand in one another."""
+    """Whether more than 500 expressions or statements of a tree are nested."""
     pending = [(tree, 0, 0)]
     while pending:
         node, expressions, statements = pending.pop()

@@ -210,7 +210,7 @@ def check_large(checks):
 
 
 def within(levels, line):
-    """A line in so many `if` statements in one another."""
+    """A line in so many nested `if` statements."""
     return "".join(" " * level + "if x:\n" for level in range(levels)) + " " * levels + line + "\n"
 
 

@@ -46,7 +46,7 @@ class Deep(Maker):
         return self.stmts.pop() if depth <= 0 and self.stmts else super().stmt(depth)
 
     def statements(self):
-        """Some statements. No more than 160 expressions stand in one another, and no more than 16 statements."""
+        """Some statements. No more than 160 expressions are nested, and no more than 16 statements."""
         for _ in range(self.chance.randrange(9)):
             for _ in range(self.chance.randrange(6)):
                 self.exprs.append(self.expr(self.chance.randint(1, 2)))

@@ -38,7 +38,7 @@ class TypeAlias(ast.stmt):
 class Maker:
     """Makes trees by chance, each the tree of some source, with types or without.
 
-    A depth is how many nodes may still stand in one another.
+    A depth is how many more nodes may be nested.
     """
 
     def __init__(self, chance, types=False):

@@ -54,7 +54,7 @@ pub enum SourceFaultCode {
     UnexpectedIndent,
     /// A clause or a decorator without the statement that takes it.
     MisplacedClause,
-    /// More brackets within one another than may be open at once, a form that is too high, or a
+    /// More nested brackets than may be open at once, a form that is too high, or a
     /// statement within too many.
     TooDeep,
     /// A line whose indentation depends on how wide a tab is.

@@ -76,10 +76,10 @@ impl From<CursorFault> for UsageFault {
 const VERSION: &str = "1.0.0";
 
 /// What `dump` and `unparse` refuse, after their help.
-const LEFT_OUT: &str = "\
-Left out of Python 3.11: floats and complex numbers, f-strings, match statements, \\N{..} in strings,
-and whole numbers from 2 to the 128 on. With --py312 the forms of types of Python 3.12 are read too.
-Limits: 600 open brackets, 500 expressions in one another, 500 statements in one another.";
+const REFUSED: &str = "\
+Refused, though Python 3.11 accepts them: floats, complex numbers, f-strings, match statements,
+\\N{..} in strings, and integers of 2**128 or more.
+Limits: 600 open brackets, 500 nested expressions, 500 nested statements.";
 
 /// The largest count of entries that can be asked for.
 const LARGEST_COUNT: u32 = 1_000_000_000;
@@ -168,21 +168,21 @@ fn resume_form<'a>(alloc: Global) -> Arg<'a>
     Arg::new(alloc, "resume")
         .long("resume")
         .value_name("CURSOR")
-        .help("Go on behind a cursor of the same source")
+        .help("Resume after a cursor of the same source")
 }
 
 /// The word `FILE`.
 fn file_form<'a>(alloc: Global) -> Arg<'a>
     ensures { IsRule file_rule result }
 {
-    Arg::new(alloc, "FILE").help("The source; the standard input if it is left out")
+    Arg::new(alloc, "FILE").help("The source file; standard input if omitted")
 }
 
 /// The option `--py312`.
 fn newer_form<'a>(alloc: Global) -> Arg<'a>
     ensures { IsRule (flag_rule (codes "py312")) result }
 {
-    let newer = "Read `type` statements and the parameters of types, as of Python 3.12";
+    let newer = "Read `type` statements and type parameters too, as Python 3.12 does";
     flag_form(alloc, "py312", newer)
 }
 
@@ -190,7 +190,7 @@ fn newer_form<'a>(alloc: Global) -> Arg<'a>
 fn tokens_form<'a>(alloc: Global) -> Result<clap::Command<'a>, AllocError>
     ensures { IfOk result (IsForm tokens_shape) }
 {
-    let stop = "Stop after N entries, and write a cursor to go on from";
+    let stop = "Stop after N entries, and write a cursor to resume from";
     clap::Command::new(alloc, "tokens")
         .about("List the tokens of a source")
         .arg(exact_form(alloc))?
@@ -205,15 +205,16 @@ fn tree_form<'a>(alloc: Global, name: &'a str, about: &'a str) -> clap::Command<
 {
     clap::Command::new(alloc, name)
         .about(about)
-        .after_help(LEFT_OUT)
+        .after_help(REFUSED)
 }
 
 /// The words of `dump`.
 fn dump_form<'a>(alloc: Global) -> Result<clap::Command<'a>, AllocError>
     ensures { IfOk result (IsForm dump_shape) }
 {
-    let lines = "Give each field and each member a line, with N blanks a level";
-    let bare = "Leave the names of fields out";
+    let lines =
+        "Put each field and each list element on its own line, indented by N spaces a level";
+    let bare = "Omit the names of fields";
     tree_form(alloc, "dump", "Dump the tree of a source")
         .arg(number_form(alloc, "indent", LARGEST_INDENT, lines))?
         .arg(flag_form(alloc, "bare", bare))?
