@@ -5,7 +5,7 @@ mod WorkedSimple
 mod WorkedBlocks
 mod WorkedTypes
 mod Fewest
-mod Pieces
+mod PieceLaws
 mod Modules
 pub mod Callers
 mod Cases

@@ -2,7 +2,7 @@
 --
 -- Carries: what pyunparse cites.
 use Rattle.pyunparse_text.specs.Laws.{ExpressionsAreRead}
-use Rattle.pyunparse_text.proofs.Pieces.Law
+use Rattle.pyunparse_text.proofs.PieceLaws.Law
 
 pub expressions_are_read : ExpressionsAreRead
 expressions_are_read = Law.expressions_read

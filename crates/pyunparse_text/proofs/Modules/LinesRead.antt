@@ -24,10 +24,10 @@ use Rattle.pyunparse_text.specs.Pieces.{piece}
 use Rattle.pyunparse_text.specs.Statements.{simple_tokens}
 use Rattle.pyunparse_text.specs.Modules.{WrittenLine, written_line, line_of, decorators, lines_of, statement_lines, alternative, clause, handler_lines}
 use Rattle.pyunparse_text.specs.Laws.{AreRead, AreOfTokens, GiveLines, no_line, a_line, HaveForms, no_form, a_form, ModulesAreRead}
-use Rattle.pyunparse_text.proofs.Pieces.Derived.{Said, front, behind}
-use Rattle.pyunparse_text.proofs.Pieces.Law.{of_tokens}
-use Rattle.pyunparse_text.proofs.Pieces.HeaderForms.{ReadHeader, header_read, decorator_read}
-use Rattle.pyunparse_text.proofs.Pieces.LinesDerived.{simple_read, header_said, decorator_said}
+use Rattle.pyunparse_text.proofs.PieceLaws.Derived.{Said, front, behind}
+use Rattle.pyunparse_text.proofs.PieceLaws.Law.{of_tokens}
+use Rattle.pyunparse_text.proofs.PieceLaws.HeaderForms.{ReadHeader, header_read, decorator_read}
+use Rattle.pyunparse_text.proofs.PieceLaws.LinesDerived.{simple_read, header_said, decorator_said}
 use Rattle.pyunparse_text.proofs.Modules.Wells.{Well, well_simple, well_if, well_loop, well_with, well_finally, well_except, well_definition, Wells, none, one, Full, full, Handled, none_handled, one_handled, Decorated, none_decorated, one_decorated, Gives, Formed, none_formed, one_formed, block_wells}
 use Rattle.pyunparse_text.proofs.Modules.Shapes.{lone_if, not_lone, simple_lines, loop_lines, with_lines, try_lines, definition_lines, else_lines}
 

@@ -14,9 +14,9 @@ use Rattle.pyunparse_text.specs.Pieces.{piece}
 use Rattle.pylex_lexeme.specs.Operators.{operators}
 use Rattle.std.proofs.lemmas.Bool.{and_parts}
 use Rattle.pytoken.specs.Laws.{IsProper}
-use Rattle.pyunparse_text.proofs.Pieces.Sorts.{suit, within, like, is_like, late, a_word, starts_other, starts_plain, starts_item, starts_part, ends_plain, ends_comma, ends_part, starts, ends, more_item, more_part, more_comma, more_colon}
-use Rattle.pyunparse_text.proofs.Pieces.Segments.{Closed, Perhaps, nothing, some, Each, none, more, join, widen, sign, tail, head, group, plainly, separated_some, separated_are, comma}
-use Rattle.pyunparse_text.proofs.Pieces.Shapes.{Plain, Item, keyword, name, plain_name, plain_both, colon, equal, starts_parameter, ends_parameter}
+use Rattle.pyunparse_text.proofs.PieceLaws.Sorts.{suit, within, like, is_like, late, a_word, starts_other, starts_plain, starts_item, starts_part, ends_plain, ends_comma, ends_part, starts, ends, more_item, more_part, more_comma, more_colon}
+use Rattle.pyunparse_text.proofs.PieceLaws.Segments.{Closed, Perhaps, nothing, some, Each, none, more, join, widen, sign, tail, head, group, plainly, separated_some, separated_are, comma}
+use Rattle.pyunparse_text.proofs.PieceLaws.Shapes.{Plain, Item, keyword, name, plain_name, plain_both, colon, equal, starts_parameter, ends_parameter}
 
 pub perhaps_widen : {a b c d : List Piece} {xs : List Piece} {ts : List Terminal} → ((p : Piece) → within a p ≡ true → within c p ≡ true) → ((p : Piece) → within b p ≡ true → within d p ≡ true) → Perhaps a b xs ts → Perhaps c d xs ts
 perhaps_widen f g nothing = nothing

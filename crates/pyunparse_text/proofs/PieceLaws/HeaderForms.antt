@@ -17,15 +17,15 @@ use Rattle.pyunparse_text.specs.Terminals.{terminal}
 use Rattle.pyunparse_text.specs.Pieces.{piece}
 use Rattle.pyunparse_text.specs.Statements as S
 use Rattle.pyunparse_text.specs.Laws.{AreRead}
-use Rattle.pyunparse_text.proofs.Pieces.Sound.{Sound, AreSound, SoundKeywords, SoundArguments}
-use Rattle.pyunparse_text.proofs.Pieces.Sorts.{within, suit, is_like, like, late, starts_plain, starts_item, ends_plain, ends_comma, more_item}
-use Rattle.pyunparse_text.proofs.Pieces.Fair.{fair_sign}
-use Rattle.pyunparse_text.proofs.Pieces.Segments.{Closed, Perhaps, nothing, some, Each, none, more, join, widen, one, within_brackets, sign, tail, between, group, called}
-use Rattle.pyunparse_text.proofs.Pieces.Shapes.{Plain, Item as AnItem, keyword, plain_name, plain_both, colon, starred_form, starts_parameter, ends_parameter}
-use Rattle.pyunparse_text.proofs.Pieces.Listings.{perhaps_widen, perhaps_both, each_widen, each_both, items_listed, parameters_listed, plain_tail}
-use Rattle.pyunparse_text.proofs.Pieces.Readable.{readable, each_are, by_name_are, parameters_are}
-use Rattle.pyunparse_text.proofs.Pieces.Law.{closed_read}
-use Rattle.pyunparse_text.proofs.Pieces.LineForms.{Valued, word_value, word_plain, SoundOption, option_plain, option_result, MaybeProper, as_name_are, plain_suit, plain_listed, SoundTypes, types_are}
+use Rattle.pyunparse_text.proofs.PieceLaws.Sound.{Sound, AreSound, SoundKeywords, SoundArguments}
+use Rattle.pyunparse_text.proofs.PieceLaws.Sorts.{within, suit, is_like, like, late, starts_plain, starts_item, ends_plain, ends_comma, more_item}
+use Rattle.pyunparse_text.proofs.PieceLaws.Fair.{fair_sign}
+use Rattle.pyunparse_text.proofs.PieceLaws.Segments.{Closed, Perhaps, nothing, some, Each, none, more, join, widen, one, within_brackets, sign, tail, between, group, called}
+use Rattle.pyunparse_text.proofs.PieceLaws.Shapes.{Plain, Item as AnItem, keyword, plain_name, plain_both, colon, starred_form, starts_parameter, ends_parameter}
+use Rattle.pyunparse_text.proofs.PieceLaws.Listings.{perhaps_widen, perhaps_both, each_widen, each_both, items_listed, parameters_listed, plain_tail}
+use Rattle.pyunparse_text.proofs.PieceLaws.Readable.{readable, each_are, by_name_are, parameters_are}
+use Rattle.pyunparse_text.proofs.PieceLaws.Law.{closed_read}
+use Rattle.pyunparse_text.proofs.PieceLaws.LineForms.{Valued, word_value, word_plain, SoundOption, option_plain, option_result, MaybeProper, as_name_are, plain_suit, plain_listed, SoundTypes, types_are}
 
 -- ---- Parts.
 

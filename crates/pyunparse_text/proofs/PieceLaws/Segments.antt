@@ -17,8 +17,8 @@ use Rattle.pyunparse_text.specs.Laws.{Give, give_none, give}
 use Rattle.pylex_lexeme.specs.Operators.{exact_of, operators}
 use Rattle.pyunparse_text.proofs.Callers.Lists.{Balanced, balanced_none, balanced_one, balanced_both, balanced_within, Written}
 use Rattle.pyunparse_text.proofs.Callers.Lists as Form
-use Rattle.pyunparse_text.proofs.Pieces.Sorts.{is_like, within, suit, sorts_fit, starts_plain, starts_part, ends_plain, ends_comma, ends_part, starts, ends, starts_more, ends_more, more_item, more_part, more_comma, more_colon}
-use Rattle.pyunparse_text.proofs.Pieces.Fair.{Fair, fair_sign, is_bracket, opens_none, closes_none}
+use Rattle.pyunparse_text.proofs.PieceLaws.Sorts.{is_like, within, suit, sorts_fit, starts_plain, starts_part, ends_plain, ends_comma, ends_part, starts, ends, starts_more, ends_more, more_item, more_part, more_comma, more_colon}
+use Rattle.pyunparse_text.proofs.PieceLaws.Fair.{Fair, fair_sign, is_bracket, opens_none, closes_none}
 
 pub give_both : {xs ys : List Piece} {ts us : List Terminal} → Give xs ts → Give ys us → Give (xs ++ ys) (ts ++ us)
 give_both give_none y = y

@@ -24,9 +24,9 @@ use Rattle.pyunparse_text.specs.Terminals.{terminal}
 use Rattle.pyunparse_text.specs.Pieces.{piece}
 use Rattle.pylex_lexeme.specs.Operators.{operators}
 use Rattle.pytoken.specs.Laws.{IsProper}
-use Rattle.pyunparse_text.proofs.Pieces.Sorts.{a_word, starts_plain, starts_item, ends_plain, ends_comma, starts, ends, more_part, more_comma, more_colon}
-use Rattle.pyunparse_text.proofs.Pieces.Fair.{IsConstant, fair_word, fair_name, fair_constant}
-use Rattle.pyunparse_text.proofs.Pieces.Segments.{Closed, Perhaps, nothing, some, Each, none, more, join, widen, token, sign, tail, between, separated_some}
+use Rattle.pyunparse_text.proofs.PieceLaws.Sorts.{a_word, starts_plain, starts_item, ends_plain, ends_comma, starts, ends, more_part, more_comma, more_colon}
+use Rattle.pyunparse_text.proofs.PieceLaws.Fair.{IsConstant, fair_word, fair_name, fair_constant}
+use Rattle.pyunparse_text.proofs.PieceLaws.Segments.{Closed, Perhaps, nothing, some, Each, none, more, join, widen, token, sign, tail, between, separated_some}
 
 abbrev pub Plain : List Piece → List Terminal → Type 0
 Plain ps ts = Closed starts_plain ends_plain ps ts

@@ -14,11 +14,11 @@ use Rattle.pyunparse_text.specs.Levels.{operator_level, left_level, right_level,
 use Rattle.pyunparse_text.specs.Written.{star_level, some_named, lone_star, element_level, lone_generator, trailing, tight, written, each, perhaps, suffixed, alone, by_name, written_keys, pairs, clauses, conditions, parameters, names, gathered, defaults}
 use Rattle.pyunparse_text.specs.Terminals.{terminal}
 use Rattle.pyunparse_text.specs.Pieces.{piece}
-use Rattle.pyunparse_text.proofs.Pieces.Sound.{Sound, AreSound, SoundOptional, SoundOptionals, SoundClauses, SoundKeywords, SoundArgs, SoundArg, SoundArguments}
-use Rattle.pyunparse_text.proofs.Pieces.Sorts.{a_word, starts_plain, starts_item, starts_part, ends_plain, ends_comma, ends_part, starts, ends, more_item}
-use Rattle.pyunparse_text.proofs.Pieces.Segments.{Closed, Perhaps, nothing, some, Each, none, more, widen, group, square, braces, called, indexed, plainly, loosely, fitted, fitted_yield, fitted_slice}
-use Rattle.pyunparse_text.proofs.Pieces.Shapes.{keyword, plain_name, constant, yield_form, yield_from_form, double_star, starred_form, named_form, paired_form, starts_parameter, ends_parameter, lambda_form, if_form, chain_parts, chain_form, unary_form, binary_form, compare_form, compared_are, attribute_form}
-use Rattle.pyunparse_text.proofs.Pieces.Listings.{each_both, items_listed, parameters_listed, tuple_form, named_argument, Keys, no_key, star_key, a_key, for_form, target_form, plain_tail, slice_form, parameter_form, Maybes, no_maybe, a_maybe, beside_are, equals, with_defaults_are, with_slash_are, star_are, inside_plain, inside_call, call_behind, subscript_behind, step_form, annotation_form, default_form, star_parameter, stars_parameter, parameters_each}
+use Rattle.pyunparse_text.proofs.PieceLaws.Sound.{Sound, AreSound, SoundOptional, SoundOptionals, SoundClauses, SoundKeywords, SoundArgs, SoundArg, SoundArguments}
+use Rattle.pyunparse_text.proofs.PieceLaws.Sorts.{a_word, starts_plain, starts_item, starts_part, ends_plain, ends_comma, ends_part, starts, ends, more_item}
+use Rattle.pyunparse_text.proofs.PieceLaws.Segments.{Closed, Perhaps, nothing, some, Each, none, more, widen, group, square, braces, called, indexed, plainly, loosely, fitted, fitted_yield, fitted_slice}
+use Rattle.pyunparse_text.proofs.PieceLaws.Shapes.{keyword, plain_name, constant, yield_form, yield_from_form, double_star, starred_form, named_form, paired_form, starts_parameter, ends_parameter, lambda_form, if_form, chain_parts, chain_form, unary_form, binary_form, compare_form, compared_are, attribute_form}
+use Rattle.pyunparse_text.proofs.PieceLaws.Listings.{each_both, items_listed, parameters_listed, tuple_form, named_argument, Keys, no_key, star_key, a_key, for_form, target_form, plain_tail, slice_form, parameter_form, Maybes, no_maybe, a_maybe, beside_are, equals, with_defaults_are, with_slash_are, star_are, inside_plain, inside_call, call_behind, subscript_behind, step_form, annotation_form, default_form, star_parameter, stars_parameter, parameters_each}
 
 -- what is proved of an expression at a level
 abbrev pub Done : Bool → Level → Expr → Type 0

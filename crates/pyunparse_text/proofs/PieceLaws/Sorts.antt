@@ -15,7 +15,7 @@ use Rattle.pyunparse_text.specs.Pieces.{piece}
 use Rattle.pylex.specs.declared.kind.Kind.TheVariants as kinds
 use Rattle.std.proofs.lemmas.Bool.{and_parts, or_cases, cases_Bool}
 use Rattle.pyunparse_text.specs.Inner.Edges.{fit}
-use Rattle.pyunparse_text.proofs.Pieces.Apart.{plain_head}
+use Rattle.pyunparse_text.proofs.PieceLaws.Apart.{plain_head}
 
 off : (b : Bool) → not b ≡ true → b ≡ false
 off true e = cc

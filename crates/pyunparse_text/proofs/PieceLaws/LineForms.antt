@@ -20,15 +20,15 @@ use Rattle.pyunparse_text.specs.Written.{free, word, leading, trailing, tight, l
 use Rattle.pyunparse_text.specs.Terminals.{terminal}
 use Rattle.pyunparse_text.specs.Pieces.{piece}
 use Rattle.pyunparse_text.specs.Statements as S
-use Rattle.pyunparse_text.proofs.Pieces.Sound.{Sound, AreSound}
-use Rattle.pyunparse_text.proofs.Pieces.Sorts.{suit, starts_plain, starts_item, ends_plain, ends_comma, more_item, more_comma}
-use Rattle.pyunparse_text.proofs.Pieces.Fair.{fair_sign, is_bracket, opens_none, closes_none}
-use Rattle.pyunparse_text.proofs.Pieces.Segments.{Closed, Perhaps, nothing, some, Each, none, more, join, widen, token, sign, tail, between, group, indexed, loosely, separated_are, comma}
-use Rattle.pyunparse_text.proofs.Pieces.Shapes.{Plain, keyword, name, plain_name, plain_both, colon, double_star, starts_parameter, ends_parameter}
-use Rattle.pyunparse_text.proofs.Pieces.Shapes as Shape
-use Rattle.pyunparse_text.proofs.Pieces.Listings.{perhaps_both, items_listed, plain_tail}
-use Rattle.pyunparse_text.proofs.Pieces.Readable.{readable}
-use Rattle.pyunparse_text.proofs.Pieces.TypeWord.{type_is_proper}
+use Rattle.pyunparse_text.proofs.PieceLaws.Sound.{Sound, AreSound}
+use Rattle.pyunparse_text.proofs.PieceLaws.Sorts.{suit, starts_plain, starts_item, ends_plain, ends_comma, more_item, more_comma}
+use Rattle.pyunparse_text.proofs.PieceLaws.Fair.{fair_sign, is_bracket, opens_none, closes_none}
+use Rattle.pyunparse_text.proofs.PieceLaws.Segments.{Closed, Perhaps, nothing, some, Each, none, more, join, widen, token, sign, tail, between, group, indexed, loosely, separated_are, comma}
+use Rattle.pyunparse_text.proofs.PieceLaws.Shapes.{Plain, keyword, name, plain_name, plain_both, colon, double_star, starts_parameter, ends_parameter}
+use Rattle.pyunparse_text.proofs.PieceLaws.Shapes as Shape
+use Rattle.pyunparse_text.proofs.PieceLaws.Listings.{perhaps_both, items_listed, plain_tail}
+use Rattle.pyunparse_text.proofs.PieceLaws.Readable.{readable}
+use Rattle.pyunparse_text.proofs.PieceLaws.TypeWord.{type_is_proper}
 
 -- what a value, or a list of targets, is
 abbrev pub Valued : List Piece → List Terminal → Type 0

@@ -28,7 +28,7 @@ use Rattle.pyunparse_text.specs.Tokens.{opens, closes}
 use Rattle.pyunparse_text.proofs.Callers.Tokens.{text_token, marked_token, bytes_token, decimal_token, text_scalars, bytes_scalars}
 use Rattle.pyunparse_text.specs.Written.{constant_terminal}
 use Rattle.pyunparse_text.specs.Pieces.{kind_of, text_of, piece}
-use Rattle.pyunparse_text.proofs.Pieces.NameCharacters.{name_scalars}
+use Rattle.pyunparse_text.proofs.PieceLaws.NameCharacters.{name_scalars}
 
 -- what is written for a terminal: a token of Unicode characters, which gives the terminal again
 pub record Fair (t : Terminal) : Type 0 where

@@ -32,9 +32,9 @@ use Rattle.pyunparse_text.proofs.Fewest.Less.{star_place, allowed_below}
 use Rattle.pyunparse_text.proofs.Fewest.Claims.{given, row, prefixed}
 use Rattle.pyunparse_text.proofs.Fewest.Clauses.{mapped_is, both_is, star_stored}
 use Rattle.pyunparse_text.proofs.Fewest.Calls.{called_is}
-use Rattle.pyunparse_text.proofs.Pieces.Fair.{IsConstant}
-use Rattle.pyunparse_text.proofs.Pieces.Sound.{Sound, AreSound, SoundOptional, SoundOptionals, SoundClauses, SoundKeywords, SoundArguments}
-use Rattle.pyunparse_text.proofs.Pieces.OfTokens.{Sayable}
+use Rattle.pyunparse_text.proofs.PieceLaws.Fair.{IsConstant}
+use Rattle.pyunparse_text.proofs.PieceLaws.Sound.{Sound, AreSound, SoundOptional, SoundOptionals, SoundClauses, SoundKeywords, SoundArguments}
+use Rattle.pyunparse_text.proofs.PieceLaws.OfTokens.{Sayable}
 
 -- ---- Terminals that can be written.
 

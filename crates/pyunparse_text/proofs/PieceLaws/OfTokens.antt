@@ -24,7 +24,7 @@ use Rattle.pytoken.specs.Laws.{IsProper, is_byte, is_point}
 use Rattle.pytoken.proofs.Callers.Said.{names_are_proper, points_are_in_range, points_small}
 use Rattle.pytoken.proofs.Callers.Bodies.{body_all, filter_all}
 use Rattle.pyunparse_text.specs.Laws.{IsOfToken}
-use Rattle.pyunparse_text.proofs.Pieces.Fair.{IsConstant}
+use Rattle.pyunparse_text.proofs.PieceLaws.Fair.{IsConstant}
 
 -- a terminal whose name or constant can be written
 abbrev pub Sayable : Terminal → Type 0

@@ -9,11 +9,11 @@ use Rattle.pyunparse_text.specs.Inner.Edges.{begins_by}
 use Rattle.pyunparse_text.proofs.Callers.Lists.{neat_readable, balanced_closes}
 use Rattle.pyunparse_text.specs.Laws.{IsOfToken, AreRead, ExpressionsAreRead}
 use Rattle.pyunparse_text.proofs.Fewest.Less.{star_place}
-use Rattle.pyunparse_text.proofs.Pieces.Sorts.{within}
-use Rattle.pyunparse_text.proofs.Pieces.Segments.{Closed}
-use Rattle.pyunparse_text.proofs.Pieces.OfTokens.{Sayable, of_token}
-use Rattle.pyunparse_text.proofs.Pieces.Derived.{Said, said, sound, starred}
-use Rattle.pyunparse_text.proofs.Pieces.Readable.{readable}
+use Rattle.pyunparse_text.proofs.PieceLaws.Sorts.{within}
+use Rattle.pyunparse_text.proofs.PieceLaws.Segments.{Closed}
+use Rattle.pyunparse_text.proofs.PieceLaws.OfTokens.{Sayable, of_token}
+use Rattle.pyunparse_text.proofs.PieceLaws.Derived.{Said, said, sound, starred}
+use Rattle.pyunparse_text.proofs.PieceLaws.Readable.{readable}
 
 there : (f : Piece → Bool) (ps : List Piece) → begins_by f ps ≡ true → begins_by (λ p. true) ps ≡ true
 there f [] e = cc

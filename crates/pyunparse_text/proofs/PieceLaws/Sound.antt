@@ -4,7 +4,7 @@ use Rattle.std.proofs.Common.{◌≡◌, Bool, true, false, None, Some}
 use Rattle.pytree_node.specs.Trees
 use Rattle.pytree_node.specs.Trees.{Expr, Exprs, no_exprs, an_expr, OptionalExpr, absent, present, OptionalExprs, no_optional, an_optional, Comprehensions, no_comprehension, a_comprehension, Keywords, no_keyword, a_keyword, arg, Args, no_arg, an_arg, OptionalArg, absent_arg, present_arg, Arguments, arguments}
 use Rattle.pytoken.specs.Laws.{IsProper}
-use Rattle.pyunparse_text.proofs.Pieces.Fair.{IsConstant}
+use Rattle.pyunparse_text.proofs.PieceLaws.Fair.{IsConstant}
 
 abbrev pub AreSome : Exprs → Type 0
 AreSome no_exprs = ⊥

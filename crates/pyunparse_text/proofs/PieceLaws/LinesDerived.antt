@@ -31,14 +31,14 @@ use Rattle.pyunparse_text.specs.Laws.{AreRead}
 use Rattle.pyunparse_text.proofs.Fewest.Less.{star_place}
 use Rattle.pyunparse_text.proofs.Fewest.Claims.{given}
 use Rattle.pyunparse_text.proofs.Fewest.Clauses.{mapped_is, both_is}
-use Rattle.pyunparse_text.proofs.Pieces.Sound.{Sound, AreSound, SoundKeywords}
-use Rattle.pyunparse_text.proofs.Pieces.Derived.{Said, front, back, rest, first, behind, starred, stored_sound, sound, listing_fine, positional_sound, keywords_sound, arranged_sound}
-use Rattle.pyunparse_text.proofs.Pieces.Shapes.{keyword}
-use Rattle.pyunparse_text.proofs.Pieces.Readable.{readable, each_expression}
-use Rattle.pyunparse_text.proofs.Pieces.Law.{closed_read}
-use Rattle.pyunparse_text.proofs.Pieces.LineForms.{SoundOption, MaybeProper, AreProper, word_value, word_plain, option_stars, raise_are, plain_listed, names_each, assign_are, augment_are, annotate_are, assert_are, SoundType, SoundTypes, type_alias_are}
-use Rattle.pyunparse_text.proofs.Pieces.Imports.{later_read, SoundNames, SoundUnless, SoundAliases, import_are, from_plain, from_points}
-use Rattle.pyunparse_text.proofs.Pieces.HeaderForms.{SoundItems, SoundHeader}
+use Rattle.pyunparse_text.proofs.PieceLaws.Sound.{Sound, AreSound, SoundKeywords}
+use Rattle.pyunparse_text.proofs.PieceLaws.Derived.{Said, front, back, rest, first, behind, starred, stored_sound, sound, listing_fine, positional_sound, keywords_sound, arranged_sound}
+use Rattle.pyunparse_text.proofs.PieceLaws.Shapes.{keyword}
+use Rattle.pyunparse_text.proofs.PieceLaws.Readable.{readable, each_expression}
+use Rattle.pyunparse_text.proofs.PieceLaws.Law.{closed_read}
+use Rattle.pyunparse_text.proofs.PieceLaws.LineForms.{SoundOption, MaybeProper, AreProper, word_value, word_plain, option_stars, raise_are, plain_listed, names_each, assign_are, augment_are, annotate_are, assert_are, SoundType, SoundTypes, type_alias_are}
+use Rattle.pyunparse_text.proofs.PieceLaws.Imports.{later_read, SoundNames, SoundUnless, SoundAliases, import_are, from_plain, from_points}
+use Rattle.pyunparse_text.proofs.PieceLaws.HeaderForms.{SoundItems, SoundHeader}
 
 -- ---- Expressions.
 

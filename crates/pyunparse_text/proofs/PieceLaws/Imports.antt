@@ -26,13 +26,13 @@ use Rattle.pyunparse_text.specs.Terminals.{terminal}
 use Rattle.pyunparse_text.specs.Pieces.{piece}
 use Rattle.pyunparse_text.specs.Statements as S
 use Rattle.pyunparse_text.specs.Laws.{Give, AreRead}
-use Rattle.pyunparse_text.proofs.Pieces.Apart.{plain_head}
-use Rattle.pyunparse_text.proofs.Pieces.Fair.{fair_word, fair_name}
-use Rattle.pyunparse_text.proofs.Pieces.Sorts.{late, is_like, like, within, suit, sorts_fit, a_word, starts_plain, ends_plain}
-use Rattle.pyunparse_text.proofs.Pieces.Segments.{Closed, Perhaps, nothing, some, Each, none, more, join, widen, token, sign, tail, give_both}
-use Rattle.pyunparse_text.proofs.Pieces.Shapes.{Plain, keyword, name, plain_name}
-use Rattle.pyunparse_text.proofs.Pieces.Listings.{perhaps_widen, plain_tail}
-use Rattle.pyunparse_text.proofs.Pieces.LineForms.{AreProper, MaybeProper, as_name_are, plain_listed, word_plain}
+use Rattle.pyunparse_text.proofs.PieceLaws.Apart.{plain_head}
+use Rattle.pyunparse_text.proofs.PieceLaws.Fair.{fair_word, fair_name}
+use Rattle.pyunparse_text.proofs.PieceLaws.Sorts.{late, is_like, like, within, suit, sorts_fit, a_word, starts_plain, ends_plain}
+use Rattle.pyunparse_text.proofs.PieceLaws.Segments.{Closed, Perhaps, nothing, some, Each, none, more, join, widen, token, sign, tail, give_both}
+use Rattle.pyunparse_text.proofs.PieceLaws.Shapes.{Plain, keyword, name, plain_name}
+use Rattle.pyunparse_text.proofs.PieceLaws.Listings.{perhaps_widen, plain_tail}
+use Rattle.pyunparse_text.proofs.PieceLaws.LineForms.{AreProper, MaybeProper, as_name_are, plain_listed, word_plain}
 
 -- ---- Pieces that are told apart, though two points may be among them.
 
