@@ -1,9 +1,9 @@
 -- What `dump` writes of a source, and the fault that it tells.
 use Rattle.std.specs.Prelude.{◌≡◌, ℕ, List, ◌++◌, Option, codes}
 use Rattle.pytree_node.specs.Trees.{Module}
-use Rattle.pytree_dump.specs.Layout.{dump_text}
-use Rattle.pytree_dump.specs.Shows.{shown_module}
-use Rattle.pytree_dump.specs.Style.{Style}
+use Rattle.pytree_dump_text.specs.Layout.{dump_text}
+use Rattle.pytree_dump_text.specs.Shows.{shown_module}
+use Rattle.pytree_dump_text.specs.declared.styles.Style.{Style}
 use Rattle.pyast_fault.specs.declared.fault.Fault.{Fault}
 use Rattle.pyast_command.specs.Modules.{Writes}
 

@@ -11,9 +11,9 @@ use Rattle.pytree_node.specs.declared.profiles.Profile.TheVariants.{Py311}
 use Rattle.pytree_node.specs.Trees.{Module}
 use Rattle.pytree_node.specs.Trees as trees
 use Rattle.pytree_node.specs.Values as values
-use Rattle.pytree_dump.specs.Style.{Style}
-use Rattle.pytree_dump.specs.Layout.{dump_text}
-use Rattle.pytree_dump.specs.Shows.{shown_module}
+use Rattle.pytree_dump_text.specs.declared.styles.Style.{Style}
+use Rattle.pytree_dump_text.specs.Layout.{dump_text}
+use Rattle.pytree_dump_text.specs.Shows.{shown_module}
 use Rattle.pygrammar.specs.Refusals.{Accepted}
 use Rattle.pytree_fits.specs.Given.{Stated}
 use Rattle.pyunparse_text.specs.Modules.{module_text}
