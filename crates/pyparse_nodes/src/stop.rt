@@ -26,6 +26,8 @@ impl From<AllocError> for Stop {
 }
 
 impl<T: Drop> From<AllocFailed<T>> for Stop {
+    ghost use Rattle.pyparse_nodes.specs.declared.stop.Stop.TheVariants.{Memory};
+
     ghost from_gives = { λ error r. r ≡ Memory };
 
     fn from(_error: AllocFailed<T>) -> Stop {
