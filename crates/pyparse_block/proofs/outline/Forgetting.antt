@@ -39,10 +39,10 @@ grown_alike Idle (def_header t) body = refl
 grown_alike _ (def_header t) body = refl
 
 -- what is open behind a header that was met
-abbrev met : Option Part → Header → Option bare.Group
+abbrev met : Option Part → Header → Option bare.GroupKind
 met o h = elim o [ None ↦ None | Some p ↦ Some (group_of (grows p.group h []).group) ]
 
-met_new : (g : Group) (h : Header) (b : bare.Group) → group_of (grows Idle h []).group ≡ b → met (reading.ended g) h ≡ ended (group_of g) b
+met_new : (g : Group) (h : Header) (b : bare.GroupKind) → group_of (grows Idle h []).group ≡ b → met (reading.ended g) h ≡ ended (group_of g) b
 met_new (Marked es) h b e = refl
 met_new (Trial body) h b e = refl
 met_new Idle h b e = ap Some e
@@ -123,7 +123,7 @@ settle_outlined l done g fresh (w ∷ below) =
 -- ---- A line of the deepest level.
 
 -- what a line makes of the levels, by what is then open
-abbrev behind : Bool → Levels → Option bare.Group → Answer Levels
+abbrev behind : Bool → Levels → Option bare.GroupKind → Answer Levels
 behind opening s o = elim o [ None ↦ Faulty MisplacedClause | Some g ↦ Fine (cond opening (levels group.Idle true (g ∷ s.below)) (levels g false s.below)) ]
 
 simple_outlined : (s : State) (ss : List Stmt) (g : Group) →
