@@ -455,21 +455,21 @@ expressions::write_expr-returns-in_ok-put_sign-in-Starred g t c = rw (c.in-Starr
     (two g.W.Writer.after c.args.out.now (leading piece Star ∷ []) (pieces c.star_level.result (tree_of c.deref-in-Starred.result.now)) _ c.in_ok-put_sign-in-Starred.ensures
     ∙ ap (λ k. puts g.W.Writer.after c.args.out.now (leading piece Star ∷ pieces k (tree_of c.deref-in-Starred.result.now))) c.star_level.ensures))
 
-pub options::write_perhaps-returns-in-None : goal.options::write_perhaps-returns-in-None
+pub optional::write_perhaps-returns-in-None : goal.optional::write_perhaps-returns-in-None
 unfolding written
-options::write_perhaps-returns-in-None g t c = rw c.in-None.is refl
+optional::write_perhaps-returns-in-None g t c = rw c.in-None.is refl
 
-pub options::write_perhaps-returns-in-Some : goal.options::write_perhaps-returns-in-Some
+pub optional::write_perhaps-returns-in-Some : goal.optional::write_perhaps-returns-in-Some
 unfolding written
-options::write_perhaps-returns-in-Some g t c = rw (c.in-Some.is, sym c.deref.ensures) c.write_expr.ensures
+optional::write_perhaps-returns-in-Some g t c = rw (c.in-Some.is, sym c.deref.ensures) c.write_expr.ensures
 
-pub options::write_suffix-returns-in-None : goal.options::write_suffix-returns-in-None
+pub optional::write_suffix-returns-in-None : goal.optional::write_suffix-returns-in-None
 unfolding written
-options::write_suffix-returns-in-None g t c = rw c.in-None.is refl
+optional::write_suffix-returns-in-None g t c = rw c.in-None.is refl
 
-pub options::write_suffix-returns-in_ok-put_operator-in-Some : goal.options::write_suffix-returns-in_ok-put_operator-in-Some
+pub optional::write_suffix-returns-in_ok-put_operator-in-Some : goal.optional::write_suffix-returns-in_ok-put_operator-in-Some
 unfolding written
-options::write_suffix-returns-in_ok-put_operator-in-Some g t c = rw (c.in-Some.is, sym c.deref.ensures) (IfOk-equal _ _ _ _ c.write_expr.ensures
+optional::write_suffix-returns-in_ok-put_operator-in-Some g t c = rw (c.in-Some.is, sym c.deref.ensures) (IfOk-equal _ _ _ _ c.write_expr.ensures
     (two g.W.Writer.after c.args.out.now (piece (Op c.args.sign) true c.args.behind ∷ []) (pieces Expression (tree_of c.deref.result.now)) _ c.in_ok-put_operator-in-Some.ensures))
 
 pub parameters::write_own_default-returns-in-None : goal.parameters::write_own_default-returns-in-None

@@ -57,11 +57,11 @@ invariant-parameters::write_keyword_only-loop-i g l =
 abbrev pub decreases-expressions::write_expr : goal.decreases-expressions::write_expr
 decreases-expressions::write_expr g l = 8 * height (tree_of l.e.now)
 
-abbrev pub decreases-options::write_perhaps : goal.decreases-options::write_perhaps
-decreases-options::write_perhaps g l = 8 * optional_height (optional (boxed_of l.e.now)) + 1
+abbrev pub decreases-optional::write_perhaps : goal.decreases-optional::write_perhaps
+decreases-optional::write_perhaps g l = 8 * optional_height (optional (boxed_of l.e.now)) + 1
 
-abbrev pub decreases-options::write_suffix : goal.decreases-options::write_suffix
-decreases-options::write_suffix g l = 8 * optional_height (optional (boxed_of l.e.now)) + 1
+abbrev pub decreases-optional::write_suffix : goal.decreases-optional::write_suffix
+decreases-optional::write_suffix g l = 8 * optional_height (optional (boxed_of l.e.now)) + 1
 
 abbrev pub decreases-displays::write_members : goal.decreases-displays::write_members
 decreases-displays::write_members g l = 8 * heights (exprs (map tree_of l.es.now)) + 1
