@@ -76,7 +76,7 @@ fn list<R: ByteIn, W: ByteOut>(
     requires stands { (more : List ℕ) (broken : Bool) → Continues lister.lines more broken
         → (p : Parts) × StreamsIn lister p lister.shown.given more broken }
     ensures holds { Lists (R.seen reader.old) (R.seen reader.new) lister exact count
-        (λ output told. HoldsFor output told (W.sent writer.old).taken (W.sent writer.new).taken
+        (λ listed told. HoldsFor listed told (W.sent writer.old).taken (W.sent writer.new).taken
         (string_bytes output.new) (ended_by result)) }
     ensures failed { ended_by result ≡ Some (Fault.Plain RunFaultCode.Write)
         → (W.sent writer.new).failures ≡ (W.sent writer.old).failures + 1 }
