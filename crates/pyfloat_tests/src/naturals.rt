@@ -1,5 +1,7 @@
 //! Whole numbers of any size: rows taken from Python 3.11, and the limit of 4,300 digits.
 
+ghost use Rattle.std.specs.Prelude.{◌<◌, ◌≤◌};
+
 use pynatural::Natural;
 use std::alloc::Global;
 use std::process::Abort;
