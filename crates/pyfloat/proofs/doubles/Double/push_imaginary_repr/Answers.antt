@@ -12,3 +12,9 @@ returns-clause-text c =
 
 pub returns-clause-double : goal.returns-clause-double
 returns-clause-double c = double_is c.self.inside.bits c.args.self.now c.self.invariant c.self.view_is
+
+pub returns-in_err-push_number-clause-double : goal.returns-in_err-push_number-clause-double
+returns-in_err-push_number-clause-double c = double_is c.self.inside.bits c.args.self.now c.self.invariant c.self.view_is
+
+pub returns-in_err-push-clause-double : goal.returns-in_err-push-clause-double
+returns-in_err-push-clause-double c = double_is c.self.inside.bits c.args.self.now c.self.invariant c.self.view_is
