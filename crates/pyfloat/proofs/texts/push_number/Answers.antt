@@ -1,8 +1,6 @@
-use Rattle.std.proofs.Common.{◌≡◌, ◌++◌, ◌<◌, refl, sym, ap, ◌∙◌, arith, append_assoc}
+use Rattle.std.proofs.Common.{arith, append_assoc}
 use Rattle.std.specs.Prelude.{codes}
 use Rattle.std.specs.String.{string_bytes}
-use Rattle.pyfloat.specs.FloatTexts.{float_text}
-use Rattle.pyfloat.specs.Layouts.{number_text}
 use Rattle.pyfloat.proofs.Lawful.{zero_text, infinity_text, number_text_is, bits_zero, bits_infinite}
 use Rattle.pyfloat.proofs.texts.push_number.Goals as goal
 

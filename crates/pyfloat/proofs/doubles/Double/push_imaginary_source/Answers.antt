@@ -1,4 +1,4 @@
-use Rattle.std.proofs.Common.{◌++◌, ◌∷◌, [], arith, append_assoc, codes}
+use Rattle.std.proofs.Common.{[], arith, append_assoc, codes}
 use Rattle.std.specs.Prelude.{from_bits}
 use Rattle.std.specs.Float.Ieee.{binary64}
 use Rattle.std.specs.String.{string_bytes}

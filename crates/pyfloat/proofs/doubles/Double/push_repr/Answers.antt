@@ -1,5 +1,3 @@
-use Rattle.std.proofs.Common.{◌++◌}
-use Rattle.std.specs.String.{string_bytes}
 use Rattle.pyfloat.proofs.Lawful.{double_is}
 use Rattle.pyfloat.proofs.doubles.Double.push_repr.Goals as goal
 
