@@ -1,0 +1,2 @@
+-- What other crates cite of pyfloat.
+pub mod Law
