@@ -59,7 +59,7 @@ BYTES = "bytes outside the encoding"
 RETURN = "lone carriage return"
 DEEP = "too deep"
 LIMIT = "a limit of Python's parser"
-NUMBER = "number with a letter behind it"
+NUMBER = "number with a letter after it"
 TARGET = "annotated target with a front in brackets"
 NAMES = "identifier characters"
 NEWER = "characters newer than Unicode 14"
@@ -245,7 +245,7 @@ def class_of_tree(program, data, tree, plain, styles):
 
 
 def by_first_margin(found):
-    """What Python takes for the margin of a line that begins with a join: that before the join, or that behind it where there is none."""
+    """What Python takes for the margin of a line that begins with a join: that before the join, or that after it where there is none."""
     return found[1] or found[2]
 
 
