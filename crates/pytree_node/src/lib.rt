@@ -52,5 +52,5 @@ pub use integers::Integer;
 pub use modules::Module;
 pub use operators::{BoolOperator, Comparison, Context, Operator, UnaryOperator};
 pub use points::Points;
-pub use profiles::Profile;
+pub use profiles::{Extent, Profile, Version};
 pub use statements::{Alias, Handler, Item, Stmt, TypeParam};
