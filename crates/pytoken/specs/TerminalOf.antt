@@ -1,15 +1,15 @@
 -- What a terminal of the code is to the grammar, and what is reported of a token that is none.
 use Rattle.std.specs.Prelude.{◌≡◌, ℕ, List, Option, Some, None}
-use Rattle.std.specs.Str.{chars}
+use Rattle.std.specs.Str.{chars, encode_utf8_all}
 use Rattle.unicode_normalization.specs.Forms.{nfkc}
 use Rattle.pytoken.specs.declared.faults.TokenError.{TokenError}
 use Rattle.pytoken.specs.Keywords.{keyword_of}
-use Rattle.pytoken.specs.NumberValues.{whole_value}
+use Rattle.pytoken.specs.NumberValues.{number_value}
 use Rattle.pytoken.specs.StringValues.{string_value}
 use Rattle.pytoken.specs.Terminals
 use Rattle.pytoken.specs.declared.values.literal_text.LiteralText.{LiteralText}
 use Rattle.pytoken.specs.declared.values.terminals.Terminal.{Terminal}
-use Rattle.pytoken.specs.declared.values.terminals.Terminal.TheVariants.{Op, Word, Ident, Whole, Literal, Layout}
+use Rattle.pytoken.specs.declared.values.terminals.Terminal.TheVariants.{Op, Word, Ident, Whole, Number, Literal, Layout}
 use Rattle.pytoken.specs.declared.values.terminals.TerminalFault.{TerminalFault}
 use Rattle.pytoken.specs.declared.values.terminals.TerminalFault.TheVariants.{Token, Memory}
 
@@ -22,7 +22,8 @@ abbrev pub terminal : Terminal → Terminals.Terminal
 terminal (Op exact) = Terminals.Op exact
 terminal (Word word) = Terminals.Word word
 terminal (Ident text) = Terminals.Ident (record { spelling = chars text.now; form = nfkc (chars text.now) })
-terminal (Whole value) = Terminals.Whole value
+terminal (Whole value) = Terminals.whole value
+terminal (Number n) = Terminals.Number (number_value n.text.now)
 terminal (Literal l) = Terminals.Literal (string_value (literal_characters l))
 terminal Layout = Terminals.Layout
 
@@ -31,7 +32,7 @@ abbrev pub named : List ℕ → Terminals.Terminal
 named t = elim (keyword_of t) [ Some w ↦ Terminals.Word w | None ↦ Terminals.Ident (record { spelling = t; form = nfkc t }) ]
 
 abbrev pub numbered : List ℕ → Terminals.Terminal
-numbered t = Terminals.Whole (whole_value t)
+numbered t = Terminals.Number (number_value (encode_utf8_all t))
 
 abbrev pub quoted : List ℕ → Terminals.Terminal
 quoted t = Terminals.Literal (string_value t)
