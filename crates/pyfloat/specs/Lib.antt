@@ -5,3 +5,4 @@ pub mod Search
 pub mod Layouts
 pub mod FloatTexts
 pub mod Laws
+pub mod SameFloats

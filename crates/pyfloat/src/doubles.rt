@@ -2,21 +2,24 @@
 //!
 //! Python language reference, 2.4.6 and 2.4.7; library reference, `repr` and `ast.unparse`.
 
-ghost use Rattle.std.specs.Prelude.{◌≡◌, ◌++◌, ◌↔◌, IfOk, IsTrue, OnOk};
+ghost use Rattle.std.specs.Prelude.{◌≡◌, ◌++◌, IfOk, OnOk};
+ghost use Rattle.std.specs.Cmp.{partial_equiv_from_equiv};
 ghost use Rattle.std.specs.String.{string_bytes};
 ghost use Rattle.pyfloat.specs.FloatValues.{float_value};
 ghost use Rattle.pyfloat.specs.FloatTexts.{float_repr, float_source};
 ghost use Rattle.pyfloat.specs.FloatTexts.{imaginary_repr, imaginary_source};
 ghost use Rattle.pyfloat.specs.Laws.{IsDouble, FloatsAreLawful};
+ghost use Rattle.pyfloat.specs.SameFloats.{float_same, float_same_equiv};
 
 use crate::texts::push_number;
 use crate::values::float_value;
 use std::alloc::{AllocError, Global};
+use std::fmt;
 use std::marker::Model;
 
 /// A double that a literal may have: zero or above, infinity included. A contract sees it as that
 /// double.
-#[derive(Drop)]
+#[derive(Clone, Copy)]
 pub struct Double {
     /// Its IEEE 754 bits, of which the sign is clear.
     bits: u64,
@@ -31,6 +34,13 @@ impl Model for Double {
     ghost view = { λ double. from_bits binary64 double.bits };
 
     ghost invariant = { λ double. double.bits ≤ 0x7ff0_0000_0000_0000 };
+
+    ghost use Rattle.std.specs.Prelude.{to_bits};
+    ghost use Rattle.pyfloat.specs.Inner.Bits.{bits_back};
+
+    ghost inverse = { λ float. record { bits = to_bits binary64 float } };
+
+    ghost inverse_ok = { λ double h i. record { bits = bits_back double.bits h i } };
 }
 
 impl Double {
@@ -43,13 +53,6 @@ impl Double {
         Ok(Double {
             bits: value.to_bits(),
         })
-    }
-
-    /// Whether this is that double.
-    pub fn is_same(&self, other: &Double) -> bool
-        ensures { IsTrue result ↔ (self.now ≡ other.now) }
-    {
-        self.bits == other.bits
     }
 
     /// Appends the `repr` of the float.
@@ -96,5 +99,25 @@ impl Double {
         push_number(out, alloc, self.bits, "", "1e309")?;
         out.push('j')?;
         Ok(())
+    }
+}
+
+impl PartialEq for Double {
+    ghost eq = { float_same };
+
+    ghost laws = { partial_equiv_from_equiv float_same_equiv };
+
+    fn eq(&self, other: &Double) -> bool {
+        self.bits == other.bits
+    }
+}
+
+impl Eq for Double {
+    ghost laws = { float_same_equiv };
+}
+
+impl fmt::Debug for Double {
+    fn fmt<W: fmt::Write>(&self, f: &mut fmt::Formatter<W>) -> fmt::Result {
+        fmt::Debug::fmt(&f64::from_bits(self.bits), f)
     }
 }

@@ -66,7 +66,10 @@ fn imaginary_numbers(rt: HostRuntime) -> Result<(), Fail> {
 fn tells_doubles_apart(rt: HostRuntime) -> Result<(), Fail> {
     let one = Double::read(rt.alloc(), b"1.0")?;
     let next = Double::read(rt.alloc(), b"1.0000000000000002")?;
-    assert!(rt; !one.is_same(&next));
-    assert!(rt; one.is_same(&Double::read(rt.alloc(), b"1_0e-1j")?));
+    assert!(rt; one != next);
+    assert!(rt; one == Double::read(rt.alloc(), b"1_0e-1j")?);
+    assert!(rt; one.clone()? == one);
+    let debug = format!(in rt.alloc(); "{one:?}")?;
+    assert_eq!(rt; debug.as_str(), "1.0");
     Ok(())
 }

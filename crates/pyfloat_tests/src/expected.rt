@@ -17,7 +17,7 @@ fn is_shown(rt: &impl Abort, alloc: Global, literal: &str, float: &str) -> Resul
     let source = if float == "inf" { "1e309" } else { float };
     assert_eq!(rt; text.as_str(), source, "{literal}");
     let again = Double::read(alloc, text.as_bytes())?;
-    assert!(rt; again.is_same(&value), "{literal}");
+    assert!(rt; again == value, "{literal}");
     Ok(())
 }
 
@@ -41,7 +41,7 @@ pub fn is_shown_imaginary(
     };
     assert_eq!(rt; text.as_str(), source, "{literal}");
     let again = Double::read(alloc, text.as_bytes())?;
-    assert!(rt; again.is_same(&value), "{literal}");
+    assert!(rt; again == value, "{literal}");
     Ok(())
 }
 

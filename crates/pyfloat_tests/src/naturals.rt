@@ -22,7 +22,10 @@ fn writes(
     number.push_decimal(&mut text)?;
     assert_eq!(rt; text.as_str(), decimal, "{digits}");
     let same = Natural::read(alloc, 10, decimal.as_bytes())?.expect(rt, "a number");
-    assert!(rt; same.is_same(&number), "{digits}");
+    assert!(rt; same == number, "{digits}");
+    assert!(rt; number.clone()? == number, "{digits}");
+    let debug = format!(in alloc; "{number:?}")?;
+    assert_eq!(rt; debug.as_str(), decimal);
     Ok(())
 }
 
@@ -90,6 +93,38 @@ fn refuses_many_digits(rt: HostRuntime) -> Result<(), Fail> {
 fn measures_and_compares(rt: HostRuntime) -> Result<(), Fail> {
     let number = Natural::read(rt.alloc(), 10, b"1500")?.expect(&rt, "a number");
     assert_eq!(rt; number.len(), 4);
-    assert!(rt; !number.is_same(&Natural::new(rt.alloc())));
+    assert!(rt; number != Natural::new(rt.alloc()));
+    Ok(())
+}
+
+#[test]
+fn numbers_of_128_bits(rt: HostRuntime) -> Result<(), Fail> {
+    for (number, decimal) in &[
+        (0, "0"),
+        (7, "7"),
+        (1_000_000_000_000_000_000, "1000000000000000000"),
+        (18_446_744_073_709_551_615, "18446744073709551615"),
+        (18_446_744_073_709_551_616, "18446744073709551616"),
+        (
+            1_000_000_000_000_000_000_000_000_000_000_000_000,
+            "1000000000000000000000000000000000000",
+        ),
+        (
+            340_282_366_920_938_463_463_374_607_431_768_211_455_u128,
+            "340282366920938463463374607431768211455",
+        ),
+    ] {
+        let made = Natural::from_u128(rt.alloc(), *number)?;
+        assert!(rt; made.to_u128() == Some(*number), "{decimal}");
+        let read = Natural::read(rt.alloc(), 10, decimal.as_bytes())?.expect(&rt, "a number");
+        assert!(rt; made == read, "{decimal}");
+    }
+    for decimal in &[
+        "340282366920938463463374607431768211456",
+        "10000000000000000000000000000000000000000",
+    ] {
+        let read = Natural::read(rt.alloc(), 10, decimal.as_bytes())?.expect(&rt, "a number");
+        assert!(rt; read.to_u128().is_none(), "{decimal}");
+    }
     Ok(())
 }
