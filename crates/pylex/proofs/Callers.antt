@@ -39,7 +39,7 @@ same_flag true false h = absurd (omega arith)
 same_flag false true h = absurd (omega arith)
 same_flag false false h = refl
 
-same_cursor : (c d : CursorParts) → c.given ≡ d.given → c.offset ≡ d.offset → c.row ≡ d.row → c.depth ≡ d.depth → c.begun ≡ d.begun → c.skip ≡ d.skip → c.levels ≡ d.levels → c ≡ d
+pub same_cursor : (c d : CursorParts) → c.given ≡ d.given → c.offset ≡ d.offset → c.row ≡ d.row → c.depth ≡ d.depth → c.begun ≡ d.begun → c.skip ≡ d.skip → c.levels ≡ d.levels → c ≡ d
 same_cursor c d given offset row depth begun skip levels = built c.given d.given c.offset d.offset c.row d.row c.depth d.depth c.begun d.begun c.skip d.skip c.levels d.levels given offset row depth begun skip levels
   where
     built : (g g' o o' r r' e e' : ℕ) (b b' : Bool) (k k' : ℕ) (l l' : List ℕ) → g ≡ g' → o ≡ o' → r ≡ r' → e ≡ e' → b ≡ b' → k ≡ k' → l ≡ l'

@@ -10,6 +10,7 @@ pub mod LineState
 pub mod Standing
 pub mod Laws
 pub mod Listers
+pub mod Spots
 pub mod Held
 pub mod Streamed
 pub mod Inner

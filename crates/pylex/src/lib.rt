@@ -4,7 +4,8 @@
 //!
 //! A [`Lister`] lists a source that is held whole. A [`LineLister`] reads it line by line, from a
 //! reader that is lent to each call, and a [`StreamLister`] from a reader of its own. All three
-//! give the same steps of a source, and a [`Cursor`] of one resumes another.
+//! give the same steps of a source, and a [`Cursor`] of one resumes another. From a [`Spot`] of a
+//! `Lister` the lexemes of a line can be had without their entries, up to another where it goes on.
 #![tactic(auto)]
 
 mod cursor;
@@ -20,6 +21,7 @@ mod machine;
 mod margins;
 mod measures;
 mod point;
+mod spots;
 mod stream_lister;
 
 pub use cursor::{Cursor, CursorFault};
@@ -33,4 +35,5 @@ pub use measures::widths;
 pub use pylex_lexeme::lexeme::{Class, begins_significant, cut};
 pub use pylex_lexeme::operators::exact_of;
 pub use pylex_lexeme::string::{OpenLiteral, is_open_string, open_literal, opens_string};
+pub use spots::Spot;
 pub use stream_lister::StreamLister;

@@ -1,17 +1,19 @@
 //! The listing of a source, one entry after another.
 
 ghost use Rattle.std.specs.Prelude.{◌≡◌, ◌≢◌, ◌↔◌, IsTrue, ◌+◌, ◌-◌, ◌^◌, ◌<◌, ◌≤◌, length, IfOk};
-ghost use Rattle.std.specs.Prelude.{IfErr, OnOk, OnErr, Ok, Err};
+ghost use Rattle.std.specs.Prelude.{IfErr, IfSome, OnOk, OnErr, Ok, Err, true};
 ghost use Rattle.std.specs.Str.{chars};
 ghost use Rattle.pylex.specs.Listing.{last_line, listing, in_characters};
 ghost use Rattle.pylex.specs.Laws.{IsLawful, AllLie, HaveExact};
 ghost use Rattle.pylex.specs.Standing.{IsCursorOf};
 ghost use Rattle.pylex.specs.Listers.{StandsIn, LeadsInto, NextStep, AwaitsIndent};
 ghost use Rattle.pylex.specs.Steps.{most_entries};
+ghost use Rattle.pylex.specs.Spots.{spot_cursor, at_spot};
 
 use crate::cursor::{Cursor, CursorFault};
 use crate::entries::Step;
 use crate::machine::Machine;
+use crate::spots::Spot;
 use pysource::Source;
 use std::alloc::{AllocError, Global};
 use std::marker::Model;
@@ -102,6 +104,30 @@ impl<'a> Lister<'a> {
             self.left = left;
         }
         Ok(step)
+    }
+
+    /// The spot where the lister stands, if that is one within a logical line: there its cursor says
+    /// no more, but for the open levels.
+    #[inline(always)]
+    pub fn spot(&self) -> Option<Spot>
+        ensures shown { IfSome result
+            (λ s. spot_cursor s self.entry.now.shown.levels ≡ self.entry.now.shown) }
+        ensures begun { IfSome result (λ s. s.begun ≡ true) }
+        ensures some { IfSome result (λ s. 0 < s.given) }
+    {
+        self.machine.spot()
+    }
+
+    /// Goes to a spot of the source at which the levels are open that are open here. The entries
+    /// between are not given.
+    pub fn go_to(&mut self, spot: Spot)
+        requires { LeadsInto (spot_cursor spot self.old.shown.levels) self.old.source }
+        ensures { self.new ≡ at_spot self.old.source spot self.old.shown.levels }
+    {
+        let source = self.source;
+        let (before, left) = source.text().split_at(spot.offset);
+        self.machine.stand(spot, last_line(before));
+        self.left = left;
     }
 
     /// Whether this is the lister's cursor.

@@ -14,6 +14,7 @@ ghost use Rattle.pylex.specs.LineState.{Settles, Peek, StopAhead, HasRoom, Behin
 ghost use Rattle.pylex.specs.LineState.{closing, with_levels, given, GivesNoText, IsGivenFault};
 ghost use Rattle.pylex.specs.LineState.{GivesAt};
 ghost use Rattle.pylex.specs.Listers.{shown_by, shown_at};
+ghost use Rattle.pylex.specs.Spots.{spot_cursor};
 ghost use Rattle.pylex.specs.Inner.MachineSteps.{FaultsFirst, HasPlace, IsSame, StepsOn, Advance};
 ghost use Rattle.pylex.specs.Inner.MachineSteps.{StaysBehind, shown_from};
 
@@ -22,6 +23,7 @@ use crate::entries::{Emitted, Entry, ListingError, ListingFault, Step};
 use crate::kind::Kind;
 use crate::line_state::LineState;
 use crate::point::{entry_of, mark};
+use crate::spots::Spot;
 use pylex_lexeme::lexeme::{Class, begins_significant, cut};
 use pylex_lexeme::string::{is_open_string, opens_string};
 use pysource::{LineFault, Place};
@@ -392,6 +394,57 @@ impl Machine {
             nested,
             tail: 0,
         }
+    }
+
+    /// The spot where the lister stands, if that is one within a logical line.
+    #[inline(always)]
+    pub(crate) fn spot(&self) -> Option<Spot>
+        ensures shown { IfSome result
+            (λ s. spot_cursor s (0 ∷ self.entry.now.levels.items) ≡ shown_from self.entry.now) }
+        ensures begun { IfSome result (λ s. s.begun ≡ true) }
+        ensures some { IfSome result (λ s. 0 < s.given) }
+    {
+        if self.given == 0 || self.tail > 0 || self.nested < self.levels.len() {
+            return None;
+        }
+        if !self.point.begun {
+            return None;
+        }
+        Some(Spot {
+            given: self.given,
+            offset: self.point.offset,
+            row: self.point.row,
+            depth: self.point.depth,
+            begun: true,
+        })
+    }
+
+    /// Stands at a spot, with the levels that are open, where nothing after it is looked at. The
+    /// spot's line so far is this.
+    pub(crate) fn stand(&mut self, spot: Spot, line: &str)
+        requires { length line.now < 2 ^ 62 }
+        ensures given { self.new.given ≡ spot.given }
+        ensures point { (k n : ℕ) (levels : List ℕ)
+            → shown_by k self.new.point levels n
+            ≡ record (spot_cursor spot (0 ∷ levels)) { given = k; skip = n } }
+        ensures levels { self.new.levels ≡ self.old.levels }
+        ensures now { (k n : ℕ) (levels : List ℕ)
+            → with_levels self.new.now (0 ∷ levels)
+            ≡ resumed (shown_by k self.new.point levels n) (chars line.now) }
+        ensures nested { self.new.nested ≡ length self.old.levels.items }
+        ensures tail { self.new.tail ≡ 0 }
+    {
+        let point = Shown {
+            offset: spot.offset,
+            row: spot.row,
+            depth: spot.depth,
+            begun: spot.begun,
+        };
+        self.given = spot.given;
+        self.point = point;
+        self.now = point.line_state(line);
+        self.nested = self.levels.len();
+        self.tail = 0;
     }
 
     /// Whether no entry was given.

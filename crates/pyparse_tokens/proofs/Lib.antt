@@ -8,3 +8,5 @@ mod GatherLemmas
 mod LineLemmas
 mod LineGatherLemmas
 mod OperatorLemmas
+mod TakingLemmas
+mod WalkLemmas

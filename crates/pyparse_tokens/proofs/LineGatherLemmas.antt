@@ -186,10 +186,11 @@ entry_read p old new g step e had stepped is =
     }
 
 pub stands_on : (p : Parts) (old new : Listed) (e : Entry) (g h : LineGather) → StandsAt p old g → Read p old new e → new.shown.given ≤ most_entries →
-    TakesEntry (chars p.text) e g h → StandsAt p new h
-stands_on p old new e g h had read few gains =
+    new.source ≡ p → TakesEntry (chars p.text) e g h → StandsAt p new h
+stands_on p old new e g h had read few source gains =
     let es = entries_of (listing (in_characters p)) in
     record {
+      source = source;
       stands = read.stands;
       within = omega (arith, read.count, read.within);
       few = few;
@@ -207,6 +208,7 @@ cleared p l g h had is =
     let counts = had.counts in
     subst (StandsAt p l) (sym is)
     record {
+      source = had.source;
       stands = had.stands;
       within = had.within;
       few = had.few;
@@ -278,11 +280,11 @@ first_starts [] p some start = absurd (omega (arith, some))
 first_starts (t ∷ l) p some start = ap Some (sym (start t.start refl))
 
 pub line_read : (p : Parts) (first old new : Listed) (e : Entry) (g h : LineGather) → StandsAt p old g → Read p old new e → new.shown.given ≤ most_entries →
-    TakesEntry (chars p.text) e g h → ended_by e g.pass.begun ≡ true → kept_refusal h.pass ≡ None →
+    new.source ≡ p → TakesEntry (chars p.text) e g h → ended_by e g.pass.begun ≡ true → kept_refusal h.pass ≡ None →
     KeepsLine (front_line (chars p.text) (take old.shown.given (entries_of (listing (in_characters p))))) g →
     lines_within (in_characters p) old.shown.given ≡ lines_within (in_characters p) first.shown.given →
     ReadsLine p first new h
-line_read p first old new e g h had read few gains ends none keep same =
+line_read p first old new e g h had read few source gains ends none keep same =
     let s = in_characters p in
     let text = chars p.text in
     let es = entries_of (listing s) in
@@ -301,7 +303,7 @@ line_read p first old new e g h had read few gains ends none keep same =
     record {
       between =
           record {
-            at = stands_on p old new e g h had read few gains;
+            at = stands_on p old new e g h had read few source gains;
             closed =
                 ap (λ (n : ℕ). front_line text (take n es)) read.count ∙ ap (front_line text) read.grown ∙ line_on text front e
                 ∙ ap (λ (b : Bool). if b then [] else with_own text e line) ended;

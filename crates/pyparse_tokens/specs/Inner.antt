@@ -3,3 +3,4 @@ pub mod Gathering
 pub mod LineGathering
 pub mod LineReading
 pub mod Indenting
+pub mod Walking

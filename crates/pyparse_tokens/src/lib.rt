@@ -17,6 +17,7 @@ mod logical_lines;
 mod pass;
 mod room;
 mod tokens;
+mod walks;
 
 pub use faults::{GrammarError, ParseFault};
 pub use logical_lines::LogicalLines;

@@ -2,7 +2,7 @@
 //! first faults.
 
 ghost use Rattle.std.specs.Prelude.{◌≡◌, ◌^◌, ◌<◌, ◌-◌, ◌++◌, ◌&&◌, [], ◌∷◌, map, IfOk, OnOk, None};
-ghost use Rattle.std.specs.Prelude.{true, false};
+ghost use Rattle.std.specs.Prelude.{true, false, Some, length};
 ghost use Rattle.std.specs.Str.{chars, IsCharBoundary};
 ghost use Rattle.pylex.specs.Laws.{LiesIn, HasExact};
 ghost use Rattle.pytoken.specs.Refusals.{entry_refusal};
@@ -21,11 +21,18 @@ ghost use Rattle.pyparse_tokens.specs.Inner.LineGathering.{
   Adds,
   TakesEntry,
 };
+ghost use Rattle.pylex.specs.Spots.{is_silent};
+ghost use Rattle.pyparse_tokens.specs.Inner.Walking.{
+  is_plain_token,
+  Takes,
+  TakesLineEnd,
+  TakesLexeme,
+};
 
 use crate::gather::text_of;
 use crate::pass::Pass;
 use crate::room::put;
-use pylex::{Entry, Kind};
+use pylex::{Class, Entry, Exact, Kind, Spot};
 use pysource::{Place, Source};
 use pytoken::{Refusal, Terminal, TerminalFault, terminal_of};
 use std::alloc::{AllocError, Global};
@@ -265,6 +272,124 @@ impl<'a> LineGather<'a> {
             Kind::Name => self.take_entry(alloc, source, entry),
             Kind::Op => self.take_entry(alloc, source, entry),
             _ => self.take_entry(alloc, source, entry),
+        }
+    }
+
+    /// Whether a line is open of which tokens are kept, and nothing is refused so far.
+    pub(crate) fn has_tokens(&self) -> bool
+        ensures begun { result ≡ true → self.now.pass.begun ≡ true }
+        ensures some { result ≡ true → 0 < length self.now.terminals.items }
+    {
+        self.pass.has_begun() && !self.terminals.is_empty() && self.refusal().is_none()
+    }
+
+    /// Takes a name, a number or a string of the line that is open: whether it has no fault by
+    /// itself. One that has a fault isn't taken.
+    #[inline(always)]
+    fn take_token(&mut self, alloc: Global, kind: Kind, text: &'a str) -> Result<bool, AllocError>
+        requires begun { self.old.pass.begun ≡ true }
+        requires some { 0 < length self.old.terminals.items }
+        requires kind { is_plain_token kind ≡ true }
+        ensures taken { IfOk result (λ taken. taken ≡ true
+            → Takes kind None (chars text.now) self.old self.new) }
+        ensures kept { IfOk result (λ taken. taken ≡ false → self.new ≡ self.old) }
+        ensures some { OnOk result (0 < length self.new.terminals.items) }
+    {
+        match terminal_of(alloc, kind, text) {
+            Err(TerminalFault::Memory) => Err(AllocError),
+            Err(TerminalFault::Token(_)) => Ok(false),
+            Ok(terminal) => {
+                let start = self.start;
+                self.keep(start, text, terminal)?;
+                Ok(true)
+            }
+        }
+    }
+
+    /// Takes an operator of the line that is open: whether it opens no bracket too many. One that
+    /// does isn't taken.
+    #[inline(always)]
+    fn take_operator(&mut self, exact: Exact, text: &'a str) -> Result<bool, AllocError>
+        requires begun { self.old.pass.begun ≡ true }
+        requires some { 0 < length self.old.terminals.items }
+        requires opened { self.old.pass.opened < 2 ^ 63 }
+        requires closed { self.old.pass.closed < 2 ^ 63 }
+        ensures taken { IfOk result (λ taken. taken ≡ true
+            → Takes Kind.Op (Some exact) (chars text.now) self.old self.new) }
+        ensures kept { IfOk result (λ taken. taken ≡ false → self.new ≡ self.old) }
+        ensures some { OnOk result (0 < length self.new.terminals.items) }
+    {
+        if !self.pass.take_operator(exact) {
+            return Ok(false);
+        }
+        let start = self.start;
+        self.keep(start, text, Terminal::Op(exact))?;
+        Ok(true)
+    }
+
+    /// Takes a comment in the line that is open: whether it has no fault by itself. One that has a
+    /// fault isn't taken.
+    fn take_comment(&mut self, alloc: Global, text: &'a str) -> Result<bool, AllocError>
+        requires begun { self.old.pass.begun ≡ true }
+        ensures taken { IfOk result (λ taken. taken ≡ true
+            → Takes Kind.Comment None (chars text.now) self.old self.new) }
+        ensures same { self.new ≡ self.old }
+    {
+        match terminal_of(alloc, Kind::Comment, text) {
+            Err(TerminalFault::Memory) => Err(AllocError),
+            Err(TerminalFault::Token(_)) => Ok(false),
+            Ok(_) => Ok(true),
+        }
+    }
+
+    /// Takes a line end in the line that is open, which ends at an offset, by whether the logical
+    /// line ends.
+    #[inline(always)]
+    fn take_line_end(&mut self, source: &Source, ends: bool, to: usize) -> Result<(), AllocError>
+        requires begun { self.old.pass.begun ≡ true }
+        requires boundary { IsCharBoundary source.now.text to }
+        ensures taken { OnOk result
+            (TakesLineEnd (chars source.now.text) ends to self.old self.new) }
+        ensures same { self.new.terminals ≡ self.old.terminals }
+    {
+        if ends {
+            self.level = self.indents.saturating_sub(self.dedents);
+        }
+        self.pass.take_line_end(source, ends, to)
+    }
+
+    /// Takes the entry of a lexeme in the line that is open, after which a lister stands at a spot:
+    /// whether it has no fault by itself and opens no bracket too many. Another isn't taken.
+    #[inline(always)]
+    pub(crate) fn take_lexeme(
+        &mut self,
+        alloc: Global,
+        source: &'a Source,
+        class: Class,
+        text: &'a str,
+        to: Spot,
+    ) -> Result<bool, AllocError>
+        requires begun { self.old.pass.begun ≡ true }
+        requires some { 0 < length self.old.terminals.items }
+        requires opened { self.old.pass.opened < 2 ^ 63 }
+        requires closed { self.old.pass.closed < 2 ^ 63 }
+        requires boundary { IsCharBoundary source.now.text to.offset }
+        requires gives { is_silent class ≡ false }
+        ensures taken { IfOk result (λ taken. taken ≡ true
+            → TakesLexeme (chars source.now.text) class (chars text.now) to self.old self.new) }
+        ensures kept { IfOk result (λ taken. taken ≡ false → self.new ≡ self.old) }
+        ensures some { OnOk result (0 < length self.new.terminals.items) }
+    {
+        match class {
+            Class::Name => self.take_token(alloc, Kind::Name, text),
+            Class::Number => self.take_token(alloc, Kind::Number, text),
+            Class::String => self.take_token(alloc, Kind::String, text),
+            Class::Operator(exact) => self.take_operator(exact, text),
+            Class::Comment => self.take_comment(alloc, text),
+            _ => {
+                self.take_line_end(source, !to.begun, to.offset)?;
+                Ok(true)
+            }
         }
     }
 

@@ -17,6 +17,7 @@ ghost use Rattle.pyparse_tokens.specs.Inner.LineGathering.{lines_given, StandsBe
 
 use crate::faults::ParseFault;
 use crate::line_gather::LineGather;
+use crate::walks::walk_line;
 use pylex::{Lister, Step};
 use pysource::{Place, Source};
 use pytoken::{Refusal, Terminal};
@@ -56,7 +57,10 @@ fn read_line<'a>(
     ensures refused { IfErr result (Tells (refusal (in_characters source.now))) }
 {
     gather.clear();
-    loop {
+    'entries: loop {
+        if walk_line(alloc, source, lister, gather)? {
+            return Ok(true);
+        }
         match lister.next()? {
             Step::Entry(entry) => {
                 if gather.take(alloc, source, &entry)? {

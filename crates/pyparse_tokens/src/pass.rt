@@ -1,15 +1,16 @@
 //! What one pass over a listing keeps of its faults.
 
-ghost use Rattle.std.specs.Prelude.{◌≡◌, ◌^◌, ◌<◌, [], IfOk, OnOk};
+ghost use Rattle.std.specs.Prelude.{◌≡◌, ◌^◌, ◌<◌, [], true, false, IfOk, OnOk};
 ghost use Rattle.std.specs.Str.{IsCharBoundary, chars};
 ghost use Rattle.pylex.specs.Laws.{LiesIn};
 ghost use Rattle.pytoken.specs.Brackets.{opens, closes};
 ghost use Rattle.pyparse_tokens.specs.Inner.Passing.{still_open, line_ends, exceeding, counted};
 ghost use Rattle.pyparse_tokens.specs.Inner.Passing.{kept_refusal, TakesBracket, Gains, Passed};
+ghost use Rattle.pyparse_tokens.specs.Inner.Walking.{PassesOperator, PassesLineEnd};
 ghost use Rattle.std.specs.Option.{option_or};
 
 use crate::indents::Indents;
-use pylex::{Entry, Kind};
+use pylex::{Entry, Exact, Kind};
 use pysource::Source;
 use pytoken::Refusal;
 use std::alloc::{AllocError, Global};
@@ -176,6 +177,45 @@ impl Pass {
         keep(&mut self.faulty, faulty);
         self.take_bracket(entry);
         self.begun = still_open(entry.kind, self.begun);
+        Ok(())
+    }
+
+    /// Takes an operator within a line: whether it opens no bracket too many. One that does isn't
+    /// taken.
+    #[inline(always)]
+    pub(crate) fn take_operator(&mut self, exact: Exact) -> bool
+        requires opened { self.old.opened < 2 ^ 63 }
+        requires closed { self.old.closed < 2 ^ 63 }
+        ensures taken { result ≡ true → PassesOperator exact self.old self.new }
+        ensures kept { result ≡ false → self.new ≡ self.old }
+    {
+        if exact.is_opener() {
+            if (self.opened + 1).saturating_sub(self.closed) > MOST_BRACKETS {
+                return false;
+            }
+            self.opened += 1;
+        }
+        self.closed = counted(self.closed, exact.is_closer());
+        true
+    }
+
+    /// Takes a line end within a line, which ends at an offset, by whether the logical line ends.
+    #[inline(always)]
+    pub(crate) fn take_line_end(
+        &mut self,
+        source: &Source,
+        ends: bool,
+        to: usize,
+    ) -> Result<(), AllocError>
+        requires { IsCharBoundary source.now.text to }
+        ensures { OnOk result (PassesLineEnd (chars source.now.text) ends to self.old self.new) }
+    {
+        if self.opened.saturating_sub(self.closed) == 0 {
+            self.indents.take(source, to)?;
+        }
+        if ends {
+            self.begun = false;
+        }
         Ok(())
     }
 

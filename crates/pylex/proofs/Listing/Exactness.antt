@@ -50,7 +50,7 @@ take_whole : (a b : List ℕ) → take (length a) (a ++ b) ≡ a
 take_whole [] b = refl
 take_whole (c ∷ a) b = ap (λ (t : List ℕ). c ∷ t) (take_whole a b)
 
-own_text : (a t b : List ℕ) (first last : ℕ) → all_scalars (a ++ (t ++ b)) ≡ true → first ≡ bytes_in a → last ≡ bytes_in a + bytes_in t
+pub own_text : (a t b : List ℕ) (first last : ℕ) → all_scalars (a ++ (t ++ b)) ≡ true → first ≡ bytes_in a → last ≡ bytes_in a + bytes_in t
     → chars (slice_range (encode_utf8_all (a ++ (t ++ b))) first last) ≡ t
 own_text a t b first last good begins ends =
     let front = encode_utf8_all a in

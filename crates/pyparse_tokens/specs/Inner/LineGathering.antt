@@ -127,6 +127,7 @@ pub record KeepsLine (line : List Token) (g : LineGather) : Type 0 where
 
 -- a lister and what is gathered stand behind the same entries of a source
 pub record StandsAt (p : Parts) (l : Listed) (g : LineGather) : Type 0 where
+  pub source : l.source ≡ p
   pub stands : StandsIn l (in_characters p) l.shown.given
   pub within : l.shown.given ≤ length (entries_of (listing (in_characters p)))
   pub few : l.shown.given ≤ most_entries

@@ -1,0 +1,266 @@
+-- Carries: take_token, take_operator, take_comment, take_line_end. On: what is kept of a lexeme of
+-- the line that is open is what is kept of its entry.
+use Rattle.std.proofs.Common.{◌≡◌, ℕ, ◌+◌, ◌-◌, ◌<◌, Bool, true, false, ◌&&◌, List, [], ◌∷◌, ◌++◌, length, map, refl, sym, ap, ap₂, subst, ◌∙◌, append-nil, arith, Option, Some, None}
+use Rattle.std.specs.Prelude.{if◌then◌else◌, nat_lt}
+use Rattle.std.specs.Option.{option_or}
+use Rattle.std.specs.Str.{chars}
+use Rattle.std.proofs.lemmas.List.{map-append}
+use Rattle.pysource.specs.declared.places.Place.{Place}
+use Rattle.pylex_lexeme.specs.declared.kinds.Exact.{Exact}
+use Rattle.pylex_lexeme.specs.Operators.{is_opener, is_closer}
+use Rattle.pylex.specs.declared.kind.Kind.{Kind}
+use Rattle.pylex.specs.declared.kind.Kind.TheVariants as kinds
+use Rattle.pylex.specs.declared.entries.Entry.{Entry}
+use Rattle.pytoken.specs.declared.refusals.Refusal.{Refusal}
+use Rattle.pytoken.specs.declared.refusals.Refusal.TheVariants.{TooDeep}
+use Rattle.pytoken.specs.declared.values.terminals.Terminal.{Terminal}
+use Rattle.pytoken.specs.declared.values.terminals.Terminal.TheVariants.{Op}
+use Rattle.pytoken.specs.Indentation.{Margin}
+use Rattle.pytoken.specs.Terminals
+use Rattle.pytoken.specs.Terminals.{terminal_of, fault_of}
+use Rattle.pytoken.specs.TerminalOf.{terminal}
+use Rattle.pytoken.specs.Tokens.{text_of}
+use Rattle.pytoken.specs.Refusals.{most_brackets, entry_refusal}
+use Rattle.pyparse_tokens.specs.declared.indents.Indents.{Indents}
+use Rattle.pyparse_tokens.specs.declared.pass.Pass.{Pass}
+use Rattle.pyparse_tokens.specs.declared.line_gather.LineGather.{LineGather}
+use Rattle.pyparse_tokens.specs.Inner.Indenting.{Measured, Measures}
+use Rattle.pyparse_tokens.specs.Inner.Passing.{counted, still_open, exceeding, given_margins, Gains}
+use Rattle.pyparse_tokens.specs.Inner.LineGathering.{stands_in_line, own_terminals, of_first, Adds, TakesEntry}
+use Rattle.pyparse_tokens.specs.Inner.Walking.{IsEntry, Takes, is_plain_token, line_end_kind, TakesLineEnd, PassesOperator, PassesLineEnd}
+use Rattle.pyparse_tokens.proofs.OperatorLemmas.{operator_faultless, operator_adds}
+
+-- an entry of this type and exact type
+abbrev as_entry : Entry → Kind → Option Exact → Entry
+as_entry e k x = record e { kind = k; exact = x }
+
+entry_as : (e : Entry) (k : Kind) (x : Option Exact) → e.kind ≡ k → e.exact ≡ x → as_entry e k x ≡ e
+entry_as e k x a b = sym (ap (λ (j : Kind). record e { kind = j }) a ∙ ap (λ (y : Option Exact). record e { kind = k; exact = y }) b)
+
+or_none : (r : Option Refusal) → r ≡ option_or r None
+or_none None = refl
+or_none (Some x) = refl
+
+none_measured : (i : Indents) → Measures [] i i
+none_measured i ms had = subst (λ (xs : List Margin). Measured xs i) (sym (append-nil ms)) had
+
+-- an entry of a text without a fault
+no_refusal : (text : List ℕ) (e : Entry) (k : Kind) (own : List ℕ) → e.kind ≡ k → text_of text e ≡ own → fault_of k own ≡ None → entry_refusal text e ≡ None
+no_refusal text e k own a b f =
+    let none : fault_of e.kind (text_of text e) ≡ None = ap₂ fault_of a b ∙ f in
+    rw none refl
+
+-- ---- What is kept of faults.
+
+-- nothing, of a token as it stands
+plain_gains : (k : Kind) (text : List ℕ) (e : Entry) (p : Pass) → is_plain_token k ≡ true → p.begun ≡ true → Gains text (as_entry e k None) None p p
+plain_gains kinds.Name text e p is b = record { begun = b; opened = refl; closed = refl; faulty = or_none p.faulty; deep = or_none p.deep; indents = none_measured p.indents }
+plain_gains kinds.Number text e p is b = record { begun = b; opened = refl; closed = refl; faulty = or_none p.faulty; deep = or_none p.deep; indents = none_measured p.indents }
+plain_gains kinds.String text e p is b = record { begun = b; opened = refl; closed = refl; faulty = or_none p.faulty; deep = or_none p.deep; indents = none_measured p.indents }
+plain_gains kinds.Encoding text e p is b = absurd cc
+plain_gains kinds.Op text e p is b = absurd cc
+plain_gains kinds.Comment text e p is b = absurd cc
+plain_gains kinds.Nl text e p is b = absurd cc
+plain_gains kinds.Newline text e p is b = absurd cc
+plain_gains kinds.Indent text e p is b = absurd cc
+plain_gains kinds.Dedent text e p is b = absurd cc
+plain_gains kinds.EndMarker text e p is b = absurd cc
+
+comment_gains : (text : List ℕ) (e : Entry) (p : Pass) → Gains text (as_entry e kinds.Comment None) None p p
+comment_gains text e p = record { begun = refl; opened = refl; closed = refl; faulty = or_none p.faulty; deep = or_none p.deep; indents = none_measured p.indents }
+
+operator_gains : (text : List ℕ) (e : Entry) (x : Exact) (old new : Pass) → old.begun ≡ true → PassesOperator x old new → Gains text (as_entry e kinds.Op (Some x)) None old new
+operator_gains text e x old new b passes =
+    let few : exceeding (as_entry e kinds.Op (Some x)) old.opened old.closed ≡ None = ap (λ (d : Bool). if d then Some (TooDeep e.start) else None) passes.few in
+    subst (Gains text (as_entry e kinds.Op (Some x)) None old) (sym passes.rest)
+    record {
+      begun = b;
+      opened = refl;
+      closed = refl;
+      faulty = or_none old.faulty;
+      deep = or_none old.deep ∙ ap (option_or old.deep) (sym few);
+      indents = none_measured old.indents;
+    }
+
+-- ---- What is kept of the line.
+
+of_first_some : {A : Type 0} (ts : List Terminal) (p q : A) → 0 < length ts → of_first ts p q ≡ p
+of_first_some [] p q some = absurd (omega (arith, some))
+of_first_some (t ∷ ts) p q some = refl
+
+-- an entry of a type that ends no line, and is no INDENT, DEDENT or ENDMARKER
+abbrev is_within : Kind → Bool
+is_within k = elim k [ kinds.Name ↦ true | kinds.Number ↦ true | kinds.String ↦ true | kinds.Op ↦ true | kinds.Comment ↦ true | kinds.Nl ↦ true | _ ↦ false ]
+
+-- what is gathered, where only faults and the line are touched
+within_takes : (k : Kind) (text : List ℕ) (e : Entry) (x : Option Exact) (old new : LineGather) → is_within k ≡ true → e.kind ≡ k → e.exact ≡ x
+    → new.indents ≡ old.indents → new.dedents ≡ old.dedents → new.marker ≡ old.marker → entry_refusal text e ≡ None
+    → Gains text (as_entry e k x) None old.pass new.pass → Adds text e old new → TakesEntry text e old new
+within_takes k text e x old new is kind exact indents dedents marker none gains adds =
+    let same = entry_as e k x kind exact in
+    let pass : Gains text e (entry_refusal text e) old.pass new.pass =
+    subst (λ (r : Option Refusal). Gains text e r old.pass new.pass) (sym none) (subst (λ (d : Entry). Gains text d None old.pass new.pass) same gains) in
+    by k is kind pass
+  where
+    by : (k : Kind) → is_within k ≡ true → e.kind ≡ k → Gains text e (entry_refusal text e) old.pass new.pass → TakesEntry text e old new
+    by kinds.Name is kind pass = record { pass = pass; level = λ ends. let n : false ≡ true = rw kind at ends in absurd cc; indents = indents ∙ rw kind refl; dedents = dedents ∙ rw kind refl; marker = marker ∙ rw kind refl; line = λ _. adds }
+    by kinds.Number is kind pass = record { pass = pass; level = λ ends. let n : false ≡ true = rw kind at ends in absurd cc; indents = indents ∙ rw kind refl; dedents = dedents ∙ rw kind refl; marker = marker ∙ rw kind refl; line = λ _. adds }
+    by kinds.String is kind pass = record { pass = pass; level = λ ends. let n : false ≡ true = rw kind at ends in absurd cc; indents = indents ∙ rw kind refl; dedents = dedents ∙ rw kind refl; marker = marker ∙ rw kind refl; line = λ _. adds }
+    by kinds.Op is kind pass = record { pass = pass; level = λ ends. let n : false ≡ true = rw kind at ends in absurd cc; indents = indents ∙ rw kind refl; dedents = dedents ∙ rw kind refl; marker = marker ∙ rw kind refl; line = λ _. adds }
+    by kinds.Comment is kind pass = record { pass = pass; level = λ ends. let n : false ≡ true = rw kind at ends in absurd cc; indents = indents ∙ rw kind refl; dedents = dedents ∙ rw kind refl; marker = marker ∙ rw kind refl; line = λ _. adds }
+    by kinds.Nl is kind pass = record { pass = pass; level = λ ends. let n : false ≡ true = rw kind at ends in absurd cc; indents = indents ∙ rw kind refl; dedents = dedents ∙ rw kind refl; marker = marker ∙ rw kind refl; line = λ _. adds }
+    by kinds.Encoding is kind pass = absurd cc
+    by kinds.Newline is kind pass = absurd cc
+    by kinds.Indent is kind pass = absurd cc
+    by kinds.Dedent is kind pass = absurd cc
+    by kinds.EndMarker is kind pass = absurd cc
+
+plain_stands : (k : Kind) → is_plain_token k ≡ true → (stands_in_line k ≡ true) × (is_within k ≡ true)
+plain_stands kinds.Name is = (refl, refl)
+plain_stands kinds.Number is = (refl, refl)
+plain_stands kinds.String is = (refl, refl)
+plain_stands kinds.Encoding is = absurd cc
+plain_stands kinds.Op is = absurd cc
+plain_stands kinds.Comment is = absurd cc
+plain_stands kinds.Nl is = absurd cc
+plain_stands kinds.Newline is = absurd cc
+plain_stands kinds.Indent is = absurd cc
+plain_stands kinds.Dedent is = absurd cc
+plain_stands kinds.EndMarker is = absurd cc
+
+-- a token as it stands adds its terminal
+plain_adds : (text : List ℕ) (e : Entry) (k : Kind) (own : List ℕ) (made : Terminal) (old new : LineGather) → stands_in_line k ≡ true → e.kind ≡ k → text_of text e ≡ own
+    → 0 < length old.terminals.items → terminal made ≡ terminal_of k own
+    → new.terminals.items ≡ old.terminals.items ++ made ∷ [] → new.start ≡ of_first old.terminals.items old.start old.start
+    → chars new.first.now ≡ of_first old.terminals.items (chars old.first.now) own → chars new.last.now ≡ own → Adds text e old new
+plain_adds text e k own made old new stands kind is some made_is terminals start first last =
+    let here : stands_in_line e.kind ≡ true = ap stands_in_line kind ∙ stands in
+    let mine : own_terminals text e ≡ terminal_of e.kind (text_of text e) ∷ [] = ap (λ (b : Bool). if b then terminal_of e.kind (text_of text e) ∷ [] else []) here in
+    let adds : terminal made ∷ [] ≡ own_terminals text e = ap (λ (t : Terminals.Terminal). t ∷ []) (made_is ∙ sym (ap₂ terminal_of kind is)) ∙ sym mine in
+    record {
+      terminals =
+          ap (map terminal) terminals ∙ map-append terminal old.terminals.items (made ∷ [])
+          ∙ ap (λ (ts : List Terminals.Terminal). map terminal old.terminals.items ++ ts) adds;
+      start =
+          start ∙ of_first_some old.terminals.items old.start old.start some ∙ sym (of_first_some old.terminals.items old.start e.start some)
+          ∙ ap (λ (b : Bool). if b then of_first old.terminals.items old.start e.start else old.start) (sym here);
+      first =
+          first
+          ∙ ap (of_first old.terminals.items (chars old.first.now)) (sym is)
+          ∙ ap (λ (b : Bool). if b then of_first old.terminals.items (chars old.first.now) (text_of text e) else chars old.first.now) (sym here);
+      last = last ∙ sym is ∙ ap (λ (b : Bool). if b then text_of text e else chars old.last.now) (sym here);
+    }
+
+-- what is no token adds nothing
+none_adds : (text : List ℕ) (e : Entry) (k : Kind) (old new : LineGather) → stands_in_line k ≡ false → e.kind ≡ k → new.terminals.items ≡ old.terminals.items → new.start ≡ old.start
+    → chars new.first.now ≡ chars old.first.now → chars new.last.now ≡ chars old.last.now → Adds text e old new
+none_adds text e k old new beside kind terminals start first last =
+    let here : stands_in_line e.kind ≡ false = ap stands_in_line kind ∙ beside in
+    let mine : own_terminals text e ≡ [] = ap (λ (b : Bool). if b then terminal_of e.kind (text_of text e) ∷ [] else []) here in
+    record {
+      terminals =
+          ap (map terminal) terminals ∙ sym (append-nil (map terminal old.terminals.items))
+          ∙ ap (λ (ts : List Terminals.Terminal). map terminal old.terminals.items ++ ts) (sym mine);
+      start = start ∙ ap (λ (b : Bool). if b then of_first old.terminals.items old.start e.start else old.start) (sym here);
+      first = first ∙ ap (λ (b : Bool). if b then of_first old.terminals.items (chars old.first.now) (text_of text e) else chars old.first.now) (sym here);
+      last = last ∙ ap (λ (b : Bool). if b then text_of text e else chars old.last.now) (sym here);
+    }
+
+-- ---- The entries.
+
+-- what `keep` leaves as it was
+abbrev Kept : LineGather → LineGather → Type 0
+Kept old new = new ≡ record old { terminals = new.terminals; start = new.start; first = new.first; last = new.last }
+
+pub token_takes : (k : Kind) (own : List ℕ) (made : Terminal) (old new : LineGather) → is_plain_token k ≡ true → old.pass.begun ≡ true → 0 < length old.terminals.items
+    → fault_of k own ≡ None → terminal made ≡ terminal_of k own
+    → new.terminals.items ≡ old.terminals.items ++ made ∷ [] → new.start ≡ of_first old.terminals.items old.start old.start
+    → chars new.first.now ≡ of_first old.terminals.items (chars old.first.now) own → chars new.last.now ≡ own → Kept old new → Takes k None own old new
+token_takes k own made old new plain begun some sound made_is terminals start first last rest text e is =
+    let both = plain_stands k plain in
+    let pass : new.pass ≡ old.pass = ap (λ (g : LineGather). g.pass) rest in
+    within_takes k text e None old new both.1 is.kind is.exact
+    (ap (λ (g : LineGather). g.indents) rest) (ap (λ (g : LineGather). g.dedents) rest) (ap (λ (g : LineGather). g.marker) rest)
+    (no_refusal text e k own is.kind is.own_text sound)
+    (subst (Gains text (as_entry e k None) None old.pass) (sym pass) (plain_gains k text e old.pass plain begun))
+    (plain_adds text e k own made old new both.0 is.kind is.own_text some made_is terminals start first last)
+
+pub comment_takes : (own : List ℕ) (old : LineGather) → fault_of kinds.Comment own ≡ None → Takes kinds.Comment None own old old
+comment_takes own old sound text e is =
+    within_takes kinds.Comment text e None old old refl is.kind is.exact refl refl refl
+    (no_refusal text e kinds.Comment own is.kind is.own_text sound)
+    (comment_gains text e old.pass)
+    (none_adds text e kinds.Comment old old refl is.kind refl refl refl refl)
+
+-- an operator: first the brackets were counted, then its terminal was kept
+pub operator_takes : (x : Exact) (own : List ℕ) (old mid new : LineGather) → old.pass.begun ≡ true → 0 < length old.terminals.items
+    → PassesOperator x old.pass mid.pass → mid ≡ record old { pass = mid.pass }
+    → new.terminals.items ≡ mid.terminals.items ++ Op x ∷ [] → new.start ≡ of_first mid.terminals.items mid.start mid.start
+    → chars new.first.now ≡ of_first mid.terminals.items (chars mid.first.now) own → chars new.last.now ≡ own → Kept mid new → Takes kinds.Op (Some x) own old new
+operator_takes x own old mid new begun some passes between terminals start first last rest text e is =
+    let pass : new.pass ≡ mid.pass = ap (λ (g : LineGather). g.pass) rest in
+    let items : mid.terminals.items ≡ old.terminals.items = ap (λ (g : LineGather). g.terminals.items) between in
+    let at : mid.start ≡ old.start = ap (λ (g : LineGather). g.start) between in
+    let front : chars mid.first.now ≡ chars old.first.now = ap (λ (g : LineGather). chars g.first.now) between in
+    within_takes kinds.Op text e (Some x) old new refl is.kind is.exact
+    (ap (λ (g : LineGather). g.indents) rest ∙ ap (λ (g : LineGather). g.indents) between)
+    (ap (λ (g : LineGather). g.dedents) rest ∙ ap (λ (g : LineGather). g.dedents) between)
+    (ap (λ (g : LineGather). g.marker) rest ∙ ap (λ (g : LineGather). g.marker) between)
+    (operator_faultless text e x is.has is.exact)
+    (subst (Gains text (as_entry e kinds.Op (Some x)) None old.pass) (sym pass) (operator_gains text e x old.pass mid.pass begun passes))
+    (operator_adds text e x old new is.has is.exact
+    (terminals ∙ ap (λ (ts : List Terminal). ts ++ Op x ∷ []) items)
+    (start ∙ ap₂ (λ (ts : List Terminal) (p : Place). of_first ts p p) items at ∙ of_first_some old.terminals.items old.start old.start some
+    ∙ sym (of_first_some old.terminals.items old.start e.start some))
+    (first ∙ ap₂ (λ (ts : List Terminal) (t : List ℕ). of_first ts t own) items front ∙ ap (of_first old.terminals.items (chars old.first.now)) (sym is.own_text))
+    (last ∙ sym is.own_text))
+
+line_end_faultless : (text : List ℕ) (e : Entry) (b : Bool) → e.kind ≡ line_end_kind b → entry_refusal text e ≡ None
+unfolding fault_of
+line_end_faultless text e true kind = rw kind refl
+line_end_faultless text e false kind = rw kind refl
+
+-- a line end within brackets, and one that ends the logical line
+pub line_end_takes : (text : List ℕ) (ends : Bool) (to : ℕ) (old new : LineGather) → (ends ≡ true → new.level ≡ old.indents - old.dedents)
+    → PassesLineEnd text ends to old.pass new.pass → new ≡ record old { pass = new.pass; level = new.level } → TakesLineEnd text ends to old new
+line_end_takes text ends to old new level passes rest own e is there =
+    let none : entry_refusal text e ≡ None = line_end_faultless text e ends is.kind in
+    let pass : Gains text e (entry_refusal text e) old.pass new.pass = subst (λ (r : Option Refusal). Gains text e r old.pass new.pass) (sym none) (passes e is.kind is.exact there) in
+    let beside : stands_in_line (line_end_kind ends) ≡ false = aside ends in
+    let indents : new.indents ≡ old.indents = ap (λ (g : LineGather). g.indents) rest in
+    let dedents : new.dedents ≡ old.dedents = ap (λ (g : LineGather). g.dedents) rest in
+    let marker : new.marker ≡ old.marker = ap (λ (g : LineGather). g.marker) rest in
+    let adds : Adds text e old new =
+    none_adds text e (line_end_kind ends) old new beside is.kind (ap (λ (g : LineGather). g.terminals.items) rest) (ap (λ (g : LineGather). g.start) rest)
+    (ap (λ (g : LineGather). chars g.first.now) rest) (ap (λ (g : LineGather). chars g.last.now) rest) in
+    taken ends level is.kind pass indents dedents marker adds
+  where
+    aside : (b : Bool) → stands_in_line (line_end_kind b) ≡ false
+    aside true = refl
+    aside false = refl
+
+    taken : (b : Bool) → (b ≡ true → new.level ≡ old.indents - old.dedents) → e.kind ≡ line_end_kind b → Gains text e (entry_refusal text e) old.pass new.pass
+        → new.indents ≡ old.indents → new.dedents ≡ old.dedents → new.marker ≡ old.marker → Adds text e old new → TakesEntry text e old new
+    taken true level kind pass indents dedents marker adds = record { pass = pass; level = λ _. level refl; indents = indents ∙ rw kind refl; dedents = dedents ∙ rw kind refl; marker = marker ∙ rw kind refl; line = λ _. adds }
+    taken false level kind pass indents dedents marker adds = record { pass = pass; level = λ ends. let n : false ≡ true = rw kind at ends in absurd cc; indents = indents ∙ rw kind refl; dedents = dedents ∙ rw kind refl; marker = marker ∙ rw kind refl; line = λ _. adds }
+
+-- the margins of a line end
+pub line_end_passes : (text : List ℕ) (ends : Bool) (to : ℕ) (old new : Pass) → (begun_is : new.begun ≡ (if ends then false else old.begun)) → new.opened ≡ old.opened → new.closed ≡ old.closed
+    → new.faulty ≡ old.faulty → new.deep ≡ old.deep
+    → ((e : Entry) → e.kind ≡ line_end_kind ends → e.to ≡ to → Measures (given_margins text e old.opened old.closed) old.indents new.indents) → PassesLineEnd text ends to old new
+line_end_passes text ends to old new begun opened closed faulty deep indents e kind exact there =
+    let same = entry_as e (line_end_kind ends) None kind exact in
+    let no_bracket : exceeding (as_entry e (line_end_kind ends) None) old.opened old.closed ≡ None = refl in
+    subst (λ (d : Entry). Gains text d None old new) same
+    record {
+      begun = begun ∙ by ends;
+      opened = opened;
+      closed = closed;
+      faulty = faulty ∙ or_none old.faulty;
+      deep = deep ∙ or_none old.deep;
+      indents = indents (as_entry e (line_end_kind ends) None) refl there;
+    }
+  where
+    by : (b : Bool) → (if b then false else old.begun) ≡ still_open (line_end_kind b) old.begun
+    by true = refl
+    by false = refl

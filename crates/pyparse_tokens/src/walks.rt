@@ -1,0 +1,90 @@
+//! The rest of a logical line, taken without its entries.
+//!
+//! Most entries of a listing stand within a line, after its first token. A lexeme there is taken as
+//! it is, and no place is measured. What can't be taken so ends the walk before it: the lister goes
+//! there, and what comes is taken as an entry. That is a fault, a refusal or the end, so a source
+//! has few such places: after a refusal nothing is walked.
+
+ghost use Rattle.std.specs.Prelude.{◌≡◌, ◌<◌, ◌≤◌, true, false, length, IfOk};
+ghost use Rattle.pylex.specs.Listers.{Listed};
+ghost use Rattle.pylex.specs.Spots.{at_spot};
+ghost use Rattle.pyparse_tokens.specs.Inner.LineGathering.{StandsAt, ReadsLine};
+ghost use Rattle.pyparse_tokens.specs.Inner.Walking.{Reads, Went};
+
+use crate::line_gather::LineGather;
+use pylex::{Lister, Spot};
+use pysource::Source;
+use std::alloc::{AllocError, Global};
+
+/// Takes lexeme after lexeme of the line that is open, from the spot on where a lister stands: up to
+/// the line's end, or to one that can't be taken so. The spot there.
+fn walk<'a>(
+    alloc: Global,
+    source: &'a Source,
+    lister: &Lister<'a>,
+    from: Spot,
+    gather: &mut LineGather<'a>,
+) -> Result<Spot, AllocError>
+    requires at { StandsAt source.now (at_spot source.now from lister.now.shown.levels) gather.old }
+    requires within { from.begun ≡ true }
+    requires given { 0 < from.given }
+    requires begun { gather.old.pass.begun ≡ true }
+    requires some { 0 < length gather.old.terminals.items }
+    ensures at { IfOk result
+        (λ to. StandsAt source.now (at_spot source.now to lister.entry.now.shown.levels) gather.new) }
+    ensures went { IfOk result
+        (λ to. Went source.now lister.entry.now.shown.levels from to gather.old gather.new) }
+    ensures given { IfOk result (λ to. from.given ≤ to.given) }
+{
+    let text = source.text();
+    let mut spot = from;
+    let mut left = &text[from.offset..];
+    'lexemes: while let Some((class, front, back, to)) = spot.step(left) {
+        if !gather.take_lexeme(alloc, source, class, front, to)? {
+            return Ok(spot);
+        }
+        if !to.begun {
+            return Ok(to);
+        }
+        spot = to;
+        left = back;
+    }
+    Ok(spot)
+}
+
+/// Takes what is left of the line that is open where a lister stands, as far as it can be taken
+/// without entries: whether the line ended and nothing is refused. The lister goes along.
+pub(crate) fn walk_line<'a>(
+    alloc: Global,
+    source: &'a Source,
+    lister: &mut Lister<'a>,
+    gather: &mut LineGather<'a>,
+) -> Result<bool, AllocError>
+    requires { StandsAt source.now lister.old gather.old }
+    ensures within { IfOk result
+        (λ ended. ended ≡ false
+        → (first : Listed) → Reads source.now first lister.old gather.old
+        → Reads source.now first lister.new gather.new) }
+    ensures ended { IfOk result
+        (λ ended. ended ≡ true
+        → (first : Listed) → Reads source.now first lister.old gather.old
+        → ReadsLine source.now first lister.new gather.new) }
+    ensures given { IfOk result (λ ended. lister.old.shown.given ≤ lister.new.shown.given) }
+{
+    if !gather.has_tokens() {
+        return Ok(false);
+    }
+    let Some(from) = lister.spot() else {
+        return Ok(false);
+    };
+    let to = walk(alloc, source, lister, from, gather)?;
+    lister.go_to(to);
+    if to.begun {
+        return Ok(false);
+    }
+    if gather.refusal().is_none() {
+        return Ok(true);
+    }
+    gather.clear();
+    Ok(false)
+}
