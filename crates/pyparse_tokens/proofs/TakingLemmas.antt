@@ -1,16 +1,20 @@
 -- Carries: take_token, take_operator, take_comment, take_line_end. On: what is kept of a lexeme of
 -- the line that is open is what is kept of its entry.
-use Rattle.std.proofs.Common.{◌≡◌, ℕ, ◌+◌, ◌-◌, ◌<◌, Bool, true, false, ◌&&◌, List, [], ◌∷◌, ◌++◌, length, map, refl, sym, ap, ap₂, subst, ◌∙◌, append-nil, arith, Option, Some, None}
-use Rattle.std.specs.Prelude.{if◌then◌else◌, nat_lt}
+use Rattle.std.proofs.Common.{◌≡◌, ℕ, ◌+◌, ◌-◌, ◌<◌, Bool, true, false, not, ◌&&◌, List, [], ◌∷◌, ◌++◌, length, map, refl, sym, ap, ap₂, subst, ◌∙◌, append-nil, arith, Option, Some, None}
+use Rattle.std.specs.Prelude.{if◌then◌else◌, nat_lt, Result, Ok, Err, OnOk}
 use Rattle.std.specs.Option.{option_or}
 use Rattle.std.specs.Str.{chars}
 use Rattle.std.proofs.lemmas.List.{map-append}
 use Rattle.pysource.specs.declared.places.Place.{Place}
 use Rattle.pylex_lexeme.specs.declared.kinds.Exact.{Exact}
+use Rattle.pylex_lexeme.specs.declared.lexeme.Class.{Class}
+use Rattle.pylex_lexeme.specs.declared.lexeme.Class.TheVariants.{Name, Number, String, Operator, Comment, Blanks, LineEnd, Join}
 use Rattle.pylex_lexeme.specs.Operators.{is_opener, is_closer}
 use Rattle.pylex.specs.declared.kind.Kind.{Kind}
 use Rattle.pylex.specs.declared.kind.Kind.TheVariants as kinds
 use Rattle.pylex.specs.declared.entries.Entry.{Entry}
+use Rattle.pylex.specs.declared.spots.Spot.{Spot}
+use Rattle.pylex.specs.Spots.{is_silent, kind_of}
 use Rattle.pytoken.specs.declared.refusals.Refusal.{Refusal}
 use Rattle.pytoken.specs.declared.refusals.Refusal.TheVariants.{TooDeep}
 use Rattle.pytoken.specs.declared.values.terminals.Terminal.{Terminal}
@@ -27,7 +31,7 @@ use Rattle.pyparse_tokens.specs.declared.line_gather.LineGather.{LineGather}
 use Rattle.pyparse_tokens.specs.Inner.Indenting.{Measured, Measures}
 use Rattle.pyparse_tokens.specs.Inner.Passing.{counted, still_open, exceeding, given_margins, Gains}
 use Rattle.pyparse_tokens.specs.Inner.LineGathering.{stands_in_line, own_terminals, of_first, Adds, TakesEntry}
-use Rattle.pyparse_tokens.specs.Inner.Walking.{IsEntry, Takes, is_plain_token, line_end_kind, TakesLineEnd, PassesOperator, PassesLineEnd}
+use Rattle.pyparse_tokens.specs.Inner.Walking.{IsEntry, Takes, is_plain_token, line_end_kind, TakesLineEnd, TakesLexeme, PassesOperator, PassesLineEnd}
 use Rattle.pyparse_tokens.proofs.OperatorLemmas.{operator_faultless, operator_adds}
 
 -- an entry of this type and exact type
@@ -48,7 +52,7 @@ none_measured i ms had = subst (λ (xs : List Margin). Measured xs i) (sym (appe
 no_refusal : (text : List ℕ) (e : Entry) (k : Kind) (own : List ℕ) → e.kind ≡ k → text_of text e ≡ own → fault_of k own ≡ None → entry_refusal text e ≡ None
 no_refusal text e k own a b f =
     let none : fault_of e.kind (text_of text e) ≡ None = ap₂ fault_of a b ∙ f in
-    rw none refl
+    rw (none, entry_refusal) refl
 
 -- ---- What is kept of faults.
 
@@ -264,3 +268,28 @@ line_end_passes text ends to old new begun opened closed faulty deep indents e k
     by : (b : Bool) → (if b then false else old.begun) ≡ still_open (line_end_kind b) old.begun
     by true = refl
     by false = refl
+
+-- a line end, by what its pass answers
+pub line_end_kept : {E : Type 0} (answer : Result (Unit {0}) E) (text : List ℕ) (ends : Bool) (to : ℕ) (old mid : LineGather) (pass : Pass) → (ends ≡ true → mid.level ≡ old.indents - old.dedents)
+    → mid ≡ record old { level = mid.level } → OnOk answer (PassesLineEnd text ends to mid.pass pass) → OnOk answer (TakesLineEnd text ends to old (record mid { pass = pass }))
+line_end_kept (Ok u) text ends to old mid pass level rest passes =
+    let was : mid.pass ≡ old.pass = ap (λ (g : LineGather). g.pass) rest in
+    line_end_takes text ends to old (record mid { pass = pass }) level (subst (λ (p : Pass). PassesLineEnd text ends to p pass) was passes)
+    (ap (λ (g : LineGather). record g { pass = pass }) rest)
+line_end_kept (Err fault) text ends to old mid pass level rest passes = tt
+
+-- what is no other lexeme that gives an entry is a line end
+pub end_takes : (text own : List ℕ) (k : Class) (t : Spot) (old new : LineGather) → (k ≡ Name → ⊥) → (k ≡ Number → ⊥) → (k ≡ String → ⊥) → ((x : Exact) → k ≡ Operator x → ⊥)
+    → (k ≡ Comment → ⊥) → is_silent k ≡ false → TakesLineEnd text (not t.begun) t.offset old new → TakesLexeme text k own t old new
+end_takes text own LineEnd t old new name number string operator comment gives takes e is there = takes own e (as_end t.begun is) there
+  where
+    as_end : (b : Bool) → IsEntry text (kind_of LineEnd b) None own e → IsEntry text (line_end_kind (not b)) None own e
+    as_end true is = is
+    as_end false is = is
+end_takes text own Name t old new name number string operator comment gives takes e is there = absurd (name refl)
+end_takes text own Number t old new name number string operator comment gives takes e is there = absurd (number refl)
+end_takes text own String t old new name number string operator comment gives takes e is there = absurd (string refl)
+end_takes text own (Operator x) t old new name number string operator comment gives takes e is there = absurd (operator x refl)
+end_takes text own Comment t old new name number string operator comment gives takes e is there = absurd (comment refl)
+end_takes text own Blanks t old new name number string operator comment gives takes e is there = absurd cc
+end_takes text own Join t old new name number string operator comment gives takes e is there = absurd cc
