@@ -165,6 +165,11 @@ few_brackets p l g at =
     let counts = few (chars p.text) (take l.shown.given es) g.pass at.counts.pass in
     (omega (arith, counts.0, length-take l.shown.given es, at.few), omega (arith, counts.1, length-take l.shown.given es, at.few))
 
+pub few_levels : (p : Parts) (l : Listed) (g : LineGather) → StandsAt p l g → (g.indents < 2 ^ 63) × (g.dedents < 2 ^ 63)
+few_levels p l g at =
+    let size = length-take l.shown.given (entries_of (listing (in_characters p))) in
+    (omega (arith, at.counts.few_indents, size, at.few), omega (arith, at.counts.few_dedents, size, at.few))
+
 -- ---- A walk.
 
 pub walk_begins : (p : Parts) (levels left : List ℕ) (s : Spot) (g : LineGather) → IsUtf8 left → StandsAt p (at_spot p s levels) g → s.begun ≡ true → g.pass.begun ≡ true →
