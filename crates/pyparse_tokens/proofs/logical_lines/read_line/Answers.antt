@@ -1,20 +1,17 @@
 use Rattle.std.proofs.Common.{rules, ◌≡◌, ℕ, true, length, take, sym, ap, subst, ◌∙◌, arith, Option, Some, None}
 use Rattle.std.specs.Prelude.{IfErr, not, is_some}
 use Rattle.std.proofs.lemmas.Result.{IfOk-weaker}
-use Rattle.pysource.specs.Parts.{Parts}
 use Rattle.pylex.specs.declared.entries.Step.TheVariants as steps
 use Rattle.pylex.specs.Listing.{in_characters, listing}
 use Rattle.pylex.specs.Steps.{entries_of}
 use Rattle.pytoken.specs.declared.refusals.Refusal.{Refusal}
-use Rattle.pyparse_tokens.specs.declared.line_gather.LineGather.{LineGather}
 use Rattle.pyparse_tokens.specs.Answers.{Tells}
 use Rattle.pyparse_tokens.specs.Inner.Passing.{kept_refusal}
-use Rattle.pyparse_tokens.specs.Inner.Walking.{Reads}
 use Rattle.pyparse_tokens.specs.LineReadings.{lines_within, EndsAt}
 use Rattle.pyparse_tokens.proofs.ListingLemmas.{moved, at_stop}
 use Rattle.pyparse_tokens.proofs.EndLemmas.{ends_at}
 use Rattle.pyparse_tokens.proofs.PassLemmas.{all_refusals, refused_listing}
-use Rattle.pyparse_tokens.proofs.LineGatherLemmas.{Read, entry_read, all_lines}
+use Rattle.pyparse_tokens.proofs.LineGatherLemmas.{entry_read, all_lines}
 use Rattle.pyparse_tokens.proofs.WalkLemmas.{reads_begin, reads_on, reads_end, reads_cleared, few_brackets, few_levels}
 use Rattle.pyparse_tokens.proofs.logical_lines.read_line.Goals as goal
 

@@ -1,9 +1,9 @@
-use Rattle.std.proofs.Common.{◌≡◌, ◌≤◌, length, drop, true, false, refl, sym, ap, subst, ◌∙◌, arith}
+use Rattle.std.proofs.Common.{◌≤◌, length, drop, ap, subst, ◌∙◌}
 use Rattle.std.specs.Str.{IsUtf8}
 use Rattle.pysource.specs.Limits.{source_limit}
 use Rattle.pylex.specs.Spots.{at_spot}
 use Rattle.pylex.proofs.CallersOfSpots.{spot_boundary}
-use Rattle.pyparse_tokens.proofs.WalkLemmas.{few_brackets, walk_begins, walk_room, walk_steps, walk_on, walk_ends, walk_stops}
+use Rattle.pyparse_tokens.proofs.WalkLemmas.{few_brackets, walk_begins, walk_room, walk_steps, walk_on, walk_ends}
 use Rattle.pyparse_tokens.proofs.walks.walk.Goals as goal
 
 pub range_from-left-requires : goal.range_from-left-requires

@@ -1,5 +1,4 @@
-use Rattle.std.proofs.Common.{◌≡◌, true, false, refl, sym, ap, subst, ◌∙◌}
-use Rattle.pyparse_tokens.proofs.WalkLemmas.{stands_here, leads_there, gone_within, gone_ended, gone_given, reads_cleared}
+use Rattle.pyparse_tokens.proofs.WalkLemmas.{stands_here, leads_there}
 use Rattle.pyparse_tokens.proofs.walks.walk_line.Goals as goal
 
 pub walk-requires-clause-at : goal.walk-requires-clause-at

@@ -1,5 +1,4 @@
 use Rattle.std.specs.Str.{chars}
-use Rattle.std.proofs.Common.{refl}
 use Rattle.pyparse_tokens.proofs.TakingLemmas.{end_takes}
 use Rattle.pyparse_tokens.proofs.line_gather.LineGather.take_lexeme.Goals as goal
 
