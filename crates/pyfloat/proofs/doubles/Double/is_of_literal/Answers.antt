@@ -1,6 +1,5 @@
-use Rattle.std.proofs.Common.{◌≡◌, Bool, true, ◌&&◌, leb, refl, sym, ap, ◌∙◌}
+use Rattle.std.proofs.Common.{Bool, ◌&&◌, sym, ap, ◌∙◌}
 use Rattle.std.proofs.lemmas.Bool.{le-leb}
-use Rattle.std.specs.Float.Ieee.{binary64, fits}
 use Rattle.pyfloat.specs.Laws.{is_unsigned}
 use Rattle.pyfloat.proofs.Lawful.{double_is}
 use Rattle.pyfloat.proofs.doubles.Double.is_of_literal.Goals as goal
