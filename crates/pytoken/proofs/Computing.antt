@@ -36,7 +36,7 @@ unfolding written most_digits round scan_numeral float_value
 number_words = tt
 
 unfoldable pub values : Unit {0}
-unfolding lexemes unicode_normalization keywords keyword_of whole_value number_value number_fault number_words escaped_by meanings points_of value_of string_value nul_fault
+unfolding lexemes encode unicode_normalization keywords keyword_of whole_value number_value number_fault number_words escaped_by meanings points_of value_of string_value nul_fault
     escape_fault literal_fault string_fault form_fault name_fault terminal_of fault_of
 values = tt
 

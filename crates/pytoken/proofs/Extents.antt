@@ -142,11 +142,9 @@ extents_differ_in_numbers s =
     let whole = refusal_of Whole most_brackets s.text es in
     let later = option_or (first_too_deep most_brackets [] es) (first_mixed [] (margins s.text es)) in
     let plain_entries = first_entry_refusal Plain s.text es in
-    let whole_entries = first_entry_refusal Whole s.text es in
-    (
+    let whole_entries = first_entry_refusal Whole s.text es in (
       λ none.
-          let parts = none_parts plain_entries later (not_refused fault plain none) in
-          (
+          let parts = none_parts plain_entries later (not_refused fault plain none) in (
             as_refused fault plain whole none (none_from whole_entries later (also_whole s.text es parts.0) parts.1),
             tokens_faultless s.text [] es parts.0,
           ),
