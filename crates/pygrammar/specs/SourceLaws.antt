@@ -2,8 +2,10 @@
 use Rattle.std.specs.Prelude.{◌≡◌, ◌⊎◌, ◌↔◌, ℕ, ◌<◌, true, List, [], length, Contains}
 use Rattle.pysource.specs.declared.places.Place.{Place}
 use Rattle.pylex.specs.Listing.{Source}
+use Rattle.pytree_node.specs.declared.profiles.Extent.{Extent}
 use Rattle.pytree_node.specs.declared.profiles.Profile.{Profile}
-use Rattle.pytree_node.specs.declared.profiles.Profile.TheVariants.{Py311, Py312}
+use Rattle.pytree_node.specs.declared.profiles.Version.TheVariants.{Py311, Py312}
+use Rattle.pytree_node.specs.Profiles.{python}
 use Rattle.pytree_node.specs.Trees.{Stmt, Module}
 use Rattle.pytree_height.specs.Heights.{statement_height}
 use Rattle.pytoken.specs.Tokens.{lines}
@@ -19,9 +21,10 @@ use Rattle.pygrammar.specs.Refusals.{Code, Reason, at, HasNone, Formed, FirstDee
 abbrev pub FormsAreUnique : Type 0
 FormsAreUnique = (profile : Profile) (ts : List Terminal) (f g : Form) → FormOf profile ts f → FormOf profile ts g → f ≡ g
 
--- the forms of Python 3.11 are those of 3.12 without types
+-- in either extent the forms of Python 3.11 are those of 3.12 without types
 abbrev pub TypesAreNew : Type 0
-TypesAreNew = (ts : List Terminal) (f : Form) → FormOf Py311 ts f ↔ (FormOf Py312 ts f × (untyped f ≡ true))
+TypesAreNew = (extent : Extent) (ts : List Terminal) (f : Form) →
+    FormOf (python Py311 extent) ts f ↔ (FormOf (python Py312 extent) ts f × (untyped f ≡ true))
 
 -- the laws of the forms of a line
 pub record FormsAreLawful : Type 0 where
@@ -59,13 +62,14 @@ ModulesAreUnique = (profile : Profile) (s : Source) (a b : Module) → Accepted 
 abbrev pub RefusedHaveNoModule : Type 0
 RefusedHaveNoModule = (profile : Profile) (s : Source) (m : Module) (r : Reason) → Accepted profile s m → Refused profile s r → ⊥
 
--- a source of Python 3.11 is one of 3.12, with the same tree
+-- in either extent a source of Python 3.11 is one of 3.12, with the same tree
 abbrev pub ModulesStay : Type 0
-ModulesStay = (s : Source) (m : Module) → Accepted Py311 s m → Accepted Py312 s m
+ModulesStay = (extent : Extent) (s : Source) (m : Module) → Accepted (python Py311 extent) s m → Accepted (python Py312 extent) s m
 
 -- and the sources of 3.11 are those of 3.12 whose trees have no types
 abbrev pub ModulesReturn : Type 0
-ModulesReturn = (s : Source) (m : Module) → Accepted Py311 s m ↔ (Accepted Py312 s m × (is_module_untyped m ≡ true))
+ModulesReturn = (extent : Extent) (s : Source) (m : Module) →
+    Accepted (python Py311 extent) s m ↔ (Accepted (python Py312 extent) s m × (is_module_untyped m ≡ true))
 
 -- each source is accepted or refused
 abbrev pub SourcesAreAnswered : Type 0

@@ -4,7 +4,7 @@
 //! that are escaped, and "Bytes Objects" of the built-in types. Categories are those of Unicode 18.
 
 ghost use Rattle.std.specs.Prelude.{◌≡◌, ◌≤◌, ◌<◌, ◌+◌, ◌++◌, [], ◌∷◌, IfOk, IsUtf8, OnOk, true};
-ghost use Rattle.std.specs.Prelude.{length, All, if◌then◌else◌};
+ghost use Rattle.std.specs.Prelude.{length, take, All, if◌then◌else◌, vec_capacity, vec_len};
 ghost use Rattle.std.specs.List.{list_all, prefix_len};
 ghost use Rattle.std.specs.Str.{chars, encode_utf8_all};
 ghost use Rattle.std.specs.Io.{StartsWith};
@@ -13,6 +13,7 @@ ghost use Rattle.pysource.specs.Reprs.{hex, escaped, hex_escape, quote_for, repr
 ghost use Rattle.pysource.specs.Reprs.{is_plain, is_unprintable, is_unprintable_byte};
 
 use std::alloc::{AllocError, Global};
+use std::mem::{forget, replace, try_take};
 use unicode::properties::{GeneralCategory, GeneralCategoryGroup};
 
 /// Appends the last `width` digits of a number in base 16, in lower case.
@@ -195,18 +196,79 @@ pub fn repr_text(alloc: Global, points: &[u32]) -> Result<String, AllocError>
 /// own: what [`repr_text`] gives. A number past 10FFFF is no code point, and is escaped as one
 /// that is unprintable. Where the output can't grow, it keeps what it had, and may have taken a
 /// front of that.
-#[tactic(auto, using(crate::proofs::Printing::ReprsLemmas::more_encoded, crate::proofs::Printing::ReprsLemmas::kept_front))]
+#[tactic(auto, using(crate::proofs::Printing::ReprsLemmas::kept_front))]
 pub fn push_repr_points(out: &mut String, points: &[u32]) -> Result<(), AllocError>
     ensures ok { OnOk result (string_bytes out.new ≡ string_bytes out.old ++ repr_text points.now) }
     ensures kept { StartsWith (string_bytes out.new) (string_bytes out.old) }
 {
     let quote = quote_of_points(points);
     out.push(char::from(quote))?;
-    for point in points {
-        push_point(out, quote, *point)?;
+    let mut rest = points;
+    // Runs of plain code points are appended at once, and only what stands between them by itself.
+    'runs: loop {
+        let count = push_plain_points(out, rest)?;
+        let (_, tail) = rest.split_at(count);
+        match tail.split_first() {
+            None => break 'runs,
+            Some((point, behind)) => {
+                push_point(out, quote, *point)?;
+                rest = behind;
+            }
+        }
     }
     out.push(char::from(quote))?;
     Ok(())
+}
+
+/// Appends the longest front of some code points that stands for itself between quotes, and tells
+/// how long it is.
+fn push_plain_points(out: &mut String, points: &[u32]) -> Result<usize, AllocError>
+    ensures within { IfOk result (λ n. n ≤ length points.now) }
+    ensures plain { IfOk result (λ n. list_all is_plain (take n points.now) ≡ true) }
+    ensures ok { IfOk result
+        (λ n. string_bytes out.new ≡ string_bytes out.old ++ take n points.now) }
+    ensures kept { StartsWith (string_bytes out.new) (string_bytes out.old) }
+{
+    // Nothing is made ready where there is no run, as between two letters that aren't ASCII.
+    if points.is_empty() || !is_plain_point(points[0]) {
+        return Ok(0);
+    }
+    out.reserve(points.len())?;
+    // Taken out and put back, so that a byte is written without a call.
+    let mut bytes = try_take(out)?.into_bytes();
+    let n = fill_plain(&mut bytes, points);
+    forget(replace(out, unsafe { String::from_utf8_unchecked(bytes) }));
+    Ok(n)
+}
+
+/// Appends the longest front of some code points that stands for itself between quotes to bytes
+/// that have room for all, and tells how long it is.
+#[inline(always)]
+fn fill_plain(bytes: &mut Vec<u8>, points: &[u32]) -> usize
+    requires { vec_len bytes.old + length points.now ≤ vec_capacity bytes.old }
+    ensures within { result ≤ length points.now }
+    ensures plain { list_all is_plain (take result points.now) ≡ true }
+    ensures items { bytes.new.items ≡ bytes.old.items ++ take result points.now }
+{
+    let mut count = 0;
+    while count < points.len() {
+        let point = points[count];
+        if !is_plain_point(point) {
+            break;
+        }
+        bytes.push_reserved(point as u8);
+        count += 1;
+    }
+    count
+}
+
+/// Whether a code point stands for itself between quotes of either kind.
+#[inline(always)]
+fn is_plain_point(point: u32) -> bool
+    ensures value { result ≡ is_plain point }
+    ensures ascii { result ≡ true → point < 128 }
+{
+    point >= 0x20 && point <= 0x7E && point != 0x27 && point != 0x22 && point != 0x5C
 }
 
 /// Whether a byte stands for itself between quotes of either kind.

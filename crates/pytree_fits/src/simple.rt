@@ -18,7 +18,7 @@ use crate::names::is_name;
 use crate::places::{is_a_name, is_single};
 use crate::targets::{target_fits, targets_fit};
 use pygrammar::Level;
-use pytree_node::{Context, Expr, Identifier, Profile, TypeParam};
+use pytree_node::{Context, Expr, Identifier, Profile, TypeParam, Version};
 use std::alloc::{AllocError, Global};
 
 /// Whether an expression that may be absent fits a level.
@@ -143,9 +143,9 @@ pub(crate) fn raise_fits(
 pub(crate) fn has_types(profile: Profile) -> bool
     ensures { result ≡ has_types profile }
 {
-    match profile {
-        Profile::Py311 => false,
-        Profile::Py312 => true,
+    match profile.version {
+        Version::Py311 => false,
+        Version::Py312 => true,
     }
 }
 

@@ -1,12 +1,13 @@
 -- No source has two trees, none is both accepted and refused, and what is accepted
--- stays so in Python 3.12.
+-- stays so in Python 3.12, in the same extent.
 --
 -- Carries: answer_stays, one_formed, unread_formed, unread_none and 2 more, for Reasons, SourceLaw,
 -- Types. On: Law, Line/Law, Stays, Leads.
 use Rattle.std.proofs.Common.{◌≡◌, ℕ, List, ◌∷◌, refl, ap, ◌∙◌, subst, arith}
 use Rattle.pylex.specs.Listing.{Source}
 use Rattle.pytree_node.specs.declared.profiles.Profile.{Profile}
-use Rattle.pytree_node.specs.declared.profiles.Profile.TheVariants.{Py312}
+use Rattle.pytree_node.specs.declared.profiles.Version.TheVariants.{Py312}
+use Rattle.pytree_node.specs.Profiles.{python}
 use Rattle.pytree_node.specs.Trees.{Stmt, Module}
 use Rattle.pytree_height.specs.Heights.{statement_height}
 use Rattle.pytoken.specs.Tokens as Tokens
@@ -59,9 +60,9 @@ never_both {m = m} p (by_height {m = o} c q b n d w) =
     let a : statement_height m ≡ statement_height o = ap statement_height (ap module_of e) in
     let l = p.low in omega arith
 
-formed_stays : {profile : Profile} {xs : List Tokens.Line} {ys : List Line} → Formed profile xs ys → Formed Py312 xs ys
+formed_stays : {profile : Profile} {xs : List Tokens.Line} {ys : List Line} → Formed profile xs ys → Formed (python Py312 profile.extent) xs ys
 formed_stays formed_end = formed_end
 formed_stays (formed_line p q) = formed_line (record { is = form_stays p.is; low = p.low }) (formed_stays q)
 
-pub answer_stays : {profile : Profile} {s : Source} {m : Module} → Accepted profile s m → Accepted Py312 s m
+pub answer_stays : {profile : Profile} {s : Source} {m : Module} → Accepted profile s m → Accepted (python Py312 profile.extent) s m
 answer_stays p = record { clear = p.clear; forms = p.forms; formed = formed_stays p.formed; block = p.block; low = p.low }

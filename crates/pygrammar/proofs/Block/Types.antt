@@ -4,8 +4,10 @@
 -- Carries: old_has_no_types, for SourceLaw. On: Stays, Answer.
 use Rattle.std.proofs.Common.{◌≡◌, ◌↔◌, ℕ, List, [], ◌∷◌, ◌++◌, Option, Some, None, Bool, true, false, not, ◌&&◌, refl, sym, ap, ◌∙◌}
 use Rattle.pylex.specs.Listing.{Source}
+use Rattle.pytree_node.specs.declared.profiles.Extent.{Extent}
 use Rattle.pytree_node.specs.declared.profiles.Profile.{Profile}
-use Rattle.pytree_node.specs.declared.profiles.Profile.TheVariants.{Py311, Py312}
+use Rattle.pytree_node.specs.declared.profiles.Version.TheVariants.{Py311, Py312}
+use Rattle.pytree_node.specs.Profiles.{python}
 use Rattle.pytree_node.specs.Trees.{Expr, Stmt, Handler, Item, Module, stmts, handlers}
 use Rattle.pytoken.specs.Terminals.{Terminal}
 use Rattle.pytoken.specs.Tokens as Tokens
@@ -169,17 +171,17 @@ and_parts false b h = absurd cc
 and_from : (a b : Bool) → a ≡ true → b ≡ true → a && b ≡ true
 and_from a b p q = ap (λ z. z && b) p ∙ q
 
-formed_untyped : {xs : List Tokens.Line} {ys : List Line} → Formed Py311 xs ys → are_lines_untyped ys ≡ true
+formed_untyped : {extent : Extent} {xs : List Tokens.Line} {ys : List Line} → Formed (python Py311 extent) xs ys → are_lines_untyped ys ≡ true
 formed_untyped formed_end = refl
-formed_untyped (formed_line {f = f} h p) = and_from (untyped f) _ ((old_is_untyped _ f).0 h.is).1 (formed_untyped p)
+formed_untyped (formed_line {f = f} h p) = and_from (untyped f) _ ((old_is_untyped _ _ f).0 h.is).1 (formed_untyped p)
 
-formed_returns : {xs : List Tokens.Line} {ys : List Line} → Formed Py312 xs ys → are_lines_untyped ys ≡ true → Formed Py311 xs ys
+formed_returns : {extent : Extent} {xs : List Tokens.Line} {ys : List Line} → Formed (python Py312 extent) xs ys → are_lines_untyped ys ≡ true → Formed (python Py311 extent) xs ys
 formed_returns formed_end e = formed_end
 formed_returns (formed_line {f = f} h p) e =
-    let g = and_parts (untyped f) _ e in formed_line (record { is = (old_is_untyped _ f).1 (h.is, g.0); low = h.low }) (formed_returns p g.1)
+    let g = and_parts (untyped f) _ e in formed_line (record { is = (old_is_untyped _ _ f).1 (h.is, g.0); low = h.low }) (formed_returns p g.1)
 
-pub old_has_no_types : (s : Source) (m : Module) → Accepted Py311 s m ↔ (Accepted Py312 s m × (is_module_untyped m ≡ true))
-old_has_no_types s m = (
+pub old_has_no_types : (extent : Extent) (s : Source) (m : Module) → Accepted (python Py311 extent) s m ↔ (Accepted (python Py312 extent) s m × (is_module_untyped m ≡ true))
+old_has_no_types extent s m = (
   λ p. (answer_stays p, sym (block_untyped p.block (formed_plain p.formed)) ∙ formed_untyped p.formed),
   λ q.
       let p = q.0 in

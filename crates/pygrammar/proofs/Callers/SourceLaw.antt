@@ -27,7 +27,7 @@ pub answers_are_lawful : AnswersAreLawful
 answers_are_lawful = record {
   unique = λ profile s a b p q. one_answer p q;
   apart = λ profile s m r p q. never_both p q;
-  stays = λ s m p. answer_stays p;
+  stays = λ extent s m p. answer_stays p;
   new = old_has_no_types;
   total = answered;
   one = λ profile s r q a b. one_reason a b;

@@ -7,7 +7,7 @@ use Rattle.pylex_lexeme.specs.declared.kinds.Exact.TheVariants as Sign
 use Rattle.pytoken.specs.declared.keywords.Keyword.TheVariants as Key
 use Rattle.pytree_node.specs.declared.operators.Operator.TheVariants as Bin
 use Rattle.pytree_node.specs.declared.operators.Context.TheVariants.{Load, Store}
-use Rattle.pytree_node.specs.declared.profiles.Profile.TheVariants.{Py311}
+use Rattle.pytree_node.specs.Profiles.{plain_311 as Py311}
 use Rattle.pytree_node.specs.Trees as Trees
 use Rattle.pytree_node.specs.Values as Values
 use Rattle.pytoken.specs.Terminals.{Op, Word, in_form, Whole}

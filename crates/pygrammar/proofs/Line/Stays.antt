@@ -1,20 +1,23 @@
--- The forms of every version are forms of Python 3.12; those without types are forms of 3.11.
+-- The forms of every version are forms of Python 3.12 in the same extent; those without types are
+-- forms of 3.11.
 --
 -- Carries: old_is_untyped, form_stays, for Answer, Block/Types, SourceLaw.
 use Rattle.std.proofs.Common.{◌≡◌, ◌↔◌, refl, ap, ◌∙◌, List, Bool, true, false}
 use Rattle.std.specs.Prelude.{not, ◌&&◌}
+use Rattle.pytree_node.specs.declared.profiles.Extent.{Extent}
 use Rattle.pytree_node.specs.declared.profiles.Profile.{Profile}
-use Rattle.pytree_node.specs.declared.profiles.Profile.TheVariants.{Py311, Py312}
+use Rattle.pytree_node.specs.declared.profiles.Version.TheVariants.{Py311, Py312}
+use Rattle.pytree_node.specs.Profiles.{python}
 use Rattle.pytree_node.specs.Trees.{Stmt, TypeParam}
 use Rattle.pytoken.specs.Terminals.{Terminal}
 use Rattle.pygrammar.specs.Lines.{Form, Header, no_types, is_alias, untyped_statements, untyped_header, untyped}
 use Rattle.pygrammar.specs.Forms as F
 
-type_params_stay : {profile : Profile} {ts : List Terminal} {ps : List TypeParam} → F.TypeParams profile ts ps → F.TypeParams Py312 ts ps
+type_params_stay : {profile : Profile} {ts : List Terminal} {ps : List TypeParam} → F.TypeParams profile ts ps → F.TypeParams (python Py312 profile.extent) ts ps
 type_params_stay F.no_type_params = F.no_type_params
 type_params_stay (F.type_params h c) = F.type_params refl c
 
-simple_stays : {profile : Profile} {ts : List Terminal} {s : Stmt} → F.Simple profile ts s → F.Simple Py312 ts s
+simple_stays : {profile : Profile} {ts : List Terminal} {s : Stmt} → F.Simple profile ts s → F.Simple (python Py312 profile.extent) ts s
 simple_stays (F.value p) = F.value p
 simple_stays (F.assign c p) = F.assign c p
 simple_stays (F.augmented_assign x p q v) = F.augmented_assign x p q v
@@ -36,12 +39,12 @@ simple_stays (F.import_names c) = F.import_names c
 simple_stays (F.from_module d p q) = F.from_module d p q
 simple_stays (F.from_dots d h q) = F.from_dots d h q
 
-simples_stay : {profile : Profile} {ts : List Terminal} {ss : List Stmt} → F.Simples profile ts ss → F.Simples Py312 ts ss
+simples_stay : {profile : Profile} {ts : List Terminal} {ss : List Stmt} → F.Simples profile ts ss → F.Simples (python Py312 profile.extent) ts ss
 simples_stay (F.last_simple p) = F.last_simple (simple_stays p)
 simples_stay (F.ended_simple p) = F.ended_simple (simple_stays p)
 simples_stay (F.more_simples p c) = F.more_simples (simple_stays p) (simples_stay c)
 
-header_stays : {profile : Profile} {ts : List Terminal} {h : Header} → F.HeaderOf profile ts h → F.HeaderOf Py312 ts h
+header_stays : {profile : Profile} {ts : List Terminal} {h : Header} → F.HeaderOf profile ts h → F.HeaderOf (python Py312 profile.extent) ts h
 header_stays (F.if_line p) = F.if_line p
 header_stays (F.elif_line p) = F.elif_line p
 header_stays F.else_line = F.else_line
@@ -56,35 +59,35 @@ header_stays (F.except_star p a) = F.except_star p a
 header_stays (F.def_line x a g c q k) = F.def_line x a (type_params_stay g) c q k
 header_stays (F.class_line g c) = F.class_line (type_params_stay g) c
 
-pub form_stays : {profile : Profile} {ts : List Terminal} {f : Form} → F.FormOf profile ts f → F.FormOf Py312 ts f
+pub form_stays : {profile : Profile} {ts : List Terminal} {f : Form} → F.FormOf profile ts f → F.FormOf (python Py312 profile.extent) ts f
 form_stays (F.simple_statements c) = F.simple_statements (simples_stay c)
 form_stays (F.decorator_line p) = F.decorator_line p
 form_stays (F.header_line p) = F.header_line (header_stays p)
 form_stays (F.header_suite p c) = F.header_suite (header_stays p) (simples_stay c)
 
 -- ---- In Python 3.11 no form has types.
-no_type_params : {ts : List Terminal} {ps : List TypeParam} → F.TypeParams Py311 ts ps → no_types ps ≡ true
+no_type_params : {extent : Extent} {ts : List Terminal} {ps : List TypeParam} → F.TypeParams (python Py311 extent) ts ps → no_types ps ≡ true
 no_type_params F.no_type_params = refl
 no_type_params (F.type_params h c) = absurd (cc)
 
-no_alias : {ts : List Terminal} {s : Stmt} → F.Simple Py311 ts s → is_alias s ≡ false
+no_alias : {extent : Extent} {ts : List Terminal} {s : Stmt} → F.Simple (python Py311 extent) ts s → is_alias s ≡ false
 no_alias (F.type_alias h c p) = absurd (cc)
 no_alias _ = refl
 
 both : (b c : Bool) → b ≡ true → c ≡ true → (b && c) ≡ true
 both b c h g = ap (λ z. z && c) h ∙ g
 
-no_aliases : {ts : List Terminal} {ss : List Stmt} → F.Simples Py311 ts ss → untyped_statements ss ≡ true
+no_aliases : {extent : Extent} {ts : List Terminal} {ss : List Stmt} → F.Simples (python Py311 extent) ts ss → untyped_statements ss ≡ true
 no_aliases (F.last_simple p) = both _ _ (ap not (no_alias p)) refl
 no_aliases (F.ended_simple p) = both _ _ (ap not (no_alias p)) refl
 no_aliases (F.more_simples p c) = both _ _ (ap not (no_alias p)) (no_aliases c)
 
-header_untyped : {ts : List Terminal} {h : Header} → F.HeaderOf Py311 ts h → untyped_header h ≡ true
+header_untyped : {extent : Extent} {ts : List Terminal} {h : Header} → F.HeaderOf (python Py311 extent) ts h → untyped_header h ≡ true
 header_untyped (F.def_line x a g c q k) = no_type_params g
 header_untyped (F.class_line g c) = no_type_params g
 header_untyped _ = refl
 
-form_untyped : {ts : List Terminal} {f : Form} → F.FormOf Py311 ts f → untyped f ≡ true
+form_untyped : {extent : Extent} {ts : List Terminal} {f : Form} → F.FormOf (python Py311 extent) ts f → untyped f ≡ true
 form_untyped (F.simple_statements c) = no_aliases c
 form_untyped (F.decorator_line p) = refl
 form_untyped (F.header_line p) = header_untyped p
@@ -107,12 +110,12 @@ filled : {ts : List Terminal} {ps : List TypeParam} → F.Commas TypeParam F.Typ
 filled (F.alone p) n = absurd (cc)
 filled (F.comma p c) n = absurd (cc)
 
-type_params_return : {ts : List Terminal} {ps : List TypeParam} → F.TypeParams Py312 ts ps → no_types ps ≡ true → F.TypeParams Py311 ts ps
+type_params_return : {extent : Extent} {ts : List Terminal} {ps : List TypeParam} → F.TypeParams (python Py312 extent) ts ps → no_types ps ≡ true → F.TypeParams (python Py311 extent) ts ps
 type_params_return F.no_type_params n = F.no_type_params
 type_params_return (F.type_params h (F.ends_bare c)) n = absurd (filled c n)
 type_params_return (F.type_params h (F.ends_comma c)) n = absurd (filled c n)
 
-simple_returns : {ts : List Terminal} {s : Stmt} → F.Simple Py312 ts s → is_alias s ≡ false → F.Simple Py311 ts s
+simple_returns : {extent : Extent} {ts : List Terminal} {s : Stmt} → F.Simple (python Py312 extent) ts s → is_alias s ≡ false → F.Simple (python Py311 extent) ts s
 simple_returns (F.value p) n = F.value p
 simple_returns (F.assign c p) n = F.assign c p
 simple_returns (F.augmented_assign x p q v) n = F.augmented_assign x p q v
@@ -134,13 +137,13 @@ simple_returns (F.import_names c) n = F.import_names c
 simple_returns (F.from_module d p q) n = F.from_module d p q
 simple_returns (F.from_dots d h q) n = F.from_dots d h q
 
-simples_return : {ts : List Terminal} {ss : List Stmt} → F.Simples Py312 ts ss → untyped_statements ss ≡ true → F.Simples Py311 ts ss
+simples_return : {extent : Extent} {ts : List Terminal} {ss : List Stmt} → F.Simples (python Py312 extent) ts ss → untyped_statements ss ≡ true → F.Simples (python Py311 extent) ts ss
 simples_return (F.last_simple {s = s} p) n = F.last_simple (simple_returns p (none (is_alias s) (first (not (is_alias s)) true n)))
 simples_return (F.ended_simple {s = s} p) n = F.ended_simple (simple_returns p (none (is_alias s) (first (not (is_alias s)) true n)))
 simples_return (F.more_simples {s = s} {ss = ss} p c) n =
     F.more_simples (simple_returns p (none (is_alias s) (first (not (is_alias s)) (untyped_statements ss) n))) (simples_return c (second (not (is_alias s)) (untyped_statements ss) n))
 
-header_returns : {ts : List Terminal} {h : Header} → F.HeaderOf Py312 ts h → untyped_header h ≡ true → F.HeaderOf Py311 ts h
+header_returns : {extent : Extent} {ts : List Terminal} {h : Header} → F.HeaderOf (python Py312 extent) ts h → untyped_header h ≡ true → F.HeaderOf (python Py311 extent) ts h
 header_returns (F.if_line p) n = F.if_line p
 header_returns (F.elif_line p) n = F.elif_line p
 header_returns F.else_line n = F.else_line
@@ -155,12 +158,12 @@ header_returns (F.except_star p a) n = F.except_star p a
 header_returns (F.def_line x a g c q k) n = F.def_line x a (type_params_return g n) c q k
 header_returns (F.class_line g c) n = F.class_line (type_params_return g n) c
 
-form_returns : {ts : List Terminal} {f : Form} → F.FormOf Py312 ts f → untyped f ≡ true → F.FormOf Py311 ts f
+form_returns : {extent : Extent} {ts : List Terminal} {f : Form} → F.FormOf (python Py312 extent) ts f → untyped f ≡ true → F.FormOf (python Py311 extent) ts f
 form_returns (F.simple_statements c) n = F.simple_statements (simples_return c n)
 form_returns (F.decorator_line p) n = F.decorator_line p
 form_returns (F.header_line p) n = F.header_line (header_returns p n)
 form_returns (F.header_suite {h = h} {ss = ss} p c) n =
     F.header_suite (header_returns p (first (untyped_header h) (untyped_statements ss) n)) (simples_return c (second (untyped_header h) (untyped_statements ss) n))
 
-pub old_is_untyped : (ts : List Terminal) (f : Form) → F.FormOf Py311 ts f ↔ (F.FormOf Py312 ts f × (untyped f ≡ true))
-old_is_untyped ts f = (λ p. (form_stays p, form_untyped p), λ q. form_returns q.0 q.1)
+pub old_is_untyped : (extent : Extent) (ts : List Terminal) (f : Form) → F.FormOf (python Py311 extent) ts f ↔ (F.FormOf (python Py312 extent) ts f × (untyped f ≡ true))
+old_is_untyped extent ts f = (λ p. (form_stays p, form_untyped p), λ q. form_returns q.0 q.1)

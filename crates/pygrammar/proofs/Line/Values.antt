@@ -2,14 +2,14 @@
 --
 -- Carries: expression_goes, assign_goes, augmented_goes, name_annotated_goes and 2 more, for
 -- Simple. On: Tools, LookLemmas, LevelLemmas, Says.
-use Rattle.std.proofs.Common.{◌≡◌, refl, sym, ap, ◌∙◌, ℕ, zero, suc, ◌≤◌, ◌<◌, arith, List, [], ◌∷◌, ◌++◌, length, Option, Some, None, Bool, true, false, append_assoc, length-append}
+use Rattle.std.proofs.Common.{◌≡◌, refl, sym, ap, ◌∙◌, ℕ, zero, suc, ◌≤◌, ◌<◌, arith, List, [], ◌∷◌, ◌++◌, length, Option, Some, None, Bool, true, false, cond, append_assoc, length-append}
 use Rattle.pylex_lexeme.specs.declared.kinds.Exact.{Exact}
 use Rattle.pylex_lexeme.specs.declared.kinds.Exact.TheVariants as Sign
 use Rattle.pytoken.specs.declared.keywords.Keyword.TheVariants as Key
 use Rattle.pytree_node.specs.declared.operators.Operator.{Operator}
 use Rattle.pytree_node.specs.declared.operators.Context.TheVariants.{Load, Store}
 use Rattle.pytree_node.specs.declared.profiles.Profile.{Profile}
-use Rattle.pytree_node.specs.declared.profiles.Profile.TheVariants.{Py311, Py312}
+use Rattle.pytree_node.specs.Profiles.{has_types}
 use Rattle.pygrammar.specs.declared.levels.Level.TheVariants.{Value, Stars, Expression, Or, Primary}
 use Rattle.pytree_node.specs.Trees.{Expr, Identifier, Assign, AugAssign, AnnAssign, ExprOf}
 use Rattle.pytree_node.specs.Trees as Trees
@@ -58,19 +58,26 @@ name_ends x (Whole _ ∷ s) r e h m = refl
 name_ends x (Literal _ ∷ s) r e h m = refl
 name_ends x (Layout ∷ s) r e h m = refl
 
-no_type : {A : Type 0} (profile : Profile) (i r : List Terminal) (e : Expr) → plain Value i ≡ Found e r → peek name_in r ≡ None → (hit : Identifier → List Terminal → Answer A) (miss : Answer A) → on_type profile i hit miss ≡ miss
-no_type Py311 i r e h m hit miss = refl
-no_type Py312 [] r e h m hit miss = refl
-no_type Py312 (Ident x ∷ s) r e h m hit miss = ap (λ z. on_some (is_type (Ident x)) (λ _. z) miss) (missed name_in s hit miss (name_ends x s r e h m)) ∙ either (is_type (Ident x))
+-- so no statement `type` begins where an expression does
+no_word : {A : Type 0} (i r : List Terminal) (e : Expr) → plain Value i ≡ Found e r → peek name_in r ≡ None → (hit : Identifier → List Terminal → Answer A) (miss : Answer A) → on_first is_type i (λ _ s. on_first name_in s hit miss) miss ≡ miss
+no_word [] r e h m hit miss = refl
+no_word (Ident x ∷ s) r e h m hit miss = ap (λ z. on_some (is_type (Ident x)) (λ _. z) miss) (missed name_in s hit miss (name_ends x s r e h m)) ∙ either (is_type (Ident x))
   where
     either : (o : Option ℕ) → on_some o (λ _. miss) miss ≡ miss
     either (Some n) = refl
     either None = refl
-no_type Py312 (Op _ ∷ s) r e h m hit miss = refl
-no_type Py312 (Word _ ∷ s) r e h m hit miss = refl
-no_type Py312 (Whole _ ∷ s) r e h m hit miss = refl
-no_type Py312 (Literal _ ∷ s) r e h m hit miss = refl
-no_type Py312 (Layout ∷ s) r e h m hit miss = refl
+no_word (Op _ ∷ s) r e h m hit miss = refl
+no_word (Word _ ∷ s) r e h m hit miss = refl
+no_word (Whole _ ∷ s) r e h m hit miss = refl
+no_word (Literal _ ∷ s) r e h m hit miss = refl
+no_word (Layout ∷ s) r e h m hit miss = refl
+
+no_type : {A : Type 0} (profile : Profile) (i r : List Terminal) (e : Expr) → plain Value i ≡ Found e r → peek name_in r ≡ None → (hit : Identifier → List Terminal → Answer A) (miss : Answer A) → on_type profile i hit miss ≡ miss
+no_type profile i r e h m hit miss = either (has_types profile)
+  where
+    either : (b : Bool) → cond b (on_first is_type i (λ _ s. on_first name_in s hit miss) miss) miss ≡ miss
+    either true = no_word i r e h m hit miss
+    either false = refl
 
 pub by_value : (profile : Profile) (ts r s : List Terminal) (e : Expr) → 0 < lead_of ts → plain Value (ts ++ r) ≡ Found e s → peek name_in s ≡ None → statement profile plain (ts ++ r) ≡ value_statement plain (ts ++ r)
 by_value profile [] r s e h g m = absurd (omega (arith, h))

@@ -4,7 +4,7 @@
 use Rattle.std.proofs.Common.{◌≡◌, refl, ℕ, ◌+◌, List, [], ◌∷◌, zero, suc}
 use Rattle.pylex_lexeme.specs.declared.kinds.Exact.TheVariants.{Minus, Dot, Comma, Colon, Equal, Semi, At, LPar, RPar, LSqb, RSqb}
 use Rattle.pytoken.specs.declared.keywords.Keyword.TheVariants as Key
-use Rattle.pytree_node.specs.declared.profiles.Profile.TheVariants.{Py311, Py312}
+use Rattle.pytree_node.specs.Profiles.{plain_311 as Py311, plain_312 as Py312}
 use Rattle.pytoken.specs.Terminals.{Terminal, Op, Word, in_form}
 use Rattle.pygrammar.specs.Reader.{Answer, Found, NoForm, TooDeep}
 use Rattle.pygrammar.specs.Lines.{Form}

@@ -1,6 +1,6 @@
 -- The repr of a text, from its bytes and its characters.
 --
--- Carries: is_plain_text, push_escaped, push_plain, split_plain. On: Categories.
+-- Carries: is_plain_text, push_escaped, push_plain, push_plain_points, push_repr_points, split_plain. On: Categories, ReprsLemmas.
 use Rattle.std.proofs.Common.{◌≡◌, ℕ, suc, ◌+◌, ◌-◌, ◌<◌, Bool, nat_le, leb-true, true, false, List, [], ◌∷◌, ◌++◌, get_or, length, take, refl, sym, subst, ap, ap₂, ◌∙◌, arith, inl, inr, append-nil, length-append}
 use Rattle.std.specs.Prelude.{◌==◌, ◌||◌, not, ◌&&◌, IsUtf8, All, if◌then◌else◌}
 use Rattle.std.specs.List.{list_all, list_any, prefix_len, flat_map}
@@ -18,6 +18,7 @@ use Rattle.std.proofs.lemmas.List.Sums.{prefix_len-le-length, prefix_len_passes}
 use Rattle.std.proofs.lemmas.Grind.{flat_map-append}
 use Rattle.pysource.specs.Reprs.{escaped, is_plain, is_unprintable, quote_for, repr_text}
 use Rattle.pysource.proofs.Printing.Categories.{printable_ascii}
+use Rattle.pysource.proofs.Printing.ReprsLemmas.{end_encoded}
 
 abbrev pub has : ℕ → List ℕ → Bool
 has b xs = list_any (λ x. x == b) xs
@@ -54,7 +55,7 @@ plain_below b plain =
     let high = leb-true b 126 (and_parts (nat_le 32 b) (nat_le b 126) (and_parts (nat_le 32 b && nat_le b 126) _ plain).0).1 in
     omega (arith, high)
 
-plain_ascii : (bs : List ℕ) → list_all is_plain bs ≡ true → IsAscii bs
+pub plain_ascii : (bs : List ℕ) → list_all is_plain bs ≡ true → IsAscii bs
 plain_ascii [] plain = IsAscii-nil
 plain_ascii (b ∷ bs) plain =
     let parts = and_parts (is_plain b) (list_all is_plain bs) plain in
@@ -80,20 +81,26 @@ plain_all q (b ∷ bs) quote plain =
     let parts = and_parts (is_plain b) (list_all is_plain bs) plain in
     ap₂ (λ (x y : List ℕ). x ++ y) (plain_escaped q b quote parts.0) (plain_all q bs quote parts.1)
 
--- what stands between the quotes q for a text
+-- what stands between the quotes q for some code points, and for a text
+abbrev pub between : ℕ → List ℕ → List ℕ
+between q points = encode_utf8_all (flat_map (escaped is_unprintable q) points)
+
 abbrev pub inner : ℕ → List ℕ → List ℕ
-inner q bs = encode_utf8_all (flat_map (escaped is_unprintable q) (chars bs))
+inner q bs = between q (chars bs)
+
+plain_between : (q : ℕ) (plain tail : List ℕ) → is_plain q ≡ false → list_all is_plain plain ≡ true → between q (plain ++ tail) ≡ plain ++ between q tail
+plain_between q plain tail quote passes =
+    let f = escaped is_unprintable q in
+    ap encode_utf8_all (flat_map-append f plain tail)
+    ∙ encodes-append (flat_map f plain) (flat_map f tail)
+    ∙ ap (λ (bs : List ℕ). encode_utf8_all bs ++ between q tail) (plain_all q plain quote passes)
+    ∙ ap (λ (bs : List ℕ). bs ++ between q tail) (encodes-IsAscii plain (plain_ascii plain passes))
 
 plain_front : (q : ℕ) (plain tail : List ℕ) → is_plain q ≡ false → list_all is_plain plain ≡ true → inner q (plain ++ tail) ≡ plain ++ inner q tail
 plain_front q plain tail quote passes =
-    let f = escaped is_unprintable q in
     let ascii = plain_ascii plain passes in
-    let parts = chars-append plain tail (IsUtf8-from_ascii plain ascii) in
-    ap (λ (cs : List ℕ). encode_utf8_all (flat_map f cs)) parts
-    ∙ ap encode_utf8_all (flat_map-append f (chars plain) (chars tail))
-    ∙ encodes-append (flat_map f (chars plain)) (flat_map f (chars tail))
-    ∙ ap (λ (bs : List ℕ). encode_utf8_all bs ++ inner q tail) (ap (flat_map f) (chars-IsAscii plain ascii) ∙ plain_all q plain quote passes)
-    ∙ ap (λ (bs : List ℕ). bs ++ inner q tail) (encodes-IsAscii plain ascii)
+    ap (between q) (chars-append plain tail (IsUtf8-from_ascii plain ascii) ∙ ap (λ (cs : List ℕ). cs ++ chars tail) (chars-IsAscii plain ascii))
+    ∙ plain_between q plain (chars tail) quote passes
 
 -- neither quote is plain
 pub quote_not_plain : (cs : List ℕ) → is_plain (quote_for cs) ≡ false
@@ -116,6 +123,20 @@ plain_pushed q cs text plain tail out new whole quote cut passes so_far grown =
     let not_plain : is_plain q ≡ false = ap is_plain quote ∙ quote_not_plain cs in
     moved out new plain (inner q text) (inner q tail) whole so_far (ap (inner q) cut ∙ plain_front q plain tail not_plain passes) grown
 
+-- the same of code points
+pub plain_points_pushed : (q : ℕ) (cs points plain tail out new whole : List ℕ) → q ≡ quote_for cs → points ≡ plain ++ tail → list_all is_plain plain ≡ true
+    → out ++ between q points ≡ whole → new ≡ out ++ plain → new ++ between q tail ≡ whole
+plain_points_pushed q cs points plain tail out new whole quote cut passes so_far grown =
+    let not_plain : is_plain q ≡ false = ap is_plain quote ∙ quote_not_plain cs in
+    moved out new plain (between q points) (between q tail) whole so_far (ap (between q) cut ∙ plain_between q plain tail not_plain passes) grown
+
+-- what stands for one code point was appended
+pub point_pushed : (q c : ℕ) (points rest out new whole : List ℕ) → points ≡ c ∷ rest
+    → out ++ between q points ≡ whole → new ≡ out ++ encode_utf8_all (escaped is_unprintable q c) → new ++ between q rest ≡ whole
+point_pushed q c points rest out new whole cut so_far grown =
+    let f = escaped is_unprintable q in
+    moved out new (encode_utf8_all (f c)) (between q points) (between q rest) whole so_far (ap (between q) cut ∙ encodes-append (f c) (flat_map f rest)) grown
+
 -- what stands for one character was appended
 pub character_pushed : (q c : ℕ) (text rest out new whole : List ℕ) → IsUtf8 text → text ≡ encode_utf8 c ++ rest
     → out ++ inner q text ≡ whole → new ≡ out ++ encode_utf8_all (escaped is_unprintable q c) → new ++ inner q rest ≡ whole
@@ -135,6 +156,13 @@ closed q [] cs base old new empty so_far grown =
     ∙ append_assoc base (encode_utf8_all (q ∷ flat_map (escaped is_unprintable q) cs)) (encode_utf8_all (q ∷ []))
     ∙ ap (λ (bs : List ℕ). base ++ bs) (sym (encodes-append (q ∷ flat_map (escaped is_unprintable q) cs) (q ∷ [])))
 closed q (b ∷ bs) cs base old new empty so_far grown = absurd (omega (arith, empty))
+
+-- the same of code points
+pub points_closed : (q : ℕ) (tail points base old new : List ℕ) → length tail ≡ 0 → old ++ between q tail ≡ base ++ encode_utf8_all (q ∷ flat_map (escaped is_unprintable q) points)
+    → new ≡ old ++ encode_utf8_all (q ∷ []) → new ≡ base ++ encode_utf8_all (q ∷ flat_map (escaped is_unprintable q) points ++ q ∷ [])
+points_closed q [] points base old new empty so_far grown =
+    end_encoded (escaped is_unprintable q) q points base old new (sym (append-nil old) ∙ so_far) grown
+points_closed q (c ∷ cs) points base old new empty so_far grown = absurd (omega (arith, empty))
 
 -- the longest plain front is plain, and the text may be cut behind it
 pub plain_prefix : (bs : List ℕ) → list_all is_plain (take (prefix_len is_plain bs) bs) ≡ true

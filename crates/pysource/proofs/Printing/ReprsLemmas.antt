@@ -1,7 +1,7 @@
 -- Escapes are ASCII.
 --
--- Carries: push_escape, push_repr_bytes, push_repr_points.
-use Rattle.std.proofs.Common.{◌≡◌, ℕ, zero, suc, ◌+◌, ◌/◌, ◌%◌, ◌<◌, Bool, true, false, List, [], ◌∷◌, ◌++◌, get_or, length, take, sym, ap, ◌∙◌, arith}
+-- Carries: push_escape, push_repr_bytes.
+use Rattle.std.proofs.Common.{◌≡◌, ℕ, zero, suc, ◌/◌, ◌%◌, ◌<◌, Bool, true, false, List, [], ◌∷◌, ◌++◌, sym, ap, ◌∙◌, arith}
 use Rattle.std.specs.Prelude.{codes, if◌then◌else◌, nat_lt}
 use Rattle.std.specs.Char.{digit_char}
 use Rattle.std.specs.Str.{IsAscii, encode_utf8_all}
@@ -10,7 +10,7 @@ use Rattle.std.proofs.lemmas.Str.{IsAscii-append, encodes-IsAscii, encodes-appen
 use Rattle.std.specs.List.{flat_map}
 use Rattle.std.specs.Io.{StartsWith}
 use Rattle.std.proofs.Transfers.{starts_with_of_append, starts_with_trans}
-use Rattle.std.proofs.lemmas.List.{append_assoc, take_more, flat_map_more}
+use Rattle.std.proofs.lemmas.List.{append_assoc}
 use Rattle.std.proofs.lemmas.Str.Ascii.{IsAscii-nil, IsAscii-cons}
 use Rattle.pysource.specs.Reprs.{hex, hex_escape}
 
@@ -46,14 +46,7 @@ hex_escape_ascii c =
 pub encodes_hex_escape : (c : ℕ) → encode_utf8_all (hex_escape c) ≡ hex_escape c
 encodes_hex_escape c = encodes-IsAscii (hex_escape c) (hex_escape_ascii c)
 
--- an output that grows by what stands for one element, and its end
-pub more_encoded : (f : ℕ → List ℕ) (q : ℕ) (xs : List ℕ) (i : ℕ) (base old new : List ℕ) → i < length xs → old ≡ base ++ encode_utf8_all (q ∷ flat_map f (take i xs)) → new ≡ old ++ encode_utf8_all (f (get_or xs i 0)) → new ≡ base ++ encode_utf8_all (q ∷ flat_map f (take (i + 1) xs))
-more_encoded f q xs i base old new h e g =
-    let parts = flat_map_more f (q ∷ []) (take i xs) (get_or xs i 0) in
-    let joined = sym (encodes-append (q ∷ flat_map f (take i xs)) (f (get_or xs i 0))) in
-    let whole = joined ∙ ap encode_utf8_all parts ∙ ap (λ t. encode_utf8_all (q ∷ flat_map f t)) (sym (take_more xs i 0 h)) in
-    g ∙ ap (λ bs. bs ++ encode_utf8_all (f (get_or xs i 0))) e ∙ append_assoc base _ _ ∙ ap (λ bs. base ++ bs) whole
-
+-- the end of an output
 pub end_encoded : (f : ℕ → List ℕ) (q : ℕ) (xs base old new : List ℕ) → old ≡ base ++ encode_utf8_all (q ∷ flat_map f xs) → new ≡ old ++ encode_utf8_all (q ∷ []) → new ≡ base ++ encode_utf8_all (q ∷ flat_map f xs ++ q ∷ [])
 end_encoded f q xs base old new e g =
     g ∙ ap (λ bs. bs ++ encode_utf8_all (q ∷ [])) e ∙ append_assoc base _ _ ∙ ap (λ bs. base ++ bs) (sym (encodes-append (q ∷ flat_map f xs) (q ∷ [])))
