@@ -1,14 +1,11 @@
 -- Carries: come_back. On: the reprs of texts and of bytes, which are read as what was written.
-use Rattle.std.proofs.Common.{◌≡◌, ℕ, ◌-◌, ◌^◌, ◌<◌, ◌≤◌, Bool, true, false, ◌⊎◌, List, [], ◌∷◌, ◌++◌, length, get_or, drop, map, refl, sym, subst}
+use Rattle.std.proofs.Common.{◌≡◌, ℕ, ◌-◌, ◌<◌, ◌≤◌, Bool, true, false, List, [], ◌∷◌, ◌++◌, length, get_or, drop, map, refl, sym, subst}
 use Rattle.std.proofs.Common.{ap, ◌∙◌, inl, inr, true≢false, arith, length-append, append_assoc, None}
-use Rattle.std.specs.Prelude.{◌==◌, ◌||◌, ◌&&◌, not, nat_lt, nat_le, All, if◌then◌else◌, decimal, filter}
+use Rattle.std.specs.Prelude.{◌==◌, ◌||◌, ◌&&◌, not, nat_lt, All, if◌then◌else◌}
 use Rattle.std.specs.List.{flat_map, list_any, list_all}
-use Rattle.std.specs.Str.Parse.{AllDigits, digits_value}
-use Rattle.std.proofs.lemmas.Bool.{and_parts, or_from, and_left, and_right, not-true, ne_eqb, lt-leb, le-ltb, ltb-false, both_ways, or_parts}
-use Rattle.std.proofs.lemmas.Fmt.{decimal_is_IsNumeral_wide}
+use Rattle.std.proofs.lemmas.Bool.{and_parts, or_from, and_left, and_right, not-true, ne_eqb, le-ltb, ltb-false, both_ways, or_parts}
 use Rattle.std.proofs.lemmas.List.{take_at}
 use Rattle.std.proofs.lemmas.List.Folds.{list_any-append}
-use Rattle.std.proofs.lemmas.Str.Parse.{digit_from_value}
 use Rattle.ucd_category.proofs.Computing.{ucd_category}
 use Rattle.pysource.specs.Reprs.{escaped, quote_for, repr_chars, repr_bytes, is_unprintable, is_unprintable_byte}
 use Rattle.pylex_lexeme.specs.Strings.{begins_three}

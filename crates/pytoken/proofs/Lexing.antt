@@ -1,14 +1,13 @@
 -- Carries: come_back. On: the repr of a text or of bytes is a string as a lexeme.
-use Rattle.std.proofs.Common.{◌≡◌, ℕ, zero, suc, ◌+◌, ◌/◌, ◌%◌, ◌^◌, ◌<◌, ◌≤◌, Bool, true, false, List, [], ◌∷◌, ◌++◌, refl, sym, subst, ap, ◌∙◌, inl}
+use Rattle.std.proofs.Common.{◌≡◌, ℕ, zero, suc, ◌/◌, ◌%◌, ◌<◌, ◌≤◌, Bool, true, false, List, [], ◌∷◌, ◌++◌, refl, sym, subst, ap, ◌∙◌, inl}
 use Rattle.std.proofs.Common.{inr, arith, append_assoc}
-use Rattle.std.specs.Prelude.{◌==◌, ◌||◌, ◌&&◌, nat_le, decimal}
+use Rattle.std.specs.Prelude.{◌==◌, ◌||◌, ◌&&◌}
 use Rattle.std.specs.Char.{digit_char}
 use Rattle.std.specs.List.{flat_map}
-use Rattle.std.proofs.lemmas.Bool.{and_from, and_parts, or_left, or_right, cases_Bool, cases_eq, eq-eqb, le-leb, ne_eqb, false≢true}
-use Rattle.std.proofs.lemmas.Fmt.{decimal_by_steps_wide}
+use Rattle.std.proofs.lemmas.Bool.{and_from, or_left, or_right, eq-eqb, ne_eqb}
 use Rattle.std.proofs.lemmas.Bool.Decides.{nat_tests}
 use Rattle.pysource.specs.Reprs.{hex, escaped, quote_for, repr_chars, repr_bytes, is_unprintable, is_unprintable_byte}
-use Rattle.pylex_lexeme.specs.Numbers.{split_any, headed, is_decimal_digit, is_one_to_nine, is_zero, are_joined, is_decimal, is_number}
+use Rattle.pylex_lexeme.specs.Numbers.{split_any}
 use Rattle.pylex_lexeme.specs.Strings.{units, ends_by_one, is_single, is_single_string, is_string, is_prefix, is_triple_string}
 use Rattle.pytoken.proofs.ReadBack.{IsMark, Written, marked, tab, feed, return, short, middle, long, itself, written}
 use Rattle.pytoken.proofs.Constants.{quote_mark}

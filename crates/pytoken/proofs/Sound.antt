@@ -3,12 +3,12 @@
 -- Carries: tokens_are_sound, for Said.
 use Rattle.std.proofs.Common.{◌≡◌, ℕ, zero, suc, ◌+◌, ◌-◌, Bool, true, false, not, ◌&&◌, ◌||◌, ◌==◌, cond, List, [], ◌∷◌, ◌++◌, length, take, drop}
 use Rattle.std.proofs.Common.{replicate, refl, sym, ap, subst, ◌∙◌, arith, append_assoc, Option, Some, None}
-use Rattle.std.specs.Prelude.{option_map, slice_range, nat_lt, All}
+use Rattle.std.specs.Prelude.{option_map, nat_lt, All}
 use Rattle.std.specs.List.{list_all, list_any}
 use Rattle.std.specs.Str.{chars, encode_utf8_all, all_scalars}
 use Rattle.std.proofs.Math.Utf8.{scalar}
 use Rattle.std.proofs.lemmas.Bool.{and_from, and_parts, or_left, or_right}
-use Rattle.std.proofs.lemmas.List.Elements.{All-nil, All-cons, All-append}
+use Rattle.std.proofs.lemmas.List.Elements.{All-nil, All-append}
 use Rattle.std.proofs.lemmas.Str.{encodes-append, chars_from_encodes}
 use Rattle.pysource.specs.declared.places.Place.{Place}
 use Rattle.pysource.specs.Places.{place_after}
@@ -37,7 +37,7 @@ use Rattle.pylex.specs.Steps.{fault_of as listing_fault}
 use Rattle.pylex.specs.Laws.{LongestWins, AreLexemes, IsLawful}
 use Rattle.pytree_node.specs.declared.profiles.Extent.TheVariants.{Whole}
 use Rattle.pytoken.specs.Terminals.{fault_of, is_of, IsSound}
-use Rattle.pytoken.specs.Tokens.{Token, text_of, supplied, is_open, tokens_of_entry, tokens_from, tokens}
+use Rattle.pytoken.specs.Tokens.{Token, text_of, is_open, tokens_of_entry, tokens_from, tokens}
 use Rattle.pytoken.specs.Indentation.{margins}
 use Rattle.pytoken.specs.Refusals.{most_brackets, entry_refusal, first_entry_refusal, first_too_deep, first_mixed, refusal_of, refusal_at}
 use Rattle.pytoken.specs.Laws.{TokensAreSound}

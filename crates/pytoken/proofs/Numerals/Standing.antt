@@ -2,7 +2,7 @@
 -- Carries: come_back. On: Lexemes, NumberKinds.
 use Rattle.std.proofs.Common.{◌≡◌, ℕ, ◌^◌, ◌<◌, List, ap, ◌∙◌, arith, None}
 use Rattle.std.specs.Float.Ieee.{Float}
-use Rattle.std.specs.Str.{encode_utf8_all, IsAscii}
+use Rattle.std.specs.Str.{IsAscii}
 use Rattle.std.proofs.lemmas.Bool.{lt-leb}
 use Rattle.std.proofs.lemmas.Str.{encodes-IsAscii}
 use Rattle.pynatural.specs.Decimals.{decimal_text}
