@@ -4,6 +4,7 @@ use Rattle.pylex.specs.declared.entries.Entry.{Entry}
 use Rattle.pylex.specs.Listing.{Source, listing}
 use Rattle.pylex.specs.Steps.{entries_of}
 use Rattle.pylex.specs.Steps.{fault_of as listing_fault}
+use Rattle.pytree_node.specs.declared.profiles.Extent.{Extent}
 use Rattle.pytoken.specs.declared.refusals.Refusal.{Refusal}
 use Rattle.pytoken.specs.declared.refusals.Refusal.TheVariants as refusals
 use Rattle.pytoken.specs.Brackets.{opens, closes}
@@ -21,13 +22,13 @@ abbrev pub opens_too_many : ℕ → List Entry → Entry → Bool
 opens_too_many most before e = opens e && nat_lt most (count_by opens before + 1 - count_by closes before)
 
 -- the fault of an entry by itself
-abbrev pub entry_refusal : List ℕ → Entry → Option Refusal
-entry_refusal text e = elim (fault_of e.kind (text_of text e)) [ Some x ↦ Some (refusals.Token x e.start) | None ↦ None ]
+abbrev pub entry_refusal : Extent → List ℕ → Entry → Option Refusal
+entry_refusal extent text e = elim (fault_of extent e.kind (text_of text e)) [ Some x ↦ Some (refusals.Token x e.start) | None ↦ None ]
 
 -- the first entry that has one
-abbrev pub first_entry_refusal : List ℕ → List Entry → Option Refusal
-first_entry_refusal text [] = None
-first_entry_refusal text (e ∷ es) = option_or (entry_refusal text e) (first_entry_refusal text es)
+abbrev pub first_entry_refusal : Extent → List ℕ → List Entry → Option Refusal
+first_entry_refusal extent text [] = None
+first_entry_refusal extent text (e ∷ es) = option_or (entry_refusal extent text e) (first_entry_refusal extent text es)
 
 -- an entry that opens too many brackets
 abbrev pub bracket_refusal : ℕ → List Entry → Entry → Option Refusal
@@ -48,12 +49,12 @@ first_mixed earlier (m ∷ ms) = option_or (margin_refusal earlier m) (first_mix
 
 -- The refusal of a source whose listing comes to its end: by the first entry with a fault of its own; else by the first bracket too many;
 -- else by the first line of mixed tabs and spaces.
-abbrev pub refusal_of : ℕ → List ℕ → List Entry → Option Refusal
-refusal_of most text es = option_or (first_entry_refusal text es) (option_or (first_too_deep most [] es) (first_mixed [] (margins text es)))
+abbrev pub refusal_of : Extent → ℕ → List ℕ → List Entry → Option Refusal
+refusal_of extent most text es = option_or (first_entry_refusal extent text es) (option_or (first_too_deep most [] es) (first_mixed [] (margins text es)))
 
 -- the listing's fault, or else one of these
-unfoldable pub refusal_at : ℕ → Source → Option Refusal
-refusal_at most s = elim (listing_fault (listing s)) [ Some f ↦ Some (refusals.Listing f) | None ↦ refusal_of most s.text (entries_of (listing s)) ]
+unfoldable pub refusal_at : Extent → ℕ → Source → Option Refusal
+refusal_at extent most s = elim (listing_fault (listing s)) [ Some f ↦ Some (refusals.Listing f) | None ↦ refusal_of extent most s.text (entries_of (listing s)) ]
 
-abbrev pub refusal : Source → Option Refusal
-refusal = refusal_at most_brackets
+abbrev pub refusal : Extent → Source → Option Refusal
+refusal extent = refusal_at extent most_brackets

@@ -4,12 +4,13 @@ use Rattle.std.specs.Str.{chars}
 use Rattle.unicode_normalization.specs.Forms.{nfkc}
 use Rattle.pytoken.specs.declared.faults.TokenError.{TokenError}
 use Rattle.pytoken.specs.Keywords.{keyword_of}
-use Rattle.pytoken.specs.NumberValues.{whole_value}
+use Rattle.pytoken.specs.NumberValues.{number_value}
 use Rattle.pytoken.specs.StringValues.{string_value}
 use Rattle.pytoken.specs.Terminals
 use Rattle.pytoken.specs.declared.values.literal_text.LiteralText.{LiteralText}
+use Rattle.pytoken.specs.declared.values.number_text.NumberText.{NumberText}
 use Rattle.pytoken.specs.declared.values.terminals.Terminal.{Terminal}
-use Rattle.pytoken.specs.declared.values.terminals.Terminal.TheVariants.{Op, Word, Ident, Whole, Literal, Layout}
+use Rattle.pytoken.specs.declared.values.terminals.Terminal.TheVariants.{Op, Word, Ident, Whole, Number, Literal, Layout}
 use Rattle.pytoken.specs.declared.values.terminals.TerminalFault.{TerminalFault}
 use Rattle.pytoken.specs.declared.values.terminals.TerminalFault.TheVariants.{Token, Memory}
 
@@ -17,21 +18,26 @@ use Rattle.pytoken.specs.declared.values.terminals.TerminalFault.TheVariants.{To
 abbrev pub literal_characters : LiteralText → List ℕ
 literal_characters l = chars l.text.now
 
+-- the bytes of a number
+abbrev pub number_bytes : NumberText → List ℕ
+number_bytes n = n.text.now
+
 -- what a terminal is: a name is its spelling and its form NFKC, a literal its value
 abbrev pub terminal : Terminal → Terminals.Terminal
 terminal (Op exact) = Terminals.Op exact
 terminal (Word word) = Terminals.Word word
 terminal (Ident text) = Terminals.Ident (record { spelling = chars text.now; form = nfkc (chars text.now) })
-terminal (Whole value) = Terminals.Whole value
+terminal (Whole value) = Terminals.whole value
+terminal (Number n) = Terminals.Number (number_value (number_bytes n))
 terminal (Literal l) = Terminals.Literal (string_value (literal_characters l))
 terminal Layout = Terminals.Layout
 
--- what the texts of a NAME, a NUMBER and a STRING are
+-- what the texts of a NAME and a STRING are, and a NUMBER by its bytes
 abbrev pub named : List ℕ → Terminals.Terminal
 named t = elim (keyword_of t) [ Some w ↦ Terminals.Word w | None ↦ Terminals.Ident (record { spelling = t; form = nfkc t }) ]
 
 abbrev pub numbered : List ℕ → Terminals.Terminal
-numbered t = Terminals.Whole (whole_value t)
+numbered bytes = Terminals.Number (number_value bytes)
 
 abbrev pub quoted : List ℕ → Terminals.Terminal
 quoted t = Terminals.Literal (string_value t)

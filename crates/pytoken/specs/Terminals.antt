@@ -1,5 +1,6 @@
 -- What the grammar reads of a token, and the fault that a token may be by itself.
 use Rattle.std.specs.Prelude.{◌≡◌, ℕ, Bool, true, List, Option, Some, None}
+use Rattle.std.specs.Str.{encode_utf8_all}
 use Rattle.unicode_normalization.specs.Forms.{nfkc}
 use Rattle.pylex_lexeme.specs.declared.kinds.Exact.{Exact}
 use Rattle.pylex_lexeme.specs.Numbers.{is_number}
@@ -8,11 +9,13 @@ use Rattle.pylex_lexeme.specs.Operators.{exact_of, is_operator}
 use Rattle.pylex_lexeme.specs.Lexemes.{is_name}
 use Rattle.pylex.specs.declared.kind.Kind.{Kind}
 use Rattle.pylex.specs.declared.kind.Kind.TheVariants as kinds
-use Rattle.pytree_node.specs.Values.{Value}
+use Rattle.pytree_node.specs.Values.{Value, Int}
+use Rattle.pytree_node.specs.declared.profiles.Extent.{Extent}
+use Rattle.pytree_node.specs.declared.profiles.Extent.TheVariants as extents
 use Rattle.pytoken.specs.declared.keywords.Keyword.{Keyword}
 use Rattle.pytoken.specs.declared.faults.TokenError.{TokenError}
 use Rattle.pytoken.specs.Keywords.{keyword_of}
-use Rattle.pytoken.specs.NumberValues.{whole_value, number_fault}
+use Rattle.pytoken.specs.NumberValues.{number_value, number_fault}
 use Rattle.pytoken.specs.StringValues.{string_value, string_fault, nul_fault}
 use Rattle.pytoken.specs.NameValues.{name_fault}
 
@@ -25,7 +28,7 @@ pub data Terminal : Type 0 where
   Op : Exact → Terminal
   Word : Keyword → Terminal
   Ident : Spelled → Terminal  -- a NAME that is no keyword
-  Whole : ℕ → Terminal
+  Number : Value → Terminal  -- the value of a NUMBER: Int, Float or Imaginary
   Literal : Value → Terminal  -- the value of one STRING: Str with its kind, or Bytes
   Layout : Terminal  -- NEWLINE, INDENT, DEDENT, ENDMARKER
 
@@ -33,21 +36,25 @@ pub data Terminal : Type 0 where
 unfoldable pub terminal_of : Kind → List ℕ → Terminal
 terminal_of k t = elim k [
   | kinds.Name ↦ elim (keyword_of t) [ Some w ↦ Word w | None ↦ Ident (record { spelling = t; form = nfkc t }) ]
-  | kinds.Number ↦ Whole (whole_value t)
+  | kinds.Number ↦ Number (number_value (encode_utf8_all t))
   | kinds.String ↦ Literal (string_value t)
   | kinds.Op ↦ elim (exact_of t) [ Some e ↦ Op e | None ↦ Layout ]
   | _ ↦ Layout
 ]
 
+-- a whole number
+abbrev pub whole : ℕ → Terminal
+whole n = Number (Int n)
+
 -- a name that is spelled in its form
 abbrev pub in_form : List ℕ → Terminal
 in_form x = Ident (record { spelling = x; form = x })
 
--- the fault of an entry of this type and text
-unfoldable pub fault_of : Kind → List ℕ → Option TokenError
-fault_of k t = elim k [
+-- the fault of an entry of this type and text in an extent of the language; a number is ASCII, so its characters are its bytes
+unfoldable pub fault_of : Extent → Kind → List ℕ → Option TokenError
+fault_of extent k t = elim k [
   | kinds.Name ↦ name_fault t
-  | kinds.Number ↦ number_fault t
+  | kinds.Number ↦ number_fault extent (encode_utf8_all t)
   | kinds.String ↦ string_fault t
   | kinds.Comment ↦ nul_fault t
   | _ ↦ None
@@ -63,10 +70,10 @@ is_of k t = elim k [
   | _ ↦ true
 ]
 
--- A token that is what its type says, and has no fault: what laws about lists of tokens speak of. Without that `1 2` could be a name.
+-- A token that is what its type says, and has no fault in the whole language: what laws about lists of tokens speak of. Without that `1 2` could be a name.
 pub record IsSound (k : Kind) (t : List ℕ) : Type 0 where
   pub of_kind : is_of k t ≡ true
-  pub faultless : fault_of k t ≡ None
+  pub faultless : fault_of extents.Whole k t ≡ None
 
 -- a token of this type and text is this terminal, and has no fault by itself
 pub record Gives (k : Kind) (t : List ℕ) (x : Terminal) : Type 0 where

@@ -1,42 +1,27 @@
--- Carries: radix_of, behind_two, whole, number_value. On: a number character by character.
-use Rattle.std.proofs.Common.{◌≡◌, ℕ, ◌+◌, ◌*◌, ◌^◌, ◌<◌, ◌≤◌, true, false, List, [], ◌∷◌, drop, refl, sym, ap, ◌∙◌, inl, inr, arith, Option, Some}
-use Rattle.std.proofs.Common.{None, mul-le-mul_left}
-use Rattle.std.specs.Prelude.{◌==◌, nat_le, filter, Ok, Err, if◌then◌else◌}
+-- Carries: whole, is_too_large, integer. On: a whole number byte by byte.
+use Rattle.std.proofs.Common.{◌≡◌, ℕ, ◌+◌, ◌*◌, ◌^◌, ◌<◌, ◌≤◌, Bool, true, false, not, List, [], ◌∷◌, length, drop, get_or, refl, sym, ap, ◌∙◌, inl, inr, arith}
+use Rattle.std.proofs.Common.{ap₂, Option, Some, None, is_some, mul-le-mul_left}
+use Rattle.std.specs.Prelude.{◌==◌, nat_le, filter, MatchOption, if◌then◌else◌}
 use Rattle.std.specs.Char.{digit_value}
-use Rattle.std.specs.Str.{chars}
 use Rattle.std.specs.Str.Parse.{digits_value_after}
 use Rattle.std.proofs.lemmas.Bool.{cases_Bool, leb-true, leb-false, le-leb, lt-leb}
-use Rattle.std.proofs.lemmas.Str.{chars-nil}
-use Rattle.pytoken.specs.declared.faults.TokenError.TheVariants as errors
-use Rattle.pytoken.specs.declared.faults.TokenError.{TokenError}
-use Rattle.pytoken.specs.NumberValues.{radix_of, is_no_underscore, is_complex, is_real, whole_value, number_fault, number_answer, unless}
-use Rattle.pytoken.specs.Inner.Readings.{radix_by, one_more, whole_below, digits_behind}
-
--- The first two characters
-
-pub radix_of_none : (bs : List ℕ) → chars bs ≡ [] → 10 ≡ radix_of (chars bs)
-radix_of_none bs e = sym (ap radix_of e)
-
-pub radix_of_one : (bs rest : List ℕ) (a : ℕ) → chars bs ≡ a ∷ chars rest → chars rest ≡ [] → 10 ≡ radix_of (chars bs)
-radix_of_one bs rest a e none = sym (ap radix_of (e ∙ ap (λ (t : List ℕ). a ∷ t) none))
-
-pub radix_of_two : (bs rest last : List ℕ) (a b : ℕ) → chars bs ≡ a ∷ chars rest → chars rest ≡ b ∷ chars last → radix_by b ≡ radix_of (chars bs)
-radix_of_two bs rest last a b e next = sym (ap radix_of (e ∙ ap (λ (t : List ℕ). a ∷ t) next))
-
-pub behind_none : (bs : List ℕ) → chars bs ≡ [] → chars [] ≡ drop 2 (chars bs)
-behind_none bs e = chars-nil ∙ sym (ap (drop 2) e)
-
-pub behind_one : (bs rest : List ℕ) (a : ℕ) → chars bs ≡ a ∷ chars rest → chars rest ≡ [] → chars [] ≡ drop 2 (chars bs)
-behind_one bs rest a e none = chars-nil ∙ sym (ap (drop 2) (e ∙ ap (λ (t : List ℕ). a ∷ t) none))
-
-pub behind_both : (bs rest last : List ℕ) (a b : ℕ) → chars bs ≡ a ∷ chars rest → chars rest ≡ b ∷ chars last → chars last ≡ drop 2 (chars bs)
-behind_both bs rest last a b e next = sym (ap (drop 2) (e ∙ ap (λ (t : List ℕ). a ∷ t) next))
+use Rattle.std.proofs.lemmas.List.{at_drop_more, drop_all}
+use Rattle.pynatural.specs.Readings.{written, is_no_underscore, most_digits}
+use Rattle.pytree_node.specs.declared.profiles.Extent.{Extent}
+use Rattle.pytree_node.specs.declared.profiles.Extent.TheVariants.{Plain, Whole}
+use Rattle.pytoken.specs.NumberValues.{radix_of, digits_in, whole_value}
+use Rattle.pytoken.specs.Inner.Readings.{one_more, whole_below, limit_of}
+use Rattle.pytoken.proofs.NumberKinds.{in_both}
 
 -- The value of digits, one after another
 
 -- the value with the digits of a text behind it
 abbrev pub value_on : ℕ → ℕ → List ℕ → ℕ
 value_on radix value t = digits_value_after radix value (filter is_no_underscore t)
+
+written_is : (radix : ℕ) (t : List ℕ) → value_on radix 0 t ≡ written radix t
+unfolding written
+written_is radix t = refl
 
 -- a value with one more digit
 abbrev more_of : ℕ → ℕ → ℕ → ℕ
@@ -48,18 +33,10 @@ value_more radix value c t = elim (cases_Bool (c == 95)) [
   | inr digit ↦ rw digit refl
 ]
 
--- a digit was read
-pub read_on : (radix value c v : ℕ) (bs rest : List ℕ) → chars bs ≡ c ∷ chars rest → one_more radix value c ≡ Some v
-    → (value_on radix v (chars rest) ≡ value_on radix value (chars bs)) × (v < 2 ^ 128)
-read_on radix value c v bs rest cut e = elim (cases_Bool (nat_le (2 ^ 128) (more_of radix value c))) [
-  | inl past ↦ absurd (let none : None ≡ Some v = rw past at e in cc)
-  | inr below ↦
-      let some : Some (more_of radix value c) ≡ Some v = rw below at e in
-      let same : more_of radix value c ≡ v = cc in
-      let on = ap (λ (n : ℕ). value_on radix n (chars rest)) (sym same) ∙ value_more radix value c (chars rest)
-      ∙ sym (ap (value_on radix value) cut) in
-      (on, omega (arith, leb-false (2 ^ 128) (more_of radix value c) below, same))
-]
+value_next : (radix value i : ℕ) (bs : List ℕ) → i < length bs
+    → value_on radix (more_of radix value (get_or bs i 0)) (drop (i + 1) bs) ≡ value_on radix value (drop i bs)
+value_next radix value i bs within =
+    value_more radix value (get_or bs i 0) (drop (i + 1) bs) ∙ sym (at_drop_more (value_on radix value) bs i 0 within)
 
 grows : (radix n : ℕ) (ds : List ℕ) → 1 ≤ radix → n ≤ digits_value_after radix n ds
 grows radix n [] least = omega arith
@@ -67,100 +44,97 @@ grows radix n (d ∷ ds) least =
     let product = mul-le-mul_left n least in
     omega (arith, product, grows radix (n * radix + digit_value d) ds least)
 
+past : (radix : ℕ) (t : List ℕ) → 2 ^ 128 ≤ written radix t → whole_below radix t ≡ None
+past radix t large = let test : nat_le (2 ^ 128) (written radix t) ≡ true = le-leb (2 ^ 128) (written radix t) large in rw test refl
+
 -- a digit was one too many
-pub read_past : (radix value c : ℕ) (bs rest whole : List ℕ) → 2 ≤ radix → chars bs ≡ c ∷ chars rest → one_more radix value c ≡ None
-    → value_on radix value (chars bs) ≡ value_on radix 0 (chars whole) → whole_below radix (chars whole) ≡ None
-read_past radix value c bs rest whole least cut e so_far = elim (cases_Bool (nat_le (2 ^ 128) (more_of radix value c))) [
-  | inl past ↦
-      let on = value_more radix value c (chars rest) ∙ sym (ap (value_on radix value) cut) ∙ so_far in
-      let more = grows radix (more_of radix value c) (filter is_no_underscore (chars rest)) (omega arith) in
-      let large : nat_le (2 ^ 128) (value_on radix 0 (chars whole)) ≡ true =
-      le-leb (2 ^ 128) (value_on radix 0 (chars whole)) (omega (arith, leb-true (2 ^ 128) (more_of radix value c) past, more, on)) in
-      rw large refl
-  | inr below ↦ absurd (let some : Some (more_of radix value c) ≡ None = rw below at e in cc)
-]
+pub read_past : (radix value i : ℕ) (bs : List ℕ) → 2 ≤ radix → i < length bs → one_more radix value (get_or bs i 0) ≡ None
+    → value_on radix value (drop i bs) ≡ value_on radix 0 bs → whole_below radix bs ≡ None
+read_past radix value i bs least within e so_far =
+    let c = get_or bs i 0 in
+    elim (cases_Bool (nat_le (2 ^ 128) (more_of radix value c))) [
+      | inl large ↦
+          let on = value_next radix value i bs within ∙ so_far ∙ written_is radix bs in
+          let more = grows radix (more_of radix value c) (filter is_no_underscore (drop (i + 1) bs)) (omega arith) in
+          past radix bs (omega (arith, leb-true (2 ^ 128) (more_of radix value c) large, more, on))
+      | inr below ↦ absurd (let some : Some (more_of radix value c) ≡ None = rw below at e in cc)
+    ]
 
 -- all digits were read
-pub read_all : (radix value : ℕ) (bs whole : List ℕ) → chars bs ≡ [] → value < 2 ^ 128
-    → value_on radix value (chars bs) ≡ value_on radix 0 (chars whole) → Some value ≡ whole_below radix (chars whole)
-read_all radix value bs whole none fits so_far =
-    let same : value ≡ value_on radix 0 (chars whole) = sym (ap (value_on radix value) none) ∙ so_far in
-    let small : nat_le (2 ^ 128) (value_on radix 0 (chars whole)) ≡ false = lt-leb (2 ^ 128) (value_on radix 0 (chars whole)) (omega (arith, same)) in
+pub read_all : (radix value i : ℕ) (bs : List ℕ) → value < 2 ^ 128 → length bs ≤ i → value_on radix value (drop i bs) ≡ value_on radix 0 bs
+    → Some value ≡ whole_below radix bs
+read_all radix value i bs fits end so_far =
+    let same : value ≡ written radix bs = sym (ap (value_on radix value) (drop_all i bs end)) ∙ so_far ∙ written_is radix bs in
+    let small : nat_le (2 ^ 128) (written radix bs) ≡ false = lt-leb (2 ^ 128) (written radix bs) (omega (arith, same)) in
     rw small (ap (λ (n : ℕ). Some n) same)
 
--- The answer for a number
+-- The value of a whole number
 
-fault_complex : (t : List ℕ) → is_complex t ≡ true → number_fault t ≡ Some errors.Complex
-unfolding number_fault
-fault_complex t complex = rw complex refl
-
-fault_real : (t : List ℕ) → is_complex t ≡ false → is_real t ≡ true → number_fault t ≡ Some errors.Float
-unfolding number_fault
-fault_real t complex real = rw (complex, real) refl
-
-fault_large : (t : List ℕ) → is_complex t ≡ false → is_real t ≡ false → nat_le (2 ^ 128) (whole_value t) ≡ true →
-    number_fault t ≡ Some errors.IntegerTooLarge
-unfolding number_fault
-fault_large t complex real large = rw (complex, real, large) refl
-
-fault_none : (t : List ℕ) → is_complex t ≡ false → is_real t ≡ false → nat_le (2 ^ 128) (whole_value t) ≡ false → number_fault t ≡ None
-unfolding number_fault
-fault_none t complex real small = rw (complex, real, small) refl
-
-answer_is : (t : List ℕ) (o : Option TokenError) → number_fault t ≡ o → number_answer t ≡ unless o (whole_value t)
-unfolding number_answer
-answer_is t o e = ap (λ (x : Option TokenError). unless x (whole_value t)) e
-
-pub answer_complex : (t : List ℕ) → is_complex t ≡ true → number_answer t ≡ Err errors.Complex
-answer_complex t complex = answer_is t (Some errors.Complex) (fault_complex t complex)
-
-pub answer_real : (t : List ℕ) → is_complex t ≡ false → is_real t ≡ true → number_answer t ≡ Err errors.Float
-answer_real t complex real = answer_is t (Some errors.Float) (fault_real t complex real)
-
--- what the value of the digits says of the number
-below_is : (t : List ℕ) → whole_below (radix_of t) (digits_behind t) ≡ (if nat_le (2 ^ 128) (whole_value t) then None else Some (whole_value t))
+pub whole_is : (t : List ℕ) → written (radix_of t) (digits_in t) ≡ whole_value t
 unfolding whole_value
-below_is t = refl
+whole_is t = refl
 
-pub answer_some : (t : List ℕ) (v : ℕ) → is_complex t ≡ false → is_real t ≡ false → whole_below (radix_of t) (digits_behind t) ≡ Some v →
-    number_answer t ≡ Ok v
-answer_some t v complex real e = elim (cases_Bool (nat_le (2 ^ 128) (whole_value t))) [
-  | inl past ↦ absurd (let none : None ≡ Some v = rw past at (sym (below_is t) ∙ e) in cc)
-  | inr below ↦
-      let some : Some (whole_value t) ≡ Some v = rw below at (sym (below_is t) ∙ e) in
-      let same : whole_value t ≡ v = cc in
-      answer_is t None (fault_none t complex real below) ∙ ap (λ (n : ℕ). unless None n) same
-]
+-- the value of a number's digits, by what was read of its base and digits
+module _ (t ds : List ℕ) (radix : ℕ) (of_radix : radix ≡ radix_of t) (of_digits : ds ≡ digits_in t) where
+  pub digits_are : written radix ds ≡ whole_value t
+  digits_are = ap₂ (λ (r : ℕ) (xs : List ℕ). written r xs) of_radix of_digits ∙ whole_is t
 
-pub answer_none : (t : List ℕ) → is_complex t ≡ false → is_real t ≡ false → whole_below (radix_of t) (digits_behind t) ≡ None →
-    number_answer t ≡ Err errors.IntegerTooLarge
-answer_none t complex real e = elim (cases_Bool (nat_le (2 ^ 128) (whole_value t))) [
-  | inl past ↦ answer_is t (Some errors.IntegerTooLarge) (fault_large t complex real past)
-  | inr below ↦ absurd (let some : Some (whole_value t) ≡ None = rw below at (sym (below_is t) ∙ e) in cc)
-]
+  pub below_some : (v : ℕ) → Some v ≡ whole_below radix ds → (v ≡ whole_value t) × (whole_value t < 2 ^ 128)
+  below_some v e =
+      let n = written radix ds in
+      elim (cases_Bool (nat_le (2 ^ 128) n)) [
+        | inl large ↦ absurd (let none : Some v ≡ None = rw large at e in cc)
+        | inr small ↦
+            let some : Some v ≡ Some n = rw small at e in
+            let same : v ≡ n = cc in
+            (same ∙ digits_are, omega (arith, leb-false (2 ^ 128) n small, digits_are))
+      ]
 
--- the fault that an answer tells
+  pub below_none : None ≡ whole_below radix ds → 2 ^ 128 ≤ whole_value t
+  below_none e =
+      let n = written radix ds in
+      elim (cases_Bool (nat_le (2 ^ 128) n)) [
+        | inl large ↦ omega (arith, leb-true (2 ^ 128) n large, digits_are)
+        | inr small ↦ absurd (let some : None ≡ Some n = rw small at e in cc)
+      ]
 
-pub fault_of_ok : (t : List ℕ) (v : ℕ) → number_answer t ≡ Ok v → number_fault t ≡ None
-unfolding number_answer
-fault_of_ok t v e = by (number_fault t) e
-  where
-    by : (o : Option TokenError) → unless o (whole_value t) ≡ Ok v → o ≡ None
-    by None h = refl
-    by (Some x) h = cc
+-- what was read of a number says whether it is past an extent's
+module _ (extent : Extent) (t ds : List ℕ) (radix : ℕ) (of_radix : radix ≡ radix_of t) (of_digits : ds ≡ digits_in t) where
+  pub within : (o : Option ℕ) → o ≡ whole_below radix ds → true ≡ is_some o → false ≡ nat_le (limit_of extent) (whole_value t)
+  within (Some v) e some = sym (in_both extent (whole_value t) (below_some t ds radix of_radix of_digits v e).1)
+  within None e some = absurd cc
 
-pub fault_of_err : (t : List ℕ) (x : TokenError) → number_answer t ≡ Err x → number_fault t ≡ Some x
-unfolding number_answer
-fault_of_err t x e = by (number_fault t) e
-  where
-    by : (o : Option TokenError) → unless o (whole_value t) ≡ Err x → o ≡ Some x
-    by None h = cc
-    by (Some y) h = let same : y ≡ x = cc in ap (λ (z : TokenError). Some z) same
+  pub past_plain : (o : Option ℕ) → o ≡ whole_below radix ds → false ≡ is_some o → extent ≡ Plain → true ≡ nat_le (limit_of extent) (whole_value t)
+  past_plain (Some v) e none is = absurd cc
+  past_plain None e none is =
+      let large = le-leb (2 ^ 128) (whole_value t) (below_none t ds radix of_radix of_digits e) in
+      sym (ap (λ (x : Extent). nat_le (limit_of x) (whole_value t)) is ∙ large)
 
-pub value_of_ok : (t : List ℕ) (v : ℕ) → number_answer t ≡ Ok v → v ≡ whole_value t
-unfolding number_answer
-value_of_ok t v e = by (number_fault t) e
-  where
-    by : (o : Option TokenError) → unless o (whole_value t) ≡ Ok v → v ≡ whole_value t
-    by None h = cc
-    by (Some x) h = cc
+  pub past_whole : (o : Option ℕ) (none : Bool) → is_some o ≡ not none
+      → MatchOption o (10 ^ most_digits ≤ written radix ds) (λ n. (n ≡ written radix ds) × (n < 10 ^ most_digits))
+      → extent ≡ Whole → none ≡ nat_le (limit_of extent) (whole_value t)
+  past_whole (Some n) true e read is = absurd cc
+  past_whole (Some n) false e read is =
+      let same = digits_are t ds radix of_radix of_digits in
+      let small = lt-leb (10 ^ most_digits) (whole_value t) (omega (arith, same, read.0, read.1)) in
+      sym (ap (λ (x : Extent). nat_le (limit_of x) (whole_value t)) is ∙ small)
+  past_whole None false e read is = absurd cc
+  past_whole None true e read is =
+      let same = digits_are t ds radix of_radix of_digits in
+      let large = le-leb (10 ^ most_digits) (whole_value t) (omega (arith, same, read)) in
+      sym (ap (λ (x : Extent). nat_le (limit_of x) (whole_value t)) is ∙ large)
+
+-- the value that was read of a number
+module _ (t ds : List ℕ) (radix : ℕ) (of_radix : radix ≡ radix_of t) (of_digits : ds ≡ digits_in t) where
+  pub read_below : (v : ℕ) (o : Option ℕ) → o ≡ whole_below radix ds → o ≡ Some v → v ≡ whole_value t
+  read_below v o e is = (below_some t ds radix of_radix of_digits v (sym is ∙ e)).0
+
+  pub not_past : (o : Option ℕ) → whole_value t < 10 ^ most_digits
+      → MatchOption o (10 ^ most_digits ≤ written radix ds) (λ n. (n ≡ written radix ds) × (n < 10 ^ most_digits)) → o ≡ None → ⊥
+  not_past (Some n) small read is = cc
+  not_past None small read is = omega (arith, digits_are t ds radix of_radix of_digits)
+
+  pub read_whole : (n : ℕ) (o : Option ℕ)
+      → MatchOption o (10 ^ most_digits ≤ written radix ds) (λ n. (n ≡ written radix ds) × (n < 10 ^ most_digits)) → o ≡ Some n → n ≡ whole_value t
+  read_whole n (Some m) read is = let same : m ≡ n = cc in sym same ∙ read.0 ∙ digits_are t ds radix of_radix of_digits
+  read_whole n None read is = absurd cc
