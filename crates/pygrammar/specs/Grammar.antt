@@ -15,7 +15,7 @@ use Rattle.pygrammar.specs.declared.levels.Level.TheVariants.{Value, Stars, Star
 use Rattle.pytree_node.specs.Trees
 use Rattle.pytree_node.specs.Trees.{Expr, no_exprs, an_expr, OptionalExpr, absent, present, arg, Arguments, Identifier, exprs, Comprehension, comprehensions}
 use Rattle.pytree_node.specs.Values
-use Rattle.pytoken.specs.Terminals.{Terminal, Spelled, Op, Word, Ident, Whole, Literal}
+use Rattle.pytoken.specs.Terminals.{Terminal, Spelled, Op, Word, Ident, Number, Literal}
 use Rattle.pygrammar.specs.Operators.{below, left_operator, prefix_operator, chain_level, chain_word, comparison}
 use Rattle.pygrammar.specs.Constants.{constant_word, joined}
 use Rattle.pygrammar.specs.Entries.{Item, Of, Pair, Argument, Parameter, Entry, Single, Paired, Spread, Doubled, Keyed, Plain, Slashed, Bare, Gathered, Collected, singles, keys, values}
@@ -101,7 +101,7 @@ mutual
     -- Atom = "None" | "True" | "False" | "..."
     constant : {t : Terminal} {v : Values.Value} → constant_word t ≡ Some v → Derives Atom (t ∷ []) (Trees.Constant v)
     -- Atom = NUMBER
-    number : {n : ℕ} → Derives Atom (Whole n ∷ []) (Trees.Constant (Values.Int n))
+    number : {v : Values.Value} → Derives Atom (Number v ∷ []) (Trees.Constant v)
     -- Atom = STRING+
     strings : {v w : Values.Value} (vs : List Values.Value)
         → joined v vs ≡ Some w

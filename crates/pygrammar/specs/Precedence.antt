@@ -10,7 +10,7 @@ use Rattle.pytree_node.specs.declared.operators.BoolOperator.{BoolOperator}
 use Rattle.pytree_node.specs.declared.operators.BoolOperator.TheVariants as Join
 use Rattle.pygrammar.specs.declared.levels.Level.{Level}
 use Rattle.pygrammar.specs.declared.levels.Level.TheVariants.{Stars, StarItem, Named, Not, BitOr, BitXor, BitAnd, Shift, Sum, Term, Factor, Elem, Slices, Part, Slice}
-use Rattle.pytoken.specs.Terminals.{Terminal, Op, Word, Ident, Whole, Literal}
+use Rattle.pytoken.specs.Terminals.{Terminal, Op, Word, Ident, Number, Literal}
 use Rattle.pygrammar.specs.Operators.{chain_level, rank}
 use Rattle.pygrammar.specs.Entries.{Item, Of, Pair, Argument, Parameter}
 
@@ -33,7 +33,7 @@ lead (Word Key.None) = 24
 lead (Word Key.True) = 24
 lead (Word Key.False) = 24
 lead (Ident x) = 24
-lead (Whole n) = 24
+lead (Number v) = 24
 lead (Literal v) = 24
 lead _ = 0
 

@@ -13,7 +13,7 @@ use Rattle.pygrammar.specs.declared.levels.Level.TheVariants.{Value, Stars, Star
 use Rattle.pytree_node.specs.Trees
 use Rattle.pytree_node.specs.Trees.{Expr, no_exprs, an_expr, OptionalExpr, absent, present, no_optional, arg, Arguments, Identifier, exprs, Comprehension, comprehensions}
 use Rattle.pytree_node.specs.Values
-use Rattle.pytoken.specs.Terminals.{Terminal, Op, Ident, Whole, Literal}
+use Rattle.pytoken.specs.Terminals.{Terminal, Op, Ident, Number, Literal}
 use Rattle.pygrammar.specs.Looks.{is_op, is_word, name_in}
 use Rattle.pygrammar.specs.Operators.{below, chain_level, chain_word, comparison, rank}
 use Rattle.pygrammar.specs.Constants.{constant_word, joined}
@@ -215,7 +215,7 @@ module _ (self : Reads) where
   abbrev pub atom : List Terminal → Answer Expr
   atom [] = NoForm
   atom (Ident x ∷ r) = Found (Trees.Name x.form Load) r
-  atom (Whole n ∷ r) = Found (Trees.Constant (Values.Int n)) r
+  atom (Number v ∷ r) = Found (Trees.Constant v) r
   atom (Literal v ∷ r) = and_then (string_run [] r) (λ vs r1. made (constant_of (joined v vs)) r1)
   atom (Op LPar ∷ r) = round r
   atom (Op LSqb ∷ r) = square r

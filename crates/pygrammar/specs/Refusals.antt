@@ -108,7 +108,7 @@ pub data FirstDeep : List Line → List Line → ℕ → Type 0 where
 
 -- no refusal of the tokens, a form for each line, this module as the forms' tree, and no height above 500
 pub record Accepted (profile : Profile) (s : Source) (m : Module) : Type 0 where
-  pub clear : refusal s ≡ None
+  pub clear : refusal profile.extent s ≡ None
   pub forms : List Line
   pub formed : Formed profile (lines s) forms
   pub block : Block 0 forms m.body
@@ -116,11 +116,11 @@ pub record Accepted (profile : Profile) (s : Source) (m : Module) : Type 0 where
 
 -- the first of the reasons, in their order
 pub data Refused (profile : Profile) (s : Source) : Reason → Type 0 where
-  by_tokens : {r : Refusal} → refusal s ≡ Some r → Refused profile s (in_tokens r)
-  by_line : {n : ℕ} {p : Place} {c : Code} → refusal s ≡ None → FirstUnread profile (lines s) n c → StartsAt s n p → Refused profile s (at p c)
+  by_tokens : {r : Refusal} → refusal profile.extent s ≡ Some r → Refused profile s (in_tokens r)
+  by_line : {n : ℕ} {p : Place} {c : Code} → refusal profile.extent s ≡ None → FirstUnread profile (lines s) n c → StartsAt s n p → Refused profile s (at p c)
   by_block : {forms rest : List Line} {f : Fault} {n : ℕ} {p : Place} →
-      refusal s ≡ None → Formed profile (lines s) forms → FirstFault [] forms rest f → n + length rest ≡ length forms → StartsAt s n p →
+      refusal profile.extent s ≡ None → Formed profile (lines s) forms → FirstFault [] forms rest f → n + length rest ≡ length forms → StartsAt s n p →
       Refused profile s (at p (Indentation f))
   by_height : {forms : List Line} {m : Module} {n : ℕ} {p : Place} →
-      refusal s ≡ None → Formed profile (lines s) forms → Block 0 forms m.body → 500 < statement_height m → FirstDeep [] forms n → StartsAt s n p →
+      refusal profile.extent s ≡ None → Formed profile (lines s) forms → Block 0 forms m.body → 500 < statement_height m → FirstDeep [] forms n → StartsAt s n p →
       Refused profile s (at p TooDeep)

@@ -24,7 +24,7 @@ use pygrammar::Level;
 use pylex::Exact;
 use pyparse_nodes::{
     Read, Stop, is_op, is_word, lead_at, make_constant, make_generator, make_list, make_list_comp,
-    make_name, make_tuple, make_whole, starts_comp, string_run, terminal_at,
+    make_name, make_number, make_tuple, make_whole, starts_comp, string_run, terminal_at,
 };
 use pytoken::{Keyword, Terminal};
 use pytree_node::{Constant, Context};
@@ -92,7 +92,8 @@ fn other_atom(
 {
     match t {
         Terminal::Ident(name) => make_name(alloc, name, Context::Load, next),
-        Terminal::Whole(n) => make_whole(alloc, n, next),
+        Terminal::Whole(value) => make_whole(alloc, value, next),
+        Terminal::Number(number) => make_number(alloc, number, next),
         Terminal::Literal(value) => string_run(alloc, tokens, value, next),
         Terminal::Op(sign) => match sign {
             Exact::LPar => round(alloc, tokens, next, depth),

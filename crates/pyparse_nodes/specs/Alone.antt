@@ -1,14 +1,14 @@
 -- Atoms of one terminal with nothing behind them that goes on with them.
 use Rattle.std.specs.Prelude.{List, [], ◌∷◌, Bool, true, false, ◌&&◌}
 use Rattle.pylex_lexeme.specs.declared.kinds.Exact.TheVariants.{RPar, RSqb, RBrace, Colon, Comma, Equal}
-use Rattle.pytoken.specs.Terminals.{Terminal, Op, Ident, Whole, Literal}
+use Rattle.pytoken.specs.Terminals.{Terminal, Op, Ident, Number, Literal}
 use Rattle.pygrammar.specs.Reader.{on_some}
 use Rattle.pyparse_nodes.specs.Views.{first_of}
 
 -- the terminals that are atoms by themselves, but for signs and words
 abbrev pub atom_with : Terminal → Bool
 atom_with (Ident x) = true
-atom_with (Whole n) = true
+atom_with (Number v) = true
 atom_with (Literal v) = true
 atom_with _ = false
 

@@ -163,6 +163,7 @@ fn lead(t: Terminal) -> u8
         },
         Terminal::Ident(_) => Level::Atom.rank(),
         Terminal::Whole(_) => Level::Atom.rank(),
+        Terminal::Number(_) => Level::Atom.rank(),
         Terminal::Literal(_) => Level::Atom.rank(),
         Terminal::Layout => 0,
     }
@@ -204,6 +205,7 @@ fn is_atom(t: Terminal) -> bool
     match t {
         Terminal::Ident(_) => true,
         Terminal::Whole(_) => true,
+        Terminal::Number(_) => true,
         Terminal::Literal(_) => true,
         _ => false,
     }

@@ -10,11 +10,12 @@ ghost use Rattle.pytree_node.specs.Trees as plain;
 ghost use Rattle.pytree_node.specs.Trees.{comprehensions, exprs, optional, optionals};
 ghost use Rattle.pytree_node.specs.Values as values;
 ghost use Rattle.pytree_height.specs.Heights as Heights;
+ghost use Rattle.pytoken.specs.NumberValues.{number_value};
 ghost use Rattle.pyparse_nodes.specs.Answers.{Makes, Made};
 
 use crate::found::Read;
 use crate::stop::Stop;
-use pytoken::identifier_value;
+use pytoken::{NumberText, identifier_value};
 use pytree_node::{
     Arguments, BoolOperator, Comparison, Comprehension, Constant, Context, Expr, Identifier,
     Integer, Keyword, Operator, UnaryOperator,
@@ -51,12 +52,22 @@ pub fn identifier_of(alloc: Global, text: &str) -> Result<Identifier, Stop>
 }
 
 /// A whole number.
-pub fn make_whole(alloc: Global, value: u128, next: usize) -> Result<Read, Stop>
+pub fn make_whole(alloc: Global, value: u64, next: usize) -> Result<Read, Stop>
     ensures { MatchResult result (λ r. Made 1 (plain.Constant (values.Int value)) next r)
         (λ s. s ≡ Stop.Memory) }
 {
-    let value = Integer::new(alloc, value)?;
+    let value = Integer::new(alloc, u128::from(value))?;
     make_constant(alloc, Constant::Int(value), next)
+}
+
+/// What a NUMBER stands for.
+pub fn make_number(alloc: Global, number: NumberText, next: usize) -> Result<Read, Stop>
+    ensures { MatchResult result
+        (λ r. Made 1 (plain.Constant (number_value number.text.now)) next r)
+        (λ s. s ≡ Stop.Memory) }
+{
+    let value = number.value(alloc)?;
+    make_constant(alloc, value, next)
 }
 
 /// A name.

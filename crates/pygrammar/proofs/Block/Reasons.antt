@@ -6,6 +6,7 @@ use Rattle.std.proofs.lemmas.List.Elements.{Contains-append_right}
 use Rattle.pysource.specs.declared.places.Place.{Place}
 use Rattle.pylex.specs.Listing.{Source}
 use Rattle.pytree_node.specs.declared.profiles.Profile.{Profile}
+use Rattle.pytree_node.specs.declared.profiles.Extent.{Extent}
 use Rattle.pytoken.specs.declared.refusals.Refusal.{Refusal}
 use Rattle.pytoken.specs.Refusals.{refusal}
 use Rattle.pytoken.specs.Tokens.{Token, tokens, lines}
@@ -91,10 +92,10 @@ of_lines : {profile : Profile} {s : Source} {p q : Place} {c d : Code} → p ≡
 of_lines {p = p} {q = q} {c = c} {d = d} e (inl f) = inl (same_reason p q c d e f)
 of_lines {profile} {s} {p = p} {c = c} {d = d} e (inr l) = let P : Place → Type 0 = λ z. IsFreeChoice profile s (at p c) (at z d) in inr (subst P e (free l.0 l.1 l.2.0 l.2.1))
 
-clear_or_not : (s : Source) {r : Refusal} → refusal s ≡ None → refusal s ≡ Some r → ⊥
+clear_or_not : {x : Extent} (s : Source) {r : Refusal} → refusal x s ≡ None → refusal x s ≡ Some r → ⊥
 clear_or_not s h k = absurd (cc)
 
-same_refusal : (s : Source) {r q : Refusal} → refusal s ≡ Some r → refusal s ≡ Some q → in_tokens r ≡ in_tokens q
+same_refusal : {x : Extent} (s : Source) {r q : Refusal} → refusal x s ≡ Some r → refusal x s ≡ Some q → in_tokens r ≡ in_tokens q
 same_refusal s h k = cc
 
 in_forms : {forms others rest : List Line} {f : Fault} → forms ≡ others → FirstFault [] forms rest f → FirstFault [] others rest f

@@ -67,7 +67,7 @@ fault_within (fault_behind c p) = let h = fault_within p in omega arith
 abbrev IsAnswered : Profile → Source → Type 0
 IsAnswered profile s = ((m : Module) × Accepted profile s m) ⊎ ((r : Reason) × Refused profile s r)
 
-module _ (profile : Profile) (s : Source) (clear : refusal s ≡ None) where
+module _ (profile : Profile) (s : Source) (clear : refusal profile.extent s ≡ None) where
   of_tree : (forms : List Line) (m : Module) → Formed profile (lines s) forms → length forms ≡ length (lines s) → Block 0 forms m.body → IsAnswered profile s
   of_tree forms m p l b = by_depth (nat_lt 500 (statement_height m)) refl
     where
@@ -97,8 +97,8 @@ module _ (profile : Profile) (s : Source) (clear : refusal s ≡ None) where
   ]
 
 pub answered : (profile : Profile) (s : Source) → IsAnswered profile s
-answered profile s = by_refusal (refusal s) refl
+answered profile s = by_refusal (refusal profile.extent s) refl
   where
-    by_refusal : (o : Option Refusal) → refusal s ≡ o → IsAnswered profile s
+    by_refusal : (o : Option Refusal) → refusal profile.extent s ≡ o → IsAnswered profile s
     by_refusal (Some r) e = inr (in_tokens r, by_tokens e)
     by_refusal None e = of_lines profile s e

@@ -11,7 +11,7 @@ use Rattle.pygrammar.specs.declared.levels.Level.TheVariants.{Named, Expression,
 use Rattle.pytree_node.specs.Trees
 use Rattle.pytree_node.specs.Trees.{Expr, no_exprs, an_expr, no_optional, Comprehension, comprehensions}
 use Rattle.pytree_node.specs.Values
-use Rattle.pytoken.specs.Terminals.{Spelled, Terminal, Op, Word, Ident, Whole, Literal, Layout}
+use Rattle.pytoken.specs.Terminals.{Spelled, Terminal, Op, Word, Ident, Number, Literal, Layout}
 use Rattle.pygrammar.specs.Constants.{constant_word, joined}
 use Rattle.pygrammar.specs.Entries.{Item, Of, Pair, Entry, Single, Paired, Doubled, singles, keys, values}
 use Rattle.pygrammar.specs.Grammar as G
@@ -50,8 +50,8 @@ tail_more i us es k = (k.0, (λ d h w rest s a. k.1 d h w rest s (length (us ++ 
 pub name_goes : (x : Spelled) → ReadsAs Atom (Ident x ∷ []) (Trees.Name x.form Load)
 name_goes x = (0, (λ d h rest s. unroll d Atom (Ident x ∷ rest)), λ d h. tt)
 
-pub number_goes : (n : ℕ) → ReadsAs Atom (Whole n ∷ []) (Trees.Constant (Values.Int n))
-number_goes n = (0, (λ d h rest s. unroll d Atom (Whole n ∷ rest)), λ d h. tt)
+pub number_goes : (v : Values.Value) → ReadsAs Atom (Number v ∷ []) (Trees.Constant v)
+number_goes v = (0, (λ d h rest s. unroll d Atom (Number v ∷ rest)), λ d h. tt)
 
 constant_step : (self : Reads) (t : Terminal) (v : Values.Value) (r : List Terminal) → constant_word t ≡ Some v → atom self (t ∷ r) ≡ Found (Trees.Constant v) r
 constant_step self (Op LPar) v r h = absurd (cc)
@@ -60,7 +60,7 @@ constant_step self (Op LBrace) v r h = absurd (cc)
 constant_step self (Op _) v r h = ap (λ o. made (constant_of o) r) h
 constant_step self (Word _) v r h = ap (λ o. made (constant_of o) r) h
 constant_step self (Ident x) v r h = absurd (cc)
-constant_step self (Whole x) v r h = absurd (cc)
+constant_step self (Number x) v r h = absurd (cc)
 constant_step self (Literal x) v r h = absurd (cc)
 constant_step self Layout v r h = absurd (cc)
 
@@ -73,7 +73,7 @@ string_run_end acc (Literal v ∷ r) h = absurd (omega (arith, h))
 string_run_end acc (Op x ∷ r) h = refl
 string_run_end acc (Word x ∷ r) h = refl
 string_run_end acc (Ident x ∷ r) h = refl
-string_run_end acc (Whole x ∷ r) h = refl
+string_run_end acc (Number x ∷ r) h = refl
 string_run_end acc (Layout ∷ r) h = refl
 
 string_run_all : (vs acc : List Values.Value) (r : List Terminal) → grip_of r ≤ 24 → string_run acc (map Literal vs ++ r) ≡ Found (acc ++ vs) r

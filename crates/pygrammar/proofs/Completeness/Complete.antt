@@ -121,7 +121,7 @@ mutual
   goes (G.subscript {ts = ts} {us = us} {e = e} {s = s} p q) = subscript_goes ts us e s (goes p) (goes q)
   goes (G.name {x = x}) = name_goes x
   goes (G.constant {t = t} {v = v} h) = constant_goes t v h
-  goes (G.number {n = n}) = number_goes n
+  goes (G.number {v = v}) = number_goes v
   goes (G.strings {v = v} {w = w} vs h) = strings_goes v w vs h
   goes (G.group {ts = ts} {e = e} p) = group_goes ts e (led p) (goes p)
   goes (G.yield_group {ts = ts} {e = e} p) = yield_group_goes ts e (yields_all p)

@@ -7,7 +7,7 @@ use Rattle.pylex_lexeme.specs.declared.kinds.Exact.{Exact}
 use Rattle.pylex_lexeme.specs.declared.kinds.Exact.TheVariants.{LPar, RPar, LSqb, RSqb, LBrace, RBrace, Colon, Comma, Semi, Plus, Minus, Star, Slash, VBar, Amper, Less, Greater, Equal, Dot, Percent, EqEqual, NotEqual, LessEqual, GreaterEqual, Tilde, Circumflex, LeftShift, RightShift, DoubleStar, PlusEqual, MinEqual, StarEqual, SlashEqual, PercentEqual, AmperEqual, VBarEqual, CircumflexEqual, LeftShiftEqual, RightShiftEqual, DoubleStarEqual, DoubleSlash, DoubleSlashEqual, At, AtEqual, RArrow, Ellipsis, ColonEqual}
 use Rattle.pytoken.specs.declared.keywords.Keyword.{Keyword}
 use Rattle.pytoken.specs.declared.keywords.Keyword.TheVariants as Key
-use Rattle.pytoken.specs.Terminals.{Spelled, Terminal, Op, Word, Ident, Whole, Literal, Layout}
+use Rattle.pytoken.specs.Terminals.{Spelled, Terminal, Op, Word, Ident, Number, Literal, Layout}
 use Rattle.pygrammar.specs.Looks.{exact_number, keyword_number, is_op, is_word, name_in}
 use Rattle.pygrammar.specs.Reader.{on_some, on_first, on_name_with}
 use Rattle.pygrammar.specs.Precedence.{lead, behind, infix_rank}
@@ -40,7 +40,7 @@ op_or_not x (Op y) = go (exact_number y == exact_number x) refl
     go false h = inr refl
 op_or_not x (Word y) = inr refl
 op_or_not x (Ident y) = inr refl
-op_or_not x (Whole y) = inr refl
+op_or_not x (Number y) = inr refl
 op_or_not x (Literal y) = inr refl
 op_or_not x Layout = inr refl
 
@@ -59,7 +59,7 @@ word_or_not x (Word y) = go (keyword_number y == keyword_number x) refl
     go false h = inr refl
 word_or_not x (Op y) = inr refl
 word_or_not x (Ident y) = inr refl
-word_or_not x (Whole y) = inr refl
+word_or_not x (Number y) = inr refl
 word_or_not x (Literal y) = inr refl
 word_or_not x Layout = inr refl
 
@@ -135,7 +135,7 @@ miss_name [] hit other h = refl
 miss_name (Ident x ∷ r) hit other h = absurd (omega (arith, h))
 miss_name (Op x ∷ r) hit other h = refl
 miss_name (Word x ∷ r) hit other h = refl
-miss_name (Whole x ∷ r) hit other h = refl
+miss_name (Number x ∷ r) hit other h = refl
 miss_name (Literal x ∷ r) hit other h = refl
 miss_name (Layout ∷ r) hit other h = refl
 
@@ -145,6 +145,6 @@ miss_name_with s (Ident x ∷ []) hit other h = refl
 miss_name_with s (Ident x ∷ (t ∷ r)) hit other h = elim (op_or_not s t) [ inl e ↦ absurd (h x r (ap (λ z. Ident x ∷ (z ∷ r)) e)) | inr q ↦ ap (λ o. on_some o (λ a. hit x.form r) other) q ]
 miss_name_with s (Op y ∷ r) hit other h = refl
 miss_name_with s (Word y ∷ r) hit other h = refl
-miss_name_with s (Whole y ∷ r) hit other h = refl
+miss_name_with s (Number y ∷ r) hit other h = refl
 miss_name_with s (Literal y ∷ r) hit other h = refl
 miss_name_with s (Layout ∷ r) hit other h = refl

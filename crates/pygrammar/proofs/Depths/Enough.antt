@@ -15,7 +15,7 @@ use Rattle.pygrammar.specs.declared.levels.Level.TheVariants.{Value, Stars, Star
 use Rattle.pytree_node.specs.Trees
 use Rattle.pytree_node.specs.Trees.{Expr, OptionalExpr, absent, present, Identifier, Comprehension}
 use Rattle.pytree_node.specs.Values
-use Rattle.pytoken.specs.Terminals.{Terminal, Op, Ident, Whole, Literal}
+use Rattle.pytoken.specs.Terminals.{Terminal, Op, Ident, Number, Literal}
 use Rattle.pygrammar.specs.Looks.{is_op, is_word, name_in}
 use Rattle.pygrammar.specs.Operators.{below, chain_level, chain_word, comparison, rank}
 use Rattle.pygrammar.specs.Constants.{constant_word}
@@ -175,7 +175,7 @@ module _ (self : Reads) (b : ℕ) (all : GoodTo b self) where
   pub g_atom : (r : List Terminal) → length r ≤ b → Good (length r) (atom self r)
   g_atom [] w = tt
   g_atom (Ident x ∷ r) w = omega arith
-  g_atom (Whole x ∷ r) w = omega arith
+  g_atom (Number x ∷ r) w = omega arith
   g_atom (Literal v ∷ r) w = good_then (suc (length r)) (suc (length r)) _ _ (g_strings (suc (length r)) [] r (omega arith)) (λ vs r1 p. good_made (suc (length r)) _ r1 p)
   g_atom (Op LPar ∷ r) w = g_round self b all (suc (length r)) r (omega arith) (omega arith)
   g_atom (Op LSqb ∷ r) w = g_square self b all (suc (length r)) r (omega arith) (omega arith)

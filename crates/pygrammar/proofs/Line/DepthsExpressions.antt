@@ -9,7 +9,7 @@ use Rattle.pytree_node.specs.declared.operators.Context.TheVariants.{Load, Store
 use Rattle.pytree_node.specs.Profiles.{plain_311 as Py311}
 use Rattle.pytree_node.specs.Trees as Trees
 use Rattle.pytree_node.specs.Values as Values
-use Rattle.pytoken.specs.Terminals.{Op, Word, in_form, Whole, Literal}
+use Rattle.pytoken.specs.Terminals.{Op, Word, in_form, whole, Literal}
 use Rattle.pygrammar.specs.Reader.{Found}
 use Rattle.pytree_node.specs.Trees.{Assign, AugAssign, AnnAssign, ExprOf}
 use Rattle.pygrammar.specs.Lines.{simple_form}
@@ -47,7 +47,7 @@ depth_6 : read_line_to Py311 2 (in_form (97 ∷ []) ∷ Op Sign.Equal ∷ Word K
 depth_6 = refl
 
 -- ( x ) = 1
-depth_7 : read_line_to Py311 2 (Op Sign.LPar ∷ in_form (120 ∷ []) ∷ Op Sign.RPar ∷ Op Sign.Equal ∷ Whole 1 ∷ []) ≡ Found (simple_form (Assign ((Trees.Name (120 ∷ []) Store) ∷ []) (Trees.Constant (Values.Int 1)) ∷ [])) []
+depth_7 : read_line_to Py311 2 (Op Sign.LPar ∷ in_form (120 ∷ []) ∷ Op Sign.RPar ∷ Op Sign.Equal ∷ whole 1 ∷ []) ≡ Found (simple_form (Assign ((Trees.Name (120 ∷ []) Store) ∷ []) (Trees.Constant (Values.Int 1)) ∷ [])) []
 depth_7 = refl
 
 -- [ a , * b ] = c
@@ -71,11 +71,11 @@ depth_12 : read_line_to Py311 2 (in_form (97 ∷ []) ∷ Op Sign.Comma ∷ Op Si
 depth_12 = refl
 
 -- x += 1
-depth_13 : read_line_to Py311 1 (in_form (120 ∷ []) ∷ Op Sign.PlusEqual ∷ Whole 1 ∷ []) ≡ Found (simple_form (AugAssign (Trees.Name (120 ∷ []) Store) Bin.Add (Trees.Constant (Values.Int 1)) ∷ [])) []
+depth_13 : read_line_to Py311 1 (in_form (120 ∷ []) ∷ Op Sign.PlusEqual ∷ whole 1 ∷ []) ≡ Found (simple_form (AugAssign (Trees.Name (120 ∷ []) Store) Bin.Add (Trees.Constant (Values.Int 1)) ∷ [])) []
 depth_13 = refl
 
 -- ( x ) += 1
-depth_14 : read_line_to Py311 2 (Op Sign.LPar ∷ in_form (120 ∷ []) ∷ Op Sign.RPar ∷ Op Sign.PlusEqual ∷ Whole 1 ∷ []) ≡ Found (simple_form (AugAssign (Trees.Name (120 ∷ []) Store) Bin.Add (Trees.Constant (Values.Int 1)) ∷ [])) []
+depth_14 : read_line_to Py311 2 (Op Sign.LPar ∷ in_form (120 ∷ []) ∷ Op Sign.RPar ∷ Op Sign.PlusEqual ∷ whole 1 ∷ []) ≡ Found (simple_form (AugAssign (Trees.Name (120 ∷ []) Store) Bin.Add (Trees.Constant (Values.Int 1)) ∷ [])) []
 depth_14 = refl
 
 -- a . b **= yield c
@@ -87,7 +87,7 @@ depth_16 : read_line_to Py311 1 (in_form (120 ∷ []) ∷ Op Sign.Colon ∷ in_f
 depth_16 = refl
 
 -- x : int = 5
-depth_17 : read_line_to Py311 1 (in_form (120 ∷ []) ∷ Op Sign.Colon ∷ in_form (105 ∷ 110 ∷ 116 ∷ []) ∷ Op Sign.Equal ∷ Whole 5 ∷ []) ≡ Found (simple_form (AnnAssign (Trees.Name (120 ∷ []) Store) (Trees.Name (105 ∷ 110 ∷ 116 ∷ []) Load) (Some (Trees.Constant (Values.Int 5))) true ∷ [])) []
+depth_17 : read_line_to Py311 1 (in_form (120 ∷ []) ∷ Op Sign.Colon ∷ in_form (105 ∷ 110 ∷ 116 ∷ []) ∷ Op Sign.Equal ∷ whole 5 ∷ []) ≡ Found (simple_form (AnnAssign (Trees.Name (120 ∷ []) Store) (Trees.Name (105 ∷ 110 ∷ 116 ∷ []) Load) (Some (Trees.Constant (Values.Int 5))) true ∷ [])) []
 depth_17 = refl
 
 -- x : y = z

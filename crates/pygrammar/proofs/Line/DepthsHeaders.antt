@@ -9,7 +9,7 @@ use Rattle.pytree_node.specs.declared.operators.Context.TheVariants.{Load, Store
 use Rattle.pytree_node.specs.Profiles.{plain_311 as Py311}
 use Rattle.pytree_node.specs.Trees as Trees
 use Rattle.pytree_node.specs.Values as Values
-use Rattle.pytoken.specs.Terminals.{Op, Word, in_form, Whole}
+use Rattle.pytoken.specs.Terminals.{Op, Word, in_form, whole}
 use Rattle.pygrammar.specs.Reader.{Found}
 use Rattle.pytree_node.specs.Trees.{Assign, AnnAssign, ExprOf, Pass}
 use Rattle.pygrammar.specs.Lines.{header_form, if_header, elif_header, else_header, loop_header, while_head, decorator_form, with_header, try_header, except_header, finally_header, def_header, for_head, function_head, class_head}
@@ -34,11 +34,11 @@ depth_58 : read_line_to Py311 2 (Word Key.If ∷ Word Key.Lambda ∷ Op Sign.Col
 depth_58 = refl
 
 -- if ( x := 1 ) : pass
-depth_59 : read_line_to Py311 3 (Word Key.If ∷ Op Sign.LPar ∷ in_form (120 ∷ []) ∷ Op Sign.ColonEqual ∷ Whole 1 ∷ Op Sign.RPar ∷ Op Sign.Colon ∷ Word Key.Pass ∷ []) ≡ Found (header_form (if_header (Trees.NamedExpr (Trees.Name (120 ∷ []) Store) (Trees.Constant (Values.Int 1)))) (Some (Pass ∷ []))) []
+depth_59 : read_line_to Py311 3 (Word Key.If ∷ Op Sign.LPar ∷ in_form (120 ∷ []) ∷ Op Sign.ColonEqual ∷ whole 1 ∷ Op Sign.RPar ∷ Op Sign.Colon ∷ Word Key.Pass ∷ []) ≡ Found (header_form (if_header (Trees.NamedExpr (Trees.Name (120 ∷ []) Store) (Trees.Constant (Values.Int 1)))) (Some (Pass ∷ []))) []
 depth_59 = refl
 
 -- if x := 1 :
-depth_60 : read_line_to Py311 2 (Word Key.If ∷ in_form (120 ∷ []) ∷ Op Sign.ColonEqual ∷ Whole 1 ∷ Op Sign.Colon ∷ []) ≡ Found (header_form (if_header (Trees.NamedExpr (Trees.Name (120 ∷ []) Store) (Trees.Constant (Values.Int 1)))) None) []
+depth_60 : read_line_to Py311 2 (Word Key.If ∷ in_form (120 ∷ []) ∷ Op Sign.ColonEqual ∷ whole 1 ∷ Op Sign.Colon ∷ []) ≡ Found (header_form (if_header (Trees.NamedExpr (Trees.Name (120 ∷ []) Store) (Trees.Constant (Values.Int 1)))) None) []
 depth_60 = refl
 
 -- elif a : b ; c
@@ -50,7 +50,7 @@ depth_62 : read_line_to Py311 0 (Word Key.Else ∷ Op Sign.Colon ∷ []) ≡ Fou
 depth_62 = refl
 
 -- else : x = 1
-depth_63 : read_line_to Py311 1 (Word Key.Else ∷ Op Sign.Colon ∷ in_form (120 ∷ []) ∷ Op Sign.Equal ∷ Whole 1 ∷ []) ≡ Found (header_form (else_header) (Some (Assign ((Trees.Name (120 ∷ []) Store) ∷ []) (Trees.Constant (Values.Int 1)) ∷ []))) []
+depth_63 : read_line_to Py311 1 (Word Key.Else ∷ Op Sign.Colon ∷ in_form (120 ∷ []) ∷ Op Sign.Equal ∷ whole 1 ∷ []) ≡ Found (header_form (else_header) (Some (Assign ((Trees.Name (120 ∷ []) Store) ∷ []) (Trees.Constant (Values.Int 1)) ∷ []))) []
 depth_63 = refl
 
 -- while x : pass
@@ -186,7 +186,7 @@ depth_96 : read_line_to Py311 4 (Word Key.With ∷ Op Sign.LPar ∷ in_form (97 
 depth_96 = refl
 
 -- with ( a , b ) [ 0 ] : c
-depth_97 : read_line_to Py311 4 (Word Key.With ∷ Op Sign.LPar ∷ in_form (97 ∷ []) ∷ Op Sign.Comma ∷ in_form (98 ∷ []) ∷ Op Sign.RPar ∷ Op Sign.LSqb ∷ Whole 0 ∷ Op Sign.RSqb ∷ Op Sign.Colon ∷ in_form (99 ∷ []) ∷ []) ≡ Found (header_form (with_header false (item (Trees.Subscript (Trees.Tuple (Trees.an_expr (Trees.Name (97 ∷ []) Load) (Trees.an_expr (Trees.Name (98 ∷ []) Load) Trees.no_exprs)) Load) (Trees.Constant (Values.Int 0)) Load) None ∷ [])) (Some (ExprOf (Trees.Name (99 ∷ []) Load) ∷ []))) []
+depth_97 : read_line_to Py311 4 (Word Key.With ∷ Op Sign.LPar ∷ in_form (97 ∷ []) ∷ Op Sign.Comma ∷ in_form (98 ∷ []) ∷ Op Sign.RPar ∷ Op Sign.LSqb ∷ whole 0 ∷ Op Sign.RSqb ∷ Op Sign.Colon ∷ in_form (99 ∷ []) ∷ []) ≡ Found (header_form (with_header false (item (Trees.Subscript (Trees.Tuple (Trees.an_expr (Trees.Name (97 ∷ []) Load) (Trees.an_expr (Trees.Name (98 ∷ []) Load) Trees.no_exprs)) Load) (Trees.Constant (Values.Int 0)) Load) None ∷ [])) (Some (ExprOf (Trees.Name (99 ∷ []) Load) ∷ []))) []
 depth_97 = refl
 
 -- with a as ( b , c ) : d
@@ -258,7 +258,7 @@ depth_114 : read_line_to Py311 1 (Word Key.Def ∷ in_form (102 ∷ []) ∷ Op S
 depth_114 = refl
 
 -- def f ( a , b : int = 1 , / , * c : * d , e = 2 , ** g ) -> h : pass
-depth_115 : read_line_to Py311 3 (Word Key.Def ∷ in_form (102 ∷ []) ∷ Op Sign.LPar ∷ in_form (97 ∷ []) ∷ Op Sign.Comma ∷ in_form (98 ∷ []) ∷ Op Sign.Colon ∷ in_form (105 ∷ 110 ∷ 116 ∷ []) ∷ Op Sign.Equal ∷ Whole 1 ∷ Op Sign.Comma ∷ Op Sign.Slash ∷ Op Sign.Comma ∷ Op Sign.Star ∷ in_form (99 ∷ []) ∷ Op Sign.Colon ∷ Op Sign.Star ∷ in_form (100 ∷ []) ∷ Op Sign.Comma ∷ in_form (101 ∷ []) ∷ Op Sign.Equal ∷ Whole 2 ∷ Op Sign.Comma ∷ Op Sign.DoubleStar ∷ in_form (103 ∷ []) ∷ Op Sign.RPar ∷ Op Sign.RArrow ∷ in_form (104 ∷ []) ∷ Op Sign.Colon ∷ Word Key.Pass ∷ []) ≡ Found (header_form (def_header (function_head false (102 ∷ []) [] (Trees.arguments (Trees.an_arg (Trees.arg (97 ∷ []) Trees.absent) (Trees.an_arg (Trees.arg (98 ∷ []) (Trees.present (Trees.Name (105 ∷ 110 ∷ 116 ∷ []) Load))) Trees.no_arg)) Trees.no_arg (Trees.present_arg (Trees.arg (99 ∷ []) (Trees.present (Trees.Starred (Trees.Name (100 ∷ []) Load) Load)))) (Trees.an_arg (Trees.arg (101 ∷ []) Trees.absent) Trees.no_arg) (Trees.an_optional (Trees.present (Trees.Constant (Values.Int 2))) Trees.no_optional) (Trees.present_arg (Trees.arg (103 ∷ []) Trees.absent)) (Trees.an_expr (Trees.Constant (Values.Int 1)) Trees.no_exprs)) (Some (Trees.Name (104 ∷ []) Load)))) (Some (Pass ∷ []))) []
+depth_115 : read_line_to Py311 3 (Word Key.Def ∷ in_form (102 ∷ []) ∷ Op Sign.LPar ∷ in_form (97 ∷ []) ∷ Op Sign.Comma ∷ in_form (98 ∷ []) ∷ Op Sign.Colon ∷ in_form (105 ∷ 110 ∷ 116 ∷ []) ∷ Op Sign.Equal ∷ whole 1 ∷ Op Sign.Comma ∷ Op Sign.Slash ∷ Op Sign.Comma ∷ Op Sign.Star ∷ in_form (99 ∷ []) ∷ Op Sign.Colon ∷ Op Sign.Star ∷ in_form (100 ∷ []) ∷ Op Sign.Comma ∷ in_form (101 ∷ []) ∷ Op Sign.Equal ∷ whole 2 ∷ Op Sign.Comma ∷ Op Sign.DoubleStar ∷ in_form (103 ∷ []) ∷ Op Sign.RPar ∷ Op Sign.RArrow ∷ in_form (104 ∷ []) ∷ Op Sign.Colon ∷ Word Key.Pass ∷ []) ≡ Found (header_form (def_header (function_head false (102 ∷ []) [] (Trees.arguments (Trees.an_arg (Trees.arg (97 ∷ []) Trees.absent) (Trees.an_arg (Trees.arg (98 ∷ []) (Trees.present (Trees.Name (105 ∷ 110 ∷ 116 ∷ []) Load))) Trees.no_arg)) Trees.no_arg (Trees.present_arg (Trees.arg (99 ∷ []) (Trees.present (Trees.Starred (Trees.Name (100 ∷ []) Load) Load)))) (Trees.an_arg (Trees.arg (101 ∷ []) Trees.absent) Trees.no_arg) (Trees.an_optional (Trees.present (Trees.Constant (Values.Int 2))) Trees.no_optional) (Trees.present_arg (Trees.arg (103 ∷ []) Trees.absent)) (Trees.an_expr (Trees.Constant (Values.Int 1)) Trees.no_exprs)) (Some (Trees.Name (104 ∷ []) Load)))) (Some (Pass ∷ []))) []
 depth_115 = refl
 
 -- def f ( a ) :
@@ -298,7 +298,7 @@ depth_136 : read_line_to Py311 1 (Word Key.For ∷ in_form (120 ∷ []) ∷ Word
 depth_136 = refl
 
 -- class C : x : int = 1
-depth_137 : read_line_to Py311 1 (Word Key.Class ∷ in_form (67 ∷ []) ∷ Op Sign.Colon ∷ in_form (120 ∷ []) ∷ Op Sign.Colon ∷ in_form (105 ∷ 110 ∷ 116 ∷ []) ∷ Op Sign.Equal ∷ Whole 1 ∷ []) ≡ Found (header_form (def_header (class_head (67 ∷ []) [] ([]) Trees.no_keyword)) (Some (AnnAssign (Trees.Name (120 ∷ []) Store) (Trees.Name (105 ∷ 110 ∷ 116 ∷ []) Load) (Some (Trees.Constant (Values.Int 1))) true ∷ []))) []
+depth_137 : read_line_to Py311 1 (Word Key.Class ∷ in_form (67 ∷ []) ∷ Op Sign.Colon ∷ in_form (120 ∷ []) ∷ Op Sign.Colon ∷ in_form (105 ∷ 110 ∷ 116 ∷ []) ∷ Op Sign.Equal ∷ whole 1 ∷ []) ≡ Found (header_form (def_header (class_head (67 ∷ []) [] ([]) Trees.no_keyword)) (Some (AnnAssign (Trees.Name (120 ∷ []) Store) (Trees.Name (105 ∷ 110 ∷ 116 ∷ []) Load) (Some (Trees.Constant (Values.Int 1))) true ∷ []))) []
 depth_137 = refl
 
 -- with a as b : c : d
@@ -342,7 +342,7 @@ depth_184 : read_line_to Py311 5 (Word Key.With ∷ Op Sign.LPar ∷ in_form (97
 depth_184 = refl
 
 -- with ( a , ( b , ( c ) ) ) [ 0 ] : d
-depth_185 : read_line_to Py311 7 (Word Key.With ∷ Op Sign.LPar ∷ in_form (97 ∷ []) ∷ Op Sign.Comma ∷ Op Sign.LPar ∷ in_form (98 ∷ []) ∷ Op Sign.Comma ∷ Op Sign.LPar ∷ in_form (99 ∷ []) ∷ Op Sign.RPar ∷ Op Sign.RPar ∷ Op Sign.RPar ∷ Op Sign.LSqb ∷ Whole 0 ∷ Op Sign.RSqb ∷ Op Sign.Colon ∷ in_form (100 ∷ []) ∷ []) ≡ Found (header_form (with_header false (item (Trees.Subscript (Trees.Tuple (Trees.an_expr (Trees.Name (97 ∷ []) Load) (Trees.an_expr (Trees.Tuple (Trees.an_expr (Trees.Name (98 ∷ []) Load) (Trees.an_expr (Trees.Name (99 ∷ []) Load) Trees.no_exprs)) Load) Trees.no_exprs)) Load) (Trees.Constant (Values.Int 0)) Load) None ∷ [])) (Some (ExprOf (Trees.Name (100 ∷ []) Load) ∷ []))) []
+depth_185 : read_line_to Py311 7 (Word Key.With ∷ Op Sign.LPar ∷ in_form (97 ∷ []) ∷ Op Sign.Comma ∷ Op Sign.LPar ∷ in_form (98 ∷ []) ∷ Op Sign.Comma ∷ Op Sign.LPar ∷ in_form (99 ∷ []) ∷ Op Sign.RPar ∷ Op Sign.RPar ∷ Op Sign.RPar ∷ Op Sign.LSqb ∷ whole 0 ∷ Op Sign.RSqb ∷ Op Sign.Colon ∷ in_form (100 ∷ []) ∷ []) ≡ Found (header_form (with_header false (item (Trees.Subscript (Trees.Tuple (Trees.an_expr (Trees.Name (97 ∷ []) Load) (Trees.an_expr (Trees.Tuple (Trees.an_expr (Trees.Name (98 ∷ []) Load) (Trees.an_expr (Trees.Name (99 ∷ []) Load) Trees.no_exprs)) Load) Trees.no_exprs)) Load) (Trees.Constant (Values.Int 0)) Load) None ∷ [])) (Some (ExprOf (Trees.Name (100 ∷ []) Load) ∷ []))) []
 depth_185 = refl
 
 -- with ( a if b else ( c ) ) : d

@@ -10,7 +10,7 @@ use Rattle.pytree_node.specs.declared.operators.Context.TheVariants.{Load, Store
 use Rattle.pytree_node.specs.Profiles.{plain_311 as Py311}
 use Rattle.pytree_node.specs.Trees as Trees
 use Rattle.pytree_node.specs.Values as Values
-use Rattle.pytoken.specs.Terminals.{Op, Word, in_form, Whole, Literal}
+use Rattle.pytoken.specs.Terminals.{Op, Word, in_form, whole, Literal}
 use Rattle.pygrammar.specs.Reader.{Found, NoForm}
 use Rattle.pytree_node.specs.Trees.{AnnAssign, ExprOf, Pass, Assign, AugAssign}
 use Rattle.pygrammar.specs.Lines.{simple_form}
@@ -19,7 +19,7 @@ use Rattle.pytree_node.specs.declared.operators.Comparison.TheVariants as Is
 use Rattle.pytree_node.specs.declared.operators.UnaryOperator.TheVariants as Un
 
 -- ( ) += 1
-case_2 : read_line Py311 (Op Sign.LPar ∷ Op Sign.RPar ∷ Op Sign.PlusEqual ∷ Whole 1 ∷ []) ≡ NoForm
+case_2 : read_line Py311 (Op Sign.LPar ∷ Op Sign.RPar ∷ Op Sign.PlusEqual ∷ whole 1 ∷ []) ≡ NoForm
 case_2 = refl
 
 -- x ; pass
@@ -55,7 +55,7 @@ case_24 : read_line Py311 (in_form (120 ∷ []) ∷ Op Sign.Colon ∷ Word Key.W
 case_24 = refl
 
 -- ) ( x ) = 1
-case_25 : read_line Py311 (Op Sign.RPar ∷ Op Sign.LPar ∷ in_form (120 ∷ []) ∷ Op Sign.RPar ∷ Op Sign.Equal ∷ Whole 1 ∷ []) ≡ NoForm
+case_25 : read_line Py311 (Op Sign.RPar ∷ Op Sign.LPar ∷ in_form (120 ∷ []) ∷ Op Sign.RPar ∷ Op Sign.Equal ∷ whole 1 ∷ []) ≡ NoForm
 case_25 = refl
 
 -- d async : y
@@ -67,7 +67,7 @@ case_36 : read_line Py311 (in_form (100 ∷ []) ∷ in_form (120 ∷ []) ∷ Op 
 case_36 = refl
 
 -- 1
-case_39 : read_line Py311 (Whole 1 ∷ []) ≡ Found (simple_form (ExprOf (Trees.Constant (Values.Int 1)) ∷ [])) []
+case_39 : read_line Py311 (whole 1 ∷ []) ≡ Found (simple_form (ExprOf (Trees.Constant (Values.Int 1)) ∷ [])) []
 case_39 = refl
 
 -- x += * y , ,
@@ -139,7 +139,7 @@ case_74 : read_line Py311 (in_form (120 ∷ []) ∷ Op Sign.Colon ∷ Word Key.L
 case_74 = refl
 
 -- 1 :
-case_75 : read_line Py311 (Whole 1 ∷ Op Sign.Colon ∷ []) ≡ NoForm
+case_75 : read_line Py311 (whole 1 ∷ Op Sign.Colon ∷ []) ≡ NoForm
 case_75 = refl
 
 -- x
@@ -203,7 +203,7 @@ case_118 : read_line Py311 (Word Key.In ∷ Op Sign.Equal ∷ Op Sign.Star ∷ W
 case_118 = refl
 
 -- g = 1 ,
-case_119 : read_line Py311 (in_form (103 ∷ []) ∷ Op Sign.Equal ∷ Whole 1 ∷ Op Sign.Comma ∷ []) ≡ Found (simple_form (Assign ((Trees.Name (103 ∷ []) Store) ∷ []) (Trees.Tuple (Trees.an_expr (Trees.Constant (Values.Int 1)) Trees.no_exprs) Load) ∷ [])) []
+case_119 : read_line Py311 (in_form (103 ∷ []) ∷ Op Sign.Equal ∷ whole 1 ∷ Op Sign.Comma ∷ []) ≡ Found (simple_form (Assign ((Trees.Name (103 ∷ []) Store) ∷ []) (Trees.Tuple (Trees.an_expr (Trees.Constant (Values.Int 1)) Trees.no_exprs) Load) ∷ [])) []
 case_119 = refl
 
 -- * x
@@ -239,7 +239,7 @@ case_142 : read_line Py311 (Word Key.Lambda ∷ Op Sign.Colon ∷ Op Sign.LPar �
 case_142 = refl
 
 -- a , = 1
-case_144 : read_line Py311 (in_form (97 ∷ []) ∷ Op Sign.Comma ∷ Op Sign.Equal ∷ Whole 1 ∷ []) ≡ Found (simple_form (Assign ((Trees.Tuple (Trees.an_expr (Trees.Name (97 ∷ []) Store) Trees.no_exprs) Store) ∷ []) (Trees.Constant (Values.Int 1)) ∷ [])) []
+case_144 : read_line Py311 (in_form (97 ∷ []) ∷ Op Sign.Comma ∷ Op Sign.Equal ∷ whole 1 ∷ []) ≡ Found (simple_form (Assign ((Trees.Tuple (Trees.an_expr (Trees.Name (97 ∷ []) Store) Trees.no_exprs) Store) ∷ []) (Trees.Constant (Values.Int 1)) ∷ [])) []
 case_144 = refl
 
 -- ( yield ) ;
@@ -287,7 +287,7 @@ case_162 : read_line Py311 (Op Sign.Star ∷ in_form (98 ∷ []) ∷ []) ≡ Fou
 case_162 = refl
 
 -- x += 1 ,
-case_165 : read_line Py311 (in_form (120 ∷ []) ∷ Op Sign.PlusEqual ∷ Whole 1 ∷ Op Sign.Comma ∷ []) ≡ Found (simple_form (AugAssign (Trees.Name (120 ∷ []) Store) Bin.Add (Trees.Tuple (Trees.an_expr (Trees.Constant (Values.Int 1)) Trees.no_exprs) Load) ∷ [])) []
+case_165 : read_line Py311 (in_form (120 ∷ []) ∷ Op Sign.PlusEqual ∷ whole 1 ∷ Op Sign.Comma ∷ []) ≡ Found (simple_form (AugAssign (Trees.Name (120 ∷ []) Store) Bin.Add (Trees.Tuple (Trees.an_expr (Trees.Constant (Values.Int 1)) Trees.no_exprs) Load) ∷ [])) []
 case_165 = refl
 
 -- a @ a
@@ -343,7 +343,7 @@ case_185 : read_line Py311 (in_form (105 ∷ 110 ∷ 116 ∷ []) ∷ Op Sign.Equ
 case_185 = refl
 
 -- ( ) = 1
-case_186 : read_line Py311 (Op Sign.LPar ∷ Op Sign.RPar ∷ Op Sign.Equal ∷ Whole 1 ∷ []) ≡ Found (simple_form (Assign ((Trees.Tuple Trees.no_exprs Store) ∷ []) (Trees.Constant (Values.Int 1)) ∷ [])) []
+case_186 : read_line Py311 (Op Sign.LPar ∷ Op Sign.RPar ∷ Op Sign.Equal ∷ whole 1 ∷ []) ≡ Found (simple_form (Assign ((Trees.Tuple Trees.no_exprs Store) ∷ []) (Trees.Constant (Values.Int 1)) ∷ [])) []
 case_186 = refl
 
 -- x ;

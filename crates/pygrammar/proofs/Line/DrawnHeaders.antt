@@ -10,7 +10,7 @@ use Rattle.pytree_node.specs.declared.operators.Context.TheVariants.{Load, Store
 use Rattle.pytree_node.specs.Profiles.{plain_311 as Py311}
 use Rattle.pytree_node.specs.Trees as Trees
 use Rattle.pytree_node.specs.Values as Values
-use Rattle.pytoken.specs.Terminals.{Op, Word, in_form, Whole}
+use Rattle.pytoken.specs.Terminals.{Op, Word, in_form, whole}
 use Rattle.pygrammar.specs.Reader.{Found, NoForm}
 use Rattle.pytree_node.specs.Trees.{AnnAssign, ExprOf, Pass, Return}
 use Rattle.pygrammar.specs.Lines.{header_form, else_header, with_header, def_header, function_head, if_header, loop_header, try_header, for_head, decorator_form, except_header, while_head, class_head}
@@ -103,7 +103,7 @@ case_43 : read_line Py311 (Word Key.With ∷ Op Sign.LPar ∷ in_form (97 ∷ []
 case_43 = refl
 
 -- else , : x = 1 @ lambda : x
-case_50 : read_line Py311 (Word Key.Else ∷ Op Sign.Comma ∷ Op Sign.Colon ∷ in_form (120 ∷ []) ∷ Op Sign.Equal ∷ Whole 1 ∷ Op Sign.At ∷ Word Key.Lambda ∷ Op Sign.Colon ∷ in_form (120 ∷ []) ∷ []) ≡ NoForm
+case_50 : read_line Py311 (Word Key.Else ∷ Op Sign.Comma ∷ Op Sign.Colon ∷ in_form (120 ∷ []) ∷ Op Sign.Equal ∷ whole 1 ∷ Op Sign.At ∷ Word Key.Lambda ∷ Op Sign.Colon ∷ in_form (120 ∷ []) ∷ []) ≡ NoForm
 case_50 = refl
 
 -- except * :
@@ -119,7 +119,7 @@ case_57 : read_line Py311 (Word Key.With ∷ in_form (97 ∷ []) ∷ Op Sign.LPa
 case_57 = refl
 
 -- if ( x := 1 ) : , pass
-case_62 : read_line Py311 (Word Key.If ∷ Op Sign.LPar ∷ in_form (120 ∷ []) ∷ Op Sign.ColonEqual ∷ Whole 1 ∷ Op Sign.RPar ∷ Op Sign.Colon ∷ Op Sign.Comma ∷ Word Key.Pass ∷ []) ≡ NoForm
+case_62 : read_line Py311 (Word Key.If ∷ Op Sign.LPar ∷ in_form (120 ∷ []) ∷ Op Sign.ColonEqual ∷ whole 1 ∷ Op Sign.RPar ∷ Op Sign.Colon ∷ Op Sign.Comma ∷ Word Key.Pass ∷ []) ≡ NoForm
 case_62 = refl
 
 -- @ a * a :
@@ -131,7 +131,7 @@ case_68 : read_line Py311 (Word Key.With ∷ Op Sign.LPar ∷ in_form (97 ∷ []
 case_68 = refl
 
 -- if x := 1 with as :
-case_70 : read_line Py311 (Word Key.If ∷ in_form (120 ∷ []) ∷ Op Sign.ColonEqual ∷ Whole 1 ∷ Word Key.With ∷ Word Key.As ∷ Op Sign.Colon ∷ []) ≡ NoForm
+case_70 : read_line Py311 (Word Key.If ∷ in_form (120 ∷ []) ∷ Op Sign.ColonEqual ∷ whole 1 ∷ Word Key.With ∷ Word Key.As ∷ Op Sign.Colon ∷ []) ≡ NoForm
 case_70 = refl
 
 -- if x :
@@ -139,7 +139,7 @@ case_79 : read_line Py311 (Word Key.If ∷ in_form (120 ∷ []) ∷ Op Sign.Colo
 case_79 = refl
 
 -- with ( a , b ) [ 0 ] : b
-case_80 : read_line Py311 (Word Key.With ∷ Op Sign.LPar ∷ in_form (97 ∷ []) ∷ Op Sign.Comma ∷ in_form (98 ∷ []) ∷ Op Sign.RPar ∷ Op Sign.LSqb ∷ Whole 0 ∷ Op Sign.RSqb ∷ Op Sign.Colon ∷ in_form (98 ∷ []) ∷ []) ≡ Found (header_form (with_header false (item (Trees.Subscript (Trees.Tuple (Trees.an_expr (Trees.Name (97 ∷ []) Load) (Trees.an_expr (Trees.Name (98 ∷ []) Load) Trees.no_exprs)) Load) (Trees.Constant (Values.Int 0)) Load) None ∷ [])) (Some (ExprOf (Trees.Name (98 ∷ []) Load) ∷ []))) []
+case_80 : read_line Py311 (Word Key.With ∷ Op Sign.LPar ∷ in_form (97 ∷ []) ∷ Op Sign.Comma ∷ in_form (98 ∷ []) ∷ Op Sign.RPar ∷ Op Sign.LSqb ∷ whole 0 ∷ Op Sign.RSqb ∷ Op Sign.Colon ∷ in_form (98 ∷ []) ∷ []) ≡ Found (header_form (with_header false (item (Trees.Subscript (Trees.Tuple (Trees.an_expr (Trees.Name (97 ∷ []) Load) (Trees.an_expr (Trees.Name (98 ∷ []) Load) Trees.no_exprs)) Load) (Trees.Constant (Values.Int 0)) Load) None ∷ [])) (Some (ExprOf (Trees.Name (98 ∷ []) Load) ∷ []))) []
 case_80 = refl
 
 -- async def a f ( ) : pass
@@ -151,7 +151,7 @@ case_83 : read_line Py311 (Word Key.With ∷ Op Sign.LPar ∷ in_form (97 ∷ []
 case_83 = refl
 
 -- with b as 1 b
-case_86 : read_line Py311 (Word Key.With ∷ in_form (98 ∷ []) ∷ Word Key.As ∷ Whole 1 ∷ in_form (98 ∷ []) ∷ []) ≡ NoForm
+case_86 : read_line Py311 (Word Key.With ∷ in_form (98 ∷ []) ∷ Word Key.As ∷ whole 1 ∷ in_form (98 ∷ []) ∷ []) ≡ NoForm
 case_86 = refl
 
 -- except f ( ) -> * a :
@@ -199,7 +199,7 @@ case_106 : read_line Py311 (Word Key.With ∷ in_form (97 ∷ []) ∷ Word Key.A
 case_106 = refl
 
 -- while x ( ) b = 1
-case_109 : read_line Py311 (Word Key.While ∷ in_form (120 ∷ []) ∷ Op Sign.LPar ∷ Op Sign.RPar ∷ in_form (98 ∷ []) ∷ Op Sign.Equal ∷ Whole 1 ∷ []) ≡ NoForm
+case_109 : read_line Py311 (Word Key.While ∷ in_form (120 ∷ []) ∷ Op Sign.LPar ∷ Op Sign.RPar ∷ in_form (98 ∷ []) ∷ Op Sign.Equal ∷ whole 1 ∷ []) ≡ NoForm
 case_109 = refl
 
 -- with ( ] , a ) as c , d : pass
@@ -267,7 +267,7 @@ case_138 : read_line Py311 (Word Key.Except ∷ in_form (97 ∷ []) ∷ Word Key
 case_138 = refl
 
 -- def f ( a = 1 , ) :
-case_141 : read_line Py311 (Word Key.Def ∷ in_form (102 ∷ []) ∷ Op Sign.LPar ∷ in_form (97 ∷ []) ∷ Op Sign.Equal ∷ Whole 1 ∷ Op Sign.Comma ∷ Op Sign.RPar ∷ Op Sign.Colon ∷ []) ≡ Found (header_form (def_header (function_head false (102 ∷ []) [] (Trees.arguments Trees.no_arg (Trees.an_arg (Trees.arg (97 ∷ []) Trees.absent) Trees.no_arg) Trees.absent_arg Trees.no_arg Trees.no_optional Trees.absent_arg (Trees.an_expr (Trees.Constant (Values.Int 1)) Trees.no_exprs)) None)) None) []
+case_141 : read_line Py311 (Word Key.Def ∷ in_form (102 ∷ []) ∷ Op Sign.LPar ∷ in_form (97 ∷ []) ∷ Op Sign.Equal ∷ whole 1 ∷ Op Sign.Comma ∷ Op Sign.RPar ∷ Op Sign.Colon ∷ []) ≡ Found (header_form (def_header (function_head false (102 ∷ []) [] (Trees.arguments Trees.no_arg (Trees.an_arg (Trees.arg (97 ∷ []) Trees.absent) Trees.no_arg) Trees.absent_arg Trees.no_arg Trees.no_optional Trees.absent_arg (Trees.an_expr (Trees.Constant (Values.Int 1)) Trees.no_exprs)) None)) None) []
 case_141 = refl
 
 -- @ y
@@ -355,7 +355,7 @@ case_196 : read_line Py311 (Word Key.While ∷ in_form (120 ∷ []) ∷ Op Sign.
 case_196 = refl
 
 -- class C ( 1 , b ) : pass
-case_197 : read_line Py311 (Word Key.Class ∷ in_form (67 ∷ []) ∷ Op Sign.LPar ∷ Whole 1 ∷ Op Sign.Comma ∷ in_form (98 ∷ []) ∷ Op Sign.RPar ∷ Op Sign.Colon ∷ Word Key.Pass ∷ []) ≡ Found (header_form (def_header (class_head (67 ∷ []) [] ((Trees.Constant (Values.Int 1)) ∷ (Trees.Name (98 ∷ []) Load) ∷ []) Trees.no_keyword)) (Some (Pass ∷ []))) []
+case_197 : read_line Py311 (Word Key.Class ∷ in_form (67 ∷ []) ∷ Op Sign.LPar ∷ whole 1 ∷ Op Sign.Comma ∷ in_form (98 ∷ []) ∷ Op Sign.RPar ∷ Op Sign.Colon ∷ Word Key.Pass ∷ []) ≡ Found (header_form (def_header (class_head (67 ∷ []) [] ((Trees.Constant (Values.Int 1)) ∷ (Trees.Name (98 ∷ []) Load) ∷ []) Trees.no_keyword)) (Some (Pass ∷ []))) []
 case_197 = refl
 
 -- try :

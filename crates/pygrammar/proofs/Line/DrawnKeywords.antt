@@ -8,7 +8,7 @@ use Rattle.pytoken.specs.declared.keywords.Keyword.TheVariants as Key
 use Rattle.pytree_node.specs.declared.operators.Context.TheVariants.{Load, Del}
 use Rattle.pytree_node.specs.Profiles.{plain_311 as Py311}
 use Rattle.pytree_node.specs.Trees as Trees
-use Rattle.pytoken.specs.Terminals.{Op, Word, in_form, Whole}
+use Rattle.pytoken.specs.Terminals.{Op, Word, in_form, whole}
 use Rattle.pygrammar.specs.Reader.{Found, NoForm}
 use Rattle.pytree_node.specs.Trees.{Delete, Raise, Pass, Return, Assert, Import, ImportFrom}
 use Rattle.pygrammar.specs.Lines.{simple_form}
@@ -32,7 +32,7 @@ case_23 : read_line Py311 (Word Key.From ∷ in_form (97 ∷ []) ∷ Op Sign.RPa
 case_23 = refl
 
 -- global a b , b 1
-case_26 : read_line Py311 (Word Key.Global ∷ in_form (97 ∷ []) ∷ in_form (98 ∷ []) ∷ Op Sign.Comma ∷ in_form (98 ∷ []) ∷ Whole 1 ∷ []) ≡ NoForm
+case_26 : read_line Py311 (Word Key.Global ∷ in_form (97 ∷ []) ∷ in_form (98 ∷ []) ∷ Op Sign.Comma ∷ in_form (98 ∷ []) ∷ whole 1 ∷ []) ≡ NoForm
 case_26 = refl
 
 -- raise a
@@ -56,7 +56,7 @@ case_45 : read_line Py311 (Word Key.Import ∷ in_form (97 ∷ []) ∷ Op Sign.D
 case_45 = refl
 
 -- import a ( a ) , ) [ 0 ] : c
-case_52 : read_line Py311 (Word Key.Import ∷ in_form (97 ∷ []) ∷ Op Sign.LPar ∷ in_form (97 ∷ []) ∷ Op Sign.RPar ∷ Op Sign.Comma ∷ Op Sign.RPar ∷ Op Sign.LSqb ∷ Whole 0 ∷ Op Sign.RSqb ∷ Op Sign.Colon ∷ in_form (99 ∷ []) ∷ []) ≡ NoForm
+case_52 : read_line Py311 (Word Key.Import ∷ in_form (97 ∷ []) ∷ Op Sign.LPar ∷ in_form (97 ∷ []) ∷ Op Sign.RPar ∷ Op Sign.Comma ∷ Op Sign.RPar ∷ Op Sign.LSqb ∷ whole 0 ∷ Op Sign.RSqb ∷ Op Sign.Colon ∷ in_form (99 ∷ []) ∷ []) ≡ NoForm
 case_52 = refl
 
 -- from . a . b import c as
@@ -96,7 +96,7 @@ case_99 : read_line Py311 (Word Key.From ∷ Word Key.Import ∷ Op Sign.LPar �
 case_99 = refl
 
 -- del x in y in z : 1 pass
-case_101 : read_line Py311 (Word Key.Del ∷ in_form (120 ∷ []) ∷ Word Key.In ∷ in_form (121 ∷ []) ∷ Word Key.In ∷ in_form (122 ∷ []) ∷ Op Sign.Colon ∷ Whole 1 ∷ Word Key.Pass ∷ []) ≡ NoForm
+case_101 : read_line Py311 (Word Key.Del ∷ in_form (120 ∷ []) ∷ Word Key.In ∷ in_form (121 ∷ []) ∷ Word Key.In ∷ in_form (122 ∷ []) ∷ Op Sign.Colon ∷ whole 1 ∷ Word Key.Pass ∷ []) ≡ NoForm
 case_101 = refl
 
 -- raise a d

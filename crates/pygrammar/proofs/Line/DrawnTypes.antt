@@ -10,7 +10,7 @@ use Rattle.pytree_node.specs.declared.operators.Context.TheVariants.{Load, Store
 use Rattle.pytree_node.specs.Profiles.{plain_311 as Py311, plain_312 as Py312}
 use Rattle.pytree_node.specs.Trees as Trees
 use Rattle.pytree_node.specs.Values as Values
-use Rattle.pytoken.specs.Terminals.{Op, Word, in_form, Whole}
+use Rattle.pytoken.specs.Terminals.{Op, Word, in_form, whole}
 use Rattle.pygrammar.specs.Reader.{Found, NoForm}
 use Rattle.pytree_node.specs.Trees.{TypeVar, ParamSpec, TypeAlias, Assign, AugAssign, AnnAssign, ExprOf, Pass}
 use Rattle.pygrammar.specs.Lines.{simple_form, header_form, if_header, def_header, function_head, class_head}
@@ -286,10 +286,10 @@ old_49 : read_line Py311 (in_form (88 ∷ []) ∷ Op Sign.Equal ∷ Word Key.Lam
 old_49 = refl
 
 -- type type = 1
-case_50 : read_line Py312 (in_form (116 ∷ 121 ∷ 112 ∷ 101 ∷ []) ∷ in_form (116 ∷ 121 ∷ 112 ∷ 101 ∷ []) ∷ Op Sign.Equal ∷ Whole 1 ∷ []) ≡ Found (simple_form (TypeAlias (Trees.Name (116 ∷ 121 ∷ 112 ∷ 101 ∷ []) Store) ([]) (Trees.Constant (Values.Int 1)) ∷ [])) []
+case_50 : read_line Py312 (in_form (116 ∷ 121 ∷ 112 ∷ 101 ∷ []) ∷ in_form (116 ∷ 121 ∷ 112 ∷ 101 ∷ []) ∷ Op Sign.Equal ∷ whole 1 ∷ []) ≡ Found (simple_form (TypeAlias (Trees.Name (116 ∷ 121 ∷ 112 ∷ 101 ∷ []) Store) ([]) (Trees.Constant (Values.Int 1)) ∷ [])) []
 case_50 = refl
 
-old_50 : read_line Py311 (in_form (116 ∷ 121 ∷ 112 ∷ 101 ∷ []) ∷ in_form (116 ∷ 121 ∷ 112 ∷ 101 ∷ []) ∷ Op Sign.Equal ∷ Whole 1 ∷ []) ≡ NoForm
+old_50 : read_line Py311 (in_form (116 ∷ 121 ∷ 112 ∷ 101 ∷ []) ∷ in_form (116 ∷ 121 ∷ 112 ∷ 101 ∷ []) ∷ Op Sign.Equal ∷ whole 1 ∷ []) ≡ NoForm
 old_50 = refl
 
 -- X = x ; z
@@ -349,10 +349,10 @@ old_58 : read_line Py311 (in_form (116 ∷ 121 ∷ 112 ∷ 101 ∷ []) ∷ in_fo
 old_58 = refl
 
 -- type X [ T : ( yield ) ] = 1
-case_59 : read_line Py312 (in_form (116 ∷ 121 ∷ 112 ∷ 101 ∷ []) ∷ in_form (88 ∷ []) ∷ Op Sign.LSqb ∷ in_form (84 ∷ []) ∷ Op Sign.Colon ∷ Op Sign.LPar ∷ Word Key.Yield ∷ Op Sign.RPar ∷ Op Sign.RSqb ∷ Op Sign.Equal ∷ Whole 1 ∷ []) ≡ Found (simple_form (TypeAlias (Trees.Name (88 ∷ []) Store) (TypeVar (84 ∷ []) (Some (Trees.Yield Trees.absent)) ∷ []) (Trees.Constant (Values.Int 1)) ∷ [])) []
+case_59 : read_line Py312 (in_form (116 ∷ 121 ∷ 112 ∷ 101 ∷ []) ∷ in_form (88 ∷ []) ∷ Op Sign.LSqb ∷ in_form (84 ∷ []) ∷ Op Sign.Colon ∷ Op Sign.LPar ∷ Word Key.Yield ∷ Op Sign.RPar ∷ Op Sign.RSqb ∷ Op Sign.Equal ∷ whole 1 ∷ []) ≡ Found (simple_form (TypeAlias (Trees.Name (88 ∷ []) Store) (TypeVar (84 ∷ []) (Some (Trees.Yield Trees.absent)) ∷ []) (Trees.Constant (Values.Int 1)) ∷ [])) []
 case_59 = refl
 
-old_59 : read_line Py311 (in_form (116 ∷ 121 ∷ 112 ∷ 101 ∷ []) ∷ in_form (88 ∷ []) ∷ Op Sign.LSqb ∷ in_form (84 ∷ []) ∷ Op Sign.Colon ∷ Op Sign.LPar ∷ Word Key.Yield ∷ Op Sign.RPar ∷ Op Sign.RSqb ∷ Op Sign.Equal ∷ Whole 1 ∷ []) ≡ NoForm
+old_59 : read_line Py311 (in_form (116 ∷ 121 ∷ 112 ∷ 101 ∷ []) ∷ in_form (88 ∷ []) ∷ Op Sign.LSqb ∷ in_form (84 ∷ []) ∷ Op Sign.Colon ∷ Op Sign.LPar ∷ Word Key.Yield ∷ Op Sign.RPar ∷ Op Sign.RSqb ∷ Op Sign.Equal ∷ whole 1 ∷ []) ≡ NoForm
 old_59 = refl
 
 -- class C ( B ) : type x = y

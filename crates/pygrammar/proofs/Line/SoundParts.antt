@@ -14,7 +14,7 @@ use Rattle.pytoken.specs.declared.keywords.Keyword.TheVariants as Key
 use Rattle.pytree_node.specs.declared.profiles.Profile.{Profile}
 use Rattle.pygrammar.specs.declared.levels.Level.{Level}
 use Rattle.pygrammar.specs.declared.levels.Level.TheVariants.{Expression}
-use Rattle.pytoken.specs.Terminals.{Spelled, Terminal, Op, Word, Ident, Whole, Literal, Layout}
+use Rattle.pytoken.specs.Terminals.{Spelled, Terminal, Op, Word, Ident, Number, Literal, Layout}
 use Rattle.pygrammar.specs.Entries.{Of}
 use Rattle.pygrammar.specs.Reader.{Answer, on_some}
 use Rattle.pygrammar.specs.Precedence.{starts}
@@ -100,7 +100,7 @@ type_is (Ident x) n h = (x.form, go (bytes_eq x.spelling type_name) refl h)
     go false q h = absurd (cc)
 type_is (Op _) n h = absurd (cc)
 type_is (Word _) n h = absurd (cc)
-type_is (Whole _) n h = absurd (cc)
+type_is (Number _) n h = absurd (cc)
 type_is (Literal _) n h = absurd (cc)
 type_is Layout n h = absurd (cc)
 

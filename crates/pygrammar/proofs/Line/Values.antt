@@ -13,7 +13,7 @@ use Rattle.pytree_node.specs.Profiles.{has_types}
 use Rattle.pygrammar.specs.declared.levels.Level.TheVariants.{Value, Stars, Expression, Or, Primary}
 use Rattle.pytree_node.specs.Trees.{Expr, Identifier, Assign, AugAssign, AnnAssign, ExprOf}
 use Rattle.pytree_node.specs.Trees as Trees
-use Rattle.pytoken.specs.Terminals.{Spelled, Terminal, Op, Word, Ident, Whole, Literal, Layout}
+use Rattle.pytoken.specs.Terminals.{Spelled, Terminal, Op, Word, Ident, Number, Literal, Layout}
 use Rattle.pygrammar.specs.Looks.{is_op, name_in}
 use Rattle.pygrammar.specs.Targets.{stored, single_stored}
 use Rattle.pygrammar.specs.Grammar as G
@@ -54,7 +54,7 @@ name_ends x (Ident y ∷ s) r e h m = absurd (bad (ap (peek name_in) (rests (Tre
 name_ends x [] r e h m = refl
 name_ends x (Op _ ∷ s) r e h m = refl
 name_ends x (Word _ ∷ s) r e h m = refl
-name_ends x (Whole _ ∷ s) r e h m = refl
+name_ends x (Number _ ∷ s) r e h m = refl
 name_ends x (Literal _ ∷ s) r e h m = refl
 name_ends x (Layout ∷ s) r e h m = refl
 
@@ -68,7 +68,7 @@ no_word (Ident x ∷ s) r e h m hit miss = ap (λ z. on_some (is_type (Ident x))
     either None = refl
 no_word (Op _ ∷ s) r e h m hit miss = refl
 no_word (Word _ ∷ s) r e h m hit miss = refl
-no_word (Whole _ ∷ s) r e h m hit miss = refl
+no_word (Number _ ∷ s) r e h m hit miss = refl
 no_word (Literal _ ∷ s) r e h m hit miss = refl
 no_word (Layout ∷ s) r e h m hit miss = refl
 

@@ -9,7 +9,7 @@ use Rattle.pytree_node.specs.declared.operators.Context.TheVariants.{Load, Store
 use Rattle.pytree_node.specs.Profiles.{plain_311 as Py311}
 use Rattle.pytree_node.specs.Trees as Trees
 use Rattle.pytree_node.specs.Values as Values
-use Rattle.pytoken.specs.Terminals.{Op, Word, in_form, Whole, Literal}
+use Rattle.pytoken.specs.Terminals.{Op, Word, in_form, whole, Literal}
 use Rattle.pygrammar.specs.Reader.{Found, NoForm}
 use Rattle.pytree_node.specs.Trees.{Assign, AugAssign, AnnAssign, ExprOf}
 use Rattle.pygrammar.specs.Lines.{simple_form}
@@ -46,11 +46,11 @@ row_6 : read_line Py311 (in_form (97 ∷ []) ∷ Op Sign.Equal ∷ Word Key.Yiel
 row_6 = refl
 
 -- yield = 1
-row_7 : read_line Py311 (Word Key.Yield ∷ Op Sign.Equal ∷ Whole 1 ∷ []) ≡ NoForm
+row_7 : read_line Py311 (Word Key.Yield ∷ Op Sign.Equal ∷ whole 1 ∷ []) ≡ NoForm
 row_7 = refl
 
 -- (x) = 1
-row_8 : read_line Py311 (Op Sign.LPar ∷ in_form (120 ∷ []) ∷ Op Sign.RPar ∷ Op Sign.Equal ∷ Whole 1 ∷ []) ≡ Found (simple_form (Assign ((Trees.Name (120 ∷ []) Store) ∷ []) (Trees.Constant (Values.Int 1)) ∷ [])) []
+row_8 : read_line Py311 (Op Sign.LPar ∷ in_form (120 ∷ []) ∷ Op Sign.RPar ∷ Op Sign.Equal ∷ whole 1 ∷ []) ≡ Found (simple_form (Assign ((Trees.Name (120 ∷ []) Store) ∷ []) (Trees.Constant (Values.Int 1)) ∷ [])) []
 row_8 = refl
 
 -- [a, *b] = c
@@ -74,11 +74,11 @@ row_13 : read_line Py311 (in_form (97 ∷ []) ∷ Op Sign.Comma ∷ Op Sign.Equa
 row_13 = refl
 
 -- x += 1
-row_14 : read_line Py311 (in_form (120 ∷ []) ∷ Op Sign.PlusEqual ∷ Whole 1 ∷ []) ≡ Found (simple_form (AugAssign (Trees.Name (120 ∷ []) Store) Bin.Add (Trees.Constant (Values.Int 1)) ∷ [])) []
+row_14 : read_line Py311 (in_form (120 ∷ []) ∷ Op Sign.PlusEqual ∷ whole 1 ∷ []) ≡ Found (simple_form (AugAssign (Trees.Name (120 ∷ []) Store) Bin.Add (Trees.Constant (Values.Int 1)) ∷ [])) []
 row_14 = refl
 
 -- (x) += 1
-row_15 : read_line Py311 (Op Sign.LPar ∷ in_form (120 ∷ []) ∷ Op Sign.RPar ∷ Op Sign.PlusEqual ∷ Whole 1 ∷ []) ≡ Found (simple_form (AugAssign (Trees.Name (120 ∷ []) Store) Bin.Add (Trees.Constant (Values.Int 1)) ∷ [])) []
+row_15 : read_line Py311 (Op Sign.LPar ∷ in_form (120 ∷ []) ∷ Op Sign.RPar ∷ Op Sign.PlusEqual ∷ whole 1 ∷ []) ≡ Found (simple_form (AugAssign (Trees.Name (120 ∷ []) Store) Bin.Add (Trees.Constant (Values.Int 1)) ∷ [])) []
 row_15 = refl
 
 -- a.b **= yield c
@@ -86,7 +86,7 @@ row_16 : read_line Py311 (in_form (97 ∷ []) ∷ Op Sign.Dot ∷ in_form (98 �
 row_16 = refl
 
 -- a, b += 1
-row_17 : read_line Py311 (in_form (97 ∷ []) ∷ Op Sign.Comma ∷ in_form (98 ∷ []) ∷ Op Sign.PlusEqual ∷ Whole 1 ∷ []) ≡ NoForm
+row_17 : read_line Py311 (in_form (97 ∷ []) ∷ Op Sign.Comma ∷ in_form (98 ∷ []) ∷ Op Sign.PlusEqual ∷ whole 1 ∷ []) ≡ NoForm
 row_17 = refl
 
 -- x: int
@@ -94,7 +94,7 @@ row_18 : read_line Py311 (in_form (120 ∷ []) ∷ Op Sign.Colon ∷ in_form (10
 row_18 = refl
 
 -- x: int = 5
-row_19 : read_line Py311 (in_form (120 ∷ []) ∷ Op Sign.Colon ∷ in_form (105 ∷ 110 ∷ 116 ∷ []) ∷ Op Sign.Equal ∷ Whole 5 ∷ []) ≡ Found (simple_form (AnnAssign (Trees.Name (120 ∷ []) Store) (Trees.Name (105 ∷ 110 ∷ 116 ∷ []) Load) (Some (Trees.Constant (Values.Int 5))) true ∷ [])) []
+row_19 : read_line Py311 (in_form (120 ∷ []) ∷ Op Sign.Colon ∷ in_form (105 ∷ 110 ∷ 116 ∷ []) ∷ Op Sign.Equal ∷ whole 5 ∷ []) ≡ Found (simple_form (AnnAssign (Trees.Name (120 ∷ []) Store) (Trees.Name (105 ∷ 110 ∷ 116 ∷ []) Load) (Some (Trees.Constant (Values.Int 5))) true ∷ [])) []
 row_19 = refl
 
 -- x: y = z
@@ -182,11 +182,11 @@ row_171 : read_line Py311 (in_form (97 ∷ []) ∷ Word Key.If ∷ in_form (98 �
 row_171 = refl
 
 -- f() = 1
-row_172 : read_line Py311 (in_form (102 ∷ []) ∷ Op Sign.LPar ∷ Op Sign.RPar ∷ Op Sign.Equal ∷ Whole 1 ∷ []) ≡ NoForm
+row_172 : read_line Py311 (in_form (102 ∷ []) ∷ Op Sign.LPar ∷ Op Sign.RPar ∷ Op Sign.Equal ∷ whole 1 ∷ []) ≡ NoForm
 row_172 = refl
 
 -- None = 1
-row_173 : read_line Py311 (Word Key.None ∷ Op Sign.Equal ∷ Whole 1 ∷ []) ≡ NoForm
+row_173 : read_line Py311 (Word Key.None ∷ Op Sign.Equal ∷ whole 1 ∷ []) ≡ NoForm
 row_173 = refl
 
 -- a.b = c[d] = e
@@ -230,7 +230,7 @@ row_183 : read_line Py311 (in_form (120 ∷ []) ∷ Op Sign.At ∷ in_form (121 
 row_183 = refl
 
 -- 1: int
-row_184 : read_line Py311 (Whole 1 ∷ Op Sign.Colon ∷ in_form (105 ∷ 110 ∷ 116 ∷ []) ∷ []) ≡ NoForm
+row_184 : read_line Py311 (whole 1 ∷ Op Sign.Colon ∷ in_form (105 ∷ 110 ∷ 116 ∷ []) ∷ []) ≡ NoForm
 row_184 = refl
 
 -- x: int; y: str = z

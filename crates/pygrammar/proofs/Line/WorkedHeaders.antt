@@ -9,7 +9,7 @@ use Rattle.pytree_node.specs.declared.operators.Context.TheVariants.{Load, Store
 use Rattle.pytree_node.specs.Profiles.{plain_311 as Py311}
 use Rattle.pytree_node.specs.Trees as Trees
 use Rattle.pytree_node.specs.Values as Values
-use Rattle.pytoken.specs.Terminals.{Op, Word, in_form, Whole}
+use Rattle.pytoken.specs.Terminals.{Op, Word, in_form, whole}
 use Rattle.pygrammar.specs.Reader.{Found, NoForm}
 use Rattle.pytree_node.specs.Trees.{Assign, AnnAssign, ExprOf, Pass}
 use Rattle.pygrammar.specs.Lines.{header_form, if_header, elif_header, else_header, loop_header, with_header, try_header, except_header, finally_header, def_header, while_head, for_head, function_head, decorator_form, class_head}
@@ -34,11 +34,11 @@ row_81 : read_line Py311 (Word Key.If ∷ Word Key.Lambda ∷ Op Sign.Colon ∷ 
 row_81 = refl
 
 -- if (x := 1): pass
-row_82 : read_line Py311 (Word Key.If ∷ Op Sign.LPar ∷ in_form (120 ∷ []) ∷ Op Sign.ColonEqual ∷ Whole 1 ∷ Op Sign.RPar ∷ Op Sign.Colon ∷ Word Key.Pass ∷ []) ≡ Found (header_form (if_header (Trees.NamedExpr (Trees.Name (120 ∷ []) Store) (Trees.Constant (Values.Int 1)))) (Some (Pass ∷ []))) []
+row_82 : read_line Py311 (Word Key.If ∷ Op Sign.LPar ∷ in_form (120 ∷ []) ∷ Op Sign.ColonEqual ∷ whole 1 ∷ Op Sign.RPar ∷ Op Sign.Colon ∷ Word Key.Pass ∷ []) ≡ Found (header_form (if_header (Trees.NamedExpr (Trees.Name (120 ∷ []) Store) (Trees.Constant (Values.Int 1)))) (Some (Pass ∷ []))) []
 row_82 = refl
 
 -- if x := 1:
-row_83 : read_line Py311 (Word Key.If ∷ in_form (120 ∷ []) ∷ Op Sign.ColonEqual ∷ Whole 1 ∷ Op Sign.Colon ∷ []) ≡ Found (header_form (if_header (Trees.NamedExpr (Trees.Name (120 ∷ []) Store) (Trees.Constant (Values.Int 1)))) None) []
+row_83 : read_line Py311 (Word Key.If ∷ in_form (120 ∷ []) ∷ Op Sign.ColonEqual ∷ whole 1 ∷ Op Sign.Colon ∷ []) ≡ Found (header_form (if_header (Trees.NamedExpr (Trees.Name (120 ∷ []) Store) (Trees.Constant (Values.Int 1)))) None) []
 row_83 = refl
 
 -- elif a: b; c
@@ -54,7 +54,7 @@ row_86 : read_line Py311 (Word Key.Else ∷ Op Sign.Colon ∷ []) ≡ Found (hea
 row_86 = refl
 
 -- else: x = 1
-row_87 : read_line Py311 (Word Key.Else ∷ Op Sign.Colon ∷ in_form (120 ∷ []) ∷ Op Sign.Equal ∷ Whole 1 ∷ []) ≡ Found (header_form (else_header) (Some (Assign ((Trees.Name (120 ∷ []) Store) ∷ []) (Trees.Constant (Values.Int 1)) ∷ []))) []
+row_87 : read_line Py311 (Word Key.Else ∷ Op Sign.Colon ∷ in_form (120 ∷ []) ∷ Op Sign.Equal ∷ whole 1 ∷ []) ≡ Found (header_form (else_header) (Some (Assign ((Trees.Name (120 ∷ []) Store) ∷ []) (Trees.Constant (Values.Int 1)) ∷ []))) []
 row_87 = refl
 
 -- else: if x: y
@@ -222,7 +222,7 @@ row_128 : read_line Py311 (Word Key.With ∷ Op Sign.LPar ∷ in_form (97 ∷ []
 row_128 = refl
 
 -- with (a, b)[0]: c
-row_129 : read_line Py311 (Word Key.With ∷ Op Sign.LPar ∷ in_form (97 ∷ []) ∷ Op Sign.Comma ∷ in_form (98 ∷ []) ∷ Op Sign.RPar ∷ Op Sign.LSqb ∷ Whole 0 ∷ Op Sign.RSqb ∷ Op Sign.Colon ∷ in_form (99 ∷ []) ∷ []) ≡ Found (header_form (with_header false (item (Trees.Subscript (Trees.Tuple (Trees.an_expr (Trees.Name (97 ∷ []) Load) (Trees.an_expr (Trees.Name (98 ∷ []) Load) Trees.no_exprs)) Load) (Trees.Constant (Values.Int 0)) Load) None ∷ [])) (Some (ExprOf (Trees.Name (99 ∷ []) Load) ∷ []))) []
+row_129 : read_line Py311 (Word Key.With ∷ Op Sign.LPar ∷ in_form (97 ∷ []) ∷ Op Sign.Comma ∷ in_form (98 ∷ []) ∷ Op Sign.RPar ∷ Op Sign.LSqb ∷ whole 0 ∷ Op Sign.RSqb ∷ Op Sign.Colon ∷ in_form (99 ∷ []) ∷ []) ≡ Found (header_form (with_header false (item (Trees.Subscript (Trees.Tuple (Trees.an_expr (Trees.Name (97 ∷ []) Load) (Trees.an_expr (Trees.Name (98 ∷ []) Load) Trees.no_exprs)) Load) (Trees.Constant (Values.Int 0)) Load) None ∷ [])) (Some (ExprOf (Trees.Name (99 ∷ []) Load) ∷ []))) []
 row_129 = refl
 
 -- with a as (b, c): d
@@ -302,11 +302,11 @@ row_148 : read_line Py311 (Word Key.Def ∷ in_form (102 ∷ []) ∷ Op Sign.LPa
 row_148 = refl
 
 -- def f(a, b: int = 1, /, *c: *d, e=2, **g) -> h: pass
-row_149 : read_line Py311 (Word Key.Def ∷ in_form (102 ∷ []) ∷ Op Sign.LPar ∷ in_form (97 ∷ []) ∷ Op Sign.Comma ∷ in_form (98 ∷ []) ∷ Op Sign.Colon ∷ in_form (105 ∷ 110 ∷ 116 ∷ []) ∷ Op Sign.Equal ∷ Whole 1 ∷ Op Sign.Comma ∷ Op Sign.Slash ∷ Op Sign.Comma ∷ Op Sign.Star ∷ in_form (99 ∷ []) ∷ Op Sign.Colon ∷ Op Sign.Star ∷ in_form (100 ∷ []) ∷ Op Sign.Comma ∷ in_form (101 ∷ []) ∷ Op Sign.Equal ∷ Whole 2 ∷ Op Sign.Comma ∷ Op Sign.DoubleStar ∷ in_form (103 ∷ []) ∷ Op Sign.RPar ∷ Op Sign.RArrow ∷ in_form (104 ∷ []) ∷ Op Sign.Colon ∷ Word Key.Pass ∷ []) ≡ Found (header_form (def_header (function_head false (102 ∷ []) [] (Trees.arguments (Trees.an_arg (Trees.arg (97 ∷ []) Trees.absent) (Trees.an_arg (Trees.arg (98 ∷ []) (Trees.present (Trees.Name (105 ∷ 110 ∷ 116 ∷ []) Load))) Trees.no_arg)) Trees.no_arg (Trees.present_arg (Trees.arg (99 ∷ []) (Trees.present (Trees.Starred (Trees.Name (100 ∷ []) Load) Load)))) (Trees.an_arg (Trees.arg (101 ∷ []) Trees.absent) Trees.no_arg) (Trees.an_optional (Trees.present (Trees.Constant (Values.Int 2))) Trees.no_optional) (Trees.present_arg (Trees.arg (103 ∷ []) Trees.absent)) (Trees.an_expr (Trees.Constant (Values.Int 1)) Trees.no_exprs)) (Some (Trees.Name (104 ∷ []) Load)))) (Some (Pass ∷ []))) []
+row_149 : read_line Py311 (Word Key.Def ∷ in_form (102 ∷ []) ∷ Op Sign.LPar ∷ in_form (97 ∷ []) ∷ Op Sign.Comma ∷ in_form (98 ∷ []) ∷ Op Sign.Colon ∷ in_form (105 ∷ 110 ∷ 116 ∷ []) ∷ Op Sign.Equal ∷ whole 1 ∷ Op Sign.Comma ∷ Op Sign.Slash ∷ Op Sign.Comma ∷ Op Sign.Star ∷ in_form (99 ∷ []) ∷ Op Sign.Colon ∷ Op Sign.Star ∷ in_form (100 ∷ []) ∷ Op Sign.Comma ∷ in_form (101 ∷ []) ∷ Op Sign.Equal ∷ whole 2 ∷ Op Sign.Comma ∷ Op Sign.DoubleStar ∷ in_form (103 ∷ []) ∷ Op Sign.RPar ∷ Op Sign.RArrow ∷ in_form (104 ∷ []) ∷ Op Sign.Colon ∷ Word Key.Pass ∷ []) ≡ Found (header_form (def_header (function_head false (102 ∷ []) [] (Trees.arguments (Trees.an_arg (Trees.arg (97 ∷ []) Trees.absent) (Trees.an_arg (Trees.arg (98 ∷ []) (Trees.present (Trees.Name (105 ∷ 110 ∷ 116 ∷ []) Load))) Trees.no_arg)) Trees.no_arg (Trees.present_arg (Trees.arg (99 ∷ []) (Trees.present (Trees.Starred (Trees.Name (100 ∷ []) Load) Load)))) (Trees.an_arg (Trees.arg (101 ∷ []) Trees.absent) Trees.no_arg) (Trees.an_optional (Trees.present (Trees.Constant (Values.Int 2))) Trees.no_optional) (Trees.present_arg (Trees.arg (103 ∷ []) Trees.absent)) (Trees.an_expr (Trees.Constant (Values.Int 1)) Trees.no_exprs)) (Some (Trees.Name (104 ∷ []) Load)))) (Some (Pass ∷ []))) []
 row_149 = refl
 
 -- def f(a=1, b): pass
-row_150 : read_line Py311 (Word Key.Def ∷ in_form (102 ∷ []) ∷ Op Sign.LPar ∷ in_form (97 ∷ []) ∷ Op Sign.Equal ∷ Whole 1 ∷ Op Sign.Comma ∷ in_form (98 ∷ []) ∷ Op Sign.RPar ∷ Op Sign.Colon ∷ Word Key.Pass ∷ []) ≡ NoForm
+row_150 : read_line Py311 (Word Key.Def ∷ in_form (102 ∷ []) ∷ Op Sign.LPar ∷ in_form (97 ∷ []) ∷ Op Sign.Equal ∷ whole 1 ∷ Op Sign.Comma ∷ in_form (98 ∷ []) ∷ Op Sign.RPar ∷ Op Sign.Colon ∷ Word Key.Pass ∷ []) ≡ NoForm
 row_150 = refl
 
 -- def f(*): pass
@@ -342,7 +342,7 @@ row_158 : read_line Py311 (Word Key.Class ∷ in_form (67 ∷ []) ∷ Op Sign.LP
 row_158 = refl
 
 -- class C(a=1, b): pass
-row_159 : read_line Py311 (Word Key.Class ∷ in_form (67 ∷ []) ∷ Op Sign.LPar ∷ in_form (97 ∷ []) ∷ Op Sign.Equal ∷ Whole 1 ∷ Op Sign.Comma ∷ in_form (98 ∷ []) ∷ Op Sign.RPar ∷ Op Sign.Colon ∷ Word Key.Pass ∷ []) ≡ NoForm
+row_159 : read_line Py311 (Word Key.Class ∷ in_form (67 ∷ []) ∷ Op Sign.LPar ∷ in_form (97 ∷ []) ∷ Op Sign.Equal ∷ whole 1 ∷ Op Sign.Comma ∷ in_form (98 ∷ []) ∷ Op Sign.RPar ∷ Op Sign.Colon ∷ Word Key.Pass ∷ []) ≡ NoForm
 row_159 = refl
 
 -- class C(a)(b): pass
@@ -390,7 +390,7 @@ row_189 : read_line Py311 (Word Key.If ∷ in_form (120 ∷ []) ∷ Op Sign.Colo
 row_189 = refl
 
 -- class C: x: int = 1
-row_190 : read_line Py311 (Word Key.Class ∷ in_form (67 ∷ []) ∷ Op Sign.Colon ∷ in_form (120 ∷ []) ∷ Op Sign.Colon ∷ in_form (105 ∷ 110 ∷ 116 ∷ []) ∷ Op Sign.Equal ∷ Whole 1 ∷ []) ≡ Found (header_form (def_header (class_head (67 ∷ []) [] ([]) Trees.no_keyword)) (Some (AnnAssign (Trees.Name (120 ∷ []) Store) (Trees.Name (105 ∷ 110 ∷ 116 ∷ []) Load) (Some (Trees.Constant (Values.Int 1))) true ∷ []))) []
+row_190 : read_line Py311 (Word Key.Class ∷ in_form (67 ∷ []) ∷ Op Sign.Colon ∷ in_form (120 ∷ []) ∷ Op Sign.Colon ∷ in_form (105 ∷ 110 ∷ 116 ∷ []) ∷ Op Sign.Equal ∷ whole 1 ∷ []) ≡ Found (header_form (def_header (class_head (67 ∷ []) [] ([]) Trees.no_keyword)) (Some (AnnAssign (Trees.Name (120 ∷ []) Store) (Trees.Name (105 ∷ 110 ∷ 116 ∷ []) Load) (Some (Trees.Constant (Values.Int 1))) true ∷ []))) []
 row_190 = refl
 
 -- with a as b: c: d
@@ -402,7 +402,7 @@ row_192 : read_line Py311 (Word Key.With ∷ in_form (97 ∷ []) ∷ Word Key.As
 row_192 = refl
 
 -- with a as 1: b
-row_193 : read_line Py311 (Word Key.With ∷ in_form (97 ∷ []) ∷ Word Key.As ∷ Whole 1 ∷ Op Sign.Colon ∷ in_form (98 ∷ []) ∷ []) ≡ NoForm
+row_193 : read_line Py311 (Word Key.With ∷ in_form (97 ∷ []) ∷ Word Key.As ∷ whole 1 ∷ Op Sign.Colon ∷ in_form (98 ∷ []) ∷ []) ≡ NoForm
 row_193 = refl
 
 -- with a as b + c: d

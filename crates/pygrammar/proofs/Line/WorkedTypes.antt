@@ -9,7 +9,7 @@ use Rattle.pytree_node.specs.declared.operators.Context.TheVariants.{Load, Store
 use Rattle.pytree_node.specs.Profiles.{plain_311 as Py311, plain_312 as Py312}
 use Rattle.pytree_node.specs.Trees as Trees
 use Rattle.pytree_node.specs.Values as Values
-use Rattle.pytoken.specs.Terminals.{Op, Word, Ident, in_form, Whole}
+use Rattle.pytoken.specs.Terminals.{Op, Word, Ident, in_form, whole}
 use Rattle.pygrammar.specs.Reader.{Found, NoForm}
 use Rattle.pytree_node.specs.Trees.{TypeVar, ParamSpec, TypeVarTuple, TypeAlias, Assign, AugAssign, AnnAssign, ExprOf, Pass}
 use Rattle.pygrammar.specs.Lines.{simple_form, header_form, if_header, def_header, function_head, class_head}
@@ -44,10 +44,10 @@ row_3_311 : read_line Py311 (in_form (116 ∷ 121 ∷ 112 ∷ 101 ∷ []) ∷ in
 row_3_311 = refl
 
 -- type X = 1; y
-row_4_312 : read_line Py312 (in_form (116 ∷ 121 ∷ 112 ∷ 101 ∷ []) ∷ in_form (88 ∷ []) ∷ Op Sign.Equal ∷ Whole 1 ∷ Op Sign.Semi ∷ in_form (121 ∷ []) ∷ []) ≡ Found (simple_form (TypeAlias (Trees.Name (88 ∷ []) Store) ([]) (Trees.Constant (Values.Int 1)) ∷ ExprOf (Trees.Name (121 ∷ []) Load) ∷ [])) []
+row_4_312 : read_line Py312 (in_form (116 ∷ 121 ∷ 112 ∷ 101 ∷ []) ∷ in_form (88 ∷ []) ∷ Op Sign.Equal ∷ whole 1 ∷ Op Sign.Semi ∷ in_form (121 ∷ []) ∷ []) ≡ Found (simple_form (TypeAlias (Trees.Name (88 ∷ []) Store) ([]) (Trees.Constant (Values.Int 1)) ∷ ExprOf (Trees.Name (121 ∷ []) Load) ∷ [])) []
 row_4_312 = refl
 
-row_4_311 : read_line Py311 (in_form (116 ∷ 121 ∷ 112 ∷ 101 ∷ []) ∷ in_form (88 ∷ []) ∷ Op Sign.Equal ∷ Whole 1 ∷ Op Sign.Semi ∷ in_form (121 ∷ []) ∷ []) ≡ NoForm
+row_4_311 : read_line Py311 (in_form (116 ∷ 121 ∷ 112 ∷ 101 ∷ []) ∷ in_form (88 ∷ []) ∷ Op Sign.Equal ∷ whole 1 ∷ Op Sign.Semi ∷ in_form (121 ∷ []) ∷ []) ≡ NoForm
 row_4_311 = refl
 
 -- if x: type X = y
@@ -58,10 +58,10 @@ row_5_311 : read_line Py311 (Word Key.If ∷ in_form (120 ∷ []) ∷ Op Sign.Co
 row_5_311 = refl
 
 -- type = 1
-row_6_312 : read_line Py312 (in_form (116 ∷ 121 ∷ 112 ∷ 101 ∷ []) ∷ Op Sign.Equal ∷ Whole 1 ∷ []) ≡ Found (simple_form (Assign ((Trees.Name (116 ∷ 121 ∷ 112 ∷ 101 ∷ []) Store) ∷ []) (Trees.Constant (Values.Int 1)) ∷ [])) []
+row_6_312 : read_line Py312 (in_form (116 ∷ 121 ∷ 112 ∷ 101 ∷ []) ∷ Op Sign.Equal ∷ whole 1 ∷ []) ≡ Found (simple_form (Assign ((Trees.Name (116 ∷ 121 ∷ 112 ∷ 101 ∷ []) Store) ∷ []) (Trees.Constant (Values.Int 1)) ∷ [])) []
 row_6_312 = refl
 
-row_6_311 : read_line Py311 (in_form (116 ∷ 121 ∷ 112 ∷ 101 ∷ []) ∷ Op Sign.Equal ∷ Whole 1 ∷ []) ≡ Found (simple_form (Assign ((Trees.Name (116 ∷ 121 ∷ 112 ∷ 101 ∷ []) Store) ∷ []) (Trees.Constant (Values.Int 1)) ∷ [])) []
+row_6_311 : read_line Py311 (in_form (116 ∷ 121 ∷ 112 ∷ 101 ∷ []) ∷ Op Sign.Equal ∷ whole 1 ∷ []) ≡ Found (simple_form (Assign ((Trees.Name (116 ∷ 121 ∷ 112 ∷ 101 ∷ []) Store) ∷ []) (Trees.Constant (Values.Int 1)) ∷ [])) []
 row_6_311 = refl
 
 -- type: int

@@ -11,7 +11,7 @@ use Rattle.pygrammar.specs.declared.levels.Level.TheVariants.{Value, Stars, Star
 use Rattle.pytree_node.specs.Trees
 use Rattle.pytree_node.specs.Trees.{Expr, no_exprs, an_expr, OptionalExpr, absent, present, Arguments}
 use Rattle.pytree_node.specs.Values
-use Rattle.pytoken.specs.Terminals.{Terminal, Op, Word, Ident, Whole, Literal}
+use Rattle.pytoken.specs.Terminals.{Terminal, Op, Word, Ident, Number, Literal}
 use Rattle.pygrammar.specs.Constants.{constant_word, joined}
 use Rattle.pygrammar.specs.Entries.{Of, Pair, Argument, Parameter, Entry, Single, Paired, Doubled, singles, keys, values}
 use Rattle.pygrammar.specs.Arguments.{called}
@@ -93,7 +93,7 @@ module _ (self : Reads) (all : SoundAt self) where
   atom_sound : (i : List Terminal) → Says (Reads_as Atom i) (atom self i)
   atom_sound [] = no_form
   atom_sound (Ident x ∷ r) = found (Ident x ∷ [], refl, G.name, turns r)
-  atom_sound (Whole n ∷ r) = found (Whole n ∷ [], refl, G.number, turns r)
+  atom_sound (Number v ∷ r) = found (Number v ∷ [], refl, G.number, turns r)
   atom_sound (Literal v ∷ r) = says_then _ _ (string_sound [] r) (λ ws r1 p. says_made _ r1 (λ e h. let z = constant_is (joined v ws) e h in (Literal v ∷ map Literal p.0, ap (λ z. Literal v ∷ z) p.2, subst (λ k. G.Derives Atom (Literal v ∷ map Literal p.0) k) z.2 (G.strings p.0 (ap (joined v) (sym p.1) ∙ z.1)), turns r1)))
   atom_sound (Op LPar ∷ r) = round_sound r
   atom_sound (Op LSqb ∷ r) = square_sound r

@@ -15,7 +15,7 @@ use Rattle.pygrammar.specs.declared.levels.Level.{Level}
 use Rattle.pygrammar.specs.declared.levels.Level.TheVariants.{Stars, StarItem, Named, Expression, Or, BitOr, Primary, Elem, Part, Slice}
 use Rattle.pytree_node.specs.Trees
 use Rattle.pytree_node.specs.Trees.{Expr, an_expr, OptionalExpr, arg, exprs, Comprehension}
-use Rattle.pytoken.specs.Terminals.{Spelled, Terminal, Op, Word, Ident, Whole, Literal, Layout}
+use Rattle.pytoken.specs.Terminals.{Spelled, Terminal, Op, Word, Ident, Number, Literal, Layout}
 use Rattle.pygrammar.specs.Looks.{is_op, is_word}
 use Rattle.pygrammar.specs.Operators.{below, chain_level, left_operator, prefix_operator}
 use Rattle.pygrammar.specs.Entries.{Item, Of, Pair, Argument, Parameter, Entry, Gathered, singles}
@@ -61,7 +61,7 @@ says_name_with {B} {Q} s (Ident a ∷ (t ∷ u)) hit x h g = go (is_op s t) refl
     go None e = g (λ b w q. self_op s (ap (is_op s) (sym (seconds a b t (Op s) u w q)) ∙ e))
 says_name_with s (Op y ∷ r) hit x h g = g (λ a u q. absurd (cc))
 says_name_with s (Word y ∷ r) hit x h g = g (λ a u q. absurd (cc))
-says_name_with s (Whole y ∷ r) hit x h g = g (λ a u q. absurd (cc))
+says_name_with s (Number y ∷ r) hit x h g = g (λ a u q. absurd (cc))
 says_name_with s (Literal y ∷ r) hit x h g = g (λ a u q. absurd (cc))
 says_name_with s (Layout ∷ r) hit x h g = g (λ a u q. absurd (cc))
 

@@ -11,7 +11,7 @@ use Rattle.pytree_node.specs.declared.operators.Context.TheVariants.{Load, Store
 use Rattle.pygrammar.specs.declared.levels.Level.TheVariants.{Elem, Slices, Part, Slice}
 use Rattle.pytree_node.specs.Trees
 use Rattle.pytree_node.specs.Values
-use Rattle.pytoken.specs.Terminals.{Op, Word, in_form, Whole, Literal}
+use Rattle.pytoken.specs.Terminals.{Op, Word, in_form, whole, Literal}
 use Rattle.pygrammar.specs.Reader.{Answer, Found, NoForm, TooDeep, read}
 
 abbrev refused : Answer Trees.Expr → Bool
@@ -61,7 +61,7 @@ case_71 : read 20 Elem (Word Key.Not ∷ in_form (97 ∷ []) ∷ Word Key.In ∷
 case_71 = refl
 
 -- Slice: a [ 1 : 2 , * b ]
-case_72 : read 20 Slice (in_form (97 ∷ []) ∷ Op LSqb ∷ Whole 1 ∷ Op Colon ∷ Whole 2 ∷ Op Comma ∷ Op Star ∷ in_form (98 ∷ []) ∷ Op RSqb ∷ []) ≡ Found (Trees.Subscript (Trees.Name (97 ∷ []) Load) (Trees.Tuple (Trees.an_expr (Trees.Slice (Trees.present (Trees.Constant (Values.Int 1))) (Trees.present (Trees.Constant (Values.Int 2))) Trees.absent) (Trees.an_expr (Trees.Starred (Trees.Name (98 ∷ []) Load) Load) Trees.no_exprs)) Load) Load) []
+case_72 : read 20 Slice (in_form (97 ∷ []) ∷ Op LSqb ∷ whole 1 ∷ Op Colon ∷ whole 2 ∷ Op Comma ∷ Op Star ∷ in_form (98 ∷ []) ∷ Op RSqb ∷ []) ≡ Found (Trees.Subscript (Trees.Name (97 ∷ []) Load) (Trees.Tuple (Trees.an_expr (Trees.Slice (Trees.present (Trees.Constant (Values.Int 1))) (Trees.present (Trees.Constant (Values.Int 2))) Trees.absent) (Trees.an_expr (Trees.Starred (Trees.Name (98 ∷ []) Load) Load) Trees.no_exprs)) Load) Load) []
 case_72 = refl
 
 -- Elem: a ( x for ( a . b , ** [ c , c
@@ -69,7 +69,7 @@ case_73 : refused (read 20 Elem (in_form (97 ∷ []) ∷ Op LPar ∷ in_form (12
 case_73 = refl
 
 -- Part: { ( x := 1 ) : a 2 }
-case_74 : refused (read 20 Part (Op LBrace ∷ Op LPar ∷ in_form (120 ∷ []) ∷ Op ColonEqual ∷ Whole 1 ∷ Op RPar ∷ Op Colon ∷ in_form (97 ∷ []) ∷ Whole 2 ∷ Op RBrace ∷ [])) ≡ true
+case_74 : refused (read 20 Part (Op LBrace ∷ Op LPar ∷ in_form (120 ∷ []) ∷ Op ColonEqual ∷ whole 1 ∷ Op RPar ∷ Op Colon ∷ in_form (97 ∷ []) ∷ whole 2 ∷ Op RBrace ∷ [])) ≡ true
 case_74 = refl
 
 -- Part: b : )
@@ -77,7 +77,7 @@ case_87 : refused (read 20 Part (in_form (98 ∷ []) ∷ Op Colon ∷ Op RPar �
 case_87 = refl
 
 -- Slice: ( x := 1 )
-case_90 : read 20 Slice (Op LPar ∷ in_form (120 ∷ []) ∷ Op ColonEqual ∷ Whole 1 ∷ Op RPar ∷ []) ≡ Found (Trees.NamedExpr (Trees.Name (120 ∷ []) Store) (Trees.Constant (Values.Int 1))) []
+case_90 : read 20 Slice (Op LPar ∷ in_form (120 ∷ []) ∷ Op ColonEqual ∷ whole 1 ∷ Op RPar ∷ []) ≡ Found (Trees.NamedExpr (Trees.Name (120 ∷ []) Store) (Trees.Constant (Values.Int 1))) []
 case_90 = refl
 
 -- Slices: a ( )
@@ -109,11 +109,11 @@ case_132 : refused (read 20 Slice (Op Ellipsis ∷ Op Colon ∷ Word Key.Is ∷ 
 case_132 = refl
 
 -- Slice: a [ 1
-case_135 : refused (read 20 Slice (in_form (97 ∷ []) ∷ Op LSqb ∷ Whole 1 ∷ [])) ≡ true
+case_135 : refused (read 20 Slice (in_form (97 ∷ []) ∷ Op LSqb ∷ whole 1 ∷ [])) ≡ true
 case_135 = refl
 
 -- Elem: { lambda : 1 : y }
-case_143 : read 20 Elem (Op LBrace ∷ Word Key.Lambda ∷ Op Colon ∷ Whole 1 ∷ Op Colon ∷ in_form (121 ∷ []) ∷ Op RBrace ∷ []) ≡ Found (Trees.Dict (Trees.an_optional (Trees.present (Trees.Lambda (Trees.arguments Trees.no_arg Trees.no_arg Trees.absent_arg Trees.no_arg Trees.no_optional Trees.absent_arg Trees.no_exprs) (Trees.Constant (Values.Int 1)))) Trees.no_optional) (Trees.an_expr (Trees.Name (121 ∷ []) Load) Trees.no_exprs)) []
+case_143 : read 20 Elem (Op LBrace ∷ Word Key.Lambda ∷ Op Colon ∷ whole 1 ∷ Op Colon ∷ in_form (121 ∷ []) ∷ Op RBrace ∷ []) ≡ Found (Trees.Dict (Trees.an_optional (Trees.present (Trees.Lambda (Trees.arguments Trees.no_arg Trees.no_arg Trees.absent_arg Trees.no_arg Trees.no_optional Trees.absent_arg Trees.no_exprs) (Trees.Constant (Values.Int 1)))) Trees.no_optional) (Trees.an_expr (Trees.Name (121 ∷ []) Load) Trees.no_exprs)) []
 case_143 = refl
 
 -- Slice: ( )
@@ -165,7 +165,7 @@ case_223 : read 20 Part (in_form (102 ∷ []) ∷ Op LPar ∷ Op Star ∷ in_for
 case_223 = refl
 
 -- Elem: { ( x := 1 ) : 2 }
-case_224 : read 20 Elem (Op LBrace ∷ Op LPar ∷ in_form (120 ∷ []) ∷ Op ColonEqual ∷ Whole 1 ∷ Op RPar ∷ Op Colon ∷ Whole 2 ∷ Op RBrace ∷ []) ≡ Found (Trees.Dict (Trees.an_optional (Trees.present (Trees.NamedExpr (Trees.Name (120 ∷ []) Store) (Trees.Constant (Values.Int 1)))) Trees.no_optional) (Trees.an_expr (Trees.Constant (Values.Int 2)) Trees.no_exprs)) []
+case_224 : read 20 Elem (Op LBrace ∷ Op LPar ∷ in_form (120 ∷ []) ∷ Op ColonEqual ∷ whole 1 ∷ Op RPar ∷ Op Colon ∷ whole 2 ∷ Op RBrace ∷ []) ≡ Found (Trees.Dict (Trees.an_optional (Trees.present (Trees.NamedExpr (Trees.Name (120 ∷ []) Store) (Trees.Constant (Values.Int 1)))) Trees.no_optional) (Trees.an_expr (Trees.Constant (Values.Int 2)) Trees.no_exprs)) []
 case_224 = refl
 
 -- Part: a
@@ -173,7 +173,7 @@ case_239 : read 20 Part (in_form (97 ∷ []) ∷ []) ≡ Found (Trees.Name (97 �
 case_239 = refl
 
 -- Slices: 0
-case_242 : read 20 Slices (Whole 0 ∷ []) ≡ Found (Trees.Constant (Values.Int 0)) []
+case_242 : read 20 Slices (whole 0 ∷ []) ≡ Found (Trees.Constant (Values.Int 0)) []
 case_242 = refl
 
 -- Slices: c

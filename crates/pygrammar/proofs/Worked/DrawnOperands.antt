@@ -10,7 +10,7 @@ use Rattle.pytree_node.specs.declared.operators.Context.TheVariants.{Load, Store
 use Rattle.pygrammar.specs.declared.levels.Level.TheVariants.{Shift, Sum, Term, Factor, Power, Await, Primary, Atom}
 use Rattle.pytree_node.specs.Trees
 use Rattle.pytree_node.specs.Values
-use Rattle.pytoken.specs.Terminals.{Op, Word, in_form, Whole, Literal}
+use Rattle.pytoken.specs.Terminals.{Op, Word, in_form, whole, Literal}
 use Rattle.pygrammar.specs.Reader.{Answer, Found, NoForm, TooDeep, read}
 
 abbrev refused : Answer Trees.Expr → Bool
@@ -48,7 +48,7 @@ case_15 : refused (read 20 Shift (Op Colon ∷ [])) ≡ true
 case_15 = refl
 
 -- Atom: a [ := 1 ]
-case_17 : refused (read 20 Atom (in_form (97 ∷ []) ∷ Op LSqb ∷ Op ColonEqual ∷ Whole 1 ∷ Op RSqb ∷ [])) ≡ true
+case_17 : refused (read 20 Atom (in_form (97 ∷ []) ∷ Op LSqb ∷ Op ColonEqual ∷ whole 1 ∷ Op RSqb ∷ [])) ≡ true
 case_17 = refl
 
 -- Shift: ) [ ]
@@ -56,7 +56,7 @@ case_23 : refused (read 20 Shift (Op RPar ∷ Op LSqb ∷ Op RSqb ∷ [])) ≡ t
 case_23 = refl
 
 -- Term: ( x := 1 )
-case_25 : read 20 Term (Op LPar ∷ in_form (120 ∷ []) ∷ Op ColonEqual ∷ Whole 1 ∷ Op RPar ∷ []) ≡ Found (Trees.NamedExpr (Trees.Name (120 ∷ []) Store) (Trees.Constant (Values.Int 1))) []
+case_25 : read 20 Term (Op LPar ∷ in_form (120 ∷ []) ∷ Op ColonEqual ∷ whole 1 ∷ Op RPar ∷ []) ≡ Found (Trees.NamedExpr (Trees.Name (120 ∷ []) Store) (Trees.Constant (Values.Int 1))) []
 case_25 = refl
 
 -- Shift: [ * a , b ]
@@ -76,7 +76,7 @@ case_31 : refused (read 20 Atom (in_form (103 ∷ []) ∷ Op Minus ∷ in_form (
 case_31 = refl
 
 -- Power: x ( ) : 0
-case_33 : refused (read 20 Power (in_form (120 ∷ []) ∷ Op LPar ∷ Op RPar ∷ Op Colon ∷ Whole 0 ∷ [])) ≡ true
+case_33 : refused (read 20 Power (in_form (120 ∷ []) ∷ Op LPar ∷ Op RPar ∷ Op Colon ∷ whole 0 ∷ [])) ≡ true
 case_33 = refl
 
 -- Await: ( | from a )
@@ -136,11 +136,11 @@ case_78 : refused (read 20 Atom (Word Key.In ∷ in_form (97 ∷ []) ∷ [])) �
 case_78 = refl
 
 -- Atom: [ 1 : a , * lambda b ]
-case_81 : refused (read 20 Atom (Op LSqb ∷ Whole 1 ∷ Op Colon ∷ in_form (97 ∷ []) ∷ Op Comma ∷ Op Star ∷ Word Key.Lambda ∷ in_form (98 ∷ []) ∷ Op RSqb ∷ [])) ≡ true
+case_81 : refused (read 20 Atom (Op LSqb ∷ whole 1 ∷ Op Colon ∷ in_form (97 ∷ []) ∷ Op Comma ∷ Op Star ∷ Word Key.Lambda ∷ in_form (98 ∷ []) ∷ Op RSqb ∷ [])) ≡ true
 case_81 = refl
 
 -- Power: a [ 1 : : a 2 ]
-case_84 : refused (read 20 Power (in_form (97 ∷ []) ∷ Op LSqb ∷ Whole 1 ∷ Op Colon ∷ Op Colon ∷ in_form (97 ∷ []) ∷ Whole 2 ∷ Op RSqb ∷ [])) ≡ true
+case_84 : refused (read 20 Power (in_form (97 ∷ []) ∷ Op LSqb ∷ whole 1 ∷ Op Colon ∷ Op Colon ∷ in_form (97 ∷ []) ∷ whole 2 ∷ Op RSqb ∷ [])) ≡ true
 case_84 = refl
 
 -- Power: a < b == c
@@ -172,7 +172,7 @@ case_107 : read 20 Shift (Op LBrace ∷ Op RBrace ∷ []) ≡ Found (Trees.Dict 
 case_107 = refl
 
 -- Power: 1 y : lambda [ ,
-case_109 : refused (read 20 Power (Whole 1 ∷ in_form (121 ∷ []) ∷ Op Colon ∷ Word Key.Lambda ∷ Op LSqb ∷ Op Comma ∷ [])) ≡ true
+case_109 : refused (read 20 Power (whole 1 ∷ in_form (121 ∷ []) ∷ Op Colon ∷ Word Key.Lambda ∷ Op LSqb ∷ Op Comma ∷ [])) ≡ true
 case_109 = refl
 
 -- Power: ] k [
@@ -280,7 +280,7 @@ case_206 : read 20 Factor (Op Minus ∷ in_form (98 ∷ []) ∷ Op DoubleStar �
 case_206 = refl
 
 -- Sum: a [ x := 1 ]
-case_214 : read 20 Sum (in_form (97 ∷ []) ∷ Op LSqb ∷ in_form (120 ∷ []) ∷ Op ColonEqual ∷ Whole 1 ∷ Op RSqb ∷ []) ≡ Found (Trees.Subscript (Trees.Name (97 ∷ []) Load) (Trees.NamedExpr (Trees.Name (120 ∷ []) Store) (Trees.Constant (Values.Int 1))) Load) []
+case_214 : read 20 Sum (in_form (97 ∷ []) ∷ Op LSqb ∷ in_form (120 ∷ []) ∷ Op ColonEqual ∷ whole 1 ∷ Op RSqb ∷ []) ≡ Found (Trees.Subscript (Trees.Name (97 ∷ []) Load) (Trees.NamedExpr (Trees.Name (120 ∷ []) Store) (Trees.Constant (Values.Int 1))) Load) []
 case_214 = refl
 
 -- Await: ( )
@@ -328,7 +328,7 @@ case_245 : read 20 Await (Op LSqb ∷ Op Star ∷ in_form (97 ∷ []) ∷ Op Com
 case_245 = refl
 
 -- Primary: 0
-case_247 : read 20 Primary (Whole 0 ∷ []) ≡ Found (Trees.Constant (Values.Int 0)) []
+case_247 : read 20 Primary (whole 0 ∷ []) ≡ Found (Trees.Constant (Values.Int 0)) []
 case_247 = refl
 
 -- Sum: [ x async for x , * y in z for q in y ]
@@ -356,7 +356,7 @@ case_277 : read 20 Term (in_form (102 ∷ []) ∷ Op LPar ∷ in_form (97 ∷ []
 case_277 = refl
 
 -- Shift: a [ 1 : : 2 ]
-case_280 : read 20 Shift (in_form (97 ∷ []) ∷ Op LSqb ∷ Whole 1 ∷ Op Colon ∷ Op Colon ∷ Whole 2 ∷ Op RSqb ∷ []) ≡ Found (Trees.Subscript (Trees.Name (97 ∷ []) Load) (Trees.Slice (Trees.present (Trees.Constant (Values.Int 1))) Trees.absent (Trees.present (Trees.Constant (Values.Int 2)))) Load) []
+case_280 : read 20 Shift (in_form (97 ∷ []) ∷ Op LSqb ∷ whole 1 ∷ Op Colon ∷ Op Colon ∷ whole 2 ∷ Op RSqb ∷ []) ≡ Found (Trees.Subscript (Trees.Name (97 ∷ []) Load) (Trees.Slice (Trees.present (Trees.Constant (Values.Int 1))) Trees.absent (Trees.present (Trees.Constant (Values.Int 2)))) Load) []
 case_280 = refl
 
 -- Sum: a * b + c

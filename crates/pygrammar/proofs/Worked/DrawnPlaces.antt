@@ -13,7 +13,7 @@ use Rattle.pytree_node.specs.declared.operators.Context.TheVariants.{Load, Store
 use Rattle.pygrammar.specs.declared.levels.Level.TheVariants.{Value, Stars, StarItem, Named, Expression}
 use Rattle.pytree_node.specs.Trees
 use Rattle.pytree_node.specs.Values
-use Rattle.pytoken.specs.Terminals.{Op, Word, in_form, Whole, Literal}
+use Rattle.pytoken.specs.Terminals.{Op, Word, in_form, whole, Literal}
 use Rattle.pygrammar.specs.Reader.{Answer, Found, NoForm, TooDeep, read}
 
 abbrev refused : Answer Trees.Expr → Bool
@@ -35,7 +35,7 @@ case_7 : refused (read 20 Stars (Word Key.Yield ∷ Word Key.Not ∷ Op LBrace �
 case_7 = refl
 
 -- Value: a [ x := 1 ]
-case_21 : read 20 Value (in_form (97 ∷ []) ∷ Op LSqb ∷ in_form (120 ∷ []) ∷ Op ColonEqual ∷ Whole 1 ∷ Op RSqb ∷ []) ≡ Found (Trees.Subscript (Trees.Name (97 ∷ []) Load) (Trees.NamedExpr (Trees.Name (120 ∷ []) Store) (Trees.Constant (Values.Int 1))) Load) []
+case_21 : read 20 Value (in_form (97 ∷ []) ∷ Op LSqb ∷ in_form (120 ∷ []) ∷ Op ColonEqual ∷ whole 1 ∷ Op RSqb ∷ []) ≡ Found (Trees.Subscript (Trees.Name (97 ∷ []) Load) (Trees.NamedExpr (Trees.Name (120 ∷ []) Store) (Trees.Constant (Values.Int 1))) Load) []
 case_21 = refl
 
 -- Expression: x : x
@@ -111,7 +111,7 @@ case_111 : refused (read 20 StarItem (Op Comma ∷ Op RSqb ∷ [])) ≡ true
 case_111 = refl
 
 -- StarItem: lambda : 0 not
-case_113 : refused (read 20 StarItem (Word Key.Lambda ∷ Op Colon ∷ Whole 0 ∷ Word Key.Not ∷ [])) ≡ true
+case_113 : refused (read 20 StarItem (Word Key.Lambda ∷ Op Colon ∷ whole 0 ∷ Word Key.Not ∷ [])) ≡ true
 case_113 = refl
 
 -- Value: , < await "b"
@@ -131,11 +131,11 @@ case_126 : refused (read 20 Stars (Op LPar ∷ in_form (120 ∷ []) ∷ Op Colon
 case_126 = refl
 
 -- Value: not not - x lambda : 0
-case_129 : refused (read 20 Value (Word Key.Not ∷ Word Key.Not ∷ Op Minus ∷ in_form (120 ∷ []) ∷ Word Key.Lambda ∷ Op Colon ∷ Whole 0 ∷ [])) ≡ true
+case_129 : refused (read 20 Value (Word Key.Not ∷ Word Key.Not ∷ Op Minus ∷ in_form (120 ∷ []) ∷ Word Key.Lambda ∷ Op Colon ∷ whole 0 ∷ [])) ≡ true
 case_129 = refl
 
 -- Value: lambda * * a , b 1 [ a
-case_133 : refused (read 20 Value (Word Key.Lambda ∷ Op Star ∷ Op Star ∷ in_form (97 ∷ []) ∷ Op Comma ∷ in_form (98 ∷ []) ∷ Whole 1 ∷ Op LSqb ∷ in_form (97 ∷ []) ∷ [])) ≡ true
+case_133 : refused (read 20 Value (Word Key.Lambda ∷ Op Star ∷ Op Star ∷ in_form (97 ∷ []) ∷ Op Comma ∷ in_form (98 ∷ []) ∷ whole 1 ∷ Op LSqb ∷ in_form (97 ∷ []) ∷ [])) ≡ true
 case_133 = refl
 
 -- Value: [ x : x , y in z for q in r ]
@@ -195,7 +195,7 @@ case_209 : read 20 Value (in_form (97 ∷ []) ∷ Op Minus ∷ in_form (98 ∷ [
 case_209 = refl
 
 -- Named: a [ 1 : 2 , * b ]
-case_210 : read 20 Named (in_form (97 ∷ []) ∷ Op LSqb ∷ Whole 1 ∷ Op Colon ∷ Whole 2 ∷ Op Comma ∷ Op Star ∷ in_form (98 ∷ []) ∷ Op RSqb ∷ []) ≡ Found (Trees.Subscript (Trees.Name (97 ∷ []) Load) (Trees.Tuple (Trees.an_expr (Trees.Slice (Trees.present (Trees.Constant (Values.Int 1))) (Trees.present (Trees.Constant (Values.Int 2))) Trees.absent) (Trees.an_expr (Trees.Starred (Trees.Name (98 ∷ []) Load) Load) Trees.no_exprs)) Load) Load) []
+case_210 : read 20 Named (in_form (97 ∷ []) ∷ Op LSqb ∷ whole 1 ∷ Op Colon ∷ whole 2 ∷ Op Comma ∷ Op Star ∷ in_form (98 ∷ []) ∷ Op RSqb ∷ []) ≡ Found (Trees.Subscript (Trees.Name (97 ∷ []) Load) (Trees.Tuple (Trees.an_expr (Trees.Slice (Trees.present (Trees.Constant (Values.Int 1))) (Trees.present (Trees.Constant (Values.Int 2))) Trees.absent) (Trees.an_expr (Trees.Starred (Trees.Name (98 ∷ []) Load) Load) Trees.no_exprs)) Load) Load) []
 case_210 = refl
 
 -- Value: x
@@ -255,7 +255,7 @@ case_263 : read 20 Stars (Op LPar ∷ Word Key.Lambda ∷ in_form (120 ∷ []) �
 case_263 = refl
 
 -- Stars: a [ 1 : : 2 ]
-case_288 : read 20 Stars (in_form (97 ∷ []) ∷ Op LSqb ∷ Whole 1 ∷ Op Colon ∷ Op Colon ∷ Whole 2 ∷ Op RSqb ∷ []) ≡ Found (Trees.Subscript (Trees.Name (97 ∷ []) Load) (Trees.Slice (Trees.present (Trees.Constant (Values.Int 1))) Trees.absent (Trees.present (Trees.Constant (Values.Int 2)))) Load) []
+case_288 : read 20 Stars (in_form (97 ∷ []) ∷ Op LSqb ∷ whole 1 ∷ Op Colon ∷ Op Colon ∷ whole 2 ∷ Op RSqb ∷ []) ≡ Found (Trees.Subscript (Trees.Name (97 ∷ []) Load) (Trees.Slice (Trees.present (Trees.Constant (Values.Int 1))) Trees.absent (Trees.present (Trees.Constant (Values.Int 2)))) Load) []
 case_288 = refl
 
 -- StarItem: ( a and b ) and c or d

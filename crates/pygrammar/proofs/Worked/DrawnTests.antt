@@ -12,7 +12,7 @@ use Rattle.pytree_node.specs.declared.operators.Context.TheVariants.{Load, Store
 use Rattle.pygrammar.specs.declared.levels.Level.TheVariants.{Or, And, Not, Compare, BitOr, BitXor, BitAnd}
 use Rattle.pytree_node.specs.Trees
 use Rattle.pytree_node.specs.Values
-use Rattle.pytoken.specs.Terminals.{Op, Word, in_form, Whole, Literal}
+use Rattle.pytoken.specs.Terminals.{Op, Word, in_form, whole, Literal}
 use Rattle.pygrammar.specs.Reader.{Answer, Found, NoForm, TooDeep, read}
 
 abbrev refused : Answer Trees.Expr → Bool
@@ -38,7 +38,7 @@ case_11 : refused (read 20 BitOr (in_form (97 ∷ []) ∷ in_form (97 ∷ []) �
 case_11 = refl
 
 -- And: == ( x := 1 { : 2
-case_13 : refused (read 20 And (Op EqEqual ∷ Op LPar ∷ in_form (120 ∷ []) ∷ Op ColonEqual ∷ Whole 1 ∷ Op LBrace ∷ Op Colon ∷ Whole 2 ∷ [])) ≡ true
+case_13 : refused (read 20 And (Op EqEqual ∷ Op LPar ∷ in_form (120 ∷ []) ∷ Op ColonEqual ∷ whole 1 ∷ Op LBrace ∷ Op Colon ∷ whole 2 ∷ [])) ≡ true
 case_13 = refl
 
 -- Compare: ( yield :
@@ -94,7 +94,7 @@ case_54 : refused (read 20 Not (Op LPar ∷ Word Key.Yield ∷ in_form (97 ∷ [
 case_54 = refl
 
 -- BitOr: lambda x : 0
-case_57 : refused (read 20 BitOr (Word Key.Lambda ∷ in_form (120 ∷ []) ∷ Op Colon ∷ Whole 0 ∷ [])) ≡ true
+case_57 : refused (read 20 BitOr (Word Key.Lambda ∷ in_form (120 ∷ []) ∷ Op Colon ∷ whole 0 ∷ [])) ≡ true
 case_57 = refl
 
 -- And: a [ * b } ( ]
@@ -118,7 +118,7 @@ case_76 : refused (read 20 BitXor (Op Tilde ∷ in_form (97 ∷ []) ∷ Op VBar 
 case_76 = refl
 
 -- Or: - * 2 < c
-case_82 : refused (read 20 Or (Op Minus ∷ Op Star ∷ Whole 2 ∷ Op Less ∷ in_form (99 ∷ []) ∷ [])) ≡ true
+case_82 : refused (read 20 Or (Op Minus ∷ Op Star ∷ whole 2 ∷ Op Less ∷ in_form (99 ∷ []) ∷ [])) ≡ true
 case_82 = refl
 
 -- BitXor: a or * b and c
@@ -206,7 +206,7 @@ case_152 : refused (read 20 BitXor (Op LSqb ∷ in_form (120 ∷ []) ∷ Word Ke
 case_152 = refl
 
 -- Not: lambda 0
-case_154 : refused (read 20 Not (Word Key.Lambda ∷ Whole 0 ∷ [])) ≡ true
+case_154 : refused (read 20 Not (Word Key.Lambda ∷ whole 0 ∷ [])) ≡ true
 case_154 = refl
 
 -- Not: ,
@@ -238,7 +238,7 @@ case_171 : read 20 BitAnd (in_form (97 ∷ []) ∷ Op LSqb ∷ Op Star ∷ in_fo
 case_171 = refl
 
 -- And: a [ 1 ( ) : : 2 ]
-case_172 : read 20 And (in_form (97 ∷ []) ∷ Op LSqb ∷ Whole 1 ∷ Op LPar ∷ Op RPar ∷ Op Colon ∷ Op Colon ∷ Whole 2 ∷ Op RSqb ∷ []) ≡ Found (Trees.Subscript (Trees.Name (97 ∷ []) Load) (Trees.Slice (Trees.present (Trees.Call (Trees.Constant (Values.Int 1)) Trees.no_exprs Trees.no_keyword)) Trees.absent (Trees.present (Trees.Constant (Values.Int 2)))) Load) []
+case_172 : read 20 And (in_form (97 ∷ []) ∷ Op LSqb ∷ whole 1 ∷ Op LPar ∷ Op RPar ∷ Op Colon ∷ Op Colon ∷ whole 2 ∷ Op RSqb ∷ []) ≡ Found (Trees.Subscript (Trees.Name (97 ∷ []) Load) (Trees.Slice (Trees.present (Trees.Call (Trees.Constant (Values.Int 1)) Trees.no_exprs Trees.no_keyword)) Trees.absent (Trees.present (Trees.Constant (Values.Int 2)))) Load) []
 case_172 = refl
 
 -- Or: ... is None
@@ -258,7 +258,7 @@ case_182 : read 20 Compare (in_form (97 ∷ []) ∷ Op Star ∷ in_form (98 ∷ 
 case_182 = refl
 
 -- Not: a [ 1 : 2 , * b ] is b
-case_185 : read 20 Not (in_form (97 ∷ []) ∷ Op LSqb ∷ Whole 1 ∷ Op Colon ∷ Whole 2 ∷ Op Comma ∷ Op Star ∷ in_form (98 ∷ []) ∷ Op RSqb ∷ Word Key.Is ∷ in_form (98 ∷ []) ∷ []) ≡ Found (Trees.Compare (Trees.Subscript (Trees.Name (97 ∷ []) Load) (Trees.Tuple (Trees.an_expr (Trees.Slice (Trees.present (Trees.Constant (Values.Int 1))) (Trees.present (Trees.Constant (Values.Int 2))) Trees.absent) (Trees.an_expr (Trees.Starred (Trees.Name (98 ∷ []) Load) Load) Trees.no_exprs)) Load) Load) (Is.Is ∷ []) (Trees.an_expr (Trees.Name (98 ∷ []) Load) Trees.no_exprs)) []
+case_185 : read 20 Not (in_form (97 ∷ []) ∷ Op LSqb ∷ whole 1 ∷ Op Colon ∷ whole 2 ∷ Op Comma ∷ Op Star ∷ in_form (98 ∷ []) ∷ Op RSqb ∷ Word Key.Is ∷ in_form (98 ∷ []) ∷ []) ≡ Found (Trees.Compare (Trees.Subscript (Trees.Name (97 ∷ []) Load) (Trees.Tuple (Trees.an_expr (Trees.Slice (Trees.present (Trees.Constant (Values.Int 1))) (Trees.present (Trees.Constant (Values.Int 2))) Trees.absent) (Trees.an_expr (Trees.Starred (Trees.Name (98 ∷ []) Load) Load) Trees.no_exprs)) Load) Load) (Is.Is ∷ []) (Trees.an_expr (Trees.Name (98 ∷ []) Load) Trees.no_exprs)) []
 case_185 = refl
 
 -- BitAnd: "b"
@@ -274,7 +274,7 @@ case_200 : read 20 BitAnd (in_form (102 ∷ []) ∷ Op LPar ∷ in_form (97 ∷ 
 case_200 = refl
 
 -- Or: 1
-case_201 : read 20 Or (Whole 1 ∷ []) ≡ Found (Trees.Constant (Values.Int 1)) []
+case_201 : read 20 Or (whole 1 ∷ []) ≡ Found (Trees.Constant (Values.Int 1)) []
 case_201 = refl
 
 -- Or: a [ b : x : y ]
@@ -306,7 +306,7 @@ case_219 : read 20 BitAnd (in_form (97 ∷ []) ∷ Op DoubleStar ∷ in_form (98
 case_219 = refl
 
 -- BitXor: 0
-case_222 : read 20 BitXor (Whole 0 ∷ []) ≡ Found (Trees.Constant (Values.Int 0)) []
+case_222 : read 20 BitXor (whole 0 ∷ []) ≡ Found (Trees.Constant (Values.Int 0)) []
 case_222 = refl
 
 -- BitOr: ( yield a , * b )
@@ -334,7 +334,7 @@ case_248 : read 20 Or (in_form (98 ∷ []) ∷ []) ≡ Found (Trees.Name (98 ∷
 case_248 = refl
 
 -- And: { ( x := 1 ) : 2 }
-case_251 : read 20 And (Op LBrace ∷ Op LPar ∷ in_form (120 ∷ []) ∷ Op ColonEqual ∷ Whole 1 ∷ Op RPar ∷ Op Colon ∷ Whole 2 ∷ Op RBrace ∷ []) ≡ Found (Trees.Dict (Trees.an_optional (Trees.present (Trees.NamedExpr (Trees.Name (120 ∷ []) Store) (Trees.Constant (Values.Int 1)))) Trees.no_optional) (Trees.an_expr (Trees.Constant (Values.Int 2)) Trees.no_exprs)) []
+case_251 : read 20 And (Op LBrace ∷ Op LPar ∷ in_form (120 ∷ []) ∷ Op ColonEqual ∷ whole 1 ∷ Op RPar ∷ Op Colon ∷ whole 2 ∷ Op RBrace ∷ []) ≡ Found (Trees.Dict (Trees.an_optional (Trees.present (Trees.NamedExpr (Trees.Name (120 ∷ []) Store) (Trees.Constant (Values.Int 1)))) Trees.no_optional) (Trees.an_expr (Trees.Constant (Values.Int 2)) Trees.no_exprs)) []
 case_251 = refl
 
 -- BitOr: ( lambda x : a or x ) ( y )
@@ -342,11 +342,11 @@ case_252 : read 20 BitOr (Op LPar ∷ Word Key.Lambda ∷ in_form (120 ∷ []) �
 case_252 = refl
 
 -- Not: 1
-case_255 : read 20 Not (Whole 1 ∷ []) ≡ Found (Trees.Constant (Values.Int 1)) []
+case_255 : read 20 Not (whole 1 ∷ []) ≡ Found (Trees.Constant (Values.Int 1)) []
 case_255 = refl
 
 -- Not: a [ 1 : 2 , * b ]
-case_257 : read 20 Not (in_form (97 ∷ []) ∷ Op LSqb ∷ Whole 1 ∷ Op Colon ∷ Whole 2 ∷ Op Comma ∷ Op Star ∷ in_form (98 ∷ []) ∷ Op RSqb ∷ []) ≡ Found (Trees.Subscript (Trees.Name (97 ∷ []) Load) (Trees.Tuple (Trees.an_expr (Trees.Slice (Trees.present (Trees.Constant (Values.Int 1))) (Trees.present (Trees.Constant (Values.Int 2))) Trees.absent) (Trees.an_expr (Trees.Starred (Trees.Name (98 ∷ []) Load) Load) Trees.no_exprs)) Load) Load) []
+case_257 : read 20 Not (in_form (97 ∷ []) ∷ Op LSqb ∷ whole 1 ∷ Op Colon ∷ whole 2 ∷ Op Comma ∷ Op Star ∷ in_form (98 ∷ []) ∷ Op RSqb ∷ []) ≡ Found (Trees.Subscript (Trees.Name (97 ∷ []) Load) (Trees.Tuple (Trees.an_expr (Trees.Slice (Trees.present (Trees.Constant (Values.Int 1))) (Trees.present (Trees.Constant (Values.Int 2))) Trees.absent) (Trees.an_expr (Trees.Starred (Trees.Name (98 ∷ []) Load) Load) Trees.no_exprs)) Load) Load) []
 case_257 = refl
 
 -- BitXor: f ( a ) ( b ) . c [ d ]
@@ -358,11 +358,11 @@ case_261 : read 20 Not (in_form (102 ∷ []) ∷ Op LPar ∷ in_form (97 ∷ [])
 case_261 = refl
 
 -- And: 1
-case_265 : read 20 And (Whole 1 ∷ []) ≡ Found (Trees.Constant (Values.Int 1)) []
+case_265 : read 20 And (whole 1 ∷ []) ≡ Found (Trees.Constant (Values.Int 1)) []
 case_265 = refl
 
 -- BitAnd: a [ x := 1 ]
-case_269 : read 20 BitAnd (in_form (97 ∷ []) ∷ Op LSqb ∷ in_form (120 ∷ []) ∷ Op ColonEqual ∷ Whole 1 ∷ Op RSqb ∷ []) ≡ Found (Trees.Subscript (Trees.Name (97 ∷ []) Load) (Trees.NamedExpr (Trees.Name (120 ∷ []) Store) (Trees.Constant (Values.Int 1))) Load) []
+case_269 : read 20 BitAnd (in_form (97 ∷ []) ∷ Op LSqb ∷ in_form (120 ∷ []) ∷ Op ColonEqual ∷ whole 1 ∷ Op RSqb ∷ []) ≡ Found (Trees.Subscript (Trees.Name (97 ∷ []) Load) (Trees.NamedExpr (Trees.Name (120 ∷ []) Store) (Trees.Constant (Values.Int 1))) Load) []
 case_269 = refl
 
 -- Compare: f ( * a , b := x )
@@ -386,7 +386,7 @@ case_278 : read 20 Compare (in_form (98 ∷ []) ∷ Op Amper ∷ in_form (99 ∷
 case_278 = refl
 
 -- Not: { ( x := 1 ) : 2 }
-case_279 : read 20 Not (Op LBrace ∷ Op LPar ∷ in_form (120 ∷ []) ∷ Op ColonEqual ∷ Whole 1 ∷ Op RPar ∷ Op Colon ∷ Whole 2 ∷ Op RBrace ∷ []) ≡ Found (Trees.Dict (Trees.an_optional (Trees.present (Trees.NamedExpr (Trees.Name (120 ∷ []) Store) (Trees.Constant (Values.Int 1)))) Trees.no_optional) (Trees.an_expr (Trees.Constant (Values.Int 2)) Trees.no_exprs)) []
+case_279 : read 20 Not (Op LBrace ∷ Op LPar ∷ in_form (120 ∷ []) ∷ Op ColonEqual ∷ whole 1 ∷ Op RPar ∷ Op Colon ∷ whole 2 ∷ Op RBrace ∷ []) ≡ Found (Trees.Dict (Trees.an_optional (Trees.present (Trees.NamedExpr (Trees.Name (120 ∷ []) Store) (Trees.Constant (Values.Int 1)))) Trees.no_optional) (Trees.an_expr (Trees.Constant (Values.Int 2)) Trees.no_exprs)) []
 case_279 = refl
 
 -- BitXor: "a"
@@ -398,5 +398,5 @@ case_292 : read 20 Or (in_form (102 ∷ []) ∷ []) ≡ Found (Trees.Name (102 �
 case_292 = refl
 
 -- And: 2
-case_299 : read 20 And (Whole 2 ∷ []) ≡ Found (Trees.Constant (Values.Int 2)) []
+case_299 : read 20 And (whole 2 ∷ []) ≡ Found (Trees.Constant (Values.Int 2)) []
 case_299 = refl

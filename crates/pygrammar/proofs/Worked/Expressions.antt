@@ -12,7 +12,7 @@ use Rattle.pytree_node.specs.declared.operators.Context.TheVariants.{Load, Store
 use Rattle.pygrammar.specs.declared.levels.Level.TheVariants.{Value}
 use Rattle.pytree_node.specs.Trees
 use Rattle.pytree_node.specs.Values
-use Rattle.pytoken.specs.Terminals.{Op, Word, in_form, Whole, Literal}
+use Rattle.pytoken.specs.Terminals.{Op, Word, in_form, whole, Literal}
 use Rattle.pygrammar.specs.Reader.{Answer, Found, NoForm, TooDeep, read}
 
 abbrev refused : Answer Trees.Expr → Bool
@@ -54,7 +54,7 @@ worked_8 : read 12 Value (Op LBrace ∷ Op DoubleStar ∷ in_form (97 ∷ []) �
 worked_8 = refl
 
 -- a[1:2, *b]
-worked_9 : read 12 Value (in_form (97 ∷ []) ∷ Op LSqb ∷ Whole 1 ∷ Op Colon ∷ Whole 2 ∷ Op Comma ∷ Op Star ∷ in_form (98 ∷ []) ∷ Op RSqb ∷ []) ≡ Found (Trees.Subscript (Trees.Name (97 ∷ []) Load) (Trees.Tuple (Trees.an_expr (Trees.Slice (Trees.present (Trees.Constant (Values.Int 1))) (Trees.present (Trees.Constant (Values.Int 2))) Trees.absent) (Trees.an_expr (Trees.Starred (Trees.Name (98 ∷ []) Load) Load) Trees.no_exprs)) Load) Load) []
+worked_9 : read 12 Value (in_form (97 ∷ []) ∷ Op LSqb ∷ whole 1 ∷ Op Colon ∷ whole 2 ∷ Op Comma ∷ Op Star ∷ in_form (98 ∷ []) ∷ Op RSqb ∷ []) ≡ Found (Trees.Subscript (Trees.Name (97 ∷ []) Load) (Trees.Tuple (Trees.an_expr (Trees.Slice (Trees.present (Trees.Constant (Values.Int 1))) (Trees.present (Trees.Constant (Values.Int 2))) Trees.absent) (Trees.an_expr (Trees.Starred (Trees.Name (98 ∷ []) Load) Load) Trees.no_exprs)) Load) Load) []
 worked_9 = refl
 
 -- a[*b]
@@ -66,15 +66,15 @@ worked_11 : read 12 Value (in_form (97 ∷ []) ∷ Op LSqb ∷ Op Colon ∷ Op R
 worked_11 = refl
 
 -- a[1::2]
-worked_12 : read 12 Value (in_form (97 ∷ []) ∷ Op LSqb ∷ Whole 1 ∷ Op Colon ∷ Op Colon ∷ Whole 2 ∷ Op RSqb ∷ []) ≡ Found (Trees.Subscript (Trees.Name (97 ∷ []) Load) (Trees.Slice (Trees.present (Trees.Constant (Values.Int 1))) Trees.absent (Trees.present (Trees.Constant (Values.Int 2)))) Load) []
+worked_12 : read 12 Value (in_form (97 ∷ []) ∷ Op LSqb ∷ whole 1 ∷ Op Colon ∷ Op Colon ∷ whole 2 ∷ Op RSqb ∷ []) ≡ Found (Trees.Subscript (Trees.Name (97 ∷ []) Load) (Trees.Slice (Trees.present (Trees.Constant (Values.Int 1))) Trees.absent (Trees.present (Trees.Constant (Values.Int 2)))) Load) []
 worked_12 = refl
 
 -- lambda x, /, z=1, *, y=1, **k: x
-worked_13 : read 12 Value (Word Key.Lambda ∷ in_form (120 ∷ []) ∷ Op Comma ∷ Op Slash ∷ Op Comma ∷ in_form (122 ∷ []) ∷ Op Equal ∷ Whole 1 ∷ Op Comma ∷ Op Star ∷ Op Comma ∷ in_form (121 ∷ []) ∷ Op Equal ∷ Whole 1 ∷ Op Comma ∷ Op DoubleStar ∷ in_form (107 ∷ []) ∷ Op Colon ∷ in_form (120 ∷ []) ∷ []) ≡ Found (Trees.Lambda (Trees.arguments (Trees.an_arg (Trees.arg (120 ∷ []) Trees.absent) Trees.no_arg) (Trees.an_arg (Trees.arg (122 ∷ []) Trees.absent) Trees.no_arg) Trees.absent_arg (Trees.an_arg (Trees.arg (121 ∷ []) Trees.absent) Trees.no_arg) (Trees.an_optional (Trees.present (Trees.Constant (Values.Int 1))) Trees.no_optional) (Trees.present_arg (Trees.arg (107 ∷ []) Trees.absent)) (Trees.an_expr (Trees.Constant (Values.Int 1)) Trees.no_exprs)) (Trees.Name (120 ∷ []) Load)) []
+worked_13 : read 12 Value (Word Key.Lambda ∷ in_form (120 ∷ []) ∷ Op Comma ∷ Op Slash ∷ Op Comma ∷ in_form (122 ∷ []) ∷ Op Equal ∷ whole 1 ∷ Op Comma ∷ Op Star ∷ Op Comma ∷ in_form (121 ∷ []) ∷ Op Equal ∷ whole 1 ∷ Op Comma ∷ Op DoubleStar ∷ in_form (107 ∷ []) ∷ Op Colon ∷ in_form (120 ∷ []) ∷ []) ≡ Found (Trees.Lambda (Trees.arguments (Trees.an_arg (Trees.arg (120 ∷ []) Trees.absent) Trees.no_arg) (Trees.an_arg (Trees.arg (122 ∷ []) Trees.absent) Trees.no_arg) Trees.absent_arg (Trees.an_arg (Trees.arg (121 ∷ []) Trees.absent) Trees.no_arg) (Trees.an_optional (Trees.present (Trees.Constant (Values.Int 1))) Trees.no_optional) (Trees.present_arg (Trees.arg (107 ∷ []) Trees.absent)) (Trees.an_expr (Trees.Constant (Values.Int 1)) Trees.no_exprs)) (Trees.Name (120 ∷ []) Load)) []
 worked_13 = refl
 
 -- lambda: 0
-worked_14 : read 12 Value (Word Key.Lambda ∷ Op Colon ∷ Whole 0 ∷ []) ≡ Found (Trees.Lambda (Trees.arguments Trees.no_arg Trees.no_arg Trees.absent_arg Trees.no_arg Trees.no_optional Trees.absent_arg Trees.no_exprs) (Trees.Constant (Values.Int 0))) []
+worked_14 : read 12 Value (Word Key.Lambda ∷ Op Colon ∷ whole 0 ∷ []) ≡ Found (Trees.Lambda (Trees.arguments Trees.no_arg Trees.no_arg Trees.absent_arg Trees.no_arg Trees.no_optional Trees.absent_arg Trees.no_exprs) (Trees.Constant (Values.Int 0))) []
 worked_14 = refl
 
 -- lambda *a, b: a
@@ -102,7 +102,7 @@ worked_20 : read 12 Value (Op LBrace ∷ in_form (120 ∷ []) ∷ Op Colon ∷ i
 worked_20 = refl
 
 -- await f(x, *y, k=1, **d).g
-worked_21 : read 12 Value (Word Key.Await ∷ in_form (102 ∷ []) ∷ Op LPar ∷ in_form (120 ∷ []) ∷ Op Comma ∷ Op Star ∷ in_form (121 ∷ []) ∷ Op Comma ∷ in_form (107 ∷ []) ∷ Op Equal ∷ Whole 1 ∷ Op Comma ∷ Op DoubleStar ∷ in_form (100 ∷ []) ∷ Op RPar ∷ Op Dot ∷ in_form (103 ∷ []) ∷ []) ≡ Found (Trees.Await (Trees.Attribute (Trees.Call (Trees.Name (102 ∷ []) Load) (Trees.an_expr (Trees.Name (120 ∷ []) Load) (Trees.an_expr (Trees.Starred (Trees.Name (121 ∷ []) Load) Load) Trees.no_exprs)) (Trees.a_keyword (Some (107 ∷ [])) (Trees.Constant (Values.Int 1)) (Trees.a_keyword None (Trees.Name (100 ∷ []) Load) Trees.no_keyword))) (103 ∷ []) Load)) []
+worked_21 : read 12 Value (Word Key.Await ∷ in_form (102 ∷ []) ∷ Op LPar ∷ in_form (120 ∷ []) ∷ Op Comma ∷ Op Star ∷ in_form (121 ∷ []) ∷ Op Comma ∷ in_form (107 ∷ []) ∷ Op Equal ∷ whole 1 ∷ Op Comma ∷ Op DoubleStar ∷ in_form (100 ∷ []) ∷ Op RPar ∷ Op Dot ∷ in_form (103 ∷ []) ∷ []) ≡ Found (Trees.Await (Trees.Attribute (Trees.Call (Trees.Name (102 ∷ []) Load) (Trees.an_expr (Trees.Name (120 ∷ []) Load) (Trees.an_expr (Trees.Starred (Trees.Name (121 ∷ []) Load) Load) Trees.no_exprs)) (Trees.a_keyword (Some (107 ∷ [])) (Trees.Constant (Values.Int 1)) (Trees.a_keyword None (Trees.Name (100 ∷ []) Load) Trees.no_keyword))) (103 ∷ []) Load)) []
 worked_21 = refl
 
 -- a is not b < c not in d
@@ -134,7 +134,7 @@ worked_28 : read 12 Value (Op LSqb ∷ in_form (120 ∷ []) ∷ Word Key.Async �
 worked_28 = refl
 
 -- (x := 1)
-worked_29 : read 12 Value (Op LPar ∷ in_form (120 ∷ []) ∷ Op ColonEqual ∷ Whole 1 ∷ Op RPar ∷ []) ≡ Found (Trees.NamedExpr (Trees.Name (120 ∷ []) Store) (Trees.Constant (Values.Int 1))) []
+worked_29 : read 12 Value (Op LPar ∷ in_form (120 ∷ []) ∷ Op ColonEqual ∷ whole 1 ∷ Op RPar ∷ []) ≡ Found (Trees.NamedExpr (Trees.Name (120 ∷ []) Store) (Trees.Constant (Values.Int 1))) []
 worked_29 = refl
 
 -- a, b
@@ -174,7 +174,7 @@ worked_38 : read 12 Value (Word Key.Not ∷ Word Key.Not ∷ in_form (97 ∷ [])
 worked_38 = refl
 
 -- {(x := 1): 2}
-worked_39 : read 12 Value (Op LBrace ∷ Op LPar ∷ in_form (120 ∷ []) ∷ Op ColonEqual ∷ Whole 1 ∷ Op RPar ∷ Op Colon ∷ Whole 2 ∷ Op RBrace ∷ []) ≡ Found (Trees.Dict (Trees.an_optional (Trees.present (Trees.NamedExpr (Trees.Name (120 ∷ []) Store) (Trees.Constant (Values.Int 1)))) Trees.no_optional) (Trees.an_expr (Trees.Constant (Values.Int 2)) Trees.no_exprs)) []
+worked_39 : read 12 Value (Op LBrace ∷ Op LPar ∷ in_form (120 ∷ []) ∷ Op ColonEqual ∷ whole 1 ∷ Op RPar ∷ Op Colon ∷ whole 2 ∷ Op RBrace ∷ []) ≡ Found (Trees.Dict (Trees.an_optional (Trees.present (Trees.NamedExpr (Trees.Name (120 ∷ []) Store) (Trees.Constant (Values.Int 1)))) Trees.no_optional) (Trees.an_expr (Trees.Constant (Values.Int 2)) Trees.no_exprs)) []
 worked_39 = refl
 
 -- a if b else lambda: c
@@ -210,7 +210,7 @@ worked_47 : read 12 Value (in_form (97 ∷ []) ∷ Word Key.Or ∷ Word Key.Not 
 worked_47 = refl
 
 -- a[x:=1]
-worked_48 : read 12 Value (in_form (97 ∷ []) ∷ Op LSqb ∷ in_form (120 ∷ []) ∷ Op ColonEqual ∷ Whole 1 ∷ Op RSqb ∷ []) ≡ Found (Trees.Subscript (Trees.Name (97 ∷ []) Load) (Trees.NamedExpr (Trees.Name (120 ∷ []) Store) (Trees.Constant (Values.Int 1))) Load) []
+worked_48 : read 12 Value (in_form (97 ∷ []) ∷ Op LSqb ∷ in_form (120 ∷ []) ∷ Op ColonEqual ∷ whole 1 ∷ Op RSqb ∷ []) ≡ Found (Trees.Subscript (Trees.Name (97 ∷ []) Load) (Trees.NamedExpr (Trees.Name (120 ∷ []) Store) (Trees.Constant (Values.Int 1))) Load) []
 worked_48 = refl
 
 -- (x for (a.b, [c]) in y)
@@ -230,7 +230,7 @@ worked_52 : refused (read 12 Value (in_form (97 ∷ []) ∷ Op Plus ∷ [])) ≡
 worked_52 = refl
 
 -- no form: f(a=1, b)
-worked_53 : refused (read 12 Value (in_form (102 ∷ []) ∷ Op LPar ∷ in_form (97 ∷ []) ∷ Op Equal ∷ Whole 1 ∷ Op Comma ∷ in_form (98 ∷ []) ∷ Op RPar ∷ [])) ≡ true
+worked_53 : refused (read 12 Value (in_form (102 ∷ []) ∷ Op LPar ∷ in_form (97 ∷ []) ∷ Op Equal ∷ whole 1 ∷ Op Comma ∷ in_form (98 ∷ []) ∷ Op RPar ∷ [])) ≡ true
 worked_53 = refl
 
 -- no form: f(**a, *b)
@@ -242,7 +242,7 @@ worked_55 : refused (read 12 Value (Op LPar ∷ Op Star ∷ in_form (97 ∷ []) 
 worked_55 = refl
 
 -- no form: {x := 1: 2}
-worked_56 : refused (read 12 Value (Op LBrace ∷ in_form (120 ∷ []) ∷ Op ColonEqual ∷ Whole 1 ∷ Op Colon ∷ Whole 2 ∷ Op RBrace ∷ [])) ≡ true
+worked_56 : refused (read 12 Value (Op LBrace ∷ in_form (120 ∷ []) ∷ Op ColonEqual ∷ whole 1 ∷ Op Colon ∷ whole 2 ∷ Op RBrace ∷ [])) ≡ true
 worked_56 = refl
 
 -- no form: a not b
@@ -254,11 +254,11 @@ worked_58 : refused (read 12 Value (Word Key.Lambda ∷ Op Star ∷ Op Colon ∷
 worked_58 = refl
 
 -- no form: lambda a=1, b: x
-worked_59 : refused (read 12 Value (Word Key.Lambda ∷ in_form (97 ∷ []) ∷ Op Equal ∷ Whole 1 ∷ Op Comma ∷ in_form (98 ∷ []) ∷ Op Colon ∷ in_form (120 ∷ []) ∷ [])) ≡ true
+worked_59 : refused (read 12 Value (Word Key.Lambda ∷ in_form (97 ∷ []) ∷ Op Equal ∷ whole 1 ∷ Op Comma ∷ in_form (98 ∷ []) ∷ Op Colon ∷ in_form (120 ∷ []) ∷ [])) ≡ true
 worked_59 = refl
 
 -- no form: 1 + not a
-worked_60 : refused (read 12 Value (Whole 1 ∷ Op Plus ∷ Word Key.Not ∷ in_form (97 ∷ []) ∷ [])) ≡ true
+worked_60 : refused (read 12 Value (whole 1 ∷ Op Plus ∷ Word Key.Not ∷ in_form (97 ∷ []) ∷ [])) ≡ true
 worked_60 = refl
 
 -- no form: (x for x + y in z)
@@ -274,7 +274,7 @@ worked_63 : refused (read 12 Value (Op LSqb ∷ Op Star ∷ in_form (97 ∷ []) 
 worked_63 = refl
 
 -- no form: a[x:=1:2]
-worked_64 : refused (read 12 Value (in_form (97 ∷ []) ∷ Op LSqb ∷ in_form (120 ∷ []) ∷ Op ColonEqual ∷ Whole 1 ∷ Op Colon ∷ Whole 2 ∷ Op RSqb ∷ [])) ≡ true
+worked_64 : refused (read 12 Value (in_form (97 ∷ []) ∷ Op LSqb ∷ in_form (120 ∷ []) ∷ Op ColonEqual ∷ whole 1 ∷ Op Colon ∷ whole 2 ∷ Op RSqb ∷ [])) ≡ true
 worked_64 = refl
 
 -- no form: f(x for x in y, z)

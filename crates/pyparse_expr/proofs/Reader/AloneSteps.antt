@@ -7,7 +7,7 @@ use Rattle.pytree_node.specs.declared.operators.Context.TheVariants.{Load}
 use Rattle.pytree_node.specs.Trees
 use Rattle.pytree_node.specs.Trees.{Expr}
 use Rattle.pytree_node.specs.Values
-use Rattle.pytoken.specs.Terminals.{Terminal, Op, Ident, Whole, Literal}
+use Rattle.pytoken.specs.Terminals.{Terminal, Op, Ident, Number, Literal}
 use Rattle.pytoken.specs.declared.values.terminals.Terminal as given
 use Rattle.pytree_height.specs.Heights.{height}
 use Rattle.pygrammar.specs.declared.levels.Level.TheVariants as level
@@ -84,19 +84,19 @@ module _ (d : ℕ) (inner : Reads) where
 -- an atom of one terminal
 abbrev value_of : Terminal → Option Expr
 value_of (Ident x) = Some (Trees.Name x.form Load)
-value_of (Whole n) = Some (Trees.Constant (Values.Int n))
+value_of (Number v) = Some (Trees.Constant v)
 value_of (Literal v) = constant_of (joined v [])
 value_of _ = None
 
 atom_is : (same inner : Reads) (t : Terminal) (r : List Terminal) → atom_with t ≡ true → ends r ≡ true → capped_atom same inner (t ∷ r) ≡ made (value_of t) r
 atom_is same inner (Ident x) r a h = refl
-atom_is same inner (Whole n) r a h = refl
+atom_is same inner (Number v) r a h = refl
 atom_is same inner (Literal v) r a h = ap (λ z. and_then z (λ vs r1. made (constant_of (joined v vs)) r1)) (no_run r h)
 atom_is same inner _ r a h = absurd (cc)
 
 levels_are : (g k : ℕ) (t : Terminal) (r : List Terminal) → atom_with t ≡ true → capped (suc g) (suc k) level.Expression (t ∷ r) ≡ forks (suc k) (capped g k) (climbs (suc k) (capped g k) (trails (suc k) (capped g k) (capped (suc g) (suc k) level.Atom (t ∷ r))))
 levels_are g k (Ident x) r a = refl
-levels_are g k (Whole n) r a = refl
+levels_are g k (Number v) r a = refl
 levels_are g k (Literal v) r a = refl
 levels_are g k _ r a = absurd (cc)
 
