@@ -462,6 +462,7 @@ def read_language(parser):
     """The command line of a comparison that may be of the whole language."""
     parser.add_argument("--whole", action="store_true", help="compare what the program does with --whole")
     options = read_options(parser)
+    options.plain = options.program
     if options.whole:
         options.program = WITH_WHOLE + options.program
     prepare(options.whole)

@@ -234,7 +234,7 @@ def compare(options):
     print(f"pyast: {' '.join(options.program)}\nast: Python {sys.version.split()[0]}")
     count, cases = all_cases(options)
     failures = list(misplaced_samples(options.program))
-    found = results_of(functools.partial(compare_row, options.program), len(ROWS), ROWS, options.jobs)
+    found = results_of(functools.partial(compare_row, options.plain), len(ROWS), ROWS, options.jobs)
     failures += sorted((one for row in found for one in row), key=lambda one: one.name)
     ready = functools.partial(prepare, options.whole)
     results = results_of(functools.partial(compare_case, options.program), count, cases, options.jobs, ready)
