@@ -1,5 +1,5 @@
 //! What `dump` and `unparse` do with numbers, by `--whole` and without it. The trees are those of
-//! Python 3.11, the texts those of its `ast.unparse`.
+//! Python 3.11, and so are the texts but for the blank before the point of an attribute.
 
 use crate::dump_limits::joined;
 use crate::dumps::{does, does_all};
