@@ -1,11 +1,13 @@
 //! Tests of the tree's crates, of `pyunparse` and of the examples of `uses`: trees of sources, whose
 //! heights are counted and whose dumps were taken from Python 3.11 and 3.12; trees that no source
-//! gives, made of those by a change; the tokens that expressions are written in, and modules that
+//! gives, made of those by a change or by hand; the tokens that expressions are written in, and modules that
 //! come back from their text.
 #![tactic(auto)]
 
 #[cfg(test)]
 mod changes;
+#[cfg(test)]
+mod constants;
 #[cfg(test)]
 mod examples;
 #[cfg(test)]
