@@ -1,4 +1,4 @@
 -- Texts that are one token.
-pub mod Decimals
 pub mod Literals
+pub mod Numbers
 pub mod Scalars
