@@ -104,7 +104,7 @@ radix_off t e =
     (based_off is_b is_binary_digit refl refl t)
     (or_parts (headed is_zero (headed is_x (are_some is_hex_digit)) t || headed is_zero (headed is_o (are_some is_octal_digit)) t) (headed is_zero (headed is_b (are_some is_binary_digit)) t) e)
 
-number_off : (t : List ℕ) → is_number t ≡ true → list_all not_feed t ≡ true
+pub number_off : (t : List ℕ) → is_number t ≡ true → list_all not_feed t ≡ true
 unfolding is_number
 number_off t e =
     ⊎_elim
@@ -126,11 +126,11 @@ one_of p t (o ∷ os) e h =
     (λ (i : list_any (bytes_eq t) os ≡ true). one_of p t os q.1 i)
     (or_parts (bytes_eq t o) (list_any (bytes_eq t) os) h)
 
-operator_off : (t : List ℕ) → is_operator t ≡ true → list_all not_feed t ≡ true
+pub operator_off : (t : List ℕ) → is_operator t ≡ true → list_all not_feed t ≡ true
 operator_off t e = one_of (list_all not_feed) t words refl (sym (by_words t) ∙ e)
 
 -- Names, comments, blanks
-name_off : (t : List ℕ) → is_name t ≡ true → list_all not_feed t ≡ true
+pub name_off : (t : List ℕ) → is_name t ≡ true → list_all not_feed t ≡ true
 unfolding is_name
 name_off t e = headed_off starts_name (list_all is_xid_continue) (rw (is_xid_start-ascii 10 (omega arith)) refl) (all_off is_xid_continue (is_xid_continue-ascii 10 (omega arith))) t (by t e)
   where
@@ -138,7 +138,7 @@ name_off t e = headed_off starts_name (list_all is_xid_continue) (rw (is_xid_sta
     by [] h = h
     by (c ∷ t) h = h
 
-comment_off : (t : List ℕ) → is_comment t ≡ true → list_all not_feed t ≡ true
+pub comment_off : (t : List ℕ) → is_comment t ≡ true → list_all not_feed t ≡ true
 unfolding is_comment
 comment_off t e = headed_off (λ c. c == 35) (list_all is_comment_part) refl (all_off is_comment_part refl) t (by t e)
   where
@@ -146,7 +146,7 @@ comment_off t e = headed_off (λ c. c == 35) (list_all is_comment_part) refl (al
     by [] h = h
     by (c ∷ t) h = h
 
-blanks_off : (t : List ℕ) → are_blanks t ≡ true → list_all not_feed t ≡ true
+pub blanks_off : (t : List ℕ) → are_blanks t ≡ true → list_all not_feed t ≡ true
 unfolding are_blanks
 blanks_off t e = headed_off is_blank_char (list_all is_blank_char) refl (all_off is_blank_char refl) t (by t e)
   where
