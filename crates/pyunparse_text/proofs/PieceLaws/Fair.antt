@@ -1,20 +1,18 @@
 -- Carries: the laws of pieces. On: the text of a terminal is a token of its
 -- type, and gives the terminal.
-use Rattle.std.proofs.Common.{◌≡◌, ℕ, ◌<◌, ◌^◌, Bool, true, false, ◌&&◌, List, [], ◌∷◌, refl, arith, ⊎_elim, leb, Option, Some, None, ap, ◌∙◌}
+use Rattle.std.proofs.Common.{◌≡◌, ℕ, ◌<◌, ◌^◌, Bool, true, false, List, [], ◌∷◌, refl, arith, leb, Option, Some, None, ap, ◌∙◌}
 use Rattle.std.specs.Prelude.{decimal, is_some}
 use Rattle.std.specs.List.{list_all}
 use Rattle.std.specs.Str.{all_scalars}
-use Rattle.std.proofs.Math.Utf8.{low_scalar}
-use Rattle.std.proofs.lemmas.Bool.{eqb-true, le-leb, and_parts, or_cases}
-use Rattle.std.proofs.lemmas.Bool.Decides.{nat_tests}
+use Rattle.std.proofs.lemmas.Bool.{le-leb, and_parts}
 use Rattle.std.proofs.lemmas.List.Elements.{All-head, All-tail}
 use Rattle.std.specs.Prelude.{All}
 use Rattle.pylex_lexeme.specs.declared.kinds.Exact.{Exact}
 use Rattle.pylex_lexeme.specs.declared.kinds.Exact.TheVariants.{LPar, RPar, LSqb, RSqb, LBrace, RBrace, Ellipsis}
-use Rattle.pylex_lexeme.specs.Numbers.{is_zero, is_one_to_nine, is_decimal_digit, is_nil}
+use Rattle.pylex_lexeme.specs.Chars.{begins}
+use Rattle.pylex_lexeme.specs.Numbers.{is_decimal_digit, is_number}
 use Rattle.pylex_lexeme.specs.Operators.{exact_text, is_operator, is_opener, is_closer}
 use Rattle.pylex_lexeme.proofs.Callers.Lexemes.{exact_of_text, exact_scalars}
-use Rattle.pylex_lexeme.proofs.Callers.Numbers.{digit_bounds}
 use Rattle.pytree_node.specs.Points.{IsPoint}
 use Rattle.pytree_node.specs.Values
 use Rattle.pytoken.specs.declared.keywords.Keyword.{Keyword}
@@ -23,8 +21,9 @@ use Rattle.pytoken.specs.Keywords.{spelling_of}
 use Rattle.pytoken.specs.Terminals.{Terminal, Op, Word, in_form, Whole, Layout, Gives, terminal_of, fault_of}
 use Rattle.pytoken.specs.Laws.{IsProper}
 use Rattle.pytoken.proofs.Callers.Said.{come_back}
-use Rattle.pyunparse_text.specs.Spacing.{is_whole, is_token}
+use Rattle.pyunparse_text.specs.Spacing.{is_token}
 use Rattle.pyunparse_text.specs.Tokens.{opens, closes}
+use Rattle.pyunparse_text.proofs.Callers.Pieces.{number_scalars}
 use Rattle.pyunparse_text.proofs.Callers.Tokens.{text_token, marked_token, bytes_token, decimal_token, text_scalars, bytes_scalars}
 use Rattle.pyunparse_text.specs.Written.{constant_terminal}
 use Rattle.pyunparse_text.specs.Pieces.{kind_of, text_of, piece}
@@ -88,39 +87,14 @@ fair_word k = let g = come_back.keyword k in record { token = g.sound.of_kind; s
 pub fair_name : (x : List ℕ) → IsProper x → Fair (in_form x)
 fair_name x i = record { token = i.name; scalars = name_scalars x i.name; gives = come_back.name x i }
 
-digits_scalars : (cs : List ℕ) → list_all is_decimal_digit cs ≡ true → all_scalars cs ≡ true
-digits_scalars [] e = refl
-digits_scalars (c ∷ cs) e =
-    let h = and_parts (is_decimal_digit c) (list_all is_decimal_digit cs) e in
-    let b = digit_bounds c h.0 in
-    let f = low_scalar c (omega arith) in
-    let r = digits_scalars cs h.1 in
-    rw (f, r) refl
-
-whole_scalars : (t : List ℕ) → is_whole t ≡ true → all_scalars t ≡ true
-whole_scalars [] e = cc
-whole_scalars (c ∷ cs) e = ⊎_elim
-    (λ (h : (is_zero c && is_nil cs) ≡ true). let q = and_parts (is_zero c) (is_nil cs) h in zero c cs q.0 q.1)
-    (λ (h : (is_one_to_nine c && list_all is_decimal_digit cs) ≡ true).
-    let q = and_parts (is_one_to_nine c) (list_all is_decimal_digit cs) h in
-    let d : is_decimal_digit c ≡ true = wider c q.0 in
-    let r = q.1 in
-    digits_scalars (c ∷ cs) (rw (d, r) refl))
-    (or_cases (is_zero c && is_nil cs) (is_one_to_nine c && list_all is_decimal_digit cs) e)
-  where
-    wider : (c : ℕ) → is_one_to_nine c ≡ true → is_decimal_digit c ≡ true
-    wider c e = grind (arith, nat_tests)
-
-    zero : (c : ℕ) (cs : List ℕ) → is_zero c ≡ true → is_nil cs ≡ true → all_scalars (c ∷ cs) ≡ true
-    zero c [] e f = let z : c ≡ 48 = eqb-true c 48 e in rw z refl
-    zero c (d ∷ cs) e f = cc
-
 points_pass : (points : List ℕ) → All IsPoint points → list_all (λ c. leb c 1114111) points ≡ true
 points_pass [] h = refl
 points_pass (c ∷ cs) h = let f : leb c 1114111 ≡ true = le-leb c 1114111 (All-head IsPoint c cs h) in let r = points_pass cs (All-tail IsPoint c cs h) in rw (f, r) refl
 
 fair_whole : (n : ℕ) → n < 2 ^ 128 → Fair (Whole n)
-fair_whole n h = record { token = decimal_token n (omega arith); scalars = whole_scalars (decimal n) (decimal_token n (omega arith)); gives = come_back.whole n h }
+fair_whole n h =
+    let t = decimal_token n (omega arith) in
+    record { token = t; scalars = number_scalars (decimal n) (and_parts (begins is_decimal_digit (decimal n)) (is_number (decimal n)) t).1; gives = come_back.whole n h }
 
 -- the constants of literals
 abbrev pub IsConstant : Values.Value → Type 0
