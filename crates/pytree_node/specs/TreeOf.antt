@@ -30,6 +30,8 @@ constant_of constant.None = value.None
 constant_of constant.Ellipsis = value.Ellipsis
 constant_of (constant.Bool b) = value.Bool b
 constant_of (constant.Int n) = value.Int n
+constant_of (constant.Float x) = value.Float x
+constant_of (constant.Imaginary x) = value.Imaginary x
 constant_of (constant.Str points unicode) = value.Str points unicode
 constant_of (constant.Bytes bytes) = value.Bytes bytes.items
 

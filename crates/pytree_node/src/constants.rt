@@ -2,11 +2,12 @@
 
 use crate::integers::Integer;
 use crate::points::Points;
+use pyfloat::Double;
 
 /// The value of a constant, with its `kind`.
 ///
 /// `ast` has no constant below 0, and these are all that literals, `None`, `True`, `False` and
-/// `...` give, but for floating and complex numbers.
+/// `...` give.
 #[derive(Drop)]
 pub enum Constant {
     /// `None`.
@@ -17,6 +18,10 @@ pub enum Constant {
     Bool(bool),
     /// A whole number.
     Int(Integer),
+    /// A float.
+    Float(Double),
+    /// An imaginary number, by its imaginary part.
+    Imaginary(Double),
     /// A text, by its code points. Its `kind` is `u` where `unicode` says so: where the first of
     /// its literals has the prefix `u`.
     Str { points: Points, unicode: bool },

@@ -1,13 +1,17 @@
 //! The whole numbers of constants.
 
-ghost use Rattle.std.specs.Prelude.{◌≡◌, ◌<◌, ◌^◌, nat_eq, IfOk, IsOk};
+ghost use Rattle.std.specs.Prelude.{◌≡◌, ◌++◌, ◌<◌, ◌≤◌, ◌^◌, nat_eq, IfOk, IsOk, OnOk, MatchOption};
 ghost use Rattle.std.specs.Cmp.{nat_eq_equiv, partial_equiv_from_equiv};
+ghost use Rattle.std.specs.String.{string_bytes};
+ghost use Rattle.pynatural.specs.Decimals.{decimal_text};
 
+use itoa::Buffer;
+use pynatural::Natural;
 use std::alloc::{AllocError, Global};
 use std::fmt;
 use std::marker::Model;
 
-/// A whole number, below 2 to the 128. A contract sees it as that number.
+/// A whole number. A contract sees it as that number.
 ///
 /// One below 2 to the 64 takes no memory of its own.
 #[derive(Drop)]
@@ -15,12 +19,12 @@ pub struct Integer {
     digits: Digits,
 }
 
-/// A number, inline or in memory of its own: a number of 128 bits would align all that holds it
-/// to 16 bytes.
+/// A number, inline where it is below 2 to the 64, else in memory of its own: so each number has
+/// one form.
 #[derive(Drop)]
 enum Digits {
     Small(u64),
-    Large(Box<u128>),
+    Large(Box<Natural>),
 }
 
 impl Model for Integer {
@@ -28,9 +32,11 @@ impl Model for Integer {
 
     ghost Value = { ℕ };
 
-    ghost use Rattle.pytree_node.specs.Inner.Digits.{number_of};
+    ghost use Rattle.pytree_node.specs.Inner.Digits.{number_of, IsInForm};
 
     ghost view = { λ integer. number_of integer.digits };
+
+    ghost invariant = { λ integer. IsInForm integer.digits };
 }
 
 impl Integer {
@@ -42,18 +48,45 @@ impl Integer {
         let digits = if value <= u64::MAX as u128 {
             Digits::Small(value as u64)
         } else {
-            Digits::Large(Box::new(alloc, value)?)
+            Digits::Large(Box::new(alloc, Natural::from_u128(alloc, value)?)?)
         };
         Ok(Integer { digits })
     }
 
-    /// The number that it is.
-    pub fn value(&self) -> u128
-        ensures { result ≡ self.now }
+    /// This number, which may be of any size.
+    pub fn of_natural(alloc: Global, value: Natural) -> Result<Integer, AllocError>
+        ensures value { IfOk result (λ made. made ≡ value) }
+        ensures inline { value < 2 ^ 64 → IsOk result }
+    {
+        let digits = match value.to_u128() {
+            Some(small) if small <= u64::MAX as u128 => Digits::Small(small as u64),
+            _ => Digits::Large(Box::new(alloc, value)?),
+        };
+        Ok(Integer { digits })
+    }
+
+    /// The number that it is, if that is below 2 to the 128.
+    pub fn to_u128(&self) -> Option<u128>
+        ensures { MatchOption result (2 ^ 128 ≤ self.now) (λ value. value ≡ self.now) }
     {
         match &self.digits {
-            Digits::Small(value) => *value as u128,
-            Digits::Large(value) => **value,
+            Digits::Small(value) => Some(*value as u128),
+            Digits::Large(value) => value.to_u128(),
+        }
+    }
+
+    /// Appends the number in decimal.
+    #[tactic(auto, using(pynatural::proofs::Callers::Decimals::decimal_text_is))]
+    pub fn push_decimal(&self, out: &mut String) -> Result<(), AllocError>
+        ensures { OnOk result
+            (string_bytes out.new ≡ string_bytes out.old ++ decimal_text self.now) }
+    {
+        match &self.digits {
+            Digits::Small(value) => {
+                let mut buffer = Buffer::new();
+                out.push_str(buffer.format(*value))
+            }
+            Digits::Large(value) => value.push_decimal(out),
         }
     }
 }
@@ -76,7 +109,11 @@ impl PartialEq for Integer {
     ghost laws = { partial_equiv_from_equiv nat_eq_equiv };
 
     fn eq(&self, other: &Integer) -> bool {
-        self.value() == other.value()
+        match (&self.digits, &other.digits) {
+            (Digits::Small(a), Digits::Small(b)) => a == b,
+            (Digits::Large(a), Digits::Large(b)) => **a == **b,
+            _ => false,
+        }
     }
 }
 
@@ -86,6 +123,9 @@ impl Eq for Integer {
 
 impl fmt::Debug for Integer {
     fn fmt<W: fmt::Write>(&self, f: &mut fmt::Formatter<W>) -> fmt::Result {
-        fmt::Debug::fmt(&self.value(), f)
+        match &self.digits {
+            Digits::Small(value) => fmt::Debug::fmt(value, f),
+            Digits::Large(value) => fmt::Debug::fmt(&**value, f),
+        }
     }
 }
