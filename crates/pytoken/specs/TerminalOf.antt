@@ -8,6 +8,7 @@ use Rattle.pytoken.specs.NumberValues.{number_value}
 use Rattle.pytoken.specs.StringValues.{string_value}
 use Rattle.pytoken.specs.Terminals
 use Rattle.pytoken.specs.declared.values.literal_text.LiteralText.{LiteralText}
+use Rattle.pytoken.specs.declared.values.number_text.NumberText.{NumberText}
 use Rattle.pytoken.specs.declared.values.terminals.Terminal.{Terminal}
 use Rattle.pytoken.specs.declared.values.terminals.Terminal.TheVariants.{Op, Word, Ident, Whole, Number, Literal, Layout}
 use Rattle.pytoken.specs.declared.values.terminals.TerminalFault.{TerminalFault}
@@ -17,13 +18,17 @@ use Rattle.pytoken.specs.declared.values.terminals.TerminalFault.TheVariants.{To
 abbrev pub literal_characters : LiteralText → List ℕ
 literal_characters l = chars l.text.now
 
+-- the bytes of a number
+abbrev pub number_bytes : NumberText → List ℕ
+number_bytes n = n.text.now
+
 -- what a terminal is: a name is its spelling and its form NFKC, a literal its value
 abbrev pub terminal : Terminal → Terminals.Terminal
 terminal (Op exact) = Terminals.Op exact
 terminal (Word word) = Terminals.Word word
 terminal (Ident text) = Terminals.Ident (record { spelling = chars text.now; form = nfkc (chars text.now) })
 terminal (Whole value) = Terminals.whole value
-terminal (Number n) = Terminals.Number (number_value n.text.now)
+terminal (Number n) = Terminals.Number (number_value (number_bytes n))
 terminal (Literal l) = Terminals.Literal (string_value (literal_characters l))
 terminal Layout = Terminals.Layout
 

@@ -1,16 +1,16 @@
 //! What may be wrong with a token by itself.
 
-/// What may be wrong with a token by itself. Where a token has several faults, the first of these
-/// is reported.
+/// What may be wrong with a token by itself. Each is a fault in both extents of the language, unless
+/// it says otherwise. Where a token has several faults, the first of these is reported.
 #[derive(Clone, Copy, Debug, PartialEq, Eq)]
 pub enum TokenError {
-    /// A floating point number.
+    /// A floating point number: a fault in the plain language alone.
     Float,
-    /// An imaginary number: one that ends in `j`.
+    /// An imaginary number, one that ends in `j`: a fault in the plain language alone.
     Complex,
     /// An f-string.
     FString,
-    /// A whole number above 2^128-1.
+    /// A whole number from 2^128 on in the plain language, from 10^4300 on in the whole one.
     IntegerTooLarge,
     /// `\N` in a text that isn't raw.
     NamedEscape,

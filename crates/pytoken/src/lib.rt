@@ -4,8 +4,12 @@
 //! of a number, a string or a name stands for, [`string_fault`] and [`name_fault`] what is wrong
 //! with it by itself, and [`token_fault`] what is wrong with a token or a comment by its type.
 //! [`terminal_of`] gives what a token is to the grammar ([`Terminal`]); a string is a
-//! [`LiteralText`] there, whose value is made when it is asked for. [`is_identifier`] says which
-//! texts are names. The tokens of a whole source are read by `pyparse_tokens`.
+//! [`LiteralText`] there, and a number a [`NumberText`], whose value is made when it is asked for.
+//! [`is_identifier`] says which texts are names. The tokens of a whole source are read by
+//! `pyparse_tokens`.
+//!
+//! A number that is a fault in the plain language may be none in the whole one: what reads numbers
+//! is told the extent.
 //!
 //! Python language reference, 2.3 "Identifiers and keywords" and 2.4 "Literals".
 //!
@@ -30,6 +34,6 @@ pub use meanings::Meaning;
 pub use names::is_identifier;
 pub use refusals::Refusal;
 pub use values::{
-    Literal, LiteralText, Terminal, TerminalFault, identifier_value, name_fault, name_value,
-    number_value, string_fault, string_value, terminal_of, token_fault,
+    Literal, LiteralText, NumberText, Terminal, TerminalFault, identifier_value, name_fault,
+    name_value, number_value, string_fault, string_value, terminal_of, token_fault,
 };

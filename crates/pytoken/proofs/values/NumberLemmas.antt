@@ -1,42 +1,31 @@
--- Carries: radix_of, behind_two, whole, number_value. On: a number character by character.
-use Rattle.std.proofs.Common.{◌≡◌, ℕ, ◌+◌, ◌*◌, ◌^◌, ◌<◌, ◌≤◌, true, false, List, [], ◌∷◌, drop, refl, sym, ap, ◌∙◌, inl, inr, arith, Option, Some}
-use Rattle.std.proofs.Common.{None, mul-le-mul_left}
-use Rattle.std.specs.Prelude.{◌==◌, nat_le, filter, Ok, Err, if◌then◌else◌}
+-- Carries: whole, is_too_large, number_fault, integer, constant_value. On: a number byte by byte,
+-- and its value and fault by its kind.
+use Rattle.std.proofs.Common.{◌≡◌, ℕ, ◌+◌, ◌*◌, ◌^◌, ◌<◌, ◌≤◌, Bool, true, false, not, List, [], ◌∷◌, length, drop, get_or, refl, sym, ap, ◌∙◌, inl, inr, arith}
+use Rattle.std.proofs.Common.{ap₂, Option, Some, None, is_some, mul-le-mul_left}
+use Rattle.std.specs.Prelude.{◌==◌, nat_le, filter, MatchOption, if◌then◌else◌}
 use Rattle.std.specs.Char.{digit_value}
-use Rattle.std.specs.Str.{chars}
 use Rattle.std.specs.Str.Parse.{digits_value_after}
+use Rattle.std.proofs.Math.Nat.{pow-le-pow_right}
 use Rattle.std.proofs.lemmas.Bool.{cases_Bool, leb-true, leb-false, le-leb, lt-leb}
-use Rattle.std.proofs.lemmas.Str.{chars-nil}
+use Rattle.std.proofs.lemmas.List.{at_drop_more, drop_all}
+use Rattle.pynatural.specs.Readings.{written, is_no_underscore, most_digits}
+use Rattle.pyfloat.specs.FloatValues.{float_value}
+use Rattle.pytree_node.specs.Values.{Int, Float, Imaginary}
+use Rattle.pytree_node.specs.declared.profiles.Extent.{Extent}
+use Rattle.pytree_node.specs.declared.profiles.Extent.TheVariants.{Plain, Whole}
 use Rattle.pytoken.specs.declared.faults.TokenError.TheVariants as errors
-use Rattle.pytoken.specs.declared.faults.TokenError.{TokenError}
-use Rattle.pytoken.specs.NumberValues.{radix_of, is_no_underscore, is_complex, is_real, whole_value, number_fault, number_answer, unless}
-use Rattle.pytoken.specs.Inner.Readings.{radix_by, one_more, whole_below, digits_behind}
-
--- The first two characters
-
-pub radix_of_none : (bs : List ℕ) → chars bs ≡ [] → 10 ≡ radix_of (chars bs)
-radix_of_none bs e = sym (ap radix_of e)
-
-pub radix_of_one : (bs rest : List ℕ) (a : ℕ) → chars bs ≡ a ∷ chars rest → chars rest ≡ [] → 10 ≡ radix_of (chars bs)
-radix_of_one bs rest a e none = sym (ap radix_of (e ∙ ap (λ (t : List ℕ). a ∷ t) none))
-
-pub radix_of_two : (bs rest last : List ℕ) (a b : ℕ) → chars bs ≡ a ∷ chars rest → chars rest ≡ b ∷ chars last → radix_by b ≡ radix_of (chars bs)
-radix_of_two bs rest last a b e next = sym (ap radix_of (e ∙ ap (λ (t : List ℕ). a ∷ t) next))
-
-pub behind_none : (bs : List ℕ) → chars bs ≡ [] → chars [] ≡ drop 2 (chars bs)
-behind_none bs e = chars-nil ∙ sym (ap (drop 2) e)
-
-pub behind_one : (bs rest : List ℕ) (a : ℕ) → chars bs ≡ a ∷ chars rest → chars rest ≡ [] → chars [] ≡ drop 2 (chars bs)
-behind_one bs rest a e none = chars-nil ∙ sym (ap (drop 2) (e ∙ ap (λ (t : List ℕ). a ∷ t) none))
-
-pub behind_both : (bs rest last : List ℕ) (a b : ℕ) → chars bs ≡ a ∷ chars rest → chars rest ≡ b ∷ chars last → chars last ≡ drop 2 (chars bs)
-behind_both bs rest last a b e next = sym (ap (drop 2) (e ∙ ap (λ (t : List ℕ). a ∷ t) next))
+use Rattle.pytoken.specs.NumberValues.{radix_of, digits_in, is_complex, is_real, whole_value, number_value, number_fault}
+use Rattle.pytoken.specs.Inner.Readings.{one_more, whole_below, limit_of, in_plain}
 
 -- The value of digits, one after another
 
 -- the value with the digits of a text behind it
 abbrev pub value_on : ℕ → ℕ → List ℕ → ℕ
 value_on radix value t = digits_value_after radix value (filter is_no_underscore t)
+
+written_is : (radix : ℕ) (t : List ℕ) → value_on radix 0 t ≡ written radix t
+unfolding written
+written_is radix t = refl
 
 -- a value with one more digit
 abbrev more_of : ℕ → ℕ → ℕ → ℕ
@@ -48,18 +37,10 @@ value_more radix value c t = elim (cases_Bool (c == 95)) [
   | inr digit ↦ rw digit refl
 ]
 
--- a digit was read
-pub read_on : (radix value c v : ℕ) (bs rest : List ℕ) → chars bs ≡ c ∷ chars rest → one_more radix value c ≡ Some v
-    → (value_on radix v (chars rest) ≡ value_on radix value (chars bs)) × (v < 2 ^ 128)
-read_on radix value c v bs rest cut e = elim (cases_Bool (nat_le (2 ^ 128) (more_of radix value c))) [
-  | inl past ↦ absurd (let none : None ≡ Some v = rw past at e in cc)
-  | inr below ↦
-      let some : Some (more_of radix value c) ≡ Some v = rw below at e in
-      let same : more_of radix value c ≡ v = cc in
-      let on = ap (λ (n : ℕ). value_on radix n (chars rest)) (sym same) ∙ value_more radix value c (chars rest)
-      ∙ sym (ap (value_on radix value) cut) in
-      (on, omega (arith, leb-false (2 ^ 128) (more_of radix value c) below, same))
-]
+value_next : (radix value i : ℕ) (bs : List ℕ) → i < length bs
+    → value_on radix (more_of radix value (get_or bs i 0)) (drop (i + 1) bs) ≡ value_on radix value (drop i bs)
+value_next radix value i bs within =
+    value_more radix value (get_or bs i 0) (drop (i + 1) bs) ∙ sym (at_drop_more (value_on radix value) bs i 0 within)
 
 grows : (radix n : ℕ) (ds : List ℕ) → 1 ≤ radix → n ≤ digits_value_after radix n ds
 grows radix n [] least = omega arith
@@ -67,100 +48,158 @@ grows radix n (d ∷ ds) least =
     let product = mul-le-mul_left n least in
     omega (arith, product, grows radix (n * radix + digit_value d) ds least)
 
+past : (radix : ℕ) (t : List ℕ) → 2 ^ 128 ≤ written radix t → whole_below radix t ≡ None
+past radix t large = let test : nat_le (2 ^ 128) (written radix t) ≡ true = le-leb (2 ^ 128) (written radix t) large in rw test refl
+
 -- a digit was one too many
-pub read_past : (radix value c : ℕ) (bs rest whole : List ℕ) → 2 ≤ radix → chars bs ≡ c ∷ chars rest → one_more radix value c ≡ None
-    → value_on radix value (chars bs) ≡ value_on radix 0 (chars whole) → whole_below radix (chars whole) ≡ None
-read_past radix value c bs rest whole least cut e so_far = elim (cases_Bool (nat_le (2 ^ 128) (more_of radix value c))) [
-  | inl past ↦
-      let on = value_more radix value c (chars rest) ∙ sym (ap (value_on radix value) cut) ∙ so_far in
-      let more = grows radix (more_of radix value c) (filter is_no_underscore (chars rest)) (omega arith) in
-      let large : nat_le (2 ^ 128) (value_on radix 0 (chars whole)) ≡ true =
-      le-leb (2 ^ 128) (value_on radix 0 (chars whole)) (omega (arith, leb-true (2 ^ 128) (more_of radix value c) past, more, on)) in
-      rw large refl
-  | inr below ↦ absurd (let some : Some (more_of radix value c) ≡ None = rw below at e in cc)
-]
+pub read_past : (radix value i : ℕ) (bs : List ℕ) → 2 ≤ radix → i < length bs → one_more radix value (get_or bs i 0) ≡ None
+    → value_on radix value (drop i bs) ≡ value_on radix 0 bs → whole_below radix bs ≡ None
+read_past radix value i bs least within e so_far =
+    let c = get_or bs i 0 in
+    elim (cases_Bool (nat_le (2 ^ 128) (more_of radix value c))) [
+      | inl large ↦
+          let on = value_next radix value i bs within ∙ so_far ∙ written_is radix bs in
+          let more = grows radix (more_of radix value c) (filter is_no_underscore (drop (i + 1) bs)) (omega arith) in
+          past radix bs (omega (arith, leb-true (2 ^ 128) (more_of radix value c) large, more, on))
+      | inr below ↦ absurd (let some : Some (more_of radix value c) ≡ None = rw below at e in cc)
+    ]
 
 -- all digits were read
-pub read_all : (radix value : ℕ) (bs whole : List ℕ) → chars bs ≡ [] → value < 2 ^ 128
-    → value_on radix value (chars bs) ≡ value_on radix 0 (chars whole) → Some value ≡ whole_below radix (chars whole)
-read_all radix value bs whole none fits so_far =
-    let same : value ≡ value_on radix 0 (chars whole) = sym (ap (value_on radix value) none) ∙ so_far in
-    let small : nat_le (2 ^ 128) (value_on radix 0 (chars whole)) ≡ false = lt-leb (2 ^ 128) (value_on radix 0 (chars whole)) (omega (arith, same)) in
+pub read_all : (radix value i : ℕ) (bs : List ℕ) → value < 2 ^ 128 → length bs ≤ i → value_on radix value (drop i bs) ≡ value_on radix 0 bs
+    → Some value ≡ whole_below radix bs
+read_all radix value i bs fits end so_far =
+    let same : value ≡ written radix bs = sym (ap (value_on radix value) (drop_all i bs end)) ∙ so_far ∙ written_is radix bs in
+    let small : nat_le (2 ^ 128) (written radix bs) ≡ false = lt-leb (2 ^ 128) (written radix bs) (omega (arith, same)) in
     rw small (ap (λ (n : ℕ). Some n) same)
 
--- The answer for a number
+-- The value of a whole number, and the limits
 
-fault_complex : (t : List ℕ) → is_complex t ≡ true → number_fault t ≡ Some errors.Complex
-unfolding number_fault
-fault_complex t complex = rw complex refl
-
-fault_real : (t : List ℕ) → is_complex t ≡ false → is_real t ≡ true → number_fault t ≡ Some errors.Float
-unfolding number_fault
-fault_real t complex real = rw (complex, real) refl
-
-fault_large : (t : List ℕ) → is_complex t ≡ false → is_real t ≡ false → nat_le (2 ^ 128) (whole_value t) ≡ true →
-    number_fault t ≡ Some errors.IntegerTooLarge
-unfolding number_fault
-fault_large t complex real large = rw (complex, real, large) refl
-
-fault_none : (t : List ℕ) → is_complex t ≡ false → is_real t ≡ false → nat_le (2 ^ 128) (whole_value t) ≡ false → number_fault t ≡ None
-unfolding number_fault
-fault_none t complex real small = rw (complex, real, small) refl
-
-answer_is : (t : List ℕ) (o : Option TokenError) → number_fault t ≡ o → number_answer t ≡ unless o (whole_value t)
-unfolding number_answer
-answer_is t o e = ap (λ (x : Option TokenError). unless x (whole_value t)) e
-
-pub answer_complex : (t : List ℕ) → is_complex t ≡ true → number_answer t ≡ Err errors.Complex
-answer_complex t complex = answer_is t (Some errors.Complex) (fault_complex t complex)
-
-pub answer_real : (t : List ℕ) → is_complex t ≡ false → is_real t ≡ true → number_answer t ≡ Err errors.Float
-answer_real t complex real = answer_is t (Some errors.Float) (fault_real t complex real)
-
--- what the value of the digits says of the number
-below_is : (t : List ℕ) → whole_below (radix_of t) (digits_behind t) ≡ (if nat_le (2 ^ 128) (whole_value t) then None else Some (whole_value t))
+pub whole_is : (t : List ℕ) → written (radix_of t) (digits_in t) ≡ whole_value t
 unfolding whole_value
-below_is t = refl
+whole_is t = refl
 
-pub answer_some : (t : List ℕ) (v : ℕ) → is_complex t ≡ false → is_real t ≡ false → whole_below (radix_of t) (digits_behind t) ≡ Some v →
-    number_answer t ≡ Ok v
-answer_some t v complex real e = elim (cases_Bool (nat_le (2 ^ 128) (whole_value t))) [
-  | inl past ↦ absurd (let none : None ≡ Some v = rw past at (sym (below_is t) ∙ e) in cc)
-  | inr below ↦
-      let some : Some (whole_value t) ≡ Some v = rw below at (sym (below_is t) ∙ e) in
-      let same : whole_value t ≡ v = cc in
-      answer_is t None (fault_none t complex real below) ∙ ap (λ (n : ℕ). unless None n) same
+-- the value of a number's digits, by what was read of its base and digits
+module _ (t ds : List ℕ) (radix : ℕ) (of_radix : radix ≡ radix_of t) (of_digits : ds ≡ digits_in t) where
+  pub digits_are : written radix ds ≡ whole_value t
+  digits_are = ap₂ (λ (r : ℕ) (xs : List ℕ). written r xs) of_radix of_digits ∙ whole_is t
+
+  pub below_some : (v : ℕ) → Some v ≡ whole_below radix ds → (v ≡ whole_value t) × (whole_value t < 2 ^ 128)
+  below_some v e =
+      let n = written radix ds in
+      elim (cases_Bool (nat_le (2 ^ 128) n)) [
+        | inl large ↦ absurd (let none : Some v ≡ None = rw large at e in cc)
+        | inr small ↦
+            let some : Some v ≡ Some n = rw small at e in
+            let same : v ≡ n = cc in
+            (same ∙ digits_are, omega (arith, leb-false (2 ^ 128) n small, digits_are))
+      ]
+
+  pub below_none : None ≡ whole_below radix ds → 2 ^ 128 ≤ whole_value t
+  below_none e =
+      let n = written radix ds in
+      elim (cases_Bool (nat_le (2 ^ 128) n)) [
+        | inl large ↦ omega (arith, leb-true (2 ^ 128) n large, digits_are)
+        | inr small ↦ absurd (let some : None ≡ Some n = rw small at e in cc)
+      ]
+
+many_digits : 39 ≤ most_digits
+unfolding most_digits
+many_digits = omega arith
+
+pub whole_limit : 2 ^ 128 ≤ 10 ^ most_digits
+whole_limit = let more : 10 ^ 39 ≤ 10 ^ most_digits = pow-le-pow_right (omega arith) many_digits in omega (arith, more)
+
+least_limit : (extent : Extent) → 2 ^ 128 ≤ limit_of extent
+least_limit Plain = omega arith
+least_limit Whole = whole_limit
+
+-- a whole number below 2^128 is in either extent
+pub in_both : (extent : Extent) (n : ℕ) → n < 2 ^ 128 → nat_le (limit_of extent) n ≡ false
+in_both extent n small = lt-leb (limit_of extent) n (omega (arith, least_limit extent, small))
+
+-- what was read of a number says whether it is past an extent's
+module _ (extent : Extent) (t ds : List ℕ) (radix : ℕ) (of_radix : radix ≡ radix_of t) (of_digits : ds ≡ digits_in t) where
+  pub within : (o : Option ℕ) → o ≡ whole_below radix ds → true ≡ is_some o → false ≡ nat_le (limit_of extent) (whole_value t)
+  within (Some v) e some = sym (in_both extent (whole_value t) (below_some t ds radix of_radix of_digits v e).1)
+  within None e some = absurd cc
+
+  pub past_plain : (o : Option ℕ) → o ≡ whole_below radix ds → false ≡ is_some o → extent ≡ Plain → true ≡ nat_le (limit_of extent) (whole_value t)
+  past_plain (Some v) e none is = absurd cc
+  past_plain None e none is =
+      let large = le-leb (2 ^ 128) (whole_value t) (below_none t ds radix of_radix of_digits e) in
+      sym (ap (λ (x : Extent). nat_le (limit_of x) (whole_value t)) is ∙ large)
+
+  pub past_whole : (o : Option ℕ) (none : Bool) → is_some o ≡ not none
+      → MatchOption o (10 ^ most_digits ≤ written radix ds) (λ n. (n ≡ written radix ds) × (n < 10 ^ most_digits))
+      → extent ≡ Whole → none ≡ nat_le (limit_of extent) (whole_value t)
+  past_whole (Some n) true e read is = absurd cc
+  past_whole (Some n) false e read is =
+      let same = digits_are t ds radix of_radix of_digits in
+      let small = lt-leb (10 ^ most_digits) (whole_value t) (omega (arith, same, read.0, read.1)) in
+      sym (ap (λ (x : Extent). nat_le (limit_of x) (whole_value t)) is ∙ small)
+  past_whole None false e read is = absurd cc
+  past_whole None true e read is =
+      let same = digits_are t ds radix of_radix of_digits in
+      let large = le-leb (10 ^ most_digits) (whole_value t) (omega (arith, same, read)) in
+      sym (ap (λ (x : Extent). nat_le (limit_of x) (whole_value t)) is ∙ large)
+
+-- The fault of a number by its kind
+
+pub fault_complex : (extent : Extent) (t : List ℕ) → is_complex t ≡ true → number_fault extent t ≡ in_plain extent errors.Complex
+unfolding number_fault
+fault_complex Plain t complex = rw complex refl
+fault_complex Whole t complex = rw complex refl
+
+pub fault_real : (extent : Extent) (t : List ℕ) → is_complex t ≡ false → is_real t ≡ true → number_fault extent t ≡ in_plain extent errors.Float
+unfolding number_fault
+fault_real Plain t complex real = rw (complex, real) refl
+fault_real Whole t complex real = rw (complex, real) refl
+
+pub fault_large : (extent : Extent) (t : List ℕ) → is_complex t ≡ false → is_real t ≡ false → nat_le (limit_of extent) (whole_value t) ≡ true
+    → number_fault extent t ≡ Some errors.IntegerTooLarge
+unfolding number_fault
+fault_large Plain t complex real large = rw (complex, real, large) refl
+fault_large Whole t complex real large = rw (complex, real, large) refl
+
+pub fault_none : (extent : Extent) (t : List ℕ) → is_complex t ≡ false → is_real t ≡ false → nat_le (limit_of extent) (whole_value t) ≡ false
+    → number_fault extent t ≡ None
+unfolding number_fault
+fault_none Plain t complex real small = rw (complex, real, small) refl
+fault_none Whole t complex real small = rw (complex, real, small) refl
+
+-- The value of a number by its kind
+
+pub value_complex : (t : List ℕ) → is_complex t ≡ true → number_value t ≡ Imaginary (float_value t)
+unfolding number_value
+value_complex t complex = rw complex refl
+
+pub value_real : (t : List ℕ) → is_complex t ≡ false → is_real t ≡ true → number_value t ≡ Float (float_value t)
+unfolding number_value
+value_real t complex real = rw (complex, real) refl
+
+pub value_whole : (t : List ℕ) → is_complex t ≡ false → is_real t ≡ false → number_value t ≡ Int (whole_value t)
+unfolding number_value
+value_whole t complex real = rw (complex, real) refl
+
+-- a whole number without a fault is below the limit
+pub below_limit : (extent : Extent) (t : List ℕ) → is_complex t ≡ false → is_real t ≡ false → number_fault extent t ≡ None
+    → whole_value t < limit_of extent
+below_limit extent t complex real none = elim (cases_Bool (nat_le (limit_of extent) (whole_value t))) [
+  | inl large ↦ absurd (let some = sym (fault_large extent t complex real large) ∙ none in cc)
+  | inr small ↦ omega (arith, leb-false (limit_of extent) (whole_value t) small)
 ]
 
-pub answer_none : (t : List ℕ) → is_complex t ≡ false → is_real t ≡ false → whole_below (radix_of t) (digits_behind t) ≡ None →
-    number_answer t ≡ Err errors.IntegerTooLarge
-answer_none t complex real e = elim (cases_Bool (nat_le (2 ^ 128) (whole_value t))) [
-  | inl past ↦ answer_is t (Some errors.IntegerTooLarge) (fault_large t complex real past)
-  | inr below ↦ absurd (let some : Some (whole_value t) ≡ None = rw below at (sym (below_is t) ∙ e) in cc)
+-- what has no fault in an extent has none in the whole language
+pub whole_faultless : (extent : Extent) (t : List ℕ) → number_fault extent t ≡ None → number_fault Whole t ≡ None
+whole_faultless extent t none = elim (cases_Bool (is_complex t)) [
+  | inl complex ↦ fault_complex Whole t complex
+  | inr no_j ↦ elim (cases_Bool (is_real t)) [
+    | inl real ↦ fault_real Whole t no_j real
+    | inr whole ↦ of_whole extent no_j whole none
+  ]
 ]
-
--- the fault that an answer tells
-
-pub fault_of_ok : (t : List ℕ) (v : ℕ) → number_answer t ≡ Ok v → number_fault t ≡ None
-unfolding number_answer
-fault_of_ok t v e = by (number_fault t) e
   where
-    by : (o : Option TokenError) → unless o (whole_value t) ≡ Ok v → o ≡ None
-    by None h = refl
-    by (Some x) h = cc
-
-pub fault_of_err : (t : List ℕ) (x : TokenError) → number_answer t ≡ Err x → number_fault t ≡ Some x
-unfolding number_answer
-fault_of_err t x e = by (number_fault t) e
-  where
-    by : (o : Option TokenError) → unless o (whole_value t) ≡ Err x → o ≡ Some x
-    by None h = cc
-    by (Some y) h = let same : y ≡ x = cc in ap (λ (z : TokenError). Some z) same
-
-pub value_of_ok : (t : List ℕ) (v : ℕ) → number_answer t ≡ Ok v → v ≡ whole_value t
-unfolding number_answer
-value_of_ok t v e = by (number_fault t) e
-  where
-    by : (o : Option TokenError) → unless o (whole_value t) ≡ Ok v → v ≡ whole_value t
-    by None h = cc
-    by (Some x) h = cc
+    of_whole : (extent : Extent) → is_complex t ≡ false → is_real t ≡ false → number_fault extent t ≡ None → number_fault Whole t ≡ None
+    of_whole Whole no_j whole none = none
+    of_whole Plain no_j whole none =
+        let small = below_limit Plain t no_j whole none in fault_none Whole t no_j whole (in_both Whole (whole_value t) small)

@@ -1,19 +1,21 @@
--- Carries: short_value, number_value. On: numbers of decimal digits alone.
-use Rattle.std.proofs.Common.{◌≡◌, ℕ, ◌+◌, ◌-◌, ◌*◌, ◌^◌, ◌<◌, ◌≤◌, Bool, true, false, List, [], ◌∷◌, length, drop, get_or, refl, sym, ap, ◌∙◌, arith, Some}
-use Rattle.std.specs.Prelude.{◌==◌, ◌&&◌, ◌||◌, nat_le, filter, Ok}
+-- Carries: short_value, number_fault, number_terminal. On: numbers of decimal digits alone.
+use Rattle.std.proofs.Common.{◌≡◌, ℕ, ◌+◌, ◌-◌, ◌*◌, ◌^◌, ◌<◌, ◌≤◌, Bool, true, false, List, [], ◌∷◌, length, drop, get_or, refl, sym, ap, ◌∙◌, arith}
+use Rattle.std.proofs.Common.{Option, Some, None, is_some}
+use Rattle.std.specs.Prelude.{◌==◌, ◌&&◌, ◌||◌, nat_le, filter, IfSome}
 use Rattle.std.specs.Char.{digit_value}
 use Rattle.std.specs.List.{list_all, list_any}
-use Rattle.std.specs.Str.{chars, IsAscii}
-use Rattle.std.specs.Str.Parse.{digits_value_after}
-use Rattle.std.proofs.lemmas.Bool.{and_parts, leb-true, lt-leb, ne_eqb}
+use Rattle.std.specs.Str.Parse.{digits_value, digits_value_after}
+use Rattle.std.proofs.lemmas.Bool.{and_parts, leb-true, ne_eqb}
 use Rattle.std.proofs.lemmas.Bool.Decides.{nat_tests}
 use Rattle.std.proofs.lemmas.List.{at_drop_more}
-use Rattle.std.proofs.lemmas.Str.{chars-IsAscii, digit_value_digit}
-use Rattle.std.proofs.lemmas.Str.Ascii.{IsAscii-nil, IsAscii-cons}
+use Rattle.std.proofs.lemmas.Str.{digit_value_digit}
+use Rattle.pynatural.specs.Readings.{written, is_no_underscore}
 use Rattle.pylex_lexeme.specs.Numbers.{is_j, is_point, is_e, is_x, is_o, is_b}
-use Rattle.pytoken.specs.NumberValues.{radix_of, is_no_underscore, is_real, number_answer}
-use Rattle.pytoken.specs.Inner.Readings.{is_decimal_digit, IsShort, digits_behind, whole_below}
-use Rattle.pytoken.proofs.values.NumberLemmas.{answer_some}
+use Rattle.pytree_node.specs.Values.{Value, Int}
+use Rattle.pytree_node.specs.declared.profiles.Extent.{Extent}
+use Rattle.pytoken.specs.NumberValues.{radix_of, digits_in, is_complex, is_real, whole_value, number_value, number_fault}
+use Rattle.pytoken.specs.Inner.Readings.{is_decimal_digit, IsShort}
+use Rattle.pytoken.proofs.values.NumberLemmas.{in_both, fault_none, value_whole}
 
 record Digit (c : ℕ) : Type 0 where
   least : 48 ≤ c
@@ -42,13 +44,6 @@ none_of p fails (c ∷ t) all =
     let parts = and_parts (is_decimal_digit c) (list_all is_decimal_digit t) all in
     let here = fails c (digit c parts.0) in
     rw here (none_of p fails t parts.1)
-
-ascii : (t : List ℕ) → list_all is_decimal_digit t ≡ true → IsAscii t
-ascii [] all = IsAscii-nil
-ascii (c ∷ t) all =
-    let parts = and_parts (is_decimal_digit c) (list_all is_decimal_digit t) all in
-    let d = digit c parts.0 in
-    IsAscii-cons c t (omega (arith, d.most)) (ascii t parts.1)
 
 no_lines : (t : List ℕ) → list_all is_decimal_digit t ≡ true → filter is_no_underscore t ≡ t
 no_lines [] all = refl
@@ -81,18 +76,33 @@ no_j c d = let least = d.least in let most = d.most in grind (arith, nat_tests)
 no_fraction : (c : ℕ) → Digit c → (is_point c || is_e c) ≡ false
 no_fraction c d = let least = d.least in let most = d.most in grind (arith, nat_tests)
 
-whole_is : (t : List ℕ) (value : ℕ) → IsShort t value → whole_below (radix_of t) (digits_behind t) ≡ Some value
-whole_is t value is =
-    let ten = decimal t is.digits in
-    let same = no_lines t is.digits in
-    let small : nat_le (2 ^ 128) value ≡ false = lt-leb (2 ^ 128) value (omega (arith, is.fits)) in
-    let worth : digits_value_after 10 0 t ≡ value = sym is.worth in
-    rw (ten, same, worth, small) refl
+not_complex : (t : List ℕ) → list_all is_decimal_digit t ≡ true → is_complex t ≡ false
+not_complex t all = none_of is_j no_j t all
 
-pub answer_short : (bs : List ℕ) (value : ℕ) → IsShort bs value → number_answer (chars bs) ≡ Ok value
-answer_short bs value is =
-    let t = chars-IsAscii bs (ascii bs is.digits) in
-    let complex = none_of is_j no_j bs is.digits in
-    let real : is_real bs ≡ false = ap (λ (b : Bool). (radix_of bs == 10) && b) (none_of (λ c. is_point c || is_e c) no_fraction bs is.digits)
-    ∙ and_false (radix_of bs == 10) in
-    ap number_answer t ∙ answer_some bs value complex real (whole_is bs value is)
+not_real : (t : List ℕ) → list_all is_decimal_digit t ≡ true → is_real t ≡ false
+not_real t all = ap (λ (b : Bool). (radix_of t == 10) && b) (none_of (λ c. is_point c || is_e c) no_fraction t all) ∙ and_false (radix_of t == 10)
+
+digits_written : (t : List ℕ) → list_all is_decimal_digit t ≡ true → written 10 t ≡ digits_value 10 t
+unfolding written
+digits_written t all = ap (digits_value 10) (no_lines t all)
+
+-- what decimal digits alone are worth
+short_whole : (t : List ℕ) (value : ℕ) → IsShort t value → whole_value t ≡ value
+unfolding whole_value
+short_whole t value is =
+    let ten = decimal t is.digits in
+    rw ten (digits_written t is.digits ∙ sym is.worth)
+
+pub short_faultless : (extent : Extent) (t : List ℕ) (value : ℕ) → IsShort t value → number_fault extent t ≡ None
+short_faultless extent t value is =
+    let worth = short_whole t value is in
+    fault_none extent t (not_complex t is.digits) (not_real t is.digits) (in_both extent (whole_value t) (omega (arith, worth, is.fits)))
+
+pub short_is : (t : List ℕ) (value : ℕ) → IsShort t value → number_value t ≡ Int value
+short_is t value is =
+    value_whole t (not_complex t is.digits) (not_real t is.digits) ∙ ap (λ (n : ℕ). Int n) (short_whole t value is)
+
+-- what was read as decimal digits alone has no fault
+pub read_faultless : (extent : Extent) (t : List ℕ) (o : Option ℕ) → IfSome o (λ v. IsShort t v) → true ≡ is_some o → number_fault extent t ≡ None
+read_faultless extent t (Some v) is some = short_faultless extent t v is
+read_faultless extent t None is some = absurd cc

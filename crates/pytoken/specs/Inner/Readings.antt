@@ -1,11 +1,14 @@
 -- What the code reads of a token's text from a place on.
-use Rattle.std.specs.Prelude.{◌≡◌, ℕ, ◌+◌, ◌*◌, ◌^◌, ◌<◌, EachIndex, slice_index, ◌==◌, ◌&&◌, ◌||◌, not, Bool, true, false, List, [], ◌∷◌, drop, filter, nat_lt, nat_le, Option, Some, None, if◌then◌else◌}
+use Rattle.std.specs.Prelude.{◌≡◌, ℕ, ◌+◌, ◌*◌, ◌^◌, ◌<◌, EachIndex, slice_index, ◌==◌, ◌&&◌, ◌||◌, not, Bool, true, false, List, [], ◌∷◌, drop, nat_lt, nat_le, Option, Some, None, if◌then◌else◌}
 use Rattle.std.specs.Char.{digit_value, is_digit}
 use Rattle.std.specs.List.{flat_map, list_all}
 use Rattle.std.specs.Str.Parse.{digits_value}
+use Rattle.pynatural.specs.Readings.{written, most_digits}
 use Rattle.pylex_lexeme.specs.Numbers.{is_x, is_o, is_b}
+use Rattle.pytree_node.specs.declared.profiles.Extent.{Extent}
+use Rattle.pytree_node.specs.declared.profiles.Extent.TheVariants.{Plain, Whole}
 use Rattle.pytoken.specs.declared.meanings.Meaning.{Meaning}
-use Rattle.pytoken.specs.NumberValues.{radix_of, is_no_underscore}
+use Rattle.pytoken.specs.declared.faults.TokenError.{TokenError}
 use Rattle.pytoken.specs.StringValues.{is_quote}
 use Rattle.pytoken.specs.Escapes.{Reading, reading, meanings, points_in}
 
@@ -31,10 +34,6 @@ behind_meaning raw bytes (c ∷ cs) = drop (reading raw bytes c cs).more cs
 abbrev pub radix_by : ℕ → ℕ
 radix_by c = if is_x c then 16 else (if is_o c then 8 else (if is_b c then 2 else 10))
 
--- a number's digits, with underscores
-abbrev pub digits_behind : List ℕ → List ℕ
-digits_behind t = if radix_of t == 10 then t else drop 2 t
-
 -- a value with one more digit, unless it is past 2^128-1
 abbrev pub one_more : ℕ → ℕ → ℕ → Option ℕ
 one_more radix value c =
@@ -43,9 +42,17 @@ one_more radix value c =
 
 -- the value of some digits, unless it is past 2^128-1
 abbrev pub whole_below : ℕ → List ℕ → Option ℕ
-whole_below radix ds =
-    let n = digits_value radix (filter is_no_underscore ds) in
-    if nat_le (2 ^ 128) n then None else Some n
+whole_below radix ds = if nat_le (2 ^ 128) (written radix ds) then None else Some (written radix ds)
+
+-- the least whole number that an extent of the language has none of
+abbrev pub limit_of : Extent → ℕ
+limit_of Plain = 2 ^ 128
+limit_of Whole = 10 ^ most_digits
+
+-- a fault that is one in the plain language alone
+abbrev pub in_plain : Extent → TokenError → Option TokenError
+in_plain Plain e = Some e
+in_plain Whole e = None
 
 abbrev pub is_decimal_digit : ℕ → Bool
 is_decimal_digit c = nat_le 48 c && nat_le c 57

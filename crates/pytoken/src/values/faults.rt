@@ -3,26 +3,16 @@
 ghost use Rattle.std.specs.Prelude.{◌≡◌, ◌==◌, IfOk};
 ghost use Rattle.std.specs.List.{list_any};
 ghost use Rattle.std.specs.Str.{chars};
-ghost use Rattle.pytoken.specs.NumberValues.{number_fault};
 ghost use Rattle.pytoken.specs.StringValues.{nul_fault};
 ghost use Rattle.pytoken.specs.Terminals.{fault_of};
 
 use crate::TokenError;
 use crate::values::names::name_fault;
-use crate::values::numbers::number_value;
+use crate::values::numbers::number_fault;
 use crate::values::strings::{are_plain, string_fault};
 use pylex::Kind;
+use pytree_node::Extent;
 use std::alloc::{AllocError, Global};
-
-/// The fault of a number.
-fn number_fault(text: &str) -> Option<TokenError>
-    ensures { result ≡ number_fault (chars text.now) }
-{
-    match number_value(text) {
-        Ok(_) => None,
-        Err(error) => Some(error),
-    }
-}
 
 /// Whether U+0000 stands in a text.
 fn has_nul(text: &str) -> bool
@@ -50,14 +40,20 @@ pub(crate) fn comment_fault(text: &str) -> Option<TokenError>
     }
 }
 
-/// The fault that an entry of this type and text is by itself: a token or a comment.
+/// The fault that an entry of this type and text is by itself in an extent of the language: a token
+/// or a comment.
 #[inline(always)]
-pub fn token_fault(alloc: Global, kind: Kind, text: &str) -> Result<Option<TokenError>, AllocError>
-    ensures { IfOk result (λ fault. fault ≡ fault_of kind (chars text.now)) }
+pub fn token_fault(
+    alloc: Global,
+    extent: Extent,
+    kind: Kind,
+    text: &str,
+) -> Result<Option<TokenError>, AllocError>
+    ensures { IfOk result (λ fault. fault ≡ fault_of extent kind (chars text.now)) }
 {
     match kind {
         Kind::Name => name_fault(alloc, text),
-        Kind::Number => Ok(number_fault(text)),
+        Kind::Number => number_fault(alloc, extent, text),
         Kind::String => Ok(string_fault(text)),
         Kind::Comment => Ok(comment_fault(text)),
         _ => Ok(None),

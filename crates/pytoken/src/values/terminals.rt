@@ -1,7 +1,7 @@
 //! What tokens are to the grammar.
 
 ghost use Rattle.std.specs.Prelude.{◌≡◌, IfOk, IfErr, OnOk, None};
-ghost use Rattle.std.specs.Str.{chars};
+ghost use Rattle.std.specs.Str.{chars, encode_utf8_all};
 ghost use Rattle.pytoken.specs.NameValues.{name_fault};
 ghost use Rattle.pytoken.specs.NumberValues.{number_fault};
 ghost use Rattle.pytoken.specs.StringValues.{string_fault, nul_fault};
@@ -11,9 +11,11 @@ ghost use Rattle.pytoken.specs.TerminalOf.{terminal, named, numbered, quoted, Te
 use crate::values::faults::comment_fault;
 use crate::values::literal_text::LiteralText;
 use crate::values::names::name_fault;
-use crate::values::numbers::number_value;
+use crate::values::number_text::NumberText;
+use crate::values::numbers::short_value;
 use crate::{Keyword, TokenError};
 use pylex::{Exact, Kind, exact_of};
+use pytree_node::Extent;
 use std::alloc::{AllocError, Global};
 use thiserror::Error;
 
@@ -26,8 +28,10 @@ pub enum Terminal<'a> {
     Word(Keyword),
     /// A name that is no keyword, as it stands in the source: it stands for its form NFKC.
     Ident(&'a str),
-    /// A whole number.
-    Whole(u128),
+    /// A whole number of decimal digits, below 2^64.
+    Whole(u64),
+    /// Another number.
+    Number(NumberText<'a>),
     /// One string literal.
     Literal(LiteralText<'a>),
     /// A line end, or the begin or end of a block.
@@ -71,15 +75,20 @@ fn name_terminal<'a>(alloc: Global, text: &'a str) -> Result<Terminal<'a>, Termi
 }
 
 /// The terminal of a NUMBER.
-fn number_terminal<'a>(text: &'a str) -> Result<Terminal<'a>, TerminalFault>
+fn number_terminal<'a>(
+    alloc: Global,
+    extent: Extent,
+    text: &'a str,
+) -> Result<Terminal<'a>, TerminalFault>
     ensures terminal { IfOk result (λ made. terminal made ≡ numbered (chars text.now)) }
-    ensures sound { OnOk result (number_fault (chars text.now) ≡ None) }
-    ensures refused { IfErr result (Tells (number_fault (chars text.now))) }
+    ensures sound { OnOk result (number_fault extent (encode_utf8_all (chars text.now)) ≡ None) }
+    ensures refused { IfErr result
+        (Tells (number_fault extent (encode_utf8_all (chars text.now)))) }
 {
-    match number_value(text) {
-        Ok(value) => Ok(Terminal::Whole(value)),
-        Err(error) => Err(TerminalFault::Token(error)),
+    if let Some(value) = short_value(text) {
+        return Ok(Terminal::Whole(value));
     }
+    Ok(Terminal::Number(NumberText::new(alloc, extent, text)?))
 }
 
 /// The terminal of a STRING.
@@ -105,25 +114,27 @@ fn operator_terminal<'a>(text: &'a str) -> Terminal<'a>
     }
 }
 
-/// The terminal that a token of this type and text is. No memory is taken but for a name with
-/// characters past ASCII, and that only to find its fault.
+/// The terminal that a token of this type and text is in an extent of the language. No memory is
+/// taken but for a name with characters past ASCII and, in the whole language, for a whole number
+/// from 2^128 on, and that only to find its fault.
 ///
 /// # Errors
 ///
-/// [`TerminalFault::Token`] by the fault that the token is by itself.
+/// [`TerminalFault::Token`] by the fault that the token is by itself in this extent.
 #[inline(always)]
 pub fn terminal_of<'a>(
     alloc: Global,
+    extent: Extent,
     kind: Kind,
     text: &'a str,
 ) -> Result<Terminal<'a>, TerminalFault>
     ensures terminal { IfOk result (λ made. terminal made ≡ terminal_of kind (chars text.now)) }
-    ensures sound { OnOk result (fault_of kind (chars text.now) ≡ None) }
-    ensures refused { IfErr result (Tells (fault_of kind (chars text.now))) }
+    ensures sound { OnOk result (fault_of extent kind (chars text.now) ≡ None) }
+    ensures refused { IfErr result (Tells (fault_of extent kind (chars text.now))) }
 {
     match kind {
         Kind::Name => name_terminal(alloc, text),
-        Kind::Number => number_terminal(text),
+        Kind::Number => number_terminal(alloc, extent, text),
         Kind::String => string_terminal(text),
         Kind::Op => Ok(operator_terminal(text)),
         Kind::Comment => match comment_fault(text) {

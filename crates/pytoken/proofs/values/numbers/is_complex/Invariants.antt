@@ -1,12 +1,7 @@
-use Rattle.std.proofs.Common.{◌≡◌}
+use Rattle.std.proofs.Common.{◌≡◌, drop}
 use Rattle.std.specs.List.{list_any}
-use Rattle.std.specs.Str.{chars, IsUtf8}
-use Rattle.std.specs.Str.Iter.{chars_rest}
 use Rattle.pylex_lexeme.specs.Numbers.{is_j}
 use Rattle.pytoken.proofs.values.numbers.is_complex.Given as goal
 
-abbrev pub invariant-loop-c : goal.invariant-loop-c
-invariant-loop-c l = record {
-  same : list_any is_j (chars (chars_rest l.c-iterator)) ≡ list_any is_j (chars l.fn.text);
-  utf8 : IsUtf8 (chars_rest l.c-iterator);
-}
+abbrev pub invariant-loop-byte : goal.invariant-loop-byte
+invariant-loop-byte l = list_any is_j (drop l.byte-index l.text) ≡ list_any is_j l.text
