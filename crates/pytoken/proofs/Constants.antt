@@ -47,7 +47,7 @@ digits_radix (a ∷ b ∷ ds) all =
     let b'' = digit_not b 66 d (inr (omega arith)) in
     rw (x, x', o, o', b', b'') refl
 
-digits_kept : (ds : List ℕ) → AllDigits 10 ds → filter is_no_underscore ds ≡ ds
+pub digits_kept : (ds : List ℕ) → AllDigits 10 ds → filter is_no_underscore ds ≡ ds
 digits_kept [] all = refl
 digits_kept (a ∷ ds) all =
     let no_line = digit_not a 95 (digit_from_value a all.0) (inr (omega arith)) in
@@ -69,7 +69,7 @@ digits_no_point (a ∷ ds) all =
     (or_from (a == 101) (a == 69) (digit_not a 101 d (inr (omega arith))) (digit_not a 69 d (inr (omega arith)))))
     (digits_no_point ds all.1)
 
-digits_whole : (ds : List ℕ) → AllDigits 10 ds → whole_value ds ≡ digits_value 10 ds
+pub digits_whole : (ds : List ℕ) → AllDigits 10 ds → whole_value ds ≡ digits_value 10 ds
 unfolding whole_value
 digits_whole ds all = let r = digits_radix ds all in rw r (ap (digits_value 10) (digits_kept ds all))
 

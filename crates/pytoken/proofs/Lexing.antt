@@ -13,6 +13,7 @@ use Rattle.pylex_lexeme.specs.Numbers.{split_any, headed, is_decimal_digit, is_o
 use Rattle.pylex_lexeme.specs.Strings.{units, ends_by_one, is_single, is_single_string, is_string, is_prefix, is_triple_string}
 use Rattle.pytoken.proofs.ReadBack.{IsMark, Written, marked, tab, feed, return, short, middle, long, itself, written}
 use Rattle.pytoken.proofs.Constants.{quote_mark}
+use Rattle.pytoken.proofs.Numerals.DigitRuns.{digit_range}
 
 -- a character that is no quote, no backslash and no line end
 pub record IsPlain (q a : ℕ) : Type 0 where
@@ -190,9 +191,6 @@ joined_push (a ∷ b ∷ t) c h digit = elim (cases_Bool (is_decimal_digit a)) [
 -- zero, or digits of which the first is no zero
 abbrev Shaped : ℕ → List ℕ → Type 0
 Shaped n ds = (0 < n → headed is_one_to_nine (are_joined is_decimal_digit) ds ≡ true) × (n ≡ 0 → ds ≡ 48 ∷ [])
-
-digit_range : (n : ℕ) → n < 10 → is_decimal_digit (48 + n) ≡ true
-digit_range n h = and_from (nat_le 48 (48 + n)) (nat_le (48 + n) 57) (le-leb 48 (48 + n) (omega arith)) (le-leb (48 + n) 57 (omega arith))
 
 head_push : (ds : List ℕ) (c : ℕ) → headed is_one_to_nine (are_joined is_decimal_digit) ds ≡ true → is_decimal_digit c ≡ true →
     headed is_one_to_nine (are_joined is_decimal_digit) (ds ++ c ∷ []) ≡ true

@@ -5,6 +5,7 @@ mod Constants
 mod Lexing
 mod Words
 mod NumberClasses
+mod Numerals
 mod SmallBytes
 mod TextPoints
 mod Sound

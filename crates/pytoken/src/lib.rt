@@ -17,8 +17,9 @@
 //! lines, `Terminals` what a token is to the grammar and the fault that it may be by itself,
 //! `Refusals` why a source has no tokens, `MatchHeaders` which lines look like the header of a
 //! `match` statement. `Keywords`, `NumberValues`, `Escapes`, `StringValues` and `NameValues` say
-//! what the texts of tokens stand for. `Laws` has what holds of these: each constant of a tree
-//! comes back from its text. `Values` and `TerminalOf` have the values of the types of this crate.
+//! what the texts of tokens stand for, `Numerals` which texts are written for numbers. `Laws` has
+//! what holds of these: each constant of a tree comes back from its text. `Values` and `TerminalOf`
+//! have the values of the types of this crate.
 #![tactic(auto)]
 
 mod faults;

@@ -143,6 +143,21 @@ module _ (extent : Extent) (t ds : List ℕ) (radix : ℕ) (of_radix : radix ≡
       let large = le-leb (10 ^ most_digits) (whole_value t) (omega (arith, same, read)) in
       sym (ap (λ (x : Extent). nat_le (limit_of x) (whole_value t)) is ∙ large)
 
+-- the value that was read of a number
+module _ (t ds : List ℕ) (radix : ℕ) (of_radix : radix ≡ radix_of t) (of_digits : ds ≡ digits_in t) where
+  pub read_below : (v : ℕ) (o : Option ℕ) → o ≡ whole_below radix ds → o ≡ Some v → v ≡ whole_value t
+  read_below v o e is = (below_some t ds radix of_radix of_digits v (sym is ∙ e)).0
+
+  pub not_past : (o : Option ℕ) → whole_value t < 10 ^ most_digits
+      → MatchOption o (10 ^ most_digits ≤ written radix ds) (λ n. (n ≡ written radix ds) × (n < 10 ^ most_digits)) → o ≡ None → ⊥
+  not_past (Some n) small read is = cc
+  not_past None small read is = omega (arith, digits_are t ds radix of_radix of_digits)
+
+  pub read_whole : (n : ℕ) (o : Option ℕ)
+      → MatchOption o (10 ^ most_digits ≤ written radix ds) (λ n. (n ≡ written radix ds) × (n < 10 ^ most_digits)) → o ≡ Some n → n ≡ whole_value t
+  read_whole n (Some m) read is = let same : m ≡ n = cc in sym same ∙ read.0 ∙ digits_are t ds radix of_radix of_digits
+  read_whole n None read is = absurd cc
+
 -- The fault of a number by its kind
 
 pub fault_complex : (extent : Extent) (t : List ℕ) → is_complex t ≡ true → number_fault extent t ≡ in_plain extent errors.Complex
