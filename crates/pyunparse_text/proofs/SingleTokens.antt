@@ -1,4 +1,3 @@
 -- Texts that are one token.
 pub mod Literals
-pub mod Numbers
 pub mod Scalars

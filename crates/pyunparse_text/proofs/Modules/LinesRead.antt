@@ -32,7 +32,7 @@ use Rattle.pyunparse_text.proofs.PieceLaws.LinesDerived.{simple_read, header_sai
 use Rattle.pyunparse_text.proofs.Modules.Wells.{Well, well_simple, well_if, well_loop, well_with, well_finally, well_except, well_definition, Wells, none, one, Full, full, Handled, none_handled, one_handled, Decorated, none_decorated, one_decorated, Gives, Formed, none_formed, one_formed, block_wells}
 use Rattle.pyunparse_text.proofs.Modules.Shapes.{lone_if, not_lone, simple_lines, loop_lines, with_lines, try_lines, definition_lines, else_lines}
 
-module _ {extent : Extent} where
+module _ (extent : Extent) where
   -- ---- Lines of a level that are read back.
 
   record Fine (n : ℕ) (rs : List (WrittenLine Piece)) (qs : List (WrittenLine Terminal)) : Type 0 where
@@ -157,20 +157,20 @@ module _ {extent : Extent} where
   -- ---- Modules of tokens.
 
   elif_read : {profile : Profile} {ts : List Terminal} {e : Expr} → Said extent ts → F.HeaderOf profile ts (if_header e) → ReadHeader extent (elif_header e)
-  elif_read {e = e} q p = header_read (elif_header e) (header_said p q)
+  elif_read {e = e} q p = header_read (elif_header e) (header_said extent p q)
 
   if_read : {profile : Profile} {ts : List Terminal} {e : Expr} → Said extent ts → F.HeaderOf profile ts (elif_header e) → ReadHeader extent (if_header e)
-  if_read {e = e} q p = header_read (if_header e) (header_said p q)
+  if_read {e = e} q p = header_read (if_header e) (header_said extent p q)
 
   head_read : {profile : Profile} {ts : List Terminal} {h : Header} → Said extent ts → F.HeaderOf profile ts h → ReadHeader extent h
-  head_read {h = h} q p = header_read h (header_said p q)
+  head_read {h = h} q p = header_read h (header_said extent p q)
 
   decorated_read : {profile : Profile} {ts : List Terminal} {e : Expr} → Said extent ts → F.FormOf profile ts (decorator_form e) → ReadDecorator e
-  decorated_read q (F.decorator_line {ts = ts} {e = e} p) = decorator_read e (decorator_said p (behind [] ts _ q))
+  decorated_read q (F.decorator_line {ts = ts} {e = e} p) = decorator_read e (decorator_said extent p (behind [] ts _ q))
 
   all_read : (profile : Profile) → Gives ReadSimple (ReadHeader extent) ReadDecorator profile (Said extent)
   all_read profile = record {
-    simple = λ q p. simple_read p q;
+    simple = λ q p. simple_read extent p q;
     header = λ q p. head_read q p;
     elif_too = λ q p. elif_read q p;
     if_too = λ q p. if_read q p;
@@ -190,4 +190,4 @@ module _ {extent : Extent} where
       record { written = and_both (list_all is_written ls) (rise_by_one 0 ls) f.written f.rises; give = f.give }
 
 pub modules_read : ModulesAreRead
-modules_read profile ws m g h = read_in profile ws m g h
+modules_read profile ws m g h = read_in profile.extent profile ws m g h

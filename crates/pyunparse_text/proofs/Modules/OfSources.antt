@@ -96,7 +96,7 @@ Sound t = IsSound t.kind t.text
 abbrev Faultless : Extent → Token → Type 0
 Faultless extent t = fault_of extent t.kind t.text ≡ None
 
-module _ {extent : Extent} where
+module _ (extent : Extent) where
   all_of : (ts : List Token) → All IsText ts → All Sound ts → All (Faultless extent) ts → All (IsOfSourceIn extent) ts
   all_of [] a b c = All-nil (IsOfSourceIn extent)
   all_of (t ∷ ts) a b c =
@@ -140,7 +140,7 @@ module _ {extent : Extent} where
       All-cons (AreOfTokens extent) (written_line x.level (terminals x)) (source_lines xs) (token_terminals x.tokens (All-head Good x xs h)) (lines_of xs (All-tail Good x xs h))
 
 pub lines_of_tokens : TokensAreOfTokens
-lines_of_tokens extent xs h = lines_of xs h
+lines_of_tokens extent xs h = lines_of extent xs h
 
 -- ---- Accepted sources.
 
@@ -156,13 +156,13 @@ whole_faultless (t ∷ ts) h = All-cons (Faultless Whole) t ts (All-head Sound t
 tokens_of_source : (extent : Extent) (s : Source) → IsLawful s → all_scalars s.text ≡ true → refusal extent s ≡ None → All (IsOfSourceIn extent) (tokens s)
 tokens_of_source Plain s w h r =
     let d = (extents_differ_in_numbers s).0 r in
-    all_of (tokens s) (token_texts s w h) (tokens_are_sound s w h d.0) d.1
+    all_of Plain (tokens s) (token_texts s w h) (tokens_are_sound s w h d.0) d.1
 tokens_of_source Whole s w h r =
     let a = tokens_are_sound s w h r in
-    all_of (tokens s) (token_texts s w h) a (whole_faultless (tokens s) a)
+    all_of Whole (tokens s) (token_texts s w h) a (whole_faultless (tokens s) a)
 
 pub accepted_texts : AcceptedTextsAreAccepted
 accepted_texts profile s m w h p =
     let g = tokens_of_source profile.extent s w h p.clear in
     texts_accepted profile (source_lines (lines s)) m (record { forms = p.forms; formed = source_forms p.formed; block = p.block })
-    (lines_of (lines s) (good_lines s g)) (modules_low 500 p.forms m p.block (formed_low p.formed)) p.low
+    (lines_of profile.extent (lines s) (good_lines profile.extent s g)) (modules_low 500 p.forms m p.block (formed_low p.formed)) p.low

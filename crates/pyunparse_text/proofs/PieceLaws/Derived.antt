@@ -37,10 +37,58 @@ use Rattle.pyunparse_text.proofs.PieceLaws.Fair.{IsConstant}
 use Rattle.pyunparse_text.proofs.PieceLaws.Sound.{Sound, AreSound, SoundOptional, SoundOptionals, SoundClauses, SoundKeywords, SoundArguments}
 use Rattle.pyunparse_text.proofs.PieceLaws.OfTokens.{Sayable}
 
--- terminals that can be written
 pub data Said (extent : Extent) : List Terminal → Type 0 where
   none : Said extent []
   also : {t : Terminal} {ts : List Terminal} → Sayable extent t → Said extent ts → Said extent (t ∷ ts)
+
+below_plain : (o : BoolOperator) → star_place (below (chain_level o)) ≡ false
+below_plain Join.And = refl
+below_plain Join.Or = refl
+
+operator_plain : (o : Operator) → star_place (operator_level o) ≡ false
+operator_plain Bin.Add = refl
+operator_plain Bin.Sub = refl
+operator_plain Bin.Mult = refl
+operator_plain Bin.MatMult = refl
+operator_plain Bin.Div = refl
+operator_plain Bin.Mod = refl
+operator_plain Bin.Pow = refl
+operator_plain Bin.LShift = refl
+operator_plain Bin.RShift = refl
+operator_plain Bin.BitOr = refl
+operator_plain Bin.BitXor = refl
+operator_plain Bin.BitAnd = refl
+operator_plain Bin.FloorDiv = refl
+
+right_plain : (o : Operator) → star_place (right_level o) ≡ false
+right_plain Bin.Add = refl
+right_plain Bin.Sub = refl
+right_plain Bin.Mult = refl
+right_plain Bin.MatMult = refl
+right_plain Bin.Div = refl
+right_plain Bin.Mod = refl
+right_plain Bin.Pow = refl
+right_plain Bin.LShift = refl
+right_plain Bin.RShift = refl
+right_plain Bin.BitOr = refl
+right_plain Bin.BitXor = refl
+right_plain Bin.BitAnd = refl
+right_plain Bin.FloorDiv = refl
+
+unary_plain : (o : UnaryOperator) → star_place (unary_level o) ≡ false
+unary_plain Un.Not = refl
+unary_plain Un.UAdd = refl
+unary_plain Un.USub = refl
+unary_plain Un.Invert = refl
+
+left_is : (l : Level) (t : Terminal) (o : Operator) → left_operator l t ≡ Some o → star_place l ≡ false
+left_is l t o h = ap star_place (sym (row l t o h).level) ∙ operator_plain o
+
+right_is : (l : Level) (t : Terminal) (o : Operator) → left_operator l t ≡ Some o → star_place (below l) ≡ false
+right_is l t o h = ap star_place (sym (row l t o h).right) ∙ right_plain o
+
+prefix_is : (l : Level) (t : Terminal) (o : UnaryOperator) → prefix_operator l t ≡ Some o → star_place l ≡ false
+prefix_is l t o h = ap star_place (sym (prefixed l t o h).level) ∙ unary_plain o
 
 module _ {extent : Extent} where
   pub said : (ts : List Terminal) → All (Sayable extent) ts → Said extent ts
@@ -65,6 +113,7 @@ module _ {extent : Extent} where
   pub behind : (ts us : List Terminal) (t : Terminal) → Said extent (ts ++ (t ∷ us)) → Said extent us
   behind ts us t h = rest (back ts (t ∷ us) h)
 
+module _ (extent : Extent) where
   -- ---- Levels where no Starred stands.
 
   pub wider : (b c : Bool) (e : Expr) → (b ≡ true → c ≡ true) → Sound extent b e → Sound extent c e
@@ -79,55 +128,6 @@ module _ {extent : Extent} where
 
   any : (b c : Bool) (e : Expr) → b ≡ false → Sound extent b e → Sound extent c e
   any b c e q h = wider false c e (λ (z : false ≡ true). absurd (cc)) (plain b e q h)
-
-  below_plain : (o : BoolOperator) → star_place (below (chain_level o)) ≡ false
-  below_plain Join.And = refl
-  below_plain Join.Or = refl
-
-  operator_plain : (o : Operator) → star_place (operator_level o) ≡ false
-  operator_plain Bin.Add = refl
-  operator_plain Bin.Sub = refl
-  operator_plain Bin.Mult = refl
-  operator_plain Bin.MatMult = refl
-  operator_plain Bin.Div = refl
-  operator_plain Bin.Mod = refl
-  operator_plain Bin.Pow = refl
-  operator_plain Bin.LShift = refl
-  operator_plain Bin.RShift = refl
-  operator_plain Bin.BitOr = refl
-  operator_plain Bin.BitXor = refl
-  operator_plain Bin.BitAnd = refl
-  operator_plain Bin.FloorDiv = refl
-
-  right_plain : (o : Operator) → star_place (right_level o) ≡ false
-  right_plain Bin.Add = refl
-  right_plain Bin.Sub = refl
-  right_plain Bin.Mult = refl
-  right_plain Bin.MatMult = refl
-  right_plain Bin.Div = refl
-  right_plain Bin.Mod = refl
-  right_plain Bin.Pow = refl
-  right_plain Bin.LShift = refl
-  right_plain Bin.RShift = refl
-  right_plain Bin.BitOr = refl
-  right_plain Bin.BitXor = refl
-  right_plain Bin.BitAnd = refl
-  right_plain Bin.FloorDiv = refl
-
-  unary_plain : (o : UnaryOperator) → star_place (unary_level o) ≡ false
-  unary_plain Un.Not = refl
-  unary_plain Un.UAdd = refl
-  unary_plain Un.USub = refl
-  unary_plain Un.Invert = refl
-
-  left_is : (l : Level) (t : Terminal) (o : Operator) → left_operator l t ≡ Some o → star_place l ≡ false
-  left_is l t o h = ap star_place (sym (row l t o h).level) ∙ operator_plain o
-
-  right_is : (l : Level) (t : Terminal) (o : Operator) → left_operator l t ≡ Some o → star_place (below l) ≡ false
-  right_is l t o h = ap star_place (sym (row l t o h).right) ∙ right_plain o
-
-  prefix_is : (l : Level) (t : Terminal) (o : UnaryOperator) → prefix_operator l t ≡ Some o → star_place l ≡ false
-  prefix_is l t o h = ap star_place (sym (prefixed l t o h).level) ∙ unary_plain o
 
   optional_starred : (e : OptionalExpr) → SoundOptional extent false e → SoundOptional extent true e
   optional_starred absent h = tt

@@ -1,7 +1,7 @@
 -- Carries: the laws of pieces. On: the text of a terminal is a token of its
 -- type, gives the terminal, and has no fault.
-use Rattle.std.proofs.Common.{◌≡◌, ℕ, ◌<◌, ◌≤◌, ◌^◌, Bool, true, false, List, [], ◌∷◌, ◌++◌, refl, arith, leb, Option, Some, None, ap, ◌∙◌, if◌then◌else◌}
-use Rattle.std.specs.Prelude.{All, codes, is_some}
+use Rattle.std.proofs.Common.{◌≡◌, ℕ, ◌<◌, ◌≤◌, ◌^◌, Bool, true, false, List, [], ◌∷◌, refl, arith, leb, Option, Some, None, ap, ◌∙◌, if◌then◌else◌}
+use Rattle.std.specs.Prelude.{All, is_some}
 use Rattle.std.specs.Float.Ieee.{Float}
 use Rattle.std.specs.List.{list_all}
 use Rattle.std.specs.Str.{all_scalars, encode_utf8_all}
@@ -9,12 +9,10 @@ use Rattle.std.proofs.Math.Nat.{pow-le-pow_right}
 use Rattle.std.proofs.lemmas.Bool.{le-leb, lt-leb}
 use Rattle.std.proofs.lemmas.List.Elements.{All-head, All-tail}
 use Rattle.pynatural.specs.Readings.{most_digits}
-use Rattle.pyfloat.specs.FloatTexts.{float_text}
 use Rattle.pyfloat.specs.FloatValues.{float_value}
 use Rattle.pyfloat.specs.Laws.{IsDouble}
 use Rattle.pylex_lexeme.specs.declared.kinds.Exact.{Exact}
 use Rattle.pylex_lexeme.specs.declared.kinds.Exact.TheVariants.{LPar, RPar, LSqb, RSqb, LBrace, RBrace, Ellipsis}
-use Rattle.pylex_lexeme.specs.Numbers.{is_number}
 use Rattle.pylex_lexeme.specs.Operators.{exact_text, is_operator, is_opener, is_closer}
 use Rattle.pylex_lexeme.proofs.Callers.Lexemes.{exact_of_text, exact_scalars}
 use Rattle.pylex.specs.declared.kind.Kind.{Kind}
@@ -30,11 +28,11 @@ use Rattle.pytoken.specs.Keywords.{spelling_of}
 use Rattle.pytoken.specs.NumberValues.{whole_value, is_complex, is_real, number_value, number_fault, too_large}
 use Rattle.pytoken.specs.Terminals.{Terminal, Op, Word, in_form, Number, Layout, Gives, terminal_of, fault_of}
 use Rattle.pytoken.specs.Laws.{IsProper}
+use Rattle.pytoken.proofs.Callers.Numerals.{IsNumeral, float_numeral, imaginary_numeral, whole_numeral}
 use Rattle.pytoken.proofs.Callers.Said.{come_back}
 use Rattle.pyunparse_text.specs.Spacing.{is_token, is_number_kind}
 use Rattle.pyunparse_text.specs.Tokens.{opens, closes}
-use Rattle.pyunparse_text.proofs.Callers.Pieces.{number_scalars}
-use Rattle.pyunparse_text.proofs.Callers.Tokens.{Begins, begins_longer, whole_begins, float_begins, text_token, marked_token, bytes_token, text_scalars, bytes_scalars}
+use Rattle.pyunparse_text.proofs.Callers.Tokens.{text_token, marked_token, bytes_token, text_scalars, bytes_scalars}
 use Rattle.pyunparse_text.specs.Written.{constant_terminal}
 use Rattle.pyunparse_text.specs.Pieces.{number_text, kind_of, text_of, piece}
 use Rattle.pyunparse_text.proofs.PieceLaws.NameCharacters.{name_scalars}
@@ -141,31 +139,27 @@ small_faultless t n e h = by (is_complex t) (is_real t) e
 
 whole_faultless : (extent : Extent) (t : List ℕ) (n : ℕ) → HasWhole extent n → Gives kinds.Number t (Number (Values.Int n)) → fault_of extent kinds.Number t ≡ None
 unfolding terminal_of fault_of
-whole_faultless Plain t n h g = let e = g.terminal in small_faultless (encode_utf8_all t) n cc h
+whole_faultless Plain t n h g =
+    let e = g.terminal in
+    let v : number_value (encode_utf8_all t) ≡ Values.Int n = cc in
+    small_faultless (encode_utf8_all t) n v h
 whole_faultless Whole t n h g = g.sound.faultless
 
-fair_number : {extent : Extent} (v : Values.Value) → Begins (number_text v) → Gives kinds.Number (number_text v) (Number v) → fault_of extent kinds.Number (number_text v) ≡ None → Fair extent (Number v)
-fair_number v b g f =
-    let n : is_number (number_text v) ≡ true = g.sound.of_kind in
-    record { token = rw (b, n) refl; scalars = number_scalars (number_text v) n; gives = g; faultless = f }
+fair_number : {extent : Extent} (v : Values.Value) → IsNumeral (number_text v) → Gives kinds.Number (number_text v) (Number v) → fault_of extent kinds.Number (number_text v) ≡ None → Fair extent (Number v)
+fair_number v i g f = let first = i.first in let number = i.number in record { token = rw (first, number) refl; scalars = i.scalars; gives = g; faultless = f }
 
 fair_whole : (extent : Extent) (n : ℕ) → HasWhole extent n → Fair extent (Number (Values.Int n))
 fair_whole extent n h =
     let g = come_back.whole n (in_whole extent n h) in
-    fair_number (Values.Int n) (whole_begins n) g (whole_faultless extent (number_text (Values.Int n)) n h g)
+    fair_number (Values.Int n) (whole_numeral n) g (whole_faultless extent (number_text (Values.Int n)) n h g)
 
 fair_float : (extent : Extent) (x : Float) → HasDouble extent x → Fair extent (Number (Values.Float x))
 fair_float Plain x h = absurd h
-fair_float Whole x h =
-    let g = come_back.float x h in
-    fair_number (Values.Float x) (float_begins x (codes ".0") (codes "1e309") h.unsigned refl) g g.sound.faultless
+fair_float Whole x h = let g = come_back.float x h in fair_number (Values.Float x) (float_numeral x h) g g.sound.faultless
 
 fair_imaginary : (extent : Extent) (x : Float) → HasDouble extent x → Fair extent (Number (Values.Imaginary x))
 fair_imaginary Plain x h = absurd h
-fair_imaginary Whole x h =
-    let g = come_back.imaginary x h in
-    let b = float_begins x [] (codes "1e309") h.unsigned refl in
-    fair_number (Values.Imaginary x) (begins_longer (float_text x [] (codes "1e309")) (codes "j") b) g g.sound.faultless
+fair_imaginary Whole x h = let g = come_back.imaginary x h in fair_number (Values.Imaginary x) (imaginary_numeral x h) g g.sound.faultless
 
 -- ---- Constants.
 

@@ -32,6 +32,12 @@ abbrev pub SoundItems : Extent → List Item → Type 0
 SoundItems extent [] = Unit {0}
 SoundItems extent (i ∷ is) = Sound extent false i.context_expr × SoundOption extent true i.optional_vars × SoundItems extent is
 
+abbrev ends_handler : List Piece
+ends_handler = leading piece Star ∷ ends_plain
+
+more_star : (p : Piece) → within ends_plain p ≡ true → within ends_handler p ≡ true
+more_star p e = let h = and_parts (is_token p.kind p.text) (is_like ends_plain p) e in let g = late (like (leading piece Star) p) (is_like ends_plain p) h.1 in rw (h.0, g) refl
+
 abbrev pub SoundHeader : Extent → Header → Type 0
 SoundHeader extent (if_header e) = Sound extent false e
 SoundHeader extent (elif_header e) = Sound extent false e
@@ -109,12 +115,6 @@ module _ {extent : Extent} where
   class_form x h y z = plain_both (keyword Key.Class) (after (plain_name x h) y z refl refl)
 
   -- ---- Handlers: a bare `except *` is none, but can be read.
-
-  abbrev ends_handler : List Piece
-  ends_handler = leading piece Star ∷ ends_plain
-
-  more_star : (p : Piece) → within ends_plain p ≡ true → within ends_handler p ≡ true
-  more_star p e = let h = and_parts (is_token p.kind p.text) (is_like ends_plain p) e in let g = late (like (leading piece Star) p) (is_like ends_plain p) h.1 in rw (h.0, g) refl
 
   star_handler : {xs : List Piece} {ts : List Terminal} → Perhaps extent starts_plain ends_plain xs ts → Closed extent starts_plain ends_handler (word piece Key.Except ∷ (leading piece Star ∷ xs)) (word terminal Key.Except ∷ (leading terminal Star ∷ ts))
   unfolding operators

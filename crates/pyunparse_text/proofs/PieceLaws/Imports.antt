@@ -11,6 +11,7 @@ use Rattle.pylex_lexeme.specs.declared.kinds.Exact.TheVariants.{Star, Dot, Ellip
 use Rattle.pylex_lexeme.specs.Operators.{operators}
 use Rattle.pylex.specs.declared.kind.Kind.TheVariants as kinds
 use Rattle.pytree_node.specs.declared.profiles.Extent.{Extent}
+use Rattle.pytree_node.specs.declared.profiles.Extent.TheVariants.{Whole}
 use Rattle.pytoken.specs.declared.keywords.Keyword.{Keyword}
 use Rattle.pytoken.specs.declared.keywords.Keyword.TheVariants as Key
 use Rattle.pytree_node.specs.Trees.{Identifier, Alias}
@@ -35,6 +36,122 @@ use Rattle.pyunparse_text.proofs.PieceLaws.Shapes.{Plain, keyword, name, plain_n
 use Rattle.pyunparse_text.proofs.PieceLaws.Listings.{perhaps_widen, plain_tail}
 use Rattle.pyunparse_text.proofs.PieceLaws.LineForms.{AreProper, MaybeProper, as_name_are, plain_listed, word_plain}
 
+abbrev told : List Piece → Bool
+told [] = true
+told (p ∷ ps) = all_apart p ps
+
+pub record Later (extent : Extent) (b : List Piece) (ps : List Piece) (ts : List Terminal) : Type 0 where
+  pub pieces : ArePieces ps
+  pub scalars : AreScalar ps
+  pub apart : told ps ≡ true
+  pub begins : begins_by (within b) ps ≡ true
+  pub gives : Give extent ps ts
+  pub balanced : Balanced ps
+
+neat_told : (ps : List Piece) → are_neat ps ≡ true → told ps ≡ true
+neat_told [] e = refl
+neat_told (p ∷ ps) e = neat_apart p ps e
+
+and_both : (a b : Bool) → a ≡ true → b ≡ true → (a && b) ≡ true
+and_both a b e f = rw (e, f) refl
+
+wider : (a b c : Bool) → (a || b) ≡ true → (a || (b || c)) ≡ true
+wider true b c e = refl
+wider false true c e = refl
+wider false false c e = cc
+
+told_both : (f g : Piece → Bool) → ((p q : Piece) → f p ≡ true → g q ≡ true → fit p q ≡ true) → (xs ys : List Piece)
+    → are_neat xs ≡ true → ends_by f xs ≡ true → told ys ≡ true → begins_by g ys ≡ true → told (xs ++ ys) ≡ true
+told_both f g j [] ys a e b s = cc
+told_both f g j (p ∷ []) [] a e b s = cc
+told_both f g j (p ∷ []) (q ∷ ys) a e b s = and_both (not (touches p q) || (stay_apart p q || are_two_points p q ys)) (all_apart q ys) (wider (not (touches p q)) (stay_apart p q) (are_two_points p q ys) (j p q e s)) b
+told_both f g j (p ∷ q ∷ xs) ys a e b s =
+    let h = and_parts (fit p q) (all_fit q xs) a in
+    and_both (not (touches p q) || (stay_apart p q || are_two_points p q (xs ++ ys))) (all_apart q (xs ++ ys)) (wider (not (touches p q)) (stay_apart p q) (are_two_points p q (xs ++ ys)) h.0) (told_both f g j (q ∷ xs) ys h.1 e b s)
+
+readable : (b : List Piece) (ps : List Piece) → ArePieces ps → told ps ≡ true → begins_by (within b) ps ≡ true → are_readable ps ≡ true
+readable b [] a t e = cc
+readable b (p ∷ ps) a t e = and_both (list_all (λ q. is_token q.kind q.text) (p ∷ ps)) (all_apart p ps) a t
+
+-- a name that keeps close to the points before it
+abbrev near_word : Piece
+near_word = record { kind = kinds.Name; text = []; before = true; behind = false }
+
+-- what stands after points
+abbrev behind_points : List Piece
+behind_points = near_word ∷ a_word ∷ []
+
+abbrev ends_near : List Piece
+ends_near = near_word ∷ ends_plain
+
+more_near : (p : Piece) → within ends_plain p ≡ true → within ends_near p ≡ true
+more_near p e = let h = and_parts (is_token p.kind p.text) (is_like ends_plain p) e in let g = late (like near_word p) (is_like ends_plain p) h.1 in rw (h.0, g) refl
+
+word_behind : (p : Piece) → within (a_word ∷ []) p ≡ true → within behind_points p ≡ true
+word_behind p e = let h = and_parts (is_token p.kind p.text) (is_like (a_word ∷ []) p) e in let g = late (like near_word p) (is_like (a_word ∷ []) p) h.1 in rw (h.0, g) refl
+
+-- a text is of one name at least
+record Named (x : Identifier) : Type 0 where
+  first : Identifier
+  others : List Identifier
+  is : names_in x ≡ first ∷ others
+
+longer_named : (c : ℕ) (xs : List Identifier) → (y : Identifier) × (ys : List Identifier) × (lengthen c xs ≡ y ∷ ys)
+longer_named c [] = (c ∷ [], [], refl)
+longer_named c (x ∷ xs) = (c ∷ x, xs, refl)
+
+named : (x : Identifier) → Named x
+named [] = record { first = []; others = []; is = refl }
+named (c ∷ cs) = by (c == 46) refl
+  where
+    by : (b : Bool) → (c == 46) ≡ b → Named (c ∷ cs)
+    by true e = record { first = []; others = names_in cs; is = rw e refl }
+    by false e = let w = longer_named c (names_in cs) in record { first = w.0; others = w.1; is = rw e w.2 }
+
+-- the points of a level begin so
+abbrev point_starts : Bool → List Piece
+point_starts close = piece (Op Dot) close false ∷ piece (Op Ellipsis) close false ∷ []
+
+three_begin : begins_operator (codes "...") ≡ true
+unfolding operators
+three_begin = refl
+
+word_kind : (q : Piece) → is_like behind_points q ≡ true → is_operator_kind q.kind ≡ false
+word_kind q e = by (is_operator_kind q.kind) refl e
+  where
+    by : (b : Bool) → is_operator_kind q.kind ≡ b → is_like behind_points q ≡ true → b ≡ false
+    by false f e = refl
+    by true f e = let g : false ≡ true = rw f at e in absurd (cc)
+
+abbrev second : Piece
+second = piece (Op Dot) true false
+
+two_apart : (close : Bool) (q : Piece) (qs : List Piece) → bytes_eq (take 1 q.text) (codes ".") ≡ false → fit second q ≡ true → all_apart q qs ≡ true → all_apart (piece (Op Dot) close false) (second ∷ q ∷ qs) ≡ true
+two_apart close q qs n f a =
+    let p : Piece = piece (Op Dot) close false in
+    let t : are_two_points p second (q ∷ qs) ≡ true = rw n (none (touches second q)) in
+    and_both (not (touches p second) || (stay_apart p second || are_two_points p second (q ∷ qs))) (all_apart second (q ∷ qs))
+    (late (not (touches p second)) (stay_apart p second || are_two_points p second (q ∷ qs)) (late (stay_apart p second) (are_two_points p second (q ∷ qs)) t))
+    (and_both (not (touches second q) || (stay_apart second q || are_two_points second q qs)) (all_apart q qs) (wider (not (touches second q)) (stay_apart second q) (are_two_points second q qs) f) a)
+  where
+    none : (b : Bool) → not (b && false) ≡ true
+    none true = refl
+    none false = refl
+
+one_suit : (close : Bool) → suit (point_starts close) behind_points ≡ true
+unfolding operators
+one_suit close = refl
+
+-- by whether there are any
+abbrev level_starts : Bool → ℕ → List Piece
+level_starts close zero = behind_points
+level_starts close (suc n) = point_starts close
+
+three_suit : (close : Bool) (n : ℕ) → suit (piece (Op Ellipsis) close false ∷ []) (level_starts true n) ≡ true
+unfolding operators
+three_suit close zero = refl
+three_suit close (suc n) = refl
+
 abbrev pub SoundNames : List Alias → Type 0
 SoundNames [] = Unit {0}
 SoundNames (a ∷ names) = IsProper a.name × MaybeProper a.asname × SoundNames names
@@ -44,30 +161,29 @@ abbrev pub SoundUnless : Bool → List Alias → Type 0
 SoundUnless true names = Unit {0}
 SoundUnless false names = SoundNames names
 
+abbrev ends_import : List Piece
+ends_import = free piece (Op Star) ∷ ends_plain
+
+more_import : (p : Piece) → within ends_plain p ≡ true → within ends_import p ≡ true
+more_import p e = let h = and_parts (is_token p.kind p.text) (is_like ends_plain p) e in let g = late (like (free piece (Op Star)) p) (is_like ends_plain p) h.1 in rw (h.0, g) refl
+
 abbrev pub SoundAliases : List Alias → Type 0
 SoundAliases [] = Unit {0}
 SoundAliases (a ∷ names) = AreProper (names_in a.name) × MaybeProper a.asname × SoundAliases names
 
+-- after points
+abbrev pub SoundModule : Option Identifier → Type 0
+SoundModule None = Unit {0}
+SoundModule (Some x) = AreProper (names_in x)
+
+level_suit : suit ends_plain (point_starts false) ≡ true
+unfolding operators
+level_suit = refl
+
 module _ {extent : Extent} where
   -- ---- Pieces that are told apart, though two points may be among them.
 
-  abbrev told : List Piece → Bool
-  told [] = true
-  told (p ∷ ps) = all_apart p ps
-
-  pub record Later (b : List Piece) (ps : List Piece) (ts : List Terminal) : Type 0 where
-    pub pieces : ArePieces ps
-    pub scalars : AreScalar ps
-    pub apart : told ps ≡ true
-    pub begins : begins_by (within b) ps ≡ true
-    pub gives : Give extent ps ts
-    pub balanced : Balanced ps
-
-  neat_told : (ps : List Piece) → are_neat ps ≡ true → told ps ≡ true
-  neat_told [] e = refl
-  neat_told (p ∷ ps) e = neat_apart p ps e
-
-  pub later : {b e : List Piece} {ps : List Piece} {ts : List Terminal} → Closed extent b e ps ts → Later b ps ts
+  pub later : {b e : List Piece} {ps : List Piece} {ts : List Terminal} → Closed extent b e ps ts → Later extent b ps ts
   later {ps = ps} x = record {
     pieces = x.segment.form.pieces;
     scalars = x.segment.form.scalars;
@@ -77,24 +193,7 @@ module _ {extent : Extent} where
     balanced = x.balanced;
   }
 
-  and_both : (a b : Bool) → a ≡ true → b ≡ true → (a && b) ≡ true
-  and_both a b e f = rw (e, f) refl
-
-  wider : (a b c : Bool) → (a || b) ≡ true → (a || (b || c)) ≡ true
-  wider true b c e = refl
-  wider false true c e = refl
-  wider false false c e = cc
-
-  told_both : (f g : Piece → Bool) → ((p q : Piece) → f p ≡ true → g q ≡ true → fit p q ≡ true) → (xs ys : List Piece)
-      → are_neat xs ≡ true → ends_by f xs ≡ true → told ys ≡ true → begins_by g ys ≡ true → told (xs ++ ys) ≡ true
-  told_both f g j [] ys a e b s = cc
-  told_both f g j (p ∷ []) [] a e b s = cc
-  told_both f g j (p ∷ []) (q ∷ ys) a e b s = and_both (not (touches p q) || (stay_apart p q || are_two_points p q ys)) (all_apart q ys) (wider (not (touches p q)) (stay_apart p q) (are_two_points p q ys) (j p q e s)) b
-  told_both f g j (p ∷ q ∷ xs) ys a e b s =
-      let h = and_parts (fit p q) (all_fit q xs) a in
-      and_both (not (touches p q) || (stay_apart p q || are_two_points p q (xs ++ ys))) (all_apart q (xs ++ ys)) (wider (not (touches p q)) (stay_apart p q) (are_two_points p q (xs ++ ys)) h.0) (told_both f g j (q ∷ xs) ys h.1 e b s)
-
-  pub join_later : {a b c : List Piece} {xs ys : List Piece} {ts us : List Terminal} → Closed extent a b xs ts → Later c ys us → suit b c ≡ true → Later a (xs ++ ys) (ts ++ us)
+  pub join_later : {a b c : List Piece} {xs ys : List Piece} {ts us : List Terminal} → Closed extent a b xs ts → Later extent c ys us → suit b c ≡ true → Later extent a (xs ++ ys) (ts ++ us)
   join_later {a} {b} {c} {xs} {ys} x y s =
       let f = x.segment.form in
       record {
@@ -106,11 +205,7 @@ module _ {extent : Extent} where
         balanced = balanced_both xs ys x.balanced y.balanced;
       }
 
-  readable : (b : List Piece) (ps : List Piece) → ArePieces ps → told ps ≡ true → begins_by (within b) ps ≡ true → are_readable ps ≡ true
-  readable b [] a t e = cc
-  readable b (p ∷ ps) a t e = and_both (list_all (λ q. is_token q.kind q.text) (p ∷ ps)) (all_apart p ps) a t
-
-  pub later_read : {b : List Piece} {ps : List Piece} {ts : List Terminal} → Later b ps ts → AreRead extent ps ts
+  pub later_read : {b : List Piece} {ps : List Piece} {ts : List Terminal} → Later extent b ps ts → AreRead extent ps ts
   later_read {b} {ps} x = record {
     give = x.gives;
     line = λ n.
@@ -122,28 +217,11 @@ module _ {extent : Extent} where
 
   -- ---- Names with points between.
 
-  -- a name that keeps close to the points before it
-  abbrev near_word : Piece
-  near_word = record { kind = kinds.Name; text = []; before = true; behind = false }
-
-  -- what stands after points
-  abbrev behind_points : List Piece
-  behind_points = near_word ∷ a_word ∷ []
-
-  abbrev ends_near : List Piece
-  ends_near = near_word ∷ ends_plain
-
-  more_near : (p : Piece) → within ends_plain p ≡ true → within ends_near p ≡ true
-  more_near p e = let h = and_parts (is_token p.kind p.text) (is_like ends_plain p) e in let g = late (like near_word p) (is_like ends_plain p) h.1 in rw (h.0, g) refl
-
   near_name : (x : Identifier) → IsProper x → Closed extent behind_points ends_near (piece (in_form x) true false ∷ []) (terminal (in_form x) true false ∷ [])
   near_name x h = token behind_points ends_near (in_form x) true false (fair_name x h) refl refl refl refl
 
   first_word : (k : Keyword) → Closed extent (a_word ∷ []) ends_plain (word piece k ∷ []) (word terminal k ∷ [])
   first_word k = token (a_word ∷ []) ends_plain (Word k) false false (fair_word k) refl refl refl refl
-
-  word_behind : (p : Piece) → within (a_word ∷ []) p ≡ true → within behind_points p ≡ true
-  word_behind p e = let h = and_parts (is_token p.kind p.text) (is_like (a_word ∷ []) p) e in let g = late (like near_word p) (is_like (a_word ∷ []) p) h.1 in rw (h.0, g) refl
 
   point : Closed extent (tight piece Dot ∷ []) (tight piece Dot ∷ []) (tight piece Dot ∷ []) (tight terminal Dot ∷ [])
   point = sign (tight piece Dot ∷ []) (tight piece Dot ∷ []) Dot true true refl refl refl
@@ -161,24 +239,6 @@ module _ {extent : Extent} where
   unfolding operators
   near_names x xs h = tail (near_name x h.0) (perhaps_widen {c = tight piece Dot ∷ []} (λ p e. e) more_near (rest_are xs h.1)) refl
 
-  -- a text is of one name at least
-  record Named (x : Identifier) : Type 0 where
-    first : Identifier
-    others : List Identifier
-    is : names_in x ≡ first ∷ others
-
-  longer_named : (c : ℕ) (xs : List Identifier) → (y : Identifier) × (ys : List Identifier) × (lengthen c xs ≡ y ∷ ys)
-  longer_named c [] = (c ∷ [], [], refl)
-  longer_named c (x ∷ xs) = (c ∷ x, xs, refl)
-
-  named : (x : Identifier) → Named x
-  named [] = record { first = []; others = []; is = refl }
-  named (c ∷ cs) = by (c == 46) refl
-    where
-      by : (b : Bool) → (c == 46) ≡ b → Named (c ∷ cs)
-      by true e = record { first = []; others = names_in cs; is = rw e refl }
-      by false e = let w = longer_named c (names_in cs) in record { first = w.0; others = w.1; is = rw e w.2 }
-
   pub dotted_plain : (x : Identifier) → AreProper (names_in x) → Plain extent (S.dotted piece false x) (S.dotted terminal false x)
   dotted_plain x h = let w = named x in subst (λ xs. Plain extent (S.dotted_names piece false xs) (S.dotted_names terminal false xs)) (sym w.is) (plain_names w.first w.others (subst AreProper w.is h))
 
@@ -186,10 +246,6 @@ module _ {extent : Extent} where
   dotted_near x h = let w = named x in subst (λ xs. Closed extent behind_points ends_near (S.dotted_names piece true xs) (S.dotted_names terminal true xs)) (sym w.is) (near_names w.first w.others (subst AreProper w.is h))
 
   -- ---- Points.
-
-  -- the points of a level begin so
-  abbrev point_starts : Bool → List Piece
-  point_starts close = piece (Op Dot) close false ∷ piece (Op Ellipsis) close false ∷ []
 
   one_point : (close : Bool) → Closed extent (point_starts close) (point_starts close) (piece (Op Dot) close false ∷ []) (Op Dot ∷ [])
   one_point true = sign (point_starts true) (point_starts true) Dot true false refl refl refl
@@ -199,59 +255,30 @@ module _ {extent : Extent} where
   three_points true = sign (point_starts true) (piece (Op Ellipsis) true false ∷ []) Ellipsis true false refl refl refl
   three_points false = sign (point_starts false) (piece (Op Ellipsis) false false ∷ []) Ellipsis false false refl refl refl
 
-  three_begin : begins_operator (codes "...") ≡ true
-  unfolding operators
-  three_begin = refl
+-- no word begins with a point
+first_is : (q : Piece) → is_token q.kind q.text ≡ true → is_operator_kind q.kind ≡ false → bytes_eq (take 1 q.text) (codes ".") ≡ false
+first_is q t o = by (bytes_eq (take 1 q.text) (codes ".")) refl
+  where
+    by : (b : Bool) → bytes_eq (take 1 q.text) (codes ".") ≡ b → b ≡ false
+    by false e = refl
+    by true e =
+        let f : take 1 q.text ≡ codes "." = (bytes_eq-Decides (take 1 q.text) (codes ".")).0 e in
+        let g : begins_operator (codes ".." ++ codes ".") ≡ false = subst (λ (u : List ℕ). begins_operator (codes ".." ++ u) ≡ false) f (plain_head q.kind (codes "..") q.text t o) in
+        let z : true ≡ false = sym three_begin ∙ g in
+        absurd (cc)
 
-  -- no word begins with a point
-  first_is : (q : Piece) → is_token q.kind q.text ≡ true → is_operator_kind q.kind ≡ false → bytes_eq (take 1 q.text) (codes ".") ≡ false
-  first_is q t o = by (bytes_eq (take 1 q.text) (codes ".")) refl
-    where
-      by : (b : Bool) → bytes_eq (take 1 q.text) (codes ".") ≡ b → b ≡ false
-      by false e = refl
-      by true e =
-          let f : take 1 q.text ≡ codes "." = (bytes_eq-Decides (take 1 q.text) (codes ".")).0 e in
-          let g : begins_operator (codes ".." ++ codes ".") ≡ false = subst (λ (u : List ℕ). begins_operator (codes ".." ++ u) ≡ false) f (plain_head q.kind (codes "..") q.text t o) in
-          let z : true ≡ false = sym three_begin ∙ g in
-          absurd (cc)
+not_point : (q : Piece) → within behind_points q ≡ true → bytes_eq (take 1 q.text) (codes ".") ≡ false
+not_point q e = let h = and_parts (is_token q.kind q.text) (is_like behind_points q) e in first_is q h.0 (word_kind q h.1)
 
-  word_kind : (q : Piece) → is_like behind_points q ≡ true → is_operator_kind q.kind ≡ false
-  word_kind q e = by (is_operator_kind q.kind) refl e
-    where
-      by : (b : Bool) → is_operator_kind q.kind ≡ b → is_like behind_points q ≡ true → b ≡ false
-      by false f e = refl
-      by true f e = let g : false ≡ true = rw f at e in absurd (cc)
+both_told : (close : Bool) (ys : List Piece) → begins_by (within behind_points) ys ≡ true → told ys ≡ true → all_apart (piece (Op Dot) close false) (second ∷ ys) ≡ true
+both_told close [] b t = cc
+both_told close (q ∷ qs) b t =
+    let d = one_point {extent = Whole} true in
+    let f : fit second q ≡ true = sorts_fit (point_starts true) behind_points (one_suit true) second q d.segment.form.ends b in
+    two_apart close q qs (not_point q b) f t
 
-  not_point : (q : Piece) → within behind_points q ≡ true → bytes_eq (take 1 q.text) (codes ".") ≡ false
-  not_point q e = let h = and_parts (is_token q.kind q.text) (is_like behind_points q) e in first_is q h.0 (word_kind q h.1)
-
-  abbrev second : Piece
-  second = piece (Op Dot) true false
-
-  two_apart : (close : Bool) (q : Piece) (qs : List Piece) → bytes_eq (take 1 q.text) (codes ".") ≡ false → fit second q ≡ true → all_apart q qs ≡ true → all_apart (piece (Op Dot) close false) (second ∷ q ∷ qs) ≡ true
-  two_apart close q qs n f a =
-      let p : Piece = piece (Op Dot) close false in
-      let t : are_two_points p second (q ∷ qs) ≡ true = rw n (none (touches second q)) in
-      and_both (not (touches p second) || (stay_apart p second || are_two_points p second (q ∷ qs))) (all_apart second (q ∷ qs))
-      (late (not (touches p second)) (stay_apart p second || are_two_points p second (q ∷ qs)) (late (stay_apart p second) (are_two_points p second (q ∷ qs)) t))
-      (and_both (not (touches second q) || (stay_apart second q || are_two_points second q qs)) (all_apart q qs) (wider (not (touches second q)) (stay_apart second q) (are_two_points second q qs) f) a)
-    where
-      none : (b : Bool) → not (b && false) ≡ true
-      none true = refl
-      none false = refl
-
-  one_suit : (close : Bool) → suit (point_starts close) behind_points ≡ true
-  unfolding operators
-  one_suit close = refl
-
-  both_told : (close : Bool) (ys : List Piece) → begins_by (within behind_points) ys ≡ true → told ys ≡ true → all_apart (piece (Op Dot) close false) (second ∷ ys) ≡ true
-  both_told close [] b t = cc
-  both_told close (q ∷ qs) b t =
-      let d = one_point true in
-      let f : fit second q ≡ true = sorts_fit (point_starts true) behind_points (one_suit true) second q d.segment.form.ends b in
-      two_apart close q qs (not_point q b) f t
-
-  two_points : (close : Bool) {ys : List Piece} {us : List Terminal} → Later behind_points ys us → Later (point_starts close) (piece (Op Dot) close false ∷ (second ∷ ys)) (Op Dot ∷ (Op Dot ∷ us))
+module _ {extent : Extent} where
+  two_points : (close : Bool) {ys : List Piece} {us : List Terminal} → Later extent behind_points ys us → Later extent (point_starts close) (piece (Op Dot) close false ∷ (second ∷ ys)) (Op Dot ∷ (Op Dot ∷ us))
   two_points close {ys} y =
       let x = one_point close in
       let z = join_later (one_point true) y (one_suit true) in
@@ -265,17 +292,7 @@ module _ {extent : Extent} where
         balanced = balanced_both (piece (Op Dot) close false ∷ []) (second ∷ ys) x.balanced z.balanced;
       }
 
-  -- by whether there are any
-  abbrev level_starts : Bool → ℕ → List Piece
-  level_starts close zero = behind_points
-  level_starts close (suc n) = point_starts close
-
-  three_suit : (close : Bool) (n : ℕ) → suit (piece (Op Ellipsis) close false ∷ []) (level_starts true n) ≡ true
-  unfolding operators
-  three_suit close zero = refl
-  three_suit close (suc n) = refl
-
-  points_before : (close : Bool) (n : ℕ) {ys : List Piece} {us : List Terminal} → Later behind_points ys us → Later (level_starts close n) (S.point_signs piece close (S.points n) ++ ys) (S.point_signs terminal close (S.points n) ++ us)
+  points_before : (close : Bool) (n : ℕ) {ys : List Piece} {us : List Terminal} → Later extent behind_points ys us → Later extent (level_starts close n) (S.point_signs piece close (S.points n) ++ ys) (S.point_signs terminal close (S.points n) ++ us)
   points_before close zero y = y
   points_before close (suc zero) y = join_later (one_point close) y (one_suit close)
   points_before close (suc (suc zero)) y = two_points close y
@@ -286,12 +303,6 @@ module _ {extent : Extent} where
   names_each : (names : List Alias) → SoundNames names → Each extent starts_plain ends_plain (map (S.name_alias piece) names) (map (S.name_alias terminal) names)
   names_each [] h = none
   names_each (a ∷ names) h = more (plain_tail (plain_name a.name h.0) (as_name_are a.asname h.1)) (names_each names h.2)
-
-  abbrev ends_import : List Piece
-  ends_import = free piece (Op Star) ∷ ends_plain
-
-  more_import : (p : Piece) → within ends_plain p ≡ true → within ends_import p ≡ true
-  more_import p e = let h = and_parts (is_token p.kind p.text) (is_like ends_plain p) e in let g = late (like (free piece (Op Star)) p) (is_like ends_plain p) h.1 in rw (h.0, g) refl
 
   imported_are : (names : List Alias) → SoundUnless (S.are_all names) names → Closed extent (a_word ∷ []) ends_import (word piece Key.Import ∷ S.imported piece names) (word terminal Key.Import ∷ S.imported terminal names)
   unfolding operators
@@ -315,21 +326,12 @@ module _ {extent : Extent} where
   unfolding operators
   from_plain x names h i = join (keyword Key.From) (join (dotted_plain x h) (imported_are names i) refl) refl
 
-  -- after points
-  abbrev pub SoundModule : Option Identifier → Type 0
-  SoundModule None = Unit {0}
-  SoundModule (Some x) = AreProper (names_in x)
-
   module_are : (m : Option Identifier) (names : List Alias) → SoundModule m → SoundUnless (S.are_all names) names
-      → Later behind_points (S.module_name piece true m ++ (word piece Key.Import ∷ S.imported piece names)) (S.module_name terminal true m ++ (word terminal Key.Import ∷ S.imported terminal names))
+      → Later extent behind_points (S.module_name piece true m ++ (word piece Key.Import ∷ S.imported piece names)) (S.module_name terminal true m ++ (word terminal Key.Import ∷ S.imported terminal names))
   unfolding operators
   module_are None names h i = later (widen {d = ends_import} word_behind (λ p e. e) (imported_are names i))
   module_are (Some x) names h i = later (join (dotted_near x h) (imported_are names i) refl)
 
-  level_suit : suit ends_plain (point_starts false) ≡ true
-  unfolding operators
-  level_suit = refl
-
   pub from_points : (n : ℕ) (m : Option Identifier) (names : List Alias) → SoundModule m → SoundUnless (S.are_all names) names
-      → Later starts_plain (word piece Key.From ∷ (S.point_signs piece false (S.points (suc n)) ++ (S.module_name piece true m ++ (word piece Key.Import ∷ S.imported piece names)))) (word terminal Key.From ∷ (S.point_signs terminal false (S.points (suc n)) ++ (S.module_name terminal true m ++ (word terminal Key.Import ∷ S.imported terminal names))))
+      → Later extent starts_plain (word piece Key.From ∷ (S.point_signs piece false (S.points (suc n)) ++ (S.module_name piece true m ++ (word piece Key.Import ∷ S.imported piece names)))) (word terminal Key.From ∷ (S.point_signs terminal false (S.points (suc n)) ++ (S.module_name terminal true m ++ (word terminal Key.Import ∷ S.imported terminal names))))
   from_points n m names h i = join_later (keyword Key.From) (points_before false (suc n) (module_are m names h i)) level_suit

@@ -40,4 +40,4 @@ module _ {extent : Extent} where
       all (t ∷ ts) h = All-cons (Sayable extent) t ts (of_token (All-head (IsOfToken extent) t ts h)) (all ts (All-tail (IsOfToken extent) t ts h))
 
 pub expressions_read : ExpressionsAreRead
-expressions_read extent l ts e h p = closed_read (readable true l e (starred (star_place l) e (sound p (of_tokens ts h))))
+expressions_read extent l ts e h p = closed_read (readable true l e (starred extent (star_place l) e (sound extent p (of_tokens ts h))))

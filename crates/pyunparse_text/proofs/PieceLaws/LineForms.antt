@@ -51,6 +51,21 @@ abbrev pub AreProper : List Identifier → Type 0
 AreProper [] = Unit {0}
 AreProper (x ∷ xs) = IsProper x × AreProper xs
 
+sign_none : (o : Operator) → is_bracket (S.augmented_sign o) ≡ false
+sign_none Bin.Add = refl
+sign_none Bin.Sub = refl
+sign_none Bin.Mult = refl
+sign_none Bin.MatMult = refl
+sign_none Bin.Div = refl
+sign_none Bin.Mod = refl
+sign_none Bin.Pow = refl
+sign_none Bin.LShift = refl
+sign_none Bin.RShift = refl
+sign_none Bin.BitOr = refl
+sign_none Bin.BitXor = refl
+sign_none Bin.BitAnd = refl
+sign_none Bin.FloorDiv = refl
+
 abbrev pub SoundType : Extent → TypeParam → Type 0
 SoundType extent (TypeVar x bound) = IsProper x × SoundOption extent false bound
 SoundType extent (TypeVarTuple x) = IsProper x
@@ -139,21 +154,6 @@ module _ {extent : Extent} where
       let f = append_assoc (written piece Stars t) (free piece (Op Equal) ∷ S.targets piece ts) (written piece Value e) in
       let g = append_assoc (written terminal Stars t) (free terminal (Op Equal) ∷ S.targets terminal ts) (written terminal Value e) in
       rw (f, g) (loose_between Equal refl (readable true Stars t h.0) (assign_are ts e h.1 i))
-
-  sign_none : (o : Operator) → is_bracket (S.augmented_sign o) ≡ false
-  sign_none Bin.Add = refl
-  sign_none Bin.Sub = refl
-  sign_none Bin.Mult = refl
-  sign_none Bin.MatMult = refl
-  sign_none Bin.Div = refl
-  sign_none Bin.Mod = refl
-  sign_none Bin.Pow = refl
-  sign_none Bin.LShift = refl
-  sign_none Bin.RShift = refl
-  sign_none Bin.BitOr = refl
-  sign_none Bin.BitXor = refl
-  sign_none Bin.BitAnd = refl
-  sign_none Bin.FloorDiv = refl
 
   pub augment_are : (t : Expr) (o : Operator) (e : Expr) → Sound extent false t → Sound extent true e → Valued extent (written piece Primary t ++ (free piece (Op (S.augmented_sign o)) ∷ written piece Value e)) (written terminal Primary t ++ (free terminal (Op (S.augmented_sign o)) ∷ written terminal Value e))
   augment_are t o e h i = loose_between (S.augmented_sign o) (sign_none o) (valued (readable false Primary t h)) (readable true Value e i)

@@ -41,23 +41,71 @@ use Rattle.pyunparse_text.proofs.PieceLaws.LineForms.{SoundOption, MaybeProper, 
 use Rattle.pyunparse_text.proofs.PieceLaws.Imports.{later_read, SoundNames, SoundUnless, SoundAliases, import_are, from_plain, from_points}
 use Rattle.pyunparse_text.proofs.PieceLaws.HeaderForms.{SoundItems, SoundHeader}
 
-module _ {extent : Extent} where
+not_point : (c : ℕ) → is_xid_continue c ≡ true → (c == 46) ≡ false
+not_point c h = by (c == 46) refl
+  where
+    by : (b : Bool) → (c == 46) ≡ b → b ≡ false
+    by false e = refl
+    by true e = let z : is_xid_continue 46 ≡ true = subst (λ (x : ℕ). is_xid_continue x ≡ true) (eqb-true c 46 e) h in let y = is_xid_continue-ascii 46 (omega arith) in absurd (cc)
+
+abbrev pointless : List ℕ → Bool
+pointless t = list_all is_xid_continue t
+
+name_pointless : (t : List ℕ) → is_name t ≡ true → pointless t ≡ true
+unfolding is_name
+name_pointless [] h = refl
+name_pointless (c ∷ cs) h = let w = and_parts (starts_name c) (list_all is_xid_continue cs) h in let s = start_continues c w.0 in rw (s, w.1) refl
+
+one_in : (t : List ℕ) → pointless t ≡ true → names_in t ≡ t ∷ []
+one_in [] h = refl
+one_in (c ∷ cs) h = let w = and_parts (is_xid_continue c) (pointless cs) h in let n = not_point c w.0 in let r = one_in cs w.1 in rw (n, r) refl
+
+names_behind : (t y : List ℕ) → pointless t ≡ true → names_in (t ++ (46 ∷ y)) ≡ t ∷ names_in y
+names_behind [] y h = refl
+names_behind (c ∷ cs) y h = let w = and_parts (is_xid_continue c) (pointless cs) h in let n = not_point c w.0 in let r = names_behind cs y w.1 in rw (n, r) refl
+
+abbrev SoundAlias : Alias → Type 0
+SoundAlias a = AreProper (names_in a.name) × MaybeProper a.asname
+
+abbrev SoundName : Alias → Type 0
+SoundName a = IsProper a.name × MaybeProper a.asname
+
+unless : (b : Bool) (as_ : List Alias) → SoundNames as_ → SoundUnless b as_
+unless true as_ h = tt
+unless false as_ h = h
+
+exprs_listed : (z : Exprs) → exprs (F.listed z) ≡ z
+exprs_listed no_exprs = refl
+exprs_listed (an_expr e z) = ap (an_expr e) (exprs_listed z)
+
+-- ---- Lists with commas.
+
+module _ {extent : Extent} (A : Type 0) (X : List Terminal → A → Type 0) (P : A → Type 0) (Q : List A → Type 0) (none : Q []) (more : (a : A) (as_ : List A) → P a → Q as_ → Q (a ∷ as_)) (one : (ts : List Terminal) (a : A) → X ts a → Said extent ts → P a) where
+  commas_said : {ts : List Terminal} {as_ : List A} → F.Commas A X ts as_ → Said extent ts → Q as_
+  commas_said (F.alone {ts = ts} {a = a} p) h = more a [] (one ts a p h) none
+  commas_said (F.comma {ts = ts} {us = us} {a = a} {as_ = as_} p c) h = more a as_ (one ts a p (front ts (Op Sign.Comma ∷ us) h)) (commas_said c (behind ts us (Op Sign.Comma) h))
+
+  last_said : {ts : List Terminal} {as_ : List A} → F.Commas? A X ts as_ → Said extent ts → Q as_
+  last_said (F.ends_bare c) h = commas_said c h
+  last_said (F.ends_comma {ts = ts} c) h = commas_said c (front ts (Op Sign.Comma ∷ []) h)
+
+module _ (extent : Extent) where
   -- ---- Expressions.
 
   perhaps_said : {l : Level} {ts : List Terminal} {e : Option Expr} → F.Perhaps l ts e → Said extent ts → SoundOption extent (star_place l) e
   perhaps_said F.left_out h = tt
-  perhaps_said (F.given p) h = sound p h
+  perhaps_said (F.given p) h = sound extent p h
 
   behind_said : {t : Terminal} {l : Level} {ts : List Terminal} {e : Option Expr} → F.Behind t l ts e → Said extent ts → SoundOption extent (star_place l) e
   behind_said F.none_behind h = tt
-  behind_said (F.behind p) h = sound p (rest h)
+  behind_said (F.behind p) h = sound extent p (rest h)
 
   as_said : {ts : List Terminal} {x : Option Identifier} → F.As ts x → Said extent ts → MaybeProper x
   as_said F.no_as h = tt
   as_said F.as_name h = first (rest h)
 
   target_said : {ts : List Terminal} {s : Expr} → G.Target ts s → Said extent ts → Sound extent true s
-  target_said (G.target {e = e} {s = s} p q) h = stored_sound true e s q (sound p h)
+  target_said (G.target {e = e} {s = s} p q) h = stored_sound extent true e s q (sound extent p h)
 
   single_stored_sound : (e s : Expr) → single_stored e ≡ Some s → Sound extent false e → Sound extent false s
   single_stored_sound (Trees.Name x c) s q h = given (Sound extent false) q h
@@ -66,7 +114,7 @@ module _ {extent : Extent} where
   single_stored_sound _ s q h = absurd (cc)
 
   single_said : {ts : List Terminal} {s : Expr} → G.SingleTarget ts s → Said extent ts → Sound extent false s
-  single_said (G.single_target {e = e} {s = s} p q) h = single_stored_sound e s q (sound p h)
+  single_said (G.single_target {e = e} {s = s} p q) h = single_stored_sound e s q (sound extent p h)
 
   -- a target of `del` is no Starred, nor is a member of one
   mutual
@@ -80,27 +128,15 @@ module _ {extent : Extent} where
 
     all_deleted_sound : (es fs : Exprs) → all_deleted es ≡ Some fs → AreSound extent true es → AreSound extent true fs
     all_deleted_sound no_exprs fs q h = given (AreSound extent true) q h
-    all_deleted_sound (an_expr e es) fs q h = let w = both_is (deleted e) (all_deleted es) fs q in subst (AreSound extent true) w.4 (starred false w.0 (deleted_sound true e w.0 w.2 h.0), all_deleted_sound es w.1 w.3 h.1)
+    all_deleted_sound (an_expr e es) fs q h = let w = both_is (deleted e) (all_deleted es) fs q in subst (AreSound extent true) w.4 (starred extent false w.0 (deleted_sound true e w.0 w.2 h.0), all_deleted_sound es w.1 w.3 h.1)
 
   del_said : (ts : List Terminal) (s : Expr) → G.DelTarget ts s → Said extent ts → Sound extent false s
-  del_said _ _ (G.del_target {e = e} {s = s} p q) h = deleted_sound false e s q (sound p h)
+  del_said _ _ (G.del_target {e = e} {s = s} p q) h = deleted_sound false e s q (sound extent p h)
 
   item_target_said : {ts : List Terminal} {s : Expr} → G.ItemTarget ts s → Said extent ts → Sound extent true s
-  item_target_said (G.item_target {e = e} {s = s} p q) h = stored_sound true e s q (starred false e (sound p h))
-  item_target_said (G.star_target {e = e} {s = s} p q) h = stored_sound true (Trees.Starred e Load) s q (refl, sound p (rest h))
+  item_target_said (G.item_target {e = e} {s = s} p q) h = stored_sound extent true e s q (starred extent false e (sound extent p h))
+  item_target_said (G.star_target {e = e} {s = s} p q) h = stored_sound extent true (Trees.Starred e Load) s q (refl, sound extent p (rest h))
 
--- ---- Lists with commas.
-
-module _ {extent : Extent} (A : Type 0) (X : List Terminal → A → Type 0) (P : A → Type 0) (Q : List A → Type 0) (none : Q []) (more : (a : A) (as_ : List A) → P a → Q as_ → Q (a ∷ as_)) (one : (ts : List Terminal) (a : A) → X ts a → Said extent ts → P a) where
-  commas_said : {ts : List Terminal} {as_ : List A} → F.Commas A X ts as_ → Said extent ts → Q as_
-  commas_said (F.alone {ts = ts} {a = a} p) h = more a [] (one ts a p h) none
-  commas_said (F.comma {ts = ts} {us = us} {a = a} {as_ = as_} p c) h = more a as_ (one ts a p (front ts (Op Sign.Comma ∷ us) h)) (commas_said c (behind ts us (Op Sign.Comma) h))
-
-  last_said : {ts : List Terminal} {as_ : List A} → F.Commas? A X ts as_ → Said extent ts → Q as_
-  last_said (F.ends_bare c) h = commas_said c h
-  last_said (F.ends_comma {ts = ts} c) h = commas_said c (front ts (Op Sign.Comma ∷ []) h)
-
-module _ {extent : Extent} where
   name_said : (ts : List Terminal) (x : Identifier) → F.Name ts x → Said extent ts → IsProper x
   name_said _ _ F.name h = first h
 
@@ -121,35 +157,9 @@ module _ {extent : Extent} where
 
   -- ---- Imports. No name has a point in it.
 
-  not_point : (c : ℕ) → is_xid_continue c ≡ true → (c == 46) ≡ false
-  not_point c h = by (c == 46) refl
-    where
-      by : (b : Bool) → (c == 46) ≡ b → b ≡ false
-      by false e = refl
-      by true e = let z : is_xid_continue 46 ≡ true = subst (λ (x : ℕ). is_xid_continue x ≡ true) (eqb-true c 46 e) h in let y = is_xid_continue-ascii 46 (omega arith) in absurd (cc)
-
-  abbrev pointless : List ℕ → Bool
-  pointless t = list_all is_xid_continue t
-
-  name_pointless : (t : List ℕ) → is_name t ≡ true → pointless t ≡ true
-  unfolding is_name
-  name_pointless [] h = refl
-  name_pointless (c ∷ cs) h = let w = and_parts (starts_name c) (list_all is_xid_continue cs) h in let s = start_continues c w.0 in rw (s, w.1) refl
-
-  one_in : (t : List ℕ) → pointless t ≡ true → names_in t ≡ t ∷ []
-  one_in [] h = refl
-  one_in (c ∷ cs) h = let w = and_parts (is_xid_continue c) (pointless cs) h in let n = not_point c w.0 in let r = one_in cs w.1 in rw (n, r) refl
-
-  names_behind : (t y : List ℕ) → pointless t ≡ true → names_in (t ++ (46 ∷ y)) ≡ t ∷ names_in y
-  names_behind [] y h = refl
-  names_behind (c ∷ cs) y h = let w = and_parts (is_xid_continue c) (pointless cs) h in let n = not_point c w.0 in let r = names_behind cs y w.1 in rw (n, r) refl
-
   dotted_said : {ts : List Terminal} {x : Identifier} → F.Dotted ts x → Said extent ts → AreProper (names_in x)
   dotted_said (F.one_name {x = x}) h = let p : IsProper x.form = first h in subst AreProper (sym (one_in x.form (name_pointless x.form p.name))) (p, tt)
   dotted_said (F.dot_name {x = x} {y = y} d) h = let p : IsProper x.form = first h in subst AreProper (sym (names_behind x.form y (name_pointless x.form p.name))) (p, dotted_said d (rest (rest h)))
-
-  abbrev SoundAlias : Alias → Type 0
-  SoundAlias a = AreProper (names_in a.name) × MaybeProper a.asname
 
   dotted_alias_said : (ts : List Terminal) (a : Alias) → F.DottedAlias ts a → Said extent ts → SoundAlias a
   dotted_alias_said _ _ (F.dotted_as {ts = ts} {us = us} p q) h = (dotted_said p (front ts us h), as_said q (back ts us h))
@@ -157,15 +167,8 @@ module _ {extent : Extent} where
   aliases_said : {ts : List Terminal} {as_ : List Alias} → F.Commas Alias F.DottedAlias ts as_ → Said extent ts → SoundAliases as_
   aliases_said c h = commas_said Alias F.DottedAlias SoundAlias SoundAliases tt (λ a as_ p q. (p.0, p.1, q)) dotted_alias_said c h
 
-  abbrev SoundName : Alias → Type 0
-  SoundName a = IsProper a.name × MaybeProper a.asname
-
   name_alias_said : (ts : List Terminal) (a : Alias) → F.NameAlias ts a → Said extent ts → SoundName a
   name_alias_said _ _ (F.name_as q) h = (first h, as_said q (rest h))
-
-  unless : (b : Bool) (as_ : List Alias) → SoundNames as_ → SoundUnless b as_
-  unless true as_ h = tt
-  unless false as_ h = h
 
   imported_said : {ts : List Terminal} {as_ : List Alias} → F.Names ts as_ → Said extent ts → SoundUnless (S.are_all as_) as_
   imported_said F.all_names h = tt
@@ -187,25 +190,25 @@ module _ {extent : Extent} where
   targets_said (F.more_targets {ts = ts} {us = us} p c) h = (target_said p (front ts (Op Sign.Equal ∷ us) h), targets_said c (behind ts us (Op Sign.Equal) h))
 
   pub simple_read : {profile : Profile} {ts : List Terminal} {s : Stmt} → F.Simple profile ts s → Said extent ts → AreRead extent (S.simple_tokens piece s) (S.simple_tokens terminal s)
-  simple_read (F.value {e = e} p) h = closed_read (readable true Value e (sound p h))
-  simple_read (F.assign {ts = ts} {us = us} {targets = targets} {e = e} c p) h = closed_read (assign_are targets e (targets_said c (front ts us h)) (sound p (back ts us h)))
-  simple_read (F.augmented_assign {ts = ts} {us = us} x {o = o} {t = t} {e = e} p q r) h = closed_read (augment_are t o e (single_said p (front ts (Op x ∷ us) h)) (sound r (behind ts us (Op x) h)))
+  simple_read (F.value {e = e} p) h = closed_read (readable true Value e (sound extent p h))
+  simple_read (F.assign {ts = ts} {us = us} {targets = targets} {e = e} c p) h = closed_read (assign_are targets e (targets_said c (front ts us h)) (sound extent p (back ts us h)))
+  simple_read (F.augmented_assign {ts = ts} {us = us} x {o = o} {t = t} {e = e} p q r) h = closed_read (augment_are t o e (single_said p (front ts (Op x ∷ us) h)) (sound extent r (behind ts us (Op x) h)))
   simple_read (F.annotated_name {x = x} {ts = ts} {us = us} {a = a} {v = v} p q) h =
       let w = rest (rest h) in
-      closed_read (annotate_are (Trees.Name x.form Store) a v true (first h) (sound p (front ts us w)) (behind_said q (back ts us w)))
+      closed_read (annotate_are (Trees.Name x.form Store) a v true (first h) (sound extent p (front ts us w)) (behind_said q (back ts us w)))
   simple_read (F.annotated_group {ts = ts} {us = us} {vs = vs} {t = t} {a = a} {v = v} p q r) h =
       let w = rest (behind ts (Op Sign.Colon ∷ (us ++ vs)) (Op Sign.RPar) (rest h)) in
-      closed_read (annotate_are t a v false (single_said p (front ts (Op Sign.RPar ∷ (Op Sign.Colon ∷ (us ++ vs))) (rest h))) (sound q (front us vs w)) (behind_said r (back us vs w)))
+      closed_read (annotate_are t a v false (single_said p (front ts (Op Sign.RPar ∷ (Op Sign.Colon ∷ (us ++ vs))) (rest h))) (sound extent q (front us vs w)) (behind_said r (back us vs w)))
   simple_read (F.annotated_part {ts = ts} {us = us} {vs = vs} {t = t} {a = a} {v = v} p n q r) h =
       let w = behind ts (us ++ vs) (Op Sign.Colon) h in
-      closed_read (annotate_are t a v false (single_said p (front ts (Op Sign.Colon ∷ (us ++ vs)) h)) (sound q (front us vs w)) (behind_said r (back us vs w)))
+      closed_read (annotate_are t a v false (single_said p (front ts (Op Sign.Colon ∷ (us ++ vs)) h)) (sound extent q (front us vs w)) (behind_said r (back us vs w)))
   simple_read (F.type_alias {x = x} {ts = ts} {us = us} {ps = ps} {e = e} q c p) h =
       let w = rest (rest h) in
-      closed_read (type_alias_are (Trees.Name x.form Store) ps e (first (rest h)) (types_said c (front ts (Op Sign.Equal ∷ us) w)) (sound p (behind ts us (Op Sign.Equal) w)))
+      closed_read (type_alias_are (Trees.Name x.form Store) ps e (first (rest h)) (types_said c (front ts (Op Sign.Equal ∷ us) w)) (sound extent p (behind ts us (Op Sign.Equal) w)))
   simple_read (F.return_of {e = e} p) h = closed_read (word_value Key.Return (option_stars e (perhaps_said p (rest h))))
   simple_read F.raise_alone h = closed_read (raise_are None None tt tt)
-  simple_read (F.raise_of {ts = ts} {us = us} {e = e} {c = c} p q) h = closed_read (raise_are (Some e) c (sound p (front ts us (rest h))) (behind_said q (back ts us (rest h))))
-  simple_read (F.assert_of {ts = ts} {us = us} {e = e} {m = m} p q) h = closed_read (assert_are e m (sound p (front ts us (rest h))) (behind_said q (back ts us (rest h))))
+  simple_read (F.raise_of {ts = ts} {us = us} {e = e} {c = c} p q) h = closed_read (raise_are (Some e) c (sound extent p (front ts us (rest h))) (behind_said q (back ts us (rest h))))
+  simple_read (F.assert_of {ts = ts} {us = us} {e = e} {m = m} p q) h = closed_read (assert_are e m (sound extent p (front ts us (rest h))) (behind_said q (back ts us (rest h))))
   simple_read (F.delete {es = es} c) h = closed_read (word_plain Key.Del (plain_listed (each_expression (exprs es) (deleted_said c (rest h)))))
   simple_read (F.global {xs = xs} c) h = closed_read (word_plain Key.Global (plain_listed (names_each xs (names_said c (rest h)))))
   simple_read (F.nonlocal {xs = xs} c) h = closed_read (word_plain Key.Nonlocal (plain_listed (names_each xs (names_said c (rest h)))))
@@ -221,8 +224,8 @@ module _ {extent : Extent} where
   -- ---- Headers.
 
   item_said : (ts : List Terminal) (i : Item) → F.ItemOf ts i → Said extent ts → Sound extent false i.context_expr × SoundOption extent true i.optional_vars
-  item_said _ _ (F.bare_item p) h = (sound p h, tt)
-  item_said _ _ (F.item_as {ts = ts} {us = us} p q) h = (sound p (front ts (Word Key.As ∷ us) h), item_target_said q (behind ts us (Word Key.As) h))
+  item_said _ _ (F.bare_item p) h = (sound extent p h, tt)
+  item_said _ _ (F.item_as {ts = ts} {us = us} p q) h = (sound extent p (front ts (Word Key.As ∷ us) h), item_target_said q (behind ts us (Word Key.As) h))
 
   abbrev SoundItem : Item → Type 0
   SoundItem i = Sound extent false i.context_expr × SoundOption extent true i.optional_vars
@@ -234,38 +237,34 @@ module _ {extent : Extent} where
   items_said (F.in_brackets b) h = bracketed_said b h
   items_said (F.without c n) h = commas_said Item F.ItemOf SoundItem (SoundItems extent) tt (λ i is p q. (p.0, p.1, q)) item_said c h
 
-  exprs_listed : (z : Exprs) → exprs (F.listed z) ≡ z
-  exprs_listed no_exprs = refl
-  exprs_listed (an_expr e z) = ap (an_expr e) (exprs_listed z)
-
   bases_said : {ts : List Terminal} {es : List Expr} {ks : Keywords} → F.Bases ts es ks → Said extent ts → AreSound extent true (exprs es) × SoundKeywords extent ks
   bases_said F.no_bases h = (tt, tt)
   bases_said (F.bases {ts = ts} {es = es} c q) h =
-      let f = listing_fine c (front ts (Op Sign.RPar ∷ []) (rest h)) in
-      (subst (AreSound extent true) (sym (exprs_listed (positional es))) (positional_sound es f), keywords_sound es f)
+      let f = listing_fine extent c (front ts (Op Sign.RPar ∷ []) (rest h)) in
+      (subst (AreSound extent true) (sym (exprs_listed (positional es))) (positional_sound extent es f), keywords_sound extent es f)
 
   pub header_said : {profile : Profile} {ts : List Terminal} {h : Header} → F.HeaderOf profile ts h → Said extent ts → SoundHeader extent h
-  header_said (F.if_line p) h = sound p (rest h)
-  header_said (F.elif_line p) h = sound p (rest h)
+  header_said (F.if_line p) h = sound extent p (rest h)
+  header_said (F.elif_line p) h = sound extent p (rest h)
   header_said F.else_line h = tt
-  header_said (F.while_line p) h = sound p (rest h)
+  header_said (F.while_line p) h = sound extent p (rest h)
   header_said (F.for_line {ts = ts} {us = us} {vs = vs} a t p) h =
       let w = behind ts (us ++ (Word Key.In ∷ vs)) (Word Key.For) h in
-      (target_said t (front us (Word Key.In ∷ vs) w), sound p (behind us vs (Word Key.In) w))
+      (target_said t (front us (Word Key.In ∷ vs) w), sound extent p (behind us vs (Word Key.In) w))
   header_said (F.with_line {ts = ts} {us = us} a p) h = items_said p (behind ts us (Word Key.With) h)
   header_said F.try_line h = tt
   header_said F.finally_line h = tt
   header_said F.except_all h = (tt, tt)
-  header_said (F.except_line {ts = ts} {us = us} p q) h = (sound p (front ts us (rest h)), as_said q (back ts us (rest h)))
-  header_said (F.except_star {ts = ts} {us = us} p q) h = (sound p (front ts us (rest (rest h))), as_said q (back ts us (rest (rest h))))
+  header_said (F.except_line {ts = ts} {us = us} p q) h = (sound extent p (front ts us (rest h)), as_said q (back ts us (rest h)))
+  header_said (F.except_star {ts = ts} {us = us} p q) h = (sound extent p (front ts us (rest (rest h))), as_said q (back ts us (rest (rest h))))
   header_said (F.def_line {ts = ts} {us = us} {vs = vs} {ws = ws} x {ps = ps} {a = args} y t c q r) h =
       let n = behind ts (Ident x ∷ (us ++ (Op Sign.LPar ∷ (vs ++ (Op Sign.RPar ∷ ws))))) (Word Key.Def) h in
       let w = behind us (vs ++ (Op Sign.RPar ∷ ws)) (Op Sign.LPar) (rest n) in
-      (first n, types_said t (front us (Op Sign.LPar ∷ (vs ++ (Op Sign.RPar ∷ ws))) (rest n)), arranged_sound ps args q (listing_fine c (front vs (Op Sign.RPar ∷ ws) w)), behind_said r (behind vs ws (Op Sign.RPar) w))
+      (first n, types_said t (front us (Op Sign.LPar ∷ (vs ++ (Op Sign.RPar ∷ ws))) (rest n)), arranged_sound extent ps args q (listing_fine extent c (front vs (Op Sign.RPar ∷ ws) w)), behind_said r (behind vs ws (Op Sign.RPar) w))
   header_said (F.class_line {ts = ts} {us = us} t b) h =
       let w = rest (rest h) in
       let v = bases_said b (back ts us w) in
       (first (rest h), types_said t (front ts us w), v.0, v.1)
 
   pub decorator_said : {ts : List Terminal} {e : Expr} → G.Derives Named ts e → Said extent ts → Sound extent false e
-  decorator_said p h = sound p h
+  decorator_said p h = sound extent p h

@@ -25,9 +25,28 @@ pub data Keys (extent : Extent) : List (Option (List Piece)) → List (Option (L
   star_key : {xss : List (Option (List Piece))} {tss : List (Option (List Terminal))} → Keys extent xss tss → Keys extent (None ∷ xss) (None ∷ tss)
   a_key : {xs : List Piece} {ts : List Terminal} {xss : List (Option (List Piece))} {tss : List (Option (List Terminal))} → Plain extent xs ts → Keys extent xss tss → Keys extent (Some xs ∷ xss) (Some ts ∷ tss)
 
+pub any_both : suit ends_part starts_part ≡ true
+unfolding operators
+any_both = refl
+
 pub data Maybes (extent : Extent) (b e : List Piece) : List (List Piece) → List (List Terminal) → Type 0 where
   no_maybe : Maybes extent b e [] []
   a_maybe : {xs : List Piece} {ts : List Terminal} {xss : List (List Piece)} {tss : List (List Terminal)} → Perhaps extent b e xs ts → Maybes extent b e xss tss → Maybes extent b e (xs ∷ xss) (ts ∷ tss)
+
+-- parameters among others
+more_last : (p : Piece) → within ends_plain p ≡ true → within ends_parameter p ≡ true
+more_last p e = let h = and_parts (is_token p.kind p.text) (is_like ends_plain p) e in let g = late (like (free piece (Op Slash)) p) _ (late (like (leading piece Star) p) (is_like ends_plain p) h.1) in rw (h.0, g) refl
+
+word_first : (p : Piece) → within (a_word ∷ []) p ≡ true → within starts_parameter p ≡ true
+word_first p e =
+    let h = and_parts (is_token p.kind p.text) (is_like (a_word ∷ []) p) e in
+    let l : is_like starts_plain p ≡ true = head_or (like a_word p) (is_like starts_other p) h.1 in
+    let g : is_like starts_parameter p ≡ true = late (like (free piece (Op Slash)) p) (is_like starts_item p) (late (like (leading piece Star) p) (is_like (leading piece DoubleStar ∷ starts_plain) p) (late (like (leading piece DoubleStar) p) (is_like starts_plain p) l)) in
+    rw (h.0, g) refl
+  where
+    head_or : (a b : Bool) → (a || false) ≡ true → (a || b) ≡ true
+    head_or true b e = refl
+    head_or false b e = cc
 
 module _ {extent : Extent} where
   pub perhaps_widen : {a b c d : List Piece} {xs : List Piece} {ts : List Terminal} → ((p : Piece) → within a p ≡ true → within c p ≡ true) → ((p : Piece) → within b p ≡ true → within d p ≡ true) → Perhaps extent a b xs ts → Perhaps extent c d xs ts
@@ -127,10 +146,6 @@ module _ {extent : Extent} where
   pub second_colon : Closed extent starts_part (tight piece Colon ∷ []) (tight piece Colon ∷ []) (tight terminal Colon ∷ [])
   second_colon = sign starts_part (tight piece Colon ∷ []) Colon true true refl refl refl
 
-  pub any_both : suit ends_part starts_part ≡ true
-  unfolding operators
-  any_both = refl
-
   pub slice_form : {xs ys zs : List Piece} {ts us vs : List Terminal} → Perhaps extent starts_part ends_part xs ts → Perhaps extent starts_part ends_part ys us → Perhaps extent starts_part ends_part zs vs → Closed extent starts_part ends_part (xs ++ (tight piece Colon ∷ (ys ++ zs))) (ts ++ (tight terminal Colon ∷ (us ++ vs)))
   slice_form x y z = head x (tail slice_colon (perhaps_both any_both y z) any_both) any_both
 
@@ -211,21 +226,6 @@ module _ {extent : Extent} where
   pub default_form : {xs : List Piece} {ts : List Terminal} → Plain extent xs ts → Closed extent (tight piece Equal ∷ []) ends_plain (tight piece Equal ∷ xs) (tight terminal Equal ∷ ts)
   unfolding operators
   default_form x = join equal x refl
-
-  -- parameters among others
-  more_last : (p : Piece) → within ends_plain p ≡ true → within ends_parameter p ≡ true
-  more_last p e = let h = and_parts (is_token p.kind p.text) (is_like ends_plain p) e in let g = late (like (free piece (Op Slash)) p) _ (late (like (leading piece Star) p) (is_like ends_plain p) h.1) in rw (h.0, g) refl
-
-  word_first : (p : Piece) → within (a_word ∷ []) p ≡ true → within starts_parameter p ≡ true
-  word_first p e =
-      let h = and_parts (is_token p.kind p.text) (is_like (a_word ∷ []) p) e in
-      let l : is_like starts_plain p ≡ true = head_or (like a_word p) (is_like starts_other p) h.1 in
-      let g : is_like starts_parameter p ≡ true = late (like (free piece (Op Slash)) p) (is_like starts_item p) (late (like (leading piece Star) p) (is_like (leading piece DoubleStar ∷ starts_plain) p) (late (like (leading piece DoubleStar) p) (is_like starts_plain p) l)) in
-      rw (h.0, g) refl
-    where
-      head_or : (a b : Bool) → (a || false) ≡ true → (a || b) ≡ true
-      head_or true b e = refl
-      head_or false b e = cc
 
   pub parameters_each : {xss : List (List Piece)} {tss : List (List Terminal)} → Each extent (a_word ∷ []) ends_plain xss tss → Each extent starts_parameter ends_parameter xss tss
   parameters_each x = each_widen word_first more_last x

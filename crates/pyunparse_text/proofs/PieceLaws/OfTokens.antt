@@ -85,31 +85,31 @@ literal_points : (t : List ℕ) → list_all is_point t ≡ true → list_all is
 unfolding points_of
 literal_points t h = points_are_in_range (is_raw t) (is_bytes t) (body_of t) (body_all is_point t h)
 
-value_constant : {extent : Extent} (t : List ℕ) → list_all is_point t ≡ true → literal_fault t ≡ None → IsConstant extent (value_of t)
+value_constant : (extent : Extent) (t : List ℕ) → list_all is_point t ≡ true → literal_fault t ≡ None → IsConstant extent (value_of t)
 unfolding value_of
-value_constant {extent} t h f = by (is_bytes t) refl
+value_constant extent t h f = by (is_bytes t) refl
   where
     by : (b : Bool) → is_bytes t ≡ b → IsConstant extent (cond b (Values.Bytes (points_of t)) (Values.Str (points_of t) (is_unicode t)))
     by true q = passing is_byte (λ b. b < 0x100) (λ b k. grind (arith, nat_tests)) (points_of t) (points_small t q f)
     by false q = passing is_point IsPoint (λ c k. leb-true c 1114111 k) (points_of t) (literal_points t h)
 
-string_constant : {extent : Extent} (t : List ℕ) → all_scalars t ≡ true → string_fault t ≡ None → IsConstant extent (string_value t)
+string_constant : (extent : Extent) (t : List ℕ) → all_scalars t ≡ true → string_fault t ≡ None → IsConstant extent (string_value t)
 unfolding string_value string_fault
-string_constant t h f = value_constant (with_line_feeds t) (filter_all is_point _ t (scalars_points t h)) f
+string_constant extent t h f = value_constant extent (with_line_feeds t) (filter_all is_point _ t (scalars_points t h)) f
 
 -- ---- Tokens.
 
-name_sayable : {extent : Extent} (t : List ℕ) → IsSound kinds.Name t → Sayable extent (terminal_of kinds.Name t)
+name_sayable : (extent : Extent) (t : List ℕ) → IsSound kinds.Name t → Sayable extent (terminal_of kinds.Name t)
 unfolding terminal_of fault_of
-name_sayable {extent} t s = by (keyword_of t) refl
+name_sayable extent t s = by (keyword_of t) refl
   where
     by : (o : Option Keyword) → keyword_of t ≡ o → Sayable extent (elim o [ Some w ↦ Word w | None ↦ Ident (record { spelling = t; form = nfkc t }) ])
     by (Some w) q = tt
     by None q = names_are_proper t s.of_kind q s.faultless
 
-sign_sayable : {extent : Extent} (t : List ℕ) → Sayable extent (terminal_of kinds.Op t)
+sign_sayable : (extent : Extent) (t : List ℕ) → Sayable extent (terminal_of kinds.Op t)
 unfolding terminal_of
-sign_sayable {extent} t = by (exact_of t)
+sign_sayable extent t = by (exact_of t)
   where
     by : (o : Option Exact) → Sayable extent (elim o [ Some e ↦ Op e | None ↦ Layout ])
     by (Some e) = tt
@@ -117,10 +117,10 @@ sign_sayable {extent} t = by (exact_of t)
 
 token_sayable : (extent : Extent) (k : Kind) (t : List ℕ) → all_scalars t ≡ true → IsSound k t → fault_of extent k t ≡ None → Sayable extent (terminal_of k t)
 unfolding terminal_of fault_of
-token_sayable extent kinds.Name t c s f = name_sayable t s
+token_sayable extent kinds.Name t c s f = name_sayable extent t s
 token_sayable extent kinds.Number t c s f = number_sayable extent (encode_utf8_all t) f
-token_sayable extent kinds.String t c s f = string_constant t c s.faultless
-token_sayable extent kinds.Op t c s f = sign_sayable t
+token_sayable extent kinds.String t c s f = string_constant extent t c s.faultless
+token_sayable extent kinds.Op t c s f = sign_sayable extent t
 token_sayable extent _ t c s f = tt
 
 pub of_token : {extent : Extent} {t : Terminal} → IsOfToken extent t → Sayable extent t

@@ -21,15 +21,15 @@ use Rattle.pyunparse_text.proofs.PieceLaws.Segments.{Closed, Perhaps, nothing, s
 use Rattle.pyunparse_text.proofs.PieceLaws.Shapes.{keyword, plain_name, constant, yield_form, yield_from_form, double_star, starred_form, named_form, paired_form, starts_parameter, ends_parameter, lambda_form, if_form, chain_parts, chain_form, unary_form, binary_form, compare_form, compared_are, attribute_form}
 use Rattle.pyunparse_text.proofs.PieceLaws.Listings.{each_both, items_listed, parameters_listed, tuple_form, named_argument, Keys, no_key, star_key, a_key, for_form, target_form, plain_tail, slice_form, parameter_form, Maybes, no_maybe, a_maybe, beside_are, equals, with_defaults_are, with_slash_are, star_are, inside_plain, inside_call, call_behind, subscript_behind, step_form, annotation_form, default_form, star_parameter, stars_parameter, parameters_each}
 
-module _ {extent : Extent} where
-  -- what is proved of an expression at a level
-  abbrev pub Done : Bool → Level → Expr → Type 0
-  Done s l e = Closed extent (starts s l) (ends l) (written piece l e) (written terminal l e)
+-- what is proved of an expression at a level
+abbrev pub Done : Extent → Bool → Level → Expr → Type 0
+Done extent s l e = Closed extent (starts s l) (ends l) (written piece l e) (written terminal l e)
 
+module _ {extent : Extent} where
   mutual
     unfolding written each perhaps suffixed alone by_name written_keys pairs clauses conditions parameters names gathered defaults
 
-    pub readable : (s : Bool) (l : Level) (e : Expr) → Sound extent s e → Done s l e
+    pub readable : (s : Bool) (l : Level) (e : Expr) → Sound extent s e → Done extent s l e
     readable s l (Trees.Yield e) h = fitted_yield s l (yield_form (perhaps_stars e h))
     readable s l (Trees.YieldFrom e) h = fitted_yield s l (yield_from_form (readable false Expression e h))
     readable true l (Trees.Starred e c) h = starred_form l (readable false (star_level l) e h.1)

@@ -42,6 +42,10 @@ starts_parameter = free piece (Op Slash) ∷ starts_item
 abbrev pub ends_parameter : List Piece
 ends_parameter = free piece (Op Slash) ∷ leading piece Star ∷ ends_plain
 
+-- comparisons
+abbrev pub starts_behind : List Piece
+starts_behind = a_word ∷ free piece (Op EqEqual) ∷ free piece (Op NotEqual) ∷ free piece (Op Less) ∷ free piece (Op LessEqual) ∷ free piece (Op Greater) ∷ free piece (Op GreaterEqual) ∷ []
+
 module _ {extent : Extent} where
   pub keyword : (k : Keyword) → Plain extent (free piece (Word k) ∷ []) (free terminal (Word k) ∷ [])
   keyword k = token starts_plain ends_plain (Word k) false false (fair_word k) refl refl refl refl
@@ -156,10 +160,6 @@ module _ {extent : Extent} where
   binary_form Bin.Mod x y = join x (join (sign (free piece (Op Percent) ∷ []) (free piece (Op Percent) ∷ []) Percent false false refl refl refl) y refl) refl
   binary_form Bin.FloorDiv x y = join x (join (sign (free piece (Op DoubleSlash) ∷ []) (free piece (Op DoubleSlash) ∷ []) DoubleSlash false false refl refl refl) y refl) refl
   binary_form Bin.Pow x y = join x (join (sign (free piece (Op DoubleStar) ∷ []) (free piece (Op DoubleStar) ∷ []) DoubleStar false false refl refl refl) y refl) refl
-
-  -- comparisons
-  abbrev pub starts_behind : List Piece
-  starts_behind = a_word ∷ free piece (Op EqEqual) ∷ free piece (Op NotEqual) ∷ free piece (Op Less) ∷ free piece (Op LessEqual) ∷ free piece (Op Greater) ∷ free piece (Op GreaterEqual) ∷ []
 
   pub signs_form : (o : Comparison) → Closed extent starts_behind starts_behind (map (free piece) (comparison_signs o)) (map (free terminal) (comparison_signs o))
   unfolding operators
