@@ -1,6 +1,6 @@
 -- Carries: faults_are_by_class, Numerals. On: which characters stand in the numbers of each class.
-use Rattle.std.proofs.Common.{◌≡◌, ℕ, ◌^◌, Bool, true, false, List, [], ◌∷◌, refl, ap, inl, inr, arith, Some, None}
-use Rattle.std.specs.Prelude.{◌==◌, ◌||◌, ◌&&◌, not, nat_le, if◌then◌else◌}
+use Rattle.std.proofs.Common.{◌≡◌, ℕ, ◌^◌, Bool, true, false, List, [], ◌∷◌, refl, ap, inl, inr, arith, Some}
+use Rattle.std.specs.Prelude.{◌==◌, ◌||◌, ◌&&◌, not}
 use Rattle.std.specs.List.{list_any, list_all}
 use Rattle.std.proofs.lemmas.Bool.{and_from, and_left, and_right, or_from, or_left, or_right, cases_Bool, not-true}
 use Rattle.std.proofs.lemmas.Bool.Decides.{nat_tests}
@@ -10,9 +10,13 @@ use Rattle.pylex_lexeme.specs.Numbers.{is_point_after, is_point_before, is_raise
 use Rattle.pylex_lexeme.proofs.Callers.Booleans.{and_parts, or_parts}
 use Rattle.pylex_lexeme.proofs.Callers.Fronts.{split_all, joined_all}
 use Rattle.pylex_lexeme.proofs.Callers.Numbers.{digit_bounds, either, either_not, point_is, part_all, decimal_part}
-use Rattle.pytoken.specs.declared.faults.TokenError.TheVariants.{Float, Complex, IntegerTooLarge}
-use Rattle.pytoken.specs.NumberValues.{radix_of, whole_value, is_complex, is_real, number_fault}
+use Rattle.pyfloat.specs.FloatValues.{float_value}
+use Rattle.pytree_node.specs.Values.{Int, Float, Imaginary}
+use Rattle.pytree_node.specs.declared.profiles.Extent.TheVariants.{Plain}
+use Rattle.pytoken.specs.declared.faults.TokenError.TheVariants as errors
+use Rattle.pytoken.specs.NumberValues.{radix_of, whole_value, is_complex, is_real, number_value, number_fault, too_large}
 use Rattle.pytoken.specs.Laws.{FaultsAreByClass}
+use Rattle.pytoken.proofs.NumberKinds.{fault_complex, fault_real, value_complex, value_real, value_whole}
 
 -- Texts in parts
 
@@ -255,30 +259,31 @@ decimal_not_complex t h = not_complex t (part_plain t (decimal_part t h))
 pub decimal_not_real : (t : List ℕ) → is_decimal t ≡ true → is_real t ≡ false
 decimal_not_real t h = and_right (radix_of t == 10) (list_any is_mark t) (decimal_unmarked t h)
 
--- The faults
+-- The values, and the faults in the plain language
 
-whole_is : (t : List ℕ) → is_complex t ≡ false → is_real t ≡ false →
-    number_fault t ≡ (if nat_le (2 ^ 128) (whole_value t) then Some IntegerTooLarge else None)
-unfolding number_fault
-whole_is t complex real = rw (complex, real) refl
+imaginary_is : (t : List ℕ) → is_imaginary t ≡ true → (number_fault Plain t ≡ Some errors.Complex) × (number_value t ≡ Imaginary (float_value t))
+imaginary_is t h = let complex = imaginary_complex t h in (fault_complex Plain t complex, value_complex t complex)
 
-imaginary_is : (t : List ℕ) → is_imaginary t ≡ true → number_fault t ≡ Some Complex
-unfolding number_fault
-imaginary_is t h = let complex = imaginary_complex t h in rw complex refl
-
-float_is : (t : List ℕ) → is_float t ≡ true → number_fault t ≡ Some Float
-unfolding number_fault
+float_is : (t : List ℕ) → is_float t ≡ true → (number_fault Plain t ≡ Some errors.Float) × (number_value t ≡ Float (float_value t))
 float_is t h =
     let complex = float_not_complex t h in
     let real = float_real t h in
-    rw (complex, real) refl
+    (fault_real Plain t complex real, value_real t complex real)
 
-number_whole : (t : List ℕ) → (is_decimal t || is_radix t) ≡ true → number_fault t
-    ≡ (if nat_le (2 ^ 128) (whole_value t) then Some IntegerTooLarge else None)
-number_whole t h = elim (or_parts (is_decimal t) (is_radix t) h) [
-  | inl decimal ↦ whole_is t (decimal_not_complex t decimal) (decimal_not_real t decimal)
-  | inr radix ↦ whole_is t (radix_not_complex t (based t radix)) (and_left (radix_of t == 10) (list_any is_mark t) (other_radix t (based t radix)))
+plain_whole : (t : List ℕ) → is_complex t ≡ false → is_real t ≡ false → number_fault Plain t ≡ too_large (2 ^ 128) t
+unfolding number_fault
+plain_whole t complex real = rw (complex, real) refl
+
+whole_by : (t : List ℕ) → is_complex t ≡ false → is_real t ≡ false
+    → (number_fault Plain t ≡ too_large (2 ^ 128) t) × (number_value t ≡ Int (whole_value t))
+whole_by t complex real = (plain_whole t complex real, value_whole t complex real)
+
+whole_is : (t : List ℕ) → (is_decimal t || is_radix t) ≡ true
+    → (number_fault Plain t ≡ too_large (2 ^ 128) t) × (number_value t ≡ Int (whole_value t))
+whole_is t h = elim (or_parts (is_decimal t) (is_radix t) h) [
+  | inl decimal ↦ whole_by t (decimal_not_complex t decimal) (decimal_not_real t decimal)
+  | inr radix ↦ whole_by t (radix_not_complex t (based t radix)) (and_left (radix_of t == 10) (list_any is_mark t) (other_radix t (based t radix)))
 ]
 
 pub faults_are_by_class : FaultsAreByClass
-faults_are_by_class t = record { imaginary = imaginary_is t; float = float_is t; whole = number_whole t }
+faults_are_by_class t = record { imaginary = imaginary_is t; float = float_is t; whole = whole_is t }

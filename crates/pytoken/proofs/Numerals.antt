@@ -6,3 +6,4 @@ pub mod Characters
 pub mod Ends
 pub mod Stops
 pub mod Lexemes
+pub mod Standing

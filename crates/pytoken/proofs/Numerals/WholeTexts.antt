@@ -1,7 +1,7 @@
 -- A whole number of any size in decimal.
 -- Carries: Lexemes. On: DigitRuns.
-use Rattle.std.proofs.Common.{◌≡◌, ℕ, zero, suc, ◌+◌, ◌*◌, ◌/◌, ◌%◌, ◌^◌, ◌<◌, ◌≤◌, true, List, [], ◌∷◌, ◌++◌, get_or, map, refl, sym, ap, ◌∙◌, inl, inr, arith, ne_eqb}
-use Rattle.std.specs.Prelude.{◌||◌, nat_le, decimal}
+use Rattle.std.proofs.Common.{◌≡◌, ℕ, zero, suc, ◌+◌, ◌*◌, ◌/◌, ◌%◌, ◌^◌, ◌<◌, ◌≤◌, ◌⊎◌, true, false, List, [], ◌∷◌, ◌++◌, get_or, map, refl, sym, ap, ◌∙◌, inl, inr, arith, ne_eqb}
+use Rattle.std.specs.Prelude.{◌||◌, ◌==◌, nat_le, filter, decimal}
 use Rattle.std.specs.Char.{digit_value}
 use Rattle.std.specs.Int.Digits.{digits_of, number_from_digits_after, AllBelowBase}
 use Rattle.std.specs.Str.Parse.{AllDigits, digits_value, digits_value_after}
@@ -10,12 +10,46 @@ use Rattle.std.proofs.lemmas.Fmt.{decimal_by_steps_wide}
 use Rattle.std.proofs.lemmas.Int.Digits.{all_below_base_digits_of, first_digits_of, number_digits_of, digits_of_step}
 use Rattle.std.proofs.lemmas.List.{map-append}
 use Rattle.std.proofs.lemmas.Str.{digit_value_digit}
+use Rattle.std.proofs.lemmas.Str.Parse.{digit_from_value}
 use Rattle.pylex_lexeme.specs.Numbers.{headed, are_joined, is_zero, is_one_to_nine, is_decimal_digit, is_decimal}
 use Rattle.pynatural.specs.Decimals.{decimal_text, digit_character}
-use Rattle.pynatural.specs.Readings.{written}
-use Rattle.pytoken.specs.NumberValues.{whole_value}
-use Rattle.pytoken.proofs.Constants.{digits_kept, digits_whole}
+use Rattle.pynatural.specs.Readings.{written, is_no_underscore}
+use Rattle.pytoken.specs.NumberValues.{radix_of, whole_value}
 use Rattle.pytoken.proofs.Numerals.DigitRuns.{are_digits, are_any, all_joined, digit_range}
+
+-- Decimal digits
+
+-- digits alone: no letter, no underscore, no point
+digit_not : (c k : ℕ) → (48 ≤ c) × (c ≤ 57) → (k < 48) ⊎ (57 < k) → (c == k) ≡ false
+digit_not c k h (inl low) = ne_eqb c k (λ e. absurd (omega (arith, e, h.0)))
+digit_not c k h (inr high) = ne_eqb c k (λ e. absurd (omega (arith, e, h.1)))
+
+digits_radix : (ds : List ℕ) → AllDigits 10 ds → radix_of ds ≡ 10
+digits_radix [] all = refl
+digits_radix (a ∷ []) all = refl
+digits_radix (a ∷ b ∷ ds) all =
+    let d = digit_from_value b all.1.0 in
+    let x = digit_not b 120 d (inr (omega arith)) in
+    let x' = digit_not b 88 d (inr (omega arith)) in
+    let o = digit_not b 111 d (inr (omega arith)) in
+    let o' = digit_not b 79 d (inr (omega arith)) in
+    let b' = digit_not b 98 d (inr (omega arith)) in
+    let b'' = digit_not b 66 d (inr (omega arith)) in
+    rw (x, x', o, o', b', b'') refl
+
+digits_kept : (ds : List ℕ) → AllDigits 10 ds → filter is_no_underscore ds ≡ ds
+digits_kept [] all = refl
+digits_kept (a ∷ ds) all =
+    let no_line = digit_not a 95 (digit_from_value a all.0) (inr (omega arith)) in
+    rw no_line (ap (λ (t : List ℕ). a ∷ t) (digits_kept ds all.1))
+
+digits_written : (ds : List ℕ) → AllDigits 10 ds → written 10 ds ≡ digits_value 10 ds
+unfolding written
+digits_written ds all = ap (digits_value 10) (digits_kept ds all)
+
+digits_whole : (ds : List ℕ) → AllDigits 10 ds → whole_value ds ≡ digits_value 10 ds
+unfolding whole_value
+digits_whole ds all = let r = digits_radix ds all in rw r (digits_written ds all)
 
 -- The two forms of the text
 
@@ -95,8 +129,7 @@ text_whole n = digits_whole (decimal_text n) (text_all n) ∙ text_value n
 
 -- and so does what pynatural reads of its digits
 pub text_written : (n : ℕ) → written 10 (decimal_text n) ≡ n
-unfolding written
-text_written n = ap (digits_value 10) (digits_kept (decimal_text n) (text_all n)) ∙ text_value n
+text_written n = digits_written (decimal_text n) (text_all n) ∙ text_value n
 
 -- The texts that std writes
 

@@ -2,7 +2,7 @@ use Rattle.std.proofs.Common.{◌≡◌, ℕ, List, None, sym, ap, subst, ◌∙
 use Rattle.pytree_node.specs.Values as value
 use Rattle.pytree_node.specs.declared.profiles.Extent.TheVariants.{Whole}
 use Rattle.pytoken.specs.NumberValues.{number_value, number_fault}
-use Rattle.pytoken.proofs.values.NumberLemmas.{value_complex, value_real, value_whole, below_limit}
+use Rattle.pytoken.proofs.NumberKinds.{value_complex, value_real, value_whole, below_limit}
 use Rattle.pytoken.proofs.values.numbers.constant_value.Goals as goal
 
 pub returns-then-is_complex : goal.returns-then-is_complex

@@ -1,5 +1,5 @@
 use Rattle.std.proofs.Common.{sym, ◌∙◌}
-use Rattle.pytoken.proofs.values.NumberLemmas.{whole_faultless}
+use Rattle.pytoken.proofs.NumberKinds.{whole_faultless}
 use Rattle.pytoken.proofs.values.number_text.NumberText.new.Goals as goal
 
 pub invariant_of-result : goal.invariant_of-result
