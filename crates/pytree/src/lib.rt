@@ -35,6 +35,6 @@ pub use pytree_dump::{Pieces, Style, dump, dump_expr};
 pub use pytree_height::{Heights, height};
 pub use pytree_node::{
     Alias, Arg, Arguments, BoolOperator, Comparison, Comprehension, Constant, Context, Expr,
-    Handler, Identifier, Integer, Item, Keyword, Module, Operator, Points, Profile, Stmt,
-    TypeParam, UnaryOperator,
+    Extent, Handler, Identifier, Integer, Item, Keyword, Module, Operator, Points, Profile, Stmt,
+    TypeParam, UnaryOperator, Version,
 };
