@@ -16,7 +16,7 @@ use std::time::Instant;
 const STYLE: Style = Style {
     indent: None,
     names: false,
-    profile: Profile::Py311,
+    profile: Profile::PLAIN_311,
 };
 
 /// Writes the dump of an expression, or why there is none.

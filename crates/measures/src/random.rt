@@ -81,8 +81,8 @@ fn told(
 /// Writes a tree and reads it again, in both versions, and counts it.
 fn compare(rt: &HostRuntime, alloc: Global, tree: &Module, counts: &mut Counts) -> Option<()> {
     let text = unparse(alloc, tree).ok()?;
-    let old = told(rt, alloc, tree, text.as_str(), Profile::Py311)?;
-    let new = told(rt, alloc, tree, text.as_str(), Profile::Py312)?;
+    let old = told(rt, alloc, tree, text.as_str(), Profile::PLAIN_311)?;
+    let new = told(rt, alloc, tree, text.as_str(), Profile::PLAIN_312)?;
     counts.trees = counts.trees.wrapping_add(1);
     counts.old = counts.old.wrapping_add(u64::from(old));
     counts.new = counts.new.wrapping_add(u64::from(new));
@@ -159,16 +159,16 @@ fn compare_all(
 /// The modules of one statement, as they are at first.
 fn first_trees(alloc: Global) -> Option<Trees> {
     Some(Trees {
-        tree: module_of(alloc, "pass\n", Profile::Py312)?,
-        exprs: module_of(alloc, "None, ...\n", Profile::Py312)?,
-        names: module_of(alloc, "import a.b\n", Profile::Py312)?,
+        tree: module_of(alloc, "pass\n", Profile::PLAIN_312)?,
+        exprs: module_of(alloc, "None, ...\n", Profile::PLAIN_312)?,
+        names: module_of(alloc, "import a.b\n", Profile::PLAIN_312)?,
     })
 }
 
 /// Compares the trees of a source's statements, as they are and changed.
 pub(crate) fn random(rt: &HostRuntime, alloc: Global) -> Option<()> {
     let source = source_of(rt, alloc)?;
-    let mut module = parse(alloc, &source, Profile::Py312).ok()?;
+    let mut module = parse(alloc, &source, Profile::PLAIN_312).ok()?;
     let mut trees = first_trees(alloc)?;
     compare_all(rt, alloc, &mut module, &mut trees)
 }

@@ -18,7 +18,7 @@ use std::time::Instant;
 const PLAIN: Style = Style {
     indent: None,
     names: true,
-    profile: Profile::Py311,
+    profile: Profile::PLAIN_311,
 };
 
 /// The module of one statement, `x` under this many signs: more than a source may have.
@@ -48,7 +48,7 @@ fn wide(alloc: Global, count: u64) -> Option<Module> {
     for _ in 0..count {
         text.push_str("x = f(a, b=1)\n").ok()?;
     }
-    module_of(alloc, text.as_str(), Profile::Py311)
+    module_of(alloc, text.as_str(), Profile::PLAIN_311)
 }
 
 /// The tree of a shape, of this size.

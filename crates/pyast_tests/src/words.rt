@@ -2,7 +2,7 @@
 
 use crate::expected::same_text;
 use pyast_command::{Command, Dump, Tokens, Unparse, UsageFault};
-use pytree_node::Profile;
+use pytree_node::{Extent, Profile, Version};
 use std::alloc::{AllocError, Global};
 use std::process::Abort;
 use std::test::Fail;
@@ -46,10 +46,13 @@ fn push_unparse(given: &mut String, asked: &Unparse) -> Result<(), Fail> {
     push_file(given, &asked.file)
 }
 
-/// Appends the version of Python, unless it is 3.11.
+/// Appends the version of Python, unless it is 3.11, and the extent, unless it is plain.
 fn push_profile(given: &mut String, profile: Profile) -> Result<(), Fail> {
-    if profile == Profile::Py312 {
+    if profile.version == Version::Py312 {
         given.push_str(" py312")?;
+    }
+    if profile.extent == Extent::Whole {
+        given.push_str(" whole")?;
     }
     Ok(())
 }

@@ -13,6 +13,8 @@ use Rattle.pylex.specs.CursorTexts.{IsWellFormed}
 use Rattle.pylex.specs.Cursors.{CursorParts, cursor_text}
 use Rattle.pylex.specs.declared.cursor.CursorFault.{CursorFault}
 use Rattle.pylex.specs.declared.cursor.CursorFault.TheVariants as cursor_faults
+use Rattle.pytree_node.specs.declared.profiles.Extent.TheVariants.{Plain}
+use Rattle.pytree_node.specs.declared.profiles.Profile.{Profile}
 use Rattle.pytree_node.specs.Profiles.{has_types}
 use Rattle.pyast_words.specs.declared.command.Command.{Command}
 use Rattle.pyast_words.specs.declared.command.Command.TheVariants as commands
@@ -91,16 +93,21 @@ pub record IsTokens (found : List Row) (asked : Tokens) : Type 0 where
   pub well_formed : IfSome asked.resume IsWellFormed
   pub file : option_map string_bytes asked.file ≡ first_of (codes "FILE") found
 
--- what was found for the arguments of `dump` is what is asked: the blanks of a level, whether names are left out, the version, the file
+-- what was found is the profile that is asked for: the version, in the plain extent
+pub record IsProfile (found : List Row) (profile : Profile) : Type 0 where
+  pub newer : IsFlag (one_of (codes "py312") found) (has_types profile)
+  pub extent : profile.extent ≡ Plain
+
+-- what was found for the arguments of `dump` is what is asked: the blanks of a level, whether names are left out, the profile, the file
 pub record IsDump (found : List Row) (asked : Dump) : Type 0 where
   pub indent : IsNumber largest_indent (one_of (codes "indent") found) asked.style.indent
   pub bare : IsFlag (one_of (codes "bare") found) (not asked.style.names)
-  pub newer : IsFlag (one_of (codes "py312") found) (has_types asked.style.profile)
+  pub profile : IsProfile found asked.style.profile
   pub file : option_map string_bytes asked.file ≡ first_of (codes "FILE") found
 
--- what was found for the arguments of `unparse` is what is asked: the version, the file
+-- what was found for the arguments of `unparse` is what is asked: the profile, the file
 pub record IsUnparse (found : List Row) (asked : Unparse) : Type 0 where
-  pub newer : IsFlag (one_of (codes "py312") found) (has_types asked.profile)
+  pub profile : IsProfile found asked.profile
   pub file : option_map string_bytes asked.file ≡ first_of (codes "FILE") found
 
 -- the name of a subcommand and what was found behind it are the command

@@ -7,14 +7,14 @@ ghost use Rattle.clap.specs.Values.{kind_of};
 ghost use Rattle.clap.specs.Walk.{first_of, one_of, rows_of};
 ghost use Rattle.pylex.specs.CursorTexts.{IsWellFormed};
 ghost use Rattle.pylex.specs.Cursors.{cursor_text};
-ghost use Rattle.pytree_node.specs.Profiles.{has_types};
 ghost use Rattle.pyast_words.specs.declared.command.UsageFault.{UsageFault};
 ghost use Rattle.pyast_words.specs.Inner.Matching.{IsRule, IsForm, MissesNumber, MissesCursor};
 ghost use Rattle.pyast_words.specs.Inner.Matching.{MissesTokens, MissesDump, MissesCommand, Explains};
 ghost use Rattle.pyast_words.specs.Words.{grammar, number_rule, flag_rule, exact_rule, resume_rule};
 ghost use Rattle.pyast_words.specs.Words.{file_rule, tokens_shape, dump_shape, unparse_shape};
 ghost use Rattle.pyast_words.specs.Words.{largest_indent, file_of, name_of, of_cursor};
-ghost use Rattle.pyast_words.specs.Words.{IsNumber, IsFlag, IsTokens, IsDump, IsUnparse, IsCommand};
+ghost use Rattle.pyast_words.specs.Words.{IsNumber, IsFlag, IsTokens, IsProfile, IsDump, IsUnparse};
+ghost use Rattle.pyast_words.specs.Words.{IsCommand};
 ghost use Rattle.pyast_words.specs.Words.{Gives, Refuses, IsWithinLimits};
 
 use clap::error::ErrorKind;
@@ -110,10 +110,10 @@ pub struct Dump {
     pub file: Option<String>,
 }
 
-/// By which version a source's tree is to be written as source text.
+/// By which Python a source's tree is to be written as source text.
 #[derive(Debug, Drop)]
 pub struct Unparse {
-    /// The version of Python by which the source is read.
+    /// The version of Python by which the source is read, and its extent.
     pub profile: Profile,
     /// The file of the source; the standard input if there is none.
     pub file: Option<String>,
@@ -347,14 +347,14 @@ fn indent_of(matches: &ArgMatches<'_>) -> Result<Option<u8>, UsageFault>
     }
 }
 
-/// The version of Python that is asked for.
+/// The version of Python that is asked for, in the plain extent.
 fn profile_of(matches: &ArgMatches<'_>) -> Profile
-    ensures { IsFlag (one_of (codes "py312") (rows_of (found_of matches.now))) (has_types result) }
+    ensures { IsProfile (rows_of (found_of matches.now)) result }
 {
     if matches.get_flag("py312") {
-        Profile::Py312
+        Profile::PLAIN_312
     } else {
-        Profile::Py311
+        Profile::PLAIN_311
     }
 }
 

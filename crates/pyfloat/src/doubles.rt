@@ -2,13 +2,14 @@
 //!
 //! Python language reference, 2.4.6 and 2.4.7; library reference, `repr` and `ast.unparse`.
 
-ghost use Rattle.std.specs.Prelude.{◌≡◌, ◌++◌, IfOk, OnOk};
+ghost use Rattle.std.specs.Prelude.{◌≡◌, ◌&&◌, ◌++◌, IfOk, OnOk};
 ghost use Rattle.std.specs.Cmp.{partial_equiv_from_equiv};
 ghost use Rattle.std.specs.String.{string_bytes};
+ghost use Rattle.std.specs.Float.Ieee.{binary64, fits};
 ghost use Rattle.pyfloat.specs.FloatValues.{float_value};
 ghost use Rattle.pyfloat.specs.FloatTexts.{float_repr, float_source};
 ghost use Rattle.pyfloat.specs.FloatTexts.{imaginary_repr, imaginary_source};
-ghost use Rattle.pyfloat.specs.Laws.{IsDouble, FloatsAreLawful};
+ghost use Rattle.pyfloat.specs.Laws.{is_unsigned, IsDouble, FloatsAreLawful};
 ghost use Rattle.pyfloat.specs.SameFloats.{float_same, float_same_equiv};
 
 use crate::texts::push_number;
@@ -53,6 +54,13 @@ impl Double {
         Ok(Double {
             bits: value.to_bits(),
         })
+    }
+
+    /// Whether a literal may have it, as each may.
+    pub fn is_of_literal(&self) -> bool
+        ensures { result ≡ (fits binary64 self.now && is_unsigned self.now) }
+    {
+        self.bits <= 0x7ff0_0000_0000_0000
     }
 
     /// Appends the `repr` of the float.

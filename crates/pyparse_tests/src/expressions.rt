@@ -15,7 +15,7 @@ use std::test::Fail;
 const STYLE: Style = Style {
     indent: None,
     names: false,
-    profile: Profile::Py311,
+    profile: Profile::PLAIN_311,
 };
 
 /// The dump of the expression that tokens are, or what the grammar says against them and where.

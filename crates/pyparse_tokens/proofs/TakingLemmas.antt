@@ -1,16 +1,18 @@
--- Carries: take_token, take_operator, take_comment, take_line_end. On: what is kept of a lexeme of
--- the line that is open is what is kept of its entry.
-use Rattle.std.proofs.Common.{◌≡◌, ℕ, ◌+◌, ◌-◌, ◌<◌, Bool, true, false, ◌&&◌, List, [], ◌∷◌, ◌++◌, length, map, refl, sym, ap, ap₂, subst, ◌∙◌, append-nil, arith, Option, Some, None}
-use Rattle.std.specs.Prelude.{if◌then◌else◌, nat_lt}
+-- Carries: take_operator, take_line_end, take_lexeme. On: what is kept of a lexeme of the line that
+-- is open is what is kept of its entry.
+use Rattle.std.proofs.Common.{◌≡◌, ℕ, ◌-◌, ◌<◌, Bool, true, false, not, List, [], ◌∷◌, ◌++◌, length, map, refl, sym, ap, ap₂, subst, ◌∙◌, append-nil, arith, Option, Some, None}
+use Rattle.std.specs.Prelude.{if◌then◌else◌, Result, Ok, Err, OnOk}
 use Rattle.std.specs.Option.{option_or}
 use Rattle.std.specs.Str.{chars}
-use Rattle.std.proofs.lemmas.List.{map-append}
 use Rattle.pysource.specs.declared.places.Place.{Place}
 use Rattle.pylex_lexeme.specs.declared.kinds.Exact.{Exact}
-use Rattle.pylex_lexeme.specs.Operators.{is_opener, is_closer}
+use Rattle.pylex_lexeme.specs.declared.lexeme.Class.{Class}
+use Rattle.pylex_lexeme.specs.declared.lexeme.Class.TheVariants.{Name, Number, String, Operator, Comment, Blanks, LineEnd, Join}
 use Rattle.pylex.specs.declared.kind.Kind.{Kind}
 use Rattle.pylex.specs.declared.kind.Kind.TheVariants as kinds
 use Rattle.pylex.specs.declared.entries.Entry.{Entry}
+use Rattle.pylex.specs.declared.spots.Spot.{Spot}
+use Rattle.pylex.specs.Spots.{is_silent, kind_of}
 use Rattle.pytoken.specs.declared.refusals.Refusal.{Refusal}
 use Rattle.pytoken.specs.declared.refusals.Refusal.TheVariants.{TooDeep}
 use Rattle.pytoken.specs.declared.values.terminals.Terminal.{Terminal}
@@ -20,14 +22,14 @@ use Rattle.pytoken.specs.Terminals
 use Rattle.pytoken.specs.Terminals.{terminal_of, fault_of}
 use Rattle.pytoken.specs.TerminalOf.{terminal}
 use Rattle.pytoken.specs.Tokens.{text_of}
-use Rattle.pytoken.specs.Refusals.{most_brackets, entry_refusal}
+use Rattle.pytoken.specs.Refusals.{entry_refusal}
 use Rattle.pyparse_tokens.specs.declared.indents.Indents.{Indents}
 use Rattle.pyparse_tokens.specs.declared.pass.Pass.{Pass}
 use Rattle.pyparse_tokens.specs.declared.line_gather.LineGather.{LineGather}
 use Rattle.pyparse_tokens.specs.Inner.Indenting.{Measured, Measures}
-use Rattle.pyparse_tokens.specs.Inner.Passing.{counted, still_open, exceeding, given_margins, Gains}
+use Rattle.pyparse_tokens.specs.Inner.Passing.{exceeding, Gains}
 use Rattle.pyparse_tokens.specs.Inner.LineGathering.{stands_in_line, own_terminals, of_first, Adds, TakesEntry}
-use Rattle.pyparse_tokens.specs.Inner.Walking.{IsEntry, Takes, is_plain_token, line_end_kind, TakesLineEnd, PassesOperator, PassesLineEnd}
+use Rattle.pyparse_tokens.specs.Inner.Walking.{IsEntry, Takes, line_end_kind, TakesLineEnd, TakesLexeme, PassesOperator, PassesLineEnd}
 use Rattle.pyparse_tokens.proofs.OperatorLemmas.{operator_faultless, operator_adds}
 
 -- an entry of this type and exact type
@@ -44,30 +46,7 @@ or_none (Some x) = refl
 none_measured : (i : Indents) → Measures [] i i
 none_measured i ms had = subst (λ (xs : List Margin). Measured xs i) (sym (append-nil ms)) had
 
--- an entry of a text without a fault
-no_refusal : (text : List ℕ) (e : Entry) (k : Kind) (own : List ℕ) → e.kind ≡ k → text_of text e ≡ own → fault_of k own ≡ None → entry_refusal text e ≡ None
-no_refusal text e k own a b f =
-    let none : fault_of e.kind (text_of text e) ≡ None = ap₂ fault_of a b ∙ f in
-    rw none refl
-
 -- ---- What is kept of faults.
-
--- nothing, of a token as it stands
-plain_gains : (k : Kind) (text : List ℕ) (e : Entry) (p : Pass) → is_plain_token k ≡ true → p.begun ≡ true → Gains text (as_entry e k None) None p p
-plain_gains kinds.Name text e p is b = record { begun = b; opened = refl; closed = refl; faulty = or_none p.faulty; deep = or_none p.deep; indents = none_measured p.indents }
-plain_gains kinds.Number text e p is b = record { begun = b; opened = refl; closed = refl; faulty = or_none p.faulty; deep = or_none p.deep; indents = none_measured p.indents }
-plain_gains kinds.String text e p is b = record { begun = b; opened = refl; closed = refl; faulty = or_none p.faulty; deep = or_none p.deep; indents = none_measured p.indents }
-plain_gains kinds.Encoding text e p is b = absurd cc
-plain_gains kinds.Op text e p is b = absurd cc
-plain_gains kinds.Comment text e p is b = absurd cc
-plain_gains kinds.Nl text e p is b = absurd cc
-plain_gains kinds.Newline text e p is b = absurd cc
-plain_gains kinds.Indent text e p is b = absurd cc
-plain_gains kinds.Dedent text e p is b = absurd cc
-plain_gains kinds.EndMarker text e p is b = absurd cc
-
-comment_gains : (text : List ℕ) (e : Entry) (p : Pass) → Gains text (as_entry e kinds.Comment None) None p p
-comment_gains text e p = record { begun = refl; opened = refl; closed = refl; faulty = or_none p.faulty; deep = or_none p.deep; indents = none_measured p.indents }
 
 operator_gains : (text : List ℕ) (e : Entry) (x : Exact) (old new : Pass) → old.begun ≡ true → PassesOperator x old new → Gains text (as_entry e kinds.Op (Some x)) None old new
 operator_gains text e x old new b passes =
@@ -87,69 +66,6 @@ operator_gains text e x old new b passes =
 of_first_some : {A : Type 0} (ts : List Terminal) (p q : A) → 0 < length ts → of_first ts p q ≡ p
 of_first_some [] p q some = absurd (omega (arith, some))
 of_first_some (t ∷ ts) p q some = refl
-
--- an entry of a type that ends no line, and is no INDENT, DEDENT or ENDMARKER
-abbrev is_within : Kind → Bool
-is_within k = elim k [ kinds.Name ↦ true | kinds.Number ↦ true | kinds.String ↦ true | kinds.Op ↦ true | kinds.Comment ↦ true | kinds.Nl ↦ true | _ ↦ false ]
-
--- what is gathered, where only faults and the line are touched
-within_takes : (k : Kind) (text : List ℕ) (e : Entry) (x : Option Exact) (old new : LineGather) → is_within k ≡ true → e.kind ≡ k → e.exact ≡ x
-    → new.indents ≡ old.indents → new.dedents ≡ old.dedents → new.marker ≡ old.marker → entry_refusal text e ≡ None
-    → Gains text (as_entry e k x) None old.pass new.pass → Adds text e old new → TakesEntry text e old new
-within_takes k text e x old new is kind exact indents dedents marker none gains adds =
-    let same = entry_as e k x kind exact in
-    let pass : Gains text e (entry_refusal text e) old.pass new.pass =
-    subst (λ (r : Option Refusal). Gains text e r old.pass new.pass) (sym none) (subst (λ (d : Entry). Gains text d None old.pass new.pass) same gains) in
-    by k is kind pass
-  where
-    by : (k : Kind) → is_within k ≡ true → e.kind ≡ k → Gains text e (entry_refusal text e) old.pass new.pass → TakesEntry text e old new
-    by kinds.Name is kind pass = record { pass = pass; level = λ ends. let n : false ≡ true = rw kind at ends in absurd cc; indents = indents ∙ rw kind refl; dedents = dedents ∙ rw kind refl; marker = marker ∙ rw kind refl; line = λ _. adds }
-    by kinds.Number is kind pass = record { pass = pass; level = λ ends. let n : false ≡ true = rw kind at ends in absurd cc; indents = indents ∙ rw kind refl; dedents = dedents ∙ rw kind refl; marker = marker ∙ rw kind refl; line = λ _. adds }
-    by kinds.String is kind pass = record { pass = pass; level = λ ends. let n : false ≡ true = rw kind at ends in absurd cc; indents = indents ∙ rw kind refl; dedents = dedents ∙ rw kind refl; marker = marker ∙ rw kind refl; line = λ _. adds }
-    by kinds.Op is kind pass = record { pass = pass; level = λ ends. let n : false ≡ true = rw kind at ends in absurd cc; indents = indents ∙ rw kind refl; dedents = dedents ∙ rw kind refl; marker = marker ∙ rw kind refl; line = λ _. adds }
-    by kinds.Comment is kind pass = record { pass = pass; level = λ ends. let n : false ≡ true = rw kind at ends in absurd cc; indents = indents ∙ rw kind refl; dedents = dedents ∙ rw kind refl; marker = marker ∙ rw kind refl; line = λ _. adds }
-    by kinds.Nl is kind pass = record { pass = pass; level = λ ends. let n : false ≡ true = rw kind at ends in absurd cc; indents = indents ∙ rw kind refl; dedents = dedents ∙ rw kind refl; marker = marker ∙ rw kind refl; line = λ _. adds }
-    by kinds.Encoding is kind pass = absurd cc
-    by kinds.Newline is kind pass = absurd cc
-    by kinds.Indent is kind pass = absurd cc
-    by kinds.Dedent is kind pass = absurd cc
-    by kinds.EndMarker is kind pass = absurd cc
-
-plain_stands : (k : Kind) → is_plain_token k ≡ true → (stands_in_line k ≡ true) × (is_within k ≡ true)
-plain_stands kinds.Name is = (refl, refl)
-plain_stands kinds.Number is = (refl, refl)
-plain_stands kinds.String is = (refl, refl)
-plain_stands kinds.Encoding is = absurd cc
-plain_stands kinds.Op is = absurd cc
-plain_stands kinds.Comment is = absurd cc
-plain_stands kinds.Nl is = absurd cc
-plain_stands kinds.Newline is = absurd cc
-plain_stands kinds.Indent is = absurd cc
-plain_stands kinds.Dedent is = absurd cc
-plain_stands kinds.EndMarker is = absurd cc
-
--- a token as it stands adds its terminal
-plain_adds : (text : List ℕ) (e : Entry) (k : Kind) (own : List ℕ) (made : Terminal) (old new : LineGather) → stands_in_line k ≡ true → e.kind ≡ k → text_of text e ≡ own
-    → 0 < length old.terminals.items → terminal made ≡ terminal_of k own
-    → new.terminals.items ≡ old.terminals.items ++ made ∷ [] → new.start ≡ of_first old.terminals.items old.start old.start
-    → chars new.first.now ≡ of_first old.terminals.items (chars old.first.now) own → chars new.last.now ≡ own → Adds text e old new
-plain_adds text e k own made old new stands kind is some made_is terminals start first last =
-    let here : stands_in_line e.kind ≡ true = ap stands_in_line kind ∙ stands in
-    let mine : own_terminals text e ≡ terminal_of e.kind (text_of text e) ∷ [] = ap (λ (b : Bool). if b then terminal_of e.kind (text_of text e) ∷ [] else []) here in
-    let adds : terminal made ∷ [] ≡ own_terminals text e = ap (λ (t : Terminals.Terminal). t ∷ []) (made_is ∙ sym (ap₂ terminal_of kind is)) ∙ sym mine in
-    record {
-      terminals =
-          ap (map terminal) terminals ∙ map-append terminal old.terminals.items (made ∷ [])
-          ∙ ap (λ (ts : List Terminals.Terminal). map terminal old.terminals.items ++ ts) adds;
-      start =
-          start ∙ of_first_some old.terminals.items old.start old.start some ∙ sym (of_first_some old.terminals.items old.start e.start some)
-          ∙ ap (λ (b : Bool). if b then of_first old.terminals.items old.start e.start else old.start) (sym here);
-      first =
-          first
-          ∙ ap (of_first old.terminals.items (chars old.first.now)) (sym is)
-          ∙ ap (λ (b : Bool). if b then of_first old.terminals.items (chars old.first.now) (text_of text e) else chars old.first.now) (sym here);
-      last = last ∙ sym is ∙ ap (λ (b : Bool). if b then text_of text e else chars old.last.now) (sym here);
-    }
 
 -- what is no token adds nothing
 none_adds : (text : List ℕ) (e : Entry) (k : Kind) (old new : LineGather) → stands_in_line k ≡ false → e.kind ≡ k → new.terminals.items ≡ old.terminals.items → new.start ≡ old.start
@@ -172,26 +88,6 @@ none_adds text e k old new beside kind terminals start first last =
 abbrev Kept : LineGather → LineGather → Type 0
 Kept old new = new ≡ record old { terminals = new.terminals; start = new.start; first = new.first; last = new.last }
 
-pub token_takes : (k : Kind) (own : List ℕ) (made : Terminal) (old new : LineGather) → is_plain_token k ≡ true → old.pass.begun ≡ true → 0 < length old.terminals.items
-    → fault_of k own ≡ None → terminal made ≡ terminal_of k own
-    → new.terminals.items ≡ old.terminals.items ++ made ∷ [] → new.start ≡ of_first old.terminals.items old.start old.start
-    → chars new.first.now ≡ of_first old.terminals.items (chars old.first.now) own → chars new.last.now ≡ own → Kept old new → Takes k None own old new
-token_takes k own made old new plain begun some sound made_is terminals start first last rest text e is =
-    let both = plain_stands k plain in
-    let pass : new.pass ≡ old.pass = ap (λ (g : LineGather). g.pass) rest in
-    within_takes k text e None old new both.1 is.kind is.exact
-    (ap (λ (g : LineGather). g.indents) rest) (ap (λ (g : LineGather). g.dedents) rest) (ap (λ (g : LineGather). g.marker) rest)
-    (no_refusal text e k own is.kind is.own_text sound)
-    (subst (Gains text (as_entry e k None) None old.pass) (sym pass) (plain_gains k text e old.pass plain begun))
-    (plain_adds text e k own made old new both.0 is.kind is.own_text some made_is terminals start first last)
-
-pub comment_takes : (own : List ℕ) (old : LineGather) → fault_of kinds.Comment own ≡ None → Takes kinds.Comment None own old old
-comment_takes own old sound text e is =
-    within_takes kinds.Comment text e None old old refl is.kind is.exact refl refl refl
-    (no_refusal text e kinds.Comment own is.kind is.own_text sound)
-    (comment_gains text e old.pass)
-    (none_adds text e kinds.Comment old old refl is.kind refl refl refl refl)
-
 -- an operator: first the brackets were counted, then its terminal was kept
 pub operator_takes : (x : Exact) (own : List ℕ) (old mid new : LineGather) → old.pass.begun ≡ true → 0 < length old.terminals.items
     → PassesOperator x old.pass mid.pass → mid ≡ record old { pass = mid.pass }
@@ -202,18 +98,24 @@ operator_takes x own old mid new begun some passes between terminals start first
     let items : mid.terminals.items ≡ old.terminals.items = ap (λ (g : LineGather). g.terminals.items) between in
     let at : mid.start ≡ old.start = ap (λ (g : LineGather). g.start) between in
     let front : chars mid.first.now ≡ chars old.first.now = ap (λ (g : LineGather). chars g.first.now) between in
-    within_takes kinds.Op text e (Some x) old new refl is.kind is.exact
-    (ap (λ (g : LineGather). g.indents) rest ∙ ap (λ (g : LineGather). g.indents) between)
-    (ap (λ (g : LineGather). g.dedents) rest ∙ ap (λ (g : LineGather). g.dedents) between)
-    (ap (λ (g : LineGather). g.marker) rest ∙ ap (λ (g : LineGather). g.marker) between)
-    (operator_faultless text e x is.has is.exact)
-    (subst (Gains text (as_entry e kinds.Op (Some x)) None old.pass) (sym pass) (operator_gains text e x old.pass mid.pass begun passes))
-    (operator_adds text e x old new is.has is.exact
+    let none : entry_refusal text e ≡ None = operator_faultless text e x is.has is.exact in
+    let gains : Gains text e None old.pass mid.pass =
+    subst (λ (d : Entry). Gains text d None old.pass mid.pass) (entry_as e kinds.Op (Some x) is.kind is.exact) (operator_gains text e x old.pass mid.pass begun passes) in
+    let adds : Adds text e old new =
+    operator_adds text e x old new is.has is.exact
     (terminals ∙ ap (λ (ts : List Terminal). ts ++ Op x ∷ []) items)
     (start ∙ ap₂ (λ (ts : List Terminal) (p : Place). of_first ts p p) items at ∙ of_first_some old.terminals.items old.start old.start some
     ∙ sym (of_first_some old.terminals.items old.start e.start some))
     (first ∙ ap₂ (λ (ts : List Terminal) (t : List ℕ). of_first ts t own) items front ∙ ap (of_first old.terminals.items (chars old.first.now)) (sym is.own_text))
-    (last ∙ sym is.own_text))
+    (last ∙ sym is.own_text) in
+    record {
+      pass = subst (λ (r : Option Refusal). Gains text e r old.pass new.pass) (sym none) (subst (Gains text e None old.pass) (sym pass) gains);
+      level = λ ends. let n : false ≡ true = rw is.kind at ends in absurd cc;
+      indents = ap (λ (g : LineGather). g.indents) rest ∙ ap (λ (g : LineGather). g.indents) between ∙ rw is.kind refl;
+      dedents = ap (λ (g : LineGather). g.dedents) rest ∙ ap (λ (g : LineGather). g.dedents) between ∙ rw is.kind refl;
+      marker = ap (λ (g : LineGather). g.marker) rest ∙ ap (λ (g : LineGather). g.marker) between ∙ rw is.kind refl;
+      line = λ _. adds;
+    }
 
 line_end_faultless : (text : List ℕ) (e : Entry) (b : Bool) → e.kind ≡ line_end_kind b → entry_refusal text e ≡ None
 unfolding fault_of
@@ -244,23 +146,27 @@ line_end_takes text ends to old new level passes rest own e is there =
     taken true level kind pass indents dedents marker adds = record { pass = pass; level = λ _. level refl; indents = indents ∙ rw kind refl; dedents = dedents ∙ rw kind refl; marker = marker ∙ rw kind refl; line = λ _. adds }
     taken false level kind pass indents dedents marker adds = record { pass = pass; level = λ ends. let n : false ≡ true = rw kind at ends in absurd cc; indents = indents ∙ rw kind refl; dedents = dedents ∙ rw kind refl; marker = marker ∙ rw kind refl; line = λ _. adds }
 
--- the margins of a line end
-pub line_end_passes : (text : List ℕ) (ends : Bool) (to : ℕ) (old new : Pass) → (begun_is : new.begun ≡ (if ends then false else old.begun)) → new.opened ≡ old.opened → new.closed ≡ old.closed
-    → new.faulty ≡ old.faulty → new.deep ≡ old.deep
-    → ((e : Entry) → e.kind ≡ line_end_kind ends → e.to ≡ to → Measures (given_margins text e old.opened old.closed) old.indents new.indents) → PassesLineEnd text ends to old new
-line_end_passes text ends to old new begun opened closed faulty deep indents e kind exact there =
-    let same = entry_as e (line_end_kind ends) None kind exact in
-    let no_bracket : exceeding (as_entry e (line_end_kind ends) None) old.opened old.closed ≡ None = refl in
-    subst (λ (d : Entry). Gains text d None old new) same
-    record {
-      begun = begun ∙ by ends;
-      opened = opened;
-      closed = closed;
-      faulty = faulty ∙ or_none old.faulty;
-      deep = deep ∙ or_none old.deep;
-      indents = indents (as_entry e (line_end_kind ends) None) refl there;
-    }
+-- a line end, by what its pass answers
+pub line_end_kept : {E : Type 0} (answer : Result (Unit {0}) E) (text : List ℕ) (ends : Bool) (to : ℕ) (old mid : LineGather) (pass : Pass) → (ends ≡ true → mid.level ≡ old.indents - old.dedents)
+    → mid ≡ record old { level = mid.level } → OnOk answer (PassesLineEnd text ends to mid.pass pass) → OnOk answer (TakesLineEnd text ends to old (record mid { pass = pass }))
+line_end_kept (Ok u) text ends to old mid pass level rest passes =
+    let was : mid.pass ≡ old.pass = ap (λ (g : LineGather). g.pass) rest in
+    line_end_takes text ends to old (record mid { pass = pass }) level (subst (λ (p : Pass). PassesLineEnd text ends to p pass) was passes)
+    (ap (λ (g : LineGather). record g { pass = pass }) rest)
+line_end_kept (Err fault) text ends to old mid pass level rest passes = tt
+
+-- what is no other lexeme that gives an entry is a line end
+pub end_takes : (text own : List ℕ) (k : Class) (t : Spot) (old new : LineGather) → (k ≡ Name → ⊥) → (k ≡ Number → ⊥) → (k ≡ String → ⊥) → ((x : Exact) → k ≡ Operator x → ⊥)
+    → (k ≡ Comment → ⊥) → is_silent k ≡ false → TakesLineEnd text (not t.begun) t.offset old new → TakesLexeme text k own t old new
+end_takes text own LineEnd t old new name number string operator comment gives takes e is there = takes own e (as_end t.begun is) there
   where
-    by : (b : Bool) → (if b then false else old.begun) ≡ still_open (line_end_kind b) old.begun
-    by true = refl
-    by false = refl
+    as_end : (b : Bool) → IsEntry text (kind_of LineEnd b) None own e → IsEntry text (line_end_kind (not b)) None own e
+    as_end true is = is
+    as_end false is = is
+end_takes text own Name t old new name number string operator comment gives takes e is there = absurd (name refl)
+end_takes text own Number t old new name number string operator comment gives takes e is there = absurd (number refl)
+end_takes text own String t old new name number string operator comment gives takes e is there = absurd (string refl)
+end_takes text own (Operator x) t old new name number string operator comment gives takes e is there = absurd (operator x refl)
+end_takes text own Comment t old new name number string operator comment gives takes e is there = absurd (comment refl)
+end_takes text own Blanks t old new name number string operator comment gives takes e is there = absurd cc
+end_takes text own Join t old new name number string operator comment gives takes e is there = absurd cc

@@ -1,6 +1,6 @@
 -- Carries: walk, walk_line, read_line. On: what was read of a line, with one entry more, and from
 -- one spot to the next.
-use Rattle.std.proofs.Common.{◌≡◌, ℕ, ◌+◌, ◌^◌, ◌<◌, ◌≤◌, Bool, true, false, not, ◌&&◌, List, [], length, take, drop, map, length-take, refl, sym, ap, ap₂, subst, ◌∙◌, arith, Some, None}
+use Rattle.std.proofs.Common.{◌≡◌, ℕ, ◌^◌, ◌<◌, ◌≤◌, Bool, true, false, not, ◌&&◌, List, [], length, take, drop, map, length-take, refl, sym, ap, ap₂, subst, ◌∙◌, arith, Some, None}
 use Rattle.std.specs.Str.{chars, IsUtf8, IsCharBoundary}
 use Rattle.pysource.specs.Limits.{source_limit}
 use Rattle.pysource.specs.declared.places.Place.{Place}
@@ -19,9 +19,8 @@ use Rattle.pylex.specs.Listers.{Listed, LeadsInto}
 use Rattle.pylex.specs.Spots.{spot_cursor, at_spot, is_silent, Steps, SpotHasRoom, kind_of, operator_of}
 use Rattle.pylex.specs.Steps.{entries_of, most_entries}
 use Rattle.pylex.proofs.CallersOfSpots.{Goes, step_goes, spot_room, spot_boundary, spot_leads}
-use Rattle.pytoken.specs.Tokens.{Token, text_of}
+use Rattle.pytoken.specs.Tokens.{Token}
 use Rattle.pytoken.specs.TerminalOf.{terminal}
-use Rattle.pyparse_tokens.specs.declared.pass.Pass.{Pass}
 use Rattle.pyparse_tokens.specs.declared.line_gather.LineGather.{LineGather}
 use Rattle.pyparse_tokens.specs.Inner.Passing.{still_open, kept_refusal}
 use Rattle.pyparse_tokens.specs.Inner.LineGathering.{ends_open_line, ended_by, TakesEntry, KeepsLine, StandsAt, StandsBetween}
@@ -165,6 +164,11 @@ few_brackets p l g at =
     let counts = few (chars p.text) (take l.shown.given es) g.pass at.counts.pass in
     (omega (arith, counts.0, length-take l.shown.given es, at.few), omega (arith, counts.1, length-take l.shown.given es, at.few))
 
+pub few_levels : (p : Parts) (l : Listed) (g : LineGather) → StandsAt p l g → (g.indents < 2 ^ 63) × (g.dedents < 2 ^ 63)
+few_levels p l g at =
+    let size = length-take l.shown.given (entries_of (listing (in_characters p))) in
+    (omega (arith, at.counts.few_indents, size, at.few), omega (arith, at.counts.few_dedents, size, at.few))
+
 -- ---- A walk.
 
 pub walk_begins : (p : Parts) (levels left : List ℕ) (s : Spot) (g : LineGather) → IsUtf8 left → StandsAt p (at_spot p s levels) g → s.begun ≡ true → g.pass.begun ≡ true →
@@ -233,44 +237,14 @@ walk_ends p levels left s t u k front back old g h w x moved takes ends =
       given = omega (arith, w.given, count);
     }
 
--- no further
-pub walk_stops : (p : Parts) (levels left : List ℕ) (s t : Spot) (old g : LineGather) → Walks p levels s t old g left → WalkEnds p levels s t old g
-walk_stops p levels left s t old g w = record {
-  at = w.at;
-  went = record { within = λ _ first r. w.reads first r; ended = λ ends. absurd (different t.begun w.within ends) };
-  given = w.given;
-}
-
 -- ---- The lister goes along.
 
 -- a lister stands at its spot
 here_is : (p : Parts) (l : Listed) (s : Spot) → l.source ≡ p → spot_cursor s l.shown.levels ≡ l.shown → at_spot p s l.shown.levels ≡ l
 here_is p l s source shown = ap₂ (λ (q : Parts) (c : CursorParts). record { source = q; shown = c }) (sym source) shown
 
-there_is : (p : Parts) (old new : Listed) (t : Spot) → old.source ≡ p → new ≡ at_spot old.source t old.shown.levels → new ≡ at_spot p t old.shown.levels
-there_is p old new t source moved = moved ∙ ap (λ (q : Parts). at_spot q t old.shown.levels) source
-
 pub stands_here : (p : Parts) (l : Listed) (s : Spot) (g : LineGather) → StandsAt p l g → spot_cursor s l.shown.levels ≡ l.shown → StandsAt p (at_spot p s l.shown.levels) g
 stands_here p l s g at shown = subst (λ (x : Listed). StandsAt p x g) (sym (here_is p l s at.source shown)) at
 
 pub leads_there : (p : Parts) (l : Listed) (t : Spot) (g : LineGather) → l.source ≡ p → StandsAt p (at_spot p t l.shown.levels) g → LeadsInto (spot_cursor t l.shown.levels) l.source
 leads_there p l t g source at = subst (LeadsInto (spot_cursor t l.shown.levels)) (sym source) (spot_leads p t l.shown.levels at.stands)
-
-pub gone_within : (p : Parts) (old new : Listed) (s t : Spot) (g h : LineGather) → old.source ≡ p → spot_cursor s old.shown.levels ≡ old.shown →
-    new ≡ at_spot old.source t old.shown.levels → Went p old.shown.levels s t g h → t.begun ≡ true → (first : Listed) → Reads p first old g → Reads p first new h
-gone_within p old new s t g h source shown moved went goes first r =
-    subst (λ (l : Listed). Reads p first l h) (sym (there_is p old new t source moved))
-    (went.within goes first (subst (λ (l : Listed). Reads p first l g) (sym (here_is p old s source shown)) r))
-
-pub gone_ended : (p : Parts) (old new : Listed) (s t : Spot) (g h : LineGather) → old.source ≡ p → spot_cursor s old.shown.levels ≡ old.shown →
-    new ≡ at_spot old.source t old.shown.levels → Went p old.shown.levels s t g h → t.begun ≡ false → (first : Listed) → Reads p first old g → Ended p first new h
-gone_ended p old new s t g h source shown moved went ends first r =
-    subst (λ (l : Listed). Ended p first l h) (sym (there_is p old new t source moved))
-    (went.ended ends first (subst (λ (l : Listed). Reads p first l g) (sym (here_is p old s source shown)) r))
-
-pub gone_given : (old new : Listed) (s t : Spot) → spot_cursor s old.shown.levels ≡ old.shown → new ≡ at_spot old.source t old.shown.levels → s.given ≤ t.given →
-    old.shown.given ≤ new.shown.given
-gone_given old new s t shown moved le =
-    let begins : s.given ≡ old.shown.given = ap (λ (c : CursorParts). c.given) shown in
-    let ends : new.shown.given ≡ t.given = ap (λ (l : Listed). l.shown.given) moved in
-    omega arith

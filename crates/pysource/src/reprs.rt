@@ -229,6 +229,10 @@ fn push_plain_points(out: &mut String, points: &[u32]) -> Result<usize, AllocErr
         (λ n. string_bytes out.new ≡ string_bytes out.old ++ take n points.now) }
     ensures kept { StartsWith (string_bytes out.new) (string_bytes out.old) }
 {
+    // Nothing is made ready where there is no run, as between two letters that aren't ASCII.
+    if points.is_empty() || !is_plain_point(points[0]) {
+        return Ok(0);
+    }
     out.reserve(points.len())?;
     // Taken out and put back, so that a byte is written without a call.
     let mut bytes = try_take(out)?.into_bytes();

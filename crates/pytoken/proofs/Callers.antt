@@ -5,3 +5,4 @@ pub mod OnePass
 pub mod Said
 pub mod Bodies
 pub mod TextLemmas
+pub mod Numerals

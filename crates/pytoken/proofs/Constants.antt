@@ -1,96 +1,26 @@
--- Carries: come_back. On: whole numbers in decimal, the reprs of texts and of bytes, which are
--- read as what was written.
-use Rattle.std.proofs.Common.{◌≡◌, ℕ, ◌-◌, ◌^◌, ◌<◌, ◌≤◌, Bool, true, false, ◌⊎◌, List, [], ◌∷◌, ◌++◌, length, get_or, drop, map, refl, sym, subst}
+-- Carries: come_back. On: the reprs of texts and of bytes, which are read as what was written.
+use Rattle.std.proofs.Common.{◌≡◌, ℕ, ◌-◌, ◌<◌, ◌≤◌, Bool, true, false, List, [], ◌∷◌, ◌++◌, length, get_or, drop, map, refl, sym, subst}
 use Rattle.std.proofs.Common.{ap, ◌∙◌, inl, inr, true≢false, arith, length-append, append_assoc, None}
-use Rattle.std.specs.Prelude.{◌==◌, ◌||◌, ◌&&◌, not, nat_lt, nat_le, All, if◌then◌else◌, decimal, filter}
+use Rattle.std.specs.Prelude.{◌==◌, ◌||◌, ◌&&◌, not, nat_lt, All, if◌then◌else◌}
 use Rattle.std.specs.List.{flat_map, list_any, list_all}
-use Rattle.std.specs.Str.Parse.{AllDigits, digits_value}
-use Rattle.std.proofs.lemmas.Bool.{and_parts, or_from, and_left, and_right, not-true, ne_eqb, lt-leb, le-ltb, ltb-false, both_ways, or_parts}
-use Rattle.std.proofs.lemmas.Fmt.{decimal_is_IsNumeral_wide}
+use Rattle.std.proofs.lemmas.Bool.{and_parts, or_from, and_left, and_right, not-true, ne_eqb, le-ltb, ltb-false, both_ways, or_parts}
 use Rattle.std.proofs.lemmas.List.{take_at}
 use Rattle.std.proofs.lemmas.List.Folds.{list_any-append}
-use Rattle.std.proofs.lemmas.Str.Parse.{digit_from_value}
 use Rattle.ucd_category.proofs.Computing.{ucd_category}
 use Rattle.pysource.specs.Reprs.{escaped, quote_for, repr_chars, repr_bytes, is_unprintable, is_unprintable_byte}
-use Rattle.pylex_lexeme.specs.Numbers.{is_j, is_point, is_e}
 use Rattle.pylex_lexeme.specs.Strings.{begins_three}
 use Rattle.pylex.specs.declared.kind.Kind.{Kind}
 use Rattle.pylex.specs.declared.kind.Kind.TheVariants as kinds
 use Rattle.pytree_node.specs.Values.{Str, Bytes}
 use Rattle.pytoken.specs.declared.meanings.Meaning.{Meaning}
 use Rattle.pytoken.specs.declared.meanings.Meaning.TheVariants.{Point}
-use Rattle.pytoken.specs.NumberValues.{radix_of, is_no_underscore, whole_value, number_fault}
+use Rattle.pytree_node.specs.declared.profiles.Extent.TheVariants.{Whole}
 use Rattle.pytoken.specs.Escapes.{meanings, meanings_after, points_in, escape_fault, is_named_escape, is_bad_escape}
 use Rattle.pytoken.specs.StringValues.{with_line_feeds, prefix_len_of, inside, body_of, points_of, value_of, string_value, literal_fault}
 use Rattle.pytoken.specs.StringValues.{string_fault, nul_fault, is_bytes, is_unicode, is_raw, is_formatted}
-use Rattle.pytoken.specs.Terminals.{Terminal, Whole, Literal, terminal_of, fault_of}
+use Rattle.pytoken.specs.Terminals.{Terminal, Literal, terminal_of, fault_of}
 use Rattle.pytree_node.specs.Points.{IsPoint}
 use Rattle.pytoken.proofs.ReadBack.{IsMark, Fits, Begins, begins, written, all_read_back, all_pass, written_begins}
-
--- Whole numbers
-
--- digits alone: no letter, no underscore, no point
-digit_not : (c k : ℕ) → (48 ≤ c) × (c ≤ 57) → (k < 48) ⊎ (57 < k) → (c == k) ≡ false
-digit_not c k h (inl low) = ne_eqb c k (λ e. absurd (omega (arith, e, h.0)))
-digit_not c k h (inr high) = ne_eqb c k (λ e. absurd (omega (arith, e, h.1)))
-
-digits_radix : (ds : List ℕ) → AllDigits 10 ds → radix_of ds ≡ 10
-digits_radix [] all = refl
-digits_radix (a ∷ []) all = refl
-digits_radix (a ∷ b ∷ ds) all =
-    let d = digit_from_value b all.1.0 in
-    let x = digit_not b 120 d (inr (omega arith)) in
-    let x' = digit_not b 88 d (inr (omega arith)) in
-    let o = digit_not b 111 d (inr (omega arith)) in
-    let o' = digit_not b 79 d (inr (omega arith)) in
-    let b' = digit_not b 98 d (inr (omega arith)) in
-    let b'' = digit_not b 66 d (inr (omega arith)) in
-    rw (x, x', o, o', b', b'') refl
-
-digits_kept : (ds : List ℕ) → AllDigits 10 ds → filter is_no_underscore ds ≡ ds
-digits_kept [] all = refl
-digits_kept (a ∷ ds) all =
-    let no_line = digit_not a 95 (digit_from_value a all.0) (inr (omega arith)) in
-    rw no_line (ap (λ (t : List ℕ). a ∷ t) (digits_kept ds all.1))
-
-digits_no_j : (ds : List ℕ) → AllDigits 10 ds → list_any is_j ds ≡ false
-digits_no_j [] all = refl
-digits_no_j (a ∷ ds) all =
-    let d = digit_from_value a all.0 in
-    or_from (is_j a) (list_any is_j ds) (or_from (a == 106) (a == 74) (digit_not a 106 d (inr (omega arith))) (digit_not a 74 d (inr (omega arith))))
-    (digits_no_j ds all.1)
-
-digits_no_point : (ds : List ℕ) → AllDigits 10 ds → list_any (λ c. is_point c || is_e c) ds ≡ false
-digits_no_point [] all = refl
-digits_no_point (a ∷ ds) all =
-    let d = digit_from_value a all.0 in
-    or_from (is_point a || is_e a) (list_any (λ c. is_point c || is_e c) ds)
-    (or_from (is_point a) (is_e a) (digit_not a 46 d (inl (omega arith)))
-    (or_from (a == 101) (a == 69) (digit_not a 101 d (inr (omega arith))) (digit_not a 69 d (inr (omega arith)))))
-    (digits_no_point ds all.1)
-
-digits_whole : (ds : List ℕ) → AllDigits 10 ds → whole_value ds ≡ digits_value 10 ds
-unfolding whole_value
-digits_whole ds all = let r = digits_radix ds all in rw r (ap (digits_value 10) (digits_kept ds all))
-
-decimal_whole : (n : ℕ) → n < 2 ^ 128 → whole_value (decimal n) ≡ n
-decimal_whole n h =
-    let numeral = decimal_is_IsNumeral_wide n (omega arith) in
-    digits_whole (decimal n) numeral.0.1 ∙ numeral.1
-
-whole_is : (n : ℕ) → n < 2 ^ 128 → terminal_of kinds.Number (decimal n) ≡ Whole n
-unfolding terminal_of
-whole_is n h = ap Whole (decimal_whole n h)
-
-whole_sound : (n : ℕ) → n < 2 ^ 128 → fault_of kinds.Number (decimal n) ≡ None
-unfolding fault_of number_fault
-whole_sound n h =
-    let numeral = decimal_is_IsNumeral_wide n (omega arith) in
-    let j = digits_no_j (decimal n) numeral.0.1 in
-    let point = digits_no_point (decimal n) numeral.0.1 in
-    let value = decimal_whole n h in
-    let small : nat_le (2 ^ 128) (whole_value (decimal n)) ≡ false = lt-leb (2 ^ 128) (whole_value (decimal n)) (omega (arith, value)) in
-    rw (j, point, and_right (radix_of (decimal n) == 10) false refl, small) refl
 
 -- Texts and bytes
 
@@ -258,7 +188,7 @@ literal_sound test bytes u q t cs mark fit o low none =
 
 sound_back : (test : ℕ → Bool) (bytes u : Bool) (q : ℕ) (t cs : List ℕ) → IsMark q → All (Fits bytes) cs → Opened bytes u t (between test q cs)
     → list_any (λ c. c == 13) t ≡ false → (bytes && list_any (nat_lt 0x7F) t) ≡ false → list_any (λ c. c == 0) t ≡ false →
-    fault_of kinds.String t ≡ None
+    fault_of Whole kinds.String t ≡ None
 unfolding fault_of string_fault
 sound_back test bytes u q t cs mark fit o whole low none =
     ap literal_fault (kept_whole t whole) ∙ literal_sound test bytes u q t cs mark fit o low none
@@ -271,13 +201,10 @@ bytes_fit bs small k d within = let h = small k d within in record { most = omeg
 
 -- What each says
 
--- a token of this type and text is this terminal, and has no fault by itself
+-- a token of this type and text is this terminal, and has no fault by itself in the whole language
 pub record Stands (k : Kind) (t : List ℕ) (x : Terminal) : Type 0 where
   pub terminal : terminal_of k t ≡ x
-  pub faultless : fault_of k t ≡ None
-
-pub whole_stands : (n : ℕ) → n < 2 ^ 128 → Stands kinds.Number (decimal n) (Whole n)
-whole_stands n h = record { terminal = whole_is n h; faultless = whole_sound n h }
+  pub faultless : fault_of Whole k t ≡ None
 
 pub text_stands : (points : List ℕ) → All IsPoint points → Stands kinds.String (repr_chars points) (Literal (Str points false))
 text_stands points most =

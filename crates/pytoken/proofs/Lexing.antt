@@ -1,15 +1,13 @@
--- Carries: come_back. On: the repr of a text or of bytes is a string as a lexeme, and a whole
--- number in decimal is a number.
-use Rattle.std.proofs.Common.{◌≡◌, ℕ, zero, suc, ◌+◌, ◌/◌, ◌%◌, ◌^◌, ◌<◌, ◌≤◌, Bool, true, false, List, [], ◌∷◌, ◌++◌, refl, sym, subst, ap, ◌∙◌, inl}
+-- Carries: come_back. On: the repr of a text or of bytes is a string as a lexeme.
+use Rattle.std.proofs.Common.{◌≡◌, ℕ, zero, suc, ◌/◌, ◌%◌, ◌<◌, ◌≤◌, Bool, true, false, List, [], ◌∷◌, ◌++◌, refl, sym, subst, ap, ◌∙◌, inl}
 use Rattle.std.proofs.Common.{inr, arith, append_assoc}
-use Rattle.std.specs.Prelude.{◌==◌, ◌||◌, ◌&&◌, nat_le, decimal}
+use Rattle.std.specs.Prelude.{◌==◌, ◌||◌, ◌&&◌}
 use Rattle.std.specs.Char.{digit_char}
 use Rattle.std.specs.List.{flat_map}
-use Rattle.std.proofs.lemmas.Bool.{and_from, and_parts, or_left, or_right, cases_Bool, cases_eq, eq-eqb, le-leb, ne_eqb, false≢true}
-use Rattle.std.proofs.lemmas.Fmt.{decimal_by_steps_wide}
+use Rattle.std.proofs.lemmas.Bool.{and_from, or_left, or_right, eq-eqb, ne_eqb}
 use Rattle.std.proofs.lemmas.Bool.Decides.{nat_tests}
 use Rattle.pysource.specs.Reprs.{hex, escaped, quote_for, repr_chars, repr_bytes, is_unprintable, is_unprintable_byte}
-use Rattle.pylex_lexeme.specs.Numbers.{split_any, headed, is_decimal_digit, is_one_to_nine, is_zero, are_joined, is_decimal, is_number}
+use Rattle.pylex_lexeme.specs.Numbers.{split_any}
 use Rattle.pylex_lexeme.specs.Strings.{units, ends_by_one, is_single, is_single_string, is_string, is_prefix, is_triple_string}
 use Rattle.pytoken.proofs.ReadBack.{IsMark, Written, marked, tab, feed, return, short, middle, long, itself, written}
 use Rattle.pytoken.proofs.Constants.{quote_mark}
@@ -170,63 +168,3 @@ bytes_are_string bs =
     let q = quote_for bs in
     string_by (repr_bytes bs) (with_prefix 98 q (flat_map (escaped is_unprintable_byte q) bs ++ q ∷ []) b_prefix
     (either_single is_unprintable_byte q bs (quote_mark bs)))
-
--- numbers
-
-joined_push : (t : List ℕ) (c : ℕ) → are_joined is_decimal_digit t ≡ true → is_decimal_digit c ≡ true →
-    are_joined is_decimal_digit (t ++ c ∷ []) ≡ true
-joined_push [] c h digit = digit
-joined_push (a ∷ []) c h digit = rw h digit
-joined_push (a ∷ b ∷ t) c h digit = elim (cases_Bool (is_decimal_digit a)) [
-  | inl first ↦
-      let rest : are_joined is_decimal_digit (b ∷ t) ≡ true = rw first at h in
-      rw first (joined_push (b ∷ t) c rest digit)
-  | inr other ↦
-      let parts : ((a == 95) && is_decimal_digit b && are_joined is_decimal_digit t) ≡ true = rw other at h in
-      let both = and_parts ((a == 95) && is_decimal_digit b) (are_joined is_decimal_digit t) parts in
-      rw (other, both.0) (joined_push t c both.1 digit)
-]
-
--- zero, or digits of which the first is no zero
-abbrev Shaped : ℕ → List ℕ → Type 0
-Shaped n ds = (0 < n → headed is_one_to_nine (are_joined is_decimal_digit) ds ≡ true) × (n ≡ 0 → ds ≡ 48 ∷ [])
-
-digit_range : (n : ℕ) → n < 10 → is_decimal_digit (48 + n) ≡ true
-digit_range n h = and_from (nat_le 48 (48 + n)) (nat_le (48 + n) 57) (le-leb 48 (48 + n) (omega arith)) (le-leb (48 + n) 57 (omega arith))
-
-head_push : (ds : List ℕ) (c : ℕ) → headed is_one_to_nine (are_joined is_decimal_digit) ds ≡ true → is_decimal_digit c ≡ true →
-    headed is_one_to_nine (are_joined is_decimal_digit) (ds ++ c ∷ []) ≡ true
-head_push [] c h digit = absurd (false≢true h)
-head_push (a ∷ t) c h digit =
-    let parts = and_parts (is_one_to_nine a) (are_joined is_decimal_digit t) h in
-    and_from (is_one_to_nine a) (are_joined is_decimal_digit (t ++ c ∷ [])) parts.0 (joined_push t c parts.1 digit)
-
-decimal_shaped : (n : ℕ) → n < 10 ^ 64 → Shaped n (decimal n)
-decimal_shaped n h = decimal_by_steps_wide Shaped one more n h
-  where
-    one : (k : ℕ) → k < 10 → Shaped k ((48 + k) ∷ [])
-    one k small = (
-      λ some. and_from (is_one_to_nine (48 + k)) true (and_from (nat_le 49 (48 + k)) (nat_le (48 + k) 57) (le-leb 49 (48 + k) (omega arith))
-          (le-leb (48 + k) 57 (omega arith))) refl,
-      λ none. ap (λ (c : ℕ). c ∷ []) (omega arith),
-    )
-
-    more : (k : ℕ) (ds : List ℕ) → 10 ≤ k → Shaped (k / 10) ds → Shaped k (ds ++ (48 + k % 10) ∷ [])
-    more k ds large shaped = (
-      λ some. head_push ds (48 + k % 10) (shaped.0 (omega arith)) (digit_range (k % 10) (omega arith)),
-      λ none. absurd (omega arith),
-    )
-
-number_by : (t : List ℕ) → is_decimal t ≡ true → is_number t ≡ true
-unfolding is_number
-number_by t h = rw h refl
-
-pub whole_is_number : (n : ℕ) → n < 10 ^ 64 → is_number (decimal n) ≡ true
-unfolding is_decimal
-whole_is_number n h =
-    let shaped = decimal_shaped n h in
-    number_by (decimal n) (elim (cases_eq n 0) [
-      | inl zero_is ↦ ap is_decimal (shaped.1 zero_is)
-      | inr some ↦ or_right (headed is_zero (are_joined is_zero) (decimal n)) (headed is_one_to_nine (are_joined is_decimal_digit) (decimal n))
-          (shaped.0 (omega (arith, some)))
-    ])

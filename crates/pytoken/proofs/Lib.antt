@@ -4,10 +4,14 @@ mod ReadBack
 mod Constants
 mod Lexing
 mod Words
+mod NumberKinds
 mod NumberClasses
+mod Numerals
 mod SmallBytes
 mod TextPoints
+mod EntryTokens
 mod Sound
+mod Extents
 mod MarginParts
 mod MarginWidths
 mod ValueRows

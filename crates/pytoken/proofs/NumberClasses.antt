@@ -1,8 +1,8 @@
--- Carries: faults_are_by_class. On: which characters stand in the numbers of each class.
-use Rattle.std.proofs.Common.{◌≡◌, ℕ, ◌^◌, Bool, true, false, List, [], ◌∷◌, refl, ap, inl, inr, arith, Some, None}
-use Rattle.std.specs.Prelude.{◌==◌, ◌||◌, ◌&&◌, not, nat_le, if◌then◌else◌}
+-- Carries: faults_are_by_class, Numerals. On: which characters stand in the numbers of each class.
+use Rattle.std.proofs.Common.{◌≡◌, ℕ, ◌^◌, Bool, true, false, List, [], ◌∷◌, refl, ap, inl, inr, arith, Some}
+use Rattle.std.specs.Prelude.{◌==◌, ◌||◌, ◌&&◌, not}
 use Rattle.std.specs.List.{list_any, list_all}
-use Rattle.std.proofs.lemmas.Bool.{and_from, and_left, or_from, or_left, or_right, cases_Bool, not-true}
+use Rattle.std.proofs.lemmas.Bool.{and_from, and_left, and_right, or_from, or_left, or_right, cases_Bool, not-true}
 use Rattle.std.proofs.lemmas.Bool.Decides.{nat_tests}
 use Rattle.pylex_lexeme.specs.Numbers.{is_nil, split_any, optional, headed, is_decimal_digit, is_zero, is_hex_digit, is_octal_digit, is_binary_digit}
 use Rattle.pylex_lexeme.specs.Numbers.{is_point, is_e, is_j, is_x, is_o, is_b, is_sign, are_some, is_decimal, is_radix, is_digit_part, is_exponent}
@@ -10,9 +10,13 @@ use Rattle.pylex_lexeme.specs.Numbers.{is_point_after, is_point_before, is_raise
 use Rattle.pylex_lexeme.proofs.Callers.Booleans.{and_parts, or_parts}
 use Rattle.pylex_lexeme.proofs.Callers.Fronts.{split_all, joined_all}
 use Rattle.pylex_lexeme.proofs.Callers.Numbers.{digit_bounds, either, either_not, point_is, part_all, decimal_part}
-use Rattle.pytoken.specs.declared.faults.TokenError.TheVariants.{Float, Complex, IntegerTooLarge}
-use Rattle.pytoken.specs.NumberValues.{radix_of, whole_value, is_complex, is_real, number_fault}
+use Rattle.pyfloat.specs.FloatValues.{float_value}
+use Rattle.pytree_node.specs.Values.{Int, Float, Imaginary}
+use Rattle.pytree_node.specs.declared.profiles.Extent.TheVariants.{Plain}
+use Rattle.pytoken.specs.declared.faults.TokenError.TheVariants as errors
+use Rattle.pytoken.specs.NumberValues.{radix_of, whole_value, is_complex, is_real, number_value, number_fault, too_large}
 use Rattle.pytoken.specs.Laws.{FaultsAreByClass}
+use Rattle.pytoken.proofs.NumberKinds.{fault_complex, fault_real, value_complex, value_real, value_whole}
 
 -- Texts in parts
 
@@ -236,41 +240,50 @@ other_radix (a ∷ b ∷ t) (binary is) =
     let o = either_not is_o 98 66 b two refl refl in
     rw (x, o, two) refl
 
--- The faults
+-- What is a float literal, and what an imaginary one
 
-whole_is : (t : List ℕ) → is_complex t ≡ false → is_real t ≡ false →
-    number_fault t ≡ (if nat_le (2 ^ 128) (whole_value t) then Some IntegerTooLarge else None)
-unfolding number_fault
-whole_is t complex real = rw (complex, real) refl
+pub imaginary_complex : (t : List ℕ) → is_imaginary t ≡ true → is_complex t ≡ true
+unfolding is_imaginary
+imaginary_complex t h = split_has (λ u. is_digit_part u || is_float u) (headed is_j is_nil) is_j (headed_has is_j is_nil is_j (λ c j. j)) t h
 
-imaginary_is : (t : List ℕ) → is_imaginary t ≡ true → number_fault t ≡ Some Complex
-unfolding number_fault is_imaginary
-imaginary_is t h =
-    let complex : is_complex t ≡ true = split_has (λ u. is_digit_part u || is_float u) (headed is_j is_nil) is_j
-    (headed_has is_j is_nil is_j (λ c j. j)) t h in
-    rw complex refl
+pub float_not_complex : (t : List ℕ) → is_float t ≡ true → is_complex t ≡ false
+float_not_complex t h = not_complex t (float_plain t h)
 
-float_is : (t : List ℕ) → is_float t ≡ true → number_fault t ≡ Some Float
-unfolding number_fault
+pub float_real : (t : List ℕ) → is_float t ≡ true → is_real t ≡ true
+float_real t h =
+    and_from (radix_of t == 10) (list_any is_mark t) (ap (λ (n : ℕ). n == 10) (radix_ten t (float_plain t h))) (float_has t h)
+
+pub decimal_not_complex : (t : List ℕ) → is_decimal t ≡ true → is_complex t ≡ false
+decimal_not_complex t h = not_complex t (part_plain t (decimal_part t h))
+
+pub decimal_not_real : (t : List ℕ) → is_decimal t ≡ true → is_real t ≡ false
+decimal_not_real t h = and_right (radix_of t == 10) (list_any is_mark t) (decimal_unmarked t h)
+
+-- The values, and the faults in the plain language
+
+imaginary_is : (t : List ℕ) → is_imaginary t ≡ true → (number_fault Plain t ≡ Some errors.Complex) × (number_value t ≡ Imaginary (float_value t))
+imaginary_is t h = let complex = imaginary_complex t h in (fault_complex Plain t complex, value_complex t complex)
+
+float_is : (t : List ℕ) → is_float t ≡ true → (number_fault Plain t ≡ Some errors.Float) × (number_value t ≡ Float (float_value t))
 float_is t h =
-    let plain = float_plain t h in
-    let complex = not_complex t plain in
-    let real : is_real t ≡ true = and_from (radix_of t == 10) (list_any is_mark t) (ap (λ (n : ℕ). n == 10) (radix_ten t plain)) (float_has t h) in
-    rw (complex, real) refl
+    let complex = float_not_complex t h in
+    let real = float_real t h in
+    (fault_real Plain t complex real, value_real t complex real)
 
-number_whole : (t : List ℕ) → (is_decimal t || is_radix t) ≡ true → number_fault t
-    ≡ (if nat_le (2 ^ 128) (whole_value t) then Some IntegerTooLarge else None)
-number_whole t h = elim (or_parts (is_decimal t) (is_radix t) h) [
-  | inl decimal ↦
-      let none = decimal_unmarked t decimal in
-      let real : is_real t ≡ false = rw none (both_false (radix_of t == 10)) in
-      whole_is t (not_complex t (part_plain t (decimal_part t decimal))) real
-  | inr radix ↦ whole_is t (radix_not_complex t (based t radix)) (and_left (radix_of t == 10) (list_any is_mark t) (other_radix t (based t radix)))
+plain_whole : (t : List ℕ) → is_complex t ≡ false → is_real t ≡ false → number_fault Plain t ≡ too_large (2 ^ 128) t
+unfolding number_fault
+plain_whole t complex real = rw (complex, real) refl
+
+whole_by : (t : List ℕ) → is_complex t ≡ false → is_real t ≡ false
+    → (number_fault Plain t ≡ too_large (2 ^ 128) t) × (number_value t ≡ Int (whole_value t))
+whole_by t complex real = (plain_whole t complex real, value_whole t complex real)
+
+whole_is : (t : List ℕ) → (is_decimal t || is_radix t) ≡ true
+    → (number_fault Plain t ≡ too_large (2 ^ 128) t) × (number_value t ≡ Int (whole_value t))
+whole_is t h = elim (or_parts (is_decimal t) (is_radix t) h) [
+  | inl decimal ↦ whole_by t (decimal_not_complex t decimal) (decimal_not_real t decimal)
+  | inr radix ↦ whole_by t (radix_not_complex t (based t radix)) (and_left (radix_of t == 10) (list_any is_mark t) (other_radix t (based t radix)))
 ]
-  where
-    both_false : (b : Bool) → (b && false) ≡ false
-    both_false true = refl
-    both_false false = refl
 
 pub faults_are_by_class : FaultsAreByClass
-faults_are_by_class t = record { imaginary = imaginary_is t; float = float_is t; whole = number_whole t }
+faults_are_by_class t = record { imaginary = imaginary_is t; float = float_is t; whole = whole_is t }

@@ -3,12 +3,12 @@
 -- Carries: tokens_are_sound, for Said.
 use Rattle.std.proofs.Common.{◌≡◌, ℕ, zero, suc, ◌+◌, ◌-◌, Bool, true, false, not, ◌&&◌, ◌||◌, ◌==◌, cond, List, [], ◌∷◌, ◌++◌, length, take, drop}
 use Rattle.std.proofs.Common.{replicate, refl, sym, ap, subst, ◌∙◌, arith, append_assoc, Option, Some, None}
-use Rattle.std.specs.Prelude.{option_map, slice_range, nat_lt, All}
+use Rattle.std.specs.Prelude.{option_map, nat_lt, All}
 use Rattle.std.specs.List.{list_all, list_any}
 use Rattle.std.specs.Str.{chars, encode_utf8_all, all_scalars}
 use Rattle.std.proofs.Math.Utf8.{scalar}
 use Rattle.std.proofs.lemmas.Bool.{and_from, and_parts, or_left, or_right}
-use Rattle.std.proofs.lemmas.List.Elements.{All-nil, All-cons, All-append}
+use Rattle.std.proofs.lemmas.List.Elements.{All-nil, All-append}
 use Rattle.std.proofs.lemmas.Str.{encodes-append, chars_from_encodes}
 use Rattle.pysource.specs.declared.places.Place.{Place}
 use Rattle.pysource.specs.Places.{place_after}
@@ -35,14 +35,13 @@ use Rattle.pylex.specs.Listing.{last_line, begins_comment, line_end_of_last, end
 use Rattle.pylex.specs.Steps.{entries_of, mark, fault_at}
 use Rattle.pylex.specs.Steps.{fault_of as listing_fault}
 use Rattle.pylex.specs.Laws.{LongestWins, AreLexemes, IsLawful}
-use Rattle.pytoken.specs.declared.faults.TokenError.{TokenError}
-use Rattle.pytoken.specs.declared.refusals.Refusal.{Refusal}
-use Rattle.pytoken.specs.declared.refusals.Refusal.TheVariants as refusals
+use Rattle.pytree_node.specs.declared.profiles.Extent.TheVariants.{Whole}
 use Rattle.pytoken.specs.Terminals.{fault_of, is_of, IsSound}
-use Rattle.pytoken.specs.Tokens.{Token, text_of, supplied, is_open, tokens_of_entry, tokens_from, tokens}
+use Rattle.pytoken.specs.Tokens.{Token, text_of, is_open, tokens_of_entry, tokens_from, tokens}
 use Rattle.pytoken.specs.Indentation.{margins}
 use Rattle.pytoken.specs.Refusals.{most_brackets, entry_refusal, first_entry_refusal, first_too_deep, first_mixed, refusal_of, refusal_at}
 use Rattle.pytoken.specs.Laws.{TokensAreSound}
+use Rattle.pytoken.proofs.EntryTokens.{of_entry, none_parts, no_fault, not_refused}
 use Rattle.std.specs.Option.{option_or}
 
 -- the text of a lexeme is what stands between its offsets
@@ -299,85 +298,30 @@ entries_are text (steps.Entry e ∷ ss) h = (h.0, entries_are text ss h.1)
 entries_are text (steps.End ∷ ss) h = entries_are text ss h.1
 entries_are text (steps.Fault f ∷ ss) h = entries_are text ss h.1
 
--- where nothing is refused, no entry has a fault
+-- where nothing is refused, its tokens are sound
 
-none_parts : (a b : Option Refusal) → option_or a b ≡ None → (a ≡ None) × (b ≡ None)
-none_parts (Some r) b h = absurd cc
-none_parts None b h = (refl, h)
-
-abbrev refusal_by : Option TokenError → Place → Option Refusal
-refusal_by o p = elim o [ Some x ↦ Some (refusals.Token x p) | None ↦ None ]
-
-no_fault : (o : Option TokenError) (p : Place) → refusal_by o p ≡ None → o ≡ None
-no_fault (Some x) p h = absurd cc
-no_fault None p h = refl
-
-abbrev refusal_behind : Option ListingFault → Option Refusal → Option Refusal
-refusal_behind o r = elim o [ Some f ↦ Some (refusals.Listing f) | None ↦ r ]
-
-not_refused : (o : Option ListingFault) (r : Option Refusal) → refusal_behind o r ≡ None → r ≡ None
-not_refused (Some f) r h = absurd cc
-not_refused None r h = h
-
--- and so its tokens are sound
+supplied_sound : IsSound kinds.Newline []
+unfolding fault_of
+supplied_sound = record { of_kind = refl; faultless = refl }
 
 abbrev Sound : Token → Type 0
 Sound t = IsSound t.kind t.text
 
-abbrev token : Kind → Place → List ℕ → Token
-token k p t = record { kind = k; start = p; text = t }
-
-supplied_sound : (text : List ℕ) → Sound (supplied text)
-unfolding fault_of
-supplied_sound text = record { of_kind = refl; faultless = refl }
-
-one : (k : Kind) (p : Place) (t : List ℕ) → IsSound k t → All Sound (token k p t ∷ [])
-one k p t own = All-cons Sound (token k p t) [] own (All-nil Sound)
-
-one_if : (b : Bool) (k : Kind) (p : Place) (t : List ℕ) → IsSound k t → All Sound (cond b (token k p t ∷ []) [])
-one_if true k p t own = one k p t own
-one_if false k p t own = All-nil Sound
-
-two_if : (b : Bool) (text : List ℕ) (k : Kind) (p : Place) (t : List ℕ) → IsSound k t
-    → All Sound (cond b (supplied text ∷ token k p t ∷ []) (token k p t ∷ []))
-two_if true text k p t own = All-cons Sound (supplied text) (token k p t ∷ []) (supplied_sound text) (one k p t own)
-two_if false text k p t own = one k p t own
-
-abbrev between : List ℕ → ℕ → ℕ → List ℕ
-between text f t = chars (slice_range (encode_utf8_all text) f t)
-
-of_entry : (text : List ℕ) (b : Bool) (e : Entry) → IsSound e.kind (text_of text e) → All Sound (tokens_of_entry text b e)
-of_entry text b e own = by_kind e.kind e.exact e.start e.«end» e.«from» e.to own
-  where
-    by_kind : (k : Kind) (x : Option Exact) (p q : Place) (f t : ℕ) → IsSound k (between text f t)
-        → All Sound (tokens_of_entry text b (record { kind = k; exact = x; start = p; «end» = q; «from» = f; to = t }))
-    by_kind kinds.Encoding x p q f t own = All-nil Sound
-    by_kind kinds.Comment x p q f t own = All-nil Sound
-    by_kind kinds.Nl x p q f t own = All-nil Sound
-    by_kind kinds.Newline x p q f t own = one_if b kinds.Newline p (between text f t) own
-    by_kind kinds.Dedent x p q f t own = two_if b text kinds.Dedent p (between text f t) own
-    by_kind kinds.EndMarker x p q f t own = two_if b text kinds.EndMarker p (between text f t) own
-    by_kind kinds.Name x p q f t own = one kinds.Name p (between text f t) own
-    by_kind kinds.Number x p q f t own = one kinds.Number p (between text f t) own
-    by_kind kinds.String x p q f t own = one kinds.String p (between text f t) own
-    by_kind kinds.Op x p q f t own = one kinds.Op p (between text f t) own
-    by_kind kinds.Indent x p q f t own = one kinds.Indent p (between text f t) own
-
-tokens_are : (text : List ℕ) (before es : List Entry) → EntriesAre text es → first_entry_refusal text es ≡ None
+tokens_are : (text : List ℕ) (before es : List Entry) → EntriesAre text es → first_entry_refusal Whole text es ≡ None
     → All Sound (tokens_from text before es)
 tokens_are text before [] are none = All-nil Sound
 tokens_are text before (e ∷ es) are none =
-    let parts = none_parts (entry_refusal text e) (first_entry_refusal text es) none in
-    let faultless = no_fault (fault_of e.kind (text_of text e)) e.start parts.0 in
+    let parts = none_parts (entry_refusal Whole text e) (first_entry_refusal Whole text es) none in
+    let faultless = no_fault (fault_of Whole e.kind (text_of text e)) e.start parts.0 in
     let own : IsSound e.kind (text_of text e) = record { of_kind = are.0.is; faultless = faultless } in
     All-append Sound (tokens_of_entry text (is_open before) e) (tokens_from text (e ∷ before) es)
-    (of_entry text (is_open before) e own) (tokens_are text (e ∷ before) es are.1 parts.1)
+    (of_entry IsSound supplied_sound text (is_open before) e own) (tokens_are text (e ∷ before) es are.1 parts.1)
 
 pub tokens_are_sound : (s : Source) → IsLawful s → TokensAreSound s
 unfolding tokens refusal_at
 tokens_are_sound s lawful good none =
     let es = entries_of (listing s) in
-    let whole = not_refused (listing_fault (listing s)) (refusal_of most_brackets s.text es) none in
+    let whole = not_refused (listing_fault (listing s)) (refusal_of Whole most_brackets s.text es) none in
     let later = option_or (first_too_deep most_brackets [] es) (first_mixed [] (margins s.text es)) in
-    let parts = none_parts (first_entry_refusal s.text es) later whole in
+    let parts = none_parts (first_entry_refusal Whole s.text es) later whole in
     tokens_are s.text [] es (entries_are s.text (listing s) (listing_are s good lawful)) parts.0

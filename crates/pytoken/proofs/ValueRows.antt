@@ -2,15 +2,19 @@
 -- those that Python 3.11 gives.
 --
 -- Carries: no contract; its rows are computed as it is checked. On: Computing.
-use Rattle.std.proofs.Common.{◌≡◌, ℕ, List, [], ◌∷◌, refl, Option, Some, None, true, false, map}
+use Rattle.std.proofs.Common.{◌≡◌, ℕ, ◌-◌, ◌^◌, List, [], ◌∷◌, ◌++◌, refl, Option, Some, None, true, false, map, replicate, pos, negsuc}
 use Rattle.std.specs.Prelude.{codes}
+use Rattle.std.specs.Float.Ieee.{inf, fin}
+use Rattle.pyfloat.specs.FloatValues.{float_value}
 use Rattle.pylex.specs.declared.kind.Kind.{Kind}
 use Rattle.pylex.specs.declared.kind.Kind.TheVariants as kinds
-use Rattle.pytree_node.specs.Values.{Str, Bytes}
+use Rattle.pytree_node.specs.Values.{Float, Imaginary, Str, Bytes}
+use Rattle.pytree_node.specs.declared.profiles.Extent.{Extent}
+use Rattle.pytree_node.specs.declared.profiles.Extent.TheVariants.{Plain, Whole}
 use Rattle.pytoken.specs.declared.faults.TokenError.{TokenError}
 use Rattle.pytoken.specs.declared.faults.TokenError.TheVariants as errors
 use Rattle.pytoken.specs.declared.keywords.Keyword.TheVariants as words
-use Rattle.pytoken.specs.Terminals.{Terminal, Ident, in_form, Word, Whole, Literal, terminal_of, fault_of}
+use Rattle.pytoken.specs.Terminals.{Terminal, Ident, in_form, Word, Number, whole, Literal, terminal_of, fault_of}
 use Rattle.pytoken.proofs.Computing.{values}
 
 -- a text, and what it stands for
@@ -21,9 +25,10 @@ record Row : Type 0 where
 abbrev row : List ℕ → Terminal → Row
 row t x = record { text = t; terminal = x }
 
--- each text, as one of a type, stands for its terminal, and has no fault
-abbrev Stand : Kind → List Row → Type 0
-Stand k rows = (map (λ r. terminal_of k r.text) rows ≡ map (λ r. r.terminal) rows) × (map (λ r. fault_of k r.text) rows ≡ map no_fault rows)
+-- each text, as one of a type, stands for its terminal, and has no fault in an extent
+abbrev Stand : Extent → Kind → List Row → Type 0
+Stand extent k rows =
+    (map (λ r. terminal_of k r.text) rows ≡ map (λ r. r.terminal) rows) × (map (λ r. fault_of extent k r.text) rows ≡ map no_fault rows)
   where
     no_fault : Row → Option TokenError
     no_fault r = None
@@ -36,35 +41,35 @@ record Faulty : Type 0 where
 abbrev faulty : List ℕ → TokenError → Faulty
 faulty t e = record { text = t; fault = e }
 
--- each text, as one of a type, has its fault
-abbrev AreFaulty : Kind → List Faulty → Type 0
-AreFaulty k rows = map (λ r. fault_of k r.text) rows ≡ map (λ r. Some r.fault) rows
+-- each text, as one of a type, has its fault in an extent
+abbrev AreFaulty : Extent → Kind → List Faulty → Type 0
+AreFaulty extent k rows = map (λ r. fault_of extent k r.text) rows ≡ map (λ r. Some r.fault) rows
 
 -- whole numbers
 abbrev numbers : List Row
 numbers =
-    row (codes "0") (Whole 0) ∷
-    row (codes "00_0") (Whole 0) ∷
-    row (codes "1") (Whole 1) ∷
-    row (codes "12_345") (Whole 12345) ∷
-    row (codes "0xFf_0a") (Whole 65290) ∷
-    row (codes "0X1f") (Whole 31) ∷
-    row (codes "0o17") (Whole 15) ∷
-    row (codes "0O7_7") (Whole 63) ∷
-    row (codes "0b1_01") (Whole 5) ∷
-    row (codes "0B0") (Whole 0) ∷
-    row (codes "340282366920938463463374607431768211455") (Whole 340282366920938463463374607431768211455) ∷
-    row (codes "0xffffffffffffffffffffffffffffffff") (Whole 340282366920938463463374607431768211455) ∷
-    row (codes "0o3777777777777777777777777777777777777777777") (Whole 340282366920938463463374607431768211455) ∷
-    row (codes "0xe1") (Whole 225) ∷
-    row (codes "0b1") (Whole 1) ∷
+    row (codes "0") (whole 0) ∷
+    row (codes "00_0") (whole 0) ∷
+    row (codes "1") (whole 1) ∷
+    row (codes "12_345") (whole 12345) ∷
+    row (codes "0xFf_0a") (whole 65290) ∷
+    row (codes "0X1f") (whole 31) ∷
+    row (codes "0o17") (whole 15) ∷
+    row (codes "0O7_7") (whole 63) ∷
+    row (codes "0b1_01") (whole 5) ∷
+    row (codes "0B0") (whole 0) ∷
+    row (codes "340282366920938463463374607431768211455") (whole 340282366920938463463374607431768211455) ∷
+    row (codes "0xffffffffffffffffffffffffffffffff") (whole 340282366920938463463374607431768211455) ∷
+    row (codes "0o3777777777777777777777777777777777777777777") (whole 340282366920938463463374607431768211455) ∷
+    row (codes "0xe1") (whole 225) ∷
+    row (codes "0b1") (whole 1) ∷
     []
 
-numbers_stand : Stand kinds.Number numbers
+numbers_stand : Stand Plain kinds.Number numbers
 unfolding values
 numbers_stand = (refl, refl)
 
--- numbers without a value here
+-- numbers without a value in the plain language
 abbrev faulty_numbers : List Faulty
 faulty_numbers =
     faulty (codes "1.5") errors.Float ∷
@@ -84,9 +89,44 @@ faulty_numbers =
     faulty (codes "0x100000000000000000000000000000000") errors.IntegerTooLarge ∷
     []
 
-faulty_numbers_are : AreFaulty kinds.Number faulty_numbers
+faulty_numbers_are : AreFaulty Plain kinds.Number faulty_numbers
 unfolding values
 faulty_numbers_are = refl
+
+-- numbers of the whole language alone: a float is an odd number times a power of two
+abbrev more_numbers : List Row
+more_numbers =
+    row (codes "1.5") (Number (Float (fin false 3 (negsuc 0)))) ∷
+    row (codes ".5") (Number (Float (fin false 1 (negsuc 0)))) ∷
+    row (codes "0.1") (Number (Float (fin false 3602879701896397 (negsuc 54)))) ∷
+    row (codes "1e16") (Number (Float (fin false 152587890625 (pos 16)))) ∷
+    row (codes "1_0.0_1e-1_0") (Number (Float (float_value (codes "10.01e-10")))) ∷
+    row (codes "012.5") (Number (Float (fin false 25 (negsuc 0)))) ∷
+    row (codes "0.0") (Number (Float (fin false 0 (pos 0)))) ∷
+    row (codes "1e309") (Number (Float (inf false))) ∷
+    row (codes "2j") (Number (Imaginary (fin false 1 (pos 1)))) ∷
+    row (codes "1.5J") (Number (Imaginary (fin false 3 (negsuc 0)))) ∷
+    row (codes "0j") (Number (Imaginary (fin false 0 (pos 0)))) ∷
+    row (codes "340282366920938463463374607431768211456") (whole 340282366920938463463374607431768211456) ∷
+    row (codes "0x" ++ replicate 64 102) (whole (2 ^ 256 - 1)) ∷
+    row (replicate 4300 57) (whole (10 ^ 4300 - 1)) ∷
+    row (codes "12") (whole 12) ∷
+    []
+
+more_numbers_stand : Stand Whole kinds.Number more_numbers
+unfolding values
+more_numbers_stand = (refl, refl)
+
+-- numbers without a value in either
+abbrev too_large_numbers : List Faulty
+too_large_numbers =
+    faulty (49 ∷ replicate 4300 48) errors.IntegerTooLarge ∷
+    faulty (codes "0x" ++ replicate 3572 102) errors.IntegerTooLarge ∷
+    []
+
+too_large_numbers_are : AreFaulty Whole kinds.Number too_large_numbers
+unfolding values
+too_large_numbers_are = refl
 
 -- texts
 abbrev texts : List Row
@@ -118,7 +158,7 @@ texts =
     row (codes "r'\\N'") (Literal (Str (codes "\\N") false)) ∷
     []
 
-texts_stand : Stand kinds.String texts
+texts_stand : Stand Plain kinds.String texts
 unfolding values
 texts_stand = (refl, refl)
 
@@ -132,7 +172,7 @@ literals_of_bytes =
     row (codes "BR'\\\\'") (Literal (Bytes (codes "\\\\"))) ∷
     []
 
-literals_of_bytes_stand : Stand kinds.String literals_of_bytes
+literals_of_bytes_stand : Stand Plain kinds.String literals_of_bytes
 unfolding values
 literals_of_bytes_stand = (refl, refl)
 
@@ -162,7 +202,7 @@ faulty_strings =
     faulty (98 ∷ 39 ∷ 0 ∷ 39 ∷ []) errors.Nul ∷  -- b'\x00'
     []
 
-faulty_strings_are : AreFaulty kinds.String faulty_strings
+faulty_strings_are : AreFaulty Plain kinds.String faulty_strings
 unfolding values
 faulty_strings_are = refl
 
@@ -172,7 +212,7 @@ faulty_comments =
     faulty (35 ∷ 32 ∷ 0 ∷ []) errors.Nul ∷  -- # \x00
     []
 
-faulty_comments_are : AreFaulty kinds.Comment faulty_comments
+faulty_comments_are : AreFaulty Plain kinds.Comment faulty_comments
 unfolding values
 faulty_comments_are = refl
 
@@ -187,7 +227,7 @@ names =
     row (101 ∷ 769 ∷ []) (Ident (record { spelling = 101 ∷ 769 ∷ []; form = 233 ∷ [] })) ∷  -- e\u0301
     []
 
-names_stand : Stand kinds.Name names
+names_stand : Stand Plain kinds.Name names
 unfolding values
 names_stand = (refl, refl)
 
@@ -197,6 +237,6 @@ faulty_names =
     faulty (65353 ∷ 65350 ∷ []) errors.NameForm ∷  -- \uff49\uff46
     []
 
-faulty_names_are : AreFaulty kinds.Name faulty_names
+faulty_names_are : AreFaulty Plain kinds.Name faulty_names
 unfolding values
 faulty_names_are = refl

@@ -22,6 +22,7 @@ use Rattle.pylex_lexeme.specs.Lexemes.{is_name}
 use Rattle.pylex.specs.declared.kind.Kind.{Kind}
 use Rattle.pylex.specs.declared.kind.Kind.TheVariants as kinds
 use Rattle.pytree_node.specs.Points.{IsPoint}
+use Rattle.pytree_node.specs.declared.profiles.Extent.TheVariants.{Whole}
 use Rattle.pytoken.specs.declared.keywords.Keyword.{Keyword}
 use Rattle.pytoken.specs.declared.keywords.Keyword.TheVariants as words
 use Rattle.pytoken.specs.declared.faults.TokenError.TheVariants.{NameForm}
@@ -29,8 +30,10 @@ use Rattle.pytoken.specs.Keywords.{keywords, keyword_of, spelling_of}
 use Rattle.pytoken.specs.NameValues.{is_unfit, form_fault, name_fault}
 use Rattle.pytoken.specs.Terminals.{Terminal, Word, Ident, in_form, terminal_of, fault_of, is_of, Gives}
 use Rattle.pytoken.specs.Laws.{IsProper, ComeBack, NamesAreProper}
-use Rattle.pytoken.proofs.Constants.{Stands, quote_mark, whole_stands, text_stands, unicode_stands, bytes_stand}
-use Rattle.pytoken.proofs.Lexing.{whole_is_number, text_is_string, u_text_is_string, bytes_are_string}
+use Rattle.pytoken.proofs.Constants.{Stands, quote_mark, text_stands, unicode_stands, bytes_stand}
+use Rattle.pytoken.proofs.Lexing.{text_is_string, u_text_is_string, bytes_are_string}
+use Rattle.pytoken.proofs.Numerals.Lexemes.{whole_numeral, float_numeral, imaginary_numeral}
+use Rattle.pytoken.proofs.Numerals.Standing.{whole_stands, float_stands, imaginary_stands}
 use Rattle.pytoken.proofs.ReadBack.{all_pass}
 
 -- Keywords
@@ -192,7 +195,7 @@ word_form k =
 own_form : (t : List ℕ) → nfkc t ≡ t → is_in_form Nfkc t ≡ true
 own_form t form = (bytes_eq-Decides (nfkc t) t).1 form
 
-name_sound : (t : List ℕ) → nfkc t ≡ t → fault_of kinds.Name t ≡ None
+name_sound : (t : List ℕ) → nfkc t ≡ t → fault_of Whole kinds.Name t ≡ None
 unfolding fault_of name_fault
 name_sound t form = let same = own_form t form in rw same refl
 
@@ -282,7 +285,9 @@ gives k t x stands own = record { terminal = stands.terminal; sound = record { o
 -- all that the text of a tree writes for names and constants comes back
 pub come_back : ComeBack
 come_back = record {
-  whole = λ n h. gives kinds.Number _ _ (whole_stands n h) (whole_is_number n (omega arith));
+  whole = λ n small. gives kinds.Number _ _ (whole_stands n small) (whole_numeral n).number;
+  float = λ x double. gives kinds.Number _ _ (float_stands x double) (float_numeral x double).number;
+  imaginary = λ x double. gives kinds.Number _ _ (imaginary_stands x double) (imaginary_numeral x double).number;
   text = λ points most. gives kinds.String _ _ (text_stands points most) (text_is_string points);
   unicode = λ points most. gives kinds.String _ _ (unicode_stands points most) (u_text_is_string points);
   bytes = λ bs small. gives kinds.String _ _ (bytes_stand bs small) (bytes_are_string bs);

@@ -1,6 +1,7 @@
 pub mod Inner
 pub mod Keywords
 pub mod NumberValues
+pub mod Numerals
 pub mod Escapes
 pub mod StringValues
 pub mod NameValues

@@ -1,6 +1,6 @@
 -- What a terminal of the code is to the grammar, and what is reported of a token that is none.
 use Rattle.std.specs.Prelude.{◌≡◌, ℕ, List, Option, Some, None}
-use Rattle.std.specs.Str.{chars, encode_utf8_all}
+use Rattle.std.specs.Str.{chars}
 use Rattle.unicode_normalization.specs.Forms.{nfkc}
 use Rattle.pytoken.specs.declared.faults.TokenError.{TokenError}
 use Rattle.pytoken.specs.Keywords.{keyword_of}
@@ -32,12 +32,12 @@ terminal (Number n) = Terminals.Number (number_value (number_bytes n))
 terminal (Literal l) = Terminals.Literal (string_value (literal_characters l))
 terminal Layout = Terminals.Layout
 
--- what the texts of a NAME, a NUMBER and a STRING are
+-- what the texts of a NAME and a STRING are, and a NUMBER by its bytes
 abbrev pub named : List ℕ → Terminals.Terminal
 named t = elim (keyword_of t) [ Some w ↦ Terminals.Word w | None ↦ Terminals.Ident (record { spelling = t; form = nfkc t }) ]
 
 abbrev pub numbered : List ℕ → Terminals.Terminal
-numbered t = Terminals.Number (number_value (encode_utf8_all t))
+numbered bytes = Terminals.Number (number_value bytes)
 
 abbrev pub quoted : List ℕ → Terminals.Terminal
 quoted t = Terminals.Literal (string_value t)

@@ -4,12 +4,12 @@
 //! of a number, a string or a name stands for, [`string_fault`] and [`name_fault`] what is wrong
 //! with it by itself, and [`token_fault`] what is wrong with a token or a comment by its type.
 //! [`terminal_of`] gives what a token is to the grammar ([`Terminal`]); a string is a
-//! [`LiteralText`] there, and a number a [`NumberText`], whose value is made when it is asked for.
-//! [`is_identifier`] says which texts are names. The tokens of a whole source are read by
-//! `pyparse_tokens`.
+//! [`LiteralText`] there, and a number that isn't a short whole one a [`NumberText`]: the values of
+//! these are made when they are asked for. [`is_identifier`] says which texts are names. The tokens
+//! of a whole source are read by `pyparse_tokens`.
 //!
-//! A number that is a fault in the plain language may be none in the whole one: what reads numbers
-//! is told the extent.
+//! What reads numbers is told the extent of the language: a number that is a fault in the plain one
+//! may be none in the whole one.
 //!
 //! Python language reference, 2.3 "Identifiers and keywords" and 2.4 "Literals".
 //!
@@ -17,8 +17,9 @@
 //! lines, `Terminals` what a token is to the grammar and the fault that it may be by itself,
 //! `Refusals` why a source has no tokens, `MatchHeaders` which lines look like the header of a
 //! `match` statement. `Keywords`, `NumberValues`, `Escapes`, `StringValues` and `NameValues` say
-//! what the texts of tokens stand for. `Laws` has what holds of these: each constant of a tree
-//! comes back from its text. `Values` and `TerminalOf` have the values of the types of this crate.
+//! what the texts of tokens stand for, `Numerals` which texts are written for numbers. `Laws` has
+//! what holds of these: each constant of a tree comes back from its text. `Values` and `TerminalOf`
+//! have the values of the types of this crate.
 #![tactic(auto)]
 
 mod faults;

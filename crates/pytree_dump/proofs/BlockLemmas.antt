@@ -5,10 +5,12 @@ use Rattle.std.proofs.Common.{◌≡◌, ℕ, ◌+◌, ◌<◌, ◌≤◌, ◌++
 use Rattle.std.specs.Prelude.{nat_le}
 use Rattle.std.proofs.lemmas.List.{append-nil}
 use Rattle.pytree_node.specs.declared.profiles.Profile.{Profile}
-use Rattle.pytree_node.specs.declared.profiles.Profile.TheVariants as profile
+use Rattle.pytree_node.specs.declared.profiles.Version.{Version}
+use Rattle.pytree_node.specs.declared.profiles.Version.TheVariants.{Py312}
 use Rattle.pytree_node.specs.declared.statements.Handler as given_handler
 use Rattle.pytree_node.specs.declared.statements.Stmt as given_stmt
 use Rattle.pytree_node.specs.declared.statements.TypeParam as given_type_param
+use Rattle.pytree_node.specs.Profiles.{python}
 use Rattle.pytree_node.specs.Trees
 use Rattle.pytree_node.specs.Trees.{Identifier, stmts, handlers}
 use Rattle.pytree_node.specs.TreeOf.{handler_of, option_of, stmt_of, type_param_of}
@@ -70,13 +72,13 @@ pub at_end : (o x : List ℕ) → o ++ [] ≡ x → o ≡ x
 at_end o x e = sym (append-nil o) ∙ e
 
 -- the parameters of a type, where they are shown
-pub type_params_text : (s : Style) (f o o1 : List ℕ) (line named first : Bool) (ps : List given_type_param.TypeParam) → s.profile ≡ profile.Py312 →
+pub type_params_text : (s : Style) (f o o1 : List ℕ) (line named first : Bool) (ps : List given_type_param.TypeParam) → s.profile.version ≡ Py312 →
     o1 ++ [] ≡ o ++ fields s f line named first (a_field (codes "type_params") (listed (λ p. shown_type_param (type_param_of p)) ps) no_field) →
     o1 ≡ o ++ fields s f line named first (type_params_field s.profile (map type_param_of ps))
 type_params_text s f o o1 line named first ps is e =
     sym (append-nil o1) ∙ e
     ∙ (λ i. o ++ fields s f line named first (a_field (codes "type_params") (Row (sym (type_params_row ps) i)) no_field))
-    ∙ (λ i. o ++ fields s f line named first (type_params_field (sym is i) (map type_param_of ps)))
+    ∙ ap (λ (v : Version). o ++ fields s f line named first (type_params_field (python v s.profile.extent) (map type_param_of ps))) (sym is)
 
 -- a node, of what begins it, its fields and its closing bracket
 pub node_shown : (s : Style) (f inner start : List ℕ) (fs : Fields) (o0 o1 o2 o3 : List ℕ) (line : Bool) →

@@ -16,7 +16,7 @@ use crate::statements::show_block;
 use pytree_dump_text::{
     Field, Part, Style, Told, boxed_part, close, is_flat, is_short_test, is_short_with, open,
 };
-use pytree_node::{Arguments, Expr, Handler, Identifier, Item, Keyword, Profile, Stmt, TypeParam};
+use pytree_node::{Arguments, Expr, Handler, Identifier, Item, Keyword, Stmt, TypeParam, Version};
 use std::alloc::AllocError;
 
 /// Appends a `while` or an `if`.
@@ -301,9 +301,9 @@ fn show_type_params(
         (type_params_field style.profile (map type_param_of type_params.now))) }
     ensures indentation { OnOk result (string_bytes indentation.new ≡ string_bytes indentation.old) }
 {
-    let is_shown = match style.profile {
-        Profile::Py311 => false,
-        Profile::Py312 => true,
+    let is_shown = match style.profile.version {
+        Version::Py311 => false,
+        Version::Py312 => true,
     };
     if is_shown {
         show_field(

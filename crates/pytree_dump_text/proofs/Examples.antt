@@ -7,7 +7,7 @@ use Rattle.std.specs.Fmt.{digits}
 use Rattle.ucd_category.proofs.Computing.{ucd_category}
 use Rattle.pytree_node.specs.declared.operators.Context.TheVariants as context
 use Rattle.pytree_dump_text.specs.declared.styles.Style.{Style}
-use Rattle.pytree_node.specs.declared.profiles.Profile.TheVariants.{Py311, Py312}
+use Rattle.pytree_node.specs.Profiles.{plain_311, plain_312}
 use Rattle.pytree_node.specs.Values as value
 use Rattle.pytree_node.specs.Trees
 use Rattle.pytree_node.specs.Trees.{Expr, Module}
@@ -15,35 +15,35 @@ use Rattle.pytree_dump_text.specs.Shows.{shown, shown_module, shown_arguments}
 use Rattle.pytree_dump_text.specs.Layout.{dump_text}
 
 abbrev plain : Style
-plain = record { indent = None; names = true; profile = Py311 }
+plain = record { indent = None; names = true; profile = plain_311 }
 
 abbrev bare : Style
-bare = record { indent = None; names = false; profile = Py311 }
+bare = record { indent = None; names = false; profile = plain_311 }
 
 abbrev two : Style
-two = record { indent = Some 2; names = true; profile = Py311 }
+two = record { indent = Some 2; names = true; profile = plain_311 }
 
 abbrev flush : Style
-flush = record { indent = Some 0; names = true; profile = Py311 }
+flush = record { indent = Some 0; names = true; profile = plain_311 }
 
 abbrev name : List ℕ → Expr
 name id = Trees.Name id context.Load
 
-empty_module : dump_text plain (shown_module Py311 (record { body = [] })) ≡ codes "Module(body=[], type_ignores=[])"
+empty_module : dump_text plain (shown_module plain_311 (record { body = [] })) ≡ codes "Module(body=[], type_ignores=[])"
 empty_module = refl
 
 -- `pass`
-flush_pass : dump_text flush (shown_module Py311 (record { body = Trees.Pass ∷ [] })) ≡ codes "Module(\nbody=[\nPass()],\ntype_ignores=[])"
+flush_pass : dump_text flush (shown_module plain_311 (record { body = Trees.Pass ∷ [] })) ≡ codes "Module(\nbody=[\nPass()],\ntype_ignores=[])"
 flush_pass = refl
 
 -- `x: int`
-bare_annotation : dump_text bare (shown_module Py311 (record { body = Trees.AnnAssign (Trees.Name (codes "x") context.Store) (name (codes "int")) None true ∷ [] }))
+bare_annotation : dump_text bare (shown_module plain_311 (record { body = Trees.AnnAssign (Trees.Name (codes "x") context.Store) (name (codes "int")) None true ∷ [] }))
     ≡ codes "Module([AnnAssign(Name('x', Store()), Name('int', Load()), simple=1)], [])"
 unfolding ucd_category encode_utf8 digits
 bare_annotation = refl
 
 -- `f(a, b=1)`
-indented_call : dump_text two (shown_module Py311 (record {
+indented_call : dump_text two (shown_module plain_311 (record {
   body = Trees.ExprOf (Trees.Call (name (codes "f")) (Trees.an_expr (name (codes "a")) Trees.no_exprs)
       (Trees.a_keyword (Some (codes "b")) (Trees.Constant (value.Int 1)) Trees.no_keyword)) ∷ [];
 }))
@@ -78,7 +78,7 @@ generic_class = record {
   body = Trees.ClassDef (codes "C") [] Trees.no_keyword (Trees.a_stmt Trees.Pass Trees.no_stmt) [] (Trees.TypeVar (codes "T") None ∷ []) ∷ [];
 }
 
-bare_class : dump_text bare (shown_module Py312 generic_class) ≡ codes "Module([ClassDef('C', [], [], [Pass()], [], [TypeVar('T')])], [])"
+bare_class : dump_text bare (shown_module plain_312 generic_class) ≡ codes "Module([ClassDef('C', [], [], [Pass()], [], [TypeVar('T')])], [])"
 unfolding ucd_category encode_utf8 digits
 bare_class = refl
 
@@ -89,17 +89,17 @@ definition = record {
       (Trees.a_stmt Trees.Pass Trees.no_stmt) [] None [] ∷ [];
 }
 
-plain_definition : dump_text plain (shown_module Py311 definition)
+plain_definition : dump_text plain (shown_module plain_311 definition)
     ≡ codes "Module(body=[FunctionDef(name='f', args=arguments(posonlyargs=[], args=[], kwonlyargs=[], kw_defaults=[], defaults=[]), body=[Pass()], decorator_list=[])], type_ignores=[])"
 unfolding ucd_category encode_utf8 digits
 plain_definition = refl
 
-generic_definition : dump_text plain (shown_module Py312 definition)
+generic_definition : dump_text plain (shown_module plain_312 definition)
     ≡ codes "Module(body=[FunctionDef(name='f', args=arguments(posonlyargs=[], args=[], kwonlyargs=[], kw_defaults=[], defaults=[]), body=[Pass()], decorator_list=[], type_params=[])], type_ignores=[])"
 unfolding ucd_category encode_utf8 digits
 generic_definition = refl
 
-bare_definition : dump_text bare (shown_module Py312 definition)
+bare_definition : dump_text bare (shown_module plain_312 definition)
     ≡ codes "Module([FunctionDef('f', arguments([], [], kwonlyargs=[], kw_defaults=[], defaults=[]), [Pass()], [], type_params=[])], [])"
 unfolding ucd_category encode_utf8 digits
 bare_definition = refl

@@ -13,7 +13,7 @@ use Rattle.pytree_node.specs.declared.operators.Comparison.TheVariants as compar
 use Rattle.pytree_node.specs.declared.operators.Context.{Context}
 use Rattle.pytree_node.specs.declared.operators.Context.TheVariants as context
 use Rattle.pytree_node.specs.declared.profiles.Profile.{Profile}
-use Rattle.pytree_node.specs.declared.profiles.Profile.TheVariants as profile
+use Rattle.pytree_node.specs.Profiles.{has_types}
 use Rattle.pytree_node.specs.Trees
 use Rattle.pytree_node.specs.Trees.{Identifier, exprs, stmts}
 use Rattle.pytree_node.specs.Values as value
@@ -244,8 +244,7 @@ shown_type_params (p ∷ ps) = a_shown (shown_type_param p) (shown_type_params p
 
 -- the last field of a definition, which classes of 3.11 don't have
 abbrev pub type_params_field : Profile → List Trees.TypeParam → Fields
-type_params_field profile.Py311 ps = no_field
-type_params_field profile.Py312 ps = a_field (codes "type_params") (Row (shown_type_params ps)) no_field
+type_params_field p ps = if has_types p then a_field (codes "type_params") (Row (shown_type_params ps)) no_field else no_field
 
 abbrev mutual
   pub shown_stmt : Profile → Trees.Stmt → Shown

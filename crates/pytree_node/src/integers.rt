@@ -1,9 +1,10 @@
 //! The whole numbers of constants.
 
-ghost use Rattle.std.specs.Prelude.{◌≡◌, ◌++◌, ◌<◌, ◌≤◌, ◌^◌, nat_eq, IfOk, IsOk, OnOk, MatchOption};
+ghost use Rattle.std.specs.Prelude.{◌≡◌, ◌++◌, ◌<◌, ◌≤◌, ◌^◌, nat_eq, IfOk, IsOk, OnOk, MatchOption, nat_lt};
 ghost use Rattle.std.specs.Cmp.{nat_eq_equiv, partial_equiv_from_equiv};
 ghost use Rattle.std.specs.String.{string_bytes};
 ghost use Rattle.pynatural.specs.Decimals.{decimal_text};
+ghost use Rattle.pynatural.specs.Readings.{most_digits};
 
 use itoa::Buffer;
 use pynatural::Natural;
@@ -72,6 +73,16 @@ impl Integer {
         match &self.digits {
             Digits::Small(value) => Some(*value as u128),
             Digits::Large(value) => value.to_u128(),
+        }
+    }
+
+    /// Whether it has no more decimal digits than Python writes.
+    pub fn is_below_limit(&self) -> bool
+        ensures { result ≡ nat_lt self.now (10 ^ most_digits) }
+    {
+        match &self.digits {
+            Digits::Small(_) => true,
+            Digits::Large(value) => value.is_below_limit(),
         }
     }
 

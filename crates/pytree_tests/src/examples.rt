@@ -48,7 +48,7 @@ fn comments(rt: HostRuntime) -> Result<(), Fail> {
 #[test]
 fn writes(rt: HostRuntime) -> Result<(), Fail> {
     let source = decode(rt.alloc(), b"x = (1)  # one\n")?;
-    let text = rewritten(rt.alloc(), &source, Profile::Py311)?;
+    let text = rewritten(rt.alloc(), &source, Profile::PLAIN_311)?;
     assert_eq!(rt; text.as_str(), "x = 1\n");
     let shown = dumped(rt.alloc(), &source, INDENTED)?;
     assert_eq!(rt;
@@ -71,7 +71,7 @@ fn assigns(rt: HostRuntime) -> Result<(), Fail> {
 /// A line that has no form.
 #[test]
 fn tells(rt: HostRuntime) -> Result<(), Fail> {
-    let Err(fault) = tree_of_bytes(rt.alloc(), b"x\ny = = 1\n", Profile::Py311) else {
+    let Err(fault) = tree_of_bytes(rt.alloc(), b"x\ny = = 1\n", Profile::PLAIN_311) else {
         return Err(Fail::from("no fault"));
     };
     let told = described(rt.alloc(), fault)?;

@@ -8,21 +8,21 @@ use std::test::Fail;
 const PLAIN: Style = Style {
     indent: None,
     names: true,
-    profile: Profile::Py311,
+    profile: Profile::PLAIN_311,
 };
 
 /// On one line, without names.
 const BARE: Style = Style {
     indent: None,
     names: false,
-    profile: Profile::Py311,
+    profile: Profile::PLAIN_311,
 };
 
 /// With two blanks a level.
 const TWO: Style = Style {
     indent: Some(2),
     names: true,
-    profile: Profile::Py311,
+    profile: Profile::PLAIN_311,
 };
 
 const CALL: &str = "f(a, b=1)";

@@ -8,7 +8,7 @@ use std::test::Fail;
 
 /// What is reported of a module in Python 3.11.
 fn told(alloc: Global, tree: &Module) -> Result<bool, AllocError> {
-    well_formed(alloc, tree, Profile::Py311)
+    well_formed(alloc, tree, Profile::PLAIN_311)
 }
 
 /// Names: keywords are none, nor is `ﬁ`, which Python reads as `fi`; a target isn't read.
@@ -111,7 +111,7 @@ fn handlers(rt: HostRuntime) -> Result<(), Fail> {
 fn versions(rt: HostRuntime) -> Result<(), Fail> {
     let alloc = rt.alloc();
     let tree = module(alloc, "type b = a")?;
-    assert!(rt; well_formed(alloc, &tree, Profile::Py312)?);
-    assert!(rt; !well_formed(alloc, &tree, Profile::Py311)?);
+    assert!(rt; well_formed(alloc, &tree, Profile::PLAIN_312)?);
+    assert!(rt; !well_formed(alloc, &tree, Profile::PLAIN_311)?);
     Ok(())
 }

@@ -10,28 +10,28 @@ use std::test::Fail;
 const PLAIN: Style = Style {
     indent: None,
     names: true,
-    profile: Profile::Py311,
+    profile: Profile::PLAIN_311,
 };
 
 /// On one line, with all names, of Python 3.12.
 const PLAIN_312: Style = Style {
     indent: None,
     names: true,
-    profile: Profile::Py312,
+    profile: Profile::PLAIN_312,
 };
 
 /// On one line, without names, of Python 3.12.
 const BARE: Style = Style {
     indent: None,
     names: false,
-    profile: Profile::Py312,
+    profile: Profile::PLAIN_312,
 };
 
 /// On lines without blanks.
 const FLUSH: Style = Style {
     indent: Some(0),
     names: true,
-    profile: Profile::Py311,
+    profile: Profile::PLAIN_311,
 };
 
 /// Asserts that the pieces of a dump put together are this text. After the last of them there is

@@ -11,7 +11,7 @@ use std::test::Fail;
 /// The module that a text is in Python 3.12.
 pub(crate) fn module_of(alloc: Global, text: &str) -> Result<Module, Fail> {
     let source = source_of(alloc, text)?;
-    match parse(alloc, &source, Profile::Py312) {
+    match parse(alloc, &source, Profile::PLAIN_312) {
         Ok(module) => Ok(module),
         Err(_) => Err(Fail::from("no module")),
     }

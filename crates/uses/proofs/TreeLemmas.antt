@@ -4,11 +4,11 @@
 use Rattle.std.proofs.Common.{◌≡◌, ◌≤◌, Bool, true, List, ℕ, subst}
 use Rattle.std.specs.Prelude.{◌↔◌, IsTrue}
 use Rattle.pytree_height.specs.Heights.{expression_height, statement_height}
-use Rattle.pytree_node.specs.declared.profiles.Profile.TheVariants.{Py311}
+use Rattle.pytree_node.specs.Profiles.{plain_311}
 use Rattle.pytree_node.specs.Trees.{Module}
 use Rattle.pytree_fits.specs.Given.{Stated}
 use Rattle.pyunparse.specs.RoundTrips.{RoundTrips, GivesBack}
 
-pub some_text : (m n : Module) (told : Bool) (text : List ℕ) → m ≡ n → (IsTrue told ↔ Stated Py311 m) → told ≡ true → RoundTrips text m → expression_height n ≤ 500 → statement_height n ≤ 500 → GivesBack Py311 text n
+pub some_text : (m n : Module) (told : Bool) (text : List ℕ) → m ≡ n → (IsTrue told ↔ Stated plain_311 m) → told ≡ true → RoundTrips text m → expression_height n ≤ 500 → statement_height n ≤ 500 → GivesBack plain_311 text n
 some_text m n told text is given asked trips expressions statements =
-    subst (λ (x : Module). RoundTrips text x) is trips Py311 (subst (λ (x : Module). Stated Py311 x) is (given.0 asked)) expressions statements
+    subst (λ (x : Module). RoundTrips text x) is trips plain_311 (subst (λ (x : Module). Stated plain_311 x) is (given.0 asked)) expressions statements

@@ -7,7 +7,7 @@ use Rattle.pysource.specs.Sources.{source_of}
 use Rattle.pylex.specs.Listing.{Source, in_characters}
 use Rattle.pytree_node.specs.declared.operators.Context.TheVariants.{Store}
 use Rattle.pytree_node.specs.declared.profiles.Profile.{Profile}
-use Rattle.pytree_node.specs.declared.profiles.Profile.TheVariants.{Py311}
+use Rattle.pytree_node.specs.Profiles.{plain_311}
 use Rattle.pytree_node.specs.Trees.{Module}
 use Rattle.pytree_node.specs.Trees as trees
 use Rattle.pytree_node.specs.Values as values
@@ -44,5 +44,5 @@ assignment name value = record { body = trees.Assign (trees.Name name Store ∷ 
 
 -- there is no text where the grammar doesn't give the module, and else one that gives it back
 abbrev pub Tells : Module → Option (String Global) → Type 0
-Tells m None = Stated Py311 m → ⊥
-Tells m (Some text) = GivesBack Py311 (string_bytes text) m
+Tells m None = Stated plain_311 m → ⊥
+Tells m (Some text) = GivesBack plain_311 (string_bytes text) m

@@ -33,7 +33,7 @@ pub fn assignment_text(alloc: Global, name: &str, value: u128) -> Result<Option<
     ensures { IfOk result (Tells (assignment (chars name.now) value)) }
 {
     let tree = assignment(alloc, name, value)?;
-    if !well_formed(alloc, &tree, Profile::Py311)? {
+    if !well_formed(alloc, &tree, Profile::PLAIN_311)? {
         return Ok(None);
     }
     Ok(Some(unparse(alloc, &tree)?))

@@ -15,7 +15,7 @@ use std::alloc::Global;
 pub const INDENTED: Style = Style {
     indent: Some(2),
     names: true,
-    profile: Profile::Py312,
+    profile: Profile::PLAIN_312,
 };
 
 /// What `ast.dump` gives for the tree of a source, in a style.

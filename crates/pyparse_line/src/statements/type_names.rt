@@ -8,12 +8,13 @@ ghost use Rattle.unicode_normalization.specs.Forms.{nfkc};
 ghost use Rattle.pygrammar.specs.Forms.{type_name};
 ghost use Rattle.pygrammar.specs.LineReader as reader;
 ghost use Rattle.pyparse_nodes.specs.Views.{first_is, seen};
+ghost use Rattle.pytree_node.specs.Profiles.{plain_312};
 ghost use Rattle.pytoken.specs.TerminalOf.{terminal};
 ghost use Rattle.pyparse_line.specs.Inner.Types.{HasNoTypeName, HasTypeName};
 
 use pyparse_nodes::{name_at, terminal_at};
 use pytoken::Terminal;
-use pytree_node::Profile;
+use pytree_node::{Profile, Version};
 
 /// Whether a text is `type`.
 fn spells_type(text: &str) -> bool
@@ -45,8 +46,8 @@ fn is_type(tokens: &[Terminal], at: usize) -> bool
 /// The name that a statement `type` at the place gives a type, in a version that has types.
 #[tactic(auto, using(crate::proofs::statements::TypeNameSteps::type_found, crate::proofs::statements::TypeNameSteps::type_other, crate::proofs::statements::TypeNameSteps::type_alone))]
 fn named_type<'a>(tokens: &[Terminal<'a>], at: usize) -> Option<&'a str>
-    ensures { MatchOption result (HasNoTypeName Profile.Py312 tokens.now at)
-        (λ name. HasTypeName Profile.Py312 (nfkc (chars name.now)) tokens.now at) }
+    ensures { MatchOption result (HasNoTypeName plain_312 tokens.now at)
+        (λ name. HasTypeName plain_312 (nfkc (chars name.now)) tokens.now at) }
 {
     if !is_type(tokens, at) {
         return None;
@@ -58,7 +59,7 @@ fn named_type<'a>(tokens: &[Terminal<'a>], at: usize) -> Option<&'a str>
 }
 
 /// The name that a statement `type` at the place gives a type.
-#[tactic(auto, using(crate::proofs::statements::TypeNameSteps::no_types))]
+#[tactic(auto, using(crate::proofs::statements::TypeNameSteps::no_types, crate::proofs::statements::TypeNameSteps::newer_name, crate::proofs::statements::TypeNameSteps::newer_none))]
 pub(crate) fn type_name_at<'a>(
     tokens: &[Terminal<'a>],
     at: usize,
@@ -67,8 +68,8 @@ pub(crate) fn type_name_at<'a>(
     ensures { MatchOption result (HasNoTypeName profile tokens.now at)
         (λ name. HasTypeName profile (nfkc (chars name.now)) tokens.now at) }
 {
-    match profile {
-        Profile::Py311 => None,
-        Profile::Py312 => named_type(tokens, at),
+    match profile.version {
+        Version::Py311 => None,
+        Version::Py312 => named_type(tokens, at),
     }
 }

@@ -24,7 +24,7 @@ use pyparse_nodes::{
     Optional, Read, Stop, append, identifier_of, is_op, make_name, name_at, terminal_at,
 };
 use pytoken::Terminal;
-use pytree_node::{Context, Profile, Stmt, TypeParam};
+use pytree_node::{Context, Profile, Stmt, TypeParam, Version};
 use std::alloc::Global;
 
 /// A parameter with a bound, by its parts.
@@ -263,9 +263,9 @@ pub fn read_type_params(
         (line.read_type_params profile (reads depth) (seen tokens.now at))
         (λ r. map type_param_of r.params.items) (λ r. r.next) result }
 {
-    match profile {
-        Profile::Py311 => Ok(no_params(alloc, at)),
-        Profile::Py312 => bracketed_type_params(alloc, tokens, at, depth),
+    match profile.version {
+        Version::Py311 => Ok(no_params(alloc, at)),
+        Version::Py312 => bracketed_type_params(alloc, tokens, at, depth),
     }
 }
 

@@ -4,6 +4,7 @@
 use Rattle.std.proofs.Common.{◌≡◌, ℕ, List, [], ◌∷◌, ◌++◌, refl, sym, ap, ◌∙◌, append_assoc, append-nil, Option, Some, None}
 use Rattle.std.specs.Prelude.{if◌then◌else◌}
 use Rattle.pylex.specs.declared.entries.Entry.{Entry}
+use Rattle.pytree_node.specs.declared.profiles.Extent.{Extent}
 use Rattle.pytoken.specs.declared.refusals.Refusal.{Refusal}
 use Rattle.pytoken.specs.Indentation.{Margin, margin_at, ends_line, margins_from}
 use Rattle.pytoken.specs.Inner.Behind.{behind}
@@ -31,12 +32,12 @@ or_none : (a : Option Refusal) → option_or a None ≡ a
 or_none (Some r) = refl
 or_none None = refl
 
-pub refusal_on : (text : List ℕ) (es : List Entry) (e : Entry)
-    → first_entry_refusal text (es ++ e ∷ []) ≡ option_or (first_entry_refusal text es) (entry_refusal text e)
-refusal_on text [] e = or_none (entry_refusal text e)
-refusal_on text (x ∷ es) e =
-    ap (option_or (entry_refusal text x)) (refusal_on text es e)
-    ∙ sym (or_assoc (entry_refusal text x) (first_entry_refusal text es) (entry_refusal text e))
+pub refusal_on : (extent : Extent) (text : List ℕ) (es : List Entry) (e : Entry)
+    → first_entry_refusal extent text (es ++ e ∷ []) ≡ option_or (first_entry_refusal extent text es) (entry_refusal extent text e)
+refusal_on extent text [] e = or_none (entry_refusal extent text e)
+refusal_on extent text (x ∷ es) e =
+    ap (option_or (entry_refusal extent text x)) (refusal_on extent text es e)
+    ∙ sym (or_assoc (entry_refusal extent text x) (first_entry_refusal extent text es) (entry_refusal extent text e))
 
 pub too_deep_on : (most : ℕ) (before es : List Entry) (e : Entry)
     → first_too_deep most before (es ++ e ∷ []) ≡ option_or (first_too_deep most before es) (bracket_refusal most (behind before es) e)

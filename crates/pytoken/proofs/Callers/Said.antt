@@ -1,19 +1,24 @@
 -- On: what the text of a tree writes for names and constants comes back; faults of numbers by their
 -- class; the points of literals;
--- the tokens of a source that isn't refused; the widths of margins.
+-- the tokens of a source that isn't refused; what is refused in the plain language alone; the
+-- widths of margins.
 --
 -- Carries: what pyparse_tokens, pytree_fits, pytoken, pyunparse_text cite.
 use Rattle.std.proofs.Common.{◌≡◌, ℕ, true, List, None}
 use Rattle.std.specs.List.{list_all}
+use Rattle.pylex.specs.declared.kind.Kind.{Kind}
 use Rattle.pylex.specs.Listing.{Source}
 use Rattle.pylex.specs.Laws.{IsLawful}
+use Rattle.pytree_node.specs.declared.profiles.Extent.TheVariants.{Plain, Whole}
+use Rattle.pytoken.specs.Terminals.{fault_of}
 use Rattle.pytoken.specs.StringValues.{is_bytes, points_of, literal_fault}
-use Rattle.pytoken.specs.Laws.{is_byte, ComeBack, NamesAreProper, FaultsAreByClass, BytesAreSmall, PointsAreInRange, MarginsAreWidths, AreLawful, TokensAreSound}
+use Rattle.pytoken.specs.Laws.{is_byte, ComeBack, NamesAreProper, FaultsAreByClass, BytesAreSmall, PointsAreInRange, MarginsAreWidths, AreLawful, TokensAreSound, ExtentsDifferInNumbers}
 use Rattle.pytoken.proofs.Words
 use Rattle.pytoken.proofs.NumberClasses
 use Rattle.pytoken.proofs.SmallBytes
 use Rattle.pytoken.proofs.TextPoints
 use Rattle.pytoken.proofs.Sound
+use Rattle.pytoken.proofs.Extents
 use Rattle.pytoken.proofs.MarginWidths
 
 pub come_back : ComeBack
@@ -50,3 +55,9 @@ values_are_lawful =
 
 pub tokens_are_sound : (s : Source) → IsLawful s → TokensAreSound s
 tokens_are_sound = Sound.tokens_are_sound
+
+pub extents_differ_in_numbers : (s : Source) → ExtentsDifferInNumbers s
+extents_differ_in_numbers = Extents.extents_differ_in_numbers
+
+pub plain_is_whole : (k : Kind) (t : List ℕ) → fault_of Plain k t ≡ None → fault_of Whole k t ≡ None
+plain_is_whole = Extents.plain_is_whole

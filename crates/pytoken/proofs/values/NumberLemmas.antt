@@ -1,21 +1,17 @@
--- Carries: whole, is_too_large, number_fault, integer, constant_value. On: a number byte by byte,
--- and its value and fault by its kind.
+-- Carries: whole, is_too_large, integer. On: a whole number byte by byte.
 use Rattle.std.proofs.Common.{◌≡◌, ℕ, ◌+◌, ◌*◌, ◌^◌, ◌<◌, ◌≤◌, Bool, true, false, not, List, [], ◌∷◌, length, drop, get_or, refl, sym, ap, ◌∙◌, inl, inr, arith}
 use Rattle.std.proofs.Common.{ap₂, Option, Some, None, is_some, mul-le-mul_left}
 use Rattle.std.specs.Prelude.{◌==◌, nat_le, filter, MatchOption, if◌then◌else◌}
 use Rattle.std.specs.Char.{digit_value}
 use Rattle.std.specs.Str.Parse.{digits_value_after}
-use Rattle.std.proofs.Math.Nat.{pow-le-pow_right}
 use Rattle.std.proofs.lemmas.Bool.{cases_Bool, leb-true, leb-false, le-leb, lt-leb}
 use Rattle.std.proofs.lemmas.List.{at_drop_more, drop_all}
 use Rattle.pynatural.specs.Readings.{written, is_no_underscore, most_digits}
-use Rattle.pyfloat.specs.FloatValues.{float_value}
-use Rattle.pytree_node.specs.Values.{Int, Float, Imaginary}
 use Rattle.pytree_node.specs.declared.profiles.Extent.{Extent}
 use Rattle.pytree_node.specs.declared.profiles.Extent.TheVariants.{Plain, Whole}
-use Rattle.pytoken.specs.declared.faults.TokenError.TheVariants as errors
-use Rattle.pytoken.specs.NumberValues.{radix_of, digits_in, is_complex, is_real, whole_value, number_value, number_fault}
-use Rattle.pytoken.specs.Inner.Readings.{one_more, whole_below, limit_of, in_plain}
+use Rattle.pytoken.specs.NumberValues.{radix_of, digits_in, whole_value}
+use Rattle.pytoken.specs.Inner.Readings.{one_more, whole_below, limit_of}
+use Rattle.pytoken.proofs.NumberKinds.{in_both}
 
 -- The value of digits, one after another
 
@@ -72,7 +68,7 @@ read_all radix value i bs fits end so_far =
     let small : nat_le (2 ^ 128) (written radix bs) ≡ false = lt-leb (2 ^ 128) (written radix bs) (omega (arith, same)) in
     rw small (ap (λ (n : ℕ). Some n) same)
 
--- The value of a whole number, and the limits
+-- The value of a whole number
 
 pub whole_is : (t : List ℕ) → written (radix_of t) (digits_in t) ≡ whole_value t
 unfolding whole_value
@@ -102,21 +98,6 @@ module _ (t ds : List ℕ) (radix : ℕ) (of_radix : radix ≡ radix_of t) (of_d
         | inr small ↦ absurd (let some : None ≡ Some n = rw small at e in cc)
       ]
 
-many_digits : 39 ≤ most_digits
-unfolding most_digits
-many_digits = omega arith
-
-pub whole_limit : 2 ^ 128 ≤ 10 ^ most_digits
-whole_limit = let more : 10 ^ 39 ≤ 10 ^ most_digits = pow-le-pow_right (omega arith) many_digits in omega (arith, more)
-
-least_limit : (extent : Extent) → 2 ^ 128 ≤ limit_of extent
-least_limit Plain = omega arith
-least_limit Whole = whole_limit
-
--- a whole number below 2^128 is in either extent
-pub in_both : (extent : Extent) (n : ℕ) → n < 2 ^ 128 → nat_le (limit_of extent) n ≡ false
-in_both extent n small = lt-leb (limit_of extent) n (omega (arith, least_limit extent, small))
-
 -- what was read of a number says whether it is past an extent's
 module _ (extent : Extent) (t ds : List ℕ) (radix : ℕ) (of_radix : radix ≡ radix_of t) (of_digits : ds ≡ digits_in t) where
   pub within : (o : Option ℕ) → o ≡ whole_below radix ds → true ≡ is_some o → false ≡ nat_le (limit_of extent) (whole_value t)
@@ -143,63 +124,17 @@ module _ (extent : Extent) (t ds : List ℕ) (radix : ℕ) (of_radix : radix ≡
       let large = le-leb (10 ^ most_digits) (whole_value t) (omega (arith, same, read)) in
       sym (ap (λ (x : Extent). nat_le (limit_of x) (whole_value t)) is ∙ large)
 
--- The fault of a number by its kind
+-- the value that was read of a number
+module _ (t ds : List ℕ) (radix : ℕ) (of_radix : radix ≡ radix_of t) (of_digits : ds ≡ digits_in t) where
+  pub read_below : (v : ℕ) (o : Option ℕ) → o ≡ whole_below radix ds → o ≡ Some v → v ≡ whole_value t
+  read_below v o e is = (below_some t ds radix of_radix of_digits v (sym is ∙ e)).0
 
-pub fault_complex : (extent : Extent) (t : List ℕ) → is_complex t ≡ true → number_fault extent t ≡ in_plain extent errors.Complex
-unfolding number_fault
-fault_complex Plain t complex = rw complex refl
-fault_complex Whole t complex = rw complex refl
+  pub not_past : (o : Option ℕ) → whole_value t < 10 ^ most_digits
+      → MatchOption o (10 ^ most_digits ≤ written radix ds) (λ n. (n ≡ written radix ds) × (n < 10 ^ most_digits)) → o ≡ None → ⊥
+  not_past (Some n) small read is = cc
+  not_past None small read is = omega (arith, digits_are t ds radix of_radix of_digits)
 
-pub fault_real : (extent : Extent) (t : List ℕ) → is_complex t ≡ false → is_real t ≡ true → number_fault extent t ≡ in_plain extent errors.Float
-unfolding number_fault
-fault_real Plain t complex real = rw (complex, real) refl
-fault_real Whole t complex real = rw (complex, real) refl
-
-pub fault_large : (extent : Extent) (t : List ℕ) → is_complex t ≡ false → is_real t ≡ false → nat_le (limit_of extent) (whole_value t) ≡ true
-    → number_fault extent t ≡ Some errors.IntegerTooLarge
-unfolding number_fault
-fault_large Plain t complex real large = rw (complex, real, large) refl
-fault_large Whole t complex real large = rw (complex, real, large) refl
-
-pub fault_none : (extent : Extent) (t : List ℕ) → is_complex t ≡ false → is_real t ≡ false → nat_le (limit_of extent) (whole_value t) ≡ false
-    → number_fault extent t ≡ None
-unfolding number_fault
-fault_none Plain t complex real small = rw (complex, real, small) refl
-fault_none Whole t complex real small = rw (complex, real, small) refl
-
--- The value of a number by its kind
-
-pub value_complex : (t : List ℕ) → is_complex t ≡ true → number_value t ≡ Imaginary (float_value t)
-unfolding number_value
-value_complex t complex = rw complex refl
-
-pub value_real : (t : List ℕ) → is_complex t ≡ false → is_real t ≡ true → number_value t ≡ Float (float_value t)
-unfolding number_value
-value_real t complex real = rw (complex, real) refl
-
-pub value_whole : (t : List ℕ) → is_complex t ≡ false → is_real t ≡ false → number_value t ≡ Int (whole_value t)
-unfolding number_value
-value_whole t complex real = rw (complex, real) refl
-
--- a whole number without a fault is below the limit
-pub below_limit : (extent : Extent) (t : List ℕ) → is_complex t ≡ false → is_real t ≡ false → number_fault extent t ≡ None
-    → whole_value t < limit_of extent
-below_limit extent t complex real none = elim (cases_Bool (nat_le (limit_of extent) (whole_value t))) [
-  | inl large ↦ absurd (let some = sym (fault_large extent t complex real large) ∙ none in cc)
-  | inr small ↦ omega (arith, leb-false (limit_of extent) (whole_value t) small)
-]
-
--- what has no fault in an extent has none in the whole language
-pub whole_faultless : (extent : Extent) (t : List ℕ) → number_fault extent t ≡ None → number_fault Whole t ≡ None
-whole_faultless extent t none = elim (cases_Bool (is_complex t)) [
-  | inl complex ↦ fault_complex Whole t complex
-  | inr no_j ↦ elim (cases_Bool (is_real t)) [
-    | inl real ↦ fault_real Whole t no_j real
-    | inr whole ↦ of_whole extent no_j whole none
-  ]
-]
-  where
-    of_whole : (extent : Extent) → is_complex t ≡ false → is_real t ≡ false → number_fault extent t ≡ None → number_fault Whole t ≡ None
-    of_whole Whole no_j whole none = none
-    of_whole Plain no_j whole none =
-        let small = below_limit Plain t no_j whole none in fault_none Whole t no_j whole (in_both Whole (whole_value t) small)
+  pub read_whole : (n : ℕ) (o : Option ℕ)
+      → MatchOption o (10 ^ most_digits ≤ written radix ds) (λ n. (n ≡ written radix ds) × (n < 10 ^ most_digits)) → o ≡ Some n → n ≡ whole_value t
+  read_whole n (Some m) read is = let same : m ≡ n = cc in sym same ∙ read.0 ∙ digits_are t ds radix of_radix of_digits
+  read_whole n None read is = absurd cc

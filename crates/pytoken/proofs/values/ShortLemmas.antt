@@ -15,7 +15,7 @@ use Rattle.pytree_node.specs.Values.{Value, Int}
 use Rattle.pytree_node.specs.declared.profiles.Extent.{Extent}
 use Rattle.pytoken.specs.NumberValues.{radix_of, digits_in, is_complex, is_real, whole_value, number_value, number_fault}
 use Rattle.pytoken.specs.Inner.Readings.{is_decimal_digit, IsShort}
-use Rattle.pytoken.proofs.values.NumberLemmas.{in_both, fault_none, value_whole}
+use Rattle.pytoken.proofs.NumberKinds.{in_both, fault_none, value_whole}
 
 record Digit (c : ℕ) : Type 0 where
   least : 48 ≤ c

@@ -1,9 +1,11 @@
 -- Carries: terminal_of. On: the terminal of a token and its fault, by its type.
 use Rattle.std.proofs.Common.{◌≡◌, ℕ, List, refl, Some, None}
+use Rattle.std.specs.Str.{encode_utf8_all}
 use Rattle.pylex_lexeme.specs.declared.kinds.Exact.{Exact}
 use Rattle.pylex_lexeme.specs.Operators.{exact_of}
 use Rattle.pylex.specs.declared.kind.Kind.{Kind}
 use Rattle.pylex.specs.declared.kind.Kind.TheVariants as kinds
+use Rattle.pytree_node.specs.declared.profiles.Extent.{Extent}
 use Rattle.pytoken.specs.Terminals.{Op, Layout, terminal_of, fault_of}
 use Rattle.pytoken.specs.TerminalOf.{named, numbered, quoted}
 
@@ -11,7 +13,7 @@ pub of_name : (k : Kind) (t : List ℕ) → k ≡ kinds.Name → named t ≡ ter
 unfolding terminal_of
 of_name k t is = rw is refl
 
-pub of_number : (k : Kind) (t : List ℕ) → k ≡ kinds.Number → numbered t ≡ terminal_of k t
+pub of_number : (k : Kind) (t : List ℕ) → k ≡ kinds.Number → numbered (encode_utf8_all t) ≡ terminal_of k t
 unfolding terminal_of
 of_number k t is = rw is refl
 
@@ -34,9 +36,9 @@ pub of_none : (t : List ℕ) → exact_of t ≡ None → Layout ≡ terminal_of 
 unfolding terminal_of
 of_none t is = rw (is, terminal_of) refl
 
-pub faultless : (k : Kind) (t : List ℕ) → k ≡ kinds.Op → None ≡ fault_of k t
+pub faultless : (extent : Extent) (k : Kind) (t : List ℕ) → k ≡ kinds.Op → None ≡ fault_of extent k t
 unfolding fault_of
-faultless k t is = rw is refl
+faultless extent k t is = rw is refl
 
 pub of_other : (k : Kind) (t : List ℕ) → (k ≡ kinds.Name → ⊥) → (k ≡ kinds.Number → ⊥) → (k ≡ kinds.String → ⊥) → (k ≡ kinds.Op → ⊥) →
     Layout ≡ terminal_of k t

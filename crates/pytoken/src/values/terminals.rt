@@ -1,7 +1,7 @@
 //! What tokens are to the grammar.
 
 ghost use Rattle.std.specs.Prelude.{◌≡◌, IfOk, IfErr, OnOk, None};
-ghost use Rattle.std.specs.Str.{chars, encode_utf8_all};
+ghost use Rattle.std.specs.Str.{chars};
 ghost use Rattle.pytoken.specs.NameValues.{name_fault};
 ghost use Rattle.pytoken.specs.NumberValues.{number_fault};
 ghost use Rattle.pytoken.specs.StringValues.{string_fault, nul_fault};
@@ -80,10 +80,9 @@ fn number_terminal<'a>(
     extent: Extent,
     text: &'a str,
 ) -> Result<Terminal<'a>, TerminalFault>
-    ensures terminal { IfOk result (λ made. terminal made ≡ numbered (chars text.now)) }
-    ensures sound { OnOk result (number_fault extent (encode_utf8_all (chars text.now)) ≡ None) }
-    ensures refused { IfErr result
-        (Tells (number_fault extent (encode_utf8_all (chars text.now)))) }
+    ensures terminal { IfOk result (λ made. terminal made ≡ numbered text.now) }
+    ensures sound { OnOk result (number_fault extent text.now ≡ None) }
+    ensures refused { IfErr result (Tells (number_fault extent text.now)) }
 {
     if let Some(value) = short_value(text) {
         return Ok(Terminal::Whole(value));

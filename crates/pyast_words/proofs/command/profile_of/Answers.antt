@@ -1,4 +1,4 @@
-use Rattle.std.proofs.Common.{◌∙◌, codes, subst}
+use Rattle.std.proofs.Common.{◌∙◌, codes, refl, subst}
 use Rattle.clap.specs.Matches.{found_of}
 use Rattle.clap.specs.Walk.{one_of, rows_of}
 use Rattle.clap.proofs.WalkLemmas.{one_text-rows}
@@ -7,11 +7,15 @@ use Rattle.pyast_words.proofs.WordsLemmas.{is_flag}
 use Rattle.pyast_words.proofs.command.profile_of.Goals as goal
 
 pub returns-then-get_flag : goal.returns-then-get_flag
-returns-then-get_flag c =
-    subst (IsFlag (one_of (codes "py312") (rows_of (found_of c.args.matches.now)))) c.if-get_flag.true
-    (is_flag _ _ (λ e. c.get_flag.ensures.none (one_text-rows (found_of c.args.matches.now) (codes "py312") ∙ e)) (λ e. c.get_flag.ensures.value (one_text-rows (found_of c.args.matches.now) (codes "py312") ∙ e)) (λ e. c.get_flag.ensures.other (one_text-rows (found_of c.args.matches.now) (codes "py312") ∙ e)))
+returns-then-get_flag c = record {
+  newer = subst (IsFlag (one_of (codes "py312") (rows_of (found_of c.args.matches.now)))) c.if-get_flag.true
+      (is_flag _ _ (λ e. c.get_flag.ensures.none (one_text-rows (found_of c.args.matches.now) (codes "py312") ∙ e)) (λ e. c.get_flag.ensures.value (one_text-rows (found_of c.args.matches.now) (codes "py312") ∙ e)) (λ e. c.get_flag.ensures.other (one_text-rows (found_of c.args.matches.now) (codes "py312") ∙ e)));
+  extent = refl;
+}
 
 pub returns-else-get_flag : goal.returns-else-get_flag
-returns-else-get_flag c =
-    subst (IsFlag (one_of (codes "py312") (rows_of (found_of c.args.matches.now)))) c.if-get_flag.false
-    (is_flag _ _ (λ e. c.get_flag.ensures.none (one_text-rows (found_of c.args.matches.now) (codes "py312") ∙ e)) (λ e. c.get_flag.ensures.value (one_text-rows (found_of c.args.matches.now) (codes "py312") ∙ e)) (λ e. c.get_flag.ensures.other (one_text-rows (found_of c.args.matches.now) (codes "py312") ∙ e)))
+returns-else-get_flag c = record {
+  newer = subst (IsFlag (one_of (codes "py312") (rows_of (found_of c.args.matches.now)))) c.if-get_flag.false
+      (is_flag _ _ (λ e. c.get_flag.ensures.none (one_text-rows (found_of c.args.matches.now) (codes "py312") ∙ e)) (λ e. c.get_flag.ensures.value (one_text-rows (found_of c.args.matches.now) (codes "py312") ∙ e)) (λ e. c.get_flag.ensures.other (one_text-rows (found_of c.args.matches.now) (codes "py312") ∙ e)));
+  extent = refl;
+}

@@ -2,6 +2,6 @@ use Rattle.pyast_words.proofs.command.unparse_of.Goals as goal
 
 pub returns : goal.returns
 returns c = record {
-  newer = c.profile_of.ensures;
+  profile = c.profile_of.ensures;
   file = c.in_ok-file_of.ensures;
 }

@@ -1,21 +1,18 @@
 use Rattle.std.proofs.Common.{rules, ◌≡◌, ℕ, true, length, take, sym, ap, subst, ◌∙◌, arith, Option, Some, None}
 use Rattle.std.specs.Prelude.{IfErr, not, is_some}
 use Rattle.std.proofs.lemmas.Result.{IfOk-weaker}
-use Rattle.pysource.specs.Parts.{Parts}
 use Rattle.pylex.specs.declared.entries.Step.TheVariants as steps
 use Rattle.pylex.specs.Listing.{in_characters, listing}
 use Rattle.pylex.specs.Steps.{entries_of}
 use Rattle.pytoken.specs.declared.refusals.Refusal.{Refusal}
-use Rattle.pyparse_tokens.specs.declared.line_gather.LineGather.{LineGather}
 use Rattle.pyparse_tokens.specs.Answers.{Tells}
 use Rattle.pyparse_tokens.specs.Inner.Passing.{kept_refusal}
-use Rattle.pyparse_tokens.specs.Inner.Walking.{Reads}
 use Rattle.pyparse_tokens.specs.LineReadings.{lines_within, EndsAt}
 use Rattle.pyparse_tokens.proofs.ListingLemmas.{moved, at_stop}
 use Rattle.pyparse_tokens.proofs.EndLemmas.{ends_at}
 use Rattle.pyparse_tokens.proofs.PassLemmas.{all_refusals, refused_listing}
-use Rattle.pyparse_tokens.proofs.LineGatherLemmas.{Read, entry_read, all_lines}
-use Rattle.pyparse_tokens.proofs.WalkLemmas.{reads_begin, reads_on, reads_end, reads_cleared, few_brackets}
+use Rattle.pyparse_tokens.proofs.LineGatherLemmas.{entry_read, all_lines}
+use Rattle.pyparse_tokens.proofs.WalkLemmas.{reads_begin, reads_on, reads_end, reads_cleared, few_brackets, few_levels}
 use Rattle.pyparse_tokens.proofs.logical_lines.read_line.Goals as goal
 
 pub entries-init : goal.entries-init
@@ -35,7 +32,8 @@ take-requires c =
     c.in_ok-entry.ensures.steps c.in-Entry.is
     in
     let few = few_brackets c.args.source.now c.walk_line.new.lister c.walk_line.new.gather reads.at in
-    record { lies = read.lies; exact = read.exact; opened = few.0; closed = few.1; indents = omega (arith, reads.at.counts.few_indents, reads.at.few); dedents = omega (arith, reads.at.counts.few_dedents, reads.at.few) }
+    let low = few_levels c.args.source.now c.walk_line.new.lister c.walk_line.new.gather reads.at in
+    record { lies = read.lies; exact = read.exact; opened = few.0; closed = few.1; indents = low.0; dedents = low.1 }
 
 pub returns-then-is_none-clause-line : goal.returns-then-is_none-clause-line
 returns-then-is_none-clause-line c =
@@ -50,8 +48,8 @@ returns-then-is_none-clause-line c =
     c.next.ensures.given (c.in_ok-entry.ensures.source ∙ reads.at.source) c.in_ok-take-in-Entry.ensures.gathers
     (sym c.in_ok-take-in-Entry.ensures.ends ∙ c.if-branch-2.true)).line none
 
-pub entries-smaller-then-branch : goal.entries-smaller-then-branch
-entries-smaller-then-branch c =
+pub entries-smaller-then-branch-2 : goal.entries-smaller-then-branch-2
+entries-smaller-then-branch-2 c =
     let reads = c.in_ok-walk_line.ensures.within c.if-branch.false c.args.lister.now c.entries.invariant in
     let read =
     entry_read c.args.source.now c.walk_line.new.lister c.next.new.self c.walk_line.new.gather c.in_ok-entry.field-0 c.in-Entry.entry reads.at
@@ -72,8 +70,8 @@ is_none_not : (r : Option Refusal) → is_some r ≡ true → r ≡ None → ⊥
 is_none_not None some none = cc
 is_none_not (Some r) some none = cc
 
-pub entries-preserved-then-branch : goal.entries-preserved-then-branch
-entries-preserved-then-branch c =
+pub entries-preserved-then-branch-2 : goal.entries-preserved-then-branch-2
+entries-preserved-then-branch-2 c =
     let reads = c.in_ok-walk_line.ensures.within c.if-branch.false c.args.lister.now c.entries.invariant in
     let read =
     entry_read c.args.source.now c.walk_line.new.lister c.next.new.self c.walk_line.new.gather c.in_ok-entry.field-0 c.in-Entry.entry reads.at
@@ -84,9 +82,9 @@ entries-preserved-then-branch c =
     c.next.ensures.given (c.in_ok-entry.ensures.source ∙ reads.at.source) c.in_ok-take-in-Entry.ensures.gathers
     (sym c.in_ok-take-in-Entry.ensures.ends ∙ c.if-branch-2.true)
     in
-    reads_cleared c.args.source.now c.args.lister.now c.next.new.self c.take.new.self c.clear-then-branch.new.self ended.at
+    reads_cleared c.args.source.now c.args.lister.now c.next.new.self c.take.new.self c.clear-then-branch-2.new.self ended.at
     (λ none. is_none_not (kept_refusal c.take.new.self.pass) (ap is_some (sym c.refusal.ensures) ∙ c.is_none.ensures ∙ ap not c.if-is_none.false) none)
-    c.clear-then-branch.ensures.rest
+    c.clear-then-branch-2.ensures.rest
 
 pub entries-preserved : goal.entries-preserved
 entries-preserved c =

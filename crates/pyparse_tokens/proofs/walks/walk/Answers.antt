@@ -1,9 +1,9 @@
-use Rattle.std.proofs.Common.{◌≡◌, ◌≤◌, length, drop, true, false, refl, sym, ap, subst, ◌∙◌, arith}
+use Rattle.std.proofs.Common.{◌≤◌, length, drop, ap, subst, ◌∙◌}
 use Rattle.std.specs.Str.{IsUtf8}
 use Rattle.pysource.specs.Limits.{source_limit}
 use Rattle.pylex.specs.Spots.{at_spot}
 use Rattle.pylex.proofs.CallersOfSpots.{spot_boundary}
-use Rattle.pyparse_tokens.proofs.WalkLemmas.{few_brackets, walk_begins, walk_room, walk_steps, walk_on, walk_ends, walk_stops}
+use Rattle.pyparse_tokens.proofs.WalkLemmas.{few_brackets, walk_begins, walk_room, walk_steps, walk_on, walk_ends}
 use Rattle.pyparse_tokens.proofs.walks.walk.Goals as goal
 
 pub range_from-left-requires : goal.range_from-left-requires
@@ -32,3 +32,42 @@ take_lexeme-requires c =
     (subst IsUtf8 c.text-text.ensures.value c.text-text.utf8) small c.requires.given w moved in
     let few = few_brackets p (at_spot p c.lexemes.spot levels) c.lexemes.gather w.at in
     record { begun = w.begun; some = w.some; opened = few.0; closed = few.1; boundary = x.boundary; gives = moved.ahead.gives }
+
+pub returns-then-not-to-clause-at : goal.returns-then-not-to-clause-at
+returns-then-not-to-clause-at c =
+    let p = c.args.source.now in
+    let levels = c.args.lister.now.shown.levels in
+    let small : length p.text ≤ source_limit = rw c.text-text.ensures.value at c.text-text.ensures.within in
+    let w = c.lexemes.invariant in
+    let moved = c.in-Some.ensures.steps in
+    let x =
+    walk_steps p levels c.lexemes.left.now c.args.from c.lexemes.spot c.in-Some.to c.in-Some.class c.in-Some.front.now c.in-Some.back.now c.args.gather.now c.lexemes.gather
+    (subst IsUtf8 c.text-text.ensures.value c.text-text.utf8) small c.requires.given w moved in
+    (walk_ends p levels c.lexemes.left.now c.args.from c.lexemes.spot c.in-Some.to c.in-Some.class c.in-Some.front.now c.in-Some.back.now c.args.gather.now c.lexemes.gather
+    c.take_lexeme.new.self w x moved (c.in_ok-take_lexeme.ensures.taken c.if-not-branch.false) c.if-not-to.true).at
+
+pub returns-then-not-to-clause-went : goal.returns-then-not-to-clause-went
+returns-then-not-to-clause-went c =
+    let p = c.args.source.now in
+    let levels = c.args.lister.now.shown.levels in
+    let small : length p.text ≤ source_limit = rw c.text-text.ensures.value at c.text-text.ensures.within in
+    let w = c.lexemes.invariant in
+    let moved = c.in-Some.ensures.steps in
+    let x =
+    walk_steps p levels c.lexemes.left.now c.args.from c.lexemes.spot c.in-Some.to c.in-Some.class c.in-Some.front.now c.in-Some.back.now c.args.gather.now c.lexemes.gather
+    (subst IsUtf8 c.text-text.ensures.value c.text-text.utf8) small c.requires.given w moved in
+    (walk_ends p levels c.lexemes.left.now c.args.from c.lexemes.spot c.in-Some.to c.in-Some.class c.in-Some.front.now c.in-Some.back.now c.args.gather.now c.lexemes.gather
+    c.take_lexeme.new.self w x moved (c.in_ok-take_lexeme.ensures.taken c.if-not-branch.false) c.if-not-to.true).went
+
+pub lexemes-preserved : goal.lexemes-preserved
+lexemes-preserved c =
+    let p = c.args.source.now in
+    let levels = c.args.lister.now.shown.levels in
+    let small : length p.text ≤ source_limit = rw c.text-text.ensures.value at c.text-text.ensures.within in
+    let w = c.lexemes.invariant in
+    let moved = c.in-Some.ensures.steps in
+    let x =
+    walk_steps p levels c.lexemes.left.now c.args.from c.lexemes.spot c.in-Some.to c.in-Some.class c.in-Some.front.now c.in-Some.back.now c.args.gather.now c.lexemes.gather
+    (subst IsUtf8 c.text-text.ensures.value c.text-text.utf8) small c.requires.given w moved in
+    walk_on p levels c.lexemes.left.now c.args.from c.lexemes.spot c.in-Some.to c.in-Some.class c.in-Some.front.now c.in-Some.back.now c.args.gather.now c.lexemes.gather
+    c.take_lexeme.new.self w x moved (c.in_ok-take_lexeme.ensures.taken c.if-not-branch.false) c.in_ok-take_lexeme.ensures.some c.if-not-to.false

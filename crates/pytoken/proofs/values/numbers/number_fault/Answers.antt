@@ -1,6 +1,6 @@
 use Rattle.std.proofs.Common.{ℕ, List, sym, ap, ◌∙◌}
 use Rattle.pytoken.specs.NumberValues.{number_fault}
-use Rattle.pytoken.proofs.values.NumberLemmas.{fault_complex, fault_real, fault_large, fault_none}
+use Rattle.pytoken.proofs.NumberKinds.{fault_complex, fault_real, fault_large, fault_none}
 use Rattle.pytoken.proofs.values.ShortLemmas.{read_faultless}
 use Rattle.pytoken.proofs.values.numbers.number_fault.Goals as goal
 

@@ -1,0 +1,9 @@
+pub mod DigitRuns
+pub mod Parts
+pub mod Layouts
+pub mod WholeTexts
+pub mod Characters
+pub mod Ends
+pub mod Stops
+pub mod Lexemes
+pub mod Standing
