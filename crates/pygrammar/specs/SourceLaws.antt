@@ -1,15 +1,18 @@
 -- What holds of the forms of logical lines, of their blocks, and of the answer for a source.
-use Rattle.std.specs.Prelude.{◌≡◌, ◌⊎◌, ◌↔◌, ℕ, ◌<◌, true, List, [], length, Contains}
+use Rattle.std.specs.Prelude.{◌≡◌, ◌⊎◌, ◌↔◌, ℕ, ◌<◌, true, List, [], length, None, Contains}
 use Rattle.pysource.specs.declared.places.Place.{Place}
 use Rattle.pylex.specs.Listing.{Source}
 use Rattle.pytree_node.specs.declared.profiles.Extent.{Extent}
+use Rattle.pytree_node.specs.declared.profiles.Extent.TheVariants.{Plain, Whole}
 use Rattle.pytree_node.specs.declared.profiles.Profile.{Profile}
+use Rattle.pytree_node.specs.declared.profiles.Version.{Version}
 use Rattle.pytree_node.specs.declared.profiles.Version.TheVariants.{Py311, Py312}
 use Rattle.pytree_node.specs.Profiles.{python}
 use Rattle.pytree_node.specs.Trees.{Stmt, Module}
 use Rattle.pytree_height.specs.Heights.{statement_height}
 use Rattle.pytoken.specs.Tokens.{lines}
 use Rattle.pytoken.specs.Tokens as Tokens
+use Rattle.pytoken.specs.Refusals.{refusal}
 use Rattle.pytoken.specs.Terminals.{Terminal}
 use Rattle.pygrammar.specs.Lines.{Line, Form, untyped}
 use Rattle.pygrammar.specs.Forms.{FormOf}
@@ -71,6 +74,11 @@ abbrev pub ModulesReturn : Type 0
 ModulesReturn = (extent : Extent) (s : Source) (m : Module) →
     Accepted (python Py311 extent) s m ↔ (Accepted (python Py312 extent) s m × (is_module_untyped m ≡ true))
 
+-- A source is accepted in the plain language exactly where it is in the whole one with the same tree, and none of its tokens has a fault in the plain one:
+-- by `ExtentsDifferInNumbers` of the tokens, where no number lacks a value there.
+abbrev pub ExtentsDifferInTokens : Type 0
+ExtentsDifferInTokens = (version : Version) (s : Source) (m : Module) → Accepted (python version Plain) s m ↔ (Accepted (python version Whole) s m × (refusal Plain s ≡ None))
+
 -- each source is accepted or refused
 abbrev pub SourcesAreAnswered : Type 0
 SourcesAreAnswered = (profile : Profile) (s : Source) → ((m : Module) × Accepted profile s m) ⊎ ((r : Reason) × Refused profile s r)
@@ -94,6 +102,7 @@ pub record AnswersAreLawful : Type 0 where
   pub apart : RefusedHaveNoModule
   pub stays : ModulesStay
   pub new : ModulesReturn
+  pub extents : ExtentsDifferInTokens
   pub total : SourcesAreAnswered
   pub one : ReasonsAreUnique
   pub depths : DepthsAreHeights

@@ -1,22 +1,27 @@
 -- No source has two trees, none is both accepted and refused, and what is accepted
 -- stays so in Python 3.12, in the same extent.
 --
--- Carries: answer_stays, one_formed, unread_formed, unread_none and 2 more, for Reasons, SourceLaw,
+-- Carries: answer_stays, extents_differ, one_formed, unread_formed, unread_none and 2 more, for Reasons, SourceLaw,
 -- Types. On: Law, Line/Law, Stays, Leads.
-use Rattle.std.proofs.Common.{◌≡◌, ℕ, List, ◌∷◌, refl, ap, ◌∙◌, subst, arith}
+use Rattle.std.proofs.Common.{◌≡◌, ◌↔◌, None, ℕ, List, ◌∷◌, refl, ap, ◌∙◌, subst, arith}
 use Rattle.pylex.specs.Listing.{Source}
 use Rattle.pytree_node.specs.declared.profiles.Profile.{Profile}
+use Rattle.pytree_node.specs.declared.profiles.Extent.{Extent}
+use Rattle.pytree_node.specs.declared.profiles.Extent.TheVariants.{Plain, Whole}
+use Rattle.pytree_node.specs.declared.profiles.Version.{Version}
 use Rattle.pytree_node.specs.declared.profiles.Version.TheVariants.{Py312}
 use Rattle.pytree_node.specs.Profiles.{python}
 use Rattle.pytree_node.specs.Trees.{Stmt, Module}
 use Rattle.pytree_height.specs.Heights.{statement_height}
 use Rattle.pytoken.specs.Tokens as Tokens
+use Rattle.pytoken.specs.Refusals.{refusal}
+use Rattle.pytoken.proofs.Callers.Said.{extents_differ_in_numbers}
 use Rattle.pygrammar.specs.Lines.{Line, line, Form}
 use Rattle.pygrammar.specs.FormHeights.{form_height}
 use Rattle.pygrammar.specs.Blocks.{Block}
 use Rattle.pygrammar.specs.Refusals.{Code, Reason, HasForm, Formed, formed_end, formed_line, Unread, too_high, no_match, no_form, too_long, FirstUnread, unread, unread_behind, Accepted, Refused, by_tokens, by_line, by_block, by_height}
 use Rattle.pygrammar.proofs.Line.Law.{one_form}
-use Rattle.pygrammar.proofs.Line.Stays.{form_stays}
+use Rattle.pygrammar.proofs.Line.Stays.{form_stays, form_in}
 use Rattle.pygrammar.proofs.Block.Leads.{one_tree}
 use Rattle.pygrammar.proofs.Block.Law.{tree_faultless, no_first}
 
@@ -66,3 +71,16 @@ formed_stays (formed_line p q) = formed_line (record { is = form_stays p.is; low
 
 pub answer_stays : {profile : Profile} {s : Source} {m : Module} → Accepted profile s m → Accepted (python Py312 profile.extent) s m
 answer_stays p = record { clear = p.clear; forms = p.forms; formed = formed_stays p.formed; block = p.block; low = p.low }
+
+-- ---- Extents.
+
+formed_in : {profile : Profile} (extent : Extent) {xs : List Tokens.Line} {ys : List Line} → Formed profile xs ys → Formed (python profile.version extent) xs ys
+formed_in extent formed_end = formed_end
+formed_in extent (formed_line p q) = formed_line (record { is = form_in extent p.is; low = p.low }) (formed_in extent q)
+
+pub answer_in : {profile : Profile} (extent : Extent) {s : Source} {m : Module} → refusal extent s ≡ None → Accepted profile s m → Accepted (python profile.version extent) s m
+answer_in extent clear p = record { clear = clear; forms = p.forms; formed = formed_in extent p.formed; block = p.block; low = p.low }
+
+-- what is refused in neither extent is accepted in both or in none
+pub extents_differ : (version : Version) (s : Source) (m : Module) → Accepted (python version Plain) s m ↔ (Accepted (python version Whole) s m × (refusal Plain s ≡ None))
+extents_differ version s m = (λ p. (answer_in Whole ((extents_differ_in_numbers s).0 p.clear).0 p, p.clear), λ q. answer_in Plain q.1 q.0)

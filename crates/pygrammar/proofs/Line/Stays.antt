@@ -1,69 +1,80 @@
--- The forms of every version are forms of Python 3.12 in the same extent; those without types are
--- forms of 3.11.
+-- The forms of every version are forms of Python 3.12 in the same extent, and of the same version in
+-- the other extent; those without types are forms of 3.11.
 --
--- Carries: old_is_untyped, form_stays, for Answer, Block/Types, SourceLaw.
+-- Carries: old_is_untyped, form_stays, form_in, for Answer, Block/Types, SourceLaw.
 use Rattle.std.proofs.Common.{◌≡◌, ◌↔◌, refl, ap, ◌∙◌, List, Bool, true, false}
 use Rattle.std.specs.Prelude.{not, ◌&&◌}
 use Rattle.pytree_node.specs.declared.profiles.Extent.{Extent}
 use Rattle.pytree_node.specs.declared.profiles.Profile.{Profile}
 use Rattle.pytree_node.specs.declared.profiles.Version.TheVariants.{Py311, Py312}
-use Rattle.pytree_node.specs.Profiles.{python}
+use Rattle.pytree_node.specs.Profiles.{python, has_types}
 use Rattle.pytree_node.specs.Trees.{Stmt, TypeParam}
 use Rattle.pytoken.specs.Terminals.{Terminal}
 use Rattle.pygrammar.specs.Lines.{Form, Header, no_types, is_alias, untyped_statements, untyped_header, untyped}
 use Rattle.pygrammar.specs.Forms as F
 
-type_params_stay : {profile : Profile} {ts : List Terminal} {ps : List TypeParam} → F.TypeParams profile ts ps → F.TypeParams (python Py312 profile.extent) ts ps
-type_params_stay F.no_type_params = F.no_type_params
-type_params_stay (F.type_params h c) = F.type_params refl c
+-- what has types in one profile has them in another
+abbrev pub HasTypesOf : Profile → Profile → Type 0
+HasTypesOf p q = has_types p ≡ true → has_types q ≡ true
 
-simple_stays : {profile : Profile} {ts : List Terminal} {s : Stmt} → F.Simple profile ts s → F.Simple (python Py312 profile.extent) ts s
-simple_stays (F.value p) = F.value p
-simple_stays (F.assign c p) = F.assign c p
-simple_stays (F.augmented_assign x p q v) = F.augmented_assign x p q v
-simple_stays (F.annotated_name p q) = F.annotated_name p q
-simple_stays (F.annotated_group p q v) = F.annotated_group p q v
-simple_stays (F.annotated_part p n q v) = F.annotated_part p n q v
-simple_stays (F.type_alias h c p) = F.type_alias refl (type_params_stay c) p
-simple_stays (F.return_of p) = F.return_of p
-simple_stays F.raise_alone = F.raise_alone
-simple_stays (F.raise_of p q) = F.raise_of p q
-simple_stays (F.assert_of p q) = F.assert_of p q
-simple_stays (F.delete c) = F.delete c
-simple_stays (F.global c) = F.global c
-simple_stays (F.nonlocal c) = F.nonlocal c
-simple_stays F.pass = F.pass
-simple_stays F.break = F.break
-simple_stays F.continue = F.continue
-simple_stays (F.import_names c) = F.import_names c
-simple_stays (F.from_module d p q) = F.from_module d p q
-simple_stays (F.from_dots d h q) = F.from_dots d h q
+type_params_lead : {p q : Profile} → HasTypesOf p q → {ts : List Terminal} {ps : List TypeParam} → F.TypeParams p ts ps → F.TypeParams q ts ps
+type_params_lead k F.no_type_params = F.no_type_params
+type_params_lead k (F.type_params h c) = F.type_params (k h) c
 
-simples_stay : {profile : Profile} {ts : List Terminal} {ss : List Stmt} → F.Simples profile ts ss → F.Simples (python Py312 profile.extent) ts ss
-simples_stay (F.last_simple p) = F.last_simple (simple_stays p)
-simples_stay (F.ended_simple p) = F.ended_simple (simple_stays p)
-simples_stay (F.more_simples p c) = F.more_simples (simple_stays p) (simples_stay c)
+simple_leads : {p q : Profile} → HasTypesOf p q → {ts : List Terminal} {s : Stmt} → F.Simple p ts s → F.Simple q ts s
+simple_leads k (F.value p) = F.value p
+simple_leads k (F.assign c p) = F.assign c p
+simple_leads k (F.augmented_assign x p q v) = F.augmented_assign x p q v
+simple_leads k (F.annotated_name p q) = F.annotated_name p q
+simple_leads k (F.annotated_group p q v) = F.annotated_group p q v
+simple_leads k (F.annotated_part p n q v) = F.annotated_part p n q v
+simple_leads k (F.type_alias h c p) = F.type_alias (k h) (type_params_lead k c) p
+simple_leads k (F.return_of p) = F.return_of p
+simple_leads k F.raise_alone = F.raise_alone
+simple_leads k (F.raise_of p q) = F.raise_of p q
+simple_leads k (F.assert_of p q) = F.assert_of p q
+simple_leads k (F.delete c) = F.delete c
+simple_leads k (F.global c) = F.global c
+simple_leads k (F.nonlocal c) = F.nonlocal c
+simple_leads k F.pass = F.pass
+simple_leads k F.break = F.break
+simple_leads k F.continue = F.continue
+simple_leads k (F.import_names c) = F.import_names c
+simple_leads k (F.from_module d p q) = F.from_module d p q
+simple_leads k (F.from_dots d h q) = F.from_dots d h q
 
-header_stays : {profile : Profile} {ts : List Terminal} {h : Header} → F.HeaderOf profile ts h → F.HeaderOf (python Py312 profile.extent) ts h
-header_stays (F.if_line p) = F.if_line p
-header_stays (F.elif_line p) = F.elif_line p
-header_stays F.else_line = F.else_line
-header_stays (F.while_line p) = F.while_line p
-header_stays (F.for_line a p q) = F.for_line a p q
-header_stays (F.with_line a p) = F.with_line a p
-header_stays F.try_line = F.try_line
-header_stays F.finally_line = F.finally_line
-header_stays F.except_all = F.except_all
-header_stays (F.except_line p a) = F.except_line p a
-header_stays (F.except_star p a) = F.except_star p a
-header_stays (F.def_line x a g c q k) = F.def_line x a (type_params_stay g) c q k
-header_stays (F.class_line g c) = F.class_line (type_params_stay g) c
+simples_lead : {p q : Profile} → HasTypesOf p q → {ts : List Terminal} {ss : List Stmt} → F.Simples p ts ss → F.Simples q ts ss
+simples_lead k (F.last_simple p) = F.last_simple (simple_leads k p)
+simples_lead k (F.ended_simple p) = F.ended_simple (simple_leads k p)
+simples_lead k (F.more_simples p c) = F.more_simples (simple_leads k p) (simples_lead k c)
+
+header_leads : {p q : Profile} → HasTypesOf p q → {ts : List Terminal} {h : Header} → F.HeaderOf p ts h → F.HeaderOf q ts h
+header_leads k (F.if_line p) = F.if_line p
+header_leads k (F.elif_line p) = F.elif_line p
+header_leads k F.else_line = F.else_line
+header_leads k (F.while_line p) = F.while_line p
+header_leads k (F.for_line a p q) = F.for_line a p q
+header_leads k (F.with_line a p) = F.with_line a p
+header_leads k F.try_line = F.try_line
+header_leads k F.finally_line = F.finally_line
+header_leads k F.except_all = F.except_all
+header_leads k (F.except_line p a) = F.except_line p a
+header_leads k (F.except_star p a) = F.except_star p a
+header_leads k (F.def_line x a g c q k) = F.def_line x a (type_params_lead k g) c q k
+header_leads k (F.class_line g c) = F.class_line (type_params_lead k g) c
+
+pub form_leads : {p q : Profile} → HasTypesOf p q → {ts : List Terminal} {f : Form} → F.FormOf p ts f → F.FormOf q ts f
+form_leads k (F.simple_statements c) = F.simple_statements (simples_lead k c)
+form_leads k (F.decorator_line p) = F.decorator_line p
+form_leads k (F.header_line p) = F.header_line (header_leads k p)
+form_leads k (F.header_suite p c) = F.header_suite (header_leads k p) (simples_lead k c)
 
 pub form_stays : {profile : Profile} {ts : List Terminal} {f : Form} → F.FormOf profile ts f → F.FormOf (python Py312 profile.extent) ts f
-form_stays (F.simple_statements c) = F.simple_statements (simples_stay c)
-form_stays (F.decorator_line p) = F.decorator_line p
-form_stays (F.header_line p) = F.header_line (header_stays p)
-form_stays (F.header_suite p c) = F.header_suite (header_stays p) (simples_stay c)
+form_stays = form_leads (λ _. refl)
+
+-- the forms of a version are the same in both extents
+pub form_in : {profile : Profile} (extent : Extent) {ts : List Terminal} {f : Form} → F.FormOf profile ts f → F.FormOf (python profile.version extent) ts f
+form_in extent = form_leads (λ h. h)
 
 -- ---- In Python 3.11 no form has types.
 no_type_params : {extent : Extent} {ts : List Terminal} {ps : List TypeParam} → F.TypeParams (python Py311 extent) ts ps → no_types ps ≡ true
