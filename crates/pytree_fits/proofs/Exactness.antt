@@ -5,3 +5,5 @@ pub mod NumberScalars
 pub mod NumberTokens
 pub mod Tokens
 pub mod Modules
+pub mod Stays
+pub mod Lawful

@@ -2,7 +2,10 @@
 use Rattle.std.specs.Prelude.{◌≡◌, ◌↔◌, Bool, true, ◌&&◌}
 use Rattle.pytree_node.specs.declared.operators.Context.TheVariants.{Store, Del}
 use Rattle.pytree_node.specs.declared.profiles.Extent.{Extent}
+use Rattle.pytree_node.specs.declared.profiles.Extent.TheVariants.{Whole}
+use Rattle.pytree_node.specs.declared.profiles.Version.TheVariants.{Py312}
 use Rattle.pytree_node.specs.declared.profiles.Profile.{Profile}
+use Rattle.pytree_node.specs.Profiles.{python}
 use Rattle.pytree_node.specs.Trees.{Expr, Exprs, Keywords, Arguments, Module}
 use Rattle.pygrammar.specs.declared.levels.Level.{Level}
 use Rattle.pygrammar.specs.declared.levels.Level.TheVariants.{Elem}
@@ -49,6 +52,16 @@ ExpressionsFitExactly = (extent : Extent) (l : Level) (e : Expr) → Expressed e
 abbrev pub ModulesFitExactly : Type 0
 ModulesFitExactly = (profile : Profile) (m : Module) → Stated profile m ↔ (module_fits profile (tests_in profile.extent) m ≡ true)
 
+-- ---- By extents and versions.
+
+-- an expression that fits a level in an extent fits it in the whole language
+abbrev pub ExpressionsStay : Type 0
+ExpressionsStay = (extent : Extent) (l : Level) (e : Expr) → fits_at (tests_in extent) l e ≡ true → fits_at (tests_in Whole) l e ≡ true
+
+-- a module that fits in a version of Python, in its extent, fits in Python 3.12, whole
+abbrev pub ModulesStay : Type 0
+ModulesStay = (profile : Profile) (m : Module) → module_fits profile (tests_in profile.extent) m ≡ true → module_fits (python Py312 Whole) (tests_in Whole) m ≡ true
+
 -- the laws of the slots
 pub record SlotsAreLawful : Type 0 where
   pub exact : FitsExactly
@@ -57,3 +70,5 @@ pub record SlotsAreLawful : Type 0 where
   pub arguments : ArgumentsFitExactly
   pub expressions : ExpressionsFitExactly
   pub modules : ModulesFitExactly
+  pub expressions_stay : ExpressionsStay
+  pub modules_stay : ModulesStay

@@ -93,13 +93,13 @@ clauses_fit star (a_handler class name body hs) orelse finalbody = true
 abbrev mutual
   pub statement_fits : Profile → Tests → Stmt → Bool
   statement_fits p n (Trees.FunctionDef name args body decorators returns parameters) =
-      n name && fits_arguments n true args && each_fits n Expression (exprs decorators) && perhaps_fits n Expression (optional returns)
+      n.name name && fits_arguments n true args && each_fits n Expression (exprs decorators) && perhaps_fits n Expression (optional returns)
       && types_fit p n parameters && suite_fits p n body
   statement_fits p n (Trees.AsyncFunctionDef name args body decorators returns parameters) =
-      n name && fits_arguments n true args && each_fits n Expression (exprs decorators) && perhaps_fits n Expression (optional returns)
+      n.name name && fits_arguments n true args && each_fits n Expression (exprs decorators) && perhaps_fits n Expression (optional returns)
       && types_fit p n parameters && suite_fits p n body
   statement_fits p n (Trees.ClassDef name bases keywords body decorators parameters) =
-      n name && each_fits n Elem (exprs bases) && each_keyword_fits n keywords && each_fits n Expression (exprs decorators)
+      n.name name && each_fits n Elem (exprs bases) && each_keyword_fits n keywords && each_fits n Expression (exprs decorators)
       && types_fit p n parameters && suite_fits p n body
   statement_fits p n (Trees.Return value) = perhaps_fits n Stars (optional value)
   statement_fits p n (Trees.Delete targets) = has_one targets && each_target_fits n Del (exprs targets)

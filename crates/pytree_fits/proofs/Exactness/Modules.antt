@@ -28,11 +28,10 @@ use Rattle.pytree_fits.specs.Tests.{tests_in}
 use Rattle.pytree_fits.specs.Slots.{fits_at}
 use Rattle.pytree_fits.specs.Statements.{module_fits}
 use Rattle.pytree_fits.specs.Given.{AreGiven, no_line, a_line, GivenModule, Expressed, HaveForms, no_form, a_form, Stated}
-use Rattle.pytree_fits.specs.Laws.{ExpressionsFitExactly, ModulesFitExactly, SlotsAreLawful}
+use Rattle.pytree_fits.specs.Laws.{ExpressionsFitExactly, ModulesFitExactly}
 use Rattle.pytree_fits.proofs.Fields.AsSpelled.{AreGivenAsSpelled, none_spelled, one_spelled, lines_given}
 use Rattle.pytree_fits.proofs.Fitting.Fits.{slots}
 use Rattle.pytree_fits.proofs.Giving.Gives.{made}
-use Rattle.pytree_fits.proofs.Exactness.Exactly.{fits_exactly, targets_fit_exactly, parameters_fit_exactly, arguments_fit_exactly}
 use Rattle.pytree_fits.proofs.Fields.Dots.{is_other}
 use Rattle.pytree_fits.proofs.Fitting.BlockFits.{block_fits, given_fit}
 use Rattle.pytree_fits.proofs.Giving.BlockGives.{of_stmts_back, drawn_all}
@@ -141,13 +140,3 @@ fits_stated profile m h =
 
 pub modules_fit_exactly : ModulesFitExactly
 modules_fit_exactly profile m = (stated_fits profile m, fits_stated profile m)
-
-pub slots_are_lawful : SlotsAreLawful
-slots_are_lawful = record {
-  exact = fits_exactly;
-  targets = targets_fit_exactly;
-  parameters = parameters_fit_exactly;
-  arguments = arguments_fit_exactly;
-  expressions = expressions_fit_exactly;
-  modules = modules_fit_exactly;
-}

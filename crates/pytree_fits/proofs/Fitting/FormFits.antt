@@ -44,9 +44,9 @@ header_fits p n try_header = true
 header_fits p n (except_header star class name) = caught_fits n star class name
 header_fits p n finally_header = true
 header_fits p n (def_header (function_head is_async name parameters args returns)) =
-    n name && fits_arguments n true args && perhaps_fits n Expression (optional returns) && types_fit p n parameters
+    n.name name && fits_arguments n true args && perhaps_fits n Expression (optional returns) && types_fit p n parameters
 header_fits p n (def_header (class_head name parameters bases keywords)) =
-    n name && each_fits n Elem (exprs bases) && each_keyword_fits n keywords && types_fit p n parameters
+    n.name name && each_fits n Elem (exprs bases) && each_keyword_fits n keywords && types_fit p n parameters
 
 abbrev pub inline_fits : Profile → Tests → List Stmt → Bool
 inline_fits p n ss = has_one ss && statements_fit p n (stmts ss)

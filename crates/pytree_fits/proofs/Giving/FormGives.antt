@@ -304,7 +304,7 @@ module _ (n : Tests) where
         by true ts s p q = (Word Key.Except ∷ (Op Sign.Star ∷ ts), s, q)
 
     pub function_given : (b : Bool) (x : Identifier) (tps : List TypeParam) (a : Arguments) (r : Option Expr) →
-        n x ≡ true → types_fit profile n tps ≡ true → fits_arguments n true a ≡ true → perhaps_fits n Expression (optional r) ≡ true → GivenAsSpelled n (F.HeaderOf profile) (def_header (function_head b x tps a r))
+        n.name x ≡ true → types_fit profile n tps ≡ true → fits_arguments n true a ≡ true → perhaps_fits n Expression (optional r) ≡ true → GivenAsSpelled n (F.HeaderOf profile) (def_header (function_head b x tps a r))
     function_given b x tps a r h t f q =
         let s = async_given b in
         let u = type_params profile tps t in
@@ -321,7 +321,7 @@ module _ (n : Tests) where
     listed_same (e ∷ es) = ap (λ z. e ∷ z) (listed_same es)
 
     pub class_given : (x : Identifier) (tps : List TypeParam) (bases : List Expr) (ks : Keywords) →
-        n x ≡ true → types_fit profile n tps ≡ true → (each_fits n Elem (exprs bases) && each_keyword_fits n ks) ≡ true → GivenAsSpelled n (F.HeaderOf profile) (def_header (class_head x tps bases ks))
+        n.name x ≡ true → types_fit profile n tps ≡ true → (each_fits n Elem (exprs bases) && each_keyword_fits n ks) ≡ true → GivenAsSpelled n (F.HeaderOf profile) (def_header (class_head x tps bases ks))
     class_given x tps bases ks h t f =
         let u = type_params profile tps t in
         let v = arguments_given n (exprs bases) ks f in
