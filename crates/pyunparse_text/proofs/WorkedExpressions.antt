@@ -4,7 +4,10 @@
 -- Carries: no contract; its rows are computed as it is checked.
 use Rattle.std.proofs.Common.{◌≡◌, refl, List, [], ◌∷◌, map, Some, None, true, false, ℕ}
 use Rattle.std.specs.Prelude.{codes}
+use Rattle.std.specs.Float.{float_zero}
+use Rattle.std.specs.Float.Ieee.{inf}
 use Rattle.pynatural.specs.Decimals.{decimal_text}
+use Rattle.pyfloat.specs.FloatTexts.{float_text}
 use Rattle.pytree_node.specs.declared.operators.Operator.TheVariants as Bin
 use Rattle.pytree_node.specs.declared.operators.UnaryOperator.TheVariants as Un
 use Rattle.pytree_node.specs.declared.operators.BoolOperator.TheVariants as Join
@@ -96,6 +99,14 @@ tests : AreWritten (
     row At.Named (IfExp b a (Lambda (arguments no_arg no_arg absent_arg no_arg no_optional absent_arg no_exprs) c)) (codes "a if b else lambda: c") ∷ [])
 unfolding written fit reaches leads decimal_text
 tests = refl
+
+-- Floats and imaginary numbers. No literal reads `inf`.
+numbers : AreWritten (
+    row At.Value (Attribute (Constant (Values.Float (inf false))) (codes "c") Load) (codes "1e309 .c") ∷
+    row At.Value (BinOp (Constant (Values.Float float_zero)) Bin.Add (Constant (Values.Imaginary (inf false)))) (codes "0.0 + 1e309j") ∷
+    row At.Value (Subscript a (Constant (Values.Imaginary float_zero)) Load) (codes "a[0j]") ∷ [])
+unfolding written fit reaches leads decimal_text float_text
+numbers = refl
 
 -- Primaries and constants.
 primaries : AreWritten (
