@@ -15,7 +15,6 @@ use Rattle.pylex_lexeme.specs.declared.kinds.Exact.{Exact}
 use Rattle.pylex_lexeme.specs.declared.kinds.Exact.TheVariants.{LPar, RPar, LSqb, RSqb, LBrace, RBrace, Ellipsis}
 use Rattle.pylex_lexeme.specs.Operators.{exact_text, is_operator, is_opener, is_closer}
 use Rattle.pylex_lexeme.proofs.Callers.Lexemes.{exact_of_text, exact_scalars}
-use Rattle.pylex.specs.declared.kind.Kind.{Kind}
 use Rattle.pylex.specs.declared.kind.Kind.TheVariants as kinds
 use Rattle.pytree_node.specs.Points.{IsPoint}
 use Rattle.pytree_node.specs.Values
@@ -30,7 +29,7 @@ use Rattle.pytoken.specs.Terminals.{Terminal, Op, Word, in_form, Number, Layout,
 use Rattle.pytoken.specs.Laws.{IsProper}
 use Rattle.pytoken.proofs.Callers.Numerals.{IsNumeral, float_numeral, imaginary_numeral, whole_numeral}
 use Rattle.pytoken.proofs.Callers.Said.{come_back}
-use Rattle.pyunparse_text.specs.Spacing.{is_token, is_number_kind}
+use Rattle.pyunparse_text.specs.Spacing.{is_token}
 use Rattle.pyunparse_text.specs.Tokens.{opens, closes}
 use Rattle.pyunparse_text.proofs.Callers.Tokens.{text_token, marked_token, bytes_token, text_scalars, bytes_scalars}
 use Rattle.pyunparse_text.specs.Written.{constant_terminal}
