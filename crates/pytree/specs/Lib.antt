@@ -21,3 +21,4 @@ pub use Rattle.pytree_fits.specs.Given
 pub use Rattle.pytree_fits.specs.Names
 pub use Rattle.pytree_fits.specs.Slots
 pub use Rattle.pytree_fits.specs.Statements
+pub use Rattle.pytree_fits.specs.Tests

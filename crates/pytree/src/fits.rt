@@ -4,36 +4,46 @@ ghost use Rattle.std.specs.Prelude.{◌≡◌, ◌↔◌, IfOk, IsTrue};
 ghost use Rattle.pytree_node.specs.TreeOf.{module_of, tree_of};
 ghost use Rattle.pytree_fits.specs.Given.{Expressed, Stated};
 ghost use Rattle.pytree_fits.specs.Laws.{SlotsAreLawful};
-ghost use Rattle.pytree_fits.specs.Names.{is_name};
 ghost use Rattle.pytree_fits.specs.Slots.{fits_at};
 ghost use Rattle.pytree_fits.specs.Statements.{module_fits};
+ghost use Rattle.pytree_fits.specs.Tests.{tests_in};
 
 use pygrammar::Level;
-use pytree_fits::{expr_fits, statements_fit};
-use pytree_node::{Expr, Module, Profile};
+use pytree_fits::{Asked, expr_fits, statements_fit};
+use pytree_node::{Expr, Extent, Module, Profile};
 use std::alloc::{AllocError, Global};
 
-/// Whether a module is well formed in a version of Python: whether the grammar gives it to some
-/// lines of sound tokens, with no regard to heights and brackets.
+/// Whether a module is well formed in a version and an extent of Python: whether the grammar gives
+/// it to some lines of tokens that have no fault there, with no regard to heights and brackets.
 ///
-/// So its names are names, its targets and contexts stand where they may, and no list is empty that
-/// needs a member. `Err` means out of memory alone, which the test of names may meet.
+/// So its names are names, its numbers are of the extent, its targets and contexts stand where they
+/// may, and no list is empty that needs a member. `Err` means out of memory alone, which the test of
+/// names may meet.
 #[tactic(auto, using(pytree_fits::proofs::Callers::Law::slots_are_lawful))]
 pub fn well_formed(alloc: Global, tree: &Module, profile: Profile) -> Result<bool, AllocError>
     ensures given { IfOk result (λ told. IsTrue told ↔ Stated profile (module_of tree.now)) }
-    ensures slots { IfOk result (λ told. told ≡ module_fits profile is_name (module_of tree.now)) }
+    ensures slots { IfOk result
+        (λ told. told ≡ module_fits profile (tests_in profile.extent) (module_of tree.now)) }
     ensures lawful { SlotsAreLawful }
 {
-    statements_fit(alloc, profile, &tree.body)
+    let extent = profile.extent;
+    statements_fit(Asked { alloc, extent }, profile, &tree.body)
 }
 
-/// Whether an expression is well formed at a level: whether the grammar gives it there to some
-/// sound tokens, with no regard to heights and brackets.
+/// Whether an expression is well formed at a level in an extent of Python: whether the grammar gives
+/// it there to some tokens that have no fault in that extent, with no regard to heights and
+/// brackets.
 #[tactic(auto, using(pytree_fits::proofs::Callers::Law::slots_are_lawful))]
-pub fn well_formed_at(alloc: Global, expr: &Expr, level: Level) -> Result<bool, AllocError>
-    ensures given { IfOk result (λ told. IsTrue told ↔ Expressed level (tree_of expr.now)) }
-    ensures slots { IfOk result (λ told. told ≡ fits_at is_name level (tree_of expr.now)) }
+pub fn well_formed_at(
+    alloc: Global,
+    expr: &Expr,
+    level: Level,
+    extent: Extent,
+) -> Result<bool, AllocError>
+    ensures given { IfOk result (λ told. IsTrue told ↔ Expressed extent level (tree_of expr.now)) }
+    ensures slots { IfOk result
+        (λ told. told ≡ fits_at (tests_in extent) level (tree_of expr.now)) }
     ensures lawful { SlotsAreLawful }
 {
-    expr_fits(alloc, expr, level)
+    expr_fits(Asked { alloc, extent }, expr, level)
 }

@@ -16,6 +16,7 @@ use Rattle.pytree_node.specs.declared.expressions.Keyword.{Keyword}
 use Rattle.pytree_node.specs.Trees as plain
 use Rattle.pytree_node.specs.Trees.{Identifier}
 use Rattle.pytree_node.specs.TreeOf.{tree_of, arg_of, arguments_of, comprehension_of, keyword_of, expr_step, arg_step, arguments_step, comprehension_step, keyword_step}
+use Rattle.pytree_fits.specs.Tests.{Tests}
 use Rattle.pytree_fits.specs.Slots.{is_a_name, is_starred, is_single, fits_target}
 
 -- one node, whose children are nodes of the program
@@ -89,7 +90,7 @@ module _ (e : Expr) where
         (no_starred : (value : Box Expr Global) (ctx : Context) → e ≡ variant.Starred value ctx → ⊥)
         (no_list : (elts : Vec Expr Global) (ctx : Context) → e ≡ variant.List elts ctx → ⊥)
         (no_tuple : (elts : Vec Expr Global) (ctx : Context) → e ≡ variant.Tuple elts ctx → ⊥) where
-      no_target_is : (n : Identifier → Bool) (k : Context) (t : plain.Expr) → HasShape t e → fits_target n k t ≡ false
+      no_target_is : (n : Tests) (k : Context) (t : plain.Expr) → HasShape t e → fits_target n k t ≡ false
       no_target_is n k (plain.Attribute _ _ _) h = absurd (no_attribute h.0 h.1 h.2 h.3)
       no_target_is n k (plain.Subscript _ _ _) h = absurd (no_subscript h.0 h.1 h.2 h.3)
       no_target_is n k (plain.Starred _ _) h = absurd (no_starred h.0 h.1 h.2)
@@ -98,5 +99,5 @@ module _ (e : Expr) where
       no_target_is n k (plain.Tuple _ _) h = absurd (no_tuple h.0 h.1 h.2)
       no_target_is n k _ h = refl
 
-      pub not_target : (n : Identifier → Bool) (k : Context) → fits_target n k (tree_of e) ≡ false
+      pub not_target : (n : Tests) (k : Context) → fits_target n k (tree_of e) ≡ false
       not_target n k = no_target_is n k (tree_of e) (has_shape e)

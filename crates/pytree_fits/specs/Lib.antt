@@ -1,4 +1,5 @@
 pub mod Names
+pub mod Tests
 pub mod Literals
 pub mod Slots
 pub mod Statements

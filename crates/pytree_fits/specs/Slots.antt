@@ -1,6 +1,6 @@
 -- Which expressions the grammar gives at a level to some list of terminals, with no regard to heights (reference 6). Brackets lead from
 -- every level to the lowest, so a level asks only whether a Starred or a Slice may stand there; Expression stands for all levels that
--- take neither. Each function takes the test of names.
+-- take neither. Each function takes the tests, or that of names alone.
 use Rattle.std.specs.Prelude.{ℕ, ◌+◌, eqb, leb, Bool, true, false, ◌&&◌, ◌||◌, not, length, Option, Some, None}
 use Rattle.pytree_node.specs.declared.operators.Context.{Context}
 use Rattle.pytree_node.specs.declared.operators.Context.TheVariants.{Load, Store, Del}
@@ -8,6 +8,7 @@ use Rattle.pytree_node.specs.Trees
 use Rattle.pytree_node.specs.Trees.{Identifier, Expr, Exprs, no_exprs, an_expr, OptionalExpr, absent, present, OptionalExprs, no_optional, an_optional, Comprehensions, no_comprehension, a_comprehension, Keywords, no_keyword, a_keyword, Arg, arg, Args, no_arg, an_arg, OptionalArg, absent_arg, present_arg, Arguments, arguments}
 use Rattle.pygrammar.specs.declared.levels.Level.{Level}
 use Rattle.pygrammar.specs.declared.levels.Level.TheVariants.{Value, Stars, StarItem, Expression, Elem, Slices, Part, Slice}
+use Rattle.pytree_fits.specs.Tests.{Tests}
 use Rattle.pytree_fits.specs.Literals.{is_value}
 
 -- where `*e` may stand by itself; a lone one between `[` and `]` is a Tuple
@@ -78,7 +79,7 @@ perhaps_name n None = true
 perhaps_name n (Some x) = n x
 
 abbrev mutual
-  pub fits_at : (Identifier → Bool) → Level → Expr → Bool
+  pub fits_at : Tests → Level → Expr → Bool
   fits_at n l (Trees.BoolOp op values) = leb 2 (count values) && each_fits n Expression values
   fits_at n l (Trees.NamedExpr target value) = is_a_name target && fits_target n Store target && fits_at n Expression value
   fits_at n l (Trees.BinOp left op right) = fits_at n Expression left && fits_at n Expression right
@@ -96,63 +97,63 @@ abbrev mutual
   fits_at n l (Trees.YieldFrom value) = fits_at n Expression value
   fits_at n l (Trees.Compare left ops comparators) = leb 1 (length ops) && eqb (length ops) (count comparators) && fits_at n Expression left && each_fits n Expression comparators
   fits_at n l (Trees.Call func args keywords) = fits_at n Expression func && each_fits n Elem args && each_keyword_fits n keywords
-  fits_at n l (Trees.Constant value) = is_value value
-  fits_at n l (Trees.Attribute value attr ctx) = is_context Load ctx && n attr && fits_at n Expression value
+  fits_at n l (Trees.Constant value) = is_value n.extent value
+  fits_at n l (Trees.Attribute value attr ctx) = is_context Load ctx && n.name attr && fits_at n Expression value
   fits_at n l (Trees.Subscript value slice ctx) = is_context Load ctx && fits_at n Expression value && fits_at n Slices slice
   fits_at n l (Trees.Starred value ctx) = takes_star l && is_context Load ctx && fits_at n Expression value
-  fits_at n l (Trees.Name id ctx) = is_context Load ctx && n id
+  fits_at n l (Trees.Name id ctx) = is_context Load ctx && n.name id
   fits_at n l (Trees.ListOf elts ctx) = is_context Load ctx && each_fits n Elem elts
   fits_at n l (Trees.Tuple elts ctx) = is_context Load ctx && each_fits n (member_level l) elts
   fits_at n l (Trees.Slice lower upper step) = takes_slice l && perhaps_fits n Expression lower && perhaps_fits n Expression upper && perhaps_fits n Expression step
 
   -- a target, with the contexts of its place (Store or Del)
-  pub fits_target : (Identifier → Bool) → Context → Expr → Bool
-  fits_target n k (Trees.Name id ctx) = is_context k ctx && n id
-  fits_target n k (Trees.Attribute value attr ctx) = is_context k ctx && n attr && fits_at n Expression value
+  pub fits_target : Tests → Context → Expr → Bool
+  fits_target n k (Trees.Name id ctx) = is_context k ctx && n.name id
+  fits_target n k (Trees.Attribute value attr ctx) = is_context k ctx && n.name attr && fits_at n Expression value
   fits_target n k (Trees.Subscript value slice ctx) = is_context k ctx && fits_at n Expression value && fits_at n Slices slice
   fits_target n k (Trees.Tuple elts ctx) = is_context k ctx && each_target_fits n k elts
   fits_target n k (Trees.ListOf elts ctx) = is_context k ctx && each_target_fits n k elts
   fits_target n k (Trees.Starred value ctx) = is_context Store k && is_context k ctx && not (is_starred value) && fits_target n k value
   fits_target n k _ = false
 
-  pub each_target_fits : (Identifier → Bool) → Context → Exprs → Bool
+  pub each_target_fits : Tests → Context → Exprs → Bool
   each_target_fits n k no_exprs = true
   each_target_fits n k (an_expr e es) = fits_target n k e && each_target_fits n k es
 
-  pub each_fits : (Identifier → Bool) → Level → Exprs → Bool
+  pub each_fits : Tests → Level → Exprs → Bool
   each_fits n l no_exprs = true
   each_fits n l (an_expr e es) = fits_at n l e && each_fits n l es
 
-  pub perhaps_fits : (Identifier → Bool) → Level → OptionalExpr → Bool
+  pub perhaps_fits : Tests → Level → OptionalExpr → Bool
   perhaps_fits n l absent = true
   perhaps_fits n l (present e) = fits_at n l e
 
-  pub each_perhaps_fits : (Identifier → Bool) → OptionalExprs → Bool
+  pub each_perhaps_fits : Tests → OptionalExprs → Bool
   each_perhaps_fits n no_optional = true
   each_perhaps_fits n (an_optional e es) = perhaps_fits n Expression e && each_perhaps_fits n es
 
-  pub each_keyword_fits : (Identifier → Bool) → Keywords → Bool
+  pub each_keyword_fits : Tests → Keywords → Bool
   each_keyword_fits n no_keyword = true
-  each_keyword_fits n (a_keyword name value ks) = perhaps_name n name && fits_at n Expression value && each_keyword_fits n ks
+  each_keyword_fits n (a_keyword name value ks) = perhaps_name n.name name && fits_at n Expression value && each_keyword_fits n ks
 
-  pub each_clause_fits : (Identifier → Bool) → Comprehensions → Bool
+  pub each_clause_fits : Tests → Comprehensions → Bool
   each_clause_fits n no_comprehension = true
   each_clause_fits n (a_comprehension target iter ifs is_async gs) = fits_target n Store target && fits_at n Expression iter && each_fits n Expression ifs && each_clause_fits n gs
 
   -- parameters, with annotations or without; that of `*` NAME may be a Starred
-  pub fits_arguments : (Identifier → Bool) → (annotated : Bool) → Arguments → Bool
+  pub fits_arguments : Tests → (annotated : Bool) → Arguments → Bool
   fits_arguments n b (arguments posonlyargs args vararg kwonlyargs kw_defaults kwarg defaults) =
       eqb (count_optional kw_defaults) (count_args kwonlyargs) && leb (count defaults) (count_args posonlyargs + count_args args)
       && each_arg_fits n b posonlyargs && each_arg_fits n b args && perhaps_arg_fits n b StarItem vararg && each_arg_fits n b kwonlyargs
       && each_perhaps_fits n kw_defaults && perhaps_arg_fits n b Expression kwarg && each_fits n Expression defaults
 
-  pub arg_fits : (Identifier → Bool) → (annotated : Bool) → Level → Arg → Bool
-  arg_fits n b l (arg name annotation) = n name && (is_absent annotation || b) && perhaps_fits n l annotation
+  pub arg_fits : Tests → (annotated : Bool) → Level → Arg → Bool
+  arg_fits n b l (arg name annotation) = n.name name && (is_absent annotation || b) && perhaps_fits n l annotation
 
-  pub each_arg_fits : (Identifier → Bool) → (annotated : Bool) → Args → Bool
+  pub each_arg_fits : Tests → (annotated : Bool) → Args → Bool
   each_arg_fits n b no_arg = true
   each_arg_fits n b (an_arg a rest) = arg_fits n b Expression a && each_arg_fits n b rest
 
-  pub perhaps_arg_fits : (Identifier → Bool) → (annotated : Bool) → Level → OptionalArg → Bool
+  pub perhaps_arg_fits : Tests → (annotated : Bool) → Level → OptionalArg → Bool
   perhaps_arg_fits n b l absent_arg = true
   perhaps_arg_fits n b l (present_arg a) = arg_fits n b l a

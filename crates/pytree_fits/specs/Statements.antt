@@ -1,5 +1,5 @@
 -- Which statements and modules the grammar gives in a version of Python to some lines, with no regard to heights (reference 7 and 8).
--- Each function takes the test of names, and the version if it depends on that.
+-- Each function takes the tests, or that of names alone, and the version if it depends on that.
 use Rattle.std.specs.Prelude.{ℕ, ◌==◌, nat_lt, Bool, true, false, ◌&&◌, ◌||◌, not, List, [], ◌∷◌, Option, Some, None, is_none}
 use Rattle.std.specs.List.{list_all}
 use Rattle.pytree_node.specs.declared.operators.Context.TheVariants.{Store, Del}
@@ -10,6 +10,7 @@ use Rattle.pygrammar.specs.declared.levels.Level.TheVariants.{Value, Stars, Expr
 use Rattle.pygrammar.specs.Lines.{no_types}
 use Rattle.pygrammar.specs.DottedNames.{names_in}
 use Rattle.pytree_node.specs.Profiles.{has_types}
+use Rattle.pytree_fits.specs.Tests.{Tests}
 use Rattle.pytree_fits.specs.Slots.{is_a_name, is_single, perhaps_name, fits_at, fits_target, each_target_fits, each_fits, perhaps_fits, each_keyword_fits, fits_arguments}
 
 abbrev pub has_one : {A : Type 0} → List A → Bool
@@ -54,33 +55,33 @@ source_fits n (Some m) level = dotted n m
 
 -- ---- Parts.
 
-abbrev pub perhaps_target_fits : (Identifier → Bool) → Option Expr → Bool
+abbrev pub perhaps_target_fits : Tests → Option Expr → Bool
 perhaps_target_fits n None = true
 perhaps_target_fits n (Some e) = fits_target n Store e
 
 -- what `with` opens, and the target of that
-abbrev pub item_fits : (Identifier → Bool) → Item → Bool
+abbrev pub item_fits : Tests → Item → Bool
 item_fits n i = fits_at n Expression i.context_expr && perhaps_target_fits n i.optional_vars
 
-abbrev pub type_param_fits : (Identifier → Bool) → TypeParam → Bool
-type_param_fits n (Trees.TypeVar name bound) = n name && perhaps_fits n Expression (optional bound)
-type_param_fits n (Trees.ParamSpec name) = n name
-type_param_fits n (Trees.TypeVarTuple name) = n name
+abbrev pub type_param_fits : Tests → TypeParam → Bool
+type_param_fits n (Trees.TypeVar name bound) = n.name name && perhaps_fits n Expression (optional bound)
+type_param_fits n (Trees.ParamSpec name) = n.name name
+type_param_fits n (Trees.TypeVarTuple name) = n.name name
 
 -- parameters of types, in a version that has these
-abbrev pub types_fit : Profile → (Identifier → Bool) → List TypeParam → Bool
+abbrev pub types_fit : Profile → Tests → List TypeParam → Bool
 types_fit profile n ps = (no_types ps || has_types profile) && list_all (type_param_fits n) ps
 
 -- what `raise` raises, and from what
-abbrev pub raised_fits : (Identifier → Bool) → Option Expr → Option Expr → Bool
+abbrev pub raised_fits : Tests → Option Expr → Option Expr → Bool
 raised_fits n exc None = perhaps_fits n Expression (optional exc)
 raised_fits n None (Some cause) = false
 raised_fits n (Some exc) (Some cause) = fits_at n Expression exc && fits_at n Expression cause
 
 -- what an `except` catches, and its name there; only one without a star catches all
-abbrev pub caught_fits : (Identifier → Bool) → (star : Bool) → Option Expr → Option Identifier → Bool
+abbrev pub caught_fits : Tests → (star : Bool) → Option Expr → Option Identifier → Bool
 caught_fits n star None name = not star && is_none name
-caught_fits n star (Some class) name = fits_at n Expression class && perhaps_name n name
+caught_fits n star (Some class) name = fits_at n Expression class && perhaps_name n.name name
 
 -- without an `except` there is no `else`, but a `finally`, and no star
 abbrev pub clauses_fit : (star : Bool) → Handlers → (orelse finalbody : Stmts) → Bool
@@ -90,15 +91,15 @@ clauses_fit star (a_handler class name body hs) orelse finalbody = true
 -- ---- Statements.
 
 abbrev mutual
-  pub statement_fits : Profile → (Identifier → Bool) → Stmt → Bool
+  pub statement_fits : Profile → Tests → Stmt → Bool
   statement_fits p n (Trees.FunctionDef name args body decorators returns parameters) =
-      n name && fits_arguments n true args && each_fits n Expression (exprs decorators) && perhaps_fits n Expression (optional returns)
+      n.name name && fits_arguments n true args && each_fits n Expression (exprs decorators) && perhaps_fits n Expression (optional returns)
       && types_fit p n parameters && suite_fits p n body
   statement_fits p n (Trees.AsyncFunctionDef name args body decorators returns parameters) =
-      n name && fits_arguments n true args && each_fits n Expression (exprs decorators) && perhaps_fits n Expression (optional returns)
+      n.name name && fits_arguments n true args && each_fits n Expression (exprs decorators) && perhaps_fits n Expression (optional returns)
       && types_fit p n parameters && suite_fits p n body
   statement_fits p n (Trees.ClassDef name bases keywords body decorators parameters) =
-      n name && each_fits n Elem (exprs bases) && each_keyword_fits n keywords && each_fits n Expression (exprs decorators)
+      n.name name && each_fits n Elem (exprs bases) && each_keyword_fits n keywords && each_fits n Expression (exprs decorators)
       && types_fit p n parameters && suite_fits p n body
   statement_fits p n (Trees.Return value) = perhaps_fits n Stars (optional value)
   statement_fits p n (Trees.Delete targets) = has_one targets && each_target_fits n Del (exprs targets)
@@ -125,29 +126,29 @@ abbrev mutual
       clauses_fit true handlers orelse finalbody && suite_fits p n body && handlers_fit p n true handlers
       && statements_fit p n orelse && statements_fit p n finalbody
   statement_fits p n (Trees.Assert test msg) = fits_at n Expression test && perhaps_fits n Expression (optional msg)
-  statement_fits p n (Trees.Import names) = has_one names && list_all (import_fits n) names
-  statement_fits p n (Trees.ImportFrom source names level) = source_fits n source level && imports_fit n names
-  statement_fits p n (Trees.Global names) = has_one names && list_all n names
-  statement_fits p n (Trees.Nonlocal names) = has_one names && list_all n names
+  statement_fits p n (Trees.Import names) = has_one names && list_all (import_fits n.name) names
+  statement_fits p n (Trees.ImportFrom source names level) = source_fits n.name source level && imports_fit n.name names
+  statement_fits p n (Trees.Global names) = has_one names && list_all n.name names
+  statement_fits p n (Trees.Nonlocal names) = has_one names && list_all n.name names
   statement_fits p n (Trees.ExprOf value) = fits_at n Value value
   statement_fits p n Trees.Pass = true
   statement_fits p n Trees.Break = true
   statement_fits p n Trees.Continue = true
 
-  pub statements_fit : Profile → (Identifier → Bool) → Stmts → Bool
+  pub statements_fit : Profile → Tests → Stmts → Bool
   statements_fit p n no_stmt = true
   statements_fit p n (a_stmt s ss) = statement_fits p n s && statements_fit p n ss
 
   -- the block of a header: there is a statement
-  pub suite_fits : Profile → (Identifier → Bool) → Stmts → Bool
+  pub suite_fits : Profile → Tests → Stmts → Bool
   suite_fits p n no_stmt = false
   suite_fits p n (a_stmt s ss) = statement_fits p n s && statements_fit p n ss
 
-  pub handlers_fit : Profile → (Identifier → Bool) → (star : Bool) → Handlers → Bool
+  pub handlers_fit : Profile → Tests → (star : Bool) → Handlers → Bool
   handlers_fit p n star no_handler = true
   handlers_fit p n star (a_handler class name body hs) =
       caught_fits n star class name && suite_fits p n body && handlers_fit p n star hs
 
 -- the statements of a module
-abbrev pub module_fits : Profile → (Identifier → Bool) → Module → Bool
+abbrev pub module_fits : Profile → Tests → Module → Bool
 module_fits p n m = statements_fit p n (stmts m.body)

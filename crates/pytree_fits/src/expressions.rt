@@ -9,7 +9,9 @@ ghost use Rattle.pytree_fits.specs.Names.{is_name};
 ghost use Rattle.pytree_fits.specs.Slots.{each_clause_fits, each_fits, each_keyword_fits};
 ghost use Rattle.pytree_fits.specs.Slots.{each_perhaps_fits, fits_at, fits_target, perhaps_fits};
 ghost use Rattle.pytree_fits.specs.Slots.{perhaps_name};
+ghost use Rattle.pytree_fits.specs.Tests.{tests_in};
 
+use crate::asking::Asked;
 use crate::leaves::{
     are_at_least, are_comparisons, are_pairs, constant_fits, has_clause, optional_name_fits,
 };
@@ -19,52 +21,53 @@ use crate::places::{is_a_name, is_context, member_level, takes_slice, takes_star
 use crate::targets::target_fits;
 use pygrammar::Level;
 use pytree_node::{Comprehension, Context, Expr, Keyword};
-use std::alloc::{AllocError, Global};
+use std::alloc::AllocError;
 
 /// Whether an expression fits a level of the grammar: whether each of its fields has what may stand
 /// there. `Err` means out of memory alone, which the test of names may meet.
 #[cycle(fits)]
 #[tactic(auto, using(pytree_node::proofs::Callers::ExprShapes::expr_shapes))]
-pub fn expr_fits(alloc: Global, expr: &Expr, level: Level) -> Result<bool, AllocError>
-    ensures { IfOk result (λ told. told ≡ fits_at is_name level (tree_of expr.now)) }
+pub fn expr_fits(asked: Asked, expr: &Expr, level: Level) -> Result<bool, AllocError>
+    ensures { IfOk result
+        (λ told. told ≡ fits_at (tests_in asked.extent) level (tree_of expr.now)) }
 {
     match expr {
         Expr::BoolOp { values, .. } => Ok(
-            are_at_least(values, 2) && exprs_fit(alloc, values, Level::Expression)?,
+            are_at_least(values, 2) && exprs_fit(asked, values, Level::Expression)?,
         ),
         Expr::NamedExpr { target, value } => Ok(
             is_a_name(target)
-                && target_fits(alloc, target, Context::Store)?
-                && expr_fits(alloc, value, Level::Expression)?,
+                && target_fits(asked, target, Context::Store)?
+                && expr_fits(asked, value, Level::Expression)?,
         ),
         Expr::BinOp { left, right, .. } => Ok(
-            expr_fits(alloc, left, Level::Expression)?
-                && expr_fits(alloc, right, Level::Expression)?,
+            expr_fits(asked, left, Level::Expression)?
+                && expr_fits(asked, right, Level::Expression)?,
         ),
-        Expr::UnaryOp { operand, .. } => expr_fits(alloc, operand, Level::Expression),
+        Expr::UnaryOp { operand, .. } => expr_fits(asked, operand, Level::Expression),
         Expr::Lambda { args, body } => Ok(
-            parameters_fit(alloc, args, false)? && expr_fits(alloc, body, Level::Expression)?,
+            parameters_fit(asked, args, false)? && expr_fits(asked, body, Level::Expression)?,
         ),
         Expr::IfExp { test, body, orelse } => Ok(
-            expr_fits(alloc, test, Level::Expression)?
-                && expr_fits(alloc, body, Level::Expression)?
-                && expr_fits(alloc, orelse, Level::Expression)?,
+            expr_fits(asked, test, Level::Expression)?
+                && expr_fits(asked, body, Level::Expression)?
+                && expr_fits(asked, orelse, Level::Expression)?,
         ),
         Expr::Dict { keys, values } => Ok(
             are_pairs(keys, values)
-                && options_fit(alloc, keys)?
-                && exprs_fit(alloc, values, Level::Expression)?,
+                && options_fit(asked, keys)?
+                && exprs_fit(asked, values, Level::Expression)?,
         ),
-        Expr::Set { elts } => Ok(are_at_least(elts, 1) && exprs_fit(alloc, elts, Level::Elem)?),
+        Expr::Set { elts } => Ok(are_at_least(elts, 1) && exprs_fit(asked, elts, Level::Elem)?),
         Expr::ListComp { elt, generators } => Ok(
             has_clause(generators)
-                && expr_fits(alloc, elt, Level::Expression)?
-                && clauses_fit(alloc, generators)?,
+                && expr_fits(asked, elt, Level::Expression)?
+                && clauses_fit(asked, generators)?,
         ),
         Expr::SetComp { elt, generators } => Ok(
             has_clause(generators)
-                && expr_fits(alloc, elt, Level::Expression)?
-                && clauses_fit(alloc, generators)?,
+                && expr_fits(asked, elt, Level::Expression)?
+                && clauses_fit(asked, generators)?,
         ),
         Expr::DictComp {
             key,
@@ -74,22 +77,22 @@ pub fn expr_fits(alloc: Global, expr: &Expr, level: Level) -> Result<bool, Alloc
             if !has_clause(generators) {
                 return Ok(false);
             }
-            if !expr_fits(alloc, key, Level::Expression)? {
+            if !expr_fits(asked, key, Level::Expression)? {
                 return Ok(false);
             }
-            if !expr_fits(alloc, value, Level::Expression)? {
+            if !expr_fits(asked, value, Level::Expression)? {
                 return Ok(false);
             }
-            clauses_fit(alloc, generators)
+            clauses_fit(asked, generators)
         }
         Expr::GeneratorExp { elt, generators } => Ok(
             has_clause(generators)
-                && expr_fits(alloc, elt, Level::Expression)?
-                && clauses_fit(alloc, generators)?,
+                && expr_fits(asked, elt, Level::Expression)?
+                && clauses_fit(asked, generators)?,
         ),
-        Expr::Await { value } => expr_fits(alloc, value, Level::Expression),
-        Expr::Yield { value } => boxed_fits(alloc, value, Level::Stars),
-        Expr::YieldFrom { value } => expr_fits(alloc, value, Level::Expression),
+        Expr::Await { value } => expr_fits(asked, value, Level::Expression),
+        Expr::Yield { value } => boxed_fits(asked, value, Level::Stars),
+        Expr::YieldFrom { value } => expr_fits(asked, value, Level::Expression),
         Expr::Compare {
             left,
             ops,
@@ -98,60 +101,60 @@ pub fn expr_fits(alloc: Global, expr: &Expr, level: Level) -> Result<bool, Alloc
             if !are_comparisons(ops, comparators) {
                 return Ok(false);
             }
-            if !expr_fits(alloc, left, Level::Expression)? {
+            if !expr_fits(asked, left, Level::Expression)? {
                 return Ok(false);
             }
-            exprs_fit(alloc, comparators, Level::Expression)
+            exprs_fit(asked, comparators, Level::Expression)
         }
         Expr::Call {
             func,
             args,
             keywords,
         } => {
-            if !expr_fits(alloc, func, Level::Expression)? {
+            if !expr_fits(asked, func, Level::Expression)? {
                 return Ok(false);
             }
-            if !exprs_fit(alloc, args, Level::Elem)? {
+            if !exprs_fit(asked, args, Level::Elem)? {
                 return Ok(false);
             }
-            keywords_fit(alloc, keywords)
+            keywords_fit(asked, keywords)
         }
-        Expr::Constant { value } => Ok(constant_fits(value)),
+        Expr::Constant { value } => Ok(constant_fits(asked.extent, value)),
         Expr::Attribute { value, attr, ctx } => Ok(
             is_context(Context::Load, *ctx)
-                && is_name(alloc, attr.as_str())?
-                && expr_fits(alloc, value, Level::Expression)?,
+                && is_name(asked.alloc, attr.as_str())?
+                && expr_fits(asked, value, Level::Expression)?,
         ),
         Expr::Subscript { value, slice, ctx } => Ok(
             is_context(Context::Load, *ctx)
-                && expr_fits(alloc, value, Level::Expression)?
-                && expr_fits(alloc, slice, Level::Slices)?,
+                && expr_fits(asked, value, Level::Expression)?
+                && expr_fits(asked, slice, Level::Slices)?,
         ),
         Expr::Starred { value, ctx } => Ok(
             takes_star(level)
                 && is_context(Context::Load, *ctx)
-                && expr_fits(alloc, value, Level::Expression)?,
+                && expr_fits(asked, value, Level::Expression)?,
         ),
         Expr::Name { id, ctx } => Ok(
-            is_context(Context::Load, *ctx) && is_name(alloc, id.as_str())?,
+            is_context(Context::Load, *ctx) && is_name(asked.alloc, id.as_str())?,
         ),
         Expr::List { elts, ctx } => Ok(
-            is_context(Context::Load, *ctx) && exprs_fit(alloc, elts, Level::Elem)?,
+            is_context(Context::Load, *ctx) && exprs_fit(asked, elts, Level::Elem)?,
         ),
         Expr::Tuple { elts, ctx } => Ok(
-            is_context(Context::Load, *ctx) && exprs_fit(alloc, elts, member_level(level))?,
+            is_context(Context::Load, *ctx) && exprs_fit(asked, elts, member_level(level))?,
         ),
         Expr::Slice { lower, upper, step } => {
             if !takes_slice(level) {
                 return Ok(false);
             }
-            if !boxed_fits(alloc, lower, Level::Expression)? {
+            if !boxed_fits(asked, lower, Level::Expression)? {
                 return Ok(false);
             }
-            if !boxed_fits(alloc, upper, Level::Expression)? {
+            if !boxed_fits(asked, upper, Level::Expression)? {
                 return Ok(false);
             }
-            boxed_fits(alloc, step, Level::Expression)
+            boxed_fits(asked, step, Level::Expression)
         }
     }
 }
@@ -160,27 +163,28 @@ pub fn expr_fits(alloc: Global, expr: &Expr, level: Level) -> Result<bool, Alloc
 #[cycle(fits)]
 #[tactic(auto, using(pytree_node::proofs::Callers::ExprShapes::expr_shapes))]
 pub(crate) fn boxed_fits(
-    alloc: Global,
+    asked: Asked,
     expr: &Option<Box<Expr>>,
     level: Level,
 ) -> Result<bool, AllocError>
     ensures { IfOk result
-        (λ told. told ≡ perhaps_fits is_name level (optional (boxed_of expr.now))) }
+        (λ told. told ≡ perhaps_fits (tests_in asked.extent) level (optional (boxed_of expr.now))) }
 {
     match expr {
         None => Ok(true),
-        Some(expr) => expr_fits(alloc, expr, level),
+        Some(expr) => expr_fits(asked, expr, level),
     }
 }
 
 /// Whether each of some expressions fits a level.
 #[cycle(fits)]
 #[tactic(auto, using(pytree_node::proofs::Callers::ExprShapes::expr_shapes))]
-pub(crate) fn exprs_fit(alloc: Global, es: &[Expr], level: Level) -> Result<bool, AllocError>
-    ensures { IfOk result (λ told. told ≡ each_fits is_name level (exprs (map tree_of es.now))) }
+pub(crate) fn exprs_fit(asked: Asked, es: &[Expr], level: Level) -> Result<bool, AllocError>
+    ensures { IfOk result
+        (λ told. told ≡ each_fits (tests_in asked.extent) level (exprs (map tree_of es.now))) }
 {
     for e in es {
-        if !expr_fits(alloc, e, level)? {
+        if !expr_fits(asked, e, level)? {
             return Ok(false);
         }
     }
@@ -190,14 +194,15 @@ pub(crate) fn exprs_fit(alloc: Global, es: &[Expr], level: Level) -> Result<bool
 /// Whether each of some expressions fits, of those that are there.
 #[cycle(fits)]
 #[tactic(auto, using(pytree_node::proofs::Callers::ExprShapes::expr_shapes))]
-pub(crate) fn options_fit(alloc: Global, es: &[Option<Expr>]) -> Result<bool, AllocError>
+pub(crate) fn options_fit(asked: Asked, es: &[Option<Expr>]) -> Result<bool, AllocError>
     ensures { IfOk result
-        (λ told. told ≡ each_perhaps_fits is_name (optionals (map option_of es.now))) }
+        (λ told. told
+        ≡ each_perhaps_fits (tests_in asked.extent) (optionals (map option_of es.now))) }
 {
     for e in es {
         let fits = match e {
             None => true,
-            Some(e) => expr_fits(alloc, e, Level::Expression)?,
+            Some(e) => expr_fits(asked, e, Level::Expression)?,
         };
         if !fits {
             return Ok(false);
@@ -209,24 +214,25 @@ pub(crate) fn options_fit(alloc: Global, es: &[Option<Expr>]) -> Result<bool, Al
 /// Whether an argument by name fits.
 #[cycle(fits)]
 #[tactic(auto, using(pytree_node::proofs::Callers::ExprShapes::expr_shapes))]
-fn keyword_fits(alloc: Global, k: &Keyword) -> Result<bool, AllocError>
+fn keyword_fits(asked: Asked, k: &Keyword) -> Result<bool, AllocError>
     ensures { IfOk result
         (λ told. told
-        ≡ (perhaps_name is_name (keyword_of k.now).arg && fits_at is_name levels.Expression
-        (keyword_of k.now).value)) }
+        ≡ (perhaps_name is_name (keyword_of k.now).arg && fits_at (tests_in asked.extent)
+        levels.Expression (keyword_of k.now).value)) }
 {
-    Ok(optional_name_fits(alloc, &k.arg)? && expr_fits(alloc, &k.value, Level::Expression)?)
+    Ok(optional_name_fits(asked.alloc, &k.arg)? && expr_fits(asked, &k.value, Level::Expression)?)
 }
 
 /// Whether each of some keyword arguments fits.
 #[cycle(fits)]
 #[tactic(auto, using(pytree_node::proofs::Callers::ExprShapes::expr_shapes))]
-pub(crate) fn keywords_fit(alloc: Global, ks: &[Keyword]) -> Result<bool, AllocError>
+pub(crate) fn keywords_fit(asked: Asked, ks: &[Keyword]) -> Result<bool, AllocError>
     ensures { IfOk result
-        (λ told. told ≡ each_keyword_fits is_name (keywords (map keyword_of ks.now))) }
+        (λ told. told
+        ≡ each_keyword_fits (tests_in asked.extent) (keywords (map keyword_of ks.now))) }
 {
     for k in ks {
-        if !keyword_fits(alloc, k)? {
+        if !keyword_fits(asked, k)? {
             return Ok(false);
         }
     }
@@ -236,30 +242,31 @@ pub(crate) fn keywords_fit(alloc: Global, ks: &[Keyword]) -> Result<bool, AllocE
 /// Whether a `for` clause fits.
 #[cycle(fits)]
 #[tactic(auto, using(pytree_node::proofs::Callers::ExprShapes::expr_shapes))]
-fn clause_fits(alloc: Global, c: &Comprehension) -> Result<bool, AllocError>
+fn clause_fits(asked: Asked, c: &Comprehension) -> Result<bool, AllocError>
     ensures { IfOk result
         (λ told. told
-        ≡ (fits_target is_name contexts.Store
-        (comprehension_of c.now).target && fits_at is_name levels.Expression
-        (comprehension_of c.now).iter && each_fits is_name levels.Expression
+        ≡ (fits_target (tests_in asked.extent) contexts.Store
+        (comprehension_of c.now).target && fits_at (tests_in asked.extent) levels.Expression
+        (comprehension_of c.now).iter && each_fits (tests_in asked.extent) levels.Expression
         (exprs (comprehension_of c.now).ifs))) }
 {
     Ok(
-        target_fits(alloc, &c.target, Context::Store)?
-            && expr_fits(alloc, &c.iter, Level::Expression)?
-            && exprs_fit(alloc, &c.ifs, Level::Expression)?,
+        target_fits(asked, &c.target, Context::Store)?
+            && expr_fits(asked, &c.iter, Level::Expression)?
+            && exprs_fit(asked, &c.ifs, Level::Expression)?,
     )
 }
 
 /// Whether each of some `for` clauses fits.
 #[cycle(fits)]
 #[tactic(auto, using(pytree_node::proofs::Callers::ExprShapes::expr_shapes))]
-fn clauses_fit(alloc: Global, cs: &[Comprehension]) -> Result<bool, AllocError>
+fn clauses_fit(asked: Asked, cs: &[Comprehension]) -> Result<bool, AllocError>
     ensures { IfOk result
-        (λ told. told ≡ each_clause_fits is_name (comprehensions (map comprehension_of cs.now))) }
+        (λ told. told
+        ≡ each_clause_fits (tests_in asked.extent) (comprehensions (map comprehension_of cs.now))) }
 {
     for c in cs {
-        if !clause_fits(alloc, c)? {
+        if !clause_fits(asked, c)? {
             return Ok(false);
         }
     }

@@ -12,7 +12,9 @@ ghost use Rattle.pytree_fits.specs.Slots.{each_fits, each_keyword_fits, fits_arg
 ghost use Rattle.pytree_fits.specs.Slots.{fits_target, perhaps_fits};
 ghost use Rattle.pytree_fits.specs.Statements.{caught_fits, clauses_fit, has_one, item_fits};
 ghost use Rattle.pytree_fits.specs.Statements.{perhaps_target_fits, types_fit};
+ghost use Rattle.pytree_fits.specs.Tests.{tests_in};
 
+use crate::asking::Asked;
 use crate::expressions::{boxed_fits, expr_fits, exprs_fit, keywords_fit};
 use crate::leaves::optional_name_fits;
 use crate::names::is_name;
@@ -23,11 +25,11 @@ use pygrammar::Level;
 use pytree_node::{
     Arguments, Context, Expr, Handler, Identifier, Item, Keyword, Profile, Stmt, TypeParam,
 };
-use std::alloc::{AllocError, Global};
+use std::alloc::AllocError;
 
 /// Whether a `def` fits, but for its body.
 pub(crate) fn function_head_fits(
-    alloc: Global,
+    asked: Asked,
     profile: Profile,
     name: &Identifier,
     args: &Arguments,
@@ -37,30 +39,30 @@ pub(crate) fn function_head_fits(
 ) -> Result<bool, AllocError>
     ensures { IfOk result
         (λ told. told
-        ≡ (is_name name.now && fits_arguments is_name true
-        (arguments_of args.now) && each_fits is_name levels.Expression
-        (exprs (map tree_of decorators.now)) && perhaps_fits is_name levels.Expression
-        (optional (boxed_of returns.now)) && types_fit profile is_name
-        (map type_param_of parameters.now))) }
+        ≡ (is_name name.now && fits_arguments (tests_in asked.extent) true
+        (arguments_of args.now) && each_fits (tests_in asked.extent) levels.Expression
+        (exprs (map tree_of decorators.now)) && perhaps_fits (tests_in asked.extent)
+        levels.Expression (optional (boxed_of returns.now)) && types_fit profile
+        (tests_in asked.extent) (map type_param_of parameters.now))) }
 {
-    if !is_name(alloc, name.as_str())? {
+    if !is_name(asked.alloc, name.as_str())? {
         return Ok(false);
     }
-    if !parameters_fit(alloc, args, true)? {
+    if !parameters_fit(asked, args, true)? {
         return Ok(false);
     }
-    if !exprs_fit(alloc, decorators, Level::Expression)? {
+    if !exprs_fit(asked, decorators, Level::Expression)? {
         return Ok(false);
     }
-    if !boxed_fits(alloc, returns, Level::Expression)? {
+    if !boxed_fits(asked, returns, Level::Expression)? {
         return Ok(false);
     }
-    type_params_fit(alloc, profile, parameters)
+    type_params_fit(asked, profile, parameters)
 }
 
 /// Whether a `class` fits, but for its body.
 pub(crate) fn class_head_fits(
-    alloc: Global,
+    asked: Asked,
     profile: Profile,
     name: &Identifier,
     bases: &[Expr],
@@ -70,72 +72,73 @@ pub(crate) fn class_head_fits(
 ) -> Result<bool, AllocError>
     ensures { IfOk result
         (λ told. told
-        ≡ (is_name name.now && each_fits is_name levels.Elem
-        (exprs (map tree_of bases.now)) && each_keyword_fits is_name
-        (keywords (map keyword_of words.now)) && each_fits is_name levels.Expression
-        (exprs (map tree_of decorators.now)) && types_fit profile is_name
+        ≡ (is_name name.now && each_fits (tests_in asked.extent) levels.Elem
+        (exprs (map tree_of bases.now)) && each_keyword_fits (tests_in asked.extent)
+        (keywords (map keyword_of words.now)) && each_fits (tests_in asked.extent) levels.Expression
+        (exprs (map tree_of decorators.now)) && types_fit profile (tests_in asked.extent)
         (map type_param_of parameters.now))) }
 {
-    if !is_name(alloc, name.as_str())? {
+    if !is_name(asked.alloc, name.as_str())? {
         return Ok(false);
     }
-    if !exprs_fit(alloc, bases, Level::Elem)? {
+    if !exprs_fit(asked, bases, Level::Elem)? {
         return Ok(false);
     }
-    if !keywords_fit(alloc, words)? {
+    if !keywords_fit(asked, words)? {
         return Ok(false);
     }
-    if !exprs_fit(alloc, decorators, Level::Expression)? {
+    if !exprs_fit(asked, decorators, Level::Expression)? {
         return Ok(false);
     }
-    type_params_fit(alloc, profile, parameters)
+    type_params_fit(asked, profile, parameters)
 }
 
 /// Whether the header of a `for` fits.
-pub(crate) fn for_head_fits(alloc: Global, target: &Expr, iter: &Expr) -> Result<bool, AllocError>
+pub(crate) fn for_head_fits(asked: Asked, target: &Expr, iter: &Expr) -> Result<bool, AllocError>
     ensures { IfOk result
         (λ told. told
-        ≡ (fits_target is_name contexts.Store (tree_of target.now) && fits_at is_name levels.Stars
-        (tree_of iter.now))) }
+        ≡ (fits_target (tests_in asked.extent) contexts.Store
+        (tree_of target.now) && fits_at (tests_in asked.extent) levels.Stars (tree_of iter.now))) }
 {
-    if !target_fits(alloc, target, Context::Store)? {
+    if !target_fits(asked, target, Context::Store)? {
         return Ok(false);
     }
-    expr_fits(alloc, iter, Level::Stars)
+    expr_fits(asked, iter, Level::Stars)
 }
 
 /// Whether the target of an item fits, if it has one.
-fn optional_target_fits(alloc: Global, expr: &Option<Expr>) -> Result<bool, AllocError>
-    ensures { IfOk result (λ told. told ≡ perhaps_target_fits is_name (option_of expr.now)) }
+fn optional_target_fits(asked: Asked, expr: &Option<Expr>) -> Result<bool, AllocError>
+    ensures { IfOk result
+        (λ told. told ≡ perhaps_target_fits (tests_in asked.extent) (option_of expr.now)) }
 {
     match expr {
         None => Ok(true),
-        Some(expr) => target_fits(alloc, expr, Context::Store),
+        Some(expr) => target_fits(asked, expr, Context::Store),
     }
 }
 
 /// Whether an item of a `with` fits.
-fn item_fits(alloc: Global, item: &Item) -> Result<bool, AllocError>
-    ensures { IfOk result (λ told. told ≡ item_fits is_name (item_of item.now)) }
+fn item_fits(asked: Asked, item: &Item) -> Result<bool, AllocError>
+    ensures { IfOk result (λ told. told ≡ item_fits (tests_in asked.extent) (item_of item.now)) }
 {
     Ok(
-        expr_fits(alloc, &item.context_expr, Level::Expression)?
-            && optional_target_fits(alloc, &item.optional_vars)?,
+        expr_fits(asked, &item.context_expr, Level::Expression)?
+            && optional_target_fits(asked, &item.optional_vars)?,
     )
 }
 
 /// Whether there are items of a `with`, each of which fits.
-pub(crate) fn items_fit(alloc: Global, items: &[Item]) -> Result<bool, AllocError>
+pub(crate) fn items_fit(asked: Asked, items: &[Item]) -> Result<bool, AllocError>
     ensures { IfOk result
         (λ told. told
-        ≡ (has_one (map item_of items.now) && list_all (item_fits is_name)
+        ≡ (has_one (map item_of items.now) && list_all (item_fits (tests_in asked.extent))
         (map item_of items.now))) }
 {
     if items.is_empty() {
         return Ok(false);
     }
     for item in items {
-        if !item_fits(alloc, item)? {
+        if !item_fits(asked, item)? {
             return Ok(false);
         }
     }
@@ -144,17 +147,18 @@ pub(crate) fn items_fit(alloc: Global, items: &[Item]) -> Result<bool, AllocErro
 
 /// Whether what an `except` catches fits, and its name.
 pub(crate) fn except_fits(
-    alloc: Global,
+    asked: Asked,
     star: bool,
     class: &Option<Expr>,
     name: &Option<Identifier>,
 ) -> Result<bool, AllocError>
-    ensures { IfOk result (λ told. told ≡ caught_fits is_name star (option_of class.now) name.now) }
+    ensures { IfOk result
+        (λ told. told ≡ caught_fits (tests_in asked.extent) star (option_of class.now) name.now) }
 {
     match class {
         None => Ok(!star && name.is_none()),
         Some(class) => Ok(
-            expr_fits(alloc, class, Level::Expression)? && optional_name_fits(alloc, name)?,
+            expr_fits(asked, class, Level::Expression)? && optional_name_fits(asked.alloc, name)?,
         ),
     }
 }

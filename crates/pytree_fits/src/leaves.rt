@@ -1,17 +1,18 @@
 //! What holds no expression, and how many expressions there are.
 
-ghost use Rattle.std.specs.Prelude.{◌≡◌, ◌^◌, ◌&&◌, ◌+◌, All, IfOk, eqb, leb, length, map, nat_lt};
+ghost use Rattle.std.specs.Prelude.{◌≡◌, ◌&&◌, ◌+◌, All, IfOk, eqb, leb, length, map};
 ghost use Rattle.std.specs.List.{list_all};
 ghost use Rattle.pytree_node.specs.Points.{IsPoint};
 ghost use Rattle.pytree_node.specs.TreeOf.{arg_of, comprehension_of, constant_of, option_of, tree_of};
 ghost use Rattle.pytree_node.specs.Trees.{args, comprehensions, exprs, optionals};
 ghost use Rattle.pytoken.specs.Laws.{is_byte, is_point};
-ghost use Rattle.pytree_fits.specs.Literals.{is_value};
+ghost use Rattle.pytree_fits.specs.Literals.{has_float, has_integer, is_value};
 ghost use Rattle.pytree_fits.specs.Names.{is_name};
 ghost use Rattle.pytree_fits.specs.Slots.{count, count_args, count_optional, has_some, perhaps_name};
 
 use crate::names::is_name;
-use pytree_node::{Arg, Comparison, Comprehension, Constant, Expr, Identifier};
+use pyfloat::Double;
+use pytree_node::{Arg, Comparison, Comprehension, Constant, Expr, Extent, Identifier, Integer};
 use std::alloc::{AllocError, Global};
 
 /// Whether a name that may be absent is a name.
@@ -27,25 +28,40 @@ pub(crate) fn optional_name_fits(
     }
 }
 
-/// Whether a constant is one that literals stand for, as each constant is.
-pub(crate) fn constant_fits(value: &Constant) -> bool
-    ensures { result ≡ is_value (constant_of value.now) }
+/// Whether a constant is one that literals stand for in an extent of the language.
+pub(crate) fn constant_fits(extent: Extent, value: &Constant) -> bool
+    ensures { result ≡ is_value extent (constant_of value.now) }
 {
     match value {
         Constant::None => true,
         Constant::Ellipsis => true,
         Constant::Bool(_) => true,
-        Constant::Int(number) => number_fits(number.value()),
+        Constant::Int(number) => integer_fits(extent, number),
+        Constant::Float(double) => double_fits(extent, double),
+        Constant::Imaginary(double) => double_fits(extent, double),
         Constant::Str { points, .. } => points_fit(points.as_slice()),
         Constant::Bytes(bytes) => bytes_fit(bytes),
     }
 }
 
-/// Whether a number is below 2 to the 128, as each is.
-fn number_fits(_number: u128) -> bool
-    ensures { result ≡ nat_lt _number (2 ^ 128) }
+/// Whether a whole number is one of an extent.
+fn integer_fits(extent: Extent, number: &Integer) -> bool
+    ensures { result ≡ has_integer extent number.now }
 {
-    true
+    match extent {
+        Extent::Plain => number.to_u128().is_some(),
+        Extent::Whole => number.is_below_limit(),
+    }
+}
+
+/// Whether a double is one of an extent, as each is of the whole language.
+fn double_fits(extent: Extent, double: &Double) -> bool
+    ensures { result ≡ has_float extent double.now }
+{
+    match extent {
+        Extent::Plain => false,
+        Extent::Whole => double.is_of_literal(),
+    }
 }
 
 /// Whether each of some code points is one, as they are.

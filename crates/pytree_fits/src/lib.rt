@@ -3,10 +3,11 @@
 //!
 //! `pytree_fits` defines that, slot by slot, and has the laws that tie the slots to the grammar. The
 //! walks here ask the same in the same order, and build nothing: [`expr_fits`] of an expression at
-//! a level, [`statements_fit`] of the statements of a module. They serve `pytree`, which tells by
-//! them whether a module is well formed.
+//! a level, [`statements_fit`] of the statements of a module, in an extent of the language
+//! ([`Asked`]). They serve `pytree`, which tells by them whether a module is well formed.
 #![tactic(auto)]
 
+mod asking;
 mod expressions;
 mod headers;
 mod imports;
@@ -18,5 +19,6 @@ mod simple;
 mod statements;
 mod targets;
 
+pub use asking::Asked;
 pub use expressions::expr_fits;
 pub use statements::statements_fit;

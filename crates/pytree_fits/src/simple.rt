@@ -12,7 +12,9 @@ ghost use Rattle.pytree_fits.specs.Slots.{each_target_fits, fits_at, fits_target
 ghost use Rattle.pytree_fits.specs.Slots.{perhaps_fits};
 ghost use Rattle.pytree_fits.specs.Statements.{has_one, perhaps_target_fits, raised_fits};
 ghost use Rattle.pytree_fits.specs.Statements.{type_param_fits, types_fit};
+ghost use Rattle.pytree_fits.specs.Tests.{tests_in};
 
+use crate::asking::Asked;
 use crate::expressions::{boxed_fits, expr_fits};
 use crate::names::is_name;
 use crate::places::{is_a_name, is_single};
@@ -23,16 +25,17 @@ use std::alloc::{AllocError, Global};
 
 /// Whether an expression that may be absent fits a level.
 pub(crate) fn option_fits(
-    alloc: Global,
+    asked: Asked,
     expr: &Option<Expr>,
     level: Level,
 ) -> Result<bool, AllocError>
     ensures { IfOk result
-        (λ told. told ≡ perhaps_fits is_name level (optional (option_of expr.now))) }
+        (λ told. told
+        ≡ perhaps_fits (tests_in asked.extent) level (optional (option_of expr.now))) }
 {
     match expr {
         None => Ok(true),
-        Some(expr) => expr_fits(alloc, expr, level),
+        Some(expr) => expr_fits(asked, expr, level),
     }
 }
 
@@ -53,44 +56,40 @@ pub(crate) fn names_fit(alloc: Global, names: &[Identifier]) -> Result<bool, All
 
 /// Whether there are targets, each of which fits.
 pub(crate) fn some_targets_fit(
-    alloc: Global,
+    asked: Asked,
     targets: &[Expr],
     place: Context,
 ) -> Result<bool, AllocError>
     ensures { IfOk result
         (λ told. told
-        ≡ (has_one (map tree_of targets.now) && each_target_fits is_name place
+        ≡ (has_one (map tree_of targets.now) && each_target_fits (tests_in asked.extent) place
         (exprs (map tree_of targets.now)))) }
 {
     if targets.is_empty() {
         return Ok(false);
     }
-    targets_fit(alloc, targets, place)
+    targets_fit(asked, targets, place)
 }
 
 /// Whether an assignment with an operator fits.
-pub(crate) fn aug_assign_fits(
-    alloc: Global,
-    target: &Expr,
-    value: &Expr,
-) -> Result<bool, AllocError>
+pub(crate) fn aug_assign_fits(asked: Asked, target: &Expr, value: &Expr) -> Result<bool, AllocError>
     ensures { IfOk result
         (λ told. told
-        ≡ (is_single (tree_of target.now) && fits_target is_name contexts.Store
-        (tree_of target.now) && fits_at is_name levels.Value (tree_of value.now))) }
+        ≡ (is_single (tree_of target.now) && fits_target (tests_in asked.extent) contexts.Store
+        (tree_of target.now) && fits_at (tests_in asked.extent) levels.Value (tree_of value.now))) }
 {
     if !is_single(target) {
         return Ok(false);
     }
-    if !target_fits(alloc, target, Context::Store)? {
+    if !target_fits(asked, target, Context::Store)? {
         return Ok(false);
     }
-    expr_fits(alloc, value, Level::Value)
+    expr_fits(asked, value, Level::Value)
 }
 
 /// Whether an assignment with an annotation fits.
 pub(crate) fn ann_assign_fits(
-    alloc: Global,
+    asked: Asked,
     target: &Expr,
     annotation: &Expr,
     value: &Option<Box<Expr>>,
@@ -99,9 +98,9 @@ pub(crate) fn ann_assign_fits(
     ensures { IfOk result
         (λ told. told
         ≡ (is_single (tree_of target.now) &&
-        (not simple || is_a_name (tree_of target.now)) && fits_target is_name contexts.Store
-        (tree_of target.now) && fits_at is_name levels.Expression
-        (tree_of annotation.now) && perhaps_fits is_name levels.Value
+        (not simple || is_a_name (tree_of target.now)) && fits_target (tests_in asked.extent)
+        contexts.Store (tree_of target.now) && fits_at (tests_in asked.extent) levels.Expression
+        (tree_of annotation.now) && perhaps_fits (tests_in asked.extent) levels.Value
         (optional (boxed_of value.now)))) }
 {
     if !is_single(target) {
@@ -110,31 +109,32 @@ pub(crate) fn ann_assign_fits(
     if simple && !is_a_name(target) {
         return Ok(false);
     }
-    if !target_fits(alloc, target, Context::Store)? {
+    if !target_fits(asked, target, Context::Store)? {
         return Ok(false);
     }
-    if !expr_fits(alloc, annotation, Level::Expression)? {
+    if !expr_fits(asked, annotation, Level::Expression)? {
         return Ok(false);
     }
-    boxed_fits(alloc, value, Level::Value)
+    boxed_fits(asked, value, Level::Value)
 }
 
 /// Whether what `raise` raises fits, and from what.
 pub(crate) fn raise_fits(
-    alloc: Global,
+    asked: Asked,
     exc: &Option<Expr>,
     cause: &Option<Expr>,
 ) -> Result<bool, AllocError>
     ensures { IfOk result
-        (λ told. told ≡ raised_fits is_name (option_of exc.now) (option_of cause.now)) }
+        (λ told. told
+        ≡ raised_fits (tests_in asked.extent) (option_of exc.now) (option_of cause.now)) }
 {
     match (exc, cause) {
         (None, None) => Ok(true),
-        (Some(exc), None) => expr_fits(alloc, exc, Level::Expression),
+        (Some(exc), None) => expr_fits(asked, exc, Level::Expression),
         (None, Some(_)) => Ok(false),
         (Some(exc), Some(cause)) => Ok(
-            expr_fits(alloc, exc, Level::Expression)?
-                && expr_fits(alloc, cause, Level::Expression)?,
+            expr_fits(asked, exc, Level::Expression)?
+                && expr_fits(asked, cause, Level::Expression)?,
         ),
     }
 }
@@ -150,25 +150,27 @@ pub(crate) fn has_types(profile: Profile) -> bool
 }
 
 /// Whether a type parameter fits.
-fn type_param_fits(alloc: Global, parameter: &TypeParam) -> Result<bool, AllocError>
-    ensures { IfOk result (λ told. told ≡ type_param_fits is_name (type_param_of parameter.now)) }
+fn type_param_fits(asked: Asked, parameter: &TypeParam) -> Result<bool, AllocError>
+    ensures { IfOk result
+        (λ told. told ≡ type_param_fits (tests_in asked.extent) (type_param_of parameter.now)) }
 {
     match parameter {
         TypeParam::TypeVar { name, bound } => Ok(
-            is_name(alloc, name.as_str())? && option_fits(alloc, bound, Level::Expression)?,
+            is_name(asked.alloc, name.as_str())? && option_fits(asked, bound, Level::Expression)?,
         ),
-        TypeParam::ParamSpec { name } => is_name(alloc, name.as_str()),
-        TypeParam::TypeVarTuple { name } => is_name(alloc, name.as_str()),
+        TypeParam::ParamSpec { name } => is_name(asked.alloc, name.as_str()),
+        TypeParam::TypeVarTuple { name } => is_name(asked.alloc, name.as_str()),
     }
 }
 
 /// Whether all parameters of a type fit.
-fn each_type_param_fits(alloc: Global, parameters: &[TypeParam]) -> Result<bool, AllocError>
+fn each_type_param_fits(asked: Asked, parameters: &[TypeParam]) -> Result<bool, AllocError>
     ensures { IfOk result
-        (λ told. told ≡ list_all (type_param_fits is_name) (map type_param_of parameters.now)) }
+        (λ told. told
+        ≡ list_all (type_param_fits (tests_in asked.extent)) (map type_param_of parameters.now)) }
 {
     for parameter in parameters {
-        if !type_param_fits(alloc, parameter)? {
+        if !type_param_fits(asked, parameter)? {
             return Ok(false);
         }
     }
@@ -177,22 +179,23 @@ fn each_type_param_fits(alloc: Global, parameters: &[TypeParam]) -> Result<bool,
 
 /// Whether type parameters fit, in a version that has these.
 pub(crate) fn type_params_fit(
-    alloc: Global,
+    asked: Asked,
     profile: Profile,
     parameters: &[TypeParam],
 ) -> Result<bool, AllocError>
     ensures { IfOk result
-        (λ told. told ≡ types_fit profile is_name (map type_param_of parameters.now)) }
+        (λ told. told
+        ≡ types_fit profile (tests_in asked.extent) (map type_param_of parameters.now)) }
 {
     if parameters.is_empty() {
         return Ok(true);
     }
-    Ok(has_types(profile) && each_type_param_fits(alloc, parameters)?)
+    Ok(has_types(profile) && each_type_param_fits(asked, parameters)?)
 }
 
 /// Whether the statement `type` fits.
 pub(crate) fn type_alias_fits(
-    alloc: Global,
+    asked: Asked,
     profile: Profile,
     name: &Expr,
     parameters: &[TypeParam],
@@ -200,9 +203,9 @@ pub(crate) fn type_alias_fits(
 ) -> Result<bool, AllocError>
     ensures { IfOk result
         (λ told. told
-        ≡ (has_types profile && is_a_name (tree_of name.now) && fits_target is_name contexts.Store
-        (tree_of name.now) && list_all (type_param_fits is_name)
-        (map type_param_of parameters.now) && fits_at is_name levels.Expression
+        ≡ (has_types profile && is_a_name (tree_of name.now) && fits_target (tests_in asked.extent)
+        contexts.Store (tree_of name.now) && list_all (type_param_fits (tests_in asked.extent))
+        (map type_param_of parameters.now) && fits_at (tests_in asked.extent) levels.Expression
         (tree_of value.now))) }
 {
     if !has_types(profile) {
@@ -211,11 +214,11 @@ pub(crate) fn type_alias_fits(
     if !is_a_name(name) {
         return Ok(false);
     }
-    if !target_fits(alloc, name, Context::Store)? {
+    if !target_fits(asked, name, Context::Store)? {
         return Ok(false);
     }
-    if !each_type_param_fits(alloc, parameters)? {
+    if !each_type_param_fits(asked, parameters)? {
         return Ok(false);
     }
-    expr_fits(alloc, value, Level::Expression)
+    expr_fits(asked, value, Level::Expression)
 }

@@ -3,10 +3,11 @@
 ghost use Rattle.std.specs.Prelude.{◌≡◌, ◌&&◌, IfOk, map};
 ghost use Rattle.pytree_node.specs.TreeOf.{handler_of, stmt_of};
 ghost use Rattle.pytree_node.specs.Trees.{handlers, stmts};
-ghost use Rattle.pytree_fits.specs.Names.{is_name};
 ghost use Rattle.pytree_fits.specs.Statements.{caught_fits, handlers_fit, statement_fits};
 ghost use Rattle.pytree_fits.specs.Statements.{statements_fit, suite_fits};
+ghost use Rattle.pytree_fits.specs.Tests.{tests_in};
 
+use crate::asking::Asked;
 use crate::expressions::expr_fits;
 use crate::headers::{
     class_head_fits, clauses_fit, except_fits, for_head_fits, function_head_fits, items_fit,
@@ -18,13 +19,14 @@ use crate::simple::{
 };
 use pygrammar::Level;
 use pytree_node::{Context, Handler, Profile, Stmt};
-use std::alloc::{AllocError, Global};
+use std::alloc::AllocError;
 
 /// Whether a statement fits.
 #[cycle(statements)]
 #[tactic(auto, using(pytree_node::proofs::Callers::StmtShapes::stmt_shapes))]
-fn statement_fits(alloc: Global, profile: Profile, s: &Stmt) -> Result<bool, AllocError>
-    ensures { IfOk result (λ told. told ≡ statement_fits profile is_name (stmt_of s.now)) }
+fn statement_fits(asked: Asked, profile: Profile, s: &Stmt) -> Result<bool, AllocError>
+    ensures { IfOk result
+        (λ told. told ≡ statement_fits profile (tests_in asked.extent) (stmt_of s.now)) }
 {
     match s {
         Stmt::FunctionDef {
@@ -36,7 +38,7 @@ fn statement_fits(alloc: Global, profile: Profile, s: &Stmt) -> Result<bool, All
             type_params,
         } => {
             let head = function_head_fits(
-                alloc,
+                asked,
                 profile,
                 name,
                 args,
@@ -44,7 +46,7 @@ fn statement_fits(alloc: Global, profile: Profile, s: &Stmt) -> Result<bool, All
                 returns,
                 type_params,
             )?;
-            Ok(head && suite_fits(alloc, profile, body)?)
+            Ok(head && suite_fits(asked, profile, body)?)
         }
         Stmt::AsyncFunctionDef {
             name,
@@ -55,7 +57,7 @@ fn statement_fits(alloc: Global, profile: Profile, s: &Stmt) -> Result<bool, All
             type_params,
         } => {
             let head = function_head_fits(
-                alloc,
+                asked,
                 profile,
                 name,
                 args,
@@ -63,7 +65,7 @@ fn statement_fits(alloc: Global, profile: Profile, s: &Stmt) -> Result<bool, All
                 returns,
                 type_params,
             )?;
-            Ok(head && suite_fits(alloc, profile, body)?)
+            Ok(head && suite_fits(asked, profile, body)?)
         }
         Stmt::ClassDef {
             name,
@@ -74,7 +76,7 @@ fn statement_fits(alloc: Global, profile: Profile, s: &Stmt) -> Result<bool, All
             type_params,
         } => {
             let head = class_head_fits(
-                alloc,
+                asked,
                 profile,
                 name,
                 bases,
@@ -82,39 +84,39 @@ fn statement_fits(alloc: Global, profile: Profile, s: &Stmt) -> Result<bool, All
                 decorator_list,
                 type_params,
             )?;
-            Ok(head && suite_fits(alloc, profile, body)?)
+            Ok(head && suite_fits(asked, profile, body)?)
         }
-        Stmt::Return { value } => option_fits(alloc, value, Level::Stars),
-        Stmt::Delete { targets } => some_targets_fit(alloc, targets, Context::Del),
+        Stmt::Return { value } => option_fits(asked, value, Level::Stars),
+        Stmt::Delete { targets } => some_targets_fit(asked, targets, Context::Del),
         Stmt::Assign { targets, value } => Ok(
-            some_targets_fit(alloc, targets, Context::Store)?
-                && expr_fits(alloc, value, Level::Value)?,
+            some_targets_fit(asked, targets, Context::Store)?
+                && expr_fits(asked, value, Level::Value)?,
         ),
         Stmt::TypeAlias {
             name,
             type_params,
             value,
-        } => type_alias_fits(alloc, profile, name, type_params, value),
-        Stmt::AugAssign { target, value, .. } => aug_assign_fits(alloc, target, value),
+        } => type_alias_fits(asked, profile, name, type_params, value),
+        Stmt::AugAssign { target, value, .. } => aug_assign_fits(asked, target, value),
         Stmt::AnnAssign {
             target,
             annotation,
             value,
             simple,
-        } => ann_assign_fits(alloc, target, annotation, value, *simple),
+        } => ann_assign_fits(asked, target, annotation, value, *simple),
         Stmt::For {
             target,
             iter,
             body,
             orelse,
         } => {
-            if !for_head_fits(alloc, target, iter)? {
+            if !for_head_fits(asked, target, iter)? {
                 return Ok(false);
             }
-            if !suite_fits(alloc, profile, body)? {
+            if !suite_fits(asked, profile, body)? {
                 return Ok(false);
             }
-            statements_fit(alloc, profile, orelse)
+            statements_fit(asked, profile, orelse)
         }
         Stmt::AsyncFor {
             target,
@@ -122,39 +124,39 @@ fn statement_fits(alloc: Global, profile: Profile, s: &Stmt) -> Result<bool, All
             body,
             orelse,
         } => {
-            if !for_head_fits(alloc, target, iter)? {
+            if !for_head_fits(asked, target, iter)? {
                 return Ok(false);
             }
-            if !suite_fits(alloc, profile, body)? {
+            if !suite_fits(asked, profile, body)? {
                 return Ok(false);
             }
-            statements_fit(alloc, profile, orelse)
+            statements_fit(asked, profile, orelse)
         }
         Stmt::While { test, body, orelse } => {
-            if !expr_fits(alloc, test, Level::Expression)? {
+            if !expr_fits(asked, test, Level::Expression)? {
                 return Ok(false);
             }
-            if !suite_fits(alloc, profile, body)? {
+            if !suite_fits(asked, profile, body)? {
                 return Ok(false);
             }
-            statements_fit(alloc, profile, orelse)
+            statements_fit(asked, profile, orelse)
         }
         Stmt::If { test, body, orelse } => {
-            if !expr_fits(alloc, test, Level::Expression)? {
+            if !expr_fits(asked, test, Level::Expression)? {
                 return Ok(false);
             }
-            if !suite_fits(alloc, profile, body)? {
+            if !suite_fits(asked, profile, body)? {
                 return Ok(false);
             }
-            statements_fit(alloc, profile, orelse)
+            statements_fit(asked, profile, orelse)
         }
         Stmt::With { items, body } => Ok(
-            items_fit(alloc, items)? && suite_fits(alloc, profile, body)?,
+            items_fit(asked, items)? && suite_fits(asked, profile, body)?,
         ),
         Stmt::AsyncWith { items, body } => Ok(
-            items_fit(alloc, items)? && suite_fits(alloc, profile, body)?,
+            items_fit(asked, items)? && suite_fits(asked, profile, body)?,
         ),
-        Stmt::Raise { exc, cause } => raise_fits(alloc, exc, cause),
+        Stmt::Raise { exc, cause } => raise_fits(asked, exc, cause),
         Stmt::Try {
             body,
             handlers,
@@ -164,16 +166,16 @@ fn statement_fits(alloc: Global, profile: Profile, s: &Stmt) -> Result<bool, All
             if !clauses_fit(false, handlers, orelse, finalbody) {
                 return Ok(false);
             }
-            if !suite_fits(alloc, profile, body)? {
+            if !suite_fits(asked, profile, body)? {
                 return Ok(false);
             }
-            if !handlers_fit(alloc, profile, false, handlers)? {
+            if !handlers_fit(asked, profile, false, handlers)? {
                 return Ok(false);
             }
-            if !statements_fit(alloc, profile, orelse)? {
+            if !statements_fit(asked, profile, orelse)? {
                 return Ok(false);
             }
-            statements_fit(alloc, profile, finalbody)
+            statements_fit(asked, profile, finalbody)
         }
         Stmt::TryStar {
             body,
@@ -184,30 +186,30 @@ fn statement_fits(alloc: Global, profile: Profile, s: &Stmt) -> Result<bool, All
             if !clauses_fit(true, handlers, orelse, finalbody) {
                 return Ok(false);
             }
-            if !suite_fits(alloc, profile, body)? {
+            if !suite_fits(asked, profile, body)? {
                 return Ok(false);
             }
-            if !handlers_fit(alloc, profile, true, handlers)? {
+            if !handlers_fit(asked, profile, true, handlers)? {
                 return Ok(false);
             }
-            if !statements_fit(alloc, profile, orelse)? {
+            if !statements_fit(asked, profile, orelse)? {
                 return Ok(false);
             }
-            statements_fit(alloc, profile, finalbody)
+            statements_fit(asked, profile, finalbody)
         }
         Stmt::Assert { test, msg } => Ok(
-            expr_fits(alloc, test, Level::Expression)?
-                && option_fits(alloc, msg, Level::Expression)?,
+            expr_fits(asked, test, Level::Expression)?
+                && option_fits(asked, msg, Level::Expression)?,
         ),
-        Stmt::Import { names } => modules_fit(alloc, names),
+        Stmt::Import { names } => modules_fit(asked.alloc, names),
         Stmt::ImportFrom {
             module,
             names,
             level,
-        } => Ok(source_fits(alloc, module, *level)? && imports_fit(alloc, names)?),
-        Stmt::Global { names } => names_fit(alloc, names),
-        Stmt::Nonlocal { names } => names_fit(alloc, names),
-        Stmt::Expr { value } => expr_fits(alloc, value, Level::Value),
+        } => Ok(source_fits(asked.alloc, module, *level)? && imports_fit(asked.alloc, names)?),
+        Stmt::Global { names } => names_fit(asked.alloc, names),
+        Stmt::Nonlocal { names } => names_fit(asked.alloc, names),
+        Stmt::Expr { value } => expr_fits(asked, value, Level::Value),
         Stmt::Pass => Ok(true),
         Stmt::Break => Ok(true),
         Stmt::Continue => Ok(true),
@@ -217,26 +219,27 @@ fn statement_fits(alloc: Global, profile: Profile, s: &Stmt) -> Result<bool, All
 /// Whether the block of a header fits: there are statements, and each fits.
 #[cycle(statements)]
 #[tactic(auto, using(crate::proofs::Suites::suites))]
-fn suite_fits(alloc: Global, profile: Profile, body: &[Stmt]) -> Result<bool, AllocError>
+fn suite_fits(asked: Asked, profile: Profile, body: &[Stmt]) -> Result<bool, AllocError>
     ensures { IfOk result
-        (λ told. told ≡ suite_fits profile is_name (stmts (map stmt_of body.now))) }
+        (λ told. told ≡ suite_fits profile (tests_in asked.extent) (stmts (map stmt_of body.now))) }
 {
     if body.is_empty() {
         return Ok(false);
     }
-    statements_fit(alloc, profile, body)
+    statements_fit(asked, profile, body)
 }
 
 /// Whether each of some statements fits in a version of Python: whether each of its fields has what
 /// may stand there. `Err` means out of memory alone.
 #[cycle(statements)]
 #[tactic(auto, using(pytree_node::proofs::Callers::StmtShapes::stmt_shapes))]
-pub fn statements_fit(alloc: Global, profile: Profile, body: &[Stmt]) -> Result<bool, AllocError>
+pub fn statements_fit(asked: Asked, profile: Profile, body: &[Stmt]) -> Result<bool, AllocError>
     ensures { IfOk result
-        (λ told. told ≡ statements_fit profile is_name (stmts (map stmt_of body.now))) }
+        (λ told. told
+        ≡ statements_fit profile (tests_in asked.extent) (stmts (map stmt_of body.now))) }
 {
     for s in body {
-        if !statement_fits(alloc, profile, s)? {
+        if !statement_fits(asked, profile, s)? {
             return Ok(false);
         }
     }
@@ -246,34 +249,31 @@ pub fn statements_fit(alloc: Global, profile: Profile, body: &[Stmt]) -> Result<
 /// Whether a handler fits.
 #[cycle(statements)]
 #[tactic(auto, using(pytree_node::proofs::Callers::StmtShapes::stmt_shapes))]
-fn handler_fits(
-    alloc: Global,
-    profile: Profile,
-    star: bool,
-    h: &Handler,
-) -> Result<bool, AllocError>
+fn handler_fits(asked: Asked, profile: Profile, star: bool, h: &Handler) -> Result<bool, AllocError>
     ensures { IfOk result
         (λ told. told
-        ≡ (caught_fits is_name star (handler_of h.now).class
-        (handler_of h.now).name && suite_fits profile is_name (stmts (handler_of h.now).body))) }
+        ≡ (caught_fits (tests_in asked.extent) star (handler_of h.now).class
+        (handler_of h.now).name && suite_fits profile (tests_in asked.extent)
+        (stmts (handler_of h.now).body))) }
 {
-    Ok(except_fits(alloc, star, &h.class, &h.name)? && suite_fits(alloc, profile, &h.body)?)
+    Ok(except_fits(asked, star, &h.class, &h.name)? && suite_fits(asked, profile, &h.body)?)
 }
 
 /// Whether each of some handlers fits.
 #[cycle(statements)]
 #[tactic(auto, using(pytree_node::proofs::Callers::StmtShapes::stmt_shapes))]
 fn handlers_fit(
-    alloc: Global,
+    asked: Asked,
     profile: Profile,
     star: bool,
     all: &[Handler],
 ) -> Result<bool, AllocError>
     ensures { IfOk result
-        (λ told. told ≡ handlers_fit profile is_name star (handlers (map handler_of all.now))) }
+        (λ told. told
+        ≡ handlers_fit profile (tests_in asked.extent) star (handlers (map handler_of all.now))) }
 {
     for h in all {
-        if !handler_fits(alloc, profile, star, h)? {
+        if !handler_fits(asked, profile, star, h)? {
             return Ok(false);
         }
     }

@@ -2,18 +2,57 @@
 
 ghost use Rattle.std.specs.Prelude.{◌≡◌, [], ◌∷◌, OnOk};
 ghost use Rattle.pytree_node.specs.TreeOf.{constant_of};
+ghost use Rattle.pytree_node.specs.Values.{Float, Imaginary, Int};
+ghost use Rattle.pytoken.specs.Terminals.{Number};
 ghost use Rattle.pyunparse_text.specs.Folds.{puts};
 ghost use Rattle.pyunparse_text.specs.Pieces.{piece};
 ghost use Rattle.pyunparse_text.specs.Written.{constant_terminal, free};
 
 use itoa::Buffer;
+use pyfloat::Double;
 use pylex::{Exact, Kind};
 use pytoken::Keyword;
-use pytree_node::Constant;
+use pytree_node::{Constant, Integer};
 use pyunparse_text::marks::Role;
 use pyunparse_text::tokens::{put_sign, put_word};
 use pyunparse_text::writers::Writer;
 use std::alloc::AllocError;
+
+/// Writes a whole number. One below 2 to the 128 takes no memory of its own.
+fn put_integer<W: Writer>(out: &mut W, number: &Integer) -> Result<(), AllocError>
+    ensures { OnOk result
+        (out.new ≡ puts W.after out.old (free piece (Number (Int number.now)) ∷ [])) }
+{
+    if let Some(small) = number.to_u128() {
+        let mut buffer = Buffer::new();
+        return out.put(Kind::Number, buffer.format(small), false, false);
+    }
+    let mut text = String::new(out.alloc());
+    number.push_decimal(&mut text)?;
+    out.put(Kind::Number, text.as_str(), false, false)
+}
+
+/// Writes a float.
+fn put_float<W: Writer>(out: &mut W, float: Double) -> Result<(), AllocError>
+    ensures { OnOk result
+        (out.new ≡ puts W.after out.old (free piece (Number (Float float)) ∷ [])) }
+{
+    let alloc = out.alloc();
+    let mut text = String::new(alloc);
+    float.push_source(&mut text, alloc)?;
+    out.put(Kind::Number, text.as_str(), false, false)
+}
+
+/// Writes an imaginary number.
+fn put_imaginary<W: Writer>(out: &mut W, float: Double) -> Result<(), AllocError>
+    ensures { OnOk result
+        (out.new ≡ puts W.after out.old (free piece (Number (Imaginary float)) ∷ [])) }
+{
+    let alloc = out.alloc();
+    let mut text = String::new(alloc);
+    float.push_imaginary_source(&mut text, alloc)?;
+    out.put(Kind::Number, text.as_str(), false, false)
+}
 
 /// Writes a constant.
 pub(crate) fn put_constant<W: Writer>(out: &mut W, value: &Constant) -> Result<(), AllocError>
@@ -34,10 +73,9 @@ pub(crate) fn put_constant<W: Writer>(out: &mut W, value: &Constant) -> Result<(
                 },
             )
         }
-        Constant::Int(number) => {
-            let mut buffer = Buffer::new();
-            out.put(Kind::Number, buffer.format(number.value()), false, false)
-        }
+        Constant::Int(number) => put_integer(out, number),
+        Constant::Float(float) => put_float(out, *float),
+        Constant::Imaginary(float) => put_imaginary(out, *float),
         Constant::Str { points, unicode } => out.put_str(points.as_slice(), *unicode),
         Constant::Bytes(bytes) => out.put_bytes(bytes),
     }

@@ -2,6 +2,7 @@
 
 ghost use Rattle.std.specs.Prelude.{◌≡◌, All, IfOk, List, OnOk, map};
 ghost use Rattle.pytree_node.specs.TreeOf.{tree_of};
+ghost use Rattle.pytree_node.specs.declared.profiles.Extent.{Extent};
 ghost use Rattle.pyunparse_text.specs.Folds.{puts};
 ghost use Rattle.pyunparse_text.specs.Told.{in_bytes, told};
 ghost use Rattle.pytoken.specs.Terminals.{Terminal};
@@ -94,8 +95,9 @@ pub fn expression_tokens(alloc: Global, expr: &Expr, level: Level) -> Result<Vec
         (λ tokens. map told tokens.items ≡ map in_bytes (pieces level (tree_of expr.now))) }
     ensures fewest { (ts : List Terminal) → Derives level ts (tree_of expr.now)
         → Shortest (Derives level) (terminals level (tree_of expr.now)) (tree_of expr.now) }
-    ensures read { (ts : List Terminal) → All IsOfToken ts → Derives level ts (tree_of expr.now)
-        → AreRead (pieces level (tree_of expr.now)) (terminals level (tree_of expr.now)) }
+    ensures read { (extent : Extent) (ts : List Terminal) → All (IsOfToken extent) ts
+        → Derives level ts (tree_of expr.now)
+        → AreRead extent (pieces level (tree_of expr.now)) (terminals level (tree_of expr.now)) }
 {
     let mut out = PieceWriter::new(alloc);
     write_expr(&mut out, level, expr)?;

@@ -36,4 +36,4 @@ written_is_read ls w =
     }
 
 pub written_is_clear : WrittenIsClear
-written_is_clear ls w h r = clear (in_characters r.parts) ls w h r.listed
+written_is_clear extent ls w h r = clear extent (in_characters r.parts) ls w h r.listed

@@ -1,4 +1,3 @@
 -- Texts that are one token.
-pub mod Decimals
 pub mod Literals
 pub mod Scalars

@@ -3,7 +3,7 @@
 -- Carries: no contract; its rows are computed as it is checked. On: WorkedRows.
 use Rattle.std.proofs.Common.{refl, [], ◌∷◌, Some, None, true, false}
 use Rattle.std.specs.Prelude.{codes}
-use Rattle.std.specs.Fmt.{digits}
+use Rattle.pynatural.specs.Decimals.{decimal_text}
 use Rattle.pytree_node.specs.declared.operators.Context.TheVariants.{Load, Store}
 use Rattle.pytree_node.specs.Values
 use Rattle.pytree_node.specs.Trees.{NamedExpr, GeneratorExp, Yield, Call, Constant, Attribute, Starred, Name, ListOf, Tuple, exprs, no_exprs, absent, present, optionals, no_optional, arg, args, no_arg, absent_arg, present_arg, arguments, no_comprehension, a_comprehension, no_keyword, a_keyword, FunctionDef, AsyncFunctionDef, ClassDef, Return, AnnAssign, For, While, If, With, AsyncWith, Try, TryStar, ExprOf, Pass, stmts, no_stmt, a_handler, no_handler}
@@ -22,7 +22,7 @@ branches : AreWritten (
     row (If (NamedExpr (Name (codes "a") Store) b) (stmts (Pass ∷ [])) no_stmt ∷ []) (codes "if a := b:" ∷ codes "    pass" ∷ []) ∷
     row (If (Yield absent) (stmts (Pass ∷ [])) no_stmt ∷ []) (codes "if (yield):" ∷ codes "    pass" ∷ []) ∷
     row (If a (stmts (If b (stmts (ExprOf c ∷ [])) no_stmt ∷ ExprOf d ∷ [])) no_stmt ∷ ExprOf e ∷ []) (codes "if a:" ∷ codes "    if b:" ∷ codes "        c" ∷ codes "    d" ∷ codes "e" ∷ []) ∷ [])
-unfolding lines_of statement_lines alternative clause handler_lines written fit reaches leads digits
+unfolding lines_of statement_lines alternative clause handler_lines written fit reaches leads decimal_text
 branches = refl
 
 -- `while` and `for`.
@@ -33,7 +33,7 @@ loops : AreWritten (
     row (For (Tuple (exprs ((Name (codes "a") Store) ∷ [])) Store) (Tuple (exprs (b ∷ [])) Load) (stmts (ExprOf c ∷ [])) (stmts (If d (stmts (ExprOf e ∷ [])) no_stmt ∷ [])) ∷ []) (codes "for a, in b,:" ∷ codes "    c" ∷ codes "else:" ∷ codes "    if d:" ∷ codes "        e" ∷ []) ∷
     row (For (Starred (Name (codes "a") Store) Store) b (stmts (ExprOf c ∷ [])) no_stmt ∷ []) (codes "for *a in b:" ∷ codes "    c" ∷ []) ∷
     row (For (Tuple (exprs ((Attribute a (codes "b") Store) ∷ (ListOf (exprs ((Name (codes "c") Store) ∷ (Starred (Name (codes "d") Store) Store) ∷ [])) Store) ∷ [])) Store) e (stmts (ExprOf f ∷ [])) no_stmt ∷ []) (codes "for a.b, [c, *d] in e:" ∷ codes "    f" ∷ []) ∷ [])
-unfolding lines_of statement_lines alternative clause handler_lines written fit reaches leads digits
+unfolding lines_of statement_lines alternative clause handler_lines written fit reaches leads decimal_text
 loops = refl
 
 -- `with`: the items have brackets of their own only where those of a Tuple would be read as theirs.
@@ -46,7 +46,7 @@ contexts : AreWritten (
     row (With (item a (Some (Tuple (exprs ((Name (codes "b") Store) ∷ (Starred (Name (codes "c") Store) Store) ∷ [])) Store)) ∷ item d (Some (ListOf (exprs ((Name (codes "e") Store) ∷ [])) Store)) ∷ []) (stmts (ExprOf f ∷ [])) ∷ []) (codes "with a as (b, *c), d as [e]:" ∷ codes "    f" ∷ []) ∷
     row (With (item a (Some (Starred (Name (codes "b") Store) Store)) ∷ []) (stmts (ExprOf c ∷ [])) ∷ []) (codes "with a as *b:" ∷ codes "    c" ∷ []) ∷
     row (AsyncWith (item a (Some (Attribute b (codes "c") Store)) ∷ []) (stmts (ExprOf d ∷ [])) ∷ []) (codes "async with a as b.c:" ∷ codes "    d" ∷ []) ∷ [])
-unfolding lines_of statement_lines alternative clause handler_lines written fit reaches leads digits
+unfolding lines_of statement_lines alternative clause handler_lines written fit reaches leads decimal_text
 contexts = refl
 
 -- `try`.
@@ -54,7 +54,7 @@ handlers : AreWritten (
     row (Try (stmts (ExprOf a ∷ [])) (a_handler (Some b) None (stmts (ExprOf c ∷ [])) (a_handler (Some (Tuple (exprs (d ∷ e ∷ [])) Load)) (Some (codes "f")) (stmts (ExprOf g ∷ [])) (a_handler None None (stmts (ExprOf h ∷ [])) no_handler))) (stmts (ExprOf i ∷ [])) (stmts (ExprOf j ∷ [])) ∷ []) (codes "try:" ∷ codes "    a" ∷ codes "except b:" ∷ codes "    c" ∷ codes "except (d, e) as f:" ∷ codes "    g" ∷ codes "except:" ∷ codes "    h" ∷ codes "else:" ∷ codes "    i" ∷ codes "finally:" ∷ codes "    j" ∷ []) ∷
     row (TryStar (stmts (ExprOf a ∷ [])) (a_handler (Some b) None (stmts (ExprOf c ∷ [])) (a_handler (Some (Tuple (exprs (d ∷ e ∷ [])) Load)) (Some (codes "f")) (stmts (ExprOf g ∷ [])) no_handler)) no_stmt no_stmt ∷ []) (codes "try:" ∷ codes "    a" ∷ codes "except *b:" ∷ codes "    c" ∷ codes "except *(d, e) as f:" ∷ codes "    g" ∷ []) ∷
     row (Try (stmts (Try (stmts (ExprOf a ∷ [])) no_handler no_stmt (stmts (ExprOf b ∷ [])) ∷ [])) (a_handler (Some c) None (stmts (If d (stmts (ExprOf e ∷ [])) no_stmt ∷ [])) no_handler) no_stmt no_stmt ∷ []) (codes "try:" ∷ codes "    try:" ∷ codes "        a" ∷ codes "    finally:" ∷ codes "        b" ∷ codes "except c:" ∷ codes "    if d:" ∷ codes "        e" ∷ []) ∷ [])
-unfolding lines_of statement_lines alternative clause handler_lines written fit reaches leads digits
+unfolding lines_of statement_lines alternative clause handler_lines written fit reaches leads decimal_text
 handlers = refl
 
 -- `def` and `class`: each decorator has a line.
@@ -67,5 +67,5 @@ definitions : AreWritten (
     row (ClassDef (codes "A") (b ∷ (Starred c Load) ∷ []) (a_keyword (Some (codes "d")) e (a_keyword None f no_keyword)) (stmts (ExprOf g ∷ [])) [] [] ∷ []) (codes "class A(b, *c, d=e, **f):" ∷ codes "    g" ∷ []) ∷
     row (ClassDef (codes "A") ((GeneratorExp b (a_comprehension (Name (codes "b") Store) c no_exprs false no_comprehension)) ∷ []) no_keyword (stmts (ExprOf d ∷ [])) [] [] ∷ []) (codes "class A((b for b in c)):" ∷ codes "    d" ∷ []) ∷
     row (ClassDef (codes "A") (b ∷ []) (a_keyword (Some (codes "k")) (Yield absent) no_keyword) (stmts (AnnAssign (Name (codes "c") Store) d (Some (Constant (Values.Int 1))) true ∷ AsyncFunctionDef (codes "f") (arguments no_arg (args ((arg (codes "self") absent) ∷ [])) absent_arg no_arg no_optional absent_arg no_exprs) (stmts (Return (Some g) ∷ [])) (e ∷ []) None [] ∷ [])) (a ∷ []) [] ∷ []) (codes "@a" ∷ codes "class A(b, k=(yield)):" ∷ codes "    c: d = 1" ∷ codes "    @e" ∷ codes "    async def f(self):" ∷ codes "        return g" ∷ []) ∷ [])
-unfolding lines_of statement_lines alternative clause handler_lines written fit reaches leads digits
+unfolding lines_of statement_lines alternative clause handler_lines written fit reaches leads decimal_text
 definitions = refl

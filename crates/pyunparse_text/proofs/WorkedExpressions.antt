@@ -4,7 +4,10 @@
 -- Carries: no contract; its rows are computed as it is checked.
 use Rattle.std.proofs.Common.{◌≡◌, refl, List, [], ◌∷◌, map, Some, None, true, false, ℕ}
 use Rattle.std.specs.Prelude.{codes}
-use Rattle.std.specs.Fmt.{digits}
+use Rattle.std.specs.Float.{float_zero}
+use Rattle.std.specs.Float.Ieee.{inf}
+use Rattle.pynatural.specs.Decimals.{decimal_text}
+use Rattle.pyfloat.specs.FloatTexts.{float_text}
 use Rattle.pytree_node.specs.declared.operators.Operator.TheVariants as Bin
 use Rattle.pytree_node.specs.declared.operators.UnaryOperator.TheVariants as Un
 use Rattle.pytree_node.specs.declared.operators.BoolOperator.TheVariants as Join
@@ -78,7 +81,7 @@ operators : AreWritten (
     row At.Value (BinOp (Await a) Bin.Pow b) (codes "await a ** b") ∷
     row At.Value (Await (BinOp a Bin.Pow b)) (codes "await (a ** b)") ∷
     row At.Value (Call (Await a) (exprs (b ∷ [])) no_keyword) (codes "(await a)(b)") ∷ [])
-unfolding written fit reaches leads digits
+unfolding written fit reaches leads decimal_text
 operators = refl
 
 -- Tests and comparisons.
@@ -94,8 +97,16 @@ tests : AreWritten (
     row At.Elem (IfExp d (IfExp b a c) e) (codes "(a if b else c) if d else e") ∷
     row At.Or (Lambda (arguments no_arg no_arg absent_arg no_arg no_optional absent_arg no_exprs) (Constant (Values.Int 0))) (codes "(lambda: 0)") ∷
     row At.Named (IfExp b a (Lambda (arguments no_arg no_arg absent_arg no_arg no_optional absent_arg no_exprs) c)) (codes "a if b else lambda: c") ∷ [])
-unfolding written fit reaches leads digits
+unfolding written fit reaches leads decimal_text
 tests = refl
+
+-- Floats and imaginary numbers. No literal reads `inf`.
+numbers : AreWritten (
+    row At.Value (Attribute (Constant (Values.Float (inf false))) (codes "c") Load) (codes "1e309 .c") ∷
+    row At.Value (BinOp (Constant (Values.Float float_zero)) Bin.Add (Constant (Values.Imaginary (inf false)))) (codes "0.0 + 1e309j") ∷
+    row At.Value (Subscript a (Constant (Values.Imaginary float_zero)) Load) (codes "a[0j]") ∷ [])
+unfolding written fit reaches leads decimal_text float_text
+numbers = refl
 
 -- Primaries and constants.
 primaries : AreWritten (
@@ -114,7 +125,7 @@ primaries : AreWritten (
     row At.Value (Call f (exprs ((GeneratorExp (Call g (exprs ((GeneratorExp x (a_comprehension (Name (codes "x") Store) y no_exprs false no_comprehension)) ∷ [])) no_keyword) (a_comprehension (Name (codes "x") Store) z no_exprs false no_comprehension)) ∷ [])) no_keyword) (codes "f(g(x for x in y) for x in z)") ∷
     row At.Value (Call f (exprs ((NamedExpr (Name (codes "a") Store) (Constant (Values.Int 1))) ∷ (Starred (BoolOp Join.Or (exprs (b ∷ c ∷ []))) Load) ∷ [])) (a_keyword (Some (codes "d")) (Yield absent) no_keyword)) (codes "f(a := 1, *b or c, d=(yield))") ∷
     row At.Value (Call f (exprs ((Starred (IfExp b a c) Load) ∷ [])) no_keyword) (codes "f(*a if b else c)") ∷ [])
-unfolding written fit reaches leads digits
+unfolding written fit reaches leads decimal_text
 primaries = refl
 
 -- Subscripts and slices.
@@ -133,7 +144,7 @@ subscripts : AreWritten (
     row At.Value (Subscript a (Slice (present (NamedExpr (Name (codes "b") Store) (Constant (Values.Int 1)))) (present (Constant (Values.Int 2))) absent) Load) (codes "a[(b := 1):2]") ∷
     row At.Value (Subscript a (Tuple (exprs ((NamedExpr (Name (codes "b") Store) (Constant (Values.Int 1))) ∷ (Constant (Values.Int 2)) ∷ [])) Load) Load) (codes "a[b := 1, 2]") ∷
     row At.Value (Subscript a (Tuple (exprs ((Tuple (exprs ((Constant (Values.Int 1)) ∷ (Constant (Values.Int 2)) ∷ [])) Load) ∷ (Constant (Values.Int 3)) ∷ [])) Load) Load) (codes "a[(1, 2), 3]") ∷ [])
-unfolding written fit reaches leads digits
+unfolding written fit reaches leads decimal_text
 subscripts = refl
 
 -- Tuples, lists, sets and dicts, by their places.
@@ -153,7 +164,7 @@ displays : AreWritten (
     row At.Value (Dict (optionals (None ∷ (Some (Yield absent)) ∷ [])) (exprs ((BoolOp Join.Or (exprs (a ∷ b ∷ []))) ∷ (NamedExpr (Name (codes "c") Store) (Constant (Values.Int 1))) ∷ []))) (codes "{**(a or b), (yield): (c := 1)}") ∷
     row At.Value (ListOf no_exprs Load) (codes "[]") ∷
     row At.Value (Dict no_optional no_exprs) (codes "{}") ∷ [])
-unfolding written fit reaches leads digits
+unfolding written fit reaches leads decimal_text
 displays = refl
 
 -- Yields, lambdas and comprehensions.
@@ -173,5 +184,5 @@ clauses : AreWritten (
     row At.Value (SetComp (Yield absent) (a_comprehension (Name (codes "x") Store) y no_exprs false no_comprehension)) (codes "{(yield) for x in y}") ∷
     row At.Value (ListComp x (a_comprehension (Attribute x (codes "a") Store) (IfExp b a c) no_exprs true (a_comprehension (Subscript y (Constant (Values.Int 0)) Store) d (exprs ((Lambda (arguments no_arg no_arg absent_arg no_arg no_optional absent_arg no_exprs) x) ∷ [])) false no_comprehension))) (codes "[x async for x.a in (a if b else c) for y[0] in d if (lambda: x)]") ∷
     row At.Atom (GeneratorExp (Tuple (exprs (a ∷ b ∷ [])) Load) (a_comprehension (Name (codes "a") Store) b no_exprs false no_comprehension)) (codes "((a, b) for a in b)") ∷ [])
-unfolding written fit reaches leads digits
+unfolding written fit reaches leads decimal_text
 clauses = refl

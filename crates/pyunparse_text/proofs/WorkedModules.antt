@@ -3,7 +3,7 @@
 -- Carries: no contract; its rows are computed as it is checked.
 use Rattle.std.proofs.Common.{◌≡◌, refl, List, [], ◌∷◌, map, Option, Some, None, true, false, ℕ}
 use Rattle.std.specs.Prelude.{codes}
-use Rattle.std.specs.Fmt.{digits}
+use Rattle.pynatural.specs.Decimals.{decimal_text}
 use Rattle.pytree_node.specs.declared.operators.Operator.TheVariants as Bin
 use Rattle.pytree_node.specs.declared.operators.Context.TheVariants.{Load, Store, Del}
 use Rattle.pytree_node.specs.Values
@@ -86,7 +86,7 @@ assignments : AreWritten (
     [])
     (codes "x += yield\nx -= 1\nx *= 1\nx @= y\nx /= 1\nx %= 1\nx &= 1\nx |= 1\nx ^= 1\nx <<= 1\nx >>= 1\nx **= 2\nx //= y, z\n") ∷
     [])
-unfolding lines_of written fit reaches leads digits
+unfolding lines_of written fit reaches leads decimal_text
 assignments = refl
 
 -- Other simple statements.
@@ -116,7 +116,7 @@ simples : AreWritten (
     [])
     (codes "global a, b\nnonlocal a\nf(x)\nyield\nawait x\n(a := 1)\n") ∷
     [])
-unfolding lines_of written fit reaches leads digits
+unfolding lines_of written fit reaches leads decimal_text
 simples = refl
 
 -- Imports.
@@ -134,7 +134,7 @@ imports : AreWritten (
     [])
     (codes "from . import b\nfrom .. import b as c, d\nfrom ...a.b import c\nfrom .....x import y\nfrom .... import *\nfrom a.b import *\nfrom .a import b\n") ∷
     [])
-unfolding lines_of written fit reaches leads digits
+unfolding lines_of written fit reaches leads decimal_text
 imports = refl
 
 -- `if` and the loops.
@@ -154,7 +154,7 @@ choices : AreWritten (
     row ((AsyncFor (Name (codes "x") Store) y (stmts ((ExprOf z) ∷ [])) no_stmt) ∷ [])
     (codes "async for x in y:\n    z\n") ∷
     [])
-unfolding lines_of written fit reaches leads digits
+unfolding lines_of written fit reaches leads decimal_text
 choices = refl
 
 -- `with`, and the brackets that would be read as its own.
@@ -182,7 +182,7 @@ items : AreWritten (
     row ((With ((item (Tuple no_exprs Load) None) ∷ []) (stmts ((ExprOf a) ∷ []))) ∷ [])
     (codes "with ():\n    a\n") ∷
     [])
-unfolding lines_of written fit reaches leads digits
+unfolding lines_of written fit reaches leads decimal_text
 items = refl
 
 -- `try`.
@@ -196,7 +196,7 @@ tries : AreWritten (
     row ((TryStar (stmts ((ExprOf a) ∷ [])) (a_handler (Some b) (Some (codes "c")) (stmts ((ExprOf d) ∷ [])) (a_handler (Some (Tuple (exprs (b ∷ c ∷ [])) Load)) None (stmts ((ExprOf e) ∷ [])) no_handler)) no_stmt no_stmt) ∷ [])
     (codes "try:\n    a\nexcept *b as c:\n    d\nexcept *(b, c):\n    e\n") ∷
     [])
-unfolding lines_of written fit reaches leads digits
+unfolding lines_of written fit reaches leads decimal_text
 tries = refl
 
 -- Definitions.
@@ -216,7 +216,7 @@ definitions : AreWritten (
     row ((ClassDef (codes "A") ((GeneratorExp x (a_comprehension (Name (codes "x") Store) y no_exprs false no_comprehension)) ∷ []) no_keyword (stmts (Pass ∷ [])) [] []) ∷ [])
     (codes "class A((x for x in y)):\n    pass\n") ∷
     [])
-unfolding lines_of written fit reaches leads digits
+unfolding lines_of written fit reaches leads decimal_text
 definitions = refl
 
 -- Types of Python 3.12.
@@ -230,5 +230,5 @@ types : AreWritten (
     row ((TypeAlias (Name (codes "X") Store) [] (Lambda (arguments no_arg no_arg absent_arg no_arg no_optional absent_arg no_exprs) (Constant (Values.Int 0)))) ∷ [])
     (codes "type X = lambda: 0\n") ∷
     [])
-unfolding lines_of written fit reaches leads digits
+unfolding lines_of written fit reaches leads decimal_text
 types = refl

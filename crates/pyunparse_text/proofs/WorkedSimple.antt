@@ -3,7 +3,7 @@
 -- Carries: no contract; its rows are computed as it is checked. On: WorkedRows.
 use Rattle.std.proofs.Common.{refl, [], ◌∷◌, Some, None, true, false}
 use Rattle.std.specs.Prelude.{codes}
-use Rattle.std.specs.Fmt.{digits}
+use Rattle.pynatural.specs.Decimals.{decimal_text}
 use Rattle.pytree_node.specs.declared.operators.Operator.TheVariants as Bin
 use Rattle.pytree_node.specs.declared.operators.Context.TheVariants.{Load, Store, Del}
 use Rattle.pytree_node.specs.Values
@@ -28,7 +28,7 @@ assignments : AreWritten (
     row (AnnAssign (Attribute a (codes "b") Store) c None false ∷ []) (codes "a.b: c" ∷ []) ∷
     row (AugAssign (Attribute a (codes "b") Store) Bin.Sub (Constant (Values.Int 1)) ∷ AugAssign (Name (codes "a") Store) Bin.Mult (Constant (Values.Int 1)) ∷ AugAssign (Subscript a (Constant (Values.Int 0)) Store) Bin.MatMult (Tuple (exprs (b ∷ c ∷ [])) Load) ∷ AugAssign (Name (codes "a") Store) Bin.Div (Constant (Values.Int 1)) ∷ AugAssign (Name (codes "a") Store) Bin.Mod (Constant (Values.Int 1)) ∷ AugAssign (Name (codes "a") Store) Bin.BitAnd (Constant (Values.Int 1)) ∷ []) (codes "a.b -= 1" ∷ codes "a *= 1" ∷ codes "a[0] @= b, c" ∷ codes "a /= 1" ∷ codes "a %= 1" ∷ codes "a &= 1" ∷ []) ∷
     row (AugAssign (Name (codes "a") Store) Bin.BitOr (Constant (Values.Int 1)) ∷ AugAssign (Name (codes "a") Store) Bin.BitXor (Constant (Values.Int 1)) ∷ AugAssign (Name (codes "a") Store) Bin.LShift (Constant (Values.Int 1)) ∷ AugAssign (Name (codes "a") Store) Bin.RShift (Constant (Values.Int 1)) ∷ AugAssign (Name (codes "a") Store) Bin.Pow (Constant (Values.Int 2)) ∷ AugAssign (Name (codes "a") Store) Bin.FloorDiv b ∷ []) (codes "a |= 1" ∷ codes "a ^= 1" ∷ codes "a <<= 1" ∷ codes "a >>= 1" ∷ codes "a **= 2" ∷ codes "a //= b" ∷ []) ∷ [])
-unfolding lines_of statement_lines alternative clause handler_lines written fit reaches leads digits
+unfolding lines_of statement_lines alternative clause handler_lines written fit reaches leads decimal_text
 assignments = refl
 
 -- Imports: three dots are one token, and dots keep close to one another and to the module.
@@ -39,7 +39,7 @@ imports : AreWritten (
     row (ImportFrom None (alias (codes "a") None ∷ []) 5 ∷ []) (codes "from ..... import a" ∷ []) ∷
     row (ImportFrom None (alias (codes "a") None ∷ []) 6 ∷ []) (codes "from ...... import a" ∷ []) ∷
     row (ImportFrom (Some (codes "a.b")) (alias (codes "*") None ∷ []) 7 ∷ []) (codes "from .......a.b import *" ∷ []) ∷ [])
-unfolding lines_of statement_lines alternative clause handler_lines written fit reaches leads digits
+unfolding lines_of statement_lines alternative clause handler_lines written fit reaches leads decimal_text
 imports = refl
 
 -- The others.
@@ -54,5 +54,5 @@ others : AreWritten (
     row (Delete ((Name (codes "a") Del) ∷ []) ∷ []) (codes "del a" ∷ []) ∷
     row (Delete ((Name (codes "a") Del) ∷ (Attribute b (codes "c") Del) ∷ (Tuple (exprs ((Name (codes "d") Del) ∷ (ListOf (exprs ((Name (codes "e") Del) ∷ [])) Del) ∷ [])) Del) ∷ (Subscript f (Constant (Values.Int 0)) Del) ∷ []) ∷ []) (codes "del a, b.c, (d, [e]), f[0]" ∷ []) ∷
     row (Delete ((Tuple no_exprs Del) ∷ []) ∷ []) (codes "del ()" ∷ []) ∷ [])
-unfolding lines_of statement_lines alternative clause handler_lines written fit reaches leads digits
+unfolding lines_of statement_lines alternative clause handler_lines written fit reaches leads decimal_text
 others = refl

@@ -4,7 +4,7 @@
 -- Carries: no contract; its rows are computed as it is checked. On: WorkedRows.
 use Rattle.std.proofs.Common.{refl, [], ◌∷◌, Some, None}
 use Rattle.std.specs.Prelude.{codes}
-use Rattle.std.specs.Fmt.{digits}
+use Rattle.pynatural.specs.Decimals.{decimal_text}
 use Rattle.pytree_node.specs.declared.operators.Context.TheVariants.{Load, Store}
 use Rattle.pytree_node.specs.Values
 use Rattle.pytree_node.specs.Trees.{Lambda, IfExp, Call, Constant, Subscript, Starred, Name, Tuple, exprs, no_exprs, present, no_optional, arg, args, no_arg, absent_arg, present_arg, arguments, no_keyword, a_keyword, FunctionDef, AsyncFunctionDef, ClassDef, Return, Assign, TypeAlias, ExprOf, Pass, stmts, TypeVar, ParamSpec, TypeVarTuple}
@@ -26,5 +26,5 @@ types : AreWritten (
     row (ClassDef (codes "A") (b ∷ []) (a_keyword (Some (codes "k")) d no_keyword) (stmts (ExprOf e ∷ [])) [] (TypeVar (codes "T") (Some (IfExp b a c)) ∷ []) ∷ []) (codes "class A[T: a if b else c](b, k=d):" ∷ codes "    e" ∷ []) ∷
     row (Assign ((Name (codes "type") Store) ∷ []) (Constant (Values.Int 1)) ∷ []) (codes "type = 1" ∷ []) ∷
     row (ExprOf (Call (Name (codes "type") Load) (exprs (a ∷ [])) no_keyword) ∷ []) (codes "type(a)" ∷ []) ∷ [])
-unfolding lines_of statement_lines alternative clause handler_lines written fit reaches leads digits
+unfolding lines_of statement_lines alternative clause handler_lines written fit reaches leads decimal_text
 types = refl

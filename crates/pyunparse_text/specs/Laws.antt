@@ -1,13 +1,14 @@
 -- What holds of what a tree is written in.
-use Rattle.std.specs.Prelude.{◌≡◌, ◌+◌, ◌≤◌, ◌↔◌, List, [], ◌∷◌, ◌++◌, length, Bool, true, false, ℕ, All}
+use Rattle.std.specs.Prelude.{◌≡◌, ◌+◌, ◌≤◌, ◌↔◌, List, [], ◌∷◌, ◌++◌, length, Bool, true, false, ℕ, All, None}
 use Rattle.std.specs.Str.{all_scalars, encode_utf8_all}
 use Rattle.pylex.specs.Listing.{Source, in_characters}
 use Rattle.pylex.specs.Laws.{IsLawful}
+use Rattle.pytree_node.specs.declared.profiles.Extent.{Extent}
 use Rattle.pytree_node.specs.declared.profiles.Profile.{Profile}
 use Rattle.pytree_node.specs.Trees.{Expr, Exprs, Keywords, Arguments, Module}
 use Rattle.pytoken.specs.Tokens as Tokens
 use Rattle.pytoken.specs.SourceTokens.{IsOfSource}
-use Rattle.pytoken.specs.Terminals.{Terminal, Gives}
+use Rattle.pytoken.specs.Terminals.{Terminal, Gives, fault_of}
 use Rattle.pytree_height.specs.Heights.{height, expression_height, statement_height}
 use Rattle.pygrammar.specs.declared.levels.Level.{Level}
 use Rattle.pygrammar.specs.declared.levels.Level.TheVariants.{Stars, Expression, Primary, Atom, Named}
@@ -84,26 +85,29 @@ pub record WritingIsShortest : Type 0 where
 
 -- ---- Pieces.
 
--- pieces give terminals one by one: each is what its type says, has no fault, and is the terminal
-pub data Give : List Piece → List Terminal → Type 0 where
-  give_none : Give [] []
-  give : {p : Piece} {ps : List Piece} {t : Terminal} {ts : List Terminal} → Gives p.kind p.text t → Give ps ts → Give (p ∷ ps) (t ∷ ts)
+-- In an extent of the language pieces give terminals one by one: each is what its type says, is the terminal, and has no fault, in that extent either.
+pub data Give (extent : Extent) : List Piece → List Terminal → Type 0 where
+  give_none : Give extent [] []
+  give : {p : Piece} {ps : List Piece} {t : Terminal} {ts : List Terminal} → Gives p.kind p.text t → fault_of extent p.kind p.text ≡ None
+      → Give extent ps ts → Give extent (p ∷ ps) (t ∷ ts)
 
--- a terminal of some token of Unicode characters that has no fault
-pub record IsOfToken (t : Terminal) : Type 0 where
+-- a terminal of some token of Unicode characters that has no fault, in an extent of the language either
+pub record IsOfToken (extent : Extent) (t : Terminal) : Type 0 where
   pub kind : Kind
   pub text : List ℕ
   pub characters : all_scalars text ≡ true
   pub gives : Gives kind text t
+  pub faultless : fault_of extent kind text ≡ None
 
 -- Pieces give these terminals, and are a line that is read back: those that touch are told apart, and brackets are closed.
-pub record AreRead (ps : List Piece) (ts : List Terminal) : Type 0 where
-  pub give : Give ps ts
+pub record AreRead (extent : Extent) (ps : List Piece) (ts : List Terminal) : Type 0 where
+  pub give : Give extent ps ts
   pub line : (level : ℕ) → is_written (record { level = level; pieces = ps }) ≡ true
 
 -- what is written for an expression that the grammar gives to some tokens
 abbrev pub ExpressionsAreRead : Type 0
-ExpressionsAreRead = (l : Level) (ts : List Terminal) (e : Expr) → All IsOfToken ts → Derives l ts e → AreRead (pieces l e) (terminals l e)
+ExpressionsAreRead = (extent : Extent) (l : Level) (ts : List Terminal) (e : Expr) → All (IsOfToken extent) ts → Derives l ts e
+    → AreRead extent (pieces l e) (terminals l e)
 
 -- ---- Modules.
 
@@ -150,24 +154,25 @@ LineBracketsAreWithinHeight = (m : Module) → All (λ w. brackets w.tokens ≤ 
 
 -- ---- Modules as text.
 
--- terminals of tokens of Unicode characters that have no fault
-abbrev pub AreOfTokens : WrittenLine Terminal → Type 0
-AreOfTokens w = All IsOfToken w.tokens
+-- terminals of tokens of Unicode characters that have no fault, in an extent of the language either
+abbrev pub AreOfTokens : Extent → WrittenLine Terminal → Type 0
+AreOfTokens extent w = All (IsOfToken extent) w.tokens
 
 -- lines of pieces give lines of terminals, each at its level
-pub data GiveLines : List (WrittenLine Piece) → List (WrittenLine Terminal) → Type 0 where
-  no_line : GiveLines [] []
+pub data GiveLines (extent : Extent) : List (WrittenLine Piece) → List (WrittenLine Terminal) → Type 0 where
+  no_line : GiveLines extent [] []
   a_line : {l : ℕ} {ps : List Piece} {ts : List Terminal} {rs : List (WrittenLine Piece)} {qs : List (WrittenLine Terminal)}
-      → Give ps ts → GiveLines rs qs → GiveLines (written_line l ps ∷ rs) (written_line l ts ∷ qs)
+      → Give extent ps ts → GiveLines extent rs qs → GiveLines extent (written_line l ps ∷ rs) (written_line l ts ∷ qs)
 
 -- The lines of a module are read back, and give its lines of terminals.
-pub record ModuleIsRead (m : Module) : Type 0 where
+pub record ModuleIsRead (extent : Extent) (m : Module) : Type 0 where
   pub written : are_written (piece_lines m) ≡ true
-  pub give : GiveLines (module_lines piece m) (terminal_lines m)
+  pub give : GiveLines extent (module_lines piece m) (terminal_lines m)
 
 -- so are the lines of a module that some lines of tokens give
 abbrev pub ModulesAreRead : Type 0
-ModulesAreRead = (profile : Profile) (ws : List (WrittenLine Terminal)) (m : Module) → AreModule profile ws m → All AreOfTokens ws → ModuleIsRead m
+ModulesAreRead = (profile : Profile) (ws : List (WrittenLine Terminal)) (m : Module) → AreModule profile ws m → All (AreOfTokens profile.extent) ws
+    → ModuleIsRead profile.extent m
 
 -- The UTF-8 of a module's text is a source in UTF-8, without a mark, a cookie or a fault, whose tokens and lines are the module's pieces; it is
 -- accepted as this module, and as no other.
@@ -178,7 +183,7 @@ pub record TextIsAccepted (profile : Profile) (m : Module) : Type 0 where
 
 -- The law of source text: a module that some lines of tokens give, and that is no higher than 500, is the one that its own text gives.
 abbrev pub ModuleTextsAreAccepted : Type 0
-ModuleTextsAreAccepted = (profile : Profile) (ws : List (WrittenLine Terminal)) (m : Module) → AreModule profile ws m → All AreOfTokens ws
+ModuleTextsAreAccepted = (profile : Profile) (ws : List (WrittenLine Terminal)) (m : Module) → AreModule profile ws m → All (AreOfTokens profile.extent) ws
     → expression_height m ≤ 500 → statement_height m ≤ 500 → TextIsAccepted profile m
 
 -- the lines of a source as the grammar reads them
@@ -186,9 +191,13 @@ abbrev pub source_lines : List Tokens.Line → List (WrittenLine Terminal)
 source_lines [] = []
 source_lines (x ∷ xs) = written_line x.level (Refusals.terminals x) ∷ source_lines xs
 
--- lines of tokens as a source can have them are such lines of terminals
+-- a token as a source can have it that has no fault in an extent of the language
+abbrev pub IsOfSourceIn : Extent → Tokens.Token → Type 0
+IsOfSourceIn extent t = IsOfSource t × (fault_of extent t.kind t.text ≡ None)
+
+-- lines of such tokens are such lines of terminals
 abbrev pub TokensAreOfTokens : Type 0
-TokensAreOfTokens = (xs : List Tokens.Line) → All (λ (x : Tokens.Line). All IsOfSource x.tokens) xs → All AreOfTokens (source_lines xs)
+TokensAreOfTokens = (extent : Extent) (xs : List Tokens.Line) → All (λ (x : Tokens.Line). All (IsOfSourceIn extent) x.tokens) xs → All (AreOfTokens extent) (source_lines xs)
 
 -- So a module that a source is accepted as is the one that its own text is accepted as.
 abbrev pub AcceptedTextsAreAccepted : Type 0

@@ -1,16 +1,25 @@
 -- The pieces that an expression is written in: the types and texts of its tokens, and how close they keep to their neighbours.
-use Rattle.std.specs.Prelude.{ℕ, List, [], ◌∷◌, decimal, true, false}
+use Rattle.std.specs.Prelude.{ℕ, List, [], ◌∷◌, true, false}
+use Rattle.pynatural.specs.Decimals.{decimal_text}
+use Rattle.pyfloat.specs.FloatTexts.{float_source, imaginary_source}
 use Rattle.pysource.specs.Reprs.{repr_chars, repr_bytes}
 use Rattle.pylex_lexeme.specs.Operators.{exact_text}
 use Rattle.pylex.specs.declared.kind.Kind.{Kind}
 use Rattle.pylex.specs.declared.kind.Kind.TheVariants as kinds
-use Rattle.pytree_node.specs.Values.{Value, Str, Bytes}
+use Rattle.pytree_node.specs.Values.{Value, Int, Float, Imaginary, Str, Bytes}
 use Rattle.pytree_node.specs.Trees.{Expr}
 use Rattle.pytoken.specs.Keywords.{spelling_of}
-use Rattle.pytoken.specs.Terminals.{Terminal, Op, Word, Ident, Whole, Literal, Layout}
+use Rattle.pytoken.specs.Terminals.{Terminal, Op, Word, Ident, Number, Literal, Layout}
 use Rattle.pygrammar.specs.declared.levels.Level.{Level}
 use Rattle.pyunparse_text.specs.Spacing.{Piece}
 use Rattle.pyunparse_text.specs.Written.{Maker, written}
+
+-- how a number is written: a whole one in decimal, a float as the shortest decimal that reads back as it, an imaginary one with a `j` behind (2.4.4 to 2.4.7)
+abbrev pub number_text : Value → List ℕ
+number_text (Int n) = decimal_text n
+number_text (Float x) = float_source x
+number_text (Imaginary x) = imaginary_source x
+number_text _ = []
 
 -- how the value of one STRING is written: by its repr, a text of the kind u with `u` before it (2.4.1)
 abbrev pub literal_text : Value → List ℕ
@@ -24,7 +33,7 @@ abbrev pub kind_of : Terminal → Kind
 kind_of (Op x) = kinds.Op
 kind_of (Word k) = kinds.Name
 kind_of (Ident x) = kinds.Name
-kind_of (Whole n) = kinds.Number
+kind_of (Number v) = kinds.Number
 kind_of (Literal v) = kinds.String
 kind_of Layout = kinds.Newline
 
@@ -32,7 +41,7 @@ abbrev pub text_of : Terminal → List ℕ
 text_of (Op x) = exact_text x
 text_of (Word k) = spelling_of k
 text_of (Ident x) = x.spelling
-text_of (Whole n) = decimal n
+text_of (Number v) = number_text v
 text_of (Literal v) = literal_text v
 text_of Layout = []
 

@@ -5,8 +5,8 @@ use Rattle.std.specs.Str.{bytes_eq}
 use Rattle.pylex_lexeme.specs.Characters.{line_feed, space}
 use Rattle.pylex.specs.declared.kind.Kind.{Kind}
 use Rattle.pylex.specs.declared.kind.Kind.TheVariants as kinds
-use Rattle.pylex_lexeme.specs.Chars.{is_comment_part}
-use Rattle.pylex_lexeme.specs.Numbers.{is_zero, is_one_to_nine, is_decimal_digit, is_nil, headed}
+use Rattle.pylex_lexeme.specs.Chars.{begins, is_comment_part}
+use Rattle.pylex_lexeme.specs.Numbers.{is_decimal_digit, is_number}
 use Rattle.pylex_lexeme.specs.Strings.{is_single_string}
 use Rattle.pylex_lexeme.specs.Operators.{operators, is_operator}
 use Rattle.pylex_lexeme.specs.Lexemes.{is_name}
@@ -26,14 +26,11 @@ abbrev pub is_operator_kind : Kind → Bool
 is_operator_kind kinds.Op = true
 is_operator_kind _ = false
 
--- a whole number in decimal, without leading zeros
-abbrev pub is_whole : List ℕ → Bool
-is_whole t = headed is_zero is_nil t || headed is_one_to_nine (list_all is_decimal_digit) t
-
--- The text is a token of the kind: a name, a whole number in decimal, a literal in one quote and without line ends, or an operator.
+-- The text is a token of the kind: a name, a number that begins with a digit (as all that are written do: `0.5`, not `.5`), a literal in one quote and
+-- without line ends, or an operator.
 abbrev pub is_token : Kind → List ℕ → Bool
 is_token kinds.Name t = is_name t
-is_token kinds.Number t = is_whole t
+is_token kinds.Number t = begins is_decimal_digit t && is_number t
 is_token kinds.String t = is_single_string t && list_all is_comment_part t
 is_token kinds.Op t = is_operator t
 is_token _ t = false

@@ -7,6 +7,7 @@ use Rattle.pysource.specs.Sources.{source_of}
 use Rattle.pylex.specs.Listing.{in_characters}
 use Rattle.pyunparse_text.specs.Spacing.{Line, lines_text}
 use Rattle.pyunparse_text.specs.Tokens.{tokens_behind, opens_within, are_written, IsListedAs, unplaced, unplaced_line, token_line}
+use Rattle.pytree_node.specs.declared.profiles.Extent.{Extent}
 use Rattle.pytoken.specs.Terminals.{fault_of}
 use Rattle.pytoken.specs.Tokens.{tokens, lines}
 use Rattle.pytoken.specs.Refusals.{most_brackets, refusal}
@@ -26,11 +27,12 @@ pub record ReadsBack (bytes : List ℕ) (ls : List Line) : Type 0 where
 abbrev pub WrittenIsRead : Type 0
 WrittenIsRead = (ls : List Line) → are_written ls ≡ true → ReadsBack (encode_utf8_all (lines_text ls)) ls
 
--- No piece of a line has a fault, and no more brackets are open at once than may be.
-pub record IsClear (l : Line) : Type 0 where
-  pub faultless : All (λ p. fault_of p.kind p.text ≡ None) l.pieces
+-- No piece of a line has a fault in an extent of the language, and no more brackets are open at once than may be.
+pub record IsClear (extent : Extent) (l : Line) : Type 0 where
+  pub faultless : All (λ p. fault_of extent p.kind p.text ≡ None) l.pieces
   pub shallow : opens_within most_brackets 0 l.pieces ≡ true
 
--- What such lines are read back as isn't refused for its tokens.
+-- What such lines are read back as isn't refused for its tokens in that extent.
 abbrev pub WrittenIsClear : Type 0
-WrittenIsClear = (ls : List Line) → are_written ls ≡ true → All IsClear ls → (back : ReadsBack (encode_utf8_all (lines_text ls)) ls) → refusal (in_characters back.parts) ≡ None
+WrittenIsClear = (extent : Extent) (ls : List Line) → are_written ls ≡ true → All (IsClear extent) ls → (back : ReadsBack (encode_utf8_all (lines_text ls)) ls)
+    → refusal extent (in_characters back.parts) ≡ None

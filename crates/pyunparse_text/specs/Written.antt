@@ -12,7 +12,7 @@ use Rattle.pygrammar.specs.declared.levels.Level.TheVariants.{Value, Stars, Star
 use Rattle.pytree_node.specs.Values
 use Rattle.pytree_node.specs.Trees
 use Rattle.pytree_node.specs.Trees.{Expr, Exprs, no_exprs, an_expr, OptionalExpr, absent, present, OptionalExprs, no_optional, an_optional, Comprehensions, no_comprehension, a_comprehension, Keywords, no_keyword, a_keyword, arg, Args, no_arg, an_arg, OptionalArg, absent_arg, present_arg, Arguments, arguments}
-use Rattle.pytoken.specs.Terminals.{Terminal, Op, Word, in_form, Whole, Literal}
+use Rattle.pytoken.specs.Terminals.{Terminal, Op, Word, in_form, Number, Literal}
 use Rattle.pygrammar.specs.Operators.{below, chain_level, chain_word}
 use Rattle.pyunparse_text.specs.Levels.{reaches, operator_level, left_level, right_level, operator_sign, unary_level, unary_sign, comparison_signs}
 
@@ -71,7 +71,9 @@ is_sign (Op x) = true
 is_sign _ = false
 
 abbrev pub constant_terminal : Values.Value → Terminal
-constant_terminal (Values.Int n) = Whole n
+constant_terminal (Values.Int n) = Number (Values.Int n)
+constant_terminal (Values.Float x) = Number (Values.Float x)
+constant_terminal (Values.Imaginary x) = Number (Values.Imaginary x)
 constant_terminal (Values.Bool true) = Word Key.True
 constant_terminal (Values.Bool false) = Word Key.False
 constant_terminal Values.None = Word Key.None

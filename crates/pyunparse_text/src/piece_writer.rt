@@ -54,6 +54,10 @@ impl Writer for PieceWriter {
 
     ghost after = { λ ts p. ts ++ token_of p ∷ [] };
 
+    fn alloc(&self) -> Global {
+        self.alloc
+    }
+
     fn put(&mut self, kind: Kind, text: &str, _: bool, _: bool) -> Result<(), AllocError> {
         let text = String::from_str(self.alloc, text)?;
         self.pieces.push(Piece { kind, text })?;

@@ -222,6 +222,10 @@ impl Writer for TextWriter {
 
     ghost after = { writing.behind };
 
+    fn alloc(&self) -> Global {
+        *self.text.allocator()
+    }
+
     fn put(
         &mut self,
         kind: Kind,

@@ -9,12 +9,15 @@ ghost use Rattle.pyunparse_text.specs.Folds.{in_utf8};
 ghost use Rattle.pyunparse_text.specs.Pieces.{piece};
 
 use pylex::Kind;
-use std::alloc::AllocError;
+use std::alloc::{AllocError, Global};
 
 /// What tokens are written into, one after another: a text, or a list.
 pub trait Writer {
     // The writer after a token, whose text is given in UTF-8.
     ghost after: { Self → Piece → Self };
+
+    /// The allocator that its memory is from.
+    fn alloc(&self) -> Global;
 
     /// Writes a token that keeps close to its neighbours, or doesn't.
     fn put(&mut self, kind: Kind, text: &str, before: bool, behind: bool) -> Result<(), AllocError>

@@ -13,6 +13,7 @@ use Rattle.pygrammar.specs.Arguments.{positional, keywords}
 use Rattle.pygrammar.specs.Targets.{deleted, all_deleted, single_stored}
 use Rattle.pygrammar.specs.Grammar as G
 use Rattle.pygrammar.specs.ArgumentLists.{IsArranged, AreArguments}
+use Rattle.pytree_fits.specs.Tests.{Tests}
 use Rattle.pytree_fits.specs.Slots.{is_context, is_starred, is_single, fits_at, fits_target, each_target_fits, each_fits, each_keyword_fits, fits_arguments, arg_fits, each_arg_fits, perhaps_arg_fits}
 use Rattle.pytree_fits.specs.Given.{all_pass}
 use Rattle.pytree_fits.proofs.Fields.AsSpelled.{all_as_spelled, GivenAsSpelled, all_passing}
@@ -32,7 +33,7 @@ use Rattle.pytree_fits.proofs.Giving.Gives.{made, aim, each, keys, labelled}
 pub fits_exactly : FitsExactly
 fits_exactly n l e = (λ w. slots n w.2 w.1, λ h. let w = made n l e h in (w.0, all_passing n w.0 w.1, w.2))
 
-module _ (n : Identifier → Bool) where
+module _ (n : Tests) where
   -- ---- Targets.
 
   pub target_given : (s : Expr) → fits_target n Store s ≡ true → GivenAsSpelled n G.Target s
@@ -45,15 +46,15 @@ module _ (n : Identifier → Bool) where
   single_from e s h f = let u = made n Primary e f in (u.0, u.1, G.single_target u.2 h)
 
   pub single_given : (s : Expr) → (is_single s && fits_target n Store s) ≡ true → GivenAsSpelled n G.SingleTarget s
-  single_given (Trees.Name x c) h = let w = and_parts (is_context Store c) (n x) h in in_context (λ k. GivenAsSpelled n G.SingleTarget (Trees.Name x k)) Store c w.0 (single_from (Trees.Name x Load) (Trees.Name x Store) refl w.1)
-  single_given (Trees.Attribute e x c) h = let w = parts3 (is_context Store c) (n x) (fits_at n Expression e) h in in_context (λ k. GivenAsSpelled n G.SingleTarget (Trees.Attribute e x k)) Store c w.0 (single_from (Trees.Attribute e x Load) (Trees.Attribute e x Store) refl (and_from (n x) (fits_at n Expression e) w.1 w.2))
+  single_given (Trees.Name x c) h = let w = and_parts (is_context Store c) (n.name x) h in in_context (λ k. GivenAsSpelled n G.SingleTarget (Trees.Name x k)) Store c w.0 (single_from (Trees.Name x Load) (Trees.Name x Store) refl w.1)
+  single_given (Trees.Attribute e x c) h = let w = parts3 (is_context Store c) (n.name x) (fits_at n Expression e) h in in_context (λ k. GivenAsSpelled n G.SingleTarget (Trees.Attribute e x k)) Store c w.0 (single_from (Trees.Attribute e x Load) (Trees.Attribute e x Store) refl (and_from (n.name x) (fits_at n Expression e) w.1 w.2))
   single_given (Trees.Subscript e i c) h = let w = parts3 (is_context Store c) (fits_at n Expression e) (fits_at n Slices i) h in in_context (λ k. GivenAsSpelled n G.SingleTarget (Trees.Subscript e i k)) Store c w.0 (single_from (Trees.Subscript e i Load) (Trees.Subscript e i Store) refl (and_from (fits_at n Expression e) (fits_at n Slices i) w.1 w.2))
   single_given _ h = absurd (cc)
 
   mutual
     undeleted : (s : Expr) → fits_target n Del s ≡ true → (t : Expr) × (deleted t ≡ Some s) × (fits_at n Expression t ≡ true)
-    undeleted (Trees.Name x c) h = let w = and_parts (is_context Del c) (n x) h in in_context (λ k. (t : Expr) × (deleted t ≡ Some (Trees.Name x k)) × (fits_at n Expression t ≡ true)) Del c w.0 (Trees.Name x Load, refl, w.1)
-    undeleted (Trees.Attribute e x c) h = let w = parts3 (is_context Del c) (n x) (fits_at n Expression e) h in in_context (λ k. (t : Expr) × (deleted t ≡ Some (Trees.Attribute e x k)) × (fits_at n Expression t ≡ true)) Del c w.0 (Trees.Attribute e x Load, refl, and_from (n x) (fits_at n Expression e) w.1 w.2)
+    undeleted (Trees.Name x c) h = let w = and_parts (is_context Del c) (n.name x) h in in_context (λ k. (t : Expr) × (deleted t ≡ Some (Trees.Name x k)) × (fits_at n Expression t ≡ true)) Del c w.0 (Trees.Name x Load, refl, w.1)
+    undeleted (Trees.Attribute e x c) h = let w = parts3 (is_context Del c) (n.name x) (fits_at n Expression e) h in in_context (λ k. (t : Expr) × (deleted t ≡ Some (Trees.Attribute e x k)) × (fits_at n Expression t ≡ true)) Del c w.0 (Trees.Attribute e x Load, refl, and_from (n.name x) (fits_at n Expression e) w.1 w.2)
     undeleted (Trees.Subscript e i c) h = let w = parts3 (is_context Del c) (fits_at n Expression e) (fits_at n Slices i) h in in_context (λ k. (t : Expr) × (deleted t ≡ Some (Trees.Subscript e i k)) × (fits_at n Expression t ≡ true)) Del c w.0 (Trees.Subscript e i Load, refl, and_from (fits_at n Expression e) (fits_at n Slices i) w.1 w.2)
     undeleted (Trees.Tuple es c) h =
         let w = and_parts (is_context Del c) (each_target_fits n Del es) h in
@@ -102,8 +103,8 @@ module _ (n : Identifier → Bool) where
   -- ---- Parameters.
 
   noted_arg : (b : Bool) (a : Arg) → arg_fits n b Expression a ≡ true → ArgMade n b a
-  noted_arg b (arg x absent) h = bare (parts3 (n x) true true h).0
-  noted_arg b (arg x (present e)) h = let w = parts3 (n x) b (fits_at n Expression e) h in noted w.0 w.1 (made n Expression e w.2)
+  noted_arg b (arg x absent) h = bare (parts3 (n.name x) true true h).0
+  noted_arg b (arg x (present e)) h = let w = parts3 (n.name x) b (fits_at n Expression e) h in noted w.0 w.1 (made n Expression e w.2)
 
   noted_args : (b : Bool) (xs : Args) → each_arg_fits n b xs ≡ true → ArgsMade n b xs
   noted_args b no_arg h = no_args
@@ -119,7 +120,7 @@ module _ (n : Identifier → Bool) where
   at_expression (Trees.Tuple es c) q h = h
   at_expression _ q h = h
 
-  star_noted : (b : Bool) (x : Identifier) (e : Expr) → n x ≡ true → b ≡ true → fits_at n StarItem e ≡ true → StarArgMade n b (present_arg (arg x (present e)))
+  star_noted : (b : Bool) (x : Identifier) (e : Expr) → n.name x ≡ true → b ≡ true → fits_at n StarItem e ≡ true → StarArgMade n b (present_arg (arg x (present e)))
   star_noted b x (Trees.Starred e c) p q h =
       let w = and_parts (is_context Load c) (fits_at n Expression e) h in
       in_context (λ k. StarArgMade n b (present_arg (arg x (present (Trees.Starred e k))))) Load c w.0 (starred p q (made n Expression e w.1))
@@ -128,8 +129,8 @@ module _ (n : Identifier → Bool) where
 
   star_arg : (b : Bool) (v : OptionalArg) → perhaps_arg_fits n b StarItem v ≡ true → StarArgMade n b v
   star_arg b absent_arg h = unstarred none_made
-  star_arg b (present_arg (arg x absent)) h = unstarred (one_made (bare (parts3 (n x) true true h).0))
-  star_arg b (present_arg (arg x (present e))) h = let w = parts3 (n x) b (fits_at n StarItem e) h in star_noted b x e w.0 w.1 w.2
+  star_arg b (present_arg (arg x absent)) h = unstarred (one_made (bare (parts3 (n.name x) true true h).0))
+  star_arg b (present_arg (arg x (present e))) h = let w = parts3 (n.name x) b (fits_at n StarItem e) h in star_noted b x e w.0 w.1 w.2
 
   pub parameters_given : (b : Bool) (a : Arguments) → fits_arguments n b a ≡ true → GivenAsSpelled n (IsArranged b) a
   parameters_given b (arguments ps qs v ks ds k es) h =

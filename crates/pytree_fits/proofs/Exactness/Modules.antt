@@ -11,6 +11,7 @@ use Rattle.unicode_normalization.specs.Forms.{Nfkc, nfkc}
 use Rattle.unicode_normalization.proofs.FormsLemmas.{normalize-ascii}
 use Rattle.pylex_lexeme.specs.Chars.{starts_name}
 use Rattle.pylex_lexeme.specs.Lexemes as Lexemes
+use Rattle.pytree_node.specs.declared.profiles.Extent.{Extent}
 use Rattle.pytree_node.specs.declared.profiles.Profile.{Profile}
 use Rattle.pytree_node.specs.Trees.{Identifier, Expr, Module, stmts}
 use Rattle.pytoken.specs.Keywords.{keywords, keyword_of}
@@ -23,14 +24,14 @@ use Rattle.pygrammar.specs.Lines.{Line}
 use Rattle.pygrammar.specs.Forms.{FormOf, type_name}
 use Rattle.pygrammar.specs.Blocks.{Block}
 use Rattle.pytree_fits.specs.Names.{is_name}
+use Rattle.pytree_fits.specs.Tests.{tests_in}
 use Rattle.pytree_fits.specs.Slots.{fits_at}
 use Rattle.pytree_fits.specs.Statements.{module_fits}
 use Rattle.pytree_fits.specs.Given.{AreGiven, no_line, a_line, GivenModule, Expressed, HaveForms, no_form, a_form, Stated}
-use Rattle.pytree_fits.specs.Laws.{ExpressionsFitExactly, ModulesFitExactly, SlotsAreLawful}
+use Rattle.pytree_fits.specs.Laws.{ExpressionsFitExactly, ModulesFitExactly}
 use Rattle.pytree_fits.proofs.Fields.AsSpelled.{AreGivenAsSpelled, none_spelled, one_spelled, lines_given}
 use Rattle.pytree_fits.proofs.Fitting.Fits.{slots}
 use Rattle.pytree_fits.proofs.Giving.Gives.{made}
-use Rattle.pytree_fits.proofs.Exactness.Exactly.{fits_exactly, targets_fit_exactly, parameters_fit_exactly, arguments_fit_exactly}
 use Rattle.pytree_fits.proofs.Fields.Dots.{is_other}
 use Rattle.pytree_fits.proofs.Fitting.BlockFits.{block_fits, given_fit}
 use Rattle.pytree_fits.proofs.Giving.BlockGives.{of_stmts_back, drawn_all}
@@ -87,32 +88,32 @@ type_is_name = proper_name type_name (record { name = type_named; free = type_fr
 
 -- ---- Modules by terminals.
 
-pub module_exactly : (profile : Profile) (m : Module) → GivenModule profile is_name m → module_fits profile is_name m ≡ true
-module_exactly profile m w = block_fits profile is_name w.2 (given_fit profile is_name undotted w.1)
+pub module_exactly : (profile : Profile) (extent : Extent) (m : Module) → GivenModule profile (tests_in extent) m → module_fits profile (tests_in extent) m ≡ true
+module_exactly profile extent m w = block_fits profile (tests_in extent) w.2 (given_fit profile (tests_in extent) undotted w.1)
 
-module_as_spelled : (profile : Profile) (m : Module) → module_fits profile is_name m ≡ true → (xs : List Line) × AreGivenAsSpelled profile is_name xs × Block 0 xs m.body
-module_as_spelled profile m h =
-    let d = drawn_all profile is_name type_is_name 0 (stmts m.body) h in
+module_as_spelled : (profile : Profile) (extent : Extent) (m : Module) → module_fits profile (tests_in extent) m ≡ true → (xs : List Line) × AreGivenAsSpelled profile (tests_in extent) xs × Block 0 xs m.body
+module_as_spelled profile extent m h =
+    let d = drawn_all profile (tests_in extent) type_is_name 0 (stmts m.body) h in
     (d.lines, d.given, subst (Block 0 d.lines) (of_stmts_back m.body) d.is)
 
-pub module_given : (profile : Profile) (m : Module) → module_fits profile is_name m ≡ true → GivenModule profile is_name m
-module_given profile m h = let w = module_as_spelled profile m h in (w.0, lines_given is_name w.1, w.2)
+pub module_given : (profile : Profile) (extent : Extent) (m : Module) → module_fits profile (tests_in extent) m ≡ true → GivenModule profile (tests_in extent) m
+module_given profile extent m h = let w = module_as_spelled profile extent m h in (w.0, lines_given (tests_in extent) w.1, w.2)
 
 -- ---- By tokens.
 
-expressed_fits : (l : Level) (e : Expr) → Expressed l e → fits_at is_name l e ≡ true
-expressed_fits l e x = slots is_name x.derived (tokens_pass x.tokens x.sound)
+expressed_fits : (extent : Extent) (l : Level) (e : Expr) → Expressed extent l e → fits_at (tests_in extent) l e ≡ true
+expressed_fits extent l e x = slots (tests_in extent) x.derived (tokens_pass x.tokens x.sound)
 
-fits_expressed : (l : Level) (e : Expr) → fits_at is_name l e ≡ true → Expressed l e
-fits_expressed l e h =
-    let w = made is_name l e h in
-    let t = all_written w.0 w.1 in
-    record { tokens = t.tokens; sound = t.of_source; derived = subst (λ z. Derives l z e) (sym t.terminals) w.2 }
+fits_expressed : (extent : Extent) (l : Level) (e : Expr) → fits_at (tests_in extent) l e ≡ true → Expressed extent l e
+fits_expressed extent l e h =
+    let w = made (tests_in extent) l e h in
+    let t = all_written extent w.0 w.1 in
+    record { tokens = t.tokens; sound = t.sound; derived = subst (λ z. Derives l z e) (sym t.terminals) w.2 }
 
 pub expressions_fit_exactly : ExpressionsFitExactly
-expressions_fit_exactly l e = (expressed_fits l e, fits_expressed l e)
+expressions_fit_exactly extent l e = (expressed_fits extent l e, fits_expressed extent l e)
 
-forms_given : {profile : Profile} {xs : List Tokens.Line} {ys : List Line} → HaveForms profile xs ys → AreGiven profile is_name ys
+forms_given : {profile : Profile} {xs : List Tokens.Line} {ys : List Line} → HaveForms profile xs ys → AreGiven profile (tests_in profile.extent) ys
 forms_given no_form = no_line
 forms_given (a_form {x = x} s f r) = a_line (map (λ (t : Token). terminal_of t.kind t.text) x.tokens, tokens_pass x.tokens s, f) (forms_given r)
 
@@ -120,32 +121,22 @@ record Tokened (profile : Profile) (ys : List Line) : Type 0 where
   lines : List Tokens.Line
   formed : HaveForms profile lines ys
 
-tokened : {profile : Profile} {ys : List Line} → AreGivenAsSpelled profile is_name ys → Tokened profile ys
+tokened : {profile : Profile} {ys : List Line} → AreGivenAsSpelled profile (tests_in profile.extent) ys → Tokened profile ys
 tokened none_spelled = record { lines = []; formed = no_form }
 tokened {profile} (one_spelled {x = y} w r) =
-    let t = all_written w.0 w.1 in
+    let t = all_written profile.extent w.0 w.1 in
     let k = tokened r in
     let x : Tokens.Line = record { level = y.level; tokens = t.tokens } in
-    record { lines = x ∷ k.lines; formed = a_form {x = x} t.of_source (subst (λ z. FormOf profile z y.form) (sym t.terminals) w.2) k.formed }
+    record { lines = x ∷ k.lines; formed = a_form {x = x} t.sound (subst (λ z. FormOf profile z y.form) (sym t.terminals) w.2) k.formed }
 
-stated_fits : (profile : Profile) (m : Module) → Stated profile m → module_fits profile is_name m ≡ true
-stated_fits profile m s = module_exactly profile m (s.forms, forms_given s.formed, s.block)
+stated_fits : (profile : Profile) (m : Module) → Stated profile m → module_fits profile (tests_in profile.extent) m ≡ true
+stated_fits profile m s = module_exactly profile profile.extent m (s.forms, forms_given s.formed, s.block)
 
-fits_stated : (profile : Profile) (m : Module) → module_fits profile is_name m ≡ true → Stated profile m
+fits_stated : (profile : Profile) (m : Module) → module_fits profile (tests_in profile.extent) m ≡ true → Stated profile m
 fits_stated profile m h =
-    let w = module_as_spelled profile m h in
+    let w = module_as_spelled profile profile.extent m h in
     let k = tokened w.1 in
     record { lines = k.lines; forms = w.0; formed = k.formed; block = w.2 }
 
 pub modules_fit_exactly : ModulesFitExactly
 modules_fit_exactly profile m = (stated_fits profile m, fits_stated profile m)
-
-pub slots_are_lawful : SlotsAreLawful
-slots_are_lawful = record {
-  exact = fits_exactly;
-  targets = targets_fit_exactly;
-  parameters = parameters_fit_exactly;
-  arguments = arguments_fit_exactly;
-  expressions = expressions_fit_exactly;
-  modules = modules_fit_exactly;
-}

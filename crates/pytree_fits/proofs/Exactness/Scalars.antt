@@ -1,16 +1,14 @@
--- Carries: the laws by tokens. On: what names and constants are written by,
--- is of Unicode characters.
+-- Carries: the laws by tokens. On: what names, texts and bytes are
+-- written by, is of Unicode characters.
 use Rattle.std.proofs.Common.{◌≡◌, refl, sym, subst, inl, inr, ℕ, zero, suc, ◌+◌, ◌<◌, ◌≤◌, arith, List, [], ◌∷◌, ◌++◌, Bool, true, false, cond}
-use Rattle.std.specs.Prelude.{◌&&◌, ◌||◌, ◌==◌, ◌/◌, ◌%◌, ◌^◌, not, nat_lt, nat_le, All, decimal, if◌then◌else◌}
+use Rattle.std.specs.Prelude.{◌&&◌, ◌||◌, ◌==◌, ◌/◌, ◌%◌, not, nat_lt, nat_le, All, if◌then◌else◌}
 use Rattle.std.specs.List.{list_all, list_any, flat_map}
 use Rattle.std.specs.Char.{digit_char}
 use Rattle.std.specs.Str.{all_scalars}
 use Rattle.std.proofs.Math.Utf8.{scalar}
 use Rattle.std.proofs.lemmas.Bool.{and_parts, and_from, or_cases, both_ways, cases_lt, eqb-true, lt-ltb}
 use Rattle.std.proofs.lemmas.Bool.Decides.{nat_tests}
-use Rattle.std.proofs.lemmas.Fmt.{IsAscii-decimal_wide}
 use Rattle.std.proofs.lemmas.List.Elements.{All-head, All-tail}
-use Rattle.std.proofs.lemmas.Str.Ascii.{All-from_ascii}
 use Rattle.ucd_table.specs.Rows.{Range, in_ranges}
 use Rattle.ucd_derived.specs.Binary.{is_xid_start, is_xid_continue}
 use Rattle.ucd_derived.specs.XidStartRanges.{xid_start_ranges}
@@ -77,17 +75,6 @@ pub name_scalars : (x : List ℕ) → Lexemes.is_name x ≡ true → all_scalars
 unfolding Lexemes.is_name
 name_scalars [] h = absurd (cc)
 name_scalars (c ∷ cs) h = let w = and_parts (starts_name c) (list_all is_xid_continue cs) h in and_from (scalar c) (all_scalars cs) (first_scalar c w.0) (rest_scalars cs w.1)
-
--- ---- Numbers.
-
-ascii_scalars : (cs : List ℕ) → All (λ b. b < 128) cs → all_scalars cs ≡ true
-ascii_scalars [] h = refl
-ascii_scalars (c ∷ cs) h =
-    let small : c < 128 = All-head (λ b. b < 128) c cs h in
-    and_from (scalar c) (all_scalars cs) (low_scalar c (omega (arith, small))) (ascii_scalars cs (All-tail (λ b. b < 128) c cs h))
-
-pub decimal_scalars : (n : ℕ) → n < 2 ^ 128 → all_scalars (decimal n) ≡ true
-decimal_scalars n h = ascii_scalars (decimal n) (All-from_ascii (decimal n) (IsAscii-decimal_wide n (omega (arith, h))))
 
 -- ---- Reprs.
 

@@ -2,16 +2,17 @@
 use Rattle.std.proofs.Common.{◌≡◌, refl, subst, ◌+◌, ◌≤◌, arith, List, [], ◌∷◌, Some, Bool, true, false, cond, option_map}
 use Rattle.std.specs.Prelude.{◌&&◌, eqb, leb}
 use Rattle.std.proofs.lemmas.Bool.{and_parts, and_from, eq-eqb, le-leb, eqb-true, leb-true}
-use Rattle.pytree_node.specs.Trees.{Exprs, OptionalExpr, absent, present, OptionalExprs, Arg, Args, OptionalArg, Arguments, arguments, Identifier}
+use Rattle.pytree_node.specs.Trees.{Exprs, OptionalExpr, absent, present, OptionalExprs, Arg, Args, OptionalArg, Arguments, arguments}
 use Rattle.pygrammar.specs.declared.levels.Level.TheVariants.{StarItem, Expression}
 use Rattle.pygrammar.specs.Entries.{Parameter, Entry, Plain, Slashed, Bare, Gathered, Collected}
 use Rattle.pygrammar.specs.Parameters.{with_kwarg, no_arguments, with_default, add_keyword_only, set_vararg, add_plain, add_before_slash, after_star, at_star, plain_ones, defaulted, before_slash, has_slash, arranged}
+use Rattle.pytree_fits.specs.Tests.{Tests}
 use Rattle.pytree_fits.specs.Slots.{count, count_optional, count_args, fits_at, each_fits, perhaps_fits, each_perhaps_fits, fits_arguments, arg_fits, each_arg_fits, perhaps_arg_fits}
 use Rattle.pytree_fits.proofs.Fields.Tests.{parts3, from3, given, mapped_is}
 use Rattle.pytree_fits.proofs.Fields.Entries.{all_fit}
 
 -- the nine tests of parameters
-pub record Parts (n : Identifier → Bool) (b : Bool) (ps qs : Args) (v : OptionalArg) (ks : Args) (ds : OptionalExprs) (k : OptionalArg) (es : Exprs) : Type 0 where
+pub record Parts (n : Tests) (b : Bool) (ps qs : Args) (v : OptionalArg) (ks : Args) (ds : OptionalExprs) (k : OptionalArg) (es : Exprs) : Type 0 where
   pub before : each_arg_fits n b ps ≡ true
   pub middle : each_arg_fits n b qs ≡ true
   pub star : perhaps_arg_fits n b StarItem v ≡ true
@@ -22,10 +23,10 @@ pub record Parts (n : Identifier → Bool) (b : Bool) (ps qs : Args) (v : Option
   pub few : count es ≤ count_args ps + count_args qs
   pub defaults : each_fits n Expression es ≡ true
 
-abbrev pub PartsOf : (Identifier → Bool) → Bool → Arguments → Type 0
+abbrev pub PartsOf : Tests → Bool → Arguments → Type 0
 PartsOf n b (arguments ps qs v ks ds k es) = Parts n b ps qs v ks ds k es
 
-module _ (n : Identifier → Bool) (b : Bool) where
+module _ (n : Tests) (b : Bool) where
   pub parts_fit : (a : Arguments) → PartsOf n b a → fits_arguments n b a ≡ true
   parts_fit (arguments ps qs v ks ds k es) p =
       let even : Bool = eqb (count_optional ds) (count_args ks) in

@@ -4,21 +4,22 @@ use Rattle.std.specs.Prelude.{◌&&◌, leb}
 use Rattle.std.proofs.lemmas.Bool.{and_parts, and_from, le-leb}
 use Rattle.pytree_node.specs.declared.operators.Context.TheVariants.{Store}
 use Rattle.pytree_node.specs.Trees
-use Rattle.pytree_node.specs.Trees.{Expr, Exprs, Identifier, exprs, Comprehension, comprehensions}
+use Rattle.pytree_node.specs.Trees.{Expr, Exprs, exprs, Comprehension, comprehensions}
 use Rattle.pygrammar.specs.declared.levels.Level.{Level}
 use Rattle.pygrammar.specs.declared.levels.Level.TheVariants.{StarItem, Expression, Primary, Elem}
 use Rattle.pygrammar.specs.Entries.{Item, Of, Pair, Argument, Parameter, Entry, Single, Paired, Spread, Doubled, Keyed, Plain, Slashed, Bare, Gathered, Collected, singles, keys, values}
 use Rattle.pygrammar.specs.Arguments.{called, in_order, positional, keywords}
+use Rattle.pytree_fits.specs.Tests.{Tests}
 use Rattle.pytree_fits.specs.Slots.{count, count_optional, fits_at, fits_target, each_fits, perhaps_fits, each_perhaps_fits, each_keyword_fits, arg_fits}
 use Rattle.pytree_fits.proofs.Fields.Tests.{given, from3}
 
-abbrev pub entry_fits : (Identifier → Bool) → Item → Entry → Bool
+abbrev pub entry_fits : Tests → Item → Entry → Bool
 entry_fits n (Of l) (Single e) = fits_at n l e
 entry_fits n Pair (Paired k e) = fits_at n Expression k && fits_at n Expression e
 entry_fits n Pair (Doubled e) = fits_at n Expression e
 entry_fits n Argument (Single e) = fits_at n Elem e
 entry_fits n Argument (Spread e) = fits_at n Expression e
-entry_fits n Argument (Keyed x e) = n x && fits_at n Expression e
+entry_fits n Argument (Keyed x e) = n.name x && fits_at n Expression e
 entry_fits n Argument (Doubled e) = fits_at n Expression e
 entry_fits n (Parameter b) (Plain a d) = arg_fits n b Expression a && perhaps_fits n Expression d
 entry_fits n (Parameter b) Slashed = true
@@ -27,14 +28,14 @@ entry_fits n (Parameter b) (Gathered a) = arg_fits n b StarItem a
 entry_fits n (Parameter b) (Collected a) = arg_fits n b Expression a
 entry_fits n _ _ = false
 
-abbrev pub all_fit : (Identifier → Bool) → Item → List Entry → Bool
+abbrev pub all_fit : Tests → Item → List Entry → Bool
 all_fit n i [] = true
 all_fit n i (e ∷ es) = entry_fits n i e && all_fit n i es
 
-abbrev pub clause_fits : (Identifier → Bool) → Comprehension → Bool
+abbrev pub clause_fits : Tests → Comprehension → Bool
 clause_fits n g = fits_target n Store g.target && fits_at n Expression g.iter && each_fits n Expression (exprs g.ifs)
 
-module _ (n : Identifier → Bool) where
+module _ (n : Tests) where
   -- lists
   pub singles_fit : (l m : Level) → ((e : Expr) → fits_at n l e ≡ true → fits_at n m e ≡ true) → (es : List Entry) → all_fit n (Of l) es ≡ true → each_fits n m (singles es) ≡ true
   singles_fit l m f [] h = refl
@@ -63,7 +64,7 @@ module _ (n : Identifier → Bool) where
   positional_fit [] h = refl
   positional_fit (Single e ∷ es) h = let w = and_parts (fits_at n Elem e) (all_fit n Argument es) h in and_from (fits_at n Elem e) (each_fits n Elem (positional es)) w.0 (positional_fit es w.1)
   positional_fit (Spread e ∷ es) h = let w = and_parts (fits_at n Expression e) (all_fit n Argument es) h in and_from (fits_at n Expression e) (each_fits n Elem (positional es)) w.0 (positional_fit es w.1)
-  positional_fit (Keyed x e ∷ es) h = positional_fit es (and_parts (n x && fits_at n Expression e) (all_fit n Argument es) h).1
+  positional_fit (Keyed x e ∷ es) h = positional_fit es (and_parts (n.name x && fits_at n Expression e) (all_fit n Argument es) h).1
   positional_fit (Doubled e ∷ es) h = positional_fit es (and_parts (fits_at n Expression e) (all_fit n Argument es) h).1
   positional_fit (_ ∷ es) h = absurd (cc)
 
@@ -72,9 +73,9 @@ module _ (n : Identifier → Bool) where
   keywords_fit (Single e ∷ es) h = keywords_fit es (and_parts (fits_at n Elem e) (all_fit n Argument es) h).1
   keywords_fit (Spread e ∷ es) h = keywords_fit es (and_parts (fits_at n Expression e) (all_fit n Argument es) h).1
   keywords_fit (Keyed x e ∷ es) h =
-      let w = and_parts (n x && fits_at n Expression e) (all_fit n Argument es) h in
-      let u = and_parts (n x) (fits_at n Expression e) w.0 in
-      from3 (n x) (fits_at n Expression e) (each_keyword_fits n (keywords es)) u.0 u.1 (keywords_fit es w.1)
+      let w = and_parts (n.name x && fits_at n Expression e) (all_fit n Argument es) h in
+      let u = and_parts (n.name x) (fits_at n Expression e) w.0 in
+      from3 (n.name x) (fits_at n Expression e) (each_keyword_fits n (keywords es)) u.0 u.1 (keywords_fit es w.1)
   keywords_fit (Doubled e ∷ es) h = let w = and_parts (fits_at n Expression e) (all_fit n Argument es) h in and_from (fits_at n Expression e) (each_keyword_fits n (keywords es)) w.0 (keywords_fit es w.1)
   keywords_fit (_ ∷ es) h = absurd (cc)
 

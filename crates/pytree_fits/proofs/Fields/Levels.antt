@@ -8,11 +8,12 @@ use Rattle.pytree_node.specs.declared.operators.BoolOperator.{BoolOperator}
 use Rattle.pytree_node.specs.declared.operators.BoolOperator.TheVariants as Join
 use Rattle.pytree_node.specs.declared.operators.Context.TheVariants.{Load}
 use Rattle.pytree_node.specs.Trees
-use Rattle.pytree_node.specs.Trees.{Expr, Exprs, no_exprs, an_expr, Identifier}
+use Rattle.pytree_node.specs.Trees.{Expr, Exprs, no_exprs, an_expr}
 use Rattle.pytoken.specs.Terminals.{Terminal}
 use Rattle.pygrammar.specs.declared.levels.Level.{Level}
 use Rattle.pygrammar.specs.declared.levels.Level.TheVariants.{Value, Stars, StarItem, Expression, Not, BitOr, BitXor, BitAnd, Shift, Sum, Term, Factor, Elem, Slices, Part, Slice}
 use Rattle.pygrammar.specs.Operators.{below, left_operator, prefix_operator, chain_level}
+use Rattle.pytree_fits.specs.Tests.{Tests}
 use Rattle.pytree_fits.specs.Slots.{takes_star, takes_slice, member_level, is_context, fits_at, each_fits, perhaps_fits}
 use Rattle.pytree_fits.proofs.Fields.Tests.{parts3, from3, parts4, from4}
 
@@ -73,7 +74,7 @@ left_inner Sum t o h = (refl, refl)
 left_inner Term t o h = (refl, refl)
 left_inner _ t o h = absurd (cc)
 
-module _ (n : Identifier → Bool) where
+module _ (n : Tests) where
   pub elem_part : (e : Expr) → fits_at n Elem e ≡ true → fits_at n Part e ≡ true
   elem_part (Trees.Starred e c) h = h
   elem_part (Trees.Slice a b c) h = absurd (cc)

@@ -8,13 +8,15 @@ use Rattle.pylex_lexeme.specs.declared.kinds.Exact.TheVariants.{Ellipsis}
 use Rattle.pytoken.specs.declared.keywords.Keyword.TheVariants as Key
 use Rattle.pytree_node.specs.declared.operators.Context.{Context}
 use Rattle.pytree_node.specs.declared.operators.Context.TheVariants.{Load, Store, Del}
+use Rattle.pytree_node.specs.declared.profiles.Extent.{Extent}
 use Rattle.pytree_node.specs.Trees
-use Rattle.pytree_node.specs.Trees.{Identifier, Expr, Exprs, an_expr}
+use Rattle.pytree_node.specs.Trees.{Expr, Exprs, an_expr}
 use Rattle.pytree_node.specs.Values
 use Rattle.pytoken.specs.Terminals.{Terminal, Op, Word, Literal}
 use Rattle.pygrammar.specs.Constants.{constant_word, joined}
 use Rattle.pygrammar.specs.Targets.{both, stored}
 use Rattle.pytoken.specs.Laws.{is_point, is_byte}
+use Rattle.pytree_fits.specs.Tests.{Tests}
 use Rattle.pytree_fits.specs.Literals.{is_value}
 use Rattle.pytree_fits.specs.Slots.{is_context}
 use Rattle.pytree_fits.specs.Given.{is_literal, passes, all_pass}
@@ -82,7 +84,7 @@ in_context P Del Del h p = p
 
 -- ---- Terminals that pass.
 
-module _ (n : Identifier → Bool) where
+module _ (n : Tests) where
   pub left : (ts us : List Terminal) → all_pass n (ts ++ us) ≡ true → all_pass n ts ≡ true
   left [] us s = refl
   left (t ∷ ts) us s = let w = and_parts (passes n t) (all_pass n (ts ++ us)) s in and_from (passes n t) (all_pass n ts) w.0 (left ts us w.1)
@@ -100,25 +102,20 @@ module _ (n : Identifier → Bool) where
 
 -- ---- Constants.
 
-pub word_value : (t : Terminal) (v : Values.Value) → constant_word t ≡ Some v → is_value v ≡ true
-word_value (Word Key.None) v h = given (λ z. is_value z ≡ true) h refl
-word_value (Word Key.True) v h = given (λ z. is_value z ≡ true) h refl
-word_value (Word Key.False) v h = given (λ z. is_value z ≡ true) h refl
-word_value (Op Ellipsis) v h = given (λ z. is_value z ≡ true) h refl
-word_value _ v h = absurd (cc)
-
-pub literal_value : (v : Values.Value) → is_literal v ≡ true → is_value v ≡ true
-literal_value (Values.Str t u) h = h
-literal_value (Values.Bytes t) h = h
-literal_value _ h = absurd (never h)
+pub word_value : (extent : Extent) (t : Terminal) (v : Values.Value) → constant_word t ≡ Some v → is_value extent v ≡ true
+word_value extent (Word Key.None) v h = given (λ z. is_value extent z ≡ true) h refl
+word_value extent (Word Key.True) v h = given (λ z. is_value extent z ≡ true) h refl
+word_value extent (Word Key.False) v h = given (λ z. is_value extent z ≡ true) h refl
+word_value extent (Op Ellipsis) v h = given (λ z. is_value extent z ≡ true) h refl
+word_value extent _ v h = absurd (cc)
 
 all_on : (p : ℕ → Bool) (xs ys : List ℕ) → list_all p xs ≡ true → list_all p ys ≡ true → list_all p (xs ++ ys) ≡ true
 all_on p [] ys h g = g
 all_on p (x ∷ xs) ys h g = let w = and_parts (p x) (list_all p xs) h in and_from (p x) (list_all p (xs ++ ys)) w.0 (all_on p xs ys w.1 g)
 
 -- literals side by side
-pub joined_value : (n : Identifier → Bool) (v w : Values.Value) (vs : List Values.Value) → is_literal v ≡ true → all_pass n (map Literal vs) ≡ true → joined v vs ≡ Some w → is_value w ≡ true
-joined_value n v w [] p q h = given (λ z. is_value z ≡ true) h (literal_value v p)
+pub joined_value : (n : Tests) (v w : Values.Value) (vs : List Values.Value) → passes n (Literal v) ≡ true → all_pass n (map Literal vs) ≡ true → joined v vs ≡ Some w → is_value n.extent w ≡ true
+joined_value n v w [] p q h = given (λ z. is_value n.extent z ≡ true) h (and_parts (is_literal v) (is_value n.extent v) p).1
 joined_value n (Values.Str t u) w (Values.Str s x ∷ vs) p q h =
     let r = and_parts (list_all is_point s) (all_pass n (map Literal vs)) q in
     joined_value n (Values.Str (t ++ s) u) w vs (all_on is_point t s p r.0) r.1 h

@@ -9,6 +9,7 @@ use Rattle.pytree_node.specs.Trees.{Identifier, Expr, exprs, optional, Stmt, stm
 use Rattle.pygrammar.specs.declared.levels.Level.TheVariants.{Stars, Expression, Elem}
 use Rattle.pygrammar.specs.Lines.{Line, line, header_form, Header, if_header, elif_header, else_header, loop_header, with_header, try_header, except_header, finally_header, def_header, LoopHead, while_head, for_head, DefHead, function_head, class_head, loop, with_of, definition, try_of}
 use Rattle.pygrammar.specs.Blocks.{Block, Statement, Body, Alternative, Otherwise, Excepts, Ending, Decorators, nothing, and_then, simple_line, if_statement, loop_statement, with_statement, try_finally, try_except, definition_of, inline, indented, an_else, an_elif, no_else, else_clause, no_except, except_clause, no_finally, finally_clause, no_decorator, decorator}
+use Rattle.pytree_fits.specs.Tests.{Tests}
 use Rattle.pytree_fits.specs.Slots.{fits_at, fits_target, each_fits, perhaps_fits, each_keyword_fits, fits_arguments}
 use Rattle.pytree_fits.specs.Statements.{has_one, has_stmt, item_fits, types_fit, caught_fits, clauses_fit, statement_fits, statements_fit, suite_fits, handlers_fit}
 use Rattle.pytree_fits.specs.Given.{AreGiven, no_line, a_line}
@@ -24,7 +25,7 @@ pub some_before : {A : Type 0} (xs ys : List A) → has_one xs ≡ true → has_
 some_before [] ys h = absurd (cc)
 some_before (x ∷ xs) ys h = refl
 
-module _ (p : Profile) (n : Identifier → Bool) where
+module _ (p : Profile) (n : Tests) where
   abbrev pub lines_fit : List Line → Bool
   lines_fit xs = list_all (λ x. form_fits p n x.form) xs
 
@@ -112,17 +113,17 @@ module _ (p : Profile) (n : Identifier → Bool) where
 
   definition_fits : (es : List Expr) (head : DefHead) (body : List Stmt) → each_fits n Expression (exprs es) ≡ true → header_fits p n (def_header head) ≡ true → Filled body → statements_fit p n (stmts (definition es head body ∷ [])) ≡ true
   definition_fits es (function_head false name parameters args returns) body d h f =
-      let w = parts4 (n name) (fits_arguments n true args) (perhaps_fits n Expression (optional returns)) (types_fit p n parameters) h in
+      let w = parts4 (n.name name) (fits_arguments n true args) (perhaps_fits n Expression (optional returns)) (types_fit p n parameters) h in
       one_fits (definition es (function_head false name parameters args returns) body)
-      (from6 (n name) (fits_arguments n true args) (each_fits n Expression (exprs es)) (perhaps_fits n Expression (optional returns)) (types_fit p n parameters) (suite_fits p n (stmts body)) w.0 w.1 d w.2 w.3 f.suite)
+      (from6 (n.name name) (fits_arguments n true args) (each_fits n Expression (exprs es)) (perhaps_fits n Expression (optional returns)) (types_fit p n parameters) (suite_fits p n (stmts body)) w.0 w.1 d w.2 w.3 f.suite)
   definition_fits es (function_head true name parameters args returns) body d h f =
-      let w = parts4 (n name) (fits_arguments n true args) (perhaps_fits n Expression (optional returns)) (types_fit p n parameters) h in
+      let w = parts4 (n.name name) (fits_arguments n true args) (perhaps_fits n Expression (optional returns)) (types_fit p n parameters) h in
       one_fits (definition es (function_head true name parameters args returns) body)
-      (from6 (n name) (fits_arguments n true args) (each_fits n Expression (exprs es)) (perhaps_fits n Expression (optional returns)) (types_fit p n parameters) (suite_fits p n (stmts body)) w.0 w.1 d w.2 w.3 f.suite)
+      (from6 (n.name name) (fits_arguments n true args) (each_fits n Expression (exprs es)) (perhaps_fits n Expression (optional returns)) (types_fit p n parameters) (suite_fits p n (stmts body)) w.0 w.1 d w.2 w.3 f.suite)
   definition_fits es (class_head name parameters bases keywords) body d h f =
-      let w = parts4 (n name) (each_fits n Elem (exprs bases)) (each_keyword_fits n keywords) (types_fit p n parameters) h in
+      let w = parts4 (n.name name) (each_fits n Elem (exprs bases)) (each_keyword_fits n keywords) (types_fit p n parameters) h in
       one_fits (definition es (class_head name parameters bases keywords) body)
-      (from6 (n name) (each_fits n Elem (exprs bases)) (each_keyword_fits n keywords) (each_fits n Expression (exprs es)) (types_fit p n parameters) (suite_fits p n (stmts body)) w.0 w.1 w.2 d w.3 f.suite)
+      (from6 (n.name name) (each_fits n Elem (exprs bases)) (each_keyword_fits n keywords) (each_fits n Expression (exprs es)) (types_fit p n parameters) (suite_fits p n (stmts body)) w.0 w.1 w.2 d w.3 f.suite)
 
   decorators_fit : {l : ℕ} {xs : List Line} {es : List Expr} → Decorators l xs es → lines_fit xs ≡ true → each_fits n Expression (exprs es) ≡ true
   decorators_fit no_decorator h = refl
@@ -206,6 +207,6 @@ module _ (p : Profile) (n : Identifier → Bool) where
     ending {l} (finally_clause {suite = suite} {xs = xs} b) h = let w = first l finally_header suite xs h in (filled b w.inner w.rest).each
 
   -- lines whose forms are given
-  pub given_fit : ((x : Identifier) → n x ≡ true → list_all is_other x ≡ true) → {xs : List Line} → AreGiven p n xs → lines_fit xs ≡ true
+  pub given_fit : ((x : Identifier) → n.name x ≡ true → list_all is_other x ≡ true) → {xs : List Line} → AreGiven p n xs → lines_fit xs ≡ true
   given_fit f no_line = refl
   given_fit f (a_line {x = x} {xs = xs} g r) = and_from (form_fits p n x.form) (lines_fit xs) (form n f g.2 g.1) (given_fit f r)

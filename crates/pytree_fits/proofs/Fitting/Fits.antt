@@ -1,6 +1,6 @@
 -- Carries: the laws of the slots. On: what the grammar gives to terminals that pass, fits.
 use Rattle.std.proofs.Common.{◌≡◌, refl, ◌+◌, ◌≤◌, arith, List, [], ◌∷◌, ◌++◌, length, Option, Some, None, Bool, true, false, cond, map}
-use Rattle.std.specs.Prelude.{◌&&◌, ◌||◌, eqb, leb, nat_lt, ◌^◌}
+use Rattle.std.specs.Prelude.{◌&&◌, ◌||◌, eqb, leb}
 use Rattle.std.proofs.lemmas.Bool.{and_parts, and_from, eq-eqb, le-leb}
 use Rattle.pylex_lexeme.specs.declared.kinds.Exact.{Exact}
 use Rattle.pylex_lexeme.specs.declared.kinds.Exact.TheVariants.{LPar, RPar, LSqb, RSqb, RBrace, Colon, Comma, Dot, DoubleStar}
@@ -10,22 +10,24 @@ use Rattle.pytree_node.specs.declared.operators.BoolOperator.{BoolOperator}
 use Rattle.pytree_node.specs.declared.operators.Comparison.{Comparison}
 use Rattle.pytree_node.specs.declared.operators.Context.TheVariants.{Load, Store, Del}
 use Rattle.pytree_node.specs.Trees
-use Rattle.pytree_node.specs.Trees.{Expr, Exprs, OptionalExpr, Identifier, exprs, Comprehension, comprehensions}
-use Rattle.pytoken.specs.Terminals.{Terminal, Op, Word, Ident, Literal}
+use Rattle.pytree_node.specs.Trees.{Expr, Exprs, OptionalExpr, exprs, Comprehension, comprehensions}
+use Rattle.pytoken.specs.Terminals.{Terminal, Op, Word, Ident, Number, Literal}
 use Rattle.pygrammar.specs.declared.levels.Level.{Level}
 use Rattle.pygrammar.specs.declared.levels.Level.TheVariants.{Value, StarItem, Named, Expression, Or, BitOr, Factor, Await, Primary, Atom, Elem, Slices, Part}
 use Rattle.pygrammar.specs.Operators.{below, left_operator, chain_level, chain_word}
 use Rattle.pygrammar.specs.Entries.{Item, Entry, singles, keys, values}
 use Rattle.pygrammar.specs.Grammar as G
+use Rattle.pytree_fits.specs.Tests.{Tests}
 use Rattle.pytree_fits.specs.Slots.{count, count_optional, has_some, is_absent, is_single, fits_at, fits_target, each_fits, perhaps_fits, each_perhaps_fits, each_clause_fits, fits_arguments}
-use Rattle.pytree_fits.specs.Given.{is_literal, all_pass}
+use Rattle.pytree_fits.specs.Literals.{is_value}
+use Rattle.pytree_fits.specs.Given.{is_number, passes, all_pass}
 use Rattle.pytree_fits.proofs.Fields.Tests.{from3, from4, left, right, behind, word_value, joined_value}
 use Rattle.pytree_fits.proofs.Fields.Levels.{chain_inner, prefix_inner, left_inner, star_elem, stars_elem, fits_below, anywhere, plain}
 use Rattle.pytree_fits.proofs.Fields.Entries.{entry_fits, all_fit, clause_fits, singles_fit, keys_fit, values_fit, as_many, called_fit, set_some}
 use Rattle.pytree_fits.proofs.Fields.TargetShapes.{stored_fits, single_fits, deleted_fits}
 use Rattle.pytree_fits.proofs.Fields.Arranging.{arranged_fit}
 
-module _ (n : Identifier → Bool) where
+module _ (n : Tests) where
   binary_fits : (l : Level) (t : Terminal) (o : Operator) (a b : Expr) → left_operator l t ≡ Some o → fits_at n l a ≡ true → fits_at n (below l) b ≡ true → fits_at n l (Trees.BinOp a o b) ≡ true
   binary_fits l t o a b h p q = let w = left_inner l t o h in and_from (fits_at n Expression a) (fits_at n Expression b) (plain n l a w.0 p) (plain n (below l) b w.1 q)
 
@@ -61,7 +63,7 @@ module _ (n : Identifier → Bool) where
     slots (G.yields y) s = yields y s Value
     slots (G.star_tuple {ts = ts} {us = us} {e = e} {es = es} p c) s = and_from (fits_at n Elem e) (each_fits n Elem (singles es)) (star_elem n e (slots p (left n ts (Op Comma ∷ us) s))) (singles_fit n StarItem Elem (star_elem n) es (listing c (right n ts (Op Comma ∷ us) s)))
     slots (G.star_item {e = e} p) s = plain n BitOr e refl (slots p s)
-    slots (G.named {x = x} {ts = ts} {e = e} p) s = let w = and_parts (n x.form) (all_pass n ts) s in and_from (n x.form) (fits_at n Expression e) w.0 (slots p w.1)
+    slots (G.named {x = x} {ts = ts} {e = e} p) s = let w = and_parts (n.name x.form) (all_pass n ts) s in and_from (n.name x.form) (fits_at n Expression e) w.0 (slots p w.1)
     slots (G.lambda {ts = ts} {us = us} {ps = ps} {a = a} {e = e} c h q) s = and_from (fits_arguments n false a) (fits_at n Expression e) (arranged_fit n false ps a (listing c (left n ts (Op Colon ∷ us) s)) h) (slots q (right n ts (Op Colon ∷ us) s))
     slots (G.if_else {ts = ts} {us = us} {vs = vs} {a = a} {b = b} {c = c} p q r) s =
         let u = right n ts (Word Key.If ∷ (us ++ (Word Key.Else ∷ vs))) s in
@@ -76,7 +78,7 @@ module _ (n : Identifier → Bool) where
     slots (G.binary {l = l} {ts = ts} {us = us} {a = a} {b = b} {o = o} t h p q) s = binary_fits l t o a b h (slots p (left n ts (t ∷ us) s)) (slots q (behind n t us (right n ts (t ∷ us) s)))
     slots (G.power {ts = ts} {us = us} {a = a} {b = b} p q) s = and_from (fits_at n Expression a) (fits_at n Expression b) (plain n Await a refl (slots p (left n ts (Op DoubleStar ∷ us) s))) (plain n Factor b refl (slots q (right n ts (Op DoubleStar ∷ us) s)))
     slots (G.await {e = e} p) s = plain n Primary e refl (slots p s)
-    slots (G.attribute {ts = ts} {e = e} x p) s = and_from (n x.form) (fits_at n Expression e) (and_parts (n x.form) true (right n ts (Op Dot ∷ (Ident x ∷ [])) s)).0 (plain n Primary e refl (slots p (left n ts (Op Dot ∷ (Ident x ∷ [])) s)))
+    slots (G.attribute {ts = ts} {e = e} x p) s = and_from (n.name x.form) (fits_at n Expression e) (and_parts (n.name x.form) true (right n ts (Op Dot ∷ (Ident x ∷ [])) s)).0 (plain n Primary e refl (slots p (left n ts (Op Dot ∷ (Ident x ∷ [])) s)))
     slots (G.call {ts = ts} {us = us} {f = f} {e = e} {es = es} p c h) s = called_fit n f e es (plain n Primary f refl (slots p (left n ts (Op LPar ∷ (us ++ (Op RPar ∷ []))) s))) (listing c (left n us (Op RPar ∷ []) (right n ts (Op LPar ∷ (us ++ (Op RPar ∷ []))) s))) h
     slots (G.call_generator {ts = ts} {us = us} {vs = vs} {f = f} {e = e} {gs = gs} p q c) s =
         let u = right n ts (Op LPar ∷ (us ++ (vs ++ (Op RPar ∷ [])))) s in
@@ -84,10 +86,10 @@ module _ (n : Identifier → Bool) where
         let g = from3 (has_some (comprehensions gs)) (fits_at n Expression e) (each_clause_fits n (comprehensions gs)) w.some (plain n Named e refl (slots q (left n us (vs ++ (Op RPar ∷ [])) u))) w.each in
         from3 (fits_at n Expression f) (fits_at n Elem (Trees.GeneratorExp e (comprehensions gs)) && true) true (plain n Primary f refl (slots p (left n ts (Op LPar ∷ (us ++ (vs ++ (Op RPar ∷ [])))) s))) (and_from (fits_at n Elem (Trees.GeneratorExp e (comprehensions gs))) true g refl) refl
     slots (G.subscript {ts = ts} {us = us} {e = e} {s = i} p q) s = and_from (fits_at n Expression e) (fits_at n Slices i) (plain n Primary e refl (slots p (left n ts (Op LSqb ∷ (us ++ (Op RSqb ∷ []))) s))) (slots q (left n us (Op RSqb ∷ []) (right n ts (Op LSqb ∷ (us ++ (Op RSqb ∷ []))) s)))
-    slots (G.name {x = x}) s = (and_parts (n x.form) true s).0
-    slots (G.constant {t = t} {v = v} h) s = word_value t v h
-    slots (G.number {n = k}) s = (and_parts (nat_lt k (2 ^ 128)) true s).0
-    slots (G.strings {v = v} {w = w} vs h) s = let u = and_parts (is_literal v) (all_pass n (map Literal vs)) s in joined_value n v w vs u.0 u.1 h
+    slots (G.name {x = x}) s = (and_parts (n.name x.form) true s).0
+    slots (G.constant {t = t} {v = v} h) s = word_value n.extent t v h
+    slots (G.number {v = v}) s = (and_parts (is_number v) (is_value n.extent v) (and_parts (passes n (Number v)) true s).0).1
+    slots (G.strings {v = v} {w = w} vs h) s = let u = and_parts (passes n (Literal v)) (all_pass n (map Literal vs)) s in joined_value n v w vs u.0 u.1 h
     slots (G.group {ts = ts} {e = e} p) s = anywhere n Named Atom e refl (slots p (left n ts (Op RPar ∷ []) s))
     slots (G.yield_group {ts = ts} y) s = yields y (left n ts (Op RPar ∷ []) s) Atom
     slots G.empty_tuple s = refl
@@ -147,16 +149,16 @@ module _ (n : Identifier → Bool) where
     piece (G.pairs_of {e = e} p) s = plain n BitOr e refl (slots p s)
     piece (G.argument {e = e} p) s = anywhere n Named Elem e refl (slots p s)
     piece (G.star_argument p) s = slots p s
-    piece (G.keyword_argument {x = x} {ts = ts} {e = e} p) s = let w = and_parts (n x.form) (all_pass n ts) s in and_from (n x.form) (fits_at n Expression e) w.0 (slots p w.1)
+    piece (G.keyword_argument {x = x} {ts = ts} {e = e} p) s = let w = and_parts (n.name x.form) (all_pass n ts) s in and_from (n.name x.form) (fits_at n Expression e) w.0 (slots p w.1)
     piece (G.double_argument p) s = slots p s
     piece (G.parameter {b = b} {x = x} {ts = ts} {us = us} {a = a} {d = d} p q) s =
-        let w = and_parts (n x.form) (all_pass n (ts ++ us)) s in
-        and_from (n x.form && (is_absent a || b) && perhaps_fits n Expression a) (perhaps_fits n Expression d) (from3 (n x.form) (is_absent a || b) (perhaps_fits n Expression a) w.0 (noted b p) (suffix p (left n ts us w.1))) (suffix q (right n ts us w.1))
+        let w = and_parts (n.name x.form) (all_pass n (ts ++ us)) s in
+        and_from (n.name x.form && (is_absent a || b) && perhaps_fits n Expression a) (perhaps_fits n Expression d) (from3 (n.name x.form) (is_absent a || b) (perhaps_fits n Expression a) w.0 (noted b p) (suffix p (left n ts us w.1))) (suffix q (right n ts us w.1))
     piece G.slash s = refl
     piece G.bare_star s = refl
-    piece (G.star_parameter {b = b} {x = x} {ts = ts} {a = a} p) s = let w = and_parts (n x.form) (all_pass n ts) s in from3 (n x.form) (is_absent a || b) (perhaps_fits n StarItem a) w.0 (noted b p) (suffix_star p w.1)
-    piece (G.star_annotation {x = x} {ts = ts} {e = e} p) s = let w = and_parts (n x.form) (all_pass n ts) s in from3 (n x.form) true (fits_at n StarItem (Trees.Starred e Load)) w.0 refl (plain n BitOr e refl (slots p w.1))
-    piece (G.double_parameter {b = b} {x = x} {ts = ts} {a = a} p) s = let w = and_parts (n x.form) (all_pass n ts) s in from3 (n x.form) (is_absent a || b) (perhaps_fits n Expression a) w.0 (noted b p) (suffix p w.1)
+    piece (G.star_parameter {b = b} {x = x} {ts = ts} {a = a} p) s = let w = and_parts (n.name x.form) (all_pass n ts) s in from3 (n.name x.form) (is_absent a || b) (perhaps_fits n StarItem a) w.0 (noted b p) (suffix_star p w.1)
+    piece (G.star_annotation {x = x} {ts = ts} {e = e} p) s = let w = and_parts (n.name x.form) (all_pass n ts) s in from3 (n.name x.form) true (fits_at n StarItem (Trees.Starred e Load)) w.0 refl (plain n BitOr e refl (slots p w.1))
+    piece (G.double_parameter {b = b} {x = x} {ts = ts} {a = a} p) s = let w = and_parts (n.name x.form) (all_pass n ts) s in from3 (n.name x.form) (is_absent a || b) (perhaps_fits n Expression a) w.0 (noted b p) (suffix p w.1)
 
     suffix_star : {c : Option Exact} {ts : List Terminal} {a : OptionalExpr} → G.Suffix c ts a → all_pass n ts ≡ true → perhaps_fits n StarItem a ≡ true
     suffix_star G.no_suffix s = refl

@@ -17,6 +17,7 @@ use Rattle.pygrammar.specs.Lines.{Form, simple_form, decorator_form, header_form
 use Rattle.pygrammar.specs.Forms as F
 use Rattle.pygrammar.specs.Forms.{listed}
 use Rattle.pytree_node.specs.Profiles.{has_types}
+use Rattle.pytree_fits.specs.Tests.{Tests}
 use Rattle.pytree_fits.specs.Slots.{is_single, perhaps_name, fits_at, fits_target, each_target_fits, each_fits, perhaps_fits, each_keyword_fits, fits_arguments}
 use Rattle.pytree_fits.specs.Statements.{has_one, dotted, import_fits, alias_fits, imports_fit, item_fits, type_param_fits, types_fit, raised_fits, caught_fits, statement_fits, statements_fit}
 use Rattle.pytree_fits.specs.Given.{all_pass}
@@ -32,7 +33,7 @@ from5 true y z u v p q r s t = from4 y z u v q r s t
 from5 false y z u v p q r s t = absurd (cc)
 
 -- what a header asks for, without its blocks
-abbrev pub header_fits : Profile → (Identifier → Bool) → Header → Bool
+abbrev pub header_fits : Profile → Tests → Header → Bool
 header_fits p n (if_header test) = fits_at n Expression test
 header_fits p n (elif_header test) = fits_at n Expression test
 header_fits p n else_header = true
@@ -43,14 +44,14 @@ header_fits p n try_header = true
 header_fits p n (except_header star class name) = caught_fits n star class name
 header_fits p n finally_header = true
 header_fits p n (def_header (function_head is_async name parameters args returns)) =
-    n name && fits_arguments n true args && perhaps_fits n Expression (optional returns) && types_fit p n parameters
+    n.name name && fits_arguments n true args && perhaps_fits n Expression (optional returns) && types_fit p n parameters
 header_fits p n (def_header (class_head name parameters bases keywords)) =
-    n name && each_fits n Elem (exprs bases) && each_keyword_fits n keywords && types_fit p n parameters
+    n.name name && each_fits n Elem (exprs bases) && each_keyword_fits n keywords && types_fit p n parameters
 
-abbrev pub inline_fits : Profile → (Identifier → Bool) → List Stmt → Bool
+abbrev pub inline_fits : Profile → Tests → List Stmt → Bool
 inline_fits p n ss = has_one ss && statements_fit p n (stmts ss)
 
-abbrev pub form_fits : Profile → (Identifier → Bool) → Form → Bool
+abbrev pub form_fits : Profile → Tests → Form → Bool
 form_fits p n (simple_form ss) = inline_fits p n ss
 form_fits p n (decorator_form e) = fits_at n Expression e
 form_fits p n (header_form h None) = header_fits p n h
@@ -58,7 +59,7 @@ form_fits p n (header_form h (Some ss)) = header_fits p n h && inline_fits p n s
 
 -- ---- Lists with commas.
 
-module _ (n : Identifier → Bool) where
+module _ (n : Tests) where
   commas_fit : {A : Type 0} {X : List Terminal → A → Type 0} (f : A → Bool) → ((ts : List Terminal) (a : A) → X ts a → all_pass n ts ≡ true → f a ≡ true) →
       {ts : List Terminal} {xs : List A} → F.Commas A X ts xs → all_pass n ts ≡ true → list_all f xs ≡ true
   commas_fit f g (F.alone {ts = ts} {a = a} p) s = and_from (f a) true (g ts a p s) refl
@@ -88,19 +89,19 @@ module _ (n : Identifier → Bool) where
   behind_fits F.none_behind s = refl
   behind_fits (F.behind {t = t} {ts = ts} p) s = slots n p (behind n t ts s)
 
-  as_fits : {ts : List Terminal} {x : Option Identifier} → F.As ts x → all_pass n ts ≡ true → perhaps_name n x ≡ true
+  as_fits : {ts : List Terminal} {x : Option Identifier} → F.As ts x → all_pass n ts ≡ true → perhaps_name n.name x ≡ true
   as_fits F.no_as s = refl
-  as_fits (F.as_name {x = x}) s = (and_parts (n x.form) true s).0
+  as_fits (F.as_name {x = x}) s = (and_parts (n.name x.form) true s).0
 
-  name_fits : {ts : List Terminal} {x : Identifier} → F.Name ts x → all_pass n ts ≡ true → n x ≡ true
-  name_fits (F.name {x = x}) s = (and_parts (n x.form) true s).0
+  name_fits : {ts : List Terminal} {x : Identifier} → F.Name ts x → all_pass n ts ≡ true → n.name x ≡ true
+  name_fits (F.name {x = x}) s = (and_parts (n.name x.form) true s).0
 
   type_param : {ts : List Terminal} {p : TypeParam} → F.TypeParamOf ts p → all_pass n ts ≡ true → type_param_fits n p ≡ true
   type_param (F.type_var {x = x} {ts = ts} {bound = b} q) s =
-      let w = and_parts (n x.form) (all_pass n ts) s in
-      and_from (n x.form) (perhaps_fits n Expression (optional b)) w.0 (behind_fits q w.1)
-  type_param (F.type_var_tuple {x = x}) s = (and_parts (n x.form) true s).0
-  type_param (F.param_spec {x = x}) s = (and_parts (n x.form) true s).0
+      let w = and_parts (n.name x.form) (all_pass n ts) s in
+      and_from (n.name x.form) (perhaps_fits n Expression (optional b)) w.0 (behind_fits q w.1)
+  type_param (F.type_var_tuple {x = x}) s = (and_parts (n.name x.form) true s).0
+  type_param (F.param_spec {x = x}) s = (and_parts (n.name x.form) true s).0
 
   type_params : {profile : Profile} {ts : List Terminal} {ps : List TypeParam} → F.TypeParams profile ts ps → all_pass n ts ≡ true → types_fit profile n ps ≡ true
   type_params F.no_type_params s = refl
@@ -110,21 +111,21 @@ module _ (n : Identifier → Bool) where
 
   -- ---- Imports, where no name that passes holds a dot.
 
-  module _ (undotted : (x : Identifier) → n x ≡ true → list_all is_other x ≡ true) where
-    dotted_alias : {ts : List Terminal} {a : Alias} → F.DottedAlias ts a → all_pass n ts ≡ true → import_fits n a ≡ true
+  module _ (undotted : (x : Identifier) → n.name x ≡ true → list_all is_other x ≡ true) where
+    dotted_alias : {ts : List Terminal} {a : Alias} → F.DottedAlias ts a → all_pass n ts ≡ true → import_fits n.name a ≡ true
     dotted_alias (F.dotted_as {ts = ts} {us = us} {x = x} {a = a} d q) s =
-        and_from (dotted n x) (perhaps_name n a) (dotted_fits n undotted d (left n ts us s)) (as_fits q (right n ts us s))
+        and_from (dotted n.name x) (perhaps_name n.name a) (dotted_fits n undotted d (left n ts us s)) (as_fits q (right n ts us s))
 
-    name_alias : {ts : List Terminal} {a : Alias} → F.NameAlias ts a → all_pass n ts ≡ true → alias_fits n a ≡ true
+    name_alias : {ts : List Terminal} {a : Alias} → F.NameAlias ts a → all_pass n ts ≡ true → alias_fits n.name a ≡ true
     name_alias (F.name_as {us = us} {x = x} {a = a} q) s =
-        let w = and_parts (n x.form) (all_pass n us) s in
-        and_from (n x.form) (perhaps_name n a) w.0 (as_fits q w.1)
+        let w = and_parts (n.name x.form) (all_pass n us) s in
+        and_from (n.name x.form) (perhaps_name n.name a) w.0 (as_fits q w.1)
 
-    names_fit : {ts : List Terminal} {as_ : List Alias} → F.Names ts as_ → all_pass n ts ≡ true → imports_fit n as_ ≡ true
+    names_fit : {ts : List Terminal} {as_ : List Alias} → F.Names ts as_ → all_pass n ts ≡ true → imports_fit n.name as_ ≡ true
     names_fit F.all_names s = refl
-    names_fit (F.names {as_ = xs} c) s = or_right _ _ (and_from (has_one xs) (list_all (alias_fits n) xs) (some_commas c) (commas_fit (alias_fits n) (λ ts a. name_alias) c s))
+    names_fit (F.names {as_ = xs} c) s = or_right _ _ (and_from (has_one xs) (list_all (alias_fits n.name) xs) (some_commas c) (commas_fit (alias_fits n.name) (λ ts a. name_alias) c s))
     names_fit (F.bracketed_names {ts = ts} {as_ = xs} c) s =
-        or_right _ _ (and_from (has_one xs) (list_all (alias_fits n) xs) (some_ended c) (ended_fit (alias_fits n) (λ ts a. name_alias) c (left n ts (Op Sign.RPar ∷ []) s)))
+        or_right _ _ (and_from (has_one xs) (list_all (alias_fits n.name) xs) (some_ended c) (ended_fit (alias_fits n.name) (λ ts a. name_alias) c (left n ts (Op Sign.RPar ∷ []) s)))
 
     -- ---- Simple statements.
 
@@ -157,8 +158,8 @@ module _ (n : Identifier → Bool) where
     simple (F.augmented_assign {ts = ts} {us = us} x {t = t} {e = e} p h q) s =
         and_from (is_single t && fits_target n Store t) (fits_at n Value e) (single_target_fits n p (left n ts (Op x ∷ us) s)) (slots n q (right n ts (Op x ∷ us) s))
     simple (F.annotated_name {x = x} {ts = ts} {us = us} {a = a} {v = v} p q) s =
-        let w = and_parts (n x.form) (all_pass n (ts ++ us)) s in
-        from3 (n x.form) (fits_at n Expression a) (perhaps_fits n Value (optional v)) w.0 (slots n p (left n ts us w.1)) (behind_fits q (right n ts us w.1))
+        let w = and_parts (n.name x.form) (all_pass n (ts ++ us)) s in
+        from3 (n.name x.form) (fits_at n Expression a) (perhaps_fits n Value (optional v)) w.0 (slots n p (left n ts us w.1)) (behind_fits q (right n ts us w.1))
     simple (F.annotated_group {ts = ts} {us = us} {vs = vs} {t = t} {a = a} {v = v} p q r) s =
         let w = right n ts (Op Sign.RPar ∷ (Op Sign.Colon ∷ (us ++ vs))) s in
         let u = and_parts (is_single t) (fits_target n Store t) (single_target_fits n p (left n ts (Op Sign.RPar ∷ (Op Sign.Colon ∷ (us ++ vs))) s)) in
@@ -168,25 +169,25 @@ module _ (n : Identifier → Bool) where
         let u = and_parts (is_single t) (fits_target n Store t) (single_target_fits n p (left n ts (Op Sign.Colon ∷ (us ++ vs)) s)) in
         from5 (is_single t) true (fits_target n Store t) (fits_at n Expression a) (perhaps_fits n Value (optional v)) u.0 refl u.1 (slots n q (left n us vs w)) (behind_fits r (right n us vs w))
     simple {profile} (F.type_alias {form = f} {x = x} {ts = ts} {us = us} {ps = ps} {e = e} h c p) s =
-        let w = and_parts (n x.form) (all_pass n (ts ++ (Op Sign.Equal ∷ us))) (and_parts (n f) (all_pass n (Ident x ∷ (ts ++ (Op Sign.Equal ∷ us)))) s).1 in
-        from5 (has_types profile) true (n x.form) (list_all (type_param_fits n) ps) (fits_at n Expression e) h refl w.0
+        let w = and_parts (n.name x.form) (all_pass n (ts ++ (Op Sign.Equal ∷ us))) (and_parts (n.name f) (all_pass n (Ident x ∷ (ts ++ (Op Sign.Equal ∷ us)))) s).1 in
+        from5 (has_types profile) true (n.name x.form) (list_all (type_param_fits n) ps) (fits_at n Expression e) h refl w.0
         (and_parts (no_types ps || has_types profile) (list_all (type_param_fits n) ps) (type_params c (left n ts (Op Sign.Equal ∷ us) w.1))).1 (slots n p (right n ts (Op Sign.Equal ∷ us) w.1))
     simple (F.return_of p) s = perhaps p s
     simple F.raise_alone s = refl
     simple (F.raise_of {ts = ts} {us = us} {e = e} p q) s = raise_fits e q (right n ts us s) (slots n p (left n ts us s))
     simple (F.assert_of {ts = ts} {us = us} {e = e} {m = m} p q) s = and_from (fits_at n Expression e) (perhaps_fits n Expression (optional m)) (slots n p (left n ts us s)) (behind_fits q (right n ts us s))
     simple (F.delete c) s = delete_fits c s
-    simple (F.global {xs = xs} c) s = and_from (has_one xs) (list_all n xs) (some_commas c) (commas_fit n (λ ts a. name_fits) c s)
-    simple (F.nonlocal {xs = xs} c) s = and_from (has_one xs) (list_all n xs) (some_commas c) (commas_fit n (λ ts a. name_fits) c s)
+    simple (F.global {xs = xs} c) s = and_from (has_one xs) (list_all n.name xs) (some_commas c) (commas_fit n.name (λ ts a. name_fits) c s)
+    simple (F.nonlocal {xs = xs} c) s = and_from (has_one xs) (list_all n.name xs) (some_commas c) (commas_fit n.name (λ ts a. name_fits) c s)
     simple F.pass s = refl
     simple F.break s = refl
     simple F.continue s = refl
-    simple (F.import_names {as_ = xs} c) s = and_from (has_one xs) (list_all (import_fits n) xs) (some_commas c) (commas_fit (import_fits n) (λ ts a. dotted_alias) c s)
+    simple (F.import_names {as_ = xs} c) s = and_from (has_one xs) (list_all (import_fits n.name) xs) (some_commas c) (commas_fit (import_fits n.name) (λ ts a. dotted_alias) c s)
     simple (F.from_module {ts = ts} {us = us} {vs = vs} {m = m} {as_ = xs} d e c) s =
         let w = right n ts (us ++ (Word Key.Import ∷ vs)) s in
-        and_from (dotted n m) (imports_fit n xs) (dotted_fits n undotted e (left n us (Word Key.Import ∷ vs) w)) (names_fit c (right n us (Word Key.Import ∷ vs) w))
+        and_from (dotted n.name m) (imports_fit n.name xs) (dotted_fits n undotted e (left n us (Word Key.Import ∷ vs) w)) (names_fit c (right n us (Word Key.Import ∷ vs) w))
     simple (F.from_dots {ts = ts} {vs = vs} {n = k} {as_ = xs} d h c) s =
-        and_from (nat_lt 0 k) (imports_fit n xs) (lt-ltb 0 k h) (names_fit c (right n ts (Word Key.Import ∷ vs) s))
+        and_from (nat_lt 0 k) (imports_fit n.name xs) (lt-ltb 0 k h) (names_fit c (right n ts (Word Key.Import ∷ vs) s))
 
     pub simples : {profile : Profile} {ts : List Terminal} {ss : List Stmt} → F.Simples profile ts ss → all_pass n ts ≡ true → inline_fits profile n ss ≡ true
     simples {profile} (F.last_simple {s = t} p) s = and_from (statement_fits profile n t) true (simple p s) refl
@@ -231,17 +232,17 @@ module _ (n : Identifier → Bool) where
     header F.try_line s = refl
     header F.finally_line s = refl
     header F.except_all s = refl
-    header (F.except_line {ts = ts} {us = us} {e = e} {x = x} p q) s = and_from (fits_at n Expression e) (perhaps_name n x) (slots n p (left n ts us s)) (as_fits q (right n ts us s))
-    header (F.except_star {ts = ts} {us = us} {e = e} {x = x} p q) s = and_from (fits_at n Expression e) (perhaps_name n x) (slots n p (left n ts us s)) (as_fits q (right n ts us s))
+    header (F.except_line {ts = ts} {us = us} {e = e} {x = x} p q) s = and_from (fits_at n Expression e) (perhaps_name n.name x) (slots n p (left n ts us s)) (as_fits q (right n ts us s))
+    header (F.except_star {ts = ts} {us = us} {e = e} {x = x} p q) s = and_from (fits_at n Expression e) (perhaps_name n.name x) (slots n p (left n ts us s)) (as_fits q (right n ts us s))
     header {profile} (F.def_line {ts = ts} {us = us} {vs = vs} {ws = ws} x {tps = tps} {ps = ps} {a = a} {r = r} b t c h q) s =
-        let w = and_parts (n x.form) (all_pass n (us ++ (Op Sign.LPar ∷ (vs ++ (Op Sign.RPar ∷ ws))))) (right n ts (Word Key.Def ∷ (Ident x ∷ (us ++ (Op Sign.LPar ∷ (vs ++ (Op Sign.RPar ∷ ws)))))) s) in
+        let w = and_parts (n.name x.form) (all_pass n (us ++ (Op Sign.LPar ∷ (vs ++ (Op Sign.RPar ∷ ws))))) (right n ts (Word Key.Def ∷ (Ident x ∷ (us ++ (Op Sign.LPar ∷ (vs ++ (Op Sign.RPar ∷ ws)))))) s) in
         let u = right n us (Op Sign.LPar ∷ (vs ++ (Op Sign.RPar ∷ ws))) w.1 in
-        from4 (n x.form) (fits_arguments n true a) (perhaps_fits n Expression (optional r)) (types_fit profile n tps)
+        from4 (n.name x.form) (fits_arguments n true a) (perhaps_fits n Expression (optional r)) (types_fit profile n tps)
         w.0 (arranged_fit n true ps a (listing n c (left n vs (Op Sign.RPar ∷ ws) u)) h) (behind_fits q (right n vs (Op Sign.RPar ∷ ws) u)) (type_params t (left n us (Op Sign.LPar ∷ (vs ++ (Op Sign.RPar ∷ ws))) w.1))
     header {profile} (F.class_line {x = x} {ts = ts} {us = us} {tps = tps} {es = es} {ks = ks} t b) s =
-        let w = and_parts (n x.form) (all_pass n (ts ++ us)) s in
+        let w = and_parts (n.name x.form) (all_pass n (ts ++ us)) s in
         let u = bases_fit b (right n ts us w.1) in
-        from4 (n x.form) (each_fits n Elem (exprs es)) (each_keyword_fits n ks) (types_fit profile n tps) w.0 u.0 u.1 (type_params t (left n ts us w.1))
+        from4 (n.name x.form) (each_fits n Elem (exprs es)) (each_keyword_fits n ks) (types_fit profile n tps) w.0 u.0 u.1 (type_params t (left n ts us w.1))
 
     pub form : {profile : Profile} {ts : List Terminal} {f : Form} → F.FormOf profile ts f → all_pass n ts ≡ true → form_fits profile n f ≡ true
     form (F.simple_statements p) s = simples p s

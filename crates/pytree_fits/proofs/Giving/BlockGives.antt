@@ -16,6 +16,7 @@ use Rattle.pygrammar.specs.Forms as F
 use Rattle.pygrammar.specs.Forms.{type_name}
 use Rattle.pytree_node.specs.Profiles.{has_types}
 use Rattle.pygrammar.specs.Blocks.{handler, Block, Statement, Body, Otherwise, Excepts, Ending, Decorators, nothing, and_then, simple_line, if_statement, loop_statement, with_statement, try_finally, try_except, definition_of, indented, an_else, no_else, else_clause, no_except, except_clause, no_finally, finally_clause, no_decorator, decorator}
+use Rattle.pytree_fits.specs.Tests.{Tests}
 use Rattle.pytree_fits.specs.Slots.{is_a_name, is_single, fits_at, fits_target, each_target_fits, each_fits, perhaps_fits, each_keyword_fits, fits_arguments}
 use Rattle.pytree_fits.specs.Statements.{has_one, has_stmt, source_fits, imports_fit, item_fits, type_param_fits, import_fits, types_fit, caught_fits, clauses_fit, statement_fits, statements_fit, suite_fits, handlers_fit}
 use Rattle.pytree_fits.proofs.Fields.AsSpelled.{GivenAsSpelled, AreGivenAsSpelled, none_spelled, one_spelled, pass_on}
@@ -56,7 +57,7 @@ handlers_back : (hs : Handlers) → handlers (of_handlers hs) ≡ hs
 handlers_back no_handler = refl
 handlers_back (a_handler class name body hs) = (λ i. a_handler class name (stmts_back body i) (handlers_back hs i))
 
-module _ (p : Profile) (n : Identifier → Bool) (typed : n type_name ≡ true) where
+module _ (p : Profile) (n : Tests) (typed : n.name type_name ≡ true) where
   given_on : {xs ys : List Line} → AreGivenAsSpelled p n xs → AreGivenAsSpelled p n ys → AreGivenAsSpelled p n (xs ++ ys)
   given_on none_spelled s = s
   given_on (one_spelled g r) s = one_spelled g (given_on r s)
@@ -267,15 +268,15 @@ module _ (p : Profile) (n : Identifier → Bool) (typed : n type_name ≡ true) 
   mutual
     drawn : (l : ℕ) (s : Stmt) → statement_fits p n s ≡ true → Drawn l s
     drawn l (Trees.FunctionDef x a body es r ps) h =
-        let w = parts6 (n x) (fits_arguments n true a) (each_fits n Expression (exprs es)) (perhaps_fits n Expression (optional r)) (types_fit p n ps) (suite_fits p n body) h in
+        let w = parts6 (n.name x) (fits_arguments n true a) (each_fits n Expression (exprs es)) (perhaps_fits n Expression (optional r)) (types_fit p n ps) (suite_fits p n body) h in
         let u = suite_parts body w.5 in
         definition_drawn l es (function_head false x ps a r) body w.2 (function_given n p false x ps a r w.0 w.4 w.1 w.3) u.0 (drawn_all (suc l) body u.1)
     drawn l (Trees.AsyncFunctionDef x a body es r ps) h =
-        let w = parts6 (n x) (fits_arguments n true a) (each_fits n Expression (exprs es)) (perhaps_fits n Expression (optional r)) (types_fit p n ps) (suite_fits p n body) h in
+        let w = parts6 (n.name x) (fits_arguments n true a) (each_fits n Expression (exprs es)) (perhaps_fits n Expression (optional r)) (types_fit p n ps) (suite_fits p n body) h in
         let u = suite_parts body w.5 in
         definition_drawn l es (function_head true x ps a r) body w.2 (function_given n p true x ps a r w.0 w.4 w.1 w.3) u.0 (drawn_all (suc l) body u.1)
     drawn l (Trees.ClassDef x bases ks body es ps) h =
-        let w = parts6 (n x) (each_fits n Elem (exprs bases)) (each_keyword_fits n ks) (each_fits n Expression (exprs es)) (types_fit p n ps) (suite_fits p n body) h in
+        let w = parts6 (n.name x) (each_fits n Elem (exprs bases)) (each_keyword_fits n ks) (each_fits n Expression (exprs es)) (types_fit p n ps) (suite_fits p n body) h in
         let u = suite_parts body w.5 in
         definition_drawn l es (class_head x ps bases ks) body w.3 (class_given n p x ps bases ks w.0 w.4 (and_from (each_fits n Elem (exprs bases)) (each_keyword_fits n ks) w.1 w.2)) u.0 (drawn_all (suc l) body u.1)
     drawn l (Trees.Return e) h = simply l (Trees.Return e) (return_given n p e h)
@@ -324,10 +325,10 @@ module _ (p : Profile) (n : Identifier → Bool) (typed : n type_name ≡ true) 
         let u = suite_parts body w.1 in
         try_drawn l true body hs orelse final w.0 u.0 (drawn_all (suc l) body u.1) (caught l true hs w.2) (drawn_all (suc l) orelse w.3) (drawn_all (suc l) final w.4)
     drawn l (Trees.Assert e m) h = let w = and_parts (fits_at n Expression e) (perhaps_fits n Expression (optional m)) h in simply l (Trees.Assert e m) (assert_given n p e m w.0 w.1)
-    drawn l (Trees.Import as_) h = let w = and_parts (has_one as_) (list_all (import_fits n) as_) h in simply l (Trees.Import as_) (import_given n p as_ w.0 w.1)
-    drawn l (Trees.ImportFrom m as_ k) h = let w = and_parts (source_fits n m k) (imports_fit n as_) h in simply l (Trees.ImportFrom m as_ k) (import_from_given n p m as_ k w.0 w.1)
-    drawn l (Trees.Global xs) h = let w = and_parts (has_one xs) (list_all n xs) h in simply l (Trees.Global xs) (global_given n p xs w.0 w.1)
-    drawn l (Trees.Nonlocal xs) h = let w = and_parts (has_one xs) (list_all n xs) h in simply l (Trees.Nonlocal xs) (nonlocal_given n p xs w.0 w.1)
+    drawn l (Trees.Import as_) h = let w = and_parts (has_one as_) (list_all (import_fits n.name) as_) h in simply l (Trees.Import as_) (import_given n p as_ w.0 w.1)
+    drawn l (Trees.ImportFrom m as_ k) h = let w = and_parts (source_fits n.name m k) (imports_fit n.name as_) h in simply l (Trees.ImportFrom m as_ k) (import_from_given n p m as_ k w.0 w.1)
+    drawn l (Trees.Global xs) h = let w = and_parts (has_one xs) (list_all n.name xs) h in simply l (Trees.Global xs) (global_given n p xs w.0 w.1)
+    drawn l (Trees.Nonlocal xs) h = let w = and_parts (has_one xs) (list_all n.name xs) h in simply l (Trees.Nonlocal xs) (nonlocal_given n p xs w.0 w.1)
     drawn l (Trees.ExprOf e) h = simply l (Trees.ExprOf e) (value_given n p e h)
     drawn l Trees.Pass h = simply l Trees.Pass (Word Key.Pass ∷ [], refl, F.pass)
     drawn l Trees.Break h = simply l Trees.Break (Word Key.Break ∷ [], refl, F.break)

@@ -21,6 +21,7 @@ use Rattle.pygrammar.specs.Lines.{if_header, loop_header, with_header, except_he
 use Rattle.pygrammar.specs.Forms as F
 use Rattle.pygrammar.specs.Forms.{alias, item, augmented, listed, type_name}
 use Rattle.pytree_node.specs.Profiles.{has_types}
+use Rattle.pytree_fits.specs.Tests.{Tests}
 use Rattle.pytree_fits.specs.Slots.{is_context, is_a_name, is_single, perhaps_name, fits_at, fits_target, each_target_fits, each_fits, perhaps_fits, each_keyword_fits, fits_arguments}
 use Rattle.pytree_fits.specs.Statements.{has_one, dotted, import_fits, alias_fits, is_star, is_all, imports_fit, source_fits, perhaps_target_fits, item_fits, type_param_fits, types_fit, raised_fits, caught_fits}
 use Rattle.pytree_fits.proofs.Fields.AsSpelled.{all_as_spelled, GivenAsSpelled, pass_on}
@@ -31,7 +32,7 @@ use Rattle.pytree_fits.proofs.Giving.Gives.{made}
 use Rattle.pytree_fits.proofs.Exactness.Exactly.{target_given, single_given, del_target_given, item_target_given, parameters_given, arguments_given}
 use Rattle.pytree_fits.proofs.Fields.Dots.{dotted_given}
 
-module _ (n : Identifier → Bool) where
+module _ (n : Tests) where
   -- ---- Lists with commas.
 
   commas : {A : Type 0} {X : List Terminal → A → Type 0} (f : A → Bool) → ((a : A) → f a ≡ true → GivenAsSpelled n X a) → (a : A) (xs : List A) → list_all f (a ∷ xs) ≡ true → GivenAsSpelled n (F.Commas A X) (a ∷ xs)
@@ -56,7 +57,7 @@ module _ (n : Identifier → Bool) where
   behind_given t l None p h = ([], refl, F.none_behind)
   behind_given t l (Some e) p h = let u = made n l e h in (t ∷ u.0, pass_on n (t ∷ []) u.0 p u.1, F.behind u.2)
 
-  as_given : (x : Option Identifier) → perhaps_name n x ≡ true → GivenAsSpelled n F.As x
+  as_given : (x : Option Identifier) → perhaps_name n.name x ≡ true → GivenAsSpelled n F.As x
   as_given None h = ([], refl, F.no_as)
   as_given (Some x) h = (Word Key.As ∷ (in_form x ∷ []), named_pass n x [] h refl, F.as_name)
 
@@ -64,12 +65,12 @@ module _ (n : Identifier → Bool) where
   async_given false = ([], refl, F.no_async)
   async_given true = (Word Key.Async ∷ [], refl, F.async)
 
-  name_given : (x : Identifier) → n x ≡ true → GivenAsSpelled n F.Name x
+  name_given : (x : Identifier) → n.name x ≡ true → GivenAsSpelled n F.Name x
   name_given x h = (in_form x ∷ [], named_pass n x [] h refl, F.name)
 
   type_param : (p : TypeParam) → type_param_fits n p ≡ true → GivenAsSpelled n F.TypeParamOf p
   type_param (Trees.TypeVar x bound) h =
-      let w = and_parts (n x) (perhaps_fits n Expression (optional bound)) h in
+      let w = and_parts (n.name x) (perhaps_fits n Expression (optional bound)) h in
       let u = behind_given (Op Sign.Colon) Expression bound refl w.1 in
       (in_form x ∷ u.0, named_pass n x u.0 w.0 u.1, F.type_var u.2)
   type_param (Trees.TypeVarTuple x) h = (Op Sign.Star ∷ (in_form x ∷ []), named_pass n x [] h refl, F.type_var_tuple)
@@ -84,16 +85,16 @@ module _ (n : Identifier → Bool) where
 
   -- ---- Imports.
 
-  module_given : (a : Alias) → import_fits n a ≡ true → GivenAsSpelled n F.DottedAlias a
+  module_given : (a : Alias) → import_fits n.name a ≡ true → GivenAsSpelled n F.DottedAlias a
   module_given a h =
-      let w = and_parts (dotted n a.name) (perhaps_name n a.asname) h in
+      let w = and_parts (dotted n.name a.name) (perhaps_name n.name a.asname) h in
       let u = dotted_given n a.name w.0 in
       let v = as_given a.asname w.1 in
       (u.0 ++ v.0, pass_on n u.0 v.0 u.1 v.1, F.dotted_as u.2 v.2)
 
-  alias_given : (a : Alias) → alias_fits n a ≡ true → GivenAsSpelled n F.NameAlias a
+  alias_given : (a : Alias) → alias_fits n.name a ≡ true → GivenAsSpelled n F.NameAlias a
   alias_given a h =
-      let w = and_parts (n a.name) (perhaps_name n a.asname) h in
+      let w = and_parts (n.name a.name) (perhaps_name n.name a.asname) h in
       let v = as_given a.asname w.1 in
       (in_form a.name ∷ v.0, named_pass n a.name v.0 w.0 v.1, F.name_as v.2)
 
@@ -113,14 +114,14 @@ module _ (n : Identifier → Bool) where
       (λ i. alias (star_is a.name w.0 i) (none_is a.asname w.1 i) ∷ [])
   all_are (a ∷ (b ∷ rest)) h = absurd (never h)
 
-  names_given : (as_ : List Alias) → imports_fit n as_ ≡ true → GivenAsSpelled n F.Names as_
-  names_given as_ h = elim (or_cases (is_all as_) (has_one as_ && list_all (alias_fits n) as_) h) [
+  names_given : (as_ : List Alias) → imports_fit n.name as_ ≡ true → GivenAsSpelled n F.Names as_
+  names_given as_ h = elim (or_cases (is_all as_) (has_one as_ && list_all (alias_fits n.name) as_) h) [
     | inl a ↦ subst (GivenAsSpelled n F.Names) (sym (all_are as_ a)) (Op Sign.Star ∷ [], refl, F.all_names)
-    | inr b ↦ some_names (and_parts (has_one as_) (list_all (alias_fits n) as_) b)
+    | inr b ↦ some_names (and_parts (has_one as_) (list_all (alias_fits n.name) as_) b)
   ]
     where
-      some_names : (has_one as_ ≡ true) × (list_all (alias_fits n) as_ ≡ true) → GivenAsSpelled n F.Names as_
-      some_names w = let u = some_commas (alias_fits n) alias_given as_ w.0 w.1 in (u.0, u.1, F.names u.2)
+      some_names : (has_one as_ ≡ true) × (list_all (alias_fits n.name) as_ ≡ true) → GivenAsSpelled n F.Names as_
+      some_names w = let u = some_commas (alias_fits n.name) alias_given as_ w.0 w.1 in (u.0, u.1, F.names u.2)
 
   dots_given : (k : ℕ) → GivenAsSpelled n F.Dots k
   dots_given zero = ([], refl, F.no_dot)
@@ -189,17 +190,17 @@ module _ (n : Identifier → Bool) where
         let z = behind_given (Op Sign.Equal) Value v refl q in
         (Op Sign.LPar ∷ (u.0 ++ (Op Sign.RPar ∷ (Op Sign.Colon ∷ (w.0 ++ z.0)))), pass_on n u.0 (Op Sign.RPar ∷ (Op Sign.Colon ∷ (w.0 ++ z.0))) u.1 (pass_on n w.0 z.0 w.1 z.1), F.annotated_group u.2 w.2 z.2)
     annotated_given (Trees.Name x c) a v true h s p q =
-        let k = and_parts (is_context Store c) (n x) h in
+        let k = and_parts (is_context Store c) (n.name x) h in
         let w = made n Expression a p in
         let z = behind_given (Op Sign.Equal) Value v refl q in
         in_context (λ k. GivenAsSpelled n (F.Simple profile) (Trees.AnnAssign (Trees.Name x k) a v true)) Store c k.0
         (in_form x ∷ (Op Sign.Colon ∷ (w.0 ++ z.0)), named_pass n x (Op Sign.Colon ∷ (w.0 ++ z.0)) k.1 (pass_on n w.0 z.0 w.1 z.1), F.annotated_name w.2 z.2)
     annotated_given _ a v true h s p q = absurd (never s)
 
-    pub alias_assigned : n type_name ≡ true → (t : Expr) (ps : List TypeParam) (e : Expr) → has_types profile ≡ true → is_a_name t ≡ true → fits_target n Store t ≡ true →
+    pub alias_assigned : n.name type_name ≡ true → (t : Expr) (ps : List TypeParam) (e : Expr) → has_types profile ≡ true → is_a_name t ≡ true → fits_target n Store t ≡ true →
         list_all (type_param_fits n) ps ≡ true → fits_at n Expression e ≡ true → GivenAsSpelled n (F.Simple profile) (Trees.TypeAlias t ps e)
     alias_assigned typed (Trees.Name x c) ps e h s f q p =
-        let k = and_parts (is_context Store c) (n x) f in
+        let k = and_parts (is_context Store c) (n.name x) f in
         let u = type_params profile ps (and_from (no_types ps || has_types profile) (list_all (type_param_fits n) ps) (either (no_types ps) (has_types profile) h) q) in
         let v = made n Expression e p in
         in_context (λ k. GivenAsSpelled n (F.Simple profile) (Trees.TypeAlias (Trees.Name x k) ps e)) Store c k.0
@@ -232,16 +233,16 @@ module _ (n : Identifier → Bool) where
     pub value_given : (e : Expr) → fits_at n Value e ≡ true → GivenAsSpelled n (F.Simple profile) (Trees.ExprOf e)
     value_given e h = let u = made n Value e h in (u.0, u.1, F.value u.2)
 
-    pub global_given : (xs : List Identifier) → has_one xs ≡ true → list_all n xs ≡ true → GivenAsSpelled n (F.Simple profile) (Trees.Global xs)
-    global_given xs h q = let u = some_commas n name_given xs h q in (Word Key.Global ∷ u.0, u.1, F.global u.2)
+    pub global_given : (xs : List Identifier) → has_one xs ≡ true → list_all n.name xs ≡ true → GivenAsSpelled n (F.Simple profile) (Trees.Global xs)
+    global_given xs h q = let u = some_commas n.name name_given xs h q in (Word Key.Global ∷ u.0, u.1, F.global u.2)
 
-    pub nonlocal_given : (xs : List Identifier) → has_one xs ≡ true → list_all n xs ≡ true → GivenAsSpelled n (F.Simple profile) (Trees.Nonlocal xs)
-    nonlocal_given xs h q = let u = some_commas n name_given xs h q in (Word Key.Nonlocal ∷ u.0, u.1, F.nonlocal u.2)
+    pub nonlocal_given : (xs : List Identifier) → has_one xs ≡ true → list_all n.name xs ≡ true → GivenAsSpelled n (F.Simple profile) (Trees.Nonlocal xs)
+    nonlocal_given xs h q = let u = some_commas n.name name_given xs h q in (Word Key.Nonlocal ∷ u.0, u.1, F.nonlocal u.2)
 
-    pub import_given : (as_ : List Alias) → has_one as_ ≡ true → list_all (import_fits n) as_ ≡ true → GivenAsSpelled n (F.Simple profile) (Trees.Import as_)
-    import_given as_ h q = let u = some_commas (import_fits n) module_given as_ h q in (Word Key.Import ∷ u.0, u.1, F.import_names u.2)
+    pub import_given : (as_ : List Alias) → has_one as_ ≡ true → list_all (import_fits n.name) as_ ≡ true → GivenAsSpelled n (F.Simple profile) (Trees.Import as_)
+    import_given as_ h q = let u = some_commas (import_fits n.name) module_given as_ h q in (Word Key.Import ∷ u.0, u.1, F.import_names u.2)
 
-    pub import_from_given : (m : Option Identifier) (as_ : List Alias) (k : ℕ) → source_fits n m k ≡ true → imports_fit n as_ ≡ true → GivenAsSpelled n (F.Simple profile) (Trees.ImportFrom m as_ k)
+    pub import_from_given : (m : Option Identifier) (as_ : List Alias) (k : ℕ) → source_fits n.name m k ≡ true → imports_fit n.name as_ ≡ true → GivenAsSpelled n (F.Simple profile) (Trees.ImportFrom m as_ k)
     import_from_given None as_ k h q =
         let u = dots_given k in
         let v = names_given as_ q in
@@ -292,7 +293,7 @@ module _ (n : Identifier → Bool) where
     except_given false None None h = (Word Key.Except ∷ [], refl, F.except_all)
     except_given false None (Some x) h = absurd (never h)
     except_given star (Some e) name h =
-        let w = and_parts (fits_at n Expression e) (perhaps_name n name) h in
+        let w = and_parts (fits_at n Expression e) (perhaps_name n.name name) h in
         let u = made n Expression e w.0 in
         let v = as_given name w.1 in
         by star (u.0 ++ v.0) (pass_on n u.0 v.0 u.1 v.1) (F.except_line u.2 v.2) (F.except_star u.2 v.2)
@@ -303,7 +304,7 @@ module _ (n : Identifier → Bool) where
         by true ts s p q = (Word Key.Except ∷ (Op Sign.Star ∷ ts), s, q)
 
     pub function_given : (b : Bool) (x : Identifier) (tps : List TypeParam) (a : Arguments) (r : Option Expr) →
-        n x ≡ true → types_fit profile n tps ≡ true → fits_arguments n true a ≡ true → perhaps_fits n Expression (optional r) ≡ true → GivenAsSpelled n (F.HeaderOf profile) (def_header (function_head b x tps a r))
+        n.name x ≡ true → types_fit profile n tps ≡ true → fits_arguments n true a ≡ true → perhaps_fits n Expression (optional r) ≡ true → GivenAsSpelled n (F.HeaderOf profile) (def_header (function_head b x tps a r))
     function_given b x tps a r h t f q =
         let s = async_given b in
         let u = type_params profile tps t in
@@ -320,7 +321,7 @@ module _ (n : Identifier → Bool) where
     listed_same (e ∷ es) = ap (λ z. e ∷ z) (listed_same es)
 
     pub class_given : (x : Identifier) (tps : List TypeParam) (bases : List Expr) (ks : Keywords) →
-        n x ≡ true → types_fit profile n tps ≡ true → (each_fits n Elem (exprs bases) && each_keyword_fits n ks) ≡ true → GivenAsSpelled n (F.HeaderOf profile) (def_header (class_head x tps bases ks))
+        n.name x ≡ true → types_fit profile n tps ≡ true → (each_fits n Elem (exprs bases) && each_keyword_fits n ks) ≡ true → GivenAsSpelled n (F.HeaderOf profile) (def_header (class_head x tps bases ks))
     class_given x tps bases ks h t f =
         let u = type_params profile tps t in
         let v = arguments_given n (exprs bases) ks f in

@@ -4,9 +4,10 @@ use Rattle.std.specs.Prelude.{not, eqb, leb, length}
 use Rattle.std.proofs.lemmas.Bool.{and_parts, eqb-true, leb-true}
 use Rattle.pytree_node.specs.declared.operators.Context.TheVariants.{Load, Store}
 use Rattle.pytree_node.specs.Trees
-use Rattle.pytree_node.specs.Trees.{Identifier, Expr, Exprs, no_exprs, an_expr, OptionalExpr, absent, present, OptionalExprs, no_optional, an_optional, Keywords, no_keyword, a_keyword, Comprehensions, no_comprehension, a_comprehension, arguments}
+use Rattle.pytree_node.specs.Trees.{Expr, Exprs, no_exprs, an_expr, OptionalExpr, absent, present, OptionalExprs, no_optional, an_optional, Keywords, no_keyword, a_keyword, Comprehensions, no_comprehension, a_comprehension, arguments}
 use Rattle.pygrammar.specs.declared.levels.Level.{Level}
 use Rattle.pygrammar.specs.declared.levels.Level.TheVariants.{Stars, Named, Expression, Elem, Slices}
+use Rattle.pytree_fits.specs.Tests.{Tests}
 use Rattle.pytree_fits.specs.Slots.{takes_star, takes_slice, member_level, is_context, is_starred, is_a_name, count, count_optional, has_some, perhaps_name, fits_at, fits_target, each_target_fits, each_fits, perhaps_fits, each_perhaps_fits, each_keyword_fits, each_clause_fits, fits_arguments}
 use Rattle.pytree_fits.proofs.Fields.Tests.{parts3, parts4, never, in_context}
 use Rattle.pytree_fits.proofs.Giving.Places as P
@@ -16,10 +17,10 @@ use Rattle.pytree_fits.proofs.Giving.Calls.{Positional, no_positional, a_plain, 
 use Rattle.pytree_fits.proofs.Fields.Arranging.{fit_parts}
 use Rattle.pytree_fits.proofs.Giving.Parameters.{lambda_given}
 
-module _ (n : Identifier → Bool) where
+module _ (n : Tests) where
   -- the target of `:=`
   named_as : (l : Level) (t e : Expr) → is_a_name t ≡ true → fits_target n Store t ≡ true → P.At n Expression e → P.At n l (Trees.NamedExpr t e)
-  named_as l (Trees.Name x c) e h f p = let w = and_parts (is_context Store c) (n x) f in in_context (λ k. P.At n l (Trees.NamedExpr (Trees.Name x k) e)) Store c w.0 (named_given n l x e w.1 p)
+  named_as l (Trees.Name x c) e h f p = let w = and_parts (is_context Store c) (n.name x) f in in_context (λ k. P.At n l (Trees.NamedExpr (Trees.Name x k) e)) Store c w.0 (named_given n l x e w.1 p)
   named_as l _ e h f p = absurd (never h)
 
   mutual
@@ -56,7 +57,7 @@ module _ (n : Identifier → Bool) where
         call_given n l f es ks (made Expression f w.0) (positional es w.1) (labelled ks w.2)
     made l (Trees.Constant v) h = constant_given n l v h
     made l (Trees.Attribute e x c) h =
-        let w = parts3 (is_context Load c) (n x) (fits_at n Expression e) h in
+        let w = parts3 (is_context Load c) (n.name x) (fits_at n Expression e) h in
         in_context (λ k. P.At n l (Trees.Attribute e x k)) Load c w.0 (attribute_given n l e x w.1 (made Expression e w.2))
     made l (Trees.Subscript e s c) h =
         let w = parts3 (is_context Load c) (fits_at n Expression e) (fits_at n Slices s) h in
@@ -64,7 +65,7 @@ module _ (n : Identifier → Bool) where
     made l (Trees.Starred e c) h =
         let w = parts3 (takes_star l) (is_context Load c) (fits_at n Expression e) h in
         in_context (λ k. P.At n l (Trees.Starred e k)) Load c w.1 (starred_at n l w.0 (made Expression e w.2))
-    made l (Trees.Name x c) h = let w = and_parts (is_context Load c) (n x) h in in_context (λ k. P.At n l (Trees.Name x k)) Load c w.0 (name_given n l x w.1)
+    made l (Trees.Name x c) h = let w = and_parts (is_context Load c) (n.name x) h in in_context (λ k. P.At n l (Trees.Name x k)) Load c w.0 (name_given n l x w.1)
     made l (Trees.ListOf es c) h = let w = and_parts (is_context Load c) (each_fits n Elem es) h in in_context (λ k. P.At n l (Trees.ListOf es k)) Load c w.0 (list_given n l es (each Elem es w.1))
     made l (Trees.Tuple es c) h =
         let w = and_parts (is_context Load c) (each_fits n (member_level l) es) h in
@@ -74,9 +75,9 @@ module _ (n : Identifier → Bool) where
         slice_given n l a b c w.0 (may_be Expression a w.1) (may_be Expression b w.2) (may_be Expression c w.3)
 
     pub aim : (s : Expr) → fits_target n Store s ≡ true → Aim n s
-    aim (Trees.Name x c) h = let w = and_parts (is_context Store c) (n x) h in in_context (λ k. Aim n (Trees.Name x k)) Store c w.0 (name_aim n x w.1)
+    aim (Trees.Name x c) h = let w = and_parts (is_context Store c) (n.name x) h in in_context (λ k. Aim n (Trees.Name x k)) Store c w.0 (name_aim n x w.1)
     aim (Trees.Attribute e x c) h =
-        let w = parts3 (is_context Store c) (n x) (fits_at n Expression e) h in
+        let w = parts3 (is_context Store c) (n.name x) (fits_at n Expression e) h in
         in_context (λ k. Aim n (Trees.Attribute e x k)) Store c w.0 (attribute_aim n e x w.1 (made Expression e w.2))
     aim (Trees.Subscript e s c) h =
         let w = parts3 (is_context Store c) (fits_at n Expression e) (fits_at n Slices s) h in
@@ -115,7 +116,7 @@ module _ (n : Identifier → Bool) where
     pub labelled : (ks : Keywords) → each_keyword_fits n ks ≡ true → Labelled n ks
     labelled no_keyword h = no_label
     labelled (a_keyword x e ks) h =
-        let w = parts3 (perhaps_name n x) (fits_at n Expression e) (each_keyword_fits n ks) h in
+        let w = parts3 (perhaps_name n.name x) (fits_at n Expression e) (each_keyword_fits n ks) h in
         a_label x w.0 (made Expression e w.1) (labelled ks w.2)
 
     clauses : (gs : Comprehensions) → each_clause_fits n gs ≡ true → Clauses n gs

@@ -1,7 +1,6 @@
 -- Carries: the laws of the slots. On: nodes of what is given are given:
 -- operators, displays, primaries.
 use Rattle.std.proofs.Common.{◌≡◌, refl, ap, subst, ◌≤◌, arith, List, [], ◌∷◌, ◌++◌, length, Some, Bool, true, false}
-use Rattle.std.specs.Prelude.{nat_lt, ◌^◌}
 use Rattle.std.proofs.lemmas.Bool.{and_from}
 use Rattle.pylex_lexeme.specs.declared.kinds.Exact.TheVariants.{LPar, RPar, LSqb, RSqb, LBrace, RBrace, Colon, Comma, Star, Slash, Dot, DoubleStar, ColonEqual, VBar, Circumflex, Amper, LeftShift, RightShift, Plus, Minus, DoubleSlash, Percent, At, Tilde, EqEqual, NotEqual, Less, LessEqual, Greater, GreaterEqual, Ellipsis}
 use Rattle.pytoken.specs.declared.keywords.Keyword.TheVariants as Key
@@ -17,15 +16,16 @@ use Rattle.pytree_node.specs.declared.operators.Context.TheVariants.{Load, Store
 use Rattle.pytree_node.specs.Trees
 use Rattle.pytree_node.specs.Trees.{Identifier, Expr, Exprs, no_exprs, an_expr, OptionalExpr, OptionalExprs, no_optional, an_optional, absent, present, exprs}
 use Rattle.pytree_node.specs.Values
-use Rattle.pytoken.specs.Terminals.{Terminal, Op, Word, in_form, Whole, Literal}
+use Rattle.pytoken.specs.Terminals.{Terminal, Op, Word, in_form, Number, Literal}
 use Rattle.pygrammar.specs.declared.levels.Level.{Level}
 use Rattle.pygrammar.specs.declared.levels.Level.TheVariants.{Stars, Named, Expression, Or, Not, Compare, BitOr, BitXor, BitAnd, Shift, Sum, Term, Factor, Power, Await, Primary, Atom, Elem, Slices, Part, Slice}
 use Rattle.pygrammar.specs.Operators.{below, left_operator, prefix_operator, chain_level, chain_word}
 use Rattle.pygrammar.specs.Entries.{Item, Of, Entry, Single, singles}
 use Rattle.pygrammar.specs.Grammar as G
+use Rattle.pytree_fits.specs.Tests.{Tests}
 use Rattle.pytree_fits.specs.Literals.{is_value}
 use Rattle.pytree_fits.specs.Slots.{member_level, takes_slice, count}
-use Rattle.pytree_fits.specs.Given.{is_literal}
+use Rattle.pytree_fits.specs.Given.{is_number, passes}
 use Rattle.pytree_fits.proofs.Fields.AsSpelled.{all_as_spelled, GivenAsSpelled, pass_on}
 use Rattle.pytree_fits.proofs.Fields.Levels.{inner}
 use Rattle.pytree_fits.proofs.Giving.Places as P
@@ -33,7 +33,7 @@ use Rattle.pytree_fits.proofs.Giving.Places.{MayBe, left_out, there, Each, no_mo
 
 -- ---- Lists with commas.
 
-pub data Pieces (n : Identifier → Bool) (i : Item) : List Entry → Type 0 where
+pub data Pieces (n : Tests) (i : Item) : List Entry → Type 0 where
   no_piece : Pieces n i []
   a_piece : {e : Entry} {es : List Entry} → GivenAsSpelled n (G.Piece i) e → Pieces n i es → Pieces n i (e ∷ es)
 
@@ -45,7 +45,7 @@ pub singles_are : (es : Exprs) → singles (single_entries es) ≡ es
 singles_are no_exprs = refl
 singles_are (an_expr e es) = ap (an_expr e) (singles_are es)
 
-module _ (n : Identifier → Bool) where
+module _ (n : Tests) where
   pub listing : {i : Item} {es : List Entry} → Pieces n i es → GivenAsSpelled n (G.Listing i) es
   listing no_piece = ([], refl, G.no_item)
   listing (a_piece p r) = let w = listing r in (p.0 ++ (Op Comma ∷ w.0), pass_on n p.0 (Op Comma ∷ w.0) p.1 w.1, G.item p.2 w.2)
@@ -56,17 +56,22 @@ module _ (n : Identifier → Bool) where
 
   -- ---- Names and constants.
 
-  pub name_given : (l : Level) (x : Identifier) → n x ≡ true → P.At n l (Trees.Name x Load)
+  pub name_given : (l : Level) (x : Identifier) → n.name x ≡ true → P.At n l (Trees.Name x Load)
   name_given l x h = lifted n l (in_form x ∷ [], named_pass n x [] h refl, G.name)
 
-  pub constant_given : (l : Level) (v : Values.Value) → is_value v ≡ true → P.At n l (Trees.Constant v)
+  number_given : (l : Level) (v : Values.Value) → is_number v ≡ true → is_value n.extent v ≡ true → P.At n l (Trees.Constant v)
+  number_given l v k h = lifted n l (Number v ∷ [], and_from (passes n (Number v)) true (and_from (is_number v) (is_value n.extent v) k h) refl, G.number)
+
+  pub constant_given : (l : Level) (v : Values.Value) → is_value n.extent v ≡ true → P.At n l (Trees.Constant v)
   constant_given l Values.None h = lifted n l (Word Key.None ∷ [], refl, G.constant refl)
   constant_given l Values.Ellipsis h = lifted n l (Op Ellipsis ∷ [], refl, G.constant refl)
   constant_given l (Values.Bool true) h = lifted n l (Word Key.True ∷ [], refl, G.constant refl)
   constant_given l (Values.Bool false) h = lifted n l (Word Key.False ∷ [], refl, G.constant refl)
-  constant_given l (Values.Int k) h = lifted n l (Whole k ∷ [], and_from (nat_lt k (2 ^ 128)) true h refl, G.number)
-  constant_given l (Values.Str t u) h = lifted n l (Literal (Values.Str t u) ∷ [], and_from (is_literal (Values.Str t u)) true h refl, G.strings [] refl)
-  constant_given l (Values.Bytes t) h = lifted n l (Literal (Values.Bytes t) ∷ [], and_from (is_literal (Values.Bytes t)) true h refl, G.strings [] refl)
+  constant_given l (Values.Int k) h = number_given l (Values.Int k) refl h
+  constant_given l (Values.Float x) h = number_given l (Values.Float x) refl h
+  constant_given l (Values.Imaginary x) h = number_given l (Values.Imaginary x) refl h
+  constant_given l (Values.Str t u) h = lifted n l (Literal (Values.Str t u) ∷ [], and_from (is_value n.extent (Values.Str t u)) true h refl, G.strings [] refl)
+  constant_given l (Values.Bytes t) h = lifted n l (Literal (Values.Bytes t) ∷ [], and_from (is_value n.extent (Values.Bytes t)) true h refl, G.strings [] refl)
 
   -- ---- Operators.
 
@@ -183,7 +188,7 @@ module _ (n : Identifier → Bool) where
       anywhere_at n Expression refl
       (u.0 ++ (Word Key.If ∷ (v.0 ++ (Word Key.Else ∷ w.0))), pass_on n u.0 (Word Key.If ∷ (v.0 ++ (Word Key.Else ∷ w.0))) u.1 (pass_on n v.0 (Word Key.Else ∷ w.0) v.1 w.1), G.if_else u.2 v.2 w.2) l
 
-  pub named_given : (l : Level) (x : Identifier) (e : Expr) → n x ≡ true → P.At n Expression e → P.At n l (Trees.NamedExpr (Trees.Name x Store) e)
+  pub named_given : (l : Level) (x : Identifier) (e : Expr) → n.name x ≡ true → P.At n Expression e → P.At n l (Trees.NamedExpr (Trees.Name x Store) e)
   named_given l x e h f = anywhere_at n Named refl (in_form x ∷ (Op ColonEqual ∷ f.0), named_pass n x (Op ColonEqual ∷ f.0) h f.1, G.named f.2) l
 
   -- ---- Yields.
@@ -233,7 +238,7 @@ module _ (n : Identifier → Bool) where
 
   -- ---- Attributes, subscripts, slices.
 
-  pub attribute_given : (l : Level) (e : Expr) (x : Identifier) → n x ≡ true → P.At n Expression e → P.At n l (Trees.Attribute e x Load)
+  pub attribute_given : (l : Level) (e : Expr) (x : Identifier) → n.name x ≡ true → P.At n Expression e → P.At n l (Trees.Attribute e x Load)
   attribute_given l e x h f =
       let u = at n Primary f in
       anywhere_at n Primary refl (u.0 ++ (Op Dot ∷ (in_form x ∷ [])), pass_on n u.0 (Op Dot ∷ (in_form x ∷ [])) u.1 (named_pass n x [] h refl), G.attribute _ u.2) l

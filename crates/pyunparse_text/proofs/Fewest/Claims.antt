@@ -235,6 +235,8 @@ name_claim = atom _ _ _ (λ m. refl) refl tt G.name (omega arith)
 
 constant_derived : (v : Values.Value) → G.Derives Atom (constant_terminal v ∷ []) (Trees.Constant v)
 constant_derived (Values.Int n) = G.number
+constant_derived (Values.Float x) = G.number
+constant_derived (Values.Imaginary x) = G.number
 constant_derived (Values.Bool true) = G.constant refl
 constant_derived (Values.Bool false) = G.constant refl
 constant_derived Values.None = G.constant refl

@@ -7,7 +7,6 @@ use Rattle.pylex_lexeme.specs.declared.kinds.Exact.{Exact}
 use Rattle.pytree_node.specs.declared.operators.BoolOperator.{BoolOperator}
 use Rattle.pytree_node.specs.declared.operators.Comparison.{Comparison}
 use Rattle.pygrammar.specs.declared.levels.Level.{Level}
-use Rattle.pytree_node.specs.Values
 use Rattle.pytree_node.specs.Trees.{Expr, OptionalExpr, Comprehension}
 use Rattle.pytoken.specs.Terminals.{Terminal}
 use Rattle.pygrammar.specs.Entries.{Item, Entry}
@@ -41,7 +40,7 @@ mutual
   claim (G.subscript p q) = subscript_claim (claim p) (claim q)
   claim G.name = name_claim
   claim (G.constant {t = t} {v = v} h) = constant_claim v t _
-  claim (G.number {n = n}) = constant_claim (Values.Int n) _ _
+  claim (G.number {v = v}) = constant_claim v _ _
   claim (G.strings {v = v} {w = w} vs h) = constant_claim w _ _
   claim (G.group p) = group_claim (claim p)
   claim (G.yield_group p) = yield_group_claim (yields p)

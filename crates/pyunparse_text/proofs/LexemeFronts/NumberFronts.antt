@@ -1,99 +1,210 @@
--- A whole number at the front of a text.
+-- A number at the front of a text: what stands behind it, where no name and no point goes on,
+-- changes no length that a reader of numbers takes.
 --
--- Carries: number_front, for PieceFronts. On: Fronts, Cases.
-use Rattle.std.proofs.Common.{◌≡◌, ℕ, Bool, true, false, ◌&&◌, ◌||◌, ◌==◌, List, [], ◌∷◌, ◌++◌, length, drop, refl, ◌∙◌, ap, arith, suc, ⊎_elim, Some}
-use Rattle.std.specs.List.{list_all}
-use Rattle.std.proofs.Math.Seq.{drop-append_seam}
+-- Carries: number_front, for PieceFronts. On: NumberParts, Fronts, Cases.
+use Rattle.std.proofs.Common.{◌≡◌, ℕ, ◌+◌, Bool, true, false, not, ◌&&◌, ◌||◌, ◌==◌, List, [], ◌∷◌, ◌++◌, length, drop, refl, sym, ◌∙◌, ap, arith, suc, if◌then◌else◌, leb, ltb, ⊎_elim, Some, drop-drop, length-drop}
+use Rattle.std.specs.Char.{is_ascii_alphanumeric}
+use Rattle.std.proofs.Math.Seq.{take-length}
+use Rattle.std.proofs.lemmas.Bool.{eqb-true, leb-true}
 use Rattle.std.proofs.lemmas.Bool.Decides.{nat_tests}
-use Rattle.std.proofs.lemmas.Bool.{eqb-true}
+use Rattle.std.proofs.lemmas.List.{drop-append-le}
 use Rattle.unicode_ident.specs.Ident.{is_xid_continue}
 use Rattle.unicode_ident.proofs.IdentLemmas.{is_xid_continue-ascii}
 use Rattle.pylex_lexeme.specs.declared.lexeme.Class.TheVariants.{Number}
 use Rattle.pylex_lexeme.specs.Chars.{begins}
-use Rattle.pylex_lexeme.specs.Numbers.{is_nil, is_decimal_digit, is_zero, is_one_to_nine, is_point, is_e, is_j, is_x, is_o, is_b, is_number}
-use Rattle.pylex_lexeme.specs.Lengths.{longest, begins_number, number_len, plain_len, radix_len, tail_len, fraction_len, joined_len}
+use Rattle.pylex_lexeme.specs.Numbers.{is_decimal_digit, is_zero, is_hex_digit, is_octal_digit, is_binary_digit, is_point, is_e, is_j, is_x, is_o, is_b, is_number}
+use Rattle.pylex_lexeme.specs.Lengths.{longest, number_len, plain_len, radix_len, based_len, tail_len, fraction_len, point_len, exponent_len, j_len, digit_part_len, joined_len}
 use Rattle.pylex_lexeme.specs.Lexemes.{lexeme_at}
-use Rattle.pylex_lexeme.proofs.Callers.Booleans.{and_parts, or_parts}
-use Rattle.pylex_lexeme.proofs.Callers.Numbers.{len_digit, digit_bounds, either, zero_digit, one_digit, not_both, radix_none, radix_other, exponent_none, point_none, j_none, fraction_is, tail_is, longest_number}
+use Rattle.pylex_lexeme.proofs.Callers.Booleans.{and_parts}
 use Rattle.pylex_lexeme.proofs.Callers.Fronts.{stop_first}
 use Rattle.pylex_lexeme.proofs.Callers.Lexemes.{number_takes}
-use Rattle.pyunparse_text.specs.Spacing.{is_whole}
+use Rattle.pylex_lexeme.proofs.Callers.Numbers.{either, either_not, zero_digit, exponent_none, longest_is, longest_number}
 use Rattle.pyunparse_text.proofs.LexemeFronts.Fronts.{is_lexeme, leaves}
-use Rattle.pyunparse_text.proofs.Cases.{cases}
+use Rattle.pyunparse_text.proofs.LexemeFronts.NumberParts.{number_begins, begins_more}
+use Rattle.pyunparse_text.proofs.Cases.{bool_cases, cases}
+
+-- ---- What goes on in names.
+
+-- all characters of a set go on in names
+abbrev Continue : (ℕ → Bool) → Type 0
+Continue f = (c : ℕ) → f c ≡ true → is_xid_continue c ≡ true
+
+-- a letter, a digit or an underscore of ASCII
+abbrev word : ℕ → Bool
+word c = leb c 127 && (is_ascii_alphanumeric c || (c == 95))
+
+word_continues : Continue word
+word_continues c e =
+    let h = and_parts (leb c 127) (is_ascii_alphanumeric c || (c == 95)) e in
+    let b = leb-true c 127 h.0 in
+    is_xid_continue-ascii c (omega arith) ∙ h.1
+
+two_continue : (a b : ℕ) → word a ≡ true → word b ≡ true → Continue (λ c. (c == a) || (c == b))
+two_continue a b e f c h = either is_xid_continue a b c h (word_continues a e) (word_continues b f)
+
+digit_continues : Continue is_decimal_digit
+digit_continues c e = word_continues c (grind (arith, nat_tests))
+
+hex_continues : Continue is_hex_digit
+hex_continues c e = word_continues c (grind (arith, nat_tests))
+
+octal_continues : Continue is_octal_digit
+octal_continues c e = word_continues c (grind (arith, nat_tests))
+
+zero_continues : Continue is_zero
+zero_continues c e = digit_continues c (zero_digit c e)
+
+-- ---- Behind a text.
+
+-- no name and no point goes on
+record Ends (r : List ℕ) : Type 0 where
+  pub continues : begins is_xid_continue r ≡ false
+  pub point : begins is_point r ≡ false
 
 -- What stands in names alone doesn't stand where no name goes on.
-pub ends_there : (f : ℕ → Bool) (r : List ℕ) → ((c : ℕ) → f c ≡ true → is_xid_continue c ≡ true) → begins is_xid_continue r ≡ false → begins f r ≡ false
-ends_there f [] h e = refl
-ends_there f (c ∷ r) h e = cases (f c) (λ g. let x = h c g in cc)
+ends_there : (f : ℕ → Bool) (r : List ℕ) → Continue f → Ends r → begins f r ≡ false
+ends_there f [] h n = refl
+ends_there f (c ∷ r) h n = cases (f c) (λ g. let x = h c g in let e = n.continues in cc)
 
-pub digit_continues : (c : ℕ) → is_decimal_digit c ≡ true → is_xid_continue c ≡ true
-digit_continues c e = let b = digit_bounds c e in rw (is_xid_continue-ascii c (omega arith)) (grind (arith, nat_tests))
+begins_front : (f : ℕ → Bool) (t r : List ℕ) → Continue f → Ends r → begins f (t ++ r) ≡ begins f t
+begins_front f [] r h n = ends_there f r h n
+begins_front f (c ∷ t) r h n = refl
 
-letters : (a b : ℕ) → is_xid_continue a ≡ true → is_xid_continue b ≡ true → (c : ℕ) → ((c == a) || (c == b)) ≡ true → is_xid_continue c ≡ true
-letters a b e f c h = either is_xid_continue a b c h e f
+joiner_off : (r : List ℕ) → Ends r → begins (λ c. c == 95) r ≡ false
+joiner_off r n = ends_there (λ c. c == 95) r (λ c e. two_continue 95 95 refl refl c (rw e refl)) n
 
-joiner_continues : (c : ℕ) → (c == 95) ≡ true → is_xid_continue c ≡ true
-joiner_continues c e = either is_xid_continue 95 95 c (rw e refl) (is_xid_continue-ascii 95 (omega arith)) (is_xid_continue-ascii 95 (omega arith))
-
--- digits of a set, and no more of them
-run_joined : (d : ℕ → Bool) → ((c : ℕ) → d c ≡ true → is_xid_continue c ≡ true) → (t r : List ℕ) → list_all d t ≡ true → begins is_xid_continue r ≡ false → joined_len d (t ++ r) ≡ length t
-run_joined d h [] r a e = stop_first d r (ends_there d r h e) (ends_there (λ c. c == 95) r joiner_continues e)
-run_joined d h (c ∷ t) r a e =
-    let q = and_parts (d c) (list_all d t) a in
-    len_digit d c (t ++ r) q.0 ∙ ap suc (run_joined d h t r q.1 e)
-
--- no tail of a number
-no_tail : (r : List ℕ) → begins is_xid_continue r ≡ false → begins is_point r ≡ false → tail_len r ≡ 0
-no_tail r e p =
-    let o = point_none r p in
-    let x = exponent_none r (ends_there is_e r (letters 101 69 (is_xid_continue-ascii 101 (omega arith)) (is_xid_continue-ascii 69 (omega arith))) e) in
-    let j = j_none r (ends_there is_j r (letters 106 74 (is_xid_continue-ascii 106 (omega arith)) (is_xid_continue-ascii 74 (omega arith))) e) in
-    let f : fraction_len r ≡ 0 = fraction_is r ∙ rw (o, x) refl in
-    tail_is r ∙ rw (f, j) refl
-
-no_radix : (r : List ℕ) → begins is_xid_continue r ≡ false → radix_len (48 ∷ r) ≡ 0
-no_radix r e =
-    radix_other (48 ∷ r) refl
-    (ends_there is_x r (letters 120 88 (is_xid_continue-ascii 120 (omega arith)) (is_xid_continue-ascii 88 (omega arith))) e)
-    (ends_there is_o r (letters 111 79 (is_xid_continue-ascii 111 (omega arith)) (is_xid_continue-ascii 79 (omega arith))) e)
-    (ends_there is_b r (letters 98 66 (is_xid_continue-ascii 98 (omega arith)) (is_xid_continue-ascii 66 (omega arith))) e)
-
-zero_len : (r : List ℕ) → begins is_xid_continue r ≡ false → begins is_point r ≡ false → number_len (48 ∷ r) ≡ 1
-unfolding number_len plain_len
-zero_len r e p =
-    let x = no_radix r e in
-    let d : joined_len is_decimal_digit (48 ∷ r) ≡ 1 = run_joined is_decimal_digit digit_continues (48 ∷ []) r refl e in
-    let z : joined_len is_zero (48 ∷ r) ≡ 1 = run_joined is_zero (λ c h. digit_continues c (zero_digit c h)) (48 ∷ []) r refl e in
-    let t = no_tail r e p in
-    rw (x, d, t, z) refl
-
-whole_len : (c : ℕ) (t r : List ℕ) → is_one_to_nine c ≡ true → list_all is_decimal_digit t ≡ true → begins is_xid_continue r ≡ false → begins is_point r ≡ false → number_len (c ∷ t ++ r) ≡ length (c ∷ t)
-unfolding number_len plain_len
-whole_len c t r o a e p =
-    let n : is_zero c ≡ false = cases (is_zero c) (λ h. let f = not_both c h in cc) in
-    let x = radix_none (c ∷ t ++ r) n in
-    let g = one_digit c o in
-    let w : list_all is_decimal_digit (c ∷ t) ≡ true = rw g a in
-    let d : joined_len is_decimal_digit (c ∷ t ++ r) ≡ length (c ∷ t) = run_joined is_decimal_digit digit_continues (c ∷ t) r w e in
-    let b : drop (length (c ∷ t)) (c ∷ t ++ r) ≡ r = drop-append_seam (c ∷ t) r in
-    let u : tail_len (drop (length (c ∷ t)) (c ∷ t ++ r)) ≡ 0 = ap tail_len b ∙ no_tail r e p in
-    rw (x, d, u, n) (omega arith)
-
-taken : (t r : List ℕ) → begins_number (t ++ r) ≡ true → number_len (t ++ r) ≡ length t → lexeme_at (t ++ r) ≡ Some (record { «class» = Number; text = t })
-taken t r b e = is_lexeme t r Number (leaves t r Number (longest is_number (t ++ r)) (longest_number (t ++ r) b ∙ e) (number_takes (t ++ r) b))
-
-pub number_front : (t r : List ℕ) → is_whole t ≡ true → begins is_xid_continue r ≡ false → begins is_point r ≡ false → lexeme_at (t ++ r) ≡ Some (record { «class» = Number; text = t })
-number_front [] r w e p = cc
-number_front (c ∷ t) r w e p =
-    ⊎_elim (λ (h : (is_zero c && is_nil t) ≡ true). let q = and_parts (is_zero c) (is_nil t) h in at_zero t q.0 q.1)
-    (λ (h : (is_one_to_nine c && list_all is_decimal_digit t) ≡ true).
-    let q = and_parts (is_one_to_nine c) (list_all is_decimal_digit t) h in
-    let d = one_digit c q.0 in
-    taken (c ∷ t) r (rw d refl) (whole_len c t r q.0 q.1 e p))
-    (or_parts (is_zero c && is_nil t) (is_one_to_nine c && list_all is_decimal_digit t) w)
+joined_front : (d : ℕ → Bool) (t r : List ℕ) → Continue d → Ends r → joined_len d (t ++ r) ≡ joined_len d t
+joined_front d [] r h n = stop_first d r (ends_there d r h n) (joiner_off r n)
+joined_front d (a ∷ []) [] h n = refl
+joined_front d (a ∷ []) (b ∷ r) h n = rw (joined_front d [] (b ∷ r) h n, ends_there d (b ∷ r) h n) (last (d a) (a == 95))
   where
-    at_zero : (t : List ℕ) → is_zero c ≡ true → is_nil t ≡ true → lexeme_at (c ∷ t ++ r) ≡ Some (record { «class» = Number; text = c ∷ t })
-    at_zero [] z n =
-        let f : c ≡ 48 = eqb-true c 48 z in
-        rw f (taken (48 ∷ []) r refl (zero_len r e p))
-    at_zero (d ∷ t) z n = cc
+    last : (x y : Bool) → (if x then 1 else (if y && false then suc (suc (joined_len d r)) else 0)) ≡ (if x then 1 else 0)
+    last true y = refl
+    last false true = refl
+    last false false = refl
+joined_front d (a ∷ b ∷ t) r h n = rw (joined_front d (b ∷ t) r h n, joined_front d t r h n) refl
+
+-- ---- The parts of a number.
+
+based_front : (d : ℕ → Bool) (t r : List ℕ) → Continue d → Ends r → based_len d (t ++ r) ≡ based_len d t
+unfolding based_len
+based_front d [] r h n = rw (ends_there d r h n, joiner_off r n) refl
+based_front d (c ∷ t) r h n = rw (begins_front d t r h n, joined_front d (c ∷ t) r h n) refl
+
+radix_front : (t r : List ℕ) → Ends r → radix_len (t ++ r) ≡ radix_len t
+unfolding radix_len
+radix_front [] r n = rw (ends_there is_zero r zero_continues n) refl
+radix_front (z ∷ []) r n =
+    let x = ends_there is_x r (two_continue 120 88 refl refl) n in
+    let o = ends_there is_o r (two_continue 111 79 refl refl) n in
+    let b = ends_there is_b r (two_continue 98 66 refl refl) n in
+    rw (x, o, b) refl
+radix_front (z ∷ c ∷ t) r n =
+    let x = based_front is_hex_digit t r hex_continues n in
+    let o = based_front is_octal_digit t r octal_continues n in
+    let b = based_front is_binary_digit t r (two_continue 48 49 refl refl) n in
+    rw (x, o, b) refl
+
+part_front : (t r : List ℕ) → Ends r → digit_part_len (t ++ r) ≡ digit_part_len t
+unfolding digit_part_len
+part_front t r n = rw (begins_front is_decimal_digit t r digit_continues n, joined_front is_decimal_digit t r digit_continues n) refl
+
+point_front : (t r : List ℕ) → Ends r → point_len (t ++ r) ≡ point_len t
+unfolding point_len
+point_front [] r n = rw n.point refl
+point_front (c ∷ t) r n = rw (part_front t r n) refl
+
+j_front : (t r : List ℕ) → Ends r → j_len (t ++ r) ≡ j_len t
+unfolding j_len
+j_front t r n = rw (begins_front is_j t r (two_continue 106 74 refl refl) n) refl
+
+-- An `e` at the end would take a sign behind it, but isn't taken itself.
+exponent_front : (t r : List ℕ) → Ends r → exponent_len t + j_len (drop (exponent_len t) t) ≡ length t → exponent_len (t ++ r) ≡ exponent_len t
+unfolding exponent_len j_len
+exponent_front [] r n h = exponent_none r (ends_there is_e r (two_continue 101 69 refl refl) n)
+exponent_front (c ∷ []) r n h =
+    ⊎_elim
+    (λ (e : is_e c ≡ true). let j : is_j c ≡ false = either_not is_j 101 69 c e refl refl in let w : 0 + 0 ≡ 1 = simp (e, j) at h in absurd (omega arith))
+    (λ (e : is_e c ≡ false). rw e refl)
+    (bool_cases (is_e c))
+exponent_front (c ∷ s ∷ t) r n h =
+    let a = joined_front is_decimal_digit (s ∷ t) r digit_continues n in
+    let b = joined_front is_decimal_digit t r digit_continues n in
+    rw (a, b, begins_front is_decimal_digit t r digit_continues n) refl
+
+tail_front : (t r : List ℕ) → Ends r → tail_len t ≡ length t → tail_len (t ++ r) ≡ tail_len t
+unfolding tail_len fraction_len
+tail_front t r n h =
+    let p = point_front t r n in
+    let a = drop-append-le (point_len t) t r (omega arith) in
+    let l = length-drop (point_len t) t in
+    let x = exponent_front (drop (point_len t) t) r n (rw (drop-drop (exponent_len (drop (point_len t) t)) (point_len t) t) (omega arith)) in
+    let b = drop-append-le (fraction_len t) t r (omega arith) in
+    let j = j_front (drop (fraction_len t) t) r n in
+    rw (p, a, x, b, j) refl
+
+-- how many characters the digits at the front are
+abbrev run : List ℕ → ℕ
+run t = joined_len is_decimal_digit t
+
+-- zeros alone are digits alone
+zeros_run : (t : List ℕ) → joined_len is_zero t ≡ length t → run t ≡ length t
+zeros_run [] h = refl
+zeros_run (a ∷ []) h =
+    ⊎_elim
+    (λ (e : is_zero a ≡ true). rw (zero_digit a e) refl)
+    (λ (e : is_zero a ≡ false). let w : 0 ≡ 1 = simp e at h in absurd (omega arith))
+    (bool_cases (is_zero a))
+zeros_run (a ∷ b ∷ t) h =
+    ⊎_elim
+    (λ (e : is_zero a ≡ true). let w : suc (joined_len is_zero (b ∷ t)) ≡ suc (length (b ∷ t)) = simp e at h in rw (zero_digit a e) (ap suc (zeros_run (b ∷ t) (omega arith))))
+    (λ (e : is_zero a ≡ false).
+    ⊎_elim
+    (λ (f : ((a == 95) && is_zero b) ≡ true).
+    let g = and_parts (a == 95) (is_zero b) f in
+    let w : suc (suc (joined_len is_zero t)) ≡ suc (suc (length t)) = simp (e, f) at h in
+    let y : is_decimal_digit a ≡ false = (let z = eqb-true a 95 g.0 in rw z refl) in
+    rw (y, g.0, zero_digit b g.1) (ap (λ k. suc (suc k)) (zeros_run t (omega arith))))
+    (λ (f : ((a == 95) && is_zero b) ≡ false). let w : 0 ≡ length (a ∷ b ∷ t) = simp (e, f) at h in absurd (omega arith))
+    (bool_cases ((a == 95) && is_zero b)))
+    (bool_cases (is_zero a))
+
+plain_front : (t r : List ℕ) → Ends r → plain_len t ≡ length t → plain_len (t ++ r) ≡ plain_len t
+unfolding plain_len
+plain_front t r n h =
+    let k = all (not (ltb 0 (tail_len (drop (run t) t))) && begins is_zero t) refl h in
+    let d = joined_front is_decimal_digit t r digit_continues n in
+    let a = drop-append-le (run t) t r (omega arith) in
+    let l = length-drop (run t) t in
+    let u = tail_front (drop (run t) t) r n (omega arith) in
+    rw (d, a, u, joined_front is_zero t r zero_continues n, begins_front is_zero t r zero_continues n) refl
+  where
+    all : (b : Bool) → (not (ltb 0 (tail_len (drop (run t) t))) && begins is_zero t) ≡ b →
+        (if b then joined_len is_zero t else run t + tail_len (drop (run t) t)) ≡ length t → run t + tail_len (drop (run t) t) ≡ length t
+    all false e h = h
+    all true e h =
+        let f = and_parts (not (ltb 0 (tail_len (drop (run t) t)))) (begins is_zero t) e in
+        let z : tail_len (drop (run t) t) ≡ 0 = grind (arith, nat_tests) in
+        let y = zeros_run t h in
+        omega arith
+
+number_kept : (t r : List ℕ) → Ends r → number_len t ≡ length t → number_len (t ++ r) ≡ length t
+unfolding number_len
+number_kept t r n h =
+    let x = radix_front t r n in
+    ⊎_elim
+    (λ (e : ltb 0 (radix_len t) ≡ true). rw (x, e) (simp e at h))
+    (λ (e : ltb 0 (radix_len t) ≡ false). let p : plain_len t ≡ length t = simp e at h in rw (x, e) (plain_front t r n p ∙ p))
+    (bool_cases (ltb 0 (radix_len t)))
+
+-- ---- Numbers.
+
+all_longest : (t : List ℕ) → is_number t ≡ true → longest is_number t ≡ length t
+all_longest t e = longest_is is_number t (length t) (record { within = omega arith; passes = ap is_number (take-length t) ∙ e; longest = λ j h i. absurd (omega arith) })
+
+pub number_front : (t r : List ℕ) → is_number t ≡ true → begins is_xid_continue r ≡ false → begins is_point r ≡ false → lexeme_at (t ++ r) ≡ Some (record { «class» = Number; text = t })
+number_front t r i e p =
+    let b = number_begins t i in
+    let m = begins_more t r b in
+    let l = number_kept t r (record { continues = e; point = p }) (sym (longest_number t b) ∙ all_longest t i) in
+    is_lexeme t r Number (leaves t r Number (longest is_number (t ++ r)) (longest_number (t ++ r) m ∙ l) (number_takes (t ++ r) m))

@@ -14,7 +14,7 @@ use Rattle.unicode_ident.proofs.IdentLemmas.{is_xid_start-ascii, is_xid_continue
 use Rattle.pylex.specs.declared.kind.Kind.{Kind}
 use Rattle.pylex.specs.declared.kind.Kind.TheVariants as kinds
 use Rattle.pylex_lexeme.specs.Chars.{begins, starts_name, is_comment_part, is_blank_char}
-use Rattle.pylex_lexeme.specs.Numbers.{split_any, is_decimal_digit, is_zero, is_one_to_nine, is_point}
+use Rattle.pylex_lexeme.specs.Numbers.{split_any, is_decimal_digit, is_point, is_number}
 use Rattle.pylex_lexeme.specs.declared.kinds.Exact.{Exact}
 use Rattle.pylex_lexeme.specs.declared.lexeme.Class.TheVariants.{Operator, Join}
 use Rattle.pylex_lexeme.specs.Operators.{operators, exact_of, is_operator}
@@ -22,8 +22,8 @@ use Rattle.pylex_lexeme.specs.Strings.{begins_quote, is_single_string, is_single
 use Rattle.pylex_lexeme.specs.Lexemes.{lexeme_at, is_name}
 use Rattle.pylex_lexeme.proofs.Callers.Booleans.{and_parts, or_parts, or_parts_false}
 use Rattle.pylex_lexeme.proofs.Callers.Lexemes.{words, heads, by_words, no_head, no_operator, no_operator_none}
-use Rattle.pylex_lexeme.proofs.Callers.Numbers.{zero_digit, one_digit, digit_bounds}
-use Rattle.pyunparse_text.specs.Spacing.{Piece, is_token, is_whole, is_number_kind, is_operator_kind, touches, text_behind, begins_operator, stay_apart, are_two_points, all_apart}
+use Rattle.pylex_lexeme.proofs.Callers.Numbers.{digit_bounds}
+use Rattle.pyunparse_text.specs.Spacing.{Piece, is_token, is_number_kind, is_operator_kind, touches, text_behind, begins_operator, stay_apart, are_two_points, all_apart}
 use Rattle.pyunparse_text.specs.Inner.Relexed.{class_of}
 use Rattle.pyunparse_text.proofs.LexemeFronts.NameFronts.{name_front}
 use Rattle.pyunparse_text.proofs.LexemeFronts.NumberFronts.{number_front}
@@ -42,7 +42,7 @@ Clear _ t r = Unit {0}
 pub token_front : (k : Kind) (t r : List ℕ) → is_token k t ≡ true → Clear k t r → lexeme_at (t ++ r) ≡ Some (record { «class» = class_of k t; text = t })
 unfolding is_operator
 token_front kinds.Name t r e c = name_front t r e c.0 c.1
-token_front kinds.Number t r e c = number_front t r e c.0 c.1
+token_front kinds.Number t r e c = number_front t r (and_parts (begins is_decimal_digit t) (is_number t) e).1 c.0 c.1
 token_front kinds.String t r e c = let p = and_parts (is_single_string t) (list_all is_comment_part t) e in string_front t r p.0 p.1 c
 token_front kinds.Op t r e c = by (exact_of t) refl
   where
@@ -140,15 +140,9 @@ no_string c u o =
     let s = split_off (λ t. list_any (bytes_eq (map lower (c ∷ t))) prefixes) (λ v. is_single 39 v || is_single 34 v) u (λ v. no_head (lower c) (map lower v) prefixes o.letter) in
     rw (q.0, q.1, s) refl
 
-no_whole : (c : ℕ) (u : List ℕ) → is_decimal_digit c ≡ false → is_whole (c ∷ u) ≡ false
-no_whole c u e =
-    let z = cases (is_zero c) (λ h. let f = zero_digit c h in cc) in
-    let n = cases (is_one_to_nine c) (λ h. let f = one_digit c h in cc) in
-    rw (z, n) refl
-
 pub no_token : (k : Kind) (c : ℕ) (u : List ℕ) → Off c → (is_number_kind k ≡ true → is_decimal_digit c ≡ false) → (is_operator_kind k ≡ true → list_any (eqb c) (heads words) ≡ false) → is_token k (c ∷ u) ≡ false
 no_token kinds.Name c u o d s = no_name c u o.name
-no_token kinds.Number c u o d s = no_whole c u (d refl)
+no_token kinds.Number c u o d s = rw (d refl) refl
 no_token kinds.String c u o d s = rw (no_string c u o) refl
 no_token kinds.Op c u o d s = no_operator c u (s refl)
 no_token kinds.Encoding c u o d s = refl

@@ -10,6 +10,7 @@ use Rattle.pylex_lexeme.specs.Operators.{exact_of, is_opener, is_closer}
 use Rattle.pylex.specs.declared.kind.Kind.{Kind}
 use Rattle.pylex.specs.declared.kind.Kind.TheVariants as kinds
 use Rattle.pylex.specs.Listing.{in_characters}
+use Rattle.pytree_node.specs.declared.profiles.Extent.{Extent}
 use Rattle.pytree_node.specs.declared.profiles.Profile.{Profile}
 use Rattle.pytoken.specs.declared.keywords.Keyword.{Keyword}
 use Rattle.pytoken.specs.Keywords.{keyword_of}
@@ -92,22 +93,22 @@ one_more most d ts ps more true s k =
 one_more most d ts ps more false true k = more (d - 1) k
 one_more most d ts ps more false false k = more d k
 
-shallow : (most d : ℕ) {ps : List Piece} {ts : List Terminal} → Give ps ts → most_open d ts ≤ most → opens_within most d ps ≡ true
+shallow : {extent : Extent} (most d : ℕ) {ps : List Piece} {ts : List Terminal} → Give extent ps ts → most_open d ts ≤ most → opens_within most d ps ≡ true
 shallow most d give_none h = refl
-shallow most d (give {p = p} {ps = ps} {t = t} {ts = ts} g c) h =
+shallow most d (give {p = p} {ps = ps} {t = t} {ts = ts} g f c) h =
     let a : open_after d t ≡ by_text d (opens p) (closes p) = ap (open_after d) (sym g.terminal) ∙ text_after p.kind p.text d in
     let k : most_open (open_after d t) ts ≤ most = omega (arith, h) in
     one_more most d ts ps (λ n q. shallow most n c q) (opens p) (closes p) (subst (λ n. most_open n ts ≤ most) a k)
 
-faultless : {ps : List Piece} {ts : List Terminal} → Give ps ts → All (λ (p : Piece). fault_of p.kind p.text ≡ None) ps
-faultless give_none = All-nil (λ (p : Piece). fault_of p.kind p.text ≡ None)
-faultless (give {p = p} {ps = ps} g c) = All-cons (λ (p : Piece). fault_of p.kind p.text ≡ None) p ps g.sound.faultless (faultless c)
+faultless : {extent : Extent} {ps : List Piece} {ts : List Terminal} → Give extent ps ts → All (λ (p : Piece). fault_of extent p.kind p.text ≡ None) ps
+faultless {extent} give_none = All-nil (λ (p : Piece). fault_of extent p.kind p.text ≡ None)
+faultless {extent} (give {p = p} {ps = ps} g f c) = All-cons (λ (p : Piece). fault_of extent p.kind p.text ≡ None) p ps f (faultless c)
 
-all_clear : {rs : List (WrittenLine Piece)} {qs : List (WrittenLine Terminal)} → GiveLines rs qs → All (λ w. brackets w.tokens ≤ most_brackets) qs → All IsClear (map line_of rs)
-all_clear no_line h = All-nil IsClear
-all_clear (a_line {l = l} {ps = ps} {ts = ts} {rs = rs} {qs = qs} g c) h =
+all_clear : {extent : Extent} {rs : List (WrittenLine Piece)} {qs : List (WrittenLine Terminal)} → GiveLines extent rs qs → All (λ w. brackets w.tokens ≤ most_brackets) qs → All (IsClear extent) (map line_of rs)
+all_clear {extent} no_line h = All-nil (IsClear extent)
+all_clear {extent} (a_line {l = l} {ps = ps} {ts = ts} {rs = rs} {qs = qs} g c) h =
     let b : brackets ts ≤ most_brackets = All-head (λ (w : WrittenLine Terminal). brackets w.tokens ≤ most_brackets) (written_line l ts) qs h in
-    All-cons IsClear (line_of (written_line l ps)) (map line_of rs) (record { faultless = faultless g; shallow = shallow most_brackets 0 g b })
+    All-cons (IsClear extent) (line_of (written_line l ps)) (map line_of rs) (record { faultless = faultless g; shallow = shallow most_brackets 0 g b })
     (all_clear c (All-tail (λ (w : WrittenLine Terminal). brackets w.tokens ≤ most_brackets) (written_line l ts) qs h))
 
 fewer : (n : ℕ) (ws : List (WrittenLine Terminal)) → n ≤ most_brackets → All (λ (w : WrittenLine Terminal). brackets w.tokens ≤ n) ws → All (λ (w : WrittenLine Terminal). brackets w.tokens ≤ most_brackets) ws
@@ -118,18 +119,18 @@ fewer n (w ∷ ws) e h =
 
 -- ---- The lines of the source have the forms of the written ones.
 
-same_terminals : (us : List Tokens.Token) {ps : List Piece} {ts : List Terminal} → map unplaced us ≡ map token_of ps → Give ps ts → map (λ (t : Tokens.Token). terminal_of t.kind t.text) us ≡ ts
+same_terminals : {extent : Extent} (us : List Tokens.Token) {ps : List Piece} {ts : List Terminal} → map unplaced us ≡ map token_of ps → Give extent ps ts → map (λ (t : Tokens.Token). terminal_of t.kind t.text) us ≡ ts
 same_terminals [] e give_none = refl
-same_terminals [] e (give g c) = absurd (cc)
+same_terminals [] e (give g f c) = absurd (cc)
 same_terminals (u ∷ us) e give_none = absurd (cc)
-same_terminals (u ∷ us) e (give {p = p} {ps = ps} {t = t} {ts = ts} g c) =
+same_terminals (u ∷ us) e (give {p = p} {ps = ps} {t = t} {ts = ts} g f c) =
     let h : unplaced u ≡ token_of p = cc in
     let r : map unplaced us ≡ map token_of ps = cc in
     let k : terminal_of u.kind u.text ≡ t = ap (λ x. terminal_of x.kind x.text) h ∙ g.terminal in
     ap (λ z. z ∷ map (λ (t : Tokens.Token). terminal_of t.kind t.text) us) k ∙ ap (λ z. t ∷ z) (same_terminals us r c)
 
-formed_by : (profile : Profile) (xs : List Tokens.Line) {rs : List (WrittenLine Piece)} {qs : List (WrittenLine Terminal)} {fs : List Line}
-    → map unplaced_line xs ≡ map token_line (map line_of rs) → GiveLines rs qs → HaveForms profile qs fs → AreWithin 500 fs → Formed profile xs fs
+formed_by : {extent : Extent} (profile : Profile) (xs : List Tokens.Line) {rs : List (WrittenLine Piece)} {qs : List (WrittenLine Terminal)} {fs : List Line}
+    → map unplaced_line xs ≡ map token_line (map line_of rs) → GiveLines extent rs qs → HaveForms profile qs fs → AreWithin 500 fs → Formed profile xs fs
 formed_by profile [] e no_line no_form h = formed_end
 formed_by profile [] e (a_line g c) f h = absurd (cc)
 formed_by profile (x ∷ xs) e no_line no_form h = absurd (cc)
@@ -152,9 +153,9 @@ texts_accepted profile ws m g h expressions statements =
     let b : ReadsBack (encode_utf8_all _) (piece_lines m) = written_is_read (piece_lines m) r.written in
     let w : AreWithin 500 a.forms = lower (expression_height m) 500 a.forms expressions (forms_low a.forms m a.block) in
     let n : expression_height m + 1 ≤ most_brackets = omega (arith, expressions) in
-    let c : All IsClear (piece_lines m) = all_clear r.give (fewer (expression_height m + 1) (terminal_lines m) n (line_brackets m)) in
+    let c : All (IsClear profile.extent) (piece_lines m) = all_clear r.give (fewer (expression_height m + 1) (terminal_lines m) n (line_brackets m)) in
     let x : Accepted profile (in_characters b.parts) m = record {
-      clear = written_is_clear (piece_lines m) r.written c b;
+      clear = written_is_clear profile.extent (piece_lines m) r.written c b;
       forms = a.forms;
       formed = formed_by profile (Tokens.lines (in_characters b.parts)) b.lines r.give a.formed w;
       block = a.block;

@@ -150,7 +150,7 @@ module _ (a : Bool) where
     good (G.subscript p q) = let u = good p in let v = good q in record { at = λ n. both (u.at n) (up refl (both (v.at (suc n)) (down refl ends))) }
     good G.name = good_on refl none
     good (G.constant {t = t} {v = v} h) = good_on (constant_plain t v h) none
-    good (G.number {n = n}) = good_on refl none
+    good G.number = good_on refl none
     good (G.strings vs h) = good_on refl (literals vs)
     good (G.group p) = let u = good p in record { at = λ n. up refl (both (u.at (suc n)) (down refl ends)) }
     good (G.yield_group p) = let u = yields p in record { at = λ n. up refl (on refl (both (u.at (suc n)) (down refl ends))) }

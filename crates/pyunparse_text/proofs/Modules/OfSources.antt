@@ -1,6 +1,6 @@
 -- Carries: the law of source text. On: the tokens of an accepted source are of Unicode characters
 -- and have no fault, so that its module is the one that its own text is.
-use Rattle.std.proofs.Common.{◌≡◌, refl, sym, ap, subst, ◌∙◌, ℕ, ◌+◌, Bool, true, false, List, [], ◌∷◌, ◌++◌, append_assoc}
+use Rattle.std.proofs.Common.{◌≡◌, refl, sym, ap, subst, ◌∙◌, ℕ, ◌+◌, Bool, true, false, List, [], ◌∷◌, ◌++◌, append_assoc, None}
 use Rattle.std.specs.Prelude.{All, map}
 use Rattle.std.specs.Str.{all_scalars}
 use Rattle.std.proofs.Math.Utf8.{scalar}
@@ -14,17 +14,19 @@ use Rattle.pylex.specs.declared.entries.Entry.{Entry}
 use Rattle.pylex.specs.Listing.{Source, listing}
 use Rattle.pylex.specs.Steps.{entries_of}
 use Rattle.pylex.specs.Laws.{Covers, StandsNext, IsLawful}
+use Rattle.pytree_node.specs.declared.profiles.Extent.{Extent}
+use Rattle.pytree_node.specs.declared.profiles.Extent.TheVariants.{Plain, Whole}
 use Rattle.pytree_node.specs.declared.profiles.Profile.{Profile}
 use Rattle.pytoken.specs.Tokens.{Token, text_of, supplied, is_open, tokens_of_entry, tokens_from, tokens, lines_from, lines}
 use Rattle.pytoken.specs.Tokens as Tokens
-use Rattle.pytoken.specs.SourceTokens.{IsOfSource}
-use Rattle.pytoken.specs.Terminals.{terminal_of, IsSound}
-use Rattle.pytoken.proofs.Callers.Said.{tokens_are_sound}
+use Rattle.pytoken.specs.Refusals.{refusal}
+use Rattle.pytoken.specs.Terminals.{terminal_of, fault_of, IsSound}
+use Rattle.pytoken.proofs.Callers.Said.{tokens_are_sound, extents_differ_in_numbers}
 use Rattle.pygrammar.specs.Lines.{Line}
 use Rattle.pygrammar.specs.Refusals.{terminals, Formed, formed_end, formed_line}
 use Rattle.pyunparse_text.proofs.Callers.Lists.{bytes_both, sliced}
 use Rattle.pyunparse_text.specs.Modules.{written_line}
-use Rattle.pyunparse_text.specs.Laws.{IsOfToken, AreOfTokens, AreWithin, source_lines, TokensAreOfTokens, AcceptedTextsAreAccepted}
+use Rattle.pyunparse_text.specs.Laws.{IsOfToken, AreOfTokens, AreWithin, source_lines, IsOfSourceIn, TokensAreOfTokens, AcceptedTextsAreAccepted}
 use Rattle.pyunparse_text.proofs.Modules.High.{modules_low}
 use Rattle.pyunparse_text.proofs.Modules.Accepted.{source_forms, texts_accepted}
 
@@ -88,47 +90,57 @@ token_texts s w h = all_texts s.text [] (entries_of (listing s)) (covered s.text
 
 -- ---- Lines of tokens.
 
-both : (ts : List Token) → All IsText ts → All (λ (t : Token). IsSound t.kind t.text) ts → All IsOfSource ts
-both [] a b = All-nil IsOfSource
-both (t ∷ ts) a b =
-    All-cons IsOfSource t ts (All-head IsText t ts a, All-head (λ (t : Token). IsSound t.kind t.text) t ts b) (both ts (All-tail IsText t ts a) (All-tail (λ (t : Token). IsSound t.kind t.text) t ts b))
+abbrev Sound : Token → Type 0
+Sound t = IsSound t.kind t.text
 
-abbrev Good : Tokens.Line → Type 0
-Good x = All IsOfSource x.tokens
+abbrev Faultless : Extent → Token → Type 0
+Faultless extent t = fault_of extent t.kind t.text ≡ None
 
-record Goes (t : Token) : Type 0 where
-  at : (before line ts : List Token) → All IsOfSource line → All IsOfSource (line ++ t ∷ [])
-      → ((line : List Token) → All IsOfSource line → All Good (lines_from (t ∷ before) line ts)) → All Good (lines_from before line (t ∷ ts))
+module _ (extent : Extent) where
+  all_of : (ts : List Token) → All IsText ts → All Sound ts → All (Faultless extent) ts → All (IsOfSourceIn extent) ts
+  all_of [] a b c = All-nil (IsOfSourceIn extent)
+  all_of (t ∷ ts) a b c =
+      All-cons (IsOfSourceIn extent) t ts ((All-head IsText t ts a, All-head Sound t ts b), All-head (Faultless extent) t ts c) (all_of ts (All-tail IsText t ts a) (All-tail Sound t ts b) (All-tail (Faultless extent) t ts c))
 
-goes : (k : Kind) (t : Token) → t.kind ≡ k → Goes t
-goes kinds.Newline t q = record { at = λ before line ts a b more. rw q (All-cons Good _ _ a (more [] (All-nil IsOfSource))) }
-goes kinds.Indent t q = record { at = λ before line ts a b more. rw q (more line a) }
-goes kinds.Dedent t q = record { at = λ before line ts a b more. rw q (more line a) }
-goes kinds.EndMarker t q = record { at = λ before line ts a b more. rw q (more line a) }
-goes _ t q = record { at = λ before line ts a b more. rw q (more (line ++ t ∷ []) b) }
+  abbrev Good : Tokens.Line → Type 0
+  Good x = All (IsOfSourceIn extent) x.tokens
 
-all_lines : (before line ts : List Token) → All IsOfSource line → All IsOfSource ts → All Good (lines_from before line ts)
-all_lines before line [] a h = All-nil Good
-all_lines before line (t ∷ ts) a h =
-    let b : All IsOfSource (line ++ t ∷ []) = All-append IsOfSource line (t ∷ []) a (All-cons IsOfSource t [] (All-head IsOfSource t ts h) (All-nil IsOfSource)) in
-    (goes t.kind t refl).at before line ts a b (λ u c. all_lines (t ∷ before) u ts c (All-tail IsOfSource t ts h))
+  record Goes (t : Token) : Type 0 where
+    at : (before line ts : List Token) → All (IsOfSourceIn extent) line → All (IsOfSourceIn extent) (line ++ t ∷ [])
+        → ((line : List Token) → All (IsOfSourceIn extent) line → All Good (lines_from (t ∷ before) line ts)) → All Good (lines_from before line (t ∷ ts))
 
-good_lines : (s : Source) → All IsOfSource (tokens s) → All Good (lines s)
-unfolding lines
-good_lines s h = all_lines [] [] (tokens s) (All-nil IsOfSource) h
+  goes : (k : Kind) (t : Token) → t.kind ≡ k → Goes t
+  goes kinds.Newline t q = record { at = λ before line ts a b more. rw q (All-cons Good _ _ a (more [] (All-nil (IsOfSourceIn extent)))) }
+  goes kinds.Indent t q = record { at = λ before line ts a b more. rw q (more line a) }
+  goes kinds.Dedent t q = record { at = λ before line ts a b more. rw q (more line a) }
+  goes kinds.EndMarker t q = record { at = λ before line ts a b more. rw q (more line a) }
+  goes _ t q = record { at = λ before line ts a b more. rw q (more (line ++ t ∷ []) b) }
 
--- ---- Their terminals.
+  all_lines : (before line ts : List Token) → All (IsOfSourceIn extent) line → All (IsOfSourceIn extent) ts → All Good (lines_from before line ts)
+  all_lines before line [] a h = All-nil Good
+  all_lines before line (t ∷ ts) a h =
+      let b : All (IsOfSourceIn extent) (line ++ t ∷ []) = All-append (IsOfSourceIn extent) line (t ∷ []) a (All-cons (IsOfSourceIn extent) t [] (All-head (IsOfSourceIn extent) t ts h) (All-nil (IsOfSourceIn extent))) in
+      (goes t.kind t refl).at before line ts a b (λ u c. all_lines (t ∷ before) u ts c (All-tail (IsOfSourceIn extent) t ts h))
 
-token_terminals : (ts : List Token) → All IsOfSource ts → All IsOfToken (map (λ (t : Token). terminal_of t.kind t.text) ts)
-token_terminals [] h = All-nil IsOfToken
-token_terminals (t ∷ ts) h =
-    let g : IsOfSource t = All-head IsOfSource t ts h in
-    All-cons IsOfToken (terminal_of t.kind t.text) _ (record { kind = t.kind; text = t.text; characters = g.0; gives = record { terminal = refl; sound = g.1 } }) (token_terminals ts (All-tail IsOfSource t ts h))
+  good_lines : (s : Source) → All (IsOfSourceIn extent) (tokens s) → All Good (lines s)
+  unfolding lines
+  good_lines s h = all_lines [] [] (tokens s) (All-nil (IsOfSourceIn extent)) h
+
+  -- ---- Their terminals.
+
+  token_terminals : (ts : List Token) → All (IsOfSourceIn extent) ts → All (IsOfToken extent) (map (λ (t : Token). terminal_of t.kind t.text) ts)
+  token_terminals [] h = All-nil (IsOfToken extent)
+  token_terminals (t ∷ ts) h =
+      let g : IsOfSourceIn extent t = All-head (IsOfSourceIn extent) t ts h in
+      All-cons (IsOfToken extent) (terminal_of t.kind t.text) _ (record { kind = t.kind; text = t.text; characters = g.0.0; gives = record { terminal = refl; sound = g.0.1 }; faultless = g.1 }) (token_terminals ts (All-tail (IsOfSourceIn extent) t ts h))
+
+  lines_of : (xs : List Tokens.Line) → All Good xs → All (AreOfTokens extent) (source_lines xs)
+  lines_of [] h = All-nil (AreOfTokens extent)
+  lines_of (x ∷ xs) h =
+      All-cons (AreOfTokens extent) (written_line x.level (terminals x)) (source_lines xs) (token_terminals x.tokens (All-head Good x xs h)) (lines_of xs (All-tail Good x xs h))
 
 pub lines_of_tokens : TokensAreOfTokens
-lines_of_tokens [] h = All-nil AreOfTokens
-lines_of_tokens (x ∷ xs) h =
-    All-cons AreOfTokens (written_line x.level (terminals x)) (source_lines xs) (token_terminals x.tokens (All-head (λ (x : Tokens.Line). All IsOfSource x.tokens) x xs h)) (lines_of_tokens xs (All-tail (λ (x : Tokens.Line). All IsOfSource x.tokens) x xs h))
+lines_of_tokens extent xs h = lines_of extent xs h
 
 -- ---- Accepted sources.
 
@@ -136,8 +148,21 @@ formed_low : {profile : Profile} {xs : List Tokens.Line} {forms : List Line} →
 formed_low formed_end = tt
 formed_low (formed_line p c) = (p.low, formed_low c)
 
+-- in the whole language a sound token has no fault
+whole_faultless : (ts : List Token) → All Sound ts → All (Faultless Whole) ts
+whole_faultless [] h = All-nil (Faultless Whole)
+whole_faultless (t ∷ ts) h = All-cons (Faultless Whole) t ts (All-head Sound t ts h).faultless (whole_faultless ts (All-tail Sound t ts h))
+
+tokens_of_source : (extent : Extent) (s : Source) → IsLawful s → all_scalars s.text ≡ true → refusal extent s ≡ None → All (IsOfSourceIn extent) (tokens s)
+tokens_of_source Plain s w h r =
+    let d = (extents_differ_in_numbers s).0 r in
+    all_of Plain (tokens s) (token_texts s w h) (tokens_are_sound s w h d.0) d.1
+tokens_of_source Whole s w h r =
+    let a = tokens_are_sound s w h r in
+    all_of Whole (tokens s) (token_texts s w h) a (whole_faultless (tokens s) a)
+
 pub accepted_texts : AcceptedTextsAreAccepted
 accepted_texts profile s m w h p =
-    let g : All IsOfSource (tokens s) = both (tokens s) (token_texts s w h) (tokens_are_sound s w h p.clear) in
+    let g = tokens_of_source profile.extent s w h p.clear in
     texts_accepted profile (source_lines (lines s)) m (record { forms = p.forms; formed = source_forms p.formed; block = p.block })
-    (lines_of_tokens (lines s) (good_lines s g)) (modules_low 500 p.forms m p.block (formed_low p.formed)) p.low
+    (lines_of profile.extent (lines s) (good_lines profile.extent s g)) (modules_low 500 p.forms m p.block (formed_low p.formed)) p.low

@@ -1,47 +1,54 @@
 -- Carries: the laws of pieces. On: the text of a terminal is a token of its
--- type, and gives the terminal.
-use Rattle.std.proofs.Common.{◌≡◌, ℕ, ◌<◌, ◌^◌, Bool, true, false, ◌&&◌, List, [], ◌∷◌, refl, arith, ⊎_elim, leb, Option, Some, None, ap, ◌∙◌}
-use Rattle.std.specs.Prelude.{decimal, is_some}
+-- type, gives the terminal, and has no fault.
+use Rattle.std.proofs.Common.{◌≡◌, ℕ, ◌<◌, ◌≤◌, ◌^◌, Bool, true, false, List, [], ◌∷◌, refl, arith, leb, Option, Some, None, ap, ◌∙◌, if◌then◌else◌}
+use Rattle.std.specs.Prelude.{All, is_some}
+use Rattle.std.specs.Float.Ieee.{Float}
 use Rattle.std.specs.List.{list_all}
-use Rattle.std.specs.Str.{all_scalars}
-use Rattle.std.proofs.Math.Utf8.{low_scalar}
-use Rattle.std.proofs.lemmas.Bool.{eqb-true, le-leb, and_parts, or_cases}
-use Rattle.std.proofs.lemmas.Bool.Decides.{nat_tests}
+use Rattle.std.specs.Str.{all_scalars, encode_utf8_all}
+use Rattle.std.proofs.Math.Nat.{pow-le-pow_right}
+use Rattle.std.proofs.lemmas.Bool.{le-leb, lt-leb}
 use Rattle.std.proofs.lemmas.List.Elements.{All-head, All-tail}
-use Rattle.std.specs.Prelude.{All}
+use Rattle.pynatural.specs.Readings.{most_digits}
+use Rattle.pyfloat.specs.FloatValues.{float_value}
+use Rattle.pyfloat.specs.Laws.{IsDouble}
 use Rattle.pylex_lexeme.specs.declared.kinds.Exact.{Exact}
 use Rattle.pylex_lexeme.specs.declared.kinds.Exact.TheVariants.{LPar, RPar, LSqb, RSqb, LBrace, RBrace, Ellipsis}
-use Rattle.pylex_lexeme.specs.Numbers.{is_zero, is_one_to_nine, is_decimal_digit, is_nil}
 use Rattle.pylex_lexeme.specs.Operators.{exact_text, is_operator, is_opener, is_closer}
 use Rattle.pylex_lexeme.proofs.Callers.Lexemes.{exact_of_text, exact_scalars}
-use Rattle.pylex_lexeme.proofs.Callers.Numbers.{digit_bounds}
+use Rattle.pylex.specs.declared.kind.Kind.TheVariants as kinds
 use Rattle.pytree_node.specs.Points.{IsPoint}
 use Rattle.pytree_node.specs.Values
+use Rattle.pytree_node.specs.declared.profiles.Extent.{Extent}
+use Rattle.pytree_node.specs.declared.profiles.Extent.TheVariants.{Plain, Whole}
+use Rattle.pytoken.specs.declared.faults.TokenError.TheVariants as errors
 use Rattle.pytoken.specs.declared.keywords.Keyword.{Keyword}
 use Rattle.pytoken.specs.declared.keywords.Keyword.TheVariants as Key
 use Rattle.pytoken.specs.Keywords.{spelling_of}
-use Rattle.pytoken.specs.Terminals.{Terminal, Op, Word, in_form, Whole, Layout, Gives, terminal_of, fault_of}
+use Rattle.pytoken.specs.NumberValues.{whole_value, is_complex, is_real, number_value, number_fault, too_large}
+use Rattle.pytoken.specs.Terminals.{Terminal, Op, Word, in_form, Number, Layout, Gives, terminal_of, fault_of}
 use Rattle.pytoken.specs.Laws.{IsProper}
+use Rattle.pytoken.proofs.Callers.Numerals.{IsNumeral, float_numeral, imaginary_numeral, whole_numeral}
 use Rattle.pytoken.proofs.Callers.Said.{come_back}
-use Rattle.pyunparse_text.specs.Spacing.{is_whole, is_token}
+use Rattle.pyunparse_text.specs.Spacing.{is_token}
 use Rattle.pyunparse_text.specs.Tokens.{opens, closes}
-use Rattle.pyunparse_text.proofs.Callers.Tokens.{text_token, marked_token, bytes_token, decimal_token, text_scalars, bytes_scalars}
+use Rattle.pyunparse_text.proofs.Callers.Tokens.{text_token, marked_token, bytes_token, text_scalars, bytes_scalars}
 use Rattle.pyunparse_text.specs.Written.{constant_terminal}
-use Rattle.pyunparse_text.specs.Pieces.{kind_of, text_of, piece}
+use Rattle.pyunparse_text.specs.Pieces.{number_text, kind_of, text_of, piece}
 use Rattle.pyunparse_text.proofs.PieceLaws.NameCharacters.{name_scalars}
 
--- what is written for a terminal: a token of Unicode characters, which gives the terminal again
-pub record Fair (t : Terminal) : Type 0 where
+-- what is written for a terminal: a token of Unicode characters, which gives the terminal again, and has no fault in an extent of the language either
+pub record Fair (extent : Extent) (t : Terminal) : Type 0 where
   pub token : is_token (kind_of t) (text_of t) ≡ true
   pub scalars : all_scalars (text_of t) ≡ true
   pub gives : Gives (kind_of t) (text_of t) t
+  pub faultless : fault_of extent (kind_of t) (text_of t) ≡ None
 
--- ---- Signs and words.
+-- ---- Signs, words and names.
 
 abbrev as_terminal : Option Exact → Terminal
 as_terminal o = elim o [ Some e ↦ Op e | None ↦ Layout ]
 
-pub fair_sign : (x : Exact) → Fair (Op x)
+pub fair_sign : {extent : Extent} (x : Exact) → Fair extent (Op x)
 unfolding terminal_of fault_of is_operator
 fair_sign x =
     let name = exact_of_text x in
@@ -50,6 +57,7 @@ fair_sign x =
       token = is;
       scalars = exact_scalars x;
       gives = record { terminal = ap as_terminal name; sound = record { of_kind = is; faultless = refl } };
+      faultless = refl;
     }
 
 -- the brackets
@@ -80,61 +88,104 @@ closes_none x b h e = ap (λ (o : Option Exact). elim o [ Some e ↦ is_closer e
     none RBrace e = absurd (cc)
     none _ e = refl
 
-pub fair_word : (k : Keyword) → Fair (Word k)
-fair_word k = let g = come_back.keyword k in record { token = g.sound.of_kind; scalars = name_scalars (spelling_of k) g.sound.of_kind; gives = g }
+pub fair_word : {extent : Extent} (k : Keyword) → Fair extent (Word k)
+unfolding fault_of
+fair_word k =
+    let g = come_back.keyword k in
+    record { token = g.sound.of_kind; scalars = name_scalars (spelling_of k) g.sound.of_kind; gives = g; faultless = g.sound.faultless }
 
--- ---- Names and constants.
+pub fair_name : {extent : Extent} (x : List ℕ) → IsProper x → Fair extent (in_form x)
+unfolding fault_of
+fair_name x i =
+    let g = come_back.name x i in
+    record { token = i.name; scalars = name_scalars x i.name; gives = g; faultless = g.sound.faultless }
 
-pub fair_name : (x : List ℕ) → IsProper x → Fair (in_form x)
-fair_name x i = record { token = i.name; scalars = name_scalars x i.name; gives = come_back.name x i }
-
-digits_scalars : (cs : List ℕ) → list_all is_decimal_digit cs ≡ true → all_scalars cs ≡ true
-digits_scalars [] e = refl
-digits_scalars (c ∷ cs) e =
-    let h = and_parts (is_decimal_digit c) (list_all is_decimal_digit cs) e in
-    let b = digit_bounds c h.0 in
-    let f = low_scalar c (omega arith) in
-    let r = digits_scalars cs h.1 in
-    rw (f, r) refl
-
-whole_scalars : (t : List ℕ) → is_whole t ≡ true → all_scalars t ≡ true
-whole_scalars [] e = cc
-whole_scalars (c ∷ cs) e = ⊎_elim
-    (λ (h : (is_zero c && is_nil cs) ≡ true). let q = and_parts (is_zero c) (is_nil cs) h in zero c cs q.0 q.1)
-    (λ (h : (is_one_to_nine c && list_all is_decimal_digit cs) ≡ true).
-    let q = and_parts (is_one_to_nine c) (list_all is_decimal_digit cs) h in
-    let d : is_decimal_digit c ≡ true = wider c q.0 in
-    let r = q.1 in
-    digits_scalars (c ∷ cs) (rw (d, r) refl))
-    (or_cases (is_zero c && is_nil cs) (is_one_to_nine c && list_all is_decimal_digit cs) e)
-  where
-    wider : (c : ℕ) → is_one_to_nine c ≡ true → is_decimal_digit c ≡ true
-    wider c e = grind (arith, nat_tests)
-
-    zero : (c : ℕ) (cs : List ℕ) → is_zero c ≡ true → is_nil cs ≡ true → all_scalars (c ∷ cs) ≡ true
-    zero c [] e f = let z : c ≡ 48 = eqb-true c 48 e in rw z refl
-    zero c (d ∷ cs) e f = cc
+-- ---- Points.
 
 points_pass : (points : List ℕ) → All IsPoint points → list_all (λ c. leb c 1114111) points ≡ true
 points_pass [] h = refl
 points_pass (c ∷ cs) h = let f : leb c 1114111 ≡ true = le-leb c 1114111 (All-head IsPoint c cs h) in let r = points_pass cs (All-tail IsPoint c cs h) in rw (f, r) refl
 
-fair_whole : (n : ℕ) → n < 2 ^ 128 → Fair (Whole n)
-fair_whole n h = record { token = decimal_token n (omega arith); scalars = whole_scalars (decimal n) (decimal_token n (omega arith)); gives = come_back.whole n h }
+-- ---- Numbers.
+
+-- the whole numbers and the doubles that an extent of the language has
+abbrev pub HasWhole : Extent → ℕ → Type 0
+HasWhole Plain n = n < 2 ^ 128
+HasWhole Whole n = n < 10 ^ most_digits
+
+abbrev pub HasDouble : Extent → Float → Type 0
+HasDouble Plain x = ⊥
+HasDouble Whole x = IsDouble x
+
+many_digits : 39 ≤ most_digits
+unfolding most_digits
+many_digits = omega arith
+
+in_whole : (extent : Extent) (n : ℕ) → HasWhole extent n → n < 10 ^ most_digits
+in_whole Plain n h = let more : 10 ^ 39 ≤ 10 ^ most_digits = pow-le-pow_right (omega arith) many_digits in omega (arith, h, more)
+in_whole Whole n h = h
+
+-- a small whole number has no fault in the plain language either
+small_faultless : (t : List ℕ) (n : ℕ) → number_value t ≡ Values.Int n → n < 2 ^ 128 → number_fault Plain t ≡ None
+unfolding number_value number_fault
+small_faultless t n e h = by (is_complex t) (is_real t) e
+  where
+    by : (a b : Bool) → (if a then Values.Imaginary (float_value t) else (if b then Values.Float (float_value t) else Values.Int (whole_value t))) ≡ Values.Int n
+        → (if a then Some errors.Complex else (if b then Some errors.Float else too_large (2 ^ 128) t)) ≡ None
+    by true b e = absurd (cc)
+    by false true e = absurd (cc)
+    by false false e = let w : whole_value t ≡ n = cc in let f = lt-leb (2 ^ 128) (whole_value t) (omega (arith, w, h)) in rw f refl
+
+whole_faultless : (extent : Extent) (t : List ℕ) (n : ℕ) → HasWhole extent n → Gives kinds.Number t (Number (Values.Int n)) → fault_of extent kinds.Number t ≡ None
+unfolding terminal_of fault_of
+whole_faultless Plain t n h g =
+    let e = g.terminal in
+    let v : number_value (encode_utf8_all t) ≡ Values.Int n = cc in
+    small_faultless (encode_utf8_all t) n v h
+whole_faultless Whole t n h g = g.sound.faultless
+
+fair_number : {extent : Extent} (v : Values.Value) → IsNumeral (number_text v) → Gives kinds.Number (number_text v) (Number v) → fault_of extent kinds.Number (number_text v) ≡ None → Fair extent (Number v)
+fair_number v i g f = let first = i.first in let number = i.number in record { token = rw (first, number) refl; scalars = i.scalars; gives = g; faultless = f }
+
+fair_whole : (extent : Extent) (n : ℕ) → HasWhole extent n → Fair extent (Number (Values.Int n))
+fair_whole extent n h =
+    let g = come_back.whole n (in_whole extent n h) in
+    fair_number (Values.Int n) (whole_numeral n) g (whole_faultless extent (number_text (Values.Int n)) n h g)
+
+fair_float : (extent : Extent) (x : Float) → HasDouble extent x → Fair extent (Number (Values.Float x))
+fair_float Plain x h = absurd h
+fair_float Whole x h = let g = come_back.float x h in fair_number (Values.Float x) (float_numeral x h) g g.sound.faultless
+
+fair_imaginary : (extent : Extent) (x : Float) → HasDouble extent x → Fair extent (Number (Values.Imaginary x))
+fair_imaginary Plain x h = absurd h
+fair_imaginary Whole x h = let g = come_back.imaginary x h in fair_number (Values.Imaginary x) (imaginary_numeral x h) g g.sound.faultless
+
+-- ---- Constants.
 
 -- the constants of literals
-abbrev pub IsConstant : Values.Value → Type 0
-IsConstant (Values.Int n) = n < 2 ^ 128
-IsConstant (Values.Str points unicode) = All IsPoint points
-IsConstant (Values.Bytes bytes) = All (λ b. b < 0x100) bytes
-IsConstant _ = Unit {0}
+abbrev pub IsConstant : Extent → Values.Value → Type 0
+IsConstant extent (Values.Int n) = HasWhole extent n
+IsConstant extent (Values.Float x) = HasDouble extent x
+IsConstant extent (Values.Imaginary x) = HasDouble extent x
+IsConstant extent (Values.Str points unicode) = All IsPoint points
+IsConstant extent (Values.Bytes bytes) = All (λ b. b < 0x100) bytes
+IsConstant extent _ = Unit {0}
 
-pub fair_constant : (v : Values.Value) → IsConstant v → Fair (constant_terminal v)
-fair_constant (Values.Int n) h = fair_whole n h
+pub fair_constant : {extent : Extent} (v : Values.Value) → IsConstant extent v → Fair extent (constant_terminal v)
+unfolding fault_of
+fair_constant {extent} (Values.Int n) h = fair_whole extent n h
+fair_constant {extent} (Values.Float x) h = fair_float extent x h
+fair_constant {extent} (Values.Imaginary x) h = fair_imaginary extent x h
 fair_constant (Values.Bool true) h = fair_word Key.True
 fair_constant (Values.Bool false) h = fair_word Key.False
 fair_constant Values.None h = fair_word Key.None
 fair_constant Values.Ellipsis h = fair_sign Ellipsis
-fair_constant (Values.Str points false) h = record { token = text_token points; scalars = text_scalars points (points_pass points h); gives = come_back.text points h }
-fair_constant (Values.Str points true) h = record { token = marked_token points; scalars = (let f = text_scalars points (points_pass points h) in rw f refl); gives = come_back.unicode points h }
-fair_constant (Values.Bytes bytes) h = record { token = bytes_token bytes; scalars = bytes_scalars bytes; gives = come_back.bytes bytes h }
+fair_constant (Values.Str points false) h =
+    let g = come_back.text points h in
+    record { token = text_token points; scalars = text_scalars points (points_pass points h); gives = g; faultless = g.sound.faultless }
+fair_constant (Values.Str points true) h =
+    let g = come_back.unicode points h in
+    record { token = marked_token points; scalars = (let f = text_scalars points (points_pass points h) in rw f refl); gives = g; faultless = g.sound.faultless }
+fair_constant (Values.Bytes bytes) h =
+    let g = come_back.bytes bytes h in
+    record { token = bytes_token bytes; scalars = bytes_scalars bytes; gives = g; faultless = g.sound.faultless }

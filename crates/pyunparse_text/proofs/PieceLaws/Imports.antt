@@ -10,6 +10,8 @@ use Rattle.std.proofs.lemmas.Slice.Eq.{bytes_eq-Decides}
 use Rattle.pylex_lexeme.specs.declared.kinds.Exact.TheVariants.{Star, Dot, Ellipsis}
 use Rattle.pylex_lexeme.specs.Operators.{operators}
 use Rattle.pylex.specs.declared.kind.Kind.TheVariants as kinds
+use Rattle.pytree_node.specs.declared.profiles.Extent.{Extent}
+use Rattle.pytree_node.specs.declared.profiles.Extent.TheVariants.{Whole}
 use Rattle.pytoken.specs.declared.keywords.Keyword.{Keyword}
 use Rattle.pytoken.specs.declared.keywords.Keyword.TheVariants as Key
 use Rattle.pytree_node.specs.Trees.{Identifier, Alias}
@@ -34,33 +36,21 @@ use Rattle.pyunparse_text.proofs.PieceLaws.Shapes.{Plain, keyword, name, plain_n
 use Rattle.pyunparse_text.proofs.PieceLaws.Listings.{perhaps_widen, plain_tail}
 use Rattle.pyunparse_text.proofs.PieceLaws.LineForms.{AreProper, MaybeProper, as_name_are, plain_listed, word_plain}
 
--- ---- Pieces that are told apart, though two points may be among them.
-
 abbrev told : List Piece → Bool
 told [] = true
 told (p ∷ ps) = all_apart p ps
 
-pub record Later (b : List Piece) (ps : List Piece) (ts : List Terminal) : Type 0 where
+pub record Later (extent : Extent) (b : List Piece) (ps : List Piece) (ts : List Terminal) : Type 0 where
   pub pieces : ArePieces ps
   pub scalars : AreScalar ps
   pub apart : told ps ≡ true
   pub begins : begins_by (within b) ps ≡ true
-  pub gives : Give ps ts
+  pub gives : Give extent ps ts
   pub balanced : Balanced ps
 
 neat_told : (ps : List Piece) → are_neat ps ≡ true → told ps ≡ true
 neat_told [] e = refl
 neat_told (p ∷ ps) e = neat_apart p ps e
-
-pub later : {b e : List Piece} {ps : List Piece} {ts : List Terminal} → Closed b e ps ts → Later b ps ts
-later {ps = ps} x = record {
-  pieces = x.segment.form.pieces;
-  scalars = x.segment.form.scalars;
-  apart = neat_told ps x.segment.form.neat;
-  begins = x.segment.form.begins;
-  gives = x.segment.gives;
-  balanced = x.balanced;
-}
 
 and_both : (a b : Bool) → a ≡ true → b ≡ true → (a && b) ≡ true
 and_both a b e f = rw (e, f) refl
@@ -79,33 +69,9 @@ told_both f g j (p ∷ q ∷ xs) ys a e b s =
     let h = and_parts (fit p q) (all_fit q xs) a in
     and_both (not (touches p q) || (stay_apart p q || are_two_points p q (xs ++ ys))) (all_apart q (xs ++ ys)) (wider (not (touches p q)) (stay_apart p q) (are_two_points p q (xs ++ ys)) h.0) (told_both f g j (q ∷ xs) ys h.1 e b s)
 
-pub join_later : {a b c : List Piece} {xs ys : List Piece} {ts us : List Terminal} → Closed a b xs ts → Later c ys us → suit b c ≡ true → Later a (xs ++ ys) (ts ++ us)
-join_later {a} {b} {c} {xs} {ys} x y s =
-    let f = x.segment.form in
-    record {
-      pieces = list_all-append (λ p. is_token p.kind p.text) xs ys ∙ and_both (list_all (λ p. is_token p.kind p.text) xs) (list_all (λ p. is_token p.kind p.text) ys) f.pieces y.pieces;
-      scalars = list_all-append (λ p. all_scalars p.text) xs ys ∙ and_both (list_all (λ p. all_scalars p.text) xs) (list_all (λ p. all_scalars p.text) ys) f.scalars y.scalars;
-      apart = told_both (within b) (within c) (sorts_fit b c s) xs ys f.neat f.ends y.apart y.begins;
-      begins = begins_both (within a) xs ys f.begins;
-      gives = give_both x.segment.gives y.gives;
-      balanced = balanced_both xs ys x.balanced y.balanced;
-    }
-
 readable : (b : List Piece) (ps : List Piece) → ArePieces ps → told ps ≡ true → begins_by (within b) ps ≡ true → are_readable ps ≡ true
 readable b [] a t e = cc
 readable b (p ∷ ps) a t e = and_both (list_all (λ q. is_token q.kind q.text) (p ∷ ps)) (all_apart p ps) a t
-
-pub later_read : {b : List Piece} {ps : List Piece} {ts : List Terminal} → Later b ps ts → AreRead ps ts
-later_read {b} {ps} x = record {
-  give = x.gives;
-  line = λ n.
-      let r : are_readable ps ≡ true = readable b ps x.pieces x.apart x.begins in
-      let c : closes_all 0 ps ≡ true = balanced_closes ps x.balanced in
-      let s = x.scalars in
-      rw (r, c, s) refl;
-}
-
--- ---- Names with points between.
 
 -- a name that keeps close to the points before it
 abbrev near_word : Piece
@@ -121,30 +87,8 @@ ends_near = near_word ∷ ends_plain
 more_near : (p : Piece) → within ends_plain p ≡ true → within ends_near p ≡ true
 more_near p e = let h = and_parts (is_token p.kind p.text) (is_like ends_plain p) e in let g = late (like near_word p) (is_like ends_plain p) h.1 in rw (h.0, g) refl
 
-near_name : (x : Identifier) → IsProper x → Closed behind_points ends_near (piece (in_form x) true false ∷ []) (terminal (in_form x) true false ∷ [])
-near_name x h = token behind_points ends_near (in_form x) true false (fair_name x h) refl refl refl refl
-
-first_word : (k : Keyword) → Closed (a_word ∷ []) ends_plain (word piece k ∷ []) (word terminal k ∷ [])
-first_word k = token (a_word ∷ []) ends_plain (Word k) false false (fair_word k) refl refl refl refl
-
 word_behind : (p : Piece) → within (a_word ∷ []) p ≡ true → within behind_points p ≡ true
 word_behind p e = let h = and_parts (is_token p.kind p.text) (is_like (a_word ∷ []) p) e in let g = late (like near_word p) (is_like (a_word ∷ []) p) h.1 in rw (h.0, g) refl
-
-point : Closed (tight piece Dot ∷ []) (tight piece Dot ∷ []) (tight piece Dot ∷ []) (tight terminal Dot ∷ [])
-point = sign (tight piece Dot ∷ []) (tight piece Dot ∷ []) Dot true true refl refl refl
-
-rest_are : (xs : List Identifier) → AreProper xs → Perhaps (tight piece Dot ∷ []) ends_plain (S.dotted_rest piece xs) (S.dotted_rest terminal xs)
-unfolding operators
-rest_are [] h = nothing
-rest_are (x ∷ xs) h = some (join point (tail (name x h.0) (rest_are xs h.1) refl) refl)
-
-plain_names : (x : Identifier) (xs : List Identifier) → AreProper (x ∷ xs) → Plain (S.dotted_names piece false (x ∷ xs)) (S.dotted_names terminal false (x ∷ xs))
-unfolding operators
-plain_names x xs h = tail (plain_name x h.0) (rest_are xs h.1) refl
-
-near_names : (x : Identifier) (xs : List Identifier) → AreProper (x ∷ xs) → Closed behind_points ends_near (S.dotted_names piece true (x ∷ xs)) (S.dotted_names terminal true (x ∷ xs))
-unfolding operators
-near_names x xs h = tail (near_name x h.0) (perhaps_widen {c = tight piece Dot ∷ []} (λ p e. e) more_near (rest_are xs h.1)) refl
 
 -- a text is of one name at least
 record Named (x : Identifier) : Type 0 where
@@ -164,41 +108,13 @@ named (c ∷ cs) = by (c == 46) refl
     by true e = record { first = []; others = names_in cs; is = rw e refl }
     by false e = let w = longer_named c (names_in cs) in record { first = w.0; others = w.1; is = rw e w.2 }
 
-pub dotted_plain : (x : Identifier) → AreProper (names_in x) → Plain (S.dotted piece false x) (S.dotted terminal false x)
-dotted_plain x h = let w = named x in subst (λ xs. Plain (S.dotted_names piece false xs) (S.dotted_names terminal false xs)) (sym w.is) (plain_names w.first w.others (subst AreProper w.is h))
-
-dotted_near : (x : Identifier) → AreProper (names_in x) → Closed behind_points ends_near (S.dotted piece true x) (S.dotted terminal true x)
-dotted_near x h = let w = named x in subst (λ xs. Closed behind_points ends_near (S.dotted_names piece true xs) (S.dotted_names terminal true xs)) (sym w.is) (near_names w.first w.others (subst AreProper w.is h))
-
--- ---- Points.
-
 -- the points of a level begin so
 abbrev point_starts : Bool → List Piece
 point_starts close = piece (Op Dot) close false ∷ piece (Op Ellipsis) close false ∷ []
 
-one_point : (close : Bool) → Closed (point_starts close) (point_starts close) (piece (Op Dot) close false ∷ []) (Op Dot ∷ [])
-one_point true = sign (point_starts true) (point_starts true) Dot true false refl refl refl
-one_point false = sign (point_starts false) (point_starts false) Dot false false refl refl refl
-
-three_points : (close : Bool) → Closed (point_starts close) (piece (Op Ellipsis) close false ∷ []) (piece (Op Ellipsis) close false ∷ []) (Op Ellipsis ∷ [])
-three_points true = sign (point_starts true) (piece (Op Ellipsis) true false ∷ []) Ellipsis true false refl refl refl
-three_points false = sign (point_starts false) (piece (Op Ellipsis) false false ∷ []) Ellipsis false false refl refl refl
-
 three_begin : begins_operator (codes "...") ≡ true
 unfolding operators
 three_begin = refl
-
--- no word begins with a point
-first_is : (q : Piece) → is_token q.kind q.text ≡ true → is_operator_kind q.kind ≡ false → bytes_eq (take 1 q.text) (codes ".") ≡ false
-first_is q t o = by (bytes_eq (take 1 q.text) (codes ".")) refl
-  where
-    by : (b : Bool) → bytes_eq (take 1 q.text) (codes ".") ≡ b → b ≡ false
-    by false e = refl
-    by true e =
-        let f : take 1 q.text ≡ codes "." = (bytes_eq-Decides (take 1 q.text) (codes ".")).0 e in
-        let g : begins_operator (codes ".." ++ codes ".") ≡ false = subst (λ (u : List ℕ). begins_operator (codes ".." ++ u) ≡ false) f (plain_head q.kind (codes "..") q.text t o) in
-        let z : true ≡ false = sym three_begin ∙ g in
-        absurd (cc)
 
 word_kind : (q : Piece) → is_like behind_points q ≡ true → is_operator_kind q.kind ≡ false
 word_kind q e = by (is_operator_kind q.kind) refl e
@@ -206,9 +122,6 @@ word_kind q e = by (is_operator_kind q.kind) refl e
     by : (b : Bool) → is_operator_kind q.kind ≡ b → is_like behind_points q ≡ true → b ≡ false
     by false f e = refl
     by true f e = let g : false ≡ true = rw f at e in absurd (cc)
-
-not_point : (q : Piece) → within behind_points q ≡ true → bytes_eq (take 1 q.text) (codes ".") ≡ false
-not_point q e = let h = and_parts (is_token q.kind q.text) (is_like behind_points q) e in first_is q h.0 (word_kind q h.1)
 
 abbrev second : Piece
 second = piece (Op Dot) true false
@@ -229,27 +142,6 @@ one_suit : (close : Bool) → suit (point_starts close) behind_points ≡ true
 unfolding operators
 one_suit close = refl
 
-both_told : (close : Bool) (ys : List Piece) → begins_by (within behind_points) ys ≡ true → told ys ≡ true → all_apart (piece (Op Dot) close false) (second ∷ ys) ≡ true
-both_told close [] b t = cc
-both_told close (q ∷ qs) b t =
-    let d = one_point true in
-    let f : fit second q ≡ true = sorts_fit (point_starts true) behind_points (one_suit true) second q d.segment.form.ends b in
-    two_apart close q qs (not_point q b) f t
-
-two_points : (close : Bool) {ys : List Piece} {us : List Terminal} → Later behind_points ys us → Later (point_starts close) (piece (Op Dot) close false ∷ (second ∷ ys)) (Op Dot ∷ (Op Dot ∷ us))
-two_points close {ys} y =
-    let x = one_point close in
-    let z = join_later (one_point true) y (one_suit true) in
-    let w : ArePieces (piece (Op Dot) close false ∷ []) = x.segment.form.pieces in
-    record {
-      pieces = list_all-append (λ p. is_token p.kind p.text) (piece (Op Dot) close false ∷ []) (second ∷ ys) ∙ and_both (list_all (λ p. is_token p.kind p.text) (piece (Op Dot) close false ∷ [])) (list_all (λ p. is_token p.kind p.text) (second ∷ ys)) w z.pieces;
-      scalars = list_all-append (λ p. all_scalars p.text) (piece (Op Dot) close false ∷ []) (second ∷ ys) ∙ and_both (list_all (λ p. all_scalars p.text) (piece (Op Dot) close false ∷ [])) (list_all (λ p. all_scalars p.text) (second ∷ ys)) x.segment.form.scalars z.scalars;
-      apart = both_told close ys y.begins y.apart;
-      begins = x.segment.form.begins;
-      gives = give_both x.segment.gives z.gives;
-      balanced = balanced_both (piece (Op Dot) close false ∷ []) (second ∷ ys) x.balanced z.balanced;
-    }
-
 -- by whether there are any
 abbrev level_starts : Bool → ℕ → List Piece
 level_starts close zero = behind_points
@@ -260,14 +152,6 @@ unfolding operators
 three_suit close zero = refl
 three_suit close (suc n) = refl
 
-points_before : (close : Bool) (n : ℕ) {ys : List Piece} {us : List Terminal} → Later behind_points ys us → Later (level_starts close n) (S.point_signs piece close (S.points n) ++ ys) (S.point_signs terminal close (S.points n) ++ us)
-points_before close zero y = y
-points_before close (suc zero) y = join_later (one_point close) y (one_suit close)
-points_before close (suc (suc zero)) y = two_points close y
-points_before close (suc (suc (suc n))) y = join_later (three_points close) (points_before true n y) (three_suit close n)
-
--- ---- What is imported.
-
 abbrev pub SoundNames : List Alias → Type 0
 SoundNames [] = Unit {0}
 SoundNames (a ∷ names) = IsProper a.name × MaybeProper a.asname × SoundNames names
@@ -277,57 +161,177 @@ abbrev pub SoundUnless : Bool → List Alias → Type 0
 SoundUnless true names = Unit {0}
 SoundUnless false names = SoundNames names
 
-names_each : (names : List Alias) → SoundNames names → Each starts_plain ends_plain (map (S.name_alias piece) names) (map (S.name_alias terminal) names)
-names_each [] h = none
-names_each (a ∷ names) h = more (plain_tail (plain_name a.name h.0) (as_name_are a.asname h.1)) (names_each names h.2)
-
 abbrev ends_import : List Piece
 ends_import = free piece (Op Star) ∷ ends_plain
 
 more_import : (p : Piece) → within ends_plain p ≡ true → within ends_import p ≡ true
 more_import p e = let h = and_parts (is_token p.kind p.text) (is_like ends_plain p) e in let g = late (like (free piece (Op Star)) p) (is_like ends_plain p) h.1 in rw (h.0, g) refl
 
-imported_are : (names : List Alias) → SoundUnless (S.are_all names) names → Closed (a_word ∷ []) ends_import (word piece Key.Import ∷ S.imported piece names) (word terminal Key.Import ∷ S.imported terminal names)
-unfolding operators
-imported_are names h = by (S.are_all names) h
-  where
-    by : (b : Bool) → SoundUnless b names → Closed (a_word ∷ []) ends_import (word piece Key.Import ∷ cond b (free piece (Op Star) ∷ []) (listed piece (map (S.name_alias piece) names))) (word terminal Key.Import ∷ cond b (free terminal (Op Star) ∷ []) (listed terminal (map (S.name_alias terminal) names)))
-    by true h = join (first_word Key.Import) (sign (free piece (Op Star) ∷ []) ends_import Star false false refl refl refl) refl
-    by false h = widen {c = a_word ∷ []} (λ p e. e) more_import (tail (first_word Key.Import) (plain_listed (names_each names h)) refl)
-
--- ---- The statements.
-
 abbrev pub SoundAliases : List Alias → Type 0
 SoundAliases [] = Unit {0}
 SoundAliases (a ∷ names) = AreProper (names_in a.name) × MaybeProper a.asname × SoundAliases names
-
-aliases_each : (names : List Alias) → SoundAliases names → Each starts_plain ends_plain (map (S.dotted_alias piece) names) (map (S.dotted_alias terminal) names)
-aliases_each [] h = none
-aliases_each (a ∷ names) h = more (plain_tail (dotted_plain a.name h.0) (as_name_are a.asname h.1)) (aliases_each names h.2)
-
-pub import_are : (names : List Alias) → SoundAliases names → Plain (word piece Key.Import ∷ listed piece (map (S.dotted_alias piece) names)) (word terminal Key.Import ∷ listed terminal (map (S.dotted_alias terminal) names))
-import_are names h = word_plain Key.Import (plain_listed (aliases_each names h))
-
-pub from_plain : (x : Identifier) (names : List Alias) → AreProper (names_in x) → SoundUnless (S.are_all names) names
-    → Closed starts_plain ends_import (word piece Key.From ∷ (S.dotted piece false x ++ (word piece Key.Import ∷ S.imported piece names))) (word terminal Key.From ∷ (S.dotted terminal false x ++ (word terminal Key.Import ∷ S.imported terminal names)))
-unfolding operators
-from_plain x names h i = join (keyword Key.From) (join (dotted_plain x h) (imported_are names i) refl) refl
 
 -- after points
 abbrev pub SoundModule : Option Identifier → Type 0
 SoundModule None = Unit {0}
 SoundModule (Some x) = AreProper (names_in x)
 
-module_are : (m : Option Identifier) (names : List Alias) → SoundModule m → SoundUnless (S.are_all names) names
-    → Later behind_points (S.module_name piece true m ++ (word piece Key.Import ∷ S.imported piece names)) (S.module_name terminal true m ++ (word terminal Key.Import ∷ S.imported terminal names))
-unfolding operators
-module_are None names h i = later (widen {d = ends_import} word_behind (λ p e. e) (imported_are names i))
-module_are (Some x) names h i = later (join (dotted_near x h) (imported_are names i) refl)
-
 level_suit : suit ends_plain (point_starts false) ≡ true
 unfolding operators
 level_suit = refl
 
-pub from_points : (n : ℕ) (m : Option Identifier) (names : List Alias) → SoundModule m → SoundUnless (S.are_all names) names
-    → Later starts_plain (word piece Key.From ∷ (S.point_signs piece false (S.points (suc n)) ++ (S.module_name piece true m ++ (word piece Key.Import ∷ S.imported piece names)))) (word terminal Key.From ∷ (S.point_signs terminal false (S.points (suc n)) ++ (S.module_name terminal true m ++ (word terminal Key.Import ∷ S.imported terminal names))))
-from_points n m names h i = join_later (keyword Key.From) (points_before false (suc n) (module_are m names h i)) level_suit
+module _ {extent : Extent} where
+  -- ---- Pieces that are told apart, though two points may be among them.
+
+  pub later : {b e : List Piece} {ps : List Piece} {ts : List Terminal} → Closed extent b e ps ts → Later extent b ps ts
+  later {ps = ps} x = record {
+    pieces = x.segment.form.pieces;
+    scalars = x.segment.form.scalars;
+    apart = neat_told ps x.segment.form.neat;
+    begins = x.segment.form.begins;
+    gives = x.segment.gives;
+    balanced = x.balanced;
+  }
+
+  pub join_later : {a b c : List Piece} {xs ys : List Piece} {ts us : List Terminal} → Closed extent a b xs ts → Later extent c ys us → suit b c ≡ true → Later extent a (xs ++ ys) (ts ++ us)
+  join_later {a} {b} {c} {xs} {ys} x y s =
+      let f = x.segment.form in
+      record {
+        pieces = list_all-append (λ p. is_token p.kind p.text) xs ys ∙ and_both (list_all (λ p. is_token p.kind p.text) xs) (list_all (λ p. is_token p.kind p.text) ys) f.pieces y.pieces;
+        scalars = list_all-append (λ p. all_scalars p.text) xs ys ∙ and_both (list_all (λ p. all_scalars p.text) xs) (list_all (λ p. all_scalars p.text) ys) f.scalars y.scalars;
+        apart = told_both (within b) (within c) (sorts_fit b c s) xs ys f.neat f.ends y.apart y.begins;
+        begins = begins_both (within a) xs ys f.begins;
+        gives = give_both x.segment.gives y.gives;
+        balanced = balanced_both xs ys x.balanced y.balanced;
+      }
+
+  pub later_read : {b : List Piece} {ps : List Piece} {ts : List Terminal} → Later extent b ps ts → AreRead extent ps ts
+  later_read {b} {ps} x = record {
+    give = x.gives;
+    line = λ n.
+        let r : are_readable ps ≡ true = readable b ps x.pieces x.apart x.begins in
+        let c : closes_all 0 ps ≡ true = balanced_closes ps x.balanced in
+        let s = x.scalars in
+        rw (r, c, s) refl;
+  }
+
+  -- ---- Names with points between.
+
+  near_name : (x : Identifier) → IsProper x → Closed extent behind_points ends_near (piece (in_form x) true false ∷ []) (terminal (in_form x) true false ∷ [])
+  near_name x h = token behind_points ends_near (in_form x) true false (fair_name x h) refl refl refl refl
+
+  first_word : (k : Keyword) → Closed extent (a_word ∷ []) ends_plain (word piece k ∷ []) (word terminal k ∷ [])
+  first_word k = token (a_word ∷ []) ends_plain (Word k) false false (fair_word k) refl refl refl refl
+
+  point : Closed extent (tight piece Dot ∷ []) (tight piece Dot ∷ []) (tight piece Dot ∷ []) (tight terminal Dot ∷ [])
+  point = sign (tight piece Dot ∷ []) (tight piece Dot ∷ []) Dot true true refl refl refl
+
+  rest_are : (xs : List Identifier) → AreProper xs → Perhaps extent (tight piece Dot ∷ []) ends_plain (S.dotted_rest piece xs) (S.dotted_rest terminal xs)
+  unfolding operators
+  rest_are [] h = nothing
+  rest_are (x ∷ xs) h = some (join point (tail (name x h.0) (rest_are xs h.1) refl) refl)
+
+  plain_names : (x : Identifier) (xs : List Identifier) → AreProper (x ∷ xs) → Plain extent (S.dotted_names piece false (x ∷ xs)) (S.dotted_names terminal false (x ∷ xs))
+  unfolding operators
+  plain_names x xs h = tail (plain_name x h.0) (rest_are xs h.1) refl
+
+  near_names : (x : Identifier) (xs : List Identifier) → AreProper (x ∷ xs) → Closed extent behind_points ends_near (S.dotted_names piece true (x ∷ xs)) (S.dotted_names terminal true (x ∷ xs))
+  unfolding operators
+  near_names x xs h = tail (near_name x h.0) (perhaps_widen {c = tight piece Dot ∷ []} (λ p e. e) more_near (rest_are xs h.1)) refl
+
+  pub dotted_plain : (x : Identifier) → AreProper (names_in x) → Plain extent (S.dotted piece false x) (S.dotted terminal false x)
+  dotted_plain x h = let w = named x in subst (λ xs. Plain extent (S.dotted_names piece false xs) (S.dotted_names terminal false xs)) (sym w.is) (plain_names w.first w.others (subst AreProper w.is h))
+
+  dotted_near : (x : Identifier) → AreProper (names_in x) → Closed extent behind_points ends_near (S.dotted piece true x) (S.dotted terminal true x)
+  dotted_near x h = let w = named x in subst (λ xs. Closed extent behind_points ends_near (S.dotted_names piece true xs) (S.dotted_names terminal true xs)) (sym w.is) (near_names w.first w.others (subst AreProper w.is h))
+
+  -- ---- Points.
+
+  one_point : (close : Bool) → Closed extent (point_starts close) (point_starts close) (piece (Op Dot) close false ∷ []) (Op Dot ∷ [])
+  one_point true = sign (point_starts true) (point_starts true) Dot true false refl refl refl
+  one_point false = sign (point_starts false) (point_starts false) Dot false false refl refl refl
+
+  three_points : (close : Bool) → Closed extent (point_starts close) (piece (Op Ellipsis) close false ∷ []) (piece (Op Ellipsis) close false ∷ []) (Op Ellipsis ∷ [])
+  three_points true = sign (point_starts true) (piece (Op Ellipsis) true false ∷ []) Ellipsis true false refl refl refl
+  three_points false = sign (point_starts false) (piece (Op Ellipsis) false false ∷ []) Ellipsis false false refl refl refl
+
+-- no word begins with a point
+first_is : (q : Piece) → is_token q.kind q.text ≡ true → is_operator_kind q.kind ≡ false → bytes_eq (take 1 q.text) (codes ".") ≡ false
+first_is q t o = by (bytes_eq (take 1 q.text) (codes ".")) refl
+  where
+    by : (b : Bool) → bytes_eq (take 1 q.text) (codes ".") ≡ b → b ≡ false
+    by false e = refl
+    by true e =
+        let f : take 1 q.text ≡ codes "." = (bytes_eq-Decides (take 1 q.text) (codes ".")).0 e in
+        let g : begins_operator (codes ".." ++ codes ".") ≡ false = subst (λ (u : List ℕ). begins_operator (codes ".." ++ u) ≡ false) f (plain_head q.kind (codes "..") q.text t o) in
+        let z : true ≡ false = sym three_begin ∙ g in
+        absurd (cc)
+
+not_point : (q : Piece) → within behind_points q ≡ true → bytes_eq (take 1 q.text) (codes ".") ≡ false
+not_point q e = let h = and_parts (is_token q.kind q.text) (is_like behind_points q) e in first_is q h.0 (word_kind q h.1)
+
+both_told : (close : Bool) (ys : List Piece) → begins_by (within behind_points) ys ≡ true → told ys ≡ true → all_apart (piece (Op Dot) close false) (second ∷ ys) ≡ true
+both_told close [] b t = cc
+both_told close (q ∷ qs) b t =
+    let d = one_point {extent = Whole} true in
+    let f : fit second q ≡ true = sorts_fit (point_starts true) behind_points (one_suit true) second q d.segment.form.ends b in
+    two_apart close q qs (not_point q b) f t
+
+module _ {extent : Extent} where
+  two_points : (close : Bool) {ys : List Piece} {us : List Terminal} → Later extent behind_points ys us → Later extent (point_starts close) (piece (Op Dot) close false ∷ (second ∷ ys)) (Op Dot ∷ (Op Dot ∷ us))
+  two_points close {ys} y =
+      let x = one_point close in
+      let z = join_later (one_point true) y (one_suit true) in
+      let w : ArePieces (piece (Op Dot) close false ∷ []) = x.segment.form.pieces in
+      record {
+        pieces = list_all-append (λ p. is_token p.kind p.text) (piece (Op Dot) close false ∷ []) (second ∷ ys) ∙ and_both (list_all (λ p. is_token p.kind p.text) (piece (Op Dot) close false ∷ [])) (list_all (λ p. is_token p.kind p.text) (second ∷ ys)) w z.pieces;
+        scalars = list_all-append (λ p. all_scalars p.text) (piece (Op Dot) close false ∷ []) (second ∷ ys) ∙ and_both (list_all (λ p. all_scalars p.text) (piece (Op Dot) close false ∷ [])) (list_all (λ p. all_scalars p.text) (second ∷ ys)) x.segment.form.scalars z.scalars;
+        apart = both_told close ys y.begins y.apart;
+        begins = x.segment.form.begins;
+        gives = give_both x.segment.gives z.gives;
+        balanced = balanced_both (piece (Op Dot) close false ∷ []) (second ∷ ys) x.balanced z.balanced;
+      }
+
+  points_before : (close : Bool) (n : ℕ) {ys : List Piece} {us : List Terminal} → Later extent behind_points ys us → Later extent (level_starts close n) (S.point_signs piece close (S.points n) ++ ys) (S.point_signs terminal close (S.points n) ++ us)
+  points_before close zero y = y
+  points_before close (suc zero) y = join_later (one_point close) y (one_suit close)
+  points_before close (suc (suc zero)) y = two_points close y
+  points_before close (suc (suc (suc n))) y = join_later (three_points close) (points_before true n y) (three_suit close n)
+
+  -- ---- What is imported.
+
+  names_each : (names : List Alias) → SoundNames names → Each extent starts_plain ends_plain (map (S.name_alias piece) names) (map (S.name_alias terminal) names)
+  names_each [] h = none
+  names_each (a ∷ names) h = more (plain_tail (plain_name a.name h.0) (as_name_are a.asname h.1)) (names_each names h.2)
+
+  imported_are : (names : List Alias) → SoundUnless (S.are_all names) names → Closed extent (a_word ∷ []) ends_import (word piece Key.Import ∷ S.imported piece names) (word terminal Key.Import ∷ S.imported terminal names)
+  unfolding operators
+  imported_are names h = by (S.are_all names) h
+    where
+      by : (b : Bool) → SoundUnless b names → Closed extent (a_word ∷ []) ends_import (word piece Key.Import ∷ cond b (free piece (Op Star) ∷ []) (listed piece (map (S.name_alias piece) names))) (word terminal Key.Import ∷ cond b (free terminal (Op Star) ∷ []) (listed terminal (map (S.name_alias terminal) names)))
+      by true h = join (first_word Key.Import) (sign (free piece (Op Star) ∷ []) ends_import Star false false refl refl refl) refl
+      by false h = widen {c = a_word ∷ []} (λ p e. e) more_import (tail (first_word Key.Import) (plain_listed (names_each names h)) refl)
+
+  -- ---- The statements.
+
+  aliases_each : (names : List Alias) → SoundAliases names → Each extent starts_plain ends_plain (map (S.dotted_alias piece) names) (map (S.dotted_alias terminal) names)
+  aliases_each [] h = none
+  aliases_each (a ∷ names) h = more (plain_tail (dotted_plain a.name h.0) (as_name_are a.asname h.1)) (aliases_each names h.2)
+
+  pub import_are : (names : List Alias) → SoundAliases names → Plain extent (word piece Key.Import ∷ listed piece (map (S.dotted_alias piece) names)) (word terminal Key.Import ∷ listed terminal (map (S.dotted_alias terminal) names))
+  import_are names h = word_plain Key.Import (plain_listed (aliases_each names h))
+
+  pub from_plain : (x : Identifier) (names : List Alias) → AreProper (names_in x) → SoundUnless (S.are_all names) names
+      → Closed extent starts_plain ends_import (word piece Key.From ∷ (S.dotted piece false x ++ (word piece Key.Import ∷ S.imported piece names))) (word terminal Key.From ∷ (S.dotted terminal false x ++ (word terminal Key.Import ∷ S.imported terminal names)))
+  unfolding operators
+  from_plain x names h i = join (keyword Key.From) (join (dotted_plain x h) (imported_are names i) refl) refl
+
+  module_are : (m : Option Identifier) (names : List Alias) → SoundModule m → SoundUnless (S.are_all names) names
+      → Later extent behind_points (S.module_name piece true m ++ (word piece Key.Import ∷ S.imported piece names)) (S.module_name terminal true m ++ (word terminal Key.Import ∷ S.imported terminal names))
+  unfolding operators
+  module_are None names h i = later (widen {d = ends_import} word_behind (λ p e. e) (imported_are names i))
+  module_are (Some x) names h i = later (join (dotted_near x h) (imported_are names i) refl)
+
+  pub from_points : (n : ℕ) (m : Option Identifier) (names : List Alias) → SoundModule m → SoundUnless (S.are_all names) names
+      → Later extent starts_plain (word piece Key.From ∷ (S.point_signs piece false (S.points (suc n)) ++ (S.module_name piece true m ++ (word piece Key.Import ∷ S.imported piece names)))) (word terminal Key.From ∷ (S.point_signs terminal false (S.points (suc n)) ++ (S.module_name terminal true m ++ (word terminal Key.Import ∷ S.imported terminal names))))
+  from_points n m names h i = join_later (keyword Key.From) (points_before false (suc n) (module_are m names h i)) level_suit

@@ -2,6 +2,7 @@
 use Rattle.std.proofs.Common.{◌≡◌, Bool, true, List, [], ◌∷◌, refl}
 use Rattle.std.specs.Prelude.{All}
 use Rattle.std.proofs.lemmas.List.Elements.{All-nil, All-cons, All-head, All-tail}
+use Rattle.pytree_node.specs.declared.profiles.Extent.{Extent}
 use Rattle.pytoken.specs.Terminals.{Terminal}
 use Rattle.pyunparse_text.specs.Spacing.{Piece, are_readable}
 use Rattle.pyunparse_text.specs.Tokens.{closes_all}
@@ -19,23 +20,24 @@ there : (f : Piece → Bool) (ps : List Piece) → begins_by f ps ≡ true → b
 there f [] e = cc
 there f (p ∷ ps) e = refl
 
-pub closed_read : {a b : List Piece} {ps : List Piece} {ts : List Terminal} → Closed a b ps ts → AreRead ps ts
-closed_read {a} {b} {ps} {ts} x = record {
-  give = x.segment.gives;
-  line = λ n.
-      let f = x.segment.form in
-      let r : are_readable ps ≡ true = neat_readable ps f.neat (there (within a) ps f.begins) f.pieces in
-      let c : closes_all 0 ps ≡ true = balanced_closes ps x.balanced in
-      let s = f.scalars in
-      rw (r, c, s) refl;
-}
+module _ {extent : Extent} where
+  pub closed_read : {a b : List Piece} {ps : List Piece} {ts : List Terminal} → Closed extent a b ps ts → AreRead extent ps ts
+  closed_read {a} {b} {ps} {ts} x = record {
+    give = x.segment.gives;
+    line = λ n.
+        let f = x.segment.form in
+        let r : are_readable ps ≡ true = neat_readable ps f.neat (there (within a) ps f.begins) f.pieces in
+        let c : closes_all 0 ps ≡ true = balanced_closes ps x.balanced in
+        let s = f.scalars in
+        rw (r, c, s) refl;
+  }
 
-pub of_tokens : (ts : List Terminal) → All IsOfToken ts → Said ts
-of_tokens ts h = said ts (all ts h)
-  where
-    all : (ts : List Terminal) → All IsOfToken ts → All Sayable ts
-    all [] h = All-nil Sayable
-    all (t ∷ ts) h = All-cons Sayable t ts (of_token (All-head IsOfToken t ts h)) (all ts (All-tail IsOfToken t ts h))
+  pub of_tokens : (ts : List Terminal) → All (IsOfToken extent) ts → Said extent ts
+  of_tokens ts h = said ts (all ts h)
+    where
+      all : (ts : List Terminal) → All (IsOfToken extent) ts → All (Sayable extent) ts
+      all [] h = All-nil (Sayable extent)
+      all (t ∷ ts) h = All-cons (Sayable extent) t ts (of_token (All-head (IsOfToken extent) t ts h)) (all ts (All-tail (IsOfToken extent) t ts h))
 
 pub expressions_read : ExpressionsAreRead
-expressions_read l ts e h p = closed_read (readable true l e (starred (star_place l) e (sound p (of_tokens ts h))))
+expressions_read extent l ts e h p = closed_read (readable true l e (starred extent (star_place l) e (sound extent p (of_tokens ts h))))

@@ -5,6 +5,7 @@ use Rattle.std.proofs.lemmas.Slice.Eq.{bytes_eq-Decides}
 use Rattle.pylex_lexeme.specs.declared.kinds.Exact.{Exact}
 use Rattle.pylex_lexeme.specs.declared.kinds.Exact.TheVariants.{LSqb, Colon, Comma, Star, Equal, RArrow}
 use Rattle.pylex_lexeme.specs.Operators.{operators}
+use Rattle.pytree_node.specs.declared.profiles.Extent.{Extent}
 use Rattle.pytoken.specs.declared.keywords.Keyword.{Keyword}
 use Rattle.pytoken.specs.declared.keywords.Keyword.TheVariants as Key
 use Rattle.pytree_node.specs.declared.operators.Operator.{Operator}
@@ -31,103 +32,24 @@ use Rattle.pyunparse_text.proofs.PieceLaws.Readable.{readable}
 use Rattle.pyunparse_text.proofs.PieceLaws.TypeWord.{type_is_proper}
 
 -- what a value, or a list of targets, is
-abbrev pub Valued : List Piece → List Terminal → Type 0
-Valued ps ts = Closed starts_item ends_comma ps ts
+abbrev pub Valued : Extent → List Piece → List Terminal → Type 0
+Valued extent ps ts = Closed extent starts_item ends_comma ps ts
 
-pub valued : {xs : List Piece} {ts : List Terminal} → Plain xs ts → Valued xs ts
-valued x = widen more_item more_comma x
-
--- a word and what stands after it
-pub word_value : (k : Keyword) {xs : List Piece} {ts : List Terminal} → Perhaps starts_item ends_comma xs ts → Closed starts_plain ends_comma (word piece k ∷ xs) (word terminal k ∷ ts)
-unfolding operators
-word_value k x = tail (widen {c = starts_plain} (λ p e. e) more_comma (keyword k)) x refl
-
-pub word_plain : {xs : List Piece} {ts : List Terminal} (k : Keyword) → Perhaps starts_plain ends_plain xs ts → Plain (word piece k ∷ xs) (word terminal k ∷ ts)
-word_plain k x = plain_tail (keyword k) x
-
--- a sign between two blanks
-pub loose : (s : Exact) → is_bracket s ≡ false → Closed (free piece (Op s) ∷ []) (free piece (Op s) ∷ []) (free piece (Op s) ∷ []) (free terminal (Op s) ∷ [])
-loose s b =
-    let e : bytes_eq (piece (Op s) false false).text (piece (Op s) false false).text ≡ true = (bytes_eq-Decides (piece (Op s) false false).text (piece (Op s) false false).text).1 refl in
-    token (free piece (Op s) ∷ []) (free piece (Op s) ∷ []) (Op s) false false (fair_sign s) (opens_none s false false b) (closes_none s false false b) (rw e refl) (rw e refl)
-
-pub loose_between : (s : Exact) → is_bracket s ≡ false → {xs ys : List Piece} {ts us : List Terminal} → Valued xs ts → Valued ys us → Valued (xs ++ (free piece (Op s) ∷ ys)) (ts ++ (free terminal (Op s) ∷ us))
-unfolding operators
-loose_between s b x y = join x (join (loose s b) y refl) refl
-
--- ---- What may be left out.
-
-abbrev pub SoundOption : Bool → Option Expr → Type 0
-SoundOption s None = Unit {0}
-SoundOption s (Some e) = Sound s e
-
-pub option_stars : (e : Option Expr) → SoundOption true e → Perhaps starts_item ends_comma (S.perhaps_written piece Stars e) (S.perhaps_written terminal Stars e)
-option_stars None h = nothing
-option_stars (Some e) h = some (readable true Stars e h)
-
-pub option_plain : (e : Option Expr) → SoundOption false e → Perhaps starts_plain ends_plain (S.perhaps_written piece Expression e) (S.perhaps_written terminal Expression e)
-option_plain None h = nothing
-option_plain (Some e) h = some (readable false Expression e h)
-
-pub option_word : (k : Keyword) (e : Option Expr) → SoundOption false e → Perhaps starts_plain ends_plain (S.behind piece (word piece k) Expression e) (S.behind terminal (word terminal k) Expression e)
-option_word k None h = nothing
-option_word k (Some e) h = some (plain_both (keyword k) (readable false Expression e h))
-
-pub option_value : (e : Option Expr) → SoundOption true e → Perhaps (free piece (Op Equal) ∷ []) ends_comma (S.behind piece (free piece (Op Equal)) Value e) (S.behind terminal (free terminal (Op Equal)) Value e)
-unfolding operators
-option_value None h = nothing
-option_value (Some e) h = some (join (loose Equal refl) (readable true Value e h) refl)
-
-pub option_message : (e : Option Expr) → SoundOption false e → Perhaps (trailing piece Comma ∷ []) ends_plain (S.behind piece (trailing piece Comma) Expression e) (S.behind terminal (trailing terminal Comma) Expression e)
-unfolding operators
-option_message None h = nothing
-option_message (Some e) h = some (join comma (readable false Expression e h) refl)
-
-pub option_bound : (e : Option Expr) → SoundOption false e → Perhaps (trailing piece Colon ∷ []) ends_plain (S.behind piece (trailing piece Colon) Expression e) (S.behind terminal (trailing terminal Colon) Expression e)
-unfolding operators
-option_bound None h = nothing
-option_bound (Some e) h = some (join colon (readable false Expression e h) refl)
-
-pub option_result : (e : Option Expr) → SoundOption false e → Perhaps (free piece (Op RArrow) ∷ []) ends_plain (S.behind piece (free piece (Op RArrow)) Expression e) (S.behind terminal (free terminal (Op RArrow)) Expression e)
-unfolding operators
-option_result None h = nothing
-option_result (Some e) h = some (join (loose RArrow refl) (readable false Expression e h) refl)
+abbrev pub SoundOption : Extent → Bool → Option Expr → Type 0
+SoundOption extent s None = Unit {0}
+SoundOption extent s (Some e) = Sound extent s e
 
 abbrev pub MaybeProper : Option Identifier → Type 0
 MaybeProper None = Unit {0}
 MaybeProper (Some x) = IsProper x
 
-pub as_name_are : (x : Option Identifier) → MaybeProper x → Perhaps starts_plain ends_plain (S.as_name piece x) (S.as_name terminal x)
-as_name_are None h = nothing
-as_name_are (Some x) h = some (plain_both (keyword Key.As) (plain_name x h))
-
--- ---- Simple statements.
-
 pub plain_suit : suit ends_plain starts_plain ≡ true
 unfolding operators
 plain_suit = refl
 
-pub raise_are : (e c : Option Expr) → SoundOption false e → SoundOption false c → Plain (word piece Key.Raise ∷ (S.perhaps_written piece Expression e ++ S.behind piece (word piece Key.From) Expression c)) (word terminal Key.Raise ∷ (S.perhaps_written terminal Expression e ++ S.behind terminal (word terminal Key.From) Expression c))
-raise_are e c h i = word_plain Key.Raise (perhaps_both plain_suit (option_plain e h) (option_word Key.From c i))
-
-pub plain_listed : {xss : List (List Piece)} {tss : List (List Terminal)} → Each starts_plain ends_plain xss tss → Perhaps starts_plain ends_plain (listed piece xss) (listed terminal tss)
-unfolding operators
-plain_listed x = separated_are (trailing piece Comma) (trailing terminal Comma) comma refl refl x
-
 abbrev pub AreProper : List Identifier → Type 0
 AreProper [] = Unit {0}
 AreProper (x ∷ xs) = IsProper x × AreProper xs
-
-pub names_each : (xs : List Identifier) → AreProper xs → Each starts_plain ends_plain (map (S.one_name piece) xs) (map (S.one_name terminal) xs)
-names_each [] h = none
-names_each (x ∷ xs) h = more (plain_name x h.0) (names_each xs h.1)
-
-pub assign_are : (ts : List Expr) (e : Expr) → AreSound true (exprs ts) → Sound true e → Valued (S.targets piece ts ++ written piece Value e) (S.targets terminal ts ++ written terminal Value e)
-assign_are [] e h i = readable true Value e i
-assign_are (t ∷ ts) e h i =
-    let f = append_assoc (written piece Stars t) (free piece (Op Equal) ∷ S.targets piece ts) (written piece Value e) in
-    let g = append_assoc (written terminal Stars t) (free terminal (Op Equal) ∷ S.targets terminal ts) (written terminal Value e) in
-    rw (f, g) (loose_between Equal refl (readable true Stars t h.0) (assign_are ts e h.1 i))
 
 sign_none : (o : Operator) → is_bracket (S.augmented_sign o) ≡ false
 sign_none Bin.Add = refl
@@ -144,63 +66,143 @@ sign_none Bin.BitXor = refl
 sign_none Bin.BitAnd = refl
 sign_none Bin.FloorDiv = refl
 
-pub augment_are : (t : Expr) (o : Operator) (e : Expr) → Sound false t → Sound true e → Valued (written piece Primary t ++ (free piece (Op (S.augmented_sign o)) ∷ written piece Value e)) (written terminal Primary t ++ (free terminal (Op (S.augmented_sign o)) ∷ written terminal Value e))
-augment_are t o e h i = loose_between (S.augmented_sign o) (sign_none o) (valued (readable false Primary t h)) (readable true Value e i)
+abbrev pub SoundType : Extent → TypeParam → Type 0
+SoundType extent (TypeVar x bound) = IsProper x × SoundOption extent false bound
+SoundType extent (TypeVarTuple x) = IsProper x
+SoundType extent (ParamSpec x) = IsProper x
 
-annotated_are : (t : Expr) (b : Bool) → Sound false t → Plain (S.annotated piece t b) (S.annotated terminal t b)
-unfolding written
-annotated_are (Trees.Name x c) false h = group (some (loosely (readable false Primary (Trees.Name x c) h)))
-annotated_are t b h = readable false Primary t h
+abbrev pub SoundTypes : Extent → List TypeParam → Type 0
+SoundTypes extent [] = Unit {0}
+SoundTypes extent (p ∷ ps) = SoundType extent p × SoundTypes extent ps
 
-annotation_form : {xs ys zs : List Piece} {ts us vs : List Terminal} → Plain xs ts → Plain ys us → Perhaps (free piece (Op Equal) ∷ []) ends_comma zs vs → Closed starts_plain ends_comma (xs ++ (trailing piece Colon ∷ (ys ++ zs))) (ts ++ (trailing terminal Colon ∷ (us ++ vs)))
-unfolding operators
-annotation_form x y z = join x (join colon (tail (widen {c = starts_plain} (λ p e. e) more_comma y) z refl) refl) refl
+module _ {extent : Extent} where
+  pub valued : {xs : List Piece} {ts : List Terminal} → Plain extent xs ts → Valued extent xs ts
+  valued x = widen more_item more_comma x
 
-pub annotate_are : (t a : Expr) (e : Option Expr) (b : Bool) → Sound false t → Sound false a → SoundOption true e → Closed starts_plain ends_comma (S.annotated piece t b ++ (trailing piece Colon ∷ (written piece Expression a ++ S.behind piece (free piece (Op Equal)) Value e))) (S.annotated terminal t b ++ (trailing terminal Colon ∷ (written terminal Expression a ++ S.behind terminal (free terminal (Op Equal)) Value e)))
-annotate_are t a e b h i j = annotation_form (annotated_are t b h) (readable false Expression a i) (option_value e j)
+  -- a word and what stands after it
+  pub word_value : (k : Keyword) {xs : List Piece} {ts : List Terminal} → Perhaps extent starts_item ends_comma xs ts → Closed extent starts_plain ends_comma (word piece k ∷ xs) (word terminal k ∷ ts)
+  unfolding operators
+  word_value k x = tail (widen {c = starts_plain} (λ p e. e) more_comma (keyword k)) x refl
 
-assert_form : {xs ys : List Piece} {ts us : List Terminal} → Plain xs ts → Perhaps (trailing piece Comma ∷ []) ends_plain ys us → Plain (word piece Key.Assert ∷ (xs ++ ys)) (word terminal Key.Assert ∷ (ts ++ us))
-unfolding operators
-assert_form x y = plain_both (keyword Key.Assert) (tail x y refl)
+  pub word_plain : {xs : List Piece} {ts : List Terminal} (k : Keyword) → Perhaps extent starts_plain ends_plain xs ts → Plain extent (word piece k ∷ xs) (word terminal k ∷ ts)
+  word_plain k x = plain_tail (keyword k) x
 
-pub assert_are : (e : Expr) (m : Option Expr) → Sound false e → SoundOption false m → Plain (word piece Key.Assert ∷ (written piece Expression e ++ S.behind piece (trailing piece Comma) Expression m)) (word terminal Key.Assert ∷ (written terminal Expression e ++ S.behind terminal (trailing terminal Comma) Expression m))
-assert_are e m h i = assert_form (readable false Expression e h) (option_message m i)
+  -- a sign between two blanks
+  pub loose : (s : Exact) → is_bracket s ≡ false → Closed extent (free piece (Op s) ∷ []) (free piece (Op s) ∷ []) (free piece (Op s) ∷ []) (free terminal (Op s) ∷ [])
+  loose s b =
+      let e : bytes_eq (piece (Op s) false false).text (piece (Op s) false false).text ≡ true = (bytes_eq-Decides (piece (Op s) false false).text (piece (Op s) false false).text).1 refl in
+      token (free piece (Op s) ∷ []) (free piece (Op s) ∷ []) (Op s) false false (fair_sign s) (opens_none s false false b) (closes_none s false false b) (rw e refl) (rw e refl)
 
--- ---- Parameters of types.
+  pub loose_between : (s : Exact) → is_bracket s ≡ false → {xs ys : List Piece} {ts us : List Terminal} → Valued extent xs ts → Valued extent ys us → Valued extent (xs ++ (free piece (Op s) ∷ ys)) (ts ++ (free terminal (Op s) ∷ us))
+  unfolding operators
+  loose_between s b x y = join x (join (loose s b) y refl) refl
 
-abbrev pub SoundType : TypeParam → Type 0
-SoundType (TypeVar x bound) = IsProper x × SoundOption false bound
-SoundType (TypeVarTuple x) = IsProper x
-SoundType (ParamSpec x) = IsProper x
+  -- ---- What may be left out.
 
-abbrev pub SoundTypes : List TypeParam → Type 0
-SoundTypes [] = Unit {0}
-SoundTypes (p ∷ ps) = SoundType p × SoundTypes ps
+  pub option_stars : (e : Option Expr) → SoundOption extent true e → Perhaps extent starts_item ends_comma (S.perhaps_written piece Stars e) (S.perhaps_written terminal Stars e)
+  option_stars None h = nothing
+  option_stars (Some e) h = some (readable true Stars e h)
 
-star_name : (x : Identifier) → IsProper x → Shape.Item (leading piece Star ∷ (free piece (in_form x) ∷ [])) (leading terminal Star ∷ (free terminal (in_form x) ∷ []))
-unfolding operators
-star_name x h = join (sign starts_item (leading piece Star ∷ []) Star false true refl refl refl) (plain_name x h) refl
+  pub option_plain : (e : Option Expr) → SoundOption extent false e → Perhaps extent starts_plain ends_plain (S.perhaps_written piece Expression e) (S.perhaps_written terminal Expression e)
+  option_plain None h = nothing
+  option_plain (Some e) h = some (readable false Expression e h)
 
-type_var_form : (x : Identifier) → IsProper x → {ys : List Piece} {us : List Terminal} → Perhaps (trailing piece Colon ∷ []) ends_plain ys us → Shape.Item (free piece (in_form x) ∷ ys) (free terminal (in_form x) ∷ us)
-unfolding operators
-type_var_form x h y = widen more_item (λ p e. e) (tail (plain_name x h) y refl)
+  pub option_word : (k : Keyword) (e : Option Expr) → SoundOption extent false e → Perhaps extent starts_plain ends_plain (S.behind piece (word piece k) Expression e) (S.behind terminal (word terminal k) Expression e)
+  option_word k None h = nothing
+  option_word k (Some e) h = some (plain_both (keyword k) (readable false Expression e h))
 
-type_param_is : (p : TypeParam) → SoundType p → Shape.Item (S.type_param piece p) (S.type_param terminal p)
-type_param_is (TypeVar x bound) h = type_var_form x h.0 (option_bound bound h.1)
-type_param_is (TypeVarTuple x) h = star_name x h
-type_param_is (ParamSpec x) h = double_star (plain_name x h)
+  pub option_value : (e : Option Expr) → SoundOption extent true e → Perhaps extent (free piece (Op Equal) ∷ []) ends_comma (S.behind piece (free piece (Op Equal)) Value e) (S.behind terminal (free terminal (Op Equal)) Value e)
+  unfolding operators
+  option_value None h = nothing
+  option_value (Some e) h = some (join (loose Equal refl) (readable true Value e h) refl)
 
-type_each : (ps : List TypeParam) → SoundTypes ps → Each starts_item ends_plain (map (S.type_param piece) ps) (map (S.type_param terminal) ps)
-type_each [] h = none
-type_each (p ∷ ps) h = more (type_param_is p h.0) (type_each ps h.1)
+  pub option_message : (e : Option Expr) → SoundOption extent false e → Perhaps extent (trailing piece Comma ∷ []) ends_plain (S.behind piece (trailing piece Comma) Expression e) (S.behind terminal (trailing terminal Comma) Expression e)
+  unfolding operators
+  option_message None h = nothing
+  option_message (Some e) h = some (join comma (readable false Expression e h) refl)
 
-pub types_are : (ps : List TypeParam) → SoundTypes ps → Perhaps (tight piece LSqb ∷ []) ends_plain (S.type_params piece ps) (S.type_params terminal ps)
-types_are [] h = nothing
-types_are (p ∷ ps) h = some (indexed (items_listed (type_each (p ∷ ps) h)))
+  pub option_bound : (e : Option Expr) → SoundOption extent false e → Perhaps extent (trailing piece Colon ∷ []) ends_plain (S.behind piece (trailing piece Colon) Expression e) (S.behind terminal (trailing terminal Colon) Expression e)
+  unfolding operators
+  option_bound None h = nothing
+  option_bound (Some e) h = some (join colon (readable false Expression e h) refl)
 
-alias_form : {xs ys zs : List Piece} {ts us vs : List Terminal} → Plain xs ts → Perhaps (tight piece LSqb ∷ []) ends_plain ys us → Plain zs vs → Plain (free piece (in_form type_name) ∷ (xs ++ (ys ++ (free piece (Op Equal) ∷ zs)))) (free terminal (in_form type_name) ∷ (ts ++ (us ++ (free terminal (Op Equal) ∷ vs))))
-unfolding operators
-alias_form x y z = plain_both (plain_name type_name type_is_proper) (between x y (join (loose Equal refl) z refl) refl refl refl)
+  pub option_result : (e : Option Expr) → SoundOption extent false e → Perhaps extent (free piece (Op RArrow) ∷ []) ends_plain (S.behind piece (free piece (Op RArrow)) Expression e) (S.behind terminal (free terminal (Op RArrow)) Expression e)
+  unfolding operators
+  option_result None h = nothing
+  option_result (Some e) h = some (join (loose RArrow refl) (readable false Expression e h) refl)
 
-pub type_alias_are : (t : Expr) (ps : List TypeParam) (e : Expr) → Sound false t → SoundTypes ps → Sound false e → Plain (free piece (in_form type_name) ∷ (written piece Primary t ++ (S.type_params piece ps ++ (free piece (Op Equal) ∷ written piece Expression e)))) (free terminal (in_form type_name) ∷ (written terminal Primary t ++ (S.type_params terminal ps ++ (free terminal (Op Equal) ∷ written terminal Expression e))))
-type_alias_are t ps e h i j = alias_form (readable false Primary t h) (types_are ps i) (readable false Expression e j)
+  pub as_name_are : (x : Option Identifier) → MaybeProper x → Perhaps extent starts_plain ends_plain (S.as_name piece x) (S.as_name terminal x)
+  as_name_are None h = nothing
+  as_name_are (Some x) h = some (plain_both (keyword Key.As) (plain_name x h))
+
+  -- ---- Simple statements.
+
+  pub raise_are : (e c : Option Expr) → SoundOption extent false e → SoundOption extent false c → Plain extent (word piece Key.Raise ∷ (S.perhaps_written piece Expression e ++ S.behind piece (word piece Key.From) Expression c)) (word terminal Key.Raise ∷ (S.perhaps_written terminal Expression e ++ S.behind terminal (word terminal Key.From) Expression c))
+  raise_are e c h i = word_plain Key.Raise (perhaps_both plain_suit (option_plain e h) (option_word Key.From c i))
+
+  pub plain_listed : {xss : List (List Piece)} {tss : List (List Terminal)} → Each extent starts_plain ends_plain xss tss → Perhaps extent starts_plain ends_plain (listed piece xss) (listed terminal tss)
+  unfolding operators
+  plain_listed x = separated_are (trailing piece Comma) (trailing terminal Comma) comma refl refl x
+
+  pub names_each : (xs : List Identifier) → AreProper xs → Each extent starts_plain ends_plain (map (S.one_name piece) xs) (map (S.one_name terminal) xs)
+  names_each [] h = none
+  names_each (x ∷ xs) h = more (plain_name x h.0) (names_each xs h.1)
+
+  pub assign_are : (ts : List Expr) (e : Expr) → AreSound extent true (exprs ts) → Sound extent true e → Valued extent (S.targets piece ts ++ written piece Value e) (S.targets terminal ts ++ written terminal Value e)
+  assign_are [] e h i = readable true Value e i
+  assign_are (t ∷ ts) e h i =
+      let f = append_assoc (written piece Stars t) (free piece (Op Equal) ∷ S.targets piece ts) (written piece Value e) in
+      let g = append_assoc (written terminal Stars t) (free terminal (Op Equal) ∷ S.targets terminal ts) (written terminal Value e) in
+      rw (f, g) (loose_between Equal refl (readable true Stars t h.0) (assign_are ts e h.1 i))
+
+  pub augment_are : (t : Expr) (o : Operator) (e : Expr) → Sound extent false t → Sound extent true e → Valued extent (written piece Primary t ++ (free piece (Op (S.augmented_sign o)) ∷ written piece Value e)) (written terminal Primary t ++ (free terminal (Op (S.augmented_sign o)) ∷ written terminal Value e))
+  augment_are t o e h i = loose_between (S.augmented_sign o) (sign_none o) (valued (readable false Primary t h)) (readable true Value e i)
+
+  annotated_are : (t : Expr) (b : Bool) → Sound extent false t → Plain extent (S.annotated piece t b) (S.annotated terminal t b)
+  unfolding written
+  annotated_are (Trees.Name x c) false h = group (some (loosely (readable false Primary (Trees.Name x c) h)))
+  annotated_are t b h = readable false Primary t h
+
+  annotation_form : {xs ys zs : List Piece} {ts us vs : List Terminal} → Plain extent xs ts → Plain extent ys us → Perhaps extent (free piece (Op Equal) ∷ []) ends_comma zs vs → Closed extent starts_plain ends_comma (xs ++ (trailing piece Colon ∷ (ys ++ zs))) (ts ++ (trailing terminal Colon ∷ (us ++ vs)))
+  unfolding operators
+  annotation_form x y z = join x (join colon (tail (widen {c = starts_plain} (λ p e. e) more_comma y) z refl) refl) refl
+
+  pub annotate_are : (t a : Expr) (e : Option Expr) (b : Bool) → Sound extent false t → Sound extent false a → SoundOption extent true e → Closed extent starts_plain ends_comma (S.annotated piece t b ++ (trailing piece Colon ∷ (written piece Expression a ++ S.behind piece (free piece (Op Equal)) Value e))) (S.annotated terminal t b ++ (trailing terminal Colon ∷ (written terminal Expression a ++ S.behind terminal (free terminal (Op Equal)) Value e)))
+  annotate_are t a e b h i j = annotation_form (annotated_are t b h) (readable false Expression a i) (option_value e j)
+
+  assert_form : {xs ys : List Piece} {ts us : List Terminal} → Plain extent xs ts → Perhaps extent (trailing piece Comma ∷ []) ends_plain ys us → Plain extent (word piece Key.Assert ∷ (xs ++ ys)) (word terminal Key.Assert ∷ (ts ++ us))
+  unfolding operators
+  assert_form x y = plain_both (keyword Key.Assert) (tail x y refl)
+
+  pub assert_are : (e : Expr) (m : Option Expr) → Sound extent false e → SoundOption extent false m → Plain extent (word piece Key.Assert ∷ (written piece Expression e ++ S.behind piece (trailing piece Comma) Expression m)) (word terminal Key.Assert ∷ (written terminal Expression e ++ S.behind terminal (trailing terminal Comma) Expression m))
+  assert_are e m h i = assert_form (readable false Expression e h) (option_message m i)
+
+  -- ---- Parameters of types.
+
+  star_name : (x : Identifier) → IsProper x → Shape.Item extent (leading piece Star ∷ (free piece (in_form x) ∷ [])) (leading terminal Star ∷ (free terminal (in_form x) ∷ []))
+  unfolding operators
+  star_name x h = join (sign starts_item (leading piece Star ∷ []) Star false true refl refl refl) (plain_name x h) refl
+
+  type_var_form : (x : Identifier) → IsProper x → {ys : List Piece} {us : List Terminal} → Perhaps extent (trailing piece Colon ∷ []) ends_plain ys us → Shape.Item extent (free piece (in_form x) ∷ ys) (free terminal (in_form x) ∷ us)
+  unfolding operators
+  type_var_form x h y = widen more_item (λ p e. e) (tail (plain_name x h) y refl)
+
+  type_param_is : (p : TypeParam) → SoundType extent p → Shape.Item extent (S.type_param piece p) (S.type_param terminal p)
+  type_param_is (TypeVar x bound) h = type_var_form x h.0 (option_bound bound h.1)
+  type_param_is (TypeVarTuple x) h = star_name x h
+  type_param_is (ParamSpec x) h = double_star (plain_name x h)
+
+  type_each : (ps : List TypeParam) → SoundTypes extent ps → Each extent starts_item ends_plain (map (S.type_param piece) ps) (map (S.type_param terminal) ps)
+  type_each [] h = none
+  type_each (p ∷ ps) h = more (type_param_is p h.0) (type_each ps h.1)
+
+  pub types_are : (ps : List TypeParam) → SoundTypes extent ps → Perhaps extent (tight piece LSqb ∷ []) ends_plain (S.type_params piece ps) (S.type_params terminal ps)
+  types_are [] h = nothing
+  types_are (p ∷ ps) h = some (indexed (items_listed (type_each (p ∷ ps) h)))
+
+  alias_form : {xs ys zs : List Piece} {ts us vs : List Terminal} → Plain extent xs ts → Perhaps extent (tight piece LSqb ∷ []) ends_plain ys us → Plain extent zs vs → Plain extent (free piece (in_form type_name) ∷ (xs ++ (ys ++ (free piece (Op Equal) ∷ zs)))) (free terminal (in_form type_name) ∷ (ts ++ (us ++ (free terminal (Op Equal) ∷ vs))))
+  unfolding operators
+  alias_form x y z = plain_both (plain_name type_name type_is_proper) (between x y (join (loose Equal refl) z refl) refl refl refl)
+
+  pub type_alias_are : (t : Expr) (ps : List TypeParam) (e : Expr) → Sound extent false t → SoundTypes extent ps → Sound extent false e → Plain extent (free piece (in_form type_name) ∷ (written piece Primary t ++ (S.type_params piece ps ++ (free piece (Op Equal) ∷ written piece Expression e)))) (free terminal (in_form type_name) ∷ (written terminal Primary t ++ (S.type_params terminal ps ++ (free terminal (Op Equal) ∷ written terminal Expression e))))
+  type_alias_are t ps e h i j = alias_form (readable false Primary t h) (types_are ps i) (readable false Expression e j)

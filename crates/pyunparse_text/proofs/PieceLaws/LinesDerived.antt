@@ -9,6 +9,7 @@ use Rattle.pylex_lexeme.specs.declared.kinds.Exact.TheVariants as Sign
 use Rattle.pylex_lexeme.specs.Chars.{starts_name}
 use Rattle.pylex_lexeme.specs.Lexemes.{is_name}
 use Rattle.pylex_lexeme.proofs.Callers.Lexemes.{start_continues}
+use Rattle.pytree_node.specs.declared.profiles.Extent.{Extent}
 use Rattle.pytree_node.specs.declared.profiles.Profile.{Profile}
 use Rattle.pytree_node.specs.declared.operators.Context.TheVariants.{Load, Store, Del}
 use Rattle.pytoken.specs.declared.keywords.Keyword.TheVariants as Key
@@ -40,84 +41,6 @@ use Rattle.pyunparse_text.proofs.PieceLaws.LineForms.{SoundOption, MaybeProper, 
 use Rattle.pyunparse_text.proofs.PieceLaws.Imports.{later_read, SoundNames, SoundUnless, SoundAliases, import_are, from_plain, from_points}
 use Rattle.pyunparse_text.proofs.PieceLaws.HeaderForms.{SoundItems, SoundHeader}
 
--- ---- Expressions.
-
-perhaps_said : {l : Level} {ts : List Terminal} {e : Option Expr} → F.Perhaps l ts e → Said ts → SoundOption (star_place l) e
-perhaps_said F.left_out h = tt
-perhaps_said (F.given p) h = sound p h
-
-behind_said : {t : Terminal} {l : Level} {ts : List Terminal} {e : Option Expr} → F.Behind t l ts e → Said ts → SoundOption (star_place l) e
-behind_said F.none_behind h = tt
-behind_said (F.behind p) h = sound p (rest h)
-
-as_said : {ts : List Terminal} {x : Option Identifier} → F.As ts x → Said ts → MaybeProper x
-as_said F.no_as h = tt
-as_said F.as_name h = first (rest h)
-
-target_said : {ts : List Terminal} {s : Expr} → G.Target ts s → Said ts → Sound true s
-target_said (G.target {e = e} {s = s} p q) h = stored_sound true e s q (sound p h)
-
-single_stored_sound : (e s : Expr) → single_stored e ≡ Some s → Sound false e → Sound false s
-single_stored_sound (Trees.Name x c) s q h = given (Sound false) q h
-single_stored_sound (Trees.Attribute e x c) s q h = given (Sound false) q h
-single_stored_sound (Trees.Subscript e i c) s q h = given (Sound false) q h
-single_stored_sound _ s q h = absurd (cc)
-
-single_said : {ts : List Terminal} {s : Expr} → G.SingleTarget ts s → Said ts → Sound false s
-single_said (G.single_target {e = e} {s = s} p q) h = single_stored_sound e s q (sound p h)
-
--- a target of `del` is no Starred, nor is a member of one
-mutual
-  deleted_sound : (b : Bool) (e s : Expr) → deleted e ≡ Some s → Sound b e → Sound false s
-  deleted_sound b (Trees.Name x c) s q h = given (Sound false) q h
-  deleted_sound b (Trees.Attribute e x c) s q h = given (Sound false) q h
-  deleted_sound b (Trees.Subscript e i c) s q h = given (Sound false) q h
-  deleted_sound b (Trees.Tuple es c) s q h = let w = mapped_is (λ fs. Trees.Tuple fs Del) (all_deleted es) s q in subst (Sound false) w.2 (all_deleted_sound es w.0 w.1 h)
-  deleted_sound b (Trees.ListOf es c) s q h = let w = mapped_is (λ fs. Trees.ListOf fs Del) (all_deleted es) s q in subst (Sound false) w.2 (all_deleted_sound es w.0 w.1 h)
-  deleted_sound b _ s q h = absurd (cc)
-
-  all_deleted_sound : (es fs : Exprs) → all_deleted es ≡ Some fs → AreSound true es → AreSound true fs
-  all_deleted_sound no_exprs fs q h = given (AreSound true) q h
-  all_deleted_sound (an_expr e es) fs q h = let w = both_is (deleted e) (all_deleted es) fs q in subst (AreSound true) w.4 (starred false w.0 (deleted_sound true e w.0 w.2 h.0), all_deleted_sound es w.1 w.3 h.1)
-
-del_said : (ts : List Terminal) (s : Expr) → G.DelTarget ts s → Said ts → Sound false s
-del_said _ _ (G.del_target {e = e} {s = s} p q) h = deleted_sound false e s q (sound p h)
-
-item_target_said : {ts : List Terminal} {s : Expr} → G.ItemTarget ts s → Said ts → Sound true s
-item_target_said (G.item_target {e = e} {s = s} p q) h = stored_sound true e s q (starred false e (sound p h))
-item_target_said (G.star_target {e = e} {s = s} p q) h = stored_sound true (Trees.Starred e Load) s q (refl, sound p (rest h))
-
--- ---- Lists with commas.
-
-module _ (A : Type 0) (X : List Terminal → A → Type 0) (P : A → Type 0) (Q : List A → Type 0) (none : Q []) (more : (a : A) (as_ : List A) → P a → Q as_ → Q (a ∷ as_)) (one : (ts : List Terminal) (a : A) → X ts a → Said ts → P a) where
-  commas_said : {ts : List Terminal} {as_ : List A} → F.Commas A X ts as_ → Said ts → Q as_
-  commas_said (F.alone {ts = ts} {a = a} p) h = more a [] (one ts a p h) none
-  commas_said (F.comma {ts = ts} {us = us} {a = a} {as_ = as_} p c) h = more a as_ (one ts a p (front ts (Op Sign.Comma ∷ us) h)) (commas_said c (behind ts us (Op Sign.Comma) h))
-
-  last_said : {ts : List Terminal} {as_ : List A} → F.Commas? A X ts as_ → Said ts → Q as_
-  last_said (F.ends_bare c) h = commas_said c h
-  last_said (F.ends_comma {ts = ts} c) h = commas_said c (front ts (Op Sign.Comma ∷ []) h)
-
-name_said : (ts : List Terminal) (x : Identifier) → F.Name ts x → Said ts → IsProper x
-name_said _ _ F.name h = first h
-
-names_said : {ts : List Terminal} {xs : List Identifier} → F.Commas Identifier F.Name ts xs → Said ts → AreProper xs
-names_said c h = commas_said Identifier F.Name IsProper AreProper tt (λ x xs p q. (p, q)) name_said c h
-
-deleted_said : {ts : List Terminal} {es : List Expr} → F.Commas? Expr G.DelTarget ts es → Said ts → AreSound false (exprs es)
-deleted_said c h = last_said Expr G.DelTarget (Sound false) (λ es. AreSound false (exprs es)) tt (λ e es p q. (p, q)) del_said c h
-
-type_said : (ts : List Terminal) (p : TypeParam) → F.TypeParamOf ts p → Said ts → SoundType p
-type_said _ _ (F.type_var b) h = (first h, behind_said b (rest h))
-type_said _ _ F.type_var_tuple h = first (rest h)
-type_said _ _ F.param_spec h = first (rest h)
-
-types_said : {profile : Profile} {ts : List Terminal} {ps : List TypeParam} → F.TypeParams profile ts ps → Said ts → SoundTypes ps
-types_said F.no_type_params h = tt
-types_said (F.type_params {ts = ts} q c) h = last_said TypeParam F.TypeParamOf SoundType SoundTypes tt (λ p ps a b. (a, b)) type_said c (front ts (Op Sign.RSqb ∷ []) (rest h))
-
--- ---- Imports. No name has a point in it.
-
 not_point : (c : ℕ) → is_xid_continue c ≡ true → (c == 46) ≡ false
 not_point c h = by (c == 46) refl
   where
@@ -141,128 +64,207 @@ names_behind : (t y : List ℕ) → pointless t ≡ true → names_in (t ++ (46 
 names_behind [] y h = refl
 names_behind (c ∷ cs) y h = let w = and_parts (is_xid_continue c) (pointless cs) h in let n = not_point c w.0 in let r = names_behind cs y w.1 in rw (n, r) refl
 
-dotted_said : {ts : List Terminal} {x : Identifier} → F.Dotted ts x → Said ts → AreProper (names_in x)
-dotted_said (F.one_name {x = x}) h = let p : IsProper x.form = first h in subst AreProper (sym (one_in x.form (name_pointless x.form p.name))) (p, tt)
-dotted_said (F.dot_name {x = x} {y = y} d) h = let p : IsProper x.form = first h in subst AreProper (sym (names_behind x.form y (name_pointless x.form p.name))) (p, dotted_said d (rest (rest h)))
-
 abbrev SoundAlias : Alias → Type 0
 SoundAlias a = AreProper (names_in a.name) × MaybeProper a.asname
 
-dotted_alias_said : (ts : List Terminal) (a : Alias) → F.DottedAlias ts a → Said ts → SoundAlias a
-dotted_alias_said _ _ (F.dotted_as {ts = ts} {us = us} p q) h = (dotted_said p (front ts us h), as_said q (back ts us h))
-
-aliases_said : {ts : List Terminal} {as_ : List Alias} → F.Commas Alias F.DottedAlias ts as_ → Said ts → SoundAliases as_
-aliases_said c h = commas_said Alias F.DottedAlias SoundAlias SoundAliases tt (λ a as_ p q. (p.0, p.1, q)) dotted_alias_said c h
-
 abbrev SoundName : Alias → Type 0
 SoundName a = IsProper a.name × MaybeProper a.asname
-
-name_alias_said : (ts : List Terminal) (a : Alias) → F.NameAlias ts a → Said ts → SoundName a
-name_alias_said _ _ (F.name_as q) h = (first h, as_said q (rest h))
 
 unless : (b : Bool) (as_ : List Alias) → SoundNames as_ → SoundUnless b as_
 unless true as_ h = tt
 unless false as_ h = h
 
-imported_said : {ts : List Terminal} {as_ : List Alias} → F.Names ts as_ → Said ts → SoundUnless (S.are_all as_) as_
-imported_said F.all_names h = tt
-imported_said (F.names {as_ = as_} c) h = unless (S.are_all as_) as_ (commas_said Alias F.NameAlias SoundName SoundNames tt (λ a as_ p q. (p.0, p.1, q)) name_alias_said c h)
-imported_said (F.bracketed_names {ts = ts} {as_ = as_} c) h = unless (S.are_all as_) as_ (last_said Alias F.NameAlias SoundName SoundNames tt (λ a as_ p q. (p.0, p.1, q)) name_alias_said c (front ts (Op Sign.RPar ∷ []) (rest h)))
-
-from_read : (n : ℕ) (m : Identifier) (as_ : List Alias) → AreProper (names_in m) → SoundUnless (S.are_all as_) as_ → AreRead (S.simple_tokens piece (Trees.ImportFrom (Some m) as_ n)) (S.simple_tokens terminal (Trees.ImportFrom (Some m) as_ n))
-from_read zero m as_ h i = closed_read (from_plain m as_ h i)
-from_read (suc n) m as_ h i = later_read (from_points n (Some m) as_ h i)
-
-points_read : (n : ℕ) (as_ : List Alias) → 0 < n → SoundUnless (S.are_all as_) as_ → AreRead (S.simple_tokens piece (Trees.ImportFrom None as_ n)) (S.simple_tokens terminal (Trees.ImportFrom None as_ n))
-points_read zero as_ z i = absurd (omega (arith, z))
-points_read (suc n) as_ z i = later_read (from_points n None as_ tt i)
-
--- ---- Simple statements.
-
-targets_said : {ts : List Terminal} {es : List Expr} → F.Targets ts es → Said ts → AreSound true (exprs es)
-targets_said (F.last_target {ts = ts} p) h = (target_said p (front ts (Op Sign.Equal ∷ []) h), tt)
-targets_said (F.more_targets {ts = ts} {us = us} p c) h = (target_said p (front ts (Op Sign.Equal ∷ us) h), targets_said c (behind ts us (Op Sign.Equal) h))
-
-pub simple_read : {profile : Profile} {ts : List Terminal} {s : Stmt} → F.Simple profile ts s → Said ts → AreRead (S.simple_tokens piece s) (S.simple_tokens terminal s)
-simple_read (F.value {e = e} p) h = closed_read (readable true Value e (sound p h))
-simple_read (F.assign {ts = ts} {us = us} {targets = targets} {e = e} c p) h = closed_read (assign_are targets e (targets_said c (front ts us h)) (sound p (back ts us h)))
-simple_read (F.augmented_assign {ts = ts} {us = us} x {o = o} {t = t} {e = e} p q r) h = closed_read (augment_are t o e (single_said p (front ts (Op x ∷ us) h)) (sound r (behind ts us (Op x) h)))
-simple_read (F.annotated_name {x = x} {ts = ts} {us = us} {a = a} {v = v} p q) h =
-    let w = rest (rest h) in
-    closed_read (annotate_are (Trees.Name x.form Store) a v true (first h) (sound p (front ts us w)) (behind_said q (back ts us w)))
-simple_read (F.annotated_group {ts = ts} {us = us} {vs = vs} {t = t} {a = a} {v = v} p q r) h =
-    let w = rest (behind ts (Op Sign.Colon ∷ (us ++ vs)) (Op Sign.RPar) (rest h)) in
-    closed_read (annotate_are t a v false (single_said p (front ts (Op Sign.RPar ∷ (Op Sign.Colon ∷ (us ++ vs))) (rest h))) (sound q (front us vs w)) (behind_said r (back us vs w)))
-simple_read (F.annotated_part {ts = ts} {us = us} {vs = vs} {t = t} {a = a} {v = v} p n q r) h =
-    let w = behind ts (us ++ vs) (Op Sign.Colon) h in
-    closed_read (annotate_are t a v false (single_said p (front ts (Op Sign.Colon ∷ (us ++ vs)) h)) (sound q (front us vs w)) (behind_said r (back us vs w)))
-simple_read (F.type_alias {x = x} {ts = ts} {us = us} {ps = ps} {e = e} q c p) h =
-    let w = rest (rest h) in
-    closed_read (type_alias_are (Trees.Name x.form Store) ps e (first (rest h)) (types_said c (front ts (Op Sign.Equal ∷ us) w)) (sound p (behind ts us (Op Sign.Equal) w)))
-simple_read (F.return_of {e = e} p) h = closed_read (word_value Key.Return (option_stars e (perhaps_said p (rest h))))
-simple_read F.raise_alone h = closed_read (raise_are None None tt tt)
-simple_read (F.raise_of {ts = ts} {us = us} {e = e} {c = c} p q) h = closed_read (raise_are (Some e) c (sound p (front ts us (rest h))) (behind_said q (back ts us (rest h))))
-simple_read (F.assert_of {ts = ts} {us = us} {e = e} {m = m} p q) h = closed_read (assert_are e m (sound p (front ts us (rest h))) (behind_said q (back ts us (rest h))))
-simple_read (F.delete {es = es} c) h = closed_read (word_plain Key.Del (plain_listed (each_expression (exprs es) (deleted_said c (rest h)))))
-simple_read (F.global {xs = xs} c) h = closed_read (word_plain Key.Global (plain_listed (names_each xs (names_said c (rest h)))))
-simple_read (F.nonlocal {xs = xs} c) h = closed_read (word_plain Key.Nonlocal (plain_listed (names_each xs (names_said c (rest h)))))
-simple_read F.pass h = closed_read (keyword Key.Pass)
-simple_read F.break h = closed_read (keyword Key.Break)
-simple_read F.continue h = closed_read (keyword Key.Continue)
-simple_read (F.import_names {as_ = as_} c) h = closed_read (import_are as_ (aliases_said c (rest h)))
-simple_read (F.from_module {ts = ts} {us = us} {vs = vs} {n = n} {m = m} {as_ = as_} p q c) h =
-    let w = back ts (us ++ (Word Key.Import ∷ vs)) (rest h) in
-    from_read n m as_ (dotted_said q (front us (Word Key.Import ∷ vs) w)) (imported_said c (behind us vs (Word Key.Import) w))
-simple_read (F.from_dots {ts = ts} {vs = vs} {n = n} {as_ = as_} p z c) h = points_read n as_ z (imported_said c (behind ts vs (Word Key.Import) (rest h)))
-
--- ---- Headers.
-
-item_said : (ts : List Terminal) (i : Item) → F.ItemOf ts i → Said ts → Sound false i.context_expr × SoundOption true i.optional_vars
-item_said _ _ (F.bare_item p) h = (sound p h, tt)
-item_said _ _ (F.item_as {ts = ts} {us = us} p q) h = (sound p (front ts (Word Key.As ∷ us) h), item_target_said q (behind ts us (Word Key.As) h))
-
-abbrev SoundItem : Item → Type 0
-SoundItem i = Sound false i.context_expr × SoundOption true i.optional_vars
-
-bracketed_said : {ts : List Terminal} {is : List Item} → F.Bracketed ts is → Said ts → SoundItems is
-bracketed_said (F.bracketed {ts = ts} c) h = last_said Item F.ItemOf SoundItem SoundItems tt (λ i is p q. (p.0, p.1, q)) item_said c (front ts (Op Sign.RPar ∷ []) (rest h))
-
-items_said : {ts : List Terminal} {is : List Item} → F.Items ts is → Said ts → SoundItems is
-items_said (F.in_brackets b) h = bracketed_said b h
-items_said (F.without c n) h = commas_said Item F.ItemOf SoundItem SoundItems tt (λ i is p q. (p.0, p.1, q)) item_said c h
-
 exprs_listed : (z : Exprs) → exprs (F.listed z) ≡ z
 exprs_listed no_exprs = refl
 exprs_listed (an_expr e z) = ap (an_expr e) (exprs_listed z)
 
-bases_said : {ts : List Terminal} {es : List Expr} {ks : Keywords} → F.Bases ts es ks → Said ts → AreSound true (exprs es) × SoundKeywords ks
-bases_said F.no_bases h = (tt, tt)
-bases_said (F.bases {ts = ts} {es = es} c q) h =
-    let f = listing_fine c (front ts (Op Sign.RPar ∷ []) (rest h)) in
-    (subst (AreSound true) (sym (exprs_listed (positional es))) (positional_sound es f), keywords_sound es f)
+-- ---- Lists with commas.
 
-pub header_said : {profile : Profile} {ts : List Terminal} {h : Header} → F.HeaderOf profile ts h → Said ts → SoundHeader h
-header_said (F.if_line p) h = sound p (rest h)
-header_said (F.elif_line p) h = sound p (rest h)
-header_said F.else_line h = tt
-header_said (F.while_line p) h = sound p (rest h)
-header_said (F.for_line {ts = ts} {us = us} {vs = vs} a t p) h =
-    let w = behind ts (us ++ (Word Key.In ∷ vs)) (Word Key.For) h in
-    (target_said t (front us (Word Key.In ∷ vs) w), sound p (behind us vs (Word Key.In) w))
-header_said (F.with_line {ts = ts} {us = us} a p) h = items_said p (behind ts us (Word Key.With) h)
-header_said F.try_line h = tt
-header_said F.finally_line h = tt
-header_said F.except_all h = (tt, tt)
-header_said (F.except_line {ts = ts} {us = us} p q) h = (sound p (front ts us (rest h)), as_said q (back ts us (rest h)))
-header_said (F.except_star {ts = ts} {us = us} p q) h = (sound p (front ts us (rest (rest h))), as_said q (back ts us (rest (rest h))))
-header_said (F.def_line {ts = ts} {us = us} {vs = vs} {ws = ws} x {ps = ps} {a = args} y t c q r) h =
-    let n = behind ts (Ident x ∷ (us ++ (Op Sign.LPar ∷ (vs ++ (Op Sign.RPar ∷ ws))))) (Word Key.Def) h in
-    let w = behind us (vs ++ (Op Sign.RPar ∷ ws)) (Op Sign.LPar) (rest n) in
-    (first n, types_said t (front us (Op Sign.LPar ∷ (vs ++ (Op Sign.RPar ∷ ws))) (rest n)), arranged_sound ps args q (listing_fine c (front vs (Op Sign.RPar ∷ ws) w)), behind_said r (behind vs ws (Op Sign.RPar) w))
-header_said (F.class_line {ts = ts} {us = us} t b) h =
-    let w = rest (rest h) in
-    let v = bases_said b (back ts us w) in
-    (first (rest h), types_said t (front ts us w), v.0, v.1)
+module _ {extent : Extent} (A : Type 0) (X : List Terminal → A → Type 0) (P : A → Type 0) (Q : List A → Type 0) (none : Q []) (more : (a : A) (as_ : List A) → P a → Q as_ → Q (a ∷ as_)) (one : (ts : List Terminal) (a : A) → X ts a → Said extent ts → P a) where
+  commas_said : {ts : List Terminal} {as_ : List A} → F.Commas A X ts as_ → Said extent ts → Q as_
+  commas_said (F.alone {ts = ts} {a = a} p) h = more a [] (one ts a p h) none
+  commas_said (F.comma {ts = ts} {us = us} {a = a} {as_ = as_} p c) h = more a as_ (one ts a p (front ts (Op Sign.Comma ∷ us) h)) (commas_said c (behind ts us (Op Sign.Comma) h))
 
-pub decorator_said : {ts : List Terminal} {e : Expr} → G.Derives Named ts e → Said ts → Sound false e
-decorator_said p h = sound p h
+  last_said : {ts : List Terminal} {as_ : List A} → F.Commas? A X ts as_ → Said extent ts → Q as_
+  last_said (F.ends_bare c) h = commas_said c h
+  last_said (F.ends_comma {ts = ts} c) h = commas_said c (front ts (Op Sign.Comma ∷ []) h)
+
+module _ (extent : Extent) where
+  -- ---- Expressions.
+
+  perhaps_said : {l : Level} {ts : List Terminal} {e : Option Expr} → F.Perhaps l ts e → Said extent ts → SoundOption extent (star_place l) e
+  perhaps_said F.left_out h = tt
+  perhaps_said (F.given p) h = sound extent p h
+
+  behind_said : {t : Terminal} {l : Level} {ts : List Terminal} {e : Option Expr} → F.Behind t l ts e → Said extent ts → SoundOption extent (star_place l) e
+  behind_said F.none_behind h = tt
+  behind_said (F.behind p) h = sound extent p (rest h)
+
+  as_said : {ts : List Terminal} {x : Option Identifier} → F.As ts x → Said extent ts → MaybeProper x
+  as_said F.no_as h = tt
+  as_said F.as_name h = first (rest h)
+
+  target_said : {ts : List Terminal} {s : Expr} → G.Target ts s → Said extent ts → Sound extent true s
+  target_said (G.target {e = e} {s = s} p q) h = stored_sound extent true e s q (sound extent p h)
+
+  single_stored_sound : (e s : Expr) → single_stored e ≡ Some s → Sound extent false e → Sound extent false s
+  single_stored_sound (Trees.Name x c) s q h = given (Sound extent false) q h
+  single_stored_sound (Trees.Attribute e x c) s q h = given (Sound extent false) q h
+  single_stored_sound (Trees.Subscript e i c) s q h = given (Sound extent false) q h
+  single_stored_sound _ s q h = absurd (cc)
+
+  single_said : {ts : List Terminal} {s : Expr} → G.SingleTarget ts s → Said extent ts → Sound extent false s
+  single_said (G.single_target {e = e} {s = s} p q) h = single_stored_sound e s q (sound extent p h)
+
+  -- a target of `del` is no Starred, nor is a member of one
+  mutual
+    deleted_sound : (b : Bool) (e s : Expr) → deleted e ≡ Some s → Sound extent b e → Sound extent false s
+    deleted_sound b (Trees.Name x c) s q h = given (Sound extent false) q h
+    deleted_sound b (Trees.Attribute e x c) s q h = given (Sound extent false) q h
+    deleted_sound b (Trees.Subscript e i c) s q h = given (Sound extent false) q h
+    deleted_sound b (Trees.Tuple es c) s q h = let w = mapped_is (λ fs. Trees.Tuple fs Del) (all_deleted es) s q in subst (Sound extent false) w.2 (all_deleted_sound es w.0 w.1 h)
+    deleted_sound b (Trees.ListOf es c) s q h = let w = mapped_is (λ fs. Trees.ListOf fs Del) (all_deleted es) s q in subst (Sound extent false) w.2 (all_deleted_sound es w.0 w.1 h)
+    deleted_sound b _ s q h = absurd (cc)
+
+    all_deleted_sound : (es fs : Exprs) → all_deleted es ≡ Some fs → AreSound extent true es → AreSound extent true fs
+    all_deleted_sound no_exprs fs q h = given (AreSound extent true) q h
+    all_deleted_sound (an_expr e es) fs q h = let w = both_is (deleted e) (all_deleted es) fs q in subst (AreSound extent true) w.4 (starred extent false w.0 (deleted_sound true e w.0 w.2 h.0), all_deleted_sound es w.1 w.3 h.1)
+
+  del_said : (ts : List Terminal) (s : Expr) → G.DelTarget ts s → Said extent ts → Sound extent false s
+  del_said _ _ (G.del_target {e = e} {s = s} p q) h = deleted_sound false e s q (sound extent p h)
+
+  item_target_said : {ts : List Terminal} {s : Expr} → G.ItemTarget ts s → Said extent ts → Sound extent true s
+  item_target_said (G.item_target {e = e} {s = s} p q) h = stored_sound extent true e s q (starred extent false e (sound extent p h))
+  item_target_said (G.star_target {e = e} {s = s} p q) h = stored_sound extent true (Trees.Starred e Load) s q (refl, sound extent p (rest h))
+
+  name_said : (ts : List Terminal) (x : Identifier) → F.Name ts x → Said extent ts → IsProper x
+  name_said _ _ F.name h = first h
+
+  names_said : {ts : List Terminal} {xs : List Identifier} → F.Commas Identifier F.Name ts xs → Said extent ts → AreProper xs
+  names_said c h = commas_said Identifier F.Name IsProper AreProper tt (λ x xs p q. (p, q)) name_said c h
+
+  deleted_said : {ts : List Terminal} {es : List Expr} → F.Commas? Expr G.DelTarget ts es → Said extent ts → AreSound extent false (exprs es)
+  deleted_said c h = last_said Expr G.DelTarget (Sound extent false) (λ es. AreSound extent false (exprs es)) tt (λ e es p q. (p, q)) del_said c h
+
+  type_said : (ts : List Terminal) (p : TypeParam) → F.TypeParamOf ts p → Said extent ts → SoundType extent p
+  type_said _ _ (F.type_var b) h = (first h, behind_said b (rest h))
+  type_said _ _ F.type_var_tuple h = first (rest h)
+  type_said _ _ F.param_spec h = first (rest h)
+
+  types_said : {profile : Profile} {ts : List Terminal} {ps : List TypeParam} → F.TypeParams profile ts ps → Said extent ts → SoundTypes extent ps
+  types_said F.no_type_params h = tt
+  types_said (F.type_params {ts = ts} q c) h = last_said TypeParam F.TypeParamOf (SoundType extent) (SoundTypes extent) tt (λ p ps a b. (a, b)) type_said c (front ts (Op Sign.RSqb ∷ []) (rest h))
+
+  -- ---- Imports. No name has a point in it.
+
+  dotted_said : {ts : List Terminal} {x : Identifier} → F.Dotted ts x → Said extent ts → AreProper (names_in x)
+  dotted_said (F.one_name {x = x}) h = let p : IsProper x.form = first h in subst AreProper (sym (one_in x.form (name_pointless x.form p.name))) (p, tt)
+  dotted_said (F.dot_name {x = x} {y = y} d) h = let p : IsProper x.form = first h in subst AreProper (sym (names_behind x.form y (name_pointless x.form p.name))) (p, dotted_said d (rest (rest h)))
+
+  dotted_alias_said : (ts : List Terminal) (a : Alias) → F.DottedAlias ts a → Said extent ts → SoundAlias a
+  dotted_alias_said _ _ (F.dotted_as {ts = ts} {us = us} p q) h = (dotted_said p (front ts us h), as_said q (back ts us h))
+
+  aliases_said : {ts : List Terminal} {as_ : List Alias} → F.Commas Alias F.DottedAlias ts as_ → Said extent ts → SoundAliases as_
+  aliases_said c h = commas_said Alias F.DottedAlias SoundAlias SoundAliases tt (λ a as_ p q. (p.0, p.1, q)) dotted_alias_said c h
+
+  name_alias_said : (ts : List Terminal) (a : Alias) → F.NameAlias ts a → Said extent ts → SoundName a
+  name_alias_said _ _ (F.name_as q) h = (first h, as_said q (rest h))
+
+  imported_said : {ts : List Terminal} {as_ : List Alias} → F.Names ts as_ → Said extent ts → SoundUnless (S.are_all as_) as_
+  imported_said F.all_names h = tt
+  imported_said (F.names {as_ = as_} c) h = unless (S.are_all as_) as_ (commas_said Alias F.NameAlias SoundName SoundNames tt (λ a as_ p q. (p.0, p.1, q)) name_alias_said c h)
+  imported_said (F.bracketed_names {ts = ts} {as_ = as_} c) h = unless (S.are_all as_) as_ (last_said Alias F.NameAlias SoundName SoundNames tt (λ a as_ p q. (p.0, p.1, q)) name_alias_said c (front ts (Op Sign.RPar ∷ []) (rest h)))
+
+  from_read : (n : ℕ) (m : Identifier) (as_ : List Alias) → AreProper (names_in m) → SoundUnless (S.are_all as_) as_ → AreRead extent (S.simple_tokens piece (Trees.ImportFrom (Some m) as_ n)) (S.simple_tokens terminal (Trees.ImportFrom (Some m) as_ n))
+  from_read zero m as_ h i = closed_read (from_plain m as_ h i)
+  from_read (suc n) m as_ h i = later_read (from_points n (Some m) as_ h i)
+
+  points_read : (n : ℕ) (as_ : List Alias) → 0 < n → SoundUnless (S.are_all as_) as_ → AreRead extent (S.simple_tokens piece (Trees.ImportFrom None as_ n)) (S.simple_tokens terminal (Trees.ImportFrom None as_ n))
+  points_read zero as_ z i = absurd (omega (arith, z))
+  points_read (suc n) as_ z i = later_read (from_points n None as_ tt i)
+
+  -- ---- Simple statements.
+
+  targets_said : {ts : List Terminal} {es : List Expr} → F.Targets ts es → Said extent ts → AreSound extent true (exprs es)
+  targets_said (F.last_target {ts = ts} p) h = (target_said p (front ts (Op Sign.Equal ∷ []) h), tt)
+  targets_said (F.more_targets {ts = ts} {us = us} p c) h = (target_said p (front ts (Op Sign.Equal ∷ us) h), targets_said c (behind ts us (Op Sign.Equal) h))
+
+  pub simple_read : {profile : Profile} {ts : List Terminal} {s : Stmt} → F.Simple profile ts s → Said extent ts → AreRead extent (S.simple_tokens piece s) (S.simple_tokens terminal s)
+  simple_read (F.value {e = e} p) h = closed_read (readable true Value e (sound extent p h))
+  simple_read (F.assign {ts = ts} {us = us} {targets = targets} {e = e} c p) h = closed_read (assign_are targets e (targets_said c (front ts us h)) (sound extent p (back ts us h)))
+  simple_read (F.augmented_assign {ts = ts} {us = us} x {o = o} {t = t} {e = e} p q r) h = closed_read (augment_are t o e (single_said p (front ts (Op x ∷ us) h)) (sound extent r (behind ts us (Op x) h)))
+  simple_read (F.annotated_name {x = x} {ts = ts} {us = us} {a = a} {v = v} p q) h =
+      let w = rest (rest h) in
+      closed_read (annotate_are (Trees.Name x.form Store) a v true (first h) (sound extent p (front ts us w)) (behind_said q (back ts us w)))
+  simple_read (F.annotated_group {ts = ts} {us = us} {vs = vs} {t = t} {a = a} {v = v} p q r) h =
+      let w = rest (behind ts (Op Sign.Colon ∷ (us ++ vs)) (Op Sign.RPar) (rest h)) in
+      closed_read (annotate_are t a v false (single_said p (front ts (Op Sign.RPar ∷ (Op Sign.Colon ∷ (us ++ vs))) (rest h))) (sound extent q (front us vs w)) (behind_said r (back us vs w)))
+  simple_read (F.annotated_part {ts = ts} {us = us} {vs = vs} {t = t} {a = a} {v = v} p n q r) h =
+      let w = behind ts (us ++ vs) (Op Sign.Colon) h in
+      closed_read (annotate_are t a v false (single_said p (front ts (Op Sign.Colon ∷ (us ++ vs)) h)) (sound extent q (front us vs w)) (behind_said r (back us vs w)))
+  simple_read (F.type_alias {x = x} {ts = ts} {us = us} {ps = ps} {e = e} q c p) h =
+      let w = rest (rest h) in
+      closed_read (type_alias_are (Trees.Name x.form Store) ps e (first (rest h)) (types_said c (front ts (Op Sign.Equal ∷ us) w)) (sound extent p (behind ts us (Op Sign.Equal) w)))
+  simple_read (F.return_of {e = e} p) h = closed_read (word_value Key.Return (option_stars e (perhaps_said p (rest h))))
+  simple_read F.raise_alone h = closed_read (raise_are None None tt tt)
+  simple_read (F.raise_of {ts = ts} {us = us} {e = e} {c = c} p q) h = closed_read (raise_are (Some e) c (sound extent p (front ts us (rest h))) (behind_said q (back ts us (rest h))))
+  simple_read (F.assert_of {ts = ts} {us = us} {e = e} {m = m} p q) h = closed_read (assert_are e m (sound extent p (front ts us (rest h))) (behind_said q (back ts us (rest h))))
+  simple_read (F.delete {es = es} c) h = closed_read (word_plain Key.Del (plain_listed (each_expression (exprs es) (deleted_said c (rest h)))))
+  simple_read (F.global {xs = xs} c) h = closed_read (word_plain Key.Global (plain_listed (names_each xs (names_said c (rest h)))))
+  simple_read (F.nonlocal {xs = xs} c) h = closed_read (word_plain Key.Nonlocal (plain_listed (names_each xs (names_said c (rest h)))))
+  simple_read F.pass h = closed_read (keyword Key.Pass)
+  simple_read F.break h = closed_read (keyword Key.Break)
+  simple_read F.continue h = closed_read (keyword Key.Continue)
+  simple_read (F.import_names {as_ = as_} c) h = closed_read (import_are as_ (aliases_said c (rest h)))
+  simple_read (F.from_module {ts = ts} {us = us} {vs = vs} {n = n} {m = m} {as_ = as_} p q c) h =
+      let w = back ts (us ++ (Word Key.Import ∷ vs)) (rest h) in
+      from_read n m as_ (dotted_said q (front us (Word Key.Import ∷ vs) w)) (imported_said c (behind us vs (Word Key.Import) w))
+  simple_read (F.from_dots {ts = ts} {vs = vs} {n = n} {as_ = as_} p z c) h = points_read n as_ z (imported_said c (behind ts vs (Word Key.Import) (rest h)))
+
+  -- ---- Headers.
+
+  item_said : (ts : List Terminal) (i : Item) → F.ItemOf ts i → Said extent ts → Sound extent false i.context_expr × SoundOption extent true i.optional_vars
+  item_said _ _ (F.bare_item p) h = (sound extent p h, tt)
+  item_said _ _ (F.item_as {ts = ts} {us = us} p q) h = (sound extent p (front ts (Word Key.As ∷ us) h), item_target_said q (behind ts us (Word Key.As) h))
+
+  abbrev SoundItem : Item → Type 0
+  SoundItem i = Sound extent false i.context_expr × SoundOption extent true i.optional_vars
+
+  bracketed_said : {ts : List Terminal} {is : List Item} → F.Bracketed ts is → Said extent ts → SoundItems extent is
+  bracketed_said (F.bracketed {ts = ts} c) h = last_said Item F.ItemOf SoundItem (SoundItems extent) tt (λ i is p q. (p.0, p.1, q)) item_said c (front ts (Op Sign.RPar ∷ []) (rest h))
+
+  items_said : {ts : List Terminal} {is : List Item} → F.Items ts is → Said extent ts → SoundItems extent is
+  items_said (F.in_brackets b) h = bracketed_said b h
+  items_said (F.without c n) h = commas_said Item F.ItemOf SoundItem (SoundItems extent) tt (λ i is p q. (p.0, p.1, q)) item_said c h
+
+  bases_said : {ts : List Terminal} {es : List Expr} {ks : Keywords} → F.Bases ts es ks → Said extent ts → AreSound extent true (exprs es) × SoundKeywords extent ks
+  bases_said F.no_bases h = (tt, tt)
+  bases_said (F.bases {ts = ts} {es = es} c q) h =
+      let f = listing_fine extent c (front ts (Op Sign.RPar ∷ []) (rest h)) in
+      (subst (AreSound extent true) (sym (exprs_listed (positional es))) (positional_sound extent es f), keywords_sound extent es f)
+
+  pub header_said : {profile : Profile} {ts : List Terminal} {h : Header} → F.HeaderOf profile ts h → Said extent ts → SoundHeader extent h
+  header_said (F.if_line p) h = sound extent p (rest h)
+  header_said (F.elif_line p) h = sound extent p (rest h)
+  header_said F.else_line h = tt
+  header_said (F.while_line p) h = sound extent p (rest h)
+  header_said (F.for_line {ts = ts} {us = us} {vs = vs} a t p) h =
+      let w = behind ts (us ++ (Word Key.In ∷ vs)) (Word Key.For) h in
+      (target_said t (front us (Word Key.In ∷ vs) w), sound extent p (behind us vs (Word Key.In) w))
+  header_said (F.with_line {ts = ts} {us = us} a p) h = items_said p (behind ts us (Word Key.With) h)
+  header_said F.try_line h = tt
+  header_said F.finally_line h = tt
+  header_said F.except_all h = (tt, tt)
+  header_said (F.except_line {ts = ts} {us = us} p q) h = (sound extent p (front ts us (rest h)), as_said q (back ts us (rest h)))
+  header_said (F.except_star {ts = ts} {us = us} p q) h = (sound extent p (front ts us (rest (rest h))), as_said q (back ts us (rest (rest h))))
+  header_said (F.def_line {ts = ts} {us = us} {vs = vs} {ws = ws} x {ps = ps} {a = args} y t c q r) h =
+      let n = behind ts (Ident x ∷ (us ++ (Op Sign.LPar ∷ (vs ++ (Op Sign.RPar ∷ ws))))) (Word Key.Def) h in
+      let w = behind us (vs ++ (Op Sign.RPar ∷ ws)) (Op Sign.LPar) (rest n) in
+      (first n, types_said t (front us (Op Sign.LPar ∷ (vs ++ (Op Sign.RPar ∷ ws))) (rest n)), arranged_sound extent ps args q (listing_fine extent c (front vs (Op Sign.RPar ∷ ws) w)), behind_said r (behind vs ws (Op Sign.RPar) w))
+  header_said (F.class_line {ts = ts} {us = us} t b) h =
+      let w = rest (rest h) in
+      let v = bases_said b (back ts us w) in
+      (first (rest h), types_said t (front ts us w), v.0, v.1)
+
+  pub decorator_said : {ts : List Terminal} {e : Expr} → G.Derives Named ts e → Said extent ts → Sound extent false e
+  decorator_said p h = sound extent p h

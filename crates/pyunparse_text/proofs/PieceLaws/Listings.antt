@@ -2,6 +2,7 @@
 use Rattle.std.proofs.Common.{◌≡◌, ℕ, ◌-◌, Bool, true, false, ◌||◌, List, [], ◌∷◌, ◌++◌, Option, Some, None, map, length, replicate, refl, ap, zero, suc}
 use Rattle.std.specs.Prelude.{cond}
 use Rattle.pylex_lexeme.specs.declared.kinds.Exact.TheVariants.{LPar, LSqb, Colon, Comma, Star, Slash, Equal, DoubleStar}
+use Rattle.pytree_node.specs.declared.profiles.Extent.{Extent}
 use Rattle.pytoken.specs.declared.keywords.Keyword.TheVariants as Key
 use Rattle.pygrammar.specs.declared.levels.Level.{Level}
 use Rattle.pygrammar.specs.declared.levels.Level.TheVariants.{Value, Stars, StarItem, Elem, Slices, Part}
@@ -18,197 +19,19 @@ use Rattle.pyunparse_text.proofs.PieceLaws.Sorts.{suit, within, like, is_like, l
 use Rattle.pyunparse_text.proofs.PieceLaws.Segments.{Closed, Perhaps, nothing, some, Each, none, more, join, widen, sign, tail, head, group, plainly, separated_some, separated_are, comma}
 use Rattle.pyunparse_text.proofs.PieceLaws.Shapes.{Plain, Item, keyword, name, plain_name, plain_both, colon, equal, starts_parameter, ends_parameter}
 
-pub perhaps_widen : {a b c d : List Piece} {xs : List Piece} {ts : List Terminal} → ((p : Piece) → within a p ≡ true → within c p ≡ true) → ((p : Piece) → within b p ≡ true → within d p ≡ true) → Perhaps a b xs ts → Perhaps c d xs ts
-perhaps_widen f g nothing = nothing
-perhaps_widen f g (some x) = some (widen f g x)
-
-pub each_widen : {a b c d : List Piece} {xss : List (List Piece)} {tss : List (List Terminal)} → ((p : Piece) → within a p ≡ true → within c p ≡ true) → ((p : Piece) → within b p ≡ true → within d p ≡ true) → Each a b xss tss → Each c d xss tss
-each_widen f g none = none
-each_widen f g (more x xs) = more (widen f g x) (each_widen f g xs)
-
-pub each_both : {a b : List Piece} {xss yss : List (List Piece)} {tss uss : List (List Terminal)} → Each a b xss tss → Each a b yss uss → Each a b (xss ++ yss) (tss ++ uss)
-each_both none ys = ys
-each_both (more x xs) ys = more x (each_both xs ys)
-
-pub perhaps_both : {a b : List Piece} {xs ys : List Piece} {ts us : List Terminal} → suit b a ≡ true → Perhaps a b xs ts → Perhaps a b ys us → Perhaps a b (xs ++ ys) (ts ++ us)
-perhaps_both e nothing y = y
-perhaps_both e (some x) y = some (tail x y e)
-
--- what stands in brackets
-pub inside : {xs : List Piece} {ts : List Terminal} → Perhaps starts_item ends_plain xs ts → Perhaps starts_part ends_part xs ts
-inside x = perhaps_widen more_part (λ p e. more_colon p (more_comma p e)) x
-
-pub inside_plain : {xs : List Piece} {ts : List Terminal} → Plain xs ts → Perhaps starts_part ends_part xs ts
-inside_plain x = some (widen (λ p e. more_part p (more_item p e)) (λ p e. more_colon p (more_comma p e)) x)
-
-pub items_listed : {xss : List (List Piece)} {tss : List (List Terminal)} → Each starts_item ends_plain xss tss → Perhaps starts_part ends_part (listed piece xss) (listed terminal tss)
-unfolding operators
-items_listed x = inside (separated_are (trailing piece Comma) (trailing terminal Comma) comma refl refl x)
-
-pub parameters_listed : {xss : List (List Piece)} {tss : List (List Terminal)} → Each starts_parameter ends_parameter xss tss → Perhaps starts_parameter ends_parameter (listed piece xss) (listed terminal tss)
-unfolding operators
-parameters_listed x = separated_are (trailing piece Comma) (trailing terminal Comma) comma refl refl x
-
--- one and a comma, and perhaps others
-comma_items : Closed (trailing piece Comma ∷ []) ends_comma (trailing piece Comma ∷ []) (trailing terminal Comma ∷ [])
-comma_items = sign (trailing piece Comma ∷ []) ends_comma Comma true false refl refl refl
-
-comma_parts : Closed (trailing piece Comma ∷ []) ends_part (trailing piece Comma ∷ []) (trailing terminal Comma ∷ [])
-comma_parts = sign (trailing piece Comma ∷ []) ends_part Comma true false refl refl refl
-
-with_comma_items : {xs : List Piece} {ts : List Terminal} {xss : List (List Piece)} {tss : List (List Terminal)} → Item xs ts → Each starts_item ends_plain xss tss → Closed starts_item ends_comma (with_comma piece (xs ∷ xss)) (with_comma terminal (ts ∷ tss))
-unfolding operators
-with_comma_items x xs = join x (tail comma_items (separated_are (trailing piece Comma) (trailing terminal Comma) comma refl refl (each_widen {c = starts_item} (λ p e. e) more_comma xs)) refl) refl
-
-with_comma_parts : {xs : List Piece} {ts : List Terminal} {xss : List (List Piece)} {tss : List (List Terminal)} → Closed starts_part ends_part xs ts → Each starts_part ends_part xss tss → Closed starts_part ends_part (with_comma piece (xs ∷ xss)) (with_comma terminal (ts ∷ tss))
-unfolding operators
-with_comma_parts x xs = join x (tail comma_parts (separated_are (trailing piece Comma) (trailing terminal Comma) comma refl refl xs) refl) refl
-
-parts_listed : {xs : List Piece} {ts : List Terminal} {xss : List (List Piece)} {tss : List (List Terminal)} → Closed starts_part ends_part xs ts → Each starts_part ends_part xss tss → Closed starts_part ends_part (listed piece (xs ∷ xss)) (listed terminal (ts ∷ tss))
-unfolding operators
-parts_listed x xs = separated_some (trailing piece Comma) (trailing terminal Comma) comma refl refl x xs
-
--- tuples
-elements_grouped : {xss : List (List Piece)} {tss : List (List Terminal)} (b : Bool) → Each starts_item ends_plain xss tss → Plain (tuple_of piece Elem b xss) (tuple_of terminal Elem b tss)
-elements_grouped b none = group nothing
-elements_grouped b (more x xs) = group (some (widen more_part more_colon (with_comma_items x xs)))
-
-elements_bare : {xss : List (List Piece)} {tss : List (List Terminal)} (b : Bool) → Each starts_item ends_plain xss tss → Closed starts_item ends_comma (tuple_of piece StarItem b xss) (tuple_of terminal StarItem b tss)
-elements_bare b none = widen more_item more_comma (group nothing)
-elements_bare b (more x xs) = with_comma_items x xs
-
-elements_parts : {xss : List (List Piece)} {tss : List (List Terminal)} (b : Bool) → Each starts_part ends_part xss tss → Closed starts_part ends_part (tuple_of piece Part b xss) (tuple_of terminal Part b tss)
-elements_parts b none = widen (λ p e. more_part p (more_item p e)) (λ p e. more_colon p (more_comma p e)) (group nothing)
-elements_parts true (more x xs) = parts_listed x xs
-elements_parts false (more x xs) = with_comma_parts x xs
-
-pub tuple_form : (s : Bool) (l : Level) (n b : Bool) {xss : List (List Piece)} {tss : List (List Terminal)} → Each (starts true (element_level l n)) (ends (element_level l n)) xss tss → Closed (starts s l) (ends l) (tuple_of piece (element_level l n) b xss) (tuple_of terminal (element_level l n) b tss)
-tuple_form s Slices n b x = elements_parts b x
-tuple_form s Value true b x = plainly s Value (elements_grouped b x)
-tuple_form s Value false b x = elements_bare b x
-tuple_form s Stars true b x = plainly s Stars (elements_grouped b x)
-tuple_form s Stars false b x = elements_bare b x
-tuple_form s l n b x = plainly s l (elements_grouped b x)
-
--- arguments by name
-pub named_argument : (x : Identifier) → IsProper x → {xs : List Piece} {ts : List Terminal} → Plain xs ts → Item (free piece (in_form x) ∷ (tight piece Equal ∷ xs)) (free terminal (in_form x) ∷ (tight terminal Equal ∷ ts))
-unfolding operators
-named_argument x i y = join (widen {d = ends_plain} more_item (λ p e. e) (plain_name x i)) (join equal y refl) refl
-
 -- dictionaries: the keys, one of them absent for each `**`
-pub data Keys : List (Option (List Piece)) → List (Option (List Terminal)) → Type 0 where
-  no_key : Keys [] []
-  star_key : {xss : List (Option (List Piece))} {tss : List (Option (List Terminal))} → Keys xss tss → Keys (None ∷ xss) (None ∷ tss)
-  a_key : {xs : List Piece} {ts : List Terminal} {xss : List (Option (List Piece))} {tss : List (Option (List Terminal))} → Plain xs ts → Keys xss tss → Keys (Some xs ∷ xss) (Some ts ∷ tss)
-
--- comprehensions
-pub for_form : (b : Bool) {xs : List Piece} {ts : List Terminal} → Plain (free piece (Word Key.For) ∷ xs) (free terminal (Word Key.For) ∷ ts) → Plain (for_in piece b xs) (for_in terminal b ts)
-for_form false x = x
-for_form true x = plain_both (keyword Key.Async) x
-
-pub target_form : {xs ys zs : List Piece} {ts us vs : List Terminal} → Closed starts_item ends_comma xs ts → Plain ys us → Perhaps starts_plain ends_plain zs vs → Plain (free piece (Word Key.For) ∷ (xs ++ (free piece (Word Key.In) ∷ (ys ++ zs)))) (free terminal (Word Key.For) ∷ (ts ++ (free terminal (Word Key.In) ∷ (us ++ vs))))
-unfolding operators
-target_form x y z = join (keyword Key.For) (join x (plain_both (keyword Key.In) (tail y z refl)) refl) refl
-
-pub plain_tail : {xs ys : List Piece} {ts us : List Terminal} → Plain xs ts → Perhaps starts_plain ends_plain ys us → Plain (xs ++ ys) (ts ++ us)
-unfolding operators
-plain_tail x y = tail x y refl
-
--- slices
-slice_colon : Closed starts_part ends_part (tight piece Colon ∷ []) (tight terminal Colon ∷ [])
-slice_colon = sign starts_part ends_part Colon true true refl refl refl
-
-pub second_colon : Closed starts_part (tight piece Colon ∷ []) (tight piece Colon ∷ []) (tight terminal Colon ∷ [])
-second_colon = sign starts_part (tight piece Colon ∷ []) Colon true true refl refl refl
+pub data Keys (extent : Extent) : List (Option (List Piece)) → List (Option (List Terminal)) → Type 0 where
+  no_key : Keys extent [] []
+  star_key : {xss : List (Option (List Piece))} {tss : List (Option (List Terminal))} → Keys extent xss tss → Keys extent (None ∷ xss) (None ∷ tss)
+  a_key : {xs : List Piece} {ts : List Terminal} {xss : List (Option (List Piece))} {tss : List (Option (List Terminal))} → Plain extent xs ts → Keys extent xss tss → Keys extent (Some xs ∷ xss) (Some ts ∷ tss)
 
 pub any_both : suit ends_part starts_part ≡ true
 unfolding operators
 any_both = refl
 
-pub slice_form : {xs ys zs : List Piece} {ts us vs : List Terminal} → Perhaps starts_part ends_part xs ts → Perhaps starts_part ends_part ys us → Perhaps starts_part ends_part zs vs → Closed starts_part ends_part (xs ++ (tight piece Colon ∷ (ys ++ zs))) (ts ++ (tight terminal Colon ∷ (us ++ vs)))
-slice_form x y z = head x (tail slice_colon (perhaps_both any_both y z) any_both) any_both
-
--- parameters
-pub parameter_form : (x : Identifier) → IsProper x → {xs : List Piece} {ts : List Terminal} → Perhaps (trailing piece Colon ∷ []) ends_plain xs ts → Closed (a_word ∷ []) ends_plain (free piece (in_form x) ∷ xs) (free terminal (in_form x) ∷ ts)
-unfolding operators
-parameter_form x i y = tail (name x i) y refl
-
-pub data Maybes (b e : List Piece) : List (List Piece) → List (List Terminal) → Type 0 where
-  no_maybe : Maybes b e [] []
-  a_maybe : {xs : List Piece} {ts : List Terminal} {xss : List (List Piece)} {tss : List (List Terminal)} → Perhaps b e xs ts → Maybes b e xss tss → Maybes b e (xs ∷ xss) (ts ∷ tss)
-
-pub with_default : {xs ys : List Piece} {ts us : List Terminal} → Closed (a_word ∷ []) ends_plain xs ts → Perhaps (tight piece Equal ∷ []) ends_plain ys us → Closed (a_word ∷ []) ends_plain (xs ++ ys) (ts ++ us)
-unfolding operators
-with_default x y = tail x y refl
-
-pub beside_are : {xss yss : List (List Piece)} {tss uss : List (List Terminal)} → Each (a_word ∷ []) ends_plain xss tss → Maybes (tight piece Equal ∷ []) ends_plain yss uss → Each (a_word ∷ []) ends_plain (beside xss yss) (beside tss uss)
-beside_are none y = none
-beside_are (more x xs) no_maybe = none
-beside_are (more x xs) (a_maybe y ys) = more (with_default x y) (beside_are xs ys)
-
-length_same : {a b : List Piece} {xss : List (List Piece)} {tss : List (List Terminal)} → Each a b xss tss → length xss ≡ length tss
-length_same none = refl
-length_same (more x xs) = ap suc (length_same xs)
-
-before_maybes : {b e : List Piece} (n : ℕ) {xss : List (List Piece)} {tss : List (List Terminal)} → Maybes b e xss tss → Maybes b e (replicate n [] ++ xss) (replicate n [] ++ tss)
-before_maybes zero x = x
-before_maybes (suc n) x = a_maybe nothing (before_maybes n x)
-
-maybes : {b e : List Piece} {xss : List (List Piece)} {tss : List (List Terminal)} → Each b e xss tss → Maybes b e xss tss
-maybes none = no_maybe
-maybes (more x xs) = a_maybe (some x) (maybes xs)
-
-pub equals : {xss : List (List Piece)} {tss : List (List Terminal)} → Each starts_plain ends_plain xss tss → Each (tight piece Equal ∷ []) ends_plain (map (behind_equal piece) xss) (map (behind_equal terminal) tss)
-unfolding operators
-equals none = none
-equals (more x xs) = more (join equal x refl) (equals xs)
-
-pub with_defaults_are : {xss yss : List (List Piece)} {tss uss : List (List Terminal)} → Each (a_word ∷ []) ends_plain xss tss → Each (tight piece Equal ∷ []) ends_plain yss uss → Each (a_word ∷ []) ends_plain (with_defaults xss yss) (with_defaults tss uss)
-with_defaults_are {xss} {yss} {tss} {uss} x y = let e = length_same x in let f = length_same y in rw (e, f) (beside_are x (before_maybes (length tss - length uss) (maybes y)))
-
-slash : Closed starts_parameter ends_parameter (free piece (Op Slash) ∷ []) (free terminal (Op Slash) ∷ [])
-slash = sign starts_parameter ends_parameter Slash false false refl refl refl
-
-pub with_slash_are : {a b : List Piece} {xss yss : List (List Piece)} {tss uss : List (List Terminal)} → Each a b xss tss → Each starts_parameter ends_parameter yss uss → Each starts_parameter ends_parameter (with_slash piece xss yss) (with_slash terminal tss uss)
-with_slash_are none y = y
-with_slash_are (more x none) none = none
-with_slash_are (more x none) (more y ys) = more y (more slash ys)
-with_slash_are (more x (more z zs)) none = none
-with_slash_are (more x (more z zs)) (more y ys) = more y (with_slash_are (more z zs) ys)
-
-bare_star : Closed starts_parameter ends_parameter (leading piece Star ∷ []) (leading terminal Star ∷ [])
-bare_star = sign starts_parameter ends_parameter Star false true refl refl refl
-
-pub star_are : {a b : List Piece} {xss yss : List (List Piece)} {tss uss : List (List Terminal)} → Each starts_parameter ends_parameter xss tss → Each a b yss uss → Each starts_parameter ends_parameter (with_star piece xss yss) (with_star terminal tss uss)
-star_are none none = none
-star_are none (more y ys) = more bare_star none
-star_are (more x xs) y = more x xs
-
--- a call, by whether a generator is all that there is
-pub inside_call : {xs ys : List Piece} {ts us : List Terminal} (b : Bool) → (b ≡ true → Perhaps starts_part ends_part xs ts) → Perhaps starts_part ends_part ys us → Perhaps starts_part ends_part (cond b xs ys) (cond b ts us)
-inside_call true x y = x refl
-inside_call false x y = y
-
-pub call_behind : {xs ys : List Piece} {ts us : List Terminal} → Plain xs ts → Closed (tight piece LPar ∷ []) ends_plain ys us → Plain (xs ++ ys) (ts ++ us)
-unfolding operators
-call_behind x y = join x y refl
-
-pub subscript_behind : {xs ys : List Piece} {ts us : List Terminal} → Plain xs ts → Closed (tight piece LSqb ∷ []) ends_plain ys us → Plain (xs ++ ys) (ts ++ us)
-unfolding operators
-subscript_behind x y = join x y refl
-
--- signs and what stands after them
-pub step_form : {xs : List Piece} {ts : List Terminal} → Plain xs ts → Closed starts_part ends_part (tight piece Colon ∷ xs) (tight terminal Colon ∷ ts)
-unfolding operators
-step_form x = widen {c = starts_part} (λ p e. e) (λ p e. more_colon p (more_comma p e)) (join second_colon x refl)
-
-pub annotation_form : {xs : List Piece} {ts : List Terminal} → Item xs ts → Closed (trailing piece Colon ∷ []) ends_plain (trailing piece Colon ∷ xs) (trailing terminal Colon ∷ ts)
-unfolding operators
-annotation_form x = join colon x refl
-
-pub default_form : {xs : List Piece} {ts : List Terminal} → Plain xs ts → Closed (tight piece Equal ∷ []) ends_plain (tight piece Equal ∷ xs) (tight terminal Equal ∷ ts)
-unfolding operators
-default_form x = join equal x refl
+pub data Maybes (extent : Extent) (b e : List Piece) : List (List Piece) → List (List Terminal) → Type 0 where
+  no_maybe : Maybes extent b e [] []
+  a_maybe : {xs : List Piece} {ts : List Terminal} {xss : List (List Piece)} {tss : List (List Terminal)} → Perhaps extent b e xs ts → Maybes extent b e xss tss → Maybes extent b e (xs ∷ xss) (ts ∷ tss)
 
 -- parameters among others
 more_last : (p : Piece) → within ends_plain p ≡ true → within ends_parameter p ≡ true
@@ -225,13 +48,192 @@ word_first p e =
     head_or true b e = refl
     head_or false b e = cc
 
-pub parameters_each : {xss : List (List Piece)} {tss : List (List Terminal)} → Each (a_word ∷ []) ends_plain xss tss → Each starts_parameter ends_parameter xss tss
-parameters_each x = each_widen word_first more_last x
+module _ {extent : Extent} where
+  pub perhaps_widen : {a b c d : List Piece} {xs : List Piece} {ts : List Terminal} → ((p : Piece) → within a p ≡ true → within c p ≡ true) → ((p : Piece) → within b p ≡ true → within d p ≡ true) → Perhaps extent a b xs ts → Perhaps extent c d xs ts
+  perhaps_widen f g nothing = nothing
+  perhaps_widen f g (some x) = some (widen f g x)
 
-pub star_parameter : {xs : List Piece} {ts : List Terminal} → Closed (a_word ∷ []) ends_plain xs ts → Closed starts_parameter ends_parameter (leading piece Star ∷ xs) (leading terminal Star ∷ ts)
-unfolding operators
-star_parameter x = widen {c = starts_parameter} (λ p e. e) more_last (join (sign starts_parameter (leading piece Star ∷ []) Star false true refl refl refl) x refl)
+  pub each_widen : {a b c d : List Piece} {xss : List (List Piece)} {tss : List (List Terminal)} → ((p : Piece) → within a p ≡ true → within c p ≡ true) → ((p : Piece) → within b p ≡ true → within d p ≡ true) → Each extent a b xss tss → Each extent c d xss tss
+  each_widen f g none = none
+  each_widen f g (more x xs) = more (widen f g x) (each_widen f g xs)
 
-pub stars_parameter : {xs : List Piece} {ts : List Terminal} → Closed (a_word ∷ []) ends_plain xs ts → Closed starts_parameter ends_parameter (leading piece DoubleStar ∷ xs) (leading terminal DoubleStar ∷ ts)
-unfolding operators
-stars_parameter x = widen {c = starts_parameter} (λ p e. e) more_last (join (sign starts_parameter (leading piece DoubleStar ∷ []) DoubleStar false true refl refl refl) x refl)
+  pub each_both : {a b : List Piece} {xss yss : List (List Piece)} {tss uss : List (List Terminal)} → Each extent a b xss tss → Each extent a b yss uss → Each extent a b (xss ++ yss) (tss ++ uss)
+  each_both none ys = ys
+  each_both (more x xs) ys = more x (each_both xs ys)
+
+  pub perhaps_both : {a b : List Piece} {xs ys : List Piece} {ts us : List Terminal} → suit b a ≡ true → Perhaps extent a b xs ts → Perhaps extent a b ys us → Perhaps extent a b (xs ++ ys) (ts ++ us)
+  perhaps_both e nothing y = y
+  perhaps_both e (some x) y = some (tail x y e)
+
+  -- what stands in brackets
+  pub inside : {xs : List Piece} {ts : List Terminal} → Perhaps extent starts_item ends_plain xs ts → Perhaps extent starts_part ends_part xs ts
+  inside x = perhaps_widen more_part (λ p e. more_colon p (more_comma p e)) x
+
+  pub inside_plain : {xs : List Piece} {ts : List Terminal} → Plain extent xs ts → Perhaps extent starts_part ends_part xs ts
+  inside_plain x = some (widen (λ p e. more_part p (more_item p e)) (λ p e. more_colon p (more_comma p e)) x)
+
+  pub items_listed : {xss : List (List Piece)} {tss : List (List Terminal)} → Each extent starts_item ends_plain xss tss → Perhaps extent starts_part ends_part (listed piece xss) (listed terminal tss)
+  unfolding operators
+  items_listed x = inside (separated_are (trailing piece Comma) (trailing terminal Comma) comma refl refl x)
+
+  pub parameters_listed : {xss : List (List Piece)} {tss : List (List Terminal)} → Each extent starts_parameter ends_parameter xss tss → Perhaps extent starts_parameter ends_parameter (listed piece xss) (listed terminal tss)
+  unfolding operators
+  parameters_listed x = separated_are (trailing piece Comma) (trailing terminal Comma) comma refl refl x
+
+  -- one and a comma, and perhaps others
+  comma_items : Closed extent (trailing piece Comma ∷ []) ends_comma (trailing piece Comma ∷ []) (trailing terminal Comma ∷ [])
+  comma_items = sign (trailing piece Comma ∷ []) ends_comma Comma true false refl refl refl
+
+  comma_parts : Closed extent (trailing piece Comma ∷ []) ends_part (trailing piece Comma ∷ []) (trailing terminal Comma ∷ [])
+  comma_parts = sign (trailing piece Comma ∷ []) ends_part Comma true false refl refl refl
+
+  with_comma_items : {xs : List Piece} {ts : List Terminal} {xss : List (List Piece)} {tss : List (List Terminal)} → Item extent xs ts → Each extent starts_item ends_plain xss tss → Closed extent starts_item ends_comma (with_comma piece (xs ∷ xss)) (with_comma terminal (ts ∷ tss))
+  unfolding operators
+  with_comma_items x xs = join x (tail comma_items (separated_are (trailing piece Comma) (trailing terminal Comma) comma refl refl (each_widen {c = starts_item} (λ p e. e) more_comma xs)) refl) refl
+
+  with_comma_parts : {xs : List Piece} {ts : List Terminal} {xss : List (List Piece)} {tss : List (List Terminal)} → Closed extent starts_part ends_part xs ts → Each extent starts_part ends_part xss tss → Closed extent starts_part ends_part (with_comma piece (xs ∷ xss)) (with_comma terminal (ts ∷ tss))
+  unfolding operators
+  with_comma_parts x xs = join x (tail comma_parts (separated_are (trailing piece Comma) (trailing terminal Comma) comma refl refl xs) refl) refl
+
+  parts_listed : {xs : List Piece} {ts : List Terminal} {xss : List (List Piece)} {tss : List (List Terminal)} → Closed extent starts_part ends_part xs ts → Each extent starts_part ends_part xss tss → Closed extent starts_part ends_part (listed piece (xs ∷ xss)) (listed terminal (ts ∷ tss))
+  unfolding operators
+  parts_listed x xs = separated_some (trailing piece Comma) (trailing terminal Comma) comma refl refl x xs
+
+  -- tuples
+  elements_grouped : {xss : List (List Piece)} {tss : List (List Terminal)} (b : Bool) → Each extent starts_item ends_plain xss tss → Plain extent (tuple_of piece Elem b xss) (tuple_of terminal Elem b tss)
+  elements_grouped b none = group nothing
+  elements_grouped b (more x xs) = group (some (widen more_part more_colon (with_comma_items x xs)))
+
+  elements_bare : {xss : List (List Piece)} {tss : List (List Terminal)} (b : Bool) → Each extent starts_item ends_plain xss tss → Closed extent starts_item ends_comma (tuple_of piece StarItem b xss) (tuple_of terminal StarItem b tss)
+  elements_bare b none = widen more_item more_comma (group nothing)
+  elements_bare b (more x xs) = with_comma_items x xs
+
+  elements_parts : {xss : List (List Piece)} {tss : List (List Terminal)} (b : Bool) → Each extent starts_part ends_part xss tss → Closed extent starts_part ends_part (tuple_of piece Part b xss) (tuple_of terminal Part b tss)
+  elements_parts b none = widen (λ p e. more_part p (more_item p e)) (λ p e. more_colon p (more_comma p e)) (group nothing)
+  elements_parts true (more x xs) = parts_listed x xs
+  elements_parts false (more x xs) = with_comma_parts x xs
+
+  pub tuple_form : (s : Bool) (l : Level) (n b : Bool) {xss : List (List Piece)} {tss : List (List Terminal)} → Each extent (starts true (element_level l n)) (ends (element_level l n)) xss tss → Closed extent (starts s l) (ends l) (tuple_of piece (element_level l n) b xss) (tuple_of terminal (element_level l n) b tss)
+  tuple_form s Slices n b x = elements_parts b x
+  tuple_form s Value true b x = plainly s Value (elements_grouped b x)
+  tuple_form s Value false b x = elements_bare b x
+  tuple_form s Stars true b x = plainly s Stars (elements_grouped b x)
+  tuple_form s Stars false b x = elements_bare b x
+  tuple_form s l n b x = plainly s l (elements_grouped b x)
+
+  -- arguments by name
+  pub named_argument : (x : Identifier) → IsProper x → {xs : List Piece} {ts : List Terminal} → Plain extent xs ts → Item extent (free piece (in_form x) ∷ (tight piece Equal ∷ xs)) (free terminal (in_form x) ∷ (tight terminal Equal ∷ ts))
+  unfolding operators
+  named_argument x i y = join (widen {d = ends_plain} more_item (λ p e. e) (plain_name x i)) (join equal y refl) refl
+
+  -- comprehensions
+  pub for_form : (b : Bool) {xs : List Piece} {ts : List Terminal} → Plain extent (free piece (Word Key.For) ∷ xs) (free terminal (Word Key.For) ∷ ts) → Plain extent (for_in piece b xs) (for_in terminal b ts)
+  for_form false x = x
+  for_form true x = plain_both (keyword Key.Async) x
+
+  pub target_form : {xs ys zs : List Piece} {ts us vs : List Terminal} → Closed extent starts_item ends_comma xs ts → Plain extent ys us → Perhaps extent starts_plain ends_plain zs vs → Plain extent (free piece (Word Key.For) ∷ (xs ++ (free piece (Word Key.In) ∷ (ys ++ zs)))) (free terminal (Word Key.For) ∷ (ts ++ (free terminal (Word Key.In) ∷ (us ++ vs))))
+  unfolding operators
+  target_form x y z = join (keyword Key.For) (join x (plain_both (keyword Key.In) (tail y z refl)) refl) refl
+
+  pub plain_tail : {xs ys : List Piece} {ts us : List Terminal} → Plain extent xs ts → Perhaps extent starts_plain ends_plain ys us → Plain extent (xs ++ ys) (ts ++ us)
+  unfolding operators
+  plain_tail x y = tail x y refl
+
+  -- slices
+  slice_colon : Closed extent starts_part ends_part (tight piece Colon ∷ []) (tight terminal Colon ∷ [])
+  slice_colon = sign starts_part ends_part Colon true true refl refl refl
+
+  pub second_colon : Closed extent starts_part (tight piece Colon ∷ []) (tight piece Colon ∷ []) (tight terminal Colon ∷ [])
+  second_colon = sign starts_part (tight piece Colon ∷ []) Colon true true refl refl refl
+
+  pub slice_form : {xs ys zs : List Piece} {ts us vs : List Terminal} → Perhaps extent starts_part ends_part xs ts → Perhaps extent starts_part ends_part ys us → Perhaps extent starts_part ends_part zs vs → Closed extent starts_part ends_part (xs ++ (tight piece Colon ∷ (ys ++ zs))) (ts ++ (tight terminal Colon ∷ (us ++ vs)))
+  slice_form x y z = head x (tail slice_colon (perhaps_both any_both y z) any_both) any_both
+
+  -- parameters
+  pub parameter_form : (x : Identifier) → IsProper x → {xs : List Piece} {ts : List Terminal} → Perhaps extent (trailing piece Colon ∷ []) ends_plain xs ts → Closed extent (a_word ∷ []) ends_plain (free piece (in_form x) ∷ xs) (free terminal (in_form x) ∷ ts)
+  unfolding operators
+  parameter_form x i y = tail (name x i) y refl
+
+  pub with_default : {xs ys : List Piece} {ts us : List Terminal} → Closed extent (a_word ∷ []) ends_plain xs ts → Perhaps extent (tight piece Equal ∷ []) ends_plain ys us → Closed extent (a_word ∷ []) ends_plain (xs ++ ys) (ts ++ us)
+  unfolding operators
+  with_default x y = tail x y refl
+
+  pub beside_are : {xss yss : List (List Piece)} {tss uss : List (List Terminal)} → Each extent (a_word ∷ []) ends_plain xss tss → Maybes extent (tight piece Equal ∷ []) ends_plain yss uss → Each extent (a_word ∷ []) ends_plain (beside xss yss) (beside tss uss)
+  beside_are none y = none
+  beside_are (more x xs) no_maybe = none
+  beside_are (more x xs) (a_maybe y ys) = more (with_default x y) (beside_are xs ys)
+
+  length_same : {a b : List Piece} {xss : List (List Piece)} {tss : List (List Terminal)} → Each extent a b xss tss → length xss ≡ length tss
+  length_same none = refl
+  length_same (more x xs) = ap suc (length_same xs)
+
+  before_maybes : {b e : List Piece} (n : ℕ) {xss : List (List Piece)} {tss : List (List Terminal)} → Maybes extent b e xss tss → Maybes extent b e (replicate n [] ++ xss) (replicate n [] ++ tss)
+  before_maybes zero x = x
+  before_maybes (suc n) x = a_maybe nothing (before_maybes n x)
+
+  maybes : {b e : List Piece} {xss : List (List Piece)} {tss : List (List Terminal)} → Each extent b e xss tss → Maybes extent b e xss tss
+  maybes none = no_maybe
+  maybes (more x xs) = a_maybe (some x) (maybes xs)
+
+  pub equals : {xss : List (List Piece)} {tss : List (List Terminal)} → Each extent starts_plain ends_plain xss tss → Each extent (tight piece Equal ∷ []) ends_plain (map (behind_equal piece) xss) (map (behind_equal terminal) tss)
+  unfolding operators
+  equals none = none
+  equals (more x xs) = more (join equal x refl) (equals xs)
+
+  pub with_defaults_are : {xss yss : List (List Piece)} {tss uss : List (List Terminal)} → Each extent (a_word ∷ []) ends_plain xss tss → Each extent (tight piece Equal ∷ []) ends_plain yss uss → Each extent (a_word ∷ []) ends_plain (with_defaults xss yss) (with_defaults tss uss)
+  with_defaults_are {xss} {yss} {tss} {uss} x y = let e = length_same x in let f = length_same y in rw (e, f) (beside_are x (before_maybes (length tss - length uss) (maybes y)))
+
+  slash : Closed extent starts_parameter ends_parameter (free piece (Op Slash) ∷ []) (free terminal (Op Slash) ∷ [])
+  slash = sign starts_parameter ends_parameter Slash false false refl refl refl
+
+  pub with_slash_are : {a b : List Piece} {xss yss : List (List Piece)} {tss uss : List (List Terminal)} → Each extent a b xss tss → Each extent starts_parameter ends_parameter yss uss → Each extent starts_parameter ends_parameter (with_slash piece xss yss) (with_slash terminal tss uss)
+  with_slash_are none y = y
+  with_slash_are (more x none) none = none
+  with_slash_are (more x none) (more y ys) = more y (more slash ys)
+  with_slash_are (more x (more z zs)) none = none
+  with_slash_are (more x (more z zs)) (more y ys) = more y (with_slash_are (more z zs) ys)
+
+  bare_star : Closed extent starts_parameter ends_parameter (leading piece Star ∷ []) (leading terminal Star ∷ [])
+  bare_star = sign starts_parameter ends_parameter Star false true refl refl refl
+
+  pub star_are : {a b : List Piece} {xss yss : List (List Piece)} {tss uss : List (List Terminal)} → Each extent starts_parameter ends_parameter xss tss → Each extent a b yss uss → Each extent starts_parameter ends_parameter (with_star piece xss yss) (with_star terminal tss uss)
+  star_are none none = none
+  star_are none (more y ys) = more bare_star none
+  star_are (more x xs) y = more x xs
+
+  -- a call, by whether a generator is all that there is
+  pub inside_call : {xs ys : List Piece} {ts us : List Terminal} (b : Bool) → (b ≡ true → Perhaps extent starts_part ends_part xs ts) → Perhaps extent starts_part ends_part ys us → Perhaps extent starts_part ends_part (cond b xs ys) (cond b ts us)
+  inside_call true x y = x refl
+  inside_call false x y = y
+
+  pub call_behind : {xs ys : List Piece} {ts us : List Terminal} → Plain extent xs ts → Closed extent (tight piece LPar ∷ []) ends_plain ys us → Plain extent (xs ++ ys) (ts ++ us)
+  unfolding operators
+  call_behind x y = join x y refl
+
+  pub subscript_behind : {xs ys : List Piece} {ts us : List Terminal} → Plain extent xs ts → Closed extent (tight piece LSqb ∷ []) ends_plain ys us → Plain extent (xs ++ ys) (ts ++ us)
+  unfolding operators
+  subscript_behind x y = join x y refl
+
+  -- signs and what stands after them
+  pub step_form : {xs : List Piece} {ts : List Terminal} → Plain extent xs ts → Closed extent starts_part ends_part (tight piece Colon ∷ xs) (tight terminal Colon ∷ ts)
+  unfolding operators
+  step_form x = widen {c = starts_part} (λ p e. e) (λ p e. more_colon p (more_comma p e)) (join second_colon x refl)
+
+  pub annotation_form : {xs : List Piece} {ts : List Terminal} → Item extent xs ts → Closed extent (trailing piece Colon ∷ []) ends_plain (trailing piece Colon ∷ xs) (trailing terminal Colon ∷ ts)
+  unfolding operators
+  annotation_form x = join colon x refl
+
+  pub default_form : {xs : List Piece} {ts : List Terminal} → Plain extent xs ts → Closed extent (tight piece Equal ∷ []) ends_plain (tight piece Equal ∷ xs) (tight terminal Equal ∷ ts)
+  unfolding operators
+  default_form x = join equal x refl
+
+  pub parameters_each : {xss : List (List Piece)} {tss : List (List Terminal)} → Each extent (a_word ∷ []) ends_plain xss tss → Each extent starts_parameter ends_parameter xss tss
+  parameters_each x = each_widen word_first more_last x
+
+  pub star_parameter : {xs : List Piece} {ts : List Terminal} → Closed extent (a_word ∷ []) ends_plain xs ts → Closed extent starts_parameter ends_parameter (leading piece Star ∷ xs) (leading terminal Star ∷ ts)
+  unfolding operators
+  star_parameter x = widen {c = starts_parameter} (λ p e. e) more_last (join (sign starts_parameter (leading piece Star ∷ []) Star false true refl refl refl) x refl)
+
+  pub stars_parameter : {xs : List Piece} {ts : List Terminal} → Closed extent (a_word ∷ []) ends_plain xs ts → Closed extent starts_parameter ends_parameter (leading piece DoubleStar ∷ xs) (leading terminal DoubleStar ∷ ts)
+  unfolding operators
+  stars_parameter x = widen {c = starts_parameter} (λ p e. e) more_last (join (sign starts_parameter (leading piece DoubleStar ∷ []) DoubleStar false true refl refl refl) x refl)

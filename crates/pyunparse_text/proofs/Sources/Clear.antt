@@ -19,6 +19,7 @@ use Rattle.pylex.specs.declared.margins.Widths.{Widths}
 use Rattle.pylex.specs.Listing.{Source, listing}
 use Rattle.pylex.specs.Steps.{entries_of}
 use Rattle.pylex.specs.Steps.{fault_of as listing_fault}
+use Rattle.pytree_node.specs.declared.profiles.Extent.{Extent}
 use Rattle.pytoken.specs.declared.faults.TokenError.{TokenError}
 use Rattle.pytoken.specs.declared.refusals.Refusal.{Refusal}
 use Rattle.pytoken.specs.declared.refusals.Refusal.TheVariants as refusals
@@ -36,47 +37,45 @@ use Rattle.std.specs.Option.{option_or}
 
 -- ---- Faults of tokens.
 
-abbrev Faultless : List PlainToken → Type 0
-Faultless [] = Unit {0}
-Faultless (t ∷ ts) = (fault_of t.kind t.text ≡ None) × Faultless ts
+module _ (extent : Extent) where
+  abbrev Faultless : List PlainToken → Type 0
+  Faultless [] = Unit {0}
+  Faultless (t ∷ ts) = (fault_of extent t.kind t.text ≡ None) × Faultless ts
 
-faultless_both : (ts us : List PlainToken) → Faultless ts → Faultless us → Faultless (ts ++ us)
-faultless_both [] us a b = b
-faultless_both (t ∷ ts) us a b = (a.0, faultless_both ts us a.1 b)
+  faultless_both : (ts us : List PlainToken) → Faultless ts → Faultless us → Faultless (ts ++ us)
+  faultless_both [] us a b = b
+  faultless_both (t ∷ ts) us a b = (a.0, faultless_both ts us a.1 b)
 
-layout_faultless : (k : Kind) (t : List ℕ) → is_operator_kind k ≡ false → fault_of k t ≡ None → Faultless (record { kind = k; text = t } ∷ [])
-layout_faultless k t o f = (f, tt)
+  dedents_faultless : (n : ℕ) → Faultless (replicate n dedent)
+  unfolding fault_of
+  dedents_faultless zero = tt
+  dedents_faultless (suc n) = (refl, dedents_faultless n)
 
-dedents_faultless : (n : ℕ) → Faultless (replicate n dedent)
-unfolding fault_of
-dedents_faultless zero = tt
-dedents_faultless (suc n) = (refl, dedents_faultless n)
+  level_faultless : (m n : ℕ) → Faultless (level_tokens m n)
+  unfolding fault_of
+  level_faultless m n = by (nat_lt m n)
+    where
+      by : (b : Bool) → Faultless (cond b (indent n ∷ []) (replicate (m - n) dedent))
+      by true = (refl, tt)
+      by false = dedents_faultless (m - n)
 
-level_faultless : (m n : ℕ) → Faultless (level_tokens m n)
-unfolding fault_of
-level_faultless m n = by (nat_lt m n)
-  where
-    by : (b : Bool) → Faultless (cond b (indent n ∷ []) (replicate (m - n) dedent))
-    by true = (refl, tt)
-    by false = dedents_faultless (m - n)
+  pieces_faultless : (ps : List Piece) → All (λ p. fault_of extent p.kind p.text ≡ None) ps → Faultless (map token_of ps)
+  pieces_faultless [] h = tt
+  pieces_faultless (p ∷ ps) h = (All-head (λ p. fault_of extent p.kind p.text ≡ None) p ps h, pieces_faultless ps (All-tail (λ p. fault_of extent p.kind p.text ≡ None) p ps h))
 
-pieces_faultless : (ps : List Piece) → All (λ p. fault_of p.kind p.text ≡ None) ps → Faultless (map token_of ps)
-pieces_faultless [] h = tt
-pieces_faultless (p ∷ ps) h = (All-head (λ p. fault_of p.kind p.text ≡ None) p ps h, pieces_faultless ps (All-tail (λ p. fault_of p.kind p.text ≡ None) p ps h))
+  lines_faultless : (m : ℕ) (ls : List Line) → All (IsClear extent) ls → Faultless (tokens_behind m ls)
+  unfolding fault_of
+  lines_faultless m [] h = faultless_both (replicate m dedent) (end_marker ∷ []) (dedents_faultless m) (refl, tt)
+  lines_faultless m (l ∷ ls) h =
+      faultless_both (line_tokens m l) (tokens_behind l.level ls)
+      (faultless_both (level_tokens m l.level) (map token_of l.pieces ++ newline ∷ []) (level_faultless m l.level) (faultless_both (map token_of l.pieces) (newline ∷ []) (pieces_faultless l.pieces (All-head (IsClear extent) l ls h).faultless) (refl, tt)))
+      (lines_faultless l.level ls (All-tail (IsClear extent) l ls h))
 
-lines_faultless : (m : ℕ) (ls : List Line) → All IsClear ls → Faultless (tokens_behind m ls)
-unfolding fault_of
-lines_faultless m [] h = faultless_both (replicate m dedent) (end_marker ∷ []) (dedents_faultless m) (refl, tt)
-lines_faultless m (l ∷ ls) h =
-    faultless_both (line_tokens m l) (tokens_behind l.level ls)
-    (faultless_both (level_tokens m l.level) (map token_of l.pieces ++ newline ∷ []) (level_faultless m l.level) (faultless_both (map token_of l.pieces) (newline ∷ []) (pieces_faultless l.pieces (All-head IsClear l ls h).faultless) (refl, tt)))
-    (lines_faultless l.level ls (All-tail IsClear l ls h))
-
-none_refused : (text : List ℕ) (es : List Entry) → Faultless (map (token_at text) es) → first_entry_refusal text es ≡ None
-none_refused text [] h = refl
-none_refused text (e ∷ es) h =
-    let f : entry_refusal text e ≡ None = ap (λ (o : Option TokenError). elim o [ Some x ↦ Some (refusals.Token x e.start) | None ↦ None ]) h.0 in
-    rw f (none_refused text es h.1)
+  none_refused : (text : List ℕ) (es : List Entry) → Faultless (map (token_at text) es) → first_entry_refusal extent text es ≡ None
+  none_refused text [] h = refl
+  none_refused text (e ∷ es) h =
+      let f : entry_refusal extent text e ≡ None = ap (λ (o : Option TokenError). elim o [ Some x ↦ Some (refusals.Token x e.start) | None ↦ None ]) h.0 in
+      rw f (none_refused text es h.1)
 
 -- ---- Brackets, by the operators that the tokens are.
 
@@ -200,15 +199,15 @@ pieces_shallow most d (p ∷ ps) os c w h =
     (bool_cases (closes p)))
     (bool_cases (opens p))
 
-lines_shallow : (m : ℕ) (ls : List Line) → list_all is_written ls ≡ true → All IsClear ls → shallow most_brackets 0 (map exact_in (tokens_behind m ls)) ≡ true
-lines_shallow m [] w h = subst (λ os. shallow most_brackets 0 os ≡ true) (sym (map-append exact_in (replicate m dedent) (end_marker ∷ []))) (plain_shallow most_brackets 0 (replicate m dedent) (map exact_in (end_marker ∷ [])) (dedents_plain m) refl)
-lines_shallow m (l ∷ ls) w h =
+lines_shallow : (extent : Extent) (m : ℕ) (ls : List Line) → list_all is_written ls ≡ true → All (IsClear extent) ls → shallow most_brackets 0 (map exact_in (tokens_behind m ls)) ≡ true
+lines_shallow extent m [] w h = subst (λ os. shallow most_brackets 0 os ≡ true) (sym (map-append exact_in (replicate m dedent) (end_marker ∷ []))) (plain_shallow most_brackets 0 (replicate m dedent) (map exact_in (end_marker ∷ [])) (dedents_plain m) refl)
+lines_shallow extent m (l ∷ ls) w h =
     let a = and_parts (is_written l) (list_all is_written ls) w in
     let b = and_parts (are_readable l.pieces) (closes_all 0 l.pieces && list_all _ l.pieces) a.0 in
     let c = and_parts (closes_all 0 l.pieces) _ b.1 in
     let rest : List PlainToken = tokens_behind l.level ls in
-    let r : shallow most_brackets 0 (map exact_in (newline ∷ rest)) ≡ true = lines_shallow l.level ls a.1 (All-tail IsClear l ls h) in
-    let p : shallow most_brackets 0 (map exact_in (map token_of l.pieces) ++ map exact_in (newline ∷ rest)) ≡ true = pieces_shallow most_brackets 0 l.pieces (map exact_in (newline ∷ rest)) c.0 (All-head IsClear l ls h).shallow r in
+    let r : shallow most_brackets 0 (map exact_in (newline ∷ rest)) ≡ true = lines_shallow extent l.level ls a.1 (All-tail (IsClear extent) l ls h) in
+    let p : shallow most_brackets 0 (map exact_in (map token_of l.pieces) ++ map exact_in (newline ∷ rest)) ≡ true = pieces_shallow most_brackets 0 l.pieces (map exact_in (newline ∷ rest)) c.0 (All-head (IsClear extent) l ls h).shallow r in
     let q = plain_shallow most_brackets 0 (level_tokens m l.level) (map exact_in (map token_of l.pieces) ++ map exact_in (newline ∷ rest)) (level_plain m l.level) p in
     let s : map exact_in (tokens_behind m (l ∷ ls)) ≡ map exact_in (level_tokens m l.level) ++ (map exact_in (map token_of l.pieces) ++ map exact_in (newline ∷ rest)) =
     ap (map exact_in) (append_assoc (level_tokens m l.level) (map token_of l.pieces ++ newline ∷ []) rest ∙ ap (λ u. level_tokens m l.level ++ u) (append_assoc (map token_of l.pieces) (newline ∷ []) rest))
@@ -264,15 +263,15 @@ none_stands : (f : Option ListingFault) (r : Option Refusal) → f ≡ None → 
 none_stands (Some x) r e h = absurd (cc)
 none_stands None r e h = h
 
-pub clear : (s : Source) (ls : List Line) → are_written ls ≡ true → All IsClear ls → IsListedAs s (tokens_behind 0 ls) → refusal s ≡ None
+pub clear : (extent : Extent) (s : Source) (ls : List Line) → are_written ls ≡ true → All (IsClear extent) ls → IsListedAs s (tokens_behind 0 ls) → refusal extent s ≡ None
 unfolding refusal_at fault_of
-clear s ls w h i =
+clear extent s ls w h i =
     let a = and_parts (list_all is_written ls) (rise_by_one 0 ls) w in
     let f : listing_fault (listing s) ≡ None = ap listing_fault i.listed ∙ no_fault i.entries in
     let e : entries_of (listing s) ≡ encoding_entry ∷ i.entries = ap entries_of i.listed ∙ ap (λ x. encoding_entry ∷ x) (entries_all i.entries) in
-    let t : first_entry_refusal s.text (encoding_entry ∷ i.entries) ≡ None = none_refused s.text i.entries (subst Faultless (sym i.tokens) (lines_faultless 0 ls h)) in
-    let d : first_too_deep most_brackets [] (encoding_entry ∷ i.entries) ≡ None = deep_none most_brackets 0 (encoding_entry ∷ []) i.entries refl (subst (λ os. shallow most_brackets 0 os ≡ true) (sym i.exacts) (lines_shallow 0 ls a.0 h)) in
+    let t : first_entry_refusal extent s.text (encoding_entry ∷ i.entries) ≡ None = none_refused extent s.text i.entries (subst (Faultless extent) (sym i.tokens) (lines_faultless extent 0 ls h)) in
+    let d : first_too_deep most_brackets [] (encoding_entry ∷ i.entries) ≡ None = deep_none most_brackets 0 (encoding_entry ∷ []) i.entries refl (subst (λ os. shallow most_brackets 0 os ≡ true) (sym i.exacts) (lines_shallow extent 0 ls a.0 h)) in
     let m : first_mixed [] (margins s.text (entries_of (listing s))) ≡ None = none_mixed [] (margins s.text (entries_of (listing s))) refl i.even in
-    none_stands (listing_fault (listing s)) (refusal_of most_brackets s.text (entries_of (listing s))) f
-    (all_none (first_entry_refusal s.text (entries_of (listing s))) (first_too_deep most_brackets [] (entries_of (listing s))) (first_mixed [] (margins s.text (entries_of (listing s))))
-    (ap (first_entry_refusal s.text) e ∙ t) (ap (first_too_deep most_brackets []) e ∙ d) m)
+    none_stands (listing_fault (listing s)) (refusal_of extent most_brackets s.text (entries_of (listing s))) f
+    (all_none (first_entry_refusal extent s.text (entries_of (listing s))) (first_too_deep most_brackets [] (entries_of (listing s))) (first_mixed [] (margins s.text (entries_of (listing s))))
+    (ap (first_entry_refusal extent s.text) e ∙ t) (ap (first_too_deep most_brackets []) e ∙ d) m)

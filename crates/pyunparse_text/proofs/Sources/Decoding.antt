@@ -1,8 +1,8 @@
 -- The bytes of written lines have no mark, no cookie and no fault.
 --
 -- Carries: lines_scalars, lines_source, lines_chars, for Law, Relisting, Runs. On:
--- PieceFronts, Bytes, Cases, Fronts.
-use Rattle.std.proofs.Common.{◌≡◌, ℕ, zero, suc, ◌+◌, ◌*◌, ◌≤◌, ◌<◌, Bool, true, false, not, ◌&&◌, ◌==◌, List, [], ◌∷◌, ◌++◌, map, length, get_or, take, drop, refl, sym, ◌∙◌, ap, subst, arith, eqb, ⊎_elim, append_assoc, replicate, None, if◌then◌else◌}
+-- PieceFronts, Bytes, Cases, Fronts and 1 more.
+use Rattle.std.proofs.Common.{◌≡◌, ℕ, zero, suc, ◌+◌, ◌*◌, ◌≤◌, ◌<◌, Bool, true, false, not, ◌&&◌, ◌==◌, List, [], ◌∷◌, ◌++◌, map, length, get_or, take, drop, refl, sym, ◌∙◌, ap, subst, arith, eqb, append_assoc, replicate, None, if◌then◌else◌}
 use Rattle.std.specs.Prelude.{Ok, slice_index_or}
 use Rattle.std.specs.List.{list_all, list_any, prefix_len}
 use Rattle.std.specs.Str.{encode_utf8_all, all_scalars, chars}
@@ -27,15 +27,15 @@ use Rattle.pysource.proofs.Callers.Faults.{utf8_before, NoLf, lines_at, valid_al
 use Rattle.pylex.specs.declared.kind.Kind.{Kind}
 use Rattle.pylex.specs.declared.kind.Kind.TheVariants as kinds
 use Rattle.pylex_lexeme.specs.Chars.{begins, starts_name, is_comment_part, is_blank_char}
-use Rattle.pylex_lexeme.specs.Numbers.{is_nil, is_decimal_digit, is_zero, is_one_to_nine}
+use Rattle.pylex_lexeme.specs.Numbers.{is_decimal_digit, is_number}
 use Rattle.pylex_lexeme.specs.Strings.{is_single_string}
 use Rattle.pylex_lexeme.specs.Lexemes.{is_name}
-use Rattle.pylex_lexeme.proofs.Callers.Booleans.{and_parts, or_parts}
+use Rattle.pylex_lexeme.proofs.Callers.Booleans.{and_parts}
 use Rattle.pylex_lexeme.proofs.Callers.Lexemes.{words, heads, by_words, start_continues}
-use Rattle.pylex_lexeme.proofs.Callers.Numbers.{zero_digit, one_digit, digit_bounds}
-use Rattle.pyunparse_text.specs.Spacing.{Piece, Line, is_token, is_whole, touches, text_behind, spaced, are_readable, line_text, lines_text}
+use Rattle.pyunparse_text.specs.Spacing.{Piece, Line, is_token, touches, text_behind, spaced, are_readable, line_text, lines_text}
 use Rattle.pyunparse_text.specs.Tokens.{is_written}
 use Rattle.pyunparse_text.proofs.LexemeFronts.Fronts.{run_ends}
+use Rattle.pyunparse_text.proofs.LexemeFronts.NumberParts.{number_in_line}
 use Rattle.pyunparse_text.proofs.LexemeFronts.PieceFronts.{token_no_blank, Off, no_token, none_empty, words_all, ArePieces}
 use Rattle.pyunparse_text.proofs.Sources.Bytes.{bytes_pass, first_byte, scalars_both}
 use Rattle.pyunparse_text.proofs.Cases.{cases, off}
@@ -46,9 +46,6 @@ part_in_line c e =
     let f : (c == 10) ≡ false = cases (c == 10) (λ h. let z : is_xid_continue 10 ≡ true = subst (λ (x : ℕ). is_xid_continue x ≡ true) (eqb-true c 10 h) e in let y = is_xid_continue-ascii 10 (omega arith) in cc) in
     let g : (c == 13) ≡ false = cases (c == 13) (λ h. let z : is_xid_continue 13 ≡ true = subst (λ (x : ℕ). is_xid_continue x ≡ true) (eqb-true c 13 h) e in let y = is_xid_continue-ascii 13 (omega arith) in cc) in
     rw (f, g) refl
-
-digit_in_line : (c : ℕ) → is_decimal_digit c ≡ true → is_comment_part c ≡ true
-digit_in_line c e = let b = digit_bounds c e in grind (arith, nat_tests)
 
 all_by : (p q : ℕ → Bool) → ((c : ℕ) → p c ≡ true → q c ≡ true) → (t : List ℕ) → list_all p t ≡ true → list_all q t ≡ true
 all_by p q f [] e = refl
@@ -61,21 +58,9 @@ name_in_line (c ∷ t) e =
     let h = and_parts (starts_name c) (list_all is_xid_continue t) e in
     rw (part_in_line c (start_continues c h.0), all_by is_xid_continue is_comment_part part_in_line t h.1) refl
 
-whole_in_line : (t : List ℕ) → is_whole t ≡ true → list_all is_comment_part t ≡ true
-whole_in_line [] e = refl
-whole_in_line (c ∷ t) e =
-    ⊎_elim
-    (λ (h : (is_zero c && is_nil t) ≡ true). let q = and_parts (is_zero c) (is_nil t) h in rw (digit_in_line c (zero_digit c q.0), nothing t q.1) refl)
-    (λ (h : (is_one_to_nine c && list_all is_decimal_digit t) ≡ true). let q = and_parts (is_one_to_nine c) (list_all is_decimal_digit t) h in rw (digit_in_line c (one_digit c q.0), all_by is_decimal_digit is_comment_part digit_in_line t q.1) refl)
-    (or_parts (is_zero c && is_nil t) (is_one_to_nine c && list_all is_decimal_digit t) e)
-  where
-    nothing : (t : List ℕ) → is_nil t ≡ true → list_all is_comment_part t ≡ true
-    nothing [] e = refl
-    nothing (d ∷ t) e = cc
-
 token_in_line : (k : Kind) (t : List ℕ) → is_token k t ≡ true → list_all is_comment_part t ≡ true
 token_in_line kinds.Name t e = name_in_line t e
-token_in_line kinds.Number t e = whole_in_line t e
+token_in_line kinds.Number t e = number_in_line t (and_parts (begins is_decimal_digit t) (is_number t) e).1
 token_in_line kinds.String t e = (and_parts (is_single_string t) (list_all is_comment_part t) e).1
 token_in_line kinds.Op t e = words_all (list_all is_comment_part) t words refl (sym (by_words t) ∙ e)
 token_in_line kinds.Encoding t e = cc

@@ -2,25 +2,25 @@ use Rattle.std.proofs.Common.{map, refl}
 use Rattle.std.specs.Prelude.{◌&&◌}
 use Rattle.pytree_node.specs.TreeOf.{handler_of, stmt_of}
 use Rattle.pytree_node.specs.Trees.{handlers, stmts}
-use Rattle.pytree_fits.specs.Names.{is_name}
+use Rattle.pytree_fits.specs.Tests.{tests_in}
 use Rattle.pytree_fits.specs.Statements.{caught_fits, statement_fits, statements_fit, suite_fits, handlers_fit}
 use Rattle.pytree_fits.proofs.Loops.{goes_on, stops}
 use Rattle.pytree_fits.proofs.statements.+statements.Goals as goal
 
 pub statements_fit-returns-then-not-branch : goal.statements_fit-returns-then-not-branch
-statements_fit-returns-then-not-branch t c = stops (λ ss. statements_fit c.args.profile is_name (stmts (map stmt_of ss))) (λ s. statement_fits c.args.profile is_name (stmt_of s)) refl (λ _ _. refl) _
+statements_fit-returns-then-not-branch t c = stops (λ ss. statements_fit c.args.profile (tests_in c.args.asked.extent) (stmts (map stmt_of ss))) (λ s. statement_fits c.args.profile (tests_in c.args.asked.extent) (stmt_of s)) refl (λ _ _. refl) _
     c.loop-s-test.true c.s-item.is c.in_ok-statement_fits.ensures c.if-not-branch.true
 
 pub statements_fit-loop-s-preserved : goal.statements_fit-loop-s-preserved
-statements_fit-loop-s-preserved t c = goes_on (λ ss. statements_fit c.args.profile is_name (stmts (map stmt_of ss))) (λ s. statement_fits c.args.profile is_name (stmt_of s)) refl (λ _ _. refl) _
+statements_fit-loop-s-preserved t c = goes_on (λ ss. statements_fit c.args.profile (tests_in c.args.asked.extent) (stmts (map stmt_of ss))) (λ s. statement_fits c.args.profile (tests_in c.args.asked.extent) (stmt_of s)) refl (λ _ _. refl) _
     c.loop-s-test.true c.s-item.is c.loop-s.invariant c.in_ok-statement_fits.ensures c.if-not-branch.false
 
 pub handlers_fit-returns-then-not-branch : goal.handlers_fit-returns-then-not-branch
-handlers_fit-returns-then-not-branch t c = stops (λ hs. handlers_fit c.args.profile is_name c.args.star (handlers (map handler_of hs)))
-    (λ h. caught_fits is_name c.args.star (handler_of h).class (handler_of h).name && suite_fits c.args.profile is_name (stmts (handler_of h).body)) refl (λ _ _. refl) _
+handlers_fit-returns-then-not-branch t c = stops (λ hs. handlers_fit c.args.profile (tests_in c.args.asked.extent) c.args.star (handlers (map handler_of hs)))
+    (λ h. caught_fits (tests_in c.args.asked.extent) c.args.star (handler_of h).class (handler_of h).name && suite_fits c.args.profile (tests_in c.args.asked.extent) (stmts (handler_of h).body)) refl (λ _ _. refl) _
     c.loop-h-test.true c.h-item.is c.in_ok-handler_fits.ensures c.if-not-branch.true
 
 pub handlers_fit-loop-h-preserved : goal.handlers_fit-loop-h-preserved
-handlers_fit-loop-h-preserved t c = goes_on (λ hs. handlers_fit c.args.profile is_name c.args.star (handlers (map handler_of hs)))
-    (λ h. caught_fits is_name c.args.star (handler_of h).class (handler_of h).name && suite_fits c.args.profile is_name (stmts (handler_of h).body)) refl (λ _ _. refl) _
+handlers_fit-loop-h-preserved t c = goes_on (λ hs. handlers_fit c.args.profile (tests_in c.args.asked.extent) c.args.star (handlers (map handler_of hs)))
+    (λ h. caught_fits (tests_in c.args.asked.extent) c.args.star (handler_of h).class (handler_of h).name && suite_fits c.args.profile (tests_in c.args.asked.extent) (stmts (handler_of h).body)) refl (λ _ _. refl) _
     c.loop-h-test.true c.h-item.is c.loop-h.invariant c.in_ok-handler_fits.ensures c.if-not-branch.false

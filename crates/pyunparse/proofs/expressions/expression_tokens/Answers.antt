@@ -17,10 +17,10 @@ pub returns-clause-fewest : goal.returns-clause-fewest
 returns-clause-fewest c ts = expressions_are_shortest c.args.level ts (tree_of c.args.expr.now)
 
 pub returns-clause-read : goal.returns-clause-read
-returns-clause-read c ts sound = expressions_are_read c.args.level ts (tree_of c.args.expr.now) sound
+returns-clause-read c extent ts sound = expressions_are_read extent c.args.level ts (tree_of c.args.expr.now) sound
 
 pub returns-in_err-write_expr-clause-fewest : goal.returns-in_err-write_expr-clause-fewest
 returns-in_err-write_expr-clause-fewest c ts = expressions_are_shortest c.args.level ts (tree_of c.args.expr.now)
 
 pub returns-in_err-write_expr-clause-read : goal.returns-in_err-write_expr-clause-read
-returns-in_err-write_expr-clause-read c ts sound = expressions_are_read c.args.level ts (tree_of c.args.expr.now) sound
+returns-in_err-write_expr-clause-read c extent ts sound = expressions_are_read extent c.args.level ts (tree_of c.args.expr.now) sound

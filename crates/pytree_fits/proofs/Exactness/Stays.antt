@@ -1,0 +1,146 @@
+-- Carries: the laws of the slots. On: what fits in an extent, or in a version, fits in more of the
+-- language.
+use Rattle.std.proofs.Common.{◌≡◌, refl, List, [], ◌∷◌, Bool, true, false}
+use Rattle.std.specs.Prelude.{◌&&◌, ◌||◌, ◌^◌}
+use Rattle.std.specs.List.{list_all}
+use Rattle.std.proofs.lemmas.Bool.{and_parts, and_from, lt-ltb}
+use Rattle.pynatural.specs.Readings.{most_digits}
+use Rattle.pytree_node.specs.declared.operators.Context.TheVariants.{Store}
+use Rattle.pytree_node.specs.declared.profiles.Extent.{Extent}
+use Rattle.pytree_node.specs.declared.profiles.Extent.TheVariants.{Plain, Whole}
+use Rattle.pytree_node.specs.declared.profiles.Version.TheVariants.{Py312}
+use Rattle.pytree_node.specs.declared.profiles.Profile.{Profile}
+use Rattle.pytree_node.specs.Profiles.{python, has_types}
+use Rattle.pytree_node.specs.Trees
+use Rattle.pytree_node.specs.Trees.{exprs, optional, Stmt, Stmts, no_stmt, a_stmt, stmts, Handlers, no_handler, a_handler, TypeParam}
+use Rattle.pytree_node.specs.Values
+use Rattle.pytree_node.specs.Values.{Value, Int, Float, Imaginary}
+use Rattle.pytoken.specs.Terminals.{Terminal, Op, Word, Ident, Number, Literal, Layout}
+use Rattle.pygrammar.specs.declared.levels.Level.TheVariants.{Stars, Expression, Elem}
+use Rattle.pygrammar.specs.Lines.{Line, no_types}
+use Rattle.pytree_fits.specs.Tests.{Tests, tests_in}
+use Rattle.pytree_fits.specs.Literals.{is_value}
+use Rattle.pytree_fits.specs.Slots.{fits_at, fits_target, each_fits, perhaps_fits, each_keyword_fits, fits_arguments}
+use Rattle.pytree_fits.specs.Statements.{has_one, item_fits, type_param_fits, types_fit, caught_fits, clauses_fit, statement_fits, statements_fit, suite_fits, handlers_fit}
+use Rattle.pytree_fits.specs.Given.{is_number, is_literal, passes, all_pass, Given, AreGiven, no_line, a_line}
+use Rattle.pytree_fits.specs.Laws.{ExpressionsStay, ModulesStay}
+use Rattle.pytree_fits.proofs.Fields.Tests.{never}
+use Rattle.pytree_fits.proofs.Exactness.Exactly.{fits_exactly}
+use Rattle.pytree_fits.proofs.Exactness.NumberTokens.{in_whole}
+use Rattle.pytree_fits.proofs.Exactness.Modules.{module_exactly, module_given}
+
+-- ---- From an extent to the whole language.
+
+value_stays : (extent : Extent) (v : Value) → is_value extent v ≡ true → is_value Whole v ≡ true
+value_stays extent (Int n) h = lt-ltb n (10 ^ most_digits) (in_whole extent n h)
+value_stays Plain (Float x) h = absurd (never h)
+value_stays Whole (Float x) h = h
+value_stays Plain (Imaginary x) h = absurd (never h)
+value_stays Whole (Imaginary x) h = h
+value_stays extent (Values.Str t u) h = h
+value_stays extent (Values.Bytes t) h = h
+value_stays extent Values.None h = h
+value_stays extent Values.Ellipsis h = h
+value_stays extent (Values.Bool b) h = h
+
+terminal_stays : (extent : Extent) (t : Terminal) → passes (tests_in extent) t ≡ true → passes (tests_in Whole) t ≡ true
+terminal_stays extent (Number v) h =
+    let w = and_parts (is_number v) (is_value extent v) h in
+    and_from (is_number v) (is_value Whole v) w.0 (value_stays extent v w.1)
+terminal_stays extent (Literal v) h =
+    let w = and_parts (is_literal v) (is_value extent v) h in
+    and_from (is_literal v) (is_value Whole v) w.0 (value_stays extent v w.1)
+terminal_stays extent (Ident x) h = h
+terminal_stays extent (Op e) h = h
+terminal_stays extent (Word w) h = h
+terminal_stays extent Layout h = h
+
+terminals_stay : (extent : Extent) (ts : List Terminal) → all_pass (tests_in extent) ts ≡ true → all_pass (tests_in Whole) ts ≡ true
+terminals_stay extent [] h = refl
+terminals_stay extent (t ∷ ts) h =
+    let w = and_parts (passes (tests_in extent) t) (all_pass (tests_in extent) ts) h in
+    and_from (passes (tests_in Whole) t) (all_pass (tests_in Whole) ts) (terminal_stays extent t w.0) (terminals_stay extent ts w.1)
+
+given_stays : {A : Type 0} {r : List Terminal → A → Type 0} {a : A} (extent : Extent) → Given (tests_in extent) r a → Given (tests_in Whole) r a
+given_stays extent w = (w.0, terminals_stay extent w.0 w.1, w.2)
+
+lines_stay : {profile : Profile} {xs : List Line} (extent : Extent) → AreGiven profile (tests_in extent) xs → AreGiven profile (tests_in Whole) xs
+lines_stay extent no_line = no_line
+lines_stay extent (a_line w r) = a_line (given_stays extent w) (lines_stay extent r)
+
+pub expressions_stay : ExpressionsStay
+expressions_stay extent l e h = (fits_exactly (tests_in Whole) l e).0 (given_stays extent ((fits_exactly (tests_in extent) l e).1 h))
+
+-- ---- From a version to one with more.
+
+on : (x : Bool) {y z : Bool} → (y ≡ true → z ≡ true) → (x && y) ≡ true → (x && z) ≡ true
+on true f h = f h
+on false f h = absurd (never h)
+
+both : {x y z w : Bool} → (x ≡ true → y ≡ true) → (z ≡ true → w ≡ true) → (x && z) ≡ true → (y && w) ≡ true
+both {x} {y} {z} {w} f g h = let p = and_parts x z h in and_from y w (f p.0) (g p.1)
+
+module _ (p q : Profile) (n : Tests) (more : has_types p ≡ true → has_types q ≡ true) where
+  types_stay : (ps : List TypeParam) → types_fit p n ps ≡ true → types_fit q n ps ≡ true
+  types_stay ps = both (by (no_types ps)) (λ (h : list_all (type_param_fits n) ps ≡ true). h)
+    where
+      by : (b : Bool) → (b || has_types p) ≡ true → (b || has_types q) ≡ true
+      by true h = refl
+      by false h = more h
+
+  mutual
+    statement_stays : (s : Stmt) → statement_fits p n s ≡ true → statement_fits q n s ≡ true
+    statement_stays (Trees.FunctionDef name args body ds r ps) h =
+        on (n.name name) (on (fits_arguments n true args) (on (each_fits n Expression (exprs ds)) (on (perhaps_fits n Expression (optional r)) (both (types_stay ps) (suite_stays body))))) h
+    statement_stays (Trees.AsyncFunctionDef name args body ds r ps) h =
+        on (n.name name) (on (fits_arguments n true args) (on (each_fits n Expression (exprs ds)) (on (perhaps_fits n Expression (optional r)) (both (types_stay ps) (suite_stays body))))) h
+    statement_stays (Trees.ClassDef name bases ks body ds ps) h =
+        on (n.name name) (on (each_fits n Elem (exprs bases)) (on (each_keyword_fits n ks) (on (each_fits n Expression (exprs ds)) (both (types_stay ps) (suite_stays body))))) h
+    statement_stays (Trees.TypeAlias name ps value) h =
+        let w = and_parts (has_types p) _ h in
+        and_from (has_types q) _ (more w.0) w.1
+    statement_stays (Trees.For t i body orelse) h = on (fits_target n Store t) (on (fits_at n Stars i) (both (suite_stays body) (statements_stay orelse))) h
+    statement_stays (Trees.AsyncFor t i body orelse) h = on (fits_target n Store t) (on (fits_at n Stars i) (both (suite_stays body) (statements_stay orelse))) h
+    statement_stays (Trees.While test body orelse) h = on (fits_at n Expression test) (both (suite_stays body) (statements_stay orelse)) h
+    statement_stays (Trees.If test body orelse) h = on (fits_at n Expression test) (both (suite_stays body) (statements_stay orelse)) h
+    statement_stays (Trees.With is body) h = on (has_one is) (on (list_all (item_fits n) is) (suite_stays body)) h
+    statement_stays (Trees.AsyncWith is body) h = on (has_one is) (on (list_all (item_fits n) is) (suite_stays body)) h
+    statement_stays (Trees.Try body hs orelse final) h =
+        on (clauses_fit false hs orelse final) (both (suite_stays body) (both (handlers_stay false hs) (both (statements_stay orelse) (statements_stay final)))) h
+    statement_stays (Trees.TryStar body hs orelse final) h =
+        on (clauses_fit true hs orelse final) (both (suite_stays body) (both (handlers_stay true hs) (both (statements_stay orelse) (statements_stay final)))) h
+    statement_stays (Trees.Return value) h = h
+    statement_stays (Trees.Delete ts) h = h
+    statement_stays (Trees.Assign ts value) h = h
+    statement_stays (Trees.AugAssign t op value) h = h
+    statement_stays (Trees.AnnAssign t annotation value simple) h = h
+    statement_stays (Trees.Raise exc cause) h = h
+    statement_stays (Trees.Assert test msg) h = h
+    statement_stays (Trees.Import names) h = h
+    statement_stays (Trees.ImportFrom source names level) h = h
+    statement_stays (Trees.Global names) h = h
+    statement_stays (Trees.Nonlocal names) h = h
+    statement_stays (Trees.ExprOf value) h = h
+    statement_stays Trees.Pass h = h
+    statement_stays Trees.Break h = h
+    statement_stays Trees.Continue h = h
+
+    statements_stay : (ss : Stmts) → statements_fit p n ss ≡ true → statements_fit q n ss ≡ true
+    statements_stay no_stmt h = refl
+    statements_stay (a_stmt s ss) h = both (statement_stays s) (statements_stay ss) h
+
+    suite_stays : (ss : Stmts) → suite_fits p n ss ≡ true → suite_fits q n ss ≡ true
+    suite_stays no_stmt h = h
+    suite_stays (a_stmt s ss) h = both (statement_stays s) (statements_stay ss) h
+
+    handlers_stay : (star : Bool) (hs : Handlers) → handlers_fit p n star hs ≡ true → handlers_fit q n star hs ≡ true
+    handlers_stay star no_handler h = refl
+    handlers_stay star (a_handler class name body hs) h = on (caught_fits n star class name) (both (suite_stays body) (handlers_stay star hs)) h
+
+-- ---- Modules.
+
+pub modules_stay : ModulesStay
+modules_stay profile m h =
+    let latest = python Py312 Whole in
+    let w = module_given latest profile.extent m (statements_stay profile latest (tests_in profile.extent) (λ t. refl) (stmts m.body) h) in
+    module_exactly latest Whole m (w.0, lines_stay profile.extent w.1, w.2)
