@@ -1,9 +1,9 @@
 use Rattle.std.proofs.Common.{rules, ◌≡◌, ◌+◌, ◌++◌, OnOk, arith, refl, ap, sym, subst, map, codes, ◌∙◌, true, false}
 use Rattle.std.specs.String.{string_bytes}
 use Rattle.pytree_node.specs.Trees.{optional}
-use Rattle.pytree_node.specs.TreeOf.{tree_of, option_of, comprehension_of, keyword_of, arg_of, arguments_of, item_of, type_param_of}
+use Rattle.pytree_node.specs.TreeOf.{tree_of, option_of, comprehension_of, keyword_of, arg_of, arguments_of, item_of, type_param_of, alias_of}
 use Rattle.pytree_dump_text.specs.Layout.{text, before, is_flat}
-use Rattle.pytree_dump_text.specs.Shows.{shown, shown_optional, shown_comprehension, shown_keyword, shown_arg, shown_arguments, shown_item, shown_type_param, word, comparison_name, showns, Row, no_field}
+use Rattle.pytree_dump_text.specs.Shows.{shown, shown_optional, shown_comprehension, shown_keyword, shown_arg, shown_arguments, shown_item, shown_type_param, word, comparison_name, showns, Row, no_field, shown_alias}
 use Rattle.pytree_dump_text.specs.Slots.{is_missing, slot_of, with_slot}
 use Rattle.pytree_dump.specs.Inner.Weights.{weight, field_weights}
 use Rattle.pytree_dump.proofs.JoinedLemmas.{attribute_text, call_text, empty_row, keywords_text}
@@ -141,6 +141,9 @@ lists::show_keywords-show_keyword-requires t c = let h : _ = member_weight (λ k
 
 pub lists::show_args-show_arg-requires : goal.lists::show_args-show_arg-requires
 lists::show_args-show_arg-requires t c = let h : _ = member_weight (λ a. shown_arg (arg_of a)) _ _ _ c.loop-a-test.true c.a-item.is in (omega (arith, h), tt)
+
+pub lists::show_aliases-show_alias-requires : goal.lists::show_aliases-show_alias-requires
+lists::show_aliases-show_alias-requires t c = let h : _ = member_weight (λ a. shown_alias (alias_of a)) _ _ _ c.loop-a-test.true c.a-item.is in (omega (arith, h), tt)
 
 pub lists::show_items-show_item-requires : goal.lists::show_items-show_item-requires
 lists::show_items-show_item-requires t c = let h : _ = member_weight (λ item. shown_item (item_of item)) _ _ _ c.loop-item-test.true c.item-item.is in (omega (arith, h), tt)
