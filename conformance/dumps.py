@@ -1,14 +1,14 @@
 #!/usr/bin/env python3
 """Compares `pyast dump` with `ast.parse` and `ast.dump` of Python 3.11, byte for byte.
 
-    conformance/dumps.py [FOLDER ..] [--quick] [--mutate N]
+    conformance/dumps.py [FOLDER ..] [--quick] [--mutate N] [--whole]
 
 Every .py file below the folders (by default that of Python's own library with its tests) is dumped in three styles: plain, with
 --indent 2 and with --bare. What pyast writes has to be what `ast.dump` gives, or both have to refuse the source. Where pyast refuses
 what Python accepts, or the other way round, the difference has to be of a class of docs/DECISIONS.md. The forms that pyast leaves
 out are such classes: there the fault has to be the first such form of the source, at its place; and the parts of the file without
 one are compared as sources of their own: its statements, and those within statements that have one. Any other difference is a
-failure, shown by the smallest input that has it.
+failure, shown by the smallest input that has it. With --whole it is `pyast dump --whole` that is compared, which leaves out no number.
 
 The exit status is 0 where every difference has a class, 1 where one has none, and 2 where nothing could be compared; with
 --or-skip it is 0 too where there is no Python 3.11.
@@ -91,6 +91,10 @@ SAMPLES = {
 }
 LEFT_OUT = {"Float": (FLOAT, "float literal"), "Complex": (COMPLEX, "complex literal"), "FString": (FSTRING, "f-string"),
             "IntegerTooLarge": (LARGE, "integer too large"), "NamedEscape": (NAMED, "named escape")}
+# Those that `--whole` lets in. No whole number of more than 4,300 digits is tried: Python refuses to write one.
+NUMBERS_LEFT_OUT = ("Float", "Complex", "IntegerTooLarge")
+# What calls the program with `--whole` behind all other words.
+WITH_WHOLE = ("sh", "-c", 'exec "$0" "$@" --whole')
 # What Python's parser says where it stops at a limit of its own, looks closer at a number than the tokens do, or takes the brackets
 # of `(b).c: d` for those of the whole target.
 LIMITS = ("too many nested parentheses", "too many levels of indentation", "parser stack overflow", "maximum recursion depth exceeded")
@@ -129,7 +133,7 @@ def own_fault(token):
     """What pyast leaves out in a token of a source that Python accepts, or None: a class and its text."""
     if token.type in (tokenize.NUMBER, tokenize.STRING):
         reason = reason_of(token.type, token.string)
-        if reason:
+        if reason in LEFT_OUT:
             return LEFT_OUT[reason]
     if token.type == tokenize.STRING and "b" in re.match(r"\w*", token.string)[0].lower() and "r" not in token.string[:2].lower():
         if any(OCTAL_IN_BYTES.match(unit) for unit in UNIT.findall(token.string.encode())):
@@ -451,11 +455,26 @@ def compare_all(options):
     """The results of all cases."""
     count, cases = all_cases(options)
     work = functools.partial(compare_case, options.program)
-    return results_of(work, count, cases, options.jobs, prepare)
+    return results_of(work, count, cases, options.jobs, functools.partial(prepare, options.whole))
 
 
-def prepare():
-    """What each process needs: no warnings of the sources, and room for high trees."""
+def read_language(parser):
+    """The command line of a comparison that may be of the whole language."""
+    parser.add_argument("--whole", action="store_true", help="compare what the program does with --whole")
+    options = read_options(parser)
+    options.plain = options.program
+    if options.whole:
+        options.program = WITH_WHOLE + options.program
+    prepare(options.whole)
+    return options
+
+
+def prepare(whole=False):
+    """What each process needs: no warnings of the sources, room for high trees, and what is left out."""
+    for reason in NUMBERS_LEFT_OUT if whole else ():
+        if reason in LEFT_OUT:
+            name, _ = LEFT_OUT.pop(reason)
+            SAMPLES[SAME] = SAMPLES.pop(name) + SAMPLES[SAME]
     warnings.simplefilter("ignore")
     sys.setrecursionlimit(20_000)
 
@@ -487,9 +506,7 @@ def compare(options):
 def main():
     """Finds what is needed, and compares."""
     go_on_with_python_311()
-    options = read_options(files_parser("Compares `pyast dump` with Python 3.11's ast.dump, byte for byte."))
-    prepare()
-    return compare(options)
+    return compare(read_language(files_parser("Compares `pyast dump` with Python 3.11's ast.dump, byte for byte.")))
 
 
 if __name__ == "__main__":

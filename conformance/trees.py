@@ -1,12 +1,13 @@
 """Trees of Python 3.11 made by chance, and for each a source that is surely its: every expression in it has brackets of its own.
 
 All classes of nodes and all their fields occur but those of what pyast leaves out: floats, complex numbers, f-strings, `match`. Where
-a maker is told so, there are the types of Python 3.12 too: the statement `type`, and parameters of types.
+a maker is told so, there are the types of Python 3.12 too: the statement `type`, and parameters of types; or all numbers.
 """
 
 import ast
 import collections
 import keyword
+import struct
 import unicodedata
 
 NAMES = ["a", "b", "c", "x", "y", "f", "self", "match", "case", "type", "_", "gr\u00f6\u00dfe", "\u4e2d",
@@ -36,14 +37,15 @@ class TypeAlias(ast.stmt):
 
 
 class Maker:
-    """Makes trees by chance, each the tree of some source, with types or without.
+    """Makes trees by chance, each the tree of some source, with types or without, with all numbers or with whole ones below 2^128.
 
     A depth is how many more nodes may be nested.
     """
 
-    def __init__(self, chance, types=False):
+    def __init__(self, chance, types=False, whole=False):
         self.chance = chance
         self.types = types
+        self.whole = whole
 
     def one_of(self, things):
         """One of some things."""
@@ -97,8 +99,16 @@ class Maker:
     def name(self, _):
         return ast.Name(self.word(), ast.Load())
 
+    def double(self):
+        """A double from 0 on, infinity too: one of some digits, or of any bits."""
+        if self.chance.randrange(2):
+            return float(f"{self.chance.randrange(10 ** self.chance.randint(1, 18))}e{self.chance.randint(-340, 310)}")
+        return struct.unpack("<d", struct.pack("<Q", self.chance.randint(0, 0x7ff << 52)))[0]
+
     def number(self):
-        """A whole number: a marked one, or any."""
+        """A whole number: a marked one, or any; or any other number, where all are wanted."""
+        if self.whole and self.chance.randrange(2):
+            return self.one_of((self.double(), complex(0, self.double()), self.chance.getrandbits(self.chance.randint(128, 14_000))))
         return self.one_of(NUMBERS) if self.chance.randrange(2) else self.chance.getrandbits(self.chance.choice((4, 64, 128)))
 
     def text(self):
@@ -371,6 +381,14 @@ def listed(nodes):
     return "".join(f"{bracketed(node)}, " for node in nodes)
 
 
+def literal(value):
+    """The literal of a constant's value."""
+    if value is ...:
+        return "..."
+    # A float that no literal is: one past the largest.
+    return ascii(value).replace("inf", "1e309") if isinstance(value, (float, complex)) else ascii(value)
+
+
 def bare(node):
     """An expression without brackets round it."""
     match node:
@@ -398,7 +416,7 @@ def bare(node):
         case ast.Call():
             return f"{bracketed(node.func)}({given(node.args, node.keywords)})"
         case ast.Constant():
-            return (node.kind or "") + ("..." if node.value is ... else ascii(node.value))
+            return (node.kind or "") + literal(node.value)
         case ast.Attribute():
             return f"{bracketed(node.value)}.{node.attr}"
         case ast.Subscript():
@@ -564,9 +582,9 @@ def source_of(statements):
     return "".join(f"{line}\n" for statement in statements for line in lines_of(statement)).encode()
 
 
-def random_source(chance):
+def random_source(chance, whole=False):
     """A source of a tree made by chance, which Python's parser is asked to confirm."""
-    tree = Maker(chance).module(chance.choice((1, 2, 2, 3, 3, 4)))
+    tree = Maker(chance, whole=whole).module(chance.choice((1, 2, 2, 3, 3, 4)))
     source = source_of(tree.body)
     if ast.dump(ast.parse(source)) != ast.dump(tree):
         raise ValueError(f"this isn't the source of its tree: {source.decode()}")

@@ -1,13 +1,14 @@
 #!/usr/bin/env python3
 """Compares the texts of `pyast unparse` with the sources that they are made of, by Python 3.11's `ast.parse` and by `pyast dump`.
 
-    conformance/unparse.py [FOLDER ..] [--quick] [--mutate N] [--random N]
+    conformance/unparse.py [FOLDER ..] [--quick] [--mutate N] [--random N] [--whole]
 
 Of every .py file below the folders (by default that of Python's own library with its tests) that `dump` accepts, and of the largest
 parts of the others that it accepts: Python has to give the text the tree of the source; `dump` has to write the same of both, byte for
 byte; the text's own text has to be the text; and it may have no more opening brackets than that of `ast.unparse`, where that is a text of
 the tree. A source that `dump` refuses has to be refused in the same words. Random sources are made of random trees, each expression in
-brackets of its own, so that they are surely those trees.
+brackets of its own, so that they are surely those trees. With --whole it is `pyast unparse --whole` that is compared, and the random
+trees have all numbers.
 
 Before that the worked examples: each has its text, to the byte, and that less any one pair of round brackets is refused or is another tree.
 
@@ -25,10 +26,10 @@ import sys
 import time
 import tokenize
 
-from common import (UNEXPLAINED, Outcome, chosen_files, files_parser, go_on_with_python_311, outcome_of, read_options, refuse,
-                    results_of, short_name, show_end, show_table, smallest)
+from common import (UNEXPLAINED, Outcome, chosen_files, files_parser, go_on_with_python_311, outcome_of, refuse, results_of,
+                    short_name, show_end, show_table, smallest)
 from dumps import (LIMIT, NAMES, NEWER, SAME, SAMPLES, as_escapes, class_of_acceptance, class_of_outcome, differing_parts, mutants,
-                   parts_of_case, prepare, python_dump, python_tree)
+                   parts_of_case, prepare, python_dump, python_tree, read_language)
 from rows import ROWS
 from trees import random_source
 
@@ -171,11 +172,11 @@ def compare_row(program, row):
 # --- the run ----------------------------------------------------------------------------------------------------------
 
 
-def random_sources(count, seed):
+def random_sources(count, seed, whole):
     """Sources of random trees, the same for the same seed."""
     for number in range(count):
         try:
-            source = random_source(random.Random(f"{seed}-{number}"))
+            source = random_source(random.Random(f"{seed}-{number}"), whole)
         except (ValueError, SyntaxError) as error:
             refuse(f"random tree {number} of seed {seed}: {error}")
         yield f"random tree {number} of seed {seed}", None, source
@@ -223,7 +224,7 @@ def all_cases(options):
     paths = chosen_files(options)
     print(f"{len(ROWS)} rows, {len(paths)} files, {options.mutate} mutants, {options.random} random trees", flush=True)
     groups = ([(short_name(path), path, None) for path in paths], mutants(options.mutate, options.seed, paths),
-              random_sources(options.random, options.seed))
+              random_sources(options.random, options.seed, options.whole))
     return len(paths) + options.mutate + options.random, (case for group in groups for case in group)
 
 
@@ -233,9 +234,10 @@ def compare(options):
     print(f"pyast: {' '.join(options.program)}\nast: Python {sys.version.split()[0]}")
     count, cases = all_cases(options)
     failures = list(misplaced_samples(options.program))
-    found = results_of(functools.partial(compare_row, options.program), len(ROWS), ROWS, options.jobs)
+    found = results_of(functools.partial(compare_row, options.plain), len(ROWS), ROWS, options.jobs)
     failures += sorted((one for row in found for one in row), key=lambda one: one.name)
-    results = results_of(functools.partial(compare_case, options.program), count, cases, options.jobs, prepare)
+    ready = functools.partial(prepare, options.whole)
+    results = results_of(functools.partial(compare_case, options.program), count, cases, options.jobs, ready)
     failures += sorted((one for one in results if one.found == UNEXPLAINED), key=lambda one: one.name)
     for number, failure in enumerate(failures):
         show_failure(options.program, failure, number < options.smallest)
@@ -251,9 +253,7 @@ def main():
     go_on_with_python_311()
     parser = files_parser("Compares the texts of `pyast unparse` with their sources, by Python 3.11's ast and by `pyast dump`.")
     parser.add_argument("--random", type=int, default=0, metavar="N", help="also N sources of random trees")
-    options = read_options(parser)
-    prepare()
-    return compare(options)
+    return compare(read_language(parser))
 
 
 if __name__ == "__main__":

@@ -9,6 +9,7 @@ use crate::input::{nanoseconds, source_of};
 use pylex::Kind;
 use pyparse::{ParseFault, Token, parse_expression, tokens_of};
 use pytree::{Level, Profile, Style, dump_expr};
+use pytree_node::Extent;
 use std::alloc::Global;
 use std::time::Instant;
 
@@ -106,7 +107,7 @@ fn time(rt: &HostRuntime, alloc: Global, lines: &Lines<'_>) -> Option<()> {
 /// Does with the lines of the source that the standard input is what a word says.
 pub(crate) fn expressions(rt: &HostRuntime, alloc: Global, what: &str) -> Option<()> {
     let source = source_of(rt, alloc)?;
-    let tokens = match tokens_of(alloc, &source) {
+    let tokens = match tokens_of(alloc, &source, Extent::Plain) {
         Ok(tokens) => tokens,
         Err(ParseFault::Refused(refusal)) => return println!(rt; "refused {refusal:?}").ok(),
         Err(_) => return None,

@@ -1,4 +1,5 @@
-//! What the numbers and strings of a source stand for, and how long it takes to read them.
+//! What the numbers and strings of a source stand for, and how long it takes to read them. The
+//! source is read in the plain language.
 //!
 //! By `measures values`, also with the word `values`, a line is written for each number and string:
 //! the row and the column, a word, and the value: `int` with the number in decimal, `text`, `u` or
@@ -11,6 +12,7 @@ use crate::input::{nanoseconds, source_of};
 use pylex::{Kind, Lister, Step};
 use pyparse::{Literal, LogicalLines, ParseFault, Token, number_value, string_value, tokens_of};
 use pysource::{Source, push_repr_bytes, push_repr_points};
+use pytree_node::{Constant, Extent};
 use std::alloc::Global;
 use std::time::Instant;
 
@@ -36,13 +38,26 @@ fn tell_string(rt: &HostRuntime, alloc: Global, token: &Token) -> Option<()> {
     .ok()
 }
 
+/// Writes what a number of the plain language stands for.
+fn tell_number(rt: &HostRuntime, alloc: Global, token: &Token) -> Option<()> {
+    let Ok(Constant::Int(value)) = number_value(alloc, Extent::Plain, token.text) else {
+        return None;
+    };
+    let mut shown = String::new(alloc);
+    value.push_decimal(&mut shown).ok()?;
+    println!(rt;
+        "{},{} int {}",
+        token.start.row,
+        token.start.column,
+        shown.as_str()
+    )
+    .ok()
+}
+
 /// Writes what a token stands for, where it is a number or a string.
 fn tell(rt: &HostRuntime, alloc: Global, token: &Token) -> Option<()> {
     match token.kind {
-        Kind::Number => {
-            let value = number_value(token.text).ok()?;
-            println!(rt; "{},{} int {value}", token.start.row, token.start.column).ok()
-        }
+        Kind::Number => tell_number(rt, alloc, token),
         Kind::String => tell_string(rt, alloc, token),
         _ => Some(()),
     }
@@ -59,7 +74,7 @@ fn tell_refusal(rt: &HostRuntime, fault: ParseFault) -> Option<()> {
 
 /// Writes what all tokens of a source stand for.
 fn tell_values(rt: &HostRuntime, alloc: Global, source: &Source) -> Option<()> {
-    match tokens_of(alloc, source) {
+    match tokens_of(alloc, source, Extent::Plain) {
         Ok(tokens) => {
             for token in &tokens {
                 tell(rt, alloc, token)?;
@@ -85,7 +100,7 @@ fn entry_count(alloc: Global, source: &Source) -> usize {
 
 /// How many terminals the logical lines of a source have.
 fn terminal_count(alloc: Global, source: &Source) -> Result<usize, ParseFault> {
-    let mut lines = LogicalLines::new(alloc, source)?;
+    let mut lines = LogicalLines::new(alloc, source, Extent::Plain)?;
     let mut count: usize = 0;
     for _ in 0..u64::MAX {
         if !lines.next()? {

@@ -33,6 +33,7 @@ use Rattle.pytoken.specs.Indentation.{Margin, margins, is_mixed}
 use Rattle.pytoken.specs.Refusals.{most_brackets, opens_too_many, entry_refusal, first_entry_refusal, bracket_refusal, first_too_deep, margin_refusal, first_mixed, refusal_of, refusal_at, refusal}
 use Rattle.pytoken.specs.Terminals.{fault_of}
 use Rattle.pytoken.specs.Tokens.{text_of}
+use Rattle.pytree_node.specs.declared.profiles.Extent.{Extent}
 use Rattle.pytree_node.specs.declared.profiles.Profile.{Profile}
 use Rattle.pytree_node.specs.Trees.{Module}
 use Rattle.pygrammar.specs.Refusals.{Accepted, Refused, in_tokens, by_tokens}
@@ -69,16 +70,16 @@ if_own : (b : Bool) (r : Option Refusal) → IsOwn r → IsOwn (cond b r None)
 if_own true r h = h
 if_own false r h = tt
 
-entry_own : (text : List ℕ) (e : Entry) → IsOwn (entry_refusal text e)
-entry_own text e = by_fault (fault_of e.kind (text_of text e))
+entry_own : (extent : Extent) (text : List ℕ) (e : Entry) → IsOwn (entry_refusal extent text e)
+entry_own extent text e = by_fault (fault_of extent e.kind (text_of text e))
   where
     by_fault : (o : Option TokenError) → IsOwn (elim o [ Some x ↦ Some (refusals.Token x e.start) | None ↦ None ])
     by_fault None = tt
     by_fault (Some x) = tt
 
-entries_own : (text : List ℕ) (es : List Entry) → IsOwn (first_entry_refusal text es)
-entries_own text [] = tt
-entries_own text (e ∷ es) = or_own (entry_refusal text e) (first_entry_refusal text es) (entry_own text e) (entries_own text es)
+entries_own : (extent : Extent) (text : List ℕ) (es : List Entry) → IsOwn (first_entry_refusal extent text es)
+entries_own extent text [] = tt
+entries_own extent text (e ∷ es) = or_own (entry_refusal extent text e) (first_entry_refusal extent text es) (entry_own extent text e) (entries_own extent text es)
 
 brackets_own : (most : ℕ) (before es : List Entry) → IsOwn (first_too_deep most before es)
 brackets_own most before [] = tt
@@ -89,21 +90,22 @@ margins_own : (earlier ms : List Margin) → IsOwn (first_mixed earlier ms)
 margins_own earlier [] = tt
 margins_own earlier (m ∷ ms) = or_own (margin_refusal earlier m) (first_mixed (m ∷ earlier) ms) (if_own (is_mixed earlier m) (Some (refusals.MixedTabs m.start)) tt) (margins_own (m ∷ earlier) ms)
 
-tokens_own : (most : ℕ) (text : List ℕ) (es : List Entry) → IsOwn (refusal_of most text es)
-tokens_own most text es =
-    or_own (first_entry_refusal text es) (option_or (first_too_deep most [] es) (first_mixed [] (margins text es))) (entries_own text es)
+tokens_own : (extent : Extent) (most : ℕ) (text : List ℕ) (es : List Entry) → IsOwn (refusal_of extent most text es)
+tokens_own extent most text es =
+    or_own (first_entry_refusal extent text es) (option_or (first_too_deep most [] es) (first_mixed [] (margins text es))) (entries_own extent text es)
     (or_own (first_too_deep most [] es) (first_mixed [] (margins text es)) (brackets_own most [] es) (margins_own [] (margins text es)))
 
 -- a refusal by the listing's fault is by the fault that the listing has
-listing_refusal : (s : Source) (f : ListingFault) → refusal s ≡ Some (refusals.Listing f) → listing_fault (listing s) ≡ Some f
+listing_refusal : (extent : Extent) (s : Source) (f : ListingFault) → refusal extent s ≡ Some (refusals.Listing f) → listing_fault (listing s) ≡ Some f
 unfolding refusal_at
-listing_refusal s f h = by_fault (listing_fault (listing s)) (refusal_of most_brackets s.text (entries_of (listing s))) (tokens_own most_brackets s.text (entries_of (listing s))) h
+listing_refusal extent s f h =
+    by_fault (listing_fault (listing s)) (refusal_of extent most_brackets s.text (entries_of (listing s))) (tokens_own extent most_brackets s.text (entries_of (listing s))) h
   where
     by_fault : (o : Option ListingFault) (r : Option Refusal) → IsOwn r → ◌≡◌ {A = Option Refusal} (elim o [ Some g ↦ Some (refusals.Listing g) | None ↦ r ]) (Some (refusals.Listing f)) → o ≡ Some f
     by_fault (Some g) r own e = cc
     by_fault None r own e = absurd (subst IsOwn e own)
 
-tokens_refused : (profile : Profile) (s : Source) (r : Refusal) → Refused profile s (in_tokens r) → refusal s ≡ Some r
+tokens_refused : (profile : Profile) (s : Source) (r : Refusal) → Refused profile s (in_tokens r) → refusal profile.extent s ≡ Some r
 tokens_refused profile s r (by_tokens h) = h
 
 -- what is not a line that could not be read whole is told at its place
@@ -125,7 +127,7 @@ told_in_source profile bytes f read h = by_code f.code read h
 
 refused_tokens : (profile : Profile) (bytes : List ℕ) (p : Parts) (r : Refusal) → source_of bytes ≡ Ok p → Refused profile (in_characters p) (in_tokens r) → Refuses profile bytes (of_refusal r)
 refused_tokens profile bytes p (refusals.Listing f) is h =
-    told_in_source profile bytes f (listing_is_read bytes p f is (listing_refusal (in_characters p) f (tokens_refused profile (in_characters p) (refusals.Listing f) h))) (refused is h)
+    told_in_source profile bytes f (listing_is_read bytes p f is (listing_refusal profile.extent (in_characters p) f (tokens_refused profile (in_characters p) (refusals.Listing f) h))) (refused is h)
 refused_tokens profile bytes p (refusals.Token error place) is h = refused is h
 refused_tokens profile bytes p (refusals.TooDeep place) is h = refused is h
 refused_tokens profile bytes p (refusals.MixedTabs place) is h = refused is h

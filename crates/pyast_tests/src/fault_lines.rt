@@ -5,6 +5,7 @@ use pyast_command::{Fault, FaultCode, RunFaultCode, SourceFaultCode, fault_text,
 use pyparse::{GrammarError, ParseFault, tokens_of};
 use pysource::{InputFault, Place, SOURCE_LIMIT, SourceFault, decode};
 use pytoken::TokenError;
+use pytree_node::Extent;
 use std::alloc::Global;
 use std::process::Abort;
 use std::test::Fail;
@@ -157,7 +158,7 @@ fn refuses(rt: &impl Abort, alloc: Global, text: &str, line: &str) -> Result<(),
         return Err(Fail::from("too long"));
     }
     let source = decode(alloc, bytes)?;
-    match tokens_of(alloc, &source) {
+    match tokens_of(alloc, &source, Extent::Plain) {
         Ok(_) => Err(Fail::from("tokens")),
         Err(fault) => tells(rt, alloc, Fault::from(fault), line, 1),
     }

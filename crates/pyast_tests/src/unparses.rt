@@ -10,7 +10,7 @@ use std::test::Fail;
 
 /// Asserts that words write for a source a text, given less its last line feed, and the same
 /// for that text itself.
-fn writes(
+pub(crate) fn writes(
     rt: &impl Abort,
     alloc: Global,
     words: &str,

@@ -13,9 +13,10 @@ use Rattle.pylex.specs.CursorTexts.{IsWellFormed}
 use Rattle.pylex.specs.Cursors.{CursorParts, cursor_text}
 use Rattle.pylex.specs.declared.cursor.CursorFault.{CursorFault}
 use Rattle.pylex.specs.declared.cursor.CursorFault.TheVariants as cursor_faults
-use Rattle.pytree_node.specs.declared.profiles.Extent.TheVariants.{Plain}
+use Rattle.pytree_node.specs.declared.profiles.Extent.{Extent}
+use Rattle.pytree_node.specs.declared.profiles.Extent.TheVariants.{Plain, Whole}
 use Rattle.pytree_node.specs.declared.profiles.Profile.{Profile}
-use Rattle.pytree_node.specs.Profiles.{has_types}
+use Rattle.pytree_node.specs.Profiles.{version_has_types}
 use Rattle.pyast_words.specs.declared.command.Command.{Command}
 use Rattle.pyast_words.specs.declared.command.Command.TheVariants as commands
 use Rattle.pyast_words.specs.declared.command.Dump.{Dump}
@@ -58,13 +59,15 @@ file_rule = new_rule (codes "FILE")
 abbrev pub tokens_shape : Shape
 tokens_shape = record (new_shape (codes "tokens")) { rules = exact_rule ∷ number_rule (codes "count") largest_count ∷ resume_rule ∷ file_rule ∷ [] }
 
--- `dump [--indent N] [--bare] [--py312] [FILE]`
+-- `dump [--indent N] [--bare] [--py312] [--whole] [FILE]`
 abbrev pub dump_shape : Shape
-dump_shape = record (new_shape (codes "dump")) { rules = number_rule (codes "indent") largest_indent ∷ flag_rule (codes "bare") ∷ flag_rule (codes "py312") ∷ file_rule ∷ [] }
+dump_shape = record (new_shape (codes "dump")) {
+  rules = number_rule (codes "indent") largest_indent ∷ flag_rule (codes "bare") ∷ flag_rule (codes "py312") ∷ flag_rule (codes "whole") ∷ file_rule ∷ [];
+}
 
--- `unparse [--py312] [FILE]`
+-- `unparse [--py312] [--whole] [FILE]`
 abbrev pub unparse_shape : Shape
-unparse_shape = record (new_shape (codes "unparse")) { rules = flag_rule (codes "py312") ∷ file_rule ∷ [] }
+unparse_shape = record (new_shape (codes "unparse")) { rules = flag_rule (codes "py312") ∷ flag_rule (codes "whole") ∷ file_rule ∷ [] }
 
 -- what the words after the program's name may be: a subcommand with its arguments, or `--version`
 abbrev pub grammar : App
@@ -93,10 +96,15 @@ pub record IsTokens (found : List Row) (asked : Tokens) : Type 0 where
   pub well_formed : IfSome asked.resume IsWellFormed
   pub file : option_map string_bytes asked.file ≡ first_of (codes "FILE") found
 
--- what was found is the profile that is asked for: the version, in the plain extent
+-- whether an extent is of the whole language
+abbrev pub is_whole : Extent → Bool
+is_whole Plain = false
+is_whole Whole = true
+
+-- what was found is the profile that is asked for: the version, and, free of it, the extent
 pub record IsProfile (found : List Row) (profile : Profile) : Type 0 where
-  pub newer : IsFlag (one_of (codes "py312") found) (has_types profile)
-  pub extent : profile.extent ≡ Plain
+  pub newer : IsFlag (one_of (codes "py312") found) (version_has_types profile.version)
+  pub whole : IsFlag (one_of (codes "whole") found) (is_whole profile.extent)
 
 -- what was found for the arguments of `dump` is what is asked: the blanks of a level, whether names are left out, the profile, the file
 pub record IsDump (found : List Row) (asked : Dump) : Type 0 where

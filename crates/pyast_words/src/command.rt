@@ -7,6 +7,7 @@ ghost use Rattle.clap.specs.Values.{kind_of};
 ghost use Rattle.clap.specs.Walk.{first_of, one_of, rows_of};
 ghost use Rattle.pylex.specs.CursorTexts.{IsWellFormed};
 ghost use Rattle.pylex.specs.Cursors.{cursor_text};
+ghost use Rattle.pytree_node.specs.Profiles.{version_has_types};
 ghost use Rattle.pyast_words.specs.declared.command.UsageFault.{UsageFault};
 ghost use Rattle.pyast_words.specs.Inner.Matching.{IsRule, IsForm, MissesNumber, MissesCursor};
 ghost use Rattle.pyast_words.specs.Inner.Matching.{MissesTokens, MissesDump, MissesCommand, Explains};
@@ -14,14 +15,14 @@ ghost use Rattle.pyast_words.specs.Words.{grammar, number_rule, flag_rule, exact
 ghost use Rattle.pyast_words.specs.Words.{file_rule, tokens_shape, dump_shape, unparse_shape};
 ghost use Rattle.pyast_words.specs.Words.{largest_indent, file_of, name_of, of_cursor};
 ghost use Rattle.pyast_words.specs.Words.{IsNumber, IsFlag, IsTokens, IsProfile, IsDump, IsUnparse};
-ghost use Rattle.pyast_words.specs.Words.{IsCommand};
+ghost use Rattle.pyast_words.specs.Words.{IsCommand, is_whole};
 ghost use Rattle.pyast_words.specs.Words.{Gives, Refuses, IsWithinLimits};
 
 use clap::error::ErrorKind;
 use clap::{Arg, ArgAction, ArgMatches, value_parser};
 use pylex::{Cursor, CursorFault};
 use pytree_dump::Style;
-use pytree_node::Profile;
+use pytree_node::{Extent, Profile, Version};
 use std::alloc::{AllocError, AllocFailed, Global};
 use thiserror::Error;
 
@@ -77,9 +78,9 @@ const VERSION: &str = "1.0.0";
 
 /// What `dump` and `unparse` refuse, after their help.
 const REFUSED: &str = "\
-Refused, though Python 3.11 accepts them: floats, complex numbers, f-strings, match statements,
-\\N{..} in strings, and integers of 2**128 or more.
-Limits: 600 open brackets, 500 nested expressions, 500 nested statements.";
+Refused, though Python 3.11 accepts them: f-strings, match statements, \\N{..} in strings, and,
+without --whole, floats, imaginary numbers, and integers of 2**128 or more.
+Limits: integers of 4,300 digits, 600 open brackets, 500 nested expressions or statements.";
 
 /// The largest count of entries that can be asked for.
 const LARGEST_COUNT: u32 = 1_000_000_000;
@@ -103,8 +104,8 @@ pub struct Tokens {
 /// How a source's tree is to be dumped.
 #[derive(Debug, Drop)]
 pub struct Dump {
-    /// The version of Python by which the source is read, and how its tree is laid out, with at
-    /// most 16 blanks a level.
+    /// The version of Python by which the source is read, its extent, and how its tree is laid out,
+    /// with at most 16 blanks a level.
     pub style: Style,
     /// The file of the source; the standard input if there is none.
     pub file: Option<String>,
@@ -186,6 +187,14 @@ fn newer_form<'a>(alloc: Global) -> Arg<'a>
     flag_form(alloc, "py312", newer)
 }
 
+/// The option `--whole`.
+fn whole_form<'a>(alloc: Global) -> Arg<'a>
+    ensures { IsRule (flag_rule (codes "whole")) result }
+{
+    let whole = "Read floats, imaginary numbers and integers of up to 4,300 digits too";
+    flag_form(alloc, "whole", whole)
+}
+
 /// The words of `tokens`.
 fn tokens_form<'a>(alloc: Global) -> Result<clap::Command<'a>, AllocError>
     ensures { IfOk result (IsForm tokens_shape) }
@@ -219,6 +228,7 @@ fn dump_form<'a>(alloc: Global) -> Result<clap::Command<'a>, AllocError>
         .arg(number_form(alloc, "indent", LARGEST_INDENT, lines))?
         .arg(flag_form(alloc, "bare", bare))?
         .arg(newer_form(alloc))?
+        .arg(whole_form(alloc))?
         .arg(file_form(alloc))
 }
 
@@ -232,6 +242,7 @@ fn unparse_form<'a>(alloc: Global) -> Result<clap::Command<'a>, AllocError>
         "Write the tree of a source as source text",
     )
     .arg(newer_form(alloc))?
+    .arg(whole_form(alloc))?
     .arg(file_form(alloc))
 }
 
@@ -347,14 +358,36 @@ fn indent_of(matches: &ArgMatches<'_>) -> Result<Option<u8>, UsageFault>
     }
 }
 
-/// The version of Python that is asked for, in the plain extent.
+/// The version of Python that is asked for.
+fn version_of(matches: &ArgMatches<'_>) -> Version
+    ensures { IsFlag (one_of (codes "py312") (rows_of (found_of matches.now)))
+        (version_has_types result) }
+{
+    if matches.get_flag("py312") {
+        Version::Py312
+    } else {
+        Version::Py311
+    }
+}
+
+/// The extent of the language that is asked for.
+fn extent_of(matches: &ArgMatches<'_>) -> Extent
+    ensures { IsFlag (one_of (codes "whole") (rows_of (found_of matches.now))) (is_whole result) }
+{
+    if matches.get_flag("whole") {
+        Extent::Whole
+    } else {
+        Extent::Plain
+    }
+}
+
+/// The version and the extent that are asked for, each by an option of its own.
 fn profile_of(matches: &ArgMatches<'_>) -> Profile
     ensures { IsProfile (rows_of (found_of matches.now)) result }
 {
-    if matches.get_flag("py312") {
-        Profile::PLAIN_312
-    } else {
-        Profile::PLAIN_311
+    Profile {
+        version: version_of(matches),
+        extent: extent_of(matches),
     }
 }
 
@@ -403,9 +436,9 @@ impl Command {
     /// The command that the words give, without the program's name.
     ///
     /// They are `tokens [-e] [--count N] [--resume CURSOR] [FILE]`, `dump [--indent N] [--bare]
-    /// [--py312] [FILE]` or `unparse [--py312] [FILE]`, with the options in any order. All others
-    /// are bad arguments, but for those that ask for help, `help`, `-h` and `--help`, or for the
-    /// program's version, `-V` and `--version`.
+    /// [--py312] [--whole] [FILE]` or `unparse [--py312] [--whole] [FILE]`, with the options in any
+    /// order. All others are bad arguments, but for those that ask for help, `help`, `-h` and
+    /// `--help`, or for the program's version, `-V` and `--version`.
     ///
     /// # Errors
     ///

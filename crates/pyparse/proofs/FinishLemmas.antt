@@ -7,6 +7,7 @@ use Rattle.std.proofs.lemmas.List.{length-map}
 use Rattle.pysource.specs.declared.places.Place.{Place}
 use Rattle.pysource.specs.Parts.{Parts}
 use Rattle.pylex.specs.Listing.{Source, in_characters}
+use Rattle.pytree_node.specs.declared.profiles.Extent.{Extent}
 use Rattle.pytree_node.specs.declared.profiles.Profile.{Profile}
 use Rattle.pytree_node.specs.Trees.{Stmt, Module}
 use Rattle.pytree_height.specs.Heights.{statement_height}
@@ -48,13 +49,13 @@ unread_high {profile} x high = elim (lines_are_lawful.decided profile (terminals
 
 -- ---- The end.
 
-all_lines : {s : Source} {k : ℕ} {end : Place} → Closes s k end → first_lines s k ≡ lines s
-all_lines {s} {k} closes = let all = closes.all in take_all k (lines s) (omega (arith, all))
+all_lines : {profile : Profile} {s : Source} {k : ℕ} {end : Place} → Closes profile s k end → first_lines s k ≡ lines s
+all_lines {profile} {s} {k} closes = let all = closes.all in take_all k (lines s) (omega (arith, all))
 
-starts_at_end : {s : Source} {k : ℕ} {end : Place} → Closes s k end → StartsAt s k end
-starts_at_end {s} {k} closes = subst (StartsAt s k) closes.ends.start (at_end closes.ends.before closes.ends.last (sym closes.all) closes.ends.tokens)
+starts_at_end : {profile : Profile} {s : Source} {k : ℕ} {end : Place} → Closes profile s k end → StartsAt s k end
+starts_at_end {profile} {s} {k} closes = subst (StartsAt s k) closes.ends.start (at_end closes.ends.before closes.ends.last (sym closes.all) closes.ends.tokens)
 
-module _ {profile : Profile} {s : Source} {k : ℕ} {end : Place} (closes : Closes s k end) where
+module _ {profile : Profile} {s : Source} {k : ℕ} {end : Place} (closes : Closes profile s k end) where
   formed_to_end : {forms : List Line} → Formed profile (first_lines s k) forms → Formed profile (lines s) forms
   formed_to_end {forms} formed = subst (λ (xs : List Tokens.Line). Formed profile xs forms) (all_lines closes) formed
 
@@ -120,19 +121,20 @@ module _ {profile : Profile} {s : Source} {k : ℕ} {end : Place} (closes : Clos
 -- ---- The whole source.
 
 -- a reason why a source has no tokens comes first
-pub told : (profile : Profile) (s : Source) (fault : ParseFault) → Tells (refusal s) fault → Refuses profile s fault
+pub told : (profile : Profile) (s : Source) (fault : ParseFault) → Tells (refusal profile.extent s) fault → Refuses profile s fault
 told profile s (faults.Refused r) is = by_tokens is
 told profile s (faults.Grammar e p) is = absurd is
 told profile s faults.Memory is = tt
 
 -- and so does an answer that passes it on
-pub told_on : {A : Type 0} (profile : Profile) (s : Source) (answer : Result A ParseFault) (fault : ParseFault) → Tells (refusal s) fault →
+pub told_on : {A : Type 0} (profile : Profile) (s : Source) (answer : Result A ParseFault) (fault : ParseFault) → Tells (refusal profile.extent s) fault →
     (x : ParseFault) × (answer ≡ Err x) × (x ≡ fault) → IfErr answer (Refuses profile s)
 told_on {A} profile s answer fault tells passed =
     subst (λ (r : Result A ParseFault). IfErr r (Refuses profile s)) (sym passed.1) (subst (Refuses profile s) (sym passed.2) (told profile s fault tells))
 
 -- no line comes more
-pub closes_at : (s : Source) (given : ℕ) (p : Parts) (marker end : Place) → in_characters p ≡ s → given ≡ length (lines (in_characters p)) → refusal (in_characters p) ≡ None →
-    EndsAt (in_characters p) marker → end ≡ marker → Closes s given end
-closes_at s given p marker end same all clear ends is =
-    subst (λ (s : Source). Closes s given end) same (record { all = all; clear = clear; ends = subst (EndsAt (in_characters p)) (sym is) ends })
+pub closes_at : (profile : Profile) (s : Source) (extent : Extent) (given : ℕ) (p : Parts) (marker end : Place) → extent ≡ profile.extent → in_characters p ≡ s →
+    given ≡ length (lines (in_characters p)) → refusal extent (in_characters p) ≡ None → EndsAt (in_characters p) marker → end ≡ marker → Closes profile s given end
+closes_at profile s extent given p marker end read same all clear ends is =
+    let unrefused : refusal profile.extent (in_characters p) ≡ None = subst (λ (x : Extent). refusal x (in_characters p) ≡ None) read clear in
+    subst (λ (s : Source). Closes profile s given end) same (record { all = all; clear = unrefused; ends = subst (EndsAt (in_characters p)) (sym is) ends })

@@ -17,17 +17,17 @@ use pyparse_nodes::Stop;
 use pyparse_tokens::{GrammarError, ParseFault, Token};
 use pysource::Place;
 use pytoken::{Refusal, Terminal, TerminalFault, terminal_of};
-use pytree_node::Expr;
+use pytree_node::{Expr, Extent};
 use std::alloc::{AllocError, Global};
 
-/// What a token is to the grammar.
+/// What a token is to the grammar in the whole language.
 fn terminal_at<'a>(alloc: Global, token: Token<'a>) -> Result<Terminal<'a>, ParseFault>
     ensures terminal { IfOk result
         (λ made. map terminal (made ∷ []) ≡ terminals (token.entry ∷ [])) }
     ensures sound { OnOk result (token_refusal token.entry ≡ None) }
     ensures refused { IfErr result (Tells (token_refusal token.entry)) }
 {
-    match terminal_of(alloc, token.kind, token.text) {
+    match terminal_of(alloc, Extent::Whole, token.kind, token.text) {
         Ok(terminal) => Ok(terminal),
         Err(TerminalFault::Token(error)) => {
             Err(ParseFault::Refused(Refusal::Token(error, token.start)))
@@ -44,7 +44,7 @@ fn put<'a>(made: &mut Vec<Terminal<'a>>, terminal: Terminal<'a>) -> Result<(), A
     Ok(())
 }
 
-/// What tokens are to the grammar.
+/// What tokens are to the grammar in the whole language.
 fn terminals_of<'a>(alloc: Global, tokens: &[Token<'a>]) -> Result<Vec<Terminal<'a>>, ParseFault>
     ensures terminals { IfOk result (λ made. map terminal made.items ≡ terminals tokens.now) }
     ensures sound { OnOk result (first_refusal tokens.now ≡ None) }
@@ -73,10 +73,10 @@ fn first_place(tokens: &[Token<'_>]) -> Place
 ///
 /// # Errors
 ///
-/// [`ParseFault::Refused`] by the first token that is faulty by itself; those of
-/// [`tokens_of`](crate::tokens_of) never are. [`ParseFault::Grammar`] where they are no expression
-/// of the level, or only a higher one; of more than 500 tokens that are none at all either may be
-/// reported. It stands at the first token, and at 1,0 where there is none.
+/// [`ParseFault::Refused`] by the first token that is faulty by itself in the whole language; those
+/// of [`tokens_of`](crate::tokens_of) never are, in either extent. [`ParseFault::Grammar`] where
+/// they are no expression of the level, or only a higher one; of more than 500 tokens that are none
+/// at all either may be reported. It stands at the first token, and at 1,0 where there is none.
 #[tactic(auto, using(pygrammar::proofs::Callers::Law::grammar_is_lawful))]
 pub fn parse_expression(
     alloc: Global,

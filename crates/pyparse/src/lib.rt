@@ -1,7 +1,8 @@
 //! The reader of Python source: its tree, an expression of tokens, and the tokens themselves.
 //!
-//! [`parse`] gives the tree of a source, or the first reason why it has none ([`ParseFault`]).
-//! [`parse_expression`] gives the expression that some tokens are.
+//! [`parse`] gives the tree of a source in a version of Python and an extent of the language, or
+//! the first reason why it has none ([`ParseFault`]). [`parse_expression`] gives the expression
+//! that some tokens are.
 //!
 //! [`tokens_of`] gives the tokens of a source in one pass over its listing. [`LogicalLines`] gives
 //! its lines one after another, the tokens of each as terminals in one buffer. These are of
@@ -23,6 +24,6 @@ pub use expressions::parse_expression;
 pub use modules::parse;
 pub use pyparse_tokens::{GrammarError, LogicalLines, ParseFault, Token, tokens_of};
 pub use pytoken::{
-    Literal, LiteralText, Terminal, TerminalFault, identifier_value, name_fault, name_value,
-    number_value, string_fault, string_value, terminal_of, token_fault,
+    Literal, LiteralText, NumberText, Terminal, TerminalFault, identifier_value, name_fault,
+    name_value, number_value, string_fault, string_value, terminal_of, token_fault,
 };

@@ -15,8 +15,8 @@ use pysource::Source;
 use pytree_node::{Module, Profile};
 use std::alloc::Global;
 
-/// The tree of a source, in a version of Python. At most 500 expressions are nested, and
-/// at most 500 statements.
+/// The tree of a source, in a version of Python and an extent of the language. At most 500
+/// expressions are nested, and at most 500 statements.
 ///
 /// It is one pass: what is held of the source are the tokens of one line, the statements so far,
 /// and the levels that are open.
@@ -38,7 +38,7 @@ pub fn parse(alloc: Global, source: &Source, profile: Profile) -> Result<Module,
     ensures trees { BlocksAreLawful }
     ensures answers { AnswersAreLawful }
 {
-    let mut lines = LogicalLines::new(alloc, source)?;
+    let mut lines = LogicalLines::new(alloc, source, profile.extent)?;
     let mut progress = Progress::new(alloc);
     while lines.next()? {
         progress = progress.take(alloc, &lines, profile)?;

@@ -140,10 +140,11 @@ fn sink(
 /// The module of sound lines, after the last one.
 fn finish_sound(alloc: Global, blocks: Blocks, end: Place) -> Result<Module, ParseFault>
     ensures accepted { (profile : Profile) (s : Source) (k : ℕ) (outline : Outline)
-        → IsSound profile s k outline blocks → Closes s k end
+        → IsSound profile s k outline blocks → Closes profile s k end
         → IfOk result (λ m. Accepted profile s (module_of m)) }
     ensures refused { (profile : Profile) (s : Source) (k : ℕ) (outline : Outline)
-        → IsSound profile s k outline blocks → Closes s k end → IfErr result (Refuses profile s) }
+        → IsSound profile s k outline blocks → Closes profile s k end
+        → IfErr result (Refuses profile s) }
 {
     match blocks.finish(alloc) {
         Ok(body) => Ok(Module { body }),
@@ -154,7 +155,7 @@ fn finish_sound(alloc: Global, blocks: Blocks, end: Place) -> Result<Module, Par
 /// The refusal of lines with a statement that stands too deep, after the last one.
 fn finish_deep(outline: &Outline, deep: Place, end: Place) -> ParseFault
     ensures { (profile : Profile) (s : Source) (k : ℕ) → IsDeepAt profile s k outline.now deep
-        → Closes s k end → Refuses profile s result }
+        → Closes profile s k end → Refuses profile s result }
 {
     match outline.finish() {
         Ok(()) => ParseFault::Grammar(GrammarError::TooDeep, deep),
@@ -282,9 +283,9 @@ impl Progress {
     /// The module, or the first refusal, after the last line: where the source ends.
     pub(crate) fn finish(self, alloc: Global, end: Place) -> Result<Module, ParseFault>
         ensures accepted { (profile : Profile) (s : Source) (k : ℕ) → IsKnown profile s k self
-            → Closes s k end → IfOk result (λ m. Accepted profile s (module_of m)) }
+            → Closes profile s k end → IfOk result (λ m. Accepted profile s (module_of m)) }
         ensures refused { (profile : Profile) (s : Source) (k : ℕ) → IsKnown profile s k self
-            → Closes s k end → IfErr result (Refuses profile s) }
+            → Closes profile s k end → IfErr result (Refuses profile s) }
     {
         match self {
             Progress::Sound { outline: _, blocks } => finish_sound(alloc, blocks, end),

@@ -37,8 +37,8 @@ pub use looks::{
 };
 pub use makers::{
     identifier_of, make_attribute, make_await, make_binary, make_chain, make_compare,
-    make_constant, make_if, make_name, make_named, make_number, make_starred, make_subscript, make_unary,
-    make_whole, make_yield_from, starred,
+    make_constant, make_if, make_name, make_named, make_number, make_starred, make_subscript,
+    make_unary, make_whole, make_yield_from, starred,
 };
 pub use operators::{Infix, Prefix, comparison_at, infix_at, prefix_at};
 pub use parameters::{Formal, Parameter, Stage, add_parameter, arranged, no_formal};

@@ -11,6 +11,7 @@ ghost use Rattle.pytree_node.specs.Trees.{comprehensions, exprs, optional, optio
 ghost use Rattle.pytree_node.specs.Values as values;
 ghost use Rattle.pytree_height.specs.Heights as Heights;
 ghost use Rattle.pytoken.specs.NumberValues.{number_value};
+ghost use Rattle.pytoken.specs.TerminalOf.{number_bytes};
 ghost use Rattle.pyparse_nodes.specs.Answers.{Makes, Made};
 
 use crate::found::Read;
@@ -63,7 +64,7 @@ pub fn make_whole(alloc: Global, value: u64, next: usize) -> Result<Read, Stop>
 /// What a NUMBER stands for.
 pub fn make_number(alloc: Global, number: NumberText, next: usize) -> Result<Read, Stop>
     ensures { MatchResult result
-        (λ r. Made 1 (plain.Constant (number_value number.text.now)) next r)
+        (λ r. Made 1 (plain.Constant (number_value (number_bytes number.entry))) next r)
         (λ s. s ≡ Stop.Memory) }
 {
     let value = number.value(alloc)?;

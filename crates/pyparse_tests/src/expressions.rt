@@ -6,7 +6,7 @@ use pygrammar::Level;
 use pyparse::{GrammarError, ParseFault, Token, parse_expression, tokens_of};
 use pysource::Place;
 use pytree_dump::{Style, dump_expr};
-use pytree_node::Profile;
+use pytree_node::{Extent, Profile};
 use std::alloc::Global;
 use std::process::Abort;
 use std::test::Fail;
@@ -38,7 +38,7 @@ fn read(
     level: Level,
 ) -> Result<Result<String, (GrammarError, Place)>, Fail> {
     let source = source_of(alloc, text)?;
-    let Ok(mut tokens) = tokens_of(alloc, &source) else {
+    let Ok(mut tokens) = tokens_of(alloc, &source, Extent::Whole) else {
         return Err(Fail::from("no tokens"));
     };
     tokens.pop();
@@ -174,6 +174,15 @@ fn literals(rt: HostRuntime) -> Result<(), Fail> {
             "Tuple([Constant(None), Constant(True), Constant(False)], Load())",
         ),
         ("0x_ff", "Constant(255)"),
+        ("1.", "Constant(1.0)"),
+        ("2.50J", "Constant(2.5j)"),
+        ("-1.5", "UnaryOp(USub(), Constant(1.5))"),
+        ("1 + 2j", "BinOp(Constant(1), Add(), Constant(2j))"),
+        ("1..real", "Attribute(Constant(1.0), 'real', Load())"),
+        (
+            "0x100000000000000000000000000000000",
+            "Constant(340282366920938463463374607431768211456)",
+        ),
     ] {
         reads(&rt, rt.alloc(), text, dump)?;
     }

@@ -3,9 +3,10 @@
 use crate::refusals::bracketed;
 use crate::sources::source_of;
 use pylex::{Exact, ListingError, ListingFault};
-use pyparse::{LiteralText, LogicalLines, ParseFault, Terminal};
+use pyparse::{LiteralText, LogicalLines, NumberText, ParseFault, Terminal};
 use pysource::Place;
 use pytoken::{Keyword, Refusal, TokenError};
+use pytree_node::Extent;
 use std::alloc::Global;
 use std::process::Abort;
 use std::test::Fail;
@@ -36,7 +37,7 @@ fn gives(
     rows: &[(usize, (usize, usize), &[Terminal])],
 ) -> Result<(), Fail> {
     let source = source_of(alloc, text)?;
-    let mut lines = LogicalLines::new(alloc, &source)?;
+    let mut lines = LogicalLines::new(alloc, &source, Extent::Plain)?;
     for row in rows {
         holds(rt, &mut lines, text, row);
     }
@@ -138,7 +139,7 @@ fn refuses(
     refusal: Refusal,
 ) -> Result<(), Fail> {
     let source = source_of(alloc, text)?;
-    let mut lines = LogicalLines::new(alloc, &source)?;
+    let mut lines = LogicalLines::new(alloc, &source, Extent::Plain)?;
     for _line in 0..given {
         assert_eq!(rt; lines.next(), Ok(true), "at {text:?}");
     }
@@ -189,13 +190,42 @@ fn the_first_reason_behind_lines(rt: HostRuntime) -> Result<(), Fail> {
     Ok(())
 }
 
+/// In the whole language a line has numbers that are refused in the plain one.
+#[test]
+fn lines_of_the_whole_language(rt: HostRuntime) -> Result<(), Fail> {
+    let alloc = rt.alloc();
+    let source = source_of(alloc, "x\ny + 1.5 - 2j\n")?;
+    let mut lines = LogicalLines::new(alloc, &source, Extent::Whole)?;
+    assert_eq!(rt; lines.next(), Ok(true));
+    let float = NumberText::new(alloc, Extent::Whole, "1.5")?;
+    let imaginary = NumberText::new(alloc, Extent::Whole, "2j")?;
+    holds(
+        &rt,
+        &mut lines,
+        "numbers",
+        &(
+            0,
+            (2, 0),
+            &[
+                Terminal::Ident("y"),
+                Terminal::Op(Exact::Plus),
+                Terminal::Number(float),
+                Terminal::Op(Exact::Minus),
+                Terminal::Number(imaginary),
+            ],
+        ),
+    );
+    assert_eq!(rt; lines.next(), Ok(false));
+    Ok(())
+}
+
 /// A line has at most 600 brackets nested.
 #[test]
 fn brackets(rt: HostRuntime) -> Result<(), Fail> {
     let alloc = rt.alloc();
     let text = bracketed(alloc, 600, "x")?;
     let source = source_of(alloc, text.as_str())?;
-    let mut lines = LogicalLines::new(alloc, &source)?;
+    let mut lines = LogicalLines::new(alloc, &source, Extent::Plain)?;
     assert_eq!(rt; lines.next(), Ok(true));
     assert_eq!(rt; lines.terminals().len(), 1201);
     assert_eq!(rt; lines.next(), Ok(false));
@@ -212,8 +242,8 @@ fn two_sources_at_once(rt: HostRuntime) -> Result<(), Fail> {
     let alloc = rt.alloc();
     let one = source_of(alloc, "a\nb c\n")?;
     let other = source_of(alloc, "if x:\n  d\n")?;
-    let mut ones = LogicalLines::new(alloc, &one)?;
-    let mut others = LogicalLines::new(alloc, &other)?;
+    let mut ones = LogicalLines::new(alloc, &one, Extent::Plain)?;
+    let mut others = LogicalLines::new(alloc, &other, Extent::Whole)?;
     holds(&rt, &mut ones, "one", &(0, (1, 0), &[Terminal::Ident("a")]));
     assert_eq!(rt; others.next(), Ok(true));
     holds(

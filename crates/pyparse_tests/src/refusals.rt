@@ -5,18 +5,24 @@ use pylex::{ListingError, ListingFault};
 use pyparse::{ParseFault, tokens_of};
 use pysource::Place;
 use pytoken::{Refusal, TokenError};
+use pytree_node::Extent;
 use std::alloc::Global;
 use std::test::Fail;
 
-/// Why a source has no tokens, or that it has some.
-fn refusal_of(alloc: Global, text: &str) -> Result<Option<Refusal>, Fail> {
+/// Why a source has no tokens in an extent of the language, or that it has some.
+fn refusal_in(alloc: Global, extent: Extent, text: &str) -> Result<Option<Refusal>, Fail> {
     let source = source_of(alloc, text)?;
-    match tokens_of(alloc, &source) {
+    match tokens_of(alloc, &source, extent) {
         Ok(_) => Ok(None),
         Err(ParseFault::Refused(refusal)) => Ok(Some(refusal)),
         Err(ParseFault::Grammar(_, _)) => Err(Fail::from("no fault of tokens")),
         Err(ParseFault::Memory) => Err(Fail::from("no memory")),
     }
+}
+
+/// The same in the plain language.
+fn refusal_of(alloc: Global, text: &str) -> Result<Option<Refusal>, Fail> {
+    refusal_in(alloc, Extent::Plain, text)
 }
 
 #[test]
@@ -53,6 +59,40 @@ fn tokens_with_a_fault_of_their_own(rt: HostRuntime) -> Result<(), Fail> {
         assert_eq!(rt;
             refusal_of(rt.alloc(), text)?,
             Some(expected),
+            "at {text:?}"
+        );
+    }
+    Ok(())
+}
+
+/// Floats, imaginary numbers and whole numbers from 2^128 on have no fault in the whole language.
+#[test]
+fn tokens_of_the_whole_language(rt: HostRuntime) -> Result<(), Fail> {
+    for text in &[
+        "x = 1.5\n",
+        "a + 1j\n",
+        "x = 340282366920938463463374607431768211456\n",
+        "match 1.5:\n",
+    ] {
+        assert_eq!(rt;
+            refusal_in(rt.alloc(), Extent::Whole, text)?,
+            None,
+            "at {text:?}"
+        );
+    }
+    for (text, fault, column) in &[
+        ("f'' + 1j\n", TokenError::FString, 0),
+        ("1j + f''\n", TokenError::FString, 5),
+        ("1.5 '\\N{DASH}'\n", TokenError::NamedEscape, 4),
+        ("1.5 # \0\n", TokenError::Nul, 4),
+    ] {
+        let place = Place {
+            row: 1,
+            column: *column,
+        };
+        assert_eq!(rt;
+            refusal_in(rt.alloc(), Extent::Whole, text)?,
+            Some(Refusal::Token(*fault, place)),
             "at {text:?}"
         );
     }

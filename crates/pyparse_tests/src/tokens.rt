@@ -3,6 +3,7 @@
 use crate::sources::source_of;
 use pylex::Kind;
 use pyparse::{Token, tokens_of};
+use pytree_node::Extent;
 use std::alloc::Global;
 use std::process::Abort;
 use std::test::Fail;
@@ -22,7 +23,7 @@ fn gives(
     rows: &[(Kind, (usize, usize), &str)],
 ) -> Result<(), Fail> {
     let source = source_of(alloc, text)?;
-    let Ok(tokens) = tokens_of(alloc, &source) else {
+    let Ok(tokens) = tokens_of(alloc, &source, Extent::Plain) else {
         return Err(Fail::from("no tokens"));
     };
     assert_eq!(rt; tokens.len(), rows.len(), "at {text:?}");

@@ -1,53 +1,146 @@
 //! What numbers, strings and names stand for.
 
 use pyparse::{
-    Literal, identifier_value, name_fault, name_value, number_value, string_fault, string_value,
+    Literal, TerminalFault, identifier_value, name_fault, name_value, number_value, string_fault,
+    string_value,
 };
 use pysource::{push_repr_bytes, push_repr_points};
 use pytoken::TokenError;
+use pytree_node::{Constant, Extent};
 use std::alloc::Global;
 use std::process::Abort;
 use std::test::Fail;
 
-#[test]
-fn numbers(rt: HostRuntime) {
-    for (text, value) in &[
-        ("0", 0),
-        ("00_0", 0),
-        ("12_345", 12345),
-        ("0xFf_0a", 65290),
-        ("0xe1", 225),
-        ("0o17", 15),
-        ("0B1_01", 5),
-        ("340282366920938463463374607431768211455", u128::MAX),
-        ("0xffffffffffffffffffffffffffffffff", u128::MAX),
-        ("0o3777777777777777777777777777777777777777777", u128::MAX),
-    ] {
-        assert_eq!(rt; number_value(text), Ok(*value), "at {text}");
+/// The value of a number in an extent of the language, as Python shows it, or the number's fault.
+fn number(alloc: Global, extent: Extent, text: &str) -> Result<Result<String, TokenError>, Fail> {
+    let mut shown = String::new(alloc);
+    match number_value(alloc, extent, text) {
+        Ok(Constant::Int(value)) => value.push_decimal(&mut shown)?,
+        Ok(Constant::Float(value)) => value.push_repr(&mut shown, alloc)?,
+        Ok(Constant::Imaginary(value)) => value.push_imaginary_repr(&mut shown, alloc)?,
+        Ok(_) => return Err(Fail::from("no number")),
+        Err(TerminalFault::Token(error)) => return Ok(Err(error)),
+        Err(TerminalFault::Memory) => return Err(Fail::from("no memory")),
     }
+    Ok(Ok(shown))
+}
+
+/// A number stands for this value in an extent of the language.
+fn counts(
+    rt: &impl Abort,
+    alloc: Global,
+    extent: Extent,
+    text: &str,
+    value: &str,
+) -> Result<(), Fail> {
+    match number(alloc, extent, text)? {
+        Ok(shown) => assert_eq!(rt; shown.as_str(), value, "at {text}"),
+        Err(_) => return Err(Fail::from("no value")),
+    }
+    Ok(())
+}
+
+/// A number has this fault in an extent of the language.
+fn fails(
+    rt: &impl Abort,
+    alloc: Global,
+    extent: Extent,
+    text: &str,
+    fault: TokenError,
+) -> Result<(), Fail> {
+    match number(alloc, extent, text)? {
+        Ok(_) => return Err(Fail::from("a value")),
+        Err(error) => assert_eq!(rt; error, fault, "at {text}"),
+    }
+    Ok(())
 }
 
 #[test]
-fn numbers_of_other_kinds(rt: HostRuntime) {
-    for (text, fault) in &[
-        ("1.5", TokenError::Float),
-        ("1e5", TokenError::Float),
-        (".5", TokenError::Float),
-        ("012.5", TokenError::Float),
-        ("1j", TokenError::Complex),
-        ("1.5J", TokenError::Complex),
-        ("1e5j", TokenError::Complex),
+fn numbers(rt: HostRuntime) -> Result<(), Fail> {
+    for (text, value) in &[
+        ("0", "0"),
+        ("00_0", "0"),
+        ("12_345", "12345"),
+        ("0xFf_0a", "65290"),
+        ("0xe1", "225"),
+        ("0o17", "15"),
+        ("0B1_01", "5"),
+        (
+            "340282366920938463463374607431768211455",
+            "340282366920938463463374607431768211455",
+        ),
+        (
+            "0xffffffffffffffffffffffffffffffff",
+            "340282366920938463463374607431768211455",
+        ),
+        (
+            "0o3777777777777777777777777777777777777777777",
+            "340282366920938463463374607431768211455",
+        ),
+    ] {
+        for extent in [Extent::Plain, Extent::Whole] {
+            counts(&rt, rt.alloc(), extent, text, value)?;
+        }
+    }
+    Ok(())
+}
+
+/// What is a fault in the plain language has a value in the whole one.
+#[test]
+fn numbers_of_other_kinds(rt: HostRuntime) -> Result<(), Fail> {
+    for (text, fault, value) in &[
+        ("1.5", TokenError::Float, "1.5"),
+        ("1e5", TokenError::Float, "100000.0"),
+        (".5", TokenError::Float, "0.5"),
+        ("012.5", TokenError::Float, "12.5"),
+        ("1e309", TokenError::Float, "inf"),
+        ("1j", TokenError::Complex, "1j"),
+        ("1.5J", TokenError::Complex, "1.5j"),
+        ("1e5j", TokenError::Complex, "100000j"),
+        ("1e400j", TokenError::Complex, "infj"),
         (
             "340282366920938463463374607431768211456",
             TokenError::IntegerTooLarge,
+            "340282366920938463463374607431768211456",
         ),
         (
             "0x100000000000000000000000000000000",
             TokenError::IntegerTooLarge,
+            "340282366920938463463374607431768211456",
         ),
     ] {
-        assert_eq!(rt; number_value(text), Err(*fault), "at {text}");
+        fails(&rt, rt.alloc(), Extent::Plain, text, *fault)?;
+        counts(&rt, rt.alloc(), Extent::Whole, text, value)?;
     }
+    Ok(())
+}
+
+/// A digit 1 and zeros.
+fn power(alloc: Global, zeros: usize) -> Result<String, Fail> {
+    let mut text = String::from_str(alloc, "1")?;
+    for _ in 0..zeros {
+        text.push('0')?;
+    }
+    Ok(text)
+}
+
+/// The largest whole number has 4,300 digits.
+#[test]
+fn large_numbers(rt: HostRuntime) -> Result<(), Fail> {
+    let alloc = rt.alloc();
+    let fault = TokenError::IntegerTooLarge;
+    let largest = power(alloc, 4299)?;
+    fails(&rt, alloc, Extent::Plain, largest.as_str(), fault)?;
+    counts(
+        &rt,
+        alloc,
+        Extent::Whole,
+        largest.as_str(),
+        largest.as_str(),
+    )?;
+    let past = power(alloc, 4300)?;
+    fails(&rt, alloc, Extent::Plain, past.as_str(), fault)?;
+    fails(&rt, alloc, Extent::Whole, past.as_str(), fault)
 }
 
 /// A literal stands for the value of this repr, after `u` where its kind is `u`.

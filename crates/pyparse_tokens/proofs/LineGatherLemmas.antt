@@ -229,9 +229,9 @@ cleared p l g h had is =
 
 -- what is gathered has no refusal, so it had none before the entry
 pub none_before : (p : Parts) (l : Listed) (e : Entry) (g h : LineGather) → StandsAt p l g → TakesEntry (chars p.text) e g h → kept_refusal h.pass ≡ None →
-    (kept_refusal g.pass ≡ None) × (entry_refusal (chars p.text) e ≡ None)
+    (kept_refusal g.pass ≡ None) × (entry_refusal g.pass.extent (chars p.text) e ≡ None)
 none_before p l e g h had gains none =
-    kept_before (chars p.text) (take l.shown.given (entries_of (listing (in_characters p)))) e (entry_refusal (chars p.text) e) g.pass h.pass
+    kept_before (chars p.text) (take l.shown.given (entries_of (listing (in_characters p)))) e (entry_refusal g.pass.extent (chars p.text) e) g.pass h.pass
     had.counts.pass gains.pass none
 
 -- the same line, by an entry that doesn't end it

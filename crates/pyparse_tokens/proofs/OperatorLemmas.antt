@@ -9,6 +9,7 @@ use Rattle.pylex.specs.declared.kind.Kind.{Kind}
 use Rattle.pylex.specs.declared.kind.Kind.TheVariants as kinds
 use Rattle.pylex.specs.declared.entries.Entry.{Entry}
 use Rattle.pylex.specs.Laws.{HasExact}
+use Rattle.pytree_node.specs.declared.profiles.Extent.{Extent}
 use Rattle.pytoken.specs.Terminals
 use Rattle.pytoken.specs.Terminals.{terminal_of, fault_of}
 use Rattle.pytoken.specs.Tokens.{text_of}
@@ -46,9 +47,9 @@ is_operator text e x has is =
     record { kind = parts.0; exact = parts.1 }
 
 -- it has no fault
-pub operator_faultless : (text : List ℕ) (e : Entry) (x : Exact) → HasExact text e → e.exact ≡ Some x → entry_refusal text e ≡ None
+pub operator_faultless : (extent : Extent) (text : List ℕ) (e : Entry) (x : Exact) → HasExact text e → e.exact ≡ Some x → entry_refusal extent text e ≡ None
 unfolding fault_of
-operator_faultless text e x has is = let own = is_operator text e x has is in rw own.kind refl
+operator_faultless extent text e x has is = let own = is_operator text e x has is in rw own.kind refl
 
 -- what it adds to the line
 pub operator_terminals : (text : List ℕ) (e : Entry) (x : Exact) → HasExact text e → e.exact ≡ Some x → own_terminals text e ≡ Terminals.Op x ∷ []

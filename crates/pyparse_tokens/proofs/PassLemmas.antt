@@ -7,6 +7,7 @@ use Rattle.pylex.specs.declared.entries.Entry.{Entry}
 use Rattle.pylex.specs.declared.entries.ListingFault.{ListingFault}
 use Rattle.pylex.specs.Listing.{Source, listing}
 use Rattle.pylex.specs.Steps.{entries_of, fault_of}
+use Rattle.pytree_node.specs.declared.profiles.Extent.{Extent}
 use Rattle.pytoken.specs.declared.refusals.Refusal.{Refusal}
 use Rattle.pytoken.specs.declared.refusals.Refusal.TheVariants as refusals
 use Rattle.pytoken.specs.Brackets.{opens, closes}
@@ -35,7 +36,7 @@ margins_more text es e =
     ∙ sym (append_assoc (margin_at text 0) (margins_from text [] es) (margins_of_entry text (behind [] es) e))
 
 -- one entry more
-pub passes : (text : List ℕ) (es : List Entry) (e : Entry) (old new : Pass) → Passed text es old → Gains text e (entry_refusal text e) old new →
+pub passes : (text : List ℕ) (es : List Entry) (e : Entry) (old new : Pass) → Passed text es old → Gains text e (entry_refusal old.extent text e) old new →
     Passed text (es ++ e ∷ []) new
 passes text es e old new had gains =
     let order = behind_on [] es e in
@@ -43,7 +44,11 @@ passes text es e old new had gains =
       begun = gains.begun ∙ ap (still_open e.kind) had.begun ∙ sym (ap is_open order);
       opened = gains.opened ∙ ap (λ (n : ℕ). counted n (opens e)) had.opened ∙ count_on opens (behind [] es) e ∙ sym (ap (count_by opens) order);
       closed = gains.closed ∙ ap (λ (n : ℕ). counted n (closes e)) had.closed ∙ count_on closes (behind [] es) e ∙ sym (ap (count_by closes) order);
-      faulty = gains.faulty ∙ ap (λ (r : Option Refusal). option_or r (entry_refusal text e)) had.faulty ∙ sym (refusal_on text es e);
+      faulty =
+          gains.faulty
+          ∙ ap (λ (r : Option Refusal). option_or r (entry_refusal old.extent text e)) had.faulty
+          ∙ sym (refusal_on old.extent text es e)
+          ∙ ap (λ (x : Extent). first_entry_refusal x text (es ++ e ∷ [])) (sym gains.extent);
       deep =
           gains.deep
           ∙ ap (λ (r : Option Refusal). option_or r (exceeding e old.opened old.closed)) had.deep
@@ -87,15 +92,15 @@ few text es p had =
 
 -- behind all entries
 
-pub all_refusals : (s : Source) (es : List Entry) (p : Pass) → Passed s.text es p → es ≡ entries_of (listing s) → fault_of (listing s) ≡ None →
-    kept_refusal p ≡ refusal s
+pub all_refusals : (extent : Extent) (s : Source) (es : List Entry) (p : Pass) → p.extent ≡ extent → Passed s.text es p → es ≡ entries_of (listing s) → fault_of (listing s) ≡ None →
+    kept_refusal p ≡ refusal extent s
 unfolding refusal_at
-all_refusals s es p had all none =
-    ap₂ option_or (had.faulty ∙ ap (first_entry_refusal s.text) all)
+all_refusals extent s es p is had all none =
+    ap₂ option_or (had.faulty ∙ ap₂ (λ (x : Extent) (read : List Entry). first_entry_refusal x s.text read) is all)
     (ap₂ option_or (had.deep ∙ ap (first_too_deep most_brackets []) all)
     (had.indents.mixed ∙ ap (λ (es : List Entry). first_mixed [] (margins s.text es)) all))
     ∙ sym (rw (none, refusal_at) refl)
 
-pub refused_listing : (s : Source) (f : ListingFault) → fault_of (listing s) ≡ Some f → refusal s ≡ Some (refusals.Listing f)
+pub refused_listing : (extent : Extent) (s : Source) (f : ListingFault) → fault_of (listing s) ≡ Some f → refusal extent s ≡ Some (refusals.Listing f)
 unfolding refusal_at
-refused_listing s f is = rw (is, refusal_at) refl
+refused_listing extent s f is = rw (is, refusal_at) refl

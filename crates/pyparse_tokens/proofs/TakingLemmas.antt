@@ -13,6 +13,7 @@ use Rattle.pylex.specs.declared.kind.Kind.TheVariants as kinds
 use Rattle.pylex.specs.declared.entries.Entry.{Entry}
 use Rattle.pylex.specs.declared.spots.Spot.{Spot}
 use Rattle.pylex.specs.Spots.{is_silent, kind_of}
+use Rattle.pytree_node.specs.declared.profiles.Extent.{Extent}
 use Rattle.pytoken.specs.declared.refusals.Refusal.{Refusal}
 use Rattle.pytoken.specs.declared.refusals.Refusal.TheVariants.{TooDeep}
 use Rattle.pytoken.specs.declared.values.terminals.Terminal.{Terminal}
@@ -53,6 +54,7 @@ operator_gains text e x old new b passes =
     let few : exceeding (as_entry e kinds.Op (Some x)) old.opened old.closed ≡ None = ap (λ (d : Bool). if d then Some (TooDeep e.start) else None) passes.few in
     subst (Gains text (as_entry e kinds.Op (Some x)) None old) (sym passes.rest)
     record {
+      extent = refl;
       begun = b;
       opened = refl;
       closed = refl;
@@ -98,7 +100,7 @@ operator_takes x own old mid new begun some passes between terminals start first
     let items : mid.terminals.items ≡ old.terminals.items = ap (λ (g : LineGather). g.terminals.items) between in
     let at : mid.start ≡ old.start = ap (λ (g : LineGather). g.start) between in
     let front : chars mid.first.now ≡ chars old.first.now = ap (λ (g : LineGather). chars g.first.now) between in
-    let none : entry_refusal text e ≡ None = operator_faultless text e x is.has is.exact in
+    let none : entry_refusal old.pass.extent text e ≡ None = operator_faultless old.pass.extent text e x is.has is.exact in
     let gains : Gains text e None old.pass mid.pass =
     subst (λ (d : Entry). Gains text d None old.pass mid.pass) (entry_as e kinds.Op (Some x) is.kind is.exact) (operator_gains text e x old.pass mid.pass begun passes) in
     let adds : Adds text e old new =
@@ -117,17 +119,17 @@ operator_takes x own old mid new begun some passes between terminals start first
       line = λ _. adds;
     }
 
-line_end_faultless : (text : List ℕ) (e : Entry) (b : Bool) → e.kind ≡ line_end_kind b → entry_refusal text e ≡ None
+line_end_faultless : (extent : Extent) (text : List ℕ) (e : Entry) (b : Bool) → e.kind ≡ line_end_kind b → entry_refusal extent text e ≡ None
 unfolding fault_of
-line_end_faultless text e true kind = rw kind refl
-line_end_faultless text e false kind = rw kind refl
+line_end_faultless extent text e true kind = rw kind refl
+line_end_faultless extent text e false kind = rw kind refl
 
 -- a line end within brackets, and one that ends the logical line
 pub line_end_takes : (text : List ℕ) (ends : Bool) (to : ℕ) (old new : LineGather) → (ends ≡ true → new.level ≡ old.indents - old.dedents)
     → PassesLineEnd text ends to old.pass new.pass → new ≡ record old { pass = new.pass; level = new.level } → TakesLineEnd text ends to old new
 line_end_takes text ends to old new level passes rest own e is there =
-    let none : entry_refusal text e ≡ None = line_end_faultless text e ends is.kind in
-    let pass : Gains text e (entry_refusal text e) old.pass new.pass = subst (λ (r : Option Refusal). Gains text e r old.pass new.pass) (sym none) (passes e is.kind is.exact there) in
+    let none : entry_refusal old.pass.extent text e ≡ None = line_end_faultless old.pass.extent text e ends is.kind in
+    let pass : Gains text e (entry_refusal old.pass.extent text e) old.pass new.pass = subst (λ (r : Option Refusal). Gains text e r old.pass new.pass) (sym none) (passes e is.kind is.exact there) in
     let beside : stands_in_line (line_end_kind ends) ≡ false = aside ends in
     let indents : new.indents ≡ old.indents = ap (λ (g : LineGather). g.indents) rest in
     let dedents : new.dedents ≡ old.dedents = ap (λ (g : LineGather). g.dedents) rest in
@@ -141,7 +143,7 @@ line_end_takes text ends to old new level passes rest own e is there =
     aside true = refl
     aside false = refl
 
-    taken : (b : Bool) → (b ≡ true → new.level ≡ old.indents - old.dedents) → e.kind ≡ line_end_kind b → Gains text e (entry_refusal text e) old.pass new.pass
+    taken : (b : Bool) → (b ≡ true → new.level ≡ old.indents - old.dedents) → e.kind ≡ line_end_kind b → Gains text e (entry_refusal old.pass.extent text e) old.pass new.pass
         → new.indents ≡ old.indents → new.dedents ≡ old.dedents → new.marker ≡ old.marker → Adds text e old new → TakesEntry text e old new
     taken true level kind pass indents dedents marker adds = record { pass = pass; level = λ _. level refl; indents = indents ∙ rw kind refl; dedents = dedents ∙ rw kind refl; marker = marker ∙ rw kind refl; line = λ _. adds }
     taken false level kind pass indents dedents marker adds = record { pass = pass; level = λ ends. let n : false ≡ true = rw kind at ends in absurd cc; indents = indents ∙ rw kind refl; dedents = dedents ∙ rw kind refl; marker = marker ∙ rw kind refl; line = λ _. adds }

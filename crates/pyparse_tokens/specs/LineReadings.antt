@@ -4,6 +4,7 @@ use Rattle.pysource.specs.declared.places.Place.{Place}
 use Rattle.pysource.specs.Parts.{Parts}
 use Rattle.pylex.specs.Listing.{Source, listing}
 use Rattle.pylex.specs.Steps.{entries_of}
+use Rattle.pytree_node.specs.declared.profiles.Extent.{Extent}
 use Rattle.pytoken.specs.Terminals.{Terminal, terminal_of}
 use Rattle.pytoken.specs.Tokens.{Token, Line, tokens_from, tokens, lines_from, lines}
 use Rattle.pytoken.specs.MatchHeaders.{is_match}
@@ -13,11 +14,12 @@ use Rattle.pyparse_tokens.specs.declared.faults.ParseFault.{ParseFault}
 abbrev pub lines_within : Source → ℕ → List Line
 lines_within s n = lines_from [] [] (tokens_from s.text [] (take n (entries_of (listing s))))
 
--- A source in hand; how many of its lines were given, which behind a fault says nothing; of the line that is held its level, its start, its
--- terminals and whether it looks like a `match` statement; where ENDMARKER starts, behind the last line; and what each later call answers, once
--- that is known.
+-- A source in hand, and the extent of the language in which it is read; how many of its lines were given, which behind a fault says nothing; of
+-- the line that is held its level, its start, its terminals and whether it looks like a `match` statement; where ENDMARKER starts, behind the
+-- last line; and what each later call answers, once that is known.
 pub record LineReading : Type 0 where
   pub source : Parts
+  pub extent : Extent
   pub given : ℕ
   pub level : ℕ
   pub start : Place
@@ -55,10 +57,11 @@ pub record EndsAt (s : Source) (p : Place) : Type 0 where
   pub tokens : tokens s ≡ before ++ last ∷ []
   pub start : last.start ≡ p
 
--- a reader before the first line of a source, which holds none
-abbrev pub before_first : Parts → LineReading
-before_first p = record {
+-- a reader before the first line of a source, in an extent, which holds none
+abbrev pub before_first : Parts → Extent → LineReading
+before_first p extent = record {
   source = p;
+  extent = extent;
   given = 0;
   level = 0;
   start = record { row = 1; column = 0 };

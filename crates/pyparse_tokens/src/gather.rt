@@ -16,6 +16,7 @@ use crate::tokens::Token;
 use pylex::{Entry, Kind};
 use pysource::{Place, Source, place_of};
 use pytoken::{Refusal, token_fault};
+use pytree_node::Extent;
 use std::alloc::{AllocError, Global};
 
 /// What stands between an entry's offsets in a source.
@@ -27,12 +28,18 @@ pub(crate) fn text_of<'a>(source: &'a Source, entry: &Entry) -> &'a str
     &source.text()[entry.from..entry.to]
 }
 
-/// The refusal of an entry with a fault of its own.
-fn entry_fault(alloc: Global, source: &Source, entry: &Entry) -> Result<Option<Refusal>, AllocError>
+/// The refusal of an entry with a fault of its own in an extent of the language.
+fn entry_fault(
+    alloc: Global,
+    extent: Extent,
+    source: &Source,
+    entry: &Entry,
+) -> Result<Option<Refusal>, AllocError>
     requires { LiesIn source.now.text entry.now }
-    ensures { IfOk result (λ fault. fault ≡ entry_refusal (chars source.now.text) entry.now) }
+    ensures { IfOk result
+        (λ fault. fault ≡ entry_refusal extent (chars source.now.text) entry.now) }
 {
-    match token_fault(alloc, entry.kind, text_of(source, entry))? {
+    match token_fault(alloc, extent, entry.kind, text_of(source, entry))? {
         Some(error) => Ok(Some(Refusal::Token(error, entry.start))),
         None => Ok(None),
     }
@@ -116,13 +123,18 @@ pub(crate) struct Gather<'a> {
 
 impl<'a> Gather<'a> {
     /// No entry of a source was read.
-    pub(crate) fn new(alloc: Global, source: &'a Source) -> Result<Gather<'a>, AllocError>
+    pub(crate) fn new(
+        alloc: Global,
+        source: &'a Source,
+        extent: Extent,
+    ) -> Result<Gather<'a>, AllocError>
         requires { IsCharBoundary source.now.text 0 }
-        ensures { IfOk result (λ made. Gathered (chars source.now.text) [] made) }
+        ensures gathered { IfOk result (λ made. Gathered (chars source.now.text) [] made) }
+        ensures extent { IfOk result (λ made. made.pass.extent ≡ extent) }
     {
         Ok(Gather {
             tokens: Vec::new(alloc),
-            pass: Pass::new(alloc, source)?,
+            pass: Pass::new(alloc, source, extent)?,
         })
     }
 
@@ -140,7 +152,7 @@ impl<'a> Gather<'a> {
     {
         let begun = self.pass.has_begun();
         push_given(&mut self.tokens, source, entry, begun)?;
-        let faulty = entry_fault(alloc, source, entry)?;
+        let faulty = entry_fault(alloc, self.pass.extent(), source, entry)?;
         self.pass.take(source, entry, faulty)
     }
 

@@ -35,6 +35,7 @@ use crate::room::put;
 use pylex::{Class, Entry, Exact, Kind, Spot};
 use pysource::{Place, Source};
 use pytoken::{Refusal, Terminal, TerminalFault, terminal_of};
+use pytree_node::Extent;
 use std::alloc::{AllocError, Global};
 
 /// Whether a token of this type stands in a line.
@@ -83,9 +84,14 @@ pub(crate) struct LineGather<'a> {
 
 impl<'a> LineGather<'a> {
     /// No entry of a source was read.
-    pub(crate) fn new(alloc: Global, source: &Source) -> Result<LineGather<'a>, AllocError>
+    pub(crate) fn new(
+        alloc: Global,
+        source: &Source,
+        extent: Extent,
+    ) -> Result<LineGather<'a>, AllocError>
         requires { IsCharBoundary source.now.text 0 }
         ensures pass { IfOk result (λ made. Passed (chars source.now.text) [] made.pass) }
+        ensures extent { IfOk result (λ made. made.pass.extent ≡ extent) }
         ensures empty { IfOk result (λ made. made.terminals.items ≡ []) }
         ensures start { IfOk result (λ made. made.start ≡ record { row = 1; column = 0 }) }
         ensures level { IfOk result (λ made. made.level ≡ 0) }
@@ -95,7 +101,7 @@ impl<'a> LineGather<'a> {
         ensures marker { IfOk result (λ made. made.marker ≡ record { row = 1; column = 0 }) }
     {
         Ok(LineGather {
-            pass: Pass::new(alloc, source)?,
+            pass: Pass::new(alloc, source, extent)?,
             terminals: Vec::new(alloc),
             start: Place { row: 1, column: 0 },
             first: "",
@@ -156,9 +162,10 @@ impl<'a> LineGather<'a> {
         requires lies { LiesIn source.now.text entry.now }
         requires exact { HasExact (chars source.now.text) entry.now }
         ensures fault { IfOk result
-            (λ fault. fault ≡ entry_refusal (chars source.now.text) entry.now) }
+            (λ fault. fault
+            ≡ entry_refusal self.old.pass.extent (chars source.now.text) entry.now) }
         ensures line { OnOk result
-            (entry_refusal (chars source.now.text) entry.now ≡ None
+            (entry_refusal self.old.pass.extent (chars source.now.text) entry.now ≡ None
             → Adds (chars source.now.text) entry.now self.old self.new) }
         ensures rest { self.new
             ≡ record self.old {
@@ -174,7 +181,7 @@ impl<'a> LineGather<'a> {
             self.keep(entry.start, text, Terminal::Op(exact))?;
             return Ok(None);
         }
-        match terminal_of(alloc, entry.kind, text) {
+        match terminal_of(alloc, self.pass.extent(), entry.kind, text) {
             Err(TerminalFault::Memory) => Err(AllocError),
             Err(TerminalFault::Token(error)) => Ok(Some(Refusal::Token(error, entry.start))),
             Ok(terminal) => {
@@ -240,6 +247,7 @@ impl<'a> LineGather<'a> {
         ensures ends { IfOk result (λ ends. ends ≡ ended_by entry.now self.old.pass.begun) }
         ensures gathers { OnOk result
             (TakesEntry (chars source.now.text) entry.now self.old self.new) }
+        ensures extent { self.new.pass.extent ≡ self.old.pass.extent }
     {
         let ends = ends_open_line(entry.kind) && self.pass.has_begun();
         let faulty = self.push(alloc, source, entry)?;
@@ -266,6 +274,7 @@ impl<'a> LineGather<'a> {
         ensures ends { IfOk result (λ ends. ends ≡ ended_by entry.now self.old.pass.begun) }
         ensures gathers { OnOk result
             (TakesEntry (chars source.now.text) entry.now self.old self.new) }
+        ensures extent { self.new.pass.extent ≡ self.old.pass.extent }
     {
         // Most entries are names and operators: what their type decides is decided once for all.
         match entry.kind {
@@ -294,8 +303,9 @@ impl<'a> LineGather<'a> {
             → Takes kind None (chars text.now) self.old self.new) }
         ensures kept { IfOk result (λ taken. taken ≡ false → self.new ≡ self.old) }
         ensures some { OnOk result (0 < length self.new.terminals.items) }
+        ensures extent { self.new.pass.extent ≡ self.old.pass.extent }
     {
-        match terminal_of(alloc, kind, text) {
+        match terminal_of(alloc, self.pass.extent(), kind, text) {
             Err(TerminalFault::Memory) => Err(AllocError),
             Err(TerminalFault::Token(_)) => Ok(false),
             Ok(terminal) => {
@@ -318,6 +328,7 @@ impl<'a> LineGather<'a> {
             → Takes Kind.Op (Some exact) (chars text.now) self.old self.new) }
         ensures kept { IfOk result (λ taken. taken ≡ false → self.new ≡ self.old) }
         ensures some { OnOk result (0 < length self.new.terminals.items) }
+        ensures extent { self.new.pass.extent ≡ self.old.pass.extent }
     {
         if !self.pass.take_operator(exact) {
             return Ok(false);
@@ -335,7 +346,7 @@ impl<'a> LineGather<'a> {
             → Takes Kind.Comment None (chars text.now) self.old self.new) }
         ensures same { self.new ≡ self.old }
     {
-        match terminal_of(alloc, Kind::Comment, text) {
+        match terminal_of(alloc, self.pass.extent(), Kind::Comment, text) {
             Err(TerminalFault::Memory) => Err(AllocError),
             Err(TerminalFault::Token(_)) => Ok(false),
             Ok(_) => Ok(true),
@@ -351,6 +362,7 @@ impl<'a> LineGather<'a> {
         ensures taken { OnOk result
             (TakesLineEnd (chars source.now.text) ends to self.old self.new) }
         ensures same { self.new.terminals ≡ self.old.terminals }
+        ensures extent { self.new.pass.extent ≡ self.old.pass.extent }
     {
         if ends {
             self.level = self.indents.saturating_sub(self.dedents);
@@ -379,6 +391,7 @@ impl<'a> LineGather<'a> {
             → TakesLexeme (chars source.now.text) class (chars text.now) to self.old self.new) }
         ensures kept { IfOk result (λ taken. taken ≡ false → self.new ≡ self.old) }
         ensures some { OnOk result (0 < length self.new.terminals.items) }
+        ensures extent { self.new.pass.extent ≡ self.old.pass.extent }
     {
         match class {
             Class::Name => self.take_token(alloc, Kind::Name, text),

@@ -8,7 +8,7 @@ ghost use Rattle.pylex.specs.Listing.{in_characters};
 ghost use Rattle.pytoken.specs.TerminalOf.{terminal};
 ghost use Rattle.pytoken.specs.Tokens.{lines};
 ghost use Rattle.pytoken.specs.Refusals.{refusal};
-ghost use Rattle.pytoken.specs.Laws.{AreLawful, TokensAreSound};
+ghost use Rattle.pytoken.specs.Laws.{AreLawful, TokensAreSound, ExtentsDifferInNumbers};
 ghost use Rattle.pyparse_tokens.specs.declared.faults.ParseFault.{ParseFault};
 ghost use Rattle.pyparse_tokens.specs.Answers.{Tells};
 ghost use Rattle.pyparse_tokens.specs.Inner.Passing.{kept_refusal};
@@ -21,6 +21,7 @@ use crate::walks::walk_line;
 use pylex::{Lister, Step};
 use pysource::{Place, Source};
 use pytoken::{Refusal, Terminal};
+use pytree_node::Extent;
 use std::alloc::{AllocError, Global};
 use std::marker::Model;
 
@@ -51,10 +52,14 @@ fn read_line<'a>(
     ensures all { IfOk result
         (λ more. more ≡ false
         → lines_given source.now lister.new ≡ length (lines (in_characters source.now))) }
-    ensures sound { IfOk result (λ more. more ≡ false → refusal (in_characters source.now) ≡ None) }
+    ensures sound { IfOk result
+        (λ more. more ≡ false
+        → refusal gather.old.pass.extent (in_characters source.now) ≡ None) }
     ensures marker { IfOk result
         (λ more. more ≡ false → EndsAt (in_characters source.now) gather.new.marker) }
-    ensures refused { IfErr result (Tells (refusal (in_characters source.now))) }
+    ensures refused { IfErr result
+        (Tells (refusal gather.old.pass.extent (in_characters source.now))) }
+    ensures extent { gather.new.pass.extent ≡ gather.old.pass.extent }
 {
     gather.clear();
     'entries: loop {
@@ -101,17 +106,23 @@ impl<'a> Model for LogicalLines<'a> {
 }
 
 impl<'a> LogicalLines<'a> {
-    /// Begins before the first line of a source; none is held.
-    pub fn new(alloc: Global, source: &'a Source) -> Result<LogicalLines<'a>, AllocError>
-        ensures before { IfOk result (λ made. made ≡ before_first source.now) }
+    /// Begins before the first line of a source, which is to be read in an extent of the language.
+    /// No line is held.
+    pub fn new(
+        alloc: Global,
+        source: &'a Source,
+        extent: Extent,
+    ) -> Result<LogicalLines<'a>, AllocError>
+        ensures before { IfOk result (λ made. made ≡ before_first source.now extent) }
         ensures lawful { AreLawful }
         ensures typed { TokensAreSound (in_characters source.now) }
+        ensures extents { ExtentsDifferInNumbers (in_characters source.now) }
     {
         Ok(LogicalLines {
             alloc,
             source,
             lister: Lister::new(alloc, source),
-            gather: LineGather::new(alloc, source)?,
+            gather: LineGather::new(alloc, source, extent)?,
             outcome: None,
         })
     }
@@ -157,7 +168,7 @@ impl<'a> LogicalLines<'a> {
     ///
     /// The room of the terminals is used again for each line. Besides, memory is taken only where
     /// an INDENT comes, for the widths of the lines' indentations, and, to find its fault, for a
-    /// name with characters past ASCII.
+    /// name with characters past ASCII and, in the whole language, for a whole number from 2^128 on.
     ///
     /// # Errors
     ///
@@ -165,6 +176,7 @@ impl<'a> LogicalLines<'a> {
     /// [`tokens_of`](crate::tokens_of) reports it. It may come after lines that were given.
     pub fn next(&mut self) -> Result<bool, ParseFault>
         ensures source { self.new.source ≡ self.old.source }
+        ensures extent { self.new.extent ≡ self.old.extent }
         ensures line { IfOk result
             (λ more. more ≡ true
             → HoldsLine (in_characters self.old.source) self.old.given self.new) }
@@ -174,10 +186,12 @@ impl<'a> LogicalLines<'a> {
             (λ more. more ≡ false
             → self.old.given ≡ length (lines (in_characters self.old.source))) }
         ensures sound { IfOk result
-            (λ more. more ≡ false → refusal (in_characters self.old.source) ≡ None) }
+            (λ more. more ≡ false
+            → refusal self.old.extent (in_characters self.old.source) ≡ None) }
         ensures end { IfOk result
             (λ more. more ≡ false → EndsAt (in_characters self.old.source) self.new.marker) }
-        ensures refused { IfErr result (Tells (refusal (in_characters self.old.source))) }
+        ensures refused { IfErr result
+            (Tells (refusal self.old.extent (in_characters self.old.source))) }
         ensures outcome { self.new.outcome ≡ outcome_of result }
         ensures again { (answer : Result Bool ParseFault) → self.old.outcome ≡ Some answer
             → (result ≡ answer) × (self.new ≡ self.old) }

@@ -13,6 +13,7 @@ use crate::indents::Indents;
 use pylex::{Entry, Exact, Kind};
 use pysource::Source;
 use pytoken::Refusal;
+use pytree_node::Extent;
 use std::alloc::{AllocError, Global};
 
 /// The most brackets that may be open at once.
@@ -90,6 +91,8 @@ fn first(one: Option<Refusal>, other: Option<Refusal>) -> Option<Refusal>
 /// What one pass over a listing keeps of its faults after some of its entries.
 #[derive(Drop)]
 pub(crate) struct Pass {
+    /// How much of the language is read.
+    extent: Extent,
     /// Whether the line has tokens and no NEWLINE yet.
     begun: bool,
     /// The opening brackets.
@@ -105,13 +108,15 @@ pub(crate) struct Pass {
 
 impl Pass {
     /// No entry of a source was read.
-    pub(crate) fn new(alloc: Global, source: &Source) -> Result<Pass, AllocError>
+    pub(crate) fn new(alloc: Global, source: &Source, extent: Extent) -> Result<Pass, AllocError>
         requires { IsCharBoundary source.now.text 0 }
-        ensures { IfOk result (λ made. Passed (chars source.now.text) [] made) }
+        ensures passed { IfOk result (λ made. Passed (chars source.now.text) [] made) }
+        ensures extent { IfOk result (λ made. made.extent ≡ extent) }
     {
         let mut indents = Indents::new(alloc);
         indents.take(source, 0)?;
         Ok(Pass {
+            extent,
             begun: false,
             opened: 0,
             closed: 0,
@@ -119,6 +124,14 @@ impl Pass {
             deep: None,
             indents,
         })
+    }
+
+    /// How much of the language is read.
+    #[inline(always)]
+    pub(crate) fn extent(&self) -> Extent
+        ensures { result ≡ self.now.extent }
+    {
+        self.extent
     }
 
     /// Whether the line has tokens and no NEWLINE yet.
@@ -169,7 +182,9 @@ impl Pass {
         requires lies { LiesIn source.now.text entry.now }
         requires opened { self.old.opened < 2 ^ 63 }
         requires closed { self.old.closed < 2 ^ 63 }
-        ensures { OnOk result (Gains (chars source.now.text) entry.now faulty self.old self.new) }
+        ensures gains { OnOk result
+            (Gains (chars source.now.text) entry.now faulty self.old self.new) }
+        ensures extent { self.new.extent ≡ self.old.extent }
     {
         if line_ends(entry.kind, self.opened, self.closed) {
             self.indents.take(source, entry.to)?;
@@ -188,6 +203,7 @@ impl Pass {
         requires closed { self.old.closed < 2 ^ 63 }
         ensures taken { result ≡ true → PassesOperator exact self.old self.new }
         ensures kept { result ≡ false → self.new ≡ self.old }
+        ensures extent { self.new.extent ≡ self.old.extent }
     {
         if exact.is_opener() {
             if (self.opened + 1).saturating_sub(self.closed) > MOST_BRACKETS {
@@ -208,7 +224,9 @@ impl Pass {
         to: usize,
     ) -> Result<(), AllocError>
         requires { IsCharBoundary source.now.text to }
-        ensures { OnOk result (PassesLineEnd (chars source.now.text) ends to self.old self.new) }
+        ensures passes { OnOk result
+            (PassesLineEnd (chars source.now.text) ends to self.old self.new) }
+        ensures extent { self.new.extent ≡ self.old.extent }
     {
         if self.opened.saturating_sub(self.closed) == 0 {
             self.indents.take(source, to)?;

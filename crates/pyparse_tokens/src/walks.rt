@@ -35,6 +35,7 @@ fn walk<'a>(
     ensures went { IfOk result
         (λ to. Went source.now lister.entry.now.shown.levels from to gather.old gather.new) }
     ensures given { IfOk result (λ to. from.given ≤ to.given) }
+    ensures extent { gather.new.pass.extent ≡ gather.old.pass.extent }
 {
     let text = source.text();
     let mut spot = from;
@@ -70,6 +71,7 @@ pub(crate) fn walk_line<'a>(
         → (first : Listed) → Reads source.now first lister.old gather.old
         → ReadsLine source.now first lister.new gather.new) }
     ensures given { IfOk result (λ ended. lister.old.shown.given ≤ lister.new.shown.given) }
+    ensures extent { gather.new.pass.extent ≡ gather.old.pass.extent }
 {
     if !gather.has_tokens() {
         return Ok(false);

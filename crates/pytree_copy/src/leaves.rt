@@ -50,6 +50,8 @@ pub(crate) fn copy_constant(alloc: Global, constant: &Constant) -> Result<Consta
         Constant::Ellipsis => Ok(Constant::Ellipsis),
         Constant::Bool(value) => Ok(Constant::Bool(*value)),
         Constant::Int(value) => Ok(Constant::Int(value.clone()?)),
+        Constant::Float(value) => Ok(Constant::Float(*value)),
+        Constant::Imaginary(value) => Ok(Constant::Imaginary(*value)),
         Constant::Str { points, unicode } => Ok(Constant::Str {
             points: points.clone()?,
             unicode: *unicode,

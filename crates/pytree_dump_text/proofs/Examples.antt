@@ -4,6 +4,7 @@
 use Rattle.std.proofs.Common.{◌≡◌, ℕ, List, true, false, [], ◌∷◌, Some, None, refl, codes}
 use Rattle.std.specs.Char.{encode_utf8}
 use Rattle.std.specs.Fmt.{digits}
+use Rattle.pynatural.specs.Decimals.{decimal_text}
 use Rattle.ucd_category.proofs.Computing.{ucd_category}
 use Rattle.pytree_node.specs.declared.operators.Context.TheVariants as context
 use Rattle.pytree_dump_text.specs.declared.styles.Style.{Style}
@@ -48,7 +49,7 @@ indented_call : dump_text two (shown_module plain_311 (record {
       (Trees.a_keyword (Some (codes "b")) (Trees.Constant (value.Int 1)) Trees.no_keyword)) ∷ [];
 }))
     ≡ codes "Module(\n  body=[\n    Expr(\n      value=Call(\n        func=Name(id='f', ctx=Load()),\n        args=[\n          Name(id='a', ctx=Load())],\n        keywords=[\n          keyword(\n            arg='b',\n            value=Constant(value=1))]))],\n  type_ignores=[])"
-unfolding ucd_category encode_utf8 digits
+unfolding ucd_category encode_utf8 digits decimal_text
 indented_call = refl
 
 -- `{**d}`
@@ -69,7 +70,7 @@ parameters : dump_text plain (shown_arguments (Trees.arguments (Trees.an_arg (Tr
     (Trees.an_optional (Trees.present (Trees.Constant (value.Int 2))) Trees.no_optional)
     (Trees.present_arg (Trees.arg (codes "d") Trees.absent)) (Trees.an_expr (Trees.Constant (value.Int 1)) Trees.no_exprs)))
     ≡ codes "arguments(posonlyargs=[arg(arg='a')], args=[arg(arg='b', annotation=Name(id='int', ctx=Load()))], kwonlyargs=[arg(arg='c')], kw_defaults=[Constant(value=2)], kwarg=arg(arg='d'), defaults=[Constant(value=1)])"
-unfolding ucd_category encode_utf8 digits
+unfolding ucd_category encode_utf8 digits decimal_text
 parameters = refl
 
 -- `class C[T]: pass`

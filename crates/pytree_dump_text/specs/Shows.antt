@@ -1,6 +1,8 @@
 -- What is shown of a tree: a scalar's text, a list, or a node with its class and its fields, in order. A field that is
 -- None is left out; so are the fields `type_comment`, which are None in every tree.
 use Rattle.std.specs.Prelude.{ℕ, Bool, true, List, [], ◌∷◌, Option, Some, None, codes, decimal, if◌then◌else◌}
+use Rattle.pynatural.specs.Decimals.{decimal_text}
+use Rattle.pyfloat.specs.FloatTexts.{float_repr, imaginary_repr}
 use Rattle.pysource.specs.Reprs.{repr_text, repr_bytes}
 use Rattle.pytree_node.specs.declared.operators.Operator.{Operator}
 use Rattle.pytree_node.specs.declared.operators.Operator.TheVariants as operator
@@ -103,7 +105,9 @@ abbrev pub value_text : Value → List ℕ
 value_text value.None = codes "None"
 value_text value.Ellipsis = codes "Ellipsis"
 value_text (value.Bool b) = if b then codes "True" else codes "False"
-value_text (value.Int n) = decimal n
+value_text (value.Int n) = decimal_text n
+value_text (value.Float x) = float_repr x
+value_text (value.Imaginary x) = imaginary_repr x
 value_text (value.Str points unicode) = repr_text points
 value_text (value.Bytes bytes) = repr_bytes bytes
 

@@ -5,8 +5,10 @@ ghost use Rattle.std.specs.String.{string_bytes};
 ghost use Rattle.pytree_dump_text.specs.Shows.{bool_name, comparison_name, context_name};
 ghost use Rattle.pytree_dump_text.specs.Shows.{operator_name, unary_name, value_text};
 ghost use Rattle.pytree_node.specs.TreeOf.{constant_of};
+ghost use Rattle.pyfloat.specs.FloatTexts.{float_repr, imaginary_repr};
 
 use itoa::Buffer;
+use pyfloat::Double;
 use pysource::{push_repr_bytes, push_repr_points};
 use pytree_node::{BoolOperator, Comparison, Constant, Context, Operator, UnaryOperator};
 use std::alloc::AllocError;
@@ -91,6 +93,24 @@ pub fn push_number(out: &mut String, number: u64) -> Result<(), AllocError>
     out.push_str(buffer.format(number))
 }
 
+/// Appends the `repr` of a float.
+#[inline(never)]
+fn push_float(out: &mut String, value: Double) -> Result<(), AllocError>
+    ensures { OnOk result (string_bytes out.new ≡ string_bytes out.old ++ float_repr value) }
+{
+    let alloc = *out.allocator();
+    value.push_repr(out, alloc)
+}
+
+/// Appends the `repr` of an imaginary number, given by its imaginary part.
+#[inline(never)]
+fn push_imaginary(out: &mut String, value: Double) -> Result<(), AllocError>
+    ensures { OnOk result (string_bytes out.new ≡ string_bytes out.old ++ imaginary_repr value) }
+{
+    let alloc = *out.allocator();
+    value.push_imaginary_repr(out, alloc)
+}
+
 /// Appends the value of a constant.
 #[inline(always)]
 pub fn push_value(out: &mut String, value: &Constant) -> Result<(), AllocError>
@@ -101,10 +121,9 @@ pub fn push_value(out: &mut String, value: &Constant) -> Result<(), AllocError>
         Constant::None => out.push_str("None"),
         Constant::Ellipsis => out.push_str("Ellipsis"),
         Constant::Bool(truth) => out.push_str(if *truth { "True" } else { "False" }),
-        Constant::Int(number) => {
-            let mut buffer = Buffer::new();
-            out.push_str(buffer.format(number.value()))
-        }
+        Constant::Int(number) => number.push_decimal(out),
+        Constant::Float(value) => push_float(out, *value),
+        Constant::Imaginary(value) => push_imaginary(out, *value),
         Constant::Str { points, .. } => push_repr_points(out, points.as_slice()),
         Constant::Bytes(bytes) => push_repr_bytes(out, bytes.as_slice()),
     }

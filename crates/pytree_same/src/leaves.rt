@@ -3,6 +3,7 @@
 ghost use Rattle.std.specs.Prelude.{◌≡◌, ◌↔◌, IsTrue};
 ghost use Rattle.pytree_node.specs.TreeOf.{constant_of};
 
+use pyfloat::Double;
 use pytree_node::{Comparison, Constant, Identifier};
 
 /// Whether two names are equal.
@@ -46,6 +47,8 @@ pub(crate) fn same_constant(a: &Constant, b: &Constant) -> bool
         (Constant::Ellipsis, Constant::Ellipsis) => true,
         (Constant::Bool(a), Constant::Bool(b)) => a == b,
         (Constant::Int(a), Constant::Int(b)) => a == b,
+        (Constant::Float(a), Constant::Float(b)) => same_double(a, b),
+        (Constant::Imaginary(a), Constant::Imaginary(b)) => same_double(a, b),
         (
             Constant::Str { points, unicode },
             Constant::Str {
@@ -56,6 +59,14 @@ pub(crate) fn same_constant(a: &Constant, b: &Constant) -> bool
         (Constant::Bytes(a), Constant::Bytes(b)) => same_bytes(a, b),
         _ => false,
     }
+}
+
+/// Whether the doubles are equal.
+#[tactic(auto, using(pyfloat::specs::SameFloats::same_floats))]
+fn same_double(a: &Double, b: &Double) -> bool
+    ensures { IsTrue result ↔ (a.now ≡ b.now) }
+{
+    a == b
 }
 
 /// Whether the bytes are equal.

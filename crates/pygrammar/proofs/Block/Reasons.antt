@@ -92,25 +92,25 @@ of_lines : {profile : Profile} {s : Source} {p q : Place} {c d : Code} → p ≡
 of_lines {p = p} {q = q} {c = c} {d = d} e (inl f) = inl (same_reason p q c d e f)
 of_lines {profile} {s} {p = p} {c = c} {d = d} e (inr l) = let P : Place → Type 0 = λ z. IsFreeChoice profile s (at p c) (at z d) in inr (subst P e (free l.0 l.1 l.2.0 l.2.1))
 
-clear_or_not : {x : Extent} (s : Source) {r : Refusal} → refusal x s ≡ None → refusal x s ≡ Some r → ⊥
-clear_or_not s h k = absurd (cc)
+clear_or_not : (x : Extent) (s : Source) {r : Refusal} → refusal x s ≡ None → refusal x s ≡ Some r → ⊥
+clear_or_not x s h k = absurd (cc)
 
-same_refusal : {x : Extent} (s : Source) {r q : Refusal} → refusal x s ≡ Some r → refusal x s ≡ Some q → in_tokens r ≡ in_tokens q
-same_refusal s h k = cc
+same_refusal : (x : Extent) (s : Source) {r q : Refusal} → refusal x s ≡ Some r → refusal x s ≡ Some q → in_tokens r ≡ in_tokens q
+same_refusal x s h k = cc
 
 in_forms : {forms others rest : List Line} {f : Fault} → forms ≡ others → FirstFault [] forms rest f → FirstFault [] others rest f
 in_forms {rest = rest} {f = f} e h = let P : List Line → Type 0 = λ z. FirstFault [] z rest f in subst P e h
 
 pub one_reason : {profile : Profile} {s : Source} {r q : Reason} → Refused profile s r → Refused profile s q → IsOne profile s r q
-one_reason {s = s} (by_tokens h) (by_tokens k) = inl (same_refusal s h k)
-one_reason {s = s} (by_tokens h) (by_line c u w) = absurd (clear_or_not s c h)
-one_reason {s = s} (by_tokens h) (by_block c p f n w) = absurd (clear_or_not s c h)
-one_reason {s = s} (by_tokens h) (by_height c p b t d w) = absurd (clear_or_not s c h)
-one_reason {s = s} (by_line c u w) (by_tokens h) = absurd (clear_or_not s c h)
+one_reason {s = s} (by_tokens h) (by_tokens k) = inl (same_refusal _ s h k)
+one_reason {s = s} (by_tokens h) (by_line c u w) = absurd (clear_or_not _ s c h)
+one_reason {s = s} (by_tokens h) (by_block c p f n w) = absurd (clear_or_not _ s c h)
+one_reason {s = s} (by_tokens h) (by_height c p b t d w) = absurd (clear_or_not _ s c h)
+one_reason {s = s} (by_line c u w) (by_tokens h) = absurd (clear_or_not _ s c h)
 one_reason (by_line c u w) (by_line e v z) = let r = one_unread u v in of_lines (place_at r.0 w z) r.1
 one_reason (by_line c u w) (by_block e p f n z) = absurd (unread_none p u)
 one_reason (by_line c u w) (by_height e p b t d z) = absurd (unread_none p u)
-one_reason {s = s} (by_block c p f n w) (by_tokens h) = absurd (clear_or_not s c h)
+one_reason {s = s} (by_block c p f n w) (by_tokens h) = absurd (clear_or_not _ s c h)
 one_reason (by_block c p f n w) (by_line e v z) = absurd (unread_none p v)
 one_reason (by_block {forms = xs} {rest = a} {f = e1} {n = n1} {p = p1} c p f n w) (by_block {forms = ys} {rest = b} {f = e2} {n = n2} {p = p2} e q g m z) =
     let same = one_formed p q in
@@ -119,7 +119,7 @@ one_reason (by_block {forms = xs} {rest = a} {f = e1} {n = n1} {p = p1} c p f n 
     let j : length a ≡ length b = ap length r.0 in
     inl (same_reason p1 p2 (Indentation e1) (Indentation e2) (place_at (omega (arith, n, m, i, j)) w z) (ap Indentation r.1))
 one_reason (by_block c p f n w) (by_height {forms = ys} {m = m} e q b t d z) = absurd (no_first (tree_faultless ys m.body b) (in_forms (one_formed p q) f))
-one_reason {s = s} (by_height c p b t d w) (by_tokens h) = absurd (clear_or_not s c h)
+one_reason {s = s} (by_height c p b t d w) (by_tokens h) = absurd (clear_or_not _ s c h)
 one_reason (by_height c p b t d w) (by_line e v z) = absurd (unread_none p v)
 one_reason (by_height {forms = xs} {m = m} c p b t d w) (by_block e q g n z) = absurd (no_first (tree_faultless xs m.body b) (in_forms (one_formed q p) g))
 one_reason (by_height {n = n1} {p = p1} c p b t d w) (by_height {n = n2} {p = p2} e q b2 u d2 z) =

@@ -246,9 +246,9 @@ marker s h = marker_last (goes_on (all_stop s.fault (left_by_cut s.text) [] (cut
 
 -- ---- And so do the tokens.
 
-no_listing_fault : {x : Extent} (s : Source) → refusal x s ≡ None → fault_of (listing s) ≡ None
+no_listing_fault : (x : Extent) (s : Source) → refusal x s ≡ None → fault_of (listing s) ≡ None
 unfolding refusal_at
-no_listing_fault {x} s h = by_fault (fault_of (listing s)) (refusal_of x most_brackets s.text (entries_of (listing s))) h
+no_listing_fault x s h = by_fault (fault_of (listing s)) (refusal_of x most_brackets s.text (entries_of (listing s))) h
   where
     by_fault : (o : Option ListingFault) (r : Option Refusal) → ◌≡◌ {A = Option Refusal} (elim o [ Some f ↦ Some (refusals.Listing f) | None ↦ r ]) None → o ≡ None
     by_fault (Some f) r h = absurd cc
@@ -262,10 +262,10 @@ marker_tokens text true kinds.EndMarker x p q f t h = (supplied text ∷ [], tok
 marker_tokens text false kinds.EndMarker x p q f t h = ([], token_of text (entry kinds.EndMarker x p q f t), refl)
 marker_tokens text b _ x p q f t h = absurd cc
 
-last_token : {x : Extent} (s : Source) → refusal x s ≡ None → HasLast (tokens s)
+last_token : (x : Extent) (s : Source) → refusal x s ≡ None → HasLast (tokens s)
 unfolding tokens
-last_token s h =
-    let m = marker s (no_listing_fault s h) in
+last_token x s h =
+    let m = marker s (no_listing_fault x s h) in
     let e = m.1 in
     let front = tokens_from s.text [] m.0 in
     let l = marker_tokens s.text (is_open (behind [] m.0)) e.kind e.exact e.start e.«end» e.«from» e.to m.3 in (
@@ -274,13 +274,13 @@ last_token s h =
       ap (tokens_from s.text []) m.2 ∙ tokens_on s.text [] m.0 e ∙ ap (λ z. front ++ z) l.2 ∙ sym (append_assoc front l.0 (l.1 ∷ [])),
     )
 
-pub starts_end : {x : Extent} (s : Source) (n : ℕ) → refusal x s ≡ None → length (lines s) ≡ n → (p : Place) × StartsAt s n p
-starts_end s n h e = let l = last_token s h in (l.1.start, at_end l.0 l.1 e l.2)
+pub starts_end : (x : Extent) (s : Source) (n : ℕ) → refusal x s ≡ None → length (lines s) ≡ n → (p : Place) × StartsAt s n p
+starts_end x s n h e = let l = last_token x s h in (l.1.start, at_end l.0 l.1 e l.2)
 
 -- a line, or the end
-pub starts : {x : Extent} (s : Source) (n : ℕ) → refusal x s ≡ None → n ≤ length (lines s) → (p : Place) × StartsAt s n p
-starts s n h k = by_number (nat_lt n (length (lines s))) refl
+pub starts : (x : Extent) (s : Source) (n : ℕ) → refusal x s ≡ None → n ≤ length (lines s) → (p : Place) × StartsAt s n p
+starts x s n h k = by_number (nat_lt n (length (lines s))) refl
   where
     by_number : (b : Bool) → nat_lt n (length (lines s)) ≡ b → (p : Place) × StartsAt s n p
     by_number true e = starts_line s n (ltb-true n (length (lines s)) e)
-    by_number false e = let m = ltb-false n (length (lines s)) e in starts_end s n h (omega (arith, m, k))
+    by_number false e = let m = ltb-false n (length (lines s)) e in starts_end x s n h (omega (arith, m, k))

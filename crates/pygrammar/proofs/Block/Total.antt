@@ -76,7 +76,7 @@ module _ (profile : Profile) (s : Source) (clear : refusal profile.extent s ≡ 
           let h = ltb-true 500 (statement_height m) e in
           let d = (deep_is_high {m = m} b (formed_flat p)).1 h in
           let w = deep_within d.1 in
-          let place = starts s d.0 clear (omega (arith, w, l)) in
+          let place = starts profile.extent s d.0 clear (omega (arith, w, l)) in
           inr (at place.0 TooDeep, by_height clear p b h d.1 place.1)
       by_depth false e = inl (m, record { clear = clear; forms = forms; formed = p; block = b; low = ltb-false 500 (statement_height m) e })
 
@@ -84,7 +84,7 @@ module _ (profile : Profile) (s : Source) (clear : refusal profile.extent s ≡ 
   of_fault forms rest f p l h =
       let w = fault_within h in
       let n : ℕ = length forms - length rest in
-      let place = starts s n clear (omega (arith, l)) in
+      let place = starts profile.extent s n clear (omega (arith, l)) in
       inr (at place.0 (Indentation f), by_block clear p h (omega (arith, w)) place.1)
 
   of_lines : IsAnswered profile s
@@ -93,7 +93,7 @@ module _ (profile : Profile) (s : Source) (clear : refusal profile.extent s ≡ 
       | inl t ↦ of_tree r.0 (record { body = t.0 }) r.1 r.2 t.1
       | inr f ↦ of_fault r.0 f.0 f.1 r.1 r.2 f.2
     ]
-    | inr r ↦ let place = starts s r.0 clear (omega (arith, r.3)) in inr (at place.0 r.1, by_line clear r.2 place.1)
+    | inr r ↦ let place = starts profile.extent s r.0 clear (omega (arith, r.3)) in inr (at place.0 r.1, by_line clear r.2 place.1)
   ]
 
 pub answered : (profile : Profile) (s : Source) → IsAnswered profile s

@@ -60,7 +60,7 @@ header_leads k F.finally_line = F.finally_line
 header_leads k F.except_all = F.except_all
 header_leads k (F.except_line p a) = F.except_line p a
 header_leads k (F.except_star p a) = F.except_star p a
-header_leads k (F.def_line x a g c q k) = F.def_line x a (type_params_lead k g) c q k
+header_leads k (F.def_line x a g c q r) = F.def_line x a (type_params_lead k g) c q r
 header_leads k (F.class_line g c) = F.class_line (type_params_lead k g) c
 
 pub form_leads : {p q : Profile} → HasTypesOf p q → {ts : List Terminal} {f : Form} → F.FormOf p ts f → F.FormOf q ts f

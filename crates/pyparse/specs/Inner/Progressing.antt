@@ -87,9 +87,9 @@ pub record Comes (profile : Profile) (s : Source) (k : ℕ) (l : Line) (p : Plac
   pub starts : StartsAt s k p
 
 -- behind so many lines a source ends, with ENDMARKER here, and its tokens are not refused
-pub record Closes (s : Source) (k : ℕ) (p : Place) : Type 0 where
+pub record Closes (profile : Profile) (s : Source) (k : ℕ) (p : Place) : Type 0 where
   pub all : k ≡ length (lines s)
-  pub clear : refusal s ≡ None
+  pub clear : refusal profile.extent s ≡ None
   pub ends : EndsAt s p
 
 -- ---- Faults.

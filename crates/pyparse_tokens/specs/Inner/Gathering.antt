@@ -16,7 +16,7 @@ Grows old new more = map token_of new ≡ map token_of old ++ more
 -- what is gathered behind one entry more
 pub record Gathers (text : List ℕ) (e : Entry) (old new : Gather) : Type 0 where
   pub tokens : Grows old.tokens.items new.tokens.items (tokens_of_entry text old.pass.begun e)
-  pub pass : Gains text e (entry_refusal text e) old.pass new.pass
+  pub pass : Gains text e (entry_refusal old.pass.extent text e) old.pass new.pass
 
 -- what is gathered is what the entries say
 pub record Gathered (text : List ℕ) (es : List Entry) (g : Gather) : Type 0 where

@@ -70,12 +70,12 @@ pub record Adds (text : List ℕ) (e : Entry) (old new : LineGather) : Type 0 wh
 
 -- what is gathered behind one entry more
 pub record TakesEntry (text : List ℕ) (e : Entry) (old new : LineGather) : Type 0 where
-  pub pass : Gains text e (entry_refusal text e) old.pass new.pass
+  pub pass : Gains text e (entry_refusal old.pass.extent text e) old.pass new.pass
   pub level : ended_by e old.pass.begun ≡ true → new.level ≡ old.indents - old.dedents
   pub indents : new.indents ≡ counted old.indents (is_indent e.kind)
   pub dedents : new.dedents ≡ counted old.dedents (is_dedent e.kind)
   pub marker : new.marker ≡ marker_behind e old.marker
-  pub line : entry_refusal text e ≡ None → Adds text e old new
+  pub line : entry_refusal old.pass.extent text e ≡ None → Adds text e old new
 
 -- the tokens of the line that is open behind some tokens
 abbrev pub line_behind : List Token → List Token → List Token

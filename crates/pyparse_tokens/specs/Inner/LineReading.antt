@@ -2,6 +2,7 @@
 use Rattle.std.specs.Prelude.{◌≡◌, ℕ, Bool, false, length, Some, None, Result, Ok, Err, map}
 use Rattle.pysource.specs.declared.places.Place.{Place}
 use Rattle.pylex.specs.Listing.{Source, in_characters}
+use Rattle.pytree_node.specs.declared.profiles.Extent.{Extent}
 use Rattle.pytoken.specs.Tokens.{lines}
 use Rattle.pytoken.specs.Refusals.{refusal}
 use Rattle.pytoken.specs.TerminalOf.{terminal}
@@ -15,6 +16,7 @@ use Rattle.pyparse_tokens.specs.Inner.LineGathering.{keeps_match, StandsBetween,
 abbrev pub reading : Inside → LineReading
 reading l = record {
   source = l.source.now;
+  extent = l.gather.pass.extent;
   given = lines_given l.source.now l.lister;
   level = l.gather.level;
   start = l.gather.start;
@@ -25,12 +27,12 @@ reading l = record {
 }
 
 -- what is answered where no line comes, behind so many, with ENDMARKER here
-abbrev pub Ends : Source → ℕ → Place → Result Bool ParseFault → Type 0
-Ends s k p (Ok more) = (more ≡ false) × (k ≡ length (lines s)) × (refusal s ≡ None) × EndsAt s p
-Ends s k p (Err fault) = Tells (refusal s) fault
+abbrev pub Ends : Extent → Source → ℕ → Place → Result Bool ParseFault → Type 0
+Ends extent s k p (Ok more) = (more ≡ false) × (k ≡ length (lines s)) × (refusal extent s ≡ None) × EndsAt s p
+Ends extent s k p (Err fault) = Tells (refusal extent s) fault
 
 -- it stands between two lines until it has told the end or a fault
 pub record IsReading (l : Inside) : Type 0 where
   pub between : l.outcome ≡ None → StandsBetween l.source.now l.lister l.gather
   pub ended : (answer : Result Bool ParseFault) → l.outcome ≡ Some answer
-      → Ends (in_characters l.source.now) (lines_given l.source.now l.lister) l.gather.marker answer
+      → Ends l.gather.pass.extent (in_characters l.source.now) (lines_given l.source.now l.lister) l.gather.marker answer

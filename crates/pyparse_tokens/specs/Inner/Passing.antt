@@ -44,6 +44,7 @@ given_margins text e opened closed = if line_ends e.kind opened closed then marg
 
 -- what is kept of an entry that may be a bracket
 pub record TakesBracket (e : Entry) (old new : Pass) : Type 0 where
+  pub extent : new.extent ≡ old.extent
   pub begun : new.begun ≡ old.begun
   pub opened : new.opened ≡ counted old.opened (opens e)
   pub closed : new.closed ≡ counted old.closed (closes e)
@@ -53,6 +54,7 @@ pub record TakesBracket (e : Entry) (old new : Pass) : Type 0 where
 
 -- what is kept behind one entry more, with its refusal if it has a fault of its own
 pub record Gains (text : List ℕ) (e : Entry) (own : Option Refusal) (old new : Pass) : Type 0 where
+  pub extent : new.extent ≡ old.extent
   pub begun : new.begun ≡ still_open e.kind old.begun
   pub opened : new.opened ≡ counted old.opened (opens e)
   pub closed : new.closed ≡ counted old.closed (closes e)
@@ -60,12 +62,12 @@ pub record Gains (text : List ℕ) (e : Entry) (own : Option Refusal) (old new :
   pub deep : new.deep ≡ option_or old.deep (exceeding e old.opened old.closed)
   pub indents : Measures (given_margins text e old.opened old.closed) old.indents new.indents
 
--- what is kept is what the entries say
+-- what is kept is what the entries say, in the extent that is kept
 pub record Passed (text : List ℕ) (es : List Entry) (p : Pass) : Type 0 where
   pub begun : p.begun ≡ is_open (behind [] es)
   pub opened : p.opened ≡ count_by opens (behind [] es)
   pub closed : p.closed ≡ count_by closes (behind [] es)
-  pub faulty : p.faulty ≡ first_entry_refusal text es
+  pub faulty : p.faulty ≡ first_entry_refusal p.extent text es
   pub deep : p.deep ≡ first_too_deep most_brackets [] es
   pub indents : Measured (margins text es) p.indents
 

@@ -81,6 +81,7 @@ pub record Walks (p : Parts) (levels : List ℕ) (s t : Spot) (old new : LineGat
   pub reads : (first : Listed) → Reads p first (at_spot p s levels) old → Reads p first (at_spot p t levels) new
   pub within : t.begun ≡ true
   pub begun : new.pass.begun ≡ true
+  pub extent : new.pass.extent ≡ old.pass.extent
   pub some : 0 < length new.terminals.items
   pub given : s.given ≤ t.given
   pub left_is : left ≡ drop t.offset p.text

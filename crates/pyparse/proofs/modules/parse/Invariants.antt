@@ -7,6 +7,7 @@ use Rattle.pyparse.proofs.modules.parse.Given as goal
 abbrev pub invariant-loop-progress : goal.invariant-loop-progress
 invariant-loop-progress l = record {
   source : l.lines.source ≡ l.fn.source;
+  extent : l.lines.extent ≡ l.fn.profile.extent;
   known : IsKnown l.fn.profile (in_characters l.fn.source) l.lines.given l.progress;
 }
 

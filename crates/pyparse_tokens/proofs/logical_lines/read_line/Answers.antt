@@ -6,6 +6,7 @@ use Rattle.pylex.specs.Listing.{in_characters, listing}
 use Rattle.pylex.specs.Steps.{entries_of}
 use Rattle.pytoken.specs.declared.refusals.Refusal.{Refusal}
 use Rattle.pyparse_tokens.specs.Answers.{Tells}
+use Rattle.pyparse_tokens.specs.declared.line_gather.LineGather.{LineGather}
 use Rattle.pyparse_tokens.specs.Inner.Passing.{kept_refusal}
 use Rattle.pyparse_tokens.specs.LineReadings.{lines_within, EndsAt}
 use Rattle.pyparse_tokens.proofs.ListingLemmas.{moved, at_stop}
@@ -16,17 +17,21 @@ use Rattle.pyparse_tokens.proofs.WalkLemmas.{reads_begin, reads_on, reads_end, r
 use Rattle.pyparse_tokens.proofs.logical_lines.read_line.Goals as goal
 
 pub entries-init : goal.entries-init
-entries-init c = reads_begin c.args.source.now c.args.lister.now c.args.gather.now c.clear.new.self c.requires c.clear.ensures.rest c.clear.ensures.empty
+entries-init c =
+    record {
+      extent = ap (λ (g : LineGather). g.pass.extent) c.clear.ensures.rest;
+      reads = reads_begin c.args.source.now c.args.lister.now c.args.gather.now c.clear.new.self c.requires c.clear.ensures.rest c.clear.ensures.empty;
+    }
 
 pub walk_line-requires : goal.walk_line-requires
-walk_line-requires c = c.entries.invariant.at
+walk_line-requires c = c.entries.invariant.reads.at
 
 pub returns-then-branch-clause-line : goal.returns-then-branch-clause-line
-returns-then-branch-clause-line c = λ _. c.in_ok-walk_line.ensures.ended c.if-branch.true c.args.lister.now c.entries.invariant
+returns-then-branch-clause-line c = λ _. c.in_ok-walk_line.ensures.ended c.if-branch.true c.args.lister.now c.entries.invariant.reads
 
 pub take-requires : goal.take-requires
 take-requires c =
-    let reads = c.in_ok-walk_line.ensures.within c.if-branch.false c.args.lister.now c.entries.invariant in
+    let reads = c.in_ok-walk_line.ensures.within c.if-branch.false c.args.lister.now c.entries.invariant.reads in
     let read =
     entry_read c.args.source.now c.walk_line.new.lister c.next.new.self c.walk_line.new.gather c.in_ok-entry.field-0 c.in-Entry.entry reads.at
     c.in_ok-entry.ensures.steps c.in-Entry.is
@@ -37,7 +42,7 @@ take-requires c =
 
 pub returns-then-is_none-clause-line : goal.returns-then-is_none-clause-line
 returns-then-is_none-clause-line c =
-    let reads = c.in_ok-walk_line.ensures.within c.if-branch.false c.args.lister.now c.entries.invariant in
+    let reads = c.in_ok-walk_line.ensures.within c.if-branch.false c.args.lister.now c.entries.invariant.reads in
     let read =
     entry_read c.args.source.now c.walk_line.new.lister c.next.new.self c.walk_line.new.gather c.in_ok-entry.field-0 c.in-Entry.entry reads.at
     c.in_ok-entry.ensures.steps c.in-Entry.is
@@ -50,7 +55,7 @@ returns-then-is_none-clause-line c =
 
 pub entries-smaller-then-branch-2 : goal.entries-smaller-then-branch-2
 entries-smaller-then-branch-2 c =
-    let reads = c.in_ok-walk_line.ensures.within c.if-branch.false c.args.lister.now c.entries.invariant in
+    let reads = c.in_ok-walk_line.ensures.within c.if-branch.false c.args.lister.now c.entries.invariant.reads in
     let read =
     entry_read c.args.source.now c.walk_line.new.lister c.next.new.self c.walk_line.new.gather c.in_ok-entry.field-0 c.in-Entry.entry reads.at
     c.in_ok-entry.ensures.steps c.in-Entry.is
@@ -59,7 +64,7 @@ entries-smaller-then-branch-2 c =
 
 pub entries-smaller : goal.entries-smaller
 entries-smaller c =
-    let reads = c.in_ok-walk_line.ensures.within c.if-branch.false c.args.lister.now c.entries.invariant in
+    let reads = c.in_ok-walk_line.ensures.within c.if-branch.false c.args.lister.now c.entries.invariant.reads in
     let read =
     entry_read c.args.source.now c.walk_line.new.lister c.next.new.self c.walk_line.new.gather c.in_ok-entry.field-0 c.in-Entry.entry reads.at
     c.in_ok-entry.ensures.steps c.in-Entry.is
@@ -72,7 +77,7 @@ is_none_not (Some r) some none = cc
 
 pub entries-preserved-then-branch-2 : goal.entries-preserved-then-branch-2
 entries-preserved-then-branch-2 c =
-    let reads = c.in_ok-walk_line.ensures.within c.if-branch.false c.args.lister.now c.entries.invariant in
+    let reads = c.in_ok-walk_line.ensures.within c.if-branch.false c.args.lister.now c.entries.invariant.reads in
     let read =
     entry_read c.args.source.now c.walk_line.new.lister c.next.new.self c.walk_line.new.gather c.in_ok-entry.field-0 c.in-Entry.entry reads.at
     c.in_ok-entry.ensures.steps c.in-Entry.is
@@ -82,34 +87,44 @@ entries-preserved-then-branch-2 c =
     c.next.ensures.given (c.in_ok-entry.ensures.source ∙ reads.at.source) c.in_ok-take-in-Entry.ensures.gathers
     (sym c.in_ok-take-in-Entry.ensures.ends ∙ c.if-branch-2.true)
     in
-    reads_cleared c.args.source.now c.args.lister.now c.next.new.self c.take.new.self c.clear-then-branch-2.new.self ended.at
-    (λ none. is_none_not (kept_refusal c.take.new.self.pass) (ap is_some (sym c.refusal.ensures) ∙ c.is_none.ensures ∙ ap not c.if-is_none.false) none)
-    c.clear-then-branch-2.ensures.rest
+    record {
+      extent =
+          ap (λ (g : LineGather). g.pass.extent) c.clear-then-branch-2.ensures.rest ∙ c.take.ensures.extent ∙ c.walk_line.ensures.extent
+          ∙ c.entries.invariant.extent;
+      reads =
+          reads_cleared c.args.source.now c.args.lister.now c.next.new.self c.take.new.self c.clear-then-branch-2.new.self ended.at
+          (λ none. is_none_not (kept_refusal c.take.new.self.pass) (ap is_some (sym c.refusal.ensures) ∙ c.is_none.ensures ∙ ap not c.if-is_none.false) none)
+          c.clear-then-branch-2.ensures.rest;
+    }
 
 pub entries-preserved : goal.entries-preserved
 entries-preserved c =
-    let reads = c.in_ok-walk_line.ensures.within c.if-branch.false c.args.lister.now c.entries.invariant in
+    let reads = c.in_ok-walk_line.ensures.within c.if-branch.false c.args.lister.now c.entries.invariant.reads in
     let read =
     entry_read c.args.source.now c.walk_line.new.lister c.next.new.self c.walk_line.new.gather c.in_ok-entry.field-0 c.in-Entry.entry reads.at
     c.in_ok-entry.ensures.steps c.in-Entry.is
     in
-    reads_on c.args.source.now c.args.lister.now c.walk_line.new.lister c.next.new.self c.in-Entry.entry c.walk_line.new.gather c.take.new.self reads read
-    c.next.ensures.given (c.in_ok-entry.ensures.source ∙ reads.at.source) c.in_ok-take-in-Entry.ensures.gathers
-    (sym c.in_ok-take-in-Entry.ensures.ends ∙ c.if-branch-2.false)
+    record {
+      extent = c.take.ensures.extent ∙ c.walk_line.ensures.extent ∙ c.entries.invariant.extent;
+      reads =
+          reads_on c.args.source.now c.args.lister.now c.walk_line.new.lister c.next.new.self c.in-Entry.entry c.walk_line.new.gather c.take.new.self reads read
+          c.next.ensures.given (c.in_ok-entry.ensures.source ∙ reads.at.source) c.in_ok-take-in-Entry.ensures.gathers
+          (sym c.in_ok-take-in-Entry.ensures.ends ∙ c.if-branch-2.false);
+    }
 
 pub returns-in-End-clause-same : goal.returns-in-End-clause-same
 returns-in-End-clause-same c =
     let s = in_characters c.args.source.now in
     let m = moved c.walk_line.new.lister c.next.new.self c.in_ok-entry.field-0 steps.End s c.walk_line.new.lister.shown.given c.in_ok-entry.ensures.steps
-    c.in-End.is (c.in_ok-walk_line.ensures.within c.if-branch.false c.args.lister.now c.entries.invariant).at.stands in
+    c.in-End.is (c.in_ok-walk_line.ensures.within c.if-branch.false c.args.lister.now c.entries.invariant.reads).at.stands in
     IfOk-weaker c.end.result _ _
     (λ more ends _.
-    ap (λ (n : ℕ). length (lines_within s n)) (omega (arith, m.1.count)) ∙ ap length ((c.in_ok-walk_line.ensures.within c.if-branch.false c.args.lister.now c.entries.invariant).same ends.1)) c.end.ensures.end
+    ap (λ (n : ℕ). length (lines_within s n)) (omega (arith, m.1.count)) ∙ ap length ((c.in_ok-walk_line.ensures.within c.if-branch.false c.args.lister.now c.entries.invariant.reads).same ends.1)) c.end.ensures.end
 
 pub returns-in-End-clause-all : goal.returns-in-End-clause-all
 returns-in-End-clause-all c =
     let s = in_characters c.args.source.now in
-    let at = (c.in_ok-walk_line.ensures.within c.if-branch.false c.args.lister.now c.entries.invariant).at in
+    let at = (c.in_ok-walk_line.ensures.within c.if-branch.false c.args.lister.now c.entries.invariant.reads).at in
     let m = moved c.walk_line.new.lister c.next.new.self c.in_ok-entry.field-0 steps.End s c.walk_line.new.lister.shown.given c.in_ok-entry.ensures.steps
     c.in-End.is at.stands in
     let last = at_stop (listing s) c.walk_line.new.lister.shown.given steps.End at.whole at.within tt m.0 in
@@ -120,17 +135,17 @@ returns-in-End-clause-all c =
 pub returns-in-End-clause-sound : goal.returns-in-End-clause-sound
 returns-in-End-clause-sound c =
     let s = in_characters c.args.source.now in
-    let at = (c.in_ok-walk_line.ensures.within c.if-branch.false c.args.lister.now c.entries.invariant).at in
+    let at = (c.in_ok-walk_line.ensures.within c.if-branch.false c.args.lister.now c.entries.invariant.reads).at in
     let k = c.walk_line.new.lister.shown.given in
     let m = moved c.walk_line.new.lister c.next.new.self c.in_ok-entry.field-0 steps.End s k c.in_ok-entry.ensures.steps c.in-End.is at.stands in
     let last = at_stop (listing s) k steps.End at.whole at.within tt m.0 in
-    let all = all_refusals s (take k (entries_of (listing s))) c.walk_line.new.gather.pass at.counts.pass last.0 last.1 in
+    let all = all_refusals c.args.gather.now.pass.extent s (take k (entries_of (listing s))) c.walk_line.new.gather.pass (c.walk_line.ensures.extent ∙ c.entries.invariant.extent) at.counts.pass last.0 last.1 in
     IfOk-weaker c.end.result _ _ (λ more ends _. sym all ∙ ends.1) c.end.ensures.end
 
 pub returns-in-End-clause-marker : goal.returns-in-End-clause-marker
 returns-in-End-clause-marker c =
     let s = in_characters c.args.source.now in
-    let at = (c.in_ok-walk_line.ensures.within c.if-branch.false c.args.lister.now c.entries.invariant).at in
+    let at = (c.in_ok-walk_line.ensures.within c.if-branch.false c.args.lister.now c.entries.invariant.reads).at in
     let k = c.walk_line.new.lister.shown.given in
     let m = moved c.walk_line.new.lister c.next.new.self c.in_ok-entry.field-0 steps.End s k c.in_ok-entry.ensures.steps c.in-End.is at.stands in
     let last = at_stop (listing s) k steps.End at.whole at.within tt m.0 in
@@ -142,19 +157,19 @@ returns-in-End-clause-marker c =
 pub returns-in-End-clause-refused : goal.returns-in-End-clause-refused
 returns-in-End-clause-refused c =
     let s = in_characters c.args.source.now in
-    let at = (c.in_ok-walk_line.ensures.within c.if-branch.false c.args.lister.now c.entries.invariant).at in
+    let at = (c.in_ok-walk_line.ensures.within c.if-branch.false c.args.lister.now c.entries.invariant.reads).at in
     let k = c.walk_line.new.lister.shown.given in
     let m = moved c.walk_line.new.lister c.next.new.self c.in_ok-entry.field-0 steps.End s k c.in_ok-entry.ensures.steps c.in-End.is at.stands in
     let last = at_stop (listing s) k steps.End at.whole at.within tt m.0 in
-    let all = all_refusals s (take k (entries_of (listing s))) c.walk_line.new.gather.pass at.counts.pass last.0 last.1 in
+    let all = all_refusals c.args.gather.now.pass.extent s (take k (entries_of (listing s))) c.walk_line.new.gather.pass (c.walk_line.ensures.extent ∙ c.entries.invariant.extent) at.counts.pass last.0 last.1 in
     subst (λ (r : Option Refusal). IfErr c.end.result (Tells r)) all c.end.ensures.refused
 
 pub returns-in-Fault-clause-refused : goal.returns-in-Fault-clause-refused
 returns-in-Fault-clause-refused c =
     let s = in_characters c.args.source.now in
-    let at = (c.in_ok-walk_line.ensures.within c.if-branch.false c.args.lister.now c.entries.invariant).at in
+    let at = (c.in_ok-walk_line.ensures.within c.if-branch.false c.args.lister.now c.entries.invariant.reads).at in
     let k = c.walk_line.new.lister.shown.given in
     let fault = c.in-Fault.fault in
     let m = moved c.walk_line.new.lister c.next.new.self c.in_ok-entry.field-0 (steps.Fault fault) s k c.in_ok-entry.ensures.steps c.in-Fault.is at.stands in
     let last = at_stop (listing s) k (steps.Fault fault) at.whole at.within tt m.0 in
-    refused_listing s fault last.1
+    refused_listing c.args.gather.now.pass.extent s fault last.1

@@ -1,11 +1,14 @@
-use Rattle.std.proofs.Common.{◌-◌, length}
+use Rattle.std.proofs.Common.{◌≡◌, ◌-◌, length}
 use Rattle.pylex.specs.Listing.{in_characters, listing}
 use Rattle.pylex.specs.Steps.{entries_of}
 use Rattle.pyparse_tokens.specs.Inner.Walking.{Reads}
 use Rattle.pyparse_tokens.proofs.logical_lines.read_line.Given as goal
 
 abbrev pub invariant-entries : goal.invariant-entries
-invariant-entries l = Reads l.source l.fn.lister l.lister l.gather
+invariant-entries l = record {
+  extent : l.gather.pass.extent ≡ l.fn.gather.pass.extent;
+  reads : Reads l.source l.fn.lister l.lister l.gather;
+}
 
 abbrev pub decreases-entries : goal.decreases-entries
 decreases-entries l = length (entries_of (listing (in_characters l.source))) - l.lister.shown.given

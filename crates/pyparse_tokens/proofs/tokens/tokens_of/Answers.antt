@@ -9,7 +9,7 @@ use Rattle.pylex.specs.Steps.{entries_of}
 use Rattle.pylex.proofs.Callers.{entry_lies}
 use Rattle.pytoken.specs.declared.refusals.Refusal.{Refusal}
 use Rattle.pytoken.specs.Tokens.{Token}
-use Rattle.pytoken.proofs.Callers.Said.{values_are_lawful, tokens_are_sound}
+use Rattle.pytoken.proofs.Callers.Said.{values_are_lawful, tokens_are_sound, extents_differ_in_numbers}
 use Rattle.pyparse_tokens.specs.Answers.{token_of, Tells}
 use Rattle.pyparse_tokens.specs.Inner.Gathering.{Gathered}
 use Rattle.pyparse_tokens.proofs.ListingLemmas.{moved, at_entry, at_stop, starts_at}
@@ -32,7 +32,8 @@ loop-gather-init c =
       whole = c.new-lister.ensures.lawful.whole;
       typed = tokens_are_sound s c.new-lister.ensures.lawful;
       lies = c.new-lister.ensures.lies;
-      gathered = subst (λ (es : List Entry). Gathered (chars c.args.source.now.text) es c.in_ok-gather.gather) (sym none) c.in_ok-gather.ensures;
+      extent = c.in_ok-gather.ensures.extent;
+      gathered = subst (λ (es : List Entry). Gathered (chars c.args.source.now.text) es c.in_ok-gather.gather) (sym none) c.in_ok-gather.ensures.gathered;
     }
 
 pub take-requires-clause-lies : goal.take-requires-clause-lies
@@ -86,6 +87,7 @@ loop-gather-preserved c =
       whole = c.loop-gather.invariant.whole;
       typed = c.loop-gather.invariant.typed;
       lies = c.loop-gather.invariant.lies;
+      extent = c.in_ok-take-in-Entry.ensures.pass.extent ∙ c.loop-gather.invariant.extent;
       gathered =
           subst (λ (read : List Entry). Gathered text read c.take.new.self) (sym grown)
           (gathers text (take k es) entry c.loop-gather.gather c.take.new.self c.loop-gather.invariant.gathered c.in_ok-take-in-Entry.ensures);
@@ -108,7 +110,7 @@ returns-in-End-clause-sound c =
     let m = moved c.loop-gather.lister c.next.new.self c.in_ok-entry.field-0 steps.End s k c.in_ok-entry.ensures.steps c.in-End.is
     c.loop-gather.invariant.stands in
     let last = at_stop (listing s) k steps.End c.loop-gather.invariant.whole c.loop-gather.invariant.within tt m.0 in
-    let all = all_refusals s (take k (entries_of (listing s))) c.loop-gather.gather.pass c.loop-gather.invariant.gathered.pass last.0 last.1 in
+    let all = all_refusals c.args.extent s (take k (entries_of (listing s))) c.loop-gather.gather.pass c.loop-gather.invariant.extent c.loop-gather.invariant.gathered.pass last.0 last.1 in
     subst (λ (r : Option Refusal). OnOk c.finish.result (r ≡ None)) all c.finish.ensures.sound
 
 pub returns-in-End-clause-refused : goal.returns-in-End-clause-refused
@@ -118,7 +120,7 @@ returns-in-End-clause-refused c =
     let m = moved c.loop-gather.lister c.next.new.self c.in_ok-entry.field-0 steps.End s k c.in_ok-entry.ensures.steps c.in-End.is
     c.loop-gather.invariant.stands in
     let last = at_stop (listing s) k steps.End c.loop-gather.invariant.whole c.loop-gather.invariant.within tt m.0 in
-    let all = all_refusals s (take k (entries_of (listing s))) c.loop-gather.gather.pass c.loop-gather.invariant.gathered.pass last.0 last.1 in
+    let all = all_refusals c.args.extent s (take k (entries_of (listing s))) c.loop-gather.gather.pass c.loop-gather.invariant.extent c.loop-gather.invariant.gathered.pass last.0 last.1 in
     subst (λ (r : Option Refusal). IfErr c.finish.result (Tells r)) all c.finish.ensures.refused
 
 pub returns-in-Fault-clause-refused : goal.returns-in-Fault-clause-refused
@@ -129,7 +131,7 @@ returns-in-Fault-clause-refused c =
     let m = moved c.loop-gather.lister c.next.new.self c.in_ok-entry.field-0 (steps.Fault fault) s k c.in_ok-entry.ensures.steps c.in-Fault.is
     c.loop-gather.invariant.stands in
     let last = at_stop (listing s) k (steps.Fault fault) c.loop-gather.invariant.whole c.loop-gather.invariant.within tt m.0 in
-    refused_listing s fault last.1
+    refused_listing c.args.extent s fault last.1
 
 pub returns-in_err-entry-clause-lawful : goal.returns-in_err-entry-clause-lawful
 returns-in_err-entry-clause-lawful c = values_are_lawful
@@ -160,3 +162,18 @@ returns-in-Fault-clause-typed c = c.loop-gather.invariant.typed
 
 pub returns-in_err-gather-clause-typed : goal.returns-in_err-gather-clause-typed
 returns-in_err-gather-clause-typed c = tokens_are_sound (in_characters c.args.source.now) c.new-lister.ensures.lawful
+
+pub returns-in_err-entry-clause-extents : goal.returns-in_err-entry-clause-extents
+returns-in_err-entry-clause-extents c = extents_differ_in_numbers (in_characters c.args.source.now)
+
+pub returns-in_err-take-in-Entry-clause-extents : goal.returns-in_err-take-in-Entry-clause-extents
+returns-in_err-take-in-Entry-clause-extents c = extents_differ_in_numbers (in_characters c.args.source.now)
+
+pub returns-in-End-clause-extents : goal.returns-in-End-clause-extents
+returns-in-End-clause-extents c = extents_differ_in_numbers (in_characters c.args.source.now)
+
+pub returns-in-Fault-clause-extents : goal.returns-in-Fault-clause-extents
+returns-in-Fault-clause-extents c = extents_differ_in_numbers (in_characters c.args.source.now)
+
+pub returns-in_err-gather-clause-extents : goal.returns-in_err-gather-clause-extents
+returns-in_err-gather-clause-extents c = extents_differ_in_numbers (in_characters c.args.source.now)

@@ -1,4 +1,4 @@
-use Rattle.std.proofs.Common.{◌-◌, ◌≤◌, length, take}
+use Rattle.std.proofs.Common.{◌≡◌, ◌-◌, ◌≤◌, length, take}
 use Rattle.std.specs.Str.{chars}
 use Rattle.pylex.specs.Listing.{in_characters, listing}
 use Rattle.pylex.specs.Laws.{IsWhole, AllLie}
@@ -16,6 +16,7 @@ invariant-loop-gather l = record {
   whole : IsWhole (in_characters l.fn.source);
   typed : TokensAreSound (in_characters l.fn.source);
   lies : AllLie l.fn.source.text (listing (in_characters l.fn.source));
+  extent : l.gather.pass.extent ≡ l.fn.extent;
   gathered : Gathered (chars l.fn.source.text) (take l.lister.shown.given (entries_of (listing (in_characters l.fn.source)))) l.gather;
 }
 

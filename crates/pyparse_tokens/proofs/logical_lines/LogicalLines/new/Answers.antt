@@ -1,4 +1,4 @@
-use Rattle.pytoken.proofs.Callers.Said.{values_are_lawful, tokens_are_sound}
+use Rattle.pytoken.proofs.Callers.Said.{values_are_lawful, tokens_are_sound, extents_differ_in_numbers}
 use Rattle.pylex.specs.Listing.{in_characters}
 use Rattle.pyparse_tokens.proofs.ListingLemmas.{starts_at}
 use Rattle.pyparse_tokens.proofs.logical_lines.LogicalLines.new.Goals as goal
@@ -12,8 +12,14 @@ returns-in_err-new-clause-lawful c = values_are_lawful
 pub returns-in_err-new-clause-typed : goal.returns-in_err-new-clause-typed
 returns-in_err-new-clause-typed c = tokens_are_sound (in_characters c.args.source.now) c.new.ensures.lawful
 
+pub returns-in_err-new-clause-extents : goal.returns-in_err-new-clause-extents
+returns-in_err-new-clause-extents c = extents_differ_in_numbers (in_characters c.args.source.now)
+
 pub returns-clause-lawful : goal.returns-clause-lawful
 returns-clause-lawful c = values_are_lawful
 
 pub returns-clause-typed : goal.returns-clause-typed
 returns-clause-typed c = tokens_are_sound (in_characters c.args.source.now) c.new.ensures.lawful
+
+pub returns-clause-extents : goal.returns-clause-extents
+returns-clause-extents c = extents_differ_in_numbers (in_characters c.args.source.now)

@@ -5,8 +5,8 @@ use Rattle.pyparse_tokens.specs.Inner.Indenting.{Measured}
 use Rattle.pyparse_tokens.proofs.IndentLemmas.{none_measured, measures}
 use Rattle.pyparse_tokens.proofs.pass.Pass.new.Goals as goal
 
-pub returns : goal.returns
-returns c =
+pub returns-clause-passed : goal.returns-clause-passed
+returns-clause-passed c =
     let first = margin_at (chars c.args.source.now.text) 0 in
     let none = none_measured c.new-indents.result c.new-indents.ensures.standing c.new-indents.ensures.mixed in
     record {
