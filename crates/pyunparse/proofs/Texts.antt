@@ -1,3 +1,4 @@
 -- The text that is written, and what it holds.
 pub mod LineLemmas
+pub mod NumberLemmas
 pub mod StatedLemmas
