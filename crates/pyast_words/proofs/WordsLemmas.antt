@@ -1,13 +1,15 @@
--- Carries: Command::read. What `clap` finds among the words gives the command, or refuses them.
-use Rattle.std.proofs.Common.{◌≡◌, ◌≢◌, ◌⊎◌, ℕ, ◌≤◌, ◌<◌, Bool, true, false, not, List, [], ◌∷◌, codes, refl, sym, ap, subst, ◌∙◌, inl, inr, Option, Some, None, Result, Ok, Err, arith}
+-- Carries: Command::read, dump_form. What `clap` finds among the words gives the command, or refuses them.
+use Rattle.std.proofs.Common.{◌≡◌, ◌≢◌, ◌⊎◌, ℕ, ◌≤◌, ◌<◌, Bool, true, false, not, ◌||◌, List, [], ◌∷◌, ◌++◌, codes, refl, sym, ap, ap₂, subst, ◌∙◌, inl, inr, Option, Some, None, Result, Ok, Err, arith}
 use Rattle.std.specs.Prelude.{IfOk, unwrap_or}
 use Rattle.std.specs.Str.Parse.{ParsesUnsigned}
+use Rattle.clap.specs.Built.{AddsArg}
 use Rattle.clap.specs.Faults.{fault_of, is_simple_and_free}
 use Rattle.clap.specs.Kinds.{FailsBy, HasKind, IsAmong}
 use Rattle.clap.specs.Matches.{TriesOne}
-use Rattle.clap.specs.Simple.{HasMatchesOf, app_of, is_simple, subcommand_of, subcommand_rows_of}
+use Rattle.clap.specs.Simple.{HasMatchesOf, Shape, app_of, is_simple, subcommand_of, subcommand_rows_of, with_rule}
 use Rattle.clap.specs.Values.{kind_of}
-use Rattle.clap.specs.Walk.{Row, first_of}
+use Rattle.clap.specs.Walk.{Row, Rule, first_of}
+use Rattle.clap.specs.declared.builder.arg.Arg.{Arg}
 use Rattle.clap.specs.declared.builder.command.Command.{Command as ClapCommand}
 use Rattle.clap.specs.declared.error.Error.{Error}
 use Rattle.clap.specs.declared.error.kind.ErrorKind.{ErrorKind}
@@ -18,7 +20,7 @@ use Rattle.pylex.specs.Cursors.{CursorParts, cursor_text}
 use Rattle.pylex.specs.declared.cursor.CursorFault.{CursorFault}
 use Rattle.pylex.specs.declared.cursor.CursorFault.TheVariants as cursor_faults
 use Rattle.pyast_words.specs.Words.{grammar, of_cursor, IsCommand, IsFlag, IsNumber, Refuses}
-use Rattle.pyast_words.specs.Inner.Matching.{Explains, MissesCommand, MissesCursor}
+use Rattle.pyast_words.specs.Inner.Matching.{Explains, IsForm, IsRule, MissesCommand, MissesCursor}
 use Rattle.pyast_words.specs.declared.command.UsageFault.{UsageFault}
 use Rattle.pyast_words.specs.declared.command.UsageFault.TheVariants as faults
 
@@ -27,6 +29,13 @@ grammar_is_simple = refl
 
 grammar_is_free : is_simple_and_free grammar ≡ true
 grammar_is_free = refl
+
+-- an argument more of a subcommand
+pub one_more : {shape : Shape} {old new : ClapCommand} {rule : Rule} {a : Arg} → IsForm shape old → IsRule rule a → AddsArg old a new → IsForm (record shape { rules = shape.rules ++ rule ∷ [] }) new
+one_more form rule added = record {
+  is = added.shape rule.local ∙ ap₂ with_rule form.is rule.is;
+  local = added.globals ∙ ap₂ ◌||◌ form.local rule.local;
+}
 
 pub is_flag : (o : Option (List ℕ)) (set : Bool) → (o ≡ None → set ≡ false) → (o ≡ Some (codes "true") → set ≡ true) → (o ≡ Some (codes "false") → set ≡ false) → IsFlag o set
 is_flag None set none set_by unset_by = none refl
