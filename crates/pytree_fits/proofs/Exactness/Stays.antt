@@ -17,14 +17,18 @@ use Rattle.pytree_node.specs.Values
 use Rattle.pytree_node.specs.Values.{Value, Int, Float, Imaginary}
 use Rattle.pytoken.specs.Terminals.{Terminal, Op, Word, Ident, Number, Literal, Layout}
 use Rattle.pygrammar.specs.declared.levels.Level.TheVariants.{Stars, Expression, Elem}
+use Rattle.pygrammar.specs.Grammar.{Derives}
 use Rattle.pygrammar.specs.Lines.{Line, no_types}
+use Rattle.pygrammar.specs.Forms.{FormOf}
 use Rattle.pytree_fits.specs.Tests.{Tests, tests_in}
 use Rattle.pytree_fits.specs.Literals.{is_value}
-use Rattle.pytree_fits.specs.Slots.{fits_at, fits_target, each_fits, perhaps_fits, each_keyword_fits, fits_arguments}
+use Rattle.pytree_fits.specs.Slots.{is_a_name, fits_at, fits_target, each_fits, perhaps_fits, each_keyword_fits, fits_arguments}
 use Rattle.pytree_fits.specs.Statements.{has_one, item_fits, type_param_fits, types_fit, caught_fits, clauses_fit, statement_fits, statements_fit, suite_fits, handlers_fit}
 use Rattle.pytree_fits.specs.Given.{is_number, is_literal, passes, all_pass, Given, AreGiven, no_line, a_line}
 use Rattle.pytree_fits.specs.Laws.{ExpressionsStay, ModulesStay}
 use Rattle.pytree_fits.proofs.Fields.Tests.{never}
+use Rattle.pytree_fits.proofs.Fitting.FormFits.{from5}
+use Rattle.pytree_fits.proofs.Giving.BlockGives.{parts5}
 use Rattle.pytree_fits.proofs.Exactness.Exactly.{fits_exactly}
 use Rattle.pytree_fits.proofs.Exactness.NumberTokens.{in_whole}
 use Rattle.pytree_fits.proofs.Exactness.Modules.{module_exactly, module_given}
@@ -61,21 +65,21 @@ terminals_stay extent (t ∷ ts) h =
     let w = and_parts (passes (tests_in extent) t) (all_pass (tests_in extent) ts) h in
     and_from (passes (tests_in Whole) t) (all_pass (tests_in Whole) ts) (terminal_stays extent t w.0) (terminals_stay extent ts w.1)
 
-given_stays : {A : Type 0} {r : List Terminal → A → Type 0} {a : A} (extent : Extent) → Given (tests_in extent) r a → Given (tests_in Whole) r a
-given_stays extent w = (w.0, terminals_stay extent w.0 w.1, w.2)
+given_stays : {A : Type 0} (r : List Terminal → A → Type 0) (a : A) (extent : Extent) → Given (tests_in extent) r a → Given (tests_in Whole) r a
+given_stays r a extent w = (w.0, terminals_stay extent w.0 w.1, w.2)
 
-lines_stay : {profile : Profile} {xs : List Line} (extent : Extent) → AreGiven profile (tests_in extent) xs → AreGiven profile (tests_in Whole) xs
-lines_stay extent no_line = no_line
-lines_stay extent (a_line w r) = a_line (given_stays extent w) (lines_stay extent r)
+lines_stay : (profile : Profile) (extent : Extent) {xs : List Line} → AreGiven profile (tests_in extent) xs → AreGiven profile (tests_in Whole) xs
+lines_stay profile extent no_line = no_line
+lines_stay profile extent (a_line {x = x} w r) = a_line (given_stays (FormOf profile) x.form extent w) (lines_stay profile extent r)
 
 pub expressions_stay : ExpressionsStay
-expressions_stay extent l e h = (fits_exactly (tests_in Whole) l e).0 (given_stays extent ((fits_exactly (tests_in extent) l e).1 h))
+expressions_stay extent l e h = (fits_exactly (tests_in Whole) l e).0 (given_stays (Derives l) e extent ((fits_exactly (tests_in extent) l e).1 h))
 
 -- ---- From a version to one with more.
 
-on : (x : Bool) {y z : Bool} → (y ≡ true → z ≡ true) → (x && y) ≡ true → (x && z) ≡ true
-on true f h = f h
-on false f h = absurd (never h)
+-- the last of some tests, or the last two
+last : (x : Bool) {y z : Bool} → (y ≡ true → z ≡ true) → (x && y) ≡ true → (x && z) ≡ true
+last x {y} {z} f h = let p = and_parts x y h in and_from x z p.0 (f p.1)
 
 both : {x y z w : Bool} → (x ≡ true → y ≡ true) → (z ≡ true → w ≡ true) → (x && z) ≡ true → (y && w) ≡ true
 both {x} {y} {z} {w} f g h = let p = and_parts x z h in and_from y w (f p.0) (g p.1)
@@ -91,24 +95,24 @@ module _ (p q : Profile) (n : Tests) (more : has_types p ≡ true → has_types 
   mutual
     statement_stays : (s : Stmt) → statement_fits p n s ≡ true → statement_fits q n s ≡ true
     statement_stays (Trees.FunctionDef name args body ds r ps) h =
-        on (n.name name) (on (fits_arguments n true args) (on (each_fits n Expression (exprs ds)) (on (perhaps_fits n Expression (optional r)) (both (types_stay ps) (suite_stays body))))) h
+        both (last (n.name name && fits_arguments n true args && each_fits n Expression (exprs ds) && perhaps_fits n Expression (optional r)) (types_stay ps)) (suite_stays body) h
     statement_stays (Trees.AsyncFunctionDef name args body ds r ps) h =
-        on (n.name name) (on (fits_arguments n true args) (on (each_fits n Expression (exprs ds)) (on (perhaps_fits n Expression (optional r)) (both (types_stay ps) (suite_stays body))))) h
+        both (last (n.name name && fits_arguments n true args && each_fits n Expression (exprs ds) && perhaps_fits n Expression (optional r)) (types_stay ps)) (suite_stays body) h
     statement_stays (Trees.ClassDef name bases ks body ds ps) h =
-        on (n.name name) (on (each_fits n Elem (exprs bases)) (on (each_keyword_fits n ks) (on (each_fits n Expression (exprs ds)) (both (types_stay ps) (suite_stays body))))) h
+        both (last (n.name name && each_fits n Elem (exprs bases) && each_keyword_fits n ks && each_fits n Expression (exprs ds)) (types_stay ps)) (suite_stays body) h
     statement_stays (Trees.TypeAlias name ps value) h =
-        let w = and_parts (has_types p) _ h in
-        and_from (has_types q) _ (more w.0) w.1
-    statement_stays (Trees.For t i body orelse) h = on (fits_target n Store t) (on (fits_at n Stars i) (both (suite_stays body) (statements_stay orelse))) h
-    statement_stays (Trees.AsyncFor t i body orelse) h = on (fits_target n Store t) (on (fits_at n Stars i) (both (suite_stays body) (statements_stay orelse))) h
-    statement_stays (Trees.While test body orelse) h = on (fits_at n Expression test) (both (suite_stays body) (statements_stay orelse)) h
-    statement_stays (Trees.If test body orelse) h = on (fits_at n Expression test) (both (suite_stays body) (statements_stay orelse)) h
-    statement_stays (Trees.With is body) h = on (has_one is) (on (list_all (item_fits n) is) (suite_stays body)) h
-    statement_stays (Trees.AsyncWith is body) h = on (has_one is) (on (list_all (item_fits n) is) (suite_stays body)) h
+        let w = parts5 (has_types p) (is_a_name name) (fits_target n Store name) (list_all (type_param_fits n) ps) (fits_at n Expression value) h in
+        from5 (has_types q) (is_a_name name) (fits_target n Store name) (list_all (type_param_fits n) ps) (fits_at n Expression value) (more w.0) w.1 w.2 w.3 w.4
+    statement_stays (Trees.For t i body orelse) h = both (last (fits_target n Store t && fits_at n Stars i) (suite_stays body)) (statements_stay orelse) h
+    statement_stays (Trees.AsyncFor t i body orelse) h = both (last (fits_target n Store t && fits_at n Stars i) (suite_stays body)) (statements_stay orelse) h
+    statement_stays (Trees.While test body orelse) h = both (last (fits_at n Expression test) (suite_stays body)) (statements_stay orelse) h
+    statement_stays (Trees.If test body orelse) h = both (last (fits_at n Expression test) (suite_stays body)) (statements_stay orelse) h
+    statement_stays (Trees.With is body) h = last (has_one is && list_all (item_fits n) is) (suite_stays body) h
+    statement_stays (Trees.AsyncWith is body) h = last (has_one is && list_all (item_fits n) is) (suite_stays body) h
     statement_stays (Trees.Try body hs orelse final) h =
-        on (clauses_fit false hs orelse final) (both (suite_stays body) (both (handlers_stay false hs) (both (statements_stay orelse) (statements_stay final)))) h
+        both (both (both (last (clauses_fit false hs orelse final) (suite_stays body)) (handlers_stay false hs)) (statements_stay orelse)) (statements_stay final) h
     statement_stays (Trees.TryStar body hs orelse final) h =
-        on (clauses_fit true hs orelse final) (both (suite_stays body) (both (handlers_stay true hs) (both (statements_stay orelse) (statements_stay final)))) h
+        both (both (both (last (clauses_fit true hs orelse final) (suite_stays body)) (handlers_stay true hs)) (statements_stay orelse)) (statements_stay final) h
     statement_stays (Trees.Return value) h = h
     statement_stays (Trees.Delete ts) h = h
     statement_stays (Trees.Assign ts value) h = h
@@ -135,7 +139,7 @@ module _ (p q : Profile) (n : Tests) (more : has_types p ≡ true → has_types 
 
     handlers_stay : (star : Bool) (hs : Handlers) → handlers_fit p n star hs ≡ true → handlers_fit q n star hs ≡ true
     handlers_stay star no_handler h = refl
-    handlers_stay star (a_handler class name body hs) h = on (caught_fits n star class name) (both (suite_stays body) (handlers_stay star hs)) h
+    handlers_stay star (a_handler class name body hs) h = both (last (caught_fits n star class name) (suite_stays body)) (handlers_stay star hs) h
 
 -- ---- Modules.
 
@@ -143,4 +147,4 @@ pub modules_stay : ModulesStay
 modules_stay profile m h =
     let latest = python Py312 Whole in
     let w = module_given latest profile.extent m (statements_stay profile latest (tests_in profile.extent) (λ t. refl) (stmts m.body) h) in
-    module_exactly latest Whole m (w.0, lines_stay profile.extent w.1, w.2)
+    module_exactly latest Whole m (w.0, lines_stay latest profile.extent w.1, w.2)
