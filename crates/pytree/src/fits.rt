@@ -26,8 +26,7 @@ pub fn well_formed(alloc: Global, tree: &Module, profile: Profile) -> Result<boo
         (λ told. told ≡ module_fits profile (tests_in profile.extent) (module_of tree.now)) }
     ensures lawful { SlotsAreLawful }
 {
-    let extent = profile.extent;
-    statements_fit(Asked { alloc, extent }, profile, &tree.body)
+    statements_fit(alloc, profile, &tree.body)
 }
 
 /// Whether an expression is well formed at a level in an extent of Python: whether the grammar gives

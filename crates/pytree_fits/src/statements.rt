@@ -19,15 +19,17 @@ use crate::simple::{
 };
 use pygrammar::Level;
 use pytree_node::{Context, Handler, Profile, Stmt};
-use std::alloc::AllocError;
+use std::alloc::{AllocError, Global};
 
 /// Whether a statement fits.
 #[cycle(statements)]
 #[tactic(auto, using(pytree_node::proofs::Callers::StmtShapes::stmt_shapes))]
-fn statement_fits(asked: Asked, profile: Profile, s: &Stmt) -> Result<bool, AllocError>
+fn statement_fits(alloc: Global, profile: Profile, s: &Stmt) -> Result<bool, AllocError>
     ensures { IfOk result
-        (λ told. told ≡ statement_fits profile (tests_in asked.extent) (stmt_of s.now)) }
+        (λ told. told ≡ statement_fits profile (tests_in profile.extent) (stmt_of s.now)) }
 {
+    let extent = profile.extent;
+    let asked = Asked { alloc, extent };
     match s {
         Stmt::FunctionDef {
             name,
@@ -46,7 +48,7 @@ fn statement_fits(asked: Asked, profile: Profile, s: &Stmt) -> Result<bool, Allo
                 returns,
                 type_params,
             )?;
-            Ok(head && suite_fits(asked, profile, body)?)
+            Ok(head && suite_fits(alloc, profile, body)?)
         }
         Stmt::AsyncFunctionDef {
             name,
@@ -65,7 +67,7 @@ fn statement_fits(asked: Asked, profile: Profile, s: &Stmt) -> Result<bool, Allo
                 returns,
                 type_params,
             )?;
-            Ok(head && suite_fits(asked, profile, body)?)
+            Ok(head && suite_fits(alloc, profile, body)?)
         }
         Stmt::ClassDef {
             name,
@@ -84,7 +86,7 @@ fn statement_fits(asked: Asked, profile: Profile, s: &Stmt) -> Result<bool, Allo
                 decorator_list,
                 type_params,
             )?;
-            Ok(head && suite_fits(asked, profile, body)?)
+            Ok(head && suite_fits(alloc, profile, body)?)
         }
         Stmt::Return { value } => option_fits(asked, value, Level::Stars),
         Stmt::Delete { targets } => some_targets_fit(asked, targets, Context::Del),
@@ -113,10 +115,10 @@ fn statement_fits(asked: Asked, profile: Profile, s: &Stmt) -> Result<bool, Allo
             if !for_head_fits(asked, target, iter)? {
                 return Ok(false);
             }
-            if !suite_fits(asked, profile, body)? {
+            if !suite_fits(alloc, profile, body)? {
                 return Ok(false);
             }
-            statements_fit(asked, profile, orelse)
+            statements_fit(alloc, profile, orelse)
         }
         Stmt::AsyncFor {
             target,
@@ -127,34 +129,34 @@ fn statement_fits(asked: Asked, profile: Profile, s: &Stmt) -> Result<bool, Allo
             if !for_head_fits(asked, target, iter)? {
                 return Ok(false);
             }
-            if !suite_fits(asked, profile, body)? {
+            if !suite_fits(alloc, profile, body)? {
                 return Ok(false);
             }
-            statements_fit(asked, profile, orelse)
+            statements_fit(alloc, profile, orelse)
         }
         Stmt::While { test, body, orelse } => {
             if !expr_fits(asked, test, Level::Expression)? {
                 return Ok(false);
             }
-            if !suite_fits(asked, profile, body)? {
+            if !suite_fits(alloc, profile, body)? {
                 return Ok(false);
             }
-            statements_fit(asked, profile, orelse)
+            statements_fit(alloc, profile, orelse)
         }
         Stmt::If { test, body, orelse } => {
             if !expr_fits(asked, test, Level::Expression)? {
                 return Ok(false);
             }
-            if !suite_fits(asked, profile, body)? {
+            if !suite_fits(alloc, profile, body)? {
                 return Ok(false);
             }
-            statements_fit(asked, profile, orelse)
+            statements_fit(alloc, profile, orelse)
         }
         Stmt::With { items, body } => Ok(
-            items_fit(asked, items)? && suite_fits(asked, profile, body)?,
+            items_fit(asked, items)? && suite_fits(alloc, profile, body)?,
         ),
         Stmt::AsyncWith { items, body } => Ok(
-            items_fit(asked, items)? && suite_fits(asked, profile, body)?,
+            items_fit(asked, items)? && suite_fits(alloc, profile, body)?,
         ),
         Stmt::Raise { exc, cause } => raise_fits(asked, exc, cause),
         Stmt::Try {
@@ -166,16 +168,16 @@ fn statement_fits(asked: Asked, profile: Profile, s: &Stmt) -> Result<bool, Allo
             if !clauses_fit(false, handlers, orelse, finalbody) {
                 return Ok(false);
             }
-            if !suite_fits(asked, profile, body)? {
+            if !suite_fits(alloc, profile, body)? {
                 return Ok(false);
             }
-            if !handlers_fit(asked, profile, false, handlers)? {
+            if !handlers_fit(alloc, profile, false, handlers)? {
                 return Ok(false);
             }
-            if !statements_fit(asked, profile, orelse)? {
+            if !statements_fit(alloc, profile, orelse)? {
                 return Ok(false);
             }
-            statements_fit(asked, profile, finalbody)
+            statements_fit(alloc, profile, finalbody)
         }
         Stmt::TryStar {
             body,
@@ -186,29 +188,29 @@ fn statement_fits(asked: Asked, profile: Profile, s: &Stmt) -> Result<bool, Allo
             if !clauses_fit(true, handlers, orelse, finalbody) {
                 return Ok(false);
             }
-            if !suite_fits(asked, profile, body)? {
+            if !suite_fits(alloc, profile, body)? {
                 return Ok(false);
             }
-            if !handlers_fit(asked, profile, true, handlers)? {
+            if !handlers_fit(alloc, profile, true, handlers)? {
                 return Ok(false);
             }
-            if !statements_fit(asked, profile, orelse)? {
+            if !statements_fit(alloc, profile, orelse)? {
                 return Ok(false);
             }
-            statements_fit(asked, profile, finalbody)
+            statements_fit(alloc, profile, finalbody)
         }
         Stmt::Assert { test, msg } => Ok(
             expr_fits(asked, test, Level::Expression)?
                 && option_fits(asked, msg, Level::Expression)?,
         ),
-        Stmt::Import { names } => modules_fit(asked.alloc, names),
+        Stmt::Import { names } => modules_fit(alloc, names),
         Stmt::ImportFrom {
             module,
             names,
             level,
-        } => Ok(source_fits(asked.alloc, module, *level)? && imports_fit(asked.alloc, names)?),
-        Stmt::Global { names } => names_fit(asked.alloc, names),
-        Stmt::Nonlocal { names } => names_fit(asked.alloc, names),
+        } => Ok(source_fits(alloc, module, *level)? && imports_fit(alloc, names)?),
+        Stmt::Global { names } => names_fit(alloc, names),
+        Stmt::Nonlocal { names } => names_fit(alloc, names),
         Stmt::Expr { value } => expr_fits(asked, value, Level::Value),
         Stmt::Pass => Ok(true),
         Stmt::Break => Ok(true),
@@ -219,27 +221,27 @@ fn statement_fits(asked: Asked, profile: Profile, s: &Stmt) -> Result<bool, Allo
 /// Whether the block of a header fits: there are statements, and each fits.
 #[cycle(statements)]
 #[tactic(auto, using(crate::proofs::Suites::suites))]
-fn suite_fits(asked: Asked, profile: Profile, body: &[Stmt]) -> Result<bool, AllocError>
+fn suite_fits(alloc: Global, profile: Profile, body: &[Stmt]) -> Result<bool, AllocError>
     ensures { IfOk result
-        (λ told. told ≡ suite_fits profile (tests_in asked.extent) (stmts (map stmt_of body.now))) }
+        (λ told. told ≡ suite_fits profile (tests_in profile.extent) (stmts (map stmt_of body.now))) }
 {
     if body.is_empty() {
         return Ok(false);
     }
-    statements_fit(asked, profile, body)
+    statements_fit(alloc, profile, body)
 }
 
 /// Whether each of some statements fits in a version of Python: whether each of its fields has what
 /// may stand there. `Err` means out of memory alone.
 #[cycle(statements)]
 #[tactic(auto, using(pytree_node::proofs::Callers::StmtShapes::stmt_shapes))]
-pub fn statements_fit(asked: Asked, profile: Profile, body: &[Stmt]) -> Result<bool, AllocError>
+pub fn statements_fit(alloc: Global, profile: Profile, body: &[Stmt]) -> Result<bool, AllocError>
     ensures { IfOk result
         (λ told. told
-        ≡ statements_fit profile (tests_in asked.extent) (stmts (map stmt_of body.now))) }
+        ≡ statements_fit profile (tests_in profile.extent) (stmts (map stmt_of body.now))) }
 {
     for s in body {
-        if !statement_fits(asked, profile, s)? {
+        if !statement_fits(alloc, profile, s)? {
             return Ok(false);
         }
     }
@@ -249,31 +251,38 @@ pub fn statements_fit(asked: Asked, profile: Profile, body: &[Stmt]) -> Result<b
 /// Whether a handler fits.
 #[cycle(statements)]
 #[tactic(auto, using(pytree_node::proofs::Callers::StmtShapes::stmt_shapes))]
-fn handler_fits(asked: Asked, profile: Profile, star: bool, h: &Handler) -> Result<bool, AllocError>
+fn handler_fits(
+    alloc: Global,
+    profile: Profile,
+    star: bool,
+    h: &Handler,
+) -> Result<bool, AllocError>
     ensures { IfOk result
         (λ told. told
-        ≡ (caught_fits (tests_in asked.extent) star (handler_of h.now).class
-        (handler_of h.now).name && suite_fits profile (tests_in asked.extent)
+        ≡ (caught_fits (tests_in profile.extent) star (handler_of h.now).class
+        (handler_of h.now).name && suite_fits profile (tests_in profile.extent)
         (stmts (handler_of h.now).body))) }
 {
-    Ok(except_fits(asked, star, &h.class, &h.name)? && suite_fits(asked, profile, &h.body)?)
+    let extent = profile.extent;
+    let asked = Asked { alloc, extent };
+    Ok(except_fits(asked, star, &h.class, &h.name)? && suite_fits(alloc, profile, &h.body)?)
 }
 
 /// Whether each of some handlers fits.
 #[cycle(statements)]
 #[tactic(auto, using(pytree_node::proofs::Callers::StmtShapes::stmt_shapes))]
 fn handlers_fit(
-    asked: Asked,
+    alloc: Global,
     profile: Profile,
     star: bool,
     all: &[Handler],
 ) -> Result<bool, AllocError>
     ensures { IfOk result
         (λ told. told
-        ≡ handlers_fit profile (tests_in asked.extent) star (handlers (map handler_of all.now))) }
+        ≡ handlers_fit profile (tests_in profile.extent) star (handlers (map handler_of all.now))) }
 {
     for h in all {
-        if !handler_fits(asked, profile, star, h)? {
+        if !handler_fits(alloc, profile, star, h)? {
             return Ok(false);
         }
     }
