@@ -1,4 +1,4 @@
-use Rattle.std.proofs.Common.{map, refl, rules}
+use Rattle.std.proofs.Common.{map, refl}
 use Rattle.std.specs.Prelude.{◌&&◌}
 use Rattle.pytree_node.specs.TreeOf.{handler_of, stmt_of}
 use Rattle.pytree_node.specs.Trees.{handlers, stmts}
@@ -24,9 +24,3 @@ pub handlers_fit-loop-h-preserved : goal.handlers_fit-loop-h-preserved
 handlers_fit-loop-h-preserved t c = goes_on (λ hs. handlers_fit c.args.profile (tests_in c.args.profile.extent) c.args.star (handlers (map handler_of hs)))
     (λ h. caught_fits (tests_in c.args.profile.extent) c.args.star (handler_of h).class (handler_of h).name && suite_fits c.args.profile (tests_in c.args.profile.extent) (stmts (handler_of h).body)) refl (λ _ _. refl) _
     c.loop-h-test.true c.h-item.is c.loop-h.invariant c.in_ok-handler_fits.ensures c.if-not-branch.false
-
-pub statement_fits-statements_fit-requires-in-TryStar : goal.statement_fits-statements_fit-requires-in-TryStar
-statement_fits-statements_fit-requires-in-TryStar t c = search (rules, c.decreases, c.in-TryStar.is, c.deref-in-TryStar-6.ensures.value)
-
-pub statement_fits-statements_fit-requires-in-TryStar-2 : goal.statement_fits-statements_fit-requires-in-TryStar-2
-statement_fits-statements_fit-requires-in-TryStar-2 t c = search (rules, c.decreases, c.in-TryStar.is, c.deref-in-TryStar-7.ensures.value)
