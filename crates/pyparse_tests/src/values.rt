@@ -11,18 +11,25 @@ use std::alloc::Global;
 use std::process::Abort;
 use std::test::Fail;
 
+/// A number as Python shows it.
+fn shown(alloc: Global, number: &Constant) -> Result<String, Fail> {
+    let mut out = String::new(alloc);
+    match number {
+        Constant::Int(value) => value.push_decimal(&mut out)?,
+        Constant::Float(value) => value.push_repr(&mut out, alloc)?,
+        Constant::Imaginary(value) => value.push_imaginary_repr(&mut out, alloc)?,
+        _ => return Err(Fail::from("no number")),
+    }
+    Ok(out)
+}
+
 /// The value of a number in an extent of the language, as Python shows it, or the number's fault.
 fn number(alloc: Global, extent: Extent, text: &str) -> Result<Result<String, TokenError>, Fail> {
-    let mut shown = String::new(alloc);
     match number_value(alloc, extent, text) {
-        Ok(Constant::Int(value)) => value.push_decimal(&mut shown)?,
-        Ok(Constant::Float(value)) => value.push_repr(&mut shown, alloc)?,
-        Ok(Constant::Imaginary(value)) => value.push_imaginary_repr(&mut shown, alloc)?,
-        Ok(_) => return Err(Fail::from("no number")),
-        Err(TerminalFault::Token(error)) => return Ok(Err(error)),
-        Err(TerminalFault::Memory) => return Err(Fail::from("no memory")),
+        Ok(value) => Ok(Ok(shown(alloc, &value)?)),
+        Err(TerminalFault::Token(error)) => Ok(Err(error)),
+        Err(TerminalFault::Memory) => Err(Fail::from("no memory")),
     }
-    Ok(Ok(shown))
 }
 
 /// A number stands for this value in an extent of the language.
