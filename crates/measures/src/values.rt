@@ -40,7 +40,8 @@ fn tell_string(rt: &HostRuntime, alloc: Global, token: &Token) -> Option<()> {
 
 /// Writes what a number of the plain language stands for.
 fn tell_number(rt: &HostRuntime, alloc: Global, token: &Token) -> Option<()> {
-    let Ok(Constant::Int(value)) = number_value(alloc, Extent::Plain, token.text) else {
+    let number = number_value(alloc, Extent::Plain, token.text).ok()?;
+    let Constant::Int(value) = &number else {
         return None;
     };
     let mut shown = String::new(alloc);
