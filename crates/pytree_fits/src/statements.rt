@@ -153,16 +153,12 @@ fn statement_fits(alloc: Global, profile: Profile, s: &Stmt) -> Result<bool, All
             statements_fit(alloc, profile, orelse)
         }
         Stmt::With { items, body } => {
-            if !items_fit(asked, items)? {
-                return Ok(false);
-            }
-            suite_fits(alloc, profile, body)
+            let head = items_fit(asked, items)?;
+            Ok(head && suite_fits(alloc, profile, body)?)
         }
         Stmt::AsyncWith { items, body } => {
-            if !items_fit(asked, items)? {
-                return Ok(false);
-            }
-            suite_fits(alloc, profile, body)
+            let head = items_fit(asked, items)?;
+            Ok(head && suite_fits(alloc, profile, body)?)
         }
         Stmt::Raise { exc, cause } => raise_fits(asked, exc, cause),
         Stmt::Try {
