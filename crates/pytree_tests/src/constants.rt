@@ -1,12 +1,12 @@
-//! Trees of constants that `parse` doesn't give yet: floats, imaginary numbers, and whole numbers
-//! of any size. What is shown of them was taken from Python 3.11.
+//! Trees of constants of the whole language: floats, imaginary numbers, and whole numbers of any
+//! size. What is shown of them was taken from Python 3.11.
 
 ghost use Rattle.std.specs.Prelude.{◌≡◌, IfOk};
 
 use pyfloat::Double;
 use pynatural::Natural;
 use pytree::{
-    Constant, Expr, Integer, Level, Module, Profile, Stmt, Style, copy, dump_expr, same,
+    Constant, Expr, Extent, Integer, Level, Module, Profile, Stmt, Style, copy, dump_expr, same,
     well_formed_at,
 };
 use std::alloc::{AllocError, Global};
@@ -17,7 +17,7 @@ use std::test::Fail;
 const PLAIN: Style = Style {
     indent: None,
     names: true,
-    profile: Profile::Py311,
+    profile: Profile::PLAIN_311,
 };
 
 /// A float's constant.
@@ -37,7 +37,8 @@ fn integer(rt: &impl Abort, alloc: Global, digits: &str) -> Result<Integer, Fail
     Ok(made)
 }
 
-/// Asserts what is shown of a constant, and whether an expression may be it.
+/// Asserts what is shown of a constant, that an expression of the whole language may be it, and
+/// whether one of the plain language may.
 fn is_shown(
     rt: &impl Abort,
     alloc: Global,
@@ -47,11 +48,13 @@ fn is_shown(
 ) -> Result<(), Fail> {
     let tree = Expr::Constant { value };
     let text = dump_expr(alloc, &tree, PLAIN);
-    let told = well_formed_at(alloc, &tree, Level::Expression);
+    let plain = well_formed_at(alloc, &tree, Level::Expression, Extent::Plain);
+    let in_whole = well_formed_at(alloc, &tree, Level::Expression, Extent::Whole);
     drop(tree);
     let whole = format!(in alloc; "Constant(value={expected})")?;
     assert_eq!(rt; text?.as_str(), whole.as_str());
-    assert_eq!(rt; told?, fits, "{expected}");
+    assert_eq!(rt; plain?, fits, "{expected}");
+    assert!(rt; in_whole?, "{expected}");
     Ok(())
 }
 

@@ -2,7 +2,9 @@
 
 use crate::changes::{catch_all, put, put_name, set_dots, shorten};
 use crate::sources::{expression, module};
-use pytree::{Context, Expr, Identifier, Level, Module, Profile, well_formed, well_formed_at};
+use pytree::{
+    Context, Expr, Extent, Identifier, Level, Module, Profile, well_formed, well_formed_at,
+};
 use std::alloc::{AllocError, Global};
 use std::test::Fail;
 
@@ -25,7 +27,7 @@ fn names(rt: HostRuntime) -> Result<(), Fail> {
             id: Identifier::new(alloc, *text)?,
             ctx: *ctx,
         };
-        let fits = well_formed_at(alloc, &tree, Level::Expression);
+        let fits = well_formed_at(alloc, &tree, Level::Expression, Extent::Plain);
         drop(tree);
         assert_eq!(rt; fits?, *expected, "{text}");
     }
@@ -38,7 +40,7 @@ fn levels(rt: HostRuntime) -> Result<(), Fail> {
     let alloc = rt.alloc();
     let tree = module(alloc, "*a")?;
     for (level, expected) in &[(Level::Stars, true), (Level::Expression, false)] {
-        let fits = well_formed_at(alloc, expression(&rt, &tree), *level)?;
+        let fits = well_formed_at(alloc, expression(&rt, &tree), *level, Extent::Plain)?;
         assert_eq!(rt; fits, *expected);
     }
     Ok(())
@@ -50,10 +52,20 @@ fn members(rt: HostRuntime) -> Result<(), Fail> {
     let alloc = rt.alloc();
     for text in &["a and a", "lambda *, b: a"] {
         let mut tree = module(alloc, *text)?;
-        let fits = well_formed_at(alloc, expression(&rt, &tree), Level::Expression)?;
+        let fits = well_formed_at(
+            alloc,
+            expression(&rt, &tree),
+            Level::Expression,
+            Extent::Plain,
+        )?;
         assert!(rt; fits, "{text}");
         assert!(rt; shorten(&mut tree));
-        let fits = well_formed_at(alloc, expression(&rt, &tree), Level::Expression)?;
+        let fits = well_formed_at(
+            alloc,
+            expression(&rt, &tree),
+            Level::Expression,
+            Extent::Plain,
+        )?;
         assert!(rt; !fits, "{text}");
     }
     Ok(())

@@ -3,7 +3,7 @@
 use crate::sources::source_of;
 use pygrammar::Level;
 use pyparse::{parse_expression, tokens_of};
-use pytree::Expr;
+use pytree::{Expr, Extent};
 use pyunparse::expression_tokens;
 use std::alloc::Global;
 use std::process::Abort;
@@ -12,7 +12,7 @@ use std::test::Fail;
 /// The expression that a line is.
 fn read(alloc: Global, text: &str) -> Result<Expr, Fail> {
     let source = source_of(alloc, text)?;
-    let Ok(mut tokens) = tokens_of(alloc, &source) else {
+    let Ok(mut tokens) = tokens_of(alloc, &source, Extent::Whole) else {
         return Err(Fail::from("no tokens"));
     };
     tokens.pop();
