@@ -153,12 +153,12 @@ fn statement_fits(alloc: Global, profile: Profile, s: &Stmt) -> Result<bool, All
             statements_fit(alloc, profile, orelse)
         }
         Stmt::With { items, body } => {
-            let head = items_fit(asked, items)?;
-            Ok(head && suite_fits(alloc, profile, body)?)
+            let suite = suite_fits(alloc, profile, body)?;
+            Ok(items_fit(asked, items)? && suite)
         }
         Stmt::AsyncWith { items, body } => {
-            let head = items_fit(asked, items)?;
-            Ok(head && suite_fits(alloc, profile, body)?)
+            let suite = suite_fits(alloc, profile, body)?;
+            Ok(items_fit(asked, items)? && suite)
         }
         Stmt::Raise { exc, cause } => raise_fits(asked, exc, cause),
         Stmt::Try {
