@@ -52,31 +52,50 @@ def show_rows(rows, megabytes):
               f"| {row.processor / rows[0].processor:.1f} | {row.shown_memory()} |{row.failed()}", flush=True)
 
 
+def goals(options, rows, size):
+    """What was measured beside each goal: the words for it, the number, and whether it is missed. No goal, never missed."""
+    own, _, peer, parser = rows
+    times, parsing, held = peer.processor / own.processor, parser.processor / own.processor, own.memory * MEGABYTE / size
+    yield f"`{peer.name}` takes {times:.1f} times as long", options.goal is not None and times < options.goal
+    yield f"`{parser.name}`, which writes nothing, {parsing:.1f} times", options.parser_goal is not None and parsing < options.parser_goal
+    yield f"it holds {held:.1f} bytes a byte of the source", options.most_bytes is not None and held > options.most_bytes
+
+
 def measure(options, folder, command, peer):
     """Measures a command and the function of `ast` on the library's source; answers the exit status."""
     python, library = library_of_python_311()
     path = os.path.join(folder, "library.py")
     apart(lambda: write_library(options.program, library, path, options.size * MEGABYTE))
     code = f"import ast,sys;{peer}(ast.parse(sys.stdin.read()))"
-    rows = [Runs(f"pyast {command}", [options.program, command]), Runs(f"python3.11, {peer}", [python, "-c", code])]
+    parse = "import ast,sys;compile(sys.stdin.read(),'-','exec',ast.PyCF_ONLY_AST)"
+    rows = [
+        Runs(f"pyast {command}", [options.program, command]),
+        # By the script large pages are asked for.
+        Runs(f"./pyast {command}, the script", [os.path.join(TOP, "pyast"), command]),
+        Runs(peer, [python, "-c", code]),
+        Runs("compile(.., PyCF_ONLY_AST)", [python, "-c", parse]),
+    ]
     for _ in range(ROUNDS):
         for row in rows:
             run_on(row, path)
-    show_rows(rows, os.path.getsize(path) / MEGABYTE)
-    times = rows[1].processor / rows[0].processor
-    print(f"\n`{peer}` takes {times:.1f} times as long as `pyast {command}`, in {rows[1].memory / rows[0].memory:.1f} times the memory.")
-    missed = options.goal is not None and times < options.goal
-    if options.goal is not None:
-        print(f"The goal of {options.goal:g} times is {'missed' if missed else 'reached'}.")
-    return int(missed or any(row.status for row in rows))
+    size = os.path.getsize(path)
+    show_rows(rows, size / MEGABYTE)
+    print(f"\nBeside `pyast {command}`:")
+    is_missed = False
+    for words, missed in goals(options, rows, size):
+        print(f"- {words}{': the goal is missed' if missed else ''}")
+        is_missed = is_missed or missed
+    return int(is_missed or any(row.status for row in rows))
 
 
 def measure_beside(command, peer):
     """The program that times a command beside a function of `ast`; answers the exit status."""
-    parser = argparse.ArgumentParser(description=f"Times `pyast {command}` beside Python's own {peer}.")
+    parser = argparse.ArgumentParser(description=f"Times `pyast {command}` beside Python's own {peer}, and beside its parser alone.")
     parser.add_argument("--program", metavar="PATH", help="the built program; default: that of this project")
     parser.add_argument("--size", type=int, default=10, metavar="MB", help="of the library's source; default: 10")
     parser.add_argument("--goal", type=float, metavar="TIMES", help=f"status 1 where `{peer}` doesn't take so many times as long")
+    parser.add_argument("--parser-goal", type=float, metavar="TIMES", help="status 1 where Python's parser alone doesn't take so many times as long")
+    parser.add_argument("--most-bytes", type=float, metavar="N", help="status 1 where more bytes are held for each byte of the source")
     options = parser.parse_args()
     options.program = built_program(options.program)
     show_machine()

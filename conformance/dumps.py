@@ -8,7 +8,7 @@ Every .py file below the folders (by default that of Python's own library with i
 what Python accepts, or the other way round, the difference has to be of a class of docs/DECISIONS.md. The forms that pyast leaves
 out are such classes: there the fault has to be the first such form of the source, at its place; and the parts of the file without
 one are compared as sources of their own: its statements, and those within statements that have one. Any other difference is a
-failure, shown by the smallest input that has it. With --whole it is `pyast dump --whole` that is compared, which leaves out no number.
+failure, shown by the smallest input that has it. With --whole it is `pyast dump --whole` that is compared, which leaves out no number and no `match` statement.
 
 The exit status is 0 where every difference has a class, 1 where one has none, and 2 where nothing could be compared; with
 --or-skip it is 0 too where there is no Python 3.11.
@@ -90,9 +90,9 @@ SAMPLES = {
     JOIN: b"if x:\n y\n\\\n z\n",
 }
 LEFT_OUT = {"Float": (FLOAT, "float literal"), "Complex": (COMPLEX, "complex literal"), "FString": (FSTRING, "f-string"),
-            "IntegerTooLarge": (LARGE, "integer too large"), "NamedEscape": (NAMED, "named escape")}
+            "IntegerTooLarge": (LARGE, "integer too large"), "NamedEscape": (NAMED, "named escape"), "Match": (MATCH, "match statement")}
 # Those that `--whole` lets in. No whole number of more than 4,300 digits is tried: Python refuses to write one.
-NUMBERS_LEFT_OUT = ("Float", "Complex", "IntegerTooLarge")
+OF_WHOLE = ("Float", "Complex", "IntegerTooLarge", "Match")
 # What calls the program with `--whole` behind all other words.
 WITH_WHOLE = ("sh", "-c", 'exec "$0" "$@" --whole')
 # What Python's parser says where it stops at a limit of its own, looks closer at a number than the tokens do, or takes the brackets
@@ -164,7 +164,7 @@ def due_fault(tree, data):
                 return Fault(*token.start, found[1], found[0])
     except (tokenize.TokenError, SyntaxError, ValueError):
         return None
-    place = first_match(tree, data)
+    place = first_match(tree, data) if "Match" in LEFT_OUT else None
     return Fault(*place, "match statement", MATCH) if place else None
 
 
@@ -471,7 +471,7 @@ def read_language(parser):
 
 def prepare(whole=False):
     """What each process needs: no warnings of the sources, room for high trees, and what is left out."""
-    for reason in NUMBERS_LEFT_OUT if whole else ():
+    for reason in OF_WHOLE if whole else ():
         if reason in LEFT_OUT:
             name, _ = LEFT_OUT.pop(reason)
             SAMPLES[SAME] = SAMPLES.pop(name) + SAMPLES[SAME]

@@ -1,7 +1,8 @@
 """Trees of Python 3.11 made by chance, and for each a source that is surely its: every expression in it has brackets of its own.
 
-All classes of nodes and all their fields occur but those of what pyast leaves out: floats, complex numbers, f-strings, `match`. Where
-a maker is told so, there are the types of Python 3.12 too: the statement `type`, and parameters of types; or all numbers.
+All classes of nodes and all their fields occur but those of what pyast leaves out: f-strings; and without `--whole` floats, complex numbers
+and `match`. Where a maker is told so, there are the types of Python 3.12 too: the statement `type`, and parameters of types; or the whole
+language.
 """
 
 import ast
@@ -37,7 +38,7 @@ class TypeAlias(ast.stmt):
 
 
 class Maker:
-    """Makes trees by chance, each the tree of some source, with types or without, with all numbers or with whole ones below 2^128.
+    """Makes trees by chance, each the tree of some source, with types or without, of the whole language or of the plain one.
 
     A depth is how many more nodes may be nested.
     """
@@ -259,7 +260,7 @@ class Maker:
         """A statement."""
         simple = [self.return_, self.delete, self.assign, self.aug_assign, self.ann_assign, self.raise_, self.assert_, self.import_,
                   self.import_from, self.global_, self.expr_stmt, self.bare] + [self.type_alias] * self.types
-        inner = [self.function, self.class_, self.for_, self.while_, self.if_, self.with_, self.try_]
+        inner = [self.function, self.class_, self.for_, self.while_, self.if_, self.with_, self.try_] + [self.match] * self.whole
         return self.one_of(simple + inner if depth > 0 else simple)(depth)
 
     def function(self, depth):
@@ -316,6 +317,67 @@ class Maker:
     def handler(self, depth, kind):
         of = self.expr(depth - 1) if kind is ast.TryStar or not self.is_rare() else None
         return ast.ExceptHandler(of, self.perhaps(self.word) if of else None, self.block(depth))
+
+    def match(self, depth):
+        return ast.Match(self.expr(depth - 1), self.some(1, 3, self.case, depth))
+
+    def case(self, depth):
+        return ast.match_case(self.pattern(depth - 1), self.perhaps(self.expr, depth - 1), self.block(depth))
+
+    def captured(self):
+        """A name that a pattern captures."""
+        return next(name for name in iter(self.word, None) if name != "_")
+
+    def pattern(self, depth):
+        """A pattern, but for one with a star."""
+        simple = [self.match_value, self.match_singleton, self.capture]
+        inner = [self.match_sequence, self.match_mapping, self.match_class, self.match_as, self.match_or]
+        return self.one_of(simple + inner if depth > 0 else simple)(depth - 1)
+
+    def literal(self):
+        """A text, bytes, a number with a sign or without, or a sum of a real and an imaginary one."""
+        real = ast.Constant(self.one_of((self.double(), self.chance.randrange(1000))))
+        real = ast.UnaryOp(ast.USub(), real) if self.chance.randrange(2) else real
+        total = ast.BinOp(real, self.one_of((ast.Add, ast.Sub))(), ast.Constant(complex(0, self.double())))
+        return self.one_of((real, total, ast.Constant(self.number()), ast.Constant("".join(self.some(0, 3, self.text))),
+                            ast.Constant(bytes(self.some(0, 4, self.chance.randrange, 256)))))
+
+    def part(self, names):
+        """Names with points between, at least so many, the first of them no wildcard."""
+        node = ast.Name(self.captured(), ast.Load())
+        for _ in range(self.chance.randint(names, names + 2) - 1):
+            node = ast.Attribute(node, self.word(), ast.Load())
+        return node
+
+    def match_value(self, _):
+        return ast.MatchValue(self.part(2) if self.is_rare() else self.literal())
+
+    def match_singleton(self, _):
+        return ast.MatchSingleton(self.one_of((None, True, False)))
+
+    def capture(self, _):
+        return ast.MatchAs(None, self.perhaps(self.captured))
+
+    def starred_pattern(self, depth):
+        """An element of a sequence."""
+        return ast.MatchStar(self.perhaps(self.captured)) if self.is_rare() else self.pattern(depth)
+
+    def match_sequence(self, depth):
+        return ast.MatchSequence(self.some(0, 3, self.starred_pattern, depth))
+
+    def match_mapping(self, depth):
+        keys = [self.one_of((self.literal(), self.part(2), ast.Constant(None))) for _ in range(self.chance.randrange(3))]
+        return ast.MatchMapping(keys, [self.pattern(depth) for _ in keys], self.perhaps(self.captured))
+
+    def match_class(self, depth):
+        names = self.some(0, 2, self.captured)
+        return ast.MatchClass(self.part(1), self.some(0, 2, self.pattern, depth), names, [self.pattern(depth) for _ in names])
+
+    def match_as(self, depth):
+        return ast.MatchAs(self.pattern(depth), self.captured())
+
+    def match_or(self, depth):
+        return ast.MatchOr(self.some(2, 3, self.pattern, depth))
 
     def return_(self, depth):
         return ast.Return(self.perhaps(self.value, depth))
@@ -501,6 +563,40 @@ def aliases(names):
     return ", ".join(one.name + (f" as {one.asname}" if one.asname else "") for one in names)
 
 
+def closed(node):
+    """A pattern that may stand anywhere, in brackets where it has none; a star as it is."""
+    match node:
+        case ast.MatchValue():
+            return f"({plain(node.value)})"
+        case ast.MatchSingleton():
+            return f"({node.value})"
+        case ast.MatchStar():
+            return f"*{node.name or '_'}"
+        case ast.MatchSequence():
+            return f"[{', '.join(map(closed, node.patterns))}]"
+        case ast.MatchMapping():
+            pairs = [f"{plain(key)}: {closed(one)}" for key, one in zip(node.keys, node.patterns)]
+            return f"{{{', '.join(pairs + [f'**{node.rest}'] * bool(node.rest))}}}"
+        case ast.MatchClass():
+            named = [f"{name}={closed(one)}" for name, one in zip(node.kwd_attrs, node.kwd_patterns)]
+            return f"{plain(node.cls)}({', '.join([*map(closed, node.patterns), *named])})"
+        case ast.MatchOr():
+            return f"({' | '.join(map(closed, node.patterns))})"
+    return f"({closed(node.pattern)} as {node.name})" if node.pattern else f"({node.name or '_'})"
+
+
+def plain(node):
+    """A value, key or class of a pattern, which has no brackets."""
+    match node:
+        case ast.UnaryOp():
+            return f"-{plain(node.operand)}"
+        case ast.BinOp():
+            return f"{plain(node.left)} {BINARY[type(node.op)]} {plain(node.right)}"
+        case ast.Attribute():
+            return f"{plain(node.value)}.{node.attr}"
+    return bare(node)
+
+
 def clause(header, body):
     """The lines of a header and its block."""
     return [f"{header}:", *(f" {line}" for statement in body for line in lines_of(statement))]
@@ -530,6 +626,9 @@ def lines_of(node):
         case ast.With() | ast.AsyncWith():
             items = (f"{bracketed(one.context_expr)}{optional(' as ', one.optional_vars)}" for one in node.items)
             return clause(f"{word}with {', '.join(items)}", node.body)
+        case ast.Match():
+            cases = (clause(f"case {closed(one.pattern)}{optional(' if ', one.guard)}", one.body) for one in node.cases)
+            return [f"match {bracketed(node.subject)}:", *(f" {line}" for lines in cases for line in lines)]
         case ast.Try() | ast.TryStar():
             lines = clause("try", node.body)
             for one in node.handlers:

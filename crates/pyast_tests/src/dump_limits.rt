@@ -34,10 +34,16 @@ fn nested(alloc: Global, count: usize, last: &str) -> Result<String, AllocError>
     Ok(text)
 }
 
-/// Asserts that `dump` accepts a source, or, where a fault is given, that it writes nothing and
-/// tells that.
-fn meets(rt: &impl Abort, alloc: Global, source: &str, fault: &str) -> Result<(), Fail> {
-    let command = command(alloc, "dump")?;
+/// Asserts that words accept a source, or, where a fault is given, that they write nothing and
+/// report that.
+pub(crate) fn meets(
+    rt: &impl Abort,
+    alloc: Global,
+    words: &str,
+    source: &str,
+    fault: &str,
+) -> Result<(), Fail> {
+    let command = command(alloc, words)?;
     let mut told = String::new(alloc);
     if !fault.is_empty() {
         told.push_str("<stdin>:")?;
@@ -55,10 +61,15 @@ fn meets(rt: &impl Abort, alloc: Global, source: &str, fault: &str) -> Result<()
 }
 
 /// Asserts that of the source of each row.
-fn meets_all(rt: &impl Abort, alloc: Global, rows: &[(&[Piece<'_>], &str)]) -> Result<(), Fail> {
+pub(crate) fn meets_all(
+    rt: &impl Abort,
+    alloc: Global,
+    words: &str,
+    rows: &[(&[Piece<'_>], &str)],
+) -> Result<(), Fail> {
     for (pieces, fault) in rows {
         let source = joined(alloc, pieces)?;
-        meets(rt, alloc, source.as_str(), fault)?;
+        meets(rt, alloc, words, source.as_str(), fault)?;
     }
     Ok(())
 }
@@ -109,7 +120,7 @@ fn stops_at_heights_and_brackets(rt: HostRuntime) -> Result<(), Fail> {
         (&[("0x1", 1), ("0", 32)], "1:0: error: integer too large"),
         (&[("if x:\n x\n", 2000)], ""),
     ];
-    meets_all(&rt, rt.alloc(), rows)
+    meets_all(&rt, rt.alloc(), "dump", rows)
 }
 
 /// A bracket is reported where it would be the 601st open one, whatever kinds the others are; a
@@ -147,14 +158,20 @@ fn stops_at_brackets_of_each_kind(rt: HostRuntime) -> Result<(), Fail> {
             "1:607: error: too deep",
         ),
     ];
-    meets_all(&rt, rt.alloc(), rows)
+    meets_all(&rt, rt.alloc(), "dump", rows)
 }
 
 #[test]
 fn stops_at_long_chains(rt: HostRuntime) -> Result<(), Fail> {
     for piece in &["+x", ".a", "()", "[0]"] {
         let source = joined(rt.alloc(), &[("x", 1), (*piece, 100_000)])?;
-        meets(&rt, rt.alloc(), source.as_str(), "1:0: error: too deep")?;
+        meets(
+            &rt,
+            rt.alloc(),
+            "dump",
+            source.as_str(),
+            "1:0: error: too deep",
+        )?;
     }
     Ok(())
 }
@@ -171,7 +188,7 @@ fn stops_at_statements(rt: HostRuntime) -> Result<(), Fail> {
         (498, "if x: pass\n", ""),
     ] {
         let source = nested(rt.alloc(), *count, last)?;
-        meets(&rt, rt.alloc(), source.as_str(), fault)?;
+        meets(&rt, rt.alloc(), "dump", source.as_str(), fault)?;
     }
     Ok(())
 }

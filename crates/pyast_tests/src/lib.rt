@@ -28,6 +28,8 @@ mod fronts;
 #[cfg(test)]
 mod listings;
 #[cfg(test)]
+mod matches;
+#[cfg(test)]
 mod numbers;
 #[cfg(test)]
 mod unparses;

@@ -248,7 +248,6 @@ fn numbers_of_types(rt: HostRuntime) -> Result<(), Fail> {
 fn what_is_left_out(rt: HostRuntime) -> Result<(), Fail> {
     for (source, fault) in &[
         ("x = f''", "1:4: error: f-string"),
-        ("match 1.5:", "1:0: error: match statement"),
         ("'\\N{DASH}'", "1:0: error: named escape"),
         ("1.5 + '\\x4'", "1:6: error: bad escape"),
         ("if 1.5: 2j\n  x", "2:2: error: unexpected indent"),

@@ -78,8 +78,8 @@ const VERSION: &str = "1.0.0";
 
 /// What `dump` and `unparse` refuse, after their help.
 const REFUSED: &str = "\
-Refused, though Python 3.11 accepts them: f-strings, match statements, \\N{..} in strings, and,
-without --whole, floats, imaginary numbers, and integers of 2**128 or more.
+Refused, though Python 3.11 accepts them: f-strings, \\N{..} in strings, and, without --whole,
+match statements, floats, imaginary numbers, and integers of 2**128 or more.
 Limits: integers of 4,300 digits, 600 open brackets, 500 nested expressions or statements.";
 
 /// The largest count of entries that can be asked for.
@@ -191,7 +191,7 @@ fn newer_form<'a>(alloc: Global) -> Arg<'a>
 fn whole_form<'a>(alloc: Global) -> Arg<'a>
     ensures { IsRule (flag_rule (codes "whole")) result }
 {
-    let whole = "Read floats, imaginary numbers and integers of up to 4,300 digits too";
+    let whole = "Read match statements, floats, imaginary numbers and longer integers too";
     flag_form(alloc, "whole", whole)
 }
 

@@ -2,6 +2,7 @@ pub mod Steps
 pub mod Leads
 pub mod Standing
 pub mod Growing
+pub mod Nested
 pub mod Sound
 pub mod Fitting
 pub mod Settling
@@ -20,3 +21,4 @@ pub mod Reasons
 pub mod Types
 mod Worked
 mod WorkedDepths
+mod WorkedMatches

@@ -1,6 +1,6 @@
--- What other crates cite: the laws of the grammar, and of sources; the reader within a height,
--- level by level; lines within a height; what one terminal is; heights of entries; lines one by
--- one, the depths that they reach, and the first line that is too deep.
+-- What other crates cite: the laws of the grammar, of patterns and of sources; the reader within a
+-- height, level by level; lines within a height; what one terminal is; heights of entries; lines
+-- one by one, the depths that they reach, and the first line that is too deep.
 pub mod Law
 pub mod Steps
 pub mod Lines
@@ -9,3 +9,4 @@ pub mod Entries
 pub mod Blocks
 pub mod DeepLines
 pub mod SourceLaw
+pub mod PatternLaw

@@ -6,3 +6,5 @@ mod Soundness
 mod Worked
 mod Line
 mod Block
+mod Plain
+mod Pattern

@@ -4,6 +4,9 @@ pub mod Values
 pub mod Types
 pub mod Simple
 pub mod Headers
+pub mod Colons
+pub mod Patterns
+pub mod MatchLines
 pub mod SoundParts
 pub mod Invert
 pub mod With
@@ -23,6 +26,7 @@ mod WorkedExpressions
 mod WorkedKeywords
 mod WorkedHeaders
 mod WorkedTypes
+mod WorkedMatches
 mod DepthsExpressions
 mod DepthsKeywords
 mod DepthsHeaders

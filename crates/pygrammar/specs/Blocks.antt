@@ -2,13 +2,16 @@
 -- where they are none.
 use Rattle.std.specs.Prelude.{◌≡◌, ℕ, suc, ◌<◌, ◌≤◌, Bool, true, false, ◌==◌, nat_lt, cond, List, [], ◌∷◌, ◌++◌, Option, Some, None}
 pub use Rattle.pytoken.specs.Indentation.{same_bool}
-use Rattle.pytree_node.specs.Trees.{Expr, Identifier, Stmt, Handler, Item, If, stmts}
-use Rattle.pygrammar.specs.Lines.{Line, line, Form, simple_form, decorator_form, header_form, Header, if_header, elif_header, else_header, loop_header, with_header, try_header, except_header, finally_header, def_header, LoopHead, DefHead, opens, loop, with_of, definition, try_of}
+use Rattle.pytree_node.specs.Trees.{Expr, Identifier, Pattern, Stmt, Case, Handler, Item, If, Match, cases, stmts}
+use Rattle.pygrammar.specs.Lines.{Line, line, Form, simple_form, decorator_form, header_form, Header, if_header, elif_header, else_header, loop_header, with_header, try_header, except_header, finally_header, def_header, match_header, case_header, LoopHead, DefHead, opens, loop, with_of, definition, try_of}
 
 -- ---- The tree.
 
 abbrev pub handler : Option Expr → Option Identifier → List Stmt → Handler
 handler class name body = record { class = class; name = name; body = body }
+
+abbrev pub case_of : Pattern → Option Expr → List Stmt → Case
+case_of pattern guard body = record { pattern = pattern; guard = guard; body = body }
 
 mutual
   -- the lines of a level from one statement on, and their statements
@@ -40,6 +43,9 @@ mutual
     definition_of : {l : ℕ} (head : DefHead) {suite : Option (List Stmt)} {ds xs : List Line} {es : List Expr} {body : List Stmt} →
         Decorators l ds es → Body l suite xs body →
         Statement l (ds ++ (line l (header_form (def_header head) suite) ∷ xs)) (definition es head body ∷ [])
+    match_statement : {l : ℕ} {subject : Expr} {x : Line} {xs : List Line} {cs : List Case} →
+        Cases (suc l) (x ∷ xs) cs →
+        Statement l (line l (header_form (match_header subject) None) ∷ (x ∷ xs)) (Match subject (cases cs) ∷ [])
 
   -- the block of a header: its inline suite, or the lines one level deeper that follow it, of which there is one at least
   pub data Body : ℕ → Option (List Stmt) → List Line → List Stmt → Type 0 where
@@ -65,6 +71,13 @@ mutual
     except_clause : {l : ℕ} {star : Bool} {matched : Option Expr} {name : Option Identifier} {suite : Option (List Stmt)} {xs ys : List Line} {body : List Stmt} {hs : List Handler} →
         Body l suite xs body → Excepts l star ys hs →
         Excepts l star (line l (header_form (except_header star matched name) suite) ∷ (xs ++ ys)) (handler matched name body ∷ hs)
+
+  -- the lines of a `match`, one level deeper: cases alone
+  pub data Cases : ℕ → List Line → List Case → Type 0 where
+    no_case : {l : ℕ} → Cases l [] []
+    case_clause : {l : ℕ} {pattern : Pattern} {guard : Option Expr} {suite : Option (List Stmt)} {xs ys : List Line} {body : List Stmt} {cs : List Case} →
+        Body l suite xs body → Cases l ys cs →
+        Cases l (line l (header_form (case_header pattern guard) suite) ∷ (xs ++ ys)) (case_of pattern guard body ∷ cs)
 
   -- perhaps a `finally`
   pub data Ending : ℕ → List Line → List Stmt → Type 0 where
@@ -98,6 +111,8 @@ pub data Kind : Type 0 where
   ExceptLine : Bool → Kind  -- whether it has a star
   FinallyLine : Kind
   DefLine : Kind
+  MatchLine : Kind
+  CaseLine : Kind
   EndLine : Kind  -- ENDMARKER, at level 0 after the last line
 
 abbrev pub header_kind : Header → Kind
@@ -110,6 +125,8 @@ header_kind try_header = TryLine
 header_kind (except_header star _ _) = ExceptLine star
 header_kind finally_header = FinallyLine
 header_kind (def_header _) = DefLine
+header_kind (match_header _) = MatchLine
+header_kind (case_header _ _) = CaseLine
 
 abbrev pub kind_of : Form → Kind
 kind_of (simple_form _) = SimpleLine
@@ -175,6 +192,19 @@ is_decorated DecoratorLine = true
 is_decorated DefLine = true
 is_decorated _ = false
 
+abbrev pub is_match : Kind → Bool
+is_match MatchLine = true
+is_match _ = false
+
+abbrev pub is_case : Kind → Bool
+is_case CaseLine = true
+is_case _ = false
+
+-- a line of this level stands in a `match`: the nearest earlier line of a lower level is the header of one
+abbrev pub stands_in_match : ℕ → List Line → Bool
+stands_in_match l [] = false
+stands_in_match l (x ∷ earlier) = cond (nat_lt x.level l) (is_match (kind_of x.form)) (stands_in_match l earlier)
+
 -- the level of the line before, and whether its block follows; the first line is taken to follow one of level 0 without a block
 abbrev pub level_before : List Line → ℕ
 level_before [] = 0
@@ -193,6 +223,8 @@ pub data Misplaced (earlier : List Line) (l : ℕ) (k : Kind) : Type 0 where
   -- the line after a decorator, where it is no decorator, `def` or `class` of its level
   ends_decorators : {x : Line} {more : List Line} → earlier ≡ x ∷ more → kind_of x.form ≡ DecoratorLine →
       (l ≡ x.level → is_decorated k ≡ false) → Misplaced earlier l k
+  -- in a `match` a line that is no case, or elsewhere a case
+  not_by_place : same_bool (stands_in_match l earlier) (is_case k) ≡ false → Misplaced earlier l k
 
 -- a line of level l and kind k has this fault
 pub data HasFault (earlier : List Line) (l : ℕ) (k : Kind) : Fault → Type 0 where

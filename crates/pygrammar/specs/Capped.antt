@@ -6,7 +6,7 @@ use Rattle.pylex_lexeme.specs.declared.kinds.Exact.TheVariants.{LPar, RPar, LSqb
 use Rattle.pytoken.specs.declared.keywords.Keyword.TheVariants as Key
 use Rattle.pytree_node.specs.declared.operators.Context.TheVariants.{Load, Store}
 use Rattle.pygrammar.specs.declared.levels.Level.{Level}
-use Rattle.pygrammar.specs.declared.levels.Level.TheVariants.{Value, Stars, StarItem, Named, Expression, Or, BitOr, Primary, Atom, Elem, Slices, Part, Slice}
+use Rattle.pygrammar.specs.declared.levels.Level.TheVariants.{Value, Stars, StarItem, Named, Expression, Or, BitOr, Primary, Atom, Elem, Slices, Part, Slice, Subject}
 use Rattle.pytree_node.specs.Trees
 use Rattle.pytree_node.specs.Trees.{Expr, no_exprs, an_expr, absent, present, comprehensions}
 use Rattle.pytoken.specs.Terminals.{Terminal}
@@ -66,6 +66,7 @@ module _ (d : ℕ) (next same inner : Reads) where
   capped_step Slices i = and_then (next Part i) (λ e r. tupled inner (Of Part) e r (on_first (is_op Star) i (λ _ _. Found (Trees.Tuple (an_expr e no_exprs) Load) r) (Found e r)))
   capped_step Part i = starred inner Expression i (next Slice i)
   capped_step Slice i = on_first (is_op Colon) i (λ _ r. slice_rest inner absent r) (and_then (next Named i) (λ e r. on_first (is_op Colon) r (λ _ r1. unnamed i (slice_rest inner (present e) r1)) (Found e r)))
+  capped_step Subject i = and_then (next Elem i) (λ e r. tupled inner (Of Elem) e r (unstarred i (Found e r)))
   capped_step l i = capped_climb (rank l) i
 
 abbrev pub capped_descend : ℕ → Reads → Reads → ℕ → Reads

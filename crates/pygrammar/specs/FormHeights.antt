@@ -1,8 +1,8 @@
--- The height of a form of a logical line: that of its highest expression, or 0 where it has none.
+-- The height of a form of a logical line: that of its highest expression or pattern, or 0 where it has none.
 use Rattle.std.specs.Prelude.{ℕ, max, Some, None}
 use Rattle.pytree_node.specs.Trees.{stmts}
-use Rattle.pytree_height.specs.Heights.{height, option_height, list_height, item_heights, keyword_heights, arguments_height, type_param_heights, highest_in_all}
-use Rattle.pygrammar.specs.Lines.{Form, simple_form, decorator_form, header_form, Header, if_header, elif_header, else_header, loop_header, with_header, try_header, except_header, finally_header, def_header, while_head, for_head, function_head, class_head}
+use Rattle.pytree_height.specs.Heights.{height, pattern_height, option_height, list_height, item_heights, keyword_heights, arguments_height, type_param_heights, highest_in_all}
+use Rattle.pygrammar.specs.Lines.{Form, simple_form, decorator_form, header_form, Header, if_header, elif_header, else_header, loop_header, with_header, try_header, except_header, finally_header, def_header, match_header, case_header, while_head, for_head, function_head, class_head}
 
 abbrev pub header_height : Header → ℕ
 header_height (if_header test) = height test
@@ -18,6 +18,8 @@ header_height (def_header (function_head is_async name parameters args returns))
     max (type_param_heights parameters) (max (arguments_height args) (option_height returns))
 header_height (def_header (class_head name parameters bases keywords)) =
     max (type_param_heights parameters) (max (list_height bases) (keyword_heights keywords))
+header_height (match_header subject) = height subject
+header_height (case_header pattern guard) = max (pattern_height pattern) (option_height guard)
 
 abbrev pub form_height : Form → ℕ
 form_height (simple_form ss) = highest_in_all (stmts ss)

@@ -4,8 +4,8 @@ use Rattle.std.specs.declared.alloc.Global.{Global}
 use Rattle.std.specs.declared.vec.Vec.{Vec}
 use Rattle.pytree_node.specs.Trees as plain
 use Rattle.pytree_node.specs.declared.statements.Stmt.{Stmt}
-use Rattle.pytree_node.specs.TreeOf.{tree_of, boxed_of, arguments_of, keyword_of, item_of, type_param_of, stmt_of}
-use Rattle.pygrammar.specs.Lines.{LoopHead, while_head, for_head, DefHead, function_head, class_head, Header, if_header, elif_header, else_header, loop_header, with_header, try_header, except_header, finally_header, def_header, Form, simple_form, decorator_form, header_form}
+use Rattle.pytree_node.specs.TreeOf.{tree_of, boxed_of, arguments_of, keyword_of, item_of, type_param_of, pattern_of, stmt_of}
+use Rattle.pygrammar.specs.Lines.{LoopHead, while_head, for_head, DefHead, function_head, class_head, Header, if_header, elif_header, else_header, loop_header, with_header, try_header, except_header, finally_header, def_header, match_header, case_header, Form, simple_form, decorator_form, header_form}
 use Rattle.pygrammar.specs.declared.headers.LoopHead as given_loop
 use Rattle.pygrammar.specs.declared.headers.LoopHead.TheVariants as loop_variant
 use Rattle.pygrammar.specs.declared.headers.DefHead as given_def
@@ -38,6 +38,8 @@ header_of header_variant.Try = try_header
 header_of (header_variant.Except star class name) = except_header star (boxed_of class) name
 header_of header_variant.Finally = finally_header
 header_of (header_variant.Def head) = def_header (def_head_of head)
+header_of (header_variant.Match subject) = match_header (tree_of subject.value)
+header_of (header_variant.Case pattern guard) = case_header (pattern_of pattern.value) (boxed_of guard)
 
 -- the value of the statements after a colon, if there are any
 abbrev pub suite_of : Option (Vec Stmt Global) → Option (List plain.Stmt)

@@ -1,6 +1,7 @@
--- The forms of a logical line (reference 7 and 8): which lists of terminals are which line in a version of Python, a constructor for each
--- alternative of the table. The NEWLINE is not part of the list.
-use Rattle.std.specs.Prelude.{◌≡◌, ℕ, ◌+◌, ◌<◌, List, [], ◌∷◌, ◌++◌, Option, Some, None, Bool, true, false, codes}
+-- The forms of a logical line (reference 7 and 8): which lists of terminals are which line in a version and an extent of Python, a constructor
+-- for each alternative of the table. The NEWLINE is not part of the list.
+use Rattle.std.specs.Prelude.{◌≡◌, ℕ, ◌+◌, ◌<◌, List, [], ◌∷◌, ◌++◌, Option, Some, None, Bool, true, false, ◌&&◌, codes}
+use Rattle.std.specs.Str.{bytes_eq}
 use Rattle.pylex_lexeme.specs.Characters.{full_stop, asterisk}
 use Rattle.pylex_lexeme.specs.declared.kinds.Exact.{Exact}
 use Rattle.pylex_lexeme.specs.declared.kinds.Exact.TheVariants as Sign
@@ -8,18 +9,22 @@ use Rattle.pytoken.specs.declared.keywords.Keyword.TheVariants as Key
 use Rattle.pytree_node.specs.declared.operators.Operator.{Operator}
 use Rattle.pytree_node.specs.declared.operators.Operator.TheVariants as Bin
 use Rattle.pytree_node.specs.declared.operators.Context.TheVariants.{Store}
+use Rattle.pytree_node.specs.declared.profiles.Extent.{Extent}
+use Rattle.pytree_node.specs.declared.profiles.Extent.TheVariants as extents
 use Rattle.pytree_node.specs.declared.profiles.Profile.{Profile}
 use Rattle.pytree_node.specs.Profiles.{has_types}
 use Rattle.pygrammar.specs.declared.levels.Level.{Level}
-use Rattle.pygrammar.specs.declared.levels.Level.TheVariants.{Value, Stars, Named, Expression}
-use Rattle.pytree_node.specs.Trees.{Expr, Exprs, no_exprs, an_expr, Arguments, Keywords, no_keyword, Identifier, Stmt, Alias, Item, TypeParam, TypeVar, ParamSpec, TypeVarTuple, Return, Delete, Assign, TypeAlias, AugAssign, AnnAssign, Raise, Assert, Import, ImportFrom, Global, Nonlocal, ExprOf, Pass, Break, Continue}
+use Rattle.pygrammar.specs.declared.levels.Level.TheVariants.{Value, Stars, Named, Expression, Subject}
+use Rattle.pygrammar.specs.declared.pattern_levels.PatternLevel.TheVariants.{Patterns}
+use Rattle.pytree_node.specs.Trees.{Expr, Exprs, no_exprs, an_expr, Arguments, Keywords, no_keyword, Identifier, Pattern, Stmt, Alias, Item, TypeParam, TypeVar, ParamSpec, TypeVarTuple, Return, Delete, Assign, TypeAlias, AugAssign, AnnAssign, Raise, Assert, Import, ImportFrom, Global, Nonlocal, ExprOf, Pass, Break, Continue}
 use Rattle.pytree_node.specs.Trees as Trees
 use Rattle.pytoken.specs.Terminals.{Terminal, Spelled, Op, Word, Ident}
 use Rattle.pygrammar.specs.Entries.{Argument, Parameter, Entry}
 use Rattle.pygrammar.specs.Arguments.{in_order, positional, keywords}
 use Rattle.pygrammar.specs.Parameters.{arranged}
 use Rattle.pygrammar.specs.Grammar.{Derives, Listing, Target, SingleTarget, DelTarget, ItemTarget}
-use Rattle.pygrammar.specs.Lines.{Form, simple_form, decorator_form, header_form, Header, if_header, elif_header, else_header, loop_header, with_header, try_header, except_header, finally_header, def_header, while_head, for_head, function_head, class_head}
+use Rattle.pygrammar.specs.PatternGrammar.{DerivesPattern}
+use Rattle.pygrammar.specs.Lines.{Form, simple_form, decorator_form, header_form, Header, if_header, elif_header, else_header, loop_header, with_header, try_header, except_header, finally_header, def_header, match_header, case_header, while_head, for_head, function_head, class_head}
 
 -- ---- Parts.
 
@@ -261,8 +266,41 @@ pub data HeaderOf (profile : Profile) : List Terminal → Header → Type 0 wher
   class_line : {x : Spelled} {ts us : List Terminal} {tps : List TypeParam} {es : List Expr} {ks : Keywords} →
       TypeParams profile ts tps → Bases us es ks → HeaderOf profile (Word Key.Class ∷ (Ident x ∷ (ts ++ us))) (def_header (class_head x.form tps es ks))
 
+-- ---- `match` and `case`, which are no keywords: NAMEs that are spelled so.
+
+abbrev pub match_name : Identifier
+match_name = codes "match"
+
+abbrev pub match_word : Identifier → Terminal
+match_word form = Ident (record { spelling = match_name; form = form })
+
+abbrev pub case_name : Identifier
+case_name = codes "case"
+
+abbrev pub case_word : Identifier → Terminal
+case_word form = Ident (record { spelling = case_name; form = form })
+
+-- the extent that has `match` statements
+abbrev pub is_whole : Extent → Bool
+is_whole extents.Whole = true
+is_whole extents.Plain = false
+
+abbrev pub begins_case : List Terminal → Bool
+begins_case (Ident x ∷ ts) = bytes_eq x.spelling case_name
+begins_case _ = false
+
+-- a line that begins with `case` and stands in a `match` is the header of a case, if it is anything
+abbrev pub is_case_line : Profile → Bool → List Terminal → Bool
+is_case_line profile inside ts = is_whole profile.extent && (inside && begins_case ts)
+
+-- "case" Patterns ["if" Named], up to the colon
+pub data CaseOf : List Terminal → Header → Type 0 where
+  case_line : {ts us : List Terminal} {p : Pattern} {g : Option Expr} (form : Identifier) → DerivesPattern Patterns ts p → Behind (Word Key.If) Named us g →
+      CaseOf (case_word form ∷ (ts ++ us)) (case_header p g)
+
 -- ---- Lines.
 
+-- what a line is that is no `case` of a `match`
 pub data FormOf (profile : Profile) : List Terminal → Form → Type 0 where
   -- Simple (";" Simple)* [";"]
   simple_statements : {ts : List Terminal} {ss : List Stmt} → Simples profile ts ss → FormOf profile ts (simple_form ss)
@@ -273,3 +311,15 @@ pub data FormOf (profile : Profile) : List Terminal → Form → Type 0 where
   -- Header ":" Simple (";" Simple)* [";"]
   header_suite : {ts us : List Terminal} {h : Header} {ss : List Stmt} → HeaderOf profile ts h → Simples profile us ss →
       FormOf profile (ts ++ (Op Sign.Colon ∷ us)) (header_form h (Some ss))
+  -- "match" Subject ":"
+  match_line : {ts : List Terminal} {e : Expr} (form : Identifier) → is_whole profile.extent ≡ true → Derives Subject ts e →
+      FormOf profile (match_word form ∷ (ts ++ (Op Sign.Colon ∷ []))) (header_form (match_header e) None)
+
+-- what a line is at its place: whether it stands in a `match`
+pub data FormAt (profile : Profile) : Bool → List Terminal → Form → Type 0 where
+  other_line : {inside : Bool} {ts : List Terminal} {f : Form} → is_case_line profile inside ts ≡ false → FormOf profile ts f → FormAt profile inside ts f
+  -- Case ":"
+  case_alone : {ts : List Terminal} {h : Header} → is_whole profile.extent ≡ true → CaseOf ts h → FormAt profile true (ts ++ (Op Sign.Colon ∷ [])) (header_form h None)
+  -- Case ":" Simple (";" Simple)* [";"]
+  case_suite : {ts us : List Terminal} {h : Header} {ss : List Stmt} → is_whole profile.extent ≡ true → CaseOf ts h → Simples profile us ss →
+      FormAt profile true (ts ++ (Op Sign.Colon ∷ us)) (header_form h (Some ss))

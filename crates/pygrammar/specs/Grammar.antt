@@ -11,7 +11,7 @@ use Rattle.pytree_node.specs.declared.operators.Comparison.{Comparison}
 use Rattle.pytree_node.specs.declared.operators.Comparison.TheVariants as Is
 use Rattle.pytree_node.specs.declared.operators.Context.TheVariants.{Load, Store}
 use Rattle.pygrammar.specs.declared.levels.Level.{Level}
-use Rattle.pygrammar.specs.declared.levels.Level.TheVariants.{Value, Stars, StarItem, Named, Expression, Or, Compare, BitOr, Factor, Power, Await, Primary, Atom, Elem, Slices, Part, Slice}
+use Rattle.pygrammar.specs.declared.levels.Level.TheVariants.{Value, Stars, StarItem, Named, Expression, Or, Compare, BitOr, Factor, Power, Await, Primary, Atom, Elem, Slices, Part, Slice, Subject}
 use Rattle.pytree_node.specs.Trees
 use Rattle.pytree_node.specs.Trees.{Expr, no_exprs, an_expr, OptionalExpr, absent, present, arg, Arguments, Identifier, exprs, Comprehension, comprehensions}
 use Rattle.pytree_node.specs.Values
@@ -146,6 +146,10 @@ mutual
     set_comp : {ts us : List Terminal} {e : Expr} {gs : List Comprehension}
         → Derives Named ts e → Comps us gs
         → Derives Atom (Op LBrace ∷ (ts ++ (us ++ (Op RBrace ∷ [])))) (Trees.SetComp e (comprehensions gs))
+    -- Subject = Elem "," | Elem ("," Elem)+ [,]
+    subject_tuple : {ts us : List Terminal} {e : Expr} {es : List Entry}
+        → Derives Elem ts e → Listing (Of Elem) us es
+        → Derives Subject (ts ++ (Op Comma ∷ us)) (Trees.Tuple (an_expr e (singles es)) Load)
     -- Elem = "*" BitOr
     star_elem : {ts : List Terminal} {e : Expr}
         → Derives BitOr ts e

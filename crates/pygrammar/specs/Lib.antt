@@ -12,6 +12,11 @@ pub mod Precedence
 pub mod Reader
 pub mod Capped
 pub mod Meets
+pub mod PatternOperators
+pub mod PatternEntries
+pub mod PatternGrammar
+pub mod PatternReader
+pub mod PatternMeets
 pub mod Lines
 pub mod DottedNames
 pub mod Forms
@@ -21,9 +26,11 @@ pub mod Reading
 pub mod FormHeights
 pub mod LimitedLines
 pub mod Types
+pub mod Extents
 pub mod Refusals
 pub mod Depths
 pub mod Laws
+pub mod PatternLaws
 pub mod LineLaws
 pub mod SourceLaws
 pub mod FormOf

@@ -1,5 +1,5 @@
 -- The plain reader of one logical line: which form its terminals are, by the first word and by small looks ahead.
-use Rattle.std.specs.Prelude.{ℕ, zero, suc, ◌+◌, List, [], ◌∷◌, ◌++◌, Option, Some, None, length, Bool, true, false, cond, leb}
+use Rattle.std.specs.Prelude.{ℕ, zero, suc, ◌+◌, List, [], ◌∷◌, ◌++◌, Option, Some, None, length, Bool, true, false, ◌&&◌, cond, leb}
 use Rattle.std.specs.Str.{bytes_eq}
 use Rattle.pylex_lexeme.specs.Characters.{full_stop, asterisk}
 use Rattle.pylex_lexeme.specs.declared.kinds.Exact.TheVariants as Sign
@@ -8,7 +8,8 @@ use Rattle.pytree_node.specs.declared.operators.Operator.{Operator}
 use Rattle.pytree_node.specs.declared.operators.Context.TheVariants.{Load, Store}
 use Rattle.pytree_node.specs.declared.profiles.Profile.{Profile}
 use Rattle.pygrammar.specs.declared.levels.Level.{Level}
-use Rattle.pygrammar.specs.declared.levels.Level.TheVariants.{Value, Stars, Named, Expression}
+use Rattle.pygrammar.specs.declared.levels.Level.TheVariants.{Value, Stars, Named, Expression, Subject}
+use Rattle.pygrammar.specs.declared.pattern_levels.PatternLevel.TheVariants.{Patterns}
 use Rattle.pytree_node.specs.Trees.{Expr, Arguments, Keywords, no_keyword, Identifier, Stmt, Alias, Item, TypeParam, TypeVar, ParamSpec, TypeVarTuple, Return, Delete, Assign, TypeAlias, AugAssign, AnnAssign, Raise, Assert, Import, ImportFrom, Global, Nonlocal, ExprOf, Pass, Break, Continue}
 use Rattle.pytree_node.specs.Trees as Trees
 use Rattle.pytoken.specs.Terminals.{Terminal, Op, Word, Ident}
@@ -19,8 +20,9 @@ use Rattle.pygrammar.specs.Parameters.{arranged}
 use Rattle.pygrammar.specs.Targets.{stored, deleted, single_stored}
 use Rattle.pygrammar.specs.Reader.{Answer, Found, NoForm, TooDeep, and_then, on_some, on_first, on_name_with, closed, made, Reads, listing_of, read_target, read}
 use Rattle.pygrammar.specs.Precedence.{starts}
-use Rattle.pygrammar.specs.Lines.{Form, simple_form, decorator_form, header_form, Header, if_header, elif_header, else_header, loop_header, with_header, try_header, except_header, finally_header, def_header, while_head, for_head, function_head, class_head}
-use Rattle.pygrammar.specs.Forms.{alias, type_name, augmented, item, listed}
+use Rattle.pygrammar.specs.Lines.{Form, simple_form, decorator_form, header_form, Header, if_header, elif_header, else_header, loop_header, with_header, try_header, except_header, finally_header, def_header, match_header, case_header, while_head, for_head, function_head, class_head}
+use Rattle.pygrammar.specs.Forms.{alias, type_name, match_name, is_whole, is_case_line, augmented, item, listed}
+use Rattle.pygrammar.specs.PatternReader.{PatternReads, capped_pattern}
 use Rattle.pytree_node.specs.Profiles.{has_types}
 
 -- ---- Parts.
@@ -281,6 +283,27 @@ module _ (profile : Profile) (self : Reads) where
   read_header (Word Key.Async ∷ (Word Key.Def ∷ r)) = def_rest true r
   read_header i = NoForm
 
+-- ---- `match`.
+
+-- the word `match`, which is no keyword
+abbrev pub is_match : Terminal → Bool
+is_match (Ident x) = bytes_eq x.spelling match_name
+is_match t = false
+
+abbrev pub is_colon : Terminal → Bool
+is_colon (Op Sign.Colon) = true
+is_colon t = false
+
+abbrev pub ends_in_colon : List Terminal → Bool
+ends_in_colon [] = false
+ends_in_colon (t ∷ []) = is_colon t
+ends_in_colon (t ∷ ts) = ends_in_colon ts
+
+-- A line that begins with `match` and ends in a colon is the header of a `match`, if it is anything: no other line that begins with a NAME ends so.
+abbrev pub is_match_line : Profile → List Terminal → Bool
+is_match_line profile [] = false
+is_match_line profile (t ∷ ts) = is_whole profile.extent && (is_match t && ends_in_colon ts)
+
 -- ---- Lines.
 
 -- what the first terminal of a line says
@@ -317,20 +340,44 @@ module _ (profile : Profile) (self : Reads) where
   line_of Heads i r = and_then (read_header profile self i) (λ h r1. on_first (is_op Sign.Colon) r1 (λ _ r2. suite h r2) NoForm)
   line_of States i r = and_then (statements profile self (suc (length i)) i) (λ ss r1. Found (simple_form ss) r1)
 
+  -- after `match`
+  abbrev pub match_rest : List Terminal → Answer Form
+  match_rest i = and_then (self Subject i) (λ e r. on_first (is_op Sign.Colon) r (λ _ r1. Found (header_form (match_header e) None) r1) NoForm)
+
   abbrev pub line_front : List Terminal → Answer Form
   line_front [] = NoForm
-  line_front (t ∷ r) = line_of (opening t) (t ∷ r) r
+  line_front (t ∷ r) = cond (is_match_line profile (t ∷ r)) (match_rest r) (line_of (opening t) (t ∷ r) r)
 
   abbrev pub line : List Terminal → Answer Form
   line i = and_then (line_front i) (λ f r. on_none r (Found f []) NoForm)
+
+-- A line at its place: whether it stands in a `match`. `patterns` reads a pattern.
+module _ (profile : Profile) (self : Reads) (patterns : PatternReads) where
+  -- after `case`
+  abbrev pub case_rest : List Terminal → Answer Form
+  case_rest i = and_then (patterns Patterns i) (λ p r. and_then (after self (Word Key.If) Named r) (λ g r1. on_first (is_op Sign.Colon) r1 (λ _ r2. suite profile self (case_header p g) r2) NoForm))
+
+  abbrev pub case_front : List Terminal → Answer Form
+  case_front [] = NoForm
+  case_front (t ∷ r) = case_rest r
+
+  abbrev pub case_whole : List Terminal → Answer Form
+  case_whole i = and_then (case_front i) (λ f r. on_none r (Found f []) NoForm)
+
+  abbrev pub line_at : Bool → List Terminal → Answer Form
+  line_at inside i = cond (is_case_line profile inside i) (case_whole i) (line profile self i)
 
 -- with as many nested expressions as there are terminals
 abbrev pub plain : Reads
 plain l ts = read (suc (length ts)) l ts
 
-abbrev pub read_line : Profile → List Terminal → Answer Form
-read_line profile ts = line profile plain ts
+-- with one more, since a pattern may be one higher than it has terminals
+abbrev pub plain_pattern : PatternReads
+plain_pattern l ts = capped_pattern (suc (length ts)) (suc (suc (length ts))) l ts
+
+abbrev pub read_line : Profile → Bool → List Terminal → Answer Form
+read_line profile inside ts = line_at profile plain plain_pattern inside ts
 
 -- with at most d nested expressions
-abbrev pub read_line_to : Profile → ℕ → List Terminal → Answer Form
-read_line_to profile d ts = line profile (read d) ts
+abbrev pub read_line_to : Profile → Bool → ℕ → List Terminal → Answer Form
+read_line_to profile inside d ts = line_at profile (read d) (capped_pattern (suc (length ts)) d) inside ts

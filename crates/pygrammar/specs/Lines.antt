@@ -1,6 +1,6 @@
 -- Logical lines, each by itself: what its own tokens say, without the lines around it.
 use Rattle.std.specs.Prelude.{ℕ, Bool, true, false, not, ◌&&◌, List, [], ◌∷◌, Option, Some, None}
-use Rattle.pytree_node.specs.Trees.{Expr, Arguments, Keywords, Identifier, Stmt, Item, Handler, TypeParam, FunctionDef, AsyncFunctionDef, ClassDef, TypeAlias, While, For, AsyncFor, With, AsyncWith, Try, TryStar, stmts, handlers}
+use Rattle.pytree_node.specs.Trees.{Expr, Arguments, Keywords, Identifier, Pattern, Stmt, Item, Handler, TypeParam, FunctionDef, AsyncFunctionDef, ClassDef, TypeAlias, While, For, AsyncFor, With, AsyncWith, Try, TryStar, stmts, handlers}
 
 -- the heads of `while` and `for`, which differ in nothing else
 pub data LoopHead : Type 0 where
@@ -23,6 +23,8 @@ pub data Header : Type 0 where
   except_header : Bool → Option Expr → Option Identifier → Header  -- whether it has a star, type, name
   finally_header : Header
   def_header : DefHead → Header
+  match_header : Expr → Header  -- subject
+  case_header : Pattern → Option Expr → Header  -- pattern, guard
 
 -- the form of a logical line
 pub data Form : Type 0 where
@@ -42,6 +44,15 @@ line l f = record { level = l; form = f }
 abbrev pub opens : Form → Bool
 opens (header_form _ None) = true
 opens _ = false
+
+-- The header of a `match` has no inline suite. No line of terminals has such a form.
+abbrev pub is_proper : Form → Bool
+is_proper (header_form (match_header _) (Some _)) = false
+is_proper _ = true
+
+abbrev pub are_proper : List Line → Bool
+are_proper [] = true
+are_proper (x ∷ xs) = is_proper x.form && are_proper xs
 
 -- the statement of a head and its blocks
 abbrev pub loop : LoopHead → List Stmt → List Stmt → Stmt

@@ -12,7 +12,7 @@ use Rattle.pytree_node.specs.declared.operators.BoolOperator.TheVariants as Join
 use Rattle.pytree_node.specs.declared.operators.Comparison.{Comparison}
 use Rattle.pytree_node.specs.declared.operators.Comparison.TheVariants as Is
 use Rattle.pygrammar.specs.declared.levels.Level.{Level}
-use Rattle.pygrammar.specs.declared.levels.Level.TheVariants.{Value, Stars, StarItem, Named, Expression, Or, And, Not, Compare, BitOr, BitXor, BitAnd, Shift, Sum, Term, Factor, Power, Await, Primary, Atom, Elem, Slices, Part, Slice}
+use Rattle.pygrammar.specs.declared.levels.Level.TheVariants.{Value, Stars, StarItem, Named, Expression, Or, And, Not, Compare, BitOr, BitXor, BitAnd, Shift, Sum, Term, Factor, Power, Await, Primary, Atom, Elem, Slices, Part, Slice, Subject}
 use Rattle.pytoken.specs.Terminals.{Terminal, Op, Word}
 
 -- the level that the last alternative of a line names; Atom names none, so it is its own, which derives nothing more
@@ -41,9 +41,11 @@ below Elem = Named
 below Slices = Slice
 below Part = Slice
 below Slice = Named
+below Subject = Named
 
 -- the levels in one order: a level of a higher rank is further in
 abbrev pub rank : Level → ℕ
+rank Subject = 0
 rank Value = 1
 rank Slices = 2
 rank Stars = 3

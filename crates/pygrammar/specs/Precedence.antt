@@ -9,7 +9,7 @@ use Rattle.pytree_node.specs.declared.operators.UnaryOperator.TheVariants as Un
 use Rattle.pytree_node.specs.declared.operators.BoolOperator.{BoolOperator}
 use Rattle.pytree_node.specs.declared.operators.BoolOperator.TheVariants as Join
 use Rattle.pygrammar.specs.declared.levels.Level.{Level}
-use Rattle.pygrammar.specs.declared.levels.Level.TheVariants.{Stars, StarItem, Named, Not, BitOr, BitXor, BitAnd, Shift, Sum, Term, Factor, Elem, Slices, Part, Slice}
+use Rattle.pygrammar.specs.declared.levels.Level.TheVariants.{Stars, StarItem, Named, Not, BitOr, BitXor, BitAnd, Shift, Sum, Term, Factor, Elem, Slices, Part, Slice, Subject}
 use Rattle.pytoken.specs.Terminals.{Terminal, Op, Word, Ident, Number, Literal}
 use Rattle.pygrammar.specs.Operators.{chain_level, rank}
 use Rattle.pygrammar.specs.Entries.{Item, Of, Pair, Argument, Parameter}
@@ -45,6 +45,7 @@ first Slice = 5
 first Stars = 7
 first StarItem = 7
 first Elem = 7
+first Subject = 7
 first Named = 9
 first l = rank l
 

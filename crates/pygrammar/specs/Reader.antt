@@ -9,7 +9,7 @@ use Rattle.pytree_node.specs.declared.operators.Comparison.{Comparison}
 use Rattle.pytree_node.specs.declared.operators.Comparison.TheVariants as Is
 use Rattle.pytree_node.specs.declared.operators.Context.TheVariants.{Load, Store}
 use Rattle.pygrammar.specs.declared.levels.Level.{Level}
-use Rattle.pygrammar.specs.declared.levels.Level.TheVariants.{Value, Stars, StarItem, Named, Expression, Or, BitOr, Factor, Await, Primary, Atom, Elem, Slices, Part, Slice}
+use Rattle.pygrammar.specs.declared.levels.Level.TheVariants.{Value, Stars, StarItem, Named, Expression, Or, BitOr, Factor, Await, Primary, Atom, Elem, Slices, Part, Slice, Subject}
 use Rattle.pytree_node.specs.Trees
 use Rattle.pytree_node.specs.Trees.{Expr, no_exprs, an_expr, OptionalExpr, absent, present, no_optional, arg, Arguments, Identifier, exprs, Comprehension, comprehensions}
 use Rattle.pytree_node.specs.Values
@@ -304,6 +304,7 @@ module _ (next inner : Reads) where
   level_step Slices i = and_then (next Part i) (λ e r. tupled inner (Of Part) e r (on_first (is_op Star) i (λ _ _. Found (Trees.Tuple (an_expr e no_exprs) Load) r) (Found e r)))
   level_step Part i = starred inner Expression i (next Slice i)
   level_step Slice i = on_first (is_op Colon) i (λ _ r. slice_rest inner absent r) (and_then (next Named i) (λ e r. on_first (is_op Colon) r (λ _ r1. unnamed i (slice_rest inner (present e) r1)) (Found e r)))
+  level_step Subject i = and_then (next Elem i) (λ e r. tupled inner (Of Elem) e r (unstarred i (Found e r)))
   level_step l i = climb (rank l) i
 
 -- how many levels are read at the front, from one on
@@ -316,6 +317,7 @@ levels_from StarItem = 5
 levels_from Elem = 6
 levels_from Stars = 6
 levels_from Value = 7
+levels_from Subject = 7
 levels_from Slice = 6
 levels_from Part = 7
 levels_from Slices = 8

@@ -1,8 +1,8 @@
 -- Blocks read line by line: what is kept of the lines so far, and what the next line makes of it.
 use Rattle.std.specs.Prelude.{ℕ, Bool, true, false, nat_lt, cond, List, [], ◌∷◌, ◌++◌, length, Option, Some, None}
-use Rattle.pytree_node.specs.Trees.{Expr, Stmt, Handler, If, stmts}
-use Rattle.pygrammar.specs.Lines.{Line, Form, simple_form, decorator_form, header_form, Header, if_header, elif_header, else_header, loop_header, with_header, try_header, except_header, finally_header, def_header, LoopHead, loop, with_of, definition, try_of}
-use Rattle.pygrammar.specs.Blocks.{handler, Fault, ExpectedIndent, UnexpectedIndent, MisplacedClause, same_bool}
+use Rattle.pytree_node.specs.Trees.{Expr, Stmt, Case, Handler, If, Match, cases, stmts}
+use Rattle.pygrammar.specs.Lines.{Line, Form, simple_form, decorator_form, header_form, Header, if_header, elif_header, else_header, loop_header, with_header, try_header, except_header, finally_header, def_header, match_header, case_header, LoopHead, loop, with_of, definition, try_of}
+use Rattle.pygrammar.specs.Blocks.{case_of, handler, Fault, ExpectedIndent, UnexpectedIndent, MisplacedClause, same_bool}
 
 pub data Answer (A : Type 0) : Type 0 where
   Fine : A → Answer A
@@ -29,6 +29,7 @@ pub data Group : Type 0 where
   Trial : List Stmt → Group  -- a `try` alone
   Caught : Bool → List Stmt → List Handler → Group  -- a `try` and its `except`s
   Settled : Bool → List Stmt → List Handler → List Stmt → Group  -- these and an `else`
+  Matching : List Case → Group  -- in the block of a `match`: its cases
 
 -- an `if` of these arms
 abbrev pub choice : List Arm → List Stmt → List Stmt
@@ -44,6 +45,7 @@ closes (Loop head body) = Some (loop head body [] ∷ [])
 closes (Trial _) = None
 closes (Caught star body hs) = Some (try_of star body hs [] [] ∷ [])
 closes (Settled star body hs orelse) = Some (try_of star body hs orelse [] ∷ [])
+closes (Matching _) = None
 
 -- statements that are whole, and a group that may go on
 pub record Part : Type 0 where
@@ -78,6 +80,9 @@ meets (Settled star body hs orelse) finally_header = Some (part [] (Settled star
 meets _ finally_header = None
 meets (Marked es) (def_header _) = Some (part [] (Marked es))
 meets g (def_header _) = ended g
+meets g (match_header _) = ended g
+meets (Matching cs) (case_header _ _) = Some (part [] (Matching cs))
+meets _ (case_header _ _) = None
 
 -- what a header and its block make of the group that it goes on with
 abbrev pub grows : Group → Header → List Stmt → Part
@@ -96,6 +101,7 @@ grows (Caught star first hs) finally_header body = part (try_of star first hs []
 grows (Settled star first hs orelse) finally_header body = part (try_of star first hs orelse body ∷ []) Idle
 grows (Marked es) (def_header head) body = part (definition es head body ∷ []) Idle
 grows _ (def_header head) body = part (definition [] head body ∷ []) Idle
+grows (Matching cs) (case_header pattern guard) body = part [] (Matching (cs ++ case_of pattern guard body ∷ []))
 grows _ _ _ = part [] Idle
 
 -- a level that waits for the block of its last line, a header
@@ -125,15 +131,30 @@ start = state [] Idle false []
 abbrev pub joined : List Stmt → Group → Header → List Stmt → Part
 joined done g h body = part (done ++ (grows g h body).done) (grows g h body).group
 
+-- what the block of a header begins with
+abbrev pub first_group : Header → Group
+first_group (match_header _) = Matching []
+first_group _ = Idle
+
+-- the statement of a `match` and its cases
+abbrev pub matched : Header → List Case → List Stmt
+matched (match_header subject) cs = Match subject (cases cs) ∷ []
+matched _ cs = []
+
+-- what a level and its block make, where the block may end here
+abbrev pub above : Waiting → List Stmt → Group → Option Part
+above w done (Matching cs) = Some (part (w.done ++ matched w.header cs) Idle)
+above w done g = elim (closes g) [ None ↦ None | Some ss ↦ Some (joined w.done w.group w.header (done ++ ss)) ]
+
 -- the levels above l end
 abbrev pub settle_in : ℕ → List Stmt → Group → Bool → List Waiting → Answer State
 settle_in l done g fresh [] = Fine (state done g fresh [])
 settle_in l done g fresh (w ∷ below) =
     cond (nat_lt l (length (w ∷ below)))
     (cond fresh (Faulty ExpectedIndent)
-    (elim (closes g) [
+    (elim (above w done g) [
       | None ↦ Faulty MisplacedClause
-      | Some ss ↦ settle_in l (joined w.done w.group w.header (done ++ ss)).done (joined w.done w.group w.header (done ++ ss)).group false below
+      | Some p ↦ settle_in l p.done p.group false below
     ]))
     (Fine (state done g fresh (w ∷ below)))
 
@@ -142,7 +163,7 @@ settle l s = settle_in l s.done s.group s.fresh s.below
 
 -- a line of the deepest open level
 abbrev pub place_header : State → Header → Option (List Stmt) → Part → State
-place_header s h None p = state [] Idle true (waiting (s.done ++ p.done) p.group h ∷ s.below)
+place_header s h None p = state [] (first_group h) true (waiting (s.done ++ p.done) p.group h ∷ s.below)
 place_header s h (Some suite) p =
     state (joined (s.done ++ p.done) p.group h suite).done (joined (s.done ++ p.done) p.group h suite).group false s.below
 

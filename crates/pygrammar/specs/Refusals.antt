@@ -1,6 +1,6 @@
--- What is accepted in a version of Python, and what is refused where. A refusal of the tokens comes first, in the order that `refusal` gives; then the first line
+-- What is accepted in a version and an extent of Python, and what is refused where. A refusal of the tokens comes first, in the order that `refusal` gives; then the first line
 -- without a form, the first faulty line of the blocks, and the first statement that stands too deep.
-use Rattle.std.specs.Prelude.{◌≡◌, ℕ, suc, ◌+◌, ◌<◌, ◌≤◌, Bool, true, false, nat_lt, ◌==◌, cond, List, [], ◌∷◌, ◌++◌, length, map, Option, Some, None}
+use Rattle.std.specs.Prelude.{◌≡◌, ℕ, suc, ◌+◌, ◌<◌, ◌≤◌, Bool, true, false, not, ◌&&◌, nat_lt, ◌==◌, cond, List, [], ◌∷◌, ◌++◌, length, map, Option, Some, None}
 use Rattle.pysource.specs.declared.places.Place.{Place}
 use Rattle.pylex.specs.Listing.{Source}
 use Rattle.pytree_node.specs.declared.profiles.Profile.{Profile}
@@ -13,9 +13,9 @@ use Rattle.pytoken.specs.Terminals.{Terminal, terminal_of}
 use Rattle.pytoken.specs.Refusals.{refusal}
 use Rattle.pytoken.specs.MatchHeaders.{is_match}
 use Rattle.pygrammar.specs.Lines.{Line, line, Form, header_form}
-use Rattle.pygrammar.specs.Forms.{FormOf}
+use Rattle.pygrammar.specs.Forms.{FormAt, is_whole}
 use Rattle.pygrammar.specs.FormHeights.{form_height}
-use Rattle.pygrammar.specs.Blocks.{Block, Fault, FirstFault, Kind, ElifLine, ElseLine, ExceptLine, FinallyLine, kind_of, header_kind}
+use Rattle.pygrammar.specs.Blocks.{Block, Fault, FirstFault, Kind, ElifLine, ElseLine, ExceptLine, FinallyLine, CaseLine, kind_of, header_kind, stands_in_match}
 
 -- why a line or ENDMARKER is refused
 pub data Code : Type 0 where
@@ -41,31 +41,42 @@ pub data StartsAt (s : Source) (n : ℕ) : Place → Type 0 where
 abbrev pub terminals : Tokens.Line → List Terminal
 terminals x = map (λ t. terminal_of t.kind t.text) x.tokens
 
--- a form whose expressions are no higher than 500
-pub record HasForm (profile : Profile) (x : Tokens.Line) (f : Form) : Type 0 where
-  pub is : FormOf profile (terminals x) f
+-- Each line is asked for its form at its place: whether it stands in a `match`, by the forms of the lines before it. Those are given nearest
+-- first.
+
+-- a form whose expressions and patterns are no higher than 500
+pub record HasForm (profile : Profile) (inside : Bool) (x : Tokens.Line) (f : Form) : Type 0 where
+  pub is : FormAt profile inside (terminals x) f
   pub low : form_height f ≤ 500
 
-pub data Formed (profile : Profile) : List Tokens.Line → List Line → Type 0 where
-  formed_end : Formed profile [] []
-  formed_line : {x : Tokens.Line} {xs : List Tokens.Line} {f : Form} {ys : List Line} →
-      HasForm profile x f → Formed profile xs ys → Formed profile (x ∷ xs) (line x.level f ∷ ys)
+-- lines and their forms, behind earlier ones
+pub data Formed (profile : Profile) : List Line → List Tokens.Line → List Line → Type 0 where
+  formed_end : {earlier : List Line} → Formed profile earlier [] []
+  formed_line : {earlier : List Line} {x : Tokens.Line} {xs : List Tokens.Line} {f : Form} {ys : List Line} →
+      HasForm profile (stands_in_match x.level earlier) x f → Formed profile (line x.level f ∷ earlier) xs ys →
+      Formed profile earlier (x ∷ xs) (line x.level f ∷ ys)
 
-abbrev pub HasNone : Profile → Tokens.Line → Type 0
-HasNone profile x = (f : Form) → FormOf profile (terminals x) f → ⊥
+abbrev pub HasNone : Profile → Bool → Tokens.Line → Type 0
+HasNone profile inside x = (f : Form) → FormAt profile inside (terminals x) f → ⊥
+
+-- a line that looks like the header of a `match`, in the extent that has none
+abbrev pub is_left_out : Profile → Tokens.Line → Bool
+is_left_out profile x = not (is_whole profile.extent) && is_match x.tokens
 
 -- why a line has no such form; the last is the one free choice: a long line without any form may be too deep
-pub data Unread (profile : Profile) (x : Tokens.Line) : Code → Type 0 where
-  too_high : {f : Form} → FormOf profile (terminals x) f → 500 < form_height f → Unread profile x TooDeep
-  no_match : HasNone profile x → is_match x.tokens ≡ true → Unread profile x MatchStatement
-  no_form : HasNone profile x → is_match x.tokens ≡ false → Unread profile x Syntax
-  too_long : HasNone profile x → 500 < length x.tokens → Unread profile x TooDeep
+pub data Unread (profile : Profile) (inside : Bool) (x : Tokens.Line) : Code → Type 0 where
+  too_high : {f : Form} → FormAt profile inside (terminals x) f → 500 < form_height f → Unread profile inside x TooDeep
+  no_match : HasNone profile inside x → is_left_out profile x ≡ true → Unread profile inside x MatchStatement
+  no_form : HasNone profile inside x → is_left_out profile x ≡ false → Unread profile inside x Syntax
+  too_long : HasNone profile inside x → 500 < length x.tokens → Unread profile inside x TooDeep
 
 -- the first such line
-pub data FirstUnread (profile : Profile) : List Tokens.Line → ℕ → Code → Type 0 where
-  unread : {x : Tokens.Line} {xs : List Tokens.Line} {c : Code} → Unread profile x c → FirstUnread profile (x ∷ xs) 0 c
-  unread_behind : {x : Tokens.Line} {xs : List Tokens.Line} {f : Form} {n : ℕ} {c : Code} →
-      HasForm profile x f → FirstUnread profile xs n c → FirstUnread profile (x ∷ xs) (suc n) c
+pub data FirstUnread (profile : Profile) : List Line → List Tokens.Line → ℕ → Code → Type 0 where
+  unread : {earlier : List Line} {x : Tokens.Line} {xs : List Tokens.Line} {c : Code} →
+      Unread profile (stands_in_match x.level earlier) x c → FirstUnread profile earlier (x ∷ xs) 0 c
+  unread_behind : {earlier : List Line} {x : Tokens.Line} {xs : List Tokens.Line} {f : Form} {n : ℕ} {c : Code} →
+      HasForm profile (stands_in_match x.level earlier) x f → FirstUnread profile (line x.level f ∷ earlier) xs n c →
+      FirstUnread profile earlier (x ∷ xs) (suc n) c
 
 -- ---- Statement heights.
 
@@ -76,21 +87,28 @@ elifs ElifLine l (x ∷ earlier) = cond (nat_lt l x.level) (elifs ElifLine l ear
 elifs ElseLine l (x ∷ earlier) = cond (nat_lt l x.level) (elifs ElseLine l earlier) (cond (x.level == l) (elifs (kind_of x.form) l earlier) 0)
 elifs _ l (x ∷ earlier) = 0
 
+-- how many statements a line's own header is: the header of a case is none
+abbrev pub own : Kind → ℕ
+own CaseLine = 0
+own _ = 1
+
 -- how many statements are around a line of this level: those around its header, the header's own, and its `elif`s
 abbrev pub around : ℕ → List Line → ℕ
 around l [] = 0
-around l (x ∷ earlier) = cond (nat_lt x.level l) (around x.level earlier + (elifs (kind_of x.form) x.level earlier + 1)) (around l earlier)
+around l (x ∷ earlier) = cond (nat_lt x.level l) (around x.level earlier + (elifs (kind_of x.form) x.level earlier + own (kind_of x.form))) (around l earlier)
 
+-- no statement begins in the header of a clause
 abbrev pub is_clause : Kind → Bool
 is_clause ElseLine = true
 is_clause (ExceptLine _) = true
 is_clause FinallyLine = true
+is_clause CaseLine = true
 is_clause _ = false
 
 -- how many statements are around the innermost one that begins in this line, if one does
 abbrev pub beginning : Line → List Line → Option ℕ
 beginning x earlier = elim x.form [
-  | header_form h (Some suite) ↦ Some (around x.level earlier + (elifs (header_kind h) x.level earlier + 1))
+  | header_form h (Some suite) ↦ Some (around x.level earlier + (elifs (header_kind h) x.level earlier + own (header_kind h)))
   | header_form h None ↦ cond (is_clause (header_kind h)) None (Some (around x.level earlier + elifs (header_kind h) x.level earlier))
   | _ ↦ Some (around x.level earlier)
 ]
@@ -110,17 +128,17 @@ pub data FirstDeep : List Line → List Line → ℕ → Type 0 where
 pub record Accepted (profile : Profile) (s : Source) (m : Module) : Type 0 where
   pub clear : refusal profile.extent s ≡ None
   pub forms : List Line
-  pub formed : Formed profile (lines s) forms
+  pub formed : Formed profile [] (lines s) forms
   pub block : Block 0 forms m.body
   pub low : statement_height m ≤ 500
 
 -- the first of the reasons, in their order
 pub data Refused (profile : Profile) (s : Source) : Reason → Type 0 where
   by_tokens : {r : Refusal} → refusal profile.extent s ≡ Some r → Refused profile s (in_tokens r)
-  by_line : {n : ℕ} {p : Place} {c : Code} → refusal profile.extent s ≡ None → FirstUnread profile (lines s) n c → StartsAt s n p → Refused profile s (at p c)
+  by_line : {n : ℕ} {p : Place} {c : Code} → refusal profile.extent s ≡ None → FirstUnread profile [] (lines s) n c → StartsAt s n p → Refused profile s (at p c)
   by_block : {forms rest : List Line} {f : Fault} {n : ℕ} {p : Place} →
-      refusal profile.extent s ≡ None → Formed profile (lines s) forms → FirstFault [] forms rest f → n + length rest ≡ length forms → StartsAt s n p →
+      refusal profile.extent s ≡ None → Formed profile [] (lines s) forms → FirstFault [] forms rest f → n + length rest ≡ length forms → StartsAt s n p →
       Refused profile s (at p (Indentation f))
   by_height : {forms : List Line} {m : Module} {n : ℕ} {p : Place} →
-      refusal profile.extent s ≡ None → Formed profile (lines s) forms → Block 0 forms m.body → 500 < statement_height m → FirstDeep [] forms n → StartsAt s n p →
+      refusal profile.extent s ≡ None → Formed profile [] (lines s) forms → Block 0 forms m.body → 500 < statement_height m → FirstDeep [] forms n → StartsAt s n p →
       Refused profile s (at p TooDeep)

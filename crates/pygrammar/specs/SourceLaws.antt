@@ -1,5 +1,5 @@
 -- What holds of the forms of logical lines, of their blocks, and of the answer for a source.
-use Rattle.std.specs.Prelude.{◌≡◌, ◌⊎◌, ◌↔◌, ℕ, ◌<◌, true, List, [], length, None, Contains}
+use Rattle.std.specs.Prelude.{◌≡◌, ◌⊎◌, ◌↔◌, ℕ, ◌<◌, Bool, true, List, [], length, Contains}
 use Rattle.pysource.specs.declared.places.Place.{Place}
 use Rattle.pylex.specs.Listing.{Source}
 use Rattle.pytree_node.specs.declared.profiles.Extent.{Extent}
@@ -12,22 +12,22 @@ use Rattle.pytree_node.specs.Trees.{Stmt, Module}
 use Rattle.pytree_height.specs.Heights.{statement_height}
 use Rattle.pytoken.specs.Tokens.{lines}
 use Rattle.pytoken.specs.Tokens as Tokens
-use Rattle.pytoken.specs.Refusals.{refusal}
 use Rattle.pytoken.specs.Terminals.{Terminal}
-use Rattle.pygrammar.specs.Lines.{Line, Form, untyped}
-use Rattle.pygrammar.specs.Forms.{FormOf}
+use Rattle.pygrammar.specs.Lines.{Line, Form, untyped, are_proper}
+use Rattle.pygrammar.specs.Forms.{FormAt}
 use Rattle.pygrammar.specs.Blocks.{Block, Fault, FirstFault}
 use Rattle.pygrammar.specs.Types.{is_module_untyped}
+use Rattle.pygrammar.specs.Extents.{is_module_plain}
 use Rattle.pygrammar.specs.Refusals.{Code, Reason, at, HasNone, Formed, FirstDeep, Accepted, Refused}
 
--- in a version a line has at most one form
+-- in a version and an extent a line has at most one form in a `match`, and at most one elsewhere
 abbrev pub FormsAreUnique : Type 0
-FormsAreUnique = (profile : Profile) (ts : List Terminal) (f g : Form) → FormOf profile ts f → FormOf profile ts g → f ≡ g
+FormsAreUnique = (profile : Profile) (inside : Bool) (ts : List Terminal) (f g : Form) → FormAt profile inside ts f → FormAt profile inside ts g → f ≡ g
 
 -- in either extent the forms of Python 3.11 are those of 3.12 without types
 abbrev pub TypesAreNew : Type 0
-TypesAreNew = (extent : Extent) (ts : List Terminal) (f : Form) →
-    FormOf (python Py311 extent) ts f ↔ (FormOf (python Py312 extent) ts f × (untyped f ≡ true))
+TypesAreNew = (extent : Extent) (inside : Bool) (ts : List Terminal) (f : Form) →
+    FormAt (python Py311 extent) inside ts f ↔ (FormAt (python Py312 extent) inside ts f × (untyped f ≡ true))
 
 -- the laws of the forms of a line
 pub record FormsAreLawful : Type 0 where
@@ -40,7 +40,7 @@ TreesAreUnique = (xs : List Line) (a b : List Stmt) → Block 0 xs a → Block 0
 
 -- they have a tree, or a first faulty line
 abbrev pub TreesAreDecided : Type 0
-TreesAreDecided = (xs : List Line) → ((ss : List Stmt) × Block 0 xs ss) ⊎ ((rest : List Line) × (f : Fault) × FirstFault [] xs rest f)
+TreesAreDecided = (xs : List Line) → are_proper xs ≡ true → ((ss : List Stmt) × Block 0 xs ss) ⊎ ((rest : List Line) × (f : Fault) × FirstFault [] xs rest f)
 
 -- and never both
 abbrev pub FaultyLinesAreNoTree : Type 0
@@ -74,10 +74,9 @@ abbrev pub ModulesReturn : Type 0
 ModulesReturn = (extent : Extent) (s : Source) (m : Module) →
     Accepted (python Py311 extent) s m ↔ (Accepted (python Py312 extent) s m × (is_module_untyped m ≡ true))
 
--- A source is accepted in the plain language exactly where it is in the whole one with the same tree, and none of its tokens has a fault in the plain one:
--- by `ExtentsDifferInNumbers` of the tokens, where no number lacks a value there.
-abbrev pub ExtentsDifferInTokens : Type 0
-ExtentsDifferInTokens = (version : Version) (s : Source) (m : Module) → Accepted (python version Plain) s m ↔ (Accepted (python version Whole) s m × (refusal Plain s ≡ None))
+-- a source is accepted in the plain language exactly where it is in the whole one with the same tree, and that has nothing of the whole language alone
+abbrev pub ExtentsDifferInTrees : Type 0
+ExtentsDifferInTrees = (version : Version) (s : Source) (m : Module) → Accepted (python version Plain) s m ↔ (Accepted (python version Whole) s m × (is_module_plain m ≡ true))
 
 -- each source is accepted or refused
 abbrev pub SourcesAreAnswered : Type 0
@@ -85,7 +84,7 @@ SourcesAreAnswered = (profile : Profile) (s : Source) → ((m : Module) × Accep
 
 -- the one free choice: a long line without any form may be refused by either of two reasons, at one place
 pub data IsFreeChoice (profile : Profile) (s : Source) : Reason → Reason → Type 0 where
-  free : {p : Place} {c d : Code} (x : Tokens.Line) → Contains (lines s) x → HasNone profile x → 500 < length x.tokens → IsFreeChoice profile s (at p c) (at p d)
+  free : {p : Place} {c d : Code} {inside : Bool} (x : Tokens.Line) → Contains (lines s) x → HasNone profile inside x → 500 < length x.tokens → IsFreeChoice profile s (at p c) (at p d)
 
 -- what is refused has one reason otherwise
 abbrev pub ReasonsAreUnique : Type 0
@@ -93,7 +92,7 @@ ReasonsAreUnique = (profile : Profile) (s : Source) (r q : Reason) → Refused p
 
 -- where the lines of a source have a tree, a line begins a statement too deep exactly where the tree is too high
 abbrev pub DepthsAreHeights : Type 0
-DepthsAreHeights = (profile : Profile) (xs : List Tokens.Line) (forms : List Line) (m : Module) → Formed profile xs forms → Block 0 forms m.body →
+DepthsAreHeights = (profile : Profile) (xs : List Tokens.Line) (forms : List Line) (m : Module) → Formed profile [] xs forms → Block 0 forms m.body →
     ((n : ℕ) × FirstDeep [] forms n) ↔ (500 < statement_height m)
 
 -- the laws of the answer for a source
@@ -102,7 +101,7 @@ pub record AnswersAreLawful : Type 0 where
   pub apart : RefusedHaveNoModule
   pub stays : ModulesStay
   pub new : ModulesReturn
-  pub extents : ExtentsDifferInTokens
+  pub extents : ExtentsDifferInTrees
   pub total : SourcesAreAnswered
   pub one : ReasonsAreUnique
   pub depths : DepthsAreHeights

@@ -16,6 +16,7 @@ abbrev mutual
   is_untyped (Trees.If test body orelse) = are_untyped body && are_untyped orelse
   is_untyped (Trees.With items body) = are_untyped body
   is_untyped (Trees.AsyncWith items body) = are_untyped body
+  is_untyped (Trees.Match subject cases) = are_cases_untyped cases
   is_untyped (Trees.Try body handlers orelse finalbody) = are_untyped body && (are_handlers_untyped handlers && (are_untyped orelse && are_untyped finalbody))
   is_untyped (Trees.TryStar body handlers orelse finalbody) = are_untyped body && (are_handlers_untyped handlers && (are_untyped orelse && are_untyped finalbody))
   is_untyped _ = true
@@ -23,6 +24,10 @@ abbrev mutual
   pub are_untyped : Trees.Stmts → Bool
   are_untyped Trees.no_stmt = true
   are_untyped (Trees.a_stmt s ss) = is_untyped s && are_untyped ss
+
+  pub are_cases_untyped : Trees.Cases → Bool
+  are_cases_untyped Trees.no_case = true
+  are_cases_untyped (Trees.a_case pattern guard body cs) = are_untyped body && are_cases_untyped cs
 
   pub are_handlers_untyped : Trees.Handlers → Bool
   are_handlers_untyped Trees.no_handler = true

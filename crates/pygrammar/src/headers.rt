@@ -2,7 +2,7 @@
 //!
 //! Python language reference, 8 "Compound statements".
 
-use pytree_node::{Arguments, Expr, Identifier, Item, Keyword, TypeParam};
+use pytree_node::{Arguments, Expr, Identifier, Item, Keyword, Pattern, TypeParam};
 
 /// The head of a loop: 8.2 "The `while` statement", 8.3 "The `for` statement".
 #[derive(Drop)]
@@ -76,5 +76,14 @@ pub enum Header {
     /// `def`, `async def`, `class`: 8.7, 8.8.
     Def {
         head: DefHead,
+    },
+    /// `match subject`: 8.6 "The `match` statement".
+    Match {
+        subject: Box<Expr>,
+    },
+    /// `case pattern`, `case pattern if guard`: 8.6.
+    Case {
+        pattern: Box<Pattern>,
+        guard: Option<Box<Expr>>,
     },
 }

@@ -6,7 +6,8 @@ ghost use Rattle.pygrammar.specs.Operators.{below, rank};
 /// A line of the expression grammar (language reference, 10), the lowest first: what binds least.
 ///
 /// In each line below the words with a capital are levels. Up to [`Level::Primary`] each level also
-/// takes whatever the next one takes. The last four are the places of members and of subscripts.
+/// takes whatever the next one takes. The last five are the places of members, of subscripts and of
+/// the subject of a `match`.
 #[derive(Clone, Copy, Debug, PartialEq, Eq)]
 pub enum Level {
     /// `yield_expr | star_expressions`: `"yield" "from" Expression`, `"yield" [Stars]`, or `Stars`.
@@ -57,16 +58,19 @@ pub enum Level {
     Part,
     /// `slice`: `[Expression] ":" [Expression] [":" [Expression]]`, or `Named`.
     Slice,
+    /// `subject_expr`: `Elem ("," Elem)+ [","]`, `Elem ","`, or `Named`.
+    Subject,
 }
 
 impl Level {
     /// The place of the level in one order: a level of a higher rank is further in, and the lowest
-    /// has rank 1.
+    /// has rank 0.
     #[inline(always)]
     pub fn rank(self) -> u8
         ensures { result ≡ rank self }
     {
         match self {
+            Level::Subject => 0,
             Level::Value => 1,
             Level::Slices => 2,
             Level::Stars => 3,
@@ -124,6 +128,7 @@ impl Level {
             Level::Slices => Level::Slice,
             Level::Part => Level::Slice,
             Level::Slice => Level::Named,
+            Level::Subject => Level::Named,
         }
     }
 }

@@ -1,5 +1,5 @@
-//! The grammar of Python: definitions and laws alone, with the types that they name: [`Level`], with
-//! its rank, and [`Form`], what a logical line says of itself.
+//! The grammar of Python: definitions and laws alone, with the types that they name: [`Level`] and
+//! [`PatternLevel`], with their ranks, and [`Form`], what a logical line says of itself.
 //!
 //! Python language reference, 6 "Expressions" to 8 "Compound statements", and 10 "Full Grammar
 //! specification".
@@ -13,6 +13,10 @@
 //! and `Meets` what its answers mean. `Laws` says that they agree, hence that a list is at most one
 //! expression.
 //!
+//! `PatternGrammar` is the table of patterns, over `PatternOperators` and `PatternEntries`;
+//! `PatternReader` that table as a function within a height, `PatternMeets` what its answers mean,
+//! and `PatternLaws` says that they agree.
+//!
 //! `Lines` and `Forms` are the forms of a logical line in Python 3.11 and in 3.12, `LineReader` the
 //! reader of one, `LimitedLines` that reader within a height. `Blocks` has the tree and the faults
 //! of lines, `Reading` the reading line by line. `Refusals` says which sources are accepted and
@@ -24,7 +28,9 @@
 mod forms;
 mod headers;
 mod levels;
+mod pattern_levels;
 
 pub use forms::Form;
 pub use headers::{DefHead, Header, LoopHead};
 pub use levels::Level;
+pub use pattern_levels::PatternLevel;

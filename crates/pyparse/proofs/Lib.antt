@@ -1,3 +1,5 @@
-mod ExpressionLemmas
+mod TokenListLemmas
+mod PlaceLemmas
 mod ProgressLemmas
 mod FinishLemmas
+mod CaseLines

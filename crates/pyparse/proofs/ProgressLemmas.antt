@@ -1,4 +1,4 @@
--- Carries: grow, sink, Progress. On: what is known of a source behind one line more.
+-- Carries: grow, sink, Known, Progress. On: what is known of a source behind one line more.
 use Rattle.std.proofs.Common.{◌≡◌, inl, inr, ℕ, zero, suc, ◌+◌, ◌≤◌, Bool, true, false, List, [], ◌∷◌, ◌++◌, length, take, refl, sym, ap, ◌∙◌, subst, append_assoc, length-append, arith, Some}
 use Rattle.std.specs.Prelude.{slice_get}
 use Rattle.pysource.specs.declared.places.Place.{Place}
@@ -9,12 +9,12 @@ use Rattle.pytoken.specs.Terminals.{Terminal}
 use Rattle.pytoken.specs.Tokens.{Token, lines}
 use Rattle.pytoken.specs.Tokens as Tokens
 use Rattle.pygrammar.specs.Lines.{Line, line, Form}
-use Rattle.pygrammar.specs.Forms.{FormOf}
+use Rattle.pygrammar.specs.Forms.{FormAt}
 use Rattle.pygrammar.specs.FormHeights.{form_height}
-use Rattle.pygrammar.specs.Blocks.{Fault, FirstFault}
+use Rattle.pygrammar.specs.Blocks.{Fault, FirstFault, stands_in_match}
 use Rattle.pygrammar.specs.Depths.{count, innermost, is_deep}
 use Rattle.pygrammar.specs.Reading.{Fine, run, start}
-use Rattle.pygrammar.specs.Refusals.{Indentation, StartsAt, at_line, Formed, formed_end, formed_line, Unread, FirstUnread, FirstDeep, beginning}
+use Rattle.pygrammar.specs.Refusals.{Indentation, StartsAt, at_line, terminals, Formed, formed_end, formed_line, Unread, FirstUnread, FirstDeep, beginning}
 use Rattle.pygrammar.proofs.Callers.Blocks.{formed_on, unread_on, unread_more, innermost_on, deep_is, not_deep, deep_more, deep_last, deep_parts}
 use Rattle.pyparse_block.specs.declared.blocks.Blocks.{Blocks}
 use Rattle.pyparse_block.specs.StateOf.{state_of}
@@ -24,9 +24,9 @@ use Rattle.pyparse_block.specs.declared.outline.faults.BlockStop.{BlockStop}
 use Rattle.pyparse_block.specs.declared.outline.faults.BlockStop.TheVariants as variant
 use Rattle.pyparse_block.specs.Faults.{fault_of, Blames}
 use Rattle.pyparse_tokens.specs.declared.faults.GrammarError.{GrammarError}
-use Rattle.pyparse.specs.declared.progress.Progress.{Progress}
-use Rattle.pyparse.specs.declared.progress.Progress.TheVariants.{Sound, Deep, Faulty}
-use Rattle.pyparse.specs.declared.progress.Progress.TheVariants as known
+use Rattle.pyparse.specs.declared.known.Known.{Known}
+use Rattle.pyparse.specs.declared.known.Known.TheVariants.{Sound, Deep, Faulty}
+use Rattle.pyparse.specs.declared.known.Known.TheVariants as known
 use Rattle.pyparse_tokens.specs.LineReadings.{LineReading, first_start, HoldsLine}
 use Rattle.pyparse.specs.Modules.{code_of}
 use Rattle.pyparse.specs.Inner.Progressing.{first_lines, IsSound, IsDeepAt, IsFaultyAt, IsUnreadAt, IsKnown, is_unread, Comes, TellsFault}
@@ -66,20 +66,31 @@ starts_held s k r held =
     let one = first_of held.line.tokens r.start held.holds.start in
     subst (StartsAt s k) one.3 (at_line (take k (lines s)) at.more held.line one.0 one.1 at.whole at.size one.2)
 
+-- where it stands
+pub place_held : {s : Source} {k : ℕ} {r : LineReading} (earlier : List Line) (inside : Bool) (level : ℕ) (held : HoldsLine s k r) → inside ≡ stands_in_match level earlier →
+    level ≡ r.level → inside ≡ stands_in_match held.line.level earlier
+place_held earlier inside level held placed at = placed ∙ ap (λ (l : ℕ). stands_in_match l earlier) (at ∙ held.holds.level)
+
 -- it comes next, by its form
-pub comes_held : {profile : Profile} {s : Source} {k : ℕ} {r : LineReading} (ts : List Terminal) (level : ℕ) (f : Form) (p : Place) → HoldsLine s k r → ts ≡ r.terminals →
-    level ≡ r.level → p ≡ r.start → FormOf profile ts f × (form_height f ≤ 500) → Comes profile s k (line level f) p
-comes_held {profile} {s} {k} {r} ts level f p held same at starts form =
+pub comes_held : {profile : Profile} {s : Source} {k : ℕ} {r : LineReading} (earlier : List Line) (inside : Bool) (ts : List Terminal) (level : ℕ) (f : Form) (p : Place) →
+    HoldsLine s k r → inside ≡ stands_in_match level earlier → ts ≡ r.terminals → level ≡ r.level → p ≡ r.start → FormAt profile inside ts f × (form_height f ≤ 500) →
+    Comes profile s k earlier (line level f) p
+comes_held {profile} {s} {k} {r} earlier inside ts level f p held placed same at starts form =
     record {
       line = held.line;
       stands = held.stands;
       level = at ∙ held.holds.level;
-      form = record { is = subst (λ (ts : List Terminal). FormOf profile ts f) (same ∙ held.holds.terminals) form.0; low = form.1 };
+      form = record {
+        is =
+            subst (λ (b : Bool). FormAt profile b (terminals held.line) f) (place_held earlier inside level held placed at)
+            (subst (λ (ts : List Terminal). FormAt profile inside ts f) (same ∙ held.holds.terminals) form.0);
+        low = form.1;
+      };
       starts = subst (StartsAt s k) (sym starts) (starts_held s k r held);
     }
 
 -- as many forms as lines
-pub formed_length : {profile : Profile} {xs : List Tokens.Line} {ys : List Line} → Formed profile xs ys → length ys ≡ length xs
+pub formed_length : {profile : Profile} {earlier : List Line} {xs : List Tokens.Line} {ys : List Line} → Formed profile earlier xs ys → length ys ≡ length xs
 formed_length formed_end = refl
 formed_length (formed_line h p) = ap suc (formed_length p)
 
@@ -89,74 +100,70 @@ none_deep n found = elim found [ ]
 
 -- ---- One line more.
 
-module _ {profile : Profile} {s : Source} {k : ℕ} {l : Line} {p : Place} (comes : Comes profile s k l p) where
-  formed_next : {forms : List Line} → Formed profile (first_lines s k) forms → Formed profile (first_lines s (k + 1)) (forms ++ l ∷ [])
-  formed_next {forms} formed =
+module _ {profile : Profile} {s : Source} {k : ℕ} (forms : List Line) {l : Line} {p : Place} (comes : Comes profile s k (behind [] forms) l p) where
+  formed_next : Formed profile [] (first_lines s k) forms → Formed profile [] (first_lines s (k + 1)) (forms ++ l ∷ [])
+  formed_next formed =
       let same : line comes.line.level l.form ≡ l = ap (λ (n : ℕ). line n l.form) (sym comes.level) in
-      subst (λ (xs : List Tokens.Line). Formed profile xs (forms ++ l ∷ [])) (sym (next_lines s k comes.line comes.stands))
-      (subst (λ (z : Line). Formed profile (first_lines s k ++ comes.line ∷ []) (forms ++ z ∷ [])) same (formed_on formed comes.form))
+      subst (λ (xs : List Tokens.Line). Formed profile [] xs (forms ++ l ∷ [])) (sym (next_lines s k comes.line comes.stands))
+      (subst (λ (z : Line). Formed profile [] (first_lines s k ++ comes.line ∷ []) (forms ++ z ∷ [])) same (formed_on formed comes.form))
 
-  number_of : {forms : List Line} → Formed profile (first_lines s k) forms → length forms ≡ k
+  number_of : Formed profile [] (first_lines s k) forms → length forms ≡ k
   number_of formed = formed_length formed ∙ (parted (lines s) k comes.line comes.stands).size
 
   -- a sound line
-  pub sound_on : {o : Outline} {b : Blocks} (o2 : Outline) (b2 : Blocks) (was : IsSound profile s k o b) → (deep : Bool) → deep ≡ false
+  pub sound_on : {o : Outline} {b : Blocks} (o2 : Outline) (b2 : Blocks) (was : IsSound profile s k forms o b) → (deep : Bool) → deep ≡ false
       → ((xs : List Line) → Follows xs o → Follows (xs ++ l ∷ []) o2 × (deep ≡ is_deep (innermost l (count [] xs))))
       → ((xs : List Line) → run xs start ≡ Fine (state_of b) → run (xs ++ l ∷ []) start ≡ Fine (state_of b2))
-      → IsSound profile s (k + 1) o2 b2
+      → IsSound profile s (k + 1) (forms ++ l ∷ []) o2 b2
   sound_on o2 b2 was deep none follows read =
-      let step = follows was.forms was.follows in
-      let here : is_deep (beginning l (behind [] was.forms)) ≡ false = ap is_deep (sym (innermost_on was.forms l)) ∙ sym step.1 ∙ none in
+      let step = follows forms was.follows in
+      let here : is_deep (beginning l (behind [] forms)) ≡ false = ap is_deep (sym (innermost_on forms l)) ∙ sym step.1 ∙ none in
       record {
-        forms = was.forms ++ l ∷ [];
         formed = formed_next was.formed;
         follows = step.0;
-        read = read was.forms was.read;
+        read = read forms was.read;
         low =
             λ n found.
-            elim (deep_parts [] was.forms l found) [
+            elim (deep_parts [] forms l found) [
               | inl earlier ↦ was.low earlier.0 earlier.1
-              | inr last ↦ not_deep (beginning l (behind [] was.forms)) here last
+              | inr last ↦ not_deep (beginning l (behind [] forms)) here last
             ];
       }
 
   -- a line in which a statement begins that stands too deep
-  pub deep_on : {o : Outline} {b : Blocks} (o2 : Outline) (was : IsSound profile s k o b) → (deep : Bool) → deep ≡ true
+  pub deep_on : {o : Outline} {b : Blocks} (o2 : Outline) (was : IsSound profile s k forms o b) → (deep : Bool) → deep ≡ true
       → ((xs : List Line) → Follows xs o → Follows (xs ++ l ∷ []) o2 × (deep ≡ is_deep (innermost l (count [] xs))))
-      → IsDeepAt profile s (k + 1) o2 p
+      → IsDeepAt profile s (k + 1) (forms ++ l ∷ []) o2 p
   deep_on o2 was deep some follows =
-      let step = follows was.forms was.follows in
-      let here : is_deep (beginning l (behind [] was.forms)) ≡ true = ap is_deep (sym (innermost_on was.forms l)) ∙ sym step.1 ∙ some in
+      let step = follows forms was.follows in
+      let here : is_deep (beginning l (behind [] forms)) ≡ true = ap is_deep (sym (innermost_on forms l)) ∙ sym step.1 ∙ some in
       record {
-        forms = was.forms ++ l ∷ [];
         formed = formed_next was.formed;
         follows = step.0;
-        n = length was.forms;
-        deep = deep_last [] was.forms l was.low (deep_is (beginning l (behind [] was.forms)) here);
+        n = length forms;
+        deep = deep_last [] forms l was.low (deep_is (beginning l (behind [] forms)) here);
         starts = subst (λ (n : ℕ). StartsAt s n p) (sym (number_of was.formed)) comes.starts;
       }
 
   -- one behind it
-  pub deep_next : {o : Outline} {q : Place} (o2 : Outline) (was : IsDeepAt profile s k o q) → (deep : Bool)
+  pub deep_next : {o : Outline} {q : Place} (o2 : Outline) (was : IsDeepAt profile s k forms o q) → (deep : Bool)
       → ((xs : List Line) → Follows xs o → Follows (xs ++ l ∷ []) o2 × (deep ≡ is_deep (innermost l (count [] xs))))
-      → IsDeepAt profile s (k + 1) o2 q
+      → IsDeepAt profile s (k + 1) (forms ++ l ∷ []) o2 q
   deep_next o2 was deep follows =
       record {
-        forms = was.forms ++ l ∷ [];
         formed = formed_next was.formed;
-        follows = (follows was.forms was.follows).0;
+        follows = (follows forms was.follows).0;
         n = was.n;
         deep = deep_more was.deep (l ∷ []);
         starts = was.starts;
       }
 
   -- a faulty line
-  faulty_on : {forms : List Line} (e : GrammarError) (fault : Fault) → Formed profile (first_lines s k) forms → code_of e ≡ Indentation fault
-      → ((more : List Line) → FirstFault [] (forms ++ (l ∷ more)) (l ∷ more) fault) → IsFaultyAt profile s (k + 1) e p
-  faulty_on {forms} e fault formed code first =
+  faulty_on : (e : GrammarError) (fault : Fault) → Formed profile [] (first_lines s k) forms → code_of e ≡ Indentation fault
+      → ((more : List Line) → FirstFault [] (forms ++ (l ∷ more)) (l ∷ more) fault) → IsFaultyAt profile s (k + 1) (forms ++ l ∷ []) e p
+  faulty_on e fault formed code first =
       let size = number_of formed in
       record {
-        forms = forms ++ l ∷ [];
         formed = formed_next formed;
         fault = fault;
         code = code;
@@ -167,39 +174,38 @@ module _ {profile : Profile} {s : Source} {k : ℕ} {l : Line} {p : Place} (come
         starts = comes.starts;
       }
 
-  faulty_by : {forms : List Line} (e : GrammarError) (stop : BlockStop) → Formed profile (first_lines s k) forms → TellsFault stop e
-      → ((more : List Line) → Blames (forms ++ (l ∷ more)) (l ∷ more) stop) → IsFaultyAt profile s (k + 1) e p
+  faulty_by : (e : GrammarError) (stop : BlockStop) → Formed profile [] (first_lines s k) forms → TellsFault stop e
+      → ((more : List Line) → Blames (forms ++ (l ∷ more)) (l ∷ more) stop) → IsFaultyAt profile s (k + 1) (forms ++ l ∷ []) e p
   faulty_by e (variant.Faulty f) formed tells blames = faulty_on e (fault_of f) formed tells blames
   faulty_by e variant.Memory formed tells blames = absurd tells
 
-  pub sound_faulty : {o : Outline} {b : Blocks} (e : GrammarError) (stop : BlockStop) → IsSound profile s k o b → TellsFault stop e
-      → ((xs more : List Line) → Follows xs o → Blames (xs ++ (l ∷ more)) (l ∷ more) stop) → IsFaultyAt profile s (k + 1) e p
-  sound_faulty e stop was tells blames = faulty_by e stop was.formed tells (λ more. blames was.forms more was.follows)
+  pub sound_faulty : {o : Outline} {b : Blocks} (e : GrammarError) (stop : BlockStop) → IsSound profile s k forms o b → TellsFault stop e
+      → ((xs more : List Line) → Follows xs o → Blames (xs ++ (l ∷ more)) (l ∷ more) stop) → IsFaultyAt profile s (k + 1) (forms ++ l ∷ []) e p
+  sound_faulty e stop was tells blames = faulty_by e stop was.formed tells (λ more. blames forms more was.follows)
 
-  pub sound_misplaced : {o : Outline} {b : Blocks} (e : GrammarError) (stop : BlockStop) → IsSound profile s k o b → TellsFault stop e
-      → ((xs more : List Line) → run xs start ≡ Fine (state_of b) → Blames (xs ++ (l ∷ more)) (l ∷ more) stop) → IsFaultyAt profile s (k + 1) e p
-  sound_misplaced e stop was tells blames = faulty_by e stop was.formed tells (λ more. blames was.forms more was.read)
+  pub sound_misplaced : {o : Outline} {b : Blocks} (e : GrammarError) (stop : BlockStop) → IsSound profile s k forms o b → TellsFault stop e
+      → ((xs more : List Line) → run xs start ≡ Fine (state_of b) → Blames (xs ++ (l ∷ more)) (l ∷ more) stop) → IsFaultyAt profile s (k + 1) (forms ++ l ∷ []) e p
+  sound_misplaced e stop was tells blames = faulty_by e stop was.formed tells (λ more. blames forms more was.read)
 
-  pub deep_faulty : {o : Outline} {q : Place} (e : GrammarError) (stop : BlockStop) → IsDeepAt profile s k o q → TellsFault stop e
-      → ((xs more : List Line) → Follows xs o → Blames (xs ++ (l ∷ more)) (l ∷ more) stop) → IsFaultyAt profile s (k + 1) e p
-  deep_faulty e stop was tells blames = faulty_by e stop was.formed tells (λ more. blames was.forms more was.follows)
+  pub deep_faulty : {o : Outline} {q : Place} (e : GrammarError) (stop : BlockStop) → IsDeepAt profile s k forms o q → TellsFault stop e
+      → ((xs more : List Line) → Follows xs o → Blames (xs ++ (l ∷ more)) (l ∷ more) stop) → IsFaultyAt profile s (k + 1) (forms ++ l ∷ []) e p
+  deep_faulty e stop was tells blames = faulty_by e stop was.formed tells (λ more. blames forms more was.follows)
 
   -- one behind it
-  pub faulty_next : {e : GrammarError} {q : Place} → IsFaultyAt profile s k e q → IsFaultyAt profile s (k + 1) e q
+  pub faulty_next : {e : GrammarError} {q : Place} → IsFaultyAt profile s k forms e q → IsFaultyAt profile s (k + 1) (forms ++ l ∷ []) e q
   faulty_next was =
       let had = was.number in
       record {
-        forms = was.forms ++ l ∷ [];
         formed = formed_next was.formed;
         fault = was.fault;
         code = was.code;
         rest = was.rest ++ l ∷ [];
         first =
             λ more.
-            subst (λ (xs : List Line). FirstFault [] xs ((was.rest ++ l ∷ []) ++ more) was.fault) (sym (append_assoc was.forms (l ∷ []) more))
-            (subst (λ (xs : List Line). FirstFault [] (was.forms ++ (l ∷ more)) xs was.fault) (sym (append_assoc was.rest (l ∷ []) more)) (was.first (l ∷ more)));
+            subst (λ (xs : List Line). FirstFault [] xs ((was.rest ++ l ∷ []) ++ more) was.fault) (sym (append_assoc forms (l ∷ []) more))
+            (subst (λ (xs : List Line). FirstFault [] (forms ++ (l ∷ more)) xs was.fault) (sym (append_assoc was.rest (l ∷ []) more)) (was.first (l ∷ more)));
         n = was.n;
-        number = omega (arith, had, length-append was.forms (l ∷ []), length-append was.rest (l ∷ []));
+        number = omega (arith, had, length-append forms (l ∷ []), length-append was.rest (l ∷ []));
         starts = was.starts;
       }
 
@@ -209,35 +215,42 @@ pub unread_next : {profile : Profile} {s : Source} {k : ℕ} {e : GrammarError} 
 unread_next {profile} {s} {k} {e} x stands was =
     record {
       n = was.n;
-      first = subst (λ (xs : List Tokens.Line). FirstUnread profile xs was.n (code_of e)) (sym (next_lines s k x stands)) (unread_more was.first (x ∷ []));
+      first = subst (λ (xs : List Tokens.Line). FirstUnread profile [] xs was.n (code_of e)) (sym (next_lines s k x stands)) (unread_more was.first (x ∷ []));
       starts = was.starts;
     }
 
--- the lines have forms where none is without one
-formed_all : {profile : Profile} (s : Source) (k : ℕ) (known : Progress) → is_unread known ≡ false → IsKnown profile s k known → (forms : List Line) × Formed profile (first_lines s k) forms
-formed_all s k (Sound o b) is was = (was.forms, was.formed)
-formed_all s k (Deep o p) is was = (was.forms, was.formed)
-formed_all s k (Faulty e p) is was = (was.forms, was.formed)
-formed_all s k (known.Unread e p) is was = absurd (cc)
+-- the lines have these forms where none is without one
+formed_all : {profile : Profile} (s : Source) (k : ℕ) (forms : List Line) (known : Known) → is_unread known ≡ false → IsKnown profile s k forms known →
+    Formed profile [] (first_lines s k) forms
+formed_all s k forms (Sound o b) is was = was.formed
+formed_all s k forms (Deep o p) is was = was.formed
+formed_all s k forms (Faulty e p) is was = was.formed
+formed_all s k forms (known.Unread e p) is was = absurd (cc)
 
 -- nothing more is known behind one without a form
-pub unread_stays : (profile : Profile) (s : Source) (k : ℕ) (known : Progress) (r : LineReading) → is_unread known ≡ true → HoldsLine s k r → IsKnown profile s k known →
-    IsKnown profile s (k + 1) known
-unread_stays profile s k (Sound o b) r is held was = absurd (cc)
-unread_stays profile s k (Deep o p) r is held was = absurd (cc)
-unread_stays profile s k (Faulty e p) r is held was = absurd (cc)
-unread_stays profile s k (known.Unread e p) r is held was = unread_next held.line held.stands was
+pub unread_stays : (profile : Profile) (s : Source) (k : ℕ) (forms : List Line) (known : Known) (r : LineReading) → is_unread known ≡ true → HoldsLine s k r →
+    IsKnown profile s k forms known → IsKnown profile s (k + 1) forms known
+unread_stays profile s k forms (Sound o b) r is held was = absurd (cc)
+unread_stays profile s k forms (Deep o p) r is held was = absurd (cc)
+unread_stays profile s k forms (Faulty e p) r is held was = absurd (cc)
+unread_stays profile s k forms (known.Unread e p) r is held was = unread_next held.line held.stands was
 
 -- a line without a form
-pub unread_first : {profile : Profile} {s : Source} {k : ℕ} (known : Progress) (x : Tokens.Line) (e : GrammarError) (p : Place) → is_unread known ≡ false → IsKnown profile s k known →
-    slice_get (lines s) k ≡ Some x → Unread profile x (code_of e) → StartsAt s k p → IsUnreadAt profile s (k + 1) e p
-unread_first {profile} {s} {k} known x e p is was stands unread starts =
-    let formed = (formed_all s k known is was).1 in
+pub unread_first : {profile : Profile} {s : Source} {k : ℕ} (forms : List Line) (known : Known) (x : Tokens.Line) (e : GrammarError) (p : Place) → is_unread known ≡ false →
+    IsKnown profile s k forms known → slice_get (lines s) k ≡ Some x → Unread profile (stands_in_match x.level (behind [] forms)) x (code_of e) → StartsAt s k p →
+    IsUnreadAt profile s (k + 1) e p
+unread_first {profile} {s} {k} forms known x e p is was stands unread starts =
+    let formed = formed_all s k forms known is was in
     let size : length (first_lines s k) ≡ k = (parted (lines s) k x stands).size in
     record {
       n = k;
       first =
-          subst (λ (xs : List Tokens.Line). FirstUnread profile xs k (code_of e)) (sym (next_lines s k x stands))
-          (subst (λ (n : ℕ). FirstUnread profile (first_lines s k ++ x ∷ []) n (code_of e)) size (unread_on formed unread []));
+          subst (λ (xs : List Tokens.Line). FirstUnread profile [] xs k (code_of e)) (sym (next_lines s k x stands))
+          (subst (λ (n : ℕ). FirstUnread profile [] (first_lines s k ++ x ∷ []) n (code_of e)) size (unread_on formed unread []));
       starts = starts;
     }
+
+-- what the lines so far are, nearest first, with one line more
+pub behind_more : (earlier forms : List Line) (l : Line) → behind earlier (forms ++ l ∷ []) ≡ l ∷ behind earlier forms
+behind_more earlier [] l = refl
+behind_more earlier (x ∷ forms) l = behind_more (x ∷ earlier) forms l

@@ -1,4 +1,7 @@
+pub mod TokenLists
 pub mod Expressions
+pub mod Patterns
+pub mod Places
 pub mod Modules
 pub mod Inner
 pub use Rattle.pyparse_tokens.specs.Answers

@@ -1,8 +1,9 @@
-//! The reader of Python source: its tree, an expression of tokens, and the tokens themselves.
+//! The reader of Python source: its tree, an expression or a pattern of tokens, and the tokens
+//! themselves.
 //!
 //! [`parse`] gives the tree of a source in a version of Python and an extent of the language, or
 //! the first reason why it has none ([`ParseFault`]). [`parse_expression`] gives the expression
-//! that some tokens are.
+//! that some tokens are, [`parse_pattern`] the pattern.
 //!
 //! [`tokens_of`] gives the tokens of a source in one pass over its listing. [`LogicalLines`] gives
 //! its lines one after another, the tokens of each as terminals in one buffer. These are of
@@ -13,15 +14,20 @@
 //! [`terminal_of`] tells what a token is to the grammar ([`Terminal`]). These are of `pytoken`.
 //!
 //! The words of contracts are those of these two crates and of `pygrammar`, and here in `specs/`
-//! those of `Expressions` and `Modules`.
+//! those of `TokenLists`, `Expressions`, `Patterns` and `Modules`.
 #![tactic(auto)]
 
 mod expressions;
+mod known;
 mod modules;
+mod patterns;
+mod places;
 mod progress;
+mod token_lists;
 
 pub use expressions::parse_expression;
 pub use modules::parse;
+pub use patterns::parse_pattern;
 pub use pyparse_tokens::{GrammarError, LogicalLines, ParseFault, Token, tokens_of};
 pub use pytoken::{
     Literal, LiteralText, NumberText, Terminal, TerminalFault, identifier_value, name_fault,

@@ -8,6 +8,7 @@ ghost use Rattle.pytree_node.specs.TreeOf.{module_of};
 ghost use Rattle.pygrammar.specs.Refusals.{Accepted};
 ghost use Rattle.pygrammar.specs.SourceLaws.{FormsAreLawful, BlocksAreLawful, AnswersAreLawful};
 ghost use Rattle.pyparse.specs.Modules.{Refuses};
+ghost use Rattle.pyparse.specs.Places.{PlacesAreLawful};
 
 use crate::progress::Progress;
 use pyparse_tokens::{LogicalLines, ParseFault};
@@ -25,11 +26,12 @@ use std::alloc::Global;
 ///
 /// [`ParseFault::Refused`] by the reason why the source has no tokens, as
 /// [`tokens_of`](crate::tokens_of) reports it. Else [`ParseFault::Grammar`]: by the first line
-/// without a form, `Syntax`, `MatchStatement` or `TooDeep`, of which a line of more than 500 tokens
-/// that has none at any height may be reported either; else by the first line that is faulty among
-/// the others, or the end; else by the first line in which a statement begins with 500 around it,
-/// `TooDeep`. Its place is where the line starts, that of the end where ENDMARKER does.
-#[tactic(auto, using(pygrammar::proofs::Callers::SourceLaw::forms_are_lawful, pygrammar::proofs::Callers::SourceLaw::blocks_are_lawful, pygrammar::proofs::Callers::SourceLaw::answers_are_lawful))]
+/// without a form where it stands, in a `match` or elsewhere, `Syntax`, `TooDeep` or in the plain
+/// language `MatchStatement`, of which a line of more than 500 tokens that has none at any height
+/// may be reported as `TooDeep` or as it would be with fewer; else by the first line that is faulty
+/// among the others, or the end; else by the first line in which a statement begins with 500 around
+/// it, `TooDeep`. Its place is where the line starts, that of the end where ENDMARKER does.
+#[tactic(auto, using(pygrammar::proofs::Callers::SourceLaw::forms_are_lawful, pygrammar::proofs::Callers::SourceLaw::blocks_are_lawful, pygrammar::proofs::Callers::SourceLaw::answers_are_lawful, crate::proofs::CaseLines::Law::places_are_lawful))]
 pub fn parse(alloc: Global, source: &Source, profile: Profile) -> Result<Module, ParseFault>
     ensures accepted { IfOk result
         (λ m. Accepted profile (in_characters source.now) (module_of m)) }
@@ -37,6 +39,7 @@ pub fn parse(alloc: Global, source: &Source, profile: Profile) -> Result<Module,
     ensures forms { FormsAreLawful }
     ensures trees { BlocksAreLawful }
     ensures answers { AnswersAreLawful }
+    ensures places { PlacesAreLawful }
 {
     let mut lines = LogicalLines::new(alloc, source, profile.extent)?;
     let mut progress = Progress::new(alloc);

@@ -1,10 +1,10 @@
 -- Carries: what an error tells. On: the reading's answers.
-use Rattle.std.proofs.Common.{◌≡◌, List, [], ◌∷◌, ◌++◌, map, Global, Result, IfErr, IfOk, ap}
+use Rattle.std.proofs.Common.{◌≡◌, List, [], ◌∷◌, ◌++◌, true, map, Global, Result, IfErr, IfOk, ap}
 use Rattle.std.proofs.lemmas.Result.{IfErr-weaker, IfOk-weaker}
 use Rattle.std.specs.declared.vec.Vec.{Vec}
 use Rattle.pytree_node.specs.declared.statements.Stmt.{Stmt}
 use Rattle.pytree_node.specs.TreeOf.{stmt_of}
-use Rattle.pygrammar.specs.Lines.{Line}
+use Rattle.pygrammar.specs.Lines.{Line, are_proper}
 use Rattle.pygrammar.specs.Blocks.{Block}
 use Rattle.pygrammar.specs.Reading.{Answer, Fine, then, State, start, step, run, finish}
 use Rattle.pygrammar.proofs.Callers.Blocks.{fault_found, end_fault_found, block_found}
@@ -31,6 +31,6 @@ end_blamed xs s stop.Memory h t = tt
 pub end_told : (xs : List Line) (s : State) (r : Result (Vec Stmt Global) BlockStop) → run xs start ≡ Fine s → IfErr r (Tells (finish s)) → IfErr r (Blames xs [])
 end_told xs s r h = IfErr-weaker r (Tells (finish s)) (Blames xs []) (λ e. end_blamed xs s e h)
 
-pub end_read : (xs : List Line) (s : State) (r : Result (Vec Stmt Global) BlockStop) → run xs start ≡ Fine s → IfOk r (λ v. finish s ≡ Fine (map stmt_of v.items)) →
+pub end_read : (xs : List Line) (s : State) (r : Result (Vec Stmt Global) BlockStop) → are_proper xs ≡ true → run xs start ≡ Fine s → IfOk r (λ v. finish s ≡ Fine (map stmt_of v.items)) →
     IfOk r (λ v. Block 0 xs (map stmt_of v.items))
-end_read xs s r h = IfOk-weaker r (λ v. finish s ≡ Fine (map stmt_of v.items)) (λ v. Block 0 xs (map stmt_of v.items)) (λ v. block_found xs s (map stmt_of v.items) h)
+end_read xs s r o h = IfOk-weaker r (λ v. finish s ≡ Fine (map stmt_of v.items)) (λ v. Block 0 xs (map stmt_of v.items)) (λ v. block_found xs s (map stmt_of v.items) o h)

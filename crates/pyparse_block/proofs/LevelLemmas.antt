@@ -1,15 +1,15 @@
 -- Carries: Stack. On: what comes to its end, and what a line makes of the deepest level.
 use Rattle.std.proofs.Common.{◌≡◌, ℕ, ◌<◌, ◌≤◌, List, [], ◌∷◌, ◌++◌, length, map, reverse, Option, Some, None, Bool, true, false, cond, refl, sym, ap, ◌∙◌, arith}
 use Rattle.std.proofs.lemmas.List.{map-append, reverse-append, length-reverse, length-map}
-use Rattle.pytree_node.specs.Trees.{Expr, Stmt}
+use Rattle.pytree_node.specs.Trees.{Expr, Case, Stmt}
 use Rattle.pygrammar.specs.Lines.{Header, Form, simple_form, decorator_form, header_form}
 use Rattle.pygrammar.specs.Blocks.{Fault, ExpectedIndent, UnexpectedIndent, MisplacedClause}
-use Rattle.pygrammar.specs.Reading.{Answer, Fine, Faulty, then, Group, Idle, closes, Part, part, decorated, meets, or_misplaced, place_header, Waiting, State, state, joined, settle_in, settle, place, placed}
+use Rattle.pygrammar.specs.Reading.{Answer, Fine, Faulty, then, Group, Idle, Matching, closes, Part, part, decorated, meets, or_misplaced, place_header, Waiting, State, state, joined, matched, above, settle_in, settle, place, placed}
 use Rattle.pygrammar.proofs.Callers.Blocks.{is_less, not_less, settle_here}
 use Rattle.pyparse_block.specs.declared.stack.Waiting as given_waiting
 use Rattle.pyparse_block.specs.declared.stack.Stack.{Stack}
-use Rattle.pyparse_block.specs.Inner.Levels.{ended, grown, popped}
-use Rattle.pyparse_block.specs.Inner.Meeting.{closed, marked, met}
+use Rattle.pyparse_block.specs.Inner.Levels.{behind, ended, popped}
+use Rattle.pyparse_block.specs.Inner.Meeting.{closed, is_matching, marked, met}
 use Rattle.pyparse_block.specs.Values.{waiting_of, below_of, state_of}
 use Rattle.pyparse_block.proofs.AnswerLemmas.{tells_then}
 
@@ -30,50 +30,72 @@ pub ended_fresh : (s : State) → 0 < length s.below → s.fresh ≡ true → en
 ended_fresh s n f =
     elim s.below as (λ b. 0 < length b → ◌≡◌ {A = Answer State} (elim b [ [] ↦ Fine s | w ∷ below ↦ popped s w below ]) (Faulty ExpectedIndent)) [
       | [] ↦ λ n. absurd (omega arith)
-      | w ∷ below ↦ λ n. ap (λ b. cond b (Faulty ExpectedIndent) (then (closed s.done s.group) (λ body. Fine (grown w below body)))) f
+      | w ∷ below ↦ λ n. ap (λ b. cond b (Faulty ExpectedIndent) (behind below (above w s.done s.group))) f
     ] n
 
-pub ended_refused : (s : State) (f : Fault) → 0 < length s.below → s.fresh ≡ false → closed s.done s.group ≡ Faulty f → ended s ≡ Faulty f
-ended_refused s f n e c =
-    elim s.below as (λ b. 0 < length b → ◌≡◌ {A = Answer State} (elim b [ [] ↦ Fine s | w ∷ below ↦ popped s w below ]) (Faulty f)) [
-      | [] ↦ λ n. absurd (omega arith)
-      | w ∷ below ↦ λ n.
-          ap (λ b. cond b (Faulty ExpectedIndent) (then (closed s.done s.group) (λ body. Fine (grown w below body)))) e
-          ∙ ap (λ a. then a (λ body. Fine (grown w below body))) c
-    ] n
+-- the level below, with the block that it waited for
+abbrev grown : Waiting → List Waiting → List Stmt → State
+grown w below body = state (joined w.done w.group w.header body).done (joined w.done w.group w.header body).group false below
 
-pub ended_fine : (s : State) (w : Waiting) (below : List Waiting) (body : List Stmt) → s.below ≡ w ∷ below → s.fresh ≡ false → closed s.done s.group ≡ Fine body →
-    ended s ≡ Fine (grown w below body)
-ended_fine s w below body b e c =
-    ended_popped s w below b
-    ∙ ap (λ b. cond b (Faulty ExpectedIndent) (then (closed s.done s.group) (λ body. Fine (grown w below body)))) e
-    ∙ ap (λ a. then a (λ body. Fine (grown w below body))) c
+-- a level that isn't the block of a `match`
+behind_closed : (w : Waiting) (below : List Waiting) (d : List Stmt) (g : Group) → is_matching g ≡ false →
+    behind below (above w d g) ≡ then (closed d g) (λ body. Fine (grown w below body))
+behind_closed w below d (Matching cs) h = absurd (cc)
+behind_closed w below d g h = by_closes (closes g)
+  where
+    by_closes : (o : Option (List Stmt)) →
+        behind below (elim o [ None ↦ None | Some ss ↦ Some (joined w.done w.group w.header (d ++ ss)) ])
+        ≡ then {A = List Stmt} (elim o [ None ↦ Faulty MisplacedClause | Some ss ↦ Fine (d ++ ss) ]) (λ body. Fine (grown w below body))
+    by_closes None = refl
+    by_closes (Some ss) = refl
+
+ended_whole : (s : State) (w : Waiting) (below : List Waiting) → s.below ≡ w ∷ below → s.fresh ≡ false → ended s ≡ behind below (above w s.done s.group)
+ended_whole s w below b e = ended_popped s w below b ∙ ap (λ b. cond b (Faulty ExpectedIndent) (behind below (above w s.done s.group))) e
+
+pub ended_refused : (s : State) (f : Fault) → 0 < length s.below → s.fresh ≡ false → is_matching s.group ≡ false → closed s.done s.group ≡ Faulty f → ended s ≡ Faulty f
+ended_refused s f n e m c =
+    elim s.below as (λ b. s.below ≡ b → 0 < length b → ended s ≡ Faulty f) [
+      | [] ↦ λ i n. absurd (omega arith)
+      | w ∷ below ↦ λ i n. ended_whole s w below i e ∙ behind_closed w below s.done s.group m ∙ ap (λ a. then a (λ body. Fine (grown w below body))) c
+    ] refl n
+
+ended_fine : (s : State) (w : Waiting) (below : List Waiting) (body : List Stmt) → s.below ≡ w ∷ below → s.fresh ≡ false → is_matching s.group ≡ false →
+    closed s.done s.group ≡ Fine body → ended s ≡ Fine (grown w below body)
+ended_fine s w below body b e m c =
+    ended_whole s w below b e ∙ behind_closed w below s.done s.group m ∙ ap (λ a. then a (λ body. Fine (grown w below body))) c
+
+-- the level below as the program has it
+pub level_ended : (s : State) (ws lower : List given_waiting.Waiting) (w : given_waiting.Waiting) (body done : List Stmt) (group : Group) →
+    s.below ≡ below_of ws → ws ≡ lower ++ w ∷ [] → s.fresh ≡ false → is_matching s.group ≡ false → closed s.done s.group ≡ Fine body →
+    done ≡ (grown (waiting_of w) (below_of lower) body).done → group ≡ (grown (waiting_of w) (below_of lower) body).group → ended s ≡ Fine (state done group false (below_of lower))
+level_ended s ws lower w body done group b v e m c d g =
+    ended_fine s (waiting_of w) (below_of lower) body (b ∙ ap below_of v ∙ below_of-append lower w) e m c
+    ∙ ap (λ z. Fine (state z (grown (waiting_of w) (below_of lower) body).group false (below_of lower))) (sym d)
+    ∙ ap (λ z. Fine (state done z false (below_of lower))) (sym g)
+
+-- the block of a `match`
+pub ended_match : (s : State) (w : Waiting) (below : List Waiting) (cs : List Case) → s.below ≡ w ∷ below → s.fresh ≡ false → s.group ≡ Matching cs →
+    ended s ≡ Fine (state (w.done ++ matched w.header cs) Idle false below)
+ended_match s w below cs b e g = ended_whole s w below b e ∙ ap (λ g. behind below (above w s.done g)) g
 
 -- one level, and then the others
-settle_closed : (l : ℕ) (d : List Stmt) (w : Waiting) (below : List Waiting) (o : Option (List Stmt)) →
-    ◌≡◌ {A = Answer State} (elim o [
-      | None ↦ Faulty MisplacedClause
-      | Some ss ↦ settle_in l (joined w.done w.group w.header (d ++ ss)).done (joined w.done w.group w.header (d ++ ss)).group false below
-    ]) (then (then {A = List Stmt} (elim o [ None ↦ Faulty MisplacedClause | Some ss ↦ Fine (d ++ ss) ])
-    (λ body. Fine (grown w below body))) (settle l))
-settle_closed l d w below None = refl
-settle_closed l d w below (Some ss) = refl
+settle_behind : (l : ℕ) (below : List Waiting) (o : Option Part) →
+    ◌≡◌ {A = Answer State} (elim o [ None ↦ Faulty MisplacedClause | Some p ↦ settle_in l p.done p.group false below ]) (then (behind below o) (settle l))
+settle_behind l below None = refl
+settle_behind l below (Some p) = refl
 
 settle_popped : (l : ℕ) (d : List Stmt) (g : Group) (f : Bool) (w : Waiting) (below : List Waiting) → l < length (w ∷ below) →
     settle_in l d g f (w ∷ below) ≡ then (popped (state d g f (w ∷ below)) w below) (settle l)
 settle_popped l d g f w below h =
-    ap (λ b. cond b (cond f (Faulty ExpectedIndent) (elim (closes g) [
-      | None ↦ Faulty MisplacedClause
-      | Some ss ↦ settle_in l (joined w.done w.group w.header (d ++ ss)).done (joined w.done w.group w.header (d ++ ss)).group false below
-    ])) (Fine (state d g f (w ∷ below)))) (is_less l (length (w ∷ below)) h)
+    ap (λ b. cond b (cond f (Faulty ExpectedIndent) (elim (above w d g) [ None ↦ Faulty MisplacedClause | Some p ↦ settle_in l p.done p.group false below ])) (Fine (state d g f (w ∷ below))))
+    (is_less l (length (w ∷ below)) h)
     ∙ by_fresh f
   where
-    by_fresh : (f : Bool) → ◌≡◌ {A = Answer State} (cond f (Faulty ExpectedIndent) (elim (closes g) [
-      | None ↦ Faulty MisplacedClause
-      | Some ss ↦ settle_in l (joined w.done w.group w.header (d ++ ss)).done (joined w.done w.group w.header (d ++ ss)).group false below
-    ])) (then (popped (state d g f (w ∷ below)) w below) (settle l))
+    by_fresh : (f : Bool) →
+        ◌≡◌ {A = Answer State} (cond f (Faulty ExpectedIndent) (elim (above w d g) [ None ↦ Faulty MisplacedClause | Some p ↦ settle_in l p.done p.group false below ]))
+        (then (popped (state d g f (w ∷ below)) w below) (settle l))
     by_fresh true = refl
-    by_fresh false = settle_closed l d w below (closes g)
+    by_fresh false = settle_behind l below (above w d g)
 
 pub settle_ended : (l : ℕ) (s : State) → l < length s.below → settle l s ≡ then (ended s) (settle l)
 settle_ended l s h =
@@ -135,7 +157,7 @@ pub placed_here : (l : ℕ) (f : Form) (s : State) → l ≤ length s.below → 
 placed_here l f s h = ap (λ b. cond b (Faulty UnexpectedIndent) (place s f)) (not_less (length s.below) l h)
 
 -- for the levels that end
-pub ruleset ending = (length-below_of, below_of-append, ended_fresh, ended_refused, ended_fine, settle_ended, settle_stays, tells_then)
+pub ruleset ending = (length-below_of, below_of-append, ended_fresh, ended_refused, ended_match, settle_ended, settle_stays, tells_then)
 
 -- for a line of the deepest level
 pub ruleset placing = (length-below_of, below_of-append, place_simple_is, place_decorator_is, place_header_is, placed_deep, placed_here, tells_then)

@@ -6,9 +6,9 @@ use Rattle.std.specs.declared.alloc.Global.{Global}
 use Rattle.std.specs.declared.vec.Vec.{Vec}
 use Rattle.pytree_node.specs.Trees.{Expr, Stmt}
 use Rattle.pytree_node.specs.declared.expressions.Expr as given_expr
-use Rattle.pygrammar.specs.Lines.{Header, DefHead, if_header, elif_header, else_header, loop_header, with_header, try_header, except_header, finally_header, def_header}
+use Rattle.pygrammar.specs.Lines.{Header, DefHead, if_header, elif_header, else_header, loop_header, with_header, try_header, except_header, finally_header, def_header, match_header, case_header}
 use Rattle.pygrammar.specs.Blocks.{MisplacedClause, same_bool}
-use Rattle.pygrammar.specs.Reading.{Answer, Fine, Faulty, then, Group, Idle, Marked, Choice, Loop, Trial, Caught, Settled, Part, part, ended}
+use Rattle.pygrammar.specs.Reading.{Answer, Fine, Faulty, then, Group, Idle, Marked, Choice, Loop, Trial, Caught, Settled, Matching, Part, part, ended}
 use Rattle.pyparse_block.specs.declared.groups.Group as given_group
 use Rattle.pyparse_block.specs.declared.groups.Group.TheVariants as variant
 use Rattle.pyparse_block.specs.Inner.Meeting.{begins, closed, continues, marked, met}
@@ -37,6 +37,7 @@ defines d (Loop x y) t = new d (Loop x y)
 defines d (Trial x) t = new d (Trial x)
 defines d (Caught x y z) t = new d (Caught x y z)
 defines d (Settled x y z w) t = new d (Settled x y z w)
+defines d (Matching x) t = new d (Matching x)
 
 pub met_is : (d : List Stmt) (g : Group) (h : Header) → met d g h ≡ by_tests d g h
 met_is d g (if_header t) = new d g
@@ -57,6 +58,9 @@ met_is d (Caught s b hs) finally_header = on d (Caught s b hs)
 met_is d (Settled s b hs o) finally_header = on d (Settled s b hs o)
 met_is d _ finally_header = refl
 met_is d g (def_header t) = defines d g t
+met_is d g (match_header t) = new d g
+met_is d (Matching cs) (case_header p t) = on d (Matching cs)
+met_is d _ (case_header p t) = refl
 
 -- a decorator behind others
 pub marked_more : (d : List Stmt) (es : List Expr) (e : Expr) → marked d (Marked es) e ≡ Fine (part d (Marked (es ++ e ∷ [])))

@@ -21,6 +21,7 @@ group_of (reading.Loop _ _) = group.Loop
 group_of (reading.Trial _) = group.Trial
 group_of (reading.Caught star _ _) = group.Caught star
 group_of (reading.Settled _ _ _ _) = group.Settled
+group_of (reading.Matching _) = group.Matching
 
 -- a level that waits for a block: what it has open once that is whole, whatever its statements are
 abbrev pub awaited : Waiting → GroupKind
@@ -48,7 +49,7 @@ outlined a = then a (λ s. Fine (outline s))
 
 -- no more is counted than 500, from which on a statement stands too deep
 abbrev pub capped : Depth → Depth
-capped d = record { level = d.level; round = min 500 d.round; arms = min 500 d.arms }
+capped d = record { level = d.level; round = min 500 d.round; arms = min 500 d.arms; own = d.own }
 
 -- ---- What the program keeps. The deepest level stands last there.
 
@@ -56,7 +57,7 @@ abbrev pub levels_of : given_levels.Levels → Levels
 levels_of s = levels s.group s.fresh (reverse s.below.items)
 
 abbrev pub last_of : given_last.Last → Depth
-last_of d = record { level = d.level; round = d.round; arms = d.arms }
+last_of d = record { level = d.level; round = d.round; arms = d.arms; own = d.own }
 
 abbrev pub lasts_of : List given_last.Last → List Depth
 lasts_of ds = reverse (map last_of ds)

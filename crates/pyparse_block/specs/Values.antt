@@ -1,6 +1,6 @@
 -- The values of what is kept of lines, with no addresses.
 use Rattle.std.specs.Prelude.{List, ◌∷◌, map, reverse}
-use Rattle.pytree_node.specs.TreeOf.{tree_of, stmt_of, handler_of}
+use Rattle.pytree_node.specs.TreeOf.{tree_of, stmt_of, case_of, handler_of}
 use Rattle.pygrammar.specs.Reading.{Arm, arm, Group, Part, part, Waiting, waiting, State, state}
 use Rattle.pygrammar.specs.Reading as group
 use Rattle.pygrammar.specs.FormOf.{loop_head_of, header_of}
@@ -23,6 +23,7 @@ group_of (variant.Trial body) = group.Trial (map stmt_of body.items)
 group_of (variant.Caught star body handlers) = group.Caught star (map stmt_of body.items) (map handler_of handlers.items)
 group_of (variant.Settled star body handlers orelse) =
     group.Settled star (map stmt_of body.items) (map handler_of handlers.items) (map stmt_of orelse.items)
+group_of (variant.Matching cases) = group.Matching (map case_of cases.items)
 
 abbrev pub part_of : given_part.Part → Part
 part_of p = part (map stmt_of p.done.items) (group_of p.group)

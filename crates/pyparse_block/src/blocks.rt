@@ -1,8 +1,8 @@
 //! The statements of a source, line by line.
 
-ghost use Rattle.std.specs.Prelude.{◌≡◌, ◌++◌, ◌∷◌, [], List, map, IfOk, IfErr, OnOk, OnErr};
+ghost use Rattle.std.specs.Prelude.{◌≡◌, ◌++◌, ◌∷◌, [], List, true, map, IfOk, IfErr, OnOk, OnErr};
 ghost use Rattle.pytree_node.specs.TreeOf.{stmt_of};
-ghost use Rattle.pygrammar.specs.Lines.{Line, line};
+ghost use Rattle.pygrammar.specs.Lines.{Line, are_proper, line};
 ghost use Rattle.pygrammar.specs.Blocks.{Block};
 ghost use Rattle.pygrammar.specs.Reading.{Fine, finish, run, start, step};
 ghost use Rattle.pygrammar.specs.FormOf.{form_of};
@@ -74,8 +74,9 @@ impl Blocks {
         ensures ok { IfOk result (λ v. finish (state_of self) ≡ Fine (map stmt_of v.items)) }
         ensures refused { IfErr result (Tells (finish (state_of self))) }
 
-        // Of the lines so far.
-        ensures block { (xs : List Line) → run xs start ≡ Fine (state_of self)
+        // Of the lines so far. Those that are read from terminals are proper.
+        ensures block { (xs : List Line) → are_proper xs ≡ true
+            → run xs start ≡ Fine (state_of self)
             → IfOk result (λ v. Block 0 xs (map stmt_of v.items)) }
         ensures blamed { (xs : List Line) → run xs start ≡ Fine (state_of self)
             → IfErr result (Blames xs []) }

@@ -50,7 +50,7 @@ pub(crate) fn end_group(alloc: Global, done: &mut Vec<Stmt>, group: Group) -> Re
 {
     let one = match group {
         Group::Idle => return Ok(()),
-        Group::Marked { decorators: _ } | Group::Trial { body: _ } => {
+        Group::Marked { .. } | Group::Trial { .. } | Group::Matching { .. } => {
             return Err(BlockStop::Faulty(BlockFault::MisplacedClause));
         }
         Group::Choice { first, elifs } => choice_statement(alloc, first, elifs, Vec::new(alloc))?,

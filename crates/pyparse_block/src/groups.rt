@@ -1,7 +1,7 @@
 //! Statements that are still open.
 
 use pygrammar::LoopHead;
-use pytree_node::{Expr, Handler, Stmt};
+use pytree_node::{Case, Expr, Handler, Stmt};
 
 /// An `if` or `elif` with its block.
 #[derive(Drop)]
@@ -45,6 +45,10 @@ pub(crate) enum Group {
         body: Vec<Stmt>,
         handlers: Vec<Handler>,
         orelse: Vec<Stmt>,
+    },
+    /// In the block of a `match`: its cases.
+    Matching {
+        cases: Vec<Case>,
     },
 }
 

@@ -1,10 +1,11 @@
 //! What a header and its block make of a level.
 
 ghost use Rattle.std.specs.Prelude.{◌≡◌, ◌++◌, ◌∷◌, [], map, IfOk, OnOk};
-ghost use Rattle.pytree_node.specs.TreeOf.{boxed_of, handler_of, stmt_of, tree_of};
-ghost use Rattle.pygrammar.specs.Lines.{def_header, elif_header, else_header, except_header};
-ghost use Rattle.pygrammar.specs.Lines.{finally_header};
-ghost use Rattle.pygrammar.specs.Reading.{joined};
+ghost use Rattle.pytree_node.specs.TreeOf.{boxed_of, case_of, handler_of, pattern_of, stmt_of};
+ghost use Rattle.pytree_node.specs.TreeOf.{tree_of};
+ghost use Rattle.pygrammar.specs.Lines.{case_header, def_header, elif_header, else_header};
+ghost use Rattle.pygrammar.specs.Lines.{except_header, finally_header};
+ghost use Rattle.pygrammar.specs.Reading.{Idle, joined, matched};
 ghost use Rattle.pygrammar.specs.FormOf.{def_head_of, header_of};
 ghost use Rattle.pyparse_block.specs.Values.{arm_of, group_of};
 
@@ -12,10 +13,11 @@ use crate::closing::put;
 use crate::groups::{Arm, Group, Part};
 use crate::room::append;
 use crate::statements::{
-    choice_statement, definition_statement, handler, loop_statement, try_statement, with_statement,
+    choice_statement, definition_statement, handler, loop_statement, match_case, match_statement,
+    try_statement, with_statement,
 };
 use pygrammar::{DefHead, Header};
-use pytree_node::{Expr, Handler, Identifier, Stmt};
+use pytree_node::{Case, Expr, Handler, Identifier, Pattern, Stmt};
 use std::alloc::{AllocError, Global};
 use std::mem;
 
@@ -36,6 +38,16 @@ fn with_handler(handlers: Vec<Handler>, handler: Handler) -> Result<Vec<Handler>
     let mut handlers = handlers;
     append(&mut handlers, handler)?;
     Ok(handlers)
+}
+
+/// Cases, and one more.
+fn with_case(cases: Vec<Case>, case: Case) -> Result<Vec<Case>, AllocError>
+    ensures { IfOk result
+        (λ v. map case_of v.items ≡ map case_of cases.items ++ case_of case ∷ []) }
+{
+    let mut cases = cases;
+    append(&mut cases, case)?;
+    Ok(cases)
 }
 
 /// An `elif` with its block.
@@ -191,6 +203,28 @@ fn grow_def(
     put(&mut part.done, definition_statement(decorators, head, body))
 }
 
+/// A `case` with its block.
+fn grow_case(
+    part: &mut Part,
+    pattern: Box<Pattern>,
+    guard: Option<Box<Expr>>,
+    body: Vec<Stmt>,
+) -> Result<(), AllocError>
+    ensures done { OnOk result (map stmt_of part.new.done.items
+        ≡ (joined (map stmt_of part.old.done.items) (group_of part.old.group)
+        (case_header (pattern_of pattern.value) (boxed_of guard)) (map stmt_of body.items)).done) }
+    ensures group { OnOk result (group_of part.new.group
+        ≡ (joined (map stmt_of part.old.done.items) (group_of part.old.group)
+        (case_header (pattern_of pattern.value) (boxed_of guard)) (map stmt_of body.items)).group) }
+{
+    let group = mem::replace(&mut part.group, Group::Idle);
+    if let Group::Matching { cases } = group {
+        let cases = with_case(cases, match_case(pattern, guard, body))?;
+        part.group = Group::Matching { cases };
+    }
+    Ok(())
+}
+
 /// A header with its block.
 #[inline(never)]
 pub(crate) fn grow(
@@ -231,5 +265,33 @@ pub(crate) fn grow(
         Header::Except { star, class, name } => grow_except(alloc, part, star, class, name, body),
         Header::Finally => grow_finally(alloc, part, body),
         Header::Def { head } => grow_def(alloc, part, head, body),
+        // With an inline suite alone, which no line of terminals has after this header.
+        Header::Match { subject } => {
+            drop((subject, body));
+            part.group = Group::Idle;
+            Ok(())
+        }
+        Header::Case { pattern, guard } => grow_case(part, pattern, guard, body),
+    }
+}
+
+/// A `match` with its cases.
+pub(crate) fn grow_match(
+    part: &mut Part,
+    header: Header,
+    cases: Vec<Case>,
+) -> Result<(), AllocError>
+    ensures done { OnOk result (map stmt_of part.new.done.items
+        ≡ map stmt_of part.old.done.items ++ matched (header_of header) (map case_of cases.items)) }
+    ensures group { OnOk result (group_of part.new.group ≡ Idle) }
+{
+    part.group = Group::Idle;
+    match header {
+        Header::Match { subject } => put(&mut part.done, match_statement(subject, cases)),
+        // No other header has cases for its block.
+        header => {
+            drop((header, cases));
+            Ok(())
+        }
     }
 }

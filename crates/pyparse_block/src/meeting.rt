@@ -5,7 +5,7 @@ ghost use Rattle.pytree_node.specs.TreeOf.{stmt_of, tree_of};
 ghost use Rattle.pygrammar.specs.Reading.{Fine};
 ghost use Rattle.pygrammar.specs.FormOf.{header_of};
 ghost use Rattle.pyparse_block.specs.Faults.{Tells};
-ghost use Rattle.pyparse_block.specs.Inner.Meeting.{begins, continues, marked, met};
+ghost use Rattle.pyparse_block.specs.Inner.Meeting.{begins, continues, is_matching, marked, met};
 ghost use Rattle.pyparse_block.specs.Values.{group_of, part_of};
 
 use crate::closing::{close, end_group};
@@ -16,6 +16,13 @@ use pygrammar::Header;
 use pytree_node::Expr;
 use std::alloc::{AllocError, Global};
 use std::mem;
+
+/// Whether a group has the cases of a `match`.
+pub(crate) fn is_matching(group: &Group) -> bool
+    ensures { result ≡ is_matching (group_of group.now) }
+{
+    matches!(group, Group::Matching { .. })
+}
 
 /// Whether a header is a clause of a group.
 fn continues(header: &Header, group: &Group) -> bool
@@ -37,6 +44,7 @@ fn continues(header: &Header, group: &Group) -> bool
             Group::Trial { .. } | Group::Caught { .. } | Group::Settled { .. }
         ),
         Header::Def { .. } => matches!(group, Group::Marked { .. }),
+        Header::Case { .. } => is_matching(group),
         _ => false,
     }
 }
@@ -52,6 +60,7 @@ fn begins(header: &Header) -> bool
             | Header::With { .. }
             | Header::Try
             | Header::Def { .. }
+            | Header::Match { .. }
     )
 }
 

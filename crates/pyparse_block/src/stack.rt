@@ -1,22 +1,23 @@
 //! The stack of open levels.
 
-ghost use Rattle.std.specs.Prelude.{◌≡◌, ◌<◌, map, length, IfOk, IfErr, OnOk};
+ghost use Rattle.std.specs.Prelude.{◌≡◌, ◌<◌, false, true, map, length, IfOk, IfErr, OnOk};
 ghost use Rattle.pytree_node.specs.TreeOf.{stmt_of, tree_of};
 ghost use Rattle.pygrammar.specs.Lines.{decorator_form, header_form, line, simple_form};
-ghost use Rattle.pygrammar.specs.Reading.{Fine, finish, place, settle, start, step};
+ghost use Rattle.pygrammar.specs.Reading.{Fine, finish, first_group, place, settle, start, step};
 ghost use Rattle.pygrammar.specs.FormOf.{form_of, header_of, suite_of};
 ghost use Rattle.pyparse_block.specs.Faults.{Tells};
 ghost use Rattle.pyparse_block.specs.Inner.Levels.{ended};
-ghost use Rattle.pyparse_block.specs.Values.{state_of};
+ghost use Rattle.pyparse_block.specs.Inner.Meeting.{is_matching};
+ghost use Rattle.pyparse_block.specs.Values.{group_of, state_of};
 
 use crate::closing::{close, put_all};
 use crate::groups::{Group, Part};
-use crate::growing::grow;
-use crate::meeting::{mark, meet};
+use crate::growing::{grow, grow_match};
+use crate::meeting::{is_matching, mark, meet};
 use crate::outline::{BlockFault, BlockStop};
 use pygrammar::{Form, Header};
 use pytree_node::{Expr, Stmt};
-use std::alloc::Global;
+use std::alloc::{AllocError, Global};
 use std::mem;
 
 /// A level that waits for the block of its last line, a header.
@@ -35,6 +36,18 @@ pub(crate) struct Stack {
     pub(crate) below: Vec<Waiting>,
 }
 
+/// What the block of a header begins with.
+fn first_group(alloc: Global, header: &Header) -> Group
+    ensures { group_of result ≡ first_group (header_of header.now) }
+{
+    match header {
+        Header::Match { .. } => Group::Matching {
+            cases: Vec::new(alloc),
+        },
+        _ => Group::Idle,
+    }
+}
+
 impl Stack {
     /// Before the first line.
     pub(crate) fn new(alloc: Global) -> Stack
@@ -50,6 +63,23 @@ impl Stack {
         }
     }
 
+    /// The cases of a `match` come to their end, and with them its statement.
+    #[tactic(auto, using(crate::proofs::LevelLemmas::ending))]
+    fn end_match(&mut self) -> Result<(), AllocError>
+        requires below { 0 < length self.old.below.items }
+        requires old { self.old.fresh ≡ false }
+        requires cases { is_matching (group_of self.old.part.group) ≡ true }
+        ensures ended { OnOk result (ended (state_of self.old) ≡ Fine (state_of self.new)) }
+        ensures fewer { OnOk result (length self.new.below.items < length self.old.below.items) }
+    {
+        let Waiting { part, header } = self.below.pop().unwrap();
+        let Part { done: _, group } = mem::replace(&mut self.part, part);
+        let Group::Matching { cases } = group else {
+            unreachable!();
+        };
+        grow_match(&mut self.part, header, cases)
+    }
+
     /// The deepest level comes to its end, and with it the block of the header below.
     #[tactic(auto, using(crate::proofs::LevelLemmas::ending))]
     #[inline(never)]
@@ -61,6 +91,9 @@ impl Stack {
     {
         if self.fresh {
             return Err(BlockStop::Faulty(BlockFault::ExpectedIndent));
+        }
+        if is_matching(&self.part.group) {
+            return Ok(self.end_match()?);
         }
         close(alloc, &mut self.part)?;
         let Waiting { part, header } = self.below.pop().unwrap();
@@ -130,7 +163,7 @@ impl Stack {
             None => {
                 let fresh = Part {
                     done: Vec::new(alloc),
-                    group: Group::Idle,
+                    group: first_group(alloc, &header),
                 };
                 let part = mem::replace(&mut self.part, fresh);
                 self.below.push(Waiting { part, header })?;

@@ -1,7 +1,10 @@
 //! The statement of a head and its blocks.
 
 ghost use Rattle.std.specs.Prelude.{◌≡◌, ◌∷◌, [], map, IfOk};
-ghost use Rattle.pytree_node.specs.TreeOf.{boxed_of, handler_of, item_of, option_of, stmt_of, tree_of};
+ghost use Rattle.pytree_node.specs.Trees as plain;
+ghost use Rattle.pytree_node.specs.TreeOf.{boxed_of, case_of, handler_of, item_of, option_of};
+ghost use Rattle.pytree_node.specs.TreeOf.{pattern_of, stmt_of, tree_of};
+ghost use Rattle.pygrammar.specs.Blocks as blocks;
 ghost use Rattle.pygrammar.specs.Blocks.{handler};
 ghost use Rattle.pygrammar.specs.Lines.{definition, loop, try_of, with_of};
 ghost use Rattle.pygrammar.specs.Reading.{choice};
@@ -10,7 +13,7 @@ ghost use Rattle.pyparse_block.specs.Values.{arm_of};
 
 use crate::groups::Arm;
 use pygrammar::{DefHead, LoopHead};
-use pytree_node::{Expr, Handler, Identifier, Item, Stmt};
+use pytree_node::{Case, Expr, Handler, Identifier, Item, Pattern, Stmt};
 use std::alloc::{AllocError, Global};
 
 /// A loop with its blocks.
@@ -114,6 +117,31 @@ pub(crate) fn handler(
         class: unboxed(class),
         name,
         body,
+    }
+}
+
+/// A `case` with its block.
+#[tactic(auto, using(pytree_node::proofs::Callers::StmtShapes::case_tree))]
+pub(crate) fn match_case(pattern: Box<Pattern>, guard: Option<Box<Expr>>, body: Vec<Stmt>) -> Case
+    ensures { case_of result
+        ≡ blocks.case_of (pattern_of pattern.value) (boxed_of guard) (map stmt_of body.items) }
+{
+    Case {
+        pattern: Box::into_inner(pattern),
+        guard: unboxed(guard),
+        body,
+    }
+}
+
+/// A `match` with its cases.
+#[tactic(auto, using(pytree_node::proofs::Callers::StmtShapes::match_tree))]
+pub(crate) fn match_statement(subject: Box<Expr>, cases: Vec<Case>) -> Stmt
+    ensures { stmt_of result
+        ≡ plain.Match (tree_of subject.value) (plain.cases (map case_of cases.items)) }
+{
+    Stmt::Match {
+        subject: Box::into_inner(subject),
+        cases,
     }
 }
 

@@ -13,7 +13,8 @@ ghost use Rattle.pyparse_nodes.specs.Answers.{Answered, Failed};
 ghost use Rattle.pyparse_expr.specs.Inner.Arguments as arguments;
 ghost use Rattle.pyparse_expr.specs.Inner.Arguments.{ActualAt, AddedAt, IsKindAt, arguments_of, entry_of};
 ghost use Rattle.pyparse_expr.specs.Inner.Arguments.{level_of, place_of, state_of};
-ghost use Rattle.pyparse_expr.specs.Inner.Readings.{IsOpen, inner_reads};
+ghost use Rattle.pyparse_expr.specs.Inner.Readings.{inner_reads};
+ghost use Rattle.pyparse_expr.specs.Readings.{IsOpen};
 ghost use Rattle.pyparse_nodes.specs.Views.{seen};
 
 use crate::comprehensions::comps;

@@ -10,7 +10,8 @@ ghost use Rattle.pygrammar.specs.Precedence as precedence;
 ghost use Rattle.pygrammar.specs.Reader as reader;
 ghost use Rattle.pyparse_nodes.specs.Answers.{Answered, Failed};
 ghost use Rattle.pyparse_expr.specs.Inner.Pairs.{PairAt, PairsAt, more_pairs_at, pair_of, pairs_of};
-ghost use Rattle.pyparse_expr.specs.Inner.Readings.{IsOpen, inner_reads};
+ghost use Rattle.pyparse_expr.specs.Inner.Readings.{inner_reads};
+ghost use Rattle.pyparse_expr.specs.Readings.{IsOpen};
 ghost use Rattle.pyparse_nodes.specs.Views.{seen};
 
 use crate::climbing::climb;

@@ -11,7 +11,8 @@ ghost use Rattle.pygrammar.specs.Reader as reader;
 ghost use Rattle.pyparse_nodes.specs.Answers.{Answered, Failed};
 ghost use Rattle.pyparse_expr.specs.Inner.Chains.{ComparedAt, LinkedAt, MisComparedAt, NotComparedAt};
 ghost use Rattle.pyparse_expr.specs.Inner.Chains.{links_of};
-ghost use Rattle.pyparse_expr.specs.Inner.Readings.{IsOpen, inner_reads};
+ghost use Rattle.pyparse_expr.specs.Inner.Readings.{inner_reads};
+ghost use Rattle.pyparse_expr.specs.Readings.{IsOpen};
 ghost use Rattle.pyparse_nodes.specs.Operators.{climbing, infix_value};
 ghost use Rattle.pyparse_nodes.specs.Views.{Stands, first_is, seen};
 

@@ -7,9 +7,9 @@ ghost use Rattle.pygrammar.specs.Capped.{cap};
 ghost use Rattle.pygrammar.specs.Precedence as precedence;
 ghost use Rattle.pygrammar.specs.Reader as reader;
 ghost use Rattle.pyparse_nodes.specs.Answers.{Answered};
-ghost use Rattle.pyparse_expr.specs.Readings.{reads};
+ghost use Rattle.pyparse_expr.specs.Readings.{IsOpen, reads};
 ghost use Rattle.pyparse_nodes.specs.Operators.{IsInfix, IsPrefix, climbing};
-ghost use Rattle.pyparse_expr.specs.Inner.Readings.{IsOpen, fronts, inner_reads};
+ghost use Rattle.pyparse_expr.specs.Inner.Readings.{fronts, inner_reads};
 ghost use Rattle.pyparse_nodes.specs.Views.{first_is, seen};
 ghost use Rattle.pyparse_nodes.specs.Operators.{infix_value, prefix_value};
 

@@ -11,7 +11,8 @@ ghost use Rattle.pygrammar.specs.Targets.{stored};
 ghost use Rattle.pyparse_nodes.specs.Answers.{Answered, Failed};
 ghost use Rattle.pyparse_expr.specs.Inner.Found.{ClauseAt, ClausesAt, TestsAt};
 ghost use Rattle.pyparse_expr.specs.Inner.Lists.{items_of};
-ghost use Rattle.pyparse_expr.specs.Inner.Readings.{IsOpen, inner_reads};
+ghost use Rattle.pyparse_expr.specs.Inner.Readings.{inner_reads};
+ghost use Rattle.pyparse_expr.specs.Readings.{IsOpen};
 ghost use Rattle.pyparse_nodes.specs.Views.{Stands, seen};
 
 use crate::climbing::climb;

@@ -1,7 +1,8 @@
 //! How far down reading may go.
 
 ghost use Rattle.std.specs.Prelude.{◌≡◌, ◌+◌, ◌-◌, ◌<◌, MatchResult, length};
-ghost use Rattle.pyparse_expr.specs.Inner.Readings.{IsOpen, IsOuter, IsShut};
+ghost use Rattle.pyparse_expr.specs.Inner.Readings.{IsOuter};
+ghost use Rattle.pyparse_expr.specs.Readings.{IsOpen, IsShut};
 
 use crate::expressions::MOST_HEIGHT;
 use pyparse_nodes::Stop;
@@ -11,14 +12,14 @@ use pytoken::Terminal;
 #[derive(Clone, Copy)]
 pub struct Depth {
     /// How many readers may be nested. There are always more than terminals are left.
-    pub(crate) steps: usize,
-    /// How high an expression may be.
-    pub(crate) room: usize,
+    pub steps: usize,
+    /// How high an expression or a pattern may be.
+    pub room: usize,
 }
 
 impl Depth {
-    /// That at which the expressions of a line begin: one level more than [`MOST_HEIGHT`], so that
-    /// what is too high is told apart from what is no expression.
+    /// That at which the expressions and the patterns of a line begin: one level more than
+    /// [`MOST_HEIGHT`], so that what is too high is told apart from what is none.
     pub fn of(tokens: &[Terminal]) -> Depth
         ensures steps { result.steps ≡ length tokens.now + 1 }
         ensures room { result.room ≡ 501 }
@@ -30,7 +31,7 @@ impl Depth {
     }
 
     /// Refuses to read where there are no steps or no room left.
-    pub(crate) fn enter(self) -> Result<(), Stop>
+    pub fn enter(self) -> Result<(), Stop>
         ensures { MatchResult result (λ _. IsOpen self) (λ s. IsShut self s) }
     {
         if self.steps == 0 || self.room == 0 {
@@ -39,8 +40,8 @@ impl Depth {
         Ok(())
     }
 
-    /// That of the parts of an expression.
-    pub(crate) fn inner(self) -> Depth
+    /// That of the parts of an expression or a pattern.
+    pub fn inner(self) -> Depth
         ensures steps { result.steps ≡ self.steps - 1 }
         ensures room { result.room ≡ self.room - 1 }
     {
@@ -60,8 +61,8 @@ impl Depth {
         Ok(Depth { steps, room })
     }
 
-    /// That of the same expression, within brackets.
-    pub(crate) fn same(self) -> Depth
+    /// That of the same expression or pattern, within brackets.
+    pub fn same(self) -> Depth
         ensures steps { result.steps ≡ self.steps - 1 }
         ensures room { result.room ≡ self.room }
     {

@@ -12,7 +12,7 @@ use crate::atoms::read_atom;
 use crate::climbing::climb;
 use crate::depth::Depth;
 use crate::levels::{
-    read_elem, read_expression, read_named, read_star_item, read_stars, read_value,
+    read_elem, read_expression, read_named, read_star_item, read_stars, read_subject, read_value,
 };
 use crate::primaries::read_primary;
 use crate::slices::{read_part, read_slice, read_slices};
@@ -62,6 +62,7 @@ pub fn read_at(
         Level::Slices => read_slices(alloc, tokens, at, depth),
         Level::Part => read_part(alloc, tokens, at, depth),
         Level::Slice => read_slice(alloc, tokens, at, depth),
+        Level::Subject => read_subject(alloc, tokens, at, depth),
     }
 }
 

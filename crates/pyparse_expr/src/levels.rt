@@ -7,8 +7,8 @@ ghost use Rattle.pygrammar.specs.Capped.{cap};
 ghost use Rattle.pygrammar.specs.Reader as reader;
 ghost use Rattle.pygrammar.specs.Looks as signs;
 ghost use Rattle.pyparse_nodes.specs.Answers.{Answered};
-ghost use Rattle.pyparse_expr.specs.Readings.{reads};
-ghost use Rattle.pyparse_expr.specs.Inner.Readings.{IsOpen, inner_reads, level_at};
+ghost use Rattle.pyparse_expr.specs.Readings.{IsOpen, reads};
+ghost use Rattle.pyparse_expr.specs.Inner.Readings.{inner_reads, level_at};
 ghost use Rattle.pyparse_nodes.specs.Views.{seen};
 
 use crate::atoms::read_atom;
@@ -43,6 +43,28 @@ pub(crate) fn read_value(
     } else {
         read_stars(alloc, tokens, at, depth)
     }
+}
+
+/// The subject of a `match`.
+pub(crate) fn read_subject(
+    alloc: Global,
+    tokens: &[Terminal],
+    at: usize,
+    depth: Depth,
+) -> Result<Read, Stop>
+    requires { at ≤ length tokens.now }
+    ensures { Answered tokens.now depth.room (at + 1)
+        (reads depth Level.Subject (seen tokens.now at)) result }
+{
+    depth.enter()?;
+    let first = read_elem(alloc, tokens, at, depth)?;
+    if is_op(tokens, first.next, Exact::Comma) {
+        return tupled(alloc, tokens, Item::Elem, first, depth);
+    }
+    if is_op(tokens, at, Exact::Star) {
+        return Err(Stop::NoForm);
+    }
+    Ok(first)
 }
 
 /// After a `yield`.

@@ -12,7 +12,8 @@ ghost use Rattle.pygrammar.specs.Reader as reader;
 ghost use Rattle.pyparse_nodes.specs.Answers.{Answered, Failed};
 ghost use Rattle.pyparse_expr.specs.Inner.Found.{ListedAt, entries_of};
 ghost use Rattle.pyparse_expr.specs.Inner.Lists.{item_reads, items_of, least_of, more_at};
-ghost use Rattle.pyparse_expr.specs.Inner.Readings.{IsOpen, inner_reads};
+ghost use Rattle.pyparse_expr.specs.Inner.Readings.{inner_reads};
+ghost use Rattle.pyparse_expr.specs.Readings.{IsOpen};
 ghost use Rattle.pyparse_nodes.specs.Views.{Stands, seen};
 
 use crate::comprehensions::target_item;

@@ -7,8 +7,8 @@ ghost use Rattle.pygrammar.specs.Capped.{cap};
 ghost use Rattle.pygrammar.specs.Looks as signs;
 ghost use Rattle.pygrammar.specs.Reader as reader;
 ghost use Rattle.pyparse_nodes.specs.Answers.{Answered};
-ghost use Rattle.pyparse_expr.specs.Readings.{reads};
-ghost use Rattle.pyparse_expr.specs.Inner.Readings.{IsOpen, inner_reads, level_at};
+ghost use Rattle.pyparse_expr.specs.Readings.{IsOpen, reads};
+ghost use Rattle.pyparse_expr.specs.Inner.Readings.{inner_reads, level_at};
 ghost use Rattle.pyparse_nodes.specs.Views.{seen};
 
 use crate::arguments::call_step;

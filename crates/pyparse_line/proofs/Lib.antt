@@ -1,2 +1,4 @@
 mod FrontSteps
+mod OpeningSteps
+mod Spellings
 mod Wholes

@@ -1,4 +1,5 @@
 mod DefinitionSteps
 mod ItemPushes
 mod ItemSteps
+mod MatchSteps
 mod WordSteps

@@ -4,16 +4,16 @@
 
 ghost use Rattle.std.specs.Prelude.{◌≡◌, ◌+◌, ◌≤◌, length};
 ghost use Rattle.pygrammar.specs.FormOf.{form_of, header_of, suite_of};
-ghost use Rattle.pygrammar.specs.LineReader as line_reader;
 ghost use Rattle.pygrammar.specs.Lines as lines;
 ghost use Rattle.pyparse_nodes.specs.Answers.{PartAnswered};
 ghost use Rattle.pyparse_expr.specs.Readings.{reads};
 ghost use Rattle.pyparse_nodes.specs.Views.{seen};
+ghost use Rattle.pyparse_pattern.specs.Answers as patterns;
 ghost use Rattle.pyparse_line.specs.Inner.Answers.{FormAnswered};
-ghost use Rattle.pyparse_line.specs.Inner.Fronts.{colon, decorator, headed, simple, suite};
+ghost use Rattle.pyparse_line.specs.Inner.Fronts.{cased, colon, decorator, front, headed, simple, suite};
 
 use crate::found::{ReadForm, ReadSuite};
-use crate::headers::{ReadHeader, read_header};
+use crate::headers::{ReadHeader, case_rest, match_rest, read_header};
 use crate::openings::{Opening, opening_of};
 use crate::statements::read_statements;
 use pygrammar::{Form, Level};
@@ -131,23 +131,43 @@ fn read_simple(
     })
 }
 
-/// The form at the front of a line, by its first terminal.
+/// The header of a case, from after its word on: its colon, and what stands after it.
+fn read_case(
+    alloc: Global,
+    tokens: &[Terminal],
+    at: usize,
+    profile: Profile,
+    depth: Depth,
+) -> Result<ReadForm, Stop>
+    requires { at ≤ length tokens.now }
+    ensures { FormAnswered tokens.now at
+        (cased profile (reads depth) (patterns.reads depth) (seen tokens.now at)) result }
+{
+    let header = case_rest(alloc, tokens, at, depth)?;
+    let suite = read_colon(alloc, tokens, header.next, profile, depth)?;
+    Ok(headed_form(header, suite))
+}
+
+/// The form at the front of a line at its place, by what begins it.
 pub(crate) fn read_front(
     alloc: Global,
     tokens: &[Terminal],
     profile: Profile,
+    inside: bool,
     depth: Depth,
 ) -> Result<ReadForm, Stop>
     ensures { FormAnswered tokens.now 0
-        (line_reader.line_front profile (reads depth) (seen tokens.now 0)) result }
+        (front profile (reads depth) (patterns.reads depth) inside (seen tokens.now 0)) result }
 {
     let first = match terminal_at(tokens, 0) {
         Some(first) => first,
         None => return Err(Stop::NoForm),
     };
-    match opening_of(first) {
+    match opening_of(tokens, first, profile, inside) {
         Opening::Decorates => read_decorator(alloc, tokens, depth),
         Opening::Heads => read_headed(alloc, tokens, profile, depth),
+        Opening::Matches => match_rest(alloc, tokens, 1, depth),
+        Opening::Cases => read_case(alloc, tokens, 1, profile, depth),
         Opening::States => read_simple(alloc, tokens, profile, depth),
     }
 }

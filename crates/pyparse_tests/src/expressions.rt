@@ -1,7 +1,7 @@
 //! Expressions: their trees as Python 3.11 dumps them without the names of fields, and what is
 //! none.
 
-use crate::sources::source_of;
+use crate::sources::{nested, source_of};
 use pygrammar::Level;
 use pyparse::{GrammarError, ParseFault, Token, parse_expression, tokens_of};
 use pysource::Place;
@@ -61,25 +61,6 @@ fn refusal(alloc: Global, text: &str, level: Level) -> Result<Option<(GrammarErr
         Ok(_) => Ok(None),
         Err(refusal) => Ok(Some(refusal)),
     }
-}
-
-/// A text, so many times, another one, and a third so many times.
-fn nested(
-    alloc: Global,
-    count: usize,
-    before: &str,
-    middle: &str,
-    behind: &str,
-) -> Result<String, Fail> {
-    let mut text = String::new(alloc);
-    for _ in 0..count {
-        text.push_str(before)?;
-    }
-    text.push_str(middle)?;
-    for _ in 0..count {
-        text.push_str(behind)?;
-    }
-    Ok(text)
 }
 
 #[test]

@@ -7,6 +7,8 @@ mod expressions;
 #[cfg(test)]
 mod logical_lines;
 #[cfg(test)]
+mod patterns;
+#[cfg(test)]
 mod refusals;
 #[cfg(test)]
 mod sources;

@@ -1,4 +1,4 @@
--- Carries: well_formed, well_formed_at. On: what the slots tell, the grammar tells.
+-- Carries: well_formed, well_formed_at, well_formed_pattern_at. On: what the slots tell, the grammar tells.
 use Rattle.std.proofs.Common.{◌≡◌, sym, ◌∙◌, Bool, true}
 use Rattle.std.specs.Prelude.{◌↔◌, Result, Ok, Err, IfOk, IsTrue}
 

@@ -19,6 +19,7 @@ pub use Rattle.pytoken.specs.Terminals
 pub use Rattle.pytoken.specs.Tokens
 pub use Rattle.pytree_fits.specs.Given
 pub use Rattle.pytree_fits.specs.Names
+pub use Rattle.pytree_fits.specs.PatternSlots
 pub use Rattle.pytree_fits.specs.Slots
 pub use Rattle.pytree_fits.specs.Statements
 pub use Rattle.pytree_fits.specs.Tests

@@ -1,16 +1,18 @@
-//! Whether a module is well formed, and an expression at a level.
+//! Whether a module is well formed, and an expression or a pattern at a level.
 
 ghost use Rattle.std.specs.Prelude.{◌≡◌, ◌↔◌, IfOk, IsTrue};
-ghost use Rattle.pytree_node.specs.TreeOf.{module_of, tree_of};
-ghost use Rattle.pytree_fits.specs.Given.{Expressed, Stated};
+ghost use Rattle.pytree_node.specs.declared.profiles.Extent.TheVariants as extents;
+ghost use Rattle.pytree_node.specs.TreeOf.{module_of, pattern_of, tree_of};
+ghost use Rattle.pytree_fits.specs.Given.{Expressed, Patterned, Stated};
 ghost use Rattle.pytree_fits.specs.Laws.{SlotsAreLawful};
+ghost use Rattle.pytree_fits.specs.PatternSlots.{pattern_fits_at};
 ghost use Rattle.pytree_fits.specs.Slots.{fits_at};
 ghost use Rattle.pytree_fits.specs.Statements.{module_fits};
 ghost use Rattle.pytree_fits.specs.Tests.{tests_in};
 
-use pygrammar::Level;
-use pytree_fits::{Asked, expr_fits, statements_fit};
-use pytree_node::{Expr, Extent, Module, Profile};
+use pygrammar::{Level, PatternLevel};
+use pytree_fits::{Asked, expr_fits, pattern_fits, statements_fit};
+use pytree_node::{Expr, Extent, Module, Pattern, Profile};
 use std::alloc::{AllocError, Global};
 
 /// Whether a module is well formed in a version and an extent of Python: whether the grammar gives
@@ -45,4 +47,24 @@ pub fn well_formed_at(
     ensures lawful { SlotsAreLawful }
 {
     expr_fits(Asked { alloc, extent }, expr, level)
+}
+
+/// Whether a pattern is well formed at a level: whether the grammar gives it there to some tokens
+/// that have no fault in the whole language, with no regard to heights and brackets.
+///
+/// Patterns are of the whole language alone, so no extent is asked for.
+#[tactic(auto, using(pytree_fits::proofs::Callers::Law::slots_are_lawful))]
+pub fn well_formed_pattern_at(
+    alloc: Global,
+    pattern: &Pattern,
+    level: PatternLevel,
+) -> Result<bool, AllocError>
+    ensures given { IfOk result
+        (λ told. IsTrue told ↔ Patterned extents.Whole level (pattern_of pattern.now)) }
+    ensures slots { IfOk result
+        (λ told. told ≡ pattern_fits_at (tests_in extents.Whole) level (pattern_of pattern.now)) }
+    ensures lawful { SlotsAreLawful }
+{
+    let extent = Extent::Whole;
+    pattern_fits(Asked { alloc, extent }, pattern, level)
 }

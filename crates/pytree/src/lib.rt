@@ -9,9 +9,10 @@
 //! [`Refusal`], [`TokenError`], [`Meaning`]. Its `Keyword` is named there alone, since [`Keyword`]
 //! here is the one of calls and classes, `name=value`.
 //!
-//! Whether a tree is well formed, and so has source text, tell [`well_formed`] and
-//! [`well_formed_at`]: in terms of the levels of the expression grammar ([`Level`]) and of names
-//! ([`is_name`], [`is_identifier`], [`is_keyword`]).
+//! Whether a tree is well formed, and so has source text, tell [`well_formed`], [`well_formed_at`]
+//! and [`well_formed_pattern_at`]: in terms of the levels of the grammars of expressions and of
+//! patterns ([`Level`], [`PatternLevel`]) and of names ([`is_name`], [`is_identifier`],
+//! [`is_keyword`]).
 //!
 //! The words of contracts are in `specs/`: `Names` defines names. Those of the crates below come
 //! from here too: `Trees` has the trees as values with no addresses, `TreeOf` the value of each
@@ -19,22 +20,22 @@
 //! those of `pytoken`: `Tokens` has the tokens of a source, `Terminals` what each is to the
 //! grammar, `Refusals` why a source has none, and `Laws` what holds of the values of tokens.
 //! Which trees the grammar gives, and what fits each field, say those of `pytree_fits`: `Given`,
-//! `Slots` and `Statements`.
+//! `Slots`, `PatternSlots` and `Statements`.
 #![tactic(auto)]
 
 mod fits;
 mod modules;
 mod names;
 
-pub use fits::{well_formed, well_formed_at};
+pub use fits::{well_formed, well_formed_at, well_formed_pattern_at};
 pub use modules::{copy, same};
 pub use names::{is_keyword, is_name};
-pub use pygrammar::Level;
+pub use pygrammar::{Level, PatternLevel};
 pub use pytoken::{Meaning, Refusal, TokenError, is_identifier};
 pub use pytree_dump::{Pieces, Style, dump, dump_expr};
 pub use pytree_height::{Heights, height};
 pub use pytree_node::{
-    Alias, Arg, Arguments, BoolOperator, Comparison, Comprehension, Constant, Context, Expr,
-    Extent, Handler, Identifier, Integer, Item, Keyword, Module, Operator, Points, Profile, Stmt,
-    TypeParam, UnaryOperator, Version,
+    Alias, Arg, Arguments, BoolOperator, Case, Comparison, Comprehension, Constant, Context, Expr,
+    Extent, Handler, Identifier, Integer, Item, Keyword, Module, Operator, Pattern, Points,
+    Profile, Stmt, TypeParam, UnaryOperator, Version,
 };

@@ -5,6 +5,7 @@
 mod expressions;
 mod leaves;
 mod parts;
+mod patterns;
 mod statements;
 
 pub use statements::copy_stmts;

@@ -4,14 +4,15 @@
 //! not be dropped where one of these runs out of memory, which is long to prove.
 
 ghost use Rattle.std.specs.Prelude.{◌≡◌, IfOk, map};
-ghost use Rattle.pytree_node.specs.TreeOf.{handler_of, stmt_of};
+ghost use Rattle.pytree_node.specs.TreeOf.{case_of, handler_of, stmt_of};
 
 use crate::expressions::{
     copy_box, copy_boxed_arguments, copy_expr, copy_exprs, copy_keywords, copy_optional_box,
 };
-use crate::leaves::{copy_names, copy_optional_name};
+use crate::leaves::{both, copy_names, copy_optional_name};
 use crate::parts::{copy_aliases, copy_items, copy_optional_expr, copy_type_params};
-use pytree_node::{Handler, Stmt};
+use crate::patterns::copy_pattern;
+use pytree_node::{Case, Handler, Stmt};
 use std::alloc::{AllocError, Global};
 
 /// A copy of a statement.
@@ -141,6 +142,10 @@ fn copy_stmt(alloc: Global, s: &Stmt) -> Result<Stmt, AllocError>
             items: copy_items(alloc, items)?,
             body: copy_stmts(alloc, body)?,
         }),
+        Stmt::Match { subject, cases } => Ok(Stmt::Match {
+            cases: copy_cases(alloc, cases)?,
+            subject: copy_expr(alloc, subject)?,
+        }),
         Stmt::Raise { exc, cause } => Ok(Stmt::Raise {
             exc: copy_optional_expr(alloc, exc)?,
             cause: copy_optional_expr(alloc, cause)?,
@@ -207,6 +212,37 @@ pub fn copy_stmts(alloc: Global, body: &[Stmt]) -> Result<Vec<Stmt>, AllocError>
     let mut made = Vec::new(alloc);
     for s in body {
         made.push(copy_stmt(alloc, s)?)?;
+    }
+    Ok(made)
+}
+
+/// A copy of a `case` with its block.
+#[cycle(copying)]
+#[tactic(auto, using(pytree_node::proofs::Callers::StmtShapes::stmt_shapes))]
+fn copy_case(alloc: Global, c: &Case) -> Result<Case, AllocError>
+    ensures { IfOk result (λ made. case_of made ≡ case_of c.now) }
+{
+    let body = copy_stmts(alloc, &c.body)?;
+    let (pattern, guard) = both(
+        copy_pattern(alloc, &c.pattern)?,
+        copy_optional_expr(alloc, &c.guard),
+    )?;
+    Ok(Case {
+        pattern,
+        guard,
+        body,
+    })
+}
+
+/// A copy of some `case`s.
+#[cycle(copying)]
+#[tactic(auto, using(pytree_node::proofs::Callers::StmtShapes::stmt_shapes))]
+fn copy_cases(alloc: Global, all: &[Case]) -> Result<Vec<Case>, AllocError>
+    ensures { IfOk result (λ made. map case_of made.items ≡ map case_of all.now) }
+{
+    let mut made = Vec::new(alloc);
+    for c in all {
+        made.push(copy_case(alloc, c)?)?;
     }
     Ok(made)
 }

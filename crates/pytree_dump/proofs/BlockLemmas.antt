@@ -1,24 +1,25 @@
--- What blocks and handlers show and weigh, and the text of a node's fields, one after another.
+-- What blocks, handlers and cases show and weigh, and the text of a node's fields, one after another.
 --
--- Carries: the cycle of statements, dump.
+-- Carries: the cycle of statements, the cycle of patterns, dump.
 use Rattle.std.proofs.Common.{◌≡◌, ℕ, ◌+◌, ◌<◌, ◌≤◌, ◌++◌, List, [], ◌∷◌, Bool, true, false, codes, refl, ap, sym, ◌∙◌, ◌||◌, ◌&&◌, map, Option, Some, None, arith}
 use Rattle.std.specs.Prelude.{nat_le}
 use Rattle.std.proofs.lemmas.List.{append-nil}
 use Rattle.pytree_node.specs.declared.profiles.Profile.{Profile}
 use Rattle.pytree_node.specs.declared.profiles.Version.{Version}
 use Rattle.pytree_node.specs.declared.profiles.Version.TheVariants.{Py312}
+use Rattle.pytree_node.specs.declared.statements.Case as given_case
 use Rattle.pytree_node.specs.declared.statements.Handler as given_handler
 use Rattle.pytree_node.specs.declared.statements.Stmt as given_stmt
 use Rattle.pytree_node.specs.declared.statements.TypeParam as given_type_param
 use Rattle.pytree_node.specs.Profiles.{python}
 use Rattle.pytree_node.specs.Trees
-use Rattle.pytree_node.specs.Trees.{Identifier, stmts, handlers}
-use Rattle.pytree_node.specs.TreeOf.{handler_of, option_of, stmt_of, type_param_of}
-use Rattle.pytree_node.proofs.Callers.StmtShapes.{handler_tree}
+use Rattle.pytree_node.specs.Trees.{Identifier, stmts, cases, handlers}
+use Rattle.pytree_node.specs.TreeOf.{case_of, handler_of, option_of, pattern_of, stmt_of, type_param_of}
+use Rattle.pytree_node.proofs.Callers.StmtShapes.{case_tree, handler_tree}
 use Rattle.pytree_dump_text.specs.declared.styles.Style.{Style}
-use Rattle.pytree_dump_text.specs.Shows.{Shown, Fields, Node, Row, a_shown, a_field, no_field, no_shown, expr_field, name_field, showns, shown_module, shown_stmt, shown_stmts, shown_handlers, shown_type_param, type_params_field}
+use Rattle.pytree_dump_text.specs.Shows.{Shown, Fields, Node, Row, a_shown, a_field, no_field, no_shown, expr_field, name_field, showns, shown_module, shown_stmt, shown_stmts, shown_cases, shown_handlers, shown_pattern, shown_type_param, type_params_field}
 use Rattle.pytree_dump_text.specs.Layout.{dump_text, text, fields, deeper, is_flat, is_short, all_simple, shown_count}
-use Rattle.pytree_dump_text.specs.Blocks.{listed, shown_block, shown_handler}
+use Rattle.pytree_dump_text.specs.Blocks.{listed, shown_block, shown_case, shown_handler}
 use Rattle.pytree_dump_text.specs.Slots.{node_text}
 use Rattle.pytree_dump.specs.Inner.Weights.{weight, field_weights}
 use Rattle.pytree_dump.proofs.RowLemmas.{type_params_row}
@@ -32,7 +33,11 @@ pub handlers_row : (p : Profile) (hs : List given_handler.Handler) → shown_han
 handlers_row p [] = refl
 handlers_row p (h ∷ hs) = ap (λ z. a_shown (shown_handler p (handler_of h)) z) (handlers_row p hs)
 
-pub ruleset block_rows = (stmts_row, handlers_row)
+pub cases_row : (p : Profile) (cs : List given_case.Case) → shown_cases p (cases (map case_of cs)) ≡ showns (map (λ c. shown_case p (case_of c)) cs)
+cases_row p [] = refl
+cases_row p (c ∷ cs) = ap (λ z. a_shown (shown_case p (case_of c)) z) (cases_row p cs)
+
+pub ruleset block_rows = (stmts_row, handlers_row, cases_row)
 
 -- a field that may be absent weighs nothing or more
 pub expr_weighs : (name : List ℕ) (e : Option Trees.Expr) (rest : Fields) → field_weights rest ≤ field_weights (expr_field name e rest)
@@ -70,6 +75,10 @@ ahead_as s f g line named first line1 named1 first1 o o1 on fs form rest is same
 -- the last field
 pub at_end : (o x : List ℕ) → o ++ [] ≡ x → o ≡ x
 at_end o x e = sym (append-nil o) ∙ e
+
+pub at_end_as : (s : Style) (f : List ℕ) (line named first : Bool) (o o1 : List ℕ) (fs form : Fields) → form ≡ fs →
+    o1 ++ [] ≡ o ++ fields s f line named first form → o1 ≡ o ++ fields s f line named first fs
+at_end_as s f line named first o o1 fs form is e = sym (append-nil o1) ∙ e ∙ ap (λ z. o ++ fields s f line named first z) is
 
 -- the parameters of a type, where they are shown
 pub type_params_text : (s : Style) (f o o1 : List ℕ) (line named first : Bool) (ps : List given_type_param.TypeParam) → s.profile.version ≡ Py312 →
@@ -109,6 +118,28 @@ handler_weighs p h body same =
     let e : field_weights (expr_field (codes "type") (option_of (given_handler.out-Handler h).class) named) + 1 ≡ weight (shown_handler p (handler_of h)) =
     ap weight (handler_shows p h body same) in
     omega (arith, e, expr_weighs (codes "type") (option_of (given_handler.out-Handler h).class) named, name_weighs (codes "name") (given_handler.out-Handler h).name last)
+
+-- a case of the program, by its fields
+pub case_shows : (p : Profile) (c : given_case.Case) (body : List given_stmt.Stmt) → body ≡ (given_case.out-Case c).body.items →
+    Node (codes "match_case") (a_field (codes "pattern") (shown_pattern (pattern_of (given_case.out-Case c).pattern))
+    (expr_field (codes "guard") (option_of (given_case.out-Case c).guard) (a_field (codes "body") (shown_block p body) no_field)))
+    ≡ shown_case p (case_of c)
+case_shows p c body same =
+    (λ i. Node (codes "match_case") (a_field (codes "pattern") (shown_pattern (pattern_of (given_case.out-Case c).pattern))
+    (expr_field (codes "guard") (option_of (given_case.out-Case c).guard) (a_field (codes "body") (shown_block p (same i)) no_field))))
+    ∙ (λ i. Node (codes "match_case") (a_field (codes "pattern") (shown_pattern (pattern_of (given_case.out-Case c).pattern))
+    (expr_field (codes "guard") (option_of (given_case.out-Case c).guard) (a_field (codes "body") (Row (sym (stmts_row p (given_case.out-Case c).body.items) i)) no_field))))
+    ∙ ap (shown_case p) (sym (case_tree c))
+
+-- its block weighs less
+pub case_weighs : (p : Profile) (c : given_case.Case) (body : List given_stmt.Stmt) → body ≡ (given_case.out-Case c).body.items →
+    weight (shown_block p body) < weight (shown_case p (case_of c))
+case_weighs p c body same =
+    let last : Fields = a_field (codes "body") (shown_block p body) no_field in
+    let guarded : Fields = expr_field (codes "guard") (option_of (given_case.out-Case c).guard) last in
+    let e : weight (shown_pattern (pattern_of (given_case.out-Case c).pattern)) + field_weights guarded + 1 ≡ weight (shown_case p (case_of c)) =
+    ap weight (case_shows p c body same) in
+    omega (arith, e, expr_weighs (codes "guard") (option_of (given_case.out-Case c).guard) last)
 
 -- the text of what is shown in another form
 pub text_as : (s : Style) (f o o1 : List ℕ) (x y : Shown) → x ≡ y → o1 ≡ o ++ text s f x → o1 ≡ o ++ text s f y

@@ -5,6 +5,7 @@
 //! it in between: whole by [`dump`], statement by statement by [`Pieces`].
 #![tactic(auto)]
 
+mod cases;
 mod compounds;
 mod expressions;
 mod handlers;
@@ -13,6 +14,7 @@ mod lists;
 mod members;
 mod modules;
 mod nodes;
+mod patterns;
 mod pieces;
 mod statements;
 

@@ -9,6 +9,7 @@ ghost use Rattle.pytree_dump_text.specs.Layout.{text};
 ghost use Rattle.pytree_dump_text.specs.Shows.{Fields, a_field, shown_stmt};
 ghost use Rattle.pytree_node.specs.TreeOf.{stmt_of};
 
+use crate::cases::show_match;
 use crate::compounds::{show_class, show_for, show_function, show_test, show_try, show_with};
 use crate::nodes::{show_four, show_one, show_three, show_two};
 use pytree_dump_text::{
@@ -197,6 +198,7 @@ pub(crate) fn show_stmt(
             items,
             body,
         ),
+        Stmt::Match { subject, cases } => show_match(out, indentation, style, subject, cases),
         Stmt::Raise { exc, cause } => show_two(
             out,
             indentation,

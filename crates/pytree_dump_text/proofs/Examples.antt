@@ -104,3 +104,41 @@ bare_definition : dump_text bare (shown_module plain_312 definition)
     ≡ codes "Module([FunctionDef('f', arguments([], [], kwonlyargs=[], kw_defaults=[], defaults=[]), [Pass()], [], type_params=[])], [])"
 unfolding ucd_category encode_utf8 digits
 bare_definition = refl
+
+-- a `match` with `case None`, `case 1 | [a, *_]`, `case {'k': _, **r} if b`, `case A(c, d=_ as e)` and `case _`
+abbrev pass : Trees.Stmts
+pass = Trees.a_stmt Trees.Pass Trees.no_stmt
+
+abbrev wildcard : Trees.Pattern
+wildcard = Trees.MatchAs Trees.absent_pattern None
+
+abbrev capture : List ℕ → Trees.Pattern
+capture name = Trees.MatchAs Trees.absent_pattern (Some name)
+
+abbrev matching : Module
+matching = record {
+  body = Trees.Match (name (codes "x"))
+      (Trees.a_case (Trees.MatchSingleton value.None) None pass
+      (Trees.a_case (Trees.MatchOr (Trees.a_pattern (Trees.MatchValue (Trees.Constant (value.Int 1)))
+      (Trees.a_pattern (Trees.MatchSequence (Trees.a_pattern (capture (codes "a")) (Trees.a_pattern (Trees.MatchStar None) Trees.no_pattern))) Trees.no_pattern))) None pass
+      (Trees.a_case (Trees.MatchMapping (Trees.Constant (value.Str (codes "k") false) ∷ []) (Trees.a_pattern wildcard Trees.no_pattern) (Some (codes "r")))
+      (Some (name (codes "b"))) pass
+      (Trees.a_case (Trees.MatchClass (name (codes "A")) (Trees.a_pattern (capture (codes "c")) Trees.no_pattern) (codes "d" ∷ [])
+      (Trees.a_pattern (Trees.MatchAs (Trees.present_pattern wildcard) (Some (codes "e"))) Trees.no_pattern)) None pass
+      (Trees.a_case wildcard None pass Trees.no_case))))) ∷ [];
+}
+
+plain_matching : dump_text plain (shown_module plain_311 matching)
+    ≡ codes "Module(body=[Match(subject=Name(id='x', ctx=Load()), cases=[match_case(pattern=MatchSingleton(value=None), body=[Pass()]), match_case(pattern=MatchOr(patterns=[MatchValue(value=Constant(value=1)), MatchSequence(patterns=[MatchAs(name='a'), MatchStar()])]), body=[Pass()]), match_case(pattern=MatchMapping(keys=[Constant(value='k')], patterns=[MatchAs()], rest='r'), guard=Name(id='b', ctx=Load()), body=[Pass()]), match_case(pattern=MatchClass(cls=Name(id='A', ctx=Load()), patterns=[MatchAs(name='c')], kwd_attrs=['d'], kwd_patterns=[MatchAs(pattern=MatchAs(), name='e')]), body=[Pass()]), match_case(pattern=MatchAs(), body=[Pass()])])], type_ignores=[])"
+unfolding ucd_category encode_utf8 digits decimal_text
+plain_matching = refl
+
+bare_matching : dump_text bare (shown_module plain_311 matching)
+    ≡ codes "Module([Match(Name('x', Load()), [match_case(MatchSingleton(None), body=[Pass()]), match_case(MatchOr([MatchValue(Constant(1)), MatchSequence([MatchAs(name='a'), MatchStar()])]), body=[Pass()]), match_case(MatchMapping([Constant('k')], [MatchAs()], 'r'), Name('b', Load()), [Pass()]), match_case(MatchClass(Name('A', Load()), [MatchAs(name='c')], ['d'], [MatchAs(MatchAs(), 'e')]), body=[Pass()]), match_case(MatchAs(), body=[Pass()])])], [])"
+unfolding ucd_category encode_utf8 digits decimal_text
+bare_matching = refl
+
+indented_matching : dump_text two (shown_module plain_311 matching)
+    ≡ codes "Module(\n  body=[\n    Match(\n      subject=Name(id='x', ctx=Load()),\n      cases=[\n        match_case(\n          pattern=MatchSingleton(value=None),\n          body=[\n            Pass()]),\n        match_case(\n          pattern=MatchOr(\n            patterns=[\n              MatchValue(\n                value=Constant(value=1)),\n              MatchSequence(\n                patterns=[\n                  MatchAs(name='a'),\n                  MatchStar()])]),\n          body=[\n            Pass()]),\n        match_case(\n          pattern=MatchMapping(\n            keys=[\n              Constant(value='k')],\n            patterns=[\n              MatchAs()],\n            rest='r'),\n          guard=Name(id='b', ctx=Load()),\n          body=[\n            Pass()]),\n        match_case(\n          pattern=MatchClass(\n            cls=Name(id='A', ctx=Load()),\n            patterns=[\n              MatchAs(name='c')],\n            kwd_attrs=[\n              'd'],\n            kwd_patterns=[\n              MatchAs(pattern=MatchAs(), name='e')]),\n          body=[\n            Pass()]),\n        match_case(\n          pattern=MatchAs(),\n          body=[\n            Pass()])])],\n  type_ignores=[])"
+unfolding ucd_category encode_utf8 digits decimal_text
+indented_matching = refl

@@ -246,6 +246,29 @@ abbrev pub shown_type_params : List Trees.TypeParam → Showns
 shown_type_params [] = no_shown
 shown_type_params (p ∷ ps) = a_shown (shown_type_param p) (shown_type_params ps)
 
+-- a pattern of a `match`
+abbrev mutual
+  pub shown_pattern : Trees.Pattern → Shown
+  shown_pattern (Trees.MatchValue value) = Node (codes "MatchValue") (a_field (codes "value") (shown value) no_field)
+  shown_pattern (Trees.MatchSingleton value) = Node (codes "MatchSingleton") (a_field (codes "value") (Scalar (value_text value)) no_field)
+  shown_pattern (Trees.MatchSequence inner) = Node (codes "MatchSequence") (a_field (codes "patterns") (Row (shown_patterns inner)) no_field)
+  shown_pattern (Trees.MatchMapping keys inner rest) = Node (codes "MatchMapping")
+      (a_field (codes "keys") (shown_row keys) (a_field (codes "patterns") (Row (shown_patterns inner)) (name_field (codes "rest") rest no_field)))
+  shown_pattern (Trees.MatchClass cls inner names named) = Node (codes "MatchClass")
+      (a_field (codes "cls") (shown cls) (a_field (codes "patterns") (Row (shown_patterns inner)) (a_field (codes "kwd_attrs") (Row (shown_names names))
+      (a_field (codes "kwd_patterns") (Row (shown_patterns named)) no_field))))
+  shown_pattern (Trees.MatchStar name) = Node (codes "MatchStar") (name_field (codes "name") name no_field)
+  shown_pattern (Trees.MatchAs inner name) = Node (codes "MatchAs") (pattern_field (codes "pattern") inner (name_field (codes "name") name no_field))
+  shown_pattern (Trees.MatchOr inner) = Node (codes "MatchOr") (a_field (codes "patterns") (Row (shown_patterns inner)) no_field)
+
+  pub shown_patterns : Trees.Patterns → Showns
+  shown_patterns Trees.no_pattern = no_shown
+  shown_patterns (Trees.a_pattern p ps) = a_shown (shown_pattern p) (shown_patterns ps)
+
+  pub pattern_field : List ℕ → Trees.OptionalPattern → Fields → Fields
+  pattern_field name Trees.absent_pattern rest = left_out rest
+  pattern_field name (Trees.present_pattern p) rest = a_field name (shown_pattern p) rest
+
 -- the last field of a definition, which classes of 3.11 don't have
 abbrev pub type_params_field : Profile → List Trees.TypeParam → Fields
 type_params_field p ps = if has_types p then a_field (codes "type_params") (Row (shown_type_params ps)) no_field else no_field
@@ -284,6 +307,7 @@ abbrev mutual
       (a_field (codes "items") (Row (shown_items items)) (a_field (codes "body") (Row (shown_stmts p body)) (left_out no_field)))
   shown_stmt p (Trees.AsyncWith items body) = Node (codes "AsyncWith")
       (a_field (codes "items") (Row (shown_items items)) (a_field (codes "body") (Row (shown_stmts p body)) (left_out no_field)))
+  shown_stmt p (Trees.Match subject cases) = Node (codes "Match") (a_field (codes "subject") (shown subject) (a_field (codes "cases") (Row (shown_cases p cases)) no_field))
   shown_stmt p (Trees.Raise exc cause) = Node (codes "Raise") (expr_field (codes "exc") exc (expr_field (codes "cause") cause no_field))
   shown_stmt p (Trees.Assert test msg) = Node (codes "Assert") (a_field (codes "test") (shown test) (expr_field (codes "msg") msg no_field))
   shown_stmt p (Trees.Try body handlers orelse finalbody) = Node (codes "Try")
@@ -305,6 +329,11 @@ abbrev mutual
   pub shown_stmts : Profile → Trees.Stmts → Showns
   shown_stmts p Trees.no_stmt = no_shown
   shown_stmts p (Trees.a_stmt s ss) = a_shown (shown_stmt p s) (shown_stmts p ss)
+
+  pub shown_cases : Profile → Trees.Cases → Showns
+  shown_cases p Trees.no_case = no_shown
+  shown_cases p (Trees.a_case pattern guard body cs) = a_shown (Node (codes "match_case")
+      (a_field (codes "pattern") (shown_pattern pattern) (expr_field (codes "guard") guard (a_field (codes "body") (Row (shown_stmts p body)) no_field)))) (shown_cases p cs)
 
   pub shown_handlers : Profile → Trees.Handlers → Showns
   shown_handlers p Trees.no_handler = no_shown

@@ -1,16 +1,18 @@
 //! Which statements with blocks stand on one line.
 
 ghost use Rattle.std.specs.Prelude.{◌≡◌, ◌||◌, List, Option, codes, ℕ};
-ghost use Rattle.pytree_dump_text.specs.Blocks.{bare_option, listed, shown_block};
+ghost use Rattle.pytree_dump_text.specs.Blocks.{bare_option, listed, shown_block, shown_matched};
 ghost use Rattle.pytree_dump_text.specs.Layout.{is_flat, is_short};
 ghost use Rattle.pytree_dump_text.specs.Shows.{Row, a_field, expr_field, left_out, name_field};
 ghost use Rattle.pytree_dump_text.specs.Shows.{no_field, no_shown, shown, shown_item};
-ghost use Rattle.pytree_node.specs.TreeOf.{item_of, option_of, tree_of};
+ghost use Rattle.pytree_dump_text.specs.Shows.{shown_pattern};
+ghost use Rattle.pytree_node.specs.TreeOf.{item_of, option_of, pattern_of, tree_of};
 
 use crate::lines::is_flat;
+use crate::patterns::is_bare_pattern;
 use crate::shortness::is_bare;
 use crate::styles::Style;
-use pytree_node::{Expr, Item, Stmt};
+use pytree_node::{Case, Expr, Item, Pattern, Stmt};
 
 /// Whether a module stands on one line.
 #[tactic(auto, using(crate::proofs::ShortLemmas::short_module))]
@@ -65,4 +67,27 @@ pub fn is_short_handler(style: Style, class: &Option<Expr>, body: &[Stmt]) -> bo
         (a_field (codes "body") (shown_block style.profile body.now) no_field)))) }
 {
     is_flat(style) || is_bare_option(class) && body.is_empty()
+}
+
+/// Whether a `match` stands on one line.
+#[tactic(auto, using(crate::proofs::ShortLemmas::short_match))]
+pub fn is_short_match(style: Style, subject: &Expr, cases: &[Case]) -> bool
+    ensures { result
+        ≡ (is_flat style.indent || is_short
+        (a_field (codes "subject") (shown (tree_of subject.now))
+        (a_field (codes "cases") (shown_matched style.profile cases.now) no_field))) }
+{
+    is_flat(style) || is_bare(subject) && cases.is_empty()
+}
+
+/// Whether a case stands on one line.
+#[tactic(auto, using(crate::proofs::ShortLemmas::short_case))]
+pub fn is_short_case(style: Style, pattern: &Pattern, guard: &Option<Expr>, body: &[Stmt]) -> bool
+    ensures { result
+        ≡ (is_flat style.indent || is_short
+        (a_field (codes "pattern") (shown_pattern (pattern_of pattern.now))
+        (expr_field (codes "guard") (option_of guard.now)
+        (a_field (codes "body") (shown_block style.profile body.now) no_field)))) }
+{
+    is_flat(style) || is_bare_pattern(pattern) && is_bare_option(guard) && body.is_empty()
 }

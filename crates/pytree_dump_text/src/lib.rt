@@ -10,15 +10,19 @@ mod fields;
 mod leaves;
 mod lines;
 mod parts;
+mod patterns;
 mod shortness;
 mod styles;
 mod words;
 
-pub use blocks::{is_short_handler, is_short_module, is_short_test, is_short_with};
+pub use blocks::{
+    is_short_case, is_short_handler, is_short_match, is_short_module, is_short_test, is_short_with,
+};
 pub use fields::Field;
 pub use leaves::{push_name_and_context, show_constant, show_name};
 pub use lines::{Told, after_left_out, close, is_flat, open, push_before, push_lead};
 pub use parts::{Part, arg_part, boxed_part, field_of, is_absent, name_part, option_part};
+pub use patterns::{is_short_as, is_short_mapping, is_short_patterns};
 pub use shortness::{is_short_four, is_short_one, is_short_three, is_short_two};
 pub use styles::Style;
 pub use words::{

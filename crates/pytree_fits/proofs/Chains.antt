@@ -1,6 +1,13 @@
--- Carries: expr_fits. On: tests in a row, one of which fails or all but the last of which hold.
-use Rattle.std.proofs.Common.{◌≡◌, refl, Bool, true, false}
-use Rattle.std.specs.Prelude.{◌&&◌, Result, IfOk}
+-- Carries: expr_fits, pattern_fits. On: tests in a row, one of which fails or all but the last of
+-- which hold.
+use Rattle.std.proofs.Common.{◌≡◌, refl, List, length, Option, Some, None, Bool, true, false}
+use Rattle.std.specs.Prelude.{◌&&◌, eqb, Result, IfOk}
+use Rattle.std.specs.List.{list_all}
+use Rattle.pytree_node.specs.Trees.{Identifier, Expr, Patterns, MatchMapping}
+use Rattle.pygrammar.specs.declared.pattern_levels.PatternLevel.{PatternLevel}
+use Rattle.pygrammar.specs.declared.pattern_levels.PatternLevel.TheVariants.{AsPattern}
+use Rattle.pytree_fits.specs.Tests.{Tests}
+use Rattle.pytree_fits.specs.PatternSlots.{target_fits, key_fits, count_patterns, pattern_fits_at, each_pattern_fits}
 
 pub first_of_three : (x y z : Bool) → false ≡ x → false ≡ (x && y && z)
 first_of_three false y z h = refl
@@ -38,3 +45,14 @@ last_of_four r false y z w h g f e = absurd (cc)
 pub second_fails : (x y : Bool) → false ≡ y → false ≡ (x && y)
 second_fails true y h = h
 second_fails false y h = refl
+
+-- the patterns of a mapping
+pub mapping_fails : (n : Tests) (l : PatternLevel) (keys : List Expr) (ps : Patterns) (o : Option Identifier) → false ≡ each_pattern_fits n AsPattern ps → false ≡ pattern_fits_at n l (MatchMapping keys ps o)
+mapping_fails n l keys ps None h = second_fails (eqb (length keys) (count_patterns ps) && list_all (key_fits n) keys) (each_pattern_fits n AsPattern ps) h
+mapping_fails n l keys ps (Some x) h =
+    first_fails (eqb (length keys) (count_patterns ps) && list_all (key_fits n) keys && each_pattern_fits n AsPattern ps) (target_fits n x)
+    (second_fails (eqb (length keys) (count_patterns ps) && list_all (key_fits n) keys) (each_pattern_fits n AsPattern ps) h)
+  where
+    first_fails : (x y : Bool) → false ≡ x → false ≡ (x && y)
+    first_fails false y h = refl
+    first_fails true y h = absurd (cc)

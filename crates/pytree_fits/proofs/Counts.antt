@@ -3,8 +3,9 @@ use Rattle.std.proofs.Common.{◌≡◌, refl, sym, ap, ◌∙◌, inl, inr, ℕ
 use Rattle.std.specs.Prelude.{leb, not, ◌&&◌, ◌==◌}
 use Rattle.std.proofs.lemmas.Bool.{both_ways, ne_eqb, le-leb, lt-leb, leb-true, leb-false, cases_Bool}
 use Rattle.std.proofs.lemmas.List.{length-map}
-use Rattle.pytree_node.specs.Trees.{Expr, Arg, Comprehension, Stmt, Stmts, Handler, exprs, optionals, args, comprehensions, stmts, handlers}
-use Rattle.pytree_fits.specs.Statements.{has_stmt, clauses_fit}
+use Rattle.pytree_node.specs.Trees.{Expr, Arg, Comprehension, Pattern, Stmt, Stmts, Case, Handler, exprs, optionals, args, comprehensions, patterns, stmts, cases, handlers}
+use Rattle.pytree_fits.specs.Statements.{has_stmt, has_case, clauses_fit}
+use Rattle.pytree_fits.specs.PatternSlots.{count_patterns}
 use Rattle.pytree_fits.specs.Slots.{count, count_optional, count_args, has_some}
 
 exprs_count : (es : List Expr) → count (exprs es) ≡ length es
@@ -33,7 +34,14 @@ module _ {A : Type 0} where
   some_clause f [] = refl
   some_clause f (x ∷ xs) = sym (ap not (ne_eqb (suc (length xs)) 0 (λ e. omega (arith, e))))
 
-pub ruleset counts = (count_exprs, count_optionals, count_arguments, some_clause)
+patterns_count : (ps : List Pattern) → count_patterns (patterns ps) ≡ length ps
+patterns_count [] = refl
+patterns_count (p ∷ ps) = omega (arith, patterns_count ps)
+
+pub count_of_patterns : {A : Type 0} (f : A → Pattern) (xs : List A) → count_patterns (patterns (map f xs)) ≡ length xs
+count_of_patterns f xs = patterns_count (map f xs) ∙ length-map xs f
+
+pub ruleset counts = (count_exprs, count_optionals, count_arguments, some_clause, count_of_patterns)
 
 -- no more in all than a and b
 pub fewer : (m a b : ℕ) → m ≤ a → leb m a ≡ leb m (a + b)
@@ -45,10 +53,14 @@ fewer_behind m a b h = elim (cases_Bool (leb (m - a) b)) [
   | inr over ↦ over ∙ sym (lt-leb m (a + b) (omega (arith, h, leb-false (m - a) b over)))
 ]
 
--- ---- The clauses of a `try`. A list that is empty has length 0.
+-- ---- The clauses of a `try`, and the cases of a `match`. A list that is empty has length 0.
 
 some_length : {A : Type 0} (x : A) (xs : List A) → true ≡ (length (x ∷ xs) == 0) → ⊥
 some_length x xs h = both_ways (suc (length xs) == 0) (ne_eqb (suc (length xs)) 0 (λ e. omega (arith, e))) (sym h)
+
+pub with_case : {A : Type 0} (f : A → Case) (xs : List A) → false ≡ (length xs == 0) → true ≡ has_case (cases (map f xs))
+with_case f [] h = absurd (cc)
+with_case f (x ∷ xs) h = refl
 
 module _ {A : Type 0} (star : Bool) (f : A → Handler) where
   pub with_handler : (xs : List A) (o e : Stmts) → false ≡ (length xs == 0) → true ≡ clauses_fit star (handlers (map f xs)) o e

@@ -4,6 +4,8 @@ pub mod Scalars
 pub mod NumberScalars
 pub mod NumberTokens
 pub mod Tokens
+pub mod Words
+pub mod Patterns
 pub mod Modules
 pub mod Stays
 pub mod Lawful

@@ -6,3 +6,4 @@ pub mod TargetShapes
 pub mod Arranging
 pub mod AsSpelled
 pub mod Dots
+pub mod PatternFields

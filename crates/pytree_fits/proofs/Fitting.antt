@@ -1,4 +1,5 @@
 -- What the grammar gives, fits.
 pub mod Fits
+pub mod PatternFits
 pub mod FormFits
 pub mod BlockFits

@@ -4,5 +4,8 @@ pub mod Making
 pub mod Calls
 pub mod Parameters
 pub mod Gives
+pub mod PatternValues
+pub mod PatternGives
 pub mod FormGives
+pub mod LinePlaces
 pub mod BlockGives

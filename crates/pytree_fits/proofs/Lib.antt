@@ -1,10 +1,13 @@
 mod NameLemmas
+mod Shapes
 mod TargetShapes
+mod ValueShapes
 mod Counts
 mod Loops
 mod InRange
 mod Chains
 mod DottedLemmas
+mod WildcardLemmas
 mod Suites
 pub mod Callers
 mod Fields

@@ -1,5 +1,5 @@
 -- Carries: suite_fits. On: a block with a statement fits where its statements do.
-use Rattle.std.proofs.Common.{◌≡◌, refl, suc, arith, List, [], ◌∷◌, length, map, Bool, true, false}
+use Rattle.std.proofs.Common.{◌≡◌, refl, suc, arith, List, [], ◌∷◌, length, map, true, false}
 use Rattle.std.specs.Prelude.{◌==◌}
 use Rattle.std.proofs.lemmas.Bool.{both_ways, ne_eqb}
 use Rattle.pytree_node.specs.declared.profiles.Profile.{Profile}

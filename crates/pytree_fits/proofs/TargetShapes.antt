@@ -1,61 +1,18 @@
--- An expression of the program is a target of the shape that its value has.
+-- An expression of the program that is no target of a class has a value that is none.
 --
--- Carries: is_a_name, is_starred, is_single, target_fits. On: TreeOf.
-use Rattle.std.proofs.Common.{◌≡◌, Global, refl, sym, subst, Bool, false}
+-- Carries: is_a_name, is_starred, is_single, target_fits. On: Shapes.
+use Rattle.std.proofs.Common.{◌≡◌, Global, refl, false}
 use Rattle.std.specs.declared.vec.Vec.{Vec}
 use Rattle.std.specs.declared.boxed.Box.{Box}
 use Rattle.pytree_node.specs.declared.operators.Context.{Context}
-use Rattle.pytree_node.specs.declared.expressions.Expr as given
 use Rattle.pytree_node.specs.declared.expressions.Expr.{Expr}
 use Rattle.pytree_node.specs.declared.expressions.Expr.TheVariants as variant
-use Rattle.pytree_node.specs.declared.expressions.Expr.TheOpen as layer
-use Rattle.pytree_node.specs.declared.expressions.Arg.{Arg}
-use Rattle.pytree_node.specs.declared.expressions.Arguments.{Arguments}
-use Rattle.pytree_node.specs.declared.expressions.Comprehension.{Comprehension}
-use Rattle.pytree_node.specs.declared.expressions.Keyword.{Keyword}
 use Rattle.pytree_node.specs.Trees as plain
 use Rattle.pytree_node.specs.Trees.{Identifier}
-use Rattle.pytree_node.specs.TreeOf.{tree_of, arg_of, arguments_of, comprehension_of, keyword_of, expr_step, arg_step, arguments_step, comprehension_step, keyword_step}
+use Rattle.pytree_node.specs.TreeOf.{tree_of}
 use Rattle.pytree_fits.specs.Tests.{Tests}
 use Rattle.pytree_fits.specs.Slots.{is_a_name, is_starred, is_single, fits_target}
-
--- one node, whose children are nodes of the program
-abbrev Layer : Type 0
-Layer = layer.Expr-F Expr Arg Arguments Comprehension Keyword
-
--- the node with its children's values in their places
-abbrev valued : Layer → layer.Expr-F plain.Expr plain.Arg plain.Arguments plain.Comprehension plain.Keyword
-valued = given.map-Expr Expr Arg Arguments Comprehension Keyword plain.Expr plain.Arg plain.Arguments plain.Comprehension plain.Keyword
-    tree_of arg_of arguments_of comprehension_of keyword_of
-
-opened : (e : Expr) → tree_of e ≡ expr_step (valued (given.out-Expr e))
-unfolding tree_of arg_of arguments_of comprehension_of keyword_of
-opened = given.fold_out-Expr plain.Expr plain.Arg plain.Arguments plain.Comprehension plain.Keyword
-    expr_step arg_step arguments_step comprehension_step keyword_step
-
--- it has the shape of this target
-abbrev pub HasShape : plain.Expr → Expr → Type 0
-HasShape (plain.Attribute _ _ _) given = (value : Box Expr Global) × (attr : Identifier) × (ctx : Context) × (given ≡ variant.Attribute value attr ctx)
-HasShape (plain.Subscript _ _ _) given = (value : Box Expr Global) × (slice : Box Expr Global) × (ctx : Context) × (given ≡ variant.Subscript value slice ctx)
-HasShape (plain.Starred _ _) given = (value : Box Expr Global) × (ctx : Context) × (given ≡ variant.Starred value ctx)
-HasShape (plain.Name _ _) given = (id : Identifier) × (ctx : Context) × (given ≡ variant.Name id ctx)
-HasShape (plain.ListOf _ _) given = (elts : Vec Expr Global) × (ctx : Context) × (given ≡ variant.List elts ctx)
-HasShape (plain.Tuple _ _) given = (elts : Vec Expr Global) × (ctx : Context) × (given ≡ variant.Tuple elts ctx)
-HasShape _ given = Unit {0}
-
-layer_has_shape : (node : Layer) → HasShape (expr_step (valued node)) (given.roll-Expr node)
-unfolding given.roll-Expr denote.Hole.Carrier.roll
-layer_has_shape (layer.Attribute value attr ctx) = (value, attr, ctx, refl)
-layer_has_shape (layer.Subscript value slice ctx) = (value, slice, ctx, refl)
-layer_has_shape (layer.Starred value ctx) = (value, ctx, refl)
-layer_has_shape (layer.Name id ctx) = (id, ctx, refl)
-layer_has_shape (layer.List elts ctx) = (elts, ctx, refl)
-layer_has_shape (layer.Tuple elts ctx) = (elts, ctx, refl)
-layer_has_shape _ = tt
-
-pub has_shape : (e : Expr) → HasShape (tree_of e) e
-has_shape e = subst (λ given. HasShape (tree_of e) given) (given.roll-out-Expr e)
-    (subst (λ t. HasShape t (given.roll-Expr (given.out-Expr e))) (sym (opened e)) (layer_has_shape (given.out-Expr e)))
+use Rattle.pytree_fits.proofs.Shapes.{HasShape, has_shape}
 
 -- an expression of no such shape
 module _ (e : Expr) where

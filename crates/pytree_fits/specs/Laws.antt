@@ -6,15 +6,18 @@ use Rattle.pytree_node.specs.declared.profiles.Extent.TheVariants.{Whole}
 use Rattle.pytree_node.specs.declared.profiles.Version.TheVariants.{Py312}
 use Rattle.pytree_node.specs.declared.profiles.Profile.{Profile}
 use Rattle.pytree_node.specs.Profiles.{python}
-use Rattle.pytree_node.specs.Trees.{Expr, Exprs, Keywords, Arguments, Module}
+use Rattle.pytree_node.specs.Trees.{Expr, Exprs, Keywords, Arguments, Pattern, Module}
 use Rattle.pygrammar.specs.declared.levels.Level.{Level}
 use Rattle.pygrammar.specs.declared.levels.Level.TheVariants.{Elem}
 use Rattle.pygrammar.specs.Grammar.{Derives, Target, SingleTarget, DelTarget, ItemTarget}
+use Rattle.pygrammar.specs.declared.pattern_levels.PatternLevel.{PatternLevel}
 use Rattle.pygrammar.specs.ArgumentLists.{IsArranged, AreArguments}
+use Rattle.pygrammar.specs.PatternGrammar.{DerivesPattern}
 use Rattle.pytree_fits.specs.Tests.{Tests, tests_in}
 use Rattle.pytree_fits.specs.Slots.{is_single, fits_at, fits_target, each_fits, each_keyword_fits, fits_arguments}
+use Rattle.pytree_fits.specs.PatternSlots.{pattern_fits_at}
 use Rattle.pytree_fits.specs.Statements.{module_fits}
-use Rattle.pytree_fits.specs.Given.{Given, Expressed, Stated}
+use Rattle.pytree_fits.specs.Given.{Given, Expressed, Patterned, Stated}
 
 -- ---- By terminals, for any test of names, in either extent.
 
@@ -42,11 +45,19 @@ abbrev pub ArgumentsFitExactly : Type 0
 ArgumentsFitExactly = (n : Tests) (zs : Exprs) (ks : Keywords) →
     Given n AreArguments (zs, ks) ↔ ((each_fits n Elem zs && each_keyword_fits n ks) ≡ true)
 
+-- so do patterns at the levels of their own grammar
+abbrev pub PatternsFitExactly : Type 0
+PatternsFitExactly = (n : Tests) (l : PatternLevel) (p : Pattern) → Given n (DerivesPattern l) p ↔ (pattern_fits_at n l p ≡ true)
+
 -- ---- By tokens.
 
 -- an expression of names and constants that fits a level in an extent is one that the grammar gives there to some tokens without a fault in that extent
 abbrev pub ExpressionsFitExactly : Type 0
 ExpressionsFitExactly = (extent : Extent) (l : Level) (e : Expr) → Expressed extent l e ↔ (fits_at (tests_in extent) l e ≡ true)
+
+-- so is a pattern that fits a level in an extent
+abbrev pub PatternsFitExactlyInTokens : Type 0
+PatternsFitExactlyInTokens = (extent : Extent) (l : PatternLevel) (p : Pattern) → Patterned extent l p ↔ (pattern_fits_at (tests_in extent) l p ≡ true)
 
 -- so is a module that fits in a version of Python, in its extent: the grammar gives it to some lines of such tokens
 abbrev pub ModulesFitExactly : Type 0
@@ -68,7 +79,9 @@ pub record SlotsAreLawful : Type 0 where
   pub targets : TargetsFitExactly
   pub parameters : ParametersFitExactly
   pub arguments : ArgumentsFitExactly
+  pub patterns : PatternsFitExactly
   pub expressions : ExpressionsFitExactly
+  pub patterns_in_tokens : PatternsFitExactlyInTokens
   pub modules : ModulesFitExactly
   pub expressions_stay : ExpressionsStay
   pub modules_stay : ModulesStay

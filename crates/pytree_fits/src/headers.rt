@@ -3,14 +3,18 @@
 ghost use Rattle.std.specs.Prelude.{◌≡◌, ◌&&◌, IfOk, map, true};
 ghost use Rattle.std.specs.List.{list_all};
 ghost use Rattle.pygrammar.specs.declared.levels.Level.TheVariants as levels;
+ghost use Rattle.pygrammar.specs.declared.pattern_levels.PatternLevel.TheVariants as pattern_levels;
+ghost use Rattle.pygrammar.specs.Forms.{is_whole};
 ghost use Rattle.pytree_node.specs.declared.operators.Context.TheVariants as contexts;
-ghost use Rattle.pytree_node.specs.TreeOf.{arguments_of, boxed_of, handler_of, item_of, keyword_of};
-ghost use Rattle.pytree_node.specs.TreeOf.{option_of, stmt_of, tree_of, type_param_of};
-ghost use Rattle.pytree_node.specs.Trees.{exprs, handlers, keywords, optional, stmts};
+ghost use Rattle.pytree_node.specs.TreeOf.{arguments_of, boxed_of, case_of, handler_of, item_of};
+ghost use Rattle.pytree_node.specs.TreeOf.{keyword_of, option_of, pattern_of, stmt_of, tree_of};
+ghost use Rattle.pytree_node.specs.TreeOf.{type_param_of};
+ghost use Rattle.pytree_node.specs.Trees.{cases, exprs, handlers, keywords, optional, stmts};
 ghost use Rattle.pytree_fits.specs.Names.{is_name};
 ghost use Rattle.pytree_fits.specs.Slots.{each_fits, each_keyword_fits, fits_arguments, fits_at};
 ghost use Rattle.pytree_fits.specs.Slots.{fits_target, perhaps_fits};
-ghost use Rattle.pytree_fits.specs.Statements.{caught_fits, clauses_fit, has_one, item_fits};
+ghost use Rattle.pytree_fits.specs.PatternSlots.{pattern_fits_at};
+ghost use Rattle.pytree_fits.specs.Statements.{caught_fits, clauses_fit, has_case, has_one, item_fits};
 ghost use Rattle.pytree_fits.specs.Statements.{perhaps_target_fits, types_fit};
 ghost use Rattle.pytree_fits.specs.Tests.{tests_in};
 
@@ -19,11 +23,13 @@ use crate::expressions::{boxed_fits, expr_fits, exprs_fit, keywords_fit};
 use crate::leaves::optional_name_fits;
 use crate::names::is_name;
 use crate::parameters::parameters_fit;
-use crate::simple::type_params_fit;
+use crate::patterns::pattern_fits;
+use crate::simple::{option_fits, type_params_fit};
 use crate::targets::target_fits;
-use pygrammar::Level;
+use pygrammar::{Level, PatternLevel};
 use pytree_node::{
-    Arguments, Context, Expr, Handler, Identifier, Item, Keyword, Profile, Stmt, TypeParam,
+    Arguments, Case, Context, Expr, Extent, Handler, Identifier, Item, Keyword, Pattern, Profile,
+    Stmt, TypeParam,
 };
 use std::alloc::AllocError;
 
@@ -143,6 +149,54 @@ pub(crate) fn items_fit(asked: Asked, items: &[Item]) -> Result<bool, AllocError
         }
     }
     Ok(true)
+}
+
+/// Whether an extent of the language has `match` statements.
+fn is_whole(extent: Extent) -> bool
+    ensures { result ≡ is_whole extent }
+{
+    match extent {
+        Extent::Whole => true,
+        Extent::Plain => false,
+    }
+}
+
+/// Whether a `match` fits, but for its cases, of which there are some.
+pub(crate) fn match_head_fits(
+    asked: Asked,
+    subject: &Expr,
+    clauses: &[Case],
+) -> Result<bool, AllocError>
+    ensures { IfOk result
+        (λ told. told
+        ≡ (is_whole asked.extent && has_case (cases (map case_of clauses.now)) && fits_at
+        (tests_in asked.extent) levels.Expression (tree_of subject.now))) }
+{
+    if !is_whole(asked.extent) {
+        return Ok(false);
+    }
+    if clauses.is_empty() {
+        return Ok(false);
+    }
+    expr_fits(asked, subject, Level::Expression)
+}
+
+/// Whether a case fits, but for its body.
+pub(crate) fn case_head_fits(
+    asked: Asked,
+    pattern: &Pattern,
+    guard: &Option<Expr>,
+) -> Result<bool, AllocError>
+    ensures { IfOk result
+        (λ told. told
+        ≡ (pattern_fits_at (tests_in asked.extent) pattern_levels.AsPattern
+        (pattern_of pattern.now) && perhaps_fits (tests_in asked.extent) levels.Expression
+        (optional (option_of guard.now)))) }
+{
+    Ok(
+        pattern_fits(asked, pattern, PatternLevel::AsPattern)?
+            && option_fits(asked, guard, Level::Expression)?,
+    )
 }
 
 /// Whether what an `except` catches fits, and its name.

@@ -3,8 +3,9 @@
 //!
 //! `pytree_fits` defines that, slot by slot, and has the laws that tie the slots to the grammar. The
 //! walks here ask the same in the same order, and build nothing: [`expr_fits`] of an expression at
-//! a level, [`statements_fit`] of the statements of a module, in an extent of the language
-//! ([`Asked`]). They serve `pytree`, which tells by them whether a module is well formed.
+//! a level, [`pattern_fits`] of a pattern at a level of its own grammar, [`statements_fit`] of the
+//! statements of a module, in an extent of the language ([`Asked`]). They serve `pytree`, which
+//! tells by them whether a module is well formed.
 #![tactic(auto)]
 
 mod asking;
@@ -14,6 +15,8 @@ mod imports;
 mod leaves;
 mod names;
 mod parameters;
+mod pattern_values;
+mod patterns;
 mod places;
 mod simple;
 mod statements;
@@ -21,4 +24,5 @@ mod targets;
 
 pub use asking::Asked;
 pub use expressions::expr_fits;
+pub use patterns::pattern_fits;
 pub use statements::statements_fit;

@@ -1,10 +1,12 @@
 //! Keywords, and the names of a well-formed tree (language reference, 2.3).
 
 ghost use Rattle.std.specs.Prelude.{◌≡◌, IfOk};
+ghost use Rattle.std.specs.List.{list_all};
 ghost use Rattle.std.specs.Str.{chars};
 ghost use Rattle.pytree_fits.specs.Names.{is_keyword, is_name};
 
 use pytoken::{Keyword, is_identifier};
+use pytree_node::Identifier;
 use std::alloc::{AllocError, Global};
 use unicode_normalization::is_nfkc;
 
@@ -27,4 +29,16 @@ pub(crate) fn is_name(alloc: Global, text: &str) -> Result<bool, AllocError>
         return Ok(false);
     }
     is_nfkc(alloc, text)
+}
+
+/// Whether each of some names is a name that a well-formed tree may hold.
+pub(crate) fn are_names(alloc: Global, names: &[Identifier]) -> Result<bool, AllocError>
+    ensures { IfOk result (λ told. told ≡ list_all is_name names.now) }
+{
+    for name in names {
+        if !is_name(alloc, name.as_str())? {
+            return Ok(false);
+        }
+    }
+    Ok(true)
 }

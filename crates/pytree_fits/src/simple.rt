@@ -16,7 +16,7 @@ ghost use Rattle.pytree_fits.specs.Tests.{tests_in};
 
 use crate::asking::Asked;
 use crate::expressions::{boxed_fits, expr_fits};
-use crate::names::is_name;
+use crate::names::{are_names, is_name};
 use crate::places::{is_a_name, is_single};
 use crate::targets::{target_fits, targets_fit};
 use pygrammar::Level;
@@ -46,12 +46,7 @@ pub(crate) fn names_fit(alloc: Global, names: &[Identifier]) -> Result<bool, All
     if names.is_empty() {
         return Ok(false);
     }
-    for name in names {
-        if !is_name(alloc, name.as_str())? {
-            return Ok(false);
-        }
-    }
-    Ok(true)
+    are_names(alloc, names)
 }
 
 /// Whether there are targets, each of which fits.

@@ -1,16 +1,21 @@
 //! Whether statements fit, with those inside.
 
 ghost use Rattle.std.specs.Prelude.{◌≡◌, ◌&&◌, IfOk, map};
-ghost use Rattle.pytree_node.specs.TreeOf.{handler_of, stmt_of};
-ghost use Rattle.pytree_node.specs.Trees.{handlers, stmts};
-ghost use Rattle.pytree_fits.specs.Statements.{caught_fits, handlers_fit, statement_fits};
-ghost use Rattle.pytree_fits.specs.Statements.{statements_fit, suite_fits};
+ghost use Rattle.pytree_node.specs.TreeOf.{case_of, handler_of, stmt_of};
+ghost use Rattle.pytree_node.specs.Trees.{cases, handlers, optional, stmts};
+ghost use Rattle.pygrammar.specs.declared.levels.Level.TheVariants as levels;
+ghost use Rattle.pygrammar.specs.declared.pattern_levels.PatternLevel.TheVariants as pattern_levels;
+ghost use Rattle.pytree_fits.specs.PatternSlots.{pattern_fits_at};
+ghost use Rattle.pytree_fits.specs.Slots.{perhaps_fits};
+ghost use Rattle.pytree_fits.specs.Statements.{cases_fit, caught_fits, handlers_fit};
+ghost use Rattle.pytree_fits.specs.Statements.{statement_fits, statements_fit, suite_fits};
 ghost use Rattle.pytree_fits.specs.Tests.{tests_in};
 
 use crate::asking::Asked;
 use crate::expressions::expr_fits;
 use crate::headers::{
-    class_head_fits, clauses_fit, except_fits, for_head_fits, function_head_fits, items_fit,
+    case_head_fits, class_head_fits, clauses_fit, except_fits, for_head_fits, function_head_fits,
+    items_fit, match_head_fits,
 };
 use crate::imports::{imports_fit, modules_fit, source_fits};
 use crate::simple::{
@@ -18,7 +23,7 @@ use crate::simple::{
     type_alias_fits,
 };
 use pygrammar::Level;
-use pytree_node::{Context, Handler, Profile, Stmt};
+use pytree_node::{Case, Context, Handler, Profile, Stmt};
 use std::alloc::{AllocError, Global};
 
 /// Whether a statement fits.
@@ -160,6 +165,10 @@ fn statement_fits(alloc: Global, profile: Profile, s: &Stmt) -> Result<bool, All
             let suite = suite_fits(alloc, profile, body)?;
             Ok(items_fit(asked, items)? && suite)
         }
+        Stmt::Match { subject, cases } => {
+            let head = match_head_fits(asked, subject, cases)?;
+            Ok(head && cases_fit(alloc, profile, cases)?)
+        }
         Stmt::Raise { exc, cause } => raise_fits(asked, exc, cause),
         Stmt::Try {
             body,
@@ -244,6 +253,38 @@ pub fn statements_fit(alloc: Global, profile: Profile, body: &[Stmt]) -> Result<
 {
     for s in body {
         if !statement_fits(alloc, profile, s)? {
+            return Ok(false);
+        }
+    }
+    Ok(true)
+}
+
+/// Whether a case fits.
+#[cycle(statements)]
+#[tactic(auto, using(pytree_node::proofs::Callers::StmtShapes::stmt_shapes))]
+fn case_fits(alloc: Global, profile: Profile, c: &Case) -> Result<bool, AllocError>
+    ensures { IfOk result
+        (λ told. told
+        ≡ (pattern_fits_at (tests_in profile.extent) pattern_levels.AsPattern
+        (case_of c.now).pattern && perhaps_fits (tests_in profile.extent) levels.Expression
+        (optional (case_of c.now).guard) && suite_fits profile (tests_in profile.extent)
+        (stmts (case_of c.now).body))) }
+{
+    let extent = profile.extent;
+    let asked = Asked { alloc, extent };
+    Ok(case_head_fits(asked, &c.pattern, &c.guard)? && suite_fits(alloc, profile, &c.body)?)
+}
+
+/// Whether each of some cases fits.
+#[cycle(statements)]
+#[tactic(auto, using(pytree_node::proofs::Callers::StmtShapes::stmt_shapes))]
+fn cases_fit(alloc: Global, profile: Profile, all: &[Case]) -> Result<bool, AllocError>
+    ensures { IfOk result
+        (λ told. told
+        ≡ cases_fit profile (tests_in profile.extent) (cases (map case_of all.now))) }
+{
+    for c in all {
+        if !case_fits(alloc, profile, c)? {
             return Ok(false);
         }
     }

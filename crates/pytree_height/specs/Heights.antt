@@ -1,6 +1,7 @@
 -- Heights. An expression with no expression directly below it has height 1, any other 1 more than the highest of these; those of its
--- comprehensions, keywords, parameters and their annotations stand directly below it. A statement with no statement inside has height
--- 1, any other 1 more than the highest inside; a handler's body is inside its `try`.
+-- comprehensions, keywords, parameters and their annotations stand directly below it. A pattern counts as an expression: the patterns and
+-- expressions in its fields stand directly below it. A statement with no statement inside has height 1, any other 1 more than the highest
+-- inside; a handler's body is inside its `try`, a case's inside its `match`.
 use Rattle.std.specs.Prelude.{ℕ, ◌+◌, ◌-◌, ◌^◌, max, min, List, [], ◌∷◌, Option}
 use Rattle.pytree_node.specs.Trees
 use Rattle.pytree_node.specs.Trees.{exprs, optional, stmts}
@@ -96,6 +97,26 @@ abbrev pub type_param_heights : List Trees.TypeParam → ℕ
 type_param_heights [] = 0
 type_param_heights (p ∷ rest) = max (type_param_height p) (type_param_heights rest)
 
+-- the height of a pattern
+abbrev mutual
+  pub pattern_height : Trees.Pattern → ℕ
+  pattern_height (Trees.MatchValue value) = height value + 1
+  pattern_height (Trees.MatchSingleton value) = 1
+  pattern_height (Trees.MatchSequence inner) = pattern_heights inner + 1
+  pattern_height (Trees.MatchMapping keys inner rest) = max (list_height keys) (pattern_heights inner) + 1
+  pattern_height (Trees.MatchClass cls inner names named) = max (height cls) (max (pattern_heights inner) (pattern_heights named)) + 1
+  pattern_height (Trees.MatchStar name) = 1
+  pattern_height (Trees.MatchAs inner name) = optional_pattern_height inner + 1
+  pattern_height (Trees.MatchOr inner) = pattern_heights inner + 1
+
+  pub pattern_heights : Trees.Patterns → ℕ
+  pattern_heights Trees.no_pattern = 0
+  pattern_heights (Trees.a_pattern p ps) = max (pattern_height p) (pattern_heights ps)
+
+  pub optional_pattern_height : Trees.OptionalPattern → ℕ
+  optional_pattern_height Trees.absent_pattern = 0
+  optional_pattern_height (Trees.present_pattern p) = pattern_height p
+
 -- the height of a statement
 abbrev mutual
   pub stmt_height : Trees.Stmt → ℕ
@@ -108,6 +129,7 @@ abbrev mutual
   stmt_height (Trees.If test body orelse) = max (stmt_heights body) (stmt_heights orelse) + 1
   stmt_height (Trees.With items body) = stmt_heights body + 1
   stmt_height (Trees.AsyncWith items body) = stmt_heights body + 1
+  stmt_height (Trees.Match subject cases) = case_heights cases + 1
   stmt_height (Trees.Try body handlers orelse finalbody) =
       max (stmt_heights body) (max (handler_heights handlers) (max (stmt_heights orelse) (stmt_heights finalbody))) + 1
   stmt_height (Trees.TryStar body handlers orelse finalbody) =
@@ -118,11 +140,15 @@ abbrev mutual
   stmt_heights Trees.no_stmt = 0
   stmt_heights (Trees.a_stmt s ss) = max (stmt_height s) (stmt_heights ss)
 
+  pub case_heights : Trees.Cases → ℕ
+  case_heights Trees.no_case = 0
+  case_heights (Trees.a_case pattern guard body cs) = max (stmt_heights body) (case_heights cs)
+
   pub handler_heights : Trees.Handlers → ℕ
   handler_heights Trees.no_handler = 0
   handler_heights (Trees.a_handler class name body hs) = max (stmt_heights body) (handler_heights hs)
 
--- the height of the highest expression in a statement, or 0
+-- the height of the highest expression or pattern in a statement, or 0
 abbrev mutual
   pub highest_in : Trees.Stmt → ℕ
   highest_in (Trees.FunctionDef name args body decorators returns parameters) =
@@ -143,6 +169,7 @@ abbrev mutual
   highest_in (Trees.If test body orelse) = max (height test) (max (highest_in_all body) (highest_in_all orelse))
   highest_in (Trees.With items body) = max (item_heights items) (highest_in_all body)
   highest_in (Trees.AsyncWith items body) = max (item_heights items) (highest_in_all body)
+  highest_in (Trees.Match subject cases) = max (height subject) (highest_in_cases cases)
   highest_in (Trees.Raise exc cause) = max (option_height exc) (option_height cause)
   highest_in (Trees.Assert test msg) = max (height test) (option_height msg)
   highest_in (Trees.Try body handlers orelse finalbody) =
@@ -156,11 +183,16 @@ abbrev mutual
   highest_in_all Trees.no_stmt = 0
   highest_in_all (Trees.a_stmt s ss) = max (highest_in s) (highest_in_all ss)
 
+  pub highest_in_cases : Trees.Cases → ℕ
+  highest_in_cases Trees.no_case = 0
+  highest_in_cases (Trees.a_case pattern guard body cs) =
+      max (max (pattern_height pattern) (max (option_height guard) (highest_in_all body))) (highest_in_cases cs)
+
   pub highest_in_handlers : Trees.Handlers → ℕ
   highest_in_handlers Trees.no_handler = 0
   highest_in_handlers (Trees.a_handler class name body hs) = max (max (option_height class) (highest_in_all body)) (highest_in_handlers hs)
 
--- the heights of a module: of its highest expression and of its highest statement, 0 where it has none
+-- the heights of a module: of its highest expression or pattern and of its highest statement, 0 where it has none
 abbrev pub expression_height : Trees.Module → ℕ
 expression_height m = highest_in_all (stmts m.body)
 

@@ -1,16 +1,19 @@
-//! The highest expressions of statements.
+//! The highest expressions and patterns of statements.
 
 ghost use Rattle.std.specs.Prelude.{◌≡◌, map};
-ghost use Rattle.pytree_node.specs.TreeOf.{handler_of, item_of, option_of, stmt_of, type_param_of};
-ghost use Rattle.pytree_node.specs.Trees.{handlers, stmts};
-ghost use Rattle.pytree_height.specs.Heights.{capped, highest_in, highest_in_all, highest_in_handlers};
+ghost use Rattle.pytree_node.specs.TreeOf.{case_of, handler_of, item_of, option_of, stmt_of};
+ghost use Rattle.pytree_node.specs.TreeOf.{type_param_of};
+ghost use Rattle.pytree_node.specs.Trees.{cases, handlers, stmts};
+ghost use Rattle.pytree_height.specs.Heights.{capped, highest_in, highest_in_all, highest_in_cases};
+ghost use Rattle.pytree_height.specs.Heights.{highest_in_handlers};
 ghost use Rattle.pytree_height.specs.Heights.{item_heights, option_height, type_param_height};
 ghost use Rattle.pytree_height.specs.Heights.{type_param_heights};
 
 use crate::expressions::{
     boxed_height, expr_height, exprs_height, keywords_height, parameters_height,
 };
-use pytree_node::{Expr, Handler, Item, Stmt, TypeParam};
+use crate::patterns::pattern_height;
+use pytree_node::{Case, Expr, Handler, Item, Stmt, TypeParam};
 
 /// The height of an expression that may be absent.
 #[tactic(auto, using(crate::proofs::CapLemmas::caps))]
@@ -60,7 +63,7 @@ fn type_params_height(parameters: &[TypeParam]) -> u64
     most
 }
 
-/// The height of the highest expression of a statement, or 0.
+/// The height of the highest expression or pattern of a statement, or 0.
 #[cycle(highest_in)]
 #[tactic(auto, using(pytree_node::proofs::Callers::StmtShapes::stmt_shapes, crate::proofs::CapLemmas::caps))]
 fn highest_in(s: &Stmt) -> u64
@@ -144,6 +147,7 @@ fn highest_in(s: &Stmt) -> u64
         }
         Stmt::With { items, body } => items_height(items).max(highest_in_all(body)),
         Stmt::AsyncWith { items, body } => items_height(items).max(highest_in_all(body)),
+        Stmt::Match { subject, cases } => expr_height(subject).max(highest_in_cases(cases)),
         Stmt::Raise { exc, cause } => option_height(exc).max(option_height(cause)),
         Stmt::Try {
             body,
@@ -175,7 +179,7 @@ fn highest_in(s: &Stmt) -> u64
     }
 }
 
-/// The height of the highest expression of some statements, or 0.
+/// The height of the highest expression or pattern of some statements, or 0.
 #[cycle(highest_in)]
 #[tactic(auto, using(crate::proofs::CapLemmas::caps))]
 pub(crate) fn highest_in_all(body: &[Stmt]) -> u64
@@ -188,7 +192,21 @@ pub(crate) fn highest_in_all(body: &[Stmt]) -> u64
     most
 }
 
-/// The height of the highest expression of some handlers, or 0.
+/// The height of the highest expression or pattern of some `case`s, or 0.
+#[cycle(highest_in)]
+#[tactic(auto, using(pytree_node::proofs::Callers::StmtShapes::stmt_shapes, crate::proofs::CapLemmas::caps))]
+fn highest_in_cases(all: &[Case]) -> u64
+    ensures { result ≡ capped (highest_in_cases (cases (map case_of all.now))) }
+{
+    let mut most: u64 = 0;
+    for c in all {
+        let inner = option_height(&c.guard).max(highest_in_all(&c.body));
+        most = most.max(pattern_height(&c.pattern).max(inner));
+    }
+    most
+}
+
+/// The height of the highest expression or pattern of some handlers, or 0.
 #[cycle(highest_in)]
 #[tactic(auto, using(pytree_node::proofs::Callers::StmtShapes::stmt_shapes, crate::proofs::CapLemmas::caps))]
 fn highest_in_handlers(all: &[Handler]) -> u64

@@ -7,6 +7,7 @@
 mod expressions;
 mod highest;
 mod modules;
+mod patterns;
 mod statements;
 
 pub use modules::{Heights, height};

@@ -11,11 +11,11 @@ use pytree_node::Module;
 /// How high the expressions and the statements of a tree are.
 ///
 /// An expression with no expression directly below it has height 1, another 1 more than the
-/// highest of these. A statement with no statement inside has height 1, another 1 more than the
-/// highest inside; an `elif` is an `if` inside the one before.
+/// highest of these; a pattern counts as an expression. A statement with no statement inside has
+/// height 1, another 1 more than the highest inside; an `elif` is an `if` inside the one before.
 #[derive(Clone, Copy, Debug, PartialEq, Eq)]
 pub struct Heights {
-    /// The height of the highest expression, 0 where there is none.
+    /// The height of the highest expression or pattern, 0 where there is none.
     pub expression: u64,
     /// The height of the highest statement, 0 where there is none.
     pub statement: u64,

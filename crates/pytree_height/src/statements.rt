@@ -1,12 +1,13 @@
 //! The heights of statements.
 
 ghost use Rattle.std.specs.Prelude.{◌≡◌, map};
-ghost use Rattle.pytree_height.specs.Heights.{capped, handler_heights, stmt_height, stmt_heights};
-ghost use Rattle.pytree_node.specs.TreeOf.{handler_of, stmt_of};
-ghost use Rattle.pytree_node.specs.Trees.{handlers, stmts};
+ghost use Rattle.pytree_height.specs.Heights.{capped, case_heights, handler_heights, stmt_height};
+ghost use Rattle.pytree_height.specs.Heights.{stmt_heights};
+ghost use Rattle.pytree_node.specs.TreeOf.{case_of, handler_of, stmt_of};
+ghost use Rattle.pytree_node.specs.Trees.{cases, handlers, stmts};
 
 use crate::modules::one_more;
-use pytree_node::{Handler, Stmt};
+use pytree_node::{Case, Handler, Stmt};
 
 /// The height of a statement.
 #[cycle(statement_height)]
@@ -32,6 +33,7 @@ pub(crate) fn statement_height(s: &Stmt) -> u64
         }
         Stmt::With { body, .. } => one_more(statements_height(body)),
         Stmt::AsyncWith { body, .. } => one_more(statements_height(body)),
+        Stmt::Match { cases, .. } => one_more(cases_height(cases)),
         Stmt::Try {
             body,
             handlers,
@@ -78,6 +80,19 @@ pub(crate) fn statements_height(body: &[Stmt]) -> u64
     let mut most: u64 = 0;
     for s in body {
         most = most.max(statement_height(s));
+    }
+    most
+}
+
+/// The height of the highest statement in some `case`s.
+#[cycle(statement_height)]
+#[tactic(auto, using(pytree_node::proofs::Callers::StmtShapes::stmt_shapes, crate::proofs::CapLemmas::caps))]
+fn cases_height(all: &[Case]) -> u64
+    ensures { result ≡ capped (case_heights (cases (map case_of all.now))) }
+{
+    let mut most: u64 = 0;
+    for c in all {
+        most = most.max(statements_height(&c.body));
     }
     most
 }

@@ -11,10 +11,13 @@ use Rattle.pytree_node.specs.declared.expressions.Keyword as given_keyword
 use Rattle.pytree_node.specs.declared.expressions.Comprehension as given_comprehension
 use Rattle.pytree_node.specs.declared.expressions.Arg as given_arg
 use Rattle.pytree_node.specs.declared.expressions.Arguments as given_arguments
+use Rattle.pytree_node.specs.declared.patterns.Pattern as given_pattern
+use Rattle.pytree_node.specs.declared.patterns.Pattern.TheOpen as pattern_layer
 use Rattle.pytree_node.specs.declared.statements.Alias as given_alias
 use Rattle.pytree_node.specs.declared.statements.Item as given_item
 use Rattle.pytree_node.specs.declared.statements.Stmt as given_stmt
 use Rattle.pytree_node.specs.declared.statements.Stmt.TheOpen as stmt_layer
+use Rattle.pytree_node.specs.declared.statements.Case as given_case
 use Rattle.pytree_node.specs.declared.statements.Handler as given_handler
 use Rattle.pytree_node.specs.declared.statements.TypeParam as given_type_param
 use Rattle.pytree_node.specs.declared.statements.TypeParam.TheVariants as type_param
@@ -22,7 +25,7 @@ use Rattle.pytree_node.specs.declared.modules.Module as given_module
 use Rattle.pytree_node.specs.Trees as plain
 use Rattle.pytree_node.specs.Values as value
 use Rattle.pytree_node.specs.Values.{Value}
-use Rattle.pytree_node.specs.Trees.{exprs, optional, optionals, comprehensions, keywords, args, optional_arg, stmts, handlers}
+use Rattle.pytree_node.specs.Trees.{exprs, optional, optionals, comprehensions, keywords, args, optional_arg, patterns, optional_pattern, stmts, cases, handlers}
 
 -- the value of a constant
 abbrev pub constant_of : given_constant.Constant → Value
@@ -128,8 +131,29 @@ type_param_of (type_param.TypeVar name bound) = plain.TypeVar name (option_of bo
 type_param_of (type_param.ParamSpec name) = plain.ParamSpec name
 type_param_of (type_param.TypeVarTuple name) = plain.TypeVarTuple name
 
+-- the value of a pattern whose inner patterns are values
+abbrev pub pattern_step : pattern_layer.Pattern-F plain.Pattern → plain.Pattern
+pattern_step (pattern_layer.MatchValue value) = plain.MatchValue (tree_of value)
+pattern_step (pattern_layer.MatchSingleton value) = plain.MatchSingleton (constant_of value)
+pattern_step (pattern_layer.MatchSequence inner) = plain.MatchSequence (patterns inner.items)
+pattern_step (pattern_layer.MatchMapping keys inner rest) = plain.MatchMapping (map tree_of keys.items) (patterns inner.items) rest
+pattern_step (pattern_layer.MatchClass cls inner names named) =
+    plain.MatchClass (tree_of cls.value) (patterns inner.items) names.items (patterns named.items)
+pattern_step (pattern_layer.MatchStar name) = plain.MatchStar name
+pattern_step (pattern_layer.MatchAs inner name) = plain.MatchAs (optional_pattern (boxed inner)) name
+pattern_step (pattern_layer.MatchOr inner) = plain.MatchOr (patterns inner.items)
+
+-- the value of a pattern
+unfoldable pub pattern_of : given_pattern.Pattern → plain.Pattern
+pattern_of = given_pattern.fold-Pattern plain.Pattern pattern_step
+
+-- the value of a pattern that may be absent
+abbrev pub boxed_pattern_of : Option (Box given_pattern.Pattern Global) → Option plain.Pattern
+boxed_pattern_of None = None
+boxed_pattern_of (Some b) = Some (pattern_of b.value)
+
 -- the value of a statement whose inner statements are values
-abbrev pub stmt_step : stmt_layer.Stmt-F plain.Stmt plain.Handler → plain.Stmt
+abbrev pub stmt_step : stmt_layer.Stmt-F plain.Stmt plain.Case plain.Handler → plain.Stmt
 stmt_step (stmt_layer.FunctionDef name args body decorators returns parameters) =
     plain.FunctionDef name (arguments_of args.value) (stmts body.items) (map tree_of decorators.items) (boxed_of returns)
     (map type_param_of parameters.items)
@@ -151,6 +175,7 @@ stmt_step (stmt_layer.While test body orelse) = plain.While (tree_of test) (stmt
 stmt_step (stmt_layer.If test body orelse) = plain.If (tree_of test) (stmts body.items) (stmts orelse.items)
 stmt_step (stmt_layer.With items body) = plain.With (map item_of items.items) (stmts body.items)
 stmt_step (stmt_layer.AsyncWith items body) = plain.AsyncWith (map item_of items.items) (stmts body.items)
+stmt_step (stmt_layer.Match subject clauses) = plain.Match (tree_of subject) (cases clauses.items)
 stmt_step (stmt_layer.Raise exc cause) = plain.Raise (option_of exc) (option_of cause)
 stmt_step (stmt_layer.Try body caught orelse finalbody) = plain.Try (stmts body.items) (handlers caught.items) (stmts orelse.items) (stmts finalbody.items)
 stmt_step (stmt_layer.TryStar body caught orelse finalbody) = plain.TryStar (stmts body.items) (handlers caught.items) (stmts orelse.items) (stmts finalbody.items)
@@ -164,15 +189,21 @@ stmt_step stmt_layer.Pass = plain.Pass
 stmt_step stmt_layer.Break = plain.Break
 stmt_step stmt_layer.Continue = plain.Continue
 
-abbrev pub handler_step : stmt_layer.Handler-F plain.Stmt plain.Handler → plain.Handler
+abbrev pub case_step : stmt_layer.Case-F plain.Stmt plain.Case plain.Handler → plain.Case
+case_step c = record { pattern = pattern_of c.pattern; guard = option_of c.guard; body = c.body.items }
+
+abbrev pub handler_step : stmt_layer.Handler-F plain.Stmt plain.Case plain.Handler → plain.Handler
 handler_step h = record { class = option_of h.class; name = h.name; body = h.body.items }
 
--- the value of a statement, of a handler, and of a module
+-- the value of a statement, of a case, of a handler, and of a module
 unfoldable pub stmt_of : given_stmt.Stmt → plain.Stmt
-stmt_of = given_stmt.fold-Stmt plain.Stmt plain.Handler stmt_step handler_step
+stmt_of = given_stmt.fold-Stmt plain.Stmt plain.Case plain.Handler stmt_step case_step handler_step
+
+unfoldable pub case_of : given_case.Case → plain.Case
+case_of = given_case.fold-Case plain.Stmt plain.Case plain.Handler stmt_step case_step handler_step
 
 unfoldable pub handler_of : given_handler.Handler → plain.Handler
-handler_of = given_handler.fold-Handler plain.Stmt plain.Handler stmt_step handler_step
+handler_of = given_handler.fold-Handler plain.Stmt plain.Case plain.Handler stmt_step case_step handler_step
 
 abbrev pub module_of : given_module.Module → plain.Module
 module_of m = record { body = map stmt_of m.body.items }

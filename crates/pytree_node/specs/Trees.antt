@@ -171,6 +171,42 @@ pub data TypeParam : Type 0 where
   TypeVarTuple : Identifier → TypeParam
 
 mutual
+  -- a pattern of a `match` statement: pattern
+  pub data Pattern : Type 0 where
+    -- MatchValue(expr value)
+    MatchValue : Expr → Pattern
+    -- MatchSingleton(constant value)
+    MatchSingleton : Value → Pattern
+    -- MatchSequence(pattern* patterns)
+    MatchSequence : Patterns → Pattern
+    -- MatchMapping(expr* keys, pattern* patterns, identifier? rest)
+    MatchMapping : List Expr → Patterns → Option Identifier → Pattern
+    -- MatchClass(expr cls, pattern* patterns, identifier* kwd_attrs, pattern* kwd_patterns)
+    MatchClass : Expr → Patterns → List Identifier → Patterns → Pattern
+    -- MatchStar(identifier? name)
+    MatchStar : Option Identifier → Pattern
+    -- MatchAs(pattern? pattern, identifier? name)
+    MatchAs : OptionalPattern → Option Identifier → Pattern
+    -- MatchOr(pattern* patterns)
+    MatchOr : Patterns → Pattern
+
+  pub data Patterns : Type 0 where
+    no_pattern : Patterns
+    a_pattern : Pattern → Patterns → Patterns
+
+  pub data OptionalPattern : Type 0 where
+    absent_pattern : OptionalPattern
+    present_pattern : Pattern → OptionalPattern
+
+abbrev pub patterns : List Pattern → Patterns
+patterns [] = no_pattern
+patterns (p ∷ ps) = a_pattern p (patterns ps)
+
+abbrev pub optional_pattern : Option Pattern → OptionalPattern
+optional_pattern None = absent_pattern
+optional_pattern (Some p) = present_pattern p
+
+mutual
   pub data Stmt : Type 0 where
     -- FunctionDef(identifier name, arguments args, stmt* body, expr* decorator_list, expr? returns, string? type_comment, type_param* type_params)
     FunctionDef : Identifier → Arguments → Stmts → List Expr → Option Expr → List TypeParam → Stmt
@@ -202,6 +238,8 @@ mutual
     With : List Item → Stmts → Stmt
     -- AsyncWith(withitem* items, stmt* body, string? type_comment)
     AsyncWith : List Item → Stmts → Stmt
+    -- Match(expr subject, match_case* cases)
+    Match : Expr → Cases → Stmt
     -- Raise(expr? exc, expr? cause)
     Raise : Option Expr → Option Expr → Stmt
     -- Try(stmt* body, excepthandler* handlers, stmt* orelse, stmt* finalbody)
@@ -231,6 +269,11 @@ mutual
     no_stmt : Stmts
     a_stmt : Stmt → Stmts → Stmts
 
+  pub data Cases : Type 0 where
+    no_case : Cases
+    -- match_case(pattern pattern, expr? guard, stmt* body)
+    a_case : Pattern → Option Expr → Stmts → Cases → Cases
+
   pub data Handlers : Type 0 where
     no_handler : Handlers
     -- ExceptHandler(expr? type, identifier? name, stmt* body)
@@ -239,6 +282,16 @@ mutual
 abbrev pub stmts : List Stmt → Stmts
 stmts [] = no_stmt
 stmts (s ∷ ss) = a_stmt s (stmts ss)
+
+-- a `case` of a `match`
+pub record Case : Type 0 where
+  pub pattern : Pattern
+  pub guard : Option Expr
+  pub body : List Stmt
+
+abbrev pub cases : List Case → Cases
+cases [] = no_case
+cases (c ∷ cs) = a_case c.pattern c.guard (stmts c.body) (cases cs)
 
 -- an `except` clause of a `try`
 pub record Handler : Type 0 where

@@ -3,11 +3,11 @@
 //! Each class is a variant or a struct, with the names and the order of fields that `ast` gives
 //! it. A few words differ, since they are words of Rust or of its library: the class `In` is
 //! [`Comparison::Within`], `ExceptHandler` is [`Handler`] and its field `type` is `class`,
-//! `withitem` is [`Item`]. The fields `type_comment` and `type_ignores` are always empty in `ast`
+//! `withitem` is [`Item`], `match_case` is [`Case`]. The fields `type_comment` and `type_ignores` are always empty in `ast`
 //! and don't stand here, nor do places.
 //!
 //! A tree is of Python 3.11 or of 3.12 ([`Profile`]): in one of 3.11 all lists `type_params` are
-//! empty, and no statement is a `TypeAlias`. Trees are plain data: nothing here says that one is
+//! empty, and no statement is a `TypeAlias`. No tree of the plain language has a `Match`. Trees are plain data: nothing here says that one is
 //! well formed.
 //!
 //! The tree of `x = 1`:
@@ -41,6 +41,7 @@ mod identifiers;
 mod integers;
 mod modules;
 mod operators;
+mod patterns;
 mod points;
 mod profiles;
 mod statements;
@@ -51,6 +52,7 @@ pub use identifiers::Identifier;
 pub use integers::Integer;
 pub use modules::Module;
 pub use operators::{BoolOperator, Comparison, Context, Operator, UnaryOperator};
+pub use patterns::Pattern;
 pub use points::Points;
 pub use profiles::{Extent, Profile, Version};
-pub use statements::{Alias, Handler, Item, Stmt, TypeParam};
+pub use statements::{Alias, Case, Handler, Item, Stmt, TypeParam};

@@ -5,6 +5,7 @@
 use crate::expressions::{Arguments, Expr, Keyword};
 use crate::identifiers::Identifier;
 use crate::operators::Operator;
+use crate::patterns::Pattern;
 
 /// A statement: the class `stmt`. It takes 160 bytes.
 ///
@@ -108,6 +109,11 @@ pub enum Stmt {
         items: Vec<Item>,
         body: Vec<Stmt>,
     },
+    /// `match`, of the whole language.
+    Match {
+        subject: Expr,
+        cases: Vec<Case>,
+    },
     /// `raise`, `raise a`, `raise a from b`.
     Raise {
         exc: Option<Expr>,
@@ -161,6 +167,15 @@ pub enum Stmt {
     Break,
     /// `continue`.
     Continue,
+}
+
+/// A `case` with its block: the class `match_case`.
+#[derive(Drop)]
+#[cycle(statements)]
+pub struct Case {
+    pub pattern: Pattern,
+    pub guard: Option<Expr>,
+    pub body: Vec<Stmt>,
 }
 
 /// An `except` with its block: the class `ExceptHandler`. `class` is its field `type`.

@@ -1,4 +1,5 @@
 mod ExprClasses
+mod PatternClasses
 mod StmtClasses
 mod SameLists
 mod Members

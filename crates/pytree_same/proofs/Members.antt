@@ -1,9 +1,9 @@
 -- The lists and options within a node are equal where those that they are made of are.
 --
--- Carries: same_expr, same_stmt and what they compare.
+-- Carries: same_expr, same_pattern, same_stmt and what they compare.
 use Rattle.std.proofs.Common.{◌≡◌, List, [], ◌∷◌, Option, None, Some, refl, ap, sym, ◌∙◌}
 use Rattle.pytree_node.specs.Trees as plain
-use Rattle.pytree_node.specs.Trees.{exprs, optional, optionals, comprehensions, keywords, args, stmts, handlers}
+use Rattle.pytree_node.specs.Trees.{exprs, optional, optionals, comprehensions, keywords, args, patterns, optional_pattern, stmts, cases, handlers}
 
 -- what makes the list, or the option, of which the first is made
 abbrev of_exprs : plain.Exprs → List plain.Expr
@@ -31,9 +31,21 @@ abbrev of_args : plain.Args → List plain.Arg
 of_args plain.no_arg = []
 of_args (plain.an_arg a rest) = a ∷ of_args rest
 
+abbrev of_patterns : plain.Patterns → List plain.Pattern
+of_patterns plain.no_pattern = []
+of_patterns (plain.a_pattern p ps) = p ∷ of_patterns ps
+
+abbrev of_optional_pattern : plain.OptionalPattern → Option plain.Pattern
+of_optional_pattern plain.absent_pattern = None
+of_optional_pattern (plain.present_pattern p) = Some p
+
 abbrev of_stmts : plain.Stmts → List plain.Stmt
 of_stmts plain.no_stmt = []
 of_stmts (plain.a_stmt s ss) = s ∷ of_stmts ss
+
+abbrev of_cases : plain.Cases → List plain.Case
+of_cases plain.no_case = []
+of_cases (plain.a_case pattern guard body cs) = record { pattern = pattern; guard = guard; body = of_stmts body } ∷ of_cases cs
 
 abbrev of_handlers : plain.Handlers → List plain.Handler
 of_handlers plain.no_handler = []
@@ -64,9 +76,21 @@ back_args : (xs : List plain.Arg) → of_args (args xs) ≡ xs
 back_args [] = refl
 back_args (x ∷ xs) = ap (λ z. x ∷ z) (back_args xs)
 
+back_patterns : (xs : List plain.Pattern) → of_patterns (patterns xs) ≡ xs
+back_patterns [] = refl
+back_patterns (x ∷ xs) = ap (λ z. x ∷ z) (back_patterns xs)
+
+back_optional_pattern : (o : Option plain.Pattern) → of_optional_pattern (optional_pattern o) ≡ o
+back_optional_pattern None = refl
+back_optional_pattern (Some p) = refl
+
 back_stmts : (xs : List plain.Stmt) → of_stmts (stmts xs) ≡ xs
 back_stmts [] = refl
 back_stmts (x ∷ xs) = ap (λ z. x ∷ z) (back_stmts xs)
+
+back_cases : (xs : List plain.Case) → of_cases (cases xs) ≡ xs
+back_cases [] = refl
+back_cases (x ∷ xs) = (λ i. record { pattern = x.pattern; guard = x.guard; body = back_stmts x.body i } ∷ back_cases xs i)
 
 back_handlers : (xs : List plain.Handler) → of_handlers (handlers xs) ≡ xs
 back_handlers [] = refl
@@ -90,8 +114,17 @@ keywords_same xs ys e = sym (back_keywords xs) ∙ ap of_keywords e ∙ back_key
 pub args_same : (xs ys : List plain.Arg) → args xs ≡ args ys → xs ≡ ys
 args_same xs ys e = sym (back_args xs) ∙ ap of_args e ∙ back_args ys
 
+pub patterns_same : (xs ys : List plain.Pattern) → patterns xs ≡ patterns ys → xs ≡ ys
+patterns_same xs ys e = sym (back_patterns xs) ∙ ap of_patterns e ∙ back_patterns ys
+
+pub optional_pattern_same : (o p : Option plain.Pattern) → optional_pattern o ≡ optional_pattern p → o ≡ p
+optional_pattern_same o p e = sym (back_optional_pattern o) ∙ ap of_optional_pattern e ∙ back_optional_pattern p
+
 pub stmts_same : (xs ys : List plain.Stmt) → stmts xs ≡ stmts ys → xs ≡ ys
 stmts_same xs ys e = sym (back_stmts xs) ∙ ap of_stmts e ∙ back_stmts ys
+
+pub cases_same : (xs ys : List plain.Case) → cases xs ≡ cases ys → xs ≡ ys
+cases_same xs ys e = sym (back_cases xs) ∙ ap of_cases e ∙ back_cases ys
 
 pub handlers_same : (xs ys : List plain.Handler) → handlers xs ≡ handlers ys → xs ≡ ys
 handlers_same xs ys e = sym (back_handlers xs) ∙ ap of_handlers e ∙ back_handlers ys
@@ -99,4 +132,6 @@ handlers_same xs ys e = sym (back_handlers xs) ∙ ap of_handlers e ∙ back_han
 -- what `grind` is given beside the value of each class
 pub ruleset expr_members = (exprs_same, optionals_same, comprehensions_same, keywords_same, args_same)
 
-pub ruleset stmt_members = (stmts_same, handlers_same, keywords_same)
+pub ruleset pattern_members = (patterns_same, optional_pattern_same)
+
+pub ruleset stmt_members = (stmts_same, cases_same, handlers_same, keywords_same)

@@ -11,6 +11,7 @@ use Rattle.pytree_node.specs.declared.expressions.Keyword.{Keyword}
 use Rattle.pytree_node.specs.declared.statements.Alias.{Alias}
 use Rattle.pytree_node.specs.declared.statements.Item.{Item}
 use Rattle.pytree_node.specs.declared.statements.TypeParam.{TypeParam}
+use Rattle.pytree_node.specs.declared.statements.Case.{Case}
 use Rattle.pytree_node.specs.declared.statements.Handler.{Handler}
 use Rattle.pytree_node.specs.declared.statements.Stmt as given
 use Rattle.pytree_node.specs.declared.statements.Stmt.{Stmt}
@@ -19,19 +20,19 @@ use Rattle.pytree_node.specs.declared.statements.Stmt.TheOpen as layer
 use Rattle.pytree_same.proofs.Refuted.{refuted}
 use Rattle.pytree_node.specs.Trees as plain
 use Rattle.pytree_node.specs.Trees.{Identifier}
-use Rattle.pytree_node.specs.TreeOf.{stmt_of, handler_of, stmt_step, handler_step}
+use Rattle.pytree_node.specs.TreeOf.{stmt_of, case_of, handler_of, stmt_step, case_step, handler_step}
 
 -- one statement, whose inner statements are statements of the program
 abbrev Layer : Type 0
-Layer = layer.Stmt-F Stmt Handler
+Layer = layer.Stmt-F Stmt Case Handler
 
 -- the statement with its inner statements' values in their places
-abbrev valued : Layer → layer.Stmt-F plain.Stmt plain.Handler
-valued = given.map-Stmt Stmt Handler plain.Stmt plain.Handler stmt_of handler_of
+abbrev valued : Layer → layer.Stmt-F plain.Stmt plain.Case plain.Handler
+valued = given.map-Stmt Stmt Case Handler plain.Stmt plain.Case plain.Handler stmt_of case_of handler_of
 
 opened : (s : Stmt) → stmt_of s ≡ stmt_step (valued (given.out-Stmt s))
-unfolding stmt_of handler_of
-opened = given.fold_out-Stmt plain.Stmt plain.Handler stmt_step handler_step
+unfolding stmt_of case_of handler_of
+opened = given.fold_out-Stmt plain.Stmt plain.Case plain.Handler stmt_step case_step handler_step
 
 -- it is of the class of this value
 abbrev pub HasClass : plain.Stmt → Stmt → Type 0
@@ -50,6 +51,7 @@ HasClass (plain.While _ _ _) given = (test : Expr) × (body : Vec Stmt Global) �
 HasClass (plain.If _ _ _) given = (test : Expr) × (body : Vec Stmt Global) × (orelse : Vec Stmt Global) × (given ≡ variant.If test body orelse)
 HasClass (plain.With _ _) given = (items : Vec Item Global) × (body : Vec Stmt Global) × (given ≡ variant.With items body)
 HasClass (plain.AsyncWith _ _) given = (items : Vec Item Global) × (body : Vec Stmt Global) × (given ≡ variant.AsyncWith items body)
+HasClass (plain.Match _ _) given = (subject : Expr) × (clauses : Vec Case Global) × (given ≡ variant.Match subject clauses)
 HasClass (plain.Raise _ _) given = (exc : Option Expr) × (cause : Option Expr) × (given ≡ variant.Raise exc cause)
 HasClass (plain.Try _ _ _ _) given = (body : Vec Stmt Global) × (caught : Vec Handler Global) × (orelse : Vec Stmt Global) × (finalbody : Vec Stmt Global) × (given ≡ variant.Try body caught orelse finalbody)
 HasClass (plain.TryStar _ _ _ _) given = (body : Vec Stmt Global) × (caught : Vec Handler Global) × (orelse : Vec Stmt Global) × (finalbody : Vec Stmt Global) × (given ≡ variant.TryStar body caught orelse finalbody)
@@ -80,6 +82,7 @@ layer_has_class (layer.While test body orelse) = (test, body, orelse, refl)
 layer_has_class (layer.If test body orelse) = (test, body, orelse, refl)
 layer_has_class (layer.With items body) = (items, body, refl)
 layer_has_class (layer.AsyncWith items body) = (items, body, refl)
+layer_has_class (layer.Match subject clauses) = (subject, clauses, refl)
 layer_has_class (layer.Raise exc cause) = (exc, cause, refl)
 layer_has_class (layer.Try body caught orelse finalbody) = (body, caught, orelse, finalbody, refl)
 layer_has_class (layer.TryStar body caught orelse finalbody) = (body, caught, orelse, finalbody, refl)

@@ -1,12 +1,13 @@
 //! Whether statements are equal.
 
 ghost use Rattle.std.specs.Prelude.{◌≡◌, ◌↔◌, IsTrue, map};
-ghost use Rattle.pytree_node.specs.TreeOf.{handler_of, stmt_of};
+ghost use Rattle.pytree_node.specs.TreeOf.{case_of, handler_of, stmt_of};
 
 use crate::expressions::{same_arguments, same_expr, same_exprs, same_keywords, same_optional_box};
 use crate::leaves::{same_name, same_names, same_optional_name};
 use crate::parts::{same_aliases, same_items, same_optional_expr, same_type_params};
-use pytree_node::{Handler, Stmt};
+use crate::patterns::same_pattern;
+use pytree_node::{Case, Handler, Stmt};
 
 /// Whether two statements are equal.
 #[cycle(same)]
@@ -252,6 +253,16 @@ fn same_stmt(a: &Stmt, b: &Stmt) -> bool
             };
             same_items(items, other_items) && same_stmts(body, other_body)
         }
+        Stmt::Match { subject, cases } => {
+            let Stmt::Match {
+                subject: other_subject,
+                cases: other_cases,
+            } = b
+            else {
+                return false;
+            };
+            same_expr(subject, other_subject) && same_cases(cases, other_cases)
+        }
         Stmt::Raise { exc, cause } => {
             let Stmt::Raise {
                 exc: other_exc,
@@ -371,6 +382,34 @@ pub fn same_stmts(a: &[Stmt], b: &[Stmt]) -> bool
     }
     for i in 0..a.len() {
         if !same_stmt(&a[i], &b[i]) {
+            return false;
+        }
+    }
+    true
+}
+
+/// Whether two `case`s with their blocks are equal.
+#[cycle(same)]
+#[tactic(auto, using(pytree_node::proofs::Callers::StmtShapes::stmt_shapes, crate::proofs::Members::stmt_members))]
+fn same_case(a: &Case, b: &Case) -> bool
+    ensures { IsTrue result ↔ (case_of a.now ≡ case_of b.now) }
+{
+    same_pattern(&a.pattern, &b.pattern)
+        && same_optional_expr(&a.guard, &b.guard)
+        && same_stmts(&a.body, &b.body)
+}
+
+/// Whether the `case`s are equal, each with its own.
+#[cycle(same)]
+#[tactic(auto, using(pytree_node::proofs::Callers::StmtShapes::stmt_shapes, crate::proofs::Members::stmt_members))]
+fn same_cases(a: &[Case], b: &[Case]) -> bool
+    ensures { IsTrue result ↔ (map case_of a.now ≡ map case_of b.now) }
+{
+    if a.len() != b.len() {
+        return false;
+    }
+    for i in 0..a.len() {
+        if !same_case(&a[i], &b[i]) {
             return false;
         }
     }

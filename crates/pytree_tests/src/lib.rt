@@ -15,6 +15,8 @@ mod expression_dumps;
 #[cfg(test)]
 mod fits;
 #[cfg(test)]
+mod match_dumps;
+#[cfg(test)]
 mod module_dumps;
 #[cfg(test)]
 mod names;

@@ -36,7 +36,7 @@ const FLUSH: Style = Style {
 
 /// Asserts that the pieces of a dump put together are this text. After the last of them there is
 /// nothing.
-fn same_in_pieces(
+pub(crate) fn same_in_pieces(
     rt: &impl Abort,
     alloc: Global,
     tree: &Module,

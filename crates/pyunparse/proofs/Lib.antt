@@ -3,3 +3,4 @@ mod ExpressionParts
 mod StatementParts
 mod Shapes
 mod Texts
+mod PatternLemmas

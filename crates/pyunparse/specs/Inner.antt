@@ -6,3 +6,4 @@ pub mod Lines
 pub mod Members
 pub mod Pairs
 pub mod Parameters
+pub mod PatternParts

@@ -2,24 +2,27 @@
 
 ghost use Rattle.std.specs.Prelude.{◌≡◌, ◌∷◌, [], suc, OnOk, map};
 ghost use Rattle.pygrammar.specs.Lines.{Header, class_head, function_head};
-ghost use Rattle.pytree_node.specs.TreeOf.{arguments_of, boxed_of, handler_of, item_of, keyword_of};
-ghost use Rattle.pytree_node.specs.TreeOf.{stmt_of, tree_of, type_param_of};
+ghost use Rattle.pytree_node.specs.TreeOf.{arguments_of, boxed_of, case_of, handler_of, item_of};
+ghost use Rattle.pytree_node.specs.TreeOf.{keyword_of, stmt_of, tree_of, type_param_of};
 ghost use Rattle.pytree_node.specs.Trees as plain;
-ghost use Rattle.pytree_node.specs.Trees.{handlers, keywords, stmts};
+ghost use Rattle.pytree_node.specs.Trees.{cases, handlers, keywords, stmts};
 ghost use Rattle.pyunparse.specs.Inner.Lines.{Blocked, Wrote, def_lines, elif_lines, for_lines};
-ghost use Rattle.pyunparse.specs.Inner.Lines.{is_if, one_handler, try_lines, with_lines};
+ghost use Rattle.pyunparse.specs.Inner.Lines.{is_if, one_case, one_handler, try_lines, with_lines};
 ghost use Rattle.pyunparse_text.specs.Modules as modules;
 ghost use Rattle.pyunparse_text.specs.Pieces.{piece};
 ghost use Rattle.pyunparse_text.specs.Statements.{header_tokens};
 ghost use Rattle.pyunparse_text.specs.Written as written;
 
 use crate::headers::{
-    write_class_header, write_except_header, write_for_header, write_function_header,
-    write_test_header, write_with_header, write_word_header,
+    write_case_header, write_class_header, write_except_header, write_for_header,
+    write_function_header, write_match_header, write_test_header, write_with_header,
+    write_word_header,
 };
 use crate::lines::{write_decorators, write_line};
 use pytoken::Keyword;
-use pytree_node::{Arguments, Expr, Handler, Identifier, Item, Keyword as Word, Stmt, TypeParam};
+use pytree_node::{
+    Arguments, Case, Expr, Handler, Identifier, Item, Keyword as Word, Stmt, TypeParam,
+};
 use pyunparse_text::text_writer::TextWriter;
 use std::alloc::AllocError;
 
@@ -74,6 +77,7 @@ fn write_stmt(out: &mut TextWriter, s: &Stmt) -> Result<(), AllocError>
         } => write_for(out, true, target, iter, body, orelse),
         Stmt::With { items, body } => write_with(out, false, items, body),
         Stmt::AsyncWith { items, body } => write_with(out, true, items, body),
+        Stmt::Match { subject, cases } => write_match(out, subject, cases),
         Stmt::Try {
             body,
             handlers,
@@ -284,6 +288,55 @@ fn write_handler(out: &mut TextWriter, is_star: bool, handler: &Handler) -> Resu
     out.begin_line()?;
     write_except_header(out, is_star, &handler.class, &handler.name)?;
     write_block(out, &handler.body)
+}
+
+/// Writes a `match` with its cases.
+#[cycle(blocks)]
+fn write_match(out: &mut TextWriter, subject: &Expr, clauses: &[Case]) -> Result<(), AllocError>
+    ensures { OnOk result
+        (Wrote out.old out.new (modules.statement_lines piece out.old.level
+        (plain.Match (tree_of subject.now) (cases (map case_of clauses.now))))) }
+{
+    out.begin_line()?;
+    write_match_header(out, subject)?;
+    write_case_block(out, clauses)
+}
+
+/// Ends the line of a `match`, and writes its cases a level deeper.
+#[cycle(blocks)]
+fn write_case_block(out: &mut TextWriter, clauses: &[Case]) -> Result<(), AllocError>
+    ensures { OnOk result
+        (Blocked out.old out.new
+        (modules.case_lines piece (suc out.old.level) (cases (map case_of clauses.now)))) }
+{
+    out.end_line()?;
+    out.indent()?;
+    write_cases(out, clauses)?;
+    out.dedent();
+    Ok(())
+}
+
+/// Writes the cases of a `match`.
+#[cycle(blocks)]
+fn write_cases(out: &mut TextWriter, clauses: &[Case]) -> Result<(), AllocError>
+    ensures { OnOk result
+        (Wrote out.old out.new
+        (modules.case_lines piece out.old.level (cases (map case_of clauses.now)))) }
+{
+    for case in clauses {
+        write_case(out, case)?;
+    }
+    Ok(())
+}
+
+/// Writes a case of a `match`.
+#[cycle(blocks)]
+fn write_case(out: &mut TextWriter, case: &Case) -> Result<(), AllocError>
+    ensures { OnOk result (Wrote out.old out.new (one_case out.old.level (case_of case.now))) }
+{
+    out.begin_line()?;
+    write_case_header(out, &case.pattern, &case.guard)?;
+    write_block(out, &case.body)
 }
 
 /// Writes a clause that is a keyword and a block, if the block isn't empty.

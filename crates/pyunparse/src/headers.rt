@@ -6,12 +6,13 @@ ghost use Rattle.std.specs.Prelude.{◌≡◌, ◌++◌, ◌∷◌, [], OnOk, ma
 ghost use Rattle.pylex_lexeme.specs.declared.kinds.Exact.TheVariants.{Colon};
 ghost use Rattle.pygrammar.specs.Lines as lines;
 ghost use Rattle.pytree_node.specs.TreeOf.{arguments_of, boxed_of, item_of, keyword_of, option_of};
-ghost use Rattle.pytree_node.specs.TreeOf.{tree_of, type_param_of};
+ghost use Rattle.pytree_node.specs.TreeOf.{pattern_of, tree_of, type_param_of};
 ghost use Rattle.pytree_node.specs.Trees.{exprs, keywords};
 ghost use Rattle.pyunparse_text.specs.Folds.{puts};
 ghost use Rattle.pyunparse.specs.Inner.Lines.{with_colon};
 ghost use Rattle.pyunparse_text.specs.Pieces.{piece, pieces};
 ghost use Rattle.pygrammar.specs.declared.levels.Level.TheVariants as Level;
+ghost use Rattle.pytoken.specs.declared.keywords.Keyword.TheVariants as Key;
 ghost use Rattle.pyunparse_text.specs.Statements as written;
 ghost use Rattle.pyunparse_text.specs.Written.{listed, trailing, word as written_word};
 
@@ -20,15 +21,16 @@ use crate::displays::write_members;
 use crate::expressions::write_expr;
 use crate::imports::write_as;
 use crate::parameters::write_parameters;
+use crate::patterns::write_pattern;
 use crate::statements::{write_behind, write_option};
 use crate::types::write_type_params;
-use pygrammar::Level;
+use pygrammar::{Level, PatternLevel};
 use pylex::Exact;
 use pytoken::Keyword;
-use pytree_node::{Arguments, Expr, Identifier, Item, Keyword as Word, TypeParam};
+use pytree_node::{Arguments, Expr, Identifier, Item, Keyword as Word, Pattern, TypeParam};
 use pyunparse_text::line_brackets::need_brackets;
 use pyunparse_text::marks::{Between, Role};
-use pyunparse_text::tokens::{close, open, put_between, put_name, put_sign, put_word};
+use pyunparse_text::tokens::{close, open, put_between, put_name, put_sign, put_text, put_word};
 use pyunparse_text::writers::Writer;
 use std::alloc::AllocError;
 
@@ -253,5 +255,47 @@ pub(crate) fn write_class_header<W: Writer>(
     put_name(out, name)?;
     write_type_params(out, type_params)?;
     write_bases(out, bases, words)?;
+    put_colon(out)
+}
+
+/// Writes the header of a `match`.
+pub(crate) fn write_match_header<W: Writer>(out: &mut W, subject: &Expr) -> Result<(), AllocError>
+    ensures { OnOk result
+        (out.new ≡ puts W.after out.old
+        (with_colon (lines.match_header (tree_of subject.now)))) }
+{
+    put_text(out, "match", false)?;
+    write_expr(out, Level::Subject, subject)?;
+    put_colon(out)
+}
+
+/// Writes the condition of a `case`, if it has one.
+fn write_guard<W: Writer>(out: &mut W, guard: &Option<Expr>) -> Result<(), AllocError>
+    ensures { OnOk result
+        (out.new ≡ puts W.after out.old
+        (written.behind piece (written_word piece Key.If) Level.Named (option_of guard.now))) }
+{
+    match guard {
+        None => Ok(()),
+        Some(test) => {
+            put_word(out, Keyword::If)?;
+            write_expr(out, Level::Named, test)
+        }
+    }
+}
+
+/// Writes the header of a `case`.
+pub(crate) fn write_case_header<W: Writer>(
+    out: &mut W,
+    pattern: &Pattern,
+    guard: &Option<Expr>,
+) -> Result<(), AllocError>
+    ensures { OnOk result
+        (out.new ≡ puts W.after out.old
+        (with_colon (lines.case_header (pattern_of pattern.now) (option_of guard.now)))) }
+{
+    put_text(out, "case", false)?;
+    write_pattern(out, PatternLevel::Patterns, pattern)?;
+    write_guard(out, guard)?;
     put_colon(out)
 }

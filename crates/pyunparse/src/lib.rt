@@ -19,10 +19,12 @@ mod modules;
 mod operators;
 mod optional;
 mod parameters;
+mod patterns;
 mod statements;
 mod tuples;
 mod types;
 
 pub use expressions::expression_tokens;
 pub use modules::unparse;
+pub use patterns::pattern_tokens;
 pub use pyunparse_text::pieces::Piece;

@@ -15,7 +15,7 @@ use crate::optional::{write_perhaps, write_suffix};
 use pygrammar::Level;
 use pylex::Exact;
 use pytree_node::Expr;
-use pyunparse_text::levels::{element_level, reaches};
+use pyunparse_text::levels::{element_level, reaches, tuple_level};
 use pyunparse_text::marks::{Between, Role};
 use pyunparse_text::sorts::{Sort, sort_of};
 use pyunparse_text::tokens::{close, open, put_sign};
@@ -55,7 +55,7 @@ fn is_elem(place: Level) -> bool
     }
 }
 
-/// Whether the elements of a tuple need no brackets, by the level of the elements.
+/// Whether the elements of a tuple need no brackets, by the level that joins them.
 fn are_bare(elts: &[Expr], place: Level) -> bool
     ensures { result ≡ are_bare (exprs (map tree_of elts.now)) place }
 {
@@ -96,16 +96,17 @@ pub(crate) fn write_tuple<W: Writer>(
         (out.new ≡ puts W.after out.old
         (pieces level (plain.Tuple (exprs (map tree_of elts.now)) c))) }
 {
-    let place = element_level(level, some_named(elts));
+    let named = some_named(elts);
+    let place = tuple_level(level, named);
     let bare = are_bare(elts, place);
     open(out, bare)?;
-    write_members(out, true, Between::Comma, place, elts)?;
+    write_members(out, true, Between::Comma, element_level(level, named), elts)?;
     put_last(out, is_alone(elts, place))?;
     close(out, bare)
 }
 
 /// Writes the comma after an element that stands alone, or nothing.
-fn put_last<W: Writer>(out: &mut W, is_alone: bool) -> Result<(), AllocError>
+pub(crate) fn put_last<W: Writer>(out: &mut W, is_alone: bool) -> Result<(), AllocError>
     ensures { OnOk result (out.new ≡ puts W.after out.old (last is_alone)) }
 {
     if is_alone {

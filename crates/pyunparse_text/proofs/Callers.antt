@@ -1,6 +1,7 @@
 -- What other crates cite: the laws of what a tree is written in.
 pub mod Shortest
 pub mod Read
+pub mod Patterns
 pub mod Modules
 pub mod Texts
 pub mod Law

@@ -4,8 +4,10 @@ mod WorkedRows
 mod WorkedSimple
 mod WorkedBlocks
 mod WorkedTypes
+mod WorkedPatterns
 mod Fewest
 mod PieceLaws
+mod Patterns
 mod Modules
 pub mod Callers
 mod Cases

@@ -6,6 +6,7 @@ pub mod Balanced
 pub mod With
 pub mod Wells
 pub mod Shapes
+pub mod Places
 pub mod Again
 pub mod Law
 pub mod Low

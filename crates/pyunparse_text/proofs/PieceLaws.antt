@@ -11,7 +11,7 @@ pub mod Readable
 pub mod OfTokens
 pub mod Derived
 pub mod Law
-pub mod TypeWord
+pub mod SoftWords
 pub mod LineForms
 pub mod Imports
 pub mod HeaderForms

@@ -1,23 +1,27 @@
 -- What holds of what a tree is written in.
 use Rattle.std.specs.Prelude.{◌≡◌, ◌+◌, ◌≤◌, ◌↔◌, List, [], ◌∷◌, ◌++◌, length, Bool, true, false, ℕ, All, None}
+use Rattle.std.specs.List.{list_all}
 use Rattle.std.specs.Str.{all_scalars, encode_utf8_all}
 use Rattle.pylex.specs.Listing.{Source, in_characters}
 use Rattle.pylex.specs.Laws.{IsLawful}
 use Rattle.pytree_node.specs.declared.profiles.Extent.{Extent}
 use Rattle.pytree_node.specs.declared.profiles.Profile.{Profile}
-use Rattle.pytree_node.specs.Trees.{Expr, Exprs, Keywords, Arguments, Module}
+use Rattle.pytree_node.specs.Values.{Value, Int, Float, Imaginary, Str, Bytes}
+use Rattle.pytree_node.specs.Trees.{Expr, Exprs, Keywords, Arguments, Pattern, Module}
 use Rattle.pytoken.specs.Tokens as Tokens
 use Rattle.pytoken.specs.SourceTokens.{IsOfSource}
-use Rattle.pytoken.specs.Terminals.{Terminal, Gives, fault_of}
-use Rattle.pytree_height.specs.Heights.{height, expression_height, statement_height}
+use Rattle.pytoken.specs.Terminals.{Terminal, Number, Literal, Gives, fault_of}
+use Rattle.pytree_height.specs.Heights.{height, pattern_height, expression_height, statement_height}
 use Rattle.pygrammar.specs.declared.levels.Level.{Level}
 use Rattle.pygrammar.specs.declared.levels.Level.TheVariants.{Stars, Expression, Primary, Atom, Named}
+use Rattle.pygrammar.specs.declared.pattern_levels.PatternLevel.{PatternLevel}
 use Rattle.pygrammar.specs.Grammar.{Derives, Target, SingleTarget, DelTarget, ItemTarget}
+use Rattle.pygrammar.specs.PatternGrammar.{DerivesPattern}
 use Rattle.pygrammar.specs.ArgumentLists.{IsArranged, AreArguments}
 use Rattle.pygrammar.specs.Lines.{Line, line, Form}
-use Rattle.pygrammar.specs.Forms.{FormOf}
+use Rattle.pygrammar.specs.Forms.{FormAt}
 use Rattle.pygrammar.specs.FormHeights.{form_height}
-use Rattle.pygrammar.specs.Blocks.{Block}
+use Rattle.pygrammar.specs.Blocks.{Block, kind_of, is_case, stands_in_match}
 use Rattle.pygrammar.specs.Refusals as Refusals
 use Rattle.pygrammar.specs.Refusals.{Accepted}
 use Rattle.pygrammar.specs.Reader.{Found, reads}
@@ -26,6 +30,7 @@ use Rattle.pyunparse_text.specs.Spacing.{Piece}
 use Rattle.pyunparse_text.specs.Tokens.{is_written, are_written}
 use Rattle.pyunparse_text.specs.SpacingLaws.{ReadsBack}
 use Rattle.pyunparse_text.specs.Written.{listed, each, by_name, parameters}
+use Rattle.pyunparse_text.specs.WrittenPatterns.{written_pattern}
 use Rattle.pyunparse_text.specs.Terminals.{terminal, terminals}
 use Rattle.pyunparse_text.specs.Pieces.{piece, pieces}
 use Rattle.pyunparse_text.specs.Statements.{item_target}
@@ -64,6 +69,33 @@ ParametersAreShortest = (annotated : Bool) (ts : List Terminal) (a : Arguments) 
 abbrev pub ArgumentsAreShortest : Type 0
 ArgumentsAreShortest = (ts : List Terminal) (es : Exprs) (ks : Keywords) → AreArguments ts (es, ks) → Shortest AreArguments (listed terminal (each terminal Named es ++ by_name terminal ks)) (es, ks)
 
+-- ---- Fewest brackets in patterns.
+
+-- what a NUMBER may stand for
+abbrev pub is_number : Value → Bool
+is_number (Int n) = true
+is_number (Float x) = true
+is_number (Imaginary x) = true
+is_number _ = false
+
+-- what one STRING may stand for
+abbrev pub is_string : Value → Bool
+is_string (Str points unicode) = true
+is_string (Bytes bytes) = true
+is_string _ = false
+
+-- a terminal that a token may be
+abbrev pub may_be_token : Terminal → Bool
+may_be_token (Number v) = is_number v
+may_be_token (Literal v) = is_string v
+may_be_token _ = true
+
+-- A pattern that the grammar gives to some terminals of tokens at a level is written there in terminals that give it back, and in no more of them
+-- than any list has that does. (A NUMBER that stood for None would be a value to the grammar, but is written as the word, which is none.)
+abbrev pub PatternsAreShortest : Type 0
+PatternsAreShortest = (l : PatternLevel) (ts : List Terminal) (p : Pattern) → list_all may_be_token ts ≡ true → DerivesPattern l ts p
+    → Shortest (DerivesPattern l) (written_pattern terminal l p) p
+
 -- ---- Brackets within heights.
 
 -- no place is at Atom
@@ -75,13 +107,19 @@ not_atom _ = true
 abbrev pub BracketsAreWithinHeight : Type 0
 BracketsAreWithinHeight = (l : Level) (e : Expr) → not_atom l ≡ true → brackets (terminals l e) ≤ height e
 
+-- a pattern's, at every level
+abbrev pub PatternBracketsAreWithinHeight : Type 0
+PatternBracketsAreWithinHeight = (l : PatternLevel) (p : Pattern) → brackets (written_pattern terminal l p) ≤ pattern_height p
+
 -- what a tree is written in has the fewest tokens at each place of an expression, and no more nested brackets than the tree is high
 pub record WritingIsShortest : Type 0 where
   pub expressions : ExpressionsAreShortest
   pub targets : TargetsAreShortest
   pub parameters : ParametersAreShortest
   pub arguments : ArgumentsAreShortest
+  pub patterns : PatternsAreShortest
   pub brackets : BracketsAreWithinHeight
+  pub pattern_brackets : PatternBracketsAreWithinHeight
 
 -- ---- Pieces.
 
@@ -109,24 +147,44 @@ abbrev pub ExpressionsAreRead : Type 0
 ExpressionsAreRead = (extent : Extent) (l : Level) (ts : List Terminal) (e : Expr) → All (IsOfToken extent) ts → Derives l ts e
     → AreRead extent (pieces l e) (terminals l e)
 
+-- and for a pattern
+abbrev pub PatternsAreRead : Type 0
+PatternsAreRead = (extent : Extent) (l : PatternLevel) (ts : List Terminal) (p : Pattern) → All (IsOfToken extent) ts → DerivesPattern l ts p
+    → AreRead extent (written_pattern piece l p) (written_pattern terminal l p)
+
 -- ---- Modules.
 
--- the lines have these forms in a version of Python
-pub data HaveForms (profile : Profile) : List (WrittenLine Terminal) → List Line → Type 0 where
-  no_form : HaveForms profile [] []
-  a_form : {l : ℕ} {ts : List Terminal} {f : Form} {ws : List (WrittenLine Terminal)} {xs : List Line}
-      → FormOf profile ts f → HaveForms profile ws xs → HaveForms profile (written_line l ts ∷ ws) (line l f ∷ xs)
+-- the lines have these forms at their places in a version of Python, behind earlier lines, which are given nearest first
+pub data HaveForms (profile : Profile) : List Line → List (WrittenLine Terminal) → List Line → Type 0 where
+  no_form : {earlier : List Line} → HaveForms profile earlier [] []
+  a_form : {earlier : List Line} {l : ℕ} {ts : List Terminal} {f : Form} {ws : List (WrittenLine Terminal)} {xs : List Line}
+      → FormAt profile (stands_in_match l earlier) ts f → HaveForms profile (line l f ∷ earlier) ws xs
+      → HaveForms profile earlier (written_line l ts ∷ ws) (line l f ∷ xs)
 
 -- they have forms, and the statements of these are a module's
 pub record AreModule (profile : Profile) (ws : List (WrittenLine Terminal)) (m : Module) : Type 0 where
   pub forms : List Line
-  pub formed : HaveForms profile ws forms
+  pub formed : HaveForms profile [] ws forms
   pub block : Block 0 forms m.body
 
--- A module that some lines give is given by the lines that it is written in. Lines give one module at most (`pygrammar`'s laws), so these give
--- no other.
+-- terminals that tokens may be
+abbrev pub MayBeTokens : WrittenLine Terminal → Type 0
+MayBeTokens w = list_all may_be_token w.tokens ≡ true
+
+-- A module that some lines of terminals of tokens give is given by the lines that it is written in. Lines give one module at most (`pygrammar`'s
+-- laws), so these give no other.
 abbrev pub ModulesComeBack : Type 0
-ModulesComeBack = (profile : Profile) (ws : List (WrittenLine Terminal)) (m : Module) → AreModule profile ws m → AreModule profile (terminal_lines m) m
+ModulesComeBack = (profile : Profile) (ws : List (WrittenLine Terminal)) (m : Module) → AreModule profile ws m → All MayBeTokens ws
+    → AreModule profile (terminal_lines m) m
+
+-- behind earlier lines each line stands in a `match` exactly where it is the header of a case
+abbrev pub ArePlaced : List Line → List Line → Type 0
+ArePlaced earlier [] = Unit {0}
+ArePlaced earlier (x ∷ xs) = (stands_in_match x.level earlier ≡ is_case (kind_of x.form)) × ArePlaced (x ∷ earlier) xs
+
+-- In a module's lines a line stands in a `match` exactly where it is written as a case.
+abbrev pub CasesStandInMatches : Type 0
+CasesStandInMatches = (profile : Profile) (m : Module) (a : AreModule profile (terminal_lines m) m) → ArePlaced [] a.forms
 
 -- lines give one module at most
 abbrev pub LinesAreOneModule : Type 0
@@ -210,7 +268,9 @@ pub record WritingIsLawful : Type 0 where
   pub shortest : WritingIsShortest
   pub back : ExpressionsComeBack
   pub read : ExpressionsAreRead
+  pub patterns : PatternsAreRead
   pub modules : ModulesComeBack
+  pub cases : CasesStandInMatches
   pub one : LinesAreOneModule
   pub lines : ModulesAreRead
   pub texts : ModuleTextsAreAccepted

@@ -1,6 +1,7 @@
 pub mod Brackets
 pub mod Levels
 pub mod Written
+pub mod WrittenPatterns
 pub mod Terminals
 pub mod Pieces
 pub mod Statements

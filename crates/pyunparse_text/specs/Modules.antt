@@ -3,10 +3,10 @@
 use Rattle.std.specs.Prelude.{ℕ, suc, Bool, true, false, List, [], ◌∷◌, ◌++◌, map}
 use Rattle.pylex_lexeme.specs.declared.kinds.Exact.TheVariants.{Colon, At}
 use Rattle.pytree_node.specs.Trees
-use Rattle.pytree_node.specs.Trees.{Expr, Stmt, Stmts, no_stmt, a_stmt, Handlers, no_handler, a_handler, stmts, Module}
+use Rattle.pytree_node.specs.Trees.{Expr, Stmt, Stmts, no_stmt, a_stmt, Cases, no_case, a_case, Handlers, no_handler, a_handler, stmts, Module}
 use Rattle.pytoken.specs.Terminals.{Terminal}
 use Rattle.pygrammar.specs.declared.levels.Level.TheVariants.{Named}
-use Rattle.pygrammar.specs.Lines.{Header, if_header, elif_header, else_header, loop_header, with_header, try_header, except_header, finally_header, def_header, while_head, for_head, function_head, class_head}
+use Rattle.pygrammar.specs.Lines.{Header, if_header, elif_header, else_header, loop_header, with_header, try_header, except_header, finally_header, def_header, match_header, case_header, while_head, for_head, function_head, class_head}
 use Rattle.pyunparse_text.specs.Spacing.{Piece, Line, lines_text}
 use Rattle.pyunparse_text.specs.Written.{Maker, leading, trailing, written}
 use Rattle.pyunparse_text.specs.Terminals.{terminal}
@@ -47,6 +47,7 @@ module _ {A : Type 0} (make : Maker A) where
     statement_lines l (Trees.FunctionDef x a body ds r ps) = decorators l ds ++ (header l (def_header (function_head false x ps a r)) ∷ lines_of (suc l) body)
     statement_lines l (Trees.AsyncFunctionDef x a body ds r ps) = decorators l ds ++ (header l (def_header (function_head true x ps a r)) ∷ lines_of (suc l) body)
     statement_lines l (Trees.ClassDef x es ks body ds ps) = decorators l ds ++ (header l (def_header (class_head x ps es ks)) ∷ lines_of (suc l) body)
+    statement_lines l (Trees.Match subject cases) = header l (match_header subject) ∷ case_lines (suc l) cases
     statement_lines l s = written_line l (simple_tokens make s) ∷ []
 
     -- the `else` of an If; an `elif` where it is exactly one If
@@ -59,6 +60,10 @@ module _ {A : Type 0} (make : Maker A) where
     pub clause : ℕ → Header → Stmts → List (WrittenLine A)
     clause l h no_stmt = []
     clause l h (a_stmt s ss) = header l h ∷ (statement_lines (suc l) s ++ lines_of (suc l) ss)
+
+    pub case_lines : ℕ → Cases → List (WrittenLine A)
+    case_lines l no_case = []
+    case_lines l (a_case pattern guard body cs) = header l (case_header pattern guard) ∷ (lines_of (suc l) body ++ case_lines l cs)
 
     pub handler_lines : ℕ → Bool → Handlers → List (WrittenLine A)
     handler_lines l star no_handler = []

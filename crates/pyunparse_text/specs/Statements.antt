@@ -9,10 +9,12 @@ use Rattle.pytree_node.specs.Trees
 use Rattle.pytree_node.specs.Trees.{Identifier, Expr, Exprs, no_exprs, an_expr, exprs, Keywords, no_keyword, Alias, Item, TypeParam, TypeVar, ParamSpec, TypeVarTuple, Stmt}
 use Rattle.pytoken.specs.Terminals.{Op, in_form}
 use Rattle.pygrammar.specs.declared.levels.Level.{Level}
-use Rattle.pygrammar.specs.declared.levels.Level.TheVariants.{Value, Stars, Named, Expression, Primary}
-use Rattle.pygrammar.specs.Lines.{Header, if_header, elif_header, else_header, loop_header, with_header, try_header, except_header, finally_header, def_header, while_head, for_head, function_head, class_head}
+use Rattle.pygrammar.specs.declared.levels.Level.TheVariants.{Value, Stars, Named, Expression, Primary, Subject}
+use Rattle.pygrammar.specs.declared.pattern_levels.PatternLevel.TheVariants.{Patterns}
+use Rattle.pygrammar.specs.Lines.{Header, if_header, elif_header, else_header, loop_header, with_header, try_header, except_header, finally_header, def_header, match_header, case_header, while_head, for_head, function_head, class_head}
 use Rattle.pygrammar.specs.DottedNames.{names_in}
-use Rattle.pygrammar.specs.Forms.{type_name}
+use Rattle.pygrammar.specs.Forms.{type_name, match_name, case_name}
+use Rattle.pyunparse_text.specs.WrittenPatterns.{written_pattern}
 use Rattle.pyunparse_text.specs.Written.{Maker, free, word, leading, trailing, tight, enclosed, bracketed, listed, written, each, by_name, parameters}
 
 -- ---- Tables.
@@ -210,3 +212,5 @@ module _ {A : Type 0} (make : Maker A) where
   header_tokens (def_header (function_head b x ps a r)) =
       async b ++ (word make Key.Def ∷ (free make (in_form x) ∷ (type_params ps ++ (enclosed make (tight make LPar) RPar (listed make (parameters make a)) ++ behind (free make (Op RArrow)) Expression r))))
   header_tokens (def_header (class_head x ps es ks)) = word make Key.Class ∷ (free make (in_form x) ∷ (type_params ps ++ bases es ks))
+  header_tokens (match_header e) = free make (in_form match_name) ∷ written make Subject e
+  header_tokens (case_header p g) = free make (in_form case_name) ∷ (written_pattern make Patterns p ++ behind (word make Key.If) Named g)

@@ -1,5 +1,4 @@
 -- Tokens as they are handed out: their kinds, and their texts in UTF-8.
-use Rattle.std.specs.Prelude.{List, map}
 use Rattle.std.specs.Str.{encode_utf8_all}
 use Rattle.std.specs.String.{string_bytes}
 use Rattle.pyunparse_text.specs.Spacing

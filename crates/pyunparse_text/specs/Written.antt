@@ -8,7 +8,7 @@ use Rattle.pytoken.specs.declared.keywords.Keyword.TheVariants as Key
 use Rattle.pytree_node.specs.declared.operators.UnaryOperator.{UnaryOperator}
 use Rattle.pytree_node.specs.declared.operators.Comparison.{Comparison}
 use Rattle.pygrammar.specs.declared.levels.Level.{Level}
-use Rattle.pygrammar.specs.declared.levels.Level.TheVariants.{Value, Stars, StarItem, Named, Expression, Or, Compare, BitOr, Await, Primary, Elem, Slices, Part, Slice}
+use Rattle.pygrammar.specs.declared.levels.Level.TheVariants.{Value, Stars, StarItem, Named, Expression, Or, Compare, BitOr, Await, Primary, Elem, Slices, Part, Slice, Subject}
 use Rattle.pytree_node.specs.Values
 use Rattle.pytree_node.specs.Trees
 use Rattle.pytree_node.specs.Trees.{Expr, Exprs, no_exprs, an_expr, OptionalExpr, absent, present, OptionalExprs, no_optional, an_optional, Comprehensions, no_comprehension, a_comprehension, Keywords, no_keyword, a_keyword, arg, Args, no_arg, an_arg, OptionalArg, absent_arg, present_arg, Arguments, arguments}
@@ -54,12 +54,17 @@ lone_star (an_expr (Trees.Starred e c) no_exprs) = true
 lone_star _ = false
 
 -- The level of a Tuple's elements, by the level of its place, and whether there is a NamedExpr among them. A Tuple is written without
--- brackets as all of Slices, and at Value and Stars if there is none; else its elements are those of a display.
+-- brackets as all of Slices and at Subject, and at Value and Stars if there is none; else its elements are those of a display.
 abbrev pub element_level : Level → Bool → Level
 element_level Slices b = Part
 element_level Value false = StarItem
 element_level Stars false = StarItem
 element_level _ _ = Elem
+
+-- the level by which these elements are joined: those of a subject are those of a display, without its brackets
+abbrev pub tuple_level : Level → Bool → Level
+tuple_level Subject b = Subject
+tuple_level l b = element_level l b
 
 -- a generator that is the only argument of a call has the call's brackets for its own
 abbrev pub lone_generator : Exprs → Keywords → Bool
@@ -124,7 +129,7 @@ module _ {A : Type 0} (make : Maker A) where
   with_comma [] = []
   with_comma (ts ∷ tss) = ts ++ (trailing Comma ∷ listed tss)
 
-  -- the elements of a Tuple, which are of a level; whether they are a Starred alone, which as all of Slices needs no comma
+  -- the elements of a Tuple, joined by a level; whether they are a Starred alone, which as all of Slices needs no comma
   abbrev pub tuple_of : Level → Bool → List (List A) → List A
   tuple_of _ _ [] = bracketed []
   tuple_of Elem _ tss = bracketed (with_comma tss)
@@ -181,7 +186,7 @@ module _ {A : Type 0} (make : Maker A) where
     written l (Trees.Subscript e s c) = fit l Primary (written Primary e ++ enclosed (tight LSqb) RSqb (written Slices s))
     written l (Trees.Name x c) = free (in_form x) ∷ []
     written l (Trees.Constant v) = free (constant_terminal v) ∷ []
-    written l (Trees.Tuple es c) = tuple_of (element_level l (some_named es)) (lone_star es) (each (element_level l (some_named es)) es)
+    written l (Trees.Tuple es c) = tuple_of (tuple_level l (some_named es)) (lone_star es) (each (element_level l (some_named es)) es)
     written l (Trees.GeneratorExp e gs) = bracketed (written Named e ++ clauses gs)
     written l (Trees.ListOf es c) = enclosed (leading LSqb) RSqb (listed (each Elem es))
     written l (Trees.ListComp e gs) = enclosed (leading LSqb) RSqb (written Named e ++ clauses gs)

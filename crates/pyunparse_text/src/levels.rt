@@ -1,11 +1,13 @@
-//! The levels of the grammar: where an expression needs brackets, and the levels of its parts.
+//! The levels of the grammar: where an expression or a pattern needs brackets, and the levels of
+//! its parts.
 
 ghost use Rattle.std.specs.Prelude.{◌≡◌};
 ghost use Rattle.pygrammar.specs.Operators.{below, chain_level};
 ghost use Rattle.pyunparse_text.specs.Levels as levels;
 ghost use Rattle.pyunparse_text.specs.Written as written;
+ghost use Rattle.pyunparse_text.specs.WrittenPatterns as patterns;
 
-use pygrammar::Level;
+use pygrammar::{Level, PatternLevel};
 use pytree_node::{BoolOperator, Operator, UnaryOperator};
 
 /// Whether an expression of one level stands at the place of another without brackets: from
@@ -133,7 +135,7 @@ pub fn star_level(place: Level) -> Level
 }
 
 /// The level of a tuple's elements, by the level of its place and whether there is a `:=` among
-/// them. At that of an element the tuple has brackets.
+/// them.
 pub fn element_level(place: Level, some_named: bool) -> Level
     ensures { result ≡ written.element_level place some_named }
 {
@@ -143,4 +145,27 @@ pub fn element_level(place: Level, some_named: bool) -> Level
         Level::Stars if !some_named => Level::StarItem,
         _ => Level::Elem,
     }
+}
+
+/// The level by which a tuple's elements are joined. At that of an element the tuple has brackets;
+/// at `Subject` it has none, though its elements are those of a display.
+pub fn tuple_level(place: Level, some_named: bool) -> Level
+    ensures { result ≡ written.tuple_level place some_named }
+{
+    match place {
+        Level::Subject => Level::Subject,
+        _ => element_level(place, some_named),
+    }
+}
+
+/// Whether a pattern of one level stands at the place of another without brackets: from
+/// `AsPattern` on inwards all levels are in one chain, and the two outer ones lead into it.
+pub fn pattern_reaches(place: PatternLevel, own: PatternLevel) -> bool
+    ensures { result ≡ patterns.pattern_reaches place own }
+{
+    let rank = own.rank();
+    if rank >= 3 {
+        return place.rank() <= rank;
+    }
+    place.rank() == rank
 }

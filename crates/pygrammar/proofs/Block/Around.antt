@@ -4,11 +4,11 @@
 -- more, for Heights. On: Steps.
 use Rattle.std.proofs.Common.{◌≡◌, ℕ, suc, ◌+◌, ◌<◌, ◌≤◌, List, [], ◌∷◌, ◌++◌, Option, Bool, true, false, cond, refl, ap, ◌∙◌, le_refl, eq-eqb, arith}
 use Rattle.std.specs.Prelude.{nat_lt, ◌==◌}
-use Rattle.pytree_node.specs.Trees.{Expr, Stmt, Handler}
+use Rattle.pytree_node.specs.Trees.{Expr, Stmt, Case, Handler}
 use Rattle.pytoken.specs.Inner.Behind.{behind}
 use Rattle.pygrammar.specs.Lines.{Line, line, header_form, Header}
-use Rattle.pygrammar.specs.Blocks.{Block, Statement, Body, Alternative, Otherwise, Excepts, Ending, Decorators, nothing, and_then, simple_line, if_statement, loop_statement, with_statement, try_finally, try_except, definition_of, inline, indented, an_else, an_elif, no_else, else_clause, no_except, except_clause, no_finally, finally_clause, no_decorator, decorator, Kind, ElifLine, ElseLine, kind_of, header_kind}
-use Rattle.pygrammar.specs.Refusals.{elifs, around}
+use Rattle.pygrammar.specs.Blocks.{Block, Statement, Body, Alternative, Otherwise, Excepts, Cases, Ending, Decorators, nothing, and_then, simple_line, if_statement, loop_statement, with_statement, try_finally, try_except, definition_of, match_statement, inline, indented, an_else, an_elif, no_else, else_clause, no_except, except_clause, no_case, case_clause, no_finally, finally_clause, no_decorator, decorator, Kind, ElifLine, ElseLine, kind_of, header_kind}
+use Rattle.pygrammar.specs.Refusals.{elifs, own, around}
 use Rattle.pygrammar.proofs.Block.Steps.{not_less, is_less}
 
 -- ---- Levels.
@@ -44,6 +44,7 @@ mutual
   statement_from {l} (try_except {xs = xs} {ys = ys} {zs = zs} {ws = ws} p q o e) =
       (le_refl l, headed l xs (ys ++ (zs ++ ws)) (body_from p) (from-append l ys (zs ++ ws) (excepts_from q) (from-append l zs ws (otherwise_from o) (ending_from e))))
   statement_from {l} (definition_of head {ds = ds} {xs = xs} d p) = from-append l ds _ (decorators_from d) (le_refl l, from_lower l xs (body_from p))
+  statement_from {l} (match_statement {x = x} {xs = xs} p) = (le_refl l, from_lower l (x ∷ xs) (cases_from p))
 
   pub body_from : {l : ℕ} {suite : Option (List Stmt)} {xs : List Line} {ss : List Stmt} → Body l suite xs ss → AreFrom (suc l) xs
   body_from inline = tt
@@ -61,6 +62,10 @@ mutual
   excepts_from no_except = tt
   excepts_from {l} (except_clause {xs = xs} {ys = ys} p q) = (le_refl l, headed l xs ys (body_from p) (excepts_from q))
 
+  pub cases_from : {l : ℕ} {xs : List Line} {cs : List Case} → Cases l xs cs → AreFrom l xs
+  cases_from no_case = tt
+  cases_from {l} (case_clause {xs = xs} {ys = ys} p q) = (le_refl l, headed l xs ys (body_from p) (cases_from q))
+
   pub ending_from : {l : ℕ} {xs : List Line} {ss : List Stmt} → Ending l xs ss → AreFrom l xs
   ending_from no_finally = tt
   ending_from {l} (finally_clause {xs = xs} p) = (le_refl l, from_lower l xs (body_from p))
@@ -74,11 +79,11 @@ mutual
 -- a line that is no deeper than its header
 pub around_past : (l : ℕ) (x : Line) (earlier : List Line) → l ≤ x.level → around l (x ∷ earlier) ≡ around l earlier
 around_past l x earlier h =
-    ap (λ b. cond b (around x.level earlier + (elifs (kind_of x.form) x.level earlier + 1)) (around l earlier)) (not_less x.level l h)
+    ap (λ b. cond b (around x.level earlier + (elifs (kind_of x.form) x.level earlier + own (kind_of x.form))) (around l earlier)) (not_less x.level l h)
 
-pub around_inside : (l : ℕ) (x : Line) (earlier : List Line) → x.level < l → around l (x ∷ earlier) ≡ around x.level earlier + (elifs (kind_of x.form) x.level earlier + 1)
+pub around_inside : (l : ℕ) (x : Line) (earlier : List Line) → x.level < l → around l (x ∷ earlier) ≡ around x.level earlier + (elifs (kind_of x.form) x.level earlier + own (kind_of x.form))
 around_inside l x earlier h =
-    ap (λ b. cond b (around x.level earlier + (elifs (kind_of x.form) x.level earlier + 1)) (around l earlier)) (is_less x.level l h)
+    ap (λ b. cond b (around x.level earlier + (elifs (kind_of x.form) x.level earlier + own (kind_of x.form))) (around l earlier)) (is_less x.level l h)
 
 -- how the `elif`s are counted, by the last line that is no deeper
 abbrev by_last : ℕ → ℕ → ℕ → ℕ → ℕ

@@ -1,7 +1,7 @@
 -- Some line is the first that begins a statement too deep exactly where the module is too high.
 --
--- Carries: formed_flat, deep_is_high, deep_within, for Blocks. On: Heights.
-use Rattle.std.proofs.Common.{◌≡◌, ◌↔◌, ◌⊎◌, inl, inr, ℕ, suc, ◌<◌, ◌≤◌, max, List, [], ◌∷◌, length, ◌+◌, Option, Some, None, true, false, refl, arith}
+-- Carries: formed_flat, formed_proper, deep_is_high, deep_within, for Blocks. On: Heights.
+use Rattle.std.proofs.Common.{◌≡◌, ◌↔◌, ◌⊎◌, inl, inr, ℕ, suc, ◌<◌, ◌≤◌, max, List, [], ◌∷◌, length, ◌+◌, Option, Some, None, Bool, true, false, ◌&&◌, refl, ap, ◌∙◌, arith}
 use Rattle.std.specs.Prelude.{nat_lt}
 use borrow.Author.Tests.{ltb-true, ltb-false}
 use Rattle.pytree_node.specs.declared.profiles.Profile.{Profile}
@@ -9,13 +9,13 @@ use Rattle.pytree_node.specs.Trees.{Stmt, Module}
 use Rattle.pytree_height.specs.Heights.{stmt_height, statement_height}
 use Rattle.pytoken.specs.Terminals.{Terminal}
 use Rattle.pytoken.specs.Tokens as Tokens
-use Rattle.pygrammar.specs.Lines.{Line, Form}
+use Rattle.pygrammar.specs.Lines.{Line, Form, header_form, Header, match_header, is_proper, are_proper}
 use Rattle.pygrammar.specs.Forms as F
 use Rattle.pygrammar.specs.Blocks.{Block}
 use Rattle.pygrammar.specs.Refusals.{Formed, formed_end, formed_line, beginning, IsDeep, FirstDeep, deep, deep_behind}
 use Rattle.pygrammar.proofs.Block.Heights.{high, IsFlat, AreFlat, top, deepest, block_depth}
 
--- ---- Simple statements have none inside.
+-- ---- Simple statements have none inside, and the header of a `match` has no inline suite.
 
 simple_flat : {profile : Profile} {ts : List Terminal} {s : Stmt} → F.Simple profile ts s → stmt_height s ≡ 1
 simple_flat (F.value p) = refl
@@ -31,10 +31,40 @@ form_flat (F.simple_statements p) = simples_flat p
 form_flat (F.decorator_line p) = tt
 form_flat (F.header_line p) = tt
 form_flat (F.header_suite p q) = simples_flat q
+form_flat (F.match_line form w p) = tt
 
-pub formed_flat : {profile : Profile} {xs : List Tokens.Line} {ys : List Line} → Formed profile xs ys → AreFlat ys
+place_flat : {profile : Profile} {inside : Bool} {ts : List Terminal} {f : Form} → F.FormAt profile inside ts f → IsFlat f
+place_flat (F.other_line n p) = form_flat p
+place_flat (F.case_alone w p) = tt
+place_flat (F.case_suite w p q) = simples_flat q
+
+pub formed_flat : {profile : Profile} {earlier : List Line} {xs : List Tokens.Line} {ys : List Line} → Formed profile earlier xs ys → AreFlat ys
 formed_flat formed_end = tt
-formed_flat (formed_line h p) = (form_flat h.is, formed_flat p)
+formed_flat (formed_line h p) = (place_flat h.is, formed_flat p)
+
+header_proper : {profile : Profile} {ts : List Terminal} {h : Header} → F.HeaderOf profile ts h → (ss : List Stmt) → is_proper (header_form h (Some ss)) ≡ true
+header_proper (F.if_line p) ss = refl
+header_proper _ ss = refl
+
+alone_proper : (h : Header) → is_proper (header_form h None) ≡ true
+alone_proper (match_header subject) = refl
+alone_proper _ = refl
+
+form_proper : {profile : Profile} {ts : List Terminal} {f : Form} → F.FormOf profile ts f → is_proper f ≡ true
+form_proper (F.simple_statements p) = refl
+form_proper (F.decorator_line p) = refl
+form_proper (F.header_line {h = h} p) = alone_proper h
+form_proper (F.header_suite {ss = ss} p q) = header_proper p ss
+form_proper (F.match_line form w p) = refl
+
+place_proper : {profile : Profile} {inside : Bool} {ts : List Terminal} {f : Form} → F.FormAt profile inside ts f → is_proper f ≡ true
+place_proper (F.other_line n p) = form_proper p
+place_proper (F.case_alone {h = h} w p) = alone_proper h
+place_proper (F.case_suite w (F.case_line form p g) q) = refl
+
+pub formed_proper : {profile : Profile} {earlier : List Line} {xs : List Tokens.Line} {ys : List Line} → Formed profile earlier xs ys → are_proper ys ≡ true
+formed_proper formed_end = refl
+formed_proper (formed_line {ys = ys} h p) = ap (λ z. z && are_proper ys) (place_proper h.is) ∙ formed_proper p
 
 -- ---- The first deep line.
 

@@ -6,8 +6,8 @@ use Rattle.std.specs.Prelude.{nat_lt, ◌==◌}
 use borrow.Author.Tests.{ltb-true, ltb-false}
 use Rattle.pytoken.specs.Inner.Behind.{behind}
 use Rattle.pygrammar.specs.Lines.{Line, line, Form, simple_form, decorator_form, header_form}
-use Rattle.pygrammar.specs.Blocks.{Kind, ElifLine, ElseLine, kind_of}
-use Rattle.pygrammar.specs.Refusals.{elifs, around, beginning}
+use Rattle.pygrammar.specs.Blocks.{Kind, ElifLine, ElseLine, CaseLine, kind_of}
+use Rattle.pygrammar.specs.Refusals.{elifs, own, around, beginning}
 use Rattle.pygrammar.specs.Depths.{Depth, round_at, arms_at, under, depth_of, counted, count, begins, innermost}
 use Rattle.pygrammar.proofs.Block.Steps.{not_less, is_less}
 
@@ -32,7 +32,7 @@ round_under l m h (d ∷ ds) = elim (nat_lt d.level m) as (λ b. nat_lt d.level 
   | true ↦ λ e. refl
   | false ↦ λ e.
       let k : m ≤ d.level = ltb-false d.level m e in
-      round_under l m h ds ∙ sym (ap (λ b. cond b (d.round + (d.arms + 1)) (round_at l ds)) (not_less d.level l (omega (arith, h, k))))
+      round_under l m h ds ∙ sym (ap (λ b. cond b (d.round + (d.arms + d.own)) (round_at l ds)) (not_less d.level l (omega (arith, h, k))))
 ] refl
 
 elif_under : (l m : ℕ) → l < m → (ds : List Depth) → arms_at ElifLine l (under m ds) ≡ arms_at ElifLine l ds
@@ -80,8 +80,8 @@ round_is l (x ∷ earlier) =
     let ds = depths earlier in
     let k = kind_of x.form in
     elim (nat_lt x.level l) as (λ b. nat_lt x.level l ≡ b →
-    cond b (round_at x.level ds + (arms_at k x.level ds + 1)) (round_at l (under x.level ds)) ≡ cond b (around x.level earlier + (elifs k x.level earlier + 1)) (around l earlier)) [
-      | true ↦ λ e. ap (λ z. z + (arms_at k x.level ds + 1)) (round_is x.level earlier) ∙ ap (λ z. around x.level earlier + (z + 1)) (arms_are k x.level earlier)
+    cond b (round_at x.level ds + (arms_at k x.level ds + own k)) (round_at l (under x.level ds)) ≡ cond b (around x.level earlier + (elifs k x.level earlier + own k)) (around l earlier)) [
+      | true ↦ λ e. ap (λ z. z + (arms_at k x.level ds + own k)) (round_is x.level earlier) ∙ ap (λ z. around x.level earlier + (z + own k)) (arms_are k x.level earlier)
       | false ↦ λ e. round_under l x.level (ltb-false x.level l e) ds ∙ round_is l earlier
     ] refl
 
@@ -103,37 +103,42 @@ innermost_on xs x = ap (innermost x) (count_is [] xs) ∙ innermost_is x (behind
 
 -- ---- How large the numbers are.
 
-beside : (l m a e b k o n : ℕ) (p q r : Bool) → nat_lt m l ≡ p → nat_lt l m ≡ q → m == l ≡ r → a + e ≤ n → b + k ≤ n → b + o ≤ n →
-    cond p (a + (e + 1)) b + cond q k (cond r (1 + o) 0) ≤ suc n
-beside l m a e b k o n true true r i j h x y z = absurd (let c = ltb-true m l i in let d = ltb-true l m j in omega (arith, c, d))
-beside l m a e b k o n true false true i j h x y z = absurd (let c = ltb-true m l i in let d = eqb-true m l h in omega (arith, c, d))
-beside l m a e b k o n true false false i j h x y z = omega arith
-beside l m a e b k o n false true r i j h x y z = omega arith
-beside l m a e b k o n false false true i j h x y z = omega arith
-beside l m a e b k o n false false false i j h x y z = omega arith
+beside : (l m a e s b k o n : ℕ) (p q r : Bool) → nat_lt m l ≡ p → nat_lt l m ≡ q → m == l ≡ r → s ≤ 1 → a + e ≤ n → b + k ≤ n → b + o ≤ n →
+    cond p (a + (e + s)) b + cond q k (cond r (1 + o) 0) ≤ suc n
+beside l m a e s b k o n true true r i j h w x y z = absurd (let c = ltb-true m l i in let d = ltb-true l m j in omega (arith, c, d))
+beside l m a e s b k o n true false true i j h w x y z = absurd (let c = ltb-true m l i in let d = eqb-true m l h in omega (arith, c, d))
+beside l m a e s b k o n true false false i j h w x y z = omega arith
+beside l m a e s b k o n false true r i j h w x y z = omega arith
+beside l m a e s b k o n false false true i j h w x y z = omega arith
+beside l m a e s b k o n false false false i j h w x y z = omega arith
 
 fewer : (l m a b c n : ℕ) (q r : Bool) → a + cond q b (cond r (1 + c) 0) ≤ n → a + cond q b (cond r c 0) ≤ n
 fewer l m a b c n true r h = h
 fewer l m a b c n false true h = omega (arith, h)
 fewer l m a b c n false false h = h
 
-alone : (a e b n : ℕ) (p : Bool) → a + e ≤ n → b + 0 ≤ n → cond p (a + (e + 1)) b + 0 ≤ suc n
-alone a e b n true h k = omega arith
-alone a e b n false h k = omega arith
+alone : (a e s b n : ℕ) (p : Bool) → s ≤ 1 → a + e ≤ n → b + 0 ≤ n → cond p (a + (e + s)) b + 0 ≤ suc n
+alone a e s b n true w h k = omega arith
+alone a e s b n false w h k = omega arith
+
+own_most : (k : Kind) → own k ≤ 1
+own_most CaseLine = omega arith
+own_most _ = omega arith
 
 -- no more statements stand round a line, with the `elif`s before it, than there are lines before it
 pub within_lines : (k : Kind) (l : ℕ) (earlier : List Line) → around l earlier + elifs k l earlier ≤ length earlier
 within_lines k l [] = omega arith
 within_lines ElifLine l (x ∷ earlier) =
-    beside l x.level (around x.level earlier) (elifs (kind_of x.form) x.level earlier) (around l earlier) (elifs ElifLine l earlier) (elifs (kind_of x.form) l earlier) (length earlier) _ _ _ refl refl refl
-    (within_lines (kind_of x.form) x.level earlier) (within_lines ElifLine l earlier) (within_lines (kind_of x.form) l earlier)
+    beside l x.level (around x.level earlier) (elifs (kind_of x.form) x.level earlier) (own (kind_of x.form)) (around l earlier) (elifs ElifLine l earlier) (elifs (kind_of x.form) l earlier) (length earlier) _ _ _ refl refl refl
+    (own_most (kind_of x.form)) (within_lines (kind_of x.form) x.level earlier) (within_lines ElifLine l earlier) (within_lines (kind_of x.form) l earlier)
 within_lines ElseLine l (x ∷ earlier) =
     fewer l x.level _ _ _ _ (nat_lt l x.level) (x.level == l)
-    (beside l x.level (around x.level earlier) (elifs (kind_of x.form) x.level earlier) (around l earlier) (elifs ElseLine l earlier) (elifs (kind_of x.form) l earlier) (length earlier) _ _ _ refl refl refl
-    (within_lines (kind_of x.form) x.level earlier) (within_lines ElseLine l earlier) (within_lines (kind_of x.form) l earlier))
+    (beside l x.level (around x.level earlier) (elifs (kind_of x.form) x.level earlier) (own (kind_of x.form)) (around l earlier) (elifs ElseLine l earlier) (elifs (kind_of x.form) l earlier) (length earlier) _ _ _ refl refl refl
+    (own_most (kind_of x.form)) (within_lines (kind_of x.form) x.level earlier) (within_lines ElseLine l earlier) (within_lines (kind_of x.form) l earlier))
 within_lines k l (x ∷ earlier) =
     let h = within_lines k l earlier in
-    alone (around x.level earlier) (elifs (kind_of x.form) x.level earlier) (around l earlier) (length earlier) (nat_lt x.level l) (within_lines (kind_of x.form) x.level earlier) (omega (arith, h))
+    alone (around x.level earlier) (elifs (kind_of x.form) x.level earlier) (own (kind_of x.form)) (around l earlier) (length earlier) (nat_lt x.level l)
+    (own_most (kind_of x.form)) (within_lines (kind_of x.form) x.level earlier) (omega (arith, h))
 
 pub depth_within : (x : Line) (earlier : List Line) → (depth_of x (depths earlier)).round + (depth_of x (depths earlier)).arms ≤ length earlier
 depth_within x earlier =

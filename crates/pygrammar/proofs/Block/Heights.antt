@@ -3,12 +3,12 @@
 -- Carries: high, AreFlat, deepest, IsFlat and 2 more, for Deep,
 -- WorkedDepths, DeepLines. On: Around.
 use Rattle.std.proofs.Common.{◌≡◌, ℕ, suc, ◌+◌, ◌≤◌, max, List, [], ◌∷◌, ◌++◌, Option, Some, None, Bool, true, false, cond, refl, sym, ap, ◌∙◌, subst, arith}
-use Rattle.pytree_node.specs.Trees.{Expr, Stmt, Handler, stmts, handlers}
-use Rattle.pytree_height.specs.Heights.{stmt_height, stmt_heights, handler_heights}
+use Rattle.pytree_node.specs.Trees.{Expr, Pattern, Stmt, Case, Handler, stmts, cases, handlers}
+use Rattle.pytree_height.specs.Heights.{stmt_height, stmt_heights, case_heights, handler_heights}
 use Rattle.pytoken.specs.Inner.Behind.{behind}
-use Rattle.pygrammar.specs.Lines.{Line, line, Form, simple_form, decorator_form, header_form, Header, if_header, elif_header, else_header, loop_header, with_header, try_header, except_header, finally_header, def_header, LoopHead, while_head, for_head, DefHead, function_head, class_head, loop, with_of, definition, try_of}
-use Rattle.pygrammar.specs.Blocks.{Block, Statement, Body, Alternative, Otherwise, Excepts, Ending, Decorators, nothing, and_then, simple_line, if_statement, loop_statement, with_statement, try_finally, try_except, definition_of, inline, indented, an_else, an_elif, no_else, else_clause, no_except, except_clause, no_finally, finally_clause, no_decorator, decorator, ElifLine, ElseLine, TryLine, ExceptLine, header_kind}
-use Rattle.pygrammar.specs.Refusals.{elifs, around, is_clause, beginning}
+use Rattle.pygrammar.specs.Lines.{Line, line, Form, simple_form, decorator_form, header_form, Header, if_header, elif_header, else_header, loop_header, with_header, try_header, except_header, finally_header, def_header, match_header, case_header, LoopHead, while_head, for_head, DefHead, function_head, class_head, loop, with_of, definition, try_of}
+use Rattle.pygrammar.specs.Blocks.{Block, Statement, Body, Alternative, Otherwise, Excepts, Cases, Ending, Decorators, nothing, and_then, simple_line, if_statement, loop_statement, with_statement, try_finally, try_except, definition_of, match_statement, inline, indented, an_else, an_elif, no_else, else_clause, no_except, except_clause, no_case, case_clause, no_finally, finally_clause, no_decorator, decorator, Kind, ElifLine, ElseLine, TryLine, ExceptLine, CaseLine, header_kind}
+use Rattle.pygrammar.specs.Refusals.{elifs, own, around, is_clause, beginning}
 use Rattle.pygrammar.proofs.Block.Around.{statement_from, around_behind, around_past, around_inside, is_chained, not_chained, after_body, excepts_from, otherwise_from, decorators_from}
 
 -- ---- Flat lines: simple statements alone, and at least one of them.
@@ -84,20 +84,28 @@ reaches_to {m} {earlier = earlier} {xs = xs} e p = subst (λ z. Reaches m z earl
 
 -- how many statements stand round the block of a header
 abbrev inside : ℕ → Header → List Line → ℕ
-inside l h earlier = around l earlier + (elifs (header_kind h) l earlier + 1)
+inside l h earlier = around l earlier + (elifs (header_kind h) l earlier + own (header_kind h))
 
-within : (b : Bool) (a e : ℕ) → top (cond b None (Some (a + e))) ≤ a + (e + 1)
-within true a e = omega arith
-within false a e = omega arith
+-- no other headers than those of clauses are statements of their own
+one_own : (k : Kind) → is_clause k ≡ false → own k ≡ 1
+one_own CaseLine c = cc
+one_own _ c = refl
+
+within : (k : Kind) (a e : ℕ) → top (cond (is_clause k) None (Some (a + e))) ≤ a + (e + own k)
+within k a e = by_clause (is_clause k) (one_own k)
+  where
+    by_clause : (b : Bool) → (b ≡ false → own k ≡ 1) → top (cond b None (Some (a + e))) ≤ a + (e + own k)
+    by_clause true h = omega arith
+    by_clause false h = let o : own k ≡ 1 = h refl in omega (arith, o)
 
 begins_least : (l : ℕ) (h : Header) (suite : Option (List Stmt)) (earlier : List Line) → is_clause (header_kind h) ≡ false →
     inside l h earlier ≤ top (beginning (line l (header_form h suite)) earlier)
 begins_least l h (Some ss) earlier c = omega arith
-begins_least l h None earlier c = by_clause (is_clause (header_kind h)) (around l earlier) (elifs (header_kind h) l earlier) c
+begins_least l h None earlier c = by_clause (is_clause (header_kind h)) (around l earlier) (elifs (header_kind h) l earlier) (own (header_kind h)) (one_own (header_kind h) c) c
   where
-    by_clause : (b : Bool) (a e : ℕ) → b ≡ false → a + (e + 1) ≤ top (cond b None (Some (a + e)))
-    by_clause true a e c = absurd cc
-    by_clause false a e c = omega arith
+    by_clause : (b : Bool) (a e o : ℕ) → o ≡ 1 → b ≡ false → a + (e + o) ≤ top (cond b None (Some (a + e)))
+    by_clause true a e o h c = absurd cc
+    by_clause false a e o h c = omega (arith, h)
 
 one_inline : (r n : ℕ) → n ≡ 1 → max r (max (suc r) 0) ≡ r + n
 one_inline r n h = omega arith
@@ -115,9 +123,22 @@ compound {l} h {suite} {rest} n m earlier c e p =
     let x : Line = line l (header_form h suite) in
     record { is = one_whole m (inside l h earlier) (top (beginning x earlier)) (deepest (x ∷ earlier) rest) n e (begins_least l h suite earlier c) p.is }
 
--- a header that is no `elif` and no `else`
-inside_is : (l : ℕ) (h : Header) (earlier : List Line) → is_chained (header_kind h) ≡ false → inside l h earlier ≡ suc (around l earlier)
-inside_is l h earlier c = let e = not_chained (header_kind h) l earlier c in omega arith
+-- a header, and the lines of its block
+over_block : (l n : ℕ) (h : Header) (earlier xs : List Line) → Reaches (inside l h earlier) n (line l (header_form h None) ∷ earlier) xs →
+    Reaches (inside l h earlier) n earlier (line l (header_form h None) ∷ xs)
+over_block l n h earlier xs p =
+    let x : Line = line l (header_form h None) in
+    record {
+      is = one_indented (inside l h earlier) (top (beginning x earlier)) (deepest (x ∷ earlier) xs) n
+          (within (header_kind h) (around l earlier) (elifs (header_kind h) l earlier)) p.is;
+    }
+
+-- a header that is no `elif` and no `else`, and one of a case
+inside_is : (l : ℕ) (h : Header) (earlier : List Line) → is_chained (header_kind h) ≡ false → own (header_kind h) ≡ 1 → inside l h earlier ≡ suc (around l earlier)
+inside_is l h earlier c o = let e = not_chained (header_kind h) l earlier c in omega (arith, e, o)
+
+inside_case : (l : ℕ) (pattern : Pattern) (guard : Option Expr) (earlier : List Line) → inside l (case_header pattern guard) earlier ≡ around l earlier
+inside_case l pattern guard earlier = let e = not_chained CaseLine l earlier refl in omega (arith, e)
 
 -- ---- Heights of statements.
 
@@ -183,7 +204,7 @@ mutual
       let g = flat_parts xs ys f.1 in
       let a = after_body h earlier p in
       reaches_in e
-      (compound h (max (high body) (high orelse)) (around l earlier) earlier refl (inside_is l h earlier refl)
+      (compound h (max (high body) (high orelse)) (around l earlier) earlier refl (inside_is l h earlier refl refl)
       (reaches-append (body_depth h earlier p f.0 g.0)
       (alternative_depth q (behind (line l (header_form h suite) ∷ earlier) xs) (inside l h earlier) (omega (arith, a.round, a.else_count)) (omega (arith, a.elif_count, a.else_count)) g.1)))
   statement_depth {l} (loop_statement {head = head} {suite = suite} {xs = xs} {ys = ys} {body = body} {orelse = orelse} p q) earlier m e f =
@@ -192,20 +213,20 @@ mutual
       let a = after_body h earlier p in
       reaches_in e
       (reaches_to (loop_height head body orelse)
-      (compound h (max (high body) (high orelse)) (around l earlier) earlier refl (inside_is l h earlier refl)
+      (compound h (max (high body) (high orelse)) (around l earlier) earlier refl (inside_is l h earlier refl refl)
       (reaches-append (body_depth h earlier p f.0 g.0)
       (otherwise_depth q (behind (line l (header_form h suite) ∷ earlier) xs) (inside l h earlier) (omega (arith, a.round, a.else_count)) g.1))))
   statement_depth {l} (with_statement {is_async = is_async} {items = items} {body = body} p) earlier m e f =
       let h : Header = with_header is_async items in
       reaches_in e
       (reaches_to (with_height is_async items body)
-      (compound h (high body) (around l earlier) earlier refl (inside_is l h earlier refl) (body_depth h earlier p f.0 f.1)))
+      (compound h (high body) (around l earlier) earlier refl (inside_is l h earlier refl refl) (body_depth h earlier p f.0 f.1)))
   statement_depth {l} (try_finally {suite = suite} {last = last} {xs = xs} {ys = ys} {body = body} {final = final} p q) earlier m e f =
       let g = flat_parts xs (line l (header_form finally_header last) ∷ ys) f.1 in
       let a = after_body try_header earlier p in
       let now : List Line = behind (line l (header_form try_header suite) ∷ earlier) xs in
-      let i = inside_is l finally_header now refl in
-      let j = inside_is l try_header earlier refl in
+      let i = inside_is l finally_header now refl refl in
+      let j = inside_is l try_header earlier refl refl in
       reaches_in e
       (reaches_to (plain_try (high body) (high final))
       (compound try_header (max (high body) (high final)) (around l earlier) earlier refl j
@@ -217,7 +238,7 @@ mutual
       let g2 = flat_parts zs ws g1.1 in
       let a = after_body try_header earlier p in
       let now : List Line = behind (line l (header_form try_header suite) ∷ earlier) xs in
-      let j = inside_is l try_header earlier refl in
+      let j = inside_is l try_header earlier refl refl in
       let none : elifs ElseLine l now ≡ 0 = a.else_count ∙ not_chained TryLine l earlier refl in
       let caught = around_behind l now ys (excepts_from q) in
       let late = excepts_after q now none in
@@ -239,19 +260,21 @@ mutual
       reaches_to (definition_height es head body)
       (record {
         is = decorated m (high body) (deepest earlier ds) (deepest now (x ∷ xs)) _ (decorators_depth d earlier m e)
-            (compound h (high body) m now refl (inside_is l h now refl ∙ ap suc same) (body_depth h now p g.1.0 g.1.1)).is (deepest-append earlier ds (x ∷ xs));
+            (compound h (high body) m now refl (inside_is l h now refl refl ∙ ap suc same) (body_depth h now p g.1.0 g.1.1)).is (deepest-append earlier ds (x ∷ xs));
       })
+  statement_depth {l} (match_statement {subject = subject} {x = y} {xs = ys} {cs = cs} p) earlier m e f =
+      let h : Header = match_header subject in
+      let x : Line = line l (header_form h None) in
+      reaches_in e
+      (compound h (case_heights (cases cs)) (around l earlier) earlier refl (inside_is l h earlier refl refl)
+      (over_block l (case_heights (cases cs)) h earlier (y ∷ ys) (cases_depth p (x ∷ earlier) (inside l h earlier) (around_inside (suc l) x earlier (omega arith)) f.1)))
 
   pub body_depth : {l : ℕ} {suite : Option (List Stmt)} {xs : List Line} {ss : List Stmt} (h : Header) (earlier : List Line) → Body l suite xs ss →
       IsFlat (header_form h suite) → AreFlat xs → Reaches (inside l h earlier) (high ss) earlier (line l (header_form h suite) ∷ xs)
   body_depth {l} h earlier (inline {ss = ss}) f g = record { is = one_inline (inside l h earlier) (high ss) f }
   body_depth {l} h earlier (indented {x = y} {xs = ys} {ss = ss} p) f g =
       let x : Line = line l (header_form h None) in
-      let r = block_depth p (x ∷ earlier) (inside l h earlier) (around_inside (suc l) x earlier (omega arith)) g in
-      record {
-        is = one_indented (inside l h earlier) (top (beginning x earlier)) (deepest (x ∷ earlier) (y ∷ ys)) (high ss)
-            (within (is_clause (header_kind h)) (around l earlier) (elifs (header_kind h) l earlier)) r.is;
-      }
+      over_block l (high ss) h earlier (y ∷ ys) (block_depth p (x ∷ earlier) (inside l h earlier) (around_inside (suc l) x earlier (omega arith)) g)
 
   pub alternative_depth : {l : ℕ} {xs : List Line} {ss : List Stmt} → Alternative l xs ss → (earlier : List Line) (r : ℕ) → around l earlier + (elifs ElseLine l earlier + 1) ≡ r →
       elifs ElifLine l earlier ≡ suc (elifs ElseLine l earlier) → AreFlat xs → Reaches r (high ss) earlier xs
@@ -276,9 +299,18 @@ mutual
       let h : Header = except_header star matched name in
       let g = flat_parts xs ys f.1 in
       let a = after_body h earlier p in
-      reaches-append (reaches_in (inside_is l h earlier refl ∙ e) (body_depth h earlier p f.0 g.0))
+      reaches-append (reaches_in (inside_is l h earlier refl refl ∙ e) (body_depth h earlier p f.0 g.0))
       (excepts_depth q (behind (line l (header_form h suite) ∷ earlier) xs) r (ap suc a.round ∙ e) g.1)
+
+  pub cases_depth : {l : ℕ} {xs : List Line} {cs : List Case} → Cases l xs cs → (earlier : List Line) (r : ℕ) → around l earlier ≡ r → AreFlat xs → Reaches r (case_heights (cases cs)) earlier xs
+  cases_depth no_case earlier r e f = reaches_none r earlier
+  cases_depth {l} (case_clause {pattern = pattern} {guard = guard} {suite = suite} {xs = xs} {ys = ys} p q) earlier r e f =
+      let h : Header = case_header pattern guard in
+      let g = flat_parts xs ys f.1 in
+      let a = after_body h earlier p in
+      reaches-append (reaches_in (inside_case l pattern guard earlier ∙ e) (body_depth h earlier p f.0 g.0))
+      (cases_depth q (behind (line l (header_form h suite) ∷ earlier) xs) r (a.round ∙ e) g.1)
 
   pub ending_depth : {l : ℕ} {xs : List Line} {ss : List Stmt} → Ending l xs ss → (earlier : List Line) (r : ℕ) → suc (around l earlier) ≡ r → AreFlat xs → Reaches r (high ss) earlier xs
   ending_depth no_finally earlier r e f = reaches_none r earlier
-  ending_depth {l} (finally_clause p) earlier r e f = reaches_in (inside_is l finally_header earlier refl ∙ e) (body_depth finally_header earlier p f.0 f.1)
+  ending_depth {l} (finally_clause p) earlier r e f = reaches_in (inside_is l finally_header earlier refl refl ∙ e) (body_depth finally_header earlier p f.0 f.1)

@@ -2,53 +2,64 @@
 -- one alone, and never both.
 --
 -- Carries: tree_faultless, no_first, Finds, read_finds and 2 more, for SourceLaw, Reasons, Answer,
--- LineMore and 2 more. On: Fitting, Settling, Standing, Leads and 1 more.
+-- LineMore and 2 more. On: Fitting, Settling, Standing, Nested and 2 more.
 use Rattle.std.proofs.Common.{◌≡◌, ℕ, suc, ◌≤◌, List, [], ◌∷◌, ◌++◌, length, Option, Some, None, true, false, cond, refl, sym, ap, ◌∙◌, subst, arith, ◌⊎◌, inl, inr}
 use Rattle.std.specs.Prelude.{nat_lt}
 use borrow.Author.Tests.{ltb-true, ltb-false}
 use Rattle.pytree_node.specs.Trees.{Expr, Stmt}
-use Rattle.pygrammar.specs.Lines.{Line, line, Form, simple_form, decorator_form, header_form, Header, opens}
+use Rattle.pygrammar.specs.Lines.{Line, line, Form, simple_form, decorator_form, header_form, Header, are_proper, opens}
 use Rattle.pygrammar.specs.Blocks.{Block, Fault, ExpectedIndent, UnexpectedIndent, MisplacedClause, Kind, SimpleLine, DecoratorLine, EndLine, header_kind, kind_of, IsClear, IsFault, IsFaultless, clear_end, clear_line, FirstFault, fault_at_end, fault_at, fault_behind}
-use Rattle.pygrammar.specs.Reading.{Answer, Fine, Faulty, then, Group, Idle, Marked, closes, Part, part, meets, decorated, or_misplaced, place_header, Waiting, waiting, State, state, start, joined, settle, place, placed, step, run, stops, finish, read}
+use Rattle.pygrammar.specs.Reading.{Answer, Fine, Faulty, then, Group, Idle, Marked, closes, Part, part, meets, decorated, or_misplaced, place_header, Waiting, waiting, State, state, start, joined, first_group, settle, place, placed, step, run, stops, finish, read}
 use Rattle.pygrammar.proofs.Block.Leads.{read_block}
 use Rattle.pygrammar.proofs.Block.Sound.{read_gives}
-use Rattle.pygrammar.proofs.Block.Standing.{after, standing, stand, standing_above, standing_below, standing_here}
-use Rattle.pygrammar.proofs.Block.Fitting.{is_marked, is_decorator, not_marked, no_decorator_header, grows_stands, fits_closed, wrong_closed, fits_header, wrong_header, fits_decorator, wrong_decorator_line}
+use Rattle.pygrammar.proofs.Block.Standing.{after, standing, stand, standing_above, standing_below, standing_here, place_behind, place_deeper}
+use Rattle.pygrammar.proofs.Block.Nested.{is_matching, closed_unmatched, decorated_same, grows_same, nested_on, nested_deeper}
+use Rattle.pygrammar.proofs.Block.Fitting.{is_marked, is_decorator, not_marked, no_decorator_header, first_unmarked, first_stands, grows_stands, fits_closed, wrong_closed, fits_header, wrong_header, fits_decorator, wrong_decorator_line}
 use Rattle.pygrammar.proofs.Block.Settling.{Levels, Marks, Settled, marked_stands, Settles, settles, Reached, clear_here, wrong_here, unsettled_fault, deep_fault}
 
 -- ---- What is known after a line.
 
 levels_behind : (x : Line) (earlier : List Line) (below : List Waiting) → length below ≤ x.level → Levels earlier below → Levels (x ∷ earlier) below
 levels_behind x earlier [] n k = tt
-levels_behind x earlier (w ∷ below) n k = (λ body. standing_below (length below) x earlier (omega arith) ∙ k.0 body, levels_behind x earlier below (omega arith) k.1)
+levels_behind x earlier (w ∷ below) n k = (
+  λ body. standing_below (length below) x earlier (omega arith) ∙ k.0 body,
+  place_behind (length below) x earlier (omega arith) ∙ k.1,
+  levels_behind x earlier below (omega arith) k.2,
+)
 
 stands_behind : (earlier : List Line) (s t : State) (f : Form) → Reached earlier (length t.below) s t →
     standing (length t.below) (line (length t.below) f ∷ earlier) ≡ after (kind_of f) (stand t.group)
 stands_behind earlier s t f r = standing_here (line (length t.below) f) earlier ∙ ap (after (kind_of f)) r.settled.stands
 
 marks_behind : (earlier : List Line) (s t : State) (f : Form) (d : List Stmt) (g : Group) → Reached earlier (length t.below) s t → opens f ≡ false →
-    after (kind_of f) (stand t.group) ≡ stand g → is_decorator (kind_of f) ≡ is_marked g → Marks (line (length t.below) f ∷ earlier) (state d g false t.below)
-marks_behind earlier s t f d g r o e m = record {
+    after (kind_of f) (stand t.group) ≡ stand g → is_decorator (kind_of f) ≡ is_marked g → is_matching g ≡ is_matching t.group →
+    Marks (line (length t.below) f ∷ earlier) (state d g false t.below)
+marks_behind earlier s t f d g r o e m i = record {
   stands = stands_behind earlier s t f r ∙ e;
   levels = levels_behind (line (length t.below) f) earlier t.below (omega arith) r.settled.levels;
   opened = o;
   fresh_level = λ i. cc;
   level = λ i. refl;
   marked = m;
+  place = place_behind (length t.below) (line (length t.below) f) earlier (omega arith) ∙ r.settled.place;
+  nested = nested_on t.group g t.below i r.settled.nested;
 }
 
 marks_deeper : (earlier : List Line) (s t : State) (h : Header) (d : List Stmt) (p : Part) → Reached earlier (length t.below) s t → meets t.group h ≡ Some p →
-    Marks (line (length t.below) (header_form h None) ∷ earlier) (state [] Idle true (waiting d p.group h ∷ t.below))
+    Marks (line (length t.below) (header_form h None) ∷ earlier) (state [] (first_group h) true (waiting d p.group h ∷ t.below))
 marks_deeper earlier s t h d p r e = record {
-  stands = standing_above (suc (length t.below)) (line (length t.below) (header_form h None) ∷ earlier) (omega arith);
+  stands = standing_above (suc (length t.below)) (line (length t.below) (header_form h None) ∷ earlier) (omega arith) ∙ sym (first_stands h);
   levels = (
     λ body. stands_behind earlier s t (header_form h None) r ∙ sym (grows_stands t.group h p body e),
+    place_behind (length t.below) (line (length t.below) (header_form h None)) earlier (omega arith) ∙ r.settled.place,
     levels_behind (line (length t.below) (header_form h None)) earlier t.below (omega arith) r.settled.levels,
   );
   opened = refl;
   fresh_level = λ i. refl;
   level = λ i. cc;
-  marked = no_decorator_header h;
+  marked = no_decorator_header h ∙ sym (first_unmarked h);
+  place = place_deeper (suc (length t.below)) (line (length t.below) (header_form h None)) earlier (omega arith);
+  nested = nested_deeper t.group t.below d h p e r.settled.nested;
 }
 
 abbrev pub Steps : List Line → Line → Answer State → Type 0
@@ -57,10 +68,10 @@ Steps earlier x (Faulty e) = IsFault earlier x.level (kind_of x.form) e
 
 steps_simple : (earlier : List Line) (s t : State) (ss : List Stmt) → Reached earlier (length t.below) s t → (o : Option (List Stmt)) → closes t.group ≡ o →
     Steps earlier (line (length t.below) (simple_form ss)) (or_misplaced o (λ more. state ((t.done ++ more) ++ ss) Idle false t.below))
-steps_simple earlier s t ss r None c = wrong_here earlier (length t.below) s t SimpleLine r (wrong_closed t.group SimpleLine c refl refl)
+steps_simple earlier s t ss r None c = wrong_here earlier (length t.below) s t SimpleLine r (wrong_closed t.group SimpleLine c refl refl refl)
 steps_simple earlier s t ss r (Some more) c = (
-  clear_here earlier (length t.below) s t SimpleLine r (fits_closed t.group more SimpleLine c refl),
-  marks_behind earlier s t (simple_form ss) ((t.done ++ more) ++ ss) Idle r refl refl refl,
+  clear_here earlier (length t.below) s t SimpleLine r (fits_closed t.group more SimpleLine c refl refl),
+  marks_behind earlier s t (simple_form ss) ((t.done ++ more) ++ ss) Idle r refl refl refl (sym (closed_unmatched t.group more c)),
 )
 
 marks_decorated : (g : Group) (x : Expr) (p : Part) → decorated g x ≡ Some p → is_marked p.group ≡ true
@@ -77,7 +88,7 @@ steps_decorator earlier s t x r None c = wrong_here earlier (length t.below) s t
 steps_decorator earlier s t x r (Some p) c =
     let m = marks_decorated t.group x p c in (
       clear_here earlier (length t.below) s t DecoratorLine r (fits_decorator t.group x p c),
-      marks_behind earlier s t (decorator_form x) (t.done ++ p.done) p.group r refl (sym (marked_stands p.group m)) (sym m),
+      marks_behind earlier s t (decorator_form x) (t.done ++ p.done) p.group r refl (sym (marked_stands p.group m)) (sym m) (decorated_same t.group x p c),
     )
 
 steps_header : (earlier : List Line) (s t : State) (h : Header) (suite : Option (List Stmt)) → Reached earlier (length t.below) s t → (o : Option Part) → meets t.group h ≡ o →
@@ -88,7 +99,7 @@ steps_header earlier s t h None r (Some p) c =
 steps_header earlier s t h (Some ss) r (Some p) c = (
   clear_here earlier (length t.below) s t (header_kind h) r (fits_header t.group h p c),
   marks_behind earlier s t (header_form h (Some ss)) (joined (t.done ++ p.done) p.group h ss).done (joined (t.done ++ p.done) p.group h ss).group r refl
-      (sym (grows_stands t.group h p ss c)) (no_decorator_header h ∙ sym (not_marked p.group h ss)),
+      (sym (grows_stands t.group h p ss c)) (no_decorator_header h ∙ sym (not_marked p.group h ss)) (grows_same t.group h p ss c),
 )
 
 steps_place : (earlier : List Line) (s t : State) (f : Form) → Reached earlier (length t.below) s t → Steps earlier (line (length t.below) f) (place t f)
@@ -117,7 +128,7 @@ steps_settled earlier s x m (Fine t) h = steps_placed earlier s t x m h
 steps_settled earlier s x m (Faulty e) h = unsettled_fault earlier x.level s (kind_of x.form) e m h
 
 steps : (earlier : List Line) (s : State) (x : Line) → Marks earlier s → Steps earlier x (step s x)
-steps earlier s x m = steps_settled earlier s x m (settle x.level s) (settles x.level earlier s.done s.group s.fresh s.below m.stands m.levels)
+steps earlier s x m = steps_settled earlier s x m (settle x.level s) (settles x.level earlier s.done s.group s.fresh s.below m.stands m.place m.nested m.levels)
 
 -- ---- All lines.
 
@@ -132,8 +143,8 @@ finds_end earlier s m (Fine t) h =
     let n = settled_level 0 earlier s t h in
     let r : Reached earlier 0 s t = record { marks = m; settled = h; level = omega arith } in
     elim (closes t.group) as (λ o. closes t.group ≡ o → Finds earlier [] [] (elim o [ None ↦ Faulty MisplacedClause | Some ss ↦ Fine (t.done ++ ss) ])) [
-      | None ↦ λ c. fault_at_end (wrong_here earlier 0 s t EndLine r (wrong_closed t.group EndLine c refl refl))
-      | Some ss ↦ λ c. clear_end (clear_here earlier 0 s t EndLine r (fits_closed t.group ss EndLine c refl))
+      | None ↦ λ c. fault_at_end (wrong_here earlier 0 s t EndLine r (wrong_closed t.group EndLine c refl refl refl))
+      | Some ss ↦ λ c. clear_end (clear_here earlier 0 s t EndLine r (fits_closed t.group ss EndLine c refl refl))
     ] refl
 
 finds_behind : (earlier : List Line) (x : Line) (xs rest : List Line) (a : Answer (List Stmt)) → IsClear earlier x.level (kind_of x.form) → Finds (x ∷ earlier) xs rest a → Finds earlier (x ∷ xs) rest a
@@ -141,7 +152,7 @@ finds_behind earlier x xs rest (Fine ss) c h = clear_line c h
 finds_behind earlier x xs rest (Faulty e) c h = fault_behind c h
 
 finds : (earlier xs : List Line) (s : State) → Marks earlier s → Finds earlier xs (stops xs s) (then (run xs s) finish)
-finds earlier [] s m = finds_end earlier s m (settle 0 s) (settles 0 earlier s.done s.group s.fresh s.below m.stands m.levels)
+finds earlier [] s m = finds_end earlier s m (settle 0 s) (settles 0 earlier s.done s.group s.fresh s.below m.stands m.place m.nested m.levels)
 finds earlier (x ∷ xs) s m =
     elim (step s x) as (λ a. Steps earlier x a → Finds earlier (x ∷ xs) (elim a [ Fine t ↦ stops xs t | Faulty e ↦ x ∷ xs ]) (then (then a (run xs)) finish)) [
       | Fine t ↦ λ h. finds_behind earlier x xs (stops xs t) (then (run xs t) finish) h.0 (finds (x ∷ earlier) xs t h.1)
@@ -149,7 +160,7 @@ finds earlier (x ∷ xs) s m =
     ] (steps earlier s x m)
 
 start_marks : Marks [] start
-start_marks = record { stands = refl; levels = tt; opened = refl; fresh_level = λ i. cc; level = λ i. refl; marked = refl }
+start_marks = record { stands = refl; levels = tt; opened = refl; fresh_level = λ i. cc; level = λ i. refl; marked = refl; place = refl; nested = refl }
 
 -- the reading finds the tree, or the first fault
 pub read_finds : (xs : List Line) → Finds [] xs (stops xs start) (read xs)
@@ -186,17 +197,17 @@ pub tree_faultless : (xs : List Line) (ss : List Stmt) → Block 0 xs ss → IsF
 tree_faultless xs ss p = let h = read_finds xs in let P : Answer (List Stmt) → Type 0 = λ z. Finds [] xs (stops xs start) z in subst P (read_block p) h
 
 -- where no line is faulty, they have one
-pub faultless_tree : (xs : List Line) → IsFaultless [] xs → (ss : List Stmt) × Block 0 xs ss
-faultless_tree xs p =
+pub faultless_tree : (xs : List Line) → are_proper xs ≡ true → IsFaultless [] xs → (ss : List Stmt) × Block 0 xs ss
+faultless_tree xs o p =
     elim (read xs) as (λ a. read xs ≡ a → Finds [] xs (stops xs start) a → (ss : List Stmt) × Block 0 xs ss) [
-      | Fine ss ↦ λ e h. (ss, read_gives xs ss e)
+      | Fine ss ↦ λ e h. (ss, read_gives xs ss o e)
       | Faulty f ↦ λ e h. absurd (no_first p h)
     ] refl (read_finds xs)
 
 -- and where it has none, there is a first faulty line
-pub fault_or_tree : (xs : List Line) → ((ss : List Stmt) × Block 0 xs ss) ⊎ ((rest : List Line) × (f : Fault) × FirstFault [] xs rest f)
-fault_or_tree xs =
+pub fault_or_tree : (xs : List Line) → are_proper xs ≡ true → ((ss : List Stmt) × Block 0 xs ss) ⊎ ((rest : List Line) × (f : Fault) × FirstFault [] xs rest f)
+fault_or_tree xs o =
     elim (read xs) as (λ a. read xs ≡ a → Finds [] xs (stops xs start) a → ((ss : List Stmt) × Block 0 xs ss) ⊎ ((rest : List Line) × (f : Fault) × FirstFault [] xs rest f)) [
-      | Fine ss ↦ λ e h. inl (ss, read_gives xs ss e)
+      | Fine ss ↦ λ e h. inl (ss, read_gives xs ss o e)
       | Faulty f ↦ λ e h. inr (stops xs start, f, h)
     ] refl (read_finds xs)

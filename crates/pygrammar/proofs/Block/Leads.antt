@@ -3,11 +3,11 @@
 --
 -- Carries: choice-append, for Blocks. On: Steps.
 use Rattle.std.proofs.Common.{◌≡◌, ℕ, suc, List, [], ◌∷◌, ◌++◌, length, Option, Some, None, Bool, true, false, cond, refl, sym, ap, ◌∙◌, subst, arith, append_assoc, append-nil}
-use Rattle.pytree_node.specs.Trees.{Expr, Stmt, Handler, If, stmts}
-use Rattle.pygrammar.specs.Lines.{Line, line, Form, simple_form, decorator_form, header_form, Header, if_header, elif_header, else_header, loop_header, with_header, try_header, except_header, finally_header, def_header, DefHead, loop, definition, try_of}
-use Rattle.pygrammar.specs.Blocks.{handler, same_bool, MisplacedClause, Block, Statement, Body, Alternative, Otherwise, Excepts, Ending, Decorators, nothing, and_then, simple_line, if_statement, loop_statement, with_statement, try_finally, try_except, definition_of, inline, indented, an_else, an_elif, no_else, else_clause, no_except, except_clause, no_finally, finally_clause, no_decorator, decorator}
-use Rattle.pygrammar.specs.Reading.{Answer, Fine, Faulty, then, Arm, arm, Group, Idle, Marked, Choice, Loop, Trial, Caught, Settled, choice, closes, Part, part, ended, meets, grows, decorated, or_misplaced, place_header, Waiting, waiting, State, state, start, joined, settle, place, run, finish, read}
-use Rattle.pygrammar.proofs.Block.Steps.{then_then, run-append, settle_here, settle_block, step_here}
+use Rattle.pytree_node.specs.Trees.{Expr, Stmt, Case, Handler, If, Match, cases, stmts}
+use Rattle.pygrammar.specs.Lines.{Line, line, Form, simple_form, decorator_form, header_form, Header, if_header, elif_header, else_header, loop_header, with_header, try_header, except_header, finally_header, def_header, match_header, case_header, DefHead, loop, definition, try_of}
+use Rattle.pygrammar.specs.Blocks.{handler, case_of, same_bool, MisplacedClause, Block, Statement, Body, Alternative, Otherwise, Excepts, Cases, Ending, Decorators, nothing, and_then, simple_line, if_statement, loop_statement, with_statement, try_finally, try_except, definition_of, match_statement, inline, indented, an_else, an_elif, no_else, else_clause, no_except, except_clause, no_case, case_clause, no_finally, finally_clause, no_decorator, decorator}
+use Rattle.pygrammar.specs.Reading.{Answer, Fine, Faulty, then, Arm, arm, Group, Idle, Marked, Choice, Loop, Trial, Caught, Settled, Matching, choice, closes, Part, part, ended, meets, grows, decorated, or_misplaced, place_header, Waiting, waiting, State, state, start, joined, first_group, above, settle, place, run, finish, read}
+use Rattle.pygrammar.proofs.Block.Steps.{then_then, run-append, closes_above, settle_here, settle_block, step_here}
 
 -- whether a level still has had no line
 abbrev pub still : List Line → Bool → Bool
@@ -76,33 +76,40 @@ closing_whole {l} {xs} {d} {d'} p = record { done = d'; group = Idle; last = [];
 abbrev pub Gives : ℕ → List Line → List Stmt → Type 0
 Gives l xs ss = (d : List Stmt) (g : Group) (more : List Stmt) → closes g ≡ Some more → Closing l xs d g ((d ++ more) ++ ss)
 
--- a header with its block
+-- a header with its block, but that of a `match`
 abbrev pub GivesBody : ℕ → Option (List Stmt) → List Line → List Stmt → Type 0
-GivesBody l suite xs body = (d : List Stmt) (g : Group) (h : Header) (p : Part) → meets g h ≡ Some p →
+GivesBody l suite xs body = (d : List Stmt) (g : Group) (h : Header) (p : Part) → first_group h ≡ Idle → meets g h ≡ Some p →
     Leads l (line l (header_form h suite) ∷ xs) d g (joined (d ++ p.done) p.group h body).done (joined (d ++ p.done) p.group h body).group
 
 body_inline : (l : ℕ) (ss : List Stmt) → GivesBody l (Some ss) [] ss
-body_inline l ss d g h p e =
+body_inline l ss d g h p i e =
     one_line l (header_form h (Some ss)) d (joined (d ++ p.done) p.group h ss).done g (joined (d ++ p.done) p.group h ss).group
     (λ b below. ap (λ o. or_misplaced o (place_header (state d g b below) h (Some ss))) e)
 
-after_block : (l : ℕ) (d1 ss : List Stmt) (g1 : Group) (last : List Stmt) (w : Waiting) (below : List Waiting) → closes g1 ≡ Some last → d1 ++ last ≡ ss → length below ≡ l →
-    (a : Answer State) → then a (settle (suc l)) ≡ Fine (state d1 g1 false (w ∷ below)) →
-    then a (settle l) ≡ Fine (state (joined w.done w.group w.header ss).done (joined w.done w.group w.header ss).group false below)
-after_block l d1 ss g1 last w below c e n (Fine t) h =
-    settle_block l t d1 g1 w below last n h c ∙ ap (λ z. Fine (state (joined w.done w.group w.header z).done (joined w.done w.group w.header z).group false below)) e
-after_block l d1 ss g1 last w below c e n (Faulty f) h = cc
+after_block : (l : ℕ) (d1 : List Stmt) (g1 : Group) (w : Waiting) (below : List Waiting) (p : Part) → above w d1 g1 ≡ Some p → length below ≡ l →
+    (a : Answer State) → then a (settle (suc l)) ≡ Fine (state d1 g1 false (w ∷ below)) → then a (settle l) ≡ Fine (state p.done p.group false below)
+after_block l d1 g1 w below p c n (Fine t) h = settle_block l t d1 g1 w below p n h c
+after_block l d1 g1 w below p c n (Faulty f) h = cc
+
+-- a header whose block is the lines that follow
+with_lines : (l : ℕ) (x : Line) (xs : List Line) (d d1 : List Stmt) (g g1 : Group) (h : Header) (p q : Part) → meets g h ≡ Some p →
+    Leads (suc l) (x ∷ xs) [] (first_group h) d1 g1 → above (waiting (d ++ p.done) p.group h) d1 g1 ≡ Some q →
+    Leads l (line l (header_form h None) ∷ (x ∷ xs)) d g q.done q.group
+with_lines l x xs d d1 g g1 h p q e c u = record {
+  go = λ s f below n k.
+      let w : Waiting = waiting (d ++ p.done) p.group h in
+      ap (λ a. then (then a (run (x ∷ xs))) (settle l)) (step_here s l (header_form h None) (state d g f below) n k ∙ ap (λ o. or_misplaced o (place_header (state d g f below) h None)) e)
+      ∙ after_block l d1 g1 w below q u n (run (x ∷ xs) (state [] (first_group h) true (w ∷ below)))
+      (c.go (state [] (first_group h) true (w ∷ below)) true (w ∷ below) (ap suc n) (settle_here (suc l) [] (first_group h) true (w ∷ below) (omega (arith, n))));
+}
 
 body_indented : (l : ℕ) (x : Line) (xs : List Line) (ss : List Stmt) → Gives (suc l) (x ∷ xs) ss → GivesBody l None (x ∷ xs) ss
-body_indented l x xs ss ih d g h p e =
+body_indented l x xs ss ih d g h p i e =
     let c : Closing (suc l) (x ∷ xs) [] Idle ss = ih [] Idle [] refl in
-    record {
-      go = λ s f below n k.
-          let w : Waiting = waiting (d ++ p.done) p.group h in
-          ap (λ a. then (then a (run (x ∷ xs))) (settle l)) (step_here s l (header_form h None) (state d g f below) n k ∙ ap (λ o. or_misplaced o (place_header (state d g f below) h None)) e)
-          ∙ after_block l c.done ss c.group c.last w below c.closed c.is n (run (x ∷ xs) (state [] Idle true (w ∷ below)))
-          (c.leads.go (state [] Idle true (w ∷ below)) true (w ∷ below) (ap suc n) (settle_here (suc l) [] Idle true (w ∷ below) (omega (arith, n))));
-    }
+    let w : Waiting = waiting (d ++ p.done) p.group h in
+    let P : Group → Type 0 = λ z. Leads (suc l) (x ∷ xs) [] z c.done c.group in
+    with_lines l x xs d c.done g c.group h p (joined w.done w.group w.header ss) e (subst P (sym i) c.leads)
+    (closes_above w c.done c.group c.last c.closed ∙ ap (λ z. Some (joined w.done w.group w.header z)) c.is)
 
 -- groups that a new statement ends
 ends_def : (g : Group) (head : DefHead) (more : List Stmt) → closes g ≡ Some more → meets g (def_header head) ≡ Some (part more Idle)
@@ -113,6 +120,7 @@ ends_def (Loop h b) head more e = ap (λ o. elim o [ None ↦ None | Some ss ↦
 ends_def (Trial b) head more e = cc
 ends_def (Caught s b hs) head more e = ap (λ o. elim o [ None ↦ None | Some ss ↦ Some (part ss Idle) ]) e
 ends_def (Settled s b hs o) head more e = ap (λ o. elim o [ None ↦ None | Some ss ↦ Some (part ss Idle) ]) e
+ends_def (Matching cs) head more e = cc
 
 ends_marked : (g : Group) (x : Expr) (more : List Stmt) → closes g ≡ Some more → decorated g x ≡ Some (part more (Marked (x ∷ [])))
 ends_marked Idle x more e = ap (λ o. elim o [ None ↦ None | Some ss ↦ Some (part ss (Marked (x ∷ []))) ]) e
@@ -122,6 +130,7 @@ ends_marked (Loop h b) x more e = ap (λ o. elim o [ None ↦ None | Some ss ↦
 ends_marked (Trial b) x more e = cc
 ends_marked (Caught s b hs) x more e = ap (λ o. elim o [ None ↦ None | Some ss ↦ Some (part ss (Marked (x ∷ []))) ]) e
 ends_marked (Settled s b hs o) x more e = ap (λ o. elim o [ None ↦ None | Some ss ↦ Some (part ss (Marked (x ∷ []))) ]) e
+ends_marked (Matching cs) x more e = cc
 
 ends : (g : Group) (more : List Stmt) → closes g ≡ Some more → ended g ≡ Some (part more Idle)
 ends g more e = ap (λ o. elim o [ None ↦ None | Some ss ↦ Some (part ss Idle) ]) e
@@ -136,10 +145,10 @@ same_self false = refl
 
 -- a last clause that may be left out, and makes the group whole
 last_clause : {l : ℕ} {suite : Option (List Stmt)} {xs : List Line} {body : List Stmt} (h : Header) (whole : List Stmt → List Stmt) (d : List Stmt) (g : Group) →
-    GivesBody l suite xs body → meets g h ≡ Some (part [] g) → grows g h body ≡ part (whole body) Idle →
+    first_group h ≡ Idle → GivesBody l suite xs body → meets g h ≡ Some (part [] g) → grows g h body ≡ part (whole body) Idle →
     Closing l (line l (header_form h suite) ∷ xs) d g (d ++ whole body)
-last_clause {l} {suite} {xs} {body} h whole d g b m e =
-    closing_whole (leads_to (ap (λ p. (d ++ []) ++ p.done) e ∙ ap (λ z. z ++ whole body) (append-nil d)) (ap (λ p. p.group) e) (b d g h (part [] g) m))
+last_clause {l} {suite} {xs} {body} h whole d g i b m e =
+    closing_whole (leads_to (ap (λ p. (d ++ []) ++ p.done) e ∙ ap (λ z. z ++ whole body) (append-nil d)) (ap (λ p. p.group) e) (b d g h (part [] g) i m))
 
 no_clause : (l : ℕ) (whole : List Stmt → List Stmt) (d : List Stmt) (g : Group) → closes g ≡ Some (whole []) → Closing l [] d g (d ++ whole [])
 no_clause l whole d g e = record { done = d; group = g; last = whole []; closed = e; is = refl; leads = leads_none l d g }
@@ -154,6 +163,9 @@ GivesAlternative l xs orelse = (d : List Stmt) (arms : List Arm) → Closing l x
 
 abbrev pub GivesExcepts : ℕ → Bool → List Line → List Handler → Type 0
 GivesExcepts l star xs hs = (d body : List Stmt) (first : List Handler) → Leads l xs d (Caught star body first) d (Caught star body (first ++ hs))
+
+abbrev pub GivesCases : ℕ → List Line → List Case → Type 0
+GivesCases l xs cs = (d : List Stmt) (first : List Case) → Leads l xs d (Matching first) d (Matching (first ++ cs))
 
 -- after the `except`s and perhaps an `else`
 pub record Last (l : ℕ) (xs : List Line) (star : Bool) (body : List Stmt) (hs : List Handler) (orelse : List Stmt) (d : List Stmt) : Type 0 where
@@ -174,10 +186,10 @@ no_else_gives l = (
 
 else_gives : (l : ℕ) (suite : Option (List Stmt)) (xs : List Line) (orelse : List Stmt) → GivesBody l suite xs orelse → GivesElse l (line l (header_form else_header suite) ∷ xs) orelse
 else_gives l suite xs orelse b = (
-  λ whole d g c m e. last_clause else_header whole d g b m (e orelse),
+  λ whole d g c m e. last_clause else_header whole d g refl b m (e orelse),
   λ star body hs d. record {
     group = Settled star body hs orelse;
-    leads = leads_to (append-nil (d ++ []) ∙ append-nil d) refl (b d (Caught star body hs) else_header (part [] (Caught star body hs)) refl);
+    leads = leads_to (append-nil (d ++ []) ∙ append-nil d) refl (b d (Caught star body hs) else_header (part [] (Caught star body hs)) refl refl);
     closed = refl;
     meeting = refl;
     growing = λ b. refl;
@@ -195,13 +207,19 @@ marked_goes {l} (decorator {e = e} {xs = xs} {es = es} p) d first =
 definition_gives : {l : ℕ} (head : DefHead) {suite : Option (List Stmt)} {ds xs : List Line} {es : List Expr} {body : List Stmt} →
     Decorators l ds es → GivesBody l suite xs body → Gives l (ds ++ (line l (header_form (def_header head) suite) ∷ xs)) (definition es head body ∷ [])
 definition_gives head {body = body} no_decorator b d g more c =
-    closing_whole (b d g (def_header head) (part more Idle) (ends_def g head more c))
+    closing_whole (b d g (def_header head) (part more Idle) refl (ends_def g head more c))
 definition_gives {l} head {body = body} (decorator {e = e} {xs = ds} {es = es} p) b d g more c =
     closing_whole (leads-append
     (leads-append (one_line l (decorator_form e) d (d ++ more) g (Marked (e ∷ [])) (λ f below. ap (λ o. or_misplaced o (λ p. state (d ++ p.done) p.group false below)) (ends_marked g e more c)))
     (marked_goes p (d ++ more) (e ∷ [])))
     (leads_to (ap (λ z. z ++ (definition (e ∷ es) head body ∷ [])) (append-nil (d ++ more))) refl
-    (b (d ++ more) (Marked (e ∷ es)) (def_header head) (part [] (Marked (e ∷ es))) refl)))
+    (b (d ++ more) (Marked (e ∷ es)) (def_header head) (part [] (Marked (e ∷ es))) refl refl)))
+
+-- a `match` and its cases
+match_gives : (l : ℕ) (subject : Expr) (x : Line) (xs : List Line) (cs : List Case) → GivesCases (suc l) (x ∷ xs) cs →
+    Gives l (line l (header_form (match_header subject) None) ∷ (x ∷ xs)) (Match subject (cases cs) ∷ [])
+match_gives l subject x xs cs ih d g more c =
+    closing_whole (with_lines l x xs d [] g (Matching cs) (match_header subject) (part more Idle) (part ((d ++ more) ++ (Match subject (cases cs) ∷ [])) Idle) (ends g more c) (ih [] []) refl)
 
 pub no_gap : (d x : List Stmt) → (d ++ []) ++ x ≡ d ++ x
 no_gap d x = ap (λ z. z ++ x) (append-nil d)
@@ -228,28 +246,29 @@ mutual
       closing_whole (one_line l (simple_form ss) d ((d ++ more) ++ ss) g Idle (λ f below. ap (λ o. or_misplaced o (λ more. state ((d ++ more) ++ ss) Idle false below)) c))
   statement_gives {l} (if_statement {test = test} {body = body} {orelse = orelse} p q) d g more c =
       closing_to (no_gap (d ++ more) (choice (arm test body ∷ []) orelse))
-      (closing-append (body_gives p d g (if_header test) (part more Idle) (ends g more c)) (alternative_gives q ((d ++ more) ++ []) (arm test body ∷ [])))
+      (closing-append (body_gives p d g (if_header test) (part more Idle) refl (ends g more c)) (alternative_gives q ((d ++ more) ++ []) (arm test body ∷ [])))
   statement_gives {l} (loop_statement {head = head} {body = body} {orelse = orelse} p q) d g more c =
       closing_to (no_gap (d ++ more) (loop head body orelse ∷ []))
-      (closing-append (body_gives p d g (loop_header head) (part more Idle) (ends g more c))
+      (closing-append (body_gives p d g (loop_header head) (part more Idle) refl (ends g more c))
       ((else_clause_gives q).0 (λ o. loop head body o ∷ []) ((d ++ more) ++ []) (Loop head body) refl refl (λ b. refl)))
   statement_gives {l} (with_statement {is_async = a} {items = items} p) d g more c =
-      closing_whole (body_gives p d g (with_header a items) (part more Idle) (ends g more c))
+      closing_whole (body_gives p d g (with_header a items) (part more Idle) refl (ends g more c))
   statement_gives {l} (try_finally {body = body} {final = final} p q) d g more c =
       closing_to (no_gap (d ++ more) (try_of false body [] [] final ∷ []))
-      (closing-append (body_gives p d g try_header (part more Idle) (ends g more c))
-      (last_clause finally_header (λ f. try_of false body [] [] f ∷ []) ((d ++ more) ++ []) (Trial body) (body_gives q) refl refl))
+      (closing-append (body_gives p d g try_header (part more Idle) refl (ends g more c))
+      (last_clause finally_header (λ f. try_of false body [] [] f ∷ []) ((d ++ more) ++ []) (Trial body) refl (body_gives q) refl refl))
   statement_gives {l} (try_except {star = star} {body = body} {orelse = orelse} {final = final} p (except_clause {matched = m} {name = n} {body = first} {hs = hs} r q) o e) d g more c =
       let z : List Stmt = (d ++ more) ++ [] in
       let k = (else_clause_gives o).1 star body (handler m n first ∷ hs) z in
       closing_to (no_gap (d ++ more) (try_of star body (handler m n first ∷ hs) orelse final ∷ []))
-      (closing-append (body_gives p d g try_header (part more Idle) (ends g more c))
+      (closing-append (body_gives p d g try_header (part more Idle) refl (ends g more c))
       (closing-append (leads-append
-      (leads_to (append-nil (z ++ []) ∙ append-nil z) refl (body_gives r z (Trial body) (except_header star m n) (part [] (Trial body)) refl))
+      (leads_to (append-nil (z ++ []) ∙ append-nil z) refl (body_gives r z (Trial body) (except_header star m n) (part [] (Trial body)) refl refl))
       (excepts_gives q z body (handler m n first ∷ [])))
       (closing-append k.leads
       (ending_gives e (λ f. try_of star body (handler m n first ∷ hs) orelse f ∷ []) z k.group k.closed k.meeting k.growing))))
   statement_gives {l} (definition_of head p q) d g more c = definition_gives head p (body_gives q) d g more c
+  statement_gives {l} (match_statement {subject = subject} {x = x} {xs = xs} {cs = cs} p) d g more c = match_gives l subject x xs cs (cases_gives p) d g more c
 
   pub body_gives : {l : ℕ} {suite : Option (List Stmt)} {xs : List Line} {ss : List Stmt} → Body l suite xs ss → GivesBody l suite xs ss
   body_gives {l} (inline {ss = ss}) = body_inline l ss
@@ -260,7 +279,7 @@ mutual
   alternative_gives {l} (an_elif {test = test} {body = body} {orelse = orelse} p q) d arms =
       closing_to (ap (λ z. d ++ z) (choice-append arms (arm test body) orelse))
       (closing-append
-      (leads_to (append-nil (d ++ []) ∙ append-nil d) refl (body_gives p d (Choice arms) (elif_header test) (part [] (Choice arms)) refl))
+      (leads_to (append-nil (d ++ []) ∙ append-nil d) refl (body_gives p d (Choice arms) (elif_header test) (part [] (Choice arms)) refl refl))
       (alternative_gives q d (arms ++ arm test body ∷ [])))
 
   pub else_clause_gives : {l : ℕ} {xs : List Line} {ss : List Stmt} → Otherwise l xs ss → GivesElse l xs ss
@@ -273,13 +292,21 @@ mutual
       leads_to refl (ap (Caught star body) (append_assoc first (handler m n b ∷ []) hs))
       (leads-append
       (leads_to (append-nil (d ++ []) ∙ append-nil d) refl
-      (body_gives p d (Caught star body first) (except_header star m n) (part [] (Caught star body first))
+      (body_gives p d (Caught star body first) (except_header star m n) (part [] (Caught star body first)) refl
       (ap (λ b. cond b (Some (part [] (Caught star body first))) None) (same_self star))))
       (excepts_gives q d body (first ++ handler m n b ∷ [])))
 
+  pub cases_gives : {l : ℕ} {xs : List Line} {cs : List Case} → Cases l xs cs → GivesCases l xs cs
+  cases_gives {l} no_case d first = leads_to refl (ap Matching (sym (append-nil first))) (leads_none l d (Matching first))
+  cases_gives {l} (case_clause {pattern = pattern} {guard = guard} {body = b} {cs = cs} p q) d first =
+      leads_to refl (ap Matching (append_assoc first (case_of pattern guard b ∷ []) cs))
+      (leads-append
+      (leads_to (append-nil (d ++ []) ∙ append-nil d) refl (body_gives p d (Matching first) (case_header pattern guard) (part [] (Matching first)) refl refl))
+      (cases_gives q d (first ++ case_of pattern guard b ∷ [])))
+
   pub ending_gives : {l : ℕ} {xs : List Line} {ss : List Stmt} → Ending l xs ss → GivesLast l finally_header xs ss
   ending_gives {l} no_finally whole d g c m e = no_clause l whole d g c
-  ending_gives {l} (finally_clause {body = body} p) whole d g c m e = last_clause finally_header whole d g (body_gives p) m (e body)
+  ending_gives {l} (finally_clause {body = body} p) whole d g c m e = last_clause finally_header whole d g refl (body_gives p) m (e body)
 
 -- the whole text
 pub read_block : {xs : List Line} {ss : List Stmt} → Block 0 xs ss → read xs ≡ Fine ss

@@ -2,12 +2,13 @@
 --
 -- Carries: formed_on, unread_on, unread_more, step_on and 3 more, for
 -- Blocks. On: Law, Steps, Sound.
-use Rattle.std.proofs.Common.{◌≡◌, ℕ, List, [], ◌∷◌, ◌++◌, length, sym, ap, ◌∙◌, subst, append-nil}
+use Rattle.std.proofs.Common.{◌≡◌, ℕ, List, [], ◌∷◌, ◌++◌, length, true, sym, ap, ◌∙◌, subst, append-nil}
 use Rattle.pytree_node.specs.declared.profiles.Profile.{Profile}
 use Rattle.pytree_node.specs.Trees.{Stmt}
+use Rattle.pytoken.specs.Inner.Behind.{behind}
 use Rattle.pytoken.specs.Tokens as Tokens
-use Rattle.pygrammar.specs.Lines.{Line, line, Form}
-use Rattle.pygrammar.specs.Blocks.{Block, Fault, FirstFault}
+use Rattle.pygrammar.specs.Lines.{Line, line, Form, are_proper}
+use Rattle.pygrammar.specs.Blocks.{Block, Fault, FirstFault, stands_in_match}
 use Rattle.pygrammar.specs.Reading.{Answer, Fine, Faulty, then, State, start, step, run, stops, finish, read}
 use Rattle.pygrammar.specs.Refusals.{Code, HasForm, Formed, formed_end, formed_line, Unread, FirstUnread, unread, unread_behind}
 use Rattle.pygrammar.proofs.Block.Steps.{run-append}
@@ -16,17 +17,18 @@ use Rattle.pygrammar.proofs.Block.Law.{Finds, read_finds}
 
 -- ---- Forms.
 
-pub formed_on : {profile : Profile} {xs : List Tokens.Line} {ys : List Line} {x : Tokens.Line} {f : Form} → Formed profile xs ys → HasForm profile x f →
-    Formed profile (xs ++ x ∷ []) (ys ++ line x.level f ∷ [])
+pub formed_on : {profile : Profile} {earlier : List Line} {xs : List Tokens.Line} {ys : List Line} {x : Tokens.Line} {f : Form} → Formed profile earlier xs ys →
+    HasForm profile (stands_in_match x.level (behind earlier ys)) x f → Formed profile earlier (xs ++ x ∷ []) (ys ++ line x.level f ∷ [])
 formed_on formed_end h = formed_line h formed_end
 formed_on (formed_line k p) h = formed_line k (formed_on p h)
 
-pub unread_on : {profile : Profile} {xs : List Tokens.Line} {ys : List Line} {x : Tokens.Line} {c : Code} → Formed profile xs ys → Unread profile x c → (more : List Tokens.Line) →
-    FirstUnread profile (xs ++ (x ∷ more)) (length xs) c
+pub unread_on : {profile : Profile} {earlier : List Line} {xs : List Tokens.Line} {ys : List Line} {x : Tokens.Line} {c : Code} → Formed profile earlier xs ys →
+    Unread profile (stands_in_match x.level (behind earlier ys)) x c → (more : List Tokens.Line) → FirstUnread profile earlier (xs ++ (x ∷ more)) (length xs) c
 unread_on formed_end h more = unread h
 unread_on (formed_line k p) h more = unread_behind k (unread_on p h more)
 
-pub unread_more : {profile : Profile} {xs : List Tokens.Line} {n : ℕ} {c : Code} → FirstUnread profile xs n c → (more : List Tokens.Line) → FirstUnread profile (xs ++ more) n c
+pub unread_more : {profile : Profile} {earlier : List Line} {xs : List Tokens.Line} {n : ℕ} {c : Code} → FirstUnread profile earlier xs n c → (more : List Tokens.Line) →
+    FirstUnread profile earlier (xs ++ more) n c
 unread_more (unread h) more = unread h
 unread_more (unread_behind k p) more = unread_behind k (unread_more p more)
 
@@ -64,5 +66,5 @@ end_fault_found xs s f h e =
     let Q : List Line → Type 0 = λ r. FirstFault [] xs r f in
     subst Q last (subst P answer (read_finds xs))
 
-pub block_found : (xs : List Line) (s : State) (ss : List Stmt) → run xs start ≡ Fine s → finish s ≡ Fine ss → Block 0 xs ss
-block_found xs s ss h e = read_gives xs ss (ap (λ a. then a finish) h ∙ e)
+pub block_found : (xs : List Line) (s : State) (ss : List Stmt) → are_proper xs ≡ true → run xs start ≡ Fine s → finish s ≡ Fine ss → Block 0 xs ss
+block_found xs s ss o h e = read_gives xs ss o (ap (λ a. then a finish) h ∙ e)

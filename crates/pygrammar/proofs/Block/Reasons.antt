@@ -1,7 +1,7 @@
 -- A source that is refused has one reason, but for a long line without any form.
 --
--- Carries: one_reason, for SourceLaw. On: Law, Answer, FirstDeep.
-use Rattle.std.proofs.Common.{◌≡◌, ◌⊎◌, inl, inr, ℕ, suc, ◌<◌, List, [], ◌∷◌, ◌++◌, length, Some, None, Contains, refl, sym, ap, ◌∙◌, subst, length-append, arith}
+-- Carries: one_reason, for SourceLaw. On: Law, Line/Law, Answer, FirstDeep.
+use Rattle.std.proofs.Common.{◌≡◌, ◌⊎◌, inl, inr, ℕ, suc, ◌<◌, List, [], ◌∷◌, ◌++◌, length, Bool, Some, None, Contains, refl, sym, ap, ◌∙◌, subst, length-append, arith}
 use Rattle.std.proofs.lemmas.List.Elements.{Contains-append_right}
 use Rattle.pysource.specs.declared.places.Place.{Place}
 use Rattle.pylex.specs.Listing.{Source}
@@ -12,11 +12,12 @@ use Rattle.pytoken.specs.Refusals.{refusal}
 use Rattle.pytoken.specs.Tokens.{Token, tokens, lines}
 use Rattle.pytoken.specs.Tokens as Tokens
 use Rattle.pygrammar.specs.Lines.{Line}
-use Rattle.pygrammar.specs.Blocks.{Fault, FirstFault}
+use Rattle.pygrammar.specs.Blocks.{Fault, FirstFault, stands_in_match}
 use Rattle.pygrammar.specs.Refusals.{Code, Indentation, TooDeep, Reason, in_tokens, at, StartsAt, at_line, at_end, HasNone, Unread, too_high, no_match, no_form, too_long, FirstUnread, unread, unread_behind, FirstDeep, Refused, by_tokens, by_line, by_block, by_height}
 use Rattle.pygrammar.specs.SourceLaws.{IsFreeChoice, free}
+use Rattle.pygrammar.proofs.Line.Law.{one_form}
 use Rattle.pygrammar.proofs.Block.Law.{tree_faultless, no_first, one_first}
-use Rattle.pygrammar.proofs.Block.Answer.{one_formed, unread_formed, unread_none}
+use Rattle.pygrammar.proofs.Block.Answer.{one_formed, unread_as, unread_formed, unread_none}
 use Rattle.pygrammar.proofs.Block.FirstDeep.{one_deep}
 
 -- ---- Places.
@@ -52,10 +53,10 @@ place_at {s} {p = p} e a b = let P : ℕ → Type 0 = λ z. StartsAt s z p in on
 
 -- ---- Lines.
 
-abbrev IsLong : Profile → Tokens.Line → Type 0
-IsLong profile x = HasNone profile x × (500 < length x.tokens)
+abbrev IsLong : Profile → Bool → Tokens.Line → Type 0
+IsLong profile inside x = HasNone profile inside x × (500 < length x.tokens)
 
-one_code : {profile : Profile} {x : Tokens.Line} {c d : Code} → Unread profile x c → Unread profile x d → (c ≡ d) ⊎ IsLong profile x
+one_code : {profile : Profile} {inside : Bool} {x : Tokens.Line} {c d : Code} → Unread profile inside x c → Unread profile inside x d → (c ≡ d) ⊎ IsLong profile inside x
 one_code (too_high p h) (too_high q k) = inl refl
 one_code (too_high {f = f} p h) (no_match q k) = absurd (q f p)
 one_code (too_high {f = f} p h) (no_form q k) = absurd (q f p)
@@ -71,14 +72,16 @@ one_code (no_form p h) (too_long q k) = inr (q, k)
 one_code (too_long p h) _ = inr (p, h)
 
 abbrev HasLong : Profile → List Tokens.Line → Type 0
-HasLong profile xs = (x : Tokens.Line) × Contains xs x × IsLong profile x
+HasLong profile xs = (x : Tokens.Line) × (inside : Bool) × Contains xs x × IsLong profile inside x
 
-pub one_unread : {profile : Profile} {xs : List Tokens.Line} {a b : ℕ} {c d : Code} → FirstUnread profile xs a c → FirstUnread profile xs b d → (a ≡ b) × ((c ≡ d) ⊎ HasLong profile xs)
-one_unread (unread {x = x} h) (unread k) = (refl, elim (one_code h k) [ inl e ↦ inl e | inr l ↦ inr (x, (0, omega arith, refl), l) ])
+pub one_unread : {profile : Profile} {earlier : List Line} {xs : List Tokens.Line} {a b : ℕ} {c d : Code} → FirstUnread profile earlier xs a c → FirstUnread profile earlier xs b d →
+    (a ≡ b) × ((c ≡ d) ⊎ HasLong profile xs)
+one_unread (unread {earlier = earlier} {x = x} h) (unread k) = (refl, elim (one_code h k) [ inl e ↦ inl e | inr l ↦ inr (x, stands_in_match x.level earlier, (0, omega arith, refl), l) ])
 one_unread (unread h) (unread_behind k q) = absurd (unread_formed k h)
 one_unread (unread_behind h p) (unread k) = absurd (unread_formed h k)
 one_unread (unread_behind {x = x} {xs = xs} h p) (unread_behind k q) =
-    let r = one_unread p q in (ap suc r.0, elim r.1 [ inl e ↦ inl e | inr l ↦ inr (l.0, Contains-append_right (x ∷ []) xs l.0 l.1, l.2) ])
+    let r = one_unread p (unread_as (one_form k.is h.is) q) in
+    (ap suc r.0, elim r.1 [ inl e ↦ inl e | inr l ↦ inr (l.0, l.1, Contains-append_right (x ∷ []) xs l.0 l.2, l.3) ])
 
 -- ---- Reasons.
 
@@ -90,7 +93,7 @@ same_reason p q c d e f = ap (λ z. at z c) e ∙ ap (λ z. at q z) f
 
 of_lines : {profile : Profile} {s : Source} {p q : Place} {c d : Code} → p ≡ q → (c ≡ d) ⊎ HasLong profile (lines s) → IsOne profile s (at p c) (at q d)
 of_lines {p = p} {q = q} {c = c} {d = d} e (inl f) = inl (same_reason p q c d e f)
-of_lines {profile} {s} {p = p} {c = c} {d = d} e (inr l) = let P : Place → Type 0 = λ z. IsFreeChoice profile s (at p c) (at z d) in inr (subst P e (free l.0 l.1 l.2.0 l.2.1))
+of_lines {profile} {s} {p = p} {c = c} {d = d} e (inr l) = let P : Place → Type 0 = λ z. IsFreeChoice profile s (at p c) (at z d) in inr (subst P e (free {inside = l.1} l.0 l.2 l.3.0 l.3.1))
 
 clear_or_not : (x : Extent) (s : Source) {r : Refusal} → refusal x s ≡ None → refusal x s ≡ Some r → ⊥
 clear_or_not x s h k = absurd (cc)

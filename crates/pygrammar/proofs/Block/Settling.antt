@@ -1,22 +1,25 @@
 -- What is known when the levels above a line have come to their end, and the
 -- faults of the line there.
 --
--- Carries: Levels, Marks, Settled, marked_stands and 7 more, for Law. On: Fitting, Standing, Steps.
+-- Carries: Levels, Marks, Settled, marked_stands and 7 more, for Law. On: Fitting, Nested, Standing, Steps.
 use Rattle.std.proofs.Common.{◌≡◌, ℕ, suc, ◌<◌, ◌≤◌, List, [], ◌∷◌, ◌++◌, length, Some, None, Bool, true, false, cond, refl, sym, ap, ◌∙◌, arith, ◌⊎◌, inl, inr}
 use Rattle.std.specs.Prelude.{nat_lt, ◌==◌}
 use borrow.Author.Tests.{ltb-true, ltb-false, eqb-true, eqb-false}
 use Rattle.pytree_node.specs.Trees.{Stmt}
 use Rattle.pygrammar.specs.Lines.{Line, Form, simple_form, decorator_form, header_form, Header, opens}
-use Rattle.pygrammar.specs.Blocks.{Fault, ExpectedIndent, UnexpectedIndent, MisplacedClause, Kind, SimpleLine, DecoratorLine, header_kind, kind_of, previous, may_follow, is_try_clause, is_decorated, level_before, opens_before, Misplaced, not_taken, ends_try, ends_decorators, HasFault, not_deeper, far_deeper, opens_none, misplaced, comes_before, IsClear, IsFault}
-use Rattle.pygrammar.specs.Reading.{Answer, Fine, Faulty, Group, Marked, closes, grows, Waiting, State, state, joined, settle_in}
+use Rattle.pygrammar.specs.Blocks.{Fault, ExpectedIndent, UnexpectedIndent, MisplacedClause, Kind, SimpleLine, DecoratorLine, header_kind, kind_of, previous, may_follow, is_try_clause, is_decorated, level_before, opens_before, is_match, is_case, same_bool, stands_in_match, Misplaced, not_taken, ends_try, ends_decorators, not_by_place, HasFault, not_deeper, far_deeper, opens_none, misplaced, comes_before, IsClear, IsFault}
+use Rattle.pygrammar.specs.Reading.{Answer, Fine, Faulty, Group, Marked, Trial, closes, Part, grows, Waiting, State, state, above, settle_in}
 use Rattle.pygrammar.proofs.Block.Steps.{popped}
-use Rattle.pygrammar.proofs.Block.Standing.{Free, AfterTry, AfterDecorator, standing, stand, admits, may_follow_is, try_stands, try_at, standing_above}
-use Rattle.pygrammar.proofs.Block.Fitting.{is_marked, is_decorator, last_decorator, not_marked, no_decorator_header, Fits, Wrong, wrong_follow, wrong_try, wrong_decorator, fits_closed, wrong_closed}
+use Rattle.pygrammar.proofs.Block.Standing.{Standing, Free, AfterTry, AfterDecorator, standing, stand, admits, may_follow_is, try_stands, try_at, standing_above}
+use Rattle.pygrammar.proofs.Block.Fitting.{is_marked, is_decorator, last_decorator, not_marked, no_decorator_header, Fits, Wrong, wrong_follow, wrong_try, wrong_decorator, wrong_place, fits_closed}
+use Rattle.pygrammar.proofs.Block.Nested.{Ends, ends_cases, ends_block, ends_of, is_matching, in_match, AreNested, nested_is, nested_pop, grows_match}
 
--- each level that waits will be found as its header leaves it
+-- each level that waits will be found as its header leaves it, and where it is
 abbrev pub Levels : List Line → List Waiting → Type 0
 Levels earlier [] = Unit {0}
-Levels earlier (w ∷ below) = ((body : List Stmt) → standing (length below) earlier ≡ stand (grows w.group w.header body).group) × Levels earlier below
+Levels earlier (w ∷ below) =
+    ((body : List Stmt) → standing (length below) earlier ≡ stand (grows w.group w.header body).group)
+    × (stands_in_match (length below) earlier ≡ in_match below) × Levels earlier below
 
 pub record Marks (earlier : List Line) (s : State) : Type 0 where
   pub stands : standing (length s.below) earlier ≡ stand s.group
@@ -25,11 +28,15 @@ pub record Marks (earlier : List Line) (s : State) : Type 0 where
   pub fresh_level : s.fresh ≡ true → length s.below ≡ suc (level_before earlier)
   pub level : s.fresh ≡ false → length s.below ≡ level_before earlier
   pub marked : last_decorator earlier ≡ is_marked s.group
+  pub place : stands_in_match (length s.below) earlier ≡ in_match s.below
+  pub nested : AreNested s.group s.below
 
 -- what is known when the levels above l have come to their end
 pub record Settled (l : ℕ) (earlier : List Line) (g : Group) (f : Bool) (below : List Waiting) (t : State) : Type 0 where
   pub stands : standing (length t.below) earlier ≡ stand t.group
   pub levels : Levels earlier t.below
+  pub place : stands_in_match (length t.below) earlier ≡ in_match t.below
+  pub nested : AreNested t.group t.below
   pub tries : (m : ℕ) → l < m → m ≤ length below → standing m earlier ≡ AfterTry → ⊥
   pub by : ((length below ≤ l) × (t.below ≡ below) × (t.group ≡ g) × (t.fresh ≡ f))
       ⊎ ((l < length below) × (f ≡ false) × (is_marked g ≡ false) × (is_marked t.group ≡ false) × (length t.below ≡ l) × (t.fresh ≡ false))
@@ -40,22 +47,16 @@ pub record Unsettled (l : ℕ) (earlier : List Line) (g : Group) (f : Bool) (bel
   pub why : ((e ≡ ExpectedIndent) × (f ≡ true)) ⊎ ((e ≡ MisplacedClause) × (f ≡ false) × (((m : ℕ) × (l < m) × (standing m earlier ≡ AfterTry)) ⊎ (is_marked g ≡ true)))
 
 closes_no_try : (g : Group) (ss : List Stmt) → closes g ≡ Some ss → stand g ≡ AfterTry → ⊥
-closes_no_try g ss c e = let f = (fits_closed g ss SimpleLine c refl).tries e in cc f
+closes_no_try g ss c e = let f = (fits_closed g ss SimpleLine c refl refl).tries e in cc f
 
 closes_unmarked : (g : Group) (ss : List Stmt) → closes g ≡ Some ss → is_marked g ≡ false
 closes_unmarked (Marked es) ss c = cc
 closes_unmarked _ ss c = refl
 
-open_group : (g : Group) → closes g ≡ None → (stand g ≡ AfterTry) ⊎ (is_marked g ≡ true)
-open_group g c = elim (wrong_closed g SimpleLine c refl refl) [
-  | wrong_follow a ↦ cc a
-  | wrong_try a b ↦ inl a
-  | wrong_decorator a b ↦ inr (marked_stand g a)
-]
-  where
-    marked_stand : (g : Group) → stand g ≡ AfterDecorator → is_marked g ≡ true
-    marked_stand (Marked es) e = refl
-    marked_stand _ e = cc
+open_group : (w : Waiting) (d : List Stmt) (g : Group) → above w d g ≡ None → (stand g ≡ AfterTry) ⊎ (is_marked g ≡ true)
+open_group w d (Trial body) c = inl refl
+open_group w d (Marked es) c = inr refl
+open_group w d _ c = cc
 
 pub marked_stands : (g : Group) → is_marked g ≡ true → stand g ≡ AfterDecorator
 marked_stands (Marked es) e = refl
@@ -68,6 +69,25 @@ stands_marked _ e = cc
 unmarked : (g : Group) → is_marked g ≡ true → is_marked g ≡ false → ⊥
 unmarked g a b = cc
 
+-- ---- A level ends.
+
+ends_no_try : (w : Waiting) (d : List Stmt) (g : Group) (p : Part) → Ends w d g p → stand g ≡ AfterTry → ⊥
+ends_no_try w d g p (ends_cases cs) e = cc
+ends_no_try w d g p (ends_block ss c) e = closes_no_try g ss c e
+
+ends_unmarked : (w : Waiting) (d : List Stmt) (g : Group) (p : Part) → Ends w d g p → is_marked g ≡ false
+ends_unmarked w d g p (ends_cases cs) = refl
+ends_unmarked w d g p (ends_block ss c) = closes_unmarked g ss c
+
+left_unmarked : (w : Waiting) (d : List Stmt) (g : Group) (p : Part) → Ends w d g p → is_marked p.group ≡ false
+left_unmarked w d g p (ends_cases cs) = refl
+left_unmarked w d g p (ends_block ss c) = not_marked w.group w.header (d ++ ss)
+
+left_stands : (s : Standing) (w : Waiting) (d : List Stmt) (g : Group) (p : Part) → Ends w d g p → is_matching g ≡ is_match (header_kind w.header) →
+    ((body : List Stmt) → s ≡ stand (grows w.group w.header body).group) → s ≡ stand p.group
+left_stands s w d g p (ends_cases cs) n k = k [] ∙ ap stand (grows_match w.group w.header [] (sym n))
+left_stands s w d g p (ends_block ss c) n k = k (d ++ ss)
+
 abbrev pub Settles : ℕ → List Line → Group → Bool → List Waiting → Answer State → Type 0
 Settles l earlier g f below (Fine t) = Settled l earlier g f below t
 Settles l earlier g f below (Faulty e) = Unsettled l earlier g f below e
@@ -79,6 +99,8 @@ settles_up : (l : ℕ) (earlier : List Line) (g g' : Group) (w : Waiting) (below
 settles_up l earlier g g' w below (Fine t) n s c m m' h = record {
   stands = h.stands;
   levels = h.levels;
+  place = h.place;
+  nested = h.nested;
   tries = λ k a b i. elim (nat_lt k (length (w ∷ below))) as (λ z. nat_lt k (length (w ∷ below)) ≡ z → ⊥) [
     | true ↦ λ q. let r : k < length (w ∷ below) = ltb-true k (length (w ∷ below)) q in h.tries k a (omega arith) i
     | false ↦ λ q.
@@ -104,35 +126,31 @@ settles_up l earlier g g' w below (Faulty e) n s c m m' h = record {
 }
 
 settles_pop : (l : ℕ) (earlier : List Line) (d : List Stmt) (g : Group) (f : Bool) (w : Waiting) (below : List Waiting) → l < length (w ∷ below) →
-    standing (length (w ∷ below)) earlier ≡ stand g →
-    ((ss : List Stmt) → Settles l earlier (joined w.done w.group w.header (d ++ ss)).group false below
-    (settle_in l (joined w.done w.group w.header (d ++ ss)).done (joined w.done w.group w.header (d ++ ss)).group false below)) →
+    standing (length (w ∷ below)) earlier ≡ stand g → ((p : Part) → Ends w d g p → Settles l earlier p.group false below (settle_in l p.done p.group false below)) →
     Settles l earlier g f (w ∷ below) (cond f (Faulty ExpectedIndent) (popped l d g w below))
 settles_pop l earlier d g true w below n s k = record { above = n; why = inl (refl, refl) }
 settles_pop l earlier d g false w below n s k =
-    elim (closes g) as (λ o. closes g ≡ o → Settles l earlier g false (w ∷ below) (elim o [
-      | None ↦ Faulty MisplacedClause
-      | Some ss ↦ settle_in l (joined w.done w.group w.header (d ++ ss)).done (joined w.done w.group w.header (d ++ ss)).group false below
-    ])) [
-      | None ↦ λ c. record { above = n; why = inr (refl, refl, elim (open_group g c) [ inl a ↦ inl (length (w ∷ below), n, s ∙ a) | inr a ↦ inr a ]) }
-      | Some ss ↦ λ c. settles_up l earlier g (joined w.done w.group w.header (d ++ ss)).group w below
-          (settle_in l (joined w.done w.group w.header (d ++ ss)).done (joined w.done w.group w.header (d ++ ss)).group false below)
-          n s (closes_no_try g ss c) (closes_unmarked g ss c) (not_marked w.group w.header (d ++ ss)) (k ss)
+    elim (above w d g) as (λ o. above w d g ≡ o → Settles l earlier g false (w ∷ below) (elim o [ None ↦ Faulty MisplacedClause | Some p ↦ settle_in l p.done p.group false below ])) [
+      | None ↦ λ c. record { above = n; why = inr (refl, refl, elim (open_group w d g c) [ inl a ↦ inl (length (w ∷ below), n, s ∙ a) | inr a ↦ inr a ]) }
+      | Some p ↦ λ c.
+          let e = ends_of w d g p c in
+          settles_up l earlier g p.group w below (settle_in l p.done p.group false below) n s (ends_no_try w d g p e) (ends_unmarked w d g p e) (left_unmarked w d g p e) (k p e)
     ] refl
 
-stays_settled : (l : ℕ) (earlier : List Line) (d : List Stmt) (g : Group) (f : Bool) (below : List Waiting) → length below ≤ l → standing (length below) earlier ≡ stand g → Levels earlier below →
-    Settled l earlier g f below (state d g f below)
-stays_settled l earlier d g f below n s k = record { stands = s; levels = k; tries = λ m a b i. absurd (omega arith); by = inl (n, refl, refl, refl) }
+stays_settled : (l : ℕ) (earlier : List Line) (d : List Stmt) (g : Group) (f : Bool) (below : List Waiting) → length below ≤ l → standing (length below) earlier ≡ stand g →
+    stands_in_match (length below) earlier ≡ in_match below → AreNested g below → Levels earlier below → Settled l earlier g f below (state d g f below)
+stays_settled l earlier d g f below n s i a k =
+    record { stands = s; levels = k; place = i; nested = a; tries = λ m a b i. absurd (omega arith); by = inl (n, refl, refl, refl) }
 
-pub settles : (l : ℕ) (earlier : List Line) (d : List Stmt) (g : Group) (f : Bool) (below : List Waiting) → standing (length below) earlier ≡ stand g → Levels earlier below →
-    Settles l earlier g f below (settle_in l d g f below)
-settles l earlier d g f [] s k = stays_settled l earlier d g f [] (omega arith) s k
-settles l earlier d g f (w ∷ below) s k =
+pub settles : (l : ℕ) (earlier : List Line) (d : List Stmt) (g : Group) (f : Bool) (below : List Waiting) → standing (length below) earlier ≡ stand g →
+    stands_in_match (length below) earlier ≡ in_match below → AreNested g below → Levels earlier below → Settles l earlier g f below (settle_in l d g f below)
+settles l earlier d g f [] s i a k = stays_settled l earlier d g f [] (omega arith) s i a k
+settles l earlier d g f (w ∷ below) s i a k =
     elim (nat_lt l (length (w ∷ below))) as (λ b. nat_lt l (length (w ∷ below)) ≡ b →
     Settles l earlier g f (w ∷ below) (cond b (cond f (Faulty ExpectedIndent) (popped l d g w below)) (Fine (state d g f (w ∷ below))))) [
       | true ↦ λ n. settles_pop l earlier d g f w below (ltb-true l (length (w ∷ below)) n) s
-          (λ ss. settles l earlier (joined w.done w.group w.header (d ++ ss)).done (joined w.done w.group w.header (d ++ ss)).group false below (k.0 (d ++ ss)) k.1)
-      | false ↦ λ n. stays_settled l earlier d g f (w ∷ below) (ltb-false l (length (w ∷ below)) n) s k
+          (λ p e. settles l earlier p.done p.group false below (left_stands (standing (length below) earlier) w d g p e a.0 k.0) k.1 (nested_pop w d g p below e a) k.2)
+      | false ↦ λ n. stays_settled l earlier d g f (w ∷ below) (ltb-false l (length (w ∷ below)) n) s i a k
     ] refl
 
 -- ---- One line.
@@ -182,7 +200,7 @@ no_unexpected earlier l s t r k h = unexpected h
     unexpected (far_deeper n) = far n
     unexpected (opens_none e o) = none e o
 
-tries_here : (earlier : List Line) (l : ℕ) (s t : State) (k : Kind) → Reached earlier l s t → Fits k (stand t.group) →
+tries_here : (earlier : List Line) (l : ℕ) (s t : State) (k : Kind) → Reached earlier l s t → Fits k t.group →
     (m : ℕ) → standing m earlier ≡ AfterTry → l ≤ m → (l ≡ m → is_try_clause k ≡ false) → ⊥
 tries_here earlier l s t k r f m e n c =
     elim (nat_lt l m) as (λ b. nat_lt l m ≡ b → ⊥) [
@@ -213,7 +231,7 @@ last_opens (x ∷ earlier) e = form_opens x.form e
     form_opens (header_form h (Some ss)) e = refl
     form_opens (header_form h None) e = absurd (header_no h e)
 
-decorates_here : (earlier : List Line) (l : ℕ) (s t : State) (k : Kind) → Reached earlier l s t → Fits k (stand t.group) →
+decorates_here : (earlier : List Line) (l : ℕ) (s t : State) (k : Kind) → Reached earlier l s t → Fits k t.group →
     last_decorator earlier ≡ true → (l ≡ level_before earlier → is_decorated k ≡ false) → ⊥
 decorates_here earlier l s t k r f e c =
     let m : is_marked s.group ≡ true = sym r.marks.marked ∙ e in
@@ -227,7 +245,10 @@ decorates_here earlier l s t k r f e c =
       | inr x ↦ unmarked s.group m x.2
     ]
 
-pub clear_here : (earlier : List Line) (l : ℕ) (s t : State) (k : Kind) → Reached earlier l s t → Fits k (stand t.group) → IsClear earlier l k
+place_is : (earlier : List Line) (l : ℕ) (s t : State) → Reached earlier l s t → stands_in_match l earlier ≡ is_matching t.group
+place_is earlier l s t r = ap (λ z. stands_in_match z earlier) (sym r.level) ∙ r.settled.place ∙ sym (nested_is t.group t.below r.settled.nested)
+
+pub clear_here : (earlier : List Line) (l : ℕ) (s t : State) (k : Kind) → Reached earlier l s t → Fits k t.group → IsClear earlier l k
 clear_here earlier l s t k r f = record { none = λ e h. clears e h }
   where
     wrongly : Misplaced earlier l k → ⊥
@@ -239,6 +260,9 @@ clear_here earlier l s t k r f = record { none = λ e h. clears e h }
     wrongly (ends_try {x} {more} m p i n c) = tries_here earlier l s t k r f m (try_stands m earlier x more p i) n c
     wrongly (ends_decorators {x} {more} p i c) =
         decorates_here earlier l s t k r f (ap last_decorator p ∙ ap is_decorator i) (λ j. c (j ∙ ap level_before p))
+    wrongly (not_by_place e) =
+        let a : same_bool (is_matching t.group) (is_case k) ≡ true = f.placed in
+        let b : same_bool (stands_in_match l earlier) (is_case k) ≡ same_bool (is_matching t.group) (is_case k) = ap (λ z. same_bool z (is_case k)) (place_is earlier l s t r) in cc
 
     clears : (e : Fault) → HasFault earlier l k e → ⊥
     clears ExpectedIndent (not_deeper o n) = no_expected earlier l s t r o n
@@ -276,12 +300,13 @@ ends_marks earlier l k e c =
     let y = last_line earlier e in
     ends_decorators {x = y.0} {more = y.1} y.2 y.3 (λ i. c (i ∙ sym (ap level_before y.2)))
 
-pub wrong_here : (earlier : List Line) (l : ℕ) (s t : State) (k : Kind) → Reached earlier l s t → Wrong k (stand t.group) → IsFault earlier l k MisplacedClause
+pub wrong_here : (earlier : List Line) (l : ℕ) (s t : State) (k : Kind) → Reached earlier l s t → Wrong k t.group → IsFault earlier l k MisplacedClause
 wrong_here earlier l s t k r h =
     only_misplaced earlier l k (λ i. let v = expected_of earlier l k i in no_expected earlier l s t r v.0 v.1) (no_unexpected earlier l s t r k) (elim h [
       | wrong_follow a ↦ not_taken (may_follow_is k l earlier ∙ ap (admits k) stood ∙ a)
       | wrong_try a b ↦ let y = try_at l earlier (stood ∙ a) in ends_try {x = y.first} {more = y.more} l y.is y.kind (omega arith) (λ i. b)
       | wrong_decorator a b ↦ ends_marks earlier l k (r.marks.marked ∙ marked_before a) (λ i. b)
+      | wrong_place a ↦ not_by_place (ap (λ z. same_bool z (is_case k)) (place_is earlier l s t r) ∙ a)
     ])
   where
     stood : standing l earlier ≡ stand t.group

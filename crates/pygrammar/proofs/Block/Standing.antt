@@ -1,13 +1,13 @@
 -- What a line finds at its level: the rules speak of earlier lines, the reading of groups.
 --
--- Carries: stand, Free, AfterTry, AfterDecorator and 14 more, for Fitting,
+-- Carries: stand, Free, AfterTry, AfterDecorator and 16 more, for Fitting,
 -- Settling, Law. On: Steps.
-use Rattle.std.proofs.Common.{◌≡◌, ℕ, ◌<◌, List, [], ◌∷◌, Bool, true, false, cond, refl, sym, ap, ◌∙◌, arith}
+use Rattle.std.proofs.Common.{◌≡◌, ℕ, ◌<◌, ◌≤◌, List, [], ◌∷◌, Bool, true, false, cond, refl, sym, ap, ◌∙◌, arith}
 use Rattle.std.specs.Prelude.{nat_lt, ◌==◌}
 use borrow.Author.Tests.{eqb-true, eq-eqb}
 use Rattle.pygrammar.specs.Lines.{Line}
-use Rattle.pygrammar.specs.Blocks.{Kind, DecoratorLine, IfLine, ElifLine, ElseLine, LoopLine, TryLine, ExceptLine, FinallyLine, kind_of, previous, begins_with, is_if_or_elif, is_except, takes_else, same_bool, takes_except, may_follow, level_before}
-use Rattle.pygrammar.specs.Reading.{Group, Idle, Marked, Choice, Loop, Trial, Caught, Settled}
+use Rattle.pygrammar.specs.Blocks.{Kind, DecoratorLine, IfLine, ElifLine, ElseLine, LoopLine, TryLine, ExceptLine, FinallyLine, kind_of, previous, begins_with, is_if_or_elif, is_except, takes_else, same_bool, takes_except, may_follow, is_match, stands_in_match, level_before}
+use Rattle.pygrammar.specs.Reading.{Group, Idle, Marked, Choice, Loop, Trial, Caught, Settled, Matching}
 use Rattle.pygrammar.proofs.Block.Steps.{not_less, is_less}
 
 pub data Standing : Type 0 where
@@ -46,6 +46,7 @@ stand (Loop _ _) = AfterLoop
 stand (Trial _) = AfterTry
 stand (Caught star _ _) = AfterExcept star
 stand (Settled _ _ _ _) = AfterSettled
+stand (Matching _) = Free
 
 abbrev pub is_after_except : Standing → Bool
 is_after_except (AfterExcept _) = true
@@ -167,3 +168,11 @@ pub standing_here : (x : Line) (earlier : List Line) → standing x.level (x ∷
 standing_here x earlier =
     ap (λ b. cond b (standing x.level earlier) (cond (x.level == x.level) (after (kind_of x.form) (standing x.level earlier)) Free)) (not_less x.level x.level (omega arith))
     ∙ ap (λ b. cond b (after (kind_of x.form) (standing x.level earlier)) Free) (eq-eqb x.level x.level refl)
+
+-- ---- In a `match`.
+
+pub place_behind : (l : ℕ) (x : Line) (earlier : List Line) → l ≤ x.level → stands_in_match l (x ∷ earlier) ≡ stands_in_match l earlier
+place_behind l x earlier h = ap (λ b. cond b (is_match (kind_of x.form)) (stands_in_match l earlier)) (not_less x.level l h)
+
+pub place_deeper : (l : ℕ) (x : Line) (earlier : List Line) → x.level < l → stands_in_match l (x ∷ earlier) ≡ is_match (kind_of x.form)
+place_deeper l x earlier h = ap (λ b. cond b (is_match (kind_of x.form)) (stands_in_match l earlier)) (is_less x.level l h)

@@ -246,7 +246,7 @@ marker s h = marker_last (goes_on (all_stop s.fault (left_by_cut s.text) [] (cut
 
 -- ---- And so do the tokens.
 
-no_listing_fault : (x : Extent) (s : Source) → refusal x s ≡ None → fault_of (listing s) ≡ None
+pub no_listing_fault : (x : Extent) (s : Source) → refusal x s ≡ None → fault_of (listing s) ≡ None
 unfolding refusal_at
 no_listing_fault x s h = by_fault (fault_of (listing s)) (refusal_of x most_brackets s.text (entries_of (listing s))) h
   where

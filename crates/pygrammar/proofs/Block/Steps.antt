@@ -8,7 +8,7 @@ use borrow.Author.Tests.{ltb-true, lt-ltb}
 use Rattle.pytree_node.specs.Trees.{Stmt}
 use Rattle.pygrammar.specs.Lines.{Line, line, Form}
 use Rattle.pygrammar.specs.Blocks.{ExpectedIndent, UnexpectedIndent, MisplacedClause}
-use Rattle.pygrammar.specs.Reading.{Answer, Fine, Faulty, then, Group, closes, Waiting, State, state, joined, settle_in, settle, place, placed, step, run}
+use Rattle.pygrammar.specs.Reading.{Answer, Fine, Faulty, then, Group, Matching, closes, Part, Waiting, State, state, joined, above, settle_in, settle, place, placed, step, run}
 
 pub not_less : (a b : ℕ) → b ≤ a → nat_lt a b ≡ false
 not_less a b h = elim (nat_lt a b) as (λ c. nat_lt a b ≡ c → nat_lt a b ≡ false) [
@@ -30,11 +30,12 @@ run-append (x ∷ xs) ys s =
 
 -- what the deepest level leaves to those below when it ends
 abbrev pub popped : ℕ → List Stmt → Group → Waiting → List Waiting → Answer State
-popped l d g w below =
-    elim (closes g) [
-      | None ↦ Faulty MisplacedClause
-      | Some ss ↦ settle_in l (joined w.done w.group w.header (d ++ ss)).done (joined w.done w.group w.header (d ++ ss)).group false below
-    ]
+popped l d g w below = elim (above w d g) [ None ↦ Faulty MisplacedClause | Some p ↦ settle_in l p.done p.group false below ]
+
+-- where it is no block of a `match`
+pub closes_above : (w : Waiting) (d : List Stmt) (g : Group) (ss : List Stmt) → closes g ≡ Some ss → above w d g ≡ Some (joined w.done w.group w.header (d ++ ss))
+closes_above w d (Matching cs) ss e = cc
+closes_above w d _ ss e = ap (λ o. elim o [ None ↦ None | Some ss ↦ Some (joined w.done w.group w.header (d ++ ss)) ]) e
 
 -- a level that ends itself
 pub settle_here : (l : ℕ) (d : List Stmt) (g : Group) (f : Bool) (below : List Waiting) → length below ≤ l → settle_in l d g f below ≡ Fine (state d g f below)
@@ -56,29 +57,23 @@ settle_settle l m h d g f (w ∷ below) =
     (λ e. let k : m < length (w ∷ below) = ltb-true m (length (w ∷ below)) e in is_less l (length (w ∷ below)) (omega arith))
     (elim f as (λ f. cond f (Faulty ExpectedIndent) (popped l d g w below) ≡ then (cond f (Faulty ExpectedIndent) (popped m d g w below)) (settle l)) [
       | true ↦ refl
-      | false ↦ elim (closes g) as (λ c. elim c [
-        | None ↦ Faulty MisplacedClause
-        | Some ss ↦ settle_in l (joined w.done w.group w.header (d ++ ss)).done (joined w.done w.group w.header (d ++ ss)).group false below
-      ] ≡ then (elim c [
-        | None ↦ Faulty MisplacedClause
-        | Some ss ↦ settle_in m (joined w.done w.group w.header (d ++ ss)).done (joined w.done w.group w.header (d ++ ss)).group false below
-      ]) (settle l)) [
-        | None ↦ refl
-        | Some ss ↦ settle_settle l m h (joined w.done w.group w.header (d ++ ss)).done (joined w.done w.group w.header (d ++ ss)).group false below
-      ]
+      | false ↦ elim (above w d g) as (λ o. elim o [ None ↦ Faulty MisplacedClause | Some p ↦ settle_in l p.done p.group false below ]
+          ≡ then (elim o [ None ↦ Faulty MisplacedClause | Some p ↦ settle_in m p.done p.group false below ]) (settle l)) [
+            | None ↦ refl
+            | Some p ↦ settle_settle l m h p.done p.group false below
+          ]
     ])
     refl
 
 -- the block of a header ends
-pub settle_block : (l : ℕ) (s : State) (d : List Stmt) (g : Group) (w : Waiting) (below : List Waiting) (ss : List Stmt) →
-    length below ≡ l → settle (suc l) s ≡ Fine (state d g false (w ∷ below)) → closes g ≡ Some ss →
-    settle l s ≡ Fine (state (joined w.done w.group w.header (d ++ ss)).done (joined w.done w.group w.header (d ++ ss)).group false below)
-settle_block l s d g w below ss n h c =
+pub settle_block : (l : ℕ) (s : State) (d : List Stmt) (g : Group) (w : Waiting) (below : List Waiting) (p : Part) →
+    length below ≡ l → settle (suc l) s ≡ Fine (state d g false (w ∷ below)) → above w d g ≡ Some p → settle l s ≡ Fine (state p.done p.group false below)
+settle_block l s d g w below p n h c =
     settle_settle l (suc l) (omega arith) s.done s.group s.fresh s.below
     ∙ ap (λ a. then a (settle l)) h
     ∙ ap (λ b. cond b (popped l d g w below) (Fine (state d g false (w ∷ below)))) (is_less l (length (w ∷ below)) (omega (arith, n)))
-    ∙ ap (λ o. elim o [ None ↦ Faulty MisplacedClause | Some ss ↦ settle_in l (joined w.done w.group w.header (d ++ ss)).done (joined w.done w.group w.header (d ++ ss)).group false below ]) c
-    ∙ settle_here l (joined w.done w.group w.header (d ++ ss)).done (joined w.done w.group w.header (d ++ ss)).group false below (omega (arith, n))
+    ∙ ap (λ o. elim o [ None ↦ Faulty MisplacedClause | Some p ↦ settle_in l p.done p.group false below ]) c
+    ∙ settle_here l p.done p.group false below (omega (arith, n))
 
 -- a line of the level that is left
 pub step_here : (s : State) (l : ℕ) (f : Form) (t : State) → length t.below ≡ l → settle l s ≡ Fine t → step s (line l f) ≡ place t f

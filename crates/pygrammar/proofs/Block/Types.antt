@@ -8,14 +8,14 @@ use Rattle.pytree_node.specs.declared.profiles.Extent.{Extent}
 use Rattle.pytree_node.specs.declared.profiles.Profile.{Profile}
 use Rattle.pytree_node.specs.declared.profiles.Version.TheVariants.{Py311, Py312}
 use Rattle.pytree_node.specs.Profiles.{python}
-use Rattle.pytree_node.specs.Trees.{Expr, Stmt, Handler, Item, Module, stmts, handlers}
+use Rattle.pytree_node.specs.Trees.{Expr, Stmt, Case, Handler, Item, Module, stmts, cases, handlers}
 use Rattle.pytoken.specs.Terminals.{Terminal}
 use Rattle.pytoken.specs.Tokens as Tokens
-use Rattle.pygrammar.specs.Lines.{Line, line, Form, simple_form, decorator_form, header_form, Header, if_header, elif_header, else_header, loop_header, with_header, try_header, except_header, finally_header, def_header, LoopHead, while_head, for_head, DefHead, function_head, class_head, loop, with_of, definition, try_of, is_alias, untyped_statements, untyped_header, untyped}
+use Rattle.pygrammar.specs.Lines.{Line, line, Form, simple_form, decorator_form, header_form, Header, if_header, elif_header, else_header, loop_header, with_header, try_header, except_header, finally_header, def_header, case_header, LoopHead, while_head, for_head, DefHead, function_head, class_head, loop, with_of, definition, try_of, is_alias, untyped_statements, untyped_header, untyped}
 use Rattle.pygrammar.specs.Forms as F
-use Rattle.pygrammar.specs.Blocks.{Block, Statement, Body, Alternative, Otherwise, Excepts, Ending, Decorators, nothing, and_then, simple_line, if_statement, loop_statement, with_statement, try_finally, try_except, definition_of, inline, indented, an_else, an_elif, no_else, else_clause, no_except, except_clause, no_finally, finally_clause, no_decorator, decorator}
+use Rattle.pygrammar.specs.Blocks.{Block, Statement, Body, Alternative, Otherwise, Excepts, Cases, Ending, Decorators, nothing, and_then, simple_line, if_statement, loop_statement, with_statement, try_finally, try_except, definition_of, match_statement, inline, indented, an_else, an_elif, no_else, else_clause, no_except, except_clause, no_case, case_clause, no_finally, finally_clause, no_decorator, decorator}
 use Rattle.pygrammar.specs.Refusals.{Formed, formed_end, formed_line, Accepted}
-use Rattle.pygrammar.specs.Types.{is_untyped, are_untyped, are_handlers_untyped, is_module_untyped}
+use Rattle.pygrammar.specs.Types.{is_untyped, are_untyped, are_cases_untyped, are_handlers_untyped, is_module_untyped}
 use Rattle.pygrammar.proofs.Line.Stays.{old_is_untyped}
 use Rattle.pygrammar.proofs.Block.Answer.{answer_stays}
 
@@ -60,10 +60,16 @@ form_plain (F.simple_statements p) = simples_plain p
 form_plain (F.decorator_line p) = tt
 form_plain (F.header_line p) = tt
 form_plain (F.header_suite p q) = simples_plain q
+form_plain (F.match_line form w p) = tt
 
-formed_plain : {profile : Profile} {xs : List Tokens.Line} {ys : List Line} → Formed profile xs ys → ArePlain ys
+place_plain : {profile : Profile} {inside : Bool} {ts : List Terminal} {f : Form} → F.FormAt profile inside ts f → IsPlain f
+place_plain (F.other_line n p) = form_plain p
+place_plain (F.case_alone w p) = tt
+place_plain (F.case_suite w p q) = simples_plain q
+
+formed_plain : {profile : Profile} {earlier : List Line} {xs : List Tokens.Line} {ys : List Line} → Formed profile earlier xs ys → ArePlain ys
 formed_plain formed_end = tt
-formed_plain (formed_line h p) = (form_plain h.is, formed_plain p)
+formed_plain (formed_line h p) = (place_plain h.is, formed_plain p)
 
 -- ---- Through the tree.
 
@@ -136,6 +142,7 @@ mutual
   statement_untyped {l} (definition_of head {suite = suite} {ds = ds} {xs = xs} {es = es} {body = body} d p) f =
       let g = plain_parts ds (line l (header_form (def_header head) suite) ∷ xs) f in
       joined ds (line l (header_form (def_header head) suite) ∷ xs) _ _ (decorators_untyped d) (body_untyped (def_header head) p g.1.0 g.1.1) ∙ definition_untyped es head body
+  statement_untyped (match_statement p) f = cases_untyped p f.1 ∙ sym (and_true _)
 
   body_untyped : {l : ℕ} {suite : Option (List Stmt)} {xs : List Line} {ss : List Stmt} (h : Header) → Body l suite xs ss → IsPlain (header_form h suite) → ArePlain xs →
       are_lines_untyped (line l (header_form h suite) ∷ xs) ≡ untyped_header h && are_untyped (stmts ss)
@@ -158,6 +165,12 @@ mutual
       let g = plain_parts xs ys f.1 in
       joined (line l (header_form (except_header star matched name) suite) ∷ xs) ys _ _ (body_untyped (except_header star matched name) p f.0 g.0) (excepts_untyped q g.1)
 
+  cases_untyped : {l : ℕ} {xs : List Line} {cs : List Case} → Cases l xs cs → ArePlain xs → are_lines_untyped xs ≡ are_cases_untyped (cases cs)
+  cases_untyped no_case f = refl
+  cases_untyped {l} (case_clause {pattern = pattern} {guard = guard} {suite = suite} {xs = xs} {ys = ys} p q) f =
+      let g = plain_parts xs ys f.1 in
+      joined (line l (header_form (case_header pattern guard) suite) ∷ xs) ys _ _ (body_untyped (case_header pattern guard) p f.0 g.0) (cases_untyped q g.1)
+
   ending_untyped : {l : ℕ} {xs : List Line} {ss : List Stmt} → Ending l xs ss → ArePlain xs → are_lines_untyped xs ≡ are_untyped (stmts ss)
   ending_untyped no_finally f = refl
   ending_untyped (finally_clause p) f = body_untyped finally_header p f.0 f.1
@@ -171,14 +184,15 @@ and_parts false b h = absurd cc
 and_from : (a b : Bool) → a ≡ true → b ≡ true → a && b ≡ true
 and_from a b p q = ap (λ z. z && b) p ∙ q
 
-formed_untyped : {extent : Extent} {xs : List Tokens.Line} {ys : List Line} → Formed (python Py311 extent) xs ys → are_lines_untyped ys ≡ true
+formed_untyped : {extent : Extent} {earlier : List Line} {xs : List Tokens.Line} {ys : List Line} → Formed (python Py311 extent) earlier xs ys → are_lines_untyped ys ≡ true
 formed_untyped formed_end = refl
-formed_untyped (formed_line {f = f} h p) = and_from (untyped f) _ ((old_is_untyped _ _ f).0 h.is).1 (formed_untyped p)
+formed_untyped (formed_line {f = f} h p) = and_from (untyped f) _ ((old_is_untyped _ _ _ f).0 h.is).1 (formed_untyped p)
 
-formed_returns : {extent : Extent} {xs : List Tokens.Line} {ys : List Line} → Formed (python Py312 extent) xs ys → are_lines_untyped ys ≡ true → Formed (python Py311 extent) xs ys
+formed_returns : {extent : Extent} {earlier : List Line} {xs : List Tokens.Line} {ys : List Line} → Formed (python Py312 extent) earlier xs ys → are_lines_untyped ys ≡ true →
+    Formed (python Py311 extent) earlier xs ys
 formed_returns formed_end e = formed_end
 formed_returns (formed_line {f = f} h p) e =
-    let g = and_parts (untyped f) _ e in formed_line (record { is = (old_is_untyped _ _ f).1 (h.is, g.0); low = h.low }) (formed_returns p g.1)
+    let g = and_parts (untyped f) _ e in formed_line (record { is = (old_is_untyped _ _ _ f).1 (h.is, g.0); low = h.low }) (formed_returns p g.1)
 
 pub old_has_no_types : (extent : Extent) (s : Source) (m : Module) → Accepted (python Py311 extent) s m ↔ (Accepted (python Py312 extent) s m × (is_module_untyped m ≡ true))
 old_has_no_types extent s m = (

@@ -1,6 +1,6 @@
 -- Worked rows: faults of blocks and trees, computed by the reading.
 --
--- Carries: v, says, head, short, for WorkedDepths. On: Law, Sound.
+-- Carries: v, says, head, short, refused, for WorkedDepths, WorkedMatches. On: Law, Sound.
 use Rattle.std.proofs.Common.{◌≡◌, ℕ, List, [], ◌∷◌, Some, None, true, false, refl, subst}
 use Rattle.pytree_node.specs.Trees.{Expr, no_keyword, Arguments, Stmt, If, ClassDef, Try, ExprOf, stmts, handlers}
 use Rattle.pytree_node.specs.Trees as Trees
@@ -27,7 +27,7 @@ head l h = line l (header_form h None)
 abbrev pub short : ℕ → Header → ℕ → Line
 short l h n = line l (header_form h (Some (s n)))
 
-refused : (xs rest : List Line) (f : Fault) → read xs ≡ Faulty f → stops xs start ≡ rest → FirstFault [] xs rest f
+pub refused : (xs rest : List Line) (f : Fault) → read xs ≡ Faulty f → stops xs start ≡ rest → FirstFault [] xs rest f
 refused xs rest f e i =
     let P : Answer (List Stmt) → Type 0 = λ a. Finds [] xs (stops xs start) a in
     let Q : List Line → Type 0 = λ r. FirstFault [] xs r f in subst Q i (subst P e (read_finds xs))
@@ -78,14 +78,14 @@ finally_of_for = refused (short 0 (loop_header (for_head false (v 1) (v 2))) 3 �
 -- an `elif` is an If inside the one before
 elif_nested : Block 0 (short 0 (if_header (v 1)) 2 ∷ head 0 (elif_header (v 3)) ∷ says 1 4 ∷ short 0 else_header 5 ∷ [])
     (If (v 1) (stmts (s 2)) (stmts (If (v 3) (stmts (s 4)) (stmts (s 5)) ∷ [])) ∷ [])
-elif_nested = read_gives _ _ refl
+elif_nested = read_gives _ _ refl refl
 
 -- a whole `try` group, and a statement after it
 try_group : Block 0 (short 0 try_header 1 ∷ short 0 (except_header false (Some (v 2)) None) 3 ∷ short 0 else_header 4 ∷ short 0 finally_header 5 ∷ says 0 6 ∷ [])
     (Try (stmts (s 1)) (handlers (handler (Some (v 2)) None (s 3) ∷ [])) (stmts (s 4)) (stmts (s 5)) ∷ s 6)
-try_group = read_gives _ _ refl
+try_group = read_gives _ _ refl refl
 
 -- decorators
 decorated_class : Block 0 (line 0 (decorator_form (v 1)) ∷ line 0 (decorator_form (v 2)) ∷ short 0 (def_header (class_head (3 ∷ []) [] [] no_keyword)) 4 ∷ [])
     (ClassDef (3 ∷ []) [] no_keyword (stmts (s 4)) (v 1 ∷ v 2 ∷ []) [] ∷ [])
-decorated_class = read_gives _ _ refl
+decorated_class = read_gives _ _ refl refl

@@ -1,6 +1,6 @@
 -- Worked rows: how deep lines reach and how high their tree is, both computed.
 --
--- Carries: no contract; its rows are computed as it is checked. On: Worked, Heights.
+-- Carries: Agrees, for WorkedMatches; no contract. On: Worked, Heights.
 use Rattle.std.proofs.Common.{◌≡◌, ℕ, zero, suc, ◌+◌, List, [], ◌∷◌, Some, None, false, replicate, refl}
 use Rattle.pytree_node.specs.Trees.{no_keyword}
 use Rattle.pygrammar.specs.Lines.{Line, line, decorator_form, if_header, elif_header, else_header, loop_header, with_header, try_header, except_header, finally_header, def_header, while_head, for_head, class_head}
@@ -10,7 +10,7 @@ use Rattle.pygrammar.proofs.Block.Heights.{high, deepest}
 use Rattle.pygrammar.proofs.Block.Worked.{v, says, head, short}
 
 -- the lines reach this deep, and their tree is this high
-abbrev Agrees : List Line → ℕ → Type 0
+abbrev pub Agrees : List Line → ℕ → Type 0
 Agrees xs n = (deepest [] xs ≡ n) × (elim (read xs) [ Fine ss ↦ high ss | Faulty f ↦ 0 ] ≡ n)
 
 -- an `elif` is an If inside the one before, and the `else` is the last one's

@@ -1,7 +1,7 @@
 -- Atoms and Primaries.
 --
--- Carries: primary_goes, TailReads, tail_keeps, tail_last and 20 more, for Complete. On: Comps,
--- LookLemmas, Climb, LevelLemmas and 1 more.
+-- Carries: primary_goes, TailReads, tail_keeps, tail_last and 23 more, for Complete, ReadValues,
+-- ReadBrackets. On: Comps, LookLemmas, Climb, LevelLemmas and 1 more.
 use Rattle.std.proofs.Common.{map, ◌≡◌, ◌⊎◌, inl, inr, refl, sym, ap, subst, ◌∙◌, ℕ, suc, ◌≤◌, ◌<◌, arith, List, [], ◌∷◌, ◌++◌, length, Some, true, false, append_assoc}
 use Rattle.std.specs.Prelude.{max}
 use Rattle.pylex_lexeme.specs.declared.kinds.Exact.TheVariants.{LPar, RPar, LSqb, RSqb, LBrace, RBrace, Colon, Comma, Star, DoubleStar, ColonEqual}
@@ -76,7 +76,7 @@ string_run_end acc (Ident x ∷ r) h = refl
 string_run_end acc (Number x ∷ r) h = refl
 string_run_end acc (Layout ∷ r) h = refl
 
-string_run_all : (vs acc : List Values.Value) (r : List Terminal) → grip_of r ≤ 24 → string_run acc (map Literal vs ++ r) ≡ Found (acc ++ vs) r
+pub string_run_all : (vs acc : List Values.Value) (r : List Terminal) → grip_of r ≤ 24 → string_run acc (map Literal vs ++ r) ≡ Found (acc ++ vs) r
 string_run_all [] acc r h = string_run_end acc r h ∙ ap (λ z. Found z r) (sym (append_no acc))
 string_run_all (v ∷ vs) acc r h = string_run_all vs (acc ++ (v ∷ [])) r h ∙ ap (λ z. Found z r) (append_assoc acc (v ∷ []) vs)
 
@@ -124,13 +124,13 @@ module _ (self : Reads) where
   doubled_step i r rest e es h k = rw h (rw k refl)
 
 -- atoms in brackets
-close_shape : (ts rest : List Terminal) (s t : Terminal) → (s ∷ (ts ++ (t ∷ []))) ++ rest ≡ s ∷ (ts ++ (t ∷ rest))
+pub close_shape : (ts rest : List Terminal) (s t : Terminal) → (s ∷ (ts ++ (t ∷ []))) ++ rest ≡ s ∷ (ts ++ (t ∷ rest))
 close_shape ts rest s t = ap (λ z. s ∷ z) (append_assoc ts (t ∷ []) rest)
 
 close_two : (ts us rest : List Terminal) (s t : Terminal) → (s ∷ (ts ++ (us ++ (t ∷ [])))) ++ rest ≡ s ∷ (ts ++ (us ++ (t ∷ rest)))
 close_two ts us rest s t = simp append_assoc refl
 
-close_after : (ts us rest : List Terminal) (s c t : Terminal) → (s ∷ (ts ++ (c ∷ (us ++ (t ∷ []))))) ++ rest ≡ s ∷ (ts ++ (c ∷ (us ++ (t ∷ rest))))
+pub close_after : (ts us rest : List Terminal) (s c t : Terminal) → (s ∷ (ts ++ (c ∷ (us ++ (t ∷ []))))) ++ rest ≡ s ∷ (ts ++ (c ∷ (us ++ (t ∷ rest))))
 close_after ts us rest s c t = simp append_assoc refl
 
 close_three : (ts us vs rest : List Terminal) (s c t : Terminal) → (s ∷ (ts ++ (c ∷ (us ++ (vs ++ (t ∷ [])))))) ++ rest ≡ s ∷ (ts ++ (c ∷ (us ++ (vs ++ (t ∷ rest)))))

@@ -14,7 +14,7 @@ use Rattle.pytree_node.specs.declared.operators.BoolOperator.{BoolOperator}
 use Rattle.pytree_node.specs.declared.operators.BoolOperator.TheVariants as Join
 use Rattle.pytree_node.specs.declared.operators.Comparison.{Comparison}
 use Rattle.pygrammar.specs.declared.levels.Level.{Level}
-use Rattle.pygrammar.specs.declared.levels.Level.TheVariants.{Value, Stars, StarItem, Named, Expression, Or, And, Not, Compare, BitOr, BitXor, BitAnd, Shift, Sum, Term, Factor, Power, Await, Primary, Atom, Elem, Slices, Part, Slice}
+use Rattle.pygrammar.specs.declared.levels.Level.TheVariants.{Value, Stars, StarItem, Named, Expression, Or, And, Not, Compare, BitOr, BitXor, BitAnd, Shift, Sum, Term, Factor, Power, Await, Primary, Atom, Elem, Slices, Part, Slice, Subject}
 use Rattle.pytree_node.specs.Trees
 use Rattle.pytree_node.specs.Trees.{Expr, exprs}
 use Rattle.pytoken.specs.Terminals.{Terminal, Op, Word}
@@ -46,6 +46,7 @@ Stops Stars r = (grip_of r ≤ 2) × (lead_of r ≤ 6)
 Stops Slices r = (grip_of r ≤ 2) × (lead_of r ≤ 4)
 Stops Part r = (grip_of r ≤ 4) × (lead_of r ≤ 8)
 Stops Slice r = (grip_of r ≤ 4) × (lead_of r ≤ 8)
+Stops Subject r = (grip_of r ≤ 7) × (grip_of r ≡ 3 → ⊥) × (lead_of r ≤ 6)
 Stops StarItem r = grip_of r ≤ 8
 Stops Elem r = grip_of r ≤ 7
 Stops Named r = grip_of r ≤ 7
@@ -80,6 +81,7 @@ TargetAt Value ts e d = Unit {0}
 TargetAt Slices ts e d = Unit {0}
 TargetAt Part ts e d = Unit {0}
 TargetAt Slice ts e d = Unit {0}
+TargetAt Subject ts e d = Unit {0}
 TargetAt Elem ts e d = Unit {0}
 TargetAt Named ts e d = Unit {0}
 TargetAt Atom ts e d = Unit {0}
@@ -91,6 +93,7 @@ no_target Value ts e d h = tt
 no_target Slices ts e d h = tt
 no_target Part ts e d h = tt
 no_target Slice ts e d h = tt
+no_target Subject ts e d h = tt
 no_target Elem ts e d h = tt
 no_target Named ts e d h = tt
 no_target Atom ts e d h = tt

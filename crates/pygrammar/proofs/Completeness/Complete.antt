@@ -9,7 +9,7 @@ use Rattle.pytree_node.specs.declared.operators.BoolOperator.{BoolOperator}
 use Rattle.pytree_node.specs.declared.operators.Comparison.{Comparison}
 use Rattle.pytree_node.specs.declared.operators.Context.TheVariants.{Load}
 use Rattle.pygrammar.specs.declared.levels.Level.{Level}
-use Rattle.pygrammar.specs.declared.levels.Level.TheVariants.{Value, Stars, Primary, Elem, Slices, Part, Slice}
+use Rattle.pygrammar.specs.declared.levels.Level.TheVariants.{Value, Stars, Primary, Elem, Slices, Part, Slice, Subject}
 use Rattle.pytree_node.specs.Trees
 use Rattle.pytree_node.specs.Trees.{Expr, no_exprs, an_expr, OptionalExpr, absent, present, Comprehension, comprehensions}
 use Rattle.pytoken.specs.Terminals.{Spelled, Terminal, Op, Ident}
@@ -23,7 +23,7 @@ use Rattle.pygrammar.proofs.Completeness.Climb.{Stops, ReadsAt, ReadsAs, deeper,
 use Rattle.pygrammar.proofs.Completeness.LevelLemmas.{led, next_goes, not_star}
 use Rattle.pygrammar.proofs.Completeness.Lists.{PieceReads, piece_starts, SuffixReads, no_suffix_goes, suffix_goes, single_goes, pair_goes, pairs_of_goes, argument_goes, star_argument_goes, keyword_argument_goes, double_argument_goes, parameter_goes, slash_goes, bare_goes, star_parameter_goes, star_annotation_goes, double_parameter_goes}
 use Rattle.pygrammar.proofs.Completeness.Comps.{ListingReads, CompsReads, comps_first, comps_close, no_item_goes, last_item_goes, item_goes, IfsReads, no_if_goes, if_one_goes, ForInReads, target_in_goes, CompReads, for_in_goes, async_goes, one_comp_goes, comps_goes}
-use Rattle.pygrammar.proofs.Completeness.Forms.{YieldsReads, PerhapsReads, nothing_goes, something_goes, yield_from_goes, yield_some_goes, yields_goes, star_item_goes, star_elem_goes, star_part_goes, star_slices_goes, star_tuple_goes, parts_goes, named_goes, lambda_goes, if_else_goes, front_nothing, front_something, slice_goes, slice_step_goes}
+use Rattle.pygrammar.proofs.Completeness.Forms.{YieldsReads, PerhapsReads, nothing_goes, something_goes, yield_from_goes, yield_some_goes, yields_goes, star_item_goes, star_elem_goes, star_part_goes, star_slices_goes, star_tuple_goes, subject_tuple_goes, parts_goes, named_goes, lambda_goes, if_else_goes, front_nothing, front_something, slice_goes, slice_step_goes}
 use Rattle.pygrammar.proofs.Completeness.Atoms.{primary_goes, TailReads, tail_keeps, tail_last, tail_more, Splits, name_goes, number_goes, constant_goes, strings_goes, group_goes, yield_group_goes, empty_tuple_goes, tuple_goes, generator_goes, empty_list_goes, list_goes, list_comp_goes, empty_dict_goes, set_goes, set_comp_goes, dict_goes, doubled_goes, dict_comp_goes}
 
 -- Primary and what follows it
@@ -141,6 +141,7 @@ mutual
   goes (G.set (G.last_item (G.single {ts = ts} {e = e} p))) = set_goes ts ts [] e [] (split_last ts) (led p) (goes p) (tail_last (Of Elem))
   goes (G.set (G.item {us = us} {es = es} (G.single {ts = ts} {e = e} p) c)) = set_goes (ts ++ (Op Comma ∷ us)) ts (Op Comma ∷ us) e es (split_more ts us) (led p) (goes p) (tail_more (Of Elem) us es (listing_all c))
   goes (G.set_comp {ts = ts} {us = us} {e = e} {gs = gs} p c) = set_comp_goes ts us e gs (led p) (goes p) c (comps_all c)
+  goes (G.subject_tuple {ts = ts} {us = us} {e = e} {es = es} p c) = subject_tuple_goes ts us e es (goes p) (listing_all c)
   goes (G.star_elem {ts = ts} {e = e} p) = star_elem_goes ts e (goes p)
   goes (G.star_slices {ts = ts} {e = e} p) = star_slices_goes ts e (goes p)
   goes (G.parts {ts = ts} {us = us} {e = e} {es = es} p c) = parts_goes ts us e es (goes p) (listing_all c)
@@ -209,6 +210,7 @@ mutual
 ends : (l : Level) → Stops l []
 ends Value = (omega arith, omega arith)
 ends Stars = (omega arith, omega arith)
+ends Subject = (omega arith, (λ q. absurd (omega (arith, q))), omega arith)
 ends Slices = (omega arith, omega arith)
 ends Part = (omega arith, omega arith)
 ends Slice = (omega arith, omega arith)

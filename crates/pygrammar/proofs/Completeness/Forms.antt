@@ -9,7 +9,7 @@ use Rattle.pylex_lexeme.specs.declared.kinds.Exact.TheVariants.{Colon, Comma, St
 use Rattle.pytoken.specs.declared.keywords.Keyword.TheVariants as Key
 use Rattle.pytree_node.specs.declared.operators.Context.TheVariants.{Load, Store}
 use Rattle.pygrammar.specs.declared.levels.Level.{Level}
-use Rattle.pygrammar.specs.declared.levels.Level.TheVariants.{Value, Stars, StarItem, Named, Expression, Or, BitOr, Primary, Elem, Slices, Part, Slice}
+use Rattle.pygrammar.specs.declared.levels.Level.TheVariants.{Value, Stars, StarItem, Named, Expression, Or, BitOr, Primary, Elem, Slices, Part, Slice, Subject}
 use Rattle.pytree_node.specs.Trees
 use Rattle.pytree_node.specs.Trees.{Expr, no_exprs, an_expr, OptionalExpr, absent, present, Arguments}
 use Rattle.pytoken.specs.Terminals.{Spelled, Terminal, Op, Word, Ident}
@@ -120,6 +120,19 @@ parts_goes ts us e es p k = (
       let h1 = p.1 (suc d) (omega (arith, h)) (Op Comma ∷ (us ++ rest)) (omega arith, omega arith) in
       let h2 = k.1 d (omega (arith, h)) (λ r. (omega arith, omega arith)) rest (starts_low Part rest (omega (arith, s.1)), λ q. omega (arith, s.0, q), (omega (arith, s.0), omega (arith, s.1))) (length (us ++ rest)) (omega arith) [] in
       ap (read (suc (suc d)) Slices) (append_assoc ts (Op Comma ∷ us) rest) ∙ (unroll (suc d) Slices (ts ++ (Op Comma ∷ (us ++ rest))) ∙ parts_step (read (suc (suc d))) (read (suc d)) (ts ++ (Op Comma ∷ (us ++ rest))) (us ++ rest) rest e es h1 h2)),
+  λ d h. tt,
+)
+
+subject_tuple_step : (next inner : Reads) (i r rest : List Terminal) (e : Expr) (es : List Entry) → next Elem i ≡ Found e (Op Comma ∷ r) → listing_of inner (Of Elem) [] r ≡ Found es rest → level_step next inner Subject i ≡ Found (Trees.Tuple (an_expr e (singles es)) Load) rest
+subject_tuple_step next inner i r rest e es h k = rw (h, k) refl
+
+pub subject_tuple_goes : (ts us : List Terminal) (e : Expr) (es : List Entry) → ReadsAs Elem ts e → ListingReads (Of Elem) us es → ReadsAs Subject (ts ++ (Op Comma ∷ us)) (Trees.Tuple (an_expr e (singles es)) Load)
+subject_tuple_goes ts us e es p k = (
+  suc (max p.0 k.0),
+  deeper (ReadsAt Subject (ts ++ (Op Comma ∷ us)) (Trees.Tuple (an_expr e (singles es)) Load)) (max p.0 k.0) (λ d h rest s.
+      let h1 = p.1 (suc d) (omega (arith, h)) (Op Comma ∷ (us ++ rest)) (omega arith) in
+      let h2 = k.1 d (omega (arith, h)) (λ r. omega arith) rest (starts_low Elem rest (omega (arith, s.2)), s.1, s.0) (length (us ++ rest)) (omega arith) [] in
+      ap (read (suc (suc d)) Subject) (append_assoc ts (Op Comma ∷ us) rest) ∙ (unroll (suc d) Subject (ts ++ (Op Comma ∷ (us ++ rest))) ∙ subject_tuple_step (read (suc (suc d))) (read (suc d)) (ts ++ (Op Comma ∷ (us ++ rest))) (us ++ rest) rest e es h1 h2)),
   λ d h. tt,
 )
 

@@ -12,7 +12,7 @@ use Rattle.pytree_node.specs.declared.operators.BoolOperator.{BoolOperator}
 use Rattle.pytree_node.specs.declared.operators.BoolOperator.TheVariants as Join
 use Rattle.pytree_node.specs.declared.operators.Context.TheVariants.{Load}
 use Rattle.pygrammar.specs.declared.levels.Level.{Level}
-use Rattle.pygrammar.specs.declared.levels.Level.TheVariants.{Value, Stars, StarItem, Named, Expression, Or, And, Not, Compare, BitOr, BitXor, BitAnd, Shift, Sum, Term, Factor, Power, Await, Primary, Atom, Elem, Slices, Part, Slice}
+use Rattle.pygrammar.specs.declared.levels.Level.TheVariants.{Value, Stars, StarItem, Named, Expression, Or, And, Not, Compare, BitOr, BitXor, BitAnd, Shift, Sum, Term, Factor, Power, Await, Primary, Atom, Elem, Slices, Part, Slice, Subject}
 use Rattle.pytree_node.specs.Trees
 use Rattle.pytree_node.specs.Trees.{Expr, OptionalExpr, present}
 use Rattle.pytree_node.specs.Values
@@ -69,6 +69,7 @@ mutual
   led (G.subscript {ts = ts} p q) = lead_front ts _ 23 (omega arith) (led p)
   led (G.constant {t = t} {v = v} h) = constant_led t v h
   led (G.parts {ts = ts} p c) = lead_front ts _ 5 (omega arith) (led p)
+  led (G.subject_tuple {ts = ts} p c) = lead_front ts _ 7 (omega arith) (led p)
   led (G.slice a b) = perhaps_led a _
   led (G.slice_step a b c) = perhaps_led a _
   led _ = omega arith
@@ -142,6 +143,12 @@ slices_step next inner ts rest e h g p n = rw h (miss_op Comma rest _ _ g ∙ pa
 part_answer : (ts rest : List Terminal) (e : Expr) (d : ℕ) → 5 ≤ lead_of ts → (lead_of ts ≡ 7 → ⊥) → ReadsAt Slice ts e d → Stops Part rest → read (suc d) Part (ts ++ rest) ≡ Found e rest
 part_answer ts rest e d l n p s = unroll d Part (ts ++ rest) ∙ (pass_op_not Star ts rest _ _ (omega (arith, l)) n ∙ p rest s)
 
+subject_step : (next inner : Reads) (ts rest : List Terminal) (e : Expr) → next Elem (ts ++ rest) ≡ Found e rest → (grip_of rest ≡ 3 → ⊥) → 9 ≤ lead_of ts → level_step next inner Subject (ts ++ rest) ≡ Found e rest
+subject_step next inner ts rest e h g l = rw h (miss_op Comma rest _ _ g ∙ pass_op Star ts rest _ _ (omega (arith, l)))
+
+elem_answer : (ts rest : List Terminal) (e : Expr) (d : ℕ) → 9 ≤ lead_of ts → ReadsAt Named ts e d → Stops Elem rest → read (suc d) Elem (ts ++ rest) ≡ Found e rest
+elem_answer ts rest e d l p s = unroll d Elem (ts ++ rest) ∙ (pass_op Star ts rest _ _ (omega (arith, l)) ∙ p rest s)
+
 pub primary_target : (ts : List Terminal) (e : Expr) (d : ℕ) → ReadsAt Primary ts e d → TargetAt Primary ts e d
 primary_target ts e d p s q rest g = answers Primary ts e d rest p g
 
@@ -149,7 +156,8 @@ pub next_goes : (l : Level) (ts : List Terminal) (e : Expr) → first (below l) 
 next_goes Value ts e l n p = (p.0, λ d h rest s. unroll d Value (ts ++ rest) ∙ (pass_word Key.Yield ts rest _ _ (omega (arith, l)) ∙ p.1 d h rest s), λ d h. tt)
 next_goes Stars ts e l n p = (p.0, λ d h rest s. unroll d Stars (ts ++ rest) ∙ stars_step (read (suc d)) (read d) (ts ++ rest) rest e (p.1 d h rest (omega (arith, s.0))) (λ q. omega (arith, s.0, q)), λ d h s q rest g c w. target_step (read (suc d)) (read (suc d)) (ts ++ rest) rest e (p.2 d h s q rest g) c)
 next_goes StarItem ts e l n p = (p.0, λ d h rest s. unroll d StarItem (ts ++ rest) ∙ (pass_op Star ts rest _ _ (omega (arith, l)) ∙ p.1 d h rest s), λ d h s q rest g. pass_op Star ts rest _ _ (omega (arith, l)) ∙ p.2 d h s q rest g)
-next_goes Elem ts e l n p = (p.0, λ d h rest s. unroll d Elem (ts ++ rest) ∙ (pass_op Star ts rest _ _ (omega (arith, l)) ∙ p.1 d h rest s), λ d h. tt)
+next_goes Elem ts e l n p = (p.0, λ d h rest s. elem_answer ts rest e d l (p.1 d h) s, λ d h. tt)
+next_goes Subject ts e l n p = (p.0, λ d h rest s. unroll d Subject (ts ++ rest) ∙ subject_step (read (suc d)) (read d) ts rest e (elem_answer ts rest e d l (p.1 d h) s.0) s.1 l, λ d h. tt)
 next_goes Named ts e l n p = (p.0, λ d h rest s. let a = p.1 d h rest (omega (arith, s)) in unroll d Named (ts ++ rest) ∙ (miss_name_with ColonEqual (ts ++ rest) _ _ (free d Expression ColonEqual (ts ++ rest) rest e (λ x us. refl) a (λ q. omega (arith, s, q))) ∙ a), λ d h. tt)
 next_goes Expression ts e l n p = (p.0, λ d h rest s. unroll d Expression (ts ++ rest) ∙ (pass_word Key.Lambda ts rest _ _ (omega (arith, l)) ∙ or_step (read (suc d)) (read d) (ts ++ rest) rest e (answers Or ts e d rest (p.1 d h) (omega (arith, s))) s), p.2)
 next_goes Primary ts e l n p = (p.0, λ d h rest g. (length rest, omega arith, unroll d Primary (ts ++ rest) ∙ atom_step (read (suc d)) (read d) (ts ++ rest) rest e (p.1 d h rest (omega (arith, g)))), λ d h. primary_target ts e d (λ rest g. (length rest, omega arith, unroll d Primary (ts ++ rest) ∙ atom_step (read (suc d)) (read d) (ts ++ rest) rest e (p.1 d h rest (omega (arith, g))))))

@@ -11,7 +11,7 @@ use Rattle.pytree_node.specs.declared.operators.Comparison.{Comparison}
 use Rattle.pytree_node.specs.declared.operators.Comparison.TheVariants as Is
 use Rattle.pytree_node.specs.declared.operators.Context.TheVariants.{Load}
 use Rattle.pygrammar.specs.declared.levels.Level.{Level}
-use Rattle.pygrammar.specs.declared.levels.Level.TheVariants.{Value, Stars, StarItem, Named, Expression, Or, And, Not, Compare, BitOr, BitXor, BitAnd, Shift, Sum, Term, Factor, Power, Await, Primary, Atom, Elem, Slices, Part, Slice}
+use Rattle.pygrammar.specs.declared.levels.Level.TheVariants.{Value, Stars, StarItem, Named, Expression, Or, And, Not, Compare, BitOr, BitXor, BitAnd, Shift, Sum, Term, Factor, Power, Await, Primary, Atom, Elem, Slices, Part, Slice, Subject}
 use Rattle.pytree_node.specs.Trees
 use Rattle.pytree_node.specs.Trees.{Expr, OptionalExpr, absent, present, Identifier, Comprehension}
 use Rattle.pytree_node.specs.Values
@@ -253,6 +253,7 @@ module _ (next inner : Reads) (b : ℕ) (low : GoodTo (suc b) next) (deep : Good
   g_step Slices i w = g_next (length i) Part i _ w (λ e r p. g_tupled inner b deep (length i) (Of Part) e r _ p (omega arith) (good_first (length i) (is_op Star) i _ _ (λ _ _ _. p) p))
   g_step Part i w = g_starred inner b deep (length i) Expression i _ (omega arith) w (low Slice i (omega arith))
   g_step Slice i w = good_first (length i) (is_op Colon) i _ _ (λ _ r q. g_slice_rest inner b deep (length i) absent r (omega arith) (omega arith)) (g_next (length i) Named i _ w (λ e r p. good_first (length i) (is_op Colon) r _ _ (λ _ r1 q. g_unnamed inner b deep (length i) i _ (g_slice_rest inner b deep (length i) (present e) r1 (omega arith) (omega arith))) p))
+  g_step Subject i w = g_next (length i) Elem i _ w (λ e r p. g_tupled inner b deep (length i) (Of Elem) e r _ p (omega arith) (g_unstarred inner b deep (length i) i _ p))
   g_step Or i w = g_climb (rank Or) i w
   g_step And i w = g_climb (rank And) i w
   g_step Not i w = g_climb (rank Not) i w

@@ -11,7 +11,7 @@ use Rattle.pytree_node.specs.declared.operators.Comparison.{Comparison}
 use Rattle.pytree_node.specs.declared.operators.Comparison.TheVariants as Is
 use Rattle.pytree_node.specs.declared.operators.Context.TheVariants.{Load}
 use Rattle.pygrammar.specs.declared.levels.Level.{Level}
-use Rattle.pygrammar.specs.declared.levels.Level.TheVariants.{Value, Stars, StarItem, Named, Expression, Or, And, Not, Compare, BitOr, BitXor, BitAnd, Shift, Sum, Term, Factor, Power, Await, Primary, Atom, Elem, Slices, Part, Slice}
+use Rattle.pygrammar.specs.declared.levels.Level.TheVariants.{Value, Stars, StarItem, Named, Expression, Or, And, Not, Compare, BitOr, BitXor, BitAnd, Shift, Sum, Term, Factor, Power, Await, Primary, Atom, Elem, Slices, Part, Slice, Subject}
 use Rattle.pytree_node.specs.Trees
 use Rattle.pytree_node.specs.Trees.{Expr, OptionalExpr, absent, present, Identifier, Comprehension}
 use Rattle.pytoken.specs.Terminals.{Terminal, Op}
@@ -229,6 +229,7 @@ module _ (next next' inner inner' : Reads) (n : AllKeep next next') (h : AllKeep
   k_step Slices i = keeps_then _ _ _ _ (n Part i) (λ e r. k_tupled inner inner' h (Of Part) e r _)
   k_step Part i = k_starred inner inner' h Expression i _ _ (n Slice i)
   k_step Slice i = keeps_first (is_op Colon) i _ _ _ _ (λ _ r. k_slice_rest inner inner' h absent r) (keeps_then _ _ _ _ (n Named i) (λ e r. keeps_first (is_op Colon) r _ _ _ _ (λ _ r1. k_unnamed inner inner' h i _ _ (k_slice_rest inner inner' h (present e) r1)) (inr refl)))
+  k_step Subject i = keeps_then _ _ _ _ (n Elem i) (λ e r. k_tupled inner inner' h (Of Elem) e r _)
   k_step Or i = k_climb (rank Or) i
   k_step And i = k_climb (rank And) i
   k_step Not i = k_climb (rank Not) i

@@ -48,7 +48,7 @@ compared_some G.not_in = omega arith
 compared_some G.is = omega arith
 compared_some G.is_not = omega arith
 
-one : (ts us : List Terminal) (t : Terminal) → length (ts ++ (t ∷ us)) ≡ suc (length ts + length us)
+pub one : (ts us : List Terminal) (t : Terminal) → length (ts ++ (t ∷ us)) ≡ suc (length ts + length us)
 one ts us t = omega (arith, length-append ts (t ∷ us))
 
 end : (ts : List Terminal) (t : Terminal) → length (ts ++ (t ∷ [])) ≡ suc (length ts)
@@ -90,6 +90,7 @@ mutual
   tall (G.set_comp {ts = ts} {us = us} p c) = omega (arith, tall p, tall_comps c, length-append ts (us ++ (Op RBrace ∷ [])), end us (Op RBrace))
   tall (G.star_elem p) = omega (arith, tall p)
   tall (G.star_slices p) = omega (arith, tall p)
+  tall (G.subject_tuple {ts = ts} {us = us} {es = es} p c) = omega (arith, tall p, tall_listing c refl, singles_height es, one ts us (Op Comma))
   tall (G.parts {ts = ts} {us = us} {es = es} p c) = omega (arith, tall p, tall_listing c refl, singles_height es, one ts us (Op Comma))
   tall (G.star_part p) = omega (arith, tall p)
   tall (G.slice {ts = ts} {us = us} p q) = omega (arith, tall_perhaps p, tall_perhaps q, one ts us (Op Colon))

@@ -15,7 +15,7 @@ use Rattle.pytree_node.specs.declared.operators.Comparison.{Comparison}
 use Rattle.pytree_node.specs.declared.operators.Comparison.TheVariants as Is
 use Rattle.pytree_node.specs.declared.operators.Context.TheVariants.{Load, Store}
 use Rattle.pygrammar.specs.declared.levels.Level.{Level}
-use Rattle.pygrammar.specs.declared.levels.Level.TheVariants.{Value, Stars, StarItem, Named, Expression, Or, And, Not, Compare, BitOr, BitXor, BitAnd, Shift, Sum, Term, Factor, Power, Await, Primary, Atom, Elem, Slices, Part, Slice}
+use Rattle.pygrammar.specs.declared.levels.Level.TheVariants.{Value, Stars, StarItem, Named, Expression, Or, And, Not, Compare, BitOr, BitXor, BitAnd, Shift, Sum, Term, Factor, Power, Await, Primary, Atom, Elem, Slices, Part, Slice, Subject}
 use Rattle.pytree_node.specs.Trees
 use Rattle.pytree_node.specs.Trees.{Expr, an_expr, OptionalExpr, absent, present, arg, Arguments, Identifier, exprs, comprehensions, Comprehension}
 use Rattle.pytoken.specs.Terminals.{Terminal, Op}
@@ -490,6 +490,7 @@ module _ (d : ℕ) (next next' same inner other : Reads) (n : CapsAt (suc d) nex
       over_weak (over p) = over (omega (arith, p))
       over_weak none = none
       over_weak sunk = sunk
+  c_step Subject i = caps_then height height (suc d) (suc d) _ _ _ _ (n Elem i) (λ e r. c_tupled d inner other all Elem e r _) (λ e r w. over_tupled other (suc (suc d)) (Of Elem) e r _ w (over_unstarred other (suc (suc d)) height i _ (over w)))
   c_step Or i = c_climb (rank Or) i
   c_step And i = c_climb (rank And) i
   c_step Not i = c_climb (rank Not) i

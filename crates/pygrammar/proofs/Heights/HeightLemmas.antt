@@ -1,6 +1,7 @@
 -- Contexts and the order of arguments and parameters leave heights as they are.
 --
--- Carries: arranged_height, called_height, deleted_height, single_height and 1 more, for Entries.
+-- Carries: arranged_height, called_height, deleted_height, single_height and 3 more, for Entries
+-- and the bound of patterns.
 use Rattle.std.proofs.Common.{◌≡◌, refl, sym, ap, ◌∙◌, ℕ, ◌+◌, arith, List, [], ◌∷◌, Option, Some, None, Bool, true, false, cond, option_map}
 use Rattle.std.specs.Prelude.{max}
 use Rattle.pytree_node.specs.declared.operators.Context.{Context}
@@ -14,11 +15,11 @@ use Rattle.pygrammar.specs.Parameters.{arranged, at_star, after_star, plain_ones
 use Rattle.pytree_height.specs.Heights.{height, heights, optional_height, keyword_heights, arg_height, arg_heights, optional_heights, arguments_height, optional_arg_height}
 use Rattle.pygrammar.specs.Inner.EntryHeights.{entries_height}
 
-some_is : {A : Type 0} (a b : A) → Some a ≡ Some b → a ≡ b
+pub some_is : {A : Type 0} (a b : A) → Some a ≡ Some b → a ≡ b
 some_is a b h = cc
 
 -- f keeps what n counts
-mapped_keeps : {A B : Type 0} (f : A → B) (o : Option A) (b : B) (n : A → ℕ) (k : B → ℕ) (z : ℕ) → ((a : A) → o ≡ Some a → k (f a) ≡ z) → option_map f o ≡ Some b → k b ≡ z
+pub mapped_keeps : {A B : Type 0} (f : A → B) (o : Option A) (b : B) (n : A → ℕ) (k : B → ℕ) (z : ℕ) → ((a : A) → o ≡ Some a → k (f a) ≡ z) → option_map f o ≡ Some b → k b ≡ z
 mapped_keeps f None b n k z h q = absurd (cc)
 mapped_keeps f (Some a) b n k z h q = ap k (sym (some_is (f a) b q)) ∙ h a refl
 

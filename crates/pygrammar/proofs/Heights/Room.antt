@@ -10,7 +10,7 @@ use Rattle.pylex_lexeme.specs.declared.kinds.Exact.TheVariants.{LPar, RPar, LSqb
 use Rattle.pytoken.specs.declared.keywords.Keyword.TheVariants as Key
 use Rattle.pytree_node.specs.declared.operators.Context.TheVariants.{Load}
 use Rattle.pygrammar.specs.declared.levels.Level.{Level}
-use Rattle.pygrammar.specs.declared.levels.Level.TheVariants.{Value, Stars, StarItem, Named, Expression, Or, And, Not, Compare, BitOr, BitXor, BitAnd, Shift, Sum, Term, Factor, Power, Await, Primary, Atom, Elem, Slices, Part, Slice}
+use Rattle.pygrammar.specs.declared.levels.Level.TheVariants.{Value, Stars, StarItem, Named, Expression, Or, And, Not, Compare, BitOr, BitXor, BitAnd, Shift, Sum, Term, Factor, Power, Await, Primary, Atom, Elem, Slices, Part, Slice, Subject}
 use Rattle.pytree_node.specs.Trees
 use Rattle.pytree_node.specs.Trees.{Expr, absent, present, Identifier}
 use Rattle.pytoken.specs.Terminals.{Spelled, Terminal, Op, Ident}
@@ -143,6 +143,7 @@ module _ (b d : ℕ) (le : b ≤ d) (next same inner : Reads) (low : GoodTo (suc
   g_capped_step Slices i w = g_next next inner b low deep_ones (length i) Part i _ w (λ e r p. g_tupled inner b deep_ones (length i) (Of Part) e r _ p (omega arith) (good_first (length i) (is_op Star) i _ _ (λ _ _ _. p) p))
   g_capped_step Part i w = g_starred inner b deep_ones (length i) Expression i _ (omega arith) w (low Slice i (omega arith))
   g_capped_step Slice i w = good_first (length i) (is_op Colon) i _ _ (λ _ r q. g_slice_rest inner b deep_ones (length i) absent r (omega arith) (omega arith)) (g_next next inner b low deep_ones (length i) Named i _ w (λ e r p. good_first (length i) (is_op Colon) r _ _ (λ _ r1 q. g_unnamed inner b deep_ones (length i) i _ (g_slice_rest inner b deep_ones (length i) (present e) r1 (omega arith) (omega arith))) p))
+  g_capped_step Subject i w = g_next next inner b low deep_ones (length i) Elem i _ w (λ e r p. g_tupled inner b deep_ones (length i) (Of Elem) e r _ p (omega arith) (g_unstarred inner b deep_ones (length i) i _ p))
   g_capped_step Or i w = g_capped_climb (rank Or) i (omega arith) (omega arith) w
   g_capped_step And i w = g_capped_climb (rank And) i (omega arith) (omega arith) w
   g_capped_step Not i w = g_capped_climb (rank Not) i (omega arith) (omega arith) w

@@ -1,14 +1,17 @@
 -- The reader never goes too deep where as many expressions may stand inside one
 -- another as there are terminals.
 --
--- Carries: read_or_not, enough, g_line, for Limit, SourceLaw, Total. On: Enough, Law, SoundLines.
-use Rattle.std.proofs.Common.{◌≡◌, ◌⊎◌, inl, inr, refl, sym, ap, subst, ◌∙◌, ℕ, zero, suc, ◌≤◌, ◌<◌, arith, List, [], ◌∷◌, ◌++◌, length, Option, Some, None, Bool, true, false}
+-- Carries: read_or_not, enough, g_place, for Limit, SourceLaw, Total. On: Enough, Law, SoundLines,
+-- Patterns.
+use Rattle.std.proofs.Common.{◌≡◌, ◌⊎◌, inl, inr, refl, sym, subst, ◌∙◌, ℕ, zero, suc, ◌≤◌, ◌<◌, arith, List, [], ◌∷◌, ◌++◌, length, Option, Some, None, Bool, true, false, cond}
 use Rattle.std.specs.Prelude.{leb}
 use Rattle.pylex_lexeme.specs.declared.kinds.Exact.TheVariants as Sign
 use Rattle.pytoken.specs.declared.keywords.Keyword.TheVariants as Key
 use Rattle.pytree_node.specs.declared.profiles.Profile.{Profile}
 use Rattle.pygrammar.specs.declared.levels.Level.{Level}
-use Rattle.pygrammar.specs.declared.levels.Level.TheVariants.{Value, Stars, Named, Expression}
+use Rattle.pygrammar.specs.declared.levels.Level.TheVariants.{Value, Stars, Named, Expression, Subject}
+use Rattle.pygrammar.specs.declared.pattern_levels.PatternLevel.{PatternLevel}
+use Rattle.pygrammar.specs.declared.pattern_levels.PatternLevel.TheVariants.{Patterns}
 use Rattle.pytree_node.specs.Trees.{Expr, Identifier, TypeParam}
 use Rattle.pytree_node.specs.Trees as Trees
 use Rattle.pytoken.specs.Terminals.{Terminal, Op, Word}
@@ -20,10 +23,12 @@ use Rattle.pygrammar.specs.Targets.{stored, deleted, single_stored}
 use Rattle.pygrammar.specs.Reader.{Answer, Found, NoForm, TooDeep, and_then, on_some, Reads, read}
 use Rattle.pygrammar.specs.Precedence.{starts}
 use Rattle.pygrammar.proofs.Depths.Enough.{Good, GoodTo, good_then, good_first, good_cond, good_made, good_closed, good_read, g_name_with, g_listing_of, g_target}
-use Rattle.pygrammar.specs.Lines.{Form, Header}
-use Rattle.pygrammar.specs.Forms.{FormOf}
+use Rattle.pygrammar.specs.Lines.{Form, Header, case_header}
+use Rattle.pygrammar.specs.Forms.{FormAt, is_case_line}
+use Rattle.pygrammar.specs.PatternReader.{PatternReads, capped_pattern}
 use Rattle.pytree_node.specs.Profiles.{has_types}
-use Rattle.pygrammar.specs.LineReader.{or_else, on_none, same_as, is_type, on_type, starts_name, starts_type_param, always, commas, read_name, read_as, dotted, dotted_alias, name_alias, read_dots, read_names, import_from, augmented_sign, Start, Values, Returns, Raises, Asserts, Deletes, Globals, Nonlocals, Passes, Breaks, Continues, Imports, Froms, start, if_any, after, annotation, end_value, value_loop, value_statement, deleted_one, read_type_param, bracketed_type_params, read_type_params, alias_rest, statement_of, statement, statements, item_target, read_item, bracketed, for_rest, with_rest, function_rest, bases_rest, def_rest, class_rest, except_of, except_rest, read_header, Opening, Decorates, Heads, States, opening, suite, line_of, line_front, line, plain, read_line, read_line_to}
+use Rattle.pygrammar.specs.LineReader.{or_else, on_none, same_as, is_type, on_type, starts_name, starts_type_param, always, commas, read_name, read_as, dotted, dotted_alias, name_alias, read_dots, read_names, import_from, augmented_sign, Start, Values, Returns, Raises, Asserts, Deletes, Globals, Nonlocals, Passes, Breaks, Continues, Imports, Froms, start, if_any, after, annotation, end_value, value_loop, value_statement, deleted_one, read_type_param, bracketed_type_params, read_type_params, alias_rest, statement_of, statement, statements, item_target, read_item, bracketed, for_rest, with_rest, function_rest, bases_rest, def_rest, class_rest, except_of, except_rest, read_header, Opening, Decorates, Heads, States, opening, suite, is_match_line, line_of, match_rest, line_front, case_rest, case_front, line_at, plain, plain_pattern, read_line, read_line_to}
+use Rattle.pygrammar.proofs.Line.Patterns.{pattern_good}
 use Rattle.pygrammar.proofs.Line.Law.{read_goes}
 use Rattle.pygrammar.proofs.Line.SoundLines.{read_gives}
 
@@ -212,35 +217,73 @@ module _ (self : Reads) (b : ℕ) (all : GoodTo b self) where
   g_line_of profile Heads i r v w = good_then b b _ _ (g_header profile i v) (λ h r1 p. good_first b (is_op Sign.Colon) r1 _ _ (λ _ u q. g_suite profile h u (omega arith)) tt)
   g_line_of profile States i r v w = good_then b b _ _ (g_statements profile (suc (length i)) i v) (λ ss r1 p. p)
 
+  g_match : (profile : Profile) (i : List Terminal) → length i < b → Good b (match_rest profile self i)
+  g_match profile i w = one Subject i _ w (λ e r p. good_first b (is_op Sign.Colon) r _ _ (λ _ r1 q. omega (arith, p, q)) tt)
+
   g_front : (profile : Profile) (i : List Terminal) → length i < b → Good b (line_front profile self i)
   g_front profile [] w = tt
-  g_front profile (t ∷ r) w = g_line_of profile (opening t) (t ∷ r) r w (omega (arith, w))
+  g_front profile (t ∷ r) w = good_cond b (is_match_line profile (t ∷ r)) _ _ (g_match profile r (omega (arith, w))) (g_line_of profile (opening t) (t ∷ r) r w (omega (arith, w)))
 
-  pub g_line : (profile : Profile) (i : List Terminal) → length i < b → Good b (line profile self i)
-  g_line profile i w = good_then b b _ _ (g_front profile i w) (λ f r p. g_none b r _ _ (omega (arith, w)) tt)
+  g_whole : (x : Answer Form) → 0 < b → Good b x → Good b (and_then x (λ f r. on_none r (Found f []) NoForm))
+  g_whole x w h = good_then b b x _ h (λ f r p. g_none b r _ _ w tt)
+
+  -- and the patterns behind the first terminal of a line
+  module _ (patterns : PatternReads) where
+    g_case : (profile : Profile) (i : List Terminal) → Good b (patterns Patterns i) → Good b (case_rest profile self patterns i)
+    g_case profile i h = good_then b b _ _ h (λ p r w. good_then b b _ _ (g_after (Word Key.If) Named r w) (λ g r1 q. good_first b (is_op Sign.Colon) r1 _ _ (λ _ u v. g_suite profile (case_header p g) u (omega (arith, q, v))) tt))
+
+    g_case_front : (profile : Profile) (i : List Terminal) → ((l : PatternLevel) (j : List Terminal) → length j < length i → Good b (patterns l j)) → Good b (case_front profile self patterns i)
+    g_case_front profile [] h = tt
+    g_case_front profile (t ∷ r) h = g_case profile r (h Patterns r (omega arith))
+
+    pub g_place : (profile : Profile) (inside : Bool) (i : List Terminal) → length i < b → ((l : PatternLevel) (j : List Terminal) → length j < length i → Good b (patterns l j)) → Good b (line_at profile self patterns inside i)
+    g_place profile inside i w h = good_cond b (is_case_line profile inside i) _ _ (g_whole _ (omega (arith, w)) (g_case_front profile i h)) (g_whole _ (omega (arith, w)) (g_front profile i w))
 
 -- above the number of terminals no depth is too deep
-pub enough : (profile : Profile) (d : ℕ) (ts : List Terminal) → length ts < d → read_line_to profile d ts ≡ TooDeep → ⊥
-enough profile d ts w h = subst (Good d) h (g_line (read d) d (good_read d) profile ts w)
+pub enough : (profile : Profile) (inside : Bool) (d : ℕ) (ts : List Terminal) → length ts < d → read_line_to profile inside d ts ≡ TooDeep → ⊥
+enough profile inside d ts w h =
+    let n : ℕ = length ts in
+    subst (Good d) h (g_place (read d) d (good_read d) (capped_pattern (suc n) d) profile inside ts w (λ l j v. pattern_good (suc n) d d l j (omega (arith, v)) (omega (arith, w, v)) (omega (arith, w, v))))
 
 plain_good : (b : ℕ) → GoodTo b plain
 plain_good b l i w = good_read (suc (length i)) l i (omega arith)
 
--- so the plain reader finds the form, or says that there is none
-abbrev pub Answers : Profile → List Terminal → Type 0
-Answers profile ts = ((f : Form) × (read_line profile ts ≡ Found f []) × FormOf profile ts f) ⊎ ((read_line profile ts ≡ NoForm) × ((f : Form) → FormOf profile ts f → ⊥))
+-- the plain reader finds a form, with no terminal after it, or says that there is none
+abbrev Whole : Answer Form → Type 0
+Whole (Found f []) = Unit {0}
+Whole (Found f (t ∷ r)) = ⊥
+Whole NoForm = Unit {0}
+Whole TooDeep = ⊥
 
-pub read_or_not : (profile : Profile) (ts : List Terminal) → Answers profile ts
-read_or_not profile ts = go (line_front profile plain ts) refl (g_front plain (suc (length ts)) (plain_good (suc (length ts))) profile ts (omega arith))
+whole : (n : ℕ) (x : Answer Form) → Good n x → Whole (and_then x (λ f r. on_none r (Found f []) NoForm))
+whole n (Found f []) g = tt
+whole n (Found f (t ∷ r)) g = tt
+whole n NoForm g = tt
+whole n TooDeep g = g
+
+whole_cond : (b : Bool) (x y : Answer Form) → Whole x → Whole y → Whole (cond b x y)
+whole_cond true x y h k = h
+whole_cond false x y h k = k
+
+line_whole : (profile : Profile) (inside : Bool) (ts : List Terminal) → Whole (read_line profile inside ts)
+line_whole profile inside ts =
+    let n : ℕ = suc (length ts) in
+    whole_cond (is_case_line profile inside ts) _ _
+    (whole n _ (g_case_front plain n (plain_good n) plain_pattern profile ts (λ l j v. pattern_good (suc (length j)) (suc (suc (length j))) n l j (omega arith) (omega arith) (omega (arith, v)))))
+    (whole n _ (g_front plain n (plain_good n) profile ts (omega arith)))
+
+-- so it gives the one form of a line, or there is none
+abbrev pub Answers : Profile → Bool → List Terminal → Type 0
+Answers profile inside ts = ((f : Form) × (read_line profile inside ts ≡ Found f []) × FormAt profile inside ts f) ⊎ ((read_line profile inside ts ≡ NoForm) × ((f : Form) → FormAt profile inside ts f → ⊥))
+
+pub read_or_not : (profile : Profile) (inside : Bool) (ts : List Terminal) → Answers profile inside ts
+read_or_not profile inside ts = go (read_line profile inside ts) refl (line_whole profile inside ts)
   where
     bad : (f : Form) → ◌≡◌ {A = Answer Form} (Found f []) NoForm → ⊥
     bad f h = absurd (cc)
 
-    none : read_line profile ts ≡ NoForm → Answers profile ts
-    none h = inr (h, λ f p. bad f (sym (read_goes profile p) ∙ h))
-
-    go : (a : Answer Form) → line_front profile plain ts ≡ a → Good (suc (length ts)) a → Answers profile ts
-    go (Found f []) q g = let h = ap (λ a. and_then a (λ f r. on_none r (Found f []) NoForm)) q in inl (f, h, read_gives profile ts f h)
-    go (Found f (t ∷ r)) q g = none (ap (λ a. and_then a (λ f r. on_none r (Found f []) NoForm)) q)
-    go NoForm q g = none (ap (λ a. and_then a (λ f r. on_none r (Found f []) NoForm)) q)
-    go TooDeep q g = absurd g
+    go : (a : Answer Form) → read_line profile inside ts ≡ a → Whole a → Answers profile inside ts
+    go (Found f []) q w = inl (f, q, read_gives profile inside ts f q)
+    go (Found f (t ∷ r)) q w = absurd w
+    go NoForm q w = inr (q, λ f p. bad f (sym (read_goes profile p) ∙ q))
+    go TooDeep q w = absurd w

@@ -1,13 +1,15 @@
 -- The reader at a depth: it goes too deep or answers as the plain one does, and never goes too deep
 -- above the number of terminals.
 --
--- Carries: at_depth, for Limit, SourceLaw. On: Keeps, Whole.
+-- Carries: k_place, at_depth, for Limit, SourceLaw. On: Keeps, Whole, Patterns.
 use Rattle.std.proofs.Common.{◌≡◌, ◌⊎◌, inl, inr, refl, ap, ◌∙◌, ℕ, zero, suc, List, [], ◌∷◌, ◌++◌, length, Option, Some, None, Bool, true, false}
 use Rattle.pylex_lexeme.specs.declared.kinds.Exact.TheVariants as Sign
 use Rattle.pytoken.specs.declared.keywords.Keyword.TheVariants as Key
 use Rattle.pytree_node.specs.declared.profiles.Profile.{Profile}
 use Rattle.pygrammar.specs.declared.levels.Level.{Level}
-use Rattle.pygrammar.specs.declared.levels.Level.TheVariants.{Value, Stars, Named, Expression}
+use Rattle.pygrammar.specs.declared.levels.Level.TheVariants.{Value, Stars, Named, Expression, Subject}
+use Rattle.pygrammar.specs.declared.pattern_levels.PatternLevel.{PatternLevel}
+use Rattle.pygrammar.specs.declared.pattern_levels.PatternLevel.TheVariants.{Patterns}
 use Rattle.pytree_node.specs.Trees.{Expr, Identifier, TypeParam}
 use Rattle.pytoken.specs.Terminals.{Terminal, Op, Word}
 use Rattle.pygrammar.specs.Looks.{is_op, is_word, name_in}
@@ -18,9 +20,12 @@ use Rattle.pygrammar.specs.Reader.{Answer, Found, NoForm, TooDeep, and_then, on_
 use Rattle.pygrammar.specs.Precedence.{starts}
 use Rattle.pygrammar.proofs.Depths.Keeps.{Keeps, AllKeep, keeps_then, keeps_first, keeps_cond, k_one, k_name_with, k_listing_of, k_target}
 use Rattle.pygrammar.proofs.Depths.Whole.{final}
-use Rattle.pygrammar.specs.Lines.{Header}
+use Rattle.pygrammar.specs.Lines.{Header, case_header}
+use Rattle.pygrammar.specs.Forms.{is_case_line}
+use Rattle.pygrammar.specs.PatternReader.{PatternReads, capped_pattern}
 use Rattle.pytree_node.specs.Profiles.{has_types}
-use Rattle.pygrammar.specs.LineReader.{or_else, on_none, same_as, is_type, on_type, starts_type_param, always, commas, augmented_sign, Start, Values, Returns, Raises, Asserts, Deletes, start, if_any, after, annotation, end_value, value_loop, value_statement, deleted_one, read_type_param, bracketed_type_params, read_type_params, alias_rest, statement_of, statement, statements, item_target, read_item, bracketed, for_rest, with_rest, function_rest, bases_rest, def_rest, class_rest, except_of, except_rest, read_header, Opening, Decorates, Heads, States, opening, suite, line_of, line_front, line, plain, read_line, read_line_to}
+use Rattle.pygrammar.specs.LineReader.{or_else, on_none, same_as, is_type, on_type, starts_type_param, always, commas, augmented_sign, Start, Values, Returns, Raises, Asserts, Deletes, start, if_any, after, annotation, end_value, value_loop, value_statement, deleted_one, read_type_param, bracketed_type_params, read_type_params, alias_rest, statement_of, statement, statements, item_target, read_item, bracketed, for_rest, with_rest, function_rest, bases_rest, def_rest, class_rest, except_of, except_rest, read_header, Opening, Decorates, Heads, States, opening, suite, is_match_line, line_of, match_rest, line_front, line, case_rest, case_front, line_at, plain, plain_pattern, read_line, read_line_to}
+use Rattle.pygrammar.proofs.Line.Patterns.{final_pattern}
 
 -- ---- More depth changes no answer.
 k_some : {A B : Type 0} (o : Option A) (k j : A → Answer B) (x y : Answer B) → ((a : A) → Keeps (k a) (j a)) → Keeps x y → Keeps (on_some o k x) (on_some o j y)
@@ -155,12 +160,26 @@ module _ (self other : Reads) (all : AllKeep self other) where
   k_line_of profile Heads i r = keeps_then _ _ _ _ (k_header profile i) (λ h r1. keeps_first (is_op Sign.Colon) r1 _ _ _ _ (λ _ u. k_suite profile h u) (inr refl))
   k_line_of profile States i r = keeps_then _ _ _ _ (k_statements profile (suc (length i)) i) (λ ss r1. inr refl)
 
+  k_match : (profile : Profile) (i : List Terminal) → Keeps (match_rest profile self i) (match_rest profile other i)
+  k_match profile i = one Subject i _
+
   k_front : (profile : Profile) (i : List Terminal) → Keeps (line_front profile self i) (line_front profile other i)
   k_front profile [] = inr refl
-  k_front profile (t ∷ r) = k_line_of profile (opening t) (t ∷ r) r
+  k_front profile (t ∷ r) = keeps_cond (is_match_line profile (t ∷ r)) _ _ _ _ (k_match profile r) (k_line_of profile (opening t) (t ∷ r) r)
 
   k_line : (profile : Profile) (i : List Terminal) → Keeps (line profile self i) (line profile other i)
   k_line profile i = keeps_then _ _ _ _ (k_front profile i) (λ f r. inr refl)
 
-pub at_depth : (profile : Profile) (d : ℕ) (ts : List Terminal) → (read_line_to profile d ts ≡ TooDeep) ⊎ (read_line_to profile d ts ≡ read_line profile ts)
-at_depth profile d ts = k_line (read d) plain (λ l i. final d l i) profile ts
+  module _ (patterns others : PatternReads) (every : (l : PatternLevel) (i : List Terminal) → Keeps (patterns l i) (others l i)) where
+    k_case : (profile : Profile) (i : List Terminal) → Keeps (case_rest profile self patterns i) (case_rest profile other others i)
+    k_case profile i = keeps_then _ _ _ _ (every Patterns i) (λ p r. keeps_then _ _ _ _ (k_after (Word Key.If) Named r) (λ g r1. keeps_first (is_op Sign.Colon) r1 _ _ _ _ (λ _ u. k_suite profile (case_header p g) u) (inr refl)))
+
+    k_case_front : (profile : Profile) (i : List Terminal) → Keeps (case_front profile self patterns i) (case_front profile other others i)
+    k_case_front profile [] = inr refl
+    k_case_front profile (t ∷ r) = k_case profile r
+
+    pub k_place : (profile : Profile) (inside : Bool) (i : List Terminal) → Keeps (line_at profile self patterns inside i) (line_at profile other others inside i)
+    k_place profile inside i = keeps_cond (is_case_line profile inside i) _ _ _ _ (keeps_then _ _ _ _ (k_case_front profile i) (λ f r. inr refl)) (k_line profile i)
+
+pub at_depth : (profile : Profile) (inside : Bool) (d : ℕ) (ts : List Terminal) → (read_line_to profile inside d ts ≡ TooDeep) ⊎ (read_line_to profile inside d ts ≡ read_line profile inside ts)
+at_depth profile inside d ts = k_place (read d) plain (λ l i. final d l i) (capped_pattern (suc (length ts)) d) plain_pattern (λ l i. final_pattern (suc (length ts)) d l i) profile inside ts

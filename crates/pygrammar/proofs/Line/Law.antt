@@ -1,27 +1,35 @@
--- Completeness for lines: each form is read, so a line has one form alone.
+-- Completeness for lines: each form is read at its place, so a line has one form there alone.
 --
 -- Carries: read_goes, one_form, for Answer, Answered, Limit, SoundLines and 1 more. On: Simple,
--- LookLemmas, Tools, LevelLemmas and 2 more.
-use Rattle.std.proofs.Common.{◌≡◌, refl, sym, ap, ◌∙◌, ℕ, suc, ◌≤◌, ◌<◌, arith, List, [], ◌∷◌, ◌++◌, length, Some, None, append_assoc}
+-- LookLemmas, Tools, LevelLemmas, MatchLines, Patterns and 3 more.
+use Rattle.std.proofs.Common.{◌≡◌, refl, sym, ap, ◌∙◌, ℕ, suc, ◌≤◌, ◌<◌, arith, List, [], ◌∷◌, ◌++◌, length, Option, Some, None, Bool, true, false, append_assoc}
+use Rattle.std.specs.Prelude.{◌&&◌}
 use Rattle.std.proofs.lemmas.List.{append-nil}
 use Rattle.pylex_lexeme.specs.declared.kinds.Exact.TheVariants as Sign
 use Rattle.pytoken.specs.declared.keywords.Keyword.TheVariants as Key
 use Rattle.pytree_node.specs.declared.profiles.Profile.{Profile}
-use Rattle.pygrammar.specs.declared.levels.Level.TheVariants.{Named}
-use Rattle.pytree_node.specs.Trees.{Expr, Stmt}
+use Rattle.pygrammar.specs.declared.levels.Level.TheVariants.{Named, Subject}
+use Rattle.pygrammar.specs.declared.pattern_levels.PatternLevel.TheVariants.{Patterns}
+use Rattle.pytree_node.specs.Trees.{Expr, Identifier, Pattern, Stmt}
 use Rattle.pytoken.specs.Terminals.{Terminal, Op, Word}
 use Rattle.pygrammar.specs.Grammar as G
+use Rattle.pygrammar.specs.PatternGrammar.{DerivesPattern}
 use Rattle.pygrammar.specs.Reader.{Answer, Found}
 use Rattle.pygrammar.specs.Precedence.{lead}
 use Rattle.pygrammar.proofs.Completeness.LookLemmas.{lead_of, lead_front}
 use Rattle.pygrammar.proofs.Completeness.LevelLemmas.{led}
-use Rattle.pygrammar.specs.Lines.{Form, simple_form, decorator_form, Header, header_form}
+use Rattle.pygrammar.proofs.Pattern.Ends.{EndsPattern}
+use Rattle.pygrammar.specs.Lines.{Form, simple_form, decorator_form, Header, header_form, match_header, case_header}
 use Rattle.pygrammar.specs.Forms as F
-use Rattle.pygrammar.specs.LineReader.{plain, Opening, Heads, States, opening, statements, suite, line_of, line_front, read_line, read_header}
-use Rattle.pygrammar.proofs.Line.Tools.{thus, front}
+use Rattle.pygrammar.specs.Forms.{is_whole, match_word}
+use Rattle.pygrammar.specs.LineReader.{plain, plain_pattern, Opening, Heads, States, opening, statements, suite, ends_in_colon, is_match_line, line_of, line_front, line, case_rest, read_line, read_header}
+use Rattle.pygrammar.proofs.Line.Tools.{thus, when, unless, front, after_goes}
 use Rattle.pygrammar.proofs.Line.Simple.{Full, simples_full, statements_goes}
 use Rattle.pygrammar.proofs.Line.Headers.{header_by}
 use Rattle.pygrammar.proofs.Line.With.{with_goes}
+use Rattle.pygrammar.proofs.Line.Colons.{last}
+use Rattle.pygrammar.proofs.Line.MatchLines.{has_match_ends, simples_ends, header_ends}
+use Rattle.pygrammar.proofs.Line.Patterns.{plain_pattern_goes}
 
 header_goes : (profile : Profile) {ts : List Terminal} {h : Header} → F.HeaderOf profile ts h → (r : List Terminal) → read_header profile plain (ts ++ (Op Sign.Colon ∷ r)) ≡ Found h (Op Sign.Colon ∷ r)
 header_goes profile p r = header_by with_goes profile p r
@@ -82,13 +90,18 @@ header_kind (F.def_line x F.no_async g c q k) r = (refl, (_, _, refl))
 header_kind (F.def_line x F.async g c q k) r = (refl, (_, _, refl))
 header_kind _ r = (refl, (_, _, refl))
 
+-- without the ends of a `match` a line is no header of one
+never : (b c : Bool) → c ≡ false → (b && c) ≡ false
+never true c h = h
+never false c h = refl
+
 -- a line by its opening
-line_by : (profile : Profile) (k : Opening) (i : List Terminal) → Full i → opening_of i ≡ k → (f : Form) → ((t : Terminal) (r : List Terminal) → i ≡ t ∷ r → line_of profile plain k i r ≡ Found f []) → read_line profile i ≡ Found f []
-line_by profile k [] g q f h = absurd (empty g)
+line_by : (profile : Profile) (k : Opening) (i : List Terminal) → Full i → opening_of i ≡ k → has_match_ends i ≡ false → (f : Form) → ((t : Terminal) (r : List Terminal) → i ≡ t ∷ r → line_of profile plain k i r ≡ Found f []) → line profile plain i ≡ Found f []
+line_by profile k [] g q m f h = absurd (empty g)
   where
     empty : Full [] → ⊥
     empty g = absurd (cc (g.2))
-line_by profile k (t ∷ r) g q f h = thus _ _ (ap (λ k. line_of profile plain k (t ∷ r) r) q ∙ h t r refl) refl
+line_by profile k (t ∷ r) g q m f h = thus _ _ (unless _ _ _ (never (is_whole profile.extent) _ m) (ap (λ k. line_of profile plain k (t ∷ r) r) q ∙ h t r refl)) refl
 
 suite_goes : (profile : Profile) {us : List Terminal} {ss : List Stmt} (h : Header) → F.Simples profile us ss → suite profile plain h us ≡ Found (header_form h (Some ss)) []
 suite_goes profile {us} {ss} h c = full us (simples_full profile c) (statements_goes profile c)
@@ -98,22 +111,48 @@ suite_goes profile {us} {ss} h c = full us (simples_full profile c) (statements_
     full (t ∷ r) g k = thus _ _ k refl
 
 decorated : (profile : Profile) {ts : List Terminal} {e : Expr} → G.Derives Named ts e → line_front profile plain (Op Sign.At ∷ ts) ≡ Found (decorator_form e) []
-decorated profile {ts} p = thus (plain Named ts) _ (ap (plain Named) (sym (append-nil ts)) ∙ front p [] (omega arith)) refl
+decorated profile {ts} p = unless _ _ _ (never (is_whole profile.extent) false refl) (thus (plain Named ts) _ (ap (plain Named) (sym (append-nil ts)) ∙ front p [] (omega arith)) refl)
+
+-- the header of a `match`
+match_goes : (profile : Profile) (form : Identifier) {ts : List Terminal} {e : Expr} → is_whole profile.extent ≡ true → G.Derives Subject ts e → line profile plain (match_word form ∷ (ts ++ (Op Sign.Colon ∷ []))) ≡ Found (header_form (match_header e) None) []
+match_goes profile form {ts} w p =
+    let m : is_match_line profile (match_word form ∷ (ts ++ (Op Sign.Colon ∷ []))) ≡ true = ap (λ b. b && ends_in_colon (ts ++ (Op Sign.Colon ∷ []))) w ∙ last ts [] (Op Sign.Colon) in
+    thus _ _ (when _ _ _ m (thus _ _ (front p (Op Sign.Colon ∷ []) (omega arith, (λ q. absurd (omega (arith, q))), omega arith)) refl)) refl
+
+line_goes : (profile : Profile) {ts : List Terminal} {f : Form} → F.FormOf profile ts f → line profile plain ts ≡ Found f []
+line_goes profile (F.simple_statements {ts = ts} {ss = ss} c) = line_by profile States ts (simples_full profile c) (simples_kind c) (simples_ends c) (simple_form ss) (λ t r q. thus _ _ (statements_goes profile c) refl)
+line_goes profile (F.decorator_line {ts = ts} p) = thus (line_front profile plain (Op Sign.At ∷ ts)) _ (decorated profile p) refl
+line_goes profile (F.header_line {ts = ts} {h = h} p) =
+    let k = header_kind p (Op Sign.Colon ∷ []) in
+    line_by profile Heads (ts ++ (Op Sign.Colon ∷ [])) k.1 k.0 (header_ends p (Op Sign.Colon ∷ [])).1 (header_form h None) (λ t r q. thus _ _ (header_goes profile p []) refl)
+line_goes profile (F.header_suite {ts = ts} {us = us} {h = h} {ss = ss} p c) =
+    let k = header_kind p (Op Sign.Colon ∷ us) in
+    line_by profile Heads (ts ++ (Op Sign.Colon ∷ us)) k.1 k.0 (header_ends p (Op Sign.Colon ∷ us)).1 (header_form h (Some ss)) (λ t r q. thus _ _ (header_goes profile p us) (suite_goes profile h c))
+line_goes profile (F.match_line form w p) = match_goes profile form w p
+
+-- ---- The header of a case.
+
+guard_ends : {us : List Terminal} {g : Option Expr} → F.Behind (Word Key.If) Named us g → (r : List Terminal) → EndsPattern Patterns (us ++ (Op Sign.Colon ∷ r))
+guard_ends F.none_behind r = omega arith
+guard_ends (F.behind p) r = omega arith
+
+case_rest_goes : (profile : Profile) {ts us : List Terminal} {p : Pattern} {g : Option Expr} → DerivesPattern Patterns ts p → F.Behind (Word Key.If) Named us g → (r : List Terminal) → case_rest profile plain plain_pattern ((ts ++ us) ++ (Op Sign.Colon ∷ r)) ≡ suite profile plain (case_header p g) r
+case_rest_goes profile {ts} {us} q k r =
+    let z = Op Sign.Colon ∷ r in
+    ap (case_rest profile plain plain_pattern) (append_assoc ts us z) ∙ thus _ _ (plain_pattern_goes q (us ++ z) (guard_ends k r)) (thus _ _ (after_goes k refl z (omega arith) refl) refl)
+
+case_goes : (profile : Profile) {ts : List Terminal} {h : Header} (f : Form) (r : List Terminal) → is_whole profile.extent ≡ true → F.CaseOf ts h → suite profile plain h r ≡ Found f [] → read_line profile true (ts ++ (Op Sign.Colon ∷ r)) ≡ Found f []
+case_goes profile f r w (F.case_line form q k) s = when _ _ _ (ap (λ b. b && true) w) (thus _ _ (case_rest_goes profile q k r ∙ s) refl)
 
 -- each form is read
-pub read_goes : (profile : Profile) {ts : List Terminal} {f : Form} → F.FormOf profile ts f → read_line profile ts ≡ Found f []
-read_goes profile (F.simple_statements {ts = ts} {ss = ss} c) = line_by profile States ts (simples_full profile c) (simples_kind c) (simple_form ss) (λ t r q. thus _ _ (statements_goes profile c) refl)
-read_goes profile (F.decorator_line {ts = ts} p) = thus (line_front profile plain (Op Sign.At ∷ ts)) _ (decorated profile p) refl
-read_goes profile (F.header_line {ts = ts} {h = h} p) =
-    let k = header_kind p (Op Sign.Colon ∷ []) in
-    line_by profile Heads (ts ++ (Op Sign.Colon ∷ [])) k.1 k.0 (header_form h None) (λ t r q. thus _ _ (header_goes profile p []) refl)
-read_goes profile (F.header_suite {ts = ts} {us = us} {h = h} {ss = ss} p c) =
-    let k = header_kind p (Op Sign.Colon ∷ us) in
-    line_by profile Heads (ts ++ (Op Sign.Colon ∷ us)) k.1 k.0 (header_form h (Some ss)) (λ t r q. thus _ _ (header_goes profile p us) (suite_goes profile h c))
+pub read_goes : (profile : Profile) {inside : Bool} {ts : List Terminal} {f : Form} → F.FormAt profile inside ts f → read_line profile inside ts ≡ Found f []
+read_goes profile (F.other_line n p) = unless _ _ _ n (line_goes profile p)
+read_goes profile (F.case_alone {h = h} w c) = case_goes profile (header_form h None) [] w c refl
+read_goes profile (F.case_suite {us = us} {h = h} {ss = ss} w c s) = case_goes profile (header_form h (Some ss)) us w c (suite_goes profile h s)
 
 -- a line has one form alone
-pub one_form : {profile : Profile} {ts : List Terminal} {f g : Form} → F.FormOf profile ts f → F.FormOf profile ts g → f ≡ g
-one_form {profile} {ts} {f} {g} p q = same f g [] [] (sym (read_goes profile p) ∙ read_goes profile q)
+pub one_form : {profile : Profile} {inside : Bool} {ts : List Terminal} {f g : Form} → F.FormAt profile inside ts f → F.FormAt profile inside ts g → f ≡ g
+one_form {profile} {inside} {ts} {f} {g} p q = same f g [] [] (sym (read_goes profile p) ∙ read_goes profile q)
   where
     same : (f g : Form) (r s : List Terminal) → ◌≡◌ {A = Answer Form} (Found f r) (Found g s) → f ≡ g
     same f g r s h = cc

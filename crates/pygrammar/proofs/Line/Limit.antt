@@ -6,20 +6,23 @@ use Rattle.pytoken.specs.Terminals.{Terminal}
 use Rattle.pygrammar.specs.Reader.{Answer, Found, NoForm, TooDeep, read}
 use Rattle.pygrammar.specs.Capped.{capped}
 use Rattle.pygrammar.specs.Lines.{Form}
-use Rattle.pygrammar.specs.Forms.{FormOf}
+use Rattle.pygrammar.specs.Forms.{FormAt}
 use Rattle.pygrammar.specs.FormHeights.{form_height}
-use Rattle.pygrammar.specs.LineReader.{line, read_line, read_line_to}
+use Rattle.pygrammar.specs.PatternReader.{capped_pattern}
+use Rattle.pygrammar.specs.LineReader.{line_at, plain, plain_pattern, read_line}
 use Rattle.pygrammar.specs.LimitedLines.{cap_form, limit_line}
 use Rattle.pygrammar.specs.Meets.{Formless, HighLine, LineMeets}
-use Rattle.pygrammar.proofs.Depths.Enough.{Good}
+use Rattle.pygrammar.proofs.Depths.Enough.{Good, good_read}
+use Rattle.pygrammar.proofs.Depths.Whole.{final}
 use Rattle.pygrammar.proofs.Heights.Caps.{Over, over, Caps, caps_read}
 use Rattle.pygrammar.proofs.Heights.Room.{good_capped}
-use Rattle.pygrammar.proofs.Line.Answered.{enough, g_line, read_or_not}
-use Rattle.pygrammar.proofs.Line.Depth.{at_depth}
+use Rattle.pygrammar.proofs.Line.Answered.{g_place, read_or_not}
+use Rattle.pygrammar.proofs.Line.Depth.{k_place}
 use Rattle.pygrammar.proofs.Line.Law.{read_goes}
 use Rattle.pygrammar.proofs.Line.SoundLines.{read_gives}
-use Rattle.pygrammar.proofs.Line.CapsLines.{c_line}
+use Rattle.pygrammar.proofs.Line.CapsLines.{c_place}
 use Rattle.pygrammar.proofs.Line.CapsBrackets.{brackets}
+use Rattle.pygrammar.proofs.Line.Patterns.{final_pattern, pattern_good, pattern_over}
 
 found_deep : (f : Form) (r : List Terminal) → ◌≡◌ {A = Answer Form} TooDeep (Found f r) → ⊥
 found_deep f r h = absurd (cc)
@@ -36,61 +39,73 @@ rest_found f g t r h = absurd (cc)
 over_is : (n : ℕ) (f : Form) (r : List Terminal) → Over form_height n (Found f r) → n ≤ form_height f
 over_is n f r (over p) = p
 
-module _ (profile : Profile) (d : ℕ) (ts : List Terminal) where
+module _ (profile : Profile) (inside : Bool) (d : ℕ) (ts : List Terminal) where
+  -- more than there are terminals
+  abbrev most : ℕ
+  most = suc (length ts)
+
   -- before the form is checked
   abbrev roomy : Answer Form
-  roomy = line profile (capped (suc (length ts)) (suc d)) ts
+  roomy = line_at profile (capped most (suc d)) (capped_pattern most (suc d)) inside ts
 
   -- beside the plain reader
-  plain_one : read_line_to profile (suc (length ts)) ts ≡ read_line profile ts
-  plain_one = elim (at_depth profile (suc (length ts)) ts) [ inl q ↦ absurd (enough profile (suc (length ts)) ts (omega arith) q) | inr q ↦ q ]
+  abbrev at_most : Answer Form
+  at_most = line_at profile (read most) plain_pattern inside ts
 
-  beside : Caps form_height (suc d) roomy (read_line profile ts)
-  beside = subst (λ z. Caps form_height (suc d) roomy z) plain_one (c_line (suc d) (capped (suc (length ts)) (suc d)) (read (suc (length ts))) (caps_read (suc (length ts)) (suc d)) (brackets (suc (length ts)) d) profile ts)
+  plain_one : at_most ≡ read_line profile inside ts
+  plain_one = elim (k_place (read most) plain (λ l i. final most l i) plain_pattern plain_pattern (λ l i. inr refl) profile inside ts) [
+    | inl q ↦ absurd (subst (Good most) q (g_place (read most) most (good_read most) plain_pattern profile inside ts (omega arith) (λ l j v. pattern_good (suc (length j)) (suc (suc (length j))) most l j (omega arith) (omega arith) (omega (arith, v)))))
+    | inr q ↦ q
+  ]
 
-  roomy_found : (f : Form) (r : List Terminal) → roomy ≡ Found f r → read_line profile ts ≡ Found f r
+  beside : Caps form_height (suc d) roomy (read_line profile inside ts)
+  beside = subst (λ z. Caps form_height (suc d) roomy z) plain_one
+      (c_place (suc d) (capped most (suc d)) (read most) (caps_read most (suc d)) (brackets most d) (capped_pattern most (suc d)) plain_pattern (λ l i. final_pattern most (suc d) l i)
+      profile inside ts (λ l j r p v h k e. pattern_over most (suc d) l j r p (omega (arith, v)) h k e))
+
+  roomy_found : (f : Form) (r : List Terminal) → roomy ≡ Found f r → read_line profile inside ts ≡ Found f r
   roomy_found f r h = elim beside [ inl q ↦ sym q ∙ h | inr q ↦ absurd (found_deep f r (sym q.0 ∙ h)) ]
 
-  roomy_no_form : roomy ≡ NoForm → Formless profile ts
+  roomy_no_form : roomy ≡ NoForm → Formless profile inside ts
   roomy_no_form h f p = elim beside [ inl q ↦ no_form_found f [] (sym h ∙ (q ∙ read_goes profile p)) | inr q ↦ no_form_deep (sym q.0 ∙ h) ]
 
-  roomy_deep : roomy ≡ TooDeep → (f : Form) → FormOf profile ts f → suc d < form_height f
+  roomy_deep : roomy ≡ TooDeep → (f : Form) → FormAt profile inside ts f → suc d < form_height f
   roomy_deep h f p = elim beside [ inl q ↦ absurd (found_deep f [] (sym h ∙ (q ∙ read_goes profile p))) | inr q ↦ over_is (suc (suc d)) f [] (subst (λ z. Over form_height (suc (suc d)) z) (read_goes profile p) q.1) ]
 
   -- it goes too deep in no line of at most d terminals
   roomy_enough : roomy ≡ TooDeep → d < length ts
-  roomy_enough h = least d (length ts) (λ w. subst (Good (suc (length ts))) h (g_line (capped (suc (length ts)) (suc d)) (suc (length ts)) (good_capped (suc (length ts)) (suc d) (suc (length ts)) (omega arith) (omega (arith, w))) profile ts (omega arith)))
+  roomy_enough h = least d (length ts) (λ w. subst (Good most) h (g_place (capped most (suc d)) most (good_capped most (suc d) most (omega arith) (omega (arith, w))) (capped_pattern most (suc d)) profile inside ts (omega arith) (λ l j v. pattern_good most (suc d) most l j (omega (arith, v)) (omega (arith, w, v)) (omega (arith, v)))))
     where
       least : (d n : ℕ) → (n ≤ d → ⊥) → d < n
       least d n f = omega (arith, f)
 
   -- no terminal is left
   nothing_left : (f : Form) (t : Terminal) (r : List Terminal) → roomy ≡ Found f (t ∷ r) → ⊥
-  nothing_left f t r h = elim (read_or_not profile ts) [ inl q ↦ rest_found f q.0 t r (sym (roomy_found f (t ∷ r) h) ∙ q.1) | inr q ↦ no_form_found f (t ∷ r) (sym q.0 ∙ roomy_found f (t ∷ r) h) ]
+  nothing_left f t r h = elim (read_or_not profile inside ts) [ inl q ↦ rest_found f q.0 t r (sym (roomy_found f (t ∷ r) h) ∙ q.1) | inr q ↦ no_form_found f (t ∷ r) (sym q.0 ∙ roomy_found f (t ∷ r) h) ]
 
-  too_high : (f : Form) → roomy ≡ Found f [] → d < form_height f → HighLine profile d ts
-  too_high f h w = (λ g p. subst (λ z. d < form_height z) (same f g (sym (roomy_found f [] h) ∙ read_goes profile p)) w, λ no. absurd (no f (read_gives profile ts f (roomy_found f [] h))))
+  too_high : (f : Form) → roomy ≡ Found f [] → d < form_height f → HighLine profile inside d ts
+  too_high f h w = (λ g p. subst (λ z. d < form_height z) (same f g (sym (roomy_found f [] h) ∙ read_goes profile p)) w, λ no. absurd (no f (read_gives profile inside ts f (roomy_found f [] h))))
     where
       same : (f g : Form) → ◌≡◌ {A = Answer Form} (Found f []) (Found g []) → f ≡ g
       same f g h = cc
 
   -- the law: what each answer says
-  pub line_limit_meets : LineMeets profile d ts (limit_line profile d ts)
+  pub line_limit_meets : LineMeets profile inside d ts (limit_line profile inside d ts)
   line_limit_meets = go roomy refl
     where
-      go : (x : Answer Form) → roomy ≡ x → LineMeets profile d ts (cap_form d x)
+      go : (x : Answer Form) → roomy ≡ x → LineMeets profile inside d ts (cap_form d x)
       go NoForm q = roomy_no_form q
       go TooDeep q = (λ f p. omega (arith, roomy_deep q f p), λ no. roomy_enough q)
       go (Found f (t ∷ r)) q = absurd (nothing_left f t r q)
       go (Found f []) q = check (leb (form_height f) d) refl
         where
-          check : (b : Bool) → leb (form_height f) d ≡ b → LineMeets profile d ts (cond b (Found f []) TooDeep)
-          check true v = (read_gives profile ts f (roomy_found f [] q), leb-true (form_height f) d v)
+          check : (b : Bool) → leb (form_height f) d ≡ b → LineMeets profile inside d ts (cond b (Found f []) TooDeep)
+          check true v = (read_gives profile inside ts f (roomy_found f [] q), leb-true (form_height f) d v)
           check false v = too_high f q (leb-false (form_height f) d v)
 
 -- and each form that is at most d high is found
-pub line_limit_exactly : (profile : Profile) (d : ℕ) (ts : List Terminal) (f : Form) → (FormOf profile ts f × (form_height f ≤ d)) ↔ (limit_line profile d ts ≡ Found f [])
-line_limit_exactly profile d ts f = (λ p. found p.0 p.1, λ h. subst (LineMeets profile d ts) h (line_limit_meets profile d ts))
+pub line_limit_exactly : (profile : Profile) (inside : Bool) (d : ℕ) (ts : List Terminal) (f : Form) → (FormAt profile inside ts f × (form_height f ≤ d)) ↔ (limit_line profile inside d ts ≡ Found f [])
+line_limit_exactly profile inside d ts f = (λ p. found p.0 p.1, λ h. subst (LineMeets profile inside d ts) h (line_limit_meets profile inside d ts))
   where
-    found : FormOf profile ts f → form_height f ≤ d → limit_line profile d ts ≡ Found f []
-    found p w = ap (cap_form d) (elim (beside profile d ts) [ inl q ↦ q ∙ read_goes profile p | inr q ↦ absurd (omega (arith, w, over_is (suc (suc d)) f [] (subst (λ z. Over form_height (suc (suc d)) z) (read_goes profile p) q.1))) ]) ∙ ap (λ b. cond b (Found f []) TooDeep) (le-leb (form_height f) d w)
+    found : FormAt profile inside ts f → form_height f ≤ d → limit_line profile inside d ts ≡ Found f []
+    found p w = ap (cap_form d) (elim (beside profile inside d ts) [ inl q ↦ q ∙ read_goes profile p | inr q ↦ absurd (omega (arith, w, over_is (suc (suc d)) f [] (subst (λ z. Over form_height (suc (suc d)) z) (read_goes profile p) q.1))) ]) ∙ ap (λ b. cond b (Found f []) TooDeep) (le-leb (form_height f) d w)

@@ -1,14 +1,18 @@
 -- What is read as a header or as a line is one, and the law.
 --
 -- Carries: read_gives, exactly, for Answered, Limit, SourceLaw. On: Says, SoundParts,
--- SoundLists, Whole and 3 more.
-use Rattle.std.proofs.Common.{◌≡◌, ◌↔◌, refl, sym, ap, subst, ◌∙◌, suc, List, [], ◌∷◌, ◌++◌, length, Bool, true, false, append_assoc}
+-- SoundLists, Whole, Pattern/Sound and 3 more.
+use Rattle.std.proofs.Common.{◌≡◌, ◌↔◌, refl, sym, ap, subst, ◌∙◌, suc, List, [], ◌∷◌, ◌++◌, length, Some, None, Bool, true, false, append_assoc}
+use Rattle.std.specs.Prelude.{◌&&◌, cond}
 use Rattle.std.proofs.lemmas.List.{append-nil}
+use Rattle.std.proofs.lemmas.Slice.Eq.{bytes_eq-Decides}
 use Rattle.pylex_lexeme.specs.declared.kinds.Exact.TheVariants as Sign
 use Rattle.pytoken.specs.declared.keywords.Keyword.TheVariants as Key
 use Rattle.pytree_node.specs.declared.profiles.Profile.{Profile}
-use Rattle.pygrammar.specs.declared.levels.Level.TheVariants.{Stars, Named, Expression}
-use Rattle.pytoken.specs.Terminals.{Terminal, Op, Word, Ident}
+use Rattle.pygrammar.specs.declared.levels.Level.TheVariants.{Stars, Named, Expression, Subject}
+use Rattle.pygrammar.specs.declared.pattern_levels.PatternLevel.TheVariants.{Patterns}
+use Rattle.pytree_node.specs.Trees.{Identifier, Stmt}
+use Rattle.pytoken.specs.Terminals.{Terminal, Op, Word, Ident, Number, Literal, Layout}
 use Rattle.pygrammar.specs.Entries.{Of, Argument, Parameter}
 use Rattle.pygrammar.specs.Arguments.{in_order}
 use Rattle.pygrammar.specs.Parameters.{arranged}
@@ -19,10 +23,12 @@ use Rattle.pygrammar.specs.Precedence.{starts}
 use Rattle.pygrammar.proofs.Soundness.Says.{Says, found, no_form, says_then, says_op, says_word, says_name, says_cond, says_is}
 use Rattle.pygrammar.proofs.Soundness.SoundLists.{says_if, target_sound, listing_of_sound}
 use Rattle.pygrammar.proofs.Depths.Whole.{says_found}
-use Rattle.pygrammar.specs.Lines.{Form, Header}
+use Rattle.pygrammar.proofs.Pattern.Sound.{capped_sound}
+use Rattle.pygrammar.specs.Lines.{Form, Header, header_form, case_header}
 use Rattle.pygrammar.specs.Forms as F
-use Rattle.pygrammar.specs.LineReader.{plain, on_none, for_rest, with_rest, def_rest, class_rest, except_of, except_rest, read_header, suite, line_of, line_front, read_line, Decorates, Heads, States}
-use Rattle.pygrammar.proofs.Line.SoundParts.{headed, joins, says_some, plain_sound, after_op_sound, type_params_sound, as_sound}
+use Rattle.pygrammar.specs.Forms.{is_whole, match_name, match_word, case_name, case_word, begins_case, is_case_line}
+use Rattle.pygrammar.specs.LineReader.{plain, plain_pattern, on_none, for_rest, with_rest, def_rest, class_rest, except_of, except_rest, read_header, suite, is_match, ends_in_colon, is_match_line, opening, line_of, match_rest, line_front, line, case_rest, case_whole, read_line, Decorates, Heads, States}
+use Rattle.pygrammar.proofs.Line.SoundParts.{headed, joins, says_some, plain_sound, after_op_sound, after_word_sound, type_params_sound, as_sound}
 use Rattle.pygrammar.proofs.Line.SoundSimple.{statements_sound}
 use Rattle.pygrammar.proofs.Line.With.{read_items_sound}
 use Rattle.pygrammar.proofs.Line.Law.{read_goes}
@@ -100,12 +106,19 @@ header_sound profile i = no_form
 abbrev LineAt : Profile → List Terminal → Form → List Terminal → Type 0
 LineAt profile i f r = r ≡ [] → F.FormOf profile i f
 
-suite_sound : (profile : Profile) (i r u : List Terminal) (h : Header) → HeaderAt profile i h r → r ≡ Op Sign.Colon ∷ u → Says (LineAt profile i) (suite profile plain h u)
-suite_sound profile i r [] h p q = found (λ e. form_at (p.1 ∙ ap (λ z. p.0 ++ z) q) (F.header_line (p.2 [] q)))
-suite_sound profile i r (t ∷ u) h p q = says_then _ _ (statements_sound profile (suc (length (t ∷ u))) (t ∷ u)) (λ ss r1 y. found (λ e. form_at (p.1 ∙ ap (λ z. p.0 ++ z) (q ∙ ap (λ z. Op Sign.Colon ∷ z) (y.1 ∙ (ap (λ z. y.0 ++ z) e ∙ append-nil y.0)))) (F.header_suite (p.2 (t ∷ u) q) y.2)))
+-- what is read behind a colon
+suite_says : (profile : Profile) (u : List Terminal) (h : Header) {Q : Form → List Terminal → Type 0} → (u ≡ [] → Q (header_form h None) []) → ((us r : List Terminal) (ss : List Stmt) → u ≡ us ++ r → F.Simples profile us ss → Q (header_form h (Some ss)) r) → Says Q (suite profile plain h u)
+suite_says profile [] h a b = found (a refl)
+suite_says profile (t ∷ u) h a b = says_then _ _ (statements_sound profile (suc (length (t ∷ u))) (t ∷ u)) (λ ss r y. found (b y.0 r ss y.1 y.2))
+
+-- a header, its colon and all that follows
+to_end : {i r u s : List Terminal} (ts us : List Terminal) → i ≡ ts ++ r → r ≡ Op Sign.Colon ∷ u → u ≡ us ++ s → s ≡ [] → i ≡ ts ++ (Op Sign.Colon ∷ us)
+to_end ts us a b c d = a ∙ ap (λ z. ts ++ z) (b ∙ ap (λ z. Op Sign.Colon ∷ z) (c ∙ (ap (λ z. us ++ z) d ∙ append-nil us)))
 
 heads_sound : (profile : Profile) (i r : List Terminal) → Says (LineAt profile i) (line_of profile plain Heads i r)
-heads_sound profile i r = says_then _ _ (header_sound profile i) (λ h r1 p. says_op Sign.Colon r1 _ _ (λ _ u q. suite_sound profile i r1 u h p q) (λ _. no_form))
+heads_sound profile i r = says_then _ _ (header_sound profile i) (λ h r1 p. says_op Sign.Colon r1 _ _ (λ _ u q. suite_says profile u h
+    (λ n e. form_at (to_end p.0 [] p.1 q n e) (F.header_line (p.2 u q)))
+    (λ us s ss y c e. form_at (to_end p.0 us p.1 q y e) (F.header_suite (p.2 u q) c))) (λ _. no_form))
 
 states_sound : (profile : Profile) (i r : List Terminal) → Says (LineAt profile i) (line_of profile plain States i r)
 states_sound profile i r = says_then _ _ (statements_sound profile (suc (length i)) i) (λ ss r1 y. found (λ e. form_at (y.1 ∙ (ap (λ z. y.0 ++ z) e ∙ append-nil y.0)) (F.simple_statements y.2)))
@@ -113,36 +126,107 @@ states_sound profile i r = says_then _ _ (statements_sound profile (suc (length 
 decorates_sound : (profile : Profile) (r : List Terminal) → Says (LineAt profile (Op Sign.At ∷ r)) (line_of profile plain Decorates (Op Sign.At ∷ r) r)
 decorates_sound profile r = says_then _ _ (plain_sound Named r) (λ d r1 p. found (λ e. form_at (ap (λ z. Op Sign.At ∷ z) (p.1 ∙ (ap (λ z. p.0 ++ z) e ∙ append-nil p.0))) (F.decorator_line p.2)))
 
+opening_sound : (profile : Profile) (t : Terminal) (r : List Terminal) → Says (LineAt profile (t ∷ r)) (line_of profile plain (opening t) (t ∷ r) r)
+opening_sound profile (Op Sign.At) r = decorates_sound profile r
+opening_sound profile (Op x) r = states_sound profile (Op x ∷ r) r
+opening_sound profile (Word Key.If) r = heads_sound profile (Word Key.If ∷ r) r
+opening_sound profile (Word Key.Elif) r = heads_sound profile (Word Key.Elif ∷ r) r
+opening_sound profile (Word Key.Else) r = heads_sound profile (Word Key.Else ∷ r) r
+opening_sound profile (Word Key.While) r = heads_sound profile (Word Key.While ∷ r) r
+opening_sound profile (Word Key.For) r = heads_sound profile (Word Key.For ∷ r) r
+opening_sound profile (Word Key.With) r = heads_sound profile (Word Key.With ∷ r) r
+opening_sound profile (Word Key.Try) r = heads_sound profile (Word Key.Try ∷ r) r
+opening_sound profile (Word Key.Finally) r = heads_sound profile (Word Key.Finally ∷ r) r
+opening_sound profile (Word Key.Except) r = heads_sound profile (Word Key.Except ∷ r) r
+opening_sound profile (Word Key.Def) r = heads_sound profile (Word Key.Def ∷ r) r
+opening_sound profile (Word Key.Class) r = heads_sound profile (Word Key.Class ∷ r) r
+opening_sound profile (Word Key.Async) r = heads_sound profile (Word Key.Async ∷ r) r
+opening_sound profile (Word x) r = states_sound profile (Word x ∷ r) r
+opening_sound profile t r = states_sound profile (t ∷ r) r
+
+-- ---- The header of a `match`.
+
+match_is : (t : Terminal) → is_match t ≡ true → (form : Identifier) × (t ≡ match_word form)
+match_is (Ident x) h = (x.form, ap (λ z. Ident (record { spelling = z; form = x.form })) ((bytes_eq-Decides x.spelling match_name).0 h))
+match_is (Op _) h = absurd (cc)
+match_is (Word _) h = absurd (cc)
+match_is (Number _) h = absurd (cc)
+match_is (Literal _) h = absurd (cc)
+match_is Layout h = absurd (cc)
+
+all_three : (b c d : Bool) → (b && (c && d)) ≡ true → (b ≡ true) × (c ≡ true) × (d ≡ true)
+all_three true true true h = (refl, refl, refl)
+all_three true true false h = absurd (cc)
+all_three true false d h = absurd (cc)
+all_three false c d h = absurd (cc)
+
+match_sound : (profile : Profile) (t : Terminal) (i : List Terminal) → is_match_line profile (t ∷ i) ≡ true → Says (LineAt profile (t ∷ i)) (match_rest profile plain i)
+match_sound profile t i h =
+    let k = all_three (is_whole profile.extent) (is_match t) (ends_in_colon i) h in
+    let w = match_is t k.1 in
+    says_then _ _ (plain_sound Subject i) (λ e r p. says_op Sign.Colon r _ _
+    (λ _ s q. found (λ n. form_at (ap (λ z. z ∷ i) w.1 ∙ headed (match_word w.0) refl (to_end p.0 [] p.1 q n refl)) (F.match_line w.0 k.0 p.2))) (λ _. no_form))
+
 front_sound : (profile : Profile) (i : List Terminal) → Says (LineAt profile i) (line_front profile plain i)
 front_sound profile [] = no_form
-front_sound profile (Op Sign.At ∷ r) = decorates_sound profile r
-front_sound profile (Op x ∷ r) = states_sound profile (Op x ∷ r) r
-front_sound profile (Word Key.If ∷ r) = heads_sound profile (Word Key.If ∷ r) r
-front_sound profile (Word Key.Elif ∷ r) = heads_sound profile (Word Key.Elif ∷ r) r
-front_sound profile (Word Key.Else ∷ r) = heads_sound profile (Word Key.Else ∷ r) r
-front_sound profile (Word Key.While ∷ r) = heads_sound profile (Word Key.While ∷ r) r
-front_sound profile (Word Key.For ∷ r) = heads_sound profile (Word Key.For ∷ r) r
-front_sound profile (Word Key.With ∷ r) = heads_sound profile (Word Key.With ∷ r) r
-front_sound profile (Word Key.Try ∷ r) = heads_sound profile (Word Key.Try ∷ r) r
-front_sound profile (Word Key.Finally ∷ r) = heads_sound profile (Word Key.Finally ∷ r) r
-front_sound profile (Word Key.Except ∷ r) = heads_sound profile (Word Key.Except ∷ r) r
-front_sound profile (Word Key.Def ∷ r) = heads_sound profile (Word Key.Def ∷ r) r
-front_sound profile (Word Key.Class ∷ r) = heads_sound profile (Word Key.Class ∷ r) r
-front_sound profile (Word Key.Async ∷ r) = heads_sound profile (Word Key.Async ∷ r) r
-front_sound profile (Word x ∷ r) = states_sound profile (Word x ∷ r) r
-front_sound profile (t ∷ r) = states_sound profile (t ∷ r) r
+front_sound profile (t ∷ r) = says_if (is_match_line profile (t ∷ r)) _ _ (λ h. match_sound profile t r h) (opening_sound profile t r)
 
-line_sound : (profile : Profile) (i : List Terminal) → Says (λ f r. F.FormOf profile i f) (read_line profile i)
+line_sound : (profile : Profile) (i : List Terminal) → Says (λ f r. F.FormOf profile i f) (line profile plain i)
 line_sound profile i = says_then _ _ (front_sound profile i) (λ f r p. ended f r p)
   where
     ended : (f : Form) (r : List Terminal) → LineAt profile i f r → Says (λ f r. F.FormOf profile i f) (on_none r (Found f []) NoForm)
     ended f [] p = found (p refl)
     ended f (t ∷ r) p = no_form
 
+-- ---- The header of a case.
+
+case_is : (i : List Terminal) → begins_case i ≡ true → (form : Identifier) × (j : List Terminal) × (i ≡ case_word form ∷ j)
+case_is (Ident x ∷ j) h = (x.form, j, ap (λ z. Ident (record { spelling = z; form = x.form }) ∷ j) ((bytes_eq-Decides x.spelling case_name).0 h))
+case_is [] h = absurd (cc)
+case_is (Op _ ∷ j) h = absurd (cc)
+case_is (Word _ ∷ j) h = absurd (cc)
+case_is (Number _ ∷ j) h = absurd (cc)
+case_is (Literal _ ∷ j) h = absurd (cc)
+case_is (Layout ∷ j) h = absurd (cc)
+
+-- in a `match`
+abbrev CaseAt : Profile → List Terminal → Form → List Terminal → Type 0
+CaseAt profile i f r = r ≡ [] → F.FormAt profile true i f
+
+place_at : {profile : Profile} {us vs : List Terminal} {f : Form} → us ≡ vs → F.FormAt profile true vs f → F.FormAt profile true us f
+place_at {profile = profile} {f = f} q p = subst (λ k. F.FormAt profile true k f) (sym q) p
+
+case_rest_sound : (profile : Profile) (form : Identifier) (i : List Terminal) → is_whole profile.extent ≡ true → Says (CaseAt profile (case_word form ∷ i)) (case_rest profile plain plain_pattern i)
+case_rest_sound profile form i w = says_then _ _ (capped_sound (suc (length i)) (suc (suc (length i))) Patterns i) (λ p r y. says_then _ _ (after_word_sound Key.If Named r) (λ g r1 k. says_op Sign.Colon r1 _ _ (λ _ u q.
+    let ts = case_word form ∷ (y.0 ++ k.0) in
+    let a : case_word form ∷ i ≡ ts ++ r1 = headed (case_word form) refl (joins y.0 k.0 r1 y.1 k.1) in
+    suite_says profile u (case_header p g)
+    (λ n e. place_at (to_end ts [] a q n e) (F.case_alone w (F.case_line form y.2 k.2)))
+    (λ us s ss v c e. place_at (to_end ts us a q v e) (F.case_suite w (F.case_line form y.2 k.2) c))) (λ _. no_form)))
+
+case_sound : (profile : Profile) (form : Identifier) (i : List Terminal) → is_whole profile.extent ≡ true → Says (λ f r. F.FormAt profile true (case_word form ∷ i) f) (case_whole profile plain plain_pattern (case_word form ∷ i))
+case_sound profile form i w = says_then _ _ (case_rest_sound profile form i w) (λ f r p. ended f r p)
+  where
+    ended : (f : Form) (r : List Terminal) → CaseAt profile (case_word form ∷ i) f r → Says (λ f r. F.FormAt profile true (case_word form ∷ i) f) (on_none r (Found f []) NoForm)
+    ended f [] p = found (p refl)
+    ended f (t ∷ r) p = no_form
+
+-- ---- At a place.
+
+place_sound : (profile : Profile) (inside : Bool) (i : List Terminal) → Says (λ f r. F.FormAt profile inside i f) (read_line profile inside i)
+place_sound profile inside i = go (is_case_line profile inside i) refl
+  where
+    go : (b : Bool) → is_case_line profile inside i ≡ b → Says (λ f r. F.FormAt profile inside i f) (cond b (case_whole profile plain plain_pattern i) (line profile plain i))
+    go false h = says_is _ (line_sound profile i) (λ f r p. F.other_line h p)
+    go true h =
+        let k = all_three (is_whole profile.extent) inside (begins_case i) h in
+        let c = case_is i k.2 in
+        subst (λ z. Says (λ f r. F.FormAt profile inside z f) (case_whole profile plain plain_pattern z)) (sym c.2) (says_is _ (case_sound profile c.0 c.1 k.0) (λ f r p. subst (λ b. F.FormAt profile b (case_word c.0 ∷ c.1) f) (sym k.1) p))
+
 -- what is read has that form
-pub read_gives : (profile : Profile) (ts : List Terminal) (f : Form) → read_line profile ts ≡ Found f [] → F.FormOf profile ts f
-read_gives profile ts f h = says_found f [] (subst (Says (λ f r. F.FormOf profile ts f)) h (line_sound profile ts))
+pub read_gives : (profile : Profile) (inside : Bool) (ts : List Terminal) (f : Form) → read_line profile inside ts ≡ Found f [] → F.FormAt profile inside ts f
+read_gives profile inside ts f h = says_found f [] (subst (Says (λ f r. F.FormAt profile inside ts f)) h (place_sound profile inside ts))
 
 -- the law: the plain reader of a line answers exactly the forms that the table gives
-pub exactly : (profile : Profile) (ts : List Terminal) (f : Form) → F.FormOf profile ts f ↔ (read_line profile ts ≡ Found f [])
-exactly profile ts f = (λ p. read_goes profile p, λ h. read_gives profile ts f h)
+pub exactly : (profile : Profile) (inside : Bool) (ts : List Terminal) (f : Form) → F.FormAt profile inside ts f ↔ (read_line profile inside ts ≡ Found f [])
+exactly profile inside ts f = (λ p. read_goes profile p, λ h. read_gives profile inside ts f h)

@@ -1,20 +1,26 @@
--- The forms of every version are forms of Python 3.12 in the same extent, and of the same version in
--- the other extent; those without types are forms of 3.11.
+-- The forms of every version are forms of Python 3.12 in the same extent; those without types are
+-- forms of 3.11. The forms of the plain extent are those of the whole one that stand in no `match`
+-- and are no header of one.
 --
--- Carries: old_is_untyped, form_stays, form_in, for Answer, Block/Types, SourceLaw.
+-- Carries: old_is_untyped, form_stays, form_widens, form_narrows, for Answer, Block/Types,
+-- SourceLaw.
 use Rattle.std.proofs.Common.{◌≡◌, ◌↔◌, refl, ap, ◌∙◌, List, Bool, true, false}
 use Rattle.std.specs.Prelude.{not, ◌&&◌}
 use Rattle.pytree_node.specs.declared.profiles.Extent.{Extent}
 use Rattle.pytree_node.specs.declared.profiles.Profile.{Profile}
+use Rattle.pytree_node.specs.declared.profiles.Extent.TheVariants.{Plain, Whole}
+use Rattle.pytree_node.specs.declared.profiles.Version.{Version}
 use Rattle.pytree_node.specs.declared.profiles.Version.TheVariants.{Py311, Py312}
 use Rattle.pytree_node.specs.Profiles.{python, has_types}
 use Rattle.pytree_node.specs.Trees.{Stmt, TypeParam}
 use Rattle.pytoken.specs.Terminals.{Terminal}
 use Rattle.pygrammar.specs.Lines.{Form, Header, no_types, is_alias, untyped_statements, untyped_header, untyped}
 use Rattle.pygrammar.specs.Forms as F
+use Rattle.pygrammar.specs.Forms.{is_whole}
+use Rattle.pygrammar.specs.Blocks.{kind_of, is_match}
 
 -- what has types in one profile has them in another
-abbrev pub HasTypesOf : Profile → Profile → Type 0
+abbrev HasTypesOf : Profile → Profile → Type 0
 HasTypesOf p q = has_types p ≡ true → has_types q ≡ true
 
 type_params_lead : {p q : Profile} → HasTypesOf p q → {ts : List Terminal} {ps : List TypeParam} → F.TypeParams p ts ps → F.TypeParams q ts ps
@@ -63,18 +69,39 @@ header_leads k (F.except_star p a) = F.except_star p a
 header_leads k (F.def_line x a g c q r) = F.def_line x a (type_params_lead k g) c q r
 header_leads k (F.class_line g c) = F.class_line (type_params_lead k g) c
 
-pub form_leads : {p q : Profile} → HasTypesOf p q → {ts : List Terminal} {f : Form} → F.FormOf p ts f → F.FormOf q ts f
-form_leads k (F.simple_statements c) = F.simple_statements (simples_lead k c)
-form_leads k (F.decorator_line p) = F.decorator_line p
-form_leads k (F.header_line p) = F.header_line (header_leads k p)
-form_leads k (F.header_suite p c) = F.header_suite (header_leads k p) (simples_lead k c)
+-- what has `match` statements in one profile has them in another
+abbrev IsWholeOf : Profile → Profile → Type 0
+IsWholeOf p q = is_whole p.extent ≡ true → is_whole q.extent ≡ true
 
-pub form_stays : {profile : Profile} {ts : List Terminal} {f : Form} → F.FormOf profile ts f → F.FormOf (python Py312 profile.extent) ts f
-form_stays = form_leads (λ _. refl)
+form_leads : {p q : Profile} → HasTypesOf p q → IsWholeOf p q → {ts : List Terminal} {f : Form} → F.FormOf p ts f → F.FormOf q ts f
+form_leads k w (F.simple_statements c) = F.simple_statements (simples_lead k c)
+form_leads k w (F.decorator_line p) = F.decorator_line p
+form_leads k w (F.header_line p) = F.header_line (header_leads k p)
+form_leads k w (F.header_suite p c) = F.header_suite (header_leads k p) (simples_lead k c)
+form_leads k w (F.match_line form h p) = F.match_line form (w h) p
 
--- the forms of a version are the same in both extents
-pub form_in : {profile : Profile} (extent : Extent) {ts : List Terminal} {f : Form} → F.FormOf profile ts f → F.FormOf (python profile.version extent) ts f
-form_in extent = form_leads (λ h. h)
+pub form_stays : {profile : Profile} {inside : Bool} {ts : List Terminal} {f : Form} → F.FormAt profile inside ts f → F.FormAt (python Py312 profile.extent) inside ts f
+form_stays (F.other_line n p) = F.other_line n (form_leads (λ _. refl) (λ h. h) p)
+form_stays (F.case_alone w c) = F.case_alone w c
+form_stays (F.case_suite w c s) = F.case_suite w c (simples_lead (λ _. refl) s)
+
+-- ---- The extents.
+-- in no `match` the whole extent has what the plain one has anywhere
+pub form_widens : {version : Version} {inside : Bool} {ts : List Terminal} {f : Form} → F.FormAt (python version Plain) inside ts f → F.FormAt (python version Whole) false ts f
+form_widens (F.other_line n p) = F.other_line refl (form_leads (λ h. h) (λ h. refl) p)
+form_widens (F.case_alone w c) = absurd (cc)
+form_widens (F.case_suite w c s) = absurd (cc)
+
+narrow : {version : Version} {ts : List Terminal} {f : Form} → F.FormOf (python version Whole) ts f → is_match (kind_of f) ≡ false → F.FormOf (python version Plain) ts f
+narrow (F.simple_statements c) n = F.simple_statements (simples_lead (λ h. h) c)
+narrow (F.decorator_line p) n = F.decorator_line p
+narrow (F.header_line p) n = F.header_line (header_leads (λ h. h) p)
+narrow (F.header_suite p c) n = F.header_suite (header_leads (λ h. h) p) (simples_lead (λ h. h) c)
+narrow (F.match_line form h p) n = absurd (cc)
+
+-- and nothing else but the header of a `match`
+pub form_narrows : {version : Version} (inside : Bool) {ts : List Terminal} {f : Form} → F.FormAt (python version Whole) false ts f → is_match (kind_of f) ≡ false → F.FormAt (python version Plain) inside ts f
+form_narrows inside (F.other_line n p) h = F.other_line refl (narrow p h)
 
 -- ---- In Python 3.11 no form has types.
 no_type_params : {extent : Extent} {ts : List Terminal} {ps : List TypeParam} → F.TypeParams (python Py311 extent) ts ps → no_types ps ≡ true
@@ -103,6 +130,12 @@ form_untyped (F.simple_statements c) = no_aliases c
 form_untyped (F.decorator_line p) = refl
 form_untyped (F.header_line p) = header_untyped p
 form_untyped (F.header_suite p c) = both _ _ (header_untyped p) (no_aliases c)
+form_untyped (F.match_line form w p) = refl
+
+place_untyped : {extent : Extent} {inside : Bool} {ts : List Terminal} {f : Form} → F.FormAt (python Py311 extent) inside ts f → untyped f ≡ true
+place_untyped (F.other_line n p) = form_untyped p
+place_untyped (F.case_alone w (F.case_line form p g)) = refl
+place_untyped (F.case_suite w (F.case_line form p g) c) = no_aliases c
 
 -- ---- A form without types is one of Python 3.11.
 first : (b c : Bool) → (b && c) ≡ true → b ≡ true
@@ -175,6 +208,12 @@ form_returns (F.decorator_line p) n = F.decorator_line p
 form_returns (F.header_line p) n = F.header_line (header_returns p n)
 form_returns (F.header_suite {h = h} {ss = ss} p c) n =
     F.header_suite (header_returns p (first (untyped_header h) (untyped_statements ss) n)) (simples_return c (second (untyped_header h) (untyped_statements ss) n))
+form_returns (F.match_line form w p) n = F.match_line form w p
 
-pub old_is_untyped : (extent : Extent) (ts : List Terminal) (f : Form) → F.FormOf (python Py311 extent) ts f ↔ (F.FormOf (python Py312 extent) ts f × (untyped f ≡ true))
-old_is_untyped extent ts f = (λ p. (form_stays p, form_untyped p), λ q. form_returns q.0 q.1)
+place_returns : {extent : Extent} {inside : Bool} {ts : List Terminal} {f : Form} → F.FormAt (python Py312 extent) inside ts f → untyped f ≡ true → F.FormAt (python Py311 extent) inside ts f
+place_returns (F.other_line h p) n = F.other_line h (form_returns p n)
+place_returns (F.case_alone w c) n = F.case_alone w c
+place_returns (F.case_suite {h = h} {ss = ss} w c s) n = F.case_suite w c (simples_return s (second (untyped_header h) (untyped_statements ss) n))
+
+pub old_is_untyped : (extent : Extent) (inside : Bool) (ts : List Terminal) (f : Form) → F.FormAt (python Py311 extent) inside ts f ↔ (F.FormAt (python Py312 extent) inside ts f × (untyped f ≡ true))
+old_is_untyped extent inside ts f = (λ p. (form_stays p, place_untyped p), λ q. place_returns q.0 q.1)

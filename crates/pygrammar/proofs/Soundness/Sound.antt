@@ -1,13 +1,13 @@
 -- What the reader answers is derived: atoms, primaries, the levels without operators, and the law.
 --
--- Carries: sound_read, sound, PrimaryAt, call_sound and 2 more, for Room, Whole, Limits,
--- SoundParts. On: Says, SoundLists, LevelLemmas, SoundClimb and 1 more.
+-- Carries: sound_read, sound, PrimaryAt, call_sound and 5 more, for Room, Whole, Limits,
+-- SoundParts and those of patterns. On: Says, SoundLists, LevelLemmas, SoundClimb and 1 more.
 use Rattle.std.proofs.Common.{map, ◌≡◌, inl, inr, refl, sym, ap, subst, ◌∙◌, ℕ, zero, suc, ◌<◌, arith, List, [], ◌∷◌, ◌++◌, length, Option, Some, None, true, false, append_assoc}
 use Rattle.pylex_lexeme.specs.declared.kinds.Exact.TheVariants.{LPar, RPar, LSqb, RSqb, LBrace, RBrace, Colon, Comma, Star, Dot, DoubleStar, ColonEqual}
 use Rattle.pytoken.specs.declared.keywords.Keyword.TheVariants as Key
 use Rattle.pytree_node.specs.declared.operators.Context.TheVariants.{Load}
 use Rattle.pygrammar.specs.declared.levels.Level.{Level}
-use Rattle.pygrammar.specs.declared.levels.Level.TheVariants.{Value, Stars, StarItem, Named, Expression, Or, And, Not, Compare, BitOr, BitXor, BitAnd, Shift, Sum, Term, Factor, Power, Await, Primary, Atom, Elem, Slices, Part, Slice}
+use Rattle.pygrammar.specs.declared.levels.Level.TheVariants.{Value, Stars, StarItem, Named, Expression, Or, And, Not, Compare, BitOr, BitXor, BitAnd, Shift, Sum, Term, Factor, Power, Await, Primary, Atom, Elem, Slices, Part, Slice, Subject}
 use Rattle.pytree_node.specs.Trees
 use Rattle.pytree_node.specs.Trees.{Expr, no_exprs, an_expr, OptionalExpr, absent, present, Arguments}
 use Rattle.pytree_node.specs.Values
@@ -26,7 +26,7 @@ use Rattle.pygrammar.proofs.Completeness.LookLemmas.{lead_of}
 use Rattle.pygrammar.proofs.Completeness.LevelLemmas.{led, not_star}
 use Rattle.pygrammar.proofs.Soundness.SoundLists.{says_if, says_name_with, says_closed, inv, NoStar, no_star, elem_named, named_expression, perhaps_sound, starred_sound, piece_sound, listing_of_sound, others_sound, comps_closed_sound}
 
-constant_is : (o : Option Values.Value) (e : Expr) → constant_of o ≡ Some e → (w : Values.Value) × (o ≡ Some w) × (Trees.Constant w ≡ e)
+pub constant_is : (o : Option Values.Value) (e : Expr) → constant_of o ≡ Some e → (w : Values.Value) × (o ≡ Some w) × (Trees.Constant w ≡ e)
 constant_is None e h = absurd (cc)
 constant_is (Some w) e h = (w, refl, same_expr (Trees.Constant w) e h)
   where
@@ -40,7 +40,7 @@ lambda_is (Some a) b e h = (a, refl, same_expr (Trees.Lambda a b) e h)
     same_expr : (g k : Expr) → Some g ≡ Some k → g ≡ k
     same_expr g k h = cc
 
-string_sound : (acc : List Values.Value) (r : List Terminal) → Says (λ ws r1. (vs : List Values.Value) × (ws ≡ acc ++ vs) × (r ≡ map Literal vs ++ r1)) (string_run acc r)
+pub string_sound : (acc : List Values.Value) (r : List Terminal) → Says (λ ws r1. (vs : List Values.Value) × (ws ≡ acc ++ vs) × (r ≡ map Literal vs ++ r1)) (string_run acc r)
 string_sound acc [] = found ([], sym (append-nil acc), refl)
 string_sound acc (Literal v ∷ r) = says_is _ (string_sound (acc ++ (v ∷ [])) r) (λ ws r1 p. (v ∷ p.0, p.1 ∙ append_assoc acc (v ∷ []) p.0, ap (λ z. Literal v ∷ z) p.2))
 string_sound acc (_ ∷ r) = found ([], sym (append-nil acc), refl)
@@ -174,6 +174,7 @@ module _ (next inner : Reads) (low : SoundAt next) (deeper : SoundAt inner) wher
   sound_step Slices i = says_then _ _ (low Part i) (λ e r p. says_op Comma r _ _ (λ a s q. says_then _ _ (listing_of_sound inner deeper (Of Part) s) (λ es r2 y. found (p.0 ++ (Op Comma ∷ y.0), rw (p.1, q, y.3) (simp append_assoc refl), subst (λ z. G.Derives Slices (p.0 ++ (Op Comma ∷ y.0)) (Trees.Tuple (an_expr e (singles z)) Load)) (sym y.2) (G.parts p.2 y.4), turns r2))) (λ _. says_op Star i _ _ (λ a s q. found (star_part_sound i p.0 r e s p.1 p.2 q)) (λ f. found (plain_part_sound i p.0 r e p.1 p.2 f))))
   sound_step Part i = starred_sound inner deeper Expression i _ (λ ts e r q p. (Op Star ∷ ts, q, G.star_part p, turns r)) (λ _. says_is _ (low Slice i) (λ e r p. (p.0, p.1, G.next p.2, turns r)))
   sound_step Slice i = says_op Colon i _ _ (λ a s q. slice_rest_sound inner deeper absent i [] s q G.nothing) (λ _. says_then _ _ (low Named i) (λ e r p. says_op Colon r _ _ (λ a s q. says_name_with ColonEqual i _ _ (λ _ _ _. no_form) (λ g. slice_rest_sound inner deeper (present e) i p.0 s (p.1 ∙ ap (λ z. p.0 ++ z) q) (G.something (named_expression i p.0 r e p.1 g p.2)))) (λ _. found (p.0, p.1, G.next p.2, turns r))))
+  sound_step Subject i = says_then _ _ (low Elem i) (λ e r p. says_op Comma r _ _ (λ a s q. says_then _ _ (listing_of_sound inner deeper (Of Elem) s) (λ es r2 y. found (p.0 ++ (Op Comma ∷ y.0), rw (p.1, q, y.3) (simp append_assoc refl), subst (λ z. G.Derives Subject (p.0 ++ (Op Comma ∷ y.0)) (Trees.Tuple (an_expr e (singles z)) Load)) (sym y.2) (G.subject_tuple p.2 y.4), turns r2))) (λ _. says_op Star i _ _ (λ _ _ _. no_form) (λ f. found (p.0, p.1, G.next (elem_named i p.0 r e p.1 f p.2), turns r))))
   sound_step Or i = climb_sound next inner low deeper Or i (omega arith) (omega arith) refl
   sound_step And i = climb_sound next inner low deeper And i (omega arith) (omega arith) refl
   sound_step Not i = climb_sound next inner low deeper Not i (omega arith) (omega arith) refl
@@ -196,7 +197,7 @@ pub sound_read : (d : ℕ) → SoundAt (read d)
 sound_read zero l i = deep
 sound_read (suc d) l i = sound_descend (read d) (sound_read d) (levels_from l) l i
 
-says_found : {A : Type 0} {P : A → List Terminal → Type 0} (a : A) (r : List Terminal) → Says P (Found a r) → P a r
+pub says_found : {A : Type 0} {P : A → List Terminal → Type 0} (a : A) (r : List Terminal) → Says P (Found a r) → P a r
 says_found a r (found p) = p
 
 -- the law

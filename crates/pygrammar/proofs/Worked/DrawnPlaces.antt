@@ -10,7 +10,7 @@ use Rattle.pytree_node.specs.declared.operators.UnaryOperator.TheVariants as Un
 use Rattle.pytree_node.specs.declared.operators.BoolOperator.TheVariants as Join
 use Rattle.pytree_node.specs.declared.operators.Comparison.TheVariants as Is
 use Rattle.pytree_node.specs.declared.operators.Context.TheVariants.{Load, Store}
-use Rattle.pygrammar.specs.declared.levels.Level.TheVariants.{Value, Stars, StarItem, Named, Expression}
+use Rattle.pygrammar.specs.declared.levels.Level.TheVariants.{Value, Stars, StarItem, Named, Expression, Subject}
 use Rattle.pytree_node.specs.Trees
 use Rattle.pytree_node.specs.Values
 use Rattle.pytoken.specs.Terminals.{Op, Word, in_form, whole, Literal}
@@ -269,3 +269,23 @@ case_294 = refl
 -- Stars: "a" "b"
 case_295 : read 20 Stars (Literal (Values.Str (97 ∷ []) false) ∷ Literal (Values.Str (98 ∷ []) false) ∷ []) ≡ Found (Trees.Constant (Values.Str (97 ∷ 98 ∷ []) false)) []
 case_295 = refl
+
+-- Subject: a , * b
+case_301 : read 20 Subject (in_form (97 ∷ []) ∷ Op Comma ∷ Op Star ∷ in_form (98 ∷ []) ∷ []) ≡ Found (Trees.Tuple (Trees.an_expr (Trees.Name (97 ∷ []) Load) (Trees.an_expr (Trees.Starred (Trees.Name (98 ∷ []) Load) Load) Trees.no_exprs)) Load) []
+case_301 = refl
+
+-- Subject: * a ,
+case_302 : read 20 Subject (Op Star ∷ in_form (97 ∷ []) ∷ Op Comma ∷ []) ≡ Found (Trees.Tuple (Trees.an_expr (Trees.Starred (Trees.Name (97 ∷ []) Load) Load) Trees.no_exprs) Load) []
+case_302 = refl
+
+-- Subject: a := 1, and a colon after it
+case_303 : read 20 Subject (in_form (97 ∷ []) ∷ Op ColonEqual ∷ whole 1 ∷ Op Colon ∷ []) ≡ Found (Trees.NamedExpr (Trees.Name (97 ∷ []) Store) (Trees.Constant (Values.Int 1))) (Op Colon ∷ [])
+case_303 = refl
+
+-- Subject: * a
+case_304 : refused (read 20 Subject (Op Star ∷ in_form (97 ∷ []) ∷ [])) ≡ true
+case_304 = refl
+
+-- Subject: a , ,
+case_305 : refused (read 20 Subject (in_form (97 ∷ []) ∷ Op Comma ∷ Op Comma ∷ [])) ≡ true
+case_305 = refl

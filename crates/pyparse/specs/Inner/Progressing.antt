@@ -3,11 +3,12 @@ use Rattle.std.specs.Prelude.{◌≡◌, ℕ, ◌+◌, Bool, true, false, List, 
 use Rattle.pysource.specs.declared.places.Place.{Place}
 use Rattle.pylex.specs.Listing.{Source}
 use Rattle.pytree_node.specs.declared.profiles.Profile.{Profile}
+use Rattle.pytoken.specs.Inner.Behind.{behind}
 use Rattle.pytoken.specs.Tokens.{lines}
 use Rattle.pytoken.specs.Tokens as Tokens
 use Rattle.pytoken.specs.Refusals.{refusal}
 use Rattle.pygrammar.specs.Lines.{Line}
-use Rattle.pygrammar.specs.Blocks.{Fault, FirstFault}
+use Rattle.pygrammar.specs.Blocks.{Fault, FirstFault, stands_in_match}
 use Rattle.pygrammar.specs.Reading.{Fine, run, start}
 use Rattle.pygrammar.specs.Refusals.{Indentation, StartsAt, HasForm, Formed, FirstUnread, FirstDeep}
 use Rattle.pyparse_block.specs.declared.blocks.Blocks.{Blocks}
@@ -18,10 +19,12 @@ use Rattle.pyparse_block.specs.declared.outline.faults.BlockStop.{BlockStop}
 use Rattle.pyparse_block.specs.declared.outline.faults.BlockStop.TheVariants as variant
 use Rattle.pyparse_block.specs.Faults.{fault_of}
 use Rattle.pyparse_tokens.specs.declared.faults.GrammarError.{GrammarError}
+use Rattle.pyparse.specs.declared.known.Known.{Known}
+use Rattle.pyparse.specs.declared.known.Known.TheVariants.{Sound, Deep, Faulty, Unread}
 use Rattle.pyparse.specs.declared.progress.Progress.{Progress}
-use Rattle.pyparse.specs.declared.progress.Progress.TheVariants.{Sound, Deep, Faulty, Unread}
 use Rattle.pyparse_tokens.specs.LineReadings.{EndsAt}
 use Rattle.pyparse.specs.Modules.{code_of}
+use Rattle.pyparse.specs.Inner.Placing.{HoldsPlaces}
 
 -- ---- The lines so far.
 
@@ -29,27 +32,24 @@ use Rattle.pyparse.specs.Modules.{code_of}
 abbrev pub first_lines : Source → ℕ → List Tokens.Line
 first_lines s k = take k (lines s)
 
--- each of so many lines has a form; what is kept without their trees, and with them; and no statement stands too deep
-pub record IsSound (profile : Profile) (s : Source) (k : ℕ) (o : Outline) (b : Blocks) : Type 0 where
-  pub forms : List Line
-  pub formed : Formed profile (first_lines s k) forms
+-- these are the forms of so many lines; what is kept without their trees, and with them; and no statement stands too deep
+pub record IsSound (profile : Profile) (s : Source) (k : ℕ) (forms : List Line) (o : Outline) (b : Blocks) : Type 0 where
+  pub formed : Formed profile [] (first_lines s k) forms
   pub follows : Follows forms o
   pub read : run forms start ≡ Fine (state_of b)
   pub low : (n : ℕ) → FirstDeep [] forms n → ⊥
 
--- each has a form; what is kept without their trees; and the first that begins a statement too deep starts here
-pub record IsDeepAt (profile : Profile) (s : Source) (k : ℕ) (o : Outline) (p : Place) : Type 0 where
-  pub forms : List Line
-  pub formed : Formed profile (first_lines s k) forms
+-- these are their forms; what is kept without their trees; and the first that begins a statement too deep starts here
+pub record IsDeepAt (profile : Profile) (s : Source) (k : ℕ) (forms : List Line) (o : Outline) (p : Place) : Type 0 where
+  pub formed : Formed profile [] (first_lines s k) forms
   pub follows : Follows forms o
   pub n : ℕ
   pub deep : FirstDeep [] forms n
   pub starts : StartsAt s n p
 
--- each has a form; and the first that is faulty among the others, whatever follows, starts here
-pub record IsFaultyAt (profile : Profile) (s : Source) (k : ℕ) (e : GrammarError) (p : Place) : Type 0 where
-  pub forms : List Line
-  pub formed : Formed profile (first_lines s k) forms
+-- these are their forms; and the first that is faulty among the others, whatever follows, starts here
+pub record IsFaultyAt (profile : Profile) (s : Source) (k : ℕ) (forms : List Line) (e : GrammarError) (p : Place) : Type 0 where
+  pub formed : Formed profile [] (first_lines s k) forms
   pub fault : Fault
   pub code : code_of e ≡ Indentation fault
   pub rest : List Line
@@ -61,29 +61,35 @@ pub record IsFaultyAt (profile : Profile) (s : Source) (k : ℕ) (e : GrammarErr
 -- the first without a form starts here
 pub record IsUnreadAt (profile : Profile) (s : Source) (k : ℕ) (e : GrammarError) (p : Place) : Type 0 where
   pub n : ℕ
-  pub first : FirstUnread profile (first_lines s k) n (code_of e)
+  pub first : FirstUnread profile [] (first_lines s k) n (code_of e)
   pub starts : StartsAt s n p
 
--- what is known of so many lines
-abbrev pub IsKnown : Profile → Source → ℕ → Progress → Type 0
-IsKnown profile s k (Sound o b) = IsSound profile s k o b
-IsKnown profile s k (Deep o p) = IsDeepAt profile s k o p
-IsKnown profile s k (Faulty e p) = IsFaultyAt profile s k e p
-IsKnown profile s k (Unread e p) = IsUnreadAt profile s k e p
+-- what is known of so many lines, and their forms up to the first that has none
+abbrev pub IsKnown : Profile → Source → ℕ → List Line → Known → Type 0
+IsKnown profile s k forms (Sound o b) = IsSound profile s k forms o b
+IsKnown profile s k forms (Deep o p) = IsDeepAt profile s k forms o p
+IsKnown profile s k forms (Faulty e p) = IsFaultyAt profile s k forms e p
+IsKnown profile s k forms (Unread e p) = IsUnreadAt profile s k e p
 
 -- whether a line without a form is
-abbrev pub is_unread : Progress → Bool
+abbrev pub is_unread : Known → Bool
 is_unread (Unread e p) = true
 is_unread _ = false
 
+-- and where a further line stands
+pub record IsProgress (profile : Profile) (s : Source) (k : ℕ) (p : Progress) : Type 0 where
+  pub forms : List Line
+  pub known : IsKnown profile s k forms p.known
+  pub places : HoldsPlaces (behind [] forms) p.places
+
 -- ---- The next line, and the end.
 
--- the line of this number is this one, by its form, and starts here
-pub record Comes (profile : Profile) (s : Source) (k : ℕ) (l : Line) (p : Place) : Type 0 where
+-- behind these lines, the nearest first, the line of this number is this one, by its form, and starts here
+pub record Comes (profile : Profile) (s : Source) (k : ℕ) (earlier : List Line) (l : Line) (p : Place) : Type 0 where
   pub line : Tokens.Line
   pub stands : slice_get (lines s) k ≡ Some line
   pub level : l.level ≡ line.level
-  pub form : HasForm profile line l.form
+  pub form : HasForm profile (stands_in_match line.level earlier) line l.form
   pub starts : StartsAt s k p
 
 -- behind so many lines a source ends, with ENDMARKER here, and its tokens are not refused

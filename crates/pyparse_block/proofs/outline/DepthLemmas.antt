@@ -4,9 +4,9 @@ use Rattle.std.proofs.Common.{◌≡◌, ℕ, suc, ◌+◌, ◌<◌, ◌≤◌, 
 use Rattle.std.specs.Prelude.{nat_lt, nat_le, ◌==◌}
 use borrow.Author.Tests.{ltb-true, ltb-false, lt-ltb, leb-true, le-leb}
 use Rattle.std.proofs.lemmas.List.{map-append, reverse-append}
-use Rattle.pygrammar.specs.Lines.{line, Header, if_header, elif_header, else_header, Form, simple_form, decorator_form, header_form}
+use Rattle.pygrammar.specs.Lines.{line, Header, if_header, elif_header, else_header, case_header, Form, simple_form, decorator_form, header_form}
 use Rattle.pygrammar.specs.Blocks.{Kind, ElifLine, ElseLine, kind_of, header_kind}
-use Rattle.pygrammar.specs.Refusals.{is_clause}
+use Rattle.pygrammar.specs.Refusals.{is_clause, own}
 use Rattle.pygrammar.specs.Depths.{Depth, round_at, arms_at, under, depth_of, counted, begins, innermost, is_deep}
 use Rattle.pyparse_block.specs.declared.outline.depths.Last.{Last}
 use Rattle.pyparse_block.specs.declared.outline.shapes.Clause.{Clause}
@@ -14,7 +14,7 @@ use Rattle.pyparse_block.specs.declared.outline.shapes.Clause.TheVariants as cla
 use Rattle.pyparse_block.specs.declared.outline.shapes.Shape.{Shape}
 use Rattle.pyparse_block.specs.Outlines.{capped, last_of, lasts_of}
 use Rattle.pyparse_block.specs.Inner.Shapes.{clause_of, shape_of}
-use Rattle.pyparse_block.specs.Inner.Counting.{clause_in, arms_more, arms_top, round_top, is_later, deep_in, last_in, Counts}
+use Rattle.pyparse_block.specs.Inner.Counting.{clause_in, arms_more, arms_top, own_of, round_top, is_later, deep_in, last_in, Counts}
 
 -- ---- The levels as the program has them.
 
@@ -45,22 +45,27 @@ under_under l m h (d ∷ ds) = elim (nat_lt d.level m) as (λ b. nat_lt d.level 
       under_under l m h ds ∙ sym (ap (λ b. cond b (d ∷ ds) (under l ds)) (not_less d.level l (omega (arith, h, k))))
 ] refl
 
-pub counts_by : (l : ℕ) (x : Shape) (old middle low new : List Depth) (arms round most_arms most_round : ℕ) (deep : Bool) →
+abbrev made : ℕ → ℕ → ℕ → ℕ → Depth
+made l round arms owned = record { level = l; round = round; arms = arms; own = owned }
+
+pub counts_by : (l : ℕ) (x : Shape) (old middle low new : List Depth) (arms round most_arms most_round owned : ℕ) (deep : Bool) →
     middle ≡ under (suc l) old → arms ≡ arms_top x l middle → low ≡ under l middle → round ≡ round_top low → most_round ≡ min 500 round → most_arms ≡ min 500 arms →
-    new ≡ record { level = l; round = most_round; arms = most_arms } ∷ low → deep ≡ deep_in x most_round most_arms → Counts l x old new deep
-counts_by l x old middle low new arms round most_arms most_round deep m a b r mr ma n d =
+    owned ≡ own_of (clause_in x) → new ≡ record { level = l; round = most_round; arms = most_arms; own = owned } ∷ low → deep ≡ deep_in x most_round most_arms owned →
+    Counts l x old new deep
+counts_by l x old middle low new arms round most_arms most_round owned deep m a b r mr ma o n d =
     let lower : low ≡ under l old = b ∙ ap (under l) m ∙ under_under l (suc l) (omega arith) old in
     let rounds : most_round ≡ (last_in l x old).round = mr ∙ ap (λ z. min 500 z) (r ∙ ap round_top lower) in
     let counted_arms : most_arms ≡ (last_in l x old).arms = ma ∙ ap (λ z. min 500 z) (a ∙ ap (arms_top x l) m) in
     record {
-      lasts = n ∙ ap (λ z. record { level = l; round = z; arms = most_arms } ∷ low) rounds ∙ ap (λ z. record { level = l; round = (last_in l x old).round; arms = z } ∷ low) counted_arms ∙ ap (λ z. last_in l x old ∷ z) lower;
-      is_deep = d ∙ ap (λ z. deep_in x z most_arms) rounds ∙ ap (deep_in x (last_in l x old).round) counted_arms;
+      lasts =
+          n ∙ ap (λ z. made l z most_arms owned ∷ low) rounds ∙ ap (λ z. made l (last_in l x old).round z owned ∷ low) counted_arms
+          ∙ ap (λ z. made l (last_in l x old).round (last_in l x old).arms z ∷ low) o ∙ ap (λ z. last_in l x old ∷ z) lower;
+      is_deep =
+          d ∙ ap (λ z. deep_in x z most_arms owned) rounds ∙ ap (λ z. deep_in x (last_in l x old).round z owned) counted_arms
+          ∙ ap (deep_in x (last_in l x old).round (last_in l x old).arms) o;
     }
 
 -- ---- Counts that go no further count the same.
-
-abbrev made : ℕ → ℕ → ℕ → Depth
-made l round arms = record { level = l; round = round; arms = arms }
 
 chosen : {A B : Type 0} (b : Bool) (f : A → B) (x y : A) → cond b (f x) (f y) ≡ f (cond b x y)
 chosen true f x y = refl
@@ -75,7 +80,7 @@ under_capped l (d ∷ ds) = elim (nat_lt d.level l) as (λ b. cond b (map capped
 
 round_is_top : (l : ℕ) (ds : List Depth) → round_at l ds ≡ round_top (under l ds)
 round_is_top l [] = refl
-round_is_top l (d ∷ ds) = elim (nat_lt d.level l) as (λ b. cond b (d.round + (d.arms + 1)) (round_at l ds) ≡ round_top (cond b (d ∷ ds) (under l ds))) [
+round_is_top l (d ∷ ds) = elim (nat_lt d.level l) as (λ b. cond b (d.round + (d.arms + d.own)) (round_at l ds) ≡ round_top (cond b (d ∷ ds) (under l ds))) [
   | true ↦ refl
   | false ↦ round_is_top l ds
 ]
@@ -160,14 +165,24 @@ later_is : (h : Header) → is_later (clause_of h) ≡ is_clause (header_kind h)
 later_is else_header = refl
 later_is _ = refl
 
+own_is : (h : Header) → own_of (Some (clause_of h)) ≡ own (header_kind h)
+own_is (case_header p g) = refl
+own_is _ = refl
+
+own_in : (f : Form) → own_of (clause_in (shape_of f)) ≡ own (kind_of f)
+own_in (simple_form ss) = refl
+own_in (decorator_form e) = refl
+own_in (header_form h None) = own_is h
+own_in (header_form h (Some suite)) = own_is h
+
 deep_header : (b : Bool) (m n : ℕ) → nat_le 500 m ≡ nat_le 500 n → cond b false (nat_le 500 m) ≡ is_deep (cond b None (Some n))
 deep_header true m n e = refl
 deep_header false m n e = e
 
-deep_is : (f : Form) (round arms : ℕ) → deep_in (shape_of f) (min 500 round) (min 500 arms) ≡ is_deep (begins round arms f)
+deep_is : (f : Form) (round arms : ℕ) → deep_in (shape_of f) (min 500 round) (min 500 arms) (own (kind_of f)) ≡ is_deep (begins round arms f)
 deep_is (simple_form ss) round arms = both_deep (min 500 round) round (λ h. omega (arith, h)) (λ h. omega (arith, h))
 deep_is (decorator_form e) round arms = both_deep (min 500 round) round (λ h. omega (arith, h)) (λ h. omega (arith, h))
-deep_is (header_form h (Some suite)) round arms = both_deep (min 500 round + (min 500 arms + 1)) (round + (arms + 1)) (λ h. omega (arith, h)) (λ h. omega (arith, h))
+deep_is (header_form h (Some suite)) round arms = both_deep (min 500 round + (min 500 arms + own (header_kind h))) (round + (arms + own (header_kind h))) (λ k. omega (arith, k)) (λ k. omega (arith, k))
 deep_is (header_form h None) round arms =
     ap (λ b. cond b false (nat_le 500 (min 500 round + min 500 arms))) (later_is h)
     ∙ deep_header (is_clause (header_kind h)) (min 500 round + min 500 arms) (round + arms) (both_deep (min 500 round + min 500 arms) (round + arms) (λ k. omega (arith, k)) (λ k. omega (arith, k)))
@@ -180,10 +195,12 @@ last_is l f ds =
     ap (λ z. min 500 (round_top z)) (under_capped l ds) ∙ round_capped (under l ds) ∙ ap (λ z. min 500 z) (sym (round_is_top l ds)) in
     let arms : min 500 (arms_top (shape_of f) l (under (suc l) (map capped ds))) ≡ min 500 (arms_at (kind_of f) l ds) =
     ap (λ z. min 500 (arms_top (shape_of f) l z)) (under_capped (suc l) ds) ∙ arms_capped (shape_of f) l (under (suc l) ds) ∙ ap (λ z. min 500 z) (sym (arms_are_top f l ds)) in
-    ap (λ z. made l z (min 500 (arms_top (shape_of f) l (under (suc l) (map capped ds))))) rounds ∙ ap (made l (min 500 (round_at l ds))) arms
+    ap (λ z. made l z (min 500 (arms_top (shape_of f) l (under (suc l) (map capped ds)))) (own_of (clause_in (shape_of f)))) rounds
+    ∙ ap (λ z. made l (min 500 (round_at l ds)) z (own_of (clause_in (shape_of f)))) arms
+    ∙ ap (made l (min 500 (round_at l ds)) (min 500 (arms_at (kind_of f) l ds))) (own_in f)
 
 pub line_counted : (l : ℕ) (f : Form) (ds new : List Depth) (deep : Bool) → Counts l (shape_of f) (map capped ds) new deep → new ≡ map capped (counted ds (line l f))
 line_counted l f ds new deep c = c.lasts ∙ ap (λ z. z ∷ under l (map capped ds)) (last_is l f ds) ∙ ap (λ z. capped (depth_of (line l f) ds) ∷ z) (under_capped l ds)
 
 pub line_deep : (l : ℕ) (f : Form) (ds new : List Depth) (deep : Bool) → Counts l (shape_of f) (map capped ds) new deep → deep ≡ is_deep (innermost (line l f) ds)
-line_deep l f ds new deep c = c.is_deep ∙ ap (λ z. deep_in (shape_of f) z.round z.arms) (last_is l f ds) ∙ deep_is f (round_at l ds) (arms_at (kind_of f) l ds)
+line_deep l f ds new deep c = c.is_deep ∙ ap (λ z. deep_in (shape_of f) z.round z.arms z.own) (last_is l f ds) ∙ deep_is f (round_at l ds) (arms_at (kind_of f) l ds)

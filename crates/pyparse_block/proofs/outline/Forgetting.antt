@@ -4,16 +4,18 @@ use Rattle.std.proofs.Common.{◌≡◌, ℕ, suc, List, [], ◌∷◌, ◌++◌
 use Rattle.std.specs.Prelude.{nat_lt}
 use Rattle.std.proofs.lemmas.List.{length-map}
 use Rattle.pytree_node.specs.Trees.{Expr, Stmt}
-use Rattle.pygrammar.specs.Lines.{Line, Header, DefHead, if_header, elif_header, else_header, loop_header, with_header, try_header, except_header, finally_header, def_header, Form, simple_form, decorator_form, header_form}
+use Rattle.pygrammar.specs.Lines.{Line, Header, DefHead, if_header, elif_header, else_header, loop_header, with_header, try_header, except_header, finally_header, def_header, match_header, case_header, Form, simple_form, decorator_form, header_form}
 use Rattle.pygrammar.specs.Blocks.{Fault, ExpectedIndent, UnexpectedIndent, MisplacedClause, same_bool}
-use Rattle.pygrammar.specs.Reading.{Answer, Fine, Faulty, then, Group, Idle, Marked, Choice, Loop, Trial, Caught, Settled, closes, Part, part, meets, grows, decorated, or_misplaced, place_header, Waiting, waiting, State, state, start, joined}
+use Rattle.pygrammar.specs.Reading.{Answer, Fine, Faulty, then, Group, Idle, Marked, Choice, Loop, Trial, Caught, Settled, Matching, closes, Part, part, meets, grows, decorated, or_misplaced, place_header, Waiting, waiting, State, state, start, joined}
 use Rattle.pygrammar.specs.Reading as reading
+use Rattle.pyparse_block.specs.declared.outline.shapes.Shape as bare_shape
 use Rattle.pyparse_block.specs.declared.outline.shapes.Shape.TheVariants as shape
 use Rattle.pyparse_block.specs.declared.outline.groups.GroupKind.TheVariants as group
 use Rattle.pyparse_block.specs.declared.outline.groups.GroupKind as bare
 use Rattle.pyparse_block.specs.Outlines.{group_of, awaited, Levels, levels, outline, outlined}
 use Rattle.pyparse_block.specs.Inner.Shapes.{clause_of, shape_of}
-use Rattle.pyparse_block.specs.Inner.Steps.{is_whole, ended, goes_on, next, opens, settle_in, place, placed, step, finish}
+use Rattle.pyparse_block.specs.Inner.Steps.{is_whole, ended, first, above, goes_on, next, opens, settle_in, place, placed, step, finish}
+use Rattle.pyparse_block.proofs.outline.LevelLemmas.{left}
 
 -- a reading that is done, without its statements
 abbrev pub bare_end : Answer (List Stmt) → Answer (Unit {0})
@@ -37,6 +39,9 @@ grown_alike Idle finally_header body = refl
 grown_alike _ finally_header body = refl
 grown_alike Idle (def_header t) body = refl
 grown_alike _ (def_header t) body = refl
+grown_alike g (match_header t) body = refl
+grown_alike Idle (case_header p t) body = refl
+grown_alike _ (case_header p t) body = refl
 
 -- what is open behind a header that was met
 abbrev met : Option Part → Header → Option bare.GroupKind
@@ -45,6 +50,7 @@ met o h = elim o [ None ↦ None | Some p ↦ Some (group_of (grows p.group h []
 met_new : (g : Group) (h : Header) (b : bare.GroupKind) → group_of (grows Idle h []).group ≡ b → met (reading.ended g) h ≡ ended (group_of g) b
 met_new (Marked es) h b e = refl
 met_new (Trial body) h b e = refl
+met_new (Matching cs) h b e = refl
 met_new Idle h b e = ap Some e
 met_new _ h b e = ap Some e
 
@@ -76,6 +82,9 @@ met_is (Caught star body hs) finally_header = refl
 met_is (Settled star body hs o) finally_header = refl
 met_is _ finally_header = refl
 met_is g (def_header t) = met_def g t
+met_is g (match_header t) = met_new g (match_header t) group.Idle refl
+met_is (Matching cs) (case_header p t) = refl
+met_is _ (case_header p t) = refl
 
 -- ---- Levels that end.
 
@@ -87,17 +96,24 @@ whole_is : (g : Group) → is_whole (group_of g) ≡ is_some (closes g)
 whole_is Idle = refl
 whole_is _ = refl
 
--- what is left behind a level that ends, if it may
-settled : (l : ℕ) (done : List Stmt) (o : Option (List Stmt)) (w : Waiting) (below : List Waiting) →
+-- what is open in the level below a level that ends, if it may
+abbrev open_in : Option Part → Option bare.GroupKind
+open_in o = elim o [ None ↦ None | Some p ↦ Some (group_of p.group) ]
+
+above_alike : (w : Waiting) (done : List Stmt) (g : Group) → open_in (reading.above w done g) ≡ above (group_of g) (awaited w)
+above_alike w done (Matching cs) = refl
+above_alike w done g = by_closes (closes g) ∙ ap (λ b. cond b (Some (awaited w)) None) (sym (whole_is g))
+  where
+    by_closes : (o : Option (List Stmt)) → open_in (elim o [ None ↦ None | Some ss ↦ Some (joined w.done w.group w.header (done ++ ss)) ]) ≡ cond (is_some o) (Some (awaited w)) None
+    by_closes None = refl
+    by_closes (Some ss) = ap Some (grown_alike w.group w.header (done ++ ss))
+
+settled : (l : ℕ) (below : List Waiting) (o : Option Part) →
     ((d : List Stmt) (g : Group) → outlined (reading.settle_in l d g false below) ≡ settle_in l (group_of g) false (map awaited below)) →
-    outlined (elim o [
-      | None ↦ Faulty MisplacedClause
-      | Some ss ↦ reading.settle_in l (joined w.done w.group w.header (done ++ ss)).done (joined w.done w.group w.header (done ++ ss)).group false below
-    ]) ≡ cond (is_some o) (settle_in l (awaited w) false (map awaited below)) (Faulty MisplacedClause)
-settled l done None w below ih = refl
-settled l done (Some ss) w below ih =
-    ih (joined w.done w.group w.header (done ++ ss)).done (joined w.done w.group w.header (done ++ ss)).group
-    ∙ ap (λ z. settle_in l z false (map awaited below)) (grown_alike w.group w.header (done ++ ss))
+    outlined (elim o [ None ↦ Faulty MisplacedClause | Some p ↦ reading.settle_in l p.done p.group false below ])
+    ≡ left l (map awaited below) (open_in o)
+settled l below None ih = refl
+settled l below (Some p) ih = ih p.done p.group
 
 outlined_cond : (b : Bool) (x y : Answer State) → outlined (cond b x y) ≡ cond b (outlined x) (outlined y)
 outlined_cond true x y = refl
@@ -107,48 +123,47 @@ settle_outlined : (l : ℕ) (done : List Stmt) (g : Group) (fresh : Bool) (below
     outlined (reading.settle_in l done g fresh below) ≡ settle_in l (group_of g) fresh (map awaited below)
 settle_outlined l done g fresh [] = refl
 settle_outlined l done g fresh (w ∷ below) =
-    let gone : Answer State = elim (closes g) [
-      | None ↦ Faulty MisplacedClause
-      | Some ss ↦ reading.settle_in l (joined w.done w.group w.header (done ++ ss)).done (joined w.done w.group w.header (done ++ ss)).group false below
-    ] in
-    let left : Answer Levels = settle_in l (awaited w) false (map awaited below) in
+    let gone : Answer State = elim (reading.above w done g) [ None ↦ Faulty MisplacedClause | Some p ↦ reading.settle_in l p.done p.group false below ] in
     let here : Answer Levels = Fine (levels (group_of g) fresh (map awaited (w ∷ below))) in
-    let ends : outlined gone ≡ cond (is_whole (group_of g)) left (Faulty MisplacedClause) =
-    settled l done (closes g) w below (λ d h. settle_outlined l d h false below) ∙ ap (λ b. cond b left (Faulty MisplacedClause)) (sym (whole_is g)) in
-    let deep = λ (n : ℕ). nat_lt l (suc n) in
+    let ends : outlined gone ≡ left l (map awaited below) (above (group_of g) (awaited w)) =
+    settled l below (reading.above w done g) (λ d h. settle_outlined l d h false below) ∙ ap (left l (map awaited below)) (above_alike w done g) in
     outlined_cond (nat_lt l (length (w ∷ below))) (cond fresh (Faulty ExpectedIndent) gone) (Fine (state done g fresh (w ∷ below)))
     ∙ ap (λ a. cond (nat_lt l (length (w ∷ below))) a here) (outlined_cond fresh (Faulty ExpectedIndent) gone ∙ ap (λ a. cond fresh (Faulty ExpectedIndent) a) ends)
-    ∙ ap (λ n. cond (nat_lt l n) (cond fresh (Faulty ExpectedIndent) (cond (is_whole (group_of g)) left (Faulty MisplacedClause))) here) (sym (length-map (w ∷ below) awaited))
+    ∙ ap (λ n. cond (nat_lt l n) (cond fresh (Faulty ExpectedIndent) (left l (map awaited below) (above (group_of g) (awaited w)))) here) (sym (length-map (w ∷ below) awaited))
 
 -- ---- A line of the deepest level.
 
 -- what a line makes of the levels, by what is then open
-abbrev behind : Bool → Levels → Option bare.GroupKind → Answer Levels
-behind opening s o = elim o [ None ↦ Faulty MisplacedClause | Some g ↦ Fine (cond opening (levels group.Idle true (g ∷ s.below)) (levels g false s.below)) ]
+abbrev behind : bare_shape.Shape → Levels → Option bare.GroupKind → Answer Levels
+behind x s o = elim o [ None ↦ Faulty MisplacedClause | Some g ↦ Fine (cond (opens x) (levels (first x) true (g ∷ s.below)) (levels g false s.below)) ]
 
 simple_outlined : (s : State) (ss : List Stmt) (g : Group) →
-    outlined (or_misplaced (closes g) (λ more. state ((s.done ++ more) ++ ss) Idle false s.below)) ≡ behind false (outline s) (next shape.Simple (group_of g))
+    outlined (or_misplaced (closes g) (λ more. state ((s.done ++ more) ++ ss) Idle false s.below)) ≡ behind shape.Simple (outline s) (next shape.Simple (group_of g))
 simple_outlined s ss Idle = refl
 simple_outlined s ss _ = refl
 
 decorator_outlined : (s : State) (e : Expr) (g : Group) →
-    outlined (or_misplaced (decorated g e) (λ p. state (s.done ++ p.done) p.group false s.below)) ≡ behind false (outline s) (next shape.Decorator (group_of g))
+    outlined (or_misplaced (decorated g e) (λ p. state (s.done ++ p.done) p.group false s.below)) ≡ behind shape.Decorator (outline s) (next shape.Decorator (group_of g))
 decorator_outlined s e (Marked es) = refl
 decorator_outlined s e Idle = refl
 decorator_outlined s e _ = refl
 
+first_alike : (h : Header) → group_of (reading.first_group h) ≡ first (shape_of (header_form h None))
+first_alike (match_header e) = refl
+first_alike _ = refl
+
 header_outlined : (s : State) (h : Header) (suite : Option (List Stmt)) (o : Option Part) →
-    outlined (or_misplaced o (place_header s h suite)) ≡ behind (opens (shape_of (header_form h suite))) (outline s) (met o h)
+    outlined (or_misplaced o (place_header s h suite)) ≡ behind (shape_of (header_form h suite)) (outline s) (met o h)
 header_outlined s h None None = refl
 header_outlined s h (Some ss) None = refl
-header_outlined s h None (Some p) = refl
+header_outlined s h None (Some p) = ap (λ g. Fine (levels g true (awaited (waiting (s.done ++ p.done) p.group h) ∷ map awaited s.below))) (first_alike h)
 header_outlined s h (Some ss) (Some p) = ap (λ g. Fine (levels g false (map awaited s.below))) (grown_alike p.group h ss)
 
 place_outlined : (s : State) (f : Form) → outlined (reading.place s f) ≡ place (shape_of f) (outline s)
 place_outlined s (simple_form ss) = simple_outlined s ss s.group
 place_outlined s (decorator_form e) = decorator_outlined s e s.group
-place_outlined s (header_form h None) = header_outlined s h None (meets s.group h) ∙ ap (behind true (outline s)) (met_is s.group h)
-place_outlined s (header_form h (Some ss)) = header_outlined s h (Some ss) (meets s.group h) ∙ ap (behind false (outline s)) (met_is s.group h)
+place_outlined s (header_form h None) = header_outlined s h None (meets s.group h) ∙ ap (behind (shape_of (header_form h None)) (outline s)) (met_is s.group h)
+place_outlined s (header_form h (Some ss)) = header_outlined s h (Some ss) (meets s.group h) ∙ ap (behind (shape_of (header_form h (Some ss))) (outline s)) (met_is s.group h)
 
 -- ---- Lines and their end.
 

@@ -1,7 +1,7 @@
 -- Carries: Outline. On: what an outline says of the lines that it follows.
-use Rattle.std.proofs.Common.{◌≡◌, ℕ, List, [], ◌∷◌, ◌++◌, map, Bool, refl, sym, ap, ◌∙◌, subst}
+use Rattle.std.proofs.Common.{◌≡◌, ℕ, List, [], ◌∷◌, ◌++◌, map, Bool, true, refl, sym, ap, ◌∙◌, subst}
 use Rattle.pytree_node.specs.Trees.{Stmt}
-use Rattle.pygrammar.specs.Lines.{Line, line, Form}
+use Rattle.pygrammar.specs.Lines.{Line, line, Form, are_proper}
 use Rattle.pygrammar.specs.Blocks.{Block, Fault}
 use Rattle.pygrammar.specs.Reading.{Answer, Fine, Faulty, State, start, run}
 use Rattle.pygrammar.specs.Reading as reading
@@ -98,11 +98,11 @@ end_blamed xs o (stop.Faulty x) k t =
     end_fault_found xs r.state (fault_of x) r.is (ends_faulty (reading.finish r.state) (fault_of x) (finish_of xs o k ∙ t))
 
 -- lines that come to their end are statements
-pub end_read : (xs : List Line) (o : Outline) → Follows xs o → finish (levels_of o.levels) ≡ Fine tt → (ss : List Stmt) × Block 0 xs ss
-end_read xs o k t =
+pub end_read : (xs : List Line) (o : Outline) → are_proper xs ≡ true → Follows xs o → finish (levels_of o.levels) ≡ Fine tt → (ss : List Stmt) × Block 0 xs ss
+end_read xs o p k t =
     let r = reads (run xs start) (levels_of o.levels) k.read in
     let e = ends (reading.finish r.state) (finish_of xs o k ∙ t) in
-    (e.0, block_found xs r.state e.0 r.is e.1)
+    (e.0, block_found xs r.state e.0 p r.is e.1)
 
 -- what an outline says of its lines
 pub ruleset following = (follows_none, follows_on, deep_told, line_blamed, end_blamed, end_read)

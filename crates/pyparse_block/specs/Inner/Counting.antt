@@ -22,29 +22,35 @@ abbrev pub arms_top : Shape → ℕ → List Depth → ℕ
 arms_top x l [] = 0
 arms_top x l (d ∷ ds) = cond (d.level == l) (arms_more (clause_in x) d.arms) 0
 
+-- how many statements a line is itself
+abbrev pub own_of : Option Clause → ℕ
+own_of (Some clause.Case) = 0
+own_of _ = 1
+
 -- how many statements stand round a line of the level above those that are kept
 abbrev pub round_top : List Depth → ℕ
 round_top [] = 0
-round_top (d ∷ ds) = d.round + (d.arms + 1)
+round_top (d ∷ ds) = d.round + (d.arms + d.own)
 
 -- whether a clause begins no statement
 abbrev pub is_later : Clause → Bool
 is_later clause.Else = true
 is_later (clause.Except _) = true
 is_later clause.Finally = true
+is_later clause.Case = true
 is_later _ = false
 
--- whether a statement with 500 round it begins in a line, by what stands round the line and its `elif`s
-abbrev pub deep_in : Shape → ℕ → ℕ → Bool
-deep_in (shape.Opening c) round arms = cond (is_later c) false (nat_le 500 (round + arms))
-deep_in (shape.Inline c) round arms = nat_le 500 (round + (arms + 1))
-deep_in _ round arms = nat_le 500 round
+-- whether a statement with 500 round it begins in a line, by what stands round the line, its `elif`s and its own statements
+abbrev pub deep_in : Shape → ℕ → ℕ → ℕ → Bool
+deep_in (shape.Opening c) round arms own = cond (is_later c) false (nat_le 500 (round + arms))
+deep_in (shape.Inline c) round arms own = nat_le 500 (round + (arms + own))
+deep_in _ round arms own = nat_le 500 round
 
 -- a line as the last of its level
 abbrev pub last_in : ℕ → Shape → List Depth → Depth
-last_in l x ds = record { level = l; round = min 500 (round_top (under l ds)); arms = min 500 (arms_top x l (under (suc l) ds)) }
+last_in l x ds = record { level = l; round = min 500 (round_top (under l ds)); arms = min 500 (arms_top x l (under (suc l) ds)); own = own_of (clause_in x) }
 
 -- one line more, and whether a statement with 500 round it begins in it
 pub record Counts (l : ℕ) (x : Shape) (old new : List Depth) (deep : Bool) : Type 0 where
   pub lasts : new ≡ last_in l x old ∷ under l old
-  pub is_deep : deep ≡ deep_in x (last_in l x old).round (last_in l x old).arms
+  pub is_deep : deep ≡ deep_in x (last_in l x old).round (last_in l x old).arms (last_in l x old).own

@@ -1,19 +1,15 @@
 -- The end of one level.
-use Rattle.std.specs.Prelude.{false, cond, List, [], ◌∷◌}
-use Rattle.pytree_node.specs.Trees.{Stmt}
-use Rattle.pygrammar.specs.Blocks.{ExpectedIndent}
-use Rattle.pygrammar.specs.Reading.{Answer, Fine, Faulty, then, Waiting, State, state, joined}
-use Rattle.pyparse_block.specs.Inner.Meeting.{closed}
+use Rattle.std.specs.Prelude.{false, cond, List, [], ◌∷◌, Option, Some, None}
+use Rattle.pygrammar.specs.Blocks.{ExpectedIndent, MisplacedClause}
+use Rattle.pygrammar.specs.Reading.{Answer, Fine, Faulty, Part, Waiting, State, state, above}
 
--- the level below, with the block that it waited for
-abbrev pub grown : Waiting → List Waiting → List Stmt → State
-grown w below body = state (joined w.done w.group w.header body).done (joined w.done w.group w.header body).group false below
+-- what is kept behind a level that ended, by what the level below it has now
+abbrev pub behind : List Waiting → Option Part → Answer State
+behind below made = elim made [ None ↦ Faulty MisplacedClause | Some p ↦ Fine (state p.done p.group false below) ]
 
 -- the deepest level comes to its end, with this one below it
 abbrev pub popped : State → Waiting → List Waiting → Answer State
-popped s w below =
-    cond s.fresh (Faulty ExpectedIndent)
-    (then (closed s.done s.group) (λ body. Fine (grown w below body)))
+popped s w below = cond s.fresh (Faulty ExpectedIndent) (behind below (above w s.done s.group))
 
 -- the deepest level comes to its end
 abbrev pub ended : State → Answer State

@@ -1,6 +1,6 @@
 -- Lines without the trees.
 use Rattle.std.specs.Prelude.{Some, None}
-use Rattle.pygrammar.specs.Lines.{Header, if_header, elif_header, else_header, loop_header, with_header, try_header, except_header, finally_header, def_header, Form, simple_form, decorator_form, header_form}
+use Rattle.pygrammar.specs.Lines.{Header, if_header, elif_header, else_header, loop_header, with_header, try_header, except_header, finally_header, def_header, match_header, case_header, Form, simple_form, decorator_form, header_form}
 use Rattle.pyparse_block.specs.declared.outline.shapes.Clause.{Clause}
 use Rattle.pyparse_block.specs.declared.outline.shapes.Clause.TheVariants as clause
 use Rattle.pyparse_block.specs.declared.outline.shapes.Shape.{Shape}
@@ -17,6 +17,8 @@ clause_of try_header = clause.Try
 clause_of (except_header star _ _) = clause.Except star
 clause_of finally_header = clause.Finally
 clause_of (def_header _) = clause.Def
+clause_of (match_header _) = clause.Match
+clause_of (case_header _ _) = clause.Case
 
 -- the form of a line
 abbrev pub shape_of : Form → Shape

@@ -1,6 +1,5 @@
 -- The reading of blocks without the trees.
-use Rattle.std.specs.Prelude.{ℕ, Bool, true, false, ◌&&◌, nat_lt, cond, List, [], ◌∷◌, length, Option, Some, None}
-use Rattle.std.specs.List.{list_all}
+use Rattle.std.specs.Prelude.{ℕ, Bool, true, false, nat_lt, cond, List, [], ◌∷◌, length, Option, Some, None}
 use Rattle.pygrammar.specs.Blocks.{ExpectedIndent, UnexpectedIndent, MisplacedClause, same_bool}
 use Rattle.pygrammar.specs.Reading.{Answer, Fine, Faulty, then}
 use Rattle.pyparse_block.specs.declared.outline.shapes.Clause.{Clause}
@@ -8,20 +7,31 @@ use Rattle.pyparse_block.specs.declared.outline.shapes.Clause.TheVariants as cla
 use Rattle.pyparse_block.specs.declared.outline.shapes.Shape.{Shape}
 use Rattle.pyparse_block.specs.declared.outline.shapes.Shape.TheVariants as shape
 use Rattle.pyparse_block.specs.declared.outline.groups.GroupKind.{GroupKind}
-use Rattle.pyparse_block.specs.declared.outline.groups.GroupKind.TheVariants.{Idle, Marked, Choice, Loop, Trial, Caught, Settled}
+use Rattle.pyparse_block.specs.declared.outline.groups.GroupKind.TheVariants.{Idle, Marked, Choice, Loop, Trial, Caught, Settled, Matching}
 use Rattle.pyparse_block.specs.Outlines.{Levels, levels}
 
 -- ---- One level.
 
--- whether what is open may end here
+-- whether what is open may end before another statement
 abbrev pub is_whole : GroupKind → Bool
 is_whole Marked = false
 is_whole Trial = false
+is_whole Matching = false
 is_whole _ = true
 
 -- what is open behind another statement that begins here, if it may
 abbrev pub ended : GroupKind → GroupKind → Option GroupKind
 ended g next = cond (is_whole g) (Some next) None
+
+-- what the block of a line begins with
+abbrev pub first : Shape → GroupKind
+first (shape.Opening clause.Match) = Matching
+first _ = Idle
+
+-- what the level below has open where a level ends, if it may: what was awaited there, and behind the cases of a `match` nothing
+abbrev pub above : GroupKind → GroupKind → Option GroupKind
+above Matching awaited = Some Idle
+above g awaited = ended g awaited
 
 -- what is open behind a clause and its block, if the clause may stand here
 abbrev pub goes_on : Clause → GroupKind → Option GroupKind
@@ -44,6 +54,9 @@ goes_on clause.Finally Settled = Some Idle
 goes_on clause.Finally _ = None
 goes_on clause.Def Marked = Some Idle
 goes_on clause.Def g = ended g Idle
+goes_on clause.Match g = ended g Idle
+goes_on clause.Case Matching = Some Matching
+goes_on clause.Case _ = None
 
 -- and behind a line
 abbrev pub next : Shape → GroupKind → Option GroupKind
@@ -64,7 +77,7 @@ abbrev pub settle_in : ℕ → GroupKind → Bool → List GroupKind → Answer 
 settle_in l g fresh [] = Fine (levels g fresh [])
 settle_in l g fresh (w ∷ below) =
     cond (nat_lt l (length (w ∷ below)))
-    (cond fresh (Faulty ExpectedIndent) (cond (is_whole g) (settle_in l w false below) (Faulty MisplacedClause)))
+    (cond fresh (Faulty ExpectedIndent) (elim (above g w) [ None ↦ Faulty MisplacedClause | Some h ↦ settle_in l h false below ]))
     (Fine (levels g fresh (w ∷ below)))
 
 abbrev pub settle : ℕ → Levels → Answer Levels
@@ -74,7 +87,7 @@ settle l s = settle_in l s.group s.fresh s.below
 abbrev pub place : Shape → Levels → Answer Levels
 place x s = elim (next x s.group) [
   | None ↦ Faulty MisplacedClause
-  | Some g ↦ Fine (cond (opens x) (levels Idle true (g ∷ s.below)) (levels g false s.below))
+  | Some g ↦ Fine (cond (opens x) (levels (first x) true (g ∷ s.below)) (levels g false s.below))
 ]
 
 abbrev pub placed : ℕ → Shape → Levels → Answer Levels
@@ -88,8 +101,9 @@ abbrev pub awaits_block : Levels → Bool
 awaits_block s = elim s.below [ [] ↦ false | _ ∷ _ ↦ s.fresh ]
 
 -- whether what the levels have open may end
-abbrev pub is_all_whole : Levels → Bool
-is_all_whole s = is_whole s.group && list_all is_whole s.below
+abbrev pub may_end : GroupKind → List GroupKind → Bool
+may_end g [] = is_whole g
+may_end g (w ∷ below) = elim (above g w) [ None ↦ false | Some h ↦ may_end h below ]
 
 -- all levels come to their end
 abbrev pub finish : Levels → Answer (Unit {0})

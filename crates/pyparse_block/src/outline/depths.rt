@@ -3,7 +3,8 @@
 ghost use Rattle.std.specs.Prelude.{◌≡◌, ◌+◌, ◌∷◌, [], suc, min, IfOk};
 ghost use Rattle.pygrammar.specs.Depths.{under};
 ghost use Rattle.pyparse_block.specs.Outlines.{lasts_of};
-ghost use Rattle.pyparse_block.specs.Inner.Counting.{Counts, arms_top, deep_in, round_top};
+ghost use Rattle.pyparse_block.specs.Inner.Counting.{Counts, arms_top, clause_in, deep_in};
+ghost use Rattle.pyparse_block.specs.Inner.Counting.{own_of, round_top};
 
 use crate::outline::shapes::{Clause, Shape};
 use std::alloc::{AllocError, Global};
@@ -11,13 +12,14 @@ use std::alloc::{AllocError, Global};
 /// So many statements round it make a statement stand too deep. None is counted further.
 const DEEP: u32 = 500;
 
-/// The last line of a level: how many statements stand round it, and the `elif`s of the `if` that
-/// it belongs to, up to it.
+/// The last line of a level: how many statements stand round it, the `elif`s of the `if` that it
+/// belongs to, up to it, and how many statements it is itself.
 #[derive(Clone, Copy)]
 pub(crate) struct Last {
     level: usize,
     round: u16,
     arms: u16,
+    own: u16,
 }
 
 /// A count, no further than it counts.
@@ -30,22 +32,22 @@ fn capped(count: u32) -> u16
 impl Last {
     /// How many statements stand round the lines of its block.
     fn inside(self) -> u32
-        ensures { result ≡ self.round + (self.arms + 1) }
+        ensures { result ≡ self.round + (self.arms + self.own) }
     {
-        u32::from(self.round) + u32::from(self.arms) + 1
+        u32::from(self.round) + u32::from(self.arms) + u32::from(self.own)
     }
 
     /// Whether a statement with so many round it that it stands too deep begins in the line, by the
-    /// line's shape: in an `else`, `except` or `finally` none begins but those after its colon.
+    /// line's shape: in a clause other than `elif` none begins but those after its colon.
     fn is_deep(self, shape: Shape) -> bool
-        ensures { result ≡ deep_in shape self.round self.arms }
+        ensures { result ≡ deep_in shape self.round self.arms self.own }
     {
         let round = u32::from(self.round);
         let arms = u32::from(self.arms);
         match shape {
             Shape::Simple | Shape::Decorator => round >= DEEP,
             Shape::Opening { clause } => match clause {
-                Clause::Else | Clause::Except { star: _ } | Clause::Finally => false,
+                Clause::Else | Clause::Except { star: _ } | Clause::Finally | Clause::Case => false,
                 _ => round + arms >= DEEP,
             },
             Shape::Inline { clause: _ } => self.inside() >= DEEP,
@@ -94,6 +96,16 @@ fn arms_behind(lasts: &[Last], level: usize, shape: Shape) -> u32
     }
 }
 
+/// How many statements a line of this shape is itself: a `case` is none.
+fn own(shape: Shape) -> u16
+    ensures { result ≡ own_of (clause_in shape) }
+{
+    match shape.clause() {
+        Some(Clause::Case) => 0,
+        _ => 1,
+    }
+}
+
 /// How many statements stand round a line of the next level.
 fn round_behind(lasts: &[Last]) -> u32
     ensures { result ≡ round_top (lasts_of lasts.now) }
@@ -134,6 +146,7 @@ impl Depths {
             level,
             round: capped(round),
             arms: capped(arms),
+            own: own(shape),
         };
         self.lasts.push(last)?;
         Ok(last.is_deep(shape))

@@ -15,7 +15,8 @@ pub enum BlockFault {
     #[error("unexpected indent")]
     UnexpectedIndent,
     /// It is a clause whose statement isn't there, or it stands where a statement needs another
-    /// line: after a `try` an `except` or `finally`, after a decorator a `def` or `class`.
+    /// line: after a `try` an `except` or `finally`, after a decorator a `def` or `class`, in a
+    /// `match` a `case`.
     #[error("misplaced clause")]
     MisplacedClause,
 }

@@ -1,8 +1,8 @@
 //! What a level has open.
 
-ghost use Rattle.std.specs.Prelude.{◌≡◌};
-ghost use Rattle.std.specs.List.{list_all};
-ghost use Rattle.pyparse_block.specs.Inner.Steps.{ended, goes_on, is_whole, next};
+ghost use Rattle.std.specs.Prelude.{◌≡◌, reverse};
+ghost use Rattle.pyparse_block.specs.Inner.Steps.{above, ended, first, goes_on, is_whole};
+ghost use Rattle.pyparse_block.specs.Inner.Steps.{may_end, next};
 
 use crate::outline::shapes::{Clause, Shape};
 
@@ -23,15 +23,18 @@ pub(crate) enum GroupKind {
     Caught { star: bool },
     /// These and an `else`.
     Settled,
+    /// In the block of a `match`: its cases.
+    Matching,
 }
 
 impl GroupKind {
-    /// Whether it may end here: all but decorators and a `try` alone.
+    /// Whether it may end before another statement: all but decorators, a `try` alone, and cases,
+    /// which no other line may follow.
     pub(crate) fn is_whole(self) -> bool
         ensures { result ≡ is_whole self }
     {
         match self {
-            GroupKind::Marked | GroupKind::Trial => false,
+            GroupKind::Marked | GroupKind::Trial | GroupKind::Matching => false,
             _ => true,
         }
     }
@@ -41,6 +44,29 @@ impl GroupKind {
         ensures { result ≡ ended self next }
     {
         if self.is_whole() { Some(next) } else { None }
+    }
+
+    /// What the block of a line begins with.
+    pub(crate) fn first(shape: Shape) -> GroupKind
+        ensures { result ≡ first shape }
+    {
+        match shape {
+            Shape::Opening {
+                clause: Clause::Match,
+            } => GroupKind::Matching,
+            _ => GroupKind::Idle,
+        }
+    }
+
+    /// What the level below has open where this one ends, if it may: what was awaited there, and
+    /// after the cases of a `match` nothing.
+    pub(crate) fn above(self, awaited: GroupKind) -> Option<GroupKind>
+        ensures { result ≡ above self awaited }
+    {
+        match self {
+            GroupKind::Matching => Some(GroupKind::Idle),
+            _ => self.ended(awaited),
+        }
     }
 
     /// What is open after a clause and its block, if the clause may stand here: 8.1 to 8.8.
@@ -76,6 +102,11 @@ impl GroupKind {
                 GroupKind::Marked => Some(GroupKind::Idle),
                 _ => self.ended(GroupKind::Idle),
             },
+            Clause::Match => self.ended(GroupKind::Idle),
+            Clause::Case => match self {
+                GroupKind::Matching => Some(GroupKind::Matching),
+                _ => None,
+            },
         }
     }
 
@@ -94,9 +125,19 @@ impl GroupKind {
     }
 }
 
-/// Whether all of these may end.
-pub(crate) fn are_whole(groups: &[GroupKind]) -> bool
-    ensures { result ≡ list_all is_whole groups.now }
+/// Whether all levels may end, by what the deepest has open, and what is awaited below it, the
+/// deepest last.
+pub(crate) fn may_end(group: GroupKind, below: &[GroupKind]) -> bool
+    ensures { result ≡ may_end group (reverse below.now) }
 {
-    groups.iter().all(|group| group.is_whole())
+    let mut group = group;
+    let mut below = below;
+    while let Some((awaited, lower)) = below.split_last() {
+        let Some(left) = group.above(*awaited) else {
+            return false;
+        };
+        group = left;
+        below = lower;
+    }
+    group.is_whole()
 }

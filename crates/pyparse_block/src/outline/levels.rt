@@ -4,11 +4,11 @@ ghost use Rattle.std.specs.Prelude.{◌≡◌, IfErr, OnOk};
 ghost use Rattle.pygrammar.specs.Reading.{Fine, start};
 ghost use Rattle.pyparse_block.specs.Faults.{IsFaulty, Tells};
 ghost use Rattle.pyparse_block.specs.Outlines.{levels_of, outline};
-ghost use Rattle.pyparse_block.specs.Inner.Steps.{awaits_block, is_all_whole};
-ghost use Rattle.pyparse_block.specs.Inner.Steps.{finish, place, settle, step};
+ghost use Rattle.pyparse_block.specs.Inner.Steps.{awaits_block, finish, may_end, place, settle};
+ghost use Rattle.pyparse_block.specs.Inner.Steps.{step};
 
 use crate::outline::faults::{BlockFault, BlockStop};
-use crate::outline::groups::{GroupKind, are_whole};
+use crate::outline::groups::{GroupKind, may_end};
 use crate::outline::shapes::Shape;
 use std::alloc::Global;
 
@@ -43,10 +43,11 @@ impl Levels {
             if self.fresh {
                 return Err(BlockStop::Faulty(BlockFault::ExpectedIndent));
             }
-            if !self.group.is_whole() {
+            let awaited = self.below.pop().unwrap();
+            let Some(group) = self.group.above(awaited) else {
                 return Err(BlockStop::Faulty(BlockFault::MisplacedClause));
-            }
-            self.group = self.below.pop().unwrap();
+            };
+            self.group = group;
         }
         Ok(())
     }
@@ -61,7 +62,7 @@ impl Levels {
         };
         if shape.opens() {
             self.below.push(group)?;
-            self.group = GroupKind::Idle;
+            self.group = GroupKind::first(shape);
             self.fresh = true;
         } else {
             self.group = group;
@@ -91,11 +92,10 @@ impl Levels {
     }
 
     /// Whether what the levels have open may end.
-    #[tactic(auto, using(crate::proofs::outline::LevelLemmas::all_reversed))]
-    fn is_whole(&self) -> bool
-        ensures { result ≡ is_all_whole (levels_of self.now) }
+    fn may_end(&self) -> bool
+        ensures { result ≡ may_end self.now.group (levels_of self.now).below }
     {
-        self.group.is_whole() && are_whole(&self.below)
+        may_end(self.group, &self.below)
     }
 
     /// The end of all lines.
@@ -108,7 +108,7 @@ impl Levels {
         if self.awaits_block() {
             return Err(BlockStop::Faulty(BlockFault::ExpectedIndent));
         }
-        if !self.is_whole() {
+        if !self.may_end() {
             return Err(BlockStop::Faulty(BlockFault::MisplacedClause));
         }
         Ok(())

@@ -1,8 +1,8 @@
 //! The outline of a source, line by line.
 
-ghost use Rattle.std.specs.Prelude.{◌≡◌, ◌++◌, ◌∷◌, [], List, IfErr, IfOk, OnErr, OnOk};
+ghost use Rattle.std.specs.Prelude.{◌≡◌, ◌++◌, ◌∷◌, [], List, true, IfErr, IfOk, OnErr, OnOk};
 ghost use Rattle.pytree_node.specs.Trees.{Stmt};
-ghost use Rattle.pygrammar.specs.Lines.{Line, line};
+ghost use Rattle.pygrammar.specs.Lines.{Line, are_proper, line};
 ghost use Rattle.pygrammar.specs.Blocks.{Block};
 ghost use Rattle.pygrammar.specs.Depths.{count, innermost, is_deep};
 ghost use Rattle.pygrammar.specs.FormOf.{form_of};
@@ -83,7 +83,8 @@ impl Outline {
         Ok(self.depths.step(level, shape)?)
     }
 
-    /// The end of the lines: whether they are statements.
+    /// The end of the lines: whether they are statements. Those that are read from terminals are
+    /// proper.
     ///
     /// # Errors
     ///
@@ -91,7 +92,7 @@ impl Outline {
     /// memory.
     #[tactic(auto, using(crate::proofs::outline::OutlineLemmas::following))]
     pub fn finish(&self) -> Result<(), BlockStop>
-        ensures ok { (xs : List Line) → Follows xs self.now
+        ensures ok { (xs : List Line) → are_proper xs ≡ true → Follows xs self.now
             → OnOk result ((ss : List Stmt) × Block 0 xs ss) }
         ensures blamed { (xs : List Line) → Follows xs self.now → IfErr result (Blames xs []) }
         ensures faulty { IfErr result IsFaulty }

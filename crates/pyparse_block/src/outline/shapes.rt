@@ -31,6 +31,10 @@ pub(crate) enum Clause {
     Finally,
     /// `def` or `class`: 8.7 "Function definitions", 8.8 "Class definitions".
     Def,
+    /// `match`: 8.6 "The `match` statement".
+    Match,
+    /// `case`: 8.6.
+    Case,
 }
 
 /// The shape of a logical line.
@@ -86,6 +90,11 @@ fn clause_of(header: &Header) -> Clause
         } => Clause::Except { star: *star },
         Header::Finally => Clause::Finally,
         Header::Def { head: _ } => Clause::Def,
+        Header::Match { subject: _ } => Clause::Match,
+        Header::Case {
+            pattern: _,
+            guard: _,
+        } => Clause::Case,
     }
 }
 

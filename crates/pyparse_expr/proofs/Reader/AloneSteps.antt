@@ -6,7 +6,6 @@ use Rattle.pylex_lexeme.specs.declared.kinds.Exact.TheVariants.{RPar, RSqb, RBra
 use Rattle.pytree_node.specs.declared.operators.Context.TheVariants.{Load}
 use Rattle.pytree_node.specs.Trees
 use Rattle.pytree_node.specs.Trees.{Expr}
-use Rattle.pytree_node.specs.Values
 use Rattle.pytoken.specs.Terminals.{Terminal, Op, Ident, Number, Literal}
 use Rattle.pytoken.specs.declared.values.terminals.Terminal as given
 use Rattle.pytree_height.specs.Heights.{height}
@@ -18,9 +17,8 @@ use Rattle.pyparse_expr.specs.declared.depth.Depth.{Depth}
 use Rattle.pyparse_nodes.specs.declared.found.Read.{Read}
 use Rattle.pyparse_nodes.specs.declared.stop.Stop.{Stop}
 use Rattle.pyparse_nodes.specs.Answers.{Answered}
-use Rattle.pyparse_expr.specs.Readings.{reads}
+use Rattle.pyparse_expr.specs.Readings.{IsOpen, reads}
 use Rattle.pyparse_nodes.specs.Alone.{alone, atom_with, ends}
-use Rattle.pyparse_expr.specs.Inner.Readings.{IsOpen}
 use Rattle.pyparse_nodes.specs.Views.{seen}
 
 -- nothing goes on

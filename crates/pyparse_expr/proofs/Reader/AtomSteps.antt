@@ -16,8 +16,8 @@ use Rattle.pyparse_nodes.specs.declared.found.Read.{Read}
 use Rattle.pyparse_nodes.specs.declared.stop.Stop.{Stop}
 use Rattle.pyparse_nodes.specs.declared.stop.Stop.TheVariants as stop
 use Rattle.pyparse_nodes.specs.Answers.{Answered}
-use Rattle.pyparse_expr.specs.Readings.{reads}
-use Rattle.pyparse_expr.specs.Inner.Readings.{IsOpen, inner_reads, same_reads}
+use Rattle.pyparse_expr.specs.Readings.{IsOpen, reads}
+use Rattle.pyparse_expr.specs.Inner.Readings.{inner_reads, same_reads}
 use Rattle.pyparse_nodes.specs.Views.{seen, first_of}
 use Rattle.pyparse_expr.proofs.Reader.Reading.{by_level}
 use Rattle.pyparse_nodes.proofs.Callers.Places.{front}

@@ -15,14 +15,14 @@ use Rattle.pygrammar.specs.declared.levels.Level.{Level}
 use Rattle.pygrammar.specs.declared.levels.Level.TheVariants as level
 use Rattle.pygrammar.specs.Entries.{Of, singles}
 use Rattle.pygrammar.specs.Looks.{is_op, is_word, name_in}
-use Rattle.pygrammar.specs.Reader.{Answer, Found, NoForm, and_then, on_first, on_some, on_name_with, tupled, listing_of, yield_step, if_else_step, lambda_step, slice_rest, unnamed}
+use Rattle.pygrammar.specs.Reader.{Answer, Found, NoForm, and_then, on_first, on_some, on_name_with, tupled, listing_of, yield_step, if_else_step, lambda_step, slice_rest, unnamed, unstarred}
 use Rattle.pygrammar.specs.Capped.{cap}
 use Rattle.pyparse_expr.specs.declared.depth.Depth.{Depth}
 use Rattle.pyparse_nodes.specs.declared.found.Read.{Read}
 use Rattle.pyparse_nodes.specs.declared.stop.Stop.{Stop}
 use Rattle.pyparse_nodes.specs.Answers.{Answered, FoundAt, Made, Makes}
-use Rattle.pyparse_expr.specs.Readings.{reads}
-use Rattle.pyparse_expr.specs.Inner.Readings.{IsOpen, inner_reads, level_at}
+use Rattle.pyparse_expr.specs.Readings.{IsOpen, reads}
+use Rattle.pyparse_expr.specs.Inner.Readings.{inner_reads, level_at}
 use Rattle.pyparse_nodes.specs.Views.{Stands, IsNamed, IsNotNamed, seen, first_is}
 use Rattle.pyparse_expr.proofs.Reader.Reading.{by_level, again, earlier, node, first_miss}
 
@@ -131,6 +131,20 @@ module _ (ts : List given.Terminal) (d : Depth) (at : ℕ) (o : IsOpen d) where
   slices_alone b f n m =
       let e = slices_is b f ∙ ap (λ z. cap d.room z) (first_miss (is_op Comma) (seen ts b.next) _ _ n ∙ first_miss (is_op Star) (seen ts at) _ (Found (tree_of b.expr.value) (seen ts b.next)) m) in
       by_level ts (at + 1) d level.Slices (seen ts at) (Ok b) o (rw e (ended ts d.room (at + 1) b f.ahead f.within f.low))
+
+  abbrev subject_with : Expr → List Terminal → Answer Expr
+  subject_with e r = tupled (inner_reads d) (Of level.Elem) e r (unstarred (seen ts at) (Found e r))
+
+  subject_is : (b : Read) → FoundAt ts d.room (at + 1) (reads d level.Elem (seen ts at)) b → level_at d level.Subject (seen ts at) ≡ cap d.room (subject_with (tree_of b.expr.value) (seen ts b.next))
+  subject_is b f = ap (λ z. cap d.room (and_then z subject_with)) f.is
+
+  pub subject_tuple : (b : Read) (z : Result Read Stop) → FoundAt ts d.room (at + 1) (reads d level.Elem (seen ts at)) b → Stands (Op Comma) ts b.next → Answered ts d.room b.next (cap d.room (and_then (listing_of (inner_reads d) (Of level.Elem) [] (seen ts (b.next + 1))) (λ es r. Found (Trees.Tuple (an_expr (tree_of b.expr.value) (singles es)) Load) r))) z → Answered ts d.room (at + 1) (reads d level.Subject (seen ts at)) z
+  subject_tuple b z f s h = by_level ts (at + 1) d level.Subject (seen ts at) z o (rw (subject_is b f, s.is) (earlier ts d.room d.room (at + 1) b.next _ z (omega arith) f.ahead h))
+
+  pub subject_alone : (b : Read) → FoundAt ts d.room (at + 1) (reads d level.Elem (seen ts at)) b → None ≡ first_is (is_op Comma) (seen ts b.next) → None ≡ first_is (is_op Star) (seen ts at) → FoundAt ts d.room (at + 1) (reads d level.Subject (seen ts at)) b
+  subject_alone b f n m =
+      let e = subject_is b f ∙ ap (λ z. cap d.room z) (first_miss (is_op Comma) (seen ts b.next) _ _ n ∙ first_miss (is_op Star) (seen ts at) _ (Found (tree_of b.expr.value) (seen ts b.next)) m) in
+      by_level ts (at + 1) d level.Subject (seen ts at) (Ok b) o (rw e (ended ts d.room (at + 1) b f.ahead f.within f.low))
 
   pub value_yield : (z : Result Read Stop) → Stands (Word Key.Yield) ts at → Answered ts d.room (at + 1) (yield_step (inner_reads d) (seen ts (at + 1))) z → Answered ts d.room (at + 1) (reads d level.Value (seen ts at)) z
   value_yield z s h = by_level ts (at + 1) d level.Value (seen ts at) z o (rw s.is (again ts d.room (at + 1) (yield_step (inner_reads d) (seen ts (at + 1))) z h))

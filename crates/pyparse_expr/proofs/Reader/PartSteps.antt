@@ -23,9 +23,9 @@ use Rattle.pyparse_expr.specs.Inner.Arguments.{ActualAt, arguments_of, start}
 use Rattle.pyparse_expr.specs.Inner.Arguments as actuals
 use Rattle.pyparse_nodes.specs.Formals.{outcome}
 use Rattle.pyparse_nodes.specs.FormalStates.{state_of}
-use Rattle.pyparse_expr.specs.Inner.Readings.{IsOpen, IsOuter, inner_reads}
+use Rattle.pyparse_expr.specs.Inner.Readings.{IsOuter, inner_reads}
 use Rattle.pyparse_expr.specs.Inner.Signatures.{SignatureAt}
-use Rattle.pyparse_expr.specs.Readings.{read_arguments, read_parameters, reads}
+use Rattle.pyparse_expr.specs.Readings.{IsOpen, read_arguments, read_parameters, reads}
 use Rattle.pyparse_nodes.specs.Views.{seen}
 use Rattle.pyparse_expr.proofs.Calls.ArgumentOrder.{args_steps, keywords_steps, order_steps}
 use Rattle.pyparse_expr.proofs.FormalParameters.Formals.{arranged_steps}

@@ -18,8 +18,8 @@ use Rattle.pyparse_nodes.specs.declared.found.Read.{Read}
 use Rattle.pyparse_nodes.specs.declared.stop.Stop.{Stop}
 use Rattle.pyparse_nodes.specs.declared.stop.Stop.TheVariants as stop
 use Rattle.pyparse_nodes.specs.Answers.{Failed, Answered, Makes}
-use Rattle.pyparse_expr.specs.Readings.{reads}
-use Rattle.pyparse_expr.specs.Inner.Readings.{IsOpen, level_at}
+use Rattle.pyparse_expr.specs.Readings.{IsOpen, reads}
+use Rattle.pyparse_expr.specs.Inner.Readings.{level_at}
 use Rattle.pyparse_nodes.specs.Views.{seen, first_is}
 
 -- places

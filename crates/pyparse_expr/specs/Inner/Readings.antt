@@ -1,14 +1,11 @@
 -- The parts of the capped reader that the program's functions read.
-use Rattle.std.specs.Prelude.{◌≡◌, ℕ, ◌+◌, ◌-◌, ◌<◌, List}
+use Rattle.std.specs.Prelude.{◌≡◌, ℕ, ◌+◌, ◌-◌, List}
 use Rattle.pytree_node.specs.Trees.{Expr}
 use Rattle.pytoken.specs.Terminals.{Terminal}
-use Rattle.pygrammar.specs.declared.levels.Level.{Level}
 use Rattle.pygrammar.specs.declared.levels.Level.TheVariants as level
 use Rattle.pygrammar.specs.Precedence.{prefix_from}
 use Rattle.pygrammar.specs.Reader.{Answer, Reads, on_first, prefixed}
 use Rattle.pygrammar.specs.Capped.{cap, capped, capped_step}
-use Rattle.pyparse_nodes.specs.declared.stop.Stop.{Stop}
-use Rattle.pyparse_nodes.specs.Answers.{Failed}
 use Rattle.pyparse_expr.specs.declared.depth.Depth.{Depth}
 use Rattle.pyparse_expr.specs.Readings.{reads}
 
@@ -22,15 +19,6 @@ same_reads d = capped (d.steps - 1) d.room
 -- one level, where there are steps and room
 abbrev pub level_at : Depth → Reads
 level_at d l i = cap d.room (capped_step d.room (reads d) (same_reads d) (inner_reads d) l i)
-
--- there are steps and room
-pub record IsOpen (d : Depth) : Type 0 where
-  pub steps : 0 < d.steps
-  pub room : 0 < d.room
-
--- nothing is read at this depth
-pub record IsShut (d : Depth) (s : Stop) : Type 0 where
-  pub reads_nothing : (l : Level) (i : List Terminal) → Failed s (reads d l i)
 
 -- the parts of an expression of this depth have that one
 pub record IsOuter (outer d : Depth) : Type 0 where

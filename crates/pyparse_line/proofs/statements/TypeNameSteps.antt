@@ -1,11 +1,7 @@
--- The name `type`, and where a statement `type` begins.
+-- Where a statement `type` begins.
 --
--- Carries: spells_type, is_type, type_name_at. On: LineReader.
-use Rattle.std.proofs.Common.{◌≡◌, refl, sym, ap, ◌∙◌, subst, arith, inl, inr, ℕ, ◌+◌, ◌<◌, List, codes, Option, Some, None, true, false, length, is_some}
-use Rattle.std.specs.Str.{bytes_eq, chars, encode_utf8_all, IsUtf8}
-use Rattle.std.proofs.lemmas.Bool.{both_ways, cases_Bool, false_from_ne_true}
-use Rattle.std.proofs.lemmas.Slice.Eq.{bytes_eq-Decides}
-use Rattle.std.proofs.lemmas.Str.{encodes-chars, encodes_same}
+-- Carries: is_type, type_name_at. On: LineReader.
+use Rattle.std.proofs.Common.{◌≡◌, refl, sym, ap, ◌∙◌, subst, arith, ℕ, ◌+◌, ◌<◌, List, Option, Some, None, true, false, length, is_some}
 use Rattle.pytree_node.specs.declared.profiles.Version.{Version}
 use Rattle.pytree_node.specs.declared.profiles.Version.TheVariants.{Py311, Py312}
 use Rattle.pytree_node.specs.declared.profiles.Profile.{Profile}
@@ -13,7 +9,6 @@ use Rattle.pytree_node.specs.Profiles.{plain_312, python}
 use Rattle.pytree_node.specs.Trees.{Identifier, Stmt}
 use Rattle.pytoken.specs.Terminals.{Terminal}
 use Rattle.pytoken.specs.declared.values.terminals.Terminal as given
-use Rattle.pygrammar.specs.Forms.{type_name}
 use Rattle.pygrammar.specs.LineReader.{is_type, on_type}
 use Rattle.pygrammar.specs.Looks.{name_in}
 use Rattle.pygrammar.specs.Reader.{Answer, on_first}
@@ -21,23 +16,6 @@ use Rattle.pyparse_nodes.specs.Views.{first_is, seen}
 use Rattle.pyparse_expr.proofs.Callers.Looks.{first_hit, first_miss, seen_next}
 use Rattle.pyparse_line.specs.Inner.Types.{HasNoTypeName, HasTypeName}
 use Rattle.pyparse_line.proofs.statements.Callers.Parts.{name_next}
-
-name_encoded : encode_utf8_all type_name ≡ codes "type"
-unfolding lib.Utf8.encode
-name_encoded = refl
-
--- a text is that name by its bytes where it is by its characters
-same_type : (x s : List ℕ) → s ≡ encode_utf8_all x → bytes_eq s (codes "type") ≡ bytes_eq x type_name
-same_type x s e = elim (cases_Bool (bytes_eq x type_name)) [
-  | inl same ↦ (bytes_eq-Decides s (codes "type")).1 (e ∙ ap encode_utf8_all ((bytes_eq-Decides x type_name).0 same) ∙ name_encoded) ∙ sym same
-  | inr other ↦
-      false_from_ne_true (bytes_eq s (codes "type")) (λ same.
-      let is : encode_utf8_all x ≡ encode_utf8_all type_name = sym e ∙ (bytes_eq-Decides s (codes "type")).0 same ∙ sym name_encoded in
-      both_ways (bytes_eq x type_name) other ((bytes_eq-Decides x type_name).1 (encodes_same x type_name is))) ∙ sym other
-]
-
-pub spelt_type : (bs : List ℕ) → IsUtf8 bs → bytes_eq bs (codes "type") ≡ bytes_eq (chars bs) type_name
-spelt_type bs u = same_type (chars bs) bs (sym (encodes-chars bs u))
 
 -- a version without types has none
 pub no_types : (profile : Profile) (ts : List given.Terminal) (at : ℕ) → profile.version ≡ Py311 → HasNoTypeName profile ts at

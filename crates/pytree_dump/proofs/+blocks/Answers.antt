@@ -1,12 +1,15 @@
 use Rattle.std.specs.Prelude.{decimal}
-use Rattle.std.proofs.Common.{◌≡◌, ◌+◌, true, arith, refl, sym, map, ◌∙◌, codes}
-use Rattle.pytree_node.specs.TreeOf.{alias_of, arguments_of, boxed_of, handler_of, item_of, keyword_of, option_of, stmt_of, tree_of, type_param_of}
-use Rattle.pytree_dump_text.specs.Shows.{Fields, Node, Scalar, a_field, expr_field, left_out, name_field, no_field, shown, shown_alias, shown_arguments, shown_flag, shown_item, shown_keyword, shown_name, shown_stmt, type_params_field}
-use Rattle.pytree_dump_text.specs.Layout.{shown_count}
-use Rattle.pytree_dump_text.specs.Blocks.{listed, shown_block, shown_caught, shown_handler}
+use Rattle.std.proofs.Common.{◌≡◌, ◌+◌, ◌++◌, true, arith, refl, sym, map, ◌∙◌, codes}
+use Rattle.std.specs.String.{string_bytes}
+use Rattle.pytree_node.specs.TreeOf.{alias_of, arguments_of, boxed_of, case_of, handler_of, item_of, keyword_of, option_of, pattern_of, stmt_of, tree_of, type_param_of}
+use Rattle.pytree_dump_text.specs.Shows.{Fields, Node, Scalar, a_field, expr_field, left_out, name_field, no_field, shown, shown_alias, shown_arguments, shown_flag, shown_item, shown_keyword, shown_name, shown_pattern, shown_stmt, type_params_field}
+use Rattle.pytree_dump_text.specs.Layout.{before, is_flat, shown_count}
+use Rattle.pytree_dump_text.specs.Blocks.{listed, shown_block, shown_case, shown_caught, shown_handler, shown_matched}
 use Rattle.pytree_dump_text.specs.Slots.{slot_of, with_slot}
 use Rattle.pytree_dump.proofs.RowLemmas.{aliases_row, boxed_field, exprs_row, items_row, keywords_row, member_weight, names_row, type_params_row}
-use Rattle.pytree_dump.proofs.BlockLemmas.{ahead, ahead_as, at_end, handler_shows, handler_weighs, long_node, node_shown, stmts_row, text_as}
+use Rattle.pytree_dump.proofs.BlockLemmas.{ahead, ahead_as, at_end, case_shows, case_weighs, handler_shows, handler_weighs, long_node, node_shown, stmts_row, text_as}
+use Rattle.pytree_dump.proofs.TextLemmas.{left, member_shown}
+use Rattle.pytree_node.specs.declared.statements.Case as given_case
 use Rattle.pytree_node.specs.declared.statements.Handler as given_handler
 use Rattle.pytree_node.proofs.Callers.StmtShapes.{ann_assign_tree, assert_tree, assign_tree, async_function_def_tree, async_with_tree, aug_assign_tree, class_def_tree, delete_tree, expr_stmt_tree, function_def_tree, global_tree, if_tree, import_from_tree, import_tree, nonlocal_tree, raise_tree, return_tree, type_alias_tree, while_tree, with_tree}
 use Rattle.pytree_dump.proofs.+blocks.Goals as goal
@@ -18,6 +21,20 @@ statements::show_stmts-show_stmt-requires t c =
 pub handlers::show_handlers-show_handler-requires : goal.handlers::show_handlers-show_handler-requires
 handlers::show_handlers-show_handler-requires t c =
     let h : _ = member_weight (λ h. shown_handler c.args.style.profile (handler_of h)) _ _ _ c.loop-h-test.true c.h-item.is in (omega (arith, h), tt)
+
+pub cases::show_cases-show_case-requires : goal.cases::show_cases-show_case-requires
+cases::show_cases-show_case-requires t c =
+    let h : _ = member_weight (λ k. shown_case c.args.style.profile (case_of k)) _ _ _ c.loop-case-test.true c.case-item.is in (omega (arith, h), tt)
+
+pub cases::show_cases-loop-case-preserved : goal.cases::show_cases-loop-case-preserved
+cases::show_cases-loop-case-preserved t c = record {
+  text =
+      let e1 : string_bytes c.push_before.new.out ≡ string_bytes c.loop-case.out ++ before (is_flat c.args.style.indent) (string_bytes c.loop-case.indentation) c.loop-case.first =
+      c.in_ok-push_before.ensures ∙ (λ i. string_bytes c.loop-case.out ++ before (c.is_flat.ensures i) (c.as_str.ensures.value i) c.loop-case.first) in
+      member_shown (λ k. shown_case c.args.style.profile (case_of k)) _ _ _ c.args.style _ _ _ _ _ _ _ c.loop-case-test.true c.case-item.is c.loop-case.invariant.indentation c.loop-case.invariant.text
+      e1 c.in_ok-show_case.ensures.text;
+  indentation = c.in_ok-show_case.ensures.indentation ∙ c.loop-case.invariant.indentation;
+}
 
 pub compounds::show_test-returns-clause-text : goal.compounds::show_test-returns-clause-text
 compounds::show_test-returns-clause-text t c =
@@ -121,6 +138,37 @@ handlers::show_handler-returns-clause-text t c =
 pub handlers::show_handler-show_block-requires : goal.handlers::show_handler-show_block-requires
 handlers::show_handler-show_block-requires t c =
     let h : _ = handler_weighs c.args.style.profile c.args.h.now c.deref-body.result.now c.deref-body.ensures.value in (omega (arith, h), tt)
+
+pub cases::show_match-returns-clause-text : goal.cases::show_match-returns-clause-text
+cases::show_match-returns-clause-text t c =
+    let s = c.args.style in
+    let r1 : Fields = a_field (codes "cases") (shown_matched s.profile c.args.cases.now) no_field in
+    let r0 : Fields = a_field (codes "subject") (shown (tree_of c.args.subject.now)) r1 in
+    node_shown s _ _ _ r0 _ _ _ _ _ c.in_ok-outer.ensures.indentation c.is_short_match.ensures c.in_ok-outer.ensures.text
+    (ahead s _ _ _ _ _ _ _ _ _ _ _ r0 r1 c.in_ok-told.ensures.indentation (c.in_ok-told.ensures.text r1)
+    (at_end _ _ (c.in_ok-show_matched.ensures.text no_field))) c.in_ok-close.ensures.text
+
+pub cases::show_case-returns-clause-text : goal.cases::show_case-returns-clause-text
+cases::show_case-returns-clause-text t c =
+    let s = c.args.style in
+    let case = c.args.case.now in
+    let body = c.deref-body.result.now in
+    let r2 : Fields = a_field (codes "body") (shown_block s.profile body) no_field in
+    let r1 : Fields = expr_field (codes "guard") (option_of (given_case.out-Case case).guard) r2 in
+    let r0 : Fields = a_field (codes "pattern") (shown_pattern (pattern_of (given_case.out-Case case).pattern)) r1 in
+    text_as s _ _ _ (Node (codes "match_case") r0) _ (case_shows s.profile case body c.deref-body.ensures.value)
+    (node_shown s _ _ _ r0 _ _ _ _ _ c.in_ok-outer.ensures.indentation c.is_short_case.ensures c.in_ok-outer.ensures.text
+    (ahead s _ _ _ _ _ _ _ _ _ _ _ r0 r1 c.in_ok-told.ensures.indentation (c.in_ok-told.ensures.text r1)
+    (ahead_as s _ _ _ _ _ _ _ _ _ _ _ r1 _ r2 (c.option_part.ensures r2) c.in_ok-told-2.ensures.indentation (c.in_ok-told-2.ensures.text r2)
+    (at_end _ _ (c.in_ok-show_block.ensures.text no_field)))) c.in_ok-close.ensures.text)
+
+pub cases::show_case-returns-clause-indentation : goal.cases::show_case-returns-clause-indentation
+cases::show_case-returns-clause-indentation t c = left c.args.style.indent _ _ _ _ c.in_ok-outer.ensures.len
+    (c.in_ok-show_block.ensures.indentation ∙ c.in_ok-told-2.ensures.indentation ∙ c.in_ok-told.ensures.indentation ∙ c.in_ok-outer.ensures.indentation) c.close.ensures.indentation
+
+pub cases::show_case-show_block-requires : goal.cases::show_case-show_block-requires
+cases::show_case-show_block-requires t c =
+    let h : _ = case_weighs c.args.style.profile c.args.case.now c.deref-body.result.now c.deref-body.ensures.value in (omega (arith, h), tt)
 
 pub statements::show_stmt-returns-in-FunctionDef-clause-text : goal.statements::show_stmt-returns-in-FunctionDef-clause-text
 statements::show_stmt-returns-in-FunctionDef-clause-text t c =

@@ -1,9 +1,9 @@
 use Rattle.std.proofs.Common.{◌≡◌, ◌+◌, ◌*◌, ◌++◌, true, map, drop}
 use Rattle.std.specs.String.{string_bytes}
-use Rattle.pytree_node.specs.TreeOf.{handler_of, stmt_of}
+use Rattle.pytree_node.specs.TreeOf.{case_of, handler_of, stmt_of}
 use Rattle.pytree_dump_text.specs.Layout.{members}
 use Rattle.pytree_dump_text.specs.Shows.{shown_stmt, showns}
-use Rattle.pytree_dump_text.specs.Blocks.{shown_block, shown_caught, shown_handler}
+use Rattle.pytree_dump_text.specs.Blocks.{shown_block, shown_case, shown_caught, shown_handler, shown_matched}
 use Rattle.pytree_dump.specs.Inner.Weights.{weight}
 use Rattle.pytree_dump.proofs.+blocks.Given as goal
 
@@ -57,3 +57,22 @@ invariant-handlers::show_handlers-loop-h l = record {
 
 abbrev pub decreases-handlers::show_handler : goal.decreases-handlers::show_handler
 decreases-handlers::show_handler l = 4 * weight (shown_handler l.style.profile (handler_of l.h.now))
+
+abbrev pub decreases-cases::show_match : goal.decreases-cases::show_match
+decreases-cases::show_match l = 4 * weight (shown_matched l.style.profile l.cases.now) + 2
+
+abbrev pub decreases-cases::show_matched : goal.decreases-cases::show_matched
+decreases-cases::show_matched l = 4 * weight (shown_matched l.style.profile l.cases.now) + 1
+
+abbrev pub decreases-cases::show_cases : goal.decreases-cases::show_cases
+decreases-cases::show_cases l = 4 * weight (shown_matched l.style.profile l.cases.now)
+
+abbrev pub invariant-cases::show_cases-loop-case : goal.invariant-cases::show_cases-loop-case
+invariant-cases::show_cases-loop-case l = record {
+  text : string_bytes l.out ++ members l.style (string_bytes l.initial.indentation) l.first (showns (map (λ c. shown_case l.style.profile (case_of c)) (drop l.case-index l.cases)))
+      ≡ string_bytes l.initial.out ++ members l.style (string_bytes l.initial.indentation) true (showns (map (λ c. shown_case l.style.profile (case_of c)) l.cases));
+  indentation : string_bytes l.indentation ≡ string_bytes l.initial.indentation;
+}
+
+abbrev pub decreases-cases::show_case : goal.decreases-cases::show_case
+decreases-cases::show_case l = 4 * weight (shown_case l.style.profile (case_of l.case.now))

@@ -1,28 +1,23 @@
 -- Carries: the laws by tokens. On: expressions and modules fit exactly where some tokens are these.
-use Rattle.std.proofs.Common.{◌≡◌, refl, sym, ap, subst, ◌∙◌, ℕ, List, [], ◌∷◌, None, Bool, true, false, get_or}
+use Rattle.std.proofs.Common.{◌≡◌, refl, sym, ap, subst, ◌∙◌, ℕ, List, [], ◌∷◌, Bool, true, false}
 use Rattle.std.specs.Prelude.{◌==◌, not, map}
 use Rattle.std.specs.List.{list_all}
-use Rattle.std.specs.Char.{is_ascii}
-use Rattle.std.proofs.lemmas.Bool.{and_parts, and_from, both_ways, eqb-true, ltb-true}
-use Rattle.std.proofs.lemmas.List.Recursion.{and_at}
+use Rattle.std.proofs.lemmas.Bool.{and_parts, and_from, both_ways, eqb-true}
 use Rattle.unicode_ident.proofs.Computing.{unicode_ident}
 use Rattle.unicode_ident.specs.Ident.{is_xid_continue}
-use Rattle.unicode_normalization.specs.Forms.{Nfkc, nfkc}
-use Rattle.unicode_normalization.proofs.FormsLemmas.{normalize-ascii}
 use Rattle.pylex_lexeme.specs.Chars.{starts_name}
 use Rattle.pylex_lexeme.specs.Lexemes as Lexemes
 use Rattle.pytree_node.specs.declared.profiles.Extent.{Extent}
 use Rattle.pytree_node.specs.declared.profiles.Profile.{Profile}
 use Rattle.pytree_node.specs.Trees.{Identifier, Expr, Module, stmts}
-use Rattle.pytoken.specs.Keywords.{keywords, keyword_of}
 use Rattle.pytoken.specs.Terminals.{terminal_of}
 use Rattle.pytoken.specs.Tokens.{Token}
 use Rattle.pytoken.specs.Tokens as Tokens
 use Rattle.pygrammar.specs.declared.levels.Level.{Level}
 use Rattle.pygrammar.specs.Grammar.{Derives}
 use Rattle.pygrammar.specs.Lines.{Line}
-use Rattle.pygrammar.specs.Forms.{FormOf, type_name}
-use Rattle.pygrammar.specs.Blocks.{Block}
+use Rattle.pygrammar.specs.Forms.{FormAt}
+use Rattle.pygrammar.specs.Blocks.{Block, stands_in_match}
 use Rattle.pytree_fits.specs.Names.{is_name}
 use Rattle.pytree_fits.specs.Tests.{tests_in}
 use Rattle.pytree_fits.specs.Slots.{fits_at}
@@ -34,8 +29,9 @@ use Rattle.pytree_fits.proofs.Fitting.Fits.{slots}
 use Rattle.pytree_fits.proofs.Giving.Gives.{made}
 use Rattle.pytree_fits.proofs.Fields.Dots.{is_other}
 use Rattle.pytree_fits.proofs.Fitting.BlockFits.{block_fits, given_fit}
-use Rattle.pytree_fits.proofs.Giving.BlockGives.{of_stmts_back, drawn_all}
-use Rattle.pytree_fits.proofs.Exactness.Tokens.{proper, proper_name, tokens_pass, all_written}
+use Rattle.pytree_fits.proofs.Giving.BlockGives.{Words, of_stmts_back, drawn_all}
+use Rattle.pytree_fits.proofs.Exactness.Tokens.{proper, tokens_pass, all_written}
+use Rattle.pytree_fits.proofs.Exactness.Words.{type_is_name, match_is_name, case_is_name}
 
 -- ---- A name holds no dot.
 
@@ -70,31 +66,18 @@ lexeme_undotted (c ∷ cs) h =
 pub undotted : (x : Identifier) → is_name x ≡ true → list_all is_other x ≡ true
 undotted x h = lexeme_undotted x (proper x h).name
 
--- ---- `type` is a name.
-
-type_named : Lexemes.is_name type_name ≡ true
-unfolding unicode_ident Lexemes.is_name
-type_named = refl
-
-type_free : keyword_of type_name ≡ None
-unfolding keywords keyword_of
-type_free = refl
-
-type_form : nfkc type_name ≡ type_name
-type_form = normalize-ascii Nfkc type_name (λ i d within. ltb-true (get_or type_name i d) 128 (and_at (list_all is_ascii) is_ascii refl (λ x xs. refl) type_name i d within refl))
-
-pub type_is_name : is_name type_name ≡ true
-type_is_name = proper_name type_name (record { name = type_named; free = type_free; form = type_form })
-
 -- ---- Modules by terminals.
+
+words : (extent : Extent) → Words (tests_in extent)
+words extent = record { typed = type_is_name; matched = match_is_name; cased = case_is_name }
 
 pub module_exactly : (profile : Profile) (extent : Extent) (m : Module) → GivenModule profile (tests_in extent) m → module_fits profile (tests_in extent) m ≡ true
 module_exactly profile extent m w = block_fits profile (tests_in extent) w.2 (given_fit profile (tests_in extent) undotted w.1)
 
-module_as_spelled : (profile : Profile) (extent : Extent) (m : Module) → module_fits profile (tests_in extent) m ≡ true → (xs : List Line) × AreGivenAsSpelled profile (tests_in extent) xs × Block 0 xs m.body
+module_as_spelled : (profile : Profile) (extent : Extent) (m : Module) → module_fits profile (tests_in extent) m ≡ true → (xs : List Line) × AreGivenAsSpelled profile (tests_in extent) [] xs × Block 0 xs m.body
 module_as_spelled profile extent m h =
-    let d = drawn_all profile (tests_in extent) type_is_name 0 (stmts m.body) h in
-    (d.lines, d.given, subst (Block 0 d.lines) (of_stmts_back m.body) d.is)
+    let d = drawn_all profile (tests_in extent) (words extent) 0 (stmts m.body) h in
+    (d.lines, d.given.given [] refl, subst (Block 0 d.lines) (of_stmts_back m.body) d.is)
 
 pub module_given : (profile : Profile) (extent : Extent) (m : Module) → module_fits profile (tests_in extent) m ≡ true → GivenModule profile (tests_in extent) m
 module_given profile extent m h = let w = module_as_spelled profile extent m h in (w.0, lines_given (tests_in extent) w.1, w.2)
@@ -113,21 +96,21 @@ fits_expressed extent l e h =
 pub expressions_fit_exactly : ExpressionsFitExactly
 expressions_fit_exactly extent l e = (expressed_fits extent l e, fits_expressed extent l e)
 
-forms_given : {profile : Profile} {xs : List Tokens.Line} {ys : List Line} → HaveForms profile xs ys → AreGiven profile (tests_in profile.extent) ys
+forms_given : {profile : Profile} {earlier : List Line} {xs : List Tokens.Line} {ys : List Line} → HaveForms profile earlier xs ys → AreGiven profile (tests_in profile.extent) earlier ys
 forms_given no_form = no_line
 forms_given (a_form {x = x} s f r) = a_line (map (λ (t : Token). terminal_of t.kind t.text) x.tokens, tokens_pass x.tokens s, f) (forms_given r)
 
-record Tokened (profile : Profile) (ys : List Line) : Type 0 where
+record Tokened (profile : Profile) (earlier ys : List Line) : Type 0 where
   lines : List Tokens.Line
-  formed : HaveForms profile lines ys
+  formed : HaveForms profile earlier lines ys
 
-tokened : {profile : Profile} {ys : List Line} → AreGivenAsSpelled profile (tests_in profile.extent) ys → Tokened profile ys
+tokened : {profile : Profile} {earlier ys : List Line} → AreGivenAsSpelled profile (tests_in profile.extent) earlier ys → Tokened profile earlier ys
 tokened none_spelled = record { lines = []; formed = no_form }
-tokened {profile} (one_spelled {x = y} w r) =
+tokened {profile} {earlier} (one_spelled {x = y} w r) =
     let t = all_written profile.extent w.0 w.1 in
     let k = tokened r in
     let x : Tokens.Line = record { level = y.level; tokens = t.tokens } in
-    record { lines = x ∷ k.lines; formed = a_form {x = x} t.sound (subst (λ z. FormOf profile z y.form) (sym t.terminals) w.2) k.formed }
+    record { lines = x ∷ k.lines; formed = a_form {x = x} t.sound (subst (λ z. FormAt profile (stands_in_match y.level earlier) z y.form) (sym t.terminals) w.2) k.formed }
 
 stated_fits : (profile : Profile) (m : Module) → Stated profile m → module_fits profile (tests_in profile.extent) m ≡ true
 stated_fits profile m s = module_exactly profile profile.extent m (s.forms, forms_given s.formed, s.block)

@@ -1,6 +1,6 @@
 -- Carries: the laws by tokens. On: a number has no fault in an extent exactly where its value is
 -- one of the extent.
-use Rattle.std.proofs.Common.{◌≡◌, refl, sym, subst, ap, ◌∙◌, ℕ, ◌<◌, ◌≤◌, ◌+◌, arith, List, Option, Some, None, Bool, true, false}
+use Rattle.std.proofs.Common.{◌≡◌, refl, sym, subst, ℕ, ◌<◌, ◌≤◌, arith, List, Option, Some, None, Bool, true, false}
 use Rattle.std.specs.Prelude.{◌^◌, ◌||◌, nat_le, nat_lt, if◌then◌else◌}
 use Rattle.std.specs.Str.{encode_utf8_all}
 use Rattle.std.specs.Float.Ieee as ieee

@@ -12,23 +12,25 @@ use Rattle.pytree_node.specs.declared.profiles.Version.TheVariants.{Py312}
 use Rattle.pytree_node.specs.declared.profiles.Profile.{Profile}
 use Rattle.pytree_node.specs.Profiles.{python, has_types}
 use Rattle.pytree_node.specs.Trees
-use Rattle.pytree_node.specs.Trees.{exprs, optional, Stmt, Stmts, no_stmt, a_stmt, stmts, Handlers, no_handler, a_handler, TypeParam}
+use Rattle.pytree_node.specs.Trees.{exprs, optional, Stmt, Stmts, no_stmt, a_stmt, stmts, Cases, no_case, a_case, Handlers, no_handler, a_handler, TypeParam}
 use Rattle.pytree_node.specs.Values
 use Rattle.pytree_node.specs.Values.{Value, Int, Float, Imaginary}
 use Rattle.pytoken.specs.Terminals.{Terminal, Op, Word, Ident, Number, Literal, Layout}
 use Rattle.pygrammar.specs.declared.levels.Level.TheVariants.{Stars, Expression, Elem}
+use Rattle.pygrammar.specs.declared.pattern_levels.PatternLevel.TheVariants.{AsPattern}
 use Rattle.pygrammar.specs.Grammar.{Derives}
 use Rattle.pygrammar.specs.Lines.{Line, no_types}
-use Rattle.pygrammar.specs.Forms.{FormOf}
+use Rattle.pygrammar.specs.Forms.{FormAt, is_whole}
+use Rattle.pygrammar.specs.Blocks.{stands_in_match}
 use Rattle.pytree_fits.specs.Tests.{Tests, tests_in}
 use Rattle.pytree_fits.specs.Literals.{is_value}
 use Rattle.pytree_fits.specs.Slots.{is_a_name, fits_at, fits_target, each_fits, perhaps_fits, each_keyword_fits, fits_arguments}
-use Rattle.pytree_fits.specs.Statements.{has_one, item_fits, type_param_fits, types_fit, caught_fits, clauses_fit, statement_fits, statements_fit, suite_fits, handlers_fit}
+use Rattle.pytree_fits.specs.PatternSlots.{pattern_fits_at}
+use Rattle.pytree_fits.specs.Statements.{has_one, has_case, item_fits, type_param_fits, types_fit, caught_fits, clauses_fit, statement_fits, statements_fit, suite_fits, cases_fit, handlers_fit}
 use Rattle.pytree_fits.specs.Given.{is_number, is_literal, passes, all_pass, Given, AreGiven, no_line, a_line}
 use Rattle.pytree_fits.specs.Laws.{ExpressionsStay, ModulesStay}
-use Rattle.pytree_fits.proofs.Fields.Tests.{never}
+use Rattle.pytree_fits.proofs.Fields.Tests.{never, parts4, parts5, from4}
 use Rattle.pytree_fits.proofs.Fitting.FormFits.{from5}
-use Rattle.pytree_fits.proofs.Giving.BlockGives.{parts5}
 use Rattle.pytree_fits.proofs.Exactness.Exactly.{fits_exactly}
 use Rattle.pytree_fits.proofs.Exactness.NumberTokens.{in_whole}
 use Rattle.pytree_fits.proofs.Exactness.Modules.{module_exactly, module_given}
@@ -68,9 +70,9 @@ terminals_stay extent (t ∷ ts) h =
 given_stays : {A : Type 0} (r : List Terminal → A → Type 0) (a : A) (extent : Extent) → Given (tests_in extent) r a → Given (tests_in Whole) r a
 given_stays r a extent w = (w.0, terminals_stay extent w.0 w.1, w.2)
 
-lines_stay : (profile : Profile) (extent : Extent) {xs : List Line} → AreGiven profile (tests_in extent) xs → AreGiven profile (tests_in Whole) xs
+lines_stay : (profile : Profile) (extent : Extent) {earlier xs : List Line} → AreGiven profile (tests_in extent) earlier xs → AreGiven profile (tests_in Whole) earlier xs
 lines_stay profile extent no_line = no_line
-lines_stay profile extent (a_line {x = x} w r) = a_line (given_stays (FormOf profile) x.form extent w) (lines_stay profile extent r)
+lines_stay profile extent {earlier} (a_line {x = x} w r) = a_line (given_stays (FormAt profile (stands_in_match x.level earlier)) x.form extent w) (lines_stay profile extent r)
 
 pub expressions_stay : ExpressionsStay
 expressions_stay extent l e h = (fits_exactly (tests_in Whole) l e).0 (given_stays (Derives l) e extent ((fits_exactly (tests_in extent) l e).1 h))
@@ -84,7 +86,7 @@ last x {y} {z} f h = let p = and_parts x y h in and_from x z p.0 (f p.1)
 both : {x y z w : Bool} → (x ≡ true → y ≡ true) → (z ≡ true → w ≡ true) → (x && z) ≡ true → (y && w) ≡ true
 both {x} {y} {z} {w} f g h = let p = and_parts x z h in and_from y w (f p.0) (g p.1)
 
-module _ (p q : Profile) (n : Tests) (more : has_types p ≡ true → has_types q ≡ true) where
+module _ (p q : Profile) (n : Tests) (more : has_types p ≡ true → has_types q ≡ true) (whole : is_whole p.extent ≡ true → is_whole q.extent ≡ true) where
   types_stay : (ps : List TypeParam) → types_fit p n ps ≡ true → types_fit q n ps ≡ true
   types_stay ps = both (by (no_types ps)) (λ (h : list_all (type_param_fits n) ps ≡ true). h)
     where
@@ -109,6 +111,9 @@ module _ (p q : Profile) (n : Tests) (more : has_types p ≡ true → has_types 
     statement_stays (Trees.If test body orelse) h = both (last (fits_at n Expression test) (suite_stays body)) (statements_stay orelse) h
     statement_stays (Trees.With is body) h = last (has_one is && list_all (item_fits n) is) (suite_stays body) h
     statement_stays (Trees.AsyncWith is body) h = last (has_one is && list_all (item_fits n) is) (suite_stays body) h
+    statement_stays (Trees.Match e cs) h =
+        let w = parts4 (is_whole p.extent) (has_case cs) (fits_at n Expression e) (cases_fit p n cs) h in
+        from4 (is_whole q.extent) (has_case cs) (fits_at n Expression e) (cases_fit q n cs) (whole w.0) w.1 w.2 (cases_stay cs w.3)
     statement_stays (Trees.Try body hs orelse final) h =
         both (both (both (last (clauses_fit false hs orelse final) (suite_stays body)) (handlers_stay false hs)) (statements_stay orelse)) (statements_stay final) h
     statement_stays (Trees.TryStar body hs orelse final) h =
@@ -137,6 +142,10 @@ module _ (p q : Profile) (n : Tests) (more : has_types p ≡ true → has_types 
     suite_stays no_stmt h = h
     suite_stays (a_stmt s ss) h = both (statement_stays s) (statements_stay ss) h
 
+    cases_stay : (cs : Cases) → cases_fit p n cs ≡ true → cases_fit q n cs ≡ true
+    cases_stay no_case h = refl
+    cases_stay (a_case pattern guard body cs) h = both (last (pattern_fits_at n AsPattern pattern && perhaps_fits n Expression (optional guard)) (suite_stays body)) (cases_stay cs) h
+
     handlers_stay : (star : Bool) (hs : Handlers) → handlers_fit p n star hs ≡ true → handlers_fit q n star hs ≡ true
     handlers_stay star no_handler h = refl
     handlers_stay star (a_handler class name body hs) h = both (last (caught_fits n star class name) (suite_stays body)) (handlers_stay star hs) h
@@ -146,5 +155,5 @@ module _ (p q : Profile) (n : Tests) (more : has_types p ≡ true → has_types 
 pub modules_stay : ModulesStay
 modules_stay profile m h =
     let latest = python Py312 Whole in
-    let w = module_given latest profile.extent m (statements_stay profile latest (tests_in profile.extent) (λ t. refl) (stmts m.body) h) in
+    let w = module_given latest profile.extent m (statements_stay profile latest (tests_in profile.extent) (λ t. refl) (λ t. refl) (stmts m.body) h) in
     module_exactly latest Whole m (w.0, lines_stay latest profile.extent w.1, w.2)

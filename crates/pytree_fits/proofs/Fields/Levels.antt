@@ -11,13 +11,13 @@ use Rattle.pytree_node.specs.Trees
 use Rattle.pytree_node.specs.Trees.{Expr, Exprs, no_exprs, an_expr}
 use Rattle.pytoken.specs.Terminals.{Terminal}
 use Rattle.pygrammar.specs.declared.levels.Level.{Level}
-use Rattle.pygrammar.specs.declared.levels.Level.TheVariants.{Value, Stars, StarItem, Expression, Not, BitOr, BitXor, BitAnd, Shift, Sum, Term, Factor, Elem, Slices, Part, Slice}
+use Rattle.pygrammar.specs.declared.levels.Level.TheVariants.{Value, Stars, StarItem, Expression, Not, BitOr, BitXor, BitAnd, Shift, Sum, Term, Factor, Elem, Slices, Part, Slice, Subject}
 use Rattle.pygrammar.specs.Operators.{below, left_operator, prefix_operator, chain_level}
 use Rattle.pytree_fits.specs.Tests.{Tests}
 use Rattle.pytree_fits.specs.Slots.{takes_star, takes_slice, member_level, is_context, fits_at, each_fits, perhaps_fits}
 use Rattle.pytree_fits.proofs.Fields.Tests.{parts3, from3, parts4, from4}
 
--- the levels that take neither a Starred nor a Slice
+-- the levels that take neither a Starred nor a Slice, nor a Tuple without brackets
 abbrev pub inner : Level → Bool
 inner Value = false
 inner Stars = false
@@ -26,6 +26,7 @@ inner Elem = false
 inner Slices = false
 inner Part = false
 inner Slice = false
+inner Subject = false
 inner _ = true
 
 pub star_below : (l : Level) → takes_star (below l) ≡ true → takes_star l ≡ true
@@ -119,6 +120,12 @@ module _ (n : Tests) where
 
   pub plain : (l : Level) (e : Expr) → inner l ≡ true → fits_at n l e ≡ true → fits_at n Expression e ≡ true
   plain l e i h = anywhere l Expression e i h
+
+  -- the subject of a `match` is what fits at Expression, without brackets where that is a Tuple
+  pub subject_plain : (e : Expr) → fits_at n Subject e ≡ true → fits_at n Expression e ≡ true
+  subject_plain (Trees.Starred e c) h = absurd (cc)
+  subject_plain (Trees.Slice a b c) h = absurd (cc)
+  subject_plain _ h = h
 
   pub stars_elem : (e : Expr) → fits_at n Stars e ≡ true → fits_at n Elem e ≡ true
   stars_elem (Trees.Starred e c) h = h

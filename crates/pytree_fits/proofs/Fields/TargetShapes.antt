@@ -1,5 +1,5 @@
 -- Carries: the laws of the slots. On: what fits as a value fits as the target that it is stored as.
-use Rattle.std.proofs.Common.{◌≡◌, refl, subst, Some, Bool, true}
+use Rattle.std.proofs.Common.{◌≡◌, refl, subst, Some, true}
 use Rattle.std.specs.Prelude.{not, ◌&&◌}
 use Rattle.std.proofs.lemmas.Bool.{and_parts, and_from}
 use Rattle.pytree_node.specs.declared.operators.Context.TheVariants.{Load, Store, Del}

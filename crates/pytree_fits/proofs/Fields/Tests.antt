@@ -21,7 +21,7 @@ use Rattle.pytree_fits.specs.Literals.{is_value}
 use Rattle.pytree_fits.specs.Slots.{is_context}
 use Rattle.pytree_fits.specs.Given.{is_literal, passes, all_pass}
 
--- ---- Three and four tests.
+-- ---- Three tests and more.
 
 pub parts3 : (x y z : Bool) → (x && y && z) ≡ true → (x ≡ true) × (y ≡ true) × (z ≡ true)
 parts3 true y z h = let w = and_parts y z h in (refl, w.0, w.1)
@@ -38,6 +38,14 @@ parts4 false y z u h = absurd (cc)
 pub from4 : (x y z u : Bool) → x ≡ true → y ≡ true → z ≡ true → u ≡ true → (x && y && z && u) ≡ true
 from4 true y z u p q r t = from3 y z u q r t
 from4 false y z u p q r t = absurd (cc)
+
+pub parts5 : (x y z u v : Bool) → (x && y && z && u && v) ≡ true → (x ≡ true) × (y ≡ true) × (z ≡ true) × (u ≡ true) × (v ≡ true)
+parts5 true y z u v h = let w = parts4 y z u v h in (refl, w.0, w.1, w.2, w.3)
+parts5 false y z u v h = absurd (cc)
+
+pub parts6 : (x y z u v w : Bool) → (x && y && z && u && v && w) ≡ true → (x ≡ true) × (y ≡ true) × (z ≡ true) × (u ≡ true) × (v ≡ true) × (w ≡ true)
+parts6 true y z u v w h = let o = parts5 y z u v w h in (refl, o.0, o.1, o.2, o.3, o.4)
+parts6 false y z u v w h = absurd (cc)
 
 pub not_true : (b : Bool) → not b ≡ true → b ≡ false
 not_true true h = absurd (cc)

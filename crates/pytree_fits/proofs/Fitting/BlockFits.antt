@@ -5,17 +5,20 @@ use Rattle.std.specs.List.{list_all}
 use Rattle.std.proofs.lemmas.Bool.{and_parts, and_from}
 use Rattle.pytree_node.specs.declared.operators.Context.TheVariants.{Store}
 use Rattle.pytree_node.specs.declared.profiles.Profile.{Profile}
-use Rattle.pytree_node.specs.Trees.{Identifier, Expr, exprs, optional, Stmt, stmts, Handler, handlers, Item}
+use Rattle.pytree_node.specs.Trees.{Identifier, Expr, exprs, optional, Stmt, stmts, Match, Case, cases, Handler, handlers, Item}
 use Rattle.pygrammar.specs.declared.levels.Level.TheVariants.{Stars, Expression, Elem}
-use Rattle.pygrammar.specs.Lines.{Line, line, header_form, Header, if_header, elif_header, else_header, loop_header, with_header, try_header, except_header, finally_header, def_header, LoopHead, while_head, for_head, DefHead, function_head, class_head, loop, with_of, definition, try_of}
-use Rattle.pygrammar.specs.Blocks.{Block, Statement, Body, Alternative, Otherwise, Excepts, Ending, Decorators, nothing, and_then, simple_line, if_statement, loop_statement, with_statement, try_finally, try_except, definition_of, inline, indented, an_else, an_elif, no_else, else_clause, no_except, except_clause, no_finally, finally_clause, no_decorator, decorator}
+use Rattle.pygrammar.specs.declared.pattern_levels.PatternLevel.TheVariants.{AsPattern}
+use Rattle.pygrammar.specs.Lines.{Line, line, header_form, Header, if_header, elif_header, else_header, loop_header, with_header, try_header, except_header, finally_header, def_header, match_header, case_header, LoopHead, while_head, for_head, DefHead, function_head, class_head, loop, with_of, definition, try_of}
+use Rattle.pygrammar.specs.Forms.{is_whole}
+use Rattle.pygrammar.specs.Blocks.{Block, Statement, Body, Alternative, Otherwise, Excepts, Cases, Ending, Decorators, nothing, and_then, simple_line, if_statement, loop_statement, with_statement, try_finally, try_except, definition_of, match_statement, inline, indented, an_else, an_elif, no_else, else_clause, no_except, except_clause, no_case, case_clause, no_finally, finally_clause, no_decorator, decorator}
 use Rattle.pytree_fits.specs.Tests.{Tests}
 use Rattle.pytree_fits.specs.Slots.{fits_at, fits_target, each_fits, perhaps_fits, each_keyword_fits, fits_arguments}
-use Rattle.pytree_fits.specs.Statements.{has_one, has_stmt, item_fits, types_fit, caught_fits, clauses_fit, statement_fits, statements_fit, suite_fits, handlers_fit}
+use Rattle.pytree_fits.specs.PatternSlots.{pattern_fits_at}
+use Rattle.pytree_fits.specs.Statements.{has_one, has_stmt, has_case, item_fits, types_fit, caught_fits, clauses_fit, statement_fits, statements_fit, suite_fits, cases_fit, handlers_fit}
 use Rattle.pytree_fits.specs.Given.{AreGiven, no_line, a_line}
-use Rattle.pytree_fits.proofs.Fields.Tests.{parts4, from3, from4}
+use Rattle.pytree_fits.proofs.Fields.Tests.{parts3, parts4, from3, from4}
 use Rattle.pytree_fits.proofs.Fields.Dots.{is_other}
-use Rattle.pytree_fits.proofs.Fitting.FormFits.{from5, header_fits, inline_fits, form_fits, form}
+use Rattle.pytree_fits.proofs.Fitting.FormFits.{from5, header_fits, inline_fits, form_fits, placed}
 
 pub from6 : (x y z u v w : Bool) → x ≡ true → y ≡ true → z ≡ true → u ≡ true → v ≡ true → w ≡ true → (x && y && z && u && v && w) ≡ true
 from6 true y z u v w p q r s t o = from5 y z u v w q r s t o
@@ -141,10 +144,15 @@ module _ (p : Profile) (n : Tests) where
   statement_some (try_finally b c) h = refl
   statement_some (try_except b e c d) h = refl
   statement_some (definition_of head d b) h = refl
+  statement_some (match_statement c) h = refl
 
   block_some : {l : ℕ} {xs : List Line} {ss : List Stmt} → Block l xs ss → has_one xs ≡ true → lines_fit xs ≡ true → has_one ss ≡ true
   block_some nothing g h = absurd (cc)
   block_some (and_then {xs = xs} {ys = ys} {ss = ss} {more = more} a b) g h = some_before ss more (statement_some a (lines_left xs ys h))
+
+  some_case : {l : ℕ} {xs : List Line} {cs : List Case} → Cases l xs cs → has_one xs ≡ true → has_case (cases cs) ≡ true
+  some_case no_case h = absurd (cc)
+  some_case (case_clause b c) h = refl
 
   mutual
     pub block_fits : {l : ℕ} {xs : List Line} {ss : List Stmt} → Block l xs ss → lines_fit xs ≡ true → statements_fit p n (stmts ss) ≡ true
@@ -178,6 +186,11 @@ module _ (p : Profile) (n : Tests) where
     statement {l} (definition_of head {suite = suite} {ds = ds} {xs = xs} {es = es} {body = body} d b) h =
         let u = first l (def_header head) suite xs (lines_right ds (line l (header_form (def_header head) suite) ∷ xs) h) in
         definition_fits es head body (decorators_fit d (lines_left ds (line l (header_form (def_header head) suite) ∷ xs) h)) u.head (filled b u.inner u.rest)
+    statement {l} (match_statement {subject = subject} {x = x} {xs = xs} {cs = cs} c) h =
+        let w = first l (match_header subject) None (x ∷ xs) h in
+        let u = and_parts (is_whole p.extent) (fits_at n Expression subject) w.head in
+        one_fits (Match subject (cases cs))
+        (from4 (is_whole p.extent) (has_case (cases cs)) (fits_at n Expression subject) (cases_fit p n (cases cs)) u.0 (some_case c refl) u.1 (each_case c w.rest))
 
     filled : {l : ℕ} {suite : Option (List Stmt)} {xs : List Line} {body : List Stmt} → Body l suite xs body → SuiteFits suite → lines_fit xs ≡ true → Filled body
     filled (inline {ss = ss}) s h = let w = and_parts (has_one ss) (statements_fit p n (stmts ss)) s in filled_of ss w.0 w.1
@@ -202,11 +215,19 @@ module _ (p : Profile) (n : Tests) where
         let f = filled b w.inner (lines_left xs ys w.rest) in
         from3 (caught_fits n star matched name) (suite_fits p n (stmts body)) (handlers_fit p n star (handlers hs)) w.head f.suite (excepts e (lines_right xs ys w.rest))
 
+    each_case : {l : ℕ} {xs : List Line} {cs : List Case} → Cases l xs cs → lines_fit xs ≡ true → cases_fit p n (cases cs) ≡ true
+    each_case no_case h = refl
+    each_case {l} (case_clause {pattern = pattern} {guard = guard} {suite = suite} {xs = xs} {ys = ys} {body = body} {cs = cs} b c) h =
+        let w = first l (case_header pattern guard) suite (xs ++ ys) h in
+        let u = parts3 (is_whole p.extent) (pattern_fits_at n AsPattern pattern) (perhaps_fits n Expression (optional guard)) w.head in
+        let f = filled b w.inner (lines_left xs ys w.rest) in
+        from4 (pattern_fits_at n AsPattern pattern) (perhaps_fits n Expression (optional guard)) (suite_fits p n (stmts body)) (cases_fit p n (cases cs)) u.1 u.2 f.suite (each_case c (lines_right xs ys w.rest))
+
     ending : {l : ℕ} {xs : List Line} {ss : List Stmt} → Ending l xs ss → lines_fit xs ≡ true → statements_fit p n (stmts ss) ≡ true
     ending no_finally h = refl
     ending {l} (finally_clause {suite = suite} {xs = xs} b) h = let w = first l finally_header suite xs h in (filled b w.inner w.rest).each
 
-  -- lines whose forms are given
-  pub given_fit : ((x : Identifier) → n.name x ≡ true → list_all is_other x ≡ true) → {xs : List Line} → AreGiven p n xs → lines_fit xs ≡ true
+  -- lines whose forms at their places are given
+  pub given_fit : ((x : Identifier) → n.name x ≡ true → list_all is_other x ≡ true) → {earlier xs : List Line} → AreGiven p n earlier xs → lines_fit xs ≡ true
   given_fit f no_line = refl
-  given_fit f (a_line {x = x} {xs = xs} g r) = and_from (form_fits p n x.form) (lines_fit xs) (form n f g.2 g.1) (given_fit f r)
+  given_fit f (a_line {x = x} {xs = xs} g r) = and_from (form_fits p n x.form) (lines_fit xs) (placed n f g.2 g.1) (given_fit f r)

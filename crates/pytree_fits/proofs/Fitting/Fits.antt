@@ -104,6 +104,7 @@ module _ (n : Tests) where
         from4 (has_some (comprehensions gs)) (fits_at n Expression k) (fits_at n Expression e) (each_clause_fits n (comprehensions gs)) w.some (slots p (left n ts (Op Colon ∷ (us ++ (vs ++ (Op RBrace ∷ [])))) s)) (slots q (left n us (vs ++ (Op RBrace ∷ [])) u)) w.each
     slots (G.set {ts = ts} {e = e} {es = es} c) s = let w = listing c (left n ts (Op RBrace ∷ []) s) in and_from (leb 1 (count (singles (e ∷ es)))) (each_fits n Elem (singles (e ∷ es))) (set_some n e es w) (singles_fit n Elem Elem (λ e h. h) (e ∷ es) w)
     slots (G.set_comp {ts = ts} {us = us} {e = e} {gs = gs} p c) s = let w = comps c (left n us (Op RBrace ∷ []) (right n ts (us ++ (Op RBrace ∷ [])) s)) in from3 (has_some (comprehensions gs)) (fits_at n Expression e) (each_clause_fits n (comprehensions gs)) w.some (plain n Named e refl (slots p (left n ts (us ++ (Op RBrace ∷ [])) s))) w.each
+    slots (G.subject_tuple {ts = ts} {us = us} {e = e} {es = es} p c) s = and_from (fits_at n Elem e) (each_fits n Elem (singles es)) (slots p (left n ts (Op Comma ∷ us) s)) (singles_fit n Elem Elem (λ e h. h) es (listing c (right n ts (Op Comma ∷ us) s)))
     slots (G.star_elem {e = e} p) s = plain n BitOr e refl (slots p s)
     slots (G.star_slices {e = e} p) s = and_from (fits_at n Expression e) true (slots p s) refl
     slots (G.parts {ts = ts} {us = us} {e = e} {es = es} p c) s = and_from (fits_at n Part e) (each_fits n Part (singles es)) (slots p (left n ts (Op Comma ∷ us) s)) (singles_fit n Part Part (λ e h. h) es (listing c (right n ts (Op Comma ∷ us) s)))

@@ -11,21 +11,26 @@ use Rattle.pytree_node.specs.Trees.{Identifier, Expr, Exprs, no_exprs, an_expr, 
 use Rattle.pytoken.specs.Terminals.{Terminal, Op, Word, Ident}
 use Rattle.pygrammar.specs.declared.levels.Level.{Level}
 use Rattle.pygrammar.specs.declared.levels.Level.TheVariants.{Value, Stars, Named, Expression, Elem}
+use Rattle.pygrammar.specs.declared.pattern_levels.PatternLevel.TheVariants as PatternLevel
+use Rattle.pygrammar.specs.declared.pattern_levels.PatternLevel.TheVariants.{AsPattern}
 use Rattle.pygrammar.specs.Arguments.{positional, keywords}
 use Rattle.pygrammar.specs.Grammar as G
-use Rattle.pygrammar.specs.Lines.{Form, simple_form, decorator_form, header_form, Header, if_header, elif_header, else_header, loop_header, with_header, try_header, except_header, finally_header, def_header, while_head, for_head, function_head, class_head, no_types}
+use Rattle.pygrammar.specs.Lines.{Form, simple_form, decorator_form, header_form, Header, if_header, elif_header, else_header, loop_header, with_header, try_header, except_header, finally_header, def_header, match_header, case_header, while_head, for_head, function_head, class_head, no_types}
 use Rattle.pygrammar.specs.Forms as F
-use Rattle.pygrammar.specs.Forms.{listed}
+use Rattle.pygrammar.specs.Forms.{listed, is_whole}
 use Rattle.pytree_node.specs.Profiles.{has_types}
 use Rattle.pytree_fits.specs.Tests.{Tests}
 use Rattle.pytree_fits.specs.Slots.{is_single, perhaps_name, fits_at, fits_target, each_target_fits, each_fits, perhaps_fits, each_keyword_fits, fits_arguments}
+use Rattle.pytree_fits.specs.PatternSlots.{pattern_fits_at}
 use Rattle.pytree_fits.specs.Statements.{has_one, dotted, import_fits, alias_fits, imports_fit, item_fits, type_param_fits, types_fit, raised_fits, caught_fits, statement_fits, statements_fit}
 use Rattle.pytree_fits.specs.Given.{all_pass}
 use Rattle.pytree_fits.proofs.Fields.Tests.{from3, from4, left, right, behind}
-use Rattle.pytree_fits.proofs.Fields.Levels.{plain}
+use Rattle.pytree_fits.proofs.Fields.Levels.{plain, subject_plain}
+use Rattle.pytree_fits.proofs.Fields.PatternFields.{fits_anywhere}
 use Rattle.pytree_fits.proofs.Fields.Arranging.{arranged_fit}
 use Rattle.pytree_fits.proofs.Fields.Entries.{positional_fit, keywords_fit}
 use Rattle.pytree_fits.proofs.Fitting.Fits.{slots, listing, target_fits, single_target_fits, del_target_fits, item_target_fits}
+use Rattle.pytree_fits.proofs.Fitting.PatternFits.{fits}
 use Rattle.pytree_fits.proofs.Fields.Dots.{is_other, dotted_fits}
 
 pub from5 : (x y z u v : Bool) → x ≡ true → y ≡ true → z ≡ true → u ≡ true → v ≡ true → (x && y && z && u && v) ≡ true
@@ -47,6 +52,8 @@ header_fits p n (def_header (function_head is_async name parameters args returns
     n.name name && fits_arguments n true args && perhaps_fits n Expression (optional returns) && types_fit p n parameters
 header_fits p n (def_header (class_head name parameters bases keywords)) =
     n.name name && each_fits n Elem (exprs bases) && each_keyword_fits n keywords && types_fit p n parameters
+header_fits p n (match_header subject) = is_whole p.extent && fits_at n Expression subject
+header_fits p n (case_header pattern guard) = is_whole p.extent && pattern_fits_at n AsPattern pattern && perhaps_fits n Expression (optional guard)
 
 abbrev pub inline_fits : Profile → Tests → List Stmt → Bool
 inline_fits p n ss = has_one ss && statements_fit p n (stmts ss)
@@ -244,9 +251,30 @@ module _ (n : Tests) where
         let u = bases_fit b (right n ts us w.1) in
         from4 (n.name x.form) (each_fits n Elem (exprs es)) (each_keyword_fits n ks) (types_fit profile n tps) w.0 u.0 u.1 (type_params t (left n ts us w.1))
 
-    pub form : {profile : Profile} {ts : List Terminal} {f : Form} → F.FormOf profile ts f → all_pass n ts ≡ true → form_fits profile n f ≡ true
+    form : {profile : Profile} {ts : List Terminal} {f : Form} → F.FormOf profile ts f → all_pass n ts ≡ true → form_fits profile n f ≡ true
     form (F.simple_statements p) s = simples p s
     form (F.decorator_line {e = e} p) s = plain n Named e refl (slots n p s)
     form (F.header_line {ts = ts} p) s = header p (left n ts (Op Sign.Colon ∷ []) s)
     form {profile} (F.header_suite {ts = ts} {us = us} {h = h} {ss = ss} p q) s =
         and_from (header_fits profile n h) (inline_fits profile n ss) (header p (left n ts (Op Sign.Colon ∷ us) s)) (simples q (right n ts (Op Sign.Colon ∷ us) s))
+    form {profile} (F.match_line {ts = ts} {e = e} f h p) s =
+        and_from (is_whole profile.extent) (fits_at n Expression e) h
+        (subject_plain n e (slots n p (left n ts (Op Sign.Colon ∷ []) (and_parts (n.name f) (all_pass n (ts ++ (Op Sign.Colon ∷ []))) s).1)))
+
+    -- ---- Forms at their places.
+
+    guard : (g : Option Expr) → perhaps_fits n Named (optional g) ≡ true → perhaps_fits n Expression (optional g) ≡ true
+    guard None h = refl
+    guard (Some e) h = plain n Named e refl h
+
+    case : (profile : Profile) {ts : List Terminal} {h : Header} → is_whole profile.extent ≡ true → F.CaseOf ts h → all_pass n ts ≡ true → header_fits profile n h ≡ true
+    case profile q (F.case_line {ts = ts} {us = us} {p = p} {g = g} f d b) s =
+        let w = (and_parts (n.name f) (all_pass n (ts ++ us)) s).1 in
+        from3 (is_whole profile.extent) (pattern_fits_at n AsPattern p) (perhaps_fits n Expression (optional g)) q
+        (fits_anywhere n PatternLevel.Patterns AsPattern p refl (fits n d (left n ts us w))) (guard g (behind_fits b (right n ts us w)))
+
+    pub placed : {profile : Profile} {inside : Bool} {ts : List Terminal} {f : Form} → F.FormAt profile inside ts f → all_pass n ts ≡ true → form_fits profile n f ≡ true
+    placed (F.other_line q p) s = form p s
+    placed {profile} (F.case_alone {ts = ts} q c) s = case profile q c (left n ts (Op Sign.Colon ∷ []) s)
+    placed {profile} (F.case_suite {ts = ts} {us = us} {h = h} {ss = ss} q c p) s =
+        and_from (header_fits profile n h) (inline_fits profile n ss) (case profile q c (left n ts (Op Sign.Colon ∷ us) s)) (simples p (right n ts (Op Sign.Colon ∷ us) s))

@@ -8,32 +8,27 @@ use Rattle.pytoken.specs.declared.keywords.Keyword.TheVariants as Key
 use Rattle.pytree_node.specs.declared.operators.Context.TheVariants.{Store, Del}
 use Rattle.pytree_node.specs.declared.profiles.Profile.{Profile}
 use Rattle.pytree_node.specs.Trees
-use Rattle.pytree_node.specs.Trees.{Identifier, Expr, exprs, optional, Stmt, Stmts, no_stmt, a_stmt, stmts, Handler, Handlers, no_handler, a_handler, handlers, Item}
+use Rattle.pytree_node.specs.Trees.{Identifier, Expr, exprs, optional, Stmt, Stmts, no_stmt, a_stmt, stmts, Handler, Handlers, no_handler, a_handler, handlers, Case, Cases, cases, Item}
 use Rattle.pytoken.specs.Terminals.{Op, Word}
 use Rattle.pygrammar.specs.declared.levels.Level.TheVariants.{Value, Stars, Named, Expression, Elem}
-use Rattle.pygrammar.specs.Lines.{Line, line, simple_form, decorator_form, header_form, Header, if_header, else_header, loop_header, with_header, try_header, except_header, finally_header, def_header, LoopHead, while_head, for_head, DefHead, function_head, class_head, loop, with_of, definition, try_of}
+use Rattle.pygrammar.specs.declared.pattern_levels.PatternLevel.TheVariants.{AsPattern}
+use Rattle.pygrammar.specs.Lines.{Line, line, simple_form, decorator_form, header_form, if_header, else_header, loop_header, with_header, try_header, except_header, finally_header, def_header, match_header, case_header, LoopHead, while_head, for_head, DefHead, function_head, class_head, loop, with_of, definition, try_of}
 use Rattle.pygrammar.specs.Forms as F
-use Rattle.pygrammar.specs.Forms.{type_name}
+use Rattle.pygrammar.specs.Forms.{type_name, match_name, case_name, is_whole}
 use Rattle.pytree_node.specs.Profiles.{has_types}
-use Rattle.pygrammar.specs.Blocks.{handler, Block, Statement, Body, Otherwise, Excepts, Ending, Decorators, nothing, and_then, simple_line, if_statement, loop_statement, with_statement, try_finally, try_except, definition_of, indented, an_else, no_else, else_clause, no_except, except_clause, no_finally, finally_clause, no_decorator, decorator}
+use Rattle.pygrammar.specs.Blocks as B
+use Rattle.pygrammar.specs.Blocks.{handler, case_of, Block, Statement, Body, Otherwise, Excepts, Ending, Decorators, nothing, and_then, simple_line, if_statement, loop_statement, with_statement, try_finally, try_except, definition_of, match_statement, indented, an_else, no_else, else_clause, no_except, except_clause, no_finally, finally_clause, no_decorator, decorator}
 use Rattle.pytree_fits.specs.Tests.{Tests}
 use Rattle.pytree_fits.specs.Slots.{is_a_name, is_single, fits_at, fits_target, each_target_fits, each_fits, perhaps_fits, each_keyword_fits, fits_arguments}
-use Rattle.pytree_fits.specs.Statements.{has_one, has_stmt, source_fits, imports_fit, item_fits, type_param_fits, import_fits, types_fit, caught_fits, clauses_fit, statement_fits, statements_fit, suite_fits, handlers_fit}
-use Rattle.pytree_fits.proofs.Fields.AsSpelled.{GivenAsSpelled, AreGivenAsSpelled, none_spelled, one_spelled, pass_on}
-use Rattle.pytree_fits.proofs.Fields.Tests.{parts3, parts4, never}
+use Rattle.pytree_fits.specs.PatternSlots.{pattern_fits_at}
+use Rattle.pytree_fits.specs.Statements.{has_one, has_stmt, has_case, source_fits, imports_fit, item_fits, type_param_fits, import_fits, types_fit, caught_fits, clauses_fit, statement_fits, statements_fit, suite_fits, cases_fit, handlers_fit}
+use Rattle.pytree_fits.proofs.Fields.AsSpelled.{GivenAsSpelled}
+use Rattle.pytree_fits.proofs.Fields.Tests.{parts3, parts4, parts5, parts6, never}
 use Rattle.pytree_fits.proofs.Giving.Places as P
 use Rattle.pytree_fits.proofs.Giving.Gives.{made}
 use Rattle.pytree_fits.proofs.Fitting.BlockFits.{some_before}
-use Rattle.pytree_fits.proofs.Giving.FormGives.{assign_given, delete_given, augmented_given, annotated_given, alias_assigned, raise_given, assert_given, return_given, value_given, global_given, nonlocal_given, import_given, import_from_given, if_given, while_given, for_given, with_given, except_given, function_given, class_given}
-
--- more tests
-pub parts5 : (x y z u v : Bool) → (x && y && z && u && v) ≡ true → (x ≡ true) × (y ≡ true) × (z ≡ true) × (u ≡ true) × (v ≡ true)
-parts5 true y z u v h = let w = parts4 y z u v h in (refl, w.0, w.1, w.2, w.3)
-parts5 false y z u v h = absurd (cc)
-
-pub parts6 : (x y z u v w : Bool) → (x && y && z && u && v && w) ≡ true → (x ≡ true) × (y ≡ true) × (z ≡ true) × (u ≡ true) × (v ≡ true) × (w ≡ true)
-parts6 true y z u v w h = let o = parts5 y z u v w h in (refl, o.0, o.1, o.2, o.3, o.4)
-parts6 false y z u v w h = absurd (cc)
+use Rattle.pytree_fits.proofs.Giving.FormGives.{assign_given, delete_given, augmented_given, annotated_given, alias_assigned, raise_given, assert_given, return_given, value_given, global_given, nonlocal_given, import_given, import_from_given, if_given, while_given, for_given, with_given, except_given, function_given, class_given, match_given, case_given}
+use Rattle.pytree_fits.proofs.Giving.LinePlaces.{Placed, none_placed, placed_on, block_of, led_on, behind_line, headed, headed_by, cased}
 
 -- ---- The statements of a tree's list.
 
@@ -57,15 +52,21 @@ handlers_back : (hs : Handlers) → handlers (of_handlers hs) ≡ hs
 handlers_back no_handler = refl
 handlers_back (a_handler class name body hs) = (λ i. a_handler class name (stmts_back body i) (handlers_back hs i))
 
-module _ (p : Profile) (n : Tests) (typed : n.name type_name ≡ true) where
-  given_on : {xs ys : List Line} → AreGivenAsSpelled p n xs → AreGivenAsSpelled p n ys → AreGivenAsSpelled p n (xs ++ ys)
-  given_on none_spelled s = s
-  given_on (one_spelled g r) s = one_spelled g (given_on r s)
+abbrev pub of_cases : Cases → List Case
+of_cases Trees.no_case = []
+of_cases (Trees.a_case pattern guard body cs) = case_of pattern guard (of_stmts body) ∷ of_cases cs
 
-  -- a header without an inline suite
-  headed : (l : ℕ) (h : Header) {xs : List Line} → GivenAsSpelled n (F.HeaderOf p) h → AreGivenAsSpelled p n xs → AreGivenAsSpelled p n (line l (header_form h None) ∷ xs)
-  headed l h w r = one_spelled (w.0 ++ (Op Sign.Colon ∷ []), pass_on n w.0 (Op Sign.Colon ∷ []) w.1 refl, F.header_line w.2) r
+cases_back : (cs : Cases) → cases (of_cases cs) ≡ cs
+cases_back Trees.no_case = refl
+cases_back (Trees.a_case pattern guard body cs) = (λ i. Trees.a_case pattern guard (stmts_back body i) (cases_back cs i))
 
+-- the names that are words of headers, and no keywords
+pub record Words (n : Tests) : Type 0 where
+  pub typed : n.name type_name ≡ true
+  pub matched : n.name match_name ≡ true
+  pub cased : n.name case_name ≡ true
+
+module _ (p : Profile) (n : Tests) (words : Words n) where
   else_given : GivenAsSpelled n (F.HeaderOf p) else_header
   else_given = (Word Key.Else ∷ [], refl, F.else_line)
 
@@ -79,19 +80,19 @@ module _ (p : Profile) (n : Tests) (typed : n.name type_name ≡ true) where
   record Drawn (l : ℕ) (s : Stmt) : Type 0 where
     lines : List Line
     some : has_one lines ≡ true
-    given : AreGivenAsSpelled p n lines
+    given : Placed p n l false lines
     is : Statement l lines (s ∷ [])
 
   -- statements as such
   pub record DrawnAll (l : ℕ) (ss : Stmts) : Type 0 where
     pub lines : List Line
     pub some : has_stmt ss ≡ true → has_one lines ≡ true
-    pub given : AreGivenAsSpelled p n lines
+    pub given : Placed p n l false lines
     pub is : Block l lines (of_stmts ss)
 
   record Caught (l : ℕ) (star : Bool) (hs : Handlers) : Type 0 where
     lines : List Line
-    given : AreGivenAsSpelled p n lines
+    given : Placed p n l false lines
     is : Excepts l star lines (of_handlers hs)
 
   -- the block of a header
@@ -104,26 +105,26 @@ module _ (p : Profile) (n : Tests) (typed : n.name type_name ≡ true) where
 
   -- a line of one simple statement
   simply : (l : ℕ) (s : Stmt) → GivenAsSpelled n (F.Simple p) s → Drawn l s
-  simply l s w = record { lines = line l (simple_form (s ∷ [])) ∷ []; some = refl; given = one_spelled (w.0, w.1, F.simple_statements (F.last_simple w.2)) none_spelled; is = simple_line }
+  simply l s w = record { lines = line l (simple_form (s ∷ [])) ∷ []; some = refl; given = behind_line p n (w.0, w.1, F.simple_statements (F.last_simple w.2)) (none_placed p n); is = simple_line }
 
   -- what may stand after a block
   record Behind (l : ℕ) (ss : Stmts) : Type 0 where
     lines : List Line
-    given : AreGivenAsSpelled p n lines
+    given : Placed p n l false lines
     is : Otherwise l lines (of_stmts ss)
 
   otherwise : (l : ℕ) (ss : Stmts) → DrawnAll (suc l) ss → Behind l ss
-  otherwise l no_stmt d = record { lines = []; given = none_spelled; is = no_else }
-  otherwise l (a_stmt s ss) d = record { lines = line l (header_form else_header None) ∷ d.lines; given = headed l else_header else_given d.given; is = else_clause (body_of refl d) }
+  otherwise l no_stmt d = record { lines = []; given = none_placed p n; is = no_else }
+  otherwise l (a_stmt s ss) d = record { lines = line l (header_form else_header None) ∷ d.lines; given = headed p n l else_header else_given (block_of p n d.given); is = else_clause (body_of refl d) }
 
   record Last (l : ℕ) (ss : Stmts) : Type 0 where
     lines : List Line
-    given : AreGivenAsSpelled p n lines
+    given : Placed p n l false lines
     is : Ending l lines (of_stmts ss)
 
   ending : (l : ℕ) (ss : Stmts) → DrawnAll (suc l) ss → Last l ss
-  ending l no_stmt d = record { lines = []; given = none_spelled; is = no_finally }
-  ending l (a_stmt s ss) d = record { lines = line l (header_form finally_header None) ∷ d.lines; given = headed l finally_header finally_given d.given; is = finally_clause (body_of refl d) }
+  ending l no_stmt d = record { lines = []; given = none_placed p n; is = no_finally }
+  ending l (a_stmt s ss) d = record { lines = line l (header_form finally_header None) ∷ d.lines; given = headed p n l finally_header finally_given (block_of p n d.given); is = finally_clause (body_of refl d) }
 
   -- ---- The classes with blocks.
 
@@ -134,7 +135,7 @@ module _ (p : Profile) (n : Tests) (typed : n.name type_name ≡ true) where
       record {
         lines = xs;
         some = refl;
-        given = headed l (if_header test) (if_given n p test h) (given_on b.given o.given);
+        given = headed p n l (if_header test) (if_given n p test h) (led_on p n (block_of p n b.given) o.given);
         is = subst (λ z. Statement l xs (Trees.If test z orelse ∷ [])) (stmts_back body)
             (subst (λ z. Statement l xs (Trees.If test (stmts (of_stmts body)) z ∷ [])) (stmts_back orelse) (if_statement (body_of f b) (an_else o.is)));
       }
@@ -157,7 +158,7 @@ module _ (p : Profile) (n : Tests) (typed : n.name type_name ≡ true) where
       record {
         lines = xs;
         some = refl;
-        given = headed l (loop_header head) h (given_on b.given o.given);
+        given = headed p n l (loop_header head) h (led_on p n (block_of p n b.given) o.given);
         is = subst (λ z. Statement l xs (z ∷ [])) (looped_is head body orelse) (loop_statement (body_of f b) o.is);
       }
 
@@ -175,7 +176,7 @@ module _ (p : Profile) (n : Tests) (typed : n.name type_name ≡ true) where
       record {
         lines = xs;
         some = refl;
-        given = headed l (with_header is_async items) (with_given n p is_async items h q) b.given;
+        given = headed p n l (with_header is_async items) (with_given n p is_async items h q) (block_of p n b.given);
         is = subst (λ z. Statement l xs (z ∷ [])) (opened_is is_async items body) (with_statement (body_of f b));
       }
 
@@ -195,7 +196,7 @@ module _ (p : Profile) (n : Tests) (typed : n.name type_name ≡ true) where
       record {
         lines = xs;
         some = refl;
-        given = headed l try_header try_given (given_on b.given (headed l finally_header finally_given d.given));
+        given = headed p n l try_header try_given (led_on p n (block_of p n b.given) (headed p n l finally_header finally_given (block_of p n d.given)));
         is = subst (λ z. Statement l xs (z ∷ [])) (tried_is false body no_handler no_stmt final) (try_finally (body_of f b) (body_of h d));
       }
 
@@ -208,7 +209,7 @@ module _ (p : Profile) (n : Tests) (typed : n.name type_name ≡ true) where
       record {
         lines = xs;
         some = refl;
-        given = headed l try_header try_given (given_on b.given (given_on c.given (given_on o.given k.given)));
+        given = headed p n l try_header try_given (led_on p n (block_of p n b.given) (placed_on p n c.given (placed_on p n o.given k.given)));
         is = subst (λ z. Statement l xs (z ∷ [])) (tried_is star body (a_handler class name inner hs) orelse final) (try_except (body_of f b) c.is o.is k.is);
       }
 
@@ -223,16 +224,16 @@ module _ (p : Profile) (n : Tests) (typed : n.name type_name ≡ true) where
 
   record Decorated (l : ℕ) (es : List Expr) : Type 0 where
     lines : List Line
-    given : AreGivenAsSpelled p n lines
+    given : Placed p n l false lines
     is : Decorators l lines es
 
   decorated : (l : ℕ) (es : List Expr) → each_fits n Expression (exprs es) ≡ true → Decorated l es
-  decorated l [] h = record { lines = []; given = none_spelled; is = no_decorator }
+  decorated l [] h = record { lines = []; given = none_placed p n; is = no_decorator }
   decorated l (e ∷ es) h =
       let w = and_parts (fits_at n Expression e) (each_fits n Expression (exprs es)) h in
       let d = decorated l es w.1 in
       let u = P.at n Named (made n Expression e w.0) in
-      record { lines = line l (decorator_form e) ∷ d.lines; given = one_spelled (Op Sign.At ∷ u.0, u.1, F.decorator_line u.2) d.given; is = decorator d.is }
+      record { lines = line l (decorator_form e) ∷ d.lines; given = behind_line p n (Op Sign.At ∷ u.0, u.1, F.decorator_line u.2) d.given; is = decorator d.is }
 
   abbrev defined : List Expr → DefHead → Stmts → Stmt
   defined es (function_head false name parameters args returns) body = Trees.FunctionDef name args body es returns parameters
@@ -255,8 +256,31 @@ module _ (p : Profile) (n : Tests) (typed : n.name type_name ≡ true) where
       record {
         lines = xs;
         some = some_behind d.lines (line l (header_form (def_header head) None)) b.lines;
-        given = given_on d.given (headed l (def_header head) g b.given);
+        given = placed_on p n d.given (headed p n l (def_header head) g (block_of p n b.given));
         is = subst (λ z. Statement l xs (z ∷ [])) (defined_is es head body) (definition_of head d.is (body_of f b));
+      }
+
+  -- ---- Matches.
+
+  -- cases, as lines of a level in a `match`
+  record Chosen (l : ℕ) (cs : Cases) : Type 0 where
+    lines : List Line
+    some : has_case cs ≡ true → has_one lines ≡ true
+    given : Placed p n l true lines
+    is : B.Cases l lines (of_cases cs)
+
+  matching : {l : ℕ} (subject : Expr) {cs : List Case} (xs : List Line) → has_one xs ≡ true → B.Cases (suc l) xs cs → Statement l (line l (header_form (match_header subject) None) ∷ xs) (Trees.Match subject (cases cs) ∷ [])
+  matching subject [] h c = absurd (never h)
+  matching subject (x ∷ xs) h c = match_statement c
+
+  match_drawn : (l : ℕ) (subject : Expr) (cs : Cases) → is_whole p.extent ≡ true → has_case cs ≡ true → fits_at n Expression subject ≡ true → Chosen (suc l) cs → Drawn l (Trees.Match subject cs)
+  match_drawn l subject cs q h f c =
+      let xs = line l (header_form (match_header subject) None) ∷ c.lines in
+      record {
+        lines = xs;
+        some = refl;
+        given = headed_by p n l (match_header subject) (match_given n p subject words.matched q f) (block_of p n c.given);
+        is = subst (λ z. Statement l xs (Trees.Match subject z ∷ [])) (cases_back cs) (matching subject c.lines (c.some h) c.is);
       }
 
   -- ---- All classes.
@@ -286,7 +310,7 @@ module _ (p : Profile) (n : Tests) (typed : n.name type_name ≡ true) where
         simply l (Trees.Assign ts e) (assign_given n p ts e w.0 w.1 w.2)
     drawn l (Trees.TypeAlias t ps e) h =
         let w = parts5 (has_types p) (is_a_name t) (fits_target n Store t) (list_all (type_param_fits n) ps) (fits_at n Expression e) h in
-        simply l (Trees.TypeAlias t ps e) (alias_assigned n p typed t ps e w.0 w.1 w.2 w.3 w.4)
+        simply l (Trees.TypeAlias t ps e) (alias_assigned n p words.typed t ps e w.0 w.1 w.2 w.3 w.4)
     drawn l (Trees.AugAssign t o e) h = let w = and_parts (is_single t && fits_target n Store t) (fits_at n Value e) h in simply l (Trees.AugAssign t o e) (augmented_given n p t o e w.0 w.1)
     drawn l (Trees.AnnAssign t a v simple) h =
         let w = parts5 (is_single t) (not simple || is_a_name t) (fits_target n Store t) (fits_at n Expression a) (perhaps_fits n Value (optional v)) h in
@@ -315,6 +339,9 @@ module _ (p : Profile) (n : Tests) (typed : n.name type_name ≡ true) where
         let w = parts3 (has_one is) (list_all (item_fits n) is) (suite_fits p n body) h in
         let u = suite_parts body w.2 in
         with_drawn l true is body w.0 w.1 u.0 (drawn_all (suc l) body u.1)
+    drawn l (Trees.Match e cs) h =
+        let w = parts4 (is_whole p.extent) (has_case cs) (fits_at n Expression e) (cases_fit p n cs) h in
+        match_drawn l e cs w.0 w.1 w.2 (chosen (suc l) cs w.0 w.3)
     drawn l (Trees.Raise e c) h = simply l (Trees.Raise e c) (raise_given n p e c h)
     drawn l (Trees.Try body hs orelse final) h =
         let w = parts5 (clauses_fit false hs orelse final) (suite_fits p n body) (handlers_fit p n false hs) (statements_fit p n orelse) (statements_fit p n final) h in
@@ -335,15 +362,15 @@ module _ (p : Profile) (n : Tests) (typed : n.name type_name ≡ true) where
     drawn l Trees.Continue h = simply l Trees.Continue (Word Key.Continue ∷ [], refl, F.continue)
 
     pub drawn_all : (l : ℕ) (ss : Stmts) → statements_fit p n ss ≡ true → DrawnAll l ss
-    drawn_all l no_stmt h = record { lines = []; some = λ q. q; given = none_spelled; is = nothing }
+    drawn_all l no_stmt h = record { lines = []; some = λ q. q; given = none_placed p n; is = nothing }
     drawn_all l (a_stmt s ss) h =
         let w = and_parts (statement_fits p n s) (statements_fit p n ss) h in
         let d = drawn l s w.0 in
         let r = drawn_all l ss w.1 in
-        record { lines = d.lines ++ r.lines; some = λ q. some_before d.lines r.lines d.some; given = given_on d.given r.given; is = and_then d.is r.is }
+        record { lines = d.lines ++ r.lines; some = λ q. some_before d.lines r.lines d.some; given = placed_on p n d.given r.given; is = and_then d.is r.is }
 
     caught : (l : ℕ) (star : Bool) (hs : Handlers) → handlers_fit p n star hs ≡ true → Caught l star hs
-    caught l star no_handler h = record { lines = []; given = none_spelled; is = no_except }
+    caught l star no_handler h = record { lines = []; given = none_placed p n; is = no_except }
     caught l star (a_handler class name body hs) h =
         let w = parts3 (caught_fits n star class name) (suite_fits p n body) (handlers_fit p n star hs) h in
         let u = suite_parts body w.1 in
@@ -351,6 +378,20 @@ module _ (p : Profile) (n : Tests) (typed : n.name type_name ≡ true) where
         let r = caught l star hs w.2 in
         record {
           lines = line l (header_form (except_header star class name) None) ∷ (b.lines ++ r.lines);
-          given = headed l (except_header star class name) (except_given n p star class name w.0) (given_on b.given r.given);
+          given = headed p n l (except_header star class name) (except_given n p star class name w.0) (led_on p n (block_of p n b.given) r.given);
           is = except_clause (body_of u.0 b) r.is;
+        }
+
+    chosen : (l : ℕ) (cs : Cases) → is_whole p.extent ≡ true → cases_fit p n cs ≡ true → Chosen l cs
+    chosen l Trees.no_case q h = record { lines = []; some = λ e. e; given = none_placed p n; is = B.no_case }
+    chosen l (Trees.a_case pattern guard body cs) q h =
+        let w = parts4 (pattern_fits_at n AsPattern pattern) (perhaps_fits n Expression (optional guard)) (suite_fits p n body) (cases_fit p n cs) h in
+        let u = suite_parts body w.2 in
+        let b = drawn_all (suc l) body u.1 in
+        let r = chosen l cs q w.3 in
+        record {
+          lines = line l (header_form (case_header pattern guard) None) ∷ (b.lines ++ r.lines);
+          some = λ e. refl;
+          given = cased p n l (case_header pattern guard) q (case_given n p pattern guard words.cased w.0 w.1) (led_on p n (block_of p n b.given) r.given);
+          is = B.case_clause (body_of u.0 b) r.is;
         }

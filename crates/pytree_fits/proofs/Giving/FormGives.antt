@@ -11,24 +11,29 @@ use Rattle.pytree_node.specs.declared.operators.Operator.TheVariants as Bin
 use Rattle.pytree_node.specs.declared.operators.Context.TheVariants.{Store, Del}
 use Rattle.pytree_node.specs.declared.profiles.Profile.{Profile}
 use Rattle.pytree_node.specs.Trees
-use Rattle.pytree_node.specs.Trees.{Identifier, Expr, Exprs, no_exprs, an_expr, exprs, optional, Arguments, Keywords, Stmt, Alias, Item, TypeParam}
+use Rattle.pytree_node.specs.Trees.{Identifier, Expr, Exprs, no_exprs, an_expr, exprs, optional, Arguments, Keywords, Pattern, Stmt, Alias, Item, TypeParam}
 use Rattle.pytoken.specs.Terminals.{Terminal, Op, Word, in_form}
 use Rattle.pygrammar.specs.declared.levels.Level.{Level}
-use Rattle.pygrammar.specs.declared.levels.Level.TheVariants.{Value, Stars, Named, Expression, Elem}
+use Rattle.pygrammar.specs.declared.levels.Level.TheVariants.{Value, Stars, Named, Expression, Elem, Subject}
+use Rattle.pygrammar.specs.declared.pattern_levels.PatternLevel.TheVariants.{Patterns, AsPattern}
 use Rattle.pygrammar.specs.Arguments.{positional}
 use Rattle.pygrammar.specs.Grammar as G
-use Rattle.pygrammar.specs.Lines.{if_header, loop_header, with_header, except_header, def_header, while_head, for_head, function_head, class_head, no_types}
+use Rattle.pygrammar.specs.Lines.{if_header, loop_header, with_header, except_header, def_header, match_header, case_header, while_head, for_head, function_head, class_head, header_form, no_types}
 use Rattle.pygrammar.specs.Forms as F
-use Rattle.pygrammar.specs.Forms.{alias, item, augmented, listed, type_name}
+use Rattle.pygrammar.specs.Forms.{alias, item, augmented, listed, type_name, match_name, case_name, is_whole}
 use Rattle.pytree_node.specs.Profiles.{has_types}
 use Rattle.pytree_fits.specs.Tests.{Tests}
 use Rattle.pytree_fits.specs.Slots.{is_context, is_a_name, is_single, perhaps_name, fits_at, fits_target, each_target_fits, each_fits, perhaps_fits, each_keyword_fits, fits_arguments}
+use Rattle.pytree_fits.specs.PatternSlots.{pattern_fits_at}
 use Rattle.pytree_fits.specs.Statements.{has_one, dotted, import_fits, alias_fits, is_star, is_all, imports_fit, source_fits, perhaps_target_fits, item_fits, type_param_fits, types_fit, raised_fits, caught_fits}
 use Rattle.pytree_fits.proofs.Fields.AsSpelled.{all_as_spelled, GivenAsSpelled, pass_on}
 use Rattle.pytree_fits.proofs.Fields.Tests.{never, in_context}
+use Rattle.pytree_fits.proofs.Fields.Levels.{anywhere}
+use Rattle.pytree_fits.proofs.Fields.PatternFields.{fits_anywhere}
 use Rattle.pytree_fits.proofs.Giving.Places.{named_pass}
 use Rattle.pytree_fits.proofs.Giving.Places as P
 use Rattle.pytree_fits.proofs.Giving.Gives.{made}
+use Rattle.pytree_fits.proofs.Giving.PatternGives.{pattern_given}
 use Rattle.pytree_fits.proofs.Exactness.Exactly.{target_given, single_given, del_target_given, item_target_given, parameters_given, arguments_given}
 use Rattle.pytree_fits.proofs.Fields.Dots.{dotted_given}
 
@@ -329,3 +334,20 @@ module _ (n : Tests) where
         let vs = Op Sign.LPar ∷ (v.0 ++ (Op Sign.RPar ∷ [])) in
         let b : F.Bases vs bases ks = subst (λ z. F.Bases vs z ks) (listed_same bases) (subst (λ z. F.Bases vs (listed z) ks) a.positional_are (subst (λ z. F.Bases vs (listed (positional a.entries)) z) a.keywords_are (F.bases a.listing a.order))) in
         (Word Key.Class ∷ (in_form x ∷ (u.0 ++ vs)), named_pass n x (u.0 ++ vs) h (pass_on n u.0 vs u.1 (pass_on n v.0 (Op Sign.RPar ∷ []) v.1 refl)), F.class_line u.2 b)
+
+    -- ---- `match` and `case`.
+
+    pub match_given : (e : Expr) → n.name match_name ≡ true → is_whole profile.extent ≡ true → fits_at n Expression e ≡ true → GivenAsSpelled n (F.FormOf profile) (header_form (match_header e) None)
+    match_given e m q h =
+        let u = P.at n Subject (made n Expression e h) in
+        (in_form match_name ∷ (u.0 ++ (Op Sign.Colon ∷ [])), named_pass n match_name (u.0 ++ (Op Sign.Colon ∷ [])) m (pass_on n u.0 (Op Sign.Colon ∷ []) u.1 refl), F.match_line match_name q u.2)
+
+    guard : (g : Option Expr) → perhaps_fits n Expression (optional g) ≡ true → perhaps_fits n Named (optional g) ≡ true
+    guard None h = refl
+    guard (Some e) h = anywhere n Expression Named e refl h
+
+    pub case_given : (p : Pattern) (g : Option Expr) → n.name case_name ≡ true → pattern_fits_at n AsPattern p ≡ true → perhaps_fits n Expression (optional g) ≡ true → GivenAsSpelled n F.CaseOf (case_header p g)
+    case_given p g m h q =
+        let u = pattern_given n Patterns p (fits_anywhere n AsPattern Patterns p refl h) in
+        let v = behind_given (Word Key.If) Named g refl (guard g q) in
+        (in_form case_name ∷ (u.0 ++ v.0), named_pass n case_name (u.0 ++ v.0) m (pass_on n u.0 v.0 u.1 v.1), F.case_line case_name u.2 v.2)

@@ -1,5 +1,5 @@
 -- Carries: the laws of the slots. On: an expression that fits is given.
-use Rattle.std.proofs.Common.{◌≡◌, Bool, true, false}
+use Rattle.std.proofs.Common.{◌≡◌, true, false}
 use Rattle.std.specs.Prelude.{not, eqb, leb, length}
 use Rattle.std.proofs.lemmas.Bool.{and_parts, eqb-true, leb-true}
 use Rattle.pytree_node.specs.declared.operators.Context.TheVariants.{Load, Store}

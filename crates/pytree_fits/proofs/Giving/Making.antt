@@ -1,6 +1,6 @@
 -- Carries: the laws of the slots. On: nodes of what is given are given:
 -- operators, displays, primaries.
-use Rattle.std.proofs.Common.{◌≡◌, refl, ap, subst, ◌≤◌, arith, List, [], ◌∷◌, ◌++◌, length, Some, Bool, true, false}
+use Rattle.std.proofs.Common.{◌≡◌, refl, ap, subst, ◌≤◌, arith, List, [], ◌∷◌, ◌++◌, length, Some, true, false}
 use Rattle.std.proofs.lemmas.Bool.{and_from}
 use Rattle.pylex_lexeme.specs.declared.kinds.Exact.TheVariants.{LPar, RPar, LSqb, RSqb, LBrace, RBrace, Colon, Comma, Star, Slash, Dot, DoubleStar, ColonEqual, VBar, Circumflex, Amper, LeftShift, RightShift, Plus, Minus, DoubleSlash, Percent, At, Tilde, EqEqual, NotEqual, Less, LessEqual, Greater, GreaterEqual, Ellipsis}
 use Rattle.pytoken.specs.declared.keywords.Keyword.TheVariants as Key

@@ -1,6 +1,6 @@
 -- Carries: the laws of the slots. On: what is given at one level is given at others, in
 -- brackets where it needs them.
-use Rattle.std.proofs.Common.{◌≡◌, refl, List, [], ◌∷◌, ◌++◌, Bool, true, ◌&&◌}
+use Rattle.std.proofs.Common.{◌≡◌, refl, List, [], ◌∷◌, ◌++◌, true, ◌&&◌}
 use Rattle.std.specs.Str.{bytes_eq}
 use Rattle.std.proofs.lemmas.Bool.{and_from}
 use Rattle.std.proofs.lemmas.Slice.Eq.{bytes_eq-Decides}
@@ -10,7 +10,7 @@ use Rattle.pytree_node.specs.Trees
 use Rattle.pytree_node.specs.Trees.{Identifier, Expr}
 use Rattle.pytoken.specs.Terminals.{Terminal, Op, in_form}
 use Rattle.pygrammar.specs.declared.levels.Level.{Level}
-use Rattle.pygrammar.specs.declared.levels.Level.TheVariants.{Value, Stars, StarItem, Named, Expression, Or, And, Not, Compare, BitOr, BitXor, BitAnd, Shift, Sum, Term, Factor, Power, Await, Primary, Atom, Elem, Slices, Part, Slice}
+use Rattle.pygrammar.specs.declared.levels.Level.TheVariants.{Value, Stars, StarItem, Named, Expression, Or, And, Not, Compare, BitOr, BitXor, BitAnd, Shift, Sum, Term, Factor, Power, Await, Primary, Atom, Elem, Slices, Part, Slice, Subject}
 use Rattle.pygrammar.specs.Grammar as G
 use Rattle.pytree_fits.specs.Tests.{Tests}
 use Rattle.pytree_fits.specs.Slots.{takes_star}
@@ -92,6 +92,7 @@ module _ {ts : List Terminal} {e : Expr} where
   climb Slices p = G.next {l = Slices} (G.next {l = Slice} (G.next {l = Named} (expression p)))
   climb Part p = G.next {l = Part} (G.next {l = Slice} (G.next {l = Named} (expression p)))
   climb Slice p = G.next {l = Slice} (G.next {l = Named} (expression p))
+  climb Subject p = G.next {l = Subject} (G.next {l = Named} (expression p))
 
   -- from an inner level up to Named
   from_or : G.Derives Or ts e → G.Derives Named ts e
@@ -137,6 +138,7 @@ module _ {ts : List Terminal} {e : Expr} where
   to_named Slices h p = absurd (cc)
   to_named Part h p = absurd (cc)
   to_named Slice h p = absurd (cc)
+  to_named Subject h p = absurd (cc)
 
 -- ---- Places.
 

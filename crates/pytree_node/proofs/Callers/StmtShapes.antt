@@ -11,6 +11,8 @@ use Rattle.pytree_node.specs.declared.expressions.Keyword.{Keyword}
 use Rattle.pytree_node.specs.declared.statements.Alias.{Alias}
 use Rattle.pytree_node.specs.declared.statements.Item.{Item}
 use Rattle.pytree_node.specs.declared.statements.TypeParam.{TypeParam}
+use Rattle.pytree_node.specs.declared.statements.Case as given_case
+use Rattle.pytree_node.specs.declared.statements.Case.{Case}
 use Rattle.pytree_node.specs.declared.statements.Handler as given_handler
 use Rattle.pytree_node.specs.declared.statements.Handler.{Handler}
 use Rattle.pytree_node.specs.declared.statements.Stmt as given_stmt
@@ -18,20 +20,20 @@ use Rattle.pytree_node.specs.declared.statements.Stmt.{Stmt}
 use Rattle.pytree_node.specs.declared.statements.Stmt.TheVariants as variant
 use Rattle.pytree_node.specs.declared.statements.Stmt.TheOpen as layer
 use Rattle.pytree_node.specs.Trees as plain
-use Rattle.pytree_node.specs.Trees.{Identifier, keywords, stmts, handlers}
-use Rattle.pytree_node.specs.TreeOf.{tree_of, arguments_of, keyword_of, option_of, boxed_of, alias_of, item_of, type_param_of, stmt_of, handler_of, stmt_step, handler_step}
+use Rattle.pytree_node.specs.Trees.{Identifier, keywords, stmts, cases, handlers}
+use Rattle.pytree_node.specs.TreeOf.{tree_of, arguments_of, keyword_of, option_of, boxed_of, alias_of, item_of, type_param_of, pattern_of, stmt_of, case_of, handler_of, stmt_step, case_step, handler_step}
 
 -- one statement, whose inner statements are statements of the program
 abbrev Layer : Type 0
-Layer = layer.Stmt-F Stmt Handler
+Layer = layer.Stmt-F Stmt Case Handler
 
 -- the statement with its inner statements' values in their places
-abbrev valued : Layer → layer.Stmt-F plain.Stmt plain.Handler
-valued = given_stmt.map-Stmt Stmt Handler plain.Stmt plain.Handler stmt_of handler_of
+abbrev valued : Layer → layer.Stmt-F plain.Stmt plain.Case plain.Handler
+valued = given_stmt.map-Stmt Stmt Case Handler plain.Stmt plain.Case plain.Handler stmt_of case_of handler_of
 
 rolls : (node : Layer) → stmt_of (given_stmt.roll-Stmt node) ≡ stmt_step (valued node)
-unfolding stmt_of handler_of
-rolls = given_stmt.fold-roll-Stmt plain.Stmt plain.Handler stmt_step handler_step
+unfolding stmt_of case_of handler_of
+rolls = given_stmt.fold-roll-Stmt plain.Stmt plain.Case plain.Handler stmt_step case_step handler_step
 
 pub function_def_tree : (name : Identifier) (args : Box Arguments Global) (body : Vec Stmt Global) (decorators : Vec Expr Global) (returns : Option (Box Expr Global)) (parameters : Vec TypeParam Global) →
     stmt_of (variant.FunctionDef name args body decorators returns parameters) ≡ plain.FunctionDef name (arguments_of args.value) (stmts (map stmt_of body.items)) (map tree_of decorators.items) (boxed_of returns) (map type_param_of parameters.items)
@@ -108,6 +110,11 @@ pub async_with_tree : (items : Vec Item Global) (body : Vec Stmt Global) →
 unfolding given_stmt.roll-Stmt denote.Hole.Carrier.roll
 async_with_tree items body = rolls (layer.AsyncWith items body)
 
+pub match_tree : (subject : Expr) (clauses : Vec Case Global) →
+    stmt_of (variant.Match subject clauses) ≡ plain.Match (tree_of subject) (cases (map case_of clauses.items))
+unfolding given_stmt.roll-Stmt denote.Hole.Carrier.roll
+match_tree subject clauses = rolls (layer.Match subject clauses)
+
 pub raise_tree : (exc : Option Expr) (cause : Option Expr) →
     stmt_of (variant.Raise exc cause) ≡ plain.Raise (option_of exc) (option_of cause)
 unfolding given_stmt.roll-Stmt denote.Hole.Carrier.roll
@@ -165,10 +172,15 @@ pub continue_tree : stmt_of variant.Continue ≡ plain.Continue
 unfolding given_stmt.roll-Stmt denote.Hole.Carrier.roll
 continue_tree = rolls layer.Continue
 
-pub handler_tree : (h : Handler) → let o : layer.Handler-F Stmt Handler = given_handler.out-Handler h in
+pub case_tree : (c : Case) → let o : layer.Case-F Stmt Case Handler = given_case.out-Case c in
+    case_of c ≡ record { pattern = pattern_of o.pattern; guard = option_of o.guard; body = map stmt_of o.body.items }
+unfolding stmt_of case_of handler_of
+case_tree = given_case.fold_out-Case plain.Stmt plain.Case plain.Handler stmt_step case_step handler_step
+
+pub handler_tree : (h : Handler) → let o : layer.Handler-F Stmt Case Handler = given_handler.out-Handler h in
     handler_of h ≡ record { class = option_of o.class; name = o.name; body = map stmt_of o.body.items }
-unfolding stmt_of handler_of
-handler_tree = given_handler.fold_out-Handler plain.Stmt plain.Handler stmt_step handler_step
+unfolding stmt_of case_of handler_of
+handler_tree = given_handler.fold_out-Handler plain.Stmt plain.Case plain.Handler stmt_step case_step handler_step
 
 -- the value of every statement and of its parts
 pub ruleset stmt_shapes = (
@@ -187,6 +199,7 @@ pub ruleset stmt_shapes = (
   if_tree,
   with_tree,
   async_with_tree,
+  match_tree,
   raise_tree,
   try_tree,
   try_star_tree,
@@ -199,5 +212,6 @@ pub ruleset stmt_shapes = (
   pass_tree,
   break_tree,
   continue_tree,
+  case_tree,
   handler_tree,
 )

@@ -1,6 +1,6 @@
 use Rattle.std.proofs.Common.{◌≡◌, ◌==◌, ◌&&◌, nat_eq, drop, false, true, ◌<◌, ◌∙◌, ◌++◌, ◌∷◌, [], ap, arith, length, map, refl, sym}
 use Rattle.std.proofs.lemmas.Result.{IfOk-equal}
-use Rattle.pylex_lexeme.specs.declared.kinds.Exact.TheVariants.{Colon, Comma, DoubleStar, Equal, LBrace, RBrace, Star}
+use Rattle.pylex_lexeme.specs.declared.kinds.Exact.TheVariants.{Colon, Comma, Equal, LBrace, RBrace, Star}
 use Rattle.pytree_node.specs.declared.expressions.Arg as given_arg
 use Rattle.pytree_node.specs.declared.expressions.Arguments as given_arguments
 use Rattle.pytree_node.specs.declared.expressions.Keyword as given_keyword
@@ -8,12 +8,12 @@ use Rattle.pytree_node.specs.declared.operators.Comparison.TheVariants as Is
 use Rattle.pytree_node.specs.Trees.{args, comprehensions, exprs, keywords, optional, optional_arg, optionals}
 use Rattle.pytree_node.specs.TreeOf.{arg_of, arg_option_of, arguments_of, boxed_of, comprehension_of, keyword_of, option_of, tree_of}
 use Rattle.pytree_node.proofs.Callers.ExprShapes.{arg_tree, arguments_tree, attribute_tree, await_tree, bin_op_tree, bool_op_tree, call_tree, compare_tree, comprehension_tree, constant_tree, dict_comp_tree, dict_tree, generator_exp_tree, if_exp_tree, keyword_tree, lambda_tree, list_comp_tree, list_tree, name_tree, named_expr_tree, set_comp_tree, set_tree, slice_tree, starred_tree, subscript_tree, tuple_tree, unary_op_tree, yield_from_tree, yield_tree}
-use Rattle.pygrammar.specs.declared.levels.Level.TheVariants.{Atom, BitOr, Elem, Expression, Named}
+use Rattle.pygrammar.specs.declared.levels.Level.TheVariants.{BitOr, Elem, Expression, Named}
 use Rattle.pytree_height.specs.Heights.{arg_height, arg_heights, comprehension_heights, height, heights, keyword_heights, optional_height, optional_heights}
 use Rattle.pytoken.specs.Terminals.{in_form, Op}
 use Rattle.pyunparse_text.specs.Levels.{reaches}
 use Rattle.pyunparse_text.specs.Pieces.{piece, pieces}
-use Rattle.pyunparse_text.specs.Written.{by_name, clauses, conditions, each, element_level, free, gathered, leading, listed, names, pairs, suffixed, tight, trailing, with_star, written, written_keys}
+use Rattle.pyunparse_text.specs.Written.{by_name, clauses, conditions, each, element_level, free, gathered, leading, listed, names, pairs, suffixed, tight, trailing, tuple_level, with_star, written, written_keys}
 use Rattle.pyunparse.specs.Inner.Arguments.{argument, argument_name}
 use Rattle.pyunparse.specs.Inner.Clauses.{clause, clause_height, condition}
 use Rattle.pyunparse_text.specs.Folds.{puts}
@@ -105,8 +105,9 @@ tuples::write_slice-returns g t c = IfOk-equal _ _ _ _ c.close.ensures
 
 pub tuples::write_tuple-returns : goal.tuples::write_tuple-returns
 tuples::write_tuple-returns g t c = λ k. IfOk-equal _ _ _ _ c.close.ensures
-    (tuple g.W.Writer.after c.args.out.now c.args.level (exprs (map tree_of c.args.elts.now)) k _ _ _ _ _ _
-    (c.element_level-place.ensures ∙ ap (element_level c.args.level) c.some_named.ensures) c.are_bare-bare.ensures c.is_alone.ensures c.in_ok-open.ensures c.in_ok-write_members.ensures c.in_ok-put_last.ensures)
+    (tuple g.W.Writer.after c.args.out.now c.args.level (exprs (map tree_of c.args.elts.now)) k _ _ _ _ _ _ _
+    (c.tuple_level-place.ensures ∙ ap (tuple_level c.args.level) c.some_named-named.ensures) (c.element_level.ensures ∙ ap (element_level c.args.level) c.some_named-named.ensures)
+    c.are_bare-bare.ensures c.is_alone.ensures c.in_ok-open.ensures c.in_ok-write_members.ensures c.in_ok-put_last.ensures)
 
 pub displays::write_display-returns : goal.displays::write_display-returns
 displays::write_display-returns g t c = IfOk-equal _ _ _ _ c.put_sign-2.ensures

@@ -1,9 +1,9 @@
 -- Carries: write_arguments. Arguments with commas between, or a generator that stands alone.
-use Rattle.std.proofs.Common.{◌≡◌, ◌∙◌, ℕ, ◌<◌, ◌==◌, Bool, true, false, if◌then◌else◌, List, [], ◌∷◌, ◌++◌, length, get_or, map, refl, ap, sym, arith}
+use Rattle.std.proofs.Common.{◌≡◌, ◌∙◌, ◌<◌, ◌==◌, Bool, true, false, if◌then◌else◌, List, [], ◌∷◌, ◌++◌, length, get_or, map, refl, ap, sym, arith}
 use Rattle.std.proofs.lemmas.Bool.{false≢true}
 use Rattle.pylex_lexeme.specs.declared.kinds.Exact.TheVariants.{Comma}
 use Rattle.pytree_node.specs.declared.expressions.Expr as given
-use Rattle.pytree_node.specs.Trees.{Exprs, Keywords, an_expr, exprs, no_exprs}
+use Rattle.pytree_node.specs.Trees.{Keywords, an_expr, exprs, no_exprs}
 use Rattle.pytree_node.specs.TreeOf.{tree_of}
 use Rattle.pygrammar.specs.declared.levels.Level.TheVariants.{Named}
 use Rattle.pyunparse_text.specs.Spacing.{Piece}

@@ -4,16 +4,16 @@ use Rattle.std.proofs.Common.{◌≡◌, ◌∙◌, ℕ, zero, suc, ◌+◌, ◌
 use Rattle.std.specs.Prelude.{is_some}
 use Rattle.std.proofs.lemmas.Bool.{false≢true}
 use Rattle.std.proofs.lemmas.Bool.Decides.{nat_tests}
-use Rattle.pylex_lexeme.specs.declared.kinds.Exact.TheVariants.{Comma, DoubleStar, Equal, Slash, Star}
+use Rattle.pylex_lexeme.specs.declared.kinds.Exact.TheVariants.{Comma, DoubleStar, Slash, Star}
 use Rattle.pytree_node.specs.declared.expressions.Expr as given
 use Rattle.pytree_node.specs.declared.expressions.Arg as given_arg
-use Rattle.pytree_node.specs.Trees.{Arg, arg, Args, no_arg, an_arg, args, Exprs, no_exprs, an_expr, exprs, OptionalArg, absent_arg, present_arg, optional_arg, OptionalExprs, arguments}
+use Rattle.pytree_node.specs.Trees.{Arg, arg, Args, an_arg, args, exprs, OptionalArg, absent_arg, present_arg, optional_arg, OptionalExprs, arguments}
 use Rattle.pytree_node.specs.TreeOf.{arg_of, arg_option_of, tree_of}
 use Rattle.pygrammar.specs.declared.levels.Level.TheVariants.{Expression}
 use Rattle.pyunparse_text.specs.Spacing.{Piece}
 use Rattle.pytoken.specs.Terminals.{Op}
 use Rattle.pyunparse_text.specs.Pieces.{piece}
-use Rattle.pyunparse_text.specs.Written.{behind_equal, beside, defaults, each, free, gathered, listed, names, parameters, tight, trailing, with_defaults, with_slash, with_star, written}
+use Rattle.pyunparse_text.specs.Written.{behind_equal, beside, defaults, each, free, gathered, listed, names, parameters, trailing, with_defaults, with_slash, with_star, written}
 use Rattle.pyunparse_text.specs.Folds.{puts}
 use Rattle.pyunparse.specs.Inner.Members.{members, padded}
 use Rattle.pyunparse.specs.Inner.Parameters.{by_places, default_at, head_default, named, positional, slash_behind}

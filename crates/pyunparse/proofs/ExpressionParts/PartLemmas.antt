@@ -1,7 +1,7 @@
 -- Carries: write_pairs, write_clause, write_keyword_only. One pair of a dictionary, one clause,
 -- one parameter by name more.
-use Rattle.std.proofs.Common.{◌≡◌, ◌∙◌, Bool, true, false, List, [], ◌∷◌, ◌++◌, Option, None, Some, map, refl, ap, sym}
-use Rattle.pylex_lexeme.specs.declared.kinds.Exact.TheVariants.{Comma, Equal}
+use Rattle.std.proofs.Common.{◌≡◌, ◌∙◌, Bool, true, false, List, [], ◌∷◌, ◌++◌, Option, None, Some, map, refl, ap}
+use Rattle.pylex_lexeme.specs.declared.kinds.Exact.TheVariants.{Equal}
 use Rattle.pytoken.specs.declared.keywords.Keyword.TheVariants as Key
 use Rattle.pytree_node.specs.declared.expressions.Expr as given
 use Rattle.pytree_node.specs.declared.expressions.Arg as given_arg

@@ -1,16 +1,16 @@
 -- Carries: write_star, write_gathered. The `*` before keyword-only parameters, and the parameters
 -- that take all other arguments.
-use Rattle.std.proofs.Common.{◌≡◌, ◌∙◌, Bool, true, false, ◌||◌, ◌==◌, if◌then◌else◌, Option, None, Some, List, [], ◌∷◌, ◌++◌, map, length, refl, ap, sym}
+use Rattle.std.proofs.Common.{◌≡◌, ◌∙◌, Bool, true, false, ◌||◌, ◌==◌, if◌then◌else◌, Option, None, Some, List, [], ◌∷◌, map, length, refl, ap, sym}
 use Rattle.std.specs.Prelude.{is_some}
 use Rattle.std.proofs.lemmas.Bool.{false≢true}
 use Rattle.pylex_lexeme.specs.declared.kinds.Exact.{Exact}
 use Rattle.pylex_lexeme.specs.declared.kinds.Exact.TheVariants.{Comma, Star}
 use Rattle.pytree_node.specs.declared.expressions.Arg as given_arg
-use Rattle.pytree_node.specs.Trees.{Arg, arg, an_arg, args, present_arg, optional_arg}
+use Rattle.pytree_node.specs.Trees.{Arg, arg, args, present_arg, optional_arg}
 use Rattle.pytree_node.specs.TreeOf.{arg_of, arg_option_of}
 use Rattle.pyunparse_text.specs.Spacing.{Piece}
 use Rattle.pyunparse_text.specs.Pieces.{piece}
-use Rattle.pyunparse_text.specs.Written.{gathered, leading, names, trailing, with_star, written}
+use Rattle.pyunparse_text.specs.Written.{gathered, leading, trailing, with_star, written}
 use Rattle.pyunparse_text.specs.Folds.{puts}
 use Rattle.pyunparse.specs.Inner.Members.{members}
 use Rattle.pyunparse.specs.Inner.Parameters.{named}

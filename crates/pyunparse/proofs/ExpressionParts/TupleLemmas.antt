@@ -1,7 +1,7 @@
 -- Carries: write_tuple. A tuple is its elements, with the comma behind one that stands alone, in
 -- brackets where these are needed.
 use Rattle.std.proofs.Common.{◌≡◌, ◌∙◌, Bool, true, false, not, ◌&&◌, List, [], ◌∷◌, ◌++◌, refl, ap, sym, append-nil, append_assoc}
-use Rattle.pylex_lexeme.specs.declared.kinds.Exact.TheVariants.{Comma, RPar}
+use Rattle.pylex_lexeme.specs.declared.kinds.Exact.TheVariants.{Comma}
 use Rattle.pytree_node.specs.declared.operators.Context.{Context}
 use Rattle.pytree_node.specs.Trees
 use Rattle.pytree_node.specs.Trees.{Exprs, no_exprs, an_expr}
@@ -9,7 +9,7 @@ use Rattle.pygrammar.specs.declared.levels.Level.{Level}
 use Rattle.pygrammar.specs.declared.levels.Level.TheVariants.{Elem, Part}
 use Rattle.pyunparse_text.specs.Spacing.{Piece}
 use Rattle.pyunparse_text.specs.Pieces.{piece, pieces}
-use Rattle.pyunparse_text.specs.Written.{each, element_level, lone_star, separated, some_named, trailing, tuple_of, written}
+use Rattle.pyunparse_text.specs.Written.{each, element_level, lone_star, separated, some_named, trailing, tuple_level, tuple_of, written}
 use Rattle.pyunparse.specs.Inner.Elements.{are_bare, is_alone, is_elem, is_part, last}
 use Rattle.pyunparse_text.specs.Folds.{closed, opened, puts}
 use Rattle.pyunparse.proofs.Sequences.FoldLemmas.{four}
@@ -32,20 +32,21 @@ more Part true ts us tss = append-nil (separated comma (ts ∷ (us ∷ tss)))
 more Part false ts us tss = append-nil (separated comma (ts ∷ (us ∷ tss)))
 more _ b ts us tss = append-nil (separated comma (ts ∷ (us ∷ tss)))
 
-whole : (k : Level) (es : Exprs) →
-    opened (are_bare es k) ++ (separated comma (each piece k es) ++ (last (is_alone es k) ++ closed (are_bare es k))) ≡ tuple_of piece k (lone_star es) (each piece k es)
+-- any number of them, written at one level and joined by another
+whole : (j k : Level) (es : Exprs) →
+    opened (are_bare es j) ++ (separated comma (each piece k es) ++ (last (is_alone es j) ++ closed (are_bare es j))) ≡ tuple_of piece j (lone_star es) (each piece k es)
 unfolding written
-whole k no_exprs = refl
-whole k (an_expr e no_exprs) = single k (lone_star (an_expr e no_exprs)) (pieces k e)
-whole k (an_expr e (an_expr f es)) = more k (lone_star (an_expr e (an_expr f es))) (pieces k e) (pieces k f) (each piece k es)
+whole j k no_exprs = refl
+whole j k (an_expr e no_exprs) = single j (lone_star (an_expr e no_exprs)) (pieces k e)
+whole j k (an_expr e (an_expr f es)) = more j (lone_star (an_expr e (an_expr f es))) (pieces k e) (pieces k f) (each piece k es)
 
-pub tuple : {S : Type 0} (after : S → Piece → S) (s : S) (l : Level) (es : Exprs) (c : Context) (k : Level) (bare alone : Bool) (s1 s2 s3 : S) →
-    k ≡ element_level l (some_named es) → bare ≡ are_bare es k → alone ≡ is_alone es k →
+pub tuple : {S : Type 0} (after : S → Piece → S) (s : S) (l : Level) (es : Exprs) (c : Context) (j k : Level) (bare alone : Bool) (s1 s2 s3 : S) →
+    j ≡ tuple_level l (some_named es) → k ≡ element_level l (some_named es) → bare ≡ are_bare es j → alone ≡ is_alone es j →
     s1 ≡ puts after s (opened bare) → s2 ≡ puts after s1 (separated comma (each piece k es)) → s3 ≡ puts after s2 (last alone) →
     puts after s3 (closed bare) ≡ puts after s (pieces l (Trees.Tuple es c))
 unfolding written
-tuple after s l es c k bare alone s1 s2 s3 hk hb ha e1 e2 e3 =
+tuple after s l es c j k bare alone s1 s2 s3 hj hk hb ha e1 e2 e3 =
     four after s (opened bare) (separated comma (each piece k es)) (last alone) (closed bare) s1 s2 s3 e1 e2 e3
     ∙ (λ i. puts after s (opened (hb i) ++ (separated comma (each piece k es) ++ (last (ha i) ++ closed (hb i)))))
-    ∙ ap (puts after s) (whole k es)
-    ∙ ap (λ z. puts after s (tuple_of piece z (lone_star es) (each piece z es))) hk
+    ∙ ap (puts after s) (whole j k es)
+    ∙ (λ i. puts after s (tuple_of piece (hj i) (lone_star es) (each piece (hk i) es)))

@@ -14,15 +14,17 @@ pub puts_append : {S : Type 0} (after : S → Piece → S) (s : S) (ps qs : List
 puts_append after s [] qs = refl
 puts_append after s (p ∷ ps) qs = puts_append after (after s (in_utf8 p)) ps qs
 
+-- tokens without brackets, or in them
+pub in_brackets : {S : Type 0} (after : S → Piece → S) (s : S) (b : Bool) (ts : List Piece) →
+    puts after s (if b then ts else bracketed piece ts) ≡ puts after (puts after (puts after s (opened b)) ts) (closed b)
+in_brackets after s true ts = refl
+in_brackets after s false ts = puts_append after (after s (in_utf8 (leading piece LPar))) ts (trailing piece RPar ∷ [])
+
 -- a form in its brackets, if it needs them
 pub fits : {S : Type 0} (after : S → Piece → S) (s : S) (l k : Level) (ts : List Piece) →
     puts after s (fit piece l k ts) ≡ puts after (puts after (puts after s (opened (reaches l k))) ts) (closed (reaches l k))
 unfolding fit
-fits after s l k ts = by (reaches l k)
-  where
-    by : (b : Bool) → puts after s (if b then ts else bracketed piece ts) ≡ puts after (puts after (puts after s (opened b)) ts) (closed b)
-    by true = refl
-    by false = puts_append after (after s (in_utf8 (leading piece LPar))) ts (trailing piece RPar ∷ [])
+fits after s l k ts = in_brackets after s (reaches l k) ts
 
 -- lists behind one another, by the states between
 module _ {S : Type 0} (after : S → Piece → S) (s : S) where

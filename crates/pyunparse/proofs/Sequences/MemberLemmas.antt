@@ -1,20 +1,16 @@
 -- Carries: the loops. One item more is written, or there is none left.
-use Rattle.std.proofs.Common.{◌≡◌, ◌∙◌, ℕ, zero, suc, ◌+◌, ◌-◌, ◌<◌, ◌≤◌, max, min, Bool, true, false, not, ◌&&◌, if◌then◌else◌, List, [], ◌∷◌, ◌++◌, map, length, length-drop, drop, take, get_or, refl, ap, sym, arith, append-nil, append_assoc, Option, Some, None}
-use Rattle.pylex_lexeme.specs.declared.kinds.Exact.TheVariants.{Comma, Star, Slash}
-use Rattle.pytoken.specs.declared.keywords.Keyword.TheVariants as Key
+use Rattle.std.proofs.Common.{◌≡◌, ◌∙◌, ℕ, zero, suc, ◌+◌, ◌-◌, ◌<◌, ◌≤◌, max, min, Bool, true, false, ◌&&◌, if◌then◌else◌, List, [], ◌∷◌, ◌++◌, map, length, length-drop, drop, take, get_or, refl, ap, sym, arith, append-nil, append_assoc}
 use Rattle.pytree_node.specs.declared.expressions.Expr as given
 use Rattle.pytree_node.specs.declared.operators.Comparison.{Comparison}
 use Rattle.pygrammar.specs.declared.levels.Level.{Level}
-use Rattle.pytree_node.specs.Trees
 use Rattle.pytree_node.specs.Trees.{exprs}
 use Rattle.pytree_node.specs.TreeOf.{tree_of}
 use Rattle.pyunparse_text.specs.Spacing.{Piece}
-use Rattle.pytoken.specs.Terminals.{Op}
 use Rattle.pyunparse_text.specs.Levels.{comparison_signs}
 use Rattle.pyunparse_text.specs.Pieces.{piece, pieces}
 use Rattle.pyunparse_text.specs.Written.{compared, each, free, separated, written}
 use Rattle.pyunparse_text.specs.Folds.{in_utf8, puts}
-use Rattle.pyunparse.specs.Inner.Members.{following, members, padded}
+use Rattle.pyunparse.specs.Inner.Members.{following, members}
 use Rattle.pyunparse.proofs.Sequences.FoldLemmas.{puts_append}
 
 abbrev pub is_nil : {A : Type 0} → List A → Bool

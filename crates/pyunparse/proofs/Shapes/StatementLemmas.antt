@@ -10,6 +10,7 @@ use Rattle.pytree_node.specs.declared.expressions.Keyword.{Keyword}
 use Rattle.pytree_node.specs.declared.statements.Alias.{Alias}
 use Rattle.pytree_node.specs.declared.statements.Item.{Item}
 use Rattle.pytree_node.specs.declared.statements.TypeParam.{TypeParam}
+use Rattle.pytree_node.specs.declared.statements.Case.{Case}
 use Rattle.pytree_node.specs.declared.statements.Handler.{Handler}
 use Rattle.pytree_node.specs.declared.statements.Stmt as given
 use Rattle.pytree_node.specs.declared.statements.Stmt.{Stmt}
@@ -17,10 +18,9 @@ use Rattle.pytree_node.specs.declared.statements.Stmt.TheVariants as variant
 use Rattle.pytree_node.specs.declared.statements.Stmt.TheOpen as layer
 use Rattle.pytree_node.specs.Trees as plain
 use Rattle.pytree_node.specs.Trees.{Identifier}
-use Rattle.pytree_node.specs.TreeOf.{stmt_of, handler_of, stmt_step, handler_step}
+use Rattle.pytree_node.specs.TreeOf.{stmt_of, case_of, handler_of, stmt_step, case_step, handler_step}
 use Rattle.pygrammar.specs.Lines.{else_header}
-use Rattle.pyunparse_text.specs.Spacing.{Piece}
-use Rattle.pyunparse_text.specs.Modules.{WrittenLine, alternative, clause, lines_of, statement_lines, written_line}
+use Rattle.pyunparse_text.specs.Modules.{alternative, clause, lines_of, statement_lines, written_line}
 use Rattle.pyunparse_text.specs.Pieces.{piece}
 use Rattle.pyunparse_text.specs.Statements.{simple_tokens}
 use Rattle.pyunparse.specs.Inner.Lines.{elif_lines, is_if}
@@ -28,15 +28,15 @@ use Rattle.pyunparse_text.proofs.Callers.Writing.{one_item}
 
 -- one node, whose children are nodes of the program
 abbrev Layer : Type 0
-Layer = layer.Stmt-F Stmt Handler
+Layer = layer.Stmt-F Stmt Case Handler
 
 -- the node with its children's values in their places
-abbrev valued : Layer → layer.Stmt-F plain.Stmt plain.Handler
-valued = given.map-Stmt Stmt Handler plain.Stmt plain.Handler stmt_of handler_of
+abbrev valued : Layer → layer.Stmt-F plain.Stmt plain.Case plain.Handler
+valued = given.map-Stmt Stmt Case Handler plain.Stmt plain.Case plain.Handler stmt_of case_of handler_of
 
 opened : (s : Stmt) → stmt_of s ≡ stmt_step (valued (given.out-Stmt s))
-unfolding stmt_of handler_of
-opened = given.fold_out-Stmt plain.Stmt plain.Handler stmt_step handler_step
+unfolding stmt_of case_of handler_of
+opened = given.fold_out-Stmt plain.Stmt plain.Case plain.Handler stmt_step case_step handler_step
 
 -- it has this shape
 abbrev HasShape : plain.Stmt → Stmt → Type 0
@@ -55,6 +55,7 @@ HasShape (plain.While _ _ _) s = (test : Expr) × (body : Vec Stmt Global) × (o
 HasShape (plain.If _ _ _) s = (test : Expr) × (body : Vec Stmt Global) × (orelse : Vec Stmt Global) × (s ≡ (variant.If test body orelse))
 HasShape (plain.With _ _) s = (items : Vec Item Global) × (body : Vec Stmt Global) × (s ≡ (variant.With items body))
 HasShape (plain.AsyncWith _ _) s = (items : Vec Item Global) × (body : Vec Stmt Global) × (s ≡ (variant.AsyncWith items body))
+HasShape (plain.Match _ _) s = (subject : Expr) × (clauses : Vec Case Global) × (s ≡ (variant.Match subject clauses))
 HasShape (plain.Raise _ _) s = (exc : Option Expr) × (cause : Option Expr) × (s ≡ (variant.Raise exc cause))
 HasShape (plain.Try _ _ _ _) s = (body : Vec Stmt Global) × (caught : Vec Handler Global) × (orelse : Vec Stmt Global) × (finalbody : Vec Stmt Global) × (s ≡ (variant.Try body caught orelse finalbody))
 HasShape (plain.TryStar _ _ _ _) s = (body : Vec Stmt Global) × (caught : Vec Handler Global) × (orelse : Vec Stmt Global) × (finalbody : Vec Stmt Global) × (s ≡ (variant.TryStar body caught orelse finalbody))
@@ -85,6 +86,7 @@ layer_has_shape (layer.While test body orelse) = (test, body, orelse, refl)
 layer_has_shape (layer.If test body orelse) = (test, body, orelse, refl)
 layer_has_shape (layer.With items body) = (items, body, refl)
 layer_has_shape (layer.AsyncWith items body) = (items, body, refl)
+layer_has_shape (layer.Match subject clauses) = (subject, clauses, refl)
 layer_has_shape (layer.Raise exc cause) = (exc, cause, refl)
 layer_has_shape (layer.Try body caught orelse finalbody) = (body, caught, orelse, finalbody, refl)
 layer_has_shape (layer.TryStar body caught orelse finalbody) = (body, caught, orelse, finalbody, refl)
@@ -110,6 +112,7 @@ module _ (s : Stmt)
     (no_async_for : (target : Box Expr Global) (iter : Box Expr Global) (body : Vec Stmt Global) (orelse : Vec Stmt Global) → s ≡ variant.AsyncFor target iter body orelse → ⊥)
     (no_with : (items : Vec Item Global) (body : Vec Stmt Global) → s ≡ variant.With items body → ⊥)
     (no_async_with : (items : Vec Item Global) (body : Vec Stmt Global) → s ≡ variant.AsyncWith items body → ⊥)
+    (no_match : (subject : Expr) (clauses : Vec Case Global) → s ≡ variant.Match subject clauses → ⊥)
     (no_try : (body : Vec Stmt Global) (caught : Vec Handler Global) (orelse : Vec Stmt Global) (finalbody : Vec Stmt Global) → s ≡ variant.Try body caught orelse finalbody → ⊥)
     (no_try_star : (body : Vec Stmt Global) (caught : Vec Handler Global) (orelse : Vec Stmt Global) (finalbody : Vec Stmt Global) → s ≡ variant.TryStar body caught orelse finalbody → ⊥)
     (no_function_def : (name : Identifier) (args : Box Arguments Global) (body : Vec Stmt Global) (decorators : Vec Expr Global) (returns : Option (Box Expr Global)) (parameters : Vec TypeParam Global) → s ≡ variant.FunctionDef name args body decorators returns parameters → ⊥)
@@ -123,6 +126,7 @@ module _ (s : Stmt)
   none_compound (plain.AsyncFor _ _ _ _) h l = absurd (no_async_for h.0 h.1 h.2 h.3 h.4)
   none_compound (plain.With _ _) h l = absurd (no_with h.0 h.1 h.2)
   none_compound (plain.AsyncWith _ _) h l = absurd (no_async_with h.0 h.1 h.2)
+  none_compound (plain.Match _ _) h l = absurd (no_match h.0 h.1 h.2)
   none_compound (plain.Try _ _ _ _) h l = absurd (no_try h.0 h.1 h.2 h.3 h.4)
   none_compound (plain.TryStar _ _ _ _) h l = absurd (no_try_star h.0 h.1 h.2 h.3 h.4)
   none_compound (plain.FunctionDef _ _ _ _ _ _) h l = absurd (no_function_def h.0 h.1 h.2 h.3 h.4 h.5 h.6)

@@ -5,11 +5,11 @@ use Rattle.std.proofs.lemmas.Str.{encodes-append}
 use Rattle.std.proofs.lemmas.Bool.{false≢true}
 use Rattle.pytree_node.specs.declared.statements.Stmt as given_stmt
 use Rattle.pytree_node.specs.Trees
-use Rattle.pytree_node.specs.Trees.{Arguments, Expr, Identifier, Keywords, Stmts, TypeParam, stmts}
+use Rattle.pytree_node.specs.Trees.{Arguments, Cases, Expr, Identifier, Keywords, Stmts, TypeParam, stmts}
 use Rattle.pytree_node.specs.TreeOf.{stmt_of}
-use Rattle.pygrammar.specs.Lines.{Header, class_head, else_header, function_head, if_header, loop_header, while_head}
+use Rattle.pygrammar.specs.Lines.{Header, class_head, else_header, function_head, if_header, loop_header, match_header, while_head}
 use Rattle.pyunparse_text.specs.Spacing.{Piece, line_text, lines_text, spaced}
-use Rattle.pyunparse_text.specs.Modules.{WrittenLine, alternative, clause, decorators, header, line_of, lines_of, statement_lines, written_line}
+use Rattle.pyunparse_text.specs.Modules.{WrittenLine, alternative, case_lines, clause, decorators, header, line_of, lines_of, statement_lines, written_line}
 use Rattle.pyunparse_text.specs.Pieces.{piece}
 use Rattle.pyunparse_text.specs.Folds.{puts}
 use Rattle.pyunparse.specs.Inner.Lines.{Blocked, Wrote, def_lines, in_utf8, with_colon}
@@ -165,3 +165,7 @@ pub class_lines : (l : ℕ) (x : Identifier) (es : List Expr) (ks : Keywords) (b
     decorators piece l ds ++ def_lines l (class_head x ps es ks) body ≡ statement_lines piece l (Trees.ClassDef x es ks body ds ps)
 unfolding lines_of
 class_lines l x es ks body ds ps = refl
+
+pub match_lines : (l : ℕ) (e : Expr) (cs : Cases) → header piece l (match_header e) ∷ case_lines piece (suc l) cs ≡ statement_lines piece l (Trees.Match e cs)
+unfolding lines_of
+match_lines l e cs = refl

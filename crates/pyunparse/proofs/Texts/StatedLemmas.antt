@@ -18,7 +18,7 @@ use Rattle.pyunparse_text.specs.Modules.{module_text}
 use Rattle.pyunparse_text.proofs.Callers.Texts.{module_texts_are_accepted, tokens_are_of_tokens}
 use Rattle.pyunparse.specs.RoundTrips.{GivesBack, RoundTrips}
 
-forms_are : {profile : Profile} {xs : List Tokens.Line} {fs : List Line} → given.HaveForms profile xs fs → HaveForms profile (source_lines xs) fs
+forms_are : {profile : Profile} {earlier : List Line} {xs : List Tokens.Line} {fs : List Line} → given.HaveForms profile earlier xs fs → HaveForms profile earlier (source_lines xs) fs
 forms_are given.no_form = no_form
 forms_are (given.a_form h p c) = a_form p (forms_are c)
 
@@ -33,7 +33,7 @@ both extent (t ∷ ts) a b =
 abbrev Good : Extent → Tokens.Line → Type 0
 Good extent x = All (IsOfSourceIn extent) x.tokens
 
-good : {profile : Profile} {xs : List Tokens.Line} {fs : List Line} → given.HaveForms profile xs fs → All (Good profile.extent) xs
+good : {profile : Profile} {earlier : List Line} {xs : List Tokens.Line} {fs : List Line} → given.HaveForms profile earlier xs fs → All (Good profile.extent) xs
 good {profile} given.no_form = All-nil (Good profile.extent)
 good {profile} (given.a_form {x = x} {xs = xs} h p c) = All-cons (Good profile.extent) x xs (both profile.extent x.tokens h.of_source h.faultless) (good c)
 

@@ -2,9 +2,9 @@
 use Rattle.std.specs.Prelude.{◌≡◌, ℕ, suc, Bool, true, false, List, [], ◌∷◌, ◌++◌, map}
 use Rattle.std.specs.Str.{encode_utf8_all}
 use Rattle.pylex_lexeme.specs.declared.kinds.Exact.TheVariants.{Colon}
-use Rattle.pygrammar.specs.Lines.{DefHead, Header, def_header, elif_header, else_header, except_header, finally_header, for_head, loop_header, try_header, with_header}
+use Rattle.pygrammar.specs.Lines.{DefHead, Header, case_header, def_header, elif_header, else_header, except_header, finally_header, for_head, loop_header, try_header, with_header}
 use Rattle.pytree_node.specs.Trees
-use Rattle.pytree_node.specs.Trees.{Expr, Handler, Handlers, Item, Stmt, Stmts, stmts}
+use Rattle.pytree_node.specs.Trees.{Case, Expr, Handler, Handlers, Item, Stmt, Stmts, stmts}
 use Rattle.pyunparse_text.specs.Spacing.{Piece, lines_text}
 use Rattle.pyunparse_text.specs.Writing.{Writing}
 use Rattle.pyunparse_text.specs.Written.{trailing}
@@ -30,7 +30,7 @@ pub record Blocked (v w : Writing) (ls : List (WrittenLine Piece)) : Type 0 wher
   pub text : w.text ≡ v.text ++ 10 ∷ in_utf8 ls
   pub level : w.level ≡ v.level
 
--- those of a `for`, a `with`, a `def` or `class` behind its decorators, a `try`, and one of its handlers
+-- those of a `for`, a `with`, a `def` or `class` behind its decorators, a `try`, one of its handlers, and a case of a `match`
 abbrev pub for_lines : ℕ → Bool → Expr → Expr → Stmts → Stmts → List (WrittenLine Piece)
 for_lines l b t e body orelse = header piece l (loop_header (for_head b t e)) ∷ (lines_of piece (suc l) body ++ clause piece l else_header orelse)
 
@@ -45,6 +45,9 @@ try_lines l b body hs orelse final = header piece l try_header ∷ (lines_of pie
 
 abbrev pub one_handler : ℕ → Bool → Handler → List (WrittenLine Piece)
 one_handler l b h = header piece l (except_header b h.class h.name) ∷ lines_of piece (suc l) (stmts h.body)
+
+abbrev pub one_case : ℕ → Case → List (WrittenLine Piece)
+one_case l c = header piece l (case_header c.pattern c.guard) ∷ lines_of piece (suc l) (stmts c.body)
 
 -- an `if`, and the lines of one as an `elif`
 abbrev pub is_if : Stmt → Bool

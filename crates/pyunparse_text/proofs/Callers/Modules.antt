@@ -1,9 +1,10 @@
 -- On: a module that some lines are is that of its own lines, and lines are one module at most; the
--- heights of forms, and the brackets of lines.
+-- places of cases, the heights of forms, and the brackets of lines.
 --
 -- Carries: what crates above may cite.
-use Rattle.pyunparse_text.specs.Laws.{ModulesComeBack, LinesAreOneModule, AcceptedComeBack, FormsAreLow, ModulesAreLow, LineBracketsAreWithinHeight}
+use Rattle.pyunparse_text.specs.Laws.{ModulesComeBack, CasesStandInMatches, LinesAreOneModule, AcceptedComeBack, FormsAreLow, ModulesAreLow, LineBracketsAreWithinHeight}
 use Rattle.pyunparse_text.proofs.Modules.Law
+use Rattle.pyunparse_text.proofs.Modules.Places
 use Rattle.pyunparse_text.proofs.Modules.Low
 use Rattle.pyunparse_text.proofs.Modules.High
 use Rattle.pyunparse_text.proofs.Modules.FlatLines
@@ -11,6 +12,9 @@ use Rattle.pyunparse_text.proofs.Modules.Accepted
 
 pub modules_come_back : ModulesComeBack
 modules_come_back = Law.modules_again
+
+pub cases_stand_in_matches : CasesStandInMatches
+cases_stand_in_matches = Places.cases_in_matches
 
 pub lines_are_one_module : LinesAreOneModule
 lines_are_one_module = Accepted.one_module

@@ -14,10 +14,10 @@ use Rattle.pytree_node.specs.Trees.{Expr, Exprs, no_exprs, an_expr, Comprehensio
 use Rattle.pytoken.specs.Terminals.{Terminal, Op, Word}
 use Rattle.pygrammar.specs.Targets.{both, stored, all_stored}
 use Rattle.pygrammar.specs.Grammar as G
-use Rattle.pyunparse_text.specs.Written.{separated, star_level, some_named, lone_star, element_level, fit, tuple_of, for_in, written, each, alone, by_name, clauses, conditions}
+use Rattle.pyunparse_text.specs.Written.{separated, star_level, some_named, lone_star, element_level, fit, for_in, written, each, alone, by_name, clauses, conditions}
 use Rattle.pyunparse_text.specs.Terminals.{terminal}
 use Rattle.pyunparse_text.proofs.Fewest.Reach.{deep_primary}
-use Rattle.pyunparse_text.proofs.Fewest.Less.{is_named}
+use Rattle.pyunparse_text.proofs.Fewest.Less.{is_named, tuple_text}
 use Rattle.pyunparse_text.proofs.Fewest.Claims.{given, Claim, here, node, atom}
 
 -- contexts are not written terminal
@@ -80,7 +80,7 @@ same_grown e f es fs w k s = record {
   empty = refl;
 }
 
-pub tuple_same : (l : Level) (es fs : Exprs) → SameList es fs → tuple_of terminal (element_level l (some_named es)) (lone_star es) (each terminal (element_level l (some_named es)) es) ≡ tuple_of terminal (element_level l (some_named fs)) (lone_star fs) (each terminal (element_level l (some_named fs)) fs)
+pub tuple_same : (l : Level) (es fs : Exprs) → SameList es fs → tuple_text l (some_named es) es ≡ tuple_text l (some_named fs) fs
 tuple_same l es fs s = rw (s.named, s.lone, s.pieces_same (element_level l (some_named fs))) refl
 
 mutual

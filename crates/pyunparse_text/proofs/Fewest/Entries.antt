@@ -7,16 +7,16 @@ use Rattle.std.specs.Prelude.{not, map}
 use Rattle.pylex_lexeme.specs.declared.kinds.Exact.TheVariants.{LPar, RPar, LSqb, RSqb, LBrace, RBrace, Colon, Comma, Star, Slash, Equal, DoubleStar}
 use Rattle.pytree_node.specs.declared.operators.Context.TheVariants.{Load}
 use Rattle.pygrammar.specs.declared.levels.Level.{Level}
-use Rattle.pygrammar.specs.declared.levels.Level.TheVariants.{Value, Stars, StarItem, Named, Expression, BitOr, Atom, Elem, Slices, Part}
+use Rattle.pygrammar.specs.declared.levels.Level.TheVariants.{Value, Stars, StarItem, Named, Expression, BitOr, Atom, Elem, Slices, Part, Subject}
 use Rattle.pytree_node.specs.Trees
 use Rattle.pytree_node.specs.Trees.{Expr, Exprs, no_exprs, an_expr, arg, Identifier}
 use Rattle.pytoken.specs.Terminals.{Terminal, Op, Ident, in_form, Spelled}
 use Rattle.pygrammar.specs.Entries.{Item, Of, Pair, Argument, Parameter, Entry, Single, Paired, Spread, Doubled, Keyed, Plain, Slashed, Bare, Gathered, Collected, singles, keys, values}
 use Rattle.pygrammar.specs.Grammar as G
-use Rattle.pyunparse_text.specs.Written.{separated, some_named, lone_star, element_level, bracketed, with_comma, tuple_of, written, each, suffixed, written_keys, pairs}
+use Rattle.pyunparse_text.specs.Written.{separated, some_named, lone_star, bracketed, with_comma, tuple_of, written, each, suffixed, written_keys, pairs}
 use Rattle.pyunparse_text.specs.Terminals.{terminal}
 use Rattle.pyunparse_text.proofs.Fewest.Reach.{climb, to_atom, length_bracketed}
-use Rattle.pyunparse_text.proofs.Fewest.Less.{some_slice, tuple_place, allowed, length_separated, length_with_comma, total_named, length_part}
+use Rattle.pyunparse_text.proofs.Fewest.Less.{some_slice, tuple_place, allowed, length_separated, length_with_comma, total_named, length_part, tuple_text}
 use Rattle.pyunparse_text.proofs.Fewest.Claims.{Ready, Claim, here, atom}
 
 -- an entry in its list
@@ -233,6 +233,9 @@ at_slices _ es r p s = G.parts p (list_of s)
 at_stars : (e : Expr) (es : List Entry) → Standings (Of StarItem) (Single e ∷ es) → G.Derives Stars (written terminal StarItem e ++ (Op Comma ∷ separated (Op Comma) (each terminal StarItem (singles es)))) (Trees.Tuple (an_expr e (singles es)) Load)
 at_stars e es s = let h = head_of s in G.star_tuple (h.0.all StarItem h.1) (list_of (tail_of s))
 
+at_subject : (e : Expr) (es : List Entry) → Standings (Of Elem) (Single e ∷ es) → G.Derives Subject (written terminal Elem e ++ (Op Comma ∷ separated (Op Comma) (each terminal Elem (singles es)))) (Trees.Tuple (an_expr e (singles es)) Load)
+at_subject e es s = let h = head_of s in G.subject_tuple (h.0.all Elem h.1) (list_of (tail_of s))
+
 at_atom : (e : Expr) (es : List Entry) → Standings (Of Elem) (Single e ∷ es) → G.Derives Atom (bracketed terminal (written terminal Elem e ++ (Op Comma ∷ separated (Op Comma) (each terminal Elem (singles es))))) (Trees.Tuple (an_expr e (singles es)) Load)
 at_atom e es s = let h = head_of s in subst (λ z. G.Derives Atom z (Trees.Tuple (an_expr e (singles es)) Load)) (sym (with_comma_brackets (written terminal Elem e) (separated (Op Comma) (each terminal Elem (singles es))))) (G.tuple (h.0.all Elem h.1) (list_of (tail_of s)))
 
@@ -246,11 +249,12 @@ star_standings {e} {es} s h = placed StarItem star_from_part s (not_false (some_
 elem_standings : {e : Expr} {es : List Entry} → Standings (Of Part) (Single e ∷ es) → not (some_slice (an_expr e (singles es))) ≡ true → Standings (Of Elem) (Single e ∷ es)
 elem_standings {e} {es} s h = placed Elem elem_from_part s (not_false (some_slice (an_expr e (singles es))) h)
 
-tuple_at : (m : Level) (b : Bool) (e : Expr) (es : List Entry) → Standings (Of Part) (Single e ∷ es) → tuple_place m (some_slice (an_expr e (singles es))) ≡ true → G.Derives m (tuple_of terminal (element_level m b) (lone_star (an_expr e (singles es))) (each terminal (element_level m b) (an_expr e (singles es)))) (Trees.Tuple (an_expr e (singles es)) Load)
+tuple_at : (m : Level) (b : Bool) (e : Expr) (es : List Entry) → Standings (Of Part) (Single e ∷ es) → tuple_place m (some_slice (an_expr e (singles es))) ≡ true → G.Derives m (tuple_text m b (an_expr e (singles es))) (Trees.Tuple (an_expr e (singles es)) Load)
 unfolding each
 tuple_at Slices b e es s h = at_slices e es (head_of s).0 ((head_of s).0.all Part (head_of s).1) (tail_of s)
 tuple_at Stars false e es s h = at_stars e es (star_standings s h)
 tuple_at Value false e es s h = G.next (at_stars e es (star_standings s h))
+tuple_at Subject b e es s h = at_subject e es (elem_standings s h)
 tuple_at m b e es s h = climb m Atom (to_atom m) (at_atom e es (elem_standings s h))
 
 tuple_ready : (e : Expr) (es : List Entry) → Standings (Of Part) (Single e ∷ es) → Ready (Trees.Tuple (an_expr e (singles es)) Load)
@@ -258,7 +262,7 @@ unfolding written
 tuple_ready e es s = record { all = λ m h. tuple_at m (some_named (an_expr e (singles es))) e es s h; inside = tt }
 
 -- in Stars: with brackets only where a NamedExpr would have its own
-star_size : (e : Expr) (z : Exprs) (b : Bool) → some_named (an_expr e z) ≡ b → length (tuple_of terminal (element_level Stars b) (lone_star (an_expr e z)) (each terminal (element_level Stars b) (an_expr e z))) ≤ length (with_comma terminal (each terminal StarItem (an_expr e z)))
+star_size : (e : Expr) (z : Exprs) (b : Bool) → some_named (an_expr e z) ≡ b → length (tuple_text Stars b (an_expr e z)) ≤ length (with_comma terminal (each terminal StarItem (an_expr e z)))
 unfolding each
 star_size e z false q = omega arith
 star_size e no_exprs true q = omega (arith, total_named (an_expr e no_exprs) q, length_bracketed (with_comma terminal (written terminal Elem e ∷ [])), length_with_comma (written terminal Elem e) [], length_with_comma (written terminal StarItem e) [])
@@ -272,6 +276,16 @@ star_tuple_claim {ts} {us} {e} {es} p c =
       ready = tuple_ready e es (moved StarItem Part part_from_star s);
       place = ap not (slice_free StarItem star_free s);
       short = omega (arith, star_size e (singles es) (some_named (an_expr e (singles es))) refl, length_with_comma (written terminal StarItem e) (each terminal StarItem (singles es)), p.short, list_short c, length_separated (Op Comma) (each terminal StarItem (singles es)), length-append ts (Op Comma ∷ us));
+    }
+
+pub subject_tuple_claim : {ts us : List Terminal} {e : Expr} {es : List Entry} → Claim Elem ts e → ListingClaim (Of Elem) us es → Claim Subject (ts ++ (Op Comma ∷ us)) (Trees.Tuple (an_expr e (singles es)) Load)
+unfolding written each
+subject_tuple_claim {ts} {us} {e} {es} p c =
+    let s : Standings (Of Elem) (Single e ∷ es) = one (p.ready, p.place) c.standing in
+    record {
+      ready = tuple_ready e es (moved Elem Part part_from_elem s);
+      place = ap not (slice_free Elem elem_free s);
+      short = simp length-append (omega (arith, p.short, list_short c));
     }
 
 pub tuple_claim : {ts us : List Terminal} {e : Expr} {es : List Entry} → Claim Elem ts e → ListingClaim (Of Elem) us es → Claim Atom (Op LPar ∷ (ts ++ (Op Comma ∷ (us ++ (Op RPar ∷ []))))) (Trees.Tuple (an_expr e (singles es)) Load)

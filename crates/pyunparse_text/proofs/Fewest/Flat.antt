@@ -22,7 +22,7 @@ use Rattle.pytoken.specs.Terminals.{Terminal, Op, Word}
 use Rattle.pygrammar.specs.Operators.{below, chain_level, chain_word}
 use Rattle.pytree_height.specs.Heights.{height, heights, optional_height, optional_heights, comprehension_heights, keyword_heights, arg_heights, optional_arg_height, arguments_height}
 use Rattle.pyunparse_text.specs.Levels.{leads, reaches, operator_level, left_level, right_level, operator_sign, unary_level, unary_sign, comparison_signs}
-use Rattle.pyunparse_text.specs.Written.{separated, beside, star_level, some_named, lone_star, element_level, lone_generator, constant_terminal, free, bracketed, fit, with_comma, tuple_of, compared, for_in, behind_equal, with_slash, with_star, written, each, perhaps, suffixed, alone, by_name, written_keys, pairs, clauses, conditions, parameters, names, gathered, defaults}
+use Rattle.pyunparse_text.specs.Written.{separated, beside, star_level, some_named, lone_star, element_level, tuple_level, lone_generator, constant_terminal, free, bracketed, fit, with_comma, tuple_of, compared, for_in, behind_equal, with_slash, with_star, written, each, perhaps, suffixed, alone, by_name, written_keys, pairs, clauses, conditions, parameters, names, gathered, defaults}
 use Rattle.pyunparse_text.specs.Terminals.{terminal}
 use Rattle.pyunparse_text.specs.Brackets.{open_after, most_open, brackets}
 use Rattle.pyunparse_text.specs.Laws.{not_atom}
@@ -64,7 +64,7 @@ open_round = record { is = λ d. refl }
 pub open_square : Opens (Op LSqb)
 open_square = record { is = λ d. refl }
 
-open_curly : Opens (Op LBrace)
+pub open_curly : Opens (Op LBrace)
 open_curly = record { is = λ d. refl }
 
 pub close_round : Closes (Op RPar)
@@ -73,7 +73,7 @@ close_round = record { is = λ d. omega arith }
 pub close_square : Closes (Op RSqb)
 close_square = record { is = λ d. omega arith }
 
-close_curly : Closes (Op RBrace)
+pub close_curly : Closes (Op RBrace)
 close_curly = record { is = λ d. omega arith }
 
 pub pair : {n : ℕ} {o c : Terminal} {ts : List Terminal} → Opens o → Closes c → Flat n ts → Flat (n + 1) (o ∷ (ts ++ (c ∷ [])))
@@ -110,7 +110,7 @@ separated_flat {n} t k none = flat_none n
 separated_flat t k (one f none) = f
 separated_flat t k (one f (one g r)) = both f (plain k (separated_flat t k (one g r)))
 
-with_comma_flat : {n : ℕ} {tss : List (List Terminal)} → AllFlat n tss → Flat n (with_comma terminal tss)
+pub with_comma_flat : {n : ℕ} {tss : List (List Terminal)} → AllFlat n tss → Flat n (with_comma terminal tss)
 with_comma_flat {n} none = flat_none n
 with_comma_flat (one f r) = both f (plain neutral (separated_flat (Op Comma) neutral r))
 
@@ -260,7 +260,7 @@ unary_neutral Un.UAdd d = refl
 unary_neutral Un.USub d = refl
 unary_neutral Un.Invert d = refl
 
-constant_neutral : (v : Values.Value) → Neutral (constant_terminal v)
+pub constant_neutral : (v : Values.Value) → Neutral (constant_terminal v)
 constant_neutral (Values.Bool true) d = refl
 constant_neutral (Values.Bool false) d = refl
 constant_neutral _ d = refl
@@ -285,7 +285,7 @@ mutual
   flat l a (Trees.Subscript e s c) = primary l a (both (up (flat Primary refl e) (omega arith)) (pair {n = max (height e) (height s)} open_square close_square (up (flat Slices refl s) (omega arith))))
   flat l a (Trees.Name x c) = plain (λ d. refl) (flat_none 1)
   flat l a (Trees.Constant v) = plain (constant_neutral v) (flat_none 1)
-  flat l a (Trees.Tuple es c) = tuple_flat (element_level l (some_named es)) (lone_star es) (flat_each (element_level l (some_named es)) (element_not_atom l (some_named es)) es)
+  flat l a (Trees.Tuple es c) = tuple_flat (tuple_level l (some_named es)) (lone_star es) (flat_each (element_level l (some_named es)) (element_not_atom l (some_named es)) es)
   flat l a (Trees.GeneratorExp e gs) = pair open_round close_round (both (up (flat Named refl e) (omega arith)) (up (flat_clauses gs) (omega arith)))
   flat l a (Trees.ListOf es c) = pair open_square close_square (separated_flat (Op Comma) neutral (flat_each Elem refl es))
   flat l a (Trees.ListComp e gs) = pair open_square close_square (both (up (flat Named refl e) (omega arith)) (up (flat_clauses gs) (omega arith)))

@@ -14,7 +14,7 @@ use Rattle.pygrammar.specs.Grammar as G
 use Rattle.pyunparse_text.specs.Written.{written}
 use Rattle.pyunparse_text.specs.Terminals.{terminal}
 use Rattle.pyunparse_text.proofs.Fewest.Claims.{Claim, here, next_claim, group_claim, if_else_claim, named_claim, await_claim, attribute_claim, subscript_claim, power_claim, binary_claim, unary_claim, ChainClaim, last_link_claim, link_claim, chain_claim, compared_claim, ComparesClaim, last_compare_claim, compares_claim, compare_claim, name_claim, constant_claim, star_item_claim, star_elem_claim, star_part_claim, PerhapsClaim, nothing_claim, something_claim, slice_claim, slice_step_claim, YieldsClaim, yields_claim, yield_group_claim, yield_from_claim, yield_some_claim}
-use Rattle.pyunparse_text.proofs.Fewest.Entries.{PieceClaim, ListingClaim, no_item_claim, last_item_claim, item_claim, single_claim, pair_claim, pairs_of_claim, argument_claim, star_argument_claim, keyword_argument_claim, double_argument_claim, list_claim, set_claim, dict_claim, empty_tuple_claim, star_tuple_claim, tuple_claim, parts_claim, star_slices_claim}
+use Rattle.pyunparse_text.proofs.Fewest.Entries.{PieceClaim, ListingClaim, no_item_claim, last_item_claim, item_claim, single_claim, pair_claim, pairs_of_claim, argument_claim, star_argument_claim, keyword_argument_claim, double_argument_claim, list_claim, set_claim, dict_claim, empty_tuple_claim, star_tuple_claim, subject_tuple_claim, tuple_claim, parts_claim, star_slices_claim}
 use Rattle.pyunparse_text.proofs.Fewest.Calls.{call_claim}
 use Rattle.pyunparse_text.proofs.Fewest.Clauses.{IfsClaim, no_if_claim, if_one_claim, ForInClaim, target_in_claim, CompClaim, for_claim, async_for_claim, CompsClaim, one_comp_claim, comps_claim, generator_group_claim, list_comp_claim, set_comp_claim, dict_comp_claim, call_generator_claim}
 use Rattle.pyunparse_text.proofs.Fewest.Params.{SuffixClaim, no_suffix_claim, suffix_claim, parameter_claim, slash_claim, bare_star_claim, star_parameter_claim, star_annotation_claim, double_parameter_claim, lambda_claim}
@@ -53,6 +53,7 @@ mutual
   claim (G.dict_comp p q c) = dict_comp_claim (claim p) (claim q) (comps c)
   claim (G.set c) = set_claim (listing c)
   claim (G.set_comp p c) = set_comp_claim (claim p) (comps c)
+  claim (G.subject_tuple p c) = subject_tuple_claim (claim p) (listing c)
   claim (G.star_elem p) = star_elem_claim (claim p)
   claim (G.star_slices p) = star_slices_claim (star_part_claim (claim p))
   claim (G.parts p c) = parts_claim (claim p) (listing c)

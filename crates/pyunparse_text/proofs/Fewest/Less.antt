@@ -6,13 +6,13 @@ use Rattle.std.proofs.Common.{◌≡◌, refl, ℕ, ◌+◌, ◌≤◌, arith, L
 use Rattle.std.specs.Prelude.{◌-◌, not}
 use Rattle.pylex_lexeme.specs.declared.kinds.Exact.TheVariants.{Comma}
 use Rattle.pygrammar.specs.declared.levels.Level.{Level}
-use Rattle.pygrammar.specs.declared.levels.Level.TheVariants.{Value, Stars, StarItem, Named, Expression, BitOr, Atom, Elem, Slices, Part, Slice}
+use Rattle.pygrammar.specs.declared.levels.Level.TheVariants.{Value, Stars, StarItem, Named, Expression, BitOr, Atom, Elem, Slices, Part, Slice, Subject}
 use Rattle.pytree_node.specs.Trees
 use Rattle.pytree_node.specs.Trees.{Expr, Exprs, no_exprs, an_expr}
 use Rattle.pytoken.specs.Terminals.{Terminal, Op}
 use Rattle.pygrammar.specs.Operators.{below}
 use Rattle.pyunparse_text.specs.Levels.{reaches}
-use Rattle.pyunparse_text.specs.Written.{separated, some_named, lone_star, element_level, fit, with_comma, tuple_of, written, each}
+use Rattle.pyunparse_text.specs.Written.{separated, some_named, lone_star, element_level, tuple_level, fit, with_comma, tuple_of, written, each}
 use Rattle.pyunparse_text.specs.Terminals.{terminal}
 use Rattle.pyunparse_text.proofs.Fewest.Reach.{implied, from_below, to_expression, length_bracketed, fit_less, fit_more, operator_deep, chain_deep, unary_deep, deep_expression, deep_compare, deep_await, deep_primary, part_elem_value, part_elem_named, part_elem_slice, elem_star_value, elem_star_named, elem_star_slice, star_elem_value, star_elem_slice, star_named_not, elem_named_is, fit_two}
 
@@ -241,28 +241,38 @@ pub length_part : (b : Bool) (ts : List Terminal) (tss : List (List Terminal)) �
 length_part true ts tss = omega (arith, length_with_comma ts tss, length_separated (Op Comma) (ts ∷ tss))
 length_part false ts tss = omega arith
 
+-- a Tuple's terminals at a level
+abbrev pub tuple_text : Level → Bool → Exprs → List Terminal
+tuple_text l b es = tuple_of terminal (tuple_level l b) (lone_star es) (each terminal (element_level l b) es)
+
 -- sizes of tuples
-stars : (es : Exprs) (b : Bool) → some_named es ≡ b → length (tuple_of terminal (element_level Stars b) (lone_star es) (each terminal (element_level Stars b) es)) ≤ length (tuple_of terminal Elem (lone_star es) (each terminal Elem es))
+stars : (es : Exprs) (b : Bool) → some_named es ≡ b → length (tuple_text Stars b es) ≤ length (tuple_text Elem b es)
 unfolding each
 stars no_exprs true q = omega arith
 stars no_exprs false q = omega arith
 stars (an_expr e es) true q = omega arith
 stars (an_expr e es) false q = omega (arith, length_bracketed (with_comma terminal (written terminal Elem e ∷ each terminal Elem es)), length_with_comma (written terminal StarItem e) (each terminal StarItem es), length_with_comma (written terminal Elem e) (each terminal Elem es), total_unnamed (an_expr e es) q, total_unnamed es (unnamed_rest e es q), star_elem e (unnamed_first e es q))
 
-slices : (es : Exprs) → length (tuple_of terminal Part (lone_star es) (each terminal Part es)) ≤ length (tuple_of terminal Elem (lone_star es) (each terminal Elem es))
+slices : (es : Exprs) (b : Bool) → length (tuple_text Slices b es) ≤ length (tuple_text Elem b es)
 unfolding each
-slices no_exprs = omega arith
-slices (an_expr e es) = omega (arith, length_part (lone_star (an_expr e es)) (written terminal Part e) (each terminal Part es), length_with_comma (written terminal Part e) (each terminal Part es), length_bracketed (with_comma terminal (written terminal Elem e ∷ each terminal Elem es)), length_with_comma (written terminal Elem e) (each terminal Elem es), part_elem e, total_less Part Elem part_elem es)
+slices no_exprs b = omega arith
+slices (an_expr e es) b = omega (arith, length_part (lone_star (an_expr e es)) (written terminal Part e) (each terminal Part es), length_with_comma (written terminal Part e) (each terminal Part es), length_bracketed (with_comma terminal (written terminal Elem e ∷ each terminal Elem es)), length_with_comma (written terminal Elem e) (each terminal Elem es), part_elem e, total_less Part Elem part_elem es)
+
+subject : (es : Exprs) (b : Bool) → length (tuple_text Subject b es) ≤ length (tuple_text Elem b es)
+unfolding each
+subject no_exprs b = omega arith
+subject (an_expr e es) b = omega (arith, length_bracketed (with_comma terminal (written terminal Elem e ∷ each terminal Elem es)))
 
 -- at the next level there are no fewer brackets
-tuple_step : (l : Level) (es : Exprs) → length (tuple_of terminal (element_level l (some_named es)) (lone_star es) (each terminal (element_level l (some_named es)) es)) ≤ length (tuple_of terminal (element_level (below l) (some_named es)) (lone_star es) (each terminal (element_level (below l) (some_named es)) es))
+tuple_step : (l : Level) (es : Exprs) → length (tuple_text l (some_named es) es) ≤ length (tuple_text (below l) (some_named es) es)
 tuple_step Value es = value (some_named es)
   where
-    value : (b : Bool) → length (tuple_of terminal (element_level Value b) (lone_star es) (each terminal (element_level Value b) es)) ≤ length (tuple_of terminal (element_level Stars b) (lone_star es) (each terminal (element_level Stars b) es))
+    value : (b : Bool) → length (tuple_text Value b es) ≤ length (tuple_text Stars b es)
     value true = omega arith
     value false = omega arith
 tuple_step Stars es = stars es (some_named es) refl
-tuple_step Slices es = slices es
+tuple_step Slices es = slices es (some_named es)
+tuple_step Subject es = subject es (some_named es)
 tuple_step _ es = omega arith
 
 pub step_less : (l : Level) (e : Expr) → allowed (below l) e ≡ true → length (written terminal l e) ≤ length (written terminal (below l) e)

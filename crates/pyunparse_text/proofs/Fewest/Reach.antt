@@ -1,6 +1,6 @@
 -- Carries: the laws of fewest brackets. On: which levels lead to which, and what stands at one of
 -- them in brackets or without.
-use Rattle.std.proofs.Common.{◌≡◌, refl, sym, ap, subst, ◌∙◌, ℕ, zero, suc, ◌+◌, ◌-◌, ◌≤◌, ◌<◌, arith, List, [], ◌∷◌, length, Bool, true, false, cond, length-append}
+use Rattle.std.proofs.Common.{◌≡◌, refl, sym, ap, subst, ◌∙◌, ℕ, zero, suc, ◌+◌, ◌≤◌, ◌<◌, arith, List, [], ◌∷◌, length, Bool, true, false, cond, length-append}
 use Rattle.std.specs.Prelude.{eqb, get_or, ◌||◌}
 use Rattle.std.specs.List.{list_all}
 use Rattle.std.proofs.lemmas.Bool.{eqb-true}
@@ -12,7 +12,7 @@ use Rattle.pytree_node.specs.declared.operators.UnaryOperator.TheVariants as Un
 use Rattle.pytree_node.specs.declared.operators.BoolOperator.{BoolOperator}
 use Rattle.pytree_node.specs.declared.operators.BoolOperator.TheVariants as Join
 use Rattle.pygrammar.specs.declared.levels.Level.{Level}
-use Rattle.pygrammar.specs.declared.levels.Level.TheVariants.{Value, Stars, StarItem, Named, Expression, Or, And, Not, Compare, BitOr, BitXor, BitAnd, Shift, Sum, Term, Factor, Power, Await, Primary, Atom, Elem, Slices, Part, Slice}
+use Rattle.pygrammar.specs.declared.levels.Level.TheVariants.{Value, Stars, StarItem, Named, Expression, Or, And, Not, Compare, BitOr, BitXor, BitAnd, Shift, Sum, Term, Factor, Power, Await, Primary, Atom, Elem, Slices, Part, Slice, Subject}
 use Rattle.pytree_node.specs.Trees.{Expr}
 use Rattle.pytoken.specs.Terminals.{Terminal}
 use Rattle.pygrammar.specs.Operators.{below, chain_level, rank}
@@ -24,14 +24,15 @@ use Rattle.pyunparse_text.specs.Terminals.{terminal}
 -- ---- All levels, in the order of their ranks.
 
 abbrev pub levels : List Level
-levels = Value ∷ Slices ∷ Stars ∷ Part ∷ Slice ∷ StarItem ∷ Elem ∷ Named ∷ Expression ∷ Or ∷ And ∷ Not ∷ Compare ∷ BitOr ∷ BitXor ∷ BitAnd ∷ Shift ∷ Sum ∷ Term ∷ Factor ∷ Power ∷ Await ∷ Primary ∷ Atom ∷ []
+levels = Subject ∷ Value ∷ Slices ∷ Stars ∷ Part ∷ Slice ∷ StarItem ∷ Elem ∷ Named ∷ Expression ∷ Or ∷ And ∷ Not ∷ Compare ∷ BitOr ∷ BitXor ∷ BitAnd ∷ Shift ∷ Sum ∷ Term ∷ Factor ∷ Power ∷ Await ∷ Primary ∷ Atom ∷ []
 
 -- a level's place among them
 record Placed (l : Level) : Type 0 where
-  among : rank l - 1 < length levels
-  is : get_or levels (rank l - 1) Atom ≡ l
+  among : rank l < length levels
+  is : get_or levels (rank l) Atom ≡ l
 
 placed : (l : Level) → Placed l
+placed Subject = record { among = omega arith; is = refl }
 placed Value = record { among = omega arith; is = refl }
 placed Stars = record { among = omega arith; is = refl }
 placed StarItem = record { among = omega arith; is = refl }
@@ -58,15 +59,15 @@ placed Part = record { among = omega arith; is = refl }
 placed Slice = record { among = omega arith; is = refl }
 
 same_level : (l k : Level) → eqb (rank l) (rank k) ≡ true → l ≡ k
-same_level l k h = sym (placed l).is ∙ (ap (λ n. get_or levels (n - 1) Atom) (eqb-true (rank l) (rank k) h) ∙ (placed k).is)
+same_level l k h = sym (placed l).is ∙ (ap (λ n. get_or levels n Atom) (eqb-true (rank l) (rank k) h) ∙ (placed k).is)
 
 -- what holds of all of them, by computation
 pub every : (p : Level → Bool) → list_all p levels ≡ true → (l : Level) → p l ≡ true
-every p h l = subst (λ k. p k ≡ true) (placed l).is (by (p (get_or levels (rank l - 1) Atom)) refl)
+every p h l = subst (λ k. p k ≡ true) (placed l).is (by (p (get_or levels (rank l) Atom)) refl)
   where
-    by : (b : Bool) → p (get_or levels (rank l - 1) Atom) ≡ b → p (get_or levels (rank l - 1) Atom) ≡ true
+    by : (b : Bool) → p (get_or levels (rank l) Atom) ≡ b → p (get_or levels (rank l) Atom) ≡ true
     by true q = q
-    by false q = let f = list_all_at p levels (rank l - 1) Atom (placed l).among q in absurd (cc)
+    by false q = let f = list_all_at p levels (rank l) Atom (placed l).among q in absurd (cc)
 
 -- ---- What leads to a level.
 

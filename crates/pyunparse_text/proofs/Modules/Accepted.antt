@@ -20,8 +20,8 @@ use Rattle.pytoken.specs.Refusals.{most_brackets}
 use Rattle.pytree_height.specs.Heights.{expression_height}
 use Rattle.unicode_normalization.specs.Forms.{nfkc}
 use Rattle.pygrammar.specs.Lines.{Line, line}
-use Rattle.pygrammar.specs.Forms.{FormOf}
-use Rattle.pygrammar.specs.Blocks.{Block}
+use Rattle.pygrammar.specs.Forms.{FormAt}
+use Rattle.pygrammar.specs.Blocks.{Block, stands_in_match}
 use Rattle.pygrammar.specs.Refusals.{terminals, HasForm, Formed, formed_end, formed_line, Accepted}
 use Rattle.pygrammar.proofs.Callers.SourceLaw.{forms_are_lawful, blocks_are_lawful, answers_are_lawful}
 use Rattle.pyunparse_text.specs.Spacing.{Piece, is_operator_kind}
@@ -30,7 +30,8 @@ use Rattle.pyunparse_text.specs.SpacingLaws.{ReadsBack, IsClear}
 use Rattle.pyunparse_text.proofs.Callers.Pieces.{written_is_read, written_is_clear}
 use Rattle.pyunparse_text.specs.Brackets.{open_after, most_open, brackets}
 use Rattle.pyunparse_text.specs.Modules.{WrittenLine, written_line, line_of, terminal_lines, piece_lines}
-use Rattle.pyunparse_text.specs.Laws.{Give, give_none, give, HaveForms, no_form, a_form, AreModule, LinesAreOneModule, AcceptedComeBack, source_lines, AreWithin, GiveLines, no_line, a_line, ModuleTextsAreAccepted}
+use Rattle.pyunparse_text.specs.Laws.{Give, give_none, give, HaveForms, no_form, a_form, AreModule, LinesAreOneModule, MayBeTokens, AcceptedComeBack, AreOfTokens, source_lines, AreWithin, GiveLines, no_line, a_line, ModuleTextsAreAccepted}
+use Rattle.pyunparse_text.proofs.Patterns.OfTokens.{tokens_may_be, of_tokens_may_be}
 use Rattle.pyunparse_text.proofs.Fewest.Flat.{start_open}
 use Rattle.pyunparse_text.proofs.Modules.Law.{modules_again}
 use Rattle.pyunparse_text.proofs.Modules.Low.{forms_low}
@@ -39,21 +40,33 @@ use Rattle.pyunparse_text.proofs.Modules.LinesRead.{modules_read}
 
 -- ---- Lines are one module.
 
-same_forms : {profile : Profile} {ws : List (WrittenLine Terminal)} {xs ys : List Line} → HaveForms profile ws xs → HaveForms profile ws ys → xs ≡ ys
+same_forms : {profile : Profile} {earlier : List Line} {ws : List (WrittenLine Terminal)} {xs ys : List Line} → HaveForms profile earlier ws xs → HaveForms profile earlier ws ys → xs ≡ ys
 same_forms no_form no_form = refl
-same_forms {profile} (a_form {l = l} {ts = ts} {f = f} {xs = xs} p c) (a_form {f = g} q d) = ap (λ z. line l z ∷ xs) (forms_are_lawful.unique profile ts f g p q) ∙ ap (λ z. line l g ∷ z) (same_forms c d)
+same_forms {profile} {earlier} (a_form {l = l} {ts = ts} {f = f} {ws = ws} {xs = xs} p c) (a_form {f = g} {xs = ys} q d) =
+    let e : f ≡ g = forms_are_lawful.unique profile (stands_in_match l earlier) ts f g p q in
+    let r : HaveForms profile (line l f ∷ earlier) ws ys = subst (λ z. HaveForms profile (line l z ∷ earlier) ws ys) (sym e) d in
+    ap (λ z. line l z ∷ xs) e ∙ ap (λ z. line l g ∷ z) (same_forms c r)
 
 pub one_module : LinesAreOneModule
 one_module profile ws m n g h = ap (λ b. record { body = b }) (blocks_are_lawful.unique h.forms m.body n.body (subst (λ z. Block 0 z m.body) (same_forms g.formed h.formed) g.block) h.block)
 
 -- ---- An accepted module is that of its own lines.
 
-pub source_forms : {profile : Profile} {xs : List Tokens.Line} {forms : List Line} → Formed profile xs forms → HaveForms profile (source_lines xs) forms
+lines_may_be : {extent : Extent} (ws : List (WrittenLine Terminal)) → All (AreOfTokens extent) ws → All MayBeTokens ws
+lines_may_be [] h = All-nil MayBeTokens
+lines_may_be {extent} (w ∷ ws) h = All-cons MayBeTokens w ws (of_tokens_may_be w.tokens (All-head (AreOfTokens extent) w ws h)) (lines_may_be ws (All-tail (AreOfTokens extent) w ws h))
+
+source_lines_may_be : (xs : List Tokens.Line) → All MayBeTokens (source_lines xs)
+source_lines_may_be [] = All-nil MayBeTokens
+source_lines_may_be (x ∷ xs) = All-cons MayBeTokens (written_line x.level (terminals x)) (source_lines xs) (tokens_may_be x.tokens) (source_lines_may_be xs)
+
+pub source_forms : {profile : Profile} {earlier : List Line} {xs : List Tokens.Line} {forms : List Line} → Formed profile earlier xs forms → HaveForms profile earlier (source_lines xs) forms
 source_forms formed_end = no_form
 source_forms (formed_line p c) = a_form p.is (source_forms c)
 
 pub accepted_again : AcceptedComeBack
-accepted_again profile s m p = modules_again profile (source_lines (Tokens.lines s)) m (record { forms = p.forms; formed = source_forms p.formed; block = p.block })
+accepted_again profile s m p =
+    modules_again profile (source_lines (Tokens.lines s)) m (record { forms = p.forms; formed = source_forms p.formed; block = p.block }) (source_lines_may_be (Tokens.lines s))
 
 -- ---- Brackets of pieces are those of their terminals.
 
@@ -129,18 +142,20 @@ same_terminals (u ∷ us) e (give {p = p} {ps = ps} {t = t} {ts = ts} g f c) =
     let k : terminal_of u.kind u.text ≡ t = ap (λ x. terminal_of x.kind x.text) h ∙ g.terminal in
     ap (λ z. z ∷ map (λ (t : Tokens.Token). terminal_of t.kind t.text) us) k ∙ ap (λ z. t ∷ z) (same_terminals us r c)
 
-formed_by : {extent : Extent} (profile : Profile) (xs : List Tokens.Line) {rs : List (WrittenLine Piece)} {qs : List (WrittenLine Terminal)} {fs : List Line}
-    → map unplaced_line xs ≡ map token_line (map line_of rs) → GiveLines extent rs qs → HaveForms profile qs fs → AreWithin 500 fs → Formed profile xs fs
+formed_by : {extent : Extent} (profile : Profile) {earlier : List Line} (xs : List Tokens.Line) {rs : List (WrittenLine Piece)} {qs : List (WrittenLine Terminal)} {fs : List Line}
+    → map unplaced_line xs ≡ map token_line (map line_of rs) → GiveLines extent rs qs → HaveForms profile earlier qs fs → AreWithin 500 fs → Formed profile earlier xs fs
 formed_by profile [] e no_line no_form h = formed_end
 formed_by profile [] e (a_line g c) f h = absurd (cc)
 formed_by profile (x ∷ xs) e no_line no_form h = absurd (cc)
-formed_by profile (x ∷ xs) e (a_line {l = l} {ps = ps} {ts = ts} {rs = rs} g c) (a_form {f = f} {xs = fs} p d) h =
+formed_by profile {earlier} (x ∷ xs) e (a_line {l = l} {ps = ps} {ts = ts} {rs = rs} {qs = qs} g c) (a_form {f = f} {xs = fs} p d) h =
     let i : unplaced_line x ≡ token_line (line_of (written_line l ps)) = cc in
     let r : map unplaced_line xs ≡ map token_line (map line_of rs) = cc in
     let n : x.level ≡ l = ap (λ y. y.level) i in
     let s : terminals x ≡ ts = same_terminals x.tokens (ap (λ y. y.tokens) i) g in
-    let q : HasForm profile x f = record { is = subst (λ z. FormOf profile z f) (sym s) p; low = h.0 } in
-    subst (λ z. Formed profile (x ∷ xs) (line z f ∷ fs)) n (formed_line q (formed_by profile xs r c d h.1))
+    let a : FormAt profile (stands_in_match x.level earlier) ts f = subst (λ z. FormAt profile (stands_in_match z earlier) ts f) (sym n) p in
+    let q : HasForm profile (stands_in_match x.level earlier) x f = record { is = subst (λ z. FormAt profile (stands_in_match x.level earlier) z f) (sym s) a; low = h.0 } in
+    let b : HaveForms profile (line x.level f ∷ earlier) qs fs = subst (λ z. HaveForms profile (line z f ∷ earlier) qs fs) (sym n) d in
+    subst (λ z. Formed profile earlier (x ∷ xs) (line z f ∷ fs)) n (formed_line q (formed_by profile xs r c b h.1))
 
 lower : (m n : ℕ) (xs : List Line) → m ≤ n → AreWithin m xs → AreWithin n xs
 lower m n [] e h = tt
@@ -148,7 +163,7 @@ lower m n (x ∷ xs) e h = (omega (arith, e, h.0), lower m n xs e h.1)
 
 pub texts_accepted : ModuleTextsAreAccepted
 texts_accepted profile ws m g h expressions statements =
-    let a : AreModule profile (terminal_lines m) m = modules_again profile ws m g in
+    let a : AreModule profile (terminal_lines m) m = modules_again profile ws m g (lines_may_be ws h) in
     let r = modules_read profile ws m g h in
     let b : ReadsBack (encode_utf8_all _) (piece_lines m) = written_is_read (piece_lines m) r.written in
     let w : AreWithin 500 a.forms = lower (expression_height m) 500 a.forms expressions (forms_low a.forms m a.block) in

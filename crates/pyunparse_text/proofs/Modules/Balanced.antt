@@ -163,6 +163,7 @@ module _ (a : Bool) where
     good (G.dict_comp p q c) = let u = good p in let v = good q in let w = comps c in record { at = λ n. up refl (both (u.at (suc n)) (on refl (both (v.at (suc n)) (both (w.at (suc n)) (down refl ends))))) }
     good (G.set c) = let u = listing c in record { at = λ n. up refl (both (u.at (suc n)) (down refl ends)) }
     good (G.set_comp p c) = let u = good p in let v = comps c in record { at = λ n. up refl (both (u.at (suc n)) (both (v.at (suc n)) (down refl ends))) }
+    good (G.subject_tuple p c) = good_both (good p) (good_on refl (listing c))
     good (G.star_elem p) = good_on refl (good p)
     good (G.star_slices p) = good_on refl (good p)
     good (G.parts p c) = good_both (good p) (good_on refl (listing c))

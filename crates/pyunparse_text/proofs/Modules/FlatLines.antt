@@ -8,20 +8,22 @@ use Rattle.pytree_node.specs.declared.operators.Operator.{Operator}
 use Rattle.pytree_node.specs.declared.operators.Operator.TheVariants as Bin
 use Rattle.pygrammar.specs.DottedNames.{names_in}
 use Rattle.pygrammar.specs.declared.levels.Level.{Level}
-use Rattle.pygrammar.specs.declared.levels.Level.TheVariants.{Value, Stars, Named, Expression, Primary}
+use Rattle.pygrammar.specs.declared.levels.Level.TheVariants.{Value, Stars, Named, Expression, Primary, Subject}
+use Rattle.pygrammar.specs.declared.pattern_levels.PatternLevel.TheVariants.{Patterns}
 use Rattle.pytree_node.specs.Trees
-use Rattle.pytree_node.specs.Trees.{Identifier, Expr, exprs, Keywords, no_keyword, a_keyword, Alias, Item, TypeParam, TypeVar, ParamSpec, TypeVarTuple, Stmt, Stmts, no_stmt, a_stmt, stmts, Handlers, no_handler, a_handler, Module}
+use Rattle.pytree_node.specs.Trees.{Identifier, Expr, exprs, Keywords, no_keyword, a_keyword, Alias, Item, TypeParam, TypeVar, ParamSpec, TypeVarTuple, Stmt, Stmts, no_stmt, a_stmt, stmts, Cases, no_case, a_case, Handlers, no_handler, a_handler, Module}
 use Rattle.pytoken.specs.declared.keywords.Keyword.TheVariants as Key
 use Rattle.pytoken.specs.Terminals.{Terminal, Op, Word}
-use Rattle.pytree_height.specs.Heights.{height, option_height, list_height, item_heights, type_param_height, type_param_heights, keyword_heights, highest_in, highest_in_all, highest_in_handlers, expression_height}
-use Rattle.pygrammar.specs.Lines.{Header, if_header, elif_header, else_header, loop_header, with_header, try_header, except_header, finally_header, def_header, while_head, for_head, function_head, class_head}
+use Rattle.pytree_height.specs.Heights.{height, option_height, list_height, item_heights, type_param_height, type_param_heights, keyword_heights, highest_in, highest_in_all, highest_in_cases, highest_in_handlers, expression_height}
+use Rattle.pygrammar.specs.Lines.{Header, if_header, elif_header, else_header, loop_header, with_header, try_header, except_header, finally_header, def_header, match_header, case_header, while_head, for_head, function_head, class_head}
 use Rattle.pygrammar.specs.FormHeights.{header_height}
 use Rattle.pyunparse_text.specs.Written.{listed, written, each, by_name}
 use Rattle.pyunparse_text.specs.Terminals.{terminal}
 use Rattle.pyunparse_text.specs.Statements as S
 use Rattle.pyunparse_text.specs.Brackets.{brackets}
-use Rattle.pyunparse_text.specs.Modules.{WrittenLine, header, decorators, lines_of, statement_lines, alternative, clause, handler_lines, terminal_lines}
+use Rattle.pyunparse_text.specs.Modules.{WrittenLine, header, decorators, lines_of, statement_lines, alternative, clause, case_lines, handler_lines, terminal_lines}
 use Rattle.pyunparse_text.specs.Laws.{LineBracketsAreWithinHeight}
+use Rattle.pyunparse_text.proofs.Patterns.Flat.{flat_pattern}
 use Rattle.pyunparse_text.proofs.Fewest.Flat.{Flat, Neutral, flat_none, both, plain, pair, up, neutral, AllFlat, none, one, all_up, all_append, separated_flat, open_round, open_square, close_round, close_square, flat, flat_each, flat_by_name, flat_parameters}
 
 listed_flat : {n : ℕ} {tss : List (List Terminal)} → AllFlat n tss → Flat n (listed terminal tss)
@@ -190,6 +192,8 @@ header_flat (def_header (function_head b x ps a r)) =
     async_flat b (plain (λ d. refl) (plain (λ d. refl) (both (up (types_flat ps) (omega arith))
     (both (up (pair open_round close_round (listed_flat (flat_parameters a))) (omega arith)) (up (behind_flat (Op RArrow) Expression r (λ d. refl) (λ e. flat Expression refl e)) (omega arith))))))
 header_flat (def_header (class_head x ps es ks)) = plain (λ d. refl) (plain (λ d. refl) (both (up (types_flat ps) (omega arith)) (up (bases_flat es ks) (omega arith))))
+header_flat (match_header e) = plain (λ d. refl) (up (flat Subject refl e) (omega arith))
+header_flat (case_header p g) = plain (λ d. refl) (both (up (flat_pattern Patterns p) (omega arith)) (up (behind_flat (Word Key.If) Named g (λ d. refl) (λ e. flat Named refl e)) (omega arith)))
 
 -- ---- Lines.
 
@@ -209,7 +213,7 @@ decorators_within n l [] h = tt
 decorators_within n l (e ∷ es) h = (plain (λ d. refl) (up (flat Named refl e) (omega (arith, h))), decorators_within n l es (omega (arith, h)))
 
 mutual
-  unfolding lines_of statement_lines alternative clause handler_lines
+  unfolding lines_of statement_lines alternative clause case_lines handler_lines
 
   lines_within : (n l : ℕ) (ss : Stmts) → highest_in_all ss + 1 ≤ n → AllWithin n (lines_of terminal l ss)
   lines_within n l no_stmt h = tt
@@ -244,6 +248,7 @@ mutual
       within_both n (decorators terminal l ds) (header terminal l (def_header (function_head true x ps a r)) ∷ lines_of terminal (suc l) body) (decorators_within n l ds (omega (arith, h))) (head_within n (def_header (function_head true x ps a r)) (omega (arith, h)), lines_within n (suc l) body (omega (arith, h)))
   statement_within n l (Trees.ClassDef x es ks body ds ps) h =
       within_both n (decorators terminal l ds) (header terminal l (def_header (class_head x ps es ks)) ∷ lines_of terminal (suc l) body) (decorators_within n l ds (omega (arith, h))) (head_within n (def_header (class_head x ps es ks)) (omega (arith, h)), lines_within n (suc l) body (omega (arith, h)))
+  statement_within n l (Trees.Match e cs) h = (head_within n (match_header e) (omega (arith, h)), cases_within n (suc l) cs (omega (arith, h)))
   statement_within n l s h = (up (simple_flat s) h, tt)
 
   alternative_within : (n l : ℕ) (ss : Stmts) → highest_in_all ss + 1 ≤ n → AllWithin n (alternative terminal l ss)
@@ -257,6 +262,11 @@ mutual
   clause_within n l c k no_stmt h = tt
   clause_within n l c k (a_stmt s ss) h =
       (head_within n c k, within_both n (statement_lines terminal (suc l) s) (lines_of terminal (suc l) ss) (statement_within n (suc l) s (omega (arith, h))) (lines_within n (suc l) ss (omega (arith, h))))
+
+  cases_within : (n l : ℕ) (cs : Cases) → highest_in_cases cs + 1 ≤ n → AllWithin n (case_lines terminal l cs)
+  cases_within n l no_case h = tt
+  cases_within n l (a_case p g body cs) h =
+      (head_within n (case_header p g) (omega (arith, h)), within_both n (lines_of terminal (suc l) body) (case_lines terminal l cs) (lines_within n (suc l) body (omega (arith, h))) (cases_within n l cs (omega (arith, h))))
 
   handlers_within : (n l : ℕ) (star : Bool) (hs : Handlers) → highest_in_handlers hs + 1 ≤ n → 1 ≤ n → AllWithin n (handler_lines terminal l star hs)
   handlers_within n l star no_handler h k = tt

@@ -1,8 +1,8 @@
 -- Carries: the law of source text. On: a module has no higher expressions than its forms.
 use Rattle.std.proofs.Common.{ℕ, ◌≤◌, arith, List, [], ◌∷◌, ◌++◌, Option, Bool, true, false}
-use Rattle.pytree_node.specs.Trees.{Expr, Stmt, Handler, Item, stmts, handlers}
-use Rattle.pytree_height.specs.Heights.{list_height, item_heights, highest_in_all, highest_in_handlers}
-use Rattle.pygrammar.specs.Lines.{Line, header_form, Header, if_header, elif_header, else_header, loop_header, with_header, try_header, except_header, finally_header, def_header, LoopHead, while_head, for_head, DefHead, function_head, class_head, loop, with_of, definition, try_of}
+use Rattle.pytree_node.specs.Trees.{Expr, Stmt, Case, Handler, Item, stmts, cases, handlers}
+use Rattle.pytree_height.specs.Heights.{list_height, item_heights, highest_in_all, highest_in_cases, highest_in_handlers}
+use Rattle.pygrammar.specs.Lines.{Line, header_form, Header, if_header, elif_header, else_header, loop_header, with_header, try_header, except_header, finally_header, def_header, case_header, LoopHead, while_head, for_head, DefHead, function_head, class_head, loop, with_of, definition, try_of}
 use Rattle.pygrammar.specs.FormHeights.{header_height, form_height}
 use Rattle.pygrammar.specs.Blocks as B
 use Rattle.pyunparse_text.specs.Laws.{AreWithin, ModulesAreLow}
@@ -66,6 +66,7 @@ mutual
       try_high n star body (x ∷ hs) orelse final u.1 (excepts_high n c v.0) (otherwise_high n q z.0) (ending_high n r z.1)
   statement_high n (B.definition_of head {ds = ds} {es = es} {body = body} d p) h =
       let w = parted n ds _ h in let u = body_high n (def_header head) p w.1.0 w.1.1 in definition_high n es head body (decorators_high n d w.0) u.0 u.1
+  statement_high n (B.match_statement c) h = let u = cases_high n c h.1 in omega (arith, h.0, u)
 
   -- a header's form and the lines of its block
   body_high : (n : ℕ) {l : ℕ} {suite : Option (List Stmt)} {xs : List Line} {ss : List Stmt} (head : Header) → B.Body l suite xs ss → form_height (header_form head suite) ≤ n → AreWithin n xs → (header_height head ≤ n) × (highest ss ≤ n)
@@ -89,6 +90,11 @@ mutual
   excepts_high n B.no_except h = omega arith
   excepts_high n (B.except_clause {star = star} {matched = e} {name = x} {xs = xs} {ys = ys} p q) h =
       let w = parted n xs ys h.1 in let u = body_high n (except_header star e x) p h.0 w.0 in let v = excepts_high n q w.1 in omega (arith, u.0, u.1, v)
+
+  cases_high : (n : ℕ) {l : ℕ} {xs : List Line} {cs : List Case} → B.Cases l xs cs → AreWithin n xs → highest_in_cases (cases cs) ≤ n
+  cases_high n B.no_case h = omega arith
+  cases_high n (B.case_clause {pattern = p} {guard = g} {xs = xs} {ys = ys} b q) h =
+      let w = parted n xs ys h.1 in let u = body_high n (case_header p g) b h.0 w.0 in let v = cases_high n q w.1 in omega (arith, u.0, u.1, v)
 
 pub modules_low : ModulesAreLow
 modules_low n xs m p h = block_high n p h

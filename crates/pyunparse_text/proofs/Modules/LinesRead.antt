@@ -12,7 +12,7 @@ use Rattle.pylex_lexeme.specs.declared.kinds.Exact.TheVariants.{At}
 use Rattle.pytree_node.specs.declared.profiles.Extent.{Extent}
 use Rattle.pytree_node.specs.declared.profiles.Profile.{Profile}
 use Rattle.pygrammar.specs.declared.levels.Level.TheVariants.{Named}
-use Rattle.pytree_node.specs.Trees.{Expr, Stmt, stmts, Handler, handlers, Module}
+use Rattle.pytree_node.specs.Trees.{Expr, Stmt, stmts, Case, cases, Handler, handlers, Module}
 use Rattle.pytoken.specs.Terminals.{Terminal}
 use Rattle.pygrammar.specs.Lines.{Line as FormLine, Header, if_header, elif_header, else_header, try_header, finally_header, decorator_form}
 use Rattle.pygrammar.specs.Forms as F
@@ -23,13 +23,13 @@ use Rattle.pyunparse_text.specs.Written.{leading, written}
 use Rattle.pyunparse_text.specs.Terminals.{terminal}
 use Rattle.pyunparse_text.specs.Pieces.{piece}
 use Rattle.pyunparse_text.specs.Statements.{simple_tokens}
-use Rattle.pyunparse_text.specs.Modules.{WrittenLine, written_line, line_of, decorators, lines_of, statement_lines, alternative, clause, handler_lines}
+use Rattle.pyunparse_text.specs.Modules.{WrittenLine, written_line, line_of, decorators, lines_of, statement_lines, alternative, clause, case_lines, handler_lines}
 use Rattle.pyunparse_text.specs.Laws.{AreRead, AreOfTokens, GiveLines, no_line, a_line, HaveForms, no_form, a_form, AreModule, ModuleIsRead, ModulesAreRead}
 use Rattle.pyunparse_text.proofs.PieceLaws.Derived.{Said, front, behind}
 use Rattle.pyunparse_text.proofs.PieceLaws.Law.{of_tokens}
 use Rattle.pyunparse_text.proofs.PieceLaws.HeaderForms.{ReadHeader, header_read, decorator_read}
 use Rattle.pyunparse_text.proofs.PieceLaws.LinesDerived.{simple_read, header_said, decorator_said}
-use Rattle.pyunparse_text.proofs.Modules.Wells.{Well, well_simple, well_if, well_loop, well_with, well_finally, well_except, well_definition, Wells, none, one, Full, full, Handled, none_handled, one_handled, Decorated, none_decorated, one_decorated, Gives, Formed, none_formed, one_formed, block_wells}
+use Rattle.pyunparse_text.proofs.Modules.Wells.{HeadOf, other_head, Well, well_simple, well_if, well_loop, well_with, well_finally, well_except, well_definition, well_match, Wells, none, one, Full, full, Handled, none_handled, one_handled, Cased, none_cased, one_cased, Decorated, none_decorated, one_decorated, Gives, Formed, none_formed, one_formed, block_wells}
 use Rattle.pyunparse_text.proofs.Modules.Shapes.{lone_if, not_lone, simple_lines, loop_lines, with_lines, try_lines, definition_lines, else_lines}
 
 module _ (extent : Extent) where
@@ -110,7 +110,7 @@ module _ (extent : Extent) where
   ReadDecorator e = AreRead extent (leading piece At ∷ written piece Named e) (leading terminal At ∷ written terminal Named e)
 
   mutual
-    unfolding lines_of statement_lines alternative clause handler_lines
+    unfolding lines_of statement_lines alternative clause case_lines handler_lines
 
     wells_fine : {ss : List Stmt} → Wells ReadSimple (ReadHeader extent) ReadDecorator ss → (l : ℕ) → Fine l (lines_of piece l (stmts ss)) (lines_of terminal l (stmts ss))
     wells_fine none l = fine_none l
@@ -145,6 +145,11 @@ module _ (extent : Extent) where
         (fine_both (handled_fine c l) (fine_both (clause_fine d else_header (header_read else_header tt) l) (clause_fine e finally_header (header_read finally_header tt) l))))
     well_fine (well_definition head {es = es} {body = body} d p b) l =
         moved (definition_lines piece l es head body) (definition_lines terminal l es head body) (fine_both (decorated_fine d l) (fine_head p (full_fine b l)))
+    well_fine (well_match p c) l = fine_head p (cased_fine c (suc l))
+
+    cased_fine : {cs : List Case} → Cased ReadSimple (ReadHeader extent) ReadDecorator cs → (l : ℕ) → Fine l (case_lines piece l (cases cs)) (case_lines terminal l (cases cs))
+    cased_fine none_cased l = fine_none l
+    cased_fine (one_cased p b c) l = fine_both (fine_head p (full_fine b l)) (cased_fine c l)
 
     handled_fine : {star : Bool} {hs : List Handler} → Handled ReadSimple (ReadHeader extent) ReadDecorator star hs → (l : ℕ) → Fine l (handler_lines piece l star (handlers hs)) (handler_lines terminal l star (handlers hs))
     handled_fine none_handled l = fine_none l
@@ -156,14 +161,14 @@ module _ (extent : Extent) where
 
   -- ---- Modules of tokens.
 
+  head_read : {profile : Profile} {ts : List Terminal} {h : Header} → Said extent ts → HeadOf profile ts h → ReadHeader extent h
+  head_read {h = h} q p = header_read h (header_said extent p q)
+
   elif_read : {profile : Profile} {ts : List Terminal} {e : Expr} → Said extent ts → F.HeaderOf profile ts (if_header e) → ReadHeader extent (elif_header e)
-  elif_read {e = e} q p = header_read (elif_header e) (header_said extent p q)
+  elif_read {e = e} q p = header_read (elif_header e) (header_said extent (other_head p) q)
 
   if_read : {profile : Profile} {ts : List Terminal} {e : Expr} → Said extent ts → F.HeaderOf profile ts (elif_header e) → ReadHeader extent (if_header e)
-  if_read {e = e} q p = header_read (if_header e) (header_said extent p q)
-
-  head_read : {profile : Profile} {ts : List Terminal} {h : Header} → Said extent ts → F.HeaderOf profile ts h → ReadHeader extent h
-  head_read {h = h} q p = header_read h (header_said extent p q)
+  if_read {e = e} q p = header_read (if_header e) (header_said extent (other_head p) q)
 
   decorated_read : {profile : Profile} {ts : List Terminal} {e : Expr} → Said extent ts → F.FormOf profile ts (decorator_form e) → ReadDecorator e
   decorated_read q (F.decorator_line {ts = ts} {e = e} p) = decorator_read e (decorator_said extent p (behind [] ts _ q))
@@ -179,7 +184,7 @@ module _ (extent : Extent) where
     rest = behind;
   }
 
-  formed : {profile : Profile} {ws : List (WrittenLine Terminal)} {xs : List FormLine} → All (AreOfTokens extent) ws → HaveForms profile ws xs → Formed ReadSimple (ReadHeader extent) ReadDecorator profile (Said extent) (all_read profile) xs
+  formed : {profile : Profile} {earlier : List FormLine} {ws : List (WrittenLine Terminal)} {xs : List FormLine} → All (AreOfTokens extent) ws → HaveForms profile earlier ws xs → Formed ReadSimple (ReadHeader extent) ReadDecorator profile (Said extent) (all_read profile) xs
   formed h no_form = none_formed
   formed h (a_form {l = l} {ts = ts} {ws = ws} p c) = one_formed (of_tokens ts (All-head (AreOfTokens extent) (written_line l ts) ws h)) p (formed (All-tail (AreOfTokens extent) (written_line l ts) ws h) c)
 

@@ -1,9 +1,9 @@
 -- Carries: the law of accepted modules. On: forms have no higher expressions than the
 -- statements that they give.
 use Rattle.std.proofs.Common.{ℕ, ◌≤◌, arith, List, [], ◌∷◌, ◌++◌, Option, Bool, true, false}
-use Rattle.pytree_node.specs.Trees.{Expr, Stmt, Handler, Item, stmts, handlers}
-use Rattle.pytree_height.specs.Heights.{list_height, item_heights, highest_in_all, highest_in_handlers}
-use Rattle.pygrammar.specs.Lines.{Line, header_form, Header, if_header, elif_header, else_header, loop_header, with_header, try_header, except_header, finally_header, def_header, LoopHead, while_head, for_head, DefHead, function_head, class_head, loop, with_of, definition, try_of}
+use Rattle.pytree_node.specs.Trees.{Expr, Stmt, Case, Handler, Item, stmts, cases, handlers}
+use Rattle.pytree_height.specs.Heights.{list_height, item_heights, highest_in_all, highest_in_cases, highest_in_handlers}
+use Rattle.pygrammar.specs.Lines.{Line, header_form, Header, if_header, elif_header, else_header, loop_header, with_header, try_header, except_header, finally_header, def_header, case_header, LoopHead, while_head, for_head, DefHead, function_head, class_head, loop, with_of, definition, try_of}
 use Rattle.pygrammar.specs.FormHeights.{header_height, form_height}
 use Rattle.pygrammar.specs.Blocks as B
 use Rattle.pyunparse_text.specs.Laws.{AreWithin, FormsAreLow}
@@ -63,6 +63,7 @@ mutual
       let u = body_low n try_header p (omega arith) w.0 in
       (u.0, within_both n xs _ u.1 (within_both n ys _ (excepts_low n c w.1) (within_both n zs _ (otherwise_low n q w.2) (ending_low n r w.3))))
   statement_low n (B.definition_of head {ds = ds} {es = es} {body = body} d p) h = let w = definition_parts n es head body h in within_both n ds _ (decorators_low n d w.0) (body_low n (def_header head) p w.1 w.2)
+  statement_low n (B.match_statement c) h = (omega (arith, h), cases_low n c (omega (arith, h)))
 
   -- a header's form and the lines of its block
   body_low : (n : ℕ) {l : ℕ} {suite : Option (List Stmt)} {xs : List Line} {ss : List Stmt} (head : Header) → B.Body l suite xs ss → header_height head ≤ n → highest ss ≤ n → (form_height (header_form head suite) ≤ n) × AreWithin n xs
@@ -84,6 +85,10 @@ mutual
   excepts_low : (n : ℕ) {l : ℕ} {star : Bool} {xs : List Line} {hs : List Handler} → B.Excepts l star xs hs → highest_in_handlers (handlers hs) ≤ n → AreWithin n xs
   excepts_low n B.no_except h = tt
   excepts_low n (B.except_clause {star = star} {matched = e} {name = x} {xs = xs} p q) h = let u = body_low n (except_header star e x) p (omega (arith, h)) (omega (arith, h)) in (u.0, within_both n xs _ u.1 (excepts_low n q (omega (arith, h))))
+
+  cases_low : (n : ℕ) {l : ℕ} {xs : List Line} {cs : List Case} → B.Cases l xs cs → highest_in_cases (cases cs) ≤ n → AreWithin n xs
+  cases_low n B.no_case h = tt
+  cases_low n (B.case_clause {pattern = p} {guard = g} {xs = xs} b q) h = let u = body_low n (case_header p g) b (omega (arith, h)) (omega (arith, h)) in (u.0, within_both n xs _ u.1 (cases_low n q (omega (arith, h))))
 
 pub forms_low : FormsAreLow
 forms_low xs m p = block_low (highest m.body) p (omega arith)

@@ -144,7 +144,7 @@ lines_of_tokens extent xs h = lines_of extent xs h
 
 -- ---- Accepted sources.
 
-formed_low : {profile : Profile} {xs : List Tokens.Line} {forms : List Line} → Formed profile xs forms → AreWithin 500 forms
+formed_low : {profile : Profile} {earlier : List Line} {xs : List Tokens.Line} {forms : List Line} → Formed profile earlier xs forms → AreWithin 500 forms
 formed_low formed_end = tt
 formed_low (formed_line p c) = (p.low, formed_low c)
 

@@ -1,12 +1,12 @@
 -- Carries: the laws of modules. On: which lines a statement is written in, by what makes it.
 use Rattle.std.proofs.Common.{◌≡◌, refl, ℕ, suc, List, [], ◌∷◌, ◌++◌, Bool, true, false}
 use Rattle.pytree_node.specs.Trees
-use Rattle.pytree_node.specs.Trees.{Expr, Stmt, Stmts, no_stmt, a_stmt, stmts, Handler, handlers, Item, If}
+use Rattle.pytree_node.specs.Trees.{Expr, Stmt, Stmts, no_stmt, a_stmt, stmts, cases, Handler, handlers, Item, If}
 use Rattle.pygrammar.specs.Lines.{Header, else_header, loop_header, with_header, try_header, finally_header, def_header, LoopHead, while_head, for_head, DefHead, function_head, class_head, loop, with_of, definition, try_of}
 use Rattle.pyunparse_text.specs.Written.{Maker}
 use Rattle.pyunparse_text.specs.Statements.{simple_tokens}
 use Rattle.pyunparse_text.specs.Modules.{written_line, header, decorators, lines_of, statement_lines, alternative, clause, handler_lines}
-use Rattle.pyunparse_text.proofs.Modules.Wells.{is_simple, Well, well_simple, well_if, well_loop, well_with, well_finally, well_except, well_definition, Wells, none, one}
+use Rattle.pyunparse_text.proofs.Modules.Wells.{is_simple, Well, well_simple, well_if, well_loop, well_with, well_finally, well_except, well_definition, well_match, Wells, none, one}
 
 abbrev pub is_if : Stmt → Bool
 is_if (If test body orelse) = true
@@ -57,6 +57,7 @@ module _ {S : Stmt → Type 0} {H : Header → Type 0} {D : Expr → Type 0} whe
   not_lone {ss = ss} (well_finally {body = body} {final = final} b d) c h = no_lone (try_of false body [] [] final) ss (try_no_if false body [] [] final)
   not_lone {ss = ss} (well_except star {body = body} {orelse = orelse} {final = final} {h = x} {hs = hs} b d e f) c h = no_lone (try_of star body (x ∷ hs) orelse final) ss (try_no_if star body (x ∷ hs) orelse final)
   not_lone {ss = ss} (well_definition head {es = es} {body = body} d p b) c h = no_lone (definition es head body) ss (definition_no_if es head body)
+  not_lone {ss = ss} (well_match {subject = subject} {c = c} {cs = cs} p d) e h = no_lone (Trees.Match subject (cases (c ∷ cs))) ss refl
 
 module _ {A : Type 0} (make : Maker A) where
   pub simple_lines : (l : ℕ) (s : Stmt) → is_simple s ≡ true → statement_lines make l s ≡ written_line l (simple_tokens make s) ∷ []
@@ -72,6 +73,7 @@ module _ {A : Type 0} (make : Maker A) where
   simple_lines l (Trees.AsyncWith is b) h = absurd (cc)
   simple_lines l (Trees.Try b hs o f) h = absurd (cc)
   simple_lines l (Trees.TryStar b hs o f) h = absurd (cc)
+  simple_lines l (Trees.Match e cs) h = absurd (cc)
   simple_lines l _ h = refl
 
   pub loop_lines : (l : ℕ) (head : LoopHead) (body orelse : List Stmt) → statement_lines make l (loop head body orelse) ≡ header make l (loop_header head) ∷ (lines_of make (suc l) (stmts body) ++ clause make l else_header (stmts orelse))

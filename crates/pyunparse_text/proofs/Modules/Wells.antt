@@ -3,9 +3,11 @@
 use Rattle.std.proofs.Common.{◌≡◌, refl, ℕ, List, [], ◌∷◌, ◌++◌, Option, Some, None, Bool, true, false}
 use Rattle.pytree_node.specs.declared.profiles.Profile.{Profile}
 use Rattle.pytree_node.specs.Trees
-use Rattle.pytree_node.specs.Trees.{Expr, Identifier, Stmt, stmts, Handler, Item, If}
+use Rattle.pytree_node.specs.Trees.{Expr, Identifier, Pattern, Stmt, stmts, Case, cases, Handler, Item, If}
 use Rattle.pytoken.specs.Terminals.{Terminal}
-use Rattle.pygrammar.specs.Lines.{LoopHead, DefHead, Header, Form, Line, line, if_header, elif_header, loop_header, with_header, except_header, def_header, simple_form, decorator_form, header_form, loop, with_of, definition, try_of}
+use Rattle.pygrammar.specs.Lines.{LoopHead, DefHead, Header, Form, Line, line, if_header, elif_header, loop_header, with_header, except_header, def_header, match_header, case_header, simple_form, decorator_form, header_form, loop, with_of, definition, try_of}
+use Rattle.pygrammar.specs.declared.levels.Level.TheVariants.{Subject}
+use Rattle.pygrammar.specs.Grammar as G
 use Rattle.pygrammar.specs.Forms as F
 use Rattle.pygrammar.specs.Blocks as B
 
@@ -22,6 +24,7 @@ is_simple (Trees.With is b) = false
 is_simple (Trees.AsyncWith is b) = false
 is_simple (Trees.Try b hs o f) = false
 is_simple (Trees.TryStar b hs o f) = false
+is_simple (Trees.Match e cs) = false
 is_simple _ = true
 
 pub form_simple : {profile : Profile} {ts : List Terminal} {s : Stmt} → F.Simple profile ts s → is_simple s ≡ true
@@ -46,6 +49,16 @@ form_simple (F.import_names c) = refl
 form_simple (F.from_module p q c) = refl
 form_simple (F.from_dots p h c) = refl
 
+-- a header up to its colon, at the place that it asks for
+pub data HeadOf (profile : Profile) : List Terminal → Header → Type 0 where
+  other_head : {ts : List Terminal} {h : Header} → F.HeaderOf profile ts h → HeadOf profile ts h
+  match_head : {ts : List Terminal} {e : Expr} (form : Identifier) → F.is_whole profile.extent ≡ true → G.Derives Subject ts e →
+      HeadOf profile (F.match_word form ∷ ts) (match_header e)
+  case_head : {ts : List Terminal} {h : Header} → F.is_whole profile.extent ≡ true → F.CaseOf ts h → HeadOf profile ts h
+
+pub case_is : {ts : List Terminal} {h : Header} → F.CaseOf ts h → B.is_case (B.header_kind h) ≡ true
+case_is (F.case_line form p g) = refl
+
 -- what holds of a simple statement, of a header and of a decorator
 module _ (S : Stmt → Type 0) (H : Header → Type 0) (D : Expr → Type 0) where
   mutual
@@ -61,6 +74,7 @@ module _ (S : Stmt → Type 0) (H : Header → Type 0) (D : Expr → Type 0) whe
           Full body → Handled star (h ∷ hs) → Wells orelse → Wells final → Well (try_of star body (h ∷ hs) orelse final)
       well_definition : (head : DefHead) {es : List Expr} {body : List Stmt} →
           Decorated es → H (def_header head) → Full body → Well (definition es head body)
+      well_match : {subject : Expr} {c : Case} {cs : List Case} → H (match_header subject) → Cased (c ∷ cs) → Well (Trees.Match subject (cases (c ∷ cs)))
 
     pub data Wells : List Stmt → Type 0 where
       none : Wells []
@@ -74,6 +88,11 @@ module _ (S : Stmt → Type 0) (H : Header → Type 0) (D : Expr → Type 0) whe
       none_handled : {star : Bool} → Handled star []
       one_handled : {star : Bool} {e : Option Expr} {x : Option Identifier} {body : List Stmt} {hs : List Handler} →
           H (except_header star e x) → Full body → Handled star hs → Handled star (B.handler e x body ∷ hs)
+
+    pub data Cased : List Case → Type 0 where
+      none_cased : Cased []
+      one_cased : {p : Pattern} {g : Option Expr} {body : List Stmt} {cs : List Case} →
+          H (case_header p g) → Full body → Cased cs → Cased (B.case_of p g body ∷ cs)
 
     pub data Decorated : List Expr → Type 0 where
       none_decorated : Decorated []
@@ -97,7 +116,7 @@ module _ (S : Stmt → Type 0) (H : Header → Type 0) (D : Expr → Type 0) whe
   -- what the forms of lines give of that, where their terminals are such
   pub record Gives (profile : Profile) (Q : List Terminal → Type 0) : Type 0 where
     pub simple : {ts : List Terminal} {s : Stmt} → Q ts → F.Simple profile ts s → S s
-    pub header : {ts : List Terminal} {h : Header} → Q ts → F.HeaderOf profile ts h → H h
+    pub header : {ts : List Terminal} {h : Header} → Q ts → HeadOf profile ts h → H h
     pub elif_too : {ts : List Terminal} {e : Expr} → Q ts → F.HeaderOf profile ts (if_header e) → H (elif_header e)
     pub if_too : {ts : List Terminal} {e : Expr} → Q ts → F.HeaderOf profile ts (elif_header e) → H (if_header e)
     pub decorator : {t : Terminal} {ts : List Terminal} {e : Expr} → Q (t ∷ ts) → F.FormOf profile (t ∷ ts) (decorator_form e) → D e
@@ -106,10 +125,10 @@ module _ (S : Stmt → Type 0) (H : Header → Type 0) (D : Expr → Type 0) whe
     pub rest : (ts us : List Terminal) (t : Terminal) → Q (ts ++ (t ∷ us)) → Q us
 
   module _ (profile : Profile) (Q : List Terminal → Type 0) (given : Gives profile Q) where
-    -- lines that have forms
+    -- lines that have forms at some places
     pub data Formed : List Line → Type 0 where
       none_formed : Formed []
-      one_formed : {l : ℕ} {ts : List Terminal} {f : Form} {xs : List Line} → Q ts → F.FormOf profile ts f → Formed xs → Formed (line l f ∷ xs)
+      one_formed : {l : ℕ} {inside : Bool} {ts : List Terminal} {f : Form} {xs : List Line} → Q ts → F.FormAt profile inside ts f → Formed xs → Formed (line l f ∷ xs)
 
     cut : (xs : List Line) {ys : List Line} → Formed (xs ++ ys) → Formed xs × Formed ys
     cut [] a = (none_formed, a)
@@ -124,27 +143,37 @@ module _ (S : Stmt → Type 0) (H : Header → Type 0) (D : Expr → Type 0) whe
     simples_full q (F.ended_simple {ts = ts} p) = full (well_simple (form_simple p) (given.simple (given.front ts _ q) p)) none
     simples_full q (F.more_simples {ts = ts} {us = us} p c) = full (well_simple (form_simple p) (given.simple (given.front ts _ q) p)) (wells_of (simples_full (given.rest ts us _ q) c))
 
-    line_full : {ts : List Terminal} {ss : List Stmt} → Q ts → F.FormOf profile ts (simple_form ss) → Full ss
-    line_full q (F.simple_statements c) = simples_full q c
+    line_full : {inside : Bool} {ts : List Terminal} {ss : List Stmt} → Q ts → F.FormAt profile inside ts (simple_form ss) → Full ss
+    line_full q (F.other_line n (F.simple_statements c)) = simples_full q c
 
-    decorator_is : {ts : List Terminal} {e : Expr} → Q ts → F.FormOf profile ts (decorator_form e) → D e
-    decorator_is q (F.decorator_line p) = given.decorator q (F.decorator_line p)
+    decorator_is : {inside : Bool} {ts : List Terminal} {e : Expr} → Q ts → F.FormAt profile inside ts (decorator_form e) → D e
+    decorator_is q (F.other_line n (F.decorator_line p)) = given.decorator q (F.decorator_line p)
 
-    suite_full : {ts : List Terminal} {h : Header} {suite : Option (List Stmt)} → Q ts → F.FormOf profile ts (header_form h suite) → FullSuite suite
-    suite_full q (F.header_line p) = tt
-    suite_full q (F.header_suite {ts = ts} {us = us} p c) = simples_full (given.rest ts us _ q) c
+    suite_full : {inside : Bool} {ts : List Terminal} {h : Header} {suite : Option (List Stmt)} → Q ts → F.FormAt profile inside ts (header_form h suite) → FullSuite suite
+    suite_full q (F.other_line n (F.header_line p)) = tt
+    suite_full q (F.other_line n (F.header_suite {ts = ts} {us = us} p c)) = simples_full (given.rest ts us _ q) c
+    suite_full q (F.other_line n (F.match_line form w p)) = tt
+    suite_full q (F.case_alone w p) = tt
+    suite_full q (F.case_suite {ts = ts} {us = us} w p c) = simples_full (given.rest ts us _ q) c
 
-    head_is : {ts : List Terminal} {h : Header} {suite : Option (List Stmt)} → Q ts → F.FormOf profile ts (header_form h suite) → H h
-    head_is q (F.header_line {ts = ts} p) = given.header (given.front ts _ q) p
-    head_is q (F.header_suite {ts = ts} p c) = given.header (given.front ts _ q) p
+    head_is : {inside : Bool} {ts : List Terminal} {h : Header} {suite : Option (List Stmt)} → Q ts → F.FormAt profile inside ts (header_form h suite) → H h
+    head_is q (F.other_line n (F.header_line {ts = ts} p)) = given.header (given.front ts _ q) (other_head p)
+    head_is q (F.other_line n (F.header_suite {ts = ts} p c)) = given.header (given.front ts _ q) (other_head p)
+    head_is q (F.other_line n (F.match_line {ts = ts} form w p)) = given.header (given.front (F.match_word form ∷ ts) _ q) (match_head form w p)
+    head_is q (F.case_alone {ts = ts} w p) = given.header (given.front ts _ q) (case_head w p)
+    head_is q (F.case_suite {ts = ts} w p c) = given.header (given.front ts _ q) (case_head w p)
 
-    elif_is : {ts : List Terminal} {e : Expr} {suite : Option (List Stmt)} → Q ts → F.FormOf profile ts (header_form (if_header e) suite) → H (elif_header e)
-    elif_is q (F.header_line {ts = ts} p) = given.elif_too (given.front ts _ q) p
-    elif_is q (F.header_suite {ts = ts} p c) = given.elif_too (given.front ts _ q) p
+    elif_is : {inside : Bool} {ts : List Terminal} {e : Expr} {suite : Option (List Stmt)} → Q ts → F.FormAt profile inside ts (header_form (if_header e) suite) → H (elif_header e)
+    elif_is q (F.other_line n (F.header_line {ts = ts} p)) = given.elif_too (given.front ts _ q) p
+    elif_is q (F.other_line n (F.header_suite {ts = ts} p c)) = given.elif_too (given.front ts _ q) p
+    elif_is q (F.case_alone w p) = absurd (let z = case_is p in cc)
+    elif_is q (F.case_suite w p c) = absurd (let z = case_is p in cc)
 
-    if_is : {ts : List Terminal} {e : Expr} {suite : Option (List Stmt)} → Q ts → F.FormOf profile ts (header_form (elif_header e) suite) → H (if_header e)
-    if_is q (F.header_line {ts = ts} p) = given.if_too (given.front ts _ q) p
-    if_is q (F.header_suite {ts = ts} p c) = given.if_too (given.front ts _ q) p
+    if_is : {inside : Bool} {ts : List Terminal} {e : Expr} {suite : Option (List Stmt)} → Q ts → F.FormAt profile inside ts (header_form (elif_header e) suite) → H (if_header e)
+    if_is q (F.other_line n (F.header_line {ts = ts} p)) = given.if_too (given.front ts _ q) p
+    if_is q (F.other_line n (F.header_suite {ts = ts} p c)) = given.if_too (given.front ts _ q) p
+    if_is q (F.case_alone w p) = absurd (let z = case_is p in cc)
+    if_is q (F.case_suite w p c) = absurd (let z = case_is p in cc)
 
     definition_full : {l : ℕ} (head : DefHead) {suite : Option (List Stmt)} {xs : List Line} {es : List Expr} {body : List Stmt} → Decorated es → (FullSuite suite → Formed xs → Full body) → Formed (line l (header_form (def_header head) suite) ∷ xs) → Full (definition es head body ∷ [])
     definition_full head d p (one_formed q f a) = full (well_definition head d (head_is q f) (p (suite_full q f) a)) none
@@ -165,6 +194,7 @@ module _ (S : Stmt → Type 0) (H : Header → Type 0) (D : Expr → Type 0) whe
       statement_full (B.try_finally {xs = xs} p r) (one_formed q f a) = let w = cut xs a in full (well_finally (body_full p (suite_full q f) w.0) (clause_full (λ s b. body_full r s b) w.1)) none
       statement_full (B.try_except {star = star} {xs = xs} {ys = ys} {zs = zs} p c r t) (one_formed q f a) = let u = cut xs a in let v = cut ys u.1 in let w = cut zs v.1 in full (well_except star (body_full p (suite_full q f) u.0) (excepts_handled c v.0) (otherwise_wells r w.0) (ending_wells t w.1)) none
       statement_full (B.definition_of head {ds = ds} d p) a = let w = cut ds a in definition_full head (decorators_decorated d w.0) (λ s b. body_full p s b) w.1
+      statement_full (B.match_statement (B.case_clause {xs = xs} p c)) (one_formed q f (one_formed r g a)) = let w = cut xs a in full (well_match (head_is q f) (one_cased (head_is r g) (body_full p (suite_full r g) w.0) (cases_cased c w.1))) none
 
       body_full : {l : ℕ} {suite : Option (List Stmt)} {xs : List Line} {ss : List Stmt} → B.Body l suite xs ss → FullSuite suite → Formed xs → Full ss
       body_full B.inline s a = s
@@ -185,6 +215,10 @@ module _ (S : Stmt → Type 0) (H : Header → Type 0) (D : Expr → Type 0) whe
       excepts_handled : {l : ℕ} {star : Bool} {xs : List Line} {hs : List Handler} → B.Excepts l star xs hs → Formed xs → Handled star hs
       excepts_handled B.no_except a = none_handled
       excepts_handled (B.except_clause {xs = xs} p r) (one_formed q f a) = let w = cut xs a in one_handled (head_is q f) (body_full p (suite_full q f) w.0) (excepts_handled r w.1)
+
+      cases_cased : {l : ℕ} {xs : List Line} {cs : List Case} → B.Cases l xs cs → Formed xs → Cased cs
+      cases_cased B.no_case a = none_cased
+      cases_cased (B.case_clause {xs = xs} p r) (one_formed q f a) = let w = cut xs a in one_cased (head_is q f) (body_full p (suite_full q f) w.0) (cases_cased r w.1)
 
       decorators_decorated : {l : ℕ} {xs : List Line} {es : List Expr} → B.Decorators l xs es → Formed xs → Decorated es
       decorators_decorated B.no_decorator a = none_decorated

@@ -315,6 +315,7 @@ module _ (extent : Extent) where
         (sound p (front ts (Op Colon ∷ (us ++ (vs ++ (Op RBrace ∷ [])))) (rest h)), sound q (front us (vs ++ (Op RBrace ∷ [])) more), comps_sound c (front vs (Op RBrace ∷ []) (back us (vs ++ (Op RBrace ∷ [])) more)))
     sound (G.set {ts = ts} {e = e} {es = es} c) h = singles_sound (e ∷ es) (listing_fine c (front ts (Op RBrace ∷ []) (rest h)))
     sound (G.set_comp {ts = ts} {us = us} p c) h = (sound p (front ts (us ++ (Op RBrace ∷ [])) (rest h)), comps_sound c (front us (Op RBrace ∷ []) (back ts (us ++ (Op RBrace ∷ [])) (rest h))))
+    sound (G.subject_tuple {ts = ts} {us = us} {es = es} p c) h = (sound p (front ts (Op Comma ∷ us) h), singles_sound es (listing_fine c (behind ts us (Op Comma) h)))
     sound (G.star_elem p) h = (refl, sound p (rest h))
     sound (G.star_slices p) h = ((refl, sound p (rest h)), tt)
     sound (G.parts {ts = ts} {us = us} {es = es} p c) h = (sound p (front ts (Op Comma ∷ us) h), singles_sound es (listing_fine c (behind ts us (Op Comma) h)))

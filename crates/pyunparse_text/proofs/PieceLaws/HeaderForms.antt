@@ -6,8 +6,10 @@ use Rattle.pylex_lexeme.specs.declared.kinds.Exact.TheVariants.{LPar, RPar, LSqb
 use Rattle.pylex_lexeme.specs.Operators.{operators, exact_of}
 use Rattle.pytree_node.specs.declared.profiles.Extent.{Extent}
 use Rattle.pytoken.specs.declared.keywords.Keyword.TheVariants as Key
-use Rattle.pygrammar.specs.declared.levels.Level.TheVariants.{Stars, Named, Expression}
-use Rattle.pygrammar.specs.Lines.{Header, if_header, elif_header, else_header, loop_header, with_header, try_header, except_header, finally_header, def_header, while_head, for_head, function_head, class_head}
+use Rattle.pygrammar.specs.declared.levels.Level.TheVariants.{Stars, Named, Expression, Subject}
+use Rattle.pygrammar.specs.declared.pattern_levels.PatternLevel.TheVariants.{Patterns}
+use Rattle.pygrammar.specs.Forms.{match_name, case_name}
+use Rattle.pygrammar.specs.Lines.{Header, if_header, elif_header, else_header, loop_header, with_header, try_header, except_header, finally_header, def_header, match_header, case_header, while_head, for_head, function_head, class_head}
 use Rattle.pytree_node.specs.Trees
 use Rattle.pytree_node.specs.Trees.{Identifier, Expr, exprs, Keywords, no_keyword, a_keyword, Arguments, Item, TypeParam}
 use Rattle.pytoken.specs.Terminals.{Terminal, Op, in_form}
@@ -19,14 +21,17 @@ use Rattle.pyunparse_text.specs.Pieces.{piece}
 use Rattle.pyunparse_text.specs.Statements as S
 use Rattle.pyunparse_text.specs.Laws.{AreRead}
 use Rattle.pyunparse_text.proofs.PieceLaws.Sound.{Sound, AreSound, SoundKeywords, SoundArguments}
-use Rattle.pyunparse_text.proofs.PieceLaws.Sorts.{within, suit, is_like, like, late, starts_plain, starts_item, ends_plain, ends_comma, more_item}
+use Rattle.pyunparse_text.proofs.PieceLaws.Sorts.{within, suit, is_like, like, late, starts_plain, starts_item, ends_plain, ends_comma, more_item, more_comma}
 use Rattle.pyunparse_text.proofs.PieceLaws.Fair.{fair_sign}
 use Rattle.pyunparse_text.proofs.PieceLaws.Segments.{Closed, Perhaps, nothing, some, Each, none, more, join, widen, one, within_brackets, sign, tail, between, group, called}
 use Rattle.pyunparse_text.proofs.PieceLaws.Shapes.{Plain, Item as AnItem, keyword, plain_name, plain_both, colon, starred_form, starts_parameter, ends_parameter}
 use Rattle.pyunparse_text.proofs.PieceLaws.Listings.{perhaps_widen, perhaps_both, each_widen, each_both, items_listed, parameters_listed, plain_tail}
 use Rattle.pyunparse_text.proofs.PieceLaws.Readable.{readable, each_are, by_name_are, parameters_are}
 use Rattle.pyunparse_text.proofs.PieceLaws.Law.{closed_read}
-use Rattle.pyunparse_text.proofs.PieceLaws.LineForms.{Valued, word_value, word_plain, SoundOption, option_plain, option_result, MaybeProper, as_name_are, plain_suit, plain_listed, SoundTypes, types_are}
+use Rattle.pyunparse_text.proofs.PieceLaws.SoftWords.{match_is_proper, case_is_proper}
+use Rattle.pyunparse_text.proofs.PieceLaws.LineForms.{Valued, word_value, name_value, word_plain, SoundOption, option_plain, option_result, option_test, MaybeProper, as_name_are, plain_suit, plain_listed, SoundTypes, types_are}
+use Rattle.pyunparse_text.proofs.Patterns.Sound.{SoundPattern}
+use Rattle.pyunparse_text.proofs.Patterns.Readable.{pattern_readable}
 
 abbrev pub SoundItems : Extent → List Item → Type 0
 SoundItems extent [] = Unit {0}
@@ -50,6 +55,8 @@ SoundHeader extent (except_header b e x) = SoundOption extent false e × MaybePr
 SoundHeader extent finally_header = Unit {0}
 SoundHeader extent (def_header (function_head b x ps a r)) = IsProper x × SoundTypes extent ps × SoundArguments extent a × SoundOption extent false r
 SoundHeader extent (def_header (class_head x ps es ks)) = IsProper x × SoundTypes extent ps × AreSound extent true (exprs es) × SoundKeywords extent ks
+SoundHeader extent (match_header e) = Sound extent false e
+SoundHeader extent (case_header p g) = SoundPattern extent false p × SoundOption extent false g
 
 -- a header with its colon
 abbrev pub ReadHeader : Extent → Header → Type 0
@@ -131,6 +138,12 @@ module _ {extent : Extent} where
   unfolding operators
   target_in_form x y = join x (join (keyword Key.In) y refl) refl
 
+  -- ---- Matches.
+
+  pattern_form : {xs ys : List Piece} {ts us : List Terminal} → Valued extent xs ts → Perhaps extent starts_plain ends_plain ys us → Valued extent (xs ++ ys) (ts ++ us)
+  unfolding operators
+  pattern_form x y = tail x (perhaps_widen {c = starts_plain} (λ p e. e) more_comma y) refl
+
   -- ---- Headers.
 
   plain_read : {xs : List Piece} {ts : List Terminal} → Plain extent xs ts → AreRead extent (xs ++ (trailing piece Colon ∷ [])) (ts ++ (trailing terminal Colon ∷ []))
@@ -157,6 +170,8 @@ module _ {extent : Extent} where
   header_read finally_header h = plain_read (keyword Key.Finally)
   header_read (def_header (function_head b x ps a r)) h = plain_read (async_before b (def_form x h.0 (types_are ps h.1) (call_tail (parameters_listed (parameters_are a h.2)) (option_result r h.3))))
   header_read (def_header (class_head x ps es ks)) h = plain_read (class_form x h.0 (types_are ps h.1) (bases_are es ks h.2 h.3))
+  header_read (match_header e) h = comma_read (name_value match_name match_is_proper (readable false Subject e h))
+  header_read (case_header p g) h = comma_read (name_value case_name case_is_proper (pattern_form (pattern_readable false Patterns p h.0) (option_test g h.1)))
 
   pub decorator_read : (e : Expr) → Sound extent false e → AreRead extent (leading piece At ∷ written piece Named e) (leading terminal At ∷ written terminal Named e)
   unfolding operators

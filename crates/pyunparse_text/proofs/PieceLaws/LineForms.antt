@@ -10,7 +10,7 @@ use Rattle.pytoken.specs.declared.keywords.Keyword.{Keyword}
 use Rattle.pytoken.specs.declared.keywords.Keyword.TheVariants as Key
 use Rattle.pytree_node.specs.declared.operators.Operator.{Operator}
 use Rattle.pytree_node.specs.declared.operators.Operator.TheVariants as Bin
-use Rattle.pygrammar.specs.declared.levels.Level.TheVariants.{Value, Stars, Expression, Primary}
+use Rattle.pygrammar.specs.declared.levels.Level.TheVariants.{Value, Stars, Named, Expression, Primary}
 use Rattle.pytree_node.specs.Trees
 use Rattle.pytree_node.specs.Trees.{Identifier, Expr, Exprs, no_exprs, an_expr, exprs, Keywords, no_keyword, a_keyword, Arguments, Alias, Item, TypeParam, TypeVar, ParamSpec, TypeVarTuple}
 use Rattle.pytoken.specs.Terminals.{Terminal, Op, in_form}
@@ -29,7 +29,7 @@ use Rattle.pyunparse_text.proofs.PieceLaws.Shapes.{Plain, keyword, name, plain_n
 use Rattle.pyunparse_text.proofs.PieceLaws.Shapes as Shape
 use Rattle.pyunparse_text.proofs.PieceLaws.Listings.{perhaps_both, items_listed, plain_tail}
 use Rattle.pyunparse_text.proofs.PieceLaws.Readable.{readable}
-use Rattle.pyunparse_text.proofs.PieceLaws.TypeWord.{type_is_proper}
+use Rattle.pyunparse_text.proofs.PieceLaws.SoftWords.{type_is_proper}
 
 -- what a value, or a list of targets, is
 abbrev pub Valued : Extent → List Piece → List Terminal → Type 0
@@ -84,6 +84,10 @@ module _ {extent : Extent} where
   unfolding operators
   word_value k x = tail (widen {c = starts_plain} (λ p e. e) more_comma (keyword k)) x refl
 
+  pub name_value : (x : Identifier) → IsProper x → {xs : List Piece} {ts : List Terminal} → Valued extent xs ts → Closed extent starts_plain ends_comma (free piece (in_form x) ∷ xs) (free terminal (in_form x) ∷ ts)
+  unfolding operators
+  name_value x h y = join (plain_name x h) y refl
+
   pub word_plain : {xs : List Piece} {ts : List Terminal} (k : Keyword) → Perhaps extent starts_plain ends_plain xs ts → Plain extent (word piece k ∷ xs) (word terminal k ∷ ts)
   word_plain k x = plain_tail (keyword k) x
 
@@ -130,6 +134,11 @@ module _ {extent : Extent} where
   unfolding operators
   option_result None h = nothing
   option_result (Some e) h = some (join (loose RArrow refl) (readable false Expression e h) refl)
+
+  -- a guard
+  pub option_test : (e : Option Expr) → SoundOption extent false e → Perhaps extent starts_plain ends_plain (S.behind piece (word piece Key.If) Named e) (S.behind terminal (word terminal Key.If) Named e)
+  option_test None h = nothing
+  option_test (Some e) h = some (plain_both (keyword Key.If) (readable false Named e h))
 
   pub as_name_are : (x : Option Identifier) → MaybeProper x → Perhaps extent starts_plain ends_plain (S.as_name piece x) (S.as_name terminal x)
   as_name_are None h = nothing
@@ -179,7 +188,7 @@ module _ {extent : Extent} where
 
   -- ---- Parameters of types.
 
-  star_name : (x : Identifier) → IsProper x → Shape.Item extent (leading piece Star ∷ (free piece (in_form x) ∷ [])) (leading terminal Star ∷ (free terminal (in_form x) ∷ []))
+  pub star_name : (x : Identifier) → IsProper x → Shape.Item extent (leading piece Star ∷ (free piece (in_form x) ∷ [])) (leading terminal Star ∷ (free terminal (in_form x) ∷ []))
   unfolding operators
   star_name x h = join (sign starts_item (leading piece Star ∷ []) Star false true refl refl refl) (plain_name x h) refl
 

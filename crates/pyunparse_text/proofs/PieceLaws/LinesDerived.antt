@@ -40,6 +40,8 @@ use Rattle.pyunparse_text.proofs.PieceLaws.Law.{closed_read}
 use Rattle.pyunparse_text.proofs.PieceLaws.LineForms.{SoundOption, MaybeProper, AreProper, word_value, word_plain, option_stars, raise_are, plain_listed, names_each, assign_are, augment_are, annotate_are, assert_are, SoundType, SoundTypes, type_alias_are}
 use Rattle.pyunparse_text.proofs.PieceLaws.Imports.{later_read, SoundNames, SoundUnless, SoundAliases, import_are, from_plain, from_points}
 use Rattle.pyunparse_text.proofs.PieceLaws.HeaderForms.{SoundItems, SoundHeader}
+use Rattle.pyunparse_text.proofs.Patterns.Sound.{pattern_sound}
+use Rattle.pyunparse_text.proofs.Modules.Wells.{HeadOf, other_head, match_head, case_head}
 
 not_point : (c : ℕ) → is_xid_continue c ≡ true → (c == 46) ≡ false
 not_point c h = by (c == 46) refl
@@ -243,28 +245,33 @@ module _ (extent : Extent) where
       let f = listing_fine extent c (front ts (Op Sign.RPar ∷ []) (rest h)) in
       (subst (AreSound extent true) (sym (exprs_listed (positional es))) (positional_sound extent es f), keywords_sound extent es f)
 
-  pub header_said : {profile : Profile} {ts : List Terminal} {h : Header} → F.HeaderOf profile ts h → Said extent ts → SoundHeader extent h
-  header_said (F.if_line p) h = sound extent p (rest h)
-  header_said (F.elif_line p) h = sound extent p (rest h)
-  header_said F.else_line h = tt
-  header_said (F.while_line p) h = sound extent p (rest h)
-  header_said (F.for_line {ts = ts} {us = us} {vs = vs} a t p) h =
+  other_said : {profile : Profile} {ts : List Terminal} {h : Header} → F.HeaderOf profile ts h → Said extent ts → SoundHeader extent h
+  other_said (F.if_line p) h = sound extent p (rest h)
+  other_said (F.elif_line p) h = sound extent p (rest h)
+  other_said F.else_line h = tt
+  other_said (F.while_line p) h = sound extent p (rest h)
+  other_said (F.for_line {ts = ts} {us = us} {vs = vs} a t p) h =
       let w = behind ts (us ++ (Word Key.In ∷ vs)) (Word Key.For) h in
       (target_said t (front us (Word Key.In ∷ vs) w), sound extent p (behind us vs (Word Key.In) w))
-  header_said (F.with_line {ts = ts} {us = us} a p) h = items_said p (behind ts us (Word Key.With) h)
-  header_said F.try_line h = tt
-  header_said F.finally_line h = tt
-  header_said F.except_all h = (tt, tt)
-  header_said (F.except_line {ts = ts} {us = us} p q) h = (sound extent p (front ts us (rest h)), as_said q (back ts us (rest h)))
-  header_said (F.except_star {ts = ts} {us = us} p q) h = (sound extent p (front ts us (rest (rest h))), as_said q (back ts us (rest (rest h))))
-  header_said (F.def_line {ts = ts} {us = us} {vs = vs} {ws = ws} x {ps = ps} {a = args} y t c q r) h =
+  other_said (F.with_line {ts = ts} {us = us} a p) h = items_said p (behind ts us (Word Key.With) h)
+  other_said F.try_line h = tt
+  other_said F.finally_line h = tt
+  other_said F.except_all h = (tt, tt)
+  other_said (F.except_line {ts = ts} {us = us} p q) h = (sound extent p (front ts us (rest h)), as_said q (back ts us (rest h)))
+  other_said (F.except_star {ts = ts} {us = us} p q) h = (sound extent p (front ts us (rest (rest h))), as_said q (back ts us (rest (rest h))))
+  other_said (F.def_line {ts = ts} {us = us} {vs = vs} {ws = ws} x {ps = ps} {a = args} y t c q r) h =
       let n = behind ts (Ident x ∷ (us ++ (Op Sign.LPar ∷ (vs ++ (Op Sign.RPar ∷ ws))))) (Word Key.Def) h in
       let w = behind us (vs ++ (Op Sign.RPar ∷ ws)) (Op Sign.LPar) (rest n) in
       (first n, types_said t (front us (Op Sign.LPar ∷ (vs ++ (Op Sign.RPar ∷ ws))) (rest n)), arranged_sound extent ps args q (listing_fine extent c (front vs (Op Sign.RPar ∷ ws) w)), behind_said r (behind vs ws (Op Sign.RPar) w))
-  header_said (F.class_line {ts = ts} {us = us} t b) h =
+  other_said (F.class_line {ts = ts} {us = us} t b) h =
       let w = rest (rest h) in
       let v = bases_said b (back ts us w) in
       (first (rest h), types_said t (front ts us w), v.0, v.1)
+
+  pub header_said : {profile : Profile} {ts : List Terminal} {h : Header} → HeadOf profile ts h → Said extent ts → SoundHeader extent h
+  header_said (other_head p) h = other_said p h
+  header_said (match_head form w p) h = sound extent p (rest h)
+  header_said (case_head w (F.case_line {ts = ts} {us = us} form p g)) h = (pattern_sound extent p (front ts us (rest h)), behind_said g (back ts us (rest h)))
 
   pub decorator_said : {ts : List Terminal} {e : Expr} → G.Derives Named ts e → Said extent ts → Sound extent false e
   decorator_said p h = sound extent p h

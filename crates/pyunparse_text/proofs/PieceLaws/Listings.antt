@@ -5,11 +5,11 @@ use Rattle.pylex_lexeme.specs.declared.kinds.Exact.TheVariants.{LPar, LSqb, Colo
 use Rattle.pytree_node.specs.declared.profiles.Extent.{Extent}
 use Rattle.pytoken.specs.declared.keywords.Keyword.TheVariants as Key
 use Rattle.pygrammar.specs.declared.levels.Level.{Level}
-use Rattle.pygrammar.specs.declared.levels.Level.TheVariants.{Value, Stars, StarItem, Elem, Slices, Part}
+use Rattle.pygrammar.specs.declared.levels.Level.TheVariants.{Value, Stars, StarItem, Elem, Slices, Part, Subject}
 use Rattle.pytree_node.specs.Trees.{Identifier}
 use Rattle.pytoken.specs.Terminals.{Terminal, Op, Word, in_form}
 use Rattle.pyunparse_text.specs.Spacing.{Piece, is_token}
-use Rattle.pyunparse_text.specs.Written.{beside, element_level, free, leading, trailing, tight, listed, with_comma, tuple_of, for_in, behind_equal, with_defaults, with_slash, with_star}
+use Rattle.pyunparse_text.specs.Written.{beside, element_level, tuple_level, free, leading, trailing, tight, listed, with_comma, tuple_of, for_in, behind_equal, with_defaults, with_slash, with_star}
 use Rattle.pyunparse_text.specs.Terminals.{terminal}
 use Rattle.pyunparse_text.specs.Pieces.{piece}
 use Rattle.pylex_lexeme.specs.Operators.{operators}
@@ -87,7 +87,7 @@ module _ {extent : Extent} where
   comma_parts : Closed extent (trailing piece Comma ∷ []) ends_part (trailing piece Comma ∷ []) (trailing terminal Comma ∷ [])
   comma_parts = sign (trailing piece Comma ∷ []) ends_part Comma true false refl refl refl
 
-  with_comma_items : {xs : List Piece} {ts : List Terminal} {xss : List (List Piece)} {tss : List (List Terminal)} → Item extent xs ts → Each extent starts_item ends_plain xss tss → Closed extent starts_item ends_comma (with_comma piece (xs ∷ xss)) (with_comma terminal (ts ∷ tss))
+  pub with_comma_items : {xs : List Piece} {ts : List Terminal} {xss : List (List Piece)} {tss : List (List Terminal)} → Item extent xs ts → Each extent starts_item ends_plain xss tss → Closed extent starts_item ends_comma (with_comma piece (xs ∷ xss)) (with_comma terminal (ts ∷ tss))
   unfolding operators
   with_comma_items x xs = join x (tail comma_items (separated_are (trailing piece Comma) (trailing terminal Comma) comma refl refl (each_widen {c = starts_item} (λ p e. e) more_comma xs)) refl) refl
 
@@ -108,17 +108,22 @@ module _ {extent : Extent} where
   elements_bare b none = widen more_item more_comma (group nothing)
   elements_bare b (more x xs) = with_comma_items x xs
 
+  elements_open : {xss : List (List Piece)} {tss : List (List Terminal)} (b : Bool) → Each extent starts_item ends_plain xss tss → Closed extent starts_item ends_comma (tuple_of piece Subject b xss) (tuple_of terminal Subject b tss)
+  elements_open b none = widen more_item more_comma (group nothing)
+  elements_open b (more x xs) = with_comma_items x xs
+
   elements_parts : {xss : List (List Piece)} {tss : List (List Terminal)} (b : Bool) → Each extent starts_part ends_part xss tss → Closed extent starts_part ends_part (tuple_of piece Part b xss) (tuple_of terminal Part b tss)
   elements_parts b none = widen (λ p e. more_part p (more_item p e)) (λ p e. more_colon p (more_comma p e)) (group nothing)
   elements_parts true (more x xs) = parts_listed x xs
   elements_parts false (more x xs) = with_comma_parts x xs
 
-  pub tuple_form : (s : Bool) (l : Level) (n b : Bool) {xss : List (List Piece)} {tss : List (List Terminal)} → Each extent (starts true (element_level l n)) (ends (element_level l n)) xss tss → Closed extent (starts s l) (ends l) (tuple_of piece (element_level l n) b xss) (tuple_of terminal (element_level l n) b tss)
+  pub tuple_form : (s : Bool) (l : Level) (n b : Bool) {xss : List (List Piece)} {tss : List (List Terminal)} → Each extent (starts true (element_level l n)) (ends (element_level l n)) xss tss → Closed extent (starts s l) (ends l) (tuple_of piece (tuple_level l n) b xss) (tuple_of terminal (tuple_level l n) b tss)
   tuple_form s Slices n b x = elements_parts b x
   tuple_form s Value true b x = plainly s Value (elements_grouped b x)
   tuple_form s Value false b x = elements_bare b x
   tuple_form s Stars true b x = plainly s Stars (elements_grouped b x)
   tuple_form s Stars false b x = elements_bare b x
+  tuple_form s Subject n b x = elements_open b x
   tuple_form s l n b x = plainly s l (elements_grouped b x)
 
   -- arguments by name

@@ -13,7 +13,7 @@ use Rattle.pytree_node.specs.declared.operators.BoolOperator.TheVariants as Join
 use Rattle.pytree_node.specs.declared.operators.Comparison.{Comparison}
 use Rattle.pytree_node.specs.declared.operators.Comparison.TheVariants as Is
 use Rattle.pygrammar.specs.declared.levels.Level.{Level}
-use Rattle.pygrammar.specs.declared.levels.Level.TheVariants.{Value, Stars, Named, Slices, Part, Slice}
+use Rattle.pygrammar.specs.declared.levels.Level.TheVariants.{Value, Stars, Named, Slices, Part, Slice, Subject}
 use Rattle.pytree_node.specs.Values
 use Rattle.pytree_node.specs.Trees.{Identifier}
 use Rattle.pytoken.specs.Terminals.{Terminal, Op, Word, in_form, Number, Literal}
@@ -102,6 +102,7 @@ module _ {extent : Extent} where
   item_at Slice x = widen more_part (λ p e. more_colon p (more_comma p e)) x
   item_at Value x = widen (λ p e. e) more_comma x
   item_at Stars x = widen (λ p e. e) more_comma x
+  item_at Subject x = widen (λ p e. e) more_comma x
   item_at l x = x
 
   pub starred_form : (l : Level) {xs : List Piece} {ts : List Terminal} → Closed extent (starts false (star_level l)) (ends (star_level l)) xs ts → Closed extent (starts true l) (ends l) (leading piece Star ∷ xs) (leading terminal Star ∷ ts)

@@ -7,7 +7,7 @@ use Rattle.std.specs.Str.{bytes_eq}
 use Rattle.std.proofs.lemmas.Slice.Eq.{bytes_eq-Decides}
 use Rattle.pylex_lexeme.specs.declared.kinds.Exact.TheVariants.{LPar, RPar, LSqb, RSqb, LBrace, RBrace, Colon, Comma, Plus, Minus, Star, Tilde, DoubleStar, Ellipsis}
 use Rattle.pygrammar.specs.declared.levels.Level.{Level}
-use Rattle.pygrammar.specs.declared.levels.Level.TheVariants.{Value, Stars, Slices, Part, Slice}
+use Rattle.pygrammar.specs.declared.levels.Level.TheVariants.{Value, Stars, Slices, Part, Slice, Subject}
 use Rattle.pytoken.specs.Terminals.{Op}
 use Rattle.pyunparse_text.specs.Spacing.{Piece, is_number_kind, is_operator_kind, is_token, touches, begins_operator, stay_apart}
 use Rattle.pyunparse_text.specs.Written.{free, leading, trailing, tight}
@@ -205,6 +205,7 @@ starts s Part = starts_part
 starts s Slice = starts_part
 starts s Value = starts_item
 starts s Stars = starts_item
+starts s Subject = starts_item
 starts true l = starts_item
 starts false l = starts_plain
 
@@ -214,6 +215,7 @@ ends Part = ends_part
 ends Slice = ends_part
 ends Value = ends_comma
 ends Stars = ends_comma
+ends Subject = ends_comma
 ends l = ends_plain
 
 pub more_item : (p : Piece) → within starts_plain p ≡ true → within starts_item p ≡ true
@@ -234,6 +236,7 @@ starts_more s Part p e = more_part p (more_item p e)
 starts_more s Slice p e = more_part p (more_item p e)
 starts_more s Value p e = more_item p e
 starts_more s Stars p e = more_item p e
+starts_more s Subject p e = more_item p e
 starts_more true l p e = more_item p e
 starts_more false l p e = e
 
@@ -243,4 +246,5 @@ ends_more Part p e = more_colon p (more_comma p e)
 ends_more Slice p e = more_colon p (more_comma p e)
 ends_more Value p e = more_comma p e
 ends_more Stars p e = more_comma p e
+ends_more Subject p e = more_comma p e
 ends_more l p e = e

@@ -1,13 +1,13 @@
 -- Carries: put_bytes, put_str. The texts of literals: those of bytes are ASCII, and none is a sign.
-use Rattle.std.proofs.Common.{◌≡◌, ◌∙◌, ℕ, zero, suc, ◌/◌, ◌%◌, ◌<◌, Bool, true, false, ◌&&◌, ◌||◌, ◌==◌, if◌then◌else◌, List, [], ◌∷◌, ◌++◌, refl, ap, sym, arith, not}
+use Rattle.std.proofs.Common.{◌≡◌, ◌∙◌, ℕ, zero, suc, ◌/◌, ◌%◌, ◌<◌, Bool, true, false, ◌&&◌, ◌||◌, ◌==◌, if◌then◌else◌, List, [], ◌∷◌, ◌++◌, refl, arith, not}
 use Rattle.std.specs.Prelude.{codes, nat_lt}
 use Rattle.std.specs.List.{flat_map, list_any}
-use Rattle.std.specs.Char.{digit_char, encode_utf8}
-use Rattle.std.specs.Str.{bytes_eq, encode_utf8_all}
+use Rattle.std.specs.Char.{digit_char}
+use Rattle.std.specs.Str.{encode_utf8_all}
 use Rattle.std.proofs.lemmas.Bool.{eqb-true}
 use Rattle.std.proofs.lemmas.Bool.Decides.{nat_tests}
 use Rattle.std.proofs.lemmas.Str.{encode_ascii, encodes-append}
-use Rattle.pysource.specs.Reprs.{escaped, hex, hex_escape, is_unprintable_byte, quote_for, quoted, repr_bytes, repr_chars}
+use Rattle.pysource.specs.Reprs.{escaped, hex, hex_escape, is_unprintable_byte, quote_for, quoted, repr_bytes}
 
 abbrev pub Plain : List ℕ → Type 0
 Plain cs = encode_utf8_all cs ≡ cs

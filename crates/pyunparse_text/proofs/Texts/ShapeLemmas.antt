@@ -1,6 +1,6 @@
 -- Carries: is_bare_tuple, annotated_in_brackets, and is_generator, write_alone, write_item_target of
 -- pyunparse. An expression of the program has the shape that its value has.
-use Rattle.std.proofs.Common.{◌≡◌, Bool, true, false, List, [], Option, Global, refl, sym, subst}
+use Rattle.std.proofs.Common.{◌≡◌, Bool, false, [], Option, Global, refl, sym, subst}
 use Rattle.std.specs.declared.vec.Vec.{Vec}
 use Rattle.std.specs.declared.boxed.Box.{Box}
 use Rattle.pytree_node.specs.declared.operators.Context.{Context}
@@ -16,7 +16,6 @@ use Rattle.pytree_node.specs.Trees as plain
 use Rattle.pytree_node.specs.Trees.{Identifier}
 use Rattle.pytree_node.specs.TreeOf.{tree_of, arg_of, arguments_of, comprehension_of, keyword_of, expr_step, arg_step, arguments_step, comprehension_step, keyword_step}
 use Rattle.pygrammar.specs.declared.levels.Level.TheVariants.{Expression}
-use Rattle.pyunparse_text.specs.Spacing.{Piece}
 use Rattle.pyunparse_text.specs.Pieces.{piece, pieces}
 use Rattle.pyunparse_text.specs.Statements.{annotated_in_brackets, item_target, reads_as_items}
 use Rattle.pyunparse_text.specs.Written.{alone, written}

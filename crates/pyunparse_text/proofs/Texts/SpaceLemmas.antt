@@ -1,11 +1,11 @@
 -- Carries: put_str, put_bytes. A literal stands among blanks as any text does that is no sign.
-use Rattle.std.proofs.Common.{◌≡◌, ◌∙◌, ℕ, Bool, true, false, ◌&&◌, ◌==◌, if◌then◌else◌, List, [], ◌∷◌, ◌++◌, Option, Some, None, refl, ap, sym, append_assoc}
+use Rattle.std.proofs.Common.{◌≡◌, ◌∙◌, ℕ, Bool, true, false, ◌&&◌, ◌==◌, List, [], ◌∷◌, ◌++◌, Option, Some, None, refl, ap, sym, append_assoc}
 use Rattle.std.specs.Prelude.{codes}
 use Rattle.std.specs.Char.{encode_utf8}
 use Rattle.std.specs.Str.{bytes_eq, encode_utf8_all}
 use Rattle.pylex.specs.declared.kind.Kind.TheVariants as kinds
 use Rattle.pysource.specs.Reprs.{repr_chars}
-use Rattle.pytree_node.specs.Values.{Value, Str, Bytes}
+use Rattle.pytree_node.specs.Values.{Str, Bytes}
 use Rattle.pyunparse_text.specs.Spacing.{Piece}
 use Rattle.pyunparse_text.specs.Pieces.{literal_text}
 use Rattle.pyunparse_text.specs.declared.edges.Edge.{Edge}

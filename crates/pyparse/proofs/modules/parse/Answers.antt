@@ -9,7 +9,7 @@ use Rattle.std.proofs.lemmas.Result.{err_from_is_err_and}
 use Rattle.pytoken.specs.Refusals.{refusal}
 use Rattle.pyparse_tokens.specs.Answers.{Tells}
 use Rattle.pyparse_tokens.specs.LineReadings.{LineReading}
-use Rattle.pyparse.specs.Inner.Progressing.{IsKnown}
+use Rattle.pyparse.specs.Inner.Progressing.{IsProgress}
 use Rattle.pyparse.proofs.FinishLemmas.{told_on, closes_at}
 use Rattle.pyparse.proofs.modules.parse.Goals as goal
 
@@ -20,7 +20,7 @@ loop-progress-init c =
       source = ap (λ (r : LineReading). r.source) c.in_ok-lines.ensures.before;
       extent = ap (λ (r : LineReading). r.extent) c.in_ok-lines.ensures.before;
       known =
-          subst (λ (k : ℕ). IsKnown c.args.profile s k c.new-progress.result) (sym (ap (λ (r : LineReading). r.given) c.in_ok-lines.ensures.before))
+          subst (λ (k : ℕ). IsProgress c.args.profile s k c.new-progress.result) (sym (ap (λ (r : LineReading). r.given) c.in_ok-lines.ensures.before))
           (c.new-progress.ensures c.args.profile s);
     }
 

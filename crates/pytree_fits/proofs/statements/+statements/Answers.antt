@@ -1,9 +1,13 @@
 use Rattle.std.proofs.Common.{map, refl}
 use Rattle.std.specs.Prelude.{◌&&◌}
-use Rattle.pytree_node.specs.TreeOf.{handler_of, stmt_of}
-use Rattle.pytree_node.specs.Trees.{handlers, stmts}
+use Rattle.pytree_node.specs.TreeOf.{case_of, handler_of, stmt_of}
+use Rattle.pytree_node.specs.Trees.{optional, cases, handlers, stmts}
+use Rattle.pygrammar.specs.declared.levels.Level.TheVariants.{Expression}
+use Rattle.pygrammar.specs.declared.pattern_levels.PatternLevel.TheVariants.{AsPattern}
 use Rattle.pytree_fits.specs.Tests.{tests_in}
-use Rattle.pytree_fits.specs.Statements.{caught_fits, statement_fits, statements_fit, suite_fits, handlers_fit}
+use Rattle.pytree_fits.specs.Slots.{perhaps_fits}
+use Rattle.pytree_fits.specs.PatternSlots.{pattern_fits_at}
+use Rattle.pytree_fits.specs.Statements.{caught_fits, statement_fits, statements_fit, suite_fits, cases_fit, handlers_fit}
 use Rattle.pytree_fits.proofs.Loops.{goes_on, stops}
 use Rattle.pytree_fits.proofs.statements.+statements.Goals as goal
 
@@ -14,6 +18,16 @@ statements_fit-returns-then-not-branch t c = stops (λ ss. statements_fit c.args
 pub statements_fit-loop-s-preserved : goal.statements_fit-loop-s-preserved
 statements_fit-loop-s-preserved t c = goes_on (λ ss. statements_fit c.args.profile (tests_in c.args.profile.extent) (stmts (map stmt_of ss))) (λ s. statement_fits c.args.profile (tests_in c.args.profile.extent) (stmt_of s)) refl (λ _ _. refl) _
     c.loop-s-test.true c.s-item.is c.loop-s.invariant c.in_ok-statement_fits.ensures c.if-not-branch.false
+
+pub cases_fit-returns-then-not-branch : goal.cases_fit-returns-then-not-branch
+cases_fit-returns-then-not-branch t c = stops (λ cs. cases_fit c.args.profile (tests_in c.args.profile.extent) (cases (map case_of cs)))
+    (λ x. pattern_fits_at (tests_in c.args.profile.extent) AsPattern (case_of x).pattern && perhaps_fits (tests_in c.args.profile.extent) Expression (optional (case_of x).guard) && suite_fits c.args.profile (tests_in c.args.profile.extent) (stmts (case_of x).body)) refl (λ _ _. refl) _
+    c.loop-c-test.true c.c-item.is c.in_ok-case_fits.ensures c.if-not-branch.true
+
+pub cases_fit-loop-c-preserved : goal.cases_fit-loop-c-preserved
+cases_fit-loop-c-preserved t c = goes_on (λ cs. cases_fit c.args.profile (tests_in c.args.profile.extent) (cases (map case_of cs)))
+    (λ x. pattern_fits_at (tests_in c.args.profile.extent) AsPattern (case_of x).pattern && perhaps_fits (tests_in c.args.profile.extent) Expression (optional (case_of x).guard) && suite_fits c.args.profile (tests_in c.args.profile.extent) (stmts (case_of x).body)) refl (λ _ _. refl) _
+    c.loop-c-test.true c.c-item.is c.loop-c.invariant c.in_ok-case_fits.ensures c.if-not-branch.false
 
 pub handlers_fit-returns-then-not-branch : goal.handlers_fit-returns-then-not-branch
 handlers_fit-returns-then-not-branch t c = stops (λ hs. handlers_fit c.args.profile (tests_in c.args.profile.extent) c.args.star (handlers (map handler_of hs)))

@@ -1,6 +1,6 @@
 use Rattle.std.proofs.Common.{◌∙◌, ap, IsTrue, arith}
-use Rattle.pytree_node.specs.TreeOf.{handler_of, stmt_of}
-use Rattle.pytree_node.proofs.Callers.StmtShapes.{function_def_tree, async_function_def_tree, class_def_tree, return_tree, delete_tree, assign_tree, type_alias_tree, aug_assign_tree, ann_assign_tree, for_tree, async_for_tree, while_tree, if_tree, with_tree, async_with_tree, raise_tree, try_tree, try_star_tree, assert_tree, import_tree, import_from_tree, global_tree, nonlocal_tree, expr_stmt_tree, pass_tree, break_tree, continue_tree}
+use Rattle.pytree_node.specs.TreeOf.{case_of, handler_of, stmt_of}
+use Rattle.pytree_node.proofs.Callers.StmtShapes.{function_def_tree, async_function_def_tree, class_def_tree, return_tree, delete_tree, assign_tree, type_alias_tree, aug_assign_tree, ann_assign_tree, for_tree, async_for_tree, while_tree, if_tree, with_tree, async_with_tree, match_tree, raise_tree, try_tree, try_star_tree, assert_tree, import_tree, import_from_tree, global_tree, nonlocal_tree, expr_stmt_tree, pass_tree, break_tree, continue_tree}
 use Rattle.pytree_same.proofs.StmtClasses.{other_class}
 use Rattle.pytree_same.proofs.Members.{handlers_same, keywords_same, stmts_same}
 use Rattle.pytree_same.proofs.Refuted.{refuted}
@@ -53,35 +53,42 @@ pub same_stmt-returns-in_default-b-14 : goal.same_stmt-returns-in_default-b-14
 same_stmt-returns-in_default-b-14 t c = other_class _ _ (ap stmt_of c.in-AsyncWith.is ∙ async_with_tree _ _) (λ h. c.in_default-b-14.not-AsyncWith h.0 h.1 h.2)
 
 pub same_stmt-returns-in_default-b-15 : goal.same_stmt-returns-in_default-b-15
-same_stmt-returns-in_default-b-15 t c = other_class _ _ (ap stmt_of c.in-Raise.is ∙ raise_tree _ _) (λ h. c.in_default-b-15.not-Raise h.0 h.1 h.2)
+same_stmt-returns-in_default-b-15 t c = other_class _ _ (ap stmt_of c.in-Match.is ∙ match_tree _ _) (λ h. c.in_default-b-15.not-Match h.0 h.1 h.2)
 
 pub same_stmt-returns-in_default-b-16 : goal.same_stmt-returns-in_default-b-16
-same_stmt-returns-in_default-b-16 t c = other_class _ _ (ap stmt_of c.in-Try.is ∙ try_tree _ _ _ _) (λ h. c.in_default-b-16.not-Try h.0 h.1 h.2 h.3 h.4)
+same_stmt-returns-in_default-b-16 t c = other_class _ _ (ap stmt_of c.in-Raise.is ∙ raise_tree _ _) (λ h. c.in_default-b-16.not-Raise h.0 h.1 h.2)
 
 pub same_stmt-returns-in_default-b-17 : goal.same_stmt-returns-in_default-b-17
-same_stmt-returns-in_default-b-17 t c = other_class _ _ (ap stmt_of c.in-TryStar.is ∙ try_star_tree _ _ _ _) (λ h. c.in_default-b-17.not-TryStar h.0 h.1 h.2 h.3 h.4)
+same_stmt-returns-in_default-b-17 t c = other_class _ _ (ap stmt_of c.in-Try.is ∙ try_tree _ _ _ _) (λ h. c.in_default-b-17.not-Try h.0 h.1 h.2 h.3 h.4)
 
 pub same_stmt-returns-in_default-b-18 : goal.same_stmt-returns-in_default-b-18
-same_stmt-returns-in_default-b-18 t c = other_class _ _ (ap stmt_of c.in-Assert.is ∙ assert_tree _ _) (λ h. c.in_default-b-18.not-Assert h.0 h.1 h.2)
+same_stmt-returns-in_default-b-18 t c = other_class _ _ (ap stmt_of c.in-TryStar.is ∙ try_star_tree _ _ _ _) (λ h. c.in_default-b-18.not-TryStar h.0 h.1 h.2 h.3 h.4)
 
 pub same_stmt-returns-in_default-b-19 : goal.same_stmt-returns-in_default-b-19
-same_stmt-returns-in_default-b-19 t c = other_class _ _ (ap stmt_of c.in-Import.is ∙ import_tree _) (λ h. c.in_default-b-19.not-Import h.0 h.1)
+same_stmt-returns-in_default-b-19 t c = other_class _ _ (ap stmt_of c.in-Assert.is ∙ assert_tree _ _) (λ h. c.in_default-b-19.not-Assert h.0 h.1 h.2)
 
 pub same_stmt-returns-in_default-b-20 : goal.same_stmt-returns-in_default-b-20
-same_stmt-returns-in_default-b-20 t c = other_class _ _ (ap stmt_of c.in-ImportFrom.is ∙ import_from_tree _ _ _) (λ h. c.in_default-b-20.not-ImportFrom h.0 h.1 h.2 h.3)
+same_stmt-returns-in_default-b-20 t c = other_class _ _ (ap stmt_of c.in-Import.is ∙ import_tree _) (λ h. c.in_default-b-20.not-Import h.0 h.1)
 
 pub same_stmt-returns-in_default-b-21 : goal.same_stmt-returns-in_default-b-21
-same_stmt-returns-in_default-b-21 t c = other_class _ _ (ap stmt_of c.in-Global.is ∙ global_tree _) (λ h. c.in_default-b-21.not-Global h.0 h.1)
+same_stmt-returns-in_default-b-21 t c = other_class _ _ (ap stmt_of c.in-ImportFrom.is ∙ import_from_tree _ _ _) (λ h. c.in_default-b-21.not-ImportFrom h.0 h.1 h.2 h.3)
 
 pub same_stmt-returns-in_default-b-22 : goal.same_stmt-returns-in_default-b-22
-same_stmt-returns-in_default-b-22 t c = other_class _ _ (ap stmt_of c.in-Nonlocal.is ∙ nonlocal_tree _) (λ h. c.in_default-b-22.not-Nonlocal h.0 h.1)
+same_stmt-returns-in_default-b-22 t c = other_class _ _ (ap stmt_of c.in-Global.is ∙ global_tree _) (λ h. c.in_default-b-22.not-Global h.0 h.1)
 
 pub same_stmt-returns-in_default-b-23 : goal.same_stmt-returns-in_default-b-23
-same_stmt-returns-in_default-b-23 t c = other_class _ _ (ap stmt_of c.in-Expr.is ∙ expr_stmt_tree _) (λ h. c.in_default-b-23.not-Expr h.0 h.1)
+same_stmt-returns-in_default-b-23 t c = other_class _ _ (ap stmt_of c.in-Nonlocal.is ∙ nonlocal_tree _) (λ h. c.in_default-b-23.not-Nonlocal h.0 h.1)
+
+pub same_stmt-returns-in_default-b-24 : goal.same_stmt-returns-in_default-b-24
+same_stmt-returns-in_default-b-24 t c = other_class _ _ (ap stmt_of c.in-Expr.is ∙ expr_stmt_tree _) (λ h. c.in_default-b-24.not-Expr h.0 h.1)
 
 pub same_stmts-returns-then-not-same_stmt : goal.same_stmts-returns-then-not-same_stmt
 same_stmts-returns-then-not-same_stmt t c = refuted (differ_at stmt_of c.args.a.now c.args.b.now c.loop-i.i _ _ (omega arith) (omega arith) c.index-a-i.is c.index-b-i.is
     (λ s. (let yes : IsTrue c.same_stmt.result = c.same_stmt.ensures.1 s in grind arith)))
+
+pub same_cases-returns-then-not-same_case : goal.same_cases-returns-then-not-same_case
+same_cases-returns-then-not-same_case t c = refuted (differ_at case_of c.args.a.now c.args.b.now c.loop-i.i _ _ (omega arith) (omega arith) c.index-a-i.is c.index-b-i.is
+    (λ s. (let yes : IsTrue c.same_case.result = c.same_case.ensures.1 s in grind arith)))
 
 pub same_handlers-returns-then-not-same_handler : goal.same_handlers-returns-then-not-same_handler
 same_handlers-returns-then-not-same_handler t c = refuted (differ_at handler_of c.args.a.now c.args.b.now c.loop-i.i _ _ (omega arith) (omega arith) c.index-a-i.is c.index-b-i.is

@@ -1,21 +1,22 @@
 use Rattle.std.proofs.Common.{◌++◌, ◌∷◌, [], ◌∙◌, ◌<◌, ap, arith, false, true, length, map, refl, subst, suc, sym}
 use Rattle.std.proofs.lemmas.Result.{IfOk-weaker}
+use Rattle.pytree_node.specs.declared.statements.Case as given_case
 use Rattle.pytree_node.specs.declared.statements.Handler as given_handler
-use Rattle.pytree_node.specs.Trees.{handlers, keywords, stmts}
-use Rattle.pytree_node.specs.TreeOf.{arguments_of, boxed_of, handler_of, item_of, keyword_of, option_of, stmt_of, tree_of, type_param_of}
-use Rattle.pygrammar.specs.Lines.{class_head, def_header, elif_header, else_header, except_header, finally_header, for_head, function_head, if_header, loop_header, try_header, while_head, with_header}
-use Rattle.pytree_height.specs.Heights.{handler_heights, stmt_height, stmt_heights}
-use Rattle.pyunparse_text.specs.Modules.{alternative, clause, decorators, handler_lines, lines_of, statement_lines}
+use Rattle.pytree_node.specs.Trees.{cases, handlers, keywords, stmts}
+use Rattle.pytree_node.specs.TreeOf.{arguments_of, boxed_of, case_of, handler_of, item_of, keyword_of, option_of, pattern_of, stmt_of, tree_of, type_param_of}
+use Rattle.pygrammar.specs.Lines.{case_header, class_head, def_header, elif_header, else_header, except_header, finally_header, for_head, function_head, if_header, loop_header, match_header, try_header, while_head, with_header}
+use Rattle.pytree_height.specs.Heights.{case_heights, handler_heights, stmt_height, stmt_heights}
+use Rattle.pyunparse_text.specs.Modules.{alternative, case_lines, clause, decorators, handler_lines, lines_of, statement_lines}
 use Rattle.pylex_lexeme.specs.declared.kinds.Exact.TheVariants.{Colon}
 use Rattle.pyunparse_text.specs.Pieces.{piece}
 use Rattle.pyunparse_text.specs.Written.{trailing}
 use Rattle.pyunparse_text.specs.Folds.{puts}
 use Rattle.pyunparse_text.specs.Writing.{behind}
-use Rattle.pytree_node.proofs.Callers.StmtShapes.{async_for_tree, async_function_def_tree, async_with_tree, class_def_tree, for_tree, function_def_tree, handler_tree, if_tree, try_star_tree, try_tree, while_tree, with_tree}
-use Rattle.pyunparse.specs.Inner.Lines.{Wrote, def_lines, one_handler}
+use Rattle.pytree_node.proofs.Callers.StmtShapes.{async_for_tree, async_function_def_tree, async_with_tree, case_tree, class_def_tree, for_tree, function_def_tree, handler_tree, if_tree, match_tree, try_star_tree, try_tree, while_tree, with_tree}
+use Rattle.pyunparse.specs.Inner.Lines.{Wrote, def_lines, one_case, one_handler}
 use Rattle.pyunparse.proofs.Shapes.StatementLemmas.{not_compound, not_elif, not_one, one_if, one_other}
-use Rattle.pyunparse.proofs.Texts.LineLemmas.{all_lines, async_function_lines, block_wrote, class_lines, deeper, function_lines, header_block, if_lines, line_on, no_clause, some_clause, while_lines, wrote_none, wrote_then}
-use Rattle.pyunparse.proofs.Shapes.HeightLemmas.{handler_height}
+use Rattle.pyunparse.proofs.Texts.LineLemmas.{all_lines, async_function_lines, block_wrote, class_lines, deeper, function_lines, header_block, if_lines, line_on, match_lines, no_clause, some_clause, while_lines, wrote_none, wrote_then}
+use Rattle.pyunparse.proofs.Shapes.HeightLemmas.{case_height, handler_height}
 use Rattle.pyunparse.proofs.Sequences.MemberLemmas.{no_higher}
 use Rattle.pyunparse.proofs.blocks.+blocks.Goals as goal
 
@@ -54,6 +55,47 @@ write_handlers-returns t c = record {
 
 pub write_handlers-write_handler-requires : goal.write_handlers-write_handler-requires
 write_handlers-write_handler-requires t c = let h : _ = no_higher (λ xs. handler_heights (handlers (map handler_of xs))) (λ x. stmt_heights (stmts (handler_of x).body)) (λ _ _. refl) _ _ _ c.loop-handler-test.true c.handler-item.is in (omega (arith, h), tt)
+
+pub write_cases-loop-case-preserved : goal.write_cases-loop-case-preserved
+unfolding case_lines
+write_cases-loop-case-preserved t c = record {
+  text = line_on c.args.out.now c.loop-case.out (λ n xs. case_lines piece n (cases (map case_of xs))) (λ n x. one_case n (case_of x))
+      (λ _ _ _. refl) c.args.clauses.now _ _ _ _ c.loop-case-test.true c.case-item.is c.loop-case.invariant.level c.loop-case.invariant.text c.in_ok-write_case.ensures;
+  level = c.in_ok-write_case.ensures.level ∙ c.loop-case.invariant.level;
+}
+
+pub write_cases-returns : goal.write_cases-returns
+unfolding case_lines
+write_cases-returns t c = record {
+  text = all_lines c.args.out.now c.loop-case.out (λ n xs. case_lines piece n (cases (map case_of xs))) c.args.out.now.level refl c.args.clauses.now _ c.loop-case-test.false c.loop-case.invariant.text;
+  level = c.loop-case.invariant.level;
+}
+
+pub write_cases-write_case-requires : goal.write_cases-write_case-requires
+write_cases-write_case-requires t c = let h : _ = no_higher (λ xs. case_heights (cases (map case_of xs))) (λ x. stmt_heights (stmts (case_of x).body)) (λ _ _. refl) _ _ _ c.loop-case-test.true c.case-item.is in (omega (arith, h), tt)
+
+pub write_match-returns : goal.write_match-returns
+write_match-returns t c =
+    let e = tree_of c.args.subject.now in
+    let cs = cases (map case_of c.args.clauses.now) in
+    IfOk-weaker _ _ _ (λ _ b. subst (Wrote c.args.out.now _) (match_lines c.args.out.now.level e cs) (header_block c.args.out.now _ _ _ (match_header e) (λ n. case_lines piece (suc n) cs)
+    c.in_ok-begin_line.ensures c.in_ok-write_match_header.ensures b)) c.write_case_block.ensures
+
+pub write_case_block-returns : goal.write_case_block-returns
+write_case_block-returns t c = block_wrote c.args.out.now _ _ _ _ (λ n. case_lines piece n (cases (map case_of c.args.clauses.now)))
+    c.in_ok-end_line.ensures c.in_ok-indent.ensures c.in_ok-write_cases.ensures c.dedent.ensures
+
+pub write_case_block-dedent-requires : goal.write_case_block-dedent-requires
+write_case_block-dedent-requires t c = deeper c.args.out.now _ _ _ _ c.in_ok-end_line.ensures c.in_ok-indent.ensures c.in_ok-write_cases.ensures
+
+pub write_case-write_block-requires : goal.write_case-write_block-requires
+write_case-write_block-requires t c = let h : _ = case_height c.args.case.now c.deref.result.now c.deref.ensures.value in (omega (arith, h), tt)
+
+pub write_case-returns : goal.write_case-returns
+write_case-returns t c =
+    let o = given_case.out-Case c.args.case.now in
+    rw (case_tree, sym c.deref.ensures.value) (IfOk-weaker _ _ _ (λ _ b. header_block c.args.out.now _ _ _ (case_header (pattern_of o.pattern) (option_of o.guard))
+    (λ n. lines_of piece (suc n) (stmts (map stmt_of c.deref.result.now))) c.in_ok-begin_line.ensures c.in_ok-write_case_header.ensures b) c.write_block.ensures)
 
 pub write_if-returns : goal.write_if-returns
 write_if-returns t c =
@@ -156,6 +198,9 @@ pub write_stmt-returns-in-AsyncWith : goal.write_stmt-returns-in-AsyncWith
 unfolding lines_of
 write_stmt-returns-in-AsyncWith t c = rw (c.in-AsyncWith.is, async_with_tree, sym c.deref-in-AsyncWith.ensures.value, sym c.deref-in-AsyncWith-2.ensures.value) c.write_with-in-AsyncWith.ensures
 
+pub write_stmt-returns-in-Match : goal.write_stmt-returns-in-Match
+write_stmt-returns-in-Match t c = rw (c.in-Match.is, match_tree, sym c.deref-in-Match.ensures.value) c.write_match.ensures
+
 pub write_stmt-returns-in-Try : goal.write_stmt-returns-in-Try
 unfolding lines_of
 write_stmt-returns-in-Try t c = rw (c.in-Try.is, try_tree, sym c.deref-in-Try.ensures.value, sym c.deref-in-Try-2.ensures.value, sym c.deref-in-Try-3.ensures.value, sym c.deref-in-Try-4.ensures.value) c.write_try.ensures
@@ -204,7 +249,7 @@ write_stmt-returns-in_ok-write_decorators-in-ClassDef t c =
     c.in_ok-write_decorators-in-ClassDef.ensures w)) c.write_class.ensures)
 
 pub write_stmt-returns-in_default : goal.write_stmt-returns-in_default
-write_stmt-returns-in_default t c = IfOk-weaker _ _ _ (λ _ w. subst (Wrote c.args.out.now _) (not_compound c.args.s.now c.in_default.not-If c.in_default.not-While c.in_default.not-For c.in_default.not-AsyncFor c.in_default.not-With c.in_default.not-AsyncWith c.in_default.not-Try c.in_default.not-TryStar c.in_default.not-FunctionDef c.in_default.not-AsyncFunctionDef c.in_default.not-ClassDef c.args.out.now.level) w) c.write_line.ensures
+write_stmt-returns-in_default t c = IfOk-weaker _ _ _ (λ _ w. subst (Wrote c.args.out.now _) (not_compound c.args.s.now c.in_default.not-If c.in_default.not-While c.in_default.not-For c.in_default.not-AsyncFor c.in_default.not-With c.in_default.not-AsyncWith c.in_default.not-Match c.in_default.not-Try c.in_default.not-TryStar c.in_default.not-FunctionDef c.in_default.not-AsyncFunctionDef c.in_default.not-ClassDef c.args.out.now.level) w) c.write_line.ensures
 
 pub write_handler-write_block-requires : goal.write_handler-write_block-requires
 write_handler-write_block-requires t c = let h : _ = handler_height c.args.handler.now c.deref.result.now c.deref.ensures.value in (omega (arith, h), tt)

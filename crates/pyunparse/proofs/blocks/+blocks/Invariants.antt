@@ -1,8 +1,8 @@
 use Rattle.std.proofs.Common.{◌≡◌, ◌+◌, ◌*◌, ◌++◌, max, map, drop}
-use Rattle.pytree_node.specs.Trees.{handlers, stmts}
-use Rattle.pytree_node.specs.TreeOf.{handler_of, stmt_of}
-use Rattle.pytree_height.specs.Heights.{handler_heights, stmt_height, stmt_heights}
-use Rattle.pyunparse_text.specs.Modules.{handler_lines, lines_of}
+use Rattle.pytree_node.specs.Trees.{cases, handlers, stmts}
+use Rattle.pytree_node.specs.TreeOf.{case_of, handler_of, stmt_of}
+use Rattle.pytree_height.specs.Heights.{case_heights, handler_heights, stmt_height, stmt_heights}
+use Rattle.pyunparse_text.specs.Modules.{case_lines, handler_lines, lines_of}
 use Rattle.pyunparse_text.specs.Pieces.{piece}
 use Rattle.pyunparse.specs.Inner.Lines.{in_utf8}
 use Rattle.pyunparse.proofs.blocks.+blocks.Given as goal
@@ -16,6 +16,12 @@ invariant-write_stmts-loop-s l = record {
 abbrev pub invariant-write_handlers-loop-handler : goal.invariant-write_handlers-loop-handler
 invariant-write_handlers-loop-handler l = record {
   text : l.out.text ++ in_utf8 (handler_lines piece l.initial.out.level l.is_star (handlers (map handler_of (drop l.handler-index l.caught)))) ≡ l.initial.out.text ++ in_utf8 (handler_lines piece l.initial.out.level l.is_star (handlers (map handler_of l.caught)));
+  level : l.out.level ≡ l.initial.out.level;
+}
+
+abbrev pub invariant-write_cases-loop-case : goal.invariant-write_cases-loop-case
+invariant-write_cases-loop-case l = record {
+  text : l.out.text ++ in_utf8 (case_lines piece l.initial.out.level (cases (map case_of (drop l.case-index l.clauses)))) ≡ l.initial.out.text ++ in_utf8 (case_lines piece l.initial.out.level (cases (map case_of l.clauses)));
   level : l.out.level ≡ l.initial.out.level;
 }
 
@@ -39,6 +45,18 @@ decreases-write_handler l = 8 * stmt_heights (stmts (handler_of l.handler.now).b
 
 abbrev pub decreases-write_handlers : goal.decreases-write_handlers
 decreases-write_handlers l = 8 * handler_heights (handlers (map handler_of l.caught.now)) + 4
+
+abbrev pub decreases-write_case : goal.decreases-write_case
+decreases-write_case l = 8 * stmt_heights (stmts (case_of l.case.now).body) + 3
+
+abbrev pub decreases-write_cases : goal.decreases-write_cases
+decreases-write_cases l = 8 * case_heights (cases (map case_of l.clauses.now)) + 4
+
+abbrev pub decreases-write_case_block : goal.decreases-write_case_block
+decreases-write_case_block l = 8 * case_heights (cases (map case_of l.clauses.now)) + 5
+
+abbrev pub decreases-write_match : goal.decreases-write_match
+decreases-write_match l = 8 * case_heights (cases (map case_of l.clauses.now)) + 6
 
 abbrev pub decreases-write_if : goal.decreases-write_if
 decreases-write_if l = 8 * max (stmt_heights (stmts (map stmt_of l.body.now))) (stmt_heights (stmts (map stmt_of l.orelse.now))) + 5

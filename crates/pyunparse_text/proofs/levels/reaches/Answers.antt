@@ -1,4 +1,4 @@
-use Rattle.std.proofs.Common.{◌≡◌, ◌≤◌, ◌-◌, ◌+◌, ◌∙◌, ◌==◌, suc, true, arith, sym}
+use Rattle.std.proofs.Common.{◌≡◌, ◌≤◌, ◌-◌, ◌+◌, ◌∙◌, suc, arith, sym}
 use Rattle.std.proofs.lemmas.Bool.Decides.{nat_tests}
 use Rattle.pygrammar.specs.Operators.{rank}
 use Rattle.pyunparse_text.proofs.Texts.LevelLemmas.{all_levels, by_rank, leads_none, leads_on}

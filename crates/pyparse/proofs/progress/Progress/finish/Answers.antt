@@ -1,10 +1,7 @@
-use Rattle.std.proofs.Common.{subst}
-use Rattle.pyparse.specs.Inner.Progressing.{IsKnown}
-use Rattle.pyparse.proofs.FinishLemmas.{faulty_refused, unread_refused}
 use Rattle.pyparse.proofs.progress.Progress.finish.Goals as goal
 
-pub returns-in-Faulty-clause-refused : goal.returns-in-Faulty-clause-refused
-returns-in-Faulty-clause-refused c profile s k was closes = faulty_refused closes (subst (IsKnown profile s k) c.in-Faulty.is was)
+pub returns-clause-accepted : goal.returns-clause-accepted
+returns-clause-accepted c profile s k was closes = c.finish.ensures.accepted profile s k was.forms was.known closes
 
 pub returns-clause-refused : goal.returns-clause-refused
-returns-clause-refused c profile s k was closes = unread_refused closes (subst (IsKnown profile s k) c.in-Unread.is was)
+returns-clause-refused c profile s k was closes = c.finish.ensures.refused profile s k was.forms was.known closes

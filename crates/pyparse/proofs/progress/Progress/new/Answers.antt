@@ -1,7 +1,5 @@
 use Rattle.std.proofs.Common.{[]}
-use Rattle.pygrammar.specs.Refusals.{formed_end}
-use Rattle.pyparse.proofs.ProgressLemmas.{none_deep}
 use Rattle.pyparse.proofs.progress.Progress.new.Goals as goal
 
 pub returns : goal.returns
-returns c profile s = record { forms = []; formed = formed_end; follows = c.new.ensures; read = c.new-2.ensures.read; low = none_deep }
+returns c profile s = record { forms = []; known = c.new.ensures profile s; places = c.new-2.ensures }

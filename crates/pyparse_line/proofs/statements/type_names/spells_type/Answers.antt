@@ -1,5 +1,5 @@
 use Rattle.std.proofs.Common.{◌∙◌}
-use Rattle.pyparse_line.proofs.statements.TypeNameSteps.{spelt_type}
+use Rattle.pyparse_line.proofs.Spellings.{spelt_type}
 use Rattle.pyparse_line.proofs.statements.type_names.spells_type.Goals as goal
 
 pub returns : goal.returns

@@ -3,7 +3,6 @@ use Rattle.std.specs.Str.{encode_utf8_all}
 use Rattle.std.specs.String.{string_bytes}
 use Rattle.pylex.specs.declared.kind.Kind.TheVariants as kinds
 use Rattle.pysource.specs.Reprs.{repr_bytes}
-use Rattle.pyunparse_text.specs.Tokens.{PlainToken}
 use Rattle.pyunparse_text.specs.Told.{told}
 use Rattle.pyunparse_text.proofs.Texts.ReprLemmas.{bytes_plain}
 use Rattle.pyunparse_text.proofs.piece_writer.PieceWriterWriter.put_bytes.Goals as goal

@@ -1,4 +1,4 @@
-use Rattle.std.proofs.Common.{◌≡◌, ◌∙◌, ◌++◌, ap, append_assoc}
+use Rattle.std.proofs.Common.{◌∙◌, ◌++◌, ap, append_assoc}
 use Rattle.std.specs.Str.{encode_utf8_all}
 use Rattle.std.specs.String.{string_bytes}
 use Rattle.std.proofs.lemmas.Result.{IfOk-weaker}

@@ -1,0 +1,467 @@
+//! What `dump` and `unparse` do with match statements, by `--whole` and without it. The trees are
+//! those of Python 3.11; in the texts a sequence has no brackets as the whole pattern of a case, nor
+//! a tuple as the subject.
+
+use crate::dump_limits::{Piece, meets, meets_all};
+use crate::dumps::{does, does_all};
+use crate::unparses::writes;
+use std::alloc::Global;
+use std::process::Abort;
+use std::test::Fail;
+
+/// Asserts what `dump` reports of a source with `--whole`, in both versions of Python.
+fn refuses(rt: &impl Abort, alloc: Global, source: &str, fault: &str) -> Result<(), Fail> {
+    let told = format!(in alloc; "<stdin>:{fault}")?;
+    for words in ["dump --whole", "dump --whole --py312"] {
+        does(rt, alloc, &(words, source, "", 1, told.as_str()))?;
+    }
+    Ok(())
+}
+
+/// Asserts that `dump` writes a tree of a source with `--whole`, in both versions of Python.
+fn gives(rt: &impl Abort, alloc: Global, source: &str, tree: &str) -> Result<(), Fail> {
+    for words in ["dump --whole", "dump --whole --py312"] {
+        does(rt, alloc, &(words, source, tree, 0, ""))?;
+    }
+    Ok(())
+}
+
+#[test]
+fn patterns_without_a_form(rt: HostRuntime) -> Result<(), Fail> {
+    let patterns = [
+        "*a",
+        "(*a)",
+        "a as _",
+        "a as b as c",
+        "a as b.c",
+        "+1",
+        "-(1)",
+        "-a",
+        "1 + 2",
+        "1 + -2j",
+        "2j + 1",
+        "...",
+        "not a",
+        "a().b",
+        "A(*a)",
+        "A(**a)",
+        "A(k=1, a)",
+        "{a: 1}",
+        "{(1): a}",
+        "{**_}",
+        "{**a, 1: b}",
+        "'a' b'b'",
+        "a = 1",
+        "a,,",
+        "(,)",
+        "if a",
+        "A(a, _=1)",
+        "_.a",
+        "_()",
+        "1 + 2j + 3j",
+        "1 | 2j - 1",
+    ];
+    for pattern in &patterns {
+        let source = format!(in rt.alloc(); "match x:\n case {pattern}: pass\n")?;
+        refuses(
+            &rt,
+            rt.alloc(),
+            source.as_str(),
+            "2:1: error: invalid syntax",
+        )?;
+    }
+    Ok(())
+}
+
+#[test]
+fn lines_at_their_places(rt: HostRuntime) -> Result<(), Fail> {
+    let rows = &[
+        ("match:\n case 1: pass\n", "1:0: error: invalid syntax"),
+        ("match * a:\n case 1: pass\n", "1:0: error: invalid syntax"),
+        ("match x,,:\n case 1: pass\n", "1:0: error: invalid syntax"),
+        (
+            "match yield:\n case 1: pass\n",
+            "1:0: error: invalid syntax",
+        ),
+        ("match.x:\n case 1: pass\n", "1:0: error: invalid syntax"),
+        ("match x: pass\n", "1:0: error: invalid syntax"),
+        ("match x\n", "1:0: error: invalid syntax"),
+        ("ｍatch x:\n case 1: pass\n", "1:0: error: invalid syntax"),
+        ("case 1: pass\n", "1:0: error: invalid syntax"),
+        ("match x:\ncase 1: pass\n", "2:0: error: invalid syntax"),
+        ("match x:\n case.a: int\n", "2:1: error: invalid syntax"),
+        ("match x:\n case\n", "2:1: error: invalid syntax"),
+        (
+            "match x:\n if y:\n  case 1: pass\n",
+            "3:2: error: invalid syntax",
+        ),
+        ("match x:\n y\n", "2:1: error: misplaced clause"),
+        (
+            "match x:\n match y:\n  case 1: pass\n",
+            "2:1: error: misplaced clause",
+        ),
+        (
+            "match x:\n @d\n case 1: pass\n",
+            "2:1: error: misplaced clause",
+        ),
+        (
+            "match x:\n case 1: pass\n else: pass\n",
+            "3:1: error: misplaced clause",
+        ),
+        (
+            "match x:\n case 1: pass\nelse: pass\n",
+            "3:0: error: misplaced clause",
+        ),
+        (
+            "@d\nmatch x:\n case 1: pass\n",
+            "2:0: error: misplaced clause",
+        ),
+        (
+            "match x:\n case 1:\n  try: a\n case 2: b\n",
+            "4:1: error: misplaced clause",
+        ),
+        ("match x:\ny\n", "2:0: error: expected an indented block"),
+        ("match x:\n", "2:0: error: expected an indented block"),
+        (
+            "match x:\n case 1:\n pass\n",
+            "3:1: error: expected an indented block",
+        ),
+        (
+            "match x:\n case 1:\n case 2: pass\n",
+            "3:1: error: expected an indented block",
+        ),
+        (
+            "match x:\n case 1: pass\n  y\n",
+            "3:2: error: unexpected indent",
+        ),
+    ];
+    for (source, fault) in rows {
+        refuses(&rt, rt.alloc(), source, fault)?;
+    }
+    Ok(())
+}
+
+#[test]
+fn refused_without_the_option(rt: HostRuntime) -> Result<(), Fail> {
+    let rows = &[
+        (
+            "dump",
+            "match x:\n case 1: pass\n",
+            "",
+            1,
+            "<stdin>:1:0: error: match statement",
+        ),
+        (
+            "dump",
+            "match x: pass\n",
+            "",
+            1,
+            "<stdin>:1:0: error: invalid syntax",
+        ),
+        (
+            "dump",
+            "case 1: pass\n",
+            "",
+            1,
+            "<stdin>:1:0: error: invalid syntax",
+        ),
+        (
+            "dump",
+            "match x:\n case 1j: pass\n",
+            "",
+            1,
+            "<stdin>:2:6: error: complex literal",
+        ),
+        (
+            "dump",
+            "match x:\n case f'': pass\n",
+            "",
+            1,
+            "<stdin>:2:6: error: f-string",
+        ),
+    ];
+    does_all(&rt, rt.alloc(), rows)
+}
+
+#[test]
+fn trees(rt: HostRuntime) -> Result<(), Fail> {
+    let rows = &[
+        (
+            "match x:\n case 1: pass\n",
+            "Module(body=[Match(subject=Name(id='x', ctx=Load()), \
+             cases=[match_case(pattern=MatchValue(value=Constant(value=1)), body=[Pass()])])], \
+             type_ignores=[])",
+        ),
+        (
+            "match *a, b:\n case *c, d: pass\n",
+            "Module(body=[Match(subject=Tuple(elts=[Starred(value=Name(id='a', ctx=Load()), \
+             ctx=Load()), Name(id='b', ctx=Load())], ctx=Load()), \
+             cases=[match_case(pattern=MatchSequence(patterns=[MatchStar(name='c'), \
+             MatchAs(name='d')]), body=[Pass()])])], type_ignores=[])",
+        ),
+        (
+            "match x:\n case[y]: int\n",
+            "Module(body=[Match(subject=Name(id='x', ctx=Load()), \
+             cases=[match_case(pattern=MatchSequence(patterns=[MatchAs(name='y')]), \
+             body=[Expr(value=Name(id='int', ctx=Load()))])])], type_ignores=[])",
+        ),
+        (
+            "case[y]: int\n",
+            "Module(body=[AnnAssign(target=Subscript(value=Name(id='case', ctx=Load()), \
+             slice=Name(id='y', ctx=Load()), ctx=Store()), annotation=Name(id='int', \
+             ctx=Load()), simple=0)], type_ignores=[])",
+        ),
+        (
+            "match x:\n case a.b | None | 's' 't' | (c as d): pass\n",
+            "Module(body=[Match(subject=Name(id='x', ctx=Load()), \
+             cases=[match_case(pattern=MatchOr(patterns=[MatchValue(value=Attribute(value=Name(id='a', \
+             ctx=Load()), attr='b', ctx=Load())), MatchSingleton(value=None), \
+             MatchValue(value=Constant(value='st')), MatchAs(pattern=MatchAs(name='c'), \
+             name='d')]), body=[Pass()])])], type_ignores=[])",
+        ),
+        (
+            "match x:\n case [a, *_], {'k': b, -1: _, **rest}: pass\n",
+            "Module(body=[Match(subject=Name(id='x', ctx=Load()), \
+             cases=[match_case(pattern=MatchSequence(patterns=[MatchSequence(patterns=[MatchAs(name='a'), \
+             MatchStar()]), MatchMapping(keys=[Constant(value='k'), UnaryOp(op=USub(), \
+             operand=Constant(value=1))], patterns=[MatchAs(name='b'), MatchAs()], \
+             rest='rest')]), body=[Pass()])])], type_ignores=[])",
+        ),
+        (
+            "match x:\n case a.B(1, k=_, _=2): pass\n",
+            "Module(body=[Match(subject=Name(id='x', ctx=Load()), \
+             cases=[match_case(pattern=MatchClass(cls=Attribute(value=Name(id='a', ctx=Load()), \
+             attr='B', ctx=Load()), patterns=[MatchValue(value=Constant(value=1))], \
+             kwd_attrs=['k', '_'], kwd_patterns=[MatchAs(), \
+             MatchValue(value=Constant(value=2))]), body=[Pass()])])], type_ignores=[])",
+        ),
+        (
+            "match x:\n case A(_=1): pass\n",
+            "Module(body=[Match(subject=Name(id='x', ctx=Load()), \
+             cases=[match_case(pattern=MatchClass(cls=Name(id='A', ctx=Load()), patterns=[], \
+             kwd_attrs=['_'], kwd_patterns=[MatchValue(value=Constant(value=1))]), \
+             body=[Pass()])])], type_ignores=[])",
+        ),
+        (
+            "match x:\n case {_.a: 1}: pass\n",
+            "Module(body=[Match(subject=Name(id='x', ctx=Load()), \
+             cases=[match_case(pattern=MatchMapping(keys=[Attribute(value=Name(id='_', \
+             ctx=Load()), attr='a', ctx=Load())], \
+             patterns=[MatchValue(value=Constant(value=1))]), body=[Pass()])])], \
+             type_ignores=[])",
+        ),
+        (
+            "match x:\n case (1): pass\n",
+            "Module(body=[Match(subject=Name(id='x', ctx=Load()), \
+             cases=[match_case(pattern=MatchValue(value=Constant(value=1)), body=[Pass()])])], \
+             type_ignores=[])",
+        ),
+        (
+            "match x:\n case (1,): pass\n",
+            "Module(body=[Match(subject=Name(id='x', ctx=Load()), \
+             cases=[match_case(pattern=MatchSequence(patterns=[MatchValue(value=Constant(value=1))]), \
+             body=[Pass()])])], type_ignores=[])",
+        ),
+        (
+            "match x:\n case (): pass\n",
+            "Module(body=[Match(subject=Name(id='x', ctx=Load()), \
+             cases=[match_case(pattern=MatchSequence(patterns=[]), body=[Pass()])])], \
+             type_ignores=[])",
+        ),
+        (
+            "match x:\n case (a | b) | c as d: pass\n",
+            "Module(body=[Match(subject=Name(id='x', ctx=Load()), \
+             cases=[match_case(pattern=MatchAs(pattern=MatchOr(patterns=[MatchOr(patterns=[MatchAs(name='a'), \
+             MatchAs(name='b')]), MatchAs(name='c')]), name='d'), body=[Pass()])])], \
+             type_ignores=[])",
+        ),
+        (
+            "match x:\n case *a, *a: pass\n",
+            "Module(body=[Match(subject=Name(id='x', ctx=Load()), \
+             cases=[match_case(pattern=MatchSequence(patterns=[MatchStar(name='a'), \
+             MatchStar(name='a')]), body=[Pass()])])], type_ignores=[])",
+        ),
+        (
+            "match match:\n case case if case: match\n",
+            "Module(body=[Match(subject=Name(id='match', ctx=Load()), \
+             cases=[match_case(pattern=MatchAs(name='case'), guard=Name(id='case', ctx=Load()), \
+             body=[Expr(value=Name(id='match', ctx=Load()))])])], type_ignores=[])",
+        ),
+    ];
+    for (source, tree) in rows {
+        gives(&rt, rt.alloc(), source, tree)?;
+    }
+    Ok(())
+}
+
+#[test]
+fn trees_in_other_styles(rt: HostRuntime) -> Result<(), Fail> {
+    let rows = &[
+        (
+            "dump --whole --bare",
+            "match x:\n case a, *_: pass\n",
+            "Module([Match(Name('x', Load()), [match_case(MatchSequence([MatchAs(name='a'), \
+             MatchStar()]), body=[Pass()])])], [])",
+            0,
+            "",
+        ),
+        (
+            "dump --whole --bare",
+            "match x:\n case {**r} if y: z\n",
+            "Module([Match(Name('x', Load()), [match_case(MatchMapping([], [], 'r'), Name('y', \
+             Load()), [Expr(Name('z', Load()))])])], [])",
+            0,
+            "",
+        ),
+        (
+            "dump --whole --indent 2",
+            "match x:\n case A(b, k=None): pass\n",
+            "Module(\n  body=[\n    Match(\n      subject=Name(id='x', ctx=Load()),\n      \
+             cases=[\n        match_case(\n          pattern=MatchClass(\n            \
+             cls=Name(id='A', ctx=Load()),\n            patterns=[\n              \
+             MatchAs(name='b')],\n            kwd_attrs=[\n              'k'],\n            \
+             kwd_patterns=[\n              MatchSingleton(value=None)]),\n          \
+             body=[\n            Pass()])])],\n  type_ignores=[])",
+            0,
+            "",
+        ),
+    ];
+    does_all(&rt, rt.alloc(), rows)
+}
+
+#[test]
+fn texts(rt: HostRuntime) -> Result<(), Fail> {
+    let rows = &[
+        (
+            "match ((a := 1), b):\n case (): pass\n",
+            "match a := 1, b:\n    case []:\n        pass",
+        ),
+        (
+            "match (a := 1):\n case _ if (b := 2): pass\n",
+            "match a := 1:\n    case _ if b := 2:\n        pass",
+        ),
+        (
+            "match ((yield), 1):\n case ((a as b)): pass\n",
+            "match (yield), 1:\n    case a as b:\n        pass",
+        ),
+        (
+            "match x:\n case A((a as b), (c | d), k=(e as f),): pass\n",
+            "match x:\n    case A(a as b, c | d, k=e as f):\n        pass",
+        ),
+        (
+            "match x:\n case {-1: (a), 'k' 'l': (b | c), None: (d as e), f.g: _, **h,}: pass\n",
+            "match x:\n    case {-1: a, 'kl': b | c, None: d as e, f.g: _, **h}:\n        pass",
+        ),
+        (
+            "match x:\n case (a | b) | c as d: pass\n",
+            "match x:\n    case (a | b) | c as d:\n        pass",
+        ),
+        (
+            "match x:\n case[y]: int\n",
+            "match x:\n    case y,:\n        int",
+        ),
+        (
+            "match x:\n case 1 + 2j | -1.5 - 2j | 2j | -2j: pass\n",
+            "match x:\n    case 1 + 2j | -1.5 - 2j | 2j | -2j:\n        pass",
+        ),
+        (
+            "match x:\n case 1e400j | 1. | -1_0.50J: pass\n",
+            "match x:\n    case 1e309j | 1.0 | -10.5j:\n        pass",
+        ),
+        (
+            "match x:\n case [a], (b, c): pass\n",
+            "match x:\n    case [a], [b, c]:\n        pass",
+        ),
+        (
+            "match x:\n case [a] as b: pass\n",
+            "match x:\n    case [a] as b:\n        pass",
+        ),
+        (
+            "match (x,):\n case a: b; c\n case _:\n  if d: e\n",
+            "match x,:\n    case a:\n        b\n        c\n    case _:\n        \
+             if d:\n            e",
+        ),
+        (
+            "match x:\n case (((_))): pass\n",
+            "match x:\n    case _:\n        pass",
+        ),
+        (
+            "match x:\n case a.b.C([], ): pass\n",
+            "match x:\n    case a.b.C([]):\n        pass",
+        ),
+    ];
+    for (source, text) in rows {
+        writes(&rt, rt.alloc(), "unparse --whole", source, text)?;
+        writes(&rt, rt.alloc(), "unparse --whole --py312", source, text)?;
+    }
+    writes(
+        &rt,
+        rt.alloc(),
+        "unparse --whole --py312",
+        "match type:\n case type: type X = type\n",
+        "match type:\n    case type:\n        type X = type",
+    )
+}
+
+/// `match x:`, and a line that begins as a case does.
+const CASE: Piece<'_> = ("match x:\n case ", 1);
+
+#[test]
+fn limits_of_patterns(rt: HostRuntime) -> Result<(), Fail> {
+    let end = (": pass\n", 1);
+    let rows: &[(&[Piece<'_>], &str)] = &[
+        (&[CASE, ("[", 499), ("_", 1), ("]", 499), end], ""),
+        (
+            &[CASE, ("[", 500), ("_", 1), ("]", 500), end],
+            "2:1: error: too deep",
+        ),
+        (&[CASE, ("(", 600), ("_", 1), (")", 600), end], ""),
+        (
+            &[CASE, ("(", 601), ("_", 1), (")", 601), end],
+            "2:606: error: too deep",
+        ),
+        (&[CASE, ("a", 1), (" | b", 2000), end], ""),
+        (&[CASE, ("a", 1), (".b", 498), end], ""),
+        (&[CASE, ("a", 1), (".b", 499), end], "2:1: error: too deep"),
+        (
+            &[CASE, ("a", 1), (".b", 100000), end],
+            "2:1: error: too deep",
+        ),
+    ];
+    meets_all(&rt, rt.alloc(), "dump --whole", rows)
+}
+
+/// So many nested `match a:` with `case _:`, a blank deeper each, and a last line.
+fn nested(alloc: Global, count: usize, last: &str) -> Result<String, Fail> {
+    let mut text = String::new(alloc);
+    for row in 0..=2 * count {
+        for _ in 0..row {
+            text.push(' ')?;
+        }
+        text.push_str(if row == 2 * count {
+            last
+        } else if row % 2 == 0 {
+            "match a:\n"
+        } else {
+            "case _:\n"
+        })?;
+    }
+    Ok(text)
+}
+
+#[test]
+fn limits_of_statements(rt: HostRuntime) -> Result<(), Fail> {
+    let words = "dump --whole";
+    let nested_499 = nested(rt.alloc(), 499, "pass\n")?;
+    meets(&rt, rt.alloc(), words, nested_499.as_str(), "")?;
+    let nested_500 = nested(rt.alloc(), 500, "pass\n")?;
+    let fault = "1001:1000: error: too deep";
+    meets(&rt, rt.alloc(), words, nested_500.as_str(), fault)?;
+    let mut inline = nested(rt.alloc(), 499, "match a:\n")?;
+    for _ in 0..999 {
+        inline.push(' ')?;
+    }
+    inline.push_str("case _: pass\n")?;
+    let fault = "1000:999: error: too deep";
+    meets(&rt, rt.alloc(), words, inline.as_str(), fault)
+}

@@ -1,0 +1,11 @@
+mod Terminals
+mod Targets
+mod Entries
+mod Parameters
+mod Expressions
+mod Forms
+mod Blocks
+mod Numbers
+mod OpenLines
+mod Tokens
+pub mod Law

@@ -1,0 +1,89 @@
+-- A token has no fault in the plain language where it has none in the whole one and its terminal is
+-- plain.
+--
+-- Carries: is_token_plain, faultless_plain, plain_faultless, for Tokens, Law. On: Terminals.
+use Rattle.std.proofs.Common.{◌≡◌, ◌↔◌, refl, ap, ℕ, ◌^◌, Bool, true, false, cond, List, Option, Some, None}
+use Rattle.std.specs.Prelude.{nat_le, nat_lt}
+use Rattle.std.specs.Str.{encode_utf8_all}
+use Rattle.std.specs.Float.Ieee as ieee
+use Rattle.std.proofs.lemmas.Bool.{leb-false, lt-leb, ltb-true, lt-ltb}
+use Rattle.pylex_lexeme.specs.declared.kinds.Exact.{Exact}
+use Rattle.pylex_lexeme.specs.Operators.{exact_of}
+use Rattle.pylex.specs.declared.kind.Kind.{Kind}
+use Rattle.pylex.specs.declared.kind.Kind.TheVariants as kinds
+use Rattle.pytree_node.specs.Values.{Int, Float, Imaginary, Str, Bytes}
+use Rattle.pytree_node.specs.declared.profiles.Extent.TheVariants.{Plain, Whole}
+use Rattle.pytoken.specs.declared.faults.TokenError.{TokenError}
+use Rattle.pytoken.specs.declared.faults.TokenError.TheVariants as errors
+use Rattle.pytoken.specs.declared.keywords.Keyword.{Keyword}
+use Rattle.pytoken.specs.Keywords.{keyword_of}
+use Rattle.pytoken.specs.NumberValues.{is_complex, is_real, whole_value, number_value, number_fault}
+use Rattle.pytoken.specs.StringValues.{is_bytes, points_of, is_unicode, with_line_feeds, value_of, string_value}
+use Rattle.pytoken.specs.Terminals.{Op, Word, Ident, Layout, terminal_of, fault_of}
+use Rattle.pytoken.specs.Tokens.{Token}
+use Rattle.pygrammar.specs.Extents.{is_plain_value}
+use Rattle.pygrammar.proofs.Plain.Terminals.{is_terminal_plain}
+
+-- ---- Numbers.
+
+abbrev limit : ℕ
+limit = 2 ^ 128
+
+abbrev fault_if : Bool → Option TokenError
+fault_if large = cond large (Some errors.IntegerTooLarge) None
+
+none_if : (large : Bool) → fault_if large ≡ None → large ≡ false
+none_if true h = absurd cc
+none_if false h = refl
+
+small : (n : ℕ) → (fault_if (nat_le limit n) ≡ None) ↔ (nat_lt n limit ≡ true)
+small n = (
+  λ h. lt-ltb n limit (leb-false limit n (none_if (nat_le limit n) h)),
+  λ h. ap fault_if (lt-leb limit n (ltb-true n limit h)),
+)
+
+number_plain : (t : List ℕ) → (number_fault Plain t ≡ None) ↔ (is_plain_value (number_value t) ≡ true)
+unfolding number_fault number_value
+number_plain t = by (is_complex t) (is_real t) _ (whole_value t)
+  where
+    by : (c r : Bool) (x : ieee.Float) (n : ℕ) →
+        (cond c (Some errors.Complex) (cond r (Some errors.Float) (fault_if (nat_le limit n))) ≡ None) ↔ (is_plain_value (cond c (Imaginary x) (cond r (Float x) (Int n))) ≡ true)
+    by true r x n = (λ h. absurd cc, λ h. absurd cc)
+    by false true x n = (λ h. absurd cc, λ h. absurd cc)
+    by false false x n = small n
+
+-- ---- Tokens.
+
+string_plain : (t : List ℕ) → is_plain_value (string_value t) ≡ true
+unfolding string_value value_of
+string_plain t = by (is_bytes (with_line_feeds t)) (points_of (with_line_feeds t)) (is_unicode (with_line_feeds t))
+  where
+    by : (b : Bool) (points : List ℕ) (unicode : Bool) → is_plain_value (cond b (Bytes points) (Str points unicode)) ≡ true
+    by true points unicode = refl
+    by false points unicode = refl
+
+-- what has no fault in the plain language is plain
+pub faultless_plain : (k : Kind) (t : List ℕ) → fault_of Plain k t ≡ None → is_terminal_plain (terminal_of k t) ≡ true
+unfolding fault_of terminal_of
+faultless_plain kinds.Number t h = (number_plain (encode_utf8_all t)).0 h
+faultless_plain kinds.String t h = string_plain t
+faultless_plain kinds.Name t h = by (keyword_of t) _
+  where
+    by : (o : Option Keyword) (form : List ℕ) → is_terminal_plain (elim o [ Some w ↦ Word w | None ↦ Ident (record { spelling = t; form = form }) ]) ≡ true
+    by (Some w) form = refl
+    by None form = refl
+faultless_plain kinds.Op t h = by (exact_of t)
+  where
+    by : (o : Option Exact) → is_terminal_plain (elim o [ Some e ↦ Op e | None ↦ Layout ]) ≡ true
+    by (Some e) = refl
+    by None = refl
+faultless_plain _ t h = refl
+
+-- and what is plain, and has no fault in the whole language, has none in the plain one
+pub plain_faultless : (k : Kind) (t : List ℕ) → is_terminal_plain (terminal_of k t) ≡ true → fault_of Whole k t ≡ None → fault_of Plain k t ≡ None
+unfolding fault_of terminal_of
+plain_faultless kinds.Number t p h = (number_plain (encode_utf8_all t)).1 p
+plain_faultless _ t p h = h
+
+abbrev pub is_token_plain : Token → Bool
+is_token_plain t = is_terminal_plain (terminal_of t.kind t.text)

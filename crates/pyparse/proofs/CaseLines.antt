@@ -1,0 +1,7 @@
+mod Machine
+mod Signs
+mod Expressions
+mod Patterns
+mod Trailers
+mod Statements
+pub mod Law

@@ -1,0 +1,239 @@
+//! What is known of a source after some of its lines.
+
+ghost use Rattle.std.specs.Prelude.{◌≡◌, ◌+◌, ◌++◌, ◌∷◌, [], List, ℕ, IfOk, IfErr};
+ghost use Rattle.pylex.specs.Listing.{Source};
+ghost use Rattle.pytree_node.specs.declared.profiles.Profile.{Profile};
+ghost use Rattle.pytree_node.specs.TreeOf.{module_of};
+ghost use Rattle.pytoken.specs.Inner.Behind.{behind};
+ghost use Rattle.pygrammar.specs.Lines.{Line, line};
+ghost use Rattle.pygrammar.specs.Refusals.{Accepted};
+ghost use Rattle.pygrammar.specs.FormOf.{form_of};
+ghost use Rattle.pyparse_block.specs.declared.outline.outlines.Outline.{Outline};
+ghost use Rattle.pyparse.specs.Modules.{Refuses};
+ghost use Rattle.pyparse.specs.Inner.Progressing.{is_unread, IsSound, IsDeepAt, IsKnown, Comes};
+ghost use Rattle.pyparse.specs.Inner.Progressing.{Closes, TellsFault};
+
+use pygrammar::Form;
+use pyparse_block::{BlockFault, BlockStop, Blocks, Outline};
+use pyparse_tokens::{GrammarError, ParseFault};
+use pysource::Place;
+use pytree_node::Module;
+use std::alloc::{AllocError, Global};
+
+/// The error of lines that are no statements, by why they stop.
+fn block_error(stop: BlockStop) -> Result<GrammarError, AllocError>
+    ensures { IfOk result (TellsFault stop) }
+{
+    match stop {
+        BlockStop::Faulty(fault) => Ok(match fault {
+            BlockFault::ExpectedIndent => GrammarError::ExpectedIndent,
+            BlockFault::UnexpectedIndent => GrammarError::UnexpectedIndent,
+            BlockFault::MisplacedClause => GrammarError::MisplacedClause,
+        }),
+        BlockStop::Memory => Err(AllocError),
+    }
+}
+
+/// What is known of a source after some of its logical lines: what they are, or the first refusal
+/// among them. Of the kinds of refusals the last here comes first.
+#[derive(Drop)]
+pub(crate) enum Known {
+    /// Each line has a form, none is faulty among the others, and no statement stands too deep.
+    Sound { outline: Outline, blocks: Blocks },
+    /// The first line in which a statement begins that stands too deep, by where it starts.
+    Deep { outline: Outline, start: Place },
+    /// The first line that is faulty among the others.
+    Faulty { error: GrammarError, start: Place },
+    /// The first line without a form.
+    Unread { error: GrammarError, start: Place },
+}
+
+/// The next line after lines that are sound. What isn't kept is dropped by calls, which is shorter
+/// to prove.
+fn grow(
+    alloc: Global,
+    mut outline: Outline,
+    mut blocks: Blocks,
+    level: usize,
+    form: Form,
+    start: Place,
+) -> Result<Known, AllocError>
+    ensures { (profile : Profile) (s : Source) (k : ℕ) (forms : List Line)
+        → IsSound profile s k forms outline blocks
+        → Comes profile s k (behind [] forms) (line level (form_of form)) start
+        → IfOk result (IsKnown profile s (k + 1) (forms ++ line level (form_of form) ∷ [])) }
+{
+    match outline.step(alloc, level, &form) {
+        Ok(false) => {}
+        Ok(true) => {
+            drop((form, blocks));
+            return Ok(Known::Deep { outline, start });
+        }
+        Err(stop) => {
+            drop(form);
+            drop(blocks);
+            drop(outline);
+            let error = block_error(stop)?;
+            return Ok(Known::Faulty { error, start });
+        }
+    }
+    match blocks.step(alloc, level, form) {
+        Ok(()) => Ok(Known::Sound { outline, blocks }),
+        Err(stop) => {
+            drop(blocks);
+            drop(outline);
+            let error = block_error(stop)?;
+            Ok(Known::Faulty { error, start })
+        }
+    }
+}
+
+/// The next line after a statement that stands too deep.
+fn sink(
+    alloc: Global,
+    mut outline: Outline,
+    deep: Place,
+    level: usize,
+    form: Form,
+    start: Place,
+) -> Result<Known, AllocError>
+    ensures { (profile : Profile) (s : Source) (k : ℕ) (forms : List Line)
+        → IsDeepAt profile s k forms outline deep
+        → Comes profile s k (behind [] forms) (line level (form_of form)) start
+        → IfOk result (IsKnown profile s (k + 1) (forms ++ line level (form_of form) ∷ [])) }
+{
+    match outline.step(alloc, level, &form) {
+        Ok(_) => {
+            drop(form);
+            Ok(Known::Deep {
+                outline,
+                start: deep,
+            })
+        }
+        Err(stop) => {
+            drop(form);
+            drop(outline);
+            let error = block_error(stop)?;
+            Ok(Known::Faulty { error, start })
+        }
+    }
+}
+
+/// The module of sound lines, after the last one.
+fn finish_sound(alloc: Global, blocks: Blocks, end: Place) -> Result<Module, ParseFault>
+    ensures accepted { (profile : Profile) (s : Source) (k : ℕ) (forms : List Line)
+        (outline : Outline) → IsSound profile s k forms outline blocks → Closes profile s k end
+        → IfOk result (λ m. Accepted profile s (module_of m)) }
+    ensures refused { (profile : Profile) (s : Source) (k : ℕ) (forms : List Line)
+        (outline : Outline) → IsSound profile s k forms outline blocks → Closes profile s k end
+        → IfErr result (Refuses profile s) }
+{
+    match blocks.finish(alloc) {
+        Ok(body) => Ok(Module { body }),
+        Err(stop) => Err(ParseFault::Grammar(block_error(stop)?, end)),
+    }
+}
+
+/// The refusal of lines with a statement that stands too deep, after the last one.
+fn finish_deep(outline: &Outline, deep: Place, end: Place) -> ParseFault
+    ensures { (profile : Profile) (s : Source) (k : ℕ) (forms : List Line)
+        → IsDeepAt profile s k forms outline.now deep → Closes profile s k end
+        → Refuses profile s result }
+{
+    match outline.finish() {
+        Ok(()) => ParseFault::Grammar(GrammarError::TooDeep, deep),
+        Err(stop) => match block_error(stop) {
+            Ok(error) => ParseFault::Grammar(error, end),
+            Err(_) => ParseFault::Memory,
+        },
+    }
+}
+
+impl Known {
+    /// Before the first line. It takes no memory.
+    pub(crate) fn new(alloc: Global) -> Known
+        ensures { (profile : Profile) (s : Source) → IsKnown profile s 0 [] result }
+    {
+        Known::Sound {
+            outline: Outline::new(alloc),
+            blocks: Blocks::new(alloc),
+        }
+    }
+
+    /// Whether a line has no form. Nothing that follows is asked for one then.
+    pub(crate) fn is_unread(&self) -> bool
+        ensures { result ≡ is_unread self.now }
+    {
+        match self {
+            Known::Sound {
+                outline: _,
+                blocks: _,
+            } => false,
+            Known::Deep {
+                outline: _,
+                start: _,
+            } => false,
+            Known::Faulty { error: _, start: _ } => false,
+            Known::Unread { error: _, start: _ } => true,
+        }
+    }
+
+    /// The next line, by its form.
+    pub(crate) fn place(
+        self,
+        alloc: Global,
+        level: usize,
+        form: Form,
+        start: Place,
+    ) -> Result<Known, AllocError>
+        ensures { (profile : Profile) (s : Source) (k : ℕ) (forms : List Line)
+            → IsKnown profile s k forms self
+            → Comes profile s k (behind [] forms) (line level (form_of form)) start
+            → IfOk result (IsKnown profile s (k + 1) (forms ++ line level (form_of form) ∷ [])) }
+    {
+        match self {
+            Known::Sound { outline, blocks } => { grow(alloc, outline, blocks, level, form, start) }
+            Known::Deep {
+                outline,
+                start: deep,
+            } => sink(alloc, outline, deep, level, form, start),
+            Known::Faulty {
+                error,
+                start: faulty,
+            } => {
+                drop(form);
+                Ok(Known::Faulty {
+                    error,
+                    start: faulty,
+                })
+            }
+            Known::Unread {
+                error,
+                start: unread,
+            } => {
+                drop(form);
+                Ok(Known::Unread {
+                    error,
+                    start: unread,
+                })
+            }
+        }
+    }
+
+    /// The module, or the first refusal, after the last line: where the source ends.
+    pub(crate) fn finish(self, alloc: Global, end: Place) -> Result<Module, ParseFault>
+        ensures accepted { (profile : Profile) (s : Source) (k : ℕ) (forms : List Line)
+            → IsKnown profile s k forms self → Closes profile s k end
+            → IfOk result (λ m. Accepted profile s (module_of m)) }
+        ensures refused { (profile : Profile) (s : Source) (k : ℕ) (forms : List Line)
+            → IsKnown profile s k forms self → Closes profile s k end
+            → IfErr result (Refuses profile s) }
+    {
+        match self {
+            Known::Sound { outline: _, blocks } => finish_sound(alloc, blocks, end),
+            Known::Deep { outline, start } => Err(finish_deep(&outline, start, end)),
+            Known::Faulty { error, start } => Err(ParseFault::Grammar(error, start)),
+            Known::Unread { error, start } => Err(ParseFault::Grammar(error, start)),
+        }
+    }
+}

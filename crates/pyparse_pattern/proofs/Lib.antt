@@ -1,0 +1,14 @@
+mod AlternativeSteps
+mod Arranged
+mod ClosedSteps
+mod ElementSteps
+mod EntrySteps
+mod Growing
+mod KeySteps
+mod LevelSteps
+mod Literals
+mod Points
+mod SequenceSteps
+mod Shapes
+mod Wholes
+mod Wildcards

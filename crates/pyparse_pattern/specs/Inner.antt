@@ -1,0 +1,6 @@
+pub mod Made
+pub mod Values
+pub mod Entries
+pub mod Parts
+pub mod Readings
+pub mod Found

@@ -1,0 +1,204 @@
+//! The levels of patterns.
+//!
+//! Python language reference, 8.6.4 "Patterns", 8.6.4.1 "OR Patterns" and 8.6.4.2 "AS Patterns".
+
+ghost use Rattle.std.specs.Prelude.{◌≡◌, ◌+◌, ◌<◌, ◌≤◌, MatchResult, length};
+ghost use Rattle.pytree_node.specs.TreeOf.{pattern_of};
+ghost use Rattle.pytoken.specs.Terminals as terminals;
+ghost use Rattle.pygrammar.specs.PatternReader as reader;
+ghost use Rattle.pyparse_nodes.specs.Answers.{Failed};
+ghost use Rattle.pyparse_nodes.specs.Views.{Stands, seen};
+ghost use Rattle.pyparse_expr.specs.Readings.{IsOpen};
+ghost use Rattle.pyparse_pattern.specs.Answers.{PatternAnswered, reads};
+ghost use Rattle.pyparse_pattern.specs.Inner.Found.{AlternativesAt};
+ghost use Rattle.pyparse_pattern.specs.Inner.Readings.{alternatives_of, as_from, level_reads, star_name};
+
+use crate::closed::read_closed;
+use crate::found::{Patterns, ReadPattern};
+use crate::lists::{first_pattern, push};
+use crate::makers::{make_as, make_or, make_sequence, make_star};
+use crate::names::{captured, is_wildcard};
+use crate::sequences::others;
+use pygrammar::PatternLevel;
+use pylex::Exact;
+use pyparse_expr::Depth;
+use pyparse_nodes::{Stop, identifier_of, is_op, is_word, name_at};
+use pytoken::{Keyword, Terminal};
+use std::alloc::Global;
+
+/// Reads a pattern of a level at a place of some terminals.
+///
+/// # Errors
+///
+/// [`Stop::NoForm`]: none stands there. [`Stop::TooDeep`]: what stands there is too high, or too
+/// deep within brackets. [`Stop::Memory`].
+#[cycle(reading)]
+#[tactic(auto, using(crate::proofs::LevelSteps::by_level))]
+pub fn read_pattern(
+    alloc: Global,
+    tokens: &[Terminal],
+    level: PatternLevel,
+    at: usize,
+    depth: Depth,
+) -> Result<ReadPattern, Stop>
+    requires { at ≤ length tokens.now }
+    ensures { PatternAnswered tokens.now depth.room (at + 1)
+        (reads depth level (seen tokens.now at)) result }
+{
+    depth.enter()?;
+    match level {
+        PatternLevel::Patterns => read_patterns(alloc, tokens, at, depth),
+        PatternLevel::StarPattern => read_star(alloc, tokens, at, depth),
+        PatternLevel::AsPattern => read_as(alloc, tokens, at, depth),
+        PatternLevel::OrPattern => read_or(alloc, tokens, at, depth),
+        PatternLevel::ClosedPattern => read_closed(alloc, tokens, at, depth),
+    }
+}
+
+/// Patterns with commas between them, or one without a star.
+#[cycle(reading)]
+fn read_patterns(
+    alloc: Global,
+    tokens: &[Terminal],
+    at: usize,
+    depth: Depth,
+) -> Result<ReadPattern, Stop>
+    requires within { at ≤ length tokens.now }
+    requires open { IsOpen depth }
+    ensures { PatternAnswered tokens.now depth.room (at + 1)
+        (level_reads depth PatternLevel.Patterns (seen tokens.now at)) result }
+{
+    let first = read_star(alloc, tokens, at, depth)?;
+    if is_op(tokens, first.next, Exact::Comma) {
+        let patterns = others(alloc, tokens, first, depth)?;
+        let next = patterns.next;
+        return make_sequence(alloc, patterns, next, depth.room);
+    }
+    if is_op(tokens, at, Exact::Star) {
+        return Err(Stop::NoForm);
+    }
+    Ok(first)
+}
+
+/// A pattern with a star, or one without.
+#[cycle(reading)]
+fn read_star(
+    alloc: Global,
+    tokens: &[Terminal],
+    at: usize,
+    depth: Depth,
+) -> Result<ReadPattern, Stop>
+    requires within { at ≤ length tokens.now }
+    requires open { IsOpen depth }
+    ensures { PatternAnswered tokens.now depth.room (at + 1)
+        (level_reads depth PatternLevel.StarPattern (seen tokens.now at)) result }
+{
+    if is_op(tokens, at, Exact::Star) {
+        starred(alloc, tokens, at + 1, depth)
+    } else {
+        read_as(alloc, tokens, at, depth)
+    }
+}
+
+/// After a `*`.
+fn starred(alloc: Global, tokens: &[Terminal], at: usize, depth: Depth) -> Result<ReadPattern, Stop>
+    requires { IsOpen depth }
+    ensures { PatternAnswered tokens.now depth.room at
+        (star_name depth (seen tokens.now at)) result }
+{
+    match name_at(tokens, at) {
+        Some(name) => {
+            let name = identifier_of(alloc, name)?;
+            make_star(alloc, captured(name), at + 1)
+        }
+        None => Err(Stop::NoForm),
+    }
+}
+
+/// A pattern, and the name after its `as`.
+#[cycle(reading)]
+fn read_as(alloc: Global, tokens: &[Terminal], at: usize, depth: Depth) -> Result<ReadPattern, Stop>
+    requires within { at ≤ length tokens.now }
+    requires open { IsOpen depth }
+    ensures { PatternAnswered tokens.now depth.room (at + 1)
+        (level_reads depth PatternLevel.AsPattern (seen tokens.now at)) result }
+{
+    let inner = read_or(alloc, tokens, at, depth)?;
+    if is_word(tokens, inner.next, Keyword::As) {
+        named(alloc, tokens, inner, depth)
+    } else {
+        Ok(inner)
+    }
+}
+
+/// The name after an `as`, from the `as` on.
+fn named(
+    alloc: Global,
+    tokens: &[Terminal],
+    inner: ReadPattern,
+    depth: Depth,
+) -> Result<ReadPattern, Stop>
+    requires { Stands (terminals.Word Keyword.As) tokens.now inner.next }
+    ensures { PatternAnswered tokens.now depth.room inner.next
+        (as_from depth.room (pattern_of inner.pattern.value) (seen tokens.now inner.next)) result }
+{
+    let at = inner.next + 1;
+    match name_at(tokens, at) {
+        Some(name) => {
+            let name = identifier_of(alloc, name)?;
+            if is_wildcard(&name) {
+                return Err(Stop::NoForm);
+            }
+            make_as(alloc, inner, name, at + 1, depth.room)
+        }
+        None => Err(Stop::NoForm),
+    }
+}
+
+/// Patterns with `|` between them, or one.
+#[cycle(reading)]
+fn read_or(alloc: Global, tokens: &[Terminal], at: usize, depth: Depth) -> Result<ReadPattern, Stop>
+    requires within { at ≤ length tokens.now }
+    requires open { IsOpen depth }
+    ensures { PatternAnswered tokens.now depth.room (at + 1)
+        (level_reads depth PatternLevel.OrPattern (seen tokens.now at)) result }
+{
+    let first = read_closed(alloc, tokens, at, depth)?;
+    if is_op(tokens, first.next, Exact::VBar) {
+        let patterns = alternatives(alloc, tokens, first, depth)?;
+        make_or(alloc, patterns, depth.room)
+    } else {
+        Ok(first)
+    }
+}
+
+/// A first alternative, and those after it.
+#[cycle(reading)]
+fn alternatives(
+    alloc: Global,
+    tokens: &[Terminal],
+    first: ReadPattern,
+    depth: Depth,
+) -> Result<Patterns, Stop>
+    requires within { first.next ≤ length tokens.now }
+    requires open { IsOpen depth }
+    ensures { MatchResult result
+        (λ r. AlternativesAt tokens.now first.next (pattern_of first.pattern.value)
+        (alternatives_of depth (seen tokens.now first.next)) r)
+        (λ s. Failed s (alternatives_of depth (seen tokens.now first.next))) }
+{
+    let next = first.next;
+    let mut patterns = first_pattern(alloc, first, next)?;
+    'bars: while is_op(tokens, patterns.next, Exact::VBar) {
+        let at = patterns.next + 1;
+        let one = read_pattern(
+            alloc,
+            tokens,
+            PatternLevel::ClosedPattern,
+            at,
+            depth.inner(),
+        )?;
+        patterns = push(patterns, one)?;
+    }
+    Ok(patterns)
+}

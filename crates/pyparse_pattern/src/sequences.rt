@@ -1,0 +1,146 @@
+//! The patterns of sequences, and what stands alone in round brackets.
+//!
+//! Python language reference, 8.6.4.7 "Group Patterns" and 8.6.4.8 "Sequence Patterns".
+
+ghost use Rattle.std.specs.Prelude.{◌≡◌, ◌+◌, ◌<◌, ◌≤◌, ◌∷◌, [], length, map};
+ghost use Rattle.pytree_node.specs.TreeOf.{pattern_of};
+ghost use Rattle.pytree_node.specs.Trees as plain;
+ghost use Rattle.pytoken.specs.Terminals as terminals;
+ghost use Rattle.pygrammar.specs.PatternEntries as entries;
+ghost use Rattle.pygrammar.specs.PatternReader as reader;
+ghost use Rattle.pygrammar.specs.Reader.{closed};
+ghost use Rattle.pyparse_nodes.specs.Views.{Stands, seen};
+ghost use Rattle.pyparse_expr.specs.Readings.{IsOpen};
+ghost use Rattle.pyparse_pattern.specs.Answers.{PatternAnswered};
+ghost use Rattle.pyparse_pattern.specs.Inner.Found.{ElementsAnswered};
+ghost use Rattle.pyparse_pattern.specs.Inner.Readings.{entries_of, round_reads, square_reads};
+
+use crate::entries::PatternItem;
+use crate::found::{Patterns, ReadPattern};
+use crate::levels::read_pattern;
+use crate::listings::read_entries;
+use crate::lists::{first_pattern, no_patterns, with_elements};
+use crate::makers::make_sequence;
+use pygrammar::PatternLevel;
+use pylex::Exact;
+use pyparse_expr::Depth;
+use pyparse_nodes::{Stop, is_op};
+use pytoken::Terminal;
+use std::alloc::Global;
+
+/// The patterns that stand after some, with commas between them.
+#[cycle(reading)]
+fn elements(
+    alloc: Global,
+    tokens: &[Terminal],
+    patterns: Patterns,
+    depth: Depth,
+) -> Result<Patterns, Stop>
+    requires within { patterns.next ≤ length tokens.now }
+    requires open { IsOpen depth }
+    ensures { ElementsAnswered tokens.now patterns.next (map pattern_of patterns.items.items)
+        (entries_of depth entries.Element (seen tokens.now patterns.next)) result }
+{
+    let entries = read_entries(alloc, tokens, PatternItem::Element, patterns.next, depth)?;
+    with_elements(patterns, entries)
+}
+
+/// A first pattern, and those after the comma behind it.
+#[cycle(reading)]
+pub(crate) fn others(
+    alloc: Global,
+    tokens: &[Terminal],
+    first: ReadPattern,
+    depth: Depth,
+) -> Result<Patterns, Stop>
+    requires comma { Stands (terminals.Op Exact.Comma) tokens.now first.next }
+    requires open { IsOpen depth }
+    ensures { ElementsAnswered tokens.now (first.next + 1) (pattern_of first.pattern.value ∷ [])
+        (entries_of depth entries.Element (seen tokens.now (first.next + 1))) result }
+{
+    let next = first.next + 1;
+    let patterns = first_pattern(alloc, first, next)?;
+    elements(alloc, tokens, patterns, depth)
+}
+
+/// The sequence of some patterns, after which its bracket has to stand.
+fn bracketed(
+    alloc: Global,
+    tokens: &[Terminal],
+    patterns: Patterns,
+    sign: Exact,
+    room: usize,
+) -> Result<ReadPattern, Stop>
+    requires { patterns.next ≤ length tokens.now }
+    ensures { PatternAnswered tokens.now room patterns.next
+        (reader.cap_pattern room
+        (closed sign (seen tokens.now patterns.next)
+        (plain.MatchSequence (plain.patterns (map pattern_of patterns.items.items))))) result }
+{
+    if !is_op(tokens, patterns.next, sign) {
+        return Err(Stop::NoForm);
+    }
+    let next = patterns.next + 1;
+    make_sequence(alloc, patterns, next, room)
+}
+
+/// A pattern alone, after which its bracket has to stand.
+fn grouped(tokens: &[Terminal], read: ReadPattern) -> Result<ReadPattern, Stop>
+    requires { read.next ≤ length tokens.now }
+    ensures { PatternAnswered tokens.now read.height (read.next + 1)
+        (closed Exact.RPar (seen tokens.now read.next) (pattern_of read.pattern.value)) result }
+{
+    if !is_op(tokens, read.next, Exact::RPar) {
+        return Err(Stop::NoForm);
+    }
+    Ok(ReadPattern {
+        pattern: read.pattern,
+        height: read.height,
+        next: read.next + 1,
+    })
+}
+
+/// After a `(`.
+#[cycle(reading)]
+pub(crate) fn round(
+    alloc: Global,
+    tokens: &[Terminal],
+    at: usize,
+    depth: Depth,
+) -> Result<ReadPattern, Stop>
+    requires within { at ≤ length tokens.now }
+    requires open { IsOpen depth }
+    ensures { PatternAnswered tokens.now depth.room at
+        (reader.cap_pattern depth.room
+        (round_reads depth (seen tokens.now at))) result }
+{
+    if is_op(tokens, at, Exact::RPar) {
+        return make_sequence(alloc, no_patterns(alloc, at), at + 1, depth.room);
+    }
+    let first = read_pattern(alloc, tokens, PatternLevel::StarPattern, at, depth.same())?;
+    if is_op(tokens, first.next, Exact::Comma) {
+        let patterns = others(alloc, tokens, first, depth)?;
+        return bracketed(alloc, tokens, patterns, Exact::RPar, depth.room);
+    }
+    if is_op(tokens, at, Exact::Star) {
+        return Err(Stop::NoForm);
+    }
+    grouped(tokens, first)
+}
+
+/// After a `[`.
+#[cycle(reading)]
+pub(crate) fn square(
+    alloc: Global,
+    tokens: &[Terminal],
+    at: usize,
+    depth: Depth,
+) -> Result<ReadPattern, Stop>
+    requires within { at ≤ length tokens.now }
+    requires open { IsOpen depth }
+    ensures { PatternAnswered tokens.now depth.room at
+        (reader.cap_pattern depth.room (square_reads depth (seen tokens.now at))) result }
+{
+    let patterns = elements(alloc, tokens, no_patterns(alloc, at), depth)?;
+    bracketed(alloc, tokens, patterns, Exact::RSqb, depth.room)
+}
