@@ -431,36 +431,41 @@ fn limits_of_patterns(rt: HostRuntime) -> Result<(), Fail> {
     meets_all(&rt, rt.alloc(), "dump --whole", rows)
 }
 
-/// So many nested `match a:` with `case _:`, a blank deeper each, and a last line.
-fn nested(alloc: Global, count: usize, last: &str) -> Result<String, Fail> {
+/// Appends so many blanks.
+fn push_blanks(text: &mut String, count: usize) -> Result<(), Fail> {
+    for _ in 0..count {
+        text.push(' ')?;
+    }
+    Ok(())
+}
+
+/// So many lines, `match a:` and `case _:` in turn, each a blank deeper, and a last line after them.
+fn nested(alloc: Global, lines: usize, last: &str) -> Result<String, Fail> {
     let mut text = String::new(alloc);
-    for row in 0..=2 * count {
-        for _ in 0..row {
-            text.push(' ')?;
-        }
-        text.push_str(if row == 2 * count {
-            last
-        } else if row % 2 == 0 {
+    for line in 0..lines {
+        push_blanks(&mut text, line)?;
+        let header = if line % 2 == 0 {
             "match a:\n"
         } else {
             "case _:\n"
-        })?;
+        };
+        text.push_str(header)?;
     }
+    push_blanks(&mut text, lines)?;
+    text.push_str(last)?;
     Ok(text)
 }
 
 #[test]
 fn limits_of_statements(rt: HostRuntime) -> Result<(), Fail> {
     let words = "dump --whole";
-    let nested_499 = nested(rt.alloc(), 499, "pass\n")?;
+    let nested_499 = nested(rt.alloc(), 998, "pass\n")?;
     meets(&rt, rt.alloc(), words, nested_499.as_str(), "")?;
-    let nested_500 = nested(rt.alloc(), 500, "pass\n")?;
+    let nested_500 = nested(rt.alloc(), 1000, "pass\n")?;
     let fault = "1001:1000: error: too deep";
     meets(&rt, rt.alloc(), words, nested_500.as_str(), fault)?;
-    let mut inline = nested(rt.alloc(), 499, "match a:\n")?;
-    for _ in 0..999 {
-        inline.push(' ')?;
-    }
+    let mut inline = nested(rt.alloc(), 998, "match a:\n")?;
+    push_blanks(&mut inline, 999)?;
     inline.push_str("case _: pass\n")?;
     let fault = "1000:999: error: too deep";
     meets(&rt, rt.alloc(), words, inline.as_str(), fault)
