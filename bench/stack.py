@@ -26,6 +26,11 @@ def within(levels, line):
     return "".join(f"{' ' * i}if x:\n" for i in range(levels)) + " " * levels + line + "\n"
 
 
+def case(pattern):
+    """A `match` statement with a pattern."""
+    return f"match x:\n case {pattern}: pass\n"
+
+
 def sources():
     """The name of each source, and the source."""
     yield "600 brackets", "(" * 600 + "x" + ")" * 600 + "\n"
@@ -34,12 +39,17 @@ def sources():
     yield "499 nested `if`", within(499, "pass")
     yield "499 `lambda` in 499 `if`", within(499, "lambda: " * 499 + "x")
     yield "249 `[(yield` in 499 `if`", within(499, "[(yield " * 249 + "x" + ")]" * 249)
+    yield "600 brackets of a pattern", case("(" * 600 + "_" + ")" * 600)
+    yield "499 `[` of a pattern", case("[" * 499 + "_" + "]" * 499)
+    yield "498 `A(` of a pattern", case("A(" * 498 + "_" + ")" * 498)
+    yield "499 `{1:` of a pattern", case("{1: " * 499 + "_" + "}" * 499)
+    yield "499 nested `match`", "".join(f"{' ' * 2 * i}match x:\n{' ' * (2 * i + 1)}case _:\n" for i in range(499)) + " " * 998 + "pass\n"
 
 
 def ends_well(program, command, file, stack):
     """Whether a run with so much stack ends with status 0."""
     limit = lambda: resource.setrlimit(resource.RLIMIT_STACK, (stack, stack))
-    done = subprocess.run([program, command, file], stdout=subprocess.DEVNULL, stderr=subprocess.DEVNULL, preexec_fn=limit, check=False)
+    done = subprocess.run([program, command, "--whole", file], stdout=subprocess.DEVNULL, stderr=subprocess.DEVNULL, preexec_fn=limit, check=False)
     return done.returncode == 0
 
 
@@ -66,7 +76,7 @@ def main():
             found = [least_stack(program, command, file.name) for program in programs for command in COMMANDS]
         status |= None in found
         shown = "  ".join("too much" if one is None else f"{one >> 10:,} KB".rjust(9) for one in found)
-        print(f"{name:<28}{shown}", flush=True)
+        print(f"{name:<30}{shown}", flush=True)
     return status
 
 

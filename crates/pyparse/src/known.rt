@@ -1,6 +1,6 @@
 //! What is known of a source after some of its lines.
 
-ghost use Rattle.std.specs.Prelude.{◌≡◌, ◌+◌, ◌++◌, ◌∷◌, [], List, ℕ, IfOk, IfErr};
+ghost use Rattle.std.specs.Prelude.{◌≡◌, ◌+◌, ◌++◌, ◌∷◌, [], List, ℕ, IfOk, IfErr, OnOk};
 ghost use Rattle.pylex.specs.Listing.{Source};
 ghost use Rattle.pytree_node.specs.declared.profiles.Profile.{Profile};
 ghost use Rattle.pytree_node.specs.TreeOf.{module_of};
@@ -19,6 +19,7 @@ use pyparse_tokens::{GrammarError, ParseFault};
 use pysource::Place;
 use pytree_node::Module;
 use std::alloc::{AllocError, Global};
+use std::mem;
 
 /// The error of lines that are no statements, by why they stop.
 fn block_error(stop: BlockStop) -> Result<GrammarError, AllocError>
@@ -46,77 +47,6 @@ pub(crate) enum Known {
     Faulty { error: GrammarError, start: Place },
     /// The first line without a form.
     Unread { error: GrammarError, start: Place },
-}
-
-/// The next line after lines that are sound. What isn't kept is dropped by calls, which is shorter
-/// to prove.
-fn grow(
-    alloc: Global,
-    mut outline: Outline,
-    mut blocks: Blocks,
-    level: usize,
-    form: Form,
-    start: Place,
-) -> Result<Known, AllocError>
-    ensures { (profile : Profile) (s : Source) (k : ℕ) (forms : List Line)
-        → IsSound profile s k forms outline blocks
-        → Comes profile s k (behind [] forms) (line level (form_of form)) start
-        → IfOk result (IsKnown profile s (k + 1) (forms ++ line level (form_of form) ∷ [])) }
-{
-    match outline.step(alloc, level, &form) {
-        Ok(false) => {}
-        Ok(true) => {
-            drop((form, blocks));
-            return Ok(Known::Deep { outline, start });
-        }
-        Err(stop) => {
-            drop(form);
-            drop(blocks);
-            drop(outline);
-            let error = block_error(stop)?;
-            return Ok(Known::Faulty { error, start });
-        }
-    }
-    match blocks.step(alloc, level, form) {
-        Ok(()) => Ok(Known::Sound { outline, blocks }),
-        Err(stop) => {
-            drop(blocks);
-            drop(outline);
-            let error = block_error(stop)?;
-            Ok(Known::Faulty { error, start })
-        }
-    }
-}
-
-/// The next line after a statement that stands too deep.
-fn sink(
-    alloc: Global,
-    mut outline: Outline,
-    deep: Place,
-    level: usize,
-    form: Form,
-    start: Place,
-) -> Result<Known, AllocError>
-    ensures { (profile : Profile) (s : Source) (k : ℕ) (forms : List Line)
-        → IsDeepAt profile s k forms outline deep
-        → Comes profile s k (behind [] forms) (line level (form_of form)) start
-        → IfOk result (IsKnown profile s (k + 1) (forms ++ line level (form_of form) ∷ [])) }
-{
-    match outline.step(alloc, level, &form) {
-        Ok(_) => {
-            drop(form);
-            Ok(Known::Deep {
-                outline,
-                start: deep,
-            })
-        }
-        Err(stop) => {
-            drop(form);
-            drop(outline);
-            let error = block_error(stop)?;
-            Ok(Known::Faulty { error, start })
-        }
-    }
 }
 
 /// The module of sound lines, after the last one.
@@ -178,44 +108,66 @@ impl Known {
         }
     }
 
-    /// The next line, by its form.
+    /// The next line, by its form. Lines that stay sound are taken in place, and what isn't kept is
+    /// dropped by calls, which is shorter to prove.
     pub(crate) fn place(
-        self,
+        &mut self,
         alloc: Global,
         level: usize,
         form: Form,
         start: Place,
-    ) -> Result<Known, AllocError>
+    ) -> Result<(), AllocError>
         ensures { (profile : Profile) (s : Source) (k : ℕ) (forms : List Line)
-            → IsKnown profile s k forms self
+            → IsKnown profile s k forms self.old
             → Comes profile s k (behind [] forms) (line level (form_of form)) start
-            → IfOk result (IsKnown profile s (k + 1) (forms ++ line level (form_of form) ∷ [])) }
+            → OnOk result (IsKnown profile s (k + 1)
+            (forms ++ line level (form_of form) ∷ []) self.new) }
     {
         match self {
-            Known::Sound { outline, blocks } => { grow(alloc, outline, blocks, level, form, start) }
-            Known::Deep {
-                outline,
-                start: deep,
-            } => sink(alloc, outline, deep, level, form, start),
-            Known::Faulty {
-                error,
-                start: faulty,
-            } => {
-                drop(form);
-                Ok(Known::Faulty {
-                    error,
-                    start: faulty,
-                })
+            Known::Sound { outline, blocks } => {
+                match outline.step(alloc, level, &form) {
+                    Ok(false) => {}
+                    Ok(true) => {
+                        drop(form);
+                        let outline = mem::replace(outline, Outline::new(alloc));
+                        *self = Known::Deep { outline, start };
+                        return Ok(());
+                    }
+                    Err(stop) => {
+                        drop(form);
+                        let error = block_error(stop)?;
+                        *self = Known::Faulty { error, start };
+                        return Ok(());
+                    }
+                }
+                match blocks.step(alloc, level, form) {
+                    Ok(()) => Ok(()),
+                    Err(stop) => {
+                        let error = block_error(stop)?;
+                        *self = Known::Faulty { error, start };
+                        Ok(())
+                    }
+                }
             }
-            Known::Unread {
-                error,
-                start: unread,
-            } => {
+            Known::Deep { outline, start: _ } => match outline.step(alloc, level, &form) {
+                Ok(_) => {
+                    drop(form);
+                    Ok(())
+                }
+                Err(stop) => {
+                    drop(form);
+                    let error = block_error(stop)?;
+                    *self = Known::Faulty { error, start };
+                    Ok(())
+                }
+            },
+            Known::Faulty { error: _, start: _ } => {
                 drop(form);
-                Ok(Known::Unread {
-                    error,
-                    start: unread,
-                })
+                Ok(())
+            }
+            Known::Unread { error: _, start: _ } => {
+                drop(form);
+                Ok(())
             }
         }
     }

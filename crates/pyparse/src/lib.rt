@@ -14,7 +14,7 @@
 //! [`terminal_of`] tells what a token is to the grammar ([`Terminal`]). These are of `pytoken`.
 //!
 //! The words of contracts are those of these two crates and of `pygrammar`, and here in `specs/`
-//! those of `TokenLists`, `Expressions`, `Patterns` and `Modules`.
+//! those of `TokenLists`, `Expressions`, `Patterns`, `Places` and `Modules`.
 #![tactic(auto)]
 
 mod expressions;

@@ -44,7 +44,7 @@ pub fn parse(alloc: Global, source: &Source, profile: Profile) -> Result<Module,
     let mut lines = LogicalLines::new(alloc, source, profile.extent)?;
     let mut progress = Progress::new(alloc);
     while lines.next()? {
-        progress = progress.take(alloc, &lines, profile)?;
+        progress.take(alloc, &lines, profile)?;
     }
     progress.finish(alloc, lines.end())
 }

@@ -1,7 +1,7 @@
 //! The progress through the logical lines of a source: what is known of those so far, and where the
 //! next one stands.
 
-ghost use Rattle.std.specs.Prelude.{◌≡◌, ◌+◌, ◌&&◌, ℕ, Bool, false, not, IfOk, IfErr};
+ghost use Rattle.std.specs.Prelude.{◌≡◌, ◌+◌, ◌&&◌, ℕ, Bool, false, not, IfOk, IfErr, OnOk};
 ghost use Rattle.pylex.specs.Listing.{Source, in_characters};
 ghost use Rattle.pytree_node.specs.declared.profiles.Profile.{Profile};
 ghost use Rattle.pytree_node.specs.TreeOf.{module_of};
@@ -84,55 +84,53 @@ impl Progress {
     /// The next line, which is held, where all before it have a form: it is read at its place. What
     /// isn't kept is dropped by calls, which is shorter to prove.
     fn read(
-        self,
+        &mut self,
         alloc: Global,
         lines: &LogicalLines<'_>,
         profile: Profile,
-    ) -> Result<Progress, AllocError>
-        requires { is_unread self.known ≡ false }
+    ) -> Result<(), AllocError>
+        requires { is_unread self.old.known ≡ false }
         ensures { (k : ℕ) → HoldsLine (in_characters lines.now.source) k lines.now
-            → IsProgress profile (in_characters lines.now.source) k self
-            → IfOk result (IsProgress profile (in_characters lines.now.source) (k + 1)) }
+            → IsProgress profile (in_characters lines.now.source) k self.old
+            → OnOk result (IsProgress profile (in_characters lines.now.source) (k + 1) self.new) }
     {
-        let Progress { known, mut places } = self;
         let level = lines.level();
-        match read_line(alloc, lines.terminals(), profile, places.inside(level)) {
+        match read_line(alloc, lines.terminals(), profile, self.places.inside(level)) {
             Ok(form) => {
-                match places.step(level, is_match(&form)) {
+                match self.places.step(level, is_match(&form)) {
                     Ok(()) => {}
                     Err(error) => {
-                        drop((known, form));
+                        drop(form);
                         return Err(error);
                     }
                 }
-                let known = known.place(alloc, level, form, lines.start())?;
-                Ok(Progress { known, places })
+                self.known.place(alloc, level, form, lines.start())?;
+                Ok(())
             }
             Err(stop) => {
-                drop(known);
                 let error = line_error(stop, is_left_out(profile, lines.is_match()))?;
-                let known = Known::Unread {
+                self.known = Known::Unread {
                     error,
                     start: lines.start(),
                 };
-                Ok(Progress { known, places })
+                Ok(())
             }
         }
     }
 
     /// The next line, which is held. Where a line has no form, none after it is asked for one.
     pub(crate) fn take(
-        self,
+        &mut self,
         alloc: Global,
         lines: &LogicalLines<'_>,
         profile: Profile,
-    ) -> Result<Progress, AllocError>
+    ) -> Result<(), AllocError>
         ensures { (k : ℕ) → HoldsLine (in_characters lines.now.source) k lines.now
-            → IsProgress profile (in_characters lines.now.source) k self
-            → IfOk result (IsProgress profile (in_characters lines.now.source) (k + 1)) }
+            → IsProgress profile (in_characters lines.now.source) k self.old
+            → OnOk result (IsProgress profile (in_characters lines.now.source) (k + 1) self.new) }
     {
         if self.known.is_unread() {
-            return Ok(self);
+            return Ok(());
         }
         self.read(alloc, lines, profile)
     }

@@ -13,8 +13,8 @@ use Rattle.pyparse.specs.Inner.Placing.{HoldsPlaces}
 use Rattle.pyparse.proofs.ProgressLemmas.{starts_held, place_held, comes_held, unread_first, behind_more}
 use Rattle.pyparse.proofs.progress.Progress.read.Goals as goal
 
-pub returns-in_ok-known-in-Ok : goal.returns-in_ok-known-in-Ok
-returns-in_ok-known-in-Ok c k held was =
+pub returns-in_ok-place-in-Ok : goal.returns-in_ok-place-in-Ok
+returns-in_ok-place-in-Ok c k held was =
     let s = in_characters c.args.lines.now.source in
     let earlier = behind [] was.forms in
     let inside = c.inside.ensures earlier was.places in
@@ -22,7 +22,7 @@ returns-in_ok-known-in-Ok c k held was =
     record {
       forms = was.forms ++ next ∷ [];
       known =
-          c.in_ok-known-in-Ok.ensures c.args.profile s k was.forms was.known
+          c.in_ok-place-in-Ok.ensures c.args.profile s k was.forms was.known
           (comes_held earlier c.inside.result (map terminal c.terminals.result.now) c.level-level.result (form_of c.in-Ok.form) c.start.result held inside c.terminals.ensures
           c.level-level.ensures c.start.ensures c.in-Ok.ensures.form);
       places =
@@ -43,7 +43,7 @@ returns-in_ok-error-in-Err c k held was =
     record {
       forms = was.forms;
       known =
-          unread_first was.forms c.args.self.known held.line c.in_ok-error-in-Err.error c.start-in-Err.result c.requires was.known held.stands
+          unread_first was.forms c.args.self.now.known held.line c.in_ok-error-in-Err.error c.start-in-Err.result c.requires was.known held.stands
           (subst (λ (b : Bool). Unread c.args.profile b held.line (code_of c.in_ok-error-in-Err.error)) inside unread)
           (subst (StartsAt s k) (sym c.start-in-Err.ensures) (starts_held s k c.args.lines.now held));
       places = was.places;
