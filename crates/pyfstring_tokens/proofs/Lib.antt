@@ -1,0 +1,10 @@
+mod Cutting
+mod LastChars
+mod PlainEnds
+mod Behind
+mod Parentheses
+mod Steps
+mod Texts
+mod Places
+mod Passing
+mod OwnTokens

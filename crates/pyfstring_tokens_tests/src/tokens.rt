@@ -1,0 +1,124 @@
+//! What a field's text gives.
+
+use crate::collect::collect;
+use pyfstring_tokens::{Class, FieldFault};
+use std::alloc::{AllocError, Global};
+use std::process::Abort;
+use std::test::Fail;
+
+/// The type of a token, as the module `token` names it.
+fn kind(class: Class) -> &'static str {
+    match class {
+        Class::Name => "NAME ",
+        Class::Number => "NUMBER ",
+        Class::String => "STRING ",
+        Class::Operator(_) => "OP ",
+        _ => "",
+    }
+}
+
+/// What stops a reader.
+fn fault_name(fault: FieldFault) -> &'static str {
+    match fault {
+        FieldFault::NoToken => "no token",
+        FieldFault::Unclosed => "unclosed",
+        FieldFault::Closer => "closer",
+        FieldFault::Comment => "comment",
+    }
+}
+
+/// The tokens of a field's text, a line for each, and what stopped the reader.
+fn told(alloc: Global, text: &str) -> Result<String, AllocError> {
+    let mut tokens = Vec::new(alloc);
+    let fault = collect(text, &mut tokens)?;
+    let mut told = String::new(alloc);
+    for (class, text) in &tokens {
+        told.push_str(kind(*class))?;
+        told.push_str(text)?;
+        told.push_str("\n")?;
+    }
+    if let Some(fault) = fault {
+        told.push_str(fault_name(fault))?;
+    }
+    Ok(told)
+}
+
+/// Asserts what the texts of some rows give.
+fn are_told(rt: &impl Abort, alloc: Global, rows: &[(&str, &str)]) -> Result<(), Fail> {
+    for (text, expected) in rows {
+        let found = told(alloc, text)?;
+        assert_eq!(rt; found.as_str(), *expected, "at {text:?}");
+    }
+    Ok(())
+}
+
+#[test]
+fn gives_tokens(rt: HostRuntime) -> Result<(), Fail> {
+    are_told(
+        &rt,
+        rt.alloc(),
+        &[
+            ("x", "NAME x\n"),
+            (" été +b ", "NAME été\nOP +\nNAME b\n"),
+            ("", ""),
+            ("x:=1.5j", "NAME x\nOP :=\nNUMBER 1.5j\n"),
+            ("not x!=0xfe", "NAME not\nNAME x\nOP !=\nNUMBER 0xfe\n"),
+            (
+                "f(*y)[0]",
+                "NAME f\nOP (\nOP *\nNAME y\nOP )\nOP [\nNUMBER 0\nOP ]\n",
+            ),
+            (
+                "{1: (a]}",
+                "OP {\nNUMBER 1\nOP :\nOP (\nNAME a\nOP ]\nOP }\n",
+            ),
+        ],
+    )
+}
+
+/// Within parentheses no line ends, and brackets in strings are none.
+#[test]
+fn gives_tokens_over_lines(rt: HostRuntime) -> Result<(), Fail> {
+    are_told(
+        &rt,
+        rt.alloc(),
+        &[
+            ("x\n  + 1", "NAME x\nOP +\nNUMBER 1\n"),
+            ("x\r\n+ 1\n", "NAME x\nOP +\nNUMBER 1\n"),
+            ("  \n", ""),
+            ("x \\\n  y", "NAME x\nNAME y\n"),
+            ("'a)' \"(\"", "STRING 'a)'\nSTRING \"(\"\n"),
+            ("'''a\n)'''", "STRING '''a\n)'''\n"),
+        ],
+    )
+}
+
+#[test]
+fn tells_faults(rt: HostRuntime) -> Result<(), Fail> {
+    are_told(
+        &rt,
+        rt.alloc(),
+        &[
+            ("a $ b", "NAME a\nno token"),
+            ("x!", "NAME x\nno token"),
+            ("'abc", "no token"),
+            ("'''a", "no token"),
+            ("(a", "OP (\nNAME a\nunclosed"),
+            ("{(}", "OP {\nOP (\nOP }\nunclosed"),
+        ],
+    )
+}
+
+/// `a)(b` in parentheses has tokens, but its own brackets don't match.
+#[test]
+fn tells_what_no_field_has(rt: HostRuntime) -> Result<(), Fail> {
+    are_told(
+        &rt,
+        rt.alloc(),
+        &[
+            ("a)(b", "NAME a\ncloser"),
+            ("]", "closer"),
+            ("# c", "comment"),
+            ("a # b\n + c", "NAME a\ncomment"),
+        ],
+    )
+}
