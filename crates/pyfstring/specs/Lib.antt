@@ -1,0 +1,10 @@
+pub mod Characters
+pub mod Texts
+pub mod Expressions
+pub mod Singles
+pub mod Parts
+pub mod Conversions
+pub mod Pieces
+pub mod Returns
+pub mod Laws
+pub mod Inner
