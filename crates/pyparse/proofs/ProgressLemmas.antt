@@ -1,4 +1,4 @@
--- Carries: grow, sink, Known, Progress. On: what is known of a source behind one line more.
+-- Carries: Known, Progress. On: what is known of a source behind one line more.
 use Rattle.std.proofs.Common.{◌≡◌, inl, inr, ℕ, zero, suc, ◌+◌, ◌≤◌, Bool, true, false, List, [], ◌∷◌, ◌++◌, length, take, refl, sym, ap, ◌∙◌, subst, append_assoc, length-append, arith, Some}
 use Rattle.std.specs.Prelude.{slice_get}
 use Rattle.pysource.specs.declared.places.Place.{Place}
@@ -29,7 +29,7 @@ use Rattle.pyparse.specs.declared.known.Known.TheVariants.{Sound, Deep, Faulty}
 use Rattle.pyparse.specs.declared.known.Known.TheVariants as known
 use Rattle.pyparse_tokens.specs.LineReadings.{LineReading, first_start, HoldsLine}
 use Rattle.pyparse.specs.Modules.{code_of}
-use Rattle.pyparse.specs.Inner.Progressing.{first_lines, IsSound, IsDeepAt, IsFaultyAt, IsUnreadAt, IsKnown, is_unread, Comes, TellsFault}
+use Rattle.pyparse.specs.Inner.Progressing.{first_lines, IsSound, IsDeepAt, IsFaultyAt, IsUnreadAt, IsKnown, is_unread, Comes, Fails}
 
 -- ---- The first lines of a source.
 
@@ -174,22 +174,22 @@ module _ {profile : Profile} {s : Source} {k : ℕ} (forms : List Line) {l : Lin
         starts = comes.starts;
       }
 
-  faulty_by : (e : GrammarError) (stop : BlockStop) → Formed profile [] (first_lines s k) forms → TellsFault stop e
-      → ((more : List Line) → Blames (forms ++ (l ∷ more)) (l ∷ more) stop) → IsFaultyAt profile s (k + 1) (forms ++ l ∷ []) e p
-  faulty_by e (variant.Faulty f) formed tells blames = faulty_on e (fault_of f) formed tells blames
-  faulty_by e variant.Memory formed tells blames = absurd tells
+  faulty_by : (stop : BlockStop) (known : Known) → Formed profile [] (first_lines s k) forms → Fails stop p known
+      → ((more : List Line) → Blames (forms ++ (l ∷ more)) (l ∷ more) stop) → IsKnown profile s (k + 1) (forms ++ l ∷ []) known
+  faulty_by (variant.Faulty f) known formed fails blames = subst (IsKnown profile s (k + 1) (forms ++ l ∷ [])) (sym fails.2) (faulty_on fails.0 (fault_of f) formed fails.1 blames)
+  faulty_by variant.Memory known formed fails blames = absurd fails.1
 
-  pub sound_faulty : {o : Outline} {b : Blocks} (e : GrammarError) (stop : BlockStop) → IsSound profile s k forms o b → TellsFault stop e
-      → ((xs more : List Line) → Follows xs o → Blames (xs ++ (l ∷ more)) (l ∷ more) stop) → IsFaultyAt profile s (k + 1) (forms ++ l ∷ []) e p
-  sound_faulty e stop was tells blames = faulty_by e stop was.formed tells (λ more. blames forms more was.follows)
+  pub sound_faulty : {o : Outline} {b : Blocks} (stop : BlockStop) (known : Known) → IsSound profile s k forms o b → Fails stop p known
+      → ((xs more : List Line) → Follows xs o → Blames (xs ++ (l ∷ more)) (l ∷ more) stop) → IsKnown profile s (k + 1) (forms ++ l ∷ []) known
+  sound_faulty stop known was fails blames = faulty_by stop known was.formed fails (λ more. blames forms more was.follows)
 
-  pub sound_misplaced : {o : Outline} {b : Blocks} (e : GrammarError) (stop : BlockStop) → IsSound profile s k forms o b → TellsFault stop e
-      → ((xs more : List Line) → run xs start ≡ Fine (state_of b) → Blames (xs ++ (l ∷ more)) (l ∷ more) stop) → IsFaultyAt profile s (k + 1) (forms ++ l ∷ []) e p
-  sound_misplaced e stop was tells blames = faulty_by e stop was.formed tells (λ more. blames forms more was.read)
+  pub sound_misplaced : {o : Outline} {b : Blocks} (stop : BlockStop) (known : Known) → IsSound profile s k forms o b → Fails stop p known
+      → ((xs more : List Line) → run xs start ≡ Fine (state_of b) → Blames (xs ++ (l ∷ more)) (l ∷ more) stop) → IsKnown profile s (k + 1) (forms ++ l ∷ []) known
+  sound_misplaced stop known was fails blames = faulty_by stop known was.formed fails (λ more. blames forms more was.read)
 
-  pub deep_faulty : {o : Outline} {q : Place} (e : GrammarError) (stop : BlockStop) → IsDeepAt profile s k forms o q → TellsFault stop e
-      → ((xs more : List Line) → Follows xs o → Blames (xs ++ (l ∷ more)) (l ∷ more) stop) → IsFaultyAt profile s (k + 1) (forms ++ l ∷ []) e p
-  deep_faulty e stop was tells blames = faulty_by e stop was.formed tells (λ more. blames forms more was.follows)
+  pub deep_faulty : {o : Outline} {q : Place} (stop : BlockStop) (known : Known) → IsDeepAt profile s k forms o q → Fails stop p known
+      → ((xs more : List Line) → Follows xs o → Blames (xs ++ (l ∷ more)) (l ∷ more) stop) → IsKnown profile s (k + 1) (forms ++ l ∷ []) known
+  deep_faulty stop known was fails blames = faulty_by stop known was.formed fails (λ more. blames forms more was.follows)
 
   -- one behind it
   pub faulty_next : {e : GrammarError} {q : Place} → IsFaultyAt profile s k forms e q → IsFaultyAt profile s (k + 1) (forms ++ l ∷ []) e q

@@ -8,10 +8,12 @@ ghost use Rattle.pytoken.specs.Inner.Behind.{behind};
 ghost use Rattle.pygrammar.specs.Lines.{Line, line};
 ghost use Rattle.pygrammar.specs.Refusals.{Accepted};
 ghost use Rattle.pygrammar.specs.FormOf.{form_of};
+ghost use Rattle.pyparse_block.specs.declared.blocks.Blocks.{Blocks};
 ghost use Rattle.pyparse_block.specs.declared.outline.outlines.Outline.{Outline};
 ghost use Rattle.pyparse.specs.Modules.{Refuses};
 ghost use Rattle.pyparse.specs.Inner.Progressing.{is_unread, IsSound, IsDeepAt, IsKnown, Comes};
-ghost use Rattle.pyparse.specs.Inner.Progressing.{Closes, TellsFault};
+ghost use Rattle.pyparse.specs.Inner.Progressing.{Closes, TellsFault, Fails};
+ghost use Rattle.pyparse.specs.declared.known.Known.TheVariants.{Sound, Deep, Unread};
 
 use pygrammar::Form;
 use pyparse_block::{BlockFault, BlockStop, Blocks, Outline};
@@ -79,6 +81,14 @@ fn finish_deep(outline: &Outline, deep: Place, end: Place) -> ParseFault
     }
 }
 
+/// Lets a form go that isn't kept. It is never inlined, since a function pays at entry for the
+/// locals of what it may drop.
+#[cold]
+#[inline(never)]
+pub(crate) fn let_go(form: Form) {
+    drop(form);
+}
+
 impl Known {
     /// Before the first line. It takes no memory.
     pub(crate) fn new(alloc: Global) -> Known
@@ -108,8 +118,41 @@ impl Known {
         }
     }
 
-    /// The next line, by its form. Lines that stay sound are taken in place, and what isn't kept is
-    /// dropped by calls, which is shorter to prove.
+    /// The line that starts here is the first one without a form.
+    #[cold]
+    #[inline(never)]
+    pub(crate) fn refuse(&mut self, error: GrammarError, start: Place)
+        ensures { self.new ≡ Unread error start }
+    {
+        *self = Known::Unread { error, start };
+    }
+
+    /// The line that starts here is the first one that is faulty among the others.
+    #[cold]
+    #[inline(never)]
+    fn fail(&mut self, stop: BlockStop, start: Place) -> Result<(), AllocError>
+        ensures { OnOk result (Fails stop start self.new) }
+    {
+        let error = block_error(stop)?;
+        *self = Known::Faulty { error, start };
+        Ok(())
+    }
+
+    /// The line that starts here, of lines that are sound else, is the first one in which a
+    /// statement begins that stands too deep.
+    #[cold]
+    #[inline(never)]
+    fn sink(&mut self, alloc: Global, start: Place)
+        ensures { (outline : Outline) (blocks : Blocks) → self.old ≡ Sound outline blocks
+            → self.new ≡ Deep outline start }
+    {
+        if let Known::Sound { outline, blocks: _ } = self {
+            let outline = mem::replace(outline, Outline::new(alloc));
+            *self = Known::Deep { outline, start };
+        }
+    }
+
+    /// The next line, by its form. Lines that stay sound are taken in place.
     pub(crate) fn place(
         &mut self,
         alloc: Global,
@@ -128,45 +171,41 @@ impl Known {
                 match outline.step(alloc, level, &form) {
                     Ok(false) => {}
                     Ok(true) => {
-                        drop(form);
-                        let outline = mem::replace(outline, Outline::new(alloc));
-                        *self = Known::Deep { outline, start };
+                        let_go(form);
+                        self.sink(alloc, start);
                         return Ok(());
                     }
                     Err(stop) => {
-                        drop(form);
-                        let error = block_error(stop)?;
-                        *self = Known::Faulty { error, start };
+                        let_go(form);
+                        self.fail(stop, start)?;
                         return Ok(());
                     }
                 }
                 match blocks.step(alloc, level, form) {
                     Ok(()) => Ok(()),
                     Err(stop) => {
-                        let error = block_error(stop)?;
-                        *self = Known::Faulty { error, start };
+                        self.fail(stop, start)?;
                         Ok(())
                     }
                 }
             }
             Known::Deep { outline, start: _ } => match outline.step(alloc, level, &form) {
                 Ok(_) => {
-                    drop(form);
+                    let_go(form);
                     Ok(())
                 }
                 Err(stop) => {
-                    drop(form);
-                    let error = block_error(stop)?;
-                    *self = Known::Faulty { error, start };
+                    let_go(form);
+                    self.fail(stop, start)?;
                     Ok(())
                 }
             },
             Known::Faulty { error: _, start: _ } => {
-                drop(form);
+                let_go(form);
                 Ok(())
             }
             Known::Unread { error: _, start: _ } => {
-                drop(form);
+                let_go(form);
                 Ok(())
             }
         }

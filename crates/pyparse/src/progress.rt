@@ -15,7 +15,7 @@ ghost use Rattle.pyparse_tokens.specs.LineReadings.{HoldsLine};
 ghost use Rattle.pyparse.specs.Modules.{code_of, Refuses};
 ghost use Rattle.pyparse.specs.Inner.Progressing.{is_unread, IsProgress, Closes};
 
-use crate::known::Known;
+use crate::known::{Known, let_go};
 use crate::places::Places;
 use pygrammar::{Form, Header};
 use pyparse_line::read_line;
@@ -81,8 +81,7 @@ impl Progress {
         }
     }
 
-    /// The next line, which is held, where all before it have a form: it is read at its place. What
-    /// isn't kept is dropped by calls, which is shorter to prove.
+    /// The next line, which is held, where all before it have a form: it is read at its place.
     fn read(
         &mut self,
         alloc: Global,
@@ -100,7 +99,7 @@ impl Progress {
                 match self.places.step(level, is_match(&form)) {
                     Ok(()) => {}
                     Err(error) => {
-                        drop(form);
+                        let_go(form);
                         return Err(error);
                     }
                 }
@@ -109,10 +108,7 @@ impl Progress {
             }
             Err(stop) => {
                 let error = line_error(stop, is_left_out(profile, lines.is_match()))?;
-                self.known = Known::Unread {
-                    error,
-                    start: lines.start(),
-                };
+                self.known.refuse(error, lines.start());
                 Ok(())
             }
         }

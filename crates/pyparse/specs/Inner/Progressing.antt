@@ -104,3 +104,7 @@ pub record Closes (profile : Profile) (s : Source) (k : ℕ) (p : Place) : Type 
 abbrev pub TellsFault : BlockStop → GrammarError → Type 0
 TellsFault (variant.Faulty f) e = code_of e ≡ Indentation (fault_of f)
 TellsFault variant.Memory e = ⊥
+
+-- what is known becomes that the line which starts here is faulty
+abbrev pub Fails : BlockStop → Place → Known → Type 0
+Fails stop p known = (e : GrammarError) × TellsFault stop e × (known ≡ Faulty e p)

@@ -1,4 +1,4 @@
-use Rattle.std.proofs.Common.{◌∙◌, ◌∷◌, ◌++◌, ◌&&◌, [], List, map, not, ap, subst, sym, Bool}
+use Rattle.std.proofs.Common.{◌∙◌, ◌+◌, ◌∷◌, ◌++◌, ◌&&◌, [], List, map, not, ap, subst, sym, Bool}
 use Rattle.pylex.specs.Listing.{in_characters}
 use Rattle.pytoken.specs.Inner.Behind.{behind}
 use Rattle.pytoken.specs.Terminals.{Terminal}
@@ -9,6 +9,7 @@ use Rattle.pygrammar.specs.FormOf.{form_of}
 use Rattle.pygrammar.specs.Refusals.{StartsAt, Unread}
 use Rattle.pyparse_line.specs.Lines.{Refused}
 use Rattle.pyparse.specs.Modules.{code_of}
+use Rattle.pyparse.specs.Inner.Progressing.{IsKnown}
 use Rattle.pyparse.specs.Inner.Placing.{HoldsPlaces}
 use Rattle.pyparse.proofs.ProgressLemmas.{starts_held, place_held, comes_held, unread_first, behind_more}
 use Rattle.pyparse.proofs.progress.Progress.read.Goals as goal
@@ -43,8 +44,9 @@ returns-in_ok-error-in-Err c k held was =
     record {
       forms = was.forms;
       known =
-          unread_first was.forms c.args.self.now.known held.line c.in_ok-error-in-Err.error c.start-in-Err.result c.requires was.known held.stands
+          subst (IsKnown c.args.profile s (k + 1) was.forms) (sym c.refuse.ensures)
+          (unread_first was.forms c.args.self.now.known held.line c.in_ok-error-in-Err.error c.start-in-Err.result c.requires was.known held.stands
           (subst (λ (b : Bool). Unread c.args.profile b held.line (code_of c.in_ok-error-in-Err.error)) inside unread)
-          (subst (StartsAt s k) (sym c.start-in-Err.ensures) (starts_held s k c.args.lines.now held));
+          (subst (StartsAt s k) (sym c.start-in-Err.ensures) (starts_held s k c.args.lines.now held)));
       places = was.places;
     }
