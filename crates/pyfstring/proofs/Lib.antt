@@ -1,3 +1,4 @@
+pub mod Callers
 mod Faults
 mod Fronts
 mod ScannerLemmas

@@ -1,28 +1,21 @@
 -- Pieces without their CRs.
 -- Carries: pieces. On: ReturnFields.
-use Rattle.std.proofs.Common.{◌≡◌, ℕ, zero, suc, ◌+◌, ◌≤◌, ◌<◌, Bool, true, false, List, [], ◌∷◌, ◌++◌, length, drop, refl, sym, ap, ◌∙◌, subst, arith, ◌⊎◌, inl, inr, Option, Some, None, add_comm, add-one}
-use Rattle.std.specs.Prelude.{◌==◌, ◌&&◌, option_map, option_and_then, is_some, slice_get, map}
+use Rattle.std.proofs.Common.{◌≡◌, ℕ, zero, suc, ◌≤◌, Bool, true, false, List, [], ◌∷◌, length, drop, refl, sym, ap, ◌∙◌, subst, arith, ◌⊎◌, inl, inr, Some, None}
+use Rattle.std.specs.Prelude.{◌==◌, option_map, option_and_then, map}
 use Rattle.std.proofs.lemmas.Option.{some_pair_parts}
-use Rattle.std.specs.List.{list_all, prefix_len}
-use Rattle.std.proofs.lemmas.Bool.{cases_Bool, eqb-true}
-use Rattle.pyfstring.specs.declared.parts.Conversion.{Conversion}
-use Rattle.pyfstring.specs.declared.parts.Conversion.TheVariants.{None as Unconverted}
+use Rattle.std.proofs.lemmas.Bool.{cases_Bool}
 use Rattle.pyfstring.specs.declared.parts.Manner.{Manner}
-use Rattle.pyfstring.specs.Characters.{exclamation_mark, colon, equals_sign, left_curly_bracket, right_curly_bracket, carriage_return}
+use Rattle.pyfstring.specs.Characters.{left_curly_bracket, carriage_return}
 use Rattle.pyfstring.specs.Texts.{begins_with, behind_text}
-use Rattle.pyfstring.specs.Expressions.{behind_expression}
 use Rattle.pyfstring.specs.Returns.{IsLined, nothing, character, line_end, without_returns, plain_field, plain_part, plain_spec, plain_parts}
-use Rattle.pyfstring.specs.Parts.{FieldParts, Part, text, field, SpecPart, BodyPart}
-use Rattle.pyfstring.specs.Pieces.{IsField, IsInnerSpec, IsSpec, Converts, unconverted, by_str, by_repr, by_ascii, Cuts, last_text, and_field, is_blank, is_blank_or_tabulation, behind_blanks, conversion_of}
-use Rattle.pyfstring.specs.Inner.Cutting.{EndsWith, before, Read, text_at, expression_at, kept_at, conversion_by, conversion_at, FrontParts, front_at, with_spec, spec_at, behind_closing, field_at, put_first, cut_within, cut_at, inner_field_at, spec_pieces_at, body_field_at, body_pieces_at, to_end, cut_of}
-use Rattle.pyfstring.proofs.Fronts.{ends_all, before_is, before_whole, ends_drop, ends_length, ends_through, begins_is}
-use Rattle.pyfstring.proofs.Scanning.{text_ends, expression_ends}
-use Rattle.pyfstring.proofs.Reading.{Reads, expression_reads, slot_kept, Fronted, front_sound}
-use Rattle.pyfstring.proofs.FieldSteps.{conversion_absent, conversion_ends, conversion_fails, conversion_given, kept_absent, kept_fails, kept_given, expression_fails, expression_blank, expression_given, front_no_expression, front_no_kept, front_no_conversion, front_given, closing_some, closing_none}
-use Rattle.pyfstring.proofs.PieceSteps.{is_some-map, spec_absent, spec_fails, spec_given, field_no_front, field_no_spec, field_no_closing, field_given}
+use Rattle.pyfstring.specs.Parts.{FieldParts, Part, text, BodyPart}
+use Rattle.pyfstring.specs.Pieces.{IsField, IsInnerSpec, IsSpec, Cuts, last_text, and_field}
+use Rattle.pyfstring.specs.Inner.Cutting.{before, Read, text_at, put_first, cut_within, cut_at, inner_field_at, spec_pieces_at, body_field_at, body_pieces_at, to_end, cut_of}
+use Rattle.pyfstring.proofs.Fronts.{ends_drop}
+use Rattle.pyfstring.proofs.Scanning.{text_ends}
+use Rattle.pyfstring.proofs.Reading.{Reads}
 use Rattle.pyfstring.proofs.Cutting.{inner_field_reads, body_field_reads, enough, cut_reads}
-use Rattle.pyfstring.proofs.ReturnTexts.{plain_one, lined_rest, begins_same, text_same}
-use Rattle.pyfstring.proofs.ReturnScans.{expression_same}
+use Rattle.pyfstring.proofs.ReturnTexts.{plain_one, begins_same, text_same}
 use Rattle.pyfstring.proofs.ReturnFields.{plain_none, before_same, lined_tail, lined_end, drop_same, both, Commutes, field_commutes}
 
 plain_shorter : (cs : List ℕ) → length (without_returns cs) ≤ length cs

@@ -1,27 +1,24 @@
 -- Fields without their CRs.
 -- Carries: pieces. On: ReturnTexts, ReturnScans.
-use Rattle.std.proofs.Common.{◌≡◌, ℕ, zero, suc, ◌+◌, ◌≤◌, ◌<◌, Bool, true, false, List, [], ◌∷◌, ◌++◌, length, drop, refl, sym, ap, ◌∙◌, subst, arith, ◌⊎◌, inl, inr, Option, Some, None, add_comm, add-one}
-use Rattle.std.specs.Prelude.{◌==◌, ◌&&◌, option_map, option_and_then, is_some, slice_get, map}
+use Rattle.std.proofs.Common.{◌≡◌, ℕ, Bool, true, false, List, [], ◌∷◌, ◌++◌, drop, refl, sym, ap, ◌∙◌, subst, ◌⊎◌, inl, inr, Option, Some, None, add_comm, add-one}
+use Rattle.std.specs.Prelude.{◌==◌, ◌&&◌, option_map, is_some, slice_get}
 use Rattle.std.proofs.lemmas.Option.{some_pair_parts}
-use Rattle.std.specs.List.{list_all, prefix_len}
+use Rattle.std.specs.List.{list_all}
 use Rattle.std.proofs.lemmas.Bool.{cases_Bool, eqb-true}
 use Rattle.pyfstring.specs.declared.parts.Conversion.{Conversion}
-use Rattle.pyfstring.specs.declared.parts.Conversion.TheVariants.{None as Unconverted}
-use Rattle.pyfstring.specs.declared.parts.Manner.{Manner}
-use Rattle.pyfstring.specs.Characters.{exclamation_mark, colon, equals_sign, left_curly_bracket, right_curly_bracket, carriage_return}
-use Rattle.pyfstring.specs.Texts.{begins_with, behind_text}
+use Rattle.pyfstring.specs.Characters.{exclamation_mark, colon, equals_sign, right_curly_bracket, carriage_return}
+use Rattle.pyfstring.specs.Texts.{begins_with}
 use Rattle.pyfstring.specs.Expressions.{behind_expression}
-use Rattle.pyfstring.specs.Returns.{IsLined, nothing, character, line_end, without_returns, plain_field, plain_part, plain_spec, plain_parts}
-use Rattle.pyfstring.specs.Parts.{FieldParts, Part, text, field, SpecPart, BodyPart}
-use Rattle.pyfstring.specs.Pieces.{IsField, IsInnerSpec, IsSpec, Converts, unconverted, by_str, by_repr, by_ascii, Cuts, last_text, and_field, is_blank, is_blank_or_tabulation, behind_blanks, conversion_of}
-use Rattle.pyfstring.specs.Inner.Cutting.{EndsWith, before, Read, text_at, expression_at, kept_at, conversion_by, conversion_at, FrontParts, front_at, with_spec, spec_at, behind_closing, field_at, put_first, cut_within, cut_at, inner_field_at, spec_pieces_at, body_field_at, body_pieces_at, to_end, cut_of}
-use Rattle.pyfstring.proofs.Fronts.{ends_all, before_is, before_whole, ends_drop, ends_length, ends_through, begins_is}
-use Rattle.pyfstring.proofs.Scanning.{text_ends, expression_ends}
-use Rattle.pyfstring.proofs.Reading.{Reads, expression_reads, slot_kept, Fronted, front_sound}
+use Rattle.pyfstring.specs.Returns.{IsLined, nothing, character, line_end, without_returns, plain_field}
+use Rattle.pyfstring.specs.Parts.{FieldParts}
+use Rattle.pyfstring.specs.Pieces.{Converts, unconverted, by_str, by_repr, by_ascii, is_blank, is_blank_or_tabulation, behind_blanks, conversion_of}
+use Rattle.pyfstring.specs.Inner.Cutting.{EndsWith, before, Read, expression_at, kept_at, conversion_by, conversion_at, FrontParts, front_at, with_spec, spec_at, behind_closing, field_at}
+use Rattle.pyfstring.proofs.Fronts.{ends_all, before_is, before_whole, ends_drop, ends_through}
+use Rattle.pyfstring.proofs.Scanning.{expression_ends}
+use Rattle.pyfstring.proofs.Reading.{expression_reads, slot_kept, Fronted, front_sound}
 use Rattle.pyfstring.proofs.FieldSteps.{conversion_absent, conversion_ends, conversion_fails, conversion_given, kept_absent, kept_fails, kept_given, expression_fails, expression_blank, expression_given, front_no_expression, front_no_kept, front_no_conversion, front_given, closing_some, closing_none}
 use Rattle.pyfstring.proofs.PieceSteps.{is_some-map, spec_absent, spec_fails, spec_given, field_no_front, field_no_spec, field_no_closing, field_given}
-use Rattle.pyfstring.proofs.Cutting.{inner_field_reads, body_field_reads, enough, cut_reads}
-use Rattle.pyfstring.proofs.ReturnTexts.{plain_one, lined_rest, begins_same, text_same}
+use Rattle.pyfstring.proofs.ReturnTexts.{plain_one, begins_same}
 use Rattle.pyfstring.proofs.ReturnScans.{expression_same}
 
 -- ---- Lists.

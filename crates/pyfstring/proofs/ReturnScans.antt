@@ -1,13 +1,13 @@
 -- An expression without its CRs.
 -- Carries: pieces. On: ReturnTexts.
-use Rattle.std.proofs.Common.{◌≡◌, ℕ, zero, suc, ◌+◌, ◌-◌, ◌≤◌, ◌<◌, Bool, true, false, List, [], ◌∷◌, ◌++◌, length, take, drop, refl, sym, ap, ◌∙◌, subst, arith, ◌⊎◌, inl, inr, length-drop, Option, Some, None}
-use Rattle.std.specs.Prelude.{◌==◌, ◌&&◌, ◌||◌, option_map, if◌then◌else◌, slice_get}
+use Rattle.std.proofs.Common.{◌≡◌, ℕ, zero, suc, ◌-◌, ◌<◌, Bool, true, false, List, [], ◌∷◌, ◌++◌, length, take, drop, refl, sym, ap, ◌∙◌, subst, arith, ◌⊎◌, inl, inr, length-drop, Option, Some, None}
+use Rattle.std.specs.Prelude.{◌==◌, ◌&&◌, ◌||◌, option_map, if◌then◌else◌}
 use Rattle.std.proofs.lemmas.Bool.{cases_Bool, and_parts, or_cases, eqb-true}
 use Rattle.pyfstring.specs.declared.expressions.Bracket.{Bracket}
 use Rattle.pyfstring.specs.declared.expressions.Step.{Step}
 use Rattle.pyfstring.specs.declared.expressions.Step.TheVariants.{Ends, Fails, Literal, Compares, Opens, Closes, Passes}
-use Rattle.pyfstring.specs.Characters.{backslash, carriage_return, line_feed, equals_sign}
-use Rattle.pyfstring.specs.Texts.{begins, begins_with}
+use Rattle.pyfstring.specs.Characters.{backslash, carriage_return, equals_sign}
+use Rattle.pyfstring.specs.Texts.{begins_with}
 use Rattle.pyfstring.specs.Expressions.{Inside, expression, shortstring, longstring, step, scan, begins_three, begins_comparison, bracket_step, is_quote, is_refused, is_end, opened_by, closed_by, is_empty, behind_expression}
 use Rattle.pyfstring.specs.Returns.{IsLined, nothing, character, line_end, without_returns}
 use Rattle.pyfstring.proofs.Scanning.{scan_skip}

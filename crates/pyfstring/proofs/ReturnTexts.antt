@@ -1,11 +1,11 @@
 -- A text without its CRs: what its first characters are, and its text piece.
 -- Carries: pieces.
-use Rattle.std.proofs.Common.{◌≡◌, ℕ, zero, suc, ◌+◌, ◌-◌, ◌≤◌, ◌<◌, Bool, true, false, List, [], ◌∷◌, length, drop, refl, sym, ap, ◌∙◌, subst, arith, ◌⊎◌, inl, inr, length-drop}
+use Rattle.std.proofs.Common.{◌≡◌, ℕ, zero, suc, ◌+◌, ◌≤◌, ◌<◌, Bool, true, false, List, [], ◌∷◌, length, drop, refl, sym, ap, ◌∙◌, subst, arith, ◌⊎◌, inl, inr, length-drop}
 use Rattle.std.specs.Prelude.{◌==◌, not, ◌&&◌}
 use Rattle.std.specs.List.{prefix_len}
-use Rattle.std.proofs.lemmas.Bool.{cases_Bool, and_parts, and_cases, eqb-true}
+use Rattle.std.proofs.lemmas.Bool.{cases_Bool, eqb-true}
 use Rattle.pyfstring.specs.Characters.{backslash, capital_n, left_curly_bracket, right_curly_bracket, line_feed, carriage_return}
-use Rattle.pyfstring.specs.Texts.{begins, begins_with, begins_escape, begins_pair, escape_len, is_brace, is_literal_char, is_no_closing, unit_len, behind_text}
+use Rattle.pyfstring.specs.Texts.{begins, begins_with, begins_escape, begins_pair, escape_len, is_literal_char, is_no_closing, unit_len, behind_text}
 use Rattle.pyfstring.specs.Returns.{IsLined, nothing, character, line_end, without_returns}
 use Rattle.pyfstring.proofs.Scanning.{text_stops, text_goes, unit_escape, unit_pair, unit_plain, unit_none}
 

@@ -10,7 +10,7 @@ use Rattle.pyfstring.specs.Texts.{begins_with}
 abbrev pub is_quote : ℕ → Bool
 is_quote c = (c == single_quote) || (c == double_quote)
 
--- "A backslash is not allowed in the expression", and a comment isn't either.
+-- "Backslashes are not allowed in format expressions", nor is a comment.
 abbrev pub is_refused : ℕ → Bool
 is_refused c = (c == backslash) || (c == hash)
 

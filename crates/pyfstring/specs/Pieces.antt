@@ -49,7 +49,7 @@ pub data Converts : List ℕ → Conversion → List ℕ → Type 0 where
   by_repr : {rest : List ℕ} → Converts (exclamation_mark ∷ small_r ∷ rest) Repr rest
   by_ascii : {rest : List ℕ} → Converts (exclamation_mark ∷ small_a ∷ rest) Ascii rest
 
--- "When the equal sign is provided, ... by default the repr() of the expression is provided, unless there is a format specified."
+-- "By default, the '=' causes the repr() of the expression to be provided, unless there is a format specified."
 abbrev pub conversion_of : Conversion → Bool → Bool → Conversion
 conversion_of Unconverted has_kept has_spec = elim (has_kept && not has_spec) [ true ↦ Repr | false ↦ Unconverted ]
 conversion_of Str has_kept has_spec = Str

@@ -1,5 +1,5 @@
 -- Bodies with CRs, each of which stands before an LF, so that the line end of both counts as an LF.
-use Rattle.std.specs.Prelude.{◌≡◌, ℕ, Bool, true, false, ◌==◌, List, [], ◌∷◌, map, option_map}
+use Rattle.std.specs.Prelude.{◌≡◌, ℕ, true, false, ◌==◌, List, [], ◌∷◌, map, option_map}
 use Rattle.pyfstring.specs.Characters.{line_feed, carriage_return}
 use Rattle.pyfstring.specs.Parts.{FieldParts, Part, text, field, SpecPart, BodyPart}
 

@@ -1,0 +1,2 @@
+-- What other crates cite of pyfstring.
+pub mod Law
