@@ -7,7 +7,7 @@ use Rattle.pyfstring.specs.Characters.{left_curly_bracket}
 use Rattle.pyfstring.specs.Texts.{begins_with, behind_text}
 use Rattle.pyfstring.specs.Parts.{FieldParts, Part, text, field, BodyPart}
 use Rattle.pyfstring.specs.Pieces.{IsText, IsField, Cuts, last_text, and_field, IsInnerSpec, IsSpec, IsCut}
-use Rattle.pyfstring.specs.Inner.Cutting.{before, Read, text_at, put_first, put_before, cut_within, cut_at, inner_field_at, spec_pieces_at, body_field_at, body_pieces_at, to_end, cut_of}
+use Rattle.pyfstring.specs.Cutting.{before, Read, text_at, put_first, put_before, cut_within, cut_at, inner_field_at, spec_pieces_at, body_field_at, body_pieces_at, to_end, cut_of}
 use Rattle.pyfstring.proofs.Fronts.{before_is, before_whole, ends_length, begins_is}
 use Rattle.pyfstring.proofs.Scanning.{text_ends}
 use Rattle.pyfstring.proofs.Reading.{Reads, map_some, text_reads, field_reads}

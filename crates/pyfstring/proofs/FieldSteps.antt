@@ -9,7 +9,7 @@ use Rattle.pyfstring.specs.Characters.{exclamation_mark, equals_sign, right_curl
 use Rattle.pyfstring.specs.Texts.{begins_with}
 use Rattle.pyfstring.specs.Expressions.{behind_expression}
 use Rattle.pyfstring.specs.Pieces.{is_blank, behind_blanks}
-use Rattle.pyfstring.specs.Inner.Cutting.{Read, before, expression_at, kept_at, conversion_by, conversion_at, front_at, behind_closing}
+use Rattle.pyfstring.specs.Cutting.{Read, before, expression_at, kept_at, conversion_by, conversion_at, front_at, behind_closing}
 use Rattle.pyfstring.specs.Inner.Passing.{eaten}
 
 pub eaten_some : (c : ℕ) (cs : List ℕ) → begins_with c cs ≡ true → eaten c cs ≡ drop 1 cs

@@ -3,7 +3,7 @@ use Rattle.std.proofs.Common.{◌≡◌, ℕ, ◌-◌, ◌≤◌, true, List, []
 use Rattle.std.proofs.lemmas.List.{take_at, take-append-drop, append_assoc}
 use Rattle.std.proofs.lemmas.Bool.{eqb-true, eq-eqb}
 use Rattle.pyfstring.specs.Texts.{begins_with}
-use Rattle.pyfstring.specs.Inner.Cutting.{EndsWith, before}
+use Rattle.pyfstring.specs.Cutting.{EndsWith, before}
 
 before_front : (t r : List ℕ) → before (t ++ r) r ≡ t
 unfolding before

@@ -8,7 +8,7 @@ use Rattle.pyfstring.specs.declared.parts.Manner.{Manner}
 use Rattle.pyfstring.specs.Parts.{BodyPart}
 use Rattle.pyfstring.specs.Pieces.{IsCut}
 use Rattle.pyfstring.specs.Laws.{IsMalformed, Tells, CutsAreLawful}
-use Rattle.pyfstring.specs.Inner.Cutting.{cut_of}
+use Rattle.pyfstring.specs.Cutting.{cut_of}
 use Rattle.pyfstring.specs.Inner.Passing.{IfMalformed}
 use Rattle.pyfstring.proofs.Cutting.{cut_of_sound, cut_of_complete}
 use Rattle.pyfstring.proofs.ReturnCuts.{cut_of_same}

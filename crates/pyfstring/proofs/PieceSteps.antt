@@ -11,7 +11,7 @@ use Rattle.pyfstring.specs.Characters.{colon}
 use Rattle.pyfstring.specs.Texts.{begins_with}
 use Rattle.pyfstring.specs.Parts.{FieldParts, BodyPart, field_of, text_of}
 use Rattle.pyfstring.specs.Pieces.{conversion_of}
-use Rattle.pyfstring.specs.Inner.Cutting.{Read, FrontParts, front_at, with_spec, spec_at, behind_closing, field_at, cut_of, body_pieces_at}
+use Rattle.pyfstring.specs.Cutting.{Read, FrontParts, front_at, with_spec, spec_at, behind_closing, field_at, cut_of, body_pieces_at}
 use Rattle.pyfstring.specs.Inner.Passing.{is_nothing}
 use Rattle.pyfstring.specs.Inner.Fronts.{front_of, IsWith}
 

@@ -11,7 +11,7 @@ use Rattle.pyfstring.specs.Texts.{begins_with, behind_text}
 use Rattle.pyfstring.specs.Expressions.{behind_expression}
 use Rattle.pyfstring.specs.Parts.{FieldParts}
 use Rattle.pyfstring.specs.Pieces.{IsText, IsExpression, Keeps, unkept, kept, Converts, unconverted, by_str, by_repr, by_ascii, Specifies, unspecified, specified, IsField, is_blank, behind_blanks}
-use Rattle.pyfstring.specs.Inner.Cutting.{EndsWith, before, text_at, expression_at, kept_at, conversion_by, conversion_at, FrontParts, Read, front_at, with_spec, spec_at, behind_closing, field_at}
+use Rattle.pyfstring.specs.Cutting.{EndsWith, before, text_at, expression_at, kept_at, conversion_by, conversion_at, FrontParts, Read, front_at, with_spec, spec_at, behind_closing, field_at}
 use Rattle.pyfstring.proofs.Fronts.{before_is, before_whole, ends_drop, ends_through, ends_one, ends_length, ends_all, begins_is}
 use Rattle.pyfstring.proofs.Scanning.{text_ends, expression_ends}
 

@@ -10,7 +10,7 @@ use Rattle.pyfstring.specs.Texts.{begins_with, behind_text}
 use Rattle.pyfstring.specs.Returns.{IsLined, nothing, character, line_end, without_returns, plain_field, plain_part, plain_spec, plain_parts}
 use Rattle.pyfstring.specs.Parts.{FieldParts, Part, text, BodyPart}
 use Rattle.pyfstring.specs.Pieces.{IsField, IsInnerSpec, IsSpec, Cuts, last_text, and_field}
-use Rattle.pyfstring.specs.Inner.Cutting.{before, Read, text_at, put_first, cut_within, cut_at, inner_field_at, spec_pieces_at, body_field_at, body_pieces_at, to_end, cut_of}
+use Rattle.pyfstring.specs.Cutting.{before, Read, text_at, put_first, cut_within, cut_at, inner_field_at, spec_pieces_at, body_field_at, body_pieces_at, to_end, cut_of}
 use Rattle.pyfstring.proofs.Fronts.{ends_drop}
 use Rattle.pyfstring.proofs.Scanning.{text_ends}
 use Rattle.pyfstring.proofs.Reading.{Reads}

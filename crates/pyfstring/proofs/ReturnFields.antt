@@ -12,7 +12,7 @@ use Rattle.pyfstring.specs.Expressions.{behind_expression}
 use Rattle.pyfstring.specs.Returns.{IsLined, nothing, character, line_end, without_returns, plain_field}
 use Rattle.pyfstring.specs.Parts.{FieldParts}
 use Rattle.pyfstring.specs.Pieces.{Converts, unconverted, by_str, by_repr, by_ascii, is_blank, is_blank_or_tabulation, behind_blanks, conversion_of}
-use Rattle.pyfstring.specs.Inner.Cutting.{EndsWith, before, Read, expression_at, kept_at, conversion_by, conversion_at, FrontParts, front_at, with_spec, spec_at, behind_closing, field_at}
+use Rattle.pyfstring.specs.Cutting.{EndsWith, before, Read, expression_at, kept_at, conversion_by, conversion_at, FrontParts, front_at, with_spec, spec_at, behind_closing, field_at}
 use Rattle.pyfstring.proofs.Fronts.{ends_all, before_is, before_whole, ends_drop, ends_through}
 use Rattle.pyfstring.proofs.Scanning.{expression_ends}
 use Rattle.pyfstring.proofs.Reading.{expression_reads, slot_kept, Fronted, front_sound}

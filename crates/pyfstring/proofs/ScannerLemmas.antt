@@ -8,7 +8,7 @@ use lib.Utf8.{scalar, scalars, encodes, encode}
 use Rattle.std.proofs.lemmas.Bool.{and_parts, and_from}
 use Rattle.std.proofs.lemmas.List.{take_at}
 use Rattle.std.proofs.lemmas.Str.{chars-nil, chars_past_char, encode_ascii, IsCharBoundary-after_ascii, IsCharBoundary-at_seam, encodes-append, encodes-chars, scalars-chars, chars-encodes}
-use Rattle.pyfstring.specs.Inner.Cutting.{EndsWith, before}
+use Rattle.pyfstring.specs.Cutting.{EndsWith, before}
 use Rattle.pyfstring.proofs.Fronts.{before_is}
 
 -- a byte of ASCII is a character

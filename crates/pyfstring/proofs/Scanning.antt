@@ -9,7 +9,7 @@ use Rattle.pyfstring.specs.declared.expressions.Step.TheVariants.{Ends, Fails, L
 use Rattle.pyfstring.specs.Characters.{backslash, capital_n, left_curly_bracket}
 use Rattle.pyfstring.specs.Texts.{begins, begins_with, begins_escape, begins_pair, escape_len, is_literal_char, is_no_closing, unit_len, units_after, behind_text}
 use Rattle.pyfstring.specs.Expressions.{Inside, expression, shortstring, longstring, step, scan, begins_three, behind_expression}
-use Rattle.pyfstring.specs.Inner.Cutting.{EndsWith}
+use Rattle.pyfstring.specs.Cutting.{EndsWith}
 use Rattle.pyfstring.proofs.Fronts.{ends_all, ends_one}
 
 -- ---- Texts.

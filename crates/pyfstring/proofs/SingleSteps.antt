@@ -6,7 +6,7 @@ use Rattle.std.proofs.lemmas.List.{take-append-drop}
 use Rattle.std.proofs.lemmas.Bool.{cases_Bool, eqb-true, not-false}
 use Rattle.pyfstring.specs.Texts.{is_brace, unit_len}
 use Rattle.pyfstring.specs.Singles.{single_after, single}
-use Rattle.pyfstring.specs.Inner.Cutting.{EndsWith, before}
+use Rattle.pyfstring.specs.Cutting.{EndsWith, before}
 use Rattle.pyfstring.specs.Inner.Passing.{behind_brace}
 use Rattle.pyfstring.proofs.Fronts.{before_is, ends_drop, ends_one}
 

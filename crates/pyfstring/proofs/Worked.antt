@@ -9,7 +9,7 @@ use Rattle.pyfstring.specs.Expressions.{step, behind_expression}
 use Rattle.pyfstring.specs.Parts.{Part, text, field}
 use Rattle.pyfstring.specs.Pieces.{IsCut}
 use Rattle.pyfstring.specs.Laws.{IsMalformed}
-use Rattle.pyfstring.specs.Inner.Cutting.{before, text_at, expression_at, kept_at, conversion_at, front_at, spec_at, behind_closing, field_at, cut_at, inner_field_at, spec_pieces_at, body_field_at, body_pieces_at, cut_of}
+use Rattle.pyfstring.specs.Cutting.{before, text_at, expression_at, kept_at, conversion_at, front_at, spec_at, behind_closing, field_at, cut_at, inner_field_at, spec_pieces_at, body_field_at, body_pieces_at, cut_of}
 use Rattle.pyfstring.proofs.Cutting.{cut_of_sound}
 use Rattle.pyfstring.proofs.Lawful.{malformed}
 

@@ -5,6 +5,7 @@ pub mod Singles
 pub mod Parts
 pub mod Conversions
 pub mod Pieces
+pub mod Cutting
 pub mod Returns
 pub mod Laws
 pub mod Inner

@@ -5,8 +5,8 @@ ghost use Rattle.std.specs.Str.{chars};
 ghost use Rattle.pyfstring.specs.Parts.{field_of, text_of, spec_parts, body_parts};
 ghost use Rattle.pyfstring.specs.Pieces.{IsCut};
 ghost use Rattle.pyfstring.specs.Laws.{Tells, CutsAreLawful};
-ghost use Rattle.pyfstring.specs.Inner.Cutting.{text_at, spec_at, inner_field_at, spec_pieces_at};
-ghost use Rattle.pyfstring.specs.Inner.Cutting.{body_field_at, body_pieces_at};
+ghost use Rattle.pyfstring.specs.Cutting.{text_at, spec_at, inner_field_at, spec_pieces_at};
+ghost use Rattle.pyfstring.specs.Cutting.{body_field_at, body_pieces_at};
 ghost use Rattle.pyfstring.specs.Inner.Passing.{IfMalformed};
 
 use crate::parts::{CutError, Field, Manner, Piece, SpecPiece};

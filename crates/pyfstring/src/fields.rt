@@ -6,8 +6,8 @@ ghost use Rattle.std.specs.Str.{chars};
 ghost use Rattle.pyfstring.specs.Parts.{field_of, text_of};
 ghost use Rattle.pyfstring.specs.Pieces.{is_blank, is_blank_or_tabulation, behind_blanks};
 ghost use Rattle.pyfstring.specs.Pieces.{conversion_of};
-ghost use Rattle.pyfstring.specs.Inner.Cutting.{EndsWith, expression_at, kept_at, conversion_by};
-ghost use Rattle.pyfstring.specs.Inner.Cutting.{conversion_at, front_at, behind_closing};
+ghost use Rattle.pyfstring.specs.Cutting.{EndsWith, expression_at, kept_at, conversion_by};
+ghost use Rattle.pyfstring.specs.Cutting.{conversion_at, front_at, behind_closing};
 ghost use Rattle.pyfstring.specs.Inner.Passing.{IfMalformed};
 ghost use Rattle.pyfstring.specs.Inner.Fronts.{front_of, IsWith};
 

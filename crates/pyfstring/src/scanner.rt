@@ -3,7 +3,7 @@
 ghost use Rattle.std.specs.Prelude.{◌≡◌, ℕ, List, drop, slice_get};
 ghost use Rattle.std.specs.Str.{chars, IsUtf8};
 ghost use Rattle.pyfstring.specs.Texts.{begins_with};
-ghost use Rattle.pyfstring.specs.Inner.Cutting.{EndsWith, before};
+ghost use Rattle.pyfstring.specs.Cutting.{EndsWith, before};
 ghost use Rattle.pyfstring.specs.Inner.Passing.{eaten, is_nothing};
 
 use std::marker::Model;

@@ -6,7 +6,7 @@ ghost use Rattle.std.specs.List.{prefix_len};
 ghost use Rattle.pyfstring.specs.Texts.{begins, is_brace, is_literal_char, is_no_closing};
 ghost use Rattle.pyfstring.specs.Texts.{begins_escape, begins_pair, escape_len, unit_len};
 ghost use Rattle.pyfstring.specs.Texts.{behind_text};
-ghost use Rattle.pyfstring.specs.Inner.Cutting.{before};
+ghost use Rattle.pyfstring.specs.Cutting.{before};
 
 use crate::scanner::Scanner;
 

@@ -1,3 +1,4 @@
+pub mod Callers
 mod Cutting
 mod LastChars
 mod PlainEnds

@@ -33,6 +33,7 @@ pub use faults::{LineError, LineFault};
 pub use line_reader::{LineRead, LineReader, Reach, StreamFault};
 pub use places::{Place, place_of};
 pub use reprs::{
-    is_plain_text, push_repr, push_repr_bytes, push_repr_points, repr_bytes, repr_text,
+    is_plain_text, push_repr, push_repr_bytes, push_repr_point, push_repr_points, repr_bytes,
+    repr_text,
 };
 pub use sources::{Source, decode};

@@ -139,9 +139,11 @@ fn printable(point: u32) -> Option<char>
     }
 }
 
-/// Appends what stands for a code point between quotes.
+/// Appends what stands for a code point between quotes of one kind: an escape for the backslash, that
+/// quote, the tab, the line feed, the carriage return and every unprintable code point. Where the
+/// output can't grow, it keeps what it had, and may have taken a front of that.
 #[inline(always)]
-fn push_point(out: &mut String, quote: u8, point: u32) -> Result<(), AllocError>
+pub fn push_repr_point(out: &mut String, quote: u8, point: u32) -> Result<(), AllocError>
     requires { quote < 128 }
     ensures ok { OnOk result (string_bytes out.new ≡
         string_bytes out.old ++ encode_utf8_all (escaped is_unprintable quote point)) }
@@ -211,7 +213,7 @@ pub fn push_repr_points(out: &mut String, points: &[u32]) -> Result<(), AllocErr
         match tail.split_first() {
             None => break 'runs,
             Some((point, behind)) => {
-                push_point(out, quote, *point)?;
+                push_repr_point(out, quote, *point)?;
                 rest = behind;
             }
         }
@@ -332,7 +334,7 @@ fn push_escaped(out: &mut String, text: &str) -> Result<(), AllocError>
         let mut characters = tail.chars();
         match characters.next() {
             None => break,
-            Some(c) => push_point(out, quote, u32::from(c))?,
+            Some(c) => push_repr_point(out, quote, u32::from(c))?,
         }
         rest = characters.as_str();
     }

@@ -5,7 +5,7 @@ use Rattle.pyfstring.specs.declared.fields.Front.{Front}
 use Rattle.pyfstring.specs.declared.parts.Field.{Field}
 use Rattle.pyfstring.specs.Parts.{text_of}
 use Rattle.pyfstring.specs.Pieces.{conversion_of}
-use Rattle.pyfstring.specs.Inner.Cutting.{FrontParts}
+use Rattle.pyfstring.specs.Cutting.{FrontParts}
 
 abbrev pub front_of : Front → FrontParts
 front_of f = record { text = chars f.text.now; kept = option_map text_of f.kept; given = f.given }

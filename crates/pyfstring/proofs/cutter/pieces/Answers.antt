@@ -1,7 +1,7 @@
 use Rattle.std.proofs.Common.{sym, ap, ◌∙◌}
 use Rattle.std.specs.Str.{chars}
 use Rattle.pyfstring.specs.Parts.{body_parts}
-use Rattle.pyfstring.specs.Inner.Cutting.{body_pieces_at}
+use Rattle.pyfstring.specs.Cutting.{body_pieces_at}
 use Rattle.pyfstring.proofs.Cutting.{cut_of_sound}
 use Rattle.pyfstring.proofs.Lawful.{malformed, cuts_are_lawful, tells_on}
 use Rattle.pyfstring.proofs.PieceSteps.{ended, not_ended, no_pieces}

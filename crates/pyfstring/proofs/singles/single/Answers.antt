@@ -3,7 +3,7 @@ use Rattle.std.specs.Str.{chars}
 use Rattle.std.specs.String.{string_bytes}
 use Rattle.std.proofs.lemmas.Str.{chars-nil, chars-append, IsUtf8-string_bytes}
 use Rattle.pyfstring.specs.Singles.{single}
-use Rattle.pyfstring.specs.Inner.Cutting.{EndsWith, before}
+use Rattle.pyfstring.specs.Cutting.{EndsWith, before}
 use Rattle.pyfstring.specs.Inner.Passing.{behind_brace}
 use Rattle.pyfstring.proofs.Scanning.{text_shorter}
 use Rattle.pyfstring.proofs.SingleSteps.{IsUnit, unit_single, no_unit}

@@ -18,8 +18,8 @@ runs-preserved c =
     plain_points_pushed q c.args.points.now rest (take c.in_ok-count.count rest) tail (string_bytes c.runs.out) (string_bytes c.push_plain_points.new.out) _
     c.quote_of_points-quote.ensures cut c.in_ok-count.ensures.plain c.runs.invariant.output c.in_ok-count.ensures.ok in
     record {
-      front = starts_with_trans _ _ _ c.push_point.ensures.kept (starts_with_trans _ _ _ c.push_plain_points.ensures.kept c.runs.invariant.front);
-      output = point_pushed q c.in-Some.point.now tail c.in-Some.behind.now _ _ _ c.in-Some.ensures.cases.0 before c.in_ok-push_point-in-Some.ensures.ok;
+      front = starts_with_trans _ _ _ c.push_repr_point.ensures.kept (starts_with_trans _ _ _ c.push_plain_points.ensures.kept c.runs.invariant.front);
+      output = point_pushed q c.in-Some.point.now tail c.in-Some.behind.now _ _ _ c.in-Some.ensures.cases.0 before c.in_ok-push_repr_point-in-Some.ensures.ok;
     }
 
 pub returns-clause-ok : goal.returns-clause-ok

@@ -5,7 +5,7 @@ use Rattle.std.proofs.lemmas.List.{map-append}
 use Rattle.pyfstring.specs.declared.parts.Piece.TheVariants.{Text, Field as FieldPiece}
 use Rattle.pyfstring.specs.Parts.{BodyPart, field, part_of, field_of, spec_parts}
 use Rattle.pyfstring.specs.Pieces.{IsField, IsSpec}
-use Rattle.pyfstring.specs.Inner.Cutting.{body_field_at, body_pieces_at}
+use Rattle.pyfstring.specs.Cutting.{body_field_at, body_pieces_at}
 use Rattle.pyfstring.proofs.Faults.{passed_on}
 use Rattle.pyfstring.proofs.FieldSteps.{eaten_some, eaten_none}
 use Rattle.pyfstring.proofs.Cutting.{body_field_reads, loop_ends, loop_fails, loop_goes, loop_shorter}

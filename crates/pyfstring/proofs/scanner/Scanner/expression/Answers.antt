@@ -1,7 +1,7 @@
 use Rattle.std.proofs.Common.{ℕ, List, Some, sym, ap, ◌∙◌, subst}
 use Rattle.std.specs.List.{list_all}
 use Rattle.pyfstring.specs.Pieces.{is_blank}
-use Rattle.pyfstring.specs.Inner.Cutting.{EndsWith, before}
+use Rattle.pyfstring.specs.Cutting.{EndsWith, before}
 use Rattle.pyfstring.proofs.Faults.{passed_on}
 use Rattle.pyfstring.proofs.Scanning.{expression_ends}
 use Rattle.pyfstring.proofs.FieldSteps.{expression_fails, expression_blank, expression_given}

@@ -2,7 +2,7 @@ use Rattle.std.proofs.Common.{◌≡◌, ℕ, List, Some, None, sym, ap, ◌∙�
 use Rattle.std.specs.Prelude.{option_map}
 use Rattle.std.specs.Str.{chars}
 use Rattle.pyfstring.specs.Parts.{text_of}
-use Rattle.pyfstring.specs.Inner.Cutting.{EndsWith, kept_at}
+use Rattle.pyfstring.specs.Cutting.{EndsWith, kept_at}
 use Rattle.pyfstring.proofs.Faults.{passed_on, told}
 use Rattle.pyfstring.proofs.Reading.{expression_reads}
 use Rattle.pyfstring.proofs.FieldSteps.{front_no_expression, front_no_kept, front_no_conversion, front_given}

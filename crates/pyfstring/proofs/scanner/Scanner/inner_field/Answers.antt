@@ -1,7 +1,7 @@
 use Rattle.std.proofs.Common.{ℕ, List, Some, false, ap, ◌∙◌}
 use Rattle.std.specs.Prelude.{option_map}
 use Rattle.pyfstring.specs.Parts.{FieldParts, text_of}
-use Rattle.pyfstring.specs.Inner.Cutting.{text_at, inner_field_at}
+use Rattle.pyfstring.specs.Cutting.{text_at, inner_field_at}
 use Rattle.pyfstring.specs.Inner.Fronts.{front_of}
 use Rattle.pyfstring.proofs.Faults.{passed_on, told}
 use Rattle.pyfstring.proofs.PieceSteps.{field_no_front, field_no_closing, field_given, with_is}

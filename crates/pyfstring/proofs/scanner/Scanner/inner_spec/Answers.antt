@@ -1,6 +1,6 @@
 use Rattle.std.proofs.Common.{◌≡◌, ℕ, List, Some, None, false, drop, refl, sym, ap, ◌∙◌}
 use Rattle.pyfstring.specs.Texts.{behind_text}
-use Rattle.pyfstring.specs.Inner.Cutting.{before, text_at}
+use Rattle.pyfstring.specs.Cutting.{before, text_at}
 use Rattle.pyfstring.proofs.FieldSteps.{eaten_some, eaten_none}
 use Rattle.pyfstring.proofs.PieceSteps.{spec_absent, spec_given}
 use Rattle.pyfstring.proofs.scanner.Scanner.inner_spec.Goals as goal

@@ -1,6 +1,6 @@
 use Rattle.std.proofs.Common.{◌≡◌, ℕ, List, Some, None, drop, sym, ap, ◌∙◌, subst}
 use Rattle.pyfstring.specs.Pieces.{behind_blanks}
-use Rattle.pyfstring.specs.Inner.Cutting.{EndsWith, before}
+use Rattle.pyfstring.specs.Cutting.{EndsWith, before}
 use Rattle.pyfstring.proofs.Fronts.{ends_through, ends_drop}
 use Rattle.pyfstring.proofs.FieldSteps.{eaten_some, eaten_none, kept_absent, kept_fails, kept_given}
 use Rattle.pyfstring.proofs.scanner.Scanner.kept.Goals as goal

@@ -1,6 +1,6 @@
 use Rattle.std.proofs.Common.{ℕ, List, Some, None, sym, ap, ◌∙◌}
 use Rattle.pyfstring.specs.Parts.{spec_parts}
-use Rattle.pyfstring.specs.Inner.Cutting.{spec_pieces_at}
+use Rattle.pyfstring.specs.Cutting.{spec_pieces_at}
 use Rattle.pyfstring.proofs.Faults.{passed_on}
 use Rattle.pyfstring.proofs.FieldSteps.{eaten_some, eaten_none}
 use Rattle.pyfstring.proofs.PieceSteps.{spec_absent, spec_fails, spec_given}

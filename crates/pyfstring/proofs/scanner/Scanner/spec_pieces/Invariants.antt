@@ -1,7 +1,7 @@
 use Rattle.std.proofs.Common.{◌≡◌, length}
 use Rattle.std.specs.Prelude.{map}
 use Rattle.pyfstring.specs.Parts.{part_of, text_of}
-use Rattle.pyfstring.specs.Inner.Cutting.{put_before, spec_pieces_at}
+use Rattle.pyfstring.specs.Cutting.{put_before, spec_pieces_at}
 use Rattle.pyfstring.proofs.scanner.Scanner.spec_pieces.Given as goal
 
 abbrev pub invariant-loop-pieces : goal.invariant-loop-pieces

@@ -1,6 +1,6 @@
 use Rattle.std.proofs.Common.{ℕ, List, sym, ap, ◌∙◌, subst}
 use Rattle.pyfstring.specs.Texts.{behind_text}
-use Rattle.pyfstring.specs.Inner.Cutting.{EndsWith}
+use Rattle.pyfstring.specs.Cutting.{EndsWith}
 use Rattle.pyfstring.proofs.Scanning.{text_more, text_none, text_shorter, text_ends}
 use Rattle.pyfstring.proofs.scanner.Scanner.text.Goals as goal
 

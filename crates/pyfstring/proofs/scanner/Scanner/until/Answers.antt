@@ -1,6 +1,6 @@
 use Rattle.std.proofs.Common.{◌≡◌, List, ℕ, sym, ◌∙◌, ap, ◌++◌, ◌-◌, length, arith}
 use Rattle.std.specs.Str.{chars}
-use Rattle.pyfstring.specs.Inner.Cutting.{EndsWith, before}
+use Rattle.pyfstring.specs.Cutting.{EndsWith, before}
 use Rattle.pyfstring.proofs.ScannerLemmas.{is_before}
 use Rattle.pyfstring.proofs.scanner.Scanner.until.Goals as goal
 

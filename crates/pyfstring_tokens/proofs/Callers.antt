@@ -1,0 +1,2 @@
+-- What other crates cite of pyfstring_tokens.
+pub mod Law
