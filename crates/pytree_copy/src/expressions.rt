@@ -96,6 +96,18 @@ pub(crate) fn copy_expr(alloc: Global, e: &Expr) -> Result<Expr, AllocError>
             args: copy_exprs(alloc, args)?,
             keywords: copy_keywords(alloc, keywords)?,
         }),
+        Expr::FormattedValue {
+            value,
+            conversion,
+            format_spec,
+        } => Ok(Expr::FormattedValue {
+            value: copy_box(alloc, value)?,
+            conversion: *conversion,
+            format_spec: copy_optional_box(alloc, format_spec)?,
+        }),
+        Expr::JoinedStr { values } => Ok(Expr::JoinedStr {
+            values: copy_exprs(alloc, values)?,
+        }),
         Expr::Constant { value } => Ok(Expr::Constant {
             value: copy_constant(alloc, value)?,
         }),
@@ -135,7 +147,6 @@ pub(crate) fn copy_expr(alloc: Global, e: &Expr) -> Result<Expr, AllocError>
 
 /// A copy of an expression, in a box.
 #[cycle(copying)]
-#[tactic(auto, using(pytree_node::proofs::Callers::ExprShapes::expr_shapes))]
 pub(crate) fn copy_box(alloc: Global, e: &Expr) -> Result<Box<Expr>, AllocError>
     ensures { IfOk result (λ made. tree_of made.value ≡ tree_of e.now) }
 {
@@ -144,7 +155,6 @@ pub(crate) fn copy_box(alloc: Global, e: &Expr) -> Result<Box<Expr>, AllocError>
 
 /// A copy of an expression that may be absent, in a box.
 #[cycle(copying)]
-#[tactic(auto, using(pytree_node::proofs::Callers::ExprShapes::expr_shapes))]
 pub(crate) fn copy_optional_box(
     alloc: Global,
     e: &Option<Box<Expr>>,
@@ -159,7 +169,6 @@ pub(crate) fn copy_optional_box(
 
 /// A copy of some expressions.
 #[cycle(copying)]
-#[tactic(auto, using(pytree_node::proofs::Callers::ExprShapes::expr_shapes))]
 pub(crate) fn copy_exprs(alloc: Global, es: &[Expr]) -> Result<Vec<Expr>, AllocError>
     ensures { IfOk result (λ made. map tree_of made.items ≡ map tree_of es.now) }
 {
@@ -172,7 +181,6 @@ pub(crate) fn copy_exprs(alloc: Global, es: &[Expr]) -> Result<Vec<Expr>, AllocE
 
 /// A copy of some expressions, of which each may be absent.
 #[cycle(copying)]
-#[tactic(auto, using(pytree_node::proofs::Callers::ExprShapes::expr_shapes))]
 fn copy_optional_exprs(alloc: Global, es: &[Option<Expr>]) -> Result<Vec<Option<Expr>>, AllocError>
     ensures { IfOk result (λ made. map option_of made.items ≡ map option_of es.now) }
 {
@@ -189,7 +197,7 @@ fn copy_optional_exprs(alloc: Global, es: &[Option<Expr>]) -> Result<Vec<Option<
 
 /// A copy of a `for` clause.
 #[cycle(copying)]
-#[tactic(auto, using(pytree_node::proofs::Callers::ExprShapes::expr_shapes))]
+#[tactic(auto, using(pytree_node::proofs::Callers::ExprShapes::comprehension_tree))]
 fn copy_comprehension(alloc: Global, c: &Comprehension) -> Result<Comprehension, AllocError>
     ensures { IfOk result (λ made. comprehension_of made ≡ comprehension_of c.now) }
 {
@@ -205,7 +213,6 @@ fn copy_comprehension(alloc: Global, c: &Comprehension) -> Result<Comprehension,
 
 /// A copy of some `for` clauses.
 #[cycle(copying)]
-#[tactic(auto, using(pytree_node::proofs::Callers::ExprShapes::expr_shapes))]
 fn copy_comprehensions(
     alloc: Global,
     cs: &[Comprehension],
@@ -221,7 +228,7 @@ fn copy_comprehensions(
 
 /// A copy of a keyword argument.
 #[cycle(copying)]
-#[tactic(auto, using(pytree_node::proofs::Callers::ExprShapes::expr_shapes))]
+#[tactic(auto, using(pytree_node::proofs::Callers::ExprShapes::keyword_tree))]
 fn copy_keyword(alloc: Global, k: &Keyword) -> Result<Keyword, AllocError>
     ensures { IfOk result (λ made. keyword_of made ≡ keyword_of k.now) }
 {
@@ -233,7 +240,6 @@ fn copy_keyword(alloc: Global, k: &Keyword) -> Result<Keyword, AllocError>
 
 /// A copy of some keyword arguments.
 #[cycle(copying)]
-#[tactic(auto, using(pytree_node::proofs::Callers::ExprShapes::expr_shapes))]
 pub(crate) fn copy_keywords(alloc: Global, ks: &[Keyword]) -> Result<Vec<Keyword>, AllocError>
     ensures { IfOk result (λ made. map keyword_of made.items ≡ map keyword_of ks.now) }
 {
@@ -246,7 +252,7 @@ pub(crate) fn copy_keywords(alloc: Global, ks: &[Keyword]) -> Result<Vec<Keyword
 
 /// A copy of a parameter.
 #[cycle(copying)]
-#[tactic(auto, using(pytree_node::proofs::Callers::ExprShapes::expr_shapes))]
+#[tactic(auto, using(pytree_node::proofs::Callers::ExprShapes::arg_tree))]
 fn copy_arg(alloc: Global, a: &Arg) -> Result<Arg, AllocError>
     ensures { IfOk result (λ made. arg_of made ≡ arg_of a.now) }
 {
@@ -258,7 +264,6 @@ fn copy_arg(alloc: Global, a: &Arg) -> Result<Arg, AllocError>
 
 /// A copy of some parameters.
 #[cycle(copying)]
-#[tactic(auto, using(pytree_node::proofs::Callers::ExprShapes::expr_shapes))]
 fn copy_args(alloc: Global, all: &[Arg]) -> Result<Vec<Arg>, AllocError>
     ensures { IfOk result (λ made. map arg_of made.items ≡ map arg_of all.now) }
 {
@@ -271,7 +276,6 @@ fn copy_args(alloc: Global, all: &[Arg]) -> Result<Vec<Arg>, AllocError>
 
 /// A copy of a parameter that may be absent.
 #[cycle(copying)]
-#[tactic(auto, using(pytree_node::proofs::Callers::ExprShapes::expr_shapes))]
 fn copy_optional_arg(alloc: Global, a: &Option<Arg>) -> Result<Option<Arg>, AllocError>
     ensures { IfOk result (λ made. arg_option_of made ≡ arg_option_of a.now) }
 {
@@ -283,7 +287,6 @@ fn copy_optional_arg(alloc: Global, a: &Option<Arg>) -> Result<Option<Arg>, Allo
 
 /// A copy of the parameters of a function.
 #[cycle(copying)]
-#[tactic(auto, using(pytree_node::proofs::Callers::ExprShapes::expr_shapes))]
 fn copy_arguments(alloc: Global, a: &Arguments) -> Result<Arguments, AllocError>
     ensures { IfOk result (λ made. arguments_of made ≡ arguments_of a.now) }
 {
@@ -300,7 +303,6 @@ fn copy_arguments(alloc: Global, a: &Arguments) -> Result<Arguments, AllocError>
 
 /// A copy of the parameters of a function, in a box.
 #[cycle(copying)]
-#[tactic(auto, using(pytree_node::proofs::Callers::ExprShapes::expr_shapes))]
 pub(crate) fn copy_boxed_arguments(
     alloc: Global,
     a: &Arguments,

@@ -59,7 +59,6 @@ pub(crate) fn copy_pattern(alloc: Global, p: &Pattern) -> Result<Pattern, AllocE
 
 /// A copy of a pattern that may be absent, in a box.
 #[cycle(copying)]
-#[tactic(auto, using(pytree_node::proofs::Callers::PatternShapes::pattern_shapes))]
 fn copy_boxed_pattern(
     alloc: Global,
     p: &Option<Box<Pattern>>,
@@ -74,7 +73,6 @@ fn copy_boxed_pattern(
 
 /// A copy of some patterns.
 #[cycle(copying)]
-#[tactic(auto, using(pytree_node::proofs::Callers::PatternShapes::pattern_shapes))]
 fn copy_patterns(alloc: Global, ps: &[Pattern]) -> Result<Vec<Pattern>, AllocError>
     ensures { IfOk result (λ made. map pattern_of made.items ≡ map pattern_of ps.now) }
 {

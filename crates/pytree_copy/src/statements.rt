@@ -205,7 +205,6 @@ fn copy_stmt(alloc: Global, s: &Stmt) -> Result<Stmt, AllocError>
 
 /// Statements that are equal to these. If memory runs out, what was made of them is dropped.
 #[cycle(copying)]
-#[tactic(auto, using(pytree_node::proofs::Callers::StmtShapes::stmt_shapes))]
 pub fn copy_stmts(alloc: Global, body: &[Stmt]) -> Result<Vec<Stmt>, AllocError>
     ensures { IfOk result (λ made. map stmt_of made.items ≡ map stmt_of body.now) }
 {
@@ -218,7 +217,7 @@ pub fn copy_stmts(alloc: Global, body: &[Stmt]) -> Result<Vec<Stmt>, AllocError>
 
 /// A copy of a `case` with its block.
 #[cycle(copying)]
-#[tactic(auto, using(pytree_node::proofs::Callers::StmtShapes::stmt_shapes))]
+#[tactic(auto, using(pytree_node::proofs::Callers::StmtShapes::case_tree))]
 fn copy_case(alloc: Global, c: &Case) -> Result<Case, AllocError>
     ensures { IfOk result (λ made. case_of made ≡ case_of c.now) }
 {
@@ -236,7 +235,6 @@ fn copy_case(alloc: Global, c: &Case) -> Result<Case, AllocError>
 
 /// A copy of some `case`s.
 #[cycle(copying)]
-#[tactic(auto, using(pytree_node::proofs::Callers::StmtShapes::stmt_shapes))]
 fn copy_cases(alloc: Global, all: &[Case]) -> Result<Vec<Case>, AllocError>
     ensures { IfOk result (λ made. map case_of made.items ≡ map case_of all.now) }
 {
@@ -249,7 +247,7 @@ fn copy_cases(alloc: Global, all: &[Case]) -> Result<Vec<Case>, AllocError>
 
 /// A copy of an `except` with its block.
 #[cycle(copying)]
-#[tactic(auto, using(pytree_node::proofs::Callers::StmtShapes::stmt_shapes))]
+#[tactic(auto, using(pytree_node::proofs::Callers::StmtShapes::handler_tree))]
 fn copy_handler(alloc: Global, h: &Handler) -> Result<Handler, AllocError>
     ensures { IfOk result (λ made. handler_of made ≡ handler_of h.now) }
 {
@@ -262,7 +260,6 @@ fn copy_handler(alloc: Global, h: &Handler) -> Result<Handler, AllocError>
 
 /// A copy of some `except`s.
 #[cycle(copying)]
-#[tactic(auto, using(pytree_node::proofs::Callers::StmtShapes::stmt_shapes))]
 fn copy_handlers(alloc: Global, all: &[Handler]) -> Result<Vec<Handler>, AllocError>
     ensures { IfOk result (λ made. map handler_of made.items ≡ map handler_of all.now) }
 {

@@ -182,6 +182,26 @@ pub(crate) fn show_expr(
                 )
             }
         }
+        Expr::FormattedValue {
+            value,
+            conversion,
+            format_spec,
+        } => show_three(
+            out,
+            indentation,
+            style,
+            "FormattedValue(",
+            Part::Expr(Field::Value, value),
+            Part::Conversion(*conversion),
+            boxed_part(Field::FormatSpec, format_spec),
+        ),
+        Expr::JoinedStr { values } => show_one(
+            out,
+            indentation,
+            style,
+            "JoinedStr(",
+            Part::Exprs(Field::Values, values),
+        ),
         Expr::Constant { value } => show_constant(out, style, value),
         Expr::Attribute { value, attr, ctx } => {
             if is_joined(style) {

@@ -14,9 +14,9 @@ use crate::lists::{
 use crate::members::{show_arg, show_arguments};
 use pysource::push_repr;
 use pytree_dump_text::{
-    Part, Style, Told, after_left_out, bool_word, close, context_word, field_of, is_absent,
-    is_flat, is_short_four, is_short_one, is_short_three, is_short_two, open, operator_word,
-    push_lead, push_number, push_value, unary_word,
+    Part, Style, Told, after_left_out, bool_word, close, context_word, conversion_word, field_of,
+    is_absent, is_flat, is_short_four, is_short_one, is_short_three, is_short_two, open,
+    operator_word, push_lead, push_number, push_value, unary_word,
 };
 use std::alloc::AllocError;
 
@@ -51,6 +51,7 @@ fn show_part(
         Part::Operator(op) => out.push_str(operator_word(op)),
         Part::Unary(op) => out.push_str(unary_word(op)),
         Part::Bool(op) => out.push_str(bool_word(op)),
+        Part::Conversion(conversion) => out.push_str(conversion_word(conversion)),
         Part::Context(ctx) => out.push_str(context_word(ctx)),
         Part::Name(_, id) => push_repr(out, id.as_str()),
         Part::Value(_, value) => push_value(out, value),

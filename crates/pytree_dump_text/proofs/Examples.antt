@@ -6,6 +6,7 @@ use Rattle.std.specs.Char.{encode_utf8}
 use Rattle.std.specs.Fmt.{digits}
 use Rattle.pynatural.specs.Decimals.{decimal_text}
 use Rattle.ucd_category.proofs.Computing.{ucd_category}
+use Rattle.pyfstring.specs.declared.parts.Conversion.TheVariants as conversion
 use Rattle.pytree_node.specs.declared.operators.Context.TheVariants as context
 use Rattle.pytree_dump_text.specs.declared.styles.Style.{Style}
 use Rattle.pytree_node.specs.Profiles.{plain_311, plain_312}
@@ -62,6 +63,36 @@ bare_spread : dump_text bare (shown (Trees.Dict (Trees.an_optional Trees.absent 
     ≡ codes "Dict([None], [Name('d', Load())])"
 unfolding ucd_category encode_utf8 digits
 bare_spread = refl
+
+-- `f'a{b!r:>{c}}{d}'`
+abbrev formatted : Expr
+formatted = Trees.JoinedStr (Trees.an_expr (Trees.Constant (value.Str (codes "a") false))
+    (Trees.an_expr (Trees.FormattedValue (name (codes "b")) conversion.Repr (Trees.present (Trees.JoinedStr
+    (Trees.an_expr (Trees.Constant (value.Str (codes ">") false))
+    (Trees.an_expr (Trees.FormattedValue (name (codes "c")) conversion.None Trees.absent) Trees.no_exprs)))))
+    (Trees.an_expr (Trees.FormattedValue (name (codes "d")) conversion.None Trees.absent) Trees.no_exprs)))
+
+plain_formatted : dump_text plain (shown formatted)
+    ≡ codes "JoinedStr(values=[Constant(value='a'), FormattedValue(value=Name(id='b', ctx=Load()), conversion=114, format_spec=JoinedStr(values=[Constant(value='>'), FormattedValue(value=Name(id='c', ctx=Load()), conversion=-1)])), FormattedValue(value=Name(id='d', ctx=Load()), conversion=-1)])"
+unfolding ucd_category encode_utf8 digits
+plain_formatted = refl
+
+bare_formatted : dump_text bare (shown formatted)
+    ≡ codes "JoinedStr([Constant('a'), FormattedValue(Name('b', Load()), 114, JoinedStr([Constant('>'), FormattedValue(Name('c', Load()), -1)])), FormattedValue(Name('d', Load()), -1)])"
+unfolding ucd_category encode_utf8 digits
+bare_formatted = refl
+
+indented_formatted : dump_text two (shown formatted)
+    ≡ codes "JoinedStr(\n  values=[\n    Constant(value='a'),\n    FormattedValue(\n      value=Name(id='b', ctx=Load()),\n      conversion=114,\n      format_spec=JoinedStr(\n        values=[\n          Constant(value='>'),\n          FormattedValue(\n            value=Name(id='c', ctx=Load()),\n            conversion=-1)])),\n    FormattedValue(\n      value=Name(id='d', ctx=Load()),\n      conversion=-1)])"
+unfolding ucd_category encode_utf8 digits
+indented_formatted = refl
+
+-- `f''`, and a field of a `yield` that converts by `str`
+indented_empty : dump_text two (shown (Trees.JoinedStr Trees.no_exprs)) ≡ codes "JoinedStr(values=[])"
+indented_empty = refl
+
+indented_yield : dump_text two (shown (Trees.FormattedValue (Trees.Yield Trees.absent) conversion.Str Trees.absent)) ≡ codes "FormattedValue(value=Yield(), conversion=115)"
+indented_yield = refl
 
 -- `a, /, b: int = 1, *, c=2, **d`
 parameters : dump_text plain (shown_arguments (Trees.arguments (Trees.an_arg (Trees.arg (codes "a") Trees.absent) Trees.no_arg)

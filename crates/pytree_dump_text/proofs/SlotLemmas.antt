@@ -1,9 +1,10 @@
 -- Which fields are simple, and which nodes stand on one line.
 --
--- Carries: is_plain, is_short_one, is_short_two, is_short_three, is_short_four.
+-- Carries: is_bare, is_plain, is_short_one, is_short_two, is_short_three, is_short_four.
 use Rattle.std.proofs.Common.{◌≡◌, length, nat_eq, nat_le, arith, refl, ap, ◌∙◌, ◌||◌, Bool, true, false, ◌&&◌, List, [], ◌∷◌, map}
+use Rattle.pyfstring.specs.declared.parts.Conversion.{Conversion}
 use Rattle.pytree_node.specs.Trees
-use Rattle.pytree_dump_text.specs.Shows.{Shown, Row, showns, shown_arg, shown_arguments, no_field, Fields}
+use Rattle.pytree_dump_text.specs.Shows.{Shown, Row, showns, shown, shown_arg, shown_arguments, no_field, Fields}
 use Rattle.pytree_dump_text.specs.Layout.{is_simple, is_short, all_simple, shown_count}
 use Rattle.pytree_dump_text.specs.Slots.{Slot, missing, field, with_slot, is_plain, is_missing}
 
@@ -22,6 +23,11 @@ arguments_show (Trees.arguments p a Trees.absent_arg k d Trees.absent_arg f) = r
 arguments_show (Trees.arguments p a Trees.absent_arg k d (Trees.present_arg w) f) = refl
 arguments_show (Trees.arguments p a (Trees.present_arg v) k d Trees.absent_arg f) = refl
 arguments_show (Trees.arguments p a (Trees.present_arg v) k d (Trees.present_arg w) f) = refl
+
+-- a field of an f-string shows fields
+pub formatted_shows : (e : Trees.Expr) (c : Conversion) (spec : Trees.OptionalExpr) → is_simple (shown (Trees.FormattedValue e c spec)) ≡ false
+formatted_shows e c Trees.absent = refl
+formatted_shows e c (Trees.present s) = refl
 
 pub ruleset plain_parts = (empty_is_simple, arg_shows, arguments_show)
 

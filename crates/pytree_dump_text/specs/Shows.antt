@@ -4,6 +4,8 @@ use Rattle.std.specs.Prelude.{ℕ, Bool, true, List, [], ◌∷◌, Option, Some
 use Rattle.pynatural.specs.Decimals.{decimal_text}
 use Rattle.pyfloat.specs.FloatTexts.{float_repr, imaginary_repr}
 use Rattle.pysource.specs.Reprs.{repr_text, repr_bytes}
+use Rattle.pyfstring.specs.declared.parts.Conversion.{Conversion}
+use Rattle.pyfstring.specs.declared.parts.Conversion.TheVariants as conversion
 use Rattle.pytree_node.specs.declared.operators.Operator.{Operator}
 use Rattle.pytree_node.specs.declared.operators.Operator.TheVariants as operator
 use Rattle.pytree_node.specs.declared.operators.UnaryOperator.{UnaryOperator}
@@ -86,6 +88,13 @@ context_name context.Load = codes "Load"
 context_name context.Store = codes "Store"
 context_name context.Del = codes "Del"
 
+-- a conversion is -1, or the code of the letter behind `!`
+abbrev pub conversion_number : Conversion → List ℕ
+conversion_number conversion.None = codes "-1"
+conversion_number conversion.Str = codes "115"
+conversion_number conversion.Repr = codes "114"
+conversion_number conversion.Ascii = codes "97"
+
 -- the repr of a name, and a number 0 or 1
 abbrev pub shown_name : Identifier → Shown
 shown_name name = Scalar (repr_text name)
@@ -145,6 +154,9 @@ abbrev mutual
       (a_field (codes "left") (shown left) (a_field (codes "ops") (Row (shown_comparisons ops)) (a_field (codes "comparators") (Row (shown_exprs comparators)) no_field)))
   shown (Trees.Call func args keywords) = Node (codes "Call")
       (a_field (codes "func") (shown func) (a_field (codes "args") (Row (shown_exprs args)) (a_field (codes "keywords") (Row (shown_keywords keywords)) no_field)))
+  shown (Trees.FormattedValue value conversion spec) = Node (codes "FormattedValue")
+      (a_field (codes "value") (shown value) (a_field (codes "conversion") (Scalar (conversion_number conversion)) (optional_field (codes "format_spec") spec no_field)))
+  shown (Trees.JoinedStr values) = Node (codes "JoinedStr") (a_field (codes "values") (Row (shown_exprs values)) no_field)
   shown (Trees.Constant value) = Node (codes "Constant") (a_field (codes "value") (Scalar (value_text value)) (kind_field value no_field))
   shown (Trees.Attribute value attr ctx) = Node (codes "Attribute")
       (a_field (codes "value") (shown value) (a_field (codes "attr") (shown_name attr) (a_field (codes "ctx") (word (context_name ctx)) no_field)))

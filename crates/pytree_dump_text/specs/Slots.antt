@@ -5,7 +5,7 @@ use Rattle.pytree_dump_text.specs.declared.lines.Told.{Told}
 use Rattle.pytree_dump_text.specs.declared.parts.Part.{Part}
 use Rattle.pytree_dump_text.specs.declared.parts.Part.TheVariants as part
 use Rattle.pytree_dump_text.specs.Names.{field_name}
-use Rattle.pytree_dump_text.specs.Shows.{Shown, Fields, Scalar, Row, a_field, left_out, showns, word, shown, shown_name, shown_optional, shown_arg, shown_arguments, shown_flag, bool_name, comparison_name, context_name, operator_name, unary_name, shown_comprehension, shown_keyword, value_text, shown_alias, shown_item, shown_type_param}
+use Rattle.pytree_dump_text.specs.Shows.{Shown, Fields, Scalar, Row, a_field, left_out, showns, word, shown, shown_name, shown_optional, shown_arg, shown_arguments, shown_flag, bool_name, comparison_name, context_name, conversion_number, operator_name, unary_name, shown_comprehension, shown_keyword, value_text, shown_alias, shown_item, shown_type_param}
 use Rattle.pytree_dump_text.specs.Layout.{deeper, fields, is_flat, is_short, is_simple, label}
 use Rattle.pytree_node.specs.Values as value
 use Rattle.pytree_node.specs.Values.{Value}
@@ -65,6 +65,7 @@ slot_of (part.TypeParams name all) = field (field_name name) (Row (showns (map (
 slot_of (part.Operator op) = field (codes "op") (word (operator_name op))
 slot_of (part.Unary op) = field (codes "op") (word (unary_name op))
 slot_of (part.Bool op) = field (codes "op") (word (bool_name op))
+slot_of (part.Conversion conversion) = field (codes "conversion") (Scalar (conversion_number conversion))
 slot_of (part.Context ctx) = field (codes "ctx") (word (context_name ctx))
 slot_of (part.Name name n) = field (field_name name) (shown_name n.now)
 slot_of (part.Value name c) = field (field_name name) (Scalar (value_text (constant_of c.now)))

@@ -26,5 +26,6 @@ pub use patterns::{is_short_as, is_short_mapping, is_short_patterns};
 pub use shortness::{is_short_four, is_short_one, is_short_three, is_short_two};
 pub use styles::Style;
 pub use words::{
-    bool_word, comparison_word, context_word, operator_word, push_number, push_value, unary_word,
+    bool_word, comparison_word, context_word, conversion_word, operator_word, push_number,
+    push_value, unary_word,
 };

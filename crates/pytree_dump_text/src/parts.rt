@@ -10,8 +10,8 @@ ghost use Rattle.pytree_node.specs.Trees.{optional, optional_arg};
 
 use crate::fields::Field;
 use pytree_node::{
-    Alias, Arg, Arguments, BoolOperator, Comparison, Comprehension, Constant, Context, Expr,
-    Identifier, Item, Keyword, Operator, TypeParam, UnaryOperator,
+    Alias, Arg, Arguments, BoolOperator, Comparison, Comprehension, Constant, Context, Conversion,
+    Expr, Identifier, Item, Keyword, Operator, TypeParam, UnaryOperator,
 };
 
 /// A field of a node, with its name, or a field that is left out.
@@ -33,6 +33,8 @@ pub enum Part<'a> {
     Operator(Operator),
     Unary(UnaryOperator),
     Bool(BoolOperator),
+    /// The conversion of a field of an f-string.
+    Conversion(Conversion),
     Context(Context),
     Name(Field, &'a Identifier),
     Value(Field, &'a Constant),
@@ -123,6 +125,7 @@ pub fn field_of(part: Part<'_>) -> Field
         Part::Operator(_) => Field::Op,
         Part::Unary(_) => Field::Op,
         Part::Bool(_) => Field::Op,
+        Part::Conversion(_) => Field::Conversion,
         Part::Context(_) => Field::Ctx,
         Part::Kind => Field::Kind,
         // Not asked for.

@@ -1,16 +1,20 @@
-//! The classes of operators and contexts with their brackets, and the values of constants.
+//! The classes of operators and contexts with their brackets, conversions, and the values of
+//! constants.
 
 ghost use Rattle.std.specs.Prelude.{◌≡◌, ◌++◌, OnOk, codes, decimal};
 ghost use Rattle.std.specs.String.{string_bytes};
 ghost use Rattle.pytree_dump_text.specs.Shows.{bool_name, comparison_name, context_name};
-ghost use Rattle.pytree_dump_text.specs.Shows.{operator_name, unary_name, value_text};
+ghost use Rattle.pytree_dump_text.specs.Shows.{conversion_number, operator_name, unary_name};
+ghost use Rattle.pytree_dump_text.specs.Shows.{value_text};
 ghost use Rattle.pytree_node.specs.TreeOf.{constant_of};
 ghost use Rattle.pyfloat.specs.FloatTexts.{float_repr, imaginary_repr};
 
 use itoa::Buffer;
 use pyfloat::Double;
 use pysource::{push_repr_bytes, push_repr_points};
-use pytree_node::{BoolOperator, Comparison, Constant, Context, Operator, UnaryOperator};
+use pytree_node::{
+    BoolOperator, Comparison, Constant, Context, Conversion, Operator, UnaryOperator,
+};
 use std::alloc::AllocError;
 
 /// How an operator between two operands is shown.
@@ -42,6 +46,18 @@ pub fn context_word(ctx: Context) -> &'static str
         Context::Load => "Load()",
         Context::Store => "Store()",
         Context::Del => "Del()",
+    }
+}
+
+/// How a conversion is shown.
+pub fn conversion_word(conversion: Conversion) -> &'static str
+    ensures { result.now ≡ conversion_number conversion }
+{
+    match conversion {
+        Conversion::None => "-1",
+        Conversion::Str => "115",
+        Conversion::Repr => "114",
+        Conversion::Ascii => "97",
     }
 }
 

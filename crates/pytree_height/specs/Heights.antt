@@ -30,6 +30,8 @@ abbrev mutual
   height (Trees.YieldFrom value) = height value + 1
   height (Trees.Compare left ops comparators) = max (height left) (heights comparators) + 1
   height (Trees.Call func args keywords) = max (height func) (max (heights args) (keyword_heights keywords)) + 1
+  height (Trees.FormattedValue value conversion spec) = max (height value) (optional_height spec) + 1
+  height (Trees.JoinedStr values) = heights values + 1
   height (Trees.Constant value) = 1
   height (Trees.Attribute value attr ctx) = height value + 1
   height (Trees.Subscript value slice ctx) = max (height value) (height slice) + 1

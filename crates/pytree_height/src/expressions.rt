@@ -56,6 +56,12 @@ pub(crate) fn expr_height(e: &Expr) -> u64
             args,
             keywords,
         } => one_more(expr_height(func).max(exprs_height(args).max(keywords_height(keywords)))),
+        Expr::FormattedValue {
+            value,
+            format_spec,
+            ..
+        } => one_more(expr_height(value).max(boxed_height(format_spec))),
+        Expr::JoinedStr { values } => one_more(exprs_height(values)),
         Expr::Constant { .. } => 1,
         Expr::Attribute { value, .. } => one_more(expr_height(value)),
         Expr::Subscript { value, slice, .. } => {

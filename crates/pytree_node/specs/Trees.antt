@@ -8,6 +8,7 @@
 -- their own, since antt's data can't be nested in std's lists; outside of the nodes all speaks of std's lists and options, and
 -- `exprs`, `optional` and the like lead from these to those.
 use Rattle.std.specs.Prelude.{ℕ, Bool, List, [], ◌∷◌, Option, Some, None}
+use Rattle.pyfstring.specs.declared.parts.Conversion.{Conversion}
 use Rattle.pytree_node.specs.declared.operators.Operator.{Operator}
 use Rattle.pytree_node.specs.declared.operators.UnaryOperator.{UnaryOperator}
 use Rattle.pytree_node.specs.declared.operators.BoolOperator.{BoolOperator}
@@ -55,6 +56,10 @@ mutual
     Compare : Expr → List Comparison → Exprs → Expr
     -- Call(expr func, expr* args, keyword* keywords)
     Call : Expr → Exprs → Keywords → Expr
+    -- FormattedValue(expr value, int conversion, expr? format_spec)
+    FormattedValue : Expr → Conversion → OptionalExpr → Expr
+    -- JoinedStr(expr* values)
+    JoinedStr : Exprs → Expr
     -- Constant(constant value, string? kind)
     Constant : Value → Expr
     -- Attribute(expr value, identifier attr, expr_context ctx)

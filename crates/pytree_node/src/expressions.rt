@@ -5,6 +5,7 @@
 use crate::constants::Constant;
 use crate::identifiers::Identifier;
 use crate::operators::{BoolOperator, Comparison, Context, Operator, UnaryOperator};
+use pyfstring::Conversion;
 
 /// An expression: the class `expr`. It takes 64 bytes.
 #[derive(Drop)]
@@ -95,6 +96,17 @@ pub enum Expr {
         func: Box<Expr>,
         args: Vec<Expr>,
         keywords: Vec<Keyword>,
+    },
+    /// A field of an f-string, `{value!r:format_spec}`. It stands in a `JoinedStr` alone, and its
+    /// format spec is one.
+    FormattedValue {
+        value: Box<Expr>,
+        conversion: Conversion,
+        format_spec: Option<Box<Expr>>,
+    },
+    /// `f'a{b}'`: texts, which are constants, and fields.
+    JoinedStr {
+        values: Vec<Expr>,
     },
     /// `1`, `'a'`, `b'a'`, `None`, `...`.
     Constant {

@@ -3,12 +3,14 @@
 //! Each class is a variant or a struct, with the names and the order of fields that `ast` gives
 //! it. A few words differ, since they are words of Rust or of its library: the class `In` is
 //! [`Comparison::Within`], `ExceptHandler` is [`Handler`] and its field `type` is `class`,
-//! `withitem` is [`Item`], `match_case` is [`Case`]. The fields `type_comment` and `type_ignores` are always empty in `ast`
-//! and don't stand here, nor do places.
+//! `withitem` is [`Item`], `match_case` is [`Case`]. The field `conversion` of a `FormattedValue`, a
+//! number in `ast`, is a [`Conversion`]. The fields `type_comment` and `type_ignores` are always
+//! empty in `ast` and don't stand here, nor do places.
 //!
 //! A tree is of Python 3.11 or of 3.12 ([`Profile`]): in one of 3.11 all lists `type_params` are
-//! empty, and no statement is a `TypeAlias`. No tree of the plain language has a `Match`. Trees are plain data: nothing here says that one is
-//! well formed.
+//! empty, and no statement is a `TypeAlias`. No tree of the plain language has a `Match`, a
+//! `FormattedValue` or a `JoinedStr`. Trees are plain data: nothing here says that one is well
+//! formed.
 //!
 //! The tree of `x = 1`:
 //!
@@ -55,4 +57,5 @@ pub use operators::{BoolOperator, Comparison, Context, Operator, UnaryOperator};
 pub use patterns::Pattern;
 pub use points::Points;
 pub use profiles::{Extent, Profile, Version};
+pub use pyfstring::Conversion;
 pub use statements::{Alias, Case, Handler, Item, Stmt, TypeParam};

@@ -4,6 +4,7 @@
 use Rattle.std.proofs.Common.{◌≡◌, ◌∙◌, IsTrue, false, Global, Option, refl, sym, subst}
 use Rattle.std.specs.declared.vec.Vec.{Vec}
 use Rattle.std.specs.declared.boxed.Box.{Box}
+use Rattle.pyfstring.specs.declared.parts.Conversion.{Conversion}
 use Rattle.pytree_node.specs.declared.constants.Constant.{Constant}
 use Rattle.pytree_node.specs.declared.operators.BoolOperator.{BoolOperator}
 use Rattle.pytree_node.specs.declared.operators.UnaryOperator.{UnaryOperator}
@@ -56,6 +57,8 @@ HasClass (plain.Yield _) given = (value : Option (Box Expr Global)) × (given �
 HasClass (plain.YieldFrom _) given = (value : Box Expr Global) × (given ≡ variant.YieldFrom value)
 HasClass (plain.Compare _ _ _) given = (left : Box Expr Global) × (ops : Vec Comparison Global) × (comparators : Vec Expr Global) × (given ≡ variant.Compare left ops comparators)
 HasClass (plain.Call _ _ _) given = (func : Box Expr Global) × (args : Vec Expr Global) × (words : Vec Keyword Global) × (given ≡ variant.Call func args words)
+HasClass (plain.FormattedValue _ _ _) given = (value : Box Expr Global) × (conversion : Conversion) × (spec : Option (Box Expr Global)) × (given ≡ variant.FormattedValue value conversion spec)
+HasClass (plain.JoinedStr _) given = (values : Vec Expr Global) × (given ≡ variant.JoinedStr values)
 HasClass (plain.Constant _) given = (value : Constant) × (given ≡ variant.Constant value)
 HasClass (plain.Attribute _ _ _) given = (value : Box Expr Global) × (attr : Identifier) × (ctx : Context) × (given ≡ variant.Attribute value attr ctx)
 HasClass (plain.Subscript _ _ _) given = (value : Box Expr Global) × (slice : Box Expr Global) × (ctx : Context) × (given ≡ variant.Subscript value slice ctx)
@@ -84,6 +87,8 @@ layer_has_class (layer.Yield value) = (value, refl)
 layer_has_class (layer.YieldFrom value) = (value, refl)
 layer_has_class (layer.Compare left ops comparators) = (left, ops, comparators, refl)
 layer_has_class (layer.Call func args words) = (func, args, words, refl)
+layer_has_class (layer.FormattedValue value conversion spec) = (value, conversion, spec, refl)
+layer_has_class (layer.JoinedStr values) = (values, refl)
 layer_has_class (layer.Constant value) = (value, refl)
 layer_has_class (layer.Attribute value attr ctx) = (value, attr, ctx, refl)
 layer_has_class (layer.Subscript value slice ctx) = (value, slice, ctx, refl)

@@ -193,6 +193,32 @@ pub(crate) fn same_expr(a: &Expr, b: &Expr) -> bool
                 && same_exprs(args, other_args)
                 && same_keywords(keywords, other_keywords)
         }
+        Expr::FormattedValue {
+            value,
+            conversion,
+            format_spec,
+        } => {
+            let Expr::FormattedValue {
+                value: other_value,
+                conversion: other_conversion,
+                format_spec: other_spec,
+            } = b
+            else {
+                return false;
+            };
+            same_expr(value, other_value)
+                && conversion == other_conversion
+                && same_optional_box(format_spec, other_spec)
+        }
+        Expr::JoinedStr { values } => {
+            let Expr::JoinedStr {
+                values: other_values,
+            } = b
+            else {
+                return false;
+            };
+            same_exprs(values, other_values)
+        }
         Expr::Constant { value } => {
             let Expr::Constant { value: other_value } = b else {
                 return false;

@@ -11,7 +11,7 @@ use Rattle.pytree_dump_text.proofs.Callers.Results.{on_ok, where_pushed}
 use Rattle.pytree_dump.proofs.ArgumentsLemmas.{alone, five_shown, seven_weigh, arguments_shown}
 use Rattle.pytree_dump.proofs.RowLemmas.{slot_weighs, member_weight, exprs_row, comprehensions_row, keywords_row, comparisons_row, optionals_row}
 use Rattle.pytree_dump.proofs.TextLemmas.{field_shown, left, node_closed, one_field, two_fields, three_fields, four_fields, then_fields, member_shown}
-use Rattle.pytree_node.proofs.Callers.ExprShapes.{generator_exp_tree, dict_comp_tree, compare_tree, call_tree, slice_tree, comprehension_tree, await_tree, bin_op_tree, bool_op_tree, constant_tree, dict_tree, if_exp_tree, lambda_tree, list_comp_tree, list_tree, name_tree, named_expr_tree, set_comp_tree, set_tree, starred_tree, subscript_tree, tuple_tree, unary_op_tree, yield_from_tree, yield_tree}
+use Rattle.pytree_node.proofs.Callers.ExprShapes.{generator_exp_tree, dict_comp_tree, compare_tree, call_tree, formatted_value_tree, joined_str_tree, slice_tree, comprehension_tree, await_tree, bin_op_tree, bool_op_tree, constant_tree, dict_tree, if_exp_tree, lambda_tree, list_comp_tree, list_tree, name_tree, named_expr_tree, set_comp_tree, set_tree, starred_tree, subscript_tree, tuple_tree, unary_op_tree, yield_from_tree, yield_tree}
 use Rattle.pytree_dump.proofs.+showing.Goals as goal
 
 pub nodes::show_field-returns-clause-text : goal.nodes::show_field-returns-clause-text
@@ -411,6 +411,23 @@ pub expressions::show_expr-show_one-requires-in-YieldFrom : goal.expressions::sh
 expressions::show_expr-show_one-requires-in-YieldFrom t c =
     let e : weight (shown (tree_of c.args.e.now)) ≡ weight (shown (tree_of c.deref-in-YieldFrom.result.now)) + 0 + 1 =
     rw (c.in-YieldFrom.is, yield_from_tree, sym c.deref-in-YieldFrom.ensures) refl in (omega (arith, e), tt)
+
+pub expressions::show_expr-returns-in-FormattedValue-clause-text : goal.expressions::show_expr-returns-in-FormattedValue-clause-text
+expressions::show_expr-returns-in-FormattedValue-clause-text t c = rw (c.in-FormattedValue.is, formatted_value_tree)
+    (rw (sym c.deref-in-FormattedValue.ensures, sym (c.boxed_part-in-FormattedValue.ensures no_field)) c.show_three-in-FormattedValue.ensures.text)
+
+pub expressions::show_expr-show_three-requires-in-FormattedValue : goal.expressions::show_expr-show_three-requires-in-FormattedValue
+expressions::show_expr-show_three-requires-in-FormattedValue t c =
+    let e : weight (shown (tree_of c.args.e.now)) ≡ weight (shown (tree_of c.deref-in-FormattedValue.result.now)) + (1 + field_weights (with_slot (slot_of c.boxed_part-in-FormattedValue.result) no_field)) + 1 =
+    rw (c.in-FormattedValue.is, formatted_value_tree, sym c.deref-in-FormattedValue.ensures, sym (c.boxed_part-in-FormattedValue.ensures no_field)) refl in (omega (arith, e), tt)
+
+pub expressions::show_expr-returns-in-JoinedStr-clause-text : goal.expressions::show_expr-returns-in-JoinedStr-clause-text
+expressions::show_expr-returns-in-JoinedStr-clause-text t c = rw (c.in-JoinedStr.is, joined_str_tree, exprs_row, sym c.deref-in-JoinedStr.ensures.value) c.show_one-in-JoinedStr.ensures.text
+
+pub expressions::show_expr-show_one-requires-in-JoinedStr : goal.expressions::show_expr-show_one-requires-in-JoinedStr
+expressions::show_expr-show_one-requires-in-JoinedStr t c =
+    let e : weight (shown (tree_of c.args.e.now)) ≡ weight (Row (showns (map (λ e. shown (tree_of e)) c.deref-in-JoinedStr.result.now))) + 0 + 1 =
+    rw (c.in-JoinedStr.is, joined_str_tree, exprs_row c.in-JoinedStr.values.items, sym c.deref-in-JoinedStr.ensures.value) refl in (omega (arith, e), tt)
 
 pub expressions::show_expr-returns-in-Constant-clause-text : goal.expressions::show_expr-returns-in-Constant-clause-text
 expressions::show_expr-returns-in-Constant-clause-text t c = rw (c.in-Constant.is, constant_tree) (c.show_constant.ensures _)

@@ -4,6 +4,7 @@
 use Rattle.std.proofs.Common.{◌≡◌, map, refl, ap, ◌∙◌, Global, Option, None, Some}
 use Rattle.std.specs.declared.vec.Vec.{Vec}
 use Rattle.std.specs.declared.boxed.Box.{Box}
+use Rattle.pyfstring.specs.declared.parts.Conversion.{Conversion}
 use Rattle.pytree_node.specs.declared.constants.Constant.{Constant}
 use Rattle.pytree_node.specs.declared.operators.BoolOperator.{BoolOperator}
 use Rattle.pytree_node.specs.declared.operators.UnaryOperator.{UnaryOperator}
@@ -138,6 +139,16 @@ pub call_tree : (func : Box Expr Global) (args : Vec Expr Global) (words : Vec K
 unfolding given.roll-Expr denote.Hole.Carrier.roll
 call_tree func args words = rolls (layer.Call func args words)
 
+pub formatted_value_tree : (value : Box Expr Global) (conversion : Conversion) (spec : Option (Box Expr Global)) →
+    tree_of (variant.FormattedValue value conversion spec) ≡ plain.FormattedValue (tree_of value.value) conversion (optional (boxed_of spec))
+unfolding given.roll-Expr denote.Hole.Carrier.roll
+formatted_value_tree value conversion spec = rolls (layer.FormattedValue value conversion spec) ∙ (λ i. plain.FormattedValue (tree_of value.value) conversion (optional (boxed_is spec i)))
+
+pub joined_str_tree : (values : Vec Expr Global) →
+    tree_of (variant.JoinedStr values) ≡ plain.JoinedStr (exprs (map tree_of values.items))
+unfolding given.roll-Expr denote.Hole.Carrier.roll
+joined_str_tree values = rolls (layer.JoinedStr values)
+
 pub constant_tree : (value : Constant) →
     tree_of (variant.Constant value) ≡ plain.Constant (constant_of value)
 unfolding given.roll-Expr denote.Hole.Carrier.roll
@@ -228,6 +239,8 @@ pub ruleset expr_shapes = (
   yield_from_tree,
   compare_tree,
   call_tree,
+  formatted_value_tree,
+  joined_str_tree,
   constant_tree,
   attribute_tree,
   subscript_tree,

@@ -1,5 +1,7 @@
-use Rattle.std.proofs.Common.{refl}
-use Rattle.pytree_node.proofs.Callers.ExprShapes.{bool_op_tree, named_expr_tree, bin_op_tree, unary_op_tree, lambda_tree, if_exp_tree, dict_tree, set_tree, list_comp_tree, set_comp_tree, dict_comp_tree, generator_exp_tree, await_tree, yield_from_tree, compare_tree, call_tree, attribute_tree, subscript_tree, starred_tree, name_tree, list_tree, tuple_tree}
+use Rattle.std.proofs.Common.{refl, sym}
+use Rattle.pytree_node.specs.TreeOf.{tree_of}
+use Rattle.pytree_node.proofs.Callers.ExprShapes.{bool_op_tree, named_expr_tree, bin_op_tree, unary_op_tree, lambda_tree, if_exp_tree, dict_tree, set_tree, list_comp_tree, set_comp_tree, dict_comp_tree, generator_exp_tree, await_tree, yield_from_tree, compare_tree, call_tree, formatted_value_tree, joined_str_tree, attribute_tree, subscript_tree, starred_tree, name_tree, list_tree, tuple_tree}
+use Rattle.pytree_dump_text.proofs.SlotLemmas.{formatted_shows}
 use Rattle.pytree_dump_text.proofs.shortness.is_bare.Goals as goal
 
 pub returns-in-BoolOp : goal.returns-in-BoolOp
@@ -49,6 +51,13 @@ returns-in-Compare c = rw (c.in-Compare.is, compare_tree) refl
 
 pub returns-in-Call : goal.returns-in-Call
 returns-in-Call c = rw (c.in-Call.is, call_tree) refl
+
+pub returns-in-FormattedValue : goal.returns-in-FormattedValue
+returns-in-FormattedValue c = rw (c.in-FormattedValue.is, formatted_value_tree)
+    (sym (formatted_shows (tree_of c.in-FormattedValue.value.value) c.in-FormattedValue.conversion _))
+
+pub returns-in-JoinedStr : goal.returns-in-JoinedStr
+returns-in-JoinedStr c = rw (c.in-JoinedStr.is, joined_str_tree) refl
 
 pub returns-in-Attribute : goal.returns-in-Attribute
 returns-in-Attribute c = rw (c.in-Attribute.is, attribute_tree) refl

@@ -2,7 +2,7 @@ use Rattle.std.proofs.Common.{◌≡◌, ◌∙◌, ap, map, IsTrue, arith}
 use Rattle.pytree_node.specs.Trees as plain
 use Rattle.pytree_node.specs.Trees.{comprehensions, exprs, keywords}
 use Rattle.pytree_node.specs.TreeOf.{arg_of, comprehension_of, keyword_of, option_of, tree_of}
-use Rattle.pytree_node.proofs.Callers.ExprShapes.{bool_op_tree, named_expr_tree, bin_op_tree, unary_op_tree, lambda_tree, if_exp_tree, dict_tree, set_tree, list_comp_tree, set_comp_tree, dict_comp_tree, generator_exp_tree, await_tree, yield_tree, yield_from_tree, compare_tree, call_tree, constant_tree, attribute_tree, subscript_tree, starred_tree, name_tree, list_tree, tuple_tree, slice_tree}
+use Rattle.pytree_node.proofs.Callers.ExprShapes.{bool_op_tree, named_expr_tree, bin_op_tree, unary_op_tree, lambda_tree, if_exp_tree, dict_tree, set_tree, list_comp_tree, set_comp_tree, dict_comp_tree, generator_exp_tree, await_tree, yield_tree, yield_from_tree, compare_tree, call_tree, formatted_value_tree, joined_str_tree, constant_tree, attribute_tree, subscript_tree, starred_tree, name_tree, list_tree, tuple_tree, slice_tree}
 use Rattle.pytree_same.proofs.ExprClasses.{other_class}
 use Rattle.pytree_same.proofs.Members.{comprehensions_same, exprs_same, keywords_same, optional_same}
 use Rattle.pytree_same.proofs.Refuted.{refuted}
@@ -61,28 +61,34 @@ pub same_expr-returns-in_default-b-16 : goal.same_expr-returns-in_default-b-16
 same_expr-returns-in_default-b-16 t c = other_class _ _ (ap tree_of c.in-Call.is ∙ call_tree _ _ _) (λ h. c.in_default-b-16.not-Call h.0 h.1 h.2 h.3)
 
 pub same_expr-returns-in_default-b-17 : goal.same_expr-returns-in_default-b-17
-same_expr-returns-in_default-b-17 t c = other_class _ _ (ap tree_of c.in-Constant.is ∙ constant_tree _) (λ h. c.in_default-b-17.not-Constant h.0 h.1)
+same_expr-returns-in_default-b-17 t c = other_class _ _ (ap tree_of c.in-FormattedValue.is ∙ formatted_value_tree _ _ _) (λ h. c.in_default-b-17.not-FormattedValue h.0 h.1 h.2 h.3)
 
 pub same_expr-returns-in_default-b-18 : goal.same_expr-returns-in_default-b-18
-same_expr-returns-in_default-b-18 t c = other_class _ _ (ap tree_of c.in-Attribute.is ∙ attribute_tree _ _ _) (λ h. c.in_default-b-18.not-Attribute h.0 h.1 h.2 h.3)
+same_expr-returns-in_default-b-18 t c = other_class _ _ (ap tree_of c.in-JoinedStr.is ∙ joined_str_tree _) (λ h. c.in_default-b-18.not-JoinedStr h.0 h.1)
 
 pub same_expr-returns-in_default-b-19 : goal.same_expr-returns-in_default-b-19
-same_expr-returns-in_default-b-19 t c = other_class _ _ (ap tree_of c.in-Subscript.is ∙ subscript_tree _ _ _) (λ h. c.in_default-b-19.not-Subscript h.0 h.1 h.2 h.3)
+same_expr-returns-in_default-b-19 t c = other_class _ _ (ap tree_of c.in-Constant.is ∙ constant_tree _) (λ h. c.in_default-b-19.not-Constant h.0 h.1)
 
 pub same_expr-returns-in_default-b-20 : goal.same_expr-returns-in_default-b-20
-same_expr-returns-in_default-b-20 t c = other_class _ _ (ap tree_of c.in-Starred.is ∙ starred_tree _ _) (λ h. c.in_default-b-20.not-Starred h.0 h.1 h.2)
+same_expr-returns-in_default-b-20 t c = other_class _ _ (ap tree_of c.in-Attribute.is ∙ attribute_tree _ _ _) (λ h. c.in_default-b-20.not-Attribute h.0 h.1 h.2 h.3)
 
 pub same_expr-returns-in_default-b-21 : goal.same_expr-returns-in_default-b-21
-same_expr-returns-in_default-b-21 t c = other_class _ _ (ap tree_of c.in-Name.is ∙ name_tree _ _) (λ h. c.in_default-b-21.not-Name h.0 h.1 h.2)
+same_expr-returns-in_default-b-21 t c = other_class _ _ (ap tree_of c.in-Subscript.is ∙ subscript_tree _ _ _) (λ h. c.in_default-b-21.not-Subscript h.0 h.1 h.2 h.3)
 
 pub same_expr-returns-in_default-b-22 : goal.same_expr-returns-in_default-b-22
-same_expr-returns-in_default-b-22 t c = other_class _ _ (ap tree_of c.in-List.is ∙ list_tree _ _) (λ h. c.in_default-b-22.not-List h.0 h.1 h.2)
+same_expr-returns-in_default-b-22 t c = other_class _ _ (ap tree_of c.in-Starred.is ∙ starred_tree _ _) (λ h. c.in_default-b-22.not-Starred h.0 h.1 h.2)
 
 pub same_expr-returns-in_default-b-23 : goal.same_expr-returns-in_default-b-23
-same_expr-returns-in_default-b-23 t c = other_class _ _ (ap tree_of c.in-Tuple.is ∙ tuple_tree _ _) (λ h. c.in_default-b-23.not-Tuple h.0 h.1 h.2)
+same_expr-returns-in_default-b-23 t c = other_class _ _ (ap tree_of c.in-Name.is ∙ name_tree _ _) (λ h. c.in_default-b-23.not-Name h.0 h.1 h.2)
 
 pub same_expr-returns-in_default-b-24 : goal.same_expr-returns-in_default-b-24
-same_expr-returns-in_default-b-24 t c = other_class _ _ (ap tree_of c.in-Slice.is ∙ slice_tree _ _ _) (λ h. c.in_default-b-24.not-Slice h.0 h.1 h.2 h.3)
+same_expr-returns-in_default-b-24 t c = other_class _ _ (ap tree_of c.in-List.is ∙ list_tree _ _) (λ h. c.in_default-b-24.not-List h.0 h.1 h.2)
+
+pub same_expr-returns-in_default-b-25 : goal.same_expr-returns-in_default-b-25
+same_expr-returns-in_default-b-25 t c = other_class _ _ (ap tree_of c.in-Tuple.is ∙ tuple_tree _ _) (λ h. c.in_default-b-25.not-Tuple h.0 h.1 h.2)
+
+pub same_expr-returns-in_default-b-26 : goal.same_expr-returns-in_default-b-26
+same_expr-returns-in_default-b-26 t c = other_class _ _ (ap tree_of c.in-Slice.is ∙ slice_tree _ _ _) (λ h. c.in_default-b-26.not-Slice h.0 h.1 h.2 h.3)
 
 pub same_exprs-returns-then-not-same_expr : goal.same_exprs-returns-then-not-same_expr
 same_exprs-returns-then-not-same_expr t c = refuted (differ_at tree_of c.args.a.now c.args.b.now c.loop-i.i _ _ (omega arith) (omega arith) c.index-a-i.is c.index-b-i.is

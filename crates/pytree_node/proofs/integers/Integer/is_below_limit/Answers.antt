@@ -1,4 +1,4 @@
-use Rattle.std.proofs.Common.{rules, ◌≡◌, ◌<◌, ◌^◌, sym}
+use Rattle.std.proofs.Common.{rules, sym}
 use Rattle.pynatural.proofs.Callers.Decimals.{small_below_limit}
 use Rattle.pytree_node.proofs.integers.Integer.is_below_limit.Goals as goal
 
