@@ -19,7 +19,7 @@ use Rattle.pytoken.specs.Tokens.{Token, token_of, supplied, is_open, tokens_of_e
 use Rattle.pytoken.proofs.Callers.OnePass.{tokens_on}
 use Rattle.pytoken.specs.MatchHeaders.{ends_in_colon, is_match}
 use Rattle.pyparse_tokens.specs.LineReadings.{EndsAt}
-use Rattle.pyparse_tokens.specs.Inner.LineGathering.{first_text, last_text, spell_match}
+use Rattle.pyparse_tokens.specs.Inner.OpenLines.{first_text, last_text, spell_match}
 use Rattle.pyparse_tokens.proofs.ListingLemmas.{fault_last}
 
 -- ---- Texts.

@@ -5,8 +5,9 @@ mod RisingLemmas
 mod IndentLemmas
 mod PassLemmas
 mod GatherLemmas
+mod TerminalLemmas
+mod OperatorLemmas
 mod LineLemmas
 mod LineGatherLemmas
-mod OperatorLemmas
 mod TakingLemmas
 mod WalkLemmas

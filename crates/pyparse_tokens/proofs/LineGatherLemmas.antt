@@ -2,7 +2,8 @@
 -- and at the listing's end.
 use Rattle.std.proofs.Common.{◌≡◌, ℕ, ◌+◌, ◌-◌, ◌≤◌, ◌<◌, Bool, true, false, List, [], ◌∷◌, ◌++◌, length, take, drop, map, refl, sym, ap, ap₂, subst, ◌∙◌, append-nil, arith, length-append, Some, None}
 use Rattle.std.specs.Prelude.{if◌then◌else◌, slice_get}
-use Rattle.std.proofs.lemmas.List.{map-append, take-append-drop}
+use Rattle.std.specs.List.{flat_map}
+use Rattle.std.proofs.lemmas.List.{flat_map_more, length-map, take-append-drop}
 use Rattle.std.specs.Str.{chars}
 use Rattle.std.proofs.lemmas.Bool.{and_parts}
 use Rattle.pysource.specs.declared.places.Place.{Place}
@@ -23,12 +24,16 @@ use Rattle.pytoken.specs.Tokens.{Token, Line, text_of, token_of, is_open, level_
 use Rattle.pytoken.specs.Refusals.{entry_refusal}
 use Rattle.pytoken.specs.TerminalOf.{terminal}
 use Rattle.pytoken.specs.declared.values.terminals.Terminal.{Terminal}
+use Rattle.pytree_node.specs.declared.profiles.Extent.{Extent}
 use Rattle.pyparse_tokens.specs.declared.line_gather.LineGather.{LineGather}
-use Rattle.pyparse_tokens.specs.LineReadings.{first_start, token_terminal, lines_within}
+use Rattle.pyparse_tokens.specs.declared.open_line.OpenLine.{OpenLine}
+use Rattle.pyparse_tokens.specs.LineReadings.{first_start, token_terminals, lines_within}
 use Rattle.pyparse_tokens.specs.Inner.Passing.{counted, still_open, kept_refusal}
-use Rattle.pyparse_tokens.specs.Inner.LineGathering.{stands_in_line, ends_open_line, ended_by, is_indent, is_dedent, own_terminals, of_first, first_text, line_behind, front_tokens, front_line, front_lines, Adds, TakesEntry, Counts, KeepsLine, StandsAt, ReadsLine}
+use Rattle.pyparse_tokens.specs.Inner.LineGathering.{stands_in_line, ends_open_line, ended_by, is_indent, is_dedent, own_terminals, line_behind, front_tokens, front_line, front_lines, Adds, TakesEntry, Counts, StandsAt, ReadsLine}
+use Rattle.pyparse_tokens.specs.Inner.OpenLines.{of_first, first_text, KeepsLine}
 use Rattle.pyparse_tokens.proofs.PassLemmas.{passes, kept_before}
 use Rattle.pyparse_tokens.proofs.ListingLemmas.{moved, at_entry}
+use Rattle.pyparse_tokens.proofs.TerminalLemmas.{no_fault, some_terminals}
 use Rattle.pyparse_tokens.proofs.EndLemmas.{last_on, match_is, same_last}
 use Rattle.pyparse_tokens.proofs.LineLemmas.{with_own, tally_past, some_by, line_on, lines_on, tokens_past, lines_past}
 
@@ -69,28 +74,37 @@ counts text es e old new had gains =
 some_same : (a b : List ℕ) → Some a ≡ Some b → a ≡ b
 some_same a b e = cc
 
--- what is kept of the line, with one entry more that doesn't end it
-pub keeps : (text : List ℕ) (e : Entry) (line : List Token) (old new : LineGather) → KeepsLine line old → Adds text e old new →
-    KeepsLine (with_own text e line) new
-keeps text e line old new had adds = by (stands_in_line e.kind) refl
+-- what is kept of the line, with one entry more that doesn't end it and has no fault of its own
+pub keeps : (extent : Extent) (text : List ℕ) (e : Entry) (line : List Token) (old new : OpenLine) → KeepsLine line old →
+    entry_refusal extent text e ≡ None → Adds text e old new → KeepsLine (with_own text e line) new
+keeps extent text e line old new had sound adds = by (stands_in_line e.kind) refl
   where
-    begins : (ts : List Terminal) (l : List Token) (w v : List ℕ) → map terminal ts ≡ map token_terminal l → ((t : List ℕ) → first_text l ≡ Some t → w ≡ t) → (t : List ℕ)
+    begins : (ts : List Terminal) (l : List Token) (w v : List ℕ) → (0 < length l → 0 < length ts) → map terminal ts ≡ flat_map token_terminals l
+        → ((t : List ℕ) → first_text l ≡ Some t → w ≡ t) → (t : List ℕ)
         → first_text (l ++ token_of text e ∷ []) ≡ Some t → v ≡ text_of text e → of_first ts w v ≡ t
-    begins [] [] w v same was t is own = let one : text_of text e ≡ t = cc in own ∙ one
-    begins [] (u ∷ l) w v same was t is own = absurd (cc)
-    begins (x ∷ ts) [] w v same was t is own = absurd (cc)
-    begins (x ∷ ts) (u ∷ l) w v same was t is own = was t is
+    begins [] [] w v some same was t is own = let one : text_of text e ≡ t = cc in own ∙ one
+    begins [] (u ∷ l) w v some same was t is own = absurd (omega (arith, some (omega arith)))
+    begins (x ∷ ts) [] w v some same was t is own = absurd (cc)
+    begins (x ∷ ts) (u ∷ l) w v some same was t is own = was t is
 
-    starts : (ts : List Terminal) (l : List Token) → map terminal ts ≡ map token_terminal l → (p : Place) → ((q : Place) → first_start l ≡ Some q → p ≡ q) → (q : Place)
+    starts : (ts : List Terminal) (l : List Token) → (0 < length l → 0 < length ts) → map terminal ts ≡ flat_map token_terminals l
+        → (p : Place) → ((q : Place) → first_start l ≡ Some q → p ≡ q) → (q : Place)
         → first_start (l ++ token_of text e ∷ []) ≡ Some q → of_first ts p e.start ≡ q
-    starts [] [] same p was q is = cc
-    starts [] (t ∷ l) same p was q is = absurd (cc)
-    starts (x ∷ ts) [] same p was q is = absurd (cc)
-    starts (x ∷ ts) (t ∷ l) same p was q is = was q is
+    starts [] [] some same p was q is = cc
+    starts [] (t ∷ l) some same p was q is = absurd (omega (arith, some (omega arith)))
+    starts (x ∷ ts) [] some same p was q is = absurd (cc)
+    starts (x ∷ ts) (t ∷ l) some same p was q is = was q is
+
+    size : length new.terminals.items ≡ length old.terminals.items + length (own_terminals text e)
+    size =
+        sym (length-map new.terminals.items terminal) ∙ ap length adds.terminals
+        ∙ length-append (map terminal old.terminals.items) (own_terminals text e) ∙ ap (λ (n : ℕ). n + length (own_terminals text e)) (length-map old.terminals.items terminal)
 
     by : (b : Bool) → stands_in_line e.kind ≡ b → KeepsLine (with_own text e line) new
     by true is =
-        let own : own_terminals text e ≡ token_terminal (token_of text e) ∷ [] = rw is refl in
+        let own : own_terminals text e ≡ token_terminals (token_of text e) = rw is refl in
+        let more : 0 < length (token_terminals (token_of text e)) =
+        some_terminals extent e.kind (text_of text e) (no_fault extent text e sound) in
         let start : new.start ≡ of_first old.terminals.items old.start e.start = rw is at adds.start in
         let first : chars new.first.now ≡ of_first old.terminals.items (chars old.first.now) (text_of text e) = rw is at adds.first in
         let last : chars new.last.now ≡ text_of text e = rw is at adds.last in
@@ -99,9 +113,10 @@ keeps text e line old new had adds = by (stands_in_line e.kind) refl
           terminals =
               adds.terminals
               ∙ ap₂ (λ (a b : List Terminals.Terminal). a ++ b) had.terminals own
-              ∙ sym (map-append token_terminal line (token_of text e ∷ []));
-          start = λ p at. start ∙ starts old.terminals.items line had.terminals old.start had.start p at;
-          first = λ t at. first ∙ begins old.terminals.items line (chars old.first.now) (text_of text e) had.terminals had.first t at refl;
+              ∙ flat_map_more token_terminals [] line (token_of text e);
+          some = λ _. omega (arith, size, ap length own, more);
+          start = λ p at. start ∙ starts old.terminals.items line had.some had.terminals old.start had.start p at;
+          first = λ t at. first ∙ begins old.terminals.items line (chars old.first.now) (text_of text e) had.some had.terminals had.first t at refl;
           last = λ t at. let same : text_of text e ≡ t = some_same (text_of text e) t (sym (last_on line (token_of text e)) ∙ at) in last ∙ same;
         } in
         rw is all
@@ -112,7 +127,8 @@ keeps text e line old new had adds = by (stands_in_line e.kind) refl
         let last : chars new.last.now ≡ chars old.last.now = rw is at adds.last in
         let all : KeepsLine line new =
         record {
-          terminals = adds.terminals ∙ ap₂ (λ (a b : List Terminals.Terminal). a ++ b) had.terminals own ∙ append-nil (map token_terminal line);
+          terminals = adds.terminals ∙ ap₂ (λ (a b : List Terminals.Terminal). a ++ b) had.terminals own ∙ append-nil (flat_map token_terminals line);
+          some = λ more. let kept = had.some more in omega (arith, size, ap length own, kept);
           start = λ p at. start ∙ had.start p at;
           first = λ t at. first ∙ had.first t at;
           last = λ t at. last ∙ had.last t at;
@@ -203,7 +219,7 @@ stands_on p old new e g h had read few source gains =
     }
 
 -- without the tokens of the line
-pub cleared : (p : Parts) (l : Listed) (g h : LineGather) → StandsAt p l g → h ≡ record g { terminals = h.terminals } → StandsAt p l h
+pub cleared : (p : Parts) (l : Listed) (g h : LineGather) → StandsAt p l g → h ≡ record g { line = h.line } → StandsAt p l h
 cleared p l g h had is =
     let counts = had.counts in
     subst (StandsAt p l) (sym is)
@@ -237,8 +253,8 @@ none_before p l e g h had gains none =
 -- the same line, by an entry that doesn't end it
 pub same_line : (p : Parts) (old new : Listed) (e : Entry) (g h : LineGather) → StandsAt p old g → Read p old new e → TakesEntry (chars p.text) e g h →
     ended_by e g.pass.begun ≡ false → kept_refusal h.pass ≡ None →
-    KeepsLine (front_line (chars p.text) (take old.shown.given (entries_of (listing (in_characters p))))) g →
-    KeepsLine (front_line (chars p.text) (take new.shown.given (entries_of (listing (in_characters p))))) h
+    KeepsLine (front_line (chars p.text) (take old.shown.given (entries_of (listing (in_characters p))))) g.line →
+    KeepsLine (front_line (chars p.text) (take new.shown.given (entries_of (listing (in_characters p))))) h.line
 same_line p old new e g h had read gains goes none keep =
     let text = chars p.text in
     let es = entries_of (listing (in_characters p)) in
@@ -249,7 +265,8 @@ same_line p old new e g h had read gains goes none keep =
     ap (λ (n : ℕ). front_line text (take n es)) read.count ∙ ap (front_line text) read.grown ∙ line_on text front e
     ∙ ap (λ (b : Bool). if b then [] else with_own text e (front_line text front)) ended
     in
-    subst (λ (l : List Token). KeepsLine l h) (sym line) (keeps text e (front_line text front) g h keep (gains.line before.1))
+    subst (λ (l : List Token). KeepsLine l h.line) (sym line)
+    (keeps g.pass.extent text e (front_line text front) g.line h.line keep before.1 (gains.line before.1))
 
 pub same_lines : (p : Parts) (old new : Listed) (e : Entry) (g : LineGather) → StandsAt p old g → Read p old new e → ended_by e g.pass.begun ≡ false →
     lines_within (in_characters p) new.shown.given ≡ lines_within (in_characters p) old.shown.given
@@ -281,7 +298,7 @@ first_starts (t ∷ l) p some start = ap Some (sym (start t.start refl))
 
 pub line_read : (p : Parts) (first old new : Listed) (e : Entry) (g h : LineGather) → StandsAt p old g → Read p old new e → new.shown.given ≤ most_entries →
     new.source ≡ p → TakesEntry (chars p.text) e g h → ended_by e g.pass.begun ≡ true → kept_refusal h.pass ≡ None →
-    KeepsLine (front_line (chars p.text) (take old.shown.given (entries_of (listing (in_characters p))))) g →
+    KeepsLine (front_line (chars p.text) (take old.shown.given (entries_of (listing (in_characters p))))) g.line →
     lines_within (in_characters p) old.shown.given ≡ lines_within (in_characters p) first.shown.given →
     ReadsLine p first new h
 line_read p first old new e g h had read few source gains ends none keep same =
@@ -295,7 +312,8 @@ line_read p first old new e g h had read few source gains ends none keep same =
     let parts = and_parts (ends_open_line e.kind) g.pass.begun ends in
     let before = none_before p old e g h had gains none in
     let beside : with_own text e line ≡ line = ap (λ (b : Bool). if b then line ++ token_of text e ∷ [] else line) (stands_beside e.kind parts.0) in
-    let kept = subst (λ (l : List Token). KeepsLine l h) beside (keeps text e line g h keep (gains.line before.1)) in
+    let kept =
+    subst (λ (l : List Token). KeepsLine l h.line) beside (keeps g.pass.extent text e line g.line h.line keep before.1 (gains.line before.1)) in
     let more = lines_more s k e true ended read.grown in
     let size : length (lines_within s new.shown.given) ≡ length (lines_within s k) + 1 =
     ap (λ (n : ℕ). length (lines_within s n)) read.count ∙ ap length more ∙ length-append (lines_within s k) (line_at text front ∷ [])
@@ -315,6 +333,6 @@ line_read p first old new e g h had read few source gains ends none keep same =
           (line_stands s k (line_at text front) more);
       level = gains.level ends ∙ ap₂ (λ (a b : ℕ). a - b) had.counts.indents had.counts.dedents;
       terminals = kept.terminals;
-      start = first_starts line h.start (had.counts.some parts.1) kept.start;
-      is_match = match_is line (chars h.first.now) (chars h.last.now) kept.first kept.last (had.counts.some parts.1);
+      start = first_starts line h.line.start (had.counts.some parts.1) kept.start;
+      is_match = match_is line (chars h.line.first.now) (chars h.line.last.now) kept.first kept.last (had.counts.some parts.1);
     }

@@ -1,8 +1,5 @@
 -- Carries: push. On: an entry that has an exact type is an operator, and has no fault.
-use Rattle.std.proofs.Common.{◌≡◌, ℕ, Bool, true, List, [], ◌∷◌, ◌++◌, map, refl, sym, ap, ◌∙◌, Option, Some, None}
-use Rattle.std.specs.Prelude.{if◌then◌else◌}
-use Rattle.std.specs.Str.{chars}
-use Rattle.std.proofs.lemmas.List.{map-append}
+use Rattle.std.proofs.Common.{◌≡◌, ℕ, List, [], ◌∷◌, refl, sym, ap, ◌∙◌, Option, Some, None}
 use Rattle.pylex_lexeme.specs.declared.kinds.Exact.{Exact}
 use Rattle.pylex_lexeme.specs.Operators.{exact_of}
 use Rattle.pylex.specs.declared.kind.Kind.{Kind}
@@ -11,13 +8,13 @@ use Rattle.pylex.specs.declared.entries.Entry.{Entry}
 use Rattle.pylex.specs.Laws.{HasExact}
 use Rattle.pytree_node.specs.declared.profiles.Extent.{Extent}
 use Rattle.pytoken.specs.Terminals
-use Rattle.pytoken.specs.Terminals.{terminal_of, fault_of}
+use Rattle.pytoken.specs.Terminals.{terminal_of, terminals_of, single_fault, fault_of}
 use Rattle.pytoken.specs.Tokens.{text_of}
 use Rattle.pytoken.specs.Refusals.{entry_refusal}
-use Rattle.pytoken.specs.TerminalOf.{terminal}
-use Rattle.pytoken.specs.declared.values.terminals.Terminal.TheVariants.{Op}
-use Rattle.pyparse_tokens.specs.declared.line_gather.LineGather.{LineGather}
-use Rattle.pyparse_tokens.specs.Inner.LineGathering.{stands_in_line, own_terminals, of_first, Adds}
+use Rattle.pyparse_tokens.specs.declared.open_line.OpenLine.{OpenLine}
+use Rattle.pyparse_tokens.specs.Inner.OpenLines.{Pushes}
+use Rattle.pyparse_tokens.specs.Inner.LineGathering.{stands_in_line, Adds}
+use Rattle.pyparse_tokens.proofs.TerminalLemmas.{of_single, one_terminal, no_refusal, pushed_adds}
 
 -- an entry is an operator of this exact type
 pub record IsOperator (text : List ℕ) (e : Entry) (x : Exact) : Type 0 where
@@ -47,30 +44,24 @@ is_operator text e x has is =
     record { kind = parts.0; exact = parts.1 }
 
 -- it has no fault
+none_of : (extent : Extent) (t : List ℕ) → fault_of extent kinds.Op t ≡ None
+unfolding single_fault
+none_of extent t = of_single extent kinds.Op t refl
+
 pub operator_faultless : (extent : Extent) (text : List ℕ) (e : Entry) (x : Exact) → HasExact text e → e.exact ≡ Some x → entry_refusal extent text e ≡ None
-unfolding fault_of
-operator_faultless extent text e x has is = let own = is_operator text e x has is in rw own.kind refl
+operator_faultless extent text e x has is =
+    let own = is_operator text e x has is in
+    no_refusal extent text e (ap (λ (k : Kind). fault_of extent k (text_of text e)) own.kind ∙ none_of extent (text_of text e))
 
--- what it adds to the line
-pub operator_terminals : (text : List ℕ) (e : Entry) (x : Exact) → HasExact text e → e.exact ≡ Some x → own_terminals text e ≡ Terminals.Op x ∷ []
+-- what it is
+one_operator : (t : List ℕ) (x : Exact) → exact_of t ≡ Some x → terminals_of kinds.Op t ≡ Terminals.Op x ∷ []
 unfolding terminal_of
-operator_terminals text e x has is = let own = is_operator text e x has is in rw (own.kind, own.exact, terminal_of) refl
+one_operator t x is = one_terminal kinds.Op t refl ∙ (rw (is, terminal_of) refl)
 
-pub operator_adds : (text : List ℕ) (e : Entry) (x : Exact) (old new : LineGather) → HasExact text e → e.exact ≡ Some x →
-    new.terminals.items ≡ old.terminals.items ++ Op x ∷ [] →
-    new.start ≡ of_first old.terminals.items old.start e.start →
-    chars new.first.now ≡ of_first old.terminals.items (chars old.first.now) (text_of text e) →
-    chars new.last.now ≡ text_of text e →
-    Adds text e old new
-operator_adds text e x old new has is terminals start first last =
-    let stands : stands_in_line e.kind ≡ true = ap stands_in_line (is_operator text e x has is).kind in
-    record {
-      terminals =
-          ap (map terminal) terminals ∙ map-append terminal old.terminals.items (Op x ∷ [])
-          ∙ ap (λ (ts : List Terminals.Terminal). map terminal old.terminals.items ++ ts) (sym (operator_terminals text e x has is));
-      start = start ∙ ap (λ (b : Bool). if b then of_first old.terminals.items old.start e.start else old.start) (sym stands);
-      first =
-          first
-          ∙ ap (λ (b : Bool). if b then of_first old.terminals.items (chars old.first.now) (text_of text e) else chars old.first.now) (sym stands);
-      last = last ∙ ap (λ (b : Bool). if b then text_of text e else chars old.last.now) (sym stands);
-    }
+pub operator_adds : (text : List ℕ) (e : Entry) (x : Exact) (old new : OpenLine) → HasExact text e → e.exact ≡ Some x →
+    Pushes e.start (text_of text e) (Terminals.Op x ∷ []) old new → Adds text e old new
+operator_adds text e x old new has is pushes =
+    let own = is_operator text e x has is in
+    let same : Terminals.Op x ∷ [] ≡ terminals_of e.kind (text_of text e) =
+    sym (ap (λ (k : Kind). terminals_of k (text_of text e)) own.kind ∙ one_operator (text_of text e) x own.exact) in
+    pushed_adds text e (Terminals.Op x ∷ []) old new (ap stands_in_line own.kind) same pushes

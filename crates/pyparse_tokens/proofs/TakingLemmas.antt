@@ -1,9 +1,10 @@
--- Carries: take_operator, take_line_end, take_lexeme. On: what is kept of a lexeme of the line that
+-- Carries: take_token, take_operator, take_line_end, take_lexeme. On: what is kept of a lexeme of the line that
 -- is open is what is kept of its entry.
 use Rattle.std.proofs.Common.{◌≡◌, ℕ, ◌-◌, ◌<◌, Bool, true, false, not, List, [], ◌∷◌, ◌++◌, length, map, refl, sym, ap, ap₂, subst, ◌∙◌, append-nil, arith, Option, Some, None}
 use Rattle.std.specs.Prelude.{if◌then◌else◌, Result, Ok, Err, OnOk}
 use Rattle.std.specs.Option.{option_or}
 use Rattle.std.specs.Str.{chars}
+use Rattle.std.proofs.lemmas.Bool.{and_parts}
 use Rattle.pysource.specs.declared.places.Place.{Place}
 use Rattle.pylex_lexeme.specs.declared.kinds.Exact.{Exact}
 use Rattle.pylex_lexeme.specs.declared.lexeme.Class.{Class}
@@ -17,20 +18,22 @@ use Rattle.pytree_node.specs.declared.profiles.Extent.{Extent}
 use Rattle.pytoken.specs.declared.refusals.Refusal.{Refusal}
 use Rattle.pytoken.specs.declared.refusals.Refusal.TheVariants.{TooDeep}
 use Rattle.pytoken.specs.declared.values.terminals.Terminal.{Terminal}
-use Rattle.pytoken.specs.declared.values.terminals.Terminal.TheVariants.{Op}
-use Rattle.pytoken.specs.Indentation.{Margin}
+use Rattle.pytoken.specs.Indentation.{Margin, margin_at}
 use Rattle.pytoken.specs.Terminals
-use Rattle.pytoken.specs.Terminals.{terminal_of, fault_of}
+use Rattle.pytoken.specs.Terminals.{single_fault, terminals_of, fault_of}
 use Rattle.pytoken.specs.TerminalOf.{terminal}
 use Rattle.pytoken.specs.Tokens.{text_of}
 use Rattle.pytoken.specs.Refusals.{entry_refusal}
 use Rattle.pyparse_tokens.specs.declared.indents.Indents.{Indents}
 use Rattle.pyparse_tokens.specs.declared.pass.Pass.{Pass}
+use Rattle.pyparse_tokens.specs.declared.open_line.OpenLine.{OpenLine}
 use Rattle.pyparse_tokens.specs.declared.line_gather.LineGather.{LineGather}
 use Rattle.pyparse_tokens.specs.Inner.Indenting.{Measured, Measures}
-use Rattle.pyparse_tokens.specs.Inner.Passing.{exceeding, Gains}
-use Rattle.pyparse_tokens.specs.Inner.LineGathering.{stands_in_line, own_terminals, of_first, Adds, TakesEntry}
-use Rattle.pyparse_tokens.specs.Inner.Walking.{IsEntry, Takes, line_end_kind, TakesLineEnd, TakesLexeme, PassesOperator, PassesLineEnd}
+use Rattle.pyparse_tokens.specs.Inner.Passing.{still_open, line_ends, exceeding, counted, given_margins, Gains}
+use Rattle.pyparse_tokens.specs.Inner.OpenLines.{of_first, Pushes}
+use Rattle.pyparse_tokens.specs.Inner.LineGathering.{stands_in_line, ends_open_line, is_indent, is_dedent, marker_behind, own_terminals, Adds, TakesEntry}
+use Rattle.pyparse_tokens.specs.Inner.Walking.{IsEntry, Takes, is_plain_token, line_end_kind, TakesLineEnd, TakesLexeme, PassesOperator, PassesLineEnd}
+use Rattle.pyparse_tokens.proofs.TerminalLemmas.{of_single, no_refusal, pushed_adds}
 use Rattle.pyparse_tokens.proofs.OperatorLemmas.{operator_faultless, operator_adds}
 
 -- an entry of this type and exact type
@@ -63,66 +66,134 @@ operator_gains text e x old new b passes =
       indents = none_measured old.indents;
     }
 
+-- a type of tokens that stand in a line and are no operators
+record IsWithin (k : Kind) : Type 0 where
+  pub stands : stands_in_line k ≡ true
+  pub goes : ends_open_line k ≡ false
+  pub stays : still_open k true ≡ true
+  pub inner : (opened closed : ℕ) → line_ends k opened closed ≡ false
+  pub indent : is_indent k ≡ false
+  pub dedent : is_dedent k ≡ false
+  pub marker : (e : Entry) (p : Place) → e.kind ≡ k → marker_behind e p ≡ p
+
+is_within : (k : Kind) → is_plain_token k ≡ true → IsWithin k
+is_within kinds.Name plain =
+    record { stands = refl; goes = refl; stays = refl; inner = λ o c. refl; indent = refl; dedent = refl; marker = λ e p is. rw is refl }
+is_within kinds.Number plain =
+    record { stands = refl; goes = refl; stays = refl; inner = λ o c. refl; indent = refl; dedent = refl; marker = λ e p is. rw is refl }
+is_within kinds.String plain =
+    record { stands = refl; goes = refl; stays = refl; inner = λ o c. refl; indent = refl; dedent = refl; marker = λ e p is. rw is refl }
+is_within kinds.Op plain = absurd cc
+is_within kinds.Comment plain = absurd cc
+is_within kinds.Encoding plain = absurd cc
+is_within kinds.Nl plain = absurd cc
+is_within kinds.Newline plain = absurd cc
+is_within kinds.Indent plain = absurd cc
+is_within kinds.Dedent plain = absurd cc
+is_within kinds.EndMarker plain = absurd cc
+
+token_gains : (text : List ℕ) (e : Entry) (k : Kind) (old : Pass) → IsWithin k → old.begun ≡ true → Gains text (as_entry e k None) None old old
+token_gains text e k old within begun =
+    let none : given_margins text (as_entry e k None) old.opened old.closed ≡ [] =
+    ap (λ (b : Bool). if b then margin_at text e.to else []) (within.inner old.opened old.closed) in
+    record {
+      extent = refl;
+      begun = begun ∙ sym (ap (still_open k) begun ∙ within.stays);
+      opened = refl;
+      closed = refl;
+      faulty = or_none old.faulty;
+      deep = or_none old.deep;
+      indents = subst (λ (ms : List Margin). Measures ms old.indents old.indents) (sym none) (none_measured old.indents);
+    }
+
 -- ---- What is kept of the line.
 
 of_first_some : {A : Type 0} (ts : List Terminal) (p q : A) → 0 < length ts → of_first ts p q ≡ p
 of_first_some [] p q some = absurd (omega (arith, some))
 of_first_some (t ∷ ts) p q some = refl
 
+-- behind the first token no place counts
+later : (p q : Place) (own mine : List ℕ) (ts : List Terminals.Terminal) (old new : OpenLine) → 0 < length old.terminals.items → own ≡ mine →
+    Pushes p own ts old new → Pushes q mine ts old new
+later p q own mine ts old new some same pushes = record {
+  terminals = pushes.terminals;
+  start = pushes.start ∙ of_first_some old.terminals.items old.start p some ∙ sym (of_first_some old.terminals.items old.start q some);
+  first = pushes.first ∙ ap (of_first old.terminals.items (chars old.first.now)) same;
+  last = pushes.last ∙ same;
+}
+
 -- what is no token adds nothing
-none_adds : (text : List ℕ) (e : Entry) (k : Kind) (old new : LineGather) → stands_in_line k ≡ false → e.kind ≡ k → new.terminals.items ≡ old.terminals.items → new.start ≡ old.start
-    → chars new.first.now ≡ chars old.first.now → chars new.last.now ≡ chars old.last.now → Adds text e old new
-none_adds text e k old new beside kind terminals start first last =
+none_adds : (text : List ℕ) (e : Entry) (k : Kind) (line : OpenLine) → stands_in_line k ≡ false → e.kind ≡ k → Adds text e line line
+none_adds text e k line beside kind =
     let here : stands_in_line e.kind ≡ false = ap stands_in_line kind ∙ beside in
-    let mine : own_terminals text e ≡ [] = ap (λ (b : Bool). if b then terminal_of e.kind (text_of text e) ∷ [] else []) here in
+    let mine : own_terminals text e ≡ [] = ap (λ (b : Bool). if b then terminals_of e.kind (text_of text e) else []) here in
     record {
       terminals =
-          ap (map terminal) terminals ∙ sym (append-nil (map terminal old.terminals.items))
-          ∙ ap (λ (ts : List Terminals.Terminal). map terminal old.terminals.items ++ ts) (sym mine);
-      start = start ∙ ap (λ (b : Bool). if b then of_first old.terminals.items old.start e.start else old.start) (sym here);
-      first = first ∙ ap (λ (b : Bool). if b then of_first old.terminals.items (chars old.first.now) (text_of text e) else chars old.first.now) (sym here);
-      last = last ∙ ap (λ (b : Bool). if b then text_of text e else chars old.last.now) (sym here);
+          sym (append-nil (map terminal line.terminals.items))
+          ∙ ap (λ (ts : List Terminals.Terminal). map terminal line.terminals.items ++ ts) (sym mine);
+      start = ap (λ (b : Bool). if b then of_first line.terminals.items line.start e.start else line.start) (sym here);
+      first = ap (λ (b : Bool). if b then of_first line.terminals.items (chars line.first.now) (text_of text e) else chars line.first.now) (sym here);
+      last = ap (λ (b : Bool). if b then text_of text e else chars line.last.now) (sym here);
     }
 
 -- ---- The entries.
 
--- what `keep` leaves as it was
-abbrev Kept : LineGather → LineGather → Type 0
-Kept old new = new ≡ record old { terminals = new.terminals; start = new.start; first = new.first; last = new.last }
-
--- an operator: first the brackets were counted, then its terminal was kept
-pub operator_takes : (x : Exact) (own : List ℕ) (old mid new : LineGather) → old.pass.begun ≡ true → 0 < length old.terminals.items
-    → PassesOperator x old.pass mid.pass → mid ≡ record old { pass = mid.pass }
-    → new.terminals.items ≡ mid.terminals.items ++ Op x ∷ [] → new.start ≡ of_first mid.terminals.items mid.start mid.start
-    → chars new.first.now ≡ of_first mid.terminals.items (chars mid.first.now) own → chars new.last.now ≡ own → Kept mid new → Takes kinds.Op (Some x) own old new
-operator_takes x own old mid new begun some passes between terminals start first last rest text e is =
-    let pass : new.pass ≡ mid.pass = ap (λ (g : LineGather). g.pass) rest in
-    let items : mid.terminals.items ≡ old.terminals.items = ap (λ (g : LineGather). g.terminals.items) between in
-    let at : mid.start ≡ old.start = ap (λ (g : LineGather). g.start) between in
-    let front : chars mid.first.now ≡ chars old.first.now = ap (λ (g : LineGather). chars g.first.now) between in
+-- an operator: the brackets are counted, and its terminal is kept
+pub operator_takes : (x : Exact) (own : List ℕ) (old new : LineGather) → old.pass.begun ≡ true → 0 < length old.line.terminals.items
+    → PassesOperator x old.pass new.pass → Pushes old.line.start own (Terminals.Op x ∷ []) old.line new.line
+    → new ≡ record old { pass = new.pass; line = new.line } → Takes kinds.Op (Some x) own old new
+operator_takes x own old new begun some passes pushes rest text e is =
     let none : entry_refusal old.pass.extent text e ≡ None = operator_faultless old.pass.extent text e x is.has is.exact in
-    let gains : Gains text e None old.pass mid.pass =
-    subst (λ (d : Entry). Gains text d None old.pass mid.pass) (entry_as e kinds.Op (Some x) is.kind is.exact) (operator_gains text e x old.pass mid.pass begun passes) in
-    let adds : Adds text e old new =
-    operator_adds text e x old new is.has is.exact
-    (terminals ∙ ap (λ (ts : List Terminal). ts ++ Op x ∷ []) items)
-    (start ∙ ap₂ (λ (ts : List Terminal) (p : Place). of_first ts p p) items at ∙ of_first_some old.terminals.items old.start old.start some
-    ∙ sym (of_first_some old.terminals.items old.start e.start some))
-    (first ∙ ap₂ (λ (ts : List Terminal) (t : List ℕ). of_first ts t own) items front ∙ ap (of_first old.terminals.items (chars old.first.now)) (sym is.own_text))
-    (last ∙ sym is.own_text) in
+    let gains : Gains text e None old.pass new.pass =
+    subst (λ (d : Entry). Gains text d None old.pass new.pass) (entry_as e kinds.Op (Some x) is.kind is.exact)
+    (operator_gains text e x old.pass new.pass begun passes) in
     record {
-      pass = subst (λ (r : Option Refusal). Gains text e r old.pass new.pass) (sym none) (subst (Gains text e None old.pass) (sym pass) gains);
+      pass = subst (λ (r : Option Refusal). Gains text e r old.pass new.pass) (sym none) gains;
       level = λ ends. let n : false ≡ true = rw is.kind at ends in absurd cc;
-      indents = ap (λ (g : LineGather). g.indents) rest ∙ ap (λ (g : LineGather). g.indents) between ∙ rw is.kind refl;
-      dedents = ap (λ (g : LineGather). g.dedents) rest ∙ ap (λ (g : LineGather). g.dedents) between ∙ rw is.kind refl;
-      marker = ap (λ (g : LineGather). g.marker) rest ∙ ap (λ (g : LineGather). g.marker) between ∙ rw is.kind refl;
-      line = λ _. adds;
+      indents = ap (λ (g : LineGather). g.indents) rest ∙ rw is.kind refl;
+      dedents = ap (λ (g : LineGather). g.dedents) rest ∙ rw is.kind refl;
+      marker = ap (λ (g : LineGather). g.marker) rest ∙ rw is.kind refl;
+      line = λ _.
+          operator_adds text e x old.line new.line is.has is.exact
+          (later old.line.start e.start own (text_of text e) (Terminals.Op x ∷ []) old.line new.line some (sym is.own_text) pushes);
     }
 
+-- a name, a number or a string without a fault
+pub token_takes : (k : Kind) (own : List ℕ) (old new : LineGather) → is_plain_token k ≡ true → old.pass.begun ≡ true
+    → 0 < length old.line.terminals.items → fault_of old.pass.extent k own ≡ None → Pushes old.line.start own (terminals_of k own) old.line new.line
+    → new ≡ record old { line = new.line } → Takes k None own old new
+token_takes k own old new plain begun some sound pushes rest text e is =
+    let within = is_within k plain in
+    let none : entry_refusal old.pass.extent text e ≡ None =
+    no_refusal old.pass.extent text e (ap₂ (fault_of old.pass.extent) is.kind is.own_text ∙ sound) in
+    let pass : new.pass ≡ old.pass = ap (λ (g : LineGather). g.pass) rest in
+    let gains : Gains text e None old.pass old.pass =
+    subst (λ (d : Entry). Gains text d None old.pass old.pass) (entry_as e k None is.kind is.exact) (token_gains text e k old.pass within begun) in
+    record {
+      pass =
+          subst (λ (p : Pass). Gains text e (entry_refusal old.pass.extent text e) old.pass p) (sym pass)
+          (subst (λ (r : Option Refusal). Gains text e r old.pass old.pass) (sym none) gains);
+      level = λ ends.
+          let ended = (and_parts (ends_open_line e.kind) old.pass.begun ends).0 in
+          absurd (not_both (ends_open_line e.kind) ended (ap ends_open_line is.kind ∙ within.goes));
+      indents = ap (λ (g : LineGather). g.indents) rest ∙ sym (ap (counted old.indents) (ap is_indent is.kind ∙ within.indent));
+      dedents = ap (λ (g : LineGather). g.dedents) rest ∙ sym (ap (counted old.dedents) (ap is_dedent is.kind ∙ within.dedent));
+      marker = ap (λ (g : LineGather). g.marker) rest ∙ sym (within.marker e old.marker is.kind);
+      line = λ _.
+          pushed_adds text e (terminals_of k own) old.line new.line (ap stands_in_line is.kind ∙ within.stands)
+          (sym (ap₂ terminals_of is.kind is.own_text))
+          (later old.line.start e.start own (text_of text e) (terminals_of k own) old.line new.line some (sym is.own_text) pushes);
+    }
+  where
+    not_both : (b : Bool) → b ≡ true → b ≡ false → ⊥
+    not_both b t f = cc
+
 line_end_faultless : (extent : Extent) (text : List ℕ) (e : Entry) (b : Bool) → e.kind ≡ line_end_kind b → entry_refusal extent text e ≡ None
-unfolding fault_of
-line_end_faultless extent text e true kind = rw kind refl
-line_end_faultless extent text e false kind = rw kind refl
+unfolding single_fault
+line_end_faultless extent text e true kind =
+    no_refusal extent text e (ap (λ (k : Kind). fault_of extent k (text_of text e)) kind ∙ of_single extent kinds.Newline (text_of text e) refl)
+line_end_faultless extent text e false kind =
+    no_refusal extent text e (ap (λ (k : Kind). fault_of extent k (text_of text e)) kind ∙ of_single extent kinds.Nl (text_of text e) refl)
 
 -- a line end within brackets, and one that ends the logical line
 pub line_end_takes : (text : List ℕ) (ends : Bool) (to : ℕ) (old new : LineGather) → (ends ≡ true → new.level ≡ old.indents - old.dedents)
@@ -134,9 +205,9 @@ line_end_takes text ends to old new level passes rest own e is there =
     let indents : new.indents ≡ old.indents = ap (λ (g : LineGather). g.indents) rest in
     let dedents : new.dedents ≡ old.dedents = ap (λ (g : LineGather). g.dedents) rest in
     let marker : new.marker ≡ old.marker = ap (λ (g : LineGather). g.marker) rest in
-    let adds : Adds text e old new =
-    none_adds text e (line_end_kind ends) old new beside is.kind (ap (λ (g : LineGather). g.terminals.items) rest) (ap (λ (g : LineGather). g.start) rest)
-    (ap (λ (g : LineGather). chars g.first.now) rest) (ap (λ (g : LineGather). chars g.last.now) rest) in
+    let line : new.line ≡ old.line = ap (λ (g : LineGather). g.line) rest in
+    let adds : Adds text e old.line new.line =
+    subst (Adds text e old.line) (sym line) (none_adds text e (line_end_kind ends) old.line beside is.kind) in
     taken ends level is.kind pass indents dedents marker adds
   where
     aside : (b : Bool) → stands_in_line (line_end_kind b) ≡ false
@@ -144,7 +215,7 @@ line_end_takes text ends to old new level passes rest own e is there =
     aside false = refl
 
     taken : (b : Bool) → (b ≡ true → new.level ≡ old.indents - old.dedents) → e.kind ≡ line_end_kind b → Gains text e (entry_refusal old.pass.extent text e) old.pass new.pass
-        → new.indents ≡ old.indents → new.dedents ≡ old.dedents → new.marker ≡ old.marker → Adds text e old new → TakesEntry text e old new
+        → new.indents ≡ old.indents → new.dedents ≡ old.dedents → new.marker ≡ old.marker → Adds text e old.line new.line → TakesEntry text e old new
     taken true level kind pass indents dedents marker adds = record { pass = pass; level = λ _. level refl; indents = indents ∙ rw kind refl; dedents = dedents ∙ rw kind refl; marker = marker ∙ rw kind refl; line = λ _. adds }
     taken false level kind pass indents dedents marker adds = record { pass = pass; level = λ ends. let n : false ≡ true = rw kind at ends in absurd cc; indents = indents ∙ rw kind refl; dedents = dedents ∙ rw kind refl; marker = marker ∙ rw kind refl; line = λ _. adds }
 

@@ -23,16 +23,19 @@ use Rattle.pytoken.specs.Tokens.{Token}
 use Rattle.pytoken.specs.TerminalOf.{terminal}
 use Rattle.pyparse_tokens.specs.declared.line_gather.LineGather.{LineGather}
 use Rattle.pyparse_tokens.specs.Inner.Passing.{still_open, kept_refusal}
-use Rattle.pyparse_tokens.specs.Inner.LineGathering.{ends_open_line, ended_by, TakesEntry, KeepsLine, StandsAt, StandsBetween}
+use Rattle.pyparse_tokens.specs.Inner.LineGathering.{ends_open_line, ended_by, TakesEntry, StandsAt, StandsBetween}
+use Rattle.pyparse_tokens.specs.Inner.OpenLines.{KeepsLine}
+use Rattle.pyparse_tokens.specs.declared.open_line.OpenLine.{OpenLine}
 use Rattle.pyparse_tokens.specs.Inner.Walking.{IsEntry, TakesLexeme, Reads, Ended, Went, Walks}
 use Rattle.pyparse_tokens.proofs.LineGatherLemmas.{Read, entry_read, stands_on, cleared, none_before, same_line, same_lines, line_read}
 use Rattle.pyparse_tokens.proofs.PassLemmas.{few}
 
 -- ---- Between two lines.
 
-keeps_none : (g : LineGather) → g.terminals.items ≡ [] → KeepsLine [] g
-keeps_none g empty = record {
+keeps_none : (l : OpenLine) → l.terminals.items ≡ [] → KeepsLine [] l
+keeps_none l empty = record {
   terminals = ap (map terminal) empty;
+  some = λ more. absurd (omega (arith, more));
   start = λ p is. absurd (no_place p is);
   first = λ t is. absurd (no_text t is);
   last = λ t is. absurd (no_text t is);
@@ -44,10 +47,11 @@ keeps_none g empty = record {
     no_text : (t : List ℕ) → None ≡ Some t → ⊥
     no_text t is = cc
 
-pub reads_begin : (p : Parts) (l : Listed) (g h : LineGather) → StandsBetween p l g → h ≡ record g { terminals = h.terminals } → h.terminals.items ≡ [] → Reads p l l h
+pub reads_begin : (p : Parts) (l : Listed) (g h : LineGather) → StandsBetween p l g → h ≡ record g { line = h.line } → h.line.terminals.items ≡ [] →
+    Reads p l l h
 reads_begin p l g h between is empty = record {
   at = cleared p l g h between.at is;
-  keeps = λ _. subst (λ (line : List Token). KeepsLine line h) (sym between.closed) (keeps_none h empty);
+  keeps = λ _. subst (λ (line : List Token). KeepsLine line h.line) (sym between.closed) (keeps_none h.line empty);
   same = λ _. refl;
 }
 
@@ -71,7 +75,8 @@ reads_end p first old new e g h had read few source gains ends = record {
 }
 
 -- A line that ended with a refusal is let go.
-pub reads_cleared : (p : Parts) (first now : Listed) (g h : LineGather) → StandsAt p now g → (kept_refusal g.pass ≡ None → ⊥) → h ≡ record g { terminals = h.terminals } → Reads p first now h
+pub reads_cleared : (p : Parts) (first now : Listed) (g h : LineGather) → StandsAt p now g → (kept_refusal g.pass ≡ None → ⊥) →
+    h ≡ record g { line = h.line } → Reads p first now h
 reads_cleared p first now g h at refused is =
     let same : kept_refusal h.pass ≡ kept_refusal g.pass = ap (λ (x : LineGather). kept_refusal x.pass) is in
     record {
@@ -172,7 +177,7 @@ few_levels p l g at =
 -- ---- A walk.
 
 pub walk_begins : (p : Parts) (levels left : List ℕ) (s : Spot) (g : LineGather) → IsUtf8 left → StandsAt p (at_spot p s levels) g → s.begun ≡ true → g.pass.begun ≡ true →
-    0 < length g.terminals.items → left ≡ drop s.offset p.text → Walks p levels s s g g left
+    0 < length g.line.terminals.items → left ≡ drop s.offset p.text → Walks p levels s s g g left
 walk_begins p levels left s g utf8 at within begun some is_left = record {
   utf8 = utf8;
   at = at;
@@ -195,8 +200,8 @@ walk_steps p levels left s t u k front back old g utf8 small some w x = stepped 
 
 -- to the next spot within the line
 pub walk_on : (p : Parts) (levels left : List ℕ) (s t u : Spot) (k : Class) (front back : List ℕ) (old g h : LineGather) → Walks p levels s t old g left →
-    (x : Stepped p levels t u k front back g) → Steps t left k front back u → TakesLexeme (chars p.text) k (chars front) u g h → 0 < length h.terminals.items →
-    u.begun ≡ true → Walks p levels s u old h back
+    (x : Stepped p levels t u k front back g) → Steps t left k front back u → TakesLexeme (chars p.text) k (chars front) u g h →
+    0 < length h.line.terminals.items → u.begun ≡ true → Walks p levels s u old h back
 walk_on p levels left s t u k front back old g h w x moved takes some goes =
     let gains = step_taken p levels t u k front back g h x takes in
     let source : (at_spot p u levels).source ≡ p = refl in

@@ -1,5 +1,6 @@
 pub mod Passing
 pub mod Gathering
+pub mod OpenLines
 pub mod LineGathering
 pub mod LineReading
 pub mod Indenting

@@ -1,11 +1,12 @@
 -- What the logical lines of a source are to a reader that has them one after another.
-use Rattle.std.specs.Prelude.{◌≡◌, ℕ, Bool, true, false, List, [], ◌∷◌, ◌++◌, map, take, slice_get, Option, Some, None, Result, Ok, Err}
+use Rattle.std.specs.Prelude.{◌≡◌, ℕ, Bool, true, false, List, [], ◌∷◌, ◌++◌, take, slice_get, Option, Some, None, Result, Ok, Err}
+use Rattle.std.specs.List.{flat_map}
 use Rattle.pysource.specs.declared.places.Place.{Place}
 use Rattle.pysource.specs.Parts.{Parts}
 use Rattle.pylex.specs.Listing.{Source, listing}
 use Rattle.pylex.specs.Steps.{entries_of}
 use Rattle.pytree_node.specs.declared.profiles.Extent.{Extent}
-use Rattle.pytoken.specs.Terminals.{Terminal, terminal_of}
+use Rattle.pytoken.specs.Terminals.{Terminal, terminals_of}
 use Rattle.pytoken.specs.Tokens.{Token, Line, tokens_from, tokens, lines_from, lines}
 use Rattle.pytoken.specs.MatchHeaders.{is_match}
 use Rattle.pyparse_tokens.specs.declared.faults.ParseFault.{ParseFault}
@@ -33,14 +34,14 @@ abbrev pub first_start : List Token → Option Place
 first_start [] = None
 first_start (t ∷ ts) = Some t.start
 
--- what a token is to the grammar
-abbrev pub token_terminal : Token → Terminal
-token_terminal t = terminal_of t.kind t.text
+-- what a token is to the grammar: one terminal, but for an f-string
+abbrev pub token_terminals : Token → List Terminal
+token_terminals t = terminals_of t.kind t.text
 
 -- the line that is held is this one, which has a token
 pub record Holds (l : Line) (r : LineReading) : Type 0 where
   pub level : r.level ≡ l.level
-  pub terminals : r.terminals ≡ map token_terminal l.tokens
+  pub terminals : r.terminals ≡ flat_map token_terminals l.tokens
   pub start : first_start l.tokens ≡ Some r.start
   pub is_match : r.is_match ≡ is_match l.tokens
 

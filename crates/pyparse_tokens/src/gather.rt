@@ -29,7 +29,7 @@ pub(crate) fn text_of<'a>(source: &'a Source, entry: &Entry) -> &'a str
 }
 
 /// The refusal of an entry with a fault of its own in an extent of the language.
-fn entry_fault(
+pub(crate) fn entry_fault(
     alloc: Global,
     extent: Extent,
     source: &Source,

@@ -6,7 +6,6 @@ ghost use Rattle.std.specs.Prelude.{true, false, Some, length};
 ghost use Rattle.std.specs.Str.{chars, IsCharBoundary};
 ghost use Rattle.pylex.specs.Laws.{LiesIn, HasExact};
 ghost use Rattle.pytoken.specs.Refusals.{entry_refusal};
-ghost use Rattle.pytoken.specs.TerminalOf.{terminal};
 ghost use Rattle.pyparse_tokens.specs.Inner.Passing.{counted, kept_refusal, Passed};
 ghost use Rattle.pyparse_tokens.specs.Inner.LineGathering.{
   stands_in_line,
@@ -14,13 +13,11 @@ ghost use Rattle.pyparse_tokens.specs.Inner.LineGathering.{
   is_indent,
   is_dedent,
   ended_by,
-  of_first,
   marker_behind,
-  spell_match,
-  keeps_match,
   Adds,
   TakesEntry,
 };
+ghost use Rattle.pyparse_tokens.specs.Inner.OpenLines.{keeps_match};
 ghost use Rattle.pylex.specs.Spots.{is_silent};
 ghost use Rattle.pyparse_tokens.specs.Inner.Walking.{
   is_plain_token,
@@ -29,12 +26,13 @@ ghost use Rattle.pyparse_tokens.specs.Inner.Walking.{
   TakesLexeme,
 };
 
-use crate::gather::text_of;
+use crate::gather::{entry_fault, text_of};
+use crate::open_line::OpenLine;
 use crate::pass::Pass;
-use crate::room::put;
+use crate::tokens::Token;
 use pylex::{Class, Entry, Exact, Kind, Spot};
 use pysource::{Place, Source};
-use pytoken::{Refusal, Terminal, TerminalFault, terminal_of};
+use pytoken::{Refusal, Terminal, token_fault};
 use pytree_node::Extent;
 use std::alloc::{AllocError, Global};
 
@@ -52,26 +50,12 @@ fn ends_open_line(kind: Kind) -> bool
     matches!(kind, Kind::Newline | Kind::Dedent | Kind::EndMarker)
 }
 
-/// Whether the texts of a line's first and last token are those of the header of a `match`
-/// statement.
-fn spell_match(first: &str, last: &str) -> bool
-    ensures { result ≡ spell_match (chars first.now) (chars last.now) }
-{
-    first == "match" && last == ":"
-}
-
 /// What one pass over a listing has gathered of its lines after some of its entries.
 #[derive(Drop)]
 pub(crate) struct LineGather<'a> {
     pass: Pass,
-    /// What the tokens of the line are.
-    terminals: Vec<Terminal<'a>>,
-    /// Where the first of them starts.
-    start: Place,
-    /// The text of the first of them.
-    first: &'a str,
-    /// The text of the last of them.
-    last: &'a str,
+    /// The line that is open.
+    line: OpenLine<'a>,
     /// The levels above 0 that were open before the entry that ended the last line.
     level: usize,
     /// The INDENTs.
@@ -92,20 +76,17 @@ impl<'a> LineGather<'a> {
         requires { IsCharBoundary source.now.text 0 }
         ensures pass { IfOk result (λ made. Passed (chars source.now.text) [] made.pass) }
         ensures extent { IfOk result (λ made. made.pass.extent ≡ extent) }
-        ensures empty { IfOk result (λ made. made.terminals.items ≡ []) }
-        ensures start { IfOk result (λ made. made.start ≡ record { row = 1; column = 0 }) }
+        ensures empty { IfOk result (λ made. made.line.terminals.items ≡ []) }
+        ensures start { IfOk result (λ made. made.line.start ≡ record { row = 1; column = 0 }) }
         ensures level { IfOk result (λ made. made.level ≡ 0) }
         ensures indents { IfOk result (λ made. made.indents ≡ 0) }
         ensures dedents { IfOk result (λ made. made.dedents ≡ 0) }
-        ensures is_match { IfOk result (λ made. keeps_match made ≡ false) }
+        ensures is_match { IfOk result (λ made. keeps_match made.line ≡ false) }
         ensures marker { IfOk result (λ made. made.marker ≡ record { row = 1; column = 0 }) }
     {
         Ok(LineGather {
             pass: Pass::new(alloc, source, extent)?,
-            terminals: Vec::new(alloc),
-            start: Place { row: 1, column: 0 },
-            first: "",
-            last: "",
+            line: OpenLine::new(alloc),
             level: 0,
             indents: 0,
             dedents: 0,
@@ -115,40 +96,10 @@ impl<'a> LineGather<'a> {
 
     /// Lets go of the line's tokens. The room that they took is kept.
     pub(crate) fn clear(&mut self)
-        ensures rest { self.new ≡ record self.old { terminals = self.new.terminals } }
-        ensures empty { self.new.terminals.items ≡ [] }
+        ensures rest { self.new ≡ record self.old { line = self.new.line } }
+        ensures empty { self.new.line.terminals.items ≡ [] }
     {
-        self.terminals.clear();
-    }
-
-    /// Appends a token of the line.
-    #[inline(always)]
-    fn keep(
-        &mut self,
-        start: Place,
-        text: &'a str,
-        terminal: Terminal<'a>,
-    ) -> Result<(), AllocError>
-        ensures terminals { OnOk result
-            (self.new.terminals.items ≡ self.old.terminals.items ++ terminal.entry ∷ []) }
-        ensures start { self.new.start ≡ of_first self.old.terminals.items self.old.start start }
-        ensures first { chars self.new.first.now
-            ≡ of_first self.old.terminals.items (chars self.old.first.now) (chars text.now) }
-        ensures last { chars self.new.last.now ≡ chars text.now }
-        ensures rest { self.new
-            ≡ record self.old {
-              terminals = self.new.terminals;
-              start = self.new.start;
-              first = self.new.first;
-              last = self.new.last;
-            } }
-    {
-        if self.terminals.is_empty() {
-            self.start = start;
-            self.first = text;
-        }
-        self.last = text;
-        put(&mut self.terminals, terminal)
+        self.line.clear();
     }
 
     /// Takes what an entry adds to the line, or tells the fault that the entry has by itself.
@@ -166,30 +117,26 @@ impl<'a> LineGather<'a> {
             ≡ entry_refusal self.old.pass.extent (chars source.now.text) entry.now) }
         ensures line { OnOk result
             (entry_refusal self.old.pass.extent (chars source.now.text) entry.now ≡ None
-            → Adds (chars source.now.text) entry.now self.old self.new) }
-        ensures rest { self.new
-            ≡ record self.old {
-              terminals = self.new.terminals;
-              start = self.new.start;
-              first = self.new.first;
-              last = self.new.last;
-            } }
+            → Adds (chars source.now.text) entry.now self.old.line self.new.line) }
+        ensures rest { self.new ≡ record self.old { line = self.new.line } }
     {
         let text = text_of(source, entry);
         // An operator is known by the entry, and has no fault.
         if let Some(exact) = entry.exact {
-            self.keep(entry.start, text, Terminal::Op(exact))?;
+            self.line.push(entry.start, text, Terminal::Op(exact))?;
             return Ok(None);
         }
-        match terminal_of(alloc, self.pass.extent(), entry.kind, text) {
-            Err(TerminalFault::Memory) => Err(AllocError),
-            Err(TerminalFault::Token(error)) => Ok(Some(Refusal::Token(error, entry.start))),
-            Ok(terminal) => {
-                if stands_in_line(entry.kind) {
-                    self.keep(entry.start, text, terminal)?;
-                }
-                Ok(None)
-            }
+        if !stands_in_line(entry.kind) {
+            return entry_fault(alloc, self.pass.extent(), source, entry);
+        }
+        let token = Token {
+            kind: entry.kind,
+            start: entry.start,
+            text,
+        };
+        match self.line.push_token(alloc, self.pass.extent(), token)? {
+            Some(error) => Ok(Some(Refusal::Token(error, entry.start))),
+            None => Ok(None),
         }
     }
 
@@ -287,9 +234,9 @@ impl<'a> LineGather<'a> {
     /// Whether a line is open of which tokens are kept, and nothing is refused so far.
     pub(crate) fn has_tokens(&self) -> bool
         ensures begun { result ≡ true → self.now.pass.begun ≡ true }
-        ensures some { result ≡ true → 0 < length self.now.terminals.items }
+        ensures some { result ≡ true → 0 < length self.now.line.terminals.items }
     {
-        self.pass.has_begun() && !self.terminals.is_empty() && self.refusal().is_none()
+        self.pass.has_begun() && !self.line.is_empty() && self.refusal().is_none()
     }
 
     /// Takes a name, a number or a string of the line that is open: whether it has no fault by
@@ -297,23 +244,18 @@ impl<'a> LineGather<'a> {
     #[inline(always)]
     fn take_token(&mut self, alloc: Global, kind: Kind, text: &'a str) -> Result<bool, AllocError>
         requires begun { self.old.pass.begun ≡ true }
-        requires some { 0 < length self.old.terminals.items }
+        requires some { 0 < length self.old.line.terminals.items }
         requires kind { is_plain_token kind ≡ true }
         ensures taken { IfOk result (λ taken. taken ≡ true
             → Takes kind None (chars text.now) self.old self.new) }
         ensures kept { IfOk result (λ taken. taken ≡ false → self.new ≡ self.old) }
-        ensures some { OnOk result (0 < length self.new.terminals.items) }
+        ensures some { OnOk result (0 < length self.new.line.terminals.items) }
         ensures extent { self.new.pass.extent ≡ self.old.pass.extent }
     {
-        match terminal_of(alloc, self.pass.extent(), kind, text) {
-            Err(TerminalFault::Memory) => Err(AllocError),
-            Err(TerminalFault::Token(_)) => Ok(false),
-            Ok(terminal) => {
-                let start = self.start;
-                self.keep(start, text, terminal)?;
-                Ok(true)
-            }
-        }
+        let start = self.line.start();
+        let token = Token { kind, start, text };
+        let fault = self.line.push_token(alloc, self.pass.extent(), token)?;
+        Ok(fault.is_none())
     }
 
     /// Takes an operator of the line that is open: whether it opens no bracket too many. One that
@@ -321,20 +263,20 @@ impl<'a> LineGather<'a> {
     #[inline(always)]
     fn take_operator(&mut self, exact: Exact, text: &'a str) -> Result<bool, AllocError>
         requires begun { self.old.pass.begun ≡ true }
-        requires some { 0 < length self.old.terminals.items }
+        requires some { 0 < length self.old.line.terminals.items }
         requires opened { self.old.pass.opened < 2 ^ 63 }
         requires closed { self.old.pass.closed < 2 ^ 63 }
         ensures taken { IfOk result (λ taken. taken ≡ true
             → Takes Kind.Op (Some exact) (chars text.now) self.old self.new) }
         ensures kept { IfOk result (λ taken. taken ≡ false → self.new ≡ self.old) }
-        ensures some { OnOk result (0 < length self.new.terminals.items) }
+        ensures some { OnOk result (0 < length self.new.line.terminals.items) }
         ensures extent { self.new.pass.extent ≡ self.old.pass.extent }
     {
         if !self.pass.take_operator(exact) {
             return Ok(false);
         }
-        let start = self.start;
-        self.keep(start, text, Terminal::Op(exact))?;
+        let start = self.line.start();
+        self.line.push(start, text, Terminal::Op(exact))?;
         Ok(true)
     }
 
@@ -346,11 +288,8 @@ impl<'a> LineGather<'a> {
             → Takes Kind.Comment None (chars text.now) self.old self.new) }
         ensures same { self.new ≡ self.old }
     {
-        match terminal_of(alloc, self.pass.extent(), Kind::Comment, text) {
-            Err(TerminalFault::Memory) => Err(AllocError),
-            Err(TerminalFault::Token(_)) => Ok(false),
-            Ok(_) => Ok(true),
-        }
+        let fault = token_fault(alloc, self.pass.extent(), Kind::Comment, text)?;
+        Ok(fault.is_none())
     }
 
     /// Takes a line end in the line that is open, which ends at an offset, by whether the logical
@@ -361,7 +300,7 @@ impl<'a> LineGather<'a> {
         requires boundary { IsCharBoundary source.now.text to }
         ensures taken { OnOk result
             (TakesLineEnd (chars source.now.text) ends to self.old self.new) }
-        ensures same { self.new.terminals ≡ self.old.terminals }
+        ensures same { self.new.line ≡ self.old.line }
         ensures extent { self.new.pass.extent ≡ self.old.pass.extent }
     {
         if ends {
@@ -382,7 +321,7 @@ impl<'a> LineGather<'a> {
         to: Spot,
     ) -> Result<bool, AllocError>
         requires begun { self.old.pass.begun ≡ true }
-        requires some { 0 < length self.old.terminals.items }
+        requires some { 0 < length self.old.line.terminals.items }
         requires opened { self.old.pass.opened < 2 ^ 63 }
         requires closed { self.old.pass.closed < 2 ^ 63 }
         requires boundary { IsCharBoundary source.now.text to.offset }
@@ -390,7 +329,7 @@ impl<'a> LineGather<'a> {
         ensures taken { IfOk result (λ taken. taken ≡ true
             → TakesLexeme (chars source.now.text) class (chars text.now) to self.old self.new) }
         ensures kept { IfOk result (λ taken. taken ≡ false → self.new ≡ self.old) }
-        ensures some { OnOk result (0 < length self.new.terminals.items) }
+        ensures some { OnOk result (0 < length self.new.line.terminals.items) }
         ensures extent { self.new.pass.extent ≡ self.old.pass.extent }
     {
         match class {
@@ -415,23 +354,23 @@ impl<'a> LineGather<'a> {
 
     /// What the tokens of the line are.
     pub(crate) fn terminals(&self) -> &[Terminal<'a>]
-        ensures { result.now ≡ self.now.terminals.items }
+        ensures { result.now ≡ self.now.line.terminals.items }
     {
-        self.terminals.as_slice()
+        self.line.terminals()
     }
 
     /// Where the line starts.
     pub(crate) fn start(&self) -> Place
-        ensures { result ≡ self.now.start }
+        ensures { result ≡ self.now.line.start }
     {
-        self.start
+        self.line.start()
     }
 
     /// Whether it begins and ends as the header of a `match` statement does.
     pub(crate) fn is_match(&self) -> bool
-        ensures { result ≡ keeps_match self.now }
+        ensures { result ≡ keeps_match self.now.line }
     {
-        spell_match(self.first, self.last)
+        self.line.is_match()
     }
 
     /// Where ENDMARKER starts, once it was read.

@@ -168,7 +168,8 @@ impl<'a> LogicalLines<'a> {
     ///
     /// The room of the terminals is used again for each line. Besides, memory is taken only where
     /// an INDENT comes, for the widths of the lines' indentations, and, to find its fault, for a
-    /// name with characters past ASCII and, in the whole language, for a whole number from 2^128 on.
+    /// name with characters past ASCII and, in the whole language, for an f-string and for a whole
+    /// number from 2^128 on.
     ///
     /// # Errors
     ///

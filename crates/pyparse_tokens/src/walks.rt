@@ -29,7 +29,7 @@ fn walk<'a>(
     requires within { from.begun ≡ true }
     requires given { 0 < from.given }
     requires begun { gather.old.pass.begun ≡ true }
-    requires some { 0 < length gather.old.terminals.items }
+    requires some { 0 < length gather.old.line.terminals.items }
     ensures at { IfOk result
         (λ to. StandsAt source.now (at_spot source.now to lister.entry.now.shown.levels) gather.new) }
     ensures went { IfOk result

@@ -6,3 +6,5 @@ pub mod Said
 pub mod Bodies
 pub mod TextLemmas
 pub mod Numerals
+pub mod Reprs
+pub mod Singles

@@ -16,9 +16,10 @@ use Rattle.pytoken.specs.declared.meanings.Meaning.{Meaning}
 use Rattle.pytoken.specs.declared.meanings.Meaning.TheVariants.{Point}
 use Rattle.pytree_node.specs.declared.profiles.Extent.TheVariants.{Whole}
 use Rattle.pytoken.specs.Escapes.{meanings, meanings_after, points_in, escape_fault, is_named_escape, is_bad_escape}
+use Rattle.pytoken.specs.FormattedStrings.{is_fstring}
 use Rattle.pytoken.specs.StringValues.{with_line_feeds, prefix_len_of, inside, body_of, points_of, value_of, string_value, literal_fault}
 use Rattle.pytoken.specs.StringValues.{string_fault, nul_fault, is_bytes, is_unicode, is_raw, is_formatted}
-use Rattle.pytoken.specs.Terminals.{Terminal, Literal, terminal_of, fault_of}
+use Rattle.pytoken.specs.Terminals.{Terminal, Literal, terminal_of, single_fault}
 use Rattle.pytree_node.specs.Points.{IsPoint}
 use Rattle.pytoken.proofs.ReadBack.{IsMark, Fits, Begins, begins, written, all_read_back, all_pass, written_begins}
 
@@ -188,8 +189,8 @@ literal_sound test bytes u q t cs mark fit o low none =
 
 sound_back : (test : ℕ → Bool) (bytes u : Bool) (q : ℕ) (t cs : List ℕ) → IsMark q → All (Fits bytes) cs → Opened bytes u t (between test q cs)
     → list_any (λ c. c == 13) t ≡ false → (bytes && list_any (nat_lt 0x7F) t) ≡ false → list_any (λ c. c == 0) t ≡ false →
-    fault_of Whole kinds.String t ≡ None
-unfolding fault_of string_fault
+    single_fault Whole kinds.String t ≡ None
+unfolding single_fault string_fault
 sound_back test bytes u q t cs mark fit o whole low none =
     ap literal_fault (kept_whole t whole) ∙ literal_sound test bytes u q t cs mark fit o low none
 
@@ -201,10 +202,15 @@ bytes_fit bs small k d within = let h = small k d within in record { most = omeg
 
 -- What each says
 
--- a token of this type and text is this terminal, and has no fault by itself in the whole language
+-- a token of this type and text is this one terminal, and has no fault by itself in the whole language
 pub record Stands (k : Kind) (t : List ℕ) (x : Terminal) : Type 0 where
   pub terminal : terminal_of k t ≡ x
-  pub faultless : fault_of Whole k t ≡ None
+  pub single : is_fstring k t ≡ false
+  pub faultless : single_fault Whole k t ≡ None
+
+unformatted : (test : ℕ → Bool) (bytes u : Bool) (q : ℕ) (t cs : List ℕ) → Opened bytes u t (between test q cs) → list_any (λ c. c == 13) t ≡ false →
+    is_fstring kinds.String t ≡ false
+unformatted test bytes u q t cs o whole = ap is_formatted (kept_whole t whole) ∙ o.formatted
 
 pub text_stands : (points : List ℕ) → All IsPoint points → Stands kinds.String (repr_chars points) (Literal (Str points false))
 text_stands points most =
@@ -214,6 +220,7 @@ text_stands points most =
     let o = text_opened q (flat_map (escaped is_unprintable q) points ++ q ∷ []) mark in
     record {
       terminal = string_back is_unprintable false false q (repr_chars points) points mark fit o (no_return is_unprintable q points mark);
+      single = unformatted is_unprintable false false q (repr_chars points) points o (no_return is_unprintable q points mark);
       faultless = sound_back is_unprintable false false q (repr_chars points) points mark fit o (no_return is_unprintable q points mark) refl
           (no_nul is_unprintable q points mark nul_shown);
     }
@@ -226,6 +233,7 @@ unicode_stands points most =
     let o = u_opened q (flat_map (escaped is_unprintable q) points ++ q ∷ []) mark in
     record {
       terminal = string_back is_unprintable false true q (117 ∷ repr_chars points) points mark fit o (no_return is_unprintable q points mark);
+      single = unformatted is_unprintable false true q (117 ∷ repr_chars points) points o (no_return is_unprintable q points mark);
       faultless = sound_back is_unprintable false true q (117 ∷ repr_chars points) points mark fit o (no_return is_unprintable q points mark) refl
           (no_nul is_unprintable q points mark nul_shown);
     }
@@ -238,6 +246,7 @@ bytes_stand bs small =
     let o = bytes_opened q (flat_map (escaped is_unprintable_byte q) bs ++ q ∷ []) mark in
     record {
       terminal = string_back is_unprintable_byte true false q (repr_bytes bs) bs mark fit o (no_return is_unprintable_byte q bs mark);
+      single = unformatted is_unprintable_byte true false q (repr_bytes bs) bs o (no_return is_unprintable_byte q bs mark);
       faultless = sound_back is_unprintable_byte true false q (repr_bytes bs) bs mark fit o (no_return is_unprintable_byte q bs mark)
           (no_high q bs mark) (no_nul is_unprintable_byte q bs mark refl);
     }

@@ -1,8 +1,9 @@
 -- On: a source is refused in the plain language for its tokens where it is in the whole one, and for
--- its numbers.
+-- its numbers and f-strings.
 --
 -- Carries: extents_differ_in_numbers, for Said.
-use Rattle.std.proofs.Common.{◌≡◌, ℕ, Bool, List, [], ◌∷◌, ◌++◌, refl, Option, None}
+use Rattle.std.proofs.Common.{◌≡◌, ◌⊎◌, inl, inr, ℕ, Bool, List, [], ◌∷◌, ◌++◌, refl, sym, ◌∙◌, Option, None}
+use Rattle.std.proofs.lemmas.Bool.{cases_Bool}
 use Rattle.std.specs.Prelude.{All}
 use Rattle.std.specs.Str.{encode_utf8_all}
 use Rattle.std.specs.Option.{option_or}
@@ -16,22 +17,27 @@ use Rattle.pylex.specs.Listing.{Source, listing}
 use Rattle.pylex.specs.Steps.{entries_of}
 use Rattle.pylex.specs.Steps.{fault_of as listing_fault}
 use Rattle.pytree_node.specs.declared.profiles.Extent.TheVariants.{Plain, Whole}
-use Rattle.pytoken.specs.Terminals.{fault_of}
+use Rattle.pytoken.specs.FormattedStrings.{is_fstring}
+use Rattle.pytoken.specs.Terminals.{single_fault, fault_by, fault_of}
 use Rattle.pytoken.specs.Tokens.{Token, text_of, is_open, tokens_of_entry, tokens_from, tokens}
 use Rattle.pytoken.specs.Indentation.{margins}
 use Rattle.pytoken.specs.Refusals.{most_brackets, entry_refusal, first_entry_refusal, first_too_deep, first_mixed, refusal_of, refusal_at}
 use Rattle.pytoken.specs.Laws.{ExtentsDifferInNumbers}
 use Rattle.pytoken.proofs.NumberKinds.{whole_faultless}
+use Rattle.pytoken.proofs.SingleLemmas.{of_single, plain_formatted}
 use Rattle.pytoken.proofs.EntryTokens.{of_entry, none_parts, none_from, no_fault, not_faulty, not_refused, as_refused}
 
 -- The fault of a token or of another entry
 
 -- what has no fault in the plain language has none in the whole one
 pub plain_is_whole : (k : Kind) (t : List ℕ) → fault_of Plain k t ≡ None → fault_of Whole k t ≡ None
-unfolding fault_of
+unfolding single_fault fault_by fault_of
 plain_is_whole kinds.Number t none = whole_faultless Plain (encode_utf8_all t) none
 plain_is_whole kinds.Name t none = none
-plain_is_whole kinds.String t none = none
+plain_is_whole kinds.String t none = elim (cases_Bool (is_fstring kinds.String t)) [
+  | inl formatted ↦ absurd (let e = plain_formatted kinds.String t formatted in cc)
+  | inr other ↦ of_single Whole kinds.String t other ∙ sym (of_single Plain kinds.String t other) ∙ none
+]
 plain_is_whole kinds.Comment t none = none
 plain_is_whole kinds.Encoding t none = none
 plain_is_whole kinds.Op t none = none
@@ -41,20 +47,24 @@ plain_is_whole kinds.Indent t none = none
 plain_is_whole kinds.Dedent t none = none
 plain_is_whole kinds.EndMarker t none = none
 
--- the fault of what is no number is the same in both
-whole_is_plain : (k : Kind) (t : List ℕ) → (k ≡ kinds.Number → fault_of Plain k t ≡ None) → fault_of Whole k t ≡ None → fault_of Plain k t ≡ None
-unfolding fault_of
-whole_is_plain kinds.Number t number none = number refl
-whole_is_plain kinds.Name t number none = none
-whole_is_plain kinds.String t number none = none
-whole_is_plain kinds.Comment t number none = none
-whole_is_plain kinds.Encoding t number none = none
-whole_is_plain kinds.Op t number none = none
-whole_is_plain kinds.Nl t number none = none
-whole_is_plain kinds.Newline t number none = none
-whole_is_plain kinds.Indent t number none = none
-whole_is_plain kinds.Dedent t number none = none
-whole_is_plain kinds.EndMarker t number none = none
+-- a type whose tokens are literals
+abbrev IsLiteral : Kind → Type 0
+IsLiteral k = (k ≡ kinds.Number) ⊎ (k ≡ kinds.String)
+
+-- the fault of what is no literal is the same in both
+whole_is_plain : (k : Kind) (t : List ℕ) → (IsLiteral k → fault_of Plain k t ≡ None) → fault_of Whole k t ≡ None → fault_of Plain k t ≡ None
+unfolding single_fault fault_by fault_of
+whole_is_plain kinds.Number t literal none = literal (inl refl)
+whole_is_plain kinds.Name t literal none = none
+whole_is_plain kinds.String t literal none = literal (inr refl)
+whole_is_plain kinds.Comment t literal none = none
+whole_is_plain kinds.Encoding t literal none = none
+whole_is_plain kinds.Op t literal none = none
+whole_is_plain kinds.Nl t literal none = none
+whole_is_plain kinds.Newline t literal none = none
+whole_is_plain kinds.Indent t literal none = none
+whole_is_plain kinds.Dedent t literal none = none
+whole_is_plain kinds.EndMarker t literal none = none
 
 abbrev IsPlain : Kind → List ℕ → Type 0
 IsPlain k t = fault_of Plain k t ≡ None
@@ -63,30 +73,39 @@ abbrev Faultless : Token → Type 0
 Faultless t = IsPlain t.kind t.text
 
 supplied_faultless : IsPlain kinds.Newline []
-unfolding fault_of
+unfolding single_fault fault_of
 supplied_faultless = refl
 
 abbrev entry : Kind → Option Exact → Place → Place → ℕ → ℕ → Entry
 entry k x p q f t = record { kind = k; exact = x; start = p; «end» = q; «from» = f; to = t }
 
--- a number gives its token
-number_token : (text : List ℕ) (b : Bool) (e : Entry) → All Faultless (tokens_of_entry text b e) → e.kind ≡ kinds.Number
+-- a literal gives its token
+literal_token : (text : List ℕ) (b : Bool) (e : Entry) → All Faultless (tokens_of_entry text b e) → IsLiteral e.kind
     → IsPlain e.kind (text_of text e)
-number_token text b e all is = by_kind e.kind e.exact e.start e.«end» e.«from» e.to all is
+literal_token text b e all is = by_kind e.kind e.exact e.start e.«end» e.«from» e.to all is
   where
-    by_kind : (k : Kind) (x : Option Exact) (p q : Place) (f t : ℕ) → All Faultless (tokens_of_entry text b (entry k x p q f t)) → k ≡ kinds.Number
+    by_kind : (k : Kind) (x : Option Exact) (p q : Place) (f t : ℕ) → All Faultless (tokens_of_entry text b (entry k x p q f t)) → IsLiteral k
         → IsPlain k (text_of text (entry k x p q f t))
     by_kind kinds.Number x p q f t all is = All-head Faultless _ [] all
-    by_kind kinds.Name x p q f t all is = absurd cc
-    by_kind kinds.String x p q f t all is = absurd cc
-    by_kind kinds.Comment x p q f t all is = absurd cc
-    by_kind kinds.Encoding x p q f t all is = absurd cc
-    by_kind kinds.Op x p q f t all is = absurd cc
-    by_kind kinds.Nl x p q f t all is = absurd cc
-    by_kind kinds.Newline x p q f t all is = absurd cc
-    by_kind kinds.Indent x p q f t all is = absurd cc
-    by_kind kinds.Dedent x p q f t all is = absurd cc
-    by_kind kinds.EndMarker x p q f t all is = absurd cc
+    by_kind kinds.Name x p q f t all (inl is) = absurd cc
+    by_kind kinds.Name x p q f t all (inr is) = absurd cc
+    by_kind kinds.String x p q f t all is = All-head Faultless _ [] all
+    by_kind kinds.Comment x p q f t all (inl is) = absurd cc
+    by_kind kinds.Comment x p q f t all (inr is) = absurd cc
+    by_kind kinds.Encoding x p q f t all (inl is) = absurd cc
+    by_kind kinds.Encoding x p q f t all (inr is) = absurd cc
+    by_kind kinds.Op x p q f t all (inl is) = absurd cc
+    by_kind kinds.Op x p q f t all (inr is) = absurd cc
+    by_kind kinds.Nl x p q f t all (inl is) = absurd cc
+    by_kind kinds.Nl x p q f t all (inr is) = absurd cc
+    by_kind kinds.Newline x p q f t all (inl is) = absurd cc
+    by_kind kinds.Newline x p q f t all (inr is) = absurd cc
+    by_kind kinds.Indent x p q f t all (inl is) = absurd cc
+    by_kind kinds.Indent x p q f t all (inr is) = absurd cc
+    by_kind kinds.Dedent x p q f t all (inl is) = absurd cc
+    by_kind kinds.Dedent x p q f t all (inr is) = absurd cc
+    by_kind kinds.EndMarker x p q f t all (inl is) = absurd cc
+    by_kind kinds.EndMarker x p q f t all (inr is) = absurd cc
 
 -- The entries of a source
 
@@ -129,7 +148,7 @@ also_plain text before (e ∷ es) none all =
     let others = tokens_from text (e ∷ before) es in
     let parts = none_parts (entry_refusal Whole text e) (first_entry_refusal Whole text es) none in
     let whole = no_fault (fault_of Whole e.kind (text_of text e)) e.start parts.0 in
-    let plain = whole_is_plain e.kind (text_of text e) (number_token text (is_open before) e (All_front own others all)) whole in
+    let plain = whole_is_plain e.kind (text_of text e) (literal_token text (is_open before) e (All_front own others all)) whole in
     none_from (entry_refusal Plain text e) (first_entry_refusal Plain text es)
     (not_faulty (fault_of Plain e.kind (text_of text e)) e.start plain) (also_plain text (e ∷ before) es parts.1 (All_behind own others all))
 

@@ -1,5 +1,7 @@
 pub mod Callers
 mod Computing
+mod SingleLemmas
+mod FormattedRows
 mod ReadBack
 mod Constants
 mod Lexing

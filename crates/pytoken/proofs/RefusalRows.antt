@@ -10,7 +10,7 @@ use Rattle.pytree_node.specs.declared.profiles.Extent.TheVariants.{Plain, Whole}
 use Rattle.pytoken.specs.declared.faults.TokenError.TheVariants as errors
 use Rattle.pytoken.specs.declared.refusals.Refusal.TheVariants as refusals
 use Rattle.pytoken.specs.Refusals.{refusal_at}
-use Rattle.pytoken.proofs.Computing.{sources, values}
+use Rattle.pytoken.proofs.Computing.{sources, values, formatted}
 
 abbrev source : List ℕ → Source
 source t = record { encoding = []; text = t; fault = None }
@@ -147,8 +147,8 @@ unfolding sources values refusal_at
 whole_numbers = refl
 
 -- f'' + 1j\n
-whole_formatted : refusal_at Whole 2 (source (codes "f'' + 1j\n")) ≡ Some (refusals.Token errors.FString (at 1 0))
-unfolding sources values refusal_at
+whole_formatted : refusal_at Whole 2 (source (codes "f'' + 1j\n")) ≡ None
+unfolding sources formatted refusal_at
 whole_formatted = refl
 
 -- ([{1.5\n}])\n

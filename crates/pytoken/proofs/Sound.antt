@@ -36,7 +36,7 @@ use Rattle.pylex.specs.Steps.{entries_of, mark, fault_at}
 use Rattle.pylex.specs.Steps.{fault_of as listing_fault}
 use Rattle.pylex.specs.Laws.{LongestWins, AreLexemes, IsLawful}
 use Rattle.pytree_node.specs.declared.profiles.Extent.TheVariants.{Whole}
-use Rattle.pytoken.specs.Terminals.{fault_of, is_of, IsSound}
+use Rattle.pytoken.specs.Terminals.{single_fault, fault_by, fault_of, is_of, IsSound}
 use Rattle.pytoken.specs.Tokens.{Token, text_of, is_open, tokens_of_entry, tokens_from, tokens}
 use Rattle.pytoken.specs.Indentation.{margins}
 use Rattle.pytoken.specs.Refusals.{most_brackets, entry_refusal, first_entry_refusal, first_too_deep, first_mixed, refusal_of, refusal_at}
@@ -301,7 +301,7 @@ entries_are text (steps.Fault f ∷ ss) h = entries_are text ss h.1
 -- where nothing is refused, its tokens are sound
 
 supplied_sound : IsSound kinds.Newline []
-unfolding fault_of
+unfolding single_fault fault_by fault_of
 supplied_sound = record { of_kind = refl; faultless = refl }
 
 abbrev Sound : Token → Type 0

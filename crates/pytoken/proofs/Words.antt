@@ -28,7 +28,8 @@ use Rattle.pytoken.specs.declared.keywords.Keyword.TheVariants as words
 use Rattle.pytoken.specs.declared.faults.TokenError.TheVariants.{NameForm}
 use Rattle.pytoken.specs.Keywords.{keywords, keyword_of, spelling_of}
 use Rattle.pytoken.specs.NameValues.{is_unfit, form_fault, name_fault}
-use Rattle.pytoken.specs.Terminals.{Terminal, Word, Ident, in_form, terminal_of, fault_of, is_of, Gives}
+use Rattle.pytoken.proofs.SingleLemmas.{of_single}
+use Rattle.pytoken.specs.Terminals.{Terminal, Word, Ident, in_form, terminal_of, single_fault, is_of, Gives}
 use Rattle.pytoken.specs.Laws.{IsProper, ComeBack, NamesAreProper}
 use Rattle.pytoken.proofs.Constants.{Stands, quote_mark, text_stands, unicode_stands, bytes_stand}
 use Rattle.pytoken.proofs.Lexing.{text_is_string, u_text_is_string, bytes_are_string}
@@ -195,8 +196,8 @@ word_form k =
 own_form : (t : List ℕ) → nfkc t ≡ t → is_in_form Nfkc t ≡ true
 own_form t form = (bytes_eq-Decides (nfkc t) t).1 form
 
-name_sound : (t : List ℕ) → nfkc t ≡ t → fault_of Whole kinds.Name t ≡ None
-unfolding fault_of name_fault
+name_sound : (t : List ℕ) → nfkc t ≡ t → single_fault Whole kinds.Name t ≡ None
+unfolding single_fault name_fault
 name_sound t form = let same = own_form t form in rw same refl
 
 name_is : (t : List ℕ) → nfkc t ≡ t → keyword_of t ≡ None → terminal_of kinds.Name t ≡ in_form t
@@ -280,7 +281,8 @@ characters_back points most = chars-encodes (repr_chars points) (repr_scalars po
 -- All of it
 
 gives : (k : Kind) (t : List ℕ) (x : Terminal) → Stands k t x → is_of k t ≡ true → Gives k t x
-gives k t x stands own = record { terminal = stands.terminal; sound = record { of_kind = own; faultless = stands.faultless } }
+gives k t x stands own =
+    record { single = stands.single; terminal = stands.terminal; sound = record { of_kind = own; faultless = of_single Whole k t stands.single ∙ stands.faultless } }
 
 -- all that the text of a tree writes for names and constants comes back
 pub come_back : ComeBack
@@ -291,7 +293,7 @@ come_back = record {
   text = λ points most. gives kinds.String _ _ (text_stands points most) (text_is_string points);
   unicode = λ points most. gives kinds.String _ _ (unicode_stands points most) (u_text_is_string points);
   bytes = λ bs small. gives kinds.String _ _ (bytes_stand bs small) (bytes_are_string bs);
-  name = λ t own. gives kinds.Name _ _ (record { terminal = name_is t own.form own.free; faultless = name_sound t own.form }) own.name;
-  keyword = λ k. gives kinds.Name _ _ (record { terminal = word_is k; faultless = name_sound (spelling_of k) (word_form k) }) (word_named k);
+  name = λ t own. gives kinds.Name _ _ (record { terminal = name_is t own.form own.free; single = refl; faultless = name_sound t own.form }) own.name;
+  keyword = λ k. gives kinds.Name _ _ (record { terminal = word_is k; single = refl; faultless = name_sound (spelling_of k) (word_form k) }) (word_named k);
   characters = characters_back;
 }

@@ -11,3 +11,11 @@ mod PlainLemmas
 mod CalmLemmas
 mod FaultLemmas
 mod TerminalLemmas
+mod PushLemmas
+mod EscapeFaults
+mod FieldLemmas
+mod Faulting
+mod FormattedLemmas
+mod BodyLemmas
+mod ElementLemmas
+mod PieceLemmas

@@ -102,6 +102,7 @@ pub record AreLawful : Type 0 where
 abbrev pub TokensAreSound : Source → Type 0
 TokensAreSound s = all_scalars s.text ≡ true → refusal Whole s ≡ None → All (λ (t : Token). IsSound t.kind t.text) (tokens s)
 
--- A source is refused in the plain language for its tokens exactly where it is in the whole one, or where a number has no value in the plain language.
+-- A source is refused in the plain language for its tokens exactly where it is in the whole one, or where a literal is none in the plain language: a
+-- number, or an f-string.
 abbrev pub ExtentsDifferInNumbers : Source → Type 0
 ExtentsDifferInNumbers s = (refusal Plain s ≡ None) ↔ ((refusal Whole s ≡ None) × All (λ (t : Token). fault_of Plain t.kind t.text ≡ None) (tokens s))

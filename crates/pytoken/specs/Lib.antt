@@ -5,6 +5,7 @@ pub mod Numerals
 pub mod Escapes
 pub mod StringValues
 pub mod NameValues
+pub mod FormattedStrings
 pub mod Terminals
 pub mod Tokens
 pub mod SourceTokens

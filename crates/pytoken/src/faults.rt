@@ -8,7 +8,9 @@ pub enum TokenError {
     Float,
     /// An imaginary number, one that ends in `j`: a fault in the plain language alone.
     Complex,
-    /// An f-string.
+    /// An f-string in the plain language; in the whole one a malformed f-string: one without a cut into
+    /// texts and fields, or with a field whose expression has no tokens or one with a fault, or a
+    /// string with a quote or a line feed between its quotes.
     FString,
     /// A whole number from 2^128 on in the plain language, from 10^4300 on in the whole one.
     IntegerTooLarge,

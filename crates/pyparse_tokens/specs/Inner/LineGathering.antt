@@ -1,6 +1,7 @@
 -- What one pass over a listing gathers of its lines behind some entries.
-use Rattle.std.specs.Prelude.{◌≡◌, ℕ, ◌+◌, ◌-◌, ◌<◌, ◌≤◌, ◌&&◌, Bool, true, false, List, [], ◌∷◌, ◌++◌, length, take, map, count_by, slice_get, Option, Some, None, if◌then◌else◌}
-use Rattle.std.specs.Str.{chars, bytes_eq}
+use Rattle.std.specs.Prelude.{◌≡◌, ℕ, ◌+◌, ◌-◌, ◌<◌, ◌≤◌, ◌&&◌, Bool, true, false, List, [], ◌∷◌, ◌++◌, length, take, map, count_by, slice_get, Some, None, if◌then◌else◌}
+use Rattle.std.specs.List.{flat_map}
+use Rattle.std.specs.Str.{chars}
 use Rattle.pysource.specs.declared.places.Place.{Place}
 use Rattle.pysource.specs.Parts.{Parts}
 use Rattle.pylex.specs.declared.kind.Kind.{Kind}
@@ -12,15 +13,16 @@ use Rattle.pylex.specs.Laws.{IsWhole, AllLie, HaveExact}
 use Rattle.pylex.specs.Steps.{most_entries, entries_of}
 use Rattle.pytoken.specs.Inner.Behind.{behind}
 use Rattle.pytoken.specs.Terminals
-use Rattle.pytoken.specs.Terminals.{terminal_of}
+use Rattle.pytoken.specs.Terminals.{terminals_of}
 use Rattle.pytoken.specs.Tokens.{Token, Line, text_of, tokens_from, lines_from, lines}
 use Rattle.pytoken.specs.Refusals.{entry_refusal}
 use Rattle.pytoken.specs.MatchHeaders.{is_match}
 use Rattle.pytoken.specs.TerminalOf.{terminal}
-use Rattle.pytoken.specs.declared.values.terminals.Terminal.{Terminal}
 use Rattle.pyparse_tokens.specs.declared.line_gather.LineGather.{LineGather}
-use Rattle.pyparse_tokens.specs.LineReadings.{first_start, token_terminal, lines_within}
+use Rattle.pyparse_tokens.specs.declared.open_line.OpenLine.{OpenLine}
+use Rattle.pyparse_tokens.specs.LineReadings.{first_start, token_terminals, lines_within}
 use Rattle.pyparse_tokens.specs.Inner.Passing.{counted, Gains, Passed}
+use Rattle.pyparse_tokens.specs.Inner.OpenLines.{of_first, keeps_match}
 
 -- a token of this type stands in a line
 abbrev pub stands_in_line : Kind → Bool
@@ -42,27 +44,14 @@ ended_by e begun = ends_open_line e.kind && begun
 
 -- what an entry adds to the line that is open
 abbrev pub own_terminals : List ℕ → Entry → List Terminals.Terminal
-own_terminals text e = if stands_in_line e.kind then terminal_of e.kind (text_of text e) ∷ [] else []
-
--- what a line begins with, behind one token more that has this, by the terminals before
-abbrev pub of_first : {A : Type 0} → List Terminal → A → A → A
-of_first [] p q = q
-of_first (t ∷ ts) p q = p
+own_terminals text e = if stands_in_line e.kind then terminals_of e.kind (text_of text e) else []
 
 -- where ENDMARKER starts, behind an entry that may be it
 abbrev pub marker_behind : Entry → Place → Place
 marker_behind e p = elim e.kind [ kinds.EndMarker ↦ e.start | _ ↦ p ]
 
--- the texts of a line's first and last token are those of the header of a `match` statement
-abbrev pub spell_match : (first last : List ℕ) → Bool
-spell_match first last = bytes_eq first (109 ∷ 97 ∷ 116 ∷ 99 ∷ 104 ∷ []) && bytes_eq last (58 ∷ [])
-
--- those that are kept are
-abbrev pub keeps_match : LineGather → Bool
-keeps_match g = spell_match (chars g.first.now) (chars g.last.now)
-
 -- what an entry without a fault of its own adds to the line that is open
-pub record Adds (text : List ℕ) (e : Entry) (old new : LineGather) : Type 0 where
+pub record Adds (text : List ℕ) (e : Entry) (old new : OpenLine) : Type 0 where
   pub terminals : map terminal new.terminals.items ≡ map terminal old.terminals.items ++ own_terminals text e
   pub start : new.start ≡ (if stands_in_line e.kind then of_first old.terminals.items old.start e.start else old.start)
   pub first : chars new.first.now ≡ (if stands_in_line e.kind then of_first old.terminals.items (chars old.first.now) (text_of text e) else chars old.first.now)
@@ -75,7 +64,7 @@ pub record TakesEntry (text : List ℕ) (e : Entry) (old new : LineGather) : Typ
   pub indents : new.indents ≡ counted old.indents (is_indent e.kind)
   pub dedents : new.dedents ≡ counted old.dedents (is_dedent e.kind)
   pub marker : new.marker ≡ marker_behind e old.marker
-  pub line : entry_refusal old.pass.extent text e ≡ None → Adds text e old new
+  pub line : entry_refusal old.pass.extent text e ≡ None → Adds text e old.line new.line
 
 -- the tokens of the line that is open behind some tokens
 abbrev pub line_behind : List Token → List Token → List Token
@@ -108,23 +97,6 @@ pub record Counts (text : List ℕ) (es : List Entry) (g : LineGather) : Type 0 
   pub some : g.pass.begun ≡ true → 0 < length (front_line text es)
   pub marker : (before : List Entry) (e : Entry) → es ≡ before ++ e ∷ [] → e.kind ≡ kinds.EndMarker → g.marker ≡ e.start
 
--- the text of the first and of the last token of a line
-abbrev pub first_text : List Token → Option (List ℕ)
-first_text [] = None
-first_text (t ∷ ts) = Some t.text
-
-abbrev pub last_text : List Token → Option (List ℕ)
-last_text [] = None
-last_text (t ∷ []) = Some t.text
-last_text (t ∷ ts) = last_text ts
-
--- what is kept of the line that is open
-pub record KeepsLine (line : List Token) (g : LineGather) : Type 0 where
-  pub terminals : map terminal g.terminals.items ≡ map token_terminal line
-  pub start : (p : Place) → first_start line ≡ Some p → g.start ≡ p
-  pub first : (t : List ℕ) → first_text line ≡ Some t → chars g.first.now ≡ t
-  pub last : (t : List ℕ) → last_text line ≡ Some t → chars g.last.now ≡ t
-
 -- a lister and what is gathered stand behind the same entries of a source
 pub record StandsAt (p : Parts) (l : Listed) (g : LineGather) : Type 0 where
   pub source : l.source ≡ p
@@ -152,6 +124,6 @@ pub record ReadsLine (p : Parts) (old new : Listed) (g : LineGather) : Type 0 wh
   pub line : Line
   pub stands : slice_get (lines (in_characters p)) (lines_given p old) ≡ Some line
   pub level : g.level ≡ line.level
-  pub terminals : map terminal g.terminals.items ≡ map token_terminal line.tokens
-  pub start : first_start line.tokens ≡ Some g.start
-  pub is_match : keeps_match g ≡ is_match line.tokens
+  pub terminals : map terminal g.line.terminals.items ≡ flat_map token_terminals line.tokens
+  pub start : first_start line.tokens ≡ Some g.line.start
+  pub is_match : keeps_match g.line ≡ is_match line.tokens

@@ -10,7 +10,8 @@ use Rattle.pyparse_tokens.specs.declared.faults.ParseFault.{ParseFault}
 use Rattle.pyparse_tokens.specs.declared.logical_lines.LogicalLines.TheInside.{Inside}
 use Rattle.pyparse_tokens.specs.Answers.{Tells}
 use Rattle.pyparse_tokens.specs.LineReadings.{LineReading, EndsAt}
-use Rattle.pyparse_tokens.specs.Inner.LineGathering.{keeps_match, StandsBetween, lines_given}
+use Rattle.pyparse_tokens.specs.Inner.OpenLines.{keeps_match}
+use Rattle.pyparse_tokens.specs.Inner.LineGathering.{StandsBetween, lines_given}
 
 -- what a reader shows
 abbrev pub reading : Inside → LineReading
@@ -19,9 +20,9 @@ reading l = record {
   extent = l.gather.pass.extent;
   given = lines_given l.source.now l.lister;
   level = l.gather.level;
-  start = l.gather.start;
-  terminals = map terminal l.gather.terminals.items;
-  is_match = keeps_match l.gather;
+  start = l.gather.line.start;
+  terminals = map terminal l.gather.line.terminals.items;
+  is_match = keeps_match l.gather.line;
   marker = l.gather.marker;
   outcome = l.outcome;
 }

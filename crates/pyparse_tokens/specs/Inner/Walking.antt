@@ -20,7 +20,8 @@ use Rattle.pyparse_tokens.specs.declared.pass.Pass.{Pass}
 use Rattle.pyparse_tokens.specs.declared.line_gather.LineGather.{LineGather}
 use Rattle.pyparse_tokens.specs.LineReadings.{lines_within}
 use Rattle.pyparse_tokens.specs.Inner.Passing.{counted, kept_refusal, Gains}
-use Rattle.pyparse_tokens.specs.Inner.LineGathering.{front_line, TakesEntry, KeepsLine, StandsAt, ReadsLine}
+use Rattle.pyparse_tokens.specs.Inner.OpenLines.{KeepsLine}
+use Rattle.pyparse_tokens.specs.Inner.LineGathering.{front_line, TakesEntry, StandsAt, ReadsLine}
 
 -- an entry of a text has this type, this exact type and this text of its own
 pub record IsEntry (text : List ℕ) (k : Kind) (x : Option Exact) (own : List ℕ) (e : Entry) : Type 0 where
@@ -61,7 +62,8 @@ PassesLineEnd text ends to old new = (e : Entry) → e.kind ≡ line_end_kind en
 -- what was read since a lister stood somewhere: of the line that is open then
 pub record Reads (p : Parts) (first now : Listed) (g : LineGather) : Type 0 where
   pub at : StandsAt p now g
-  pub keeps : kept_refusal g.pass ≡ None → KeepsLine (front_line (chars p.text) (take now.shown.given (entries_of (listing (in_characters p))))) g
+  pub keeps : kept_refusal g.pass ≡ None
+      → KeepsLine (front_line (chars p.text) (take now.shown.given (entries_of (listing (in_characters p))))) g.line
   pub same : kept_refusal g.pass ≡ None → lines_within (in_characters p) now.shown.given ≡ lines_within (in_characters p) first.shown.given
 
 -- and where a line has ended since then
@@ -82,6 +84,6 @@ pub record Walks (p : Parts) (levels : List ℕ) (s t : Spot) (old new : LineGat
   pub within : t.begun ≡ true
   pub begun : new.pass.begun ≡ true
   pub extent : new.pass.extent ≡ old.pass.extent
-  pub some : 0 < length new.terminals.items
+  pub some : 0 < length new.line.terminals.items
   pub given : s.given ≤ t.given
   pub left_is : left ≡ drop t.offset p.text

@@ -1,6 +1,6 @@
 -- The texts that are written for numbers stand for them, and have no fault in the whole language.
 -- Carries: come_back. On: Lexemes, NumberKinds.
-use Rattle.std.proofs.Common.{◌≡◌, ℕ, ◌^◌, ◌<◌, List, ap, ◌∙◌, arith, None}
+use Rattle.std.proofs.Common.{◌≡◌, ℕ, ◌^◌, ◌<◌, List, ap, ◌∙◌, refl, arith, None}
 use Rattle.std.specs.Float.Ieee.{Float}
 use Rattle.std.specs.Str.{IsAscii}
 use Rattle.std.proofs.lemmas.Bool.{lt-leb}
@@ -15,7 +15,7 @@ use Rattle.pytree_node.specs.Values as value
 use Rattle.pytree_node.specs.Values.{Value}
 use Rattle.pytree_node.specs.declared.profiles.Extent.TheVariants.{Whole}
 use Rattle.pytoken.specs.NumberValues.{whole_value, number_value, number_fault}
-use Rattle.pytoken.specs.Terminals.{Number, terminal_of, fault_of}
+use Rattle.pytoken.specs.Terminals.{Number, terminal_of, single_fault}
 use Rattle.pytoken.proofs.Constants.{Stands}
 use Rattle.pytoken.proofs.NumberKinds.{fault_complex, fault_real, fault_none, value_complex, value_real, value_whole}
 use Rattle.pytoken.proofs.Numerals.Lexemes.{IsNumeral, float_lexeme, imaginary_lexeme, whole_lexeme, float_numeral, imaginary_numeral, whole_numeral}
@@ -26,12 +26,12 @@ is_value : (t : List ℕ) (v : Value) → IsAscii t → number_value t ≡ v →
 unfolding terminal_of
 is_value t v ascii is = ap (λ (u : List ℕ). Number (number_value u)) (encodes-IsAscii t ascii) ∙ ap Number is
 
-is_faultless : (t : List ℕ) → IsAscii t → number_fault Whole t ≡ None → fault_of Whole kinds.Number t ≡ None
-unfolding fault_of
+is_faultless : (t : List ℕ) → IsAscii t → number_fault Whole t ≡ None → single_fault Whole kinds.Number t ≡ None
+unfolding single_fault
 is_faultless t ascii none = ap (number_fault Whole) (encodes-IsAscii t ascii) ∙ none
 
 stands : (t : List ℕ) (v : Value) → IsNumeral t → number_value t ≡ v → number_fault Whole t ≡ None → Stands kinds.Number t (Number v)
-stands t v numeral is none = record { terminal = is_value t v numeral.ascii is; faultless = is_faultless t numeral.ascii none }
+stands t v numeral is none = record { terminal = is_value t v numeral.ascii is; single = refl; faultless = is_faultless t numeral.ascii none }
 
 pub whole_stands : (n : ℕ) → n < 10 ^ most_digits → Stands kinds.Number (decimal_text n) (Number (value.Int n))
 whole_stands n small =

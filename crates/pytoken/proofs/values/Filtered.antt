@@ -61,3 +61,11 @@ last_taken bs front c utf8 before e other =
 -- nothing stands before the end of nothing
 pub nothing_before : (bs : List ℕ) → length bs ≡ 0 → with_line_feeds (chars bs) ≡ without_last 1 (with_line_feeds (chars bs))
 nothing_before bs e = let none = nothing_left bs e in rw none refl
+
+-- a text without its last character
+pub text_before_last : (bs front : List ℕ) (c : ℕ) → IsUtf8 bs → IsUtf8 front → bs ≡ front ++ encode_utf8 c → chars front ≡ without_last 1 (chars bs)
+text_before_last bs front c utf8 before e =
+    let f = chars front in
+    let whole : chars bs ≡ f ++ c ∷ [] = at_end bs front c utf8 before e in
+    let size : length f ≡ length (f ++ c ∷ []) - 1 = omega (arith, length-append f (c ∷ [])) in
+    sym (ap (without_last 1) whole ∙ take_at f (c ∷ []) (length (f ++ c ∷ []) - 1) size)

@@ -216,8 +216,12 @@ all_points (c ∷ cs) h =
     let parts = and_parts (scalar c) (all_scalars cs) h in
     and_from (is_point c) (list_all is_point cs) (grind (arith, nat_tests, parts.0)) (all_points cs parts.1)
 
+pub text_points : (bs cs : List ℕ) → IsUtf8 bs → cs ≡ with_line_feeds (chars bs) → list_all is_point cs ≡ true
+text_points bs cs utf8 is =
+    ap (list_all is_point) is ∙ filter_all is_point (λ c. not (c == 13)) (chars bs) (all_points (chars bs) (scalars-chars bs utf8))
+
 pub body_points : (bs literal body : List ℕ) → IsUtf8 bs → literal ≡ with_line_feeds (chars bs) → body ≡ body_of literal →
     list_all is_point body ≡ true
 body_points bs literal body utf8 is inner =
-    let own = filter_all is_point (λ c. not (c == 13)) (chars bs) (all_points (chars bs) (scalars-chars bs utf8)) in
-    ap (list_all is_point) (inner ∙ ap body_of is) ∙ body_all is_point (with_line_feeds (chars bs)) own
+    let own = with_line_feeds (chars bs) in
+    ap (list_all is_point) (inner ∙ ap body_of is) ∙ body_all is_point own (text_points bs own utf8 refl)

@@ -6,7 +6,7 @@ use Rattle.pylex_lexeme.specs.Operators.{exact_of}
 use Rattle.pylex.specs.declared.kind.Kind.{Kind}
 use Rattle.pylex.specs.declared.kind.Kind.TheVariants as kinds
 use Rattle.pytree_node.specs.declared.profiles.Extent.{Extent}
-use Rattle.pytoken.specs.Terminals.{Op, Layout, terminal_of, fault_of}
+use Rattle.pytoken.specs.Terminals.{Op, Layout, terminal_of, single_fault}
 use Rattle.pytoken.specs.TerminalOf.{named, numbered, quoted}
 
 pub of_name : (k : Kind) (t : List ℕ) → k ≡ kinds.Name → named t ≡ terminal_of k t
@@ -36,8 +36,8 @@ pub of_none : (t : List ℕ) → exact_of t ≡ None → Layout ≡ terminal_of 
 unfolding terminal_of
 of_none t is = rw (is, terminal_of) refl
 
-pub faultless : (extent : Extent) (k : Kind) (t : List ℕ) → k ≡ kinds.Op → None ≡ fault_of extent k t
-unfolding fault_of
+pub faultless : (extent : Extent) (k : Kind) (t : List ℕ) → k ≡ kinds.Op → None ≡ single_fault extent k t
+unfolding single_fault
 faultless extent k t is = rw is refl
 
 pub of_other : (k : Kind) (t : List ℕ) → (k ≡ kinds.Name → ⊥) → (k ≡ kinds.Number → ⊥) → (k ≡ kinds.String → ⊥) → (k ≡ kinds.Op → ⊥) →

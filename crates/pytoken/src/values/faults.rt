@@ -4,7 +4,7 @@ ghost use Rattle.std.specs.Prelude.{◌≡◌, ◌==◌, IfOk};
 ghost use Rattle.std.specs.List.{list_any};
 ghost use Rattle.std.specs.Str.{chars};
 ghost use Rattle.pytoken.specs.StringValues.{nul_fault};
-ghost use Rattle.pytoken.specs.Terminals.{fault_of};
+ghost use Rattle.pytoken.specs.Terminals.{single_fault};
 
 use crate::TokenError;
 use crate::values::names::name_fault;
@@ -15,7 +15,7 @@ use pytree_node::Extent;
 use std::alloc::{AllocError, Global};
 
 /// Whether U+0000 stands in a text.
-fn has_nul(text: &str) -> bool
+pub(crate) fn has_nul(text: &str) -> bool
     ensures { result ≡ list_any (λ c. c == 0) (chars text.now) }
 {
     for c in text.chars() {
@@ -40,16 +40,15 @@ pub(crate) fn comment_fault(text: &str) -> Option<TokenError>
     }
 }
 
-/// The fault that an entry of this type and text is by itself in an extent of the language: a token
-/// or a comment.
+/// The fault of an entry that is no f-string.
 #[inline(always)]
-pub fn token_fault(
+pub(crate) fn single_fault(
     alloc: Global,
     extent: Extent,
     kind: Kind,
     text: &str,
 ) -> Result<Option<TokenError>, AllocError>
-    ensures { IfOk result (λ fault. fault ≡ fault_of extent kind (chars text.now)) }
+    ensures { IfOk result (λ fault. fault ≡ single_fault extent kind (chars text.now)) }
 {
     match kind {
         Kind::Name => name_fault(alloc, text),

@@ -52,7 +52,7 @@ fn push_text(points: &mut Points, rest: Characters, raw: bool) -> Result<(), All
 }
 
 /// The text of a body. Most have no escape, and are their own text.
-fn text_in(alloc: Global, body: Characters, raw: bool) -> Result<Points, AllocError>
+pub(crate) fn text_in(alloc: Global, body: Characters, raw: bool) -> Result<Points, AllocError>
     requires { list_all is_point body ≡ true }
     ensures { IfOk result (λ points. points ≡ body_points raw false body.entry) }
 {

@@ -16,7 +16,7 @@ use crate::values::escapes::next_meaning;
 use crate::{Meaning, TokenError};
 
 /// Whether a character is a quote.
-fn is_quote(c: char) -> bool
+pub(crate) fn is_quote(c: char) -> bool
     ensures { result ≡ is_quote c }
 {
     c == '\'' || c == '"'
@@ -154,7 +154,7 @@ fn either(one: bool, other: bool) -> bool
 }
 
 /// The first fault in the escapes of a body.
-fn escape_fault(body: Characters, raw: bool, bytes: bool) -> Option<TokenError>
+pub(crate) fn escape_fault(body: Characters, raw: bool, bytes: bool) -> Option<TokenError>
     ensures { result ≡ escape_fault (meanings raw bytes body.entry) }
 {
     let mut left = body;

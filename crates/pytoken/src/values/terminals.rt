@@ -4,8 +4,8 @@ ghost use Rattle.std.specs.Prelude.{◌≡◌, IfOk, IfErr, OnOk, None};
 ghost use Rattle.std.specs.Str.{chars};
 ghost use Rattle.pytoken.specs.NameValues.{name_fault};
 ghost use Rattle.pytoken.specs.NumberValues.{number_fault};
-ghost use Rattle.pytoken.specs.StringValues.{string_fault, nul_fault};
-ghost use Rattle.pytoken.specs.Terminals.{terminal_of, fault_of};
+ghost use Rattle.pytoken.specs.StringValues.{string_fault};
+ghost use Rattle.pytoken.specs.Terminals.{terminal_of, single_fault};
 ghost use Rattle.pytoken.specs.TerminalOf.{terminal, named, numbered, quoted, Tells};
 
 use crate::values::faults::comment_fault;
@@ -13,7 +13,9 @@ use crate::values::literal_text::LiteralText;
 use crate::values::names::name_fault;
 use crate::values::number_text::NumberText;
 use crate::values::numbers::short_value;
+use crate::values::text_pieces::TextPiece;
 use crate::{Keyword, TokenError};
+use pyfstring::{Conversion, CutError};
 use pylex::{Exact, Kind, exact_of};
 use pytree_node::Extent;
 use std::alloc::{AllocError, Global};
@@ -34,6 +36,18 @@ pub enum Terminal<'a> {
     Number(NumberText<'a>),
     /// One string literal.
     Literal(LiteralText<'a>),
+    /// The begin of an f-string.
+    FormattedBegin,
+    /// Its end.
+    FormattedEnd,
+    /// A text in it, or what `=` keeps of a field.
+    FormattedText(TextPiece<'a>),
+    /// The begin of a field, whose expression follows in parentheses.
+    FieldBegin(Conversion),
+    /// The begin of its format spec.
+    SpecBegin,
+    /// The end of a field.
+    FieldEnd,
     /// A line end, or the begin or end of a block.
     Layout,
 }
@@ -56,6 +70,19 @@ impl From<AllocError> for TerminalFault {
 
     fn from(_error: AllocError) -> TerminalFault {
         TerminalFault::Memory
+    }
+}
+
+impl From<CutError> for TerminalFault {
+    ghost use Rattle.pytoken.specs.Inner.Cuts.{fault_by_cut};
+
+    ghost from_gives = { λ error r. r ≡ fault_by_cut error };
+
+    fn from(error: CutError) -> TerminalFault {
+        match error {
+            CutError::Malformed => TerminalFault::Token(TokenError::FString),
+            CutError::Memory => TerminalFault::Memory,
+        }
     }
 }
 
@@ -113,7 +140,8 @@ fn operator_terminal<'a>(text: &'a str) -> Terminal<'a>
     }
 }
 
-/// The terminal that a token of this type and text is in an extent of the language. No memory is
+/// The terminal that a token of this type and text is in an extent of the language, if it is a single
+/// one: an f-string is told as a fault. No memory is
 /// taken but for a name with characters past ASCII and, in the whole language, for a whole number
 /// from 2^128 on, and that only to find its fault.
 ///
@@ -128,8 +156,8 @@ pub fn terminal_of<'a>(
     text: &'a str,
 ) -> Result<Terminal<'a>, TerminalFault>
     ensures terminal { IfOk result (λ made. terminal made ≡ terminal_of kind (chars text.now)) }
-    ensures sound { OnOk result (fault_of extent kind (chars text.now) ≡ None) }
-    ensures refused { IfErr result (Tells (fault_of extent kind (chars text.now))) }
+    ensures sound { OnOk result (single_fault extent kind (chars text.now) ≡ None) }
+    ensures refused { IfErr result (Tells (single_fault extent kind (chars text.now))) }
 {
     match kind {
         Kind::Name => name_terminal(alloc, text),

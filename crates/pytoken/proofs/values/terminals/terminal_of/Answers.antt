@@ -7,7 +7,7 @@ use Rattle.pylex.specs.declared.kind.Kind.TheVariants as kinds
 use Rattle.pytree_node.specs.declared.profiles.Extent.{Extent}
 use Rattle.pytoken.specs.declared.faults.TokenError.{TokenError}
 use Rattle.pytoken.specs.NumberValues.{number_fault}
-use Rattle.pytoken.specs.Terminals.{Terminal, fault_of}
+use Rattle.pytoken.specs.Terminals.{Terminal, single_fault}
 use Rattle.pytoken.specs.TerminalOf.{terminal, numbered, Tells}
 use Rattle.pytoken.proofs.values.FaultLemmas
 use Rattle.pytoken.proofs.values.TerminalLemmas.{of_name, of_number, of_string, of_op, of_comment, faultless, of_other}
@@ -36,7 +36,7 @@ returns-in-Number-clause-terminal c =
 
 -- its fault by its bytes is that by its characters
 number_same : (extent : Extent) (bytes : List ℕ) (k : Kind) → IsUtf8 bytes → k ≡ kinds.Number
-    → number_fault extent bytes ≡ fault_of extent k (chars bytes)
+    → number_fault extent bytes ≡ single_fault extent k (chars bytes)
 number_same extent bytes k utf8 is =
     ap (λ (t : List ℕ). number_fault extent t) (sym (encodes-chars bytes utf8)) ∙ FaultLemmas.of_number extent k (chars bytes) is
 

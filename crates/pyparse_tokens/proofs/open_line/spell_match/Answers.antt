@@ -2,7 +2,7 @@ use Rattle.std.proofs.Common.{◌≡◌, ◌∙◌, [], ◌∷◌, ap, sym, true
 use Rattle.std.specs.Prelude.{◌&&◌, Bool}
 use Rattle.std.specs.Str.{chars, bytes_eq}
 use Rattle.pyparse_tokens.proofs.EndLemmas.{match_is_ascii, colon_is_ascii, same_word}
-use Rattle.pyparse_tokens.proofs.line_gather.spell_match.Goals as goal
+use Rattle.pyparse_tokens.proofs.open_line.spell_match.Goals as goal
 
 pub returns-then-eq : goal.returns-then-eq
 returns-then-eq c =

@@ -5,7 +5,7 @@ use Rattle.std.proofs.lemmas.Str.{encodes-chars}
 use Rattle.pytoken.specs.declared.faults.TokenError.{TokenError}
 use Rattle.pytoken.specs.NumberValues.{number_fault}
 use Rattle.pytoken.proofs.values.FaultLemmas.{of_name, of_number, of_string, of_comment, of_other}
-use Rattle.pytoken.proofs.values.faults.token_fault.Goals as goal
+use Rattle.pytoken.proofs.values.faults.single_fault.Goals as goal
 
 pub returns-in-Name : goal.returns-in-Name
 returns-in-Name c =
